@@ -1,0 +1,4 @@
+pub mod WeightedList
+pub mod Coupling
+pub mod Existence
+pub mod Examples
