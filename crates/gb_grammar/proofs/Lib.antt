@@ -1,0 +1,10 @@
+pub mod Tests
+pub mod Places
+pub mod Sound
+pub mod Rows
+pub mod Steps
+pub mod Words
+pub mod Turns
+pub mod Whole
+pub mod Typed
+pub mod Unique

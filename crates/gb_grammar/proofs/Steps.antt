@@ -1,0 +1,216 @@
+-- The machine's steps, against what the grammar derives.
+use Rattle.std.specs.Prelude.{if◌then◌else◌, ◌≡◌, ℕ, zero, suc, ◌+◌, ◌<◌, ◌≤◌, List, [], ◌∷◌, ◌++◌, Bool, true, false, not, ◌&&◌, ◌||◌, Option, Some, None, nat_lt, nat_eq, slice_get, length, ◌⊎◌}
+use Rattle.std.proofs.Common.{zero-add, ⊎_elim, refl, ap, sym, ◌∙◌, subst, inl, inr, arith, eq-eqb}
+use Rattle.std.proofs.lemmas.List.{append_assoc}
+use Rattle.std.proofs.lemmas.Bool.{ltb-true, eqb-true}
+use Rattle.std.proofs.lemmas.Option.{same_Some}
+use Rattle.gb_grammar.specs.declared.table.Symbol.{Symbol}
+use Rattle.gb_grammar.specs.declared.table.Symbol.TheVariants.{Token, Part}
+use Rattle.gb_grammar.specs.declared.table.Step.{Step}
+use Rattle.gb_grammar.specs.Grammar.{Grammar, Production, has, IsProduction, Allowed, step, Derives, done, token, choose}
+use Rattle.gb_grammar.specs.Check.{Claim, claim_of, symbol_nullable, symbol_first, symbol_weight, lead_weight, all_nullable, all_first, all_known, symbol_follow_ok, follow_ok, pick_of}
+use Rattle.gb_grammar.specs.Stack.{Followed, Good, Expands, Stuck, Reads}
+use Rattle.gb_grammar.proofs.Tests.{both, or_left, or_right, and_both, implied, or_and}
+use Rattle.gb_grammar.proofs.Sound.{Sound}
+
+lead_more : (x y : Bool) (w b s m : ℕ) → m ≡ b + (if y then s else 0) → w + (if x then m else 0) ≡ w + (if x then b else 0) + (if x && y then s else 0)
+lead_more true true w b s m e = omega arith
+lead_more true false w b s m e = omega arith
+lead_more false y w b s m e = omega arith
+
+lead_less : (x y : Bool) (b s w : ℕ) → (x ≡ true → y ≡ true) → b < w → b + (if x then s else 0) < w + (if y then s else 0)
+lead_less true true b s w h l = omega arith
+lead_less true false b s w h l = absurd (let e = h refl in cc)
+lead_less false true b s w h l = omega arith
+lead_less false false b s w h l = omega arith
+
+pub record Picked {R : Type 0} (rows : Grammar R) (n t : ℕ) (r : Production R) : Type 0 where
+  pub is : IsProduction rows n r
+  pub starts : has r.starts t ≡ true
+
+module _ {R : Type 0} where
+  none_some : {x : Production R} → None ≡ Some x → ⊥
+  none_some h = cc
+
+  picked_later : (x r : Production R) (rows : Grammar R) (n t : ℕ) → Picked rows n t r → Picked (x ∷ rows) n t r
+  picked_later x r rows n t a = record { is = record { place = suc a.is.place; row_is = a.is.row_is; part_is = a.is.part_is }; starts = a.starts }
+
+  picked_first : (a b : Bool) (x r : Production R) (rows : Grammar R) (n t : ℕ) {o : Option (Production R)} → (a ≡ true → x.part ≡ n) → (b ≡ true → has x.starts t ≡ true) → (if a && b then Some x else o) ≡ Some r → (o ≡ Some r → Picked rows n t r) → Picked (x ∷ rows) n t r
+  picked_first true true x r rows n t p k e f =
+      let q : x ≡ r = cc in
+      record { is = record { place = 0; row_is = e; part_is = subst (λ (y : Production R). y.part ≡ n) q (p refl) }; starts = subst (λ (y : Production R). has y.starts t ≡ true) q (k refl) }
+  picked_first true false x r rows n t p k e f = picked_later x r rows n t (f e)
+  picked_first false b x r rows n t p k e f = picked_later x r rows n t (f e)
+
+  pub picked_at : (rows : Grammar R) (n t : ℕ) (r : Production R) → pick_of rows n t ≡ Some r → Picked rows n t r
+  picked_at [] n t r e = cc
+  picked_at (x ∷ rows) n t r e = picked_first (nat_eq x.part n) (has x.starts t) x r rows n t (eqb-true x.part n) (λ h. h) e (picked_at rows n t r)
+
+module _ (c : List Claim) where
+  first_append : (a b : List Symbol) (t : ℕ) → all_first c (a ++ b) t ≡ true → (all_first c a t ≡ true) ⊎ ((all_nullable c a ≡ true) × (all_first c b t ≡ true))
+  first_append [] b t h = inr (refl, h)
+  first_append (s ∷ a) b t h =
+      ⊎_elim (λ (f : symbol_first c s t ≡ true). inl (or_left (symbol_first c s t) (symbol_nullable c s && all_first c a t) f))
+      (λ (p : (symbol_nullable c s ≡ true) × (all_first c (a ++ b) t ≡ true)).
+      ⊎_elim (λ (f : all_first c a t ≡ true). inl (or_right (symbol_first c s t) (symbol_nullable c s && all_first c a t) (and_both (symbol_nullable c s) (all_first c a t) p.0 f)))
+      (λ (q : (all_nullable c a ≡ true) × (all_first c b t ≡ true)). inr (and_both (symbol_nullable c s) (all_nullable c a) p.0 q.0, q.1))
+      (first_append a b t p.1))
+      (or_and (symbol_first c s t) (symbol_nullable c s) (all_first c (a ++ b) t) h)
+
+  null_append : (a b : List Symbol) → all_nullable c (a ++ b) ≡ true → (all_nullable c a ≡ true) × (all_nullable c b ≡ true)
+  null_append [] b h = (refl, h)
+  null_append (s ∷ a) b h =
+      let p = both (symbol_nullable c s) (all_nullable c (a ++ b)) h in
+      let q = null_append a b p.1 in
+      (and_both (symbol_nullable c s) (all_nullable c a) p.0 q.0, q.1)
+
+  lead_append : (b ss : List Symbol) → lead_weight c (b ++ ss) ≡ lead_weight c b + (if all_nullable c b then lead_weight c ss else 0)
+  lead_append [] ss = sym (zero-add (lead_weight c ss))
+  lead_append (s ∷ b) ss = lead_more (symbol_nullable c s) (all_nullable c b) (symbol_weight c s) (lead_weight c b) (lead_weight c ss) (lead_weight c (b ++ ss)) (lead_append b ss)
+
+module _ {R : Type 0} (g : Grammar R) where
+  pub allowed_end : (r : Production R) (w : List ℕ) → has r.stops 0 ≡ false → Allowed r w → Allowed r (w ++ 0 ∷ [])
+  allowed_end r [] h a = h
+  allowed_end r (t ∷ w) h a = a
+
+  pub derives_end : {a : List Symbol} {at : ℕ} {u : List ℕ} {p : List (Step R)} → ((n : ℕ) (r : Production R) → IsProduction g n r → has r.stops 0 ≡ false) → Derives g a at u p → Derives g (a ++ Token 0 ∷ []) at (u ++ 0 ∷ []) p
+  derives_end h done = token done
+  derives_end h (token e) = token (derives_end h e)
+  derives_end h (choose {n = n} {ss = ss} {at = at} {w = w} {ps = ps} r i al e) =
+      choose r i (allowed_end r w (h n r i) al) (subst (λ (l : List Symbol). Derives g l at (w ++ 0 ∷ []) ps) (append_assoc (r.body) ss (Token 0 ∷ [])) (derives_end h e))
+
+  pub record Opens (n : ℕ) (ss : List Symbol) (at : ℕ) (w : List ℕ) (ps : List (Step R)) : Type 0 where
+    pub row : Production R
+    pub is : IsProduction g n row
+    pub allowed : Allowed row w
+    pub rest : List (Step R)
+    pub split : ps ≡ step row at ∷ rest
+    pub tree : Derives g (row.body ++ ss) at w rest
+
+  pub opens : {n : ℕ} {ss : List Symbol} {at : ℕ} {w : List ℕ} {ps : List (Step R)} → Derives g (Part n ∷ ss) at w ps → Opens n ss at w ps
+  opens (choose {ps = ps} r i al e) = record { row = r; is = i; allowed = al; rest = ps; split = refl; tree = e }
+
+  pub record Matches (k : ℕ) (ss : List Symbol) (at : ℕ) (w : List ℕ) (ps : List (Step R)) : Type 0 where
+    pub rest : List ℕ
+    pub split : w ≡ k ∷ rest
+    pub tree : Derives g ss (at + 1) rest ps
+
+  pub matches : {k : ℕ} {ss : List Symbol} {at : ℕ} {w : List ℕ} {ps : List (Step R)} → Derives g (Token k ∷ ss) at w ps → Matches k ss at w ps
+  matches (token {w = w} e) = record { rest = w; split = refl; tree = e }
+
+  pub record Ends (w : List ℕ) (ps : List (Step R)) : Type 0 where
+    pub nothing : w ≡ []
+    pub no_steps : ps ≡ []
+
+  pub ends_of : {at : ℕ} {w : List ℕ} {ps : List (Step R)} → Derives g [] at w ps → Ends w ps
+  ends_of done = record { nothing = refl; no_steps = refl }
+
+  module _ (c : List Claim) (sound : Sound g c) where
+    -- The symbols start with the kind, or are empty before it.
+    abbrev Starts : List Symbol → List Symbol → ℕ → List ℕ → Type 0
+    Starts b ss t w = (all_first c b t ≡ true) ⊎ ((all_nullable c b ≡ true) × (at : ℕ) × (ps : List (Step R)) × Derives g ss at (t ∷ w) ps)
+
+    open_row : (n : ℕ) (r : Production R) (b ss : List Symbol) (t : ℕ) (w : List ℕ) → t < 128 → IsProduction g n r → Starts (r.body ++ b) ss t w → Starts (Part n ∷ b) ss t w
+    open_row n r b ss t w lt i ih =
+        let x = symbol_first c (Part n) t in
+        let y = symbol_nullable c (Part n) in
+        ⊎_elim
+        (λ (f : all_first c (r.body ++ b) t ≡ true).
+        ⊎_elim (λ (h : all_first c (r.body) t ≡ true). inl (or_left x (y && all_first c b t) (sound.firsts n r t lt i h).0))
+        (λ (h : (all_nullable c (r.body) ≡ true) × (all_first c b t ≡ true)). inl (or_right x (y && all_first c b t) (and_both y (all_first c b t) (sound.nulls n r i h.0) h.1)))
+        (first_append c (r.body) b t f))
+        (λ (h : (all_nullable c (r.body ++ b) ≡ true) × (at : ℕ) × (ps : List (Step R)) × Derives g ss at (t ∷ w) ps).
+        let p = null_append c (r.body) b h.0 in
+        inr (and_both y (all_nullable c b) (sound.nulls n r i p.0) p.1, h.1, h.2, h.3))
+        ih
+
+    starts_at : {st : List Symbol} {at : ℕ} {v : List ℕ} {ps : List (Step R)} → Derives g st at v ps → (b ss : List Symbol) (t : ℕ) (w : List ℕ) → t < 128 → st ≡ b ++ ss → v ≡ t ∷ w → Starts b ss t w
+    starts_at done b ss t w lt e f = absurd cc
+    starts_at (token {k = k} {ss = s0} {at = at} {w = w0} {ps = ps} d) [] ss t w lt e f =
+        inr (refl, at, ps, subst (λ (l : List Symbol). Derives g l at (t ∷ w) ps) e (subst (λ (x : List ℕ). Derives g (Token k ∷ s0) at x ps) f (token d)))
+    starts_at (token {k = k} {ss = s0} {w = w0} {ps = ps} d) (s ∷ b) ss t w lt e f =
+        let q : Token k ≡ s = cc in
+        let m : k ≡ t = cc in
+        inl (or_left (symbol_first c s t) (symbol_nullable c s && all_first c b t) (subst (λ (x : Symbol). symbol_first c x t ≡ true) q (eq-eqb k t m)))
+    starts_at (choose {n = n} {ss = s0} {at = at} {w = w0} {ps = ps} r i al d) [] ss t w lt e f =
+        inr (refl, at, step r at ∷ ps, subst (λ (l : List Symbol). Derives g l at (t ∷ w) (step r at ∷ ps)) e (subst (λ (x : List ℕ). Derives g (Part n ∷ s0) at x (step r at ∷ ps)) f (choose r i al d)))
+    starts_at (choose {n = n} {ss = s0} {w = w0} {ps = ps} r i al d) (s ∷ b) ss t w lt e f =
+        let q : Part n ≡ s = cc in
+        let tail : s0 ≡ b ++ ss = cc in
+        let ih = starts_at d (r.body ++ b) ss t w lt (ap (λ (l : List Symbol). r.body ++ l) tail ∙ sym (append_assoc (r.body) b ss)) f in
+        subst (λ (x : Symbol). Starts (x ∷ b) ss t w) q (open_row n r b ss t w lt i ih)
+
+    good_body : (n : ℕ) (b ss : List Symbol) → all_known (length c) b ≡ true → ((t : ℕ) → t < 128 → follow_ok c n b t ≡ true) → Followed g c n ss → Good g c ss → Good g c (b ++ ss)
+    good_body n [] ss k f fo h = h
+    good_body n (Token x ∷ b) ss k f fo h =
+        let p = both (nat_lt 0 x && nat_lt x 128) (all_known (length c) b) k in
+        let q = both (nat_lt 0 x) (nat_lt x 128) p.0 in
+        let pos : 0 < x = ltb-true 0 x q.0 in
+        ((λ (e : x ≡ 0). absurd (omega arith)), ltb-true x 128 q.1, good_body n b ss p.1 (λ t lt. (both true (follow_ok c n b t) (f t lt)).1) fo h)
+    good_body n (Part m ∷ b) ss k f fo h =
+        let p = both (nat_lt m (length c)) (all_known (length c) b) k in
+        let rest = good_body n b ss p.1 (λ t lt. (both (symbol_follow_ok c n (Part m) b t) (follow_ok c n b t) (f t lt)).1) fo h in
+        let here : Followed g c m (b ++ ss) = (λ t at w ps lt d.
+        let fol = has (claim_of c n).follow t in
+        let want = implied (all_first c b t || (all_nullable c b && fol)) (has (claim_of c m).follow t) (both (symbol_follow_ok c n (Part m) b t) (follow_ok c n b t) (f t lt)).0 in
+        ⊎_elim (λ (a : all_first c b t ≡ true). want (or_left (all_first c b t) (all_nullable c b && fol) a))
+        (λ (a : (all_nullable c b ≡ true) × (at : ℕ) × (qs : List (Step R)) × Derives g ss at (t ∷ w) qs). want (or_right (all_first c b t) (all_nullable c b && fol) (and_both (all_nullable c b) fol a.0 (fo t a.1 w a.2 lt a.3))))
+        (starts_at d b ss t w lt refl refl)) in
+        (ltb-true m (length c) p.0, here, rest)
+
+    pub good_open : (n : ℕ) (ss : List Symbol) (r : Production R) → IsProduction g n r → Good g c (Part n ∷ ss) → Good g c (r.body ++ ss)
+    good_open n ss r i h = good_body n (r.body) ss (sound.known n r i) (λ t lt. sound.follows n r t lt i) h.1 h.2
+
+    -- the only row that can be opened at this kind of token is the one that is picked
+    pub opened : (n : ℕ) (ss : List Symbol) (t at : ℕ) (w : List ℕ) (ps : List (Step R)) → t < 128 → Good g c (Part n ∷ ss) → (d : Opens n ss at (t ∷ w) ps) → pick_of g n t ≡ Some d.row
+    opened n ss t at w ps lt h d =
+        sound.picks n d.row t lt d.is
+        (⊎_elim (λ (a : all_first c (d.row.body) t ≡ true). (sound.firsts n d.row t lt d.is a).1)
+        (λ (a : (all_nullable c (d.row.body) ≡ true) × (at : ℕ) × (qs : List (Step R)) × Derives g ss at (t ∷ w) qs). sound.ends n d.row t lt d.is a.0 (h.1 t a.1 w a.2 lt a.3) d.allowed)
+        (starts_at d.tree (d.row.body) ss t w lt refl refl))
+
+    pub expands_none : (t at : ℕ) (ss : List Symbol) → Expands g t at ss [] ss
+    expands_none t at ss = record { back = λ w ps d. d; forth = λ w ps d. (ps, refl, d) }
+
+    pub expands_open : (t at : ℕ) (from : List Symbol) (qs : List (Step R)) (n : ℕ) (ss : List Symbol) (r : Production R) → t < 128 → Good g c (Part n ∷ ss) → IsProduction g n r → has r.starts t ≡ true → pick_of g n t ≡ Some r → Expands g t at from qs (Part n ∷ ss) → Expands g t at from (qs ++ step r at ∷ []) (r.body ++ ss)
+    expands_open t at from qs n ss r lt h i st p x = record {
+      back = λ w ps d. subst (λ (l : List (Step R)). Derives g from at (t ∷ w) l) (sym (append_assoc qs (step r at ∷ []) ps)) (x.back w (step r at ∷ ps) (choose r i (sound.free n r t lt i st) d));
+      forth = λ w ps d.
+          let a = x.forth w ps d in
+          let o = opens a.2 in
+          let same : o.row ≡ r = same_Some o.row r (sym (opened n ss t at w a.0 lt h o) ∙ p) in
+          let tree : Derives g (r.body ++ ss) at (t ∷ w) o.rest = subst (λ (y : Production R). Derives g (y.body ++ ss) at (t ∷ w) o.rest) same o.tree in
+          (o.rest, a.1 ∙ ap (λ (l : List (Step R)). qs ++ l) (o.split ∙ ap (λ (y : Production R). step y at ∷ o.rest) same) ∙ sym (append_assoc qs (step r at ∷ []) o.rest), tree);
+    }
+
+    pub stuck_open : (t at n : ℕ) (ss : List Symbol) → t < 128 → Good g c (Part n ∷ ss) → pick_of g n t ≡ None → Stuck g t at (Part n ∷ ss)
+    stuck_open t at n ss lt h p w ps d = let o = opens d in absurd (none_some (sym p ∙ opened n ss t at w ps lt h o))
+
+    pub stuck_match : (t at k : ℕ) (ss : List Symbol) → (k ≡ t → ⊥) → Stuck g t at (Token k ∷ ss)
+    stuck_match t at k ss ne w ps d = let m = matches d in ne cc
+
+    pub stuck_empty : (t at : ℕ) → Stuck g t at []
+    stuck_empty t at w ps d = let e = ends_of d in absurd cc
+
+    pub stuck_back : (t at : ℕ) (from : List Symbol) (qs : List (Step R)) (to : List Symbol) → Expands g t at from qs to → Stuck g t at to → Stuck g t at from
+    stuck_back t at from qs to x s w ps d = let a = x.forth w ps d in s w a.0 a.2
+
+    pub reads_none : (start : List Symbol) → Reads g start 0 [] [] start
+    reads_none start = record { back = λ w ps d. d; forth = λ w ps d. (ps, refl, d) }
+
+    pub reads_more : (start : List Symbol) (at : ℕ) (before : List ℕ) (qs : List (Step R)) (from : List Symbol) (t : ℕ) (qs' : List (Step R)) (ss : List Symbol) → Reads g start at before qs from → Expands g t at from qs' (Token t ∷ ss) → Reads g start (at + 1) (before ++ t ∷ []) (qs ++ qs') ss
+    reads_more start at before qs from t qs' ss r x = record {
+      back = λ w ps d.
+          subst (λ (l : List ℕ). Derives g start 0 l ((qs ++ qs') ++ ps)) (sym (append_assoc before (t ∷ []) w))
+          (subst (λ (l : List (Step R)). Derives g start 0 (before ++ t ∷ w) l) (sym (append_assoc qs qs' ps)) (r.back (t ∷ w) (qs' ++ ps) (x.back w ps (token d))));
+      forth = λ w ps d.
+          let d' : Derives g start 0 (before ++ t ∷ w) ps = subst (λ (l : List ℕ). Derives g start 0 l ps) (append_assoc before (t ∷ []) w) d in
+          let a = r.forth (t ∷ w) ps d' in
+          let b = x.forth w a.0 a.2 in
+          let m = matches b.2 in
+          let tail : m.rest ≡ w = cc in
+          (b.0, a.1 ∙ ap (λ (l : List (Step R)). qs ++ l) b.1 ∙ sym (append_assoc qs qs' b.0), subst (λ (l : List ℕ). Derives g ss (at + 1) l b.0) tail m.tree);
+    }
+
+    pub lead_open : (n : ℕ) (ss : List Symbol) (r : Production R) → IsProduction g n r → lead_weight c (r.body ++ ss) < lead_weight c (Part n ∷ ss)
+    lead_open n ss r i = rw (lead_append c (r.body) ss) (lead_less (all_nullable c (r.body)) (symbol_nullable c (Part n)) (lead_weight c (r.body)) (lead_weight c ss) (claim_of c n).weight (sound.nulls n r i) (sound.lighter n r i))

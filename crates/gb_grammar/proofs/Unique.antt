@@ -1,0 +1,77 @@
+-- A text has at most one derivation.
+use Rattle.std.specs.Prelude.{◌≡◌, ℕ, zero, suc, ◌+◌, ◌<◌, List, [], ◌∷◌, ◌++◌, Bool, true, false, Some, length, ◌⊎◌}
+use Rattle.std.proofs.Common.{refl, ap, sym, ◌∙◌, subst, arith, inl, inr, ⊎_elim}
+use Rattle.std.proofs.lemmas.List.{append_assoc}
+use Rattle.std.proofs.lemmas.Option.{same_Some}
+use Rattle.std.specs.List.{All}
+use Rattle.gb_grammar.specs.declared.table.Symbol.{Symbol}
+use Rattle.gb_grammar.specs.declared.table.Symbol.TheVariants.{Token, Part}
+use Rattle.gb_grammar.specs.declared.table.Step.{Step}
+use Rattle.gb_grammar.specs.Grammar.{Grammar, Production, step, Derives, done, token, choose}
+use Rattle.gb_grammar.specs.Check.{Claim, is_start}
+use Rattle.gb_grammar.specs.Stack.{Good}
+use Rattle.gb_grammar.specs.Reading.{Spells, IsKind}
+use Rattle.gb_grammar.proofs.Sound.{Sound}
+use Rattle.gb_grammar.proofs.Steps.{Opens, opens, matches, ends_of, opened, good_open}
+use Rattle.gb_grammar.proofs.Whole.{good_start, with_end}
+
+-- kinds of token, the end included
+abbrev AllSmall : List ℕ → Type 0
+AllSmall [] = Unit {0}
+AllSmall (t ∷ w) = (t < 128) × AllSmall w
+
+small_with_end : (kinds : List ℕ) → All IsKind kinds → AllSmall (kinds ++ 0 ∷ [])
+small_with_end [] h = (omega arith, tt)
+small_with_end (k ∷ kinds) h = ((h 0 0 (omega arith)).1, small_with_end kinds (λ i d lt. h (suc i) d (omega arith)))
+
+module _ {R : Type 0} (g : Grammar R) (c : List Claim) (s : Sound g c) where
+  -- a word of a stack that ends in the end of the text is not empty
+  no_word : {st : List Symbol} {at : ℕ} {v : List ℕ} {ps : List (Step R)} → Derives g st at v ps → (ss : List Symbol) → st ≡ ss ++ Token 0 ∷ [] → v ≡ [] → ⊥
+  no_word done [] e f = absurd cc
+  no_word done (x ∷ ss) e f = absurd cc
+  no_word (token d) ss e f = absurd cc
+  no_word (choose p i al d) [] e f = absurd cc
+  no_word (choose {ss = s0} p i al d) (y ∷ ss) e f =
+      let tail : s0 ≡ ss ++ Token 0 ∷ [] = cc in
+      no_word d (p.body ++ ss) (ap (λ (l : List Symbol). p.body ++ l) tail ∙ sym (append_assoc p.body ss (Token 0 ∷ []))) f
+
+  -- the end of the text stands last on the stack, or the stack is empty
+  abbrev IsEnded : List Symbol → Type 0
+  IsEnded st = (st ≡ []) ⊎ ((ss : List Symbol) × (st ≡ ss ++ Token 0 ∷ []))
+
+  tail_ended : (ss : List Symbol) (x : Symbol) (s0 : List Symbol) → x ∷ s0 ≡ ss ++ Token 0 ∷ [] → IsEnded s0
+  tail_ended [] x s0 e = inl cc
+  tail_ended (y ∷ ss) x s0 e = inr (ss, cc)
+
+  open_ended : (ss : List Symbol) (n : ℕ) (b s0 : List Symbol) → Part n ∷ s0 ≡ ss ++ Token 0 ∷ [] → IsEnded (b ++ s0)
+  open_ended [] n b s0 e = absurd cc
+  open_ended (y ∷ ss) n b s0 e =
+      let tail : s0 ≡ ss ++ Token 0 ∷ [] = cc in
+      inr (b ++ ss, ap (λ (l : List Symbol). b ++ l) tail ∙ sym (append_assoc b ss (Token 0 ∷ [])))
+
+  same_steps : {st : List Symbol} {at : ℕ} {v : List ℕ} {ps : List (Step R)} → Derives g st at v ps → IsEnded st → Good g c st → AllSmall v → (qs : List (Step R)) → Derives g st at v qs → ps ≡ qs
+  same_steps done e h small qs d' = sym (ends_of g d').no_steps
+  same_steps (token {k = k} {ss = s0} {at = at} {w = w} {ps = ps} d) e h small qs d' =
+      let m = matches g d' in
+      let tail : m.rest ≡ w = cc in
+      ⊎_elim (λ (e : Token k ∷ s0 ≡ []). absurd cc)
+      (λ (p : (ss : List Symbol) × (Token k ∷ s0 ≡ ss ++ Token 0 ∷ [])). same_steps d (tail_ended p.0 (Token k) s0 p.1) h.2 small.1 qs (subst (λ (l : List ℕ). Derives g s0 (at + 1) l qs) tail m.tree))
+      e
+  same_steps (choose {n = n} {ss = s0} {at = at} {w = []} {ps = ps} p i al d) e h small qs d' =
+      ⊎_elim (λ (e : Part n ∷ s0 ≡ []). absurd cc)
+      (λ (q : (ss : List Symbol) × (Part n ∷ s0 ≡ ss ++ Token 0 ∷ [])). absurd (no_word (choose p i al d) q.0 q.1 refl))
+      e
+  same_steps (choose {n = n} {ss = s0} {at = at} {w = t ∷ w} {ps = ps} p i al d) e h small qs d' =
+      let o = opens g d' in
+      let own : Opens g n s0 at (t ∷ w) (step p at ∷ ps) = record { row = p; is = i; allowed = al; rest = ps; split = refl; tree = d } in
+      let same : o.row ≡ p = same_Some o.row p (sym (opened g c s n s0 t at w qs small.0 h o) ∙ opened g c s n s0 t at w (step p at ∷ ps) small.0 h own) in
+      let tree : Derives g (p.body ++ s0) at (t ∷ w) o.rest = subst (λ (x : Production R). Derives g (x.body ++ s0) at (t ∷ w) o.rest) same o.tree in
+      let first : step p at ∷ o.rest ≡ qs = ap (λ (x : Production R). step x at ∷ o.rest) (sym same) ∙ sym o.split in
+      ⊎_elim (λ (e : Part n ∷ s0 ≡ []). absurd cc)
+      (λ (q : (ss : List Symbol) × (Part n ∷ s0 ≡ ss ++ Token 0 ∷ [])).
+      ap (λ (l : List (Step R)). step p at ∷ l) (same_steps d (open_ended q.0 n p.body s0 q.1) (good_open g c s n s0 p i h) small o.rest tree) ∙ first)
+      e
+
+  pub unique : (n : ℕ) → is_start c n ≡ true → (kinds : List ℕ) (a b : List (Step R)) → All IsKind kinds → Spells g n kinds a → Spells g n kinds b → a ≡ b
+  unique n ready kinds a b h x y =
+      same_steps (with_end g c s n ready kinds a x) (inr (Part n ∷ [], refl)) (good_start g c s n ready) (small_with_end kinds h) b (with_end g c s n ready kinds b y)

@@ -1,0 +1,5 @@
+pub mod Grammar
+pub mod Check
+pub mod Stack
+pub mod Reading
+pub mod Values
