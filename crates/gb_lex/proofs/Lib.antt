@@ -1,0 +1,5 @@
+pub mod SymbolLemmas
+pub mod CommentLemmas
+pub mod PieceLemmas
+pub mod PlaceLemmas
+pub mod LexLemmas

@@ -1,0 +1,13 @@
+//! Tokens: a text falls into white space, comments, tokens and faulty bytes, and a file into commands.
+#![tactic(auto)]
+
+pub mod byte;
+pub mod commands;
+pub mod comment;
+pub mod lexing;
+pub mod piece;
+pub mod places;
+pub mod symbol;
+#[cfg(test)]
+mod tests;
+pub mod token;
