@@ -1,0 +1,5 @@
+pub mod Equality
+pub mod Level
+pub mod NoteSteps
+pub mod Once
+pub mod Operators
