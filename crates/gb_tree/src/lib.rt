@@ -1,0 +1,7 @@
+//! The trees that scripts spell, each part with its place.
+#![tactic(auto)]
+
+pub mod command;
+pub mod form;
+pub mod program;
+pub mod step;
