@@ -1,0 +1,267 @@
+// Changes of a tree.
+
+ghost use Rattle.std.specs.Prelude.{◌≡◌, IfOk};
+ghost use Rattle.std.specs.Option.{option_copied};
+ghost use Rattle.gb_walk.specs.Change.{is_read_through, is_own, is_left_or_right, without, under_binder, or_given, seen_by_args, seen_by_last, found_for_read, found_for_bound, put_or, side_changed, read_changed};
+
+use crate::binders::is_binder;
+use crate::raise::{raised, raised_read, raised_side};
+use gb_core::copy::copy_var;
+use gb_terms::copy::{copy_read, copy_term};
+use gb_terms::op::{Read, Side};
+use gb_terms::same::{same_read, same_side};
+use gb_terms::term::{Head, Term};
+use sqlite_items::Items;
+use std::alloc::{AllocError, Global};
+
+/// One change of a tree.
+#[derive(Debug, Drop)]
+pub enum Change {
+    /// A read becomes a term.
+    ToTerm(Read, Term),
+    /// A bound variable, which is bound outside of the tree, becomes a term.
+    OfBound(u32, Term),
+    /// Every read through the first memory goes through the second one.
+    ToSide(Side, Side),
+}
+
+pub type Changes = Items<Change>;
+
+/// What becomes of the head of a term: a term takes the place of the whole, or the head is kept.
+#[derive(Debug, Drop)]
+pub enum Made {
+    Put(Term),
+    Kept(Head),
+}
+
+fn is_own(side: &Side) -> bool
+    ensures { result ≡ is_own side.now }
+{
+    matches!(side, Side::Own)
+}
+
+fn is_left_or_right(side: &Side) -> bool
+    ensures { result ≡ is_left_or_right side.now }
+{
+    matches!(side, Side::Left | Side::Right)
+}
+
+fn reads_through_own(read: &Read) -> bool
+    ensures { result ≡ is_read_through is_own read.now }
+{
+    match read {
+        Read::Logical(_) => false,
+        Read::Program { side, .. } => is_own(side),
+    }
+}
+
+fn reads_through_left_or_right(read: &Read) -> bool
+    ensures { result ≡ is_read_through is_left_or_right read.now }
+{
+    match read {
+        Read::Logical(_) => false,
+        Read::Program { side, .. } => is_left_or_right(side),
+    }
+}
+
+impl Change {
+    ghost use Rattle.gb_walk.specs.Change.{is_through, is_own, is_left_or_right, change_raised};
+
+    /// Whether this is a change of reads through the one memory of a program or a judgment.
+    fn is_of_own(&self) -> bool
+        ensures { result ≡ is_through is_own self.now }
+    {
+        match self {
+            Change::ToTerm(read, _) => reads_through_own(read),
+            Change::OfBound(..) => false,
+            Change::ToSide(from, _) => is_own(from),
+        }
+    }
+
+    /// Whether this is a change of reads through the left or the right memory.
+    fn is_of_left_or_right(&self) -> bool
+        ensures { result ≡ is_through is_left_or_right self.now }
+    {
+        match self {
+            Change::ToTerm(read, _) => reads_through_left_or_right(read),
+            Change::OfBound(..) => false,
+            Change::ToSide(from, _) => is_left_or_right(from),
+        }
+    }
+
+    fn copy(&self, alloc: Global) -> Result<Change, AllocError>
+        ensures { IfOk result (λ c. c ≡ self.now) }
+    {
+        match self {
+            Change::ToTerm(read, term) => {
+                Ok(Change::ToTerm(copy_read(alloc, read)?, copy_term(alloc, term)?))
+            }
+            Change::OfBound(index, term) => Ok(Change::OfBound(*index, copy_term(alloc, term)?)),
+            Change::ToSide(from, to) => Ok(Change::ToSide(*from, *to)),
+        }
+    }
+
+    /// The change under one binder more.
+    fn raised(&self, alloc: Global) -> Result<Change, AllocError>
+        ensures { IfOk result (λ c. c ≡ change_raised self.now) }
+    {
+        match self {
+            Change::ToTerm(read, term) => Ok(Change::ToTerm(
+                raised_read(alloc, read, 0)?,
+                raised(alloc, term, 0)?,
+            )),
+            Change::OfBound(index, term) => Ok(Change::OfBound(
+                index.checked_add(1).ok_or(AllocError)?,
+                raised(alloc, term, 0)?,
+            )),
+            Change::ToSide(from, to) => {
+                Ok(Change::ToSide(raised_side(*from, 0)?, raised_side(*to, 0)?))
+            }
+        }
+    }
+}
+
+/// The changes that enter a judgment on one program, or a body.
+pub fn without_own(alloc: Global, changes: &[Change]) -> Result<Changes, AllocError>
+    ensures { IfOk result (λ cs. cs ≡ without is_own changes.now) }
+{
+    let mut out = Items::new(alloc);
+    for change in changes {
+        if !change.is_of_own() {
+            out.push(change.copy(alloc)?)?;
+        }
+    }
+    Ok(out)
+}
+
+/// The changes that enter a judgment on two programs.
+pub fn without_left_and_right(alloc: Global, changes: &[Change]) -> Result<Changes, AllocError>
+    ensures { IfOk result (λ cs. cs ≡ without is_left_or_right changes.now) }
+{
+    let mut out = Items::new(alloc);
+    for change in changes {
+        if !change.is_of_left_or_right() {
+            out.push(change.copy(alloc)?)?;
+        }
+    }
+    Ok(out)
+}
+
+/// The changes under one binder more.
+pub fn under_binder(alloc: Global, changes: &[Change]) -> Result<Changes, AllocError>
+    ensures { IfOk result (λ cs. cs ≡ under_binder changes.now) }
+{
+    let mut out = Items::new(alloc);
+    for change in changes {
+        out.push(change.raised(alloc)?)?;
+    }
+    Ok(out)
+}
+
+/// The changes that the arguments of a head see, where they aren't those that the head sees.
+pub fn seen_by_args(
+    alloc: Global,
+    head: &Head,
+    changes: &[Change],
+) -> Result<Option<Changes>, AllocError>
+    ensures { IfOk result (λ seen. or_given seen changes.now ≡ seen_by_args head.now changes.now) }
+{
+    match head {
+        Head::Hoare(_) | Head::Phoare(..) => Ok(Some(without_own(alloc, changes)?)),
+        Head::Equiv(..) => Ok(Some(without_left_and_right(alloc, changes)?)),
+        _ => Ok(None),
+    }
+}
+
+/// The changes that the last argument of a head sees, where they aren't those that the head sees: a binder binds
+/// something there, and a probability has its event.
+pub fn seen_by_last(
+    alloc: Global,
+    head: &Head,
+    changes: &[Change],
+) -> Result<Option<Changes>, AllocError>
+    ensures { IfOk result (λ seen. or_given seen changes.now ≡ seen_by_last head.now changes.now) }
+{
+    if is_binder(head) {
+        return Ok(Some(under_binder(alloc, changes)?));
+    }
+    match head {
+        Head::Pr(..) => Ok(Some(without_own(alloc, changes)?)),
+        _ => seen_by_args(alloc, head, changes),
+    }
+}
+
+/// The term that takes the place of a read.
+fn found_for_read<'a>(changes: &'a [Change], read: &Read) -> Option<&'a Term>
+    ensures { option_copied result ≡ found_for_read changes.now read.now }
+{
+    for change in changes {
+        if let Change::ToTerm(from, term) = change {
+            if same_read(from, read) {
+                return Some(term);
+            }
+        }
+    }
+    None
+}
+
+/// The term that takes the place of a bound variable.
+fn found_for_bound(changes: &[Change], index: u32) -> Option<&Term>
+    ensures { option_copied result ≡ found_for_bound changes.now index }
+{
+    for change in changes {
+        if let Change::OfBound(from, term) = change {
+            if *from == index {
+                return Some(term);
+            }
+        }
+    }
+    None
+}
+
+/// The memory that reads through `side` are led to.
+pub fn changed_side(changes: &[Change], side: Side) -> Side
+    ensures { result ≡ side_changed changes.now side }
+{
+    for change in changes {
+        if let Change::ToSide(from, to) = change {
+            if same_side(from, &side) {
+                return *to;
+            }
+        }
+    }
+    side
+}
+
+/// A read led to another memory.
+fn changed_read(alloc: Global, changes: &[Change], read: &Read) -> Result<Read, AllocError>
+    ensures { IfOk result (λ r. r ≡ read_changed changes.now read.now) }
+{
+    match read {
+        Read::Logical(place) => Ok(Read::Logical(*place)),
+        Read::Program { var, side } => Ok(Read::Program {
+            var: copy_var(alloc, var)?,
+            side: changed_side(changes, *side),
+        }),
+    }
+}
+
+/// What becomes of the head of a read.
+pub fn made_read(alloc: Global, read: &Read, changes: &[Change]) -> Result<Made, AllocError>
+    ensures { IfOk result (λ made. made ≡ put_or (found_for_read changes.now read.now) (Head.Read (read_changed changes.now read.now))) }
+{
+    match found_for_read(changes, read) {
+        Some(term) => Ok(Made::Put(copy_term(alloc, term)?)),
+        None => Ok(Made::Kept(Head::Read(changed_read(alloc, changes, read)?))),
+    }
+}
+
+/// What becomes of the head of a bound variable.
+pub fn made_bound(alloc: Global, index: u32, changes: &[Change]) -> Result<Made, AllocError>
+    ensures { IfOk result (λ made. made ≡ put_or (found_for_bound changes.now index) (Head.Bound index)) }
+{
+    match found_for_bound(changes, index) {
+        Some(term) => Ok(Made::Put(copy_term(alloc, term)?)),
+        None => Ok(Made::Kept(Head::Bound(index))),
+    }
+}

@@ -1,0 +1,8 @@
+//! Substitution in typed trees.
+#![tactic(auto)]
+
+pub mod binders;
+pub mod change;
+pub mod raise;
+pub mod sides;
+pub mod walk;
