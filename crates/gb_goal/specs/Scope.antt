@@ -1,0 +1,58 @@
+-- Look-up in the declarations of a script.
+use Rattle.std.specs.Prelude.{ℕ, List, [], ◌∷◌, Option, Some, None, if◌then◌else◌, bytes_eq}
+use Rattle.gb_terms.specs.declared.decl.Module.{Module}
+use Rattle.gb_terms.specs.declared.decl.Param.{Param}
+use Rattle.gb_terms.specs.declared.decl.Proc.{Proc}
+use Rattle.gb_terms.specs.declared.module.Mexp.{Mexp}
+use Rattle.gb_terms.specs.declared.module.Mexp.TheVariants.{Name}
+use Rattle.gb_terms.specs.declared.module.ProcRef.{ProcRef}
+use Rattle.gb_goal.specs.declared.sequent.Sequent.{Sequent}
+use Rattle.gb_goal.specs.declared.scope.Entry.{Entry}
+use Rattle.gb_goal.specs.declared.scope.Entry.TheVariants as entry
+
+-- what is declared, in order, each with its name
+abbrev pub Declarations : Type 0
+Declarations = List (List ℕ × Entry)
+
+-- the thing of this name
+abbrev pub entry_of : Declarations → List ℕ → Option Entry
+entry_of [] n = None
+entry_of (d ∷ ds) n = if bytes_eq n d.0 then Some d.1 else entry_of ds n
+
+abbrev pub as_module : Option Entry → Option Module
+as_module (Some (entry.Module m)) = Some m
+as_module _ = None
+
+abbrev pub as_lemma : Option Entry → Option Sequent
+as_lemma (Some (entry.Lemma s)) = Some s
+as_lemma _ = None
+
+-- the module of this name
+abbrev pub module_of : Declarations → List ℕ → Option Module
+module_of ds n = as_module (entry_of ds n)
+
+-- the statement of the lemma of this name
+abbrev pub lemma_of : Declarations → List ℕ → Option Sequent
+lemma_of ds n = as_lemma (entry_of ds n)
+
+-- the first procedure of this name
+abbrev pub proc_of : List Proc → List ℕ → Option Proc
+proc_of [] n = None
+proc_of (p ∷ ps) n = if bytes_eq n p.name then Some p else proc_of ps n
+
+abbrev pub proc_if_plain : List Param → List Proc → List ℕ → Option Proc
+proc_if_plain [] ps n = proc_of ps n
+proc_if_plain (x ∷ xs) ps n = None
+
+-- the procedure of this name in a module without parameters
+abbrev pub proc_in : Option Module → List ℕ → Option Proc
+proc_in None n = None
+proc_in (Some m) n = proc_if_plain m.params m.procs n
+
+abbrev pub proc_at : Declarations → Mexp → List ℕ → Option Proc
+proc_at ds (Name m) n = proc_in (module_of ds m) n
+proc_at ds _ n = None
+
+-- the procedure that a reference to a declared module, by its name, means
+abbrev pub procedure_of : Declarations → ProcRef → Option Proc
+procedure_of ds p = proc_at ds p.module p.name

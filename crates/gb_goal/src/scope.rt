@@ -1,0 +1,170 @@
+// The scope of a script.
+
+ghost use Rattle.std.specs.Prelude.{◌≡◌, ◌↔◌, [], ◌∷◌, ◌++◌, length, None, string_bytes, IsTrue, OnOk, OnErr};
+ghost use Rattle.std.specs.Option.{option_copied};
+ghost use Rattle.gb_goal.specs.Scope.{entry_of, module_of, lemma_of, proc_of, proc_in, procedure_of};
+
+use crate::sequent::Sequent;
+use gb_core::name::Name;
+use gb_core::same::same_name;
+use gb_terms::decl::{Module, Proc};
+use gb_terms::module::{Mexp, ProcRef};
+use indexmap::IndexMap;
+use sqlite_items::Boxed;
+use std::alloc::{AllocError, Global};
+use std::marker::Model;
+
+/// A thing that a script has declared.
+#[derive(Drop)]
+pub enum Entry {
+    Module(Module),
+    /// A lemma's statement.
+    Lemma(Sequent),
+}
+
+/// All that a script has declared so far. Contracts see the list of names with what they name, in order of declaration.
+#[derive(Drop)]
+pub struct Scope {
+    entries: IndexMap<String, Boxed<Entry>>,
+}
+
+impl Model for Scope {
+    ghost use Rattle.std.specs.Prelude.{map, string_bytes};
+    ghost use Rattle.gb_goal.specs.Scope.{Declarations};
+    ghost use Rattle.gb_goal.specs.contracts.scope.Entry as entry;
+    ghost use Rattle.std.specs.Coded.{codes};
+
+    ghost Value = { Declarations };
+
+    ghost coded = { Prim.hlevel (codes, entry.the_row.coded) };
+
+    ghost view = { λ s. map (λ p. (string_bytes p.0, p.1)) s.entries.entries };
+}
+
+fn procedure_named<'a>(procs: &'a [Proc], name: &Name) -> Option<&'a Proc>
+    ensures { option_copied result ≡ proc_of procs.now name.now }
+{
+    for p in procs {
+        if same_name(name, &p.name) {
+            return Some(p);
+        }
+    }
+    None
+}
+
+fn procedure_in<'a>(found: Option<&'a Module>, name: &Name) -> Option<&'a Proc>
+    ensures { option_copied result ≡ proc_in (option_copied found.entry) name.now }
+{
+    match found {
+        Some(module) if module.params.is_empty() => {
+            procedure_named(module.procs.as_slice(), name)
+        }
+        _ => None,
+    }
+}
+
+impl Scope {
+    pub fn new(alloc: Global) -> Scope
+        ensures { result ≡ [] }
+    {
+        Scope {
+            entries: IndexMap::new(alloc),
+        }
+    }
+
+    /// The number of declarations.
+    pub fn len(&self) -> usize
+        ensures { result ≡ length self.now }
+    {
+        self.entries.len()
+    }
+
+    pub fn is_empty(&self) -> bool
+        ensures { IsTrue result ↔ (self.now ≡ []) }
+    {
+        self.entries.is_empty()
+    }
+
+    /// The thing of this name.
+    pub fn entry(&self, name: &Name) -> Option<&Entry>
+        ensures { option_copied result ≡ entry_of self.now name.now }
+    {
+        match self.entries.get(name.as_str()) {
+            Some(found) => Some(found.get()),
+            None => None,
+        }
+    }
+
+    /// Whether no declaration has this name.
+    pub fn is_free(&self, name: &Name) -> bool
+        ensures { IsTrue result ↔ (entry_of self.now name.now ≡ None) }
+    {
+        self.entry(name).is_none()
+    }
+
+    /// The module of this name.
+    pub fn module(&self, name: &Name) -> Option<&Module>
+        ensures { option_copied result ≡ module_of self.now name.now }
+    {
+        match self.entry(name) {
+            Some(Entry::Module(module)) => Some(module),
+            _ => None,
+        }
+    }
+
+    /// The statement of the lemma of this name.
+    pub fn lemma(&self, name: &Name) -> Option<&Sequent>
+        ensures { option_copied result ≡ lemma_of self.now name.now }
+    {
+        match self.entry(name) {
+            Some(Entry::Lemma(sequent)) => Some(sequent),
+            _ => None,
+        }
+    }
+
+    /// The procedure of a module without parameters, which the reference names by its name alone.
+    pub fn procedure(&self, reference: &ProcRef) -> Option<&Proc>
+        ensures { option_copied result ≡ procedure_of self.now reference.now }
+    {
+        match &reference.module {
+            Mexp::Name(name) => procedure_in(self.module(name), &reference.name),
+            Mexp::Apply(..) => None,
+        }
+    }
+
+    fn insert(&mut self, key: String, entry: Boxed<Entry>) -> Result<(), AllocError>
+        requires { entry_of self.old (string_bytes key) ≡ None }
+        ensures ok { OnOk result (self.new ≡ self.old ++ (string_bytes key, entry) ∷ []) }
+        ensures err { OnErr result (self.new ≡ self.old) }
+    {
+        self.entries.insert(key, entry)?;
+        Ok(())
+    }
+
+    /// Declares a module under its name, which is free.
+    pub fn declare_module(&mut self, alloc: Global, declared: Module) -> Result<(), AllocError>
+        requires { entry_of self.old declared.name ≡ None }
+        ensures ok { OnOk result (self.new ≡ self.old ++ (declared.name, Entry.Module declared) ∷ []) }
+        ensures err { OnErr result (self.new ≡ self.old) }
+    {
+        let key = String::from_str(alloc, declared.name.as_str())?;
+        let entry = Boxed::new(alloc, Entry::Module(declared))?;
+        self.insert(key, entry)
+    }
+
+    /// Declares a lemma by its statement, under a free name.
+    pub fn declare_lemma(
+        &mut self,
+        alloc: Global,
+        name: Name,
+        statement: Sequent,
+    ) -> Result<(), AllocError>
+        requires { entry_of self.old name ≡ None }
+        ensures ok { OnOk result (self.new ≡ self.old ++ (name, Entry.Lemma statement) ∷ []) }
+        ensures err { OnErr result (self.new ≡ self.old) }
+    {
+        let entry = Boxed::new(alloc, Entry::Lemma(statement))?;
+        let key = String::from_str(alloc, name.as_str())?;
+        self.insert(key, entry)
+    }
+}
