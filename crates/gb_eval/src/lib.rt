@@ -1,0 +1,7 @@
+//! Evaluation of closed terms over finite types.
+#![tactic(auto)]
+
+mod answer;
+pub mod env;
+pub mod eval;
+pub mod known;
