@@ -1,0 +1,10 @@
+pub mod Claims
+pub mod Form
+pub mod Kinds
+pub mod LeftOut
+pub mod Lexeme
+pub mod Makes
+pub mod Payload
+pub mod Sorts
+pub mod Takes
+pub mod Text

@@ -1,0 +1,58 @@
+// Stacks.
+
+ghost use Rattle.std.specs.Prelude.{◌≡◌, [], ◌∷◌, OnOk, MatchOption};
+
+use sqlite_items::Items;
+use std::alloc::{AllocError, Global};
+use std::marker::Model;
+
+/// A stack; contracts see its elements from the top down. What is read from its end is put together on one.
+#[derive(Drop)]
+pub struct Stack<T> {
+    bottom_up: Vec<T>,
+}
+
+impl<T> Model for Stack<T> {
+    ghost use Rattle.std.specs.Prelude.{List, reverse};
+    ghost use Rattle.std.specs.Coded.{coded_list};
+
+    ghost Value = { List T };
+
+    ghost coded = { coded_list T.code };
+
+    ghost view = { λ s. reverse s.bottom_up.items };
+}
+
+impl<T> Stack<T> {
+    pub fn new(alloc: Global) -> Stack<T>
+        ensures { result ≡ [] }
+    {
+        Stack {
+            bottom_up: Vec::new(alloc),
+        }
+    }
+
+    pub fn pop(&mut self) -> Option<T>
+        ensures { MatchOption result ((self.old ≡ []) × (self.new ≡ [])) (λ top. self.old ≡ top ∷ self.new) }
+    {
+        self.bottom_up.pop()
+    }
+
+    /// Its elements, the top one first.
+    pub fn into_items(self) -> Items<T>
+        ensures { result ≡ self }
+    {
+        let Stack { mut bottom_up } = self;
+        bottom_up.reverse();
+        Items::from_vec(bottom_up)
+    }
+}
+
+impl<T: Drop> Stack<T> {
+    pub fn push(&mut self, item: T) -> Result<(), AllocError>
+        ensures { OnOk result (self.new ≡ item ∷ self.old) }
+    {
+        self.bottom_up.push(item)?;
+        Ok(())
+    }
+}
