@@ -1,0 +1,10 @@
+//! From tokens to commands.
+#![tactic(auto)]
+
+pub mod build;
+pub mod command;
+pub mod make;
+pub mod pop;
+pub mod program;
+pub mod reading;
+pub mod step;

@@ -1,0 +1,155 @@
+// Reading forms and commands.
+
+ghost use Rattle.std.specs.Prelude.{◌≡◌, ◌≤◌, ◌<◌, ◌+◌, ◌^◌, ◌⊎◌, ℕ, List, [], ◌∷◌, true, IfOk, MatchResult, Err, length};
+ghost use Rattle.gb_core.specs.declared.place.Place.{Place};
+ghost use Rattle.gb_core.specs.declared.refusal.Why.{Why};
+ghost use Rattle.gb_core.specs.declared.refusal.Why.TheVariants.{Syntax, LeftOut};
+ghost use Rattle.gb_core.specs.declared.refusal.Refused.TheVariants.{NoMemory, Script};
+ghost use Rattle.gb_grammar.specs.declared.table.Step.{Step};
+ghost use Rattle.gb_grammar.specs.Check.{is_start};
+ghost use Rattle.gb_lex.specs.Lex.{AreSpans};
+ghost use Rattle.gb_tree.specs.declared.command.Command.{Command};
+ghost use Rattle.gb_tree.specs.declared.form.FormTree.{FormTree};
+ghost use Rattle.gb_read_form.specs.declared.rule.Rule.{Rule};
+ghost use Rattle.gb_read_form.specs.declared.value.Value.TheVariants.{Command as CommandValue, Form as FormValue};
+ghost use Rattle.gb_read_form.specs.Claims.{claims};
+ghost use Rattle.gb_read_form.specs.LeftOut.{NoneLeftOut};
+ghost use Rattle.gb_read_form.specs.Lexeme.{text_at};
+ghost use Rattle.gb_read_script.specs.Reading.{IsText, Leaves, SpellsCommand, SpellsForm, IsSyntaxFault, IsLeftOutPlace, IsRefusal};
+
+use crate::build::build;
+use crate::pop::pop_command;
+use gb_core::place::Place;
+use gb_core::refusal::{Refused, Why};
+use gb_grammar::error::ReadError;
+use gb_grammar::reading::read;
+use gb_lex::token::Tokens;
+use gb_read_form::bodies::SYMBOLS;
+use gb_read_form::left_out::first_left_out;
+use gb_read_form::lexeme::{kinds, text};
+use gb_read_form::pop::pop_form;
+use gb_read_form::rows::{COMMAND, FORM, PLACES, ROWS};
+use gb_read_form::stack::Stack;
+use gb_read_form::text::{Text, place_at};
+use gb_read_form::value::Value;
+use gb_tree::command::Command;
+use gb_tree::form::FormTree;
+use std::alloc::Global;
+
+// The values that a text of this part leaves.
+fn values(alloc: Global, text: &Text, part: u8) -> Result<Stack<Value>, Refused>
+    requires { is_start claims part ≡ true }
+    ensures found { IfOk result (λ vs. Leaves part text.now vs) }
+    ensures only { (steps : List (Step Rule)) → IsText part text.now steps → MatchResult result (λ _. Unit {0}) (λ e. e ≡ NoMemory) }
+    ensures fault { (why : Why) (place : Place) → result ≡ Err (Script why place) → (why ≡ Syntax) × IsSyntaxFault part text.now place }
+{
+    let Ok(kinds) = kinds(alloc, text) else {
+        return Err(Refused::NoMemory);
+    };
+    match read(alloc, &ROWS, &SYMBOLS, &PLACES, part, kinds.as_slice()) {
+        Ok(steps) => match build(alloc, text, steps.as_slice()) {
+            Ok(values) => Ok(values),
+            Err(_) => Err(Refused::NoMemory),
+        },
+        Err(ReadError::Memory) => Err(Refused::NoMemory),
+        Err(ReadError::Fault(at)) => Err(Refused::Script {
+            why: Why::Syntax,
+            place: place_at(text, at),
+        }),
+    }
+}
+
+// The only value, which is a command.
+fn sole_command(values: Stack<Value>) -> Command
+    requires { (x : Command) × (values ≡ CommandValue x ∷ []) }
+    ensures { values ≡ CommandValue result ∷ [] }
+{
+    let mut values = values;
+    pop_command(&mut values)
+}
+
+// The only value, which is a form.
+fn sole_form(values: Stack<Value>) -> FormTree
+    requires { (x : FormTree) × (values ≡ FormValue x ∷ []) }
+    ensures { values ≡ FormValue result ∷ [] }
+{
+    let mut values = values;
+    pop_form(&mut values)
+}
+
+// The text that has these tokens, none of them a word that is left out.
+fn checked_text(alloc: Global, bytes: &[u8], tokens: &Tokens, at: Place) -> Result<Text, Refused>
+    requires spans { AreSpans 0 tokens.now (length bytes.now) }
+    requires line { at.line + length bytes.now < 2 ^ 32 }
+    requires column { at.col + length bytes.now < 2 ^ 32 }
+    ensures text { IfOk result (λ t. t ≡ text_at bytes.now at tokens.now) }
+    ensures none { IfOk result NoneLeftOut }
+    ensures only { NoneLeftOut (text_at bytes.now at tokens.now) → MatchResult result (λ _. Unit {0}) (λ e. e ≡ NoMemory) }
+    ensures left_out { (why : Why) (place : Place) → result ≡ Err (Script why place) → (why ≡ LeftOut) × IsLeftOutPlace (text_at bytes.now at tokens.now) place }
+{
+    let Ok(text) = text(alloc, bytes, tokens.as_slice(), at) else {
+        return Err(Refused::NoMemory);
+    };
+    match first_left_out(&text) {
+        Some(at) => Err(Refused::Script {
+            why: Why::LeftOut,
+            place: place_at(&text, at),
+        }),
+        None => Ok(text),
+    }
+}
+
+// The values that a text of this part leaves.
+fn part_values(
+    alloc: Global,
+    bytes: &[u8],
+    tokens: &Tokens,
+    at: Place,
+    part: u8,
+) -> Result<Stack<Value>, Refused>
+    requires start { is_start claims part ≡ true }
+    requires spans { AreSpans 0 tokens.now (length bytes.now) }
+    requires line { at.line + length bytes.now < 2 ^ 32 }
+    requires column { at.col + length bytes.now < 2 ^ 32 }
+    ensures found { IfOk result (λ vs. Leaves part (text_at bytes.now at tokens.now) vs) }
+    ensures only { (steps : List (Step Rule)) → IsText part (text_at bytes.now at tokens.now) steps → NoneLeftOut (text_at bytes.now at tokens.now) → MatchResult result (λ _. Unit {0}) (λ e. e ≡ NoMemory) }
+    ensures refused { (why : Why) (place : Place) → result ≡ Err (Script why place) → IsRefusal part (text_at bytes.now at tokens.now) why place }
+{
+    match checked_text(alloc, bytes, tokens, at) {
+        Ok(text) => values(alloc, &text, part),
+        Err(refused) => Err(refused),
+    }
+}
+
+/// The command that these tokens of a text spell; the text begins at the place `at`.
+///
+/// Refused with `LeftOut` at the first token that is left out, and else with `Syntax` at the first token with which no
+/// command goes on, or at the end where the text ends too soon.
+pub fn command(alloc: Global, text: &[u8], tokens: &Tokens, at: Place) -> Result<Command, Refused>
+    requires spans { AreSpans 0 tokens.now (length text.now) }
+    requires line { at.line + length text.now < 2 ^ 32 }
+    requires column { at.col + length text.now < 2 ^ 32 }
+    ensures found { IfOk result (λ c. SpellsCommand (text_at text.now at tokens.now) c) }
+    ensures only { (steps : List (Step Rule)) → IsText COMMAND (text_at text.now at tokens.now) steps → NoneLeftOut (text_at text.now at tokens.now) → MatchResult result (λ _. Unit {0}) (λ e. e ≡ NoMemory) }
+    ensures refused { (why : Why) (place : Place) → result ≡ Err (Script why place) → IsRefusal COMMAND (text_at text.now at tokens.now) why place }
+{
+    match part_values(alloc, text, tokens, at, COMMAND) {
+        Ok(values) => Ok(sole_command(values)),
+        Err(refused) => Err(refused),
+    }
+}
+
+/// The form that these tokens of a text spell, as [`command`] reads commands.
+pub fn form(alloc: Global, text: &[u8], tokens: &Tokens, at: Place) -> Result<FormTree, Refused>
+    requires spans { AreSpans 0 tokens.now (length text.now) }
+    requires line { at.line + length text.now < 2 ^ 32 }
+    requires column { at.col + length text.now < 2 ^ 32 }
+    ensures found { IfOk result (λ f. SpellsForm (text_at text.now at tokens.now) f) }
+    ensures only { (steps : List (Step Rule)) → IsText FORM (text_at text.now at tokens.now) steps → NoneLeftOut (text_at text.now at tokens.now) → MatchResult result (λ _. Unit {0}) (λ e. e ≡ NoMemory) }
+    ensures refused { (why : Why) (place : Place) → result ≡ Err (Script why place) → IsRefusal FORM (text_at text.now at tokens.now) why place }
+{
+    match part_values(alloc, text, tokens, at, FORM) {
+        Ok(values) => Ok(sole_form(values)),
+        Err(refused) => Err(refused),
+    }
+}
