@@ -1,0 +1,135 @@
+// The procedures that a judgment speaks of.
+
+ghost use Rattle.std.specs.Prelude.{◌≡◌, IfOk, IfErr};
+ghost use Rattle.gb_elab.specs.Answers.{IsTypingRefusal, type_of_term};
+
+use crate::names::is_variable;
+use crate::refusals::{argument, unknown};
+use crate::setting::Setting;
+use gb_core::copy::copy_ty;
+use gb_core::name::Name;
+use gb_core::refusal::Refused;
+use gb_core::same::same_name;
+use gb_core::ty::Ty;
+use gb_goal::scope::Entry;
+use gb_terms::copy::copy_typed;
+use gb_terms::decl::{Module, Proc, Typed, TypedName};
+use gb_terms::make;
+use gb_terms::module::{Mexp, ProcRef};
+use gb_terms::term::{Form, Head, Subject};
+use gb_tree::form::{ProcPath, Word};
+use sqlite_items::Items;
+use std::alloc::{AllocError, Global};
+
+/// The module of this name, all of whose parameters are given: it has none.
+fn named_module<'a>(
+    alloc: Global,
+    at: &Setting<'a>,
+    bound: &[TypedName],
+    module: &Word,
+) -> Result<&'a Module, Refused>
+    ensures { IfErr result (λ e. IsTypingRefusal e) }
+{
+    if is_variable(at, bound, &module.name) {
+        return Err(argument(module.place));
+    }
+    match at.scope.entry(&module.name) {
+        None => Err(unknown(alloc, &module.name, module.place)),
+        Some(Entry::Module(m)) => {
+            if m.params.is_empty() {
+                Ok(m)
+            } else {
+                Err(argument(module.place))
+            }
+        }
+        Some(_) => Err(argument(module.place)),
+    }
+}
+
+fn procedure_of<'a>(m: &'a Module, name: &Name) -> Option<&'a Proc> {
+    for p in m.procs.as_slice() {
+        if same_name(&p.name, name) {
+            return Some(p);
+        }
+    }
+    None
+}
+
+/// The procedure that a judgment names.
+///
+/// # Errors
+///
+/// `UnknownName` of a module or a procedure of it, `Argument` of a thing that is no module or lacks arguments.
+pub fn named_procedure<'a>(
+    alloc: Global,
+    at: &Setting<'a>,
+    bound: &[TypedName],
+    path: &ProcPath,
+) -> Result<&'a Proc, Refused>
+    ensures { IfErr result (λ e. IsTypingRefusal e) }
+{
+    let module = named_module(alloc, at, bound, &path.module)?;
+    match procedure_of(module, &path.proc.name) {
+        Some(p) => Ok(p),
+        None => Err(unknown(alloc, &path.proc.name, path.proc.place)),
+    }
+}
+
+/// A procedure as a term names it.
+fn reference(alloc: Global, path: &ProcPath) -> Result<ProcRef, AllocError> {
+    Ok(ProcRef {
+        module: Mexp::Name(path.module.name.copy(alloc)?),
+        name: path.proc.name.copy(alloc)?,
+    })
+}
+
+/// The judgment that two procedures are equivalent from a precondition to a postcondition.
+pub fn equiv(
+    alloc: Global,
+    left: &ProcPath,
+    right: &ProcPath,
+    pre: Form,
+    post: Form,
+) -> Result<Form, AllocError>
+    ensures { IfOk result (λ made. type_of_term made ≡ Ty.Bool) }
+{
+    let left = Subject::Proc(reference(alloc, left)?);
+    let right = Subject::Proc(reference(alloc, right)?);
+    let mut args = Items::new(alloc);
+    args.push(pre)?;
+    args.push(post)?;
+    make::term(alloc, Head::Equiv(left, right), args, Ty::Bool)
+}
+
+/// What a postcondition reads of a procedure: its result, under the name `res`.
+fn result_of(alloc: Global, p: &Proc) -> Result<Typed, AllocError> {
+    let mut all = Items::new(alloc);
+    let name = Name::from_str(alloc, "res")?;
+    let ty = copy_ty(alloc, &p.result)?;
+    all.push(TypedName { name, ty })?;
+    Ok(all)
+}
+
+/// The setting of a precondition on two procedures: it reads their parameters.
+pub fn parameters<'a>(
+    alloc: Global,
+    at: &Setting<'a>,
+    left: &Proc,
+    right: &Proc,
+) -> Result<Setting<'a>, AllocError> {
+    let left = copy_typed(alloc, left.params.as_slice())?;
+    let right = copy_typed(alloc, right.params.as_slice())?;
+    Ok(Setting::relational(at.scope, at.sequent, left, right))
+}
+
+/// The setting of a postcondition on two procedures: it reads their results.
+pub fn results<'a>(
+    alloc: Global,
+    at: &Setting<'a>,
+    left: &Proc,
+    right: &Proc,
+) -> Result<Setting<'a>, AllocError> {
+    let left = result_of(alloc, left)?;
+    let right = result_of(alloc, right)?;
+    Ok(Setting::relational(at.scope, at.sequent, left, right))
+}

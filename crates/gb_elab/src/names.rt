@@ -1,0 +1,281 @@
+// What a name means where it stands.
+
+ghost use Rattle.std.specs.Prelude.{◌≡◌, None, IfOk, IfErr};
+ghost use Rattle.gb_elab.specs.Answers.{IsTypingRefusal, Types, type_of_term};
+
+use crate::refusals::{argument, too_many, unknown};
+use crate::setting::Setting;
+use gb_core::copy::copy_ty;
+use gb_core::name::Name;
+use gb_core::place::Place;
+use gb_core::refusal::Refused;
+use gb_core::ty::Ty;
+use gb_core::value::Value;
+use gb_goal::sequent::{Hyp, Sequent};
+use gb_terms::decl::TypedName;
+use gb_terms::make;
+use gb_terms::module::Bind;
+use gb_terms::op::Side;
+use gb_terms::term::{Head, Term};
+use gb_tree::form::Word;
+use std::alloc::{AllocError, Global};
+
+/// The most nodes of a formula.
+pub const NODES: u64 = 65_536;
+
+/// The first thing of this name in a list.
+fn first_named<'a>(list: &'a [TypedName], name: &Name) -> Option<&'a TypedName> {
+    for x in list {
+        if x.name == *name {
+            return Some(x);
+        }
+    }
+    None
+}
+
+/// How many things stand before the first of this name.
+fn number_before(list: &[TypedName], name: &Name) -> usize {
+    for i in 0..list.len() {
+        if list[i].name == *name {
+            return i;
+        }
+    }
+    list.len()
+}
+
+/// A number of things as a term counts them. More are past the nodes of a formula.
+fn counted(n: usize) -> Result<u32, Refused>
+    ensures { IfErr result (λ e. IsTypingRefusal e) }
+{
+    if n < 0x1_0000_0000 {
+        Ok(n as u32)
+    } else {
+        Err(too_many(NODES))
+    }
+}
+
+/// A variable that is bound below so many other binders.
+fn bound_variable(alloc: Global, between: usize, x: &TypedName) -> Result<Term, Refused>
+    ensures { Types None result }
+{
+    let between = counted(between)?;
+    let ty = copy_ty(alloc, &x.ty)?;
+    Ok(make::leaf(alloc, Head::Bound(between), ty)?)
+}
+
+/// The logical variable at this place of the context.
+fn logical_variable(alloc: Global, at: usize, x: &TypedName) -> Result<Term, Refused>
+    ensures { Types None result }
+{
+    let at = counted(at)?;
+    let ty = copy_ty(alloc, &x.ty)?;
+    Ok(make::logical(alloc, at, ty)?)
+}
+
+/// A read of this program variable through a memory.
+fn program_variable(alloc: Global, x: &TypedName, side: Side) -> Result<Term, Refused>
+    ensures { Types None result }
+{
+    let name = x.name.copy(alloc)?;
+    let ty = copy_ty(alloc, &x.ty)?;
+    Ok(make::program(alloc, name, side, ty)?)
+}
+
+/// A built-in constant.
+#[derive(Clone, Copy)]
+enum Constant {
+    True,
+    False,
+    Unit,
+}
+
+/// The built-in constant of this name.
+fn built_in(name: &Name) -> Option<Constant> {
+    let text = name.as_str();
+    if text == "true" {
+        Some(Constant::True)
+    } else if text == "false" {
+        Some(Constant::False)
+    } else if text == "tt" {
+        Some(Constant::Unit)
+    } else {
+        None
+    }
+}
+
+/// The one value of `unit`.
+pub fn unit(alloc: Global) -> Result<Term, AllocError>
+    ensures { IfOk result (λ made. type_of_term made ≡ Ty.Unit) }
+{
+    make::leaf(alloc, Head::Lit(Value::Num(0)), Ty::Unit)
+}
+
+fn constant_term(alloc: Global, constant: Constant) -> Result<Term, AllocError> {
+    match constant {
+        Constant::True => make::boolean(alloc, true),
+        Constant::False => make::boolean(alloc, false),
+        Constant::Unit => unit(alloc),
+    }
+}
+
+fn is_among(list: &[Name], name: &Name) -> bool {
+    for x in list {
+        if *x == *name {
+            return true;
+        }
+    }
+    false
+}
+
+fn is_module(list: &[Bind], name: &Name) -> bool {
+    for x in list {
+        if x.name == *name {
+            return true;
+        }
+    }
+    false
+}
+
+fn is_hyp(list: &[Hyp], name: &Name) -> bool {
+    for x in list {
+        if x.name == *name {
+            return true;
+        }
+    }
+    false
+}
+
+/// Whether a memory, an abstract module or a hypothesis of the context has this name.
+fn names_no_value(s: &Sequent, name: &Name) -> bool {
+    is_among(s.memories.as_slice(), name)
+        || is_module(s.modules.as_slice(), name)
+        || is_hyp(s.hyps.as_slice(), name)
+}
+
+/// Whether a thing that is no variable has this name.
+fn names_other(at: &Setting<'_>, name: &Name) -> bool {
+    names_no_value(at.sequent, name) || at.scope.entry(name).is_some()
+}
+
+/// The meaning of a name that no variable has: a built-in constant where nothing else has the name.
+fn unbound(alloc: Global, at: &Setting<'_>, name: &Name, place: Place) -> Result<Term, Refused>
+    ensures { Types None result }
+{
+    if names_other(at, name) {
+        return Err(argument(place));
+    }
+    match built_in(name) {
+        Some(constant) => Ok(constant_term(alloc, constant)?),
+        None => Err(unknown(alloc, name, place)),
+    }
+}
+
+/// The meaning of a name without a side. Where two programs are around, their variables have none without it.
+///
+/// # Errors
+///
+/// `UnknownName` where nothing has the name, and `Argument` where it is no value's.
+pub fn named(
+    alloc: Global,
+    at: &Setting<'_>,
+    bound: &[TypedName],
+    name: &Name,
+    place: Place,
+) -> Result<Term, Refused>
+    ensures { Types None result }
+{
+    if let Some(x) = first_named(bound, name) {
+        return bound_variable(alloc, number_before(bound, name), x);
+    }
+    if let Some(x) = first_named(at.own(), name) {
+        return program_variable(alloc, x, Side::Own);
+    }
+    let logical = at.sequent.logical.as_slice();
+    if let Some(x) = first_named(logical, name) {
+        return logical_variable(alloc, number_before(logical, name), x);
+    }
+    unbound(alloc, at, name, place)
+}
+
+/// Whether a logical variable, bound in the form or of the context, has this name.
+pub fn is_variable(at: &Setting<'_>, bound: &[TypedName], name: &Name) -> bool {
+    first_named(bound, name).is_some() || first_named(at.sequent.logical.as_slice(), name).is_some()
+}
+
+/// Why a name means no variable of a program: something else has it, or nothing.
+fn no_variable(alloc: Global, at: &Setting<'_>, name: &Name, place: Place) -> Refused
+    ensures { IsTypingRefusal result }
+{
+    let logical = at.sequent.logical.as_slice();
+    if first_named(logical, name).is_some() || names_other(at, name) || built_in(name).is_some() {
+        argument(place)
+    } else {
+        unknown(alloc, name, place)
+    }
+}
+
+/// The variable of the program around that has this name.
+///
+/// # Errors
+///
+/// `UnknownName` where nothing has the name, `Argument` where another thing has it.
+pub fn own_variable<'a>(
+    alloc: Global,
+    at: &'a Setting<'_>,
+    x: &Word,
+) -> Result<&'a TypedName, Refused>
+    ensures { IfErr result (λ e. IsTypingRefusal e) }
+{
+    match first_named(at.own(), &x.name) {
+        Some(variable) => Ok(variable),
+        None => Err(no_variable(alloc, at, &x.name, x.place)),
+    }
+}
+
+/// The meaning of a name with a side.
+///
+/// # Errors
+///
+/// `Argument` where there is no such memory and where the name is another thing's, `UnknownName` where nothing has it.
+pub fn sided(
+    alloc: Global,
+    at: &Setting<'_>,
+    bound: &[TypedName],
+    name: &Name,
+    side: Side,
+    place: Place,
+) -> Result<Term, Refused>
+    ensures { Types None result }
+{
+    let Some(locals) = at.on_side(side) else {
+        return Err(argument(place));
+    };
+    if first_named(bound, name).is_some() {
+        return Err(argument(place));
+    }
+    match first_named(locals, name) {
+        Some(x) => program_variable(alloc, x, side),
+        None => Err(no_variable(alloc, at, name, place)),
+    }
+}
+
+/// The refusal of a read through a named memory: no proof step that is built brings a variable of one into a goal.
+///
+/// # Errors
+///
+/// `UnknownName` where there is no such memory and where nothing has the name, `Argument` where another thing has it.
+pub fn in_memory(
+    alloc: Global,
+    at: &Setting<'_>,
+    name: &Name,
+    memory: &Word,
+    place: Place,
+) -> Refused
+    ensures { IsTypingRefusal result }
+{
+    if is_among(at.sequent.memories.as_slice(), &memory.name) {
+        no_variable(alloc, at, name, place)
+    } else {
+        unknown(alloc, &memory.name, memory.place)
+    }
+}

@@ -1,0 +1,91 @@
+// Where a form stands.
+
+use gb_goal::scope::Scope;
+use gb_goal::sequent::Sequent;
+use gb_terms::decl::{Typed, TypedName};
+use gb_terms::op::Side;
+
+/// What the names of a form mean: the declarations of the script, the context of the sequent around it (an empty one
+/// where there is none), the program variables that it may read, and which language it is written in.
+#[derive(Drop)]
+pub struct Setting<'a> {
+    pub scope: &'a Scope,
+    pub sequent: &'a Sequent,
+    pub variables: Variables,
+    pub language: Language,
+}
+
+/// The program variables that are not globals and that a form may read, with their types.
+#[derive(Drop)]
+pub enum Variables {
+    /// None, as in an ambient form.
+    Absent,
+    /// Those of one program, read by their names alone.
+    Own(Typed),
+    /// Those of two programs, each read with its side.
+    Sides { left: Typed, right: Typed },
+}
+
+/// Program expressions have no quantifier, judgment or side, and a distribution only where one is sampled.
+#[derive(Clone, Copy, Debug, PartialEq, Eq)]
+pub enum Language {
+    Formula,
+    Program,
+}
+
+impl<'a> Setting<'a> {
+    /// The setting of a form that reads no program variable.
+    pub fn ambient(scope: &'a Scope, sequent: &'a Sequent) -> Setting<'a> {
+        Setting {
+            scope,
+            sequent,
+            variables: Variables::Absent,
+            language: Language::Formula,
+        }
+    }
+
+    /// The setting of a form on two programs with these variables.
+    pub fn relational(
+        scope: &'a Scope,
+        sequent: &'a Sequent,
+        left: Typed,
+        right: Typed,
+    ) -> Setting<'a> {
+        Setting {
+            scope,
+            sequent,
+            variables: Variables::Sides { left, right },
+            language: Language::Formula,
+        }
+    }
+
+    /// The setting of an expression of a program with these variables.
+    pub fn program(scope: &'a Scope, sequent: &'a Sequent, variables: Typed) -> Setting<'a> {
+        Setting {
+            scope,
+            sequent,
+            variables: Variables::Own(variables),
+            language: Language::Program,
+        }
+    }
+
+    /// The variables that are read by their names alone.
+    pub fn own(&self) -> &[TypedName] {
+        match &self.variables {
+            Variables::Own(own) => own.as_slice(),
+            _ => &[],
+        }
+    }
+
+    /// The variables of the left program or of the right one, where there are two.
+    pub fn on_side(&self, side: Side) -> Option<&[TypedName]> {
+        match &self.variables {
+            Variables::Sides { left, right } => match side {
+                Side::Left => Some(left.as_slice()),
+                Side::Right => Some(right.as_slice()),
+                _ => None,
+            },
+            _ => None,
+        }
+    }
+}
