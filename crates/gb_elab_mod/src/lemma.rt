@@ -1,0 +1,52 @@
+// The statement of a lemma.
+
+ghost use Rattle.std.specs.Prelude.{◌≡◌, ◌≤◌, None, IfOk, OnOk};
+ghost use Rattle.gb_goal.specs.Scope.{entry_of};
+ghost use Rattle.gb_terms.specs.Nodes.{term_nodes};
+ghost use Rattle.gb_elab_mod.specs.Typed.{alone};
+ghost use Rattle.gb_elab.specs.Answers.{type_of_term};
+
+use gb_core::refusal::Refused;
+use gb_core::ty::Ty;
+use gb_elab::form::term;
+use gb_elab::names::NODES;
+use gb_elab::refusals::{double, too_many};
+use gb_goal::scope::Scope;
+use gb_goal::sequent::{Sequent, ambient};
+use gb_terms::make;
+use gb_terms::nodes::nodes_of;
+use gb_tree::command::LemmaTree;
+use gb_tree::form::Word;
+use std::alloc::Global;
+
+/// Refuses a name that the script has declared.
+pub fn refuse_declared(alloc: Global, scope: &Scope, name: &Word) -> Result<(), Refused>
+    ensures { OnOk result (entry_of scope.now name.now.name ≡ None) }
+{
+    if scope.is_free(&name.name) {
+        Ok(())
+    } else {
+        Err(double(alloc, &name.name, name.place))
+    }
+}
+
+/// The goal that a lemma states: its statement, in an empty context.
+///
+/// # Errors
+///
+/// `DoubleName` at the lemma's name where it is taken, those of typing with the wanted type `bool`, and `TooMany` of
+/// the nodes of a formula, whose place is for the caller to put in.
+pub fn statement(alloc: Global, scope: &Scope, t: &LemmaTree) -> Result<Sequent, Refused>
+    ensures truth { IfOk result (λ s. type_of_term s.conclusion ≡ Ty.Bool) }
+    ensures size { IfOk result (λ s. term_nodes s.conclusion ≤ 65536) }
+    ensures context { IfOk result (λ s. s ≡ alone s.conclusion) }
+    ensures free { OnOk result (entry_of scope.now t.now.name.name ≡ None) }
+{
+    refuse_declared(alloc, scope, &t.name)?;
+    let around = ambient(alloc, make::boolean(alloc, true)?);
+    let conclusion = term(alloc, scope, &around, &t.statement, Some(&Ty::Bool))?;
+    if nodes_of(&conclusion) > NODES {
+        return Err(too_many(NODES));
+    }
+    Ok(ambient(alloc, conclusion))
+}

@@ -1,0 +1,8 @@
+//! Typing of modules, of the statements of lemmas, and of proof steps.
+#![tactic(auto)]
+
+pub mod lemma;
+pub mod module;
+pub mod occurring;
+pub mod procedure;
+pub mod step;

@@ -1,0 +1,75 @@
+// Modules.
+
+ghost use Rattle.std.specs.Prelude.{◌≡◌, [], All, None, IfOk, OnOk};
+ghost use Rattle.gb_goal.specs.Scope.{entry_of};
+ghost use Rattle.gb_elab_mod.specs.Typed.{ReturnsItsType, names_in_text, proc_names};
+
+use crate::lemma::refuse_declared;
+use crate::procedure::{procedure, refuse_long};
+use gb_core::name::Name;
+use gb_core::refusal::Refused;
+use gb_elab::refusals::double;
+use gb_goal::scope::Scope;
+use gb_goal::sequent::{Sequent, ambient};
+use gb_terms::decl::{Module, Proc, Procs};
+use gb_terms::make;
+use gb_tree::program::{ModuleTree, ProcTree};
+use sqlite_items::Items;
+use std::alloc::Global;
+
+/// The typed tree of a module.
+///
+/// # Errors
+///
+/// `DoubleName` at the module's name where it is taken and at the second procedure of one name, those of `procedure`,
+/// and then `TooMany` statements of a body.
+pub fn module(alloc: Global, scope: &Scope, t: &ModuleTree) -> Result<Module, Refused>
+    ensures name { IfOk result (λ m. m.name ≡ t.now.name.name) }
+    ensures free { OnOk result (entry_of scope.now t.now.name.name ≡ None) }
+    ensures parameters { IfOk result (λ m. m.params ≡ []) }
+    ensures globals { IfOk result (λ m. m.globals ≡ []) }
+    ensures procedures { IfOk result (λ m. proc_names m.procs ≡ names_in_text t.now.procs) }
+    ensures values { IfOk result (λ m. All ReturnsItsType m.procs) }
+{
+    refuse_declared(alloc, scope, &t.name)?;
+    let around = ambient(alloc, make::boolean(alloc, true)?);
+    let procs = procedures(alloc, scope, &around, t.procs.as_slice())?;
+    for p in t.procs.as_slice() {
+        refuse_long(p)?;
+    }
+    Ok(Module {
+        name: t.name.name.copy(alloc)?,
+        params: Items::new(alloc),
+        globals: Items::new(alloc),
+        procs,
+    })
+}
+
+fn is_procedure(procs: &[Proc], name: &Name) -> bool {
+    for p in procs {
+        if p.name == *name {
+            return true;
+        }
+    }
+    false
+}
+
+fn procedures(
+    alloc: Global,
+    scope: &Scope,
+    around: &Sequent,
+    trees: &[ProcTree],
+) -> Result<Procs, Refused>
+    ensures names { IfOk result (λ ps. proc_names ps ≡ names_in_text trees.now) }
+    ensures values { IfOk result (λ ps. All ReturnsItsType ps) }
+{
+    let mut procs = Items::new(alloc);
+    for t in trees {
+        if is_procedure(procs.as_slice(), &t.name.name) {
+            return Err(double(alloc, &t.name.name, t.name.place));
+        }
+        let p = procedure(alloc, scope, around, t)?;
+        procs.push(p)?;
+    }
+    Ok(procs)
+}

@@ -1,0 +1,170 @@
+// Procedures and their statements.
+
+ghost use Rattle.std.specs.Prelude.{◌≡◌, false, IfOk, IfNone, Some};
+ghost use Rattle.gb_elab.specs.Answers.{Types};
+ghost use Rattle.gb_elab_mod.specs.Typed.{ReturnsItsType};
+
+use gb_core::copy::copy_ty;
+use gb_core::name::Name;
+use gb_core::refusal::{Refused, Why};
+use gb_core::same::same_ty;
+use gb_core::ty::Ty;
+use gb_core::var::Var;
+use gb_elab::form::typed_as;
+use gb_elab::names::{own_variable, unit};
+use gb_elab::refusals::{double, mismatch};
+use gb_elab::setting::Setting;
+use gb_elab::types::type_of;
+use gb_goal::scope::Scope;
+use gb_goal::sequent::Sequent;
+use gb_terms::copy::copy_typed;
+use gb_terms::decl::{Proc, Typed, TypedName};
+use gb_terms::term::{Cmd, Instr, Term};
+use gb_tree::form::{Binder, FormTree, Word};
+use gb_tree::program::{ProcTree, Statement, StatementShape};
+use sqlite_items::{Boxed, Items};
+use std::alloc::Global;
+
+/// The most statements of a body.
+pub const STATEMENTS: usize = 512;
+
+/// The typed tree of a procedure.
+///
+/// # Errors
+///
+/// `TypeMismatch` at its name where it returns nothing and has another result than `unit`, `DoubleName` of a local, and
+/// those of its statements and of the value that it returns, in the order of the text.
+pub fn procedure(
+    alloc: Global,
+    scope: &Scope,
+    around: &Sequent,
+    t: &ProcTree,
+) -> Result<Proc, Refused>
+    ensures name { IfOk result (λ p. p.name ≡ t.now.name.name) }
+    ensures value { IfOk result (λ p. ReturnsItsType p) }
+{
+    let result = result_type(t);
+    if lacks_value(&t.value, &result) {
+        return Err(mismatch(t.name.place));
+    }
+    let locals = locals(alloc, t.locals.as_slice())?;
+    let variables = copy_typed(alloc, locals.as_slice())?;
+    let at = Setting::program(scope, around, variables);
+    let body = body(alloc, &at, t.body.as_slice())?;
+    let value = value(alloc, &at, &t.value, &result)?;
+    Ok(Proc {
+        name: t.name.name.copy(alloc)?,
+        params: Items::new(alloc),
+        result,
+        locals,
+        body,
+        value,
+    })
+}
+
+/// The type of a procedure's result.
+fn result_type(t: &ProcTree) -> Ty {
+    match &t.result {
+        None => Ty::Unit,
+        Some(written) => type_of(written),
+    }
+}
+
+/// Whether a value of this type is to be returned and none is.
+fn lacks_value(value: &Option<FormTree>, ty: &Ty) -> bool
+    ensures { result ≡ false → IfNone value.now (ty.now ≡ Ty.Unit) }
+{
+    match value {
+        Some(_) => false,
+        None => !same_ty(ty, &Ty::Unit),
+    }
+}
+
+/// What a procedure returns: the value of `unit` where it has no `return`.
+fn value(alloc: Global, at: &Setting<'_>, t: &Option<FormTree>, want: &Ty) -> Result<Term, Refused>
+    requires { IfNone t.now (want.now ≡ Ty.Unit) }
+    ensures { Types (Some want.now) result }
+{
+    match t {
+        None => Ok(unit(alloc)?),
+        Some(value) => typed_as(alloc, at, &[], value, want),
+    }
+}
+
+fn is_local(locals: &[TypedName], name: &Name) -> bool {
+    for x in locals {
+        if x.name == *name {
+            return true;
+        }
+    }
+    false
+}
+
+/// The declared locals with their types, in the order of the text.
+fn locals(alloc: Global, binders: &[Binder]) -> Result<Typed, Refused> {
+    let mut locals = Items::new(alloc);
+    for binder in binders {
+        declare(
+            alloc,
+            &mut locals,
+            binder.names.as_slice(),
+            &type_of(&binder.ty),
+        )?;
+    }
+    Ok(locals)
+}
+
+/// Declares locals of one type beside those that are declared.
+fn declare(alloc: Global, locals: &mut Typed, names: &[Word], ty: &Ty) -> Result<(), Refused> {
+    for x in names {
+        if is_local(locals.as_slice(), &x.name) {
+            return Err(double(alloc, &x.name, x.place));
+        }
+        let name = x.name.copy(alloc)?;
+        let ty = copy_ty(alloc, ty)?;
+        locals.push(TypedName { name, ty })?;
+    }
+    Ok(())
+}
+
+/// The typed trees of statements.
+fn body(alloc: Global, at: &Setting<'_>, statements: &[Statement]) -> Result<Cmd, Refused> {
+    let mut list = Items::new(alloc);
+    for s in statements {
+        let i = instruction(alloc, at, s)?;
+        list.push(i)?;
+    }
+    Ok(Cmd { list })
+}
+
+fn instruction(alloc: Global, at: &Setting<'_>, s: &Statement) -> Result<Instr, Refused> {
+    match &s.shape {
+        StatementShape::Sample { target, from } => sampling(alloc, at, target, from),
+    }
+}
+
+/// A sampling: the target is a variable of the procedure, the source a distribution on its type.
+fn sampling(
+    alloc: Global,
+    at: &Setting<'_>,
+    target: &Word,
+    from: &FormTree,
+) -> Result<Instr, Refused> {
+    let variable = own_variable(alloc, at, target)?;
+    let outcomes = copy_ty(alloc, &variable.ty)?;
+    let wanted = Ty::Distr(Boxed::new(alloc, outcomes)?);
+    let from = typed_as(alloc, at, &[], from, &wanted)?;
+    let name = variable.name.copy(alloc)?;
+    Ok(Instr::Sample(Var::Local { name }, from))
+}
+
+/// Refuses a body of too many statements, at the first one too many.
+pub fn refuse_long(t: &ProcTree) -> Result<(), Refused> {
+    match t.body.get(STATEMENTS) {
+        None => Ok(()),
+        Some(s) => Err(Refused::Script {
+            why: Why::TooMany(STATEMENTS as u64),
+            place: s.place,
+        }),
+    }
+}
