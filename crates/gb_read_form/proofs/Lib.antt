@@ -1,3 +1,4 @@
 pub mod Checked
+pub mod Nesting
 pub mod Spans
 pub mod Stacks

@@ -1,6 +1,7 @@
 // Stacks.
 
-ghost use Rattle.std.specs.Prelude.{◌≡◌, [], ◌∷◌, OnOk, MatchOption};
+ghost use Rattle.std.specs.Prelude.{◌≡◌, [], ◌∷◌, length, OnOk, MatchOption, slice_get};
+ghost use Rattle.std.specs.Option.{option_copied};
 
 use sqlite_items::Items;
 use std::alloc::{AllocError, Global};
@@ -36,6 +37,18 @@ impl<T> Stack<T> {
         ensures { MatchOption result ((self.old ≡ []) × (self.new ≡ [])) (λ top. self.old ≡ top ∷ self.new) }
     {
         self.bottom_up.pop()
+    }
+
+    pub fn top(&self) -> Option<&T>
+        ensures { option_copied result ≡ slice_get self.now 0 }
+    {
+        self.bottom_up.last()
+    }
+
+    pub fn len(&self) -> usize
+        ensures { result ≡ length self.now }
+    {
+        self.bottom_up.len()
     }
 
     /// Its elements, the top one first.

@@ -1,9 +1,9 @@
 // Reading forms and commands.
 
-ghost use Rattle.std.specs.Prelude.{◌≡◌, ◌≤◌, ◌<◌, ◌+◌, ◌^◌, ◌⊎◌, ℕ, List, [], ◌∷◌, true, IfOk, MatchResult, Err, length};
+ghost use Rattle.std.specs.Prelude.{◌≡◌, ◌≤◌, ◌<◌, ◌+◌, ◌^◌, ◌⊎◌, ℕ, List, [], ◌∷◌, true, IfOk, OnOk, MatchResult, Err, length};
 ghost use Rattle.gb_core.specs.declared.place.Place.{Place};
 ghost use Rattle.gb_core.specs.declared.refusal.Why.{Why};
-ghost use Rattle.gb_core.specs.declared.refusal.Why.TheVariants.{Syntax, LeftOut};
+ghost use Rattle.gb_core.specs.declared.refusal.Why.TheVariants.{Depth, LeftOut, TooMany};
 ghost use Rattle.gb_core.specs.declared.refusal.Refused.TheVariants.{NoMemory, Script};
 ghost use Rattle.gb_grammar.specs.declared.table.Step.{Step};
 ghost use Rattle.gb_grammar.specs.Check.{is_start};
@@ -15,7 +15,8 @@ ghost use Rattle.gb_read_form.specs.declared.value.Value.TheVariants.{Command as
 ghost use Rattle.gb_read_form.specs.Claims.{claims};
 ghost use Rattle.gb_read_form.specs.LeftOut.{NoneLeftOut};
 ghost use Rattle.gb_read_form.specs.Lexeme.{text_at};
-ghost use Rattle.gb_read_script.specs.Reading.{IsText, Leaves, SpellsCommand, SpellsForm, IsSyntaxFault, IsLeftOutPlace, IsRefusal};
+ghost use Rattle.gb_read_form.specs.Limits.{NoneTooDeep, NoneLong};
+ghost use Rattle.gb_read_script.specs.Reading.{IsText, Leaves, SpellsCommand, SpellsForm, IsLeftOutPlace, IsDepthPlace, IsChainPlace, IsLimit, IsFault, IsRefusal, IsAllowed};
 
 use crate::build::build;
 use crate::pop::pop_command;
@@ -23,12 +24,16 @@ use gb_core::place::Place;
 use gb_core::refusal::{Refused, Why};
 use gb_grammar::error::ReadError;
 use gb_grammar::reading::read;
+use gb_grammar::table::Step;
 use gb_lex::token::Tokens;
 use gb_read_form::bodies::SYMBOLS;
 use gb_read_form::left_out::first_left_out;
+use gb_read_form::level::CHAIN;
 use gb_read_form::lexeme::{kinds, text};
+use gb_read_form::limits::{first_long, first_too_deep};
 use gb_read_form::pop::pop_form;
 use gb_read_form::rows::{COMMAND, FORM, PLACES, ROWS};
+use gb_read_form::rule::Rule;
 use gb_read_form::stack::Stack;
 use gb_read_form::text::{Text, place_at};
 use gb_read_form::value::Value;
@@ -36,26 +41,89 @@ use gb_tree::command::Command;
 use gb_tree::form::FormTree;
 use std::alloc::Global;
 
-// The values that a text of this part leaves.
-fn values(alloc: Global, text: &Text, part: u8) -> Result<Stack<Value>, Refused>
+// Refuses a text that is nested too deep, where it can be read up to a fault.
+fn check_depth(alloc: Global, text: &Text, fault: usize) -> Result<(), Refused>
+    requires { fault ≤ length text.now.lexemes }
+    ensures none { OnOk result (NoneTooDeep text.now fault) }
+    ensures only { NoneTooDeep text.now fault → MatchResult result (λ _. Unit {0}) (λ e. e ≡ NoMemory) }
+    ensures deep { (why : Why) (place : Place) → result ≡ Err (Script why place) → (why ≡ Depth) × IsDepthPlace text.now fault place }
+{
+    match first_too_deep(alloc, text, fault) {
+        Err(_) => Err(Refused::NoMemory),
+        Ok(None) => Ok(()),
+        Ok(Some(at)) => Err(Refused::Script {
+            why: Why::Depth,
+            place: place_at(text, at),
+        }),
+    }
+}
+
+// Refuses a text with a chain that is too long.
+fn check_chains(alloc: Global, text: &Text) -> Result<(), Refused>
+    ensures none { OnOk result (NoneLong text.now) }
+    ensures only { NoneLong text.now → MatchResult result (λ _. Unit {0}) (λ e. e ≡ NoMemory) }
+    ensures long { (why : Why) (place : Place) → result ≡ Err (Script why place) → (why ≡ TooMany 256) × IsChainPlace text.now place }
+{
+    match first_long(alloc, text) {
+        Err(_) => Err(Refused::NoMemory),
+        Ok(None) => Ok(()),
+        Ok(Some(at)) => Err(Refused::Script {
+            why: Why::TooMany(u64::from(CHAIN)),
+            place: place_at(text, at),
+        }),
+    }
+}
+
+// The steps by which a text is one of this part, which passes no limit.
+fn steps(alloc: Global, text: &Text, part: u8) -> Result<Vec<Step<Rule>>, Refused>
     requires { is_start claims part ≡ true }
-    ensures found { IfOk result (λ vs. Leaves part text.now vs) }
-    ensures only { (steps : List (Step Rule)) → IsText part text.now steps → MatchResult result (λ _. Unit {0}) (λ e. e ≡ NoMemory) }
-    ensures fault { (why : Why) (place : Place) → result ≡ Err (Script why place) → (why ≡ Syntax) × IsSyntaxFault part text.now place }
+    ensures found { IfOk result (λ s. IsText part text.now s.items) }
+    ensures only { (s : List (Step Rule)) → IsText part text.now s → NoneTooDeep text.now (length text.now.lexemes) → NoneLong text.now → MatchResult result (λ _. Unit {0}) (λ e. e ≡ NoMemory) }
+    ensures fault { (why : Why) (place : Place) → result ≡ Err (Script why place) → IsFault part text.now why place }
 {
     let Ok(kinds) = kinds(alloc, text) else {
         return Err(Refused::NoMemory);
     };
     match read(alloc, &ROWS, &SYMBOLS, &PLACES, part, kinds.as_slice()) {
+        Err(ReadError::Memory) => Err(Refused::NoMemory),
+        Err(ReadError::Fault(at)) => match check_depth(alloc, text, at) {
+            Err(refused) => Err(refused),
+            Ok(()) => Err(Refused::Script {
+                why: Why::Syntax,
+                place: place_at(text, at),
+            }),
+        },
+        Ok(steps) => match check_limits(alloc, text) {
+            Err(refused) => Err(refused),
+            Ok(()) => Ok(steps),
+        },
+    }
+}
+
+// Refuses a text that can be read to its end and passes a limit.
+fn check_limits(alloc: Global, text: &Text) -> Result<(), Refused>
+    ensures only { NoneTooDeep text.now (length text.now.lexemes) → NoneLong text.now → MatchResult result (λ _. Unit {0}) (λ e. e ≡ NoMemory) }
+    ensures limit { (why : Why) (place : Place) → result ≡ Err (Script why place) → IsLimit text.now why place }
+{
+    match check_depth(alloc, text, text.lexemes.len()) {
+        Err(refused) => Err(refused),
+        Ok(()) => check_chains(alloc, text),
+    }
+}
+
+// The values that a text of this part leaves.
+fn values(alloc: Global, text: &Text, part: u8) -> Result<Stack<Value>, Refused>
+    requires { is_start claims part ≡ true }
+    ensures found { IfOk result (λ vs. Leaves part text.now vs) }
+    ensures only { (s : List (Step Rule)) → IsText part text.now s → NoneTooDeep text.now (length text.now.lexemes) → NoneLong text.now → MatchResult result (λ _. Unit {0}) (λ e. e ≡ NoMemory) }
+    ensures fault { (why : Why) (place : Place) → result ≡ Err (Script why place) → IsFault part text.now why place }
+{
+    match steps(alloc, text, part) {
+        Err(refused) => Err(refused),
         Ok(steps) => match build(alloc, text, steps.as_slice()) {
             Ok(values) => Ok(values),
             Err(_) => Err(Refused::NoMemory),
         },
-        Err(ReadError::Memory) => Err(Refused::NoMemory),
-        Err(ReadError::Fault(at)) => Err(Refused::Script {
-            why: Why::Syntax,
-            place: place_at(text, at),
-        }),
     }
 }
 
@@ -112,7 +180,7 @@ fn part_values(
     requires line { at.line + length bytes.now < 2 ^ 32 }
     requires column { at.col + length bytes.now < 2 ^ 32 }
     ensures found { IfOk result (λ vs. Leaves part (text_at bytes.now at tokens.now) vs) }
-    ensures only { (steps : List (Step Rule)) → IsText part (text_at bytes.now at tokens.now) steps → NoneLeftOut (text_at bytes.now at tokens.now) → MatchResult result (λ _. Unit {0}) (λ e. e ≡ NoMemory) }
+    ensures only { IsAllowed part (text_at bytes.now at tokens.now) → MatchResult result (λ _. Unit {0}) (λ e. e ≡ NoMemory) }
     ensures refused { (why : Why) (place : Place) → result ≡ Err (Script why place) → IsRefusal part (text_at bytes.now at tokens.now) why place }
 {
     match checked_text(alloc, bytes, tokens, at) {
@@ -123,14 +191,15 @@ fn part_values(
 
 /// The command that these tokens of a text spell; the text begins at the place `at`.
 ///
-/// Refused with `LeftOut` at the first token that is left out, and else with `Syntax` at the first token with which no
-/// command goes on, or at the end where the text ends too soon.
+/// Refused, in this order: `LeftOut` at the first token that is left out; `Depth` at the first token that stands in more
+/// than 64 levels; `Syntax` at the first token with which no command goes on, or at the end where the text ends too
+/// soon; `TooMany` at the first token of operand 257 of a chain.
 pub fn command(alloc: Global, text: &[u8], tokens: &Tokens, at: Place) -> Result<Command, Refused>
     requires spans { AreSpans 0 tokens.now (length text.now) }
     requires line { at.line + length text.now < 2 ^ 32 }
     requires column { at.col + length text.now < 2 ^ 32 }
     ensures found { IfOk result (λ c. SpellsCommand (text_at text.now at tokens.now) c) }
-    ensures only { (steps : List (Step Rule)) → IsText COMMAND (text_at text.now at tokens.now) steps → NoneLeftOut (text_at text.now at tokens.now) → MatchResult result (λ _. Unit {0}) (λ e. e ≡ NoMemory) }
+    ensures only { IsAllowed COMMAND (text_at text.now at tokens.now) → MatchResult result (λ _. Unit {0}) (λ e. e ≡ NoMemory) }
     ensures refused { (why : Why) (place : Place) → result ≡ Err (Script why place) → IsRefusal COMMAND (text_at text.now at tokens.now) why place }
 {
     match part_values(alloc, text, tokens, at, COMMAND) {
@@ -145,7 +214,7 @@ pub fn form(alloc: Global, text: &[u8], tokens: &Tokens, at: Place) -> Result<Fo
     requires line { at.line + length text.now < 2 ^ 32 }
     requires column { at.col + length text.now < 2 ^ 32 }
     ensures found { IfOk result (λ f. SpellsForm (text_at text.now at tokens.now) f) }
-    ensures only { (steps : List (Step Rule)) → IsText FORM (text_at text.now at tokens.now) steps → NoneLeftOut (text_at text.now at tokens.now) → MatchResult result (λ _. Unit {0}) (λ e. e ≡ NoMemory) }
+    ensures only { IsAllowed FORM (text_at text.now at tokens.now) → MatchResult result (λ _. Unit {0}) (λ e. e ≡ NoMemory) }
     ensures refused { (why : Why) (place : Place) → result ≡ Err (Script why place) → IsRefusal FORM (text_at text.now at tokens.now) why place }
 {
     match part_values(alloc, text, tokens, at, FORM) {
