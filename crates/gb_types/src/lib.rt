@@ -3,5 +3,6 @@
 
 pub mod card;
 pub mod index;
+pub mod laws;
 pub mod nth;
 pub mod size;
