@@ -1,3 +1,4 @@
 pub mod Lists
 pub mod RaiseSteps
 pub mod ChangeSteps
+pub mod SideSteps

@@ -1,3 +1,4 @@
 pub mod Layers
 pub mod Raise
 pub mod Change
+pub mod Sides

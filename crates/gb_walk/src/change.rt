@@ -40,7 +40,8 @@ fn is_own(side: &Side) -> bool
     matches!(side, Side::Own)
 }
 
-fn is_left_or_right(side: &Side) -> bool
+/// Whether this is one of the two memories of an equivalence.
+pub fn is_left_or_right(side: &Side) -> bool
     ensures { result ≡ is_left_or_right side.now }
 {
     matches!(side, Side::Left | Side::Right)
