@@ -1,0 +1,4 @@
+pub mod Types
+pub mod Judgment
+pub mod Coupled
+pub mod Rows

@@ -1,0 +1,56 @@
+// The rule `skip`: from empty bodies to an ambient goal.
+
+ghost use Rattle.std.specs.Prelude.{◌≡◌, IfOk};
+ghost use Rattle.gb_equiv.specs.Rows.{for_every_memory, for_every_pair, skip_row};
+
+use crate::judgment::{as_bodies, one_goal};
+use gb_core::ty::Ty;
+use gb_goal::sequent::{Sequent, Sequents};
+use gb_terms::copy::copy_term;
+use gb_terms::make::{implication, over};
+use gb_terms::op::Side;
+use gb_terms::term::{Form, Head};
+use gb_walk::change::Change;
+use gb_walk::sides::reads_side;
+use gb_walk::walk::changed;
+use std::alloc::{AllocError, Global};
+
+/// The form for every memory in the place of one side. Where the form doesn't read that side it stays as it is.
+fn for_every_memory(alloc: Global, form: Form, side: Side) -> Result<Form, AllocError>
+    ensures { IfOk result (λ made. made ≡ for_every_memory side form) }
+{
+    if !reads_side(&form, &side) {
+        return Ok(form);
+    }
+    let body = changed(alloc, &form, &[Change::ToSide(side, Side::Bound(0))])?;
+    over(alloc, Head::AllMemory, body, Ty::Bool)
+}
+
+/// For every two memories one form implies the other.
+fn for_every_pair(alloc: Global, pre: &Form, post: &Form) -> Result<Form, AllocError>
+    ensures { IfOk result (λ made. made ≡ for_every_pair pre.now post.now) }
+{
+    let pre = copy_term(alloc, pre)?;
+    let post = copy_term(alloc, post)?;
+    let whole = implication(alloc, pre, post)?;
+    let inner = for_every_memory(alloc, whole, Side::Right)?;
+    for_every_memory(alloc, inner, Side::Left)
+}
+
+/// On an equivalence of two empty bodies: for every two memories the precondition implies the postcondition. Nothing on
+/// any other goal.
+pub fn skip_rule(alloc: Global, goal: &Sequent) -> Result<Option<Sequents>, AllocError>
+    ensures { IfOk result (λ goals. goals ≡ skip_row goal.now) }
+{
+    let Some(judgment) = as_bodies(&goal.conclusion) else {
+        return Ok(None);
+    };
+    let ([], []) = (
+        judgment.left.list.as_slice(),
+        judgment.right.list.as_slice(),
+    ) else {
+        return Ok(None);
+    };
+    let conclusion = for_every_pair(alloc, judgment.pre, judgment.post)?;
+    Ok(Some(one_goal(alloc, goal, conclusion)?))
+}
