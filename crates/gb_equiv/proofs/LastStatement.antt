@@ -1,7 +1,7 @@
 -- The last statement of a body, and what stands before it.
 use Rattle.std.proofs.Common.{◌≡◌, ◌-◌, List, [], ◌∷◌, ◌++◌, length, take, slice_get, Some, None, refl, ap, ◌∙◌, arith, length-append}
 use Rattle.gb_terms.specs.declared.term.Instr.{Instr}
-use Rattle.gb_equiv.specs.Rows.{of_statement}
+use Rattle.gb_equiv.specs.Rnd.{of_statement}
 
 module _ {X : Type 0} where
   before_last : (xs : List X) (x : X) → take (length xs) (xs ++ (x ∷ [])) ≡ xs

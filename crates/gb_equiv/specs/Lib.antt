@@ -1,4 +1,7 @@
 pub mod Types
 pub mod Judgment
 pub mod Coupled
+pub mod Proc
+pub mod Rnd
+pub mod Skip
 pub mod Rows

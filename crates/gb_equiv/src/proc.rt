@@ -2,7 +2,7 @@
 
 ghost use Rattle.std.specs.Prelude.{◌≡◌, ◌∷◌, [], IfOk, codes};
 ghost use Rattle.std.specs.Option.{option_copied};
-ghost use Rattle.gb_equiv.specs.Rows.{procedure_in, returned, entered, proc_row};
+ghost use Rattle.gb_equiv.specs.Proc.{procedure_in, returned, entered, proc_row};
 
 use crate::judgment::{as_equivalence, on_bodies, on_side, one_goal};
 use gb_core::name::Name;

@@ -2,7 +2,7 @@
 
 ghost use Rattle.std.specs.Prelude.{◌≡◌, ◌∷◌, [], Some, IfOk};
 ghost use Rattle.std.specs.Option.{option_map};
-ghost use Rattle.gb_equiv.specs.Rows.{sampling_of, rest_of, of_statement, last_sampling, identity, maps, read_on, coupling, sampled, with_values, post_before, without_samplings, rnd_row};
+ghost use Rattle.gb_equiv.specs.Rnd.{sampling_of, rest_of, of_statement, last_sampling, identity, maps, read_on, coupling, sampled, with_values, post_before, without_samplings, rnd_row};
 
 use crate::coupled::{Coupled, Maps, Sampled, coupled_post, nearest};
 use crate::judgment::{as_bodies, on_bodies, on_side, one_goal};

@@ -1,7 +1,7 @@
 // The rule `skip`: from empty bodies to an ambient goal.
 
 ghost use Rattle.std.specs.Prelude.{◌≡◌, IfOk};
-ghost use Rattle.gb_equiv.specs.Rows.{for_every_memory, for_every_pair, skip_row};
+ghost use Rattle.gb_equiv.specs.Skip.{for_every_memory, for_every_pair, skip_row};
 
 use crate::judgment::{as_bodies, one_goal};
 use gb_core::ty::Ty;
