@@ -1,0 +1,90 @@
+// The atoms of a leaf: its Boolean parts that are no connectives.
+
+use crate::leaves::Leaf;
+use gb_core::copy::copy_ty;
+use gb_core::ty::Ty;
+use gb_terms::copy::{copy_term, copy_terms};
+use gb_terms::make::term;
+use gb_terms::op::Op;
+use gb_terms::same::same;
+use gb_terms::term::{Head, Term, Terms};
+use gb_walk::binders::is_binder;
+use sqlite_items::Items;
+use std::alloc::{AllocError, Global};
+
+/// Whether the arguments of an operator are forms.
+fn is_over_forms(args: &[Term]) -> bool {
+    match args.first() {
+        Some(first) => matches!(first.ty.get(), Ty::Bool),
+        None => false,
+    }
+}
+
+/// Whether a form is a connective: equality of forms is one too.
+fn is_connective(t: &Term) -> bool {
+    match t.head.get() {
+        Head::Builtin(op) => match op {
+            Op::Not | Op::And | Op::Or | Op::Implies | Op::Iff => true,
+            Op::Equal | Op::NotEqual => is_over_forms(t.args.as_slice()),
+            _ => false,
+        },
+        _ => false,
+    }
+}
+
+/// The atom that a form is or negates: `s <> t` is the negation of `s = t`.
+fn atom_of(alloc: Global, t: &Term) -> Result<Term, AllocError> {
+    match t.head.get() {
+        Head::Builtin(Op::NotEqual) => {
+            let args = copy_terms(alloc, t.args.as_slice())?;
+            let ty = copy_ty(alloc, t.ty.get())?;
+            term(alloc, Head::Builtin(Op::Equal), args, ty)
+        }
+        _ => copy_term(alloc, t),
+    }
+}
+
+fn is_among(list: &[Term], t: &Term) -> bool {
+    for atom in list {
+        if same(atom, t) {
+            return true;
+        }
+    }
+    false
+}
+
+/// Whether a form is an atom: no connective, and no literal.
+fn is_atom(t: &Term) -> bool {
+    matches!(t.ty.get(), Ty::Bool) && !matches!(t.head.get(), Head::Lit(_)) && !is_connective(t)
+}
+
+/// Adds the atoms of a term that aren't there yet. A part that binds a variable is one constant.
+#[cycle(note_atoms)]
+fn note_atoms(alloc: Global, t: &Term, atoms: &mut Terms) -> Result<(), AllocError> {
+    if is_atom(t) {
+        let atom = atom_of(alloc, t)?;
+        if !is_among(atoms.as_slice(), &atom) {
+            atoms.push(atom)?;
+        }
+    }
+    if is_binder(t.head.get()) {
+        return Ok(());
+    }
+    note_atoms_of_all(alloc, t.args.as_slice(), atoms)
+}
+
+#[cycle(note_atoms)]
+fn note_atoms_of_all(alloc: Global, list: &[Term], atoms: &mut Terms) -> Result<(), AllocError> {
+    for t in list {
+        note_atoms(alloc, t, atoms)?;
+    }
+    Ok(())
+}
+
+/// The number of atoms of a leaf, each counted once.
+pub fn number_of_atoms(alloc: Global, leaf: &Leaf) -> Result<u64, AllocError> {
+    let mut atoms = Items::new(alloc);
+    note_atoms_of_all(alloc, leaf.hyps.as_slice(), &mut atoms)?;
+    note_atoms(alloc, &leaf.conclusion, &mut atoms)?;
+    Ok(atoms.len() as u64)
+}

@@ -1,0 +1,275 @@
+// The leaves of a goal.
+
+ghost use Rattle.std.specs.Prelude.{◌≡◌, ◌+◌, ◌++◌, ◌∷◌, [], map, IfOk, OnOk};
+ghost use Rattle.std.specs.List.{list_any, flat_map};
+ghost use Rattle.gb_walk.specs.Change.{term_changed};
+ghost use Rattle.gb_smt.specs.Leaves.{connective, with_variable, with_memory, context_of, is_true, unless_true, assumed, assumed_of, split, speaks_of_programs, head_speaks_of_programs, leaves_of};
+
+use gb_core::copy::copy_ty;
+use gb_core::ty::Ty;
+use gb_core::value::Value;
+use gb_goal::sequent::{Hyp, Sequent};
+use gb_terms::copy::{copy_term, copy_terms};
+use gb_terms::make::logical;
+use gb_terms::op::{Op, Side};
+use gb_terms::term::{Head, Term, Terms};
+use gb_walk::change::{Change, Changes, under_binder};
+use gb_walk::walk::changed;
+use sqlite_items::Items;
+use std::alloc::{AllocError, Global};
+
+/// A part of a goal: its hypotheses imply its conclusion.
+#[derive(Debug, Drop)]
+pub struct Leaf {
+    pub hyps: Terms,
+    pub conclusion: Term,
+}
+
+pub type Leaves = Items<Leaf>;
+
+pub fn copy_leaf(alloc: Global, leaf: &Leaf) -> Result<Leaf, AllocError>
+    ensures { IfOk result (λ made. made ≡ leaf.now) }
+{
+    let hyps = copy_terms(alloc, leaf.hyps.as_slice())?;
+    let conclusion = copy_term(alloc, &leaf.conclusion)?;
+    Ok(Leaf { hyps, conclusion })
+}
+
+/// The context of a part of the conclusion: how many logical variables and memories there are, and what became of the
+/// quantifiers around the part.
+#[derive(Drop)]
+struct Context {
+    logical: u32,
+    memories: u32,
+    changes: Changes,
+}
+
+fn next_place(place: u32) -> Result<u32, AllocError>
+    ensures { IfOk result (λ next. next ≡ place + 1) }
+{
+    place.checked_add(1).ok_or(AllocError)
+}
+
+impl Context {
+    /// The context of a goal.
+    fn of(alloc: Global, goal: &Sequent) -> Result<Context, AllocError>
+        ensures { IfOk result (λ c. c ≡ context_of goal.now) }
+    {
+        Ok(Context {
+            logical: place_after(goal.logical.len())?,
+            memories: place_after(goal.memories.len())?,
+            changes: Items::new(alloc),
+        })
+    }
+
+    /// This context with one variable more, for a quantifier over values.
+    fn with_variable(&self, alloc: Global, ty: &Ty) -> Result<Context, AllocError>
+        ensures { IfOk result (λ c. c ≡ with_variable self.now ty.now) }
+    {
+        let mut changes = under_binder(alloc, self.changes.as_slice())?;
+        let variable = logical(alloc, self.logical, copy_ty(alloc, ty)?)?;
+        changes.push(Change::OfBound(0, variable))?;
+        Ok(Context {
+            logical: next_place(self.logical)?,
+            memories: self.memories,
+            changes,
+        })
+    }
+
+    /// This context with one memory more, for a quantifier over memories.
+    fn with_memory(&self, alloc: Global) -> Result<Context, AllocError>
+        ensures { IfOk result (λ c. c ≡ with_memory self.now) }
+    {
+        let mut changes = under_binder(alloc, self.changes.as_slice())?;
+        let memory = Side::Memory(self.memories);
+        changes.push(Change::ToSide(Side::Bound(0), memory))?;
+        Ok(Context {
+            logical: self.logical,
+            memories: next_place(self.memories)?,
+            changes,
+        })
+    }
+}
+
+/// A length as the number of a place. A list that is longer doesn't fit in memory, and so counts as a want of it.
+fn place_after(length: usize) -> Result<u32, AllocError>
+    ensures { IfOk result (λ place. place ≡ length) }
+{
+    u32::try_from(length).or(Err(AllocError))
+}
+
+/// What a form of two sides is split by.
+#[derive(Clone, Copy)]
+enum Connective {
+    Implication,
+    Conjunction,
+    Other,
+}
+
+fn connective_of(head: &Head) -> Connective
+    ensures { result ≡ connective head.now }
+{
+    match head {
+        Head::Builtin(Op::And) => Connective::Conjunction,
+        Head::Builtin(Op::Implies) => Connective::Implication,
+        _ => Connective::Other,
+    }
+}
+
+/// Whether a head is that of the literal `true`.
+fn is_true(head: &Head) -> bool
+    ensures { result ≡ is_true head.now }
+{
+    match head {
+        Head::Lit(Value::Num(bit)) => *bit == 1,
+        _ => false,
+    }
+}
+
+/// Adds a hypothesis, unless it is `true`.
+fn add_unless_true(alloc: Global, t: &Term, hyps: &mut Terms) -> Result<(), AllocError>
+    ensures { OnOk result (hyps.new ≡ hyps.old ++ unless_true t.now) }
+{
+    if is_true(t.head.get()) {
+        return Ok(());
+    }
+    hyps.push(copy_term(alloc, t)?)
+}
+
+/// Adds a hypothesis: both sides of a conjunction, and nothing for `true`.
+fn assume(alloc: Global, t: &Term, hyps: &mut Terms) -> Result<(), AllocError>
+    ensures { OnOk result (hyps.new ≡ hyps.old ++ assumed t.now) }
+{
+    let args = t.args.as_slice();
+    if args.len() != 2 {
+        return add_unless_true(alloc, t, hyps);
+    }
+    match connective_of(t.head.get()) {
+        Connective::Conjunction => {
+            assume(alloc, &args[0], hyps)?;
+            assume(alloc, &args[1], hyps)
+        }
+        _ => add_unless_true(alloc, t, hyps),
+    }
+}
+
+/// The hypotheses, and behind them what the left side of an implication gives.
+fn hyps_with(alloc: Global, hyps: &[Term], t: &Term, context: &Context) -> Result<Terms, AllocError>
+    ensures { IfOk result (λ made. made ≡ hyps.now ++ assumed (term_changed t.now context.now.changes)) }
+{
+    let mut more = copy_terms(alloc, hyps)?;
+    let hyp = changed(alloc, t, context.changes.as_slice())?;
+    assume(alloc, &hyp, &mut more)?;
+    Ok(more)
+}
+
+/// Adds the leaf of a conclusion that isn't split.
+fn add_leaf(
+    alloc: Global,
+    t: &Term,
+    context: &Context,
+    hyps: &[Term],
+    leaves: &mut Leaves,
+) -> Result<(), AllocError>
+    ensures { OnOk result (leaves.new ≡ leaves.old ++ record { hyps = hyps.now; conclusion = term_changed t.now context.now.changes } ∷ []) }
+{
+    let hyps = copy_terms(alloc, hyps)?;
+    let conclusion = changed(alloc, t, context.changes.as_slice())?;
+    leaves.push(Leaf { hyps, conclusion })
+}
+
+/// Adds the leaves of a part of the conclusion under hypotheses. A quantifier over values or memories goes to the
+/// context, the left side of an implication to the hypotheses, and a conjunction gives the leaves of both sides.
+fn split(
+    alloc: Global,
+    t: &Term,
+    context: &Context,
+    hyps: &[Term],
+    leaves: &mut Leaves,
+) -> Result<(), AllocError>
+    ensures { OnOk result (leaves.new ≡ leaves.old ++ split t.now context.now hyps.now) }
+{
+    let args = t.args.as_slice();
+    if args.len() == 1 {
+        return match t.head.get() {
+            Head::All(ty) => {
+                let inner = context.with_variable(alloc, ty)?;
+                split(alloc, &args[0], &inner, hyps, leaves)
+            }
+            Head::AllMemory => {
+                let inner = context.with_memory(alloc)?;
+                split(alloc, &args[0], &inner, hyps, leaves)
+            }
+            _ => add_leaf(alloc, t, context, hyps, leaves),
+        };
+    }
+    if args.len() == 2 {
+        return match connective_of(t.head.get()) {
+            Connective::Implication => {
+                let more = hyps_with(alloc, hyps, &args[0], context)?;
+                split(alloc, &args[1], context, more.as_slice(), leaves)
+            }
+            Connective::Conjunction => {
+                split(alloc, &args[0], context, hyps, leaves)?;
+                split(alloc, &args[1], context, hyps, leaves)
+            }
+            Connective::Other => add_leaf(alloc, t, context, hyps, leaves),
+        };
+    }
+    add_leaf(alloc, t, context, hyps, leaves)
+}
+
+/// The hypotheses of a goal without those that hold a judgment or a probability.
+fn hyps_of(alloc: Global, list: &[Hyp]) -> Result<Terms, AllocError>
+    ensures { IfOk result (λ made. made ≡ flat_map assumed_of list.now) }
+{
+    let mut hyps = Items::new(alloc);
+    for hyp in list {
+        if !speaks_of_programs(&hyp.form) {
+            assume(alloc, &hyp.form, &mut hyps)?;
+        }
+    }
+    Ok(hyps)
+}
+
+/// The leaves of a goal, in order. Hypotheses that hold a judgment or a probability are left out.
+pub fn leaves(alloc: Global, goal: &Sequent) -> Result<Leaves, AllocError>
+    ensures { IfOk result (λ made. made ≡ leaves_of goal.now) }
+{
+    let context = Context::of(alloc, goal)?;
+    let hyps = hyps_of(alloc, goal.hyps.as_slice())?;
+    let mut out = Items::new(alloc);
+    split(alloc, &goal.conclusion, &context, hyps.as_slice(), &mut out)?;
+    Ok(out)
+}
+
+/// Whether a judgment or a probability stands in a term.
+#[cycle(speaks_of_programs)]
+#[tactic(auto, using(crate::proofs::Layers::speaks_out))]
+fn speaks_of_programs(t: &Term) -> bool
+    ensures { result ≡ speaks_of_programs t.now }
+{
+    head_speaks_of_programs(t.head.get()) || speak_of_programs(t.args.as_slice())
+}
+
+fn head_speaks_of_programs(head: &Head) -> bool
+    ensures { result ≡ head_speaks_of_programs head.now }
+{
+    matches!(
+        head,
+        Head::Hoare(_) | Head::Phoare(..) | Head::Equiv(..) | Head::Pr(..)
+    )
+}
+
+#[cycle(speaks_of_programs)]
+#[tactic(auto, using(crate::proofs::Layers::speaks_out))]
+fn speak_of_programs(list: &[Term]) -> bool
+    ensures { result ≡ list_any speaks_of_programs list.now }
+{
+    for t in list {
+        if speaks_of_programs(t) {
+            return true;
+        }
+    }
+    false
+}

@@ -1,0 +1,12 @@
+//! The rule `smt`: a goal closes when each of its leaves is true under every assignment of values.
+#![tactic(auto)]
+
+pub mod apply;
+mod assign;
+mod atoms;
+mod claims;
+mod components;
+mod equations;
+mod leaves;
+mod variables;
+mod width;
