@@ -1,0 +1,7 @@
+pub mod Words
+pub mod Status
+pub mod Report
+pub mod Reply
+pub mod Limits
+pub mod Opened
+pub mod Placed

@@ -1,0 +1,9 @@
+-- An open proof among the declarations.
+use Rattle.std.specs.Prelude.{Bool, true, Option, Some, None, is_none}
+use Rattle.gb_goal.specs.Scope.{Declarations, entry_of}
+use Rattle.gb_app.specs.declared.state.OpenProof.{OpenProof}
+
+-- nothing is declared under the name of the open lemma
+abbrev pub is_undeclared : Declarations → Option OpenProof → Bool
+is_undeclared ds None = true
+is_undeclared ds (Some proof) = is_none (entry_of ds proof.name)

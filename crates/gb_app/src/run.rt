@@ -1,0 +1,128 @@
+// The top call.
+
+ghost use Rattle.std.specs.Prelude.{◌≡◌, ◌⊎◌, ℕ, List, true, None, IfSome, Err, is_err, IfErr, map, string_bytes};
+ghost use Rattle.std.specs.Io.KnownBytes.{Appends};
+ghost use Rattle.gb_outside.specs.Appended.{AppendsFront};
+ghost use Rattle.gb_outside.specs.Counts.{HasRisen};
+ghost use Rattle.gb_outside.specs.HeldBytes.{bytes_of};
+ghost use Rattle.gb_app.specs.declared.verdict.Verdict.{Verdict};
+ghost use Rattle.gb_app.specs.Words.{file_of};
+ghost use Rattle.gb_app.specs.Status.{status_of};
+ghost use Rattle.gb_app.specs.Report.{report_of};
+ghost use Rattle.gb_app.specs.Reply.{usage_line, IsReply};
+
+use crate::report::{report, write};
+use crate::status::Status;
+use crate::verdict::{Verdict, too_long, verdict_on};
+use crate::words::file_to_check;
+use gb_outside::{Files, ReadRefused, Sink, Source, read_whole, write_all};
+use std::alloc::Global;
+
+const USAGE: &[u8] = b"usage: gb check FILE | gb step | gb selftest N\n";
+
+/// Does what the words after the program's name ask for. `check FILE` checks the script FILE and writes the report on it;
+/// any other list of words is answered by the usage line.
+pub fn run<F: Files, I: Source, K: Sink>(
+    alloc: Global,
+    words: &[String],
+    files: &mut F,
+    _input: &mut I,
+    out: &mut K,
+) -> Status
+    // Words that ask for nothing are answered by the usage line, which takes no memory.
+    ensures usage { file_of (map string_bytes words.now) ≡ None → (result ≡ Status.Usage) ⊎ (result ≡ Status.WriteFault) }
+    ensures usage_only { result ≡ Status.Usage → file_of (map string_bytes words.now) ≡ None }
+    ensures usage_line { result ≡ Status.Usage → Appends (K.written out.old) (K.written out.new) usage_line }
+
+    // A verdict is answered by its report.
+    ensures reported { (result ≡ Status.Accepted) ⊎ (result ≡ Status.Refused) →
+        IfSome (file_of (map string_bytes words.now)) (λ file. (verdict : Verdict) × (result ≡ status_of verdict)
+        × Appends (K.written out.old) (K.written out.new) (report_of file verdict)) }
+
+    // A name that isn't held is missing, and no other.
+    ensures missing { result ≡ Status.Missing → IfSome (F.held files.old) (λ held.
+        IfSome (file_of (map string_bytes words.now)) (λ file. bytes_of file held ≡ None)) }
+    ensures not_held { IfSome (F.held files.old) (λ held. IfSome (file_of (map string_bytes words.now)) (λ file.
+        bytes_of file held ≡ None → (result ≡ Status.Missing) ⊎ (result ≡ Status.ReadFault) ⊎ (result ≡ Status.NoMemory))) }
+
+    // Faults come from outside.
+    ensures read_fault { result ≡ Status.ReadFault → HasRisen (F.faults files.old) (F.faults files.new) }
+    ensures write_fault { result ≡ Status.WriteFault → HasRisen (K.faults out.old) (K.faults out.new) }
+
+    // After a fault of writing a front of the text was written; where nothing is known, nothing.
+    ensures front { result ≡ Status.WriteFault → (text : List ℕ) × IsReply (file_of (map string_bytes words.now)) text
+        × AppendsFront (K.written out.old) (K.written out.new) text }
+    ensures silent { (result ≡ Status.Missing) ⊎ (result ≡ Status.ReadFault) ⊎ (result ≡ Status.NoMemory) →
+        K.written out.new ≡ K.written out.old }
+    ensures unchanged { F.held files.new ≡ F.held files.old }
+{
+    match file_to_check(words) {
+        None => match write_all(out, USAGE) {
+            Ok(()) => Status::Usage,
+            Err(_) => Status::WriteFault,
+        },
+        Some(file) => check_file(alloc, file, files, out),
+    }
+}
+
+/// Checks the script of this name, and writes the report on it.
+fn check_file<F: Files, K: Sink>(alloc: Global, file: &str, files: &mut F, out: &mut K) -> Status
+    ensures no_usage { result ≡ Status.Usage → ⊥ }
+    ensures reported { (result ≡ Status.Accepted) ⊎ (result ≡ Status.Refused) →
+        (verdict : Verdict) × (result ≡ status_of verdict)
+        × Appends (K.written out.old) (K.written out.new) (report_of file.now verdict) }
+    ensures missing { result ≡ Status.Missing → IfSome (F.held files.old) (λ held. bytes_of file.now held ≡ None) }
+    ensures not_held { IfSome (F.held files.old) (λ held. bytes_of file.now held ≡ None →
+        (result ≡ Status.Missing) ⊎ (result ≡ Status.ReadFault) ⊎ (result ≡ Status.NoMemory)) }
+    ensures read_fault { result ≡ Status.ReadFault → HasRisen (F.faults files.old) (F.faults files.new) }
+    ensures write_fault { result ≡ Status.WriteFault → HasRisen (K.faults out.old) (K.faults out.new) }
+    ensures front { result ≡ Status.WriteFault → (verdict : Verdict)
+        × AppendsFront (K.written out.old) (K.written out.new) (report_of file.now verdict) }
+    ensures silent { (result ≡ Status.Missing) ⊎ (result ≡ Status.ReadFault) ⊎ (result ≡ Status.NoMemory) →
+        K.written out.new ≡ K.written out.old }
+    ensures unchanged { F.held files.new ≡ F.held files.old }
+{
+    match file_verdict(alloc, file, files) {
+        Ok(verdict) => answer(alloc, file, &verdict, out),
+        Err(status) => status,
+    }
+}
+
+/// The verdict on the script of this name, or the status of a run that has none: `Missing`, `ReadFault` or `NoMemory`.
+fn file_verdict<F: Files>(alloc: Global, file: &str, files: &mut F) -> Result<Verdict, Status>
+    ensures kind { IfErr result (λ s. (s ≡ Status.Missing) ⊎ (s ≡ Status.ReadFault) ⊎ (s ≡ Status.NoMemory)) }
+    ensures missing { result ≡ Err Status.Missing → IfSome (F.held files.old) (λ held. bytes_of file.now held ≡ None) }
+    ensures not_held { IfSome (F.held files.old) (λ held. bytes_of file.now held ≡ None → is_err result ≡ true) }
+    ensures read_fault { result ≡ Err Status.ReadFault → HasRisen (F.faults files.old) (F.faults files.new) }
+    ensures unchanged { F.held files.new ≡ F.held files.old }
+{
+    match read_whole(alloc, files, file) {
+        Err(ReadRefused::NoMemory) => Err(Status::NoMemory),
+        Err(ReadRefused::Missing) => Err(Status::Missing),
+        Err(ReadRefused::ReadFault) => Err(Status::ReadFault),
+        Err(ReadRefused::Length) => Ok(too_long()),
+        Ok(text) => match verdict_on(alloc, text.as_slice()) {
+            Ok(verdict) => Ok(verdict),
+            Err(_) => Err(Status::NoMemory),
+        },
+    }
+}
+
+/// Writes the report on a verdict.
+fn answer<K: Sink>(alloc: Global, file: &str, verdict: &Verdict, out: &mut K) -> Status
+    ensures kind { (result ≡ status_of verdict.now) ⊎ (result ≡ Status.WriteFault) ⊎ (result ≡ Status.NoMemory) }
+    ensures reported { result ≡ status_of verdict.now →
+        Appends (K.written out.old) (K.written out.new) (report_of file.now verdict.now) }
+    ensures write_fault { result ≡ Status.WriteFault → HasRisen (K.faults out.old) (K.faults out.new) }
+    ensures front { result ≡ Status.WriteFault →
+        AppendsFront (K.written out.old) (K.written out.new) (report_of file.now verdict.now) }
+    ensures silent { result ≡ Status.NoMemory → K.written out.new ≡ K.written out.old }
+{
+    let Ok(report) = report(alloc, file, verdict) else {
+        return Status::NoMemory;
+    };
+    match write(out, report.as_slice()) {
+        Ok(()) => verdict.status(),
+        Err(_) => Status::WriteFault,
+    }
+}

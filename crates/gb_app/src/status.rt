@@ -1,0 +1,23 @@
+// How a run ends.
+
+ghost use Rattle.std.specs.Prelude.{◌≡◌};
+ghost use Rattle.gb_app.specs.Status.{exit_of};
+
+/// How a run ended, in the order of the exit statuses.
+#[derive(Clone, Copy, Debug, PartialEq, Eq)]
+pub enum Status {
+    Accepted,
+    Refused,
+    Usage,
+    Missing,
+    ReadFault,
+    WriteFault,
+    NoMemory,
+}
+
+/// The exit status of the process, 0 to 6.
+pub fn exit_code(status: Status) -> u8
+    ensures { result ≡ exit_of status }
+{
+    status as u8
+}
