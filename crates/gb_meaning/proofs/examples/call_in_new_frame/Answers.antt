@@ -1,0 +1,7 @@
+use Rattle.std.proofs.Common.{refl}
+use Rattle.gb_core.specs.declared.value.Value.{out-Value}
+use Rattle.gb_meaning.proofs.examples.call_in_new_frame.Goals as goal
+
+pub returns : goal.returns
+unfolding out-Value denote.Hole.Carrier.out
+returns c = record { denominator = λ g. refl; results = λ g. refl; frame = λ g. refl }
