@@ -1,0 +1,15 @@
+pub mod Maps
+pub mod Values
+pub mod Numberings
+pub mod Memories
+pub mod Runs
+pub mod Totals
+pub mod Zips
+pub mod Cells
+pub mod States
+pub mod Near
+pub mod NearRuns
+pub mod Sequence
+pub mod Nodes
+pub mod Types
+pub mod Bodies
