@@ -1,0 +1,4 @@
+//! Truth: there is a fair judge, and one meaning under all of them.
+#![tactic(auto)]
+
+pub mod truth_laws;
