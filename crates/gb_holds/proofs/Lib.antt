@@ -1,0 +1,14 @@
+pub mod Counting
+pub mod Links
+pub mod Lists
+pub mod SettingTypes
+pub mod Fronts
+pub mod TwoCoins
+pub mod Asking
+pub mod Groups
+pub mod Curious
+pub mod Scopes
+pub mod Sounds
+pub mod EachProgram
+pub mod Idling
+pub mod Later

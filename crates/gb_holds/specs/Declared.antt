@@ -1,0 +1,94 @@
+-- The declarations of a script, as plain lists.
+use Rattle.std.specs.Prelude.{List, [], ◌∷◌, Option, Some, None, if◌then◌else◌, bytes_eq}
+use Rattle.gb_core.specs.declared.ty.Ty.{Ty}
+use Rattle.gb_terms.specs.declared.decl.TypedName.{TypedName}
+use Rattle.gb_terms.specs.declared.decl.Param.{Param}
+use Rattle.gb_terms.specs.declared.decl.Module.{Module}
+use Rattle.gb_terms.specs.declared.module.Bind.{Bind}
+use Rattle.gb_terms.specs.declared.term.Term.{Term}
+use Rattle.gb_goal.specs.declared.sequent.Sequent.{Sequent}
+use Rattle.gb_goal.specs.declared.scope.Entry.{Entry}
+use Rattle.gb_goal.specs.declared.scope.Entry.TheVariants as entry
+use Rattle.gb_goal.specs.Scope as scope
+use Rattle.gb_meaning.specs.Names.{Name}
+use Rattle.gb_meaning.specs.Program.{Oracle}
+
+-- an operator with a body, in which the parameters are the innermost bound variables, the last one first
+pub record DefinedOperator : Type 0 where
+  pub params : List TypedName
+  pub body : Term
+
+-- an operator without a body, which stands for any function from values of these types to values of its result
+pub record AbstractOperator : Type 0 where
+  pub params : List Ty
+  pub result : Ty
+
+-- which procedures of the parameters a procedure may call
+pub data MayCall : Type 0 where
+  every : MayCall
+  those : List Oracle → MayCall
+
+-- a procedure of a module type
+pub record Signature : Type 0 where
+  pub name : Name
+  pub params : List TypedName
+  pub result : Ty
+  pub oracles : MayCall
+
+-- a module type: its parameters, with module types that have none, and its signatures
+pub record ModuleType : Type 0 where
+  pub params : List Param
+  pub signatures : List Signature
+
+-- What is declared under a name.
+pub data Declaration : Type 0 where
+  abstract_type : Declaration
+  operator : DefinedOperator → Declaration
+  abstract_operator : AbstractOperator → Declaration
+  module_type : ModuleType → Declaration
+  concrete_module : Module → Declaration
+  -- a module that an open section declares
+  abstract_module : Bind → Declaration
+  axiom_of : Sequent → Declaration
+  lemma : Sequent → Declaration
+  -- the loops of this procedure of the module are proved
+  terminating : Name → Declaration
+
+-- what is declared, in order, each with its name
+abbrev pub Declarations : Type 0
+Declarations = List (Name × Declaration)
+
+-- what the entry of a scope declares
+abbrev pub declaration_of : Entry → Declaration
+declaration_of (entry.Module m) = concrete_module m
+declaration_of (entry.Lemma s) = lemma s
+
+-- the declarations of a scope
+abbrev pub declared : scope.Declarations → Declarations
+declared [] = []
+declared (d ∷ ds) = (d.0, declaration_of d.1) ∷ declared ds
+
+-- the module type that is declared
+abbrev pub module_type_in : Declaration → Option ModuleType
+module_type_in (module_type t) = Some t
+module_type_in _ = None
+
+-- the module type of this name
+abbrev pub module_type_of : Declarations → Name → Option ModuleType
+module_type_of [] n = None
+module_type_of (d ∷ ds) n = if bytes_eq n d.0 then module_type_in d.1 else module_type_of ds n
+
+-- the signature of this name
+abbrev pub signature_in : List Signature → Name → Option Signature
+signature_in [] n = None
+signature_in (s ∷ ss) n = if bytes_eq n s.name then Some s else signature_in ss n
+
+-- the module that is declared
+abbrev pub module_in : Declaration → Option Module
+module_in (concrete_module m) = Some m
+module_in _ = None
+
+-- the declared module of this name
+abbrev pub module_named : Declarations → Name → Option Module
+module_named [] n = None
+module_named (d ∷ ds) n = if bytes_eq n d.0 then module_in d.1 else module_named ds n

@@ -1,0 +1,42 @@
+-- Which names a module expression and a body have in them.
+use Rattle.std.specs.Prelude.{◌≡◌, false, List, [], ◌∷◌, bytes_eq}
+use Rattle.gb_terms.specs.declared.module.Mexp.{Mexp, Row_of-Mexp, end_of-Mexp, more_of-Mexp}
+use Rattle.gb_terms.specs.declared.module.Mexp.TheVariants.{Name as named, Apply'}
+use Rattle.gb_terms.specs.declared.module.ProcRef.{ProcRef}
+use Rattle.gb_terms.specs.declared.term.Instr.{Instr, Row_of-Instr, end_of-Instr, more_of-Instr}
+use Rattle.gb_terms.specs.declared.term.Head.TheVariants.{Assign, Sample, Call', If', While'}
+use Rattle.gb_meaning.specs.Names.{Name}
+use Rattle.gb_holds.specs.Declared.{Declarations}
+
+abbrev mutual
+  -- each module name in the expression is in P
+  pub EachName : (Name → Type 0) → Mexp → Type 0
+  EachName P (named m) = P m
+  EachName P (Apply' m n args) = P m × EachNameIn P args
+
+  pub EachNameIn : {n : _} → (Name → Type 0) → Row_of-Mexp n → Type 0
+  EachNameIn P end_of-Mexp = Unit {0}
+  EachNameIn P (more_of-Mexp m r) = EachName P m × EachNameIn P r
+
+abbrev mutual
+  -- each procedure that the statement calls is in P
+  pub EachCall : (ProcRef → Type 0) → Instr → Type 0
+  EachCall P (Assign xs e) = Unit {0}
+  EachCall P (Sample x d) = Unit {0}
+  EachCall P (Call' xs p n es) = P p
+  EachCall P (If' e m a n b) = EachCallIn P a × EachCallIn P b
+  EachCall P (While' e v n a) = EachCallIn P a
+
+  pub EachCallIn : {n : _} → (ProcRef → Type 0) → Row_of-Instr n → Type 0
+  EachCallIn P end_of-Instr = Unit {0}
+  EachCallIn P (more_of-Instr i r) = EachCall P i × EachCallIn P r
+
+-- each procedure that a list of statements calls is in P
+abbrev pub EachCallOf : (ProcRef → Type 0) → List Instr → Type 0
+EachCallOf P [] = Unit {0}
+EachCallOf P (i ∷ is) = EachCall P i × EachCallOf P is
+
+-- no declaration has this name
+abbrev pub IsFresh : Declarations → Name → Type 0
+IsFresh [] n = Unit {0}
+IsFresh (d ∷ ds) n = (bytes_eq n d.0 ≡ false) × IsFresh ds n

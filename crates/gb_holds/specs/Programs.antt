@@ -1,0 +1,55 @@
+-- Which programs are programs for a module type.
+use Rattle.std.specs.Prelude.{◌≡◌, List, [], ◌∷◌, Option, Some, None}
+use Rattle.std.specs.declared.cmp.Ordering.TheVariants.{Less}
+use Rattle.gb_meaning.specs.Values.{Global, World}
+use Rattle.gb_meaning.specs.Program.{Routine, Oracle}
+use Rattle.gb_meaning.specs.Setting.{Setting}
+use Rattle.gb_meaning.specs.Sound.{FullRoutine}
+use Rattle.gb_holds.specs.Declared.{Declarations, ModuleType, Signature}
+use Rattle.gb_holds.specs.Modules.{found}
+use Rattle.gb_holds.specs.Footprints.{global_order}
+use Rattle.gb_holds.specs.Typing.{global_type, params_of, result_type, IsTypedRoutine}
+use Rattle.gb_holds.specs.Adversary.{Adversary, callable}
+
+-- globals in order, each once
+abbrev pub IsRising : List Global → Type 0
+IsRising [] = Unit {0}
+IsRising (x ∷ []) = Unit {0}
+IsRising (x ∷ y ∷ xs) = (global_order x y ≡ Less) × IsRising (y ∷ xs)
+
+-- each is a global of the world, at its type
+abbrev pub AreIn : World → List Global → Type 0
+AreIn w [] = Unit {0}
+AreIn w (x ∷ xs) = (global_type w x.parent x.name ≡ Some x.ty) × AreIn w xs
+
+-- a procedure with the parameters and the result of a signature
+abbrev pub HasSignature : Signature → Routine → Type 0
+HasSignature s r = (params_of r ≡ s.params) × (result_type r ≡ s.result)
+
+-- a well-typed procedure of a signature, within a footprint
+abbrev pub IsProcedureFor : Setting → (Oracle → Option Signature) → List Global → Signature → Option Routine → Type 0
+IsProcedureFor g os gs s None = ⊥
+IsProcedureFor g os gs s (Some r) = HasSignature s r × IsTypedRoutine g os gs r
+
+-- the program has such a procedure for each signature
+abbrev pub HasProcedures : Declarations → Setting → ModuleType → Adversary → List Signature → Type 0
+HasProcedures ds g t a [] = Unit {0}
+HasProcedures ds g t a (s ∷ ss) =
+    IsProcedureFor g (callable ds t s) a.footprint s (found a.procedures s.name) × HasProcedures ds g t a ss
+
+-- A program for a module type: its footprint is one of globals of the world, in order, and for each signature it has a
+-- well-typed procedure that touches no other global and calls no oracle but those that the signature names.
+pub record IsProgramFor (ds : Declarations) (g : Setting) (w : World) (t : ModuleType) (a : Adversary) : Type 0 where
+  pub rising : IsRising a.footprint
+  pub known : AreIn w a.footprint
+  pub procedures : HasProcedures ds g t a t.signatures
+
+-- a procedure has a property, if it is there
+abbrev pub IfThere : (Routine → Type 0) → Option Routine → Type 0
+IfThere P None = Unit {0}
+IfThere P (Some r) = P r
+
+-- each procedure of a signature draws from distributions of full weight
+abbrev pub AreFull : Setting → Adversary → List Signature → Type 0
+AreFull g a [] = Unit {0}
+AreFull g a (s ∷ ss) = IfThere (FullRoutine g) (found a.procedures s.name) × AreFull g a ss

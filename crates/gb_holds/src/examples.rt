@@ -1,0 +1,86 @@
+//! The definitions at small scripts.
+
+ghost use Rattle.std.specs.Prelude.{◌≡◌, ℕ, [], ◌∷◌, Some};
+ghost use Rattle.gb_core.specs.declared.var.Var.TheVariants.{Glob};
+ghost use Rattle.gb_coupling.specs.WeightedList.{dmap};
+ghost use Rattle.gb_meaning.specs.Names.{Name, Map, empty};
+ghost use Rattle.gb_meaning.specs.Values.{World};
+ghost use Rattle.gb_meaning.specs.Program.Program.{done};
+ghost use Rattle.gb_meaning.specs.Setting.{Setting};
+ghost use Rattle.gb_meaning.specs.Runs.{routine_denominator};
+ghost use Rattle.gb_holds.specs.Modules.{modules_of, module_at, no_module, found};
+ghost use Rattle.gb_holds.specs.Footprints.{footprint, footprint_read};
+ghost use Rattle.gb_holds.specs.Linking.{linked_procedure, link, link_routine};
+ghost use Rattle.gb_holds.specs.Counted.{counted_outcomes};
+ghost use Rattle.gb_holds.specs.Settings.{Interpretation, footprints, setting};
+ghost use Rattle.gb_holds.specs.Within.{IsWithin};
+ghost use Rattle.gb_holds.specs.Holds.{Holds, interpretation, IsSound};
+ghost use Rattle.gb_holds.specs.Operators.{three_operators, difference_name, opposite_name, truth_number};
+ghost use Rattle.gb_holds.specs.Coins.{two_coins, coin_sequent};
+ghost use Rattle.gb_holds.specs.Idling.{idling_is_proved};
+ghost use Rattle.gb_holds.specs.Examples.{types_and_keeper, adversary_with_keeper, nothing_said, oracle_and_adversary, asking_at_most, curious_program, oracle, curious, asking_keeper, asking_coin};
+ghost use Rattle.gb_holds.specs.Examples.{kept, main_name, keeper_and_game, game_with_keeper, linked_game};
+
+/// A functor is linked with its argument: the call of its parameter carries the argument's procedure. The footprint of
+/// both together is the argument's global.
+pub fn functor_with_argument()
+    ensures linked { (g : Setting) →
+        found (module_at (modules_of (linked_procedure g) (λ n. no_module) keeper_and_game) game_with_keeper []) main_name
+        ≡ Some linked_game }
+    ensures touched { footprint (modules_of footprint_read (λ n. no_module) keeper_and_game) game_with_keeper ≡ kept ∷ [] }
+{}
+
+/// An abstract module stands in the footprint of its application as one entry, beside what its oracle touches.
+pub fn abstract_footprint()
+    ensures { footprint (footprints types_and_keeper (record { bind = asking_at_most 2; program = curious_program } ∷ [])) adversary_with_keeper
+        ≡ kept ∷ Glob (65 ∷ []) ∷ [] }
+{}
+
+/// An open program asks its oracle, and asks again if the answer is true. Linked with a procedure that answers with its
+/// argument it makes two calls; linked with one that tosses a coin it makes one call or two, each with probability 1/2.
+pub fn calls_of_an_oracle()
+    ensures of_keeper { (g : Setting) →
+        dmap (λ p. p.1) (counted_outcomes g asking_keeper oracle curious [] empty) ≡ (2, 1) ∷ [] }
+    ensures of_coin { (g : Setting) (globals : Map) →
+        dmap (λ p. p.1) (counted_outcomes g asking_coin oracle curious [] globals) ≡ (1, 2) ∷ (2, 1) ∷ (2, 1) ∷ [] }
+    ensures denominator { (g : Setting) → routine_denominator g (link_routine asking_coin curious) ≡ 4 }
+{}
+
+/// The program that asks again if the answer is true is one of its module type that makes at most two calls, in every
+/// interpretation. It doesn't make at most one call.
+pub fn program_within_bound()
+    ensures two { (i : Interpretation) → IsWithin oracle_and_adversary i (asking_at_most 2) curious_program }
+    ensures not_one { (i : Interpretation) → ¬ (IsWithin oracle_and_adversary i (asking_at_most 1) curious_program) }
+{}
+
+/// An operator with a body means its body, in which it sees the operators before it; one without means the function that
+/// is chosen for it.
+pub fn operators()
+    ensures true_and_not_false { (i : Interpretation) →
+        (setting three_operators i).operator difference_name (truth_number 1 ∷ truth_number 0 ∷ []) ≡ truth_number 1 }
+    ensures false_and_not_true { (i : Interpretation) →
+        (setting three_operators i).operator difference_name (truth_number 0 ∷ truth_number 1 ∷ []) ≡ truth_number 0 }
+    ensures of_chosen { (w : World) (size : Name → ℕ) →
+        (setting three_operators (interpretation w size (λ n vs. truth_number 1))).operator opposite_name (truth_number 0 ∷ [])
+        ≡ truth_number 1 }
+{}
+
+/// The scope in which nothing is declared is sound.
+pub fn empty_scope()
+    ensures { IsSound [] }
+{}
+
+/// One procedure tosses a coin, the other one tosses a coin and turns it: they are equivalent with equal results.
+pub fn lemma_of_two_coins()
+    ensures { Holds two_coins coin_sequent }
+{}
+
+/// A lemma on every program of a module type.
+pub fn lemma_of_each_program()
+    ensures { Holds oracle_and_adversary nothing_said }
+{}
+
+/// A scope is sound in which the loop of a procedure is proved, whose guard is false.
+pub fn loop_without_turns()
+    ensures { IsSound idling_is_proved }
+{}

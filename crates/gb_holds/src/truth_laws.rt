@@ -1,0 +1,28 @@
+//! The laws of settings and of truth.
+
+ghost use Rattle.std.specs.Prelude.{◌≡◌, ◌↔◌, ◌++◌, false, [], ◌∷◌};
+ghost use Rattle.gb_terms.specs.declared.term.Term.{Term};
+ghost use Rattle.gb_meaning.specs.Names.{Name};
+ghost use Rattle.gb_meaning.specs.State.{State};
+ghost use Rattle.gb_meaning.specs.Judgments.{IsTrueIn};
+ghost use Rattle.gb_holds.specs.Declared.{Declarations, Declaration};
+ghost use Rattle.gb_holds.specs.Settings.{Interpretation, types_of, setting};
+ghost use Rattle.gb_holds.specs.Truth.{has_module, Truth};
+ghost use Rattle.gb_holds.specs.Holds.{IsSound, IsSoundAfter};
+
+/// The types of a setting don't depend on operators and procedures.
+pub fn types()
+    ensures { (ds : Declarations) (i : Interpretation) → (setting ds i).types ≡ types_of ds i }
+{}
+
+/// A formula without a quantifier over modules in front is true exactly where each fair judge makes it true.
+pub fn without_modules()
+    ensures { (ds : Declarations) (f : Term) (i : Interpretation) (s : State) → has_module f ≡ false →
+        Truth ds f i s ↔ IsTrueIn (setting ds i) f s }
+{}
+
+/// A scope that gains a declaration stays sound exactly where it was sound and the declaration is sound after those before.
+pub fn sound_scopes()
+    ensures { (ds : Declarations) (n : Name) (d : Declaration) →
+        IsSound (ds ++ (n, d) ∷ []) ↔ (IsSound ds × IsSoundAfter ds n d) }
+{}
