@@ -1,0 +1,2 @@
+pub mod Falsehood
+pub mod Idle

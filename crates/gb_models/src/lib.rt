@@ -1,0 +1,4 @@
+//! Binders have programs within them, and `false` is no lemma.
+#![tactic(auto)]
+
+pub mod idle_laws;
