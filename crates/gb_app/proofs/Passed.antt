@@ -1,6 +1,6 @@
 -- The first limit that is passed.
-use Rattle.std.proofs.Common.{◌≡◌, ℕ, zero, suc, ◌<◌, List, [], ◌∷◌, length, get_or, drop, refl, sym, ap, arith}
-use Rattle.std.specs.Prelude.{Option, Some, None, Ok, Err}
+use Rattle.std.proofs.Common.{◌≡◌, ℕ, zero, suc, ◌<◌, List, [], ◌∷◌, length, get_or, drop, sym, ap, arith}
+use Rattle.std.specs.Prelude.{Option, Some, None, Err}
 use Rattle.std.specs.Option.{option_or}
 use Rattle.gb_core.specs.declared.place.Place.{Place}
 use Rattle.gb_core.specs.declared.refusal.Refused.{Refused}
@@ -16,7 +16,3 @@ each_limit-at (g ∷ more) (suc i) goal h e = each_limit-at more i goal (omega (
 pub limited-first : (first more : Option ℕ) (place : Place) (e : Refused) → Err e ≡ limited first place → Err e ≡ limited (option_or first more) place
 limited-first None more place e h = absurd (cc)
 limited-first (Some n) more place e h = h
-
-pub limited-passes : (first more : Option ℕ) (place : Place) → Ok tt ≡ limited first place → option_or first more ≡ more
-limited-passes None more place h = refl
-limited-passes (Some n) more place h = absurd (cc)

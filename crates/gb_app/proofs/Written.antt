@@ -20,10 +20,6 @@ lines-more text (y ∷ ys) zero x h e = append-nil (text y) ∙ ap text (sym e)
 lines-more text (y ∷ ys) (suc i) x h e =
     ap (λ t. text y ++ t) (lines-more text ys i x (omega (arith, h)) e) ∙ sym (append_assoc (text y) _ _)
 
-pub Appends-nothing : (old : Option (List ℕ)) → Appends old old []
-Appends-nothing None = tt
-Appends-nothing (Some bytes) = sym (append-nil bytes)
-
 pub Appends-both : (a b : List ℕ) (old mid new : Option (List ℕ)) → Appends old mid a → Appends mid new b → Appends old new (a ++ b)
 Appends-both a b None mid new first second = tt
 Appends-both a b (Some xs) None new first second = absurd first

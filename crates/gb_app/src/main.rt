@@ -17,13 +17,15 @@ use crate::status::{Status, exit_code};
 use gb_outside::{OsFiles, StdSink, StdSource};
 use std::alloc::AllocError;
 use std::env;
+use std::io::ErrorKind;
 use std::process::ExitCode;
 
-/// The words after the program's name.
+/// The words after the program's name. Where one of them isn't UTF-8 they ask for nothing, as no words do.
 fn words_of_process(rt: &HostRuntime) -> Result<Vec<String>, AllocError> {
     let mut words = Vec::new(rt.alloc());
     match env::args(rt) {
-        Err(_) => return Err(AllocError),
+        Err(error) if error.kind() == ErrorKind::OutOfMemory => return Err(AllocError),
+        Err(_) => {}
         Ok(args) => {
             for word in args.skip(1) {
                 words.push(word)?;

@@ -1,6 +1,7 @@
 // The verdict on a script.
 
 ghost use Rattle.std.specs.Prelude.{◌≡◌, ◌+◌, ◌<◌, ◌≤◌, ◌^◌, length};
+ghost use Rattle.gb_lex.specs.PlaceAfter.{place_after};
 ghost use Rattle.gb_outside.specs.declared.whole.TheConstants.{LENGTH_LIMIT};
 ghost use Rattle.gb_app.specs.Status.{status_of};
 
@@ -45,7 +46,9 @@ const START: Place = Place {
 };
 
 /// The verdict on a file that is too long to be read.
-pub fn too_long() -> Verdict {
+pub fn too_long() -> Verdict
+    ensures { result ≡ Verdict.Refused Why.Length (record { file = 0; line = 1; col = 1 }) }
+{
     Verdict::Refused {
         why: Why::Length,
         place: START,
@@ -100,6 +103,7 @@ fn run_command(alloc: Global, state: &mut State, text: &[u8], at: Place) -> Resu
 fn unclosed(at: Place, rest: &[u8]) -> Refused
     requires line { at.line + length rest.now < 2 ^ 32 }
     requires column { at.col + length rest.now < 2 ^ 32 }
+    ensures { result ≡ Refused.Script Why.Unclosed (place_after at rest.now) }
 {
     Refused::Script {
         why: Why::Unclosed,
