@@ -60,7 +60,7 @@ mutual
 
 -- at most
 
-at_most_scale : {A : Type 0} (c : ℕ) (l : WeightedList A) (k : ℕ) → total l ≤ k → total (scale c l) ≤ c * k
+pub at_most_scale : {A : Type 0} (c : ℕ) (l : WeightedList A) (k : ℕ) → total l ≤ k → total (scale c l) ≤ c * k
 at_most_scale c l k h = let e : total (scale c l) ≡ c * total l = mass-scale c l (λ a. 1) in omega (arith, e, mul-le-mul_left c h)
 
 up_to : (x : ℕ) {y z : ℕ} → y ≡ z → x ≤ y → x ≤ z
@@ -70,7 +70,7 @@ every_any : {A : Type 0} (l : WeightedList A) → Every (λ a. Unit {0}) l
 every_any [] = tt
 every_any (e ∷ l) = (tt, every_any l)
 
-at_most_bind : {A B : Type 0} (l : WeightedList A) (k : A → WeightedList B) (j c : ℕ) → total l ≤ j → ((a : A) → total (k a) ≤ c) → total (bind l k) ≤ j * c
+pub at_most_bind : {A B : Type 0} (l : WeightedList A) (k : A → WeightedList B) (j c : ℕ) → total l ≤ j → ((a : A) → total (k a) ≤ c) → total (bind l k) ≤ j * c
 at_most_bind l k j c h b =
     let e : total (bind l k) ≡ mass l (λ a. total (k a)) = mass-bind l k (λ x. 1) in
     let f : mass l (λ a. total (k a)) ≤ mass l (λ a. c) = mass-le_every {P = λ a. Unit {0}} l (λ a. total (k a)) (λ a. c) (every_any l) (λ a u. b a) in

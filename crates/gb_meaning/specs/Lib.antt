@@ -16,3 +16,4 @@ pub mod Judgments
 pub mod Loops
 pub mod Trees
 pub mod Examples
+pub mod Drawn

@@ -33,9 +33,12 @@ valued g s e m = value_in (val g quiet e (inside s m))
 abbrev pub is_true : Setting → State → Term → Memory → Bool
 is_true g s e m = truth (val g quiet e (inside s m))
 
+abbrev pub variant_value : Setting → State → Term → Memory → ℕ
+variant_value g s v m = number_in (val g quiet v (inside s m))
+
 -- how many turns a loop makes at most: the value of its variant
 abbrev pub turns_at : Setting → State → Term → Memory → ℕ
-turns_at g s v m = min (number_in (val g quiet v (inside s m))) (most_turns v)
+turns_at g s v m = min (variant_value g s v m) (most_turns v)
 
 -- At most so many turns of a loop, over the body's denominator to the power of this number: the body runs while the
 -- guard is true, and nothing looks at a variant.
