@@ -1,0 +1,7 @@
+pub mod Zips
+pub mod Cells
+pub mod States
+pub mod Near
+pub mod NearRuns
+pub mod Leaves
+pub mod Commutes

@@ -1,0 +1,31 @@
+//! Runs depend on what they read, and change what they write, alone.
+
+ghost use Rattle.std.specs.Prelude.{◌≡◌, List};
+ghost use Rattle.gb_core.specs.declared.value.Value.{Value};
+ghost use Rattle.gb_coupling.specs.WeightedList.{dmap, Every};
+ghost use Rattle.gb_meaning.specs.Names.{Path, Map, get, set};
+ghost use Rattle.gb_meaning.specs.Memory.{Memory};
+ghost use Rattle.gb_meaning.specs.Program.{Program, Routine};
+ghost use Rattle.gb_meaning.specs.Setting.{Setting};
+ghost use Rattle.gb_meaning.specs.State.{State};
+ghost use Rattle.gb_meaning.specs.Runs.{out, outcomes};
+ghost use Rattle.gb_local.specs.Cells.{Key, get_at, set_at};
+ghost use Rattle.gb_local.specs.Reads.{program_cells, routine_cells, Unread};
+ghost use Rattle.gb_local.specs.Writes.{Unwritten, UnwrittenBy};
+
+/// A program leaves the places of a memory that it doesn't write.
+pub fn unwritten()
+    ensures program { (g : Setting) (s : State) (c : Program) (k : Key) → Unwritten g c k → (m : Memory) →
+        Every (λ n. get_at n k ≡ get_at m k) (out g s c m) }
+    ensures procedure { (g : Setting) (r : Routine) (p : Path) → UnwrittenBy g r (Key.global p) → (vs : List Value) (globals : Map) →
+        Every (λ n. get n.globals p ≡ get globals p) (outcomes g r vs globals) }
+{}
+
+/// A run commutes with a write at a place that the program neither reads nor writes, as an equality of lists.
+pub fn commutation()
+    ensures program { (g : Setting) (v : Value) (s : State) (c : Program) (k : Key) → Unread (program_cells g c) k → Unwritten g c k →
+        (m : Memory) → out g s c (set_at m k v) ≡ dmap (λ n. set_at n k v) (out g s c m) }
+    ensures procedure { (g : Setting) (v : Value) (r : Routine) (p : Path) → Unread (routine_cells g r) (Key.global p) →
+        UnwrittenBy g r (Key.global p) → (vs : List Value) (globals : Map) →
+        outcomes g r vs (set globals p v) ≡ dmap (λ n. set_at n (Key.global p) v) (outcomes g r vs globals) }
+{}
