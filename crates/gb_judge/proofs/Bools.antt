@@ -7,7 +7,7 @@ use Rattle.gb_types.specs.Numbering.{Numbering}
 use Rattle.gb_types.proofs.Lawful.{Lawful}
 use Rattle.gb_coupling.specs.WeightedList.{WeightedList, Every}
 use Rattle.gb_meaning.specs.Terms.{each_below, some_below, each_value, some_value}
-use Rattle.gb_laws.proofs.Zips.{Zip}
+use Rattle.gb_local.proofs.Zips.{Zip}
 
 abbrev pub implied : Bool → Bool → Bool
 implied true b = b

@@ -14,35 +14,15 @@ use Rattle.gb_meaning.specs.State.{State, under}
 use Rattle.gb_meaning.specs.State.Binding.{memory}
 use Rattle.gb_meaning.specs.Terms.{Part, last_of, at_head, val, parts, denominator}
 use Rattle.gb_meaning.specs.Judgments.{Judge, part, probability, speaking, outcomes_of, outcome_denominator, chance}
-use Rattle.gb_laws.proofs.Zips.{zip_weight}
-use Rattle.gb_laws.proofs.Cells.{Cell, Cells, Covers, front, rest, Agree}
-use Rattle.gb_laws.proofs.States.{Near, agree_self, near_under}
-use Rattle.gb_laws.proofs.Near.{leaf_cells, NearPart, AllNear, near_last, near_part, ProbabilityNear, near_head}
-use Rattle.gb_laws.proofs.NearRuns.{routine_cells, Alike, alike_agrees, globals_of, near_outcomes}
+pub use Rattle.gb_judge.specs.Reads.{procedure_cells, judged_cells, form_cells, all_cells}
+use Rattle.gb_local.proofs.Zips.{zip_weight}
+use Rattle.gb_local.proofs.Cells.{Cell, Cells, Covers, front, rest, Agree}
+use Rattle.gb_local.proofs.States.{Near, agree_self, near_under}
+use Rattle.gb_local.proofs.Near.{leaf_cells, NearPart, AllNear, near_last, near_part, ProbabilityNear, near_head}
+use Rattle.gb_local.proofs.NearRuns.{Alike, alike_agrees, globals_of, near_outcomes}
 use Rattle.gb_judge.proofs.Trying.{each_memory, some_memory}
 use Rattle.gb_judge.proofs.Tests.{subject_cells, hoare_test, phoare_test, equiv_test, near_hoare, near_phoare, near_equiv}
 use mathlib.Core.Former.{Count}
-
-abbrev pub procedure_cells : Setting → Option Routine → Cells
-procedure_cells g (Some r) = routine_cells g r
-procedure_cells g None = []
-
--- the cells that the programs of a head read
-abbrev pub judged_cells : Setting → Head → Cells
-judged_cells g (head.Pr p r) = procedure_cells g (g.procedure p)
-judged_cells g (head.Hoare c) = subject_cells g c
-judged_cells g (head.Phoare c r) = subject_cells g c
-judged_cells g (head.Equiv c d) = subject_cells g c ++ subject_cells g d
-judged_cells g _ = []
-
--- all cells that a form reads
-abbrev mutual
-  pub form_cells : Setting → Term → Cells
-  form_cells g (Term' p (more_of-Head h end_of-Head) n ts ty) = leaf_cells g h ty ++ (judged_cells g h ++ all_cells g ts)
-
-  pub all_cells : {n : Count} → Setting → Row_of-Term n → Cells
-  all_cells g end_of-Term = []
-  all_cells g (more_of-Term t ts) = form_cells g t ++ all_cells g ts
 
 -- what a judged head says, by trying the memories that give these cells values
 abbrev pub tried : Setting → Head → List Part → Cells → State → Bool

@@ -23,9 +23,9 @@ use Rattle.gb_laws.proofs.Maps.{path_discrete, same_of_entries}
 use Rattle.gb_laws.proofs.Values.{value_discrete}
 use Rattle.gb_laws.proofs.Runs.{run_positive, routine_positive}
 use Rattle.gb_judge.proofs.Bools.{implied_use, implied_make, every_use, every_make}
-use Rattle.gb_laws.proofs.Cells.{Cells, In, Covers, front, rest, Agree}
-use Rattle.gb_laws.proofs.States.{near_self, near_under}
-use Rattle.gb_laws.proofs.Near.{leaf_cells, AllNear, near_last, near_part}
+use Rattle.gb_local.proofs.Cells.{Cells, In, Covers, front, rest, Agree}
+use Rattle.gb_local.proofs.States.{near_self, near_under}
+use Rattle.gb_local.proofs.Near.{leaf_cells, AllNear, near_last, near_part}
 use Rattle.gb_judge.proofs.Trying.{each_memory, some_memory, part_of, memory_use, memory_make, some_use, some_make, part_agrees}
 use Rattle.gb_judge.proofs.Tests.{subject_cells, hoare_test, phoare_test, equiv_test, near_hoare, near_phoare, near_equiv}
 use Rattle.gb_judge.proofs.Exact.{judged_cells, all_cells, form_cells, tried, exact_parts, trying, parts_exact, all_near}

@@ -5,3 +5,5 @@ pub mod Exact
 pub mod Fair
 pub mod Unique
 pub mod Truths
+pub mod Coins
+pub mod Probabilities

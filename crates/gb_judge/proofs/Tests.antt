@@ -1,6 +1,5 @@
 -- Tests of what judgments say from given memories; they depend on what is read alone.
-use Rattle.std.proofs.Common.{◌≡◌, Bool, [], ◌∷◌, ◌++◌, map, Option, Some, None, pos, ap, ◌∙◌}
-use Rattle.gb_terms.specs.declared.decl.TypedName.{TypedName}
+use Rattle.std.proofs.Common.{◌≡◌, Bool, map, Option, Some, None, pos, ap, ◌∙◌}
 use Rattle.gb_terms.specs.declared.op.Rel.{Rel}
 use Rattle.gb_terms.specs.declared.term.Head.TheVariants.{Proc, Body'}
 use Rattle.gb_terms.specs.declared.term.Subject.{Subject}
@@ -14,25 +13,13 @@ use Rattle.gb_meaning.specs.State.{State, at, between}
 use Rattle.gb_meaning.specs.Terms.{Part}
 use Rattle.gb_meaning.specs.Commands.{program_of}
 use Rattle.gb_meaning.specs.Judgments.{run_of, from_frame, subject_denominator, chance, compares}
+pub use Rattle.gb_judge.specs.Reads.{parameter_cell, frame_cells, subject_cells}
 use Rattle.gb_judge.proofs.Bools.{implied, every_test, zip_every}
-use Rattle.gb_laws.proofs.Zips.{Zip, zip_weaken, zip_weight, zip_has_coupling}
-use Rattle.gb_laws.proofs.Cells.{Cell, Cells, Covers, front, rest, Agree}
-use Rattle.gb_laws.proofs.Cells.Key.{local}
-use Rattle.gb_laws.proofs.States.{Near, near_at, near_between}
-use Rattle.gb_laws.proofs.Near.{NearPart}
-use Rattle.gb_laws.proofs.NearRuns.{program_cells, routine_cells, Alike, alike_agrees, locals_agree, globals_of, near_out, near_outcomes}
-
-abbrev pub parameter_cell : TypedName → Cell
-parameter_cell x = record { key = local (x.name ∷ []); ty = x.ty }
-
-abbrev pub frame_cells : Setting → Option Routine → Cells
-frame_cells g (Some (routine ps ls c r)) = map parameter_cell ps ++ routine_cells g (routine ps ls c r)
-frame_cells g None = []
-
--- the cells that what a judgment speaks of reads
-abbrev pub subject_cells : Setting → Subject → Cells
-subject_cells g (Proc p) = frame_cells g (g.procedure p)
-subject_cells g (Body' n is) = program_cells g (program_of g is)
+use Rattle.gb_local.proofs.Zips.{Zip, zip_weaken, zip_weight, zip_has_coupling}
+use Rattle.gb_local.proofs.Cells.{Cell, Covers, front, rest, Agree}
+use Rattle.gb_local.proofs.States.{Near, near_at, near_between}
+use Rattle.gb_local.proofs.Near.{NearPart}
+use Rattle.gb_local.proofs.NearRuns.{routine_cells, Alike, alike_agrees, locals_agree, globals_of, near_out, near_outcomes}
 
 abbrev pub hoare_test : Setting → Subject → Part → Part → State → Memory → Bool
 hoare_test g c P Q s m = implied (truth (P.meaning (at s m))) (every_test (run_of g s c m) (λ n. truth (Q.meaning (at s n))))

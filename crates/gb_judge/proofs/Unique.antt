@@ -11,8 +11,8 @@ use Rattle.gb_meaning.specs.State.{State}
 use Rattle.gb_meaning.specs.Terms.{Part, at_head, val, parts, denominator}
 use Rattle.gb_meaning.specs.Judgments.{Judge, IsFair, speaking, stands_at, is_judged_at, is_sound_at, IsSoundForm, AllSound, IsTrueUnder, IsTrueIn}
 use Rattle.gb_judge.proofs.Bools.{same_truth}
-use Rattle.gb_laws.proofs.Cells.{Cell, Covers}
-use Rattle.gb_laws.proofs.States.{Near}
+use Rattle.gb_local.proofs.Cells.{Cell, Covers}
+use Rattle.gb_local.proofs.States.{Near}
 use Rattle.gb_judge.proofs.Exact.{form_cells, trying, val_exact, near_exact}
 use Rattle.gb_judge.proofs.Fair.{is_fair}
 use mathlib.Core.Former.{Count}

@@ -1,11 +1,13 @@
 //! What is true under fair judges.
 
-ghost use Rattle.std.specs.Prelude.{◌≡◌, ◌↔◌, Bool, true, not, ◌&&◌, ◌||◌, [], ◌∷◌};
+ghost use Rattle.std.specs.Prelude.{◌≡◌, ◌↔◌, Bool, true, not, ◌&&◌, ◌||◌, List, [], ◌∷◌, ◌++◌, map};
 ghost use Rattle.gb_core.specs.declared.ty.Ty.{Ty};
-ghost use Rattle.gb_core.specs.declared.ty.Ty.TheVariants.{Bool as truths};
+ghost use Rattle.gb_core.specs.declared.ty.Ty.TheVariants.{Bool as truths, Real};
 ghost use Rattle.gb_core.specs.declared.value.Value.{Value};
 ghost use Rattle.gb_terms.specs.declared.op.Op.TheVariants as op;
 ghost use Rattle.gb_terms.specs.declared.op.Rel.{Rel};
+ghost use Rattle.gb_terms.specs.declared.op.Side.{Side};
+ghost use Rattle.gb_terms.specs.declared.module.ProcRef.{ProcRef};
 ghost use Rattle.gb_terms.specs.declared.term.Term.{Term};
 ghost use Rattle.gb_terms.specs.declared.term.Subject.{Subject};
 ghost use Rattle.gb_terms.specs.declared.term.Head.TheVariants as head;
@@ -15,14 +17,17 @@ ghost use Rattle.gb_coupling.specs.Coupling.{Coupling};
 ghost use Rattle.gb_meaning.specs.Values.{has};
 ghost use Rattle.gb_meaning.specs.Memory.{Memory};
 ghost use Rattle.gb_meaning.specs.Setting.{Setting};
-ghost use Rattle.gb_meaning.specs.Setting.Meaning.{finite};
-ghost use Rattle.gb_meaning.specs.Meanings.{fraction_in};
+ghost use Rattle.gb_meaning.specs.Setting.Meaning.{finite, fraction};
+ghost use Rattle.gb_meaning.specs.Meanings.{value_in, fraction_in};
 ghost use Rattle.gb_meaning.specs.Operators.{alike};
-ghost use Rattle.gb_meaning.specs.State.{State, at, between, under};
+ghost use Rattle.gb_meaning.specs.State.{State, at, between, under, memory_of};
 ghost use Rattle.gb_meaning.specs.State.Binding.{value, memory};
 ghost use Rattle.gb_meaning.specs.Terms.{val};
 ghost use Rattle.gb_meaning.specs.Judgments.{Judge, IsFair, speaking, den, IsSoundForm, IsSoundSubject, IsTrueUnder, IsTrueIn};
-ghost use Rattle.gb_meaning.specs.Judgments.{run_of, subject_denominator, chance, compares};
+ghost use Rattle.gb_local.specs.Cells.{In};
+ghost use Rattle.gb_local.specs.States.{Near};
+ghost use Rattle.gb_judge.specs.Reads.{form_cells};
+ghost use Rattle.gb_meaning.specs.Judgments.{run_of, subject_denominator, probability, chance, compares};
 
 /// Every setting has a fair judge.
 pub fn fair_judge()
@@ -85,4 +90,18 @@ pub fn judgments()
         (den g j (node (head.Equiv c d) (P ∷ Q ∷ []) truths) s ≡ true) ↔
         ((m n : Memory) → den g j P (between s m n) ≡ true → Coupling (λ a b. den g j Q (between s a b) ≡ true)
         (run_of g s c m) (subject_denominator g c) (run_of g s d n) (subject_denominator g d)) }
+{}
+
+/// Under a fair judge the meaning of a form depends on what it reads alone: it is the same in two states with the same values
+/// and memories that agree on the cells that the form and its programs read.
+pub fn locality()
+    ensures { (g : Setting) (j : Judge) → IsFair g j → (f : Term) → IsSoundForm g f → (s q : State) →
+        Near g.types (λ c. In c (form_cells g f)) s q → val g (speaking g j) f s ≡ val g (speaking g j) f q }
+{}
+
+/// `Pr[M.f(a) @ &m : E]` is the probability of E after M.f from the values of the arguments and the memory.
+pub fn probabilities()
+    ensures { (g : Setting) (j : Judge) (p : ProcRef) (r : Side) (ts : List Term) (e : Term) (s : State) →
+        val g (speaking g j) (node (head.Pr p r) (ts ++ e ∷ []) Real) s ≡
+        fraction (probability g p (map (λ t. value_in (val g (speaking g j) t s)) ts) (memory_of s r) (λ n. den g j e (at s n))) }
 {}
