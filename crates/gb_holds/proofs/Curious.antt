@@ -61,6 +61,7 @@ typed g w = record {
 pub within_two : (i : Interpretation) → IsWithin oracle_and_adversary i (asking_at_most 2) curious_program
 within_two i = record {
   program = typed (setting oracle_and_adversary i) i.world;
+  named = (refl, tt);
   full = ((tt, tt, tt), tt);
   apart = tt;
   bounded = bounded_by_text oracle_and_adversary (setting oracle_and_adversary i) i.world asking_type

@@ -1,5 +1,5 @@
 -- The loop that makes no turn is good.
-use Rattle.std.proofs.Common.{◌≡◌, ℕ, List, [], ◌∷◌, refl, arith}
+use Rattle.std.proofs.Common.{refl}
 use Rattle.gb_core.specs.declared.value.Value.{out-Value}
 use Rattle.gb_holds.specs.Holds.{IsSound}
 use Rattle.gb_holds.specs.Idling.{idling_is_proved}

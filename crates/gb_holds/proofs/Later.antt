@@ -1,23 +1,19 @@
 -- Later declarations change no module expression that doesn't name them, and a body's program depends on the procedures
 -- that it calls alone.
-use Rattle.std.proofs.Common.{◌≡◌, Bool, false, if◌then◌else◌, List, [], ◌∷◌, ◌++◌, map, Option, Some, None, bytes_eq, refl, sym, ap, ◌∙◌}
+use Rattle.std.proofs.Common.{◌≡◌, Bool, if◌then◌else◌, List, [], ◌∷◌, ◌++◌, map, refl, ap, ◌∙◌}
 use mathlib.Core.Former.{Count}
-use Rattle.gb_core.specs.declared.var.Var.{Var}
 use Rattle.gb_terms.specs.declared.module.Mexp.{Mexp, Row_of-Mexp, end_of-Mexp, more_of-Mexp}
 use Rattle.gb_terms.specs.declared.module.Mexp.TheVariants.{Name as named, Apply'}
-use Rattle.gb_terms.specs.declared.module.ProcRef.{ProcRef}
-use Rattle.gb_terms.specs.declared.term.Term.{Term}
 use Rattle.gb_terms.specs.declared.term.Instr.{Instr, Row_of-Instr, end_of-Instr, more_of-Instr}
 use Rattle.gb_terms.specs.declared.term.Head.TheVariants.{Assign, Sample, Call', If', While'}
 use Rattle.gb_meaning.specs.Names.{Name}
-use Rattle.gb_meaning.specs.Program.{Program, Routine, followed_by}
+use Rattle.gb_meaning.specs.Program.{Program}
 use Rattle.gb_meaning.specs.Program.Program.{assign, sample, branch, loop}
 use Rattle.gb_meaning.specs.Setting.{Setting}
-use Rattle.gb_meaning.specs.Commands.{program_of, called, terms_in}
+use Rattle.gb_meaning.specs.Commands.{program_of, called, terms_in, statement, statements}
 use Rattle.gb_holds.specs.Declared.{Declarations, abstract_type, operator, abstract_operator, module_type, concrete_module, abstract_module, axiom_of, lemma, terminating}
-use Rattle.gb_holds.specs.Modules.{Procedures, Functor, Modules, closed, module_at, modules_at, with_module, Reading, module_read, modules_of}
+use Rattle.gb_holds.specs.Modules.{Modules, closed, module_at, modules_at, with_module, Reading, module_read, modules_of}
 use Rattle.gb_holds.specs.Naming.{EachName, EachNameIn, EachCall, EachCallIn, EachCallOf, IsFresh}
-use Rattle.gb_holds.specs.Linking.{calling, body_program}
 
 module _ {X : Type 0} where
   -- expressions whose names stand for the same
@@ -32,7 +28,7 @@ module _ {X : Type 0} where
       same_modules (more_of-Mexp m r) h = λ i. same_module m h.0 i ∷ same_modules r h.1 i
 
   module _ (read : Reading X) where
-    declared_after : (ms : Modules X) (ds es : Declarations) → modules_of read ms (ds ++ es) ≡ modules_of read (modules_of read ms ds) es
+    pub declared_after : (ms : Modules X) (ds es : Declarations) → modules_of read ms (ds ++ es) ≡ modules_of read (modules_of read ms ds) es
     declared_after ms [] es = refl
     declared_after ms ((n, concrete_module m) ∷ ds) es = declared_after (with_module ms n (module_read read ms m)) ds es
     declared_after ms ((n, abstract_type) ∷ ds) es = declared_after ms ds es
@@ -44,7 +40,7 @@ module _ {X : Type 0} where
     declared_after ms ((n, lemma q) ∷ ds) es = declared_after ms ds es
     declared_after ms ((n, terminating f) ∷ ds) es = declared_after ms ds es
 
-    fresh_same : (ms : Modules X) (es : Declarations) (k : Name) → IsFresh es k → modules_of read ms es k ≡ ms k
+    pub fresh_same : (ms : Modules X) (es : Declarations) (k : Name) → IsFresh es k → modules_of read ms es k ≡ ms k
     fresh_same ms [] k h = refl
     fresh_same ms ((n, concrete_module m) ∷ es) k h =
         fresh_same (with_module ms n (module_read read ms m)) es k h.1 ∙ ap (λ (b : Bool). if b then module_read read ms m else ms k) h.0
@@ -73,8 +69,8 @@ module _ {X : Type 0} where
         module_at (modules_of read ms (ds ++ es)) m ≡ module_at (modules_of read ms ds) m
     later ms ds es m h = same_module (modules_of read ms (ds ++ es)) (modules_of read ms ds) m (agree_later ms ds es m h)
 
-module _ (g : Setting) (f h : ProcRef → Option Routine) where
-  same_row : {n : Count} (is : Row_of-Instr n) → EachCallIn (λ p. f p ≡ h p) is → program_of (calling g f) is ≡ program_of (calling g h) is
+module _ (g h : Setting) where
+  same_row : {n : Count} (is : Row_of-Instr n) → EachCallIn (λ p. g.procedure p ≡ h.procedure p) is → program_of g is ≡ program_of h is
   same_row end_of-Instr e = refl
   same_row (more_of-Instr (Assign xs t) is) e = ap (assign xs t) (same_row is e.1)
   same_row (more_of-Instr (Sample x d) is) e = ap (sample x d) (same_row is e.1)
@@ -82,6 +78,13 @@ module _ (g : Setting) (f h : ProcRef → Option Routine) where
   same_row (more_of-Instr (If' t m a n b) is) e = λ i. branch t (same_row a e.0.0 i) (same_row b e.0.1 i) (same_row is e.1 i)
   same_row (more_of-Instr (While' t v n a) is) e = λ i. loop t v (same_row a e.0 i) (same_row is e.1 i)
 
-  pub same_body : (is : List Instr) → EachCallOf (λ p. f p ≡ h p) is → body_program (calling g f) is ≡ body_program (calling g h) is
+  same_statement : (i : Instr) (c d : Program) → EachCall (λ p. g.procedure p ≡ h.procedure p) i → c ≡ d → statement g i c ≡ statement h i d
+  same_statement (Assign xs t) c d e q = ap (assign xs t) q
+  same_statement (Sample x t) c d e q = ap (sample x t) q
+  same_statement (Call' xs p n es) c d e q = λ i. called xs (e i) (terms_in es) (q i)
+  same_statement (If' t m a n b) c d e q = λ i. branch t (same_row a e.0 i) (same_row b e.1 i) (q i)
+  same_statement (While' t v n a) c d e q = λ i. loop t v (same_row a e i) (q i)
+
+  pub same_body : (is : List Instr) → EachCallOf (λ p. g.procedure p ≡ h.procedure p) is → statements g is ≡ statements h is
   same_body [] e = refl
-  same_body (i ∷ is) e = λ k. followed_by (same_row (more_of-Instr i end_of-Instr) (e.0, tt) k) (same_body is e.1 k)
+  same_body (i ∷ is) e = same_statement i (statements g is) (statements h is) e.0 (same_body is e.1)

@@ -12,3 +12,10 @@ pub mod Sounds
 pub mod EachProgram
 pub mod Idling
 pub mod Later
+pub mod Procedures
+pub mod InSetting
+pub mod MoreGlobals
+pub mod LinkedTypes
+pub mod SameScope
+pub mod Statements
+pub mod Kept

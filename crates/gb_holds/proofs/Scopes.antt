@@ -2,8 +2,13 @@
 use Rattle.std.proofs.Common.{◌↔◌, [], ◌∷◌, ◌++◌, sym, subst}
 use Rattle.std.proofs.lemmas.List.{append_assoc, append-nil}
 use Rattle.gb_meaning.specs.Names.{Name}
-use Rattle.gb_holds.specs.Declared.{Declarations, Declaration}
-use Rattle.gb_holds.specs.Holds.{IsSoundAfter, AreSoundAfter, IsSound}
+use Rattle.gb_terms.specs.declared.decl.Module.{Module}
+use Rattle.gb_goal.specs.Scope as scope
+use Rattle.gb_goal.specs.declared.scope.Entry.TheVariants as entry
+use Rattle.gb_goal.specs.declared.sequent.Sequent.{Sequent}
+use Rattle.gb_holds.specs.Declared.{Declarations, Declaration, concrete_module, lemma, declared}
+use Rattle.gb_holds.specs.Holds.{Holds, IsSoundAfter, AreSoundAfter, IsSound}
+use Rattle.gb_holds.proofs.Lists.{declared-append}
 
 module _ (n : Name) (d : Declaration) where
   split : (before ds : Declarations) → AreSoundAfter before (ds ++ (n, d) ∷ []) → AreSoundAfter before ds × IsSoundAfter (before ++ ds) n d
@@ -19,3 +24,12 @@ module _ (n : Name) (d : Declaration) where
 
 pub one_more : (ds : Declarations) (n : Name) (d : Declaration) → IsSound (ds ++ (n, d) ∷ []) ↔ (IsSound ds × IsSoundAfter ds n d)
 one_more ds n d = (split n d [] ds, λ s. joined n d [] ds s.0 s.1)
+
+pub gained_lemma : (ds : scope.Declarations) (n : Name) (q : Sequent) → IsSound (declared ds) → Holds (declared ds) q →
+    IsSound (declared (ds ++ (n, entry.Lemma q) ∷ []))
+gained_lemma ds n q s h =
+    subst IsSound (sym (declared-append ds ((n, entry.Lemma q) ∷ []))) ((one_more (declared ds) n (lemma q)).1 (s, h))
+
+pub gained_module : (ds : scope.Declarations) (n : Name) (m : Module) → IsSound (declared ds) → IsSound (declared (ds ++ (n, entry.Module m) ∷ []))
+gained_module ds n m s =
+    subst IsSound (sym (declared-append ds ((n, entry.Module m) ∷ []))) ((one_more (declared ds) n (concrete_module m)).1 (s, tt))

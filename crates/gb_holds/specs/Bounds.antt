@@ -22,13 +22,13 @@ use Rattle.gb_holds.specs.Linking.{Oracles}
 use Rattle.gb_holds.specs.Typing.{IsTypedRoutine}
 use Rattle.gb_holds.specs.Adversary.{Adversary, oracle_signature}
 use Rattle.gb_holds.specs.Counted.{Tallied, counted_outcomes}
-use Rattle.gb_holds.specs.Programs.{HasSignature, IfThere}
+use Rattle.gb_holds.specs.Programs.{HasTypes, IfThere}
 
--- a linked procedure of the world, with the signature of an oracle
+-- a linked procedure of the world, with the types of an oracle
 abbrev pub IsAnswer : Setting → World → Option Signature → Option Routine → Type 0
 IsAnswer g w None r = Unit {0}
 IsAnswer g w (Some s) None = ⊥
-IsAnswer g w (Some s) (Some r) = HasSignature s r × IsLinkedRoutine r × IsTypedRoutine g (λ o. None) w r
+IsAnswer g w (Some s) (Some r) = HasTypes s r × IsLinkedRoutine r × IsTypedRoutine g (λ o. None) w r
 
 -- linked procedures for all procedures of a module type's parameters, whatever globals they write
 abbrev pub AreOracles : Declarations → Setting → World → ModuleType → Oracles → Type 0

@@ -19,9 +19,9 @@ use Rattle.gb_meaning.specs.Program.Program.{done, assign, sample, branch, loop,
 use Rattle.gb_meaning.specs.Setting.{Setting, Meaning}
 use Rattle.gb_meaning.specs.Setting.Meaning.{finite, whole, fraction}
 use Rattle.gb_meaning.specs.State.{State, closed, no_memory}
+use Rattle.gb_meaning.specs.Commands.{statements}
 use Rattle.gb_meaning.specs.Loops.{IsGood}
 use Rattle.gb_holds.specs.Declared.{Declarations, Declaration, abstract_operator, abstract_module, axiom_of, lemma, terminating, module_named}
-use Rattle.gb_holds.specs.Linking.{body_program}
 use Rattle.gb_holds.specs.Typing.{IsVariableType}
 use Rattle.gb_holds.specs.Adversary.{Adversary, type_named}
 use Rattle.gb_holds.specs.Settings.{Interpretation, with_program, types_of, setting, declared_globals}
@@ -135,7 +135,7 @@ LoopsAreGood g (ask xs o es c) = LoopsAreGood g c
 -- each loop of a procedure is good, in a setting
 abbrev pub ProcedureIsGood : Setting → Option Proc → Type 0
 ProcedureIsGood g None = Unit {0}
-ProcedureIsGood g (Some p) = LoopsAreGood g (body_program g p.body.list)
+ProcedureIsGood g (Some p) = LoopsAreGood g (statements g p.body.list)
 
 -- the same of a procedure of a module, in each model and with any programs in place of its parameters
 abbrev pub ProcedureOfIsGood : Declarations → Option Module → Name → Type 0
@@ -161,3 +161,14 @@ AreSoundAfter before (d ∷ ds) = IsSoundAfter before d.0 d.1 × AreSoundAfter (
 -- A scope is sound where each lemma in it holds, and the loops of each procedure whose loops are proved are good.
 abbrev pub IsSound : Declarations → Type 0
 IsSound ds = AreSoundAfter [] ds
+
+-- a lemma, or that loops are proved: it says nothing of what names mean
+abbrev pub IsStatement : Declaration → Type 0
+IsStatement (lemma q) = Unit {0}
+IsStatement (terminating f) = Unit {0}
+IsStatement _ = ⊥
+
+-- all are statements
+abbrev pub AreStatements : Declarations → Type 0
+AreStatements [] = Unit {0}
+AreStatements (d ∷ ds) = IsStatement d.1 × AreStatements ds

@@ -1,9 +1,8 @@
 -- A module with a loop that makes no turn, on which good loops are tried.
-use Rattle.std.specs.Prelude.{List, [], ◌∷◌}
+use Rattle.std.specs.Prelude.{[], ◌∷◌}
 use Rattle.gb_core.specs.declared.ty.Ty.TheVariants as ty
 use Rattle.gb_core.specs.declared.value.Value.TheVariants.{Num}
 use Rattle.gb_terms.specs.declared.decl.Module.{Module}
-use Rattle.gb_terms.specs.declared.term.Term.{Term}
 use Rattle.gb_terms.specs.declared.term.Instr.{end_of-Instr}
 use Rattle.gb_terms.specs.declared.term.Head.TheVariants.{Lit, While'}
 use Rattle.gb_meaning.specs.Names.{Name}

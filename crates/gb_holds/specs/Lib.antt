@@ -1,12 +1,12 @@
 pub mod Declared
 pub mod Modules
-pub mod Naming
 pub mod Footprints
 pub mod Linking
 pub mod Typing
 pub mod Adversary
 pub mod Counted
 pub mod Settings
+pub mod Naming
 pub mod Programs
 pub mod Bounds
 pub mod Within

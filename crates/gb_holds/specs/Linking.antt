@@ -4,27 +4,21 @@ use Rattle.gb_core.specs.declared.var.Var.{Var}
 use Rattle.gb_terms.specs.declared.decl.Param.{Param}
 use Rattle.gb_terms.specs.declared.module.ProcRef.{ProcRef}
 use Rattle.gb_terms.specs.declared.term.Term.{Term}
-use Rattle.gb_terms.specs.declared.term.Instr.{Instr, end_of-Instr, more_of-Instr}
-use Rattle.gb_meaning.specs.Program.{Program, Routine, Oracle, followed_by}
+use Rattle.gb_meaning.specs.Program.{Program, Routine, Oracle}
 use Rattle.gb_meaning.specs.Program.Program.{done, assign, sample, branch, loop, call, ask}
 use Rattle.gb_meaning.specs.Program.Routine.{routine}
 use Rattle.gb_meaning.specs.Setting.{Setting}
-use Rattle.gb_meaning.specs.Commands.{program_of}
+use Rattle.gb_meaning.specs.Commands.{statements}
 use Rattle.gb_holds.specs.Modules.{Procedures, Reading, found}
 
 -- the setting, where references to procedures mean these
 abbrev pub calling : Setting → (ProcRef → Option Routine) → Setting
 calling g callee = record g { procedure = callee }
 
--- the program of a body, in which each call carries the procedure that it names
-abbrev pub body_program : Setting → List Instr → Program
-body_program g [] = done
-body_program g (i ∷ is) = followed_by (program_of g (more_of-Instr i end_of-Instr)) (body_program g is)
-
 -- A procedure is linked where it is known which procedures those are that it calls.
 abbrev pub linked_procedure : Setting → Reading Routine
 linked_procedure g callee p =
-    routine p.params p.locals (body_program (calling g callee) p.body.list) p.value
+    routine p.params p.locals (statements (calling g callee) p.body.list) p.value
 
 -- which procedure answers for each oracle
 abbrev pub Oracles : Type 0

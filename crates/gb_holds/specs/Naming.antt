@@ -1,5 +1,7 @@
 -- Which names a module expression and a body have in them.
-use Rattle.std.specs.Prelude.{◌≡◌, false, List, [], ◌∷◌, bytes_eq}
+use Rattle.std.specs.Prelude.{◌≡◌, ◌⊎◌, true, false, List, [], ◌∷◌, bytes_eq}
+use Rattle.std.specs.List.{list_any}
+use Rattle.gb_terms.specs.declared.decl.Proc.{Proc}
 use Rattle.gb_terms.specs.declared.module.Mexp.{Mexp, Row_of-Mexp, end_of-Mexp, more_of-Mexp}
 use Rattle.gb_terms.specs.declared.module.Mexp.TheVariants.{Name as named, Apply'}
 use Rattle.gb_terms.specs.declared.module.ProcRef.{ProcRef}
@@ -7,6 +9,7 @@ use Rattle.gb_terms.specs.declared.term.Instr.{Instr, Row_of-Instr, end_of-Instr
 use Rattle.gb_terms.specs.declared.term.Head.TheVariants.{Assign, Sample, Call', If', While'}
 use Rattle.gb_meaning.specs.Names.{Name}
 use Rattle.gb_holds.specs.Declared.{Declarations}
+use Rattle.gb_holds.specs.Settings.{Chosen}
 
 abbrev mutual
   -- each module name in the expression is in P
@@ -40,3 +43,24 @@ EachCallOf P (i ∷ is) = EachCall P i × EachCallOf P is
 abbrev pub IsFresh : Declarations → Name → Type 0
 IsFresh [] n = Unit {0}
 IsFresh (d ∷ ds) n = (bytes_eq n d.0 ≡ false) × IsFresh ds n
+
+-- no procedure has this name
+abbrev pub IsFreshAmong : List Proc → Name → Type 0
+IsFreshAmong [] n = Unit {0}
+IsFreshAmong (p ∷ ps) n = (bytes_eq n p.name ≡ false) × IsFreshAmong ps n
+
+-- no abstract module has this name
+abbrev pub IsUnchosen : List Chosen → Name → Type 0
+IsUnchosen [] n = Unit {0}
+IsUnchosen (c ∷ cs) n = (bytes_eq n c.bind.name ≡ false) × IsUnchosen cs n
+
+-- A name that stands behind the module n neither as a declaration nor as an abstract module, and isn't n.
+pub record IsBefore (after : Declarations) (cs : List Chosen) (n k : Name) : Type 0 where
+  pub other : bytes_eq k n ≡ false
+  pub fresh : IsFresh after k
+  pub unchosen : IsUnchosen cs k
+
+-- a reference to a procedure of modules before n, or to an earlier procedure of n itself
+abbrev pub IsEarlier : Declarations → List Chosen → Name → List Proc → ProcRef → Type 0
+IsEarlier after cs n ps r =
+    EachName (IsBefore after cs n) r.«module» ⊎ ((r.«module» ≡ named n) × (list_any (λ p. bytes_eq r.name p.name) ps ≡ true))

@@ -1,5 +1,5 @@
 -- Which programs are programs for a module type.
-use Rattle.std.specs.Prelude.{◌≡◌, List, [], ◌∷◌, Option, Some, None}
+use Rattle.std.specs.Prelude.{◌≡◌, List, [], ◌∷◌, Option, Some, None, map}
 use Rattle.std.specs.declared.cmp.Ordering.TheVariants.{Less}
 use Rattle.gb_meaning.specs.Values.{Global, World}
 use Rattle.gb_meaning.specs.Program.{Routine, Oracle}
@@ -22,14 +22,14 @@ abbrev pub AreIn : World → List Global → Type 0
 AreIn w [] = Unit {0}
 AreIn w (x ∷ xs) = (global_type w x.parent x.name ≡ Some x.ty) × AreIn w xs
 
--- a procedure with the parameters and the result of a signature
-abbrev pub HasSignature : Signature → Routine → Type 0
-HasSignature s r = (params_of r ≡ s.params) × (result_type r ≡ s.result)
+-- a procedure with parameters and a result of the types of a signature
+abbrev pub HasTypes : Signature → Routine → Type 0
+HasTypes s r = (map (λ x. x.ty) (params_of r) ≡ map (λ x. x.ty) s.params) × (result_type r ≡ s.result)
 
 -- a well-typed procedure of a signature, within a footprint
 abbrev pub IsProcedureFor : Setting → (Oracle → Option Signature) → List Global → Signature → Option Routine → Type 0
 IsProcedureFor g os gs s None = ⊥
-IsProcedureFor g os gs s (Some r) = HasSignature s r × IsTypedRoutine g os gs r
+IsProcedureFor g os gs s (Some r) = HasTypes s r × IsTypedRoutine g os gs r
 
 -- the program has such a procedure for each signature
 abbrev pub HasProcedures : Declarations → Setting → ModuleType → Adversary → List Signature → Type 0
@@ -53,3 +53,8 @@ IfThere P (Some r) = P r
 abbrev pub AreFull : Setting → Adversary → List Signature → Type 0
 AreFull g a [] = Unit {0}
 AreFull g a (s ∷ ss) = IfThere (FullRoutine g) (found a.procedures s.name) × AreFull g a ss
+
+-- each procedure of a signature has its parameters under the names of the signature
+abbrev pub AreNamed : Adversary → List Signature → Type 0
+AreNamed a [] = Unit {0}
+AreNamed a (s ∷ ss) = IfThere (λ r. params_of r ≡ s.params) (found a.procedures s.name) × AreNamed a ss

@@ -9,7 +9,7 @@ use Rattle.gb_meaning.specs.Setting.{Setting}
 use Rattle.gb_holds.specs.Declared.{Declarations}
 use Rattle.gb_holds.specs.Adversary.{Adversary, type_named}
 use Rattle.gb_holds.specs.Settings.{Interpretation, setting, declared_globals}
-use Rattle.gb_holds.specs.Programs.{IsProgramFor, AreFull}
+use Rattle.gb_holds.specs.Programs.{IsProgramFor, AreNamed, AreFull}
 use Rattle.gb_holds.specs.Bounds.{IsBounded}
 
 -- whether two globals are the same
@@ -33,6 +33,7 @@ KeepsOff ds g xs (m ∷ ms) = AreApart xs (excluded ds g m) × KeepsOff ds g xs 
 -- a program within the binder, in a setting
 pub record IsWithinIn (ds : Declarations) (g : Setting) (w : World) (b : Bind) (a : Adversary) : Type 0 where
   pub program : IsProgramFor ds g w (type_named ds b.ty) a
+  pub named : AreNamed a (type_named ds b.ty).signatures
   pub full : AreFull g a (type_named ds b.ty).signatures
   pub apart : KeepsOff ds g a.footprint b.minus
   pub bounded : IsBounded ds g w (type_named ds b.ty) a b.bounds

@@ -4,4 +4,5 @@
 pub mod counting_laws;
 pub mod examples;
 pub mod linking_laws;
+pub mod module_laws;
 pub mod truth_laws;

@@ -1,14 +1,18 @@
 //! The laws of settings and of truth.
 
 ghost use Rattle.std.specs.Prelude.{◌≡◌, ◌↔◌, ◌++◌, false, [], ◌∷◌};
+ghost use Rattle.gb_terms.specs.declared.decl.Module.{Module};
 ghost use Rattle.gb_terms.specs.declared.term.Term.{Term};
 ghost use Rattle.gb_meaning.specs.Names.{Name};
 ghost use Rattle.gb_meaning.specs.State.{State};
 ghost use Rattle.gb_meaning.specs.Judgments.{IsTrueIn};
-ghost use Rattle.gb_holds.specs.Declared.{Declarations, Declaration};
+ghost use Rattle.gb_goal.specs.Scope as scope;
+ghost use Rattle.gb_goal.specs.declared.scope.Entry.TheVariants as entry;
+ghost use Rattle.gb_goal.specs.declared.sequent.Sequent.{Sequent};
+ghost use Rattle.gb_holds.specs.Declared.{Declarations, Declaration, declared};
 ghost use Rattle.gb_holds.specs.Settings.{Interpretation, types_of, setting};
 ghost use Rattle.gb_holds.specs.Truth.{has_module, Truth};
-ghost use Rattle.gb_holds.specs.Holds.{IsSound, IsSoundAfter};
+ghost use Rattle.gb_holds.specs.Holds.{Holds, IsSound, IsSoundAfter, AreStatements};
 
 /// The types of a setting don't depend on operators and procedures.
 pub fn types()
@@ -25,4 +29,18 @@ pub fn without_modules()
 pub fn sound_scopes()
     ensures { (ds : Declarations) (n : Name) (d : Declaration) →
         IsSound (ds ++ (n, d) ∷ []) ↔ (IsSound ds × IsSoundAfter ds n d) }
+{}
+
+/// A sound scope that gains a lemma which holds is sound, and so is one that gains a module.
+pub fn scopes_of_scripts()
+    ensures lemma { (ds : scope.Declarations) (n : Name) (q : Sequent) → IsSound (declared ds) → Holds (declared ds) q →
+        IsSound (declared (ds ++ (n, entry.Lemma q) ∷ [])) }
+    ensures modules { (ds : scope.Declarations) (n : Name) (m : Module) → IsSound (declared ds) →
+        IsSound (declared (ds ++ (n, entry.Module m) ∷ [])) }
+{}
+
+/// What holds goes on to hold when lemmas and proved loops are declared: these say nothing of what names mean.
+pub fn later_statements()
+    ensures settings { (ds ls : Declarations) → AreStatements ls → (i : Interpretation) → setting (ds ++ ls) i ≡ setting ds i }
+    ensures holds { (ds ls : Declarations) → AreStatements ls → (q : Sequent) → Holds ds q → Holds (ds ++ ls) q }
 {}

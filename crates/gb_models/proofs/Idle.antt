@@ -17,10 +17,10 @@ use Rattle.gb_meaning.specs.Sound.{FullRoutine}
 use Rattle.gb_laws.proofs.Numberings.{lawful}
 use Rattle.gb_holds.specs.Declared.{Declarations, ModuleType, Signature}
 use Rattle.gb_holds.specs.Modules.{Procedures, found}
-use Rattle.gb_holds.specs.Typing.{IsPlain, ArePlain, AreLocals}
+use Rattle.gb_holds.specs.Typing.{params_of, IsPlain, ArePlain, AreLocals}
 use Rattle.gb_holds.specs.Adversary.{type_named, callable}
 use Rattle.gb_holds.specs.Settings.{Interpretation, with_program, setting}
-use Rattle.gb_holds.specs.Programs.{IsProcedureFor, HasProcedures, IfThere, AreFull}
+use Rattle.gb_holds.specs.Programs.{IsProcedureFor, HasProcedures, IfThere, AreNamed, AreFull}
 use Rattle.gb_holds.specs.Within.{KeepsOff, IsWithin}
 use Rattle.gb_holds.specs.Bounds.{oracle_in}
 use Rattle.gb_holds.specs.Asked.{most_asked_if_there, most_asked_by_all, IsBoundedByText}
@@ -109,6 +109,11 @@ module _ (size : Name → ℕ) (ds : Declarations) (g : Setting) (e : g.types.si
     full [] f = tt
     full (s ∷ ss) f = (subst (IfThere (FullRoutine g)) (sym f.0) tt, full ss f.1)
 
+    named : (ss : List Signature) → AllFound size ps ss → AreNamed (record { footprint = []; procedures = ps }) ss
+    unfolding AllFound
+    named [] f = tt
+    named (s ∷ ss) f = (subst (IfThere (λ r. params_of r ≡ s.params)) (sym f.0) refl, named ss f.1)
+
   keeps_off : (ms : List Name) → KeepsOff ds g [] ms
   keeps_off [] = tt
   keeps_off (m ∷ ms) = (tt, keeps_off ms)
@@ -142,6 +147,7 @@ idle_within ds i b d h =
     let f : AllFound i.size (idle_procedures i.size t.signatures) t.signatures = all_found i.size t.signatures d in
     record {
       program = record { rising = tt; known = tt; procedures = procedures i.size ds g e t (idle_procedures i.size t.signatures) t.signatures f h };
+      named = named i.size ds g e t (idle_procedures i.size t.signatures) t.signatures f;
       full = full i.size ds g e t (idle_procedures i.size t.signatures) t.signatures f;
       apart = keeps_off i.size ds g e t b.minus;
       bounded = bounded_by_text ds g i.world t (idle i.size t) b.bounds (bounded i.size t b.bounds);
