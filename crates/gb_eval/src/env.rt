@@ -1,10 +1,14 @@
 // What a term is evaluated in.
 
-use gb_core::name::Name;
-use gb_core::value::{Value, Values};
+ghost use Rattle.std.specs.Prelude.{◌≡◌, IfOk};
+ghost use Rattle.gb_eval.specs.Eval.{value_of};
+
+use crate::answer::{Answer, of_value};
+use gb_core::value::Value;
 use gb_terms::op::Read;
 use gb_terms::same::same_read;
 use sqlite_items::Items;
+use std::alloc::{AllocError, Global};
 
 /// A read, and its value.
 #[derive(Debug, Drop)]
@@ -15,35 +19,18 @@ pub struct ReadValue {
 
 pub type ReadValues = Items<ReadValue>;
 
-/// How many labels the values of all globals of an abstract module have.
-#[derive(Debug, Drop)]
-pub struct Label {
-    pub module: Name,
-    pub count: u64,
-}
-
-pub type Labels = Items<Label>;
-
-/// The values of what a term reads: those of the listed reads, and those of the other logical variables by their
-/// places.
-#[derive(Debug, Drop)]
-pub struct Env {
-    pub logical: Values,
-    pub reads: ReadValues,
-    pub labels: Labels,
-}
-
-impl Env {
-    /// The value of a read, where there is one.
-    pub fn value_of(&self, read: &Read) -> Option<&Value> {
-        for entry in self.reads.as_slice() {
-            if same_read(&entry.read, read) {
-                return Some(&entry.value);
-            }
-        }
-        match read {
-            Read::Logical(place) => self.logical.get(*place as usize),
-            Read::Program { .. } => None,
+/// The value of a read by the first of these that is of it, where there is one.
+pub fn value_of(
+    alloc: Global,
+    reads: &[ReadValue],
+    read: &Read,
+) -> Result<Option<Answer>, AllocError>
+    ensures { IfOk result (λ found. found ≡ value_of reads.now read.now) }
+{
+    for entry in reads {
+        if same_read(&entry.read, read) {
+            return of_value(alloc, &entry.value);
         }
     }
+    Ok(None)
 }

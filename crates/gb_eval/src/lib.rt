@@ -5,3 +5,5 @@ mod answer;
 pub mod env;
 pub mod eval;
 pub mod known;
+pub mod laws;
+mod operators;

@@ -1,0 +1,58 @@
+-- The terms that evaluation knows.
+use Rattle.std.specs.Prelude.{ℕ, Bool, true, false, ◌&&◌, ◌==◌, not, List, [], ◌∷◌, length}
+use Rattle.std.specs.List.{list_all}
+use Rattle.gb_types.specs.Types.{is_finite}
+use Rattle.gb_terms.specs.declared.op.Op.{Op}
+use Rattle.gb_terms.specs.declared.op.Op.TheVariants.{Coin, Not, And, Or, Implies, Iff, Equal, NotEqual, InSupport, Mu1, If}
+use Rattle.gb_terms.specs.declared.op.Side.{Side}
+use Rattle.gb_terms.specs.declared.op.Side.TheVariants.{Bound}
+use Rattle.gb_terms.specs.declared.op.Read.{Read}
+use Rattle.gb_terms.specs.declared.op.Read.TheVariants.{Logical, Program}
+use Rattle.gb_terms.specs.declared.term.Term.{Term, Term', Row_of-Term, end_of-Term, more_of-Term, end_of-Head, more_of-Head}
+use Rattle.gb_terms.specs.declared.term.Head.{Head}
+use Rattle.gb_terms.specs.declared.term.Head.TheVariants as head
+
+-- an operator that evaluation knows, at its number of arguments
+abbrev pub takes : Op → ℕ → Bool
+takes Coin n = n == 0
+takes Not n = n == 1
+takes And n = n == 2
+takes Or n = n == 2
+takes Implies n = n == 2
+takes Iff n = n == 2
+takes Equal n = n == 2
+takes NotEqual n = n == 2
+takes InSupport n = n == 2
+takes Mu1 n = n == 2
+takes If n = n == 3
+takes _ n = false
+
+abbrev pub is_bound : Side → Bool
+is_bound (Bound i) = true
+is_bound _ = false
+
+-- a read of no memory that a binder binds
+abbrev pub is_read_known : Read → Bool
+is_read_known (Logical i) = true
+is_read_known (Program x s) = not (is_bound s)
+
+abbrev pub is_head_known : Head → ℕ → Bool
+is_head_known (head.Lit v) n = n == 0
+is_head_known (head.Bound i) n = n == 0
+is_head_known (head.Read r) n = (n == 0) && is_read_known r
+is_head_known (head.Builtin o) n = takes o n
+is_head_known (head.All ty) n = (n == 1) && is_finite ty
+is_head_known (head.Some ty) n = (n == 1) && is_finite ty
+is_head_known _ n = false
+
+abbrev pub are_true : List Bool → Bool
+are_true bs = list_all (λ b. b) bs
+
+-- evaluation knows each part of the term
+abbrev mutual
+  pub is_known : Term → Bool
+  is_known (Term' p (more_of-Head h end_of-Head) n ts ty) = is_head_known h (length (all_known ts)) && are_true (all_known ts)
+
+  pub all_known : {n : _} → Row_of-Term n → List Bool
+  all_known end_of-Term = []
+  all_known (more_of-Term t ts) = is_known t ∷ all_known ts
