@@ -1,7 +1,6 @@
 -- What the folds make of a term, from what they make of its parts.
-use Rattle.std.proofs.Common.{◌≡◌, Bool, ◌||◌, Option, List, [], ◌∷◌, ◌++◌, map, refl, sym, ap, ◌∙◌, append_assoc}
+use Rattle.std.proofs.Common.{◌≡◌, Bool, ◌||◌, Option, List, [], ◌∷◌, ◌++◌, map, refl, ap, ◌∙◌}
 use Rattle.std.specs.List.{list_any, flat_map}
-use Rattle.gb_core.specs.declared.ty.Ty.{Ty}
 use Rattle.gb_terms.specs.declared.op.Read.{Read}
 use Rattle.gb_terms.specs.declared.term.Term.{Term}
 use Rattle.gb_terms.specs.declared.term.Head.TheViews.{out-Term}

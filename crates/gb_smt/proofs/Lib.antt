@@ -5,3 +5,4 @@ pub mod Noted
 pub mod Marks
 pub mod Parts
 pub mod Trials
+mod Values

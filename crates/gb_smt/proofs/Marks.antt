@@ -1,11 +1,11 @@
 -- Marks of lists, by tests.
-use Rattle.std.proofs.Common.{◌≡◌, ℕ, suc, ◌+◌, ◌<◌, Bool, true, false, not, ◌||◌, ◌&&◌, cond, if◌then◌else◌, List, [], ◌∷◌, ◌++◌, map, filter, length, get_or, drop, refl, sym, ap, ◌∙◌, add-one, arith}
+use Rattle.std.proofs.Common.{◌≡◌, ℕ, ◌+◌, ◌<◌, Bool, true, false, not, ◌||◌, ◌&&◌, cond, List, [], ◌∷◌, map, filter, length, get_or, drop, refl, sym, ap, ◌∙◌, add-one, arith}
 use Rattle.std.specs.List.{list_any}
 use mathlib.Core.Bool.{beq}
 use Rattle.std.proofs.lemmas.Bool.{false≢true}
 use Rattle.std.proofs.lemmas.List.{drop_more}
 use Rattle.gb_terms.specs.declared.term.Term.{Term}
-use Rattle.gb_smt.specs.Variables.{Vars, variables, share}
+use Rattle.gb_smt.specs.Variables.{Vars, share}
 use Rattle.gb_smt.specs.Components.{joined, linked, is_joined, inside, outside, marked}
 
 linked_by : (own : Vars) (test : Vars → Bool) (all : List Vars) → linked own all (map test all) ≡ list_any (λ vs. test vs && share own vs) all

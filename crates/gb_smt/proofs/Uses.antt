@@ -1,5 +1,5 @@
 -- Equations that are used up.
-use Rattle.std.proofs.Common.{◌≡◌, ℕ, zero, suc, ◌+◌, ◌<◌, Bool, true, false, not, ◌||◌, cond, Option, Some, None, List, [], ◌∷◌, ◌++◌, length, get_or, take, drop, map, refl, add-zero, zero-add, add-one, sym, ap, ◌∙◌, subst, arith, filter}
+use Rattle.std.proofs.Common.{◌≡◌, ℕ, zero, suc, ◌+◌, ◌<◌, Bool, true, false, not, ◌||◌, cond, Option, Some, None, List, [], ◌∷◌, length, get_or, take, drop, refl, add-zero, zero-add, add-one, sym, ap, ◌∙◌, subst, arith, filter}
 use Rattle.std.specs.List.{list_any}
 use Rattle.std.proofs.lemmas.List.{length-take, length-drop, length-append, length-map, at_drop_more, nil_from_length}
 use Rattle.gb_terms.specs.declared.op.Read.{Read}
@@ -11,7 +11,7 @@ use Rattle.gb_walk.specs.declared.change.Change.{Change}
 use Rattle.gb_walk.specs.Change.{term_changed}
 use Rattle.gb_smt.specs.declared.leaves.Leaf.{Leaf}
 use Rattle.gb_smt.specs.declared.equations.Equation.{Equation}
-use Rattle.gb_smt.specs.Equations.{use_of, first_usable, one_further, here_or_further, others, with_used, if_usable, used_up_to, used_up}
+use Rattle.gb_smt.specs.Equations.{use_of, first_usable, one_further, here_or_further, others, with_used, if_usable, used_up_to}
 
 -- what a test finds in a list, it finds where each read stands once
 

@@ -1,24 +1,68 @@
--- The assignments to the variables of a claim.
-use Rattle.std.specs.Prelude.{◌≡◌, ℕ, List, map}
+-- The assignments to the variables of a claim, and its truth under them.
+use Rattle.std.specs.Prelude.{◌≡◌, ◌<◌, ℕ, true, false, Bool, Option, Some, List, [], ◌∷◌, map}
 use Rattle.gb_core.specs.declared.ty.Ty.{Ty}
 use Rattle.gb_core.specs.declared.ty.Ty.TheVariants.{Tuple}
 use Rattle.gb_core.specs.declared.value.Value.{Value}
+use Rattle.gb_core.specs.declared.value.Card.TheVariants.{Exact}
 use Rattle.gb_types.specs.Numbering.{parts_of}
-use Rattle.gb_types.specs.Types.{IsPlaceBelow, card_of, value_at}
+use Rattle.gb_types.specs.Types.{card_of, value_at}
+use Rattle.gb_terms.specs.declared.op.Op.TheVariants.{Implies}
+use Rattle.gb_terms.specs.declared.term.Term.{Term}
+use Rattle.gb_eval.specs.declared.env.ReadValue.{ReadValue}
+use Rattle.gb_eval.specs.Eval.{eval, truth_of, connective}
 use Rattle.gb_smt.specs.declared.claims.Claim.{Claim}
 use Rattle.gb_smt.specs.declared.assign.Found.{Found}
-use Rattle.gb_smt.specs.declared.assign.Found.TheVariants.{False}
+use Rattle.gb_smt.specs.declared.assign.Found.TheVariants.{True, False, Unknown}
+use Rattle.gb_smt.specs.Variables.{Vars}
 
 -- the type whose values are the assignments
 abbrev pub assignments : Claim → Ty
 assignments c = Tuple (map (λ v. v.ty) c.variables)
 
--- the list has the values of an assignment, variable by variable
-abbrev pub IsAssignment : List Value → Claim → Type 0
-IsAssignment values c =
-    (i : ℕ) × IsPlaceBelow i (card_of (assignments c)) × (values ≡ parts_of (value_at (assignments c) i))
+-- the values of the assignment at a place, variable by variable
+abbrev pub assignment : Claim → ℕ → List Value
+assignment c i = parts_of (value_at (assignments c) i)
 
--- what is found false is false under an assignment
+-- the variables with their values
+abbrev pub with_values : Vars → List Value → List ReadValue
+with_values (v ∷ vs) (x ∷ xs) = record { read = v.read; value = x } ∷ with_values vs xs
+with_values _ _ = []
+
+-- whether hypotheses, one after another, imply a form
+abbrev pub implied : List ReadValue → List Term → Term → Option Bool
+implied reads [] t = truth_of (eval reads t [])
+implied reads (h ∷ hs) t = connective Implies (truth_of (eval reads h [])) (implied reads hs t)
+
+-- the truth of a claim where its variables have these values, if evaluation knows it
+abbrev pub truth_under : Claim → List Value → Option Bool
+truth_under c values = implied (with_values c.variables values) c.hyps c.conclusion
+
+-- the truth of a claim under the assignment at a place
+abbrev pub truth_at : Claim → ℕ → Option Bool
+truth_at c i = truth_under c (assignment c i)
+
+-- the claim is true under every assignment before a place
+abbrev pub TrueBefore : ℕ → Claim → Type 0
+TrueBefore n c = (i : ℕ) → i < n → truth_at c i ≡ Some true
+
+-- there are so many assignments, and the claim is true under each of them
+pub record IsTrueEverywhere (c : Claim) : Type 0 where
+  pub count : ℕ
+  pub exact : card_of (assignments c) ≡ Exact count
+  pub each : TrueBefore count c
+
+-- the values are the first assignment under which the claim is false; it is true under those before
+pub record IsRefutation (c : Claim) (values : List Value) : Type 0 where
+  pub count : ℕ
+  pub exact : card_of (assignments c) ≡ Exact count
+  pub place : ℕ
+  pub below : place < count
+  pub before : TrueBefore place c
+  pub values_at : values ≡ assignment c place
+  pub false_there : truth_under c values ≡ Some false
+
+-- what trying the assignments in order comes to
 abbrev pub IsOf : Claim → Found → Type 0
-IsOf c (False values) = IsAssignment values c
-IsOf c _ = Unit {0}
+IsOf c True = IsTrueEverywhere c
+IsOf c (False values) = IsRefutation c values
+IsOf c Unknown = Unit {0}

@@ -1,5 +1,5 @@
 -- The leaves of a goal.
-use Rattle.std.specs.Prelude.{ℕ, ◌+◌, ◌==◌, Bool, true, false, ◌||◌, if◌then◌else◌, List, [], ◌∷◌, ◌++◌, length}
+use Rattle.std.specs.Prelude.{◌+◌, ◌==◌, Bool, true, false, ◌||◌, if◌then◌else◌, List, [], ◌∷◌, ◌++◌, length}
 use Rattle.std.specs.List.{list_any, flat_map}
 use Rattle.gb_core.specs.declared.ty.Ty.{Ty}
 use Rattle.gb_core.specs.declared.value.Value.TheVariants.{Num}
@@ -14,7 +14,7 @@ use Rattle.gb_terms.specs.declared.term.Head.TheOpen as layer
 use Rattle.gb_terms.specs.declared.term.Head.TheFolds.{fold-Term, fold-Head}
 use Rattle.gb_terms.specs.Make.{node}
 use Rattle.gb_walk.specs.declared.change.Change.TheVariants.{OfBound, ToSide}
-use Rattle.gb_walk.specs.Change.{Changes, under_binder, term_changed}
+use Rattle.gb_walk.specs.Change.{under_binder, term_changed}
 use Rattle.gb_goal.specs.declared.sequent.Hyp.{Hyp}
 use Rattle.gb_goal.specs.declared.sequent.Sequent.{Sequent}
 use Rattle.gb_smt.specs.declared.leaves.Leaf.{Leaf}

@@ -1,9 +1,9 @@
 // The rule `smt`.
 
-ghost use Rattle.std.specs.Prelude.{◌≡◌, [], IfErr, IfOk, IfSome};
-ghost use Rattle.std.specs.List.{Any};
+ghost use Rattle.std.specs.Prelude.{◌≡◌, [], IfErr, IfOk};
+ghost use Rattle.std.specs.List.{All};
 ghost use Rattle.gb_smt.specs.Leaves.{leaves_of};
-ghost use Rattle.gb_smt.specs.Apply.{IsTrial, IsOutcome, IsOpen, IsRefusalOf};
+ghost use Rattle.gb_smt.specs.Apply.{IsTrial, IsOutcome, IsAnswer, IsAnswerOf, IsClosed, IsRefusalOf};
 
 use crate::assign::{Found, try_all};
 use crate::atoms::number_of_atoms;
@@ -13,7 +13,6 @@ use crate::leaves::{Leaf, leaves};
 use crate::width::{greater, is_tried, width};
 use gb_core::refusal::{Refused, Why};
 use gb_core::value::{Card, Values};
-use gb_goal::scope::Scope;
 use gb_goal::sequent::{Sequent, Sequents};
 use gb_goal::step::Step;
 use sqlite_items::Items;
@@ -27,7 +26,7 @@ struct Trial {
 }
 
 /// Tries a claim, unless it is too wide.
-fn try_claim(alloc: Global, scope: &Scope, claim: &Claim) -> Result<Trial, AllocError>
+fn try_claim(alloc: Global, claim: &Claim) -> Result<Trial, AllocError>
     ensures { IfOk result (IsTrial claim.now) }
 {
     let width = width(alloc, claim)?;
@@ -37,7 +36,7 @@ fn try_claim(alloc: Global, scope: &Scope, claim: &Claim) -> Result<Trial, Alloc
             found: Found::Unknown,
         });
     }
-    match try_all(alloc, scope, claim)? {
+    match try_all(alloc, claim)? {
         Found::True => Ok(Trial {
             width,
             found: Found::True,
@@ -64,13 +63,13 @@ enum Tried {
 }
 
 /// Tries the claims of a leaf in order, those that aren't too wide.
-fn try_claims(alloc: Global, scope: &Scope, list: &[Claim]) -> Result<Tried, AllocError>
+fn try_claims(alloc: Global, list: &[Claim]) -> Result<Tried, AllocError>
     ensures { IfOk result (IsOutcome list.now) }
 {
     let mut widest = Card::Exact(0);
     let mut refuting = None;
     for claim in list {
-        let Trial { width, found } = try_claim(alloc, scope, claim)?;
+        let Trial { width, found } = try_claim(alloc, claim)?;
         widest = greater(widest, width);
         match found {
             Found::True => return Ok(Tried::Closed),
@@ -85,12 +84,12 @@ fn try_claims(alloc: Global, scope: &Scope, list: &[Claim]) -> Result<Tried, All
 }
 
 /// Why a leaf isn't closed.
-fn close(alloc: Global, scope: &Scope, leaf: &Leaf) -> Result<Option<Why>, AllocError>
-    ensures { IfOk result (λ found. IfSome found (λ why. IsOpen why leaf.now)) }
+fn close(alloc: Global, leaf: &Leaf) -> Result<Option<Why>, AllocError>
+    ensures { IfOk result (IsAnswer leaf.now) }
 {
     let leaf = used_up(alloc, leaf)?;
     let list = claims(alloc, &leaf)?;
-    match try_claims(alloc, scope, list.as_slice())? {
+    match try_claims(alloc, list.as_slice())? {
         Tried::Closed => Ok(None),
         Tried::Refuted(values) => Ok(Some(Why::False(values))),
         Tried::Undecided(width) => Ok(Some(Why::Undecided {
@@ -101,12 +100,12 @@ fn close(alloc: Global, scope: &Scope, leaf: &Leaf) -> Result<Option<Why>, Alloc
 }
 
 /// Why a goal isn't closed, by its first leaf that isn't.
-fn close_goal(alloc: Global, scope: &Scope, goal: &Sequent) -> Result<Option<Why>, AllocError>
-    ensures { IfOk result (λ found. IfSome found (λ why. Any (IsOpen why) (leaves_of goal.now))) }
+fn close_goal(alloc: Global, goal: &Sequent) -> Result<Option<Why>, AllocError>
+    ensures { IfOk result (IsAnswerOf (leaves_of goal.now)) }
 {
     let list = leaves(alloc, goal)?;
     for leaf in list.as_slice() {
-        if let Some(why) = close(alloc, scope, leaf)? {
+        if let Some(why) = close(alloc, leaf)? {
             return Ok(Some(why));
         }
     }
@@ -120,11 +119,12 @@ fn close_goal(alloc: Global, scope: &Scope, goal: &Sequent) -> Result<Option<Why
 /// The first leaf that doesn't close decides the refusal, at the place of the step: false, with the first assignment
 /// under which its first claim is false, where all its claims could be tried; else undecided, with the greatest width
 /// and the number of atoms.
-pub fn apply(alloc: Global, step: &Step, goal: &Sequent, scope: &Scope) -> Result<Sequents, Refused>
-    ensures closed { IfOk result (λ subgoals. subgoals ≡ []) }
+pub fn apply(alloc: Global, step: &Step, goal: &Sequent) -> Result<Sequents, Refused>
+    ensures no_subgoals { IfOk result (λ subgoals. subgoals ≡ []) }
+    ensures closed { IfOk result (λ subgoals. All IsClosed (leaves_of goal.now)) }
     ensures refused { IfErr result (IsRefusalOf goal.now step.now.place) }
 {
-    match close_goal(alloc, scope, goal) {
+    match close_goal(alloc, goal) {
         Ok(None) => Ok(Items::new(alloc)),
         Ok(Some(why)) => Err(Refused::Script {
             why,

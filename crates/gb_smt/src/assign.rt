@@ -2,7 +2,7 @@
 
 ghost use Rattle.std.specs.Prelude.{◌≡◌, IfOk};
 ghost use Rattle.gb_types.specs.Numbering.{parts_of};
-ghost use Rattle.gb_smt.specs.Assign.{assignments, IsOf};
+ghost use Rattle.gb_smt.specs.Assign.{assignments, with_values, implied, truth_under, IsOf};
 
 use crate::claims::Claim;
 use crate::variables::Variable;
@@ -10,10 +10,10 @@ use crate::width::types_of_variables;
 use gb_core::copy::copy_value;
 use gb_core::ty::Ty;
 use gb_core::value::{Card, Value, Values};
-use gb_eval::env::{Env, ReadValue};
+use gb_eval::env::{ReadValue, ReadValues};
 use gb_eval::eval::truth_if_known;
-use gb_goal::scope::Scope;
 use gb_terms::copy::copy_read;
+use gb_terms::term::Term;
 use gb_types::card::card;
 use gb_types::nth::nth;
 use sqlite_items::Items;
@@ -29,8 +29,14 @@ fn parts_of(alloc: Global, assignment: Value) -> Values
     }
 }
 
-/// The environment in which the variables have these values.
-fn environment(alloc: Global, variables: &[Variable], values: &[Value]) -> Result<Env, AllocError> {
+/// The variables with these values.
+fn with_values(
+    alloc: Global,
+    variables: &[Variable],
+    values: &[Value],
+) -> Result<ReadValues, AllocError>
+    ensures { IfOk result (λ reads. reads ≡ with_values variables.now values.now) }
+{
     let mut reads = Items::new(alloc);
     for (variable, value) in variables.iter().zip(values) {
         reads.push(ReadValue {
@@ -38,28 +44,35 @@ fn environment(alloc: Global, variables: &[Variable], values: &[Value]) -> Resul
             value: copy_value(alloc, value)?,
         })?;
     }
-    Ok(Env {
-        logical: Items::new(alloc),
-        reads,
-        labels: Items::new(alloc),
-    })
+    Ok(reads)
 }
 
-/// Whether the hypotheses of a claim imply its conclusion, where evaluation knows.
-fn holds(
+/// Whether hypotheses imply a conclusion, where evaluation knows.
+fn implied(
     alloc: Global,
-    scope: &Scope,
-    claim: &Claim,
-    env: &Env,
-) -> Result<Option<bool>, AllocError> {
-    for hyp in claim.hyps.as_slice() {
-        match truth_if_known(alloc, scope, hyp, env)? {
+    reads: &[ReadValue],
+    hyps: &[Term],
+    conclusion: &Term,
+) -> Result<Option<bool>, AllocError>
+    ensures { IfOk result (λ found. found ≡ implied reads.now hyps.now conclusion.now) }
+{
+    for hyp in hyps {
+        match truth_if_known(alloc, hyp, reads)? {
             Some(true) => {}
             Some(false) => return Ok(Some(true)),
             None => return Ok(None),
         }
     }
-    truth_if_known(alloc, scope, &claim.conclusion, env)
+    truth_if_known(alloc, conclusion, reads)
+}
+
+/// Whether a claim is true where its variables have these values.
+fn truth_under(alloc: Global, claim: &Claim, values: &[Value]) -> Result<Option<bool>, AllocError>
+    ensures { IfOk result (λ found. found ≡ truth_under claim.now values.now) }
+{
+    let reads = with_values(alloc, claim.variables.as_slice(), values)?;
+    let hyps = claim.hyps.as_slice();
+    implied(alloc, reads.as_slice(), hyps, &claim.conclusion)
 }
 
 /// What trying all assignments comes to.
@@ -74,7 +87,7 @@ pub enum Found {
 }
 
 /// Tries the assignments of a type to the variables of a claim, in order.
-fn try_each(alloc: Global, scope: &Scope, claim: &Claim, ty: &Ty) -> Result<Found, AllocError>
+fn try_each(alloc: Global, claim: &Claim, ty: &Ty) -> Result<Found, AllocError>
     requires { ty.now ≡ assignments claim.now }
     ensures { IfOk result (IsOf claim.now) }
 {
@@ -84,8 +97,7 @@ fn try_each(alloc: Global, scope: &Scope, claim: &Claim, ty: &Ty) -> Result<Foun
     };
     for at in 0..count {
         let values = parts_of(alloc, nth(alloc, ty, at)?);
-        let env = environment(alloc, claim.variables.as_slice(), values.as_slice())?;
-        match holds(alloc, scope, claim, &env)? {
+        match truth_under(alloc, claim, values.as_slice())? {
             Some(true) => {}
             Some(false) => return Ok(Found::False(values)),
             None => return Ok(Found::Unknown),
@@ -96,9 +108,9 @@ fn try_each(alloc: Global, scope: &Scope, claim: &Claim, ty: &Ty) -> Result<Foun
 
 /// Tries the assignments to the variables of a claim, in order. These are the values of the tuples of their types, so the
 /// first variable is the slowest.
-pub fn try_all(alloc: Global, scope: &Scope, claim: &Claim) -> Result<Found, AllocError>
+pub fn try_all(alloc: Global, claim: &Claim) -> Result<Found, AllocError>
     ensures { IfOk result (IsOf claim.now) }
 {
     let ty = Ty::Tuple(types_of_variables(alloc, claim.variables.as_slice())?);
-    try_each(alloc, scope, claim, &ty)
+    try_each(alloc, claim, &ty)
 }

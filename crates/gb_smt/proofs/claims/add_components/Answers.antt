@@ -1,6 +1,6 @@
-use Rattle.std.proofs.Common.{◌≡◌, ◌-◌, ◌+◌, length, sym, ap, ◌∙◌, arith}
+use Rattle.std.proofs.Common.{◌≡◌, ◌-◌, length, sym, ap, ◌∙◌, arith}
 use Rattle.gb_smt.specs.Components.{inside, outside}
-use Rattle.gb_smt.specs.Claims.{contradiction, contradictions, first_variables, components}
+use Rattle.gb_smt.specs.Claims.{contradictions, first_variables, components}
 use Rattle.gb_smt.proofs.Parts.{component_added, last_added, not_nil, components_none, components_done}
 use Rattle.gb_smt.proofs.claims.add_components.Goals as goal
 use Rattle.gb_smt.proofs.claims.add_components.Goals.{else-loop-turn-test, then-loop-turn-test+in_ok-from+in-None}

@@ -1,5 +1,5 @@
 use Rattle.std.proofs.Common.{arith, ◌∙◌, ap, sym}
-use Rattle.gb_smt.specs.Equations.{first_usable, used_up_to}
+use Rattle.gb_smt.specs.Equations.{first_usable}
 use Rattle.gb_smt.proofs.Uses.{place_within, used_some, length_used}
 use Rattle.gb_smt.proofs.equations.used_up.Goals as goal
 
