@@ -157,7 +157,7 @@ fn next_goals(
 /// The subgoals of a rule, by the crate that has its row.
 fn apply(alloc: Global, step: &Step, goal: &Sequent, scope: &Scope) -> Result<Sequents, Refused> {
     match &step.rule {
-        Rule::Smt => gb_smt::apply::apply(alloc, step, goal),
+        Rule::Smt => gb_smt::apply::apply(alloc, step, goal, scope),
         _ => gb_equiv::apply(alloc, step, goal, scope),
     }
 }

@@ -13,6 +13,7 @@ use crate::leaves::{Leaf, leaves};
 use crate::width::{greater, is_tried, width};
 use gb_core::refusal::{Refused, Why};
 use gb_core::value::{Card, Values};
+use gb_goal::scope::Scope;
 use gb_goal::sequent::{Sequent, Sequents};
 use gb_goal::step::Step;
 use sqlite_items::Items;
@@ -119,7 +120,12 @@ fn close_goal(alloc: Global, goal: &Sequent) -> Result<Option<Why>, AllocError>
 /// The first leaf that doesn't close decides the refusal, at the place of the step: false, with the first assignment
 /// under which its first claim is false, where all its claims could be tried; else undecided, with the greatest width
 /// and the number of atoms.
-pub fn apply(alloc: Global, step: &Step, goal: &Sequent) -> Result<Sequents, Refused>
+pub fn apply(
+    alloc: Global,
+    step: &Step,
+    goal: &Sequent,
+    _scope: &Scope,
+) -> Result<Sequents, Refused>
     ensures no_subgoals { IfOk result (λ subgoals. subgoals ≡ []) }
     ensures closed { IfOk result (λ subgoals. All IsClosed (leaves_of goal.now)) }
     ensures refused { IfErr result (IsRefusalOf goal.now step.now.place) }
