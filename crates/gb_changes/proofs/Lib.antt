@@ -1,0 +1,11 @@
+pub mod Trees
+pub mod Heads
+pub mod Raising
+pub mod Changed
+pub mod Lookups
+pub mod Puts
+pub mod Leading
+pub mod Entering
+pub mod Changing
+pub mod Judged
+pub mod Forms

@@ -1,0 +1,5 @@
+pub mod Formed
+pub mod Plain
+pub mod Lifted
+pub mod Uses
+pub mod Led

@@ -1,0 +1,5 @@
+//! Substitution and meaning: what a changed tree means is what the tree means in the changed state.
+#![tactic(auto)]
+
+pub mod change_laws;
+pub mod raise_laws;
