@@ -70,7 +70,7 @@ module _ {X : Type 0} where
     later ms ds es m h = same_module (modules_of read ms (ds ++ es)) (modules_of read ms ds) m (agree_later ms ds es m h)
 
 module _ (g h : Setting) where
-  same_row : {n : Count} (is : Row_of-Instr n) → EachCallIn (λ p. g.procedure p ≡ h.procedure p) is → program_of g is ≡ program_of h is
+  pub same_row : {n : Count} (is : Row_of-Instr n) → EachCallIn (λ p. g.procedure p ≡ h.procedure p) is → program_of g is ≡ program_of h is
   same_row end_of-Instr e = refl
   same_row (more_of-Instr (Assign xs t) is) e = ap (assign xs t) (same_row is e.1)
   same_row (more_of-Instr (Sample x d) is) e = ap (sample x d) (same_row is e.1)

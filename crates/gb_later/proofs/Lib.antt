@@ -1,0 +1,3 @@
+pub mod SameTerms
+pub mod SamePrograms
+pub mod SameForms

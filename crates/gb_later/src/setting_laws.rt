@@ -1,0 +1,34 @@
+//! Settings that agree on what names mean.
+
+ghost use Rattle.std.specs.Prelude.{◌≡◌, ◌↔◌};
+ghost use Rattle.gb_terms.specs.declared.term.Term.{Term};
+ghost use Rattle.gb_meaning.specs.Memory.{Memory};
+ghost use Rattle.gb_meaning.specs.Program.{Program};
+ghost use Rattle.gb_meaning.specs.Setting.{Setting};
+ghost use Rattle.gb_meaning.specs.State.{State};
+ghost use Rattle.gb_meaning.specs.Terms.{val, denominator, quiet};
+ghost use Rattle.gb_meaning.specs.Runs.{out, run_denominator};
+ghost use Rattle.gb_meaning.specs.Judgments.{Judge, IsFair, speaking, IsSoundForm, IsTrueIn};
+ghost use Rattle.gb_later.specs.Agreement.{SameTerm, SameProgram, SameForm};
+
+/// A term of a program means the same in two settings that agree on what it names, and its tree has the same denominator.
+pub fn terms()
+    ensures meaning { (g h : Setting) (e : Term) → SameTerm g h e → (s : State) → val g quiet e s ≡ val h quiet e s }
+    ensures denominator { (g h : Setting) (e : Term) → SameTerm g h e → denominator g e ≡ denominator h e }
+{}
+
+/// A program has the same runs in two settings that agree on what it names through every procedure that it carries, over
+/// the same denominator.
+pub fn programs()
+    ensures runs { (g h : Setting) (c : Program) → SameProgram g h c → (s : State) (m : Memory) → out g s c m ≡ out h s c m }
+    ensures denominator { (g h : Setting) (c : Program) → SameProgram g h c → run_denominator g c ≡ run_denominator h c }
+{}
+
+/// A form whose judgments are of sound subjects means the same, under fair judges, in two settings that agree on what it
+/// names; so it is true in both or in none.
+pub fn forms()
+    ensures meaning { (g h : Setting) (j i : Judge) → IsFair g j → IsFair h i → (f : Term) → SameForm g h f → IsSoundForm g f →
+        (s : State) → val g (speaking g j) f s ≡ val h (speaking h i) f s }
+    ensures truth { (g h : Setting) (f : Term) → SameForm g h f → IsSoundForm g f → (s : State) → IsTrueIn g f s ↔ IsTrueIn h f s }
+    ensures sound { (g h : Setting) (f : Term) → SameForm g h f → IsSoundForm g f → IsSoundForm h f }
+{}
