@@ -1,19 +1,16 @@
 -- The meaning of a changed tree.
-use Rattle.std.proofs.Common.{◌≡◌, ℕ, Bool, true, List, [], ◌∷◌, map, Option, Some, None, refl, ap, sym, ◌∙◌}
-use Rattle.std.specs.List.{AllByRecursion}
+use Rattle.std.proofs.Common.{◌≡◌, ℕ, List, [], ◌∷◌, map, Option, Some, None, refl, ap, ◌∙◌}
 use Rattle.gb_core.specs.declared.ty.Ty.{Ty}
-use Rattle.gb_terms.specs.declared.op.Read.{Read}
 use Rattle.gb_terms.specs.declared.term.Term.{Term, Term', Row_of-Term, end_of-Term, more_of-Term, end_of-Head, more_of-Head}
 use Rattle.gb_terms.specs.declared.term.Head.{Head}
 use Rattle.gb_terms.specs.declared.term.Head.TheVariants as head
 use Rattle.gb_terms.specs.Make.{node}
 use Rattle.gb_walk.specs.Layers.{where_last, seen_by}
 use Rattle.gb_walk.specs.Change.{Changes, is_own, is_left_or_right, without, under_binder, seen_by_args, seen_by_last, put_or, found_for_read, found_for_bound, read_changed, side_changed, term_of, term_changed, subject_changed}
-use Rattle.gb_meaning.specs.Memory.{read_globals}
 use Rattle.gb_meaning.specs.Setting.{Meaning, Setting}
 use Rattle.gb_meaning.specs.Setting.Meaning.{finite}
 use Rattle.gb_meaning.specs.Meanings.{of_truth}
-use Rattle.gb_meaning.specs.State.{State, binding, meaning_in, memory_of, under, at, between}
+use Rattle.gb_meaning.specs.State.{State, binding, meaning_in, under, at, between}
 use Rattle.gb_meaning.specs.Terms.{Speaks, Part, at_head, read_at, val, parts, part_of, denominator, denominators, denominator_of}
 use Rattle.gb_meaning.specs.Commands.{terms_in}
 use Rattle.gb_laws.proofs.Nodes.{val_node, denominator_node}
@@ -23,7 +20,7 @@ use Rattle.gb_changes.specs.Uses.{Uses, beneath, under_own, under_sides, besides
 use Rattle.gb_changes.specs.Uses as uses
 use Rattle.gb_changes.specs.Uses.Use.{read as reads, bound as bound_use, globals, starts}
 use Rattle.gb_changes.specs.Led.{IsPut, ArePut, put, Led}
-use Rattle.gb_changes.proofs.Heads.{Moved, Here, Under, At, Between, of_arguments, of_last, Related, inner_same, chance_same, Answers, with_subjects}
+use Rattle.gb_changes.proofs.Heads.{Moved, Under, of_arguments, of_last, Related, inner_same, chance_same, Answers, with_subjects}
 use Rattle.gb_changes.proofs.Raising.{has_parts, plain_answers}
 use Rattle.gb_changes.proofs.Changed.{changed_at, term_changed_is}
 use Rattle.gb_changes.proofs.Leading.{OnSome, read_found_each, bound_found_each, puts_under, puts_without, led_under}
@@ -39,13 +36,13 @@ abbrev pub arguments_of : {n : Count} → Head → Changes → Row_of-Term n →
 arguments_of h cs ts = seen_by (seen_by_args h cs) (seen_by_last h cs) (map term_changed (terms_in ts))
 
 module _ (g : Setting) where
-  puts_by_arguments : (h : Head) (cs : Changes) → ArePut g cs → ArePut g (seen_by_args h cs)
+  pub puts_by_arguments : (h : Head) (cs : Changes) → ArePut g cs → ArePut g (seen_by_args h cs)
   puts_by_arguments (head.Hoare c) cs a = puts_without g is_own cs a
   puts_by_arguments (head.Phoare c r) cs a = puts_without g is_own cs a
   puts_by_arguments (head.Equiv c d) cs a = puts_without g is_left_or_right cs a
   puts_by_arguments _ cs a = a
 
-  puts_by_last : (h : Head) (cs : Changes) → ArePut g cs → ArePut g (seen_by_last h cs)
+  pub puts_by_last : (h : Head) (cs : Changes) → ArePut g cs → ArePut g (seen_by_last h cs)
   puts_by_last (head.All t) cs a = puts_under g cs a
   puts_by_last (head.Some t) cs a = puts_under g cs a
   puts_by_last head.AllMemory cs a = puts_under g cs a

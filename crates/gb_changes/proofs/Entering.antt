@@ -1,8 +1,7 @@
 -- Changes lead from one state to another where a judgment, or a probability, binds memories.
-use Rattle.std.proofs.Common.{◌≡◌, ℕ, ◌==◌, Bool, true, false, not, ◌&&◌, ◌||◌, inl, inr, ◌⊎◌, if◌then◌else◌, List, [], ◌∷◌, get_or, Option, Some, None, refl, ap, sym, ◌∙◌}
+use Rattle.std.proofs.Common.{◌≡◌, ℕ, ◌==◌, Bool, true, false, not, ◌&&◌, ◌||◌, inl, inr, ◌⊎◌, if◌then◌else◌, [], ◌∷◌, get_or, Option, Some, None, refl, ap, sym, ◌∙◌}
 use Rattle.std.specs.List.{AllByRecursion}
 use Rattle.std.proofs.lemmas.Bool.{false≢true}
-use Rattle.gb_core.specs.declared.ty.Ty.{Ty}
 use Rattle.gb_terms.specs.declared.op.Side.{Side}
 use Rattle.gb_terms.specs.declared.op.Side.TheVariants as side
 use Rattle.gb_terms.specs.declared.op.Read.{Read}
@@ -16,10 +15,10 @@ use Rattle.gb_walk.specs.Change.{Changes, is_own, is_left_or_right, is_read_thro
 use Rattle.gb_meaning.specs.Memory.{Memory, read, read_globals}
 use Rattle.gb_meaning.specs.Setting.{Meaning, Setting}
 use Rattle.gb_meaning.specs.Setting.Meaning.{finite}
-use Rattle.gb_meaning.specs.State.{State, Binding, binding, meaning_in, memory_in, memory_of, at, between}
+use Rattle.gb_meaning.specs.State.{State, binding, meaning_in, memory_of, at, between}
 use Rattle.gb_meaning.specs.State.Binding.{program}
 use Rattle.gb_meaning.specs.Terms.{Speaks, val, read_at}
-use Rattle.gb_changes.specs.Uses.{Use, Uses, entering, no_side, under_own, under_sides, besides_own}
+use Rattle.gb_changes.specs.Uses.{Uses, entering, no_side, under_own, under_sides, besides_own}
 use Rattle.gb_changes.specs.Uses.Use.{read as reads, bound as bound_use, globals, starts, binds_own, binds_sides}
 use Rattle.gb_changes.specs.Led.{put, IgnoresOwn, IgnoresSides, Stays, Enters, Leads, Led}
 use Rattle.gb_changes.proofs.Leading.{OnSome}
@@ -126,7 +125,7 @@ side_stays P p (ToSide a b ∷ cs) h r e = step (side_eq a r) refl (side_stays P
     step true k i = h.0 (ap p ((side_eq-Decides a r).0 k) ∙ e)
     step false k i = i
 
-at_other : (s : State) (m : Memory) (r : Side) → is_own r ≡ false → memory_of (at s m) r ≡ memory_of s r
+pub at_other : (s : State) (m : Memory) (r : Side) → is_own r ≡ false → memory_of (at s m) r ≡ memory_of s r
 at_other s m side.Own e = absurd (false≢true (sym e))
 at_other s m side.Left e = refl
 at_other s m side.Right e = refl
@@ -140,7 +139,7 @@ at_own s q m side.Right e = absurd (false≢true e)
 at_own s q m (side.Memory i) e = absurd (false≢true e)
 at_own s q m (side.Bound i) e = absurd (false≢true e)
 
-between_other : (s : State) (m n : Memory) (r : Side) → is_left_or_right r ≡ false → memory_of (between s m n) r ≡ memory_of s r
+pub between_other : (s : State) (m n : Memory) (r : Side) → is_left_or_right r ≡ false → memory_of (between s m n) r ≡ memory_of s r
 between_other s m n side.Own e = refl
 between_other s m n side.Left e = absurd (false≢true (sym e))
 between_other s m n side.Right e = absurd (false≢true (sym e))

@@ -1,5 +1,5 @@
 -- The meaning of a changed form under a fair judge.
-use Rattle.std.proofs.Common.{◌≡◌, refl, ap, sym, ◌∙◌, subst}
+use Rattle.std.proofs.Common.{◌≡◌, ap, sym, ◌∙◌, subst}
 use Rattle.gb_terms.specs.declared.module.ProcRef.{ProcRef}
 use Rattle.gb_terms.specs.declared.term.Term.{Term, Term', Row_of-Term, end_of-Term, more_of-Term, end_of-Head, more_of-Head}
 use Rattle.gb_terms.specs.declared.term.Subject.{Subject}
@@ -12,10 +12,10 @@ use Rattle.gb_terms.specs.declared.term.Head.TheVariants.{Proc, Body'}
 use Rattle.gb_terms.specs.declared.term.Head.TheFolds.{fold-roll-Subject}
 use Rattle.gb_core.specs.declared.ty.Ty.{Ty}
 use Rattle.gb_walk.specs.declared.change.Made.{Made}
-use Rattle.gb_walk.specs.Change.{Changes, at_head, at_instr, at_subject, at_cmd, at_term, subject_changed, term_changed}
+use Rattle.gb_walk.specs.Change.{Changes, at_head, at_instr, at_subject, at_cmd, at_term, subject_changed}
 use Rattle.gb_meaning.specs.Setting.{Setting}
 use Rattle.gb_meaning.specs.State.{State}
-use Rattle.gb_meaning.specs.Terms.{val, parts}
+use Rattle.gb_meaning.specs.Terms.{val}
 use Rattle.gb_meaning.specs.Judgments.{Judge, IsFair, speaking, run_of, subject_denominator, is_sound_at, IsSoundSubject, IsSoundForm, AllSound}
 use Rattle.gb_changes.specs.Formed.{IsFormed, AllFormed}
 use Rattle.gb_changes.specs.Uses.{Uses, SubjectIsWithin, HeadIsWithin}
@@ -25,13 +25,13 @@ use Rattle.gb_changes.proofs.Changing.{Followed, AllFollowed, arguments_of, foll
 use Rattle.gb_changes.proofs.Judged.{SameRuns, SameSubjects, answers_same}
 use mathlib.Core.Former.{Count}
 
-procedure_stays : (p : ProcRef) (cs : Changes) → subject_changed (Proc p) cs ≡ Proc p
+pub procedure_stays : (p : ProcRef) (cs : Changes) → subject_changed (Proc p) cs ≡ Proc p
 unfolding Rattle.gb_terms.specs.declared.term.Head.TheViews.roll-Subject denote.Hole.Carrier.roll
 procedure_stays p cs =
     ap (λ f. f cs) (fold-roll-Subject (Changes → Made) (Changes → Instr) (Changes → Subject) (Changes → Cmd) (Changes → Term) at_head at_instr at_subject at_cmd at_term (layer.Proc p))
 
 module _ (g : Setting) where
-  same_runs : (K : Uses) (cs : Changes) (s q : State) (c : Subject) → SubjectIsWithin K c → IsSoundSubject g c → SameRuns g s q (subject_changed c cs) c
+  pub same_runs : (K : Uses) (cs : Changes) (s q : State) (c : Subject) → SubjectIsWithin K c → IsSoundSubject g c → SameRuns g s q (subject_changed c cs) c
   same_runs K cs s q (Proc p) w u = record {
     runs = λ m. ap (λ c. run_of g s c m) (procedure_stays p cs);
     denominators = ap (subject_denominator g) (procedure_stays p cs);

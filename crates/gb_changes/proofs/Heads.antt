@@ -1,9 +1,8 @@
 -- A head means the same from parts that mean the same.
-use Rattle.std.proofs.Common.{◌≡◌, ℕ, zero, suc, Bool, pos, List, [], ◌∷◌, map, get_or, refl, ap, ◌∙◌}
+use Rattle.std.proofs.Common.{◌≡◌, Bool, pos, List, [], ◌∷◌, map, refl, ap}
 use Rattle.std.proofs.Math.Path.{fun_ext}
 use Rattle.gb_core.specs.declared.ty.Ty.{Ty}
 use Rattle.gb_core.specs.declared.value.Value.{Value}
-use Rattle.gb_terms.specs.declared.op.Side.{Side}
 use Rattle.gb_terms.specs.declared.module.ProcRef.{ProcRef}
 use Rattle.gb_terms.specs.declared.term.Term.{Term}
 use Rattle.gb_terms.specs.declared.term.Head.{Head}
@@ -20,7 +19,7 @@ use Rattle.gb_meaning.specs.Operators.{Argument, operated}
 use Rattle.gb_meaning.specs.State.{State, Binding, under, at, between}
 use Rattle.gb_meaning.specs.State.Binding.{value}
 use Rattle.gb_meaning.specs.Terms.{Speaks, Part, no_part, last_of, before_last, first_of, argument, at_value, each_value, some_value, sum_below, at_head}
-use Rattle.gb_changes.specs.Formed.{AreTwo, AreThree, HasArguments}
+use Rattle.gb_changes.specs.Formed.{AreTwo, HasArguments}
 
 -- the last parts are related by L, the others by R
 abbrev pub Moved : (Part → Part → Type 0) → (Part → Part → Type 0) → List Part → List Part → Type 0

@@ -1,5 +1,5 @@
 -- Judgments stand alike where their parts mean the same and their programs run alike.
-use Rattle.std.proofs.Common.{◌≡◌, ◌↔◌, ℕ, zero, suc, Bool, true, List, [], ◌∷◌, map, get_or, refl, ap, sym, ◌∙◌, subst}
+use Rattle.std.proofs.Common.{◌≡◌, ℕ, zero, suc, Bool, List, [], ◌∷◌, map, get_or, ap, sym, ◌∙◌, subst}
 use Rattle.std.proofs.Math.Path.{fun_ext}
 use Rattle.gb_core.specs.declared.ty.Ty.{Ty}
 use Rattle.gb_terms.specs.declared.op.Rel.{Rel}
@@ -17,7 +17,7 @@ use Rattle.gb_meaning.specs.Setting.{Setting}
 use Rattle.gb_meaning.specs.Meanings.{truth, fraction_in}
 use Rattle.gb_meaning.specs.State.{State, under, at, between}
 use Rattle.gb_meaning.specs.State.Binding.{memory}
-use Rattle.gb_meaning.specs.Terms.{Part, no_part, last_of, parts, part_of}
+use Rattle.gb_meaning.specs.Terms.{Part, no_part, parts, part_of}
 use Rattle.gb_meaning.specs.Judgments.{Judge, IsFair, speaking, part, run_of, subject_denominator, chance, compares, Holds, HoareStands, PhoareStands, EquivStands, stands_at, is_judged_at, is_sound_at, IsSoundSubject}
 use Rattle.gb_laws.proofs.Nodes.{stands_node, judged_node}
 use Rattle.gb_judge.proofs.Bools.{same_truth}

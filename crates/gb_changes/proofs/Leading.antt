@@ -1,35 +1,32 @@
 -- Changes lead from one state to another under a binder, and where memories are bound.
-use Rattle.std.proofs.Common.{◌≡◌, ℕ, zero, suc, ◌==◌, Bool, true, false, not, ◌&&◌, ◌||◌, List, [], ◌∷◌, get_or, Option, Some, None, refl, ap, sym, ◌∙◌, subst}
+use Rattle.std.proofs.Common.{◌≡◌, ℕ, zero, suc, ◌==◌, Bool, true, false, not, List, [], ◌∷◌, get_or, Option, Some, None, refl, ap, sym, ◌∙◌, subst}
 use Rattle.std.specs.List.{AllByRecursion}
 use Rattle.std.specs.Option.{option_map}
-use Rattle.std.proofs.lemmas.Bool.{false≢true}
 use Rattle.gb_core.specs.declared.ty.Ty.{Ty}
-use Rattle.gb_core.specs.declared.var.Var.{Var}
 use Rattle.gb_terms.specs.declared.op.Side.{Side}
 use Rattle.gb_terms.specs.declared.op.Side.TheVariants as side
 use Rattle.gb_terms.specs.declared.op.Read.{Read}
 use Rattle.gb_terms.specs.declared.op.Read.TheVariants.{Logical, Program}
 use Rattle.gb_terms.specs.declared.module.Mexp.{Mexp}
 use Rattle.gb_terms.specs.declared.term.Term.{Term}
-use Rattle.gb_terms.specs.Equal.{side_eq, read_eq}
-use Rattle.gb_terms.proofs.Equality.{side_eq-Decides, read_eq-Decides}
-use Rattle.gb_walk.specs.Raise.{index_raised, side_raised, read_raised, term_raised}
+use Rattle.gb_terms.specs.Equal.{read_eq}
+use Rattle.gb_walk.specs.Raise.{side_raised, read_raised, term_raised}
 use Rattle.gb_walk.specs.declared.change.Change.{Change}
 use Rattle.gb_walk.specs.declared.change.Change.TheVariants.{ToTerm, OfBound, ToSide}
-use Rattle.gb_walk.specs.Change.{Changes, change_raised, is_own, is_left_or_right, is_read_through, is_through, without, under_binder, or_later, found_for_read, found_for_bound, side_changed, read_changed}
-use Rattle.gb_meaning.specs.Memory.{Memory, read, read_globals}
+use Rattle.gb_walk.specs.Change.{Changes, change_raised, is_own, is_left_or_right, is_through, without, under_binder, or_later, found_for_read, found_for_bound, side_changed, read_changed}
+use Rattle.gb_meaning.specs.Memory.{read, read_globals}
 use Rattle.gb_meaning.specs.Setting.{Meaning, Setting}
 use Rattle.gb_meaning.specs.Setting.Meaning.{finite}
 use Rattle.gb_meaning.specs.State.{State, Binding, binding, meaning_in, memory_in, memory_of, under, at, between}
 use Rattle.gb_meaning.specs.State.Binding.{program}
-use Rattle.gb_meaning.specs.Terms.{Speaks, val, read_at}
+use Rattle.gb_meaning.specs.Terms.{Speaks, read_at}
 use Rattle.gb_changes.specs.Lifted.{Lifted}
-use Rattle.gb_changes.specs.Uses.{Use, Uses, beneath, entering, no_side, under_own, under_sides, besides_own}
+use Rattle.gb_changes.specs.Uses.{Use, Uses, beneath}
 use Rattle.gb_changes.specs.Uses.Use.{read as reads, bound as bound_use, globals, starts, binds_own, binds_sides}
-use Rattle.gb_changes.specs.Led.{IsPut, OnPut, ArePut, put, IgnoresOwn, IgnoresSides, Stays, Enters, Leads, Led}
+use Rattle.gb_changes.specs.Led.{IsPut, OnPut, ArePut, put, IgnoresOwn, IgnoresSides, Enters, Leads, Led}
 use Rattle.gb_changes.proofs.Raising.{plain_steady, lifted_side}
 use Rattle.gb_changes.proofs.Puts.{put_raised}
-use Rattle.gb_changes.proofs.Lookups.{index_next, raised_bound, read_found_under, read_of_binder, bound_found_under, bound_of_binder, side_under, side_of_binder, each_filter, each_map, read_found_without, bound_found_without, side_without, read_found_none, side_kept}
+use Rattle.gb_changes.proofs.Lookups.{index_next, raised_bound, read_found_under, read_of_binder, bound_found_under, bound_of_binder, side_under, side_of_binder, each_filter, each_map}
 
 abbrev rest_of : List Binding → List Binding
 rest_of [] = []

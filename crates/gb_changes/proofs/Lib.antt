@@ -9,3 +9,5 @@ pub mod Entering
 pub mod Changing
 pub mod Judged
 pub mod Forms
+pub mod Agreeing
+pub mod Shapes

@@ -1,5 +1,5 @@
 -- What changes find, under binders and where memories are bound.
-use Rattle.std.proofs.Common.{◌≡◌, ℕ, zero, suc, ◌+◌, ◌==◌, Bool, true, false, not, ◌&&◌, cond, if◌then◌else◌, nat_le, List, [], ◌∷◌, map, filter, Option, Some, None, refl, ap, sym, ◌∙◌, arith}
+use Rattle.std.proofs.Common.{◌≡◌, ℕ, suc, ◌+◌, ◌==◌, Bool, true, false, not, ◌&&◌, cond, if◌then◌else◌, [], ◌∷◌, map, filter, Option, None, refl, ap, sym, ◌∙◌, arith}
 use Rattle.std.specs.List.{AllByRecursion}
 use Rattle.std.specs.Option.{option_map}
 use Rattle.std.proofs.Math.Dec.{leb-zero, eqb-suc-suc, eqb-suc-zero}
@@ -15,7 +15,7 @@ use Rattle.gb_terms.proofs.Equality.{side_eq-Decides, read_eq-Decides}
 use Rattle.gb_walk.specs.Raise.{index_raised, side_raised, read_raised, term_raised}
 use Rattle.gb_walk.specs.declared.change.Change.{Change}
 use Rattle.gb_walk.specs.declared.change.Change.TheVariants.{ToTerm, OfBound, ToSide}
-use Rattle.gb_walk.specs.Change.{Changes, change_raised, is_read_through, is_through, without, under_binder, or_later, found_for_read, found_for_bound, side_changed}
+use Rattle.gb_walk.specs.Change.{Changes, is_read_through, without, under_binder, or_later, found_for_read, found_for_bound, side_changed}
 
 raise : Term → Term
 raise t = term_raised t 0

@@ -1,5 +1,5 @@
 -- The meaning of a tree under one binder more.
-use Rattle.std.proofs.Common.{◌≡◌, ℕ, zero, suc, ◌+◌, nat_le, if◌then◌else◌, Bool, true, false, List, [], ◌∷◌, map, get_or, refl, ap, sym, ◌∙◌, arith}
+use Rattle.std.proofs.Common.{◌≡◌, ℕ, zero, suc, ◌+◌, nat_le, if◌then◌else◌, Bool, true, false, List, ◌∷◌, map, refl, ap, ◌∙◌, arith}
 use Rattle.std.proofs.Math.Dec.{leb-suc-zero, leb-suc-suc}
 use Rattle.gb_core.specs.declared.ty.Ty.{Ty}
 use Rattle.gb_terms.specs.declared.op.Side.{Side}
@@ -12,7 +12,7 @@ use Rattle.gb_terms.specs.Make.{node}
 use Rattle.gb_walk.specs.Layers.{where_last, seen_by}
 use Rattle.gb_walk.specs.Raise.{index_raised, side_raised, last_from, term_raised}
 use Rattle.gb_meaning.specs.Memory.{Memory, read, read_globals}
-use Rattle.gb_meaning.specs.Setting.{Meaning, Setting}
+use Rattle.gb_meaning.specs.Setting.{Setting}
 use Rattle.gb_meaning.specs.Setting.Meaning.{finite}
 use Rattle.gb_meaning.specs.Meanings.{of_truth}
 use Rattle.gb_meaning.specs.State.{State, Binding, binding, meaning_in, memory_in, memory_of, under, at, between}
@@ -23,7 +23,7 @@ use Rattle.gb_changes.specs.Formed.{AreTwo, AreThree, HasArguments, IsFormed, Al
 use Rattle.gb_changes.specs.Plain.{HeadIsPlain, IsPlain, AllPlain}
 use Rattle.gb_changes.specs.Lifted.{Lifted}
 use Rattle.gb_changes.proofs.Trees.{raised_at, term_raised_is}
-use Rattle.gb_changes.proofs.Heads.{Moved, Here, Under, At, Between, of_arguments, of_last, Related, inner_same, chance_same, Answers}
+use Rattle.gb_changes.proofs.Heads.{Moved, Under, of_arguments, of_last, Related, inner_same, chance_same, Answers}
 use mathlib.Core.Former.{Count}
 
 next : (k : ℕ) → k + 1 ≡ suc k

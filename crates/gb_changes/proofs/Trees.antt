@@ -1,5 +1,5 @@
 -- The layers of trees, by their constructors.
-use Rattle.std.proofs.Common.{◌≡◌, ℕ, List, [], ◌∷◌, map, refl, ap, sym, ◌∙◌}
+use Rattle.std.proofs.Common.{◌≡◌, ℕ, List, ◌∷◌, map, refl, ap, sym, ◌∙◌}
 use Rattle.gb_core.specs.declared.ty.Ty.{Ty}
 use Rattle.gb_terms.specs.declared.term.Term.{Term, Term', Row_of-Term, end_of-Term, more_of-Term, end_of-Head, more_of-Head, out-Term, items-the_row-Term, items_shown-the_row-Term-0, outs-Term'}
 use Rattle.gb_terms.specs.declared.term.Head.{Head}
@@ -10,7 +10,7 @@ use Rattle.gb_terms.specs.declared.term.Head.TheBlock as B
 use Rattle.gb_terms.specs.declared.term.Head.TheOpen as layer
 use Rattle.gb_terms.specs.declared.term.Head.TheVariants as head
 use Rattle.gb_terms.specs.declared.term.Head.TheViews.{the_lemmas, out-Head, roll-Head, roll-out-Head}
-use Rattle.gb_terms.specs.declared.term.Head.TheFolds.{map-Head, fold_out-Term, fold_out-Head, fold-roll-Head}
+use Rattle.gb_terms.specs.declared.term.Head.TheFolds.{map-Head, fold_out-Term, fold_out-Head}
 use Rattle.gb_terms.specs.Make.{node}
 use Rattle.gb_walk.specs.Layers.{head_of, seen_by}
 use Rattle.gb_walk.specs.Raise.{last_from, head_at, at_head, at_instr, at_subject, at_cmd, at_term, term_raised, head_raised, subject_raised, instr_raised, cmd_raised}

@@ -1,7 +1,7 @@
 -- Trees whose nodes have the arguments that their heads take.
 use Rattle.std.specs.Prelude.{List, [], ◌∷◌}
 use Rattle.gb_terms.specs.declared.term.Term.{Term, Term', Row_of-Term, end_of-Term, more_of-Term, end_of-Head, more_of-Head}
-use Rattle.gb_terms.specs.declared.term.Instr.{Instr, Row_of-Instr, end_of-Instr, more_of-Instr}
+use Rattle.gb_terms.specs.declared.term.Instr.{Row_of-Instr, end_of-Instr, more_of-Instr}
 use Rattle.gb_terms.specs.declared.term.Subject.{Subject}
 use Rattle.gb_terms.specs.declared.term.Head.{Head}
 use Rattle.gb_terms.specs.declared.term.Head.TheVariants as head

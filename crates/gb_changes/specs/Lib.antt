@@ -3,3 +3,4 @@ pub mod Plain
 pub mod Lifted
 pub mod Uses
 pub mod Led
+pub mod Agree

@@ -62,6 +62,26 @@ under_sides K = entering is_left_or_right no_side K
 abbrev pub besides_own : Uses → Uses
 besides_own K = entering is_own is_own K
 
+abbrev pub every_use : Uses
+every_use u = true
+
+abbrev pub is_of_no_binder : Side → Bool
+is_of_no_binder (of_binder i) = false
+is_of_no_binder r = true
+
+-- the uses of a tree outside of all binders
+abbrev pub unbound : Uses
+unbound (read (Logical i) ty) = true
+unbound (read (Program x r) ty) = is_of_no_binder r
+unbound (bound i) = false
+unbound (globals m r) = is_of_no_binder r
+unbound (starts r) = is_of_no_binder r
+unbound u = true
+
+-- the uses without those of both sides
+abbrev pub besides_sides : Uses → Uses
+besides_sides K = entering is_left_or_right is_left_or_right K
+
 -- what the arguments of a head may use
 abbrev pub of_arguments : Uses → Head → Uses
 of_arguments K (head.Hoare c) = under_own K

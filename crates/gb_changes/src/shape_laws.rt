@@ -1,0 +1,16 @@
+//! Changed trees have the shape of the trees.
+
+ghost use Rattle.gb_terms.specs.declared.term.Term.{Term};
+ghost use Rattle.gb_walk.specs.Change.{Changes, term_changed};
+ghost use Rattle.gb_meaning.specs.Setting.{Setting};
+ghost use Rattle.gb_meaning.specs.Judgments.{IsSoundForm};
+ghost use Rattle.gb_changes.specs.Formed.{IsFormed};
+ghost use Rattle.gb_changes.specs.Uses.{Uses, IsWithin};
+ghost use Rattle.gb_changes.specs.Led.{ArePut};
+
+/// A tree whose nodes have their arguments keeps them where changes are made, and judgments of sound procedures stay sound.
+pub fn shapes()
+    ensures formed { (g : Setting) (t : Term) (cs : Changes) (K : Uses) → ArePut g cs → IsFormed t → IsWithin K t → IsFormed (term_changed t cs) }
+    ensures sound { (g : Setting) (t : Term) (cs : Changes) (K : Uses) → ArePut g cs → IsSoundForm g t → IsWithin K t →
+        IsSoundForm g (term_changed t cs) }
+{}
