@@ -1,4 +1,5 @@
 //! What is declared later changes nothing of what stood before.
 #![tactic(auto)]
 
+pub mod sequent_laws;
 pub mod setting_laws;

@@ -1,15 +1,23 @@
 //! Settings that agree on what names mean.
 
-ghost use Rattle.std.specs.Prelude.{◌≡◌, ◌↔◌};
+ghost use Rattle.std.specs.Prelude.{◌≡◌, ℕ, ◌↔◌, ◌++◌, List};
 ghost use Rattle.gb_terms.specs.declared.term.Term.{Term};
 ghost use Rattle.gb_meaning.specs.Memory.{Memory};
 ghost use Rattle.gb_meaning.specs.Program.{Program};
-ghost use Rattle.gb_meaning.specs.Setting.{Setting};
+ghost use Rattle.gb_core.specs.declared.value.Value.{Value};
+ghost use Rattle.gb_meaning.specs.Names.{Name};
+ghost use Rattle.gb_meaning.specs.Values.{World};
+ghost use Rattle.gb_meaning.specs.Setting.{Setting, Meaning};
 ghost use Rattle.gb_meaning.specs.State.{State};
 ghost use Rattle.gb_meaning.specs.Terms.{val, denominator, quiet};
 ghost use Rattle.gb_meaning.specs.Runs.{out, run_denominator};
 ghost use Rattle.gb_meaning.specs.Judgments.{Judge, IsFair, speaking, IsSoundForm, IsTrueIn};
+ghost use Rattle.gb_holds.specs.Declared.{Declarations};
+ghost use Rattle.gb_holds.specs.Naming.{IsFresh};
+ghost use Rattle.gb_holds.specs.Settings.{Interpretation, types_of, setting};
+ghost use Rattle.gb_holds.specs.Holds.{HaveVariableTypes, interpretation};
 ghost use Rattle.gb_later.specs.Agreement.{SameTerm, SameProgram, SameForm};
+ghost use Rattle.gb_later.specs.Naming.{AgreeOn, TermNames, ProgramNames, FormNames, AreModulesOrStatements, OperatorsName};
 
 /// A term of a program means the same in two settings that agree on what it names, and its tree has the same denominator.
 pub fn terms()
@@ -31,4 +39,22 @@ pub fn forms()
         (s : State) → val g (speaking g j) f s ≡ val h (speaking h i) f s }
     ensures truth { (g h : Setting) (f : Term) → SameForm g h f → IsSoundForm g f → (s : State) → IsTrueIn g f s ↔ IsTrueIn h f s }
     ensures sound { (g h : Setting) (f : Term) → SameForm g h f → IsSoundForm g f → IsSoundForm h f }
+{}
+
+/// Settings that agree on all names but those of some declarations agree on each term, program and form that names none of
+/// these.
+pub fn names()
+    ensures terms { (es : Declarations) (g h : Setting) → AgreeOn (IsFresh es) g h → (e : Term) → TermNames (IsFresh es) e → SameTerm g h e }
+    ensures programs { (es : Declarations) (g h : Setting) → AgreeOn (IsFresh es) g h → (c : Program) → ProgramNames (IsFresh es) c →
+        SameProgram g h c }
+    ensures forms { (es : Declarations) (g h : Setting) → AgreeOn (IsFresh es) g h → (f : Term) → FormNames (IsFresh es) g f → SameForm g h f }
+{}
+
+/// The setting of declarations agrees, on all names but those of modules that are added, with the setting in which they are
+/// added.
+pub fn added_modules()
+    ensures { (ds es : Declarations) → AreModulesOrStatements es → OperatorsName (IsFresh es) ds →
+        (w : World) (size : Name → ℕ) (table : Name → List Value → Meaning) →
+        let i : Interpretation = interpretation w size table in
+        HaveVariableTypes (types_of ds i) w → AgreeOn (IsFresh es) (setting ds i) (setting (ds ++ es) i) }
 {}
