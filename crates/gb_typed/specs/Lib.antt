@@ -1,0 +1,5 @@
+pub mod Finite
+pub mod Operators
+pub mod Typing
+pub mod Meant
+pub mod Context
