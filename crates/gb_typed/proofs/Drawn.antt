@@ -1,5 +1,5 @@
 -- Well-typed trees of distributions are trees of distributions.
-use Rattle.std.proofs.Common.{◌≡◌, Bool, true, List, [], ◌∷◌, map, refl, ap, sym, ◌∙◌, subst}
+use Rattle.std.proofs.Common.{◌≡◌, Bool, true, false, List, [], ◌∷◌, map, refl, ap, sym, ◌∙◌, subst}
 use Rattle.std.proofs.lemmas.Bool.{false≢true, and_from, lt-ltb}
 use Rattle.gb_core.specs.declared.ty.Ty.{Ty, end_of-Ty, more_of-Ty}
 use Rattle.gb_core.specs.declared.ty.Ty.TheVariants as ty
@@ -14,15 +14,15 @@ use Rattle.gb_terms.specs.declared.term.Head.{Head}
 use Rattle.gb_terms.specs.declared.term.Head.TheVariants as head
 use Rattle.gb_meaning.specs.Values.{values}
 use Rattle.gb_meaning.specs.Setting.{Setting}
-use Rattle.gb_meaning.specs.Drawn.{operator_draws, head_draws, draws, each_draws}
-use Rattle.gb_meaning.specs.Sound.{IsDistribution}
-use Rattle.gb_laws.proofs.Drawn.{draws_distribution}
+use Rattle.gb_meaning.specs.Drawn.{OperatorsDraw, operator_draws, head_draws, draws, each_draws}
+use Rattle.gb_meaning.specs.Sound.{IsDistribution, IsFull}
+use Rattle.gb_laws.proofs.Drawn.{draws_distribution, draws_full}
 use Rattle.gb_laws.proofs.Types.{values_finite}
-use Rattle.gb_typed.specs.Finite.{IsFinite}
+use Rattle.gb_typed.specs.Finite.{IsFinite, IsInhabited}
 use Rattle.gb_typed.specs.Operators.{IsArithmetic, IsSigned, IsOfBits, IsDistributionType, IsOptionType, IsMapType, IsOperator}
 use Rattle.gb_typed.specs.Typing.{Context, Binder, type_of, types_of, IsLiteral, IsBoundAt, IsHead, inner, IsTyped, AreTyped}
 use Rattle.gb_typed.specs.Typing.Binder.{value as of_value, index as of_index, memory as of_memory, program as of_program}
-use Rattle.gb_typed.specs.Context.{gives_distributions, is_of_distributions, drawing, IsSettingOf}
+use Rattle.gb_typed.specs.Context.{gives_distributions, is_of_distributions, drawing_with, drawing, IsUnrestrictedHead, IsUnrestricted, AreUnrestricted, IsSettingOf}
 use Rattle.gb_typed.proofs.Sizes.{finite_sized}
 use mathlib.Core.Former.{Count}
 
@@ -64,7 +64,12 @@ bound_undrawn of_program t h d = h
 other : {A : Type 0} (t u : Ty) → t ≡ u → (IsDistributionType u → ⊥) → IsDistributionType t → A
 other t u e n d = absurd (n (subst IsDistributionType e d))
 
-module _ (c : Context) (g : Setting) (i : IsSettingOf c g) where
+restricting : (b : Bool) → (b ≡ false → ⊥) → b ≡ true
+restricting true n = refl
+restricting false n = absurd (n refl)
+
+-- with `drestrict`, or without it
+module _ (c : Context) (g : Setting) (r : Bool) (i : IsInhabited g.types) where
   -- a distribution among these is said to be one
   abbrev Known : List (Ty × Bool) → Type 0
   Known [] = Unit {0}
@@ -77,7 +82,7 @@ module _ (c : Context) (g : Setting) (i : IsSettingOf c g) where
   bs xs = map (λ x. x.1) xs
 
   uniform_drawn : (t : Ty) → IsDistributionType t → operator_draws g.types op.Uniform t [] ≡ true
-  uniform_drawn (ty.Distr' p (more_of-Ty u end_of-Ty)) d = lt-ltb 0 (values g.types u).size (finite_sized g.types i.inhabited u d)
+  uniform_drawn (ty.Distr' p (more_of-Ty u end_of-Ty)) d = lt-ltb 0 (values g.types u).size (finite_sized g.types i u d)
   uniform_drawn _ d = absurd d
 
   operator_drawn : (o : Op) (t : Ty) (xs : List (Ty × Bool)) → Known xs → IsOperator o (tys xs) t → IsDistributionType t → operator_draws g.types o t (bs xs) ≡ true
@@ -124,58 +129,66 @@ module _ (c : Context) (g : Setting) (i : IsSettingOf c g) where
   literal_undrawn (ty.Distr' p x) v h d = false≢true (subst (λ z. z.has v ≡ true) (sym (values_finite g.types (ty.Distr' p x) h.0)) h.1)
   literal_undrawn _ v h d = d
 
-  head_drawn : (h : Head) (t : Ty) (xs : List (Ty × Bool)) → Known xs → (e : Context) → e.operator ≡ c.operator → IsHead e h (tys xs) t → IsDistributionType t →
-      head_draws g (drawing c) h t (bs xs) ≡ true
-  head_drawn (head.Lit v) t [] k e q h d = absurd (literal_undrawn t v h d)
-  head_drawn (head.Whole n) t [] k e q h d = other t _ h (λ z. z) d
-  head_drawn (head.Read (Logical n)) t [] k e q h d = absurd (finite_undrawn t h.0 d)
-  head_drawn (head.Read (Program (var.Global m x) r)) t [] k e q h d = absurd (finite_undrawn t h.1 d)
-  head_drawn (head.Read (Program (var.Local x) r)) t [] k e q h d = absurd (finite_undrawn t h.1 d)
-  head_drawn (head.Read (Program (var.Glob a) r)) t [] k e q h d = other t _ h.1 (λ z. z) d
-  head_drawn (head.Bound n) t [] k e q h d = absurd (bound_undrawn _ t h d)
-  head_drawn (head.Builtin o) t xs k e q h d = operator_drawn o t xs k h d
-  head_drawn (head.User n) t xs k e q h d = ap gives_distributions (ap (λ f. f n) (sym q) ∙ h) ∙ of_distributions t d
-  head_drawn (head.All u) t (x ∷ []) k e q h d = other t _ h.1.1.0 (λ z. z) d
-  head_drawn (head.Some u) t (x ∷ []) k e q h d = other t _ h.1.1.0 (λ z. z) d
-  head_drawn head.AllMemory t (x ∷ []) k e q h d = other t _ h.1.0 (λ z. z) d
-  head_drawn head.SomeMemory t (x ∷ []) k e q h d = other t _ h.1.0 (λ z. z) d
-  head_drawn (head.AllModule b) t (x ∷ []) k e q h d = other t _ h.1.0 (λ z. z) d
-  head_drawn head.Mu t (x ∷ y ∷ []) k e q h d = other t _ h.2 (λ z. z) d
-  head_drawn (head.Sum n) t (x ∷ []) k e q h d = other t _ h.1.1.0 (λ z. z) d
-  head_drawn (head.Weights ps) t [] k e q h d = h.2
-  head_drawn head.Map t (x ∷ y ∷ []) k e q h d = k.0 h.0
-  head_drawn head.Restrict t (x ∷ y ∷ []) k e q h d = k.0 (subst IsDistributionType (sym h.1) d)
-  head_drawn (head.Pr p r) t xs k e q h d = other t _ h.2 (λ z. z) d
-  head_drawn (head.Glob (named a) r) t [] k e q h d = other t _ h.1 (λ z. z) d
-  head_drawn (head.Glob _ r) t [] k e q h d = absurd h.1
-  head_drawn (head.Hoare b) t (x ∷ y ∷ []) k e q h d = other t _ h.1.1.0 (λ z. z) d
-  head_drawn (head.Phoare b r) t (x ∷ y ∷ z ∷ []) k e q h d = other t _ h.0.1.1.0 (λ z. z) d
-  head_drawn (head.Equiv a b) t (x ∷ y ∷ []) k e q h d = other t _ h.1.1.0 (λ z. z) d
-  head_drawn _ t xs k e q h d = absurd h
+  head_drawn : (h : Head) (t : Ty) (xs : List (Ty × Bool)) → Known xs → (e : Context) → e.operator ≡ c.operator → IsHead e h (tys xs) t →
+      (r ≡ false → IsUnrestrictedHead h) → IsDistributionType t →
+      head_draws g (drawing_with r c) h t (bs xs) ≡ true
+  head_drawn (head.Lit v) t [] k e q h u d = absurd (literal_undrawn t v h d)
+  head_drawn (head.Whole n) t [] k e q h u d = other t _ h (λ z. z) d
+  head_drawn (head.Read (Logical n)) t [] k e q h u d = absurd (finite_undrawn t h.0 d)
+  head_drawn (head.Read (Program (var.Global m x) z)) t [] k e q h u d = absurd (finite_undrawn t h.1 d)
+  head_drawn (head.Read (Program (var.Local x) z)) t [] k e q h u d = absurd (finite_undrawn t h.1 d)
+  head_drawn (head.Read (Program (var.Glob a) z)) t [] k e q h u d = other t _ h.1 (λ z. z) d
+  head_drawn (head.Bound n) t [] k e q h u d = absurd (bound_undrawn _ t h d)
+  head_drawn (head.Builtin o) t xs k e q h u d = operator_drawn o t xs k h d
+  head_drawn (head.User n) t xs k e q h u d = ap gives_distributions (ap (λ f. f n) (sym q) ∙ h) ∙ of_distributions t d
+  head_drawn (head.All a) t (x ∷ []) k e q h u d = other t _ h.1.1.0 (λ z. z) d
+  head_drawn (head.Some a) t (x ∷ []) k e q h u d = other t _ h.1.1.0 (λ z. z) d
+  head_drawn head.AllMemory t (x ∷ []) k e q h u d = other t _ h.1.0 (λ z. z) d
+  head_drawn head.SomeMemory t (x ∷ []) k e q h u d = other t _ h.1.0 (λ z. z) d
+  head_drawn (head.AllModule b) t (x ∷ []) k e q h u d = other t _ h.1.0 (λ z. z) d
+  head_drawn head.Mu t (x ∷ y ∷ []) k e q h u d = other t _ h.2 (λ z. z) d
+  head_drawn (head.Sum n) t (x ∷ []) k e q h u d = other t _ h.1.1.0 (λ z. z) d
+  head_drawn (head.Weights ps) t [] k e q h u d = h.2
+  head_drawn head.Map t (x ∷ y ∷ []) k e q h u d = k.0 h.0
+  head_drawn head.Restrict t (x ∷ y ∷ []) k e q h u d = and_from _ _ (restricting r u) (k.0 (subst IsDistributionType (sym h.1) d))
+  head_drawn (head.Pr p z) t xs k e q h u d = other t _ h.2 (λ z. z) d
+  head_drawn (head.Glob (named a) z) t [] k e q h u d = other t _ h.1 (λ z. z) d
+  head_drawn (head.Glob _ z) t [] k e q h u d = absurd h.1
+  head_drawn (head.Hoare b) t (x ∷ y ∷ []) k e q h u d = other t _ h.1.1.0 (λ z. z) d
+  head_drawn (head.Phoare b z) t (x ∷ y ∷ w ∷ []) k e q h u d = other t _ h.0.1.1.0 (λ z. z) d
+  head_drawn (head.Equiv a b) t (x ∷ y ∷ []) k e q h u d = other t _ h.1.1.0 (λ z. z) d
+  head_drawn _ t xs k e q h u d = absurd h
 
   abbrev row_pairs : {n : Count} → Row_of-Term n → List (Ty × Bool)
   row_pairs end_of-Term = []
-  row_pairs (more_of-Term t ts) = (type_of t, draws g (drawing c) t) ∷ row_pairs ts
+  row_pairs (more_of-Term t ts) = (type_of t, draws g (drawing_with r c) t) ∷ row_pairs ts
 
   row_tys : {n : Count} (ts : Row_of-Term n) → types_of ts ≡ tys (row_pairs ts)
   row_tys end_of-Term = refl
   row_tys (more_of-Term t ts) = ap (λ z. type_of t ∷ z) (row_tys ts)
 
-  row_bs : {n : Count} (ts : Row_of-Term n) → bs (row_pairs ts) ≡ each_draws g (drawing c) ts
+  row_bs : {n : Count} (ts : Row_of-Term n) → bs (row_pairs ts) ≡ each_draws g (drawing_with r c) ts
   row_bs end_of-Term = refl
-  row_bs (more_of-Term t ts) = ap (λ z. draws g (drawing c) t ∷ z) (row_bs ts)
+  row_bs (more_of-Term t ts) = ap (λ z. draws g (drawing_with r c) t ∷ z) (row_bs ts)
 
   mutual
-    term_drawn : (t : Term) (e : Context) → e.operator ≡ c.operator → IsTyped e t → IsDistributionType (type_of t) → draws g (drawing c) t ≡ true
-    term_drawn (Term' b (more_of-Head h end_of-Head) n ts t) e q w d =
-        ap (head_draws g (drawing c) h t) (sym (row_bs ts))
-        ∙ head_drawn h t (row_pairs ts) (row_known ts e (inner e h (types_of ts)) q q w.1) e q (subst (λ z. IsHead e h z t) (row_tys ts) w.0) d
+    pub term_drawn : (t : Term) (e : Context) → e.operator ≡ c.operator → IsTyped e t → (r ≡ false → IsUnrestricted t) → IsDistributionType (type_of t) →
+        draws g (drawing_with r c) t ≡ true
+    term_drawn (Term' b (more_of-Head h end_of-Head) n ts t) e q w u d =
+        ap (head_draws g (drawing_with r c) h t) (sym (row_bs ts))
+        ∙ head_drawn h t (row_pairs ts) (row_known ts e (inner e h (types_of ts)) q q w.1 (λ z. (u z).1)) e q (subst (λ z. IsHead e h z t) (row_tys ts) w.0) (λ z. (u z).0) d
 
-    row_known : {n : Count} (ts : Row_of-Term n) (e f : Context) → e.operator ≡ c.operator → f.operator ≡ c.operator → AreTyped e f ts → Known (row_pairs ts)
-    row_known end_of-Term e f q r w = tt
-    row_known (more_of-Term t end_of-Term) e f q r w = (term_drawn t f r w, tt)
-    row_known (more_of-Term t (more_of-Term u ts)) e f q r w = (term_drawn t e q w.0, row_known (more_of-Term u ts) e f q r w.1)
+    row_known : {n : Count} (ts : Row_of-Term n) (e f : Context) → e.operator ≡ c.operator → f.operator ≡ c.operator → AreTyped e f ts →
+        (r ≡ false → AreUnrestricted ts) → Known (row_pairs ts)
+    row_known end_of-Term e f q o w u = tt
+    row_known (more_of-Term t end_of-Term) e f q o w u = (term_drawn t f o w (λ z. (u z).0), tt)
+    row_known (more_of-Term t (more_of-Term y ts)) e f q o w u = (term_drawn t e q w.0 (λ z. (u z).0), row_known (more_of-Term y ts) e f q o w.1 (λ z. (u z).1))
 
+module _ (c : Context) (g : Setting) (i : IsSettingOf c g) where
   -- a well-typed term of a type of distributions is a distribution or a sub-distribution in each state
   pub typed_distribution : (t : Term) (e : Context) → e.operator ≡ c.operator → IsTyped e t → IsDistributionType (type_of t) → IsDistribution g t
-  typed_distribution t e q w d = draws_distribution g (drawing c) i.distributions t (term_drawn t e q w d)
+  typed_distribution t e q w d = draws_distribution g (drawing c) i.distributions t (term_drawn c g true i.inhabited t e q w (λ z. absurd (false≢true (sym z))) d)
+
+  -- of full weight, where nothing restricts
+  pub typed_full : OperatorsDraw g (drawing_with false c) → (t : Term) → IsTyped c t → IsUnrestricted t → IsDistributionType (type_of t) → IsFull g t
+  typed_full o t w u d = draws_full g (drawing_with false c) o refl t (term_drawn c g false i.inhabited t c refl w (λ z. u) d)

@@ -4,3 +4,6 @@ pub mod Maps
 pub mod Operated
 pub mod Drawn
 pub mod Terms
+pub mod Running
+pub mod Nodes
+pub mod Constructors

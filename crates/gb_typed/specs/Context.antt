@@ -4,6 +4,9 @@ use Rattle.gb_core.specs.declared.ty.Ty.{Ty}
 use Rattle.gb_core.specs.declared.ty.Ty.TheVariants as ty
 use Rattle.gb_core.specs.declared.value.Value.{Value}
 use Rattle.gb_terms.specs.declared.module.ProcRef.{ProcRef}
+use Rattle.gb_terms.specs.declared.term.Term.{Term, Term', Row_of-Term, end_of-Term, more_of-Term, end_of-Head, more_of-Head}
+use Rattle.gb_terms.specs.declared.term.Head.{Head}
+use Rattle.gb_terms.specs.declared.term.Head.TheVariants.{Restrict}
 use Rattle.gb_meaning.specs.Names.{Name}
 use Rattle.gb_meaning.specs.Memory.{Memory}
 use Rattle.gb_meaning.specs.Terms.{Speaks}
@@ -31,9 +34,26 @@ abbrev pub gives_distributions : Option OperatorType → Bool
 gives_distributions (Some o) = is_of_distributions o.result
 gives_distributions None = false
 
--- sub-distributions, with those operators of the script that give distributions by their types
+-- trees with those operators of the script that give distributions by their types, and with or without `drestrict`
+abbrev pub drawing_with : Bool → Context → Drawing
+drawing_with restricts c = record { restricts = restricts; operators = λ n. gives_distributions (c.operator n) }
+
+-- the trees of sub-distributions
 abbrev pub drawing : Context → Drawing
-drawing c = record { restricts = true; operators = λ n. gives_distributions (c.operator n) }
+drawing c = drawing_with true c
+
+abbrev pub IsUnrestrictedHead : Head → Type 0
+IsUnrestrictedHead Restrict = ⊥
+IsUnrestrictedHead _ = Unit {0}
+
+abbrev mutual
+  -- no `drestrict` stands in the term
+  pub IsUnrestricted : Term → Type 0
+  IsUnrestricted (Term' b (more_of-Head h end_of-Head) n ts t) = IsUnrestrictedHead h × AreUnrestricted ts
+
+  pub AreUnrestricted : {n : _} → Row_of-Term n → Type 0
+  AreUnrestricted end_of-Term = Unit {0}
+  AreUnrestricted (more_of-Term t ts) = IsUnrestricted t × AreUnrestricted ts
 
 -- The types have values; each operator of the script gives, from arguments of its types, a result of its type, and one
 -- that gives distributions gives weights over its denominator.

@@ -152,3 +152,9 @@ abbrev mutual
   AreTyped c d end_of-Term = Unit {0}
   AreTyped c d (more_of-Term t end_of-Term) = IsTyped d t
   AreTyped c d (more_of-Term t (more_of-Term u ts)) = IsTyped c t × AreTyped c d (more_of-Term u ts)
+
+-- The same of lists: arguments, the last of which has a context of its own.
+abbrev pub AllTyped : Context → Context → List Term → Type 0
+AllTyped c d [] = Unit {0}
+AllTyped c d (t ∷ []) = IsTyped d t
+AllTyped c d (t ∷ u ∷ ts) = IsTyped c t × AllTyped c d (u ∷ ts)

@@ -1,0 +1,18 @@
+//! Terms that are well typed, and terms that aren't.
+
+ghost use Rattle.gb_core.specs.declared.ty.Ty.TheVariants as ty;
+ghost use Rattle.gb_terms.specs.declared.op.Op.TheVariants as op;
+ghost use Rattle.gb_typed.specs.Typing.{Context, IsTyped};
+ghost use Rattle.gb_typed.specs.Examples.{within, innermost, doubled, coin_measure};
+
+/// `b /\ b` is well typed for b of type `bool`, and `b + b` isn't.
+pub fn operators()
+    ensures conjunction { (c : Context) → IsTyped (within c ty.Bool) (doubled op.And ty.Bool ty.Bool) }
+    ensures sum { (c : Context) → IsTyped (within c ty.Bool) (doubled op.Plus ty.Bool ty.Bool) → ⊥ }
+{}
+
+/// `mu {0,1} (fun b => b)` is well typed; with an event that reads a real it isn't.
+pub fn measures()
+    ensures event { (c : Context) → IsTyped c (coin_measure (innermost ty.Bool)) }
+    ensures real { (c : Context) → IsTyped c (coin_measure (innermost ty.Real)) → ⊥ }
+{}
