@@ -11,3 +11,5 @@ pub mod Judged
 pub mod Forms
 pub mod Agreeing
 pub mod Shapes
+pub mod Using
+pub mod Writing

@@ -29,10 +29,10 @@ use mathlib.Core.Former.{Count}
 next : (k : ℕ) → k + 1 ≡ suc k
 next k = omega arith
 
-index_zero : (k : ℕ) → index_raised (k + 1) 0 ≡ 0
+pub index_zero : (k : ℕ) → index_raised (k + 1) 0 ≡ 0
 index_zero k = ap (λ z. if nat_le z 0 then 0 + 1 else 0) (next k) ∙ ap (λ b. if b then 0 + 1 else 0) (leb-suc-zero k)
 
-index_suc : (k i : ℕ) → index_raised (k + 1) (suc i) ≡ suc (index_raised k i)
+pub index_suc : (k i : ℕ) → index_raised (k + 1) (suc i) ≡ suc (index_raised k i)
 index_suc k i = ap (λ z. if nat_le z (suc i) then suc i + 1 else suc i) (next k) ∙ ap (λ b. if b then suc i + 1 else suc i) (leb-suc-suc k i) ∙ step (nat_le k i)
   where
     step : (b : Bool) → (if b then suc i + 1 else suc i) ≡ suc (if b then i + 1 else i)

@@ -4,3 +4,5 @@ pub mod Lifted
 pub mod Uses
 pub mod Led
 pub mod Agree
+pub mod Fit
+pub mod Written

@@ -1,19 +1,15 @@
 //! A term means the same in states that agree on what it uses.
 
-ghost use Rattle.std.specs.Prelude.{◌≡◌, [], ◌∷◌};
-ghost use Rattle.gb_terms.specs.declared.op.Side.TheVariants.{Left, Right, Bound};
+ghost use Rattle.std.specs.Prelude.{◌≡◌};
 ghost use Rattle.gb_terms.specs.declared.term.Term.{Term};
-ghost use Rattle.gb_walk.specs.declared.change.Change.TheVariants.{ToSide};
-ghost use Rattle.gb_meaning.specs.Memory.{Memory};
 ghost use Rattle.gb_meaning.specs.Setting.{Setting};
-ghost use Rattle.gb_meaning.specs.State.{State, under, between};
-ghost use Rattle.gb_meaning.specs.State.Binding.{memory};
+ghost use Rattle.gb_meaning.specs.State.{State};
 ghost use Rattle.gb_meaning.specs.Terms.{Speaks, val};
 ghost use Rattle.gb_meaning.specs.Judgments.{Judge, IsFair, speaking, IsSoundForm};
 ghost use Rattle.gb_changes.specs.Formed.{IsFormed};
 ghost use Rattle.gb_changes.specs.Plain.{IsPlain};
-ghost use Rattle.gb_changes.specs.Uses.{Uses, IsWithin, besides_own, besides_sides, every_use, unbound};
-ghost use Rattle.gb_changes.specs.Led.{IgnoresOwn, IgnoresSides, Led};
+ghost use Rattle.gb_changes.specs.Uses.{Uses, IsWithin, besides_own, besides_sides, every_use};
+ghost use Rattle.gb_changes.specs.Led.{IgnoresOwn, IgnoresSides};
 ghost use Rattle.gb_changes.specs.Agree.{Agree};
 
 /// The meaning of a term depends on what it uses alone, memory by memory and type by type.
@@ -29,13 +25,4 @@ pub fn ignored_memories()
     ensures own { (g : Setting) (j : Speaks) (t : Term) → IsFormed t → IsPlain t → IsWithin (besides_own every_use) t → IgnoresOwn g j t }
     ensures sides { (g : Setting) (j : Speaks) (t : Term) → IsFormed t → IsPlain t → IsWithin (besides_sides every_use) t →
         IgnoresSides g j t }
-{}
-
-/// Where reads of a side go to the memory that the innermost binder binds, the changes lead to the state in which this memory
-/// is that side.
-pub fn bound_sides()
-    ensures left { (g : Setting) (j : Speaks) (s : State) (m : Memory) →
-        Led g j (ToSide Left (Bound 0) ∷ []) unbound (under s (memory m)) (between s m s.right) }
-    ensures right { (g : Setting) (j : Speaks) (s : State) (m : Memory) →
-        Led g j (ToSide Right (Bound 0) ∷ []) unbound (under s (memory m)) (between s s.left m) }
 {}

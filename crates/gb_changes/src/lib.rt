@@ -3,5 +3,6 @@
 
 pub mod agree_laws;
 pub mod change_laws;
+pub mod lead_laws;
 pub mod raise_laws;
 pub mod shape_laws;
