@@ -1,5 +1,5 @@
 -- Settings that agree on names agree on what these names stand in.
-use Rattle.std.proofs.Common.{◌≡◌, List, [], ◌∷◌, Option, Some, None, refl, ap, sym, ◌∙◌}
+use Rattle.std.proofs.Common.{◌≡◌, List, [], ◌∷◌, Option, Some, None, refl, ap, ◌∙◌}
 use mathlib.Core.Former.{Count}
 use Rattle.gb_core.specs.declared.ty.Ty.{Ty, Row_of-Ty, end_of-Ty, more_of-Ty}
 use Rattle.gb_core.specs.declared.ty.Ty.TheVariants as ty
@@ -17,7 +17,7 @@ use Rattle.gb_terms.specs.declared.term.Head.TheVariants as head
 use Rattle.gb_terms.specs.declared.term.Head.TheVariants.{Proc, Body', Assign, Sample, Call', If', While'}
 use Rattle.gb_terms.specs.declared.term.Subject.{Subject}
 use Rattle.gb_meaning.specs.Names.{Name}
-use Rattle.gb_meaning.specs.Values.{Types, values, values_by, all_values_by, boxed_values_by, footprint_values}
+use Rattle.gb_meaning.specs.Values.{values_by, all_values_by, boxed_values_by, footprint_values}
 use Rattle.gb_meaning.specs.Operators.{outcome_type, key_type, only_type}
 use Rattle.gb_meaning.specs.Program.{Program, Routine}
 use Rattle.gb_meaning.specs.Program.Program.{done, assign, sample, branch, loop, call, ask}
@@ -136,7 +136,7 @@ module _ (P : Name → Type 0) where
     procedure-agrees p e = (agree.procedures p e.0, there-agrees (g.procedure p) e.1)
 
     mutual
-      call-agrees : (i : Instr) → EachCall (λ p. EachName P p.«module») i → EachCall (λ p. g.procedure p ≡ h.procedure p) i
+      pub call-agrees : (i : Instr) → EachCall (λ p. EachName P p.«module») i → EachCall (λ p. g.procedure p ≡ h.procedure p) i
       call-agrees (Assign xs t) e = tt
       call-agrees (Sample x d) e = tt
       call-agrees (Call' xs p n es) e = agree.procedures p e

@@ -1,5 +1,5 @@
 -- A setting agrees with the one of further modules on all names but theirs.
-use Rattle.std.proofs.Common.{◌≡◌, ℕ, Bool, true, false, ◌&&◌, if◌then◌else◌, List, [], ◌∷◌, ◌++◌, map, filter, Option, Some, None, bytes_eq, refl, ap, sym, ◌∙◌, subst}
+use Rattle.std.proofs.Common.{◌≡◌, ℕ, Bool, true, false, ◌&&◌, if◌then◌else◌, List, [], ◌∷◌, ◌++◌, map, bytes_eq, refl, ap, sym, ◌∙◌, subst}
 use Rattle.std.proofs.Math.Path.{fun_ext}
 use Rattle.std.specs.declared.cmp.Ordering.{Ordering}
 use Rattle.std.specs.declared.cmp.Ordering.TheVariants.{Less, Equal, Greater}
@@ -9,7 +9,6 @@ use Rattle.gb_core.specs.declared.ty.Ty.TheVariants as ty
 use Rattle.gb_core.specs.declared.value.Value.{Value}
 use Rattle.gb_core.specs.declared.var.Var.{Var}
 use Rattle.gb_core.specs.declared.var.Var.TheVariants as var
-use Rattle.gb_terms.specs.declared.decl.Proc.{Proc}
 use Rattle.gb_terms.specs.declared.module.Mexp.{Mexp}
 use Rattle.gb_terms.specs.declared.module.ProcRef.{ProcRef}
 use Rattle.gb_terms.specs.declared.term.Instr.{Instr, Row_of-Instr, end_of-Instr, more_of-Instr}
@@ -22,18 +21,18 @@ use Rattle.gb_meaning.specs.Values.{Global, World, Types, values_by, footprint_v
 use Rattle.gb_meaning.specs.Program.{Routine}
 use Rattle.gb_meaning.specs.Program.Routine.{routine}
 use Rattle.gb_meaning.specs.Setting.{Setting, Meaning}
-use Rattle.gb_meaning.specs.Terms.{val, quiet, denominator}
+use Rattle.gb_meaning.specs.Terms.{val, quiet}
 use Rattle.gb_holds.specs.Declared.{Declarations, Declaration, abstract_type, operator, abstract_operator, module_type, concrete_module, abstract_module, axiom_of, lemma, terminating}
 use Rattle.gb_holds.specs.Modules.{Reading, no_module, modules_of, module_at, found}
 use Rattle.gb_holds.specs.Linking.{calling, linked_procedure}
-use Rattle.gb_holds.specs.Footprints.{placed, inserted, in_order, of_all, var_order, global_order, globals_named, entry_globals, entries_globals, footprint_read, footprint_globals}
+use Rattle.gb_holds.specs.Footprints.{placed, inserted, in_order, of_all, var_order, global_order, globals_named, entries_globals, footprint_read, footprint_globals}
 use Rattle.gb_holds.specs.Typing.{IsPlain, ArePlain}
 use Rattle.gb_holds.specs.Settings.{Interpretation, types_of, bare, at_arguments, with_declaration, with_operators, setting}
 use Rattle.gb_holds.specs.Holds.{HaveVariableTypes, interpretation}
 use Rattle.gb_holds.specs.Naming.{EachName, EachCall, EachCallIn, EachCallOf, IsFresh}
 use Rattle.gb_holds.proofs.Later.{later, same_body}
 use Rattle.gb_later.specs.Agreement.{SameValues, SameGlobals}
-use Rattle.gb_later.specs.Naming.{EachGlob, EachGlobIn, AgreeOn, IsModuleOrStatement, AreModulesOrStatements, OperatorNames, OperatorsName}
+use Rattle.gb_later.specs.Naming.{EachGlob, EachGlobIn, AgreeOn, AreModulesOrStatements, OperatorNames, OperatorsName}
 use Rattle.gb_later.proofs.SameTerms.{term_same, denominator_same}
 use Rattle.gb_later.proofs.Agreeing.{values_named, term_agrees}
 
@@ -145,7 +144,7 @@ module _ (P : Name → Type 0) (i : Interpretation) where
       AgreeOn P (with_declaration i g n d) (with_declaration i h n d)
   declaration-agrees g h a n (operator o) e =
       let f : ◌≡◌ {A = List Meaning → Meaning} (λ xs. val g quiet o.body (at_arguments xs)) (λ xs. val h quiet o.body (at_arguments xs)) =
-          fun_ext (λ xs. term_same g h o.body (term_agrees P g h a o.body e) (at_arguments xs)) in
+      fun_ext (λ xs. term_same g h o.body (term_agrees P g h a o.body e) (at_arguments xs)) in
       record {
         sizes = a.sizes;
         footprints = a.footprints;
@@ -189,8 +188,11 @@ module _ (ds es : Declarations) (s : AreModulesOrStatements es) (e : OperatorsNa
   bare-agree : AgreeOn (IsFresh es) (bare (types_of ds k)) (bare (types_of (ds ++ es) k))
   bare-agree = record {
     sizes = refl;
-    footprints = λ m f. (same-footprint m f, plain-globals (types_of ds k) (types_of (ds ++ es) k) refl ((types_of ds k).footprint m)
-        (plain_footprint w (plain_world (types_of ds k) w h) (in_order var_order (of_all (module_at (modules_of footprint_read (λ n. no_module) ds) m [])))));
+    footprints = λ m f. (
+      same-footprint m f,
+      plain-globals (types_of ds k) (types_of (ds ++ es) k) refl ((types_of ds k).footprint m)
+          (plain_footprint w (plain_world (types_of ds k) w h) (in_order var_order (of_all (module_at (modules_of footprint_read (λ n. no_module) ds) m [])))),
+    );
     operators = λ n f. (refl, refl);
     procedures = λ p f. refl;
   }

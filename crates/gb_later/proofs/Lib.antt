@@ -4,3 +4,6 @@ pub mod SameForms
 pub mod Agreeing
 pub mod LaterSetting
 pub mod Sequents
+pub mod LemmasOfScopes
+pub mod SameLoops
+pub mod ProvedLoops

@@ -1,10 +1,9 @@
 -- Forms are true alike in settings that agree on what they name.
-use Rattle.std.proofs.Common.{◌≡◌, ◌<◌, ◌≤◌, Bool, true, ◌↔◌, List, [], ◌∷◌, Option, Some, None, refl, ap, sym, ◌∙◌, subst}
+use Rattle.std.proofs.Common.{◌≡◌, ◌<◌, ◌≤◌, Bool, true, ◌↔◌, List, ◌∷◌, Option, Some, None, refl, ap, sym, ◌∙◌, subst}
 use Rattle.std.proofs.Math.Path.{fun_ext}
 use mathlib.Core.Former.{Count}
 use Rattle.gb_core.specs.declared.value.Value.{Value}
 use Rattle.gb_terms.specs.declared.module.ProcRef.{ProcRef}
-use Rattle.gb_terms.specs.declared.op.Rel.{Rel}
 use Rattle.gb_terms.specs.declared.term.Term.{Term, Term', Row_of-Term, end_of-Term, more_of-Term, end_of-Head, more_of-Head}
 use Rattle.gb_terms.specs.declared.term.Head.{Head}
 use Rattle.gb_terms.specs.declared.term.Head.TheVariants as head
@@ -22,8 +21,8 @@ use Rattle.gb_meaning.specs.Setting.{Setting}
 use Rattle.gb_meaning.specs.Meanings.{truth, fraction_in}
 use Rattle.gb_meaning.specs.State.{State, at, between}
 use Rattle.gb_meaning.specs.Sound.{IsDistribution, IsSound, IsSoundRoutine}
-use Rattle.gb_meaning.specs.Terms.{Part, Speaks, at_head, val, parts, denominator}
-use Rattle.gb_meaning.specs.Runs.{out, outcomes, run_denominator, routine_denominator, parameter_values}
+use Rattle.gb_meaning.specs.Terms.{Part, at_head, val, parts}
+use Rattle.gb_meaning.specs.Runs.{out, outcomes, run_denominator, parameter_values}
 use Rattle.gb_meaning.specs.Commands.{program_of, IsThere, CallsAreThere}
 use Rattle.gb_meaning.specs.Judgments.{Judge, IsFair, speaking, outcomes_of, outcome_denominator, chance, probability, from_frame, run_of, subject_denominator, compares, Holds, part, stands_at, is_judged_at, IsSoundIfThere, IsSoundSubject, is_sound_at, IsSoundForm, AllSound, IsTrueIn}
 use Rattle.gb_judge.proofs.Bools.{same_truth}

@@ -1,13 +1,13 @@
 -- Programs have the same runs in settings that agree on what they name.
-use Rattle.std.proofs.Common.{◌≡◌, ℕ, ◌*◌, ◌^◌, ◌-◌, min, Bool, if◌then◌else◌, List, [], ◌∷◌, map, Option, Some, None, refl, ap, sym, ◌∙◌, subst}
+use Rattle.std.proofs.Common.{◌≡◌, ◌*◌, ◌^◌, ◌-◌, min, Bool, if◌then◌else◌, List, [], ◌∷◌, map, refl, ap, ◌∙◌}
 use Rattle.std.proofs.Math.Path.{fun_ext}
 use Rattle.gb_core.specs.declared.value.Value.{Value}
 use Rattle.gb_core.specs.declared.var.Var.{Var}
 use Rattle.gb_core.specs.declared.var.Var.TheVariants as var
-use Rattle.gb_types.specs.Numbering.{Numbering, parts_of}
+use Rattle.gb_types.specs.Numbering.{parts_of}
 use Rattle.gb_terms.specs.declared.decl.TypedName.{TypedName}
 use Rattle.gb_terms.specs.declared.term.Term.{Term}
-use Rattle.gb_coupling.specs.WeightedList.{WeightedList, unit, bind, dmap, scale}
+use Rattle.gb_coupling.specs.WeightedList.{WeightedList, bind, dmap, scale}
 use Rattle.gb_meaning.specs.Names.{Map, set, get}
 use Rattle.gb_meaning.specs.Values.{Types}
 use Rattle.gb_meaning.specs.Memory.{Memory, assigned, write, write_each, write_globals, first_values, arguments, outcome, result_in, read_local}
@@ -17,9 +17,9 @@ use Rattle.gb_meaning.specs.Program.Routine.{routine}
 use Rattle.gb_meaning.specs.Setting.{Setting}
 use Rattle.gb_meaning.specs.Meanings.{value_in, number_in, truth, weights_in}
 use Rattle.gb_meaning.specs.State.{State, inside, closed}
-use Rattle.gb_meaning.specs.Terms.{denominator, distribution}
-use Rattle.gb_meaning.specs.Runs.{most_turns, valued, is_true, variant_value, turns_at, turns, run_denominator, routine_denominator, new_frame, returned, out, outcomes, parameter_values}
-use Rattle.gb_later.specs.Agreement.{SameValues, SameLocals, SameWritten, AreWritten, SameTerm, AreSameTerms, SameProgram, SameRoutine}
+use Rattle.gb_meaning.specs.Terms.{distribution}
+use Rattle.gb_meaning.specs.Runs.{most_turns, valued, is_true, turns_at, turns, run_denominator, routine_denominator, new_frame, returned, out, outcomes}
+use Rattle.gb_later.specs.Agreement.{SameLocals, SameWritten, AreWritten, SameTerm, AreSameTerms, SameProgram, SameRoutine}
 use Rattle.gb_later.proofs.SameTerms.{fit_same, term_same, denominator_same}
 
 module _ (t u : Types) where
@@ -53,7 +53,7 @@ module _ (g h : Setting) where
     valued_same : (e : Term) → SameTerm g h e → (m : Memory) → valued g s e m ≡ valued h s e m
     valued_same e k m = ap value_in (term_same g h e k (inside s m))
 
-    guard_same : (e : Term) → SameTerm g h e → (m : Memory) → is_true g s e m ≡ is_true h s e m
+    pub guard_same : (e : Term) → SameTerm g h e → (m : Memory) → is_true g s e m ≡ is_true h s e m
     guard_same e k m = ap truth (term_same g h e k (inside s m))
 
     turns_same : (v : Term) → SameTerm g h v → (m : Memory) → turns_at g s v m ≡ turns_at h s v m
@@ -103,16 +103,16 @@ module _ (g h : Setting) where
     run_same s (call xs r es c) k m =
         let rest : ◌≡◌ {A = Memory → WeightedList Memory} (λ n. out g s c n) (λ n. out h s c n) = fun_ext (run_same s c k.3) in
         let ends : outcomes g r (map (λ e. valued g s e m) es) m.globals ≡ outcomes h r (map (λ e. valued h s e m) es) m.globals =
-            outcomes_same r k.1 (map (λ e. valued g s e m) es) m.globals ∙ ap (λ vs. outcomes h r vs m.globals) (arguments_same s es k.2 m) in
+        outcomes_same r k.1 (map (λ e. valued g s e m) es) m.globals ∙ ap (λ vs. outcomes h r vs m.globals) (arguments_same s es k.2 m) in
         λ i. bind (dmap (returned_same xs k.0 m i) (ends i)) (rest i)
     run_same s (ask xs o es c) k m = run_same s c k m
 
     pub outcomes_same : (r : Routine) → SameRoutine g h r → (vs : List Value) (globals : Map) → outcomes g r vs globals ≡ outcomes h r vs globals
     outcomes_same (routine ps ls c r) k vs globals =
         let last : ◌≡◌ {A = Memory → Memory} (λ n. outcome n.globals (valued g closed r n)) (λ n. outcome n.globals (valued h closed r n)) =
-            fun_ext (λ n i. outcome n.globals (valued_same closed r k.3 n i)) in
+        fun_ext (λ n i. outcome n.globals (valued_same closed r k.3 n i)) in
         let start : ◌≡◌ {A = Memory} (record { globals = globals; frame = new_frame g ps ls vs }) (record { globals = globals; frame = new_frame h ps ls vs }) =
-            λ i. record { globals = globals; frame = arguments (first_same g.types h.types ls k.1 i) ps vs } in
+        λ i. record { globals = globals; frame = arguments (first_same g.types h.types ls k.1 i) ps vs } in
         let body : out g closed c (record { globals = globals; frame = new_frame g ps ls vs }) ≡ out h closed c (record { globals = globals; frame = new_frame h ps ls vs }) =
-            run_same closed c k.2 (record { globals = globals; frame = new_frame g ps ls vs }) ∙ ap (out h closed c) start in
+        run_same closed c k.2 (record { globals = globals; frame = new_frame g ps ls vs }) ∙ ap (out h closed c) start in
         λ i. dmap (last i) (body i)

@@ -1,5 +1,5 @@
 -- Terms mean the same in settings that agree on what they name.
-use Rattle.std.proofs.Common.{◌≡◌, ℕ, Bool, if◌then◌else◌, List, [], ◌∷◌, map, Option, Some, None, refl, ap, sym, ◌∙◌}
+use Rattle.std.proofs.Common.{◌≡◌, ℕ, if◌then◌else◌, List, [], ◌∷◌, map, Option, Some, None, refl, ap, ◌∙◌}
 use Rattle.std.proofs.Math.Path.{fun_ext}
 use mathlib.Core.Former.{Count}
 use Rattle.gb_core.specs.declared.ty.Ty.{Ty}
@@ -12,22 +12,20 @@ use Rattle.gb_terms.specs.declared.op.Op.{Op}
 use Rattle.gb_terms.specs.declared.op.Op.TheVariants as op
 use Rattle.gb_terms.specs.declared.op.Read.TheVariants as read
 use Rattle.gb_terms.specs.declared.module.Mexp.TheVariants.{Name as named}
-use Rattle.gb_terms.specs.declared.module.ProcRef.{ProcRef}
 use Rattle.gb_terms.specs.declared.term.Term.{Term, Term', Row_of-Term, end_of-Term, more_of-Term, end_of-Head, more_of-Head}
 use Rattle.gb_terms.specs.declared.term.Head.{Head}
 use Rattle.gb_terms.specs.declared.term.Head.TheVariants as head
-use Rattle.gb_coupling.specs.WeightedList.{weight}
-use Rattle.gb_meaning.specs.Values.{Global, Types, values, fit}
+use Rattle.gb_meaning.specs.Values.{Global, Types, fit}
 use Rattle.gb_meaning.specs.Names.{get}
 use Rattle.gb_meaning.specs.Memory.{Memory, read_global, read_globals, read as read_var}
 use Rattle.gb_meaning.specs.Setting.{Meaning, Setting}
 use Rattle.gb_meaning.specs.Setting.Meaning.{finite, weights, fraction}
 use Rattle.gb_meaning.specs.Meanings.{of_truth, value_in, truth}
 use Rattle.gb_meaning.specs.Distributions.{uniform}
-use Rattle.gb_meaning.specs.Operators.{Argument, operated, nullary, unary, binary, ternary, denominator_at, entry_set, outcome_type, key_type}
+use Rattle.gb_meaning.specs.Operators.{Argument, operated, nullary, unary, binary, ternary, denominator_at, entry_set}
 use Rattle.gb_meaning.specs.State.{State, memory_of, at}
 use Rattle.gb_meaning.specs.Terms.{Speaks, Part, last_of, before_last, argument, at_value, each_value, some_value, at_head, val, parts, denominator_of, denominator, denominators, quiet}
-use Rattle.gb_later.specs.Agreement.{SameValues, SameType, SameGlobals, SameFootprint, SameRead, SameOperator, SameLeaf, SameTerm, SameTerms, AreSameTerms}
+use Rattle.gb_later.specs.Agreement.{SameValues, SameType, SameGlobals, SameRead, SameLeaf, SameTerm, SameTerms}
 
 module _ (t u : Types) where
   pub fit_same : (ty : Ty) → SameValues t u ty → (o : Option Value) → fit t ty o ≡ fit u ty o

@@ -1,19 +1,17 @@
 -- Sequents that name none of the modules that are added are true alike, and go on to hold.
-use Rattle.std.proofs.Common.{◌≡◌, ℕ, ◌<◌, true, ◌↔◌, List, [], ◌∷◌, ◌++◌, map, refl, ap, sym, ◌∙◌, subst}
-use Rattle.gb_core.specs.declared.ty.Ty.{Ty}
+use Rattle.std.proofs.Common.{◌≡◌, ℕ, ◌<◌, true, ◌↔◌, List, [], ◌∷◌, ◌++◌, map, refl, sym, subst}
 use Rattle.gb_core.specs.declared.value.Value.{Value}
 use Rattle.gb_types.specs.Numbering.{Numbering}
 use Rattle.gb_terms.specs.declared.decl.TypedName.{TypedName}
-use Rattle.gb_terms.specs.declared.module.Bind.{Bind}
 use Rattle.gb_terms.specs.declared.term.Term.{Term}
 use Rattle.gb_goal.specs.declared.sequent.Hyp.{Hyp}
 use Rattle.gb_goal.specs.declared.sequent.Sequent.{Sequent}
 use Rattle.gb_meaning.specs.Names.{Name}
-use Rattle.gb_meaning.specs.Values.{Global, World, Types, values}
+use Rattle.gb_meaning.specs.Values.{Global, World, Types}
 use Rattle.gb_meaning.specs.Memory.{Memory}
-use Rattle.gb_meaning.specs.Setting.{Setting, Meaning}
+use Rattle.gb_meaning.specs.Setting.{Meaning}
 use Rattle.gb_meaning.specs.State.{State}
-use Rattle.gb_holds.specs.Declared.{Declarations, Declaration, abstract_type, operator, abstract_operator, module_type, concrete_module, abstract_module, axiom_of, lemma, terminating}
+use Rattle.gb_holds.specs.Declared.{Declarations, abstract_type, operator, abstract_operator, module_type, concrete_module, abstract_module, axiom_of, lemma, terminating}
 use Rattle.gb_holds.specs.Truth.{Truth}
 use Rattle.gb_holds.specs.Programs.{AreIn}
 use Rattle.gb_holds.specs.Settings.{Interpretation, types_of, setting, globals_from, declared_globals}
@@ -22,7 +20,7 @@ use Rattle.gb_holds.specs.Naming.{IsFresh}
 use Rattle.gb_holds.proofs.Fronts.{without_modules}
 use Rattle.gb_holds.proofs.SettingTypes.{setting-types}
 use Rattle.gb_later.specs.Agreement.{SameLocals}
-use Rattle.gb_later.specs.Naming.{EachGlobOf, AgreeOn, AreModulesOrStatements, OperatorsName}
+use Rattle.gb_later.specs.Naming.{AgreeOn, AreModulesOrStatements, OperatorsName}
 use Rattle.gb_later.specs.Apart.{IsApart, AreApart, IsApartSequent}
 use Rattle.gb_later.proofs.SameForms.{truth_same}
 use Rattle.gb_later.proofs.Agreeing.{locals_agree, form_agrees}
@@ -116,13 +114,13 @@ known-front w ((n, abstract_module b) ∷ ds) es s h = absurd s.0
 known-front w ((n, axiom_of q) ∷ ds) es s h = absurd s.0
 
 -- what holds of modules and statements: no operator, no axiom and no abstract module is among them
-record Closed (ds : Declarations) : Type 1 where
+pub record Closed (ds : Declarations) : Type 1 where
   pub operators : (P : Name → Type 0) → OperatorsName P ds
   pub results : (t : Types) (table : Name → List Value → Meaning) → GiveResults ds t table
   pub axioms : (all : Declarations) (i : Interpretation) → AxiomsAreTrue all ds i
   pub modules : declared_modules ds ≡ []
 
-closed : (ds : Declarations) → AreModulesOrStatements ds → Closed ds
+pub closed : (ds : Declarations) → AreModulesOrStatements ds → Closed ds
 closed [] s = record { operators = λ P. tt; results = λ t table. tt; axioms = λ all i. tt; modules = refl }
 closed ((n, concrete_module m) ∷ ds) s = let c = closed ds s.1 in record { operators = λ P. (tt, c.operators P); results = c.results; axioms = c.axioms; modules = c.modules }
 closed ((n, lemma q) ∷ ds) s = let c = closed ds s.1 in record { operators = λ P. (tt, c.operators P); results = c.results; axioms = c.axioms; modules = c.modules }
@@ -143,7 +141,7 @@ types-back t u e [] h = tt
 types-back t u e (x ∷ w) h = ((h.0.0, subst (λ (z : Numbering). 0 < z.size) (plain_values t u e x.ty h.0.0) h.0.1), types-back t u e w h.1)
 
 module _ (ds es : Declarations) (s : AreModulesOrStatements ds) (t : AreModulesOrStatements es) where
-  model-back : (i : Interpretation) → IsModel (ds ++ es) i → IsModel ds i
+  pub model-back : (i : Interpretation) → IsModel (ds ++ es) i → IsModel ds i
   model-back i m = record {
     sizes = m.sizes;
     rising = m.rising;
@@ -157,8 +155,8 @@ module _ (ds es : Declarations) (s : AreModulesOrStatements ds) (t : AreModulesO
   goes_on q e h w size table m =
       let back : IsModel ds (interpretation w size table) = model-back (interpretation w size table) m in
       let apart : IsApartSequent es (setting ds (interpretation w size table)) q =
-          subst (λ bs. EachProgram ds bs (interpretation w size table) (λ i. IsApartSequent es (setting ds i) q)) (closed ds s).modules (e w size table back) in
+      subst (λ bs. EachProgram ds bs (interpretation w size table) (λ i. IsApartSequent es (setting ds i) q)) (closed ds s).modules (e w size table back) in
       let holds : IsTrueSequent ds q (interpretation w size table) =
-          subst (λ bs. EachProgram ds bs (interpretation w size table) (IsTrueSequent ds q)) (closed ds s).modules (h w size table back) in
+      subst (λ bs. EachProgram ds bs (interpretation w size table) (IsTrueSequent ds q)) (closed ds s).modules (h w size table back) in
       subst (λ bs. EachProgram (ds ++ es) bs (interpretation w size table) (IsTrueSequent (ds ++ es) q)) (sym (closed (ds ++ es) (joined ds es s t)).modules)
       ((sequent_alike ds es t ((closed ds s).operators (IsFresh es)) w size table back.types q apart).0 holds)

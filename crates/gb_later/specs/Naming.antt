@@ -8,6 +8,7 @@ use Rattle.gb_terms.specs.declared.decl.TypedName.{TypedName}
 use Rattle.gb_terms.specs.declared.module.Mexp.{Mexp}
 use Rattle.gb_terms.specs.declared.module.ProcRef.{ProcRef}
 use Rattle.gb_terms.specs.declared.op.Read.TheVariants as read
+use Rattle.gb_terms.specs.declared.term.Instr.{Instr}
 use Rattle.gb_terms.specs.declared.term.Term.{Term, Term', Row_of-Term, end_of-Term, more_of-Term, end_of-Head, more_of-Head}
 use Rattle.gb_terms.specs.declared.term.Head.{Head}
 use Rattle.gb_terms.specs.declared.term.Head.TheVariants as head
@@ -18,9 +19,9 @@ use Rattle.gb_meaning.specs.Program.{Program, Routine}
 use Rattle.gb_meaning.specs.Program.Program.{done, assign, sample, branch, loop, call, ask}
 use Rattle.gb_meaning.specs.Program.Routine.{routine}
 use Rattle.gb_meaning.specs.Setting.{Setting}
-use Rattle.gb_meaning.specs.Commands.{program_of}
+use Rattle.gb_meaning.specs.Commands.{program_of, statements}
 use Rattle.gb_holds.specs.Declared.{Declarations, Declaration, operator, concrete_module, lemma, terminating}
-use Rattle.gb_holds.specs.Naming.{EachName, EachCallIn}
+use Rattle.gb_holds.specs.Naming.{EachName, EachCallIn, EachCallOf}
 use Rattle.gb_later.specs.Agreement.{SameFootprint, SameOperator}
 
 abbrev mutual
@@ -97,6 +98,10 @@ NamesIfThere P (Some r) = RoutineNames P r
 -- the names of a reference to a procedure, and those in the procedure that it means
 abbrev pub ProcedureNames : (Name → Type 0) → Setting → ProcRef → Type 0
 ProcedureNames P g p = EachName P p.«module» × NamesIfThere P (g.procedure p)
+
+-- those of a body
+abbrev pub BodyNames : (Name → Type 0) → Setting → List Instr → Type 0
+BodyNames P g is = EachCallOf (λ p. EachName P p.«module») is × ProgramNames P (statements g is)
 
 -- those of what a judgment speaks of
 abbrev pub SubjectNames : (Name → Type 0) → Setting → Subject → Type 0

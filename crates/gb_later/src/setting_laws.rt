@@ -15,7 +15,8 @@ ghost use Rattle.gb_meaning.specs.Judgments.{Judge, IsFair, speaking, IsSoundFor
 ghost use Rattle.gb_holds.specs.Declared.{Declarations};
 ghost use Rattle.gb_holds.specs.Naming.{IsFresh};
 ghost use Rattle.gb_holds.specs.Settings.{Interpretation, types_of, setting};
-ghost use Rattle.gb_holds.specs.Holds.{HaveVariableTypes, interpretation};
+ghost use Rattle.gb_holds.specs.Holds.{LoopsAreGood, HaveVariableTypes, interpretation};
+ghost use Rattle.gb_meaning.specs.Loops.{IsGood};
 ghost use Rattle.gb_later.specs.Agreement.{SameTerm, SameProgram, SameForm};
 ghost use Rattle.gb_later.specs.Naming.{AgreeOn, TermNames, ProgramNames, FormNames, AreModulesOrStatements, OperatorsName};
 
@@ -48,6 +49,14 @@ pub fn names()
     ensures programs { (es : Declarations) (g h : Setting) → AgreeOn (IsFresh es) g h → (c : Program) → ProgramNames (IsFresh es) c →
         SameProgram g h c }
     ensures forms { (es : Declarations) (g h : Setting) → AgreeOn (IsFresh es) g h → (f : Term) → FormNames (IsFresh es) g f → SameForm g h f }
+{}
+
+/// A loop is good in two settings that agree on its guard, its variant and its body, or in none; and so are all loops of a
+/// program.
+pub fn loops()
+    ensures good { (g h : Setting) (s : State) (e v : Term) (a : Program) → SameTerm g h e → SameTerm g h v → SameProgram g h a →
+        IsGood g s e v a → IsGood h s e v a }
+    ensures all { (g h : Setting) (c : Program) → SameProgram g h c → LoopsAreGood g c → LoopsAreGood h c }
 {}
 
 /// The setting of declarations agrees, on all names but those of modules that are added, with the setting in which they are
