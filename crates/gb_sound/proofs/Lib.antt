@@ -1,0 +1,12 @@
+pub mod Within
+pub mod Unread
+pub mod Sides
+pub mod Shapes
+pub mod Equivalences
+pub mod Subgoals
+pub mod Skipped
+pub mod Contexts
+pub mod Quiet
+pub mod Parameters
+pub mod Results
+pub mod Called

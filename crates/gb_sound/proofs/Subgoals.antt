@@ -1,0 +1,28 @@
+-- From the one subgoal of a rule to its goal.
+use Rattle.std.proofs.Common.{List, [], ◌∷◌}
+use Rattle.gb_terms.specs.declared.term.Term.{Term}
+use Rattle.gb_terms.specs.declared.module.Bind.{Bind}
+use Rattle.gb_goal.specs.declared.sequent.Sequent.{Sequent}
+use Rattle.gb_meaning.specs.Setting.{Setting}
+use Rattle.gb_meaning.specs.State.{State}
+use Rattle.gb_holds.specs.Declared.{Declarations}
+use Rattle.gb_holds.specs.Settings.{Interpretation, with_program, setting}
+use Rattle.gb_holds.specs.Truth.{Truth}
+use Rattle.gb_holds.specs.Holds.{EachProgram, IsTrueSequent, Holds, declared_modules, interpretation}
+use Rattle.gb_sound.specs.Ready.{InEachSetting}
+
+-- two facts for all programs give a third
+both : (ds : Declarations) (bs : List Bind) (i : Interpretation) (P Q R : Interpretation → Type 0) → ((k : Interpretation) → P k → Q k → R k) →
+    EachProgram ds bs i P → EachProgram ds bs i Q → EachProgram ds bs i R
+both ds [] i P Q R f x y = f i x y
+both ds (b ∷ bs) i P Q R f x y = λ a w. both ds bs (with_program i b a) P Q R f (x a w) (y a w)
+
+-- A goal holds where another conclusion holds in its context which implies its own in each setting that fulfils a condition.
+pub from_subgoal : (ds : Declarations) (q : Sequent) (f : Term) (C : Setting → Type 0) →
+    ((k : Interpretation) (s : State) → C (setting ds k) → Truth ds f k s → Truth ds q.conclusion k s) →
+    InEachSetting ds q C → Holds ds (record q { conclusion = f }) → Holds ds q
+from_subgoal ds q f C h c given w size table model =
+    both ds (declared_modules ds) (interpretation w size table) (λ i. EachProgram ds q.modules i (λ k. C (setting ds k)))
+    (IsTrueSequent ds (record q { conclusion = f })) (IsTrueSequent ds q)
+    (λ i x y. both ds q.modules i _ _ _ (λ k u v vs typed ms hyps. h k _ u (v vs typed ms hyps)) x y)
+    (c w size table model) (given w size table model)
