@@ -1,6 +1,6 @@
 -- How many assignments there are to the variables of a claim and to those bound in it.
-use Rattle.std.specs.Prelude.{◌^◌, Bool, false, nat_le, max, List, [], ◌∷◌, ◌++◌, map}
-use Rattle.std.specs.List.{flat_map}
+use Rattle.std.specs.Prelude.{◌^◌, Bool, false, ◌&&◌, if◌then◌else◌, nat_le, max, List, [], ◌∷◌, ◌++◌, map}
+use Rattle.std.specs.List.{list_all, flat_map}
 use Rattle.gb_core.specs.declared.ty.Ty.{Ty}
 use Rattle.gb_core.specs.declared.ty.Ty.TheVariants.{Tuple}
 use Rattle.gb_core.specs.declared.value.Card.{Card}
@@ -10,6 +10,7 @@ use Rattle.gb_terms.specs.declared.term.Term.{Term}
 use Rattle.gb_terms.specs.declared.term.Head.{Head}
 use Rattle.gb_terms.specs.declared.term.Head.TheOpen as layer
 use Rattle.gb_terms.specs.declared.term.Head.TheFolds.{fold-Term, fold-Head}
+use Rattle.gb_eval.specs.Known.{is_known}
 use Rattle.gb_smt.specs.declared.claims.Claim.{Claim}
 
 abbrev pub Tys : Type 0
@@ -44,8 +45,16 @@ abbrev pub types_of : Claim → Tys
 types_of c = map (λ v. v.ty) c.variables ++ (flat_map bound_types c.hyps ++ bound_types c.conclusion)
 
 -- the product of their sizes
+abbrev pub assignments_of : Claim → Card
+assignments_of c = card_of (Tuple (types_of c))
+
+-- evaluation knows each part of the claim
+abbrev pub is_known_claim : Claim → Bool
+is_known_claim c = list_all is_known c.hyps && is_known c.conclusion
+
+-- the width of a claim: above, where a part of it is opaque to evaluation
 abbrev pub width_of : Claim → Card
-width_of c = card_of (Tuple (types_of c))
+width_of c = if is_known_claim c then assignments_of c else Above
 
 -- a claim of this width is tried
 abbrev pub is_tried : Card → Bool

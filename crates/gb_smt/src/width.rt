@@ -1,15 +1,15 @@
 // The width of a claim: how many assignments there are to its variables and to those bound in it.
 
-ghost use Rattle.std.specs.Prelude.{◌≡◌, ◌++◌, ◌⊎◌, map, IfOk, OnOk};
+ghost use Rattle.std.specs.Prelude.{◌≡◌, ◌++◌, map, IfOk, OnOk};
 ghost use Rattle.std.specs.List.{flat_map};
-ghost use Rattle.gb_smt.specs.Width.{head_bound_types, bound_types, width_of, is_tried, greater};
+ghost use Rattle.gb_smt.specs.Width.{head_bound_types, bound_types, assignments_of, width_of, is_tried, greater};
 
 use crate::claims::Claim;
 use crate::variables::Variable;
 use gb_core::copy::copy_ty;
 use gb_core::ty::{Ty, Tys};
 use gb_core::value::Card;
-use gb_eval::known::is_known;
+use gb_eval::known::{are_known, is_known};
 use gb_terms::term::{Head, Term};
 use gb_types::card::card;
 use sqlite_items::Items;
@@ -59,7 +59,7 @@ pub fn types_of_variables(alloc: Global, variables: &[Variable]) -> Result<Tys, 
 
 /// The number of assignments to the variables of a claim and to those bound in it.
 fn number_of_assignments(alloc: Global, claim: &Claim) -> Result<Card, AllocError>
-    ensures { IfOk result (λ width. width ≡ width_of claim.now) }
+    ensures { IfOk result (λ number. number ≡ assignments_of claim.now) }
 {
     let mut tys = types_of_variables(alloc, claim.variables.as_slice())?;
     note_all_bound(alloc, claim.hyps.as_slice(), &mut tys)?;
@@ -67,19 +67,10 @@ fn number_of_assignments(alloc: Global, claim: &Claim) -> Result<Card, AllocErro
     Ok(card(&Ty::Tuple(tys)))
 }
 
-fn are_known(list: &[Term]) -> bool {
-    for t in list {
-        if !is_known(t) {
-            return false;
-        }
-    }
-    true
-}
-
 /// The width of a claim, the product of the sizes of its variables and of those bound in it: above, where a part of it
 /// is opaque to evaluation.
 pub fn width(alloc: Global, claim: &Claim) -> Result<Card, AllocError>
-    ensures { IfOk result (λ width. (width ≡ width_of claim.now) ⊎ (width ≡ Card.Above)) }
+    ensures { IfOk result (λ width. width ≡ width_of claim.now) }
 {
     if are_known(claim.hyps.as_slice()) && is_known(&claim.conclusion) {
         number_of_assignments(alloc, claim)
