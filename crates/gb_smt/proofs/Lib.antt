@@ -6,3 +6,4 @@ pub mod Marks
 pub mod Parts
 pub mod Trials
 mod Values
+mod Meant

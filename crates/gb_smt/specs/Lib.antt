@@ -6,3 +6,4 @@ pub mod Claims
 pub mod Width
 pub mod Assign
 pub mod Apply
+pub mod Meant

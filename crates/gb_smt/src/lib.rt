@@ -7,6 +7,7 @@ mod atoms;
 mod claims;
 mod components;
 mod equations;
+pub mod laws;
 mod leaves;
 mod variables;
 mod width;
