@@ -12,7 +12,6 @@ use Rattle.gb_meaning.specs.Terms.{Speaks, val}
 use Rattle.gb_eval.specs.declared.env.ReadValue.{ReadValue}
 use Rattle.gb_eval.specs.Eval.{eval, truth_of, connective}
 use Rattle.gb_eval.specs.Known.{is_known}
-use Rattle.gb_eval.specs.Meant.{AreGiven}
 use Rattle.gb_eval.proofs.Sound.{truth_sound}
 use Rattle.gb_smt.specs.declared.claims.Claim.{Claim}
 use Rattle.gb_smt.specs.Assign.{with_values, implied, truth_under}
