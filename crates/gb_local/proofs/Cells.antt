@@ -9,7 +9,7 @@ use Rattle.gb_types.specs.Numbering.{parts_of}
 use Rattle.gb_terms.specs.declared.module.Mexp.TheVariants.{Name as named}
 use Rattle.gb_meaning.specs.Values.{Global, Types, fit}
 use Rattle.gb_meaning.specs.Memory.{Memory, read, read_global, read_globals, write, write_globals, write_each, assigned}
-pub use Rattle.gb_local.specs.Cells.{Key, Key-discrete, Cell, get_at, set_at, look, Cells, In, Covers, Agree, global_cell, cells_of}
+pub use Rattle.gb_local.specs.Cells.{Key, Key-discrete, Cell, get_at, set_at, look, Cells, In, Covers, Agree, GlobalsAgree, Among, global_cell, cells_of}
 use Rattle.gb_local.specs.Cells.Key.{global, local}
 use Rattle.gb_laws.proofs.Maps.{path_discrete, get-set_same, get-set_other}
 
@@ -57,33 +57,24 @@ module _ (t : Types) (F : Cell → Type 0) where
   read_agree (var.Local x) ty h m n a = a _ (h _ (inl refl))
   read_agree (var.Glob b) ty h m n a = read_globals_agree (t.footprint (named b)) h m n a
 
-  pub set_agree : (k : Key) (v w : Value) → v ≡ w → (m n : Memory) → Agree t F m n → Agree t F (set_at m k v) (set_at n k w)
-  set_agree k v w e m n a c f = elim (key_discrete c.key k) [
-    | yes p ↦ ap (λ q. fit t c.ty (get_at (set_at m k v) q)) p
-        ∙ ap (fit t c.ty) (get_at-same m k v ∙ ap Some e ∙ sym (get_at-same n k w))
-        ∙ sym (ap (λ q. fit t c.ty (get_at (set_at n k w) q)) p)
-    | no h ↦ ap (fit t c.ty) (get_at-other m k v c.key h) ∙ a c f ∙ ap (fit t c.ty) (sym (get_at-other n k w c.key h))
-  ]
+-- what one write at a place keeps, each assignment keeps
+module _ (t : Types) (R : Memory → Memory → Type 0) (keeps : (k : Key) (v : Value) (m n : Memory) → R m n → R (set_at m k v) (set_at n k v)) where
+  globals_related : (xs : List Global) (vs : List Value) (m n : Memory) → R m n → R (write_globals m xs vs) (write_globals n xs vs)
+  globals_related [] vs m n a = a
+  globals_related (x ∷ xs) [] m n a = a
+  globals_related (x ∷ xs) (v ∷ vs) m n a = globals_related xs vs _ _ (keeps (global (x.parent ∷ x.name ∷ [])) v m n a)
 
-  write_globals_agree : (xs : List Global) (vs : List Value) (m n : Memory) → Agree t F m n → Agree t F (write_globals m xs vs) (write_globals n xs vs)
-  write_globals_agree [] vs m n a = a
-  write_globals_agree (x ∷ xs) [] m n a = a
-  write_globals_agree (x ∷ xs) (v ∷ vs) m n a = write_globals_agree xs vs _ _ (set_agree (global (x.parent ∷ x.name ∷ [])) v v refl m n a)
+  pub write_related : (x : Var) (v : Value) (m n : Memory) → R m n → R (write t m x v) (write t n x v)
+  write_related (var.Global p x) v m n a = keeps (global (p ∷ x ∷ [])) v m n a
+  write_related (var.Local x) v m n a = keeps (local (x ∷ [])) v m n a
+  write_related (var.Glob b) v m n a = globals_related (t.footprint (named b)) (parts_of v) m n a
 
-  pub write_agree : (x : Var) (v : Value) (m n : Memory) → Agree t F m n → Agree t F (write t m x v) (write t n x v)
-  write_agree (var.Global p x) v m n a = set_agree (global (p ∷ x ∷ [])) v v refl m n a
-  write_agree (var.Local x) v m n a = set_agree (local (x ∷ [])) v v refl m n a
-  write_agree (var.Glob b) v m n a = write_globals_agree (t.footprint (named b)) (parts_of v) m n a
+  each_related : (xs : List Var) (vs : List Value) (m n : Memory) → R m n → R (write_each t m xs vs) (write_each t n xs vs)
+  each_related [] vs m n a = a
+  each_related (x ∷ xs) [] m n a = a
+  each_related (x ∷ xs) (v ∷ vs) m n a = each_related xs vs _ _ (write_related x v m n a)
 
-  write_each_agree : (xs : List Var) (vs : List Value) (m n : Memory) → Agree t F m n → Agree t F (write_each t m xs vs) (write_each t n xs vs)
-  write_each_agree [] vs m n a = a
-  write_each_agree (x ∷ xs) [] m n a = a
-  write_each_agree (x ∷ xs) (v ∷ vs) m n a = write_each_agree xs vs _ _ (write_agree x v m n a)
-
-  pub assigned_agree : (xs : List Var) (v w : Value) → v ≡ w → (m n : Memory) → Agree t F m n → Agree t F (assigned t m xs v) (assigned t n xs w)
-  assigned_agree xs v w e m n a c f = go xs c f ∙ ap (λ z. look t (assigned t n xs z) c) e
-    where
-      go : (xs : List Var) → Agree t F (assigned t m xs v) (assigned t n xs v)
-      go [] = a
-      go (x ∷ []) = write_agree x v m n a
-      go (x ∷ y ∷ xs) = write_each_agree (x ∷ y ∷ xs) (parts_of v) m n a
+  pub assigned_related : (xs : List Var) (v : Value) (m n : Memory) → R m n → R (assigned t m xs v) (assigned t n xs v)
+  assigned_related [] v m n a = a
+  assigned_related (x ∷ []) v m n a = write_related x v m n a
+  assigned_related (x ∷ y ∷ xs) v m n a = each_related (x ∷ y ∷ xs) (parts_of v) m n a

@@ -1,5 +1,6 @@
 pub mod Zips
 pub mod Cells
+pub mod Kept
 pub mod States
 pub mod Near
 pub mod NearRuns

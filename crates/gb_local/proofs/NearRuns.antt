@@ -1,13 +1,13 @@
--- Runs from states and memories that agree on what the program reads: the outcomes agree one by one.
-use Rattle.std.proofs.Common.{◌≡◌, ◌-◌, ◌^◌, min, List, [], ◌∷◌, ◌++◌, map, inl, inr, refl, ap, ◌∙◌, subst}
+-- Runs from states and memories that agree on what the program reads: the outcomes agree one by one, and each place is the
+-- same in both or is left.
+use Rattle.std.proofs.Common.{◌≡◌, ◌-◌, ◌^◌, min, List, [], ◌∷◌, ◌++◌, map, inl, inr, refl, ap, sym, ◌∙◌, subst}
 use Rattle.gb_core.specs.declared.ty.Ty.{Ty}
-use Rattle.gb_core.specs.declared.var.Var.{Var}
 use Rattle.gb_core.specs.declared.value.Value.{Value}
 use Rattle.gb_terms.specs.declared.decl.TypedName.{TypedName}
 use Rattle.gb_terms.specs.declared.term.Term.{Term}
 use Rattle.gb_meaning.specs.Names.{Path, Map, get}
 use Rattle.gb_meaning.specs.Values.{Types, fit}
-use Rattle.gb_meaning.specs.Memory.{Memory, read_local, write, outcome, result_in}
+use Rattle.gb_meaning.specs.Memory.{Memory, read_local, write, assigned, outcome}
 use Rattle.gb_meaning.specs.Program.{Program, Routine}
 use Rattle.gb_meaning.specs.Program.Program.{done, assign, sample, branch, loop, call, ask}
 use Rattle.gb_meaning.specs.Program.Routine.{routine}
@@ -17,8 +17,9 @@ use Rattle.gb_meaning.specs.State.{State, inside, closed}
 use Rattle.gb_meaning.specs.Terms.{distribution}
 use Rattle.gb_meaning.specs.Runs.{most_turns, turns_at, is_true, run_denominator, out, outcomes, returned, valued, new_frame}
 pub use Rattle.gb_local.specs.Reads.{terms_cells, program_cells, routine_cells}
-use Rattle.gb_local.proofs.Zips.{Zip, zip-scale, zip-if, zip-bind, zip-dmap, zip-equal, zip-turns}
-use Rattle.gb_local.proofs.Cells.{Key, Cell, Cells, Covers, front, rest, Agree, look, write_agree, assigned_agree}
+use Rattle.gb_local.proofs.Zips.{Zip, zip_weaken, zip-scale, zip-if, zip-dmap, zip-equal, zip-turns}
+use Rattle.gb_local.proofs.Cells.{Key, Cell, Cells, Covers, front, rest, Agree, GlobalsAgree, Among, look}
+use Rattle.gb_local.proofs.Kept.{SameOrKept, SameOutcome, kept_self, kept_agrees, write_keeps, assigned_keeps, returned_keeps, since, zip_then}
 use Rattle.gb_local.specs.Cells.Key.{global, local}
 use Rattle.gb_local.proofs.States.{Near, near_self, near_inside}
 use Rattle.gb_local.proofs.Near.{term_cells, near_quiet}
@@ -37,9 +38,6 @@ with_frame_covers F l h c i = go c.key (h c i)
     go : (k : Key) → F c → InFrame k (F c)
     go (global p) f = f
     go (local p) f = tt
-
-abbrev pub GlobalsAgree : Types → (Cell → Type 0) → Map → Map → Type 0
-GlobalsAgree t F m n = (p : Path) (ty : Ty) → F (record { key = global p; ty = ty }) → fit t ty (get m p) ≡ fit t ty (get n p)
 
 -- outcomes of procedures: the same frame, and globals that agree
 pub record Alike (t : Types) (F : Cell → Type 0) (m n : Memory) : Type 0 where
@@ -65,16 +63,14 @@ module _ (t : Types) (F : Cell → Type 0) where
   pub globals_of : (m n : Memory) → Agree t F m n → GlobalsAgree t F m.globals n.globals
   globals_of m n a p ty f = a (record { key = global p; ty = ty }) f
 
-  left_globals : (m n : Memory) → Agree t (with_frame F) m n → GlobalsAgree t F m.globals n.globals
-  left_globals m n a p ty f = a (record { key = global p; ty = ty }) f
-
-  back : (m n a b : Memory) → Agree t F m n → GlobalsAgree t F a.globals b.globals → Agree t F (record { globals = a.globals; frame = m.frame }) (record { globals = b.globals; frame = n.frame })
-  back m n a b h k c f = go c.key c.ty f
-    where
-      go : (q : Key) (ty : Ty) → F (record { key = q; ty = ty }) →
-          look t (record { globals = a.globals; frame = m.frame }) (record { key = q; ty = ty }) ≡ look t (record { globals = b.globals; frame = n.frame }) (record { key = q; ty = ty })
-      go (global p) ty f = k p ty f
-      go (local p) ty f = h (record { key = local p; ty = ty }) f
+  outcomes_alike : (m n : Map) (a b : Memory) → GlobalsAgree t F m n → SameOutcome m n a b → Alike t F a b
+  outcomes_alike m n a b h e = record {
+    globals = λ p ty f. elim (e.globals p) [
+      | inl x ↦ ap (fit t ty) x
+      | inr x ↦ ap (fit t ty) x.0 ∙ h p ty f ∙ sym (ap (fit t ty) x.1)
+    ];
+    frames = e.frame;
+  }
 
   pub locals_agree : (ps : List TypedName) → Covers F (map (λ x. record { key = local (x.name ∷ []); ty = x.ty }) ps) → (m n : Memory) → Agree t F m n →
       map (λ x. read_local t m x.name x.ty) ps ≡ map (λ x. read_local t n x.name x.ty) ps
@@ -85,10 +81,14 @@ module _ (t : Types) (F : Cell → Type 0) where
       λ i. one i ∷ two i
 
 module _ (g : Setting) where
-  valued_near : (F : Cell → Type 0) (e : Term) → Covers F (term_cells g e) → (s q : State) → Near g.types F s q → (m n : Memory) → Agree g.types F m n → valued g s e m ≡ valued g q e n
-  valued_near F e c s q k m n a = ap value_in (near_quiet g F e c _ _ (near_inside g.types F s q k m n a))
+  -- in these contexts, terms that read within F mean the same in memories that agree on F
+  abbrev pub SameInside : (Cell → Type 0) → State → State → Type 0
+  SameInside F s q = (m n : Memory) → Agree g.types F m n → Near g.types F (inside s m) (inside q n)
 
-  all_valued_near : (F : Cell → Type 0) (es : List Term) → Covers F (terms_cells g es) → (s q : State) → Near g.types F s q → (m n : Memory) → Agree g.types F m n →
+  valued_near : (F : Cell → Type 0) (e : Term) → Covers F (term_cells g e) → (s q : State) → SameInside F s q → (m n : Memory) → Agree g.types F m n → valued g s e m ≡ valued g q e n
+  valued_near F e c s q k m n a = ap value_in (near_quiet g F e c _ _ (k m n a))
+
+  all_valued_near : (F : Cell → Type 0) (es : List Term) → Covers F (terms_cells g es) → (s q : State) → SameInside F s q → (m n : Memory) → Agree g.types F m n →
       map (λ e. valued g s e m) es ≡ map (λ e. valued g q e n) es
   all_valued_near F [] c s q k m n a = refl
   all_valued_near F (e ∷ es) c s q k m n a =
@@ -96,66 +96,82 @@ module _ (g : Setting) where
       let two = all_valued_near F es (rest F (term_cells g e) (terms_cells g es) c) s q k m n a in
       λ i. one i ∷ two i
 
-  is_true_near : (F : Cell → Type 0) (e : Term) → Covers F (term_cells g e) → (s q : State) → Near g.types F s q → (m n : Memory) → Agree g.types F m n → is_true g s e m ≡ is_true g q e n
-  is_true_near F e c s q k m n a = ap truth (near_quiet g F e c _ _ (near_inside g.types F s q k m n a))
-
-  returned_near : (F : Cell → Type 0) (xs : List Var) (m n a b : Memory) → Agree g.types F m n → Alike g.types F a b → Agree g.types F (returned g xs m a) (returned g xs n b)
-  returned_near F xs m n a b h k = assigned_agree g.types F xs (result_in a) (result_in b) (ap (λ f. result_in (record { globals = a.globals; frame = f })) k.frames) _ _ (back g.types F m n a b h k.globals)
+  is_true_near : (F : Cell → Type 0) (e : Term) → Covers F (term_cells g e) → (s q : State) → SameInside F s q → (m n : Memory) → Agree g.types F m n → is_true g s e m ≡ is_true g q e n
+  is_true_near F e c s q k m n a = ap truth (near_quiet g F e c _ _ (k m n a))
 
   mutual
-    pub near_out : (F : Cell → Type 0) (s q : State) → Near g.types F s q → (c : Program) → Covers F (program_cells g c) → (m n : Memory) → Agree g.types F m n →
-        Zip (Agree g.types F) (out g s c m) (out g q c n)
-    near_out F s q k done h m n a = (refl, a, tt)
-    near_out F s q k (assign xs e c) h m n a =
-        near_out F s q k c (rest F (term_cells g e) (program_cells g c) h) _ _
-        (assigned_agree g.types F xs _ _ (valued_near F e (front F (term_cells g e) (program_cells g c) h) s q k m n a) m n a)
-    near_out F s q k (sample x d c) h m n a =
-        zip-bind (Agree g.types F) (Agree g.types F) _ _ (λ z. out g s c z) (λ z. out g q c z)
-        (zip-dmap (λ v w. v ≡ w) (Agree g.types F) (distribution g d (inside s m)) (distribution g d (inside q n)) (write g.types m x) (write g.types n x)
-        (zip-equal _ _ (ap weights_in (near_quiet g F d (front F (term_cells g d) (program_cells g c) h) _ _ (near_inside g.types F s q k m n a))))
-        (λ v w e. same_write x v w e m n a))
-        (λ y z b. near_out F s q k c (rest F (term_cells g d) (program_cells g c) h) y z b)
-      where
-        same_write : (x : Var) (v w : Value) → v ≡ w → (m n : Memory) → Agree g.types F m n → Agree g.types F (write g.types m x v) (write g.types n x w)
-        same_write x v w e m n a c f = write_agree g.types F x v m n a c f ∙ ap (λ z. look g.types (write g.types n x z) c) e
-    near_out F s q k (branch e a b c) h m n i =
+    pub kept_out : (F : Cell → Type 0) (s q : State) → SameInside F s q → (c : Program) → Covers F (program_cells g c) → (m n : Memory) → Agree g.types F m n →
+        Zip (SameOrKept m n) (out g s c m) (out g q c n)
+    kept_out F s q k done h m n a = (refl, kept_self m n, tt)
+    kept_out F s q k (assign xs e c) h m n a =
+        let y = assigned g.types m xs (valued g s e m) in
+        let z = assigned g.types n xs (valued g q e n) in
+        let same = assigned_keeps m n g.types xs _ _ (valued_near F e (front F (term_cells g e) (program_cells g c) h) s q k m n a) m n (kept_self m n) in
+        since m n y z same _ _ (kept_out F s q k c (rest F (term_cells g e) (program_cells g c) h) y z (kept_agrees g.types F m n y z a same))
+    kept_out F s q k (sample x d c) h m n a =
+        zip_then m n _ _ (λ z. out g s c z) (λ z. out g q c z)
+        (zip-dmap (λ v w. v ≡ w) (SameOrKept m n) (distribution g d (inside s m)) (distribution g d (inside q n)) (write g.types m x) (write g.types n x)
+        (zip-equal _ _ (ap weights_in (near_quiet g F d (front F (term_cells g d) (program_cells g c) h) _ _ (k m n a))))
+        (λ v w e. write_keeps m n g.types x v w e m n (kept_self m n)))
+        (λ y z j. kept_out F s q k c (rest F (term_cells g d) (program_cells g c) h) y z (kept_agrees g.types F m n y z a j))
+    kept_out F s q k (branch e a b c) h m n i =
         let r1 = rest F (term_cells g e) (program_cells g a ++ (program_cells g b ++ program_cells g c)) h in
         let r2 = rest F (program_cells g a) (program_cells g b ++ program_cells g c) r1 in
-        zip-bind (Agree g.types F) (Agree g.types F) _ _ (λ z. out g s c z) (λ z. out g q c z)
-        (zip-if (Agree g.types F) _ _ (is_true_near F e (front F (term_cells g e) (program_cells g a ++ (program_cells g b ++ program_cells g c)) h) s q k m n i) _ _ _ _
-        (zip-scale (Agree g.types F) _ _ refl _ _ (near_out F s q k a (front F (program_cells g a) (program_cells g b ++ program_cells g c) r1) m n i))
-        (zip-scale (Agree g.types F) _ _ refl _ _ (near_out F s q k b (front F (program_cells g b) (program_cells g c) r2) m n i)))
-        (λ y z j. near_out F s q k c (rest F (program_cells g b) (program_cells g c) r2) y z j)
-    near_out F s q k (loop e v a c) h m n i =
+        zip_then m n _ _ (λ z. out g s c z) (λ z. out g q c z)
+        (zip-if (SameOrKept m n) _ _ (is_true_near F e (front F (term_cells g e) (program_cells g a ++ (program_cells g b ++ program_cells g c)) h) s q k m n i) _ _ _ _
+        (zip-scale (SameOrKept m n) _ _ refl _ _ (kept_out F s q k a (front F (program_cells g a) (program_cells g b ++ program_cells g c) r1) m n i))
+        (zip-scale (SameOrKept m n) _ _ refl _ _ (kept_out F s q k b (front F (program_cells g b) (program_cells g c) r2) m n i)))
+        (λ y z j. kept_out F s q k c (rest F (program_cells g b) (program_cells g c) r2) y z (kept_agrees g.types F m n y z i j))
+    kept_out F s q k (loop e v a c) h m n i =
         let r1 = rest F (term_cells g e) (term_cells g v ++ (program_cells g a ++ program_cells g c)) h in
         let r2 = rest F (term_cells g v) (program_cells g a ++ program_cells g c) r1 in
         let turns_same : turns_at g s v m ≡ turns_at g q v n =
-        ap (λ z. min (number_in z) (most_turns v)) (near_quiet g F v (front F (term_cells g v) (program_cells g a ++ program_cells g c) r1) _ _ (near_inside g.types F s q k m n i)) in
-        zip-bind (Agree g.types F) (Agree g.types F) _ _ (λ z. out g s c z) (λ z. out g q c z)
-        (zip-scale (Agree g.types F) _ _ (ap (λ z. run_denominator g a ^ (most_turns v - z)) turns_same) _ _
-        (zip-turns (Agree g.types F) (is_true g s e) (is_true g q e) (λ z. out g s a z) (λ z. out g q a z) (run_denominator g a)
-        (λ y z j. is_true_near F e (front F (term_cells g e) (term_cells g v ++ (program_cells g a ++ program_cells g c)) h) s q k y z j)
-        (λ y z j. near_out F s q k a (front F (program_cells g a) (program_cells g c) r2) y z j) _ _ turns_same m n i))
-        (λ y z j. near_out F s q k c (rest F (program_cells g a) (program_cells g c) r2) y z j)
-    near_out F s q k (call xs r es c) h m n a =
+        ap (λ z. min (number_in z) (most_turns v)) (near_quiet g F v (front F (term_cells g v) (program_cells g a ++ program_cells g c) r1) _ _ (k m n i)) in
+        zip_then m n _ _ (λ z. out g s c z) (λ z. out g q c z)
+        (zip-scale (SameOrKept m n) _ _ (ap (λ z. run_denominator g a ^ (most_turns v - z)) turns_same) _ _
+        (zip-turns (SameOrKept m n) (is_true g s e) (is_true g q e) (λ z. out g s a z) (λ z. out g q a z) (run_denominator g a)
+        (λ y z j. is_true_near F e (front F (term_cells g e) (term_cells g v ++ (program_cells g a ++ program_cells g c)) h) s q k y z (kept_agrees g.types F m n y z i j))
+        (λ y z j. since m n y z j _ _ (kept_out F s q k a (front F (program_cells g a) (program_cells g c) r2) y z (kept_agrees g.types F m n y z i j))) _ _ turns_same m n (kept_self m n)))
+        (λ y z j. kept_out F s q k c (rest F (program_cells g a) (program_cells g c) r2) y z (kept_agrees g.types F m n y z i j))
+    kept_out F s q k (call xs r es c) h m n a =
         let r1 = rest F (terms_cells g es) (routine_cells g r ++ program_cells g c) h in
-        zip-bind (Agree g.types F) (Agree g.types F) _ _ (λ z. out g s c z) (λ z. out g q c z)
-        (zip-dmap (Alike g.types F) (Agree g.types F) _ _ (returned g xs m) (returned g xs n)
-        (near_outcomes F r (front F (routine_cells g r) (program_cells g c) r1) _ _ (all_valued_near F es (front F (terms_cells g es) (routine_cells g r ++ program_cells g c) h) s q k m n a)
+        zip_then m n _ _ (λ z. out g s c z) (λ z. out g q c z)
+        (zip-dmap (SameOutcome m.globals n.globals) (SameOrKept m n) _ _ (returned g xs m) (returned g xs n)
+        (kept_outcomes F r (front F (routine_cells g r) (program_cells g c) r1) _ _ (all_valued_near F es (front F (terms_cells g es) (routine_cells g r ++ program_cells g c) h) s q k m n a)
         m.globals n.globals (globals_of g.types F m n a))
-        (λ y z j. returned_near F xs m n y z a j))
-        (λ y z j. near_out F s q k c (rest F (routine_cells g r) (program_cells g c) r1) y z j)
-    near_out F s q k (ask xs o es c) h m n a = near_out F s q k c h m n a
+        (λ y z j. returned_keeps m n g xs y z j))
+        (λ y z j. kept_out F s q k c (rest F (routine_cells g r) (program_cells g c) r1) y z (kept_agrees g.types F m n y z a j))
+    kept_out F s q k (ask xs o es c) h m n a = kept_out F s q k c h m n a
 
-    pub near_outcomes : (F : Cell → Type 0) (r : Routine) → Covers F (routine_cells g r) → (vs ws : List Value) → vs ≡ ws → (m n : Map) → GlobalsAgree g.types F m n →
-        Zip (Alike g.types F) (outcomes g r vs m) (outcomes g r ws n)
-    near_outcomes F (routine ps ls c r) h vs ws e m n a =
+    pub kept_outcomes : (F : Cell → Type 0) (r : Routine) → Covers F (routine_cells g r) → (vs ws : List Value) → vs ≡ ws → (m n : Map) → GlobalsAgree g.types F m n →
+        Zip (SameOutcome m n) (outcomes g r vs m) (outcomes g r ws n)
+    kept_outcomes F (routine ps ls c r) h vs ws e m n a =
         let H = with_frame F in
         let all = with_frame_covers F (term_cells g r ++ program_cells g c) h in
-        subst (λ z. Zip (Alike g.types F) (outcomes g (routine ps ls c r) vs m) (outcomes g (routine ps ls c r) z n)) e
-        (zip-dmap (Agree g.types H) (Alike g.types F) _ _ _ _
-        (near_out H closed closed (near_self g.types H closed) c (rest H (term_cells g r) (program_cells g c) all) _ _ (entered g.types F m n (new_frame g ps ls vs) a))
+        let f = new_frame g ps ls vs in
+        let start = entered g.types F m n f a in
+        let same = near_inside g.types H closed closed (near_self g.types H closed) in
+        subst (λ z. Zip (SameOutcome m n) (outcomes g (routine ps ls c r) vs m) (outcomes g (routine ps ls c r) z n)) e
+        (zip-dmap (SameOrKept (record { globals = m; frame = f }) (record { globals = n; frame = f })) (SameOutcome m n) _ _ _ _
+        (kept_out H closed closed same c (rest H (term_cells g r) (program_cells g c) all) _ _ start)
         (λ y z j. record {
-          globals = left_globals g.types F y z j;
-          frames = ap (λ v. (outcome y.globals v).frame) (valued_near H r (front H (term_cells g r) (program_cells g c) all) closed closed (near_self g.types H closed) y z j);
+          frame = ap (λ v. (outcome y.globals v).frame) (valued_near H r (front H (term_cells g r) (program_cells g c) all) closed closed same y z (kept_agrees g.types H (record { globals = m; frame = f }) (record { globals = n; frame = f }) y z start j));
+          globals = λ p. j (global p);
         }))
+
+  pub near_out : (F : Cell → Type 0) (s q : State) → Near g.types F s q → (c : Program) → Covers F (program_cells g c) → (m n : Memory) → Agree g.types F m n →
+      Zip (Agree g.types F) (out g s c m) (out g q c n)
+  near_out F s q k c h m n a = zip_weaken (SameOrKept m n) (Agree g.types F) (λ y z j. kept_agrees g.types F m n y z a j) _ _ (kept_out F s q (near_inside g.types F s q k) c h m n a)
+
+  pub near_outcomes : (F : Cell → Type 0) (r : Routine) → Covers F (routine_cells g r) → (vs ws : List Value) → vs ≡ ws → (m n : Map) → GlobalsAgree g.types F m n →
+      Zip (Alike g.types F) (outcomes g r vs m) (outcomes g r ws n)
+  near_outcomes F r h vs ws e m n a = zip_weaken (SameOutcome m n) (Alike g.types F) (λ y z j. outcomes_alike g.types F m n y z a j) _ _ (kept_outcomes F r h vs ws e m n a)
+
+  -- from states in which the program's terms mean the same
+  pub run_depends : (s q : State) (c : Program) (m n : Memory) → Near g.types (Among (program_cells g c)) (inside s m) (inside q n) →
+      Zip (SameOrKept m n) (out g s c m) (out g q c n)
+  run_depends s q c m n k = kept_out (Among (program_cells g c)) s q (near_inside g.types (Among (program_cells g c)) (inside s m) (inside q n) k) c (λ c i. i) m n k.own
+
+  pub routine_depends : (r : Routine) (vs : List Value) (m n : Map) → GlobalsAgree g.types (Among (routine_cells g r)) m n →
+      Zip (SameOutcome m n) (outcomes g r vs m) (outcomes g r vs n)
+  routine_depends r vs m n a = kept_outcomes (Among (routine_cells g r)) r (λ c i. i) vs vs refl m n a

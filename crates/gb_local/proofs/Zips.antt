@@ -4,12 +4,7 @@ use Rattle.gb_coupling.specs.WeightedList.{WeightedList, mass, weight, total, bi
 use Rattle.gb_coupling.specs.Existence.{passes_hall, passes_hall_beside, has_coupling}
 use Rattle.gb_meaning.specs.Memory.{Memory}
 use Rattle.gb_meaning.specs.Runs.{turns}
-
-abbrev pub Zip : {A B : Type 0} → (A → B → Type 0) → WeightedList A → WeightedList B → Type 0
-Zip R [] [] = Unit {0}
-Zip R [] (f ∷ r) = ⊥
-Zip R (e ∷ l) [] = ⊥
-Zip R (e ∷ l) (f ∷ r) = (e.1 ≡ f.1) × R e.0 f.0 × Zip R l r
+pub use Rattle.gb_local.specs.Pairs.{Zip}
 
 module _ {A B : Type 0} (R : A → B → Type 0) where
   pub zip-append : (l : WeightedList A) (m : WeightedList B) (r : WeightedList A) (s : WeightedList B) → Zip R l m → Zip R r s → Zip R (l ++ r) (m ++ s)

@@ -5,7 +5,7 @@ use Rattle.gb_core.specs.declared.var.Var.{Var}
 use Rattle.gb_core.specs.declared.var.Var.TheVariants as var
 use Rattle.gb_core.specs.declared.value.Value.{Value}
 use Rattle.gb_terms.specs.declared.module.Mexp.TheVariants.{Name as named}
-use Rattle.gb_meaning.specs.Names.{Path, get, set}
+use Rattle.gb_meaning.specs.Names.{Path, Map, get, set}
 use Rattle.gb_meaning.specs.Values.{Global, Types, fit}
 use Rattle.gb_meaning.specs.Memory.{Memory}
 
@@ -45,6 +45,14 @@ Covers F l = (c : Cell) → In c l → F c
 -- the memories hold the same in these cells
 abbrev pub Agree : Types → (Cell → Type 0) → Memory → Memory → Type 0
 Agree t F m n = (c : Cell) → F c → look t m c ≡ look t n c
+
+-- the globals hold the same in these cells
+abbrev pub GlobalsAgree : Types → (Cell → Type 0) → Map → Map → Type 0
+GlobalsAgree t F m n = (p : Path) (ty : Ty) → F (record { key = global p; ty = ty }) → fit t ty (get m p) ≡ fit t ty (get n p)
+
+-- the cell is one of the list
+abbrev pub Among : Cells → Cell → Type 0
+Among l c = In c l
 
 abbrev pub global_cell : Global → Cell
 global_cell x = record { key = global (x.parent ∷ x.name ∷ []); ty = x.ty }

@@ -4,12 +4,15 @@ ghost use Rattle.std.specs.Prelude.{◌≡◌, List};
 ghost use Rattle.gb_core.specs.declared.value.Value.{Value};
 ghost use Rattle.gb_coupling.specs.WeightedList.{dmap, Every};
 ghost use Rattle.gb_meaning.specs.Names.{Path, Map, get, set};
+ghost use Rattle.gb_meaning.specs.Values.{Types};
 ghost use Rattle.gb_meaning.specs.Memory.{Memory};
 ghost use Rattle.gb_meaning.specs.Program.{Program, Routine};
 ghost use Rattle.gb_meaning.specs.Setting.{Setting};
-ghost use Rattle.gb_meaning.specs.State.{State};
+ghost use Rattle.gb_meaning.specs.State.{State, inside};
 ghost use Rattle.gb_meaning.specs.Runs.{out, outcomes};
-ghost use Rattle.gb_local.specs.Cells.{Key, get_at, set_at};
+ghost use Rattle.gb_local.specs.Cells.{Key, Cells, get_at, set_at, Agree, GlobalsAgree, Among};
+ghost use Rattle.gb_local.specs.States.{Near};
+ghost use Rattle.gb_local.specs.Pairs.{Zip, SameOrKept, SameOutcome};
 ghost use Rattle.gb_local.specs.Reads.{program_cells, routine_cells, Unread};
 ghost use Rattle.gb_local.specs.Writes.{Unwritten, UnwrittenBy};
 
@@ -28,4 +31,15 @@ pub fn commutation()
     ensures procedure { (g : Setting) (v : Value) (r : Routine) (p : Path) → Unread (routine_cells g r) (Key.global p) →
         UnwrittenBy g r (Key.global p) → (vs : List Value) (globals : Map) →
         outcomes g r vs (set globals p v) ≡ dmap (λ n. set_at n (Key.global p) v) (outcomes g r vs globals) }
+{}
+
+/// A run depends on what its program reads alone. From two memories that agree on it, in contexts that agree, come the
+/// same entries with the same weights, one by one: each place is the same in both, or it holds what it held before. So what
+/// was agreed on stays so. Outcomes of a procedure have the same result, from globals that agree on what it reads.
+pub fn dependence()
+    ensures program { (g : Setting) (s q : State) (c : Program) (m n : Memory) →
+        Near g.types (Among (program_cells g c)) (inside s m) (inside q n) → Zip (SameOrKept m n) (out g s c m) (out g q c n) }
+    ensures procedure { (g : Setting) (r : Routine) (vs : List Value) (m n : Map) → GlobalsAgree g.types (Among (routine_cells g r)) m n →
+        Zip (SameOutcome m n) (outcomes g r vs m) (outcomes g r vs n) }
+    ensures agreement { (t : Types) (l : Cells) (m n a b : Memory) → Agree t (Among l) m n → SameOrKept m n a b → Agree t (Among l) a b }
 {}
