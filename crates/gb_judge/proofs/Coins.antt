@@ -25,18 +25,18 @@ use Rattle.gb_judge.proofs.Truths.{true_equiv}
 plain : Drawing
 plain = record { restricts = false; operators = λ n. false }
 
-flip_sound : (g : Setting) → IsSoundSubject g (Body flip)
+pub flip_sound : (g : Setting) → IsSoundSubject g (Body flip)
 unfolding plain
 flip_sound g = sound_body g flip (tt, tt) (program_sound g plain (λ n h. absurd (cc)) (statements g flip.list) refl)
 
 -- a coin's two memories
-abbrev outcomes : Memory → WeightedList Memory
+abbrev pub outcomes : Memory → WeightedList Memory
 outcomes m = (write_local m x (Num 0), 1) ∷ (write_local m x (Num 1), 1) ∷ []
 
-run_is : (g : Setting) (s : State) (m : Memory) → run_of g s (Body flip) m ≡ outcomes m
+pub run_is : (g : Setting) (s : State) (m : Memory) → run_of g s (Body flip) m ≡ outcomes m
 run_is g s m = run_of_body g s flip m
 
-denominator_is : (g : Setting) → subject_denominator g (Body flip) ≡ 2
+pub denominator_is : (g : Setting) → subject_denominator g (Body flip) ≡ 2
 denominator_is g = denominator_of_body g flip
 
 is_truth_value : (t : Types) (b : Bool) → has t truths (Num (bit b)) ≡ true
@@ -55,7 +55,7 @@ second_pair : negated (Num 1) (Num 0) ≡ true
 unfolding negated out-Value denote.Hole.Carrier.out
 second_pair = refl
 
-reads : (t : Types) (m : Memory) (b : Bool) → read_local t (write_local m x (Num (bit b))) x truths ≡ Num (bit b)
+pub reads : (t : Types) (m : Memory) (b : Bool) → read_local t (write_local m x (Num (bit b))) x truths ≡ Num (bit b)
 reads t m b = read-write_local t m x truths (Num (bit b)) (is_truth_value t b)
 
 -- the two sides read the coins

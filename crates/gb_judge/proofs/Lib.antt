@@ -7,3 +7,5 @@ pub mod Unique
 pub mod Truths
 pub mod Coins
 pub mod Probabilities
+pub mod AlikeCoins
+pub mod Quantified
