@@ -19,3 +19,4 @@ pub mod LinkedTypes
 pub mod SameScope
 pub mod Statements
 pub mod Kept
+pub mod Renaming

@@ -1,6 +1,6 @@
 //! The laws of settings and of truth.
 
-ghost use Rattle.std.specs.Prelude.{◌≡◌, ◌↔◌, ◌++◌, false, [], ◌∷◌};
+ghost use Rattle.std.specs.Prelude.{◌≡◌, ◌↔◌, ◌++◌, false, [], ◌∷◌, map};
 ghost use Rattle.gb_terms.specs.declared.decl.Module.{Module};
 ghost use Rattle.gb_terms.specs.declared.term.Term.{Term};
 ghost use Rattle.gb_meaning.specs.Names.{Name};
@@ -43,4 +43,10 @@ pub fn scopes_of_scripts()
 pub fn later_statements()
     ensures settings { (ds ls : Declarations) → AreStatements ls → (i : Interpretation) → setting (ds ++ ls) i ≡ setting ds i }
     ensures holds { (ds ls : Declarations) → AreStatements ls → (q : Sequent) → Holds ds q → Holds (ds ++ ls) q }
+{}
+
+/// Sequents that differ in the names of their variables and memories alone hold alike: forms name these by their places.
+pub fn renamed_contexts()
+    ensures { (ds : Declarations) (q r : Sequent) → q.modules ≡ r.modules → q.hyps ≡ r.hyps → q.conclusion ≡ r.conclusion →
+        map (λ x. x.ty) q.logical ≡ map (λ x. x.ty) r.logical → Holds ds q ↔ Holds ds r }
 {}
