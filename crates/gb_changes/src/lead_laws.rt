@@ -1,6 +1,7 @@
 //! Where changes lead.
 
-ghost use Rattle.std.specs.Prelude.{◌≡◌, [], ◌∷◌};
+ghost use Rattle.std.specs.Prelude.{◌≡◌, List, [], ◌∷◌};
+ghost use Rattle.std.specs.List.{AllByRecursion};
 ghost use Rattle.gb_core.specs.declared.var.Var.{Var};
 ghost use Rattle.gb_core.specs.declared.value.Value.{Value};
 ghost use Rattle.gb_terms.specs.declared.op.Side.{Side};
@@ -17,7 +18,7 @@ ghost use Rattle.gb_meaning.specs.Terms.{Speaks, val};
 ghost use Rattle.gb_changes.specs.Uses.{Uses, unbound};
 ghost use Rattle.gb_changes.specs.Led.{Led};
 ghost use Rattle.gb_changes.specs.Fit.{BindsNone};
-ghost use Rattle.gb_changes.specs.Written.{with_side, IsSide, IsOne, Suits};
+ghost use Rattle.gb_changes.specs.Written.{with_side, IsSide, IsOne, Suits, Written, written_changes, all_written, IsWritten};
 
 /// Where reads of a side go to the memory that the innermost binder binds, the changes lead to the state in which this memory
 /// is that side.
@@ -34,4 +35,11 @@ pub fn written_variables()
     ensures { (g : Setting) (j : Speaks) (x : Var) (r : Side) (t : Term) (v : Value) (s : State) (K : Uses) → IsOne x → IsSide r →
         val g j t s ≡ finite v → Suits g K x r v → BindsNone K →
         Led g j (ToTerm (Program x r) t ∷ []) K s (with_side s r (write g.types (memory_of s r) x v)) }
+{}
+
+/// The same of several terms that take the places of variables at once: the changes lead to the state after all writes, of the
+/// values that the terms have before any of them.
+pub fn variables_written_at_once()
+    ensures { (g : Setting) (j : Speaks) (K : Uses) (s : State) (ws : List Written) → AllByRecursion (IsWritten g j K s) ws →
+        BindsNone K → Led g j (written_changes ws) K s (all_written g s ws) }
 {}
