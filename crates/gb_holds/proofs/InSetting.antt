@@ -126,5 +126,5 @@ pub in_setting : (before after : Declarations) (m : Module) (ps qs : List Proc) 
     (setting (before ++ (m.name, concrete_module m) ∷ after) i).procedure (record { «module» = named m.name; name = p.name })
     ≡ Some (routine p.params p.locals (statements (setting (before ++ (m.name, concrete_module m) ∷ after) i) p.body.list) p.value)
 in_setting before after m ps qs p i plain place fresh last free calls =
-    linked_body (with_operators i (bare (types_of (between before m after) i)) (between before m after)) i.programs before after m plain ps qs p place fresh last free
+    linked_body (with_operators i.table (bare (types_of (between before m after) i) i.table) (between before m after)) i.programs before after m plain ps qs p place fresh last free
     (setting (between before m after) i) refl calls

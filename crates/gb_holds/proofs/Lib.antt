@@ -17,6 +17,9 @@ pub mod InSetting
 pub mod MoreGlobals
 pub mod LinkedTypes
 pub mod SameScope
+pub mod ModuleTypes
 pub mod Statements
 pub mod Kept
 pub mod Renaming
+pub mod KeptLoops
+pub mod PlainTypes

@@ -81,7 +81,7 @@ module _ (w : World) (gs : List Global) (a : AreIn w gs) (ls : List TypedName) w
 
   mutual
     expression-more : (e : Term) → IsExpression few e → IsExpression many e
-    expression-more (Term' b (more_of-Head h end_of-Head) n args t) k = (head-more h t k.0, expressions-more args k.1)
+    expression-more (Term' b (more_of-Head h end_of-Head) n args t) k = (k.0, head-more h t k.1, expressions-more args k.2)
 
     expressions-more : {n : Count} (r : Row_of-Term n) → AreExpressions few r → AreExpressions many r
     expressions-more end_of-Term k = tt

@@ -23,25 +23,23 @@ use Rattle.gb_holds.specs.Declared.{Declarations, ModuleType, Signature, signatu
 use Rattle.gb_holds.specs.Modules.{found}
 use Rattle.gb_holds.specs.Linking.{Oracles}
 use Rattle.gb_holds.specs.Adversary.{Adversary, type_named, may_call, oracle_signature, callable}
-use Rattle.gb_holds.specs.Settings.{Interpretation, with_program, setting, declared_globals}
+use Rattle.gb_holds.specs.Settings.{Chosen, Table, interpreted, setting, declared_globals}
 use Rattle.gb_holds.specs.Programs.{IsProcedureFor, HasProcedures, IsProgramFor, AreNamed, AreFull}
 use Rattle.gb_holds.specs.Bounds.{IsAnswer, AreOracles, oracle_in, without, EachCallsAtMost, GroupCall, IsGroupRun, IsBounded}
 use Rattle.gb_holds.specs.Within.{AreApart, KeepsOff, IsWithinIn, IsWithin}
 use Rattle.gb_holds.specs.Truth.{Choice, last_has_module, IsFirstTrue, Truth, TruthOfLast}
 
--- names mean the same
-pub record SameScope (ds es : Declarations) : Type 0 where
-  pub types : (n : Name) → type_named ds n ≡ type_named es n
-  pub settings : (i : Interpretation) → setting ds i ≡ setting es i
-  pub globals : declared_globals ds ≡ declared_globals es
+-- module types are the same
+abbrev pub SameTypes : Declarations → Declarations → Type 0
+SameTypes ds es = (n : Name) → type_named ds n ≡ type_named es n
 
-pub turned : (ds es : Declarations) → SameScope ds es → SameScope es ds
-turned ds es e = record { types = λ n. sym (e.types n); settings = λ i. sym (e.settings i); globals = sym e.globals }
+turned-types : (ds es : Declarations) → SameTypes ds es → SameTypes es ds
+turned-types ds es e n = sym (e n)
 
-module _ (ds es : Declarations) (e : SameScope ds es) where
+module _ (ds es : Declarations) (e : SameTypes ds es) where
   oracle-same : (ps : List Param) (o : Oracle) → oracle_signature ds ps o ≡ oracle_signature es ps o
   oracle-same [] o = refl
-  oracle-same (p ∷ ps) o = λ i. if bytes_eq o.parameter p.name then signature_in (e.types p.ty i).signatures o.name else oracle-same ps o i
+  oracle-same (p ∷ ps) o = λ i. if bytes_eq o.parameter p.name then signature_in (e p.ty i).signatures o.name else oracle-same ps o i
 
   callable-same : (t : ModuleType) (s : Signature) → callable ds t s ≡ callable es t s
   callable-same t s = fun_ext (λ o i. if may_call s.oracles o then oracle-same t.params o i else None)
@@ -54,13 +52,8 @@ module _ (ds es : Declarations) (e : SameScope ds es) where
   procedures-to g t a (s ∷ ss) h =
       (subst (λ z. IsProcedureFor g z a.footprint s (found a.procedures s.name)) (callable-same t s) h.0, procedures-to g t a ss h.1)
 
-  program-to : (g : Setting) (w : World) (t : ModuleType) (a : Adversary) → IsProgramFor ds g w t a → IsProgramFor es g w t a
+  pub program-to : (g : Setting) (w : World) (t : ModuleType) (a : Adversary) → IsProgramFor ds g w t a → IsProgramFor es g w t a
   program-to g w t a h = record { rising = h.rising; known = h.known; procedures = procedures-to g t a t.signatures h.procedures }
-
-  keeps-to : (g : Setting) (xs : List Global) (ms : List Name) → KeepsOff ds g xs ms → KeepsOff es g xs ms
-  keeps-to g xs [] h = tt
-  keeps-to g xs (m ∷ ms) h =
-      (subst (λ z. AreApart xs (filter (λ x. bytes_eq m x.parent) z ++ g.types.footprint (named m))) e.globals h.0, keeps-to g xs ms h.1)
 
   group-to : (g : Setting) (w : World) (t : ModuleType) (a : Adversary) (o : Oracle) (fs : List Name) (m : Memory) (cs : List GroupCall) →
       IsGroupRun ds g w t a o fs m cs → IsGroupRun es g w t a o fs m cs
@@ -68,60 +61,89 @@ module _ (ds es : Declarations) (e : SameScope ds es) where
   group-to g w t a o fs m (c ∷ cs) h =
       (h.0, (oracles-to g w t c.oracles h.1.0, h.1.1), h.2, h.3, group-to g w t a o (without c.name fs) c.after cs h.4)
 
-module _ (ds es : Declarations) (e : SameScope ds es) where
+module _ (ds es : Declarations) (e : SameTypes ds es) where
   each-to : (g : Setting) (w : World) (t : ModuleType) (a : Adversary) (o : Oracle) (q : ℕ) (fs : List Name) →
       EachCallsAtMost ds g w t a o q fs → EachCallsAtMost es g w t a o q fs
   each-to g w t a o q [] h = tt
   each-to g w t a o q (f ∷ fs) h =
-      ((λ os good. h.0 os (oracles-to es ds (turned ds es e) g w t os good)), each-to g w t a o q fs h.1)
+      ((λ os good. h.0 os (oracles-to es ds (turned-types ds es e) g w t os good)), each-to g w t a o q fs h.1)
 
-  bounded-to : (g : Setting) (w : World) (t : ModuleType) (a : Adversary) (bs : List Bound) → IsBounded ds g w t a bs → IsBounded es g w t a bs
+  pub bounded-to : (g : Setting) (w : World) (t : ModuleType) (a : Adversary) (bs : List Bound) → IsBounded ds g w t a bs → IsBounded es g w t a bs
   bounded-to g w t a [] h = tt
   bounded-to g w t a (b ∷ bs) h = (
     each-to g w t a (oracle_in b.oracle) b.most b.procs h.0,
-    (λ m cs r. h.1 m cs (group-to es ds (turned ds es e) g w t a (oracle_in b.oracle) b.procs m cs r)),
+    (λ m cs r. h.1 m cs (group-to es ds (turned-types ds es e) g w t a (oracle_in b.oracle) b.procs m cs r)),
     bounded-to g w t a bs h.2,
   )
 
-  within_in-to : (g : Setting) (w : World) (b : Bind) (a : Adversary) → IsWithinIn ds g w b a → IsWithinIn es g w b a
+-- module types and globals are the same
+pub record SameFrame (ds es : Declarations) : Type 0 where
+  pub types : SameTypes ds es
+  pub globals : declared_globals ds ≡ declared_globals es
+
+turned-frame : (ds es : Declarations) → SameFrame ds es → SameFrame es ds
+turned-frame ds es e = record { types = turned-types ds es e.types; globals = sym e.globals }
+
+module _ (ds es : Declarations) (e : SameFrame ds es) where
+  keeps-to : (g : Setting) (xs : List Global) (ms : List Name) → KeepsOff ds g xs ms → KeepsOff es g xs ms
+  keeps-to g xs [] h = tt
+  keeps-to g xs (m ∷ ms) h =
+      (subst (λ z. AreApart xs (filter (λ x. bytes_eq m x.parent) z ++ g.types.footprint (named m))) e.globals h.0, keeps-to g xs ms h.1)
+
+  pub within_in-to : (g : Setting) (w : World) (b : Bind) (a : Adversary) → IsWithinIn ds g w b a → IsWithinIn es g w b a
   within_in-to g w b a h = record {
-    program = subst (λ t. IsProgramFor es g w t a) (e.types b.ty) (program-to ds es e g w (type_named ds b.ty) a h.program);
+    program = subst (λ t. IsProgramFor es g w t a) (e.types b.ty) (program-to ds es e.types g w (type_named ds b.ty) a h.program);
     named = subst (λ t. AreNamed a t.signatures) (e.types b.ty) h.named;
     full = subst (λ t. AreFull g a t.signatures) (e.types b.ty) h.full;
-    apart = keeps-to ds es e g a.footprint b.minus h.apart;
-    bounded = subst (λ t. IsBounded es g w t a b.bounds) (e.types b.ty) (bounded-to g w (type_named ds b.ty) a b.bounds h.bounded);
+    apart = keeps-to g a.footprint b.minus h.apart;
+    bounded = subst (λ t. IsBounded es g w t a b.bounds) (e.types b.ty) (bounded-to ds es e.types g w (type_named ds b.ty) a b.bounds h.bounded);
   }
 
-  pub within-to : (i : Interpretation) (b : Bind) (a : Adversary) → IsWithin ds i b a → IsWithin es i b a
-  within-to i b a h = subst (λ g. IsWithinIn es g i.world b a) (e.settings i) (within_in-to (setting ds i) i.world b a h)
+-- names mean the same, with one table in the first declarations and with another one in the second
+pub record SameScope (ds es : Declarations) (w : World) (size : Name → ℕ) (t u : Table) : Type 0 where
+  pub frame : SameFrame ds es
+  pub settings : (cs : List Chosen) → setting ds (interpreted w size t cs) ≡ setting es (interpreted w size u cs)
 
-  true-to : (f : Term) (i : Interpretation) (s : State) → IsTrueIn (setting ds i) f s → IsTrueIn (setting es i) f s
-  true-to f i s h = subst (λ g. IsTrueIn g f s) (e.settings i) h
+pub turned : (ds es : Declarations) (w : World) (size : Name → ℕ) (t u : Table) → SameScope ds es w size t u → SameScope es ds w size u t
+turned ds es w size t u e = record { frame = turned-frame ds es e.frame; settings = λ cs. sym (e.settings cs) }
 
-  choice-to : (t : Bool) (A B C D : Type 0) → (A → C) → (B → D) → Choice t A B → Choice t C D
-  choice-to true A B C D f g h = f h
-  choice-to false A B C D f g h = g h
+module _ (ds es : Declarations) (w : World) (size : Name → ℕ) (t u : Table) (e : SameScope ds es w size t u) where
+  pub within-to : (cs : List Chosen) (b : Bind) (a : Adversary) → IsWithin ds (interpreted w size t cs) b a → IsWithin es (interpreted w size u cs) b a
+  within-to cs b a h =
+      subst (λ g. IsWithinIn es g w b a) (e.settings cs) (within_in-to ds es e.frame (setting ds (interpreted w size t cs)) w b a h)
 
-module _ (ds es : Declarations) (e : SameScope ds es) where
-  first-to : {n : Count} (r : Row_of-Term n) (i : Interpretation) (s : State) → IsFirstTrue es r i s → IsFirstTrue ds r i s
-  first-to end_of-Term i s h = tt
-  first-to (more_of-Term t r) i s h = true-to es ds (turned ds es e) t i s h
+  true-to : (f : Term) (cs : List Chosen) (s : State) → IsTrueIn (setting ds (interpreted w size t cs)) f s → IsTrueIn (setting es (interpreted w size u cs)) f s
+  true-to f cs s h = subst (λ g. IsTrueIn g f s) (e.settings cs) h
+
+choice-to : (t : Bool) (A B C D : Type 0) → (A → C) → (B → D) → Choice t A B → Choice t C D
+choice-to true A B C D f g h = f h
+choice-to false A B C D f g h = g h
+
+module _ (ds es : Declarations) (w : World) (size : Name → ℕ) (t u : Table) (e : SameScope ds es w size t u) where
+  first-to : {n : Count} (r : Row_of-Term n) (cs : List Chosen) (s : State) →
+      IsFirstTrue es r (interpreted w size u cs) s → IsFirstTrue ds r (interpreted w size t cs) s
+  first-to end_of-Term cs s h = tt
+  first-to (more_of-Term f r) cs s h = true-to es ds w size u t (turned ds es w size t u e) f cs s h
 
   mutual
-    pub truth-to : (f : Term) (i : Interpretation) (s : State) → Truth ds f i s → Truth es f i s
-    truth-to (Term' p (more_of-Head (head.AllModule b) end_of-Head) n ts ty) i s h =
-        λ a k. last-to ts (with_program i b a) (under s program) (h a (within-to es ds (turned ds es e) (with_program i b a) b a k))
-    truth-to (Term' p (more_of-Head (head.All u) end_of-Head) n ts ty) i s h =
-        choice-to ds es e (last_has_module ts) _ _ _ _
-        (λ f v k. last-to ts i (under s (value (finite v))) (f v (subst (λ g. has g.types u v ≡ true) (sym (e.settings i)) k)))
-        (true-to ds es e (Term' p (more_of-Head (head.All u) end_of-Head) n ts ty) i s) h
-    truth-to (Term' p (more_of-Head head.AllMemory end_of-Head) n ts ty) i s h =
-        choice-to ds es e (last_has_module ts) _ _ _ _ (λ f m. last-to ts i (under s (memory m)) (f m)) (true-to ds es e (Term' p (more_of-Head head.AllMemory end_of-Head) n ts ty) i s) h
-    truth-to (Term' p (more_of-Head (head.Builtin op.Implies) end_of-Head) n ts ty) i s h =
-        choice-to ds es e (last_has_module ts) _ _ _ _ (λ f k. last-to ts i s (f (first-to ts i s k))) (true-to ds es e (Term' p (more_of-Head (head.Builtin op.Implies) end_of-Head) n ts ty) i s) h
-    truth-to f i s h = true-to ds es e f i s h
+    pub truth-to : (f : Term) (cs : List Chosen) (s : State) → Truth ds f (interpreted w size t cs) s → Truth es f (interpreted w size u cs) s
+    truth-to (Term' p (more_of-Head (head.AllModule b) end_of-Head) n ts ty) cs s h =
+        λ a k. let ks : List Chosen = record { bind = b; program = a } ∷ cs in
+        last-to ts ks (under s program) (h a (within-to es ds w size u t (turned ds es w size t u e) ks b a k))
+    truth-to (Term' p (more_of-Head (head.All y) end_of-Head) n ts ty) cs s h =
+        choice-to (last_has_module ts) _ _ _ _
+        (λ f v k. last-to ts cs (under s (value (finite v))) (f v (subst (λ g. has g.types y v ≡ true) (sym (e.settings cs)) k)))
+        (true-to ds es w size t u e (Term' p (more_of-Head (head.All y) end_of-Head) n ts ty) cs s) h
+    truth-to (Term' p (more_of-Head head.AllMemory end_of-Head) n ts ty) cs s h =
+        choice-to (last_has_module ts) _ _ _ _ (λ f m. last-to ts cs (under s (memory m)) (f m))
+        (true-to ds es w size t u e (Term' p (more_of-Head head.AllMemory end_of-Head) n ts ty) cs s) h
+    truth-to (Term' p (more_of-Head (head.Builtin op.Implies) end_of-Head) n ts ty) cs s h =
+        choice-to (last_has_module ts) _ _ _ _ (λ f k. last-to ts cs s (f (first-to ts cs s k)))
+        (true-to ds es w size t u e (Term' p (more_of-Head (head.Builtin op.Implies) end_of-Head) n ts ty) cs s) h
+    truth-to f cs s h = true-to ds es w size t u e f cs s h
 
-    last-to : {n : Count} (r : Row_of-Term n) (i : Interpretation) (s : State) → TruthOfLast ds r i s → TruthOfLast es r i s
-    last-to end_of-Term i s h = tt
-    last-to (more_of-Term t end_of-Term) i s h = truth-to t i s h
-    last-to (more_of-Term t (more_of-Term u ts)) i s h = last-to (more_of-Term u ts) i s h
+    last-to : {n : Count} (r : Row_of-Term n) (cs : List Chosen) (s : State) →
+        TruthOfLast ds r (interpreted w size t cs) s → TruthOfLast es r (interpreted w size u cs) s
+    last-to end_of-Term cs s h = tt
+    last-to (more_of-Term f end_of-Term) cs s h = truth-to f cs s h
+    last-to (more_of-Term f (more_of-Term g ts)) cs s h = last-to (more_of-Term g ts) cs s h

@@ -1,17 +1,17 @@
 -- The lemma on two coins holds.
-use Rattle.std.proofs.Common.{◌≡◌, ℕ, List, Bool, true, false, [], ◌∷◌, refl, arith}
+use Rattle.std.proofs.Common.{◌≡◌, ℕ, Bool, true, false, [], ◌∷◌, refl, arith}
 use Rattle.std.proofs.lemmas.Bool.{false≢true}
-use Rattle.gb_core.specs.declared.value.Value.{Value, out-Value}
+use Rattle.gb_core.specs.declared.value.Value.{out-Value}
 use Rattle.gb_core.specs.declared.value.Value.TheVariants.{Num}
 use Rattle.gb_meaning.specs.Names.{Name}
 use Rattle.gb_meaning.specs.Values.{World}
 use Rattle.gb_meaning.specs.Memory.{outcome}
-use Rattle.gb_meaning.specs.Setting.{Setting, Meaning}
+use Rattle.gb_meaning.specs.Setting.{Setting}
 use Rattle.gb_meaning.specs.Meanings.{of_truth, truth}
 use Rattle.gb_meaning.specs.State.{State}
 use Rattle.gb_meaning.specs.Sound.{IsDistribution}
 use Rattle.gb_meaning.specs.Judgments.{Judge, IsJudged, Stands, IsTrueIn}
-use Rattle.gb_holds.specs.Settings.{setting}
+use Rattle.gb_holds.specs.Settings.{Table, setting}
 use Rattle.gb_holds.specs.Holds.{Holds, interpretation}
 use Rattle.gb_holds.specs.Coins.{fair_coin, two_coins, coins_are_alike, coin_sequent}
 
@@ -24,7 +24,7 @@ coin_is_distribution : (g : Setting) → IsDistribution g fair_coin
 unfolding out-Value denote.Hole.Carrier.out
 coin_is_distribution g = record { positive = omega arith; entries = λ s. (omega arith, tt, (omega arith, tt, tt)); total = λ s. omega arith }
 
-module _ (w : World) (size : Name → ℕ) (table : Name → List Value → Meaning) where
+module _ (w : World) (size : Name → ℕ) (table : Table) where
   g : Setting
   g = setting two_coins (interpretation w size table)
 

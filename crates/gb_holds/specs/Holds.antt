@@ -21,10 +21,10 @@ use Rattle.gb_meaning.specs.Setting.Meaning.{finite, whole, fraction}
 use Rattle.gb_meaning.specs.State.{State, closed, no_memory}
 use Rattle.gb_meaning.specs.Commands.{statements}
 use Rattle.gb_meaning.specs.Loops.{IsGood}
-use Rattle.gb_holds.specs.Declared.{Declarations, Declaration, abstract_operator, abstract_module, axiom_of, lemma, terminating, module_named}
+use Rattle.gb_holds.specs.Declared.{Declarations, Declaration, abstract_type, abstract_operator, module_type, concrete_module, abstract_module, axiom_of, lemma, terminating, module_named}
 use Rattle.gb_holds.specs.Typing.{IsVariableType}
 use Rattle.gb_holds.specs.Adversary.{Adversary, type_named}
-use Rattle.gb_holds.specs.Settings.{Interpretation, with_program, types_of, setting, declared_globals}
+use Rattle.gb_holds.specs.Settings.{Table, Interpretation, interpreted, with_program, types_of, setting, declared_globals}
 use Rattle.gb_holds.specs.Programs.{IsRising, AreIn, IsProgramFor}
 use Rattle.gb_holds.specs.Within.{IsWithin}
 use Rattle.gb_holds.specs.Truth.{Truth}
@@ -70,10 +70,10 @@ IsResult ts ty.Real (fraction a) = 0 < a.1
 IsResult ts t _ = ⊥
 
 -- each abstract operator has a result of its type for all arguments of its types
-abbrev pub GiveResults : Declarations → Types → (Name → List Value → Meaning) → Type 0
+abbrev pub GiveResults : Declarations → Types → Table → Type 0
 GiveResults [] ts table = Unit {0}
 GiveResults ((n, abstract_operator o) ∷ ds) ts table =
-    ((vs : List Value) → AreValues ts o.params vs → IsResult ts o.result (table n vs)) × GiveResults ds ts table
+    ((vs : List Value) → AreValues ts o.params vs → IsResult ts o.result ((table n).result (map finite vs))) × GiveResults ds ts table
 GiveResults (d ∷ ds) ts table = GiveResults ds ts table
 
 -- each axiom is true
@@ -99,12 +99,12 @@ declared_modules ((n, abstract_module b) ∷ ds) = b ∷ declared_modules ds
 declared_modules (d ∷ ds) = declared_modules ds
 
 -- an interpretation without programs
-abbrev pub interpretation : World → (Name → ℕ) → (Name → List Value → Meaning) → Interpretation
-interpretation w size table = record { world = w; size = size; table = table; programs = [] }
+abbrev pub interpretation : World → (Name → ℕ) → Table → Interpretation
+interpretation w size table = interpreted w size table []
 
 -- in each model, and for all programs within the modules that open sections declare
 abbrev pub InEachModel : Declarations → (Interpretation → Type 0) → Type 0
-InEachModel ds P = (w : World) (size : Name → ℕ) (table : Name → List Value → Meaning) →
+InEachModel ds P = (w : World) (size : Name → ℕ) (table : Table) →
     IsModel ds (interpretation w size table) → EachProgram ds (declared_modules ds) (interpretation w size table) P
 
 -- A sequent holds where it is true in each model.
@@ -162,13 +162,30 @@ AreSoundAfter before (d ∷ ds) = IsSoundAfter before d.0 d.1 × AreSoundAfter (
 abbrev pub IsSound : Declarations → Type 0
 IsSound ds = AreSoundAfter [] ds
 
--- a lemma, or that loops are proved: it says nothing of what names mean
-abbrev pub IsStatement : Declaration → Type 0
-IsStatement (lemma q) = Unit {0}
-IsStatement (terminating f) = Unit {0}
-IsStatement _ = ⊥
+-- A declaration of a type, an axiom, a lemma, or that loops are proved: it leaves what names mean as it is.
+abbrev pub IsSilent : Declaration → Type 0
+IsSilent abstract_type = Unit {0}
+IsSilent (axiom_of q) = Unit {0}
+IsSilent (lemma q) = Unit {0}
+IsSilent (terminating f) = Unit {0}
+IsSilent _ = ⊥
 
--- all are statements
-abbrev pub AreStatements : Declarations → Type 0
-AreStatements [] = Unit {0}
-AreStatements (d ∷ ds) = IsStatement d.1 × AreStatements ds
+-- each declaration is in P
+abbrev pub EachDeclared : (Declaration → Type 0) → Declarations → Type 0
+EachDeclared P [] = Unit {0}
+EachDeclared P (d ∷ ds) = P d.1 × EachDeclared P ds
+
+-- all are such declarations
+abbrev pub AreSilent : Declarations → Type 0
+AreSilent ds = EachDeclared IsSilent ds
+
+-- a declaration of no module, no module type and no abstract module
+abbrev pub KeepsModules : Declaration → Type 0
+KeepsModules (module_type t) = ⊥
+KeepsModules (concrete_module m) = ⊥
+KeepsModules (abstract_module b) = ⊥
+KeepsModules _ = Unit {0}
+
+-- all are such declarations
+abbrev pub KeepModules : Declarations → Type 0
+KeepModules ds = EachDeclared KeepsModules ds

@@ -2,6 +2,7 @@ pub mod Declared
 pub mod Modules
 pub mod Footprints
 pub mod Linking
+pub mod Globs
 pub mod Typing
 pub mod Adversary
 pub mod Counted

@@ -1,14 +1,12 @@
 -- The setting that declarations make, where it is chosen what they leave open.
 use Rattle.std.specs.Prelude.{ℕ, List, [], ◌∷◌, ◌++◌, map, reverse, None, if◌then◌else◌, bytes_eq}
 use Rattle.gb_core.specs.declared.var.Var.{Var}
-use Rattle.gb_core.specs.declared.value.Value.{Value}
 use Rattle.gb_terms.specs.declared.decl.TypedName.{TypedName}
 use Rattle.gb_terms.specs.declared.module.Bind.{Bind}
 use Rattle.gb_meaning.specs.Names.{Name}
 use Rattle.gb_meaning.specs.Values.{Global, World, Types}
 use Rattle.gb_meaning.specs.Program.{Routine}
 use Rattle.gb_meaning.specs.Setting.{Setting, Meaning}
-use Rattle.gb_meaning.specs.Meanings.{nothing, value_in}
 use Rattle.gb_meaning.specs.State.{State, closed}
 use Rattle.gb_meaning.specs.State.Binding.{value}
 use Rattle.gb_meaning.specs.Terms.{quiet, val, denominator}
@@ -23,13 +21,27 @@ pub record Chosen : Type 0 where
   pub bind : Bind
   pub program : Adversary
 
--- What declarations leave open: the world, the sizes of abstract types, the functions of abstract operators, and the
--- programs of abstract modules, the last one first.
+-- what an operator means: its results, and their denominator where they are distributions
+pub record Function : Type 0 where
+  pub result : List Meaning → Meaning
+  pub denominator : ℕ
+
+-- the functions of operators, by name
+abbrev pub Table : Type 0
+Table = Name → Function
+
+-- What declarations leave open: the world, the sizes of abstract types, the functions of operators without a body, and the
+-- programs of abstract modules, the last one first. Sizes and functions are chosen for names that aren't declared too:
+-- programs may use what is declared later.
 pub record Interpretation : Type 0 where
   pub world : World
   pub size : Name → ℕ
-  pub table : Name → List Value → Meaning
+  pub table : Table
   pub programs : List Chosen
+
+-- an interpretation with these programs
+abbrev pub interpreted : World → (Name → ℕ) → Table → List Chosen → Interpretation
+interpreted w size table cs = record { world = w; size = size; table = table; programs = cs }
 
 -- the interpretation, and a program for a further abstract module
 abbrev pub with_program : Interpretation → Bind → Adversary → Interpretation
@@ -58,9 +70,10 @@ types_of ds i = record {
   footprint = λ m. footprint_globals i.world (program_footprint i.programs) (footprint (footprints ds i.programs) m);
 }
 
--- a setting in which no operator and no procedure is declared
-abbrev pub bare : Types → Setting
-bare ts = record { types = ts; operator = λ n xs. nothing; denominator = λ n. 1; procedure = λ p. None }
+-- a setting in which no operator and no procedure is declared: each operator means the function that is chosen for it
+abbrev pub bare : Types → Table → Setting
+bare ts table =
+    record { types = ts; operator = λ n. (table n).result; denominator = λ n. (table n).denominator; procedure = λ p. None }
 
 -- the state in which an operator's body is read: its parameters are bound, the last one innermost
 abbrev pub at_arguments : List Meaning → State
@@ -74,15 +87,15 @@ with_operator g n f k = record g {
 }
 
 -- An operator with a body means its body; one without a body means the function that is chosen for it.
-abbrev pub with_declaration : Interpretation → Setting → Name → Declaration → Setting
-with_declaration i g n (operator o) = with_operator g n (λ xs. val g quiet o.body (at_arguments xs)) (denominator g o.body)
-with_declaration i g n (abstract_operator o) = with_operator g n (λ xs. i.table n (map value_in xs)) 1
-with_declaration i g n _ = g
+abbrev pub with_declaration : Table → Setting → Name → Declaration → Setting
+with_declaration table g n (operator o) = with_operator g n (λ xs. val g quiet o.body (at_arguments xs)) (denominator g o.body)
+with_declaration table g n (abstract_operator o) = with_operator g n (table n).result (table n).denominator
+with_declaration table g n _ = g
 
 -- the setting with the declared operators; a body sees those before it
-abbrev pub with_operators : Interpretation → Setting → Declarations → Setting
-with_operators i g [] = g
-with_operators i g (d ∷ ds) = with_operators i (with_declaration i g d.0 d.1) ds
+abbrev pub with_operators : Table → Setting → Declarations → Setting
+with_operators table g [] = g
+with_operators table g (d ∷ ds) = with_operators table (with_declaration table g d.0 d.1) ds
 
 -- the programs of the abstract modules, on top of others
 abbrev pub with_abstract_programs : Declarations → List Chosen → Modules Routine → Modules Routine
@@ -101,7 +114,7 @@ with_modules ds cs g = record g { procedure = procedure_at (linked_modules ds g 
 
 -- the setting of the declarations in an interpretation
 abbrev pub setting : Declarations → Interpretation → Setting
-setting ds i = with_modules ds i.programs (with_operators i (bare (types_of ds i)) ds)
+setting ds i = with_modules ds i.programs (with_operators i.table (bare (types_of ds i) i.table) ds)
 
 -- the globals that are declared
 abbrev pub globals_from : Name → List TypedName → List Global

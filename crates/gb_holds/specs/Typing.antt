@@ -22,6 +22,7 @@ use Rattle.gb_meaning.specs.State.{State}
 use Rattle.gb_meaning.specs.Terms.{quiet, val, distribution}
 use Rattle.gb_meaning.specs.Sound.{IsDistribution}
 use Rattle.gb_holds.specs.Declared.{Signature}
+use Rattle.gb_holds.specs.Globs.{IsGlobless}
 
 -- what an open procedure may name: the globals of a footprint and its locals
 pub record Names : Type 0 where
@@ -77,9 +78,10 @@ IsProgramHead c head.Map t = Unit {0}
 IsProgramHead c head.Restrict t = Unit {0}
 IsProgramHead c _ t = ⊥
 
+-- An expression of a program. No type in it speaks of a module's globals.
 abbrev mutual
   pub IsExpression : Names → Term → Type 0
-  IsExpression c (Term' b (more_of-Head h end_of-Head) n args t) = IsProgramHead c h t × AreExpressions c args
+  IsExpression c (Term' b (more_of-Head h end_of-Head) n args t) = IsGlobless t × IsProgramHead c h t × AreExpressions c args
 
   pub AreExpressions : {n : _} → Names → Row_of-Term n → Type 0
   AreExpressions c end_of-Term = Unit {0}

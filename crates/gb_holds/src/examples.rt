@@ -61,7 +61,7 @@ pub fn operators()
     ensures false_and_not_true { (i : Interpretation) →
         (setting three_operators i).operator difference_name (truth_number 0 ∷ truth_number 1 ∷ []) ≡ truth_number 0 }
     ensures of_chosen { (w : World) (size : Name → ℕ) →
-        (setting three_operators (interpretation w size (λ n vs. truth_number 1))).operator opposite_name (truth_number 0 ∷ [])
+        (setting three_operators (interpretation w size (λ n. record { result = λ xs. truth_number 1; denominator = 1 }))).operator opposite_name (truth_number 0 ∷ [])
         ≡ truth_number 1 }
 {}
 

@@ -12,7 +12,7 @@ ghost use Rattle.gb_goal.specs.declared.sequent.Sequent.{Sequent};
 ghost use Rattle.gb_holds.specs.Declared.{Declarations, Declaration, declared};
 ghost use Rattle.gb_holds.specs.Settings.{Interpretation, types_of, setting};
 ghost use Rattle.gb_holds.specs.Truth.{has_module, Truth};
-ghost use Rattle.gb_holds.specs.Holds.{Holds, IsSound, IsSoundAfter, AreStatements};
+ghost use Rattle.gb_holds.specs.Holds.{Holds, IsSound, IsSoundAfter, IsTerminating, AreSilent};
 
 /// The types of a setting don't depend on operators and procedures.
 pub fn types()
@@ -39,10 +39,11 @@ pub fn scopes_of_scripts()
         IsSound (declared (ds ++ (n, entry.Module m) ∷ [])) }
 {}
 
-/// What holds goes on to hold when lemmas and proved loops are declared: these say nothing of what names mean.
+/// What holds goes on to hold when types, axioms, lemmas and proved loops are declared: these leave what names mean as it is.
 pub fn later_statements()
-    ensures settings { (ds ls : Declarations) → AreStatements ls → (i : Interpretation) → setting (ds ++ ls) i ≡ setting ds i }
-    ensures holds { (ds ls : Declarations) → AreStatements ls → (q : Sequent) → Holds ds q → Holds (ds ++ ls) q }
+    ensures settings { (ds ls : Declarations) → AreSilent ls → (i : Interpretation) → setting (ds ++ ls) i ≡ setting ds i }
+    ensures holds { (ds ls : Declarations) → AreSilent ls → (q : Sequent) → Holds ds q → Holds (ds ++ ls) q }
+    ensures loops { (ds ls : Declarations) → AreSilent ls → (n f : Name) → IsTerminating ds n f → IsTerminating (ds ++ ls) n f }
 {}
 
 /// Sequents that differ in the names of their variables and memories alone hold alike: forms name these by their places.

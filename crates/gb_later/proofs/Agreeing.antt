@@ -26,7 +26,8 @@ use Rattle.gb_meaning.specs.Setting.{Setting}
 use Rattle.gb_meaning.specs.Commands.{program_of}
 use Rattle.gb_holds.specs.Naming.{EachName, EachCall, EachCallIn}
 use Rattle.gb_later.specs.Agreement.{SameValues, SameType, SameLocals, SameRead, SameWritten, AreWritten, SameLeaf, SameTerm, SameTerms, AreSameTerms, SameProgram, SameRoutine, SameIfThere, SameProcedure, SameSubject, SameJudged, SameForm, SameForms}
-use Rattle.gb_later.specs.Naming.{EachGlob, EachGlobIn, EachGlobOf, VariableNames, VariablesName, HeadNames, TermNames, TermsName, EachTermNames, ProgramNames, RoutineNames, NamesIfThere, ProcedureNames, SubjectNames, JudgedNames, FormNames, FormsName, AgreeOn}
+use Rattle.gb_holds.specs.Globs.{EachGlob, EachGlobIn}
+use Rattle.gb_later.specs.Naming.{EachGlobOf, VariableNames, VariablesName, HeadNames, TermNames, TermsName, EachTermNames, ProgramNames, RoutineNames, NamesIfThere, ProcedureNames, SubjectNames, JudgedNames, FormNames, FormsName, AgreeOn}
 
 module _ (P : Name → Type 0) where
   module _ (a g k : Name → Numbering) (f : (m : Name) → P m → g m ≡ k m) where
@@ -58,15 +59,15 @@ module _ (P : Name → Type 0) where
   only-named end_of-Ty e = tt
   only-named (more_of-Ty t ts) e = e.0
 
-  outcome-named : (t : Ty) → EachGlob P t → EachGlob P (outcome_type t)
+  pub outcome-named : (t : Ty) → EachGlob P t → EachGlob P (outcome_type t)
   outcome-named (ty.Distr' p x) e = only-named x e
   outcome-named _ e = tt
 
-  key-named : (t : Ty) → EachGlob P t → EachGlob P (key_type t)
+  pub key-named : (t : Ty) → EachGlob P t → EachGlob P (key_type t)
   key-named (ty.Map' p y q x) e = only-named y e.0
   key-named _ e = tt
 
-  module _ (g h : Setting) (agree : AgreeOn P g h) where
+  module _ (Q : Name → Type 0) (g h : Setting) (agree : AgreeOn P Q g h) where
     pub values_agree : (t : Ty) → EachGlob P t → SameValues g.types h.types t
     values_agree t e =
         values_named (λ n. numbers (g.types.size n)) (λ m. footprint_values g.types.size (g.types.footprint (named m))) (λ m. footprint_values h.types.size (h.types.footprint (named m)))
@@ -94,7 +95,7 @@ module _ (P : Name → Type 0) where
     all-written [] e = tt
     all-written (x ∷ xs) e = (written-agrees x e.0, all-written xs e.1)
 
-    leaf-agrees : (hd : Head) (t : Ty) → HeadNames P hd t → SameLeaf g h hd t
+    leaf-agrees : (hd : Head) (t : Ty) → HeadNames P Q hd t → SameLeaf g h hd t
     leaf-agrees (head.Read (read.Program x r)) t e = read-agrees x t e.0 e.1
     leaf-agrees (head.Builtin o) t e = type-agrees t e
     leaf-agrees (head.User n) t e = agree.operators n e
@@ -104,19 +105,19 @@ module _ (P : Name → Type 0) where
     leaf-agrees _ t e = tt
 
     mutual
-      pub term_agrees : (t : Term) → TermNames P t → SameTerm g h t
+      pub term_agrees : (t : Term) → TermNames P Q t → SameTerm g h t
       term_agrees (Term' p (more_of-Head hd end_of-Head) n ts t) e = (leaf-agrees hd t e.0, terms_agree ts e.1)
 
-      terms_agree : {n : Count} (ts : Row_of-Term n) → TermsName P ts → SameTerms g h ts
+      terms_agree : {n : Count} (ts : Row_of-Term n) → TermsName P Q ts → SameTerms g h ts
       terms_agree end_of-Term e = tt
       terms_agree (more_of-Term t ts) e = (term_agrees t e.0, terms_agree ts e.1)
 
-    each-agrees : (es : List Term) → EachTermNames P es → AreSameTerms g h es
+    each-agrees : (es : List Term) → EachTermNames P Q es → AreSameTerms g h es
     each-agrees [] e = tt
     each-agrees (t ∷ ts) e = (term_agrees t e.0, each-agrees ts e.1)
 
     mutual
-      pub program_agrees : (c : Program) → ProgramNames P c → SameProgram g h c
+      pub program_agrees : (c : Program) → ProgramNames P Q c → SameProgram g h c
       program_agrees done e = tt
       program_agrees (assign xs t c) e = (all-written xs e.0, term_agrees t e.1, program_agrees c e.2)
       program_agrees (sample x d c) e = (written-agrees x e.0, term_agrees d e.1, program_agrees c e.2)
@@ -125,14 +126,14 @@ module _ (P : Name → Type 0) where
       program_agrees (call xs r es c) e = (all-written xs e.0, routine_agrees r e.1, each-agrees es e.2, program_agrees c e.3)
       program_agrees (ask xs o es c) e = program_agrees c e
 
-      pub routine_agrees : (r : Routine) → RoutineNames P r → SameRoutine g h r
+      pub routine_agrees : (r : Routine) → RoutineNames P Q r → SameRoutine g h r
       routine_agrees (routine ps ls c r) e = (locals_agree ps e.0, locals_agree ls e.1, program_agrees c e.2, term_agrees r e.3)
 
-    there-agrees : (r : Option Routine) → NamesIfThere P r → SameIfThere g h r
+    there-agrees : (r : Option Routine) → NamesIfThere P Q r → SameIfThere g h r
     there-agrees None e = tt
     there-agrees (Some r) e = routine_agrees r e
 
-    procedure-agrees : (p : ProcRef) → ProcedureNames P g p → SameProcedure g h p
+    procedure-agrees : (p : ProcRef) → ProcedureNames P Q g p → SameProcedure g h p
     procedure-agrees p e = (agree.procedures p e.0, there-agrees (g.procedure p) e.1)
 
     mutual
@@ -147,11 +148,11 @@ module _ (P : Name → Type 0) where
       calls-agree end_of-Instr e = tt
       calls-agree (more_of-Instr i is) e = (call-agrees i e.0, calls-agree is e.1)
 
-    subject-agrees : (c : Subject) → SubjectNames P g c → SameSubject g h c
+    subject-agrees : (c : Subject) → SubjectNames P Q g c → SameSubject g h c
     subject-agrees (Proc p) e = procedure-agrees p e
     subject-agrees (Body' n is) e = (calls-agree is e.0, program_agrees (program_of g is) e.1)
 
-    judged-agrees : (hd : Head) → JudgedNames P g hd → SameJudged g h hd
+    judged-agrees : (hd : Head) → JudgedNames P Q g hd → SameJudged g h hd
     judged-agrees (head.Pr p r) e = procedure-agrees p e
     judged-agrees (head.Hoare c) e = subject-agrees c e
     judged-agrees (head.Phoare c r) e = subject-agrees c e
@@ -159,9 +160,9 @@ module _ (P : Name → Type 0) where
     judged-agrees _ e = tt
 
     mutual
-      pub form_agrees : (t : Term) → FormNames P g t → SameForm g h t
+      pub form_agrees : (t : Term) → FormNames P Q g t → SameForm g h t
       form_agrees (Term' p (more_of-Head hd end_of-Head) n ts t) e = (leaf-agrees hd t e.0, judged-agrees hd e.1, forms_agree ts e.2)
 
-      forms_agree : {n : Count} (ts : Row_of-Term n) → FormsName P g ts → SameForms g h ts
+      forms_agree : {n : Count} (ts : Row_of-Term n) → FormsName P Q g ts → SameForms g h ts
       forms_agree end_of-Term e = tt
       forms_agree (more_of-Term t ts) e = (form_agrees t e.0, forms_agree ts e.1)

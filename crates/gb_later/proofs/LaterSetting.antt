@@ -1,38 +1,36 @@
--- A setting agrees with the one of further modules on all names but theirs.
-use Rattle.std.proofs.Common.{◌≡◌, ℕ, Bool, true, false, ◌&&◌, if◌then◌else◌, List, [], ◌∷◌, ◌++◌, map, bytes_eq, refl, ap, sym, ◌∙◌, subst}
+-- Types that variables may have, operators, and linking, in settings that agree.
+use Rattle.std.proofs.Common.{◌≡◌, Bool, true, false, ◌&&◌, if◌then◌else◌, List, [], ◌∷◌, ◌++◌, bytes_eq, refl, ap, ◌∙◌}
 use Rattle.std.proofs.Math.Path.{fun_ext}
 use Rattle.std.specs.declared.cmp.Ordering.{Ordering}
 use Rattle.std.specs.declared.cmp.Ordering.TheVariants.{Less, Equal, Greater}
 use mathlib.Core.Former.{Count}
-use Rattle.gb_core.specs.declared.ty.Ty.{Ty, Row_of-Ty, end_of-Ty, more_of-Ty}
-use Rattle.gb_core.specs.declared.ty.Ty.TheVariants as ty
-use Rattle.gb_core.specs.declared.value.Value.{Value}
+use Rattle.gb_core.specs.declared.ty.Ty.{Ty}
 use Rattle.gb_core.specs.declared.var.Var.{Var}
 use Rattle.gb_core.specs.declared.var.Var.TheVariants as var
-use Rattle.gb_terms.specs.declared.module.Mexp.{Mexp}
 use Rattle.gb_terms.specs.declared.module.ProcRef.{ProcRef}
 use Rattle.gb_terms.specs.declared.term.Instr.{Instr, Row_of-Instr, end_of-Instr, more_of-Instr}
 use Rattle.gb_terms.specs.declared.term.Head.TheVariants.{Assign, Sample, Call', If', While'}
 use Rattle.gb_meaning.specs.Names.{Name}
 use Rattle.gb_types.specs.Numbering.{numbers}
 use Rattle.gb_terms.specs.declared.module.Mexp.TheVariants.{Name as named}
-use Rattle.gb_meaning.specs.Meanings.{value_in}
 use Rattle.gb_meaning.specs.Values.{Global, World, Types, values_by, footprint_values}
 use Rattle.gb_meaning.specs.Program.{Routine}
 use Rattle.gb_meaning.specs.Program.Routine.{routine}
 use Rattle.gb_meaning.specs.Setting.{Setting, Meaning}
 use Rattle.gb_meaning.specs.Terms.{val, quiet}
 use Rattle.gb_holds.specs.Declared.{Declarations, Declaration, abstract_type, operator, abstract_operator, module_type, concrete_module, abstract_module, axiom_of, lemma, terminating}
-use Rattle.gb_holds.specs.Modules.{Reading, no_module, modules_of, module_at, found}
+use Rattle.gb_holds.specs.Modules.{Reading}
 use Rattle.gb_holds.specs.Linking.{calling, linked_procedure}
-use Rattle.gb_holds.specs.Footprints.{placed, inserted, in_order, of_all, var_order, global_order, globals_named, entries_globals, footprint_read, footprint_globals}
-use Rattle.gb_holds.specs.Typing.{IsPlain, ArePlain}
-use Rattle.gb_holds.specs.Settings.{Interpretation, types_of, bare, at_arguments, with_declaration, with_operators, setting}
-use Rattle.gb_holds.specs.Holds.{HaveVariableTypes, interpretation}
-use Rattle.gb_holds.specs.Naming.{EachName, EachCall, EachCallIn, EachCallOf, IsFresh}
-use Rattle.gb_holds.proofs.Later.{later, same_body}
+use Rattle.gb_holds.specs.Footprints.{placed, inserted, in_order, global_order, globals_named, entries_globals, footprint_globals}
+use Rattle.gb_holds.specs.Typing.{IsPlain}
+use Rattle.gb_holds.specs.Settings.{Table, at_arguments, with_declaration, with_operators}
+use Rattle.gb_holds.specs.Holds.{HaveVariableTypes}
+use Rattle.gb_holds.specs.Naming.{EachCall, EachCallIn, EachCallOf}
+use Rattle.gb_holds.proofs.Later.{same_body}
+use Rattle.gb_holds.proofs.PlainTypes.{plain_glob}
 use Rattle.gb_later.specs.Agreement.{SameValues, SameGlobals}
-use Rattle.gb_later.specs.Naming.{EachGlob, EachGlobIn, AgreeOn, AreModulesOrStatements, OperatorNames, OperatorsName}
+use Rattle.gb_holds.specs.Globs.{IsGlobless}
+use Rattle.gb_later.specs.Naming.{AgreeOn, OperatorNames, OperatorsName}
 use Rattle.gb_later.proofs.SameTerms.{term_same, denominator_same}
 use Rattle.gb_later.proofs.Agreeing.{values_named, term_agrees}
 
@@ -41,7 +39,7 @@ abbrev pub EachPlain : List Global → Type 0
 EachPlain [] = Unit {0}
 EachPlain (x ∷ xs) = IsPlain x.ty × EachPlain xs
 
-plain_world : (t : Types) (w : World) → HaveVariableTypes t w → EachPlain w
+pub plain_world : (t : Types) (w : World) → HaveVariableTypes t w → EachPlain w
 plain_world t [] h = tt
 plain_world t (x ∷ w) h = (h.0.0, plain_world t w h.1)
 
@@ -71,36 +69,27 @@ plain-named : (w : World) → EachPlain w → (m x : Name) → EachPlain (global
 plain-named [] h m x = tt
 plain-named (g ∷ w) h m x = plain-if (bytes_eq m g.parent && bytes_eq x g.name) g (globals_named w m x) h.0 (plain-named w h.1 m x)
 
-plain-entries : (w : World) → EachPlain w → (xs : List Var) → EachPlain (entries_globals w (λ n. []) xs)
-plain-entries w h [] = tt
-plain-entries w h (var.Global m x ∷ xs) = plain-append (globals_named w m x) (entries_globals w (λ n. []) xs) (plain-named w h m x) (plain-entries w h xs)
-plain-entries w h (var.Local x ∷ xs) = plain-entries w h xs
-plain-entries w h (var.Glob a ∷ xs) = plain-entries w h xs
+module _ (w : World) (h : EachPlain w) (f : Name → List Global) (k : (n : Name) → EachPlain (f n)) where
+  plain-entries : (xs : List Var) → EachPlain (entries_globals w f xs)
+  plain-entries [] = tt
+  plain-entries (var.Global m x ∷ xs) = plain-append (globals_named w m x) (entries_globals w f xs) (plain-named w h m x) (plain-entries xs)
+  plain-entries (var.Local x ∷ xs) = plain-entries xs
+  plain-entries (var.Glob a ∷ xs) = plain-append (f a) (entries_globals w f xs) (k a) (plain-entries xs)
 
-plain_footprint : (w : World) → EachPlain w → (xs : List Var) → EachPlain (footprint_globals w (λ n. []) xs)
-plain_footprint w h xs = plain-ordered (entries_globals w (λ n. []) xs) (plain-entries w h xs)
+  pub plain_footprint : (xs : List Var) → EachPlain (footprint_globals w f xs)
+  plain_footprint xs = plain-ordered (entries_globals w f xs) (plain-entries xs)
 
-mutual
-  plain-glob : (P : Name → Type 0) (t : Ty) → IsPlain t → EachGlob P t
-  plain-glob P (ty.Tuple' n ts) h = plain-globs P ts h
-  plain-glob P (ty.Opt' p x) h = plain-globs P x h
-  plain-glob P (ty.Map' p k q x) h = (plain-globs P k h.0, plain-globs P x h.1)
-  plain-glob P (ty.Glob a) h = absurd h
-  plain-glob P (ty.Distr' p x) h = absurd h
-  plain-glob P _ h = tt
-
-  plain-globs : {n : Count} (P : Name → Type 0) (ts : Row_of-Ty n) → ArePlain ts → EachGlobIn P ts
-  plain-globs P end_of-Ty h = tt
-  plain-globs P (more_of-Ty t ts) h = (plain-glob P t h.0, plain-globs P ts h.1)
-
--- types of variables have the same values wherever the sizes are the same
-pub plain_values : (t u : Types) → t.size ≡ u.size → (y : Ty) → IsPlain y → SameValues t u y
-plain_values t u e y h =
+-- types that speak of no module's globals have the same values wherever the sizes are the same
+pub globless_values : (t u : Types) → t.size ≡ u.size → (y : Ty) → IsGlobless y → SameValues t u y
+globless_values t u e y h =
     values_named (λ n. ⊥) (λ n. numbers (t.size n)) (λ m. footprint_values t.size (t.footprint (named m))) (λ m. footprint_values u.size (u.footprint (named m)))
-    (λ m z. absurd z) y (plain-glob (λ n. ⊥) y h)
+    (λ m z. absurd z) y h
     ∙ (λ i. values_by (λ n. numbers (e i n)) (λ m. footprint_values u.size (u.footprint (named m))) y)
 
-plain-globals : (t u : Types) → t.size ≡ u.size → (xs : List Global) → EachPlain xs → SameGlobals t u xs
+pub plain_values : (t u : Types) → t.size ≡ u.size → (y : Ty) → IsPlain y → SameValues t u y
+plain_values t u e y h = globless_values t u e y (plain_glob (λ n. ⊥) y h)
+
+pub plain-globals : (t u : Types) → t.size ≡ u.size → (xs : List Global) → EachPlain xs → SameGlobals t u xs
 plain-globals t u e [] h = tt
 plain-globals t u e (x ∷ xs) h = (plain_values t u e x.ty h.0, plain-globals t u e xs h.1)
 
@@ -121,36 +110,23 @@ each-call-of P f [] = tt
 each-call-of P f (i ∷ is) = (each-call P f i, each-call-of P f is)
 
 -- linking looks at procedures alone
-linking_same : (g h : Setting) → ◌≡◌ {A = Reading Routine} (linked_procedure g) (linked_procedure h)
+pub linking_same : (g h : Setting) → ◌≡◌ {A = Reading Routine} (linked_procedure g) (linked_procedure h)
 linking_same g h = fun_ext (λ callee. fun_ext (λ p.
     ap (λ c. routine p.params p.locals c p.value)
     (same_body (calling g callee) (calling h callee) p.body.list (each-call-of (λ q. (calling g callee).procedure q ≡ (calling h callee).procedure q) (λ q. refl) p.body.list))))
 
-operators_after : (i : Interpretation) (g : Setting) (ds es : Declarations) → AreModulesOrStatements es → with_operators i g (ds ++ es) ≡ with_operators i g ds
-operators_after i g (d ∷ ds) es s = operators_after i (with_declaration i g d.0 d.1) ds es s
-operators_after i g [] [] s = refl
-operators_after i g [] ((n, concrete_module m) ∷ es) s = operators_after i g [] es s.1
-operators_after i g [] ((n, lemma q) ∷ es) s = operators_after i g [] es s.1
-operators_after i g [] ((n, terminating f) ∷ es) s = operators_after i g [] es s.1
-operators_after i g [] ((n, abstract_type) ∷ es) s = absurd s.0
-operators_after i g [] ((n, operator o) ∷ es) s = absurd s.0
-operators_after i g [] ((n, abstract_operator o) ∷ es) s = absurd s.0
-operators_after i g [] ((n, module_type t) ∷ es) s = absurd s.0
-operators_after i g [] ((n, abstract_module b) ∷ es) s = absurd s.0
-operators_after i g [] ((n, axiom_of q) ∷ es) s = absurd s.0
-
-module _ (P : Name → Type 0) (i : Interpretation) where
-  declaration-agrees : (g h : Setting) → AgreeOn P g h → (n : Name) (d : Declaration) → OperatorNames P d →
-      AgreeOn P (with_declaration i g n d) (with_declaration i h n d)
+module _ (P Q : Name → Type 0) (t : Table) where
+  declaration-agrees : (g h : Setting) → AgreeOn P Q g h → (n : Name) (d : Declaration) → OperatorNames P Q d →
+      AgreeOn P Q (with_declaration t g n d) (with_declaration t h n d)
   declaration-agrees g h a n (operator o) e =
       let f : ◌≡◌ {A = List Meaning → Meaning} (λ xs. val g quiet o.body (at_arguments xs)) (λ xs. val h quiet o.body (at_arguments xs)) =
-      fun_ext (λ xs. term_same g h o.body (term_agrees P g h a o.body e) (at_arguments xs)) in
+      fun_ext (λ xs. term_same g h o.body (term_agrees P Q g h a o.body e) (at_arguments xs)) in
       record {
         sizes = a.sizes;
         footprints = a.footprints;
         operators = λ m p. (
           λ k xs. if bytes_eq m n then f k xs else (a.operators m p).0 k xs,
-          λ k. if bytes_eq m n then denominator_same g h o.body (term_agrees P g h a o.body e) k else (a.operators m p).1 k,
+          λ k. if bytes_eq m n then denominator_same g h o.body (term_agrees P Q g h a o.body e) k else (a.operators m p).1 k,
         );
         procedures = a.procedures;
       }
@@ -158,62 +134,21 @@ module _ (P : Name → Type 0) (i : Interpretation) where
     sizes = a.sizes;
     footprints = a.footprints;
     operators = λ m p. (
-      λ k xs. if bytes_eq m n then i.table n (map value_in xs) else (a.operators m p).0 k xs,
-      λ k. if bytes_eq m n then 1 else (a.operators m p).1 k,
+      λ k xs. if bytes_eq m n then (t n).result xs else (a.operators m p).0 k xs,
+      λ k. if bytes_eq m n then (t n).denominator else (a.operators m p).1 k,
     );
     procedures = a.procedures;
   }
   declaration-agrees g h a n abstract_type e = a
-  declaration-agrees g h a n (module_type t) e = a
+  declaration-agrees g h a n (module_type y) e = a
   declaration-agrees g h a n (concrete_module m) e = a
   declaration-agrees g h a n (abstract_module b) e = a
   declaration-agrees g h a n (axiom_of q) e = a
   declaration-agrees g h a n (lemma q) e = a
   declaration-agrees g h a n (terminating f) e = a
 
-  operators-agree : (g h : Setting) → AgreeOn P g h → (ds : Declarations) → OperatorsName P ds →
-      AgreeOn P (with_operators i g ds) (with_operators i h ds)
+  pub operators-agree : (g h : Setting) → AgreeOn P Q g h → (ds : Declarations) → OperatorsName P Q ds →
+      AgreeOn P Q (with_operators t g ds) (with_operators t h ds)
   operators-agree g h a [] e = a
   operators-agree g h a (d ∷ ds) e =
-      operators-agree (with_declaration i g d.0 d.1) (with_declaration i h d.0 d.1) (declaration-agrees g h a d.0 d.1 e.0) ds e.1
-
-module _ (ds es : Declarations) (s : AreModulesOrStatements es) (e : OperatorsName (IsFresh es) ds) (w : World) (size : Name → ℕ) (table : Name → List Value → Meaning)
-    (h : HaveVariableTypes (types_of ds (interpretation w size table)) w) where
-  abbrev k : Interpretation
-  k = interpretation w size table
-
-  same-footprint : (m : Mexp) → EachName (IsFresh es) m → (types_of ds k).footprint m ≡ (types_of (ds ++ es) k).footprint m
-  same-footprint m f = λ i. footprint_globals w (λ n. []) (in_order var_order (of_all (sym (later footprint_read (λ n. no_module) ds es m f) i [])))
-
-  bare-agree : AgreeOn (IsFresh es) (bare (types_of ds k)) (bare (types_of (ds ++ es) k))
-  bare-agree = record {
-    sizes = refl;
-    footprints = λ m f. (
-      same-footprint m f,
-      plain-globals (types_of ds k) (types_of (ds ++ es) k) refl ((types_of ds k).footprint m)
-          (plain_footprint w (plain_world (types_of ds k) w h) (in_order var_order (of_all (module_at (modules_of footprint_read (λ n. no_module) ds) m [])))),
-    );
-    operators = λ n f. (refl, refl);
-    procedures = λ p f. refl;
-  }
-
-  abbrev before : Setting
-  before = with_operators k (bare (types_of ds k)) ds
-
-  abbrev behind : Setting
-  behind = with_operators k (bare (types_of (ds ++ es) k)) (ds ++ es)
-
-  settings-agree : AgreeOn (IsFresh es) before behind
-  settings-agree =
-      subst (AgreeOn (IsFresh es) before) (sym (operators_after k (bare (types_of (ds ++ es) k)) ds es s))
-      (operators-agree (IsFresh es) k (bare (types_of ds k)) (bare (types_of (ds ++ es) k)) bare-agree ds e)
-
-  pub later_agrees : AgreeOn (IsFresh es) (setting ds k) (setting (ds ++ es) k)
-  later_agrees = record {
-    sizes = settings-agree.sizes;
-    footprints = settings-agree.footprints;
-    operators = settings-agree.operators;
-    procedures = λ p f.
-        (λ i. found (sym (later (linked_procedure before) (λ n. no_module) ds es p.«module» f) i []) p.name)
-        ∙ (λ i. found (module_at (modules_of (linking_same before behind i) (λ n. no_module) (ds ++ es)) p.«module» []) p.name);
-  }
+      operators-agree (with_declaration t g d.0 d.1) (with_declaration t h d.0 d.1) (declaration-agrees g h a d.0 d.1 e.0) ds e.1

@@ -3,6 +3,7 @@ pub mod SamePrograms
 pub mod SameForms
 pub mod Agreeing
 pub mod LaterSetting
+pub mod WithModules
 pub mod Sequents
 pub mod LemmasOfScopes
 pub mod SameLoops

@@ -76,7 +76,7 @@ module _ (g h : Setting) where
   stands_same head.SomeMemory k xs s = refl
   stands_same _ k xs s = refl
 
-  distribution-to : (d : Term) → SameTerm g h d → IsDistribution g d → IsDistribution h d
+  pub distribution-to : (d : Term) → SameTerm g h d → IsDistribution g d → IsDistribution h d
   distribution-to d k w = record {
     positive = subst (λ z. 0 < z) (denominator_same g h d k) w.positive;
     entries = λ s. subst (IsPositive {A = Value}) (distribution_same g h d k s) (w.entries s);

@@ -23,7 +23,7 @@ use Rattle.gb_later.specs.Agreement.{SameLocals, SameWritten, AreWritten, SameTe
 use Rattle.gb_later.proofs.SameTerms.{fit_same, term_same, denominator_same}
 
 module _ (t u : Types) where
-  write_same : (x : Var) → SameWritten t u x → (m : Memory) (v : Value) → write t m x v ≡ write u m x v
+  pub write_same : (x : Var) → SameWritten t u x → (m : Memory) (v : Value) → write t m x v ≡ write u m x v
   write_same (var.Global parent name) e m v = refl
   write_same (var.Local x) e m v = refl
   write_same (var.Glob a) e m v = ap (λ z. write_globals m z (parts_of v)) e
@@ -34,12 +34,12 @@ module _ (t u : Types) where
   each-written (x ∷ xs) e m (v ∷ vs) =
       ap (λ z. write_each t z xs vs) (write_same x e.0 m v) ∙ each-written xs e.1 (write u m x v) vs
 
-  assigned_same : (xs : List Var) → AreWritten t u xs → (m : Memory) (v : Value) → assigned t m xs v ≡ assigned u m xs v
+  pub assigned_same : (xs : List Var) → AreWritten t u xs → (m : Memory) (v : Value) → assigned t m xs v ≡ assigned u m xs v
   assigned_same [] e m v = refl
   assigned_same (x ∷ []) e m v = write_same x e.0 m v
   assigned_same (x ∷ y ∷ xs) e m v = each-written (x ∷ y ∷ xs) e m (parts_of v)
 
-  first_same : (ls : List TypedName) → SameLocals t u ls → first_values t ls ≡ first_values u ls
+  pub first_same : (ls : List TypedName) → SameLocals t u ls → first_values t ls ≡ first_values u ls
   first_same [] e = refl
   first_same (x ∷ ls) e = λ i. set (first_same ls e.1 i) (x.name ∷ []) ((e.0 i).at 0)
 
@@ -50,23 +50,23 @@ module _ (t u : Types) where
 
 module _ (g h : Setting) where
   module _ (s : State) where
-    valued_same : (e : Term) → SameTerm g h e → (m : Memory) → valued g s e m ≡ valued h s e m
+    pub valued_same : (e : Term) → SameTerm g h e → (m : Memory) → valued g s e m ≡ valued h s e m
     valued_same e k m = ap value_in (term_same g h e k (inside s m))
 
     pub guard_same : (e : Term) → SameTerm g h e → (m : Memory) → is_true g s e m ≡ is_true h s e m
     guard_same e k m = ap truth (term_same g h e k (inside s m))
 
-    turns_same : (v : Term) → SameTerm g h v → (m : Memory) → turns_at g s v m ≡ turns_at h s v m
+    pub turns_same : (v : Term) → SameTerm g h v → (m : Memory) → turns_at g s v m ≡ turns_at h s v m
     turns_same v k m = ap (λ z. min (number_in z) (most_turns v)) (term_same g h v k (inside s m))
 
-    arguments_same : (es : List Term) → AreSameTerms g h es → (m : Memory) → map (λ e. valued g s e m) es ≡ map (λ e. valued h s e m) es
+    pub arguments_same : (es : List Term) → AreSameTerms g h es → (m : Memory) → map (λ e. valued g s e m) es ≡ map (λ e. valued h s e m) es
     arguments_same [] k m = refl
     arguments_same (e ∷ es) k m = λ i. valued_same e k.0 m i ∷ arguments_same es k.1 m i
 
   pub distribution_same : (d : Term) → SameTerm g h d → (s : State) → distribution g d s ≡ distribution h d s
   distribution_same d k s = ap weights_in (term_same g h d k s)
 
-  returned_same : (xs : List Var) → AreWritten g.types h.types xs → (m : Memory) → ◌≡◌ {A = Memory → Memory} (returned g xs m) (returned h xs m)
+  pub returned_same : (xs : List Var) → AreWritten g.types h.types xs → (m : Memory) → ◌≡◌ {A = Memory → Memory} (returned g xs m) (returned h xs m)
   returned_same xs e m = fun_ext (λ n. assigned_same g.types h.types xs e (record { globals = n.globals; frame = m.frame }) (result_in n))
 
   mutual

@@ -8,12 +8,12 @@ use Rattle.gb_meaning.specs.Judgments.{IsSoundForm}
 use Rattle.gb_holds.specs.Declared.{Declarations}
 use Rattle.gb_holds.specs.Naming.{IsFresh}
 use Rattle.gb_holds.specs.Truth.{has_module}
-use Rattle.gb_later.specs.Naming.{EachGlobOf, FormNames}
+use Rattle.gb_later.specs.Naming.{AnyName, EachGlobOf, FormNames}
 
 -- A form that names none of the declarations, has no quantifier over modules in front, and judges sound subjects alone.
 pub record IsApart (es : Declarations) (g : Setting) (f : Term) : Type 0 where
   pub plain : has_module f ≡ false
-  pub names : FormNames (IsFresh es) g f
+  pub names : FormNames (IsFresh es) AnyName g f
   pub sound : IsSoundForm g f
 
 -- all hypotheses are such forms

@@ -1,7 +1,6 @@
 -- The names in types, terms, programs and forms, and settings that agree on some names.
-use Rattle.std.specs.Prelude.{◌≡◌, List, [], ◌∷◌, Option, Some, None}
-use Rattle.gb_core.specs.declared.ty.Ty.{Ty, Row_of-Ty, end_of-Ty, more_of-Ty}
-use Rattle.gb_core.specs.declared.ty.Ty.TheVariants as ty
+use Rattle.std.specs.Prelude.{◌≡◌, false, bytes_eq, List, [], ◌∷◌, Option, Some, None}
+use Rattle.gb_core.specs.declared.ty.Ty.{Ty}
 use Rattle.gb_core.specs.declared.var.Var.{Var}
 use Rattle.gb_core.specs.declared.var.Var.TheVariants as var
 use Rattle.gb_terms.specs.declared.decl.TypedName.{TypedName}
@@ -20,28 +19,33 @@ use Rattle.gb_meaning.specs.Program.Program.{done, assign, sample, branch, loop,
 use Rattle.gb_meaning.specs.Program.Routine.{routine}
 use Rattle.gb_meaning.specs.Setting.{Setting}
 use Rattle.gb_meaning.specs.Commands.{program_of, statements}
-use Rattle.gb_holds.specs.Declared.{Declarations, Declaration, operator, concrete_module, lemma, terminating}
+use Rattle.gb_holds.specs.Globs.{EachGlob}
+use Rattle.gb_holds.specs.Declared.{Declarations, Declaration, operator, abstract_operator, concrete_module, lemma, terminating}
 use Rattle.gb_holds.specs.Naming.{EachName, EachCallIn, EachCallOf}
+use Rattle.gb_holds.specs.Holds.{EachDeclared}
 use Rattle.gb_later.specs.Agreement.{SameFootprint, SameOperator}
 
-abbrev mutual
-  -- each module whose globals the type speaks of is in P
-  pub EachGlob : (Name → Type 0) → Ty → Type 0
-  EachGlob P (ty.Tuple' n ts) = EachGlobIn P ts
-  EachGlob P (ty.Opt' p x) = EachGlobIn P x
-  EachGlob P (ty.Map' p k q x) = EachGlobIn P k × EachGlobIn P x
-  EachGlob P (ty.Distr' p x) = EachGlobIn P x
-  EachGlob P (ty.Glob a) = P a
-  EachGlob P _ = Unit {0}
+-- any name
+abbrev pub AnyName : Name → Type 0
+AnyName n = Unit {0}
 
-  pub EachGlobIn : {n : _} → (Name → Type 0) → Row_of-Ty n → Type 0
-  EachGlobIn P end_of-Ty = Unit {0}
-  EachGlobIn P (more_of-Ty t r) = EachGlob P t × EachGlobIn P r
+-- no name
+abbrev pub NoName : Name → Type 0
+NoName n = ⊥
 
--- the same of the types of these names
+-- any name but n
+abbrev pub IsOther : Name → Name → Type 0
+IsOther n m = bytes_eq m n ≡ false
+
+-- each module whose globals these types speak of is in P
 abbrev pub EachGlobOf : (Name → Type 0) → List TypedName → Type 0
 EachGlobOf P [] = Unit {0}
 EachGlobOf P (x ∷ xs) = EachGlob P x.ty × EachGlobOf P xs
+
+-- and these types
+abbrev pub EachGlobAmong : (Name → Type 0) → List Ty → Type 0
+EachGlobAmong P [] = Unit {0}
+EachGlobAmong P (t ∷ ts) = EachGlob P t × EachGlobAmong P ts
 
 -- the module whose globals the variable stands for
 abbrev pub VariableNames : (Name → Type 0) → Var → Type 0
@@ -52,84 +56,85 @@ abbrev pub VariablesName : (Name → Type 0) → List Var → Type 0
 VariablesName P [] = Unit {0}
 VariablesName P (x ∷ xs) = VariableNames P x × VariablesName P xs
 
--- the names of a head and its type, but those of procedures
-abbrev pub HeadNames : (Name → Type 0) → Head → Ty → Type 0
-HeadNames P (head.Read (read.Program x r)) ty = VariableNames P x × EachGlob P ty
-HeadNames P (head.Builtin o) ty = EachGlob P ty
-HeadNames P (head.User n) ty = P n
-HeadNames P (head.All u) ty = EachGlob P u
-HeadNames P (head.Some u) ty = EachGlob P u
-HeadNames P (head.Glob m r) ty = EachName P m
-HeadNames P _ ty = Unit {0}
+-- modules that a head and its type name are in P, but for those of procedures, and operators in Q
+abbrev pub HeadNames : (Name → Type 0) → (Name → Type 0) → Head → Ty → Type 0
+HeadNames P Q (head.Read (read.Program x r)) ty = VariableNames P x × EachGlob P ty
+HeadNames P Q (head.Builtin o) ty = EachGlob P ty
+HeadNames P Q (head.User n) ty = Q n
+HeadNames P Q (head.All u) ty = EachGlob P u
+HeadNames P Q (head.Some u) ty = EachGlob P u
+HeadNames P Q (head.Glob m r) ty = EachName P m
+HeadNames P Q _ ty = Unit {0}
 
 abbrev mutual
-  -- each name in the term is in P
-  pub TermNames : (Name → Type 0) → Term → Type 0
-  TermNames P (Term' p (more_of-Head hd end_of-Head) n ts ty) = HeadNames P hd ty × TermsName P ts
+  -- each module that the term names is in P, and each operator in Q
+  pub TermNames : (Name → Type 0) → (Name → Type 0) → Term → Type 0
+  TermNames P Q (Term' p (more_of-Head hd end_of-Head) n ts ty) = HeadNames P Q hd ty × TermsName P Q ts
 
-  pub TermsName : {n : _} → (Name → Type 0) → Row_of-Term n → Type 0
-  TermsName P end_of-Term = Unit {0}
-  TermsName P (more_of-Term t ts) = TermNames P t × TermsName P ts
+  pub TermsName : {n : _} → (Name → Type 0) → (Name → Type 0) → Row_of-Term n → Type 0
+  TermsName P Q end_of-Term = Unit {0}
+  TermsName P Q (more_of-Term t ts) = TermNames P Q t × TermsName P Q ts
 
 -- the same of a list of terms
-abbrev pub EachTermNames : (Name → Type 0) → List Term → Type 0
-EachTermNames P [] = Unit {0}
-EachTermNames P (e ∷ es) = TermNames P e × EachTermNames P es
+abbrev pub EachTermNames : (Name → Type 0) → (Name → Type 0) → List Term → Type 0
+EachTermNames P Q [] = Unit {0}
+EachTermNames P Q (e ∷ es) = TermNames P Q e × EachTermNames P Q es
 
 abbrev mutual
-  -- each name in the program is in P, and in every procedure that it carries
-  pub ProgramNames : (Name → Type 0) → Program → Type 0
-  ProgramNames P done = Unit {0}
-  ProgramNames P (assign xs e c) = VariablesName P xs × TermNames P e × ProgramNames P c
-  ProgramNames P (sample x d c) = VariableNames P x × TermNames P d × ProgramNames P c
-  ProgramNames P (branch e a b c) = TermNames P e × ProgramNames P a × ProgramNames P b × ProgramNames P c
-  ProgramNames P (loop e v a c) = TermNames P e × TermNames P v × ProgramNames P a × ProgramNames P c
-  ProgramNames P (call xs r es c) = VariablesName P xs × RoutineNames P r × EachTermNames P es × ProgramNames P c
-  ProgramNames P (ask xs o es c) = ProgramNames P c
+  -- the same of a program, through every procedure that it carries
+  pub ProgramNames : (Name → Type 0) → (Name → Type 0) → Program → Type 0
+  ProgramNames P Q done = Unit {0}
+  ProgramNames P Q (assign xs e c) = VariablesName P xs × TermNames P Q e × ProgramNames P Q c
+  ProgramNames P Q (sample x d c) = VariableNames P x × TermNames P Q d × ProgramNames P Q c
+  ProgramNames P Q (branch e a b c) = TermNames P Q e × ProgramNames P Q a × ProgramNames P Q b × ProgramNames P Q c
+  ProgramNames P Q (loop e v a c) = TermNames P Q e × TermNames P Q v × ProgramNames P Q a × ProgramNames P Q c
+  ProgramNames P Q (call xs r es c) = VariablesName P xs × RoutineNames P Q r × EachTermNames P Q es × ProgramNames P Q c
+  ProgramNames P Q (ask xs o es c) = ProgramNames P Q c
 
-  pub RoutineNames : (Name → Type 0) → Routine → Type 0
-  RoutineNames P (routine ps ls c r) = EachGlobOf P ps × EachGlobOf P ls × ProgramNames P c × TermNames P r
+  pub RoutineNames : (Name → Type 0) → (Name → Type 0) → Routine → Type 0
+  RoutineNames P Q (routine ps ls c r) = EachGlobOf P ps × EachGlobOf P ls × ProgramNames P Q c × TermNames P Q r
 
 -- the same of a procedure, if it is there
-abbrev pub NamesIfThere : (Name → Type 0) → Option Routine → Type 0
-NamesIfThere P None = Unit {0}
-NamesIfThere P (Some r) = RoutineNames P r
+abbrev pub NamesIfThere : (Name → Type 0) → (Name → Type 0) → Option Routine → Type 0
+NamesIfThere P Q None = Unit {0}
+NamesIfThere P Q (Some r) = RoutineNames P Q r
 
 -- the names of a reference to a procedure, and those in the procedure that it means
-abbrev pub ProcedureNames : (Name → Type 0) → Setting → ProcRef → Type 0
-ProcedureNames P g p = EachName P p.«module» × NamesIfThere P (g.procedure p)
+abbrev pub ProcedureNames : (Name → Type 0) → (Name → Type 0) → Setting → ProcRef → Type 0
+ProcedureNames P Q g p = EachName P p.«module» × NamesIfThere P Q (g.procedure p)
 
 -- those of a body
-abbrev pub BodyNames : (Name → Type 0) → Setting → List Instr → Type 0
-BodyNames P g is = EachCallOf (λ p. EachName P p.«module») is × ProgramNames P (statements g is)
+abbrev pub BodyNames : (Name → Type 0) → (Name → Type 0) → Setting → List Instr → Type 0
+BodyNames P Q g is = EachCallOf (λ p. EachName P p.«module») is × ProgramNames P Q (statements g is)
 
 -- those of what a judgment speaks of
-abbrev pub SubjectNames : (Name → Type 0) → Setting → Subject → Type 0
-SubjectNames P g (Proc p) = ProcedureNames P g p
-SubjectNames P g (Body' n is) = EachCallIn (λ p. EachName P p.«module») is × ProgramNames P (program_of g is)
+abbrev pub SubjectNames : (Name → Type 0) → (Name → Type 0) → Setting → Subject → Type 0
+SubjectNames P Q g (Proc p) = ProcedureNames P Q g p
+SubjectNames P Q g (Body' n is) = EachCallIn (λ p. EachName P p.«module») is × ProgramNames P Q (program_of g is)
 
 -- those of the programs of a head
-abbrev pub JudgedNames : (Name → Type 0) → Setting → Head → Type 0
-JudgedNames P g (head.Pr p r) = ProcedureNames P g p
-JudgedNames P g (head.Hoare c) = SubjectNames P g c
-JudgedNames P g (head.Phoare c r) = SubjectNames P g c
-JudgedNames P g (head.Equiv c d) = SubjectNames P g c × SubjectNames P g d
-JudgedNames P g _ = Unit {0}
+abbrev pub JudgedNames : (Name → Type 0) → (Name → Type 0) → Setting → Head → Type 0
+JudgedNames P Q g (head.Pr p r) = ProcedureNames P Q g p
+JudgedNames P Q g (head.Hoare c) = SubjectNames P Q g c
+JudgedNames P Q g (head.Phoare c r) = SubjectNames P Q g c
+JudgedNames P Q g (head.Equiv c d) = SubjectNames P Q g c × SubjectNames P Q g d
+JudgedNames P Q g _ = Unit {0}
 
 abbrev mutual
-  -- each name in the form is in P, and in every procedure that it names
-  pub FormNames : (Name → Type 0) → Setting → Term → Type 0
-  FormNames P g (Term' p (more_of-Head hd end_of-Head) n ts ty) = HeadNames P hd ty × JudgedNames P g hd × FormsName P g ts
+  -- the same of a form, through every procedure that it names
+  pub FormNames : (Name → Type 0) → (Name → Type 0) → Setting → Term → Type 0
+  FormNames P Q g (Term' p (more_of-Head hd end_of-Head) n ts ty) = HeadNames P Q hd ty × JudgedNames P Q g hd × FormsName P Q g ts
 
-  pub FormsName : {n : _} → (Name → Type 0) → Setting → Row_of-Term n → Type 0
-  FormsName P g end_of-Term = Unit {0}
-  FormsName P g (more_of-Term t ts) = FormNames P g t × FormsName P g ts
+  pub FormsName : {n : _} → (Name → Type 0) → (Name → Type 0) → Setting → Row_of-Term n → Type 0
+  FormsName P Q g end_of-Term = Unit {0}
+  FormsName P Q g (more_of-Term t ts) = FormNames P Q g t × FormsName P Q g ts
 
--- Two settings agree on names: types have the same sizes, and what is named by names in P alone means the same.
-pub record AgreeOn (P : Name → Type 0) (g h : Setting) : Type 0 where
+-- Two settings agree on names: types have the same sizes, what names modules in P alone means the same, and so do the
+-- operators in Q.
+pub record AgreeOn (P Q : Name → Type 0) (g h : Setting) : Type 0 where
   pub sizes : g.types.size ≡ h.types.size
   pub footprints : (m : Mexp) → EachName P m → SameFootprint g.types h.types m
-  pub operators : (n : Name) → P n → SameOperator g h n
+  pub operators : (n : Name) → Q n → SameOperator g h n
   pub procedures : (p : ProcRef) → EachName P p.«module» → g.procedure p ≡ h.procedure p
 
 -- a module, a lemma, or that loops are proved
@@ -141,15 +146,15 @@ IsModuleOrStatement _ = ⊥
 
 -- all are modules or statements
 abbrev pub AreModulesOrStatements : Declarations → Type 0
-AreModulesOrStatements [] = Unit {0}
-AreModulesOrStatements (d ∷ ds) = IsModuleOrStatement d.1 × AreModulesOrStatements ds
+AreModulesOrStatements ds = EachDeclared IsModuleOrStatement ds
 
--- each name in the body of an operator is in P
-abbrev pub OperatorNames : (Name → Type 0) → Declaration → Type 0
-OperatorNames P (operator o) = TermNames P o.body
-OperatorNames P _ = Unit {0}
+-- the same of the body of an operator, and of the types of one without a body
+abbrev pub OperatorNames : (Name → Type 0) → (Name → Type 0) → Declaration → Type 0
+OperatorNames P Q (operator o) = TermNames P Q o.body
+OperatorNames P Q (abstract_operator o) = EachGlobAmong P o.params × EachGlob P o.result
+OperatorNames P Q _ = Unit {0}
 
 -- the same of all operators
-abbrev pub OperatorsName : (Name → Type 0) → Declarations → Type 0
-OperatorsName P [] = Unit {0}
-OperatorsName P (d ∷ ds) = OperatorNames P d.1 × OperatorsName P ds
+abbrev pub OperatorsName : (Name → Type 0) → (Name → Type 0) → Declarations → Type 0
+OperatorsName P Q [] = Unit {0}
+OperatorsName P Q (d ∷ ds) = OperatorNames P Q d.1 × OperatorsName P Q ds

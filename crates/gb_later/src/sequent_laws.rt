@@ -13,15 +13,15 @@ ghost use Rattle.gb_meaning.specs.Values.{World};
 ghost use Rattle.gb_meaning.specs.Setting.{Meaning};
 ghost use Rattle.gb_holds.specs.Declared.{Declarations, declared, lemma, module_named};
 ghost use Rattle.gb_holds.specs.Naming.{IsFresh};
-ghost use Rattle.gb_holds.specs.Settings.{Interpretation, types_of, setting};
+ghost use Rattle.gb_holds.specs.Settings.{Table, Interpretation, types_of, setting};
 ghost use Rattle.gb_holds.specs.Holds.{HaveVariableTypes, interpretation, InEachModel, IsTrueSequent, Holds, IsSound, IsTerminating};
-ghost use Rattle.gb_later.specs.Naming.{AreModulesOrStatements, OperatorsName, BodyNames};
+ghost use Rattle.gb_later.specs.Naming.{AnyName, AreModulesOrStatements, OperatorsName, BodyNames};
 ghost use Rattle.gb_later.specs.Apart.{IsApartSequent};
 
 /// A sequent that names none of the modules that are added is true with them exactly where it is true without them.
 pub fn same_truth()
-    ensures { (ds es : Declarations) → AreModulesOrStatements es → OperatorsName (IsFresh es) ds →
-        (w : World) (size : Name → ℕ) (table : Name → List Value → Meaning) →
+    ensures { (ds es : Declarations) → AreModulesOrStatements es → OperatorsName (IsFresh es) AnyName ds →
+        (w : World) (size : Name → ℕ) (table : Table) →
         let i : Interpretation = interpretation w size table in
         HaveVariableTypes (types_of ds i) w → (q : Sequent) → IsApartSequent es (setting ds i) q →
         IsTrueSequent ds q i ↔ IsTrueSequent (ds ++ es) q i }
@@ -45,5 +45,5 @@ pub fn lemmas_of_scopes()
 pub fn proved_loops()
     ensures { (ds es : Declarations) → AreModulesOrStatements ds → AreModulesOrStatements es → (n f : Name) (m : Module) (p : Proc) →
         module_named ds n ≡ Some m → m.params ≡ [] → proc_of m.procs f ≡ Some p →
-        InEachModel ds (λ i. BodyNames (IsFresh es) (setting ds i) p.body.list) → IsTerminating ds n f → IsTerminating (ds ++ es) n f }
+        InEachModel ds (λ i. BodyNames (IsFresh es) AnyName (setting ds i) p.body.list) → IsTerminating ds n f → IsTerminating (ds ++ es) n f }
 {}

@@ -14,11 +14,11 @@ ghost use Rattle.gb_meaning.specs.Runs.{out, run_denominator};
 ghost use Rattle.gb_meaning.specs.Judgments.{Judge, IsFair, speaking, IsSoundForm, IsTrueIn};
 ghost use Rattle.gb_holds.specs.Declared.{Declarations};
 ghost use Rattle.gb_holds.specs.Naming.{IsFresh};
-ghost use Rattle.gb_holds.specs.Settings.{Interpretation, types_of, setting};
+ghost use Rattle.gb_holds.specs.Settings.{Table, Interpretation, types_of, setting};
 ghost use Rattle.gb_holds.specs.Holds.{LoopsAreGood, HaveVariableTypes, interpretation};
 ghost use Rattle.gb_meaning.specs.Loops.{IsGood};
 ghost use Rattle.gb_later.specs.Agreement.{SameTerm, SameProgram, SameForm};
-ghost use Rattle.gb_later.specs.Naming.{AgreeOn, TermNames, ProgramNames, FormNames, AreModulesOrStatements, OperatorsName};
+ghost use Rattle.gb_later.specs.Naming.{AnyName, AgreeOn, TermNames, ProgramNames, FormNames, AreModulesOrStatements, OperatorsName};
 
 /// A term of a program means the same in two settings that agree on what it names, and its tree has the same denominator.
 pub fn terms()
@@ -42,13 +42,15 @@ pub fn forms()
     ensures sound { (g h : Setting) (f : Term) → SameForm g h f → IsSoundForm g f → IsSoundForm h f }
 {}
 
-/// Settings that agree on all names but those of some declarations agree on each term, program and form that names none of
-/// these.
+/// Settings that agree on all modules but those of some declarations, and on all operators but those of some others, agree
+/// on each term, program and form that names none of these.
 pub fn names()
-    ensures terms { (es : Declarations) (g h : Setting) → AgreeOn (IsFresh es) g h → (e : Term) → TermNames (IsFresh es) e → SameTerm g h e }
-    ensures programs { (es : Declarations) (g h : Setting) → AgreeOn (IsFresh es) g h → (c : Program) → ProgramNames (IsFresh es) c →
-        SameProgram g h c }
-    ensures forms { (es : Declarations) (g h : Setting) → AgreeOn (IsFresh es) g h → (f : Term) → FormNames (IsFresh es) g f → SameForm g h f }
+    ensures terms { (es os : Declarations) (g h : Setting) → AgreeOn (IsFresh es) (IsFresh os) g h →
+        (e : Term) → TermNames (IsFresh es) (IsFresh os) e → SameTerm g h e }
+    ensures programs { (es os : Declarations) (g h : Setting) → AgreeOn (IsFresh es) (IsFresh os) g h →
+        (c : Program) → ProgramNames (IsFresh es) (IsFresh os) c → SameProgram g h c }
+    ensures forms { (es os : Declarations) (g h : Setting) → AgreeOn (IsFresh es) (IsFresh os) g h →
+        (f : Term) → FormNames (IsFresh es) (IsFresh os) g f → SameForm g h f }
 {}
 
 /// A loop is good in two settings that agree on its guard, its variant and its body, or in none; and so are all loops of a
@@ -62,8 +64,8 @@ pub fn loops()
 /// The setting of declarations agrees, on all names but those of modules that are added, with the setting in which they are
 /// added.
 pub fn added_modules()
-    ensures { (ds es : Declarations) → AreModulesOrStatements es → OperatorsName (IsFresh es) ds →
-        (w : World) (size : Name → ℕ) (table : Name → List Value → Meaning) →
+    ensures { (ds es : Declarations) → AreModulesOrStatements es → OperatorsName (IsFresh es) AnyName ds →
+        (w : World) (size : Name → ℕ) (table : Table) →
         let i : Interpretation = interpretation w size table in
-        HaveVariableTypes (types_of ds i) w → AgreeOn (IsFresh es) (setting ds i) (setting (ds ++ es) i) }
+        HaveVariableTypes (types_of ds i) w → AgreeOn (IsFresh es) AnyName (setting ds i) (setting (ds ++ es) i) }
 {}

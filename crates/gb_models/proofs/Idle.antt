@@ -25,6 +25,7 @@ use Rattle.gb_holds.specs.Within.{KeepsOff, IsWithin}
 use Rattle.gb_holds.specs.Bounds.{oracle_in}
 use Rattle.gb_holds.specs.Asked.{most_asked_if_there, most_asked_by_all, IsBoundedByText}
 use Rattle.gb_holds.proofs.Groups.{bounded_by_text}
+use Rattle.gb_holds.proofs.PlainTypes.{plain_glob}
 use Rattle.gb_holds.proofs.SettingTypes.{setting-types}
 use Rattle.gb_models.specs.Idle.{plain_values, idle_procedure, idle_procedures, idle, DiffersFrom, AreDistinct, IsStored, AreStored, HaveStoredTypes}
 
@@ -92,7 +93,7 @@ module _ (size : Name → ℕ) (ds : Declarations) (g : Setting) (e : g.types.si
     (
       subst (AreLocals g.types) (sym (append-nil s.params)) (stored_local size g.types e s.params ps),
       tt,
-      ((tt, tt), λ q. first_has size g.types e s.result r),
+      ((plain_glob (λ m. ⊥) s.result r.0, tt, tt), λ q. first_has size g.types e s.result r),
     ),
   )
 

@@ -8,7 +8,7 @@ ghost use Rattle.gb_meaning.specs.Values.{World};
 ghost use Rattle.gb_meaning.specs.Setting.{Meaning};
 ghost use Rattle.gb_holds.specs.Declared.{Declarations};
 ghost use Rattle.gb_holds.specs.Adversary.{type_named};
-ghost use Rattle.gb_holds.specs.Settings.{Interpretation, with_program};
+ghost use Rattle.gb_holds.specs.Settings.{Table, Interpretation, with_program};
 ghost use Rattle.gb_holds.specs.Within.{IsWithin};
 ghost use Rattle.gb_holds.specs.Holds.{IsModel, interpretation, declared_modules, Holds};
 ghost use Rattle.gb_models.specs.Idle.{idle, AreDistinct, HaveStoredTypes};
@@ -24,6 +24,6 @@ pub fn idle_program()
 
 /// Where the declarations have a model and no section is open, `false` doesn't hold.
 pub fn false_is_no_lemma()
-    ensures { (ds : Declarations) (w : World) (size : Name → ℕ) (table : Name → List Value → Meaning) →
+    ensures { (ds : Declarations) (w : World) (size : Name → ℕ) (table : Table) →
         IsModel ds (interpretation w size table) → declared_modules ds ≡ [] → ¬ (Holds ds falsehood) }
 {}

@@ -1,0 +1,64 @@
+-- Declarations with the same module types have the same footprints and programs of abstract modules.
+use Rattle.std.proofs.Common.{◌≡◌, Bool, true, false, if◌then◌else◌, List, [], ◌∷◌, ◌++◌, map, Option, None, bytes_eq, refl, ap, ◌∙◌}
+use Rattle.std.proofs.Math.Path.{fun_ext}
+use Rattle.gb_core.specs.declared.var.Var.{Var}
+use Rattle.gb_core.specs.declared.var.Var.TheVariants as var
+use Rattle.gb_terms.specs.declared.decl.Param.{Param}
+use Rattle.gb_meaning.specs.Names.{Name}
+use Rattle.gb_meaning.specs.Program.{Routine, Oracle}
+use Rattle.gb_holds.specs.Declared.{Declarations, Declaration, ModuleType, Signature, MayCall, every, those, module_type_in, module_type_of}
+use Rattle.gb_holds.specs.Modules.{Applied, Modules}
+use Rattle.gb_holds.specs.Linking.{oracle_of}
+use Rattle.gb_holds.specs.Adversary.{or_none, type_named, oracles_in, oracles_among, oracles_named, oracle_footprints, signature_footprints, abstract_footprint, with_oracles}
+use Rattle.gb_holds.specs.Settings.{Chosen, with_abstract_footprints, with_abstract_programs}
+use Rattle.gb_holds.specs.Holds.{EachDeclared}
+use Rattle.gb_holds.proofs.SameScope.{SameTypes}
+
+none-if : (b : Bool) (x y : Option ModuleType) → x ≡ None → y ≡ None → (if b then x else y) ≡ None
+none-if true x y d e = d
+none-if false x y d e = e
+
+module _ (P : Declaration → Type 0) (none : (d : Declaration) → P d → module_type_in d ≡ None) (ls : Declarations) (s : EachDeclared P ls) where
+  no-types : (rest : Declarations) → EachDeclared P rest → (n : Name) → module_type_of rest n ≡ None
+  no-types [] r n = refl
+  no-types (d ∷ rest) r n = none-if (bytes_eq n d.0) (module_type_in d.1) (module_type_of rest n) (none d.1 r.0) (no-types rest r.1 n)
+
+  same-after : (ds : Declarations) (n : Name) → module_type_of (ds ++ ls) n ≡ module_type_of ds n
+  same-after [] n = no-types ls s n
+  same-after (d ∷ ds) n = ap (λ z. if bytes_eq n d.0 then module_type_in d.1 else z) (same-after ds n)
+
+  -- declarations of no module type leave the module types as they are
+  pub types-after : (ds : Declarations) (n : Name) → type_named (ds ++ ls) n ≡ type_named ds n
+  types-after ds n = ap or_none (same-after ds n)
+
+module _ (ds es : Declarations) (e : SameTypes ds es) where
+  among-same : (ps : List Param) → oracles_among ds ps ≡ oracles_among es ps
+  among-same [] = refl
+  among-same (p ∷ ps) = λ i. oracles_in p.name (e p.ty i).signatures ++ among-same ps i
+
+  called-by : (m : MayCall) (ps : List Param) → oracles_named ds ps m ≡ oracles_named es ps m
+  called-by every ps = among-same ps
+  called-by (those os) ps = refl
+
+  entries-same : (a : Name) (t : ModuleType) (os : Oracle → Option (List Var)) (ss : List Signature) →
+      signature_footprints ds a t os ss ≡ signature_footprints es a t os ss
+  entries-same a t os [] = refl
+  entries-same a t os (r ∷ ss) =
+      λ i. (r.name, var.Glob a ∷ oracle_footprints os (called-by r.oracles t.params i)) ∷ entries-same a t os ss i
+
+  abstract-same : (a : Name) (t : ModuleType) → ◌≡◌ {A = Applied (List Var)} (abstract_footprint ds a t) (abstract_footprint es a t)
+  abstract-same a t = fun_ext (λ args. entries-same a t (oracle_of t.params (map (λ m. m []) args)) t.signatures)
+
+  pub footprints_at : (cs : List Chosen) (ms ks : Modules (List Var)) (n : Name) → ms n ≡ ks n →
+      with_abstract_footprints ds cs ms n ≡ with_abstract_footprints es cs ks n
+  footprints_at [] ms ks n h = h
+  footprints_at (c ∷ cs) ms ks n h =
+      λ i. if bytes_eq n c.bind.name
+      then ((λ k. abstract_footprint ds c.bind.name (e c.bind.ty k)) ∙ abstract-same c.bind.name (type_named es c.bind.ty)) i
+      else footprints_at cs ms ks n h i
+
+  pub programs_at : (cs : List Chosen) (ms ks : Modules Routine) (n : Name) → ms n ≡ ks n →
+      with_abstract_programs ds cs ms n ≡ with_abstract_programs es cs ks n
+  programs_at [] ms ks n h = h
+  programs_at (c ∷ cs) ms ks n h =
+      λ i. if bytes_eq n c.bind.name then with_oracles (e c.bind.ty i) c.program else programs_at cs ms ks n h i
