@@ -4,7 +4,15 @@ pub mod SameForms
 pub mod Agreeing
 pub mod LaterSetting
 pub mod WithModules
+pub mod TypedAlike
+pub mod CountedAlike
+pub mod WithinAlike
+pub mod TruthAlike
+pub mod AddedOperators
 pub mod Sequents
+pub mod ModulesAdded
 pub mod LemmasOfScopes
 pub mod SameLoops
 pub mod ProvedLoops
+pub mod LoopsAdded
+pub mod Additions

@@ -1,3 +1,5 @@
 pub mod Agreement
 pub mod Naming
 pub mod Apart
+pub mod Formed
+pub mod Added

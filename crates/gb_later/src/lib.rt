@@ -1,5 +1,6 @@
 //! What is declared later changes nothing of what stood before.
 #![tactic(auto)]
 
+pub mod added_laws;
 pub mod sequent_laws;
 pub mod setting_laws;

@@ -1,0 +1,43 @@
+//! What holds goes on to hold, whatever is declared later, for adversaries that may use it.
+
+ghost use Rattle.std.specs.Prelude.{◌++◌, [], ◌∷◌};
+ghost use Rattle.gb_goal.specs.declared.sequent.Sequent.{Sequent};
+ghost use Rattle.gb_meaning.specs.Names.{Name};
+ghost use Rattle.gb_holds.specs.Declared.{Declarations, Declaration, lemma, terminating};
+ghost use Rattle.gb_holds.specs.Holds.{Holds, IsTerminating, IsSound};
+ghost use Rattle.gb_later.specs.Naming.{AreModulesOrStatements};
+ghost use Rattle.gb_later.specs.Formed.{IsScopeApart};
+ghost use Rattle.gb_later.specs.Added.{IsOperator, IsNewOperator, AreLoopsApart, IsSequentApartIn, AreAddedTo, AreAddedToLoops};
+
+/// A sequent that holds goes on to hold when an operator is added, and so do proved loops stay good. Adversaries may use
+/// the operator.
+pub fn later_operators()
+    ensures holds { (ds : Declarations) (n : Name) (d : Declaration) → IsOperator d → IsNewOperator ds n d →
+        (q : Sequent) → Holds ds q → Holds (ds ++ (n, d) ∷ []) q }
+    ensures loops { (ds : Declarations) (n : Name) (d : Declaration) → IsOperator d → IsNewOperator ds n d →
+        (m f : Name) → IsTerminating ds m f → IsTerminating (ds ++ (n, d) ∷ []) m f }
+{}
+
+/// A sequent with abstract modules that holds goes on to hold when modules are added which neither the scope nor the
+/// sequent names; and so do loops stay good that are proved of a module, which may have parameters.
+pub fn modules_beside_adversaries()
+    ensures holds { (ds es : Declarations) → AreModulesOrStatements es → IsScopeApart es ds → (q : Sequent) →
+        IsSequentApartIn q es ds → Holds ds q → Holds (ds ++ es) q }
+    ensures loops { (ds es : Declarations) → AreModulesOrStatements es → IsScopeApart es ds → (m f : Name) →
+        AreLoopsApart m f es ds → IsTerminating ds m f → IsTerminating (ds ++ es) m f }
+{}
+
+/// What holds goes on to hold when types, operators, modules, axioms, lemmas and proved loops are added, one after another,
+/// and so do proved loops stay good.
+pub fn later_declarations()
+    ensures holds { (ds es : Declarations) (q : Sequent) → AreAddedTo ds es q → Holds ds q → Holds (ds ++ es) q }
+    ensures loops { (ds es : Declarations) (m f : Name) → AreAddedToLoops ds es m f → IsTerminating ds m f → IsTerminating (ds ++ es) m f }
+{}
+
+/// In a sound scope a lemma holds in all that the scope declares, and proved loops are good in it.
+pub fn whole_scopes()
+    ensures lemmas { (ds es : Declarations) (n : Name) (q : Sequent) → IsSound (ds ++ (n, lemma q) ∷ es) →
+        AreAddedTo ds ((n, lemma q) ∷ es) q → Holds (ds ++ (n, lemma q) ∷ es) q }
+    ensures loops { (ds es : Declarations) (m f : Name) → IsSound (ds ++ (m, terminating f) ∷ es) →
+        AreAddedToLoops ds ((m, terminating f) ∷ es) m f → IsTerminating (ds ++ (m, terminating f) ∷ es) m f }
+{}
