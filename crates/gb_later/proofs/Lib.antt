@@ -4,6 +4,7 @@ pub mod SameForms
 pub mod Agreeing
 pub mod LaterSetting
 pub mod WithModules
+pub mod TypedNames
 pub mod TypedAlike
 pub mod CountedAlike
 pub mod WithinAlike

@@ -30,7 +30,7 @@ use Rattle.gb_later.proofs.SameForms.{truth_same}
 use Rattle.gb_later.proofs.Agreeing.{values_agree, form_agrees}
 use Rattle.gb_later.proofs.LaterSetting.{EachPlain}
 use Rattle.gb_later.proofs.WithModules.{ArePlainPrograms, types-as, agrees_with}
-use Rattle.gb_later.proofs.TypedAlike.{SameBasis, turned-basis}
+use Rattle.gb_later.proofs.TypedAlike.{SameBasis, basis-of, turned-basis}
 use Rattle.gb_later.proofs.WithinAlike.{plain-in, program-alike, bounded-alike, full-alike}
 
 -- what the modules of a restriction exclude is the same
@@ -112,7 +112,7 @@ module _ (ds es : Declarations) (s : AreModulesOrStatements es) (o : OperatorsNa
   agree cs p = agrees_with ds es s o w size table h cs p
 
   pub basis : (cs : List Chosen) → ArePlainPrograms cs → SameBasis (setting ds (now cs)) (setting (ds ++ es) (now cs))
-  basis cs p = record { sizes = (agree cs p).sizes; operators = λ n. (agree cs p).operators n tt }
+  basis cs p = basis-of (IsFresh es) (setting ds (now cs)) (setting (ds ++ es) (now cs)) (agree cs p)
 
   exclude-alike : (cs : List Chosen) → ArePlainPrograms cs → (ms : List Name) → AreFresh es ms →
       ExcludeAlike ds (ds ++ es) (setting ds (now cs)) (setting (ds ++ es) (now cs)) ms

@@ -18,18 +18,21 @@ use Rattle.gb_meaning.specs.Setting.{Setting}
 use Rattle.gb_meaning.specs.Sound.{IsFull, Full, FullRoutine}
 use Rattle.gb_holds.specs.Declared.{Declarations, ModuleType, Signature}
 use Rattle.gb_holds.specs.Modules.{found}
-use Rattle.gb_holds.specs.Linking.{Oracles}
+use Rattle.gb_holds.specs.Linking.{Oracles, link_routine}
 use Rattle.gb_holds.specs.Typing.{Names, IsPlain, global_type, IsTyped, IsTypedRoutine}
 use Rattle.gb_holds.specs.Adversary.{Adversary, may_call, oracle_signature, callable}
 use Rattle.gb_holds.specs.Programs.{AreIn, IfThere, IsProcedureFor, HasProcedures, IsProgramFor, AreFull}
 use Rattle.gb_holds.specs.Bounds.{counted_if_there, IsAnswer, AreOracles, oracle_in, counted_run, EachCallsAtMost, GroupCall, IsEntry, without, Agree, IsGroupRun, IsBounded}
 use Rattle.gb_holds.proofs.Links.{link_routine-linked}
-use Rattle.gb_later.specs.Agreement.{SameRoutine, SameIfThere, SameTerm}
+use Rattle.gb_later.specs.Agreement.{SameTerm}
+use Rattle.gb_later.specs.Naming.{NoName, AnyName, RoutineNames, NamesIfThere}
 use Rattle.gb_later.specs.Formed.{IsSigned, AreSigned, AreSignedBounds}
 use Rattle.gb_later.proofs.SameTerms.{denominator_same, globals_same}
 use Rattle.gb_later.proofs.SamePrograms.{distribution_same}
 use Rattle.gb_later.proofs.LaterSetting.{EachPlain, plain-globals}
-use Rattle.gb_later.proofs.TypedAlike.{SameBasis, turned-basis, over-alike, typed-routine-to, linked-routine-alike}
+use Rattle.gb_later.proofs.TypedAlike.{SameBasis, turned-basis, over-alike, typed-routine-to}
+use Rattle.gb_later.proofs.Agreeing.{routine_agrees}
+use Rattle.gb_later.proofs.TypedNames.{linked-routine-names}
 use Rattle.gb_later.proofs.CountedAlike.{run_counted_same}
 
 none-open : Oracles
@@ -95,11 +98,11 @@ module _ (g h : Setting) (a : SameBasis g h) where
     answer-to (Some s) None k = absurd k
     answer-to (Some s) (Some r) k = (k.0, k.1, typed-routine-to g h a (λ o. None) w p r k.2)
 
-    answer-alike : (s : Signature) (r : Option Routine) → IsAnswer g w (Some s) r → SameIfThere g h r
-    answer-alike s None k = absurd k
-    answer-alike s (Some r) k =
-        subst (SameRoutine g h) (link_routine-linked none-open r k.1)
-        (linked-routine-alike g h a (λ o. None) w p none-open (λ o s e. absurd (none-some s e)) r k.2)
+    answer-names : (s : Signature) (r : Option Routine) → IsAnswer g w (Some s) r → NamesIfThere NoName AnyName r
+    answer-names s None k = absurd k
+    answer-names s (Some r) k =
+        subst (RoutineNames NoName AnyName) (link_routine-linked none-open r k.1)
+        (linked-routine-names NoName g (λ o. None) none-open (λ o s e. absurd (none-some s e)) w r k.2)
 
     module _ (ds : Declarations) (t : ModuleType) where
       oracles-alike : (os : Oracles) → AreOracles ds g w t os → AreOracles ds h w t os
@@ -109,9 +112,10 @@ module _ (g h : Setting) (a : SameBasis g h) where
       called-if true o s e = e
       called-if false o s e = absurd (none-some s e)
 
-      asked-alike : (os : Oracles) → AreOracles ds g w t os → (s : Signature) (o : Oracle) (r : Signature) → callable ds t s o ≡ Some r → SameIfThere g h (os o)
-      asked-alike os k s o r e =
-          answer-alike r (os o)
+      asked-names : (os : Oracles) → AreOracles ds g w t os → (s : Signature) (o : Oracle) (r : Signature) → callable ds t s o ≡ Some r →
+          NamesIfThere NoName AnyName (os o)
+      asked-names os k s o r e =
+          answer-names r (os o)
           (subst (λ z. IsAnswer g w z (os o)) (called-if (may_call s.oracles o) (oracle_signature ds t.params o) r e) (k o))
 
       module _ (v : Adversary) (inside : EachPlain v.footprint) where
@@ -137,7 +141,8 @@ module _ (g h : Setting) (a : SameBasis g h) where
           run-of s None k m = absurd k
           run-of s (Some r) k m =
               run_counted_same g h os o r
-              (linked-routine-alike g h a (callable ds t s) v.footprint inside os (asked-alike os good s) r k.1) m
+              (routine_agrees NoName AnyName g h a (link_routine os r)
+              (linked-routine-names NoName g (callable ds t s) os (asked-names os good s) v.footprint r k.1)) m
 
           run-if : (b : Bool) (s : Signature) (f : Name) (ss : List Signature) → bytes_eq f s.name ≡ b →
               IsProcedureFor g (callable ds t s) v.footprint s (found v.procedures s.name) →

@@ -1,11 +1,17 @@
 //! What holds goes on to hold, whatever is declared later, for adversaries that may use it.
 
-ghost use Rattle.std.specs.Prelude.{◌++◌, [], ◌∷◌};
+ghost use Rattle.std.specs.Prelude.{◌≡◌, ◌++◌, [], ◌∷◌, List, Option, Some};
 ghost use Rattle.gb_goal.specs.declared.sequent.Sequent.{Sequent};
 ghost use Rattle.gb_meaning.specs.Names.{Name};
-ghost use Rattle.gb_holds.specs.Declared.{Declarations, Declaration, lemma, terminating};
+ghost use Rattle.gb_meaning.specs.Values.{Global};
+ghost use Rattle.gb_meaning.specs.Program.{Routine, Oracle};
+ghost use Rattle.gb_meaning.specs.Setting.{Setting};
+ghost use Rattle.gb_holds.specs.Declared.{Declarations, Declaration, Signature, lemma, terminating};
+ghost use Rattle.gb_holds.specs.Linking.{Oracles, link_routine};
+ghost use Rattle.gb_holds.specs.Naming.{IsFresh};
+ghost use Rattle.gb_holds.specs.Typing.{IsTypedRoutine};
 ghost use Rattle.gb_holds.specs.Holds.{Holds, IsTerminating, IsSound};
-ghost use Rattle.gb_later.specs.Naming.{AreModulesOrStatements};
+ghost use Rattle.gb_later.specs.Naming.{AnyName, RoutineNames, NamesIfThere, AreModulesOrStatements};
 ghost use Rattle.gb_later.specs.Formed.{IsScopeApart};
 ghost use Rattle.gb_later.specs.Added.{IsOperator, IsNewOperator, AreLoopsApart, IsSequentApartIn, AreAddedTo, AreAddedToLoops};
 
@@ -16,6 +22,14 @@ pub fn later_operators()
         (q : Sequent) → Holds ds q → Holds (ds ++ (n, d) ∷ []) q }
     ensures loops { (ds : Declarations) (n : Name) (d : Declaration) → IsOperator d → IsNewOperator ds n d →
         (m f : Name) → IsTerminating ds m f → IsTerminating (ds ++ (n, d) ∷ []) m f }
+{}
+
+/// A well-typed procedure names no module: linked with procedures that name none of some declarations, it names none of
+/// them. So what adversaries do names no module that is added.
+pub fn names_of_adversaries()
+    ensures { (es : Declarations) (g : Setting) (ss : Oracle → Option Signature) (os : Oracles) →
+        ((o : Oracle) (s : Signature) → ss o ≡ Some s → NamesIfThere (IsFresh es) AnyName (os o)) →
+        (gs : List Global) (r : Routine) → IsTypedRoutine g ss gs r → RoutineNames (IsFresh es) AnyName (link_routine os r) }
 {}
 
 /// A sequent with abstract modules that holds goes on to hold when modules are added which neither the scope nor the
