@@ -6,21 +6,23 @@ use Rattle.gb_terms.specs.declared.decl.Proc.{Proc}
 use Rattle.gb_goal.specs.Scope.{proc_of}
 use Rattle.gb_meaning.specs.Names.{Name}
 use Rattle.gb_meaning.specs.Values.{World}
-use Rattle.gb_holds.specs.Declared.{Declarations, abstract_type, operator, abstract_operator, module_type, concrete_module, abstract_module, axiom_of, lemma, terminating, module_in, module_named}
+use Rattle.gb_holds.specs.Declared.{Declarations, ModuleType, abstract_type, operator, abstract_operator, module_type, concrete_module, abstract_module, axiom_of, lemma, terminating, module_in, module_named}
 use Rattle.gb_holds.specs.Adversary.{Adversary, type_named}
+use Rattle.gb_holds.specs.Naming.{AnyName}
 use Rattle.gb_holds.specs.Programs.{IsProgramFor}
 use Rattle.gb_holds.specs.Settings.{Chosen, Table, Interpretation, interpreted, setting}
 use Rattle.gb_holds.specs.Holds.{param_bind, EachArgument, ProcedureIsGood, ProcedureOfIsGood, IsTerminating, KeepModules}
-use Rattle.gb_holds.proofs.SameScope.{SameScope, program-to}
+use Rattle.gb_holds.proofs.SameScope.{SameScope, any-params, program-to}
 use Rattle.gb_holds.proofs.Kept.{Before, goes_on}
 
 module _ (ds es : Declarations) (w : World) (size : Name → ℕ) (t u : Table) (e : SameScope ds es w size t u) where
   program-back : (p : Param) (cs : List Chosen) (a : Adversary) →
       IsProgramFor es (setting es (interpreted w size u cs)) w (type_named es p.ty) a → IsProgramFor ds (setting ds (interpreted w size t cs)) w (type_named ds p.ty) a
   program-back p cs a h =
+      let y : ModuleType = type_named es p.ty in
       subst (λ g. IsProgramFor ds g w (type_named ds p.ty) a) (sym (e.settings cs))
-      (subst (λ y. IsProgramFor ds (setting es (interpreted w size u cs)) w y a) (sym (e.frame.types p.ty))
-      (program-to es ds (λ n. sym (e.frame.types n)) (setting es (interpreted w size u cs)) w (type_named es p.ty) a h))
+      (subst (λ z. IsProgramFor ds (setting es (interpreted w size u cs)) w z a) (sym (e.frame.types p.ty tt))
+      (program-to AnyName es ds (λ n k. sym (e.frame.types n k)) y (any-params y.params) (setting es (interpreted w size u cs)) w a h))
 
   arguments-to : (ps : List Param) (cs : List Chosen) (P Q : Interpretation → Type 0) →
       ((ks : List Chosen) → P (interpreted w size t ks) → Q (interpreted w size u ks)) →

@@ -24,65 +24,72 @@ use Rattle.gb_holds.specs.Modules.{found}
 use Rattle.gb_holds.specs.Linking.{Oracles}
 use Rattle.gb_holds.specs.Adversary.{Adversary, type_named, may_call, oracle_signature, callable}
 use Rattle.gb_holds.specs.Settings.{Chosen, Table, interpreted, setting, declared_globals}
+use Rattle.gb_holds.specs.Naming.{AnyName, EachParam}
 use Rattle.gb_holds.specs.Programs.{IsProcedureFor, HasProcedures, IsProgramFor, AreNamed, AreFull}
 use Rattle.gb_holds.specs.Bounds.{IsAnswer, AreOracles, oracle_in, without, EachCallsAtMost, GroupCall, IsGroupRun, IsBounded}
 use Rattle.gb_holds.specs.Within.{AreApart, KeepsOff, IsWithinIn, IsWithin}
 use Rattle.gb_holds.specs.Truth.{Choice, last_has_module, IsFirstTrue, Truth, TruthOfLast}
 
--- module types are the same
-abbrev pub SameTypes : Declarations → Declarations → Type 0
-SameTypes ds es = (n : Name) → type_named ds n ≡ type_named es n
+-- the module types of these names are the same
+abbrev pub SameTypes : (Name → Type 0) → Declarations → Declarations → Type 0
+SameTypes P ds es = (n : Name) → P n → type_named ds n ≡ type_named es n
 
-turned-types : (ds es : Declarations) → SameTypes ds es → SameTypes es ds
-turned-types ds es e n = sym (e n)
+turned-types : (P : Name → Type 0) (ds es : Declarations) → SameTypes P ds es → SameTypes P es ds
+turned-types P ds es e n k = sym (e n k)
 
-module _ (ds es : Declarations) (e : SameTypes ds es) where
-  oracle-same : (ps : List Param) (o : Oracle) → oracle_signature ds ps o ≡ oracle_signature es ps o
-  oracle-same [] o = refl
-  oracle-same (p ∷ ps) o = λ i. if bytes_eq o.parameter p.name then signature_in (e p.ty i).signatures o.name else oracle-same ps o i
+pub any-params : (ps : List Param) → EachParam AnyName ps
+any-params [] = tt
+any-params (p ∷ ps) = (tt, any-params ps)
 
-  callable-same : (t : ModuleType) (s : Signature) → callable ds t s ≡ callable es t s
-  callable-same t s = fun_ext (λ o i. if may_call s.oracles o then oracle-same t.params o i else None)
+module _ (P : Name → Type 0) (ds es : Declarations) (e : SameTypes P ds es) where
+  oracle-same : (ps : List Param) → EachParam P ps → (o : Oracle) → oracle_signature ds ps o ≡ oracle_signature es ps o
+  oracle-same [] k o = refl
+  oracle-same (p ∷ ps) k o =
+      λ i. if bytes_eq o.parameter p.name then signature_in (e p.ty k.0 i).signatures o.name else oracle-same ps k.1 o i
 
-  oracles-to : (g : Setting) (w : World) (t : ModuleType) (os : Oracles) → AreOracles ds g w t os → AreOracles es g w t os
-  oracles-to g w t os h o = subst (λ z. IsAnswer g w z (os o)) (oracle-same t.params o) (h o)
+  module _ (t : ModuleType) (k : EachParam P t.params) where
+    callable-same : (s : Signature) → callable ds t s ≡ callable es t s
+    callable-same s = fun_ext (λ o i. if may_call s.oracles o then oracle-same t.params k o i else None)
 
-  procedures-to : (g : Setting) (t : ModuleType) (a : Adversary) (ss : List Signature) → HasProcedures ds g t a ss → HasProcedures es g t a ss
-  procedures-to g t a [] h = tt
-  procedures-to g t a (s ∷ ss) h =
-      (subst (λ z. IsProcedureFor g z a.footprint s (found a.procedures s.name)) (callable-same t s) h.0, procedures-to g t a ss h.1)
+    oracles-to : (g : Setting) (w : World) (os : Oracles) → AreOracles ds g w t os → AreOracles es g w t os
+    oracles-to g w os h o = subst (λ z. IsAnswer g w z (os o)) (oracle-same t.params k o) (h o)
 
-  pub program-to : (g : Setting) (w : World) (t : ModuleType) (a : Adversary) → IsProgramFor ds g w t a → IsProgramFor es g w t a
-  program-to g w t a h = record { rising = h.rising; known = h.known; procedures = procedures-to g t a t.signatures h.procedures }
+    procedures-to : (g : Setting) (a : Adversary) (ss : List Signature) → HasProcedures ds g t a ss → HasProcedures es g t a ss
+    procedures-to g a [] h = tt
+    procedures-to g a (s ∷ ss) h =
+        (subst (λ z. IsProcedureFor g z a.footprint s (found a.procedures s.name)) (callable-same s) h.0, procedures-to g a ss h.1)
 
-  group-to : (g : Setting) (w : World) (t : ModuleType) (a : Adversary) (o : Oracle) (fs : List Name) (m : Memory) (cs : List GroupCall) →
-      IsGroupRun ds g w t a o fs m cs → IsGroupRun es g w t a o fs m cs
-  group-to g w t a o fs m [] h = tt
-  group-to g w t a o fs m (c ∷ cs) h =
-      (h.0, (oracles-to g w t c.oracles h.1.0, h.1.1), h.2, h.3, group-to g w t a o (without c.name fs) c.after cs h.4)
+    pub program-to : (g : Setting) (w : World) (a : Adversary) → IsProgramFor ds g w t a → IsProgramFor es g w t a
+    program-to g w a h = record { rising = h.rising; known = h.known; procedures = procedures-to g a t.signatures h.procedures }
 
-module _ (ds es : Declarations) (e : SameTypes ds es) where
-  each-to : (g : Setting) (w : World) (t : ModuleType) (a : Adversary) (o : Oracle) (q : ℕ) (fs : List Name) →
+    group-to : (g : Setting) (w : World) (a : Adversary) (o : Oracle) (fs : List Name) (m : Memory) (cs : List GroupCall) →
+        IsGroupRun ds g w t a o fs m cs → IsGroupRun es g w t a o fs m cs
+    group-to g w a o fs m [] h = tt
+    group-to g w a o fs m (c ∷ cs) h =
+        (h.0, (oracles-to g w c.oracles h.1.0, h.1.1), h.2, h.3, group-to g w a o (without c.name fs) c.after cs h.4)
+
+module _ (P : Name → Type 0) (ds es : Declarations) (e : SameTypes P ds es) (t : ModuleType) (k : EachParam P t.params) where
+  each-to : (g : Setting) (w : World) (a : Adversary) (o : Oracle) (q : ℕ) (fs : List Name) →
       EachCallsAtMost ds g w t a o q fs → EachCallsAtMost es g w t a o q fs
-  each-to g w t a o q [] h = tt
-  each-to g w t a o q (f ∷ fs) h =
-      ((λ os good. h.0 os (oracles-to es ds (turned-types ds es e) g w t os good)), each-to g w t a o q fs h.1)
+  each-to g w a o q [] h = tt
+  each-to g w a o q (f ∷ fs) h =
+      ((λ os good. h.0 os (oracles-to P es ds (turned-types P ds es e) t k g w os good)), each-to g w a o q fs h.1)
 
-  pub bounded-to : (g : Setting) (w : World) (t : ModuleType) (a : Adversary) (bs : List Bound) → IsBounded ds g w t a bs → IsBounded es g w t a bs
-  bounded-to g w t a [] h = tt
-  bounded-to g w t a (b ∷ bs) h = (
-    each-to g w t a (oracle_in b.oracle) b.most b.procs h.0,
-    (λ m cs r. h.1 m cs (group-to es ds (turned-types ds es e) g w t a (oracle_in b.oracle) b.procs m cs r)),
-    bounded-to g w t a bs h.2,
+  pub bounded-to : (g : Setting) (w : World) (a : Adversary) (bs : List Bound) → IsBounded ds g w t a bs → IsBounded es g w t a bs
+  bounded-to g w a [] h = tt
+  bounded-to g w a (b ∷ bs) h = (
+    each-to g w a (oracle_in b.oracle) b.most b.procs h.0,
+    (λ m cs r. h.1 m cs (group-to P es ds (turned-types P ds es e) t k g w a (oracle_in b.oracle) b.procs m cs r)),
+    bounded-to g w a bs h.2,
   )
 
 -- module types and globals are the same
 pub record SameFrame (ds es : Declarations) : Type 0 where
-  pub types : SameTypes ds es
+  pub types : SameTypes AnyName ds es
   pub globals : declared_globals ds ≡ declared_globals es
 
 turned-frame : (ds es : Declarations) → SameFrame ds es → SameFrame es ds
-turned-frame ds es e = record { types = turned-types ds es e.types; globals = sym e.globals }
+turned-frame ds es e = record { types = turned-types AnyName ds es e.types; globals = sym e.globals }
 
 module _ (ds es : Declarations) (e : SameFrame ds es) where
   keeps-to : (g : Setting) (xs : List Global) (ms : List Name) → KeepsOff ds g xs ms → KeepsOff es g xs ms
@@ -91,13 +98,16 @@ module _ (ds es : Declarations) (e : SameFrame ds es) where
       (subst (λ z. AreApart xs (filter (λ x. bytes_eq m x.parent) z ++ g.types.footprint (named m))) e.globals h.0, keeps-to g xs ms h.1)
 
   pub within_in-to : (g : Setting) (w : World) (b : Bind) (a : Adversary) → IsWithinIn ds g w b a → IsWithinIn es g w b a
-  within_in-to g w b a h = record {
-    program = subst (λ t. IsProgramFor es g w t a) (e.types b.ty) (program-to ds es e.types g w (type_named ds b.ty) a h.program);
-    named = subst (λ t. AreNamed a t.signatures) (e.types b.ty) h.named;
-    full = subst (λ t. AreFull g a t.signatures) (e.types b.ty) h.full;
-    apart = keeps-to g a.footprint b.minus h.apart;
-    bounded = subst (λ t. IsBounded es g w t a b.bounds) (e.types b.ty) (bounded-to ds es e.types g w (type_named ds b.ty) a b.bounds h.bounded);
-  }
+  within_in-to g w b a h =
+      let t : ModuleType = type_named ds b.ty in
+      let k : EachParam AnyName t.params = any-params t.params in
+      record {
+        program = subst (λ z. IsProgramFor es g w z a) (e.types b.ty tt) (program-to AnyName ds es e.types t k g w a h.program);
+        named = subst (λ z. AreNamed a z.signatures) (e.types b.ty tt) h.named;
+        full = subst (λ z. AreFull g a z.signatures) (e.types b.ty tt) h.full;
+        apart = keeps-to g a.footprint b.minus h.apart;
+        bounded = subst (λ z. IsBounded es g w z a b.bounds) (e.types b.ty tt) (bounded-to AnyName ds es e.types t k g w a b.bounds h.bounded);
+      }
 
 -- names mean the same, with one table in the first declarations and with another one in the second
 pub record SameScope (ds es : Declarations) (w : World) (size : Name → ℕ) (t u : Table) : Type 0 where

@@ -13,8 +13,9 @@ use Rattle.gb_holds.specs.Footprints.{footprint, footprint_read, footprint_globa
 use Rattle.gb_holds.specs.Adversary.{type_named}
 use Rattle.gb_holds.specs.Settings.{Chosen, Table, Interpretation, interpreted, program_footprint, with_abstract_footprints, footprints, types_of, bare, with_declaration, with_operators, with_abstract_programs, linked_modules, with_modules, setting, globals_from, declared_globals}
 use Rattle.gb_holds.specs.Holds.{IsSilent, AreSilent, KeepsModules, KeepModules}
+use Rattle.gb_holds.specs.Naming.{AnyName}
 use Rattle.gb_holds.proofs.Later.{declared_after}
-use Rattle.gb_holds.proofs.ModuleTypes.{types-after, programs_at, footprints_at}
+use Rattle.gb_holds.proofs.ModuleTypes.{types-after, any-chosen, programs_at, footprints_at}
 use Rattle.gb_holds.proofs.SameScope.{SameFrame, SameScope}
 
 no-modules : {X : Type 0} (read : Reading X) (ms : Modules X) (ls : Declarations) → KeepModules ls → modules_of read ms ls ≡ ms
@@ -70,10 +71,10 @@ module _ (ls : Declarations) (s : KeepModules ls) where
     es = ds ++ ls
 
     programs-same : (cs : List Chosen) (ms ks : Modules Routine) → ms ≡ ks → with_abstract_programs es cs ms ≡ with_abstract_programs ds cs ks
-    programs-same cs ms ks e = fun_ext (λ n. programs_at es ds (type-same ds) cs ms ks n (λ i. e i n))
+    programs-same cs ms ks e = fun_ext (λ n. programs_at AnyName es ds (λ m k. type-same ds m) cs (any-chosen es cs) ms ks n (λ i. e i n))
 
     footprints-on : (cs : List Chosen) (ms ks : Modules (List Var)) → ms ≡ ks → with_abstract_footprints es cs ms ≡ with_abstract_footprints ds cs ks
-    footprints-on cs ms ks e = fun_ext (λ n. footprints_at es ds (type-same ds) cs ms ks n (λ i. e i n))
+    footprints-on cs ms ks e = fun_ext (λ n. footprints_at AnyName es ds (λ m k. type-same ds m) cs (any-chosen es cs) ms ks n (λ i. e i n))
 
     footprints-same : (cs : List Chosen) → footprints es cs ≡ footprints ds cs
     footprints-same cs =
@@ -94,7 +95,7 @@ module _ (ls : Declarations) (s : KeepModules ls) where
         ∙ ap (λ z. modules_of (linked_procedure g) z ds) (programs-same cs (λ n. no_module) (λ n. no_module) refl))
 
     frame-same : SameFrame ds es
-    frame-same = record { types = λ n. sym (type-same ds n); globals = sym (globals-same ds) }
+    frame-same = record { types = λ n k. sym (type-same ds n); globals = sym (globals-same ds) }
 
     module _ (w : World) (size : Name → ℕ) (t u : Table)
         (e : (y : Types) → y.size ≡ size → with_operators u (bare y u) (ds ++ ls) ≡ with_operators t (bare y t) ds) where

@@ -1,6 +1,7 @@
 -- Which names a module expression and a body have in them.
 use Rattle.std.specs.Prelude.{◌≡◌, ◌⊎◌, true, false, List, [], ◌∷◌, bytes_eq}
 use Rattle.std.specs.List.{list_any}
+use Rattle.gb_terms.specs.declared.decl.Param.{Param}
 use Rattle.gb_terms.specs.declared.decl.Proc.{Proc}
 use Rattle.gb_terms.specs.declared.module.Mexp.{Mexp, Row_of-Mexp, end_of-Mexp, more_of-Mexp}
 use Rattle.gb_terms.specs.declared.module.Mexp.TheVariants.{Name as named, Apply'}
@@ -9,6 +10,7 @@ use Rattle.gb_terms.specs.declared.term.Instr.{Instr, Row_of-Instr, end_of-Instr
 use Rattle.gb_terms.specs.declared.term.Head.TheVariants.{Assign, Sample, Call', If', While'}
 use Rattle.gb_meaning.specs.Names.{Name}
 use Rattle.gb_holds.specs.Declared.{Declarations}
+use Rattle.gb_holds.specs.Adversary.{type_named}
 use Rattle.gb_holds.specs.Settings.{Chosen}
 
 abbrev mutual
@@ -64,3 +66,16 @@ pub record IsBefore (after : Declarations) (cs : List Chosen) (n k : Name) : Typ
 abbrev pub IsEarlier : Declarations → List Chosen → Name → List Proc → ProcRef → Type 0
 IsEarlier after cs n ps r =
     EachName (IsBefore after cs n) r.«module» ⊎ ((r.«module» ≡ named n) × (list_any (λ p. bytes_eq r.name p.name) ps ≡ true))
+
+-- any name
+abbrev pub AnyName : Name → Type 0
+AnyName n = Unit {0}
+
+-- the module type of each parameter is in P
+abbrev pub EachParam : (Name → Type 0) → List Param → Type 0
+EachParam P [] = Unit {0}
+EachParam P (p ∷ ps) = P p.ty × EachParam P ps
+
+-- the module type is in P, and those of its parameters
+abbrev pub IsTypeIn : (Name → Type 0) → Declarations → Name → Type 0
+IsTypeIn P ds n = P n × EachParam P (type_named ds n).params

@@ -55,7 +55,7 @@ one-added : (ds : Declarations) (n : Name) (d : Declaration) (q : Sequent) → I
 one-added ds n abstract_type q a x = silent ds ((n, abstract_type) ∷ []) (tt, tt) q x
 one-added ds n (operator o) q a x = holds-new ds n (operator o) tt a q x
 one-added ds n (abstract_operator o) q a x = holds-new ds n (abstract_operator o) tt a q x
-one-added ds n (module_type t) q a x = absurd a
+one-added ds n (module_type t) q a x = holds-with ds ((n, module_type t) ∷ []) (tt, tt) a.0 q a.1 x
 one-added ds n (concrete_module m) q a x = holds-with ds ((n, concrete_module m) ∷ []) (tt, tt) a.0 q a.1 x
 one-added ds n (abstract_module b) q a x = absurd a
 one-added ds n (axiom_of p) q a x = silent ds ((n, axiom_of p) ∷ []) (tt, tt) q x
@@ -70,7 +70,7 @@ one-beside : (ds : Declarations) (n : Name) (d : Declaration) (m f : Name) → I
 one-beside ds n abstract_type m f a x = silent-loops ds ((n, abstract_type) ∷ []) (tt, tt) m f x
 one-beside ds n (operator o) m f a x = loops-new ds n (operator o) tt a m f x
 one-beside ds n (abstract_operator o) m f a x = loops-new ds n (abstract_operator o) tt a m f x
-one-beside ds n (module_type t) m f a x = absurd a
+one-beside ds n (module_type t) m f a x = loops-with ds ((n, module_type t) ∷ []) (tt, tt) a.0 m f a.1 x
 one-beside ds n (concrete_module c) m f a x = loops-with ds ((n, concrete_module c) ∷ []) (tt, tt) a.0 m f a.1 x
 one-beside ds n (abstract_module b) m f a x = absurd a
 one-beside ds n (axiom_of p) m f a x = silent-loops ds ((n, axiom_of p) ∷ []) (tt, tt) m f x

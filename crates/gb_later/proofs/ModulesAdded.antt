@@ -19,16 +19,16 @@ use Rattle.gb_holds.specs.Declared.{Declarations, abstract_type, operator, abstr
 use Rattle.gb_holds.specs.Programs.{AreIn}
 use Rattle.gb_holds.specs.Settings.{Chosen, Table, Interpretation, types_of, setting, globals_from, declared_globals}
 use Rattle.gb_holds.specs.Holds.{EachProgram, AreValues, context, AreTrue, IsTrueSequent, IsResult, GiveResults, AxiomsAreTrue, IsModel, InEachModel, declared_modules, interpretation, Holds}
-use Rattle.gb_holds.specs.Naming.{IsFresh}
+use Rattle.gb_holds.specs.Naming.{AnyName, IsFresh}
 use Rattle.gb_holds.proofs.SettingTypes.{setting-types}
 use Rattle.gb_holds.proofs.Kept.{results-front, axioms-front, declared-same}
 use Rattle.gb_holds.specs.Globs.{EachGlob}
 use Rattle.gb_later.specs.Agreement.{SameValues, SameLocals}
-use Rattle.gb_later.specs.Naming.{AnyName, EachGlobOf, EachGlobAmong, AreModulesOrStatements, OperatorsName}
+use Rattle.gb_later.specs.Naming.{EachGlobOf, EachGlobAmong, AreModulesOrStatements, OperatorsName}
 use Rattle.gb_later.specs.Formed.{IsApartFormula, AreFormedBinds, AreHypsApart, IsSequentApart, AreAxiomsApart, IsScopeApart}
 use Rattle.gb_later.proofs.Agreeing.{locals_agree}
 use Rattle.gb_later.proofs.LaterSetting.{EachPlain, plain_world}
-use Rattle.gb_later.proofs.WithModules.{ArePlainPrograms}
+use Rattle.gb_later.proofs.WithModules.{AreApartPrograms}
 use Rattle.gb_later.proofs.Sequents.{typed-to, locals-back, front-globals, rest-globals, join-globals, closed, types-back}
 use Rattle.gb_later.proofs.TruthAlike.{now, agree, within-later, within-earlier, chosen-plain, truth_alike}
 
@@ -58,26 +58,26 @@ module _ (ds es : Declarations) (s : AreModulesOrStatements es) (c : IsScopeApar
   abbrev pub at : List Chosen → Interpretation
   at = now ds es s c.operators w size table h
 
-  pub each-later : (bs : List Bind) (cs : List Chosen) → ArePlainPrograms cs → AreFormedBinds es ds bs → (P Q R : Interpretation → Type 0) →
-      EachProgram ds bs (at cs) R → ((ks : List Chosen) → ArePlainPrograms ks → R (at ks) → P (at ks) → Q (at ks)) →
+  pub each-later : (bs : List Bind) (cs : List Chosen) → AreApartPrograms es ds cs → AreFormedBinds es ds bs → (P Q R : Interpretation → Type 0) →
+      EachProgram ds bs (at cs) R → ((ks : List Chosen) → AreApartPrograms es ds ks → R (at ks) → P (at ks) → Q (at ks)) →
       EachProgram ds bs (at cs) P → EachProgram (ds ++ es) bs (at cs) Q
   each-later [] cs p k P Q R x f z = f cs p x z
   each-later (b ∷ bs) cs p k P Q R x f z = λ v y.
       let ks : List Chosen = record { bind = b; program = v } ∷ cs in
-      let plain = chosen-plain ds es s c.operators w size table h b v cs y.program.known p in
+      let plain = chosen-plain ds es s c.operators w size table h b v cs k.0.type y.program.known p in
       let before = within-earlier ds es s c.operators w size table h ks plain b k.0 v y in
       each-later bs ks plain k.1 P Q R (x v before) f (z v before)
 
-  each-earlier : (bs : List Bind) (cs : List Chosen) → ArePlainPrograms cs → AreFormedBinds es ds bs → (P Q R : Interpretation → Type 0) →
-      EachProgram ds bs (at cs) R → ((ks : List Chosen) → ArePlainPrograms ks → R (at ks) → Q (at ks) → P (at ks)) →
+  each-earlier : (bs : List Bind) (cs : List Chosen) → AreApartPrograms es ds cs → AreFormedBinds es ds bs → (P Q R : Interpretation → Type 0) →
+      EachProgram ds bs (at cs) R → ((ks : List Chosen) → AreApartPrograms es ds ks → R (at ks) → Q (at ks) → P (at ks)) →
       EachProgram (ds ++ es) bs (at cs) Q → EachProgram ds bs (at cs) P
   each-earlier [] cs p k P Q R x f z = f cs p x z
   each-earlier (b ∷ bs) cs p k P Q R x f z = λ v y.
       let ks : List Chosen = record { bind = b; program = v } ∷ cs in
-      let plain = chosen-plain ds es s c.operators w size table h b v cs y.program.known p in
+      let plain = chosen-plain ds es s c.operators w size table h b v cs k.0.type y.program.known p in
       each-earlier bs ks plain k.1 P Q R (x v y) f (z v (within-later ds es s c.operators w size table h ks plain b k.0 v y))
 
-  hyps-alike : (hs : List Hyp) (cs : List Chosen) → ArePlainPrograms cs → AreHypsApart es ds hs (at cs) → (a : State) →
+  hyps-alike : (hs : List Hyp) (cs : List Chosen) → AreApartPrograms es ds cs → AreHypsApart es ds hs (at cs) → (a : State) →
       AreTrue ds hs (at cs) a ↔ AreTrue (ds ++ es) hs (at cs) a
   hyps-alike [] cs p k a = (λ z. tt, λ z. tt)
   hyps-alike (x ∷ hs) cs p k a =
@@ -85,20 +85,20 @@ module _ (ds es : Declarations) (s : AreModulesOrStatements es) (c : IsScopeApar
       let rest = hyps-alike hs cs p k.1 a in
       (λ z. (first.0 z.0, rest.0 z.1), λ z. (first.1 z.0, rest.1 z.1))
 
-  locals-in : (cs : List Chosen) → ArePlainPrograms cs → (xs : List TypedName) → EachGlobOf (IsFresh es) xs → SameLocals (types_of ds (at cs)) (types_of (ds ++ es) (at cs)) xs
+  locals-in : (cs : List Chosen) → AreApartPrograms es ds cs → (xs : List TypedName) → EachGlobOf (IsFresh es) xs → SameLocals (types_of ds (at cs)) (types_of (ds ++ es) (at cs)) xs
   locals-in cs p xs e =
       subst (λ t. SameLocals t (types_of (ds ++ es) (at cs)) xs) (setting-types ds (at cs))
       (subst (λ t. SameLocals (setting ds (at cs)).types t xs) (setting-types (ds ++ es) (at cs))
       (locals_agree (IsFresh es) AnyName (setting ds (at cs)) (setting (ds ++ es) (at cs)) (agree ds es s c.operators w size table h cs p) xs e))
 
-  says-alike : (q : Sequent) (ks : List Chosen) → ArePlainPrograms ks → EachGlobOf (IsFresh es) q.logical →
+  says-alike : (q : Sequent) (ks : List Chosen) → AreApartPrograms es ds ks → EachGlobOf (IsFresh es) q.logical →
       AreHypsApart es ds q.hyps (at ks) × IsApartFormula es ds q.conclusion (at ks) → (vs : List Value) (ms : List Memory) →
       (AreTrue ds q.hyps (at ks) (context vs ms) ↔ AreTrue (ds ++ es) q.hyps (at ks) (context vs ms))
       × (Truth ds q.conclusion (at ks) (context vs ms) ↔ Truth (ds ++ es) q.conclusion (at ks) (context vs ms))
   says-alike q ks p e x vs ms =
       (hyps-alike q.hyps ks p x.0 (context vs ms), truth_alike ds es s c.operators w size table h q.conclusion ks p x.1 (context vs ms))
 
-  pub sequent-later : (q : Sequent) (cs : List Chosen) → ArePlainPrograms cs → IsSequentApart es ds q (at cs) →
+  pub sequent-later : (q : Sequent) (cs : List Chosen) → AreApartPrograms es ds cs → IsSequentApart es ds q (at cs) →
       IsTrueSequent ds q (at cs) → IsTrueSequent (ds ++ es) q (at cs)
   sequent-later q cs p k =
       each-later q.modules cs p k.binders _ _ _ k.forms
@@ -107,7 +107,7 @@ module _ (ds es : Declarations) (s : AreModulesOrStatements es) (c : IsScopeApar
       (typed-to (types_of (ds ++ es) (at ks)) (types_of ds (at ks)) q.logical
       (locals-back (types_of ds (at ks)) (types_of (ds ++ es) (at ks)) q.logical (locals-in ks pk q.logical k.types)) vs typed) ms (both.0.1 hyps)))
 
-  sequent-earlier : (q : Sequent) (cs : List Chosen) → ArePlainPrograms cs → IsSequentApart es ds q (at cs) →
+  sequent-earlier : (q : Sequent) (cs : List Chosen) → AreApartPrograms es ds cs → IsSequentApart es ds q (at cs) →
       IsTrueSequent (ds ++ es) q (at cs) → IsTrueSequent ds q (at cs)
   sequent-earlier q cs p k =
       each-earlier q.modules cs p k.binders _ _ _ k.forms
@@ -172,7 +172,7 @@ module _ (ds es : Declarations) (s : AreModulesOrStatements es) (c : IsScopeApar
 module _ (ds es : Declarations) (s : AreModulesOrStatements es) (c : IsScopeApart es ds) where
   -- what is true in each model, beside R, gives what is true in each model with what is added
   pub goes-with : (P Q R : Interpretation → Type 0) →
-      ((w : World) (size : Name → ℕ) (table : Table) (h : EachPlain w) (cs : List Chosen) → ArePlainPrograms cs →
+      ((w : World) (size : Name → ℕ) (table : Table) (h : EachPlain w) (cs : List Chosen) → AreApartPrograms es ds cs →
       R (at ds es s c w size table h cs) → P (at ds es s c w size table h cs) → Q (at ds es s c w size table h cs)) →
       InEachModel ds R → InEachModel ds P → InEachModel (ds ++ es) Q
   goes-with P Q R f e h w size table m =

@@ -10,11 +10,11 @@ use Rattle.gb_meaning.specs.Values.{World}
 use Rattle.gb_meaning.specs.Setting.{Setting}
 use Rattle.gb_meaning.specs.Commands.{statements}
 use Rattle.gb_holds.specs.Declared.{Declarations, module_in, module_named}
-use Rattle.gb_holds.specs.Naming.{EachName, EachCallOf, IsFresh}
+use Rattle.gb_holds.specs.Naming.{AnyName, EachName, EachCallOf, IsFresh}
 use Rattle.gb_holds.specs.Settings.{Table, Interpretation, types_of, setting}
 use Rattle.gb_holds.specs.Holds.{EachProgram, EachArgument, declared_modules, IsModel, InEachModel, interpretation, LoopsAreGood, ProcedureIsGood, ProcedureOfIsGood, IsTerminating}
 use Rattle.gb_holds.proofs.Later.{same_body}
-use Rattle.gb_later.specs.Naming.{AnyName, AgreeOn, AreModulesOrStatements, BodyNames}
+use Rattle.gb_later.specs.Naming.{AgreeOn, AreModulesOrStatements, BodyNames}
 use Rattle.gb_later.proofs.Agreeing.{call-agrees, program_agrees}
 use Rattle.gb_later.proofs.LaterSetting.{plain_world}
 use Rattle.gb_later.proofs.WithModules.{later_agrees}

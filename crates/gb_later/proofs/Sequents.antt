@@ -15,11 +15,11 @@ use Rattle.gb_holds.specs.Truth.{Truth}
 use Rattle.gb_holds.specs.Programs.{AreIn}
 use Rattle.gb_holds.specs.Settings.{Table, Interpretation, types_of, setting, globals_from, declared_globals}
 use Rattle.gb_holds.specs.Holds.{EachProgram, AreValues, context, AreTrue, IsTrueSequent, HaveVariableTypes, GiveResults, AxiomsAreTrue, IsModel, InEachModel, declared_modules, interpretation, Holds}
-use Rattle.gb_holds.specs.Naming.{IsFresh}
+use Rattle.gb_holds.specs.Naming.{AnyName, IsFresh}
 use Rattle.gb_holds.proofs.Fronts.{without_modules}
 use Rattle.gb_holds.proofs.SettingTypes.{setting-types}
 use Rattle.gb_later.specs.Agreement.{SameLocals}
-use Rattle.gb_later.specs.Naming.{AnyName, AgreeOn, AreModulesOrStatements, OperatorsName}
+use Rattle.gb_later.specs.Naming.{AgreeOn, AreModulesOrStatements, OperatorsName}
 use Rattle.gb_later.specs.Apart.{IsApart, AreApart, IsApartSequent}
 use Rattle.gb_later.proofs.SameForms.{truth_same}
 use Rattle.gb_later.proofs.Agreeing.{locals_agree, form_agrees}
@@ -109,7 +109,7 @@ known-front w ((n, terminating f) ∷ ds) es s h = known-front w ds es s.1 h
 known-front w ((n, abstract_type) ∷ ds) es s h = absurd s.0
 known-front w ((n, operator o) ∷ ds) es s h = absurd s.0
 known-front w ((n, abstract_operator o) ∷ ds) es s h = absurd s.0
-known-front w ((n, module_type t) ∷ ds) es s h = absurd s.0
+known-front w ((n, module_type t) ∷ ds) es s h = known-front w ds es s.1 h
 known-front w ((n, abstract_module b) ∷ ds) es s h = absurd s.0
 known-front w ((n, axiom_of q) ∷ ds) es s h = absurd s.0
 
@@ -128,7 +128,7 @@ closed ((n, terminating f) ∷ ds) s = let c = closed ds s.1 in record { operato
 closed ((n, abstract_type) ∷ ds) s = absurd s.0
 closed ((n, operator o) ∷ ds) s = absurd s.0
 closed ((n, abstract_operator o) ∷ ds) s = absurd s.0
-closed ((n, module_type t) ∷ ds) s = absurd s.0
+closed ((n, module_type y) ∷ ds) s = let c = closed ds s.1 in record { operators = λ P Q. (tt, c.operators P Q); results = c.results; axioms = c.axioms; modules = c.modules }
 closed ((n, abstract_module b) ∷ ds) s = absurd s.0
 closed ((n, axiom_of q) ∷ ds) s = absurd s.0
 

@@ -21,12 +21,12 @@ use Rattle.gb_meaning.specs.Terms.{val, quiet, distribution}
 use Rattle.gb_holds.specs.Declared.{Signature}
 use Rattle.gb_holds.specs.Globs.{IsGlobless}
 use Rattle.gb_holds.specs.Typing.{Names, global_type, local_type, type_of, written_type, IsExpression, IsValueOf, IsTypedTerm, IsDistributionOver, AreArguments, AreLocals, params_of, FitsSignature, IsTyped, IsTypedRoutine}
-use Rattle.gb_holds.specs.Naming.{EachName}
+use Rattle.gb_holds.specs.Naming.{AnyName, EachName}
 use Rattle.gb_later.specs.Agreement.{SameFootprint, SameValues, SameTerm, SameLocals}
 use Rattle.gb_later.proofs.SameTerms.{term_same}
 use Rattle.gb_later.proofs.SamePrograms.{distribution_same}
 use Rattle.gb_later.proofs.SameForms.{distribution-to}
-use Rattle.gb_later.specs.Naming.{NoName, AnyName, AgreeOn}
+use Rattle.gb_later.specs.Naming.{NoName, AgreeOn}
 use Rattle.gb_later.proofs.Agreeing.{term_agrees}
 use Rattle.gb_later.proofs.TypedNames.{expression-names, over-names}
 use Rattle.gb_later.proofs.LaterSetting.{EachPlain, globless_values, plain_values}

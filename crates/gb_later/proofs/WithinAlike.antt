@@ -25,7 +25,8 @@ use Rattle.gb_holds.specs.Programs.{AreIn, IfThere, IsProcedureFor, HasProcedure
 use Rattle.gb_holds.specs.Bounds.{counted_if_there, IsAnswer, AreOracles, oracle_in, counted_run, EachCallsAtMost, GroupCall, IsEntry, without, Agree, IsGroupRun, IsBounded}
 use Rattle.gb_holds.proofs.Links.{link_routine-linked}
 use Rattle.gb_later.specs.Agreement.{SameTerm}
-use Rattle.gb_later.specs.Naming.{NoName, AnyName, RoutineNames, NamesIfThere}
+use Rattle.gb_holds.specs.Naming.{AnyName}
+use Rattle.gb_later.specs.Naming.{NoName, RoutineNames, NamesIfThere}
 use Rattle.gb_later.specs.Formed.{IsSigned, AreSigned, AreSignedBounds}
 use Rattle.gb_later.proofs.SameTerms.{denominator_same, globals_same}
 use Rattle.gb_later.proofs.SamePrograms.{distribution_same}

@@ -1,6 +1,7 @@
 -- Declarations that are added at the end of a scope, and named by nothing that stands before.
-use Rattle.std.specs.Prelude.{[], ◌∷◌, ◌++◌, Option, Some, None}
+use Rattle.std.specs.Prelude.{List, [], ◌∷◌, ◌++◌, Option, Some, None}
 use Rattle.gb_terms.specs.declared.decl.Module.{Module}
+use Rattle.gb_terms.specs.declared.decl.Param.{Param}
 use Rattle.gb_terms.specs.declared.decl.Proc.{Proc}
 use Rattle.gb_goal.specs.Scope.{proc_of}
 use Rattle.gb_goal.specs.declared.sequent.Sequent.{Sequent}
@@ -8,9 +9,9 @@ use Rattle.gb_meaning.specs.Names.{Name}
 use Rattle.gb_meaning.specs.Setting.{Setting}
 use Rattle.gb_holds.specs.Declared.{Declarations, Declaration, operator, abstract_operator, module_type, concrete_module, abstract_module, module_named}
 use Rattle.gb_holds.specs.Settings.{setting}
-use Rattle.gb_holds.specs.Naming.{IsFresh}
+use Rattle.gb_holds.specs.Naming.{AnyName, IsFresh, IsTypeIn}
 use Rattle.gb_holds.specs.Holds.{InEachModel, EachArgument}
-use Rattle.gb_later.specs.Naming.{AnyName, NoName, IsOther, BodyNames, OperatorsName}
+use Rattle.gb_later.specs.Naming.{NoName, IsOther, BodyNames, OperatorsName}
 use Rattle.gb_later.specs.Formed.{IsSequentApart, IsScopeApart}
 
 -- an operator, with a body or without
@@ -28,10 +29,16 @@ abbrev pub IsBodyApart : Declarations → Setting → Option Proc → Type 0
 IsBodyApart es g None = Unit {0}
 IsBodyApart es g (Some p) = BodyNames (IsFresh es) AnyName g p.body.list
 
+-- the module types of parameters are none of the declarations
+abbrev pub AreParamsApart : Declarations → Declarations → List Param → Type 0
+AreParamsApart es ds [] = Unit {0}
+AreParamsApart es ds (p ∷ ps) = IsTypeIn (IsFresh es) ds p.ty × AreParamsApart es ds ps
+
 -- the same of a procedure of a module, in each model and with any programs in place of its parameters
 abbrev pub IsProcedureApart : Declarations → Declarations → Option Module → Name → Type 0
 IsProcedureApart es ds None f = Unit {0}
-IsProcedureApart es ds (Some m) f = InEachModel ds (λ i. EachArgument ds m.params i (λ k. IsBodyApart es (setting ds k) (proc_of m.procs f)))
+IsProcedureApart es ds (Some m) f =
+    AreParamsApart es ds m.params × InEachModel ds (λ i. EachArgument ds m.params i (λ k. IsBodyApart es (setting ds k) (proc_of m.procs f)))
 
 -- the procedure f of the module n names none of the declarations, nor has one of them its name
 abbrev pub AreLoopsApart : Name → Name → Declarations → Declarations → Type 0
@@ -41,12 +48,13 @@ AreLoopsApart n f es ds = IsFresh es n × IsProcedureApart es ds (module_named d
 abbrev pub IsSequentApartIn : Sequent → Declarations → Declarations → Type 0
 IsSequentApartIn q es ds = InEachModel ds (IsSequentApart es ds q)
 
--- A declaration that may be added: an operator is new, and a module is named neither by the scope nor by what C looks at.
+-- A declaration that may be added: an operator is new, and a module or a module type is named neither by
+-- the scope nor by what C looks at.
 abbrev pub IsAdded : (Declarations → Declarations → Type 0) → Declarations → Name → Declaration → Type 0
 IsAdded C ds n (operator o) = IsNewOperator ds n (operator o)
 IsAdded C ds n (abstract_operator o) = IsNewOperator ds n (abstract_operator o)
 IsAdded C ds n (concrete_module m) = IsScopeApart ((n, concrete_module m) ∷ []) ds × C ((n, concrete_module m) ∷ []) ds
-IsAdded C ds n (module_type t) = ⊥
+IsAdded C ds n (module_type t) = IsScopeApart ((n, module_type t) ∷ []) ds × C ((n, module_type t) ∷ []) ds
 IsAdded C ds n (abstract_module b) = ⊥
 IsAdded C ds n _ = Unit {0}
 

@@ -6,9 +6,9 @@ use Rattle.gb_goal.specs.declared.sequent.Sequent.{Sequent}
 use Rattle.gb_meaning.specs.Setting.{Setting}
 use Rattle.gb_meaning.specs.Judgments.{IsSoundForm}
 use Rattle.gb_holds.specs.Declared.{Declarations}
-use Rattle.gb_holds.specs.Naming.{IsFresh}
+use Rattle.gb_holds.specs.Naming.{AnyName, IsFresh}
 use Rattle.gb_holds.specs.Truth.{has_module}
-use Rattle.gb_later.specs.Naming.{AnyName, EachGlobOf, FormNames}
+use Rattle.gb_later.specs.Naming.{EachGlobOf, FormNames}
 
 -- A form that names none of the declarations, has no quantifier over modules in front, and judges sound subjects alone.
 pub record IsApart (es : Declarations) (g : Setting) (f : Term) : Type 0 where

@@ -15,12 +15,12 @@ use Rattle.gb_meaning.specs.Judgments.{IsSoundForm}
 use Rattle.gb_holds.specs.Declared.{Declarations, Signature, axiom_of}
 use Rattle.gb_holds.specs.Globs.{EachGlob}
 use Rattle.gb_holds.specs.Adversary.{Adversary, type_named}
-use Rattle.gb_holds.specs.Naming.{IsFresh}
+use Rattle.gb_holds.specs.Naming.{AnyName, IsFresh, IsTypeIn}
 use Rattle.gb_holds.specs.Settings.{Table, Interpretation, with_program, types_of, setting}
 use Rattle.gb_holds.specs.Within.{IsWithin}
 use Rattle.gb_holds.specs.Truth.{Choice, last_has_module}
 use Rattle.gb_holds.specs.Holds.{EachProgram, HaveVariableTypes, declared_modules, interpretation}
-use Rattle.gb_later.specs.Naming.{AnyName, EachGlobOf, FormNames, OperatorsName}
+use Rattle.gb_later.specs.Naming.{EachGlobOf, FormNames, OperatorsName}
 
 -- a signature has this name
 abbrev pub IsSigned : List Signature → Name → Type 0
@@ -40,9 +40,10 @@ abbrev pub AreFresh : Declarations → List Name → Type 0
 AreFresh es [] = Unit {0}
 AreFresh es (m ∷ ms) = IsFresh es m × AreFresh es ms
 
--- A binder of declarations: its restriction names none of those that are added, and its bounds name procedures of its
--- module type.
+-- A binder of declarations: its module type and its restriction name none of those that are added, and its bounds name
+-- procedures of its module type.
 pub record IsFormedBind (es ds : Declarations) (b : Bind) : Type 0 where
+  pub type : IsTypeIn (IsFresh es) ds b.ty
   pub minus : AreFresh es b.minus
   pub bounds : AreSignedBounds (type_named ds b.ty).signatures b.bounds
 

@@ -20,14 +20,10 @@ use Rattle.gb_meaning.specs.Program.Routine.{routine}
 use Rattle.gb_meaning.specs.Setting.{Setting}
 use Rattle.gb_meaning.specs.Commands.{program_of, statements}
 use Rattle.gb_holds.specs.Globs.{EachGlob}
-use Rattle.gb_holds.specs.Declared.{Declarations, Declaration, operator, abstract_operator, concrete_module, lemma, terminating}
+use Rattle.gb_holds.specs.Declared.{Declarations, Declaration, operator, abstract_operator, module_type, concrete_module, lemma, terminating}
 use Rattle.gb_holds.specs.Naming.{EachName, EachCallIn, EachCallOf}
 use Rattle.gb_holds.specs.Holds.{EachDeclared}
 use Rattle.gb_later.specs.Agreement.{SameFootprint, SameOperator}
-
--- any name
-abbrev pub AnyName : Name → Type 0
-AnyName n = Unit {0}
 
 -- no name
 abbrev pub NoName : Name → Type 0
@@ -137,9 +133,10 @@ pub record AgreeOn (P Q : Name → Type 0) (g h : Setting) : Type 0 where
   pub operators : (n : Name) → Q n → SameOperator g h n
   pub procedures : (p : ProcRef) → EachName P p.«module» → g.procedure p ≡ h.procedure p
 
--- a module, a lemma, or that loops are proved
+-- a module, a module type, a lemma, or that loops are proved
 abbrev pub IsModuleOrStatement : Declaration → Type 0
 IsModuleOrStatement (concrete_module m) = Unit {0}
+IsModuleOrStatement (module_type t) = Unit {0}
 IsModuleOrStatement (lemma q) = Unit {0}
 IsModuleOrStatement (terminating f) = Unit {0}
 IsModuleOrStatement _ = ⊥

@@ -8,10 +8,10 @@ ghost use Rattle.gb_meaning.specs.Program.{Routine, Oracle};
 ghost use Rattle.gb_meaning.specs.Setting.{Setting};
 ghost use Rattle.gb_holds.specs.Declared.{Declarations, Declaration, Signature, lemma, terminating};
 ghost use Rattle.gb_holds.specs.Linking.{Oracles, link_routine};
-ghost use Rattle.gb_holds.specs.Naming.{IsFresh};
+ghost use Rattle.gb_holds.specs.Naming.{AnyName, IsFresh};
 ghost use Rattle.gb_holds.specs.Typing.{IsTypedRoutine};
 ghost use Rattle.gb_holds.specs.Holds.{Holds, IsTerminating, IsSound};
-ghost use Rattle.gb_later.specs.Naming.{AnyName, RoutineNames, NamesIfThere, AreModulesOrStatements};
+ghost use Rattle.gb_later.specs.Naming.{RoutineNames, NamesIfThere, AreModulesOrStatements};
 ghost use Rattle.gb_later.specs.Formed.{IsScopeApart};
 ghost use Rattle.gb_later.specs.Added.{IsOperator, IsNewOperator, AreLoopsApart, IsSequentApartIn, AreAddedTo, AreAddedToLoops};
 
@@ -32,8 +32,8 @@ pub fn names_of_adversaries()
         (gs : List Global) (r : Routine) → IsTypedRoutine g ss gs r → RoutineNames (IsFresh es) AnyName (link_routine os r) }
 {}
 
-/// A sequent with abstract modules that holds goes on to hold when modules are added which neither the scope nor the
-/// sequent names; and so do loops stay good that are proved of a module, which may have parameters.
+/// A sequent with abstract modules that holds goes on to hold when modules and module types are added which neither the
+/// scope nor the sequent names; and so do loops stay good that are proved of a module, which may have parameters.
 pub fn modules_beside_adversaries()
     ensures holds { (ds es : Declarations) → AreModulesOrStatements es → IsScopeApart es ds → (q : Sequent) →
         IsSequentApartIn q es ds → Holds ds q → Holds (ds ++ es) q }
@@ -41,8 +41,8 @@ pub fn modules_beside_adversaries()
         AreLoopsApart m f es ds → IsTerminating ds m f → IsTerminating (ds ++ es) m f }
 {}
 
-/// What holds goes on to hold when types, operators, modules, axioms, lemmas and proved loops are added, one after another,
-/// and so do proved loops stay good.
+/// What holds goes on to hold when types, operators, module types, modules, axioms, lemmas and proved loops are added, one
+/// after another, and so do proved loops stay good.
 pub fn later_declarations()
     ensures holds { (ds es : Declarations) (q : Sequent) → AreAddedTo ds es q → Holds ds q → Holds (ds ++ es) q }
     ensures loops { (ds es : Declarations) (m f : Name) → AreAddedToLoops ds es m f → IsTerminating ds m f → IsTerminating (ds ++ es) m f }

@@ -12,10 +12,10 @@ ghost use Rattle.gb_meaning.specs.Names.{Name};
 ghost use Rattle.gb_meaning.specs.Values.{World};
 ghost use Rattle.gb_meaning.specs.Setting.{Meaning};
 ghost use Rattle.gb_holds.specs.Declared.{Declarations, declared, lemma, module_named};
-ghost use Rattle.gb_holds.specs.Naming.{IsFresh};
+ghost use Rattle.gb_holds.specs.Naming.{AnyName, IsFresh};
 ghost use Rattle.gb_holds.specs.Settings.{Table, Interpretation, types_of, setting};
 ghost use Rattle.gb_holds.specs.Holds.{HaveVariableTypes, interpretation, InEachModel, IsTrueSequent, Holds, IsSound, IsTerminating};
-ghost use Rattle.gb_later.specs.Naming.{AnyName, AreModulesOrStatements, OperatorsName, BodyNames};
+ghost use Rattle.gb_later.specs.Naming.{AreModulesOrStatements, OperatorsName, BodyNames};
 ghost use Rattle.gb_later.specs.Apart.{IsApartSequent};
 
 /// A sequent that names none of the modules that are added is true with them exactly where it is true without them.

@@ -13,12 +13,12 @@ ghost use Rattle.gb_meaning.specs.Terms.{val, denominator, quiet};
 ghost use Rattle.gb_meaning.specs.Runs.{out, run_denominator};
 ghost use Rattle.gb_meaning.specs.Judgments.{Judge, IsFair, speaking, IsSoundForm, IsTrueIn};
 ghost use Rattle.gb_holds.specs.Declared.{Declarations};
-ghost use Rattle.gb_holds.specs.Naming.{IsFresh};
+ghost use Rattle.gb_holds.specs.Naming.{AnyName, IsFresh};
 ghost use Rattle.gb_holds.specs.Settings.{Table, Interpretation, types_of, setting};
 ghost use Rattle.gb_holds.specs.Holds.{LoopsAreGood, HaveVariableTypes, interpretation};
 ghost use Rattle.gb_meaning.specs.Loops.{IsGood};
 ghost use Rattle.gb_later.specs.Agreement.{SameTerm, SameProgram, SameForm};
-ghost use Rattle.gb_later.specs.Naming.{AnyName, AgreeOn, TermNames, ProgramNames, FormNames, AreModulesOrStatements, OperatorsName};
+ghost use Rattle.gb_later.specs.Naming.{AgreeOn, TermNames, ProgramNames, FormNames, AreModulesOrStatements, OperatorsName};
 
 /// A term of a program means the same in two settings that agree on what it names, and its tree has the same denominator.
 pub fn terms()
