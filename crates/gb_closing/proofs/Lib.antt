@@ -1,0 +1,12 @@
+pub mod Nodes
+pub mod Raised
+pub mod Led
+pub mod Followed
+pub mod Known
+pub mod Given
+pub mod Implied
+pub mod Claimed
+pub mod Components
+pub mod Equations
+pub mod Used
+pub mod Closed

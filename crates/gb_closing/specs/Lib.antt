@@ -1,0 +1,4 @@
+pub mod Simple
+pub mod Reading
+pub mod Fits
+pub mod Closing

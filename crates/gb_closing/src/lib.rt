@@ -1,0 +1,4 @@
+//! What the rule `smt` closes holds.
+#![tactic(auto)]
+
+pub mod leaf_laws;
