@@ -10,3 +10,12 @@ pub mod Components
 pub mod Equations
 pub mod Used
 pub mod Closed
+pub mod Finding
+pub mod Splitting
+pub mod Later
+pub mod Kept
+pub mod Premises
+pub mod Split
+pub mod Start
+pub mod Modules
+pub mod Rule

@@ -2,3 +2,4 @@ pub mod Simple
 pub mod Reading
 pub mod Fits
 pub mod Closing
+pub mod Ready

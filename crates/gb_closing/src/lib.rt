@@ -2,3 +2,4 @@
 #![tactic(auto)]
 
 pub mod leaf_laws;
+pub mod rule_laws;
