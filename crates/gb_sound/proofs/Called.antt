@@ -1,72 +1,49 @@
 -- The rule `proc` is sound.
-use Rattle.std.proofs.Common.{◌≡◌, ℕ, Bool, true, false, List, [], ◌∷◌, map, Option, Some, None, refl, ap, sym, ◌∙◌, subst}
+use Rattle.std.proofs.Common.{◌≡◌, true, List, [], ◌∷◌, Option, Some, None, refl, ap, sym, ◌∙◌, subst}
 use Rattle.std.specs.Option.{option_and_then, option_map, option_zip}
 use Rattle.std.specs.List.{AllByRecursion}
 use Rattle.gb_core.specs.declared.ty.Ty.{Ty}
 use Rattle.gb_core.specs.declared.ty.Ty.TheVariants.{Bool as bool_ty}
 use Rattle.gb_terms.specs.declared.op.Side.TheVariants as side
 use Rattle.gb_terms.specs.declared.decl.Proc.{Proc}
-use Rattle.gb_terms.specs.declared.term.Term.{Term, out-Term}
+use Rattle.gb_terms.specs.declared.term.Term.{out-Term}
 use Rattle.gb_terms.specs.declared.term.Subject.{Subject}
-use Rattle.gb_terms.specs.declared.term.Head.{Head}
-use Rattle.gb_terms.specs.declared.term.Head.TheVariants as head
-use Rattle.gb_terms.specs.declared.term.Head.TheVariants.{Equiv, Body, Body', Proc as ProcAt}
-use Rattle.gb_terms.specs.Make.{node}
+use Rattle.gb_terms.specs.declared.term.Head.TheVariants.{Body, Body', Proc as ProcAt}
 use Rattle.gb_goal.specs.Scope as scope
 use Rattle.gb_goal.specs.declared.sequent.Sequent.{Sequent}
 use Rattle.gb_goal.specs.declared.step.Rule.TheVariants as rule
 use Rattle.gb_walk.specs.Change.{term_changed}
-use Rattle.gb_coupling.specs.WeightedList.{WeightedList, dmap}
+use Rattle.gb_coupling.specs.WeightedList.{dmap}
 use Rattle.gb_coupling.specs.Coupling.{Coupling}
 use Rattle.gb_coupling.proofs.Basic.{coupling_dmap}
 use Rattle.gb_meaning.specs.Memory.{Memory}
 use Rattle.gb_meaning.specs.Setting.{Setting}
 use Rattle.gb_meaning.specs.Meanings.{truth}
 use Rattle.gb_meaning.specs.State.{State, between, closed}
-use Rattle.gb_meaning.specs.Runs.{out, run_denominator}
 use Rattle.gb_meaning.specs.Sound.{IsSound}
 use Rattle.gb_meaning.specs.Commands.{statements}
 use Rattle.gb_meaning.specs.Judgments.{Judge, IsFair, speaking, den, run_of, subject_denominator, from_frame, outcome_denominator, IsSoundIfThere, IsSoundSubject}
 use Rattle.gb_laws.proofs.Bodies.{run_of_body, denominator_of_body}
-use Rattle.gb_laws.proofs.Nodes.{val_node, stands_node, judged_node, term_is_node, each_is_node}
-use Rattle.gb_judge.proofs.Truths.{truth_of, true_equiv}
-use Rattle.gb_changes.specs.Uses.{Uses, IsWithin}
-use Rattle.gb_changes.specs.Led.{Led}
+use Rattle.gb_judge.proofs.Truths.{true_equiv}
 use Rattle.gb_changes.proofs.Forms.{form_followed}
 use Rattle.gb_holds.specs.Declared.{declared}
 use Rattle.gb_holds.specs.Declared as holding
 use Rattle.gb_holds.specs.Settings.{Interpretation, setting}
-use Rattle.gb_holds.specs.Truth.{has_module, Truth}
+use Rattle.gb_holds.specs.Truth.{Truth}
 use Rattle.gb_holds.specs.Holds.{Holds}
 use Rattle.gb_holds.proofs.Fronts.{without_modules}
-use Rattle.gb_equiv.specs.Judgment.{Judgment, of_parts, equivalence_of, on_bodies, concluding}
+use Rattle.gb_equiv.specs.Judgment.{Judgment, equivalence_of, concluding}
 use Rattle.gb_equiv.specs.Proc.{procedure_in, returned, entered}
 use Rattle.gb_equiv.specs.Rows.{subgoals}
 use Rattle.gb_sound.specs.Ready.{InEachSetting}
-use Rattle.gb_sound.specs.Entered.{before_calls, after_calls, ProcIsReady, IsReadyWithin, IsLinkedTo, IsReadyForProc, ProceduresAreReady, ProcRowIsReady}
-use Rattle.gb_sound.proofs.Shapes.{none_some, same_some}
-use Rattle.gb_sound.proofs.Sides.{led_itself}
+use Rattle.gb_sound.specs.Entered.{before_calls, after_calls, ProcIsReady, IsLinkedTo, IsReadyForProc, ProceduresAreReady, ProcRowIsReady}
+use Rattle.gb_sound.proofs.Shapes.{none_some, same_some, judgment_node, judgment_shape}
+use Rattle.gb_sound.proofs.Equivalences.{Stand, judgment_true, judgment_front}
+use Rattle.gb_sound.proofs.Sides.{same_uses}
 use Rattle.gb_sound.proofs.Contexts.{run_anywhere}
 use Rattle.gb_sound.proofs.Results.{start, ended, led_results, led_starts}
 use Rattle.gb_sound.proofs.Subgoals.{from_subgoal}
 use Rattle.gb_sound.proofs.Skipped.{coupled_with}
-
--- the node of an equivalence
-abbrev pub judgment_node : Judgment → Ty → Term
-judgment_node e ty = node (Equiv e.left e.right) (e.pre ∷ e.post ∷ []) ty
-
-parts_shape : (h : Head) (ts : List Term) (ty : Ty) (e : Judgment) → of_parts h ts ≡ Some e → node h ts ty ≡ judgment_node e ty
-parts_shape (Equiv s t) (p ∷ q ∷ []) ty e r = ap (λ z. judgment_node z ty) (same_some _ e r)
-parts_shape (Equiv s t) [] ty e r = none_some e r
-parts_shape (Equiv s t) (p ∷ []) ty e r = none_some e r
-parts_shape (Equiv s t) (p ∷ q ∷ v ∷ ts) ty e r = none_some e r
-parts_shape _ ts ty e r = none_some e r
-
-pub judgment_shape : (f : Term) (e : Judgment) → equivalence_of f ≡ Some e → f ≡ judgment_node e (out-Term f).ty
-judgment_shape f e r = each_is_node f ∙ parts_shape (out-Term f).head (out-Term f).args (out-Term f).ty e r
-
-pub judgment_front : (e : Judgment) (ty : Ty) → has_module (judgment_node e ty) ≡ false
-judgment_front e ty = ap has_module (sym (term_is_node (Equiv e.left e.right) (e.pre ∷ e.post ∷ []) ty))
 
 module _ (g : Setting) where
   linked_run : (s : State) (c : Subject) (p : Proc) → IsLinkedTo g c p → ProcIsReady g p → (m : Memory) → run_of g s c m ≡ dmap (ended g p) (run_of g s (Body p.body) (start g p m))
@@ -84,20 +61,6 @@ module _ (g : Setting) where
   linked_sound (Body' n is) p l d = absurd l
 
   module _ (j : Judge) (fair : IsFair g j) where
-    judgment_true : (e : Judgment) (ty : Ty) (s : State) → IsSoundSubject g e.left → IsSoundSubject g e.right →
-        ((m n : Memory) → den g j e.pre (between s m n) ≡ true → Coupling (λ a b. den g j e.post (between s a b) ≡ true) (run_of g s e.left m) (subject_denominator g e.left)
-        (run_of g s e.right n) (subject_denominator g e.right)) → den g j (judgment_node e ty) s ≡ true
-    judgment_true e ty s u v h =
-        let x = stands_node g j (Equiv e.left e.right) (e.pre ∷ e.post ∷ []) ty s in
-        ap truth (val_node g (speaking g j) (Equiv e.left e.right) (e.pre ∷ e.post ∷ []) ty s)
-        ∙ truth_of (j (judgment_node e ty) s)
-        ∙ (fair (judgment_node e ty) s (judged_node g (Equiv e.left e.right) (e.pre ∷ e.post ∷ []) ty (u, v))).1 (x.1 h)
-
-    same_within : (K : Uses) (f : Term) → IsReadyWithin g K f → (s q : State) → Led g (speaking g j) [] K s q → den g j f s ≡ den g j f q
-    same_within K f r s q l =
-        ap truth (sym (form_followed g j fair f r.formed r.sound [] K s s tt (led_itself g (speaking g j) K s) r.within)
-        ∙ form_followed g j fair f r.formed r.sound [] K s q tt l r.within)
-
     module _ (e : Judgment) (a b : Proc) (ready : IsReadyForProc g e a b) (s : State) where
       after_run : (m n : Memory) → den g j (term_changed e.post (returned side.Left a ∷ returned side.Right b ∷ [])) (between s m n) ≡ true →
           den g j e.post (between s (ended g a m) (ended g b n)) ≡ true
@@ -106,11 +69,10 @@ module _ (g : Setting) where
           (between s (ended g a m) (ended g b n)) (ready.left.put side.Left, (ready.right.put side.Right, tt))
           (led_results g (speaking g j) a b ready.left ready.right s m n) ready.post.within)) ∙ h
 
-      stand : den g j (entered a b e.pre e.post) s ≡ true → (m n : Memory) → den g j e.pre (between s m n) ≡ true →
-          Coupling (λ x y. den g j e.post (between s x y) ≡ true) (run_of g s e.left m) (subject_denominator g e.left) (run_of g s e.right n) (subject_denominator g e.right)
+      stand : den g j (entered a b e.pre e.post) s ≡ true → Stand g j e s
       stand h m n p =
           let before : den g j e.pre (between s (start g a m) (start g b n)) ≡ true =
-          sym (same_within (before_calls a b) e.pre ready.pre (between s m n) (between s (start g a m) (start g b n)) (led_starts g (speaking g j) a b ready.left ready.right s m n)) ∙ p in
+          sym (same_uses g j fair (before_calls a b) (before_calls a b) e.pre ready.pre (between s m n) (between s (start g a m) (start g b n)) (led_starts g (speaking g j) a b ready.left ready.right s m n) ready.pre.within) ∙ p in
           let inner : Coupling (λ x y. den g j (term_changed e.post (returned side.Left a ∷ returned side.Right b ∷ [])) (between s x y) ≡ true)
           (run_of g s (Body a.body) (start g a m)) (subject_denominator g (Body a.body)) (run_of g s (Body b.body) (start g b n)) (subject_denominator g (Body b.body)) =
           (true_equiv g j fair (Body a.body) (Body b.body) e.pre (term_changed e.post (returned side.Left a ∷ returned side.Right b ∷ [])) s ready.left.sound ready.right.sound).0 h

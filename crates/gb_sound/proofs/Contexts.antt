@@ -1,9 +1,8 @@
 -- Programs whose terms look at their own memory alone run alike in every context.
-use Rattle.std.proofs.Common.{◌≡◌, ℕ, ◌*◌, ◌^◌, ◌-◌, min, Bool, true, false, if◌then◌else◌, List, [], ◌∷◌, map, refl, ap, sym, ◌∙◌}
+use Rattle.std.proofs.Common.{◌≡◌, ◌^◌, ◌-◌, min, Bool, if◌then◌else◌, List, [], ◌∷◌, map, refl, ap, sym, ◌∙◌}
 use Rattle.std.proofs.Math.Path.{fun_ext}
 use Rattle.std.specs.List.{AllByRecursion}
 use Rattle.std.proofs.lemmas.Bool.{false≢true}
-use Rattle.gb_core.specs.declared.value.Value.{Value}
 use Rattle.gb_terms.specs.declared.op.Side.TheVariants as side
 use Rattle.gb_terms.specs.declared.op.Read.TheVariants.{Logical, Program as variable}
 use Rattle.gb_terms.specs.declared.term.Term.{Term}
@@ -15,7 +14,7 @@ use Rattle.gb_meaning.specs.Program.Program.{done, assign, sample, branch, loop,
 use Rattle.gb_meaning.specs.Setting.{Setting}
 use Rattle.gb_meaning.specs.Meanings.{value_in, number_in, truth, weights_in}
 use Rattle.gb_meaning.specs.State.{State, inside}
-use Rattle.gb_meaning.specs.Terms.{Speaks, quiet, val, distribution}
+use Rattle.gb_meaning.specs.Terms.{Speaks, quiet, val}
 use Rattle.gb_meaning.specs.Runs.{most_turns, valued, is_true, turns_at, turns, run_denominator, returned, out, outcomes}
 use Rattle.gb_changes.specs.Uses.Use.{read, bound, globals, starts, binds_own, binds_sides}
 use Rattle.gb_changes.specs.Led.{Led}

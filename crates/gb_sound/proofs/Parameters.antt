@@ -5,7 +5,7 @@ use Rattle.std.proofs.lemmas.Slice.Eq.{bytes_eq-Decides}
 use Rattle.gb_core.specs.declared.ty.Ty.{Ty}
 use Rattle.gb_core.specs.declared.value.Value.{Value}
 use Rattle.gb_terms.specs.declared.decl.TypedName.{TypedName}
-use Rattle.gb_meaning.specs.Names.{Name, Map, get, set}
+use Rattle.gb_meaning.specs.Names.{Name, Map, get}
 use Rattle.gb_meaning.specs.Values.{Types, first, has, fit}
 use Rattle.gb_meaning.specs.Memory.{Memory, read_local, arguments}
 use Rattle.gb_laws.proofs.Maps.{get-set_same, get-set_other}

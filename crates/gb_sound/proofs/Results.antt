@@ -1,5 +1,5 @@
 -- Where procedures start and end, and what is said of it in their bodies.
-use Rattle.std.proofs.Common.{◌≡◌, Bool, true, false, ◌&&◌, if◌then◌else◌, List, [], ◌∷◌, map, Option, Some, None, codes, bytes_eq, refl, ap, sym, ◌∙◌}
+use Rattle.std.proofs.Common.{◌≡◌, Bool, true, false, ◌&&◌, if◌then◌else◌, [], ◌∷◌, map, Option, Some, None, codes, bytes_eq, refl, ap, sym, ◌∙◌}
 use Rattle.std.proofs.lemmas.Bool.{false≢true}
 use Rattle.std.proofs.lemmas.Slice.Eq.{bytes_eq-Decides}
 use Rattle.gb_core.specs.declared.ty.Ty.{Ty}
@@ -12,9 +12,9 @@ use Rattle.gb_terms.specs.declared.decl.Proc.{Proc}
 use Rattle.gb_terms.specs.declared.term.Term.{Term, out-Term}
 use Rattle.gb_terms.specs.Equal.{var_eq}
 use Rattle.gb_walk.specs.declared.change.Change.TheVariants.{ToSide}
-use Rattle.gb_walk.specs.Change.{Changes, or_later}
-use Rattle.gb_meaning.specs.Names.{get, set, empty}
-use Rattle.gb_meaning.specs.Values.{has, first, fit}
+use Rattle.gb_walk.specs.Change.{or_later}
+use Rattle.gb_meaning.specs.Names.{empty}
+use Rattle.gb_meaning.specs.Values.{first, fit}
 use Rattle.gb_meaning.specs.Memory.{Memory, read_local, outcome, result_name, first_values}
 use Rattle.gb_meaning.specs.Setting.{Meaning, Setting}
 use Rattle.gb_meaning.specs.Setting.Meaning.{finite}
@@ -26,7 +26,6 @@ use Rattle.gb_laws.proofs.Maps.{get-set_same}
 use Rattle.gb_changes.specs.Uses.Use.{read, bound, globals, starts, binds_own, binds_sides}
 use Rattle.gb_changes.specs.Led.{put, IgnoresOwn, Led}
 use Rattle.gb_changes.proofs.Changing.{plain_followed}
-use Rattle.gb_equiv.specs.Types.{ty_eq}
 use Rattle.gb_equiv.specs.Judgment.{on_side}
 use Rattle.gb_equiv.specs.Proc.{returned}
 use Rattle.gb_equiv.proofs.Types.{ty_eq-Decides}

@@ -135,30 +135,30 @@ module _ (g : Setting) (j : Speaks) where
 
 module _ (g : Setting) (j : Judge) (fair : IsFair g j) where
   -- a form means the same in two states that agree on what it uses
-  pub same_uses : (f : Term) → IsReady g f → (K : Uses) (s q : State) → Led g (speaking g j) [] K s q → IsWithin K f → den g j f s ≡ den g j f q
-  same_uses f r K s q l w =
+  pub same_uses : (V K : Uses) (f : Term) → IsReady g V f → (s q : State) → Led g (speaking g j) [] K s q → IsWithin K f → den g j f s ≡ den g j f q
+  same_uses V K f r s q l w =
       ap truth (sym (form_followed g j fair f r.formed r.sound [] K s s tt (led_itself g (speaking g j) K s) w)
       ∙ form_followed g j fair f r.formed r.sound [] K s q tt l w)
 
-  left_given : (f : Term) → IsReady g f → (s : State) (m : Memory) (b : Bool) → reads_side f side.Left ≡ b →
+  left_given : (f : Term) → IsReady g outermost f → (s : State) (m : Memory) (b : Bool) → reads_side f side.Left ≡ b →
       den g j (if b then node AllMemory (term_changed f (to_bound side.Left) ∷ []) bool_ty else f) s ≡ true → den g j f (left_at s m) ≡ true
   left_given f r s m true e h =
-      ap truth (sym (form_followed g j fair f r.formed r.sound (to_bound side.Left) outermost (under s (memory m)) (left_at s m) (tt, tt) (led_left g (speaking g j) s m) r.closed))
+      ap truth (sym (form_followed g j fair f r.formed r.sound (to_bound side.Left) outermost (under s (memory m)) (left_at s m) (tt, tt) (led_left g (speaking g j) s m) r.within))
       ∙ (true_all_memory g j fair (term_changed f (to_bound side.Left)) s).0 h m
   left_given f r s m false e h =
-      sym (same_uses f r (without side.Left outermost) s (left_at s m) (led_without_left g (speaking g j) s m) (unread_uses side.Left refl outermost f e r.closed)) ∙ h
+      sym (same_uses outermost (without side.Left outermost) f r s (left_at s m) (led_without_left g (speaking g j) s m) (unread_uses side.Left refl outermost f e r.within)) ∙ h
 
-  right_given : (f : Term) → IsReady g f → (s : State) (m : Memory) (b : Bool) → reads_side f side.Right ≡ b →
+  right_given : (f : Term) → IsReady g outermost f → (s : State) (m : Memory) (b : Bool) → reads_side f side.Right ≡ b →
       den g j (if b then node AllMemory (term_changed f (to_bound side.Right) ∷ []) bool_ty else f) s ≡ true → den g j f (right_at s m) ≡ true
   right_given f r s m true e h =
-      ap truth (sym (form_followed g j fair f r.formed r.sound (to_bound side.Right) outermost (under s (memory m)) (right_at s m) (tt, tt) (led_right g (speaking g j) s m) r.closed))
+      ap truth (sym (form_followed g j fair f r.formed r.sound (to_bound side.Right) outermost (under s (memory m)) (right_at s m) (tt, tt) (led_right g (speaking g j) s m) r.within))
       ∙ (true_all_memory g j fair (term_changed f (to_bound side.Right)) s).0 h m
   right_given f r s m false e h =
-      sym (same_uses f r (without side.Right outermost) s (right_at s m) (led_without_right g (speaking g j) s m) (unread_uses side.Right refl outermost f e r.closed)) ∙ h
+      sym (same_uses outermost (without side.Right outermost) f r s (right_at s m) (led_without_right g (speaking g j) s m) (unread_uses side.Right refl outermost f e r.within)) ∙ h
 
   -- where the form is true for every memory on one side, it is true with each memory there
-  pub for_each_left : (f : Term) → IsReady g f → (s : State) → den g j (for_every_memory side.Left f) s ≡ true → (m : Memory) → den g j f (left_at s m) ≡ true
+  pub for_each_left : (f : Term) → IsReady g outermost f → (s : State) → den g j (for_every_memory side.Left f) s ≡ true → (m : Memory) → den g j f (left_at s m) ≡ true
   for_each_left f r s h m = left_given f r s m (reads_side f side.Left) refl h
 
-  pub for_each_right : (f : Term) → IsReady g f → (s : State) → den g j (for_every_memory side.Right f) s ≡ true → (m : Memory) → den g j f (right_at s m) ≡ true
+  pub for_each_right : (f : Term) → IsReady g outermost f → (s : State) → den g j (for_every_memory side.Right f) s ≡ true → (m : Memory) → den g j f (right_at s m) ≡ true
   for_each_right f r s h m = right_given f r s m (reads_side f side.Right) refl h

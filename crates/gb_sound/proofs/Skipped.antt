@@ -33,9 +33,9 @@ use Rattle.gb_equiv.specs.Judgment.{OnBodies, bodies_of, concluding}
 use Rattle.gb_equiv.specs.Rows.{subgoals}
 use Rattle.gb_equiv.specs.Skip.{for_every_memory, for_every_pair, of_empty}
 use Rattle.gb_sound.specs.Ready.{InEachSetting, IsReadyForSkip, SkipIsReady}
-use Rattle.gb_sound.proofs.Shapes.{none_some, same_some, equivalence_node, bodies_shape}
+use Rattle.gb_sound.proofs.Shapes.{none_some, same_some, judgment_node, judgment_on, bodies_shape}
 use Rattle.gb_sound.proofs.Sides.{left_at, for_each_left, for_each_right}
-use Rattle.gb_sound.proofs.Equivalences.{BodiesStand, equivalence_true, equivalence_front}
+use Rattle.gb_sound.proofs.Equivalences.{Stand, judgment_true, judgment_front}
 use Rattle.gb_sound.proofs.Subgoals.{from_subgoal}
 
 empty_run : (g : Setting) (s : State) (c : Cmd) (m : Memory) → c.list ≡ [] → run_of g s (Body c) m ≡ unit m
@@ -75,7 +75,7 @@ module _ (g : Setting) (e : OnBodies) (ready : IsReadyForSkip g e) (none_left : 
       ∙ for_each_right g j fair (implies_form e.pre e.post) ready.implication (left_at s m)
       (for_each_left g j fair (for_every_memory side.Right (implies_form e.pre e.post)) ready.inner s h m) n) p
 
-  stand : (j : Judge) → IsFair g j → (s : State) → den g j (for_every_pair e.pre e.post) s ≡ true → BodiesStand g j e s
+  stand : (j : Judge) → IsFair g j → (s : State) → den g j (for_every_pair e.pre e.post) s ≡ true → Stand g j (judgment_on e) s
   stand j fair s h m n p =
       coupled_with (λ a b. den g j e.post (between s a b) ≡ true) _ _ (unit m) (unit n) _ _ 1 1
       (empty_run g s e.left m none_left) (empty_denominator g e.left none_left) (empty_run g s e.right n none_right) (empty_denominator g e.right none_right)
@@ -86,10 +86,10 @@ module _ (ds : holding.Declarations) (q : Sequent) (e : OnBodies) (shape : bodie
   skipped k s r t =
       let g : Setting = setting ds k in
       let ready : IsReadyForSkip g e = subst (SkipIsReady g) shape r in
-      let goal : q.conclusion ≡ equivalence_node e (out-Term q.conclusion).ty = bodies_shape q.conclusion e shape in
+      let goal : q.conclusion ≡ judgment_node (judgment_on e) (out-Term q.conclusion).ty = bodies_shape q.conclusion e shape in
       subst (λ f. Truth ds f k s) (sym goal)
-      ((without_modules ds (equivalence_node e (out-Term q.conclusion).ty) k s (equivalence_front e (out-Term q.conclusion).ty)).1
-      (λ j fair. equivalence_true g j fair e (out-Term q.conclusion).ty s (empty_sound g e.left none_left) (empty_sound g e.right none_right)
+      ((without_modules ds (judgment_node (judgment_on e) (out-Term q.conclusion).ty) k s (judgment_front (judgment_on e) (out-Term q.conclusion).ty)).1
+      (λ j fair. judgment_true g j fair (judgment_on e) (out-Term q.conclusion).ty s (empty_sound g e.left none_left) (empty_sound g e.right none_right)
       (stand g e ready none_left none_right j fair s ((without_modules ds (for_every_pair e.pre e.post) k s ready.no_modules).0 t j fair))))
 
   pub skip_holds : InEachSetting ds q (λ g. SkipIsReady g (bodies_of q.conclusion)) → Holds ds (record q { conclusion = for_every_pair e.pre e.post }) → Holds ds q

@@ -1,13 +1,13 @@
 -- What the rule `proc` asks of two procedures and of what is said of them.
 use Rattle.std.specs.Option.{option_zip}
-use Rattle.std.specs.Prelude.{◌≡◌, Bool, true, false, not, ◌&&◌, if◌then◌else◌, List, [], ◌∷◌, Option, Some, None, bytes_eq}
+use Rattle.std.specs.Prelude.{◌≡◌, Bool, true, false, ◌&&◌, if◌then◌else◌, List, [], ◌∷◌, Option, Some, None, bytes_eq}
 use Rattle.gb_core.specs.declared.ty.Ty.{Ty}
 use Rattle.gb_core.specs.declared.var.Var.TheVariants.{Local}
 use Rattle.gb_core.specs.declared.var.Var.{Var}
 use Rattle.gb_core.specs.declared.value.Value.{Value}
 use Rattle.gb_terms.specs.declared.op.Side.{Side}
 use Rattle.gb_terms.specs.declared.op.Side.TheVariants as side
-use Rattle.gb_terms.specs.declared.op.Read.TheVariants.{Logical, Program as variable}
+use Rattle.gb_terms.specs.declared.op.Read.TheVariants.{Program as variable}
 use Rattle.gb_terms.specs.declared.decl.Proc.{Proc}
 use Rattle.gb_terms.specs.declared.decl.TypedName.{TypedName}
 use Rattle.gb_terms.specs.declared.term.Term.{Term, out-Term}
@@ -23,15 +23,15 @@ use Rattle.gb_meaning.specs.Setting.Meaning.{finite}
 use Rattle.gb_meaning.specs.State.{State}
 use Rattle.gb_meaning.specs.Terms.{quiet, val}
 use Rattle.gb_meaning.specs.Commands.{statements}
-use Rattle.gb_meaning.specs.Judgments.{IsSoundForm, IsSoundSubject}
-use Rattle.gb_changes.specs.Formed.{IsFormed}
-use Rattle.gb_changes.specs.Uses.{Uses, IsWithin}
-use Rattle.gb_changes.specs.Uses.Use.{read, bound, globals, starts, binds_own, binds_sides}
+use Rattle.gb_meaning.specs.Judgments.{IsSoundSubject}
+use Rattle.gb_changes.specs.Uses.{Uses}
+use Rattle.gb_changes.specs.Uses.Use.{read, starts}
 use Rattle.gb_changes.specs.Led.{IsPut}
 use Rattle.gb_equiv.specs.Types.{ty_eq}
 use Rattle.gb_goal.specs.Scope.{Declarations as Scope}
 use Rattle.gb_equiv.specs.Judgment.{Judgment, on_side}
 use Rattle.gb_equiv.specs.Proc.{procedure_in}
+use Rattle.gb_sound.specs.Ready.{IsReady}
 use Rattle.gb_sound.specs.Programs.{IsOwn, ProgramIsOwn}
 
 -- whether a variable is the parameter of its name, at the type of this
@@ -67,12 +67,6 @@ after_calls a b = on_frames (is_result a.value) (is_result b.value)
 abbrev pub IsValued : Setting → Term → Type 0
 IsValued g t = (s : State) → (v : Value) × (val g quiet t s ≡ finite v) × (has g.types (out-Term t).ty v ≡ true)
 
--- a form with these uses, whose judgments are of sound procedures
-pub record IsReadyWithin (g : Setting) (K : Uses) (f : Term) : Type 0 where
-  pub formed : IsFormed f
-  pub sound : IsSoundForm g f
-  pub within : IsWithin K f
-
 -- A procedure whose body draws from distributions, whose terms look at its memory alone, and which returns a value of the
 -- type of what it returns.
 pub record ProcIsReady (g : Setting) (p : Proc) : Type 0 where
@@ -94,8 +88,8 @@ pub record IsReadyForProc (g : Setting) (e : Judgment) (a b : Proc) : Type 0 whe
   pub right_linked : IsLinkedTo g e.right b
   pub left : ProcIsReady g a
   pub right : ProcIsReady g b
-  pub pre : IsReadyWithin g (before_calls a b) e.pre
-  pub post : IsReadyWithin g (after_calls a b) e.post
+  pub pre : IsReady g (before_calls a b) e.pre
+  pub post : IsReady g (after_calls a b) e.post
 
 abbrev pub ProceduresAreReady : Setting → Judgment → Option (Proc × Proc) → Type 0
 ProceduresAreReady g e None = Unit {0}

@@ -1,8 +1,6 @@
 -- Programs whose terms look at their own memory alone.
-use Rattle.std.specs.Prelude.{Bool, true, false, List, [], ◌∷◌}
+use Rattle.std.specs.Prelude.{false}
 use Rattle.std.specs.List.{AllByRecursion}
-use Rattle.gb_terms.specs.declared.op.Side.TheVariants as side
-use Rattle.gb_terms.specs.declared.op.Side.{Side}
 use Rattle.gb_terms.specs.declared.op.Read.TheVariants.{Logical, Program as variable}
 use Rattle.gb_terms.specs.declared.term.Term.{Term}
 use Rattle.gb_meaning.specs.Program.{Program}

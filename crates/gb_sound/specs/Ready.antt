@@ -32,11 +32,11 @@ outermost (starts r) = not (is_of_binder r)
 outermost binds_own = true
 outermost binds_sides = true
 
--- A form under no binder, whose judgments are of sound procedures.
-pub record IsReady (g : Setting) (f : Term) : Type 0 where
+-- A form with no more than these uses, whose judgments are of sound procedures.
+pub record IsReady (g : Setting) (K : Uses) (f : Term) : Type 0 where
   pub formed : IsFormed f
   pub sound : IsSoundForm g f
-  pub closed : IsWithin outermost f
+  pub within : IsWithin K f
 
 -- in the setting of each model, and for all programs within the modules of the sequent's context
 abbrev pub InEachSetting : Declarations → Sequent → (Setting → Type 0) → Type 0
@@ -44,8 +44,8 @@ InEachSetting ds q P = InEachModel ds (λ i. EachProgram ds q.modules i (λ k. P
 
 -- what `skip` asks of an equivalence of two bodies
 pub record IsReadyForSkip (g : Setting) (e : OnBodies) : Type 0 where
-  pub implication : IsReady g (implies_form e.pre e.post)
-  pub inner : IsReady g (for_every_memory side.Right (implies_form e.pre e.post))
+  pub implication : IsReady g outermost (implies_form e.pre e.post)
+  pub inner : IsReady g outermost (for_every_memory side.Right (implies_form e.pre e.post))
   pub no_modules : has_module (for_every_pair e.pre e.post) ≡ false
 
 abbrev pub SkipIsReady : Setting → Option OnBodies → Type 0
