@@ -10,3 +10,5 @@ pub mod Quiet
 pub mod Parameters
 pub mod Results
 pub mod Called
+pub mod LastSamplings
+pub mod Sampled

@@ -1,3 +1,4 @@
 pub mod Ready
 pub mod Programs
 pub mod Entered
+pub mod Sampled
