@@ -46,6 +46,11 @@ abbrev pub is_local : Var → Bool
 is_local (Local x) = true
 is_local _ = false
 
+-- one variable, and not the globals of a module
+abbrev pub is_variable : Var → Bool
+is_variable (Glob m) = false
+is_variable _ = true
+
 -- the uses of a postcondition in which the targets of two samplings are replaced
 abbrev pub after_samplings : Sampling → Sampling → Uses
 after_samplings x y (read (Logical i) ty) = true
@@ -62,8 +67,9 @@ after_samplings x y (starts r) = not (is_of_binder r)
 after_samplings x y binds_own = false
 after_samplings x y binds_sides = true
 
--- a sampling from a distribution over values of the type of its target
+-- a sampling of one variable from a distribution over values of its type
 pub record SamplingIsReady (g : Setting) (x : Sampling) : Type 0 where
+  pub variable_target : is_variable x.target ≡ true
   pub draws : IsDistribution g x.from
   pub own : IsOwn x.from
   pub typed : (s : State) → Every (λ v. has g.types x.ty v ≡ true) (distribution g x.from s)
