@@ -12,3 +12,4 @@ pub mod Results
 pub mod Called
 pub mod LastSamplings
 pub mod Sampled
+pub mod Written
