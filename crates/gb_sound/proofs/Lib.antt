@@ -13,3 +13,4 @@ pub mod Called
 pub mod LastSamplings
 pub mod Sampled
 pub mod Written
+pub mod Drawn
