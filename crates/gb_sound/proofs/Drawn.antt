@@ -1,5 +1,5 @@
 -- What is said of a sampled value and its image is said of the memories after the samplings.
-use Rattle.std.proofs.Common.{◌≡◌, Bool, true, false, ◌&&◌, if◌then◌else◌, List, [], ◌∷◌, None, refl, ap, sym, ◌∙◌}
+use Rattle.std.proofs.Common.{◌≡◌, Bool, true, false, ◌&&◌, if◌then◌else◌, [], ◌∷◌, None, refl, ap, sym, ◌∙◌}
 use Rattle.std.proofs.lemmas.Bool.{false≢true}
 use Rattle.gb_core.specs.declared.ty.Ty.{Ty}
 use Rattle.gb_core.specs.declared.value.Value.{Value}
@@ -11,8 +11,8 @@ use Rattle.gb_terms.specs.declared.term.Term.{Term}
 use Rattle.gb_terms.specs.declared.term.Head.TheVariants as head
 use Rattle.gb_terms.specs.Equal.{var_eq}
 use Rattle.gb_walk.specs.Change.{or_later}
-use Rattle.gb_meaning.specs.Values.{Global as Cell, has}
-use Rattle.gb_meaning.specs.Memory.{Memory, read as read_in, read_globals, write}
+use Rattle.gb_meaning.specs.Values.{has}
+use Rattle.gb_meaning.specs.Memory.{Memory, read as read_in, write}
 use Rattle.gb_meaning.specs.Setting.{Meaning, Setting}
 use Rattle.gb_meaning.specs.Setting.Meaning.{finite}
 use Rattle.gb_meaning.specs.State.{State, between, under}
@@ -20,16 +20,17 @@ use Rattle.gb_meaning.specs.State.Binding.{value}
 use Rattle.gb_meaning.specs.Terms.{Speaks, val}
 use Rattle.gb_laws.proofs.Nodes.{val_node}
 use Rattle.gb_changes.specs.Uses.Use.{read, bound, globals, starts, binds_own, binds_sides}
-use Rattle.gb_changes.specs.Led.{put, Led}
+use Rattle.gb_changes.specs.Led.{put, IgnoresOwn, Led}
 use Rattle.gb_equiv.specs.Types.{ty_eq}
 use Rattle.gb_equiv.specs.Coupled.{nearest}
 use Rattle.gb_equiv.specs.Rnd.{Sampling, sampled}
 use Rattle.gb_equiv.proofs.Types.{ty_eq-Decides}
-use Rattle.gb_sound.specs.Sampled.{is_variable, is_local, after_samplings}
-use Rattle.gb_sound.proofs.Written.{written_same, written_other}
+use Rattle.gb_sound.specs.Sampled.{is_variable, after_samplings}
+use Rattle.gb_sound.proofs.Images.{nearest_ignores_own}
+use Rattle.gb_sound.proofs.Written.{written_same, written_other, globals_same}
 
 module _ (g : Setting) (j : Speaks) (x y : Sampling) (forth : Term) (s : State) (a b : Memory) (v w : Value) (left_target : is_variable x.target ≡ true) (right_target : is_variable y.target ≡ true)
-    (left_typed : has g.types x.ty v ≡ true) (right_typed : has g.types y.ty w ≡ true) where
+    (left_typed : has g.types x.ty v ≡ true) (right_typed : has g.types y.ty w ≡ true) (ignores : IgnoresOwn g j forth) where
   abbrev pub drawn : State
   drawn = under (between s a b) (value (finite v))
 
@@ -58,12 +59,7 @@ module _ (g : Setting) (j : Speaks) (x y : Sampling) (forth : Term) (s : State) 
     on_right z ty k false true e h = ap finite (sym (written_other g.types b y.target z ty w right_target k e))
     on_right z ty k false false e h = ap finite (sym (written_other g.types b y.target z ty w right_target k e))
 
-    globals_kept : (z : Var) (m : Memory) (u : Value) (xs : List Cell) → is_local z ≡ true → read_globals g.types m xs ≡ read_globals g.types (write g.types m z u) xs
-    globals_kept (Local z) m u xs k = refl
-    globals_kept (Global p z) m u xs k = absurd (false≢true k)
-    globals_kept (Glob p) m u xs k = absurd (false≢true k)
-
-    pub led_drawn : Led g j (sampled side.Left x (nearest x.ty) ∷ sampled side.Right y forth ∷ []) (after_samplings x y) drawn after
+    pub led_drawn : Led g j (sampled side.Left x (nearest x.ty) ∷ sampled side.Right y forth ∷ []) (after_samplings g x y) drawn after
     led_drawn (read (Logical i) ty) k = refl
     led_drawn (read (variable z side.Own) ty) k = unchanged (var_eq x.target z) (var_eq y.target z) _
     led_drawn (read (variable z (side.Memory i)) ty) k = unchanged (var_eq x.target z) (var_eq y.target z) _
@@ -76,8 +72,8 @@ module _ (g : Setting) (j : Speaks) (x y : Sampling) (forth : Term) (s : State) 
     led_drawn (read (variable (Glob z) side.Right) ty) k = absurd (false≢true k)
     led_drawn (bound i) k = absurd (false≢true k)
     led_drawn (globals m side.Own) k = refl
-    led_drawn (globals m side.Left) k = globals_kept x.target a v (g.types.footprint m) k
-    led_drawn (globals m side.Right) k = globals_kept y.target b w (g.types.footprint m) k
+    led_drawn (globals m side.Left) k = globals_same g.types a x.target v left_target (g.types.footprint m) k
+    led_drawn (globals m side.Right) k = globals_same g.types b y.target w right_target (g.types.footprint m) k
     led_drawn (globals m (side.Memory i)) k = refl
     led_drawn (globals m (side.Bound i)) k = absurd (false≢true k)
     led_drawn (starts side.Own) k = refl
@@ -85,5 +81,5 @@ module _ (g : Setting) (j : Speaks) (x y : Sampling) (forth : Term) (s : State) 
     led_drawn (starts side.Right) k = absurd (false≢true k)
     led_drawn (starts (side.Memory i)) k = refl
     led_drawn (starts (side.Bound i)) k = absurd (false≢true k)
-    led_drawn binds_own k = absurd (false≢true k)
+    led_drawn binds_own k = (λ e. nearest_ignores_own g j x.ty, (λ e. ignores, tt))
     led_drawn binds_sides k = (λ e. absurd (false≢true (sym e)), (λ e. absurd (false≢true (sym e)), tt))

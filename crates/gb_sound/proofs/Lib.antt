@@ -11,6 +11,10 @@ pub mod Parameters
 pub mod Results
 pub mod Called
 pub mod LastSamplings
-pub mod Sampled
+pub mod Fronts
 pub mod Written
+pub mod Images
 pub mod Drawn
+pub mod Supports
+pub mod Matched
+pub mod Sampled

@@ -62,7 +62,7 @@ pub coupled_with : (Q : Memory → Memory → Type 0) (l r x y : WeightedList Me
 coupled_with Q l r x y a b c d e f h k z =
     subst (λ l. Coupling Q l a r b) (sym e) (subst (λ a. Coupling Q x a r b) (sym f) (subst (λ r. Coupling Q x c r b) (sym h) (subst (λ b. Coupling Q x c y b) (sym k) z)))
 
-given : (a b : Bool) → (not a || b) ≡ true → a ≡ true → b ≡ true
+pub given : (a b : Bool) → (not a || b) ≡ true → a ≡ true → b ≡ true
 given true b h e = h
 given false b h e = absurd (false≢true e)
 

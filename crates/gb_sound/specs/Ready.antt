@@ -1,19 +1,22 @@
 -- What the relational rules ask of the forms in a goal.
-use Rattle.std.specs.Prelude.{◌≡◌, Bool, true, false, not, Option, Some, None}
+use Rattle.std.specs.Prelude.{◌≡◌, Bool, true, false, not, List, map, Option, Some, None}
+use Rattle.gb_core.specs.declared.value.Value.{Value}
 use Rattle.gb_terms.specs.declared.op.Side.{Side}
 use Rattle.gb_terms.specs.declared.op.Side.TheVariants as side
 use Rattle.gb_terms.specs.declared.op.Read.TheVariants.{Logical, Program}
 use Rattle.gb_terms.specs.declared.term.Term.{Term}
 use Rattle.gb_goal.specs.declared.sequent.Sequent.{Sequent}
+use Rattle.gb_meaning.specs.Memory.{Memory}
 use Rattle.gb_meaning.specs.Setting.{Setting}
+use Rattle.gb_meaning.specs.State.{State}
 use Rattle.gb_meaning.specs.Judgments.{IsSoundForm}
 use Rattle.gb_changes.specs.Formed.{IsFormed}
 use Rattle.gb_changes.specs.Uses.{Uses, IsWithin}
 use Rattle.gb_changes.specs.Uses.Use.{read, bound, globals, starts, binds_own, binds_sides}
 use Rattle.gb_holds.specs.Declared.{Declarations}
-use Rattle.gb_holds.specs.Settings.{setting}
+use Rattle.gb_holds.specs.Settings.{setting, types_of}
 use Rattle.gb_holds.specs.Truth.{has_module}
-use Rattle.gb_holds.specs.Holds.{EachProgram, InEachModel}
+use Rattle.gb_holds.specs.Holds.{EachProgram, InEachModel, AreValues, context}
 use Rattle.gb_equiv.specs.Coupled.{implies_form}
 use Rattle.gb_equiv.specs.Judgment.{OnBodies}
 use Rattle.gb_equiv.specs.Skip.{for_every_memory, for_every_pair}
@@ -41,6 +44,11 @@ pub record IsReady (g : Setting) (K : Uses) (f : Term) : Type 0 where
 -- in the setting of each model, and for all programs within the modules of the sequent's context
 abbrev pub InEachSetting : Declarations → Sequent → (Setting → Type 0) → Type 0
 InEachSetting ds q P = InEachModel ds (λ i. EachProgram ds q.modules i (λ k. P (setting ds k)))
+
+-- the same, in each state of the context
+abbrev pub InEachState : Declarations → Sequent → (Setting → State → Type 0) → Type 0
+InEachState ds q P = InEachModel ds (λ i. EachProgram ds q.modules i (λ k. (vs : List Value) →
+    AreValues (types_of ds k) (map (λ x. x.ty) q.logical) vs → (ms : List Memory) → P (setting ds k) (context vs ms)))
 
 -- what `skip` asks of an equivalence of two bodies
 pub record IsReadyForSkip (g : Setting) (e : OnBodies) : Type 0 where

@@ -2,4 +2,5 @@
 #![tactic(auto)]
 
 pub mod proc_laws;
+pub mod rnd_laws;
 pub mod skip_laws;
