@@ -144,19 +144,16 @@ module _ (ds : Declarations) (k : Interpretation) where
         assumed = λ V z l. hyps_assumed V z l q.hyps ready.hyps t;
       }
 
-    pub conclusion_true : All IsClosed (leaves_of q) → AreTrue ds q.hyps k s → Truth ds q.conclusion k s
-    conclusion_true closed t = step (has_module q.conclusion) refl
+    pub conclusion_true : ((j : Speaks) → AllByRecursion (LeafHolds g j) (leaves_of q)) → AreTrue ds q.hyps k s → Truth ds q.conclusion k s
+    conclusion_true held t = step (has_module q.conclusion) refl
       where
-        held : (i : Judge) → AllByRecursion (LeafHolds g (speaking g i)) (leaves_of q)
-        held i = each_closed_holds g (speaking g i) (leaves_of q) closed
-
         step : (b : Bool) → has_module q.conclusion ≡ b → Truth ds q.conclusion k s
         step false m =
             (without_modules ds q.conclusion k s m).1
-            (λ i fair. split_true g i fair q.conclusion (context_of q) (flat_map assumed_of q.hyps) (held i) T T s s ready.conclusion (start_context i fair t))
+            (λ i fair. split_true g i fair q.conclusion (context_of q) (flat_map assumed_of q.hyps) (held (speaking g i)) T T s s ready.conclusion (start_context i fair t))
         step true m =
             let i : Judge = trying g in
-            split_modules i (is_fair g) q.conclusion m (context_of q) (flat_map assumed_of q.hyps) (held i) T T s s ready.conclusion (start_context i (is_fair g) t)
+            split_modules i (is_fair g) q.conclusion m (context_of q) (flat_map assumed_of q.hyps) (held (speaking g i)) T T s s ready.conclusion (start_context i (is_fair g) t)
 
 -- what is known for all programs gives something else for them
 each_program : (ds : Declarations) (bs : List Bind) (i : Interpretation) (P Q : Interpretation → Type 0) → ((k : Interpretation) → P k → Q k) → EachProgram ds bs i P → EachProgram ds bs i Q
@@ -166,4 +163,4 @@ each_program ds (b ∷ bs) i P Q f x = λ a w. each_program ds bs (with_program 
 pub smt_sound : (ds : Declarations) (q : Sequent) → InEachSetting ds q (λ g. SmtIsReady g q) → All IsClosed (leaves_of q) → Holds ds q
 smt_sound ds q ready closed w size table model =
     each_program ds (declared_modules ds) (interpretation w size table) _ _
-    (λ i x. each_program ds q.modules i _ _ (λ k r vs typed ms t. conclusion_true ds k q r vs typed ms closed t) x) (ready w size table model)
+    (λ i x. each_program ds q.modules i _ _ (λ k r vs typed ms t. conclusion_true ds k q r vs typed ms (λ j. each_closed_holds (setting ds k) j (leaves_of q) closed) t) x) (ready w size table model)
