@@ -5,7 +5,7 @@ use Rattle.gb_core.specs.declared.ty.Ty.TheVariants.{Bool as truths}
 use Rattle.gb_core.specs.declared.value.Value.{Value, out-Value}
 use Rattle.gb_core.specs.declared.value.Value.TheVariants.{Num, Many}
 use Rattle.gb_terms.specs.declared.term.Head.TheVariants.{Body}
-use Rattle.gb_coupling.specs.WeightedList.{WeightedList, mass, weight, bit, indicator, On}
+use Rattle.gb_coupling.specs.WeightedList.{mass, weight, bit, indicator, On}
 use Rattle.gb_coupling.specs.Coupling.{Coupling}
 use Rattle.gb_coupling.proofs.Entries.{On-weaken}
 use Rattle.gb_coupling.proofs.Gluing.{factor_pos}

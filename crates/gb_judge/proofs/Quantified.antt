@@ -9,11 +9,10 @@ use Rattle.gb_terms.specs.declared.op.Side.TheVariants.{Bound}
 use Rattle.gb_terms.specs.declared.term.Head.TheVariants as head
 use Rattle.gb_terms.specs.Make.{applied}
 use Rattle.gb_coupling.specs.WeightedList.{bit}
-use Rattle.gb_meaning.specs.Memory.{Memory}
-use Rattle.gb_meaning.specs.Setting.{Setting, Meaning}
+use Rattle.gb_meaning.specs.Setting.{Setting}
 use Rattle.gb_meaning.specs.Setting.Meaning.{finite}
 use Rattle.gb_meaning.specs.Meanings.{of_truth, truth, same}
-use Rattle.gb_meaning.specs.Operators.{Argument, chosen}
+use Rattle.gb_meaning.specs.Operators.{chosen}
 use Rattle.gb_meaning.specs.State.{State, under, no_memory}
 use Rattle.gb_meaning.specs.State.Binding.{memory}
 use Rattle.gb_meaning.specs.Terms.{val}

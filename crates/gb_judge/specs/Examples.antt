@@ -1,5 +1,5 @@
 -- Small forms with judgments and quantifiers over memories.
-use Rattle.std.specs.Prelude.{◌≡◌, ℕ, ◌*◌, ◌<◌, Bool, true, false, [], ◌∷◌}
+use Rattle.std.specs.Prelude.{◌≡◌, ℕ, ◌*◌, ◌<◌, Bool, true, [], ◌∷◌}
 use Rattle.gb_core.specs.declared.ty.Ty.TheVariants.{Bool as truths}
 use Rattle.gb_core.specs.declared.value.Value.TheVariants.{Num, Many}
 use Rattle.gb_core.specs.declared.var.Var.TheVariants.{Local}

@@ -1,5 +1,5 @@
 -- What memories hold for variables at types, and memories that agree on some of it.
-use Rattle.std.proofs.Common.{◌≡◌, ◌≢◌, List, [], ◌∷◌, ◌++◌, map, inl, inr, Some, refl, ap, sym, ◌∙◌}
+use Rattle.std.proofs.Common.{◌≡◌, ◌≢◌, List, [], ◌∷◌, ◌++◌, map, inl, inr, Some, refl, ap}
 use Rattle.gb_core.specs.declared.ty.Ty.{Ty}
 use Rattle.gb_core.specs.declared.var.Var.{Var}
 use Rattle.gb_core.specs.declared.var.Var.TheVariants as var
@@ -7,7 +7,7 @@ use Rattle.gb_core.specs.declared.value.Value.{Value}
 use Rattle.gb_core.specs.declared.value.Value.TheVariants.{Many}
 use Rattle.gb_types.specs.Numbering.{parts_of}
 use Rattle.gb_terms.specs.declared.module.Mexp.TheVariants.{Name as named}
-use Rattle.gb_meaning.specs.Values.{Global, Types, fit}
+use Rattle.gb_meaning.specs.Values.{Global, Types}
 use Rattle.gb_meaning.specs.Memory.{Memory, read, read_global, read_globals, write, write_globals, write_each, assigned}
 pub use Rattle.gb_local.specs.Cells.{Key, Key-discrete, Cell, get_at, set_at, look, Cells, In, Covers, Agree, GlobalsAgree, Among, global_cell, cells_of}
 use Rattle.gb_local.specs.Cells.Key.{global, local}

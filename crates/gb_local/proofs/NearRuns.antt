@@ -5,7 +5,7 @@ use Rattle.gb_core.specs.declared.ty.Ty.{Ty}
 use Rattle.gb_core.specs.declared.value.Value.{Value}
 use Rattle.gb_terms.specs.declared.decl.TypedName.{TypedName}
 use Rattle.gb_terms.specs.declared.term.Term.{Term}
-use Rattle.gb_meaning.specs.Names.{Path, Map, get}
+use Rattle.gb_meaning.specs.Names.{Map, get}
 use Rattle.gb_meaning.specs.Values.{Types, fit}
 use Rattle.gb_meaning.specs.Memory.{Memory, read_local, write, assigned, outcome}
 use Rattle.gb_meaning.specs.Program.{Program, Routine}
