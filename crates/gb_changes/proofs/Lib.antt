@@ -13,3 +13,7 @@ pub mod Agreeing
 pub mod Shapes
 pub mod Using
 pub mod Writing
+pub mod Quiet
+pub mod Bodies
+pub mod Inside
+pub mod BodyRuns

@@ -9,9 +9,12 @@ use Rattle.gb_terms.specs.declared.module.Mexp.{Mexp}
 use Rattle.gb_terms.specs.declared.term.Term.{Term, Term', Row_of-Term, end_of-Term, more_of-Term, end_of-Head, more_of-Head}
 use Rattle.gb_terms.specs.declared.term.Head.{Head}
 use Rattle.gb_terms.specs.declared.term.Head.TheVariants as head
-use Rattle.gb_terms.specs.declared.term.Head.TheVariants.{Proc, Body'}
+use Rattle.gb_terms.specs.declared.term.Head.TheVariants.{Assign, Sample, Call', If', While', Proc, Body'}
 use Rattle.gb_terms.specs.declared.term.Subject.{Subject}
+use Rattle.gb_terms.specs.declared.term.Instr.{Row_of-Instr, end_of-Instr, more_of-Instr}
 use Rattle.gb_walk.specs.Change.{is_own, is_left_or_right}
+use Rattle.gb_changes.specs.Formed.{IsFormed, AllFormed}
+use Rattle.gb_changes.specs.Plain.{IsPlain, AllPlain}
 
 -- a read at a type; a bound variable; the globals of a module in a memory; a memory in which a probability starts; that a
 -- probability or a judgment on one program binds its memory; that a judgment on two programs binds both memories
@@ -106,24 +109,25 @@ of_last K (head.Phoare c r) = besides_own K
 of_last K (head.Equiv c d) = under_sides K
 of_last K h = K
 
--- a procedure uses nothing of the state
-abbrev pub SubjectIsWithin : Uses → Subject → Type 0
-SubjectIsWithin K (Proc p) = Unit {0}
-SubjectIsWithin K (Body' n is) = ⊥
+-- the uses of a term of a body: of memories the one alone in which the body runs, and variables that are logical or bound
+abbrev pub in_body : Uses → Uses
+in_body K (read (Logical i) ty) = K (read (Logical i) ty)
+in_body K (read (Program x r) ty) = is_own r
+in_body K (bound i) = K (bound i)
+in_body K (globals m r) = is_own r
+in_body K u = false
 
--- what a head uses itself
-abbrev pub HeadIsWithin : Uses → Head → Ty → Type 0
-HeadIsWithin K (head.Read r) ty = K (read r ty) ≡ true
-HeadIsWithin K (head.Bound i) ty = K (bound i) ≡ true
-HeadIsWithin K (head.Glob m r) ty = K (globals m r) ≡ true
-HeadIsWithin K (head.Pr p r) ty = (K (starts r) ≡ true) × (K binds_own ≡ true)
-HeadIsWithin K (head.Hoare c) ty = (K binds_own ≡ true) × SubjectIsWithin K c
-HeadIsWithin K (head.Phoare c r) ty = (K binds_own ≡ true) × SubjectIsWithin K c
-HeadIsWithin K (head.Equiv c d) ty = (K binds_sides ≡ true) × SubjectIsWithin K c × SubjectIsWithin K d
-HeadIsWithin K h ty = Unit {0}
+abbrev pub HeadIsKept : Head → Type 0
+HeadIsKept (head.Read (Logical i)) = ⊥
+HeadIsKept (head.Bound i) = ⊥
+HeadIsKept h = Unit {0}
 
--- a term that uses no more than this
+-- the term is no logical or bound variable itself, so no term takes the place of the whole of it
+abbrev pub IsKept : Term → Type 0
+IsKept (Term' p (more_of-Head h end_of-Head) n ts ty) = HeadIsKept h
+
 abbrev mutual
+  -- a term that uses no more than this
   pub IsWithin : Uses → Term → Type 0
   IsWithin K (Term' p (more_of-Head h end_of-Head) n ts ty) = HeadIsWithin K h ty × AreWithin (of_arguments K h) (of_last K h) ts
 
@@ -132,3 +136,34 @@ abbrev mutual
   AreWithin K L end_of-Term = Unit {0}
   AreWithin K L (more_of-Term t end_of-Term) = IsWithin L t
   AreWithin K L (more_of-Term t (more_of-Term u ts)) = IsWithin K t × AreWithin K L (more_of-Term u ts)
+
+  -- what a head uses itself
+  pub HeadIsWithin : Uses → Head → Ty → Type 0
+  HeadIsWithin K (head.Read r) ty = K (read r ty) ≡ true
+  HeadIsWithin K (head.Bound i) ty = K (bound i) ≡ true
+  HeadIsWithin K (head.Glob m r) ty = K (globals m r) ≡ true
+  HeadIsWithin K (head.Pr p r) ty = (K (starts r) ≡ true) × (K binds_own ≡ true)
+  HeadIsWithin K (head.Hoare c) ty = (K binds_own ≡ true) × SubjectIsWithin K c
+  HeadIsWithin K (head.Phoare c r) ty = (K binds_own ≡ true) × SubjectIsWithin K c
+  HeadIsWithin K (head.Equiv c d) ty = (K binds_sides ≡ true) × SubjectIsWithin K c × SubjectIsWithin K d
+  HeadIsWithin K h ty = Unit {0}
+
+  -- a procedure uses nothing of the state; a body binds the memory in which it runs, as the own one and as both sides
+  pub SubjectIsWithin : Uses → Subject → Type 0
+  SubjectIsWithin K (Proc p) = Unit {0}
+  SubjectIsWithin K (Body' n is) = (K binds_own ≡ true) × (K binds_sides ≡ true) × BodyIsWithin (in_body K) is
+
+  -- a body whose terms are formed and plain, and use no more than this
+  pub BodyIsWithin : {n : _} → Uses → Row_of-Instr n → Type 0
+  BodyIsWithin K end_of-Instr = Unit {0}
+  BodyIsWithin K (more_of-Instr (Assign xs e) is) = (IsFormed e × IsPlain e × IsWithin K e) × BodyIsWithin K is
+  BodyIsWithin K (more_of-Instr (Sample x d) is) = (IsFormed d × IsPlain d × IsWithin K d) × BodyIsWithin K is
+  BodyIsWithin K (more_of-Instr (Call' xs p n es) is) = (AllFormed es × AllPlain es × AreWithin K K es) × BodyIsWithin K is
+  BodyIsWithin K (more_of-Instr (If' e m a n b) is) =
+      (IsFormed e × IsPlain e × IsWithin K e) × BodyIsWithin K a × BodyIsWithin K b × BodyIsWithin K is
+  BodyIsWithin K (more_of-Instr (While' e v n a) is) =
+      (IsFormed e × IsPlain e × IsWithin K e) × (IsFormed v × IsPlain v × IsWithin K v) × IsKept v × BodyIsWithin K a × BodyIsWithin K is
+
+-- a term of a body
+abbrev pub IsOfBody : Uses → Term → Type 0
+IsOfBody K e = IsFormed e × IsPlain e × IsWithin K e

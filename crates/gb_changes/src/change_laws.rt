@@ -21,7 +21,7 @@ pub fn changed_terms()
 {}
 
 /// Under a fair judge a form, with changes made, means in a state what the form means in the state to which the changes lead:
-/// also where it has probabilities, quantifiers over memories, and judgments of procedures.
+/// also where it has probabilities, quantifiers over memories, and judgments of procedures and of bodies.
 pub fn changed_forms()
     ensures { (g : Setting) (j : Judge) → IsFair g j → (f : Term) → IsFormed f → IsSoundForm g f → (cs : Changes) (K : Uses)
         (s q : State) → ArePut g cs → Led g (speaking g j) cs K s q → IsWithin K f →

@@ -9,7 +9,8 @@ ghost use Rattle.gb_changes.specs.Uses.{Uses, IsWithin};
 ghost use Rattle.gb_changes.specs.Led.{ArePut};
 ghost use Rattle.gb_changes.specs.Fit.{Fits, BindsNone};
 
-/// A tree whose nodes have their arguments keeps them where changes are made, and judgments of sound procedures stay sound.
+/// A tree whose nodes have their arguments keeps them where changes are made, and judgments of sound procedures and bodies stay
+/// sound.
 pub fn shapes()
     ensures formed { (g : Setting) (t : Term) (cs : Changes) (K : Uses) → ArePut g cs → IsFormed t → IsWithin K t → IsFormed (term_changed t cs) }
     ensures sound { (g : Setting) (t : Term) (cs : Changes) (K : Uses) → ArePut g cs → IsSoundForm g t → IsWithin K t →

@@ -6,7 +6,6 @@ pub mod Equivalences
 pub mod Subgoals
 pub mod Skipped
 pub mod Contexts
-pub mod Quiet
 pub mod Parameters
 pub mod Results
 pub mod Called

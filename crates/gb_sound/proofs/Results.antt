@@ -32,7 +32,7 @@ use Rattle.gb_equiv.proofs.Types.{ty_eq-Decides}
 use Rattle.gb_sound.specs.Programs.{own_memory, IsOwn}
 use Rattle.gb_sound.specs.Entered.{before_calls, after_calls, ProcIsReady}
 use Rattle.gb_sound.proofs.Contexts.{own_same}
-use Rattle.gb_sound.proofs.Quiet.{plain_quiet}
+use Rattle.gb_changes.proofs.Quiet.{plain_quiet}
 use Rattle.gb_sound.proofs.Parameters.{parameter_read}
 
 -- the memory in which the body of a procedure starts

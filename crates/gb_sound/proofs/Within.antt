@@ -7,11 +7,12 @@ use Rattle.gb_terms.specs.declared.op.Side.TheVariants as side
 use Rattle.gb_terms.specs.declared.op.Read.TheVariants.{Logical, Program}
 use Rattle.gb_terms.specs.declared.term.Term.{Term, Term', Row_of-Term, end_of-Term, more_of-Term, end_of-Head, more_of-Head}
 use Rattle.gb_terms.specs.declared.term.Subject.{Subject}
+use Rattle.gb_terms.specs.declared.term.Instr.{Row_of-Instr, end_of-Instr, more_of-Instr}
 use Rattle.gb_terms.specs.declared.term.Head.{Head}
 use Rattle.gb_terms.specs.declared.term.Head.TheVariants as head
-use Rattle.gb_terms.specs.declared.term.Head.TheVariants.{Proc, Body'}
+use Rattle.gb_terms.specs.declared.term.Head.TheVariants.{Assign, Sample, Call', If', While', Proc, Body'}
 use Rattle.gb_walk.specs.Change.{is_own, is_left_or_right}
-use Rattle.gb_changes.specs.Uses.{Use, Uses, beneath, entering, no_side, SubjectIsWithin, HeadIsWithin, IsWithin, AreWithin, of_arguments, of_last}
+use Rattle.gb_changes.specs.Uses.{Use, Uses, beneath, entering, no_side, in_body, SubjectIsWithin, BodyIsWithin, HeadIsWithin, IsWithin, AreWithin, of_arguments, of_last}
 use Rattle.gb_changes.specs.Uses.Use.{read, bound, globals, starts, binds_own, binds_sides}
 use mathlib.Core.Former.{Count}
 
@@ -95,10 +96,6 @@ module _ (p : Side → Bool) (free : (i : ℕ) → p (side.Bound i) ≡ false) w
   last_besides K L b (head.Equiv c d) = entering_besides is_left_or_right no_side K L b
   last_besides K L b _ = b
 
-subject_wider : (K L : Uses) (c : Subject) → SubjectIsWithin K c → SubjectIsWithin L c
-subject_wider K L (Proc q) w = tt
-subject_wider K L (Body' n is) w = absurd w
-
 -- such a memory is not the one that a head reads through
 abbrev pub HeadIsBesides : (Side → Bool) → Head → Type 0
 HeadIsBesides p (head.Read (Program x r)) = p r ≡ false
@@ -106,25 +103,49 @@ HeadIsBesides p (head.Glob m r) = p r ≡ false
 HeadIsBesides p (head.Pr q r) = p r ≡ false
 HeadIsBesides p _ = Unit {0}
 
-pub head_besides : (p : Side → Bool) (K L : Uses) → Besides p K L → (h : Head) (ty : Ty) → HeadIsBesides p h → HeadIsWithin K h ty → HeadIsWithin L h ty
-head_besides p K L b (head.Read (Logical i)) ty z w = b (read (Logical i) ty) w refl
-head_besides p K L b (head.Read (Program x r)) ty z w = b (read (Program x r) ty) w z
-head_besides p K L b (head.Bound i) ty z w = b (bound i) w refl
-head_besides p K L b (head.Glob m r) ty z w = b (globals m r) w z
-head_besides p K L b (head.Pr q r) ty z w = (b (starts r) w.0 z, b binds_own w.1 refl)
-head_besides p K L b (head.Hoare c) ty z w = (b binds_own w.0 refl, subject_wider K L c w.1)
-head_besides p K L b (head.Phoare c r) ty z w = (b binds_own w.0 refl, subject_wider K L c w.1)
-head_besides p K L b (head.Equiv c d) ty z w = (b binds_sides w.0 refl, subject_wider K L c w.1, subject_wider K L d w.2)
-head_besides p K L b _ ty z w = tt
-
 none_besides : (h : Head) → HeadIsBesides no_side h
 none_besides (head.Read (Program x r)) = refl
 none_besides (head.Glob m r) = refl
 none_besides (head.Pr q r) = refl
 none_besides _ = tt
 
+-- what a body's term may use
+body_besides : (p : Side → Bool) (K L : Uses) → Besides p K L → Besides no_side (in_body K) (in_body L)
+body_besides p K L b (read (Logical i) ty) w z = b (read (Logical i) ty) w refl
+body_besides p K L b (read (Program x r) ty) w z = w
+body_besides p K L b (bound i) w z = b (bound i) w refl
+body_besides p K L b (globals m r) w z = w
+body_besides p K L b (starts r) w z = absurd (false≢true w)
+body_besides p K L b binds_own w z = absurd (false≢true w)
+body_besides p K L b binds_sides w z = absurd (false≢true w)
+
 -- a form that is within some uses is within more
 mutual
+  pub head_besides : (p : Side → Bool) (K L : Uses) → Besides p K L → (h : Head) (ty : Ty) → HeadIsBesides p h → HeadIsWithin K h ty → HeadIsWithin L h ty
+  head_besides p K L b (head.Read (Logical i)) ty z w = b (read (Logical i) ty) w refl
+  head_besides p K L b (head.Read (Program x r)) ty z w = b (read (Program x r) ty) w z
+  head_besides p K L b (head.Bound i) ty z w = b (bound i) w refl
+  head_besides p K L b (head.Glob m r) ty z w = b (globals m r) w z
+  head_besides p K L b (head.Pr q r) ty z w = (b (starts r) w.0 z, b binds_own w.1 refl)
+  head_besides p K L b (head.Hoare c) ty z w = (b binds_own w.0 refl, subject_wider p K L b c w.1)
+  head_besides p K L b (head.Phoare c r) ty z w = (b binds_own w.0 refl, subject_wider p K L b c w.1)
+  head_besides p K L b (head.Equiv c d) ty z w = (b binds_sides w.0 refl, subject_wider p K L b c w.1, subject_wider p K L b d w.2)
+  head_besides p K L b _ ty z w = tt
+
+  subject_wider : (p : Side → Bool) (K L : Uses) → Besides p K L → (c : Subject) → SubjectIsWithin K c → SubjectIsWithin L c
+  subject_wider p K L b (Proc q) w = tt
+  subject_wider p K L b (Body' n is) w = (b binds_own w.0 refl, b binds_sides w.1 refl, body_wider (in_body K) (in_body L) (body_besides p K L b) is w.2)
+
+  body_wider : {n : Count} (K L : Uses) → Besides no_side K L → (is : Row_of-Instr n) → BodyIsWithin K is → BodyIsWithin L is
+  body_wider K L b end_of-Instr w = tt
+  body_wider K L b (more_of-Instr (Assign xs e) is) w = ((w.0.0, w.0.1, wider K L b e w.0.2), body_wider K L b is w.1)
+  body_wider K L b (more_of-Instr (Sample x d) is) w = ((w.0.0, w.0.1, wider K L b d w.0.2), body_wider K L b is w.1)
+  body_wider K L b (more_of-Instr (Call' xs p n es) is) w = ((w.0.0, w.0.1, all_wider K L K L b b es w.0.2), body_wider K L b is w.1)
+  body_wider K L b (more_of-Instr (If' e m a n c) is) w =
+      ((w.0.0, w.0.1, wider K L b e w.0.2), body_wider K L b a w.1, body_wider K L b c w.2, body_wider K L b is w.3)
+  body_wider K L b (more_of-Instr (While' e v n a) is) w =
+      ((w.0.0, w.0.1, wider K L b e w.0.2), (w.1.0, w.1.1, wider K L b v w.1.2), w.2, body_wider K L b a w.3, body_wider K L b is w.4)
+
   pub wider : (K L : Uses) → Besides no_side K L → (t : Term) → IsWithin K t → IsWithin L t
   wider K L b (Term' tt (more_of-Head h end_of-Head) n ts ty) w = (
     head_besides no_side K L b h ty (none_besides h) w.0,

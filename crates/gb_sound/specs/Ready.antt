@@ -35,7 +35,7 @@ outermost (starts r) = not (is_of_binder r)
 outermost binds_own = true
 outermost binds_sides = true
 
--- A form with no more than these uses, whose judgments are of sound procedures.
+-- A form with no more than these uses, whose judgments are of sound subjects.
 pub record IsReady (g : Setting) (K : Uses) (f : Term) : Type 0 where
   pub formed : IsFormed f
   pub sound : IsSoundForm g f
