@@ -38,7 +38,7 @@ use Rattle.gb_sound.proofs.Contexts.{own_same}
 use Rattle.gb_sound.proofs.Drawn.{led_drawn}
 use Rattle.gb_sound.proofs.Images.{nearest_put, map_ignores_own, composed_value}
 use Rattle.gb_sound.proofs.LastSamplings.{sampled_from}
-use Rattle.gb_sound.proofs.Quiet.{plain_quiet}
+use Rattle.gb_changes.proofs.Quiet.{plain_quiet}
 use Rattle.gb_sound.proofs.Results.{side_value}
 use Rattle.gb_sound.proofs.Supports.{weight_of_is, supported, supporting, same_weights, for_support_use}
 
