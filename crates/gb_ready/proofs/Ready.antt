@@ -15,7 +15,6 @@ use Rattle.gb_equiv.specs.Coupled.{implies_form}
 use Rattle.gb_equiv.specs.Judgment.{OnBodies, bodies_of}
 use Rattle.gb_equiv.specs.Skip.{for_every_memory, for_every_pair}
 use Rattle.gb_sound.specs.Ready.{outermost, IsReady, InEachSetting, IsReadyForSkip, SkipIsReady}
-use Rattle.gb_sound.specs.Entered.{IsReadyWithin}
 use Rattle.gb_ready.specs.Scoped.{Frames, of_programs, IsThere}
 use Rattle.gb_ready.specs.Goals.{IsForm, AreTypedBodies, IsTypedConclusion, context_of, IsTypedSequent, IsTypedScope}
 use Rattle.gb_ready.proofs.Formed.{formed}
@@ -29,14 +28,14 @@ use Rattle.gb_ready.proofs.Fronts.{front}
 
 module _ (ds : scope.Declarations) (g : Setting) (sound : (r : ProcRef) → IsThere (scope.procedure_of ds r) → IsSoundIfThere g (g.procedure r)) where
   -- a typed form under no binder
-  form_ready : (q : Sequent) (F : Frames) (f : Term) → Made ds (context_of q) F ty.Bool f → IsReady g f
+  form_ready : (q : Sequent) (F : Frames) (f : Term) → Made ds (context_of q) F ty.Bool f → IsReady g outermost f
   form_ready q F f m = record {
     formed = formed ds (context_of q) F f m.typed m.scoped;
     sound = sound_form ds g sound F f m.scoped;
-    closed = within ds outermost (context_of q) F (outermost_admits ds (context_of q) F) f m.typed m.scoped;
+    within = within ds outermost (context_of q) F (outermost_admits ds (context_of q) F) f m.typed m.scoped;
   }
 
-  pub form_within : (q : Sequent) (K : Uses) (F : Frames) → Admits ds K (context_of q) F → (f : Term) → IsForm ds (context_of q) F f → IsReadyWithin g K f
+  pub form_within : (q : Sequent) (K : Uses) (F : Frames) → Admits ds K (context_of q) F → (f : Term) → IsForm ds (context_of q) F f → IsReady g K f
   form_within q K F a f m = record {
     formed = formed ds (context_of q) F f m.typed m.scoped;
     sound = sound_form ds g sound F f m.scoped;
