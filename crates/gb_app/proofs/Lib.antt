@@ -1,5 +1,3 @@
 pub mod Written
 pub mod Digits
-pub mod Cuts
-pub mod Passed
 pub mod Answered

@@ -1,15 +1,11 @@
 //! The program `gb`: it checks scripts of game-based proofs.
 #![tactic(auto)]
 
-mod fold;
-mod limits;
 mod report;
 mod run;
-mod state;
 mod status;
 #[cfg(test)]
 mod tests;
-mod verdict;
 mod words;
 
 use crate::run::run;

@@ -8,11 +8,11 @@ ghost use Rattle.gb_outside.specs.Appended.{AppendsFront};
 ghost use Rattle.gb_outside.specs.Counts.{HasRisen};
 ghost use Rattle.gb_app.specs.Report.{lemma_line, accepted_line, accepted_lines, refused_line, lines_of};
 
-use crate::verdict::Verdict;
 use gb_core::name::{Name, Names};
 use gb_core::place::Place;
 use gb_core::refusal::{Why, code};
 use gb_outside::{Failed, Sink, write_all};
+use gb_theory::verdict::Verdict;
 use std::alloc::{AllocError, Global};
 
 /// A report: its lines in order, each with its line feed.

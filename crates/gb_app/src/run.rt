@@ -5,17 +5,17 @@ ghost use Rattle.std.specs.Io.KnownBytes.{Appends};
 ghost use Rattle.gb_outside.specs.Appended.{AppendsFront};
 ghost use Rattle.gb_outside.specs.Counts.{HasRisen};
 ghost use Rattle.gb_outside.specs.HeldBytes.{bytes_of};
-ghost use Rattle.gb_app.specs.declared.verdict.Verdict.{Verdict};
+ghost use Rattle.gb_theory.specs.declared.verdict.Verdict.{Verdict};
 ghost use Rattle.gb_app.specs.Words.{file_of};
 ghost use Rattle.gb_app.specs.Status.{status_of};
 ghost use Rattle.gb_app.specs.Report.{report_of};
 ghost use Rattle.gb_app.specs.Reply.{usage_line, IsReply};
 
 use crate::report::{report, write};
-use crate::status::Status;
-use crate::verdict::{Verdict, too_long, verdict_on};
+use crate::status::{Status, status_of};
 use crate::words::file_to_check;
 use gb_outside::{Files, ReadRefused, Sink, Source, read_whole, write_all};
+use gb_theory::verdict::{Verdict, too_long, verdict_on};
 use std::alloc::Global;
 
 const USAGE: &[u8] = b"usage: gb check FILE | gb step | gb selftest N\n";
@@ -122,7 +122,7 @@ fn answer<K: Sink>(alloc: Global, file: &str, verdict: &Verdict, out: &mut K) ->
         return Status::NoMemory;
     };
     match write(out, report.as_slice()) {
-        Ok(()) => verdict.status(),
+        Ok(()) => status_of(verdict),
         Err(_) => Status::WriteFault,
     }
 }

@@ -1,8 +1,8 @@
 -- A command takes a byte at least, so the text is used up.
 use Rattle.std.proofs.Common.{◌∙◌, sym, ◌-◌, take, drop, arith}
 use Rattle.std.proofs.lemmas.List.{length-take}
-use Rattle.gb_app.proofs.Cuts.{cut_of-within, place_after-within}
-use Rattle.gb_app.proofs.verdict.check.Goals as goal
+use Rattle.gb_theory.proofs.Cuts.{cut_of-within, place_after-within}
+use Rattle.gb_theory.proofs.verdict.check.Goals as goal
 
 pub slice_bounds-piece-count : goal.slice_bounds-piece-count
 slice_bounds-piece-count c =

@@ -1,7 +1,7 @@
 // One command of a script.
 
 ghost use Rattle.std.specs.Prelude.{◌≡◌};
-ghost use Rattle.gb_app.specs.Placed.{placed};
+ghost use Rattle.gb_theory.specs.Placed.{placed};
 
 use crate::limits::{check_all, check_declarations, check_each};
 use crate::state::{OpenProof, State};

@@ -1,5 +1,5 @@
 use Rattle.std.proofs.Common.{◌+◌, ◌-◌, ◌≤◌, length}
-use Rattle.gb_app.proofs.verdict.check.Given as goal
+use Rattle.gb_theory.proofs.verdict.check.Given as goal
 
 -- the place lies no further on than the bytes so far
 abbrev pub invariant-loop-to : goal.invariant-loop-to

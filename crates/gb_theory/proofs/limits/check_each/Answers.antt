@@ -2,9 +2,9 @@
 use Rattle.std.proofs.Common.{◌∙◌, sym, ap, arith}
 use Rattle.std.specs.Prelude.{Err}
 use Rattle.std.proofs.lemmas.Result.{err_from_is_err_and}
-use Rattle.gb_app.specs.Limits.{limited}
-use Rattle.gb_app.proofs.Passed.{each_limit-at, limited-first}
-use Rattle.gb_app.proofs.limits.check_each.Goals as goal
+use Rattle.gb_theory.specs.Limits.{limited}
+use Rattle.gb_theory.proofs.Passed.{each_limit-at, limited-first}
+use Rattle.gb_theory.proofs.limits.check_each.Goals as goal
 
 pub returns-in_err-check_goal : goal.returns-in_err-check_goal
 returns-in_err-check_goal c =

@@ -1,7 +1,7 @@
 // What a script has built so far.
 
 ghost use Rattle.std.specs.Prelude.{◌≡◌, true};
-ghost use Rattle.gb_app.specs.Opened.{is_undeclared};
+ghost use Rattle.gb_theory.specs.Opened.{is_undeclared};
 
 use gb_core::name::{Name, Names};
 use gb_goal::scope::Scope;

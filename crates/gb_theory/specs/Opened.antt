@@ -1,7 +1,7 @@
 -- An open proof among the declarations.
 use Rattle.std.specs.Prelude.{Bool, true, Option, Some, None, is_none}
 use Rattle.gb_goal.specs.Scope.{Declarations, entry_of}
-use Rattle.gb_app.specs.declared.state.OpenProof.{OpenProof}
+use Rattle.gb_theory.specs.declared.state.OpenProof.{OpenProof}
 
 -- nothing is declared under the name of the open lemma
 abbrev pub is_undeclared : Declarations → Option OpenProof → Bool

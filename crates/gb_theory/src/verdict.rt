@@ -2,12 +2,9 @@
 
 ghost use Rattle.std.specs.Prelude.{◌≡◌, ◌+◌, ◌<◌, ◌≤◌, ◌^◌, length};
 ghost use Rattle.gb_lex.specs.PlaceAfter.{place_after};
-ghost use Rattle.gb_outside.specs.declared.whole.TheConstants.{LENGTH_LIMIT};
-ghost use Rattle.gb_app.specs.Status.{status_of};
 
 use crate::fold::execute;
 use crate::state::State;
-use crate::status::Status;
 use gb_core::name::Names;
 use gb_core::place::Place;
 use gb_core::refusal::{Refused, Why};
@@ -24,18 +21,6 @@ pub enum Verdict {
     Accepted(Names),
     /// The first refusal, with its place in the file.
     Refused { why: Why, place: Place },
-}
-
-impl Verdict {
-    /// The status of a run that reports this verdict.
-    pub fn status(&self) -> Status
-        ensures { result ≡ status_of self.now }
-    {
-        match self {
-            Verdict::Accepted(_) => Status::Accepted,
-            Verdict::Refused { .. } => Status::Refused,
-        }
-    }
 }
 
 /// The first byte of the file.
@@ -57,7 +42,7 @@ pub fn too_long() -> Verdict
 
 /// Checks a script. Its only error is want of memory.
 pub fn verdict_on(alloc: Global, text: &[u8]) -> Result<Verdict, AllocError>
-    requires { length text.now < LENGTH_LIMIT }
+    requires { length text.now < 2 ^ 31 }
 {
     match check(alloc, text) {
         Ok(lemmas) => Ok(Verdict::Accepted(lemmas)),
@@ -69,7 +54,7 @@ pub fn verdict_on(alloc: Global, text: &[u8]) -> Result<Verdict, AllocError>
 /// Runs the commands of a script in their order. The names of its lemmas, in the order in which they were proved; or
 /// the first refusal, `Unclosed` at the end of the text where something is left open there.
 fn check(alloc: Global, text: &[u8]) -> Result<Names, Refused>
-    requires { length text.now < LENGTH_LIMIT }
+    requires { length text.now < 2 ^ 31 }
 {
     let mut state = State::new(alloc);
     let mut at = START;
