@@ -16,6 +16,7 @@ use Rattle.gb_goal.specs.declared.sequent.Sequent.{Sequent}
 use Rattle.gb_meaning.specs.Names.{Name}
 use Rattle.gb_meaning.specs.Values.{World}
 use Rattle.gb_meaning.specs.Setting.{Meaning, Setting}
+use Rattle.gb_holds.specs.Settings.{Table}
 use Rattle.gb_holds.specs.Declared.{declared}
 use Rattle.gb_holds.specs.Holds.{IsModel, interpretation}
 use Rattle.gb_typed.specs.Typing.{Context}
@@ -24,7 +25,7 @@ use Rattle.gb_equiv.specs.Judgment.{Layer, Judgment, of_subjects, equivalence_of
 use Rattle.gb_equiv.specs.Proc.{named_by, procedure_in}
 use Rattle.gb_sound.specs.Ready.{InEachSetting}
 use Rattle.gb_sound.specs.Entered.{IsLinkedTo, IsReadyForProc, ProceduresAreReady, ProcRowIsReady}
-use Rattle.gb_sound.proofs.Called.{judgment_node, judgment_shape}
+use Rattle.gb_sound.proofs.Shapes.{judgment_node, judgment_shape}
 use Rattle.gb_sound.proofs.Shapes.{none_some}
 use Rattle.gb_ready.specs.Scoped.{ambient, of_programs, with_sides, parameters_of, result_of, declared_subject, IsScoped}
 use Rattle.gb_ready.specs.Programs.{IsTypedProcedure}
@@ -87,7 +88,7 @@ conditions ds c e a b ty left right f =
       };
     }
 
-module _ (ds : scope.Declarations) (scoped : IsTypedScope ds) (w : World) (size : Name → ℕ) (table : Name → List Value → Meaning)
+module _ (ds : scope.Declarations) (scoped : IsTypedScope ds) (w : World) (size : Name → ℕ) (table : Table)
     (model : IsModel (declared ds) (interpretation w size table)) where
   abbrev s : Setting
   s = g ds scoped w size table model

@@ -24,7 +24,7 @@ use Rattle.gb_equiv.specs.Coupled.{implies_form}
 use Rattle.gb_equiv.specs.Judgment.{Layer, Judgment, OnBodies, of_parts, of_subjects, equivalence_of, bodies_of, on_bodies, concluding}
 use Rattle.gb_equiv.specs.Proc.{procedure_in, entered, proc_row}
 use Rattle.gb_equiv.specs.Skip.{for_every_memory, for_every_pair, of_empty, skip_row}
-use Rattle.gb_sound.proofs.Called.{judgment_shape}
+use Rattle.gb_sound.proofs.Shapes.{judgment_shape}
 use Rattle.gb_sound.proofs.Shapes.{none_some, same_some}
 use Rattle.gb_ready.specs.Scoped.{Frames, ambient, of_programs, IsReadable, declared_subject, IsThere, HeadIsScoped, IsScoped}
 use Rattle.gb_ready.specs.Programs.{locals_of, IsTypedProcedure}

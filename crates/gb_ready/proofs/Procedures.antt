@@ -23,6 +23,7 @@ use Rattle.gb_typed.specs.Operators.{IsNoDistribution}
 use Rattle.gb_typed.specs.Typing.{type_of}
 use Rattle.gb_typed.specs.Context.{IsStateOf, IsFractional}
 use Rattle.gb_typed.proofs.Terms.{typed_value, typed_has}
+use Rattle.gb_holds.specs.Settings.{Table}
 use Rattle.gb_holds.specs.Declared.{declared}
 use Rattle.gb_holds.specs.Holds.{IsModel, interpretation}
 use Rattle.gb_equiv.specs.Judgment.{on_side}
@@ -59,7 +60,7 @@ no_distribution _ f = tt
 fractional : IsFractional quiet
 fractional p xs m event = omega arith
 
-module _ (ds : scope.Declarations) (scoped : IsTypedScope ds) (w : World) (size : Name → ℕ) (table : Name → List Value → Meaning)
+module _ (ds : scope.Declarations) (scoped : IsTypedScope ds) (w : World) (size : Name → ℕ) (table : Table)
     (model : IsModel (declared ds) (interpretation w size table)) where
   module _ (p : Proc) (t : IsTypedProcedure p) where
     here_closed : (s : State) → IsStateOf (g ds scoped w size table model).types closed s

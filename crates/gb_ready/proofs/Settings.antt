@@ -20,7 +20,7 @@ use Rattle.gb_meaning.specs.Sound.{IsSound}
 use Rattle.gb_meaning.specs.Judgments.{IsSoundIfThere}
 use Rattle.gb_holds.specs.Declared.{declared}
 use Rattle.gb_holds.specs.Footprints.{footprint_globals}
-use Rattle.gb_holds.specs.Settings.{Interpretation, program_footprint, types_of, setting}
+use Rattle.gb_holds.specs.Settings.{Table, Interpretation, program_footprint, types_of, setting}
 use Rattle.gb_holds.specs.Holds.{IsModel, EachProgram, declared_modules, interpretation}
 use Rattle.gb_holds.proofs.SettingTypes.{setting-types}
 use Rattle.gb_typed.specs.Finite.{AreVariables, IsInhabited}
@@ -41,7 +41,7 @@ no_modules ((n, entry.Module m) ∷ ds) = no_modules ds
 no_modules ((n, entry.Lemma q) ∷ ds) = no_modules ds
 
 abbrev pub InEachModelOf : scope.Declarations → (Setting → Type 0) → Type 0
-InEachModelOf ds C = (w : World) (size : Name → ℕ) (table : Name → List Value → Meaning) → IsModel (declared ds) (interpretation w size table) →
+InEachModelOf ds C = (w : World) (size : Name → ℕ) (table : Table) → IsModel (declared ds) (interpretation w size table) →
     C (setting (declared ds) (interpretation w size table))
 
 -- where no abstract module is around, the settings are those of the models
@@ -50,7 +50,7 @@ each_setting ds q C e f w size table m =
     subst (λ bs. EachProgram (declared ds) bs (interpretation w size table) (λ i. EachProgram (declared ds) q.modules i (λ k. C (setting (declared ds) k)))) (sym (no_modules ds))
     (subst (λ bs. EachProgram (declared ds) bs (interpretation w size table) (λ k. C (setting (declared ds) k))) (sym e) (f w size table m))
 
-module _ (ds : scope.Declarations) (scoped : IsTypedScope ds) (w : World) (size : Name → ℕ) (table : Name → List Value → Meaning)
+module _ (ds : scope.Declarations) (scoped : IsTypedScope ds) (w : World) (size : Name → ℕ) (table : Table)
     (model : IsModel (declared ds) (interpretation w size table)) where
   abbrev pub here : Interpretation
   here = interpretation w size table
