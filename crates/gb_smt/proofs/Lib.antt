@@ -4,6 +4,10 @@ pub mod Uses
 pub mod Noted
 pub mod Marks
 pub mod Parts
+pub mod Findings
 pub mod Trials
+pub mod Counting
+mod Different
+mod Answered
 mod Values
 mod Meant

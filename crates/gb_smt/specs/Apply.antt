@@ -1,95 +1,103 @@
--- How `smt` refuses.
-use Rattle.std.specs.Prelude.{◌≡◌, ◌⊎◌, Bool, true, IsTrue, Option, Some, None, List, [], ◌∷◌, map, fold}
-use Rattle.std.specs.List.{list_all, All, Any}
+-- What `smt` answers.
+use Rattle.std.specs.Prelude.{◌≡◌, Bool, true, false, IsTrue, if◌then◌else◌, Option, Some, None, Result, Ok, Err, List, [], ◌∷◌, ◌++◌, map, fold}
+use Rattle.std.specs.List.{list_any, All, Any}
 use Rattle.gb_core.specs.declared.place.Place.{Place}
 use Rattle.gb_core.specs.declared.value.Card.{Card}
 use Rattle.gb_core.specs.declared.value.Card.TheVariants.{Exact, Above}
-use Rattle.gb_core.specs.declared.value.Value.{Value}
 use Rattle.gb_core.specs.declared.refusal.Why.{Why}
-use Rattle.gb_core.specs.declared.refusal.Why.TheVariants.{False, Undecided}
+use Rattle.gb_core.specs.declared.refusal.Why.TheVariants as why
 use Rattle.gb_core.specs.declared.refusal.Refused.{Refused}
-use Rattle.gb_core.specs.declared.refusal.Refused.TheVariants.{NoMemory, Script}
+use Rattle.gb_core.specs.declared.refusal.Refused.TheVariants.{NoMemory, ReadFault, Script}
 use Rattle.gb_goal.specs.declared.sequent.Sequent.{Sequent}
 use Rattle.gb_smt.specs.declared.leaves.Leaf.{Leaf}
 use Rattle.gb_smt.specs.declared.claims.Claim.{Claim}
 use Rattle.gb_smt.specs.declared.assign.Found.{Found}
-use Rattle.gb_smt.specs.declared.assign.Found.TheVariants.{True, Unknown}
+use Rattle.gb_smt.specs.declared.assign.Found.TheVariants.{True, False, Unknown}
 use Rattle.gb_smt.specs.declared.apply.Trial.{Trial}
 use Rattle.gb_smt.specs.declared.apply.Tried.{Tried}
-use Rattle.gb_smt.specs.declared.apply.Tried.TheVariants as tried
-use Rattle.gb_smt.specs.Leaves.{leaves_of}
+use Rattle.gb_smt.specs.declared.apply.Tried.TheVariants.{Closed, Refuted, Undecided}
 use Rattle.gb_smt.specs.Equations.{used_up}
 use Rattle.gb_smt.specs.Claims.{claims_of}
 use Rattle.gb_smt.specs.Width.{width_of, is_tried, greater}
-use Rattle.gb_smt.specs.Assign.{IsTrueEverywhere, IsRefutation, IsOf}
+use Rattle.gb_smt.specs.Assign.{IsTrueEverywhere, found_of}
+use Rattle.gb_smt.specs.Atoms.{atoms_of, IsCount}
 
--- the greatest width of a claim; it counts as above where a part of a claim is opaque to evaluation
-abbrev pub IsGreatest : Card → List Claim → Type 0
-IsGreatest width claims = (width ≡ fold greater (Exact 0) (map width_of claims)) ⊎ (width ≡ Above)
+-- what trying a claim of this width comes to; the width counts as above where evaluation doesn't know a part of it
+abbrev pub trial_at : Card → Found → Trial
+trial_at width Unknown = record { width = Above; found = Unknown }
+trial_at width found = record { width = width; found = found }
 
--- the values are the first assignment under which the first claim is false
-abbrev pub IsOfFirst : List Claim → Option (List Value) → Type 0
-IsOfFirst [] None = Unit {0}
-IsOfFirst (c ∷ cs) (Some values) = IsRefutation c values
-IsOfFirst _ _ = ⊥
+-- what trying a claim comes to, unless it is too wide
+abbrev pub trial_of : Claim → Trial
+trial_of c = if is_tried (width_of c) then trial_at (width_of c) (found_of c) else record { width = width_of c; found = Unknown }
 
--- none of the claims is too wide to be tried
-abbrev pub are_tried : List Claim → Bool
-are_tried claims = list_all (λ c. is_tried (width_of c)) claims
+abbrev pub is_true : Found → Bool
+is_true True = true
+is_true _ = false
 
--- all of the claims are tried, and the values are the first assignment under which the first one is false
-abbrev pub IsRefuted : List Claim → List Value → Type 0
-IsRefuted claims values = IsTrue (are_tried claims) × IsOfFirst claims (Some values)
+abbrev pub is_found_true : Claim → Bool
+is_found_true c = is_true (trial_of c).found
+
+-- the greatest width of a claim
+abbrev pub greatest : List Claim → Card
+greatest claims = fold greater (Exact 0) (map (λ c. (trial_of c).width) claims)
+
+-- refuted as the first claim is, where none is too wide
+abbrev pub refuted_by : Found → Card → Tried
+refuted_by (False values) widest = if is_tried widest then Refuted values else Undecided widest
+refuted_by _ widest = Undecided widest
+
+-- what trying claims comes to where none is found true
+abbrev pub open_outcome : List Claim → Tried
+open_outcome [] = Undecided (Exact 0)
+open_outcome (c ∷ cs) = refuted_by (trial_of c).found (greatest (c ∷ cs))
+
+-- what trying claims comes to
+abbrev pub outcome_of : List Claim → Tried
+outcome_of claims = if list_any is_found_true claims then Closed else open_outcome claims
 
 -- a claim that closes its leaf: it isn't too wide, and is true under every assignment
 abbrev pub Closes : Claim → Type 0
 Closes c = IsTrue (is_tried (width_of c)) × IsTrueEverywhere c
 
--- a claim that is found true isn't too wide
-abbrev pub IsNarrow : Claim → Found → Type 0
-IsNarrow c True = IsTrue (is_tried (width_of c))
-IsNarrow c _ = Unit {0}
-
--- What trying a claim comes to: its width, which counts as above where a part of it is opaque to evaluation, and what is
--- found. Where it isn't too wide, something is.
-pub record IsTrial (c : Claim) (t : Trial) : Type 0 where
-  pub width : (t.width ≡ width_of c) ⊎ (t.width ≡ Above)
-  pub known : is_tried t.width ≡ true → t.found ≡ Unknown → ⊥
-  pub narrow : IsNarrow c t.found
-  pub found : IsOf c t.found
-
--- what trying claims comes to
-abbrev pub IsOutcome : List Claim → Tried → Type 0
-IsOutcome claims tried.Closed = Any Closes claims
-IsOutcome claims (tried.Refuted values) = IsRefuted claims values
-IsOutcome claims (tried.Undecided width) = IsGreatest width claims
-
--- why none of the claims is true under all assignments
-abbrev pub AreOpen : List Claim → Why → Type 0
-AreOpen claims (False values) = IsRefuted claims values
-AreOpen claims (Undecided width atoms) = IsGreatest width claims
-AreOpen claims _ = ⊥
-
--- why a leaf isn't closed
-abbrev pub IsOpen : Why → Leaf → Type 0
-IsOpen why l = AreOpen (claims_of (used_up l)) why
-
 -- a leaf is closed by a claim of it
 abbrev pub IsClosed : Leaf → Type 0
 IsClosed l = Any Closes (claims_of (used_up l))
 
+-- Why a leaf without equations isn't closed: false under the first assignment under which its first claim is, where all
+-- its claims are tried; else undecided, with the greatest width and the number of its atoms.
+abbrev pub IsReason : Leaf → Why → Type 0
+IsReason l (why.False values) = outcome_of (claims_of l) ≡ Refuted values
+IsReason l (why.Undecided width atoms) = (outcome_of (claims_of l) ≡ Undecided width) × IsCount (atoms_of l) atoms
+IsReason l _ = ⊥
+
+-- why a leaf isn't closed
+abbrev pub IsOpen : Leaf → Why → Type 0
+IsOpen l why = IsReason (used_up l) why
+
 -- what comes of a leaf: it is closed, or why it isn't
 abbrev pub IsAnswer : Leaf → Option Why → Type 0
 IsAnswer l None = IsClosed l
-IsAnswer l (Some why) = IsOpen why l
+IsAnswer l (Some why) = IsOpen l why
 
--- what comes of leaves: each is closed, or why one of them isn't
+-- why the first of the leaves that aren't closed isn't
+pub record IsFirstOpen (leaves : List Leaf) (why : Why) : Type 0 where
+  pub closed : List Leaf
+  pub leaf : Leaf
+  pub others : List Leaf
+  pub order : leaves ≡ closed ++ leaf ∷ others
+  pub before : All IsClosed closed
+  pub reason : IsOpen leaf why
+
+-- what comes of leaves: each is closed, or why the first one that isn't isn't
 abbrev pub IsAnswerOf : List Leaf → Option Why → Type 0
-IsAnswerOf ls None = All IsClosed ls
-IsAnswerOf ls (Some why) = Any (IsOpen why) ls
+IsAnswerOf leaves None = All IsClosed leaves
+IsAnswerOf leaves (Some why) = IsFirstOpen leaves why
 
--- The refusal of a goal is that of one of its leaves, at the place of the step; the other refusal is want of memory.
-abbrev pub IsRefusalOf : Sequent → Place → Refused → Type 0
-IsRefusalOf goal place NoMemory = Unit {0}
-IsRefusalOf goal place (Script why at) = Any (IsOpen why) (leaves_of goal) × (at ≡ place)
-IsRefusalOf goal place _ = ⊥
+-- What the rule gives at the place of the step: no subgoals, where each leaf is closed, and else why the first one that
+-- isn't closed isn't. The other refusal is want of memory.
+abbrev pub IsResult : List Leaf → Place → Result (List Sequent) Refused → Type 0
+IsResult leaves place (Ok subgoals) = record { none : subgoals ≡ []; answer : IsAnswerOf leaves None }
+IsResult leaves place (Err NoMemory) = Unit {0}
+IsResult leaves place (Err ReadFault) = ⊥
+IsResult leaves place (Err (Script why at)) = record { answer : IsAnswerOf leaves (Some why); at_step : at ≡ place }

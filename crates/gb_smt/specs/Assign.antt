@@ -1,9 +1,10 @@
 -- The assignments to the variables of a claim, and its truth under them.
-use Rattle.std.specs.Prelude.{◌≡◌, ◌<◌, ℕ, true, false, Bool, Option, Some, List, [], ◌∷◌, map}
+use Rattle.std.specs.Prelude.{◌≡◌, ◌⊎◌, ◌<◌, ℕ, zero, suc, true, false, Bool, Option, Some, None, List, [], ◌∷◌, map}
 use Rattle.gb_core.specs.declared.ty.Ty.{Ty}
 use Rattle.gb_core.specs.declared.ty.Ty.TheVariants.{Tuple}
 use Rattle.gb_core.specs.declared.value.Value.{Value}
-use Rattle.gb_core.specs.declared.value.Card.TheVariants.{Exact}
+use Rattle.gb_core.specs.declared.value.Card.{Card}
+use Rattle.gb_core.specs.declared.value.Card.TheVariants.{Exact, Above}
 use Rattle.gb_types.specs.Numbering.{parts_of}
 use Rattle.gb_types.specs.Types.{card_of, value_at}
 use Rattle.gb_terms.specs.declared.op.Op.TheVariants.{Implies}
@@ -51,18 +52,47 @@ pub record IsTrueEverywhere (c : Claim) : Type 0 where
   pub exact : card_of (assignments c) ≡ Exact count
   pub each : TrueBefore count c
 
--- the values are the first assignment under which the claim is false; it is true under those before
-pub record IsRefutation (c : Claim) (values : List Value) : Type 0 where
+-- The values are the first assignment under which the claim isn't true, and its truth under it is this one.
+pub record IsFirst (c : Claim) (values : List Value) (truth : Option Bool) : Type 0 where
   pub count : ℕ
   pub exact : card_of (assignments c) ≡ Exact count
   pub place : ℕ
   pub below : place < count
   pub before : TrueBefore place c
   pub values_at : values ≡ assignment c place
-  pub false_there : truth_under c values ≡ Some false
+  pub there : truth_under c values ≡ truth
 
--- what trying the assignments in order comes to
+-- Either there are too many assignments, or evaluation doesn't know the truth of the claim under the first one under
+-- which it isn't true.
+abbrev pub IsUnknown : Claim → Type 0
+IsUnknown c = (card_of (assignments c) ≡ Above) ⊎ ((values : List Value) × IsFirst c values None)
+
+-- what is found of a claim, in words of all assignments
 abbrev pub IsOf : Claim → Found → Type 0
 IsOf c True = IsTrueEverywhere c
-IsOf c (False values) = IsRefutation c values
-IsOf c Unknown = Unit {0}
+IsOf c (False values) = IsFirst c values (Some false)
+IsOf c Unknown = IsUnknown c
+
+-- what is found under one assignment
+abbrev pub found_under : Option Bool → List Value → Found
+found_under (Some true) values = True
+found_under (Some false) values = False values
+found_under None values = Unknown
+
+-- the first that isn't `True` decides
+abbrev pub then_next : Found → Found → Found
+then_next True next = next
+then_next decided next = decided
+
+-- what is found under the assignments before a place: the first under which the claim isn't true decides
+abbrev pub found_before : ℕ → Claim → Found
+found_before zero c = True
+found_before (suc n) c = then_next (found_before n c) (found_under (truth_at c n) (assignment c n))
+
+abbrev pub found_among : Card → Claim → Found
+found_among (Exact n) c = found_before n c
+found_among Above c = Unknown
+
+-- what trying the assignments in order finds
+abbrev pub found_of : Claim → Found
+found_of c = found_among (card_of (assignments c)) c

@@ -5,5 +5,6 @@ pub mod Components
 pub mod Claims
 pub mod Width
 pub mod Assign
+pub mod Atoms
 pub mod Apply
 pub mod Meant

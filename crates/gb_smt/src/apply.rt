@@ -1,9 +1,9 @@
 // The rule `smt`.
 
-ghost use Rattle.std.specs.Prelude.{◌≡◌, [], IfErr, IfOk};
+ghost use Rattle.std.specs.Prelude.{◌≡◌, IfOk};
 ghost use Rattle.std.specs.List.{All};
 ghost use Rattle.gb_smt.specs.Leaves.{leaves_of};
-ghost use Rattle.gb_smt.specs.Apply.{IsTrial, IsOutcome, IsAnswer, IsAnswerOf, IsClosed, IsRefusalOf};
+ghost use Rattle.gb_smt.specs.Apply.{trial_of, outcome_of, IsAnswer, IsAnswerOf, IsClosed, IsResult};
 
 use crate::assign::{Found, try_all};
 use crate::atoms::number_of_atoms;
@@ -28,7 +28,7 @@ struct Trial {
 
 /// Tries a claim, unless it is too wide.
 fn try_claim(alloc: Global, claim: &Claim) -> Result<Trial, AllocError>
-    ensures { IfOk result (IsTrial claim.now) }
+    ensures { IfOk result (λ trial. trial ≡ trial_of claim.now) }
 {
     let width = width(alloc, claim)?;
     if !is_tried(width) {
@@ -65,7 +65,7 @@ enum Tried {
 
 /// Tries the claims of a leaf in order, those that aren't too wide.
 fn try_claims(alloc: Global, list: &[Claim]) -> Result<Tried, AllocError>
-    ensures { IfOk result (IsOutcome list.now) }
+    ensures { IfOk result (λ tried. tried ≡ outcome_of list.now) }
 {
     let mut widest = Card::Exact(0);
     let mut refuting = None;
@@ -126,9 +126,8 @@ pub fn apply(
     goal: &Sequent,
     _scope: &Scope,
 ) -> Result<Sequents, Refused>
-    ensures no_subgoals { IfOk result (λ subgoals. subgoals ≡ []) }
+    ensures answer { IsResult (leaves_of goal.now) step.now.place result }
     ensures closed { IfOk result (λ subgoals. All IsClosed (leaves_of goal.now)) }
-    ensures refused { IfErr result (IsRefusalOf goal.now step.now.place) }
 {
     match close_goal(alloc, goal) {
         Ok(None) => Ok(Items::new(alloc)),

@@ -2,7 +2,7 @@
 
 ghost use Rattle.std.specs.Prelude.{◌≡◌, IfOk};
 ghost use Rattle.gb_types.specs.Numbering.{parts_of};
-ghost use Rattle.gb_smt.specs.Assign.{assignments, with_values, implied, truth_under, IsOf};
+ghost use Rattle.gb_smt.specs.Assign.{assignments, with_values, implied, truth_under, found_of};
 
 use crate::claims::Claim;
 use crate::variables::Variable;
@@ -82,14 +82,14 @@ pub enum Found {
     True,
     /// The first assignment under which it is false, in order.
     False(Values),
-    /// A part of it isn't known to evaluation.
+    /// Evaluation doesn't know its truth under the first assignment under which it isn't true, or there are too many.
     Unknown,
 }
 
 /// Tries the assignments of a type to the variables of a claim, in order.
 fn try_each(alloc: Global, claim: &Claim, ty: &Ty) -> Result<Found, AllocError>
     requires { ty.now ≡ assignments claim.now }
-    ensures { IfOk result (IsOf claim.now) }
+    ensures { IfOk result (λ found. found ≡ found_of claim.now) }
 {
     let count = match card(ty) {
         Card::Exact(n) => n,
@@ -109,7 +109,7 @@ fn try_each(alloc: Global, claim: &Claim, ty: &Ty) -> Result<Found, AllocError>
 /// Tries the assignments to the variables of a claim, in order. These are the values of the tuples of their types, so the
 /// first variable is the slowest.
 pub fn try_all(alloc: Global, claim: &Claim) -> Result<Found, AllocError>
-    ensures { IfOk result (IsOf claim.now) }
+    ensures { IfOk result (λ found. found ≡ found_of claim.now) }
 {
     let ty = Ty::Tuple(types_of_variables(alloc, claim.variables.as_slice())?);
     try_each(alloc, claim, &ty)

@@ -1,5 +1,9 @@
 // The atoms of a leaf: its Boolean parts that are no connectives.
 
+ghost use Rattle.std.specs.Prelude.{◌≡◌, ◌↔◌, IsTrue, IfOk, OnOk};
+ghost use Rattle.std.specs.List.{Contains, flat_map};
+ghost use Rattle.gb_smt.specs.Atoms.{is_over_forms, is_connective, atom_of, is_atom, own_atom, term_atoms, atoms_of, AreAdded, IsCount};
+
 use crate::leaves::Leaf;
 use gb_core::copy::copy_ty;
 use gb_core::ty::Ty;
@@ -13,7 +17,9 @@ use sqlite_items::Items;
 use std::alloc::{AllocError, Global};
 
 /// Whether the arguments of an operator are forms.
-fn is_over_forms(args: &[Term]) -> bool {
+fn is_over_forms(args: &[Term]) -> bool
+    ensures { result ≡ is_over_forms args.now }
+{
     match args.first() {
         Some(first) => matches!(first.ty.get(), Ty::Bool),
         None => false,
@@ -21,7 +27,9 @@ fn is_over_forms(args: &[Term]) -> bool {
 }
 
 /// Whether a form is a connective: equality of forms is one too.
-fn is_connective(t: &Term) -> bool {
+fn is_connective(t: &Term) -> bool
+    ensures { result ≡ is_connective t.now }
+{
     match t.head.get() {
         Head::Builtin(op) => match op {
             Op::Not | Op::And | Op::Or | Op::Implies | Op::Iff => true,
@@ -33,7 +41,9 @@ fn is_connective(t: &Term) -> bool {
 }
 
 /// The atom that a form is or negates: `s <> t` is the negation of `s = t`.
-fn atom_of(alloc: Global, t: &Term) -> Result<Term, AllocError> {
+fn atom_of(alloc: Global, t: &Term) -> Result<Term, AllocError>
+    ensures { IfOk result (λ atom. atom ≡ atom_of t.now) }
+{
     match t.head.get() {
         Head::Builtin(Op::NotEqual) => {
             let args = copy_terms(alloc, t.args.as_slice())?;
@@ -44,7 +54,9 @@ fn atom_of(alloc: Global, t: &Term) -> Result<Term, AllocError> {
     }
 }
 
-fn is_among(list: &[Term], t: &Term) -> bool {
+fn is_among(list: &[Term], t: &Term) -> bool
+    ensures { IsTrue result ↔ Contains list.now t.now }
+{
     for atom in list {
         if same(atom, t) {
             return true;
@@ -54,19 +66,32 @@ fn is_among(list: &[Term], t: &Term) -> bool {
 }
 
 /// Whether a form is an atom: no connective, and no literal.
-fn is_atom(t: &Term) -> bool {
+fn is_atom(t: &Term) -> bool
+    ensures { result ≡ is_atom t.now }
+{
     matches!(t.ty.get(), Ty::Bool) && !matches!(t.head.get(), Head::Lit(_)) && !is_connective(t)
+}
+
+/// Adds the atom that a term is or negates, if it isn't there yet.
+fn note_own_atom(alloc: Global, t: &Term, atoms: &mut Terms) -> Result<(), AllocError>
+    ensures { OnOk result (AreAdded atoms.old (own_atom t.now) atoms.new) }
+{
+    if !is_atom(t) {
+        return Ok(());
+    }
+    let atom = atom_of(alloc, t)?;
+    if is_among(atoms.as_slice(), &atom) {
+        return Ok(());
+    }
+    atoms.push(atom)
 }
 
 /// Adds the atoms of a term that aren't there yet. A part that binds a variable is one constant.
 #[cycle(note_atoms)]
-fn note_atoms(alloc: Global, t: &Term, atoms: &mut Terms) -> Result<(), AllocError> {
-    if is_atom(t) {
-        let atom = atom_of(alloc, t)?;
-        if !is_among(atoms.as_slice(), &atom) {
-            atoms.push(atom)?;
-        }
-    }
+fn note_atoms(alloc: Global, t: &Term, atoms: &mut Terms) -> Result<(), AllocError>
+    ensures { OnOk result (AreAdded atoms.old (term_atoms t.now) atoms.new) }
+{
+    note_own_atom(alloc, t, atoms)?;
     if is_binder(t.head.get()) {
         return Ok(());
     }
@@ -74,7 +99,9 @@ fn note_atoms(alloc: Global, t: &Term, atoms: &mut Terms) -> Result<(), AllocErr
 }
 
 #[cycle(note_atoms)]
-fn note_atoms_of_all(alloc: Global, list: &[Term], atoms: &mut Terms) -> Result<(), AllocError> {
+fn note_atoms_of_all(alloc: Global, list: &[Term], atoms: &mut Terms) -> Result<(), AllocError>
+    ensures { OnOk result (AreAdded atoms.old (flat_map term_atoms list.now) atoms.new) }
+{
     for t in list {
         note_atoms(alloc, t, atoms)?;
     }
@@ -82,7 +109,9 @@ fn note_atoms_of_all(alloc: Global, list: &[Term], atoms: &mut Terms) -> Result<
 }
 
 /// The number of atoms of a leaf, each counted once.
-pub fn number_of_atoms(alloc: Global, leaf: &Leaf) -> Result<u64, AllocError> {
+pub fn number_of_atoms(alloc: Global, leaf: &Leaf) -> Result<u64, AllocError>
+    ensures { IfOk result (IsCount (atoms_of leaf.now)) }
+{
     let mut atoms = Items::new(alloc);
     note_atoms_of_all(alloc, leaf.hyps.as_slice(), &mut atoms)?;
     note_atoms(alloc, &leaf.conclusion, &mut atoms)?;

@@ -1,13 +1,19 @@
-// What the truth of a claim under an assignment means.
+// What the truth of a claim under an assignment means, and that `smt` has one answer.
 
-ghost use Rattle.std.specs.Prelude.{◌≡◌, true, false, Some, List};
+ghost use Rattle.std.specs.Prelude.{◌≡◌, ◌↔◌, true, false, Option, Some, List};
+ghost use Rattle.std.specs.List.{Any};
+ghost use Rattle.gb_core.specs.declared.refusal.Why.{Why};
 ghost use Rattle.gb_core.specs.declared.value.Value.{Value};
 ghost use Rattle.gb_meaning.specs.Setting.{Setting};
 ghost use Rattle.gb_meaning.specs.Meanings.{truth};
 ghost use Rattle.gb_meaning.specs.State.{State};
 ghost use Rattle.gb_meaning.specs.Terms.{Speaks, val};
 ghost use Rattle.gb_smt.specs.declared.claims.Claim.{Claim};
-ghost use Rattle.gb_smt.specs.Assign.{truth_under};
+ghost use Rattle.gb_smt.specs.declared.leaves.Leaf.{Leaf};
+ghost use Rattle.gb_smt.specs.declared.assign.Found.{Found};
+ghost use Rattle.gb_smt.specs.declared.apply.Tried.TheVariants.{Closed};
+ghost use Rattle.gb_smt.specs.Assign.{truth_under, found_of, IsOf};
+ghost use Rattle.gb_smt.specs.Apply.{Closes, outcome_of, IsAnswerOf};
 ghost use Rattle.gb_smt.specs.Width.{is_known_claim};
 ghost use Rattle.gb_smt.specs.Meant.{AreTrue, HasValues};
 
@@ -19,4 +25,21 @@ pub fn claims_are_read_right()
         is_known_claim c ≡ true → HasValues g s c values → truth_under c values ≡ Some true → AreTrue g j s c.hyps → truth (val g j c.conclusion s) ≡ true }
     ensures fails { (g : Setting) (j : Speaks) (s : State) (c : Claim) (values : List Value) →
         is_known_claim c ≡ true → HasValues g s c values → truth_under c values ≡ Some false → AreTrue g j s c.hyps × (truth (val g j c.conclusion s) ≡ false) }
+{}
+
+/// Trying the assignments of a claim finds that it is true exactly where it is so under each, and that it is false, or
+/// unknown, exactly where it is so under the first assignment under which it isn't true. It is unknown too where there are
+/// too many assignments.
+pub fn findings_are_exact()
+    ensures { (c : Claim) (f : Found) → found_of c ≡ f ↔ IsOf c f }
+{}
+
+/// Trying claims closes their leaf exactly where one of them, of a width that is tried, is true under every assignment.
+pub fn closing_is_exact()
+    ensures { (claims : List Claim) → outcome_of claims ≡ Closed ↔ Any Closes claims }
+{}
+
+/// There is one answer to leaves.
+pub fn there_is_one_answer()
+    ensures { (leaves : List Leaf) (a b : Option Why) → IsAnswerOf leaves a → IsAnswerOf leaves b → a ≡ b }
 {}

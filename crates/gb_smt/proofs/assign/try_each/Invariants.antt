@@ -1,11 +1,12 @@
 use Rattle.std.proofs.Common.{◌≡◌}
 use Rattle.gb_core.specs.declared.value.Card.TheVariants.{Exact}
 use Rattle.gb_types.specs.Types.{card_of}
-use Rattle.gb_smt.specs.Assign.{TrueBefore}
+use Rattle.gb_smt.specs.declared.assign.Found.TheVariants.{True}
+use Rattle.gb_smt.specs.Assign.{found_before}
 use Rattle.gb_smt.proofs.assign.try_each.Given as goal
 
 abbrev pub invariant-loop-at : goal.invariant-loop-at
 invariant-loop-at l = record {
   exact : card_of l.ty ≡ Exact l.count;
-  before : TrueBefore l.at l.claim;
+  before : found_before l.at l.claim ≡ True;
 }

@@ -1,0 +1,7 @@
+use Rattle.std.proofs.Common.{take}
+use Rattle.std.specs.List.{flat_map}
+use Rattle.gb_smt.specs.Atoms.{term_atoms, AreAdded}
+use Rattle.gb_smt.proofs.atoms.+note_atoms.Given as goal
+
+abbrev pub invariant-note_atoms_of_all-loop-t : goal.invariant-note_atoms_of_all-loop-t
+invariant-note_atoms_of_all-loop-t l = AreAdded l.initial.atoms (flat_map term_atoms (take l.t-index l.list)) l.atoms
