@@ -21,3 +21,4 @@ pub mod Called
 pub mod Wider
 pub mod Returned
 pub mod Kept
+pub mod Growing

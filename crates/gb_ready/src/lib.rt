@@ -4,3 +4,4 @@
 pub mod keep_laws;
 pub mod ready_laws;
 pub mod rule_laws;
+pub mod scope_laws;
