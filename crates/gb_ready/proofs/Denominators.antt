@@ -16,7 +16,8 @@ use Rattle.gb_typed.specs.Typing.{Context, type_of, types_of, IsHead, inner, IsT
 use Rattle.gb_sound.proofs.Shapes.{none_some}
 use mathlib.Core.Former.{Count}
 
-abbrev IsWithoutOperators : Context → Type 0
+-- no operator of the script is around
+abbrev pub IsWithoutOperators : Context → Type 0
 IsWithoutOperators c = (n : Name) → c.operator n ≡ None
 
 apart : (t : Ty) → IsDistributionType t → IsNoDistribution t → ⊥
