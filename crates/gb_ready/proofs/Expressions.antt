@@ -31,7 +31,7 @@ nowhere : (m : Mexp) (f : Name) → IsThere (proc_at [] m f) → ⊥
 nowhere (named n) f k = k
 nowhere (Apply' n m args) f k = k
 
-nothing_declared : (s : Subject) → IsThere (declared_subject [] s) → ⊥
+pub nothing_declared : (s : Subject) → IsThere (declared_subject [] s) → ⊥
 nothing_declared (Proc r) k = nowhere r.«module» r.name k
 nothing_declared (Body' n is) k = k
 

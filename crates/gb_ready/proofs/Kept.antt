@@ -48,7 +48,7 @@ abbrev as_bodies : Option Judgment → Option OnBodies
 as_bodies o = option_and_then (λ (j : Judgment). of_subjects (out-Subject j.left) (out-Subject j.right) j.pre j.post) o
 
 -- an equivalence of bodies is read as what it was made of
-bodies_are : (c d : Cmd) (p q : Term) → bodies_of (on_bodies c d p q) ≡ Some (record { left = c; right = d; pre = p; post = q })
+pub bodies_are : (c d : Cmd) (p q : Term) → bodies_of (on_bodies c d p q) ≡ Some (record { left = c; right = d; pre = p; post = q })
 bodies_are c d p q =
     ap (λ z. as_bodies (of_parts z.head z.args)) (out-roll-Term (record { head = Equiv (Body c) (Body d); args = p ∷ q ∷ []; ty = ty.Bool }))
     ∙ (λ i. of_subjects (shown_body c i) (shown_body d i) p q)
@@ -78,7 +78,7 @@ module _ (ds : scope.Declarations) where
   scoped_apart F f s =
       parts_apart F (out-Term f).head (out-Term f).args (out-Term f).ty (head_scoped ds F (out-Term f).head (out-Term f).args (out-Term f).ty (subst (IsScoped ds F) (each_is_node f) s))
 
-  concluded : (q : Sequent) (f : Term) → IsTypedSequent ds q → IsTypedConclusion ds (context_of q) f (bodies_of f) → IsTypedSequent ds (record q { conclusion = f })
+  pub concluded : (q : Sequent) (f : Term) → IsTypedSequent ds q → IsTypedConclusion ds (context_of q) f (bodies_of f) → IsTypedSequent ds (record q { conclusion = f })
   concluded q f t k = record { logical = t.logical; modules = t.modules; hyps = t.hyps; conclusion = k }
 
   ambient_conclusion : (q : Sequent) (f : Term) → Made ds (context_of q) ambient ty.Bool f → IsTypedConclusion ds (context_of q) f (bodies_of f)

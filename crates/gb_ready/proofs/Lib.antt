@@ -22,3 +22,8 @@ pub mod Wider
 pub mod Returned
 pub mod Kept
 pub mod Growing
+pub mod Drawn
+pub mod Mapped
+pub mod Coupled
+pub mod Sampled
+pub mod Unsampled

@@ -57,7 +57,7 @@ no_distribution : (t : Ty) → IsVariableType t → IsNoDistribution t
 no_distribution (ty.Distr' p x) f = absurd f
 no_distribution _ f = tt
 
-fractional : IsFractional quiet
+pub fractional : IsFractional quiet
 fractional p xs m event = omega arith
 
 module _ (ds : scope.Declarations) (scoped : IsTypedScope ds) (w : World) (size : Name → ℕ) (table : Table)

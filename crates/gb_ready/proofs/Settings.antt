@@ -21,7 +21,7 @@ use Rattle.gb_meaning.specs.Judgments.{IsSoundIfThere}
 use Rattle.gb_holds.specs.Declared.{declared}
 use Rattle.gb_holds.specs.Footprints.{footprint_globals}
 use Rattle.gb_holds.specs.Settings.{Table, Interpretation, program_footprint, types_of, setting}
-use Rattle.gb_holds.specs.Holds.{IsModel, EachProgram, declared_modules, interpretation}
+use Rattle.gb_holds.specs.Holds.{IsModel, InEachModel, EachProgram, declared_modules, interpretation}
 use Rattle.gb_holds.proofs.SettingTypes.{setting-types}
 use Rattle.gb_typed.specs.Finite.{AreVariables, IsInhabited}
 use Rattle.gb_typed.specs.Typing.{Context}
@@ -44,11 +44,16 @@ abbrev pub InEachModelOf : scope.Declarations → (Setting → Type 0) → Type 
 InEachModelOf ds C = (w : World) (size : Name → ℕ) (table : Table) → IsModel (declared ds) (interpretation w size table) →
     C (setting (declared ds) (interpretation w size table))
 
--- where no abstract module is around, the settings are those of the models
+-- where no abstract module is around, the interpretations are those of the models
+pub each_model : (ds : scope.Declarations) (q : Sequent) (C : Interpretation → Type 0) → q.modules ≡ [] →
+    ((w : World) (size : Name → ℕ) (table : Table) → IsModel (declared ds) (interpretation w size table) → C (interpretation w size table)) →
+    InEachModel (declared ds) (λ i. EachProgram (declared ds) q.modules i C)
+each_model ds q C e f w size table m =
+    subst (λ bs. EachProgram (declared ds) bs (interpretation w size table) (λ i. EachProgram (declared ds) q.modules i C)) (sym (no_modules ds))
+    (subst (λ bs. EachProgram (declared ds) bs (interpretation w size table) C) (sym e) (f w size table m))
+
 pub each_setting : (ds : scope.Declarations) (q : Sequent) (C : Setting → Type 0) → q.modules ≡ [] → InEachModelOf ds C → InEachSetting (declared ds) q C
-each_setting ds q C e f w size table m =
-    subst (λ bs. EachProgram (declared ds) bs (interpretation w size table) (λ i. EachProgram (declared ds) q.modules i (λ k. C (setting (declared ds) k)))) (sym (no_modules ds))
-    (subst (λ bs. EachProgram (declared ds) bs (interpretation w size table) (λ k. C (setting (declared ds) k))) (sym e) (f w size table m))
+each_setting ds q C e f = each_model ds q (λ k. C (setting (declared ds) k)) e f
 
 module _ (ds : scope.Declarations) (scoped : IsTypedScope ds) (w : World) (size : Name → ℕ) (table : Table)
     (model : IsModel (declared ds) (interpretation w size table)) where

@@ -1,3 +1,4 @@
 pub mod Scoped
 pub mod Programs
 pub mod Goals
+pub mod Maps
