@@ -11,7 +11,6 @@ use Rattle.gb_terms.specs.declared.op.Side.TheVariants as side
 use Rattle.gb_terms.specs.declared.op.Read.{Read}
 use Rattle.gb_terms.specs.declared.op.Read.TheVariants.{Logical, Program}
 use Rattle.gb_terms.specs.declared.term.Term.{Term, Term', Row_of-Term, end_of-Term, more_of-Term, end_of-Head, more_of-Head}
-use Rattle.gb_terms.specs.declared.term.Head.{Head}
 use Rattle.gb_terms.specs.declared.term.Head.TheVariants as head
 use Rattle.gb_goal.specs.Scope.{Declarations}
 use Rattle.gb_meaning.specs.Names.{Name, get}
@@ -20,7 +19,7 @@ use Rattle.gb_meaning.specs.Setting.{Setting}
 use Rattle.gb_meaning.specs.Terms.{denominators}
 use Rattle.gb_typed.specs.Finite.{IsVariableType, IsInhabited}
 use Rattle.gb_typed.specs.Operators.{IsNoDistribution, IsOperator}
-use Rattle.gb_typed.specs.Typing.{Context, Binder, type_of, types_of, IsHead, IsTyped, AreTyped}
+use Rattle.gb_typed.specs.Typing.{Context, Binder, types_of, IsHead, IsTyped, AreTyped}
 use Rattle.gb_typed.specs.Typing.Binder.{value, memory}
 use Rattle.gb_typed.specs.Programs.{local_type}
 use Rattle.gb_typed.proofs.Sizes.{fit_in}

@@ -6,7 +6,6 @@ use Rattle.gb_core.specs.declared.var.Var.{Var}
 use Rattle.gb_core.specs.declared.var.Var.TheVariants as var
 use Rattle.gb_terms.specs.declared.decl.TypedName.{TypedName}
 use Rattle.gb_terms.specs.declared.op.Op.TheVariants as op
-use Rattle.gb_terms.specs.declared.op.Side.{Side}
 use Rattle.gb_terms.specs.declared.op.Side.TheVariants as side
 use Rattle.gb_terms.specs.declared.op.Read.{Read}
 use Rattle.gb_terms.specs.declared.op.Read.TheVariants.{Logical, Program}
@@ -18,23 +17,22 @@ use Rattle.gb_terms.proofs.Equality.{var_eq-Decides}
 use Rattle.gb_goal.specs.Scope.{Declarations}
 use Rattle.gb_goal.specs.declared.sequent.Sequent.{Sequent}
 use Rattle.gb_walk.specs.declared.change.Change.TheVariants.{OfBound}
-use Rattle.gb_walk.specs.Change.{Changes, or_later, found_for_read, found_for_bound, read_changed, term_changed}
+use Rattle.gb_walk.specs.Change.{Changes, or_later, found_for_read, found_for_bound, read_changed}
 use Rattle.gb_meaning.specs.Trees.{distributions}
-use Rattle.gb_changes.specs.Plain.{IsPlain}
 use Rattle.gb_typed.specs.Finite.{IsFinite}
 use Rattle.gb_typed.specs.Operators.{IsNoDistribution}
-use Rattle.gb_typed.specs.Typing.{Context, binder, type_of, IsBoundAt, IsRead}
+use Rattle.gb_typed.specs.Typing.{Context, binder, IsBoundAt, IsRead}
 use Rattle.gb_typed.specs.Typing.Binder.{value}
 use Rattle.gb_equiv.specs.declared.coupled.Maps.{Maps}
 use Rattle.gb_equiv.specs.declared.coupled.Sampled.{Sampled}
 use Rattle.gb_equiv.specs.Judgment.{on_side}
-use Rattle.gb_equiv.specs.Coupled.{nearest, composed, and_form, implies_form, equal_form, in_support, weight, for_support, keeps_weights, couples, coupled_post}
+use Rattle.gb_equiv.specs.Coupled.{nearest, composed, and_form, implies_form, equal_form, in_support, weight, for_support, keeps_weights, couples}
 use Rattle.gb_equiv.specs.Rnd.{Sampling, read_on, coupling, sampled, with_values, post_before}
 use Rattle.gb_sound.proofs.Shapes.{same_some}
 use Rattle.gb_ready.specs.Scoped.{Frames, of_programs, under, IsIn, IsReadScoped}
 use Rattle.gb_ready.specs.Goals.{IsForm, context_of}
 use Rattle.gb_ready.specs.Maps.{IsMap}
-use Rattle.gb_ready.proofs.Changed.{Becomes, Leads, changed}
+use Rattle.gb_ready.proofs.Changed.{Becomes, changed}
 use Rattle.gb_ready.proofs.Drawn.{Drawn}
 use Rattle.gb_ready.proofs.Made.{Made, made_node}
 use Rattle.gb_ready.proofs.Mapped.{no_distribution, nearest_made, nearest_map}

@@ -1,5 +1,5 @@
 -- Typed scopes grow.
-use Rattle.std.proofs.Common.{◌≡◌, List, [], ◌∷◌, ◌++◌, None, sym, subst}
+use Rattle.std.proofs.Common.{◌≡◌, [], ◌∷◌, ◌++◌, None, sym, subst}
 use Rattle.std.proofs.lemmas.List.{append-nil, append_assoc}
 use Rattle.gb_goal.specs.Scope.{Declarations, entry_of}
 use Rattle.gb_goal.specs.declared.scope.Entry.{Entry}

@@ -1,7 +1,6 @@
 -- The settings of a typed scope.
 use Rattle.std.proofs.Common.{◌≡◌, ℕ, List, [], ◌∷◌, Option, Some, None, refl, ap, sym, ◌∙◌, subst}
 use Rattle.std.proofs.lemmas.Bool.{false≢true}
-use Rattle.gb_core.specs.declared.value.Value.{Value}
 use Rattle.gb_terms.specs.declared.module.Mexp.{Mexp}
 use Rattle.gb_terms.specs.declared.module.ProcRef.{ProcRef}
 use Rattle.gb_terms.specs.declared.term.Instr.{Instr}
@@ -14,7 +13,7 @@ use Rattle.gb_goal.specs.declared.scope.Entry.TheVariants as entry
 use Rattle.gb_goal.specs.declared.sequent.Sequent.{Sequent}
 use Rattle.gb_meaning.specs.Names.{Name}
 use Rattle.gb_meaning.specs.Values.{World}
-use Rattle.gb_meaning.specs.Setting.{Meaning, Setting}
+use Rattle.gb_meaning.specs.Setting.{Setting}
 use Rattle.gb_meaning.specs.Commands.{statements}
 use Rattle.gb_meaning.specs.Sound.{IsSound}
 use Rattle.gb_meaning.specs.Judgments.{IsSoundIfThere}

@@ -1,5 +1,5 @@
 -- The rule `rnd` keeps goals typed.
-use Rattle.std.proofs.Common.{◌≡◌, List, [], ◌∷◌, Option, Some, None, refl, sym, subst}
+use Rattle.std.proofs.Common.{◌≡◌, List, Option, Some, None, refl, sym, subst}
 use Rattle.std.specs.Option.{option_and_then, option_map, option_zip}
 use Rattle.std.specs.List.{AllByRecursion}
 use Rattle.gb_terms.specs.declared.decl.TypedName.{TypedName}
