@@ -1,1 +1,6 @@
 pub mod Answers
+pub mod Types
+pub mod Environment
+pub mod Names
+pub mod Judgments
+pub mod Forms

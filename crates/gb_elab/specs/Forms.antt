@@ -1,0 +1,221 @@
+-- The typing of forms: from left to right, with a type that is wanted, or none.
+use Rattle.std.specs.Prelude.{ℕ, ◌==◌, Bool, true, false, not, ◌&&◌, if◌then◌else◌, List, [], ◌∷◌, ◌++◌, map, flat_map, length, reverse, Option, Some, None, is_none}
+use Rattle.gb_core.specs.declared.place.Place.{Place}
+use Rattle.gb_core.specs.declared.refusal.Why.TheVariants.{TypeMismatch, Argument}
+use Rattle.gb_core.specs.declared.ty.Ty.{Ty, out-Ty}
+use Rattle.gb_core.specs.declared.ty.Ty.TheVariants.{Bool as bool_ty, Distr}
+use Rattle.gb_core.specs.declared.ty.Ty.TheOpen as ty_layer
+use Rattle.gb_same.specs.Types.{ty_eq}
+use Rattle.gb_terms.specs.declared.decl.TypedName.{TypedName}
+use Rattle.gb_terms.specs.declared.op.Op.{Op}
+use Rattle.gb_terms.specs.declared.op.Op.TheVariants as op
+use Rattle.gb_terms.specs.declared.op.Side.TheVariants as side
+use Rattle.gb_terms.specs.declared.term.Term.{Term}
+use Rattle.gb_terms.specs.declared.term.Head.TheVariants.{Builtin, All, Some as Any}
+use Rattle.gb_terms.specs.Make.{node, applied, truth_literal}
+use Rattle.gb_tree.specs.declared.form.Binder.{Binder}
+use Rattle.gb_tree.specs.declared.form.Connective.{Connective}
+use Rattle.gb_tree.specs.declared.form.Connective.TheVariants as connective
+use Rattle.gb_tree.specs.declared.form.FormShape.{FormShape, out-FormShape}
+use Rattle.gb_tree.specs.declared.form.FormShape.TheOpen as layer
+use Rattle.gb_tree.specs.declared.form.FormShape.TheFolds.{para-FormTree}
+use Rattle.gb_tree.specs.declared.form.FormTree.{FormTree}
+use Rattle.gb_tree.specs.declared.form.Quantifier.{Quantifier}
+use Rattle.gb_tree.specs.declared.form.Quantifier.TheVariants.{Forall, Exists}
+use Rattle.gb_tree.specs.declared.form.SideTree.{SideTree}
+use Rattle.gb_tree.specs.declared.form.SideTree.TheVariants as text
+use Rattle.gb_tree.specs.declared.form.TypeTree.{TypeTree}
+use Rattle.gb_tree.specs.declared.form.Word.{Word}
+use Rattle.gb_elab.specs.declared.setting.Language.{Language}
+use Rattle.gb_elab.specs.declared.setting.Language.TheVariants.{Formula, Program}
+use Rattle.gb_elab.specs.Answers.{Answer, ◌>>=◌, type_of_term, wanted, truth}
+use Rattle.gb_elab.specs.Answers.Answer.{given, refused}
+use Rattle.gb_elab.specs.Environment.{Environment, on_side}
+use Rattle.gb_elab.specs.Judgments.{named_procedure, before, after, equivalent}
+use Rattle.gb_elab.specs.Names.{unit, named, sided, in_memory}
+use Rattle.gb_elab.specs.Types.{type_of}
+
+-- what a form means, in an environment, under bound names, the innermost first, and with a wanted type, or none
+abbrev pub Typing : Type 0
+Typing = Environment → List TypedName → Option Ty → Answer Term
+
+-- names of one type
+abbrev pub of_type : List Word → Ty → List TypedName
+of_type xs t = map (λ x. record { name = x.name; ty = t }) xs
+
+-- the names of binders, in the order of the text
+abbrev pub bound_by : List Binder → List TypedName
+bound_by bs = flat_map (λ b. of_type b.names (type_of b.ty)) bs
+
+abbrev pub over : Quantifier → Ty → Term → Term
+over Forall t f = node (All t) (f ∷ []) bool_ty
+over Exists t f = node (Any t) (f ∷ []) bool_ty
+
+-- quantifiers over these variables, the first one outermost
+abbrev pub over_all : Quantifier → List TypedName → Term → Term
+over_all q [] f = f
+over_all q (v ∷ vs) f = over q v.ty (over_all q vs f)
+
+abbrev pub is_distribution_layer : ty_layer.Ty-F Ty → Bool
+is_distribution_layer (ty_layer.Distr t) = true
+is_distribution_layer _ = false
+
+abbrev pub is_distribution : Ty → Bool
+is_distribution t = is_distribution_layer (out-Ty t)
+
+abbrev pub wants_distribution : Option Ty → Bool
+wants_distribution None = false
+wants_distribution (Some t) = is_distribution t
+
+abbrev pub is_program : Language → Bool
+is_program Formula = false
+is_program Program = true
+
+-- a truth that no program expression is
+abbrev pub formula : Environment → Option Ty → Place → Answer (Unit {0})
+formula at w p = if is_program at.language then refused Argument p else truth w p
+
+-- the fair coin, which a program has where it samples
+unfoldable pub coin : Environment → Option Ty → Place → Answer Term
+coin at w p =
+    if is_program at.language && not (wants_distribution w) then refused Argument p
+    else wanted w p (node (Builtin op.Coin) [] (Distr bool_ty))
+
+-- a name in a named memory; a program expression has none
+abbrev pub remembered : Language → Environment → List ℕ → Word → Place → Answer Term
+remembered Program at x m p = refused Argument p
+remembered Formula at x m p = in_memory at x m p
+
+-- a form with a side, which is of a name alone
+abbrev pub read : Environment → List TypedName → layer.FormShape-F FormShape FormTree → Place → SideTree → Answer Term
+read at bound (layer.Path x) p text.Left = sided at bound x side.Left p
+read at bound (layer.Path x) p text.Right = sided at bound x side.Right p
+read at bound (layer.Path x) p (text.Memory m) = remembered at.language at x m p
+read at bound _ p s = refused Argument p
+
+abbrev pub operator : Connective → Op
+operator connective.And = op.And
+operator connective.Or = op.Or
+operator connective.Implies = op.Implies
+operator connective.Iff = op.Iff
+operator connective.Equal = op.Equal
+operator connective.NotEqual = op.NotEqual
+
+-- the sides of an equation are of any one type, those of another operator are truths
+abbrev pub is_equation : Connective → Bool
+is_equation connective.Equal = true
+is_equation connective.NotEqual = true
+is_equation _ = false
+
+-- distributions have no equation
+abbrev pub comparable : Place → Term → Answer Term
+comparable p t = if is_distribution (type_of_term t) then refused TypeMismatch p else given t
+
+-- the left side of an operator
+abbrev pub left_side : Connective → Place → (Option Ty → Answer Term) → Answer Term
+left_side c p a = if is_equation c then a None >>= comparable p else a (Some bool_ty)
+
+abbrev pub negated : (Option Ty → Answer Term) → Answer Term
+negated a = do
+  t ← a (Some bool_ty)
+  given (applied op.Not (t ∷ []) bool_ty)
+
+-- an operator at its left side and a right one of the same type
+abbrev pub with_right_side : Connective → Term → (Option Ty → Answer Term) → Answer Term
+with_right_side c l b = do
+  r ← b (Some (type_of_term l))
+  given (applied (operator c) (l ∷ r ∷ []) bool_ty)
+
+-- a quantified form, in whose body the variables are bound
+abbrev pub quantified : Quantifier → List Binder → List TypedName → (List TypedName → Option Ty → Answer Term) → Answer Term
+quantified q bs bound a = do
+  t ← a (reverse (bound_by bs) ++ bound) (Some bool_ty)
+  given (over_all q (bound_by bs) t)
+
+-- the equality of a variable of two programs
+unfoldable pub equality : Environment → List TypedName → Word → Answer Term
+equality at bound x = do
+  l ← sided at bound x.name side.Left x.place
+  r ← sided at bound x.name side.Right x.place
+  if ty_eq (type_of_term r) (type_of_term l) then given (applied op.Equal (l ∷ r ∷ []) bool_ty) else refused TypeMismatch x.place
+
+-- a form and, to its right, the equalities of further variables
+unfoldable pub with_equalities : Environment → List TypedName → Term → List Word → Answer Term
+with_equalities at bound f [] = given f
+with_equalities at bound f (x ∷ xs) = do
+  e ← equality at bound x
+  with_equalities at bound (applied op.And (f ∷ e ∷ []) bool_ty) xs
+
+-- the equalities of variables, joined to the left
+unfoldable pub joined : Environment → List TypedName → List Word → Answer Term
+joined at bound [] = given (truth_literal true)
+joined at bound (x ∷ xs) = do
+  e ← equality at bound x
+  with_equalities at bound e xs
+
+-- the equalities of variables of two programs
+unfoldable pub equalities : Environment → List TypedName → List Word → Place → Answer Term
+equalities at bound xs p = if is_none (on_side at side.Left) then refused Argument p else joined at bound xs
+
+-- a form's parts, each with its tree and its typing
+abbrev pub Layer : Type 0
+Layer = layer.FormShape-F (FormShape × (Place → Typing)) (FormTree × Typing)
+
+-- The typing of each form from that of its parts, at its place. Where a form has a type by its shape alone, that is
+-- tested before its parts.
+unfoldable pub typing : Layer → Place → Typing
+typing (layer.Path x) p at bound w = do
+  t ← named at bound x p
+  wanted w p t
+typing layer.Unit p at bound w = wanted w p unit
+typing (layer.Bracketed a) p at bound w = a.1 at bound w
+typing (layer.Sided a s) p at bound w = do
+  t ← read at bound (out-FormShape a.0.shape) a.0.place s
+  wanted w p t
+typing layer.Coin p at bound w = coin at w p
+typing (layer.Function xs ty a) p at bound w = refused TypeMismatch p
+typing (layer.Not a) p at bound w = do
+  _ ← truth w p
+  negated (a.1 at bound)
+typing (layer.Binary c a b) p at bound w = do
+  _ ← truth w p
+  l ← left_side c p (a.1 at bound)
+  with_right_side c l (b.1 at bound)
+typing (layer.Equalities xs) p at bound w = do
+  _ ← truth w p
+  equalities at bound xs p
+typing (layer.Quantified q bs a) p at bound w = do
+  _ ← formula at w p
+  quantified q bs bound (a.1 at)
+typing (layer.Equiv f g a b) p at bound w = do
+  _ ← formula at w p
+  left ← named_procedure at bound f
+  right ← named_procedure at bound g
+  pre ← a.1 (before at left right) bound (Some bool_ty)
+  post ← b.1 (after at left right) bound (Some bool_ty)
+  given (equivalent f g pre post)
+
+-- the typed tree of a form, or its refusal
+unfoldable pub elaborated : FormTree → Typing
+elaborated = para-FormTree (Place → Typing) Typing typing (λ t. t.shape.1 t.place)
+
+-- the type that the text gives a variable is the one that it has
+abbrev pub written_as : Option TypeTree → Ty → Answer (Unit {0})
+written_as None t = given tt
+written_as (Some s) t = if ty_eq (type_of s) t then given tt else refused TypeMismatch s.place
+
+-- what a function means, in an environment, from a type to a type
+abbrev pub FunctionTyping : Type 0
+FunctionTyping = Environment → Ty → Ty → Answer Term
+
+-- a function of one variable, which is the innermost bound one of its value; brackets may stand round it
+unfoldable pub function_typing : layer.FormShape-F (FormShape × (Place → FunctionTyping)) (FormTree × FunctionTyping) → Place → FunctionTyping
+function_typing (layer.Bracketed a) p at from to = a.1 at from to
+function_typing (layer.Function xs ty a) p at from to =
+    if length xs == 1 then (written_as ty from >>= λ _. elaborated a.0 at (of_type xs from) (Some to))
+    else refused TypeMismatch p
+function_typing _ p at from to = refused TypeMismatch p
+
+-- the typed tree of a function, or its refusal
+unfoldable pub function : FormTree → FunctionTyping
+function = para-FormTree (Place → FunctionTyping) FunctionTyping function_typing (λ t. t.shape.1 t.place)

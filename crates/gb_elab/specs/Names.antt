@@ -1,0 +1,122 @@
+-- What a name means where it stands.
+use Rattle.std.specs.Prelude.{ℕ, zero, suc, Bool, true, false, ◌||◌, if◌then◌else◌, List, [], ◌∷◌, Option, Some, None, is_some, find, codes, bytes_eq}
+use Rattle.std.specs.Option.{option_map, option_map_or}
+use Rattle.std.specs.List.{list_any}
+use Rattle.gb_core.specs.declared.place.Place.{Place}
+use Rattle.gb_core.specs.declared.refusal.Why.{Why}
+use Rattle.gb_core.specs.declared.refusal.Why.TheVariants.{UnknownName, Argument}
+use Rattle.gb_core.specs.declared.ty.Ty.{Ty}
+use Rattle.gb_core.specs.declared.ty.Ty.TheVariants.{Unit as unit_ty}
+use Rattle.gb_core.specs.declared.value.Value.TheVariants.{Num}
+use Rattle.gb_core.specs.declared.var.Var.TheVariants.{Local}
+use Rattle.gb_terms.specs.declared.decl.TypedName.{TypedName}
+use Rattle.gb_terms.specs.declared.op.Side.{Side}
+use Rattle.gb_terms.specs.declared.op.Side.TheVariants as side
+use Rattle.gb_terms.specs.declared.op.Read.TheVariants as read
+use Rattle.gb_terms.specs.declared.term.Term.{Term}
+use Rattle.gb_terms.specs.declared.term.Head.TheVariants.{Lit, Read, Bound}
+use Rattle.gb_terms.specs.Make.{node, truth_literal}
+use Rattle.gb_goal.specs.declared.sequent.Sequent.{Sequent}
+use Rattle.gb_goal.specs.Scope.{entry_of}
+use Rattle.gb_tree.specs.declared.form.Word.{Word}
+use Rattle.gb_elab.specs.declared.names.Constant.{Constant}
+use Rattle.gb_elab.specs.declared.names.Constant.TheVariants as constant
+use Rattle.gb_elab.specs.Answers.{Answer, ◌>>=◌, given_or, counted}
+use Rattle.gb_elab.specs.Answers.Answer.{given, refused}
+use Rattle.gb_elab.specs.Environment.{Name, Environment, own, on_side}
+
+-- the first thing of this name
+abbrev pub first_named : List TypedName → Name → Option TypedName
+first_named vs x = find (λ v. bytes_eq v.name x) vs
+
+-- how many things stand before the first of this name
+abbrev pub number_before : List TypedName → Name → ℕ
+number_before [] x = 0
+number_before (v ∷ vs) x = if bytes_eq v.name x then 0 else suc (number_before vs x)
+
+-- the one value of `unit`
+abbrev pub unit : Term
+unit = node (Lit (Num 0)) [] unit_ty
+
+-- the built-in constant of a name
+abbrev pub built_in : Name → Option Constant
+built_in x =
+    if bytes_eq x (codes "true") then Some constant.True
+    else if bytes_eq x (codes "false") then Some constant.False
+    else if bytes_eq x (codes "tt") then Some constant.Unit else None
+
+abbrev pub constant_term : Constant → Term
+constant_term constant.True = truth_literal true
+constant_term constant.False = truth_literal false
+constant_term constant.Unit = unit
+
+-- a variable that is bound below so many other binders
+abbrev pub bound_variable : ℕ → TypedName → Answer Term
+bound_variable n v = do
+  i ← counted n
+  given (node (Bound i) [] v.ty)
+
+-- the logical variable at this place of the context
+abbrev pub logical_variable : ℕ → TypedName → Answer Term
+logical_variable n v = do
+  i ← counted n
+  given (node (Read (read.Logical i)) [] v.ty)
+
+-- a read of a program variable through a memory
+abbrev pub program_variable : Side → TypedName → Term
+program_variable s v = node (Read (read.Program (Local v.name) s)) [] v.ty
+
+-- a memory, an abstract module or a hypothesis of the context has this name
+abbrev pub names_no_value : Sequent → Name → Bool
+names_no_value s x =
+    list_any (λ m. bytes_eq m x) s.memories
+    || list_any (λ m. bytes_eq m.name x) s.modules
+    || list_any (λ h. bytes_eq h.name x) s.hyps
+
+-- a thing that is no variable has this name
+abbrev pub names_other : Environment → Name → Bool
+names_other at x = names_no_value at.sequent x || is_some (entry_of at.declared x)
+
+-- a name that no variable has: a built-in constant where nothing else has the name
+unfoldable pub unbound : Environment → Name → Place → Answer Term
+unbound at x p =
+    if names_other at x then refused Argument p else given_or (option_map constant_term (built_in x)) (UnknownName x) p
+
+-- A name without a side is that of a variable that is bound in the form, the innermost first, of a variable of the
+-- program around, of a logical variable of the context, or of a built-in constant.
+unfoldable pub named : Environment → List TypedName → Name → Place → Answer Term
+named at bound x p =
+    option_map_or (bound_variable (number_before bound x))
+    (first_named bound x)
+    (option_map_or (λ v. given (program_variable side.Own v))
+    (first_named (own at) x)
+    (option_map_or (logical_variable (number_before at.sequent.logical x)) (first_named at.sequent.logical x) (unbound at x p)))
+
+-- a logical variable, bound in the form or of the context, has this name
+abbrev pub is_variable : Environment → List TypedName → Name → Bool
+is_variable at bound x = is_some (first_named bound x) || is_some (first_named at.sequent.logical x)
+
+-- why a name means no variable of a program: another thing has it, or nothing
+abbrev pub no_variable : Environment → Name → Why
+no_variable at x =
+    if is_some (first_named at.sequent.logical x) || names_other at x || is_some (built_in x) then Argument else UnknownName x
+
+-- the variable of the program around that has this name
+abbrev pub own_variable : Environment → Word → Answer TypedName
+own_variable at x = given_or (first_named (own at) x.name) (no_variable at x.name) x.place
+
+-- a variable of one of two programs; a bound one has no side
+abbrev pub variable_on : Environment → List TypedName → Name → Side → Place → List TypedName → Answer Term
+variable_on at bound x s p vs =
+    if is_some (first_named bound x) then refused Argument p
+    else given_or (option_map (program_variable s) (first_named vs x)) (no_variable at x) p
+
+-- a name with a side
+unfoldable pub sided : Environment → List TypedName → Name → Side → Place → Answer Term
+sided at bound x s p = option_map_or (variable_on at bound x s p) (on_side at s) (refused Argument p)
+
+-- a name in a named memory: a variable of none is in a goal
+unfoldable pub in_memory : Environment → Name → Word → Place → Answer Term
+in_memory at x m p =
+    if list_any (λ n. bytes_eq n m.name) at.sequent.memories then refused (no_variable at x) p
+    else refused (UnknownName m.name) m.place

@@ -1,0 +1,98 @@
+-- The typing of proof steps.
+use Rattle.std.specs.Prelude.{◌-◌, List, [], ◌∷◌, length, slice_get, Option, Some, None}
+use Rattle.std.specs.Option.{option_and_then, option_map_or, option_zip}
+use Rattle.gb_core.specs.declared.ty.Ty.{Ty, out-Ty}
+use Rattle.gb_core.specs.declared.ty.Ty.TheOpen as ty_layer
+use Rattle.gb_terms.specs.declared.op.Side.TheVariants as side
+use Rattle.gb_terms.specs.declared.term.Term.{Term, out-Term}
+use Rattle.gb_terms.specs.declared.term.Head.{Head}
+use Rattle.gb_terms.specs.declared.term.Head.TheVariants.{Equiv, Sample}
+use Rattle.gb_terms.specs.declared.term.Head.TheOpen as layer
+use Rattle.gb_terms.specs.declared.term.Subject.{Subject, out-Subject}
+use Rattle.gb_terms.specs.declared.term.Instr.{Instr}
+use Rattle.gb_terms.specs.declared.term.Cmd.{Cmd}
+use Rattle.gb_goal.specs.declared.sequent.Sequent.{Sequent}
+use Rattle.gb_goal.specs.declared.step.Rule.{Rule}
+use Rattle.gb_goal.specs.declared.step.Rule.TheVariants as rule
+use Rattle.gb_goal.specs.declared.step.Step.{Step}
+use Rattle.gb_goal.specs.Scope.{Declarations}
+use Rattle.gb_tree.specs.declared.form.FormTree.{FormTree}
+use Rattle.gb_tree.specs.declared.step.RuleTree.{RuleTree}
+use Rattle.gb_tree.specs.declared.step.RuleTree.TheVariants as text
+use Rattle.gb_tree.specs.declared.step.StepTree.{StepTree}
+use Rattle.gb_elab.specs.Answers.{Answer, ◌>>=◌}
+use Rattle.gb_elab.specs.Answers.Answer.{given}
+use Rattle.gb_elab.specs.Environment.{Environment, relational}
+use Rattle.gb_elab.specs.Forms.{function}
+use Rattle.gb_elab_mod.specs.Occurring.{occurring}
+
+abbrev pub of_subjects : layer.Subject-F Head Instr Subject Cmd Term → layer.Subject-F Head Instr Subject Cmd Term → Option (Cmd × Cmd)
+of_subjects (layer.Body c) (layer.Body d) = Some (c, d)
+of_subjects _ _ = None
+
+abbrev pub of_head : Head → Option (Cmd × Cmd)
+of_head (Equiv s t) = of_subjects (out-Subject s) (out-Subject t)
+of_head _ = None
+
+-- the bodies of an equivalence of two bodies
+abbrev pub bodies : Term → Option (Cmd × Cmd)
+bodies f = of_head (out-Term f).head
+
+abbrev pub outcomes : ty_layer.Ty-F Ty → Option Ty
+outcomes (ty_layer.Distr t) = Some t
+outcomes _ = None
+
+abbrev pub sampled : Option Instr → Option Ty
+sampled (Some (Sample x d)) = outcomes (out-Ty (out-Term d).ty)
+sampled _ = None
+
+-- the type of the variable that a body's last statement samples
+abbrev pub last_sampled : Cmd → Option Ty
+last_sampled c = sampled (slice_get c.list (length c.list - 1))
+
+-- functions from a type to a type
+abbrev pub functions : Environment → List FormTree → Ty → Ty → Answer (List Term)
+functions at [] from to = given []
+functions at (f ∷ fs) from to = do
+  t ← function f at from to
+  ts ← functions at fs from to
+  given (t ∷ ts)
+
+-- functions between two types: the first leads there, the others back
+unfoldable pub there_and_back : Environment → List FormTree → Ty → Ty → Answer (List Term)
+there_and_back at [] from to = given []
+there_and_back at (f ∷ fs) from to = do
+  t ← function f at from to
+  ts ← functions at fs to from
+  given (t ∷ ts)
+
+-- the functions of two bodies whose last samplings are of these types; they read the locals that occur in the goal
+abbrev pub between : Declarations → Sequent → List FormTree → Cmd × Cmd → Ty × Ty → Answer (List Term)
+between ds g fs c t =
+    there_and_back
+    (relational ds g (occurring (out-Term g.conclusion).args side.Left c.0) (occurring (out-Term g.conclusion).args side.Right c.1))
+    fs
+    t.0
+    t.1
+
+abbrev pub of_bodies : Declarations → Sequent → List FormTree → Cmd × Cmd → Answer (List Term)
+of_bodies ds g fs c = option_map_or (between ds g fs c) (option_zip (last_sampled c.0) (last_sampled c.1)) (given [])
+
+-- The typed functions of `rnd`. Where the goal gives them no types they are left out, and the rule refuses the goal.
+unfoldable pub couplings : Declarations → Sequent → List FormTree → Answer (List Term)
+couplings ds g fs = option_map_or (of_bodies ds g fs) (bodies g.conclusion) (given [])
+
+abbrev pub typed_rule : Declarations → Sequent → RuleTree → Answer Rule
+typed_rule ds g text.Proc = given rule.Proc
+typed_rule ds g (text.Rnd fs) = do
+  ts ← couplings ds g fs
+  given (rule.Rnd ts)
+typed_rule ds g text.Skip = given rule.Skip
+typed_rule ds g text.Smt = given rule.Smt
+typed_rule ds g text.Split = given rule.Split
+
+-- a proof step with its arguments typed
+unfoldable pub step_given : Declarations → Sequent → StepTree → Answer Step
+step_given ds g t = do
+  r ← typed_rule ds g t.rule
+  given (record { rule = r; place = t.place })

@@ -1,0 +1,4 @@
+//! Equality as a test that definitions choose by.
+#![tactic(auto)]
+
+pub mod types;
