@@ -1,0 +1,114 @@
+-- What each command comes to: the next session, or its first refusal.
+use Rattle.std.specs.Prelude.{◌≡◌, ◌==◌, ℕ, Bool, true, false, List, [], ◌∷◌, ◌++◌, length, Option, Some, None, if◌then◌else◌}
+use Rattle.gb_core.specs.declared.place.Place.{Place}
+use Rattle.gb_core.specs.declared.refusal.Why.{Why}
+use Rattle.gb_core.specs.declared.refusal.Why.TheVariants.{NoGoal, OpenGoals, Shape, TooMany}
+use Rattle.gb_goal.specs.Scope.{Declarations}
+use Rattle.gb_goal.specs.declared.sequent.Sequent.{Sequent}
+use Rattle.gb_goal.specs.declared.step.Step.{Step}
+use Rattle.gb_goal.specs.declared.step.Rule.{Rule}
+use Rattle.gb_goal.specs.declared.step.Rule.TheVariants as rule
+use Rattle.gb_tree.specs.declared.command.Command.{Command}
+use Rattle.gb_tree.specs.declared.command.CommandShape.{CommandShape}
+use Rattle.gb_tree.specs.declared.command.CommandShape.TheVariants as command
+use Rattle.gb_tree.specs.declared.command.LemmaTree.{LemmaTree}
+use Rattle.gb_tree.specs.declared.program.ModuleTree.{ModuleTree}
+use Rattle.gb_tree.specs.declared.step.StepTree.{StepTree}
+use Rattle.gb_elab.specs.Answers.{Answer, ◌>>=◌, given_or}
+use Rattle.gb_elab.specs.Answers.Answer.{given, refused}
+use Rattle.gb_elab_mod.specs.Modules.{module_given}
+use Rattle.gb_elab_mod.specs.Lemmas.{statement_given}
+use Rattle.gb_elab_mod.specs.Steps.{step_given}
+use Rattle.gb_equiv.specs.Rows.{subgoals}
+use Rattle.gb_smt.specs.Leaves.{leaves_of}
+use Rattle.gb_smt.specs.Apply.{IsAnswerOf}
+use Rattle.gb_verdict.specs.Limits.{declaration_limit, each_limit, all_limit}
+use Rattle.gb_verdict.specs.Session.{Session, OpenProof, with_module, with_lemma, with_goals, with_proved}
+
+-- an answer that goes on from this one; a refusal stands
+abbrev pub After : {X Y : Type 0} → Answer X → (X → Answer Y → Type 0) → Answer Y → Type 0
+After (given x) P r = P x r
+After (refused why place) P r = r ≡ refused why place
+
+-- no limit is passed
+abbrev pub within : Option ℕ → Place → Answer (Unit {0})
+within None place = given tt
+within (Some limit) place = refused (TooMany limit) place
+
+-- declarations stand outside proofs
+abbrev pub outside : Option OpenProof → Place → Answer (Unit {0})
+outside None place = given tt
+outside (Some p) place = refused NoGoal place
+
+-- a module is declared
+abbrev pub declares : Session → ModuleTree → Place → Answer Session
+declares s t place = do
+  _ ← outside s.proof place
+  m ← module_given s.scope t
+  _ ← within (declaration_limit (length s.scope)) place
+  given (with_module s m)
+
+-- a lemma opens its proof
+abbrev pub opens : Session → LemmaTree → Place → Answer Session
+opens s t place = do
+  _ ← outside s.proof place
+  q ← statement_given s.scope t
+  _ ← within (declaration_limit (length s.scope)) place
+  _ ← within (each_limit (q ∷ [])) place
+  given (with_lemma s t.name.name q)
+
+-- `proof` follows its lemma at once
+abbrev pub begun : Session → OpenProof → Place → Answer Session
+begun s p place = if p.fresh then given (with_goals s p p.goals) else refused NoGoal place
+
+-- `qed` stands where no goal is left
+abbrev pub ended : List Sequent → Session → OpenProof → Place → Answer Session
+ended [] s p place = given (with_proved s p)
+ended (q ∷ qs) s p place = refused (OpenGoals (length (q ∷ qs))) place
+
+-- `smt` closes the goal, or refuses it
+abbrev pub closed_unless : Option Why → Place → Answer (List Sequent)
+closed_unless None place = given []
+closed_unless (Some why) place = refused why place
+
+-- What a rule gives for a goal: its subgoals, or why it refuses the goal. What `smt` finds has one answer.
+abbrev pub Applied : Declarations → Rule → Place → Sequent → Answer (List Sequent) → Type 0
+Applied ds rule.Smt place q x = (found : Option Why) × IsAnswerOf (leaves_of q) found × (x ≡ closed_unless found place)
+Applied ds r place q x = x ≡ given_or (subgoals ds r q) Shape place
+
+-- the subgoals of a step stand in front of the other goals
+abbrev pub continued : Session → OpenProof → List Sequent → Place → List Sequent → Answer Session
+continued s p rest place qs = do
+  _ ← within (each_limit qs) place
+  _ ← within (all_limit (qs ++ rest)) place
+  given (with_goals s p (qs ++ rest))
+
+-- a typed step works on the first goal
+abbrev pub Works : Session → OpenProof → Sequent → List Sequent → Step → Answer Session → Type 0
+Works s p q rest step r =
+    (x : Answer (List Sequent)) × Applied s.scope step.rule step.place q x × (r ≡ (x >>= continued s p rest step.place))
+
+abbrev pub WorksOn : List Sequent → Session → OpenProof → StepTree → Answer Session → Type 0
+WorksOn [] s p t r = r ≡ refused NoGoal t.place
+WorksOn (q ∷ rest) s p t r = After (step_given s.scope q t) (Works s p q rest) r
+
+-- an open proof is asked for
+abbrev pub InProof : Option OpenProof → Place → (OpenProof → Answer Session → Type 0) → Answer Session → Type 0
+InProof None place P r = r ≡ refused NoGoal place
+InProof (Some p) place P r = P p r
+
+abbrev pub ComesToOf : Session → CommandShape → Place → Answer Session → Type 0
+ComesToOf s (command.Module t) place r = r ≡ declares s t place
+ComesToOf s (command.Lemma t) place r = r ≡ opens s t place
+ComesToOf s command.Proof place r = InProof s.proof place (λ p x. x ≡ begun s p place) r
+ComesToOf s command.Qed place r = InProof s.proof place (λ p x. x ≡ ended p.goals s p place) r
+ComesToOf s (command.Step t) place r = InProof s.proof t.place (λ p. WorksOn p.goals s p t) r
+
+-- a refusal without a place of its own stands at the command's first word
+abbrev pub at_command : {X : Type 0} → Place → Answer X → Answer X
+at_command place (given x) = given x
+at_command place (refused why at) = refused why (if at.line == 0 then place else at)
+
+-- what a command comes to: the next session, or its first refusal
+abbrev pub ComesTo : Session → Command → Answer Session → Type 0
+ComesTo s c r = (x : Answer Session) × ComesToOf s c.shape c.place x × (r ≡ at_command c.place x)

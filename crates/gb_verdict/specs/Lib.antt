@@ -1,0 +1,4 @@
+pub mod Limits
+pub mod Session
+pub mod Commands
+pub mod Verdict
