@@ -1,1 +1,4 @@
-pub mod Wanted
+pub mod Elaborated
+pub mod Arms
+pub mod Functions
+pub mod OfWantedType

@@ -11,7 +11,7 @@ use Rattle.gb_terms.specs.declared.op.Op.{Op}
 use Rattle.gb_terms.specs.declared.op.Op.TheVariants as op
 use Rattle.gb_terms.specs.declared.op.Side.TheVariants as side
 use Rattle.gb_terms.specs.declared.term.Term.{Term}
-use Rattle.gb_terms.specs.declared.term.Head.TheVariants.{Builtin, All, Some as Any}
+use Rattle.gb_terms.specs.declared.term.Head.TheVariants.{Builtin, All, Some as Exist}
 use Rattle.gb_terms.specs.Make.{node, applied, truth_literal}
 use Rattle.gb_tree.specs.declared.form.Binder.{Binder}
 use Rattle.gb_tree.specs.declared.form.Connective.{Connective}
@@ -20,6 +20,7 @@ use Rattle.gb_tree.specs.declared.form.FormShape.{FormShape, out-FormShape}
 use Rattle.gb_tree.specs.declared.form.FormShape.TheOpen as layer
 use Rattle.gb_tree.specs.declared.form.FormShape.TheFolds.{para-FormTree}
 use Rattle.gb_tree.specs.declared.form.FormTree.{FormTree}
+use Rattle.gb_tree.specs.declared.form.ProcPath.{ProcPath}
 use Rattle.gb_tree.specs.declared.form.Quantifier.{Quantifier}
 use Rattle.gb_tree.specs.declared.form.Quantifier.TheVariants.{Forall, Exists}
 use Rattle.gb_tree.specs.declared.form.SideTree.{SideTree}
@@ -49,7 +50,7 @@ bound_by bs = flat_map (λ b. of_type b.names (type_of b.ty)) bs
 
 abbrev pub over : Quantifier → Ty → Term → Term
 over Forall t f = node (All t) (f ∷ []) bool_ty
-over Exists t f = node (Any t) (f ∷ []) bool_ty
+over Exists t f = node (Exist t) (f ∷ []) bool_ty
 
 -- quantifiers over these variables, the first one outermost
 abbrev pub over_all : Quantifier → List TypedName → Term → Term
@@ -157,6 +158,15 @@ joined at bound (x ∷ xs) = do
 unfoldable pub equalities : Environment → List TypedName → List Word → Place → Answer Term
 equalities at bound xs p = if is_none (on_side at side.Left) then refused Argument p else joined at bound xs
 
+-- an equivalence of two procedures: its precondition reads their parameters, its postcondition their results
+abbrev pub judged : Environment → List TypedName → ProcPath → ProcPath → Typing → Typing → Answer Term
+judged at bound f g a b = do
+  left ← named_procedure at bound f
+  right ← named_procedure at bound g
+  pre ← a (before at left right) bound (Some bool_ty)
+  post ← b (after at left right) bound (Some bool_ty)
+  given (equivalent f g pre post)
+
 -- a form's parts, each with its tree and its typing
 abbrev pub Layer : Type 0
 Layer = layer.FormShape-F (FormShape × (Place → Typing)) (FormTree × Typing)
@@ -189,11 +199,7 @@ typing (layer.Quantified q bs a) p at bound w = do
   quantified q bs bound (a.1 at)
 typing (layer.Equiv f g a b) p at bound w = do
   _ ← formula at w p
-  left ← named_procedure at bound f
-  right ← named_procedure at bound g
-  pre ← a.1 (before at left right) bound (Some bool_ty)
-  post ← b.1 (after at left right) bound (Some bool_ty)
-  given (equivalent f g pre post)
+  judged at bound f g a.1 b.1
 
 -- the typed tree of a form, or its refusal
 unfoldable pub elaborated : FormTree → Typing

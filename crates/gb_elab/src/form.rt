@@ -1,32 +1,35 @@
 // Typing of forms, from left to right.
 
-ghost use Rattle.std.specs.Prelude.{◌≡◌, ◌↔◌, IsTrue, IfOk, IfErr, MatchResult, Some, None, reverse};
+ghost use Rattle.std.specs.Prelude.{◌≡◌, [], Some};
 ghost use Rattle.std.specs.Option.{option_copied};
-ghost use Rattle.gb_elab.specs.Answers.{IsTypingRefusal, IsWanted, Types, type_of_term};
+ghost use Rattle.gb_tree.specs.declared.form.FormShape.{out-FormShape};
+ghost use Rattle.gb_elab.specs.Answers.{Answers, truth};
+ghost use Rattle.gb_elab.specs.Environment.{ambient, environment};
+ghost use Rattle.gb_elab.specs.Forms.{coin, elaborated, equalities, equality, formula, function, is_equation, left_side, negated, operator, quantified, read, remembered, wants_distribution, with_equalities, with_right_side, written_as};
+ghost use Rattle.gb_elab.specs.Judgments.{after, before};
 
+use crate::binders::{innermost_first, of_type, over_all, within};
 use crate::judgment::{equiv, named_procedure, parameters, results};
 use crate::names::{in_memory, named, sided, unit};
 use crate::refusals::{argument, mismatch};
 use crate::setting::{Language, Setting};
 use crate::types::{fits, type_of, wanted};
-use gb_core::copy::copy_ty;
 use gb_core::name::Name;
 use gb_core::place::Place;
 use gb_core::refusal::Refused;
-use gb_core::same::same_ty;
 use gb_core::ty::Ty;
 use gb_goal::scope::Scope;
 use gb_goal::sequent::Sequent;
-use gb_terms::copy::copy_typed;
-use gb_terms::decl::{Proc, Typed, TypedName};
+use gb_same::types::same_types;
+use gb_terms::decl::{Proc, TypedName};
 use gb_terms::make;
 use gb_terms::op::{Op, Side};
 use gb_terms::term::{Form, Head, Term};
 use gb_tree::form::{
     Binder, Connective, FormShape, FormTree, Quantifier, SideTree, TypeTree, Word,
 };
-use sqlite_items::{Boxed, Items};
-use std::alloc::{AllocError, Global};
+use sqlite_items::Boxed;
+use std::alloc::Global;
 
 /// The typed tree of a form that reads no program variable, in the context of a sequent.
 ///
@@ -40,7 +43,7 @@ pub fn term(
     t: &FormTree,
     want: Option<&Ty>,
 ) -> Result<Term, Refused>
-    ensures { Types (option_copied want.entry) result }
+    ensures { Answers (elaborated t.now (ambient scope.now s.now) [] (option_copied want.entry)) result }
 {
     typed(alloc, &Setting::ambient(scope, s), &[], t, want)
 }
@@ -53,7 +56,6 @@ pub fn term(
 ///
 /// `UnknownName`, `Argument` of a part that may not stand there, `TypeMismatch`, and `TooMany` of binders.
 #[cycle(form)]
-#[tactic(auto, using(crate::proofs::Wanted::as_wanted))]
 pub fn typed(
     alloc: Global,
     at: &Setting<'_>,
@@ -61,7 +63,7 @@ pub fn typed(
     t: &FormTree,
     want: Option<&Ty>,
 ) -> Result<Term, Refused>
-    ensures { Types (option_copied want.entry) result }
+    ensures { Answers (elaborated t.now (environment at.now) bound.now (option_copied want.entry)) result }
 {
     let place = t.place;
     match &t.shape {
@@ -126,14 +128,14 @@ pub fn typed_as(
     t: &FormTree,
     ty: &Ty,
 ) -> Result<Term, Refused>
-    ensures { Types (Some ty.now) result }
+    ensures { Answers (elaborated t.now (environment at.now) bound.now (Some ty.now)) result }
 {
     typed(alloc, at, bound, t, Some(ty))
 }
 
 /// Refuses a truth where another type is wanted.
 fn truth(want: Option<&Ty>, place: Place) -> Result<(), Refused>
-    ensures { MatchResult result (λ _. IsWanted (option_copied want.entry) Ty.Bool) (λ e. IsTypingRefusal e) }
+    ensures { Answers (truth (option_copied want.entry) place) result }
 {
     if fits(&Ty::Bool, want) {
         Ok(())
@@ -144,7 +146,7 @@ fn truth(want: Option<&Ty>, place: Place) -> Result<(), Refused>
 
 /// Refuses a truth that no program expression is, and one where another type is wanted.
 fn formula(at: &Setting<'_>, want: Option<&Ty>, place: Place) -> Result<(), Refused>
-    ensures { MatchResult result (λ _. IsWanted (option_copied want.entry) Ty.Bool) (λ e. IsTypingRefusal e) }
+    ensures { Answers (formula (environment at.now) (option_copied want.entry) place) result }
 {
     match at.language {
         Language::Program => Err(argument(place)),
@@ -153,8 +155,9 @@ fn formula(at: &Setting<'_>, want: Option<&Ty>, place: Place) -> Result<(), Refu
 }
 
 /// The typed tree of the fair coin. A program has it where it samples.
+#[tactic(auto, unfolding(crate::specs::Forms::coin))]
 fn coin(alloc: Global, at: &Setting<'_>, want: Option<&Ty>, place: Place) -> Result<Term, Refused>
-    ensures { Types (option_copied want.entry) result }
+    ensures { Answers (coin (environment at.now) (option_copied want.entry) place) result }
 {
     if at.language == Language::Program && !is_distribution(want) {
         return Err(argument(place));
@@ -164,7 +167,9 @@ fn coin(alloc: Global, at: &Setting<'_>, want: Option<&Ty>, place: Place) -> Res
 }
 
 /// Whether a distribution is wanted.
-fn is_distribution(want: Option<&Ty>) -> bool {
+fn is_distribution(want: Option<&Ty>) -> bool
+    ensures { result ≡ wants_distribution (option_copied want.entry) }
+{
     match want {
         Some(Ty::Distr(_)) => true,
         _ => false,
@@ -179,7 +184,7 @@ fn read(
     t: &FormTree,
     side: &SideTree,
 ) -> Result<Term, Refused>
-    ensures { Types None result }
+    ensures { Answers (read (environment at.now) bound.now (out-FormShape t.now.shape) t.now.place side.now) result }
 {
     match &t.shape {
         FormShape::Path(name) => match side {
@@ -199,15 +204,17 @@ fn remembered(
     memory: &Word,
     place: Place,
 ) -> Result<Term, Refused>
-    ensures { Types None result }
+    ensures { Answers (remembered at.now.language (environment at.now) name.now memory.now place) result }
 {
     match at.language {
         Language::Program => Err(argument(place)),
-        Language::Formula => Err(in_memory(alloc, at, name, memory, place)),
+        Language::Formula => in_memory(alloc, at, name, memory, place),
     }
 }
 
-fn operator(connective: Connective) -> Op {
+fn operator(connective: Connective) -> Op
+    ensures { result ≡ operator connective }
+{
     match connective {
         Connective::And => Op::And,
         Connective::Or => Op::Or,
@@ -219,7 +226,9 @@ fn operator(connective: Connective) -> Op {
 }
 
 /// Whether the sides may be of any one type, and need not be truths.
-fn is_equation(connective: Connective) -> bool {
+fn is_equation(connective: Connective) -> bool
+    ensures { result ≡ is_equation connective }
+{
     match connective {
         Connective::Equal | Connective::NotEqual => true,
         _ => false,
@@ -233,7 +242,7 @@ fn negated(
     bound: &[TypedName],
     a: &FormTree,
 ) -> Result<Form, Refused>
-    ensures { Types (Some Ty.Bool) result }
+    ensures { Answers (negated (elaborated a.now (environment at.now) bound.now)) result }
 {
     let a = typed_as(alloc, at, bound, a, &Ty::Bool)?;
     Ok(make::negation(alloc, a)?)
@@ -249,7 +258,7 @@ fn left_side(
     connective: Connective,
     place: Place,
 ) -> Result<Term, Refused>
-    ensures { Types None result }
+    ensures { Answers (left_side connective place (elaborated a.now (environment at.now) bound.now)) result }
 {
     if !is_equation(connective) {
         return typed_as(alloc, at, bound, a, &Ty::Bool);
@@ -272,19 +281,20 @@ fn with_right_side(
     connective: Connective,
     left: Term,
 ) -> Result<Form, Refused>
-    ensures { Types (Some Ty.Bool) result }
+    ensures { Answers (with_right_side connective left (elaborated b.now (environment at.now) bound.now)) result }
 {
     let right = typed_as(alloc, at, bound, b, left.ty.get())?;
     Ok(make::binary(alloc, operator(connective), left, right, Ty::Bool)?)
 }
 
 /// The equality of a variable of two programs.
+#[tactic(auto, unfolding(crate::specs::Forms::equality))]
 fn equality(alloc: Global, at: &Setting<'_>, bound: &[TypedName], x: &Word) -> Result<Form, Refused>
-    ensures { Types (Some Ty.Bool) result }
+    ensures { Answers (equality (environment at.now) bound.now x.now) result }
 {
     let left = sided(alloc, at, bound, &x.name, Side::Left, x.place)?;
     let right = sided(alloc, at, bound, &x.name, Side::Right, x.place)?;
-    if same_ty(right.ty.get(), left.ty.get()) {
+    if same_types(right.ty.get(), left.ty.get()) {
         Ok(make::equality(alloc, left, right)?)
     } else {
         Err(mismatch(x.place))
@@ -292,6 +302,7 @@ fn equality(alloc: Global, at: &Setting<'_>, bound: &[TypedName], x: &Word) -> R
 }
 
 /// The equalities of variables of two programs, joined to the left.
+#[tactic(auto, unfolding(crate::specs::Forms::equalities, crate::specs::Forms::joined))]
 fn equalities(
     alloc: Global,
     at: &Setting<'_>,
@@ -299,7 +310,7 @@ fn equalities(
     words: &[Word],
     place: Place,
 ) -> Result<Form, Refused>
-    ensures { Types (Some Ty.Bool) result }
+    ensures { Answers (equalities (environment at.now) bound.now words.now place) result }
 {
     if at.on_side(Side::Left).is_none() {
         return Err(argument(place));
@@ -314,6 +325,7 @@ fn equalities(
 }
 
 /// A form and, to its right, the equalities of further variables.
+#[tactic(auto, unfolding(crate::specs::Forms::with_equalities))]
 fn with_equalities(
     alloc: Global,
     at: &Setting<'_>,
@@ -321,8 +333,7 @@ fn with_equalities(
     first: Form,
     words: &[Word],
 ) -> Result<Form, Refused>
-    requires { type_of_term first ≡ Ty.Bool }
-    ensures { Types (Some Ty.Bool) result }
+    ensures { Answers (with_equalities (environment at.now) bound.now first words.now) result }
 {
     let mut form = first;
     for x in words {
@@ -330,79 +341,6 @@ fn with_equalities(
         form = make::conjunction(alloc, form, next)?;
     }
     Ok(form)
-}
-
-/// Names of one type.
-pub fn of_type(alloc: Global, names: &[Word], ty: &Ty) -> Result<Typed, AllocError> {
-    let mut all = Items::new(alloc);
-    for x in names {
-        let name = x.name.copy(alloc)?;
-        let ty = copy_ty(alloc, ty)?;
-        all.push(TypedName { name, ty })?;
-    }
-    Ok(all)
-}
-
-/// The names of binders with their types, in the order of the text.
-pub fn bound_by(alloc: Global, binders: &[Binder]) -> Result<Typed, AllocError> {
-    let mut all = Items::new(alloc);
-    for binder in binders {
-        all.append(of_type(alloc, binder.names.as_slice(), &type_of(&binder.ty))?)?;
-    }
-    Ok(all)
-}
-
-fn reversed(alloc: Global, list: Typed) -> Result<Typed, AllocError>
-    ensures { IfOk result (λ all. all ≡ reverse list) }
-{
-    let mut rest = list;
-    let mut all = Items::new(alloc);
-    while let Some(x) = rest.pop() {
-        all.push(x)?;
-    }
-    Ok(all)
-}
-
-/// The names of binders with their types, the innermost first.
-fn innermost_first(alloc: Global, binders: &[Binder]) -> Result<Typed, AllocError> {
-    reversed(alloc, bound_by(alloc, binders)?)
-}
-
-/// Variables, and behind them those that are bound around them.
-fn within(
-    alloc: Global,
-    variables: &[TypedName],
-    bound: &[TypedName],
-) -> Result<Typed, AllocError> {
-    let mut all = copy_typed(alloc, variables)?;
-    all.append(copy_typed(alloc, bound)?)?;
-    Ok(all)
-}
-
-/// The quantifiers over these variables, the first one innermost.
-fn over_all(
-    alloc: Global,
-    quantifier: Quantifier,
-    variables: &[TypedName],
-    body: Form,
-) -> Result<Form, AllocError>
-    requires { type_of_term body ≡ Ty.Bool }
-    ensures { IfOk result (λ made. type_of_term made ≡ Ty.Bool) }
-{
-    let mut form = body;
-    for x in variables {
-        form = over(alloc, quantifier, copy_ty(alloc, &x.ty)?, form)?;
-    }
-    Ok(form)
-}
-
-fn over(alloc: Global, quantifier: Quantifier, ty: Ty, body: Form) -> Result<Form, AllocError>
-    ensures { IfOk result (λ made. type_of_term made ≡ Ty.Bool) }
-{
-    match quantifier {
-        Quantifier::Forall => make::forall(alloc, ty, body),
-        Quantifier::Exists => make::exists(alloc, ty, body),
-    }
 }
 
 #[cycle(form)]
@@ -414,7 +352,7 @@ fn quantified(
     binders: &[Binder],
     body: &FormTree,
 ) -> Result<Form, Refused>
-    ensures { Types (Some Ty.Bool) result }
+    ensures { Answers (quantified quantifier binders.now bound.now (elaborated body.now (environment at.now))) result }
 {
     let variables = innermost_first(alloc, binders)?;
     let inner = within(alloc, variables.as_slice(), bound)?;
@@ -432,7 +370,7 @@ fn precondition(
     left: &Proc,
     right: &Proc,
 ) -> Result<Form, Refused>
-    ensures { Types (Some Ty.Bool) result }
+    ensures { Answers (elaborated pre.now (before (environment at.now) left.now right.now) bound.now (Some Ty.Bool)) result }
 {
     let before = parameters(alloc, at, left, right)?;
     typed_as(alloc, &before, bound, pre, &Ty::Bool)
@@ -448,7 +386,7 @@ fn postcondition(
     left: &Proc,
     right: &Proc,
 ) -> Result<Form, Refused>
-    ensures { Types (Some Ty.Bool) result }
+    ensures { Answers (elaborated post.now (after (environment at.now) left.now right.now) bound.now (Some Ty.Bool)) result }
 {
     let after = results(alloc, at, left, right)?;
     typed_as(alloc, &after, bound, post, &Ty::Bool)
@@ -461,6 +399,7 @@ fn postcondition(
 ///
 /// `TypeMismatch` where the form is no function of one variable, where its variable has another type by the text (at
 /// that type), and where its value has another type; and those of `typed`.
+#[tactic(auto, using(crate::proofs::Elaborated::function_is), unfolding(crate::specs::Forms::function_typing))]
 pub fn function(
     alloc: Global,
     at: &Setting<'_>,
@@ -468,7 +407,7 @@ pub fn function(
     from: &Ty,
     to: &Ty,
 ) -> Result<Term, Refused>
-    ensures { Types (Some to.now) result }
+    ensures { Answers (function t.now (environment at.now) from.now to.now) result }
 {
     match &t.shape {
         FormShape::Bracketed(inner) => function(alloc, at, inner.get(), from, to),
@@ -476,9 +415,7 @@ pub fn function(
             if names.len() != 1 {
                 return Err(mismatch(t.place));
             }
-            if let Some(written) = ty {
-                written_as(written, from)?;
-            }
+            written_as(ty, from)?;
             let variable = of_type(alloc, names.as_slice(), from)?;
             typed_as(alloc, at, variable.as_slice(), body.get(), to)
         }
@@ -487,12 +424,17 @@ pub fn function(
 }
 
 /// Refuses a type of the text that isn't the one that is wanted.
-fn written_as(written: &TypeTree, ty: &Ty) -> Result<(), Refused>
-    ensures { IfErr result (λ e. IsTypingRefusal e) }
+fn written_as(written: &Option<TypeTree>, ty: &Ty) -> Result<(), Refused>
+    ensures { Answers (written_as written.now ty.now) result }
 {
-    if same_ty(&type_of(written), ty) {
-        Ok(())
-    } else {
-        Err(mismatch(written.place))
+    match written {
+        None => Ok(()),
+        Some(written) => {
+            if same_types(&type_of(written), ty) {
+                Ok(())
+            } else {
+                Err(mismatch(written.place))
+            }
+        }
     }
 }

@@ -1,7 +1,11 @@
 // The procedures that a judgment speaks of.
 
-ghost use Rattle.std.specs.Prelude.{◌≡◌, IfOk, IfErr};
-ghost use Rattle.gb_elab.specs.Answers.{IsTypingRefusal, type_of_term};
+ghost use Rattle.std.specs.Prelude.{◌≡◌, IfOk};
+ghost use Rattle.std.specs.Option.{option_copied};
+ghost use Rattle.gb_goal.specs.Scope.{proc_of};
+ghost use Rattle.gb_elab.specs.Answers.{Gives};
+ghost use Rattle.gb_elab.specs.Environment.{environment};
+ghost use Rattle.gb_elab.specs.Judgments.{after, before, equivalent, named_module, named_procedure, reference, result_of};
 
 use crate::names::is_variable;
 use crate::refusals::{argument, unknown};
@@ -22,13 +26,14 @@ use sqlite_items::Items;
 use std::alloc::{AllocError, Global};
 
 /// The module of this name, all of whose parameters are given: it has none.
+#[tactic(auto, unfolding(crate::specs::Judgments::named_module))]
 fn named_module<'a>(
     alloc: Global,
     at: &Setting<'a>,
     bound: &[TypedName],
     module: &Word,
 ) -> Result<&'a Module, Refused>
-    ensures { IfErr result (λ e. IsTypingRefusal e) }
+    ensures { Gives (λ m. m.now) (named_module (environment at.now) bound.now «module».now) result }
 {
     if is_variable(at, bound, &module.name) {
         return Err(argument(module.place));
@@ -46,9 +51,11 @@ fn named_module<'a>(
     }
 }
 
-fn procedure_of<'a>(m: &'a Module, name: &Name) -> Option<&'a Proc> {
+fn procedure_of<'a>(m: &'a Module, name: &Name) -> Option<&'a Proc>
+    ensures { option_copied result ≡ proc_of m.now.procs name.now }
+{
     for p in m.procs.as_slice() {
-        if same_name(&p.name, name) {
+        if same_name(name, &p.name) {
             return Some(p);
         }
     }
@@ -60,13 +67,14 @@ fn procedure_of<'a>(m: &'a Module, name: &Name) -> Option<&'a Proc> {
 /// # Errors
 ///
 /// `UnknownName` of a module or a procedure of it, `Argument` of a thing that is no module or lacks arguments.
+#[tactic(auto, unfolding(crate::specs::Judgments::named_procedure))]
 pub fn named_procedure<'a>(
     alloc: Global,
     at: &Setting<'a>,
     bound: &[TypedName],
     path: &ProcPath,
 ) -> Result<&'a Proc, Refused>
-    ensures { IfErr result (λ e. IsTypingRefusal e) }
+    ensures { Gives (λ p. p.now) (named_procedure (environment at.now) bound.now path.now) result }
 {
     let module = named_module(alloc, at, bound, &path.module)?;
     match procedure_of(module, &path.proc.name) {
@@ -76,7 +84,9 @@ pub fn named_procedure<'a>(
 }
 
 /// A procedure as a term names it.
-fn reference(alloc: Global, path: &ProcPath) -> Result<ProcRef, AllocError> {
+fn reference(alloc: Global, path: &ProcPath) -> Result<ProcRef, AllocError>
+    ensures { IfOk result (λ made. made ≡ reference path.now) }
+{
     Ok(ProcRef {
         module: Mexp::Name(path.module.name.copy(alloc)?),
         name: path.proc.name.copy(alloc)?,
@@ -91,7 +101,7 @@ pub fn equiv(
     pre: Form,
     post: Form,
 ) -> Result<Form, AllocError>
-    ensures { IfOk result (λ made. type_of_term made ≡ Ty.Bool) }
+    ensures { IfOk result (λ made. made ≡ equivalent left.now right.now pre post) }
 {
     let left = Subject::Proc(reference(alloc, left)?);
     let right = Subject::Proc(reference(alloc, right)?);
@@ -102,7 +112,9 @@ pub fn equiv(
 }
 
 /// What a postcondition reads of a procedure: its result, under the name `res`.
-fn result_of(alloc: Global, p: &Proc) -> Result<Typed, AllocError> {
+fn result_of(alloc: Global, p: &Proc) -> Result<Typed, AllocError>
+    ensures { IfOk result (λ made. made ≡ result_of p.now) }
+{
     let mut all = Items::new(alloc);
     let name = Name::from_str(alloc, "res")?;
     let ty = copy_ty(alloc, &p.result)?;
@@ -116,7 +128,9 @@ pub fn parameters<'a>(
     at: &Setting<'a>,
     left: &Proc,
     right: &Proc,
-) -> Result<Setting<'a>, AllocError> {
+) -> Result<Setting<'a>, AllocError>
+    ensures { IfOk result (λ made. environment made ≡ before (environment at.now) left.now right.now) }
+{
     let left = copy_typed(alloc, left.params.as_slice())?;
     let right = copy_typed(alloc, right.params.as_slice())?;
     Ok(Setting::relational(at.scope, at.sequent, left, right))
@@ -128,7 +142,9 @@ pub fn results<'a>(
     at: &Setting<'a>,
     left: &Proc,
     right: &Proc,
-) -> Result<Setting<'a>, AllocError> {
+) -> Result<Setting<'a>, AllocError>
+    ensures { IfOk result (λ made. environment made ≡ after (environment at.now) left.now right.now) }
+{
     let left = result_of(alloc, left)?;
     let right = result_of(alloc, right)?;
     Ok(Setting::relational(at.scope, at.sequent, left, right))

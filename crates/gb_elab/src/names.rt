@@ -1,7 +1,11 @@
 // What a name means where it stands.
 
-ghost use Rattle.std.specs.Prelude.{◌≡◌, None, IfOk, IfErr};
-ghost use Rattle.gb_elab.specs.Answers.{IsTypingRefusal, Types, type_of_term};
+ghost use Rattle.std.specs.Prelude.{◌≡◌, Ok, IfOk, bytes_eq};
+ghost use Rattle.std.specs.List.{list_any};
+ghost use Rattle.std.specs.Option.{option_copied};
+ghost use Rattle.gb_elab.specs.Answers.{Answers, Gives, Refuses, counted};
+ghost use Rattle.gb_elab.specs.Environment.{environment};
+ghost use Rattle.gb_elab.specs.Names.{bound_variable, built_in, constant_term, first_named, in_memory, is_variable, logical_variable, named, names_no_value, names_other, no_variable, number_before, own_variable, program_variable, sided, unbound, unit};
 
 use crate::refusals::{argument, too_many, unknown};
 use crate::setting::Setting;
@@ -24,7 +28,9 @@ use std::alloc::{AllocError, Global};
 pub const NODES: u64 = 65_536;
 
 /// The first thing of this name in a list.
-fn first_named<'a>(list: &'a [TypedName], name: &Name) -> Option<&'a TypedName> {
+fn first_named<'a>(list: &'a [TypedName], name: &Name) -> Option<&'a TypedName>
+    ensures { option_copied result ≡ first_named list.now name.now }
+{
     for x in list {
         if x.name == *name {
             return Some(x);
@@ -34,7 +40,9 @@ fn first_named<'a>(list: &'a [TypedName], name: &Name) -> Option<&'a TypedName> 
 }
 
 /// How many things stand before the first of this name.
-fn number_before(list: &[TypedName], name: &Name) -> usize {
+fn number_before(list: &[TypedName], name: &Name) -> usize
+    ensures { result ≡ number_before list.now name.now }
+{
     for i in 0..list.len() {
         if list[i].name == *name {
             return i;
@@ -45,7 +53,7 @@ fn number_before(list: &[TypedName], name: &Name) -> usize {
 
 /// A number of things as a term counts them. More are past the nodes of a formula.
 fn counted(n: usize) -> Result<u32, Refused>
-    ensures { IfErr result (λ e. IsTypingRefusal e) }
+    ensures { Answers (counted n) result }
 {
     if n < 0x1_0000_0000 {
         Ok(n as u32)
@@ -56,7 +64,7 @@ fn counted(n: usize) -> Result<u32, Refused>
 
 /// A variable that is bound below so many other binders.
 fn bound_variable(alloc: Global, between: usize, x: &TypedName) -> Result<Term, Refused>
-    ensures { Types None result }
+    ensures { Answers (bound_variable between x.now) result }
 {
     let between = counted(between)?;
     let ty = copy_ty(alloc, &x.ty)?;
@@ -65,7 +73,7 @@ fn bound_variable(alloc: Global, between: usize, x: &TypedName) -> Result<Term, 
 
 /// The logical variable at this place of the context.
 fn logical_variable(alloc: Global, at: usize, x: &TypedName) -> Result<Term, Refused>
-    ensures { Types None result }
+    ensures { Answers (logical_variable at x.now) result }
 {
     let at = counted(at)?;
     let ty = copy_ty(alloc, &x.ty)?;
@@ -73,12 +81,12 @@ fn logical_variable(alloc: Global, at: usize, x: &TypedName) -> Result<Term, Ref
 }
 
 /// A read of this program variable through a memory.
-fn program_variable(alloc: Global, x: &TypedName, side: Side) -> Result<Term, Refused>
-    ensures { Types None result }
+fn program_variable(alloc: Global, x: &TypedName, side: Side) -> Result<Term, AllocError>
+    ensures { IfOk result (λ made. made ≡ program_variable side x.now) }
 {
     let name = x.name.copy(alloc)?;
     let ty = copy_ty(alloc, &x.ty)?;
-    Ok(make::program(alloc, name, side, ty)?)
+    make::program(alloc, name, side, ty)
 }
 
 /// A built-in constant.
@@ -90,7 +98,9 @@ enum Constant {
 }
 
 /// The built-in constant of this name.
-fn built_in(name: &Name) -> Option<Constant> {
+fn built_in(name: &Name) -> Option<Constant>
+    ensures { result ≡ built_in name.now }
+{
     let text = name.as_str();
     if text == "true" {
         Some(Constant::True)
@@ -105,12 +115,14 @@ fn built_in(name: &Name) -> Option<Constant> {
 
 /// The one value of `unit`.
 pub fn unit(alloc: Global) -> Result<Term, AllocError>
-    ensures { IfOk result (λ made. type_of_term made ≡ Ty.Unit) }
+    ensures { IfOk result (λ made. made ≡ unit) }
 {
     make::leaf(alloc, Head::Lit(Value::Num(0)), Ty::Unit)
 }
 
-fn constant_term(alloc: Global, constant: Constant) -> Result<Term, AllocError> {
+fn constant_term(alloc: Global, constant: Constant) -> Result<Term, AllocError>
+    ensures { IfOk result (λ made. made ≡ constant_term constant) }
+{
     match constant {
         Constant::True => make::boolean(alloc, true),
         Constant::False => make::boolean(alloc, false),
@@ -118,7 +130,9 @@ fn constant_term(alloc: Global, constant: Constant) -> Result<Term, AllocError> 
     }
 }
 
-fn is_among(list: &[Name], name: &Name) -> bool {
+fn is_among(list: &[Name], name: &Name) -> bool
+    ensures { result ≡ list_any (λ x. bytes_eq x name.now) list.now }
+{
     for x in list {
         if *x == *name {
             return true;
@@ -127,7 +141,9 @@ fn is_among(list: &[Name], name: &Name) -> bool {
     false
 }
 
-fn is_module(list: &[Bind], name: &Name) -> bool {
+fn is_module(list: &[Bind], name: &Name) -> bool
+    ensures { result ≡ list_any (λ x. bytes_eq x.name name.now) list.now }
+{
     for x in list {
         if x.name == *name {
             return true;
@@ -136,7 +152,9 @@ fn is_module(list: &[Bind], name: &Name) -> bool {
     false
 }
 
-fn is_hyp(list: &[Hyp], name: &Name) -> bool {
+fn is_hyp(list: &[Hyp], name: &Name) -> bool
+    ensures { result ≡ list_any (λ x. bytes_eq x.name name.now) list.now }
+{
     for x in list {
         if x.name == *name {
             return true;
@@ -146,20 +164,25 @@ fn is_hyp(list: &[Hyp], name: &Name) -> bool {
 }
 
 /// Whether a memory, an abstract module or a hypothesis of the context has this name.
-fn names_no_value(s: &Sequent, name: &Name) -> bool {
+fn names_no_value(s: &Sequent, name: &Name) -> bool
+    ensures { result ≡ names_no_value s.now name.now }
+{
     is_among(s.memories.as_slice(), name)
         || is_module(s.modules.as_slice(), name)
         || is_hyp(s.hyps.as_slice(), name)
 }
 
 /// Whether a thing that is no variable has this name.
-fn names_other(at: &Setting<'_>, name: &Name) -> bool {
+fn names_other(at: &Setting<'_>, name: &Name) -> bool
+    ensures { result ≡ names_other (environment at.now) name.now }
+{
     names_no_value(at.sequent, name) || at.scope.entry(name).is_some()
 }
 
 /// The meaning of a name that no variable has: a built-in constant where nothing else has the name.
+#[tactic(auto, unfolding(crate::specs::Names::unbound))]
 fn unbound(alloc: Global, at: &Setting<'_>, name: &Name, place: Place) -> Result<Term, Refused>
-    ensures { Types None result }
+    ensures { Answers (unbound (environment at.now) name.now place) result }
 {
     if names_other(at, name) {
         return Err(argument(place));
@@ -175,6 +198,7 @@ fn unbound(alloc: Global, at: &Setting<'_>, name: &Name, place: Place) -> Result
 /// # Errors
 ///
 /// `UnknownName` where nothing has the name, and `Argument` where it is no value's.
+#[tactic(auto, unfolding(crate::specs::Names::named))]
 pub fn named(
     alloc: Global,
     at: &Setting<'_>,
@@ -182,13 +206,13 @@ pub fn named(
     name: &Name,
     place: Place,
 ) -> Result<Term, Refused>
-    ensures { Types None result }
+    ensures { Answers (named (environment at.now) bound.now name.now place) result }
 {
     if let Some(x) = first_named(bound, name) {
         return bound_variable(alloc, number_before(bound, name), x);
     }
     if let Some(x) = first_named(at.own(), name) {
-        return program_variable(alloc, x, Side::Own);
+        return Ok(program_variable(alloc, x, Side::Own)?);
     }
     let logical = at.sequent.logical.as_slice();
     if let Some(x) = first_named(logical, name) {
@@ -198,13 +222,15 @@ pub fn named(
 }
 
 /// Whether a logical variable, bound in the form or of the context, has this name.
-pub fn is_variable(at: &Setting<'_>, bound: &[TypedName], name: &Name) -> bool {
+pub fn is_variable(at: &Setting<'_>, bound: &[TypedName], name: &Name) -> bool
+    ensures { result ≡ is_variable (environment at.now) bound.now name.now }
+{
     first_named(bound, name).is_some() || first_named(at.sequent.logical.as_slice(), name).is_some()
 }
 
 /// Why a name means no variable of a program: something else has it, or nothing.
 fn no_variable(alloc: Global, at: &Setting<'_>, name: &Name, place: Place) -> Refused
-    ensures { IsTypingRefusal result }
+    ensures { Refuses (no_variable (environment at.now) name.now) place result }
 {
     let logical = at.sequent.logical.as_slice();
     if first_named(logical, name).is_some() || names_other(at, name) || built_in(name).is_some() {
@@ -224,7 +250,7 @@ pub fn own_variable<'a>(
     at: &'a Setting<'_>,
     x: &Word,
 ) -> Result<&'a TypedName, Refused>
-    ensures { IfErr result (λ e. IsTypingRefusal e) }
+    ensures { Gives (λ v. v.now) (own_variable (environment at.now) x.now) result }
 {
     match first_named(at.own(), &x.name) {
         Some(variable) => Ok(variable),
@@ -237,6 +263,7 @@ pub fn own_variable<'a>(
 /// # Errors
 ///
 /// `Argument` where there is no such memory and where the name is another thing's, `UnknownName` where nothing has it.
+#[tactic(auto, unfolding(crate::specs::Names::sided))]
 pub fn sided(
     alloc: Global,
     at: &Setting<'_>,
@@ -245,7 +272,7 @@ pub fn sided(
     side: Side,
     place: Place,
 ) -> Result<Term, Refused>
-    ensures { Types None result }
+    ensures { Answers (sided (environment at.now) bound.now name.now side place) result }
 {
     let Some(locals) = at.on_side(side) else {
         return Err(argument(place));
@@ -254,7 +281,7 @@ pub fn sided(
         return Err(argument(place));
     }
     match first_named(locals, name) {
-        Some(x) => program_variable(alloc, x, side),
+        Some(x) => Ok(program_variable(alloc, x, side)?),
         None => Err(no_variable(alloc, at, name, place)),
     }
 }
@@ -264,18 +291,19 @@ pub fn sided(
 /// # Errors
 ///
 /// `UnknownName` where there is no such memory and where nothing has the name, `Argument` where another thing has it.
+#[tactic(auto, unfolding(crate::specs::Names::in_memory))]
 pub fn in_memory(
     alloc: Global,
     at: &Setting<'_>,
     name: &Name,
     memory: &Word,
     place: Place,
-) -> Refused
-    ensures { IsTypingRefusal result }
+) -> Result<Term, Refused>
+    ensures { Answers (in_memory (environment at.now) name.now memory.now place) result }
 {
     if is_among(at.sequent.memories.as_slice(), &memory.name) {
-        no_variable(alloc, at, name, place)
+        Err(no_variable(alloc, at, name, place))
     } else {
-        unknown(alloc, &memory.name, memory.place)
+        Err(unknown(alloc, &memory.name, memory.place))
     }
 }

@@ -1,7 +1,7 @@
 // Refusals with their places.
 
 ghost use Rattle.std.specs.Prelude.{◌≡◌};
-ghost use Rattle.gb_elab.specs.Answers.{IsTypingRefusal};
+ghost use Rattle.gb_elab.specs.Answers.{Refuses};
 
 use gb_core::name::Name;
 use gb_core::place::Place;
@@ -30,7 +30,7 @@ pub fn argument(place: Place) -> Refused
 
 /// A name that isn't in scope.
 pub fn unknown(alloc: Global, name: &Name, place: Place) -> Refused
-    ensures { IsTypingRefusal result }
+    ensures { Refuses (Why.UnknownName name.now) place result }
 {
     match name.copy(alloc) {
         Ok(name) => Refused::Script {
@@ -42,7 +42,9 @@ pub fn unknown(alloc: Global, name: &Name, place: Place) -> Refused
 }
 
 /// A name that is declared twice in one scope.
-pub fn double(alloc: Global, name: &Name, place: Place) -> Refused {
+pub fn double(alloc: Global, name: &Name, place: Place) -> Refused
+    ensures { Refuses (Why.DoubleName name.now) place result }
+{
     match name.copy(alloc) {
         Ok(name) => Refused::Script {
             why: Why::DoubleName(name),

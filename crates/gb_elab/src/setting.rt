@@ -1,5 +1,9 @@
 // Where a form stands.
 
+ghost use Rattle.std.specs.Prelude.{◌≡◌};
+ghost use Rattle.std.specs.Option.{option_copied};
+ghost use Rattle.gb_elab.specs.Environment.{environment, ambient, relational, program, own_of, sides_of};
+
 use gb_goal::scope::Scope;
 use gb_goal::sequent::Sequent;
 use gb_terms::decl::{Typed, TypedName};
@@ -35,7 +39,9 @@ pub enum Language {
 
 impl<'a> Setting<'a> {
     /// The setting of a form that reads no program variable.
-    pub fn ambient(scope: &'a Scope, sequent: &'a Sequent) -> Setting<'a> {
+    pub fn ambient(scope: &'a Scope, sequent: &'a Sequent) -> Setting<'a>
+        ensures { environment result ≡ ambient scope.now sequent.now }
+    {
         Setting {
             scope,
             sequent,
@@ -50,7 +56,9 @@ impl<'a> Setting<'a> {
         sequent: &'a Sequent,
         left: Typed,
         right: Typed,
-    ) -> Setting<'a> {
+    ) -> Setting<'a>
+        ensures { environment result ≡ relational scope.now sequent.now left right }
+    {
         Setting {
             scope,
             sequent,
@@ -60,7 +68,9 @@ impl<'a> Setting<'a> {
     }
 
     /// The setting of an expression of a program with these variables.
-    pub fn program(scope: &'a Scope, sequent: &'a Sequent, variables: Typed) -> Setting<'a> {
+    pub fn program(scope: &'a Scope, sequent: &'a Sequent, variables: Typed) -> Setting<'a>
+        ensures { environment result ≡ program scope.now sequent.now variables }
+    {
         Setting {
             scope,
             sequent,
@@ -70,7 +80,9 @@ impl<'a> Setting<'a> {
     }
 
     /// The variables that are read by their names alone.
-    pub fn own(&self) -> &[TypedName] {
+    pub fn own(&self) -> &[TypedName]
+        ensures { result.now ≡ own_of self.now.variables }
+    {
         match &self.variables {
             Variables::Own(own) => own.as_slice(),
             _ => &[],
@@ -78,7 +90,9 @@ impl<'a> Setting<'a> {
     }
 
     /// The variables of the left program or of the right one, where there are two.
-    pub fn on_side(&self, side: Side) -> Option<&[TypedName]> {
+    pub fn on_side(&self, side: Side) -> Option<&[TypedName]>
+        ensures { option_copied result ≡ sides_of self.now.variables side }
+    {
         match &self.variables {
             Variables::Sides { left, right } => match side {
                 Side::Left => Some(left.as_slice()),

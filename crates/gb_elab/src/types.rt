@@ -1,19 +1,22 @@
 // Types, and the type that a form is wanted to have.
 
-ghost use Rattle.std.specs.Prelude.{◌≡◌, ◌↔◌, IsTrue};
+ghost use Rattle.std.specs.Prelude.{◌≡◌};
 ghost use Rattle.std.specs.Option.{option_copied};
-ghost use Rattle.gb_elab.specs.Answers.{IsWanted, Types};
+ghost use Rattle.gb_elab.specs.Answers.{Answers, fits, wanted};
+ghost use Rattle.gb_elab.specs.Types.{type_of};
 
 use crate::refusals::mismatch;
 use gb_core::place::Place;
 use gb_core::refusal::Refused;
-use gb_core::same::same_ty;
 use gb_core::ty::Ty;
+use gb_same::types::same_types;
 use gb_terms::term::Term;
 use gb_tree::form::{TypeShape, TypeTree};
 
 /// The type that a type of a script spells.
-pub fn type_of(t: &TypeTree) -> Ty {
+pub fn type_of(t: &TypeTree) -> Ty
+    ensures { result ≡ type_of t.now }
+{
     match t.shape {
         TypeShape::Unit => Ty::Unit,
         TypeShape::Bool => Ty::Bool,
@@ -22,17 +25,17 @@ pub fn type_of(t: &TypeTree) -> Ty {
 
 /// Whether a form of this type may stand where a type is wanted, or none.
 pub fn fits(ty: &Ty, want: Option<&Ty>) -> bool
-    ensures { IsTrue result ↔ IsWanted (option_copied want.entry) ty.now }
+    ensures { result ≡ fits (option_copied want.entry) ty.now }
 {
     match want {
         None => true,
-        Some(wanted) => same_ty(ty, wanted),
+        Some(wanted) => same_types(ty, wanted),
     }
 }
 
 /// The term itself, refused where another type is wanted.
 pub fn wanted(t: Term, want: Option<&Ty>, place: Place) -> Result<Term, Refused>
-    ensures { Types (option_copied want.entry) result }
+    ensures { Answers (wanted (option_copied want.entry) place t) result }
 {
     if fits(t.ty.get(), want) {
         Ok(t)

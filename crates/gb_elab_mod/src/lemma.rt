@@ -36,6 +36,7 @@ pub fn refuse_declared(alloc: Global, scope: &Scope, name: &Word) -> Result<(), 
 ///
 /// `DoubleName` at the lemma's name where it is taken, those of typing with the wanted type `bool`, and `TooMany` of
 /// the nodes of a formula, whose place is for the caller to put in.
+#[tactic(auto, using(gb_elab::proofs::OfWantedType::typed_as_type))]
 pub fn statement(alloc: Global, scope: &Scope, t: &LemmaTree) -> Result<Sequent, Refused>
     ensures truth { IfOk result (λ s. type_of_term s.conclusion ≡ Ty.Bool) }
     ensures size { IfOk result (λ s. term_nodes s.conclusion ≤ 65536) }

@@ -1,7 +1,7 @@
 // Procedures and their statements.
 
-ghost use Rattle.std.specs.Prelude.{◌≡◌, false, IfOk, IfNone, Some};
-ghost use Rattle.gb_elab.specs.Answers.{Types};
+ghost use Rattle.std.specs.Prelude.{◌≡◌, false, IfOk, IfNone};
+ghost use Rattle.gb_elab.specs.Answers.{type_of_term};
 ghost use Rattle.gb_elab_mod.specs.Typed.{ReturnsItsType};
 
 use gb_core::copy::copy_ty;
@@ -81,9 +81,10 @@ fn lacks_value(value: &Option<FormTree>, ty: &Ty) -> bool
 }
 
 /// What a procedure returns: the value of `unit` where it has no `return`.
+#[tactic(auto, using(gb_elab::proofs::OfWantedType::answers_type))]
 fn value(alloc: Global, at: &Setting<'_>, t: &Option<FormTree>, want: &Ty) -> Result<Term, Refused>
     requires { IfNone t.now (want.now ≡ Ty.Unit) }
-    ensures { Types (Some want.now) result }
+    ensures { IfOk result (λ v. type_of_term v ≡ want.now) }
 {
     match t {
         None => Ok(unit(alloc)?),

@@ -1,7 +1,7 @@
-use Rattle.std.proofs.Common.{◌≡◌}
-use Rattle.gb_core.specs.declared.ty.Ty.TheVariants.{Bool as bool_ty}
-use Rattle.gb_elab.specs.Answers.{type_of_term}
+use Rattle.std.proofs.Common.{◌≡◌, drop}
+use Rattle.gb_elab.specs.Environment.{environment}
+use Rattle.gb_elab.specs.Forms.{with_equalities}
 use Rattle.gb_elab.proofs.form.with_equalities.Given as goal
 
 abbrev pub invariant-loop-x : goal.invariant-loop-x
-invariant-loop-x l = type_of_term l.form ≡ bool_ty
+invariant-loop-x l = with_equalities (environment l.at) l.bound l.form (drop l.x-index l.words) ≡ with_equalities (environment l.at) l.bound l.fn.first l.words

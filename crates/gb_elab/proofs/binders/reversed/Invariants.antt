@@ -1,5 +1,5 @@
 use Rattle.std.proofs.Common.{◌≡◌, ◌++◌, length, reverse}
-use Rattle.gb_elab.proofs.form.reversed.Given as goal
+use Rattle.gb_elab.proofs.binders.reversed.Given as goal
 
 abbrev pub invariant-loop-x : goal.invariant-loop-x
 invariant-loop-x l = l.all ++ reverse l.rest ≡ reverse l.fn.list

@@ -1,0 +1,31 @@
+use Rattle.std.proofs.Common.{◌≡◌, ℕ, ◌+◌, ◌<◌, List, [], ◌∷◌, ◌++◌, length, get_or, drop, reverse, refl, sym, ap, ◌∙◌, arith, add-one, drop-cons}
+use Rattle.std.proofs.lemmas.List.{reverse-append}
+use Rattle.gb_terms.specs.declared.decl.TypedName.{TypedName}
+use Rattle.gb_terms.specs.declared.term.Term.{Term}
+use Rattle.gb_tree.specs.declared.form.Quantifier.{Quantifier}
+use Rattle.gb_elab.specs.Forms.{over, over_all}
+use Rattle.gb_elab.proofs.binders.over_all.Goals as goal
+
+-- quantifiers over some variables and then over others
+over_append : (q : Quantifier) (us vs : List TypedName) (f : Term) → over_all q (us ++ vs) f ≡ over_all q us (over_all q vs f)
+over_append q [] vs f = refl
+over_append q (u ∷ us) vs f = ap (over q u.ty) (over_append q us vs f)
+
+-- the first of the innermost variables goes inside
+first_inside : (q : Quantifier) (vs : List TypedName) (v : TypedName) (f : Term) → over_all q (reverse (v ∷ vs)) f ≡ over_all q (reverse vs) (over q v.ty f)
+first_inside q vs v f = ap (λ us. over_all q us f) (reverse-append (v ∷ []) vs) ∙ over_append q (reverse vs) (v ∷ []) f
+
+left : (vs : List TypedName) (i : ℕ) (v : TypedName) → i < length vs → v ≡ get_or vs i v → drop i vs ≡ v ∷ drop (i + 1) vs
+left vs i v h e = rw (drop-cons vs i v, add-one) (rw (← e) refl)
+
+pub loop-x-preserved : goal.loop-x-preserved
+loop-x-preserved c =
+    let q = c.args.quantifier in
+    let vs = c.args.variables.now in
+    let i = c.loop-x.x-index in
+    let v = c.x-item.result in
+    let h : i < length vs = omega arith in
+    let rest = left vs i v h c.x-item.is in
+    let inside = first_inside q (drop (i + 1) vs) v c.loop-x.form in
+    let made : c.in_ok-form.form ≡ over q v.ty c.loop-x.form = c.in_ok-form.ensures ∙ ap (λ ty. over q ty c.loop-x.form) c.in_ok-copy_ty.ensures in
+    ap (over_all q (reverse (drop (i + 1) vs))) made ∙ sym inside ∙ ap (λ us. over_all q (reverse us) c.loop-x.form) (sym rest) ∙ c.loop-x.invariant

@@ -1,7 +1,0 @@
-use Rattle.std.proofs.Common.{◌≡◌}
-use Rattle.gb_core.specs.declared.ty.Ty.TheVariants.{Bool as bool_ty}
-use Rattle.gb_elab.specs.Answers.{type_of_term}
-use Rattle.gb_elab.proofs.form.over_all.Given as goal
-
-abbrev pub invariant-loop-x : goal.invariant-loop-x
-invariant-loop-x l = type_of_term l.form ≡ bool_ty
