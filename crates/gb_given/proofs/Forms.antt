@@ -1,0 +1,135 @@
+-- What the typing of a form gives is typed.
+use Rattle.std.proofs.Common.{◌≡◌, false, not, ◌&&◌, List, [], ◌++◌, reverse, Option, Some, sym, ◌∙◌, subst}
+use Rattle.std.proofs.lemmas.Bool.{false≢true}
+use Rattle.gb_core.specs.declared.place.Place.{Place}
+use Rattle.gb_core.specs.declared.refusal.Why.TheVariants.{Argument}
+use Rattle.gb_core.specs.declared.ty.Ty.{Ty}
+use Rattle.gb_core.specs.declared.ty.Ty.TheVariants as ty
+use Rattle.gb_terms.specs.declared.decl.TypedName.{TypedName}
+use Rattle.gb_terms.specs.declared.op.Op.TheVariants as op
+use Rattle.gb_terms.specs.declared.term.Term.{Term}
+use Rattle.gb_terms.specs.declared.term.Head.TheVariants.{Builtin}
+use Rattle.gb_terms.specs.Make.{node}
+use Rattle.gb_tree.specs.declared.form.Binder.{Binder}
+use Rattle.gb_tree.specs.declared.form.FormShape.{FormShape, out-FormShape, roll-FormShape}
+use Rattle.gb_tree.specs.declared.form.FormShape.TheOpen as layer
+use Rattle.gb_tree.specs.declared.form.FormShape.TheFolds.{map-FormShape, ind-FormTree}
+use Rattle.gb_tree.specs.declared.form.FormShape.TheViews.{out-roll-FormShape}
+use Rattle.gb_tree.specs.declared.form.FormTree.{FormTree, FormTree-F, map-FormTree, roll-FormTree}
+use Rattle.gb_tree.specs.declared.form.ProcPath.{ProcPath}
+use Rattle.gb_tree.specs.declared.form.Quantifier.{Quantifier}
+use Rattle.gb_typed.proofs.Constructors.{distribution_is}
+use Rattle.gb_elab.specs.declared.setting.Language.{Language}
+use Rattle.gb_elab.specs.declared.setting.Language.TheVariants.{Formula, Program}
+use Rattle.gb_elab.specs.Answers.{◌>>=◌, truth, wanted}
+use Rattle.gb_elab.specs.Answers.Answer.{given}
+use Rattle.gb_elab.specs.Environment.{Environment}
+use Rattle.gb_elab.specs.Forms.{Typing, typing, elaborated, bound_by, coin, equalities, formula, is_program, left_side, negated, over_all, quantified, read, wants_distribution, with_right_side}
+use Rattle.gb_elab.specs.Judgments.{named_procedure, before, after, equivalent, reference}
+use Rattle.gb_elab.specs.Names.{named, unit}
+use Rattle.gb_elab.proofs.Elaborated.{parts, elaborated_is}
+use Rattle.gb_ready.proofs.Linked.{typed_procedure}
+use Rattle.gb_given.specs.Fitting.{IsFitting, IsGiven, IsOfProgram}
+use Rattle.gb_given.proofs.Given.{given_bind, given_is, if_refused}
+use Rattle.gb_given.proofs.Typed.{leaf, truth_given, wanted_given, of_given}
+use Rattle.gb_given.proofs.Leaves.{named_typed, read_typed, unit_typed}
+use Rattle.gb_given.proofs.Equations.{binary_typed, negated_typed, equalities_typed}
+use Rattle.gb_given.proofs.Quantified.{have_reversed, binders_typed, over_all_typed}
+use Rattle.gb_given.proofs.Judged.{named_is, before_fits, after_fits, equivalence_typed}
+
+-- a typing gives typed terms
+abbrev pub GivesTyped : Typing → Type 0
+GivesTyped f = (at : Environment) (vs : List TypedName) → IsFitting at vs → (w : Option Ty) (u : Term) → f at vs w ≡ given u → IsGiven at vs w u
+
+abbrev OfShape : FormShape → Type 0
+OfShape s = (p : Place) → GivesTyped (typing (parts (out-FormShape s)) p)
+
+abbrev OfTree : FormTree → Type 0
+OfTree t = GivesTyped (elaborated t)
+
+not_program : (l : Language) → is_program l ≡ false → IsOfProgram l → ⊥
+not_program Formula h k = k
+not_program Program h k = false≢true (sym h)
+
+coin_typed : (at : Environment) (vs : List TypedName) (w : Option Ty) (p : Place) (u : Term) → coin at w p ≡ given u → IsGiven at vs w u
+unfolding coin
+coin_typed at vs w p u h =
+    let c = node (Builtin op.Coin) [] (ty.Distr ty.Bool) in
+    wanted_given at vs w p c u (ty.Distr ty.Bool, leaf at vs (Builtin op.Coin) (ty.Distr ty.Bool) (distribution_is ty.Bool) tt tt)
+    (if_refused (is_program at.language && not (wants_distribution w)) Argument p (wanted w p c) u h).1
+
+module _ (at : Environment) (vs : List TypedName) (fit : IsFitting at vs) (w : Option Ty) (p : Place) (u : Term) where
+  quantified_typed : (q : Quantifier) (bs : List Binder) (a : FormTree) → OfTree a → (formula at w p >>= λ _. quantified q bs vs (elaborated a at)) ≡ given u → IsGiven at vs w u
+  quantified_typed q bs a ga h =
+      let f = given_bind (formula at w p) (λ _. quantified q bs vs (elaborated a at)) u h in
+      let k = if_refused (is_program at.language) Argument p (truth w p) f.0 f.1 in
+      let ws = reverse (bound_by bs) ++ vs in
+      let r = given_bind (elaborated a at ws (Some ty.Bool)) (λ t. given (over_all q (bound_by bs) t)) u f.2 in
+      let inside : IsFitting at ws =
+      record { scope = fit.scope; logical = fit.logical; variables = fit.variables; bound = have_reversed (bound_by bs) vs (binders_typed bs) fit.bound } in
+      let body = of_given at ws ty.Bool r.0 (ga at ws inside (Some ty.Bool) r.0 r.1) in
+      subst (IsGiven at vs w) (given_is _ u r.2) (truth_given at vs w p f.0 (over_all q (bound_by bs) r.0) k.1 (over_all_typed at q (bound_by bs) vs r.0 (binders_typed bs) body))
+
+  equiv_typed : (f g : ProcPath) (a b : FormTree) → OfTree a → OfTree b → typing (parts (layer.Equiv f g a b)) p at vs w ≡ given u → IsGiven at vs w u
+  unfolding typing
+  equiv_typed f g a b ga gb h =
+      let x = given_bind (formula at w p) _ u h in
+      let k = if_refused (is_program at.language) Argument p (truth w p) x.0 x.1 in
+      let l = given_bind (named_procedure at vs f) _ u x.2 in
+      let r = given_bind (named_procedure at vs g) _ u l.2 in
+      let pre = given_bind (elaborated a (before at l.0 r.0) vs (Some ty.Bool)) _ u r.2 in
+      let post = given_bind (elaborated b (after at l.0 r.0) vs (Some ty.Bool)) _ u pre.2 in
+      let el = named_is at vs f l.0 l.1 in
+      let er = named_is at vs g r.0 r.1 in
+      let tl = typed_procedure at.declared fit.scope (reference f) l.0 el in
+      let tr = typed_procedure at.declared fit.scope (reference g) r.0 er in
+      subst (IsGiven at vs w) (given_is (equivalent f g pre.0 post.0) u post.2)
+      (truth_given at vs w p x.0 (equivalent f g pre.0 post.0) k.1
+      (equivalence_typed at vs fit f g l.0 r.0 pre.0 post.0 (not_program at.language k.0) el er
+      (ga (before at l.0 r.0) vs (before_fits at vs fit l.0 r.0 tl tr) (Some ty.Bool) pre.0 pre.1)
+      (gb (after at l.0 r.0) vs (after_fits at vs fit l.0 r.0 tl tr) (Some ty.Bool) post.0 post.1)))
+
+abbrev Parts : Type 0
+Parts = layer.FormShape-F ((s : FormShape) × OfShape s) ((t : FormTree) × OfTree t)
+
+abbrev bare : Parts → layer.FormShape-F FormShape FormTree
+bare = map-FormShape ((s : FormShape) × OfShape s) ((t : FormTree) × OfTree t) FormShape FormTree (λ e. e.0) (λ e. e.0)
+
+of_layer : (y : Parts) (p : Place) → GivesTyped (typing (parts (bare y)) p)
+unfolding typing
+of_layer (layer.Path x) p at vs fit w u h =
+    let q = given_bind (named at vs x p) (wanted w p) u h in wanted_given at vs w p q.0 u (named_typed at vs fit x p q.0 q.1) q.2
+of_layer layer.Unit p at vs fit w u h = wanted_given at vs w p unit u (ty.Unit, unit_typed at vs fit) h
+of_layer (layer.Bracketed a) p at vs fit w u h = a.1 at vs fit w u h
+of_layer (layer.Sided a s) p at vs fit w u h =
+    let q = given_bind (read at vs (out-FormShape a.0.shape) a.0.place s) (wanted w p) u h in
+    wanted_given at vs w p q.0 u (read_typed at vs fit (out-FormShape a.0.shape) a.0.place s q.0 q.1) q.2
+of_layer layer.Coin p at vs fit w u h = coin_typed at vs w p u h
+of_layer (layer.Function xs ty a) p at vs fit w u h = cc
+of_layer (layer.Not a) p at vs fit w u h =
+    let q = given_bind (truth w p) (λ _. negated (elaborated a.0 at vs)) u h in
+    truth_given at vs w p q.0 u q.1 (negated_typed at vs (elaborated a.0 at vs) (a.1 at vs fit) u q.2)
+of_layer (layer.Binary c a b) p at vs fit w u h =
+    let q = given_bind (truth w p) (λ _. left_side c p (elaborated a.0 at vs) >>= λ l. with_right_side c l (elaborated b.0 at vs)) u h in
+    truth_given at vs w p q.0 u q.1 (binary_typed at vs c p (elaborated a.0 at vs) (elaborated b.0 at vs) (a.1 at vs fit) (b.1 at vs fit) u q.2)
+of_layer (layer.Equalities xs) p at vs fit w u h =
+    let q = given_bind (truth w p) (λ _. equalities at vs xs p) u h in
+    truth_given at vs w p q.0 u q.1 (equalities_typed at vs fit xs p u q.2)
+of_layer (layer.Quantified q bs a) p at vs fit w u h = quantified_typed at vs fit w p u q bs a.0 a.1 h
+of_layer (layer.Equiv f g a b) p at vs fit w u h = equiv_typed at vs fit w p u f g a.0 b.0 a.1 b.1 h
+
+of_shape : (y : Parts) → OfShape (roll-FormShape (bare y))
+of_shape y p = subst (λ z. GivesTyped (typing (parts z) p)) (sym (out-roll-FormShape (bare y))) (of_layer y p)
+
+abbrev TreeParts : Type 0
+TreeParts = FormTree-F ((s : FormShape) × OfShape s) ((t : FormTree) × OfTree t)
+
+abbrev bare_tree : TreeParts → FormTree-F FormShape FormTree
+bare_tree = map-FormTree ((s : FormShape) × OfShape s) ((t : FormTree) × OfTree t) FormShape FormTree (λ e. e.0) (λ e. e.0)
+
+of_tree : (y : TreeParts) → OfTree (roll-FormTree (bare_tree y))
+of_tree y at vs fit w u h = y.shape.1 y.place at vs fit w u (sym (elaborated_is (roll-FormTree (bare_tree y)) at vs w) ∙ h)
+
+pub elaborated_typed : (t : FormTree) → GivesTyped (elaborated t)
+elaborated_typed =
+    ind-FormTree OfShape OfTree (λ x y is. subst (λ z. OfShape (roll-FormShape z)) is (of_shape y)) (λ x y is. subst (λ z. OfTree (roll-FormTree z)) is (of_tree y))

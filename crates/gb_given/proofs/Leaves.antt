@@ -1,0 +1,211 @@
+-- What a name means is typed.
+use Rattle.std.proofs.Common.{◌≡◌, Bool, true, false, if◌then◌else◌, List, [], map, get_or, is_some, Option, Some, None, option_map, bytes_eq, refl, ap, sym, ◌∙◌, subst}
+use Rattle.std.specs.Prelude.{codes}
+use Rattle.std.specs.Option.{option_map_or}
+use Rattle.std.specs.List.{list_any}
+use Rattle.gb_core.specs.declared.place.Place.{Place}
+use Rattle.gb_core.specs.declared.refusal.Why.TheVariants.{UnknownName, Argument}
+use Rattle.gb_core.specs.declared.ty.Ty.{Ty}
+use Rattle.gb_core.specs.declared.ty.Ty.TheVariants as ty
+use Rattle.gb_core.specs.declared.value.Value as X
+use Rattle.gb_core.specs.declared.value.Value.TheVariants.{Num}
+use Rattle.gb_core.specs.declared.var.Var.TheVariants.{Local}
+use Rattle.gb_terms.specs.declared.decl.TypedName.{TypedName}
+use Rattle.gb_terms.specs.declared.op.Side.{Side}
+use Rattle.gb_terms.specs.declared.op.Side.TheVariants as side
+use Rattle.gb_terms.specs.declared.op.Read.TheVariants as read_of
+use Rattle.gb_terms.specs.declared.term.Term.{Term}
+use Rattle.gb_terms.specs.declared.term.Head.TheVariants.{Lit, Read, Bound}
+use Rattle.gb_terms.specs.Make.{node, truth_literal}
+use Rattle.gb_tree.specs.declared.form.FormShape.{FormShape}
+use Rattle.gb_tree.specs.declared.form.FormShape.TheOpen as layer
+use Rattle.gb_tree.specs.declared.form.FormTree.{FormTree}
+use Rattle.gb_tree.specs.declared.form.SideTree.{SideTree}
+use Rattle.gb_tree.specs.declared.form.SideTree.TheVariants as text
+use Rattle.gb_tree.specs.declared.form.Word.{Word}
+use Rattle.gb_typed.specs.Finite.{IsVariableType}
+use Rattle.gb_typed.specs.Typing.{Context, binder, IsBoundAt, IsSide}
+use Rattle.gb_typed.specs.Typing.Binder.{program}
+use Rattle.gb_typed.specs.Operators.{item}
+use Rattle.gb_typed.specs.Programs.{local_type}
+use Rattle.gb_elab.specs.declared.setting.Language.{Language}
+use Rattle.gb_elab.specs.declared.setting.Language.TheVariants.{Formula, Program}
+use Rattle.gb_elab.specs.declared.setting.Variables.{Variables}
+use Rattle.gb_elab.specs.declared.setting.Variables.TheVariants.{Absent, Own, Sides}
+use Rattle.gb_elab.specs.Answers.{Answer, counted, given_or}
+use Rattle.gb_elab.specs.Answers.Answer.{given, refused}
+use Rattle.gb_elab.specs.Environment.{Name, Environment, own, own_of, on_side, sides_of}
+use Rattle.gb_elab.specs.Names.{first_named, number_before, unit, built_in, constant_term, bound_variable, logical_variable, program_variable, names_other, unbound, named, no_variable, variable_on, sided, in_memory}
+use Rattle.gb_elab.specs.Forms.{read, remembered}
+use Rattle.gb_sound.proofs.Shapes.{none_some, same_some}
+use Rattle.gb_ready.specs.Scoped.{IsReadable, HaveVariableTypes}
+use Rattle.gb_ready.proofs.Procedures.{variable_finite}
+use Rattle.gb_given.specs.Fitting.{binders, context_under, frames_under, AreTypedVariables, IsFitting}
+use Rattle.gb_given.proofs.Given.{given_bind, given_is, if_refused, some_given, counted_is}
+use Rattle.gb_given.proofs.Types.{no_distribution, bool_literal, unit_literal}
+use Rattle.gb_given.proofs.Found.{Found, found}
+use Rattle.gb_given.proofs.Typed.{Typed, IsSome, leaf}
+
+-- P holds of what is there
+OnSome : {A : Type 0} → (A → Type 0) → Option A → Type 0
+OnSome P None = Unit {0}
+OnSome P (Some x) = P x
+
+on_this : {A : Type 0} (P : A → Type 0) (x : A) → P x → OnSome P (Some x)
+unfolding OnSome
+on_this P x h = h
+
+on_none : {A : Type 0} (P : A → Type 0) → OnSome P None
+unfolding OnSome
+on_none P = tt
+
+on_either : {A : Type 0} (P : A → Type 0) (b : Bool) (x y : Option A) → OnSome P x → OnSome P y → OnSome P (if b then x else y)
+on_either P true x y h k = h
+on_either P false x y h k = k
+
+on_found : {A : Type 0} (P : A → Type 0) (o : Option A) (x : A) → o ≡ Some x → OnSome P o → P x
+unfolding OnSome
+on_found P (Some y) x e h = subst P (same_some y x e) h
+on_found P None x e h = none_some x e
+
+mapped : {A B : Type 0} (f : A → B) (o : Option A) (y : B) → option_map f o ≡ Some y → (x : A) × (o ≡ Some x) × (f x ≡ y)
+mapped f (Some x) y e = (x, refl, same_some (f x) y e)
+mapped f None y e = none_some y e
+
+own_typed : (vars : Variables) → AreTypedVariables vars → HaveVariableTypes (own_of vars)
+own_typed Absent h = tt
+own_typed (Own ls) h = h
+own_typed (Sides ls rs) h = tt
+
+-- a variable of the program around stands in the own frame
+own_in : (vars : Variables) (vs : List TypedName) (x : Name) (t : Ty) → local_type (own_of vars) x ≡ Some t → IsReadable (frames_under vars vs) side.Own (Local x) t
+own_in Absent vs x t e = none_some t e
+own_in (Own ls) vs x t e = e
+own_in (Sides ls rs) vs x t e = none_some t e
+
+-- the variables of a side, which have types of variables, stand in its frame
+record OnSide (vars : Variables) (vs : List TypedName) (s : Side) (ls : List TypedName) : Type 0 where
+  side : (c : Context) → IsSide c s
+  typed : HaveVariableTypes ls
+  readable : (x : Name) (t : Ty) → local_type ls x ≡ Some t → IsReadable (frames_under vars vs) s (Local x) t
+
+left_side_of : (ls rs vs ms : List TypedName) → HaveVariableTypes ls → ls ≡ ms → OnSide (Sides ls rs) vs side.Left ms
+left_side_of ls rs vs ms h e = record { side = λ c. tt; typed = subst HaveVariableTypes e h; readable = λ x t f. ap (λ z. local_type z x) e ∙ f }
+
+right_side_of : (ls rs vs ms : List TypedName) → HaveVariableTypes rs → rs ≡ ms → OnSide (Sides ls rs) vs side.Right ms
+right_side_of ls rs vs ms h e = record { side = λ c. tt; typed = subst HaveVariableTypes e h; readable = λ x t f. ap (λ z. local_type z x) e ∙ f }
+
+side_there : (vars : Variables) (vs : List TypedName) (s : Side) (ls : List TypedName) → AreTypedVariables vars → sides_of vars s ≡ Some ls → OnSide vars vs s ls
+side_there (Sides ls rs) vs side.Left ms h e = left_side_of ls rs vs ms h.0 (same_some ls ms e)
+side_there (Sides ls rs) vs side.Right ms h e = right_side_of ls rs vs ms h.1 (same_some rs ms e)
+side_there _ vs s ms h e = none_some ms e
+
+module _ (at : Environment) (vs : List TypedName) (fit : IsFitting at vs) where
+  pub truth_typed : (b : Bool) → Typed at vs ty.Bool (truth_literal b)
+  unfolding X.out-Value denote.Hole.Carrier.out
+  truth_typed true = leaf at vs (Lit (Num 1)) ty.Bool (bool_literal 1 refl) tt tt
+  truth_typed false = leaf at vs (Lit (Num 0)) ty.Bool (bool_literal 0 refl) tt tt
+
+  pub unit_typed : Typed at vs ty.Unit unit
+  unit_typed = leaf at vs (Lit (Num 0)) ty.Unit unit_literal tt tt
+
+  constants_typed : (x : Name) → OnSome (λ k. IsSome at vs (constant_term k)) (built_in x)
+  constants_typed x =
+      let yes : IsSome at vs (truth_literal true) = (ty.Bool, truth_typed true) in
+      let no : IsSome at vs (truth_literal false) = (ty.Bool, truth_typed false) in
+      let one : IsSome at vs unit = (ty.Unit, unit_typed) in
+      on_either (λ k. IsSome at vs (constant_term k)) (bytes_eq x (codes "true")) _ _ (on_this (λ k. IsSome at vs (constant_term k)) _ yes)
+      (on_either (λ k. IsSome at vs (constant_term k)) (bytes_eq x (codes "false")) _ _ (on_this (λ k. IsSome at vs (constant_term k)) _ no)
+      (on_either (λ k. IsSome at vs (constant_term k)) (bytes_eq x (codes "tt")) _ _ (on_this (λ k. IsSome at vs (constant_term k)) _ one)
+      (on_none (λ k. IsSome at vs (constant_term k)))))
+
+  bound_typed : (x : Name) (v : TypedName) (u : Term) → Found vs x v → bound_variable (number_before vs x) v ≡ given u → IsSome at vs u
+  bound_typed x v u f h =
+      let q = given_bind (counted (number_before vs x)) (λ i. given (node (Bound i) [] v.ty)) u h in
+      let there : binder (context_under at.sequent vs) q.0 ≡ _ = ap (λ i. get_or (binders vs) i program) (sym (counted_is _ q.0 q.1)) ∙ f.bound in
+      subst (IsSome at vs) (given_is _ u q.2)
+      (v.ty, leaf at vs (Bound q.0) v.ty (subst (λ z. IsBoundAt z v.ty) (sym there) (no_distribution v.ty (f.variable fit.bound), refl)) tt tt)
+
+  logical_typed : (x : Name) (v : TypedName) (u : Term) → Found at.sequent.logical x v → logical_variable (number_before at.sequent.logical x) v ≡ given u → IsSome at vs u
+  logical_typed x v u f h =
+      let q = given_bind (counted (number_before at.sequent.logical x)) (λ i. given (node (Read (read_of.Logical i)) [] v.ty)) u h in
+      let there : item (map (λ (l : TypedName). l.ty) at.sequent.logical) q.0 ≡ Some v.ty = ap (item (map (λ (l : TypedName). l.ty) at.sequent.logical)) (sym (counted_is _ q.0 q.1)) ∙ f.item in
+      subst (IsSome at vs) (given_is _ u q.2)
+      (v.ty, leaf at vs (Read (read_of.Logical q.0)) v.ty (variable_finite v.ty (f.variable fit.logical), there) tt tt)
+
+  own_variable_typed : (x : Name) (v : TypedName) → Found (own at) x v → IsSome at vs (program_variable side.Own v)
+  own_variable_typed x v f =
+      let there : local_type (own at) v.name ≡ Some v.ty = ap (local_type (own at)) f.name ∙ f.frame in (
+        v.ty,
+        leaf at vs (Read (read_of.Program (Local v.name) side.Own)) v.ty (tt, variable_finite v.ty (f.variable (own_typed at.variables fit.variables)))
+            (own_in at.variables vs v.name v.ty there) tt,
+      )
+
+  unbound_typed : (x : Name) (p : Place) (u : Term) → unbound at x p ≡ given u → IsSome at vs u
+  unfolding unbound
+  unbound_typed x p u h =
+      let q = if_refused (names_other at x) Argument p (given_or (option_map constant_term (built_in x)) (UnknownName x) p) u h in
+      let k = mapped constant_term (built_in x) u (some_given (option_map constant_term (built_in x)) (UnknownName x) p u q.1) in
+      subst (IsSome at vs) k.2 (on_found (λ z. IsSome at vs (constant_term z)) (built_in x) k.0 k.1 (constants_typed x))
+
+  -- a choice between what a name may mean
+  chosen : (f : TypedName → Answer Term) (o : Option TypedName) (d : Answer Term) (u : Term) → ((v : TypedName) → o ≡ Some v → f v ≡ given u → IsSome at vs u) →
+      (d ≡ given u → IsSome at vs u) → option_map_or f o d ≡ given u → IsSome at vs u
+  chosen f (Some v) d u k l h = k v refl h
+  chosen f None d u k l h = l h
+
+  -- a name without a side
+  pub named_typed : (x : Name) (p : Place) (u : Term) → named at vs x p ≡ given u → IsSome at vs u
+  unfolding named
+  named_typed x p u h =
+      let logicals = at.sequent.logical in
+      chosen (bound_variable (number_before vs x)) (first_named vs x) _ u (λ v e k. bound_typed x v u (found vs x v e) k)
+      (chosen (λ v. given (program_variable side.Own v)) (first_named (own at) x) _ u (λ v e k. subst (IsSome at vs) (given_is _ u k) (own_variable_typed x v (found (own at) x v e)))
+      (chosen (logical_variable (number_before logicals x)) (first_named logicals x) (unbound at x p) u (λ v e k. logical_typed x v u (found logicals x v e) k) (unbound_typed x p u)))
+      h
+
+  -- a typed term of a type that variables may have
+  abbrev pub IsVariable : Term → Type 0
+  IsVariable t = (a : Ty) × IsVariableType a × Typed at vs a t
+
+  side_typed : (s : Side) (ls : List TypedName) → OnSide at.variables vs s ls → (x : Name) (v : TypedName) → Found ls x v → IsVariable (program_variable s v)
+  side_typed s ls o x v f =
+      let there : local_type ls v.name ≡ Some v.ty = ap (local_type ls) f.name ∙ f.frame in (
+        v.ty,
+        f.variable o.typed,
+        leaf at vs (Read (read_of.Program (Local v.name) s)) v.ty (o.side (context_under at.sequent vs), variable_finite v.ty (f.variable o.typed)) (o.readable v.name v.ty there) tt,
+      )
+
+  variable_typed : (x : Name) (s : Side) (p : Place) (ls : List TypedName) (u : Term) → OnSide at.variables vs s ls → variable_on at vs x s p ls ≡ given u → IsVariable u
+  variable_typed x s p ls u o h =
+      let q = if_refused (is_some (first_named vs x)) Argument p (given_or (option_map (program_variable s) (first_named ls x)) (no_variable at x) p) u h in
+      let k = mapped (program_variable s) (first_named ls x) u (some_given (option_map (program_variable s) (first_named ls x)) (no_variable at x) p u q.1) in
+      subst IsVariable k.2 (side_typed s ls o x k.0 (found ls x k.0 k.1))
+
+  -- a name with a side
+  pub sided_typed : (x : Name) (s : Side) (p : Place) (u : Term) → sided at vs x s p ≡ given u → IsVariable u
+  unfolding sided
+  sided_typed x s p u h = step (on_side at s) refl h
+    where
+      step : (o : Option (List TypedName)) → on_side at s ≡ o → option_map_or (variable_on at vs x s p) o (refused Argument p) ≡ given u → IsVariable u
+      step (Some ls) e h = variable_typed x s p ls u (side_there at.variables vs s ls fit.variables e) h
+      step None e h = cc
+
+  no_memory : (x : Name) (m : Word) (p : Place) (u : Term) → in_memory at x m p ≡ given u → ⊥
+  unfolding in_memory
+  no_memory x m p u h = step (list_any (λ n. bytes_eq n m.name) at.sequent.memories) h
+    where
+      step : (b : Bool) → (if b then refused (no_variable at x) p else refused (UnknownName m.name) m.place) ≡ given u → ⊥
+      step true h = cc
+      step false h = cc
+
+  none_remembered : (l : Language) (x : Name) (m : Word) (p : Place) (u : Term) → remembered l at x m p ≡ given u → ⊥
+  none_remembered Program x m p u h = cc
+  none_remembered Formula x m p u h = no_memory x m p u h
+
+  -- a form with a side
+  pub read_typed : (l : layer.FormShape-F FormShape FormTree) (p : Place) (s : SideTree) (u : Term) → read at vs l p s ≡ given u → IsSome at vs u
+  read_typed (layer.Path x) p text.Left u h = let q = sided_typed x side.Left p u h in (q.0, q.2)
+  read_typed (layer.Path x) p text.Right u h = let q = sided_typed x side.Right p u h in (q.0, q.2)
+  read_typed (layer.Path x) p (text.Memory m) u h = absurd (none_remembered at.language x m p u h)
+  read_typed _ p s u h = cc

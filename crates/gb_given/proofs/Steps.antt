@@ -1,0 +1,29 @@
+-- What the typing of several functions gives is typed.
+use Rattle.std.proofs.Common.{◌≡◌, List, [], ◌∷◌, subst}
+use Rattle.gb_core.specs.declared.ty.Ty.{Ty}
+use Rattle.gb_terms.specs.declared.term.Term.{Term}
+use Rattle.gb_tree.specs.declared.form.FormTree.{FormTree}
+use Rattle.gb_typed.specs.Finite.{IsVariableType}
+use Rattle.gb_elab.specs.Answers.Answer.{given}
+use Rattle.gb_elab.specs.Environment.{Environment}
+use Rattle.gb_elab.specs.Forms.{function}
+use Rattle.gb_elab_mod.specs.Steps.{functions, there_and_back}
+use Rattle.gb_given.specs.Fitting.{IsFitting, AreFunctions, AreThereAndBack}
+use Rattle.gb_given.proofs.Given.{given_bind, given_is}
+use Rattle.gb_given.proofs.Functions.{function_typed}
+
+module _ (at : Environment) (fit : IsFitting at []) where
+  functions_typed : (fs : List FormTree) (a b : Ty) → IsVariableType a → (ts : List Term) → functions at fs a b ≡ given ts → AreFunctions at a b ts
+  functions_typed [] a b v ts h = subst (AreFunctions at a b) (given_is [] ts h) tt
+  functions_typed (f ∷ fs) a b v ts h =
+      let t = given_bind (function f at a b) _ ts h in
+      let us = given_bind (functions at fs a b) (λ (us : List Term). given (t.0 ∷ us)) ts t.2 in
+      subst (AreFunctions at a b) (given_is (t.0 ∷ us.0) ts us.2) (function_typed f at fit a b v t.0 t.1, functions_typed fs a b v us.0 us.1)
+
+  pub there_and_back_typed : (fs : List FormTree) (a b : Ty) → IsVariableType a → IsVariableType b → (ts : List Term) → there_and_back at fs a b ≡ given ts → AreThereAndBack at a b ts
+  unfolding there_and_back
+  there_and_back_typed [] a b v w ts h = subst (AreThereAndBack at a b) (given_is [] ts h) tt
+  there_and_back_typed (f ∷ fs) a b v w ts h =
+      let t = given_bind (function f at a b) _ ts h in
+      let us = given_bind (functions at fs b a) (λ (us : List Term). given (t.0 ∷ us)) ts t.2 in
+      subst (AreThereAndBack at a b) (given_is (t.0 ∷ us.0) ts us.2) (function_typed f at fit a b v t.0 t.1, functions_typed fs b a w us.0 us.1)
