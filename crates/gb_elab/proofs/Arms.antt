@@ -23,7 +23,7 @@ use Rattle.gb_tree.specs.declared.form.Word.{Word}
 use Rattle.gb_elab.specs.Answers.{Answer, ◌>>=◌, Answers, Fails, truth, wanted}
 use Rattle.gb_elab.specs.Answers.Answer.{given, refused}
 use Rattle.gb_elab.specs.Environment.{Environment}
-use Rattle.gb_elab.specs.Forms.{typing, elaborated, equalities, formula, judged, left_side, coin, negated, quantified, read, with_right_side}
+use Rattle.gb_elab.specs.Forms.{typing, elaborated, equalities, formula, judged, judgment, left_side, coin, negated, quantified, read, with_right_side}
 use Rattle.gb_elab.specs.Judgments.{named_procedure, before, after, equivalent}
 use Rattle.gb_elab.specs.Names.{named, unit}
 use Rattle.gb_elab.proofs.Elaborated.{parts, elaborated_is}
@@ -121,9 +121,9 @@ module _ (t : FormTree) (at : Environment) (bound : List TypedName) (w : Option 
   unfolding typing
   quantified_gives q bs a x r i h k = answers_as _ _ r (by_layer (layer.Quantified q bs a) (ap out-FormShape i ∙ outs-Quantified q bs a) ∙ leads_on (formula at w t.place) (λ _. quantified q bs bound (elaborated a at)) x h) k
 
-  pub equiv_fails : (f g : ProcPath) (a b : FormTree) (e : Refused) → t.shape ≡ shape.Equiv f g a b → Fails (formula at w t.place) e → Fails (elaborated t at bound w) e
+  pub equiv_fails : (f g : ProcPath) (a b : FormTree) (e : Refused) → t.shape ≡ shape.Equiv f g a b → Fails (judgment at w t.place) e → Fails (elaborated t at bound w) e
   unfolding typing
-  equiv_fails f g a b e i h = fails_as _ _ e (by_layer (layer.Equiv f g a b) (ap out-FormShape i ∙ outs-Equiv f g a b)) (passes (formula at w t.place) (λ _. judged at bound f g (elaborated a) (elaborated b)) e h)
+  equiv_fails f g a b e i h = fails_as _ _ e (by_layer (layer.Equiv f g a b) (ap out-FormShape i ∙ outs-Equiv f g a b)) (passes (judgment at w t.place) (λ _. judged at bound f g (elaborated a) (elaborated b)) e h)
 
   abbrev pub on_post : ProcPath → ProcPath → FormTree → Proc → Proc → Term → Answer Term
   on_post f g b left right pre = elaborated b (after at left right) bound (Some bool_ty) >>= λ post. given (equivalent f g pre post)
@@ -134,10 +134,10 @@ module _ (t : FormTree) (at : Environment) (bound : List TypedName) (w : Option 
   abbrev pub on_right : ProcPath → ProcPath → FormTree → FormTree → Proc → Answer Term
   on_right f g a b left = named_procedure at bound g >>= λ right. on_pre f g a b left right
 
-  module _ (f g : ProcPath) (a b : FormTree) (x : Unit {0}) (i : t.shape ≡ shape.Equiv f g a b) (h : formula at w t.place ≡ given x) where
+  module _ (f g : ProcPath) (a b : FormTree) (x : Unit {0}) (i : t.shape ≡ shape.Equiv f g a b) (h : judgment at w t.place ≡ given x) where
     equiv_is : elaborated t at bound w ≡ (named_procedure at bound f >>= λ left. on_right f g a b left)
     unfolding typing
-    equiv_is = by_layer (layer.Equiv f g a b) (ap out-FormShape i ∙ outs-Equiv f g a b) ∙ leads_on (formula at w t.place) (λ _. judged at bound f g (elaborated a) (elaborated b)) x h
+    equiv_is = by_layer (layer.Equiv f g a b) (ap out-FormShape i ∙ outs-Equiv f g a b) ∙ leads_on (judgment at w t.place) (λ _. judged at bound f g (elaborated a) (elaborated b)) x h
 
     pub equiv_left_fails : (e : Refused) → Fails (named_procedure at bound f) e → Fails (elaborated t at bound w) e
     equiv_left_fails e k = fails_as _ _ e equiv_is (passes (named_procedure at bound f) (λ left. on_right f g a b left) e k)

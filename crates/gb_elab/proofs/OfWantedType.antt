@@ -30,7 +30,7 @@ use Rattle.gb_tree.specs.declared.form.Word.{Word}
 use Rattle.gb_elab.specs.Answers.{Answer, ◌>>=◌, Answers, HasType, fits, truth, type_of_term, wanted}
 use Rattle.gb_elab.specs.Answers.Answer.{given, refused}
 use Rattle.gb_elab.specs.Environment.{Environment, on_side}
-use Rattle.gb_elab.specs.Forms.{Typing, typing, elaborated, bound_by, coin, equalities, equality, formula, is_program, joined, judged, left_side, negated, over, over_all, quantified, read, wants_distribution, with_equalities, with_right_side, operator}
+use Rattle.gb_elab.specs.Forms.{Typing, typing, elaborated, bound_by, coin, equalities, equality, formula, has_judgments, is_program, joined, judged, judgment, left_side, negated, over, over_all, quantified, read, wants_distribution, with_equalities, with_right_side, operator}
 use Rattle.gb_elab.specs.Judgments.{named_procedure, before, after, equivalent, reference}
 use Rattle.gb_elab.specs.Names.{named, sided, unit}
 use Rattle.gb_elab.proofs.Elaborated.{parts, elaborated_is}
@@ -54,6 +54,10 @@ if_refused : {A : Type 0} (b : Bool) (w : Why) (p : Place) (a : Answer A) (y : A
 if_refused true w p a y h = refused_not w p y h _
 if_refused false w p a y h = h
 
+if_else_refused : {A : Type 0} (b : Bool) (w : Why) (p : Place) (a : Answer A) (y : A) → (if b then a else refused w p) ≡ given y → a ≡ given y
+if_else_refused true w p a y h = h
+if_else_refused false w p a y h = refused_not w p y h _
+
 fits_has : (w : Option Ty) (t : Term) → fits w (type_of_term t) ≡ true → HasType w t
 fits_has None t h = tt
 fits_has (Some ty) t h = (ty_eq-Decides (type_of_term t) ty).0 h
@@ -67,6 +71,9 @@ truth_has (Some ty) p x u h e = let q = if_given (fits (Some ty) bool_ty) tt Typ
 
 formula_has : (at : Environment) (w : Option Ty) (p : Place) (x : Unit {0}) (u : Term) → formula at w p ≡ given x → type_of_term u ≡ bool_ty → HasType w u
 formula_has at w p x u h e = truth_has w p x u (if_refused (is_program at.language) Argument p (truth w p) x h) e
+
+judgment_has : (at : Environment) (w : Option Ty) (p : Place) (x : Unit {0}) (u : Term) → judgment at w p ≡ given x → type_of_term u ≡ bool_ty → HasType w u
+judgment_has at w p x u h e = truth_has w p x u (if_else_refused (has_judgments at.language) Argument p (truth w p) x h) e
 
 node_type : (h : Head) (ts : List Term) (ty : Ty) → type_of_term (node h ts ty) ≡ ty
 node_type h ts ty = ap (λ z. z.ty) (out-roll-Term (record { head = h; args = ts; ty = ty }))
@@ -164,8 +171,8 @@ of_layer (layer.Quantified q bs a) o p at bound w u h =
     let r = given_bind (elaborated a at (reverse (bound_by bs) ++ bound) (Some bool_ty)) (λ t. given (over_all q (bound_by bs) t)) u f.2 in
     formula_has at w p f.0 u f.1 (ap type_of_term (sym (given_is (over_all q (bound_by bs) r.0) u r.2)) ∙ over_all_type q (bound_by bs) r.0 (o at (reverse (bound_by bs) ++ bound) (Some bool_ty) r.0 r.1))
 of_layer (layer.Equiv f g a b) o p at bound w u h =
-    let q = given_bind (formula at w p) (λ _. judged at bound f g (elaborated a) (elaborated b)) u h in
-    formula_has at w p q.0 u q.1 (judged_type at bound f g (elaborated a) (elaborated b) u q.2)
+    let q = given_bind (judgment at w p) (λ _. judged at bound f g (elaborated a) (elaborated b)) u h in
+    judgment_has at w p q.0 u q.1 (judged_type at bound f g (elaborated a) (elaborated b) u q.2)
 
 of_node : (s : FormShape) → Inner (out-FormShape s) → (q : Place) → OfTree (record { shape = s; place = q })
 of_node s o q at bound w u h = of_layer (out-FormShape s) o q at bound w u (sym (elaborated_is (record { shape = s; place = q }) at bound w) ∙ h)

@@ -6,7 +6,7 @@ use Rattle.gb_terms.specs.declared.op.Side.TheVariants as side
 use Rattle.gb_goal.specs.declared.sequent.Sequent.{Sequent}
 use Rattle.gb_goal.specs.Scope.{Declarations}
 use Rattle.gb_elab.specs.declared.setting.Language.{Language}
-use Rattle.gb_elab.specs.declared.setting.Language.TheVariants.{Formula, Program}
+use Rattle.gb_elab.specs.declared.setting.Language.TheVariants.{Formula, Function, Program}
 use Rattle.gb_elab.specs.declared.setting.Setting.{Setting}
 use Rattle.gb_elab.specs.declared.setting.Variables.{Variables}
 use Rattle.gb_elab.specs.declared.setting.Variables.TheVariants.{Absent, Own, Sides}
@@ -33,6 +33,10 @@ ambient ds s = record { declared = ds; sequent = s; variables = Absent; language
 -- a form on two programs with these variables
 abbrev pub relational : Declarations → Sequent → List TypedName → List TypedName → Environment
 relational ds s l r = record { declared = ds; sequent = s; variables = Sides l r; language = Formula }
+
+-- a function of a proof step, on two programs with these variables
+abbrev pub of_function : Declarations → Sequent → List TypedName → List TypedName → Environment
+of_function ds s l r = record { declared = ds; sequent = s; variables = Sides l r; language = Function }
 
 -- an expression of a program with these variables
 abbrev pub program : Declarations → Sequent → List TypedName → Environment

@@ -28,7 +28,7 @@ use Rattle.gb_tree.specs.declared.form.SideTree.TheVariants as text
 use Rattle.gb_tree.specs.declared.form.TypeTree.{TypeTree}
 use Rattle.gb_tree.specs.declared.form.Word.{Word}
 use Rattle.gb_elab.specs.declared.setting.Language.{Language}
-use Rattle.gb_elab.specs.declared.setting.Language.TheVariants.{Formula, Program}
+use Rattle.gb_elab.specs.declared.setting.Language.TheVariants.{Formula, Function, Program}
 use Rattle.gb_elab.specs.Answers.{Answer, ◌>>=◌, type_of_term, wanted, truth}
 use Rattle.gb_elab.specs.Answers.Answer.{given, refused}
 use Rattle.gb_elab.specs.Environment.{Environment, on_side}
@@ -69,12 +69,21 @@ wants_distribution None = false
 wants_distribution (Some t) = is_distribution t
 
 abbrev pub is_program : Language → Bool
-is_program Formula = false
 is_program Program = true
+is_program _ = false
+
+-- whether judgments may stand in a form
+abbrev pub has_judgments : Language → Bool
+has_judgments Formula = true
+has_judgments _ = false
 
 -- a truth that no program expression is
 abbrev pub formula : Environment → Option Ty → Place → Answer (Unit {0})
 formula at w p = if is_program at.language then refused Argument p else truth w p
+
+-- a judgment, which only formulas have
+abbrev pub judgment : Environment → Option Ty → Place → Answer (Unit {0})
+judgment at w p = if has_judgments at.language then truth w p else refused Argument p
 
 -- the fair coin, which a program has where it samples
 unfoldable pub coin : Environment → Option Ty → Place → Answer Term
@@ -85,7 +94,7 @@ coin at w p =
 -- a name in a named memory; a program expression has none
 abbrev pub remembered : Language → Environment → List ℕ → Word → Place → Answer Term
 remembered Program at x m p = refused Argument p
-remembered Formula at x m p = in_memory at x m p
+remembered _ at x m p = in_memory at x m p
 
 -- a form with a side, which is of a name alone
 abbrev pub read : Environment → List TypedName → layer.FormShape-F FormShape FormTree → Place → SideTree → Answer Term
@@ -198,7 +207,7 @@ typing (layer.Quantified q bs a) p at bound w = do
   _ ← formula at w p
   quantified q bs bound (a.1 at)
 typing (layer.Equiv f g a b) p at bound w = do
-  _ ← formula at w p
+  _ ← judgment at w p
   judged at bound f g a.1 b.1
 
 -- the typed tree of a form, or its refusal

@@ -5,7 +5,7 @@ ghost use Rattle.std.specs.Option.{option_copied};
 ghost use Rattle.gb_tree.specs.declared.form.FormShape.{out-FormShape};
 ghost use Rattle.gb_elab.specs.Answers.{Answers, truth};
 ghost use Rattle.gb_elab.specs.Environment.{ambient, environment};
-ghost use Rattle.gb_elab.specs.Forms.{coin, elaborated, equalities, equality, formula, function, is_equation, left_side, negated, operator, quantified, read, remembered, wants_distribution, with_equalities, with_right_side, written_as};
+ghost use Rattle.gb_elab.specs.Forms.{coin, elaborated, equalities, equality, formula, function, is_equation, judgment, left_side, negated, operator, quantified, read, remembered, wants_distribution, with_equalities, with_right_side, written_as};
 ghost use Rattle.gb_elab.specs.Judgments.{after, before};
 
 use crate::binders::{innermost_first, of_type, over_all, within};
@@ -105,7 +105,7 @@ pub fn typed(
             pre,
             post,
         } => {
-            formula(at, want, place)?;
+            judgment(at, want, place)?;
             let f = named_procedure(alloc, at, bound, left)?;
             let g = named_procedure(alloc, at, bound, right)?;
             let pre = precondition(alloc, at, bound, pre.get(), f, g)?;
@@ -150,7 +150,17 @@ fn formula(at: &Setting<'_>, want: Option<&Ty>, place: Place) -> Result<(), Refu
 {
     match at.language {
         Language::Program => Err(argument(place)),
+        _ => truth(want, place),
+    }
+}
+
+/// Refuses a judgment where none may stand, and one where another type is wanted.
+fn judgment(at: &Setting<'_>, want: Option<&Ty>, place: Place) -> Result<(), Refused>
+    ensures { Answers (judgment (environment at.now) (option_copied want.entry) place) result }
+{
+    match at.language {
         Language::Formula => truth(want, place),
+        _ => Err(argument(place)),
     }
 }
 
@@ -208,7 +218,7 @@ fn remembered(
 {
     match at.language {
         Language::Program => Err(argument(place)),
-        Language::Formula => in_memory(alloc, at, name, memory, place),
+        _ => in_memory(alloc, at, name, memory, place),
     }
 }
 

@@ -2,7 +2,7 @@
 
 ghost use Rattle.std.specs.Prelude.{◌≡◌};
 ghost use Rattle.std.specs.Option.{option_copied};
-ghost use Rattle.gb_elab.specs.Environment.{environment, ambient, relational, program, own_of, sides_of};
+ghost use Rattle.gb_elab.specs.Environment.{environment, ambient, relational, of_function, program, own_of, sides_of};
 
 use gb_goal::scope::Scope;
 use gb_goal::sequent::Sequent;
@@ -30,10 +30,12 @@ pub enum Variables {
     Sides { left: Typed, right: Typed },
 }
 
-/// Program expressions have no quantifier, judgment or side, and a distribution only where one is sampled.
+/// Program expressions have no quantifier, judgment or side, and a distribution only where one is sampled. A function of a
+/// proof step is put in where the memories of a judgment are bound, so it has no judgment of its own.
 #[derive(Clone, Copy, Debug, PartialEq, Eq)]
 pub enum Language {
     Formula,
+    Function,
     Program,
 }
 
@@ -64,6 +66,23 @@ impl<'a> Setting<'a> {
             sequent,
             variables: Variables::Sides { left, right },
             language: Language::Formula,
+        }
+    }
+
+    /// The setting of a function of a proof step, on two programs with these variables.
+    pub fn function(
+        scope: &'a Scope,
+        sequent: &'a Sequent,
+        left: Typed,
+        right: Typed,
+    ) -> Setting<'a>
+        ensures { environment result ≡ of_function scope.now sequent.now left right }
+    {
+        Setting {
+            scope,
+            sequent,
+            variables: Variables::Sides { left, right },
+            language: Language::Function,
         }
     }
 

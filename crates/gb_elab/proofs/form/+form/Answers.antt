@@ -87,29 +87,29 @@ typed-returns-in_ok-formula-in-Quantified t c =
     (subst (λ a. Answers (quantified c.in-Quantified.quantifier c.in-Quantified.binders c.args.bound.now (elaborated a (environment c.args.at.now))) c.quantified.result) c.get-in-Quantified.ensures
     (subst (λ bs. Answers (quantified c.in-Quantified.quantifier bs c.args.bound.now (elaborated c.get-in-Quantified.result.now (environment c.args.at.now))) c.quantified.result) c.as_slice-in-Quantified.ensures c.quantified.ensures))
 
-pub typed-returns-in_err-formula-in-Equiv : goal.typed-returns-in_err-formula-in-Equiv
-typed-returns-in_err-formula-in-Equiv t c =
-    let h : Fails (elaborated c.args.t.now (environment c.args.at.now) c.args.bound.now (option_copied c.args.want)) c.in_err-formula-in-Equiv.field-0.0 = equiv_fails c.args.t.now (environment c.args.at.now) c.args.bound.now (option_copied c.args.want) c.in-Equiv.left c.in-Equiv.right c.in-Equiv.pre c.in-Equiv.post c.in_err-formula-in-Equiv.field-0.0 c.in-Equiv.is c.in_err-formula-in-Equiv.ensures in search (rules, h)
+pub typed-returns-in_err-judgment-in-Equiv : goal.typed-returns-in_err-judgment-in-Equiv
+typed-returns-in_err-judgment-in-Equiv t c =
+    let h : Fails (elaborated c.args.t.now (environment c.args.at.now) c.args.bound.now (option_copied c.args.want)) c.in_err-judgment-in-Equiv.field-0.0 = equiv_fails c.args.t.now (environment c.args.at.now) c.args.bound.now (option_copied c.args.want) c.in-Equiv.left c.in-Equiv.right c.in-Equiv.pre c.in-Equiv.post c.in_err-judgment-in-Equiv.field-0.0 c.in-Equiv.is c.in_err-judgment-in-Equiv.ensures in search (rules, h)
 
 pub typed-returns-in_err-f-in-Equiv : goal.typed-returns-in_err-f-in-Equiv
 typed-returns-in_err-f-in-Equiv t c =
-    let h : Fails (elaborated c.args.t.now (environment c.args.at.now) c.args.bound.now (option_copied c.args.want)) c.in_err-f-in-Equiv.field-0.0 = equiv_left_fails c.args.t.now (environment c.args.at.now) c.args.bound.now (option_copied c.args.want) c.in-Equiv.left c.in-Equiv.right c.in-Equiv.pre c.in-Equiv.post c.in_ok-formula-in-Equiv.field-0 c.in-Equiv.is c.in_ok-formula-in-Equiv.ensures c.in_err-f-in-Equiv.field-0.0 c.in_err-f-in-Equiv.ensures in search (rules, h)
+    let h : Fails (elaborated c.args.t.now (environment c.args.at.now) c.args.bound.now (option_copied c.args.want)) c.in_err-f-in-Equiv.field-0.0 = equiv_left_fails c.args.t.now (environment c.args.at.now) c.args.bound.now (option_copied c.args.want) c.in-Equiv.left c.in-Equiv.right c.in-Equiv.pre c.in-Equiv.post c.in_ok-judgment-in-Equiv.field-0 c.in-Equiv.is c.in_ok-judgment-in-Equiv.ensures c.in_err-f-in-Equiv.field-0.0 c.in_err-f-in-Equiv.ensures in search (rules, h)
 
 pub typed-returns-in_err-g-in-Equiv : goal.typed-returns-in_err-g-in-Equiv
 typed-returns-in_err-g-in-Equiv t c =
-    let h : Fails (elaborated c.args.t.now (environment c.args.at.now) c.args.bound.now (option_copied c.args.want)) c.in_err-g-in-Equiv.field-0.0 = equiv_right_fails c.args.t.now (environment c.args.at.now) c.args.bound.now (option_copied c.args.want) c.in-Equiv.left c.in-Equiv.right c.in-Equiv.pre c.in-Equiv.post c.in_ok-formula-in-Equiv.field-0 c.in-Equiv.is c.in_ok-formula-in-Equiv.ensures c.in_ok-f-in-Equiv.f.now c.in_err-g-in-Equiv.field-0.0 c.in_ok-f-in-Equiv.ensures c.in_err-g-in-Equiv.ensures in search (rules, h)
+    let h : Fails (elaborated c.args.t.now (environment c.args.at.now) c.args.bound.now (option_copied c.args.want)) c.in_err-g-in-Equiv.field-0.0 = equiv_right_fails c.args.t.now (environment c.args.at.now) c.args.bound.now (option_copied c.args.want) c.in-Equiv.left c.in-Equiv.right c.in-Equiv.pre c.in-Equiv.post c.in_ok-judgment-in-Equiv.field-0 c.in-Equiv.is c.in_ok-judgment-in-Equiv.ensures c.in_ok-f-in-Equiv.f.now c.in_err-g-in-Equiv.field-0.0 c.in_ok-f-in-Equiv.ensures c.in_err-g-in-Equiv.ensures in search (rules, h)
 
 pub typed-returns-in_err-pre-in-Equiv : goal.typed-returns-in_err-pre-in-Equiv
 typed-returns-in_err-pre-in-Equiv t c =
-    let h : Fails (elaborated c.args.t.now (environment c.args.at.now) c.args.bound.now (option_copied c.args.want)) c.in_err-pre-in-Equiv.field-0.0 = equiv_pre_fails c.args.t.now (environment c.args.at.now) c.args.bound.now (option_copied c.args.want) c.in-Equiv.left c.in-Equiv.right c.in-Equiv.pre c.in-Equiv.post c.in_ok-formula-in-Equiv.field-0 c.in-Equiv.is c.in_ok-formula-in-Equiv.ensures c.in_ok-f-in-Equiv.f.now c.in_ok-g-in-Equiv.g.now c.in_err-pre-in-Equiv.field-0.0 c.in_ok-f-in-Equiv.ensures c.in_ok-g-in-Equiv.ensures (subst (λ a. Fails (elaborated a (before (environment c.args.at.now) c.in_ok-f-in-Equiv.f.now c.in_ok-g-in-Equiv.g.now) c.args.bound.now (Some bool_ty)) c.in_err-pre-in-Equiv.field-0.0) c.get-in-Equiv.ensures c.in_err-pre-in-Equiv.ensures) in search (rules, h)
+    let h : Fails (elaborated c.args.t.now (environment c.args.at.now) c.args.bound.now (option_copied c.args.want)) c.in_err-pre-in-Equiv.field-0.0 = equiv_pre_fails c.args.t.now (environment c.args.at.now) c.args.bound.now (option_copied c.args.want) c.in-Equiv.left c.in-Equiv.right c.in-Equiv.pre c.in-Equiv.post c.in_ok-judgment-in-Equiv.field-0 c.in-Equiv.is c.in_ok-judgment-in-Equiv.ensures c.in_ok-f-in-Equiv.f.now c.in_ok-g-in-Equiv.g.now c.in_err-pre-in-Equiv.field-0.0 c.in_ok-f-in-Equiv.ensures c.in_ok-g-in-Equiv.ensures (subst (λ a. Fails (elaborated a (before (environment c.args.at.now) c.in_ok-f-in-Equiv.f.now c.in_ok-g-in-Equiv.g.now) c.args.bound.now (Some bool_ty)) c.in_err-pre-in-Equiv.field-0.0) c.get-in-Equiv.ensures c.in_err-pre-in-Equiv.ensures) in search (rules, h)
 
 pub typed-returns-in_err-post-in-Equiv : goal.typed-returns-in_err-post-in-Equiv
 typed-returns-in_err-post-in-Equiv t c =
-    let h : Fails (elaborated c.args.t.now (environment c.args.at.now) c.args.bound.now (option_copied c.args.want)) c.in_err-post-in-Equiv.field-0.0 = equiv_post_fails c.args.t.now (environment c.args.at.now) c.args.bound.now (option_copied c.args.want) c.in-Equiv.left c.in-Equiv.right c.in-Equiv.pre c.in-Equiv.post c.in_ok-formula-in-Equiv.field-0 c.in-Equiv.is c.in_ok-formula-in-Equiv.ensures c.in_ok-f-in-Equiv.f.now c.in_ok-g-in-Equiv.g.now c.in_ok-pre-in-Equiv.pre c.in_err-post-in-Equiv.field-0.0 c.in_ok-f-in-Equiv.ensures c.in_ok-g-in-Equiv.ensures (subst (λ a. elaborated a (before (environment c.args.at.now) c.in_ok-f-in-Equiv.f.now c.in_ok-g-in-Equiv.g.now) c.args.bound.now (Some bool_ty) ≡ given c.in_ok-pre-in-Equiv.pre) c.get-in-Equiv.ensures c.in_ok-pre-in-Equiv.ensures) (subst (λ b. Fails (elaborated b (after (environment c.args.at.now) c.in_ok-f-in-Equiv.f.now c.in_ok-g-in-Equiv.g.now) c.args.bound.now (Some bool_ty)) c.in_err-post-in-Equiv.field-0.0) c.get-in-Equiv-2.ensures c.in_err-post-in-Equiv.ensures) in search (rules, h)
+    let h : Fails (elaborated c.args.t.now (environment c.args.at.now) c.args.bound.now (option_copied c.args.want)) c.in_err-post-in-Equiv.field-0.0 = equiv_post_fails c.args.t.now (environment c.args.at.now) c.args.bound.now (option_copied c.args.want) c.in-Equiv.left c.in-Equiv.right c.in-Equiv.pre c.in-Equiv.post c.in_ok-judgment-in-Equiv.field-0 c.in-Equiv.is c.in_ok-judgment-in-Equiv.ensures c.in_ok-f-in-Equiv.f.now c.in_ok-g-in-Equiv.g.now c.in_ok-pre-in-Equiv.pre c.in_err-post-in-Equiv.field-0.0 c.in_ok-f-in-Equiv.ensures c.in_ok-g-in-Equiv.ensures (subst (λ a. elaborated a (before (environment c.args.at.now) c.in_ok-f-in-Equiv.f.now c.in_ok-g-in-Equiv.g.now) c.args.bound.now (Some bool_ty) ≡ given c.in_ok-pre-in-Equiv.pre) c.get-in-Equiv.ensures c.in_ok-pre-in-Equiv.ensures) (subst (λ b. Fails (elaborated b (after (environment c.args.at.now) c.in_ok-f-in-Equiv.f.now c.in_ok-g-in-Equiv.g.now) c.args.bound.now (Some bool_ty)) c.in_err-post-in-Equiv.field-0.0) c.get-in-Equiv-2.ensures c.in_err-post-in-Equiv.ensures) in search (rules, h)
 
 pub typed-returns-in_ok-equiv-in-Equiv : goal.typed-returns-in_ok-equiv-in-Equiv
 typed-returns-in_ok-equiv-in-Equiv t c =
-    equiv_gives c.args.t.now (environment c.args.at.now) c.args.bound.now (option_copied c.args.want) c.in-Equiv.left c.in-Equiv.right c.in-Equiv.pre c.in-Equiv.post c.in_ok-formula-in-Equiv.field-0 c.in-Equiv.is c.in_ok-formula-in-Equiv.ensures c.in_ok-f-in-Equiv.f.now c.in_ok-g-in-Equiv.g.now c.in_ok-pre-in-Equiv.pre c.in_ok-post-in-Equiv.post c.in_ok-f-in-Equiv.ensures c.in_ok-g-in-Equiv.ensures
+    equiv_gives c.args.t.now (environment c.args.at.now) c.args.bound.now (option_copied c.args.want) c.in-Equiv.left c.in-Equiv.right c.in-Equiv.pre c.in-Equiv.post c.in_ok-judgment-in-Equiv.field-0 c.in-Equiv.is c.in_ok-judgment-in-Equiv.ensures c.in_ok-f-in-Equiv.f.now c.in_ok-g-in-Equiv.g.now c.in_ok-pre-in-Equiv.pre c.in_ok-post-in-Equiv.post c.in_ok-f-in-Equiv.ensures c.in_ok-g-in-Equiv.ensures
     (subst (λ a. elaborated a (before (environment c.args.at.now) c.in_ok-f-in-Equiv.f.now c.in_ok-g-in-Equiv.g.now) c.args.bound.now (Some bool_ty) ≡ given c.in_ok-pre-in-Equiv.pre) c.get-in-Equiv.ensures c.in_ok-pre-in-Equiv.ensures)
     (subst (λ b. elaborated b (after (environment c.args.at.now) c.in_ok-f-in-Equiv.f.now c.in_ok-g-in-Equiv.g.now) c.args.bound.now (Some bool_ty) ≡ given c.in_ok-post-in-Equiv.post) c.get-in-Equiv-2.ensures c.in_ok-post-in-Equiv.ensures)
     ∙ ap given (sym c.in_ok-equiv-in-Equiv.ensures)
