@@ -1,5 +1,5 @@
 -- The typing of the statement of a lemma.
-use Rattle.std.specs.Prelude.{nat_lt, if◌then◌else◌, [], Option, Some, None, is_some, true}
+use Rattle.std.specs.Prelude.{nat_lt, if◌then◌else◌, [], Some, is_some, true}
 use Rattle.gb_core.specs.declared.refusal.Why.TheVariants.{DoubleName, TooMany}
 use Rattle.gb_core.specs.declared.ty.Ty.TheVariants.{Bool as bool_ty}
 use Rattle.gb_terms.specs.declared.term.Term.{Term}

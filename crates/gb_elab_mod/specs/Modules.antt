@@ -4,7 +4,6 @@ use Rattle.std.specs.List.{list_any}
 use Rattle.gb_core.specs.declared.refusal.Why.TheVariants.{DoubleName, TooMany}
 use Rattle.gb_terms.specs.declared.decl.Module.{Module}
 use Rattle.gb_terms.specs.declared.decl.Proc.{Proc}
-use Rattle.gb_goal.specs.declared.sequent.Sequent.{Sequent}
 use Rattle.gb_goal.specs.Scope.{Declarations}
 use Rattle.gb_tree.specs.declared.program.ModuleTree.{ModuleTree}
 use Rattle.gb_tree.specs.declared.program.ProcTree.{ProcTree}

@@ -1,5 +1,5 @@
 -- The typing of procedures.
-use Rattle.std.specs.Prelude.{Bool, not, ◌&&◌, if◌then◌else◌, List, [], ◌∷◌, ◌++◌, Option, Some, None, is_some, is_none, bytes_eq}
+use Rattle.std.specs.Prelude.{Bool, not, ◌&&◌, if◌then◌else◌, List, [], ◌∷◌, ◌++◌, Option, Some, None, is_none, bytes_eq}
 use Rattle.std.specs.List.{list_any}
 use Rattle.gb_core.specs.declared.refusal.Why.TheVariants.{DoubleName, TypeMismatch}
 use Rattle.gb_core.specs.declared.ty.Ty.{Ty}

@@ -1,8 +1,10 @@
 -- The typing of proof steps.
-use Rattle.std.specs.Prelude.{◌-◌, List, [], ◌∷◌, length, slice_get, Option, Some, None}
-use Rattle.std.specs.Option.{option_and_then, option_map_or, option_zip}
+use Rattle.std.specs.Prelude.{◌-◌, if◌then◌else◌, List, [], ◌∷◌, length, slice_get, Option, Some, None}
+use Rattle.std.specs.Option.{option_map_or, option_zip}
+use Rattle.gb_core.specs.declared.refusal.Why.TheVariants.{TypeMismatch}
 use Rattle.gb_core.specs.declared.ty.Ty.{Ty, out-Ty}
 use Rattle.gb_core.specs.declared.ty.Ty.TheOpen as ty_layer
+use Rattle.gb_same.specs.Types.{ty_eq}
 use Rattle.gb_terms.specs.declared.op.Side.TheVariants as side
 use Rattle.gb_terms.specs.declared.term.Term.{Term, out-Term}
 use Rattle.gb_terms.specs.declared.term.Head.{Head}
@@ -21,8 +23,8 @@ use Rattle.gb_tree.specs.declared.step.RuleTree.{RuleTree}
 use Rattle.gb_tree.specs.declared.step.RuleTree.TheVariants as text
 use Rattle.gb_tree.specs.declared.step.StepTree.{StepTree}
 use Rattle.gb_elab.specs.Answers.{Answer, ◌>>=◌}
-use Rattle.gb_elab.specs.Answers.Answer.{given}
-use Rattle.gb_elab.specs.Environment.{Environment, relational}
+use Rattle.gb_elab.specs.Answers.Answer.{given, refused}
+use Rattle.gb_elab.specs.Environment.{Environment, of_function}
 use Rattle.gb_elab.specs.Forms.{function}
 use Rattle.gb_elab_mod.specs.Occurring.{occurring}
 
@@ -66,11 +68,16 @@ there_and_back at (f ∷ fs) from to = do
   ts ← functions at fs to from
   given (t ∷ ts)
 
+-- One function leads there and back, so its types are one.
+abbrev pub one_type : List FormTree → Ty → Ty → Answer (Unit {0})
+one_type (f ∷ []) a b = if ty_eq a b then given tt else refused TypeMismatch f.place
+one_type _ a b = given tt
+
 -- the functions of two bodies whose last samplings are of these types; they read the locals that occur in the goal
 abbrev pub between : Declarations → Sequent → List FormTree → Cmd × Cmd → Ty × Ty → Answer (List Term)
 between ds g fs c t =
-    there_and_back
-    (relational ds g (occurring (out-Term g.conclusion).args side.Left c.0) (occurring (out-Term g.conclusion).args side.Right c.1))
+    one_type fs t.0 t.1 >>= λ _. there_and_back
+    (of_function ds g (occurring (out-Term g.conclusion).args side.Left c.0) (occurring (out-Term g.conclusion).args side.Right c.1))
     fs
     t.0
     t.1

@@ -3,8 +3,9 @@
 ghost use Rattle.std.specs.Prelude.{◌≡◌, ◌≤◌, None, IfOk, OnOk};
 ghost use Rattle.gb_goal.specs.Scope.{entry_of};
 ghost use Rattle.gb_terms.specs.Nodes.{term_nodes};
+ghost use Rattle.gb_elab.specs.Answers.{Answers, type_of_term};
+ghost use Rattle.gb_elab_mod.specs.Lemmas.{free, small, statement_given};
 ghost use Rattle.gb_elab_mod.specs.Typed.{alone};
-ghost use Rattle.gb_elab.specs.Answers.{type_of_term};
 
 use gb_core::refusal::Refused;
 use gb_core::ty::Ty;
@@ -21,7 +22,8 @@ use std::alloc::Global;
 
 /// Refuses a name that the script has declared.
 pub fn refuse_declared(alloc: Global, scope: &Scope, name: &Word) -> Result<(), Refused>
-    ensures { OnOk result (entry_of scope.now name.now.name ≡ None) }
+    ensures free { OnOk result (entry_of scope.now name.now.name ≡ None) }
+    ensures answer { Answers (free scope.now name.now) result }
 {
     if scope.is_free(&name.name) {
         Ok(())
@@ -36,8 +38,9 @@ pub fn refuse_declared(alloc: Global, scope: &Scope, name: &Word) -> Result<(), 
 ///
 /// `DoubleName` at the lemma's name where it is taken, those of typing with the wanted type `bool`, and `TooMany` of
 /// the nodes of a formula, whose place is for the caller to put in.
-#[tactic(auto, using(gb_elab::proofs::OfWantedType::typed_as_type))]
+#[tactic(auto, using(gb_elab::proofs::OfWantedType::typed_as_type), unfolding(crate::specs::Lemmas::statement_given))]
 pub fn statement(alloc: Global, scope: &Scope, t: &LemmaTree) -> Result<Sequent, Refused>
+    ensures answer { Answers (statement_given scope.now t.now) result }
     ensures truth { IfOk result (λ s. type_of_term s.conclusion ≡ Ty.Bool) }
     ensures size { IfOk result (λ s. term_nodes s.conclusion ≤ 65536) }
     ensures context { IfOk result (λ s. s ≡ alone s.conclusion) }

@@ -1,7 +1,11 @@
 // Modules.
 
-ghost use Rattle.std.specs.Prelude.{◌≡◌, [], All, None, IfOk, OnOk};
+ghost use Rattle.std.specs.Prelude.{◌≡◌, [], All, None, IfOk, OnOk, bytes_eq};
 ghost use Rattle.gb_goal.specs.Scope.{entry_of};
+ghost use Rattle.std.specs.List.{list_any};
+ghost use Rattle.gb_elab.specs.Answers.{Answers};
+ghost use Rattle.gb_elab_mod.specs.Lemmas.{nothing_around};
+ghost use Rattle.gb_elab_mod.specs.Modules.{all_short, module_given, procedures};
 ghost use Rattle.gb_elab_mod.specs.Typed.{ReturnsItsType, names_in_text, proc_names};
 
 use crate::lemma::refuse_declared;
@@ -23,7 +27,9 @@ use std::alloc::Global;
 ///
 /// `DoubleName` at the module's name where it is taken and at the second procedure of one name, those of `procedure`,
 /// and then `TooMany` statements of a body.
+#[tactic(auto, unfolding(crate::specs::Modules::module_given))]
 pub fn module(alloc: Global, scope: &Scope, t: &ModuleTree) -> Result<Module, Refused>
+    ensures answer { Answers (module_given scope.now t.now) result }
     ensures name { IfOk result (λ m. m.name ≡ t.now.name.name) }
     ensures free { OnOk result (entry_of scope.now t.now.name.name ≡ None) }
     ensures parameters { IfOk result (λ m. m.params ≡ []) }
@@ -34,9 +40,7 @@ pub fn module(alloc: Global, scope: &Scope, t: &ModuleTree) -> Result<Module, Re
     refuse_declared(alloc, scope, &t.name)?;
     let around = ambient(alloc, make::boolean(alloc, true)?);
     let procs = procedures(alloc, scope, &around, t.procs.as_slice())?;
-    for p in t.procs.as_slice() {
-        refuse_long(p)?;
-    }
+    refuse_long_bodies(t.procs.as_slice())?;
     Ok(Module {
         name: t.name.name.copy(alloc)?,
         params: Items::new(alloc),
@@ -45,7 +49,19 @@ pub fn module(alloc: Global, scope: &Scope, t: &ModuleTree) -> Result<Module, Re
     })
 }
 
-fn is_procedure(procs: &[Proc], name: &Name) -> bool {
+/// Refuses a body of too many statements, at the first one too many.
+fn refuse_long_bodies(trees: &[ProcTree]) -> Result<(), Refused>
+    ensures { Answers (all_short trees.now) result }
+{
+    for t in trees {
+        refuse_long(t)?;
+    }
+    Ok(())
+}
+
+fn is_procedure(procs: &[Proc], name: &Name) -> bool
+    ensures { result ≡ list_any (λ p. bytes_eq p.name name.now) procs.now }
+{
     for p in procs {
         if p.name == *name {
             return true;
@@ -54,12 +70,15 @@ fn is_procedure(procs: &[Proc], name: &Name) -> bool {
     false
 }
 
+#[tactic(auto, unfolding(crate::specs::Modules::procedures))]
 fn procedures(
     alloc: Global,
     scope: &Scope,
     around: &Sequent,
     trees: &[ProcTree],
 ) -> Result<Procs, Refused>
+    requires { around.now ≡ nothing_around }
+    ensures answer { Answers (procedures scope.now [] trees.now) result }
     ensures names { IfOk result (λ ps. proc_names ps ≡ names_in_text trees.now) }
     ensures values { IfOk result (λ ps. All ReturnsItsType ps) }
 {

@@ -1,13 +1,17 @@
 // Procedures and their statements.
 
-ghost use Rattle.std.specs.Prelude.{◌≡◌, false, IfOk, IfNone};
-ghost use Rattle.gb_elab.specs.Answers.{type_of_term};
+ghost use Rattle.std.specs.Prelude.{◌≡◌, [], IfOk, MatchResult, bytes_eq};
+ghost use Rattle.std.specs.List.{list_any};
+ghost use Rattle.gb_elab.specs.Answers.{Answers, Fails, Gives};
+ghost use Rattle.gb_elab.specs.Answers.Answer.{given};
+ghost use Rattle.gb_elab.specs.Environment.{environment};
+ghost use Rattle.gb_elab_mod.specs.Modules.{short};
+ghost use Rattle.gb_elab_mod.specs.Procedures.{declared, instruction, instructions, lacks_value, locals, procedure, result_type, sampling, value};
 ghost use Rattle.gb_elab_mod.specs.Typed.{ReturnsItsType};
 
 use gb_core::copy::copy_ty;
 use gb_core::name::Name;
 use gb_core::refusal::{Refused, Why};
-use gb_core::same::same_ty;
 use gb_core::ty::Ty;
 use gb_core::var::Var;
 use gb_elab::form::typed_as;
@@ -17,6 +21,7 @@ use gb_elab::setting::Setting;
 use gb_elab::types::type_of;
 use gb_goal::scope::Scope;
 use gb_goal::sequent::Sequent;
+use gb_same::types::same_types;
 use gb_terms::copy::copy_typed;
 use gb_terms::decl::{Proc, Typed, TypedName};
 use gb_terms::term::{Cmd, Instr, Term};
@@ -34,12 +39,14 @@ pub const STATEMENTS: usize = 512;
 ///
 /// `TypeMismatch` at its name where it returns nothing and has another result than `unit`, `DoubleName` of a local, and
 /// those of its statements and of the value that it returns, in the order of the text.
+#[tactic(auto, unfolding(crate::specs::Procedures::procedure, crate::specs::Procedures::procedure_of))]
 pub fn procedure(
     alloc: Global,
     scope: &Scope,
     around: &Sequent,
     t: &ProcTree,
 ) -> Result<Proc, Refused>
+    ensures answer { Answers (procedure scope.now around.now t.now) result }
     ensures name { IfOk result (λ p. p.name ≡ t.now.name.name) }
     ensures value { IfOk result (λ p. ReturnsItsType p) }
 {
@@ -63,7 +70,9 @@ pub fn procedure(
 }
 
 /// The type of a procedure's result.
-fn result_type(t: &ProcTree) -> Ty {
+fn result_type(t: &ProcTree) -> Ty
+    ensures { result ≡ result_type t.now.result }
+{
     match &t.result {
         None => Ty::Unit,
         Some(written) => type_of(written),
@@ -72,19 +81,17 @@ fn result_type(t: &ProcTree) -> Ty {
 
 /// Whether a value of this type is to be returned and none is.
 fn lacks_value(value: &Option<FormTree>, ty: &Ty) -> bool
-    ensures { result ≡ false → IfNone value.now (ty.now ≡ Ty.Unit) }
+    ensures { result ≡ lacks_value value.now ty.now }
 {
     match value {
         Some(_) => false,
-        None => !same_ty(ty, &Ty::Unit),
+        None => !same_types(ty, &Ty::Unit),
     }
 }
 
 /// What a procedure returns: the value of `unit` where it has no `return`.
-#[tactic(auto, using(gb_elab::proofs::OfWantedType::answers_type))]
 fn value(alloc: Global, at: &Setting<'_>, t: &Option<FormTree>, want: &Ty) -> Result<Term, Refused>
-    requires { IfNone t.now (want.now ≡ Ty.Unit) }
-    ensures { IfOk result (λ v. type_of_term v ≡ want.now) }
+    ensures { Answers (value (environment at.now) t.now want.now) result }
 {
     match t {
         None => Ok(unit(alloc)?),
@@ -92,7 +99,10 @@ fn value(alloc: Global, at: &Setting<'_>, t: &Option<FormTree>, want: &Ty) -> Re
     }
 }
 
-fn is_local(locals: &[TypedName], name: &Name) -> bool {
+/// Whether a local has this name.
+pub fn is_local(locals: &[TypedName], name: &Name) -> bool
+    ensures { result ≡ list_any (λ v. bytes_eq v.name name.now) locals.now }
+{
     for x in locals {
         if x.name == *name {
             return true;
@@ -102,7 +112,9 @@ fn is_local(locals: &[TypedName], name: &Name) -> bool {
 }
 
 /// The declared locals with their types, in the order of the text.
-fn locals(alloc: Global, binders: &[Binder]) -> Result<Typed, Refused> {
+fn locals(alloc: Global, binders: &[Binder]) -> Result<Typed, Refused>
+    ensures { Answers (locals [] binders.now) result }
+{
     let mut locals = Items::new(alloc);
     for binder in binders {
         declare(
@@ -116,7 +128,11 @@ fn locals(alloc: Global, binders: &[Binder]) -> Result<Typed, Refused> {
 }
 
 /// Declares locals of one type beside those that are declared.
-fn declare(alloc: Global, locals: &mut Typed, names: &[Word], ty: &Ty) -> Result<(), Refused> {
+fn declare(alloc: Global, locals: &mut Typed, names: &[Word], ty: &Ty) -> Result<(), Refused>
+    ensures { MatchResult result
+        (λ _. declared locals.old names.now ty.now ≡ given locals.new)
+        (λ e. Fails (declared locals.old names.now ty.now) e) }
+{
     for x in names {
         if is_local(locals.as_slice(), &x.name) {
             return Err(double(alloc, &x.name, x.place));
@@ -129,7 +145,9 @@ fn declare(alloc: Global, locals: &mut Typed, names: &[Word], ty: &Ty) -> Result
 }
 
 /// The typed trees of statements.
-fn body(alloc: Global, at: &Setting<'_>, statements: &[Statement]) -> Result<Cmd, Refused> {
+fn body(alloc: Global, at: &Setting<'_>, statements: &[Statement]) -> Result<Cmd, Refused>
+    ensures { Gives (λ c. c.list) (instructions (environment at.now) statements.now) result }
+{
     let mut list = Items::new(alloc);
     for s in statements {
         let i = instruction(alloc, at, s)?;
@@ -138,19 +156,24 @@ fn body(alloc: Global, at: &Setting<'_>, statements: &[Statement]) -> Result<Cmd
     Ok(Cmd { list })
 }
 
-fn instruction(alloc: Global, at: &Setting<'_>, s: &Statement) -> Result<Instr, Refused> {
+fn instruction(alloc: Global, at: &Setting<'_>, s: &Statement) -> Result<Instr, Refused>
+    ensures { Answers (instruction (environment at.now) s.now.shape) result }
+{
     match &s.shape {
         StatementShape::Sample { target, from } => sampling(alloc, at, target, from),
     }
 }
 
 /// A sampling: the target is a variable of the procedure, the source a distribution on its type.
+#[tactic(auto, unfolding(crate::specs::Procedures::sampling))]
 fn sampling(
     alloc: Global,
     at: &Setting<'_>,
     target: &Word,
     from: &FormTree,
-) -> Result<Instr, Refused> {
+) -> Result<Instr, Refused>
+    ensures { Answers (sampling (environment at.now) target.now from.now) result }
+{
     let variable = own_variable(alloc, at, target)?;
     let outcomes = copy_ty(alloc, &variable.ty)?;
     let wanted = Ty::Distr(Boxed::new(alloc, outcomes)?);
@@ -160,7 +183,9 @@ fn sampling(
 }
 
 /// Refuses a body of too many statements, at the first one too many.
-pub fn refuse_long(t: &ProcTree) -> Result<(), Refused> {
+pub fn refuse_long(t: &ProcTree) -> Result<(), Refused>
+    ensures { Answers (short t.now) result }
+{
     match t.body.get(STATEMENTS) {
         None => Ok(()),
         Some(s) => Err(Refused::Script {

@@ -1,16 +1,22 @@
 // Proof steps.
 
 ghost use Rattle.std.specs.Prelude.{◌≡◌, ◌⊎◌, [], length, IfOk};
+ghost use Rattle.std.specs.Option.{option_copied, option_map};
+ghost use Rattle.gb_elab.specs.Answers.{Answers};
+ghost use Rattle.gb_elab.specs.Environment.{environment};
+ghost use Rattle.gb_elab_mod.specs.Steps.{bodies, couplings, functions, last_sampled, one_type, step_given, there_and_back, typed_rule};
 ghost use Rattle.gb_elab_mod.specs.Typed.{IsRule};
 
 use crate::occurring::occurring;
 use gb_core::refusal::Refused;
 use gb_core::ty::Ty;
 use gb_elab::form::function;
+use gb_elab::refusals::mismatch;
 use gb_elab::setting::Setting;
 use gb_goal::scope::Scope;
 use gb_goal::sequent::Sequent;
 use gb_goal::step::{Rule, Step};
+use gb_same::types::same_types;
 use gb_terms::op::Side;
 use gb_terms::term::{Cmd, Form, Head, Instr, Subject, Terms};
 use gb_tree::form::FormTree;
@@ -25,25 +31,39 @@ use std::alloc::Global;
 /// # Errors
 ///
 /// Those of typing.
+#[tactic(auto, unfolding(crate::specs::Steps::step_given))]
 pub fn proof_step(alloc: Global, scope: &Scope, s: &Sequent, t: &StepTree) -> Result<Step, Refused>
+    ensures answer { Answers (step_given scope.now s.now t.now) result }
     ensures rule { IfOk result (λ step. IsRule t.now.rule step.rule) }
     ensures place { IfOk result (λ step. step.place ≡ t.now.place) }
 {
-    let rule = match &t.rule {
-        RuleTree::Proc => Rule::Proc,
-        RuleTree::Rnd(functions) => Rule::Rnd(couplings(alloc, scope, s, functions.as_slice())?),
-        RuleTree::Skip => Rule::Skip,
-        RuleTree::Smt => Rule::Smt,
-        RuleTree::Split => Rule::Split,
-    };
+    let rule = typed_rule(alloc, scope, s, &t.rule)?;
     Ok(Step {
         rule,
         place: t.place,
     })
 }
 
+/// The rule with its arguments typed.
+fn typed_rule(alloc: Global, scope: &Scope, s: &Sequent, t: &RuleTree) -> Result<Rule, Refused>
+    ensures answer { Answers (typed_rule scope.now s.now t.now) result }
+    ensures rule { IfOk result (λ rule. IsRule t.now rule) }
+{
+    match t {
+        RuleTree::Proc => Ok(Rule::Proc),
+        RuleTree::Rnd(functions) => {
+            Ok(Rule::Rnd(couplings(alloc, scope, s, functions.as_slice())?))
+        }
+        RuleTree::Skip => Ok(Rule::Skip),
+        RuleTree::Smt => Ok(Rule::Smt),
+        RuleTree::Split => Ok(Rule::Split),
+    }
+}
+
 /// The bodies of an equivalence of two bodies.
-fn bodies(conclusion: &Form) -> Option<(&Cmd, &Cmd)> {
+fn bodies(conclusion: &Form) -> Option<(&Cmd, &Cmd)>
+    ensures { option_map (λ p. (p.0.now, p.1.now)) result ≡ bodies conclusion.now }
+{
     match conclusion.head.get() {
         Head::Equiv(Subject::Body(left), Subject::Body(right)) => Some((left, right)),
         _ => None,
@@ -51,7 +71,9 @@ fn bodies(conclusion: &Form) -> Option<(&Cmd, &Cmd)> {
 }
 
 /// The type of the variable that a body's last statement samples.
-fn last_sampled(body: &Cmd) -> Option<&Ty> {
+fn last_sampled(body: &Cmd) -> Option<&Ty>
+    ensures { option_copied result ≡ last_sampled body.now }
+{
     match body.list.as_slice().last() {
         Some(Instr::Sample(_, from)) => match from.ty.get() {
             Ty::Distr(outcomes) => Some(outcomes.get()),
@@ -61,14 +83,32 @@ fn last_sampled(body: &Cmd) -> Option<&Ty> {
     }
 }
 
+/// Refuses one function between two types: it leads there and back.
+fn refuse_one_way(functions: &[FormTree], from: &Ty, to: &Ty) -> Result<(), Refused>
+    ensures { Answers (one_type functions.now from.now to.now) result }
+{
+    match functions {
+        [f] => {
+            if same_types(from, to) {
+                Ok(())
+            } else {
+                Err(mismatch(f.place))
+            }
+        }
+        _ => Ok(()),
+    }
+}
+
 /// The typed functions of `rnd`: the first leads from the left outcome to the right one, the second back.
+#[tactic(auto, unfolding(crate::specs::Steps::couplings))]
 fn couplings(
     alloc: Global,
     scope: &Scope,
     s: &Sequent,
     functions: &[FormTree],
 ) -> Result<Terms, Refused>
-    ensures { IfOk result (λ ts. (length ts ≡ length functions.now) ⊎ (ts ≡ [])) }
+    ensures answer { Answers (couplings scope.now s.now functions.now) result }
+    ensures number { IfOk result (λ ts. (length ts ≡ length functions.now) ⊎ (ts ≡ [])) }
 {
     let Some((left, right)) = bodies(&s.conclusion) else {
         return Ok(Items::new(alloc));
@@ -76,31 +116,48 @@ fn couplings(
     let (Some(from), Some(to)) = (last_sampled(left), last_sampled(right)) else {
         return Ok(Items::new(alloc));
     };
+    refuse_one_way(functions, from, to)?;
     let conditions = s.conclusion.args.as_slice();
     let on_left = occurring(alloc, conditions, Side::Left, left)?;
     let on_right = occurring(alloc, conditions, Side::Right, right)?;
-    let at = Setting::relational(scope, s, on_left, on_right);
+    let at = Setting::function(scope, s, on_left, on_right);
     there_and_back(alloc, &at, functions, from, to)
 }
 
 /// Functions between two types: the first leads there, the others back.
+#[tactic(auto, unfolding(crate::specs::Steps::there_and_back))]
 fn there_and_back(
     alloc: Global,
     at: &Setting<'_>,
-    functions: &[FormTree],
+    forms: &[FormTree],
     from: &Ty,
     to: &Ty,
 ) -> Result<Terms, Refused>
-    ensures { IfOk result (λ ts. length ts ≡ length functions.now) }
+    ensures answer { Answers (there_and_back (environment at.now) forms.now from.now to.now) result }
+    ensures number { IfOk result (λ ts. length ts ≡ length forms.now) }
 {
     let mut typed = Items::new(alloc);
-    for (i, f) in functions.iter().enumerate() {
-        let f = if i == 0 {
-            function(alloc, at, f, from, to)?
-        } else {
-            function(alloc, at, f, to, from)?
-        };
-        typed.push(f)?;
+    if let [f, rest @ ..] = forms {
+        typed.push(function(alloc, at, f, from, to)?)?;
+        typed.append(functions(alloc, at, rest, to, from)?)?;
+    }
+    Ok(typed)
+}
+
+/// Functions from a type to a type.
+fn functions(
+    alloc: Global,
+    at: &Setting<'_>,
+    forms: &[FormTree],
+    from: &Ty,
+    to: &Ty,
+) -> Result<Terms, Refused>
+    ensures answer { Answers (functions (environment at.now) forms.now from.now to.now) result }
+    ensures number { IfOk result (λ ts. length ts ≡ length forms.now) }
+{
+    let mut typed = Items::new(alloc);
+    for f in forms {
+        typed.push(function(alloc, at, f, from, to)?)?;
     }
     Ok(typed)
 }

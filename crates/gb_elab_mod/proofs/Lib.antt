@@ -1,0 +1,4 @@
+pub mod Declared
+pub mod Found
+pub mod Gathered
+pub mod Values

@@ -1,0 +1,11 @@
+use Rattle.std.proofs.Common.{◌≡◌, drop, length}
+use Rattle.gb_elab.specs.Environment.{environment}
+use Rattle.gb_elab_mod.specs.Steps.{functions}
+use Rattle.gb_elab_mod.proofs.Gathered.{behind}
+use Rattle.gb_elab_mod.proofs.step.functions.Given as goal
+
+abbrev pub invariant-loop-f : goal.invariant-loop-f
+invariant-loop-f l = record {
+  answer : behind l.typed (functions (environment l.at) (drop l.f-index l.forms) l.from l.to) ≡ functions (environment l.at) l.forms l.from l.to;
+  number : length l.typed ≡ l.f-index;
+}
