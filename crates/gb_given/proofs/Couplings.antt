@@ -21,7 +21,7 @@ use Rattle.gb_typed.specs.Finite.{IsVariableType}
 use Rattle.gb_typed.specs.Operators.{IsDistributionType}
 use Rattle.gb_typed.specs.Typing.{type_of}
 use Rattle.gb_typed.specs.Programs.{local_type}
-use Rattle.gb_elab.specs.Environment.{relational}
+use Rattle.gb_elab.specs.Environment.{of_function}
 use Rattle.gb_elab.specs.declared.setting.Variables.TheVariants.{Sides}
 use Rattle.gb_elab_mod.specs.Occurring.{local, outcome_local, read_locals, sampling_locals, occurring}
 use Rattle.gb_sound.proofs.Shapes.{none_some, same_some}
@@ -98,10 +98,10 @@ module _ (ds : Declarations) (q : Sequent) (ls rs ks ms : List TypedName) (left 
   wider_sides (side.Memory i) x t h = absurd h
   wider_sides (side.Bound i) x t h = h
 
-  pub given_wider : (w : Option Ty) (u : Term) → IsGiven (relational ds q ks ms) vs w u → IsGiven (relational ds q ls rs) vs w u
+  pub given_wider : (w : Option Ty) (u : Term) → IsGiven (of_function ds q ks ms) vs w u → IsGiven (of_function ds q ls rs) vs w u
   given_wider w u g = record {
     typed = g.typed;
     scoped = wider ds (frames_under (Sides ks ms) vs) (frames_under (Sides ls rs) vs) wider_sides u g.scoped;
     wanted = g.wanted;
-    plain = λ k. absurd k;
+    plain = g.plain;
   }

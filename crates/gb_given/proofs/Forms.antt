@@ -1,6 +1,5 @@
 -- What the typing of a form gives is typed.
-use Rattle.std.proofs.Common.{◌≡◌, false, not, ◌&&◌, List, [], ◌++◌, reverse, Option, Some, sym, ◌∙◌, subst}
-use Rattle.std.proofs.lemmas.Bool.{false≢true}
+use Rattle.std.proofs.Common.{◌≡◌, not, ◌&&◌, List, [], ◌++◌, reverse, Option, Some, sym, ◌∙◌, subst}
 use Rattle.gb_core.specs.declared.place.Place.{Place}
 use Rattle.gb_core.specs.declared.refusal.Why.TheVariants.{Argument}
 use Rattle.gb_core.specs.declared.ty.Ty.{Ty}
@@ -19,18 +18,16 @@ use Rattle.gb_tree.specs.declared.form.FormTree.{FormTree, FormTree-F, map-FormT
 use Rattle.gb_tree.specs.declared.form.ProcPath.{ProcPath}
 use Rattle.gb_tree.specs.declared.form.Quantifier.{Quantifier}
 use Rattle.gb_typed.proofs.Constructors.{distribution_is}
-use Rattle.gb_elab.specs.declared.setting.Language.{Language}
-use Rattle.gb_elab.specs.declared.setting.Language.TheVariants.{Formula, Program}
 use Rattle.gb_elab.specs.Answers.{◌>>=◌, truth, wanted}
 use Rattle.gb_elab.specs.Answers.Answer.{given}
 use Rattle.gb_elab.specs.Environment.{Environment}
-use Rattle.gb_elab.specs.Forms.{Typing, typing, elaborated, bound_by, coin, equalities, formula, is_program, left_side, negated, over_all, quantified, read, wants_distribution, with_right_side}
+use Rattle.gb_elab.specs.Forms.{Typing, typing, elaborated, bound_by, coin, equalities, formula, has_judgments, is_program, judgment, left_side, negated, over_all, quantified, read, wants_distribution, with_right_side}
 use Rattle.gb_elab.specs.Judgments.{named_procedure, before, after, equivalent, reference}
 use Rattle.gb_elab.specs.Names.{named, unit}
 use Rattle.gb_elab.proofs.Elaborated.{parts, elaborated_is}
 use Rattle.gb_ready.proofs.Linked.{typed_procedure}
-use Rattle.gb_given.specs.Fitting.{IsFitting, IsGiven, IsOfProgram}
-use Rattle.gb_given.proofs.Given.{given_bind, given_is, if_refused}
+use Rattle.gb_given.specs.Fitting.{IsFitting, IsGiven}
+use Rattle.gb_given.proofs.Given.{given_bind, given_is, if_allowed, if_refused}
 use Rattle.gb_given.proofs.Typed.{leaf, truth_given, wanted_given, of_given}
 use Rattle.gb_given.proofs.Leaves.{named_typed, read_typed, unit_typed}
 use Rattle.gb_given.proofs.Equations.{binary_typed, negated_typed, equalities_typed}
@@ -46,10 +43,6 @@ OfShape s = (p : Place) → GivesTyped (typing (parts (out-FormShape s)) p)
 
 abbrev OfTree : FormTree → Type 0
 OfTree t = GivesTyped (elaborated t)
-
-not_program : (l : Language) → is_program l ≡ false → IsOfProgram l → ⊥
-not_program Formula h k = k
-not_program Program h k = false≢true (sym h)
 
 coin_typed : (at : Environment) (vs : List TypedName) (w : Option Ty) (p : Place) (u : Term) → coin at w p ≡ given u → IsGiven at vs w u
 unfolding coin
@@ -73,8 +66,8 @@ module _ (at : Environment) (vs : List TypedName) (fit : IsFitting at vs) (w : O
   equiv_typed : (f g : ProcPath) (a b : FormTree) → OfTree a → OfTree b → typing (parts (layer.Equiv f g a b)) p at vs w ≡ given u → IsGiven at vs w u
   unfolding typing
   equiv_typed f g a b ga gb h =
-      let x = given_bind (formula at w p) _ u h in
-      let k = if_refused (is_program at.language) Argument p (truth w p) x.0 x.1 in
+      let x = given_bind (judgment at w p) _ u h in
+      let k = if_allowed (has_judgments at.language) (truth w p) Argument p x.0 x.1 in
       let l = given_bind (named_procedure at vs f) _ u x.2 in
       let r = given_bind (named_procedure at vs g) _ u l.2 in
       let pre = given_bind (elaborated a (before at l.0 r.0) vs (Some ty.Bool)) _ u r.2 in
@@ -85,7 +78,7 @@ module _ (at : Environment) (vs : List TypedName) (fit : IsFitting at vs) (w : O
       let tr = typed_procedure at.declared fit.scope (reference g) r.0 er in
       subst (IsGiven at vs w) (given_is (equivalent f g pre.0 post.0) u post.2)
       (truth_given at vs w p x.0 (equivalent f g pre.0 post.0) k.1
-      (equivalence_typed at vs fit f g l.0 r.0 pre.0 post.0 (not_program at.language k.0) el er
+      (equivalence_typed at vs fit f g l.0 r.0 pre.0 post.0 k.0 el er
       (ga (before at l.0 r.0) vs (before_fits at vs fit l.0 r.0 tl tr) (Some ty.Bool) pre.0 pre.1)
       (gb (after at l.0 r.0) vs (after_fits at vs fit l.0 r.0 tl tr) (Some ty.Bool) post.0 post.1)))
 

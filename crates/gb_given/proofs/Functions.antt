@@ -1,8 +1,7 @@
 -- What the typing of a function gives is typed.
-use Rattle.std.proofs.Common.{◌≡◌, ◌==◌, Bool, true, false, if◌then◌else◌, List, [], ◌∷◌, length, Option, Some, refl, sym, ◌∙◌, subst, arith}
+use Rattle.std.proofs.Common.{◌≡◌, ◌==◌, true, if◌then◌else◌, List, [], ◌∷◌, length, Option, Some, sym, ◌∙◌, subst, arith}
 use Rattle.std.proofs.lemmas.Bool.Decides.{Decides-eqb}
 use Rattle.gb_core.specs.declared.place.Place.{Place}
-use Rattle.gb_core.specs.declared.refusal.Why.{Why}
 use Rattle.gb_core.specs.declared.refusal.Why.TheVariants.{TypeMismatch}
 use Rattle.gb_core.specs.declared.ty.Ty.{Ty}
 use Rattle.gb_terms.specs.declared.term.Term.{Term}
@@ -14,13 +13,13 @@ use Rattle.gb_tree.specs.declared.form.FormTree.{FormTree, FormTree-F, map-FormT
 use Rattle.gb_tree.specs.declared.form.TypeTree.{TypeTree}
 use Rattle.gb_tree.specs.declared.form.Word.{Word}
 use Rattle.gb_typed.specs.Finite.{IsVariableType}
-use Rattle.gb_elab.specs.Answers.{Answer, ◌>>=◌}
+use Rattle.gb_elab.specs.Answers.{◌>>=◌}
 use Rattle.gb_elab.specs.Answers.Answer.{given, refused}
 use Rattle.gb_elab.specs.Environment.{Environment}
 use Rattle.gb_elab.specs.Forms.{FunctionTyping, function_typing, function, elaborated, of_type, written_as}
 use Rattle.gb_elab.proofs.Elaborated.{function_parts, function_is}
 use Rattle.gb_given.specs.Fitting.{IsFitting, IsGiven, one_value}
-use Rattle.gb_given.proofs.Given.{given_bind}
+use Rattle.gb_given.proofs.Given.{given_bind, if_allowed}
 use Rattle.gb_given.proofs.Forms.{elaborated_typed}
 
 -- a typing of functions gives typed terms
@@ -40,10 +39,6 @@ renamed at x from to u g = record { typed = g.typed; scoped = g.scoped; wanted =
 not_one : (x y : Word) (xs : List Word) → (length (x ∷ y ∷ xs) == 1) ≡ true → ⊥
 not_one x y xs e = let k : length (x ∷ y ∷ xs) ≡ 1 = (Decides-eqb (length (x ∷ y ∷ xs)) 1).0 e in omega arith
 
-if_true : {A : Type 0} (b : Bool) (a : Answer A) (w : Why) (p : Place) (y : A) → (if b then a else refused w p) ≡ given y → b ≡ true
-if_true true a w p y h = refl
-if_true false a w p y h = cc
-
 -- the value of a function of one variable
 value_typed : (xs : List Word) (a : FormTree) (ty : Option TypeTree) (p : Place) (at : Environment) → IsFitting at [] → (from to : Ty) → IsVariableType from → (u : Term) →
     (if length xs == 1 then (written_as ty from >>= λ _. elaborated a at (of_type xs from) (Some to)) else refused TypeMismatch p) ≡ given u →
@@ -54,7 +49,7 @@ value_typed (x ∷ []) a ty p at fit from to v u h =
     renamed at x from to u (elaborated_typed a at (of_type (x ∷ []) from) inside (Some to) u q.2)
 value_typed [] a ty p at fit from to v u h = cc
 value_typed (x ∷ y ∷ xs) a ty p at fit from to v u h =
-    absurd (not_one x y xs (if_true (length (x ∷ y ∷ xs) == 1) (written_as ty from >>= λ _. elaborated a at (of_type (x ∷ y ∷ xs) from) (Some to)) TypeMismatch p u h))
+    absurd (not_one x y xs (if_allowed (length (x ∷ y ∷ xs) == 1) (written_as ty from >>= λ _. elaborated a at (of_type (x ∷ y ∷ xs) from) (Some to)) TypeMismatch p u h).0)
 
 abbrev Parts : Type 0
 Parts = layer.FormShape-F ((s : FormShape) × OfShape s) ((t : FormTree) × OfTree t)

@@ -30,6 +30,10 @@ pub if_refused : {A : Type 0} (b : Bool) (w : Why) (p : Place) (a : Answer A) (y
 if_refused true w p a y h = cc
 if_refused false w p a y h = (refl, h)
 
+pub if_allowed : {A : Type 0} (b : Bool) (a : Answer A) (w : Why) (p : Place) (y : A) → (if b then a else refused w p) ≡ given y → (b ≡ true) × (a ≡ given y)
+if_allowed true a w p y h = (refl, h)
+if_allowed false a w p y h = cc
+
 pub some_given : {A : Type 0} (o : Option A) (w : Why) (p : Place) (y : A) → given_or o w p ≡ given y → o ≡ Some y
 some_given (Some x) w p y h = ap Some (given_is x y h)
 some_given None w p y h = cc

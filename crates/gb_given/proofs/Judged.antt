@@ -1,5 +1,6 @@
 -- Judgments of declared procedures are typed.
-use Rattle.std.proofs.Common.{◌≡◌, List, [], ◌∷◌, Option, Some, None, option_map, refl, ap, sym, ◌∙◌, subst}
+use Rattle.std.proofs.lemmas.Bool.{false≢true}
+use Rattle.std.proofs.Common.{◌≡◌, true, List, [], ◌∷◌, Option, Some, None, option_map, refl, ap, sym, ◌∙◌, subst}
 use Rattle.gb_core.specs.declared.refusal.Why.TheVariants.{UnknownName, Argument}
 use Rattle.gb_core.specs.declared.ty.Ty.{Ty}
 use Rattle.gb_core.specs.declared.ty.Ty.TheVariants as ty
@@ -20,6 +21,7 @@ use Rattle.gb_tree.specs.declared.form.Word.{Word}
 use Rattle.gb_elab.specs.Answers.{given_or}
 use Rattle.gb_elab.specs.Answers.Answer.{given}
 use Rattle.gb_elab.specs.Environment.{Name, Environment}
+use Rattle.gb_elab.specs.Forms.{has_judgments}
 use Rattle.gb_elab.specs.Judgments.{whole, module_in, named_module, named_procedure, before, after, reference, equivalent}
 use Rattle.gb_elab.specs.Names.{is_variable}
 use Rattle.gb_ready.specs.Scoped.{Frame, Frames, IsThere, IsReadable, IsScoped, with_sides}
@@ -27,7 +29,7 @@ use Rattle.gb_ready.specs.Scoped as scoped
 use Rattle.gb_ready.specs.Programs.{IsTypedProcedure}
 use Rattle.gb_ready.proofs.Made.{Made, made_node}
 use Rattle.gb_ready.proofs.Wider.{wider}
-use Rattle.gb_given.specs.Fitting.{context_under, frames_under, no_memories, IsOfProgram, IsFitting, IsGiven}
+use Rattle.gb_given.specs.Fitting.{context_under, frames_under, no_memories, IsFitting, IsGiven}
 use Rattle.gb_given.proofs.Given.{given_bind, given_is, if_refused, some_given}
 use Rattle.gb_given.proofs.Quantified.{have_front}
 use Rattle.gb_given.proofs.Typed.{Typed}
@@ -95,9 +97,9 @@ module _ (at : Environment) (vs : List TypedName) (fit : IsFitting at vs) where
     written = m.written;
   }
 
-  pub equivalence_typed : (f g : ProcPath) (a b : Proc) (p q : Term) → (IsOfProgram at.language → ⊥) → procedure_of at.declared (reference f) ≡ Some a → procedure_of at.declared (reference g) ≡ Some b →
+  pub equivalence_typed : (f g : ProcPath) (a b : Proc) (p q : Term) → has_judgments at.language ≡ true → procedure_of at.declared (reference f) ≡ Some a → procedure_of at.declared (reference g) ≡ Some b →
       IsGiven (before at a b) vs (Some ty.Bool) p → IsGiven (after at a b) vs (Some ty.Bool) q → Typed at vs ty.Bool (equivalent f g p q)
-  equivalence_typed f g a b p q out ea eb x y = record {
+  equivalence_typed f g a b p q judges ea eb x y = record {
     made =
         made_node at.declared (context_under at.sequent vs) F (Equiv (procedure (reference f)) (procedure (reference g))) (ty.Bool ∷ ty.Bool ∷ []) (p ∷ q ∷ []) ty.Bool (refl, (refl, (refl, tt)))
         (subst IsThere (sym ea) tt, subst IsThere (sym eb) tt) [] tt (
@@ -106,5 +108,5 @@ module _ (at : Environment) (vs : List TypedName) (fit : IsFitting at vs) where
           subst2 (λ (u v : Option Proc). Made at.declared (context_under at.sequent vs) (with_sides F (option_map scoped.result_of u) (option_map scoped.result_of v)) ty.Bool q) (sym ea) (sym eb)
               (condition (scoped.result_of a) (scoped.result_of b) q (record { typed = y.typed; scoped = y.scoped; written = y.wanted })),
         );
-    plain = λ k. absurd (out k);
+    plain = λ k. absurd (false≢true (sym k ∙ judges));
   }

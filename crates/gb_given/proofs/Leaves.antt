@@ -29,7 +29,7 @@ use Rattle.gb_typed.specs.Typing.Binder.{program}
 use Rattle.gb_typed.specs.Operators.{item}
 use Rattle.gb_typed.specs.Programs.{local_type}
 use Rattle.gb_elab.specs.declared.setting.Language.{Language}
-use Rattle.gb_elab.specs.declared.setting.Language.TheVariants.{Formula, Program}
+use Rattle.gb_elab.specs.declared.setting.Language.TheVariants.{Formula, Function, Program}
 use Rattle.gb_elab.specs.declared.setting.Variables.{Variables}
 use Rattle.gb_elab.specs.declared.setting.Variables.TheVariants.{Absent, Own, Sides}
 use Rattle.gb_elab.specs.Answers.{Answer, counted, given_or}
@@ -202,6 +202,7 @@ module _ (at : Environment) (vs : List TypedName) (fit : IsFitting at vs) where
   none_remembered : (l : Language) (x : Name) (m : Word) (p : Place) (u : Term) → remembered l at x m p ≡ given u → ⊥
   none_remembered Program x m p u h = cc
   none_remembered Formula x m p u h = no_memory x m p u h
+  none_remembered Function x m p u h = no_memory x m p u h
 
   -- a form with a side
   pub read_typed : (l : layer.FormShape-F FormShape FormTree) (p : Place) (s : SideTree) (u : Term) → read at vs l p s ≡ given u → IsSome at vs u

@@ -15,3 +15,4 @@ pub mod Steps
 pub mod Occurring
 pub mod Couplings
 pub mod Sampled
+pub mod Maps

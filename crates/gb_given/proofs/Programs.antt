@@ -77,7 +77,7 @@ module _ (ds : Declarations) (scope : IsTypedScope ds) where
 
     -- what is typed in a program is an expression
     expression : (w : Option Ty) (e : Term) → IsGiven here [] w e → IsExpression vs e
-    expression w e g = record { typed = g.typed; scoped = plain_scoped ds [] (of_program vs) e (g.plain tt) g.scoped; plain = g.plain tt }
+    expression w e g = record { typed = g.typed; scoped = plain_scoped ds [] (of_program vs) e (g.plain refl) g.scoped; plain = g.plain refl }
 
     sampling_typed : (x : Word) (d : FormTree) (i : Instr) → sampling here x d ≡ given i → IsStatement vs i
     unfolding sampling

@@ -26,10 +26,11 @@ use Rattle.gb_tree.specs.declared.step.StepTree.{StepTree}
 use Rattle.gb_meaning.specs.Operators.{outcome_type}
 use Rattle.gb_typed.specs.Finite.{IsVariableType}
 use Rattle.gb_typed.specs.Typing.{type_of}
+use Rattle.gb_elab.specs.Answers.{Answer, ◌>>=◌}
 use Rattle.gb_elab.specs.Answers.Answer.{given}
-use Rattle.gb_elab.specs.Environment.{relational}
+use Rattle.gb_elab.specs.Environment.{of_function}
 use Rattle.gb_elab_mod.specs.Occurring.{occurring}
-use Rattle.gb_elab_mod.specs.Steps.{outcomes, sampled, last_sampled, there_and_back, between, of_bodies, bodies, couplings, typed_rule, step_given}
+use Rattle.gb_elab_mod.specs.Steps.{outcomes, sampled, last_sampled, one_type, there_and_back, of_bodies, couplings, typed_rule, step_given}
 use Rattle.gb_elab_mod.specs.Steps as steps
 use Rattle.gb_equiv.specs.Judgment.{Layer, Judgment, OnBodies, of_parts, of_subjects, bodies_of}
 use Rattle.gb_sound.proofs.Shapes.{none_some, same_some}
@@ -42,7 +43,7 @@ use Rattle.gb_given.specs.Standing.{StandIn}
 use Rattle.gb_given.proofs.Given.{given_bind, given_is}
 use Rattle.gb_given.proofs.Couplings.{outcome_of, local_variable, standing_typed, occurring_stand, given_wider}
 use Rattle.gb_given.proofs.Occurring.{reads_stand}
-use Rattle.gb_given.proofs.Steps.{there_and_back_typed}
+use Rattle.gb_given.proofs.Steps.{one_type_there, there_and_back_typed}
 
 subjects_agree : (x y : Layer) (p q : Term) (e : OnBodies) → of_subjects x y p q ≡ Some e → (steps.of_subjects x y ≡ Some (e.left, e.right)) × ((p ∷ q ∷ []) ≡ (e.pre ∷ e.post ∷ []))
 subjects_agree (layer.Body c) (layer.Body d) p q e h = let k = same_some _ e h in (ap (λ (z : OnBodies). Some (z.left, z.right)) k, ap (λ (z : OnBodies). z.pre ∷ z.post ∷ []) k)
@@ -107,44 +108,49 @@ module _ (ds : Declarations) (q : Sequent) (scope : IsTypedScope ds) (typed : Is
   right_stand =
       occurring_stand rs side.Right e.pre e.post e.right (reads_stand ds (of_programs ls rs) e.pre b.pre.scoped side.Right tt) (reads_stand ds (of_programs ls rs) e.post b.post.scoped side.Right tt) b.right
 
-  fits : IsFitting (relational ds q ks ms) []
+  fits : IsFitting (of_function ds q ks ms) []
   fits = record { scope = scope; logical = typed.logical; variables = (standing_typed ls b.left_locals ks left_stand, standing_typed rs b.right_locals ms right_stand); bound = tt }
 
-  one_wider : (a c : Ty) (u : Term) → IsGiven (relational ds q ks ms) (one_value a) (Some c) u → IsGiven (relational ds q ls rs) (one_value a) (Some c) u
+  one_wider : (a c : Ty) (u : Term) → IsGiven (of_function ds q ks ms) (one_value a) (Some c) u → IsGiven (of_function ds q ls rs) (one_value a) (Some c) u
   one_wider a c u g = given_wider ds q ls rs ks ms left_stand right_stand (one_value a) (Some c) u g
 
-  all_wider : (a c : Ty) (ts : List Term) → AreFunctions (relational ds q ks ms) a c ts → AreFunctions (relational ds q ls rs) a c ts
+  all_wider : (a c : Ty) (ts : List Term) → AreFunctions (of_function ds q ks ms) a c ts → AreFunctions (of_function ds q ls rs) a c ts
   all_wider a c [] g = tt
   all_wider a c (t ∷ ts) g = (one_wider a c t g.0, all_wider a c ts g.1)
 
-  both_wider : (a c : Ty) (ts : List Term) → AreThereAndBack (relational ds q ks ms) a c ts → AreThereAndBack (relational ds q ls rs) a c ts
+  both_wider : (a c : Ty) (ts : List Term) → AreThereAndBack (of_function ds q ks ms) a c ts → AreThereAndBack (of_function ds q ls rs) a c ts
   both_wider a c [] g = tt
   both_wider a c (t ∷ ts) g = (one_wider a c t g.0, all_wider c a ts g.1)
 
+  -- the functions between two types, over the locals that occur in these conditions and the bodies
+  abbrev typed_between : List FormTree → List Term → Ty × Ty → Answer (List Term)
+  typed_between fs conditions t =
+      one_type fs t.0 t.1 >>= λ _. there_and_back (of_function ds q (occurring conditions side.Left e.left) (occurring conditions side.Right e.right)) fs t.0 t.1
+
   ends_typed : (fs : List FormTree) (x y : Option Ty) (ts : List Term) → ((a : Ty) → x ≡ Some a → IsVariableType a) → ((a : Ty) → y ≡ Some a → IsVariableType a) →
-      option_map_or (λ (t : Ty × Ty). there_and_back (relational ds q ks ms) fs t.0 t.1) (option_zip x y) (given []) ≡ given ts → AreCouplings (relational ds q ls rs) (option_zip x y) ts
-  ends_typed fs (Some a) (Some c) ts k l h = both_wider a c ts (there_and_back_typed (relational ds q ks ms) fits fs a c (k a refl) (l c refl) ts h)
+      option_map_or (typed_between fs (e.pre ∷ e.post ∷ [])) (option_zip x y) (given []) ≡ given ts → AreCouplings (of_function ds q ls rs) (option_zip x y) ts
+  ends_typed fs (Some a) (Some c) ts k l h =
+      let o = given_bind (one_type fs a c) (λ _. there_and_back (of_function ds q ks ms) fs a c) ts h in
+      (both_wider a c ts (there_and_back_typed (of_function ds q ks ms) fits fs a c (k a refl) (l c refl) ts o.2), one_type_there (of_function ds q ks ms) fs a c o.0 ts o.1 o.2)
   ends_typed fs (Some a) None ts k l h = sym (given_is [] ts h)
   ends_typed fs None y ts k l h = sym (given_is [] ts h)
 
   -- the functions that typing gives in a goal on two bodies are typed over the locals of the bodies
   couplings_typed : bodies_of q.conclusion ≡ Some e → (fs : List FormTree) (ts : List Term) → couplings ds q fs ≡ given ts →
-      AreCouplings (relational ds q ls rs) (option_zip (last_sampled e.left) (last_sampled e.right)) ts
+      AreCouplings (of_function ds q ls rs) (option_zip (last_sampled e.left) (last_sampled e.right)) ts
   unfolding couplings
   couplings_typed s fs ts h =
       let k = parts_agree (out-Term q.conclusion).head (out-Term q.conclusion).args e s in
       ends_typed fs (last_sampled e.left) (last_sampled e.right) ts (last_variable ls b.left_locals e.left b.left) (last_variable rs b.right_locals e.right b.right)
-      (ap
-      (λ (z : List Term). option_map_or (λ (t : Ty × Ty). there_and_back (relational ds q (occurring z side.Left e.left) (occurring z side.Right e.right)) fs t.0 t.1)
-      (option_zip (last_sampled e.left) (last_sampled e.right)) (given [])) (sym k.1)
+      (ap (λ (z : List Term). option_map_or (typed_between fs z) (option_zip (last_sampled e.left) (last_sampled e.right)) (given [])) (sym k.1)
       ∙ ap (λ o. option_map_or (of_bodies ds q fs) o (given [])) (sym k.0)
       ∙ h)
 
   of_rule : bodies_of q.conclusion ≡ Some e → (t : RuleTree) (k : Rule) (ts : List Term) → typed_rule ds q t ≡ given k → k ≡ rule.Rnd ts →
-      AreCouplings (relational ds q ls rs) (option_zip (last_sampled e.left) (last_sampled e.right)) ts
+      AreCouplings (of_function ds q ls rs) (option_zip (last_sampled e.left) (last_sampled e.right)) ts
   of_rule s (text.Rnd fs) k ts h r =
       let x = given_bind (couplings ds q fs) (λ (us : List Term). given (rule.Rnd us)) k h in
-      subst (AreCouplings (relational ds q ls rs) (option_zip (last_sampled e.left) (last_sampled e.right))) (ap functions_in (given_is (rule.Rnd x.0) k x.2 ∙ r)) (couplings_typed s fs x.0 x.1)
+      subst (AreCouplings (of_function ds q ls rs) (option_zip (last_sampled e.left) (last_sampled e.right))) (ap functions_in (given_is (rule.Rnd x.0) k x.2 ∙ r)) (couplings_typed s fs x.0 x.1)
   of_rule s text.Proc k ts h r = absurd (false≢true (ap is_rnd (given_is rule.Proc k h ∙ r)))
   of_rule s text.Skip k ts h r = absurd (false≢true (ap is_rnd (given_is rule.Skip k h ∙ r)))
   of_rule s text.Smt k ts h r = absurd (false≢true (ap is_rnd (given_is rule.Smt k h ∙ r)))
@@ -152,7 +158,7 @@ module _ (ds : Declarations) (q : Sequent) (scope : IsTypedScope ds) (typed : Is
 
   -- The functions of a typed step `rnd` are typed over the locals of the bodies.
   pub step_typed : bodies_of q.conclusion ≡ Some e → (t : StepTree) (s : Step) → step_given ds q t ≡ given s → (ts : List Term) → s.rule ≡ rule.Rnd ts →
-      AreCouplings (relational ds q ls rs) (option_zip (last_sampled e.left) (last_sampled e.right)) ts
+      AreCouplings (of_function ds q ls rs) (option_zip (last_sampled e.left) (last_sampled e.right)) ts
   unfolding step_given
   step_typed c t s h ts r =
       let x = given_bind (typed_rule ds q t.rule) (λ (k : Rule). given (record { rule = k; place = t.place })) s h in

@@ -1,5 +1,5 @@
 -- Typed terms in environments that fit.
-use Rattle.std.proofs.Common.{◌≡◌, List, [], ◌∷◌, Option, Some, refl, sym, subst}
+use Rattle.std.proofs.Common.{◌≡◌, false, List, [], ◌∷◌, Option, Some, refl, sym, subst}
 use Rattle.gb_core.specs.declared.place.Place.{Place}
 use Rattle.gb_core.specs.declared.ty.Ty.{Ty}
 use Rattle.gb_core.specs.declared.ty.Ty.TheVariants.{Bool as bool_ty}
@@ -17,9 +17,10 @@ use Rattle.gb_typed.specs.Typing.{type_of, IsHead}
 use Rattle.gb_elab.specs.Answers.{truth, wanted}
 use Rattle.gb_elab.specs.Answers.Answer.{given}
 use Rattle.gb_elab.specs.Environment.{Environment}
+use Rattle.gb_elab.specs.Forms.{has_judgments}
 use Rattle.gb_ready.specs.Scoped.{HeadIsScoped}
 use Rattle.gb_ready.proofs.Made.{Made, made_node}
-use Rattle.gb_given.specs.Fitting.{context_under, frames_under, IsWanted, IsOfProgram, IsGiven}
+use Rattle.gb_given.specs.Fitting.{context_under, frames_under, IsWanted, IsGiven}
 use Rattle.gb_given.proofs.Given.{wanted_is, truth_is}
 
 pub plain_node : (h : Head) (ts : List Term) (ty : Ty) → HeadIsPlain h → AllPlain (row ts) → IsPlain (node h ts ty)
@@ -28,7 +29,7 @@ plain_node h ts ty k p = subst IsPlain (term_is_node h ts ty) (k, p)
 -- a typed and scoped term, written with a type
 pub record Typed (at : Environment) (vs : List TypedName) (ty : Ty) (t : Term) : Type 0 where
   pub made : Made at.declared (context_under at.sequent vs) (frames_under at.variables vs) ty t
-  pub plain : IsOfProgram at.language → IsPlain t
+  pub plain : has_judgments at.language ≡ false → IsPlain t
 
 module _ (at : Environment) (vs : List TypedName) where
   -- the same, of some type

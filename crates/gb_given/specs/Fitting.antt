@@ -1,5 +1,5 @@
 -- Environments that fit typed scopes, and what typing gives in them.
-use Rattle.std.specs.Prelude.{◌≡◌, List, [], ◌∷◌, map, Option, Some, None}
+use Rattle.std.specs.Prelude.{◌≡◌, false, List, [], ◌∷◌, map, Option, Some, None}
 use Rattle.gb_core.specs.declared.ty.Ty.{Ty}
 use Rattle.gb_terms.specs.declared.decl.TypedName.{TypedName}
 use Rattle.gb_terms.specs.declared.term.Term.{Term}
@@ -7,11 +7,10 @@ use Rattle.gb_goal.specs.declared.sequent.Sequent.{Sequent}
 use Rattle.gb_changes.specs.Plain.{IsPlain}
 use Rattle.gb_typed.specs.Typing.{Context, Binder, type_of, IsTyped}
 use Rattle.gb_typed.specs.Typing.Binder.{value}
-use Rattle.gb_elab.specs.declared.setting.Language.{Language}
-use Rattle.gb_elab.specs.declared.setting.Language.TheVariants.{Formula, Program}
 use Rattle.gb_elab.specs.declared.setting.Variables.{Variables}
 use Rattle.gb_elab.specs.declared.setting.Variables.TheVariants.{Absent, Own, Sides}
 use Rattle.gb_elab.specs.Environment.{Environment}
+use Rattle.gb_elab.specs.Forms.{has_judgments}
 use Rattle.gb_ready.specs.Scoped.{Frame, Frames, HaveVariableTypes, IsScoped}
 use Rattle.gb_ready.specs.Goals.{context_of, IsTypedScope}
 
@@ -62,16 +61,12 @@ abbrev pub IsWanted : Option Ty → Ty → Type 0
 IsWanted None t = Unit {0}
 IsWanted (Some w) t = t ≡ w
 
-abbrev pub IsOfProgram : Language → Type 0
-IsOfProgram Formula = ⊥
-IsOfProgram Program = Unit {0}
-
--- A typed and scoped term of the wanted type. One of a program speaks of no procedure.
+-- A typed and scoped term of the wanted type. Where no judgment may stand, it speaks of no procedure.
 pub record IsGiven (at : Environment) (vs : List TypedName) (w : Option Ty) (t : Term) : Type 0 where
   pub typed : IsTyped (context_under at.sequent vs) t
   pub scoped : IsScoped at.declared (frames_under at.variables vs) t
   pub wanted : IsWanted w (type_of t)
-  pub plain : IsOfProgram at.language → IsPlain t
+  pub plain : has_judgments at.language ≡ false → IsPlain t
 
 -- one bound value of a type; its name is of no account to its typing
 abbrev pub one_value : Ty → List TypedName
@@ -87,7 +82,12 @@ abbrev pub AreThereAndBack : Environment → Ty → Ty → List Term → Type 0
 AreThereAndBack at a b [] = Unit {0}
 AreThereAndBack at a b (t ∷ ts) = IsGiven at (one_value a) (Some b) t × AreFunctions at b a ts
 
+-- one function alone leads there and back, so both types are one
+abbrev pub IsOneType : Ty → Ty → List Term → Type 0
+IsOneType a b (t ∷ []) = a ≡ b
+IsOneType a b _ = Unit {0}
+
 -- the functions of two samplings from these types: there are none where a type is missing
 abbrev pub AreCouplings : Environment → Option (Ty × Ty) → List Term → Type 0
 AreCouplings at None ts = ts ≡ []
-AreCouplings at (Some t) ts = AreThereAndBack at t.0 t.1 ts
+AreCouplings at (Some t) ts = AreThereAndBack at t.0 t.1 ts × IsOneType t.0 t.1 ts
