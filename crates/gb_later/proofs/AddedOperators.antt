@@ -20,14 +20,8 @@ use Rattle.gb_later.specs.Agreement.{SameFootprint}
 use Rattle.gb_later.specs.Naming.{NoName, IsOther, AgreeOn, TermNames, OperatorsName}
 use Rattle.gb_later.proofs.SameTerms.{term_same, denominator_same}
 use Rattle.gb_later.proofs.Agreeing.{term_agrees}
-use Rattle.gb_later.proofs.LaterSetting.{operators-agree}
-
-off : (b : Bool) → (b ≡ true → ⊥) → b ≡ false
-off true h = absurd (h refl)
-off false h = refl
-
-differ : (n m : Name) → bytes_eq n m ≡ false → bytes_eq m n ≡ false
-differ n m e = off (bytes_eq m n) (λ t. false≢true (sym e ∙ (bytes_eq-Decides n m).1 (sym ((bytes_eq-Decides m n).0 t))))
+use Rattle.gb_later.proofs.KeptNames.{differ}
+use Rattle.gb_later.proofs.OperatorsAlike.{operators-agree}
 
 -- the table with this function for n
 abbrev pub changed : Table → Name → (List Meaning → Meaning) → ℕ → Table

@@ -6,16 +6,17 @@ use Rattle.gb_meaning.specs.Names.{Name}
 use Rattle.gb_meaning.specs.Values.{World}
 use Rattle.gb_holds.specs.Declared.{Declarations, Declaration, abstract_type, operator, abstract_operator, module_type, concrete_module, abstract_module, axiom_of, lemma, terminating}
 use Rattle.gb_holds.specs.Settings.{Table}
-use Rattle.gb_holds.specs.Holds.{KeepModules, AreSilent, Holds, IsTerminating, IsSound}
+use Rattle.gb_holds.specs.Holds.{KeepModules, AreSilent, Holds, IsTerminating, IsSoundAfter, AreSoundAfter, IsSound}
 use Rattle.gb_holds.proofs.Statements.{silent-keeps}
 use Rattle.gb_holds.proofs.Kept.{Before, before-silent, still_holds}
 use Rattle.gb_holds.proofs.KeptLoops.{still_proved}
 use Rattle.gb_later.specs.Naming.{NoName, IsOther, OperatorsName}
 use Rattle.gb_later.specs.Added.{IsOperator, IsNewOperator, AreLoopsApart, IsSequentApartIn, IsAdded, AreAdded, AreAddedTo, AreAddedToLoops}
 use Rattle.gb_later.proofs.AddedOperators.{before-defined, before-abstract}
-use Rattle.gb_later.proofs.LemmasOfScopes.{promised}
-use Rattle.gb_later.proofs.ModulesAdded.{holds-with}
-use Rattle.gb_later.proofs.LoopsAdded.{loops-with}
+use Rattle.gb_later.proofs.SequentsAlike.{holds-along}
+use Rattle.gb_later.proofs.ModulesAdded.{goes-with}
+use Rattle.gb_later.proofs.SectionsAdded.{goes-beyond}
+use Rattle.gb_later.proofs.LoopsAdded.{loops-along}
 
 names-split : (P Q : Name → Type 0) (ds es : Declarations) → OperatorsName P Q (ds ++ es) → OperatorsName P Q ds × OperatorsName P Q es
 names-split P Q [] es h = (tt, h)
@@ -55,9 +56,9 @@ one-added : (ds : Declarations) (n : Name) (d : Declaration) (q : Sequent) → I
 one-added ds n abstract_type q a x = silent ds ((n, abstract_type) ∷ []) (tt, tt) q x
 one-added ds n (operator o) q a x = holds-new ds n (operator o) tt a q x
 one-added ds n (abstract_operator o) q a x = holds-new ds n (abstract_operator o) tt a q x
-one-added ds n (module_type t) q a x = holds-with ds ((n, module_type t) ∷ []) (tt, tt) a.0 q a.1 x
-one-added ds n (concrete_module m) q a x = holds-with ds ((n, concrete_module m) ∷ []) (tt, tt) a.0 q a.1 x
-one-added ds n (abstract_module b) q a x = absurd a
+one-added ds n (module_type t) q a x = holds-along ((n, module_type t) ∷ []) ds (goes-with ds ((n, module_type t) ∷ []) (tt, tt) a.0) q a.1 x
+one-added ds n (concrete_module m) q a x = holds-along ((n, concrete_module m) ∷ []) ds (goes-with ds ((n, concrete_module m) ∷ []) (tt, tt) a.0) q a.1 x
+one-added ds n (abstract_module b) q a x = holds-along ((n, abstract_module b) ∷ []) ds (goes-beyond ds n b a.0 a.1) q a.2 x
 one-added ds n (axiom_of p) q a x = silent ds ((n, axiom_of p) ∷ []) (tt, tt) q x
 one-added ds n (lemma p) q a x = silent ds ((n, lemma p) ∷ []) (tt, tt) q x
 one-added ds n (terminating f) q a x = silent ds ((n, terminating f) ∷ []) (tt, tt) q x
@@ -70,9 +71,9 @@ one-beside : (ds : Declarations) (n : Name) (d : Declaration) (m f : Name) → I
 one-beside ds n abstract_type m f a x = silent-loops ds ((n, abstract_type) ∷ []) (tt, tt) m f x
 one-beside ds n (operator o) m f a x = loops-new ds n (operator o) tt a m f x
 one-beside ds n (abstract_operator o) m f a x = loops-new ds n (abstract_operator o) tt a m f x
-one-beside ds n (module_type t) m f a x = loops-with ds ((n, module_type t) ∷ []) (tt, tt) a.0 m f a.1 x
-one-beside ds n (concrete_module c) m f a x = loops-with ds ((n, concrete_module c) ∷ []) (tt, tt) a.0 m f a.1 x
-one-beside ds n (abstract_module b) m f a x = absurd a
+one-beside ds n (module_type t) m f a x = loops-along ((n, module_type t) ∷ []) ds (goes-with ds ((n, module_type t) ∷ []) (tt, tt) a.0) m f a.1 x
+one-beside ds n (concrete_module c) m f a x = loops-along ((n, concrete_module c) ∷ []) ds (goes-with ds ((n, concrete_module c) ∷ []) (tt, tt) a.0) m f a.1 x
+one-beside ds n (abstract_module b) m f a x = loops-along ((n, abstract_module b) ∷ []) ds (goes-beyond ds n b a.0 a.1) m f a.2 x
 one-beside ds n (axiom_of p) m f a x = silent-loops ds ((n, axiom_of p) ∷ []) (tt, tt) m f x
 one-beside ds n (lemma p) m f a x = silent-loops ds ((n, lemma p) ∷ []) (tt, tt) m f x
 one-beside ds n (terminating g) m f a x = silent-loops ds ((n, terminating g) ∷ []) (tt, tt) m f x
@@ -89,6 +90,12 @@ all-added ds es q a x = each-added (IsSequentApartIn q) (λ z. Holds z q) (λ cs
 
 pub loops-added : (ds es : Declarations) (m f : Name) → AreAddedToLoops ds es m f → IsTerminating ds m f → IsTerminating (ds ++ es) m f
 loops-added ds es m f a x = each-added (AreLoopsApart m f) (λ z. IsTerminating z m f) (λ cs n d. one-beside cs n d m f) ds es a x
+
+module _ (n : Name) (d : Declaration) (es : Declarations) where
+  -- what a sound scope promises of a declaration in its midst
+  promised : (before ds : Declarations) → AreSoundAfter before (ds ++ (n, d) ∷ es) → IsSoundAfter (before ++ ds) n d
+  promised before [] s = subst (λ z. IsSoundAfter z n d) (sym (append-nil before)) s.0
+  promised before (e ∷ ds) s = subst (λ z. IsSoundAfter z n d) (append_assoc before (e ∷ []) ds) (promised (before ++ e ∷ []) ds s.1)
 
 pub lemma-stays : (ds es : Declarations) (n : Name) (q : Sequent) → IsSound (ds ++ (n, lemma q) ∷ es) → AreAddedTo ds ((n, lemma q) ∷ es) q →
     Holds (ds ++ (n, lemma q) ∷ es) q

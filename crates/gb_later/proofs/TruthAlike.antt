@@ -1,8 +1,7 @@
--- Programs are within binders, and formulas are true, alike with and without modules that are added and not named.
-use Rattle.std.proofs.Common.{◌≡◌, ℕ, Bool, true, false, if◌then◌else◌, List, [], ◌∷◌, ◌++◌, filter, bytes_eq, refl, sym, ap, ◌∙◌, ◌↔◌, subst}
+-- Programs are within binders, and formulas are true, alike in aligned scopes, if they name nothing that is added.
+use Rattle.std.proofs.Common.{◌≡◌, ℕ, Bool, true, false, List, [], ◌∷◌, ◌++◌, sym, ◌↔◌, subst}
 use mathlib.Core.Former.{Count}
 use Rattle.gb_types.specs.Numbering.{Numbering}
-use Rattle.gb_terms.specs.declared.decl.TypedName.{TypedName}
 use Rattle.gb_terms.specs.declared.module.Bind.{Bind}
 use Rattle.gb_terms.specs.declared.module.Mexp.TheVariants.{Name as named}
 use Rattle.gb_terms.specs.declared.op.Op.TheVariants as op
@@ -15,22 +14,21 @@ use Rattle.gb_meaning.specs.Setting.Meaning.{finite}
 use Rattle.gb_meaning.specs.State.{State, under}
 use Rattle.gb_meaning.specs.State.Binding.{value, memory, program}
 use Rattle.gb_meaning.specs.Judgments.{IsTrueIn}
-use Rattle.gb_holds.specs.Declared.{Declarations, ModuleType, abstract_type, operator, abstract_operator, module_type, concrete_module, abstract_module, axiom_of, lemma, terminating}
+use Rattle.gb_holds.specs.Declared.{Declarations, ModuleType}
 use Rattle.gb_holds.specs.Adversary.{Adversary, type_named}
-use Rattle.gb_holds.specs.Settings.{Chosen, Table, Interpretation, interpreted, setting, globals_from, declared_globals}
+use Rattle.gb_holds.specs.Settings.{Chosen, Table, Interpretation, interpreted, setting}
 use Rattle.gb_holds.specs.Naming.{AnyName, IsFresh, EachParam, IsTypeIn}
 use Rattle.gb_holds.specs.Programs.{AreIn, IsProgramFor, AreNamed, AreFull}
 use Rattle.gb_holds.specs.Bounds.{IsBounded}
 use Rattle.gb_holds.specs.Within.{AreApart, excluded, KeepsOff, IsWithinIn, IsWithin}
 use Rattle.gb_holds.specs.Truth.{Choice, last_has_module, IsFirstTrue, Truth, TruthOfLast}
-use Rattle.gb_holds.proofs.ModuleTypes.{types-fresh}
 use Rattle.gb_holds.proofs.SameScope.{SameTypes, program-to, bounded-to}
-use Rattle.gb_later.specs.Naming.{AgreeOn, AreModulesOrStatements, OperatorsName}
-use Rattle.gb_later.specs.Formed.{AreSignedBounds, AreFresh, IsFormedBind, IsSaidApart, IsFirstApart, IsApartFormula, IsLastApart}
+use Rattle.gb_later.specs.Naming.{chosen_names, IsKept}
+use Rattle.gb_later.specs.Formed.{AreSignedBounds, AreKept, IsFormedBind, IsSaidApart, IsFirstApart, IsApartFormula, IsLastApart}
 use Rattle.gb_later.proofs.SameForms.{truth_same}
 use Rattle.gb_later.proofs.Agreeing.{values_agree, form_agrees}
-use Rattle.gb_later.proofs.LaterSetting.{EachPlain}
-use Rattle.gb_later.proofs.WithModules.{AreApartPrograms, agrees_with}
+use Rattle.gb_later.proofs.PlainGlobals.{EachPlain}
+use Rattle.gb_later.proofs.Aligned.{AreApartPrograms, Aligned}
 use Rattle.gb_later.proofs.TypedAlike.{SameBasis, basis-of, turned-basis}
 use Rattle.gb_later.proofs.WithinAlike.{plain-in, program-alike, bounded-alike, full-alike}
 
@@ -61,135 +59,98 @@ module _ (P : Name → Type 0) (ds es : Declarations) (e : SameTypes P ds es) (g
             (bounded-to P ds es e t i.1 h w v b.bounds (bounded-alike g h a w p ds t v k.program b.bounds y k.bounded));
       }
 
-pub type-later : (ds es : Declarations) (n : Name) → IsTypeIn (IsFresh es) ds n → IsTypeIn (IsFresh es) (ds ++ es) n
-type-later ds es n k = (k.0, subst (λ t. EachParam (IsFresh es) t.params) (types-fresh ds es n k.0) k.1)
-
--- the globals of a module that isn't added
-
-module _ (m : Name) where
-  none-if : (b : Bool) (x : Global) (xs : List Global) → b ≡ false → ◌≡◌ {A = List Global} (if b then x ∷ xs else xs) xs
-  none-if b x xs e = ap (λ (c : Bool). if c then x ∷ xs else xs) e
-
-  none-from : (n : Name) (gs : List TypedName) (rest : List Global) → bytes_eq m n ≡ false →
-      filter (λ (x : Global). bytes_eq m x.parent) (globals_from n gs ++ rest) ≡ filter (λ (x : Global). bytes_eq m x.parent) rest
-  none-from n [] rest e = refl
-  none-from n (x ∷ gs) rest e = none-if (bytes_eq m n) _ _ e ∙ none-from n gs rest e
-
-  front-alike : (xs ys zs : List Global) → filter (λ (x : Global). bytes_eq m x.parent) ys ≡ filter (λ (x : Global). bytes_eq m x.parent) zs →
-      filter (λ (x : Global). bytes_eq m x.parent) (xs ++ ys) ≡ filter (λ (x : Global). bytes_eq m x.parent) (xs ++ zs)
-  front-alike [] ys zs e = e
-  front-alike (x ∷ xs) ys zs e = λ i. if bytes_eq m x.parent then x ∷ front-alike xs ys zs e i else front-alike xs ys zs e i
-
-  none-added : (es : Declarations) → IsFresh es m → filter (λ (x : Global). bytes_eq m x.parent) (declared_globals es) ≡ []
-  none-added [] f = refl
-  none-added ((n, concrete_module c) ∷ es) f = none-from n c.globals (declared_globals es) f.0 ∙ none-added es f.1
-  none-added ((n, abstract_type) ∷ es) f = none-added es f.1
-  none-added ((n, operator o) ∷ es) f = none-added es f.1
-  none-added ((n, abstract_operator o) ∷ es) f = none-added es f.1
-  none-added ((n, module_type t) ∷ es) f = none-added es f.1
-  none-added ((n, abstract_module b) ∷ es) f = none-added es f.1
-  none-added ((n, axiom_of q) ∷ es) f = none-added es f.1
-  none-added ((n, lemma q) ∷ es) f = none-added es f.1
-  none-added ((n, terminating x) ∷ es) f = none-added es f.1
-
-  globals-alike : (ds es : Declarations) → IsFresh es m →
-      filter (λ (x : Global). bytes_eq m x.parent) (declared_globals ds) ≡ filter (λ (x : Global). bytes_eq m x.parent) (declared_globals (ds ++ es))
-  globals-alike [] es f = sym (none-added es f)
-  globals-alike ((n, concrete_module c) ∷ ds) es f = front-alike (globals_from n c.globals) (declared_globals ds) (declared_globals (ds ++ es)) (globals-alike ds es f)
-  globals-alike ((n, abstract_type) ∷ ds) es f = globals-alike ds es f
-  globals-alike ((n, operator o) ∷ ds) es f = globals-alike ds es f
-  globals-alike ((n, abstract_operator o) ∷ ds) es f = globals-alike ds es f
-  globals-alike ((n, module_type t) ∷ ds) es f = globals-alike ds es f
-  globals-alike ((n, abstract_module b) ∷ ds) es f = globals-alike ds es f
-  globals-alike ((n, axiom_of q) ∷ ds) es f = globals-alike ds es f
-  globals-alike ((n, lemma q) ∷ ds) es f = globals-alike ds es f
-  globals-alike ((n, terminating x) ∷ ds) es f = globals-alike ds es f
-
 choice-alike : (t : Bool) (X Y A B C D : Type 0) → Choice t X Y → (X → A ↔ C) → (Y → B ↔ D) → Choice t A B ↔ Choice t C D
 choice-alike true X Y A B C D k f g = f k
 choice-alike false X Y A B C D k f g = g k
 
-module _ (ds es : Declarations) (s : AreModulesOrStatements es) (o : OperatorsName (IsFresh es) AnyName ds) (w : World) (size : Name → ℕ) (table : Table) (h : EachPlain w) where
-  abbrev pub now : List Chosen → Interpretation
-  now cs = interpreted w size table cs
+module _ (es ds later : Declarations) (w : World) (size : Name → ℕ) (table : Table) (rest more : List Chosen) (a : Aligned es ds later w size table rest more) where
+  -- the interpretations with further programs, before and with what is added
+  abbrev pub at-first : List Chosen → Interpretation
+  at-first js = interpreted w size table (js ++ rest)
 
-  pub agree : (cs : List Chosen) → AreApartPrograms es ds cs → AgreeOn (IsFresh es) AnyName (setting ds (now cs)) (setting (ds ++ es) (now cs))
-  agree cs p = agrees_with ds es s o w size table h cs p
+  abbrev pub at-last : List Chosen → Interpretation
+  at-last js = interpreted w size table (js ++ more)
 
-  pub basis : (cs : List Chosen) → AreApartPrograms es ds cs → SameBasis (setting ds (now cs)) (setting (ds ++ es) (now cs))
-  basis cs p = basis-of (IsFresh es) (setting ds (now cs)) (setting (ds ++ es) (now cs)) (agree cs p)
+  abbrev names : List Chosen → List Name
+  names js = chosen_names (js ++ rest)
 
-  exclude-alike : (cs : List Chosen) → AreApartPrograms es ds cs → (ms : List Name) → AreFresh es ms →
-      ExcludeAlike ds (ds ++ es) (setting ds (now cs)) (setting (ds ++ es) (now cs)) ms
-  exclude-alike cs p [] f = tt
-  exclude-alike cs p (m ∷ ms) f =
-      ((λ i. globals-alike m ds es f.0 i ++ ((agree cs p).footprints (named m) f.0).0 i), exclude-alike cs p ms f.1)
+  pub basis : (js : List Chosen) → AreApartPrograms es ds js → SameBasis (setting ds (at-first js)) (setting later (at-last js))
+  basis js p = basis-of (IsKept es (names js)) (setting ds (at-first js)) (setting later (at-last js)) (a.settings js p)
 
-  pub within-later : (cs : List Chosen) → AreApartPrograms es ds cs → (b : Bind) → IsFormedBind es ds b → (v : Adversary) →
-      IsWithin ds (now cs) b v → IsWithin (ds ++ es) (now cs) b v
-  within-later cs p b f v k =
-      within-alike (IsFresh es) ds (ds ++ es) (types-fresh ds es) (setting ds (now cs)) (setting (ds ++ es) (now cs)) (basis cs p) w h b f.type
-      (exclude-alike cs p b.minus f.minus) f.bounds v k
+  pub type-later : (n : Name) → IsTypeIn (IsFresh es) ds n → IsTypeIn (IsFresh es) later n
+  type-later n k = (k.0, subst (λ t. EachParam (IsFresh es) t.params) (a.types n k.0) k.1)
 
-  pub within-earlier : (cs : List Chosen) → AreApartPrograms es ds cs → (b : Bind) → IsFormedBind es ds b → (v : Adversary) →
-      IsWithin (ds ++ es) (now cs) b v → IsWithin ds (now cs) b v
-  within-earlier cs p b f v k =
-      within-alike (IsFresh es) (ds ++ es) ds (λ n x. sym (types-fresh ds es n x)) (setting (ds ++ es) (now cs)) (setting ds (now cs))
-      (turned-basis (setting ds (now cs)) (setting (ds ++ es) (now cs)) (basis cs p)) w h b (type-later ds es b.ty f.type)
-      (exclude-back ds (ds ++ es) (setting ds (now cs)) (setting (ds ++ es) (now cs)) b.minus (exclude-alike cs p b.minus f.minus))
-      (subst (λ t. AreSignedBounds t.signatures b.bounds) (types-fresh ds es b.ty f.type.0) f.bounds) v k
+  exclude-alike : (js : List Chosen) → AreApartPrograms es ds js → (ms : List Name) → AreKept es (names js) ms →
+      ExcludeAlike ds later (setting ds (at-first js)) (setting later (at-last js)) ms
+  exclude-alike js p [] f = tt
+  exclude-alike js p (m ∷ ms) f = ((λ i. a.globals m f.0.1 i ++ ((a.settings js p).footprints (named m) f.0.0).0 i), exclude-alike js p ms f.1)
 
-  pub chosen-plain : (b : Bind) (v : Adversary) (cs : List Chosen) → IsTypeIn (IsFresh es) ds b.ty → AreIn w v.footprint → AreApartPrograms es ds cs → AreApartPrograms es ds (record { bind = b; program = v } ∷ cs)
-  chosen-plain b v cs i k p = ((plain-in w h v.footprint k, i), p)
+  pub within-later : (js : List Chosen) → AreApartPrograms es ds js → (b : Bind) → IsFormedBind es ds (names js) b → (v : Adversary) →
+      IsWithin ds (at-first js) b v → IsWithin later (at-last js) b v
+  within-later js p b f v k =
+      within-alike (IsFresh es) ds later a.types (setting ds (at-first js)) (setting later (at-last js)) (basis js p) w a.plain b f.type
+      (exclude-alike js p b.minus f.minus) f.bounds v k
 
-  said-alike : (cs : List Chosen) → AreApartPrograms es ds cs → (f : Term) → IsSaidApart es (setting ds (now cs)) f → (a : State) →
-      IsTrueIn (setting ds (now cs)) f a ↔ IsTrueIn (setting (ds ++ es) (now cs)) f a
-  said-alike cs p f k a =
-      truth_same (setting ds (now cs)) (setting (ds ++ es) (now cs)) f
-      (form_agrees (IsFresh es) AnyName (setting ds (now cs)) (setting (ds ++ es) (now cs)) (agree cs p) f k.0) k.1 a
+  pub within-earlier : (js : List Chosen) → AreApartPrograms es ds js → (b : Bind) → IsFormedBind es ds (names js) b → (v : Adversary) →
+      IsWithin later (at-last js) b v → IsWithin ds (at-first js) b v
+  within-earlier js p b f v k =
+      within-alike (IsFresh es) later ds (λ n x. sym (a.types n x)) (setting later (at-last js)) (setting ds (at-first js))
+      (turned-basis (setting ds (at-first js)) (setting later (at-last js)) (basis js p)) w a.plain b (type-later b.ty f.type)
+      (exclude-back ds later (setting ds (at-first js)) (setting later (at-last js)) b.minus (exclude-alike js p b.minus f.minus))
+      (subst (λ t. AreSignedBounds t.signatures b.bounds) (a.types b.ty f.type.0) f.bounds) v k
 
-  first-alike : {n : Count} (ts : Row_of-Term n) (cs : List Chosen) → AreApartPrograms es ds cs → IsFirstApart es (setting ds (now cs)) ts → (a : State) →
-      IsFirstTrue ds ts (now cs) a ↔ IsFirstTrue (ds ++ es) ts (now cs) a
-  first-alike end_of-Term cs p k a = (λ z. tt, λ z. tt)
-  first-alike (more_of-Term t ts) cs p k a = said-alike cs p t k a
+  pub chosen-plain : (b : Bind) (v : Adversary) (js : List Chosen) → IsTypeIn (IsFresh es) ds b.ty → AreIn w v.footprint → AreApartPrograms es ds js →
+      AreApartPrograms es ds (record { bind = b; program = v } ∷ js)
+  chosen-plain b v js i k p = ((plain-in w a.plain v.footprint k, i), p)
+
+  said-alike : (js : List Chosen) → AreApartPrograms es ds js → (f : Term) → IsSaidApart es ds f (at-first js) → (x : State) →
+      IsTrueIn (setting ds (at-first js)) f x ↔ IsTrueIn (setting later (at-last js)) f x
+  said-alike js p f k x =
+      truth_same (setting ds (at-first js)) (setting later (at-last js)) f
+      (form_agrees (IsKept es (names js)) AnyName (setting ds (at-first js)) (setting later (at-last js)) (a.settings js p) f k.0) k.1 x
+
+  first-alike : {n : Count} (ts : Row_of-Term n) (js : List Chosen) → AreApartPrograms es ds js → IsFirstApart es ds ts (at-first js) → (x : State) →
+      IsFirstTrue ds ts (at-first js) x ↔ IsFirstTrue later ts (at-last js) x
+  first-alike end_of-Term js p k x = (λ z. tt, λ z. tt)
+  first-alike (more_of-Term t ts) js p k x = said-alike js p t k x
 
   mutual
     -- a formula that names none of what is added is true alike
-    pub truth_alike : (f : Term) (cs : List Chosen) → AreApartPrograms es ds cs → IsApartFormula es ds f (now cs) → (a : State) →
-        Truth ds f (now cs) a ↔ Truth (ds ++ es) f (now cs) a
-    truth_alike (Term' q (more_of-Head (head.AllModule b) end_of-Head) n ts ty) cs p k a =
-        let ks : Adversary → List Chosen = λ v. record { bind = b; program = v } ∷ cs in (
-          λ z v x. let plain = chosen-plain b v cs k.0.type x.program.known p in
-              let y = within-earlier (ks v) plain b k.0 v x in
-              (last-alike ts (ks v) plain (k.1 v y) (under a program)).0 (z v y),
-          λ z v x. let plain = chosen-plain b v cs k.0.type x.program.known p in
-              (last-alike ts (ks v) plain (k.1 v x) (under a program)).1 (z v (within-later (ks v) plain b k.0 v x)),
+    pub truth_alike : (f : Term) (js : List Chosen) → AreApartPrograms es ds js → IsApartFormula es ds f (at-first js) → (x : State) →
+        Truth ds f (at-first js) x ↔ Truth later f (at-last js) x
+    truth_alike (Term' q (more_of-Head (head.AllModule b) end_of-Head) n ts ty) js p k x =
+        let ks : Adversary → List Chosen = λ v. record { bind = b; program = v } ∷ js in (
+          λ z v y. let plain = chosen-plain b v js k.0.type y.program.known p in
+              let e = within-earlier (ks v) plain b k.0 v y in
+              (last-alike ts (ks v) plain (k.1 v e) (under x program)).0 (z v e),
+          λ z v y. let plain = chosen-plain b v js k.0.type y.program.known p in
+              (last-alike ts (ks v) plain (k.1 v y) (under x program)).1 (z v (within-later (ks v) plain b k.0 v y)),
         )
-    truth_alike (Term' q (more_of-Head (head.All u) end_of-Head) n ts ty) cs p k a =
+    truth_alike (Term' q (more_of-Head (head.All u) end_of-Head) n ts ty) js p k x =
         choice-alike (last_has_module ts) _ _ _ _ _ _ k
-        (λ x. let e = values_agree (IsFresh es) AnyName (setting ds (now cs)) (setting (ds ++ es) (now cs)) (agree cs p) u x.0 in (
-          λ z v t. (last-alike ts cs p x.1 (under a (value (finite v)))).0 (z v (subst (λ (y : Numbering). y.has v ≡ true) (sym e) t)),
-          λ z v t. (last-alike ts cs p x.1 (under a (value (finite v)))).1 (z v (subst (λ (y : Numbering). y.has v ≡ true) e t)),
+        (λ y. let e = values_agree (IsKept es (names js)) AnyName (setting ds (at-first js)) (setting later (at-last js)) (a.settings js p) u y.0 in (
+          λ z v t. (last-alike ts js p y.1 (under x (value (finite v)))).0 (z v (subst (λ (o : Numbering). o.has v ≡ true) (sym e) t)),
+          λ z v t. (last-alike ts js p y.1 (under x (value (finite v)))).1 (z v (subst (λ (o : Numbering). o.has v ≡ true) e t)),
         ))
-        (λ x. said-alike cs p (Term' q (more_of-Head (head.All u) end_of-Head) n ts ty) x a)
-    truth_alike (Term' q (more_of-Head head.AllMemory end_of-Head) n ts ty) cs p k a =
+        (λ y. said-alike js p (Term' q (more_of-Head (head.All u) end_of-Head) n ts ty) y x)
+    truth_alike (Term' q (more_of-Head head.AllMemory end_of-Head) n ts ty) js p k x =
         choice-alike (last_has_module ts) _ _ _ _ _ _ k
-        (λ x. (
-          λ z m. (last-alike ts cs p x (under a (memory m))).0 (z m),
-          λ z m. (last-alike ts cs p x (under a (memory m))).1 (z m),
+        (λ y. (
+          λ z m. (last-alike ts js p y (under x (memory m))).0 (z m),
+          λ z m. (last-alike ts js p y (under x (memory m))).1 (z m),
         ))
-        (λ x. said-alike cs p (Term' q (more_of-Head head.AllMemory end_of-Head) n ts ty) x a)
-    truth_alike (Term' q (more_of-Head (head.Builtin op.Implies) end_of-Head) n ts ty) cs p k a =
+        (λ y. said-alike js p (Term' q (more_of-Head head.AllMemory end_of-Head) n ts ty) y x)
+    truth_alike (Term' q (more_of-Head (head.Builtin op.Implies) end_of-Head) n ts ty) js p k x =
         choice-alike (last_has_module ts) _ _ _ _ _ _ k
-        (λ x. (
-          λ z y. (last-alike ts cs p x.1 a).0 (z ((first-alike ts cs p x.0 a).1 y)),
-          λ z y. (last-alike ts cs p x.1 a).1 (z ((first-alike ts cs p x.0 a).0 y)),
+        (λ y. (
+          λ z t. (last-alike ts js p y.1 x).0 (z ((first-alike ts js p y.0 x).1 t)),
+          λ z t. (last-alike ts js p y.1 x).1 (z ((first-alike ts js p y.0 x).0 t)),
         ))
-        (λ x. said-alike cs p (Term' q (more_of-Head (head.Builtin op.Implies) end_of-Head) n ts ty) x a)
-    truth_alike f cs p k a = said-alike cs p f k a
+        (λ y. said-alike js p (Term' q (more_of-Head (head.Builtin op.Implies) end_of-Head) n ts ty) y x)
+    truth_alike f js p k x = said-alike js p f k x
 
-    last-alike : {n : Count} (ts : Row_of-Term n) (cs : List Chosen) → AreApartPrograms es ds cs → IsLastApart es ds ts (now cs) → (a : State) →
-        TruthOfLast ds ts (now cs) a ↔ TruthOfLast (ds ++ es) ts (now cs) a
-    last-alike end_of-Term cs p k a = (λ z. tt, λ z. tt)
-    last-alike (more_of-Term t end_of-Term) cs p k a = truth_alike t cs p k a
-    last-alike (more_of-Term t (more_of-Term u ts)) cs p k a = last-alike (more_of-Term u ts) cs p k a
+    last-alike : {n : Count} (ts : Row_of-Term n) (js : List Chosen) → AreApartPrograms es ds js → IsLastApart es ds ts (at-first js) → (x : State) →
+        TruthOfLast ds ts (at-first js) x ↔ TruthOfLast later ts (at-last js) x
+    last-alike end_of-Term js p k x = (λ z. tt, λ z. tt)
+    last-alike (more_of-Term t end_of-Term) js p k x = truth_alike t js p k x
+    last-alike (more_of-Term t (more_of-Term u ts)) js p k x = last-alike (more_of-Term u ts) js p k x

@@ -29,7 +29,7 @@ use Rattle.gb_later.proofs.SameForms.{distribution-to}
 use Rattle.gb_later.specs.Naming.{NoName, AgreeOn}
 use Rattle.gb_later.proofs.Agreeing.{term_agrees}
 use Rattle.gb_later.proofs.TypedNames.{expression-names, over-names}
-use Rattle.gb_later.proofs.LaterSetting.{EachPlain, globless_values, plain_values}
+use Rattle.gb_later.proofs.PlainGlobals.{EachPlain, globless_values, plain_values}
 
 -- two settings with the same sizes of types and the same operators
 abbrev pub SameBasis : Setting → Setting → Type 0

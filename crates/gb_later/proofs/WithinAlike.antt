@@ -30,7 +30,7 @@ use Rattle.gb_later.specs.Naming.{NoName, RoutineNames, NamesIfThere}
 use Rattle.gb_later.specs.Formed.{IsSigned, AreSigned, AreSignedBounds}
 use Rattle.gb_later.proofs.SameTerms.{denominator_same, globals_same}
 use Rattle.gb_later.proofs.SamePrograms.{distribution_same}
-use Rattle.gb_later.proofs.LaterSetting.{EachPlain, plain-globals}
+use Rattle.gb_later.proofs.PlainGlobals.{EachPlain, plain-globals}
 use Rattle.gb_later.proofs.TypedAlike.{SameBasis, turned-basis, over-alike, typed-routine-to}
 use Rattle.gb_later.proofs.Agreeing.{routine_agrees}
 use Rattle.gb_later.proofs.TypedNames.{linked-routine-names}

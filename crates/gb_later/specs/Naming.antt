@@ -1,5 +1,6 @@
 -- The names in types, terms, programs and forms, and settings that agree on some names.
-use Rattle.std.specs.Prelude.{◌≡◌, false, bytes_eq, List, [], ◌∷◌, Option, Some, None}
+use Rattle.std.specs.Prelude.{◌≡◌, ◌⊎◌, true, false, bytes_eq, List, [], ◌∷◌, map, Option, Some, None}
+use Rattle.std.specs.List.{list_any}
 use Rattle.gb_core.specs.declared.ty.Ty.{Ty}
 use Rattle.gb_core.specs.declared.var.Var.{Var}
 use Rattle.gb_core.specs.declared.var.Var.TheVariants as var
@@ -21,7 +22,8 @@ use Rattle.gb_meaning.specs.Setting.{Setting}
 use Rattle.gb_meaning.specs.Commands.{program_of, statements}
 use Rattle.gb_holds.specs.Globs.{EachGlob}
 use Rattle.gb_holds.specs.Declared.{Declarations, Declaration, operator, abstract_operator, module_type, concrete_module, lemma, terminating}
-use Rattle.gb_holds.specs.Naming.{EachName, EachCallIn, EachCallOf}
+use Rattle.gb_holds.specs.Naming.{EachName, EachCallIn, EachCallOf, IsFresh}
+use Rattle.gb_holds.specs.Settings.{Chosen}
 use Rattle.gb_holds.specs.Holds.{EachDeclared}
 use Rattle.gb_later.specs.Agreement.{SameFootprint, SameOperator}
 
@@ -32,6 +34,18 @@ NoName n = ⊥
 -- any name but n
 abbrev pub IsOther : Name → Name → Type 0
 IsOther n m = bytes_eq m n ≡ false
+
+-- the names under which programs are chosen
+abbrev pub chosen_names : List Chosen → List Name
+chosen_names cs = map (λ c. c.bind.name) cs
+
+-- one of these names
+abbrev pub IsAmong : List Name → Name → Type 0
+IsAmong hs n = list_any (bytes_eq n) hs ≡ true
+
+-- A name that stands for none of the declarations es: none of them has it, or a module of one of the names hs hides it.
+abbrev pub IsKept : Declarations → List Name → Name → Type 0
+IsKept es hs n = IsFresh es n ⊎ IsAmong hs n
 
 -- each module whose globals these types speak of is in P
 abbrev pub EachGlobOf : (Name → Type 0) → List TypedName → Type 0

@@ -2,5 +2,6 @@
 #![tactic(auto)]
 
 pub mod added_laws;
-pub mod sequent_laws;
+pub mod examples;
+pub mod name_laws;
 pub mod setting_laws;

@@ -1,6 +1,11 @@
-use Rattle.gb_later.proofs.ModulesAdded.{holds-with}
-use Rattle.gb_later.proofs.LoopsAdded.{loops-with}
+use Rattle.gb_later.proofs.SequentsAlike.{holds-along}
+use Rattle.gb_later.proofs.ModulesAdded.{goes-with, true-with}
+use Rattle.gb_later.proofs.LoopsAdded.{loops-along}
 use Rattle.gb_later.proofs.added_laws.modules_beside_adversaries.Goals as goal
 
 pub returns : goal.returns
-returns c = record { holds = λ ds es s a q e h. holds-with ds es s a q e h; loops = λ ds es s a m f e x. loops-with ds es s a m f e x }
+returns c = record {
+  truth = λ ds es s o w size table h q k. true-with ds es s o w size table h q k;
+  holds = λ ds es s a q e h. holds-along es ds (goes-with ds es s a) q e h;
+  loops = λ ds es s a m f e x. loops-along es ds (goes-with ds es s a) m f e x;
+}

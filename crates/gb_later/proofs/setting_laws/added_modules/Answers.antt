@@ -1,6 +1,6 @@
 use Rattle.gb_holds.specs.Settings.{types_of}
 use Rattle.gb_holds.specs.Holds.{interpretation}
-use Rattle.gb_later.proofs.LaterSetting.{plain_world}
+use Rattle.gb_later.proofs.PlainGlobals.{plain_world}
 use Rattle.gb_later.proofs.WithModules.{later_agrees}
 use Rattle.gb_later.proofs.setting_laws.added_modules.Goals as goal
 
