@@ -1,8 +1,10 @@
--- A text has at most one derivation.
-use Rattle.std.specs.Prelude.{◌≡◌, ℕ, zero, suc, ◌+◌, ◌<◌, List, [], ◌∷◌, ◌++◌, Bool, true, false, Some, length, ◌⊎◌}
+-- A text has at most one derivation, and at most one first fault.
+use Rattle.std.specs.Prelude.{◌≡◌, ℕ, suc, ◌+◌, ◌-◌, ◌<◌, ◌≤◌, List, [], ◌∷◌, ◌++◌, true, take, drop, ◌⊎◌}
 use Rattle.std.proofs.Common.{refl, ap, sym, ◌∙◌, subst, arith, inl, inr, ⊎_elim}
 use Rattle.std.proofs.lemmas.List.{append_assoc}
+use Rattle.std.proofs.lemmas.Bool.{cases_order}
 use Rattle.std.proofs.lemmas.Option.{same_Some}
+use Rattle.std.proofs.Math.Seq.{take-add}
 use Rattle.std.specs.List.{All}
 use Rattle.gb_grammar.specs.declared.table.Symbol.{Symbol}
 use Rattle.gb_grammar.specs.declared.table.Symbol.TheVariants.{Token, Part}
@@ -10,7 +12,7 @@ use Rattle.gb_grammar.specs.declared.table.Step.{Step}
 use Rattle.gb_grammar.specs.Grammar.{Grammar, Production, step, Derives, done, token, choose}
 use Rattle.gb_grammar.specs.Check.{Claim, is_start}
 use Rattle.gb_grammar.specs.Stack.{Good}
-use Rattle.gb_grammar.specs.Reading.{Spells, IsKind}
+use Rattle.gb_grammar.specs.Reading.{Spells, Begins, IsKind, FirstFault}
 use Rattle.gb_grammar.proofs.Sound.{Sound}
 use Rattle.gb_grammar.proofs.Steps.{Opens, opens, matches, ends_of, opened, good_open}
 use Rattle.gb_grammar.proofs.Whole.{good_start, with_end}
@@ -75,3 +77,27 @@ module _ {R : Type 0} (g : Grammar R) (c : List Claim) (s : Sound g c) where
   pub unique : (n : ℕ) → is_start c n ≡ true → (kinds : List ℕ) (a b : List (Step R)) → All IsKind kinds → Spells g n kinds a → Spells g n kinds b → a ≡ b
   unique n ready kinds a b h x y =
       same_steps (with_end g c s n ready kinds a x) (inr (Part n ∷ [], refl)) (good_start g c s n ready) (small_with_end kinds h) b (with_end g c s n ready kinds b y)
+
+-- the front of what begins a text begins one
+front_begins : {R : Type 0} (g : Grammar R) (n : ℕ) (front more : List ℕ) → Begins g n (front ++ more) → Begins g n front
+front_begins g n front more b = (more ++ b.0, b.1, subst (λ (l : List ℕ). Spells g n l b.1) (append_assoc front more b.0) b.2)
+
+earlier_begins : {R : Type 0} (g : Grammar R) (n : ℕ) (kinds : List ℕ) (a b : ℕ) → a ≤ b → Begins g n (take b kinds) → Begins g n (take a kinds)
+earlier_begins g n kinds a b h begun =
+    let whole : a + (b - a) ≡ b = omega arith in
+    let e : take b kinds ≡ take a kinds ++ take (b - a) (drop a kinds) = ap (λ (m : ℕ). take m kinds) (sym whole) ∙ take-add a (b - a) kinds in
+    front_begins g n (take a kinds) (take (b - a) (drop a kinds)) (subst (λ (l : List ℕ). Begins g n l) e begun)
+
+-- no fault comes before a first fault
+none_before : {R : Type 0} (g : Grammar R) (n : ℕ) (kinds : List ℕ) (a b : ℕ) → FirstFault g n kinds a → FirstFault g n kinds b → a < b → ⊥
+none_before g n kinds a b x y h =
+    let within = y.within in
+    x.refused (omega arith) (earlier_begins g n kinds (a + 1) b (omega arith) y.begun)
+
+pub one_fault : {R : Type 0} (g : Grammar R) (n : ℕ) (kinds : List ℕ) (a b : ℕ) → FirstFault g n kinds a → FirstFault g n kinds b → a ≡ b
+one_fault g n kinds a b x y =
+    elim (cases_order a b) [
+      | inl e ↦ e
+      | inr (inl h) ↦ absurd (none_before g n kinds a b x y h)
+      | inr (inr h) ↦ absurd (none_before g n kinds b a y x h)
+    ]

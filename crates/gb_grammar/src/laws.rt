@@ -3,9 +3,9 @@
 ghost use Rattle.std.specs.Prelude.{◌≡◌, ℕ, List, true};
 ghost use Rattle.std.specs.List.{All};
 ghost use Rattle.gb_grammar.specs.declared.table.Step.{Step};
-ghost use Rattle.gb_grammar.specs.Grammar.{grammar_of};
+ghost use Rattle.gb_grammar.specs.Grammar.{Grammar, grammar_of};
 ghost use Rattle.gb_grammar.specs.Check.{Claim, grammar_ok, is_start};
-ghost use Rattle.gb_grammar.specs.Reading.{Spells, IsKind};
+ghost use Rattle.gb_grammar.specs.Reading.{Spells, IsKind, FirstFault};
 
 use crate::table::{Row, Symbol};
 
@@ -20,4 +20,10 @@ pub fn derivations_are_unique<R: Copy>(
     requires checked { grammar_ok claims _places.now _rows.now _symbols.now ≡ true }
     requires start { is_start claims _start ≡ true }
     ensures { (kinds : List ℕ) (a b : List (Step R)) → All IsKind kinds → Spells (grammar_of _rows.now _symbols.now) _start kinds a → Spells (grammar_of _rows.now _symbols.now) _start kinds b → a ≡ b }
+{}
+
+/// A text has at most one first fault.
+pub fn first_faults_are_unique<R: Copy>()
+    ensures { (g : Grammar R) (part : ℕ) (kinds : List ℕ) (a b : ℕ) →
+        FirstFault g part kinds a → FirstFault g part kinds b → a ≡ b }
 {}

@@ -4,6 +4,7 @@
 pub mod atom;
 pub mod bodies;
 pub mod connective;
+pub mod laws;
 pub mod left_out;
 pub mod level;
 pub mod lexeme;

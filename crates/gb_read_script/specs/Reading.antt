@@ -65,7 +65,7 @@ abbrev pub IsFault : ℕ → Text → Why → Place → Type 0
 IsFault part t why place =
     ((why ≡ Depth) × ((fault : ℕ) × ReadsUpTo part t fault × IsDepthPlace t fault place))
     ⊎ (((why ≡ Syntax) × ((at : ℕ) × FirstFault (grammar_of ROWS SYMBOLS) part (kinds_of t) at × NoneTooDeep t at × (place ≡ place_at t at)))
-    ⊎ ((why ≡ TooMany 256) × NoneTooDeep t (length t.lexemes) × IsChainPlace t place))
+    ⊎ ((why ≡ TooMany 256) × ((steps : List (Step Rule)) × IsText part t steps) × NoneTooDeep t (length t.lexemes) × IsChainPlace t place))
 
 -- Why a text of this part is refused, and where: a token that is left out comes before any other fault.
 abbrev pub IsRefusal : ℕ → Text → Why → Place → Type 0

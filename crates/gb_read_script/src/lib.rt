@@ -3,6 +3,7 @@
 
 pub mod build;
 pub mod command;
+pub mod laws;
 pub mod make;
 pub mod pop;
 pub mod program;

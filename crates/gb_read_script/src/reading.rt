@@ -1,10 +1,10 @@
 // Reading forms and commands.
 
-ghost use Rattle.std.specs.Prelude.{◌≡◌, ◌≤◌, ◌<◌, ◌+◌, ◌^◌, ◌⊎◌, ℕ, List, [], ◌∷◌, true, IfOk, OnOk, MatchResult, Err, length};
+ghost use Rattle.std.specs.Prelude.{◌≡◌, ◌≢◌, ◌≤◌, ◌<◌, ◌+◌, ◌^◌, ◌⊎◌, ℕ, List, [], ◌∷◌, true, IfOk, IfErr, OnOk, MatchResult, Err, length};
 ghost use Rattle.gb_core.specs.declared.place.Place.{Place};
 ghost use Rattle.gb_core.specs.declared.refusal.Why.{Why};
 ghost use Rattle.gb_core.specs.declared.refusal.Why.TheVariants.{Depth, LeftOut, TooMany};
-ghost use Rattle.gb_core.specs.declared.refusal.Refused.TheVariants.{NoMemory, Script};
+ghost use Rattle.gb_core.specs.declared.refusal.Refused.TheVariants.{NoMemory, ReadFault, Script};
 ghost use Rattle.gb_grammar.specs.declared.table.Step.{Step};
 ghost use Rattle.gb_grammar.specs.Check.{is_start};
 ghost use Rattle.gb_lex.specs.Lex.{AreSpans};
@@ -46,6 +46,7 @@ fn check_depth(alloc: Global, text: &Text, fault: usize) -> Result<(), Refused>
     requires { fault ≤ length text.now.lexemes }
     ensures none { OnOk result (NoneTooDeep text.now fault) }
     ensures only { NoneTooDeep text.now fault → MatchResult result (λ _. Unit {0}) (λ e. e ≡ NoMemory) }
+    ensures no_fault { IfErr result (λ e. e ≢ ReadFault) }
     ensures deep { (why : Why) (place : Place) → result ≡ Err (Script why place) → (why ≡ Depth) × IsDepthPlace text.now fault place }
 {
     match first_too_deep(alloc, text, fault) {
@@ -62,6 +63,7 @@ fn check_depth(alloc: Global, text: &Text, fault: usize) -> Result<(), Refused>
 fn check_chains(alloc: Global, text: &Text) -> Result<(), Refused>
     ensures none { OnOk result (NoneLong text.now) }
     ensures only { NoneLong text.now → MatchResult result (λ _. Unit {0}) (λ e. e ≡ NoMemory) }
+    ensures no_fault { IfErr result (λ e. e ≢ ReadFault) }
     ensures long { (why : Why) (place : Place) → result ≡ Err (Script why place) → (why ≡ TooMany 256) × IsChainPlace text.now place }
 {
     match first_long(alloc, text) {
@@ -78,7 +80,10 @@ fn check_chains(alloc: Global, text: &Text) -> Result<(), Refused>
 fn steps(alloc: Global, text: &Text, part: u8) -> Result<Vec<Step<Rule>>, Refused>
     requires { is_start claims part ≡ true }
     ensures found { IfOk result (λ s. IsText part text.now s.items) }
+    ensures shallow { OnOk result (NoneTooDeep text.now (length text.now.lexemes)) }
+    ensures short { OnOk result (NoneLong text.now) }
     ensures only { (s : List (Step Rule)) → IsText part text.now s → NoneTooDeep text.now (length text.now.lexemes) → NoneLong text.now → MatchResult result (λ _. Unit {0}) (λ e. e ≡ NoMemory) }
+    ensures no_fault { IfErr result (λ e. e ≢ ReadFault) }
     ensures fault { (why : Why) (place : Place) → result ≡ Err (Script why place) → IsFault part text.now why place }
 {
     let Ok(kinds) = kinds(alloc, text) else {
@@ -102,7 +107,10 @@ fn steps(alloc: Global, text: &Text, part: u8) -> Result<Vec<Step<Rule>>, Refuse
 
 // Refuses a text that can be read to its end and passes a limit.
 fn check_limits(alloc: Global, text: &Text) -> Result<(), Refused>
+    ensures shallow { OnOk result (NoneTooDeep text.now (length text.now.lexemes)) }
+    ensures short { OnOk result (NoneLong text.now) }
     ensures only { NoneTooDeep text.now (length text.now.lexemes) → NoneLong text.now → MatchResult result (λ _. Unit {0}) (λ e. e ≡ NoMemory) }
+    ensures no_fault { IfErr result (λ e. e ≢ ReadFault) }
     ensures limit { (why : Why) (place : Place) → result ≡ Err (Script why place) → IsLimit text.now why place }
 {
     match check_depth(alloc, text, text.lexemes.len()) {
@@ -115,7 +123,10 @@ fn check_limits(alloc: Global, text: &Text) -> Result<(), Refused>
 fn values(alloc: Global, text: &Text, part: u8) -> Result<Stack<Value>, Refused>
     requires { is_start claims part ≡ true }
     ensures found { IfOk result (λ vs. Leaves part text.now vs) }
+    ensures shallow { OnOk result (NoneTooDeep text.now (length text.now.lexemes)) }
+    ensures short { OnOk result (NoneLong text.now) }
     ensures only { (s : List (Step Rule)) → IsText part text.now s → NoneTooDeep text.now (length text.now.lexemes) → NoneLong text.now → MatchResult result (λ _. Unit {0}) (λ e. e ≡ NoMemory) }
+    ensures no_fault { IfErr result (λ e. e ≢ ReadFault) }
     ensures fault { (why : Why) (place : Place) → result ≡ Err (Script why place) → IsFault part text.now why place }
 {
     match steps(alloc, text, part) {
@@ -153,6 +164,7 @@ fn checked_text(alloc: Global, bytes: &[u8], tokens: &Tokens, at: Place) -> Resu
     ensures text { IfOk result (λ t. t ≡ text_at bytes.now at tokens.now) }
     ensures none { IfOk result NoneLeftOut }
     ensures only { NoneLeftOut (text_at bytes.now at tokens.now) → MatchResult result (λ _. Unit {0}) (λ e. e ≡ NoMemory) }
+    ensures no_fault { IfErr result (λ e. e ≢ ReadFault) }
     ensures left_out { (why : Why) (place : Place) → result ≡ Err (Script why place) → (why ≡ LeftOut) × IsLeftOutPlace (text_at bytes.now at tokens.now) place }
 {
     let Ok(text) = text(alloc, bytes, tokens.as_slice(), at) else {
@@ -180,7 +192,9 @@ fn part_values(
     requires line { at.line + length bytes.now < 2 ^ 32 }
     requires column { at.col + length bytes.now < 2 ^ 32 }
     ensures found { IfOk result (λ vs. Leaves part (text_at bytes.now at tokens.now) vs) }
+    ensures allowed { OnOk result (IsAllowed part (text_at bytes.now at tokens.now)) }
     ensures only { IsAllowed part (text_at bytes.now at tokens.now) → MatchResult result (λ _. Unit {0}) (λ e. e ≡ NoMemory) }
+    ensures no_fault { IfErr result (λ e. e ≢ ReadFault) }
     ensures refused { (why : Why) (place : Place) → result ≡ Err (Script why place) → IsRefusal part (text_at bytes.now at tokens.now) why place }
 {
     match checked_text(alloc, bytes, tokens, at) {
@@ -199,7 +213,9 @@ pub fn command(alloc: Global, text: &[u8], tokens: &Tokens, at: Place) -> Result
     requires line { at.line + length text.now < 2 ^ 32 }
     requires column { at.col + length text.now < 2 ^ 32 }
     ensures found { IfOk result (λ c. SpellsCommand (text_at text.now at tokens.now) c) }
+    ensures allowed { OnOk result (IsAllowed COMMAND (text_at text.now at tokens.now)) }
     ensures only { IsAllowed COMMAND (text_at text.now at tokens.now) → MatchResult result (λ _. Unit {0}) (λ e. e ≡ NoMemory) }
+    ensures no_fault { IfErr result (λ e. e ≢ ReadFault) }
     ensures refused { (why : Why) (place : Place) → result ≡ Err (Script why place) → IsRefusal COMMAND (text_at text.now at tokens.now) why place }
 {
     match part_values(alloc, text, tokens, at, COMMAND) {
@@ -214,7 +230,9 @@ pub fn form(alloc: Global, text: &[u8], tokens: &Tokens, at: Place) -> Result<Fo
     requires line { at.line + length text.now < 2 ^ 32 }
     requires column { at.col + length text.now < 2 ^ 32 }
     ensures found { IfOk result (λ f. SpellsForm (text_at text.now at tokens.now) f) }
+    ensures allowed { OnOk result (IsAllowed FORM (text_at text.now at tokens.now)) }
     ensures only { IsAllowed FORM (text_at text.now at tokens.now) → MatchResult result (λ _. Unit {0}) (λ e. e ≡ NoMemory) }
+    ensures no_fault { IfErr result (λ e. e ≢ ReadFault) }
     ensures refused { (why : Why) (place : Place) → result ≡ Err (Script why place) → IsRefusal FORM (text_at text.now at tokens.now) why place }
 {
     match part_values(alloc, text, tokens, at, FORM) {

@@ -11,15 +11,16 @@ use Rattle.gb_lex.specs.PlaceAfter.{place_after}
 use Rattle.gb_tree.specs.declared.command.Command.{Command}
 use Rattle.gb_read_form.specs.declared.rows.TheConstants.{COMMAND}
 use Rattle.gb_read_form.specs.Lexeme.{text_at}
-use Rattle.gb_read_script.specs.Reading.{SpellsCommand, IsRefusal}
+use Rattle.gb_read_script.specs.Reading.{SpellsCommand, IsRefusal, IsAllowed}
 use Rattle.gb_elab.specs.Answers.{Answer}
 use Rattle.gb_elab.specs.Answers.Answer.{given, refused}
 use Rattle.gb_verdict.specs.Session.{Session, OpenProof, fresh_session}
 use Rattle.gb_verdict.specs.Commands.{After, ComesTo}
 
--- what a piece of a text is read as: a command, or the first refusal of it
+-- what a piece of a text is read as: a command that passes no limit, or the first refusal of it
 abbrev pub IsReadAs : List ℕ → Place → Answer Command → Type 0
-IsReadAs piece at (given c) = (fault_of piece ≡ None) × SpellsCommand (text_at piece at (tokens_of piece)) c
+IsReadAs piece at (given c) =
+    (fault_of piece ≡ None) × SpellsCommand (text_at piece at (tokens_of piece)) c × IsAllowed COMMAND (text_at piece at (tokens_of piece))
 IsReadAs piece at (refused why place) =
     IsCharacterFault piece at (Script why place)
     ⊎ ((fault_of piece ≡ None) × IsRefusal COMMAND (text_at piece at (tokens_of piece)) why place)

@@ -1,4 +1,5 @@
-//! The verdict on a script, as a definition: what its commands build, and the first refusal.
+//! The verdict on a script, as a definition: what its commands build, and the first refusal. It is one.
 #![tactic(auto)]
 
 pub mod examples;
+pub mod laws;

@@ -44,7 +44,7 @@ returns-in-Err-check_limits-clause-fault c = λ why place same.
     let r : c.in-Err-check_limits.refused ≡ Script why place = cc in
     let text = spells_as c.args.part c.as_slice.result.now (kinds_of c.args.text.now) c.in-Ok-read.steps.items c.in-Ok-read.steps.items (c.as_slice.ensures.value ∙ c.in-Ok.ensures.kinds) refl c.in-Ok-read.ensures.found in
     let limit = c.in-Err-check_limits.ensures.limit why place (ap (λ (x : Refused). Err x) r) in
-    elim limit [ inl d ↦ inl (d.0, (length c.args.text.now.lexemes, inr (refl, (c.in-Ok-read.steps.items, text)), d.1)) | inr x ↦ inr (inr x) ]
+    elim limit [ inl d ↦ inl (d.0, (length c.args.text.now.lexemes, inr (refl, (c.in-Ok-read.steps.items, text)), d.1)) | inr x ↦ inr (inr (x.0, (c.in-Ok-read.steps.items, text), x.1, x.2)) ]
 
 pub returns-clause-found : goal.returns-clause-found
 returns-clause-found c =

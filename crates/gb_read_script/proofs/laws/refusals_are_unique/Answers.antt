@@ -1,0 +1,14 @@
+use Rattle.gb_read_form.specs.declared.bodies.TheConstants.{SYMBOLS}
+use Rattle.gb_read_form.specs.declared.rows.TheConstants.{ROWS}
+use Rattle.gb_read_form.specs.Lexeme.{kinds_of}
+use Rattle.gb_grammar.specs.Grammar.{grammar_of}
+use Rattle.gb_read_script.proofs.Unique.{one_refusal, no_refusal}
+use Rattle.gb_read_script.proofs.laws.refusals_are_unique.Goals as goal
+
+pub returns : goal.returns
+returns c =
+    let places = c.first_places_are_unique.ensures in
+    record {
+      unique = one_refusal (λ part t. c.first_faults_are_unique.ensures (grammar_of ROWS SYMBOLS) part (kinds_of t)) places.left_out places.deep places.long;
+      none = no_refusal;
+    }

@@ -1,0 +1,39 @@
+// Laws of what texts spell, and of why they are refused.
+
+ghost use Rattle.std.specs.Prelude.{◌≡◌, ℕ};
+ghost use Rattle.gb_core.specs.declared.place.Place.{Place};
+ghost use Rattle.gb_core.specs.declared.refusal.Why.{Why};
+ghost use Rattle.gb_tree.specs.declared.command.Command.{Command};
+ghost use Rattle.gb_tree.specs.declared.form.FormTree.{FormTree};
+ghost use Rattle.gb_read_form.specs.declared.text.Text.{Text};
+ghost use Rattle.gb_read_script.specs.Reading.{SpellsCommand, SpellsForm, IsRefusal, IsAllowed};
+
+use gb_grammar::laws::first_faults_are_unique;
+use gb_read_form::laws::{first_places_are_unique, steps_are_unique, values_are_unique};
+use gb_read_form::rule::Rule;
+
+/// A text spells one command at most.
+pub fn commands_are_unique()
+    ensures { (t : Text) (c d : Command) → SpellsCommand t c → SpellsCommand t d → c ≡ d }
+{
+    steps_are_unique();
+    values_are_unique();
+}
+
+/// A text spells one form at most.
+pub fn forms_are_unique()
+    ensures { (t : Text) (f g : FormTree) → SpellsForm t f → SpellsForm t g → f ≡ g }
+{
+    steps_are_unique();
+    values_are_unique();
+}
+
+/// A text of a part is refused for one reason at most, at one place, and not at all where it is read within the limits.
+pub fn refusals_are_unique()
+    ensures unique { (part : ℕ) (t : Text) (v w : Why) (p q : Place) →
+        IsRefusal part t v p → IsRefusal part t w q → (v ≡ w) × (p ≡ q) }
+    ensures none { (part : ℕ) (t : Text) (w : Why) (p : Place) → IsAllowed part t → IsRefusal part t w p → ⊥ }
+{
+    first_faults_are_unique::<Rule>();
+    first_places_are_unique();
+}
