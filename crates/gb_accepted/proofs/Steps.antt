@@ -1,0 +1,51 @@
+-- Steps of a proof keep sessions good.
+use Rattle.std.proofs.Common.{◌≡◌, List, [], ◌∷◌, ◌++◌, sym, subst}
+use Rattle.std.specs.List.{AllByRecursion}
+use Rattle.gb_core.specs.declared.place.Place.{Place}
+use Rattle.gb_goal.specs.declared.sequent.Sequent.{Sequent}
+use Rattle.gb_tree.specs.declared.step.StepTree.{StepTree}
+use Rattle.gb_holds.specs.Declared.{declared}
+use Rattle.gb_holds.specs.Holds.{Holds}
+use Rattle.gb_elab.specs.Answers.Answer.{given}
+use Rattle.gb_elab_mod.specs.Steps.{step_given}
+use Rattle.gb_closing.proofs.Split.{each_left}
+use Rattle.gb_closing.proofs.Used.{each_together}
+use Rattle.gb_ready.specs.Goals.{IsTypedSequent}
+use Rattle.gb_given.proofs.Given.{given_bind, given_is}
+use Rattle.gb_given.proofs.Maps.{step_maps}
+use Rattle.gb_verdict.specs.Session.{Session, OpenProof}
+use Rattle.gb_verdict.specs.Limits.{each_limit, all_limit}
+use Rattle.gb_verdict.specs.Commands.{within, Applied, continued, Works, WorksOn}
+use Rattle.gb_accepted.proofs.Given.{nothing_given, given_after}
+use Rattle.gb_accepted.proofs.Good.{IsGoodProof, IsGood}
+use Rattle.gb_accepted.proofs.Subgoals.{rule_typed, LeadTo, applied_lead}
+
+continued_keeps : (s : Session) (p : OpenProof) (q : Sequent) (rest qs : List Sequent) (place : Place) (next : Session) → IsGood s → IsGoodProof s.scope p →
+    p.goals ≡ q ∷ rest → LeadTo s.scope q qs → continued s p rest place qs ≡ given next → IsGood next
+continued_keeps s p q rest qs place next g h is lead e =
+    let a = given_bind (within (each_limit qs) place) _ next e in
+    let b = given_bind (within (all_limit (qs ++ rest)) place) _ next a.2 in
+    let goals : AllByRecursion (IsTypedSequent s.scope) (q ∷ rest) = subst (AllByRecursion (IsTypedSequent s.scope)) is h.goals in
+    subst IsGood (given_is _ _ b.2) (record {
+      typed = g.typed;
+      sound = g.sound;
+      lemmas = g.lemmas;
+      proof = record {
+        free = h.free;
+        statement = h.statement;
+        goals = each_together (IsTypedSequent s.scope) qs rest lead.typed goals.1;
+        leads = λ hs. let r = each_left (Holds (declared s.scope)) qs rest hs in
+            h.leads (subst (AllByRecursion (Holds (declared s.scope))) (sym is) (lead.leads r.0, r.1));
+      };
+    })
+
+pub works_keep : (gs : List Sequent) (s : Session) (p : OpenProof) (t : StepTree) (next : Session) → IsGood s → IsGoodProof s.scope p →
+    p.goals ≡ gs → WorksOn gs s p t (given next) → IsGood next
+works_keep [] s p t next g h is w = nothing_given _ _ next (sym w)
+works_keep (q ∷ rest) s p t next g h is w =
+    let a = given_after (step_given s.scope q t) (Works s p q rest) next w in
+    let goals : AllByRecursion (IsTypedSequent s.scope) (q ∷ rest) = subst (AllByRecursion (IsTypedSequent s.scope)) is h.goals in
+    let typed = rule_typed s.scope q a.0.rule (step_maps s.scope q g.typed goals.0 t a.0 a.1) in
+    let b = given_bind a.2.0 (continued s p rest a.0.place) next (sym a.2.2) in
+    let applied : Applied s.scope a.0.rule a.0.place q (given b.0) = subst (Applied s.scope a.0.rule a.0.place q) b.1 a.2.1 in
+    continued_keeps s p q rest b.0 a.0.place next g h is (applied_lead s.scope a.0.rule a.0.place q b.0 g.typed goals.0 typed applied) b.2

@@ -1,0 +1,4 @@
+//! What an accepted script promises.
+#![tactic(auto)]
+
+pub mod laws;
