@@ -1,2 +1,4 @@
 pub mod Opened
 pub mod Placed
+pub mod Sessions
+pub mod Verdicts

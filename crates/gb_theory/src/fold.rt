@@ -1,27 +1,38 @@
 // One command of a script.
 
-ghost use Rattle.std.specs.Prelude.{◌≡◌};
+ghost use Rattle.std.specs.Prelude.{◌≡◌, [], ◌∷◌, ◌++◌, true, None, IfOk, OnOk};
+ghost use Rattle.gb_goal.specs.Scope.{entry_of};
+ghost use Rattle.gb_elab.specs.Answers.{Gives};
+ghost use Rattle.gb_verdict.specs.Session.{Session, OpenProof as Opened, with_goals};
+ghost use Rattle.gb_verdict.specs.Commands.{declares, opens, begun, ended, continued, InProof, Applied, WorksOn, ComesToOf, ComesTo};
 ghost use Rattle.gb_theory.specs.Placed.{placed};
+ghost use Rattle.gb_theory.specs.Sessions.{session_of, Meets, Leads};
 
-use crate::limits::{check_all, check_declarations, check_each};
+use crate::limits::{check_all, check_declarations, check_each, check_goal};
 use crate::state::{OpenProof, State};
+use gb_core::name::{Name, Names};
 use gb_core::place::Place;
 use gb_core::refusal::{Refused, Why};
-use gb_goal::scope::Scope;
+use gb_goal::scope::{Entry, Scope};
 use gb_goal::sequent::{Sequent, Sequents, copy_sequent};
 use gb_goal::step::{Rule, Step};
 use gb_tree::command::{Command, CommandShape, LemmaTree};
 use gb_tree::program::ModuleTree;
 use gb_tree::step::StepTree;
 use sqlite_items::Items;
-use std::alloc::Global;
+use std::alloc::{AllocError, Global};
 
-fn refused(why: Why, place: Place) -> Refused {
+fn refused(why: Why, place: Place) -> Refused
+    ensures { result ≡ Refused.Script why place }
+{
     Refused::Script { why, place }
 }
 
-/// Runs the next command of a script. A refusal without a place of its own stands at the command's first word.
-pub fn execute(alloc: Global, state: &mut State, command: &Command) -> Result<(), Refused> {
+/// Runs the next command of a script. A refusal without a place of its own stands at the command's first word. After
+/// an `Err` the check is over, and nothing is said of the state.
+pub fn execute(alloc: Global, state: &mut State, command: &Command) -> Result<(), Refused>
+    ensures { Leads (ComesTo (session_of state.old) command.now) (session_of state.new) result }
+{
     match dispatch(alloc, state, command) {
         Ok(()) => Ok(()),
         Err(refused) => Err(placed(refused, command.place)),
@@ -38,7 +49,10 @@ fn placed(refused: Refused, at: Place) -> Refused
     }
 }
 
-fn dispatch(alloc: Global, state: &mut State, command: &Command) -> Result<(), Refused> {
+fn dispatch(alloc: Global, state: &mut State, command: &Command) -> Result<(), Refused>
+    ensures { Leads (ComesToOf (session_of state.old) command.now.shape command.now.place)
+        (session_of state.new) result }
+{
     let place = command.place;
     match &command.shape {
         CommandShape::Module(tree) => declare_module(alloc, state, tree, place),
@@ -55,7 +69,9 @@ fn declare_module(
     state: &mut State,
     tree: &ModuleTree,
     place: Place,
-) -> Result<(), Refused> {
+) -> Result<(), Refused>
+    ensures { Gives (λ _. session_of state.new) (declares (session_of state.old) tree.now place) result }
+{
     if state.proof.is_some() {
         return Err(refused(Why::NoGoal, place));
     }
@@ -71,27 +87,48 @@ fn open_lemma(
     state: &mut State,
     tree: &LemmaTree,
     place: Place,
-) -> Result<(), Refused> {
+) -> Result<(), Refused>
+    ensures { Gives (λ _. session_of state.new) (opens (session_of state.old) tree.now place) result }
+{
     if state.proof.is_some() {
         return Err(refused(Why::NoGoal, place));
     }
     let statement = gb_elab_mod::lemma::statement(alloc, &state.scope, tree)?;
     check_declarations(&state.scope, place)?;
-    let mut goals = Items::new(alloc);
-    goals.push(copy_sequent(alloc, &statement)?)?;
-    check_each(goals.as_slice(), place)?;
-    let name = tree.name.name.copy(alloc)?;
-    state.proof = Some(OpenProof {
+    check_goal(&statement, place)?;
+    let proof = opened(alloc, &tree.name.name, statement)?;
+    state.proof = Some(proof);
+    Ok(())
+}
+
+/// The proof of a lemma before its first step.
+fn opened(alloc: Global, name: &Name, statement: Sequent) -> Result<OpenProof, AllocError>
+    ensures { IfOk result
+        (λ p. p ≡ record { name = name.now; statement = statement; goals = statement ∷ []; fresh = true }) }
+{
+    let goals = one_goal(alloc, &statement)?;
+    let name = name.copy(alloc)?;
+    Ok(OpenProof {
         name,
         statement,
         goals,
         fresh: true,
-    });
-    Ok(())
+    })
+}
+
+fn one_goal(alloc: Global, goal: &Sequent) -> Result<Sequents, AllocError>
+    ensures { IfOk result (λ made. made ≡ goal.now ∷ []) }
+{
+    let mut goals = Items::new(alloc);
+    goals.push(copy_sequent(alloc, goal)?)?;
+    Ok(goals)
 }
 
 /// `proof` follows its lemma at once.
-fn begin_proof(state: &mut State, place: Place) -> Result<(), Refused> {
+fn begin_proof(state: &mut State, place: Place) -> Result<(), Refused>
+    ensures { Leads (InProof (session_of state.old).proof place (λ p r. r ≡ begun (session_of state.old) p place))
+        (session_of state.new) result }
+{
     match &mut state.proof {
         Some(proof) if proof.fresh => {
             proof.fresh = false;
@@ -102,27 +139,48 @@ fn begin_proof(state: &mut State, place: Place) -> Result<(), Refused> {
 }
 
 /// `qed` brings the lemma into scope where no goal is left.
-fn close_proof(alloc: Global, state: &mut State, place: Place) -> Result<(), Refused> {
-    let Some(proof) = &state.proof else {
+fn close_proof(alloc: Global, state: &mut State, place: Place) -> Result<(), Refused>
+    ensures { Leads
+        (InProof (session_of state.old).proof place (λ p r. r ≡ ended p.goals (session_of state.old) p place))
+        (session_of state.new) result }
+{
+    let Some(proof) = state.proof.take() else {
         return Err(refused(Why::NoGoal, place));
     };
     if !proof.goals.is_empty() {
         return Err(refused(Why::OpenGoals(proof.goals.len() as u64), place));
     }
-    let name = proof.name.copy(alloc)?;
-    let listed = proof.name.copy(alloc)?;
-    let statement = copy_sequent(alloc, &proof.statement)?;
-    state.lemmas.push(listed)?;
-    if state.scope.declare_lemma(alloc, name, statement).is_err() {
-        let _ = state.lemmas.pop();
-        return Err(Refused::NoMemory);
-    }
-    state.proof = None;
+    bring_in(alloc, &mut state.scope, &mut state.lemmas, proof)?;
     Ok(())
 }
 
+/// Lists a lemma that is proved, and declares it.
+fn bring_in(
+    alloc: Global,
+    scope: &mut Scope,
+    lemmas: &mut Names,
+    proof: OpenProof,
+) -> Result<(), AllocError>
+    requires { entry_of scope.old proof.name ≡ None }
+    ensures declared { OnOk result (scope.new ≡ scope.old ++ (proof.name, Entry.Lemma proof.statement) ∷ []) }
+    ensures listed { OnOk result (lemmas.new ≡ lemmas.old ++ proof.name ∷ []) }
+{
+    let OpenProof {
+        name,
+        statement,
+        ..
+    } = proof;
+    let listed = name.copy(alloc)?;
+    lemmas.push(listed)?;
+    scope.declare_lemma(alloc, name, statement)
+}
+
 /// A proof step works on the first goal, and puts its subgoals in front of the others.
-fn prove(alloc: Global, state: &mut State, tree: &StepTree) -> Result<(), Refused> {
+fn prove(alloc: Global, state: &mut State, tree: &StepTree) -> Result<(), Refused>
+    ensures { Leads
+        (InProof (session_of state.old).proof tree.now.place (λ p. WorksOn p.goals (session_of state.old) p tree.now))
+        (session_of state.new) result }
+{
     let place = tree.place;
     let Some(proof) = &mut state.proof else {
         return Err(refused(Why::NoGoal, place));
@@ -139,23 +197,48 @@ fn next_goals(
     scope: &Scope,
     goals: &[Sequent],
     tree: &StepTree,
-) -> Result<Sequents, Refused> {
-    let place = tree.place;
+) -> Result<Sequents, Refused>
+    ensures { (s : Session) (p : Opened) → s.scope ≡ scope.now
+        → Meets (with_goals s p) (WorksOn goals.now s p tree.now) result }
+{
     let [first, rest @ ..] = goals else {
-        return Err(refused(Why::NoGoal, place));
+        return Err(refused(Why::NoGoal, tree.place));
     };
     let step = gb_elab_mod::step::proof_step(alloc, scope, first, tree)?;
-    let mut next = apply(alloc, &step, first, scope)?;
+    let next = apply(alloc, &step, first, scope)?;
+    continued(alloc, next, rest, step.place)
+}
+
+/// The subgoals of a step, in front of the other goals.
+fn continued(
+    alloc: Global,
+    next: Sequents,
+    rest: &[Sequent],
+    place: Place,
+) -> Result<Sequents, Refused>
+    ensures { (s : Session) (p : Opened) → Gives (with_goals s p) (continued s p rest.now place next) result }
+{
     check_each(next.as_slice(), place)?;
-    for goal in rest {
-        next.push(copy_sequent(alloc, goal)?)?;
-    }
+    let next = before(alloc, next, rest)?;
     check_all(next.as_slice(), place)?;
     Ok(next)
 }
 
+/// Goals in front of copies of others.
+fn before(alloc: Global, first: Sequents, rest: &[Sequent]) -> Result<Sequents, AllocError>
+    ensures { IfOk result (λ made. made ≡ first ++ rest.now) }
+{
+    let mut made = first;
+    for goal in rest {
+        made.push(copy_sequent(alloc, goal)?)?;
+    }
+    Ok(made)
+}
+
 /// The subgoals of a rule, by the crate that has its row.
-fn apply(alloc: Global, step: &Step, goal: &Sequent, scope: &Scope) -> Result<Sequents, Refused> {
+fn apply(alloc: Global, step: &Step, goal: &Sequent, scope: &Scope) -> Result<Sequents, Refused>
+    ensures { Meets (λ x. x) (Applied scope.now step.now.rule step.now.place goal.now) result }
+{
     match &step.rule {
         Rule::Smt => gb_smt::apply::apply(alloc, step, goal, scope),
         _ => gb_equiv::apply(alloc, step, goal, scope),

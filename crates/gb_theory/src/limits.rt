@@ -61,7 +61,7 @@ fn has_large_form(goal: &Sequent) -> bool
 }
 
 /// Refuses a goal with too many hypotheses or too large a form.
-fn check_goal(goal: &Sequent, place: Place) -> Result<(), Refused>
+pub fn check_goal(goal: &Sequent, place: Place) -> Result<(), Refused>
     ensures { result ≡ limited (goal_limit goal.now) place }
 {
     if goal.hyps.len() > HYPOTHESES {

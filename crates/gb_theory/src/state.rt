@@ -1,6 +1,6 @@
 // What a script has built so far.
 
-ghost use Rattle.std.specs.Prelude.{◌≡◌, true};
+ghost use Rattle.std.specs.Prelude.{◌≡◌, [], true};
 ghost use Rattle.gb_theory.specs.Opened.{is_undeclared};
 
 use gb_core::name::{Name, Names};
@@ -30,7 +30,11 @@ pub struct State {
 
 impl State {
     /// The state before the first command.
-    pub fn new(alloc: Global) -> State {
+    pub fn new(alloc: Global) -> State
+        ensures scope { result.scope ≡ [] }
+        ensures proof { result.proof ≡ None }
+        ensures lemmas { result.lemmas ≡ [] }
+    {
         State {
             scope: Scope::new(alloc),
             proof: None,
