@@ -2,3 +2,4 @@ pub mod Words
 pub mod Status
 pub mod Report
 pub mod Reply
+pub mod Checked

@@ -1,5 +1,5 @@
 -- How a run ends.
-use Rattle.std.specs.Prelude.{ℕ}
+use Rattle.std.specs.Prelude.{◌≡◌, ◌⊎◌, ℕ}
 use Rattle.gb_app.specs.declared.status.Status.{Status}
 use Rattle.gb_app.specs.declared.status.Status.TheVariants as status
 use Rattle.gb_theory.specs.declared.verdict.Verdict.{Verdict}
@@ -19,3 +19,7 @@ exit_of status.NoMemory = 6
 abbrev pub status_of : Verdict → Status
 status_of (verdict.Accepted lemmas) = status.Accepted
 status_of (verdict.Refused why place) = status.Refused
+
+-- a run that has to end with a status does so, but for faults and want of memory
+abbrev pub EndsBy : Status → Status → Type 0
+EndsBy wanted s = (s ≡ wanted) ⊎ (s ≡ status.ReadFault) ⊎ (s ≡ status.WriteFault) ⊎ (s ≡ status.NoMemory)

@@ -1,21 +1,23 @@
 // The top call.
 
-ghost use Rattle.std.specs.Prelude.{◌≡◌, ◌⊎◌, ℕ, List, true, None, IfSome, Err, is_err, IfErr, map, string_bytes};
+ghost use Rattle.std.specs.Prelude.{◌≡◌, ◌⊎◌, ℕ, List, true, None, Some, IfSome, IfOk, Err, is_err, IfErr, map, string_bytes};
 ghost use Rattle.std.specs.Io.KnownBytes.{Appends};
 ghost use Rattle.gb_outside.specs.Appended.{AppendsFront};
 ghost use Rattle.gb_outside.specs.Counts.{HasRisen};
 ghost use Rattle.gb_outside.specs.HeldBytes.{bytes_of};
 ghost use Rattle.gb_theory.specs.declared.verdict.Verdict.{Verdict};
 ghost use Rattle.gb_app.specs.Words.{file_of};
-ghost use Rattle.gb_app.specs.Status.{status_of};
+ghost use Rattle.gb_app.specs.Status.{status_of, EndsBy};
 ghost use Rattle.gb_app.specs.Report.{report_of};
-ghost use Rattle.gb_app.specs.Reply.{usage_line, IsReply};
+ghost use Rattle.gb_app.specs.Checked.{IsVerdictFor, IsAccepted};
+ghost use Rattle.gb_app.specs.Reply.{usage_line, IsReport, IsReply};
 
 use crate::report::{report, write};
 use crate::status::{Status, status_of};
 use crate::words::file_to_check;
 use gb_outside::{Files, ReadRefused, Sink, Source, read_whole, write_all};
 use gb_theory::verdict::{Verdict, too_long, verdict_on};
+use gb_verdict::laws::one_outcome;
 use std::alloc::Global;
 
 const USAGE: &[u8] = b"usage: gb check FILE | gb step | gb selftest N\n";
@@ -34,10 +36,18 @@ pub fn run<F: Files, I: Source, K: Sink>(
     ensures usage_only { result ≡ Status.Usage → file_of (map string_bytes words.now) ≡ None }
     ensures usage_line { result ≡ Status.Usage → Appends (K.written out.old) (K.written out.new) usage_line }
 
-    // A verdict is answered by its report.
+    // The verdict on the file is answered by its report. There is one such verdict, and nothing else is answered, but for
+    // faults and want of memory.
     ensures reported { (result ≡ Status.Accepted) ⊎ (result ≡ Status.Refused) →
-        IfSome (file_of (map string_bytes words.now)) (λ file. (verdict : Verdict) × (result ≡ status_of verdict)
-        × Appends (K.written out.old) (K.written out.new) (report_of file verdict)) }
+        IfSome (file_of (map string_bytes words.now)) (λ file. (verdict : Verdict) × IsVerdictFor (F.held files.old) file verdict
+        × (result ≡ status_of verdict) × Appends (K.written out.old) (K.written out.new) (report_of file verdict)) }
+    ensures verdict { IfSome (F.held files.old) (λ held. IfSome (file_of (map string_bytes words.now)) (λ file.
+        (verdict : Verdict) → IsVerdictFor (Some held) file verdict → EndsBy (status_of verdict) result)) }
+
+    // Each lemma of an accepted script holds.
+    ensures accepted { result ≡ Status.Accepted → IfSome (file_of (map string_bytes words.now)) (λ file.
+        (report : List ℕ) × IsAccepted (F.held files.old) file report
+        × Appends (K.written out.old) (K.written out.new) report) }
 
     // A name that isn't held is missing, and no other.
     ensures missing { result ≡ Status.Missing → IfSome (F.held files.old) (λ held.
@@ -50,7 +60,8 @@ pub fn run<F: Files, I: Source, K: Sink>(
     ensures write_fault { result ≡ Status.WriteFault → HasRisen (K.faults out.old) (K.faults out.new) }
 
     // After a fault of writing a front of the text was written; where nothing is known, nothing.
-    ensures front { result ≡ Status.WriteFault → (text : List ℕ) × IsReply (file_of (map string_bytes words.now)) text
+    ensures front { result ≡ Status.WriteFault → (text : List ℕ)
+        × IsReply (F.held files.old) (file_of (map string_bytes words.now)) text
         × AppendsFront (K.written out.old) (K.written out.new) text }
     ensures silent { (result ≡ Status.Missing) ⊎ (result ≡ Status.ReadFault) ⊎ (result ≡ Status.NoMemory) →
         K.written out.new ≡ K.written out.old }
@@ -69,19 +80,23 @@ pub fn run<F: Files, I: Source, K: Sink>(
 fn check_file<F: Files, K: Sink>(alloc: Global, file: &str, files: &mut F, out: &mut K) -> Status
     ensures no_usage { result ≡ Status.Usage → ⊥ }
     ensures reported { (result ≡ Status.Accepted) ⊎ (result ≡ Status.Refused) →
-        (verdict : Verdict) × (result ≡ status_of verdict)
+        (verdict : Verdict) × IsVerdictFor (F.held files.old) file.now verdict × (result ≡ status_of verdict)
         × Appends (K.written out.old) (K.written out.new) (report_of file.now verdict) }
+    ensures verdict { IfSome (F.held files.old) (λ held.
+        (verdict : Verdict) → IsVerdictFor (Some held) file.now verdict → EndsBy (status_of verdict) result) }
     ensures missing { result ≡ Status.Missing → IfSome (F.held files.old) (λ held. bytes_of file.now held ≡ None) }
     ensures not_held { IfSome (F.held files.old) (λ held. bytes_of file.now held ≡ None →
         (result ≡ Status.Missing) ⊎ (result ≡ Status.ReadFault) ⊎ (result ≡ Status.NoMemory)) }
     ensures read_fault { result ≡ Status.ReadFault → HasRisen (F.faults files.old) (F.faults files.new) }
     ensures write_fault { result ≡ Status.WriteFault → HasRisen (K.faults out.old) (K.faults out.new) }
-    ensures front { result ≡ Status.WriteFault → (verdict : Verdict)
-        × AppendsFront (K.written out.old) (K.written out.new) (report_of file.now verdict) }
+    ensures front { result ≡ Status.WriteFault → (text : List ℕ) × IsReport (F.held files.old) file.now text
+        × AppendsFront (K.written out.old) (K.written out.new) text }
     ensures silent { (result ≡ Status.Missing) ⊎ (result ≡ Status.ReadFault) ⊎ (result ≡ Status.NoMemory) →
         K.written out.new ≡ K.written out.old }
     ensures unchanged { F.held files.new ≡ F.held files.old }
 {
+    // A text has one verdict (clause `verdict`).
+    one_outcome();
     match file_verdict(alloc, file, files) {
         Ok(verdict) => answer(alloc, file, &verdict, out),
         Err(status) => status,
@@ -90,6 +105,7 @@ fn check_file<F: Files, K: Sink>(alloc: Global, file: &str, files: &mut F, out: 
 
 /// The verdict on the script of this name, or the status of a run that has none: `Missing`, `ReadFault` or `NoMemory`.
 fn file_verdict<F: Files>(alloc: Global, file: &str, files: &mut F) -> Result<Verdict, Status>
+    ensures verdict { IfOk result (IsVerdictFor (F.held files.old) file.now) }
     ensures kind { IfErr result (λ s. (s ≡ Status.Missing) ⊎ (s ≡ Status.ReadFault) ⊎ (s ≡ Status.NoMemory)) }
     ensures missing { result ≡ Err Status.Missing → IfSome (F.held files.old) (λ held. bytes_of file.now held ≡ None) }
     ensures not_held { IfSome (F.held files.old) (λ held. bytes_of file.now held ≡ None → is_err result ≡ true) }
