@@ -33,8 +33,8 @@ IsVerdictOn (Err _) v = ⊥
 abbrev pub IsVerdictFor : Held → List ℕ → Verdict → Type 0
 IsVerdictFor held file v = (r : Result (List ℕ) ReadRefused) × IsRead held file r × IsVerdictOn r v
 
--- The file of this name is accepted with this report: its text comes to a session, each lemma of this session holds, and the
--- report names these lemmas.
+-- The file of this name is accepted with this report: its text comes to a session whose lemmas all hold, and the report
+-- names them.
 pub record IsAccepted (held : Held) (file : List ℕ) (report : List ℕ) : Type 0 where
   pub text : List ℕ
   pub session : Session

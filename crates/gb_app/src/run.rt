@@ -22,8 +22,8 @@ use std::alloc::Global;
 
 const USAGE: &[u8] = b"usage: gb check FILE | gb step | gb selftest N\n";
 
-/// Does what the words after the program's name ask for. `check FILE` checks the script FILE and writes the report on it;
-/// any other list of words is answered by the usage line.
+/// Does what the words after the program's name ask for. `check FILE` checks the script FILE and writes the report on
+/// it; any other list of words is answered by the usage line.
 pub fn run<F: Files, I: Source, K: Sink>(
     alloc: Global,
     words: &[String],
@@ -36,8 +36,8 @@ pub fn run<F: Files, I: Source, K: Sink>(
     ensures usage_only { result ≡ Status.Usage → file_of (map string_bytes words.now) ≡ None }
     ensures usage_line { result ≡ Status.Usage → Appends (K.written out.old) (K.written out.new) usage_line }
 
-    // The verdict on the file is answered by its report. There is one such verdict, and nothing else is answered, but for
-    // faults and want of memory.
+    // The verdict on the file is answered by its report. There is one such verdict, and nothing else is answered, but
+    // for faults and want of memory.
     ensures reported { (result ≡ Status.Accepted) ⊎ (result ≡ Status.Refused) →
         IfSome (file_of (map string_bytes words.now)) (λ file. (verdict : Verdict) × IsVerdictFor (F.held files.old) file verdict
         × (result ≡ status_of verdict) × Appends (K.written out.old) (K.written out.new) (report_of file verdict)) }

@@ -27,6 +27,6 @@ abbrev pub Meets : {A B : Type 0} → (A → B) → (Answer B → Type 0) → Re
 Meets view P (Ok x) = P (given (view x))
 Meets view P (Err e) = IsDue P e
 
--- What a function did that ended in this session is due, unless memory ran out.
+-- What a function did that led to the session `next` is due, unless memory ran out.
 abbrev pub Leads : (Answer Session → Type 0) → Session → Result (Unit {0}) Refused → Type 0
 Leads P next r = Meets (λ _. next) P r
