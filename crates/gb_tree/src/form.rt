@@ -1,11 +1,12 @@
 // Formulas, expressions and types as a script writes them.
 
+use crate::judgment::{BoundTree, CallTree, ModuleExpr, ProcPath, SubjectTree};
 use gb_core::name::Name;
 use gb_core::place::Place;
 use sqlite_items::{Boxed, Items};
 
 /// A name, or a path of names joined by dots, and where it stands.
-#[derive(Debug, Drop)]
+#[derive(Drop)]
 pub struct Word {
     pub name: Name,
     pub place: Place,
@@ -13,30 +14,107 @@ pub struct Word {
 
 pub type Words = Items<Word>;
 
-/// A type, and where it stands.
-#[derive(Debug, Drop)]
+/// A number, by its digits, and where it stands.
+#[derive(Drop)]
+pub struct Number {
+    pub digits: Name,
+    pub place: Place,
+}
+
+/// A type, at its first token. It lies in a box wherever it is held.
+#[derive(Drop)]
+#[cycle(ty)]
 pub struct TypeTree {
     pub shape: TypeShape,
     pub place: Place,
 }
 
-#[derive(Clone, Copy, Debug, PartialEq, Eq)]
+pub type TypeTrees = Items<Boxed<TypeTree>>;
+
+#[derive(Drop)]
+#[cycle(ty)]
 pub enum TypeShape {
     Unit,
     Bool,
+    Int,
+    Real,
+    /// `bits n`.
+    Bits(Number),
+    /// `int[n]`.
+    Modular(Number),
+    /// A name or a path.
+    Named(Name),
+    /// `t * u`, of two parts or more.
+    Product(TypeTrees),
+    /// `t option`.
+    Option(Boxed<TypeTree>),
+    /// `(t, u) fmap`.
+    Map(Boxed<TypeTree>, Boxed<TypeTree>),
+    /// `glob M`.
+    Glob(Boxed<ModuleExpr>),
 }
 
 /// Names of one type, as in `(x y : t)`.
-#[derive(Debug, Drop)]
+#[derive(Drop)]
 pub struct Binder {
     pub names: Words,
-    pub ty: TypeTree,
+    pub ty: Boxed<TypeTree>,
 }
 
 pub type Binders = Items<Binder>;
 
-/// The two spellings of a connective differ in their places alone, so `&&` is `And` and `||` is `Or`.
-#[derive(Clone, Copy, Debug, PartialEq, Eq)]
+/// What a quantifier or a lemma binds.
+#[derive(Drop)]
+pub enum Bind {
+    /// `(x y : t)`.
+    Values(Binder),
+    /// `&m`.
+    Memory(Word),
+    /// `(A <: T {-M} [f : {O.o <= 3}])`.
+    Module(ModuleBinder),
+}
+
+pub type Binds = Items<Bind>;
+
+/// A module of a module type, which reads and writes none of the excluded modules, and keeps its bounds.
+#[derive(Drop)]
+pub struct ModuleBinder {
+    pub name: Word,
+    pub ty: Word,
+    pub excluded: Words,
+    pub bounds: QueryBounds,
+}
+
+/// How often procedures call oracles, all of them together.
+#[derive(Drop)]
+pub struct QueryBound {
+    pub procedures: Words,
+    pub limits: Limits,
+}
+
+pub type QueryBounds = Items<QueryBound>;
+
+/// `O.o <= 3`.
+#[derive(Drop)]
+pub struct Limit {
+    pub oracle: OraclePath,
+    pub calls: Number,
+}
+
+pub type Limits = Items<Limit>;
+
+/// A procedure of a module without arguments.
+#[derive(Drop)]
+pub struct OraclePath {
+    pub module: Word,
+    pub proc: Word,
+}
+
+pub type OraclePaths = Items<OraclePath>;
+
+/// The operators between two operands. The two spellings of a connective differ in their places alone, so `&&` is `And`
+/// and `||` is `Or`.
+#[derive(Clone, Copy, PartialEq, Eq)]
 pub enum Connective {
     And,
     Or,
@@ -44,67 +122,140 @@ pub enum Connective {
     Iff,
     Equal,
     NotEqual,
+    Less,
+    AtMost,
+    Greater,
+    AtLeast,
+    /// `\in`.
+    In,
+    Add,
+    Subtract,
+    /// `+^`.
+    Xor,
+    Multiply,
+    Divide,
+    /// `` `*` ``.
+    Product,
 }
 
-#[derive(Clone, Copy, Debug, PartialEq, Eq)]
+#[derive(Clone, Copy, PartialEq, Eq)]
 pub enum Quantifier {
     Forall,
     Exists,
 }
 
 /// `{1}`, `{2}` or `{m}` behind a form, at its word or number.
-#[derive(Debug, Drop)]
+#[derive(Drop)]
 pub enum SideTree {
     Left,
     Right,
     Memory(Word),
 }
 
-/// `M.f` in a judgment: a path to a module, and a procedure of it.
-#[derive(Debug, Drop)]
-pub struct ProcPath {
-    pub module: Word,
-    pub proc: Word,
-}
-
-/// A form. Its place is its first token.
-#[derive(Debug, Drop)]
+/// A form, which lies in a box wherever it is held. Its place is its first token.
+#[derive(Drop)]
 #[cycle(form)]
 pub struct FormTree {
     pub shape: FormShape,
     pub place: Place,
 }
 
-pub type FormTrees = Items<FormTree>;
+pub type FormTrees = Items<Boxed<FormTree>>;
 
-#[derive(Debug, Drop)]
+#[derive(Drop)]
 #[cycle(form)]
 pub enum FormShape {
     /// A name or a path; `true`, `false`, `tt` and `res` too.
     Path(Name),
+    Number(Number),
     /// `()`.
     Unit,
     /// A form in round brackets.
     Bracketed(Boxed<FormTree>),
+    /// `(e : t)`.
+    Typed(Boxed<FormTree>, Boxed<TypeTree>),
+    /// `(e, f)`.
+    Tuple(FormTrees),
     Not(Boxed<FormTree>),
+    /// `- e`.
+    Negative(Boxed<FormTree>),
     Binary(Connective, Boxed<FormTree>, Boxed<FormTree>),
-    Quantified(Quantifier, Binders, Boxed<FormTree>),
+    /// `if c then a else b` and `c ? a : b`.
+    Conditional(Boxed<FormTree>, Boxed<FormTree>, Boxed<FormTree>),
+    Quantified(Quantifier, Binds, Boxed<FormTree>),
     Sided(Boxed<FormTree>, SideTree),
-    /// `={x, y}`.
-    Equalities(Words),
+    /// An operator with its arguments.
+    Apply(Boxed<FormTree>, FormTrees),
+    /// `m.[k]`.
+    Get(Boxed<FormTree>, Boxed<FormTree>),
+    /// `m.[k <- v]`.
+    Set(Boxed<FormTree>, Boxed<FormTree>, Boxed<FormTree>),
+    /// ``e.`k``.
+    Component(Boxed<FormTree>, Number),
+    /// `e%r`.
+    ToReal(Boxed<FormTree>),
+    /// `` `|e| ``.
+    Absolute(Boxed<FormTree>),
+    /// `={x, glob M}`.
+    Equalities(EquatedTrees),
     /// `(fun x y => e)`, with a type or without.
     Function {
         names: Words,
-        ty: Option<TypeTree>,
+        ty: Option<Boxed<TypeTree>>,
         body: Boxed<FormTree>,
     },
     /// `{0,1}`.
     Coin,
-    /// `equiv [M.f ~ N.g : P ==> Q]`.
-    Equiv {
-        left: ProcPath,
-        right: ProcPath,
+    /// `uniform t`.
+    Uniform(Boxed<TypeTree>),
+    /// `weights [a : 1; b : 2]`.
+    Weights(Weights),
+    /// `(glob M)`.
+    Glob(Boxed<ModuleExpr>),
+    /// `hoare [M.f : P ==> Q]`.
+    Hoare {
+        subject: Boxed<SubjectTree>,
         pre: Boxed<FormTree>,
         post: Boxed<FormTree>,
     },
+    /// `phoare [M.f : P ==> Q] <= r`, where the bound isn't left out.
+    Phoare {
+        subject: Boxed<SubjectTree>,
+        pre: Boxed<FormTree>,
+        post: Boxed<FormTree>,
+        bound: Option<BoundTree>,
+    },
+    /// `equiv [M.f ~ N.g : P ==> Q]`.
+    Equiv {
+        left: Boxed<SubjectTree>,
+        right: Boxed<SubjectTree>,
+        pre: Boxed<FormTree>,
+        post: Boxed<FormTree>,
+    },
+    /// `islossless M.f`.
+    Lossless(Boxed<ProcPath>),
+    /// `Pr[M.f(e) @ &m : E]`.
+    Probability {
+        call: Boxed<CallTree>,
+        memory: Word,
+        event: Boxed<FormTree>,
+    },
 }
+
+/// What `={..}` says to be equal on both sides: a variable, or all that a module reads and writes.
+#[derive(Drop)]
+pub enum EquatedTree {
+    Path(Word),
+    Glob(Boxed<ModuleExpr>),
+}
+
+pub type EquatedTrees = Items<EquatedTree>;
+
+/// `a : 3` in `weights`.
+#[derive(Drop)]
+pub struct Weight {
+    pub constant: Word,
+    pub weight: Number,
+}
+
+pub type Weights = Items<Weight>;

@@ -3,5 +3,6 @@
 
 pub mod command;
 pub mod form;
+pub mod judgment;
 pub mod program;
 pub mod step;
