@@ -5,17 +5,11 @@
 
 GRAMMAR is a text, CRATE the folder of the crate above (crates/NAME). Written are
 
-    CRATE/src/rule.rt          enum Rule, one variant a production
+    CRATE/src/rule.rt          enum Rule, and for each group of productions an enum of their names
     CRATE/src/rows.rt          ROWS, PLACES (where each part's rows begin) and a constant for each start part
-    CRATE/src/bodies.rt        SYMBOLS, the bodies of the rows, a line each
-    CRATE/specs/Claims.antt    what is claimed of each part, `claims`
-    CRATE/proofs/Checked.antt  the lemma `grammar_passes : grammar_ok claims PLACES ROWS SYMBOLS ≡ true`
-
-and, where the parts have sorts, as gb_grammar's specs/Values.antt asks for them,
-
-    CRATE/specs/Sorts.antt     `Sort`, `sort_of` (of each part) and `gives` (of each rule)
-    CRATE/specs/Takes.antt     `takes` and `leads` (of each rule)
-    CRATE/proofs/Checked.antt  also the lemma `sorts_fit : SortsFit sort_of takes gives leads (grammar_of ROWS SYMBOLS)`
+    CRATE/src/bodies.rt        SYMBOLS, the bodies of the rows
+    CRATE/specs/Claims.antt    what is claimed of each part, `claims`, and how many parts each stage has
+    CRATE/proofs/Checked.antt  for each stage the lemma that `grammar_ok` holds of its claims and the table
 
 Declare them by `pub mod` in src/lib.rt, specs/Lib.antt and proofs/Lib.antt, then run `rt fmt`. This script is not
 trusted: the check decides whether the certificates are right.
@@ -24,13 +18,17 @@ The grammar text has one line each for
 
     kinds NAME ( ) => ...      the kinds of token, from number 1 on, in this order; there may be several such lines
     start form goal            the parts that a text may be
+    unmade Group.Name ..       productions whose values are not made yet; they have the rule `Later`
+    sort Form form atom ..     parts whose values are of this sort, of which there may be lists
+    list Form no_forms ..      parts that are lists of this sort, where their productions don't tell
     part form                  the productions that follow are of this part
-    part form : formula        .. whose values have this sort, in small letters
     part else_part greedy      .. and its empty production may not stand before a token that begins another of its
                                productions (an optional `else` belongs to the nearest `if`)
-    Rule: a b c                a production: the name of its rule, and its body, maybe of no symbols;
-                               productions that make their values alike may share a rule, if their sorts and the
-                               token that they begin with are the same; there are at most 256 rules
+    Group.Name: a b c          a production: what its value is made by, and its body, maybe of no symbols. What stands
+                               alone is general: `Empty` is an empty list, `More` a list whose first element comes first,
+                               `Single` a list of one, `Same` the values of the parts. All other names are those of
+                               makers in the crates above
+    Group.Name: a b @later     .. of a later stage; the stages are none, '@later' and '@goal', in this order
 
 A word that names a part is that part; every other word of a body is a kind of token. Lines that begin with '#' and
 empty lines are skipped. A part where one token does not decide is reported, and nothing is written.
@@ -39,13 +37,25 @@ import os
 import re
 import sys
 
+STAGES = ["", "@later", "@goal"]
+STAGE_NAMES = ["BUILT", "COMMANDS", "GOALS"]
+WIDTH = 100
+
+
+class Production:
+    def __init__(self, rule, words):
+        self.rule = rule
+        marks = [word for word in words if word.startswith("@")]
+        self.stage = STAGES.index(marks[0] if marks else "")
+        self.body = [word for word in words if word not in marks]
+
 
 class Part:
-    def __init__(self, name, sort, greedy):
-        self.name, self.sort, self.greedy = name, sort, greedy
-        self.productions = []  # (rule, body)
+    def __init__(self, name, greedy):
+        self.name, self.greedy = name, greedy
+        self.productions = []
         self.nullable, self.first, self.follow = False, set(), set()
-        self.weight = self.height = None
+        self.weight = self.height = self.stage = None
 
 
 def fail(message):
@@ -53,7 +63,7 @@ def fail(message):
 
 
 def parse(lines):
-    kinds, starts, parts = [], [], {}
+    kinds, starts, parts, unmade, sorts, lists = [], [], {}, set(), {}, {}
     part = None
     for number, line in enumerate(lines, 1):
         line = line.strip()
@@ -64,18 +74,56 @@ def parse(lines):
             kinds += rest.split()
         elif word == "start":
             starts += rest.split()
+        elif word == "unmade":
+            unmade |= set(rest.split())
+        elif word in ("sort", "list"):
+            sort, *names = rest.split()
+            (sorts if word == "sort" else lists).update((name, sort) for name in names)
         elif word == "part":
             words = rest.split()
-            sort = words[words.index(":") + 1] if ":" in words else None
-            part = Part(words[0], sort, "greedy" in words)
+            part = Part(words[0], "greedy" in words)
             if part.name in parts:
                 fail(f"line {number}: part {part.name} is there twice")
             parts[part.name] = part
-        elif re.fullmatch(r"[A-Z][A-Za-z0-9]*:", word) and part:
-            part.productions.append((word[:-1], rest.split()))
+        elif re.fullmatch(r"[A-Z][A-Za-z0-9.]*:", word) and part:
+            part.productions.append(Production(word[:-1], rest.split()))
         else:
             fail(f"line {number}: cannot be read: {line}")
+    for part in parts.values():
+        for production in part.productions:
+            if production.rule in unmade:
+                production.rule = "Later"
+    name_lists(parts, sorts, lists)
     return kinds, starts, parts
+
+
+LISTS = ["Empty", "More", "Single"]
+
+
+def sort_of(production, parts, sorts, lists):
+    """The sort of the elements of a production that makes a list."""
+    inner = [symbol for symbol in production.body if symbol in parts]
+    if production.rule in ("More", "Single"):
+        return sorts.get(inner[0])
+    return lists.get(inner[0]) if production.rule == "Same" else None
+
+
+def name_lists(parts, sorts, lists):
+    """Gives each production that makes a list the sort of its elements."""
+    for _ in parts:
+        for part in parts.values():
+            for production in part.productions:
+                inner = [symbol for symbol in production.body if symbol in parts]
+                if production.rule == "Same" and inner[0] in sorts:
+                    sorts.setdefault(part.name, sorts[inner[0]])
+                found = sort_of(production, parts, sorts, lists)
+                if found:
+                    lists[part.name] = found
+    for part in parts.values():
+        for production in part.productions:
+            if production.rule in LISTS:
+                sort = lists.get(part.name)
+                production.rule = f"{sort} {production.rule}" if sort else "Later"
 
 
 def check_names(kinds, starts, parts):
@@ -85,36 +133,35 @@ def check_names(kinds, starts, parts):
         fail("more than 127 kinds of token")
     if len(parts) > 255:
         fail("more than 255 parts")
-    if len({rule for part in parts.values() for rule, _ in part.productions}) > 256:
-        fail("more than 256 rules")
-    rules = {}
     for part in parts.values():
-        for rule, body in part.productions:
-            lead = body[0] if body and body[0] not in parts else None
-            shape = [parts[s].sort for s in body if s in parts] + [part.sort, lead]
-            if rules.setdefault(rule, shape) != shape:
-                fail(f"rule {rule} takes, gives or begins with something else in part {part.name}")
-            for symbol in body:
+        for production in part.productions:
+            for symbol in production.body:
                 if symbol not in parts and symbol not in kinds:
-                    fail(f"in {rule}: {symbol} is no part and no kind of token")
+                    fail(f"in {production.rule}: {symbol} is no part and no kind of token")
     for start in starts:
         if start not in parts:
             fail(f"start part {start} is not there")
 
 
 class Certificates:
-    """The least claims: nullable, first, follow, weight and height of each part."""
+    """The least claims: nullable, first, follow and weight of each part, and heights that serve each stage."""
 
     def __init__(self, kinds, starts, parts):
         self.kinds = {kind: number for number, kind in enumerate(kinds, 1)}
         self.names = ["the end"] + kinds
         self.parts = parts
-        self.numbers = {name: number for number, name in enumerate(parts)}
         for start in starts:
             parts[start].follow.add(0)
         self.close()
         self.weigh()
-        self.measure()
+        for stage in range(len(STAGES)):
+            self.measure(stage)
+        for part in parts.values():
+            if part.height is None:
+                fail(f"part {part.name} has no finite text")
+        self.check_stages()
+        self.parts = dict(sorted(parts.items(), key=lambda item: item[1].stage))
+        self.numbers = {name: number for number, name in enumerate(self.parts)}
 
     def nullable(self, body):
         return all(s in self.parts and self.parts[s].nullable for s in body)
@@ -134,7 +181,7 @@ class Certificates:
         while changed:
             changed = False
             for part in self.parts.values():
-                for _, body in part.productions:
+                for body in (production.body for production in part.productions):
                     if self.nullable(body) and not part.nullable:
                         part.nullable = changed = True
                     changed |= self.grow(part.first, self.first(body))
@@ -169,174 +216,243 @@ class Certificates:
         """Weights fall when a part is opened; there are none where a part begins with itself."""
         for _ in self.parts:
             for part in self.parts.values():
-                leads = [self.lead(body) for _, body in part.productions]
+                leads = [self.lead(production.body) for production in part.productions]
                 if part.weight is None and None not in leads:
                     part.weight = max(leads) + 1
         for part in self.parts.values():
             if part.weight is None:
                 fail(f"part {part.name} may begin with itself")
 
-    def measure(self):
-        """Heights fall towards a text that is finite."""
+    def measure(self, stage):
+        """Heights fall towards a text that is finite and of this stage."""
         for _ in self.parts:
             for part in self.parts.values():
                 heights = []
-                for _, body in part.productions:
-                    below = [self.parts[s].height for s in body if s in self.parts]
-                    if None not in below and not (part.greedy and self.nullable(body)):
+                for production in part.productions:
+                    below = [self.parts[s].height for s in production.body if s in self.parts]
+                    fits = production.stage <= stage and not (part.greedy and self.nullable(production.body))
+                    if fits and None not in below:
                         heights.append(max([h + 1 for h in below] or [0]))
                 if part.height is None and heights:
-                    part.height = min(heights)
+                    part.height, part.stage = min(heights), stage
+
+    def check_stages(self):
         for part in self.parts.values():
-            if part.height is None:
-                fail(f"part {part.name} has no finite text")
+            for production in part.productions:
+                for symbol in production.body:
+                    if symbol in self.parts and self.parts[symbol].stage > production.stage:
+                        fail(f"{part.name}: {production.rule} is of an earlier stage than {symbol}")
 
     def rows(self):
-        """The rows: part, rule, starts, stops, body."""
+        """The rows: part, production, starts, stops."""
         rows, conflicts = [], []
         for part in self.parts.values():
             taken = {}
-            for rule, body in part.productions:
+            for production in part.productions:
                 stops = set()
-                if part.greedy and self.nullable(body):
-                    for _, its_body in part.productions:
-                        if its_body is not body:
-                            stops |= self.first(its_body)
-                starts = self.first(body)
-                if self.nullable(body):
+                empty = self.nullable(production.body)
+                if part.greedy and empty:
+                    for other in part.productions:
+                        if other is not production:
+                            stops |= self.first(other.body)
+                starts = self.first(production.body)
+                if empty:
                     starts = starts | (part.follow - stops)
                 for kind in starts:
                     if kind in taken:
-                        conflicts.append(f"{part.name}: {taken[kind]} and {rule} at {self.names[kind]}")
-                    taken[kind] = rule
-                rows.append((part, rule, starts, stops, body))
+                        conflicts.append(f"{part.name}: {taken[kind]} and {production.rule} at {self.names[kind]}")
+                    taken[kind] = production.rule
+                rows.append((part, production, starts, stops))
         if conflicts:
             fail("one token does not decide\n  " + "\n  ".join(conflicts))
         return rows
 
     def symbol(self, name):
-        return f"Part({self.numbers[name]})" if name in self.parts else f"Token({self.kinds[name]})"
+        return f"[{self.numbers[name]}]" if name in self.parts else str(self.kinds[name])
 
 
 def bits(kinds):
     return sum(1 << kind for kind in kinds)
 
 
-def rules_of(rows):
-    """Each rule once, with its row."""
-    first = {}
-    for row in rows:
-        first.setdefault(row[1], row)
-    return first
+def literal(number):
+    """A number of a row, as short as it may be."""
+    return str(number) if number < 10 ** 9 else hex(number)
+
+
+def groups_of(rows):
+    groups = {}
+    for _, production, _, _ in rows:
+        group, _, name = production.rule.partition(".")
+        if name:
+            groups.setdefault(group, {})[name] = None
+    return groups
 
 
 def rule_file(source, rows):
-    lines = [f"// Written by tools/certificates.py from {source}.", "", "/// The productions of the grammar."]
-    lines += ["#[derive(Clone, Copy, PartialEq, Eq, Debug)]", "pub enum Rule {"]
-    lines += [f"    {rule}," for rule in rules_of(rows)]
+    lines = [f"// Written by tools/certificates.py from {source}.", ""]
+    for group, names in groups_of(rows).items():
+        lines += ["#[derive(Clone, Copy)]", f"pub enum {group} {{"] + [f"    {name}," for name in names] + ["}", ""]
+    sorts = dict.fromkeys(production.rule.split()[0] for _, production, _, _ in rows if " " in production.rule)
+    lines += ["/// What there are lists of.", "#[derive(Clone, Copy)]", "pub enum Sort {"]
+    lines += [f"    {sort}," for sort in sorts] + ["}", ""]
+    lines += ["/// How a list is made.", "#[derive(Clone, Copy)]", "pub enum ListRule {",
+              "    /// An empty list.", "    Empty,", "    /// A list, its first element and the others.", "    More,",
+              "    /// A list of one.", "    Single,", "}", ""]
+    lines += ["/// The productions of the grammar: how the value of one is made from those of its parts.",
+              "#[derive(Clone, Copy)]", "pub enum Rule {",
+              "    List(Sort, ListRule),", "    /// The values of the parts, as they are.", "    Same,",
+              "    /// What is not made yet.", "    Later,"]
+    for group in groups_of(rows):
+        lines.append(f"    {group}({group}),")
     return lines + ["}"]
+
+
+def wrapped(items, separator):
+    """Lines of items, as many to a line as fit."""
+    lines, line = [], "   "
+    for item in items:
+        if len(line) + len(item) + len(separator) + 1 > WIDTH:
+            lines.append(line)
+            line = "   "
+        line += " " + item + separator
+    return lines + [line] if line.strip() else lines
+
+
+ROWS_MACRO = """// A row in the order of the parts of the grammar: part, rule, stage, starts, stops, body.
+macro_rules! rows {
+    (@rule $group:ident . $name:ident) => {
+        Rule::$group(rule::$group::$name)
+    };
+    (@rule $sort:ident $list:ident) => {
+        Rule::List(rule::Sort::$sort, rule::ListRule::$list)
+    };
+    (@rule $name:ident) => {
+        Rule::$name
+    };
+    ($($part:literal ($($rule:tt)*) $stage:literal $starts:literal $stops:literal $body:literal),* $(,)?) => {
+        [$(Row {
+            part: $part,
+            rule: rows!(@rule $($rule)*),
+            stage: $stage,
+            starts: $starts,
+            stops: $stops,
+            body: $body,
+        }),*]
+    };
+}
+"""
+
+BODIES_MACRO = """// Tokens by their numbers, and parts by theirs in brackets; a semicolon ends a body.
+macro_rules! bodies {
+    (@symbol [$part:literal]) => {
+        Part($part)
+    };
+    (@symbol ;) => {
+        Token(0)
+    };
+    (@symbol $token:literal) => {
+        Token($token)
+    };
+    ($($symbol:tt)*) => {
+        [$(bodies!(@symbol $symbol)),*]
+    };
+}
+"""
 
 
 def rows_file(source, certificates, starts, rows):
     parts = certificates.parts
-    lines = [f"// Written by tools/certificates.py from {source}.", "", "use crate::rule::Rule;", "use gb_grammar::table::Row;", ""]
+    lines = [f"// Written by tools/certificates.py from {source}.", "", "use crate::rule::{self, Rule};", "use gb_grammar::table::Row;", ""]
     for start in starts:
         lines += [f"/// The part `{start}`.", f"pub const {start.upper()}: u8 = {certificates.numbers[start]};", ""]
-    lines += ["/// The rows of the grammar.", f"pub const ROWS: [Row<Rule>; {len(rows)}] = ["]
-    last, place = None, 0
-    for part, rule, begin, stop, body in rows:
-        if part is not last:
-            lines.append(f"    // {part.name}")
-        last = part
-        lines.append(
-            f"    Row {{ part: {certificates.numbers[part.name]}, rule: Rule::{rule}, starts: {bits(begin)}, "
-            f"stops: {bits(stop)}, body: {place} }},")
-        place += len(body) + 1
-    lines += ["];", "", "/// Where the rows of each part begin, and how many rows there are.",
-              f"pub const PLACES: [u16; {len(parts) + 1}] = ["]
+    for number, name in enumerate(STAGE_NAMES):
+        lines += [f"pub const {name}: u8 = {number};", ""]
+    lines += ROWS_MACRO.splitlines() + ["", "/// The rows of the grammar.", f"pub const ROWS: [Row<Rule>; {len(rows)}] = rows! {{"]
+    items, place = [], 0
+    for part, production, begin, stop in rows:
+        items.append(f"{certificates.numbers[part.name]} ({production.rule}) {production.stage} {literal(bits(begin))} {literal(bits(stop))} {place}")
+        place += len(production.body) + 1
+    lines += wrapped(items, ",")
     places = [0]
     for part in parts.values():
         places.append(places[-1] + len(part.productions))
+    lines += ["};", "", "/// Where the rows of each part begin, and how many rows there are.",
+              f"pub const PLACES: [u16; {len(parts) + 1}] = ["]
     return lines + [f"    {', '.join(map(str, places))},", "];"]
 
 
 def bodies_file(source, certificates, rows):
     lines = [f"// Written by tools/certificates.py from {source}.", "", "use gb_grammar::table::Symbol;",
-             "use gb_grammar::table::Symbol::{Part, Token};", "", "/// The bodies of the rows, each up to a `Token(0)`.",
-             f"pub const SYMBOLS: [Symbol; {sum(len(body) + 1 for *_, body in rows)}] = ["]
-    for part, _, _, _, body in rows:
-        symbols = [certificates.symbol(s) for s in body] + ["Token(0)"]
-        lines += [f"    // {part.name}: {' '.join(body)}".rstrip(), f"    {', '.join(symbols)},"]
-    return lines + ["];"]
+             "use gb_grammar::table::Symbol::{Part, Token};", ""] + BODIES_MACRO.splitlines()
+    lines += ["", "/// The bodies of the rows, each up to a `Token(0)`.",
+              f"pub const SYMBOLS: [Symbol; {sum(len(production.body) + 1 for _, production, *_ in rows)}] = bodies! {{"]
+    bodies = [" ".join([certificates.symbol(s) for s in production.body] + [";"]) for _, production, *_ in rows]
+    return lines + wrapped(bodies, "") + ["};"]
+
+
+def decided(leaves, low):
+    """The lines of a choice among leaves by comparisons of `n`, the first of them at `low`, a line each."""
+    if len(leaves) == 1:
+        return [leaves[0]]
+    middle = len(leaves) // 2
+    left, right = decided(leaves[:middle], low), decided(leaves[middle:], low + middle)
+    left[0] = f"(if nat_lt n {low + middle} then {left[0]}"
+    right[0] = f"else {right[0]}"
+    right[-1] += ")"
+    return left + right
 
 
 def claims_file(source, parts):
     lines = [f"-- Written by tools/certificates.py from {source}: what is claimed of each part."]
-    lines += ["use Rattle.std.specs.Prelude.{List, [], ◌∷◌, true, false}", "use Rattle.gb_grammar.specs.Check.{Claim}"]
-    lines += ["", "abbrev pub claims : List Claim", "claims ="]
-    for part in parts.values():
-        lines.append(
-            f"    record {{ nullable = {'true' if part.nullable else 'false'}; first = {bits(part.first)}; "
-            f"follow = {bits(part.follow)}; weight = {part.weight}; height = {part.height} }} ∷")
-    return lines + ["    []"]
+    lines += ["use Rattle.std.specs.Prelude.{ℕ, Bool, List, [], ◌∷◌, true, false, nat_lt, slice_index_or, if◌then◌else◌}",
+              "use Rattle.gb_grammar.specs.Check.{Claim, Claims}"]
+    lines += ["", "abbrev claim : Bool → ℕ → ℕ → ℕ → ℕ → Claim",
+              "claim n a b w h = record { nullable = n; first = a; follow = b; weight = w; height = h }", ""]
+    size = 16
+    leaves = [f"claim {'true' if part.nullable else 'false'} {bits(part.first)} {bits(part.follow)} {part.weight} {part.height}"
+              for part in parts.values()]
+    groups = [leaves[i:i + size] for i in range(0, len(leaves), size)]
+    for number, group in enumerate(groups):
+        lines += [f"abbrev claims{number} : ℕ → Claim", f"claims{number} n ="]
+        lines += ["    " + line for line in decided(group, number * size)] + [""]
+    lines += ["-- what is claimed of each part, which is found by its number", "abbrev claim_at : ℕ → Claim",
+              f"claim_at n = {decided_groups(groups, size)}"]
+    counts = [sum(1 for part in parts.values() if part.stage <= stage) for stage in range(len(STAGES))]
+    lines += ["", "-- what is claimed of the parts that have texts up to a stage, which come first", "abbrev pub claims : ℕ → Claims"]
+    return lines + [f"claims stage = record {{ count = slice_index_or ({' ∷ '.join(map(str, counts))} ∷ []) stage 0; at = claim_at }}"]
 
 
-def rule_imports(crate, rows):
-    return [f"use Rattle.{crate}.specs.declared.rule.Rule.{{Rule}}",
-            f"use Rattle.{crate}.specs.declared.rule.Rule.TheVariants.{{{', '.join(rules_of(rows))}}}"]
+def decided_groups(groups, size):
+    calls = [f"claims{number} n" for number in range(len(groups))]
+
+    def choose(low, high):
+        if high - low == 1:
+            return calls[low]
+        middle = (low + high) // 2
+        return f"(if nat_lt n {middle * size} then {choose(low, middle)} else {choose(middle, high)})"
+
+    return choose(0, len(groups))
 
 
-def sorts_file(source, crate, parts, rows):
-    for part in parts.values():
-        if part.sort is None:
-            fail(f"part {part.name} has no sort, and others have one")
-    sorts = list(dict.fromkeys(part.sort for part in parts.values()))
-    lines = [f"-- Written by tools/certificates.py from {source}: the sorts of values, of each part and of each rule."]
-    lines += ["use Rattle.std.specs.Prelude.{ℕ, List, [], ◌∷◌, slice_index_or}"] + rule_imports(crate, rows)
-    lines += ["", "pub data Sort : Type 0 where"] + [f"  {sort} : Sort" for sort in sorts]
-    lines += ["", "-- the sort of each part", "abbrev pub sort_of : ℕ → Sort"]
-    lines += [f"sort_of n = slice_index_or ({' ∷ '.join(part.sort for part in parts.values())} ∷ []) n {sorts[0]}"]
-    lines += ["", "-- the sort of the value that each rule gives", "abbrev pub gives : Rule → Sort"]
-    return lines + [f"gives {rule} = {row[0].sort}" for rule, row in rules_of(rows).items()]
-
-
-def takes_file(source, crate, certificates, rows):
-    parts = certificates.parts
-    sorts = list(dict.fromkeys(part.sort for part in parts.values()))
-    lines = [f"-- Written by tools/certificates.py from {source}: what each rule takes, and the token that it begins with."]
-    lines += ["use Rattle.std.specs.Prelude.{ℕ, List, [], ◌∷◌}"] + rule_imports(crate, rows)
-    lines += [f"use Rattle.{crate}.specs.Sorts.{{Sort, {', '.join(sorts)}}}", ""]
-    lines += ["-- the sorts of the values that each rule takes, the first one first", "abbrev pub takes : Rule → List Sort"]
-    for rule, (_, _, _, _, body) in rules_of(rows).items():
-        lines.append(f"takes {rule} = " + " ∷ ".join([parts[s].sort for s in body if s in parts] + ["[]"]))
-    lines += ["", "-- the kind of token that each rule's body begins with, or 0", "abbrev pub leads : Rule → ℕ"]
-    led = [(rule, body) for rule, (*_, body) in rules_of(rows).items() if body and body[0] not in parts]
-    lines += [f"leads {rule} = {certificates.kinds[body[0]]}" for rule, body in led]
-    return lines + ([] if len(led) == len(rules_of(rows)) else ["leads rule = 0"])
-
-
-def checked_file(source, crate, with_sorts):
+def checked_file(source, crate):
     lines = [f"-- Written by tools/certificates.py from {source}: the table passes its tests."]
-    lines += ["use Rattle.std.specs.Prelude.{◌≡◌, true, length}", "use Rattle.std.proofs.Common.{refl}"]
+    lines += ["use Rattle.std.specs.Prelude.{◌≡◌, true}", "use Rattle.std.proofs.Common.{refl}"]
     lines += [f"use Rattle.{crate}.specs.declared.rows.TheConstants.{{ROWS, PLACES}}"]
     lines += [f"use Rattle.{crate}.specs.declared.bodies.TheConstants.{{SYMBOLS}}"]
     lines += [f"use Rattle.{crate}.specs.Claims.{{claims}}"]
-    if with_sorts:
-        lines += [f"use Rattle.{crate}.specs.Sorts.{{sort_of, gives}}", f"use Rattle.{crate}.specs.Takes.{{takes, leads}}"]
-        lines += ["use Rattle.gb_grammar.specs.Values.{SortsFit}"]
     lines += ["use Rattle.gb_grammar.specs.Grammar.{grammar_of}"]
     lines += ["use Rattle.gb_grammar.specs.Check.{grammar_ok, rows_ok, alone_at, all_below, some_lower, places_ok}"]
-    lines += ["use Rattle.gb_grammar.proofs.Tests.{and_both}", ""]
-    lines += ["rows_pass : rows_ok (length claims) claims (grammar_of ROWS SYMBOLS) ≡ true", "rows_pass = refl", ""]
-    lines += ["alone_pass : all_below 128 (alone_at (grammar_of ROWS SYMBOLS)) ≡ true", "alone_pass = refl", ""]
-    lines += ["some_pass : all_below (length claims) (λ n. some_lower claims n (grammar_of ROWS SYMBOLS)) ≡ true"]
-    lines += ["some_pass = refl", ""]
-    lines += ["places_pass : places_ok PLACES (length claims) ROWS ≡ true", "places_pass = refl", ""]
-    lines += ["pub grammar_passes : grammar_ok claims PLACES ROWS SYMBOLS ≡ true"]
-    lines += ["grammar_passes = and_both _ _ (and_both _ _ rows_pass (and_both _ _ alone_pass some_pass)) places_pass"]
-    if with_sorts:
-        lines += ["", "pub sorts_fit : SortsFit sort_of takes gives leads (grammar_of ROWS SYMBOLS)"]
-        lines += ["sorts_fit = record { taken = refl; given = refl; led = refl }"]
+    lines += ["use Rattle.gb_grammar.proofs.Tests.{and_both}"]
+    for stage, name in enumerate(STAGE_NAMES):
+        low = name.lower()
+        grammar = f"(grammar_of {stage} ROWS SYMBOLS)"
+        lines += ["", f"{low}_rows : rows_ok (claims {stage}).count (claims {stage}) {grammar} ≡ true", f"{low}_rows = refl",
+                  "", f"{low}_alone : all_below 128 (alone_at {grammar}) ≡ true", f"{low}_alone = refl",
+                  "", f"{low}_some : all_below (claims {stage}).count (λ n. some_lower (claims {stage}) n {grammar}) ≡ true", f"{low}_some = refl",
+                  "", f"{low}_places : places_ok PLACES (claims {stage}).count ROWS ≡ true", f"{low}_places = refl",
+                  "", f"pub {low}_pass : grammar_ok {stage} (claims {stage}) PLACES ROWS SYMBOLS ≡ true",
+                  f"{low}_pass = and_both _ _ (and_both _ _ {low}_rows (and_both _ _ {low}_alone {low}_some)) {low}_places"]
     return lines
 
 
@@ -350,21 +466,18 @@ def main():
     check_names(kinds, starts, parts)
     certificates = Certificates(kinds, starts, parts)
     rows = certificates.rows()
-    with_sorts = any(part.sort for part in parts.values())
     files = {
         "src/rule.rt": rule_file(source, rows),
         "src/rows.rt": rows_file(source, certificates, starts, rows),
         "src/bodies.rt": bodies_file(source, certificates, rows),
-        "specs/Claims.antt": claims_file(source, parts),
-        "proofs/Checked.antt": checked_file(source, crate, with_sorts),
+        "specs/Claims.antt": claims_file(source, certificates.parts),
+        "proofs/Checked.antt": checked_file(source, crate),
     }
-    if with_sorts:
-        files["specs/Sorts.antt"] = sorts_file(source, crate, parts, rows)
-        files["specs/Takes.antt"] = takes_file(source, crate, certificates, rows)
     for name, lines in files.items():
         with open(os.path.join(folder, name), "w") as out:
             out.write("\n".join(lines) + "\n")
-    print(f"{len(parts)} parts, {len(rows)} rows, {len(kinds)} kinds of token")
+    stages = [sum(1 for part in parts.values() if part.stage <= stage) for stage in range(len(STAGES))]
+    print(f"{len(parts)} parts ({stages}), {len(rows)} rows, {len(kinds)} kinds of token")
 
 
 main()

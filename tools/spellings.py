@@ -3,12 +3,15 @@
 
     spellings.py GRAMMAR SPELLINGS CRATE
 
-GRAMMAR is the text that certificates.py reads, whose kinds of token are the terminals, in this order. SPELLINGS has lines
-'Terminal SPELLING..'. Written is CRATE/src/terminal.rt: enum Terminal, and the table of spellings, each filled up with
-spaces to the length of the longest one; and CRATE/specs/Kinds.antt: the number of each terminal in the table.
+GRAMMAR is the text that certificates.py reads. SPELLINGS has lines 'Kind SPELLING..', and 'Kind/Terminal SPELLING..' where
+several terminals are of one kind of token; a kind that has no such line is a terminal too. Written are
+CRATE/src/terminal.rt: enum Terminal, and the table of spellings, each filled up with spaces to the length of the longest
+one; CRATE/src/kind.rt and CRATE/specs/Kinds.antt: the number of the kind of each terminal.
 """
 import os
 import sys
+
+WIDTH = 100
 
 
 def lines_of(path):
@@ -16,26 +19,81 @@ def lines_of(path):
         return [line.split() for line in text if line.strip() and not line.startswith("#")]
 
 
-def terminals(path):
+def kinds_of(path):
     return [kind for words in lines_of(path) if words[0] == "kinds" for kind in words[1:]]
 
 
-def spellings(path, kinds):
-    pairs = [(spelling, words[0]) for words in lines_of(path) for spelling in words[1:]]
-    for spelling, terminal in pairs:
-        if terminal not in kinds:
-            sys.exit(f"spellings.py: {terminal} is no kind of token of the grammar")
+def spellings_of(path, kinds):
+    """The kind of each terminal, and the spellings with their terminals."""
+    terminals, pairs = {}, []
+    for words in lines_of(path):
+        kind, _, terminal = words[0].partition("/")
+        if kind not in kinds:
+            sys.exit(f"spellings.py: {kind} is no kind of token of the grammar")
+        terminals[terminal or kind] = kind
+        pairs += [(spelling, terminal or kind) for spelling in words[1:]]
     if len({spelling for spelling, _ in pairs}) != len(pairs):
         sys.exit("spellings.py: a spelling is there twice")
-    return pairs
+    ordered = {}
+    for kind in kinds:
+        mine = [terminal for terminal, its in terminals.items() if its == kind]
+        for terminal in mine or [kind]:
+            ordered[terminal] = kind
+    return ordered, pairs
 
 
-def kinds_file(sources, crate, kinds):
+def wrapped(items, indent):
+    lines, line = [], indent
+    for item in items:
+        if len(line) + len(item) + 2 > WIDTH:
+            lines.append(line.rstrip())
+            line = indent
+        line += item + ", "
+    return lines + [line.rstrip()]
+
+
+def terminal_file(sources, terminals, pairs):
+    width = max(len(spelling) for spelling, _ in pairs)
+    out = [f"// Written by tools/spellings.py from {sources}.", ""]
+    out += ["/// What is told apart among tokens: each spelling that the language has, names and numbers."]
+    out += ["#[derive(Clone, Copy, PartialEq, Eq, Debug)]", "pub enum Terminal {"]
+    out += [f"    {terminal}," for terminal in terminals] + ["}", ""]
+    out += ["/// How many bytes the longest spelling has.", f"pub const WIDTH: usize = {width};", ""]
+    out += ["/// A spelling of a terminal, filled up with spaces.", "#[derive(Clone, Copy)]", "pub struct Spelling {",
+            f"    pub text: [u8; {width}],", "    pub terminal: Terminal,", "}", ""]
+    out += ["macro_rules! spellings {", "    ($($text:literal $terminal:ident),* $(,)?) => {",
+            "        [$(Spelling {", "            text: *$text,", "            terminal: Terminal::$terminal,", "        }),*]", "    };", "}", ""]
+    out += ["/// The spellings of the terminals.", f"pub const SPELLINGS: [Spelling; {len(pairs)}] = spellings! {{"]
+    items = []
+    for spelling, terminal in pairs:
+        text = spelling.ljust(width).replace("\\", "\\\\")
+        items.append(f'b"{text}" {terminal}')
+    return out + wrapped(items, "    ") + ["};"]
+
+
+def kind_file(sources, crate, kinds, terminals):
+    out = [f"// Written by tools/spellings.py from {sources}.", "",
+           f"ghost use Rattle.std.specs.Prelude.{{◌≡◌}};", "ghost use Rattle.gb_grammar.specs.Reading.{IsKind};",
+           f"ghost use Rattle.{crate}.specs.Kinds.{{kind_of}};", "", "use crate::terminal::Terminal;", "",
+           "/// The number of a terminal's kind in the table of the grammar.", "pub fn kind(terminal: Terminal) -> u8",
+           "    ensures number { result ≡ kind_of terminal }", "    ensures kind { IsKind result }", "{", "    match terminal {"]
+    for number, kind in enumerate(kinds, 1):
+        mine = [f"Terminal::{terminal}" for terminal, its in terminals.items() if its == kind]
+        out.append(f"        {' | '.join(mine)} => {number},")
+    return out + ["    }", "}"]
+
+
+def named(terminal):
+    """The name of a terminal in a definition, where `Type` is a word."""
+    return "«Type»" if terminal == "Type" else terminal
+
+
+def kinds_file(sources, crate, kinds, terminals):
     lines = [f"-- Written by tools/spellings.py from {sources}: the kinds of token, by their numbers."]
     lines += ["use Rattle.std.specs.Prelude.{ℕ}", f"use Rattle.{crate}.specs.declared.terminal.Terminal.{{Terminal}}"]
-    lines += [f"use Rattle.{crate}.specs.declared.terminal.Terminal.TheVariants.{{{', '.join(kinds)}}}", ""]
-    lines += ["-- the number of a kind of token in the table", "abbrev pub kind_of : Terminal → ℕ"]
-    return lines + [f"kind_of {kind} = {number}" for number, kind in enumerate(kinds, 1)]
+    lines += [f"use Rattle.{crate}.specs.declared.terminal.Terminal.TheVariants.{{{', '.join(map(named, terminals))}}}", ""]
+    lines += ["-- the number of a terminal's kind in the table", "abbrev pub kind_of : Terminal → ℕ"]
+    return lines + [f"kind_of {named(terminal)} = {kinds.index(kind) + 1}" for terminal, kind in terminals.items()]
 
 
 def write(folder, name, lines):
@@ -45,25 +103,14 @@ def write(folder, name, lines):
 
 def main():
     grammar, spelled, folder = sys.argv[1:]
-    kinds = terminals(grammar)
-    pairs = spellings(spelled, kinds)
-    width = max(len(spelling) for spelling, _ in pairs)
+    kinds = kinds_of(grammar)
+    terminals, pairs = spellings_of(spelled, kinds)
     sources = f"{os.path.basename(grammar)} and {os.path.basename(spelled)}"
-    out = [f"// Written by tools/spellings.py from {sources}.", ""]
-    out += ["/// What the grammar tells apart among tokens. `Other` is a token with which nothing goes on that is read so far."]
-    out += ["#[derive(Clone, Copy, PartialEq, Eq, Debug)]", "pub enum Terminal {"]
-    out += [f"    {kind}," for kind in kinds] + ["}", ""]
-    out += ["/// How many bytes the longest spelling has.", f"pub const WIDTH: usize = {width};", ""]
-    out += ["/// A spelling of a terminal, filled up with spaces.", "#[derive(Clone, Copy)]", "pub struct Spelling {",
-            f"    pub text: [u8; {width}],", "    pub terminal: Terminal,", "}", ""]
-    out += ["/// The spellings of the terminals.", f"pub const SPELLINGS: [Spelling; {len(pairs)}] = ["]
-    for spelling, terminal in pairs:
-        text = spelling.ljust(width).replace("\\", "\\\\")
-        out.append(f'    Spelling {{ text: *b"{text}", terminal: Terminal::{terminal} }},')
-    out += ["];"]
-    write(folder, "src/terminal.rt", out)
-    write(folder, "specs/Kinds.antt", kinds_file(sources, os.path.basename(os.path.abspath(folder)), kinds))
-    print(f"{len(kinds)} terminals, {len(pairs)} spellings")
+    crate = os.path.basename(os.path.abspath(folder))
+    write(folder, "src/terminal.rt", terminal_file(sources, terminals, pairs))
+    write(folder, "src/kind.rt", kind_file(sources, crate, kinds, terminals))
+    write(folder, "specs/Kinds.antt", kinds_file(sources, crate, kinds, terminals))
+    print(f"{len(kinds)} kinds of token, {len(terminals)} terminals, {len(pairs)} spellings")
 
 
 main()

@@ -6,5 +6,4 @@ pub mod Steps
 pub mod Words
 pub mod Turns
 pub mod Whole
-pub mod Typed
 pub mod Unique

@@ -4,11 +4,11 @@ use Rattle.std.proofs.lemmas.Option.{same_Some}
 use Rattle.std.proofs.Common.{cond, ⊎_elim, refl, ap, sym, ◌∙◌, subst, inl, inr, arith}
 use Rattle.std.proofs.lemmas.Bool.{ltb-true, eqb-true, eq-eqb}
 use Rattle.gb_grammar.specs.Grammar.{Grammar, Production, has, IsProduction}
-use Rattle.gb_grammar.specs.Check.{Claim, claim_of, implies, all_below, all_nullable, all_first, lead_weight, all_lower, all_known, follow_ok, kind_ok, row_ok, rows_ok, none_at, alone_at, some_lower, productions_ok, pick_of}
+use Rattle.gb_grammar.specs.Check.{Claims, claim_of, implies, all_below, all_nullable, all_first, lead_weight, all_lower, all_known, follow_ok, kind_ok, row_ok, rows_ok, none_at, alone_at, some_lower, productions_ok, pick_of}
 use Rattle.gb_grammar.proofs.Tests.{both, either, and_both, implied, not_both, not_true, true_not, below_at}
 
-pub record Sound {R : Type 0} (g : Grammar R) (c : List Claim) : Type 0 where
-  pub known : (n : ℕ) (r : Production R) → IsProduction g n r → all_known (length c) (r.body) ≡ true
+pub record Sound {R : Type 0} (g : Grammar R) (c : Claims) : Type 0 where
+  pub known : (n : ℕ) (r : Production R) → IsProduction g n r → all_known c.count (r.body) ≡ true
   pub nulls : (n : ℕ) (r : Production R) → IsProduction g n r → all_nullable c (r.body) ≡ true → (claim_of c n).nullable ≡ true
   pub lighter : (n : ℕ) (r : Production R) → IsProduction g n r → lead_weight c (r.body) < (claim_of c n).weight
   pub firsts : (n : ℕ) (r : Production R) (t : ℕ) → t < 128 → IsProduction g n r → all_first c (r.body) t ≡ true → (has (claim_of c n).first t ≡ true) × (has r.starts t ≡ true)
@@ -17,7 +17,7 @@ pub record Sound {R : Type 0} (g : Grammar R) (c : List Claim) : Type 0 where
   pub last : (n : ℕ) (r : Production R) → IsProduction g n r → has r.stops 0 ≡ false
   pub follows : (n : ℕ) (r : Production R) (t : ℕ) → t < 128 → IsProduction g n r → follow_ok c n (r.body) t ≡ true
   pub picks : (n : ℕ) (r : Production R) (t : ℕ) → t < 128 → IsProduction g n r → has r.starts t ≡ true → pick_of g n t ≡ Some r
-  pub grows : (n : ℕ) → n < length c → (r : Production R) × IsProduction g n r × (r.stops ≡ 0) × (all_lower c (claim_of c n).height (r.body) ≡ true)
+  pub grows : (n : ℕ) → n < c.count → (r : Production R) × IsProduction g n r × (r.stops ≡ 0) × (all_lower c (claim_of c n).height (r.body) ≡ true)
 
 module _ {R : Type 0} where
   first_picked : (a : Bool) (s : Production R) (o : Option (Production R)) → a ≡ true → cond a (Some s) o ≡ Some s
@@ -29,7 +29,7 @@ module _ {R : Type 0} where
   not_first false h s o x e = e
 
   -- what is tested of a row in its place
-  row_at : (parts : ℕ) (c : List Claim) (rows : Grammar R) (i : ℕ) (r : Production R) → rows_ok parts c rows ≡ true → slice_get rows i ≡ Some r → row_ok parts c r.part r ≡ true
+  row_at : (parts : ℕ) (c : Claims) (rows : Grammar R) (i : ℕ) (r : Production R) → rows_ok parts c rows ≡ true → slice_get rows i ≡ Some r → row_ok parts c r.part r ≡ true
   row_at parts c [] i r h e = cc
   row_at parts c (s ∷ rows) zero r h e =
       let q : s ≡ r = cc in
@@ -60,7 +60,7 @@ module _ {R : Type 0} where
       none_picked s.part rows t i r (implied (has s.starts t) (none_at s.part rows t) x.0 y.1) e (p ∙ sym (eqb-true s.part n y.0)) k)
       s (pick_of rows n t) (Some r) rest
 
-record Low {R : Type 0} (c : List Claim) (n : ℕ) (rows : Grammar R) : Type 0 where
+record Low {R : Type 0} (c : Claims) (n : ℕ) (rows : Grammar R) : Type 0 where
   row : Production R
   place : ℕ
   row_is : slice_get rows place ≡ Some row
@@ -68,7 +68,7 @@ record Low {R : Type 0} (c : List Claim) (n : ℕ) (rows : Grammar R) : Type 0 w
   free : row.stops ≡ 0
   low : all_lower c (claim_of c n).height (row.body) ≡ true
 
-some_at : {R : Type 0} (c : List Claim) (n : ℕ) (rows : Grammar R) → some_lower c n rows ≡ true → Low c n rows
+some_at : {R : Type 0} (c : Claims) (n : ℕ) (rows : Grammar R) → some_lower c n rows ≡ true → Low c n rows
 some_at c n [] e = cc
 some_at c n (r ∷ rows) e =
     let l = all_lower c (claim_of c n).height (r.body) in
@@ -79,24 +79,24 @@ some_at c n (r ∷ rows) e =
     (λ (h : some_lower c n rows ≡ true). let m = some_at c n rows h in record { row = m.row; place = suc m.place; row_is = m.row_is; part_is = m.part_is; free = m.free; low = m.low })
     (either (nat_eq r.part n && (nat_eq r.stops 0 && l)) (some_lower c n rows) e)
 
-module _ {R : Type 0} (g : Grammar R) (c : List Claim) (ok : productions_ok c g ≡ true) where
+module _ {R : Type 0} (g : Grammar R) (c : Claims) (ok : productions_ok c g ≡ true) where
   record Parts : Type 0 where
-    rows : rows_ok (length c) c g ≡ true
+    rows : rows_ok c.count c g ≡ true
     alone : all_below 128 (alone_at g) ≡ true
-    some : all_below (length c) (λ n. some_lower c n g) ≡ true
+    some : all_below c.count (λ n. some_lower c n g) ≡ true
 
   parts : Parts
   parts =
-      let some = all_below (length c) (λ n. some_lower c n g) in
-      let a = both (rows_ok (length c) c g) (all_below 128 (alone_at g) && some) ok in
+      let some = all_below c.count (λ n. some_lower c n g) in
+      let a = both (rows_ok c.count c g) (all_below 128 (alone_at g) && some) ok in
       let b = both (all_below 128 (alone_at g)) some a.1 in
       record { rows = a.0; alone = b.0; some = b.1 }
 
-  row_of : (n : ℕ) (r : Production R) → IsProduction g n r → row_ok (length c) c n r ≡ true
-  row_of n r w = subst (λ (k : ℕ). row_ok (length c) c k r ≡ true) w.part_is (row_at (length c) c g w.place r parts.rows w.row_is)
+  row_of : (n : ℕ) (r : Production R) → IsProduction g n r → row_ok c.count c n r ≡ true
+  row_of n r w = subst (λ (k : ℕ). row_ok c.count c k r ≡ true) w.part_is (row_at c.count c g w.place r parts.rows w.row_is)
 
   record RowFacts (n : ℕ) (r : Production R) : Type 0 where
-    known : all_known (length c) (r.body) ≡ true
+    known : all_known c.count (r.body) ≡ true
     null : implies (all_nullable c (r.body)) (claim_of c n).nullable ≡ true
     light : nat_lt (lead_weight c (r.body)) (claim_of c n).weight ≡ true
     last : not (has r.stops 0) ≡ true
@@ -109,7 +109,7 @@ module _ {R : Type 0} (g : Grammar R) (c : List Claim) (ok : productions_ok c g 
       let e = not (has r.stops 0) in
       let k = all_below 128 (kind_ok c n r) in
       let i = implies (all_nullable c body) (claim_of c n).nullable in
-      let a = both (all_known (length c) body) (i && (l && (e && k))) (row_of n r w) in
+      let a = both (all_known c.count body) (i && (l && (e && k))) (row_of n r w) in
       let b = both i (l && (e && k)) a.1 in
       let d = both l (e && k) b.1 in
       let f = both e k d.1 in
@@ -145,6 +145,6 @@ module _ {R : Type 0} (g : Grammar R) (c : List Claim) (ok : productions_ok c g 
     follows = λ n r t lt w. (kind_facts n r t lt w).follow;
     picks = λ n r t lt w k. alone_picked g n t w.place r (below_at 128 (alone_at g) t parts.alone lt) w.row_is w.part_is k;
     grows = λ n lt.
-        let m = some_at c n g (below_at (length c) (λ k. some_lower c k g) n parts.some lt) in
+        let m = some_at c n g (below_at c.count (λ k. some_lower c k g) n parts.some lt) in
         (m.row, record { place = m.place; part_is = m.part_is; row_is = m.row_is }, m.free, m.low);
   }

@@ -8,7 +8,7 @@ use Rattle.gb_grammar.specs.declared.table.Symbol.{Symbol}
 use Rattle.gb_grammar.specs.declared.table.Symbol.TheVariants.{Token, Part}
 use Rattle.gb_grammar.specs.declared.table.Step.{Step}
 use Rattle.gb_grammar.specs.Grammar.{Grammar, Production, has, IsProduction, Allowed, step, Derives, done, token, choose}
-use Rattle.gb_grammar.specs.Check.{Claim, claim_of, symbol_nullable, symbol_first, symbol_weight, lead_weight, all_nullable, all_first, all_known, symbol_follow_ok, follow_ok, pick_of}
+use Rattle.gb_grammar.specs.Check.{Claims, claim_of, symbol_nullable, symbol_first, symbol_weight, lead_weight, all_nullable, all_first, all_known, symbol_follow_ok, follow_ok, pick_of}
 use Rattle.gb_grammar.specs.Stack.{Followed, Good, Expands, Stuck, Reads}
 use Rattle.gb_grammar.proofs.Tests.{both, or_left, or_right, and_both, implied, or_and}
 use Rattle.gb_grammar.proofs.Sound.{Sound}
@@ -46,7 +46,7 @@ module _ {R : Type 0} where
   picked_at [] n t r e = cc
   picked_at (x ∷ rows) n t r e = picked_first (nat_eq x.part n) (has x.starts t) x r rows n t (eqb-true x.part n) (λ h. h) e (picked_at rows n t r)
 
-module _ (c : List Claim) where
+module _ (c : Claims) where
   first_append : (a b : List Symbol) (t : ℕ) → all_first c (a ++ b) t ≡ true → (all_first c a t ≡ true) ⊎ ((all_nullable c a ≡ true) × (all_first c b t ≡ true))
   first_append [] b t h = inr (refl, h)
   first_append (s ∷ a) b t h =
@@ -105,7 +105,7 @@ module _ {R : Type 0} (g : Grammar R) where
   pub ends_of : {at : ℕ} {w : List ℕ} {ps : List (Step R)} → Derives g [] at w ps → Ends w ps
   ends_of done = record { nothing = refl; no_steps = refl }
 
-  module _ (c : List Claim) (sound : Sound g c) where
+  module _ (c : Claims) (sound : Sound g c) where
     -- The symbols start with the kind, or are empty before it.
     abbrev Starts : List Symbol → List Symbol → ℕ → List ℕ → Type 0
     Starts b ss t w = (all_first c b t ≡ true) ⊎ ((all_nullable c b ≡ true) × (at : ℕ) × (ps : List (Step R)) × Derives g ss at (t ∷ w) ps)
@@ -140,15 +140,15 @@ module _ {R : Type 0} (g : Grammar R) where
         let ih = starts_at d (r.body ++ b) ss t w lt (ap (λ (l : List Symbol). r.body ++ l) tail ∙ sym (append_assoc (r.body) b ss)) f in
         subst (λ (x : Symbol). Starts (x ∷ b) ss t w) q (open_row n r b ss t w lt i ih)
 
-    good_body : (n : ℕ) (b ss : List Symbol) → all_known (length c) b ≡ true → ((t : ℕ) → t < 128 → follow_ok c n b t ≡ true) → Followed g c n ss → Good g c ss → Good g c (b ++ ss)
+    good_body : (n : ℕ) (b ss : List Symbol) → all_known c.count b ≡ true → ((t : ℕ) → t < 128 → follow_ok c n b t ≡ true) → Followed g c n ss → Good g c ss → Good g c (b ++ ss)
     good_body n [] ss k f fo h = h
     good_body n (Token x ∷ b) ss k f fo h =
-        let p = both (nat_lt 0 x && nat_lt x 128) (all_known (length c) b) k in
+        let p = both (nat_lt 0 x && nat_lt x 128) (all_known c.count b) k in
         let q = both (nat_lt 0 x) (nat_lt x 128) p.0 in
         let pos : 0 < x = ltb-true 0 x q.0 in
         ((λ (e : x ≡ 0). absurd (omega arith)), ltb-true x 128 q.1, good_body n b ss p.1 (λ t lt. (both true (follow_ok c n b t) (f t lt)).1) fo h)
     good_body n (Part m ∷ b) ss k f fo h =
-        let p = both (nat_lt m (length c)) (all_known (length c) b) k in
+        let p = both (nat_lt m c.count) (all_known c.count b) k in
         let rest = good_body n b ss p.1 (λ t lt. (both (symbol_follow_ok c n (Part m) b t) (follow_ok c n b t) (f t lt)).1) fo h in
         let here : Followed g c m (b ++ ss) = (λ t at w ps lt d.
         let fol = has (claim_of c n).follow t in
@@ -156,7 +156,7 @@ module _ {R : Type 0} (g : Grammar R) where
         ⊎_elim (λ (a : all_first c b t ≡ true). want (or_left (all_first c b t) (all_nullable c b && fol) a))
         (λ (a : (all_nullable c b ≡ true) × (at : ℕ) × (qs : List (Step R)) × Derives g ss at (t ∷ w) qs). want (or_right (all_first c b t) (all_nullable c b && fol) (and_both (all_nullable c b) fol a.0 (fo t a.1 w a.2 lt a.3))))
         (starts_at d b ss t w lt refl refl)) in
-        (ltb-true m (length c) p.0, here, rest)
+        (ltb-true m c.count p.0, here, rest)
 
     pub good_open : (n : ℕ) (ss : List Symbol) (r : Production R) → IsProduction g n r → Good g c (Part n ∷ ss) → Good g c (r.body ++ ss)
     good_open n ss r i h = good_body n (r.body) ss (sound.known n r i) (λ t lt. sound.follows n r t lt i) h.1 h.2

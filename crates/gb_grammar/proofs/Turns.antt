@@ -7,7 +7,7 @@ use Rattle.gb_grammar.specs.declared.table.Symbol.{Symbol}
 use Rattle.gb_grammar.specs.declared.table.Symbol.TheVariants.{Token, Part}
 use Rattle.gb_grammar.specs.declared.table.Step.{Step}
 use Rattle.gb_grammar.specs.Grammar.{Grammar, Production, step}
-use Rattle.gb_grammar.specs.Check.{Claim, lead_weight, pick_of}
+use Rattle.gb_grammar.specs.Check.{Claims, lead_weight, pick_of}
 use Rattle.gb_grammar.specs.Stack.{Good, Expands, Stuck, Moved, Advanced}
 use Rattle.gb_grammar.proofs.Sound.{Sound}
 use Rattle.gb_grammar.proofs.Steps.{expands_open, stuck_open, stuck_match, stuck_empty, stuck_back, good_open, lead_open, picked_at}
@@ -16,7 +16,7 @@ use Rattle.gb_grammar.proofs.Steps.{expands_open, stuck_open, stuck_match, stuck
 popped : (old new : List Symbol) (top : Symbol) → old ≡ new ++ top ∷ [] → reverse old ≡ top ∷ reverse new
 popped old new top e = ap reverse e ∙ reverse-append new (top ∷ [])
 
-module _ {R : Type 0} (g : Grammar R) (c : List Claim) (s : Sound g c) (t at : ℕ) (from : List Symbol) (old : List (Step R)) where
+module _ {R : Type 0} (g : Grammar R) (c : Claims) (s : Sound g c) (t at : ℕ) (from : List Symbol) (old : List (Step R)) where
   advanced_of : (b : Bool) (to : List Symbol) (new : List (Step R)) → (b ≡ true → Moved g c t at from old (Token t ∷ to) new) → (b ≡ false → Stuck g t at from) → Advanced b g c t at from old to new
   advanced_of true to new f h = f refl
   advanced_of false to new f h = h refl

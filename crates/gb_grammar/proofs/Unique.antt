@@ -10,7 +10,7 @@ use Rattle.gb_grammar.specs.declared.table.Symbol.{Symbol}
 use Rattle.gb_grammar.specs.declared.table.Symbol.TheVariants.{Token, Part}
 use Rattle.gb_grammar.specs.declared.table.Step.{Step}
 use Rattle.gb_grammar.specs.Grammar.{Grammar, Production, step, Derives, done, token, choose}
-use Rattle.gb_grammar.specs.Check.{Claim, is_start}
+use Rattle.gb_grammar.specs.Check.{Claims, is_start}
 use Rattle.gb_grammar.specs.Stack.{Good}
 use Rattle.gb_grammar.specs.Reading.{Spells, Begins, IsKind, FirstFault}
 use Rattle.gb_grammar.proofs.Sound.{Sound}
@@ -26,7 +26,7 @@ small_with_end : (kinds : List ℕ) → All IsKind kinds → AllSmall (kinds ++ 
 small_with_end [] h = (omega arith, tt)
 small_with_end (k ∷ kinds) h = ((h 0 0 (omega arith)).1, small_with_end kinds (λ i d lt. h (suc i) d (omega arith)))
 
-module _ {R : Type 0} (g : Grammar R) (c : List Claim) (s : Sound g c) where
+module _ {R : Type 0} (g : Grammar R) (c : Claims) (s : Sound g c) where
   -- a word of a stack that ends in the end of the text is not empty
   no_word : {st : List Symbol} {at : ℕ} {v : List ℕ} {ps : List (Step R)} → Derives g st at v ps → (ss : List Symbol) → st ≡ ss ++ Token 0 ∷ [] → v ≡ [] → ⊥
   no_word done [] e f = absurd cc

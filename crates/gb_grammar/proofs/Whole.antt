@@ -9,7 +9,7 @@ use Rattle.gb_grammar.specs.declared.table.Symbol.{Symbol}
 use Rattle.gb_grammar.specs.declared.table.Symbol.TheVariants.{Token, Part}
 use Rattle.gb_grammar.specs.declared.table.Step.{Step}
 use Rattle.gb_grammar.specs.Grammar.{Grammar, Production, has, IsProduction, Allowed, step, Derives, done, token, choose}
-use Rattle.gb_grammar.specs.Check.{Claim, claim_of, is_start, all_known}
+use Rattle.gb_grammar.specs.Check.{Claims, claim_of, is_start, all_known}
 use Rattle.gb_grammar.specs.Stack.{Followed, Good, Expands, Stuck, Reads, Moved, Advanced}
 use Rattle.gb_grammar.specs.Reading.{Spells, Begins, IsKind, FirstFault}
 use Rattle.gb_grammar.proofs.Tests.{both, and_both}
@@ -27,14 +27,14 @@ allowed_front r v [] e a = tt
 allowed_front r [] (t ∷ front) e a = absurd cc
 allowed_front r (x ∷ v) (t ∷ front) e a = let q : x ≡ t = cc in subst (λ (y : ℕ). has r.stops y ≡ false) q a
 
-module _ {R : Type 0} (g : Grammar R) (c : List Claim) (s : Sound g c) where
+module _ {R : Type 0} (g : Grammar R) (c : Claims) (s : Sound g c) where
   -- what is derived before the end
   pub record Before (ss : List Symbol) (at : ℕ) (v : List ℕ) (ps : List (Step R)) : Type 0 where
     pub front : List ℕ
     pub whole : v ≡ front ++ 0 ∷ []
     pub tree : Derives g ss at front ps
 
-  pub before_end : {st : List Symbol} {at : ℕ} {v : List ℕ} {ps : List (Step R)} → Derives g st at v ps → (ss : List Symbol) → all_known (length c) ss ≡ true → st ≡ ss ++ Token 0 ∷ [] → Before ss at v ps
+  pub before_end : {st : List Symbol} {at : ℕ} {v : List ℕ} {ps : List (Step R)} → Derives g st at v ps → (ss : List Symbol) → all_known c.count ss ≡ true → st ≡ ss ++ Token 0 ∷ [] → Before ss at v ps
   before_end done [] k e = absurd cc
   before_end done (x ∷ ss) k e = absurd cc
   before_end (token {k = x} {ss = s0} {at = at} {w = w} {ps = ps} d) [] k e =
@@ -45,15 +45,15 @@ module _ {R : Type 0} (g : Grammar R) (c : List Claim) (s : Sound g c) where
   before_end (token {k = x} {ss = s0} {at = at} {w = w} {ps = ps} d) (y ∷ ss) k e =
       let q : Token x ≡ y = cc in
       let tail : s0 ≡ ss ++ Token 0 ∷ [] = cc in
-      let k' : all_known (length c) (Token x ∷ ss) ≡ true = subst (λ (z : Symbol). all_known (length c) (z ∷ ss) ≡ true) (sym q) k in
-      let b = before_end d ss (both (nat_lt 0 x && nat_lt x 128) (all_known (length c) ss) k').1 tail in
+      let k' : all_known c.count (Token x ∷ ss) ≡ true = subst (λ (z : Symbol). all_known c.count (z ∷ ss) ≡ true) (sym q) k in
+      let b = before_end d ss (both (nat_lt 0 x && nat_lt x 128) (all_known c.count ss) k').1 tail in
       record { front = x ∷ b.front; whole = ap (λ (l : List ℕ). x ∷ l) b.whole; tree = subst (λ (z : Symbol). Derives g (z ∷ ss) at (x ∷ b.front) ps) q (token b.tree) }
   before_end (choose {n = n} {ss = s0} r i al d) [] k e = absurd cc
   before_end (choose {n = n} {ss = s0} {at = at} {w = w} {ps = ps} r i al d) (y ∷ ss) k e =
       let q : Part n ≡ y = cc in
       let tail : s0 ≡ ss ++ Token 0 ∷ [] = cc in
-      let k' : all_known (length c) (Part n ∷ ss) ≡ true = subst (λ (z : Symbol). all_known (length c) (z ∷ ss) ≡ true) (sym q) k in
-      let b = before_end d (r.body ++ ss) (known_append (length c) (r.body) ss (s.known n r i) (both (nat_lt n (length c)) (all_known (length c) ss) k').1) (ap (λ (l : List Symbol). r.body ++ l) tail ∙ sym (append_assoc (r.body) ss (Token 0 ∷ []))) in
+      let k' : all_known c.count (Part n ∷ ss) ≡ true = subst (λ (z : Symbol). all_known c.count (z ∷ ss) ≡ true) (sym q) k in
+      let b = before_end d (r.body ++ ss) (known_append c.count (r.body) ss (s.known n r i) (both (nat_lt n c.count) (all_known c.count ss) k').1) (ap (λ (l : List Symbol). r.body ++ l) tail ∙ sym (append_assoc (r.body) ss (Token 0 ∷ []))) in
       record { front = b.front; whole = b.whole; tree = subst (λ (z : Symbol). Derives g (z ∷ ss) at b.front (step r at ∷ ps)) q (choose r i (allowed_front r w b.front b.whole al) b.tree) }
 
 same_front : (a b : List ℕ) → a ++ 0 ∷ [] ≡ b ++ 0 ∷ [] → a ≡ b
@@ -81,18 +81,18 @@ later (x ∷ pre) w (y ∷ v) h e =
     let l = later pre w v (λ k d lt. h (suc k) d (omega arith)) t in
     record { more = l.more; is = ap (λ (r : List ℕ). y ∷ r) l.is ∙ ap (λ (n : ℕ). n ∷ (pre ++ l.more)) (sym q) }
 
-module _ {R : Type 0} (g : Grammar R) (c : List Claim) (s : Sound g c) (n : ℕ) (ready : is_start c n ≡ true) where
+module _ {R : Type 0} (g : Grammar R) (c : Claims) (s : Sound g c) (n : ℕ) (ready : is_start c n ≡ true) where
   -- the stack at the start
   abbrev pub start : List Symbol
   start = Part n ∷ Token 0 ∷ []
 
   pub good_start : Good g c start
   good_start =
-      let p = both (nat_lt n (length c)) (has (claim_of c n).follow 0) ready in
-      (ltb-true n (length c) p.0, (λ t at w ps lt d. let m = matches g d in let z : t ≡ 0 = cc in subst (λ (x : ℕ). has (claim_of c n).follow x ≡ true) (sym z) p.1), ((λ e. refl), omega arith, tt))
+      let p = both (nat_lt n c.count) (has (claim_of c n).follow 0) ready in
+      (ltb-true n c.count p.0, (λ t at w ps lt d. let m = matches g d in let z : t ≡ 0 = cc in subst (λ (x : ℕ). has (claim_of c n).follow x ≡ true) (sym z) p.1), ((λ e. refl), omega arith, tt))
 
-  known_start : all_known (length c) (Part n ∷ []) ≡ true
-  known_start = and_both (nat_lt n (length c)) true (both (nat_lt n (length c)) (has (claim_of c n).follow 0) ready).0 refl
+  known_start : all_known c.count (Part n ∷ []) ≡ true
+  known_start = and_both (nat_lt n c.count) true (both (nat_lt n c.count) (has (claim_of c n).follow 0) ready).0 refl
 
   pub with_end : (kinds : List ℕ) (steps : List (Step R)) → Spells g n kinds steps → Derives g start 0 (kinds ++ 0 ∷ []) steps
   with_end kinds steps d = derives_end g s.last d
@@ -154,7 +154,7 @@ module _ {R : Type 0} (g : Grammar R) (c : List Claim) (s : Sound g c) (n : ℕ)
             m.grown ∙ sym (f.1 ∙ ap (λ (l : List (Step R)). (qs ++ m.steps) ++ l) en.no_steps ∙ append-nil (qs ++ m.steps));
       }
 
-module _ {R : Type 0} (g : Grammar R) (c : List Claim) (t at : ℕ) (from : List Symbol) (old : List (Step R)) (to : List Symbol) (new : List (Step R)) where
+module _ {R : Type 0} (g : Grammar R) (c : Claims) (t at : ℕ) (from : List Symbol) (old : List (Step R)) (to : List Symbol) (new : List (Step R)) where
   pub stuck_from : (b : Bool) → b ≡ false → Advanced b g c t at from old to new → Stuck g t at from
   stuck_from true e a = absurd cc
   stuck_from false e a = a
@@ -164,11 +164,11 @@ module _ {R : Type 0} (g : Grammar R) (c : List Claim) (t at : ℕ) (from : List
   moved_from false e a = absurd cc
 
 -- what the loop over the kinds keeps
-pub record Kept {R : Type 0} (g : Grammar R) (c : List Claim) (n at : ℕ) (kinds : List ℕ) (steps : List (Step R)) (cur : List Symbol) : Type 0 where
+pub record Kept {R : Type 0} (g : Grammar R) (c : Claims) (n at : ℕ) (kinds : List ℕ) (steps : List (Step R)) (cur : List Symbol) : Type 0 where
   pub came : Reads g (Part n ∷ Token 0 ∷ []) at (take at kinds) steps cur
   pub good : Good g c cur
 
-module _ {R : Type 0} (g : Grammar R) (c : List Claim) (s : Sound g c) (n : ℕ) where
+module _ {R : Type 0} (g : Grammar R) (c : Claims) (s : Sound g c) (n : ℕ) where
   pub kept_more : (kinds : List ℕ) (old new : List (Step R)) (at : ℕ) (from to : List Symbol) → at < length kinds → Kept g c n at kinds old from → Moved g c (get_or kinds at 0) at from old (Token (get_or kinds at 0) ∷ to) new → Kept g c n (at + 1) kinds new to
   kept_more kinds old new at from to lt r m =
       let a = reads_more g c s (Part n ∷ Token 0 ∷ []) at (take at kinds) old from (get_or kinds at 0) m.steps to r.came m.expands in

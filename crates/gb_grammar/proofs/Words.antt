@@ -7,12 +7,12 @@ use Rattle.gb_grammar.specs.declared.table.Symbol.{Symbol}
 use Rattle.gb_grammar.specs.declared.table.Symbol.TheVariants.{Token, Part}
 use Rattle.gb_grammar.specs.declared.table.Step.{Step}
 use Rattle.gb_grammar.specs.Grammar.{Grammar, Production, has, Allowed, step, Derives, done, token, choose}
-use Rattle.gb_grammar.specs.Check.{Claim, claim_of, all_lower, all_known, symbol_known}
+use Rattle.gb_grammar.specs.Check.{Claims, claim_of, all_lower, all_known, symbol_known}
 use Rattle.gb_grammar.specs.Stack.{Good}
 use Rattle.gb_grammar.proofs.Tests.{both}
 use Rattle.gb_grammar.proofs.Sound.{Sound}
 
-module _ {R : Type 0} (g : Grammar R) (c : List Claim) (sound : Sound g c) where
+module _ {R : Type 0} (g : Grammar R) (c : Claims) (sound : Sound g c) where
   -- some word of these symbols, wherever it begins
   abbrev pub HasWord : List Symbol → Type 0
   HasWord ss = (at : ℕ) → (w : List ℕ) × (ps : List (Step R)) × Derives g ss at w ps
@@ -22,18 +22,18 @@ module _ {R : Type 0} (g : Grammar R) (c : List Claim) (sound : Sound g c) where
   free_row r (t ∷ w) h = rw h (ap (λ (x : ℕ). nat_eq (x % 2) 1) (zero-div (2 ^ t)))
 
   -- a word of a body, put before a word
-  word_of_all : (h : ℕ) → ((m : ℕ) → m < length c → (claim_of c m).height < h → (ss : List Symbol) → HasWord ss → HasWord (Part m ∷ ss)) → (b : List Symbol) → all_known (length c) b ≡ true → all_lower c h b ≡ true → (ss : List Symbol) → HasWord ss → HasWord (b ++ ss)
+  word_of_all : (h : ℕ) → ((m : ℕ) → m < c.count → (claim_of c m).height < h → (ss : List Symbol) → HasWord ss → HasWord (Part m ∷ ss)) → (b : List Symbol) → all_known c.count b ≡ true → all_lower c h b ≡ true → (ss : List Symbol) → HasWord ss → HasWord (b ++ ss)
   word_of_all h ih [] k l ss x = x
   word_of_all h ih (Token y ∷ b) k l ss x = λ at.
-      let p = both (symbol_known (length c) (Token y)) (all_known (length c) b) k in
+      let p = both (symbol_known c.count (Token y)) (all_known c.count b) k in
       let a = word_of_all h ih b p.1 l ss x (at + 1) in
       (y ∷ a.0, a.1, token a.2)
   word_of_all h ih (Part m ∷ b) k l ss x =
-      let p = both (nat_lt m (length c)) (all_known (length c) b) k in
+      let p = both (nat_lt m c.count) (all_known c.count b) k in
       let q = both (nat_lt (claim_of c m).height h) (all_lower c h b) l in
-      ih m (ltb-true m (length c) p.0) (ltb-true (claim_of c m).height h q.0) (b ++ ss) (word_of_all h ih b p.1 q.1 ss x)
+      ih m (ltb-true m c.count p.0) (ltb-true (claim_of c m).height h q.0) (b ++ ss) (word_of_all h ih b p.1 q.1 ss x)
 
-  word_of_part : (h m : ℕ) → m < length c → (claim_of c m).height < h → (ss : List Symbol) → HasWord ss → HasWord (Part m ∷ ss)
+  word_of_part : (h m : ℕ) → m < c.count → (claim_of c m).height < h → (ss : List Symbol) → HasWord ss → HasWord (Part m ∷ ss)
   word_of_part zero m lt l ss x = absurd (omega arith)
   word_of_part (suc h) m lt l ss x = λ at.
       let gr = sound.grows m lt in

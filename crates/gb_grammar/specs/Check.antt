@@ -14,8 +14,13 @@ pub record Claim : Type 0 where
   pub weight : ℕ
   pub height : ℕ
 
-abbrev pub claim_of : List Claim → ℕ → Claim
-claim_of c n = slice_index_or c n (record { nullable = false; first = 0; follow = 0; weight = 0; height = 0 })
+-- What is claimed of so many parts.
+pub record Claims : Type 0 where
+  pub count : ℕ
+  pub at : ℕ → Claim
+
+abbrev pub claim_of : Claims → ℕ → Claim
+claim_of c n = c.at n
 
 abbrev pub implies : Bool → Bool → Bool
 implies true b = b
@@ -26,38 +31,38 @@ all_below zero f = true
 all_below (suc k) f = f k && all_below k f
 
 -- A text of the symbol, or of all the symbols, may be empty.
-abbrev pub symbol_nullable : List Claim → Symbol → Bool
+abbrev pub symbol_nullable : Claims → Symbol → Bool
 symbol_nullable c (Token k) = false
 symbol_nullable c (Part n) = (claim_of c n).nullable
 
-abbrev pub all_nullable : List Claim → List Symbol → Bool
+abbrev pub all_nullable : Claims → List Symbol → Bool
 all_nullable c [] = true
 all_nullable c (s ∷ ss) = symbol_nullable c s && all_nullable c ss
 
 -- A text of the symbol, or of the symbols together, may start with this kind of token.
-abbrev pub symbol_first : List Claim → Symbol → ℕ → Bool
+abbrev pub symbol_first : Claims → Symbol → ℕ → Bool
 symbol_first c (Token k) t = nat_eq k t
 symbol_first c (Part n) t = has (claim_of c n).first t
 
-abbrev pub all_first : List Claim → List Symbol → ℕ → Bool
+abbrev pub all_first : Claims → List Symbol → ℕ → Bool
 all_first c [] t = false
 all_first c (s ∷ ss) t = symbol_first c s t || (symbol_nullable c s && all_first c ss t)
 
-abbrev pub symbol_weight : List Claim → Symbol → ℕ
+abbrev pub symbol_weight : Claims → Symbol → ℕ
 symbol_weight c (Token k) = 1
 symbol_weight c (Part n) = (claim_of c n).weight
 
 -- the weight up to and with the first symbol that is not nullable
-abbrev pub lead_weight : List Claim → List Symbol → ℕ
+abbrev pub lead_weight : Claims → List Symbol → ℕ
 lead_weight c [] = 0
 lead_weight c (s ∷ ss) = symbol_weight c s + (if symbol_nullable c s then lead_weight c ss else 0)
 
 -- The parts among the symbols are below this height.
-abbrev pub symbol_lower : List Claim → ℕ → Symbol → Bool
+abbrev pub symbol_lower : Claims → ℕ → Symbol → Bool
 symbol_lower c h (Token k) = true
 symbol_lower c h (Part n) = nat_lt (claim_of c n).height h
 
-abbrev pub all_lower : List Claim → ℕ → List Symbol → Bool
+abbrev pub all_lower : Claims → ℕ → List Symbol → Bool
 all_lower c h [] = true
 all_lower c h (s ∷ ss) = symbol_lower c h s && all_lower c h ss
 
@@ -71,11 +76,11 @@ all_known parts [] = true
 all_known parts (s ∷ ss) = symbol_known parts s && all_known parts ss
 
 -- Where part `n` is these symbols, each part among them may be followed by the kind if it comes next.
-abbrev pub symbol_follow_ok : List Claim → ℕ → Symbol → List Symbol → ℕ → Bool
+abbrev pub symbol_follow_ok : Claims → ℕ → Symbol → List Symbol → ℕ → Bool
 symbol_follow_ok c n (Token k) ss t = true
 symbol_follow_ok c n (Part m) ss t = implies (all_first c ss t || (all_nullable c ss && has (claim_of c n).follow t)) (has (claim_of c m).follow t)
 
-abbrev pub follow_ok : List Claim → ℕ → List Symbol → ℕ → Bool
+abbrev pub follow_ok : Claims → ℕ → List Symbol → ℕ → Bool
 follow_ok c n [] t = true
 follow_ok c n (s ∷ ss) t = symbol_follow_ok c n s ss t && follow_ok c n ss t
 
@@ -89,14 +94,14 @@ place_ok places rows n = nat_le (place_of places n) (place_of places (n + 1)) &&
 
 module _ {R : Type 0} where
   -- What is tested of a row at a kind of token.
-  abbrev pub kind_ok : List Claim → ℕ → Production R → ℕ → Bool
+  abbrev pub kind_ok : Claims → ℕ → Production R → ℕ → Bool
   kind_ok c n r t =
       implies (all_first c (r.body) t) (has (claim_of c n).first t && has r.starts t)
       && (implies (all_nullable c (r.body) && (has (claim_of c n).follow t && not (has r.stops t))) (has r.starts t)
       && (implies (has r.starts t) (not (has r.stops t))
       && follow_ok c n (r.body) t))
 
-  abbrev pub row_ok : ℕ → List Claim → ℕ → Production R → Bool
+  abbrev pub row_ok : ℕ → Claims → ℕ → Production R → Bool
   row_ok parts c n r =
       all_known parts (r.body)
       && (implies (all_nullable c (r.body)) (claim_of c n).nullable
@@ -104,7 +109,7 @@ module _ {R : Type 0} where
       && (not (has r.stops 0)
       && all_below 128 (kind_ok c n r))))
 
-  abbrev pub rows_ok : ℕ → List Claim → Grammar R → Bool
+  abbrev pub rows_ok : ℕ → Claims → Grammar R → Bool
   rows_ok parts c [] = true
   rows_ok parts c (r ∷ rs) = row_ok parts c r.part r && rows_ok parts c rs
 
@@ -119,7 +124,7 @@ module _ {R : Type 0} where
   alone_at (r ∷ rs) t = implies (has r.starts t) (none_at r.part rs t) && alone_at rs t
 
   -- Some row of the part leads to a text of it.
-  abbrev pub some_lower : List Claim → ℕ → Grammar R → Bool
+  abbrev pub some_lower : Claims → ℕ → Grammar R → Bool
   some_lower c n [] = false
   some_lower c n (r ∷ rs) = (nat_eq r.part n && (nat_eq r.stops 0 && all_lower c (claim_of c n).height (r.body))) || some_lower c n rs
 
@@ -129,41 +134,42 @@ module _ {R : Type 0} where
   pick_of (r ∷ rs) n t = if nat_eq r.part n && has r.starts t then Some r else pick_of rs n t
 
   -- The claims are true of all productions, and one token decides each choice.
-  abbrev pub productions_ok : List Claim → Grammar R → Bool
+  abbrev pub productions_ok : Claims → Grammar R → Bool
   productions_ok c g =
-      rows_ok (length c) c g
+      rows_ok c.count c g
       && (all_below 128 (alone_at g)
-      && all_below (length c) (λ n. some_lower c n g))
+      && all_below c.count (λ n. some_lower c n g))
 
   -- Each row, the first of them at place `i`, stands between the places of its part and of the next one.
   abbrev pub rows_placed : List ℕ → ℕ → List (Row R) → Bool
   rows_placed places i [] = true
   rows_placed places i (r ∷ rs) = nat_le (place_of places r.part) i && (nat_lt i (place_of places (r.part + 1)) && rows_placed places (i + 1) rs)
 
-  -- Each part's rows stand together, from its place up to that of the next part.
+  -- The rows of each of the first parts stand together, from its place up to that of the next part.
   abbrev pub places_ok : List ℕ → ℕ → List (Row R) → Bool
-  places_ok places parts g = nat_eq (length places) (parts + 1) && (all_below parts (place_ok places (length g)) && rows_placed places 0 g)
+  places_ok places parts g = nat_le (parts + 1) (length places) && (all_below parts (place_ok places (length g)) && rows_placed places 0 g)
 
-  -- The claims are true, one token decides each choice, and the places are those of the rows.
-  abbrev pub grammar_ok : List Claim → List ℕ → List (Row R) → List Symbol → Bool
-  grammar_ok c places rows symbols = productions_ok c (grammar_of rows symbols) && places_ok places (length c) rows
+  -- Up to the stage the claims are true, one token decides each choice, and the places are those of the rows. The rows
+  -- up to the stage are of the parts that are claimed of, which come first.
+  abbrev pub grammar_ok : ℕ → Claims → List ℕ → List (Row R) → List Symbol → Bool
+  grammar_ok stage c places rows symbols = productions_ok c (grammar_of stage rows symbols) && places_ok places c.count rows
 
   -- the row that is chosen at a kind of token
-  abbrev pub pick_row : List (Row R) → ℕ → ℕ → Option (Row R)
-  pick_row [] n t = None
-  pick_row (r ∷ rs) n t = if nat_eq r.part n && has r.starts t then Some r else pick_row rs n t
+  abbrev pub pick_row : ℕ → List (Row R) → ℕ → ℕ → Option (Row R)
+  pick_row stage [] n t = None
+  pick_row stage (r ∷ rs) n t = if nat_le r.stage stage && (nat_eq r.part n && has r.starts t) then Some r else pick_row stage rs n t
 
 -- where the rows of the part are looked for
 abbrev pub rows_of : {R : Type 0} → List (Row R) → List ℕ → ℕ → List (Row R)
 rows_of g places n = take (place_of places (n + 1) - place_of places n) (drop (place_of places n) g)
 
 -- The rows of the part are all found at its places.
-pub record IsPlaced {R : Type 0} (g : List (Row R)) (places : List ℕ) (n : ℕ) : Type 0 where
+pub record IsPlaced {R : Type 0} (stage : ℕ) (g : List (Row R)) (places : List ℕ) (n : ℕ) : Type 0 where
   pub known : n + 1 < length places
   pub ordered : place_of places n ≤ place_of places (n + 1)
   pub within : place_of places (n + 1) ≤ length g
-  pub all : (t : ℕ) → pick_row (rows_of g places n) n t ≡ pick_row g n t
+  pub all : (t : ℕ) → pick_row stage (rows_of g places n) n t ≡ pick_row stage g n t
 
 -- The part is one that a text may be, with the end after it.
-abbrev pub is_start : List Claim → ℕ → Bool
-is_start c n = nat_lt n (length c) && has (claim_of c n).follow 0
+abbrev pub is_start : Claims → ℕ → Bool
+is_start c n = nat_lt n c.count && has (claim_of c n).follow 0

@@ -1,5 +1,5 @@
 -- What a grammar relates.
-use Rattle.std.specs.Prelude.{◌≡◌, ℕ, ◌+◌, ◌/◌, ◌%◌, ◌^◌, List, [], ◌∷◌, ◌++◌, Bool, true, false, Some, nat_eq, if◌then◌else◌, slice_get, drop}
+use Rattle.std.specs.Prelude.{◌≡◌, ℕ, ◌+◌, ◌/◌, ◌%◌, ◌^◌, List, [], ◌∷◌, ◌++◌, Bool, true, false, Some, nat_eq, nat_le, if◌then◌else◌, slice_get, drop}
 use Rattle.gb_grammar.specs.declared.table.Symbol.{Symbol}
 use Rattle.gb_grammar.specs.declared.table.Symbol.TheVariants.{Token, Part}
 use Rattle.gb_grammar.specs.declared.table.Row.{Row}
@@ -31,10 +31,10 @@ module _ {R : Type 0} where
   abbrev pub production_of : Row R → List Symbol → Production R
   production_of r symbols = record { part = r.part; rule = r.rule; starts = r.starts; stops = r.stops; body = body_of (drop r.body symbols) }
 
-  -- the grammar of a table
-  abbrev pub grammar_of : List (Row R) → List Symbol → Grammar R
-  grammar_of [] symbols = []
-  grammar_of (r ∷ rows) symbols = production_of r symbols ∷ grammar_of rows symbols
+  -- the grammar of a table up to a stage
+  abbrev pub grammar_of : ℕ → List (Row R) → List Symbol → Grammar R
+  grammar_of stage [] symbols = []
+  grammar_of stage (r ∷ rows) symbols = if nat_le r.stage stage then production_of r symbols ∷ grammar_of stage rows symbols else grammar_of stage rows symbols
 
   -- A production of the grammar rewrites this part.
   pub record IsProduction (g : Grammar R) (n : ℕ) (r : Production R) : Type 0 where

@@ -2,4 +2,3 @@ pub mod Grammar
 pub mod Check
 pub mod Stack
 pub mod Reading
-pub mod Values

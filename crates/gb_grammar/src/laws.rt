@@ -4,22 +4,23 @@ ghost use Rattle.std.specs.Prelude.{◌≡◌, ℕ, List, true};
 ghost use Rattle.std.specs.List.{All};
 ghost use Rattle.gb_grammar.specs.declared.table.Step.{Step};
 ghost use Rattle.gb_grammar.specs.Grammar.{Grammar, grammar_of};
-ghost use Rattle.gb_grammar.specs.Check.{Claim, grammar_ok, is_start};
+ghost use Rattle.gb_grammar.specs.Check.{Claims, grammar_ok, is_start};
 ghost use Rattle.gb_grammar.specs.Reading.{Spells, IsKind, FirstFault};
 
 use crate::table::{Row, Symbol};
 
 /// A text has at most one derivation.
 pub fn derivations_are_unique<R: Copy>(
+    _stage: u8,
     _rows: &[Row<R>],
     _symbols: &[Symbol],
     _places: &[u16],
     _start: u8,
 )
-    ghost claims: { List Claim }
-    requires checked { grammar_ok claims _places.now _rows.now _symbols.now ≡ true }
+    ghost claims: { Claims }
+    requires checked { grammar_ok _stage claims _places.now _rows.now _symbols.now ≡ true }
     requires start { is_start claims _start ≡ true }
-    ensures { (kinds : List ℕ) (a b : List (Step R)) → All IsKind kinds → Spells (grammar_of _rows.now _symbols.now) _start kinds a → Spells (grammar_of _rows.now _symbols.now) _start kinds b → a ≡ b }
+    ensures { (kinds : List ℕ) (a b : List (Step R)) → All IsKind kinds → Spells (grammar_of _stage _rows.now _symbols.now) _start kinds a → Spells (grammar_of _stage _rows.now _symbols.now) _start kinds b → a ≡ b }
 {}
 
 /// A text has at most one first fault.

@@ -3,7 +3,7 @@
 ghost use Rattle.std.specs.Prelude.{◌≡◌, ℕ, ◌<◌, ◌++◌, List, true, length, drop, reverse, MatchOption, OnOk, IfOk};
 ghost use Rattle.gb_grammar.specs.declared.table.Symbol.{Symbol};
 ghost use Rattle.gb_grammar.specs.Grammar.{has, body_of, grammar_of};
-ghost use Rattle.gb_grammar.specs.Check.{Claim, grammar_ok, IsPlaced, pick_row};
+ghost use Rattle.gb_grammar.specs.Check.{Claims, grammar_ok, IsPlaced, pick_row};
 ghost use Rattle.gb_grammar.specs.Stack.{Good, Advanced};
 
 use crate::table::{Row, Step, Symbol};
@@ -17,12 +17,12 @@ fn is_in(set: u128, kind: u8) -> bool
 }
 
 // The first row of this part that is chosen at this kind of token.
-fn pick_among<R: Copy>(rows: &[Row<R>], part: u8, kind: u8) -> Option<&Row<R>>
+fn pick_among<R: Copy>(stage: u8, rows: &[Row<R>], part: u8, kind: u8) -> Option<&Row<R>>
     requires { kind < 128 }
-    ensures { MatchOption result (pick_row rows.now part kind ≡ None) (λ r. pick_row rows.now part kind ≡ Some r.now) }
+    ensures { MatchOption result (pick_row stage rows.now part kind ≡ None) (λ r. pick_row stage rows.now part kind ≡ Some r.now) }
 {
     for row in rows {
-        if row.part == part && is_in(row.starts, kind) {
+        if row.stage <= stage && row.part == part && is_in(row.starts, kind) {
             return Some(row);
         }
     }
@@ -30,14 +30,20 @@ fn pick_among<R: Copy>(rows: &[Row<R>], part: u8, kind: u8) -> Option<&Row<R>>
 }
 
 // The row of this part that is chosen at this kind of token.
-fn pick<'a, R: Copy>(rows: &'a [Row<R>], places: &[u16], part: u8, kind: u8) -> Option<&'a Row<R>>
-    requires placed { IsPlaced rows.now places.now part }
+fn pick<'a, R: Copy>(
+    stage: u8,
+    rows: &'a [Row<R>],
+    places: &[u16],
+    part: u8,
+    kind: u8,
+) -> Option<&'a Row<R>>
+    requires placed { IsPlaced stage rows.now places.now part }
     requires kind { kind < 128 }
-    ensures { MatchOption result (pick_row rows.now part kind ≡ None) (λ r. pick_row rows.now part kind ≡ Some r.now) }
+    ensures { MatchOption result (pick_row stage rows.now part kind ≡ None) (λ r. pick_row stage rows.now part kind ≡ Some r.now) }
 {
     let start = usize::from(places[usize::from(part)]);
     let end = usize::from(places[usize::from(part) + 1]);
-    pick_among(&rows[start..end], part, kind)
+    pick_among(stage, &rows[start..end], part, kind)
 }
 
 // Puts the body that begins here on the stack, its first symbol on top.
@@ -57,6 +63,7 @@ fn push_body(stack: &mut Vec<Symbol>, symbols: &[Symbol], start: usize) -> Resul
 /// Opens parts until this token stands on top of the stack, and takes it off. Answers `false` where nothing goes on
 /// with the token.
 pub fn advance<R: Copy>(
+    stage: u8,
     rows: &[Row<R>],
     symbols: &[Symbol],
     places: &[u16],
@@ -65,16 +72,16 @@ pub fn advance<R: Copy>(
     kind: u8,
     at: usize,
 ) -> Result<bool, AllocError>
-    ghost claims: { List Claim }
-    requires checked { grammar_ok claims places.now rows.now symbols.now ≡ true }
+    ghost claims: { Claims }
+    requires checked { grammar_ok stage claims places.now rows.now symbols.now ≡ true }
     requires kind { kind < 128 }
-    requires good { Good (grammar_of rows.now symbols.now) claims (reverse stack.old.items) }
-    ensures { IfOk result (λ moved. Advanced moved (grammar_of rows.now symbols.now) claims kind at (reverse stack.old.items) steps.old.items (reverse stack.new.items) steps.new.items) }
+    requires good { Good (grammar_of stage rows.now symbols.now) claims (reverse stack.old.items) }
+    ensures { IfOk result (λ moved. Advanced moved (grammar_of stage rows.now symbols.now) claims kind at (reverse stack.old.items) steps.old.items (reverse stack.new.items) steps.new.items) }
 {
     while let Some(top) = stack.pop() {
         match top {
             Symbol::Token(token) => return Ok(token == kind),
-            Symbol::Part(part) => match pick(rows, places, part, kind) {
+            Symbol::Part(part) => match pick(stage, rows, places, part, kind) {
                 None => return Ok(false),
                 Some(row) => {
                     steps.push(Step { rule: row.rule, at })?;

@@ -4,7 +4,7 @@ ghost use Rattle.std.specs.Prelude.{◌≡◌, ℕ, List, true, IfOk, MatchResul
 ghost use Rattle.std.specs.List.{All};
 ghost use Rattle.gb_grammar.specs.declared.table.Step.{Step};
 ghost use Rattle.gb_grammar.specs.Grammar.{grammar_of};
-ghost use Rattle.gb_grammar.specs.Check.{Claim, grammar_ok, is_start};
+ghost use Rattle.gb_grammar.specs.Check.{Claims, grammar_ok, is_start};
 ghost use Rattle.gb_grammar.specs.Reading.{Spells, IsKind, FirstFault};
 
 use crate::error::ReadError;
@@ -12,40 +12,45 @@ use crate::machine::advance;
 use crate::table::{Row, Step, Symbol};
 use std::alloc::Global;
 
-/// The steps by which these kinds of token are a text of the part `start`, the leftmost part first.
+/// The steps by which these kinds of token are a text of the part `start` up to a stage of the table, the leftmost part
+/// first.
 ///
 /// `places` says where the rows of each part begin, and has the number of rows as its last item. The claims of the
 /// table, which `grammar_ok` tests, are given in the proof.
 pub fn read<R: Copy>(
     alloc: Global,
+    stage: u8,
     rows: &[Row<R>],
     symbols: &[Symbol],
     places: &[u16],
     start: u8,
     kinds: &[u8],
 ) -> Result<Vec<Step<R>>, ReadError>
-    ghost claims: { List Claim }
-    requires checked { grammar_ok claims places.now rows.now symbols.now ≡ true }
+    ghost claims: { Claims }
+    requires checked { grammar_ok stage claims places.now rows.now symbols.now ≡ true }
     requires start { is_start claims start ≡ true }
     requires kinds { All IsKind kinds.now }
     // What is read is a text by these steps.
-    ensures found { IfOk result (λ steps. Spells (grammar_of rows.now symbols.now) start kinds.now steps.items) }
+    ensures found { IfOk result (λ steps. Spells (grammar_of stage rows.now symbols.now) start kinds.now steps.items) }
     // Each text is read, unless memory runs out, and its steps are the only ones.
-    ensures only { (steps : List (Step R)) → Spells (grammar_of rows.now symbols.now) start kinds.now steps → MatchResult result (λ r. r.items ≡ steps) (λ e. e ≡ ReadError.Memory) }
+    ensures only { (steps : List (Step R)) → Spells (grammar_of stage rows.now symbols.now) start kinds.now steps → MatchResult result (λ r. r.items ≡ steps) (λ e. e ≡ ReadError.Memory) }
     // A fault is the first one.
-    ensures fault { (at : ℕ) → result ≡ Err (ReadError.Fault at) → FirstFault (grammar_of rows.now symbols.now) start kinds.now at }
+    ensures fault { (at : ℕ) → result ≡ Err (ReadError.Fault at) → FirstFault (grammar_of stage rows.now symbols.now) start kinds.now at }
 {
     let mut stack = Vec::new(alloc);
     stack.push(Symbol::Token(0))?;
     stack.push(Symbol::Part(start))?;
     let mut steps = Vec::new(alloc);
     for (at, kind) in kinds.iter().enumerate() {
-        let moved = advance(rows, symbols, places, &mut stack, &mut steps, *kind, at)?;
+        let moved = advance(
+            stage, rows, symbols, places, &mut stack, &mut steps, *kind, at,
+        )?;
         if !moved {
             return Err(ReadError::Fault(at));
         }
     }
     let ended = advance(
+        stage,
         rows,
         symbols,
         places,

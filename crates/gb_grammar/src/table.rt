@@ -13,11 +13,13 @@ pub enum Symbol {
 ///
 /// `starts` is the set of kinds of token at which the row is chosen. `stops` is the set of kinds before which it may
 /// not stand, as the empty production of an optional `else` may not stand before `else`. Both sets have bit `k` for
-/// kind `k`. The body begins at the index `body` of the table's symbols, and ends before the next `Token(0)`.
+/// kind `k`. The body begins at the index `body` of the table's symbols, and ends before the next `Token(0)`. A text is
+/// read by the rows up to a stage, so that one table holds a language with the languages that are cut from it.
 #[derive(Clone, Copy)]
 pub struct Row<R> {
     pub part: u8,
     pub rule: R,
+    pub stage: u8,
     pub starts: u128,
     pub stops: u128,
     pub body: u16,

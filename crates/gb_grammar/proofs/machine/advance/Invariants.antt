@@ -9,8 +9,8 @@ use Rattle.gb_grammar.proofs.machine.advance.Given as goal
 abbrev pub invariant-loop-top : goal.invariant-loop-top
 invariant-loop-top g l =
     record {
-      came : (qs : List (Step g.row.R.Denot)) × (l.steps.items ≡ l.fn.steps.items ++ qs) × Expands (grammar_of l.rows l.symbols) l.kind l.at (reverse l.fn.stack.items) qs (reverse l.stack.items);
-      good : Good (grammar_of l.rows l.symbols) g.claims (reverse l.stack.items);
+      came : (qs : List (Step g.row.R.Denot)) × (l.steps.items ≡ l.fn.steps.items ++ qs) × Expands (grammar_of l.stage l.rows l.symbols) l.kind l.at (reverse l.fn.stack.items) qs (reverse l.stack.items);
+      good : Good (grammar_of l.stage l.rows l.symbols) g.claims (reverse l.stack.items);
     }
 
 abbrev pub decreases-loop-top : goal.decreases-loop-top

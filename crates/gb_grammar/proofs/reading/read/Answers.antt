@@ -12,8 +12,8 @@ use Rattle.gb_grammar.proofs.reading.read.Goals as goal
 
 pub loop-at-init : goal.loop-at-init
 loop-at-init g c =
-    let grammar = grammar_of c.args.rows.now c.args.symbols.now in
-    let s = sound_table c.args.rows.now c.args.symbols.now g.claims c.args.places.now c.requires.1.0 in
+    let grammar = grammar_of c.args.stage c.args.rows.now c.args.symbols.now in
+    let s = sound_table c.args.stage c.args.rows.now c.args.symbols.now g.claims c.args.places.now c.requires.1.0 in
     let begin = Part c.args.start ∷ Token 0 ∷ [] in
     let e : c.push-2.new.self.items ≡ Token 0 ∷ Part c.args.start ∷ [] = c.in_ok-push-2.ensures.items ∙ ap (λ (l : List Symbol). l ++ Part c.args.start ∷ []) (c.in_ok-push.ensures.items ∙ ap (λ (l : List Symbol). l ++ Token 0 ∷ []) c.new-stack.ensures.items) in
     record {
@@ -24,15 +24,15 @@ loop-at-init g c =
 
 pub loop-at-preserved : goal.loop-at-preserved
 loop-at-preserved g c =
-    let grammar = grammar_of c.args.rows.now c.args.symbols.now in
-    let s = sound_table c.args.rows.now c.args.symbols.now g.claims c.args.places.now c.requires.1.0 in
+    let grammar = grammar_of c.args.stage c.args.rows.now c.args.symbols.now in
+    let s = sound_table c.args.stage c.args.rows.now c.args.symbols.now g.claims c.args.places.now c.requires.1.0 in
     let m = moved_from grammar g.claims _ c.loop-at.at (reverse c.loop-at.stack.items) c.loop-at.steps.items (reverse c.advance.new.stack.items) c.advance.new.steps.items c.in_ok-moved.moved c.if-not-moved.false c.in_ok-moved.ensures in
     kept_more grammar g.claims s c.args.start c.args.kinds.now c.loop-at.steps.items c.advance.new.steps.items c.loop-at.at (reverse c.loop-at.stack.items) (reverse c.advance.new.stack.items) (omega arith) c.loop-at.invariant m
 
 pub returns-then-not-moved-clause-fault : goal.returns-then-not-moved-clause-fault
 returns-then-not-moved-clause-fault g c at e =
-    let grammar = grammar_of c.args.rows.now c.args.symbols.now in
-    let s = sound_table c.args.rows.now c.args.symbols.now g.claims c.args.places.now c.requires.1.0 in
+    let grammar = grammar_of c.args.stage c.args.rows.now c.args.symbols.now in
+    let s = sound_table c.args.stage c.args.rows.now c.args.symbols.now g.claims c.args.places.now c.requires.1.0 in
     let i = c.loop-at.invariant in
     let stuck = stuck_from grammar g.claims _ c.loop-at.at (reverse c.loop-at.stack.items) c.loop-at.steps.items (reverse c.advance.new.stack.items) c.advance.new.steps.items c.in_ok-moved.moved c.if-not-moved.true c.in_ok-moved.ensures in
     let f = faulted grammar g.claims s c.args.start c.requires.1.1.0 c.args.kinds.now c.loop-at.steps.items c.loop-at.at (reverse c.loop-at.stack.items) c.requires.1.1.1 (omega arith) i.came i.good stuck in
@@ -41,8 +41,8 @@ returns-then-not-moved-clause-fault g c at e =
 
 pub returns-then-not-moved-clause-only : goal.returns-then-not-moved-clause-only
 returns-then-not-moved-clause-only g c steps d =
-    let grammar = grammar_of c.args.rows.now c.args.symbols.now in
-    let s = sound_table c.args.rows.now c.args.symbols.now g.claims c.args.places.now c.requires.1.0 in
+    let grammar = grammar_of c.args.stage c.args.rows.now c.args.symbols.now in
+    let s = sound_table c.args.stage c.args.rows.now c.args.symbols.now g.claims c.args.places.now c.requires.1.0 in
     let i = c.loop-at.invariant in
     let stuck = stuck_from grammar g.claims _ c.loop-at.at (reverse c.loop-at.stack.items) c.loop-at.steps.items (reverse c.advance.new.stack.items) c.advance.new.steps.items c.in_ok-moved.moved c.if-not-moved.true c.in_ok-moved.ensures in
     let f = faulted grammar g.claims s c.args.start c.requires.1.1.0 c.args.kinds.now c.loop-at.steps.items c.loop-at.at (reverse c.loop-at.stack.items) c.requires.1.1.1 (omega arith) i.came i.good stuck in
@@ -50,8 +50,8 @@ returns-then-not-moved-clause-only g c steps d =
 
 pub returns-then-not-ended-clause-fault : goal.returns-then-not-ended-clause-fault
 returns-then-not-ended-clause-fault g c at e =
-    let grammar = grammar_of c.args.rows.now c.args.symbols.now in
-    let s = sound_table c.args.rows.now c.args.symbols.now g.claims c.args.places.now c.requires.1.0 in
+    let grammar = grammar_of c.args.stage c.args.rows.now c.args.symbols.now in
+    let s = sound_table c.args.stage c.args.rows.now c.args.symbols.now g.claims c.args.places.now c.requires.1.0 in
     let cur = reverse c.loop-at.stack.items in
     let stuck = stuck_from grammar g.claims 0 (length c.args.kinds.now) cur c.loop-at.steps.items (reverse c.advance-2.new.stack.items) c.advance-2.new.steps.items c.in_ok-ended.ended c.if-not-ended.true c.in_ok-ended.ensures in
     let came = all_read grammar g.claims s c.args.start c.args.kinds.now c.loop-at.at c.loop-at.steps.items cur (omega arith) c.loop-at.invariant in
@@ -61,8 +61,8 @@ returns-then-not-ended-clause-fault g c at e =
 
 pub returns-then-not-ended-clause-only : goal.returns-then-not-ended-clause-only
 returns-then-not-ended-clause-only g c steps d =
-    let grammar = grammar_of c.args.rows.now c.args.symbols.now in
-    let s = sound_table c.args.rows.now c.args.symbols.now g.claims c.args.places.now c.requires.1.0 in
+    let grammar = grammar_of c.args.stage c.args.rows.now c.args.symbols.now in
+    let s = sound_table c.args.stage c.args.rows.now c.args.symbols.now g.claims c.args.places.now c.requires.1.0 in
     let cur = reverse c.loop-at.stack.items in
     let stuck = stuck_from grammar g.claims 0 (length c.args.kinds.now) cur c.loop-at.steps.items (reverse c.advance-2.new.stack.items) c.advance-2.new.steps.items c.in_ok-ended.ended c.if-not-ended.true c.in_ok-ended.ensures in
     let came = all_read grammar g.claims s c.args.start c.args.kinds.now c.loop-at.at c.loop-at.steps.items cur (omega arith) c.loop-at.invariant in
@@ -71,8 +71,8 @@ returns-then-not-ended-clause-only g c steps d =
 
 pub returns-clause-found : goal.returns-clause-found
 returns-clause-found g c =
-    let grammar = grammar_of c.args.rows.now c.args.symbols.now in
-    let s = sound_table c.args.rows.now c.args.symbols.now g.claims c.args.places.now c.requires.1.0 in
+    let grammar = grammar_of c.args.stage c.args.rows.now c.args.symbols.now in
+    let s = sound_table c.args.stage c.args.rows.now c.args.symbols.now g.claims c.args.places.now c.requires.1.0 in
     let cur = reverse c.loop-at.stack.items in
     let to = reverse c.advance-2.new.stack.items in
     let m = moved_from grammar g.claims 0 (length c.args.kinds.now) cur c.loop-at.steps.items to c.advance-2.new.steps.items c.in_ok-ended.ended c.if-not-ended.false c.in_ok-ended.ensures in
@@ -81,8 +81,8 @@ returns-clause-found g c =
 
 pub returns-clause-only : goal.returns-clause-only
 returns-clause-only g c =
-    let grammar = grammar_of c.args.rows.now c.args.symbols.now in
-    let s = sound_table c.args.rows.now c.args.symbols.now g.claims c.args.places.now c.requires.1.0 in
+    let grammar = grammar_of c.args.stage c.args.rows.now c.args.symbols.now in
+    let s = sound_table c.args.stage c.args.rows.now c.args.symbols.now g.claims c.args.places.now c.requires.1.0 in
     let cur = reverse c.loop-at.stack.items in
     let to = reverse c.advance-2.new.stack.items in
     let m = moved_from grammar g.claims 0 (length c.args.kinds.now) cur c.loop-at.steps.items to c.advance-2.new.steps.items c.in_ok-ended.ended c.if-not-ended.false c.in_ok-ended.ensures in

@@ -8,4 +8,4 @@ abbrev pub ghost-advance : goal.ghost-advance
 ghost-advance g a = g.claims
 
 abbrev pub invariant-loop-at : goal.invariant-loop-at
-invariant-loop-at g l = Kept (grammar_of l.rows l.symbols) g.claims l.start l.at l.kinds l.steps.items (reverse l.stack.items)
+invariant-loop-at g l = Kept (grammar_of l.stage l.rows l.symbols) g.claims l.start l.at l.kinds l.steps.items (reverse l.stack.items)

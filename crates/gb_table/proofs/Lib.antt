@@ -1,0 +1,2 @@
+pub mod Checked
+mod Language

@@ -1,0 +1,82 @@
+// Reading by the table.
+
+ghost use Rattle.std.specs.Prelude.{◌≡◌, ℕ, List, true, IfOk, MatchResult, Err};
+ghost use Rattle.std.specs.List.{All};
+ghost use Rattle.gb_grammar.specs.declared.table.Step.{Step};
+ghost use Rattle.gb_grammar.specs.Check.{grammar_ok, is_start};
+ghost use Rattle.gb_grammar.specs.Grammar.{grammar_of};
+ghost use Rattle.gb_grammar.specs.Reading.{Spells, IsKind, FirstFault};
+ghost use Rattle.gb_table.specs.declared.rule.Rule.{Rule};
+ghost use Rattle.gb_table.specs.declared.rows.TheConstants.{BUILT};
+ghost use Rattle.gb_table.specs.Language.{all_rows, all_symbols, all_places, claimed, language, IsPart};
+
+use crate::bodies::SYMBOLS;
+use crate::rows::{BUILT, PLACES, ROWS};
+use crate::rule::Rule;
+use gb_grammar::error::ReadError;
+use gb_grammar::reading::read;
+use gb_grammar::table::{Row, Step, Symbol};
+use std::alloc::Global;
+
+// The rows of the table.
+#[tactic(auto, unfolding(crate::specs::Language::all_rows))]
+fn all_rows() -> &'static [Row<Rule>]
+    ensures { result.now ≡ all_rows }
+{
+    &ROWS
+}
+
+// The bodies of the rows.
+#[tactic(auto, unfolding(crate::specs::Language::all_symbols))]
+fn all_symbols() -> &'static [Symbol]
+    ensures { result.now ≡ all_symbols }
+{
+    &SYMBOLS
+}
+
+// Where the rows of each part begin.
+#[tactic(auto, unfolding(crate::specs::Language::all_places))]
+fn all_places() -> &'static [u16]
+    ensures { result.now ≡ all_places }
+{
+    &PLACES
+}
+
+// Reads by tables that pass the test, as `read` does.
+fn read_by(
+    alloc: Global,
+    rows: &[Row<Rule>],
+    symbols: &[Symbol],
+    places: &[u16],
+    part: u8,
+    kinds: &[u8],
+) -> Result<Vec<Step<Rule>>, ReadError>
+    requires checked { grammar_ok BUILT claimed places.now rows.now symbols.now ≡ true }
+    requires start { is_start claimed part ≡ true }
+    requires kinds { All IsKind kinds.now }
+    ensures found { IfOk result (λ steps. Spells (grammar_of BUILT rows.now symbols.now) part kinds.now steps.items) }
+    ensures only { (steps : List (Step Rule)) → Spells (grammar_of BUILT rows.now symbols.now) part kinds.now steps →
+        MatchResult result (λ r. r.items ≡ steps) (λ e. e ≡ ReadError.Memory) }
+    ensures fault { (at : ℕ) → result ≡ Err (ReadError.Fault at) →
+        FirstFault (grammar_of BUILT rows.now symbols.now) part kinds.now at }
+{
+    read(alloc, BUILT, rows, symbols, places, part, kinds)
+}
+
+/// The steps by which these kinds of token are a text of this part of the language, the leftmost part first.
+///
+/// Errors: `Fault` with the index of the first token with which no text goes on, which is the number of tokens where
+/// the text ends too soon; `Memory` where memory runs out.
+pub fn read_text(alloc: Global, part: u8, kinds: &[u8]) -> Result<Vec<Step<Rule>>, ReadError>
+    requires part { IsPart part }
+    requires kinds { All IsKind kinds.now }
+    // What is read is a text by these steps.
+    ensures found { IfOk result (λ steps. Spells language part kinds.now steps.items) }
+    // Each text is read, unless memory runs out, and its steps are the only ones.
+    ensures only { (steps : List (Step Rule)) → Spells language part kinds.now steps →
+        MatchResult result (λ r. r.items ≡ steps) (λ e. e ≡ ReadError.Memory) }
+    // A fault is the first one.
+    ensures fault { (at : ℕ) → result ≡ Err (ReadError.Fault at) → FirstFault language part kinds.now at }
+{
+    read_by(alloc, all_rows(), all_symbols(), all_places(), part, kinds)
+}
