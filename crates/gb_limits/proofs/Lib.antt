@@ -1,0 +1,3 @@
+pub mod Digits
+mod Firsts
+pub mod Nesting

@@ -1,0 +1,3 @@
+pub mod Level
+pub mod Limits
+pub mod Numbers

@@ -1,0 +1,2 @@
+mod AllKinds
+pub mod Spans

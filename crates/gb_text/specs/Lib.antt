@@ -1,0 +1,4 @@
+pub mod Kinds
+pub mod LeftOut
+pub mod Lexeme
+pub mod Text
