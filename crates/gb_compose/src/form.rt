@@ -1,0 +1,235 @@
+// Forms, what they are put together from, and calls.
+
+ghost use Rattle.std.specs.Prelude.{◌≡◌, IfOk, OnOk};
+ghost use Rattle.gb_value.specs.Form.{no_form, no_infix, no_operand};
+ghost use Rattle.gb_value.specs.Path.{no_type};
+ghost use Rattle.gb_value.specs.Sorted.{top, behind, option_on};
+
+use crate::let_go::LetGo;
+use crate::path::take_type;
+use gb_core::place::Place;
+use gb_text::stack::Stack;
+use gb_tree::form::{Connective, EquatedTree, FormShape, FormTree, SideTree, TypeTree, Weight};
+use gb_tree::judgment::{CallTree, SubjectTree};
+use gb_value::form::{
+    BracketTail, CallTail, FunctorCall, Infix, Operand, PhoareRun, PhoareTree, Run, Suffix, Tail,
+    no_form,
+};
+use gb_value::take::{take_boxed, take_option};
+use sqlite_items::Boxed;
+use std::alloc::{AllocError, Global};
+
+impl LetGo for Boxed<FormTree> {
+    fn let_go(self) {}
+}
+
+impl LetGo for Tail {
+    fn let_go(self) {}
+}
+
+impl LetGo for Infix {
+    fn let_go(self) {}
+}
+
+impl LetGo for Operand {
+    fn let_go(self) {}
+}
+
+impl LetGo for Run {
+    fn let_go(self) {}
+}
+
+impl LetGo for Suffix {
+    fn let_go(self) {}
+}
+
+impl LetGo for SideTree {
+    fn let_go(self) {}
+}
+
+impl LetGo for BracketTail {
+    fn let_go(self) {}
+}
+
+impl LetGo for Weight {
+    fn let_go(self) {}
+}
+
+impl LetGo for PhoareTree {
+    fn let_go(self) {}
+}
+
+impl LetGo for PhoareRun {
+    fn let_go(self) {}
+}
+
+impl LetGo for EquatedTree {
+    fn let_go(self) {}
+}
+
+impl LetGo for Boxed<SubjectTree> {
+    fn let_go(self) {}
+}
+
+impl LetGo for Boxed<CallTree> {
+    fn let_go(self) {}
+}
+
+impl LetGo for CallTail {
+    fn let_go(self) {}
+}
+
+impl LetGo for Option<FunctorCall> {
+    fn let_go(self) {}
+}
+
+/// A form of this shape, in its box.
+pub fn boxed_form(
+    alloc: Global,
+    shape: FormShape,
+    place: Place,
+) -> Result<Boxed<FormTree>, AllocError>
+    ensures { IfOk result (λ b. b ≡ record { shape = shape; place = place }) }
+{
+    Boxed::new(alloc, FormTree { shape, place })
+}
+
+/// What a judgment is about, in its box.
+pub fn boxed_subject(alloc: Global, subject: SubjectTree) -> Result<Boxed<SubjectTree>, AllocError>
+    ensures { IfOk result (λ b. b ≡ subject) }
+{
+    Boxed::new(alloc, subject)
+}
+
+/// A call, in its box.
+pub fn boxed_call(alloc: Global, call: CallTree) -> Result<Boxed<CallTree>, AllocError>
+    ensures { IfOk result (λ b. b ≡ call) }
+{
+    Boxed::new(alloc, call)
+}
+
+/// Takes a form off; a fixed one where there is none.
+pub fn take_form(
+    alloc: Global,
+    forms: &mut Stack<Boxed<FormTree>>,
+) -> Result<Boxed<FormTree>, AllocError>
+    ensures top { IfOk result (λ b. b ≡ top no_form forms.old) }
+    ensures behind { forms.new ≡ behind forms.old }
+{
+    take_boxed(alloc, forms, no_form())
+}
+
+/// Takes the top list off: its first form, if there is one.
+pub fn optional_form(
+    alloc: Global,
+    form_lists: &mut Stack<Stack<Boxed<FormTree>>>,
+) -> Option<Boxed<FormTree>>
+    ensures option { result ≡ option_on form_lists.old }
+    ensures behind { form_lists.new ≡ behind form_lists.old }
+{
+    take_option(alloc, form_lists)
+}
+
+/// Takes the top list off: its first operator with an operand, if there is one.
+pub fn optional_infix(alloc: Global, infix_lists: &mut Stack<Stack<Infix>>) -> Option<Infix>
+    ensures option { result ≡ option_on infix_lists.old }
+    ensures behind { infix_lists.new ≡ behind infix_lists.old }
+{
+    take_option(alloc, infix_lists)
+}
+
+/// Takes the top list off: its first side, if there is one.
+pub fn optional_side(alloc: Global, side_lists: &mut Stack<Stack<SideTree>>) -> Option<SideTree>
+    ensures option { result ≡ option_on side_lists.old }
+    ensures behind { side_lists.new ≡ behind side_lists.old }
+{
+    take_option(alloc, side_lists)
+}
+
+fn no_infix(alloc: Global) -> Result<Infix, AllocError>
+    ensures { IfOk result (λ x. x ≡ no_infix) }
+{
+    let operand = Boxed::new(alloc, no_form())?;
+    Ok(Infix {
+        operator: Connective::And,
+        operand,
+    })
+}
+
+/// Takes an operator with its operand off; a fixed one where there is none.
+pub fn take_infix(alloc: Global, infixes: &mut Stack<Infix>) -> Result<Infix, AllocError>
+    ensures top { IfOk result (λ x. x ≡ top no_infix infixes.old) }
+    ensures behind { infixes.new ≡ behind infixes.old }
+{
+    match infixes.pop() {
+        Some(value) => Ok(value),
+        None => no_infix(alloc),
+    }
+}
+
+fn no_operand(alloc: Global) -> Result<Operand, AllocError>
+    ensures { IfOk result (λ x. x ≡ no_operand) }
+{
+    let form = Boxed::new(alloc, no_form())?;
+    Ok(Operand {
+        form,
+        products: Stack::new(alloc),
+        sums: Stack::new(alloc),
+    })
+}
+
+/// Takes an operand off; a fixed one where there is none.
+pub fn take_operand(alloc: Global, operands: &mut Stack<Operand>) -> Result<Operand, AllocError>
+    ensures top { IfOk result (λ x. x ≡ top no_operand operands.old) }
+    ensures behind { operands.new ≡ behind operands.old }
+{
+    match operands.pop() {
+        Some(value) => Ok(value),
+        None => no_operand(alloc),
+    }
+}
+
+/// Takes two forms off.
+pub fn take_two_forms(
+    alloc: Global,
+    forms: &mut Stack<Boxed<FormTree>>,
+) -> Result<(Boxed<FormTree>, Boxed<FormTree>), AllocError>
+    ensures first { IfOk result (λ p. p.0 ≡ top no_form forms.old) }
+    ensures second { IfOk result (λ p. p.1 ≡ top no_form (behind forms.old)) }
+    ensures behind { OnOk result (forms.new ≡ behind (behind forms.old)) }
+{
+    let first = take_form(alloc, forms)?;
+    let second = take_form(alloc, forms)?;
+    Ok((first, second))
+}
+
+/// Takes three forms off.
+pub fn take_three_forms(
+    alloc: Global,
+    forms: &mut Stack<Boxed<FormTree>>,
+) -> Result<(Boxed<FormTree>, Boxed<FormTree>, Boxed<FormTree>), AllocError>
+    ensures first { IfOk result (λ p. p.0 ≡ top no_form forms.old) }
+    ensures second { IfOk result (λ p. p.1 ≡ top no_form (behind forms.old)) }
+    ensures third { IfOk result (λ p. p.2 ≡ top no_form (behind (behind forms.old))) }
+    ensures behind { OnOk result (forms.new ≡ behind (behind (behind forms.old))) }
+{
+    let first = take_form(alloc, forms)?;
+    let (second, third) = take_two_forms(alloc, forms)?;
+    Ok((first, second, third))
+}
+
+/// Takes a type and a form off.
+pub fn take_type_and_form(
+    alloc: Global,
+    types: &mut Stack<Boxed<TypeTree>>,
+    forms: &mut Stack<Boxed<FormTree>>,
+) -> Result<(Boxed<TypeTree>, Boxed<FormTree>), AllocError>
+    ensures ty { IfOk result (λ p. p.0 ≡ top no_type types.old) }
+    ensures form { IfOk result (λ p. p.1 ≡ top no_form forms.old) }
+    ensures types { OnOk result (types.new ≡ behind types.old) }
+    ensures forms { OnOk result (forms.new ≡ behind forms.old) }
+{
+    let ty = take_type(alloc, types)?;
+    let form = take_form(alloc, forms)?;
+    Ok((ty, form))
+}

@@ -1,0 +1,458 @@
+// The trees of proof steps.
+
+ghost use Rattle.std.specs.Prelude.{◌≡◌, ◌∷◌, IfOk, OnOk};
+ghost use Rattle.gb_value.specs.Sorted.{top, behind, option_on};
+ghost use Rattle.gb_value.specs.Form.{no_form, no_run};
+ghost use Rattle.gb_value.specs.Step.{no_pattern, no_rule, no_step, no_tactic};
+ghost use Rattle.gb_compose.specs.Step.{bodies, with_argument, seq_bounds, contract_on, contract_rule, fel_rule, call_rule};
+
+use crate::form::{optional_side, take_form};
+use crate::let_go::LetGo;
+use gb_text::stack::Stack;
+use gb_text::terminal::Terminal;
+use gb_tree::form::{FormTree, FormTrees, Number, SideTree, Word};
+use gb_tree::judgment::ProcPath;
+use gb_tree::step::{
+    ArgumentTree, Bodies, CallRule, CombinedShape, CombinedStep, ConseqTree, Continuation,
+    Contract, Distance, FelBounds, FelCounter, Guard, Guards, Hint, LemmaUse, PatternTree,
+    Patterns, ProcPaths, RuleTree, SeqBounds, SeqTree, StepTree, Summand, TacticTree,
+    TransitivityTree,
+};
+use gb_value::form::{Run, Suffix, no_run};
+use gb_value::path::no_place;
+use gb_value::step::{CallRest, FelRest, HaveRest, Pairing, no_pattern};
+use gb_value::take::{take, take_boxed, take_list, take_option};
+use sqlite_items::{Boxed, Items};
+use std::alloc::{AllocError, Global};
+
+impl LetGo for TacticTree {
+    fn let_go(self) {}
+}
+
+impl LetGo for Continuation {
+    fn let_go(self) {}
+}
+
+impl LetGo for CombinedStep {
+    fn let_go(self) {}
+}
+
+impl LetGo for Option<Patterns> {
+    fn let_go(self) {}
+}
+
+impl LetGo for PatternTree {
+    fn let_go(self) {}
+}
+
+impl LetGo for Pairing {
+    fn let_go(self) {}
+}
+
+impl LetGo for Boxed<RuleTree> {
+    fn let_go(self) {}
+}
+
+impl LetGo for LemmaUse {
+    fn let_go(self) {}
+}
+
+impl LetGo for Stack<ArgumentTree> {
+    fn let_go(self) {}
+}
+
+impl LetGo for HaveRest {
+    fn let_go(self) {}
+}
+
+impl LetGo for CallRule {
+    fn let_go(self) {}
+}
+
+impl LetGo for CallRest {
+    fn let_go(self) {}
+}
+
+impl LetGo for Distance {
+    fn let_go(self) {}
+}
+
+impl LetGo for FelRest {
+    fn let_go(self) {}
+}
+
+impl LetGo for Guard {
+    fn let_go(self) {}
+}
+
+impl LetGo for Hint {
+    fn let_go(self) {}
+}
+
+impl LetGo for Summand {
+    fn let_go(self) {}
+}
+
+/// Puts a rule on its stack.
+pub fn push_rule(
+    alloc: Global,
+    rule: RuleTree,
+    rules: &mut Stack<Boxed<RuleTree>>,
+) -> Result<(), AllocError>
+    ensures { OnOk result (rules.new ≡ rule ∷ rules.old) }
+{
+    let rule = Boxed::new(alloc, rule)?;
+    rules.push(rule)
+}
+
+/// Takes a rule off; a fixed one where there is none.
+pub fn take_rule(
+    alloc: Global,
+    rules: &mut Stack<Boxed<RuleTree>>,
+) -> Result<Boxed<RuleTree>, AllocError>
+    ensures top { IfOk result (λ r. r ≡ top no_rule rules.old) }
+    ensures behind { rules.new ≡ behind rules.old }
+{
+    take_boxed(alloc, rules, RuleTree::Split)
+}
+
+fn no_step(alloc: Global) -> Result<CombinedStep, AllocError>
+    ensures { IfOk result (λ x. x ≡ no_step) }
+{
+    let rule = Boxed::new(alloc, RuleTree::Split)?;
+    let rule = StepTree {
+        rule,
+        place: no_place(),
+    };
+    Ok(CombinedStep {
+        shape: CombinedShape::Rule(rule, None),
+        place: no_place(),
+    })
+}
+
+/// Takes a step with its combinators off; a fixed one where there is none.
+pub fn take_step(
+    alloc: Global,
+    combined: &mut Stack<CombinedStep>,
+) -> Result<CombinedStep, AllocError>
+    ensures top { IfOk result (λ x. x ≡ top no_step combined.old) }
+    ensures behind { combined.new ≡ behind combined.old }
+{
+    match combined.pop() {
+        Some(value) => Ok(value),
+        None => no_step(alloc),
+    }
+}
+
+/// Takes a step with its combinators off, in a box; a fixed one where there is none.
+pub fn take_boxed_step(
+    alloc: Global,
+    combined: &mut Stack<CombinedStep>,
+) -> Result<Boxed<CombinedStep>, AllocError>
+    ensures top { IfOk result (λ x. x ≡ top no_step combined.old) }
+    ensures behind { combined.new ≡ behind combined.old }
+{
+    let step = take_step(alloc, combined)?;
+    Boxed::new(alloc, step)
+}
+
+fn no_tactic(alloc: Global) -> Result<TacticTree, AllocError>
+    ensures { IfOk result (λ x. x ≡ no_tactic) }
+{
+    let first = no_step(alloc)?;
+    Ok(TacticTree {
+        first,
+        more: Items::new(alloc),
+    })
+}
+
+/// Takes a proof step with what follows it off; a fixed one where there is none.
+pub fn take_tactic(alloc: Global, tactics: &mut Stack<TacticTree>) -> Result<TacticTree, AllocError>
+    ensures top { IfOk result (λ x. x ≡ top no_tactic tactics.old) }
+    ensures behind { tactics.new ≡ behind tactics.old }
+{
+    match tactics.pop() {
+        Some(value) => Ok(value),
+        None => no_tactic(alloc),
+    }
+}
+
+/// Takes a proof step with what follows it off, in a box; a fixed one where there is none.
+pub fn take_boxed_tactic(
+    alloc: Global,
+    tactics: &mut Stack<TacticTree>,
+) -> Result<Boxed<TacticTree>, AllocError>
+    ensures top { IfOk result (λ x. x ≡ top no_tactic tactics.old) }
+    ensures behind { tactics.new ≡ behind tactics.old }
+{
+    let tactic = take_tactic(alloc, tactics)?;
+    Boxed::new(alloc, tactic)
+}
+
+/// Takes two patterns off, in boxes; fixed ones where there are none.
+pub fn take_two_patterns(
+    alloc: Global,
+    patterns: &mut Stack<PatternTree>,
+) -> Result<(Boxed<PatternTree>, Boxed<PatternTree>), AllocError>
+    ensures first { IfOk result (λ p. p.0 ≡ top no_pattern patterns.old) }
+    ensures second { IfOk result (λ p. p.1 ≡ top no_pattern (behind patterns.old)) }
+    ensures behind { OnOk result (patterns.new ≡ behind (behind patterns.old)) }
+{
+    let first = take(patterns, no_pattern());
+    let second = take(patterns, no_pattern());
+    let first = Boxed::new(alloc, first)?;
+    let second = Boxed::new(alloc, second)?;
+    Ok((first, second))
+}
+
+fn bodies(side: Option<SideTree>) -> Bodies
+    ensures { result ≡ bodies side }
+{
+    match side {
+        None => Bodies::Both,
+        Some(SideTree::Left) => Bodies::Left,
+        Some(SideTree::Right) => Bodies::Right,
+        Some(SideTree::Memory(_)) => Bodies::Both,
+    }
+}
+
+/// Takes the bodies off that a step acts on.
+pub fn take_bodies(alloc: Global, side_lists: &mut Stack<Stack<SideTree>>) -> Bodies
+    ensures bodies { result ≡ bodies (option_on side_lists.old) }
+    ensures behind { side_lists.new ≡ behind side_lists.old }
+{
+    bodies(optional_side(alloc, side_lists))
+}
+
+/// Takes a list of procedures off: its first element, if there is one.
+pub fn optional_procedure(
+    alloc: Global,
+    procedure_lists: &mut Stack<Stack<ProcPath>>,
+) -> Option<ProcPath>
+    ensures option { result ≡ option_on procedure_lists.old }
+    ensures behind { procedure_lists.new ≡ behind procedure_lists.old }
+{
+    take_option(alloc, procedure_lists)
+}
+
+/// Takes a run off: its arguments.
+pub fn take_arguments(alloc: Global, runs: &mut Stack<Run>) -> FormTrees
+    ensures arguments { result ≡ (top no_run runs.old).arguments }
+    ensures behind { runs.new ≡ behind runs.old }
+{
+    let Run { arguments, .. } = take(runs, no_run(alloc));
+    arguments.into_items()
+}
+
+/// Takes a run off: what stands right behind its head.
+pub fn take_suffixes(alloc: Global, runs: &mut Stack<Run>) -> Stack<Suffix>
+    ensures suffixes { result ≡ (top no_run runs.old).suffixes }
+    ensures behind { runs.new ≡ behind runs.old }
+{
+    let Run { suffixes, .. } = take(runs, no_run(alloc));
+    suffixes
+}
+
+/// Puts an argument in front of the top list.
+pub fn put_argument(
+    alloc: Global,
+    argument: ArgumentTree,
+    argument_lists: &mut Stack<Stack<ArgumentTree>>,
+) -> Result<(), AllocError>
+    ensures { OnOk result (argument_lists.new ≡ with_argument argument argument_lists.old) }
+{
+    let mut list = take_list(alloc, argument_lists);
+    list.push(argument)?;
+    argument_lists.push(list)
+}
+
+/// Takes a precondition and a postcondition off; fixed ones where there are none.
+pub fn take_contract(
+    alloc: Global,
+    forms: &mut Stack<Boxed<FormTree>>,
+) -> Result<Contract, AllocError>
+    ensures contract { IfOk result (λ c. c ≡ contract_on forms.old) }
+    ensures behind { OnOk result (forms.new ≡ behind (behind forms.old)) }
+{
+    let pre = take_form(alloc, forms)?;
+    let post = take_form(alloc, forms)?;
+    Ok(Contract { pre, post })
+}
+
+/// The rule of a contract that its first word names.
+pub fn contract_rule(
+    alloc: Global,
+    terminal: Terminal,
+    contract: Contract,
+) -> Result<RuleTree, AllocError>
+    ensures { IfOk result (λ r. r ≡ contract_rule terminal contract) }
+{
+    let contract = Boxed::new(alloc, contract)?;
+    match terminal {
+        Terminal::ByPhoare => Ok(RuleTree::ByPhoare(contract)),
+        _ => Ok(RuleTree::ByEquiv(contract)),
+    }
+}
+
+/// `transitivity` by a procedure, with the contracts on top.
+pub fn transitivity_rule(
+    alloc: Global,
+    bodies: Bodies,
+    procedure: ProcPath,
+    forms: &mut Stack<Boxed<FormTree>>,
+) -> Result<RuleTree, AllocError>
+    ensures rule { IfOk result (λ r. r ≡ RuleTree.Transitivity (record { bodies = bodies; procedure = procedure; first = contract_on forms.old; second = contract_on (behind (behind forms.old)) })) }
+    ensures behind { OnOk result (forms.new ≡ behind (behind (behind (behind forms.old)))) }
+{
+    let first = take_contract(alloc, forms)?;
+    let second = take_contract(alloc, forms)?;
+    let transitivity = Boxed::new(
+        alloc,
+        TransitivityTree {
+            bodies,
+            procedure,
+            first,
+            second,
+        },
+    )?;
+    Ok(RuleTree::Transitivity(transitivity))
+}
+
+/// The bounds of `seq`, where an invariant stands behind them.
+pub fn seq_bounds(bounds: FormTrees, invariant: Option<Boxed<FormTree>>) -> Option<SeqBounds>
+    ensures { result ≡ seq_bounds bounds invariant }
+{
+    match invariant {
+        None => None,
+        Some(invariant) => Some(SeqBounds { bounds, invariant }),
+    }
+}
+
+/// `seq` with what it is given.
+pub fn seq_rule(alloc: Global, seq: SeqTree) -> Result<RuleTree, AllocError>
+    ensures { IfOk result (λ r. r ≡ RuleTree.Seq seq) }
+{
+    let seq = Boxed::new(alloc, seq)?;
+    Ok(RuleTree::Seq(seq))
+}
+
+/// `conseq` with what it is given.
+pub fn conseq_rule(alloc: Global, conseq: ConseqTree) -> Result<RuleTree, AllocError>
+    ensures { IfOk result (λ r. r ≡ RuleTree.Conseq conseq) }
+{
+    let conseq = Boxed::new(alloc, conseq)?;
+    Ok(RuleTree::Conseq(conseq))
+}
+
+/// What `call` is given that begins with a form.
+pub fn call_rule(
+    alloc: Global,
+    form: Boxed<FormTree>,
+    tail: CallRest,
+) -> Result<CallRule, AllocError>
+    ensures { IfOk result (λ r. r ≡ call_rule form tail) }
+{
+    match tail {
+        CallRest::Invariant => Ok(CallRule::Invariant(form)),
+        CallRest::Upto(invariant) => Ok(CallRule::Upto(form, invariant)),
+        CallRest::Post(post) => {
+            let contract = Boxed::new(alloc, Contract { pre: form, post })?;
+            Ok(CallRule::Contract(contract))
+        }
+    }
+}
+
+/// What follows the number of `fel` with a counter, whose forms are on top.
+pub fn fel_counter(
+    alloc: Global,
+    variable: Word,
+    calls: Number,
+    guards: Guards,
+    forms: &mut Stack<Boxed<FormTree>>,
+) -> Result<FelRest, AllocError>
+    ensures rest { IfOk result (λ r. r ≡ FelRest.Counter (top no_form forms.old) variable (top no_form (behind forms.old)) calls (top no_form (behind (behind forms.old))) guards (top no_form (behind (behind (behind forms.old))))) }
+    ensures behind { OnOk result (forms.new ≡ behind (behind (behind (behind forms.old)))) }
+{
+    let counter = take_form(alloc, forms)?;
+    let bound = take_form(alloc, forms)?;
+    let bad = take_form(alloc, forms)?;
+    let invariant = take_form(alloc, forms)?;
+    Ok(FelRest::Counter {
+        counter,
+        variable,
+        bound,
+        calls,
+        bad,
+        guards,
+        invariant,
+    })
+}
+
+/// What follows the number of `fel` with bounds, whose forms are on top.
+pub fn fel_bounds(
+    alloc: Global,
+    oracles: ProcPaths,
+    forms: &mut Stack<Boxed<FormTree>>,
+) -> Result<FelRest, AllocError>
+    ensures rest { IfOk result (λ r. r ≡ FelRest.Bounds oracles (top no_form forms.old) (top no_form (behind forms.old)) (top no_form (behind (behind forms.old)))) }
+    ensures behind { OnOk result (forms.new ≡ behind (behind (behind forms.old))) }
+{
+    let bound = take_form(alloc, forms)?;
+    let bad = take_form(alloc, forms)?;
+    let invariant = take_form(alloc, forms)?;
+    Ok(FelRest::Bounds {
+        oracles,
+        bound,
+        bad,
+        invariant,
+    })
+}
+
+/// `fel` from a number of calls on; `split` where nothing follows the number.
+pub fn fel_rule(alloc: Global, start: Number, rest: Option<FelRest>) -> Result<RuleTree, AllocError>
+    ensures { IfOk result (λ r. r ≡ fel_rule start rest) }
+{
+    match rest {
+        None => Ok(RuleTree::Split),
+        Some(
+            FelRest::Counter {
+                counter,
+                variable,
+                bound,
+                calls,
+                bad,
+                guards,
+                invariant,
+            },
+        ) => Ok(RuleTree::FelCounter(Boxed::new(
+            alloc,
+            FelCounter {
+                start,
+                counter,
+                variable,
+                bound,
+                calls,
+                bad,
+                guards,
+                invariant,
+            },
+        )?)),
+        Some(
+            FelRest::Bounds {
+                oracles,
+                bound,
+                bad,
+                invariant,
+            },
+        ) => Ok(RuleTree::FelBounds(Boxed::new(
+            alloc,
+            FelBounds {
+                start,
+                oracles,
+                bound,
+                bad,
+                invariant,
+            },
+        )?)),
+    }
+}

@@ -1,0 +1,202 @@
+// The values of forms, of what they are put together from, and of calls.
+
+ghost use Rattle.std.specs.Prelude.{◌≡◌};
+ghost use Rattle.gb_value.specs.Form.{no_form, no_tail, no_run, no_phoare_run, no_call_tail, no_formulas};
+
+use crate::path::no_place;
+use crate::sorted::{Sorted, nothing_sorted};
+use gb_core::place::Place;
+use gb_text::stack::Stack;
+use gb_tree::form::{
+    Connective, EquatedTree, FormShape, FormTree, Number, SideTree, TypeTree, Weight, Word,
+};
+use gb_tree::judgment::{CallTree, SubjectTree};
+use sqlite_items::{Boxed, Items};
+use std::alloc::Global;
+
+/// What follows the first operand of `=>`, `<=>` and `?`: the form that it implies, what all this is equivalent to,
+/// and the two forms that it chooses between.
+#[derive(Drop)]
+pub struct Tail {
+    pub implied: Option<Boxed<FormTree>>,
+    pub equivalent: Option<Boxed<FormTree>>,
+    pub chosen: Option<Choice>,
+}
+
+#[derive(Drop)]
+pub struct Choice {
+    pub then: Boxed<FormTree>,
+    pub otherwise: Boxed<FormTree>,
+}
+
+/// An operator, and the operand behind it.
+#[derive(Drop)]
+pub struct Infix {
+    pub operator: Connective,
+    pub operand: Boxed<FormTree>,
+}
+
+/// An operand, the further operands of its product, and those of its sum.
+#[derive(Drop)]
+pub struct Operand {
+    pub form: Boxed<FormTree>,
+    pub products: Stack<Infix>,
+    pub sums: Stack<Infix>,
+}
+
+/// What follows an atom: what stands right behind it, the arguments, and the further operands of the product and the
+/// sum.
+#[derive(Drop)]
+pub struct Run {
+    pub suffixes: Stack<Suffix>,
+    pub arguments: Stack<Boxed<FormTree>>,
+    pub products: Stack<Infix>,
+    pub sums: Stack<Infix>,
+}
+
+/// What may stand right behind an atom.
+#[derive(Drop)]
+pub enum Suffix {
+    Get(Boxed<FormTree>),
+    Set(Boxed<FormTree>, Boxed<FormTree>),
+    Component(Number),
+    ToReal,
+    Side(SideTree),
+}
+
+/// What follows a form in brackets: nothing, its type, or the other parts of a tuple.
+#[derive(Drop)]
+pub enum BracketTail {
+    End,
+    Typed(Boxed<TypeTree>),
+    Tuple(Items<Boxed<FormTree>>),
+}
+
+/// A `phoare` without its bound.
+#[derive(Drop)]
+pub struct PhoareTree {
+    pub subject: Boxed<SubjectTree>,
+    pub pre: Boxed<FormTree>,
+    pub post: Boxed<FormTree>,
+    pub place: Place,
+}
+
+/// What follows a `phoare`: a run, or the bound, which ends the sums around it.
+#[derive(Drop)]
+pub enum PhoareRun {
+    Unbounded(Run),
+    Bounded(Infix),
+}
+
+/// What follows the first word of a call: further words or those of a functor, and the arguments.
+#[derive(Drop)]
+pub struct CallTail {
+    pub words: Stack<Word>,
+    pub functor: Option<CallFunctor>,
+    pub arguments: Items<Boxed<FormTree>>,
+}
+
+/// The arguments of a functor, read as forms, and a procedure of it.
+#[derive(Drop)]
+pub struct CallFunctor {
+    pub modules: Items<Boxed<FormTree>>,
+    pub procedure: Word,
+}
+
+/// What follows the arguments of a functor: a procedure of it, and the arguments of this one.
+#[derive(Drop)]
+pub struct FunctorCall {
+    pub procedure: Word,
+    pub arguments: Items<Boxed<FormTree>>,
+}
+
+/// The stacks of forms, of what they are put together from, and of calls.
+#[derive(Drop)]
+pub struct FormulaValues {
+    pub forms: Sorted<Boxed<FormTree>>,
+    pub tails: Stack<Tail>,
+    pub infixes: Sorted<Infix>,
+    pub operands: Stack<Operand>,
+    pub runs: Stack<Run>,
+    pub suffixes: Stack<Suffix>,
+    pub sides: Sorted<SideTree>,
+    pub bracket_tails: Stack<BracketTail>,
+    pub weights: Sorted<Weight>,
+    pub phoares: Stack<PhoareTree>,
+    pub phoare_runs: Stack<PhoareRun>,
+    pub equated: Sorted<EquatedTree>,
+    pub subjects: Stack<Boxed<SubjectTree>>,
+    pub calls: Stack<Boxed<CallTree>>,
+    pub call_tails: Stack<CallTail>,
+    pub functor_calls: Stack<Option<FunctorCall>>,
+}
+
+pub fn no_form() -> FormTree
+    ensures { result ≡ no_form }
+{
+    FormTree {
+        shape: FormShape::Unit,
+        place: no_place(),
+    }
+}
+
+pub fn no_tail() -> Tail
+    ensures { result ≡ no_tail }
+{
+    Tail {
+        implied: None,
+        equivalent: None,
+        chosen: None,
+    }
+}
+
+pub fn no_run(alloc: Global) -> Run
+    ensures { result ≡ no_run }
+{
+    Run {
+        suffixes: Stack::new(alloc),
+        arguments: Stack::new(alloc),
+        products: Stack::new(alloc),
+        sums: Stack::new(alloc),
+    }
+}
+
+pub fn no_phoare_run(alloc: Global) -> PhoareRun
+    ensures { result ≡ no_phoare_run }
+{
+    PhoareRun::Unbounded(no_run(alloc))
+}
+
+pub fn no_call_tail(alloc: Global) -> CallTail
+    ensures { result ≡ no_call_tail }
+{
+    CallTail {
+        words: Stack::new(alloc),
+        functor: None,
+        arguments: Items::new(alloc),
+    }
+}
+
+/// Empty stacks.
+pub fn no_formulas(alloc: Global) -> FormulaValues
+    ensures { result ≡ no_formulas }
+{
+    FormulaValues {
+        forms: nothing_sorted(alloc),
+        tails: Stack::new(alloc),
+        infixes: nothing_sorted(alloc),
+        operands: Stack::new(alloc),
+        runs: Stack::new(alloc),
+        suffixes: Stack::new(alloc),
+        sides: nothing_sorted(alloc),
+        bracket_tails: Stack::new(alloc),
+        weights: nothing_sorted(alloc),
+        phoares: Stack::new(alloc),
+        phoare_runs: Stack::new(alloc),
+        equated: nothing_sorted(alloc),
+        subjects: Stack::new(alloc),
+        calls: Stack::new(alloc),
+        call_tails: Stack::new(alloc),
+        functor_calls: Stack::new(alloc),
+    }
+}

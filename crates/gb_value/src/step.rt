@@ -1,0 +1,140 @@
+// The values of proof steps.
+
+ghost use Rattle.std.specs.Prelude.{◌≡◌};
+ghost use Rattle.gb_value.specs.Step.{no_pattern, no_lemma, no_have_rest, no_call_rule, no_distance, no_steps};
+
+use crate::path::{no_number, no_place, no_word};
+use crate::sorted::{Sorted, nothing_sorted};
+use gb_text::stack::Stack;
+use gb_tree::form::{FormTree, Number, Word};
+use gb_tree::step::{
+    ArgumentTree, CallRule, CombinedStep, Continuation, Distance, Guard, Guards, Hint, LemmaUse,
+    PatternShape, PatternTree, Patterns, ProcPaths, RuleTree, Summand, TacticTree,
+};
+use sqlite_items::{Boxed, Items};
+use std::alloc::Global;
+
+/// What two patterns in square brackets are for: the parts of a conjunction, or the cases of a disjunction.
+#[derive(Clone, Copy)]
+pub enum Pairing {
+    Both,
+    Either,
+}
+
+/// What follows `have H :`.
+#[derive(Drop)]
+pub enum HaveRest {
+    Form(Boxed<FormTree>),
+    Lemma(LemmaUse),
+}
+
+/// What follows the first form of `call (_ : F`.
+#[derive(Drop)]
+pub enum CallRest {
+    Invariant,
+    Upto(Boxed<FormTree>),
+    Post(Boxed<FormTree>),
+}
+
+/// What follows the number of `fel`.
+#[derive(Drop)]
+pub enum FelRest {
+    Counter {
+        counter: Boxed<FormTree>,
+        variable: Word,
+        bound: Boxed<FormTree>,
+        calls: Number,
+        bad: Boxed<FormTree>,
+        guards: Guards,
+        invariant: Boxed<FormTree>,
+    },
+    Bounds {
+        oracles: ProcPaths,
+        bound: Boxed<FormTree>,
+        bad: Boxed<FormTree>,
+        invariant: Boxed<FormTree>,
+    },
+}
+
+/// The stacks of proof steps.
+#[derive(Drop)]
+pub struct StepValues {
+    pub tactics: Sorted<TacticTree>,
+    pub continuations: Sorted<Continuation>,
+    pub combined: Stack<CombinedStep>,
+    pub introductions: Stack<Option<Patterns>>,
+    pub patterns: Sorted<PatternTree>,
+    pub pairings: Stack<Pairing>,
+    pub rules: Stack<Boxed<RuleTree>>,
+    pub lemmas: Stack<LemmaUse>,
+    pub argument_lists: Stack<Stack<ArgumentTree>>,
+    pub have_rests: Stack<HaveRest>,
+    pub call_rules: Stack<CallRule>,
+    pub call_rests: Stack<CallRest>,
+    pub distances: Stack<Distance>,
+    pub fel_rests: Stack<FelRest>,
+    pub guards: Sorted<Guard>,
+    pub hints: Sorted<Hint>,
+    pub summands: Sorted<Summand>,
+}
+
+pub fn no_pattern() -> PatternTree
+    ensures { result ≡ no_pattern }
+{
+    PatternTree {
+        shape: PatternShape::Drop,
+        place: no_place(),
+    }
+}
+
+pub fn no_lemma(alloc: Global) -> LemmaUse
+    ensures { result ≡ no_lemma }
+{
+    LemmaUse {
+        lemma: no_word(alloc),
+        arguments: Items::new(alloc),
+    }
+}
+
+pub fn no_have_rest(alloc: Global) -> HaveRest
+    ensures { result ≡ no_have_rest }
+{
+    HaveRest::Lemma(no_lemma(alloc))
+}
+
+pub fn no_call_rule(alloc: Global) -> CallRule
+    ensures { result ≡ no_call_rule }
+{
+    CallRule::Lemma(no_lemma(alloc))
+}
+
+pub fn no_distance(alloc: Global) -> Distance
+    ensures { result ≡ no_distance }
+{
+    Distance::Forward(no_number(alloc))
+}
+
+/// Empty stacks.
+pub fn no_steps(alloc: Global) -> StepValues
+    ensures { result ≡ no_steps }
+{
+    StepValues {
+        tactics: nothing_sorted(alloc),
+        continuations: nothing_sorted(alloc),
+        combined: Stack::new(alloc),
+        introductions: Stack::new(alloc),
+        patterns: nothing_sorted(alloc),
+        pairings: Stack::new(alloc),
+        rules: Stack::new(alloc),
+        lemmas: Stack::new(alloc),
+        argument_lists: Stack::new(alloc),
+        have_rests: Stack::new(alloc),
+        call_rules: Stack::new(alloc),
+        call_rests: Stack::new(alloc),
+        distances: Stack::new(alloc),
+        fel_rests: Stack::new(alloc),
+        guards: nothing_sorted(alloc),
+        hints: nothing_sorted(alloc),
+        summands: nothing_sorted(alloc),
+    }
+}
