@@ -1,12 +1,1 @@
-pub mod Claims
-pub mod Form
-pub mod Kinds
-pub mod LeftOut
-pub mod Level
-pub mod Lexeme
-pub mod Limits
 pub mod Makes
-pub mod Payload
-pub mod Sorts
-pub mod Takes
-pub mod Text

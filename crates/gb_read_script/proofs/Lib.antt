@@ -1,3 +1,3 @@
-pub mod Arms
+pub mod Builds
 pub mod Texts
 mod Unique

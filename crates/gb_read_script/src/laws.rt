@@ -5,19 +5,21 @@ ghost use Rattle.gb_core.specs.declared.place.Place.{Place};
 ghost use Rattle.gb_core.specs.declared.refusal.Why.{Why};
 ghost use Rattle.gb_tree.specs.declared.command.Command.{Command};
 ghost use Rattle.gb_tree.specs.declared.form.FormTree.{FormTree};
-ghost use Rattle.gb_read_form.specs.declared.text.Text.{Text};
+ghost use Rattle.gb_text.specs.declared.text.Text.{Text};
 ghost use Rattle.gb_read_script.specs.Reading.{SpellsCommand, SpellsForm, IsRefusal, IsAllowed};
 
 use gb_grammar::laws::first_faults_are_unique;
-use gb_read_form::laws::{first_places_are_unique, steps_are_unique, values_are_unique};
-use gb_read_form::rule::Rule;
+use gb_limits::laws::first_places_are_unique;
+use gb_table::laws::steps_are_unique;
+use gb_table::rule::Rule;
+use gb_text::laws::kinds_are_kinds;
 
 /// A text spells one command at most.
 pub fn commands_are_unique()
     ensures { (t : Text) (c d : Command) → SpellsCommand t c → SpellsCommand t d → c ≡ d }
 {
     steps_are_unique();
-    values_are_unique();
+    kinds_are_kinds();
 }
 
 /// A text spells one form at most.
@@ -25,7 +27,7 @@ pub fn forms_are_unique()
     ensures { (t : Text) (f g : FormTree) → SpellsForm t f → SpellsForm t g → f ≡ g }
 {
     steps_are_unique();
-    values_are_unique();
+    kinds_are_kinds();
 }
 
 /// A text of a part is refused for one reason at most, at one place, and not at all where it is read within the limits.

@@ -1,11 +1,7 @@
-//! From tokens to commands.
+//! From tokens to commands and forms.
 #![tactic(auto)]
 
 pub mod build;
-pub mod command;
+pub mod dispatch;
 pub mod laws;
-pub mod make;
-pub mod pop;
-pub mod program;
 pub mod reading;
-pub mod step;

@@ -1,5 +1,6 @@
+use Rattle.gb_text.specs.Lexeme.{kinds_of}
 use Rattle.gb_read_script.proofs.Unique.{one_command}
 use Rattle.gb_read_script.proofs.laws.commands_are_unique.Goals as goal
 
 pub returns : goal.returns
-returns c = one_command c.steps_are_unique.ensures c.values_are_unique.ensures
+returns c = one_command (λ part ready t a b. c.steps_are_unique.ensures part (kinds_of t) a b ready (c.kinds_are_kinds.ensures t))

@@ -1,20 +1,7 @@
-use Rattle.std.specs.Prelude.{List}
-use Rattle.std.proofs.Common.{◌≡◌, ap, subst, Err}
+use Rattle.std.proofs.Common.{◌≡◌, ap, Err}
 use Rattle.gb_core.specs.declared.refusal.Refused.{Refused}
 use Rattle.gb_core.specs.declared.refusal.Refused.TheVariants.{Script}
-use Rattle.gb_read_form.specs.declared.value.Value.{Value}
-use Rattle.gb_read_form.specs.declared.rows.TheConstants.{FORM}
-use Rattle.gb_read_form.specs.Lexeme.{text_at}
-use Rattle.gb_read_script.specs.Reading.{Leaves}
-use Rattle.gb_read_script.proofs.Texts.{sole_value}
 use Rattle.gb_read_script.proofs.reading.form.Goals as goal
-
-pub sole_form-requires : goal.sole_form-requires
-sole_form-requires c = sole_value FORM (text_at c.args.text.now c.args.at c.args.tokens.now) c.in-Ok.values c.in-Ok.ensures.found
-
-pub returns-in-Ok-clause-found : goal.returns-in-Ok-clause-found
-returns-in-Ok-clause-found c =
-    subst (λ (values : List Value). Leaves FORM (text_at c.args.text.now c.args.at c.args.tokens.now) values) c.sole_form.ensures c.in-Ok.ensures.found
 
 pub returns-in-Err-clause-refused : goal.returns-in-Err-clause-refused
 returns-in-Err-clause-refused c = λ why place e.

@@ -4,15 +4,15 @@ use Rattle.gb_core.specs.declared.refusal.Refused.TheVariants.{Script}
 use Rattle.gb_core.specs.declared.refusal.Why.TheVariants.{Syntax}
 use Rattle.gb_grammar.specs.declared.error.ReadError.{ReadError}
 use Rattle.gb_grammar.specs.declared.error.ReadError.TheVariants as ReadErrors
-use Rattle.gb_read_form.specs.Lexeme.{kinds_of}
-use Rattle.gb_read_form.specs.Limits.{NoneTooDeep}
-use Rattle.gb_read_form.specs.Text.{place_at}
+use Rattle.gb_text.specs.Lexeme.{kinds_of}
+use Rattle.gb_limits.specs.Limits.{NoneTooDeep}
+use Rattle.gb_text.specs.Text.{place_at}
 use Rattle.gb_read_script.specs.Reading.{IsDepthPlace}
 use Rattle.gb_read_script.proofs.Texts.{spells_as, fault_as}
 use Rattle.gb_read_script.proofs.reading.steps.Goals as goal
 
 pub returns-in-Err-clause-only : goal.returns-in-Err-clause-only
-returns-in-Err-clause-only c = λ s text deep long.
+returns-in-Err-clause-only c = λ s text deep long numbers.
     let e : c.in-Err-Fault.field-0 ≡ ReadErrors.Fault c.in-Err-Fault.at = c.in-Err-Fault.field-0-is in
     let fault = fault_as c.args.part c.as_slice.result.now (kinds_of c.args.text.now) c.in-Err-Fault.at (c.as_slice.ensures.value ∙ c.in-Ok.ensures.kinds) (c.in-Err-Fault.ensures.fault c.in-Err-Fault.at (ap (λ (x : ReadError). Err x) e)) in
     absurd (fault.no_text s text)
@@ -26,7 +26,7 @@ returns-in-Err-clause-fault c = λ why place same.
     inl (d.0, (c.in-Err-Fault.at, inl fault, subst (λ (n : ℕ). IsDepthPlace c.args.text.now n place) c.in-Err-Fault.at-is d.1))
 
 pub returns-in-Err-Fault-clause-only : goal.returns-in-Err-Fault-clause-only
-returns-in-Err-Fault-clause-only c = λ s text deep long.
+returns-in-Err-Fault-clause-only c = λ s text deep long numbers.
     let e : c.in-Err-Fault.field-0 ≡ ReadErrors.Fault c.in-Err-Fault.at = c.in-Err-Fault.field-0-is in
     let fault = fault_as c.args.part c.as_slice.result.now (kinds_of c.args.text.now) c.in-Err-Fault.at (c.as_slice.ensures.value ∙ c.in-Ok.ensures.kinds) (c.in-Err-Fault.ensures.fault c.in-Err-Fault.at (ap (λ (x : ReadError). Err x) e)) in
     absurd (fault.no_text s text)
@@ -42,10 +42,10 @@ returns-in-Err-Fault-clause-fault c = λ why place same.
 pub returns-in-Err-check_limits-clause-fault : goal.returns-in-Err-check_limits-clause-fault
 returns-in-Err-check_limits-clause-fault c = λ why place same.
     let r : c.in-Err-check_limits.refused ≡ Script why place = cc in
-    let text = spells_as c.args.part c.as_slice.result.now (kinds_of c.args.text.now) c.in-Ok-read.steps.items c.in-Ok-read.steps.items (c.as_slice.ensures.value ∙ c.in-Ok.ensures.kinds) refl c.in-Ok-read.ensures.found in
+    let text = spells_as c.args.part c.as_slice.result.now (kinds_of c.args.text.now) c.in-Ok-read_text.steps.items c.in-Ok-read_text.steps.items (c.as_slice.ensures.value ∙ c.in-Ok.ensures.kinds) refl c.in-Ok-read_text.ensures.found in
     let limit = c.in-Err-check_limits.ensures.limit why place (ap (λ (x : Refused). Err x) r) in
-    elim limit [ inl d ↦ inl (d.0, (length c.args.text.now.lexemes, inr (refl, (c.in-Ok-read.steps.items, text)), d.1)) | inr x ↦ inr (inr (x.0, (c.in-Ok-read.steps.items, text), x.1, x.2)) ]
+    elim limit [ inl d ↦ inl (d.0, (length c.args.text.now.lexemes, inr (refl, (c.in-Ok-read_text.steps.items, text)), d.1)) | inr x ↦ inr (inr ((c.in-Ok-read_text.steps.items, text), x.0, x.1)) ]
 
 pub returns-clause-found : goal.returns-clause-found
 returns-clause-found c =
-    spells_as c.args.part c.as_slice.result.now (kinds_of c.args.text.now) c.in-Ok-read.steps.items c.in-Ok-read.steps.items (c.as_slice.ensures.value ∙ c.in-Ok.ensures.kinds) refl c.in-Ok-read.ensures.found
+    spells_as c.args.part c.as_slice.result.now (kinds_of c.args.text.now) c.in-Ok-read_text.steps.items c.in-Ok-read_text.steps.items (c.as_slice.ensures.value ∙ c.in-Ok.ensures.kinds) refl c.in-Ok-read_text.ensures.found

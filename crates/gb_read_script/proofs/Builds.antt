@@ -1,0 +1,21 @@
+-- Values of one more step.
+use Rattle.std.specs.Prelude.{◌≡◌, ℕ, ◌+◌, ◌<◌, List, [], ◌∷◌, length, drop}
+use Rattle.std.proofs.Common.{refl, ap, sym, ◌∙◌, subst, arith, add-one, drop-cons, get_or, take_all}
+use Rattle.gb_grammar.specs.declared.table.Step.{Step}
+use Rattle.gb_table.specs.declared.rule.Rule.{Rule}
+use Rattle.gb_text.specs.declared.text.Text.{Text}
+use Rattle.gb_value.specs.Values.{no_values}
+use Rattle.gb_read_script.specs.Built.{made, built}
+
+pub built_none : (t : Text) → built t [] ≡ no_values
+unfolding built
+built_none t = refl
+
+pub built_more : (t : Text) (s : Step Rule) (steps : List (Step Rule)) → built t (s ∷ steps) ≡ made t s.rule s.at (built t steps)
+unfolding built
+built_more t s steps = refl
+
+pub built_at : (t : Text) (steps : List (Step Rule)) (i : ℕ) (d : Step Rule) → i < length steps → built t (drop i steps) ≡ made t (get_or steps i d).rule (get_or steps i d).at (built t (drop (i + 1) steps))
+built_at t steps i d lt =
+    let e : drop i steps ≡ get_or steps i d ∷ drop (i + 1) steps = rw (add-one) (drop-cons steps i d lt) in
+    ap (built t) e ∙ built_more t (get_or steps i d) (drop (i + 1) steps)
