@@ -1,3 +1,4 @@
+pub mod Layers
 pub mod Elaborated
 pub mod Arms
 pub mod Functions

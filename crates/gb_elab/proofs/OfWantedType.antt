@@ -3,7 +3,7 @@ use Rattle.std.proofs.Common.{◌≡◌, Bool, true, false, not, ◌&&◌, if◌
 use Rattle.gb_core.specs.declared.place.Place.{Place}
 use Rattle.gb_core.specs.declared.refusal.Refused.{Refused}
 use Rattle.gb_core.specs.declared.refusal.Why.{Why}
-use Rattle.gb_core.specs.declared.refusal.Why.TheVariants.{TypeMismatch, Argument}
+use Rattle.gb_core.specs.declared.refusal.Why.TheVariants.{Syntax, TypeMismatch, Argument}
 use Rattle.gb_core.specs.declared.ty.Ty.{Ty}
 use Rattle.gb_core.specs.declared.value.Value.TheVariants.{Num}
 use Rattle.gb_core.specs.declared.ty.Ty.TheVariants.{Bool as bool_ty, Distr}
@@ -11,6 +11,7 @@ use Rattle.gb_same.proofs.Decided.{ty_eq-Decides}
 use Rattle.gb_same.specs.Types.{ty_eq}
 use Rattle.gb_terms.specs.declared.decl.Proc.{Proc}
 use Rattle.gb_terms.specs.declared.decl.TypedName.{TypedName}
+use Rattle.gb_terms.specs.declared.op.Op.{Op}
 use Rattle.gb_terms.specs.declared.op.Op.TheVariants as op
 use Rattle.gb_terms.specs.declared.op.Side.TheVariants as side
 use Rattle.gb_terms.specs.declared.term.Term.{Term}
@@ -18,22 +19,26 @@ use Rattle.gb_terms.specs.declared.term.Head.{Head}
 use Rattle.gb_terms.specs.declared.term.Head.TheVariants.{Lit, Builtin, All, Some as Exist, Equiv, Proc as procedure}
 use Rattle.gb_terms.specs.declared.term.Head.TheViews.{out-roll-Term}
 use Rattle.gb_terms.specs.Make.{node, applied}
-use Rattle.gb_tree.specs.declared.form.FormShape.{FormShape, out-FormShape, more_of-FormTree, end_of-FormTree}
-use Rattle.gb_tree.specs.declared.form.FormShape.TheVariants as shape
-use Rattle.gb_tree.specs.declared.form.FormShape.TheBlock as B
 use Rattle.gb_tree.specs.declared.form.FormShape.TheOpen as layer
+use Rattle.gb_tree.specs.declared.form.Connective.{Connective}
+use Rattle.gb_tree.specs.declared.form.EquatedTree.{EquatedTree}
+use Rattle.gb_tree.specs.declared.form.EquatedTree.TheVariants as equated
+use Rattle.gb_tree.specs.declared.form.FormShape.{out-FormShape}
 use Rattle.gb_tree.specs.declared.form.FormTree.{FormTree}
-use Rattle.gb_tree.specs.declared.form.ProcPath.{ProcPath}
 use Rattle.gb_tree.specs.declared.form.Quantifier.{Quantifier}
 use Rattle.gb_tree.specs.declared.form.Quantifier.TheVariants.{Forall, Exists}
 use Rattle.gb_tree.specs.declared.form.Word.{Word}
+use Rattle.gb_tree.specs.declared.judgment.ModuleExpr.{out-ModuleExpr}
+use Rattle.gb_tree.specs.declared.judgment.ProcPath.{ProcPath}
 use Rattle.gb_elab.specs.Answers.{Answer, ◌>>=◌, Answers, HasType, fits, truth, type_of_term, wanted}
 use Rattle.gb_elab.specs.Answers.Answer.{given, refused}
 use Rattle.gb_elab.specs.Environment.{Environment, on_side}
-use Rattle.gb_elab.specs.Forms.{Typing, typing, elaborated, bound_by, coin, equalities, equality, formula, has_judgments, is_program, joined, judged, judgment, left_side, negated, over, over_all, quantified, read, wants_distribution, with_equalities, with_right_side, operator}
-use Rattle.gb_elab.specs.Judgments.{named_procedure, before, after, equivalent, reference}
+use Rattle.gb_elab.specs.Forms.{Typing, typing, elaborated, bound_by, coin, equalities, equality, equation, formula, has_judgments, is_program, joined, judged, judgment, left_side, negated, over, over_all, quantified, operator, read, relation, wants_distribution, with_equalities, with_right_side}
+use Rattle.gb_elab.specs.Judgments.{about, named_procedure, before, after, equivalent, reference}
+use Rattle.gb_elab.specs.Layers.{Shape}
 use Rattle.gb_elab.specs.Names.{named, sided, unit}
-use Rattle.gb_elab.proofs.Elaborated.{parts, elaborated_is}
+use Rattle.gb_elab.proofs.Elaborated.{by_forms, parts}
+use Rattle.gb_elab.proofs.Layers.{each_form}
 
 refused_not : {A : Type 0} (w : Why) (p : Place) (y : A) → refused w p ≡ given y → (C : Type 0) → C
 refused_not w p y h C = cc
@@ -90,21 +95,25 @@ equality_type at bound x u h =
     let q = if_given (ty_eq (type_of_term r.0) (type_of_term l.0)) (applied op.Equal (l.0 ∷ r.0 ∷ []) bool_ty) TypeMismatch x.place u r.2 in
     ap type_of_term (sym q.1) ∙ node_type (Builtin op.Equal) (l.0 ∷ r.0 ∷ []) bool_ty
 
-with_equalities_type : (at : Environment) (bound : List TypedName) (f : Term) (xs : List Word) (u : Term) → type_of_term f ≡ bool_ty → with_equalities at bound f xs ≡ given u → type_of_term u ≡ bool_ty
+equation_type : (at : Environment) (bound : List TypedName) (x : EquatedTree) (u : Term) → equation at bound x ≡ given u → type_of_term u ≡ bool_ty
+equation_type at bound (equated.Path x) u h = equality_type at bound x u h
+equation_type at bound (equated.Glob m) u h = refused_not Syntax (out-ModuleExpr m).path.place u h _
+
+with_equalities_type : (at : Environment) (bound : List TypedName) (f : Term) (xs : List EquatedTree) (u : Term) → type_of_term f ≡ bool_ty → with_equalities at bound f xs ≡ given u → type_of_term u ≡ bool_ty
 unfolding with_equalities
 with_equalities_type at bound f [] u e h = ap type_of_term (sym (given_is f u h)) ∙ e
 with_equalities_type at bound f (x ∷ xs) u e h =
-    let q = given_bind (equality at bound x) (λ g. with_equalities at bound (applied op.And (f ∷ g ∷ []) bool_ty) xs) u h in
+    let q = given_bind (equation at bound x) (λ g. with_equalities at bound (applied op.And (f ∷ g ∷ []) bool_ty) xs) u h in
     with_equalities_type at bound (applied op.And (f ∷ q.0 ∷ []) bool_ty) xs u (node_type (Builtin op.And) (f ∷ q.0 ∷ []) bool_ty) q.2
 
-joined_type : (at : Environment) (bound : List TypedName) (xs : List Word) (u : Term) → joined at bound xs ≡ given u → type_of_term u ≡ bool_ty
+joined_type : (at : Environment) (bound : List TypedName) (xs : List EquatedTree) (u : Term) → joined at bound xs ≡ given u → type_of_term u ≡ bool_ty
 unfolding joined
 joined_type at bound [] u h = given_node (Lit (Num 1)) [] bool_ty u h
 joined_type at bound (x ∷ xs) u h =
-    let q = given_bind (equality at bound x) (λ e. with_equalities at bound e xs) u h in
-    with_equalities_type at bound q.0 xs u (equality_type at bound x q.0 q.1) q.2
+    let q = given_bind (equation at bound x) (λ e. with_equalities at bound e xs) u h in
+    with_equalities_type at bound q.0 xs u (equation_type at bound x q.0 q.1) q.2
 
-equalities_type : (at : Environment) (bound : List TypedName) (xs : List Word) (p : Place) (u : Term) → equalities at bound xs p ≡ given u → type_of_term u ≡ bool_ty
+equalities_type : (at : Environment) (bound : List TypedName) (xs : List EquatedTree) (p : Place) (u : Term) → equalities at bound xs p ≡ given u → type_of_term u ≡ bool_ty
 unfolding equalities
 equalities_type at bound xs p u h = joined_type at bound xs u (if_refused (is_none (on_side at side.Left)) Argument p (joined at bound xs) u h)
 
@@ -140,65 +149,53 @@ HasTypes f = (at : Environment) (bound : List TypedName) (w : Option Ty) (u : Te
 abbrev OfTree : FormTree → Type 0
 OfTree t = HasTypes (elaborated t)
 
--- the part whose type decides that of the whole has the wanted type
-abbrev Inner : layer.FormShape-F FormShape FormTree → Type 0
-Inner (layer.Bracketed a) = OfTree a
-Inner (layer.Quantified q bs a) = OfTree a
-Inner _ = Unit {0}
+-- a shape, each form in it with what is known of it
+abbrev Known : Type 0
+Known = Shape ((t : FormTree) × OfTree t)
 
-of_layer : (l : layer.FormShape-F FormShape FormTree) → Inner l → (p : Place) → HasTypes (typing (parts l) p)
+abbrev forms : Known → Shape FormTree
+forms = each_form (λ e. e.0)
+
+relation_has : (c : Connective) (w : Option Ty) (p : Place) (o : Op) (u : Term) → relation c w p ≡ given o → type_of_term u ≡ bool_ty → HasType w u
+relation_has c w p o u h e =
+    let q = given_bind (operator c p) (λ o. truth w p >>= λ x. given o) o h in
+    let r = given_bind (truth w p) (λ x. given q.0) o q.2 in
+    truth_has w p r.0 u r.1 e
+
+of_layer : (y : Known) (p : Place) → HasTypes (typing (parts (forms y)) p)
 unfolding typing
-of_layer (layer.Path x) o p at bound w u h = let q = given_bind (named at bound x p) (wanted w p) u h in wanted_has w p q.0 u q.2
-of_layer layer.Unit o p at bound w u h = wanted_has w p unit u h
-of_layer (layer.Bracketed a) o p at bound w u h = o at bound w u h
-of_layer (layer.Sided a s) o p at bound w u h = let q = given_bind (read at bound (out-FormShape a.shape) a.place s) (wanted w p) u h in wanted_has w p q.0 u q.2
-of_layer layer.Coin o p at bound w u h = coin_type at w p u h
-of_layer (layer.Function xs ty a) o p at bound w u h = refused_not TypeMismatch p u h (HasType w u)
-of_layer (layer.Not a) o p at bound w u h =
-    let q = given_bind (truth w p) (λ _. negated (elaborated a at bound)) u h in
-    let r = given_bind (elaborated a at bound (Some bool_ty)) (λ t. given (applied op.Not (t ∷ []) bool_ty)) u q.2 in
+of_layer (layer.FormShape::Path x) p at bound w u h = let q = given_bind (named at bound x p) (wanted w p) u h in wanted_has w p q.0 u q.2
+of_layer layer.Unit p at bound w u h = wanted_has w p unit u h
+of_layer (layer.Bracketed a) p at bound w u h = a.1 at bound w u h
+of_layer (layer.Sided a s) p at bound w u h = let q = given_bind (read at bound (out-FormShape a.0.shape) a.0.place s) (wanted w p) u h in wanted_has w p q.0 u q.2
+of_layer layer.Coin p at bound w u h = coin_type at w p u h
+of_layer (layer.Function xs ty a) p at bound w u h = refused_not TypeMismatch p u h (HasType w u)
+of_layer (layer.Not a) p at bound w u h =
+    let q = given_bind (truth w p) (λ _. negated (elaborated a.0 at bound)) u h in
+    let r = given_bind (elaborated a.0 at bound (Some bool_ty)) (λ t. given (applied op.Not (t ∷ []) bool_ty)) u q.2 in
     truth_has w p q.0 u q.1 (given_node (Builtin op.Not) (r.0 ∷ []) bool_ty u r.2)
-of_layer (layer.Binary c a b) o p at bound w u h =
-    let q = given_bind (truth w p) (λ _. left_side c p (elaborated a at bound) >>= λ l. with_right_side c l (elaborated b at bound)) u h in
-    let l = given_bind (left_side c p (elaborated a at bound)) (λ l. with_right_side c l (elaborated b at bound)) u q.2 in
-    let r = given_bind (elaborated b at bound (Some (type_of_term l.0))) (λ r. given (applied (operator c) (l.0 ∷ r ∷ []) bool_ty)) u l.2 in
-    truth_has w p q.0 u q.1 (given_node (Builtin (operator c)) (l.0 ∷ r.0 ∷ []) bool_ty u r.2)
-of_layer (layer.Equalities xs) o p at bound w u h =
-    let q = given_bind (truth w p) (λ _. equalities at bound xs p) u h in
-    truth_has w p q.0 u q.1 (equalities_type at bound xs p u q.2)
-of_layer (layer.Quantified q bs a) o p at bound w u h =
-    let f = given_bind (formula at w p) (λ _. quantified q bs bound (elaborated a at)) u h in
-    let r = given_bind (elaborated a at (reverse (bound_by bs) ++ bound) (Some bool_ty)) (λ t. given (over_all q (bound_by bs) t)) u f.2 in
-    formula_has at w p f.0 u f.1 (ap type_of_term (sym (given_is (over_all q (bound_by bs) r.0) u r.2)) ∙ over_all_type q (bound_by bs) r.0 (o at (reverse (bound_by bs) ++ bound) (Some bool_ty) r.0 r.1))
-of_layer (layer.Equiv f g a b) o p at bound w u h =
-    let q = given_bind (judgment at w p) (λ _. judged at bound f g (elaborated a) (elaborated b)) u h in
-    judgment_has at w p q.0 u q.1 (judged_type at bound f g (elaborated a) (elaborated b) u q.2)
-
-of_node : (s : FormShape) → Inner (out-FormShape s) → (q : Place) → OfTree (record { shape = s; place = q })
-of_node s o q at bound w u h = of_layer (out-FormShape s) o q at bound w u (sym (elaborated_is (record { shape = s; place = q }) at bound w) ∙ h)
-
-shown_one : (s : FormShape) (q : Place) → B.shown-the_row-FormTree-0 tt (more_of-FormTree s q end_of-FormTree) ≡ record { shape = s; place = q }
-unfolding B.shown-the_row-FormTree-0 denote.Hole.Carrier.shown
-shown_one s q = refl
-
-inner_of : (s : FormShape) → Inner (out-FormShape s)
-unfolding out-FormShape denote.Hole.Carrier.out
-inner_of (shape.Bracketed' p (more_of-FormTree s q end_of-FormTree)) =
-    subst Inner (sym (shape.outs-Bracketed' p (more_of-FormTree s q end_of-FormTree))) (subst OfTree (sym (shown_one s q)) (of_node s (inner_of s) q))
-inner_of (shape.Quantified' k bs p (more_of-FormTree s q end_of-FormTree)) =
-    subst Inner (sym (shape.outs-Quantified' k bs p (more_of-FormTree s q end_of-FormTree))) (subst OfTree (sym (shown_one s q)) (of_node s (inner_of s) q))
-inner_of (shape.Path x) = tt
-inner_of shape.Unit = tt
-inner_of shape.Coin = tt
-inner_of (shape.Equalities xs) = tt
-inner_of (shape.Not' p r) = subst Inner (sym (shape.outs-Not' p r)) tt
-inner_of (shape.Binary' c p r q s) = subst Inner (sym (shape.outs-Binary' c p r q s)) tt
-inner_of (shape.Sided' p r x) = subst Inner (sym (shape.outs-Sided' p r x)) tt
-inner_of (shape.Function' xs ty p r) = subst Inner (sym (shape.outs-Function' xs ty p r)) tt
-inner_of (shape.Equiv' f g p r q s) = subst Inner (sym (shape.outs-Equiv' f g p r q s)) tt
+of_layer (layer.Binary c a b) p at bound w u h =
+    let q = given_bind (relation c w p) (λ o. left_side c p (elaborated a.0 at bound) >>= λ l. with_right_side o l (elaborated b.0 at bound)) u h in
+    let l = given_bind (left_side c p (elaborated a.0 at bound)) (λ l. with_right_side q.0 l (elaborated b.0 at bound)) u q.2 in
+    let r = given_bind (elaborated b.0 at bound (Some (type_of_term l.0))) (λ r. given (applied q.0 (l.0 ∷ r ∷ []) bool_ty)) u l.2 in
+    relation_has c w p q.0 u q.1 (given_node (Builtin q.0) (l.0 ∷ r.0 ∷ []) bool_ty u r.2)
+of_layer (layer.Equalities es) p at bound w u h =
+    let q = given_bind (truth w p) _ u h in
+    truth_has w p q.0 u q.1 (equalities_type at bound _ p u q.2)
+of_layer (layer.Quantified k bs a) p at bound w u h =
+    let f = given_bind (formula at w p) _ u h in
+    let vs = given_bind (bound_by [] _) (λ vs. quantified k vs bound (elaborated a.0 at)) u f.2 in
+    let r = given_bind (elaborated a.0 at (reverse vs.0 ++ bound) (Some bool_ty)) (λ t. given (over_all k vs.0 t)) u vs.2 in
+    formula_has at w p f.0 u f.1 (ap type_of_term (sym (given_is (over_all k vs.0 r.0) u r.2)) ∙ over_all_type k vs.0 r.0 (a.1 at (reverse vs.0 ++ bound) (Some bool_ty) r.0 r.1))
+of_layer (layer.Equiv f g a b) p at bound w u h =
+    let q = given_bind (judgment at w p) (λ _. about f p >>= λ left. about g p >>= λ right. judged at bound left right (elaborated a.0) (elaborated b.0)) u h in
+    let l = given_bind (about f p) (λ left. about g p >>= λ right. judged at bound left right (elaborated a.0) (elaborated b.0)) u q.2 in
+    let r = given_bind (about g p) (λ right. judged at bound l.0 right (elaborated a.0) (elaborated b.0)) u l.2 in
+    judgment_has at w p q.0 u q.1 (judged_type at bound l.0 r.0 (elaborated a.0) (elaborated b.0) u r.2)
+of_layer _ p at bound w u h = refused_not Syntax p u h (HasType w u)
 
 pub elaborated_type : (t : FormTree) → HasTypes (elaborated t)
-elaborated_type t = of_node t.shape (inner_of t.shape) t.place
+elaborated_type = by_forms HasTypes of_layer
 
 pub typed_as_type : (t : FormTree) (at : Environment) (bound : List TypedName) (ty : Ty) (u : Term) → elaborated t at bound (Some ty) ≡ given u → type_of_term u ≡ ty
 typed_as_type t at bound ty u h = elaborated_type t at bound (Some ty) u h

@@ -4,7 +4,7 @@ use Rattle.gb_core.specs.declared.place.Place.{Place}
 use Rattle.gb_core.specs.declared.refusal.Refused.{Refused}
 use Rattle.gb_core.specs.declared.refusal.Refused.TheVariants.{NoMemory, ReadFault, Script}
 use Rattle.gb_core.specs.declared.refusal.Why.{Why}
-use Rattle.gb_core.specs.declared.refusal.Why.TheVariants.{TypeMismatch, TooMany}
+use Rattle.gb_core.specs.declared.refusal.Why.TheVariants.{Syntax, TypeMismatch, TooMany}
 use Rattle.gb_core.specs.declared.ty.Ty.{Ty}
 use Rattle.gb_core.specs.declared.ty.Ty.TheVariants.{Bool as bool_ty}
 use Rattle.gb_terms.specs.declared.term.Term.{Term, out-Term}
@@ -24,6 +24,10 @@ abbrev pub ◌>>=◌ : {A B : Type 0} → Answer A → (A → Answer B) → Answ
 abbrev pub given_or : {A : Type 0} → Option A → Why → Place → Answer A
 given_or (Some x) w p = given x
 given_or None w p = refused w p
+
+-- a form of the language that isn't built yet; the reader lets none pass
+abbrev pub not_built : {A : Type 0} → Place → Answer A
+not_built p = refused Syntax p
 
 -- A refusal of the code is this one, or want of memory.
 abbrev pub Refuses : Why → Place → Refused → Type 0

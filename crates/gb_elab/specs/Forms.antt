@@ -1,5 +1,5 @@
 -- The typing of forms: from left to right, with a type that is wanted, or none.
-use Rattle.std.specs.Prelude.{ℕ, ◌==◌, Bool, true, false, not, ◌&&◌, if◌then◌else◌, List, [], ◌∷◌, ◌++◌, map, flat_map, length, reverse, Option, Some, None, is_none}
+use Rattle.std.specs.Prelude.{ℕ, ◌==◌, Bool, true, false, not, ◌&&◌, if◌then◌else◌, List, [], ◌∷◌, ◌++◌, map, length, reverse, Option, Some, None, is_none}
 use Rattle.gb_core.specs.declared.place.Place.{Place}
 use Rattle.gb_core.specs.declared.refusal.Why.TheVariants.{TypeMismatch, Argument}
 use Rattle.gb_core.specs.declared.ty.Ty.{Ty, out-Ty}
@@ -13,26 +13,30 @@ use Rattle.gb_terms.specs.declared.op.Side.TheVariants as side
 use Rattle.gb_terms.specs.declared.term.Term.{Term}
 use Rattle.gb_terms.specs.declared.term.Head.TheVariants.{Builtin, All, Some as Exist}
 use Rattle.gb_terms.specs.Make.{node, applied, truth_literal}
-use Rattle.gb_tree.specs.declared.form.Binder.{Binder}
+use Rattle.gb_tree.specs.declared.form.Bind.{Bind}
+use Rattle.gb_tree.specs.declared.form.Bind.TheVariants as bind
 use Rattle.gb_tree.specs.declared.form.Connective.{Connective}
 use Rattle.gb_tree.specs.declared.form.Connective.TheVariants as connective
-use Rattle.gb_tree.specs.declared.form.FormShape.{FormShape, out-FormShape}
+use Rattle.gb_tree.specs.declared.form.EquatedTree.{EquatedTree}
+use Rattle.gb_tree.specs.declared.form.EquatedTree.TheVariants as equated
+use Rattle.gb_tree.specs.declared.form.FormShape.{out-FormShape}
 use Rattle.gb_tree.specs.declared.form.FormShape.TheOpen as layer
-use Rattle.gb_tree.specs.declared.form.FormShape.TheFolds.{para-FormTree}
 use Rattle.gb_tree.specs.declared.form.FormTree.{FormTree}
-use Rattle.gb_tree.specs.declared.form.ProcPath.{ProcPath}
 use Rattle.gb_tree.specs.declared.form.Quantifier.{Quantifier}
 use Rattle.gb_tree.specs.declared.form.Quantifier.TheVariants.{Forall, Exists}
 use Rattle.gb_tree.specs.declared.form.SideTree.{SideTree}
 use Rattle.gb_tree.specs.declared.form.SideTree.TheVariants as text
 use Rattle.gb_tree.specs.declared.form.TypeTree.{TypeTree}
 use Rattle.gb_tree.specs.declared.form.Word.{Word}
+use Rattle.gb_tree.specs.declared.judgment.ModuleExpr.{out-ModuleExpr}
+use Rattle.gb_tree.specs.declared.judgment.ProcPath.{ProcPath}
 use Rattle.gb_elab.specs.declared.setting.Language.{Language}
-use Rattle.gb_elab.specs.declared.setting.Language.TheVariants.{Formula, Function, Program}
-use Rattle.gb_elab.specs.Answers.{Answer, ◌>>=◌, type_of_term, wanted, truth}
+use Rattle.gb_elab.specs.declared.setting.Language.TheVariants.{Formula, Program}
+use Rattle.gb_elab.specs.Answers.{Answer, ◌>>=◌, not_built, type_of_term, wanted, truth}
 use Rattle.gb_elab.specs.Answers.Answer.{given, refused}
 use Rattle.gb_elab.specs.Environment.{Environment, on_side}
-use Rattle.gb_elab.specs.Judgments.{named_procedure, before, after, equivalent}
+use Rattle.gb_elab.specs.Judgments.{about, named_procedure, before, after, equivalent}
+use Rattle.gb_elab.specs.Layers.{Layer, Shape, of_forms}
 use Rattle.gb_elab.specs.Names.{unit, named, sided, in_memory}
 use Rattle.gb_elab.specs.Types.{type_of}
 
@@ -44,9 +48,19 @@ Typing = Environment → List TypedName → Option Ty → Answer Term
 abbrev pub of_type : List Word → Ty → List TypedName
 of_type xs t = map (λ x. record { name = x.name; ty = t }) xs
 
--- the names of binders, in the order of the text
-abbrev pub bound_by : List Binder → List TypedName
-bound_by bs = flat_map (λ b. of_type b.names (type_of b.ty)) bs
+abbrev pub bound_in : Bind → Answer (List TypedName)
+bound_in (bind.Values b) = do
+  t ← type_of b.ty
+  given (of_type b.names t)
+bound_in (bind.Memory x) = not_built x.place
+bound_in (bind.Module m) = not_built m.name.place
+
+-- the variables that are bound, in the order of the text, behind those that came before
+unfoldable pub bound_by : List TypedName → List Bind → Answer (List TypedName)
+bound_by vs [] = given vs
+bound_by vs (b ∷ bs) = do
+  ws ← bound_in b
+  bound_by (vs ++ ws) bs
 
 abbrev pub over : Quantifier → Ty → Term → Term
 over Forall t f = node (All t) (f ∷ []) bool_ty
@@ -97,19 +111,27 @@ remembered Program at x m p = refused Argument p
 remembered _ at x m p = in_memory at x m p
 
 -- a form with a side, which is of a name alone
-abbrev pub read : Environment → List TypedName → layer.FormShape-F FormShape FormTree → Place → SideTree → Answer Term
-read at bound (layer.Path x) p text.Left = sided at bound x side.Left p
-read at bound (layer.Path x) p text.Right = sided at bound x side.Right p
-read at bound (layer.Path x) p (text.Memory m) = remembered at.language at x m p
+abbrev pub read : Environment → List TypedName → Shape FormTree → Place → SideTree → Answer Term
+read at bound (layer.FormShape::Path x) p text.Left = sided at bound x side.Left p
+read at bound (layer.FormShape::Path x) p text.Right = sided at bound x side.Right p
+read at bound (layer.FormShape::Path x) p (text.Memory m) = remembered at.language at x m p
 read at bound _ p s = refused Argument p
 
-abbrev pub operator : Connective → Op
-operator connective.And = op.And
-operator connective.Or = op.Or
-operator connective.Implies = op.Implies
-operator connective.Iff = op.Iff
-operator connective.Equal = op.Equal
-operator connective.NotEqual = op.NotEqual
+abbrev pub operator : Connective → Place → Answer Op
+operator connective.And p = given op.And
+operator connective.Or p = given op.Or
+operator connective.Implies p = given op.Implies
+operator connective.Iff p = given op.Iff
+operator connective.Equal p = given op.Equal
+operator connective.NotEqual p = given op.NotEqual
+operator _ p = not_built p
+
+-- an operator that makes a truth, where one may stand
+abbrev pub relation : Connective → Option Ty → Place → Answer Op
+relation c w p = do
+  o ← operator c p
+  _ ← truth w p
+  given o
 
 -- the sides of an equation are of any one type, those of another operator are truths
 abbrev pub is_equation : Connective → Bool
@@ -131,16 +153,16 @@ negated a = do
   given (applied op.Not (t ∷ []) bool_ty)
 
 -- an operator at its left side and a right one of the same type
-abbrev pub with_right_side : Connective → Term → (Option Ty → Answer Term) → Answer Term
-with_right_side c l b = do
+abbrev pub with_right_side : Op → Term → (Option Ty → Answer Term) → Answer Term
+with_right_side o l b = do
   r ← b (Some (type_of_term l))
-  given (applied (operator c) (l ∷ r ∷ []) bool_ty)
+  given (applied o (l ∷ r ∷ []) bool_ty)
 
 -- a quantified form, in whose body the variables are bound
-abbrev pub quantified : Quantifier → List Binder → List TypedName → (List TypedName → Option Ty → Answer Term) → Answer Term
-quantified q bs bound a = do
-  t ← a (reverse (bound_by bs) ++ bound) (Some bool_ty)
-  given (over_all q (bound_by bs) t)
+abbrev pub quantified : Quantifier → List TypedName → List TypedName → (List TypedName → Option Ty → Answer Term) → Answer Term
+quantified q vs bound a = do
+  t ← a (reverse vs ++ bound) (Some bool_ty)
+  given (over_all q vs t)
 
 -- the equality of a variable of two programs
 unfoldable pub equality : Environment → List TypedName → Word → Answer Term
@@ -149,22 +171,27 @@ equality at bound x = do
   r ← sided at bound x.name side.Right x.place
   if ty_eq (type_of_term r) (type_of_term l) then given (applied op.Equal (l ∷ r ∷ []) bool_ty) else refused TypeMismatch x.place
 
--- a form and, to its right, the equalities of further variables
-unfoldable pub with_equalities : Environment → List TypedName → Term → List Word → Answer Term
+-- what `={..}` says of one thing
+abbrev pub equation : Environment → List TypedName → EquatedTree → Answer Term
+equation at bound (equated.Path x) = equality at bound x
+equation at bound (equated.Glob m) = not_built (out-ModuleExpr m).path.place
+
+-- a form and, to its right, further equations
+unfoldable pub with_equalities : Environment → List TypedName → Term → List EquatedTree → Answer Term
 with_equalities at bound f [] = given f
 with_equalities at bound f (x ∷ xs) = do
-  e ← equality at bound x
+  e ← equation at bound x
   with_equalities at bound (applied op.And (f ∷ e ∷ []) bool_ty) xs
 
--- the equalities of variables, joined to the left
-unfoldable pub joined : Environment → List TypedName → List Word → Answer Term
+-- equations, joined to the left
+unfoldable pub joined : Environment → List TypedName → List EquatedTree → Answer Term
 joined at bound [] = given (truth_literal true)
 joined at bound (x ∷ xs) = do
-  e ← equality at bound x
+  e ← equation at bound x
   with_equalities at bound e xs
 
--- the equalities of variables of two programs
-unfoldable pub equalities : Environment → List TypedName → List Word → Place → Answer Term
+-- equations of two programs
+unfoldable pub equalities : Environment → List TypedName → List EquatedTree → Place → Answer Term
 equalities at bound xs p = if is_none (on_side at side.Left) then refused Argument p else joined at bound xs
 
 -- an equivalence of two procedures: its precondition reads their parameters, its postcondition their results
@@ -176,14 +203,10 @@ judged at bound f g a b = do
   post ← b (after at left right) bound (Some bool_ty)
   given (equivalent f g pre post)
 
--- a form's parts, each with its tree and its typing
-abbrev pub Layer : Type 0
-Layer = layer.FormShape-F (FormShape × (Place → Typing)) (FormTree × Typing)
-
 -- The typing of each form from that of its parts, at its place. Where a form has a type by its shape alone, that is
 -- tested before its parts.
-unfoldable pub typing : Layer → Place → Typing
-typing (layer.Path x) p at bound w = do
+unfoldable pub typing : Layer Typing → Place → Typing
+typing (layer.FormShape::Path x) p at bound w = do
   t ← named at bound x p
   wanted w p t
 typing layer.Unit p at bound w = wanted w p unit
@@ -197,34 +220,40 @@ typing (layer.Not a) p at bound w = do
   _ ← truth w p
   negated (a.1 at bound)
 typing (layer.Binary c a b) p at bound w = do
-  _ ← truth w p
+  o ← relation c w p
   l ← left_side c p (a.1 at bound)
-  with_right_side c l (b.1 at bound)
+  with_right_side o l (b.1 at bound)
 typing (layer.Equalities xs) p at bound w = do
   _ ← truth w p
   equalities at bound xs p
 typing (layer.Quantified q bs a) p at bound w = do
   _ ← formula at w p
-  quantified q bs bound (a.1 at)
+  vs ← bound_by [] bs
+  quantified q vs bound (a.1 at)
 typing (layer.Equiv f g a b) p at bound w = do
   _ ← judgment at w p
-  judged at bound f g a.1 b.1
+  left ← about f p
+  right ← about g p
+  judged at bound left right a.1 b.1
+typing _ p at bound w = not_built p
 
 -- the typed tree of a form, or its refusal
 unfoldable pub elaborated : FormTree → Typing
-elaborated = para-FormTree (Place → Typing) Typing typing (λ t. t.shape.1 t.place)
+elaborated = of_forms typing
 
 -- the type that the text gives a variable is the one that it has
 abbrev pub written_as : Option TypeTree → Ty → Answer (Unit {0})
 written_as None t = given tt
-written_as (Some s) t = if ty_eq (type_of s) t then given tt else refused TypeMismatch s.place
+written_as (Some s) t = do
+  u ← type_of s
+  if ty_eq u t then given tt else refused TypeMismatch s.place
 
 -- what a function means, in an environment, from a type to a type
 abbrev pub FunctionTyping : Type 0
 FunctionTyping = Environment → Ty → Ty → Answer Term
 
 -- a function of one variable, which is the innermost bound one of its value; brackets may stand round it
-unfoldable pub function_typing : layer.FormShape-F (FormShape × (Place → FunctionTyping)) (FormTree × FunctionTyping) → Place → FunctionTyping
+unfoldable pub function_typing : Layer FunctionTyping → Place → FunctionTyping
 function_typing (layer.Bracketed a) p at from to = a.1 at from to
 function_typing (layer.Function xs ty a) p at from to =
     if length xs == 1 then (written_as ty from >>= λ _. elaborated a.0 at (of_type xs from) (Some to))
@@ -233,4 +262,4 @@ function_typing _ p at from to = refused TypeMismatch p
 
 -- the typed tree of a function, or its refusal
 unfoldable pub function : FormTree → FunctionTyping
-function = para-FormTree (Place → FunctionTyping) FunctionTyping function_typing (λ t. t.shape.1 t.place)
+function = of_forms function_typing

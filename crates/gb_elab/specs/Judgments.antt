@@ -1,5 +1,6 @@
 -- Judgments of two procedures.
 use Rattle.std.specs.Prelude.{List, [], ◌∷◌, Option, Some, None, if◌then◌else◌, codes}
+use Rattle.gb_core.specs.declared.place.Place.{Place}
 use Rattle.gb_core.specs.declared.refusal.Why.TheVariants.{UnknownName, Argument}
 use Rattle.gb_core.specs.declared.ty.Ty.TheVariants.{Bool as bool_ty}
 use Rattle.gb_terms.specs.declared.decl.Module.{Module}
@@ -14,9 +15,12 @@ use Rattle.gb_terms.specs.Make.{node}
 use Rattle.gb_goal.specs.declared.scope.Entry.{Entry}
 use Rattle.gb_goal.specs.declared.scope.Entry.TheVariants as entry
 use Rattle.gb_goal.specs.Scope.{entry_of, proc_of}
-use Rattle.gb_tree.specs.declared.form.ProcPath.{ProcPath}
 use Rattle.gb_tree.specs.declared.form.Word.{Word}
-use Rattle.gb_elab.specs.Answers.{Answer, ◌>>=◌, given_or}
+use Rattle.gb_tree.specs.declared.judgment.ModuleExpr.{ModuleExpr, out-ModuleExpr}
+use Rattle.gb_tree.specs.declared.judgment.ProcPath.{ProcPath}
+use Rattle.gb_tree.specs.declared.judgment.SubjectTree.{SubjectTree}
+use Rattle.gb_tree.specs.declared.judgment.SubjectTree.TheVariants as subject
+use Rattle.gb_elab.specs.Answers.{Answer, ◌>>=◌, given_or, not_built}
 use Rattle.gb_elab.specs.Answers.Answer.{given, refused}
 use Rattle.gb_elab.specs.Environment.{Environment, relational}
 use Rattle.gb_elab.specs.Names.{is_variable}
@@ -36,11 +40,25 @@ unfoldable pub named_module : Environment → List TypedName → Word → Answer
 named_module at bound x =
     if is_variable at bound x.name then refused Argument x.place else module_in (entry_of at.declared x.name) x
 
+-- the name of a module that is given no arguments
+abbrev pub without_arguments : List ModuleExpr → Word → Answer Word
+without_arguments [] x = given x
+without_arguments (t ∷ ts) x = not_built x.place
+
+abbrev pub module_path : ModuleExpr → Answer Word
+module_path m = without_arguments (out-ModuleExpr m).arguments (out-ModuleExpr m).path
+
 -- the procedure that a judgment names
 unfoldable pub named_procedure : Environment → List TypedName → ProcPath → Answer Proc
-named_procedure at bound path = do
-  m ← named_module at bound path.«module»
-  given_or (proc_of m.procs path.proc.name) (UnknownName path.proc.name) path.proc.place
+named_procedure at bound f = do
+  x ← module_path f.«module»
+  m ← named_module at bound x
+  given_or (proc_of m.procs f.proc.name) (UnknownName f.proc.name) f.proc.place
+
+-- the procedure that a judgment is about, at its place
+abbrev pub about : SubjectTree → Place → Answer ProcPath
+about (subject.Procedure f) p = given f
+about _ p = not_built p
 
 -- what a precondition reads: the parameters of both procedures
 abbrev pub before : Environment → Proc → Proc → Environment
@@ -56,7 +74,7 @@ after at f g = relational at.declared at.sequent (result_of f) (result_of g)
 
 -- a procedure as a term names it
 abbrev pub reference : ProcPath → ProcRef
-reference path = record { «module» = mexp.Name path.«module».name; name = path.proc.name }
+reference f = record { «module» = mexp.Name (out-ModuleExpr f.«module»).path.name; name = f.proc.name }
 
 -- two procedures are equivalent from a precondition to a postcondition
 abbrev pub equivalent : ProcPath → ProcPath → Term → Term → Term

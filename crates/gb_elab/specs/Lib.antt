@@ -1,4 +1,5 @@
 pub mod Answers
+pub mod Layers
 pub mod Types
 pub mod Environment
 pub mod Names

@@ -1,16 +1,19 @@
 // Bound variables and the quantifiers over them.
 
-ghost use Rattle.std.specs.Prelude.{◌≡◌, ◌++◌, IfOk, reverse};
-ghost use Rattle.gb_elab.specs.Forms.{bound_by, of_type, over, over_all};
+ghost use Rattle.std.specs.Prelude.{◌≡◌, [], ◌++◌, IfOk, reverse};
+ghost use Rattle.gb_elab.specs.Answers.{Answers};
+ghost use Rattle.gb_elab.specs.Forms.{bound_by, bound_in, of_type, over, over_all};
 
+use crate::refusals::not_built;
 use crate::types::type_of;
 use gb_core::copy::copy_ty;
+use gb_core::refusal::Refused;
 use gb_core::ty::Ty;
 use gb_terms::copy::copy_typed;
 use gb_terms::decl::{Typed, TypedName};
 use gb_terms::make;
 use gb_terms::term::Form;
-use gb_tree::form::{Binder, Quantifier, Word};
+use gb_tree::form::{Bind, Quantifier, Word};
 use sqlite_items::Items;
 use std::alloc::{AllocError, Global};
 
@@ -27,18 +30,37 @@ pub fn of_type(alloc: Global, names: &[Word], ty: &Ty) -> Result<Typed, AllocErr
     Ok(all)
 }
 
-/// The names of binders with their types, in the order of the text.
-pub fn bound_by(alloc: Global, binders: &[Binder]) -> Result<Typed, AllocError>
-    ensures { IfOk result (λ made. made ≡ bound_by binders.now) }
+/// The variables that are bound, in the order of the text.
+///
+/// # Errors
+///
+/// `Syntax` of a binder or a type that isn't built.
+#[tactic(auto, unfolding(crate::specs::Forms::bound_by))]
+pub fn bound_by(alloc: Global, binds: &[Bind]) -> Result<Typed, Refused>
+    ensures { Answers (bound_by [] binds.now) result }
 {
     let mut all = Items::new(alloc);
-    for binder in binders {
-        all.append(of_type(alloc, binder.names.as_slice(), &type_of(&binder.ty))?)?;
+    for bind in binds {
+        all.append(bound_in(alloc, bind)?)?;
     }
     Ok(all)
 }
 
-fn reversed(alloc: Global, list: Typed) -> Result<Typed, AllocError>
+fn bound_in(alloc: Global, bind: &Bind) -> Result<Typed, Refused>
+    ensures { Answers (bound_in bind.now) result }
+{
+    match bind {
+        Bind::Values(binder) => {
+            let ty = type_of(binder.ty.get())?;
+            Ok(of_type(alloc, binder.names.as_slice(), &ty)?)
+        }
+        Bind::Memory(word) => Err(not_built(word.place)),
+        Bind::Module(module) => Err(not_built(module.name.place)),
+    }
+}
+
+/// Variables in the other order.
+pub fn reversed(alloc: Global, list: Typed) -> Result<Typed, AllocError>
     ensures { IfOk result (λ all. all ≡ reverse list) }
 {
     let mut rest = list;
@@ -47,13 +69,6 @@ fn reversed(alloc: Global, list: Typed) -> Result<Typed, AllocError>
         all.push(x)?;
     }
     Ok(all)
-}
-
-/// The names of binders with their types, the innermost first.
-pub fn innermost_first(alloc: Global, binders: &[Binder]) -> Result<Typed, AllocError>
-    ensures { IfOk result (λ made. made ≡ reverse (bound_by binders.now)) }
-{
-    reversed(alloc, bound_by(alloc, binders)?)
 }
 
 /// Variables, and behind them those that are bound around them.

@@ -5,13 +5,13 @@ ghost use Rattle.std.specs.Option.{option_copied};
 ghost use Rattle.gb_tree.specs.declared.form.FormShape.{out-FormShape};
 ghost use Rattle.gb_elab.specs.Answers.{Answers, truth};
 ghost use Rattle.gb_elab.specs.Environment.{ambient, environment};
-ghost use Rattle.gb_elab.specs.Forms.{coin, elaborated, equalities, equality, formula, function, is_equation, judgment, left_side, negated, operator, quantified, read, remembered, wants_distribution, with_equalities, with_right_side, written_as};
+ghost use Rattle.gb_elab.specs.Forms.{coin, elaborated, equalities, equality, equation, formula, function, is_equation, judgment, left_side, negated, operator, quantified, read, relation, remembered, wants_distribution, with_equalities, with_right_side, written_as};
 ghost use Rattle.gb_elab.specs.Judgments.{after, before};
 
-use crate::binders::{innermost_first, of_type, over_all, within};
-use crate::judgment::{equiv, named_procedure, parameters, results};
+use crate::binders::{bound_by, of_type, over_all, reversed, within};
+use crate::judgment::{about, equiv, named_procedure, parameters, results};
 use crate::names::{in_memory, named, sided, unit};
-use crate::refusals::{argument, mismatch};
+use crate::refusals::{argument, mismatch, not_built};
 use crate::setting::{Language, Setting};
 use crate::types::{fits, type_of, wanted};
 use gb_core::name::Name;
@@ -21,12 +21,12 @@ use gb_core::ty::Ty;
 use gb_goal::scope::Scope;
 use gb_goal::sequent::Sequent;
 use gb_same::types::same_types;
-use gb_terms::decl::{Proc, TypedName};
+use gb_terms::decl::{Proc, Typed, TypedName};
 use gb_terms::make;
 use gb_terms::op::{Op, Side};
 use gb_terms::term::{Form, Head, Term};
 use gb_tree::form::{
-    Binder, Connective, FormShape, FormTree, Quantifier, SideTree, TypeTree, Word,
+    Connective, EquatedTree, FormShape, FormTree, Quantifier, SideTree, TypeTree, Word,
 };
 use sqlite_items::Boxed;
 use std::alloc::Global;
@@ -54,7 +54,8 @@ pub fn term(
 ///
 /// # Errors
 ///
-/// `UnknownName`, `Argument` of a part that may not stand there, `TypeMismatch`, and `TooMany` of binders.
+/// `Syntax` of a form that isn't built, `UnknownName`, `Argument` of a part that may not stand there, `TypeMismatch`,
+/// and `TooMany` of binders.
 #[cycle(form)]
 pub fn typed(
     alloc: Global,
@@ -80,24 +81,18 @@ pub fn typed(
             negated(alloc, at, bound, a.get())
         }
         FormShape::Binary(connective, a, b) => {
-            truth(want, place)?;
+            let op = relation(*connective, want, place)?;
             let left = left_side(alloc, at, bound, a.get(), *connective, place)?;
-            with_right_side(alloc, at, bound, b.get(), *connective, left)
+            with_right_side(alloc, at, bound, b.get(), op, left)
         }
-        FormShape::Equalities(words) => {
+        FormShape::Equalities(list) => {
             truth(want, place)?;
-            equalities(alloc, at, bound, words.as_slice(), place)
+            equalities(alloc, at, bound, list.as_slice(), place)
         }
-        FormShape::Quantified(quantifier, binders, body) => {
+        FormShape::Quantified(quantifier, binds, body) => {
             formula(at, want, place)?;
-            quantified(
-                alloc,
-                at,
-                bound,
-                *quantifier,
-                binders.as_slice(),
-                body.get(),
-            )
+            let variables = bound_by(alloc, binds.as_slice())?;
+            quantified(alloc, at, bound, *quantifier, variables, body.get())
         }
         FormShape::Equiv {
             left,
@@ -106,12 +101,15 @@ pub fn typed(
             post,
         } => {
             judgment(at, want, place)?;
+            let left = about(left.get(), place)?;
+            let right = about(right.get(), place)?;
             let f = named_procedure(alloc, at, bound, left)?;
             let g = named_procedure(alloc, at, bound, right)?;
             let pre = precondition(alloc, at, bound, pre.get(), f, g)?;
             let post = postcondition(alloc, at, bound, post.get(), f, g)?;
             Ok(equiv(alloc, left, right, pre, post)?)
         }
+        _ => Err(not_built(place)),
     }
 }
 
@@ -222,17 +220,27 @@ fn remembered(
     }
 }
 
-fn operator(connective: Connective) -> Op
-    ensures { result ≡ operator connective }
+fn operator(connective: Connective, place: Place) -> Result<Op, Refused>
+    ensures { Answers (operator connective place) result }
 {
     match connective {
-        Connective::And => Op::And,
-        Connective::Or => Op::Or,
-        Connective::Implies => Op::Implies,
-        Connective::Iff => Op::Iff,
-        Connective::Equal => Op::Equal,
-        Connective::NotEqual => Op::NotEqual,
+        Connective::And => Ok(Op::And),
+        Connective::Or => Ok(Op::Or),
+        Connective::Implies => Ok(Op::Implies),
+        Connective::Iff => Ok(Op::Iff),
+        Connective::Equal => Ok(Op::Equal),
+        Connective::NotEqual => Ok(Op::NotEqual),
+        _ => Err(not_built(place)),
     }
+}
+
+/// The operator of a connective that makes a truth, refused where another type is wanted.
+fn relation(connective: Connective, want: Option<&Ty>, place: Place) -> Result<Op, Refused>
+    ensures { Answers (relation connective (option_copied want.entry) place) result }
+{
+    let op = operator(connective, place)?;
+    truth(want, place)?;
+    Ok(op)
 }
 
 /// Whether the sides may be of any one type, and need not be truths.
@@ -288,13 +296,13 @@ fn with_right_side(
     at: &Setting<'_>,
     bound: &[TypedName],
     b: &FormTree,
-    connective: Connective,
+    op: Op,
     left: Term,
 ) -> Result<Form, Refused>
-    ensures { Answers (with_right_side connective left (elaborated b.now (environment at.now) bound.now)) result }
+    ensures { Answers (with_right_side op left (elaborated b.now (environment at.now) bound.now)) result }
 {
     let right = typed_as(alloc, at, bound, b, left.ty.get())?;
-    Ok(make::binary(alloc, operator(connective), left, right, Ty::Bool)?)
+    Ok(make::binary(alloc, op, left, right, Ty::Bool)?)
 }
 
 /// The equality of a variable of two programs.
@@ -311,43 +319,58 @@ fn equality(alloc: Global, at: &Setting<'_>, bound: &[TypedName], x: &Word) -> R
     }
 }
 
-/// The equalities of variables of two programs, joined to the left.
+/// What `={..}` says of one thing.
+fn equation(
+    alloc: Global,
+    at: &Setting<'_>,
+    bound: &[TypedName],
+    equated: &EquatedTree,
+) -> Result<Form, Refused>
+    ensures { Answers (equation (environment at.now) bound.now equated.now) result }
+{
+    match equated {
+        EquatedTree::Path(x) => equality(alloc, at, bound, x),
+        EquatedTree::Glob(module) => Err(not_built(module.get().path.place)),
+    }
+}
+
+/// Equations of two programs, joined to the left.
 #[tactic(auto, unfolding(crate::specs::Forms::equalities, crate::specs::Forms::joined))]
 fn equalities(
     alloc: Global,
     at: &Setting<'_>,
     bound: &[TypedName],
-    words: &[Word],
+    list: &[EquatedTree],
     place: Place,
 ) -> Result<Form, Refused>
-    ensures { Answers (equalities (environment at.now) bound.now words.now place) result }
+    ensures { Answers (equalities (environment at.now) bound.now list.now place) result }
 {
     if at.on_side(Side::Left).is_none() {
         return Err(argument(place));
     }
-    match words {
+    match list {
         [] => Ok(make::boolean(alloc, true)?),
         [x, rest @ ..] => {
-            let first = equality(alloc, at, bound, x)?;
+            let first = equation(alloc, at, bound, x)?;
             with_equalities(alloc, at, bound, first, rest)
         }
     }
 }
 
-/// A form and, to its right, the equalities of further variables.
+/// A form and, to its right, further equations.
 #[tactic(auto, unfolding(crate::specs::Forms::with_equalities))]
 fn with_equalities(
     alloc: Global,
     at: &Setting<'_>,
     bound: &[TypedName],
     first: Form,
-    words: &[Word],
+    list: &[EquatedTree],
 ) -> Result<Form, Refused>
-    ensures { Answers (with_equalities (environment at.now) bound.now first words.now) result }
+    ensures { Answers (with_equalities (environment at.now) bound.now first list.now) result }
 {
     let mut form = first;
-    for x in words {
-        let next = equality(alloc, at, bound, x)?;
+    for x in list {
+        let next = equation(alloc, at, bound, x)?;
         form = make::conjunction(alloc, form, next)?;
     }
     Ok(form)
@@ -359,12 +382,12 @@ fn quantified(
     at: &Setting<'_>,
     bound: &[TypedName],
     quantifier: Quantifier,
-    binders: &[Binder],
+    variables: Typed,
     body: &FormTree,
 ) -> Result<Form, Refused>
-    ensures { Answers (quantified quantifier binders.now bound.now (elaborated body.now (environment at.now))) result }
+    ensures { Answers (quantified quantifier variables bound.now (elaborated body.now (environment at.now))) result }
 {
-    let variables = innermost_first(alloc, binders)?;
+    let variables = reversed(alloc, variables)?;
     let inner = within(alloc, variables.as_slice(), bound)?;
     let body = typed_as(alloc, at, inner.as_slice(), body, &Ty::Bool)?;
     Ok(over_all(alloc, quantifier, variables.as_slice(), body)?)
@@ -408,8 +431,7 @@ fn postcondition(
 /// # Errors
 ///
 /// `TypeMismatch` where the form is no function of one variable, where its variable has another type by the text (at
-/// that type), and where its value has another type; and those of `typed`.
-#[tactic(auto, using(crate::proofs::Elaborated::function_is), unfolding(crate::specs::Forms::function_typing))]
+/// that type), and where its value has another type; those of `type_of` and those of `typed`.
 pub fn function(
     alloc: Global,
     at: &Setting<'_>,
@@ -434,13 +456,14 @@ pub fn function(
 }
 
 /// Refuses a type of the text that isn't the one that is wanted.
-fn written_as(written: &Option<TypeTree>, ty: &Ty) -> Result<(), Refused>
+fn written_as(written: &Option<Boxed<TypeTree>>, ty: &Ty) -> Result<(), Refused>
     ensures { Answers (written_as written.now ty.now) result }
 {
     match written {
         None => Ok(()),
         Some(written) => {
-            if same_types(&type_of(written), ty) {
+            let written = written.get();
+            if same_types(&type_of(written)?, ty) {
                 Ok(())
             } else {
                 Err(mismatch(written.place))

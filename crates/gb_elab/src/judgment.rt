@@ -5,13 +5,14 @@ ghost use Rattle.std.specs.Option.{option_copied};
 ghost use Rattle.gb_goal.specs.Scope.{proc_of};
 ghost use Rattle.gb_elab.specs.Answers.{Gives};
 ghost use Rattle.gb_elab.specs.Environment.{environment};
-ghost use Rattle.gb_elab.specs.Judgments.{after, before, equivalent, named_module, named_procedure, reference, result_of};
+ghost use Rattle.gb_elab.specs.Judgments.{about, after, before, equivalent, module_path, named_module, named_procedure, reference, result_of};
 
 use crate::names::is_variable;
-use crate::refusals::{argument, unknown};
+use crate::refusals::{argument, not_built, unknown};
 use crate::setting::Setting;
 use gb_core::copy::copy_ty;
 use gb_core::name::Name;
+use gb_core::place::Place;
 use gb_core::refusal::Refused;
 use gb_core::same::same_name;
 use gb_core::ty::Ty;
@@ -21,9 +22,35 @@ use gb_terms::decl::{Module, Proc, Typed, TypedName};
 use gb_terms::make;
 use gb_terms::module::{Mexp, ProcRef};
 use gb_terms::term::{Form, Head, Subject};
-use gb_tree::form::{ProcPath, Word};
+use gb_tree::form::Word;
+use gb_tree::judgment::{ModuleExpr, ProcPath, SubjectTree};
 use sqlite_items::Items;
 use std::alloc::{AllocError, Global};
+
+/// The name of a module that is given no arguments.
+fn module_path(module: &ModuleExpr) -> Result<&Word, Refused>
+    ensures { Gives (λ x. x.now) (module_path «module».now) result }
+{
+    if module.arguments.is_empty() {
+        Ok(&module.path)
+    } else {
+        Err(not_built(module.path.place))
+    }
+}
+
+/// The procedure that a judgment is about, at its place.
+///
+/// # Errors
+///
+/// `Syntax` of a body.
+pub fn about(subject: &SubjectTree, place: Place) -> Result<&ProcPath, Refused>
+    ensures { Gives (λ f. f.now) (about subject.now place) result }
+{
+    match subject {
+        SubjectTree::Procedure(path) => Ok(path),
+        SubjectTree::Block(_) => Err(not_built(place)),
+    }
+}
 
 /// The module of this name, all of whose parameters are given: it has none.
 #[tactic(auto, unfolding(crate::specs::Judgments::named_module))]
@@ -66,7 +93,8 @@ fn procedure_of<'a>(m: &'a Module, name: &Name) -> Option<&'a Proc>
 ///
 /// # Errors
 ///
-/// `UnknownName` of a module or a procedure of it, `Argument` of a thing that is no module or lacks arguments.
+/// `Syntax` of a module with arguments, `UnknownName` of a module or a procedure of it, `Argument` of a thing that is
+/// no module or lacks arguments.
 #[tactic(auto, unfolding(crate::specs::Judgments::named_procedure))]
 pub fn named_procedure<'a>(
     alloc: Global,
@@ -76,7 +104,8 @@ pub fn named_procedure<'a>(
 ) -> Result<&'a Proc, Refused>
     ensures { Gives (λ p. p.now) (named_procedure (environment at.now) bound.now path.now) result }
 {
-    let module = named_module(alloc, at, bound, &path.module)?;
+    let name = module_path(&path.module)?;
+    let module = named_module(alloc, at, bound, name)?;
     match procedure_of(module, &path.proc.name) {
         Some(p) => Ok(p),
         None => Err(unknown(alloc, &path.proc.name, path.proc.place)),
@@ -88,7 +117,7 @@ fn reference(alloc: Global, path: &ProcPath) -> Result<ProcRef, AllocError>
     ensures { IfOk result (λ made. made ≡ reference path.now) }
 {
     Ok(ProcRef {
-        module: Mexp::Name(path.module.name.copy(alloc)?),
+        module: Mexp::Name(path.module.path.name.copy(alloc)?),
         name: path.proc.name.copy(alloc)?,
     })
 }

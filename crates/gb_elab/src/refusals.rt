@@ -28,6 +28,16 @@ pub fn argument(place: Place) -> Refused
     }
 }
 
+/// A form of the language that isn't built yet.
+pub fn not_built(place: Place) -> Refused
+    ensures { result ≡ Refused.Script Why.Syntax place }
+{
+    Refused::Script {
+        why: Why::Syntax,
+        place,
+    }
+}
+
 /// A name that isn't in scope.
 pub fn unknown(alloc: Global, name: &Name, place: Place) -> Refused
     ensures { Refuses (Why.UnknownName name.now) place result }

@@ -5,7 +5,7 @@ ghost use Rattle.std.specs.Option.{option_copied};
 ghost use Rattle.gb_elab.specs.Answers.{Answers, fits, wanted};
 ghost use Rattle.gb_elab.specs.Types.{type_of};
 
-use crate::refusals::mismatch;
+use crate::refusals::{mismatch, not_built};
 use gb_core::place::Place;
 use gb_core::refusal::Refused;
 use gb_core::ty::Ty;
@@ -14,12 +14,17 @@ use gb_terms::term::Term;
 use gb_tree::form::{TypeShape, TypeTree};
 
 /// The type that a type of a script spells.
-pub fn type_of(t: &TypeTree) -> Ty
-    ensures { result ≡ type_of t.now }
+///
+/// # Errors
+///
+/// `Syntax` of a type that isn't built.
+pub fn type_of(t: &TypeTree) -> Result<Ty, Refused>
+    ensures { Answers (type_of t.now) result }
 {
-    match t.shape {
-        TypeShape::Unit => Ty::Unit,
-        TypeShape::Bool => Ty::Bool,
+    match &t.shape {
+        TypeShape::Unit => Ok(Ty::Unit),
+        TypeShape::Bool => Ok(Ty::Bool),
+        _ => Err(not_built(t.place)),
     }
 }
 

@@ -1,6 +1,7 @@
 -- The typing of procedures.
 use Rattle.std.specs.Prelude.{Bool, not, ◌&&◌, if◌then◌else◌, List, [], ◌∷◌, ◌++◌, Option, Some, None, is_none, bytes_eq}
 use Rattle.std.specs.List.{list_any}
+use Rattle.gb_core.specs.declared.place.Place.{Place}
 use Rattle.gb_core.specs.declared.refusal.Why.TheVariants.{DoubleName, TypeMismatch}
 use Rattle.gb_core.specs.declared.ty.Ty.{Ty}
 use Rattle.gb_core.specs.declared.ty.Ty.TheVariants.{Unit as unit_ty, Distr}
@@ -20,19 +21,25 @@ use Rattle.gb_tree.specs.declared.form.TypeTree.{TypeTree}
 use Rattle.gb_tree.specs.declared.form.Word.{Word}
 use Rattle.gb_tree.specs.declared.program.ProcTree.{ProcTree}
 use Rattle.gb_tree.specs.declared.program.Statement.{Statement}
-use Rattle.gb_tree.specs.declared.program.StatementShape.{StatementShape}
-use Rattle.gb_tree.specs.declared.program.StatementShape.TheVariants as text
-use Rattle.gb_elab.specs.Answers.{Answer, ◌>>=◌}
+use Rattle.gb_tree.specs.declared.program.StatementShape.{out-StatementShape}
+use Rattle.gb_tree.specs.declared.form.FormShape.TheOpen as layer
+use Rattle.gb_elab.specs.Answers.{Answer, ◌>>=◌, not_built}
 use Rattle.gb_elab.specs.Answers.Answer.{given, refused}
 use Rattle.gb_elab.specs.Environment.{Environment, program}
 use Rattle.gb_elab.specs.Forms.{elaborated}
+use Rattle.gb_elab.specs.Layers.{StatementLayer}
 use Rattle.gb_elab.specs.Names.{unit, own_variable}
 use Rattle.gb_elab.specs.Types.{type_of}
 
 -- the type of a procedure's result; no type stands for `unit`
-abbrev pub result_type : Option TypeTree → Ty
-result_type None = unit_ty
+abbrev pub result_type : Option TypeTree → Answer Ty
+result_type None = given unit_ty
 result_type (Some t) = type_of t
+
+-- a procedure without parameters
+abbrev pub takes_nothing : List Binder → Word → Answer (Unit {0})
+takes_nothing [] x = given tt
+takes_nothing (b ∷ bs) x = not_built x.place
 
 -- a value of this type is to be returned, and none is
 abbrev pub lacks_value : Option FormTree → Ty → Bool
@@ -54,7 +61,8 @@ declared vs (x ∷ xs) t =
 abbrev pub locals : List TypedName → List Binder → Answer (List TypedName)
 locals vs [] = given vs
 locals vs (b ∷ bs) = do
-  ws ← declared vs b.names (type_of b.ty)
+  t ← type_of b.ty
+  ws ← declared vs b.names t
   locals ws bs
 
 -- A sampling: the target is a variable of the procedure, the source a distribution on its type.
@@ -64,14 +72,15 @@ sampling at x d = do
   from ← elaborated d at [] (Some (Distr v.ty))
   given (Sample (Local v.name) from)
 
-abbrev pub instruction : Environment → StatementShape → Answer Instr
-instruction at (text.Sample x d) = sampling at x d
+abbrev pub instruction : Environment → StatementLayer → Place → Answer Instr
+instruction at (layer.Sample x d) p = sampling at x d
+instruction at _ p = not_built p
 
 -- statements, in order
 abbrev pub instructions : Environment → List Statement → Answer (List Instr)
 instructions at [] = given []
 instructions at (s ∷ ss) = do
-  i ← instruction at s.shape
+  i ← instruction at (out-StatementShape s.shape) s.place
   is ← instructions at ss
   given (i ∷ is)
 
@@ -85,6 +94,7 @@ procedure_of ds s t ty = do
 
 -- the typed tree of a procedure
 unfoldable pub procedure : Declarations → Sequent → ProcTree → Answer Proc
-procedure ds s t =
-    if lacks_value t.value (result_type t.result) then refused TypeMismatch t.name.place
-    else procedure_of ds s t (result_type t.result)
+procedure ds s t = do
+  _ ← takes_nothing t.parameters t.name
+  ty ← result_type t.result
+  if lacks_value t.value ty then refused TypeMismatch t.name.place else procedure_of ds s t ty

@@ -1,6 +1,7 @@
 -- The typing of proof steps.
 use Rattle.std.specs.Prelude.{◌-◌, if◌then◌else◌, List, [], ◌∷◌, length, slice_get, Option, Some, None}
 use Rattle.std.specs.Option.{option_map_or, option_zip}
+use Rattle.gb_core.specs.declared.place.Place.{Place}
 use Rattle.gb_core.specs.declared.refusal.Why.TheVariants.{TypeMismatch}
 use Rattle.gb_core.specs.declared.ty.Ty.{Ty, out-Ty}
 use Rattle.gb_core.specs.declared.ty.Ty.TheOpen as ty_layer
@@ -19,10 +20,13 @@ use Rattle.gb_goal.specs.declared.step.Rule.TheVariants as rule
 use Rattle.gb_goal.specs.declared.step.Step.{Step}
 use Rattle.gb_goal.specs.Scope.{Declarations}
 use Rattle.gb_tree.specs.declared.form.FormTree.{FormTree}
+use Rattle.gb_tree.specs.declared.step.Bodies.{Bodies}
+use Rattle.gb_tree.specs.declared.step.Bodies.TheVariants.{Both}
+use Rattle.gb_tree.specs.declared.step.Hint.{Hint}
 use Rattle.gb_tree.specs.declared.step.RuleTree.{RuleTree}
 use Rattle.gb_tree.specs.declared.step.RuleTree.TheVariants as text
 use Rattle.gb_tree.specs.declared.step.StepTree.{StepTree}
-use Rattle.gb_elab.specs.Answers.{Answer, ◌>>=◌}
+use Rattle.gb_elab.specs.Answers.{Answer, ◌>>=◌, not_built}
 use Rattle.gb_elab.specs.Answers.Answer.{given, refused}
 use Rattle.gb_elab.specs.Environment.{Environment, of_function}
 use Rattle.gb_elab.specs.Forms.{function}
@@ -89,17 +93,32 @@ of_bodies ds g fs c = option_map_or (between ds g fs c) (option_zip (last_sample
 unfoldable pub couplings : Declarations → Sequent → List FormTree → Answer (List Term)
 couplings ds g fs = option_map_or (of_bodies ds g fs) (bodies g.conclusion) (given [])
 
-abbrev pub typed_rule : Declarations → Sequent → RuleTree → Answer Rule
-typed_rule ds g text.Proc = given rule.Proc
-typed_rule ds g (text.Rnd fs) = do
+-- a rule that acts on both bodies of a goal
+abbrev pub on_both : Bodies → Place → Answer (Unit {0})
+on_both Both p = given tt
+on_both _ p = not_built p
+
+abbrev pub smt : List Hint → Place → Answer Rule
+smt [] p = given rule.Smt
+smt (h ∷ hs) p = not_built p
+
+abbrev pub typed_rule : Declarations → Sequent → RuleTree → Place → Answer Rule
+typed_rule ds g (text.Proc b) p = do
+  _ ← on_both b p
+  given rule.Proc
+typed_rule ds g (text.Rnd b fs) p = do
+  _ ← on_both b p
   ts ← couplings ds g fs
   given (rule.Rnd ts)
-typed_rule ds g text.Skip = given rule.Skip
-typed_rule ds g text.Smt = given rule.Smt
-typed_rule ds g text.Split = given rule.Split
+typed_rule ds g (text.Skip b) p = do
+  _ ← on_both b p
+  given rule.Skip
+typed_rule ds g (text.Smt hs) p = smt hs p
+typed_rule ds g text.Split p = given rule.Split
+typed_rule ds g _ p = not_built p
 
 -- a proof step with its arguments typed
 unfoldable pub step_given : Declarations → Sequent → StepTree → Answer Step
 step_given ds g t = do
-  r ← typed_rule ds g t.rule
+  r ← typed_rule ds g t.rule t.place
   given (record { rule = r; place = t.place })

@@ -4,20 +4,20 @@ ghost use Rattle.std.specs.Prelude.{◌≡◌, ◌≤◌, None, IfOk, OnOk};
 ghost use Rattle.gb_goal.specs.Scope.{entry_of};
 ghost use Rattle.gb_terms.specs.Nodes.{term_nodes};
 ghost use Rattle.gb_elab.specs.Answers.{Answers, type_of_term};
-ghost use Rattle.gb_elab_mod.specs.Lemmas.{free, small, statement_given};
+ghost use Rattle.gb_elab_mod.specs.Lemmas.{binds_nothing, free, small, statement_given};
 ghost use Rattle.gb_elab_mod.specs.Typed.{alone};
 
 use gb_core::refusal::Refused;
 use gb_core::ty::Ty;
 use gb_elab::form::term;
 use gb_elab::names::NODES;
-use gb_elab::refusals::{double, too_many};
+use gb_elab::refusals::{double, not_built, too_many};
 use gb_goal::scope::Scope;
 use gb_goal::sequent::{Sequent, ambient};
 use gb_terms::make;
 use gb_terms::nodes::nodes_of;
 use gb_tree::command::LemmaTree;
-use gb_tree::form::Word;
+use gb_tree::form::{Bind, Word};
 use std::alloc::Global;
 
 /// Refuses a name that the script has declared.
@@ -32,12 +32,22 @@ pub fn refuse_declared(alloc: Global, scope: &Scope, name: &Word) -> Result<(), 
     }
 }
 
+/// Refuses a lemma that binds something.
+fn refuse_binders(binders: &[Bind], name: &Word) -> Result<(), Refused>
+    ensures { Answers (binds_nothing binders.now name.now) result }
+{
+    match binders {
+        [] => Ok(()),
+        _ => Err(not_built(name.place)),
+    }
+}
+
 /// The goal that a lemma states: its statement, in an empty context.
 ///
 /// # Errors
 ///
-/// `DoubleName` at the lemma's name where it is taken, those of typing with the wanted type `bool`, and `TooMany` of
-/// the nodes of a formula, whose place is for the caller to put in.
+/// `DoubleName` at the lemma's name where it is taken, `Syntax` there where it binds something, those of typing with the
+/// wanted type `bool`, and `TooMany` of the nodes of a formula, whose place is for the caller to put in.
 #[tactic(auto, using(gb_elab::proofs::OfWantedType::typed_as_type), unfolding(crate::specs::Lemmas::statement_given))]
 pub fn statement(alloc: Global, scope: &Scope, t: &LemmaTree) -> Result<Sequent, Refused>
     ensures answer { Answers (statement_given scope.now t.now) result }
@@ -47,8 +57,9 @@ pub fn statement(alloc: Global, scope: &Scope, t: &LemmaTree) -> Result<Sequent,
     ensures free { OnOk result (entry_of scope.now t.now.name.name ≡ None) }
 {
     refuse_declared(alloc, scope, &t.name)?;
+    refuse_binders(t.binders.as_slice(), &t.name)?;
     let around = ambient(alloc, make::boolean(alloc, true)?);
-    let conclusion = term(alloc, scope, &around, &t.statement, Some(&Ty::Bool))?;
+    let conclusion = term(alloc, scope, &around, t.statement.get(), Some(&Ty::Bool))?;
     if nodes_of(&conclusion) > NODES {
         return Err(too_many(NODES));
     }

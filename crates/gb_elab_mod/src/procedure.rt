@@ -2,11 +2,12 @@
 
 ghost use Rattle.std.specs.Prelude.{◌≡◌, [], IfOk, MatchResult, bytes_eq};
 ghost use Rattle.std.specs.List.{list_any};
+ghost use Rattle.gb_tree.specs.declared.program.StatementShape.{out-StatementShape};
 ghost use Rattle.gb_elab.specs.Answers.{Answers, Fails, Gives};
 ghost use Rattle.gb_elab.specs.Answers.Answer.{given};
 ghost use Rattle.gb_elab.specs.Environment.{environment};
 ghost use Rattle.gb_elab_mod.specs.Modules.{short};
-ghost use Rattle.gb_elab_mod.specs.Procedures.{declared, instruction, instructions, lacks_value, locals, procedure, result_type, sampling, value};
+ghost use Rattle.gb_elab_mod.specs.Procedures.{declared, instruction, instructions, lacks_value, locals, procedure, result_type, sampling, takes_nothing, value};
 ghost use Rattle.gb_elab_mod.specs.Typed.{ReturnsItsType};
 
 use gb_core::copy::copy_ty;
@@ -16,7 +17,7 @@ use gb_core::ty::Ty;
 use gb_core::var::Var;
 use gb_elab::form::typed_as;
 use gb_elab::names::{own_variable, unit};
-use gb_elab::refusals::{double, mismatch};
+use gb_elab::refusals::{double, mismatch, not_built};
 use gb_elab::setting::Setting;
 use gb_elab::types::type_of;
 use gb_goal::scope::Scope;
@@ -37,8 +38,9 @@ pub const STATEMENTS: usize = 512;
 ///
 /// # Errors
 ///
-/// `TypeMismatch` at its name where it returns nothing and has another result than `unit`, `DoubleName` of a local, and
-/// those of its statements and of the value that it returns, in the order of the text.
+/// `Syntax` at its name where it has parameters, that of its result's type, `TypeMismatch` at its name where it returns
+/// nothing and has another result than `unit`, `DoubleName` of a local, and those of its statements and of the value
+/// that it returns, in the order of the text.
 #[tactic(auto, unfolding(crate::specs::Procedures::procedure, crate::specs::Procedures::procedure_of))]
 pub fn procedure(
     alloc: Global,
@@ -50,7 +52,8 @@ pub fn procedure(
     ensures name { IfOk result (λ p. p.name ≡ t.now.name.name) }
     ensures value { IfOk result (λ p. ReturnsItsType p) }
 {
-    let result = result_type(t);
+    refuse_parameters(t.parameters.as_slice(), &t.name)?;
+    let result = result_type(t)?;
     if lacks_value(&t.value, &result) {
         return Err(mismatch(t.name.place));
     }
@@ -69,18 +72,28 @@ pub fn procedure(
     })
 }
 
+/// Refuses a procedure with parameters.
+fn refuse_parameters(parameters: &[Binder], name: &Word) -> Result<(), Refused>
+    ensures { Answers (takes_nothing parameters.now name.now) result }
+{
+    match parameters {
+        [] => Ok(()),
+        _ => Err(not_built(name.place)),
+    }
+}
+
 /// The type of a procedure's result.
-fn result_type(t: &ProcTree) -> Ty
-    ensures { result ≡ result_type t.now.result }
+fn result_type(t: &ProcTree) -> Result<Ty, Refused>
+    ensures { Answers (result_type t.now.result) result }
 {
     match &t.result {
-        None => Ty::Unit,
-        Some(written) => type_of(written),
+        None => Ok(Ty::Unit),
+        Some(written) => type_of(written.get()),
     }
 }
 
 /// Whether a value of this type is to be returned and none is.
-fn lacks_value(value: &Option<FormTree>, ty: &Ty) -> bool
+fn lacks_value(value: &Option<Boxed<FormTree>>, ty: &Ty) -> bool
     ensures { result ≡ lacks_value value.now ty.now }
 {
     match value {
@@ -90,12 +103,17 @@ fn lacks_value(value: &Option<FormTree>, ty: &Ty) -> bool
 }
 
 /// What a procedure returns: the value of `unit` where it has no `return`.
-fn value(alloc: Global, at: &Setting<'_>, t: &Option<FormTree>, want: &Ty) -> Result<Term, Refused>
+fn value(
+    alloc: Global,
+    at: &Setting<'_>,
+    t: &Option<Boxed<FormTree>>,
+    want: &Ty,
+) -> Result<Term, Refused>
     ensures { Answers (value (environment at.now) t.now want.now) result }
 {
     match t {
         None => Ok(unit(alloc)?),
-        Some(value) => typed_as(alloc, at, &[], value, want),
+        Some(value) => typed_as(alloc, at, &[], value.get(), want),
     }
 }
 
@@ -117,12 +135,8 @@ fn locals(alloc: Global, binders: &[Binder]) -> Result<Typed, Refused>
 {
     let mut locals = Items::new(alloc);
     for binder in binders {
-        declare(
-            alloc,
-            &mut locals,
-            binder.names.as_slice(),
-            &type_of(&binder.ty),
-        )?;
+        let ty = type_of(binder.ty.get())?;
+        declare(alloc, &mut locals, binder.names.as_slice(), &ty)?;
     }
     Ok(locals)
 }
@@ -157,10 +171,11 @@ fn body(alloc: Global, at: &Setting<'_>, statements: &[Statement]) -> Result<Cmd
 }
 
 fn instruction(alloc: Global, at: &Setting<'_>, s: &Statement) -> Result<Instr, Refused>
-    ensures { Answers (instruction (environment at.now) s.now.shape) result }
+    ensures { Answers (instruction (environment at.now) (out-StatementShape s.now.shape) s.now.place) result }
 {
     match &s.shape {
-        StatementShape::Sample { target, from } => sampling(alloc, at, target, from),
+        StatementShape::Sample { target, from } => sampling(alloc, at, target, from.get()),
+        _ => Err(not_built(s.place)),
     }
 }
 

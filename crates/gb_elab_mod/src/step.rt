@@ -1,17 +1,18 @@
 // Proof steps.
 
-ghost use Rattle.std.specs.Prelude.{◌≡◌, ◌⊎◌, [], length, IfOk};
+ghost use Rattle.std.specs.Prelude.{◌≡◌, ◌⊎◌, [], length, IfOk, OnOk};
 ghost use Rattle.std.specs.Option.{option_copied, option_map};
 ghost use Rattle.gb_elab.specs.Answers.{Answers};
 ghost use Rattle.gb_elab.specs.Environment.{environment};
-ghost use Rattle.gb_elab_mod.specs.Steps.{bodies, couplings, functions, last_sampled, one_type, step_given, there_and_back, typed_rule};
+ghost use Rattle.gb_elab_mod.specs.Steps.{bodies, couplings, functions, last_sampled, on_both, one_type, smt, step_given, there_and_back, typed_rule};
 ghost use Rattle.gb_elab_mod.specs.Typed.{IsRule};
 
 use crate::occurring::occurring;
+use gb_core::place::Place;
 use gb_core::refusal::Refused;
 use gb_core::ty::Ty;
 use gb_elab::form::function;
-use gb_elab::refusals::mismatch;
+use gb_elab::refusals::{mismatch, not_built};
 use gb_elab::setting::Setting;
 use gb_goal::scope::Scope;
 use gb_goal::sequent::Sequent;
@@ -20,8 +21,8 @@ use gb_same::types::same_types;
 use gb_terms::op::Side;
 use gb_terms::term::{Cmd, Form, Head, Instr, Subject, Terms};
 use gb_tree::form::FormTree;
-use gb_tree::step::{RuleTree, StepTree};
-use sqlite_items::Items;
+use gb_tree::step::{Bodies, Hint, RuleTree, StepTree};
+use sqlite_items::{Boxed, Items};
 use std::alloc::Global;
 
 /// The proof step with its arguments typed where the goal gives them types. The functions of `rnd` have the types of
@@ -30,14 +31,14 @@ use std::alloc::Global;
 ///
 /// # Errors
 ///
-/// Those of typing.
+/// `Syntax` of a rule that isn't built, and those of typing.
 #[tactic(auto, unfolding(crate::specs::Steps::step_given))]
 pub fn proof_step(alloc: Global, scope: &Scope, s: &Sequent, t: &StepTree) -> Result<Step, Refused>
     ensures answer { Answers (step_given scope.now s.now t.now) result }
     ensures rule { IfOk result (λ step. IsRule t.now.rule step.rule) }
     ensures place { IfOk result (λ step. step.place ≡ t.now.place) }
 {
-    let rule = typed_rule(alloc, scope, s, &t.rule)?;
+    let rule = typed_rule(alloc, scope, s, t.rule.get(), t.place)?;
     Ok(Step {
         rule,
         place: t.place,
@@ -45,18 +46,54 @@ pub fn proof_step(alloc: Global, scope: &Scope, s: &Sequent, t: &StepTree) -> Re
 }
 
 /// The rule with its arguments typed.
-fn typed_rule(alloc: Global, scope: &Scope, s: &Sequent, t: &RuleTree) -> Result<Rule, Refused>
-    ensures answer { Answers (typed_rule scope.now s.now t.now) result }
+fn typed_rule(
+    alloc: Global,
+    scope: &Scope,
+    s: &Sequent,
+    t: &RuleTree,
+    place: Place,
+) -> Result<Rule, Refused>
+    ensures answer { Answers (typed_rule scope.now s.now t.now place) result }
     ensures rule { IfOk result (λ rule. IsRule t.now rule) }
 {
     match t {
-        RuleTree::Proc => Ok(Rule::Proc),
-        RuleTree::Rnd(functions) => {
+        RuleTree::Proc(bodies) => {
+            on_both(*bodies, place)?;
+            Ok(Rule::Proc)
+        }
+        RuleTree::Rnd(bodies, functions) => {
+            on_both(*bodies, place)?;
             Ok(Rule::Rnd(couplings(alloc, scope, s, functions.as_slice())?))
         }
-        RuleTree::Skip => Ok(Rule::Skip),
-        RuleTree::Smt => Ok(Rule::Smt),
+        RuleTree::Skip(bodies) => {
+            on_both(*bodies, place)?;
+            Ok(Rule::Skip)
+        }
+        RuleTree::Smt(hints) => smt(hints.as_slice(), place),
         RuleTree::Split => Ok(Rule::Split),
+        _ => Err(not_built(place)),
+    }
+}
+
+/// Refuses a rule that acts on one body of a goal.
+fn on_both(bodies: Bodies, place: Place) -> Result<(), Refused>
+    ensures answer { Answers (on_both bodies place) result }
+    ensures both { OnOk result (bodies ≡ Bodies.Both) }
+{
+    match bodies {
+        Bodies::Both => Ok(()),
+        _ => Err(not_built(place)),
+    }
+}
+
+/// The rule `smt` without hints.
+fn smt(hints: &[Hint], place: Place) -> Result<Rule, Refused>
+    ensures answer { Answers (smt hints.now place) result }
+    ensures rule { IfOk result (λ rule. (rule ≡ Rule.Smt) × (hints.now ≡ [])) }
+{
+    match hints {
+        [] => Ok(Rule::Smt),
+        _ => Err(not_built(place)),
     }
 }
 
@@ -84,7 +121,7 @@ fn last_sampled(body: &Cmd) -> Option<&Ty>
 }
 
 /// Refuses one function between two types: it leads there and back.
-fn refuse_one_way(functions: &[FormTree], from: &Ty, to: &Ty) -> Result<(), Refused>
+fn refuse_one_way(functions: &[Boxed<FormTree>], from: &Ty, to: &Ty) -> Result<(), Refused>
     ensures { Answers (one_type functions.now from.now to.now) result }
 {
     match functions {
@@ -92,7 +129,7 @@ fn refuse_one_way(functions: &[FormTree], from: &Ty, to: &Ty) -> Result<(), Refu
             if same_types(from, to) {
                 Ok(())
             } else {
-                Err(mismatch(f.place))
+                Err(mismatch(f.get().place))
             }
         }
         _ => Ok(()),
@@ -105,7 +142,7 @@ fn couplings(
     alloc: Global,
     scope: &Scope,
     s: &Sequent,
-    functions: &[FormTree],
+    functions: &[Boxed<FormTree>],
 ) -> Result<Terms, Refused>
     ensures answer { Answers (couplings scope.now s.now functions.now) result }
     ensures number { IfOk result (λ ts. (length ts ≡ length functions.now) ⊎ (ts ≡ [])) }
@@ -129,7 +166,7 @@ fn couplings(
 fn there_and_back(
     alloc: Global,
     at: &Setting<'_>,
-    forms: &[FormTree],
+    forms: &[Boxed<FormTree>],
     from: &Ty,
     to: &Ty,
 ) -> Result<Terms, Refused>
@@ -138,7 +175,7 @@ fn there_and_back(
 {
     let mut typed = Items::new(alloc);
     if let [f, rest @ ..] = forms {
-        typed.push(function(alloc, at, f, from, to)?)?;
+        typed.push(function(alloc, at, f.get(), from, to)?)?;
         typed.append(functions(alloc, at, rest, to, from)?)?;
     }
     Ok(typed)
@@ -148,7 +185,7 @@ fn there_and_back(
 fn functions(
     alloc: Global,
     at: &Setting<'_>,
-    forms: &[FormTree],
+    forms: &[Boxed<FormTree>],
     from: &Ty,
     to: &Ty,
 ) -> Result<Terms, Refused>
@@ -157,7 +194,7 @@ fn functions(
 {
     let mut typed = Items::new(alloc);
     for f in forms {
-        typed.push(function(alloc, at, f, from, to)?)?;
+        typed.push(function(alloc, at, f.get(), from, to)?)?;
     }
     Ok(typed)
 }

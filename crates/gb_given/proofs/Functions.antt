@@ -1,15 +1,12 @@
 -- What the typing of a function gives is typed.
-use Rattle.std.proofs.Common.{◌≡◌, ◌==◌, true, if◌then◌else◌, List, [], ◌∷◌, length, Option, Some, sym, ◌∙◌, subst, arith}
+use Rattle.std.proofs.Common.{◌≡◌, ◌==◌, true, if◌then◌else◌, List, [], ◌∷◌, length, Option, Some, None, arith}
 use Rattle.std.proofs.lemmas.Bool.Decides.{Decides-eqb}
 use Rattle.gb_core.specs.declared.place.Place.{Place}
 use Rattle.gb_core.specs.declared.refusal.Why.TheVariants.{TypeMismatch}
 use Rattle.gb_core.specs.declared.ty.Ty.{Ty}
 use Rattle.gb_terms.specs.declared.term.Term.{Term}
-use Rattle.gb_tree.specs.declared.form.FormShape.{FormShape, out-FormShape, roll-FormShape}
 use Rattle.gb_tree.specs.declared.form.FormShape.TheOpen as layer
-use Rattle.gb_tree.specs.declared.form.FormShape.TheFolds.{map-FormShape, ind-FormTree}
-use Rattle.gb_tree.specs.declared.form.FormShape.TheViews.{out-roll-FormShape}
-use Rattle.gb_tree.specs.declared.form.FormTree.{FormTree, FormTree-F, map-FormTree, roll-FormTree}
+use Rattle.gb_tree.specs.declared.form.FormTree.{FormTree}
 use Rattle.gb_tree.specs.declared.form.TypeTree.{TypeTree}
 use Rattle.gb_tree.specs.declared.form.Word.{Word}
 use Rattle.gb_typed.specs.Finite.{IsVariableType}
@@ -17,7 +14,9 @@ use Rattle.gb_elab.specs.Answers.{◌>>=◌}
 use Rattle.gb_elab.specs.Answers.Answer.{given, refused}
 use Rattle.gb_elab.specs.Environment.{Environment}
 use Rattle.gb_elab.specs.Forms.{FunctionTyping, function_typing, function, elaborated, of_type, written_as}
-use Rattle.gb_elab.proofs.Elaborated.{function_parts, function_is}
+use Rattle.gb_elab.specs.Layers.{Shape}
+use Rattle.gb_elab.proofs.Elaborated.{by_functions, function_parts}
+use Rattle.gb_elab.proofs.Layers.{each_form}
 use Rattle.gb_given.specs.Fitting.{IsFitting, IsGiven, one_value}
 use Rattle.gb_given.proofs.Given.{given_bind, if_allowed}
 use Rattle.gb_given.proofs.Forms.{elaborated_typed}
@@ -25,9 +24,6 @@ use Rattle.gb_given.proofs.Forms.{elaborated_typed}
 -- a typing of functions gives typed terms
 abbrev pub GivesFunctions : FunctionTyping → Type 0
 GivesFunctions f = (at : Environment) → IsFitting at [] → (from to : Ty) → IsVariableType from → (u : Term) → f at from to ≡ given u → IsGiven at (one_value from) (Some to) u
-
-abbrev OfShape : FormShape → Type 0
-OfShape s = (p : Place) → GivesFunctions (function_typing (function_parts (out-FormShape s)) p)
 
 abbrev OfTree : FormTree → Type 0
 OfTree t = GivesFunctions (function t)
@@ -51,30 +47,19 @@ value_typed [] a ty p at fit from to v u h = cc
 value_typed (x ∷ y ∷ xs) a ty p at fit from to v u h =
     absurd (not_one x y xs (if_allowed (length (x ∷ y ∷ xs) == 1) (written_as ty from >>= λ _. elaborated a at (of_type (x ∷ y ∷ xs) from) (Some to)) TypeMismatch p u h).0)
 
-abbrev Parts : Type 0
-Parts = layer.FormShape-F ((s : FormShape) × OfShape s) ((t : FormTree) × OfTree t)
+-- a shape, each form in it with what is known of it
+abbrev Known : Type 0
+Known = Shape ((t : FormTree) × OfTree t)
 
-abbrev bare : Parts → layer.FormShape-F FormShape FormTree
-bare = map-FormShape ((s : FormShape) × OfShape s) ((t : FormTree) × OfTree t) FormShape FormTree (λ e. e.0) (λ e. e.0)
+abbrev forms : Known → Shape FormTree
+forms = each_form (λ e. e.0)
 
-of_layer : (y : Parts) (p : Place) → GivesFunctions (function_typing (function_parts (bare y)) p)
+of_layer : (y : Known) (p : Place) → GivesFunctions (function_typing (function_parts (forms y)) p)
 unfolding function_typing
 of_layer (layer.Bracketed a) p at fit from to v u h = a.1 at fit from to v u h
-of_layer (layer.Function xs ty a) p at fit from to v u h = value_typed xs a.0 ty p at fit from to v u h
+of_layer (layer.Function xs None a) p at fit from to v u h = value_typed xs a.0 None p at fit from to v u h
+of_layer (layer.Function xs (Some s) a) p at fit from to v u h = value_typed xs a.0 (Some s) p at fit from to v u h
 of_layer _ p at fit from to v u h = cc
 
-of_shape : (y : Parts) → OfShape (roll-FormShape (bare y))
-of_shape y p = subst (λ z. GivesFunctions (function_typing (function_parts z) p)) (sym (out-roll-FormShape (bare y))) (of_layer y p)
-
-abbrev TreeParts : Type 0
-TreeParts = FormTree-F ((s : FormShape) × OfShape s) ((t : FormTree) × OfTree t)
-
-abbrev bare_tree : TreeParts → FormTree-F FormShape FormTree
-bare_tree = map-FormTree ((s : FormShape) × OfShape s) ((t : FormTree) × OfTree t) FormShape FormTree (λ e. e.0) (λ e. e.0)
-
-of_tree : (y : TreeParts) → OfTree (roll-FormTree (bare_tree y))
-of_tree y at fit from to v u h = y.shape.1 y.place at fit from to v u (sym (function_is (roll-FormTree (bare_tree y)) at from to) ∙ h)
-
 pub function_typed : (t : FormTree) → GivesFunctions (function t)
-function_typed =
-    ind-FormTree OfShape OfTree (λ x y is. subst (λ z. OfShape (roll-FormShape z)) is (of_shape y)) (λ x y is. subst (λ z. OfTree (roll-FormTree z)) is (of_tree y))
+function_typed = by_functions GivesFunctions of_layer

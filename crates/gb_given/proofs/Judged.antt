@@ -16,13 +16,15 @@ use Rattle.gb_terms.specs.declared.term.Head.TheVariants.{Equiv, Proc as procedu
 use Rattle.gb_goal.specs.Scope.{entry_of, as_module, proc_of, proc_if_plain, proc_in, procedure_of}
 use Rattle.gb_goal.specs.declared.scope.Entry.{Entry}
 use Rattle.gb_goal.specs.declared.scope.Entry.TheVariants as entry
-use Rattle.gb_tree.specs.declared.form.ProcPath.{ProcPath}
+use Rattle.gb_tree.specs.declared.form.FormTree.{FormTree}
 use Rattle.gb_tree.specs.declared.form.Word.{Word}
+use Rattle.gb_tree.specs.declared.judgment.ModuleExpr.{ModuleExpr, out-ModuleExpr}
+use Rattle.gb_tree.specs.declared.judgment.ProcPath.{ProcPath}
 use Rattle.gb_elab.specs.Answers.{given_or}
 use Rattle.gb_elab.specs.Answers.Answer.{given}
 use Rattle.gb_elab.specs.Environment.{Name, Environment}
 use Rattle.gb_elab.specs.Forms.{has_judgments}
-use Rattle.gb_elab.specs.Judgments.{whole, module_in, named_module, named_procedure, before, after, reference, equivalent}
+use Rattle.gb_elab.specs.Judgments.{whole, module_in, module_path, named_module, named_procedure, without_arguments, before, after, reference, equivalent}
 use Rattle.gb_elab.specs.Names.{is_variable}
 use Rattle.gb_ready.specs.Scoped.{Frame, Frames, IsThere, IsReadable, IsScoped, with_sides}
 use Rattle.gb_ready.specs.Scoped as scoped
@@ -51,14 +53,22 @@ without_params ps qs n f k h = ap (λ z. proc_if_plain z qs n) k ∙ h
 in_module : (o : Option Entry) (m : Module) (n : Name) (f : Proc) → o ≡ Some (entry.Module m) → m.params ≡ [] → proc_of m.procs n ≡ Some f → proc_in (as_module o) n ≡ Some f
 in_module o m n f e k h = ap (λ z. proc_in (as_module z) n) e ∙ without_params m.params m.procs n f k h
 
+name_is : (ts : List ModuleExpr) (x y : Word) → without_arguments ts x ≡ given y → x ≡ y
+name_is [] x y h = given_is x y h
+name_is (t ∷ ts) x y h = cc
+
 -- a procedure that a judgment names is declared
 pub named_is : (at : Environment) (vs : List TypedName) (path : ProcPath) (f : Proc) → named_procedure at vs path ≡ given f → procedure_of at.declared (reference path) ≡ Some f
 unfolding named_procedure named_module
 named_is at vs path f h =
-    let m = given_bind (named_module at vs path.«module») (λ (m : Module). given_or (proc_of m.procs path.proc.name) (UnknownName path.proc.name) path.proc.place) f h in
-    let k = if_refused (is_variable at vs path.«module».name) Argument path.«module».place (module_in (entry_of at.declared path.«module».name) path.«module») m.0 m.1 in
-    let e = module_is (entry_of at.declared path.«module».name) path.«module» m.0 k.1 in
-    in_module (entry_of at.declared path.«module».name) m.0 path.proc.name f e.0 e.1 (some_given (proc_of m.0.procs path.proc.name) (UnknownName path.proc.name) path.proc.place f m.2)
+    let n = path.proc in
+    let x = given_bind (module_path path.«module») _ f h in
+    let m = given_bind (named_module at vs x.0) (λ (m : Module). given_or (proc_of m.procs n.name) (UnknownName n.name) n.place) f x.2 in
+    let k = if_refused (is_variable at vs x.0.name) Argument x.0.place (module_in (entry_of at.declared x.0.name) x.0) m.0 m.1 in
+    let e = module_is (entry_of at.declared x.0.name) x.0 m.0 k.1 in
+    let p = name_is (out-ModuleExpr path.«module»).arguments (out-ModuleExpr path.«module»).path x.0 x.1 in
+    subst (λ (y : Word). proc_in (as_module (entry_of at.declared y.name)) n.name ≡ Some f) (sym p)
+    (in_module (entry_of at.declared x.0.name) m.0 n.name f e.0 e.1 (some_given (proc_of m.0.procs n.name) (UnknownName n.name) n.place f m.2))
 
 subst2 : {A : Type 0} (P : A → A → Type 0) {a b c d : A} → a ≡ b → c ≡ d → P a c → P b d
 subst2 P {a = a} {b = b} {c = c} {d = d} e f x = subst (λ z. P z d) e (subst (λ z. P a z) f x)

@@ -17,7 +17,6 @@ use Rattle.gb_terms.specs.declared.op.Read.TheVariants as read_of
 use Rattle.gb_terms.specs.declared.term.Term.{Term}
 use Rattle.gb_terms.specs.declared.term.Head.TheVariants.{Lit, Read, Bound}
 use Rattle.gb_terms.specs.Make.{node, truth_literal}
-use Rattle.gb_tree.specs.declared.form.FormShape.{FormShape}
 use Rattle.gb_tree.specs.declared.form.FormShape.TheOpen as layer
 use Rattle.gb_tree.specs.declared.form.FormTree.{FormTree}
 use Rattle.gb_tree.specs.declared.form.SideTree.{SideTree}
@@ -37,6 +36,7 @@ use Rattle.gb_elab.specs.Answers.Answer.{given, refused}
 use Rattle.gb_elab.specs.Environment.{Name, Environment, own, own_of, on_side, sides_of}
 use Rattle.gb_elab.specs.Names.{first_named, number_before, unit, built_in, constant_term, bound_variable, logical_variable, program_variable, names_other, unbound, named, no_variable, variable_on, sided, in_memory}
 use Rattle.gb_elab.specs.Forms.{read, remembered}
+use Rattle.gb_elab.specs.Layers.{Shape}
 use Rattle.gb_sound.proofs.Shapes.{none_some, same_some}
 use Rattle.gb_ready.specs.Scoped.{IsReadable, HaveVariableTypes}
 use Rattle.gb_ready.proofs.Procedures.{variable_finite}
@@ -205,8 +205,8 @@ module _ (at : Environment) (vs : List TypedName) (fit : IsFitting at vs) where
   none_remembered Function x m p u h = no_memory x m p u h
 
   -- a form with a side
-  pub read_typed : (l : layer.FormShape-F FormShape FormTree) (p : Place) (s : SideTree) (u : Term) → read at vs l p s ≡ given u → IsSome at vs u
-  read_typed (layer.Path x) p text.Left u h = let q = sided_typed x side.Left p u h in (q.0, q.2)
-  read_typed (layer.Path x) p text.Right u h = let q = sided_typed x side.Right p u h in (q.0, q.2)
-  read_typed (layer.Path x) p (text.Memory m) u h = absurd (none_remembered at.language x m p u h)
+  pub read_typed : (l : Shape FormTree) (p : Place) (s : SideTree) (u : Term) → read at vs l p s ≡ given u → IsSome at vs u
+  read_typed (layer.FormShape::Path x) p text.Left u h = let q = sided_typed x side.Left p u h in (q.0, q.2)
+  read_typed (layer.FormShape::Path x) p text.Right u h = let q = sided_typed x side.Right p u h in (q.0, q.2)
+  read_typed (layer.FormShape::Path x) p (text.Memory m) u h = absurd (none_remembered at.language x m p u h)
   read_typed _ p s u h = cc

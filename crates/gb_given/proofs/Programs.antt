@@ -1,6 +1,7 @@
 -- What the typing of procedures and modules gives is typed.
-use Rattle.std.proofs.Common.{◌≡◌, Bool, true, false, not, List, [], ◌∷◌, ◌++◌, Option, Some, None, is_some, bytes_eq, refl, ap, sym, ◌∙◌, subst}
+use Rattle.std.proofs.Common.{◌≡◌, Bool, true, false, not, if◌then◌else◌, List, [], ◌∷◌, ◌++◌, Option, Some, None, is_some, bytes_eq, refl, ap, sym, ◌∙◌, subst}
 use Rattle.std.specs.List.{list_any}
+use Rattle.gb_core.specs.declared.place.Place.{Place}
 use Rattle.gb_core.specs.declared.refusal.Why.TheVariants.{DoubleName, TypeMismatch}
 use Rattle.gb_core.specs.declared.ty.Ty.{Ty}
 use Rattle.gb_core.specs.declared.ty.Ty.TheVariants as ty
@@ -15,6 +16,7 @@ use Rattle.gb_terms.specs.declared.term.Head.TheVariants.{Sample}
 use Rattle.gb_terms.specs.declared.term.Instr.{Instr}
 use Rattle.gb_goal.specs.Scope.{Declarations, entry_of}
 use Rattle.gb_goal.specs.declared.scope.Entry.{Entry}
+use Rattle.gb_tree.specs.declared.form.FormShape.TheOpen as layer
 use Rattle.gb_tree.specs.declared.form.Binder.{Binder}
 use Rattle.gb_tree.specs.declared.form.FormTree.{FormTree}
 use Rattle.gb_tree.specs.declared.form.TypeTree.{TypeTree}
@@ -22,20 +24,21 @@ use Rattle.gb_tree.specs.declared.form.Word.{Word}
 use Rattle.gb_tree.specs.declared.program.ModuleTree.{ModuleTree}
 use Rattle.gb_tree.specs.declared.program.ProcTree.{ProcTree}
 use Rattle.gb_tree.specs.declared.program.Statement.{Statement}
-use Rattle.gb_tree.specs.declared.program.StatementShape.{StatementShape}
-use Rattle.gb_tree.specs.declared.program.StatementShape.TheVariants as text
+use Rattle.gb_tree.specs.declared.program.StatementShape.{out-StatementShape}
 use Rattle.gb_typed.specs.Finite.{IsVariableType}
 use Rattle.gb_typed.specs.Typing.{type_of}
 use Rattle.gb_typed.specs.Programs.{local_type}
 use Rattle.gb_elab.specs.Answers.{◌>>=◌}
-use Rattle.gb_elab.specs.Answers.Answer.{given}
+use Rattle.gb_elab.specs.Answers.Answer.{given, refused}
 use Rattle.gb_elab.specs.Environment.{Environment, program}
 use Rattle.gb_elab.specs.Forms.{elaborated}
+use Rattle.gb_elab.specs.Layers.{StatementLayer}
 use Rattle.gb_elab.specs.Names.{unit, own_variable, first_named, no_variable}
 use Rattle.gb_elab.specs.Types as spelled_as
 use Rattle.gb_elab_mod.specs.Lemmas.{free, nothing_around}
-use Rattle.gb_elab_mod.specs.Procedures.{result_type, lacks_value, value, declared, locals, sampling, instruction, instructions, procedure_of, procedure}
-use Rattle.gb_elab_mod.specs.Modules.{procedures, all_short, module_given}
+use Rattle.gb_elab_mod.specs.Procedures.{result_type, lacks_value, value, declared, locals, sampling, instruction, instructions, procedure_of, procedure, takes_nothing}
+use Rattle.gb_elab_mod.specs.Modules.{procedures, all_short, module_given, plain}
+use Rattle.gb_elab_mod.specs.Typed.{procs_in}
 use Rattle.gb_ready.specs.Scoped.{HaveVariableTypes, of_program}
 use Rattle.gb_ready.specs.Programs.{AreStatements, AreTypedProcedures, IsExpression, IsStatement, IsTypedProcedure}
 use Rattle.gb_ready.specs.Goals.{IsTypedModule, IsTypedScope}
@@ -49,9 +52,9 @@ use Rattle.gb_given.proofs.Leaves.{unit_typed}
 use Rattle.gb_given.proofs.Quantified.{have_both}
 use Rattle.gb_given.proofs.Forms.{elaborated_typed}
 
-result_typed : (t : Option TypeTree) → IsVariableType (result_type t)
-result_typed None = tt
-result_typed (Some t) = spelled t
+result_typed : (t : Option TypeTree) (u : Ty) → result_type t ≡ given u → IsVariableType u
+result_typed None u h = subst IsVariableType (given_is ty.Unit u h) tt
+result_typed (Some t) u h = spelled t u h
 
 declared_typed : (vs : List TypedName) (xs : List Word) (t : Ty) (ws : List TypedName) → HaveVariableTypes vs → IsVariableType t → declared vs xs t ≡ given ws → HaveVariableTypes ws
 declared_typed vs [] t ws h v e = subst HaveVariableTypes (given_is vs ws e) h
@@ -64,8 +67,9 @@ declared_typed vs (x ∷ xs) t ws h v e =
 locals_typed : (vs : List TypedName) (bs : List Binder) (ws : List TypedName) → HaveVariableTypes vs → locals vs bs ≡ given ws → HaveVariableTypes ws
 locals_typed vs [] ws h e = subst HaveVariableTypes (given_is vs ws e) h
 locals_typed vs (b ∷ bs) ws h e =
-    let q = given_bind (declared vs b.names (spelled_as.type_of b.ty)) (λ us. locals us bs) ws e in
-    locals_typed q.0 bs ws (declared_typed vs b.names (spelled_as.type_of b.ty) q.0 h (spelled b.ty) q.1) q.2
+    let t = given_bind (spelled_as.type_of b.ty) (λ t. declared vs b.names t >>= λ us. locals us bs) ws e in
+    let q = given_bind (declared vs b.names t.0) (λ us. locals us bs) ws t.2 in
+    locals_typed q.0 bs ws (declared_typed vs b.names t.0 q.0 h (spelled b.ty t.0 t.1) q.1) q.2
 
 module _ (ds : Declarations) (scope : IsTypedScope ds) where
   module _ (vs : List TypedName) (variables : HaveVariableTypes vs) where
@@ -93,12 +97,13 @@ module _ (ds : Declarations) (scope : IsTypedScope ds) where
     statements_typed : (ss : List Statement) (is : List Instr) → instructions here ss ≡ given is → AreStatements vs is
     statements_typed [] is h = subst (AreStatements vs) (given_is [] is h) tt
     statements_typed (s ∷ ss) is h =
-        let i = given_bind (instruction here s.shape) _ is h in
+        let i = given_bind (instruction here (out-StatementShape s.shape) s.place) _ is h in
         let js = given_bind (instructions here ss) (λ (js : List Instr). given (i.0 ∷ js)) is i.2 in
-        subst (AreStatements vs) (given_is (i.0 ∷ js.0) is js.2) (statement s.shape i.0 i.1, statements_typed ss js.0 js.1)
+        subst (AreStatements vs) (given_is (i.0 ∷ js.0) is js.2) (statement (out-StatementShape s.shape) s.place i.0 i.1, statements_typed ss js.0 js.1)
       where
-        statement : (t : StatementShape) (i : Instr) → instruction here t ≡ given i → IsStatement vs i
-        statement (text.Sample x d) i h = sampling_typed x d i h
+        statement : (l : StatementLayer) (p : Place) (i : Instr) → instruction here l p ≡ given i → IsStatement vs i
+        statement (layer.Sample x d) p i h = sampling_typed x d i h
+        statement _ p i h = cc
 
     value_typed : (t : Option FormTree) (r : Ty) (u : Term) → lacks_value t r ≡ false → value here t r ≡ given u → IsGiven here [] (Some r) u
     value_typed (Some t) r u l h = elaborated_typed t here [] fits (Some r) u h
@@ -113,8 +118,10 @@ module _ (ds : Declarations) (scope : IsTypedScope ds) where
   procedure_typed : (t : ProcTree) (p : Proc) → procedure ds nothing_around t ≡ given p → IsTypedProcedure p
   unfolding procedure procedure_of
   procedure_typed t p h =
-      let r = result_type t.result in
-      let k = if_refused (lacks_value t.value r) TypeMismatch t.name.place (procedure_of ds nothing_around t r) p h in
+      let n = given_bind (takes_nothing t.parameters t.name) _ p h in
+      let y = given_bind (result_type t.result) (λ y. if lacks_value t.value y then refused TypeMismatch t.name.place else procedure_of ds nothing_around t y) p n.2 in
+      let r = y.0 in
+      let k = if_refused (lacks_value t.value r) TypeMismatch t.name.place (procedure_of ds nothing_around t r) p y.2 in
       let vs = given_bind (locals [] t.locals) _ p k.1 in
       let is = given_bind (instructions (program ds nothing_around vs.0) t.body) _ p vs.2 in
       let v = given_bind (value (program ds nothing_around vs.0) t.value r) _ p is.2 in
@@ -125,7 +132,7 @@ module _ (ds : Declarations) (scope : IsTypedScope ds) where
         locals = variables;
         body = statements_typed vs.0 variables t.body is.0 is.1;
         value = expression vs.0 variables (Some r) v.0 g;
-        result = result_typed t.result;
+        result = result_typed t.result r y.1;
         returned = g.wanted;
       })
 
@@ -153,7 +160,8 @@ pub module_typed : (ds : Declarations) → IsTypedScope ds → (t : ModuleTree) 
 unfolding module_given
 module_typed ds scope t m h =
     let f = given_bind (free ds t.name) _ m h in
-    let ps = given_bind (procedures ds [] t.procs) _ m f.2 in
-    let s = given_bind (all_short t.procs) _ m ps.2 in
+    let b = given_bind (plain t) _ m f.2 in
+    let ps = given_bind (procedures ds [] (procs_in t.items)) _ m b.2 in
+    let s = given_bind (all_short (procs_in t.items)) _ m ps.2 in
     subst (λ (z : Module). IsTypedModule z.name z × (entry_of ds z.name ≡ None)) (given_is _ m s.2)
-    (record { name = refl; params = refl; globals = refl; procs = procedures_typed ds scope [] t.procs ps.0 tt ps.1 }, free_is ds t.name f.0 f.1)
+    (record { name = refl; params = refl; globals = refl; procs = procedures_typed ds scope [] (procs_in t.items) ps.0 tt ps.1 }, free_is ds t.name f.0 f.1)

@@ -6,18 +6,21 @@ use Rattle.gb_core.specs.declared.ty.Ty.TheVariants as ty
 use Rattle.gb_terms.specs.declared.decl.TypedName.{TypedName}
 use Rattle.gb_terms.specs.declared.term.Term.{Term}
 use Rattle.gb_terms.specs.declared.term.Head.TheVariants.{All, Some as Exist}
-use Rattle.gb_tree.specs.declared.form.Binder.{Binder}
+use Rattle.gb_tree.specs.declared.form.Bind.{Bind}
+use Rattle.gb_tree.specs.declared.form.Bind.TheVariants as bind
 use Rattle.gb_tree.specs.declared.form.Quantifier.{Quantifier}
 use Rattle.gb_tree.specs.declared.form.Quantifier.TheVariants.{Forall, Exists}
 use Rattle.gb_tree.specs.declared.form.Word.{Word}
 use Rattle.gb_typed.specs.Finite.{IsVariableType}
+use Rattle.gb_elab.specs.Answers.Answer.{given}
 use Rattle.gb_elab.specs.Environment.{Environment}
-use Rattle.gb_elab.specs.Forms.{of_type, bound_by, over, over_all}
+use Rattle.gb_elab.specs.Forms.{of_type, bound_by, bound_in, over, over_all}
 use Rattle.gb_elab.specs.Types.{type_of}
 use Rattle.gb_ready.specs.Scoped.{HaveVariableTypes}
 use Rattle.gb_ready.proofs.Made.{made_node}
 use Rattle.gb_ready.proofs.Procedures.{variable_finite}
 use Rattle.gb_given.specs.Fitting.{context_under, frames_under}
+use Rattle.gb_given.proofs.Given.{given_bind, given_is}
 use Rattle.gb_given.proofs.Types.{spelled}
 use Rattle.gb_given.proofs.Typed.{Typed, plain_node}
 
@@ -40,10 +43,20 @@ pub have_type : (xs : List Word) (t : Ty) → IsVariableType t → HaveVariableT
 have_type [] t v = tt
 have_type (x ∷ xs) t v = (v, have_type xs t v)
 
--- what binders bind has types of variables
-pub binders_typed : (bs : List Binder) → HaveVariableTypes (bound_by bs)
-binders_typed [] = tt
-binders_typed (b ∷ bs) = have_both (of_type b.names (type_of b.ty)) (bound_by bs) (have_type b.names (type_of b.ty) (spelled b.ty)) (binders_typed bs)
+-- what is bound has types of variables
+bind_typed : (l : Bind) (vs : List TypedName) → bound_in l ≡ given vs → HaveVariableTypes vs
+bind_typed (bind.Values b) vs h =
+    let t = given_bind (type_of b.ty) (λ t. given (of_type b.names t)) vs h in
+    subst HaveVariableTypes (given_is (of_type b.names t.0) vs t.2) (have_type b.names t.0 (spelled b.ty t.0 t.1))
+bind_typed (bind.Memory x) vs h = cc
+bind_typed (bind.Module m) vs h = cc
+
+pub binders_typed : (vs : List TypedName) (bs : List Bind) (ws : List TypedName) → HaveVariableTypes vs → bound_by vs bs ≡ given ws → HaveVariableTypes ws
+unfolding bound_by
+binders_typed vs [] ws k h = subst HaveVariableTypes (given_is vs ws h) k
+binders_typed vs (b ∷ bs) ws k h =
+    let us = given_bind (bound_in b) (λ us. bound_by (vs ++ us) bs) ws h in
+    binders_typed (vs ++ us.0) bs ws (have_both vs us.0 k (bind_typed b us.0 us.1)) us.2
 
 module _ (at : Environment) where
   over_typed : (q : Quantifier) (v : TypedName) (vs : List TypedName) (f : Term) → IsVariableType v.ty → Typed at (v ∷ vs) ty.Bool f → Typed at vs ty.Bool (over q v.ty f)

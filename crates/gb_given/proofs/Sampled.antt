@@ -2,6 +2,7 @@
 use Rattle.std.proofs.lemmas.Bool.{false≢true}
 use Rattle.std.proofs.Common.{◌≡◌, Bool, true, false, ℕ, zero, suc, ◌-◌, List, [], ◌∷◌, length, slice_get, Option, Some, None, refl, ap, sym, ◌∙◌, subst}
 use Rattle.std.specs.Option.{option_and_then, option_map_or, option_zip}
+use Rattle.gb_core.specs.declared.place.Place.{Place}
 use Rattle.gb_core.specs.declared.ty.Ty.{Ty, out-Ty}
 use Rattle.gb_core.specs.declared.var.Var.{Var}
 use Rattle.gb_core.specs.declared.var.Var.TheVariants as var
@@ -20,6 +21,7 @@ use Rattle.gb_goal.specs.declared.step.Rule.{Rule}
 use Rattle.gb_goal.specs.declared.step.Rule.TheVariants as rule
 use Rattle.gb_goal.specs.declared.step.Step.{Step}
 use Rattle.gb_tree.specs.declared.form.FormTree.{FormTree}
+use Rattle.gb_tree.specs.declared.step.Hint.{Hint}
 use Rattle.gb_tree.specs.declared.step.RuleTree.{RuleTree}
 use Rattle.gb_tree.specs.declared.step.RuleTree.TheVariants as text
 use Rattle.gb_tree.specs.declared.step.StepTree.{StepTree}
@@ -30,7 +32,7 @@ use Rattle.gb_elab.specs.Answers.{Answer, ◌>>=◌}
 use Rattle.gb_elab.specs.Answers.Answer.{given}
 use Rattle.gb_elab.specs.Environment.{of_function}
 use Rattle.gb_elab_mod.specs.Occurring.{occurring}
-use Rattle.gb_elab_mod.specs.Steps.{outcomes, sampled, last_sampled, one_type, there_and_back, of_bodies, couplings, typed_rule, step_given}
+use Rattle.gb_elab_mod.specs.Steps.{outcomes, sampled, last_sampled, one_type, there_and_back, of_bodies, couplings, on_both, smt, typed_rule, step_given}
 use Rattle.gb_elab_mod.specs.Steps as steps
 use Rattle.gb_equiv.specs.Judgment.{Layer, Judgment, OnBodies, of_parts, of_subjects, bodies_of}
 use Rattle.gb_sound.proofs.Shapes.{none_some, same_some}
@@ -146,20 +148,29 @@ module _ (ds : Declarations) (q : Sequent) (scope : IsTypedScope ds) (typed : Is
       ∙ ap (λ o. option_map_or (of_bodies ds q fs) o (given [])) (sym k.0)
       ∙ h)
 
-  of_rule : bodies_of q.conclusion ≡ Some e → (t : RuleTree) (k : Rule) (ts : List Term) → typed_rule ds q t ≡ given k → k ≡ rule.Rnd ts →
+  no_rnd : (C : Type 0) (k j : Rule) (ts : List Term) → is_rnd k ≡ false → given k ≡ given j → j ≡ rule.Rnd ts → C
+  no_rnd C k j ts f h r = absurd (false≢true (sym f ∙ ap is_rnd (given_is k j h ∙ r)))
+
+  no_smt : (C : Type 0) (hs : List Hint) (p : Place) (k : Rule) (ts : List Term) → smt hs p ≡ given k → k ≡ rule.Rnd ts → C
+  no_smt C [] p k ts h r = no_rnd C rule.Smt k ts refl h r
+  no_smt C (x ∷ hs) p k ts h r = cc
+
+  of_rule : bodies_of q.conclusion ≡ Some e → (t : RuleTree) (p : Place) (k : Rule) (ts : List Term) → typed_rule ds q t p ≡ given k → k ≡ rule.Rnd ts →
       AreCouplings (of_function ds q ls rs) (option_zip (last_sampled e.left) (last_sampled e.right)) ts
-  of_rule s (text.Rnd fs) k ts h r =
-      let x = given_bind (couplings ds q fs) (λ (us : List Term). given (rule.Rnd us)) k h in
+  of_rule s (text.Rnd w fs) p k ts h r =
+      let o = given_bind (on_both w p) (λ _. couplings ds q fs >>= λ us. given (rule.Rnd us)) k h in
+      let x = given_bind (couplings ds q fs) (λ (us : List Term). given (rule.Rnd us)) k o.2 in
       subst (AreCouplings (of_function ds q ls rs) (option_zip (last_sampled e.left) (last_sampled e.right))) (ap functions_in (given_is (rule.Rnd x.0) k x.2 ∙ r)) (couplings_typed s fs x.0 x.1)
-  of_rule s text.Proc k ts h r = absurd (false≢true (ap is_rnd (given_is rule.Proc k h ∙ r)))
-  of_rule s text.Skip k ts h r = absurd (false≢true (ap is_rnd (given_is rule.Skip k h ∙ r)))
-  of_rule s text.Smt k ts h r = absurd (false≢true (ap is_rnd (given_is rule.Smt k h ∙ r)))
-  of_rule s text.Split k ts h r = absurd (false≢true (ap is_rnd (given_is rule.Split k h ∙ r)))
+  of_rule s (text.Proc w) p k ts h r = let o = given_bind (on_both w p) (λ _. given rule.Proc) k h in no_rnd _ rule.Proc k ts refl o.2 r
+  of_rule s (text.Skip w) p k ts h r = let o = given_bind (on_both w p) (λ _. given rule.Skip) k h in no_rnd _ rule.Skip k ts refl o.2 r
+  of_rule s (text.Smt hs) p k ts h r = no_smt _ hs p k ts h r
+  of_rule s text.Split p k ts h r = no_rnd _ rule.Split k ts refl h r
+  of_rule s _ p k ts h r = cc
 
   -- The functions of a typed step `rnd` are typed over the locals of the bodies.
   pub step_typed : bodies_of q.conclusion ≡ Some e → (t : StepTree) (s : Step) → step_given ds q t ≡ given s → (ts : List Term) → s.rule ≡ rule.Rnd ts →
       AreCouplings (of_function ds q ls rs) (option_zip (last_sampled e.left) (last_sampled e.right)) ts
   unfolding step_given
   step_typed c t s h ts r =
-      let x = given_bind (typed_rule ds q t.rule) (λ (k : Rule). given (record { rule = k; place = t.place })) s h in
-      of_rule c t.rule x.0 ts x.1 (ap (λ (z : Step). z.rule) (given_is (record { rule = x.0; place = t.place }) s x.2) ∙ r)
+      let x = given_bind (typed_rule ds q t.rule t.place) (λ (k : Rule). given (record { rule = k; place = t.place })) s h in
+      of_rule c t.rule t.place x.0 ts x.1 (ap (λ (z : Step). z.rule) (given_is (record { rule = x.0; place = t.place }) s x.2) ∙ r)

@@ -10,7 +10,7 @@ use Rattle.gb_tree.specs.declared.command.LemmaTree.{LemmaTree}
 use Rattle.gb_elab.specs.Answers.Answer.{given}
 use Rattle.gb_elab.specs.Environment.{ambient}
 use Rattle.gb_elab.specs.Forms.{elaborated}
-use Rattle.gb_elab_mod.specs.Lemmas.{free, nothing_around, small, statement_given}
+use Rattle.gb_elab_mod.specs.Lemmas.{binds_nothing, free, nothing_around, small, statement_given}
 use Rattle.gb_elab_mod.specs.Typed.{alone}
 use Rattle.gb_ready.specs.Scoped as around
 use Rattle.gb_ready.specs.Goals.{context_of, IsTypedConclusion, IsTypedSequent, IsTypedScope}
@@ -34,7 +34,8 @@ pub statement_typed : (ds : Declarations) → IsTypedScope ds → (t : LemmaTree
 unfolding statement_given
 statement_typed ds scope t q h =
     let n = given_bind (free ds t.name) _ q h in
-    let f = given_bind (elaborated t.statement (ambient ds nothing_around) [] (Some ty.Bool)) _ q n.2 in
+    let b = given_bind (binds_nothing t.binders t.name) _ q n.2 in
+    let f = given_bind (elaborated t.statement (ambient ds nothing_around) [] (Some ty.Bool)) _ q b.2 in
     let s = given_bind (small f.0) (λ (x : Term). given (alone x)) q f.2 in
     let k = if_refused (nat_lt 65536 (term_nodes f.0)) (TooMany 65536) (record { file = 0; line = 0; col = 0 }) (given f.0) s.0 s.1 in
     let e : alone f.0 ≡ q = ap alone (given_is f.0 s.0 k.1) ∙ given_is (alone s.0) q s.2 in

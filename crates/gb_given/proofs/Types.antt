@@ -1,6 +1,7 @@
 -- Types that a script spells, and types of distributions.
 use Rattle.std.proofs.Common.{◌≡◌, ℕ, Bool, true, false, refl, ap, sym, ◌∙◌, subst}
 use Rattle.std.proofs.lemmas.Bool.{false≢true}
+use Rattle.gb_core.specs.declared.place.Place.{Place}
 use Rattle.gb_core.specs.declared.ty.Ty.{Ty, out-Ty, end_of-Ty, more_of-Ty}
 use Rattle.gb_core.specs.declared.ty.Ty.TheVariants as ty
 use Rattle.gb_core.specs.declared.ty.Ty.TheOpen as layer
@@ -19,9 +20,11 @@ use Rattle.gb_typed.proofs.Constructors.{distribution_is}
 use Rattle.gb_tree.specs.declared.form.TypeShape.{TypeShape}
 use Rattle.gb_tree.specs.declared.form.TypeShape.TheVariants as text
 use Rattle.gb_tree.specs.declared.form.TypeTree.{TypeTree}
+use Rattle.gb_elab.specs.Answers.Answer.{given}
 use Rattle.gb_elab.specs.Forms.{is_distribution, is_distribution_layer}
 use Rattle.gb_elab.specs.Types.{type_of_shape, type_of}
 use Rattle.gb_ready.proofs.Procedures.{variable_finite}
+use Rattle.gb_given.proofs.Given.{given_is}
 
 -- a type of variables is none of distributions
 pub no_distribution : (t : Ty) → IsVariableType t → IsNoDistribution t
@@ -51,13 +54,14 @@ pub distributions_over : (t u : Ty) → IsVariableType t → u ≡ ty.Distr t �
 distributions_over t u v e =
     subst (λ z. IsDistributionType z × (outcome_type z ≡ t)) (sym (e ∙ distribution_is t)) (variable_finite t v, refl)
 
-shape_type : (s : TypeShape) → IsVariableType (type_of_shape s)
-shape_type text.Unit = tt
-shape_type text.Bool = tt
+shape_type : (s : TypeShape) (p : Place) (u : Ty) → type_of_shape s p ≡ given u → IsVariableType u
+shape_type text.Unit p u h = subst IsVariableType (given_is ty.Unit u h) tt
+shape_type text.Bool p u h = subst IsVariableType (given_is ty.Bool u h) tt
+shape_type _ p u h = cc
 
 -- a script spells types of variables
-pub spelled : (t : TypeTree) → IsVariableType (type_of t)
-spelled t = shape_type t.shape
+pub spelled : (t : TypeTree) (u : Ty) → type_of t ≡ given u → IsVariableType u
+spelled t u h = shape_type t.shape t.place u h
 
 -- literals of the types that a script spells
 

@@ -2,13 +2,19 @@ use Rattle.std.proofs.Common.{Some, ap, sym, subst, ◌∙◌, rules}
 use Rattle.gb_elab.specs.Answers.{Answers, Fails}
 use Rattle.gb_elab.specs.Environment.{environment}
 use Rattle.gb_elab.specs.Forms.{elaborated, function, of_type}
-use Rattle.gb_elab.proofs.Functions.{inside_brackets, many_fail, written_fails, value_gives}
+use Rattle.gb_elab.proofs.Functions.{inside_brackets, many_fail, no_function, written_fails, value_gives}
 use Rattle.gb_elab.proofs.form.+function.Goals as goal
 
 pub returns-in-Bracketed : goal.returns-in-Bracketed
 returns-in-Bracketed t c =
     inside_brackets c.args.t.now (environment c.args.at.now) c.args.from.now c.args.to.now c.in-Bracketed.inner c.function.result c.in-Bracketed.is
     (subst (λ a. Answers (function a (environment c.args.at.now) c.args.from.now c.args.to.now) c.function.result) c.get.ensures c.function.ensures)
+
+pub returns-in_default : goal.returns-in_default
+returns-in_default t c =
+    let n = c.in_default in
+    subst (Fails (function c.args.t.now (environment c.args.at.now) c.args.from.now c.args.to.now)) (sym c.mismatch-in_default.ensures)
+    (no_function c.args.t.now (environment c.args.at.now) c.args.from.now c.args.to.now n.not-Bracketed n.not-Function)
 
 pub returns-then-len-ne1 : goal.returns-then-len-ne1
 returns-then-len-ne1 t c =

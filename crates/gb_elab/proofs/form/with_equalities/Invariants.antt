@@ -4,4 +4,4 @@ use Rattle.gb_elab.specs.Forms.{with_equalities}
 use Rattle.gb_elab.proofs.form.with_equalities.Given as goal
 
 abbrev pub invariant-loop-x : goal.invariant-loop-x
-invariant-loop-x l = with_equalities (environment l.at) l.bound l.form (drop l.x-index l.words) ≡ with_equalities (environment l.at) l.bound l.fn.first l.words
+invariant-loop-x l = with_equalities (environment l.at) l.bound l.form (drop l.x-index l.list) ≡ with_equalities (environment l.at) l.bound l.fn.first l.list
