@@ -8,11 +8,12 @@ use Rattle.gb_lex.specs.declared.token.Cut.TheVariants as cut
 use Rattle.gb_tree.specs.declared.command.Command.{Command}
 use Rattle.gb_tree.specs.declared.command.CommandShape.{CommandShape}
 use Rattle.gb_tree.specs.declared.command.CommandShape.TheVariants as command
+use Rattle.gb_tree.specs.declared.step.StepTree.{StepTree}
 use Rattle.gb_elab.specs.Answers.{Answer}
 use Rattle.gb_elab.specs.Answers.Answer.{given}
 use Rattle.gb_given.proofs.Given.{given_is}
 use Rattle.gb_verdict.specs.Session.{Session, OpenProof, fresh_session}
-use Rattle.gb_verdict.specs.Commands.{InProof, ComesToOf, ComesTo}
+use Rattle.gb_verdict.specs.Commands.{InProof, Proves, sole_rule, ComesToOf, ComesTo}
 use Rattle.gb_verdict.specs.Verdict.{RunsTo, IsEnd, Ends, Goes, RunsIn, start, IsOutcome}
 use Rattle.gb_accepted.proofs.Given.{nothing_given, given_after, given_placed}
 use Rattle.gb_accepted.proofs.Good.{IsGoodProof, IsGoodIfOpen, IsGood, fresh_is_good}
@@ -24,6 +25,11 @@ in_proof : (s : Session) (o : Option OpenProof) (place : Place) (P : OpenProof �
 in_proof s None place P next h i = nothing_given _ _ next (sym i)
 in_proof s (Some p) place P next h i = (p, h, i)
 
+proves_keep : (s : Session) (t : Option StepTree) (place : Place) (next : Session) → IsGood s → Proves s t place (given next) → IsGood next
+proves_keep s (Some t) place next g e =
+    let i = in_proof s s.proof t.place _ next g.proof e in works_keep i.0.goals s i.0 t next g i.1 refl i.2
+proves_keep s None place next g e = nothing_given _ _ next (sym e)
+
 shape_keeps : (s : Session) (c : CommandShape) (place : Place) (next : Session) → IsGood s → ComesToOf s c place (given next) → IsGood next
 shape_keeps s (command.Module t) place next g e = declares_keeps s t place next g (sym e)
 shape_keeps s (command.Lemma t) place next g e = opens_keeps s t place next g (sym e)
@@ -31,8 +37,8 @@ shape_keeps s command.Proof place next g e =
     let i = in_proof s s.proof place _ next g.proof e in begun_keeps s i.0 place next g i.1 (sym i.2)
 shape_keeps s command.Qed place next g e =
     let i = in_proof s s.proof place _ next g.proof e in ended_keeps i.0.goals s i.0 place next g i.1 i.1.leads (sym i.2)
-shape_keeps s (command.Step t) place next g e =
-    let i = in_proof s s.proof t.place _ next g.proof e in works_keep i.0.goals s i.0 t next g i.1 refl i.2
+shape_keeps s (command.Tactic t) place next g e = proves_keep s (sole_rule t) t.first.place next g e
+shape_keeps s _ place next g e = nothing_given _ _ next (sym e)
 
 command_keeps : (s : Session) (c : Command) (next : Session) → IsGood s → ComesTo s c (given next) → IsGood next
 command_keeps s c next g e =

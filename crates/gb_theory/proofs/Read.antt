@@ -8,8 +8,8 @@ use Rattle.gb_core.specs.declared.refusal.Why.{Why}
 use Rattle.gb_lex.specs.Lex.{tokens_of, fault_of, IsCharacterFault}
 use Rattle.gb_lex.specs.declared.token.Token.{Token}
 use Rattle.gb_tree.specs.declared.command.Command.{Command}
-use Rattle.gb_read_form.specs.declared.rows.TheConstants.{COMMAND}
-use Rattle.gb_read_form.specs.Lexeme.{text_at}
+use Rattle.gb_table.specs.declared.rows.TheConstants.{COMMAND}
+use Rattle.gb_text.specs.Lexeme.{text_at}
 use Rattle.gb_read_script.specs.Reading.{SpellsCommand, IsRefusal, IsAllowed}
 use Rattle.gb_verdict.specs.Verdict.{IsReadAs}
 use Rattle.gb_theory.specs.Sessions.{IsDue, Meets}

@@ -4,7 +4,7 @@ ghost use Rattle.std.specs.Prelude.{◌≡◌, [], ◌∷◌, ◌++◌, true, No
 ghost use Rattle.gb_goal.specs.Scope.{entry_of};
 ghost use Rattle.gb_elab.specs.Answers.{Gives};
 ghost use Rattle.gb_verdict.specs.Session.{Session, OpenProof as Opened, with_goals};
-ghost use Rattle.gb_verdict.specs.Commands.{declares, opens, begun, ended, continued, InProof, Applied, WorksOn, ComesToOf, ComesTo};
+ghost use Rattle.gb_verdict.specs.Commands.{declares, opens, begun, ended, continued, InProof, Proves, Applied, sole_rule, WorksOn, ComesToOf, ComesTo};
 ghost use Rattle.gb_theory.specs.Placed.{placed};
 ghost use Rattle.gb_theory.specs.Sessions.{session_of, Meets, Leads};
 
@@ -18,7 +18,7 @@ use gb_goal::sequent::{Sequent, Sequents, copy_sequent};
 use gb_goal::step::{Rule, Step};
 use gb_tree::command::{Command, CommandShape, LemmaTree};
 use gb_tree::program::ModuleTree;
-use gb_tree::step::StepTree;
+use gb_tree::step::{CombinedShape, StepTree, TacticTree};
 use sqlite_items::Items;
 use std::alloc::{AllocError, Global};
 
@@ -56,10 +56,11 @@ fn dispatch(alloc: Global, state: &mut State, command: &Command) -> Result<(), R
     let place = command.place;
     match &command.shape {
         CommandShape::Module(tree) => declare_module(alloc, state, tree, place),
-        CommandShape::Lemma(tree) => open_lemma(alloc, state, tree, place),
+        CommandShape::Lemma(tree) => open_lemma(alloc, state, tree.get(), place),
         CommandShape::Proof => begin_proof(state, place),
         CommandShape::Qed => close_proof(alloc, state, place),
-        CommandShape::Step(tree) => prove(alloc, state, tree),
+        CommandShape::Tactic(tree) => prove_by(alloc, state, tree.get()),
+        _ => Err(refused(Why::Syntax, place)),
     }
 }
 
@@ -175,7 +176,18 @@ fn bring_in(
     scope.declare_lemma(alloc, name, statement)
 }
 
-/// A proof step works on the first goal, and puts its subgoals in front of the others.
+/// A proof step is a single rule; what is more isn't built.
+fn prove_by(alloc: Global, state: &mut State, tree: &TacticTree) -> Result<(), Refused>
+    ensures { Leads (Proves (session_of state.old) (sole_rule tree.now) tree.now.first.place)
+        (session_of state.new) result }
+{
+    match &tree.first.shape {
+        CombinedShape::Rule(step, None) if tree.more.is_empty() => prove(alloc, state, step),
+        _ => Err(refused(Why::Syntax, tree.first.place)),
+    }
+}
+
+/// A rule works on the first goal, and puts its subgoals in front of the others.
 fn prove(alloc: Global, state: &mut State, tree: &StepTree) -> Result<(), Refused>
     ensures { Leads
         (InProof (session_of state.old).proof tree.now.place (λ p. WorksOn p.goals (session_of state.old) p tree.now))

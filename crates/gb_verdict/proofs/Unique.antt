@@ -19,9 +19,9 @@ use Rattle.gb_tree.specs.declared.command.Command.{Command}
 use Rattle.gb_tree.specs.declared.command.CommandShape.{CommandShape}
 use Rattle.gb_tree.specs.declared.command.CommandShape.TheVariants as command
 use Rattle.gb_tree.specs.declared.step.StepTree.{StepTree}
-use Rattle.gb_read_form.specs.declared.rows.TheConstants.{COMMAND}
-use Rattle.gb_read_form.specs.declared.text.Text.{Text}
-use Rattle.gb_read_form.specs.Lexeme.{text_at}
+use Rattle.gb_table.specs.declared.rows.TheConstants.{COMMAND}
+use Rattle.gb_text.specs.declared.text.Text.{Text}
+use Rattle.gb_text.specs.Lexeme.{text_at}
 use Rattle.gb_read_script.specs.Reading.{SpellsCommand, IsRefusal, IsAllowed}
 use Rattle.gb_elab.specs.Answers.{Answer, ◌>>=◌}
 use Rattle.gb_elab.specs.Answers.Answer.{given, refused}
@@ -30,7 +30,7 @@ use Rattle.gb_smt.specs.declared.leaves.Leaf.{Leaf}
 use Rattle.gb_smt.specs.Leaves.{leaves_of}
 use Rattle.gb_smt.specs.Apply.{IsAnswerOf}
 use Rattle.gb_verdict.specs.Session.{Session, OpenProof, fresh_session}
-use Rattle.gb_verdict.specs.Commands.{After, closed_unless, Applied, continued, Works, WorksOn, InProof, ComesToOf, at_command, ComesTo}
+use Rattle.gb_verdict.specs.Commands.{After, closed_unless, Applied, continued, Works, WorksOn, InProof, Proves, ComesToOf, sole_rule, at_command, ComesTo}
 use Rattle.gb_verdict.specs.Verdict.{IsReadAs, IsEnd, Ends, RunsTo, Goes, RunsIn, start, IsOutcome}
 
 -- answers that go on from one answer are one where what follows is one
@@ -63,12 +63,17 @@ module _ (one_answer : (leaves : List Leaf) (a b : Option Why) → IsAnswerOf le
   one_on [] s p tree r t h k = h ∙ sym k
   one_on (q ∷ rest) s p tree r t h k = after_same (step_given s.scope q tree) (Works s p q rest) (Works s p q rest) (one_step s p q rest) r t h k
 
+  one_proved : (s : Session) (tree : Option StepTree) (place : Place) (r t : Answer Session) → Proves s tree place r → Proves s tree place t → r ≡ t
+  one_proved s (Some tree) place r t h k = in_proof_same s.proof tree.place _ (λ p x y. one_on p.goals s p tree x y) r t h k
+  one_proved s None place r t h k = h ∙ sym k
+
   one_of : (s : Session) (shape : CommandShape) (place : Place) (r t : Answer Session) → ComesToOf s shape place r → ComesToOf s shape place t → r ≡ t
   one_of s (command.Module m) place r t h k = h ∙ sym k
   one_of s (command.Lemma l) place r t h k = h ∙ sym k
   one_of s command.Proof place r t h k = in_proof_same s.proof place _ (λ p x y a b. a ∙ sym b) r t h k
   one_of s command.Qed place r t h k = in_proof_same s.proof place _ (λ p x y a b. a ∙ sym b) r t h k
-  one_of s (command.Step tree) place r t h k = in_proof_same s.proof tree.place _ (λ p x y. one_on p.goals s p tree x y) r t h k
+  one_of s (command.Tactic tactic) place r t h k = one_proved s (sole_rule tactic) tactic.first.place r t h k
+  one_of s _ place r t h k = h ∙ sym k
 
   one_command : (s : Session) (c : Command) (r t : Answer Session) → ComesTo s c r → ComesTo s c t → r ≡ t
   one_command s c r t h k = h.2 ∙ (ap (λ (x : Answer Session). at_command c.place x) (one_of s c.shape c.place h.0 k.0 h.1 k.1) ∙ sym k.2)

@@ -13,8 +13,12 @@ use Rattle.gb_tree.specs.declared.command.CommandShape.{CommandShape}
 use Rattle.gb_tree.specs.declared.command.CommandShape.TheVariants as command
 use Rattle.gb_tree.specs.declared.command.LemmaTree.{LemmaTree}
 use Rattle.gb_tree.specs.declared.program.ModuleTree.{ModuleTree}
+use Rattle.gb_tree.specs.declared.step.CombinedShape.{CombinedShape}
+use Rattle.gb_tree.specs.declared.step.CombinedShape.TheVariants as combined
+use Rattle.gb_tree.specs.declared.step.Continuation.{Continuation}
 use Rattle.gb_tree.specs.declared.step.StepTree.{StepTree}
-use Rattle.gb_elab.specs.Answers.{Answer, ◌>>=◌, given_or}
+use Rattle.gb_tree.specs.declared.step.TacticTree.{TacticTree}
+use Rattle.gb_elab.specs.Answers.{Answer, ◌>>=◌, given_or, not_built}
 use Rattle.gb_elab.specs.Answers.Answer.{given, refused}
 use Rattle.gb_elab_mod.specs.Modules.{module_given}
 use Rattle.gb_elab_mod.specs.Lemmas.{statement_given}
@@ -97,12 +101,26 @@ abbrev pub InProof : Option OpenProof → Place → (OpenProof → Answer Sessio
 InProof None place P r = r ≡ refused NoGoal place
 InProof (Some p) place P r = P p r
 
+-- the rule that stands alone, without premises that are named
+abbrev pub alone : CombinedShape → List Continuation → Option StepTree
+alone (combined.Rule t None) [] = Some t
+alone _ _ = None
+
+abbrev pub sole_rule : TacticTree → Option StepTree
+sole_rule t = alone t.first.shape t.more
+
+-- a rule is run in the open proof; what is more than one isn't built
+abbrev pub Proves : Session → Option StepTree → Place → Answer Session → Type 0
+Proves s (Some t) place r = InProof s.proof t.place (λ p. WorksOn p.goals s p t) r
+Proves s None place r = r ≡ not_built place
+
 abbrev pub ComesToOf : Session → CommandShape → Place → Answer Session → Type 0
 ComesToOf s (command.Module t) place r = r ≡ declares s t place
 ComesToOf s (command.Lemma t) place r = r ≡ opens s t place
 ComesToOf s command.Proof place r = InProof s.proof place (λ p x. x ≡ begun s p place) r
 ComesToOf s command.Qed place r = InProof s.proof place (λ p x. x ≡ ended p.goals s p place) r
-ComesToOf s (command.Step t) place r = InProof s.proof t.place (λ p. WorksOn p.goals s p t) r
+ComesToOf s (command.Tactic t) place r = Proves s (sole_rule t) t.first.place r
+ComesToOf s _ place r = r ≡ not_built place
 
 -- a refusal without a place of its own stands at the command's first word
 abbrev pub at_command : {X : Type 0} → Place → Answer X → Answer X

@@ -9,8 +9,8 @@ use Rattle.gb_lex.specs.declared.token.Cut.{Cut}
 use Rattle.gb_lex.specs.declared.token.Cut.TheVariants as cut
 use Rattle.gb_lex.specs.PlaceAfter.{place_after}
 use Rattle.gb_tree.specs.declared.command.Command.{Command}
-use Rattle.gb_read_form.specs.declared.rows.TheConstants.{COMMAND}
-use Rattle.gb_read_form.specs.Lexeme.{text_at}
+use Rattle.gb_table.specs.declared.rows.TheConstants.{COMMAND}
+use Rattle.gb_text.specs.Lexeme.{text_at}
 use Rattle.gb_read_script.specs.Reading.{SpellsCommand, IsRefusal, IsAllowed}
 use Rattle.gb_elab.specs.Answers.{Answer}
 use Rattle.gb_elab.specs.Answers.Answer.{given, refused}
