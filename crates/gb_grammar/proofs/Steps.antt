@@ -2,6 +2,7 @@
 use Rattle.std.specs.Prelude.{if◌then◌else◌, ◌≡◌, ℕ, zero, suc, ◌+◌, ◌<◌, ◌≤◌, List, [], ◌∷◌, ◌++◌, Bool, true, false, not, ◌&&◌, ◌||◌, Option, Some, None, nat_lt, nat_eq, slice_get, length, ◌⊎◌}
 use Rattle.std.proofs.Common.{zero-add, ⊎_elim, refl, ap, sym, ◌∙◌, subst, inl, inr, arith, eq-eqb}
 use Rattle.std.proofs.lemmas.List.{append_assoc}
+use Rattle.std.proofs.lemmas.List.Elements.{All-nil, All-push, All-append, All-weaker}
 use Rattle.std.proofs.lemmas.Bool.{ltb-true, eqb-true}
 use Rattle.std.proofs.lemmas.Option.{same_Some}
 use Rattle.gb_grammar.specs.declared.table.Symbol.{Symbol}
@@ -170,10 +171,11 @@ module _ {R : Type 0} (g : Grammar R) where
         (starts_at d.tree (d.row.body) ss t w lt refl refl))
 
     pub expands_none : (t at : ℕ) (ss : List Symbol) → Expands g t at ss [] ss
-    expands_none t at ss = record { back = λ w ps d. d; forth = λ w ps d. (ps, refl, d) }
+    expands_none t at ss = record { here = All-nil (λ (q : Step R). q.at ≡ at); back = λ w ps d. d; forth = λ w ps d. (ps, refl, d) }
 
     pub expands_open : (t at : ℕ) (from : List Symbol) (qs : List (Step R)) (n : ℕ) (ss : List Symbol) (r : Production R) → t < 128 → Good g c (Part n ∷ ss) → IsProduction g n r → has r.starts t ≡ true → pick_of g n t ≡ Some r → Expands g t at from qs (Part n ∷ ss) → Expands g t at from (qs ++ step r at ∷ []) (r.body ++ ss)
     expands_open t at from qs n ss r lt h i st p x = record {
+      here = All-push (λ (q : Step R). q.at ≡ at) qs (step r at) x.here refl;
       back = λ w ps d. subst (λ (l : List (Step R)). Derives g from at (t ∷ w) l) (sym (append_assoc qs (step r at ∷ []) ps)) (x.back w (step r at ∷ ps) (choose r i (sound.free n r t lt i st) d));
       forth = λ w ps d.
           let a = x.forth w ps d in
@@ -196,10 +198,13 @@ module _ {R : Type 0} (g : Grammar R) where
     stuck_back t at from qs to x s w ps d = let a = x.forth w ps d in s w a.0 a.2
 
     pub reads_none : (start : List Symbol) → Reads g start 0 [] [] start
-    reads_none start = record { back = λ w ps d. d; forth = λ w ps d. (ps, refl, d) }
+    reads_none start = record { early = All-nil (λ (q : Step R). q.at < 0); back = λ w ps d. d; forth = λ w ps d. (ps, refl, d) }
 
     pub reads_more : (start : List Symbol) (at : ℕ) (before : List ℕ) (qs : List (Step R)) (from : List Symbol) (t : ℕ) (qs' : List (Step R)) (ss : List Symbol) → Reads g start at before qs from → Expands g t at from qs' (Token t ∷ ss) → Reads g start (at + 1) (before ++ t ∷ []) (qs ++ qs') ss
     reads_more start at before qs from t qs' ss r x = record {
+      early = All-append (λ (q : Step R). q.at < at + 1) qs qs'
+          (All-weaker (λ (q : Step R). q.at < at) (λ (q : Step R). q.at < at + 1) (λ (q : Step R) (h : q.at < at). omega arith) qs r.early)
+          (All-weaker (λ (q : Step R). q.at ≡ at) (λ (q : Step R). q.at < at + 1) (λ (q : Step R) (h : q.at ≡ at). omega arith) qs' x.here);
       back = λ w ps d.
           subst (λ (l : List ℕ). Derives g start 0 l ((qs ++ qs') ++ ps)) (sym (append_assoc before (t ∷ []) w))
           (subst (λ (l : List (Step R)). Derives g start 0 (before ++ t ∷ w) l) (sym (append_assoc qs qs' ps)) (r.back (t ∷ w) (qs' ++ ps) (x.back w ps (token d))));

@@ -8,7 +8,7 @@ use Rattle.gb_grammar.specs.declared.table.Symbol.TheVariants.{Token, Part}
 use Rattle.gb_grammar.specs.declared.table.Step.{Step}
 use Rattle.gb_grammar.specs.Grammar.{Grammar, Production, step}
 use Rattle.gb_grammar.specs.Check.{Claims, lead_weight, pick_of}
-use Rattle.gb_grammar.specs.Stack.{Good, Expands, Stuck, Moved, Advanced}
+use Rattle.gb_grammar.specs.Stack.{Good, Expands, Stuck, Moved, Halted, Advanced}
 use Rattle.gb_grammar.proofs.Sound.{Sound}
 use Rattle.gb_grammar.proofs.Steps.{expands_open, stuck_open, stuck_match, stuck_empty, stuck_back, good_open, lead_open, picked_at}
 
@@ -17,13 +17,16 @@ popped : (old new : List Symbol) (top : Symbol) → old ≡ new ++ top ∷ [] �
 popped old new top e = ap reverse e ∙ reverse-append new (top ∷ [])
 
 module _ {R : Type 0} (g : Grammar R) (c : Claims) (s : Sound g c) (t at : ℕ) (from : List Symbol) (old : List (Step R)) where
-  advanced_of : (b : Bool) (to : List Symbol) (new : List (Step R)) → (b ≡ true → Moved g c t at from old (Token t ∷ to) new) → (b ≡ false → Stuck g t at from) → Advanced b g c t at from old to new
+  advanced_of : (b : Bool) (to : List Symbol) (new : List (Step R)) → (b ≡ true → Moved g c t at from old (Token t ∷ to) new) → (b ≡ false → Halted g t at from old new) → Advanced b g c t at from old to new
   advanced_of true to new f h = f refl
   advanced_of false to new f h = h refl
 
   -- what the loop keeps
   abbrev pub Came : List Symbol → List (Step R) → Type 0
   Came to steps = (qs : List (Step R)) × (steps ≡ old ++ qs) × Expands g t at from qs to
+
+  halted : {to : List Symbol} (steps : List (Step R)) → Came to steps → Stuck g t at from → Halted g t at from old steps
+  halted steps came stuck = record { steps = came.0; grown = came.1; stuck = stuck }
 
   pub turn_token : (stack stack' : List Symbol) (top : Symbol) (k : ℕ) (steps : List (Step R)) → stack ≡ stack' ++ top ∷ [] → top ≡ Token k → Came (reverse stack) steps → Good g c (reverse stack) → Advanced (nat_eq k t) g c t at from old (reverse stack') steps
   turn_token stack stack' top k steps e tok came good =
@@ -39,11 +42,12 @@ module _ {R : Type 0} (g : Grammar R) (c : Claims) (s : Sound g c) (t at : ℕ) 
         expands = subst (λ (n : ℕ). Expands g t at from came.0 (Token n ∷ reverse stack')) same x;
         good = subst (λ (n : ℕ). Good g c (Token n ∷ reverse stack')) same h;
       })
-      (λ (y : nat_eq k t ≡ false). stuck_back g c s t at from came.0 (Token k ∷ reverse stack') x (stuck_match g c s t at k (reverse stack') (eqb-false k t y)))
+      (λ (y : nat_eq k t ≡ false).
+      halted steps came (stuck_back g c s t at from came.0 (Token k ∷ reverse stack') x (stuck_match g c s t at k (reverse stack') (eqb-false k t y))))
 
-  pub turn_empty : (stack : List Symbol) (steps : List (Step R)) → stack ≡ [] → Came (reverse stack) steps → Stuck g t at from
+  pub turn_empty : (stack : List Symbol) (steps : List (Step R)) → stack ≡ [] → Came (reverse stack) steps → Halted g t at from old steps
   turn_empty stack steps e came =
-      stuck_back g c s t at from came.0 [] (subst (λ (l : List Symbol). Expands g t at from came.0 (reverse l)) e came.2) (stuck_empty g c s t at)
+      halted steps came (stuck_back g c s t at from came.0 [] (subst (λ (l : List Symbol). Expands g t at from came.0 (reverse l)) e came.2) (stuck_empty g c s t at))
 
   -- the top is a part
   pub record PartOnTop (stack stack' : List Symbol) (n : ℕ) (steps : List (Step R)) : Type 0 where
@@ -60,9 +64,9 @@ module _ {R : Type 0} (g : Grammar R) (c : Claims) (s : Sound g c) (t at : ℕ) 
         shape = shape;
       }
 
-  pub turn_none : (stack stack' : List Symbol) (n : ℕ) (steps : List (Step R)) → t < 128 → PartOnTop stack stack' n steps → pick_of g n t ≡ None → Stuck g t at from
+  pub turn_none : (stack stack' : List Symbol) (n : ℕ) (steps : List (Step R)) → t < 128 → PartOnTop stack stack' n steps → pick_of g n t ≡ None → Halted g t at from old steps
   turn_none stack stack' n steps lt o p =
-      stuck_back g c s t at from o.came.0 (Part n ∷ reverse stack') o.came.2 (stuck_open g c s t at n (reverse stack') lt o.good p)
+      halted steps o.came (stuck_back g c s t at from o.came.0 (Part n ∷ reverse stack') o.came.2 (stuck_open g c s t at n (reverse stack') lt o.good p))
 
   -- after a part was opened
   pub record Opened (stack next : List Symbol) (steps : List (Step R)) : Type 0 where

@@ -3,6 +3,7 @@ use Rattle.std.specs.Prelude.{◌≡◌, ℕ, suc, ◌+◌, ◌-◌, ◌<◌, �
 use Rattle.std.proofs.Common.{refl, ap, sym, ◌∙◌, subst, arith, inl, inr, ⊎_elim}
 use Rattle.std.proofs.lemmas.List.{append_assoc}
 use Rattle.std.proofs.lemmas.Bool.{cases_order}
+use Rattle.std.proofs.lemmas.List.Elements.{All-head, All-tail, All-same}
 use Rattle.std.proofs.lemmas.Option.{same_Some}
 use Rattle.std.proofs.Math.Seq.{take-add}
 use Rattle.std.specs.List.{All}
@@ -12,7 +13,7 @@ use Rattle.gb_grammar.specs.declared.table.Step.{Step}
 use Rattle.gb_grammar.specs.Grammar.{Grammar, Production, step, Derives, done, token, choose}
 use Rattle.gb_grammar.specs.Check.{Claims, is_start}
 use Rattle.gb_grammar.specs.Stack.{Good}
-use Rattle.gb_grammar.specs.Reading.{Spells, Begins, IsKind, FirstFault}
+use Rattle.gb_grammar.specs.Reading.{Spells, Begins, IsKind, FirstFault, StepsBefore}
 use Rattle.gb_grammar.proofs.Sound.{Sound}
 use Rattle.gb_grammar.proofs.Steps.{Opens, opens, matches, ends_of, opened, good_open}
 use Rattle.gb_grammar.proofs.Whole.{good_start, with_end}
@@ -101,3 +102,33 @@ one_fault g n kinds a b x y =
       | inr (inl h) ↦ absurd (none_before g n kinds a b x y h)
       | inr (inr h) ↦ absurd (none_before g n kinds b a y x h)
     ]
+
+module _ {R : Type 0} (at : ℕ) where
+  abbrev IsEarly : Step R → Type 0
+  IsEarly s = s.at < at
+
+  abbrev IsLate : Step R → Type 0
+  IsLate s = at ≤ s.at
+
+  -- an early step isn't the first of late ones
+  not_late : (y : Step R) (ys late : List (Step R)) → IsEarly y → All IsLate late → late ≡ y ∷ ys → ⊥
+  not_late y ys late h l e =
+      let k : at ≤ y.at = All-head IsLate y ys (All-same IsLate (y ∷ ys) late (sym e) l) in
+      absurd (omega arith)
+
+  same_front : (a b ra rb : List (Step R)) → All IsEarly a → All IsEarly b → All IsLate ra → All IsLate rb → a ++ ra ≡ b ++ rb → a ≡ b
+  same_front [] [] ra rb ea eb la lb e = refl
+  same_front [] (y ∷ b) ra rb ea eb la lb e = absurd (not_late y (b ++ rb) ra (All-head IsEarly y b eb) la e)
+  same_front (x ∷ a) [] ra rb ea eb la lb e = absurd (not_late x (a ++ ra) rb (All-head IsEarly x a ea) lb (sym e))
+  same_front (x ∷ a) (y ∷ b) ra rb ea eb la lb e =
+      let q : x ≡ y = cc in
+      let t : a ++ ra ≡ b ++ rb = cc in
+      let u = same_front a b ra rb (All-tail IsEarly x a ea) (All-tail IsEarly y b eb) la lb t in
+      cc
+
+pub one_front : {R : Type 0} (g : Grammar R) (n : ℕ) (kinds : List ℕ) (at : ℕ) (a b : List (Step R)) → FirstFault g n kinds at → StepsBefore g n kinds at a → StepsBefore g n kinds at b → a ≡ b
+one_front g n kinds at a b f x y =
+    let t = f.begun in
+    let p = x.first t.0 t.1 t.2 in
+    let q = y.first t.0 t.1 t.2 in
+    same_front at a b p.0 q.0 x.early y.early p.2 q.2 (sym p.1 ∙ q.1)

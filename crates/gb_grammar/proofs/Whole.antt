@@ -1,8 +1,8 @@
 -- From the stack with its end to whole texts.
 use Rattle.std.specs.Prelude.{◌≡◌, ℕ, zero, suc, ◌+◌, ◌<◌, ◌≤◌, List, [], ◌∷◌, ◌++◌, Bool, true, false, ◌&&◌, nat_lt, length, take, drop}
 use Rattle.std.proofs.Common.{refl, ap, sym, ◌∙◌, subst, arith, get_or}
-use Rattle.std.proofs.lemmas.List.{append_assoc, append-nil, take_more, take-append-drop, take_all}
-use Rattle.std.proofs.lemmas.List.Elements.{All-take}
+use Rattle.std.proofs.lemmas.List.{append_assoc, append-nil, take_more, take-append-drop, take_all, take-append-le}
+use Rattle.std.proofs.lemmas.List.Elements.{All-nil, All-cons, All-weaker, All-take}
 use Rattle.std.proofs.lemmas.Bool.{ltb-true, lt-ltb}
 use Rattle.std.specs.List.{All}
 use Rattle.gb_grammar.specs.declared.table.Symbol.{Symbol}
@@ -10,8 +10,8 @@ use Rattle.gb_grammar.specs.declared.table.Symbol.TheVariants.{Token, Part}
 use Rattle.gb_grammar.specs.declared.table.Step.{Step}
 use Rattle.gb_grammar.specs.Grammar.{Grammar, Production, has, IsProduction, Allowed, step, Derives, done, token, choose}
 use Rattle.gb_grammar.specs.Check.{Claims, claim_of, is_start, all_known}
-use Rattle.gb_grammar.specs.Stack.{Followed, Good, Expands, Stuck, Reads, Moved, Advanced}
-use Rattle.gb_grammar.specs.Reading.{Spells, Begins, IsKind, FirstFault}
+use Rattle.gb_grammar.specs.Stack.{Followed, Good, Expands, Stuck, Reads, Moved, Halted, Advanced}
+use Rattle.gb_grammar.specs.Reading.{Spells, Begins, IsKind, FirstFault, StepsBefore}
 use Rattle.gb_grammar.proofs.Tests.{both, and_both}
 use Rattle.gb_grammar.proofs.Sound.{Sound}
 use Rattle.gb_grammar.proofs.Steps.{Ends, ends_of, Matches, matches, derives_end, reads_more}
@@ -136,6 +136,21 @@ module _ {R : Type 0} (g : Grammar R) (c : Claims) (s : Sound g c) (n : ℕ) (re
         no_text = λ steps d. let f = r.forth (0 ∷ []) steps (with_end kinds steps d) in stuck [] f.0 f.2;
       }
 
+  -- what is left to derive has no steps of earlier positions
+  later_steps : {st : List Symbol} {at : ℕ} {v : List ℕ} {ps : List (Step R)} → Derives g st at v ps → All (λ (q : Step R). at ≤ q.at) ps
+  later_steps (done {at = at}) = All-nil (λ (q : Step R). at ≤ q.at)
+  later_steps (token {at = at} {ps = ps} d) = All-weaker (λ (q : Step R). at + 1 ≤ q.at) (λ (q : Step R). at ≤ q.at) (λ (q : Step R) (h : at + 1 ≤ q.at). omega arith) ps (later_steps d)
+  later_steps (choose {at = at} {ps = ps} r i al d) = All-cons (λ (q : Step R). at ≤ q.at) (step r at) ps (omega arith) (later_steps d)
+
+  pub steps_before : (kinds : List ℕ) (qs : List (Step R)) (at : ℕ) (cur : List Symbol) → Reads g start at (take at kinds) qs cur → StepsBefore g n kinds at qs
+  steps_before kinds qs at cur r = record {
+    early = r.early;
+    first = λ more all d.
+        let e : (take at kinds ++ more) ++ 0 ∷ [] ≡ take at kinds ++ (more ++ 0 ∷ []) = append_assoc (take at kinds) more (0 ∷ []) in
+        let f = r.forth (more ++ 0 ∷ []) all (subst (λ (l : List ℕ). Derives g start 0 l all) e (with_end (take at kinds ++ more) all d)) in
+        (f.0, f.1, later_steps f.2);
+  }
+
   pub record Text (kinds : List ℕ) (new : List (Step R)) : Type 0 where
     pub found : Spells g n kinds new
     pub only : (steps : List (Step R)) → Spells g n kinds steps → new ≡ steps
@@ -155,13 +170,19 @@ module _ {R : Type 0} (g : Grammar R) (c : Claims) (s : Sound g c) (n : ℕ) (re
       }
 
 module _ {R : Type 0} (g : Grammar R) (c : Claims) (t at : ℕ) (from : List Symbol) (old : List (Step R)) (to : List Symbol) (new : List (Step R)) where
-  pub stuck_from : (b : Bool) → b ≡ false → Advanced b g c t at from old to new → Stuck g t at from
-  stuck_from true e a = absurd cc
-  stuck_from false e a = a
+  pub halted_from : (b : Bool) → b ≡ false → Advanced b g c t at from old to new → Halted g t at from old new
+  halted_from true e a = absurd cc
+  halted_from false e a = a
 
   pub moved_from : (b : Bool) → b ≡ true → Advanced b g c t at from old to new → Moved g c t at from old (Token t ∷ to) new
   moved_from true e a = a
   moved_from false e a = absurd cc
+
+-- the steps before a token that the machine stopped at
+pub cut_back : {R : Type 0} (g : Grammar R) (t at before : ℕ) (from : List Symbol) (old new : List (Step R)) → before ≡ length old → Halted g t at from old new → take before new ≡ old
+cut_back {R} g t at before from old new e h =
+    ap (λ (l : List (Step R)). take before l) h.grown
+    ∙ (take-append-le before old h.steps (omega arith) ∙ take_all before old (omega arith))
 
 -- what the loop over the kinds keeps
 pub record Kept {R : Type 0} (g : Grammar R) (c : Claims) (n at : ℕ) (kinds : List ℕ) (steps : List (Step R)) (cur : List Symbol) : Type 0 where

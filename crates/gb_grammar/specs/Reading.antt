@@ -1,6 +1,9 @@
 -- What reading by a grammar promises.
 use Rattle.std.specs.Prelude.{◌≡◌, ℕ, ◌+◌, ◌<◌, ◌≤◌, List, [], ◌∷◌, ◌++◌, length, take}
+use Rattle.std.specs.List.{All}
 use Rattle.gb_grammar.specs.declared.table.Symbol.TheVariants.{Part}
+use Rattle.gb_grammar.specs.declared.error.ReadError.{ReadError}
+use Rattle.gb_grammar.specs.declared.error.ReadError.TheVariants.{Memory, Fault}
 use Rattle.gb_grammar.specs.declared.table.Step.{Step}
 use Rattle.gb_grammar.specs.Grammar.{Grammar, Derives}
 
@@ -24,3 +27,13 @@ module _ {R : Type 0} where
     pub begun : Begins g n (take at kinds)
     pub refused : at < length kinds → Begins g n (take (at + 1) kinds) → ⊥
     pub no_text : (steps : List (Step R)) → Spells g n kinds steps → ⊥
+
+  -- The steps that each text takes before its token of this index, if it begins as the kinds do.
+  pub record StepsBefore (g : Grammar R) (n : ℕ) (kinds : List ℕ) (at : ℕ) (steps : List (Step R)) : Type 0 where
+    pub early : All (λ s. s.at < at) steps
+    pub first : (more : List ℕ) (all : List (Step R)) → Spells g n (take at kinds ++ more) all → (rest : List (Step R)) × (all ≡ steps ++ rest) × All (λ s. at ≤ s.at) rest
+
+  -- A fault is the first one, with the steps before it.
+  abbrev pub IsFault : Grammar R → ℕ → List ℕ → ReadError R → Type 0
+  IsFault g n kinds Memory = Unit {0}
+  IsFault g n kinds (Fault at steps) = FirstFault g n kinds at × StepsBefore g n kinds at steps.items

@@ -1,5 +1,6 @@
 -- What the machine keeps of its stack.
 use Rattle.std.specs.Prelude.{◌≡◌, ℕ, ◌<◌, List, [], ◌∷◌, ◌++◌, Bool, true, false, length}
+use Rattle.std.specs.List.{All}
 use Rattle.gb_grammar.specs.declared.table.Symbol.{Symbol}
 use Rattle.gb_grammar.specs.declared.table.Symbol.TheVariants.{Token, Part}
 use Rattle.gb_grammar.specs.declared.table.Step.{Step}
@@ -19,6 +20,7 @@ module _ {R : Type 0} where
 
   -- Before this token, at this position, the stack `from` becomes `to` by these steps.
   pub record Expands (g : Grammar R) (t at : ℕ) (from : List Symbol) (qs : List (Step R)) (to : List Symbol) : Type 0 where
+    pub here : All (λ q. q.at ≡ at) qs
     pub back : (w : List ℕ) (ps : List (Step R)) → Derives g to at (t ∷ w) ps → Derives g from at (t ∷ w) (qs ++ ps)
     pub forth : (w : List ℕ) (ps : List (Step R)) → Derives g from at (t ∷ w) ps → (rest : List (Step R)) × (ps ≡ qs ++ rest) × Derives g to at (t ∷ w) rest
 
@@ -28,6 +30,7 @@ module _ {R : Type 0} where
 
   -- After these tokens, up to this position, the stack `start` has become `to` by these steps.
   pub record Reads (g : Grammar R) (start : List Symbol) (at : ℕ) (before : List ℕ) (qs : List (Step R)) (to : List Symbol) : Type 0 where
+    pub early : All (λ q. q.at < at) qs
     pub back : (w : List ℕ) (ps : List (Step R)) → Derives g to at w ps → Derives g start 0 (before ++ w) (qs ++ ps)
     pub forth : (w : List ℕ) (ps : List (Step R)) → Derives g start 0 (before ++ w) ps → (rest : List (Step R)) × (ps ≡ qs ++ rest) × Derives g to at w rest
 
@@ -38,7 +41,13 @@ module _ {R : Type 0} where
     pub expands : Expands g t at from steps to
     pub good : Good g c to
 
+  -- Nothing goes on with the token, and the steps grew.
+  pub record Halted (g : Grammar R) (t at : ℕ) (from : List Symbol) (old new : List (Step R)) : Type 0 where
+    pub steps : List (Step R)
+    pub grown : new ≡ old ++ steps
+    pub stuck : Stuck g t at from
+
   -- The machine moved over the token, or nothing goes on with it.
   abbrev pub Advanced : Bool → Grammar R → Claims → ℕ → ℕ → List Symbol → List (Step R) → List Symbol → List (Step R) → Type 0
   Advanced true g c t at from old to new = Moved g c t at from old (Token t ∷ to) new
-  Advanced false g c t at from old to new = Stuck g t at from
+  Advanced false g c t at from old to new = Halted g t at from old new

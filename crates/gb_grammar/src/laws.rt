@@ -5,7 +5,7 @@ ghost use Rattle.std.specs.List.{All};
 ghost use Rattle.gb_grammar.specs.declared.table.Step.{Step};
 ghost use Rattle.gb_grammar.specs.Grammar.{Grammar, grammar_of};
 ghost use Rattle.gb_grammar.specs.Check.{Claims, grammar_ok, is_start};
-ghost use Rattle.gb_grammar.specs.Reading.{Spells, IsKind, FirstFault};
+ghost use Rattle.gb_grammar.specs.Reading.{Spells, IsKind, FirstFault, StepsBefore};
 
 use crate::table::{Row, Symbol};
 
@@ -27,4 +27,10 @@ pub fn derivations_are_unique<R: Copy>(
 pub fn first_faults_are_unique<R: Copy>()
     ensures { (g : Grammar R) (part : ℕ) (kinds : List ℕ) (a b : ℕ) →
         FirstFault g part kinds a → FirstFault g part kinds b → a ≡ b }
+{}
+
+/// Of a first fault the steps before it are the only ones.
+pub fn steps_before_are_unique<R: Copy>()
+    ensures { (g : Grammar R) (part : ℕ) (kinds : List ℕ) (at : ℕ) (a b : List (Step R)) → FirstFault g part kinds at →
+        StepsBefore g part kinds at a → StepsBefore g part kinds at b → a ≡ b }
 {}

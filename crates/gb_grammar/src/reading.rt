@@ -1,16 +1,23 @@
 // Reading a whole text.
 
-ghost use Rattle.std.specs.Prelude.{◌≡◌, ℕ, List, true, IfOk, MatchResult, Err};
+ghost use Rattle.std.specs.Prelude.{◌≡◌, List, true, length, IfOk, IfErr, MatchResult};
 ghost use Rattle.std.specs.List.{All};
 ghost use Rattle.gb_grammar.specs.declared.table.Step.{Step};
 ghost use Rattle.gb_grammar.specs.Grammar.{grammar_of};
 ghost use Rattle.gb_grammar.specs.Check.{Claims, grammar_ok, is_start};
-ghost use Rattle.gb_grammar.specs.Reading.{Spells, IsKind, FirstFault};
+ghost use Rattle.gb_grammar.specs.Reading.{Spells, IsKind, IsFault};
 
 use crate::error::ReadError;
 use crate::machine::advance;
 use crate::table::{Row, Step, Symbol};
 use std::alloc::Global;
+
+// How many steps these are.
+fn count<R: Copy>(steps: &Vec<Step<R>>) -> usize
+    ensures { result ≡ length steps.now.items }
+{
+    steps.as_slice().len()
+}
 
 /// The steps by which these kinds of token are a text of the part `start` up to a stage of the table, the leftmost part
 /// first.
@@ -25,7 +32,7 @@ pub fn read<R: Copy>(
     places: &[u16],
     start: u8,
     kinds: &[u8],
-) -> Result<Vec<Step<R>>, ReadError>
+) -> Result<Vec<Step<R>>, ReadError<R>>
     ghost claims: { Claims }
     requires checked { grammar_ok stage claims places.now rows.now symbols.now ≡ true }
     requires start { is_start claims start ≡ true }
@@ -34,21 +41,24 @@ pub fn read<R: Copy>(
     ensures found { IfOk result (λ steps. Spells (grammar_of stage rows.now symbols.now) start kinds.now steps.items) }
     // Each text is read, unless memory runs out, and its steps are the only ones.
     ensures only { (steps : List (Step R)) → Spells (grammar_of stage rows.now symbols.now) start kinds.now steps → MatchResult result (λ r. r.items ≡ steps) (λ e. e ≡ ReadError.Memory) }
-    // A fault is the first one.
-    ensures fault { (at : ℕ) → result ≡ Err (ReadError.Fault at) → FirstFault (grammar_of stage rows.now symbols.now) start kinds.now at }
+    // A fault is the first one, with the steps before it.
+    ensures fault { IfErr result (λ e. IsFault (grammar_of stage rows.now symbols.now) start kinds.now e) }
 {
     let mut stack = Vec::new(alloc);
     stack.push(Symbol::Token(0))?;
     stack.push(Symbol::Part(start))?;
     let mut steps = Vec::new(alloc);
     for (at, kind) in kinds.iter().enumerate() {
+        let before = count(&steps);
         let moved = advance(
             stage, rows, symbols, places, &mut stack, &mut steps, *kind, at,
         )?;
         if !moved {
-            return Err(ReadError::Fault(at));
+            steps.truncate(before);
+            return Err(ReadError::Fault { at, steps });
         }
     }
+    let before = count(&steps);
     let ended = advance(
         stage,
         rows,
@@ -60,7 +70,11 @@ pub fn read<R: Copy>(
         kinds.len(),
     )?;
     if !ended {
-        return Err(ReadError::Fault(kinds.len()));
+        steps.truncate(before);
+        return Err(ReadError::Fault {
+            at: kinds.len(),
+            steps,
+        });
     }
     Ok(steps)
 }
