@@ -18,7 +18,6 @@ The grammar text has one line each for
 
     kinds NAME ( ) => ...      the kinds of token, from number 1 on, in this order; there may be several such lines
     start form goal            the parts that a text may be
-    unmade Group.Name ..       productions whose values are not made yet; they have the rule `Later`
     sort Form form atom ..     parts whose values are of this sort, of which there may be lists
     list Form no_forms ..      parts that are lists of this sort, where their productions don't tell
     part form                  the productions that follow are of this part
@@ -26,9 +25,9 @@ The grammar text has one line each for
                                productions (an optional `else` belongs to the nearest `if`)
     Group.Name: a b c          a production: what its value is made by, and its body, maybe of no symbols. What stands
                                alone is general: `Empty` is an empty list, `More` a list whose first element comes first,
-                               `Single` a list of one, `Same` the values of the parts. All other names are those of
-                               makers in the crates above
-    Group.Name: a b @later     .. of a later stage; the stages are none, '@later' and '@goal', in this order
+                               `Single` a list of one, `Same` the values of the parts. All other names are those by
+                               which the crates above make values
+    Group.Name: a b @goal      .. of a later stage; the stages are none and '@goal', in this order
 
 A word that names a part is that part; every other word of a body is a kind of token. Lines that begin with '#' and
 empty lines are skipped. A part where one token does not decide is reported, and nothing is written.
@@ -37,8 +36,8 @@ import os
 import re
 import sys
 
-STAGES = ["", "@later", "@goal"]
-STAGE_NAMES = ["BUILT", "COMMANDS", "GOALS"]
+STAGES = ["", "@goal"]
+STAGE_NAMES = ["BUILT", "GOALS"]
 WIDTH = 100
 
 
@@ -63,7 +62,7 @@ def fail(message):
 
 
 def parse(lines):
-    kinds, starts, parts, unmade, sorts, lists = [], [], {}, set(), {}, {}
+    kinds, starts, parts, sorts, lists = [], [], {}, {}, {}
     part = None
     for number, line in enumerate(lines, 1):
         line = line.strip()
@@ -74,8 +73,6 @@ def parse(lines):
             kinds += rest.split()
         elif word == "start":
             starts += rest.split()
-        elif word == "unmade":
-            unmade |= set(rest.split())
         elif word in ("sort", "list"):
             sort, *names = rest.split()
             (sorts if word == "sort" else lists).update((name, sort) for name in names)
@@ -89,10 +86,6 @@ def parse(lines):
             part.productions.append(Production(word[:-1], rest.split()))
         else:
             fail(f"line {number}: cannot be read: {line}")
-    for part in parts.values():
-        for production in part.productions:
-            if production.rule in unmade:
-                production.rule = "Later"
     name_lists(parts, sorts, lists)
     return kinds, starts, parts
 
@@ -104,7 +97,7 @@ def sort_of(production, parts, sorts, lists):
     """The sort of the elements of a production that makes a list."""
     inner = [symbol for symbol in production.body if symbol in parts]
     if production.rule in ("More", "Single"):
-        return sorts.get(inner[0])
+        return sorts.get(inner[0]) if inner else None
     return lists.get(inner[0]) if production.rule == "Same" else None
 
 
@@ -122,8 +115,9 @@ def name_lists(parts, sorts, lists):
     for part in parts.values():
         for production in part.productions:
             if production.rule in LISTS:
-                sort = lists.get(part.name)
-                production.rule = f"{sort} {production.rule}" if sort else "Later"
+                if part.name not in lists:
+                    fail(f"part {part.name} is a list of no sort")
+                production.rule = f"{lists[part.name]} {production.rule}"
 
 
 def check_names(kinds, starts, parts):
@@ -301,8 +295,7 @@ def rule_file(source, rows):
               "    /// A list of one.", "    Single,", "}", ""]
     lines += ["/// The productions of the grammar: how the value of one is made from those of its parts.",
               "#[derive(Clone, Copy)]", "pub enum Rule {",
-              "    List(Sort, ListRule),", "    /// The values of the parts, as they are.", "    Same,",
-              "    /// What is not made yet.", "    Later,"]
+              "    List(Sort, ListRule),", "    /// The values of the parts, as they are.", "    Same,"]
     for group in groups_of(rows):
         lines.append(f"    {group}({group}),")
     return lines + ["}"]
@@ -405,7 +398,7 @@ def decided(leaves, low):
 
 def claims_file(source, parts):
     lines = [f"-- Written by tools/certificates.py from {source}: what is claimed of each part."]
-    lines += ["use Rattle.std.specs.Prelude.{ℕ, Bool, List, [], ◌∷◌, true, false, nat_lt, slice_index_or, if◌then◌else◌}",
+    lines += ["use Rattle.std.specs.Prelude.{ℕ, Bool, [], ◌∷◌, true, false, nat_lt, slice_index_or, if◌then◌else◌}",
               "use Rattle.gb_grammar.specs.Check.{Claim, Claims}"]
     lines += ["", "abbrev claim : Bool → ℕ → ℕ → ℕ → ℕ → Claim",
               "claim n a b w h = record { nullable = n; first = a; follow = b; weight = w; height = h }", ""]

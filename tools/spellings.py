@@ -56,7 +56,7 @@ def terminal_file(sources, terminals, pairs):
     width = max(len(spelling) for spelling, _ in pairs)
     out = [f"// Written by tools/spellings.py from {sources}.", ""]
     out += ["/// What is told apart among tokens: each spelling that the language has, names and numbers."]
-    out += ["#[derive(Clone, Copy, PartialEq, Eq, Debug)]", "pub enum Terminal {"]
+    out += ["#[derive(Clone, Copy)]", "pub enum Terminal {"]
     out += [f"    {terminal}," for terminal in terminals] + ["}", ""]
     out += ["/// How many bytes the longest spelling has.", f"pub const WIDTH: usize = {width};", ""]
     out += ["/// A spelling of a terminal, filled up with spaces.", "#[derive(Clone, Copy)]", "pub struct Spelling {",
@@ -73,10 +73,11 @@ def terminal_file(sources, terminals, pairs):
 
 def kind_file(sources, crate, kinds, terminals):
     out = [f"// Written by tools/spellings.py from {sources}.", "",
-           f"ghost use Rattle.std.specs.Prelude.{{◌≡◌}};", "ghost use Rattle.gb_grammar.specs.Reading.{IsKind};",
-           f"ghost use Rattle.{crate}.specs.Kinds.{{kind_of}};", "", "use crate::terminal::Terminal;", "",
-           "/// The number of a terminal's kind in the table of the grammar.", "pub fn kind(terminal: Terminal) -> u8",
-           "    ensures number { result ≡ kind_of terminal }", "    ensures kind { IsKind result }", "{", "    match terminal {"]
+           "ghost use Rattle.std.specs.Prelude.{◌≡◌};", f"ghost use Rattle.{crate}.specs.Kinds.{{kind_of}};", "",
+           "use crate::terminal::Terminal;", "",
+           "/// The number of a terminal's kind in the table of the grammar.",
+           "#[tactic(auto, unfolding(crate::specs::Kinds::kind_of))]", "pub fn kind(terminal: Terminal) -> u8",
+           "    ensures { result ≡ kind_of terminal }", "{", "    match terminal {"]
     for number, kind in enumerate(kinds, 1):
         mine = [f"Terminal::{terminal}" for terminal, its in terminals.items() if its == kind]
         out.append(f"        {' | '.join(mine)} => {number},")
@@ -92,7 +93,7 @@ def kinds_file(sources, crate, kinds, terminals):
     lines = [f"-- Written by tools/spellings.py from {sources}: the kinds of token, by their numbers."]
     lines += ["use Rattle.std.specs.Prelude.{ℕ}", f"use Rattle.{crate}.specs.declared.terminal.Terminal.{{Terminal}}"]
     lines += [f"use Rattle.{crate}.specs.declared.terminal.Terminal.TheVariants.{{{', '.join(map(named, terminals))}}}", ""]
-    lines += ["-- the number of a terminal's kind in the table", "abbrev pub kind_of : Terminal → ℕ"]
+    lines += ["-- the number of a terminal's kind in the table", "unfoldable pub kind_of : Terminal → ℕ"]
     return lines + [f"kind_of {named(terminal)} = {kinds.index(kind) + 1}" for terminal, kind in terminals.items()]
 
 

@@ -23,32 +23,17 @@ built_places = refl
 pub built_pass : grammar_ok 0 (claims 0) PLACES ROWS SYMBOLS ≡ true
 built_pass = and_both _ _ (and_both _ _ built_rows (and_both _ _ built_alone built_some)) built_places
 
-commands_rows : rows_ok (claims 1).count (claims 1) (grammar_of 1 ROWS SYMBOLS) ≡ true
-commands_rows = refl
-
-commands_alone : all_below 128 (alone_at (grammar_of 1 ROWS SYMBOLS)) ≡ true
-commands_alone = refl
-
-commands_some : all_below (claims 1).count (λ n. some_lower (claims 1) n (grammar_of 1 ROWS SYMBOLS)) ≡ true
-commands_some = refl
-
-commands_places : places_ok PLACES (claims 1).count ROWS ≡ true
-commands_places = refl
-
-pub commands_pass : grammar_ok 1 (claims 1) PLACES ROWS SYMBOLS ≡ true
-commands_pass = and_both _ _ (and_both _ _ commands_rows (and_both _ _ commands_alone commands_some)) commands_places
-
-goals_rows : rows_ok (claims 2).count (claims 2) (grammar_of 2 ROWS SYMBOLS) ≡ true
+goals_rows : rows_ok (claims 1).count (claims 1) (grammar_of 1 ROWS SYMBOLS) ≡ true
 goals_rows = refl
 
-goals_alone : all_below 128 (alone_at (grammar_of 2 ROWS SYMBOLS)) ≡ true
+goals_alone : all_below 128 (alone_at (grammar_of 1 ROWS SYMBOLS)) ≡ true
 goals_alone = refl
 
-goals_some : all_below (claims 2).count (λ n. some_lower (claims 2) n (grammar_of 2 ROWS SYMBOLS)) ≡ true
+goals_some : all_below (claims 1).count (λ n. some_lower (claims 1) n (grammar_of 1 ROWS SYMBOLS)) ≡ true
 goals_some = refl
 
-goals_places : places_ok PLACES (claims 2).count ROWS ≡ true
+goals_places : places_ok PLACES (claims 1).count ROWS ≡ true
 goals_places = refl
 
-pub goals_pass : grammar_ok 2 (claims 2) PLACES ROWS SYMBOLS ≡ true
+pub goals_pass : grammar_ok 1 (claims 1) PLACES ROWS SYMBOLS ≡ true
 goals_pass = and_both _ _ (and_both _ _ goals_rows (and_both _ _ goals_alone goals_some)) goals_places

@@ -1,17 +1,17 @@
 // Reading by the table.
 
-ghost use Rattle.std.specs.Prelude.{◌≡◌, ℕ, List, true, IfOk, MatchResult, Err};
+ghost use Rattle.std.specs.Prelude.{◌≡◌, List, true, IfOk, IfErr, MatchResult};
 ghost use Rattle.std.specs.List.{All};
 ghost use Rattle.gb_grammar.specs.declared.table.Step.{Step};
 ghost use Rattle.gb_grammar.specs.Check.{grammar_ok, is_start};
 ghost use Rattle.gb_grammar.specs.Grammar.{grammar_of};
-ghost use Rattle.gb_grammar.specs.Reading.{Spells, IsKind, FirstFault};
+ghost use Rattle.gb_grammar.specs.Reading.{Spells, IsKind, IsFault};
 ghost use Rattle.gb_table.specs.declared.rule.Rule.{Rule};
-ghost use Rattle.gb_table.specs.declared.rows.TheConstants.{BUILT};
-ghost use Rattle.gb_table.specs.Language.{all_rows, all_symbols, all_places, claimed, language, IsPart};
+ghost use Rattle.gb_table.specs.declared.rows.TheConstants.{BUILT, GOALS};
+ghost use Rattle.gb_table.specs.Language.{all_rows, all_symbols, all_places, claimed, language, goal_language, IsPart, IsLine};
 
 use crate::bodies::SYMBOLS;
-use crate::rows::{BUILT, PLACES, ROWS};
+use crate::rows::{BUILT, GOALS, PLACES, ROWS};
 use crate::rule::Rule;
 use gb_grammar::error::ReadError;
 use gb_grammar::reading::read;
@@ -42,32 +42,32 @@ fn all_places() -> &'static [u16]
     &PLACES
 }
 
-// Reads by tables that pass the test, as `read` does.
+// Reads by tables that pass the test of a stage, as `read` does.
 fn read_by(
     alloc: Global,
+    stage: u8,
     rows: &[Row<Rule>],
     symbols: &[Symbol],
     places: &[u16],
     part: u8,
     kinds: &[u8],
-) -> Result<Vec<Step<Rule>>, ReadError>
-    requires checked { grammar_ok BUILT claimed places.now rows.now symbols.now ≡ true }
-    requires start { is_start claimed part ≡ true }
+) -> Result<Vec<Step<Rule>>, ReadError<Rule>>
+    requires checked { grammar_ok stage (claimed stage) places.now rows.now symbols.now ≡ true }
+    requires start { is_start (claimed stage) part ≡ true }
     requires kinds { All IsKind kinds.now }
-    ensures found { IfOk result (λ steps. Spells (grammar_of BUILT rows.now symbols.now) part kinds.now steps.items) }
-    ensures only { (steps : List (Step Rule)) → Spells (grammar_of BUILT rows.now symbols.now) part kinds.now steps →
+    ensures found { IfOk result (λ steps. Spells (grammar_of stage rows.now symbols.now) part kinds.now steps.items) }
+    ensures only { (steps : List (Step Rule)) → Spells (grammar_of stage rows.now symbols.now) part kinds.now steps →
         MatchResult result (λ r. r.items ≡ steps) (λ e. e ≡ ReadError.Memory) }
-    ensures fault { (at : ℕ) → result ≡ Err (ReadError.Fault at) →
-        FirstFault (grammar_of BUILT rows.now symbols.now) part kinds.now at }
+    ensures fault { IfErr result (λ e. IsFault (grammar_of stage rows.now symbols.now) part kinds.now e) }
 {
-    read(alloc, BUILT, rows, symbols, places, part, kinds)
+    read(alloc, stage, rows, symbols, places, part, kinds)
 }
 
 /// The steps by which these kinds of token are a text of this part of the language, the leftmost part first.
 ///
 /// Errors: `Fault` with the index of the first token with which no text goes on, which is the number of tokens where
-/// the text ends too soon; `Memory` where memory runs out.
-pub fn read_text(alloc: Global, part: u8, kinds: &[u8]) -> Result<Vec<Step<Rule>>, ReadError>
+/// the text ends too soon, and with the steps before it; `Memory` where memory runs out.
+pub fn read_text(alloc: Global, part: u8, kinds: &[u8]) -> Result<Vec<Step<Rule>>, ReadError<Rule>>
     requires part { IsPart part }
     requires kinds { All IsKind kinds.now }
     // What is read is a text by these steps.
@@ -75,8 +75,36 @@ pub fn read_text(alloc: Global, part: u8, kinds: &[u8]) -> Result<Vec<Step<Rule>
     // Each text is read, unless memory runs out, and its steps are the only ones.
     ensures only { (steps : List (Step Rule)) → Spells language part kinds.now steps →
         MatchResult result (λ r. r.items ≡ steps) (λ e. e ≡ ReadError.Memory) }
-    // A fault is the first one.
-    ensures fault { (at : ℕ) → result ≡ Err (ReadError.Fault at) → FirstFault language part kinds.now at }
+    // A fault is the first one, with the steps before it.
+    ensures fault { IfErr result (λ e. IsFault language part kinds.now e) }
 {
-    read_by(alloc, all_rows(), all_symbols(), all_places(), part, kinds)
+    read_by(
+        alloc,
+        BUILT,
+        all_rows(),
+        all_symbols(),
+        all_places(),
+        part,
+        kinds,
+    )
+}
+
+/// The steps by which these kinds of token are a line of a goal, as [`read_text`] reads texts.
+pub fn read_line(alloc: Global, part: u8, kinds: &[u8]) -> Result<Vec<Step<Rule>>, ReadError<Rule>>
+    requires part { IsLine part }
+    requires kinds { All IsKind kinds.now }
+    ensures found { IfOk result (λ steps. Spells goal_language part kinds.now steps.items) }
+    ensures only { (steps : List (Step Rule)) → Spells goal_language part kinds.now steps →
+        MatchResult result (λ r. r.items ≡ steps) (λ e. e ≡ ReadError.Memory) }
+    ensures fault { IfErr result (λ e. IsFault goal_language part kinds.now e) }
+{
+    read_by(
+        alloc,
+        GOALS,
+        all_rows(),
+        all_symbols(),
+        all_places(),
+        part,
+        kinds,
+    )
 }

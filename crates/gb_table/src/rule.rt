@@ -313,6 +313,12 @@ pub enum FormStep {
     SplitLaw,
 }
 
+#[derive(Clone, Copy)]
+pub enum Level {
+    Begin,
+    End,
+}
+
 /// What there are lists of.
 #[derive(Clone, Copy)]
 pub enum Sort {
@@ -362,8 +368,6 @@ pub enum Rule {
     List(Sort, ListRule),
     /// The values of the parts, as they are.
     Same,
-    /// What is not made yet.
-    Later,
     Command(Command),
     Stated(Stated),
     Named(Named),
@@ -391,4 +395,5 @@ pub enum Rule {
     Given(Given),
     Argument(Argument),
     FormStep(FormStep),
+    Level(Level),
 }

@@ -1,15 +1,16 @@
-use Rattle.std.proofs.Common.{◌≡◌, ℕ, List, IfOk, MatchResult, Err, subst}
+use Rattle.std.proofs.Common.{◌≡◌, List, IfOk, IfErr, MatchResult, subst}
 use Rattle.gb_grammar.specs.declared.error.ReadError.{ReadError}
 use Rattle.gb_grammar.specs.declared.table.Step.{Step}
 use Rattle.gb_grammar.specs.Grammar.{Grammar}
-use Rattle.gb_grammar.specs.Reading.{Spells, FirstFault}
+use Rattle.gb_grammar.specs.Reading.{Spells, IsFault}
+use Rattle.gb_table.specs.declared.rows.TheConstants.{BUILT}
 use Rattle.gb_table.specs.declared.rule.Rule.{Rule}
-use Rattle.gb_table.proofs.Language.{passes_by, same_language, starts}
+use Rattle.gb_table.proofs.Language.{passes, passes_by, same_language, starts}
 use Rattle.gb_table.proofs.reading.read_text.Goals as goal
 
 pub read_by-requires-clause-checked : goal.read_by-requires-clause-checked
 read_by-requires-clause-checked c =
-    passes_by c.all_places.result.now c.all_rows.result.now c.all_symbols.result.now c.all_places.ensures c.all_rows.ensures c.all_symbols.ensures
+    passes_by BUILT c.all_places.result.now c.all_rows.result.now c.all_symbols.result.now c.all_places.ensures c.all_rows.ensures c.all_symbols.ensures passes
 
 pub read_by-requires-clause-start : goal.read_by-requires-clause-start
 read_by-requires-clause-start c = starts c.args.part c.requires.part
@@ -27,4 +28,4 @@ returns-clause-only c =
 pub returns-clause-fault : goal.returns-clause-fault
 returns-clause-fault c =
     let same = same_language c.all_rows.result.now c.all_symbols.result.now c.all_rows.ensures c.all_symbols.ensures in
-    subst (λ (g : Grammar Rule). (at : ℕ) → c.read_by.result ≡ Err (ReadError.Fault at) → FirstFault g c.args.part c.args.kinds.now at) same c.read_by.ensures.fault
+    subst (λ (g : Grammar Rule). IfErr c.read_by.result (λ e. IsFault g c.args.part c.args.kinds.now e)) same c.read_by.ensures.fault
