@@ -3,6 +3,7 @@
 
 pub mod command;
 pub mod form;
+pub mod goal;
 pub mod judgment;
 pub mod program;
 pub mod step;

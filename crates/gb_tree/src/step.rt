@@ -1,7 +1,7 @@
 // Proof steps as a script writes them. Forms lie in boxes, so that a rule is small where it is held.
 
 use crate::form::{FormTree, FormTrees, Number, Word};
-use crate::judgment::ProcPath;
+use crate::judgment::{CallTree, ProcPath};
 use gb_core::place::Place;
 use sqlite_items::{Boxed, Items};
 
@@ -180,7 +180,7 @@ pub struct ConseqTree {
 #[derive(Drop)]
 pub struct TransitivityTree {
     pub bodies: Bodies,
-    pub procedure: ProcPath,
+    pub procedure: Boxed<CallTree>,
     pub first: Contract,
     pub second: Contract,
 }
