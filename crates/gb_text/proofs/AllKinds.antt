@@ -1,16 +1,15 @@
 -- The kinds of token of a text are kinds of the table.
-use Rattle.std.proofs.Common.{arith}
+use Rattle.std.proofs.Common.{List, map, arith}
 use Rattle.std.specs.List.{All}
 use Rattle.std.proofs.lemmas.List.Elements.{All-map}
 use Rattle.gb_grammar.specs.Reading.{IsKind}
 use Rattle.gb_text.specs.declared.terminal.Terminal.{Terminal}
 use Rattle.gb_text.specs.declared.text.Lexeme.{Lexeme}
-use Rattle.gb_text.specs.declared.text.Text.{Text}
 use Rattle.gb_text.specs.Kinds.{kind_of}
-use Rattle.gb_text.specs.Lexeme.{kinds_of}
 
-is_kind : (x : Terminal) → IsKind (kind_of x)
+pub is_kind : (x : Terminal) → IsKind (kind_of x)
+unfolding kind_of
 is_kind x = grind arith
 
-pub all_kinds : (t : Text) → All IsKind (kinds_of t)
-all_kinds t = All-map IsKind (λ (l : Lexeme). kind_of l.terminal) t.lexemes (λ i d h. is_kind _)
+pub all_kinds : (ls : List Lexeme) → All IsKind (map (λ (l : Lexeme). kind_of l.terminal) ls)
+all_kinds ls = All-map IsKind (λ (l : Lexeme). kind_of l.terminal) ls (λ i d h. is_kind _)

@@ -1,2 +1,3 @@
 mod AllKinds
 pub mod Spans
+mod Spelled

@@ -4,7 +4,7 @@ use Rattle.gb_text.specs.declared.terminal.Terminal.{Terminal}
 use Rattle.gb_text.specs.declared.terminal.Terminal.TheVariants.{Final, Name, Number, Other, Zero, One, Two, Require, Import, «Type», Op, Axiom, Local, Lemma, Module, Termination, Proof, Qed, Section, End, Declare, Abstract, Theory, Clone, As, With, By, Undo, Proc, Var, Return, If, Else, While, Variant, Unit, Bool, Real, Int, Bits, Option, Fmap, Glob, Forall, Exists, Fun, Then, Uniform, Weights, Hoare, Phoare, Equiv, Islossless, Pr, Try, Do, Underscore, Move, Split, Left, Right, Assumption, Trivial, Done, Apply, Have, Rewrite, Case, Subst, Skip, Wp, Sim, Symmetry, Seq, Rnd, Call, Inline, Swap, RcondTrue, RcondFalse, Unroll, Kill, Conseq, Transitivity, ByEquiv, ByPhoare, Fel, Smt, Linear, LawOfOr, LawOfNot, LawOfFalse, LawOfEqual, LawOfSubset, LawOfLeast, LawOfMost, SplitLaw, Eager, OpenRound, CloseRound, OpenSquare, CloseSquare, OpenBrace, CloseBrace, OpenEqual, OpenGet, Bars, Comma, Semicolon, Colon, Bar, Exclamation, Question, Times, Plus, Minus, Slash, PowerTimes, Equals, Different, Less, Greater, In, LessEqual, GreaterEqual, Tilde, At, Ampersand, Xor, Assign, Samples, Calls, Below, To, And, Or, Arrow, DoubleArrow, LongArrow, Slashes, SlashHash, PercentReal, DotNumber, Dot}
 
 -- the number of a terminal's kind in the table
-abbrev pub kind_of : Terminal → ℕ
+unfoldable pub kind_of : Terminal → ℕ
 kind_of Final = 1
 kind_of Name = 2
 kind_of Number = 3

@@ -7,7 +7,7 @@ use Rattle.gb_text.specs.Lexeme.{spells}
 use Rattle.gb_text.specs.Text.{word_at}
 
 -- These bytes are one of the words.
-abbrev pub is_word_of : List (List ℕ) → List ℕ → Bool
+unfoldable pub is_word_of : List (List ℕ) → List ℕ → Bool
 is_word_of [] bytes = false
 is_word_of (w ∷ ws) bytes = spells w bytes || is_word_of ws bytes
 

@@ -16,7 +16,7 @@ use Rattle.gb_text.specs.declared.text.Text.{Text}
 use Rattle.gb_text.specs.Kinds.{kind_of}
 
 -- These bytes, filled up with spaces, are the text of a spelling.
-abbrev pub spells : List ℕ → List ℕ → Bool
+unfoldable pub spells : List ℕ → List ℕ → Bool
 spells text bytes = starts_with nat_eq text bytes && (nat_le WIDTH (length bytes) || slice_index text (length bytes) == 32)
 
 -- the terminal of the spelling that these bytes are

@@ -1,15 +1,14 @@
 // Written by tools/spellings.py from grammar.txt and spellings.txt.
 
 ghost use Rattle.std.specs.Prelude.{◌≡◌};
-ghost use Rattle.gb_grammar.specs.Reading.{IsKind};
 ghost use Rattle.gb_text.specs.Kinds.{kind_of};
 
 use crate::terminal::Terminal;
 
 /// The number of a terminal's kind in the table of the grammar.
+#[tactic(auto, unfolding(crate::specs::Kinds::kind_of))]
 pub fn kind(terminal: Terminal) -> u8
-    ensures number { result ≡ kind_of terminal }
-    ensures kind { IsKind result }
+    ensures { result ≡ kind_of terminal }
 {
     match terminal {
         Terminal::Final => 1,

@@ -20,6 +20,7 @@ use sqlite_items::Items;
 use std::alloc::{AllocError, Global};
 
 /// Whether these bytes, filled up with spaces, are this text.
+#[tactic(auto, unfolding(crate::specs::Lexeme::spells))]
 pub fn spells(text: &[u8; WIDTH], bytes: &[u8]) -> bool
     ensures { result ≡ spells text.now bytes.now }
 {

@@ -66,6 +66,14 @@ impl<T> Stack<T> {
         bottom_up.reverse();
         Items::from_vec(bottom_up)
     }
+
+    /// Gives the memory of a stack without elements back.
+    pub fn destroy_empty(self)
+        requires { self ≡ [] }
+    {
+        let Stack { bottom_up } = self;
+        bottom_up.destroy_empty();
+    }
 }
 
 impl<T: Drop> Stack<T> {

@@ -1,7 +1,7 @@
 // Written by tools/spellings.py from grammar.txt and spellings.txt.
 
 /// What is told apart among tokens: each spelling that the language has, names and numbers.
-#[derive(Clone, Copy, PartialEq, Eq, Debug)]
+#[derive(Clone, Copy)]
 pub enum Terminal {
     Final,
     Name,
