@@ -1,3 +1,4 @@
 pub mod Level
 pub mod Limits
 pub mod Numbers
+pub mod Places

@@ -1,30 +1,35 @@
-// Levels of nesting, and the operands of chains.
+// Levels of nesting, and the operands of the chains in them.
 
-ghost use Rattle.std.specs.Prelude.{◌≡◌, [], ◌∷◌, ◌++◌, OnOk, MatchOption, option_to_list};
-ghost use Rattle.gb_limits.specs.Level.{fresh, with_implied, with_disjunct, with_conjunct, begun, again, operand_ended, form_ended, closed, effect_of, after};
+ghost use Rattle.std.specs.Prelude.{◌≡◌, OnOk};
+ghost use Rattle.gb_limits.specs.Level.{fresh, no_implied, implied_more, disjunction_begun, conjunction_begun, conjunct_begun, sum_begun, summand_begun, factor_begun, bound_begun, tail_at, prefixed_at, operand_behind, with_form, with_operand, with_atom, terminal_before, counted, ends, ended, nested, is_opening, is_closing, bracketed, is_long};
 
+use gb_table::rule::{Atom, Form, Level as Mark, Operand, Rule, Tactic};
 use gb_text::stack::Stack;
 use gb_text::terminal::Terminal;
+use gb_text::text::{Text, terminal_at};
 use std::alloc::AllocError;
 
 /// What opens a level.
 #[derive(Clone, Copy, PartialEq, Eq, Debug)]
 pub enum Opening {
     Bracket,
-    Prefix,
-    /// A quantifier or `fun`, before its form begins.
-    Names,
-    /// A quantifier or `fun`, in its form.
-    Body,
+    /// A quantifier, `if`, `fun`, `?`, `!` or a bar, up to a mark in the derivation.
+    Mark,
+    /// A prefix `-`, before the end of its operand.
+    Minus,
+    /// A prefix `-` whose operand has a bound.
+    BoundedMinus,
 }
 
-/// A level, and how many operands the chains of `=>`, `\/` and `/\` have in it that are still open.
+/// A level, and how many operands of the chains of `=>`, `\/`, `/\`, `+` and `*` have begun in it that are still open.
 #[derive(Clone, Copy, PartialEq, Eq, Debug)]
 pub struct Level {
     pub opening: Opening,
     pub implied: u32,
     pub disjuncts: u32,
     pub conjuncts: u32,
+    pub summands: u32,
+    pub factors: u32,
 }
 
 pub type Levels = Stack<Level>;
@@ -32,191 +37,290 @@ pub type Levels = Stack<Level>;
 /// How many operands a chain may have.
 pub const CHAIN: u32 = 256;
 
-/// What a token does to the levels around it.
+/// What ends, and levels with it.
 #[derive(Clone, Copy, PartialEq, Eq, Debug)]
-pub enum Effect {
-    Opens,
-    Prefixes,
-    Binds,
-    Closes,
-    Implies,
-    Equates,
-    Disjoins,
-    Conjoins,
-    Separates,
-    Ends,
-    Nothing,
+pub enum Ending {
+    Operand,
+    Sum,
+    Form,
 }
 
-/// A new level, whose chains have one operand.
+/// A level in which no operand has begun.
 pub fn fresh(opening: Opening) -> Level
     ensures { result ≡ fresh opening }
 {
     Level {
         opening,
-        implied: 1,
-        disjuncts: 1,
-        conjuncts: 1,
+        implied: 0,
+        disjuncts: 0,
+        conjuncts: 0,
+        summands: 0,
+        factors: 0,
     }
 }
 
-// The level behind `=>`: where names stood before it the form of a `fun` begins, and else another operand.
-fn with_implied(level: Level) -> Level
-    ensures { result ≡ with_implied level }
-{
-    match level.opening {
-        Opening::Names => fresh(Opening::Body),
-        opening => Level {
-            opening,
-            implied: level.implied.saturating_add(1),
-            disjuncts: 1,
-            conjuncts: 1,
-        },
-    }
-}
-
-fn with_disjunct(level: Level) -> Level
-    ensures { result ≡ with_disjunct level }
+fn no_implied(level: Level) -> Level
+    ensures { result ≡ no_implied level }
 {
     Level {
-        opening: level.opening,
-        implied: level.implied,
+        implied: 0,
+        ..level
+    }
+}
+
+fn implied_more(level: Level) -> Level
+    ensures { result ≡ implied_more level }
+{
+    Level {
+        implied: level.implied.saturating_add(1),
+        ..level
+    }
+}
+
+fn disjunction_begun(level: Level) -> Level
+    ensures { result ≡ disjunction_begun level }
+{
+    Level {
+        implied: level.implied.saturating_add(1),
+        disjuncts: 0,
+        ..level
+    }
+}
+
+fn conjunction_begun(level: Level) -> Level
+    ensures { result ≡ conjunction_begun level }
+{
+    Level {
         disjuncts: level.disjuncts.saturating_add(1),
-        conjuncts: 1,
+        conjuncts: 0,
+        ..level
     }
 }
 
-fn with_conjunct(level: Level) -> Level
-    ensures { result ≡ with_conjunct level }
+fn conjunct_begun(level: Level) -> Level
+    ensures { result ≡ conjunct_begun level }
 {
     Level {
-        opening: level.opening,
-        implied: level.implied,
-        disjuncts: level.disjuncts,
         conjuncts: level.conjuncts.saturating_add(1),
+        ..level
     }
 }
 
-// The level behind a comma: the form of a quantifier begins.
-fn begun(level: Level) -> Level
-    ensures { result ≡ begun level }
+fn sum_begun(level: Level) -> Level
+    ensures { result ≡ sum_begun level }
+{
+    Level {
+        summands: 1,
+        factors: 1,
+        ..level
+    }
+}
+
+fn summand_begun(level: Level) -> Level
+    ensures { result ≡ summand_begun level }
+{
+    Level {
+        summands: level.summands.saturating_add(1),
+        factors: 1,
+        ..level
+    }
+}
+
+fn factor_begun(level: Level) -> Level
+    ensures { result ≡ factor_begun level }
+{
+    Level {
+        factors: level.factors.saturating_add(1),
+        ..level
+    }
+}
+
+// The bound of a `phoare` belongs to the operand of a prefix `-` before it.
+fn bound_begun(level: Level) -> Level
+    ensures { result ≡ bound_begun level }
 {
     match level.opening {
-        Opening::Names => fresh(Opening::Body),
+        Opening::Minus => Level {
+            opening: Opening::BoundedMinus,
+            ..level
+        },
         _ => level,
     }
 }
 
-/// What a token does.
-pub fn effect_of(terminal: Terminal) -> Effect
-    ensures { result ≡ effect_of terminal }
+fn tail_at(terminal: Terminal, level: Level) -> Level
+    ensures { result ≡ tail_at terminal level }
 {
     match terminal {
-        Terminal::OpenRound
-        | Terminal::OpenSquare
-        | Terminal::OpenBrace
-        | Terminal::OpenEqual
-        | Terminal::OpenGet => Effect::Opens,
-        Terminal::CloseRound | Terminal::CloseSquare | Terminal::CloseBrace => Effect::Closes,
-        Terminal::Exclamation => Effect::Prefixes,
-        Terminal::Forall | Terminal::Exists | Terminal::Fun => Effect::Binds,
-        Terminal::Arrow => Effect::Implies,
-        Terminal::DoubleArrow => Effect::Equates,
-        Terminal::Or => Effect::Disjoins,
-        Terminal::And => Effect::Conjoins,
-        Terminal::Comma => Effect::Separates,
-        Terminal::Colon | Terminal::Semicolon | Terminal::LongArrow | Terminal::Final =>
-            Effect::Ends,
-        _ => Effect::Nothing,
+        Terminal::DoubleArrow => no_implied(level),
+        _ => level,
     }
 }
 
-// Takes off the levels of prefix operators, whose operand ends, and the level around them.
-fn end_operand(levels: &mut Levels) -> Option<Level>
-    ensures { MatchOption result ((operand_ended levels.old ≡ []) × (levels.new ≡ [])) (λ l. operand_ended levels.old ≡ l ∷ levels.new) }
+fn prefixed_at(terminal: Terminal, level: Level) -> Level
+    ensures { result ≡ prefixed_at terminal level }
+{
+    match terminal {
+        Terminal::Exclamation => conjunct_begun(level),
+        _ => level,
+    }
+}
+
+// The first operand of a sum is counted where the sum begins.
+fn operand_behind(terminal: Terminal, level: Level) -> Level
+    ensures { result ≡ operand_behind terminal level }
+{
+    match terminal {
+        Terminal::Plus | Terminal::Minus | Terminal::Xor => summand_begun(level),
+        Terminal::Times | Terminal::Slash | Terminal::PowerTimes => factor_begun(level),
+        _ => level,
+    }
+}
+
+fn with_form(rule: Form, at: Terminal, level: Level) -> Level
+    ensures { result ≡ with_form rule at level }
+{
+    match rule {
+        Form::Tailed => no_implied(level),
+        Form::FurtherTail => tail_at(at, level),
+        Form::Disjunction => disjunction_begun(level),
+        Form::OpenConclusion => implied_more(level),
+        Form::Conjunction => conjunction_begun(level),
+        Form::Compared => conjunct_begun(level),
+        _ => level,
+    }
+}
+
+fn with_operand(rule: Operand, before: Terminal, level: Level) -> Level
+    ensures { result ≡ with_operand rule before level }
+{
+    match rule {
+        Operand::Sum => sum_begun(level),
+        Operand::Negative | Operand::Operand | Operand::PhoareOperand => {
+            operand_behind(before, level)
+        }
+        Operand::Bounded => bound_begun(level),
+        _ => level,
+    }
+}
+
+fn with_atom(rule: Atom, at: Terminal, level: Level) -> Level
+    ensures { result ≡ with_atom rule at level }
+{
+    match rule {
+        Atom::Prefixed => prefixed_at(at, level),
+        _ => level,
+    }
+}
+
+fn terminal_before(text: &Text, at: usize) -> Terminal
+    ensures { result ≡ terminal_before text.now at }
+{
+    if at == 0 {
+        Terminal::Other
+    } else {
+        terminal_at(text, at - 1)
+    }
+}
+
+/// A level, with the operands that begin in it by a rule at a position.
+pub fn counted(text: &Text, rule: Rule, at: usize, level: Level) -> Level
+    ensures { result ≡ counted text.now rule at level }
+{
+    match rule {
+        Rule::Form(rule) => with_form(rule, terminal_at(text, at), level),
+        Rule::Operand(rule) => with_operand(rule, terminal_before(text, at), level),
+        Rule::Atom(rule) => with_atom(rule, terminal_at(text, at), level),
+        _ => level,
+    }
+}
+
+/// Whether some chain of a level has an operand too many.
+pub fn is_long(level: Level) -> bool
+    ensures { result ≡ is_long level }
+{
+    level.implied > CHAIN
+        || level.disjuncts > CHAIN
+        || level.conjuncts > CHAIN
+        || level.summands > CHAIN
+        || level.factors > CHAIN
+}
+
+fn ends(ending: Ending, opening: Opening) -> bool
+    ensures { result ≡ ends ending opening }
+{
+    match (ending, opening) {
+        (Ending::Operand, Opening::Minus) | (Ending::Sum, Opening::Minus | Opening::BoundedMinus) =>
+            true,
+        (Ending::Form, opening) => opening != Opening::Bracket,
+        _ => false,
+    }
+}
+
+// Takes off the levels that end together.
+fn end(levels: &mut Levels, ending: Ending) -> Result<(), AllocError>
+    ensures { OnOk result (levels.new ≡ ended ending levels.old) }
 {
     while let Some(level) = levels.pop() {
-        if level.opening != Opening::Prefix {
-            return Some(level);
+        if !ends(ending, level.opening) {
+            return levels.push(level);
         }
-    }
-    None
-}
-
-// Takes off all levels up to the innermost bracket, in which a form ends.
-fn end_form(levels: &mut Levels) -> Option<Level>
-    ensures { MatchOption result ((form_ended levels.old ≡ []) × (levels.new ≡ [])) (λ l. form_ended levels.old ≡ l ∷ levels.new) }
-{
-    while let Some(level) = levels.pop() {
-        if level.opening == Opening::Bracket {
-            return Some(level);
-        }
-    }
-    None
-}
-
-fn put_back(levels: &mut Levels, level: Option<Level>) -> Result<(), AllocError>
-    ensures { OnOk result (levels.new ≡ option_to_list level ++ levels.old) }
-{
-    if let Some(level) = level {
-        levels.push(level)?;
     }
     Ok(())
 }
 
-// Closes the innermost bracket; the level of the text itself stays.
-fn close(levels: &mut Levels) -> Result<(), AllocError>
-    ensures { OnOk result (levels.new ≡ closed levels.old) }
+/// Begins and ends levels as a rule does.
+pub fn nest(rule: Rule, levels: &mut Levels) -> Result<(), AllocError>
+    ensures { OnOk result (levels.new ≡ nested rule levels.old) }
 {
-    let Some(innermost) = end_form(levels) else {
-        return Ok(());
-    };
-    match levels.pop() {
-        None => levels.push(innermost),
-        Some(around) => levels.push(around),
+    match rule {
+        Rule::Level(Mark::Begin) => levels.push(fresh(Opening::Mark)),
+        Rule::Level(Mark::End) => {
+            levels.pop();
+            Ok(())
+        }
+        Rule::Operand(Operand::Negative) => levels.push(fresh(Opening::Minus)),
+        Rule::Operand(Operand::OperatorRun) => end(levels, Ending::Operand),
+        Rule::Operand(Operand::NoRun) => end(levels, Ending::Sum),
+        Rule::Tactic(Tactic::Introduction | Tactic::NoIntroduction) => end(levels, Ending::Form),
+        _ => Ok(()),
     }
 }
 
-/// Changes the levels as a token does.
-pub fn advance(effect: Effect, levels: &mut Levels) -> Result<(), AllocError>
-    ensures { OnOk result (levels.new ≡ after effect levels.old) }
+/// Whether a token opens a bracket.
+pub fn is_opening(terminal: Terminal) -> bool
+    ensures { result ≡ is_opening terminal }
 {
-    match effect {
-        Effect::Opens => levels.push(fresh(Opening::Bracket)),
-        Effect::Prefixes => levels.push(fresh(Opening::Prefix)),
-        Effect::Binds => levels.push(fresh(Opening::Names)),
-        Effect::Closes => close(levels),
-        Effect::Implies => {
-            let level = end_operand(levels);
-            put_back(levels, level.map(with_implied))
-        }
-        Effect::Equates => {
-            let level = end_operand(levels);
-            put_back(levels, level.map(again))
-        }
-        Effect::Disjoins => {
-            let level = end_operand(levels);
-            put_back(levels, level.map(with_disjunct))
-        }
-        Effect::Conjoins => {
-            let level = end_operand(levels);
-            put_back(levels, level.map(with_conjunct))
-        }
-        Effect::Separates => {
-            let level = levels.pop();
-            put_back(levels, level.map(begun))
-        }
-        Effect::Ends => {
-            let level = end_form(levels);
-            put_back(levels, level.map(again))
-        }
-        Effect::Nothing => Ok(()),
-    }
+    matches!(
+        terminal,
+        Terminal::OpenRound
+            | Terminal::OpenSquare
+            | Terminal::OpenBrace
+            | Terminal::OpenEqual
+            | Terminal::OpenGet
+    )
 }
 
-// The level of another form in the same brackets.
-fn again(level: Level) -> Level
-    ensures { result ≡ again level }
+/// Whether a token closes a bracket.
+pub fn is_closing(terminal: Terminal) -> bool
+    ensures { result ≡ is_closing terminal }
 {
-    fresh(level.opening)
+    matches!(
+        terminal,
+        Terminal::CloseRound | Terminal::CloseSquare | Terminal::CloseBrace
+    )
+}
+
+/// Opens or closes a bracket as a token does.
+pub fn bracket(terminal: Terminal, levels: &mut Levels) -> Result<(), AllocError>
+    ensures { OnOk result (levels.new ≡ bracketed terminal levels.old) }
+{
+    if is_opening(terminal) {
+        return levels.push(fresh(Opening::Bracket));
+    }
+    if is_closing(terminal) {
+        end(levels, Ending::Form)?;
+        levels.pop();
+    }
+    Ok(())
 }

@@ -1,56 +1,115 @@
 // Texts that are nested too deep, and chains that are too long.
 
-ghost use Rattle.std.specs.Prelude.{◌≡◌, ℕ, ◌+◌, ◌≤◌, ◌<◌, length, OnOk, IfOk, MatchOption};
-ghost use Rattle.gb_limits.specs.Level.{open_brackets, after_bracket, top_is_long};
-ghost use Rattle.gb_text.specs.Text.{terminal_at};
-ghost use Rattle.gb_limits.specs.Limits.{levels_at, brackets_behind, depth_at, IsFirstTooDeep, NoneTooDeep, IsFirstLong, NoneLong};
+ghost use Rattle.std.specs.Prelude.{◌≡◌, ℕ, ◌+◌, ◌≤◌, ◌<◌, length, IfOk, MatchOption};
+ghost use Rattle.gb_limits.specs.Level.{brackets_after, open_brackets, top_is_long};
+ghost use Rattle.gb_limits.specs.Limits.{begun, stepped, taken, begin_too_many, over, Walk, walked, brackets_behind, depth_at, IsFirstTooDeep, NoneTooDeep, IsFirstLong, NoneLong};
 
-use crate::level::{CHAIN, Effect, Levels, Opening, advance, effect_of, fresh};
+use crate::level::{
+    Levels, Opening, bracket, counted, fresh, is_closing, is_long, is_opening, nest,
+};
+use gb_grammar::table::Step;
+use gb_table::rule::Rule;
 use gb_text::stack::Stack;
+use gb_text::terminal::Terminal;
 use gb_text::text::{Text, terminal_at};
 use std::alloc::{AllocError, Global};
 
 /// How many levels a token may stand in.
 pub const LEVELS: usize = 64;
 
-// Changes the levels before a token to those behind it.
-fn pass(text: &Text, at: usize, levels: &mut Levels) -> Result<(), AllocError>
-    requires { levels.old ≡ levels_at text.now at }
-    ensures { OnOk result (levels.new ≡ levels_at text.now (at + 1)) }
-{
-    advance(effect_of(terminal_at(text, at)), levels)?;
-    Ok(())
+// What was found on the way over a token: the steps behind it, and whether an operand too many begins with it.
+#[derive(Clone, Copy)]
+struct Passed<'a> {
+    rest: &'a [Step<Rule>],
+    long: bool,
 }
 
-// The levels of a text before its first token.
-fn start(alloc: Global, _text: &Text) -> Result<Levels, AllocError>
-    ensures { IfOk result (λ levels. levels ≡ levels_at _text.now 0) }
+// Counts the operands that begin by a step in the innermost level; answers whether one is too many.
+fn count(text: &Text, step: Step<Rule>, levels: &mut Levels) -> Result<bool, AllocError>
+    ensures { IfOk result (λ long. (levels.new ≡ begun text.now step levels.old) × (long ≡ top_is_long levels.new)) }
+{
+    let Some(level) = levels.pop() else {
+        return Ok(false);
+    };
+    let level = counted(text, step.rule, step.at, level);
+    levels.push(level)?;
+    Ok(is_long(level))
+}
+
+// Takes a step; answers whether an operand too many begins by it.
+fn take_step(text: &Text, step: Step<Rule>, levels: &mut Levels) -> Result<bool, AllocError>
+    ensures { IfOk result (λ long. (levels.new ≡ stepped text.now step levels.old) × (long ≡ top_is_long (begun text.now step levels.old))) }
+{
+    let long = count(text, step, levels)?;
+    nest(step.rule, levels)?;
+    Ok(long)
+}
+
+// Takes the steps up to a position.
+fn take_steps<'a>(
+    text: &Text,
+    at: usize,
+    steps: &'a [Step<Rule>],
+    levels: &mut Levels,
+) -> Result<Passed<'a>, AllocError>
+    ensures levels { IfOk result (λ _. levels.new ≡ (taken text.now at levels.old steps.now).levels) }
+    ensures rest { IfOk result (λ p. p.rest.now ≡ (taken text.now at levels.old steps.now).rest) }
+    ensures long { IfOk result (λ p. p.long ≡ begin_too_many text.now at levels.old steps.now) }
+{
+    let mut long = false;
+    let mut rest = steps;
+    while let [step, more @ ..] = rest {
+        if step.at > at {
+            break;
+        }
+        let too_many = take_step(text, *step, levels)?;
+        long = long || too_many;
+        rest = more;
+    }
+    Ok(Passed { rest, long })
+}
+
+// Goes over a token.
+fn pass<'a>(
+    text: &Text,
+    at: usize,
+    steps: &'a [Step<Rule>],
+    levels: &mut Levels,
+) -> Result<Passed<'a>, AllocError>
+    ensures levels { IfOk result (λ _. levels.new ≡ (over text.now at (record { levels = levels.old; rest = steps.now })).levels) }
+    ensures rest { IfOk result (λ p. p.rest.now ≡ (over text.now at (record { levels = levels.old; rest = steps.now })).rest) }
+    ensures long { IfOk result (λ p. p.long ≡ begin_too_many text.now at levels.old steps.now) }
+{
+    let passed = take_steps(text, at, steps, levels)?;
+    bracket(terminal_at(text, at), levels)?;
+    Ok(passed)
+}
+
+// The level of a text itself.
+fn start(alloc: Global, text: &Text, steps: &[Step<Rule>]) -> Result<Levels, AllocError>
+    ensures { IfOk result (λ levels. levels ≡ (walked text.now steps.now 0).levels) }
 {
     let mut levels = Stack::new(alloc);
     levels.push(fresh(Opening::Bracket))?;
     Ok(levels)
 }
 
-// Whether some chain of the innermost level has an operand too many.
-fn top_is_long(levels: &Levels) -> bool
-    ensures { result ≡ top_is_long levels.now }
+/// The first token with which an operand too many of a chain begins, of a text that these steps derive.
+pub fn first_long(
+    alloc: Global,
+    text: &Text,
+    steps: &[Step<Rule>],
+) -> Result<Option<usize>, AllocError>
+    ensures { IfOk result (λ found. MatchOption found (NoneLong text.now steps.now) (λ at. IsFirstLong text.now steps.now at)) }
 {
-    match levels.top() {
-        Some(level) => level.implied > CHAIN || level.disjuncts > CHAIN || level.conjuncts > CHAIN,
-        None => false,
-    }
-}
-
-/// The first position at which an operand too many of a chain begins.
-pub fn first_long(alloc: Global, text: &Text) -> Result<Option<usize>, AllocError>
-    ensures { IfOk result (λ found. MatchOption found (NoneLong text.now) (λ at. IsFirstLong text.now at)) }
-{
-    let mut levels = start(alloc, text)?;
+    let mut levels = start(alloc, text, steps)?;
+    let mut rest = steps;
     for at in 0..text.lexemes.len() {
-        pass(text, at, &mut levels)?;
-        if top_is_long(&levels) {
-            return Ok(Some(at + 1));
+        let passed = pass(text, at, rest, &mut levels)?;
+        if passed.long {
+            return Ok(Some(at));
         }
+        rest = passed.rest;
     }
     Ok(None)
 }
@@ -71,28 +130,35 @@ fn open_brackets(levels: Levels) -> usize
 }
 
 // How many brackets are open behind a token.
-fn after_bracket(effect: Effect, depth: usize) -> usize
+fn brackets_after(terminal: Terminal, depth: usize) -> usize
     requires { depth ≤ LEVELS }
-    ensures { result ≡ after_bracket effect depth }
+    ensures { result ≡ brackets_after terminal depth }
 {
-    match effect {
-        Effect::Opens => depth + 1,
-        Effect::Closes => depth.saturating_sub(1),
-        _ => depth,
+    if is_opening(terminal) {
+        depth + 1
+    } else if is_closing(terminal) {
+        depth.saturating_sub(1)
+    } else {
+        depth
     }
 }
 
 // The first token from a fault on that stands in too many brackets, of which these many are open before the fault.
-fn first_in_brackets(text: &Text, fault: usize, depth: usize) -> Option<usize>
+fn first_in_brackets(
+    text: &Text,
+    _steps: &[Step<Rule>],
+    fault: usize,
+    depth: usize,
+) -> Option<usize>
     requires fault { fault ≤ length text.now.lexemes }
-    requires depth { depth ≡ brackets_behind text.now fault 0 }
+    requires depth { depth ≡ brackets_behind text.now _steps.now fault 0 }
     requires few { depth ≤ LEVELS }
-    requires before { (j : ℕ) → j < fault → depth_at text.now fault j ≤ LEVELS }
-    ensures { MatchOption result (NoneTooDeep text.now fault) (λ at. IsFirstTooDeep text.now fault at) }
+    requires before { (j : ℕ) → j < fault → depth_at text.now _steps.now fault j ≤ LEVELS }
+    ensures { MatchOption result (NoneTooDeep text.now _steps.now fault) (λ at. IsFirstTooDeep text.now _steps.now fault at) }
 {
     let mut depth = depth;
     for at in fault..text.lexemes.len() {
-        depth = after_bracket(effect_of(terminal_at(text, at)), depth);
+        depth = brackets_after(terminal_at(text, at), depth);
         if depth > LEVELS {
             return Some(at);
         }
@@ -100,20 +166,26 @@ fn first_in_brackets(text: &Text, fault: usize, depth: usize) -> Option<usize>
     None
 }
 
-/// The first token that stands in too many levels, of a text that can be read up to a fault: the level of a bracket
-/// ends with its partner, that of a prefix operator with its operand, and that of a quantifier or `fun` with its form.
-/// From the fault on brackets alone count.
-pub fn first_too_deep(alloc: Global, text: &Text, fault: usize) -> Result<Option<usize>, AllocError>
+/// The first token that stands in too many levels, of a text that these steps read up to a fault. A token that opens a
+/// level stands in it; from the fault on brackets alone count.
+pub fn first_too_deep(
+    alloc: Global,
+    text: &Text,
+    steps: &[Step<Rule>],
+    fault: usize,
+) -> Result<Option<usize>, AllocError>
     requires { fault ≤ length text.now.lexemes }
-    ensures { IfOk result (λ found. MatchOption found (NoneTooDeep text.now fault) (λ at. IsFirstTooDeep text.now fault at)) }
+    ensures { IfOk result (λ found. MatchOption found (NoneTooDeep text.now steps.now fault) (λ at. IsFirstTooDeep text.now steps.now fault at)) }
 {
-    let mut levels = start(alloc, text)?;
+    let mut levels = start(alloc, text, steps)?;
+    let mut rest = steps;
     for at in 0..fault {
-        pass(text, at, &mut levels)?;
+        let passed = pass(text, at, rest, &mut levels)?;
         if levels.len() > LEVELS + 1 {
             return Ok(Some(at));
         }
+        rest = passed.rest;
     }
     let depth = open_brackets(levels);
-    Ok(first_in_brackets(text, fault, depth))
+    Ok(first_in_brackets(text, steps, fault, depth))
 }
