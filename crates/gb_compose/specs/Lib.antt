@@ -1,5 +1,3 @@
 pub mod Atoms
 pub mod Forms
 pub mod Paths
-pub mod Program
-pub mod Step

@@ -1,112 +1,17 @@
-// Forms, what they are put together from, and calls.
+// Forms, and what they are put together from.
 
 ghost use Rattle.std.specs.Prelude.{◌≡◌, IfOk, OnOk};
 ghost use Rattle.gb_value.specs.Form.{no_form, no_infix, no_operand};
 ghost use Rattle.gb_value.specs.Path.{no_type};
-ghost use Rattle.gb_value.specs.Sorted.{top, behind, option_on};
+ghost use Rattle.gb_value.specs.Sorted.{top, behind};
 
-use crate::let_go::LetGo;
-use crate::path::take_type;
-use gb_core::place::Place;
+use crate::paths::take_type;
 use gb_text::stack::Stack;
-use gb_tree::form::{Connective, EquatedTree, FormShape, FormTree, SideTree, TypeTree, Weight};
-use gb_tree::judgment::{CallTree, SubjectTree};
-use gb_value::form::{
-    BracketTail, CallTail, FunctorCall, Infix, Operand, PhoareRun, PhoareTree, Run, Suffix, Tail,
-    no_form,
-};
-use gb_value::take::{take_boxed, take_option};
+use gb_tree::form::{Connective, FormTree, TypeTree};
+use gb_value::form::{Infix, Operand, no_form};
+use gb_value::take::take_boxed;
 use sqlite_items::Boxed;
 use std::alloc::{AllocError, Global};
-
-impl LetGo for Boxed<FormTree> {
-    fn let_go(self) {}
-}
-
-impl LetGo for Tail {
-    fn let_go(self) {}
-}
-
-impl LetGo for Infix {
-    fn let_go(self) {}
-}
-
-impl LetGo for Operand {
-    fn let_go(self) {}
-}
-
-impl LetGo for Run {
-    fn let_go(self) {}
-}
-
-impl LetGo for Suffix {
-    fn let_go(self) {}
-}
-
-impl LetGo for SideTree {
-    fn let_go(self) {}
-}
-
-impl LetGo for BracketTail {
-    fn let_go(self) {}
-}
-
-impl LetGo for Weight {
-    fn let_go(self) {}
-}
-
-impl LetGo for PhoareTree {
-    fn let_go(self) {}
-}
-
-impl LetGo for PhoareRun {
-    fn let_go(self) {}
-}
-
-impl LetGo for EquatedTree {
-    fn let_go(self) {}
-}
-
-impl LetGo for Boxed<SubjectTree> {
-    fn let_go(self) {}
-}
-
-impl LetGo for Boxed<CallTree> {
-    fn let_go(self) {}
-}
-
-impl LetGo for CallTail {
-    fn let_go(self) {}
-}
-
-impl LetGo for Option<FunctorCall> {
-    fn let_go(self) {}
-}
-
-/// A form of this shape, in its box.
-pub fn boxed_form(
-    alloc: Global,
-    shape: FormShape,
-    place: Place,
-) -> Result<Boxed<FormTree>, AllocError>
-    ensures { IfOk result (λ b. b ≡ record { shape = shape; place = place }) }
-{
-    Boxed::new(alloc, FormTree { shape, place })
-}
-
-/// What a judgment is about, in its box.
-pub fn boxed_subject(alloc: Global, subject: SubjectTree) -> Result<Boxed<SubjectTree>, AllocError>
-    ensures { IfOk result (λ b. b ≡ subject) }
-{
-    Boxed::new(alloc, subject)
-}
-
-/// A call, in its box.
-pub fn boxed_call(alloc: Global, call: CallTree) -> Result<Boxed<CallTree>, AllocError>
-    ensures { IfOk result (λ b. b ≡ call) }
-{
-    Boxed::new(alloc, call)
-}
 
 /// Takes a form off; a fixed one where there is none.
 pub fn take_form(
@@ -117,33 +22,6 @@ pub fn take_form(
     ensures behind { forms.new ≡ behind forms.old }
 {
     take_boxed(alloc, forms, no_form())
-}
-
-/// Takes the top list off: its first form, if there is one.
-pub fn optional_form(
-    alloc: Global,
-    form_lists: &mut Stack<Stack<Boxed<FormTree>>>,
-) -> Option<Boxed<FormTree>>
-    ensures option { result ≡ option_on form_lists.old }
-    ensures behind { form_lists.new ≡ behind form_lists.old }
-{
-    take_option(alloc, form_lists)
-}
-
-/// Takes the top list off: its first operator with an operand, if there is one.
-pub fn optional_infix(alloc: Global, infix_lists: &mut Stack<Stack<Infix>>) -> Option<Infix>
-    ensures option { result ≡ option_on infix_lists.old }
-    ensures behind { infix_lists.new ≡ behind infix_lists.old }
-{
-    take_option(alloc, infix_lists)
-}
-
-/// Takes the top list off: its first side, if there is one.
-pub fn optional_side(alloc: Global, side_lists: &mut Stack<Stack<SideTree>>) -> Option<SideTree>
-    ensures option { result ≡ option_on side_lists.old }
-    ensures behind { side_lists.new ≡ behind side_lists.old }
-{
-    take_option(alloc, side_lists)
 }
 
 fn no_infix(alloc: Global) -> Result<Infix, AllocError>

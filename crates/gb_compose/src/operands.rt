@@ -3,9 +3,9 @@
 ghost use Rattle.std.specs.Prelude.{◌≡◌, IfOk};
 ghost use Rattle.gb_compose.specs.Forms.{sum_of, negative, operand, suffix_run, argument_run, product_run, sum_run, operator_run};
 
-use crate::form::boxed_form;
 use crate::trees::{applied, combined, suffixed};
 use gb_core::place::Place;
+use gb_let_go::boxes::boxed_form;
 use gb_text::stack::Stack;
 use gb_tree::form::{Connective, FormShape, FormTree};
 use gb_value::form::{Infix, Operand, Run, Suffix};

@@ -2,16 +2,29 @@
 
 ghost use Rattle.std.specs.Prelude.{◌≡◌, ◌∷◌, [], IfOk, Some};
 ghost use Rattle.gb_compose.specs.Paths.{product, optional, bind, binder, plain_procedure, procedure_with, procedure, longer_path};
+ghost use Rattle.gb_value.specs.Path.{no_type};
+ghost use Rattle.gb_value.specs.Sorted.{top, behind};
 
-use crate::path::boxed_type;
 use crate::words::{dotted, split_path};
+use gb_let_go::boxes::boxed_type;
 use gb_text::stack::Stack;
 use gb_tree::form::{Bind, Binder, ModuleBinder, OraclePath, TypeShape, TypeTree, Word};
 use gb_tree::judgment::{ModuleExpr, ProcPath};
-use gb_value::path::{BindRest, Functor, PathTail};
-use gb_value::take::in_front;
+use gb_value::path::{BindRest, Functor, PathTail, no_type};
+use gb_value::take::{in_front, take_boxed};
 use sqlite_items::{Boxed, Items};
 use std::alloc::{AllocError, Global};
+
+/// Takes a type off; a fixed one where there is none.
+pub fn take_type(
+    alloc: Global,
+    types: &mut Stack<Boxed<TypeTree>>,
+) -> Result<Boxed<TypeTree>, AllocError>
+    ensures top { IfOk result (λ b. b ≡ top no_type types.old) }
+    ensures behind { types.new ≡ behind types.old }
+{
+    take_boxed(alloc, types, no_type())
+}
 
 /// The product of these types; of a single one this type itself.
 pub fn product(

@@ -3,7 +3,7 @@
 ghost use Rattle.std.specs.Prelude.{◌≡◌, IfOk};
 ghost use Rattle.gb_compose.specs.Forms.{path_form, binary, joined, choosing, chained, combined, applied, shape_behind, suffixed, coin_before};
 
-use crate::form::boxed_form;
+use gb_let_go::boxes::boxed_form;
 use gb_text::stack::Stack;
 use gb_text::text::{Text, place_at};
 use gb_tree::form::{Connective, FormShape, FormTree, Word};

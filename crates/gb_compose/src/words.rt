@@ -3,8 +3,8 @@
 ghost use Rattle.std.specs.Prelude.{◌≡◌, ◌∷◌, [], ◌++◌, IfOk, OnOk, string_bytes};
 ghost use Rattle.gb_compose.specs.Paths.{dotted, oracle_path, split_path};
 
-use crate::stacks::take;
 use gb_core::name::Name;
+use gb_let_go::stacks::take;
 use gb_text::stack::Stack;
 use gb_tree::form::{OraclePath, Word};
 use gb_value::path::no_word;

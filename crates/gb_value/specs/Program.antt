@@ -7,6 +7,7 @@ use Rattle.gb_tree.specs.declared.command.OperatorDefinition.{OperatorDefinition
 use Rattle.gb_tree.specs.declared.command.OperatorDefinition.TheVariants as OperatorOf
 use Rattle.gb_tree.specs.declared.command.TypeDefinition.{TypeDefinition}
 use Rattle.gb_tree.specs.declared.command.TypeDefinition.TheVariants as TypeOf
+use Rattle.gb_value.specs.declared.program.CommandValues.{CommandValues}
 use Rattle.gb_value.specs.declared.program.ModuleRest.{ModuleRest}
 use Rattle.gb_value.specs.declared.program.ModuleRest.TheVariants as ModuleRests
 use Rattle.gb_value.specs.declared.program.ProgramValues.{ProgramValues}
@@ -50,4 +51,7 @@ no_command = record { shape = CommandTree.Proof; place = no_place }
 
 -- empty stacks
 abbrev pub no_programs : ProgramValues
-no_programs = record { statements = nothing_sorted; statement_tails = []; written = []; variant_tails = []; variant_names = []; items = nothing_sorted; parameters = nothing_sorted; module_rests = []; signatures = nothing_sorted; oracles = nothing_sorted; oracle_options = []; type_definitions = []; operator_definitions = []; substitutions = nothing_sorted; realisations = nothing_sorted; shapes = []; commands = [] }
+no_programs = record { statements = nothing_sorted; statement_tails = []; written = []; variant_tails = []; variant_names = []; items = nothing_sorted; parameters = nothing_sorted; module_rests = []; signatures = nothing_sorted; oracles = nothing_sorted; oracle_options = [] }
+
+abbrev pub no_commands : CommandValues
+no_commands = record { type_definitions = []; operator_definitions = []; substitutions = nothing_sorted; realisations = nothing_sorted; shapes = []; commands = [] }

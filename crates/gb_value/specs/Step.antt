@@ -18,7 +18,8 @@ use Rattle.gb_value.specs.declared.step.HaveRest.{HaveRest}
 use Rattle.gb_value.specs.declared.step.HaveRest.TheVariants as HaveRests
 use Rattle.gb_value.specs.declared.step.Pairing.{Pairing}
 use Rattle.gb_value.specs.declared.step.Pairing.TheVariants as Pairings
-use Rattle.gb_value.specs.declared.step.StepValues.{StepValues}
+use Rattle.gb_value.specs.declared.step.RuleValues.{RuleValues}
+use Rattle.gb_value.specs.declared.step.TacticValues.{TacticValues}
 use Rattle.gb_value.specs.Path.{no_place, no_word, no_number}
 use Rattle.gb_value.specs.Sorted.{nothing_sorted}
 
@@ -53,5 +54,8 @@ abbrev pub no_distance : Distance
 no_distance = Distances.Forward no_number
 
 -- empty stacks
-abbrev pub no_steps : StepValues
-no_steps = record { tactics = nothing_sorted; continuations = nothing_sorted; combined = []; introductions = []; patterns = nothing_sorted; pairings = []; rules = []; lemmas = []; argument_lists = []; have_rests = []; call_rules = []; call_rests = []; distances = []; fel_rests = []; guards = nothing_sorted; hints = nothing_sorted; summands = nothing_sorted }
+abbrev pub no_tactics : TacticValues
+no_tactics = record { tactics = nothing_sorted; continuations = nothing_sorted; combined = []; introductions = []; patterns = nothing_sorted; pairings = [] }
+
+abbrev pub no_rules : RuleValues
+no_rules = record { rules = []; lemmas = []; argument_lists = []; have_rests = []; call_rules = []; call_rests = []; distances = []; fel_rests = []; guards = nothing_sorted; hints = nothing_sorted; summands = nothing_sorted }

@@ -2,12 +2,20 @@
 use Rattle.gb_table.specs.declared.rule.Sort.{Sort}
 use Rattle.gb_table.specs.declared.rule.Sort.TheVariants as sort
 use Rattle.gb_table.specs.declared.rule.ListRule.{ListRule}
-use Rattle.gb_value.specs.declared.values.Values.{Values}
+use Rattle.gb_value.specs.declared.program.CommandValues.{CommandValues}
+use Rattle.gb_value.specs.declared.program.ProgramValues.{ProgramValues}
+use Rattle.gb_value.specs.declared.step.RuleValues.{RuleValues}
+use Rattle.gb_value.specs.declared.step.TacticValues.{TacticValues}
+use Rattle.gb_value.specs.declared.values.Groups.{Groups}
 use Rattle.gb_value.specs.Form.{no_formulas}
 use Rattle.gb_value.specs.Path.{no_paths}
-use Rattle.gb_value.specs.Program.{no_programs}
+use Rattle.gb_value.specs.Program.{no_commands, no_programs}
 use Rattle.gb_value.specs.Sorted.{list_made}
-use Rattle.gb_value.specs.Step.{no_steps}
+use Rattle.gb_value.specs.Step.{no_rules, no_tactics}
+
+-- the values of a text
+abbrev pub Values : Type 0
+Values = Groups ProgramValues CommandValues TacticValues RuleValues
 
 -- what the production of a list of a sort makes
 abbrev pub lists_made : Sort → ListRule → Values → Values
@@ -27,18 +35,18 @@ lists_made sort.Equated rule v = record v { formulas = record v.formulas { equat
 lists_made sort.Statement rule v = record v { programs = record v.programs { statements = list_made rule v.programs.statements } }
 lists_made sort.Item rule v = record v { programs = record v.programs { items = list_made rule v.programs.items } }
 lists_made sort.Procedure rule v = record v { paths = record v.paths { procedures = list_made rule v.paths.procedures } }
-lists_made sort.Tactic rule v = record v { steps = record v.steps { tactics = list_made rule v.steps.tactics } }
-lists_made sort.Pattern rule v = record v { steps = record v.steps { patterns = list_made rule v.steps.patterns } }
-lists_made sort.Guard rule v = record v { steps = record v.steps { guards = list_made rule v.steps.guards } }
-lists_made sort.Hint rule v = record v { steps = record v.steps { hints = list_made rule v.steps.hints } }
-lists_made sort.Summand rule v = record v { steps = record v.steps { summands = list_made rule v.steps.summands } }
+lists_made sort.Tactic rule v = record v { tactics = record v.tactics { tactics = list_made rule v.tactics.tactics } }
+lists_made sort.Pattern rule v = record v { tactics = record v.tactics { patterns = list_made rule v.tactics.patterns } }
+lists_made sort.Guard rule v = record v { rules = record v.rules { guards = list_made rule v.rules.guards } }
+lists_made sort.Hint rule v = record v { rules = record v.rules { hints = list_made rule v.rules.hints } }
+lists_made sort.Summand rule v = record v { rules = record v.rules { summands = list_made rule v.rules.summands } }
 lists_made sort.Parameter rule v = record v { programs = record v.programs { parameters = list_made rule v.programs.parameters } }
 lists_made sort.Signature rule v = record v { programs = record v.programs { signatures = list_made rule v.programs.signatures } }
 lists_made sort.Oracle rule v = record v { programs = record v.programs { oracles = list_made rule v.programs.oracles } }
-lists_made sort.Substitution rule v = record v { programs = record v.programs { substitutions = list_made rule v.programs.substitutions } }
-lists_made sort.Realisation rule v = record v { programs = record v.programs { realisations = list_made rule v.programs.realisations } }
-lists_made sort.Continuation rule v = record v { steps = record v.steps { continuations = list_made rule v.steps.continuations } }
+lists_made sort.Substitution rule v = record v { commands = record v.commands { substitutions = list_made rule v.commands.substitutions } }
+lists_made sort.Realisation rule v = record v { commands = record v.commands { realisations = list_made rule v.commands.realisations } }
+lists_made sort.Continuation rule v = record v { tactics = record v.tactics { continuations = list_made rule v.tactics.continuations } }
 
 -- empty stacks
 abbrev pub no_values : Values
-no_values = record { paths = no_paths; formulas = no_formulas; programs = no_programs; steps = no_steps }
+no_values = record { paths = no_paths; formulas = no_formulas; programs = no_programs; commands = no_commands; tactics = no_tactics; rules = no_rules }

@@ -23,6 +23,7 @@ pub struct Tail {
     pub chosen: Option<Choice>,
 }
 
+/// What `?` chooses between.
 #[derive(Drop)]
 pub struct Choice {
     pub then: Boxed<FormTree>,
@@ -111,7 +112,6 @@ pub struct FunctorCall {
 }
 
 /// The stacks of forms, of what they are put together from, and of calls.
-#[derive(Drop)]
 pub struct FormulaValues {
     pub forms: Sorted<Boxed<FormTree>>,
     pub tails: Stack<Tail>,
@@ -130,6 +130,8 @@ pub struct FormulaValues {
     pub call_tails: Stack<CallTail>,
     pub functor_calls: Stack<Option<FunctorCall>>,
 }
+
+// What stands where a stack is empty; none of it is on the stacks of a text.
 
 pub fn no_form() -> FormTree
     ensures { result ≡ no_form }

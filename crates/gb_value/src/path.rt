@@ -33,6 +33,7 @@ pub struct PathTail {
     pub functor: Option<Functor>,
 }
 
+/// The arguments of a functor, and a procedure of it.
 #[derive(Drop)]
 pub struct Functor {
     pub arguments: Items<ModuleExpr>,
@@ -40,7 +41,6 @@ pub struct Functor {
 }
 
 /// The stacks of words, types, binders and paths.
-#[derive(Drop)]
 pub struct PathValues {
     pub words: Sorted<Word>,
     pub numbers: Sorted<Number>,
@@ -55,6 +55,8 @@ pub struct PathValues {
     pub path_tails: Stack<PathTail>,
     pub procedures: Sorted<ProcPath>,
 }
+
+// What stands where a stack is empty; none of it is on the stacks of a text.
 
 pub fn no_place() -> Place
     ensures { result ≡ no_place }

@@ -1,7 +1,7 @@
 // The values of statements, modules and commands.
 
 ghost use Rattle.std.specs.Prelude.{◌≡◌};
-ghost use Rattle.gb_value.specs.Program.{no_statement_tail, no_variant_tail, no_variant_name, no_module_rest, no_command, no_programs};
+ghost use Rattle.gb_value.specs.Program.{no_statement_tail, no_variant_tail, no_variant_name, no_module_rest, no_command, no_programs, no_commands};
 
 use crate::form::{CallTail, Suffix, no_call_tail};
 use crate::path::no_place;
@@ -69,8 +69,7 @@ pub enum ModuleRest {
     Alias(ModuleExpr),
 }
 
-/// The stacks of statements, modules and commands.
-#[derive(Drop)]
+/// The stacks of statements and modules.
 pub struct ProgramValues {
     pub statements: Sorted<Statement>,
     pub statement_tails: Stack<StatementTail>,
@@ -83,6 +82,10 @@ pub struct ProgramValues {
     pub signatures: Sorted<Signature>,
     pub oracles: Sorted<OraclePath>,
     pub oracle_options: Stack<Option<OraclePaths>>,
+}
+
+/// The stacks of definitions and commands.
+pub struct CommandValues {
     pub type_definitions: Stack<TypeDefinition>,
     pub operator_definitions: Stack<OperatorDefinition>,
     pub substitutions: Sorted<Substitution>,
@@ -147,6 +150,14 @@ pub fn no_programs(alloc: Global) -> ProgramValues
         signatures: nothing_sorted(alloc),
         oracles: nothing_sorted(alloc),
         oracle_options: Stack::new(alloc),
+    }
+}
+
+/// Empty stacks.
+pub fn no_commands(alloc: Global) -> CommandValues
+    ensures { result ≡ no_commands }
+{
+    CommandValues {
         type_definitions: Stack::new(alloc),
         operator_definitions: Stack::new(alloc),
         substitutions: nothing_sorted(alloc),

@@ -7,7 +7,6 @@ use gb_text::stack::Stack;
 use std::alloc::Global;
 
 /// Values of a sort, and lists of such.
-#[derive(Drop)]
 pub struct Sorted<T> {
     pub one: Stack<T>,
     pub lists: Stack<Stack<T>>,

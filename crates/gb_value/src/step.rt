@@ -1,7 +1,7 @@
 // The values of proof steps.
 
 ghost use Rattle.std.specs.Prelude.{◌≡◌};
-ghost use Rattle.gb_value.specs.Step.{no_pattern, no_lemma, no_have_rest, no_call_rule, no_distance, no_steps};
+ghost use Rattle.gb_value.specs.Step.{no_pattern, no_lemma, no_have_rest, no_call_rule, no_distance, no_tactics, no_rules};
 
 use crate::path::{no_number, no_place, no_word};
 use crate::sorted::{Sorted, nothing_sorted};
@@ -57,14 +57,17 @@ pub enum FelRest {
 }
 
 /// The stacks of proof steps.
-#[derive(Drop)]
-pub struct StepValues {
+pub struct TacticValues {
     pub tactics: Sorted<TacticTree>,
     pub continuations: Sorted<Continuation>,
     pub combined: Stack<CombinedStep>,
     pub introductions: Stack<Option<Patterns>>,
     pub patterns: Sorted<PatternTree>,
     pub pairings: Stack<Pairing>,
+}
+
+/// The stacks of rules, and of what they are given.
+pub struct RuleValues {
     pub rules: Stack<Boxed<RuleTree>>,
     pub lemmas: Stack<LemmaUse>,
     pub argument_lists: Stack<Stack<ArgumentTree>>,
@@ -115,16 +118,24 @@ pub fn no_distance(alloc: Global) -> Distance
 }
 
 /// Empty stacks.
-pub fn no_steps(alloc: Global) -> StepValues
-    ensures { result ≡ no_steps }
+pub fn no_tactics(alloc: Global) -> TacticValues
+    ensures { result ≡ no_tactics }
 {
-    StepValues {
+    TacticValues {
         tactics: nothing_sorted(alloc),
         continuations: nothing_sorted(alloc),
         combined: Stack::new(alloc),
         introductions: Stack::new(alloc),
         patterns: nothing_sorted(alloc),
         pairings: Stack::new(alloc),
+    }
+}
+
+/// Empty stacks.
+pub fn no_rules(alloc: Global) -> RuleValues
+    ensures { result ≡ no_rules }
+{
+    RuleValues {
         rules: Stack::new(alloc),
         lemmas: Stack::new(alloc),
         argument_lists: Stack::new(alloc),

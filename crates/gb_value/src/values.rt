@@ -5,26 +5,33 @@ ghost use Rattle.gb_value.specs.Values.{no_values};
 
 use crate::form::{FormulaValues, no_formulas};
 use crate::path::{PathValues, no_paths};
-use crate::program::{ProgramValues, no_programs};
-use crate::step::{StepValues, no_steps};
+use crate::program::{CommandValues, ProgramValues, no_commands, no_programs};
+use crate::step::{RuleValues, TacticValues, no_rules, no_tactics};
 use std::alloc::Global;
 
-/// The values of the parts that are read, a stack for each sort.
-#[derive(Drop)]
-pub struct Values {
+/// The stacks of values, by groups. A function that works on some of them leaves open what the others are, so that its
+/// proof speaks of few types.
+pub struct Groups<P, C, T, R> {
     pub paths: PathValues,
     pub formulas: FormulaValues,
-    pub programs: ProgramValues,
-    pub steps: StepValues,
+    pub programs: P,
+    pub commands: C,
+    pub tactics: T,
+    pub rules: R,
 }
+
+/// The values of the parts that are read, a stack for each sort.
+pub type Values = Groups<ProgramValues, CommandValues, TacticValues, RuleValues>;
 
 pub fn no_values(alloc: Global) -> Values
     ensures { result ≡ no_values }
 {
-    Values {
+    Groups {
         paths: no_paths(alloc),
         formulas: no_formulas(alloc),
         programs: no_programs(alloc),
-        steps: no_steps(alloc),
+        commands: no_commands(alloc),
+        tactics: no_tactics(alloc),
+        rules: no_rules(alloc),
     }
 }

@@ -1,11 +1,12 @@
 // Statements and loops put together.
 
 ghost use Rattle.std.specs.Prelude.{◌≡◌, ◌∷◌, IfOk, []};
-ghost use Rattle.gb_compose.specs.Program.{writing, acting, statement_shape, statement, longer_statement, loop_shape, suffix_variant, name_variant};
+ghost use Rattle.gb_compose_program.specs.Program.{writing, acting, statement_shape, statement, longer_statement, loop_shape, suffix_variant, name_variant};
 
-use crate::calls::{call, longer_call};
-use crate::trees::suffixed;
-use crate::words::dotted;
+use gb_compose::calls::{call, longer_call};
+use gb_compose::trees::suffixed;
+use gb_compose::words::dotted;
+use gb_let_go::boxes::boxed_call;
 use gb_text::stack::Stack;
 use gb_tree::form::{FormTree, SideTree, Word};
 use gb_tree::program::{Statement, StatementShape, Statements, Target};
@@ -55,7 +56,7 @@ fn statement_shape(
         }
         StatementTail::Call(tail) => {
             let made = call(alloc, first, tail)?;
-            let call = Boxed::new(alloc, made)?;
+            let call = boxed_call(alloc, made)?;
             Ok(StatementShape::Call { target: None, call })
         }
     }

@@ -4,94 +4,29 @@ ghost use Rattle.std.specs.Prelude.{◌≡◌, ◌∷◌, IfOk, OnOk};
 ghost use Rattle.gb_value.specs.Sorted.{top, behind, option_on};
 ghost use Rattle.gb_value.specs.Form.{no_form, no_run};
 ghost use Rattle.gb_value.specs.Step.{no_pattern, no_rule, no_step, no_tactic};
-ghost use Rattle.gb_compose.specs.Step.{bodies, with_argument, seq_bounds, contract_on, contract_rule, fel_rule, call_rule};
+ghost use Rattle.gb_compose_program.specs.Step.{bodies, with_argument, seq_bounds, contract_on, contract_rule, fel_rule, call_rule};
 
-use crate::form::{optional_side, take_form};
-use crate::let_go::LetGo;
+use gb_compose::form::take_form;
+use gb_let_go::boxes::{
+    boxed_conseq, boxed_contract, boxed_fel_bounds, boxed_fel_counter, boxed_pattern, boxed_rule,
+    boxed_seq, boxed_step, boxed_tactic, boxed_transitivity,
+};
+use gb_let_go::stacks::{push, take, take_option};
 use gb_text::stack::Stack;
 use gb_text::terminal::Terminal;
 use gb_tree::form::{FormTree, FormTrees, Number, SideTree, Word};
-use gb_tree::judgment::ProcPath;
+use gb_tree::judgment::CallTree;
 use gb_tree::step::{
-    ArgumentTree, Bodies, CallRule, CombinedShape, CombinedStep, ConseqTree, Continuation,
-    Contract, Distance, FelBounds, FelCounter, Guard, Guards, Hint, LemmaUse, PatternTree,
-    Patterns, ProcPaths, RuleTree, SeqBounds, SeqTree, StepTree, Summand, TacticTree,
+    ArgumentTree, Bodies, CallRule, CombinedShape, CombinedStep, ConseqTree, Contract, FelBounds,
+    FelCounter, Guards, PatternTree, ProcPaths, RuleTree, SeqBounds, SeqTree, StepTree, TacticTree,
     TransitivityTree,
 };
 use gb_value::form::{Run, Suffix, no_run};
 use gb_value::path::no_place;
-use gb_value::step::{CallRest, FelRest, HaveRest, Pairing, no_pattern};
-use gb_value::take::{take, take_boxed, take_list, take_option};
+use gb_value::step::{CallRest, FelRest, no_pattern};
+use gb_value::take::take_list;
 use sqlite_items::{Boxed, Items};
 use std::alloc::{AllocError, Global};
-
-impl LetGo for TacticTree {
-    fn let_go(self) {}
-}
-
-impl LetGo for Continuation {
-    fn let_go(self) {}
-}
-
-impl LetGo for CombinedStep {
-    fn let_go(self) {}
-}
-
-impl LetGo for Option<Patterns> {
-    fn let_go(self) {}
-}
-
-impl LetGo for PatternTree {
-    fn let_go(self) {}
-}
-
-impl LetGo for Pairing {
-    fn let_go(self) {}
-}
-
-impl LetGo for Boxed<RuleTree> {
-    fn let_go(self) {}
-}
-
-impl LetGo for LemmaUse {
-    fn let_go(self) {}
-}
-
-impl LetGo for Stack<ArgumentTree> {
-    fn let_go(self) {}
-}
-
-impl LetGo for HaveRest {
-    fn let_go(self) {}
-}
-
-impl LetGo for CallRule {
-    fn let_go(self) {}
-}
-
-impl LetGo for CallRest {
-    fn let_go(self) {}
-}
-
-impl LetGo for Distance {
-    fn let_go(self) {}
-}
-
-impl LetGo for FelRest {
-    fn let_go(self) {}
-}
-
-impl LetGo for Guard {
-    fn let_go(self) {}
-}
-
-impl LetGo for Hint {
-    fn let_go(self) {}
-}
-
-impl LetGo for Summand {
-    fn let_go(self) {}
-}
 
 /// Puts a rule on its stack.
 pub fn push_rule(
@@ -101,8 +36,8 @@ pub fn push_rule(
 ) -> Result<(), AllocError>
     ensures { OnOk result (rules.new ≡ rule ∷ rules.old) }
 {
-    let rule = Boxed::new(alloc, rule)?;
-    rules.push(rule)
+    let rule = boxed_rule(alloc, rule)?;
+    push(rules, rule)
 }
 
 /// Takes a rule off; a fixed one where there is none.
@@ -113,13 +48,16 @@ pub fn take_rule(
     ensures top { IfOk result (λ r. r ≡ top no_rule rules.old) }
     ensures behind { rules.new ≡ behind rules.old }
 {
-    take_boxed(alloc, rules, RuleTree::Split)
+    match rules.pop() {
+        Some(rule) => Ok(rule),
+        None => boxed_rule(alloc, RuleTree::Split),
+    }
 }
 
 fn no_step(alloc: Global) -> Result<CombinedStep, AllocError>
     ensures { IfOk result (λ x. x ≡ no_step) }
 {
-    let rule = Boxed::new(alloc, RuleTree::Split)?;
+    let rule = boxed_rule(alloc, RuleTree::Split)?;
     let rule = StepTree {
         rule,
         place: no_place(),
@@ -153,7 +91,7 @@ pub fn take_boxed_step(
     ensures behind { combined.new ≡ behind combined.old }
 {
     let step = take_step(alloc, combined)?;
-    Boxed::new(alloc, step)
+    boxed_step(alloc, step)
 }
 
 fn no_tactic(alloc: Global) -> Result<TacticTree, AllocError>
@@ -186,7 +124,7 @@ pub fn take_boxed_tactic(
     ensures behind { tactics.new ≡ behind tactics.old }
 {
     let tactic = take_tactic(alloc, tactics)?;
-    Boxed::new(alloc, tactic)
+    boxed_tactic(alloc, tactic)
 }
 
 /// Takes two patterns off, in boxes; fixed ones where there are none.
@@ -200,8 +138,8 @@ pub fn take_two_patterns(
 {
     let first = take(patterns, no_pattern());
     let second = take(patterns, no_pattern());
-    let first = Boxed::new(alloc, first)?;
-    let second = Boxed::new(alloc, second)?;
+    let first = boxed_pattern(alloc, first)?;
+    let second = boxed_pattern(alloc, second)?;
     Ok((first, second))
 }
 
@@ -221,18 +159,7 @@ pub fn take_bodies(alloc: Global, side_lists: &mut Stack<Stack<SideTree>>) -> Bo
     ensures bodies { result ≡ bodies (option_on side_lists.old) }
     ensures behind { side_lists.new ≡ behind side_lists.old }
 {
-    bodies(optional_side(alloc, side_lists))
-}
-
-/// Takes a list of procedures off: its first element, if there is one.
-pub fn optional_procedure(
-    alloc: Global,
-    procedure_lists: &mut Stack<Stack<ProcPath>>,
-) -> Option<ProcPath>
-    ensures option { result ≡ option_on procedure_lists.old }
-    ensures behind { procedure_lists.new ≡ behind procedure_lists.old }
-{
-    take_option(alloc, procedure_lists)
+    bodies(take_option(alloc, side_lists))
 }
 
 /// Takes a run off: its arguments.
@@ -262,8 +189,8 @@ pub fn put_argument(
     ensures { OnOk result (argument_lists.new ≡ with_argument argument argument_lists.old) }
 {
     let mut list = take_list(alloc, argument_lists);
-    list.push(argument)?;
-    argument_lists.push(list)
+    push(&mut list, argument)?;
+    push(argument_lists, list)
 }
 
 /// Takes a precondition and a postcondition off; fixed ones where there are none.
@@ -287,7 +214,7 @@ pub fn contract_rule(
 ) -> Result<RuleTree, AllocError>
     ensures { IfOk result (λ r. r ≡ contract_rule terminal contract) }
 {
-    let contract = Boxed::new(alloc, contract)?;
+    let contract = boxed_contract(alloc, contract)?;
     match terminal {
         Terminal::ByPhoare => Ok(RuleTree::ByPhoare(contract)),
         _ => Ok(RuleTree::ByEquiv(contract)),
@@ -298,7 +225,7 @@ pub fn contract_rule(
 pub fn transitivity_rule(
     alloc: Global,
     bodies: Bodies,
-    procedure: ProcPath,
+    procedure: Boxed<CallTree>,
     forms: &mut Stack<Boxed<FormTree>>,
 ) -> Result<RuleTree, AllocError>
     ensures rule { IfOk result (λ r. r ≡ RuleTree.Transitivity (record { bodies = bodies; procedure = procedure; first = contract_on forms.old; second = contract_on (behind (behind forms.old)) })) }
@@ -306,7 +233,7 @@ pub fn transitivity_rule(
 {
     let first = take_contract(alloc, forms)?;
     let second = take_contract(alloc, forms)?;
-    let transitivity = Boxed::new(
+    let transitivity = boxed_transitivity(
         alloc,
         TransitivityTree {
             bodies,
@@ -332,7 +259,7 @@ pub fn seq_bounds(bounds: FormTrees, invariant: Option<Boxed<FormTree>>) -> Opti
 pub fn seq_rule(alloc: Global, seq: SeqTree) -> Result<RuleTree, AllocError>
     ensures { IfOk result (λ r. r ≡ RuleTree.Seq seq) }
 {
-    let seq = Boxed::new(alloc, seq)?;
+    let seq = boxed_seq(alloc, seq)?;
     Ok(RuleTree::Seq(seq))
 }
 
@@ -340,7 +267,7 @@ pub fn seq_rule(alloc: Global, seq: SeqTree) -> Result<RuleTree, AllocError>
 pub fn conseq_rule(alloc: Global, conseq: ConseqTree) -> Result<RuleTree, AllocError>
     ensures { IfOk result (λ r. r ≡ RuleTree.Conseq conseq) }
 {
-    let conseq = Boxed::new(alloc, conseq)?;
+    let conseq = boxed_conseq(alloc, conseq)?;
     Ok(RuleTree::Conseq(conseq))
 }
 
@@ -356,7 +283,7 @@ pub fn call_rule(
         CallRest::Invariant => Ok(CallRule::Invariant(form)),
         CallRest::Upto(invariant) => Ok(CallRule::Upto(form, invariant)),
         CallRest::Post(post) => {
-            let contract = Boxed::new(alloc, Contract { pre: form, post })?;
+            let contract = boxed_contract(alloc, Contract { pre: form, post })?;
             Ok(CallRule::Contract(contract))
         }
     }
@@ -424,7 +351,7 @@ pub fn fel_rule(alloc: Global, start: Number, rest: Option<FelRest>) -> Result<R
                 guards,
                 invariant,
             },
-        ) => Ok(RuleTree::FelCounter(Boxed::new(
+        ) => Ok(RuleTree::FelCounter(boxed_fel_counter(
             alloc,
             FelCounter {
                 start,
@@ -444,7 +371,7 @@ pub fn fel_rule(alloc: Global, start: Number, rest: Option<FelRest>) -> Result<R
                 bad,
                 invariant,
             },
-        ) => Ok(RuleTree::FelBounds(Boxed::new(
+        ) => Ok(RuleTree::FelBounds(boxed_fel_bounds(
             alloc,
             FelBounds {
                 start,

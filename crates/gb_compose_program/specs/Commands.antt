@@ -1,0 +1,48 @@
+-- The trees that productions of programs and commands make of the trees of their parts.
+use Rattle.std.specs.Prelude.{Bool, Option, Some, None, true, false}
+use Rattle.gb_table.specs.declared.rule.Keyword.{Keyword}
+use Rattle.gb_table.specs.declared.rule.Keyword.TheVariants as keyword_rule
+use Rattle.gb_table.specs.declared.rule.Named.{Named}
+use Rattle.gb_table.specs.declared.rule.Named.TheVariants as named_rule
+use Rattle.gb_table.specs.declared.rule.Stated.{Stated}
+use Rattle.gb_table.specs.declared.rule.Stated.TheVariants as stated_rule
+use Rattle.gb_tree.specs.declared.command.CommandShape.{CommandShape}
+use Rattle.gb_tree.specs.declared.command.CommandShape.TheVariants as CommandTree
+use Rattle.gb_tree.specs.declared.command.LemmaTree.{LemmaTree}
+use Rattle.gb_tree.specs.declared.form.Word.{Word}
+use Rattle.gb_value.specs.declared.program.ModuleRest.{ModuleRest}
+use Rattle.gb_value.specs.declared.program.ModuleRest.TheVariants as ModuleRests
+
+abbrev pub module_of : Word → ModuleRest → CommandShape
+module_of name (ModuleRests.Body parameters ty items) = CommandTree.«Module» (record { name = name; parameters = parameters; ty = ty; items = items })
+module_of name (ModuleRests.Alias expression) = CommandTree.ModuleAlias (record { name = name; «module» = expression })
+
+-- commands of a word or two
+abbrev pub keyword : Keyword → CommandShape
+keyword keyword_rule.Proof = CommandTree.Proof
+keyword keyword_rule.Qed = CommandTree.Qed
+keyword keyword_rule.Section = CommandTree.Section
+keyword keyword_rule.EndSection = CommandTree.EndSection
+
+-- commands that name what they are about
+abbrev pub named : Named → Word → CommandShape
+named named_rule.Termination name = CommandTree.Termination name
+named named_rule.Theory name = CommandTree.Theory name
+named named_rule.AbstractTheory name = CommandTree.AbstractTheory name
+named named_rule.EndTheory name = CommandTree.EndTheory name
+
+-- axioms and lemmas
+abbrev pub stated : Stated → LemmaTree → CommandShape
+stated stated_rule.Axiom lemma = CommandTree.Axiom lemma
+stated stated_rule.Lemma lemma = CommandTree.Lemma lemma
+
+-- A lemma or module behind `local` is a local one.
+abbrev pub local : CommandShape → CommandShape
+local (CommandTree.Lemma lemma) = CommandTree.LocalLemma lemma
+local (CommandTree.«Module» tree) = CommandTree.LocalModule tree
+local shape = shape
+
+-- whether `import` stands there
+abbrev pub imported : Option Word → Bool
+imported None = false
+imported (Some word) = true
