@@ -12,7 +12,8 @@ use Rattle.gb_tree.specs.declared.form.EquatedTree.TheVariants as EquatedOf
 use Rattle.gb_tree.specs.declared.form.FormShape.TheVariants as Shape
 use Rattle.gb_tree.specs.declared.judgment.SubjectTree.TheVariants as SubjectOf
 use Rattle.gb_value.specs.declared.form.BracketTail.TheVariants as Tails
-use Rattle.gb_value.specs.declared.values.Values.{Values}
+use Rattle.gb_value.specs.declared.program.ProgramValues.{ProgramValues}
+use Rattle.gb_value.specs.declared.values.Groups.{Groups}
 use Rattle.gb_value.specs.Form.{no_bracket_tail, no_call, no_call_tail, no_form, no_functor_call, no_subject}
 use Rattle.gb_value.specs.Path.{no_module, no_number, no_procedure, no_type, no_word}
 use Rattle.gb_value.specs.Sorted.{top, behind, list_on}
@@ -20,7 +21,7 @@ use Rattle.gb_compose.specs.Atoms.{phoare_at, bracketed, prefixed, constant, wei
 use Rattle.gb_compose.specs.Forms.{form_at, path_form}
 
 -- what the productions of atoms make
-abbrev pub atom_made : Text → AtomRule → ℕ → Values → Values
+abbrev pub atom_made : {P C T R : Type 0} → Text → AtomRule → ℕ → Groups P C T R → Groups P C T R
 atom_made t atom_rule.Constant at v = record v {
   formulas = record v.formulas {
     forms = record v.formulas.forms { one = form_at t at (constant (terminal_at t at)) ∷ v.formulas.forms.one };
@@ -124,7 +125,7 @@ atom_made t atom_rule.TypedFunction at v = record v {
 }
 
 -- what the productions of judgments make
-abbrev pub judgment_made : Text → JudgmentRule → ℕ → Values → Values
+abbrev pub judgment_made : {C T R : Type 0} → Text → JudgmentRule → ℕ → Groups ProgramValues C T R → Groups ProgramValues C T R
 judgment_made t judgment_rule.Hoare at v = record v {
   formulas = record v.formulas {
     forms = record v.formulas.forms { one = form_at t at (Shape.Hoare (top no_subject v.formulas.subjects) (top no_form v.formulas.forms.one) (top no_form (behind v.formulas.forms.one))) ∷ behind (behind v.formulas.forms.one) };
@@ -167,7 +168,7 @@ judgment_made t judgment_rule.BlockSubject at v = record v {
 }
 
 -- what the productions of calls make
-abbrev pub call_made : CallRule → Values → Values
+abbrev pub call_made : {P C T R : Type 0} → CallRule → Groups P C T R → Groups P C T R
 call_made call_rule.Call v = record v {
   paths = record v.paths { words = record v.paths.words { one = behind v.paths.words.one } };
   formulas = record v.formulas {

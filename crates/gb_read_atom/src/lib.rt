@@ -1,8 +1,5 @@
 //! What the productions of atoms, judgments and calls make.
 #![tactic(auto)]
 
-pub mod atoms;
-pub mod brackets;
-pub mod calls;
-pub mod judgments;
 pub mod make;
+mod trees;

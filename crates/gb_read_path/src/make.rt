@@ -1,39 +1,49 @@
 // What each production of words, types, binders and paths makes.
 
-ghost use Rattle.std.specs.Prelude.{◌≡◌, OnOk};
-ghost use Rattle.gb_read_path.specs.Makes.{word_made, type_made, bind_made, path_made};
+ghost use Rattle.gb_read_path.specs.Makes.{bind_made, path_made, type_made, word_made};
+ghost use Rattle.std.specs.Prelude.{OnOk, ◌≡◌};
 
-use crate::binds::{
-    make_bind, make_bound, make_formal, make_limit, make_memory, make_module_binder,
-    make_module_rest, make_typed, make_values,
+use crate::trees::{bracketed_type, functor_tail, integer, named_type, number_at, plain_type};
+use gb_compose::paths;
+use gb_compose::paths::{formal, longer_path, optional, procedure, product, take_type};
+use gb_compose::words::{dotted, oracle_path};
+use gb_let_go::boxes::{boxed_module, boxed_type};
+use gb_let_go::stacks::{push, take, take_option};
+use gb_table::rule::{Bind as BindRule, Path, Ty, Word as WordRule};
+use gb_text::text::{Text, place_at, terminal_at, word_at};
+use gb_tree::form::{Bind, Binder, Limit, ModuleBinder, Number, QueryBound, TypeShape, Word};
+use gb_tree::judgment::ModuleExpr;
+use gb_value::path::{
+    BindRest, PathValues, no_bind_rest, no_module, no_number, no_path_tail, no_word,
 };
-use crate::paths::{
-    make_dotted, make_end, make_module_expression, make_of_functor, make_procedure,
-};
-use crate::types::{
-    make_bits, make_bracketed, make_glob, make_integer, make_named, make_options, make_plain,
-    make_product,
-};
-use crate::words::{make_name, make_number, make_path};
-use gb_table::rule::{Bind, Path, Ty, Word};
-use gb_text::text::Text;
-use gb_value::path::PathValues;
+use gb_value::take::take_list;
 use std::alloc::{AllocError, Global};
 
 /// What the productions of words make.
 pub fn word(
     alloc: Global,
     text: &Text,
-    rule: Word,
+    rule: WordRule,
     at: usize,
     values: &mut PathValues,
 ) -> Result<(), AllocError>
     ensures { OnOk result (values.new ≡ word_made text.now rule at values.old) }
 {
     match rule {
-        Word::Name => make_name(alloc, text, at, &mut values.words.one),
-        Word::Number => make_number(alloc, text, at, &mut values.numbers.one),
-        Word::Path => make_path(alloc, &mut values.words.one, &mut values.words.lists),
+        WordRule::Name => {
+            let made = word_at(alloc, text, at)?;
+            push(&mut values.words.one, made)
+        }
+        WordRule::Number => {
+            let made = number_at(alloc, text, at)?;
+            push(&mut values.numbers.one, made)
+        }
+        WordRule::Path => {
+            let first = take(&mut values.words.one, no_word(alloc));
+            let more = take_list(alloc, &mut values.words.lists).into_items();
+            let made = dotted(alloc, first, more)?;
+            push(&mut values.words.one, made)
+        }
     }
 }
 
@@ -48,98 +58,124 @@ pub fn type_tree(
     ensures { OnOk result (values.new ≡ type_made text.now rule at values.old) }
 {
     match rule {
-        Ty::Product => make_product(alloc, &mut values.types.one, &mut values.types.lists),
-        Ty::Options => make_options(alloc, &mut values.types.one, &mut values.words.lists),
-        Ty::Plain => make_plain(alloc, text, at, &mut values.types.one),
-        Ty::Integer => make_integer(
-            alloc,
-            text,
-            at,
-            &mut values.numbers.lists,
-            &mut values.types.one,
-        ),
-        Ty::Bits => make_bits(
-            alloc,
-            text,
-            at,
-            &mut values.numbers.one,
-            &mut values.types.one,
-        ),
-        Ty::Named => make_named(alloc, &mut values.words.one, &mut values.types.one),
-        Ty::Bracketed => make_bracketed(
-            alloc,
-            text,
-            at,
-            &mut values.types.one,
-            &mut values.types.lists,
-        ),
-        Ty::Glob => make_glob(
-            alloc,
-            text,
-            at,
-            &mut values.modules.one,
-            &mut values.types.one,
-        ),
+        Ty::Product => {
+            let first = take_type(alloc, &mut values.types.one)?;
+            let more = take_list(alloc, &mut values.types.lists).into_items();
+            let made = product(alloc, first, more)?;
+            push(&mut values.types.one, made)
+        }
+        Ty::Options => {
+            let base = take_type(alloc, &mut values.types.one)?;
+            let marks = take_list(alloc, &mut values.words.lists).into_items();
+            let made = optional(alloc, base, marks)?;
+            push(&mut values.types.one, made)
+        }
+        Ty::Plain => {
+            let made = boxed_type(alloc, plain_type(terminal_at(text, at)), place_at(text, at))?;
+            push(&mut values.types.one, made)
+        }
+        Ty::Integer => {
+            let modulus = take_option(alloc, &mut values.numbers.lists);
+            let made = boxed_type(alloc, integer(modulus), place_at(text, at))?;
+            push(&mut values.types.one, made)
+        }
+        Ty::Bits => {
+            let width = take(&mut values.numbers.one, no_number(alloc));
+            let made = boxed_type(alloc, TypeShape::Bits(width), place_at(text, at))?;
+            push(&mut values.types.one, made)
+        }
+        Ty::Named => {
+            let path = take(&mut values.words.one, no_word(alloc));
+            let made = named_type(alloc, path)?;
+            push(&mut values.types.one, made)
+        }
+        Ty::Bracketed => {
+            let inner = take_type(alloc, &mut values.types.one)?;
+            let value = take_option(alloc, &mut values.types.lists);
+            let made = boxed_type(alloc, bracketed_type(inner, value), place_at(text, at))?;
+            push(&mut values.types.one, made)
+        }
+        Ty::Glob => {
+            let module = take(&mut values.modules.one, no_module(alloc));
+            let module = boxed_module(alloc, module)?;
+            let made = boxed_type(alloc, TypeShape::Glob(module), place_at(text, at))?;
+            push(&mut values.types.one, made)
+        }
     }
 }
 
 /// What the productions of binders make.
-pub fn bind(alloc: Global, rule: Bind, values: &mut PathValues) -> Result<(), AllocError>
+pub fn bind(alloc: Global, rule: BindRule, values: &mut PathValues) -> Result<(), AllocError>
     ensures { OnOk result (values.new ≡ bind_made rule values.old) }
 {
     match rule {
-        Bind::Bind => make_bind(
-            alloc,
-            &mut values.words.one,
-            &mut values.bind_rests,
-            &mut values.binds.one,
-        ),
-        Bind::Values => make_values(
-            alloc,
-            &mut values.words.lists,
-            &mut values.types.one,
-            &mut values.bind_rests,
-        ),
-        Bind::ModuleRest => make_module_rest(
-            alloc,
-            &mut values.words.one,
-            &mut values.words.lists,
-            &mut values.bounds.lists,
-            &mut values.bind_rests,
-        ),
-        Bind::Memory => make_memory(alloc, &mut values.words.one, &mut values.binds.one),
-        Bind::Module => make_module_binder(
-            alloc,
-            &mut values.words.one,
-            &mut values.words.lists,
-            &mut values.bounds.lists,
-            &mut values.module_binders,
-        ),
-        Bind::Bound => make_bound(
-            alloc,
-            &mut values.words.lists,
-            &mut values.limits.lists,
-            &mut values.bounds.one,
-        ),
-        Bind::Limit => make_limit(
-            alloc,
-            &mut values.words.one,
-            &mut values.words.lists,
-            &mut values.numbers.one,
-            &mut values.limits.one,
-        ),
-        Bind::Typed => make_typed(
-            alloc,
-            &mut values.words.lists,
-            &mut values.types.one,
-            &mut values.binders.one,
-        ),
-        Bind::Formal => make_formal(
-            alloc,
-            &mut values.words.one,
-            &mut values.types.one,
-            &mut values.binders.one,
-        ),
+        BindRule::Bind => {
+            let first = take(&mut values.words.one, no_word(alloc));
+            let rest = take(&mut values.bind_rests, no_bind_rest(alloc));
+            let made = paths::bind(alloc, first, rest)?;
+            push(&mut values.binds.one, made)
+        }
+        BindRule::Values => {
+            let ty = take_type(alloc, &mut values.types.one)?;
+            let names = take_list(alloc, &mut values.words.lists).into_items();
+            push(&mut values.bind_rests, BindRest::Values(names, ty))
+        }
+        BindRule::ModuleRest => {
+            let ty = take(&mut values.words.one, no_word(alloc));
+            let excluded = take_list(alloc, &mut values.words.lists).into_items();
+            let bounds = take_list(alloc, &mut values.bounds.lists).into_items();
+            push(
+                &mut values.bind_rests,
+                BindRest::Module {
+                    ty,
+                    excluded,
+                    bounds,
+                },
+            )
+        }
+        BindRule::Memory => {
+            let name = take(&mut values.words.one, no_word(alloc));
+            push(&mut values.binds.one, Bind::Memory(name))
+        }
+        BindRule::Module => {
+            let name = take(&mut values.words.one, no_word(alloc));
+            let ty = take(&mut values.words.one, no_word(alloc));
+            let excluded = take_list(alloc, &mut values.words.lists).into_items();
+            let bounds = take_list(alloc, &mut values.bounds.lists).into_items();
+            push(
+                &mut values.module_binders,
+                ModuleBinder {
+                    name,
+                    ty,
+                    excluded,
+                    bounds,
+                },
+            )
+        }
+        BindRule::Bound => {
+            let procedures = take_list(alloc, &mut values.words.lists).into_items();
+            let limits = take_list(alloc, &mut values.limits.lists).into_items();
+            push(&mut values.bounds.one, QueryBound { procedures, limits })
+        }
+        BindRule::Limit => {
+            let first = take(&mut values.words.one, no_word(alloc));
+            let second = take(&mut values.words.one, no_word(alloc));
+            let more = take_list(alloc, &mut values.words.lists).into_items();
+            let oracle = oracle_path(alloc, first, second, more)?;
+            let calls = take(&mut values.numbers.one, no_number(alloc));
+            push(&mut values.limits.one, Limit { oracle, calls })
+        }
+        BindRule::Typed => {
+            let ty = take_type(alloc, &mut values.types.one)?;
+            let names = take_list(alloc, &mut values.words.lists).into_items();
+            push(&mut values.binders.one, Binder { names, ty })
+        }
+        BindRule::Formal => {
+            let ty = take_type(alloc, &mut values.types.one)?;
+            let name = take(&mut values.words.one, no_word(alloc));
+            let made = formal(alloc, name, ty)?;
+            push(&mut values.binders.one, made)
+        }
     }
 }
 
@@ -148,25 +184,31 @@ pub fn path(alloc: Global, rule: Path, values: &mut PathValues) -> Result<(), Al
     ensures { OnOk result (values.new ≡ path_made rule values.old) }
 {
     match rule {
-        Path::Procedure => make_procedure(
-            alloc,
-            &mut values.words.one,
-            &mut values.path_tails,
-            &mut values.procedures.one,
-        ),
-        Path::Dotted => make_dotted(alloc, &mut values.words.one, &mut values.path_tails),
-        Path::End => make_end(alloc, &mut values.path_tails),
-        Path::OfFunctor => make_of_functor(
-            alloc,
-            &mut values.modules.lists,
-            &mut values.words.one,
-            &mut values.path_tails,
-        ),
-        Path::Module => make_module_expression(
-            alloc,
-            &mut values.words.one,
-            &mut values.modules.lists,
-            &mut values.modules.one,
-        ),
+        Path::Procedure => {
+            let first = take(&mut values.words.one, no_word(alloc));
+            let tail = take(&mut values.path_tails, no_path_tail(alloc));
+            let made = procedure(alloc, first, tail)?;
+            push(&mut values.procedures.one, made)
+        }
+        Path::Dotted => {
+            let word = take(&mut values.words.one, no_word(alloc));
+            let tail = take(&mut values.path_tails, no_path_tail(alloc));
+            let made = longer_path(word, tail)?;
+            push(&mut values.path_tails, made)
+        }
+        Path::End => push(&mut values.path_tails, no_path_tail(alloc)),
+        Path::OfFunctor => {
+            let arguments = take_list(alloc, &mut values.modules.lists).into_items();
+            let procedure = take(&mut values.words.one, no_word(alloc));
+            push(
+                &mut values.path_tails,
+                functor_tail(alloc, arguments, procedure),
+            )
+        }
+        Path::Module => {
+            let path = take(&mut values.words.one, no_word(alloc));
+            let arguments = take_list(alloc, &mut values.modules.lists).into_items();
+            push(&mut values.modules.one, ModuleExpr { path, arguments })
+        }
     }
 }

@@ -1,2 +1,1 @@
 pub mod Makes
-pub mod Trees

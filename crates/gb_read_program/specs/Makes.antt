@@ -26,9 +26,12 @@ use Rattle.gb_value.specs.declared.program.Action.TheVariants as Actions
 use Rattle.gb_value.specs.declared.program.Written.TheVariants as Writing
 use Rattle.gb_value.specs.declared.program.VariantName.TheVariants as VariantNames
 use Rattle.gb_value.specs.declared.program.ModuleRest.TheVariants as ModuleRests
-use Rattle.gb_value.specs.declared.values.Values.{Values}
-use Rattle.gb_compose.specs.Program.{writing, statement, longer_statement, loop_shape, suffix_variant, name_variant, typed_operator}
-use Rattle.gb_read_program.specs.Trees.{module_of, keyword, named, stated, local, imported}
+use Rattle.gb_value.specs.declared.program.CommandValues.{CommandValues}
+use Rattle.gb_value.specs.declared.program.ProgramValues.{ProgramValues}
+use Rattle.gb_value.specs.declared.step.TacticValues.{TacticValues}
+use Rattle.gb_value.specs.declared.values.Groups.{Groups}
+use Rattle.gb_compose_program.specs.Program.{writing, statement, longer_statement, loop_shape, suffix_variant, name_variant, typed_operator}
+use Rattle.gb_compose_program.specs.Commands.{module_of, keyword, named, stated, local, imported}
 use Rattle.gb_text.specs.Text.{place_at}
 use Rattle.gb_value.specs.Form.{no_call, no_call_tail, no_form, no_suffix}
 use Rattle.gb_value.specs.Path.{no_module, no_module_binder, no_number, no_type, no_word}
@@ -37,7 +40,7 @@ use Rattle.gb_value.specs.Sorted.{top, behind, list_on, option_on}
 use Rattle.gb_value.specs.Step.{no_tactic}
 
 -- what the productions of statements make
-abbrev pub program_made : Text → ProgramRule → ℕ → Values → Values
+abbrev pub program_made : {C T R : Type 0} → Text → ProgramRule → ℕ → Groups ProgramValues C T R → Groups ProgramValues C T R
 program_made t program_rule.Statement at v = record v { paths = record v.paths { words = record v.paths.words { one = behind v.paths.words.one } }; programs = record v.programs { statement_tails = behind v.programs.statement_tails; statements = record v.programs.statements { one = (statement (top no_word v.paths.words.one) (top no_statement_tail v.programs.statement_tails)) ∷ v.programs.statements.one } } }
 program_made t program_rule.Tuple at v = record v { paths = record v.paths { words = record v.paths.words { lists = behind v.paths.words.lists } }; programs = record v.programs { written = behind v.programs.written; statements = record v.programs.statements { one = (record { shape = writing (TargetOf.Tuple (list_on v.paths.words.lists)) (top no_written v.programs.written); place = place_at t at }) ∷ v.programs.statements.one } } }
 program_made t program_rule.If at v = record v { formulas = record v.formulas { forms = record v.formulas.forms { one = behind v.formulas.forms.one } }; programs = record v.programs { statements = record { lists = behind (behind v.programs.statements.lists); one = (record { shape = StatementTree.If (top no_form v.formulas.forms.one) (list_on v.programs.statements.lists) (list_on (behind v.programs.statements.lists)); place = place_at t at }) ∷ v.programs.statements.one } } }
@@ -51,7 +54,7 @@ program_made t program_rule.Value at v = record v { formulas = record v.formulas
 program_made t program_rule.Result at v = record v { formulas = record v.formulas { calls = behind v.formulas.calls }; programs = record v.programs { written = (Writing.Result (top no_call v.formulas.calls)) ∷ v.programs.written } }
 
 -- what the productions of the variants of loops make
-abbrev pub variant_made : LoopRule → Values → Values
+abbrev pub variant_made : {C T R : Type 0} → LoopRule → Groups ProgramValues C T R → Groups ProgramValues C T R
 variant_made loop_rule.Suffix v = record v { formulas = record v.formulas { suffixes = behind v.formulas.suffixes }; programs = record v.programs { variant_tails = (suffix_variant (top no_suffix v.formulas.suffixes) (top no_variant_tail v.programs.variant_tails)) ∷ behind v.programs.variant_tails } }
 variant_made loop_rule.Body v = record v { programs = record v.programs { statements = record v.programs.statements { lists = behind v.programs.statements.lists }; variant_tails = (record { suffixes = []; body = list_on v.programs.statements.lists }) ∷ v.programs.variant_tails } }
 variant_made loop_rule.Name v = record v { paths = record v.paths { words = record v.paths.words { one = behind v.paths.words.one } }; programs = record v.programs { variant_names = behind v.programs.variant_names; variant_tails = (name_variant (top no_word v.paths.words.one) (top no_variant_name v.programs.variant_names)) ∷ v.programs.variant_tails } }
@@ -59,13 +62,13 @@ variant_made loop_rule.Memory v = record v { programs = record v.programs { vari
 variant_made loop_rule.Statements v = record v { programs = record v.programs { statement_tails = behind v.programs.statement_tails; statements = record v.programs.statements { lists = behind v.programs.statements.lists }; variant_names = (VariantNames.Statements (top no_statement_tail v.programs.statement_tails) (list_on v.programs.statements.lists)) ∷ v.programs.variant_names } }
 
 -- what the productions of modules make
-abbrev pub module_made : ModuleRule → Values → Values
-module_made module_rule.«Module» v = record v { paths = record v.paths { words = record v.paths.words { one = behind v.paths.words.one } }; programs = record v.programs { module_rests = behind v.programs.module_rests; shapes = (module_of (top no_word v.paths.words.one) (top no_module_rest v.programs.module_rests)) ∷ v.programs.shapes } }
+abbrev pub module_made : {T R : Type 0} → ModuleRule → Groups ProgramValues CommandValues T R → Groups ProgramValues CommandValues T R
+module_made module_rule.«Module» v = record v { paths = record v.paths { words = record v.paths.words { one = behind v.paths.words.one } }; programs = record v.programs { module_rests = behind v.programs.module_rests }; commands = record v.commands { shapes = (module_of (top no_word v.paths.words.one) (top no_module_rest v.programs.module_rests)) ∷ v.commands.shapes } }
 module_made module_rule.Body v = record v { programs = record v.programs { parameters = record v.programs.parameters { lists = behind v.programs.parameters.lists }; items = record v.programs.items { lists = behind v.programs.items.lists }; module_rests = (ModuleRests.Body (list_on v.programs.parameters.lists) (option_on v.paths.words.lists) (list_on v.programs.items.lists)) ∷ v.programs.module_rests }; paths = record v.paths { words = record v.paths.words { lists = behind v.paths.words.lists } } }
 module_made module_rule.Ascribed v = record v { paths = record v.paths { words = record v.paths.words { one = behind v.paths.words.one } }; programs = record v.programs { parameters = record v.programs.parameters { lists = behind v.programs.parameters.lists }; items = record v.programs.items { lists = behind v.programs.items.lists }; module_rests = (ModuleRests.Body (list_on v.programs.parameters.lists) (Some (top no_word v.paths.words.one)) (list_on v.programs.items.lists)) ∷ v.programs.module_rests } }
 module_made module_rule.Plain v = record v { programs = record v.programs { items = record v.programs.items { lists = behind v.programs.items.lists }; module_rests = (ModuleRests.Body [] None (list_on v.programs.items.lists)) ∷ v.programs.module_rests } }
 module_made module_rule.Alias v = record v { paths = record v.paths { modules = record v.paths.modules { one = behind v.paths.modules.one } }; programs = record v.programs { module_rests = (ModuleRests.Alias (top no_module v.paths.modules.one)) ∷ v.programs.module_rests } }
-module_made module_rule.«Type» v = record v { paths = record v.paths { words = record v.paths.words { one = behind v.paths.words.one } }; programs = record v.programs { parameters = record v.programs.parameters { lists = behind v.programs.parameters.lists }; signatures = record v.programs.signatures { lists = behind v.programs.signatures.lists }; shapes = (CommandTree.ModuleType (record { name = top no_word v.paths.words.one; parameters = list_on v.programs.parameters.lists; signatures = list_on v.programs.signatures.lists })) ∷ v.programs.shapes } }
+module_made module_rule.«Type» v = record v { paths = record v.paths { words = record v.paths.words { one = behind v.paths.words.one } }; programs = record v.programs { parameters = record v.programs.parameters { lists = behind v.programs.parameters.lists }; signatures = record v.programs.signatures { lists = behind v.programs.signatures.lists } }; commands = record v.commands { shapes = (CommandTree.ModuleType (record { name = top no_word v.paths.words.one; parameters = list_on v.programs.parameters.lists; signatures = list_on v.programs.signatures.lists })) ∷ v.commands.shapes } }
 module_made module_rule.Parameter v = record v { paths = record v.paths { words = record v.paths.words { one = behind (behind v.paths.words.one) } }; programs = record v.programs { parameters = record v.programs.parameters { one = (record { name = top no_word v.paths.words.one; ty = top no_word (behind v.paths.words.one) }) ∷ v.programs.parameters.one } } }
 module_made module_rule.Signature v = record v { paths = record v.paths { words = record v.paths.words { one = behind v.paths.words.one }; binders = record v.paths.binders { lists = behind v.paths.binders.lists }; types = record v.paths.types { lists = behind v.paths.types.lists } }; programs = record v.programs { oracle_options = behind v.programs.oracle_options; signatures = record v.programs.signatures { one = (record { name = top no_word v.paths.words.one; parameters = list_on v.paths.binders.lists; result = option_on v.paths.types.lists; oracles = top None v.programs.oracle_options }) ∷ v.programs.signatures.one } } }
 module_made module_rule.AllOracles v = record v { programs = record v.programs { oracle_options = None ∷ v.programs.oracle_options } }
@@ -75,38 +78,38 @@ module_made module_rule.Globals v = record v { paths = record v.paths { words = 
 module_made module_rule.Procedure v = record v { paths = record v.paths { words = record v.paths.words { one = behind v.paths.words.one }; binders = record v.paths.binders { lists = behind (behind v.paths.binders.lists) }; types = record v.paths.types { lists = behind v.paths.types.lists } }; programs = record v.programs { statements = record v.programs.statements { lists = behind v.programs.statements.lists }; items = record v.programs.items { one = (ItemOf.Proc (record { name = top no_word v.paths.words.one; parameters = list_on v.paths.binders.lists; result = option_on v.paths.types.lists; locals = list_on (behind v.paths.binders.lists); body = list_on v.programs.statements.lists; value = option_on v.formulas.forms.lists })) ∷ v.programs.items.one } }; formulas = record v.formulas { forms = record v.formulas.forms { lists = behind v.formulas.forms.lists } } }
 
 -- what the productions of types, operators and clones make
-abbrev pub definition_made : DefinitionRule → Values → Values
-definition_made definition_rule.AbstractType v = record v { programs = record v.programs { type_definitions = TypeOf.Abstract ∷ v.programs.type_definitions } }
-definition_made definition_rule.Alias v = record v { paths = record v.paths { types = record v.paths.types { one = behind v.paths.types.one } }; programs = record v.programs { type_definitions = (TypeOf.Alias (top no_type v.paths.types.one)) ∷ v.programs.type_definitions } }
-definition_made definition_rule.Enumeration v = record v { paths = record v.paths { words = record v.paths.words { lists = behind v.paths.words.lists } }; programs = record v.programs { type_definitions = (TypeOf.Enumeration (list_on v.paths.words.lists)) ∷ v.programs.type_definitions } }
-definition_made definition_rule.Defined v = record v { paths = record v.paths { binders = record v.paths.binders { lists = behind v.paths.binders.lists }; types = record v.paths.types { lists = behind v.paths.types.lists } }; formulas = record v.formulas { forms = record v.formulas.forms { one = behind v.formulas.forms.one } }; programs = record v.programs { operator_definitions = (OperatorOf.Defined (list_on v.paths.binders.lists) (option_on v.paths.types.lists) (top no_form v.formulas.forms.one)) ∷ v.programs.operator_definitions } }
-definition_made definition_rule.Constant v = record v { formulas = record v.formulas { forms = record v.formulas.forms { one = behind v.formulas.forms.one } }; programs = record v.programs { operator_definitions = (OperatorOf.Defined [] None (top no_form v.formulas.forms.one)) ∷ v.programs.operator_definitions } }
-definition_made definition_rule.Typed v = record v { paths = record v.paths { types = record v.paths.types { one = behind v.paths.types.one } }; programs = record v.programs { operator_definitions = (typed_operator (top no_type v.paths.types.one) (top no_operator_definition v.programs.operator_definitions)) ∷ behind v.programs.operator_definitions } }
-definition_made definition_rule.Abstract v = record v { paths = record v.paths { types = record v.paths.types { lists = behind v.paths.types.lists } }; programs = record v.programs { operator_definitions = (OperatorOf.Abstract (list_on v.paths.types.lists)) ∷ v.programs.operator_definitions } }
-definition_made definition_rule.TypeSubstitution v = record v { paths = record v.paths { words = record v.paths.words { one = behind v.paths.words.one }; types = record v.paths.types { one = behind v.paths.types.one } }; programs = record v.programs { substitutions = record v.programs.substitutions { one = (SubstitutionOf.«Type» (top no_word v.paths.words.one) (top no_type v.paths.types.one)) ∷ v.programs.substitutions.one } } }
-definition_made definition_rule.OperatorSubstitution v = record v { paths = record v.paths { words = record v.paths.words { one = behind v.paths.words.one } }; formulas = record v.formulas { forms = record v.formulas.forms { one = behind v.formulas.forms.one } }; programs = record v.programs { substitutions = record v.programs.substitutions { one = (SubstitutionOf.Operator (top no_word v.paths.words.one) (top no_form v.formulas.forms.one)) ∷ v.programs.substitutions.one } } }
-definition_made definition_rule.Realisation v = record v { paths = record v.paths { words = record v.paths.words { one = behind v.paths.words.one } }; steps = record v.steps { tactics = record v.steps.tactics { one = behind v.steps.tactics.one } }; programs = record v.programs { realisations = record v.programs.realisations { one = (record { «axiom» = top no_word v.paths.words.one; proof = top no_tactic v.steps.tactics.one }) ∷ v.programs.realisations.one } } }
+abbrev pub definition_made : {P R : Type 0} → DefinitionRule → Groups P CommandValues TacticValues R → Groups P CommandValues TacticValues R
+definition_made definition_rule.AbstractType v = record v { commands = record v.commands { type_definitions = TypeOf.Abstract ∷ v.commands.type_definitions } }
+definition_made definition_rule.Alias v = record v { paths = record v.paths { types = record v.paths.types { one = behind v.paths.types.one } }; commands = record v.commands { type_definitions = (TypeOf.Alias (top no_type v.paths.types.one)) ∷ v.commands.type_definitions } }
+definition_made definition_rule.Enumeration v = record v { paths = record v.paths { words = record v.paths.words { lists = behind v.paths.words.lists } }; commands = record v.commands { type_definitions = (TypeOf.Enumeration (list_on v.paths.words.lists)) ∷ v.commands.type_definitions } }
+definition_made definition_rule.Defined v = record v { paths = record v.paths { binders = record v.paths.binders { lists = behind v.paths.binders.lists }; types = record v.paths.types { lists = behind v.paths.types.lists } }; formulas = record v.formulas { forms = record v.formulas.forms { one = behind v.formulas.forms.one } }; commands = record v.commands { operator_definitions = (OperatorOf.Defined (list_on v.paths.binders.lists) (option_on v.paths.types.lists) (top no_form v.formulas.forms.one)) ∷ v.commands.operator_definitions } }
+definition_made definition_rule.Constant v = record v { formulas = record v.formulas { forms = record v.formulas.forms { one = behind v.formulas.forms.one } }; commands = record v.commands { operator_definitions = (OperatorOf.Defined [] None (top no_form v.formulas.forms.one)) ∷ v.commands.operator_definitions } }
+definition_made definition_rule.Typed v = record v { paths = record v.paths { types = record v.paths.types { one = behind v.paths.types.one } }; commands = record v.commands { operator_definitions = (typed_operator (top no_type v.paths.types.one) (top no_operator_definition v.commands.operator_definitions)) ∷ behind v.commands.operator_definitions } }
+definition_made definition_rule.Abstract v = record v { paths = record v.paths { types = record v.paths.types { lists = behind v.paths.types.lists } }; commands = record v.commands { operator_definitions = (OperatorOf.Abstract (list_on v.paths.types.lists)) ∷ v.commands.operator_definitions } }
+definition_made definition_rule.TypeSubstitution v = record v { paths = record v.paths { words = record v.paths.words { one = behind v.paths.words.one }; types = record v.paths.types { one = behind v.paths.types.one } }; commands = record v.commands { substitutions = record v.commands.substitutions { one = (SubstitutionOf.«Type» (top no_word v.paths.words.one) (top no_type v.paths.types.one)) ∷ v.commands.substitutions.one } } }
+definition_made definition_rule.OperatorSubstitution v = record v { paths = record v.paths { words = record v.paths.words { one = behind v.paths.words.one } }; formulas = record v.formulas { forms = record v.formulas.forms { one = behind v.formulas.forms.one } }; commands = record v.commands { substitutions = record v.commands.substitutions { one = (SubstitutionOf.Operator (top no_word v.paths.words.one) (top no_form v.formulas.forms.one)) ∷ v.commands.substitutions.one } } }
+definition_made definition_rule.Realisation v = record v { paths = record v.paths { words = record v.paths.words { one = behind v.paths.words.one } }; tactics = record v.tactics { tactics = record v.tactics.tactics { one = behind v.tactics.tactics.one } }; commands = record v.commands { realisations = record v.commands.realisations { one = (record { «axiom» = top no_word v.paths.words.one; proof = top no_tactic v.tactics.tactics.one }) ∷ v.commands.realisations.one } } }
 
 -- what the productions of commands make
-abbrev pub command_made : Text → CommandRule → ℕ → Values → Values
-command_made t command_rule.Declaration at v = record v { programs = record v.programs { shapes = behind v.programs.shapes; commands = (record { shape = top no_shape v.programs.shapes; place = place_at t at }) ∷ v.programs.commands } }
-command_made t command_rule.Tactic at v = record v { steps = record v.steps { tactics = record v.steps.tactics { one = behind v.steps.tactics.one } }; programs = record v.programs { commands = (record { shape = CommandTree.Tactic (top no_tactic v.steps.tactics.one); place = place_at t at }) ∷ v.programs.commands } }
-command_made t command_rule.Undo at v = record v { paths = record v.paths { numbers = record v.paths.numbers { one = behind v.paths.numbers.one } }; programs = record v.programs { commands = (record { shape = CommandTree.Undo (top no_number v.paths.numbers.one); place = place_at t at }) ∷ v.programs.commands } }
-command_made t command_rule.Require at v = record v { paths = record v.paths { words = record v.paths.words { lists = behind (behind v.paths.words.lists) } }; programs = record v.programs { shapes = (CommandTree.Require (record { imported = imported (option_on v.paths.words.lists); names = list_on (behind v.paths.words.lists) })) ∷ v.programs.shapes } }
-command_made t command_rule.«Type» at v = record v { paths = record v.paths { words = record v.paths.words { one = behind v.paths.words.one } }; programs = record v.programs { type_definitions = behind v.programs.type_definitions; shapes = (CommandTree.«Type» (record { name = top no_word v.paths.words.one; definition = top no_type_definition v.programs.type_definitions })) ∷ v.programs.shapes } }
-command_made t command_rule.Operator at v = record v { paths = record v.paths { words = record v.paths.words { one = behind v.paths.words.one } }; programs = record v.programs { operator_definitions = behind v.programs.operator_definitions; shapes = (CommandTree.Operator (record { name = top no_word v.paths.words.one; definition = top no_operator_definition v.programs.operator_definitions })) ∷ v.programs.shapes } }
-command_made t command_rule.Local at v = record v { programs = record v.programs { shapes = (local (top no_shape v.programs.shapes)) ∷ behind v.programs.shapes } }
-command_made t command_rule.Declare at v = record v { paths = record v.paths { module_binders = behind v.paths.module_binders }; programs = record v.programs { shapes = (CommandTree.Declare (top no_module_binder v.paths.module_binders)) ∷ v.programs.shapes } }
-command_made t command_rule.Clone at v = record v { paths = record v.paths { words = record { lists = behind v.paths.words.lists; one = behind (behind v.paths.words.one) } }; programs = record v.programs { substitutions = record v.programs.substitutions { lists = behind v.programs.substitutions.lists }; realisations = record v.programs.realisations { lists = behind v.programs.realisations.lists }; shapes = (CommandTree.Clone (record { imported = imported (option_on v.paths.words.lists); theory = top no_word v.paths.words.one; name = top no_word (behind v.paths.words.one); substitutions = list_on v.programs.substitutions.lists; realisations = list_on v.programs.realisations.lists })) ∷ v.programs.shapes } }
+abbrev pub command_made : {P R : Type 0} → Text → CommandRule → ℕ → Groups P CommandValues TacticValues R → Groups P CommandValues TacticValues R
+command_made t command_rule.Declaration at v = record v { commands = record v.commands { shapes = behind v.commands.shapes; commands = (record { shape = top no_shape v.commands.shapes; place = place_at t at }) ∷ v.commands.commands } }
+command_made t command_rule.Tactic at v = record v { tactics = record v.tactics { tactics = record v.tactics.tactics { one = behind v.tactics.tactics.one } }; commands = record v.commands { commands = (record { shape = CommandTree.Tactic (top no_tactic v.tactics.tactics.one); place = place_at t at }) ∷ v.commands.commands } }
+command_made t command_rule.Undo at v = record v { paths = record v.paths { numbers = record v.paths.numbers { one = behind v.paths.numbers.one } }; commands = record v.commands { commands = (record { shape = CommandTree.Undo (top no_number v.paths.numbers.one); place = place_at t at }) ∷ v.commands.commands } }
+command_made t command_rule.Require at v = record v { paths = record v.paths { words = record v.paths.words { lists = behind (behind v.paths.words.lists) } }; commands = record v.commands { shapes = (CommandTree.Require (record { imported = imported (option_on v.paths.words.lists); names = list_on (behind v.paths.words.lists) })) ∷ v.commands.shapes } }
+command_made t command_rule.«Type» at v = record v { paths = record v.paths { words = record v.paths.words { one = behind v.paths.words.one } }; commands = record v.commands { type_definitions = behind v.commands.type_definitions; shapes = (CommandTree.«Type» (record { name = top no_word v.paths.words.one; definition = top no_type_definition v.commands.type_definitions })) ∷ v.commands.shapes } }
+command_made t command_rule.Operator at v = record v { paths = record v.paths { words = record v.paths.words { one = behind v.paths.words.one } }; commands = record v.commands { operator_definitions = behind v.commands.operator_definitions; shapes = (CommandTree.Operator (record { name = top no_word v.paths.words.one; definition = top no_operator_definition v.commands.operator_definitions })) ∷ v.commands.shapes } }
+command_made t command_rule.Local at v = record v { commands = record v.commands { shapes = (local (top no_shape v.commands.shapes)) ∷ behind v.commands.shapes } }
+command_made t command_rule.Declare at v = record v { paths = record v.paths { module_binders = behind v.paths.module_binders }; commands = record v.commands { shapes = (CommandTree.Declare (top no_module_binder v.paths.module_binders)) ∷ v.commands.shapes } }
+command_made t command_rule.Clone at v = record v { paths = record v.paths { words = record { lists = behind v.paths.words.lists; one = behind (behind v.paths.words.one) } }; commands = record v.commands { substitutions = record v.commands.substitutions { lists = behind v.commands.substitutions.lists }; realisations = record v.commands.realisations { lists = behind v.commands.realisations.lists }; shapes = (CommandTree.Clone (record { imported = imported (option_on v.paths.words.lists); theory = top no_word v.paths.words.one; name = top no_word (behind v.paths.words.one); substitutions = list_on v.commands.substitutions.lists; realisations = list_on v.commands.realisations.lists })) ∷ v.commands.shapes } }
 
 -- what axioms and lemmas make
-abbrev pub stated_made : Stated → Values → Values
-stated_made rule v = record v { paths = record v.paths { words = record v.paths.words { one = behind v.paths.words.one }; binds = record v.paths.binds { lists = behind v.paths.binds.lists } }; formulas = record v.formulas { forms = record v.formulas.forms { one = behind v.formulas.forms.one } }; programs = record v.programs { shapes = (stated rule (record { name = top no_word v.paths.words.one; binders = list_on v.paths.binds.lists; statement = top no_form v.formulas.forms.one })) ∷ v.programs.shapes } }
+abbrev pub stated_made : {P T R : Type 0} → Stated → Groups P CommandValues T R → Groups P CommandValues T R
+stated_made rule v = record v { paths = record v.paths { words = record v.paths.words { one = behind v.paths.words.one }; binds = record v.paths.binds { lists = behind v.paths.binds.lists } }; formulas = record v.formulas { forms = record v.formulas.forms { one = behind v.formulas.forms.one } }; commands = record v.commands { shapes = (stated rule (record { name = top no_word v.paths.words.one; binders = list_on v.paths.binds.lists; statement = top no_form v.formulas.forms.one })) ∷ v.commands.shapes } }
 
 -- what the commands that name what they are about make
-abbrev pub named_made : Named → Values → Values
-named_made rule v = record v { paths = record v.paths { words = record v.paths.words { one = behind v.paths.words.one } }; programs = record v.programs { shapes = (named rule (top no_word v.paths.words.one)) ∷ v.programs.shapes } }
+abbrev pub named_made : {P T R : Type 0} → Named → Groups P CommandValues T R → Groups P CommandValues T R
+named_made rule v = record v { paths = record v.paths { words = record v.paths.words { one = behind v.paths.words.one } }; commands = record v.commands { shapes = (named rule (top no_word v.paths.words.one)) ∷ v.commands.shapes } }
 
 -- what the commands of a word or two make
-abbrev pub keyword_made : Keyword → Values → Values
-keyword_made rule v = record v { programs = record v.programs { shapes = (keyword rule) ∷ v.programs.shapes } }
+abbrev pub keyword_made : {P T R : Type 0} → Keyword → Groups P CommandValues T R → Groups P CommandValues T R
+keyword_made rule v = record v { commands = record v.commands { shapes = (keyword rule) ∷ v.commands.shapes } }

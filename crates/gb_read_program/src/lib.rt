@@ -2,7 +2,4 @@
 #![tactic(auto)]
 
 pub mod commands;
-pub mod definitions;
-pub mod make;
-pub mod modules;
-pub mod statements;
+pub mod programs;

@@ -11,7 +11,7 @@ use Rattle.gb_text.specs.declared.terminal.Terminal.TheVariants as terminal
 use Rattle.gb_tree.specs.declared.form.FormTree.{FormTree}
 use Rattle.gb_tree.specs.declared.form.Number.{Number}
 use Rattle.gb_tree.specs.declared.form.Word.{Word}
-use Rattle.gb_tree.specs.declared.judgment.ProcPath.{ProcPath}
+use Rattle.gb_tree.specs.declared.judgment.CallTree.{CallTree}
 use Rattle.gb_tree.specs.declared.step.ArgumentTree.TheVariants as Argument
 use Rattle.gb_tree.specs.declared.step.Bodies.{Bodies}
 use Rattle.gb_tree.specs.declared.step.Contract.{Contract}
@@ -94,7 +94,7 @@ abbrev pub conseq_rule : Bodies → Option FormTree → Option FormTree → Opti
 conseq_rule b pre post bound = Rule.Conseq (record { bodies = b; pre = pre; post = post; bound = bound })
 
 -- `transitivity` with what it is given
-abbrev pub transitivity_rule : Bodies → ProcPath → Contract → Contract → RuleTree
+abbrev pub transitivity_rule : Bodies → CallTree → Contract → Contract → RuleTree
 transitivity_rule b p first second = Rule.Transitivity (record { bodies = b; procedure = p; first = first; second = second })
 
 -- `eager call` and `eager while`

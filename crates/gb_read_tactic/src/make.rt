@@ -1,158 +1,210 @@
 // What each production of tactics, patterns and lemmas makes.
 
-ghost use Rattle.std.specs.Prelude.{◌≡◌, OnOk};
-ghost use Rattle.gb_read_tactic.specs.Makes.{pattern_made, tactic_made, argument_made};
+ghost use Rattle.gb_read_tactic.specs.Makes.{argument_made, pattern_made, tactic_made};
+ghost use Rattle.std.specs.Prelude.{OnOk, ◌≡◌};
 
-use crate::arguments::{
-    make_coin_argument, make_end_of_arguments, make_form_argument, make_lemma,
-    make_memory_argument, make_post,
+use crate::trees::{
+    combined_at, pair_pattern, pairing, pattern_at, plain_pattern, prefixed, ruled, word_pattern,
 };
-use crate::patterns::{make_pair, make_plain_pattern, make_second, make_word_pattern};
-use crate::tactics::{
-    make_branches, make_group, make_introduction, make_next, make_no_introduction, make_prefix,
-    make_repeat, make_rule, make_tactic,
+use gb_compose::form::take_form;
+use gb_compose::trees::{coin_before, suffixed};
+use gb_compose_program::step::{
+    put_argument, take_boxed_step, take_boxed_tactic, take_rule, take_step, take_suffixes,
+    take_two_patterns,
 };
+use gb_let_go::let_go::LetGo;
+use gb_let_go::stacks::{push, take};
 use gb_table::rule::{Argument, Pattern, Tactic};
-use gb_text::text::Text;
-use gb_value::values::Values;
+use gb_text::stack::Stack;
+use gb_text::text::{Text, place_at, terminal_at};
+use gb_tree::form::Word;
+use gb_tree::step::{ArgumentTree, CombinedShape, Continuation, LemmaUse, TacticTree};
+use gb_value::form::no_run;
+use gb_value::path::{no_number, no_word};
+use gb_value::step::{Pairing, RuleValues, TacticValues};
+use gb_value::take::take_list;
+use gb_value::values::Groups;
 use std::alloc::{AllocError, Global};
 
 /// What the productions of patterns make.
-pub fn pattern(
+pub fn pattern<P, C, R>(
     alloc: Global,
     text: &Text,
     rule: Pattern,
     at: usize,
-    values: &mut Values,
+    values: &mut Groups<P, C, TacticValues, R>,
 ) -> Result<(), AllocError>
     ensures { OnOk result (values.new ≡ pattern_made text.now rule at values.old) }
 {
     match rule {
-        Pattern::Word => make_word_pattern(
-            alloc,
-            text,
-            at,
-            &mut values.paths.words.one,
-            &mut values.steps.patterns.one,
-        ),
-        Pattern::Plain => make_plain_pattern(text, at, &mut values.steps.patterns.one),
-        Pattern::Pair => make_pair(
-            alloc,
-            text,
-            at,
-            &mut values.steps.pairings,
-            &mut values.steps.patterns.one,
-        ),
-        Pattern::Second => make_second(text, at, &mut values.steps.pairings),
+        // A name, or `&` and the name of a memory.
+        Pattern::Word => {
+            let word = take(&mut values.paths.words.one, no_word(alloc));
+            push(
+                &mut values.tactics.patterns.one,
+                pattern_at(text, at, word_pattern(terminal_at(text, at), word)),
+            )
+        }
+        // `_`, `//` and `/#`.
+        Pattern::Plain => {
+            push(
+                &mut values.tactics.patterns.one,
+                pattern_at(text, at, plain_pattern(terminal_at(text, at))),
+            )
+        }
+        // `[p q]` and `[p | q]`.
+        Pattern::Pair => {
+            let (first, second) = take_two_patterns(alloc, &mut values.tactics.patterns.one)?;
+            let pairing = take(&mut values.tactics.pairings, Pairing::Both);
+            push(
+                &mut values.tactics.patterns.one,
+                pattern_at(text, at, pair_pattern(pairing, first, second)),
+            )
+        }
+        // What the second one of two patterns in square brackets makes them.
+        Pattern::Second => push(&mut values.tactics.pairings, pairing(terminal_at(text, at))),
     }
 }
 
 /// What the productions of proof steps with combinators make.
-pub fn tactic(
+pub fn tactic<P, C>(
     alloc: Global,
     text: &Text,
     rule: Tactic,
     at: usize,
-    values: &mut Values,
+    values: &mut Groups<P, C, TacticValues, RuleValues>,
 ) -> Result<(), AllocError>
     ensures { OnOk result (values.new ≡ tactic_made text.now rule at values.old) }
 {
     match rule {
-        Tactic::Tactic => make_tactic(
-            alloc,
-            &mut values.steps.combined,
-            &mut values.steps.continuations.lists,
-            &mut values.steps.tactics.one,
-        ),
-        Tactic::Next => make_next(
-            alloc,
-            &mut values.steps.combined,
-            &mut values.steps.continuations.one,
-        ),
-        Tactic::Branches => make_branches(
-            alloc,
-            text,
-            at,
-            &mut values.steps.tactics.lists,
-            &mut values.steps.continuations.one,
-        ),
-        Tactic::Prefix => make_prefix(alloc, text, at, &mut values.steps.combined),
-        Tactic::Repeat => make_repeat(
-            alloc,
-            text,
-            at,
-            &mut values.paths.numbers.one,
-            &mut values.steps.combined,
-        ),
-        Tactic::Group => make_group(
-            alloc,
-            text,
-            at,
-            &mut values.steps.tactics.one,
-            &mut values.steps.combined,
-        ),
-        Tactic::Rule => make_rule(
-            alloc,
-            text,
-            at,
-            &mut values.steps.rules,
-            &mut values.steps.introductions,
-            &mut values.steps.combined,
-        ),
-        Tactic::NoIntroduction => make_no_introduction(&mut values.steps.introductions),
-        Tactic::Introduction => make_introduction(
-            alloc,
-            &mut values.steps.patterns.lists,
-            &mut values.steps.introductions,
-        ),
+        // A step with what follows it.
+        Tactic::Tactic => {
+            let first = take_step(alloc, &mut values.tactics.combined)?;
+            let more = take_list(alloc, &mut values.tactics.continuations.lists).into_items();
+            push(&mut values.tactics.tactics.one, TacticTree { first, more })
+        }
+        // `; t`.
+        Tactic::Next => {
+            let step = take_step(alloc, &mut values.tactics.combined)?;
+            push(
+                &mut values.tactics.continuations.one,
+                Continuation::Each(step),
+            )
+        }
+        // `; [t | u]`.
+        Tactic::Branches => {
+            let branches = take_list(alloc, &mut values.tactics.tactics.lists).into_items();
+            push(
+                &mut values.tactics.continuations.one,
+                Continuation::Branches(branches, place_at(text, at)),
+            )
+        }
+        // `by t` and `try t`.
+        Tactic::Prefix => {
+            let step = take_boxed_step(alloc, &mut values.tactics.combined)?;
+            push(
+                &mut values.tactics.combined,
+                combined_at(text, at, prefixed(terminal_at(text, at), step)),
+            )
+        }
+        // `do n! t`.
+        Tactic::Repeat => {
+            let step = take_boxed_step(alloc, &mut values.tactics.combined)?;
+            let count = take(&mut values.paths.numbers.one, no_number(alloc));
+            push(
+                &mut values.tactics.combined,
+                combined_at(text, at, CombinedShape::Repeat(count, step)),
+            )
+        }
+        // `(t)`.
+        Tactic::Group => {
+            let tactic = take_boxed_tactic(alloc, &mut values.tactics.tactics.one)?;
+            push(
+                &mut values.tactics.combined,
+                combined_at(text, at, CombinedShape::Group(tactic)),
+            )
+        }
+        // A rule, with the patterns behind it or without.
+        Tactic::Rule => {
+            let rule = take_rule(alloc, &mut values.rules.rules)?;
+            let introduction = take(&mut values.tactics.introductions, None);
+            push(
+                &mut values.tactics.combined,
+                combined_at(text, at, ruled(text, at, rule, introduction)),
+            )
+        }
+        // No patterns.
+        Tactic::NoIntroduction => push(&mut values.tactics.introductions, None),
+        // `=> p q`.
+        Tactic::Introduction => {
+            let patterns = take_list(alloc, &mut values.tactics.patterns.lists).into_items();
+            push(&mut values.tactics.introductions, Some(patterns))
+        }
     }
 }
 
 /// What the productions of lemmas and their arguments make.
-pub fn argument(
+pub fn argument<P, C, T>(
     alloc: Global,
     text: &Text,
     rule: Argument,
     at: usize,
-    values: &mut Values,
+    values: &mut Groups<P, C, T, RuleValues>,
 ) -> Result<(), AllocError>
     ensures { OnOk result (values.new ≡ argument_made text.now rule at values.old) }
 {
     match rule {
-        Argument::Lemma => make_lemma(
-            alloc,
-            &mut values.paths.words.one,
-            &mut values.formulas.runs,
-            &mut values.steps.argument_lists,
-            &mut values.steps.lemmas,
-        ),
-        Argument::End => make_end_of_arguments(
-            alloc,
-            &mut values.steps.argument_lists,
-            &mut values.formulas.runs,
-        ),
-        Argument::Memory => make_memory_argument(
-            alloc,
-            &mut values.paths.words.one,
-            &mut values.steps.argument_lists,
-        ),
-        Argument::Form => make_form_argument(
-            alloc,
-            &mut values.formulas.forms.one,
-            &mut values.formulas.runs,
-            &mut values.steps.argument_lists,
-        ),
-        Argument::Coin => make_coin_argument(
-            alloc,
-            text,
-            at,
-            &mut values.formulas.runs,
-            &mut values.steps.argument_lists,
-        ),
-        Argument::Post => make_post(
-            alloc,
-            &mut values.formulas.forms.one,
-            &mut values.formulas.runs,
-        ),
+        // A lemma with its arguments. The run that lies on its stack has nothing in it.
+        Argument::Lemma => {
+            let lemma = take(&mut values.paths.words.one, no_word(alloc));
+            take(&mut values.formulas.runs, no_run(alloc)).let_go();
+            let arguments = take_list(alloc, &mut values.rules.argument_lists).into_items();
+            push(&mut values.rules.lemmas, LemmaUse { lemma, arguments })
+        }
+        // The end of the arguments, with an empty run for what stands behind the last one.
+        Argument::End => {
+            push(&mut values.rules.argument_lists, Stack::new(alloc))?;
+            push(&mut values.formulas.runs, no_run(alloc))
+        }
+        // `&m`, in front of the further arguments.
+        Argument::Memory => {
+            let memory = take(&mut values.paths.words.one, no_word(alloc));
+            put_argument(
+                alloc,
+                ArgumentTree::Memory(memory),
+                &mut values.rules.argument_lists,
+            )
+        }
+        // A form with what stands behind it, in front of the further arguments.
+        Argument::Form => {
+            let head = take_form(alloc, &mut values.formulas.forms.one)?;
+            let suffixes = take_suffixes(alloc, &mut values.formulas.runs);
+            let form = suffixed(alloc, head, suffixes)?;
+            put_argument(
+                alloc,
+                ArgumentTree::Form(form),
+                &mut values.rules.argument_lists,
+            )?;
+            push(&mut values.formulas.runs, no_run(alloc))
+        }
+        // `{0,1}` with what stands behind it, in front of the further arguments.
+        Argument::Coin => {
+            let coin = coin_before(alloc, text, at)?;
+            let suffixes = take_suffixes(alloc, &mut values.formulas.runs);
+            let form = suffixed(alloc, coin, suffixes)?;
+            put_argument(
+                alloc,
+                ArgumentTree::Form(form),
+                &mut values.rules.argument_lists,
+            )?;
+            push(&mut values.formulas.runs, no_run(alloc))
+        }
+        // A form with what stands behind it.
+        Argument::Post => {
+            let head = take_form(alloc, &mut values.formulas.forms.one)?;
+            let suffixes = take_suffixes(alloc, &mut values.formulas.runs);
+            let made = suffixed(alloc, head, suffixes)?;
+            push(&mut values.formulas.forms.one, made)
+        }
     }
 }
