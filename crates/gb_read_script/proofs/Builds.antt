@@ -1,6 +1,6 @@
 -- Values of one more step.
 use Rattle.std.specs.Prelude.{◌≡◌, ℕ, ◌+◌, ◌<◌, List, [], ◌∷◌, length, drop}
-use Rattle.std.proofs.Common.{refl, ap, sym, ◌∙◌, subst, arith, add-one, drop-cons, get_or, take_all}
+use Rattle.std.proofs.Common.{refl, ap, ◌∙◌, add-one, drop-cons, get_or}
 use Rattle.gb_grammar.specs.declared.table.Step.{Step}
 use Rattle.gb_table.specs.declared.rule.Rule.{Rule}
 use Rattle.gb_text.specs.declared.text.Text.{Text}

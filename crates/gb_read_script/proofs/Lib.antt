@@ -1,3 +1,2 @@
 pub mod Builds
-pub mod Texts
 mod Unique

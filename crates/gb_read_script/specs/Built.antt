@@ -4,8 +4,7 @@ use Rattle.gb_grammar.specs.declared.table.Step.{Step}
 use Rattle.gb_table.specs.declared.rule.Rule.{Rule}
 use Rattle.gb_table.specs.declared.rule.Rule.TheVariants as rules
 use Rattle.gb_text.specs.declared.text.Text.{Text}
-use Rattle.gb_value.specs.declared.values.Values.{Values}
-use Rattle.gb_value.specs.Values.{lists_made, no_values}
+use Rattle.gb_value.specs.Values.{Values, lists_made, no_values}
 use Rattle.gb_read_atom.specs.Makes.{atom_made, judgment_made, call_made}
 use Rattle.gb_read_form.specs.Makes.{form_made, operand_made, suffix_made}
 use Rattle.gb_read_path.specs.Makes.{word_made, type_made, bind_made, path_made}
@@ -17,7 +16,7 @@ use Rattle.gb_read_tactic.specs.Makes.{tactic_made, pattern_made, argument_made}
 abbrev pub made : Text → Rule → ℕ → Values → Values
 made t (rules.List sort r) at v = lists_made sort r v
 made t rules.Same at v = v
-made t rules.Later at v = v
+made t (rules.Level _) at v = v
 made t (rules.Word r) at v = record v { paths = word_made t r at v.paths }
 made t (rules.Ty r) at v = record v { paths = type_made t r at v.paths }
 made t (rules.Bind r) at v = record v { paths = bind_made r v.paths }

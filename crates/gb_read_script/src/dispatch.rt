@@ -3,13 +3,12 @@
 ghost use Rattle.std.specs.Prelude.{◌≡◌, OnOk};
 ghost use Rattle.gb_read_script.specs.Built.{made};
 
-use gb_compose::lists::make_lists;
+use gb_let_go::lists::make_lists;
 use gb_read_atom::make::{atom, call, judgment};
 use gb_read_form::make::{form, operand, suffix};
 use gb_read_path::make::{bind, path, type_tree, word};
-use gb_read_program::make::{
-    command, definition, keyword, module, named, program, stated, variant,
-};
+use gb_read_program::commands::{command, definition, keyword, named, stated};
+use gb_read_program::programs::{module, program, variant};
 use gb_read_step::make::{form_step, given, lemma_step, program_step, step, word_step};
 use gb_read_tactic::make::{argument, pattern, tactic};
 use gb_table::rule::Rule;
@@ -29,7 +28,7 @@ pub fn make(
 {
     match rule {
         Rule::List(sort, rule) => make_lists(alloc, sort, rule, values),
-        Rule::Same | Rule::Later => Ok(()),
+        Rule::Same | Rule::Level(_) => Ok(()),
         Rule::Word(rule) => word(alloc, text, rule, at, &mut values.paths),
         Rule::Ty(rule) => type_tree(alloc, text, rule, at, &mut values.paths),
         Rule::Bind(rule) => bind(alloc, rule, &mut values.paths),

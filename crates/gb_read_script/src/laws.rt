@@ -5,10 +5,11 @@ ghost use Rattle.gb_core.specs.declared.place.Place.{Place};
 ghost use Rattle.gb_core.specs.declared.refusal.Why.{Why};
 ghost use Rattle.gb_tree.specs.declared.command.Command.{Command};
 ghost use Rattle.gb_tree.specs.declared.form.FormTree.{FormTree};
+ghost use Rattle.gb_table.specs.Language.{IsPart};
 ghost use Rattle.gb_text.specs.declared.text.Text.{Text};
 ghost use Rattle.gb_read_script.specs.Reading.{SpellsCommand, SpellsForm, IsRefusal, IsAllowed};
 
-use gb_grammar::laws::first_faults_are_unique;
+use gb_grammar::laws::{first_faults_are_unique, steps_before_are_unique};
 use gb_limits::laws::first_places_are_unique;
 use gb_table::laws::steps_are_unique;
 use gb_table::rule::Rule;
@@ -32,10 +33,13 @@ pub fn forms_are_unique()
 
 /// A text of a part is refused for one reason at most, at one place, and not at all where it is read within the limits.
 pub fn refusals_are_unique()
-    ensures unique { (part : ℕ) (t : Text) (v w : Why) (p q : Place) →
+    ensures unique { (part : ℕ) (t : Text) (v w : Why) (p q : Place) → IsPart part →
         IsRefusal part t v p → IsRefusal part t w q → (v ≡ w) × (p ≡ q) }
-    ensures none { (part : ℕ) (t : Text) (w : Why) (p : Place) → IsAllowed part t → IsRefusal part t w p → ⊥ }
+    ensures none { (part : ℕ) (t : Text) (w : Why) (p : Place) → IsPart part → IsAllowed part t → IsRefusal part t w p → ⊥ }
 {
     first_faults_are_unique::<Rule>();
+    steps_before_are_unique::<Rule>();
+    steps_are_unique();
+    kinds_are_kinds();
     first_places_are_unique();
 }

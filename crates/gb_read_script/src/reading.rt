@@ -1,36 +1,38 @@
 // Reading forms and commands.
 
-ghost use Rattle.std.specs.Prelude.{◌≡◌, ◌≢◌, ◌≤◌, ◌<◌, ◌+◌, ◌^◌, List, IfOk, IfErr, OnOk, OnErr, MatchResult, Err, length};
+ghost use Rattle.std.specs.Prelude.{◌≡◌, ◌≢◌, ◌≤◌, ◌<◌, ◌+◌, ◌^◌, List, IfOk, IfErr, OnOk, MatchResult, Err, length};
 ghost use Rattle.gb_core.specs.declared.place.Place.{Place};
 ghost use Rattle.gb_core.specs.declared.refusal.Why.{Why};
-ghost use Rattle.gb_core.specs.declared.refusal.Why.TheVariants.{Depth, LeftOut, TooMany};
+ghost use Rattle.gb_core.specs.declared.refusal.Why.TheVariants.{LeftOut};
 ghost use Rattle.gb_core.specs.declared.refusal.Refused.TheVariants.{NoMemory, ReadFault, Script};
+ghost use Rattle.gb_grammar.specs.declared.error.ReadError.TheVariants.{Memory};
 ghost use Rattle.gb_grammar.specs.declared.table.Step.{Step};
+ghost use Rattle.gb_grammar.specs.Reading.{IsFault as IsReadFault};
 ghost use Rattle.gb_lex.specs.Lex.{AreSpans};
 ghost use Rattle.gb_tree.specs.declared.command.Command.{Command};
 ghost use Rattle.gb_tree.specs.declared.form.FormTree.{FormTree};
 ghost use Rattle.gb_table.specs.declared.rule.Rule.{Rule};
 ghost use Rattle.gb_table.specs.declared.rows.TheConstants.{COMMAND, FORM};
-ghost use Rattle.gb_table.specs.Language.{IsPart};
+ghost use Rattle.gb_table.specs.Language.{language, IsPart};
 ghost use Rattle.gb_text.specs.LeftOut.{NoneLeftOut};
-ghost use Rattle.gb_text.specs.Lexeme.{text_at};
+ghost use Rattle.gb_text.specs.Lexeme.{kinds_of, text_at};
 ghost use Rattle.gb_limits.specs.Limits.{NoneTooDeep, NoneLong};
 ghost use Rattle.gb_limits.specs.Numbers.{NoneOverflow};
 ghost use Rattle.gb_value.specs.Form.{no_form};
+ghost use Rattle.gb_value.specs.Program.{no_command};
 ghost use Rattle.gb_value.specs.Sorted.{top};
-ghost use Rattle.gb_read_script.specs.Reading.{IsText, Leaves, SpellsCommand, SpellsForm, IsLeftOutPlace, IsDepthPlace, IsChainPlace, IsOverflowPlace, IsExcess, IsLimit, IsFault, IsRefusal, IsAllowed};
+ghost use Rattle.gb_read_script.specs.Built.{built};
+ghost use Rattle.gb_read_script.specs.Reading.{IsText, SpellsCommand, SpellsForm, IsLeftOutPlace, IsStop, IsExcess, IsLimit, IsFault, IsRefusal, IsWithin, IsAllowed};
 
-use crate::build::build;
-use gb_compose::let_go::LetGo;
-use gb_compose::stacks::take;
+use crate::build::fill;
 use gb_core::place::Place;
 use gb_core::refusal::{Refused, Why};
 use gb_grammar::error::ReadError;
 use gb_grammar::table::Step;
+use gb_let_go::let_go::LetGo;
+use gb_let_go::stacks::take;
 use gb_lex::token::Tokens;
-use gb_limits::level::CHAIN;
-use gb_limits::limits::{first_long, first_too_deep};
-use gb_limits::numbers::first_overflow;
+use gb_limits::checks::{check_chains, check_depth, check_numbers};
 use gb_table::reading::read_text;
 use gb_table::rows::{COMMAND, FORM};
 use gb_table::rule::Rule;
@@ -42,61 +44,65 @@ use gb_tree::command::Command;
 use gb_tree::form::FormTree;
 use gb_value::form::no_form;
 use gb_value::program::no_command;
-use gb_value::values::Values;
+use gb_value::values::no_values;
 use sqlite_items::Boxed;
-use std::alloc::Global;
+use std::alloc::{AllocError, Global};
 
-// Refuses a text that is nested too deep, where it can be read up to a fault.
-fn check_depth(alloc: Global, text: &Text, fault: usize) -> Result<(), Refused>
-    requires { fault ≤ length text.now.lexemes }
-    ensures none { OnOk result (NoneTooDeep text.now fault) }
-    ensures only { NoneTooDeep text.now fault → MatchResult result (λ _. Unit {0}) (λ e. e ≡ NoMemory) }
-    ensures no_fault { IfErr result (λ e. e ≢ ReadFault) }
-    ensures deep { (why : Why) (place : Place) → result ≡ Err (Script why place) → (why ≡ Depth) × IsDepthPlace text.now fault place }
+// The steps by which a text is one of this part.
+fn read(alloc: Global, text: &Text, part: u8) -> Result<Vec<Step<Rule>>, ReadError<Rule>>
+    requires { IsPart part }
+    ensures found { IfOk result (λ s. IsText part text.now s.items) }
+    ensures only { (s : List (Step Rule)) → IsText part text.now s → MatchResult result (λ r. r.items ≡ s) (λ e. e ≡ Memory) }
+    ensures fault { IfErr result (λ e. IsReadFault language part (kinds_of text.now) e) }
 {
-    match first_too_deep(alloc, text, fault) {
-        Err(_) => Err(Refused::NoMemory),
-        Ok(None) => Ok(()),
-        Ok(Some(at)) => Err(Refused::Script {
-            why: Why::Depth,
+    let Ok(kinds) = kinds(alloc, text) else {
+        return Err(ReadError::Memory);
+    };
+    read_text(alloc, part, kinds.as_slice())
+}
+
+// Why a text is refused that these steps read up to a token, with which no text goes on.
+fn stop(alloc: Global, text: &Text, steps: &[Step<Rule>], at: usize) -> Refused
+    requires { at ≤ length text.now.lexemes }
+    ensures no_fault { result ≢ ReadFault }
+    ensures stop { (why : Why) (place : Place) → result ≡ Script why place → IsStop text.now at steps.now why place }
+{
+    match check_depth(alloc, text, steps, at) {
+        Err(refused) => refused,
+        Ok(()) => Refused::Script {
+            why: Why::Syntax,
             place: place_at(text, at),
-        }),
+        },
     }
 }
 
-// Refuses a text with a chain that is too long.
-fn check_chains(alloc: Global, text: &Text) -> Result<(), Refused>
-    ensures none { OnOk result (NoneLong text.now) }
-    ensures only { NoneLong text.now → MatchResult result (λ _. Unit {0}) (λ e. e ≡ NoMemory) }
+// Refuses a text that these steps derive and that has a chain that is too long, or a number that is out of range.
+fn check_sizes(alloc: Global, text: &Text, steps: &[Step<Rule>]) -> Result<(), Refused>
+    ensures short { OnOk result (NoneLong text.now steps.now) }
+    ensures in_range { OnOk result (NoneOverflow text.now) }
+    ensures only { NoneLong text.now steps.now → NoneOverflow text.now → MatchResult result (λ _. Unit {0}) (λ e. e ≡ NoMemory) }
     ensures no_fault { IfErr result (λ e. e ≢ ReadFault) }
-    ensures long { (why : Why) (place : Place) → result ≡ Err (Script why place) → (why ≡ TooMany 256) × IsChainPlace text.now place }
+    ensures excess { (why : Why) (place : Place) → result ≡ Err (Script why place) → IsExcess text.now steps.now why place }
 {
-    match first_long(alloc, text) {
-        Err(_) => Err(Refused::NoMemory),
-        Ok(None) => Ok(()),
-        Ok(Some(at)) => Err(Refused::Script {
-            why: Why::TooMany(u64::from(CHAIN)),
-            place: place_at(text, at),
-        }),
+    match check_chains(alloc, text, steps) {
+        Err(refused) => Err(refused),
+        Ok(()) => check_numbers(text),
     }
 }
 
-// Refuses a text with a number that is out of range.
-fn check_numbers(text: &Text) -> Result<(), Refused>
-    ensures none { OnOk result (NoneOverflow text.now) }
-    ensures only { NoneOverflow text.now → OnErr result ⊥ }
+// Refuses a text that these steps derive and that passes a limit.
+fn check_limits(alloc: Global, text: &Text, steps: &[Step<Rule>]) -> Result<(), Refused>
+    ensures shallow { OnOk result (NoneTooDeep text.now steps.now (length text.now.lexemes)) }
+    ensures short { OnOk result (NoneLong text.now steps.now) }
+    ensures in_range { OnOk result (NoneOverflow text.now) }
+    ensures only { NoneTooDeep text.now steps.now (length text.now.lexemes) → NoneLong text.now steps.now → NoneOverflow text.now
+        → MatchResult result (λ _. Unit {0}) (λ e. e ≡ NoMemory) }
     ensures no_fault { IfErr result (λ e. e ≢ ReadFault) }
-    ensures overflow { (why : Why) (place : Place) → result ≡ Err (Script why place) → IsOverflowPlace text.now why place }
+    ensures limit { (why : Why) (place : Place) → result ≡ Err (Script why place) → IsLimit text.now steps.now why place }
 {
-    match first_overflow(text) {
-        None => Ok(()),
-        Some(found) => Err(Refused::Script {
-            why: Why::Overflow {
-                left: found.operands.left,
-                right: found.operands.right,
-            },
-            place: place_at(text, found.at),
-        }),
+    match check_depth(alloc, text, steps, text.lexemes.len()) {
+        Err(refused) => Err(refused),
+        Ok(()) => check_sizes(alloc, text, steps),
     }
 }
 
@@ -104,86 +110,28 @@ fn check_numbers(text: &Text) -> Result<(), Refused>
 fn steps(alloc: Global, text: &Text, part: u8) -> Result<Vec<Step<Rule>>, Refused>
     requires { IsPart part }
     ensures found { IfOk result (λ s. IsText part text.now s.items) }
-    ensures shallow { OnOk result (NoneTooDeep text.now (length text.now.lexemes)) }
-    ensures short { OnOk result (NoneLong text.now) }
-    ensures in_range { OnOk result (NoneOverflow text.now) }
-    ensures only { (s : List (Step Rule)) → IsText part text.now s → NoneTooDeep text.now (length text.now.lexemes)
-        → NoneLong text.now → NoneOverflow text.now → MatchResult result (λ _. Unit {0}) (λ e. e ≡ NoMemory) }
+    ensures within { OnOk result (IsWithin part text.now) }
+    ensures only { IsWithin part text.now → MatchResult result (λ _. Unit {0}) (λ e. e ≡ NoMemory) }
     ensures no_fault { IfErr result (λ e. e ≢ ReadFault) }
     ensures fault { (why : Why) (place : Place) → result ≡ Err (Script why place) → IsFault part text.now why place }
 {
-    let Ok(kinds) = kinds(alloc, text) else {
-        return Err(Refused::NoMemory);
-    };
-    match read_text(alloc, part, kinds.as_slice()) {
+    match read(alloc, text, part) {
         Err(ReadError::Memory) => Err(Refused::NoMemory),
-        Err(ReadError::Fault(at)) => match check_depth(alloc, text, at) {
-            Err(refused) => Err(refused),
-            Ok(()) => Err(Refused::Script {
-                why: Why::Syntax,
-                place: place_at(text, at),
-            }),
-        },
-        Ok(steps) => match check_limits(alloc, text) {
+        Err(ReadError::Fault { at, steps }) => Err(stop(alloc, text, steps.as_slice(), at)),
+        Ok(steps) => match check_limits(alloc, text, steps.as_slice()) {
             Err(refused) => Err(refused),
             Ok(()) => Ok(steps),
         },
     }
 }
 
-// Refuses a text that can be read to its end and passes a limit.
-fn check_limits(alloc: Global, text: &Text) -> Result<(), Refused>
-    ensures shallow { OnOk result (NoneTooDeep text.now (length text.now.lexemes)) }
-    ensures short { OnOk result (NoneLong text.now) }
-    ensures in_range { OnOk result (NoneOverflow text.now) }
-    ensures only { NoneTooDeep text.now (length text.now.lexemes) → NoneLong text.now → NoneOverflow text.now
-        → MatchResult result (λ _. Unit {0}) (λ e. e ≡ NoMemory) }
-    ensures no_fault { IfErr result (λ e. e ≢ ReadFault) }
-    ensures limit { (why : Why) (place : Place) → result ≡ Err (Script why place) → IsLimit text.now why place }
-{
-    match check_depth(alloc, text, text.lexemes.len()) {
-        Err(refused) => Err(refused),
-        Ok(()) => check_sizes(alloc, text),
-    }
-}
-
-// Refuses a text that has a chain that is too long, or a number that is out of range.
-fn check_sizes(alloc: Global, text: &Text) -> Result<(), Refused>
-    ensures short { OnOk result (NoneLong text.now) }
-    ensures in_range { OnOk result (NoneOverflow text.now) }
-    ensures only { NoneLong text.now → NoneOverflow text.now → MatchResult result (λ _. Unit {0}) (λ e. e ≡ NoMemory) }
-    ensures no_fault { IfErr result (λ e. e ≢ ReadFault) }
-    ensures excess { (why : Why) (place : Place) → result ≡ Err (Script why place) → IsExcess text.now why place }
-{
-    match check_chains(alloc, text) {
-        Err(refused) => Err(refused),
-        Ok(()) => check_numbers(text),
-    }
-}
-
-// The values that a text of this part leaves.
-fn values(alloc: Global, text: &Text, part: u8) -> Result<Values, Refused>
-    requires { IsPart part }
-    ensures found { IfOk result (λ vs. Leaves part text.now vs) }
-    ensures shallow { OnOk result (NoneTooDeep text.now (length text.now.lexemes)) }
-    ensures short { OnOk result (NoneLong text.now) }
-    ensures in_range { OnOk result (NoneOverflow text.now) }
-    ensures only { (s : List (Step Rule)) → IsText part text.now s → NoneTooDeep text.now (length text.now.lexemes)
-        → NoneLong text.now → NoneOverflow text.now → MatchResult result (λ _. Unit {0}) (λ e. e ≡ NoMemory) }
-    ensures no_fault { IfErr result (λ e. e ≢ ReadFault) }
-    ensures fault { (why : Why) (place : Place) → result ≡ Err (Script why place) → IsFault part text.now why place }
-{
-    match steps(alloc, text, part) {
-        Err(refused) => Err(refused),
-        Ok(steps) => match build(alloc, text, steps.as_slice()) {
-            Ok(values) => Ok(values),
-            Err(_) => Err(Refused::NoMemory),
-        },
-    }
-}
-
-// The text that has these tokens, none of them a word that is left out.
-fn checked_text(alloc: Global, bytes: &[u8], tokens: &Tokens, at: Place) -> Result<Text, Refused>
+/// The text that has these tokens, none of them a word that is left out; refused with `LeftOut` at the first that is.
+pub fn checked_text(
+    alloc: Global,
+    bytes: &[u8],
+    tokens: &Tokens,
+    at: Place,
+) -> Result<Text, Refused>
     requires spans { AreSpans 0 tokens.now (length bytes.now) }
     requires line { at.line + length bytes.now < 2 ^ 32 }
     requires column { at.col + length bytes.now < 2 ^ 32 }
@@ -205,27 +153,62 @@ fn checked_text(alloc: Global, bytes: &[u8], tokens: &Tokens, at: Place) -> Resu
     }
 }
 
-// The values that a text of this part leaves.
-fn part_values(
+// A text, and the steps by which it is one of this part and passes no limit.
+fn with_steps(alloc: Global, text: Text, part: u8) -> Result<(Text, Vec<Step<Rule>>), Refused>
+    requires { IsPart part }
+    ensures text { IfOk result (λ d. d.0 ≡ text) }
+    ensures found { IfOk result (λ d. IsText part text d.1.items) }
+    ensures within { OnOk result (IsWithin part text) }
+    ensures only { IsWithin part text → MatchResult result (λ _. Unit {0}) (λ e. e ≡ NoMemory) }
+    ensures no_fault { IfErr result (λ e. e ≢ ReadFault) }
+    ensures fault { (why : Why) (place : Place) → result ≡ Err (Script why place) → IsFault part text why place }
+{
+    match steps(alloc, &text, part) {
+        Ok(steps) => Ok((text, steps)),
+        Err(refused) => Err(refused),
+    }
+}
+
+// The text that has these tokens, and the steps by which it is one of this part and passes no limit.
+fn derived(
     alloc: Global,
     bytes: &[u8],
     tokens: &Tokens,
     at: Place,
     part: u8,
-) -> Result<Values, Refused>
+) -> Result<(Text, Vec<Step<Rule>>), Refused>
     requires start { IsPart part }
     requires spans { AreSpans 0 tokens.now (length bytes.now) }
     requires line { at.line + length bytes.now < 2 ^ 32 }
     requires column { at.col + length bytes.now < 2 ^ 32 }
-    ensures found { IfOk result (λ vs. Leaves part (text_at bytes.now at tokens.now) vs) }
+    ensures text { IfOk result (λ d. d.0 ≡ text_at bytes.now at tokens.now) }
+    ensures found { IfOk result (λ d. IsText part (text_at bytes.now at tokens.now) d.1.items) }
     ensures allowed { OnOk result (IsAllowed part (text_at bytes.now at tokens.now)) }
     ensures only { IsAllowed part (text_at bytes.now at tokens.now) → MatchResult result (λ _. Unit {0}) (λ e. e ≡ NoMemory) }
     ensures no_fault { IfErr result (λ e. e ≢ ReadFault) }
     ensures refused { (why : Why) (place : Place) → result ≡ Err (Script why place) → IsRefusal part (text_at bytes.now at tokens.now) why place }
 {
     match checked_text(alloc, bytes, tokens, at) {
-        Ok(text) => values(alloc, &text, part),
+        Ok(text) => with_steps(alloc, text, part),
         Err(refused) => Err(refused),
+    }
+}
+
+// The command that the steps of a text leave.
+fn command_left(alloc: Global, text: &Text, steps: &[Step<Rule>]) -> Result<Command, AllocError>
+    ensures { IfOk result (λ c. c ≡ top no_command (built text.now steps.now).commands.commands) }
+{
+    let mut values = no_values(alloc);
+    match fill(alloc, text, steps, &mut values) {
+        Ok(()) => {
+            let command = take(&mut values.commands.commands, no_command());
+            values.let_go();
+            Ok(command)
+        }
+        Err(error) => {
+            values.let_go();
+            Err(error)
+        }
     }
 }
 
@@ -244,23 +227,40 @@ pub fn command(alloc: Global, text: &[u8], tokens: &Tokens, at: Place) -> Result
     ensures no_fault { IfErr result (λ e. e ≢ ReadFault) }
     ensures refused { (why : Why) (place : Place) → result ≡ Err (Script why place) → IsRefusal COMMAND (text_at text.now at tokens.now) why place }
 {
-    match part_values(alloc, text, tokens, at, COMMAND) {
-        Ok(mut values) => {
-            let command = take(&mut values.programs.commands, no_command());
-            values.let_go();
-            Ok(command)
-        }
+    match derived(alloc, text, tokens, at, COMMAND) {
+        Ok((text, steps)) => match command_left(alloc, &text, steps.as_slice()) {
+            Ok(command) => Ok(command),
+            Err(_) => Err(Refused::NoMemory),
+        },
         Err(refused) => Err(refused),
     }
 }
 
-// The form on top of a stack, or the fixed one.
-fn first_form(forms: &mut Stack<Boxed<FormTree>>) -> FormTree
+/// The form on top of a stack, or the fixed one.
+pub fn first_form(forms: &mut Stack<Boxed<FormTree>>) -> FormTree
     ensures { result ≡ top no_form forms.old }
 {
     match forms.pop() {
         Some(form) => form.into_inner(),
         None => no_form(),
+    }
+}
+
+// The form that the steps of a text leave.
+fn form_left(alloc: Global, text: &Text, steps: &[Step<Rule>]) -> Result<FormTree, AllocError>
+    ensures { IfOk result (λ f. f ≡ top no_form (built text.now steps.now).formulas.forms.one) }
+{
+    let mut values = no_values(alloc);
+    match fill(alloc, text, steps, &mut values) {
+        Ok(()) => {
+            let form = first_form(&mut values.formulas.forms.one);
+            values.let_go();
+            Ok(form)
+        }
+        Err(error) => {
+            values.let_go();
+            Err(error)
+        }
     }
 }
 
@@ -275,12 +275,11 @@ pub fn form(alloc: Global, text: &[u8], tokens: &Tokens, at: Place) -> Result<Fo
     ensures no_fault { IfErr result (λ e. e ≢ ReadFault) }
     ensures refused { (why : Why) (place : Place) → result ≡ Err (Script why place) → IsRefusal FORM (text_at text.now at tokens.now) why place }
 {
-    match part_values(alloc, text, tokens, at, FORM) {
-        Ok(mut values) => {
-            let form = first_form(&mut values.formulas.forms.one);
-            values.let_go();
-            Ok(form)
-        }
+    match derived(alloc, text, tokens, at, FORM) {
+        Ok((text, steps)) => match form_left(alloc, &text, steps.as_slice()) {
+            Ok(form) => Ok(form),
+            Err(_) => Err(Refused::NoMemory),
+        },
         Err(refused) => Err(refused),
     }
 }

@@ -1,6 +1,6 @@
 -- A script comes to one thing at most.
 use Rattle.std.specs.Prelude.{◌≡◌, ℕ, zero, suc, List, [], ◌∷◌, take, drop, Option, Some, None}
-use Rattle.std.proofs.Common.{ap, sym, subst, ◌∙◌, inl, inr}
+use Rattle.std.proofs.Common.{refl, ap, sym, subst, ◌∙◌, inl, inr}
 use Rattle.gb_core.specs.declared.place.Place.{Place}
 use Rattle.gb_core.specs.declared.refusal.Refused.{Refused}
 use Rattle.gb_core.specs.declared.refusal.Refused.TheVariants.{Script}
@@ -20,6 +20,7 @@ use Rattle.gb_tree.specs.declared.command.CommandShape.{CommandShape}
 use Rattle.gb_tree.specs.declared.command.CommandShape.TheVariants as command
 use Rattle.gb_tree.specs.declared.step.StepTree.{StepTree}
 use Rattle.gb_table.specs.declared.rows.TheConstants.{COMMAND}
+use Rattle.gb_table.specs.Language.{IsPart}
 use Rattle.gb_text.specs.declared.text.Text.{Text}
 use Rattle.gb_text.specs.Lexeme.{text_at}
 use Rattle.gb_read_script.specs.Reading.{SpellsCommand, IsRefusal, IsAllowed}
@@ -106,17 +107,17 @@ one_pair v w p q e = ap (λ (x : Why). refused x p) e.0 ∙ ap (λ (x : Place). 
 module _
     (one_answer : (leaves : List Leaf) (a b : Option Why) → IsAnswerOf leaves a → IsAnswerOf leaves b → a ≡ b)
     (one_spelled : (t : Text) (c d : Command) → SpellsCommand t c → SpellsCommand t d → c ≡ d)
-    (one_refusal : (part : ℕ) (t : Text) (v w : Why) (p q : Place) → IsRefusal part t v p → IsRefusal part t w q → (v ≡ w) × (p ≡ q))
-    (no_refusal : (part : ℕ) (t : Text) (w : Why) (p : Place) → IsAllowed part t → IsRefusal part t w p → ⊥) where
+    (one_refusal : (part : ℕ) (t : Text) (v w : Why) (p q : Place) → IsPart part → IsRefusal part t v p → IsRefusal part t w q → (v ≡ w) × (p ≡ q))
+    (no_refusal : (part : ℕ) (t : Text) (w : Why) (p : Place) → IsPart part → IsAllowed part t → IsRefusal part t w p → ⊥) where
   read_and_refused : (piece : List ℕ) (at : Place) (c : Command) (why : Why) (place : Place) → IsReadAs piece at (given c) → IsReadAs piece at (refused why place) → ⊥
   read_and_refused piece at c why place h (inl fault) = no_fault piece at (Script why place) h.0 fault
-  read_and_refused piece at c why place h (inr k) = no_refusal COMMAND (text_at piece at (tokens_of piece)) why place h.2 k.1
+  read_and_refused piece at c why place h (inr k) = no_refusal COMMAND (text_at piece at (tokens_of piece)) why place (inl refl) h.2 k.1
 
   one_refused : (piece : List ℕ) (at : Place) (v w : Why) (p q : Place) → IsReadAs piece at (refused v p) → IsReadAs piece at (refused w q) → no_command v p ≡ refused w q
   one_refused piece at v w p q (inl x) (inl y) = one_fault piece at v w p q x y
   one_refused piece at v w p q (inl x) (inr y) = absurd (no_fault piece at (Script v p) y.0 x)
   one_refused piece at v w p q (inr x) (inl y) = absurd (no_fault piece at (Script w q) x.0 y)
-  one_refused piece at v w p q (inr x) (inr y) = one_pair v w p q (one_refusal COMMAND (text_at piece at (tokens_of piece)) v w p q x.1 y.1)
+  one_refused piece at v w p q (inr x) (inr y) = one_pair v w p q (one_refusal COMMAND (text_at piece at (tokens_of piece)) v w p q (inl refl) x.1 y.1)
 
   one_read : (piece : List ℕ) (at : Place) (x y : Answer Command) → IsReadAs piece at x → IsReadAs piece at y → x ≡ y
   one_read piece at (given c) (given d) h k = ap (λ (x : Command). given x) (one_spelled (text_at piece at (tokens_of piece)) c d h.1 k.1)

@@ -3,4 +3,4 @@ use Rattle.gb_read_script.proofs.Unique.{one_command}
 use Rattle.gb_read_script.proofs.laws.commands_are_unique.Goals as goal
 
 pub returns : goal.returns
-returns c = one_command (λ part ready t a b. c.steps_are_unique.ensures part (kinds_of t) a b ready (c.kinds_are_kinds.ensures t))
+returns c = one_command (λ part ready t a b. c.steps_are_unique.ensures.texts part (kinds_of t) a b ready (c.kinds_are_kinds.ensures t))
