@@ -1,0 +1,3 @@
+pub mod Goal
+pub mod Line
+pub mod Reading
