@@ -1,10 +1,12 @@
 // What the readers answer to a text.
 
-use gb_compose::let_go::LetGo;
 use gb_core::place::Place;
 use gb_core::refusal::{Refused, Why, code};
+use gb_let_go::let_go::LetGo;
 use gb_lex::lexing::tokens;
+use gb_read_goal::goal::goal;
 use gb_read_script::reading::{command, form};
+use gb_tree::goal::{EntryTree, SequentTree};
 use std::alloc::{AllocError, Global};
 
 /// What a text is read as.
@@ -24,12 +26,16 @@ pub const START: Place = Place {
 /// A text of this many bytes is too long to be read.
 pub const LIMIT: usize = 1_048_577;
 
+fn too_long(place: Place) -> Refused {
+    Refused::Script {
+        why: Why::Length,
+        place,
+    }
+}
+
 fn read(alloc: Global, part: Part, text: &[u8], at: Place) -> Result<(), Refused> {
     if text.len() >= LIMIT || at.line as usize >= LIMIT || at.col as usize >= LIMIT {
-        return Err(Refused::Script {
-            why: Why::Length,
-            place: at,
-        });
+        return Err(too_long(at));
     }
     let tokens = tokens(alloc, text, at)?;
     match part {
@@ -39,14 +45,47 @@ fn read(alloc: Global, part: Part, text: &[u8], at: Place) -> Result<(), Refused
     Ok(())
 }
 
+// The code of a refusal, and the line and the column.
+fn refusal(alloc: Global, refused: Refused) -> Result<String, AllocError> {
+    match refused {
+        Refused::Script { why, place } => {
+            let code = code(&why);
+            format!(in alloc; "E{code:02} {} {}", place.line, place.col)
+        }
+        Refused::NoMemory | Refused::ReadFault => Err(AllocError),
+    }
+}
+
 /// What is read of a text that begins at a place: `ok`, or the code of its refusal, and the line and the column.
 pub fn answer(alloc: Global, part: Part, text: &[u8], at: Place) -> Result<String, AllocError> {
     match read(alloc, part, text, at) {
         Ok(()) => String::from_str(alloc, "ok"),
-        Err(Refused::Script { why, place }) => {
-            let code = code(&why);
-            format!(in alloc; "E{code:02} {} {}", place.line, place.col)
+        Err(refused) => refusal(alloc, refused),
+    }
+}
+
+// `ok`, and a letter for each entry of the context: `b` for a variable, a memory or a module, `h` for a hypothesis.
+fn entries(alloc: Global, tree: &SequentTree) -> Result<String, AllocError> {
+    let mut answer = String::from_str(alloc, "ok")?;
+    if !tree.context.is_empty() {
+        answer.push(' ')?;
+    }
+    for entry in tree.context.as_slice() {
+        match entry {
+            EntryTree::Bind(_) => answer.push('b')?,
+            EntryTree::Hypothesis(_, _) => answer.push('h')?,
         }
-        Err(Refused::NoMemory | Refused::ReadFault) => Err(AllocError),
+    }
+    Ok(answer)
+}
+
+/// What is read of the text of a goal: `ok` and a letter for each entry of the context, or its refusal.
+pub fn goal_answer(alloc: Global, text: &[u8]) -> Result<String, AllocError> {
+    if text.len() >= LIMIT {
+        return refusal(alloc, too_long(START));
+    }
+    match goal(alloc, text) {
+        Ok(tree) => entries(alloc, &tree),
+        Err(refused) => refusal(alloc, refused),
     }
 }

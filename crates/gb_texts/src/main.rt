@@ -1,13 +1,16 @@
 //! The program `gb_texts`: it reads texts, and prints what the readers answer.
 //!
-//! Its words come in pairs, what is read and the name of a file: `command` and `form` read each line of the file, and
-//! `script` the commands into which the file falls. For each text a line is printed, which begins with `ok`, or with the
-//! code of the refusal, its line and its column; behind that stands the text, where it is a line of its own.
+//! Its words come in pairs, what is read and the name of a file: `command` and `form` read each line of the file, `repeated`
+//! reads each line as a form in which pieces repeat, `goal` reads each line as a goal whose lines end at `\n`, and `script`
+//! the commands into which the file falls. For each text a line is printed, which begins with `ok`, or with the code of the
+//! refusal, its line and its column; behind that stands the text, where it is a line of its own.
 #![tactic(auto)]
 
 mod answer;
+mod repeated;
 
-use crate::answer::{LIMIT, Part, START, answer};
+use crate::answer::{LIMIT, Part, START, answer, goal_answer};
+use crate::repeated::{in_full, repeated_of};
 use gb_lex::commands::cut;
 use gb_lex::places::place_of;
 use gb_lex::token::Cut;
@@ -17,6 +20,28 @@ use std::{env, fs, io};
 fn read_lines(rt: &HostRuntime, part: Part, text: &str) -> io::Result<()> {
     for line in text.lines() {
         let answer = answer(rt.alloc(), part, line.as_bytes(), START)?;
+        println!(rt; "{answer} {line}")?;
+    }
+    Ok(())
+}
+
+/// Prints the answer to each form of a text in which pieces repeat.
+fn read_repeated(rt: &HostRuntime, text: &str) -> io::Result<()> {
+    for line in text.lines() {
+        if let Some(repeated) = repeated_of(line) {
+            let form = in_full(rt.alloc(), repeated)?;
+            let answer = answer(rt.alloc(), Part::Form, form.as_bytes(), START)?;
+            println!(rt; "{answer} {line}")?;
+        }
+    }
+    Ok(())
+}
+
+/// Prints the answer to each goal of a text.
+fn read_goals(rt: &HostRuntime, text: &str) -> io::Result<()> {
+    for line in text.lines() {
+        let goal = line.replace(rt.alloc(), "\\n", "\n")?;
+        let answer = goal_answer(rt.alloc(), goal.as_bytes())?;
         println!(rt; "{answer} {line}")?;
     }
     Ok(())
@@ -53,6 +78,8 @@ fn read_file(rt: &HostRuntime, what: &str, file: &str) -> io::Result<()> {
     match what {
         "command" => read_lines(rt, Part::Command, fs::read_to_string(rt, file)?.as_str()),
         "form" => read_lines(rt, Part::Form, fs::read_to_string(rt, file)?.as_str()),
+        "goal" => read_goals(rt, fs::read_to_string(rt, file)?.as_str()),
+        "repeated" => read_repeated(rt, fs::read_to_string(rt, file)?.as_str()),
         _ => read_script(rt, fs::read(rt, file)?.as_slice()),
     }
 }
