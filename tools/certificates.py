@@ -435,17 +435,17 @@ def checked_file(source, crate):
     lines += [f"use Rattle.{crate}.specs.declared.bodies.TheConstants.{{SYMBOLS}}"]
     lines += [f"use Rattle.{crate}.specs.Claims.{{claims}}"]
     lines += ["use Rattle.gb_grammar.specs.Grammar.{grammar_of}"]
-    lines += ["use Rattle.gb_grammar.specs.Check.{grammar_ok, rows_ok, alone_at, all_below, some_lower, places_ok}"]
+    lines += ["use Rattle.gb_grammar.specs.Check.{grammar_ok, rows_ok, one_chosen, all_led, places_ok}"]
     lines += ["use Rattle.gb_grammar.proofs.Tests.{and_both}"]
     for stage, name in enumerate(STAGE_NAMES):
         low = name.lower()
         grammar = f"(grammar_of {stage} ROWS SYMBOLS)"
         lines += ["", f"{low}_rows : rows_ok (claims {stage}).count (claims {stage}) {grammar} ≡ true", f"{low}_rows = refl",
-                  "", f"{low}_alone : all_below 128 (alone_at {grammar}) ≡ true", f"{low}_alone = refl",
-                  "", f"{low}_some : all_below (claims {stage}).count (λ n. some_lower (claims {stage}) n {grammar}) ≡ true", f"{low}_some = refl",
+                  "", f"{low}_chosen : one_chosen {grammar} ≡ true", f"{low}_chosen = refl",
+                  "", f"{low}_led : all_led (claims {stage}) 0 {grammar} ≡ true", f"{low}_led = refl",
                   "", f"{low}_places : places_ok PLACES (claims {stage}).count ROWS ≡ true", f"{low}_places = refl",
                   "", f"pub {low}_pass : grammar_ok {stage} (claims {stage}) PLACES ROWS SYMBOLS ≡ true",
-                  f"{low}_pass = and_both _ _ (and_both _ _ {low}_rows (and_both _ _ {low}_alone {low}_some)) {low}_places"]
+                  f"{low}_pass = and_both _ _ (and_both _ _ {low}_rows (and_both _ _ {low}_chosen {low}_led)) {low}_places"]
     return lines
 
 

@@ -1,4 +1,5 @@
 pub mod Tests
+pub mod Sets
 pub mod Places
 pub mod Sound
 pub mod Rows

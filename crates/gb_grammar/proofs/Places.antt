@@ -1,10 +1,10 @@
 -- The rows of a part stand at its places.
 use Rattle.std.specs.Prelude.{if◌then◌else◌, ◌≡◌, ℕ, zero, suc, ◌+◌, ◌-◌, ◌<◌, ◌≤◌, List, [], ◌∷◌, Bool, true, false, ◌&&◌, Option, Some, None, nat_lt, nat_le, nat_eq, length, take, drop}
-use Rattle.std.proofs.Common.{refl, ap, sym, ◌∙◌, subst, arith, cond}
+use Rattle.std.proofs.Common.{refl, ap, sym, ◌∙◌, subst, arith}
 use Rattle.std.proofs.lemmas.Bool.{ltb-true, leb-true, eqb-true}
 use Rattle.gb_grammar.specs.declared.table.Row.{Row}
 use Rattle.gb_grammar.specs.Grammar.{has}
-use Rattle.gb_grammar.specs.Check.{place_of, place_ok, rows_placed, places_ok, all_below, pick_row, rows_of, IsPlaced}
+use Rattle.gb_grammar.specs.Check.{place_of, place_ok, rows_placed, places_ok, all_below, pick_row, IsPlaced}
 use Rattle.gb_grammar.proofs.Tests.{both, below_at}
 
 module _ {R : Type 0} (stage : ℕ) (places : List ℕ) (n : ℕ) where

@@ -1,22 +1,23 @@
 -- What the test tells of a grammar.
-use Rattle.std.specs.Prelude.{◌≡◌, ℕ, zero, suc, ◌+◌, ◌<◌, List, [], ◌∷◌, Bool, true, false, not, ◌&&◌, ◌||◌, Option, Some, None, nat_lt, nat_eq, slice_get, length, ◌⊎◌}
-use Rattle.std.proofs.lemmas.Option.{same_Some}
-use Rattle.std.proofs.Common.{cond, ⊎_elim, refl, ap, sym, ◌∙◌, subst, inl, inr, arith}
-use Rattle.std.proofs.lemmas.Bool.{ltb-true, eqb-true, eq-eqb}
+use Rattle.std.specs.Prelude.{if◌then◌else◌, ◌≡◌, ℕ, zero, suc, ◌+◌, ◌<◌, ◌≤◌, [], ◌∷◌, Bool, true, false, not, ◌&&◌, Option, Some, nat_lt, nat_eq, slice_get, bit_or}
+use Rattle.std.proofs.Common.{cond, ⊎_elim, refl, ap, sym, ◌∙◌, subst, arith}
+use Rattle.std.proofs.lemmas.Bool.{ltb-true, leb-true, eqb-true, eq-eqb, false_from_ne_true}
+use Rattle.std.proofs.Math.Nat.{eq-or-lt_of_le}
 use Rattle.gb_grammar.specs.Grammar.{Grammar, Production, has, IsProduction}
-use Rattle.gb_grammar.specs.Check.{Claims, claim_of, implies, all_below, all_nullable, all_first, lead_weight, all_lower, all_known, follow_ok, kind_ok, row_ok, rows_ok, none_at, alone_at, some_lower, productions_ok, pick_of}
-use Rattle.gb_grammar.proofs.Tests.{both, either, and_both, implied, not_both, not_true, true_not, below_at}
+use Rattle.gb_grammar.specs.Check.{Claims, claim_of, implies, within, apart, all_nullable, all_first, lead_weight, all_lower, all_known, follow_ok, sets_ok, row_ok, rows_ok, none_chosen, one_chosen, leads, all_led, productions_ok, pick_of}
+use Rattle.gb_grammar.proofs.Tests.{both, and_both, implied, not_true}
+use Rattle.gb_grammar.proofs.Sets.{within_has, apart_has, has_either}
 
 pub record Sound {R : Type 0} (g : Grammar R) (c : Claims) : Type 0 where
   pub known : (n : ℕ) (r : Production R) → IsProduction g n r → all_known c.count (r.body) ≡ true
   pub nulls : (n : ℕ) (r : Production R) → IsProduction g n r → all_nullable c (r.body) ≡ true → (claim_of c n).nullable ≡ true
   pub lighter : (n : ℕ) (r : Production R) → IsProduction g n r → lead_weight c (r.body) < (claim_of c n).weight
-  pub firsts : (n : ℕ) (r : Production R) (t : ℕ) → t < 128 → IsProduction g n r → all_first c (r.body) t ≡ true → (has (claim_of c n).first t ≡ true) × (has r.starts t ≡ true)
-  pub ends : (n : ℕ) (r : Production R) (t : ℕ) → t < 128 → IsProduction g n r → all_nullable c (r.body) ≡ true → has (claim_of c n).follow t ≡ true → has r.stops t ≡ false → has r.starts t ≡ true
-  pub free : (n : ℕ) (r : Production R) (t : ℕ) → t < 128 → IsProduction g n r → has r.starts t ≡ true → has r.stops t ≡ false
+  pub firsts : (n : ℕ) (r : Production R) (t : ℕ) → IsProduction g n r → has (all_first c (r.body)) t ≡ true → (has (claim_of c n).first t ≡ true) × (has r.starts t ≡ true)
+  pub ends : (n : ℕ) (r : Production R) (t : ℕ) → IsProduction g n r → all_nullable c (r.body) ≡ true → has (claim_of c n).follow t ≡ true → has r.stops t ≡ false → has r.starts t ≡ true
+  pub free : (n : ℕ) (r : Production R) (t : ℕ) → IsProduction g n r → has r.starts t ≡ true → has r.stops t ≡ false
   pub last : (n : ℕ) (r : Production R) → IsProduction g n r → has r.stops 0 ≡ false
-  pub follows : (n : ℕ) (r : Production R) (t : ℕ) → t < 128 → IsProduction g n r → follow_ok c n (r.body) t ≡ true
-  pub picks : (n : ℕ) (r : Production R) (t : ℕ) → t < 128 → IsProduction g n r → has r.starts t ≡ true → pick_of g n t ≡ Some r
+  pub follows : (n : ℕ) (r : Production R) → IsProduction g n r → follow_ok c n (r.body) ≡ true
+  pub picks : (n : ℕ) (r : Production R) (t : ℕ) → IsProduction g n r → has r.starts t ≡ true → pick_of g n t ≡ Some r
   pub grows : (n : ℕ) → n < c.count → (r : Production R) × IsProduction g n r × (r.stops ≡ 0) × (all_lower c (claim_of c n).height (r.body) ≡ true)
 
 module _ {R : Type 0} where
@@ -37,27 +38,27 @@ module _ {R : Type 0} where
   row_at parts c (s ∷ rows) (suc i) r h e = row_at parts c rows i r (both (row_ok parts c s.part s) (rows_ok parts c rows) h).1 e
 
   -- only one row is chosen
-  none_picked : (n : ℕ) (rows : Grammar R) (t i : ℕ) (r : Production R) → none_at n rows t ≡ true → slice_get rows i ≡ Some r → r.part ≡ n → has r.starts t ≡ true → ⊥
-  none_picked n [] t i r h e p k = cc
-  none_picked n (s ∷ rows) t zero r h e p k =
+  none_picked : (n kinds : ℕ) (rows : Grammar R) (t i : ℕ) (r : Production R) → none_chosen n kinds rows ≡ true → has kinds t ≡ true → slice_get rows i ≡ Some r → r.part ≡ n → has r.starts t ≡ true → ⊥
+  none_picked n kinds [] t i r h l e p k = cc
+  none_picked n kinds (s ∷ rows) t zero r h l e p k =
       let q : s ≡ r = cc in
-      let x = (both (implies (nat_eq s.part n) (not (has s.starts t))) (none_at n rows t) h).0 in
-      let y : not (has s.starts t) ≡ true = implied (nat_eq s.part n) (not (has s.starts t)) x (eq-eqb s.part n (ap (λ (z : Production R). z.part) q ∙ p)) in
-      not_both (has s.starts t) y (subst (λ (z : Production R). has z.starts t ≡ true) (sym q) k)
-  none_picked n (s ∷ rows) t (suc i) r h e p k = none_picked n rows t i r (both (implies (nat_eq s.part n) (not (has s.starts t))) (none_at n rows t) h).1 e p k
+      let x = (both (implies (nat_eq s.part n) (apart kinds s.starts)) (none_chosen n kinds rows) h).0 in
+      let y = implied (nat_eq s.part n) (apart kinds s.starts) x (eq-eqb s.part n (ap (λ (z : Production R). z.part) q ∙ p)) in
+      apart_has kinds s.starts t y l (subst (λ (z : Production R). has z.starts t ≡ true) (sym q) k)
+  none_picked n kinds (s ∷ rows) t (suc i) r h l e p k = none_picked n kinds rows t i r (both (implies (nat_eq s.part n) (apart kinds s.starts)) (none_chosen n kinds rows) h).1 l e p k
 
-  alone_picked : (rows : Grammar R) (n t i : ℕ) (r : Production R) → alone_at rows t ≡ true → slice_get rows i ≡ Some r → r.part ≡ n → has r.starts t ≡ true → pick_of rows n t ≡ Some r
-  alone_picked [] n t i r h e p k = cc
-  alone_picked (s ∷ rows) n t zero r h e p k =
+  one_picked : (rows : Grammar R) (n t i : ℕ) (r : Production R) → one_chosen rows ≡ true → slice_get rows i ≡ Some r → r.part ≡ n → has r.starts t ≡ true → pick_of rows n t ≡ Some r
+  one_picked [] n t i r h e p k = cc
+  one_picked (s ∷ rows) n t zero r h e p k =
       let q : s ≡ r = cc in
       first_picked (nat_eq s.part n && has s.starts t) s (pick_of rows n t) (and_both (nat_eq s.part n) (has s.starts t) (eq-eqb s.part n (ap (λ (z : Production R). z.part) q ∙ p)) (subst (λ (z : Production R). has z.starts t ≡ true) (sym q) k)) ∙ ap (λ (z : Production R). Some z) q
-  alone_picked (s ∷ rows) n t (suc i) r h e p k =
-      let x = both (implies (has s.starts t) (none_at s.part rows t)) (alone_at rows t) h in
-      let rest = alone_picked rows n t i r x.1 e p k in
+  one_picked (s ∷ rows) n t (suc i) r h e p k =
+      let x = both (none_chosen s.part s.starts rows) (one_chosen rows) h in
+      let rest = one_picked rows n t i r x.1 e p k in
       not_first (nat_eq s.part n && has s.starts t)
       (λ (b : nat_eq s.part n && has s.starts t ≡ true).
       let y = both (nat_eq s.part n) (has s.starts t) b in
-      none_picked s.part rows t i r (implied (has s.starts t) (none_at s.part rows t) x.0 y.1) e (p ∙ sym (eqb-true s.part n y.0)) k)
+      none_picked s.part s.starts rows t i r x.0 y.1 e (p ∙ sym (eqb-true s.part n y.0)) k)
       s (pick_of rows n t) (Some r) rest
 
 record Low {R : Type 0} (c : Claims) (n : ℕ) (rows : Grammar R) : Type 0 where
@@ -68,29 +69,42 @@ record Low {R : Type 0} (c : Claims) (n : ℕ) (rows : Grammar R) : Type 0 where
   free : row.stops ≡ 0
   low : all_lower c (claim_of c n).height (row.body) ≡ true
 
-some_at : {R : Type 0} (c : Claims) (n : ℕ) (rows : Grammar R) → some_lower c n rows ≡ true → Low c n rows
-some_at c n [] e = cc
-some_at c n (r ∷ rows) e =
-    let l = all_lower c (claim_of c n).height (r.body) in
-    ⊎_elim (λ (h : nat_eq r.part n && (nat_eq r.stops 0 && l) ≡ true).
-    let y = both (nat_eq r.part n) (nat_eq r.stops 0 && l) h in
-    let z = both (nat_eq r.stops 0) l y.1 in
-    record { row = r; place = 0; row_is = refl; part_is = eqb-true r.part n y.0; free = eqb-true r.stops 0 z.0; low = z.1 })
-    (λ (h : some_lower c n rows ≡ true). let m = some_at c n rows h in record { row = m.row; place = suc m.place; row_is = m.row_is; part_is = m.part_is; free = m.free; low = m.low })
-    (either (nat_eq r.part n && (nat_eq r.stops 0 && l)) (some_lower c n rows) e)
+module _ {R : Type 0} (c : Claims) where
+  low_here : (n : ℕ) (r : Production R) (rows : Grammar R) → leads c n r ≡ true → Low c n (r ∷ rows)
+  low_here n r rows h =
+      let l = all_lower c (claim_of c n).height (r.body) in
+      let y = both (nat_eq r.part n) (nat_eq r.stops 0 && l) h in
+      let z = both (nat_eq r.stops 0) l y.1 in
+      record { row = r; place = 0; row_is = refl; part_is = eqb-true r.part n y.0; free = eqb-true r.stops 0 z.0; low = z.1 }
+
+  low_later : (n : ℕ) (r : Production R) (rows : Grammar R) → Low c n rows → Low c n (r ∷ rows)
+  low_later n r rows m = record { row = m.row; place = suc m.place; row_is = m.row_is; part_is = m.part_is; free = m.free; low = m.low }
+
+  -- the parts from `n` on have rows that lead to texts
+  abbrev Led : ℕ → Grammar R → Type 0
+  Led n rows = (m : ℕ) → n ≤ m → m < c.count → Low c m rows
+
+  led_more : (b : Bool) (n : ℕ) (r : Production R) (rows : Grammar R) → (b ≡ true → Low c n (r ∷ rows)) → (all_led c (n + 1) rows ≡ true → Led (n + 1) rows) → (all_led c n rows ≡ true → Led n rows)
+      → (if b then all_led c (n + 1) rows else all_led c n rows) ≡ true → Led n (r ∷ rows)
+  led_more true n r rows here next same h m le lt =
+      ⊎_elim (λ (e : n ≡ m). subst (λ (k : ℕ). Low c k (r ∷ rows)) e (here refl)) (λ (l : n < m). low_later m r rows (next h m (omega arith) lt)) (eq-or-lt_of_le le)
+  led_more false n r rows here next same h m le lt = low_later m r rows (same h m le lt)
+
+  led : (n : ℕ) (rows : Grammar R) → all_led c n rows ≡ true → Led n rows
+  led n [] h m le lt = let most = leb-true c.count n h in absurd (omega arith)
+  led n (r ∷ rows) h m le lt = led_more (leads c n r) n r rows (low_here n r rows) (led (n + 1) rows) (led n rows) h m le lt
 
 module _ {R : Type 0} (g : Grammar R) (c : Claims) (ok : productions_ok c g ≡ true) where
   record Parts : Type 0 where
     rows : rows_ok c.count c g ≡ true
-    alone : all_below 128 (alone_at g) ≡ true
-    some : all_below c.count (λ n. some_lower c n g) ≡ true
+    chosen : one_chosen g ≡ true
+    led : all_led c 0 g ≡ true
 
   parts : Parts
   parts =
-      let some = all_below c.count (λ n. some_lower c n g) in
-      let a = both (rows_ok c.count c g) (all_below 128 (alone_at g) && some) ok in
-      let b = both (all_below 128 (alone_at g)) some a.1 in
-      record { rows = a.0; alone = b.0; some = b.1 }
+      let a = both (rows_ok c.count c g) (one_chosen g && all_led c 0 g) ok in
+      let b = both (one_chosen g) (all_led c 0 g) a.1 in
+      record { rows = a.0; chosen = b.0; led = b.1 }
 
   row_of : (n : ℕ) (r : Production R) → IsProduction g n r → row_ok c.count c n r ≡ true
   row_of n r w = subst (λ (k : ℕ). row_ok c.count c k r ≡ true) w.part_is (row_at c.count c g w.place r parts.rows w.row_is)
@@ -100,51 +114,57 @@ module _ {R : Type 0} (g : Grammar R) (c : Claims) (ok : productions_ok c g ≡ 
     null : implies (all_nullable c (r.body)) (claim_of c n).nullable ≡ true
     light : nat_lt (lead_weight c (r.body)) (claim_of c n).weight ≡ true
     last : not (has r.stops 0) ≡ true
-    kinds : all_below 128 (kind_ok c n r) ≡ true
+    sets : sets_ok c n r ≡ true
 
   row_facts : (n : ℕ) (r : Production R) → IsProduction g n r → RowFacts n r
   row_facts n r w =
       let body = r.body in
       let l = nat_lt (lead_weight c body) (claim_of c n).weight in
       let e = not (has r.stops 0) in
-      let k = all_below 128 (kind_ok c n r) in
+      let k = sets_ok c n r in
       let i = implies (all_nullable c body) (claim_of c n).nullable in
       let a = both (all_known c.count body) (i && (l && (e && k))) (row_of n r w) in
       let b = both i (l && (e && k)) a.1 in
       let d = both l (e && k) b.1 in
       let f = both e k d.1 in
-      record { known = a.0; null = b.0; light = d.0; last = f.0; kinds = f.1 }
+      record { known = a.0; null = b.0; light = d.0; last = f.0; sets = f.1 }
 
-  record KindFacts (n : ℕ) (r : Production R) (t : ℕ) : Type 0 where
-    first : implies (all_first c (r.body) t) (has (claim_of c n).first t && has r.starts t) ≡ true
-    end : implies (all_nullable c (r.body) && (has (claim_of c n).follow t && not (has r.stops t))) (has r.starts t) ≡ true
-    free : implies (has r.starts t) (not (has r.stops t)) ≡ true
-    follow : follow_ok c n (r.body) t ≡ true
+  record SetFacts (n : ℕ) (r : Production R) : Type 0 where
+    first : within (all_first c (r.body)) (claim_of c n).first ≡ true
+    start : within (all_first c (r.body)) r.starts ≡ true
+    end : implies (all_nullable c (r.body)) (within (claim_of c n).follow (bit_or r.starts r.stops)) ≡ true
+    free : apart r.starts r.stops ≡ true
+    follow : follow_ok c n (r.body) ≡ true
 
-  kind_facts : (n : ℕ) (r : Production R) (t : ℕ) → t < 128 → IsProduction g n r → KindFacts n r t
-  kind_facts n r t lt w =
-      let body = r.body in
-      let h = below_at 128 (kind_ok c n r) t (row_facts n r w).kinds lt in
-      let x = implies (all_first c body t) (has (claim_of c n).first t && has r.starts t) in
-      let y = implies (all_nullable c body && (has (claim_of c n).follow t && not (has r.stops t))) (has r.starts t) in
-      let z = implies (has r.starts t) (not (has r.stops t)) in
-      let a = both x (y && (z && follow_ok c n body t)) h in
-      let b = both y (z && follow_ok c n body t) a.1 in
-      let d = both z (follow_ok c n body t) b.1 in
-      record { first = a.0; end = b.0; free = d.0; follow = d.1 }
+  set_facts : (n : ℕ) (r : Production R) → IsProduction g n r → SetFacts n r
+  set_facts n r w =
+      let x = within (all_first c (r.body)) r.starts in
+      let y = implies (all_nullable c (r.body)) (within (claim_of c n).follow (bit_or r.starts r.stops)) in
+      let z = apart r.starts r.stops in
+      let a = both (within (all_first c (r.body)) (claim_of c n).first) (x && (y && (z && follow_ok c n (r.body)))) (row_facts n r w).sets in
+      let b = both x (y && (z && follow_ok c n (r.body))) a.1 in
+      let d = both y (z && follow_ok c n (r.body)) b.1 in
+      let f = both z (follow_ok c n (r.body)) d.1 in
+      record { first = a.0; start = b.0; end = d.0; free = f.0; follow = f.1 }
+
+  ended : (n : ℕ) (r : Production R) (t : ℕ) → IsProduction g n r → all_nullable c (r.body) ≡ true → has (claim_of c n).follow t ≡ true → has r.stops t ≡ false → has r.starts t ≡ true
+  ended n r t w h k f =
+      let all = implied (all_nullable c (r.body)) (within (claim_of c n).follow (bit_or r.starts r.stops)) (set_facts n r w).end h in
+      ⊎_elim (λ (a : has r.starts t ≡ true). a) (λ (a : has r.stops t ≡ true). absurd cc)
+      (has_either r.starts r.stops t (within_has (claim_of c n).follow (bit_or r.starts r.stops) t all k))
 
   pub sound : Sound g c
   sound = record {
     known = λ n r w. (row_facts n r w).known;
     nulls = λ n r w. implied (all_nullable c (r.body)) (claim_of c n).nullable (row_facts n r w).null;
     lighter = λ n r w. ltb-true (lead_weight c (r.body)) (claim_of c n).weight (row_facts n r w).light;
-    firsts = λ n r t lt w h. both (has (claim_of c n).first t) (has r.starts t) (implied (all_first c (r.body) t) (has (claim_of c n).first t && has r.starts t) (kind_facts n r t lt w).first h);
-    ends = λ n r t lt w h k f. implied (all_nullable c (r.body) && (has (claim_of c n).follow t && not (has r.stops t))) (has r.starts t) (kind_facts n r t lt w).end (and_both (all_nullable c (r.body)) (has (claim_of c n).follow t && not (has r.stops t)) h (and_both (has (claim_of c n).follow t) (not (has r.stops t)) k (true_not (has r.stops t) f)));
-    free = λ n r t lt w h. not_true (has r.stops t) (implied (has r.starts t) (not (has r.stops t)) (kind_facts n r t lt w).free h);
+    firsts = λ n r t w h. (within_has (all_first c (r.body)) (claim_of c n).first t (set_facts n r w).first h, within_has (all_first c (r.body)) r.starts t (set_facts n r w).start h);
+    ends = ended;
+    free = λ n r t w h. false_from_ne_true (has r.stops t) (apart_has r.starts r.stops t (set_facts n r w).free h);
     last = λ n r w. not_true (has r.stops 0) (row_facts n r w).last;
-    follows = λ n r t lt w. (kind_facts n r t lt w).follow;
-    picks = λ n r t lt w k. alone_picked g n t w.place r (below_at 128 (alone_at g) t parts.alone lt) w.row_is w.part_is k;
+    follows = λ n r w. (set_facts n r w).follow;
+    picks = λ n r t w k. one_picked g n t w.place r parts.chosen w.row_is w.part_is k;
     grows = λ n lt.
-        let m = some_at c n g (below_at c.count (λ k. some_lower c k g) n parts.some lt) in
+        let m = led c 0 g parts.led n (omega arith) lt in
         (m.row, record { place = m.place; part_is = m.part_is; row_is = m.row_is }, m.free, m.low);
   }

@@ -1,6 +1,6 @@
 -- The machine's steps, against what the grammar derives.
-use Rattle.std.specs.Prelude.{if◌then◌else◌, ◌≡◌, ℕ, zero, suc, ◌+◌, ◌<◌, ◌≤◌, List, [], ◌∷◌, ◌++◌, Bool, true, false, not, ◌&&◌, ◌||◌, Option, Some, None, nat_lt, nat_eq, slice_get, length, ◌⊎◌}
-use Rattle.std.proofs.Common.{zero-add, ⊎_elim, refl, ap, sym, ◌∙◌, subst, inl, inr, arith, eq-eqb}
+use Rattle.std.specs.Prelude.{if◌then◌else◌, ◌≡◌, ℕ, suc, ◌+◌, ◌^◌, ◌<◌, List, [], ◌∷◌, ◌++◌, Bool, true, false, ◌&&◌, Option, Some, None, nat_lt, nat_eq, ◌⊎◌}
+use Rattle.std.proofs.Common.{zero-add, ⊎_elim, refl, ap, sym, ◌∙◌, subst, inl, inr, arith}
 use Rattle.std.proofs.lemmas.List.{append_assoc}
 use Rattle.std.proofs.lemmas.List.Elements.{All-nil, All-push, All-append, All-weaker}
 use Rattle.std.proofs.lemmas.Bool.{ltb-true, eqb-true}
@@ -9,9 +9,10 @@ use Rattle.gb_grammar.specs.declared.table.Symbol.{Symbol}
 use Rattle.gb_grammar.specs.declared.table.Symbol.TheVariants.{Token, Part}
 use Rattle.gb_grammar.specs.declared.table.Step.{Step}
 use Rattle.gb_grammar.specs.Grammar.{Grammar, Production, has, IsProduction, Allowed, step, Derives, done, token, choose}
-use Rattle.gb_grammar.specs.Check.{Claims, claim_of, symbol_nullable, symbol_first, symbol_weight, lead_weight, all_nullable, all_first, all_known, symbol_follow_ok, follow_ok, pick_of}
+use Rattle.gb_grammar.specs.Check.{Claims, claim_of, implies, within, symbol_nullable, symbol_first, symbol_weight, lead_weight, all_nullable, all_first, all_known, symbol_follow_ok, follow_ok, pick_of}
 use Rattle.gb_grammar.specs.Stack.{Followed, Good, Expands, Stuck, Reads}
-use Rattle.gb_grammar.proofs.Tests.{both, or_left, or_right, and_both, implied, or_and}
+use Rattle.gb_grammar.proofs.Tests.{both, and_both, implied}
+use Rattle.gb_grammar.proofs.Sets.{has_own, within_has, starts_of, starts_first, starts_later}
 use Rattle.gb_grammar.proofs.Sound.{Sound}
 
 lead_more : (x y : Bool) (w b s m : ℕ) → m ≡ b + (if y then s else 0) → w + (if x then m else 0) ≡ w + (if x then b else 0) + (if x && y then s else 0)
@@ -48,15 +49,17 @@ module _ {R : Type 0} where
   picked_at (x ∷ rows) n t r e = picked_first (nat_eq x.part n) (has x.starts t) x r rows n t (eqb-true x.part n) (λ h. h) e (picked_at rows n t r)
 
 module _ (c : Claims) where
-  first_append : (a b : List Symbol) (t : ℕ) → all_first c (a ++ b) t ≡ true → (all_first c a t ≡ true) ⊎ ((all_nullable c a ≡ true) × (all_first c b t ≡ true))
+  first_append : (a b : List Symbol) (t : ℕ) → has (all_first c (a ++ b)) t ≡ true → (has (all_first c a) t ≡ true) ⊎ ((all_nullable c a ≡ true) × (has (all_first c b) t ≡ true))
   first_append [] b t h = inr (refl, h)
   first_append (s ∷ a) b t h =
-      ⊎_elim (λ (f : symbol_first c s t ≡ true). inl (or_left (symbol_first c s t) (symbol_nullable c s && all_first c a t) f))
-      (λ (p : (symbol_nullable c s ≡ true) × (all_first c (a ++ b) t ≡ true)).
-      ⊎_elim (λ (f : all_first c a t ≡ true). inl (or_right (symbol_first c s t) (symbol_nullable c s && all_first c a t) (and_both (symbol_nullable c s) (all_first c a t) p.0 f)))
-      (λ (q : (all_nullable c a ≡ true) × (all_first c b t ≡ true)). inr (and_both (symbol_nullable c s) (all_nullable c a) p.0 q.0, q.1))
+      let y = symbol_nullable c s in
+      let x = symbol_first c s in
+      ⊎_elim (λ (f : has x t ≡ true). inl (starts_first y x (all_first c a) t f))
+      (λ (p : (y ≡ true) × (has (all_first c (a ++ b)) t ≡ true)).
+      ⊎_elim (λ (f : has (all_first c a) t ≡ true). inl (starts_later y x (all_first c a) t p.0 f))
+      (λ (q : (all_nullable c a ≡ true) × (has (all_first c b) t ≡ true)). inr (and_both y (all_nullable c a) p.0 q.0, q.1))
       (first_append a b t p.1))
-      (or_and (symbol_first c s t) (symbol_nullable c s) (all_first c (a ++ b) t) h)
+      (starts_of y x (all_first c (a ++ b)) t h)
 
   null_append : (a b : List Symbol) → all_nullable c (a ++ b) ≡ true → (all_nullable c a ≡ true) × (all_nullable c b ≡ true)
   null_append [] b h = (refl, h)
@@ -109,66 +112,70 @@ module _ {R : Type 0} (g : Grammar R) where
   module _ (c : Claims) (sound : Sound g c) where
     -- The symbols start with the kind, or are empty before it.
     abbrev Starts : List Symbol → List Symbol → ℕ → List ℕ → Type 0
-    Starts b ss t w = (all_first c b t ≡ true) ⊎ ((all_nullable c b ≡ true) × (at : ℕ) × (ps : List (Step R)) × Derives g ss at (t ∷ w) ps)
+    Starts b ss t w = (has (all_first c b) t ≡ true) ⊎ ((all_nullable c b ≡ true) × (at : ℕ) × (ps : List (Step R)) × Derives g ss at (t ∷ w) ps)
 
-    open_row : (n : ℕ) (r : Production R) (b ss : List Symbol) (t : ℕ) (w : List ℕ) → t < 128 → IsProduction g n r → Starts (r.body ++ b) ss t w → Starts (Part n ∷ b) ss t w
-    open_row n r b ss t w lt i ih =
-        let x = symbol_first c (Part n) t in
+    open_row : (n : ℕ) (r : Production R) (b ss : List Symbol) (t : ℕ) (w : List ℕ) → IsProduction g n r → Starts (r.body ++ b) ss t w → Starts (Part n ∷ b) ss t w
+    open_row n r b ss t w i ih =
+        let x = symbol_first c (Part n) in
         let y = symbol_nullable c (Part n) in
         ⊎_elim
-        (λ (f : all_first c (r.body ++ b) t ≡ true).
-        ⊎_elim (λ (h : all_first c (r.body) t ≡ true). inl (or_left x (y && all_first c b t) (sound.firsts n r t lt i h).0))
-        (λ (h : (all_nullable c (r.body) ≡ true) × (all_first c b t ≡ true)). inl (or_right x (y && all_first c b t) (and_both y (all_first c b t) (sound.nulls n r i h.0) h.1)))
+        (λ (f : has (all_first c (r.body ++ b)) t ≡ true).
+        ⊎_elim (λ (h : has (all_first c (r.body)) t ≡ true). inl (starts_first y x (all_first c b) t (sound.firsts n r t i h).0))
+        (λ (h : (all_nullable c (r.body) ≡ true) × (has (all_first c b) t ≡ true)). inl (starts_later y x (all_first c b) t (sound.nulls n r i h.0) h.1))
         (first_append c (r.body) b t f))
         (λ (h : (all_nullable c (r.body ++ b) ≡ true) × (at : ℕ) × (ps : List (Step R)) × Derives g ss at (t ∷ w) ps).
         let p = null_append c (r.body) b h.0 in
         inr (and_both y (all_nullable c b) (sound.nulls n r i p.0) p.1, h.1, h.2, h.3))
         ih
 
-    starts_at : {st : List Symbol} {at : ℕ} {v : List ℕ} {ps : List (Step R)} → Derives g st at v ps → (b ss : List Symbol) (t : ℕ) (w : List ℕ) → t < 128 → st ≡ b ++ ss → v ≡ t ∷ w → Starts b ss t w
-    starts_at done b ss t w lt e f = absurd cc
-    starts_at (token {k = k} {ss = s0} {at = at} {w = w0} {ps = ps} d) [] ss t w lt e f =
+    starts_at : {st : List Symbol} {at : ℕ} {v : List ℕ} {ps : List (Step R)} → Derives g st at v ps → (b ss : List Symbol) (t : ℕ) (w : List ℕ) → st ≡ b ++ ss → v ≡ t ∷ w → Starts b ss t w
+    starts_at done b ss t w e f = absurd cc
+    starts_at (token {k = k} {ss = s0} {at = at} {w = w0} {ps = ps} d) [] ss t w e f =
         inr (refl, at, ps, subst (λ (l : List Symbol). Derives g l at (t ∷ w) ps) e (subst (λ (x : List ℕ). Derives g (Token k ∷ s0) at x ps) f (token d)))
-    starts_at (token {k = k} {ss = s0} {w = w0} {ps = ps} d) (s ∷ b) ss t w lt e f =
+    starts_at (token {k = k} {ss = s0} {w = w0} {ps = ps} d) (s ∷ b) ss t w e f =
         let q : Token k ≡ s = cc in
         let m : k ≡ t = cc in
-        inl (or_left (symbol_first c s t) (symbol_nullable c s && all_first c b t) (subst (λ (x : Symbol). symbol_first c x t ≡ true) q (eq-eqb k t m)))
-    starts_at (choose {n = n} {ss = s0} {at = at} {w = w0} {ps = ps} r i al d) [] ss t w lt e f =
+        let own : has (2 ^ k) t ≡ true = subst (λ (j : ℕ). has (2 ^ j) t ≡ true) (sym m) (has_own t) in
+        inl (starts_first (symbol_nullable c s) (symbol_first c s) (all_first c b) t (subst (λ (x : Symbol). has (symbol_first c x) t ≡ true) q own))
+    starts_at (choose {n = n} {ss = s0} {at = at} {w = w0} {ps = ps} r i al d) [] ss t w e f =
         inr (refl, at, step r at ∷ ps, subst (λ (l : List Symbol). Derives g l at (t ∷ w) (step r at ∷ ps)) e (subst (λ (x : List ℕ). Derives g (Part n ∷ s0) at x (step r at ∷ ps)) f (choose r i al d)))
-    starts_at (choose {n = n} {ss = s0} {w = w0} {ps = ps} r i al d) (s ∷ b) ss t w lt e f =
+    starts_at (choose {n = n} {ss = s0} {w = w0} {ps = ps} r i al d) (s ∷ b) ss t w e f =
         let q : Part n ≡ s = cc in
         let tail : s0 ≡ b ++ ss = cc in
-        let ih = starts_at d (r.body ++ b) ss t w lt (ap (λ (l : List Symbol). r.body ++ l) tail ∙ sym (append_assoc (r.body) b ss)) f in
-        subst (λ (x : Symbol). Starts (x ∷ b) ss t w) q (open_row n r b ss t w lt i ih)
+        let ih = starts_at d (r.body ++ b) ss t w (ap (λ (l : List Symbol). r.body ++ l) tail ∙ sym (append_assoc (r.body) b ss)) f in
+        subst (λ (x : Symbol). Starts (x ∷ b) ss t w) q (open_row n r b ss t w i ih)
 
-    good_body : (n : ℕ) (b ss : List Symbol) → all_known c.count b ≡ true → ((t : ℕ) → t < 128 → follow_ok c n b t ≡ true) → Followed g c n ss → Good g c ss → Good g c (b ++ ss)
+    good_body : (n : ℕ) (b ss : List Symbol) → all_known c.count b ≡ true → follow_ok c n b ≡ true → Followed g c n ss → Good g c ss → Good g c (b ++ ss)
     good_body n [] ss k f fo h = h
     good_body n (Token x ∷ b) ss k f fo h =
         let p = both (nat_lt 0 x && nat_lt x 128) (all_known c.count b) k in
         let q = both (nat_lt 0 x) (nat_lt x 128) p.0 in
         let pos : 0 < x = ltb-true 0 x q.0 in
-        ((λ (e : x ≡ 0). absurd (omega arith)), ltb-true x 128 q.1, good_body n b ss p.1 (λ t lt. (both true (follow_ok c n b t) (f t lt)).1) fo h)
+        ((λ (e : x ≡ 0). absurd (omega arith)), ltb-true x 128 q.1, good_body n b ss p.1 f fo h)
     good_body n (Part m ∷ b) ss k f fo h =
         let p = both (nat_lt m c.count) (all_known c.count b) k in
-        let rest = good_body n b ss p.1 (λ t lt. (both (symbol_follow_ok c n (Part m) b t) (follow_ok c n b t) (f t lt)).1) fo h in
+        let own = (claim_of c n).follow in
+        let its = (claim_of c m).follow in
+        let q = both (symbol_follow_ok c n (Part m) b) (follow_ok c n b) f in
+        let after = both (within (all_first c b) its) (implies (all_nullable c b) (within own its)) q.0 in
+        let rest = good_body n b ss p.1 q.1 fo h in
         let here : Followed g c m (b ++ ss) = (λ t at w ps lt d.
-        let fol = has (claim_of c n).follow t in
-        let want = implied (all_first c b t || (all_nullable c b && fol)) (has (claim_of c m).follow t) (both (symbol_follow_ok c n (Part m) b t) (follow_ok c n b t) (f t lt)).0 in
-        ⊎_elim (λ (a : all_first c b t ≡ true). want (or_left (all_first c b t) (all_nullable c b && fol) a))
-        (λ (a : (all_nullable c b ≡ true) × (at : ℕ) × (qs : List (Step R)) × Derives g ss at (t ∷ w) qs). want (or_right (all_first c b t) (all_nullable c b && fol) (and_both (all_nullable c b) fol a.0 (fo t a.1 w a.2 lt a.3))))
-        (starts_at d b ss t w lt refl refl)) in
+        ⊎_elim (λ (a : has (all_first c b) t ≡ true). within_has (all_first c b) its t after.0 a)
+        (λ (a : (all_nullable c b ≡ true) × (at : ℕ) × (qs : List (Step R)) × Derives g ss at (t ∷ w) qs).
+        within_has own its t (implied (all_nullable c b) (within own its) after.1 a.0) (fo t a.1 w a.2 lt a.3))
+        (starts_at d b ss t w refl refl)) in
         (ltb-true m c.count p.0, here, rest)
 
     pub good_open : (n : ℕ) (ss : List Symbol) (r : Production R) → IsProduction g n r → Good g c (Part n ∷ ss) → Good g c (r.body ++ ss)
-    good_open n ss r i h = good_body n (r.body) ss (sound.known n r i) (λ t lt. sound.follows n r t lt i) h.1 h.2
+    good_open n ss r i h = good_body n (r.body) ss (sound.known n r i) (sound.follows n r i) h.1 h.2
 
     -- the only row that can be opened at this kind of token is the one that is picked
     pub opened : (n : ℕ) (ss : List Symbol) (t at : ℕ) (w : List ℕ) (ps : List (Step R)) → t < 128 → Good g c (Part n ∷ ss) → (d : Opens n ss at (t ∷ w) ps) → pick_of g n t ≡ Some d.row
     opened n ss t at w ps lt h d =
-        sound.picks n d.row t lt d.is
-        (⊎_elim (λ (a : all_first c (d.row.body) t ≡ true). (sound.firsts n d.row t lt d.is a).1)
-        (λ (a : (all_nullable c (d.row.body) ≡ true) × (at : ℕ) × (qs : List (Step R)) × Derives g ss at (t ∷ w) qs). sound.ends n d.row t lt d.is a.0 (h.1 t a.1 w a.2 lt a.3) d.allowed)
-        (starts_at d.tree (d.row.body) ss t w lt refl refl))
+        sound.picks n d.row t d.is
+        (⊎_elim (λ (a : has (all_first c (d.row.body)) t ≡ true). (sound.firsts n d.row t d.is a).1)
+        (λ (a : (all_nullable c (d.row.body) ≡ true) × (at : ℕ) × (qs : List (Step R)) × Derives g ss at (t ∷ w) qs). sound.ends n d.row t d.is a.0 (h.1 t a.1 w a.2 lt a.3) d.allowed)
+        (starts_at d.tree (d.row.body) ss t w refl refl))
 
     pub expands_none : (t at : ℕ) (ss : List Symbol) → Expands g t at ss [] ss
     expands_none t at ss = record { here = All-nil (λ (q : Step R). q.at ≡ at); back = λ w ps d. d; forth = λ w ps d. (ps, refl, d) }
@@ -176,7 +183,7 @@ module _ {R : Type 0} (g : Grammar R) where
     pub expands_open : (t at : ℕ) (from : List Symbol) (qs : List (Step R)) (n : ℕ) (ss : List Symbol) (r : Production R) → t < 128 → Good g c (Part n ∷ ss) → IsProduction g n r → has r.starts t ≡ true → pick_of g n t ≡ Some r → Expands g t at from qs (Part n ∷ ss) → Expands g t at from (qs ++ step r at ∷ []) (r.body ++ ss)
     expands_open t at from qs n ss r lt h i st p x = record {
       here = All-push (λ (q : Step R). q.at ≡ at) qs (step r at) x.here refl;
-      back = λ w ps d. subst (λ (l : List (Step R)). Derives g from at (t ∷ w) l) (sym (append_assoc qs (step r at ∷ []) ps)) (x.back w (step r at ∷ ps) (choose r i (sound.free n r t lt i st) d));
+      back = λ w ps d. subst (λ (l : List (Step R)). Derives g from at (t ∷ w) l) (sym (append_assoc qs (step r at ∷ []) ps)) (x.back w (step r at ∷ ps) (choose r i (sound.free n r t i st) d));
       forth = λ w ps d.
           let a = x.forth w ps d in
           let o = opens a.2 in

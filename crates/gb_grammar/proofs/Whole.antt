@@ -1,20 +1,20 @@
 -- From the stack with its end to whole texts.
-use Rattle.std.specs.Prelude.{◌≡◌, ℕ, zero, suc, ◌+◌, ◌<◌, ◌≤◌, List, [], ◌∷◌, ◌++◌, Bool, true, false, ◌&&◌, nat_lt, length, take, drop}
+use Rattle.std.specs.Prelude.{◌≡◌, ℕ, suc, ◌+◌, ◌<◌, ◌≤◌, List, [], ◌∷◌, ◌++◌, Bool, true, false, ◌&&◌, nat_lt, length, take, drop}
 use Rattle.std.proofs.Common.{refl, ap, sym, ◌∙◌, subst, arith, get_or}
 use Rattle.std.proofs.lemmas.List.{append_assoc, append-nil, take_more, take-append-drop, take_all, take-append-le}
 use Rattle.std.proofs.lemmas.List.Elements.{All-nil, All-cons, All-weaker, All-take}
-use Rattle.std.proofs.lemmas.Bool.{ltb-true, lt-ltb}
+use Rattle.std.proofs.lemmas.Bool.{ltb-true}
 use Rattle.std.specs.List.{All}
 use Rattle.gb_grammar.specs.declared.table.Symbol.{Symbol}
 use Rattle.gb_grammar.specs.declared.table.Symbol.TheVariants.{Token, Part}
 use Rattle.gb_grammar.specs.declared.table.Step.{Step}
-use Rattle.gb_grammar.specs.Grammar.{Grammar, Production, has, IsProduction, Allowed, step, Derives, done, token, choose}
+use Rattle.gb_grammar.specs.Grammar.{Grammar, Production, has, Allowed, step, Derives, done, token, choose}
 use Rattle.gb_grammar.specs.Check.{Claims, claim_of, is_start, all_known}
-use Rattle.gb_grammar.specs.Stack.{Followed, Good, Expands, Stuck, Reads, Moved, Halted, Advanced}
+use Rattle.gb_grammar.specs.Stack.{Good, Stuck, Reads, Moved, Halted, Advanced}
 use Rattle.gb_grammar.specs.Reading.{Spells, Begins, IsKind, FirstFault, StepsBefore}
 use Rattle.gb_grammar.proofs.Tests.{both, and_both}
 use Rattle.gb_grammar.proofs.Sound.{Sound}
-use Rattle.gb_grammar.proofs.Steps.{Ends, ends_of, Matches, matches, derives_end, reads_more}
+use Rattle.gb_grammar.proofs.Steps.{ends_of, matches, derives_end, reads_more}
 use Rattle.gb_grammar.proofs.Words.{word_of_stack}
 
 pub known_append : (p : ℕ) (a b : List Symbol) → all_known p a ≡ true → all_known p b ≡ true → all_known p (a ++ b) ≡ true

@@ -1,12 +1,12 @@
 -- Whatever lies on the stack can be completed.
-use Rattle.std.specs.Prelude.{◌≡◌, ℕ, zero, suc, ◌+◌, ◌/◌, ◌%◌, ◌^◌, ◌<◌, List, [], ◌∷◌, ◌++◌, Bool, true, false, ◌&&◌, nat_lt, nat_eq, length}
-use Rattle.std.proofs.Common.{refl, ap, arith}
+use Rattle.std.specs.Prelude.{◌≡◌, ℕ, zero, suc, ◌+◌, ◌%◌, ◌^◌, ◌<◌, List, [], ◌∷◌, ◌++◌, true, nat_lt, nat_eq}
+use Rattle.std.proofs.Common.{ap, arith}
 use Rattle.std.proofs.lemmas.Bool.{ltb-true}
 use Rattle.std.proofs.Math.Nat.{zero-div}
 use Rattle.gb_grammar.specs.declared.table.Symbol.{Symbol}
 use Rattle.gb_grammar.specs.declared.table.Symbol.TheVariants.{Token, Part}
 use Rattle.gb_grammar.specs.declared.table.Step.{Step}
-use Rattle.gb_grammar.specs.Grammar.{Grammar, Production, has, Allowed, step, Derives, done, token, choose}
+use Rattle.gb_grammar.specs.Grammar.{Grammar, Production, Allowed, step, Derives, done, token, choose}
 use Rattle.gb_grammar.specs.Check.{Claims, claim_of, all_lower, all_known, symbol_known}
 use Rattle.gb_grammar.specs.Stack.{Good}
 use Rattle.gb_grammar.proofs.Tests.{both}

@@ -1,5 +1,5 @@
 -- The test that a grammar can be read with one token of lookahead.
-use Rattle.std.specs.Prelude.{◌≡◌, ℕ, zero, suc, ◌+◌, ◌<◌, List, [], ◌∷◌, Bool, true, false, not, ◌&&◌, ◌||◌, Option, Some, None, nat_lt, nat_le, nat_eq, if◌then◌else◌, slice_index_or, length, take, drop, ◌-◌, ◌≤◌}
+use Rattle.std.specs.Prelude.{◌≡◌, ℕ, zero, suc, ◌+◌, ◌<◌, List, [], ◌∷◌, Bool, true, false, not, ◌&&◌, Option, Some, None, nat_lt, nat_le, nat_eq, if◌then◌else◌, slice_index_or, length, take, drop, ◌-◌, ◌≤◌, ◌^◌, bit_and, bit_or}
 use Rattle.gb_grammar.specs.declared.table.Symbol.{Symbol}
 use Rattle.gb_grammar.specs.declared.table.Symbol.TheVariants.{Token, Part}
 use Rattle.gb_grammar.specs.declared.table.Row.{Row}
@@ -39,14 +39,22 @@ abbrev pub all_nullable : Claims → List Symbol → Bool
 all_nullable c [] = true
 all_nullable c (s ∷ ss) = symbol_nullable c s && all_nullable c ss
 
--- A text of the symbol, or of the symbols together, may start with this kind of token.
-abbrev pub symbol_first : Claims → Symbol → ℕ → Bool
-symbol_first c (Token k) t = nat_eq k t
-symbol_first c (Part n) t = has (claim_of c n).first t
+-- The kinds of the first set are all in the second.
+abbrev pub within : ℕ → ℕ → Bool
+within a b = nat_eq (bit_and a b) a
 
-abbrev pub all_first : Claims → List Symbol → ℕ → Bool
-all_first c [] t = false
-all_first c (s ∷ ss) t = symbol_first c s t || (symbol_nullable c s && all_first c ss t)
+-- No kind is in both sets.
+abbrev pub apart : ℕ → ℕ → Bool
+apart a b = nat_eq (bit_and a b) 0
+
+-- the kinds of token that a text of the symbol, or of the symbols together, may start with
+abbrev pub symbol_first : Claims → Symbol → ℕ
+symbol_first c (Token k) = 2 ^ k
+symbol_first c (Part n) = (claim_of c n).first
+
+abbrev pub all_first : Claims → List Symbol → ℕ
+all_first c [] = 0
+all_first c (s ∷ ss) = if symbol_nullable c s then bit_or (symbol_first c s) (all_first c ss) else symbol_first c s
 
 abbrev pub symbol_weight : Claims → Symbol → ℕ
 symbol_weight c (Token k) = 1
@@ -75,14 +83,14 @@ abbrev pub all_known : ℕ → List Symbol → Bool
 all_known parts [] = true
 all_known parts (s ∷ ss) = symbol_known parts s && all_known parts ss
 
--- Where part `n` is these symbols, each part among them may be followed by the kind if it comes next.
-abbrev pub symbol_follow_ok : Claims → ℕ → Symbol → List Symbol → ℕ → Bool
-symbol_follow_ok c n (Token k) ss t = true
-symbol_follow_ok c n (Part m) ss t = implies (all_first c ss t || (all_nullable c ss && has (claim_of c n).follow t)) (has (claim_of c m).follow t)
+-- Where part `n` is these symbols, each part among them may be followed by what comes next.
+abbrev pub symbol_follow_ok : Claims → ℕ → Symbol → List Symbol → Bool
+symbol_follow_ok c n (Token k) ss = true
+symbol_follow_ok c n (Part m) ss = within (all_first c ss) (claim_of c m).follow && implies (all_nullable c ss) (within (claim_of c n).follow (claim_of c m).follow)
 
-abbrev pub follow_ok : Claims → ℕ → List Symbol → ℕ → Bool
-follow_ok c n [] t = true
-follow_ok c n (s ∷ ss) t = symbol_follow_ok c n s ss t && follow_ok c n ss t
+abbrev pub follow_ok : Claims → ℕ → List Symbol → Bool
+follow_ok c n [] = true
+follow_ok c n (s ∷ ss) = symbol_follow_ok c n s ss && follow_ok c n ss
 
 -- where the rows of the part begin
 abbrev pub place_of : List ℕ → ℕ → ℕ
@@ -93,13 +101,14 @@ abbrev pub place_ok : List ℕ → ℕ → ℕ → Bool
 place_ok places rows n = nat_le (place_of places n) (place_of places (n + 1)) && nat_le (place_of places (n + 1)) rows
 
 module _ {R : Type 0} where
-  -- What is tested of a row at a kind of token.
-  abbrev pub kind_ok : Claims → ℕ → Production R → ℕ → Bool
-  kind_ok c n r t =
-      implies (all_first c (r.body) t) (has (claim_of c n).first t && has r.starts t)
-      && (implies (all_nullable c (r.body) && (has (claim_of c n).follow t && not (has r.stops t))) (has r.starts t)
-      && (implies (has r.starts t) (not (has r.stops t))
-      && follow_ok c n (r.body) t))
+  -- What is tested of the sets of a row.
+  abbrev pub sets_ok : Claims → ℕ → Production R → Bool
+  sets_ok c n r =
+      within (all_first c (r.body)) (claim_of c n).first
+      && (within (all_first c (r.body)) r.starts
+      && (implies (all_nullable c (r.body)) (within (claim_of c n).follow (bit_or r.starts r.stops))
+      && (apart r.starts r.stops
+      && follow_ok c n (r.body))))
 
   abbrev pub row_ok : ℕ → Claims → ℕ → Production R → Bool
   row_ok parts c n r =
@@ -107,26 +116,30 @@ module _ {R : Type 0} where
       && (implies (all_nullable c (r.body)) (claim_of c n).nullable
       && (nat_lt (lead_weight c (r.body)) (claim_of c n).weight
       && (not (has r.stops 0)
-      && all_below 128 (kind_ok c n r))))
+      && sets_ok c n r)))
 
   abbrev pub rows_ok : ℕ → Claims → Grammar R → Bool
   rows_ok parts c [] = true
   rows_ok parts c (r ∷ rs) = row_ok parts c r.part r && rows_ok parts c rs
 
-  -- No row of the part is chosen at this kind of token.
-  abbrev pub none_at : ℕ → Grammar R → ℕ → Bool
-  none_at n [] t = true
-  none_at n (r ∷ rs) t = implies (nat_eq r.part n) (not (has r.starts t)) && none_at n rs t
+  -- No row of the part is chosen at a kind of the set.
+  abbrev pub none_chosen : ℕ → ℕ → Grammar R → Bool
+  none_chosen n kinds [] = true
+  none_chosen n kinds (r ∷ rs) = implies (nat_eq r.part n) (apart kinds r.starts) && none_chosen n kinds rs
 
-  -- Of each part at most one row is chosen at this kind of token.
-  abbrev pub alone_at : Grammar R → ℕ → Bool
-  alone_at [] t = true
-  alone_at (r ∷ rs) t = implies (has r.starts t) (none_at r.part rs t) && alone_at rs t
+  -- Of each part at most one row is chosen at each kind of token.
+  abbrev pub one_chosen : Grammar R → Bool
+  one_chosen [] = true
+  one_chosen (r ∷ rs) = none_chosen r.part r.starts rs && one_chosen rs
 
-  -- Some row of the part leads to a text of it.
-  abbrev pub some_lower : Claims → ℕ → Grammar R → Bool
-  some_lower c n [] = false
-  some_lower c n (r ∷ rs) = (nat_eq r.part n && (nat_eq r.stops 0 && all_lower c (claim_of c n).height (r.body))) || some_lower c n rs
+  -- The row leads to a text of the part.
+  abbrev pub leads : Claims → ℕ → Production R → Bool
+  leads c n r = nat_eq r.part n && (nat_eq r.stops 0 && all_lower c (claim_of c n).height (r.body))
+
+  -- Some row leads to a text of part `n`, a later one to a text of the next part, and so on up to the last part.
+  abbrev pub all_led : Claims → ℕ → Grammar R → Bool
+  all_led c n [] = nat_le c.count n
+  all_led c n (r ∷ rs) = if leads c n r then all_led c (n + 1) rs else all_led c n rs
 
   -- the production that is chosen at a kind of token
   abbrev pub pick_of : Grammar R → ℕ → ℕ → Option (Production R)
@@ -136,9 +149,7 @@ module _ {R : Type 0} where
   -- The claims are true of all productions, and one token decides each choice.
   abbrev pub productions_ok : Claims → Grammar R → Bool
   productions_ok c g =
-      rows_ok c.count c g
-      && (all_below 128 (alone_at g)
-      && all_below c.count (λ n. some_lower c n g))
+      rows_ok c.count c g && (one_chosen g && all_led c 0 g)
 
   -- Each row, the first of them at place `i`, stands between the places of its part and of the next one.
   abbrev pub rows_placed : List ℕ → ℕ → List (Row R) → Bool

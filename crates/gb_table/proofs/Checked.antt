@@ -5,35 +5,35 @@ use Rattle.gb_table.specs.declared.rows.TheConstants.{ROWS, PLACES}
 use Rattle.gb_table.specs.declared.bodies.TheConstants.{SYMBOLS}
 use Rattle.gb_table.specs.Claims.{claims}
 use Rattle.gb_grammar.specs.Grammar.{grammar_of}
-use Rattle.gb_grammar.specs.Check.{grammar_ok, rows_ok, alone_at, all_below, some_lower, places_ok}
+use Rattle.gb_grammar.specs.Check.{grammar_ok, rows_ok, one_chosen, all_led, places_ok}
 use Rattle.gb_grammar.proofs.Tests.{and_both}
 
 built_rows : rows_ok (claims 0).count (claims 0) (grammar_of 0 ROWS SYMBOLS) ≡ true
 built_rows = refl
 
-built_alone : all_below 128 (alone_at (grammar_of 0 ROWS SYMBOLS)) ≡ true
-built_alone = refl
+built_chosen : one_chosen (grammar_of 0 ROWS SYMBOLS) ≡ true
+built_chosen = refl
 
-built_some : all_below (claims 0).count (λ n. some_lower (claims 0) n (grammar_of 0 ROWS SYMBOLS)) ≡ true
-built_some = refl
+built_led : all_led (claims 0) 0 (grammar_of 0 ROWS SYMBOLS) ≡ true
+built_led = refl
 
 built_places : places_ok PLACES (claims 0).count ROWS ≡ true
 built_places = refl
 
 pub built_pass : grammar_ok 0 (claims 0) PLACES ROWS SYMBOLS ≡ true
-built_pass = and_both _ _ (and_both _ _ built_rows (and_both _ _ built_alone built_some)) built_places
+built_pass = and_both _ _ (and_both _ _ built_rows (and_both _ _ built_chosen built_led)) built_places
 
 goals_rows : rows_ok (claims 1).count (claims 1) (grammar_of 1 ROWS SYMBOLS) ≡ true
 goals_rows = refl
 
-goals_alone : all_below 128 (alone_at (grammar_of 1 ROWS SYMBOLS)) ≡ true
-goals_alone = refl
+goals_chosen : one_chosen (grammar_of 1 ROWS SYMBOLS) ≡ true
+goals_chosen = refl
 
-goals_some : all_below (claims 1).count (λ n. some_lower (claims 1) n (grammar_of 1 ROWS SYMBOLS)) ≡ true
-goals_some = refl
+goals_led : all_led (claims 1) 0 (grammar_of 1 ROWS SYMBOLS) ≡ true
+goals_led = refl
 
 goals_places : places_ok PLACES (claims 1).count ROWS ≡ true
 goals_places = refl
 
 pub goals_pass : grammar_ok 1 (claims 1) PLACES ROWS SYMBOLS ≡ true
-goals_pass = and_both _ _ (and_both _ _ goals_rows (and_both _ _ goals_alone goals_some)) goals_places
+goals_pass = and_both _ _ (and_both _ _ goals_rows (and_both _ _ goals_chosen goals_led)) goals_places

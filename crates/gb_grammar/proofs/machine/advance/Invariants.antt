@@ -1,4 +1,4 @@
-use Rattle.std.proofs.Common.{◌≡◌, ◌++◌, List, ℕ}
+use Rattle.std.proofs.Common.{◌≡◌, ◌++◌, List}
 use Rattle.std.specs.Prelude.{reverse}
 use Rattle.gb_grammar.specs.declared.table.Step.{Step}
 use Rattle.gb_grammar.specs.Grammar.{grammar_of}

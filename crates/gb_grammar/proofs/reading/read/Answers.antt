@@ -1,4 +1,4 @@
-use Rattle.std.proofs.Common.{rules, refl, ap, sym, ◌∙◌, subst, arith, ◌≡◌, ℕ, List, [], ◌∷◌, ◌++◌, length, reverse}
+use Rattle.std.proofs.Common.{ap, sym, ◌∙◌, subst, arith, ◌≡◌, ℕ, List, [], ◌∷◌, ◌++◌, length, reverse}
 use Rattle.gb_grammar.specs.declared.table.Symbol.{Symbol}
 use Rattle.gb_grammar.specs.declared.table.Symbol.TheVariants.{Token, Part}
 use Rattle.gb_grammar.specs.declared.table.Step.{Step}

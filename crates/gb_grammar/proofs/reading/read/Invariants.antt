@@ -1,4 +1,3 @@
-use Rattle.std.proofs.Common.{◌≡◌}
 use Rattle.std.specs.Prelude.{reverse}
 use Rattle.gb_grammar.specs.Grammar.{grammar_of}
 use Rattle.gb_grammar.proofs.Whole.{Kept}
