@@ -434,18 +434,15 @@ def checked_file(source, crate):
     lines += [f"use Rattle.{crate}.specs.declared.rows.TheConstants.{{ROWS, PLACES}}"]
     lines += [f"use Rattle.{crate}.specs.declared.bodies.TheConstants.{{SYMBOLS}}"]
     lines += [f"use Rattle.{crate}.specs.Claims.{{claims}}"]
-    lines += ["use Rattle.gb_grammar.specs.Grammar.{grammar_of}"]
-    lines += ["use Rattle.gb_grammar.specs.Check.{grammar_ok, rows_ok, one_chosen, all_led, places_ok}"]
-    lines += ["use Rattle.gb_grammar.proofs.Tests.{and_both}"]
+    lines += ["use Rattle.gb_grammar.specs.Check.{productions_ok, places_ok, grammar_ok}"]
+    lines += ["use Rattle.gb_grammar.proofs.Bodies.{bodies, in_order, grammar_with, grammar_passes}"]
+    lines += ["", "ordered : in_order 0 ROWS (bodies SYMBOLS) ≡ true", "ordered = refl"]
     for stage, name in enumerate(STAGE_NAMES):
         low = name.lower()
-        grammar = f"(grammar_of {stage} ROWS SYMBOLS)"
-        lines += ["", f"{low}_rows : rows_ok (claims {stage}).count (claims {stage}) {grammar} ≡ true", f"{low}_rows = refl",
-                  "", f"{low}_chosen : one_chosen {grammar} ≡ true", f"{low}_chosen = refl",
-                  "", f"{low}_led : all_led (claims {stage}) 0 {grammar} ≡ true", f"{low}_led = refl",
+        lines += ["", f"{low}_productions : productions_ok (claims {stage}) (grammar_with {stage} ROWS (bodies SYMBOLS)) ≡ true", f"{low}_productions = refl",
                   "", f"{low}_places : places_ok PLACES (claims {stage}).count ROWS ≡ true", f"{low}_places = refl",
                   "", f"pub {low}_pass : grammar_ok {stage} (claims {stage}) PLACES ROWS SYMBOLS ≡ true",
-                  f"{low}_pass = and_both _ _ (and_both _ _ {low}_rows (and_both _ _ {low}_chosen {low}_led)) {low}_places"]
+                  f"{low}_pass = grammar_passes {stage} SYMBOLS (claims {stage}) PLACES ROWS ordered {low}_productions {low}_places"]
     return lines
 
 

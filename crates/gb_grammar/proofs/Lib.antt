@@ -3,6 +3,7 @@ pub mod Sets
 pub mod Places
 pub mod Sound
 pub mod Rows
+pub mod Bodies
 pub mod Steps
 pub mod Words
 pub mod Turns

@@ -4,9 +4,9 @@ use Rattle.std.proofs.Common.{cond, ⊎_elim, refl, ap, sym, ◌∙◌, subst, a
 use Rattle.std.proofs.lemmas.Bool.{ltb-true, leb-true, eqb-true, eq-eqb, false_from_ne_true}
 use Rattle.std.proofs.Math.Nat.{eq-or-lt_of_le}
 use Rattle.gb_grammar.specs.Grammar.{Grammar, Production, has, IsProduction}
-use Rattle.gb_grammar.specs.Check.{Claims, claim_of, implies, within, apart, all_nullable, all_first, lead_weight, all_lower, all_known, follow_ok, sets_ok, row_ok, rows_ok, none_chosen, one_chosen, leads, all_led, productions_ok, pick_of}
+use Rattle.gb_grammar.specs.Check.{Claims, claim_of, implies, within, apart, all_nullable, all_first, lead_weight, all_lower, all_known, follow_ok, sets_ok, row_ok, rows_ok, one_chosen, leads, all_led, productions_ok, pick_of}
 use Rattle.gb_grammar.proofs.Tests.{both, and_both, implied, not_true}
-use Rattle.gb_grammar.proofs.Sets.{within_has, apart_has, has_either}
+use Rattle.gb_grammar.proofs.Sets.{within_has, apart_has, has_left, has_right, has_either}
 
 pub record Sound {R : Type 0} (g : Grammar R) (c : Claims) : Type 0 where
   pub known : (n : ℕ) (r : Production R) → IsProduction g n r → all_known c.count (r.body) ≡ true
@@ -37,29 +37,66 @@ module _ {R : Type 0} where
       subst (λ (x : Production R). row_ok parts c x.part x ≡ true) q (both (row_ok parts c s.part s) (rows_ok parts c rows) h).0
   row_at parts c (s ∷ rows) (suc i) r h e = row_at parts c rows i r (both (row_ok parts c s.part s) (rows_ok parts c rows) h).1 e
 
-  -- only one row is chosen
-  none_picked : (n kinds : ℕ) (rows : Grammar R) (t i : ℕ) (r : Production R) → none_chosen n kinds rows ≡ true → has kinds t ≡ true → slice_get rows i ≡ Some r → r.part ≡ n → has r.starts t ≡ true → ⊥
-  none_picked n kinds [] t i r h l e p k = cc
-  none_picked n kinds (s ∷ rows) t zero r h l e p k =
-      let q : s ≡ r = cc in
-      let x = (both (implies (nat_eq s.part n) (apart kinds s.starts)) (none_chosen n kinds rows) h).0 in
-      let y = implied (nat_eq s.part n) (apart kinds s.starts) x (eq-eqb s.part n (ap (λ (z : Production R). z.part) q ∙ p)) in
-      apart_has kinds s.starts t y l (subst (λ (z : Production R). has z.starts t ≡ true) (sym q) k)
-  none_picked n kinds (s ∷ rows) t (suc i) r h l e p k = none_picked n kinds rows t i r (both (implies (nat_eq s.part n) (apart kinds s.starts)) (none_chosen n kinds rows) h).1 l e p k
+  -- The rows come after one of part `part`, and after those of it that are chosen at the kinds `taken`.
+  record After (n kinds : ℕ) (s : Production R) (rows : Grammar R) : Type 0 where
+    taken : ℕ
+    rest : one_chosen s.part taken rows ≡ true
+    own : (t : ℕ) → has s.starts t ≡ true → has taken t ≡ true
+    order : n ≤ s.part
+    kept : (t : ℕ) → n ≡ s.part → has kinds t ≡ true → has taken t ≡ true
+    free : (t : ℕ) → n ≡ s.part → has kinds t ≡ true → has s.starts t ≡ true → ⊥
 
-  one_picked : (rows : Grammar R) (n t i : ℕ) (r : Production R) → one_chosen rows ≡ true → slice_get rows i ≡ Some r → r.part ≡ n → has r.starts t ≡ true → pick_of rows n t ≡ Some r
-  one_picked [] n t i r h e p k = cc
-  one_picked (s ∷ rows) n t zero r h e p k =
+  after_by : (b : Bool) (n kinds : ℕ) (s : Production R) (rows : Grammar R) → nat_eq n s.part ≡ b
+      → (if b then apart kinds s.starts && one_chosen n (bit_or kinds s.starts) rows else nat_lt n s.part && one_chosen s.part s.starts rows) ≡ true → After n kinds s rows
+  after_by true n kinds s rows e h =
+      let a = both (apart kinds s.starts) (one_chosen n (bit_or kinds s.starts) rows) h in
+      let same = eqb-true n s.part e in
+      record {
+        taken = bit_or kinds s.starts;
+        rest = subst (λ (k : ℕ). one_chosen k (bit_or kinds s.starts) rows ≡ true) same a.1;
+        own = has_right kinds s.starts;
+        order = omega arith;
+        kept = λ t p. has_left kinds s.starts t;
+        free = λ t p. apart_has kinds s.starts t a.0;
+      }
+  after_by false n kinds s rows e h =
+      let a = both (nat_lt n s.part) (one_chosen s.part s.starts rows) h in
+      let less = ltb-true n s.part a.0 in
+      record { taken = s.starts; rest = a.1; own = λ t k. k; order = omega arith; kept = λ t p k. absurd (omega arith); free = λ t p k l. absurd (omega arith) }
+
+  after : (n kinds : ℕ) (s : Production R) (rows : Grammar R) → one_chosen n kinds (s ∷ rows) ≡ true → After n kinds s rows
+  after n kinds s rows h = after_by (nat_eq n s.part) n kinds s rows refl h
+
+  -- A later row is of a later part, or is chosen at other kinds.
+  record Later (n kinds t : ℕ) (r : Production R) : Type 0 where
+    order : n ≤ r.part
+    free : n ≡ r.part → has kinds t ≡ true → has r.starts t ≡ true → ⊥
+
+  later : (n kinds : ℕ) (rows : Grammar R) (t i : ℕ) (r : Production R) → one_chosen n kinds rows ≡ true → slice_get rows i ≡ Some r → Later n kinds t r
+  later n kinds [] t i r h e = cc
+  later n kinds (s ∷ rows) t zero r h e =
+      let q : s ≡ r = cc in
+      let a = after n kinds s rows h in
+      subst (λ (z : Production R). Later n kinds t z) q (record { order = a.order; free = a.free t })
+  later n kinds (s ∷ rows) t (suc i) r h e =
+      let a = after n kinds s rows h in
+      let b = later s.part a.taken rows t i r a.rest e in
+      let o = a.order in
+      let l = b.order in
+      record { order = omega arith; free = λ (p : n ≡ r.part) k l. b.free (omega arith) (a.kept t (omega arith) k) l }
+
+  one_picked : (m kinds : ℕ) (rows : Grammar R) (n t i : ℕ) (r : Production R) → one_chosen m kinds rows ≡ true → slice_get rows i ≡ Some r → r.part ≡ n → has r.starts t ≡ true → pick_of rows n t ≡ Some r
+  one_picked m kinds [] n t i r h e p k = cc
+  one_picked m kinds (s ∷ rows) n t zero r h e p k =
       let q : s ≡ r = cc in
       first_picked (nat_eq s.part n && has s.starts t) s (pick_of rows n t) (and_both (nat_eq s.part n) (has s.starts t) (eq-eqb s.part n (ap (λ (z : Production R). z.part) q ∙ p)) (subst (λ (z : Production R). has z.starts t ≡ true) (sym q) k)) ∙ ap (λ (z : Production R). Some z) q
-  one_picked (s ∷ rows) n t (suc i) r h e p k =
-      let x = both (none_chosen s.part s.starts rows) (one_chosen rows) h in
-      let rest = one_picked rows n t i r x.1 e p k in
+  one_picked m kinds (s ∷ rows) n t (suc i) r h e p k =
+      let a = after m kinds s rows h in
       not_first (nat_eq s.part n && has s.starts t)
       (λ (b : nat_eq s.part n && has s.starts t ≡ true).
       let y = both (nat_eq s.part n) (has s.starts t) b in
-      none_picked s.part s.starts rows t i r x.0 y.1 e (p ∙ sym (eqb-true s.part n y.0)) k)
-      s (pick_of rows n t) (Some r) rest
+      (later s.part a.taken rows t i r a.rest e).free (eqb-true s.part n y.0 ∙ sym p) (a.own t y.1) k)
+      s (pick_of rows n t) (Some r) (one_picked s.part a.taken rows n t i r a.rest e p k)
 
 record Low {R : Type 0} (c : Claims) (n : ℕ) (rows : Grammar R) : Type 0 where
   row : Production R
@@ -97,13 +134,13 @@ module _ {R : Type 0} (c : Claims) where
 module _ {R : Type 0} (g : Grammar R) (c : Claims) (ok : productions_ok c g ≡ true) where
   record Parts : Type 0 where
     rows : rows_ok c.count c g ≡ true
-    chosen : one_chosen g ≡ true
+    chosen : one_chosen 0 0 g ≡ true
     led : all_led c 0 g ≡ true
 
   parts : Parts
   parts =
-      let a = both (rows_ok c.count c g) (one_chosen g && all_led c 0 g) ok in
-      let b = both (one_chosen g) (all_led c 0 g) a.1 in
+      let a = both (rows_ok c.count c g) (one_chosen 0 0 g && all_led c 0 g) ok in
+      let b = both (one_chosen 0 0 g) (all_led c 0 g) a.1 in
       record { rows = a.0; chosen = b.0; led = b.1 }
 
   row_of : (n : ℕ) (r : Production R) → IsProduction g n r → row_ok c.count c n r ≡ true
@@ -163,7 +200,7 @@ module _ {R : Type 0} (g : Grammar R) (c : Claims) (ok : productions_ok c g ≡ 
     free = λ n r t w h. false_from_ne_true (has r.stops t) (apart_has r.starts r.stops t (set_facts n r w).free h);
     last = λ n r w. not_true (has r.stops 0) (row_facts n r w).last;
     follows = λ n r w. (set_facts n r w).follow;
-    picks = λ n r t w k. one_picked g n t w.place r parts.chosen w.row_is w.part_is k;
+    picks = λ n r t w k. one_picked 0 0 g n t w.place r parts.chosen w.row_is w.part_is k;
     grows = λ n lt.
         let m = led c 0 g parts.led n (omega arith) lt in
         (m.row, record { place = m.place; part_is = m.part_is; row_is = m.row_is }, m.free, m.low);

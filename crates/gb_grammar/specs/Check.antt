@@ -122,15 +122,13 @@ module _ {R : Type 0} where
   rows_ok parts c [] = true
   rows_ok parts c (r ∷ rs) = row_ok parts c r.part r && rows_ok parts c rs
 
-  -- No row of the part is chosen at a kind of the set.
-  abbrev pub none_chosen : ℕ → ℕ → Grammar R → Bool
-  none_chosen n kinds [] = true
-  none_chosen n kinds (r ∷ rs) = implies (nat_eq r.part n) (apart kinds r.starts) && none_chosen n kinds rs
-
-  -- Of each part at most one row is chosen at each kind of token.
-  abbrev pub one_chosen : Grammar R → Bool
-  one_chosen [] = true
-  one_chosen (r ∷ rs) = none_chosen r.part r.starts rs && one_chosen rs
+  -- The rows stand in the order of their parts, and of each part at most one row is chosen at each kind of token. They
+  -- come after rows of part `n` that are chosen at the kinds `taken`.
+  abbrev pub one_chosen : ℕ → ℕ → Grammar R → Bool
+  one_chosen n taken [] = true
+  one_chosen n taken (r ∷ rs) =
+      if nat_eq n r.part then apart taken r.starts && one_chosen n (bit_or taken r.starts) rs
+      else nat_lt n r.part && one_chosen r.part r.starts rs
 
   -- The row leads to a text of the part.
   abbrev pub leads : Claims → ℕ → Production R → Bool
@@ -149,7 +147,7 @@ module _ {R : Type 0} where
   -- The claims are true of all productions, and one token decides each choice.
   abbrev pub productions_ok : Claims → Grammar R → Bool
   productions_ok c g =
-      rows_ok c.count c g && (one_chosen g && all_led c 0 g)
+      rows_ok c.count c g && (one_chosen 0 0 g && all_led c 0 g)
 
   -- Each row, the first of them at place `i`, stands between the places of its part and of the next one.
   abbrev pub rows_placed : List ℕ → ℕ → List (Row R) → Bool

@@ -27,9 +27,12 @@ body_of (Token k ∷ ss) = if nat_eq k 0 then [] else Token k ∷ body_of ss
 body_of (Part n ∷ ss) = Part n ∷ body_of ss
 
 module _ {R : Type 0} where
-  -- the production of a row
+  -- the production of a row, with its body
+  abbrev pub with_body : Row R → List Symbol → Production R
+  with_body r body = record { part = r.part; rule = r.rule; starts = r.starts; stops = r.stops; body = body }
+
   abbrev pub production_of : Row R → List Symbol → Production R
-  production_of r symbols = record { part = r.part; rule = r.rule; starts = r.starts; stops = r.stops; body = body_of (drop r.body symbols) }
+  production_of r symbols = with_body r (body_of (drop r.body symbols))
 
   -- the grammar of a table up to a stage
   abbrev pub grammar_of : ℕ → List (Row R) → List Symbol → Grammar R
