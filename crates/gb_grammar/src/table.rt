@@ -3,7 +3,7 @@
 /// What the body of a production is made of.
 ///
 /// Kinds of token are numbers below 128. Kind 0 is the end of the text: it stands in no text, and it ends each body.
-#[derive(Clone, Copy, PartialEq, Eq, Debug)]
+#[derive(Clone, Copy)]
 pub enum Symbol {
     Token(u8),
     Part(u8),
@@ -15,7 +15,6 @@ pub enum Symbol {
 /// not stand, as the empty production of an optional `else` may not stand before `else`. Both sets have bit `k` for
 /// kind `k`. The body begins at the index `body` of the table's symbols, and ends before the next `Token(0)`. A text is
 /// read by the rows up to a stage, so that one table holds a language with the languages that are cut from it.
-#[derive(Clone, Copy)]
 pub struct Row<R> {
     pub part: u8,
     pub rule: R,
@@ -26,7 +25,7 @@ pub struct Row<R> {
 }
 
 /// A rule that was chosen, and how many tokens stood before it then.
-#[derive(Clone, Copy, PartialEq, Eq, Debug)]
+#[derive(Clone, Copy)]
 pub struct Step<R> {
     pub rule: R,
     pub at: usize,
