@@ -72,7 +72,7 @@ module _ {R : Type 0} where
         let here : drop r.body symbols ≡ drop at symbols = ap (λ (n : ℕ). drop n symbols) (eqb-true r.body at a.0) in
         let next : bodies (drop (at + suc (length b)) symbols) ≡ bs = ap (λ (l : List Symbol). bodies l) (sym (drop-drop (suc (length b)) at symbols)) ∙ c.rest in
         ap₂ (λ (l : List Symbol) (g : Grammar R). if nat_le r.stage stage then with_body r l ∷ g else g)
-            (sym (ap (λ (l : List Symbol). body_of l) here ∙ c.body)) (same_with (at + suc (length b)) rows bs next a.1)
+        (sym (ap (λ (l : List Symbol). body_of l) here ∙ c.body)) (same_with (at + suc (length b)) rows bs next a.1)
 
     grammar_is : (rows : List (Row R)) → in_order 0 rows (bodies symbols) ≡ true → grammar_with stage rows (bodies symbols) ≡ grammar_of stage rows symbols
     grammar_is rows h = same_with 0 rows (bodies symbols) refl h

@@ -1,0 +1,29 @@
+use Rattle.std.proofs.Common.{ap, ◌∙◌, arith, ◌≡◌, ◌+◌, ◌≤◌, ℕ, length}
+use Rattle.gb_grammar.specs.Check.{place_of}
+use Rattle.gb_grammar.proofs.machine.pick.Given.{Over}
+use Rattle.gb_grammar.proofs.machine.pick.Goals as goal
+
+ordered : (start end a b rows : ℕ) → start ≡ a → end ≡ b → a ≤ b → b ≤ rows → (start ≤ end) × (start ≤ rows) × (end ≤ rows)
+ordered start end a b rows e f h k = (omega arith, omega arith, omega arith)
+
+-- the range of the rows of the part
+range : (g : Over) (c : goal.After-from-end g) → (c.from-start.result ≤ c.from-end.result) × (c.from-start.result ≤ length c.args.rows.now) × (c.from-end.result ≤ length c.args.rows.now)
+range g c =
+    let places = c.args.places.now in
+    let part = c.args.part in
+    ordered c.from-start.result c.from-end.result (place_of places part) (place_of places (part + 1)) (length c.args.rows.now)
+    (c.from-start.ensures ∙ ap (λ (n : ℕ). place_of places n) c.from.ensures)
+    (c.from-end.ensures ∙ ap (λ (n : ℕ). place_of places (n + 1)) c.from-2.ensures)
+    c.requires.placed.ordered c.requires.placed.within
+
+pub offset_bounds-rows-start : goal.offset_bounds-rows-start
+offset_bounds-rows-start g c = (range g c).1
+
+pub slice_bounds-pick_among-count : goal.slice_bounds-pick_among-count
+slice_bounds-pick_among-count g c = (range g c).0
+
+pub slice_bounds-pick_among-start : goal.slice_bounds-pick_among-start
+slice_bounds-pick_among-start g c = (range g c).0
+
+pub slice_bounds-pick_among-end : goal.slice_bounds-pick_among-end
+slice_bounds-pick_among-end g c = (range g c).2
