@@ -1,5 +1,5 @@
 -- From the stack with its end to whole texts.
-use Rattle.std.specs.Prelude.{◌≡◌, ℕ, suc, ◌+◌, ◌<◌, ◌≤◌, List, [], ◌∷◌, ◌++◌, Bool, true, false, ◌&&◌, nat_lt, length, take, drop}
+use Rattle.std.specs.Prelude.{reverse, ◌≡◌, ℕ, suc, ◌+◌, ◌<◌, ◌≤◌, List, [], ◌∷◌, ◌++◌, Bool, true, false, ◌&&◌, nat_lt, length, take, drop}
 use Rattle.std.proofs.Common.{refl, ap, sym, ◌∙◌, subst, arith, get_or}
 use Rattle.std.proofs.lemmas.List.{append_assoc, append-nil, take_more, take-append-drop, take_all, take-append-le}
 use Rattle.std.proofs.lemmas.List.Elements.{All-nil, All-cons, All-weaker, All-take}
@@ -14,7 +14,7 @@ use Rattle.gb_grammar.specs.Stack.{Good, Stuck, Reads, Moved, Halted, Advanced}
 use Rattle.gb_grammar.specs.Reading.{Spells, Begins, IsKind, FirstFault, StepsBefore}
 use Rattle.gb_grammar.proofs.Tests.{both, and_both}
 use Rattle.gb_grammar.proofs.Sound.{Sound}
-use Rattle.gb_grammar.proofs.Steps.{ends_of, matches, derives_end, reads_more}
+use Rattle.gb_grammar.proofs.Steps.{reads_none, ends_of, matches, derives_end, reads_more}
 use Rattle.gb_grammar.proofs.Words.{word_of_stack}
 
 pub known_append : (p : ℕ) (a b : List Symbol) → all_known p a ≡ true → all_known p b ≡ true → all_known p (a ++ b) ≡ true
@@ -190,6 +190,16 @@ pub record Kept {R : Type 0} (g : Grammar R) (c : Claims) (n at : ℕ) (kinds : 
   pub good : Good g c cur
 
 module _ {R : Type 0} (g : Grammar R) (c : Claims) (s : Sound g c) (n : ℕ) where
+  pub kept_none : (kinds : List ℕ) (steps : List (Step R)) (none one two : List Symbol) → is_start c n ≡ true → steps ≡ [] → none ≡ [] → one ≡ none ++ Token 0 ∷ [] → two ≡ one ++ Part n ∷ [] → Kept g c n 0 kinds steps (reverse two)
+  kept_none kinds steps none one two ready e f h k =
+      let begin = Part n ∷ Token 0 ∷ [] in
+      let stack : Token 0 ∷ Part n ∷ [] ≡ two = sym (k ∙ ap (λ (l : List Symbol). l ++ Part n ∷ []) (h ∙ ap (λ (l : List Symbol). l ++ Token 0 ∷ []) f)) in
+      let came = subst (λ (q : List (Step R)). Reads g begin 0 [] q begin) (sym e) (reads_none g c s begin) in
+      record {
+        came = subst (λ (l : List Symbol). Reads g begin 0 [] steps (reverse l)) stack came;
+        good = subst (λ (l : List Symbol). Good g c (reverse l)) stack (good_start g c s n ready);
+      }
+
   pub kept_more : (kinds : List ℕ) (old new : List (Step R)) (at : ℕ) (from to : List Symbol) → at < length kinds → Kept g c n at kinds old from → Moved g c (get_or kinds at 0) at from old (Token (get_or kinds at 0) ∷ to) new → Kept g c n (at + 1) kinds new to
   kept_more kinds old new at from to lt r m =
       let a = reads_more g c s (Part n ∷ Token 0 ∷ []) at (take at kinds) old from (get_or kinds at 0) m.steps to r.came m.expands in

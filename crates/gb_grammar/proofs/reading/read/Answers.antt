@@ -1,96 +1,38 @@
-use Rattle.std.proofs.Common.{ap, sym, ◌∙◌, subst, arith, ◌≡◌, ℕ, List, [], ◌∷◌, ◌++◌, length, reverse}
-use Rattle.gb_grammar.specs.declared.table.Symbol.{Symbol}
-use Rattle.gb_grammar.specs.declared.table.Symbol.TheVariants.{Token, Part}
+use Rattle.std.proofs.Common.{ℕ, List}
+use Rattle.std.proofs.lemmas.Option.{MatchOption-at_none, MatchOption-at_some}
 use Rattle.gb_grammar.specs.declared.table.Step.{Step}
-use Rattle.gb_grammar.specs.Stack.{Good, Reads}
-use Rattle.gb_grammar.specs.Reading.{StepsBefore}
-use Rattle.gb_grammar.specs.Grammar.{grammar_of}
+use Rattle.gb_grammar.specs.Grammar.{Grammar, grammar_of}
+use Rattle.gb_grammar.specs.Reading.{Spells, FirstFault, StepsBefore}
 use Rattle.gb_grammar.proofs.Rows.{sound_table}
-use Rattle.gb_grammar.proofs.Steps.{reads_none}
-use Rattle.gb_grammar.proofs.Whole.{good_start, faulted, short, whole, halted_from, moved_from, kept_more, all_read, steps_before, cut_back}
+use Rattle.gb_grammar.proofs.Unique.{unique}
 use Rattle.gb_grammar.proofs.reading.read.Goals as goal
 
-pub loop-at-init : goal.loop-at-init
-loop-at-init g c =
-    let grammar = grammar_of c.args.stage c.args.rows.now c.args.symbols.now in
-    let s = sound_table c.args.stage c.args.rows.now c.args.symbols.now g.claims c.args.places.now c.requires.1.0 in
-    let begin = Part c.args.start ∷ Token 0 ∷ [] in
-    let e : c.push-2.new.self.items ≡ Token 0 ∷ Part c.args.start ∷ [] = c.in_ok-push-2.ensures.items ∙ ap (λ (l : List Symbol). l ++ Part c.args.start ∷ []) (c.in_ok-push.ensures.items ∙ ap (λ (l : List Symbol). l ++ Token 0 ∷ []) c.new-stack.ensures.items) in
-    record {
-      came = subst (λ (l : List Symbol). Reads grammar begin 0 [] c.new-steps.result.items (reverse l)) (sym e)
-          (subst (λ (l : List (Step g.row.R.Denot)). Reads grammar begin 0 [] l begin) (sym c.new-steps.ensures.items) (reads_none grammar g.claims s begin));
-      good = subst (λ (l : List Symbol). Good grammar g.claims (reverse l)) (sym e) (good_start grammar g.claims s c.args.start c.requires.1.1.0);
-    }
+abbrev Stop : {R : Type 0} → Grammar R → ℕ → List ℕ → List (Step R) → ℕ → Type 0
+Stop grammar part kinds steps at = FirstFault grammar part kinds at × StepsBefore grammar part kinds at steps
 
-pub loop-at-preserved : goal.loop-at-preserved
-loop-at-preserved g c =
+pub returns-in-None-clause-found : goal.returns-in-None-clause-found
+returns-in-None-clause-found g c =
     let grammar = grammar_of c.args.stage c.args.rows.now c.args.symbols.now in
-    let s = sound_table c.args.stage c.args.rows.now c.args.symbols.now g.claims c.args.places.now c.requires.1.0 in
-    let m = moved_from grammar g.claims _ c.loop-at.at (reverse c.loop-at.stack.items) c.loop-at.steps.items (reverse c.advance.new.stack.items) c.advance.new.steps.items c.in_ok-moved.moved c.if-not-moved.false c.in_ok-moved.ensures in
-    kept_more grammar g.claims s c.args.start c.args.kinds.now c.loop-at.steps.items c.advance.new.steps.items c.loop-at.at (reverse c.loop-at.stack.items) (reverse c.advance.new.stack.items) (omega arith) c.loop-at.invariant m
+    let steps = c.run.new.steps.items in
+    MatchOption-at_none (Spells grammar c.args.start c.args.kinds.now steps) (Stop grammar c.args.start c.args.kinds.now steps) c.in-None.is c.in_ok-stop.ensures
 
-pub returns-then-not-moved-clause-fault : goal.returns-then-not-moved-clause-fault
-returns-then-not-moved-clause-fault g c =
+pub returns-in-None-clause-only : goal.returns-in-None-clause-only
+returns-in-None-clause-only g c all d =
     let grammar = grammar_of c.args.stage c.args.rows.now c.args.symbols.now in
     let s = sound_table c.args.stage c.args.rows.now c.args.symbols.now g.claims c.args.places.now c.requires.1.0 in
-    let i = c.loop-at.invariant in
-    let halted = halted_from grammar g.claims _ c.loop-at.at (reverse c.loop-at.stack.items) c.loop-at.steps.items (reverse c.advance.new.stack.items) c.advance.new.steps.items c.in_ok-moved.moved c.if-not-moved.true c.in_ok-moved.ensures in
-    let f = faulted grammar g.claims s c.args.start c.requires.1.1.0 c.args.kinds.now c.loop-at.steps.items c.loop-at.at (reverse c.loop-at.stack.items) c.requires.1.1.1 (omega arith) i.came i.good halted.stuck in
-    let cut = c.truncate.ensures.items ∙ cut_back grammar _ c.loop-at.at c.count-before.result (reverse c.loop-at.stack.items) c.loop-at.steps.items c.advance.new.steps.items c.count-before.ensures halted in
-    let before = steps_before grammar g.claims s c.args.start c.requires.1.1.0 c.args.kinds.now c.loop-at.steps.items c.loop-at.at (reverse c.loop-at.stack.items) i.came in
-    (f, subst (λ (l : List (Step g.row.R.Denot)). StepsBefore grammar c.args.start c.args.kinds.now c.loop-at.at l) (sym cut) before)
-
-pub returns-then-not-moved-clause-only : goal.returns-then-not-moved-clause-only
-returns-then-not-moved-clause-only g c steps d =
-    let grammar = grammar_of c.args.stage c.args.rows.now c.args.symbols.now in
-    let s = sound_table c.args.stage c.args.rows.now c.args.symbols.now g.claims c.args.places.now c.requires.1.0 in
-    let i = c.loop-at.invariant in
-    let halted = halted_from grammar g.claims _ c.loop-at.at (reverse c.loop-at.stack.items) c.loop-at.steps.items (reverse c.advance.new.stack.items) c.advance.new.steps.items c.in_ok-moved.moved c.if-not-moved.true c.in_ok-moved.ensures in
-    let f = faulted grammar g.claims s c.args.start c.requires.1.1.0 c.args.kinds.now c.loop-at.steps.items c.loop-at.at (reverse c.loop-at.stack.items) c.requires.1.1.1 (omega arith) i.came i.good halted.stuck in
-    absurd (f.no_text steps d)
-
-pub returns-then-not-ended-clause-fault : goal.returns-then-not-ended-clause-fault
-returns-then-not-ended-clause-fault g c =
-    let grammar = grammar_of c.args.stage c.args.rows.now c.args.symbols.now in
-    let s = sound_table c.args.stage c.args.rows.now c.args.symbols.now g.claims c.args.places.now c.requires.1.0 in
-    let cur = reverse c.loop-at.stack.items in
-    let halted = halted_from grammar g.claims 0 (length c.args.kinds.now) cur c.loop-at.steps.items (reverse c.advance-2.new.stack.items) c.advance-2.new.steps.items c.in_ok-ended.ended c.if-not-ended.true c.in_ok-ended.ensures in
-    let came = all_read grammar g.claims s c.args.start c.args.kinds.now c.loop-at.at c.loop-at.steps.items cur (omega arith) c.loop-at.invariant in
-    let f = short grammar g.claims s c.args.start c.requires.1.1.0 c.args.kinds.now c.loop-at.steps.items cur c.requires.1.1.1 came c.loop-at.invariant.good halted.stuck in
-    let cut = c.truncate-then-not-ended.ensures.items ∙ cut_back grammar _ (length c.args.kinds.now) c.count-before-2.result cur c.loop-at.steps.items c.advance-2.new.steps.items c.count-before-2.ensures halted in
-    let before = steps_before grammar g.claims s c.args.start c.requires.1.1.0 c.args.kinds.now c.loop-at.steps.items c.loop-at.at cur c.loop-at.invariant.came in
-    let end : c.loop-at.at ≡ length c.args.kinds.now = omega arith in (
-      f,
-      subst (λ (m : ℕ). StepsBefore grammar c.args.start c.args.kinds.now m c.truncate-then-not-ended.new.self.items) end
-          (subst (λ (l : List (Step g.row.R.Denot)). StepsBefore grammar c.args.start c.args.kinds.now c.loop-at.at l) (sym cut) before),
-    )
-
-pub returns-then-not-ended-clause-only : goal.returns-then-not-ended-clause-only
-returns-then-not-ended-clause-only g c steps d =
-    let grammar = grammar_of c.args.stage c.args.rows.now c.args.symbols.now in
-    let s = sound_table c.args.stage c.args.rows.now c.args.symbols.now g.claims c.args.places.now c.requires.1.0 in
-    let cur = reverse c.loop-at.stack.items in
-    let halted = halted_from grammar g.claims 0 (length c.args.kinds.now) cur c.loop-at.steps.items (reverse c.advance-2.new.stack.items) c.advance-2.new.steps.items c.in_ok-ended.ended c.if-not-ended.true c.in_ok-ended.ensures in
-    let came = all_read grammar g.claims s c.args.start c.args.kinds.now c.loop-at.at c.loop-at.steps.items cur (omega arith) c.loop-at.invariant in
-    let f = short grammar g.claims s c.args.start c.requires.1.1.0 c.args.kinds.now c.loop-at.steps.items cur c.requires.1.1.1 came c.loop-at.invariant.good halted.stuck in
-    absurd (f.no_text steps d)
-
-pub returns-clause-found : goal.returns-clause-found
-returns-clause-found g c =
-    let grammar = grammar_of c.args.stage c.args.rows.now c.args.symbols.now in
-    let s = sound_table c.args.stage c.args.rows.now c.args.symbols.now g.claims c.args.places.now c.requires.1.0 in
-    let cur = reverse c.loop-at.stack.items in
-    let to = reverse c.advance-2.new.stack.items in
-    let m = moved_from grammar g.claims 0 (length c.args.kinds.now) cur c.loop-at.steps.items to c.advance-2.new.steps.items c.in_ok-ended.ended c.if-not-ended.false c.in_ok-ended.ensures in
-    let came = all_read grammar g.claims s c.args.start c.args.kinds.now c.loop-at.at c.loop-at.steps.items cur (omega arith) c.loop-at.invariant in
-    (whole grammar g.claims s c.args.start c.requires.1.1.0 c.args.kinds.now c.loop-at.steps.items c.advance-2.new.steps.items cur to came m).found
+    let steps = c.run.new.steps.items in
+    let found = MatchOption-at_none (Spells grammar c.args.start c.args.kinds.now steps) (Stop grammar c.args.start c.args.kinds.now steps) c.in-None.is c.in_ok-stop.ensures in
+    unique grammar g.claims s c.args.start c.requires.1.1.0 c.args.kinds.now steps all c.requires.1.1.1 found d
 
 pub returns-clause-only : goal.returns-clause-only
-returns-clause-only g c =
+returns-clause-only g c all d =
     let grammar = grammar_of c.args.stage c.args.rows.now c.args.symbols.now in
-    let s = sound_table c.args.stage c.args.rows.now c.args.symbols.now g.claims c.args.places.now c.requires.1.0 in
-    let cur = reverse c.loop-at.stack.items in
-    let to = reverse c.advance-2.new.stack.items in
-    let m = moved_from grammar g.claims 0 (length c.args.kinds.now) cur c.loop-at.steps.items to c.advance-2.new.steps.items c.in_ok-ended.ended c.if-not-ended.false c.in_ok-ended.ensures in
-    let came = all_read grammar g.claims s c.args.start c.args.kinds.now c.loop-at.at c.loop-at.steps.items cur (omega arith) c.loop-at.invariant in
-    (whole grammar g.claims s c.args.start c.requires.1.1.0 c.args.kinds.now c.loop-at.steps.items c.advance-2.new.steps.items cur to came m).only
+    let steps = c.run.new.steps.items in
+    let fault = MatchOption-at_some (Spells grammar c.args.start c.args.kinds.now steps) (Stop grammar c.args.start c.args.kinds.now steps) c.in-Some.at c.in-Some.is c.in_ok-stop.ensures in
+    absurd (fault.0.no_text all d)
+
+pub returns-clause-fault : goal.returns-clause-fault
+returns-clause-fault g c =
+    let grammar = grammar_of c.args.stage c.args.rows.now c.args.symbols.now in
+    let steps = c.run.new.steps.items in
+    MatchOption-at_some (Spells grammar c.args.start c.args.kinds.now steps) (Stop grammar c.args.start c.args.kinds.now steps) c.in-Some.at c.in-Some.is c.in_ok-stop.ensures
