@@ -1,4 +1,4 @@
-use Rattle.std.proofs.Common.{ap, ◌∙◌, arith, ◌≡◌, ◌+◌, ◌≤◌, ℕ, length}
+use Rattle.std.proofs.Common.{ap, ◌∙◌, arith, ◌≡◌, ◌+◌, ◌<◌, ◌≤◌, ℕ, length}
 use Rattle.gb_grammar.specs.Check.{place_of}
 use Rattle.gb_grammar.proofs.machine.pick.Given.{Over}
 use Rattle.gb_grammar.proofs.machine.pick.Goals as goal
@@ -15,6 +15,15 @@ range g c =
     (c.from-start.ensures ∙ ap (λ (n : ℕ). place_of places n) c.from.ensures)
     (c.from-end.ensures ∙ ap (λ (n : ℕ). place_of places (n + 1)) c.from-2.ensures)
     c.requires.placed.ordered c.requires.placed.within
+
+known : (k part many : ℕ) → k ≡ part → part + 1 < many → (k < many) × (k + 1 < many)
+known k part many e h = (omega arith, omega arith)
+
+pub bounds-places-from : goal.bounds-places-from
+bounds-places-from g c = (known c.from.result c.args.part (length c.args.places.now) c.from.ensures c.requires.placed.known).0
+
+pub bounds-places-from-2 : goal.bounds-places-from-2
+bounds-places-from-2 g c = (known c.from-2.result c.args.part (length c.args.places.now) c.from-2.ensures c.requires.placed.known).1
 
 pub offset_bounds-rows-start : goal.offset_bounds-rows-start
 offset_bounds-rows-start g c = (range g c).1
