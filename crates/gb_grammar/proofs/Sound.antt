@@ -37,7 +37,7 @@ module _ {R : Type 0} where
       subst (λ (x : Production R). row_ok parts c x.part x ≡ true) q (both (row_ok parts c s.part s) (rows_ok parts c rows) h).0
   row_at parts c (s ∷ rows) (suc i) r h e = row_at parts c rows i r (both (row_ok parts c s.part s) (rows_ok parts c rows) h).1 e
 
-  -- The rows come after one of part `part`, and after those of it that are chosen at the kinds `taken`.
+  -- The rows come after the row `s`, and after rows of its part that are chosen at the kinds `taken`.
   record After (n kinds : ℕ) (s : Production R) (rows : Grammar R) : Type 0 where
     taken : ℕ
     rest : one_chosen s.part taken rows ≡ true
