@@ -10,7 +10,7 @@ use gb_text::text::{Text, terminal_at};
 use std::alloc::AllocError;
 
 /// What opens a level.
-#[derive(Clone, Copy, PartialEq, Eq, Debug)]
+#[derive(Clone, Copy)]
 pub enum Opening {
     Bracket,
     /// A quantifier, `if`, `fun`, `?`, `!` or a bar, up to a mark in the derivation.
@@ -22,7 +22,7 @@ pub enum Opening {
 }
 
 /// A level, and how many operands of the chains of `=>`, `\/`, `/\`, `+` and `*` have begun in it that are still open.
-#[derive(Clone, Copy, PartialEq, Eq, Debug)]
+#[derive(Clone, Copy)]
 pub struct Level {
     pub opening: Opening,
     pub implied: u32,
@@ -38,7 +38,7 @@ pub type Levels = Stack<Level>;
 pub const CHAIN: u32 = 256;
 
 /// What ends, and levels with it.
-#[derive(Clone, Copy, PartialEq, Eq, Debug)]
+#[derive(Clone, Copy)]
 pub enum Ending {
     Operand,
     Sum,
@@ -249,11 +249,10 @@ pub fn is_long(level: Level) -> bool
 fn ends(ending: Ending, opening: Opening) -> bool
     ensures { result ≡ ends ending opening }
 {
-    match (ending, opening) {
-        (Ending::Operand, Opening::Minus) | (Ending::Sum, Opening::Minus | Opening::BoundedMinus) =>
-            true,
-        (Ending::Form, opening) => opening != Opening::Bracket,
-        _ => false,
+    match ending {
+        Ending::Operand => matches!(opening, Opening::Minus),
+        Ending::Sum => matches!(opening, Opening::Minus | Opening::BoundedMinus),
+        Ending::Form => !matches!(opening, Opening::Bracket),
     }
 }
 

@@ -24,52 +24,21 @@ struct Passed<'a> {
     long: bool,
 }
 
-// Counts the operands that begin by a step in the innermost level; answers whether one is too many.
-fn count(text: &Text, step: Step<Rule>, levels: &mut Levels) -> Result<bool, AllocError>
-    ensures { IfOk result (λ long. (levels.new ≡ begun text.now step levels.old) × (long ≡ top_is_long levels.new)) }
-{
-    let Some(level) = levels.pop() else {
-        return Ok(false);
-    };
-    let level = counted(text, step.rule, step.at, level);
-    levels.push(level)?;
-    Ok(is_long(level))
-}
-
-// Takes a step; answers whether an operand too many begins by it.
+// Takes a step; answers whether an operand too many begins by it in the innermost level.
 fn take_step(text: &Text, step: Step<Rule>, levels: &mut Levels) -> Result<bool, AllocError>
     ensures { IfOk result (λ long. (levels.new ≡ stepped text.now step levels.old) × (long ≡ top_is_long (begun text.now step levels.old))) }
 {
-    let long = count(text, step, levels)?;
+    let mut long = false;
+    if let Some(level) = levels.pop() {
+        let level = counted(text, step.rule, step.at, level);
+        levels.push(level)?;
+        long = is_long(level);
+    }
     nest(step.rule, levels)?;
     Ok(long)
 }
 
-// Takes the steps up to a position.
-fn take_steps<'a>(
-    text: &Text,
-    at: usize,
-    steps: &'a [Step<Rule>],
-    levels: &mut Levels,
-) -> Result<Passed<'a>, AllocError>
-    ensures levels { IfOk result (λ _. levels.new ≡ (taken text.now at levels.old steps.now).levels) }
-    ensures rest { IfOk result (λ p. p.rest.now ≡ (taken text.now at levels.old steps.now).rest) }
-    ensures long { IfOk result (λ p. p.long ≡ begin_too_many text.now at levels.old steps.now) }
-{
-    let mut long = false;
-    let mut rest = steps;
-    while let [step, more @ ..] = rest {
-        if step.at > at {
-            break;
-        }
-        let too_many = take_step(text, *step, levels)?;
-        long = long || too_many;
-        rest = more;
-    }
-    Ok(Passed { rest, long })
-}
-
-// Goes over a token.
+// Goes over a token: takes the steps up to its position, then opens or closes a bracket.
 fn pass<'a>(
     text: &Text,
     at: usize,
@@ -80,9 +49,17 @@ fn pass<'a>(
     ensures rest { IfOk result (λ p. p.rest.now ≡ (over text.now at (record { levels = levels.old; rest = steps.now })).rest) }
     ensures long { IfOk result (λ p. p.long ≡ begin_too_many text.now at levels.old steps.now) }
 {
-    let passed = take_steps(text, at, steps, levels)?;
+    let mut long = false;
+    let mut rest = steps;
+    while let [step, more @ ..] = rest {
+        if step.at > at {
+            break;
+        }
+        long |= take_step(text, *step, levels)?;
+        rest = more;
+    }
     bracket(terminal_at(text, at), levels)?;
-    Ok(passed)
+    Ok(Passed { rest, long })
 }
 
 // The level of a text itself.
@@ -122,7 +99,7 @@ fn open_brackets(levels: Levels) -> usize
     let mut levels = levels;
     let mut count: usize = 0;
     while let Some(level) = levels.pop() {
-        if level.opening == Opening::Bracket && count < total {
+        if matches!(level.opening, Opening::Bracket) && count < total {
             count += 1;
         }
     }

@@ -23,6 +23,11 @@ spans_end at (t ∷ tokens) end h =
     let grows = h.1 in
     omega arith
 
+-- Spans from a byte on are spans from an earlier one on.
+pub spans_from : (at later : ℕ) (tokens : List Token) (end : ℕ) → at ≤ later → AreSpans later tokens end → AreSpans at tokens end
+spans_from at later [] end e h = omega arith
+spans_from at later (t ∷ tokens) end e h = let lower = h.0 in (omega arith, h.1, h.2)
+
 spans_cons : (reached : ℕ) (t : Token) (rest : List Token) (end : ℕ) → AreSpans reached (t ∷ rest) end → NextSpan reached t rest end
 spans_cons reached t rest end h = record { lower = h.0; grows = h.1; within = spans_end t.to rest end h.2; later = h.2 }
 

@@ -2,15 +2,8 @@
 
 ghost use Rattle.std.specs.List.{All};
 ghost use Rattle.gb_grammar.specs.Reading.{IsKind};
-ghost use Rattle.gb_text.specs.declared.terminal.Terminal.{Terminal};
 ghost use Rattle.gb_text.specs.declared.text.Text.{Text};
-ghost use Rattle.gb_text.specs.Kinds.{kind_of};
 ghost use Rattle.gb_text.specs.Lexeme.{kinds_of};
-
-/// The number of each terminal is a kind of the table.
-pub fn terminals_have_kinds()
-    ensures { (terminal : Terminal) → IsKind (kind_of terminal) }
-{}
 
 /// The kinds of token of a text are kinds of the table.
 pub fn kinds_are_kinds()

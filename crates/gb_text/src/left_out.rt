@@ -36,7 +36,6 @@ pub const LEFT_OUT: [[u8; WIDTH]; 24] = [
     *b"nosmt       ",
 ];
 
-#[tactic(auto, unfolding(crate::specs::LeftOut::is_word_of))]
 fn is_word_of(words: &[[u8; WIDTH]], bytes: &[u8]) -> bool
     ensures { result ≡ is_word_of words.now bytes.now }
 {

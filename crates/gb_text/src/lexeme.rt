@@ -42,12 +42,13 @@ fn spelled_in(spellings: &[Spelling], bytes: &[u8]) -> Option<Terminal>
 fn terminal(kind: Kind, bytes: &[u8]) -> Terminal
     ensures { result ≡ terminal_of kind bytes.now }
 {
-    match kind {
-        Kind::Final => Terminal::Final,
-        Kind::Word => spelled_in(&SPELLINGS, bytes).unwrap_or(Terminal::Name),
-        Kind::Number => spelled_in(&SPELLINGS, bytes).unwrap_or(Terminal::Number),
-        Kind::Symbol => spelled_in(&SPELLINGS, bytes).unwrap_or(Terminal::Other),
-    }
+    let unspelled = match kind {
+        Kind::Final => return Terminal::Final,
+        Kind::Word => Terminal::Name,
+        Kind::Number => Terminal::Number,
+        Kind::Symbol => Terminal::Other,
+    };
+    spelled_in(&SPELLINGS, bytes).unwrap_or(unspelled)
 }
 
 fn lexeme(alloc: Global, bytes: &[u8], token: &Token, place: Place) -> Result<Lexeme, AllocError>
@@ -86,11 +87,9 @@ pub fn text(alloc: Global, bytes: &[u8], tokens: &[Token], at: Place) -> Result<
     let mut reached: usize = 0;
     for token in tokens {
         let from = token.from as usize;
-        let to = token.to as usize;
         place = later_place(place, bytes, reached, from);
+        reached = from;
         lexemes.push(lexeme(alloc, bytes, token, place)?)?;
-        place = later_place(place, bytes, from, to);
-        reached = to;
     }
     let end = later_place(place, bytes, reached, bytes.len());
     Ok(Text { lexemes, end })

@@ -40,16 +40,14 @@ pub fn place_at(text: &Text, at: usize) -> Place
 pub fn word_at(alloc: Global, text: &Text, at: usize) -> Result<Word, AllocError>
     ensures { IfOk result (λ w. w ≡ word_at text.now at) }
 {
-    match text.lexemes.get(at) {
-        Some(lexeme) => Ok(Word {
-            name: lexeme.word.name.copy(alloc)?,
-            place: lexeme.word.place,
-        }),
-        None => Ok(Word {
-            name: Name::from_str(alloc, "")?,
-            place: text.end,
-        }),
-    }
+    let name = match text.lexemes.get(at) {
+        Some(lexeme) => lexeme.word.name.copy(alloc)?,
+        None => Name::new(String::new(alloc)),
+    };
+    Ok(Word {
+        name,
+        place: place_at(text, at),
+    })
 }
 
 /// What a token is to the grammar; `Other` where there is no such token.

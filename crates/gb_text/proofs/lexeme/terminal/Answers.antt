@@ -1,18 +1,16 @@
 use Rattle.std.proofs.Common.{ap, sym, ◌∙◌, Option, unwrap_or}
 use Rattle.gb_lex.specs.declared.token.Kind.{Kind}
 use Rattle.gb_text.specs.declared.terminal.Terminal.{Terminal}
-use Rattle.gb_text.specs.declared.terminal.Terminal.TheVariants.{Name, Number, Other}
-use Rattle.gb_text.specs.Lexeme.{terminal_of}
+use Rattle.gb_text.specs.declared.terminal.TheConstants.{SPELLINGS}
+use Rattle.gb_text.specs.Lexeme.{spelled_in, terminal_of}
+use Rattle.gb_text.proofs.lexeme.terminal.Goals.{in-Word, in-Number, in-Symbol}
 use Rattle.gb_text.proofs.lexeme.terminal.Goals as goal
 
-pub returns-in-Word : goal.returns-in-Word
-returns-in-Word c =
-    c.unwrap_or.ensures ∙ (ap (λ (o : Option Terminal). unwrap_or o Name) c.spelled_in.ensures ∙ sym (ap (λ (k : Kind). terminal_of k c.args.bytes.now) c.in-Word.is))
-
-pub returns-in-Number : goal.returns-in-Number
-returns-in-Number c =
-    c.unwrap_or-in-Number.ensures ∙ (ap (λ (o : Option Terminal). unwrap_or o Number) c.spelled_in-in-Number.ensures ∙ sym (ap (λ (k : Kind). terminal_of k c.args.bytes.now) c.in-Number.is))
-
-pub returns-in-Symbol : goal.returns-in-Symbol
-returns-in-Symbol c =
-    c.unwrap_or-in-Symbol.ensures ∙ (ap (λ (o : Option Terminal). unwrap_or o Other) c.spelled_in-in-Symbol.ensures ∙ sym (ap (λ (k : Kind). terminal_of k c.args.bytes.now) c.in-Symbol.is))
+pub returns : goal.returns
+returns c =
+    let bytes = c.args.bytes.now in
+    let read = c.unwrap_or.ensures ∙ ap (λ (o : Option Terminal). unwrap_or o c.match-kind.unspelled) c.spelled_in.ensures in
+    elim c.match-kind.branch
+    [ in-Word w ↦ read ∙ (ap (unwrap_or (spelled_in SPELLINGS bytes)) w.unspelled-is ∙ sym (ap (λ (k : Kind). terminal_of k bytes) w.in-Word.is))
+    | in-Number w ↦ read ∙ (ap (unwrap_or (spelled_in SPELLINGS bytes)) w.unspelled-is ∙ sym (ap (λ (k : Kind). terminal_of k bytes) w.in-Number.is))
+    | in-Symbol w ↦ read ∙ (ap (unwrap_or (spelled_in SPELLINGS bytes)) w.unspelled-is ∙ sym (ap (λ (k : Kind). terminal_of k bytes) w.in-Symbol.is)) ]

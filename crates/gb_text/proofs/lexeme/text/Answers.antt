@@ -8,7 +8,7 @@ use Rattle.gb_lex.specs.PlaceAfter.{place_after}
 use Rattle.gb_text.specs.declared.text.Lexeme.{Lexeme}
 use Rattle.gb_text.specs.declared.text.Text.{Text}
 use Rattle.gb_text.specs.Lexeme.{lexeme_of, terminal_of, bytes_of}
-use Rattle.gb_text.proofs.Spans.{spans_at, spans_end, line_fits, col_fits, place_at_start, place_on}
+use Rattle.gb_text.proofs.Spans.{spans_at, spans_from, spans_end, line_fits, col_fits, place_at_start, place_on}
 use Rattle.gb_text.proofs.lexeme.text.Goals as goal
 
 -- a token at its place
@@ -22,6 +22,9 @@ same_text a b p q e f = ap (λ (l : List Lexeme). record { lexemes = l; end = p 
 pub loop-token-init : goal.loop-token-init
 loop-token-init c = record { spans = c.requires.spans; reached = sym (place_at_start c.args.at); made = c.new-lexemes.ensures }
 
+pub later_place-place-requires-clause-ordered : goal.later_place-place-requires-clause-ordered
+later_place-place-requires-clause-ordered c = (spans_at c.args.tokens.now c.loop-token.token-index (record { kind = Word; from = 0; to = 0 }) c.loop-token.reached (length c.args.bytes.now) c.loop-token-test.true c.loop-token.invariant.spans).lower
+
 pub later_place-place-requires-clause-within : goal.later_place-place-requires-clause-within
 later_place-place-requires-clause-within c =
     let s = spans_at c.args.tokens.now c.loop-token.token-index (record { kind = Word; from = 0; to = 0 }) c.loop-token.reached (length c.args.bytes.now) c.loop-token-test.true c.loop-token.invariant.spans in let grows = s.grows in let within = s.within in omega (arith, grows, within)
@@ -34,33 +37,31 @@ pub later_place-place-requires-clause-column : goal.later_place-place-requires-c
 later_place-place-requires-clause-column c =
     let s = spans_at c.args.tokens.now c.loop-token.token-index (record { kind = Word; from = 0; to = 0 }) c.loop-token.reached (length c.args.bytes.now) c.loop-token-test.true c.loop-token.invariant.spans in let grows = s.grows in let within = s.within in col_fits c.args.bytes.now c.args.at c.requires.line c.requires.column c.loop-token.place c.loop-token.reached (get_or c.args.tokens.now c.loop-token.token-index (record { kind = Word; from = 0; to = 0 })).from c.loop-token.invariant.reached s.lower (omega (arith, grows, within))
 
+pub lexeme-requires-clause-ordered : goal.lexeme-requires-clause-ordered
+lexeme-requires-clause-ordered c =
+    let grows = (spans_at c.args.tokens.now c.loop-token.token-index (record { kind = Word; from = 0; to = 0 }) c.loop-token.reached (length c.args.bytes.now) c.loop-token-test.true c.loop-token.invariant.spans).grows in omega (arith, grows)
+
 pub lexeme-requires-clause-within : goal.lexeme-requires-clause-within
 lexeme-requires-clause-within c =
     let s = spans_at c.args.tokens.now c.loop-token.token-index (record { kind = Word; from = 0; to = 0 }) c.loop-token.reached (length c.args.bytes.now) c.loop-token-test.true c.loop-token.invariant.spans in s.within
 
-pub later_place-place-requires-in-loop-token-clause-within : goal.later_place-place-requires-in-loop-token-clause-within
-later_place-place-requires-in-loop-token-clause-within c =
-    let s = spans_at c.args.tokens.now c.loop-token.token-index (record { kind = Word; from = 0; to = 0 }) c.loop-token.reached (length c.args.bytes.now) c.loop-token-test.true c.loop-token.invariant.spans in s.within
-
-pub later_place-place-requires-in-loop-token-clause-line : goal.later_place-place-requires-in-loop-token-clause-line
-later_place-place-requires-in-loop-token-clause-line c =
-    let s = spans_at c.args.tokens.now c.loop-token.token-index (record { kind = Word; from = 0; to = 0 }) c.loop-token.reached (length c.args.bytes.now) c.loop-token-test.true c.loop-token.invariant.spans in let grows = s.grows in let within = s.within in let here : c.later_place-place.result ≡ place_after c.args.at (take (get_or c.args.tokens.now c.loop-token.token-index (record { kind = Word; from = 0; to = 0 })).from c.args.bytes.now) = c.later_place-place.ensures ∙ place_on c.args.at c.loop-token.place c.args.bytes.now c.loop-token.reached (get_or c.args.tokens.now c.loop-token.token-index (record { kind = Word; from = 0; to = 0 })).from c.loop-token.invariant.reached s.lower in line_fits c.args.bytes.now c.args.at c.requires.line c.requires.column c.later_place-place.result (get_or c.args.tokens.now c.loop-token.token-index (record { kind = Word; from = 0; to = 0 })).from (get_or c.args.tokens.now c.loop-token.token-index (record { kind = Word; from = 0; to = 0 })).to here (omega (arith, grows)) within
-
-pub later_place-place-requires-in-loop-token-clause-column : goal.later_place-place-requires-in-loop-token-clause-column
-later_place-place-requires-in-loop-token-clause-column c =
-    let s = spans_at c.args.tokens.now c.loop-token.token-index (record { kind = Word; from = 0; to = 0 }) c.loop-token.reached (length c.args.bytes.now) c.loop-token-test.true c.loop-token.invariant.spans in let grows = s.grows in let within = s.within in let here : c.later_place-place.result ≡ place_after c.args.at (take (get_or c.args.tokens.now c.loop-token.token-index (record { kind = Word; from = 0; to = 0 })).from c.args.bytes.now) = c.later_place-place.ensures ∙ place_on c.args.at c.loop-token.place c.args.bytes.now c.loop-token.reached (get_or c.args.tokens.now c.loop-token.token-index (record { kind = Word; from = 0; to = 0 })).from c.loop-token.invariant.reached s.lower in col_fits c.args.bytes.now c.args.at c.requires.line c.requires.column c.later_place-place.result (get_or c.args.tokens.now c.loop-token.token-index (record { kind = Word; from = 0; to = 0 })).from (get_or c.args.tokens.now c.loop-token.token-index (record { kind = Word; from = 0; to = 0 })).to here (omega (arith, grows)) within
-
 pub loop-token-preserved : goal.loop-token-preserved
 loop-token-preserved c =
-    let s = spans_at c.args.tokens.now c.loop-token.token-index (record { kind = Word; from = 0; to = 0 }) c.loop-token.reached (length c.args.bytes.now) c.loop-token-test.true c.loop-token.invariant.spans in let grows = s.grows in let within = s.within in let here : c.later_place-place.result ≡ place_after c.args.at (take (get_or c.args.tokens.now c.loop-token.token-index (record { kind = Word; from = 0; to = 0 })).from c.args.bytes.now) = c.later_place-place.ensures ∙ place_on c.args.at c.loop-token.place c.args.bytes.now c.loop-token.reached (get_or c.args.tokens.now c.loop-token.token-index (record { kind = Word; from = 0; to = 0 })).from c.loop-token.invariant.reached s.lower in
+    let s = spans_at c.args.tokens.now c.loop-token.token-index (record { kind = Word; from = 0; to = 0 }) c.loop-token.reached (length c.args.bytes.now) c.loop-token-test.true c.loop-token.invariant.spans in
+    let grows = s.grows in
+    let here : c.later_place-place.result ≡ place_after c.args.at (take (get_or c.args.tokens.now c.loop-token.token-index (record { kind = Word; from = 0; to = 0 })).from c.args.bytes.now) =
+        c.later_place-place.ensures ∙ place_on c.args.at c.loop-token.place c.args.bytes.now c.loop-token.reached (get_or c.args.tokens.now c.loop-token.token-index (record { kind = Word; from = 0; to = 0 })).from c.loop-token.invariant.reached s.lower in
     record {
-      spans = s.later;
-      reached = c.later_place-place-in-loop-token.ensures ∙ place_on c.args.at c.later_place-place.result c.args.bytes.now (get_or c.args.tokens.now c.loop-token.token-index (record { kind = Word; from = 0; to = 0 })).from (get_or c.args.tokens.now c.loop-token.token-index (record { kind = Word; from = 0; to = 0 })).to here (omega (arith, grows));
+      spans = spans_from _ _ _ _ (omega (arith, grows)) s.later;
+      reached = here;
       made = c.in_ok-push.ensures.ok
           ∙ (ap (λ (l : List Lexeme). l ++ c.in_ok-lexeme.field-0 ∷ []) c.loop-token.invariant.made
           ∙ (ap (λ (l : Lexeme). map (lexeme_of c.args.bytes.now c.args.at) (take c.loop-token.token-index c.args.tokens.now) ++ l ∷ []) (c.in_ok-lexeme.ensures ∙ lexeme_here c.args.bytes.now c.args.at (get_or c.args.tokens.now c.loop-token.token-index (record { kind = Word; from = 0; to = 0 })) c.later_place-place.result here)
           ∙ sym (map_more (lexeme_of c.args.bytes.now c.args.at) c.args.tokens.now c.loop-token.token-index (record { kind = Word; from = 0; to = 0 }) c.loop-token-test.true)));
     }
+
+pub later_place-end-requires-clause-ordered : goal.later_place-end-requires-clause-ordered
+later_place-end-requires-clause-ordered c = spans_end c.loop-token.reached (drop c.loop-token.token-index c.args.tokens.now) (length c.args.bytes.now) c.loop-token.invariant.spans
 
 pub later_place-end-requires-clause-line : goal.later_place-end-requires-clause-line
 later_place-end-requires-clause-line c =

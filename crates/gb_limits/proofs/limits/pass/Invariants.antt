@@ -1,6 +1,6 @@
 use Rattle.std.proofs.Common.{◌≡◌, ◌||◌, length}
 use Rattle.gb_limits.specs.Limits.{taken, begin_too_many}
-use Rattle.gb_limits.proofs.limits.take_steps.Given as goal
+use Rattle.gb_limits.proofs.limits.pass.Given as goal
 
 abbrev pub invariant-loop-rest : goal.invariant-loop-rest
 invariant-loop-rest l = record {
