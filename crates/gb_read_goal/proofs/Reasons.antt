@@ -15,8 +15,8 @@ use Rattle.gb_table.specs.declared.rule.Rule.{Rule}
 use Rattle.gb_text.specs.declared.text.Text.{Text}
 use Rattle.gb_text.specs.LeftOut.{IsFirstLeftOut, NoneLeftOut}
 use Rattle.gb_text.specs.Text.{place_at}
-use Rattle.gb_limits.specs.Limits.{IsFirstLong}
-use Rattle.gb_limits.specs.Numbers.{IsFirstOverflow}
+use Rattle.gb_text.specs.Limits.{IsFirstLong}
+use Rattle.gb_text.specs.Numbers.{IsFirstOverflow}
 use Rattle.gb_read_script.specs.Reading.{IsLeftOutPlace}
 use Rattle.gb_read_goal.specs.declared.read.LineSort.{LineSort}
 use Rattle.gb_read_goal.specs.declared.read.LineSort.TheVariants.{Binder, Hypothesis, Conclusion}

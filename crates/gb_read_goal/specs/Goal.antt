@@ -9,9 +9,9 @@ use Rattle.gb_lex.specs.Lex.{tokens_of, fault_of, IsCharacterFault}
 use Rattle.gb_text.specs.declared.text.Text.{Text}
 use Rattle.gb_text.specs.Lexeme.{text_at}
 use Rattle.gb_text.specs.LeftOut.{NoneLeftOut}
-use Rattle.gb_limits.specs.Limits.{NoneLong}
-use Rattle.gb_limits.specs.Numbers.{NoneOverflow}
-use Rattle.gb_limits.specs.Places.{IsChainPlace, IsOverflowPlace}
+use Rattle.gb_text.specs.Limits.{NoneLong}
+use Rattle.gb_text.specs.Numbers.{NoneOverflow}
+use Rattle.gb_text.specs.Places.{IsChainPlace, IsOverflowPlace}
 use Rattle.gb_tree.specs.declared.form.Bind.{Bind}
 use Rattle.gb_tree.specs.declared.form.Bind.TheVariants as BindTree
 use Rattle.gb_tree.specs.declared.form.FormTree.{FormTree}

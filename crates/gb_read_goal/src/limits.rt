@@ -7,7 +7,7 @@ ghost use Rattle.gb_read_goal.specs.Goal.{all_lines, IsShort, IsTooLong, IsSmall
 
 use crate::read::{ReadGoal, ReadLine};
 use gb_core::refusal::Refused;
-use gb_limits::checks::{check_chains, check_numbers};
+use gb_text::checks::{check_chains, check_numbers};
 use std::alloc::Global;
 
 // Refuses a line with a chain that is too long.

@@ -16,9 +16,9 @@ use Rattle.gb_text.specs.declared.text.Text.{Text}
 use Rattle.gb_text.specs.LeftOut.{IsFirstLeftOut, NoneLeftOut}
 use Rattle.gb_text.specs.Lexeme.{kinds_of}
 use Rattle.gb_text.specs.Text.{place_at}
-use Rattle.gb_limits.specs.Limits.{IsFirstTooDeep, NoneTooDeep, IsFirstLong, NoneLong}
-use Rattle.gb_limits.specs.Numbers.{IsFirstOverflow, NoneOverflow}
-use Rattle.gb_limits.specs.Places.{IsDepthPlace, IsChainPlace, IsOverflowPlace}
+use Rattle.gb_text.specs.Limits.{IsFirstTooDeep, NoneTooDeep, IsFirstLong, NoneLong}
+use Rattle.gb_text.specs.Numbers.{IsFirstOverflow, NoneOverflow}
+use Rattle.gb_text.specs.Places.{IsDepthPlace, IsChainPlace, IsOverflowPlace}
 use Rattle.gb_value.specs.Form.{no_form}
 use Rattle.gb_value.specs.Program.{no_command}
 use Rattle.gb_value.specs.Sorted.{top}

@@ -1,10 +1,9 @@
 -- Places and spans of tokens, token by token.
-use Rattle.std.proofs.Common.{◌≡◌, ℕ, zero, suc, ◌+◌, ◌^◌, ◌-◌, ◌≤◌, ◌<◌, List, [], ◌∷◌, ◌++◌, length, get_or, take, drop, refl, ap, subst, sym, ◌∙◌, arith, add-one, length-take, length-drop, Bool, true, false, if◌then◌else◌}
-use Rattle.std.specs.Prelude.{◌==◌, fold}
+use Rattle.std.proofs.Common.{◌≡◌, ℕ, ◌+◌, ◌^◌, ◌-◌, ◌≤◌, ◌<◌, List, [], ◌∷◌, ◌++◌, length, get_or, take, drop, refl, ap, subst, sym, ◌∙◌, arith, add-one, length-take, true, false, if◌then◌else◌}
+use Rattle.std.specs.Prelude.{◌==◌}
 use Rattle.std.proofs.Math.Seq.{drop-cons, take-add}
 use Rattle.gb_core.specs.declared.place.Place.{Place}
 use Rattle.gb_lex.specs.declared.token.Token.{Token}
-use Rattle.gb_lex.specs.declared.token.Kind.TheVariants.{Word}
 use Rattle.gb_lex.specs.Lex.{AreSpans}
 use Rattle.gb_lex.specs.PlaceAfter.{next_place, place_after}
 use Rattle.gb_lex.proofs.PlaceLemmas.{place_after-append}

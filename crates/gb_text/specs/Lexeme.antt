@@ -1,5 +1,5 @@
 -- From tokens to lexemes.
-use Rattle.std.specs.Prelude.{◌≡◌, ℕ, Bool, ◌==◌, ◌&&◌, ◌||◌, List, [], ◌∷◌, Option, Some, None, length, map, nat_eq, nat_le, slice_index, slice_range, take, unwrap_or, if◌then◌else◌}
+use Rattle.std.specs.Prelude.{ℕ, Bool, ◌==◌, ◌&&◌, ◌||◌, List, [], ◌∷◌, Option, Some, None, length, map, nat_eq, nat_le, slice_index, slice_range, take, unwrap_or, if◌then◌else◌}
 use Rattle.std.specs.List.{starts_with}
 use Rattle.std.specs.Str.Lossy.{utf8_lossy}
 use Rattle.gb_core.specs.declared.place.Place.{Place}

@@ -1,5 +1,5 @@
 -- Texts as the grammar sees them.
-use Rattle.std.specs.Prelude.{ℕ, List, [], ◌∷◌, Option, Some, None, slice_get}
+use Rattle.std.specs.Prelude.{ℕ, [], Option, Some, None, slice_get}
 use Rattle.gb_core.specs.declared.place.Place.{Place}
 use Rattle.gb_tree.specs.declared.form.Word.{Word}
 use Rattle.gb_text.specs.declared.terminal.Terminal.{Terminal}

@@ -92,7 +92,7 @@ impl<T: Drop> Stack<T> {
     pub fn push(&mut self, item: T) -> Result<(), AllocError>
         ensures { OnOk result (self.new ≡ item ∷ self.old) }
     {
-        self.bottom_up.push(item)?;
+        self.offer(item)?;
         Ok(())
     }
 }

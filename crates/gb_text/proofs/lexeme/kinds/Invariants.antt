@@ -1,4 +1,4 @@
-use Rattle.std.proofs.Common.{◌≡◌, List, map, take}
+use Rattle.std.proofs.Common.{◌≡◌, map, take}
 use Rattle.gb_text.specs.declared.text.Lexeme.{Lexeme}
 use Rattle.gb_text.specs.Kinds.{kind_of}
 use Rattle.gb_text.proofs.lexeme.kinds.Given as goal

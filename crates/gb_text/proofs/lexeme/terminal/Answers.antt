@@ -10,7 +10,8 @@ pub returns : goal.returns
 returns c =
     let bytes = c.args.bytes.now in
     let read = c.unwrap_or.ensures ∙ ap (λ (o : Option Terminal). unwrap_or o c.match-kind.unspelled) c.spelled_in.ensures in
-    elim c.match-kind.branch
-    [ in-Word w ↦ read ∙ (ap (unwrap_or (spelled_in SPELLINGS bytes)) w.unspelled-is ∙ sym (ap (λ (k : Kind). terminal_of k bytes) w.in-Word.is))
-    | in-Number w ↦ read ∙ (ap (unwrap_or (spelled_in SPELLINGS bytes)) w.unspelled-is ∙ sym (ap (λ (k : Kind). terminal_of k bytes) w.in-Number.is))
-    | in-Symbol w ↦ read ∙ (ap (unwrap_or (spelled_in SPELLINGS bytes)) w.unspelled-is ∙ sym (ap (λ (k : Kind). terminal_of k bytes) w.in-Symbol.is)) ]
+    elim c.match-kind.branch [
+      | in-Word w ↦ read ∙ (ap (unwrap_or (spelled_in SPELLINGS bytes)) w.unspelled-is ∙ sym (ap (λ (k : Kind). terminal_of k bytes) w.in-Word.is))
+      | in-Number w ↦ read ∙ (ap (unwrap_or (spelled_in SPELLINGS bytes)) w.unspelled-is ∙ sym (ap (λ (k : Kind). terminal_of k bytes) w.in-Number.is))
+      | in-Symbol w ↦ read ∙ (ap (unwrap_or (spelled_in SPELLINGS bytes)) w.unspelled-is ∙ sym (ap (λ (k : Kind). terminal_of k bytes) w.in-Symbol.is))
+    ]

@@ -1,4 +1,4 @@
-use Rattle.std.proofs.Common.{◌≡◌, ℕ, ◌+◌, sym, ap, arith, ◌∙◌, length, get_or, take, drop, map, List, [], ◌∷◌, ◌++◌}
+use Rattle.std.proofs.Common.{◌≡◌, ℕ, sym, ap, arith, ◌∙◌, length, get_or, take, drop, map, List, [], ◌∷◌, ◌++◌}
 use Rattle.std.specs.Str.Lossy.{utf8_lossy}
 use Rattle.std.proofs.lemmas.List.{map_more, take_all}
 use Rattle.gb_core.specs.declared.place.Place.{Place}
@@ -50,7 +50,7 @@ loop-token-preserved c =
     let s = spans_at c.args.tokens.now c.loop-token.token-index (record { kind = Word; from = 0; to = 0 }) c.loop-token.reached (length c.args.bytes.now) c.loop-token-test.true c.loop-token.invariant.spans in
     let grows = s.grows in
     let here : c.later_place-place.result ≡ place_after c.args.at (take (get_or c.args.tokens.now c.loop-token.token-index (record { kind = Word; from = 0; to = 0 })).from c.args.bytes.now) =
-        c.later_place-place.ensures ∙ place_on c.args.at c.loop-token.place c.args.bytes.now c.loop-token.reached (get_or c.args.tokens.now c.loop-token.token-index (record { kind = Word; from = 0; to = 0 })).from c.loop-token.invariant.reached s.lower in
+    c.later_place-place.ensures ∙ place_on c.args.at c.loop-token.place c.args.bytes.now c.loop-token.reached (get_or c.args.tokens.now c.loop-token.token-index (record { kind = Word; from = 0; to = 0 })).from c.loop-token.invariant.reached s.lower in
     record {
       spans = spans_from _ _ _ _ (omega (arith, grows)) s.later;
       reached = here;

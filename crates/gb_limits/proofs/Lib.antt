@@ -1,3 +1,0 @@
-pub mod Digits
-mod Firsts
-pub mod Nesting

@@ -1,4 +1,0 @@
-pub mod Level
-pub mod Limits
-pub mod Numbers
-pub mod Places
