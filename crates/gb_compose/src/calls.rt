@@ -5,9 +5,11 @@ ghost use Rattle.gb_compose.specs.Atoms.{bracketed, call_of, call, longer_call, 
 
 use crate::trees::{applied, path_form};
 use crate::words::{dotted, split_path};
+use gb_core::place::Place;
 use gb_text::stack::Stack;
 use gb_tree::form::{FormShape, FormTree, OraclePath, Word};
 use gb_tree::judgment::CallTree;
+use gb_value::boxes::boxed_form;
 use gb_value::form::{BracketTail, CallFunctor, CallTail};
 use gb_value::take::in_front;
 use sqlite_items::{Boxed, Items};
@@ -18,14 +20,16 @@ pub fn bracketed(
     alloc: Global,
     inner: Boxed<FormTree>,
     tail: BracketTail,
-) -> Result<FormShape, AllocError>
-    ensures { IfOk result (λ s. s ≡ bracketed inner tail) }
+    place: Place,
+) -> Result<Boxed<FormTree>, AllocError>
+    ensures { IfOk result (λ f. f ≡ record { shape = bracketed inner tail; place = place }) }
 {
-    match tail {
-        BracketTail::End => Ok(FormShape::Bracketed(inner)),
-        BracketTail::Typed(ty) => Ok(FormShape::Typed(inner, ty)),
-        BracketTail::Tuple(parts) => Ok(FormShape::Tuple(in_front(alloc, inner, parts)?)),
-    }
+    let shape = match tail {
+        BracketTail::End => FormShape::Bracketed(inner),
+        BracketTail::Typed(ty) => FormShape::Typed(inner, ty),
+        BracketTail::Tuple(parts) => FormShape::Tuple(in_front(alloc, inner, parts)?),
+    };
+    boxed_form(alloc, shape, place)
 }
 
 fn call_of(

@@ -6,10 +6,10 @@ ghost use Rattle.gb_value.specs.Path.{no_type};
 ghost use Rattle.gb_value.specs.Sorted.{top, behind};
 
 use crate::words::{dotted, split_path};
-use gb_let_go::boxes::boxed_type;
 use gb_text::stack::Stack;
 use gb_tree::form::{Bind, Binder, ModuleBinder, OraclePath, TypeShape, TypeTree, Word};
 use gb_tree::judgment::{ModuleExpr, ProcPath};
+use gb_value::boxes::boxed_type;
 use gb_value::path::{BindRest, Functor, PathTail, no_type};
 use gb_value::take::{in_front, take_boxed};
 use sqlite_items::{Boxed, Items};

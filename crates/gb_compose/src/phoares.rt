@@ -4,10 +4,10 @@ ghost use Rattle.std.specs.Prelude.{◌≡◌, IfOk};
 ghost use Rattle.gb_compose.specs.Forms.{phoare, plain_phoare, bounded_phoare, phoare_operand, phoare_run};
 
 use crate::operands::{argument_run, operand};
-use gb_let_go::boxes::boxed_form;
 use gb_text::stack::Stack;
 use gb_tree::form::{FormShape, FormTree};
 use gb_tree::judgment::BoundTree;
+use gb_value::boxes::boxed_form;
 use gb_value::form::{Infix, Operand, PhoareRun, PhoareTree, Run, no_run};
 use sqlite_items::Boxed;
 use std::alloc::{AllocError, Global};

@@ -3,10 +3,10 @@
 ghost use Rattle.std.specs.Prelude.{◌≡◌, IfOk};
 ghost use Rattle.gb_compose.specs.Forms.{path_form, binary, joined, choosing, chained, combined, applied, shape_behind, suffixed, coin_before};
 
-use gb_let_go::boxes::boxed_form;
 use gb_text::stack::Stack;
 use gb_text::text::{Text, place_at};
 use gb_tree::form::{Connective, FormShape, FormTree, Word};
+use gb_value::boxes::boxed_form;
 use gb_value::form::{Choice, Infix, Suffix};
 use sqlite_items::{Boxed, Items};
 use std::alloc::{AllocError, Global};
@@ -15,8 +15,8 @@ use std::alloc::{AllocError, Global};
 pub fn path_form(alloc: Global, path: Word) -> Result<Boxed<FormTree>, AllocError>
     ensures { IfOk result (λ f. f ≡ path_form path) }
 {
-    let Word { name, place } = path;
-    boxed_form(alloc, FormShape::Path(name), place)
+    let place = path.place;
+    boxed_form(alloc, FormShape::Path(path.into_name()), place)
 }
 
 /// Two operands, at the place of the left one.

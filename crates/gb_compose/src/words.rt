@@ -4,10 +4,9 @@ ghost use Rattle.std.specs.Prelude.{◌≡◌, ◌∷◌, [], ◌++◌, IfOk, On
 ghost use Rattle.gb_compose.specs.Paths.{dotted, oracle_path, split_path};
 
 use gb_core::name::Name;
-use gb_let_go::stacks::take;
 use gb_text::stack::Stack;
 use gb_tree::form::{OraclePath, Word};
-use gb_value::path::no_word;
+use gb_value::take::take_word;
 use sqlite_items::Items;
 use std::alloc::{AllocError, Global};
 
@@ -64,6 +63,6 @@ pub fn split_path(alloc: Global, first: Word, words: Stack<Word>) -> Result<Orac
     ensures { IfOk result (λ o. o ≡ split_path first words) }
 {
     let mut words = words;
-    let second = take(&mut words, no_word(alloc));
+    let second = take_word(alloc, &mut words);
     oracle_path(alloc, first, second, words.into_items())
 }

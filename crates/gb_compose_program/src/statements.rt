@@ -6,7 +6,6 @@ ghost use Rattle.gb_compose_program.specs.Program.{writing, acting, statement_sh
 use gb_compose::calls::{call, longer_call};
 use gb_compose::trees::suffixed;
 use gb_compose::words::dotted;
-use gb_let_go::boxes::boxed_call;
 use gb_text::stack::Stack;
 use gb_tree::form::{FormTree, SideTree, Word};
 use gb_tree::program::{Statement, StatementShape, Statements, Target};
@@ -56,7 +55,7 @@ fn statement_shape(
         }
         StatementTail::Call(tail) => {
             let made = call(alloc, first, tail)?;
-            let call = boxed_call(alloc, made)?;
+            let call = Boxed::new(alloc, made)?;
             Ok(StatementShape::Call { target: None, call })
         }
     }

@@ -7,11 +7,6 @@ ghost use Rattle.gb_value.specs.Step.{no_pattern, no_rule, no_step, no_tactic};
 ghost use Rattle.gb_compose_program.specs.Step.{bodies, with_argument, seq_bounds, contract_on, contract_rule, fel_rule, call_rule};
 
 use gb_compose::form::take_form;
-use gb_let_go::boxes::{
-    boxed_conseq, boxed_contract, boxed_fel_bounds, boxed_fel_counter, boxed_pattern, boxed_rule,
-    boxed_seq, boxed_step, boxed_tactic, boxed_transitivity,
-};
-use gb_let_go::stacks::{push, take, take_option};
 use gb_text::stack::Stack;
 use gb_text::terminal::Terminal;
 use gb_tree::form::{FormTree, FormTrees, Number, SideTree, Word};
@@ -21,10 +16,10 @@ use gb_tree::step::{
     FelCounter, Guards, PatternTree, ProcPaths, RuleTree, SeqBounds, SeqTree, StepTree, TacticTree,
     TransitivityTree,
 };
-use gb_value::form::{Run, Suffix, no_run};
+use gb_value::form::{Run, Suffix, no_run, take_run};
 use gb_value::path::no_place;
 use gb_value::step::{CallRest, FelRest, no_pattern};
-use gb_value::take::take_list;
+use gb_value::take::{take, take_list, take_option};
 use sqlite_items::{Boxed, Items};
 use std::alloc::{AllocError, Global};
 
@@ -36,8 +31,8 @@ pub fn push_rule(
 ) -> Result<(), AllocError>
     ensures { OnOk result (rules.new ≡ rule ∷ rules.old) }
 {
-    let rule = boxed_rule(alloc, rule)?;
-    push(rules, rule)
+    let rule = Boxed::new(alloc, rule)?;
+    rules.push(rule)
 }
 
 /// Takes a rule off; a fixed one where there is none.
@@ -50,14 +45,14 @@ pub fn take_rule(
 {
     match rules.pop() {
         Some(rule) => Ok(rule),
-        None => boxed_rule(alloc, RuleTree::Split),
+        None => Boxed::new(alloc, RuleTree::Split),
     }
 }
 
 fn no_step(alloc: Global) -> Result<CombinedStep, AllocError>
     ensures { IfOk result (λ x. x ≡ no_step) }
 {
-    let rule = boxed_rule(alloc, RuleTree::Split)?;
+    let rule = Boxed::new(alloc, RuleTree::Split)?;
     let rule = StepTree {
         rule,
         place: no_place(),
@@ -91,7 +86,7 @@ pub fn take_boxed_step(
     ensures behind { combined.new ≡ behind combined.old }
 {
     let step = take_step(alloc, combined)?;
-    boxed_step(alloc, step)
+    Boxed::new(alloc, step)
 }
 
 fn no_tactic(alloc: Global) -> Result<TacticTree, AllocError>
@@ -124,7 +119,7 @@ pub fn take_boxed_tactic(
     ensures behind { tactics.new ≡ behind tactics.old }
 {
     let tactic = take_tactic(alloc, tactics)?;
-    boxed_tactic(alloc, tactic)
+    Boxed::new(alloc, tactic)
 }
 
 /// Takes two patterns off, in boxes; fixed ones where there are none.
@@ -138,8 +133,8 @@ pub fn take_two_patterns(
 {
     let first = take(patterns, no_pattern());
     let second = take(patterns, no_pattern());
-    let first = boxed_pattern(alloc, first)?;
-    let second = boxed_pattern(alloc, second)?;
+    let first = Boxed::new(alloc, first)?;
+    let second = Boxed::new(alloc, second)?;
     Ok((first, second))
 }
 
@@ -167,7 +162,7 @@ pub fn take_arguments(alloc: Global, runs: &mut Stack<Run>) -> FormTrees
     ensures arguments { result ≡ (top no_run runs.old).arguments }
     ensures behind { runs.new ≡ behind runs.old }
 {
-    let Run { arguments, .. } = take(runs, no_run(alloc));
+    let Run { arguments, .. } = take_run(alloc, runs);
     arguments.into_items()
 }
 
@@ -176,8 +171,15 @@ pub fn take_suffixes(alloc: Global, runs: &mut Stack<Run>) -> Stack<Suffix>
     ensures suffixes { result ≡ (top no_run runs.old).suffixes }
     ensures behind { runs.new ≡ behind runs.old }
 {
-    let Run { suffixes, .. } = take(runs, no_run(alloc));
+    let Run { suffixes, .. } = take_run(alloc, runs);
     suffixes
+}
+
+/// Takes a run off.
+pub fn skip_run(alloc: Global, runs: &mut Stack<Run>)
+    ensures { runs.new ≡ behind runs.old }
+{
+    drop(take_run(alloc, runs));
 }
 
 /// Puts an argument in front of the top list.
@@ -189,8 +191,8 @@ pub fn put_argument(
     ensures { OnOk result (argument_lists.new ≡ with_argument argument argument_lists.old) }
 {
     let mut list = take_list(alloc, argument_lists);
-    push(&mut list, argument)?;
-    push(argument_lists, list)
+    list.push(argument)?;
+    argument_lists.push(list)
 }
 
 /// Takes a precondition and a postcondition off; fixed ones where there are none.
@@ -214,7 +216,7 @@ pub fn contract_rule(
 ) -> Result<RuleTree, AllocError>
     ensures { IfOk result (λ r. r ≡ contract_rule terminal contract) }
 {
-    let contract = boxed_contract(alloc, contract)?;
+    let contract = Boxed::new(alloc, contract)?;
     match terminal {
         Terminal::ByPhoare => Ok(RuleTree::ByPhoare(contract)),
         _ => Ok(RuleTree::ByEquiv(contract)),
@@ -233,7 +235,7 @@ pub fn transitivity_rule(
 {
     let first = take_contract(alloc, forms)?;
     let second = take_contract(alloc, forms)?;
-    let transitivity = boxed_transitivity(
+    let transitivity = Boxed::new(
         alloc,
         TransitivityTree {
             bodies,
@@ -259,7 +261,7 @@ pub fn seq_bounds(bounds: FormTrees, invariant: Option<Boxed<FormTree>>) -> Opti
 pub fn seq_rule(alloc: Global, seq: SeqTree) -> Result<RuleTree, AllocError>
     ensures { IfOk result (λ r. r ≡ RuleTree.Seq seq) }
 {
-    let seq = boxed_seq(alloc, seq)?;
+    let seq = Boxed::new(alloc, seq)?;
     Ok(RuleTree::Seq(seq))
 }
 
@@ -267,7 +269,7 @@ pub fn seq_rule(alloc: Global, seq: SeqTree) -> Result<RuleTree, AllocError>
 pub fn conseq_rule(alloc: Global, conseq: ConseqTree) -> Result<RuleTree, AllocError>
     ensures { IfOk result (λ r. r ≡ RuleTree.Conseq conseq) }
 {
-    let conseq = boxed_conseq(alloc, conseq)?;
+    let conseq = Boxed::new(alloc, conseq)?;
     Ok(RuleTree::Conseq(conseq))
 }
 
@@ -283,7 +285,7 @@ pub fn call_rule(
         CallRest::Invariant => Ok(CallRule::Invariant(form)),
         CallRest::Upto(invariant) => Ok(CallRule::Upto(form, invariant)),
         CallRest::Post(post) => {
-            let contract = boxed_contract(alloc, Contract { pre: form, post })?;
+            let contract = Boxed::new(alloc, Contract { pre: form, post })?;
             Ok(CallRule::Contract(contract))
         }
     }
@@ -351,7 +353,7 @@ pub fn fel_rule(alloc: Global, start: Number, rest: Option<FelRest>) -> Result<R
                 guards,
                 invariant,
             },
-        ) => Ok(RuleTree::FelCounter(boxed_fel_counter(
+        ) => Ok(RuleTree::FelCounter(Boxed::new(
             alloc,
             FelCounter {
                 start,
@@ -371,7 +373,7 @@ pub fn fel_rule(alloc: Global, start: Number, rest: Option<FelRest>) -> Result<R
                 bad,
                 invariant,
             },
-        ) => Ok(RuleTree::FelBounds(boxed_fel_bounds(
+        ) => Ok(RuleTree::FelBounds(Boxed::new(
             alloc,
             FelBounds {
                 start,

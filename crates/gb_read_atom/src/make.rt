@@ -12,17 +12,17 @@ use gb_compose::judgment::{
 };
 use gb_compose::paths::take_type;
 use gb_compose::trees::path_form;
-use gb_let_go::boxes::{boxed_call, boxed_form, boxed_module, boxed_procedure, boxed_subject};
-use gb_let_go::stacks::{push, take};
 use gb_table::rule::{Atom, Call, Judgment as JudgmentRule};
 use gb_text::text::{Text, place_at, terminal_at};
 use gb_tree::form::{EquatedTree, FormShape, Number, Weight};
 use gb_tree::judgment::SubjectTree;
+use gb_value::boxes::boxed_form;
 use gb_value::form::{BracketTail, FunctorCall, PhoareTree, no_call_tail};
-use gb_value::path::{no_module, no_number, no_procedure, no_word};
+use gb_value::path::{no_module, no_procedure};
 use gb_value::program::ProgramValues;
-use gb_value::take::take_list;
+use gb_value::take::{take, take_items, take_number, take_word};
 use gb_value::values::Groups;
+use sqlite_items::Boxed;
 use std::alloc::{AllocError, Global};
 
 /// What the productions of atoms make.
@@ -35,97 +35,41 @@ pub fn atom<P, C, T, R>(
 ) -> Result<(), AllocError>
     ensures { OnOk result (values.new ≡ atom_made text.now rule at values.old) }
 {
-    match rule {
-        Atom::Constant => {
-            let made = boxed_form(alloc, constant(terminal_at(text, at)), place_at(text, at))?;
-            push(&mut values.formulas.forms.one, made)
-        }
+    let shape = match rule {
+        Atom::Constant => constant(terminal_at(text, at)),
         Atom::Number => {
-            let number = take(&mut values.paths.numbers.one, no_number(alloc));
-            let made = boxed_form(alloc, FormShape::Number(number), place_at(text, at))?;
-            push(&mut values.formulas.forms.one, made)
-        }
-        Atom::Path => {
-            let path = take(&mut values.paths.words.one, no_word(alloc));
-            let made = path_form(alloc, path)?;
-            push(&mut values.formulas.forms.one, made)
+            let number = take_number(alloc, &mut values.paths.numbers.one);
+            FormShape::Number(number)
         }
         Atom::Uniform => {
             let ty = take_type(alloc, &mut values.paths.types.one)?;
-            let made = boxed_form(alloc, FormShape::Uniform(ty), place_at(text, at))?;
-            push(&mut values.formulas.forms.one, made)
+            FormShape::Uniform(ty)
         }
         Atom::Weights => {
-            let weights = take_list(alloc, &mut values.formulas.weights.lists).into_items();
-            let made = boxed_form(alloc, FormShape::Weights(weights), place_at(text, at))?;
-            push(&mut values.formulas.forms.one, made)
-        }
-        Atom::Weight => {
-            let constant = take(&mut values.paths.words.one, no_word(alloc));
-            let weight = take(&mut values.paths.numbers.one, no_number(alloc));
-            push(
-                &mut values.formulas.weights.one,
-                Weight { constant, weight },
-            )
+            let weights = take_items(alloc, &mut values.formulas.weights.lists);
+            FormShape::Weights(weights)
         }
         Atom::Equalities => {
-            let equated = take_list(alloc, &mut values.formulas.equated.lists).into_items();
-            let made = boxed_form(alloc, FormShape::Equalities(equated), place_at(text, at))?;
-            push(&mut values.formulas.forms.one, made)
-        }
-        Atom::EquatedPath => {
-            let path = take(&mut values.paths.words.one, no_word(alloc));
-            push(&mut values.formulas.equated.one, EquatedTree::Path(path))
-        }
-        Atom::EquatedGlob => {
-            let module = take(&mut values.paths.modules.one, no_module(alloc));
-            let module = boxed_module(alloc, module)?;
-            push(&mut values.formulas.equated.one, EquatedTree::Glob(module))
+            let equated = take_items(alloc, &mut values.formulas.equated.lists);
+            FormShape::Equalities(equated)
         }
         Atom::GlobBracket => {
             let module = take(&mut values.paths.modules.one, no_module(alloc));
-            let module = boxed_module(alloc, module)?;
-            let made = boxed_form(alloc, FormShape::Glob(module), place_at(text, at))?;
-            push(&mut values.formulas.forms.one, made)
+            let module = Boxed::new(alloc, module)?;
+            FormShape::Glob(module)
         }
         Atom::Prefixed => {
             let inner = take_form(alloc, &mut values.formulas.forms.one)?;
-            let made = boxed_form(
-                alloc,
-                prefixed(terminal_at(text, at), inner),
-                place_at(text, at),
-            )?;
-            push(&mut values.formulas.forms.one, made)
-        }
-        Atom::FormBracket => {
-            let inner = take_form(alloc, &mut values.formulas.forms.one)?;
-            let tail = take(&mut values.formulas.bracket_tails, BracketTail::End);
-            let shape = bracketed(alloc, inner, tail)?;
-            let made = boxed_form(alloc, shape, place_at(text, at))?;
-            push(&mut values.formulas.forms.one, made)
-        }
-        Atom::EndOfBracket => push(&mut values.formulas.bracket_tails, BracketTail::End),
-        Atom::TypedBracket => {
-            let ty = take_type(alloc, &mut values.paths.types.one)?;
-            push(&mut values.formulas.bracket_tails, BracketTail::Typed(ty))
-        }
-        Atom::TupleBracket => {
-            let parts = take_list(alloc, &mut values.formulas.forms.lists).into_items();
-            push(
-                &mut values.formulas.bracket_tails,
-                BracketTail::Tuple(parts),
-            )
+            prefixed(terminal_at(text, at), inner)
         }
         Atom::UntypedFunction => {
             let body = take_form(alloc, &mut values.formulas.forms.one)?;
-            let names = take_list(alloc, &mut values.paths.words.lists).into_items();
-            let shape = FormShape::Function {
+            let names = take_items(alloc, &mut values.paths.words.lists);
+            FormShape::Function {
                 names,
                 ty: None,
                 body,
-            };
-            let made = boxed_form(alloc, shape, place_at(text, at))?;
-            push(&mut values.formulas.forms.one, made)
+            }
         }
         Atom::TypedFunction => {
             let (ty, body) = take_type_and_form(
@@ -133,16 +77,57 @@ pub fn atom<P, C, T, R>(
                 &mut values.paths.types.one,
                 &mut values.formulas.forms.one,
             )?;
-            let names = take_list(alloc, &mut values.paths.words.lists).into_items();
-            let shape = FormShape::Function {
+            let names = take_items(alloc, &mut values.paths.words.lists);
+            FormShape::Function {
                 names,
                 ty: Some(ty),
                 body,
-            };
-            let made = boxed_form(alloc, shape, place_at(text, at))?;
-            push(&mut values.formulas.forms.one, made)
+            }
         }
-    }
+        Atom::Path => {
+            let path = take_word(alloc, &mut values.paths.words.one);
+            let made = path_form(alloc, path)?;
+            return values.formulas.forms.one.push(made);
+        }
+        Atom::FormBracket => {
+            let inner = take_form(alloc, &mut values.formulas.forms.one)?;
+            let tail = take(&mut values.formulas.bracket_tails, BracketTail::End);
+            let made = bracketed(alloc, inner, tail, place_at(text, at))?;
+            return values.formulas.forms.one.push(made);
+        }
+        Atom::Weight => {
+            let constant = take_word(alloc, &mut values.paths.words.one);
+            let weight = take_number(alloc, &mut values.paths.numbers.one);
+            return values
+                .formulas
+                .weights
+                .one
+                .push(Weight { constant, weight });
+        }
+        Atom::EquatedPath => {
+            let path = take_word(alloc, &mut values.paths.words.one);
+            return values.formulas.equated.one.push(EquatedTree::Path(path));
+        }
+        Atom::EquatedGlob => {
+            let module = take(&mut values.paths.modules.one, no_module(alloc));
+            let module = Boxed::new(alloc, module)?;
+            return values.formulas.equated.one.push(EquatedTree::Glob(module));
+        }
+        Atom::EndOfBracket => return values.formulas.bracket_tails.push(BracketTail::End),
+        Atom::TypedBracket => {
+            let ty = take_type(alloc, &mut values.paths.types.one)?;
+            return values.formulas.bracket_tails.push(BracketTail::Typed(ty));
+        }
+        Atom::TupleBracket => {
+            let parts = take_items(alloc, &mut values.formulas.forms.lists);
+            return values
+                .formulas
+                .bracket_tails
+                .push(BracketTail::Tuple(parts));
+        }
+    };
+    let made = boxed_form(alloc, shape, place_at(text, at))?;
+    values.formulas.forms.one.push(made)
 }
 
 /// What the productions of judgments make.
@@ -155,32 +140,14 @@ pub fn judgment<C, T, R>(
 ) -> Result<(), AllocError>
     ensures { OnOk result (values.new ≡ judgment_made text.now rule at values.old) }
 {
-    match rule {
+    let shape = match rule {
         JudgmentRule::Hoare => {
             let Judgment { subject, pre, post } = take_judgment(
                 alloc,
                 &mut values.formulas.subjects,
                 &mut values.formulas.forms.one,
             )?;
-            let shape = FormShape::Hoare { subject, pre, post };
-            let made = boxed_form(alloc, shape, place_at(text, at))?;
-            push(&mut values.formulas.forms.one, made)
-        }
-        JudgmentRule::Phoare => {
-            let Judgment { subject, pre, post } = take_judgment(
-                alloc,
-                &mut values.formulas.subjects,
-                &mut values.formulas.forms.one,
-            )?;
-            push(
-                &mut values.formulas.phoares,
-                PhoareTree {
-                    subject,
-                    pre,
-                    post,
-                    place: place_at(text, at),
-                },
-            )
+            FormShape::Hoare { subject, pre, post }
         }
         JudgmentRule::Equiv => {
             let Equivalence {
@@ -193,20 +160,17 @@ pub fn judgment<C, T, R>(
                 &mut values.formulas.subjects,
                 &mut values.formulas.forms.one,
             )?;
-            let shape = FormShape::Equiv {
+            FormShape::Equiv {
                 left,
                 right,
                 pre,
                 post,
-            };
-            let made = boxed_form(alloc, shape, place_at(text, at))?;
-            push(&mut values.formulas.forms.one, made)
+            }
         }
         JudgmentRule::Lossless => {
             let procedure = take(&mut values.paths.procedures.one, no_procedure(alloc));
-            let procedure = boxed_procedure(alloc, procedure)?;
-            let made = boxed_form(alloc, FormShape::Lossless(procedure), place_at(text, at))?;
-            push(&mut values.formulas.forms.one, made)
+            let procedure = Boxed::new(alloc, procedure)?;
+            FormShape::Lossless(procedure)
         }
         JudgmentRule::Probability => {
             let (call, event) = take_call_and_form(
@@ -214,26 +178,39 @@ pub fn judgment<C, T, R>(
                 &mut values.formulas.calls,
                 &mut values.formulas.forms.one,
             )?;
-            let memory = take(&mut values.paths.words.one, no_word(alloc));
-            let shape = FormShape::Probability {
+            let memory = take_word(alloc, &mut values.paths.words.one);
+            FormShape::Probability {
                 call,
                 memory,
                 event,
-            };
-            let made = boxed_form(alloc, shape, place_at(text, at))?;
-            push(&mut values.formulas.forms.one, made)
+            }
+        }
+        JudgmentRule::Phoare => {
+            let Judgment { subject, pre, post } = take_judgment(
+                alloc,
+                &mut values.formulas.subjects,
+                &mut values.formulas.forms.one,
+            )?;
+            return values.formulas.phoares.push(PhoareTree {
+                subject,
+                pre,
+                post,
+                place: place_at(text, at),
+            });
         }
         JudgmentRule::ProcedureSubject => {
             let procedure = take(&mut values.paths.procedures.one, no_procedure(alloc));
-            let made = boxed_subject(alloc, SubjectTree::Procedure(procedure))?;
-            push(&mut values.formulas.subjects, made)
+            let made = Boxed::new(alloc, SubjectTree::Procedure(procedure))?;
+            return values.formulas.subjects.push(made);
         }
         JudgmentRule::BlockSubject => {
-            let statements = take_list(alloc, &mut values.programs.statements.lists).into_items();
-            let made = boxed_subject(alloc, SubjectTree::Block(statements))?;
-            push(&mut values.formulas.subjects, made)
+            let statements = take_items(alloc, &mut values.programs.statements.lists);
+            let made = Boxed::new(alloc, SubjectTree::Block(statements))?;
+            return values.formulas.subjects.push(made);
         }
-    }
+    };
+    let made = boxed_form(alloc, shape, place_at(text, at))?;
+    values.formulas.forms.one.push(made)
 }
 
 /// What the productions of calls make.
@@ -246,44 +223,41 @@ pub fn call<P, C, T, R>(
 {
     match rule {
         Call::Call => {
-            let first = take(&mut values.paths.words.one, no_word(alloc));
+            let first = take_word(alloc, &mut values.paths.words.one);
             let tail = take(&mut values.formulas.call_tails, no_call_tail(alloc));
             let made = calls::call(alloc, first, tail)?;
-            let made = boxed_call(alloc, made)?;
-            push(&mut values.formulas.calls, made)
+            let made = Boxed::new(alloc, made)?;
+            values.formulas.calls.push(made)
         }
         Call::Dotted => {
-            let word = take(&mut values.paths.words.one, no_word(alloc));
+            let word = take_word(alloc, &mut values.paths.words.one);
             let tail = take(&mut values.formulas.call_tails, no_call_tail(alloc));
             let made = longer_call(word, tail)?;
-            push(&mut values.formulas.call_tails, made)
+            values.formulas.call_tails.push(made)
         }
         Call::Bracket => {
-            let forms = take_list(alloc, &mut values.formulas.forms.lists).into_items();
+            let forms = take_items(alloc, &mut values.formulas.forms.lists);
             let functor = take(&mut values.formulas.functor_calls, None);
-            push(
-                &mut values.formulas.call_tails,
-                call_tail(alloc, forms, functor),
-            )
+            values
+                .formulas
+                .call_tails
+                .push(call_tail(alloc, forms, functor))
         }
-        Call::NoArguments => push(&mut values.formulas.call_tails, no_call_tail(alloc)),
-        Call::NoFunctor => push(&mut values.formulas.functor_calls, None),
+        Call::NoArguments => values.formulas.call_tails.push(no_call_tail(alloc)),
+        Call::NoFunctor => values.formulas.functor_calls.push(None),
         Call::Functor => {
-            let procedure = take(&mut values.paths.words.one, no_word(alloc));
-            let arguments = take_list(alloc, &mut values.formulas.forms.lists).into_items();
-            push(
-                &mut values.formulas.functor_calls,
-                Some(FunctorCall {
-                    procedure,
-                    arguments,
-                }),
-            )
+            let procedure = take_word(alloc, &mut values.paths.words.one);
+            let arguments = take_items(alloc, &mut values.formulas.forms.lists);
+            values.formulas.functor_calls.push(Some(FunctorCall {
+                procedure,
+                arguments,
+            }))
         }
         Call::Module => {
-            let path = take(&mut values.paths.words.one, no_word(alloc));
-            let brackets = take_list(alloc, &mut values.formulas.forms.lists).into_items();
+            let path = take_word(alloc, &mut values.paths.words.one);
+            let brackets = take_items(alloc, &mut values.formulas.forms.lists);
             let made = module_form(alloc, path, brackets)?;
-            push(&mut values.formulas.forms.one, made)
+            values.formulas.forms.one.push(made)
         }
     }
 }

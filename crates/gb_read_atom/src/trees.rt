@@ -25,10 +25,7 @@ pub fn prefixed(terminal: Terminal, inner: Boxed<FormTree>) -> FormShape
     match terminal {
         Terminal::Exclamation => FormShape::Not(inner),
         Terminal::Bars => FormShape::Absolute(inner),
-        _ => {
-            let FormTree { shape, .. } = inner.into_inner();
-            shape
-        }
+        _ => inner.into_inner().into_shape(),
     }
 }
 

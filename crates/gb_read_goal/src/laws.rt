@@ -7,10 +7,9 @@ ghost use Rattle.gb_tree.specs.declared.goal.SequentTree.{SequentTree};
 ghost use Rattle.gb_read_goal.specs.Goal.{SpellsGoal, IsGoalRefusal, IsGoalAllowed};
 
 use gb_grammar::laws::first_faults_are_unique;
-use gb_text::laws::first_places_are_unique;
 use gb_table::laws::steps_are_unique;
 use gb_table::rule::Rule;
-use gb_text::laws::kinds_are_kinds;
+use gb_text::laws::{first_places_are_unique, kinds_are_kinds};
 
 /// A text spells one goal at most.
 pub fn goals_are_unique()

@@ -6,12 +6,11 @@ ghost use Rattle.gb_read_goal.specs.Goal.{entry_left, entry_of, form_of, tree_of
 
 use crate::read::{LineSort, ReadGoal, ReadLine};
 use gb_compose::form::take_form;
-use gb_let_go::let_go::LetGo;
-use gb_let_go::stacks::take;
 use gb_read_script::build::fill;
 use gb_tree::form::{Bind, FormTree};
 use gb_tree::goal::{EntryTree, EntryTrees, SequentTree};
 use gb_value::path::no_word;
+use gb_value::take::{take, take_word};
 use gb_value::values::{Values, no_values};
 use sqlite_items::{Boxed, Items};
 use std::alloc::{AllocError, Global};
@@ -27,7 +26,7 @@ fn entry_left(alloc: Global, sort: LineSort, values: &mut Values) -> Result<Entr
         }
         LineSort::Hypothesis | LineSort::Conclusion => {
             let form = take_form(alloc, &mut values.formulas.forms.one)?;
-            let name = take(&mut values.paths.words.one, no_word(alloc));
+            let name = take_word(alloc, &mut values.paths.words.one);
             Ok(EntryTree::Hypothesis(name, form))
         }
     }
@@ -38,12 +37,8 @@ fn entry(alloc: Global, line: &ReadLine) -> Result<EntryTree, AllocError>
     ensures { IfOk result (λ e. e ≡ entry_of line.now) }
 {
     let mut values = no_values(alloc);
-    let entry = match fill(alloc, &line.text, line.steps.as_slice(), &mut values) {
-        Ok(()) => entry_left(alloc, line.sort, &mut values),
-        Err(error) => Err(error),
-    };
-    values.let_go();
-    entry
+    fill(alloc, &line.text, line.steps.as_slice(), &mut values)?;
+    entry_left(alloc, line.sort, &mut values)
 }
 
 // The form that a line is.
@@ -51,12 +46,8 @@ fn form(alloc: Global, line: &ReadLine) -> Result<Boxed<FormTree>, AllocError>
     ensures { IfOk result (λ f. f ≡ form_of line.now) }
 {
     let mut values = no_values(alloc);
-    let form = match fill(alloc, &line.text, line.steps.as_slice(), &mut values) {
-        Ok(()) => take_form(alloc, &mut values.formulas.forms.one),
-        Err(error) => Err(error),
-    };
-    values.let_go();
-    form
+    fill(alloc, &line.text, line.steps.as_slice(), &mut values)?;
+    take_form(alloc, &mut values.formulas.forms.one)
 }
 
 // The context that lines are.

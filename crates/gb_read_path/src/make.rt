@@ -7,16 +7,14 @@ use crate::trees::{bracketed_type, functor_tail, integer, named_type, number_at,
 use gb_compose::paths;
 use gb_compose::paths::{formal, longer_path, optional, procedure, product, take_type};
 use gb_compose::words::{dotted, oracle_path};
-use gb_let_go::boxes::{boxed_module, boxed_type};
-use gb_let_go::stacks::{push, take, take_option};
 use gb_table::rule::{Bind as BindRule, Path, Ty, Word as WordRule};
 use gb_text::text::{Text, place_at, terminal_at, word_at};
 use gb_tree::form::{Bind, Binder, Limit, ModuleBinder, Number, QueryBound, TypeShape, Word};
 use gb_tree::judgment::ModuleExpr;
-use gb_value::path::{
-    BindRest, PathValues, no_bind_rest, no_module, no_number, no_path_tail, no_word,
-};
-use gb_value::take::take_list;
+use gb_value::boxes::boxed_type;
+use gb_value::path::{BindRest, PathValues, no_bind_rest, no_module, no_path_tail};
+use gb_value::take::{take, take_items, take_number, take_option, take_word};
+use sqlite_items::Boxed;
 use std::alloc::{AllocError, Global};
 
 /// What the productions of words make.
@@ -32,17 +30,17 @@ pub fn word(
     match rule {
         WordRule::Name => {
             let made = word_at(alloc, text, at)?;
-            push(&mut values.words.one, made)
+            values.words.one.push(made)
         }
         WordRule::Number => {
             let made = number_at(alloc, text, at)?;
-            push(&mut values.numbers.one, made)
+            values.numbers.one.push(made)
         }
         WordRule::Path => {
-            let first = take(&mut values.words.one, no_word(alloc));
-            let more = take_list(alloc, &mut values.words.lists).into_items();
+            let first = take_word(alloc, &mut values.words.one);
+            let more = take_items(alloc, &mut values.words.lists);
             let made = dotted(alloc, first, more)?;
-            push(&mut values.words.one, made)
+            values.words.one.push(made)
         }
     }
 }
@@ -57,51 +55,42 @@ pub fn type_tree(
 ) -> Result<(), AllocError>
     ensures { OnOk result (values.new ≡ type_made text.now rule at values.old) }
 {
-    match rule {
+    let made = match rule {
         Ty::Product => {
             let first = take_type(alloc, &mut values.types.one)?;
-            let more = take_list(alloc, &mut values.types.lists).into_items();
-            let made = product(alloc, first, more)?;
-            push(&mut values.types.one, made)
+            let more = take_items(alloc, &mut values.types.lists);
+            product(alloc, first, more)
         }
         Ty::Options => {
             let base = take_type(alloc, &mut values.types.one)?;
-            let marks = take_list(alloc, &mut values.words.lists).into_items();
-            let made = optional(alloc, base, marks)?;
-            push(&mut values.types.one, made)
+            let marks = take_items(alloc, &mut values.words.lists);
+            optional(alloc, base, marks)
         }
-        Ty::Plain => {
-            let made = boxed_type(alloc, plain_type(terminal_at(text, at)), place_at(text, at))?;
-            push(&mut values.types.one, made)
-        }
+        Ty::Plain => { boxed_type(alloc, plain_type(terminal_at(text, at)), place_at(text, at)) }
         Ty::Integer => {
             let modulus = take_option(alloc, &mut values.numbers.lists);
-            let made = boxed_type(alloc, integer(modulus), place_at(text, at))?;
-            push(&mut values.types.one, made)
+            boxed_type(alloc, integer(modulus), place_at(text, at))
         }
         Ty::Bits => {
-            let width = take(&mut values.numbers.one, no_number(alloc));
-            let made = boxed_type(alloc, TypeShape::Bits(width), place_at(text, at))?;
-            push(&mut values.types.one, made)
+            let width = take_number(alloc, &mut values.numbers.one);
+            boxed_type(alloc, TypeShape::Bits(width), place_at(text, at))
         }
         Ty::Named => {
-            let path = take(&mut values.words.one, no_word(alloc));
-            let made = named_type(alloc, path)?;
-            push(&mut values.types.one, made)
+            let path = take_word(alloc, &mut values.words.one);
+            named_type(alloc, path)
         }
         Ty::Bracketed => {
             let inner = take_type(alloc, &mut values.types.one)?;
             let value = take_option(alloc, &mut values.types.lists);
-            let made = boxed_type(alloc, bracketed_type(inner, value), place_at(text, at))?;
-            push(&mut values.types.one, made)
+            boxed_type(alloc, bracketed_type(inner, value), place_at(text, at))
         }
         Ty::Glob => {
             let module = take(&mut values.modules.one, no_module(alloc));
-            let module = boxed_module(alloc, module)?;
-            let made = boxed_type(alloc, TypeShape::Glob(module), place_at(text, at))?;
-            push(&mut values.types.one, made)
+            let module = Boxed::new(alloc, module)?;
+            boxed_type(alloc, TypeShape::Glob(module), place_at(text, at))
         }
-    }
+    }?;
+    values.types.one.push(made)
 }
 
 /// What the productions of binders make.
@@ -110,71 +99,65 @@ pub fn bind(alloc: Global, rule: BindRule, values: &mut PathValues) -> Result<()
 {
     match rule {
         BindRule::Bind => {
-            let first = take(&mut values.words.one, no_word(alloc));
+            let first = take_word(alloc, &mut values.words.one);
             let rest = take(&mut values.bind_rests, no_bind_rest(alloc));
             let made = paths::bind(alloc, first, rest)?;
-            push(&mut values.binds.one, made)
+            values.binds.one.push(made)
         }
         BindRule::Values => {
             let ty = take_type(alloc, &mut values.types.one)?;
-            let names = take_list(alloc, &mut values.words.lists).into_items();
-            push(&mut values.bind_rests, BindRest::Values(names, ty))
+            let names = take_items(alloc, &mut values.words.lists);
+            values.bind_rests.push(BindRest::Values(names, ty))
         }
         BindRule::ModuleRest => {
-            let ty = take(&mut values.words.one, no_word(alloc));
-            let excluded = take_list(alloc, &mut values.words.lists).into_items();
-            let bounds = take_list(alloc, &mut values.bounds.lists).into_items();
-            push(
-                &mut values.bind_rests,
-                BindRest::Module {
-                    ty,
-                    excluded,
-                    bounds,
-                },
-            )
+            let ty = take_word(alloc, &mut values.words.one);
+            let excluded = take_items(alloc, &mut values.words.lists);
+            let bounds = take_items(alloc, &mut values.bounds.lists);
+            values.bind_rests.push(BindRest::Module {
+                ty,
+                excluded,
+                bounds,
+            })
         }
         BindRule::Memory => {
-            let name = take(&mut values.words.one, no_word(alloc));
-            push(&mut values.binds.one, Bind::Memory(name))
+            let name = take_word(alloc, &mut values.words.one);
+            values.binds.one.push(Bind::Memory(name))
         }
         BindRule::Module => {
-            let name = take(&mut values.words.one, no_word(alloc));
-            let ty = take(&mut values.words.one, no_word(alloc));
-            let excluded = take_list(alloc, &mut values.words.lists).into_items();
-            let bounds = take_list(alloc, &mut values.bounds.lists).into_items();
-            push(
-                &mut values.module_binders,
-                ModuleBinder {
-                    name,
-                    ty,
-                    excluded,
-                    bounds,
-                },
-            )
+            let name = take_word(alloc, &mut values.words.one);
+            let ty = take_word(alloc, &mut values.words.one);
+            let excluded = take_items(alloc, &mut values.words.lists);
+            let bounds = take_items(alloc, &mut values.bounds.lists);
+            values.module_binders.push(ModuleBinder {
+                name,
+                ty,
+                excluded,
+                bounds,
+            })
         }
         BindRule::Bound => {
-            let procedures = take_list(alloc, &mut values.words.lists).into_items();
-            let limits = take_list(alloc, &mut values.limits.lists).into_items();
-            push(&mut values.bounds.one, QueryBound { procedures, limits })
+            let procedures = take_items(alloc, &mut values.words.lists);
+            let limits = take_items(alloc, &mut values.limits.lists);
+            values.bounds.one.push(QueryBound { procedures, limits })
         }
         BindRule::Limit => {
-            let first = take(&mut values.words.one, no_word(alloc));
-            let second = take(&mut values.words.one, no_word(alloc));
-            let more = take_list(alloc, &mut values.words.lists).into_items();
+            let first = take_word(alloc, &mut values.words.one);
+            let second = take_word(alloc, &mut values.words.one);
+            let more = take_items(alloc, &mut values.words.lists);
             let oracle = oracle_path(alloc, first, second, more)?;
-            let calls = take(&mut values.numbers.one, no_number(alloc));
-            push(&mut values.limits.one, Limit { oracle, calls })
+            let calls = take_number(alloc, &mut values.numbers.one);
+            values.limits.one.push(Limit { oracle, calls })
         }
         BindRule::Typed => {
             let ty = take_type(alloc, &mut values.types.one)?;
-            let names = take_list(alloc, &mut values.words.lists).into_items();
-            push(&mut values.binders.one, Binder { names, ty })
+            let names = take_items(alloc, &mut values.words.lists);
+            values.binders.one.push(Binder { names, ty })
         }
         BindRule::Formal => {
             let ty = take_type(alloc, &mut values.types.one)?;
-            let name = take(&mut values.words.one, no_word(alloc));
+            let name = take_word(alloc, &mut values.words.one);
             let made = formal(alloc, name, ty)?;
-            push(&mut values.binders.one, made)
+            values.binders.one.push(made)
         }
     }
 }
@@ -185,30 +168,29 @@ pub fn path(alloc: Global, rule: Path, values: &mut PathValues) -> Result<(), Al
 {
     match rule {
         Path::Procedure => {
-            let first = take(&mut values.words.one, no_word(alloc));
+            let first = take_word(alloc, &mut values.words.one);
             let tail = take(&mut values.path_tails, no_path_tail(alloc));
             let made = procedure(alloc, first, tail)?;
-            push(&mut values.procedures.one, made)
+            values.procedures.one.push(made)
         }
         Path::Dotted => {
-            let word = take(&mut values.words.one, no_word(alloc));
+            let word = take_word(alloc, &mut values.words.one);
             let tail = take(&mut values.path_tails, no_path_tail(alloc));
             let made = longer_path(word, tail)?;
-            push(&mut values.path_tails, made)
+            values.path_tails.push(made)
         }
-        Path::End => push(&mut values.path_tails, no_path_tail(alloc)),
+        Path::End => values.path_tails.push(no_path_tail(alloc)),
         Path::OfFunctor => {
-            let arguments = take_list(alloc, &mut values.modules.lists).into_items();
-            let procedure = take(&mut values.words.one, no_word(alloc));
-            push(
-                &mut values.path_tails,
-                functor_tail(alloc, arguments, procedure),
-            )
+            let arguments = take_items(alloc, &mut values.modules.lists);
+            let procedure = take_word(alloc, &mut values.words.one);
+            values
+                .path_tails
+                .push(functor_tail(alloc, arguments, procedure))
         }
         Path::Module => {
-            let path = take(&mut values.words.one, no_word(alloc));
-            let arguments = take_list(alloc, &mut values.modules.lists).into_items();
-            push(&mut values.modules.one, ModuleExpr { path, arguments })
+            let path = take_word(alloc, &mut values.words.one);
+            let arguments = take_items(alloc, &mut values.modules.lists);
+            values.modules.one.push(ModuleExpr { path, arguments })
         }
     }
 }

@@ -4,12 +4,12 @@ ghost use Rattle.gb_compose.specs.Paths.{bracketed_type, functor_tail, integer, 
 ghost use Rattle.std.specs.Prelude.{IfOk, ◌≡◌};
 
 use gb_compose::paths::procedure;
-use gb_let_go::boxes::boxed_type;
 use gb_text::stack::Stack;
 use gb_text::terminal::Terminal;
 use gb_text::text::{Text, word_at};
 use gb_tree::form::{Number, TypeShape, TypeTree, Word};
 use gb_tree::judgment::ModuleExpr;
+use gb_value::boxes::boxed_type;
 use gb_value::path::{Functor, PathTail};
 use sqlite_items::{Boxed, Items};
 use std::alloc::{AllocError, Global};
@@ -29,8 +29,8 @@ pub fn functor_tail(alloc: Global, arguments: Items<ModuleExpr>, procedure: Word
 pub fn named_type(alloc: Global, path: Word) -> Result<Boxed<TypeTree>, AllocError>
     ensures { IfOk result (λ t. t ≡ named_type path) }
 {
-    let Word { name, place } = path;
-    boxed_type(alloc, TypeShape::Named(name), place)
+    let place = path.place;
+    boxed_type(alloc, TypeShape::Named(path.into_name()), place)
 }
 
 pub fn plain_type(terminal: Terminal) -> TypeShape
@@ -56,10 +56,7 @@ pub fn bracketed_type(inner: Boxed<TypeTree>, value: Option<Boxed<TypeTree>>) ->
     ensures { result ≡ bracketed_type inner value }
 {
     match value {
-        None => {
-            let TypeTree { shape, .. } = inner.into_inner();
-            shape
-        }
+        None => inner.into_inner().into_shape(),
         Some(value) => TypeShape::Map(inner, value),
     }
 }
@@ -67,9 +64,10 @@ pub fn bracketed_type(inner: Boxed<TypeTree>, value: Option<Boxed<TypeTree>>) ->
 pub fn number_at(alloc: Global, text: &Text, at: usize) -> Result<Number, AllocError>
     ensures { IfOk result (λ n. n ≡ number_at text.now at) }
 {
-    let Word { name, place } = word_at(alloc, text, at)?;
+    let word = word_at(alloc, text, at)?;
+    let place = word.place;
     Ok(Number {
-        digits: name,
+        digits: word.into_name(),
         place,
     })
 }

@@ -11,7 +11,6 @@ use gb_compose_program::program::take_written;
 use gb_compose_program::statements::{
     longer_statement, loop_shape, name_variant, statement, suffix_variant, writing,
 };
-use gb_let_go::stacks::{push, take, take_option};
 use gb_table::rule::{Loop, Module, Program};
 use gb_text::stack::Stack;
 use gb_text::text::{Text, place_at};
@@ -22,12 +21,12 @@ use gb_tree::program::{
     Statements, Target,
 };
 use gb_value::form::{Suffix, no_call_tail};
-use gb_value::path::{no_module, no_word};
+use gb_value::path::no_module;
 use gb_value::program::{
     Action, CommandValues, ModuleRest, ProgramValues, StatementTail, VariantName, VariantTail,
     Written, no_module_rest, no_statement_tail, no_variant_name, no_variant_tail,
 };
-use gb_value::take::take_list;
+use gb_value::take::{take, take_items, take_option, take_word};
 use gb_value::values::Groups;
 use sqlite_items::Items;
 use std::alloc::{AllocError, Global};
@@ -42,29 +41,53 @@ pub fn program<C, T, R>(
 ) -> Result<(), AllocError>
     ensures { OnOk result (values.new ≡ program_made text.now rule at values.old) }
 {
-    match rule {
+    let made = match rule {
+        Program::Dotted => {
+            let word = take_word(alloc, &mut values.paths.words.one);
+            let tail = take(
+                &mut values.programs.statement_tails,
+                no_statement_tail(alloc),
+            );
+            longer_statement(word, tail)?
+        }
+        Program::Sampled => {
+            let from = take_form(alloc, &mut values.formulas.forms.one)?;
+            StatementTail::Path(Stack::new(alloc), Action::Sample(from))
+        }
+        Program::Written => {
+            let value = take_written(alloc, &mut values.programs.written)?;
+            StatementTail::Path(Stack::new(alloc), Action::Write(value))
+        }
+        Program::Stored => {
+            let (key, value) = take_two_forms(alloc, &mut values.formulas.forms.one)?;
+            StatementTail::Path(Stack::new(alloc), Action::Store(key, value))
+        }
+        Program::Performed => {
+            let tail = take(&mut values.formulas.call_tails, no_call_tail(alloc));
+            StatementTail::Call(tail)
+        }
         Program::Statement => {
-            let name = take(&mut values.paths.words.one, no_word(alloc));
+            let name = take_word(alloc, &mut values.paths.words.one);
             let tail = take(
                 &mut values.programs.statement_tails,
                 no_statement_tail(alloc),
             );
             let made = statement(alloc, name, tail)?;
-            push(&mut values.programs.statements.one, made)
+            return values.programs.statements.one.push(made);
         }
         Program::Tuple => {
             let written = take_written(alloc, &mut values.programs.written)?;
-            let paths = take_list(alloc, &mut values.paths.words.lists).into_items();
+            let paths = take_items(alloc, &mut values.paths.words.lists);
             let made = Statement {
                 shape: writing(Target::Tuple(paths), written),
                 place: place_at(text, at),
             };
-            push(&mut values.programs.statements.one, made)
+            return values.programs.statements.one.push(made);
         }
         Program::If => {
             let condition = take_form(alloc, &mut values.formulas.forms.one)?;
-            let then = take_list(alloc, &mut values.programs.statements.lists).into_items();
-            let otherwise = take_list(alloc, &mut values.programs.statements.lists).into_items();
+            let then = take_items(alloc, &mut values.programs.statements.lists);
+            let otherwise = take_items(alloc, &mut values.programs.statements.lists);
             let made = Statement {
                 shape: StatementShape::If {
                     condition,
@@ -73,7 +96,7 @@ pub fn program<C, T, R>(
                 },
                 place: place_at(text, at),
             };
-            push(&mut values.programs.statements.one, made)
+            return values.programs.statements.one.push(made);
         }
         Program::While => {
             let (condition, head) = take_two_forms(alloc, &mut values.formulas.forms.one)?;
@@ -83,48 +106,18 @@ pub fn program<C, T, R>(
                 shape,
                 place: place_at(text, at),
             };
-            push(&mut values.programs.statements.one, made)
-        }
-        Program::Dotted => {
-            let word = take(&mut values.paths.words.one, no_word(alloc));
-            let tail = take(
-                &mut values.programs.statement_tails,
-                no_statement_tail(alloc),
-            );
-            let made = longer_statement(word, tail)?;
-            push(&mut values.programs.statement_tails, made)
-        }
-        Program::Sampled => {
-            let from = take_form(alloc, &mut values.formulas.forms.one)?;
-            let made = StatementTail::Path(Stack::new(alloc), Action::Sample(from));
-            push(&mut values.programs.statement_tails, made)
-        }
-        Program::Written => {
-            let value = take_written(alloc, &mut values.programs.written)?;
-            let made = StatementTail::Path(Stack::new(alloc), Action::Write(value));
-            push(&mut values.programs.statement_tails, made)
-        }
-        Program::Stored => {
-            let (key, value) = take_two_forms(alloc, &mut values.formulas.forms.one)?;
-            let made = StatementTail::Path(Stack::new(alloc), Action::Store(key, value));
-            push(&mut values.programs.statement_tails, made)
-        }
-        Program::Performed => {
-            let tail = take(&mut values.formulas.call_tails, no_call_tail(alloc));
-            push(
-                &mut values.programs.statement_tails,
-                StatementTail::Call(tail),
-            )
+            return values.programs.statements.one.push(made);
         }
         Program::Value => {
             let value = take_form(alloc, &mut values.formulas.forms.one)?;
-            push(&mut values.programs.written, Written::Value(value))
+            return values.programs.written.push(Written::Value(value));
         }
         Program::Result => {
             let call = take_call(alloc, &mut values.formulas.calls)?;
-            push(&mut values.programs.written, Written::Result(call))
+            return values.programs.written.push(Written::Result(call));
         }
-    }
+    };
+    values.programs.statement_tails.push(made)
 }
 
 /// What the productions of the variants of loops make.
@@ -135,46 +128,44 @@ pub fn variant<C, T, R>(
 ) -> Result<(), AllocError>
     ensures { OnOk result (values.new ≡ variant_made rule values.old) }
 {
-    match rule {
+    let made = match rule {
         Loop::Suffix => {
             let suffix = take(&mut values.formulas.suffixes, Suffix::ToReal);
             let tail = take(&mut values.programs.variant_tails, no_variant_tail(alloc));
-            let made = suffix_variant(suffix, tail)?;
-            push(&mut values.programs.variant_tails, made)
+            suffix_variant(suffix, tail)?
         }
         Loop::Body => {
-            let body = take_list(alloc, &mut values.programs.statements.lists).into_items();
-            let made = VariantTail {
+            let body = take_items(alloc, &mut values.programs.statements.lists);
+            VariantTail {
                 suffixes: Stack::new(alloc),
                 body,
-            };
-            push(&mut values.programs.variant_tails, made)
+            }
         }
         Loop::Name => {
-            let name = take(&mut values.paths.words.one, no_word(alloc));
+            let name = take_word(alloc, &mut values.paths.words.one);
             let rest = take(&mut values.programs.variant_names, no_variant_name(alloc));
-            let made = name_variant(alloc, name, rest)?;
-            push(&mut values.programs.variant_tails, made)
+            name_variant(alloc, name, rest)?
         }
         Loop::Memory => {
             let tail = take(&mut values.programs.variant_tails, no_variant_tail(alloc));
-            push(
-                &mut values.programs.variant_names,
-                VariantName::Memory(tail),
-            )
+            return values
+                .programs
+                .variant_names
+                .push(VariantName::Memory(tail));
         }
         Loop::Statements => {
             let tail = take(
                 &mut values.programs.statement_tails,
                 no_statement_tail(alloc),
             );
-            let more = take_list(alloc, &mut values.programs.statements.lists).into_items();
-            push(
-                &mut values.programs.variant_names,
-                VariantName::Statements(tail, more),
-            )
+            let more = take_items(alloc, &mut values.programs.statements.lists);
+            return values
+                .programs
+                .variant_names
+                .push(VariantName::Statements(tail, more));
         }
-    }
+    };
+    values.programs.variant_tails.push(made)
 }
 
 /// What the productions of modules make.
@@ -187,70 +178,71 @@ pub fn module<T, R>(
 {
     match rule {
         Module::Module => {
-            let name = take(&mut values.paths.words.one, no_word(alloc));
+            let name = take_word(alloc, &mut values.paths.words.one);
             let rest = take(&mut values.programs.module_rests, no_module_rest(alloc));
-            push(&mut values.commands.shapes, module_of(name, rest))
+            values.commands.shapes.push(module_of(name, rest))
         }
         Module::Body => {
-            let parameters = take_list(alloc, &mut values.programs.parameters.lists).into_items();
+            let parameters = take_items(alloc, &mut values.programs.parameters.lists);
             let ty = take_option(alloc, &mut values.paths.words.lists);
-            let items = take_list(alloc, &mut values.programs.items.lists).into_items();
+            let items = take_items(alloc, &mut values.programs.items.lists);
             let made = ModuleRest::Body {
                 parameters,
                 ty,
                 items,
             };
-            push(&mut values.programs.module_rests, made)
+            values.programs.module_rests.push(made)
         }
         Module::Ascribed => {
-            let ty = take(&mut values.paths.words.one, no_word(alloc));
-            let parameters = take_list(alloc, &mut values.programs.parameters.lists).into_items();
-            let items = take_list(alloc, &mut values.programs.items.lists).into_items();
+            let ty = take_word(alloc, &mut values.paths.words.one);
+            let parameters = take_items(alloc, &mut values.programs.parameters.lists);
+            let items = take_items(alloc, &mut values.programs.items.lists);
             let made = ModuleRest::Body {
                 parameters,
                 ty: Some(ty),
                 items,
             };
-            push(&mut values.programs.module_rests, made)
+            values.programs.module_rests.push(made)
         }
         Module::Plain => {
-            let items = take_list(alloc, &mut values.programs.items.lists).into_items();
+            let items = take_items(alloc, &mut values.programs.items.lists);
             let made = ModuleRest::Body {
                 parameters: Items::new(alloc),
                 ty: None,
                 items,
             };
-            push(&mut values.programs.module_rests, made)
+            values.programs.module_rests.push(made)
         }
         Module::Alias => {
             let expression = take(&mut values.paths.modules.one, no_module(alloc));
-            push(
-                &mut values.programs.module_rests,
-                ModuleRest::Alias(expression),
-            )
+            values
+                .programs
+                .module_rests
+                .push(ModuleRest::Alias(expression))
         }
         Module::Type => {
-            let name = take(&mut values.paths.words.one, no_word(alloc));
-            let parameters = take_list(alloc, &mut values.programs.parameters.lists).into_items();
-            let signatures = take_list(alloc, &mut values.programs.signatures.lists).into_items();
+            let name = take_word(alloc, &mut values.paths.words.one);
+            let parameters = take_items(alloc, &mut values.programs.parameters.lists);
+            let signatures = take_items(alloc, &mut values.programs.signatures.lists);
             let made = CommandShape::ModuleType(ModuleTypeTree {
                 name,
                 parameters,
                 signatures,
             });
-            push(&mut values.commands.shapes, made)
+            values.commands.shapes.push(made)
         }
         Module::Parameter => {
-            let name = take(&mut values.paths.words.one, no_word(alloc));
-            let ty = take(&mut values.paths.words.one, no_word(alloc));
-            push(
-                &mut values.programs.parameters.one,
-                ModuleParameter { name, ty },
-            )
+            let name = take_word(alloc, &mut values.paths.words.one);
+            let ty = take_word(alloc, &mut values.paths.words.one);
+            values
+                .programs
+                .parameters
+                .one
+                .push(ModuleParameter { name, ty })
         }
         Module::Signature => {
-            let name = take(&mut values.paths.words.one, no_word(alloc));
-            let parameters = take_list(alloc, &mut values.paths.binders.lists).into_items();
+            let name = take_word(alloc, &mut values.paths.words.one);
+            let parameters = take_items(alloc, &mut values.paths.binders.lists);
             let result = take_option(alloc, &mut values.paths.types.lists);
             let oracles = take(&mut values.programs.oracle_options, None);
             let made = Signature {
@@ -259,35 +251,37 @@ pub fn module<T, R>(
                 result,
                 oracles,
             };
-            push(&mut values.programs.signatures.one, made)
+            values.programs.signatures.one.push(made)
         }
-        Module::AllOracles => push(&mut values.programs.oracle_options, None),
+        Module::AllOracles => values.programs.oracle_options.push(None),
         Module::Oracles => {
-            let oracles = take_list(alloc, &mut values.programs.oracles.lists).into_items();
-            push(&mut values.programs.oracle_options, Some(oracles))
+            let oracles = take_items(alloc, &mut values.programs.oracles.lists);
+            values.programs.oracle_options.push(Some(oracles))
         }
         Module::Oracle => {
-            let module = take(&mut values.paths.words.one, no_word(alloc));
-            let proc = take(&mut values.paths.words.one, no_word(alloc));
-            push(
-                &mut values.programs.oracles.one,
-                OraclePath { module, proc },
-            )
+            let module = take_word(alloc, &mut values.paths.words.one);
+            let proc = take_word(alloc, &mut values.paths.words.one);
+            values
+                .programs
+                .oracles
+                .one
+                .push(OraclePath { module, proc })
         }
         Module::Globals => {
             let ty = take_type(alloc, &mut values.paths.types.one)?;
-            let names = take_list(alloc, &mut values.paths.words.lists).into_items();
-            push(
-                &mut values.programs.items.one,
-                ModuleItem::Globals(Binder { names, ty }),
-            )
+            let names = take_items(alloc, &mut values.paths.words.lists);
+            values
+                .programs
+                .items
+                .one
+                .push(ModuleItem::Globals(Binder { names, ty }))
         }
         Module::Procedure => {
-            let name = take(&mut values.paths.words.one, no_word(alloc));
-            let parameters = take_list(alloc, &mut values.paths.binders.lists).into_items();
+            let name = take_word(alloc, &mut values.paths.words.one);
+            let parameters = take_items(alloc, &mut values.paths.binders.lists);
             let result = take_option(alloc, &mut values.paths.types.lists);
-            let locals = take_list(alloc, &mut values.paths.binders.lists).into_items();
-            let body = take_list(alloc, &mut values.programs.statements.lists).into_items();
+            let locals = take_items(alloc, &mut values.paths.binders.lists);
+            let body = take_items(alloc, &mut values.programs.statements.lists);
             let value = take_option(alloc, &mut values.formulas.forms.lists);
             let made = ModuleItem::Proc(ProcTree {
                 name,
@@ -297,7 +291,7 @@ pub fn module<T, R>(
                 body,
                 value,
             });
-            push(&mut values.programs.items.one, made)
+            values.programs.items.one.push(made)
         }
     }
 }

@@ -3,7 +3,7 @@
 ghost use Rattle.std.specs.Prelude.{◌≡◌, OnOk};
 ghost use Rattle.gb_read_script.specs.Built.{made};
 
-use gb_let_go::lists::make_lists;
+use crate::lists::make_lists;
 use gb_read_atom::make::{atom, call, judgment};
 use gb_read_form::make::{form, operand, suffix};
 use gb_read_path::make::{bind, path, type_tree, word};

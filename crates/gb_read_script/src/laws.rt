@@ -10,10 +10,9 @@ ghost use Rattle.gb_text.specs.declared.text.Text.{Text};
 ghost use Rattle.gb_read_script.specs.Reading.{SpellsCommand, SpellsForm, IsRefusal, IsAllowed};
 
 use gb_grammar::laws::{first_faults_are_unique, steps_before_are_unique};
-use gb_text::laws::first_places_are_unique;
 use gb_table::laws::steps_are_unique;
 use gb_table::rule::Rule;
-use gb_text::laws::kinds_are_kinds;
+use gb_text::laws::{first_places_are_unique, kinds_are_kinds};
 
 /// A text spells one command at most.
 pub fn commands_are_unique()

@@ -4,4 +4,5 @@
 pub mod build;
 pub mod dispatch;
 pub mod laws;
+mod lists;
 pub mod reading;

@@ -29,13 +29,11 @@ use gb_core::place::Place;
 use gb_core::refusal::{Refused, Why};
 use gb_grammar::error::ReadError;
 use gb_grammar::table::Step;
-use gb_let_go::let_go::LetGo;
-use gb_let_go::stacks::take;
 use gb_lex::token::Tokens;
-use gb_text::checks::{check_chains, check_depth, check_numbers};
 use gb_table::reading::read_text;
 use gb_table::rows::{COMMAND, FORM};
 use gb_table::rule::Rule;
+use gb_text::checks::{check_chains, check_depth, check_numbers};
 use gb_text::left_out::first_left_out;
 use gb_text::lexeme::{kinds, text};
 use gb_text::stack::Stack;
@@ -44,6 +42,7 @@ use gb_tree::command::Command;
 use gb_tree::form::FormTree;
 use gb_value::form::no_form;
 use gb_value::program::no_command;
+use gb_value::take::take;
 use gb_value::values::no_values;
 use sqlite_items::Boxed;
 use std::alloc::{AllocError, Global};
@@ -199,17 +198,8 @@ fn command_left(alloc: Global, text: &Text, steps: &[Step<Rule>]) -> Result<Comm
     ensures { IfOk result (λ c. c ≡ top no_command (built text.now steps.now).commands.commands) }
 {
     let mut values = no_values(alloc);
-    match fill(alloc, text, steps, &mut values) {
-        Ok(()) => {
-            let command = take(&mut values.commands.commands, no_command());
-            values.let_go();
-            Ok(command)
-        }
-        Err(error) => {
-            values.let_go();
-            Err(error)
-        }
-    }
+    fill(alloc, text, steps, &mut values)?;
+    Ok(take(&mut values.commands.commands, no_command()))
 }
 
 /// The command that these tokens of a text spell; the text begins at the place `at`.
@@ -251,17 +241,8 @@ fn form_left(alloc: Global, text: &Text, steps: &[Step<Rule>]) -> Result<FormTre
     ensures { IfOk result (λ f. f ≡ top no_form (built text.now steps.now).formulas.forms.one) }
 {
     let mut values = no_values(alloc);
-    match fill(alloc, text, steps, &mut values) {
-        Ok(()) => {
-            let form = first_form(&mut values.formulas.forms.one);
-            values.let_go();
-            Ok(form)
-        }
-        Err(error) => {
-            values.let_go();
-            Err(error)
-        }
-    }
+    fill(alloc, text, steps, &mut values)?;
+    Ok(first_form(&mut values.formulas.forms.one))
 }
 
 /// The form that these tokens of a text spell, as [`command`] reads commands.

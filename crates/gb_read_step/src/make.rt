@@ -13,15 +13,14 @@ use gb_compose_program::step::{
     call_rule, conseq_rule, contract_rule, fel_bounds, fel_counter, fel_rule, push_rule,
     seq_bounds, seq_rule, take_arguments, take_bodies, take_contract, transitivity_rule,
 };
-use gb_let_go::stacks::{push, take, take_option};
 use gb_table::rule::{FormStep, Given, LemmaStep, ProgramStep, Step, WordStep};
 use gb_text::text::{Text, terminal_at};
 use gb_tree::step::{CallRule, ConseqTree, Distance, Guard, Hint, RuleTree, SeqTree, Summand};
-use gb_value::path::{no_number, no_procedure, no_word};
+use gb_value::path::no_procedure;
 use gb_value::step::{
     CallRest, HaveRest, RuleValues, TacticValues, no_call_rule, no_distance, no_have_rest, no_lemma,
 };
-use gb_value::take::take_list;
+use gb_value::take::{take, take_items, take_number, take_option, take_word};
 use gb_value::values::Groups;
 use std::alloc::{AllocError, Global};
 
@@ -35,58 +34,49 @@ pub fn step<P, C>(
 ) -> Result<(), AllocError>
     ensures { OnOk result (values.new ≡ step_made text.now rule at values.old) }
 {
-    match rule {
+    let made = match rule {
         // Rules of one word, and laws of probability.
-        Step::Plain => push_rule(
-            alloc,
-            plain_rule(terminal_at(text, at)),
-            &mut values.rules.rules,
-        ),
+        Step::Plain => plain_rule(terminal_at(text, at)),
         // `move=> p q`.
         Step::Move => {
-            let patterns = take_list(alloc, &mut values.tactics.patterns.lists).into_items();
-            push_rule(alloc, RuleTree::Move(patterns), &mut values.rules.rules)
+            let patterns = take_items(alloc, &mut values.tactics.patterns.lists);
+            RuleTree::Move(patterns)
         }
         // `have H : F` and `have H := L a`.
         Step::Have => {
-            let word = take(&mut values.paths.words.one, no_word(alloc));
+            let word = take_word(alloc, &mut values.paths.words.one);
             let rest = take(&mut values.rules.have_rests, no_have_rest(alloc));
-            push_rule(alloc, have_rule(word, rest), &mut values.rules.rules)
+            have_rule(word, rest)
         }
         // `byequiv` and `byphoare`.
         Step::By => {
             let contract = take_contract(alloc, &mut values.formulas.forms.one)?;
-            let rule = contract_rule(alloc, terminal_at(text, at), contract)?;
-            push_rule(alloc, rule, &mut values.rules.rules)
+            contract_rule(alloc, terminal_at(text, at), contract)?
         }
         // `eager call` and `eager while`.
         Step::Eager => {
             let form = take_form(alloc, &mut values.formulas.forms.one)?;
-            let count = take(&mut values.paths.numbers.one, no_number(alloc));
-            push_rule(
-                alloc,
-                eager_rule(terminal_at(text, at), count, form),
-                &mut values.rules.rules,
-            )
+            let count = take_number(alloc, &mut values.paths.numbers.one);
+            eager_rule(terminal_at(text, at), count, form)
         }
         // `fel`, of either kind.
         Step::Fel => {
-            let start = take(&mut values.paths.numbers.one, no_number(alloc));
+            let start = take_number(alloc, &mut values.paths.numbers.one);
             let rest = values.rules.fel_rests.pop();
-            let rule = fel_rule(alloc, start, rest)?;
-            push_rule(alloc, rule, &mut values.rules.rules)
+            fel_rule(alloc, start, rest)?
         }
         // `smt(h (L a))`.
         Step::Smt => {
-            let hints = take_list(alloc, &mut values.rules.hints.lists).into_items();
-            push_rule(alloc, RuleTree::Smt(hints), &mut values.rules.rules)
+            let hints = take_items(alloc, &mut values.rules.hints.lists);
+            RuleTree::Smt(hints)
         }
         // `linear(n * h)`.
         Step::Linear => {
-            let summands = take_list(alloc, &mut values.rules.summands.lists).into_items();
-            push_rule(alloc, RuleTree::Linear(summands), &mut values.rules.rules)
+            let summands = take_items(alloc, &mut values.rules.summands.lists);
+            RuleTree::Linear(summands)
         }
-    }
+    };
+    push_rule(alloc, made, &mut values.rules.rules)
 }
 
 /// What the productions of rules on programs make.
@@ -99,52 +89,34 @@ pub fn program_step<P, C, T>(
 ) -> Result<(), AllocError>
     ensures { OnOk result (values.new ≡ program_step_made text.now rule at values.old) }
 {
-    match rule {
+    let bodies = take_bodies(alloc, &mut values.formulas.sides.lists);
+    let made = match rule {
         // Rules of bodies alone.
-        ProgramStep::Body => {
-            let bodies = take_bodies(alloc, &mut values.formulas.sides.lists);
-            push_rule(
-                alloc,
-                body_rule(terminal_at(text, at), bodies),
-                &mut values.rules.rules,
-            )
-        }
+        ProgramStep::Body => body_rule(terminal_at(text, at), bodies),
         // `case (e)` and `while (I)`.
         ProgramStep::BodyForm => {
             let form = take_form(alloc, &mut values.formulas.forms.one)?;
-            let bodies = take_bodies(alloc, &mut values.formulas.sides.lists);
-            push_rule(
-                alloc,
-                body_form_rule(terminal_at(text, at), bodies, form),
-                &mut values.rules.rules,
-            )
+            body_form_rule(terminal_at(text, at), bodies, form)
         }
         // `proc`, with an invariant or without.
         ProgramStep::Proc => {
-            let bodies = take_bodies(alloc, &mut values.formulas.sides.lists);
             let invariant = take_option(alloc, &mut values.formulas.forms.lists);
-            push_rule(alloc, proc_rule(bodies, invariant), &mut values.rules.rules)
+            proc_rule(bodies, invariant)
         }
         // `rcondt n`, `rcondf n`, `unroll n` and `kill n`.
         ProgramStep::Position => {
-            let bodies = take_bodies(alloc, &mut values.formulas.sides.lists);
-            let position = take(&mut values.paths.numbers.one, no_number(alloc));
-            push_rule(
-                alloc,
-                position_rule(terminal_at(text, at), bodies, position),
-                &mut values.rules.rules,
-            )
+            let position = take_number(alloc, &mut values.paths.numbers.one);
+            position_rule(terminal_at(text, at), bodies, position)
         }
         // `seq k l : (R)`, with bounds or without.
         ProgramStep::Seq => {
             let middle = take_form(alloc, &mut values.formulas.forms.one)?;
-            let bodies = take_bodies(alloc, &mut values.formulas.sides.lists);
-            let first = take(&mut values.paths.numbers.one, no_number(alloc));
+            let first = take_number(alloc, &mut values.paths.numbers.one);
             let second = take_option(alloc, &mut values.paths.numbers.lists);
             let bounds = take_arguments(alloc, &mut values.formulas.runs);
             let invariant = take_option(alloc, &mut values.formulas.forms.lists);
             let bounds = seq_bounds(bounds, invariant);
-            let rule = seq_rule(
+            seq_rule(
                 alloc,
                 SeqTree {
                     bodies,
@@ -153,53 +125,35 @@ pub fn program_step<P, C, T>(
                     middle,
                     bounds,
                 },
-            )?;
-            push_rule(alloc, rule, &mut values.rules.rules)
+            )?
         }
         // `rnd` with none, one or two functions.
         ProgramStep::Rnd => {
-            let bodies = take_bodies(alloc, &mut values.formulas.sides.lists);
             let couplings = take_arguments(alloc, &mut values.formulas.runs);
-            push_rule(
-                alloc,
-                RuleTree::Rnd(bodies, couplings),
-                &mut values.rules.rules,
-            )
+            RuleTree::Rnd(bodies, couplings)
         }
         // `call`.
         ProgramStep::Call => {
-            let bodies = take_bodies(alloc, &mut values.formulas.sides.lists);
             let call = take(&mut values.rules.call_rules, no_call_rule(alloc));
-            push_rule(alloc, RuleTree::Call(bodies, call), &mut values.rules.rules)
+            RuleTree::Call(bodies, call)
         }
         // `inline M.f` and `inline *`.
         ProgramStep::Inline => {
-            let bodies = take_bodies(alloc, &mut values.formulas.sides.lists);
             let procedure = take_option(alloc, &mut values.paths.procedures.lists);
-            push_rule(
-                alloc,
-                RuleTree::Inline(bodies, procedure),
-                &mut values.rules.rules,
-            )
+            RuleTree::Inline(bodies, procedure)
         }
         // `swap i k`.
         ProgramStep::Swap => {
-            let bodies = take_bodies(alloc, &mut values.formulas.sides.lists);
-            let position = take(&mut values.paths.numbers.one, no_number(alloc));
+            let position = take_number(alloc, &mut values.paths.numbers.one);
             let distance = take(&mut values.rules.distances, no_distance(alloc));
-            push_rule(
-                alloc,
-                RuleTree::Swap(bodies, position, distance),
-                &mut values.rules.rules,
-            )
+            RuleTree::Swap(bodies, position, distance)
         }
         // `conseq (_ : P ==> Q : r)`.
         ProgramStep::Conseq => {
-            let bodies = take_bodies(alloc, &mut values.formulas.sides.lists);
             let pre = take_option(alloc, &mut values.formulas.forms.lists);
             let post = take_option(alloc, &mut values.formulas.forms.lists);
             let bound = take_option(alloc, &mut values.formulas.forms.lists);
-            let rule = conseq_rule(
+            conseq_rule(
                 alloc,
                 ConseqTree {
                     bodies,
@@ -207,17 +161,15 @@ pub fn program_step<P, C, T>(
                     post,
                     bound,
                 },
-            )?;
-            push_rule(alloc, rule, &mut values.rules.rules)
+            )?
         }
         // `transitivity M.f (P ==> Q) (R ==> S)`.
         ProgramStep::Transitivity => {
-            let bodies = take_bodies(alloc, &mut values.formulas.sides.lists);
             let procedure = take_call(alloc, &mut values.formulas.calls)?;
-            let rule = transitivity_rule(alloc, bodies, procedure, &mut values.formulas.forms.one)?;
-            push_rule(alloc, rule, &mut values.rules.rules)
+            transitivity_rule(alloc, bodies, procedure, &mut values.formulas.forms.one)?
         }
-    }
+    };
+    push_rule(alloc, made, &mut values.rules.rules)
 }
 
 /// What the productions of what rules are given make.
@@ -234,83 +186,77 @@ pub fn given<P, C, T>(
         // The form of `have H : F`.
         Given::HaveForm => {
             let form = take_form(alloc, &mut values.formulas.forms.one)?;
-            push(&mut values.rules.have_rests, HaveRest::Form(form))
+            values.rules.have_rests.push(HaveRest::Form(form))
         }
         // The lemma of `have H := L a`.
         Given::HaveLemma => {
             let lemma = take(&mut values.rules.lemmas, no_lemma(alloc));
-            push(&mut values.rules.have_rests, HaveRest::Lemma(lemma))
+            values.rules.have_rests.push(HaveRest::Lemma(lemma))
         }
         // The lemma of `call (L a)`.
         Given::CallLemma => {
             let lemma = take(&mut values.rules.lemmas, no_lemma(alloc));
-            push(&mut values.rules.call_rules, CallRule::Lemma(lemma))
+            values.rules.call_rules.push(CallRule::Lemma(lemma))
         }
         // What `call` is given that begins with a form.
         Given::CallForm => {
             let form = take_form(alloc, &mut values.formulas.forms.one)?;
             let tail = take(&mut values.rules.call_rests, CallRest::Invariant);
             let made = call_rule(alloc, form, tail)?;
-            push(&mut values.rules.call_rules, made)
+            values.rules.call_rules.push(made)
         }
         // The end of `call (_ : I)`.
-        Given::CallInvariant => push(&mut values.rules.call_rests, CallRest::Invariant),
+        Given::CallInvariant => values.rules.call_rests.push(CallRest::Invariant),
         // The second form of `call (_ : B, I)` and of `call (_ : P ==> Q)`.
         Given::CallRest => {
             let form = take_form(alloc, &mut values.formulas.forms.one)?;
-            push(
-                &mut values.rules.call_rests,
-                call_rest(terminal_at(text, at), form),
-            )
+            values
+                .rules
+                .call_rests
+                .push(call_rest(terminal_at(text, at), form))
         }
         // How far `swap` moves a statement.
         Given::Distance => {
-            let number = take(&mut values.paths.numbers.one, no_number(alloc));
-            push(
-                &mut values.rules.distances,
-                distance(terminal_at(text, at), number),
-            )
+            let number = take_number(alloc, &mut values.paths.numbers.one);
+            values
+                .rules
+                .distances
+                .push(distance(terminal_at(text, at), number))
         }
         // A hypothesis that `smt` may use.
         Given::NameHint => {
-            let hypothesis = take(&mut values.paths.words.one, no_word(alloc));
-            push(&mut values.rules.hints.one, Hint::Hypothesis(hypothesis))
+            let hypothesis = take_word(alloc, &mut values.paths.words.one);
+            values.rules.hints.one.push(Hint::Hypothesis(hypothesis))
         }
         // A lemma that `smt` may use.
         Given::LemmaHint => {
             let lemma = take(&mut values.rules.lemmas, no_lemma(alloc));
-            push(&mut values.rules.hints.one, Hint::Lemma(lemma))
+            values.rules.hints.one.push(Hint::Lemma(lemma))
         }
         // A hypothesis of `linear`.
         Given::PlainSummand => {
-            let hypothesis = take(&mut values.paths.words.one, no_word(alloc));
-            push(
-                &mut values.rules.summands.one,
-                Summand {
-                    multiplier: None,
-                    hypothesis,
-                },
-            )
+            let hypothesis = take_word(alloc, &mut values.paths.words.one);
+            values.rules.summands.one.push(Summand {
+                multiplier: None,
+                hypothesis,
+            })
         }
         // A hypothesis of `linear` with its multiplier.
         Given::ScaledSummand => {
-            let numerator = take(&mut values.paths.numbers.one, no_number(alloc));
+            let numerator = take_number(alloc, &mut values.paths.numbers.one);
             let denominator = take_option(alloc, &mut values.paths.numbers.lists);
-            let hypothesis = take(&mut values.paths.words.one, no_word(alloc));
+            let hypothesis = take_word(alloc, &mut values.paths.words.one);
             let multiplier = multiplier(terminal_at(text, at), numerator, denominator);
-            push(
-                &mut values.rules.summands.one,
-                Summand {
-                    multiplier,
-                    hypothesis,
-                },
-            )
+            values.rules.summands.one.push(Summand {
+                multiplier,
+                hypothesis,
+            })
         }
         // What follows the number of `fel` with a counter.
         Given::FelCounter => {
-            let variable = take(&mut values.paths.words.one, no_word(alloc));
-            let calls = take(&mut values.paths.numbers.one, no_number(alloc));
-            let guards = take_list(alloc, &mut values.rules.guards.lists).into_items();
+            let variable = take_word(alloc, &mut values.paths.words.one);
+            let calls = take_number(alloc, &mut values.paths.numbers.one);
+            let guards = take_items(alloc, &mut values.rules.guards.lists);
             let made = fel_counter(
                 alloc,
                 variable,
@@ -318,19 +264,19 @@ pub fn given<P, C, T>(
                 guards,
                 &mut values.formulas.forms.one,
             )?;
-            push(&mut values.rules.fel_rests, made)
+            values.rules.fel_rests.push(made)
         }
         // What follows the number of `fel` with bounds.
         Given::FelBounds => {
-            let oracles = take_list(alloc, &mut values.paths.procedures.lists).into_items();
+            let oracles = take_items(alloc, &mut values.paths.procedures.lists);
             let made = fel_bounds(alloc, oracles, &mut values.formulas.forms.one)?;
-            push(&mut values.rules.fel_rests, made)
+            values.rules.fel_rests.push(made)
         }
         // `O.o : G`.
         Given::Guard => {
             let condition = take_form(alloc, &mut values.formulas.forms.one)?;
             let oracle = take(&mut values.paths.procedures.one, no_procedure(alloc));
-            push(&mut values.rules.guards.one, Guard { oracle, condition })
+            values.rules.guards.one.push(Guard { oracle, condition })
         }
     }
 }
@@ -343,7 +289,7 @@ pub fn word_step<P, C, T>(
 ) -> Result<(), AllocError>
     ensures { OnOk result (values.new ≡ word_step_made rule values.old) }
 {
-    let word = take(&mut values.paths.words.one, no_word(alloc));
+    let word = take_word(alloc, &mut values.paths.words.one);
     push_rule(alloc, word_rule(rule, word), &mut values.rules.rules)
 }
 

@@ -11,7 +11,6 @@ ghost use Rattle.std.specs.Prelude.{OnOk, ◌∷◌, ◌≡◌};
 
 use gb_compose::form::take_form;
 use gb_compose_program::step::push_rule;
-use gb_let_go::stacks::take;
 use gb_table::rule::{FormStep, LemmaStep, WordStep};
 use gb_text::stack::Stack;
 use gb_text::terminal::Terminal;
@@ -21,6 +20,7 @@ use gb_tree::step::{
 };
 use gb_value::path::no_word;
 use gb_value::step::{CallRest, HaveRest, no_lemma};
+use gb_value::take::take;
 use sqlite_items::Boxed;
 use std::alloc::{AllocError, Global};
 

@@ -9,20 +9,17 @@ use crate::trees::{
 use gb_compose::form::take_form;
 use gb_compose::trees::{coin_before, suffixed};
 use gb_compose_program::step::{
-    put_argument, take_boxed_step, take_boxed_tactic, take_rule, take_step, take_suffixes,
-    take_two_patterns,
+    put_argument, skip_run, take_boxed_step, take_boxed_tactic, take_rule, take_step,
+    take_suffixes, take_two_patterns,
 };
-use gb_let_go::let_go::LetGo;
-use gb_let_go::stacks::{push, take};
 use gb_table::rule::{Argument, Pattern, Tactic};
 use gb_text::stack::Stack;
 use gb_text::text::{Text, place_at, terminal_at};
 use gb_tree::form::Word;
 use gb_tree::step::{ArgumentTree, CombinedShape, Continuation, LemmaUse, TacticTree};
 use gb_value::form::no_run;
-use gb_value::path::{no_number, no_word};
 use gb_value::step::{Pairing, RuleValues, TacticValues};
-use gb_value::take::take_list;
+use gb_value::take::{take, take_items, take_number, take_word};
 use gb_value::values::Groups;
 use std::alloc::{AllocError, Global};
 
@@ -39,30 +36,33 @@ pub fn pattern<P, C, R>(
     match rule {
         // A name, or `&` and the name of a memory.
         Pattern::Word => {
-            let word = take(&mut values.paths.words.one, no_word(alloc));
-            push(
-                &mut values.tactics.patterns.one,
-                pattern_at(text, at, word_pattern(terminal_at(text, at), word)),
-            )
+            let word = take_word(alloc, &mut values.paths.words.one);
+            values.tactics.patterns.one.push(pattern_at(
+                text,
+                at,
+                word_pattern(terminal_at(text, at), word),
+            ))
         }
         // `_`, `//` and `/#`.
         Pattern::Plain => {
-            push(
-                &mut values.tactics.patterns.one,
-                pattern_at(text, at, plain_pattern(terminal_at(text, at))),
-            )
+            values
+                .tactics
+                .patterns
+                .one
+                .push(pattern_at(text, at, plain_pattern(terminal_at(text, at))))
         }
         // `[p q]` and `[p | q]`.
         Pattern::Pair => {
             let (first, second) = take_two_patterns(alloc, &mut values.tactics.patterns.one)?;
             let pairing = take(&mut values.tactics.pairings, Pairing::Both);
-            push(
-                &mut values.tactics.patterns.one,
-                pattern_at(text, at, pair_pattern(pairing, first, second)),
-            )
+            values
+                .tactics
+                .patterns
+                .one
+                .push(pattern_at(text, at, pair_pattern(pairing, first, second)))
         }
         // What the second one of two patterns in square brackets makes them.
-        Pattern::Second => push(&mut values.tactics.pairings, pairing(terminal_at(text, at))),
+        Pattern::Second => values.tactics.pairings.push(pairing(terminal_at(text, at))),
     }
 }
 
@@ -76,71 +76,62 @@ pub fn tactic<P, C>(
 ) -> Result<(), AllocError>
     ensures { OnOk result (values.new ≡ tactic_made text.now rule at values.old) }
 {
-    match rule {
-        // A step with what follows it.
-        Tactic::Tactic => {
-            let first = take_step(alloc, &mut values.tactics.combined)?;
-            let more = take_list(alloc, &mut values.tactics.continuations.lists).into_items();
-            push(&mut values.tactics.tactics.one, TacticTree { first, more })
-        }
-        // `; t`.
-        Tactic::Next => {
-            let step = take_step(alloc, &mut values.tactics.combined)?;
-            push(
-                &mut values.tactics.continuations.one,
-                Continuation::Each(step),
-            )
-        }
-        // `; [t | u]`.
-        Tactic::Branches => {
-            let branches = take_list(alloc, &mut values.tactics.tactics.lists).into_items();
-            push(
-                &mut values.tactics.continuations.one,
-                Continuation::Branches(branches, place_at(text, at)),
-            )
-        }
+    let step = match rule {
         // `by t` and `try t`.
         Tactic::Prefix => {
             let step = take_boxed_step(alloc, &mut values.tactics.combined)?;
-            push(
-                &mut values.tactics.combined,
-                combined_at(text, at, prefixed(terminal_at(text, at), step)),
-            )
+            combined_at(text, at, prefixed(terminal_at(text, at), step))
         }
         // `do n! t`.
         Tactic::Repeat => {
             let step = take_boxed_step(alloc, &mut values.tactics.combined)?;
-            let count = take(&mut values.paths.numbers.one, no_number(alloc));
-            push(
-                &mut values.tactics.combined,
-                combined_at(text, at, CombinedShape::Repeat(count, step)),
-            )
+            let count = take_number(alloc, &mut values.paths.numbers.one);
+            combined_at(text, at, CombinedShape::Repeat(count, step))
         }
         // `(t)`.
         Tactic::Group => {
             let tactic = take_boxed_tactic(alloc, &mut values.tactics.tactics.one)?;
-            push(
-                &mut values.tactics.combined,
-                combined_at(text, at, CombinedShape::Group(tactic)),
-            )
+            combined_at(text, at, CombinedShape::Group(tactic))
         }
         // A rule, with the patterns behind it or without.
         Tactic::Rule => {
             let rule = take_rule(alloc, &mut values.rules.rules)?;
             let introduction = take(&mut values.tactics.introductions, None);
-            push(
-                &mut values.tactics.combined,
-                combined_at(text, at, ruled(text, at, rule, introduction)),
-            )
+            combined_at(text, at, ruled(text, at, rule, introduction))
+        }
+        // A step with what follows it.
+        Tactic::Tactic => {
+            let first = take_step(alloc, &mut values.tactics.combined)?;
+            let more = take_items(alloc, &mut values.tactics.continuations.lists);
+            return values.tactics.tactics.one.push(TacticTree { first, more });
+        }
+        // `; t`.
+        Tactic::Next => {
+            let step = take_step(alloc, &mut values.tactics.combined)?;
+            return values
+                .tactics
+                .continuations
+                .one
+                .push(Continuation::Each(step));
+        }
+        // `; [t | u]`.
+        Tactic::Branches => {
+            let branches = take_items(alloc, &mut values.tactics.tactics.lists);
+            return values
+                .tactics
+                .continuations
+                .one
+                .push(Continuation::Branches(branches, place_at(text, at)));
         }
         // No patterns.
-        Tactic::NoIntroduction => push(&mut values.tactics.introductions, None),
+        Tactic::NoIntroduction => return values.tactics.introductions.push(None),
         // `=> p q`.
         Tactic::Introduction => {
-            let patterns = take_list(alloc, &mut values.tactics.patterns.lists).into_items();
-            push(&mut values.tactics.introductions, Some(patterns))
+            let patterns = take_items(alloc, &mut values.tactics.patterns.lists);
+            return values.tactics.introductions.push(Some(patterns));
         }
-    }
+    };
+    values.tactics.combined.push(step)
 }
 
 /// What the productions of lemmas and their arguments make.
@@ -156,19 +147,19 @@ pub fn argument<P, C, T>(
     match rule {
         // A lemma with its arguments. The run that lies on its stack has nothing in it.
         Argument::Lemma => {
-            let lemma = take(&mut values.paths.words.one, no_word(alloc));
-            take(&mut values.formulas.runs, no_run(alloc)).let_go();
-            let arguments = take_list(alloc, &mut values.rules.argument_lists).into_items();
-            push(&mut values.rules.lemmas, LemmaUse { lemma, arguments })
+            let lemma = take_word(alloc, &mut values.paths.words.one);
+            skip_run(alloc, &mut values.formulas.runs);
+            let arguments = take_items(alloc, &mut values.rules.argument_lists);
+            values.rules.lemmas.push(LemmaUse { lemma, arguments })
         }
         // The end of the arguments, with an empty run for what stands behind the last one.
         Argument::End => {
-            push(&mut values.rules.argument_lists, Stack::new(alloc))?;
-            push(&mut values.formulas.runs, no_run(alloc))
+            values.rules.argument_lists.push(Stack::new(alloc))?;
+            values.formulas.runs.push(no_run(alloc))
         }
         // `&m`, in front of the further arguments.
         Argument::Memory => {
-            let memory = take(&mut values.paths.words.one, no_word(alloc));
+            let memory = take_word(alloc, &mut values.paths.words.one);
             put_argument(
                 alloc,
                 ArgumentTree::Memory(memory),
@@ -185,7 +176,7 @@ pub fn argument<P, C, T>(
                 ArgumentTree::Form(form),
                 &mut values.rules.argument_lists,
             )?;
-            push(&mut values.formulas.runs, no_run(alloc))
+            values.formulas.runs.push(no_run(alloc))
         }
         // `{0,1}` with what stands behind it, in front of the further arguments.
         Argument::Coin => {
@@ -197,14 +188,14 @@ pub fn argument<P, C, T>(
                 ArgumentTree::Form(form),
                 &mut values.rules.argument_lists,
             )?;
-            push(&mut values.formulas.runs, no_run(alloc))
+            values.formulas.runs.push(no_run(alloc))
         }
         // A form with what stands behind it.
         Argument::Post => {
             let head = take_form(alloc, &mut values.formulas.forms.one)?;
             let suffixes = take_suffixes(alloc, &mut values.formulas.runs);
             let made = suffixed(alloc, head, suffixes)?;
-            push(&mut values.formulas.forms.one, made)
+            values.formulas.forms.one.push(made)
         }
     }
 }

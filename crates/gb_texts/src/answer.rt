@@ -2,7 +2,6 @@
 
 use gb_core::place::Place;
 use gb_core::refusal::{Refused, Why, code};
-use gb_let_go::let_go::LetGo;
 use gb_lex::lexing::tokens;
 use gb_read_goal::goal::goal;
 use gb_read_script::reading::{command, form};
@@ -39,7 +38,7 @@ fn read(alloc: Global, part: Part, text: &[u8], at: Place) -> Result<(), Refused
     }
     let tokens = tokens(alloc, text, at)?;
     match part {
-        Part::Command => command(alloc, text, &tokens, at)?.let_go(),
+        Part::Command => drop(command(alloc, text, &tokens, at)?),
         Part::Form => drop(form(alloc, text, &tokens, at)?),
     }
     Ok(())

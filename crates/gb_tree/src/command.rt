@@ -9,10 +9,15 @@ use gb_core::place::Place;
 use sqlite_items::{Boxed, Items};
 
 /// A command, at its first word.
-#[derive(Drop)]
 pub struct Command {
     pub shape: CommandShape,
     pub place: Place,
+}
+
+impl Drop for Command {
+    fn drop(self) {
+        let Command { shape: _, place: _ } = self;
+    }
 }
 
 #[derive(Drop)]
@@ -50,10 +55,18 @@ pub struct RequireTree {
     pub names: Words,
 }
 
-#[derive(Drop)]
 pub struct TypeDeclaration {
     pub name: Word,
     pub definition: TypeDefinition,
+}
+
+impl Drop for TypeDeclaration {
+    fn drop(self) {
+        let TypeDeclaration {
+            name: _,
+            definition: _,
+        } = self;
+    }
 }
 
 #[derive(Drop)]
@@ -66,10 +79,18 @@ pub enum TypeDefinition {
     Enumeration(Words),
 }
 
-#[derive(Drop)]
 pub struct OperatorTree {
     pub name: Word,
     pub definition: OperatorDefinition,
+}
+
+impl Drop for OperatorTree {
+    fn drop(self) {
+        let OperatorTree {
+            name: _,
+            definition: _,
+        } = self;
+    }
 }
 
 #[derive(Drop)]
@@ -85,11 +106,20 @@ pub enum OperatorDefinition {
 }
 
 /// `lemma x (y : t) : F`, and `axiom`.
-#[derive(Drop)]
 pub struct LemmaTree {
     pub name: Word,
     pub binders: Binds,
     pub statement: Boxed<FormTree>,
+}
+
+impl Drop for LemmaTree {
+    fn drop(self) {
+        let LemmaTree {
+            name: _,
+            binders: _,
+            statement: _,
+        } = self;
+    }
 }
 
 /// `clone import T as U with .. proof ..`.

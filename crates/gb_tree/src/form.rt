@@ -1,32 +1,72 @@
 // Formulas, expressions and types as a script writes them.
 
+ghost use Rattle.std.specs.Prelude.{◌≡◌};
+
 use crate::judgment::{BoundTree, CallTree, ModuleExpr, ProcPath, SubjectTree};
 use gb_core::name::Name;
 use gb_core::place::Place;
 use sqlite_items::{Boxed, Items};
 
 /// A name, or a path of names joined by dots, and where it stands.
-#[derive(Drop)]
 pub struct Word {
     pub name: Name,
     pub place: Place,
 }
 
+impl Drop for Word {
+    fn drop(self) {
+        let Word { name: _, place: _ } = self;
+    }
+}
+
+impl Word {
+    pub fn into_name(self) -> Name
+        ensures { result ≡ self.name }
+    {
+        let Word { name, place: _ } = self;
+        name
+    }
+}
+
 pub type Words = Items<Word>;
 
 /// A number, by its digits, and where it stands.
-#[derive(Drop)]
 pub struct Number {
     pub digits: Name,
     pub place: Place,
 }
 
+impl Drop for Number {
+    fn drop(self) {
+        let Number {
+            digits: _,
+            place: _,
+        } = self;
+    }
+}
+
 /// A type, at its first token. It lies in a box wherever it is held.
-#[derive(Drop)]
 #[cycle(ty)]
 pub struct TypeTree {
     pub shape: TypeShape,
     pub place: Place,
+}
+
+impl Drop for TypeTree {
+    #[cycle(drop_type)]
+    fn drop(self) {
+        let TypeTree { shape, place: _ } = self;
+        drop(shape);
+    }
+}
+
+impl TypeTree {
+    pub fn into_shape(self) -> TypeShape
+        ensures { result ≡ self.shape }
+    {
+        let TypeTree { shape, place: _ } = self;
+        shape
+    }
 }
 
 pub type TypeTrees = Items<Boxed<TypeTree>>;
@@ -55,16 +95,20 @@ pub enum TypeShape {
 }
 
 /// Names of one type, as in `(x y : t)`.
-#[derive(Drop)]
 pub struct Binder {
     pub names: Words,
     pub ty: Boxed<TypeTree>,
 }
 
+impl Drop for Binder {
+    fn drop(self) {
+        let Binder { names: _, ty: _ } = self;
+    }
+}
+
 pub type Binders = Items<Binder>;
 
 /// What a quantifier or a lemma binds.
-#[derive(Drop)]
 pub enum Bind {
     /// `(x y : t)`.
     Values(Binder),
@@ -74,10 +118,17 @@ pub enum Bind {
     Module(ModuleBinder),
 }
 
+impl Drop for Bind {
+    fn drop(self) {
+        match self {
+            Bind::Values(_) | Bind::Memory(_) | Bind::Module(_) => {}
+        }
+    }
+}
+
 pub type Binds = Items<Bind>;
 
 /// A module of a module type, which reads and writes none of the excluded modules, and keeps its bounds.
-#[derive(Drop)]
 pub struct ModuleBinder {
     pub name: Word,
     pub ty: Word,
@@ -85,20 +136,47 @@ pub struct ModuleBinder {
     pub bounds: QueryBounds,
 }
 
+impl Drop for ModuleBinder {
+    fn drop(self) {
+        let ModuleBinder {
+            name: _,
+            ty: _,
+            excluded: _,
+            bounds: _,
+        } = self;
+    }
+}
+
 /// How often procedures call oracles, all of them together.
-#[derive(Drop)]
 pub struct QueryBound {
     pub procedures: Words,
     pub limits: Limits,
 }
 
+impl Drop for QueryBound {
+    fn drop(self) {
+        let QueryBound {
+            procedures: _,
+            limits: _,
+        } = self;
+    }
+}
+
 pub type QueryBounds = Items<QueryBound>;
 
 /// `O.o <= 3`.
-#[derive(Drop)]
 pub struct Limit {
     pub oracle: OraclePath,
     pub calls: Number,
+}
+
+impl Drop for Limit {
+    fn drop(self) {
+        let Limit {
+            oracle: _,
+            calls: _,
+        } = self;
+    }
 }
 
 pub type Limits = Items<Limit>;
@@ -153,11 +231,27 @@ pub enum SideTree {
 }
 
 /// A form, which lies in a box wherever it is held. Its place is its first token.
-#[derive(Drop)]
 #[cycle(form)]
 pub struct FormTree {
     pub shape: FormShape,
     pub place: Place,
+}
+
+impl Drop for FormTree {
+    #[cycle(drop_form)]
+    fn drop(self) {
+        let FormTree { shape, place: _ } = self;
+        drop(shape);
+    }
+}
+
+impl FormTree {
+    pub fn into_shape(self) -> FormShape
+        ensures { result ≡ self.shape }
+    {
+        let FormTree { shape, place: _ } = self;
+        shape
+    }
 }
 
 pub type FormTrees = Items<Boxed<FormTree>>;
@@ -243,19 +337,34 @@ pub enum FormShape {
 }
 
 /// What `={..}` says to be equal on both sides: a variable, or all that a module reads and writes.
-#[derive(Drop)]
 pub enum EquatedTree {
     Path(Word),
     Glob(Boxed<ModuleExpr>),
 }
 
+impl Drop for EquatedTree {
+    fn drop(self) {
+        match self {
+            EquatedTree::Path(_) | EquatedTree::Glob(_) => {}
+        }
+    }
+}
+
 pub type EquatedTrees = Items<EquatedTree>;
 
 /// `a : 3` in `weights`.
-#[derive(Drop)]
 pub struct Weight {
     pub constant: Word,
     pub weight: Number,
+}
+
+impl Drop for Weight {
+    fn drop(self) {
+        let Weight {
+            constant: _,
+            weight: _,
+        } = self;
+    }
 }
 
 pub type Weights = Items<Weight>;

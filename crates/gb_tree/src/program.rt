@@ -69,11 +69,18 @@ pub struct ProcTree {
     pub value: Option<Boxed<FormTree>>,
 }
 
-#[derive(Drop)]
 #[cycle(form)]
 pub struct Statement {
     pub shape: StatementShape,
     pub place: Place,
+}
+
+impl Drop for Statement {
+    #[cycle(drop_form)]
+    fn drop(self) {
+        let Statement { shape, place: _ } = self;
+        drop(shape);
+    }
 }
 
 pub type Statements = Items<Statement>;

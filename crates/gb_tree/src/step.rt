@@ -20,7 +20,6 @@ pub enum Bodies {
     Right,
 }
 
-#[derive(Drop)]
 pub enum RuleTree {
     /// `move=> p q`.
     Move(Patterns),
@@ -79,27 +78,96 @@ pub enum RuleTree {
     EagerWhile(Number, Boxed<FormTree>),
 }
 
+impl Drop for RuleTree {
+    fn drop(self) {
+        match self {
+            RuleTree::Split
+            | RuleTree::Left
+            | RuleTree::Right
+            | RuleTree::Assumption
+            | RuleTree::Trivial
+            | RuleTree::Done
+            | RuleTree::Move(_)
+            | RuleTree::Exists(_)
+            | RuleTree::Apply(_)
+            | RuleTree::HaveForm(_, _)
+            | RuleTree::HaveLemma(_, _)
+            | RuleTree::Rewrite(_)
+            | RuleTree::Case(_, _)
+            | RuleTree::Subst(_)
+            | RuleTree::Proc(_)
+            | RuleTree::ProcInvariant(_, _)
+            | RuleTree::Skip(_)
+            | RuleTree::Wp(_)
+            | RuleTree::Sim(_)
+            | RuleTree::Symmetry(_)
+            | RuleTree::Hoare(_)
+            | RuleTree::If(_)
+            | RuleTree::Seq(_)
+            | RuleTree::While(_, _)
+            | RuleTree::Rnd(_, _)
+            | RuleTree::Call(_, _)
+            | RuleTree::Inline(_, _)
+            | RuleTree::Swap(_, _, _)
+            | RuleTree::RcondTrue(_, _)
+            | RuleTree::RcondFalse(_, _)
+            | RuleTree::Unroll(_, _)
+            | RuleTree::Kill(_, _)
+            | RuleTree::Conseq(_)
+            | RuleTree::Transitivity(_)
+            | RuleTree::ByEquiv(_)
+            | RuleTree::ByPhoare(_)
+            | RuleTree::FelCounter(_)
+            | RuleTree::FelBounds(_)
+            | RuleTree::Smt(_)
+            | RuleTree::Linear(_)
+            | RuleTree::EagerCall(_, _)
+            | RuleTree::EagerWhile(_, _) => {}
+        }
+    }
+}
+
 /// What a lemma or an `exists` is given: `&m`, or a form, which may stand for a value or a module.
-#[derive(Drop)]
 pub enum ArgumentTree {
     Memory(Word),
     Form(Boxed<FormTree>),
 }
 
+impl Drop for ArgumentTree {
+    fn drop(self) {
+        match self {
+            ArgumentTree::Memory(_) | ArgumentTree::Form(_) => {}
+        }
+    }
+}
+
 pub type ArgumentTrees = Items<ArgumentTree>;
 
 /// `L a b`.
-#[derive(Drop)]
 pub struct LemmaUse {
     pub lemma: Word,
     pub arguments: ArgumentTrees,
 }
 
+impl Drop for LemmaUse {
+    fn drop(self) {
+        let LemmaUse {
+            lemma: _,
+            arguments: _,
+        } = self;
+    }
+}
+
 /// A precondition and a postcondition.
-#[derive(Drop)]
 pub struct Contract {
     pub pre: Boxed<FormTree>,
     pub post: Boxed<FormTree>,
+}
+
+impl Drop for Contract {
+    fn drop(self) {
+        let Contract { pre: _, post: _ } = self;
+    }
 }
 
 #[derive(Drop)]
@@ -131,13 +199,24 @@ pub enum Law {
 }
 
 /// `seq k l : (R) f1 f2 g1 g2 (I)`.
-#[derive(Drop)]
 pub struct SeqTree {
     pub bodies: Bodies,
     pub first: Number,
     pub second: Option<Number>,
     pub middle: Boxed<FormTree>,
     pub bounds: Option<SeqBounds>,
+}
+
+impl Drop for SeqTree {
+    fn drop(self) {
+        let SeqTree {
+            bodies: _,
+            first: _,
+            second: _,
+            middle: _,
+            bounds: _,
+        } = self;
+    }
 }
 
 /// The bounds of the two parts where the middle holds, those where it doesn't, and what holds in between in any case.
@@ -168,7 +247,6 @@ pub enum Distance {
 }
 
 /// `conseq (_ : P ==> Q : r)`; what is left out stays.
-#[derive(Drop)]
 pub struct ConseqTree {
     pub bodies: Bodies,
     pub pre: Option<Boxed<FormTree>>,
@@ -176,8 +254,18 @@ pub struct ConseqTree {
     pub bound: Option<Boxed<FormTree>>,
 }
 
+impl Drop for ConseqTree {
+    fn drop(self) {
+        let ConseqTree {
+            bodies: _,
+            pre: _,
+            post: _,
+            bound: _,
+        } = self;
+    }
+}
+
 /// `transitivity M.f (P ==> Q) (R ==> S)`.
-#[derive(Drop)]
 pub struct TransitivityTree {
     pub bodies: Bodies,
     pub procedure: Boxed<CallTree>,
@@ -185,8 +273,18 @@ pub struct TransitivityTree {
     pub second: Contract,
 }
 
+impl Drop for TransitivityTree {
+    fn drop(self) {
+        let TransitivityTree {
+            bodies: _,
+            procedure: _,
+            first: _,
+            second: _,
+        } = self;
+    }
+}
+
 /// `fel k (c) (fun i => d) q (b) [O.o : G] (I)`.
-#[derive(Drop)]
 pub struct FelCounter {
     pub start: Number,
     pub counter: Boxed<FormTree>,
@@ -198,23 +296,57 @@ pub struct FelCounter {
     pub invariant: Boxed<FormTree>,
 }
 
+impl Drop for FelCounter {
+    fn drop(self) {
+        let FelCounter {
+            start: _,
+            counter: _,
+            variable: _,
+            bound: _,
+            calls: _,
+            bad: _,
+            guards: _,
+            invariant: _,
+        } = self;
+    }
+}
+
 /// `O.o : G`.
-#[derive(Drop)]
 pub struct Guard {
     pub oracle: ProcPath,
     pub condition: Boxed<FormTree>,
 }
 
+impl Drop for Guard {
+    fn drop(self) {
+        let Guard {
+            oracle: _,
+            condition: _,
+        } = self;
+    }
+}
+
 pub type Guards = Items<Guard>;
 
 /// `fel k [O.o] (d) b (I)`.
-#[derive(Drop)]
 pub struct FelBounds {
     pub start: Number,
     pub oracles: ProcPaths,
     pub bound: Boxed<FormTree>,
     pub bad: Boxed<FormTree>,
     pub invariant: Boxed<FormTree>,
+}
+
+impl Drop for FelBounds {
+    fn drop(self) {
+        let FelBounds {
+            start: _,
+            oracles: _,
+            bound: _,
+            bad: _,
+            invariant: _,
+        } = self;
+    }
 }
 
 pub type ProcPaths = Items<ProcPath>;
@@ -246,31 +378,55 @@ pub struct Multiplier {
 }
 
 /// A proof step with what follows it.
-#[derive(Drop)]
 #[cycle(tactic)]
 pub struct TacticTree {
     pub first: CombinedStep,
     pub more: Continuations,
 }
 
+impl Drop for TacticTree {
+    #[cycle(drop_tactic)]
+    fn drop(self) {
+        let TacticTree { first, more } = self;
+        drop(first);
+        drop(more);
+    }
+}
+
 pub type TacticTrees = Items<TacticTree>;
 
 /// What is run on the goals that a proof step leaves: a proof step on each of them, or a list with one for each.
-#[derive(Drop)]
 #[cycle(tactic)]
 pub enum Continuation {
     Each(CombinedStep),
     Branches(TacticTrees, Place),
 }
 
+impl Drop for Continuation {
+    #[cycle(drop_tactic)]
+    fn drop(self) {
+        match self {
+            Continuation::Each(step) => drop(step),
+            Continuation::Branches(tactics, _) => drop(tactics),
+        }
+    }
+}
+
 pub type Continuations = Items<Continuation>;
 
 /// A proof step with the combinators before it, at its first word.
-#[derive(Drop)]
 #[cycle(tactic)]
 pub struct CombinedStep {
     pub shape: CombinedShape,
     pub place: Place,
+}
+
+impl Drop for CombinedStep {
+    #[cycle(drop_tactic)]
+    fn drop(self) {
+        let CombinedStep { shape, place: _ } = self;
+        drop(shape);
+    }
 }
 
 #[derive(Drop)]
@@ -287,11 +443,18 @@ pub enum CombinedShape {
 }
 
 /// What a premise or a variable that is taken off is called.
-#[derive(Drop)]
 #[cycle(pattern)]
 pub struct PatternTree {
     pub shape: PatternShape,
     pub place: Place,
+}
+
+impl Drop for PatternTree {
+    #[cycle(drop_pattern)]
+    fn drop(self) {
+        let PatternTree { shape, place: _ } = self;
+        drop(shape);
+    }
 }
 
 pub type Patterns = Items<PatternTree>;

@@ -2,9 +2,11 @@
 
 ghost use Rattle.std.specs.Prelude.{◌≡◌};
 ghost use Rattle.gb_value.specs.Form.{no_form, no_tail, no_run, no_phoare_run, no_call_tail, no_formulas};
+ghost use Rattle.gb_value.specs.Sorted.{top, behind};
 
 use crate::path::no_place;
 use crate::sorted::{Sorted, nothing_sorted};
+use crate::take::take;
 use gb_core::place::Place;
 use gb_text::stack::Stack;
 use gb_tree::form::{
@@ -131,6 +133,29 @@ pub struct FormulaValues {
     pub functor_calls: Stack<Option<FunctorCall>>,
 }
 
+impl Drop for FormulaValues {
+    fn drop(self) {
+        let FormulaValues {
+            forms: _,
+            tails: _,
+            infixes: _,
+            operands: _,
+            runs: _,
+            suffixes: _,
+            sides: _,
+            bracket_tails: _,
+            weights: _,
+            phoares: _,
+            phoare_runs: _,
+            equated: _,
+            subjects: _,
+            calls: _,
+            call_tails: _,
+            functor_calls: _,
+        } = self;
+    }
+}
+
 // What stands where a stack is empty; none of it is on the stacks of a text.
 
 pub fn no_form() -> FormTree
@@ -161,6 +186,14 @@ pub fn no_run(alloc: Global) -> Run
         products: Stack::new(alloc),
         sums: Stack::new(alloc),
     }
+}
+
+/// Takes a run off; an empty one where there is none.
+pub fn take_run(alloc: Global, runs: &mut Stack<Run>) -> Run
+    ensures top { result ≡ top no_run runs.old }
+    ensures behind { runs.new ≡ behind runs.old }
+{
+    take(runs, no_run(alloc))
 }
 
 pub fn no_phoare_run(alloc: Global) -> PhoareRun

@@ -1,6 +1,7 @@
 //! The values of the parts of the grammar.
 #![tactic(auto)]
 
+pub mod boxes;
 pub mod form;
 pub mod path;
 pub mod program;

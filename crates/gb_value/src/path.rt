@@ -56,6 +56,25 @@ pub struct PathValues {
     pub procedures: Sorted<ProcPath>,
 }
 
+impl Drop for PathValues {
+    fn drop(self) {
+        let PathValues {
+            words: _,
+            numbers: _,
+            types: _,
+            binders: _,
+            binds: _,
+            bind_rests: _,
+            module_binders: _,
+            bounds: _,
+            limits: _,
+            modules: _,
+            path_tails: _,
+            procedures: _,
+        } = self;
+    }
+}
+
 // What stands where a stack is empty; none of it is on the stacks of a text.
 
 pub fn no_place() -> Place

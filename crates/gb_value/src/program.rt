@@ -84,6 +84,24 @@ pub struct ProgramValues {
     pub oracle_options: Stack<Option<OraclePaths>>,
 }
 
+impl Drop for ProgramValues {
+    fn drop(self) {
+        let ProgramValues {
+            statements: _,
+            statement_tails: _,
+            written: _,
+            variant_tails: _,
+            variant_names: _,
+            items: _,
+            parameters: _,
+            module_rests: _,
+            signatures: _,
+            oracles: _,
+            oracle_options: _,
+        } = self;
+    }
+}
+
 /// The stacks of definitions and commands.
 pub struct CommandValues {
     pub type_definitions: Stack<TypeDefinition>,
@@ -92,6 +110,19 @@ pub struct CommandValues {
     pub realisations: Sorted<Realisation>,
     pub shapes: Stack<CommandShape>,
     pub commands: Stack<Command>,
+}
+
+impl Drop for CommandValues {
+    fn drop(self) {
+        let CommandValues {
+            type_definitions: _,
+            operator_definitions: _,
+            substitutions: _,
+            realisations: _,
+            shapes: _,
+            commands: _,
+        } = self;
+    }
 }
 
 pub fn no_statement_tail(alloc: Global) -> StatementTail

@@ -66,6 +66,19 @@ pub struct TacticValues {
     pub pairings: Stack<Pairing>,
 }
 
+impl Drop for TacticValues {
+    fn drop(self) {
+        let TacticValues {
+            tactics: _,
+            continuations: _,
+            combined: _,
+            introductions: _,
+            patterns: _,
+            pairings: _,
+        } = self;
+    }
+}
+
 /// The stacks of rules, and of what they are given.
 pub struct RuleValues {
     pub rules: Stack<Boxed<RuleTree>>,
@@ -79,6 +92,24 @@ pub struct RuleValues {
     pub guards: Sorted<Guard>,
     pub hints: Sorted<Hint>,
     pub summands: Sorted<Summand>,
+}
+
+impl Drop for RuleValues {
+    fn drop(self) {
+        let RuleValues {
+            rules: _,
+            lemmas: _,
+            argument_lists: _,
+            have_rests: _,
+            call_rules: _,
+            call_rests: _,
+            distances: _,
+            fel_rests: _,
+            guards: _,
+            hints: _,
+            summands: _,
+        } = self;
+    }
 }
 
 pub fn no_pattern() -> PatternTree

@@ -20,6 +20,19 @@ pub struct Groups<P, C, T, R> {
     pub rules: R,
 }
 
+impl<P: Drop, C: Drop, T: Drop, R: Drop> Drop for Groups<P, C, T, R> {
+    fn drop(self) {
+        let Groups {
+            paths: _,
+            formulas: _,
+            programs: _,
+            commands: _,
+            tactics: _,
+            rules: _,
+        } = self;
+    }
+}
+
 /// The values of the parts that are read, a stack for each sort.
 pub type Values = Groups<ProgramValues, CommandValues, TacticValues, RuleValues>;
 

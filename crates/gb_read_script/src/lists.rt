@@ -3,8 +3,8 @@
 ghost use Rattle.std.specs.Prelude.{◌≡◌, OnOk};
 ghost use Rattle.gb_value.specs.Values.{lists_made};
 
-use crate::stacks::make_list;
 use gb_table::rule::{ListRule, Sort};
+use gb_value::sorted::make_list;
 use gb_value::values::Values;
 use std::alloc::{AllocError, Global};
 
