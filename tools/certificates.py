@@ -23,7 +23,8 @@ The grammar text has one line each for
     part form                  the productions that follow are of this part
     part else_part greedy      .. and its empty production may not stand before a token that begins another of its
                                productions (an optional `else` belongs to the nearest `if`)
-    Group.Name: a b c          a production: what its value is made by, and its body, maybe of no symbols. What stands
+    Group.Name: a b c          a production: what its value is made by, and its body, maybe of no symbols. A group may
+                               have a group in it, as in Group.Inner.Name. What stands
                                alone is general: `Empty` is an empty list, `More` a list whose first element comes first,
                                `Single` a list of one, `Same` the values of the parts. All other names are those by
                                which the crates above make values
@@ -275,17 +276,22 @@ def literal(number):
 
 
 def groups_of(rows):
-    groups = {}
+    """The groups of productions with their variants, and the groups that stand in no other."""
+    groups, outer = {}, {}
     for _, production, _, _ in rows:
-        group, _, name = production.rule.partition(".")
-        if name:
-            groups.setdefault(group, {})[name] = None
-    return groups
+        *path, name = production.rule.split(".")
+        for group, inner in zip(path, path[1:]):
+            groups.setdefault(group, {})[f"{inner}({inner})"] = None
+        if path:
+            groups.setdefault(path[-1], {})[name] = None
+            outer[path[0]] = None
+    return groups, outer
 
 
 def rule_file(source, rows):
     lines = [f"// Written by tools/certificates.py from {source}.", ""]
-    for group, names in groups_of(rows).items():
+    groups, outer = groups_of(rows)
+    for group, names in groups.items():
         lines += ["#[derive(Clone, Copy)]", f"pub enum {group} {{"] + [f"    {name}," for name in names] + ["}", ""]
     sorts = dict.fromkeys(production.rule.split()[0] for _, production, _, _ in rows if " " in production.rule)
     lines += ["/// What there are lists of.", "#[derive(Clone, Copy)]", "pub enum Sort {"]
@@ -296,7 +302,7 @@ def rule_file(source, rows):
     lines += ["/// The productions of the grammar: how the value of one is made from those of its parts.",
               "#[derive(Clone, Copy)]", "pub enum Rule {",
               "    List(Sort, ListRule),", "    /// The values of the parts, as they are.", "    Same,"]
-    for group in groups_of(rows):
+    for group in outer:
         lines.append(f"    {group}({group}),")
     return lines + ["}"]
 
@@ -316,6 +322,9 @@ ROWS_MACRO = """// A row in the order of the parts of the grammar: part, rule, s
 macro_rules! rows {
     (@rule $group:ident . $name:ident) => {
         Rule::$group(rule::$group::$name)
+    };
+    (@rule $group:ident . $inner:ident . $name:ident) => {
+        Rule::$group(rule::$group::$inner(rule::$inner::$name))
     };
     (@rule $sort:ident $list:ident) => {
         Rule::List(rule::Sort::$sort, rule::ListRule::$list)

@@ -7,6 +7,7 @@ pub mod judgment;
 pub mod operands;
 pub mod paths;
 pub mod phoares;
+pub mod steps;
 pub mod tails;
 pub mod trees;
 pub mod words;

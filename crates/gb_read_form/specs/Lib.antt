@@ -1,1 +1,3 @@
-pub mod Makes
+pub mod Atoms
+pub mod Forms
+pub mod Paths

@@ -1,5 +1,6 @@
-//! What the productions of forms, operands and suffixes make.
+//! What the productions of words, types, paths, forms, atoms and judgments make.
 #![tactic(auto)]
 
-pub mod make;
-mod trees;
+pub mod atom;
+pub mod form;
+pub mod path;

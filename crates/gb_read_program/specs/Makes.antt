@@ -11,9 +11,6 @@ use Rattle.gb_table.specs.declared.rule.Definition.{Definition as DefinitionRule
 use Rattle.gb_table.specs.declared.rule.Definition.TheVariants as definition_rule
 use Rattle.gb_table.specs.declared.rule.Command.{Command as CommandRule}
 use Rattle.gb_table.specs.declared.rule.Command.TheVariants as command_rule
-use Rattle.gb_table.specs.declared.rule.Stated.{Stated}
-use Rattle.gb_table.specs.declared.rule.Named.{Named}
-use Rattle.gb_table.specs.declared.rule.Keyword.{Keyword}
 use Rattle.gb_tree.specs.declared.program.StatementShape.TheVariants as StatementTree
 use Rattle.gb_tree.specs.declared.program.Target.TheVariants as TargetOf
 use Rattle.gb_tree.specs.declared.program.ModuleItem.TheVariants as ItemOf
@@ -30,8 +27,8 @@ use Rattle.gb_value.specs.declared.program.CommandValues.{CommandValues}
 use Rattle.gb_value.specs.declared.program.ProgramValues.{ProgramValues}
 use Rattle.gb_value.specs.declared.step.TacticValues.{TacticValues}
 use Rattle.gb_value.specs.declared.values.Groups.{Groups}
-use Rattle.gb_compose_program.specs.Program.{writing, statement, longer_statement, loop_shape, suffix_variant, name_variant, typed_operator}
-use Rattle.gb_compose_program.specs.Commands.{module_of, keyword, named, stated, local, imported}
+use Rattle.gb_read_program.specs.Program.{writing, statement, longer_statement, loop_shape, suffix_variant, name_variant, typed_operator}
+use Rattle.gb_read_program.specs.Commands.{module_of, keyword, named, stated, local, imported}
 use Rattle.gb_text.specs.Text.{place_at}
 use Rattle.gb_value.specs.Form.{no_call, no_call_tail, no_form, no_suffix}
 use Rattle.gb_value.specs.Path.{no_module, no_module_binder, no_number, no_type, no_word}
@@ -101,15 +98,6 @@ command_made t command_rule.Operator at v = record v { paths = record v.paths { 
 command_made t command_rule.Local at v = record v { commands = record v.commands { shapes = (local (top no_shape v.commands.shapes)) ∷ behind v.commands.shapes } }
 command_made t command_rule.Declare at v = record v { paths = record v.paths { module_binders = behind v.paths.module_binders }; commands = record v.commands { shapes = (CommandTree.Declare (top no_module_binder v.paths.module_binders)) ∷ v.commands.shapes } }
 command_made t command_rule.Clone at v = record v { paths = record v.paths { words = record { lists = behind v.paths.words.lists; one = behind (behind v.paths.words.one) } }; commands = record v.commands { substitutions = record v.commands.substitutions { lists = behind v.commands.substitutions.lists }; realisations = record v.commands.realisations { lists = behind v.commands.realisations.lists }; shapes = (CommandTree.Clone (record { imported = imported (option_on v.paths.words.lists); theory = top no_word v.paths.words.one; name = top no_word (behind v.paths.words.one); substitutions = list_on v.commands.substitutions.lists; realisations = list_on v.commands.realisations.lists })) ∷ v.commands.shapes } }
-
--- what axioms and lemmas make
-abbrev pub stated_made : {P T R : Type 0} → Stated → Groups P CommandValues T R → Groups P CommandValues T R
-stated_made rule v = record v { paths = record v.paths { words = record v.paths.words { one = behind v.paths.words.one }; binds = record v.paths.binds { lists = behind v.paths.binds.lists } }; formulas = record v.formulas { forms = record v.formulas.forms { one = behind v.formulas.forms.one } }; commands = record v.commands { shapes = (stated rule (record { name = top no_word v.paths.words.one; binders = list_on v.paths.binds.lists; statement = top no_form v.formulas.forms.one })) ∷ v.commands.shapes } }
-
--- what the commands that name what they are about make
-abbrev pub named_made : {P T R : Type 0} → Named → Groups P CommandValues T R → Groups P CommandValues T R
-named_made rule v = record v { paths = record v.paths { words = record v.paths.words { one = behind v.paths.words.one } }; commands = record v.commands { shapes = (named rule (top no_word v.paths.words.one)) ∷ v.commands.shapes } }
-
--- what the commands of a word or two make
-abbrev pub keyword_made : {P T R : Type 0} → Keyword → Groups P CommandValues T R → Groups P CommandValues T R
-keyword_made rule v = record v { commands = record v.commands { shapes = (keyword rule) ∷ v.commands.shapes } }
+command_made t (command_rule.Stated r) at v = record v { paths = record v.paths { words = record v.paths.words { one = behind v.paths.words.one }; binds = record v.paths.binds { lists = behind v.paths.binds.lists } }; formulas = record v.formulas { forms = record v.formulas.forms { one = behind v.formulas.forms.one } }; commands = record v.commands { shapes = (stated r (record { name = top no_word v.paths.words.one; binders = list_on v.paths.binds.lists; statement = top no_form v.formulas.forms.one })) ∷ v.commands.shapes } }
+command_made t (command_rule.Named r) at v = record v { paths = record v.paths { words = record v.paths.words { one = behind v.paths.words.one } }; commands = record v.commands { shapes = (named r (top no_word v.paths.words.one)) ∷ v.commands.shapes } }
+command_made t (command_rule.Keyword r) at v = record v { commands = record v.commands { shapes = (keyword r) ∷ v.commands.shapes } }

@@ -1,16 +1,14 @@
 // What each production of definitions and commands makes.
 
-ghost use Rattle.gb_read_program.specs.Makes.{command_made, definition_made, keyword_made, named_made, stated_made};
+ghost use Rattle.gb_read_program.specs.Makes.{command_made, definition_made};
 ghost use Rattle.std.specs.Prelude.{OnOk, ◌≡◌};
 
+use crate::commands::trees::{keyword, local, named, stated};
+use crate::written::typed_operator;
 use gb_compose::form::take_form;
 use gb_compose::paths::take_type;
-use gb_compose_program::commands;
-use gb_compose_program::commands::local;
-use gb_compose_program::program::typed_operator;
-use gb_compose_program::statements::statement;
-use gb_compose_program::step::{take_boxed_tactic, take_tactic};
-use gb_table::rule::{Command as CommandRule, Definition, Keyword, Named, Stated};
+use gb_compose::steps::{take_boxed_tactic, take_tactic};
+use gb_table::rule::{Command as CommandRule, Definition};
 use gb_text::text::{Text, place_at};
 use gb_tree::command::{
     CloneTree, Command, CommandShape, LemmaTree, OperatorDefinition, OperatorTree, Realisation,
@@ -23,6 +21,8 @@ use gb_value::take::{take, take_items, take_number, take_option, take_word};
 use gb_value::values::Groups;
 use sqlite_items::{Boxed, Items};
 use std::alloc::{AllocError, Global};
+
+mod trees;
 
 /// What the productions of types, operators and clones make.
 pub fn definition<P, R>(
@@ -160,6 +160,22 @@ pub fn command<P, R>(
             let binder = take(&mut values.paths.module_binders, no_module_binder(alloc));
             CommandShape::Declare(binder)
         }
+        CommandRule::Stated(rule) => {
+            let statement = take_form(alloc, &mut values.formulas.forms.one)?;
+            let name = take_word(alloc, &mut values.paths.words.one);
+            let binders = take_items(alloc, &mut values.paths.binds.lists);
+            let lemma = LemmaTree {
+                name,
+                binders,
+                statement,
+            };
+            stated(rule, Boxed::new(alloc, lemma)?)
+        }
+        CommandRule::Named(rule) => {
+            let name = take_word(alloc, &mut values.paths.words.one);
+            named(rule, name)
+        }
+        CommandRule::Keyword(rule) => keyword(rule),
         CommandRule::Clone => {
             let word = take_option(alloc, &mut values.paths.words.lists);
             let theory = take_word(alloc, &mut values.paths.words.one);
@@ -200,46 +216,4 @@ pub fn command<P, R>(
         }
     };
     values.commands.shapes.push(made)
-}
-
-/// What axioms and lemmas make.
-pub fn stated<P, T, R>(
-    alloc: Global,
-    rule: Stated,
-    values: &mut Groups<P, CommandValues, T, R>,
-) -> Result<(), AllocError>
-    ensures { OnOk result (values.new ≡ stated_made rule values.old) }
-{
-    let statement = take_form(alloc, &mut values.formulas.forms.one)?;
-    let name = take_word(alloc, &mut values.paths.words.one);
-    let binders = take_items(alloc, &mut values.paths.binds.lists);
-    let lemma = LemmaTree {
-        name,
-        binders,
-        statement,
-    };
-    let lemma = Boxed::new(alloc, lemma)?;
-    values.commands.shapes.push(commands::stated(rule, lemma))
-}
-
-/// What the commands that name what they are about make.
-pub fn named<P, T, R>(
-    alloc: Global,
-    rule: Named,
-    values: &mut Groups<P, CommandValues, T, R>,
-) -> Result<(), AllocError>
-    ensures { OnOk result (values.new ≡ named_made rule values.old) }
-{
-    let name = take_word(alloc, &mut values.paths.words.one);
-    values.commands.shapes.push(commands::named(rule, name))
-}
-
-/// What the commands of a word or two make.
-pub fn keyword<P, T, R>(
-    rule: Keyword,
-    values: &mut Groups<P, CommandValues, T, R>,
-) -> Result<(), AllocError>
-    ensures { OnOk result (values.new ≡ keyword_made rule values.old) }
-{
-    values.commands.shapes.push(commands::keyword(rule))
 }

@@ -3,14 +3,13 @@
 ghost use Rattle.gb_read_program.specs.Makes.{module_made, program_made, variant_made};
 ghost use Rattle.std.specs.Prelude.{OnOk, ◌≡◌};
 
+use crate::programs::trees::{
+    longer_statement, loop_shape, module_of, name_variant, statement, suffix_variant, writing,
+};
+use crate::written::take_written;
 use gb_compose::form::{take_form, take_two_forms};
 use gb_compose::judgment::take_call;
 use gb_compose::paths::take_type;
-use gb_compose_program::commands::module_of;
-use gb_compose_program::program::take_written;
-use gb_compose_program::statements::{
-    longer_statement, loop_shape, name_variant, statement, suffix_variant, writing,
-};
 use gb_table::rule::{Loop, Module, Program};
 use gb_text::stack::Stack;
 use gb_text::text::{Text, place_at};
@@ -30,6 +29,8 @@ use gb_value::take::{take, take_items, take_option, take_word};
 use gb_value::values::Groups;
 use sqlite_items::Items;
 use std::alloc::{AllocError, Global};
+
+mod trees;
 
 /// What the productions of statements make.
 pub fn program<C, T, R>(

@@ -5,12 +5,12 @@ use Rattle.gb_table.specs.declared.rule.Rule.{Rule}
 use Rattle.gb_table.specs.declared.rule.Rule.TheVariants as rules
 use Rattle.gb_text.specs.declared.text.Text.{Text}
 use Rattle.gb_value.specs.Values.{Values, lists_made, no_values}
-use Rattle.gb_read_atom.specs.Makes.{atom_made, judgment_made, call_made}
-use Rattle.gb_read_form.specs.Makes.{form_made, operand_made, suffix_made}
-use Rattle.gb_read_path.specs.Makes.{word_made, type_made, bind_made, path_made}
-use Rattle.gb_read_program.specs.Makes.{program_made, variant_made, module_made, definition_made, command_made, stated_made, named_made, keyword_made}
-use Rattle.gb_read_step.specs.Makes.{step_made, program_step_made, word_step_made, form_step_made, lemma_step_made, given_made}
-use Rattle.gb_read_tactic.specs.Makes.{tactic_made, pattern_made, argument_made}
+use Rattle.gb_read_form.specs.Atoms.{atom_made, judgment_made, call_made}
+use Rattle.gb_read_form.specs.Forms.{form_made, operand_made, suffix_made}
+use Rattle.gb_read_form.specs.Paths.{word_made, type_made, bind_made, path_made}
+use Rattle.gb_read_program.specs.Makes.{program_made, variant_made, module_made, definition_made, command_made}
+use Rattle.gb_read_step.specs.Steps.{step_made, program_step_made, given_made}
+use Rattle.gb_read_step.specs.Tactics.{tactic_made, pattern_made, argument_made}
 
 -- what a production makes at a position of a text: the new values from the old ones
 abbrev pub made : Text → Rule → ℕ → Values → Values
@@ -32,17 +32,11 @@ made t (rules.Loop r) at v = variant_made r v
 made t (rules.«Module» r) at v = module_made r v
 made t (rules.Definition r) at v = definition_made r v
 made t (rules.Command r) at v = command_made t r at v
-made t (rules.Stated r) at v = stated_made r v
-made t (rules.Named r) at v = named_made r v
-made t (rules.Keyword r) at v = keyword_made r v
 made t (rules.Tactic r) at v = tactic_made t r at v
 made t (rules.Pattern r) at v = pattern_made t r at v
 made t (rules.Argument r) at v = argument_made t r at v
 made t (rules.Step r) at v = step_made t r at v
 made t (rules.ProgramStep r) at v = program_step_made t r at v
-made t (rules.WordStep r) at v = word_step_made r v
-made t (rules.FormStep r) at v = form_step_made r v
-made t (rules.LemmaStep r) at v = lemma_step_made r v
 made t (rules.Given r) at v = given_made t r at v
 
 -- The productions of these steps, run from the last to the first, leave these values.

@@ -4,13 +4,13 @@ ghost use Rattle.std.specs.Prelude.{◌≡◌, OnOk};
 ghost use Rattle.gb_read_script.specs.Built.{made};
 
 use crate::lists::make_lists;
-use gb_read_atom::make::{atom, call, judgment};
-use gb_read_form::make::{form, operand, suffix};
-use gb_read_path::make::{bind, path, type_tree, word};
-use gb_read_program::commands::{command, definition, keyword, named, stated};
+use gb_read_form::atom::{atom, call, judgment};
+use gb_read_form::form::{form, operand, suffix};
+use gb_read_form::path::{bind, path, type_tree, word};
+use gb_read_program::commands::{command, definition};
 use gb_read_program::programs::{module, program, variant};
-use gb_read_step::make::{form_step, given, lemma_step, program_step, step, word_step};
-use gb_read_tactic::make::{argument, pattern, tactic};
+use gb_read_step::step::{given, program_step, step};
+use gb_read_step::tactic::{argument, pattern, tactic};
 use gb_table::rule::Rule;
 use gb_text::text::Text;
 use gb_value::values::Values;
@@ -44,17 +44,11 @@ pub fn make(
         Rule::Module(rule) => module(alloc, rule, values),
         Rule::Definition(rule) => definition(alloc, rule, values),
         Rule::Command(rule) => command(alloc, text, rule, at, values),
-        Rule::Stated(rule) => stated(alloc, rule, values),
-        Rule::Named(rule) => named(alloc, rule, values),
-        Rule::Keyword(rule) => keyword(rule, values),
         Rule::Tactic(rule) => tactic(alloc, text, rule, at, values),
         Rule::Pattern(rule) => pattern(alloc, text, rule, at, values),
         Rule::Argument(rule) => argument(alloc, text, rule, at, values),
         Rule::Step(rule) => step(alloc, text, rule, at, values),
         Rule::ProgramStep(rule) => program_step(alloc, text, rule, at, values),
-        Rule::WordStep(rule) => word_step(alloc, rule, values),
-        Rule::FormStep(rule) => form_step(alloc, rule, values),
-        Rule::LemmaStep(rule) => lemma_step(alloc, rule, values),
         Rule::Given(rule) => given(alloc, text, rule, at, values),
     }
 }

@@ -1,3 +1,6 @@
+pub mod Composed
 pub mod Given
-pub mod Makes
 pub mod Rules
+pub mod Steps
+pub mod TacticTrees
+pub mod Tactics

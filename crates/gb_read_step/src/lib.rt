@@ -1,5 +1,5 @@
-//! What the productions of rules make.
+//! What the productions of proof steps, patterns, uses of lemmas and rules make.
 #![tactic(auto)]
 
-pub mod make;
-mod trees;
+pub mod step;
+pub mod tactic;

@@ -8,7 +8,10 @@ pub enum Command {
     Require,
     Type,
     Operator,
+    Stated(Stated),
     Local,
+    Named(Named),
+    Keyword(Keyword),
     Declare,
     Clone,
 }
@@ -241,11 +244,14 @@ pub enum Pattern {
 pub enum Step {
     Plain,
     Move,
+    LemmaStep(LemmaStep),
+    WordStep(WordStep),
     By,
     Fel,
     Smt,
     Linear,
     Have,
+    FormStep(FormStep),
     Eager,
 }
 
@@ -369,9 +375,6 @@ pub enum Rule {
     /// The values of the parts, as they are.
     Same,
     Command(Command),
-    Stated(Stated),
-    Named(Named),
-    Keyword(Keyword),
     Word(Word),
     Definition(Definition),
     Bind(Bind),
@@ -389,11 +392,8 @@ pub enum Rule {
     Tactic(Tactic),
     Pattern(Pattern),
     Step(Step),
-    LemmaStep(LemmaStep),
-    WordStep(WordStep),
     ProgramStep(ProgramStep),
     Given(Given),
     Argument(Argument),
-    FormStep(FormStep),
     Level(Level),
 }

@@ -1,0 +1,54 @@
+// Commands put together.
+
+ghost use Rattle.std.specs.Prelude.{◌≡◌};
+ghost use Rattle.gb_read_program.specs.Commands.{keyword, local, named, stated};
+
+use gb_table::rule::{Keyword, Named, Stated};
+use gb_tree::command::{CommandShape, LemmaTree};
+use gb_tree::form::Word;
+use sqlite_items::Boxed;
+
+/// A command of a word or two.
+pub fn keyword(rule: Keyword) -> CommandShape
+    ensures { result ≡ keyword rule }
+{
+    match rule {
+        Keyword::Proof => CommandShape::Proof,
+        Keyword::Qed => CommandShape::Qed,
+        Keyword::Section => CommandShape::Section,
+        Keyword::EndSection => CommandShape::EndSection,
+    }
+}
+
+/// A command that names what it is about.
+pub fn named(rule: Named, name: Word) -> CommandShape
+    ensures { result ≡ named rule name }
+{
+    match rule {
+        Named::Termination => CommandShape::Termination(name),
+        Named::Theory => CommandShape::Theory(name),
+        Named::AbstractTheory => CommandShape::AbstractTheory(name),
+        Named::EndTheory => CommandShape::EndTheory(name),
+    }
+}
+
+/// An axiom or a lemma.
+pub fn stated(rule: Stated, lemma: Boxed<LemmaTree>) -> CommandShape
+    ensures { result ≡ stated rule lemma }
+{
+    match rule {
+        Stated::Axiom => CommandShape::Axiom(lemma),
+        Stated::Lemma => CommandShape::Lemma(lemma),
+    }
+}
+
+/// A lemma or module behind `local`, which is a local one.
+pub fn local(shape: CommandShape) -> CommandShape
+    ensures { result ≡ local shape }
+{
+    match shape {
+        CommandShape::Lemma(lemma) => CommandShape::LocalLemma(lemma),
+        CommandShape::Module(tree) => CommandShape::LocalModule(tree),
+        shape => shape,
+    }
+}
