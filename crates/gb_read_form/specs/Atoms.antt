@@ -12,16 +12,15 @@ use Rattle.gb_tree.specs.declared.form.EquatedTree.TheVariants as EquatedOf
 use Rattle.gb_tree.specs.declared.form.FormShape.TheVariants as Shape
 use Rattle.gb_tree.specs.declared.judgment.SubjectTree.TheVariants as SubjectOf
 use Rattle.gb_value.specs.declared.form.BracketTail.TheVariants as Tails
-use Rattle.gb_value.specs.declared.program.ProgramValues.{ProgramValues}
-use Rattle.gb_value.specs.declared.values.Groups.{Groups}
 use Rattle.gb_value.specs.Form.{no_bracket_tail, no_call, no_call_tail, no_form, no_functor_call, no_subject}
 use Rattle.gb_value.specs.Path.{no_module, no_number, no_procedure, no_type, no_word}
 use Rattle.gb_value.specs.Sorted.{top, behind, list_on}
 use Rattle.gb_compose.specs.Atoms.{phoare_at, bracketed, prefixed, constant, weight_of, call, longer_call, call_tail, functor_call, module_form}
 use Rattle.gb_compose.specs.Forms.{form_at, path_form}
+use Rattle.gb_read_form.specs.Groups.{Forms, Judgments}
 
 -- what the productions of atoms make
-abbrev pub atom_made : {P C T R : Type 0} → Text → AtomRule → ℕ → Groups P C T R → Groups P C T R
+abbrev pub atom_made : Text → AtomRule → ℕ → Forms → Forms
 atom_made t atom_rule.Constant at v = record v {
   formulas = record v.formulas {
     forms = record v.formulas.forms { one = form_at t at (constant (terminal_at t at)) ∷ v.formulas.forms.one };
@@ -125,7 +124,7 @@ atom_made t atom_rule.TypedFunction at v = record v {
 }
 
 -- what the productions of judgments make
-abbrev pub judgment_made : {C T R : Type 0} → Text → JudgmentRule → ℕ → Groups ProgramValues C T R → Groups ProgramValues C T R
+abbrev pub judgment_made : Text → JudgmentRule → ℕ → Judgments → Judgments
 judgment_made t judgment_rule.Hoare at v = record v {
   formulas = record v.formulas {
     forms = record v.formulas.forms { one = form_at t at (Shape.Hoare (top no_subject v.formulas.subjects) (top no_form v.formulas.forms.one) (top no_form (behind v.formulas.forms.one))) ∷ behind (behind v.formulas.forms.one) };
@@ -163,12 +162,12 @@ judgment_made t judgment_rule.ProcedureSubject at v = record v {
   formulas = record v.formulas { subjects = SubjectOf.Procedure (top no_procedure v.paths.procedures.one) ∷ v.formulas.subjects };
 }
 judgment_made t judgment_rule.BlockSubject at v = record v {
-  formulas = record v.formulas { subjects = SubjectOf.Block (list_on v.programs.statements.lists) ∷ v.formulas.subjects };
-  programs = record v.programs { statements = record v.programs.statements { lists = behind v.programs.statements.lists } };
+  formulas = record v.formulas { subjects = SubjectOf.Block (list_on v.statements) ∷ v.formulas.subjects };
+  statements = behind v.statements;
 }
 
 -- what the productions of calls make
-abbrev pub call_made : {P C T R : Type 0} → CallRule → Groups P C T R → Groups P C T R
+abbrev pub call_made : CallRule → Forms → Forms
 call_made call_rule.Call v = record v {
   paths = record v.paths { words = record v.paths.words { one = behind v.paths.words.one } };
   formulas = record v.formulas {

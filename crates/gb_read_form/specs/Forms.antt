@@ -14,14 +14,14 @@ use Rattle.gb_tree.specs.declared.form.SideTree.TheVariants as SideOf
 use Rattle.gb_value.specs.declared.form.PhoareRun.TheVariants as Runs
 use Rattle.gb_value.specs.declared.form.Suffix.TheVariants as SuffixTree
 use Rattle.gb_value.specs.declared.form.FormulaValues.{FormulaValues}
-use Rattle.gb_value.specs.declared.values.Groups.{Groups}
 use Rattle.gb_value.specs.Form.{no_form, no_infix, no_operand, no_phoare, no_phoare_run, no_run, no_side, no_suffix, no_tail}
 use Rattle.gb_value.specs.Path.{no_number, no_word}
 use Rattle.gb_value.specs.Sorted.{top, behind, list_on, option_on}
 use Rattle.gb_compose.specs.Forms.{form_at, quantifier, connective, side_number, tailed, further_tail, chosen_tail, open_conclusion, chained, compared, operator_with, sum_of, negative, operand, suffix_run, argument_run, operator_run, plain_phoare, phoare_operand, phoare_run, coin_before, entry}
+use Rattle.gb_read_form.specs.Groups.{Forms}
 
 -- what the productions of forms make
-abbrev pub form_made : {P C T R : Type 0} → Text → FormRule → ℕ → Groups P C T R → Groups P C T R
+abbrev pub form_made : Text → FormRule → ℕ → Forms → Forms
 form_made t form_rule.Quantified at v = record v {
   paths = record v.paths { binds = record v.paths.binds { lists = behind v.paths.binds.lists } };
   formulas = record v.formulas {
@@ -133,7 +133,7 @@ operand_made t operand_rule.PlainPhoare at v = record v {
 }
 
 -- what the productions of suffixes make
-abbrev pub suffix_made : {P C T R : Type 0} → Text → SuffixRule → ℕ → Groups P C T R → Groups P C T R
+abbrev pub suffix_made : Text → SuffixRule → ℕ → Forms → Forms
 suffix_made t suffix_rule.Entry at v = record v {
   formulas = record v.formulas {
     suffixes = entry (top no_form v.formulas.forms.one) (option_on v.formulas.forms.lists) ∷ v.formulas.suffixes;

@@ -1,3 +1,4 @@
 pub mod Atoms
 pub mod Forms
+pub mod Groups
 pub mod Paths

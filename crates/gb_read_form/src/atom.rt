@@ -1,5 +1,6 @@
 // What each production of atoms, judgments and calls makes.
 
+ghost use Rattle.gb_read_form.specs.Groups.{forms, judgments};
 ghost use Rattle.gb_read_form.specs.Atoms.{atom_made, call_made, judgment_made};
 ghost use Rattle.std.specs.Prelude.{OnOk, ◌≡◌};
 
@@ -13,60 +14,61 @@ use gb_compose::judgment::{
 use gb_compose::paths::take_type;
 use gb_compose::trees::path_form;
 use gb_table::rule::{Atom, Call, Judgment as JudgmentRule};
+use gb_text::stack::Stack;
 use gb_text::text::{Text, place_at, terminal_at};
 use gb_tree::form::{EquatedTree, FormShape, Number, Weight};
 use gb_tree::judgment::SubjectTree;
+use gb_tree::program::Statement;
 use gb_value::boxes::boxed_form;
-use gb_value::form::{BracketTail, FunctorCall, PhoareTree, no_call_tail};
-use gb_value::path::{no_module, no_procedure};
-use gb_value::program::ProgramValues;
+use gb_value::form::{BracketTail, FormulaValues, FunctorCall, PhoareTree, no_call_tail};
+use gb_value::path::{PathValues, no_module, no_procedure};
 use gb_value::take::{take, take_items, take_number, take_word};
-use gb_value::values::Groups;
 use sqlite_items::Boxed;
 use std::alloc::{AllocError, Global};
 
 mod trees;
 
 /// What the productions of atoms make.
-pub fn atom<P, C, T, R>(
+pub fn atom(
     alloc: Global,
     text: &Text,
     rule: Atom,
     at: usize,
-    values: &mut Groups<P, C, T, R>,
+    paths: &mut PathValues,
+    formulas: &mut FormulaValues,
 ) -> Result<(), AllocError>
-    ensures { OnOk result (values.new ≡ atom_made text.now rule at values.old) }
+    ensures { OnOk result (forms paths.new formulas.new ≡ atom_made text.now rule at (forms paths.old formulas.old)) }
 {
     let shape = match rule {
         Atom::Constant => constant(terminal_at(text, at)),
         Atom::Number => {
-            let number = take_number(alloc, &mut values.paths.numbers.one);
+            let number = take_number(alloc, &mut paths.numbers.one);
             FormShape::Number(number)
         }
         Atom::Uniform => {
-            let ty = take_type(alloc, &mut values.paths.types.one)?;
+            let ty = take_type(alloc, &mut paths.types.one)?;
             FormShape::Uniform(ty)
         }
         Atom::Weights => {
-            let weights = take_items(alloc, &mut values.formulas.weights.lists);
+            let weights = take_items(alloc, &mut formulas.weights.lists);
             FormShape::Weights(weights)
         }
         Atom::Equalities => {
-            let equated = take_items(alloc, &mut values.formulas.equated.lists);
+            let equated = take_items(alloc, &mut formulas.equated.lists);
             FormShape::Equalities(equated)
         }
         Atom::GlobBracket => {
-            let module = take(&mut values.paths.modules.one, no_module(alloc));
+            let module = take(&mut paths.modules.one, no_module(alloc));
             let module = Boxed::new(alloc, module)?;
             FormShape::Glob(module)
         }
         Atom::Prefixed => {
-            let inner = take_form(alloc, &mut values.formulas.forms.one)?;
+            let inner = take_form(alloc, &mut formulas.forms.one)?;
             prefixed(terminal_at(text, at), inner)
         }
         Atom::UntypedFunction => {
-            let body = take_form(alloc, &mut values.formulas.forms.one)?;
-            let names = take_items(alloc, &mut values.paths.words.lists);
+            let body = take_form(alloc, &mut formulas.forms.one)?;
+            let names = take_items(alloc, &mut paths.words.lists);
             FormShape::Function {
                 names,
                 ty: None,
@@ -76,10 +78,10 @@ pub fn atom<P, C, T, R>(
         Atom::TypedFunction => {
             let (ty, body) = take_type_and_form(
                 alloc,
-                &mut values.paths.types.one,
-                &mut values.formulas.forms.one,
+                &mut paths.types.one,
+                &mut formulas.forms.one,
             )?;
-            let names = take_items(alloc, &mut values.paths.words.lists);
+            let names = take_items(alloc, &mut paths.words.lists);
             FormShape::Function {
                 names,
                 ty: Some(ty),
@@ -87,67 +89,62 @@ pub fn atom<P, C, T, R>(
             }
         }
         Atom::Path => {
-            let path = take_word(alloc, &mut values.paths.words.one);
+            let path = take_word(alloc, &mut paths.words.one);
             let made = path_form(alloc, path)?;
-            return values.formulas.forms.one.push(made);
+            return formulas.forms.one.push(made);
         }
         Atom::FormBracket => {
-            let inner = take_form(alloc, &mut values.formulas.forms.one)?;
-            let tail = take(&mut values.formulas.bracket_tails, BracketTail::End);
+            let inner = take_form(alloc, &mut formulas.forms.one)?;
+            let tail = take(&mut formulas.bracket_tails, BracketTail::End);
             let made = bracketed(alloc, inner, tail, place_at(text, at))?;
-            return values.formulas.forms.one.push(made);
+            return formulas.forms.one.push(made);
         }
         Atom::Weight => {
-            let constant = take_word(alloc, &mut values.paths.words.one);
-            let weight = take_number(alloc, &mut values.paths.numbers.one);
-            return values
-                .formulas
-                .weights
-                .one
-                .push(Weight { constant, weight });
+            let constant = take_word(alloc, &mut paths.words.one);
+            let weight = take_number(alloc, &mut paths.numbers.one);
+            return formulas.weights.one.push(Weight { constant, weight });
         }
         Atom::EquatedPath => {
-            let path = take_word(alloc, &mut values.paths.words.one);
-            return values.formulas.equated.one.push(EquatedTree::Path(path));
+            let path = take_word(alloc, &mut paths.words.one);
+            return formulas.equated.one.push(EquatedTree::Path(path));
         }
         Atom::EquatedGlob => {
-            let module = take(&mut values.paths.modules.one, no_module(alloc));
+            let module = take(&mut paths.modules.one, no_module(alloc));
             let module = Boxed::new(alloc, module)?;
-            return values.formulas.equated.one.push(EquatedTree::Glob(module));
+            return formulas.equated.one.push(EquatedTree::Glob(module));
         }
-        Atom::EndOfBracket => return values.formulas.bracket_tails.push(BracketTail::End),
+        Atom::EndOfBracket => return formulas.bracket_tails.push(BracketTail::End),
         Atom::TypedBracket => {
-            let ty = take_type(alloc, &mut values.paths.types.one)?;
-            return values.formulas.bracket_tails.push(BracketTail::Typed(ty));
+            let ty = take_type(alloc, &mut paths.types.one)?;
+            return formulas.bracket_tails.push(BracketTail::Typed(ty));
         }
         Atom::TupleBracket => {
-            let parts = take_items(alloc, &mut values.formulas.forms.lists);
-            return values
-                .formulas
-                .bracket_tails
-                .push(BracketTail::Tuple(parts));
+            let parts = take_items(alloc, &mut formulas.forms.lists);
+            return formulas.bracket_tails.push(BracketTail::Tuple(parts));
         }
     };
     let made = boxed_form(alloc, shape, place_at(text, at))?;
-    values.formulas.forms.one.push(made)
+    formulas.forms.one.push(made)
 }
 
 /// What the productions of judgments make.
-pub fn judgment<C, T, R>(
+pub fn judgment(
     alloc: Global,
     text: &Text,
     rule: JudgmentRule,
     at: usize,
-    values: &mut Groups<ProgramValues, C, T, R>,
+    paths: &mut PathValues,
+    formulas: &mut FormulaValues,
+    statements: &mut Stack<Stack<Statement>>,
 ) -> Result<(), AllocError>
-    ensures { OnOk result (values.new ≡ judgment_made text.now rule at values.old) }
+    ensures { OnOk result (judgments paths.new formulas.new statements.new ≡ judgment_made text.now rule at (judgments paths.old formulas.old statements.old)) }
 {
     let shape = match rule {
         JudgmentRule::Hoare => {
             let Judgment { subject, pre, post } = take_judgment(
                 alloc,
-                &mut values.formulas.subjects,
-                &mut values.formulas.forms.one,
+                &mut formulas.subjects,
+                &mut formulas.forms.one,
             )?;
             FormShape::Hoare { subject, pre, post }
         }
@@ -157,11 +154,7 @@ pub fn judgment<C, T, R>(
                 right,
                 pre,
                 post,
-            } = take_equivalence(
-                alloc,
-                &mut values.formulas.subjects,
-                &mut values.formulas.forms.one,
-            )?;
+            } = take_equivalence(alloc, &mut formulas.subjects, &mut formulas.forms.one)?;
             FormShape::Equiv {
                 left,
                 right,
@@ -170,17 +163,17 @@ pub fn judgment<C, T, R>(
             }
         }
         JudgmentRule::Lossless => {
-            let procedure = take(&mut values.paths.procedures.one, no_procedure(alloc));
+            let procedure = take(&mut paths.procedures.one, no_procedure(alloc));
             let procedure = Boxed::new(alloc, procedure)?;
             FormShape::Lossless(procedure)
         }
         JudgmentRule::Probability => {
             let (call, event) = take_call_and_form(
                 alloc,
-                &mut values.formulas.calls,
-                &mut values.formulas.forms.one,
+                &mut formulas.calls,
+                &mut formulas.forms.one,
             )?;
-            let memory = take_word(alloc, &mut values.paths.words.one);
+            let memory = take_word(alloc, &mut paths.words.one);
             FormShape::Probability {
                 call,
                 memory,
@@ -190,10 +183,10 @@ pub fn judgment<C, T, R>(
         JudgmentRule::Phoare => {
             let Judgment { subject, pre, post } = take_judgment(
                 alloc,
-                &mut values.formulas.subjects,
-                &mut values.formulas.forms.one,
+                &mut formulas.subjects,
+                &mut formulas.forms.one,
             )?;
-            return values.formulas.phoares.push(PhoareTree {
+            return formulas.phoares.push(PhoareTree {
                 subject,
                 pre,
                 post,
@@ -201,65 +194,63 @@ pub fn judgment<C, T, R>(
             });
         }
         JudgmentRule::ProcedureSubject => {
-            let procedure = take(&mut values.paths.procedures.one, no_procedure(alloc));
+            let procedure = take(&mut paths.procedures.one, no_procedure(alloc));
             let made = Boxed::new(alloc, SubjectTree::Procedure(procedure))?;
-            return values.formulas.subjects.push(made);
+            return formulas.subjects.push(made);
         }
         JudgmentRule::BlockSubject => {
-            let statements = take_items(alloc, &mut values.programs.statements.lists);
+            let statements = take_items(alloc, statements);
             let made = Boxed::new(alloc, SubjectTree::Block(statements))?;
-            return values.formulas.subjects.push(made);
+            return formulas.subjects.push(made);
         }
     };
     let made = boxed_form(alloc, shape, place_at(text, at))?;
-    values.formulas.forms.one.push(made)
+    formulas.forms.one.push(made)
 }
 
 /// What the productions of calls make.
-pub fn call<P, C, T, R>(
+pub fn call(
     alloc: Global,
     rule: Call,
-    values: &mut Groups<P, C, T, R>,
+    paths: &mut PathValues,
+    formulas: &mut FormulaValues,
 ) -> Result<(), AllocError>
-    ensures { OnOk result (values.new ≡ call_made rule values.old) }
+    ensures { OnOk result (forms paths.new formulas.new ≡ call_made rule (forms paths.old formulas.old)) }
 {
     match rule {
         Call::Call => {
-            let first = take_word(alloc, &mut values.paths.words.one);
-            let tail = take(&mut values.formulas.call_tails, no_call_tail(alloc));
+            let first = take_word(alloc, &mut paths.words.one);
+            let tail = take(&mut formulas.call_tails, no_call_tail(alloc));
             let made = calls::call(alloc, first, tail)?;
             let made = Boxed::new(alloc, made)?;
-            values.formulas.calls.push(made)
+            formulas.calls.push(made)
         }
         Call::Dotted => {
-            let word = take_word(alloc, &mut values.paths.words.one);
-            let tail = take(&mut values.formulas.call_tails, no_call_tail(alloc));
+            let word = take_word(alloc, &mut paths.words.one);
+            let tail = take(&mut formulas.call_tails, no_call_tail(alloc));
             let made = longer_call(word, tail)?;
-            values.formulas.call_tails.push(made)
+            formulas.call_tails.push(made)
         }
         Call::Bracket => {
-            let forms = take_items(alloc, &mut values.formulas.forms.lists);
-            let functor = take(&mut values.formulas.functor_calls, None);
-            values
-                .formulas
-                .call_tails
-                .push(call_tail(alloc, forms, functor))
+            let forms = take_items(alloc, &mut formulas.forms.lists);
+            let functor = take(&mut formulas.functor_calls, None);
+            formulas.call_tails.push(call_tail(alloc, forms, functor))
         }
-        Call::NoArguments => values.formulas.call_tails.push(no_call_tail(alloc)),
-        Call::NoFunctor => values.formulas.functor_calls.push(None),
+        Call::NoArguments => formulas.call_tails.push(no_call_tail(alloc)),
+        Call::NoFunctor => formulas.functor_calls.push(None),
         Call::Functor => {
-            let procedure = take_word(alloc, &mut values.paths.words.one);
-            let arguments = take_items(alloc, &mut values.formulas.forms.lists);
-            values.formulas.functor_calls.push(Some(FunctorCall {
+            let procedure = take_word(alloc, &mut paths.words.one);
+            let arguments = take_items(alloc, &mut formulas.forms.lists);
+            formulas.functor_calls.push(Some(FunctorCall {
                 procedure,
                 arguments,
             }))
         }
         Call::Module => {
-            let path = take_word(alloc, &mut values.paths.words.one);
-            let brackets = take_items(alloc, &mut values.formulas.forms.lists);
+            let path = take_word(alloc, &mut paths.words.one);
+            let brackets = take_items(alloc, &mut formulas.forms.lists);
             let made = module_form(alloc, path, brackets)?;
-            values.formulas.forms.one.push(made)
+            formulas.forms.one.push(made)
         }
     }
 }

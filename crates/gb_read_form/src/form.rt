@@ -1,5 +1,6 @@
 // What each production of forms, operands and suffixes makes.
 
+ghost use Rattle.gb_read_form.specs.Groups.{forms};
 ghost use Rattle.gb_read_form.specs.Forms.{form_made, operand_made, suffix_made};
 ghost use Rattle.std.specs.Prelude.{OnOk, ◌≡◌};
 
@@ -19,26 +20,27 @@ use gb_value::form::{
     Choice, FormulaValues, Infix, Operand, PhoareRun, Suffix, Tail, no_phoare_run, no_run, no_tail,
     take_run,
 };
+use gb_value::path::PathValues;
 use gb_value::take::{take, take_items, take_number, take_option, take_word};
-use gb_value::values::Groups;
 use std::alloc::{AllocError, Global};
 
 mod trees;
 
 /// What the productions of forms make.
-pub fn form<P, C, T, R>(
+pub fn form(
     alloc: Global,
     text: &Text,
     rule: Form,
     at: usize,
-    values: &mut Groups<P, C, T, R>,
+    paths: &mut PathValues,
+    formulas: &mut FormulaValues,
 ) -> Result<(), AllocError>
-    ensures { OnOk result (values.new ≡ form_made text.now rule at values.old) }
+    ensures { OnOk result (forms paths.new formulas.new ≡ form_made text.now rule at (forms paths.old formulas.old)) }
 {
     let made = match rule {
         Form::Quantified => {
-            let body = take_form(alloc, &mut values.formulas.forms.one)?;
-            let binds = take_items(alloc, &mut values.paths.binds.lists);
+            let body = take_form(alloc, &mut formulas.forms.one)?;
+            let binds = take_items(alloc, &mut paths.binds.lists);
             boxed_form(
                 alloc,
                 FormShape::Quantified(quantifier(terminal_at(text, at)), binds, body),
@@ -46,10 +48,7 @@ pub fn form<P, C, T, R>(
             )?
         }
         Form::Conditional => {
-            let (condition, then, otherwise) = take_three_forms(
-                alloc,
-                &mut values.formulas.forms.one,
-            )?;
+            let (condition, then, otherwise) = take_three_forms(alloc, &mut formulas.forms.one)?;
             boxed_form(
                 alloc,
                 FormShape::Conditional(condition, then, otherwise),
@@ -57,59 +56,59 @@ pub fn form<P, C, T, R>(
             )?
         }
         Form::Tailed => {
-            let left = take_form(alloc, &mut values.formulas.forms.one)?;
-            let tail = take(&mut values.formulas.tails, no_tail());
+            let left = take_form(alloc, &mut formulas.forms.one)?;
+            let tail = take(&mut formulas.tails, no_tail());
             tailed(alloc, left, tail)?
         }
         // A chain of operands of `\/` or of `/\`.
         Form::Disjunction => {
-            let first = take_form(alloc, &mut values.formulas.forms.one)?;
-            let more = take_items(alloc, &mut values.formulas.forms.lists);
+            let first = take_form(alloc, &mut formulas.forms.one)?;
+            let more = take_items(alloc, &mut formulas.forms.lists);
             chained(alloc, Connective::Or, first, more)?
         }
         // A chain of operands of `\/` or of `/\`.
         Form::Conjunction => {
-            let first = take_form(alloc, &mut values.formulas.forms.one)?;
-            let more = take_items(alloc, &mut values.formulas.forms.lists);
+            let first = take_form(alloc, &mut formulas.forms.one)?;
+            let more = take_items(alloc, &mut formulas.forms.lists);
             chained(alloc, Connective::And, first, more)?
         }
         Form::Compared => {
-            let left = take_form(alloc, &mut values.formulas.forms.one)?;
-            let comparison = take_option(alloc, &mut values.formulas.infixes.lists);
+            let left = take_form(alloc, &mut formulas.forms.one)?;
+            let comparison = take_option(alloc, &mut formulas.infixes.lists);
             compared(alloc, left, comparison)?
         }
-        Form::NoTail => return values.formulas.tails.push(no_tail()),
+        Form::NoTail => return formulas.tails.push(no_tail()),
         Form::FurtherTail => {
-            let form = take_form(alloc, &mut values.formulas.forms.one)?;
-            let tail = take(&mut values.formulas.tails, no_tail());
+            let form = take_form(alloc, &mut formulas.forms.one)?;
+            let tail = take(&mut formulas.tails, no_tail());
             let made = further_tail(alloc, terminal_at(text, at), form, tail)?;
-            return values.formulas.tails.push(made);
+            return formulas.tails.push(made);
         }
         Form::ChosenTail => {
-            let (then, otherwise) = take_two_forms(alloc, &mut values.formulas.forms.one)?;
-            return values.formulas.tails.push(Tail {
+            let (then, otherwise) = take_two_forms(alloc, &mut formulas.forms.one)?;
+            return formulas.tails.push(Tail {
                 implied: None,
                 equivalent: None,
                 chosen: Some(Choice { then, otherwise }),
             });
         }
         Form::OpenConclusion => {
-            let form = take_form(alloc, &mut values.formulas.forms.one)?;
-            return values.formulas.tails.push(Tail {
+            let form = take_form(alloc, &mut formulas.forms.one)?;
+            return formulas.tails.push(Tail {
                 implied: Some(form),
                 equivalent: None,
                 chosen: None,
             });
         }
         Form::Infix => {
-            let operand = take_form(alloc, &mut values.formulas.forms.one)?;
-            return values.formulas.infixes.one.push(Infix {
+            let operand = take_form(alloc, &mut formulas.forms.one)?;
+            return formulas.infixes.one.push(Infix {
                 operator: connective(terminal_at(text, at)),
                 operand,
             });
         }
     };
-    values.formulas.forms.one.push(made)
+    formulas.forms.one.push(made)
 }
 
 /// What the productions of operands make.
@@ -118,108 +117,105 @@ pub fn operand(
     text: &Text,
     rule: OperandRule,
     at: usize,
-    values: &mut FormulaValues,
+    formulas: &mut FormulaValues,
 ) -> Result<(), AllocError>
-    ensures { OnOk result (values.new ≡ operand_made text.now rule at values.old) }
+    ensures { OnOk result (formulas.new ≡ operand_made text.now rule at formulas.old) }
 {
     let run = match rule {
         OperandRule::NoRun => no_run(alloc),
         OperandRule::SuffixRun => {
-            let suffix = take(&mut values.suffixes, Suffix::ToReal);
-            let run = take_run(alloc, &mut values.runs);
+            let suffix = take(&mut formulas.suffixes, Suffix::ToReal);
+            let run = take_run(alloc, &mut formulas.runs);
             suffix_run(suffix, run)?
         }
         OperandRule::ArgumentRun => {
-            let argument = take_form(alloc, &mut values.forms.one)?;
-            let run = take_run(alloc, &mut values.runs);
+            let argument = take_form(alloc, &mut formulas.forms.one)?;
+            let run = take_run(alloc, &mut formulas.runs);
             argument_run(alloc, argument, run)?
         }
         OperandRule::CoinRun => {
             let coin = coin_before(alloc, text, at)?;
-            let run = take_run(alloc, &mut values.runs);
+            let run = take_run(alloc, &mut formulas.runs);
             argument_run(alloc, coin, run)?
         }
         OperandRule::OperatorRun => {
-            let operand = take_operand(alloc, &mut values.operands)?;
+            let operand = take_operand(alloc, &mut formulas.operands)?;
             operator_run(alloc, connective(terminal_at(text, at)), operand)?
         }
         OperandRule::PhoareRun => {
-            let argument = take_phoare(alloc, &mut values.phoares)?;
-            let run = take(&mut values.phoare_runs, no_phoare_run(alloc));
+            let argument = take_phoare(alloc, &mut formulas.phoares)?;
+            let run = take(&mut formulas.phoare_runs, no_phoare_run(alloc));
             phoare_run(alloc, argument, run)?
         }
         OperandRule::Sum => {
-            let operand = take_operand(alloc, &mut values.operands)?;
+            let operand = take_operand(alloc, &mut formulas.operands)?;
             let made = sum(alloc, operand)?;
-            return values.forms.one.push(made);
+            return formulas.forms.one.push(made);
         }
         OperandRule::Negative => {
-            let operand = take_operand(alloc, &mut values.operands)?;
+            let operand = take_operand(alloc, &mut formulas.operands)?;
             let made = negative(alloc, operand, place_at(text, at))?;
-            return values.operands.push(made);
+            return formulas.operands.push(made);
         }
         OperandRule::Operand => {
-            let head = take_form(alloc, &mut values.forms.one)?;
-            let run = take_run(alloc, &mut values.runs);
+            let head = take_form(alloc, &mut formulas.forms.one)?;
+            let run = take_run(alloc, &mut formulas.runs);
             let made = operands::operand(alloc, head, run)?;
-            return values.operands.push(made);
+            return formulas.operands.push(made);
         }
         OperandRule::PhoareOperand => {
-            let head = take_phoare(alloc, &mut values.phoares)?;
-            let run = take(&mut values.phoare_runs, no_phoare_run(alloc));
+            let head = take_phoare(alloc, &mut formulas.phoares)?;
+            let run = take(&mut formulas.phoare_runs, no_phoare_run(alloc));
             let made = phoare_operand(alloc, head, run)?;
-            return values.operands.push(made);
+            return formulas.operands.push(made);
         }
         OperandRule::Unbounded => {
-            let run = take_run(alloc, &mut values.runs);
-            return values.phoare_runs.push(PhoareRun::Unbounded(run));
+            let run = take_run(alloc, &mut formulas.runs);
+            return formulas.phoare_runs.push(PhoareRun::Unbounded(run));
         }
         OperandRule::Bounded => {
-            let bound = take_infix(alloc, &mut values.infixes.one)?;
-            return values.phoare_runs.push(PhoareRun::Bounded(bound));
+            let bound = take_infix(alloc, &mut formulas.infixes.one)?;
+            return formulas.phoare_runs.push(PhoareRun::Bounded(bound));
         }
         OperandRule::PlainPhoare => {
-            let judgment = take_phoare(alloc, &mut values.phoares)?;
+            let judgment = take_phoare(alloc, &mut formulas.phoares)?;
             let made = plain_phoare(alloc, judgment)?;
-            return values.forms.one.push(made);
+            return formulas.forms.one.push(made);
         }
     };
-    values.runs.push(run)
+    formulas.runs.push(run)
 }
 
 /// What the productions of suffixes make.
-pub fn suffix<P, C, T, R>(
+pub fn suffix(
     alloc: Global,
     text: &Text,
     rule: SuffixRule,
     at: usize,
-    values: &mut Groups<P, C, T, R>,
+    paths: &mut PathValues,
+    formulas: &mut FormulaValues,
 ) -> Result<(), AllocError>
-    ensures { OnOk result (values.new ≡ suffix_made text.now rule at values.old) }
+    ensures { OnOk result (forms paths.new formulas.new ≡ suffix_made text.now rule at (forms paths.old formulas.old)) }
 {
     match rule {
         SuffixRule::Entry => {
-            let key = take_form(alloc, &mut values.formulas.forms.one)?;
-            let value = take_option(alloc, &mut values.formulas.forms.lists);
-            values.formulas.suffixes.push(entry(key, value))
+            let key = take_form(alloc, &mut formulas.forms.one)?;
+            let value = take_option(alloc, &mut formulas.forms.lists);
+            formulas.suffixes.push(entry(key, value))
         }
         SuffixRule::Component => {
-            let number = take_number(alloc, &mut values.paths.numbers.one);
-            values.formulas.suffixes.push(Suffix::Component(number))
+            let number = take_number(alloc, &mut paths.numbers.one);
+            formulas.suffixes.push(Suffix::Component(number))
         }
-        SuffixRule::ToReal => values.formulas.suffixes.push(Suffix::ToReal),
+        SuffixRule::ToReal => formulas.suffixes.push(Suffix::ToReal),
         SuffixRule::Side => {
-            let side = take(&mut values.formulas.sides.one, SideTree::Left);
-            values.formulas.suffixes.push(Suffix::Side(side))
+            let side = take(&mut formulas.sides.one, SideTree::Left);
+            formulas.suffixes.push(Suffix::Side(side))
         }
-        SuffixRule::SideNumber => values
-            .formulas
-            .sides
-            .one
-            .push(side_number(terminal_at(text, at))),
+        SuffixRule::SideNumber => formulas.sides.one.push(side_number(terminal_at(text, at))),
         SuffixRule::SideMemory => {
-            let memory = take_word(alloc, &mut values.paths.words.one);
-            values.formulas.sides.one.push(SideTree::Memory(memory))
+            let memory = take_word(alloc, &mut paths.words.one);
+            formulas.sides.one.push(SideTree::Memory(memory))
         }
     }
 }
