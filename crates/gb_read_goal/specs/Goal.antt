@@ -18,7 +18,7 @@ use Rattle.gb_tree.specs.declared.form.FormTree.{FormTree}
 use Rattle.gb_tree.specs.declared.goal.EntryTree.{EntryTree}
 use Rattle.gb_tree.specs.declared.goal.EntryTree.TheVariants as EntryOf
 use Rattle.gb_tree.specs.declared.goal.SequentTree.{SequentTree}
-use Rattle.gb_value.specs.Values.{Values}
+use Rattle.gb_value.specs.declared.values.Values.{Values}
 use Rattle.gb_value.specs.Form.{no_form}
 use Rattle.gb_value.specs.Path.{no_word}
 use Rattle.gb_value.specs.Sorted.{top}

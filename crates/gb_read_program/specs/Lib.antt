@@ -1,3 +1,4 @@
 pub mod Commands
+pub mod Groups
 pub mod Makes
 pub mod Program

@@ -23,11 +23,8 @@ use Rattle.gb_value.specs.declared.program.Action.TheVariants as Actions
 use Rattle.gb_value.specs.declared.program.Written.TheVariants as Writing
 use Rattle.gb_value.specs.declared.program.VariantName.TheVariants as VariantNames
 use Rattle.gb_value.specs.declared.program.ModuleRest.TheVariants as ModuleRests
-use Rattle.gb_value.specs.declared.program.CommandValues.{CommandValues}
-use Rattle.gb_value.specs.declared.program.ProgramValues.{ProgramValues}
-use Rattle.gb_value.specs.declared.step.TacticValues.{TacticValues}
-use Rattle.gb_value.specs.declared.values.Groups.{Groups}
 use Rattle.gb_read_program.specs.Program.{writing, statement, longer_statement, loop_shape, suffix_variant, name_variant, typed_operator}
+use Rattle.gb_read_program.specs.Groups.{Commands, Modules, Programs}
 use Rattle.gb_read_program.specs.Commands.{module_of, keyword, named, stated, local, imported}
 use Rattle.gb_text.specs.Text.{place_at}
 use Rattle.gb_value.specs.Form.{no_call, no_call_tail, no_form, no_suffix}
@@ -37,7 +34,7 @@ use Rattle.gb_value.specs.Sorted.{top, behind, list_on, option_on}
 use Rattle.gb_value.specs.Step.{no_tactic}
 
 -- what the productions of statements make
-abbrev pub program_made : {C T R : Type 0} → Text → ProgramRule → ℕ → Groups ProgramValues C T R → Groups ProgramValues C T R
+abbrev pub program_made : Text → ProgramRule → ℕ → Programs → Programs
 program_made t program_rule.Statement at v = record v { paths = record v.paths { words = record v.paths.words { one = behind v.paths.words.one } }; programs = record v.programs { statement_tails = behind v.programs.statement_tails; statements = record v.programs.statements { one = (statement (top no_word v.paths.words.one) (top no_statement_tail v.programs.statement_tails)) ∷ v.programs.statements.one } } }
 program_made t program_rule.Tuple at v = record v { paths = record v.paths { words = record v.paths.words { lists = behind v.paths.words.lists } }; programs = record v.programs { written = behind v.programs.written; statements = record v.programs.statements { one = (record { shape = writing (TargetOf.Tuple (list_on v.paths.words.lists)) (top no_written v.programs.written); place = place_at t at }) ∷ v.programs.statements.one } } }
 program_made t program_rule.If at v = record v { formulas = record v.formulas { forms = record v.formulas.forms { one = behind v.formulas.forms.one } }; programs = record v.programs { statements = record { lists = behind (behind v.programs.statements.lists); one = (record { shape = StatementTree.If (top no_form v.formulas.forms.one) (list_on v.programs.statements.lists) (list_on (behind v.programs.statements.lists)); place = place_at t at }) ∷ v.programs.statements.one } } }
@@ -51,7 +48,7 @@ program_made t program_rule.Value at v = record v { formulas = record v.formulas
 program_made t program_rule.Result at v = record v { formulas = record v.formulas { calls = behind v.formulas.calls }; programs = record v.programs { written = (Writing.Result (top no_call v.formulas.calls)) ∷ v.programs.written } }
 
 -- what the productions of the variants of loops make
-abbrev pub variant_made : {C T R : Type 0} → LoopRule → Groups ProgramValues C T R → Groups ProgramValues C T R
+abbrev pub variant_made : LoopRule → Programs → Programs
 variant_made loop_rule.Suffix v = record v { formulas = record v.formulas { suffixes = behind v.formulas.suffixes }; programs = record v.programs { variant_tails = (suffix_variant (top no_suffix v.formulas.suffixes) (top no_variant_tail v.programs.variant_tails)) ∷ behind v.programs.variant_tails } }
 variant_made loop_rule.Body v = record v { programs = record v.programs { statements = record v.programs.statements { lists = behind v.programs.statements.lists }; variant_tails = (record { suffixes = []; body = list_on v.programs.statements.lists }) ∷ v.programs.variant_tails } }
 variant_made loop_rule.Name v = record v { paths = record v.paths { words = record v.paths.words { one = behind v.paths.words.one } }; programs = record v.programs { variant_names = behind v.programs.variant_names; variant_tails = (name_variant (top no_word v.paths.words.one) (top no_variant_name v.programs.variant_names)) ∷ v.programs.variant_tails } }
@@ -59,13 +56,13 @@ variant_made loop_rule.Memory v = record v { programs = record v.programs { vari
 variant_made loop_rule.Statements v = record v { programs = record v.programs { statement_tails = behind v.programs.statement_tails; statements = record v.programs.statements { lists = behind v.programs.statements.lists }; variant_names = (VariantNames.Statements (top no_statement_tail v.programs.statement_tails) (list_on v.programs.statements.lists)) ∷ v.programs.variant_names } }
 
 -- what the productions of modules make
-abbrev pub module_made : {T R : Type 0} → ModuleRule → Groups ProgramValues CommandValues T R → Groups ProgramValues CommandValues T R
-module_made module_rule.«Module» v = record v { paths = record v.paths { words = record v.paths.words { one = behind v.paths.words.one } }; programs = record v.programs { module_rests = behind v.programs.module_rests }; commands = record v.commands { shapes = (module_of (top no_word v.paths.words.one) (top no_module_rest v.programs.module_rests)) ∷ v.commands.shapes } }
+abbrev pub module_made : ModuleRule → Modules → Modules
+module_made module_rule.«Module» v = record v { paths = record v.paths { words = record v.paths.words { one = behind v.paths.words.one } }; programs = record v.programs { module_rests = behind v.programs.module_rests }; shapes = (module_of (top no_word v.paths.words.one) (top no_module_rest v.programs.module_rests)) ∷ v.shapes }
 module_made module_rule.Body v = record v { programs = record v.programs { parameters = record v.programs.parameters { lists = behind v.programs.parameters.lists }; items = record v.programs.items { lists = behind v.programs.items.lists }; module_rests = (ModuleRests.Body (list_on v.programs.parameters.lists) (option_on v.paths.words.lists) (list_on v.programs.items.lists)) ∷ v.programs.module_rests }; paths = record v.paths { words = record v.paths.words { lists = behind v.paths.words.lists } } }
 module_made module_rule.Ascribed v = record v { paths = record v.paths { words = record v.paths.words { one = behind v.paths.words.one } }; programs = record v.programs { parameters = record v.programs.parameters { lists = behind v.programs.parameters.lists }; items = record v.programs.items { lists = behind v.programs.items.lists }; module_rests = (ModuleRests.Body (list_on v.programs.parameters.lists) (Some (top no_word v.paths.words.one)) (list_on v.programs.items.lists)) ∷ v.programs.module_rests } }
 module_made module_rule.Plain v = record v { programs = record v.programs { items = record v.programs.items { lists = behind v.programs.items.lists }; module_rests = (ModuleRests.Body [] None (list_on v.programs.items.lists)) ∷ v.programs.module_rests } }
 module_made module_rule.Alias v = record v { paths = record v.paths { modules = record v.paths.modules { one = behind v.paths.modules.one } }; programs = record v.programs { module_rests = (ModuleRests.Alias (top no_module v.paths.modules.one)) ∷ v.programs.module_rests } }
-module_made module_rule.«Type» v = record v { paths = record v.paths { words = record v.paths.words { one = behind v.paths.words.one } }; programs = record v.programs { parameters = record v.programs.parameters { lists = behind v.programs.parameters.lists }; signatures = record v.programs.signatures { lists = behind v.programs.signatures.lists } }; commands = record v.commands { shapes = (CommandTree.ModuleType (record { name = top no_word v.paths.words.one; parameters = list_on v.programs.parameters.lists; signatures = list_on v.programs.signatures.lists })) ∷ v.commands.shapes } }
+module_made module_rule.«Type» v = record v { paths = record v.paths { words = record v.paths.words { one = behind v.paths.words.one } }; programs = record v.programs { parameters = record v.programs.parameters { lists = behind v.programs.parameters.lists }; signatures = record v.programs.signatures { lists = behind v.programs.signatures.lists } }; shapes = (CommandTree.ModuleType (record { name = top no_word v.paths.words.one; parameters = list_on v.programs.parameters.lists; signatures = list_on v.programs.signatures.lists })) ∷ v.shapes }
 module_made module_rule.Parameter v = record v { paths = record v.paths { words = record v.paths.words { one = behind (behind v.paths.words.one) } }; programs = record v.programs { parameters = record v.programs.parameters { one = (record { name = top no_word v.paths.words.one; ty = top no_word (behind v.paths.words.one) }) ∷ v.programs.parameters.one } } }
 module_made module_rule.Signature v = record v { paths = record v.paths { words = record v.paths.words { one = behind v.paths.words.one }; binders = record v.paths.binders { lists = behind v.paths.binders.lists }; types = record v.paths.types { lists = behind v.paths.types.lists } }; programs = record v.programs { oracle_options = behind v.programs.oracle_options; signatures = record v.programs.signatures { one = (record { name = top no_word v.paths.words.one; parameters = list_on v.paths.binders.lists; result = option_on v.paths.types.lists; oracles = top None v.programs.oracle_options }) ∷ v.programs.signatures.one } } }
 module_made module_rule.AllOracles v = record v { programs = record v.programs { oracle_options = None ∷ v.programs.oracle_options } }
@@ -75,7 +72,7 @@ module_made module_rule.Globals v = record v { paths = record v.paths { words = 
 module_made module_rule.Procedure v = record v { paths = record v.paths { words = record v.paths.words { one = behind v.paths.words.one }; binders = record v.paths.binders { lists = behind (behind v.paths.binders.lists) }; types = record v.paths.types { lists = behind v.paths.types.lists } }; programs = record v.programs { statements = record v.programs.statements { lists = behind v.programs.statements.lists }; items = record v.programs.items { one = (ItemOf.Proc (record { name = top no_word v.paths.words.one; parameters = list_on v.paths.binders.lists; result = option_on v.paths.types.lists; locals = list_on (behind v.paths.binders.lists); body = list_on v.programs.statements.lists; value = option_on v.formulas.forms.lists })) ∷ v.programs.items.one } }; formulas = record v.formulas { forms = record v.formulas.forms { lists = behind v.formulas.forms.lists } } }
 
 -- what the productions of types, operators and clones make
-abbrev pub definition_made : {P R : Type 0} → DefinitionRule → Groups P CommandValues TacticValues R → Groups P CommandValues TacticValues R
+abbrev pub definition_made : DefinitionRule → Commands → Commands
 definition_made definition_rule.AbstractType v = record v { commands = record v.commands { type_definitions = TypeOf.Abstract ∷ v.commands.type_definitions } }
 definition_made definition_rule.Alias v = record v { paths = record v.paths { types = record v.paths.types { one = behind v.paths.types.one } }; commands = record v.commands { type_definitions = (TypeOf.Alias (top no_type v.paths.types.one)) ∷ v.commands.type_definitions } }
 definition_made definition_rule.Enumeration v = record v { paths = record v.paths { words = record v.paths.words { lists = behind v.paths.words.lists } }; commands = record v.commands { type_definitions = (TypeOf.Enumeration (list_on v.paths.words.lists)) ∷ v.commands.type_definitions } }
@@ -85,12 +82,12 @@ definition_made definition_rule.Typed v = record v { paths = record v.paths { ty
 definition_made definition_rule.Abstract v = record v { paths = record v.paths { types = record v.paths.types { lists = behind v.paths.types.lists } }; commands = record v.commands { operator_definitions = (OperatorOf.Abstract (list_on v.paths.types.lists)) ∷ v.commands.operator_definitions } }
 definition_made definition_rule.TypeSubstitution v = record v { paths = record v.paths { words = record v.paths.words { one = behind v.paths.words.one }; types = record v.paths.types { one = behind v.paths.types.one } }; commands = record v.commands { substitutions = record v.commands.substitutions { one = (SubstitutionOf.«Type» (top no_word v.paths.words.one) (top no_type v.paths.types.one)) ∷ v.commands.substitutions.one } } }
 definition_made definition_rule.OperatorSubstitution v = record v { paths = record v.paths { words = record v.paths.words { one = behind v.paths.words.one } }; formulas = record v.formulas { forms = record v.formulas.forms { one = behind v.formulas.forms.one } }; commands = record v.commands { substitutions = record v.commands.substitutions { one = (SubstitutionOf.Operator (top no_word v.paths.words.one) (top no_form v.formulas.forms.one)) ∷ v.commands.substitutions.one } } }
-definition_made definition_rule.Realisation v = record v { paths = record v.paths { words = record v.paths.words { one = behind v.paths.words.one } }; tactics = record v.tactics { tactics = record v.tactics.tactics { one = behind v.tactics.tactics.one } }; commands = record v.commands { realisations = record v.commands.realisations { one = (record { «axiom» = top no_word v.paths.words.one; proof = top no_tactic v.tactics.tactics.one }) ∷ v.commands.realisations.one } } }
+definition_made definition_rule.Realisation v = record v { paths = record v.paths { words = record v.paths.words { one = behind v.paths.words.one } }; tactics = behind v.tactics; commands = record v.commands { realisations = record v.commands.realisations { one = (record { «axiom» = top no_word v.paths.words.one; proof = top no_tactic v.tactics }) ∷ v.commands.realisations.one } } }
 
 -- what the productions of commands make
-abbrev pub command_made : {P R : Type 0} → Text → CommandRule → ℕ → Groups P CommandValues TacticValues R → Groups P CommandValues TacticValues R
+abbrev pub command_made : Text → CommandRule → ℕ → Commands → Commands
 command_made t command_rule.Declaration at v = record v { commands = record v.commands { shapes = behind v.commands.shapes; commands = (record { shape = top no_shape v.commands.shapes; place = place_at t at }) ∷ v.commands.commands } }
-command_made t command_rule.Tactic at v = record v { tactics = record v.tactics { tactics = record v.tactics.tactics { one = behind v.tactics.tactics.one } }; commands = record v.commands { commands = (record { shape = CommandTree.Tactic (top no_tactic v.tactics.tactics.one); place = place_at t at }) ∷ v.commands.commands } }
+command_made t command_rule.Tactic at v = record v { tactics = behind v.tactics; commands = record v.commands { commands = (record { shape = CommandTree.Tactic (top no_tactic v.tactics); place = place_at t at }) ∷ v.commands.commands } }
 command_made t command_rule.Undo at v = record v { paths = record v.paths { numbers = record v.paths.numbers { one = behind v.paths.numbers.one } }; commands = record v.commands { commands = (record { shape = CommandTree.Undo (top no_number v.paths.numbers.one); place = place_at t at }) ∷ v.commands.commands } }
 command_made t command_rule.Require at v = record v { paths = record v.paths { words = record v.paths.words { lists = behind (behind v.paths.words.lists) } }; commands = record v.commands { shapes = (CommandTree.Require (record { imported = imported (option_on v.paths.words.lists); names = list_on (behind v.paths.words.lists) })) ∷ v.commands.shapes } }
 command_made t command_rule.«Type» at v = record v { paths = record v.paths { words = record v.paths.words { one = behind v.paths.words.one } }; commands = record v.commands { type_definitions = behind v.commands.type_definitions; shapes = (CommandTree.«Type» (record { name = top no_word v.paths.words.one; definition = top no_type_definition v.commands.type_definitions })) ∷ v.commands.shapes } }

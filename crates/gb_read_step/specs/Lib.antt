@@ -1,5 +1,6 @@
 pub mod Composed
 pub mod Given
+pub mod Groups
 pub mod Rules
 pub mod Steps
 pub mod TacticTrees

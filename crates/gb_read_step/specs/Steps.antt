@@ -13,9 +13,6 @@ use Rattle.gb_tree.specs.declared.step.CallRule.TheVariants as CallRules
 use Rattle.gb_value.specs.declared.step.CallRest.TheVariants as CallRests
 use Rattle.gb_tree.specs.declared.step.Hint.TheVariants as Hints
 use Rattle.gb_value.specs.declared.step.FelRest.TheVariants as FelRests
-use Rattle.gb_value.specs.declared.step.RuleValues.{RuleValues}
-use Rattle.gb_value.specs.declared.step.TacticValues.{TacticValues}
-use Rattle.gb_value.specs.declared.values.Groups.{Groups}
 use Rattle.gb_read_step.specs.Composed.{bodies, seq_bounds, contract_on, contract_rule, fel_rule, call_rule}
 use Rattle.gb_value.specs.Sorted.{top, behind, list_on, option_on, first_of}
 use Rattle.gb_value.specs.Path.{no_word, no_number, no_procedure}
@@ -23,15 +20,17 @@ use Rattle.gb_value.specs.Form.{no_form, no_run, no_call}
 use Rattle.gb_value.specs.Step.{no_lemma, no_have_rest, no_call_rule, no_call_rest, no_distance}
 use Rattle.gb_text.specs.Text.{terminal_at}
 use Rattle.gb_read_step.specs.Rules.{plain_rule, word_rule, form_rule, lemma_rule, body_rule, body_form_rule, proc_rule, position_rule, seq_rule, conseq_rule, transitivity_rule, eager_rule, have_rule}
+use Rattle.gb_read_step.specs.Groups.{Rules, Steps}
 use Rattle.gb_read_step.specs.Given.{guard, summand, call_rest, distance, multiplier}
 
-abbrev pub step_made : {P C : Type 0} → Text → StepRule → ℕ → Groups P C TacticValues RuleValues → Groups P C TacticValues RuleValues
+-- what the productions of the other rules make
+abbrev pub step_made : Text → StepRule → ℕ → Steps → Steps
 step_made t step_rule.Plain at v = record v {
   rules = record v.rules { rules = plain_rule (terminal_at t at) ∷ v.rules.rules };
 }
 step_made t step_rule.Move at v = record v {
-  tactics = record v.tactics { patterns = record v.tactics.patterns { lists = behind v.tactics.patterns.lists } };
-  rules = record v.rules { rules = RuleOf.Move (list_on v.tactics.patterns.lists) ∷ v.rules.rules };
+  patterns = behind v.patterns;
+  rules = record v.rules { rules = RuleOf.Move (list_on v.patterns) ∷ v.rules.rules };
 }
 step_made t step_rule.Have at v = record v {
   paths = record v.paths { words = record v.paths.words { one = behind v.paths.words.one } };
@@ -68,7 +67,8 @@ step_made t (step_rule.LemmaStep r) at v = record v {
   rules = record v.rules { lemmas = behind v.rules.lemmas; rules = lemma_rule r (top no_lemma v.rules.lemmas) ∷ v.rules.rules };
 }
 
-abbrev pub program_step_made : {P C T : Type 0} → Text → ProgramStepRule → ℕ → Groups P C T RuleValues → Groups P C T RuleValues
+-- what the productions of rules on programs make
+abbrev pub program_step_made : Text → ProgramStepRule → ℕ → Rules → Rules
 program_step_made t program_step_rule.Body at v = record v {
   formulas = record v.formulas { sides = record v.formulas.sides { lists = behind v.formulas.sides.lists } };
   rules = record v.rules { rules = body_rule (terminal_at t at) (bodies (option_on v.formulas.sides.lists)) ∷ v.rules.rules };
@@ -140,7 +140,8 @@ program_step_made t program_step_rule.Transitivity at v = record v {
   rules = record v.rules { rules = transitivity_rule (bodies (option_on v.formulas.sides.lists)) (top no_call v.formulas.calls) (contract_on v.formulas.forms.one) (contract_on (behind (behind v.formulas.forms.one))) ∷ v.rules.rules };
 }
 
-abbrev pub given_made : {P C T : Type 0} → Text → GivenRule → ℕ → Groups P C T RuleValues → Groups P C T RuleValues
+-- what the productions of what rules are given make
+abbrev pub given_made : Text → GivenRule → ℕ → Rules → Rules
 given_made t given_rule.HaveForm at v = record v {
   formulas = record v.formulas { forms = record v.formulas.forms { one = behind v.formulas.forms.one } };
   rules = record v.rules { have_rests = HaveRests.Form (top no_form v.formulas.forms.one) ∷ v.rules.have_rests };

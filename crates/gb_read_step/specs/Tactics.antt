@@ -10,11 +10,9 @@ use Rattle.gb_table.specs.declared.rule.Argument.TheVariants as argument_rule
 use Rattle.gb_tree.specs.declared.step.CombinedShape.TheVariants as CombinedOf
 use Rattle.gb_tree.specs.declared.step.Continuation.TheVariants as ContinuationOf
 use Rattle.gb_tree.specs.declared.step.ArgumentTree.TheVariants as ArgumentOf
-use Rattle.gb_value.specs.declared.step.RuleValues.{RuleValues}
-use Rattle.gb_value.specs.declared.step.TacticValues.{TacticValues}
-use Rattle.gb_value.specs.declared.values.Groups.{Groups}
 use Rattle.gb_compose.specs.Forms.{coin_before, suffixed}
 use Rattle.gb_read_step.specs.Composed.{with_argument}
+use Rattle.gb_read_step.specs.Groups.{Patterns, Rules, Tactics}
 use Rattle.gb_value.specs.Sorted.{top, behind, list_on}
 use Rattle.gb_value.specs.Path.{no_word, no_number}
 use Rattle.gb_value.specs.Form.{no_form, no_run}
@@ -22,22 +20,25 @@ use Rattle.gb_value.specs.Step.{no_rule, no_step, no_tactic, no_pattern, no_pair
 use Rattle.gb_text.specs.Text.{place_at, terminal_at}
 use Rattle.gb_read_step.specs.TacticTrees.{pattern_at, word_pattern, plain_pattern, pairing, pair_pattern, combined_at, tactic, ruled, prefixed, lemma_use}
 
-abbrev pub pattern_made : {P C R : Type 0} → Text → PatternRule → ℕ → Groups P C TacticValues R → Groups P C TacticValues R
+-- what the productions of patterns make
+abbrev pub pattern_made : Text → PatternRule → ℕ → Patterns → Patterns
 pattern_made t pattern_rule.Word at v = record v {
-  paths = record v.paths { words = record v.paths.words { one = behind v.paths.words.one } };
-  tactics = record v.tactics { patterns = record v.tactics.patterns { one = pattern_at t at (word_pattern (terminal_at t at) (top no_word v.paths.words.one)) ∷ v.tactics.patterns.one } };
+  words = behind v.words;
+  patterns = pattern_at t at (word_pattern (terminal_at t at) (top no_word v.words)) ∷ v.patterns;
 }
 pattern_made t pattern_rule.Plain at v = record v {
-  tactics = record v.tactics { patterns = record v.tactics.patterns { one = pattern_at t at (plain_pattern (terminal_at t at)) ∷ v.tactics.patterns.one } };
+  patterns = pattern_at t at (plain_pattern (terminal_at t at)) ∷ v.patterns;
 }
 pattern_made t pattern_rule.Pair at v = record v {
-  tactics = record v.tactics { pairings = behind v.tactics.pairings; patterns = record v.tactics.patterns { one = pattern_at t at (pair_pattern (top no_pairing v.tactics.pairings) (top no_pattern v.tactics.patterns.one) (top no_pattern (behind v.tactics.patterns.one))) ∷ behind (behind v.tactics.patterns.one) } };
+  pairings = behind v.pairings;
+  patterns = pattern_at t at (pair_pattern (top no_pairing v.pairings) (top no_pattern v.patterns) (top no_pattern (behind v.patterns))) ∷ behind (behind v.patterns);
 }
 pattern_made t pattern_rule.Second at v = record v {
-  tactics = record v.tactics { pairings = pairing (terminal_at t at) ∷ v.tactics.pairings };
+  pairings = pairing (terminal_at t at) ∷ v.pairings;
 }
 
-abbrev pub tactic_made : {P C : Type 0} → Text → TacticRule → ℕ → Groups P C TacticValues RuleValues → Groups P C TacticValues RuleValues
+-- what the productions of proof steps with combinators make
+abbrev pub tactic_made : Text → TacticRule → ℕ → Tactics → Tactics
 tactic_made t tactic_rule.Tactic at v = record v {
   tactics = record v.tactics { combined = behind v.tactics.combined; continuations = record v.tactics.continuations { lists = behind v.tactics.continuations.lists }; tactics = record v.tactics.tactics { one = tactic (top no_step v.tactics.combined) (list_on v.tactics.continuations.lists) ∷ v.tactics.tactics.one } };
 }
@@ -51,15 +52,15 @@ tactic_made t tactic_rule.Prefix at v = record v {
   tactics = record v.tactics { combined = combined_at t at (prefixed (terminal_at t at) (top no_step v.tactics.combined)) ∷ behind v.tactics.combined };
 }
 tactic_made t tactic_rule.Repeat at v = record v {
-  paths = record v.paths { numbers = record v.paths.numbers { one = behind v.paths.numbers.one } };
-  tactics = record v.tactics { combined = combined_at t at (CombinedOf.Repeat (top no_number v.paths.numbers.one) (top no_step v.tactics.combined)) ∷ behind v.tactics.combined };
+  numbers = behind v.numbers;
+  tactics = record v.tactics { combined = combined_at t at (CombinedOf.Repeat (top no_number v.numbers) (top no_step v.tactics.combined)) ∷ behind v.tactics.combined };
 }
 tactic_made t tactic_rule.Group at v = record v {
   tactics = record v.tactics { tactics = record v.tactics.tactics { one = behind v.tactics.tactics.one }; combined = combined_at t at (CombinedOf.Group (top no_tactic v.tactics.tactics.one)) ∷ v.tactics.combined };
 }
 tactic_made t tactic_rule.Rule at v = record v {
-  tactics = record v.tactics { introductions = behind v.tactics.introductions; combined = combined_at t at (ruled t at (top no_rule v.rules.rules) (top None v.tactics.introductions)) ∷ v.tactics.combined };
-  rules = record v.rules { rules = behind v.rules.rules };
+  tactics = record v.tactics { introductions = behind v.tactics.introductions; combined = combined_at t at (ruled t at (top no_rule v.rules) (top None v.tactics.introductions)) ∷ v.tactics.combined };
+  rules = behind v.rules;
 }
 tactic_made t tactic_rule.NoIntroduction at v = record v {
   tactics = record v.tactics { introductions = None ∷ v.tactics.introductions };
@@ -68,7 +69,8 @@ tactic_made t tactic_rule.Introduction at v = record v {
   tactics = record v.tactics { patterns = record v.tactics.patterns { lists = behind v.tactics.patterns.lists }; introductions = Some (list_on v.tactics.patterns.lists) ∷ v.tactics.introductions };
 }
 
-abbrev pub argument_made : {P C T : Type 0} → Text → ArgumentRule → ℕ → Groups P C T RuleValues → Groups P C T RuleValues
+-- what the productions of lemmas and their arguments make
+abbrev pub argument_made : Text → ArgumentRule → ℕ → Rules → Rules
 argument_made t argument_rule.Lemma at v = record v {
   paths = record v.paths { words = record v.paths.words { one = behind v.paths.words.one } };
   formulas = record v.formulas { runs = behind v.formulas.runs };

@@ -1,5 +1,6 @@
 // What each production of rules makes.
 
+ghost use Rattle.gb_read_step.specs.Groups.{rules, steps};
 ghost use Rattle.gb_read_step.specs.Steps.{given_made, program_step_made, step_made};
 ghost use Rattle.std.specs.Prelude.{OnOk, ◌≡◌};
 
@@ -14,123 +15,131 @@ use crate::step::trees::{
 use gb_compose::form::take_form;
 use gb_compose::judgment::take_call;
 use gb_table::rule::{Given, ProgramStep, Step};
+use gb_text::stack::Stack;
 use gb_text::text::{Text, terminal_at};
-use gb_tree::step::{CallRule, ConseqTree, Distance, Guard, Hint, RuleTree, SeqTree, Summand};
-use gb_value::path::no_procedure;
+use gb_tree::step::{
+    CallRule, ConseqTree, Distance, Guard, Hint, PatternTree, RuleTree, SeqTree, Summand,
+};
+use gb_value::form::FormulaValues;
+use gb_value::path::{PathValues, no_procedure};
 use gb_value::step::{
-    CallRest, HaveRest, RuleValues, TacticValues, no_call_rule, no_distance, no_have_rest, no_lemma,
+    CallRest, HaveRest, RuleValues, no_call_rule, no_distance, no_have_rest, no_lemma,
 };
 use gb_value::take::{take, take_items, take_number, take_option, take_word};
-use gb_value::values::Groups;
 use std::alloc::{AllocError, Global};
 
 mod rules;
 mod trees;
 
 /// What the productions of the other rules make.
-pub fn step<P, C>(
+pub fn step(
     alloc: Global,
     text: &Text,
     rule: Step,
     at: usize,
-    values: &mut Groups<P, C, TacticValues, RuleValues>,
+    paths: &mut PathValues,
+    formulas: &mut FormulaValues,
+    patterns: &mut Stack<Stack<PatternTree>>,
+    rules: &mut RuleValues,
 ) -> Result<(), AllocError>
-    ensures { OnOk result (values.new ≡ step_made text.now rule at values.old) }
+    ensures { OnOk result (steps paths.new formulas.new patterns.new rules.new ≡ step_made text.now rule at (steps paths.old formulas.old patterns.old rules.old)) }
 {
     let made = match rule {
         // Rules of one word, and laws of probability.
         Step::Plain => plain_rule(terminal_at(text, at)),
         // Rules of a word, of a form and of a lemma.
         Step::WordStep(rule) => {
-            let word = take_word(alloc, &mut values.paths.words.one);
+            let word = take_word(alloc, &mut paths.words.one);
             word_rule(rule, word)
         }
         Step::FormStep(rule) => {
-            let form = take_form(alloc, &mut values.formulas.forms.one)?;
+            let form = take_form(alloc, &mut formulas.forms.one)?;
             form_rule(rule, form)
         }
         Step::LemmaStep(rule) => {
-            let lemma = take(&mut values.rules.lemmas, no_lemma(alloc));
+            let lemma = take(&mut rules.lemmas, no_lemma(alloc));
             lemma_rule(rule, lemma)
         }
         // `move=> p q`.
         Step::Move => {
-            let patterns = take_items(alloc, &mut values.tactics.patterns.lists);
+            let patterns = take_items(alloc, patterns);
             RuleTree::Move(patterns)
         }
         // `have H : F` and `have H := L a`.
         Step::Have => {
-            let word = take_word(alloc, &mut values.paths.words.one);
-            let rest = take(&mut values.rules.have_rests, no_have_rest(alloc));
+            let word = take_word(alloc, &mut paths.words.one);
+            let rest = take(&mut rules.have_rests, no_have_rest(alloc));
             have_rule(word, rest)
         }
         // `byequiv` and `byphoare`.
         Step::By => {
-            let contract = take_contract(alloc, &mut values.formulas.forms.one)?;
+            let contract = take_contract(alloc, &mut formulas.forms.one)?;
             contract_rule(alloc, terminal_at(text, at), contract)?
         }
         // `eager call` and `eager while`.
         Step::Eager => {
-            let form = take_form(alloc, &mut values.formulas.forms.one)?;
-            let count = take_number(alloc, &mut values.paths.numbers.one);
+            let form = take_form(alloc, &mut formulas.forms.one)?;
+            let count = take_number(alloc, &mut paths.numbers.one);
             eager_rule(terminal_at(text, at), count, form)
         }
         // `fel`, of either kind.
         Step::Fel => {
-            let start = take_number(alloc, &mut values.paths.numbers.one);
-            let rest = values.rules.fel_rests.pop();
+            let start = take_number(alloc, &mut paths.numbers.one);
+            let rest = rules.fel_rests.pop();
             fel_rule(alloc, start, rest)?
         }
         // `smt(h (L a))`.
         Step::Smt => {
-            let hints = take_items(alloc, &mut values.rules.hints.lists);
+            let hints = take_items(alloc, &mut rules.hints.lists);
             RuleTree::Smt(hints)
         }
         // `linear(n * h)`.
         Step::Linear => {
-            let summands = take_items(alloc, &mut values.rules.summands.lists);
+            let summands = take_items(alloc, &mut rules.summands.lists);
             RuleTree::Linear(summands)
         }
     };
-    push_rule(alloc, made, &mut values.rules.rules)
+    push_rule(alloc, made, &mut rules.rules)
 }
 
 /// What the productions of rules on programs make.
-pub fn program_step<P, C, T>(
+pub fn program_step(
     alloc: Global,
     text: &Text,
     rule: ProgramStep,
     at: usize,
-    values: &mut Groups<P, C, T, RuleValues>,
+    paths: &mut PathValues,
+    formulas: &mut FormulaValues,
+    rules: &mut RuleValues,
 ) -> Result<(), AllocError>
-    ensures { OnOk result (values.new ≡ program_step_made text.now rule at values.old) }
+    ensures { OnOk result (rules paths.new formulas.new rules.new ≡ program_step_made text.now rule at (rules paths.old formulas.old rules.old)) }
 {
-    let bodies = take_bodies(alloc, &mut values.formulas.sides.lists);
+    let bodies = take_bodies(alloc, &mut formulas.sides.lists);
     let made = match rule {
         // Rules of bodies alone.
         ProgramStep::Body => body_rule(terminal_at(text, at), bodies),
         // `case (e)` and `while (I)`.
         ProgramStep::BodyForm => {
-            let form = take_form(alloc, &mut values.formulas.forms.one)?;
+            let form = take_form(alloc, &mut formulas.forms.one)?;
             body_form_rule(terminal_at(text, at), bodies, form)
         }
         // `proc`, with an invariant or without.
         ProgramStep::Proc => {
-            let invariant = take_option(alloc, &mut values.formulas.forms.lists);
+            let invariant = take_option(alloc, &mut formulas.forms.lists);
             proc_rule(bodies, invariant)
         }
         // `rcondt n`, `rcondf n`, `unroll n` and `kill n`.
         ProgramStep::Position => {
-            let position = take_number(alloc, &mut values.paths.numbers.one);
+            let position = take_number(alloc, &mut paths.numbers.one);
             position_rule(terminal_at(text, at), bodies, position)
         }
         // `seq k l : (R)`, with bounds or without.
         ProgramStep::Seq => {
-            let middle = take_form(alloc, &mut values.formulas.forms.one)?;
-            let first = take_number(alloc, &mut values.paths.numbers.one);
-            let second = take_option(alloc, &mut values.paths.numbers.lists);
-            let bounds = take_arguments(alloc, &mut values.formulas.runs);
-            let invariant = take_option(alloc, &mut values.formulas.forms.lists);
+            let middle = take_form(alloc, &mut formulas.forms.one)?;
+            let first = take_number(alloc, &mut paths.numbers.one);
+            let second = take_option(alloc, &mut paths.numbers.lists);
+            let bounds = take_arguments(alloc, &mut formulas.runs);
+            let invariant = take_option(alloc, &mut formulas.forms.lists);
             let bounds = seq_bounds(bounds, invariant);
             seq_rule(
                 alloc,
@@ -145,30 +154,30 @@ pub fn program_step<P, C, T>(
         }
         // `rnd` with none, one or two functions.
         ProgramStep::Rnd => {
-            let couplings = take_arguments(alloc, &mut values.formulas.runs);
+            let couplings = take_arguments(alloc, &mut formulas.runs);
             RuleTree::Rnd(bodies, couplings)
         }
         // `call`.
         ProgramStep::Call => {
-            let call = take(&mut values.rules.call_rules, no_call_rule(alloc));
+            let call = take(&mut rules.call_rules, no_call_rule(alloc));
             RuleTree::Call(bodies, call)
         }
         // `inline M.f` and `inline *`.
         ProgramStep::Inline => {
-            let procedure = take_option(alloc, &mut values.paths.procedures.lists);
+            let procedure = take_option(alloc, &mut paths.procedures.lists);
             RuleTree::Inline(bodies, procedure)
         }
         // `swap i k`.
         ProgramStep::Swap => {
-            let position = take_number(alloc, &mut values.paths.numbers.one);
-            let distance = take(&mut values.rules.distances, no_distance(alloc));
+            let position = take_number(alloc, &mut paths.numbers.one);
+            let distance = take(&mut rules.distances, no_distance(alloc));
             RuleTree::Swap(bodies, position, distance)
         }
         // `conseq (_ : P ==> Q : r)`.
         ProgramStep::Conseq => {
-            let pre = take_option(alloc, &mut values.formulas.forms.lists);
-            let post = take_option(alloc, &mut values.formulas.forms.lists);
-            let bound = take_option(alloc, &mut values.formulas.forms.lists);
+            let pre = take_option(alloc, &mut formulas.forms.lists);
+            let post = take_option(alloc, &mut formulas.forms.lists);
+            let bound = take_option(alloc, &mut formulas.forms.lists);
             conseq_rule(
                 alloc,
                 ConseqTree {
@@ -181,118 +190,112 @@ pub fn program_step<P, C, T>(
         }
         // `transitivity M.f (P ==> Q) (R ==> S)`.
         ProgramStep::Transitivity => {
-            let procedure = take_call(alloc, &mut values.formulas.calls)?;
-            transitivity_rule(alloc, bodies, procedure, &mut values.formulas.forms.one)?
+            let procedure = take_call(alloc, &mut formulas.calls)?;
+            transitivity_rule(alloc, bodies, procedure, &mut formulas.forms.one)?
         }
     };
-    push_rule(alloc, made, &mut values.rules.rules)
+    push_rule(alloc, made, &mut rules.rules)
 }
 
 /// What the productions of what rules are given make.
-pub fn given<P, C, T>(
+pub fn given(
     alloc: Global,
     text: &Text,
     rule: Given,
     at: usize,
-    values: &mut Groups<P, C, T, RuleValues>,
+    paths: &mut PathValues,
+    formulas: &mut FormulaValues,
+    rules: &mut RuleValues,
 ) -> Result<(), AllocError>
-    ensures { OnOk result (values.new ≡ given_made text.now rule at values.old) }
+    ensures { OnOk result (rules paths.new formulas.new rules.new ≡ given_made text.now rule at (rules paths.old formulas.old rules.old)) }
 {
     match rule {
         // The form of `have H : F`.
         Given::HaveForm => {
-            let form = take_form(alloc, &mut values.formulas.forms.one)?;
-            values.rules.have_rests.push(HaveRest::Form(form))
+            let form = take_form(alloc, &mut formulas.forms.one)?;
+            rules.have_rests.push(HaveRest::Form(form))
         }
         // The lemma of `have H := L a`.
         Given::HaveLemma => {
-            let lemma = take(&mut values.rules.lemmas, no_lemma(alloc));
-            values.rules.have_rests.push(HaveRest::Lemma(lemma))
+            let lemma = take(&mut rules.lemmas, no_lemma(alloc));
+            rules.have_rests.push(HaveRest::Lemma(lemma))
         }
         // The lemma of `call (L a)`.
         Given::CallLemma => {
-            let lemma = take(&mut values.rules.lemmas, no_lemma(alloc));
-            values.rules.call_rules.push(CallRule::Lemma(lemma))
+            let lemma = take(&mut rules.lemmas, no_lemma(alloc));
+            rules.call_rules.push(CallRule::Lemma(lemma))
         }
         // What `call` is given that begins with a form.
         Given::CallForm => {
-            let form = take_form(alloc, &mut values.formulas.forms.one)?;
-            let tail = take(&mut values.rules.call_rests, CallRest::Invariant);
+            let form = take_form(alloc, &mut formulas.forms.one)?;
+            let tail = take(&mut rules.call_rests, CallRest::Invariant);
             let made = call_rule(alloc, form, tail)?;
-            values.rules.call_rules.push(made)
+            rules.call_rules.push(made)
         }
         // The end of `call (_ : I)`.
-        Given::CallInvariant => values.rules.call_rests.push(CallRest::Invariant),
+        Given::CallInvariant => rules.call_rests.push(CallRest::Invariant),
         // The second form of `call (_ : B, I)` and of `call (_ : P ==> Q)`.
         Given::CallRest => {
-            let form = take_form(alloc, &mut values.formulas.forms.one)?;
-            values
-                .rules
+            let form = take_form(alloc, &mut formulas.forms.one)?;
+            rules
                 .call_rests
                 .push(call_rest(terminal_at(text, at), form))
         }
         // How far `swap` moves a statement.
         Given::Distance => {
-            let number = take_number(alloc, &mut values.paths.numbers.one);
-            values
-                .rules
+            let number = take_number(alloc, &mut paths.numbers.one);
+            rules
                 .distances
                 .push(distance(terminal_at(text, at), number))
         }
         // A hypothesis that `smt` may use.
         Given::NameHint => {
-            let hypothesis = take_word(alloc, &mut values.paths.words.one);
-            values.rules.hints.one.push(Hint::Hypothesis(hypothesis))
+            let hypothesis = take_word(alloc, &mut paths.words.one);
+            rules.hints.one.push(Hint::Hypothesis(hypothesis))
         }
         // A lemma that `smt` may use.
         Given::LemmaHint => {
-            let lemma = take(&mut values.rules.lemmas, no_lemma(alloc));
-            values.rules.hints.one.push(Hint::Lemma(lemma))
+            let lemma = take(&mut rules.lemmas, no_lemma(alloc));
+            rules.hints.one.push(Hint::Lemma(lemma))
         }
         // A hypothesis of `linear`.
         Given::PlainSummand => {
-            let hypothesis = take_word(alloc, &mut values.paths.words.one);
-            values.rules.summands.one.push(Summand {
+            let hypothesis = take_word(alloc, &mut paths.words.one);
+            rules.summands.one.push(Summand {
                 multiplier: None,
                 hypothesis,
             })
         }
         // A hypothesis of `linear` with its multiplier.
         Given::ScaledSummand => {
-            let numerator = take_number(alloc, &mut values.paths.numbers.one);
-            let denominator = take_option(alloc, &mut values.paths.numbers.lists);
-            let hypothesis = take_word(alloc, &mut values.paths.words.one);
+            let numerator = take_number(alloc, &mut paths.numbers.one);
+            let denominator = take_option(alloc, &mut paths.numbers.lists);
+            let hypothesis = take_word(alloc, &mut paths.words.one);
             let multiplier = multiplier(terminal_at(text, at), numerator, denominator);
-            values.rules.summands.one.push(Summand {
+            rules.summands.one.push(Summand {
                 multiplier,
                 hypothesis,
             })
         }
         // What follows the number of `fel` with a counter.
         Given::FelCounter => {
-            let variable = take_word(alloc, &mut values.paths.words.one);
-            let calls = take_number(alloc, &mut values.paths.numbers.one);
-            let guards = take_items(alloc, &mut values.rules.guards.lists);
-            let made = fel_counter(
-                alloc,
-                variable,
-                calls,
-                guards,
-                &mut values.formulas.forms.one,
-            )?;
-            values.rules.fel_rests.push(made)
+            let variable = take_word(alloc, &mut paths.words.one);
+            let calls = take_number(alloc, &mut paths.numbers.one);
+            let guards = take_items(alloc, &mut rules.guards.lists);
+            let made = fel_counter(alloc, variable, calls, guards, &mut formulas.forms.one)?;
+            rules.fel_rests.push(made)
         }
         // What follows the number of `fel` with bounds.
         Given::FelBounds => {
-            let oracles = take_items(alloc, &mut values.paths.procedures.lists);
-            let made = fel_bounds(alloc, oracles, &mut values.formulas.forms.one)?;
-            values.rules.fel_rests.push(made)
+            let oracles = take_items(alloc, &mut paths.procedures.lists);
+            let made = fel_bounds(alloc, oracles, &mut formulas.forms.one)?;
+            rules.fel_rests.push(made)
         }
         // `O.o : G`.
         Given::Guard => {
-            let condition = take_form(alloc, &mut values.formulas.forms.one)?;
-            let oracle = take(&mut values.paths.procedures.one, no_procedure(alloc));
-            values.rules.guards.one.push(Guard { oracle, condition })
+            let condition = take_form(alloc, &mut formulas.forms.one)?;
+            let oracle = take(&mut paths.procedures.one, no_procedure(alloc));
+            rules.guards.one.push(Guard { oracle, condition })
         }
     }
 }

@@ -2,20 +2,12 @@
 use Rattle.gb_table.specs.declared.rule.Sort.{Sort}
 use Rattle.gb_table.specs.declared.rule.Sort.TheVariants as sort
 use Rattle.gb_table.specs.declared.rule.ListRule.{ListRule}
-use Rattle.gb_value.specs.declared.program.CommandValues.{CommandValues}
-use Rattle.gb_value.specs.declared.program.ProgramValues.{ProgramValues}
-use Rattle.gb_value.specs.declared.step.RuleValues.{RuleValues}
-use Rattle.gb_value.specs.declared.step.TacticValues.{TacticValues}
-use Rattle.gb_value.specs.declared.values.Groups.{Groups}
+use Rattle.gb_value.specs.declared.values.Values.{Values}
 use Rattle.gb_value.specs.Form.{no_formulas}
 use Rattle.gb_value.specs.Path.{no_paths}
 use Rattle.gb_value.specs.Program.{no_commands, no_programs}
 use Rattle.gb_value.specs.Sorted.{list_made}
 use Rattle.gb_value.specs.Step.{no_rules, no_tactics}
-
--- the values of a text
-abbrev pub Values : Type 0
-Values = Groups ProgramValues CommandValues TacticValues RuleValues
 
 -- what the production of a list of a sort makes
 abbrev pub lists_made : Sort → ListRule → Values → Values

@@ -9,20 +9,19 @@ use crate::program::{CommandValues, ProgramValues, no_commands, no_programs};
 use crate::step::{RuleValues, TacticValues, no_rules, no_tactics};
 use std::alloc::Global;
 
-/// The stacks of values, by groups. A function that works on some of them leaves open what the others are, so that its
-/// proof speaks of few types.
-pub struct Groups<P, C, T, R> {
+/// The stacks of values, by groups.
+pub struct Values {
     pub paths: PathValues,
     pub formulas: FormulaValues,
-    pub programs: P,
-    pub commands: C,
-    pub tactics: T,
-    pub rules: R,
+    pub programs: ProgramValues,
+    pub commands: CommandValues,
+    pub tactics: TacticValues,
+    pub rules: RuleValues,
 }
 
-impl<P: Drop, C: Drop, T: Drop, R: Drop> Drop for Groups<P, C, T, R> {
+impl Drop for Values {
     fn drop(self) {
-        let Groups {
+        let Values {
             paths: _,
             formulas: _,
             programs: _,
@@ -33,13 +32,11 @@ impl<P: Drop, C: Drop, T: Drop, R: Drop> Drop for Groups<P, C, T, R> {
     }
 }
 
-/// The values of the parts that are read, a stack for each sort.
-pub type Values = Groups<ProgramValues, CommandValues, TacticValues, RuleValues>;
-
+/// Empty stacks.
 pub fn no_values(alloc: Global) -> Values
     ensures { result ≡ no_values }
 {
-    Groups {
+    Values {
         paths: no_paths(alloc),
         formulas: no_formulas(alloc),
         programs: no_programs(alloc),

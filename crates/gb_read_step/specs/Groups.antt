@@ -1,0 +1,48 @@
+-- The stacks that the productions of proof steps work on.
+use Rattle.std.specs.Prelude.{List}
+use Rattle.gb_tree.specs.declared.form.Number.{Number}
+use Rattle.gb_tree.specs.declared.form.Word.{Word}
+use Rattle.gb_tree.specs.declared.step.PatternTree.{PatternTree}
+use Rattle.gb_tree.specs.declared.step.RuleTree.{RuleTree}
+use Rattle.gb_value.specs.declared.form.FormulaValues.{FormulaValues}
+use Rattle.gb_value.specs.declared.path.PathValues.{PathValues}
+use Rattle.gb_value.specs.declared.step.Pairing.{Pairing}
+use Rattle.gb_value.specs.declared.step.RuleValues.{RuleValues}
+use Rattle.gb_value.specs.declared.step.TacticValues.{TacticValues}
+
+-- those of patterns
+pub record Patterns : Type 0 where
+  pub words : List Word
+  pub patterns : List PatternTree
+  pub pairings : List Pairing
+
+-- those of proof steps with combinators
+pub record Tactics : Type 0 where
+  pub numbers : List Number
+  pub rules : List RuleTree
+  pub tactics : TacticValues
+
+-- those of rules, and of what they are given
+pub record Rules : Type 0 where
+  pub paths : PathValues
+  pub formulas : FormulaValues
+  pub rules : RuleValues
+
+-- those of rules that may have patterns
+pub record Steps : Type 0 where
+  pub paths : PathValues
+  pub formulas : FormulaValues
+  pub patterns : List (List PatternTree)
+  pub rules : RuleValues
+
+abbrev pub patterns : List Word → List PatternTree → List Pairing → Patterns
+patterns ws ps qs = record { words = ws; patterns = ps; pairings = qs }
+
+abbrev pub tactics : List Number → List RuleTree → TacticValues → Tactics
+tactics ns rs ts = record { numbers = ns; rules = rs; tactics = ts }
+
+abbrev pub rules : PathValues → FormulaValues → RuleValues → Rules
+rules p f r = record { paths = p; formulas = f; rules = r }
+
+abbrev pub steps : PathValues → FormulaValues → List (List PatternTree) → RuleValues → Steps
+steps p f ps r = record { paths = p; formulas = f; patterns = ps; rules = r }
