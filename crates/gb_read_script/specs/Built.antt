@@ -4,12 +4,18 @@ use Rattle.gb_grammar.specs.declared.table.Step.{Step}
 use Rattle.gb_table.specs.declared.rule.Rule.{Rule}
 use Rattle.gb_table.specs.declared.rule.Rule.TheVariants as rules
 use Rattle.gb_text.specs.declared.text.Text.{Text}
+use Rattle.gb_tree.specs.declared.form.Bind.TheVariants as BindTree
+use Rattle.gb_value.specs.Form.{no_form}
+use Rattle.gb_value.specs.Path.{no_word}
+use Rattle.gb_value.specs.Program.{no_command}
+use Rattle.gb_value.specs.Sorted.{top}
 use Rattle.gb_value.specs.Values.{Values, lists_made, no_values}
 use Rattle.gb_read_atom.specs.Makes.{atom_made, judgment_made, call_made}
 use Rattle.gb_read_form.specs.Makes.{form_made, operand_made, suffix_made}
 use Rattle.gb_read_path.specs.Makes.{word_made, type_made, bind_made, path_made}
 use Rattle.gb_read_program.specs.Makes.{program_made, variant_made, module_made, definition_made, command_made, stated_made, named_made, keyword_made}
 use Rattle.gb_read_step.specs.Makes.{step_made, program_step_made, word_step_made, form_step_made, lemma_step_made, given_made}
+use Rattle.gb_read_script.specs.declared.build.Tops.{Tops}
 use Rattle.gb_read_tactic.specs.Makes.{tactic_made, pattern_made, argument_made}
 
 -- what a production makes at a position of a text: the new values from the old ones
@@ -49,3 +55,12 @@ made t (rules.Given r) at v = given_made t r at v
 unfoldable pub built : Text → List (Step Rule) → Values
 built t [] = no_values
 built t (s ∷ steps) = made t s.rule s.at (built t steps)
+
+-- what values leave on top
+abbrev pub tops_of : Values → Tops
+tops_of v = record {
+  command = top no_command v.commands.commands;
+  form = top no_form v.formulas.forms.one;
+  bind = top (BindTree.Memory no_word) v.paths.binds.one;
+  word = top no_word v.paths.words.one;
+}
