@@ -1,2 +1,5 @@
 pub mod Built
+pub mod Goal
+pub mod GoalLines
+pub mod Line
 pub mod Reading
