@@ -4,8 +4,17 @@ use Rattle.std.proofs.Common.{refl, ap, ◌∙◌, add-one, drop-cons, get_or}
 use Rattle.gb_grammar.specs.declared.table.Step.{Step}
 use Rattle.gb_table.specs.declared.rule.Rule.{Rule}
 use Rattle.gb_text.specs.declared.text.Text.{Text}
-use Rattle.gb_value.specs.Values.{no_values}
-use Rattle.gb_read_script.specs.Built.{made, built}
+use Rattle.gb_tree.specs.declared.command.Command.{Command}
+use Rattle.gb_tree.specs.declared.form.Bind.{Bind}
+use Rattle.gb_tree.specs.declared.form.Bind.TheVariants as BindTree
+use Rattle.gb_tree.specs.declared.form.FormTree.{FormTree}
+use Rattle.gb_tree.specs.declared.form.Word.{Word}
+use Rattle.gb_value.specs.Form.{no_form}
+use Rattle.gb_value.specs.Path.{no_word}
+use Rattle.gb_value.specs.Program.{no_command}
+use Rattle.gb_value.specs.Sorted.{top}
+use Rattle.gb_value.specs.Values.{Values, no_values}
+use Rattle.gb_read_script.specs.Built.{made, built, tops_of}
 
 pub built_none : (t : Text) → built t [] ≡ no_values
 unfolding built
@@ -19,3 +28,12 @@ pub built_at : (t : Text) (steps : List (Step Rule)) (i : ℕ) (d : Step Rule) �
 built_at t steps i d lt =
     let e : drop i steps ≡ get_or steps i d ∷ drop (i + 1) steps = rw (add-one) (drop-cons steps i d lt) in
     ap (built t) e ∙ built_more t (get_or steps i d) (drop (i + 1) steps)
+
+-- the values on top of these stacks
+pub tops_are : (v w : Values) (command : Command) (form : FormTree) (bind : Bind) (word : Word) → v ≡ w
+    → command ≡ top no_command v.commands.commands → form ≡ top no_form v.formulas.forms.one
+    → bind ≡ top (BindTree.Memory no_word) v.paths.binds.one → word ≡ top no_word v.paths.words.one
+    → record { command = command; form = form; bind = bind; word = word } ≡ tops_of w
+tops_are v w command form bind word same a b c d =
+    let own : record { command = command; form = form; bind = bind; word = word } ≡ tops_of v = cc in
+    own ∙ ap tops_of same

@@ -4,7 +4,12 @@ use Rattle.gb_grammar.specs.declared.table.Step.{Step}
 use Rattle.gb_table.specs.declared.rule.Rule.{Rule}
 use Rattle.gb_table.specs.declared.rule.Rule.TheVariants as rules
 use Rattle.gb_text.specs.declared.text.Text.{Text}
+use Rattle.gb_tree.specs.declared.form.Bind.TheVariants as BindTree
 use Rattle.gb_value.specs.declared.values.Values.{Values}
+use Rattle.gb_value.specs.Form.{no_form}
+use Rattle.gb_value.specs.Path.{no_word}
+use Rattle.gb_value.specs.Program.{no_command}
+use Rattle.gb_value.specs.Sorted.{top}
 use Rattle.gb_value.specs.Values.{lists_made, no_values}
 use Rattle.gb_read_script.specs.Groups.{with_commands, with_forms, with_judgments, with_modules, with_patterns, with_programs, with_rules, with_steps, with_tactics}
 use Rattle.gb_read_form.specs.Atoms.{atom_made, judgment_made, call_made}
@@ -16,6 +21,7 @@ use Rattle.gb_read_program.specs.Makes.{program_made, variant_made, module_made,
 use Rattle.gb_read_step.specs.Groups.{patterns, rules as rule_stacks, steps, tactics}
 use Rattle.gb_read_step.specs.Steps.{step_made, program_step_made, given_made}
 use Rattle.gb_read_step.specs.Tactics.{tactic_made, pattern_made, argument_made}
+use Rattle.gb_read_script.specs.declared.build.Tops.{Tops}
 
 -- what a production makes at a position of a text: the new values from the old ones
 abbrev pub made : Text → Rule → ℕ → Values → Values
@@ -48,3 +54,12 @@ made t (rules.Given r) at v = with_rules v (given_made t r at (rule_stacks v.pat
 unfoldable pub built : Text → List (Step Rule) → Values
 built t [] = no_values
 built t (s ∷ steps) = made t s.rule s.at (built t steps)
+
+-- what values leave on top
+abbrev pub tops_of : Values → Tops
+tops_of v = record {
+  command = top no_command v.commands.commands;
+  form = top no_form v.formulas.forms.one;
+  bind = top (BindTree.Memory no_word) v.paths.binds.one;
+  word = top no_word v.paths.words.one;
+}

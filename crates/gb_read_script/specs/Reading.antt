@@ -19,12 +19,17 @@ use Rattle.gb_text.specs.LeftOut.{IsFirstLeftOut, NoneLeftOut}
 use Rattle.gb_text.specs.Limits.{NoneTooDeep, NoneLong}
 use Rattle.gb_text.specs.Numbers.{NoneOverflow}
 use Rattle.gb_text.specs.Places.{IsDepthPlace, IsChainPlace, IsOverflowPlace}
-use Rattle.gb_read_script.specs.Built.{built}
+use Rattle.gb_read_script.specs.declared.build.Tops.{Tops}
+use Rattle.gb_read_script.specs.Built.{built, tops_of}
 use Rattle.gb_text.specs.Text.{place_at}
 
 -- The text is one of this part, by these steps.
 abbrev pub IsText : ℕ → Text → List (Step Rule) → Type 0
 IsText part t steps = Spells language part (kinds_of t) steps
+
+-- The text is one of this part, and leaves these values on top.
+abbrev pub Leaves : ℕ → Text → Tops → Type 0
+Leaves part t tops = (steps : List (Step Rule)) × IsText part t steps × (tops ≡ tops_of (built t steps))
 
 -- The text spells this command.
 abbrev pub SpellsCommand : Text → Command → Type 0

@@ -1,30 +1,58 @@
 // From the steps of a text to its values.
 
-ghost use Rattle.std.specs.Prelude.{◌≡◌, OnOk};
-ghost use Rattle.gb_value.specs.Values.{no_values};
-ghost use Rattle.gb_read_script.specs.Built.{built};
+ghost use Rattle.std.specs.Prelude.{◌≡◌, IfOk};
+ghost use Rattle.gb_value.specs.Form.{no_form};
+ghost use Rattle.gb_value.specs.Sorted.{top};
+ghost use Rattle.gb_read_script.specs.Built.{built, tops_of};
 
 use crate::dispatch::make;
 use gb_grammar::table::Step;
 use gb_table::rule::Rule;
+use gb_text::stack::Stack;
 use gb_text::text::Text;
-use gb_value::values::Values;
+use gb_tree::command::Command;
+use gb_tree::form::{Bind, FormTree, Word};
+use gb_value::form::no_form;
+use gb_value::path::no_word;
+use gb_value::program::no_command;
+use gb_value::take::{take, take_word};
+use gb_value::values::no_values;
+use sqlite_items::Boxed;
 use std::alloc::{AllocError, Global};
 
-/// Puts the values that the steps of a text leave on empty stacks.
-#[tactic(auto, using(crate::proofs::Builds::built_none, crate::proofs::Builds::built_at))]
-pub fn fill(
-    alloc: Global,
-    text: &Text,
-    steps: &[Step<Rule>],
-    values: &mut Values,
-) -> Result<(), AllocError>
-    requires { values.old ≡ no_values }
-    ensures { OnOk result (values.new ≡ built text.now steps.now) }
+/// The values that a text leaves on top, of each sort that a text may be; fixed ones where it leaves none.
+#[derive(Drop)]
+pub struct Tops {
+    pub command: Command,
+    pub form: FormTree,
+    pub bind: Bind,
+    pub word: Word,
+}
+
+// The form on top of a stack, or the fixed one.
+fn first_form(forms: &mut Stack<Boxed<FormTree>>) -> FormTree
+    ensures { result ≡ top no_form forms.old }
 {
+    match forms.pop() {
+        Some(form) => form.into_inner(),
+        None => no_form(),
+    }
+}
+
+/// Puts together the values that the steps of a text make.
+#[tactic(auto, using(crate::proofs::Builds::built_none, crate::proofs::Builds::built_at))]
+pub fn build(alloc: Global, text: &Text, steps: &[Step<Rule>]) -> Result<Tops, AllocError>
+    ensures { IfOk result (λ t. t ≡ tops_of (built text.now steps.now)) }
+{
+    let mut values = no_values(alloc);
     for i in (0..steps.len()).rev() {
         let step = steps[i];
-        make(alloc, text, step.rule, step.at, values)?;
+        make(alloc, text, step.rule, step.at, &mut values)?;
     }
-    Ok(())
+    Ok(Tops {
+        command: take(&mut values.commands.commands, no_command()),
+        form: first_form(&mut values.formulas.forms.one),
+        bind: take(&mut values.paths.binds.one, Bind::Memory(no_word(alloc))),
+        word: take_word(alloc, &mut values.paths.words.one),
+    })
 }

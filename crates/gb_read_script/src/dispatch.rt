@@ -3,7 +3,7 @@
 ghost use Rattle.std.specs.Prelude.{◌≡◌, OnOk};
 ghost use Rattle.gb_read_script.specs.Built.{made};
 
-use crate::lists::make_lists;
+use crate::lists::{command_list, formula_list, path_list, program_list, rule_list, tactic_list};
 use gb_read_form::atom::{atom, call, judgment};
 use gb_read_form::form::{form, operand, suffix};
 use gb_read_form::path::{bind, path, type_tree, word};
@@ -27,7 +27,14 @@ pub fn make(
     ensures { OnOk result (values.new ≡ made text.now rule at values.old) }
 {
     match rule {
-        Rule::List(sort, rule) => make_lists(alloc, sort, rule, values),
+        Rule::List(sort, rule) => {
+            path_list(alloc, sort, rule, &mut values.paths)?;
+            formula_list(alloc, sort, rule, &mut values.formulas)?;
+            program_list(alloc, sort, rule, &mut values.programs)?;
+            command_list(alloc, sort, rule, &mut values.commands)?;
+            tactic_list(alloc, sort, rule, &mut values.tactics)?;
+            rule_list(alloc, sort, rule, &mut values.rules)
+        }
         Rule::Same | Rule::Level(_) => Ok(()),
         Rule::Word(rule) => word(alloc, text, rule, at, &mut values.paths),
         Rule::Ty(rule) => type_tree(alloc, text, rule, at, &mut values.paths),

@@ -18,13 +18,9 @@ ghost use Rattle.gb_text.specs.LeftOut.{NoneLeftOut};
 ghost use Rattle.gb_text.specs.Lexeme.{kinds_of, text_at};
 ghost use Rattle.gb_text.specs.Limits.{NoneTooDeep, NoneLong};
 ghost use Rattle.gb_text.specs.Numbers.{NoneOverflow};
-ghost use Rattle.gb_value.specs.Form.{no_form};
-ghost use Rattle.gb_value.specs.Program.{no_command};
-ghost use Rattle.gb_value.specs.Sorted.{top};
-ghost use Rattle.gb_read_script.specs.Built.{built};
-ghost use Rattle.gb_read_script.specs.Reading.{IsText, SpellsCommand, SpellsForm, IsLeftOutPlace, IsStop, IsExcess, IsLimit, IsFault, IsRefusal, IsWithin, IsAllowed};
+ghost use Rattle.gb_read_script.specs.Reading.{IsText, Leaves, SpellsCommand, SpellsForm, IsLeftOutPlace, IsStop, IsExcess, IsLimit, IsFault, IsRefusal, IsWithin, IsAllowed};
 
-use crate::build::fill;
+use crate::build::{Tops, build};
 use gb_core::place::Place;
 use gb_core::refusal::{Refused, Why};
 use gb_grammar::error::ReadError;
@@ -36,16 +32,10 @@ use gb_table::rule::Rule;
 use gb_text::checks::{check_chains, check_depth, check_numbers};
 use gb_text::left_out::first_left_out;
 use gb_text::lexeme::{kinds, text};
-use gb_text::stack::Stack;
 use gb_text::text::{Text, place_at};
 use gb_tree::command::Command;
 use gb_tree::form::FormTree;
-use gb_value::form::no_form;
-use gb_value::program::no_command;
-use gb_value::take::take;
-use gb_value::values::no_values;
-use sqlite_items::Boxed;
-use std::alloc::{AllocError, Global};
+use std::alloc::Global;
 
 // The steps by which a text is one of this part.
 fn read(alloc: Global, text: &Text, part: u8) -> Result<Vec<Step<Rule>>, ReadError<Rule>>
@@ -152,54 +142,40 @@ pub fn checked_text(
     }
 }
 
-// A text, and the steps by which it is one of this part and passes no limit.
-fn with_steps(alloc: Global, text: Text, part: u8) -> Result<(Text, Vec<Step<Rule>>), Refused>
+// What a text of this part leaves which passes no limit.
+fn text_tops(alloc: Global, text: &Text, part: u8) -> Result<Tops, Refused>
     requires { IsPart part }
-    ensures text { IfOk result (λ d. d.0 ≡ text) }
-    ensures found { IfOk result (λ d. IsText part text d.1.items) }
-    ensures within { OnOk result (IsWithin part text) }
-    ensures only { IsWithin part text → MatchResult result (λ _. Unit {0}) (λ e. e ≡ NoMemory) }
+    ensures found { IfOk result (Leaves part text.now) }
+    ensures within { OnOk result (IsWithin part text.now) }
+    ensures only { IsWithin part text.now → MatchResult result (λ _. Unit {0}) (λ e. e ≡ NoMemory) }
     ensures no_fault { IfErr result (λ e. e ≢ ReadFault) }
-    ensures fault { (why : Why) (place : Place) → result ≡ Err (Script why place) → IsFault part text why place }
+    ensures fault { (why : Why) (place : Place) → result ≡ Err (Script why place) → IsFault part text.now why place }
 {
-    match steps(alloc, &text, part) {
-        Ok(steps) => Ok((text, steps)),
+    match steps(alloc, text, part) {
+        Ok(steps) => match build(alloc, text, steps.as_slice()) {
+            Ok(tops) => Ok(tops),
+            Err(_) => Err(Refused::NoMemory),
+        },
         Err(refused) => Err(refused),
     }
 }
 
-// The text that has these tokens, and the steps by which it is one of this part and passes no limit.
-fn derived(
-    alloc: Global,
-    bytes: &[u8],
-    tokens: &Tokens,
-    at: Place,
-    part: u8,
-) -> Result<(Text, Vec<Step<Rule>>), Refused>
+// What the text of these tokens leaves, which is one of this part and passes no limit.
+fn tops(alloc: Global, bytes: &[u8], tokens: &Tokens, at: Place, part: u8) -> Result<Tops, Refused>
     requires start { IsPart part }
     requires spans { AreSpans 0 tokens.now (length bytes.now) }
     requires line { at.line + length bytes.now < 2 ^ 32 }
     requires column { at.col + length bytes.now < 2 ^ 32 }
-    ensures text { IfOk result (λ d. d.0 ≡ text_at bytes.now at tokens.now) }
-    ensures found { IfOk result (λ d. IsText part (text_at bytes.now at tokens.now) d.1.items) }
+    ensures found { IfOk result (Leaves part (text_at bytes.now at tokens.now)) }
     ensures allowed { OnOk result (IsAllowed part (text_at bytes.now at tokens.now)) }
     ensures only { IsAllowed part (text_at bytes.now at tokens.now) → MatchResult result (λ _. Unit {0}) (λ e. e ≡ NoMemory) }
     ensures no_fault { IfErr result (λ e. e ≢ ReadFault) }
     ensures refused { (why : Why) (place : Place) → result ≡ Err (Script why place) → IsRefusal part (text_at bytes.now at tokens.now) why place }
 {
     match checked_text(alloc, bytes, tokens, at) {
-        Ok(text) => with_steps(alloc, text, part),
+        Ok(text) => text_tops(alloc, &text, part),
         Err(refused) => Err(refused),
     }
-}
-
-// The command that the steps of a text leave.
-fn command_left(alloc: Global, text: &Text, steps: &[Step<Rule>]) -> Result<Command, AllocError>
-    ensures { IfOk result (λ c. c ≡ top no_command (built text.now steps.now).commands.commands) }
-{
-    let mut values = no_values(alloc);
-    fill(alloc, text, steps, &mut values)?;
-    Ok(take(&mut values.commands.commands, no_command()))
 }
 
 /// The command that these tokens of a text spell; the text begins at the place `at`.
@@ -217,32 +193,10 @@ pub fn command(alloc: Global, text: &[u8], tokens: &Tokens, at: Place) -> Result
     ensures no_fault { IfErr result (λ e. e ≢ ReadFault) }
     ensures refused { (why : Why) (place : Place) → result ≡ Err (Script why place) → IsRefusal COMMAND (text_at text.now at tokens.now) why place }
 {
-    match derived(alloc, text, tokens, at, COMMAND) {
-        Ok((text, steps)) => match command_left(alloc, &text, steps.as_slice()) {
-            Ok(command) => Ok(command),
-            Err(_) => Err(Refused::NoMemory),
-        },
+    match tops(alloc, text, tokens, at, COMMAND) {
+        Ok(tops) => Ok(tops.command),
         Err(refused) => Err(refused),
     }
-}
-
-/// The form on top of a stack, or the fixed one.
-pub fn first_form(forms: &mut Stack<Boxed<FormTree>>) -> FormTree
-    ensures { result ≡ top no_form forms.old }
-{
-    match forms.pop() {
-        Some(form) => form.into_inner(),
-        None => no_form(),
-    }
-}
-
-// The form that the steps of a text leave.
-fn form_left(alloc: Global, text: &Text, steps: &[Step<Rule>]) -> Result<FormTree, AllocError>
-    ensures { IfOk result (λ f. f ≡ top no_form (built text.now steps.now).formulas.forms.one) }
-{
-    let mut values = no_values(alloc);
-    fill(alloc, text, steps, &mut values)?;
-    Ok(first_form(&mut values.formulas.forms.one))
 }
 
 /// The form that these tokens of a text spell, as [`command`] reads commands.
@@ -256,11 +210,8 @@ pub fn form(alloc: Global, text: &[u8], tokens: &Tokens, at: Place) -> Result<Fo
     ensures no_fault { IfErr result (λ e. e ≢ ReadFault) }
     ensures refused { (why : Why) (place : Place) → result ≡ Err (Script why place) → IsRefusal FORM (text_at text.now at tokens.now) why place }
 {
-    match derived(alloc, text, tokens, at, FORM) {
-        Ok((text, steps)) => match form_left(alloc, &text, steps.as_slice()) {
-            Ok(form) => Ok(form),
-            Err(_) => Err(Refused::NoMemory),
-        },
+    match tops(alloc, text, tokens, at, FORM) {
+        Ok(tops) => Ok(tops.form),
         Err(refused) => Err(refused),
     }
 }

@@ -3,7 +3,7 @@
 use gb_core::place::Place;
 use gb_core::refusal::{Refused, Why, code};
 use gb_lex::lexing::tokens;
-use gb_read_goal::goal::goal;
+use gb_read_script::goal::goal;
 use gb_read_script::reading::{command, form};
 use gb_tree::goal::{EntryTree, SequentTree};
 use std::alloc::{AllocError, Global};

@@ -1,3 +1,0 @@
-pub mod Goal
-pub mod Line
-pub mod Reading

@@ -1,0 +1,192 @@
+-- The text of a goal is refused for one reason at most, at one place.
+use Rattle.std.specs.Prelude.{◌≡◌, ℕ, ℤ, List, [], ◌∷◌, Option, Some, None, min, max, take}
+use Rattle.std.specs.List.{All}
+use Rattle.std.proofs.Common.{ap, sym, subst, ◌∙◌, inl, inr, arith}
+use Rattle.std.proofs.lemmas.Bool.{false≢true}
+use Rattle.std.proofs.lemmas.List.Elements.{All-head, All-tail}
+use Rattle.gb_core.specs.declared.place.Place.{Place}
+use Rattle.gb_core.specs.declared.refusal.Refused.TheVariants.{Script}
+use Rattle.gb_core.specs.declared.refusal.Why.{Why}
+use Rattle.gb_core.specs.declared.refusal.Why.TheVariants.{Character, Overflow}
+use Rattle.gb_grammar.specs.declared.table.Step.{Step}
+use Rattle.gb_lex.specs.Lex.{fault_of}
+use Rattle.gb_lex.specs.PlaceAfter.{place_after}
+use Rattle.gb_table.specs.declared.rule.Rule.{Rule}
+use Rattle.gb_text.specs.declared.text.Text.{Text}
+use Rattle.gb_text.specs.LeftOut.{IsFirstLeftOut, NoneLeftOut}
+use Rattle.gb_text.specs.Text.{place_at}
+use Rattle.gb_text.specs.Limits.{IsFirstLong}
+use Rattle.gb_text.specs.Numbers.{IsFirstOverflow}
+use Rattle.gb_read_script.specs.Reading.{IsLeftOutPlace}
+use Rattle.gb_read_script.specs.declared.goal_lines.LineSort.{LineSort}
+use Rattle.gb_read_script.specs.declared.goal_lines.LineSort.TheVariants.{Binder, Hypothesis, Conclusion}
+use Rattle.gb_read_script.specs.declared.goal_lines.ReadLine.{ReadLine}
+use Rattle.gb_read_script.specs.declared.goal_lines.ReadGoal.{ReadGoal}
+use Rattle.gb_read_script.specs.Line.{line_texts}
+use Rattle.gb_read_script.specs.GoalLines.{IsLineText, Stops, IsLineFault, IsEndingFault, IsFaultBehind, IsSyntaxPlace, IsGoal, dashes}
+use Rattle.gb_read_script.specs.Goal.{beginning, goal_text, all_lines, IsShort, IsTooLong, IsSmall, IsTooLarge, IsFirst, IsExcess, IsTokenRefusal, IsLineRefusal, IsGoalRefusal, IsWithin, IsGoalAllowed}
+use Rattle.gb_read_script.proofs.GoalUnique.{EndsEntries, same_entries, one_goal}
+
+-- one reason and one place
+abbrev Same : Why → Place → Why → Place → Type 0
+Same v p w q = (v ≡ w) × (p ≡ q)
+
+one_place : (t : Text) (i j : ℕ) (p q : Place) → i ≡ j → p ≡ place_at t i → q ≡ place_at t j → p ≡ q
+one_place t i j p q e f g = f ∙ (ap (place_at t) e ∙ sym g)
+
+-- Lines.
+
+fault_ends : (rest : List Text) (end place : Place) → IsFaultBehind rest end place → EndsEntries rest
+fault_ends [] end place h = tt
+fault_ends (l ∷ ls) end place (inl h) = (h.1.2.no_text, h.1.3.no_text)
+fault_ends (l ∷ ls) end place (inr h) = h.0.2
+
+module _
+    (one_text : (sort : LineSort) (t : Text) (a b : List (Step Rule)) → IsLineText sort t a → IsLineText sort t b → a ≡ b)
+    (one_stop : (sort : LineSort) (t : Text) (a b : ℕ) → Stops sort t a → Stops sort t b → a ≡ b) where
+  one_line_fault : (t : Text) (a b : ℕ) → IsLineFault t a → IsLineFault t b → a ≡ b
+  one_line_fault t a b x y =
+      let binder : x.0 ≡ y.0 = one_stop Binder t x.0 y.0 x.2 y.2 in
+      let hypothesis : x.1 ≡ y.1 = one_stop Hypothesis t x.1 y.1 x.3 y.3 in
+      x.5 ∙ (ap (λ (n : ℕ). max (max n x.1) (min (dashes t) 3)) binder ∙ (ap (λ (n : ℕ). max (max y.0 n) (min (dashes t) 3)) hypothesis ∙ sym y.5))
+
+  one_ending : (ls : List Text) (end p q : Place) → IsEndingFault ls end p → IsEndingFault ls end q → p ≡ q
+  one_ending [] end p q x y = x ∙ sym y
+  one_ending (l ∷ ls) end p q (inl x) (inl y) = one_place l x.0 y.0 p q (one_stop Conclusion l x.0 y.0 x.1 y.1) x.2 y.2
+  one_ending (l ∷ ls) end p q (inl x) (inr y) = absurd (x.1.no_text y.0.0 y.0.1)
+  one_ending (l ∷ ls) end p q (inr x) (inl y) = absurd (y.1.no_text x.0.0 x.0.1)
+  one_ending (l ∷ ls) end p q (inr x) (inr y) = x.2 ∙ sym y.2
+
+  one_behind : (ls : List Text) (end p q : Place) → IsFaultBehind ls end p → IsFaultBehind ls end q → p ≡ q
+  one_behind [] end p q x y = x ∙ sym y
+  one_behind (l ∷ ls) end p q (inl x) (inl y) = one_place l x.0 y.0 p q (one_line_fault l x.0 y.0 x.1 y.1) x.2 y.2
+  one_behind (l ∷ ls) end p q (inl x) (inr y) = absurd (x.1.4 y.0)
+  one_behind (l ∷ ls) end p q (inr x) (inl y) = absurd (y.1.4 x.0)
+  one_behind (l ∷ ls) end p q (inr x) (inr y) = one_ending ls end p q x.1 y.1
+
+  one_syntax_place : (lines : List Text) (end p q : Place) → IsSyntaxPlace lines end p → IsSyntaxPlace lines end q → p ≡ q
+  one_syntax_place lines end p q x y =
+      let same =
+      same_entries one_text x.entries y.entries x.rest y.rest (sym x.whole ∙ y.whole) x.each y.each
+      (fault_ends x.rest end p x.fault) (fault_ends y.rest end q y.fault) in
+      one_behind y.rest end p q (subst (λ (ls : List Text). IsFaultBehind ls end p) same.1 x.fault) y.fault
+
+  -- a goal has no fault
+  no_fault_behind : (ruler : Text) (l : ReadLine) (end p : Place) → (IsFaultBehind (ruler ∷ l.text ∷ []) end p)
+      → (((at : ℕ) → IsLineFault ruler at → ⊥) × IsLineText Conclusion l.text l.steps) → ⊥
+  no_fault_behind ruler l end p (inl x) good = good.0 x.0 x.1
+  no_fault_behind ruler l end p (inr (r, inl x)) good = x.1.no_text l.steps good.1
+  no_fault_behind ruler l end p (inr (r, inr x)) good = let more = x.1 in absurd (omega arith)
+
+  no_syntax_place : (lines : List Text) (g : ReadGoal) (end p : Place) → IsGoal lines g → IsSyntaxPlace lines end p → ⊥
+  no_syntax_place lines g end p x y =
+      let same =
+      same_entries one_text g.context y.entries (x.0.ruler ∷ g.conclusion.text ∷ []) y.rest (sym x.0.whole ∙ y.whole) x.0.each y.each
+      x.0.dashes.2 (fault_ends y.rest end p y.fault) in
+      no_fault_behind x.0.ruler g.conclusion end p (subst (λ (ls : List Text). IsFaultBehind ls end p) (sym same.1) y.fault)
+      ((λ at fault. fault.4 x.0.dashes), x.1.1)
+
+-- Limits.
+
+module _
+    (Good : ReadLine → Type 0) (Bad : ReadLine → Why → Place → Type 0)
+    (apart : (l : ReadLine) (w : Why) (p : Place) → Good l → Bad l w p → ⊥)
+    (one : (l : ReadLine) (v w : Why) (p q : Place) → Bad l v p → Bad l w q → Same v p w q) where
+  one_first : (ls : List ReadLine) (v w : Why) (p q : Place) → IsFirst Good Bad ls v p → IsFirst Good Bad ls w q → Same v p w q
+  one_first [] v w p q x y = absurd x
+  one_first (l ∷ ls) v w p q (inl x) (inl y) = one l v w p q x y
+  one_first (l ∷ ls) v w p q (inl x) (inr y) = absurd (apart l v p y.0 x)
+  one_first (l ∷ ls) v w p q (inr x) (inl y) = absurd (apart l w q x.0 y)
+  one_first (l ∷ ls) v w p q (inr x) (inr y) = one_first ls v w p q x.1 y.1
+
+  no_first : (ls : List ReadLine) (w : Why) (p : Place) → All Good ls → IsFirst Good Bad ls w p → ⊥
+  no_first [] w p good x = x
+  no_first (l ∷ ls) w p good (inl x) = apart l w p (All-head Good l ls good) x
+  no_first (l ∷ ls) w p good (inr x) = no_first ls w p (All-tail Good l ls good) x.1
+
+short_apart : (l : ReadLine) (w : Why) (p : Place) → IsShort l → IsTooLong l w p → ⊥
+unfolding IsShort IsTooLong
+short_apart l w p none x = let at = x.1.1 in false≢true (sym (none x.1.0 at.within) ∙ at.here)
+
+range_apart : (l : ReadLine) (w : Why) (p : Place) → IsSmall l → IsTooLarge l w p → ⊥
+unfolding IsSmall IsTooLarge
+range_apart l w p none x = let at = x.3 in let small = none x.0 at.within in let large = at.here in absurd (omega arith)
+
+module _
+    (one_long : (t : Text) (steps : List (Step Rule)) (i j : ℕ) → IsFirstLong t steps i → IsFirstLong t steps j → i ≡ j)
+    (one_overflow : (t : Text) (i j : ℕ) (a b c d : ℤ) → IsFirstOverflow t i a b → IsFirstOverflow t j c d → (i ≡ j) × (a ≡ c) × (b ≡ d)) where
+  one_too_long : (l : ReadLine) (v w : Why) (p q : Place) → IsTooLong l v p → IsTooLong l w q → Same v p w q
+  unfolding IsTooLong
+  one_too_long l v w p q x y = (x.0 ∙ sym y.0, one_place l.text x.1.0 y.1.0 p q (one_long l.text l.steps x.1.0 y.1.0 x.1.1 y.1.1) x.1.2 y.1.2)
+
+  one_out_of_range : (l : ReadLine) (v w : Why) (p q : Place) → IsTooLarge l v p → IsTooLarge l w q → Same v p w q
+  unfolding IsTooLarge
+  one_out_of_range l v w p q x y =
+      let same = one_overflow l.text x.0 y.0 x.1 x.2 y.1 y.2 x.3 y.3 in
+      let operands = ap (λ (left : ℤ). Overflow left x.2) same.1 ∙ ap (λ (right : ℤ). Overflow y.1 right) same.2 in
+      (x.4 ∙ (operands ∙ sym y.4), one_place l.text x.0 y.0 p q same.0 x.5 y.5)
+
+  one_excess : (g : ReadGoal) (v w : Why) (p q : Place) → IsExcess g v p → IsExcess g w q → Same v p w q
+  one_excess g v w p q (inl x) (inl y) = one_first IsShort IsTooLong short_apart one_too_long (all_lines g) v w p q x y
+  one_excess g v w p q (inl x) (inr y) = absurd (no_first IsShort IsTooLong short_apart one_too_long (all_lines g) v p y.0 x)
+  one_excess g v w p q (inr x) (inl y) = absurd (no_first IsShort IsTooLong short_apart one_too_long (all_lines g) w q x.0 y)
+  one_excess g v w p q (inr x) (inr y) = one_first IsSmall IsTooLarge range_apart one_out_of_range (all_lines g) v w p q x.1 y.1
+
+  no_excess : (g : ReadGoal) (w : Why) (p : Place) → All IsShort (all_lines g) → All IsSmall (all_lines g) → IsExcess g w p → ⊥
+  no_excess g w p short in_range (inl x) = no_first IsShort IsTooLong short_apart one_too_long (all_lines g) w p short x
+  no_excess g w p short in_range (inr x) = no_first IsSmall IsTooLarge range_apart one_out_of_range (all_lines g) w p in_range x.1
+
+-- Goals.
+
+one_character : (o : Option ℕ) (f : ℕ → Place) (a b : ℕ) (v w : Why) (p q : Place) → o ≡ Some a → o ≡ Some b
+    → Script v p ≡ Script Character (f a) → Script w q ≡ Script Character (f b) → Same v p w q
+one_character o f a b v w p q x y e h = (cc, cc)
+
+some_apart : (o : Option ℕ) (a : ℕ) → o ≡ Some a → o ≡ None → ⊥
+some_apart o a x y = cc
+
+left_out_apart : (t : Text) (p : Place) → NoneLeftOut t → IsLeftOutPlace t p → ⊥
+left_out_apart t p none x = false≢true (sym (none x.0 x.1.within) ∙ x.1.here)
+
+-- where steps, first faults and first places are unique
+module _
+    (one_text : (sort : LineSort) (t : Text) (a b : List (Step Rule)) → IsLineText sort t a → IsLineText sort t b → a ≡ b)
+    (one_stop : (sort : LineSort) (t : Text) (a b : ℕ) → Stops sort t a → Stops sort t b → a ≡ b)
+    (one_left_out : (t : Text) (i j : ℕ) → IsFirstLeftOut t i → IsFirstLeftOut t j → i ≡ j)
+    (one_long : (t : Text) (steps : List (Step Rule)) (i j : ℕ) → IsFirstLong t steps i → IsFirstLong t steps j → i ≡ j)
+    (one_overflow : (t : Text) (i j : ℕ) (a b c d : ℤ) → IsFirstOverflow t i a b → IsFirstOverflow t j c d → (i ≡ j) × (a ≡ c) × (b ≡ d)) where
+  one_token_reason : (bytes : List ℕ) (v w : Why) (p q : Place) → IsTokenRefusal bytes v p → IsTokenRefusal bytes w q → Same v p w q
+  one_token_reason bytes v w p q (inl x) (inl y) =
+      one_character (fault_of bytes) (λ (n : ℕ). place_after beginning (take n bytes)) x.0 y.0 v w p q x.1 y.1 x.2 y.2
+  one_token_reason bytes v w p q (inl x) (inr y) = absurd (some_apart (fault_of bytes) x.0 x.1 y.0)
+  one_token_reason bytes v w p q (inr x) (inl y) = absurd (some_apart (fault_of bytes) y.0 y.1 x.0)
+  one_token_reason bytes v w p q (inr x) (inr y) =
+      (x.1 ∙ sym y.1, one_place (goal_text bytes) x.2.0 y.2.0 p q (one_left_out (goal_text bytes) x.2.0 y.2.0 x.2.1 y.2.1) x.2.2 y.2.2)
+
+  token_apart : (bytes : List ℕ) (w : Why) (p : Place) → fault_of bytes ≡ None → NoneLeftOut (goal_text bytes) → IsTokenRefusal bytes w p → ⊥
+  token_apart bytes w p faultless none (inl x) = some_apart (fault_of bytes) x.0 x.1 faultless
+  token_apart bytes w p faultless none (inr x) = left_out_apart (goal_text bytes) p none x.2
+
+  one_line_reason : (t : Text) (v w : Why) (p q : Place) → IsLineRefusal t v p → IsLineRefusal t w q → Same v p w q
+  one_line_reason t v w p q (inl x) (inl y) = (x.0 ∙ sym y.0, one_syntax_place one_text one_stop (line_texts t) t.end p q x.1 y.1)
+  one_line_reason t v w p q (inl x) (inr y) = absurd (no_syntax_place one_text one_stop (line_texts t) y.0 t.end p y.1 x.1)
+  one_line_reason t v w p q (inr x) (inl y) = absurd (no_syntax_place one_text one_stop (line_texts t) x.0 t.end q x.1 y.1)
+  one_line_reason t v w p q (inr x) (inr y) =
+      let same = one_goal one_text (line_texts t) x.0 y.0 x.1 y.1 in
+      one_excess one_long one_overflow y.0 v w p q (subst (λ (g : ReadGoal). IsExcess g v p) same x.2) y.2
+
+  pub one_refusal : (bytes : List ℕ) (v w : Why) (p q : Place) → IsGoalRefusal bytes v p → IsGoalRefusal bytes w q → Same v p w q
+  one_refusal bytes v w p q (inl x) (inl y) = one_token_reason bytes v w p q x y
+  one_refusal bytes v w p q (inl x) (inr y) = absurd (token_apart bytes v p y.0 y.1 x)
+  one_refusal bytes v w p q (inr x) (inl y) = absurd (token_apart bytes w q x.0 x.1 y)
+  one_refusal bytes v w p q (inr x) (inr y) = one_line_reason (goal_text bytes) v w p q x.2 y.2
+
+  no_line_refusal : (t : Text) (g : ReadGoal) (w : Why) (p : Place) → IsWithin t g → IsLineRefusal t w p → ⊥
+  no_line_refusal t g w p a (inl x) = no_syntax_place one_text one_stop (line_texts t) g t.end p a.lines x.1
+  no_line_refusal t g w p a (inr x) =
+      let same = one_goal one_text (line_texts t) x.0 g x.1 a.lines in
+      no_excess one_long one_overflow g w p a.short a.in_range (subst (λ (h : ReadGoal). IsExcess h w p) same x.2)
+
+  pub no_refusal : (bytes : List ℕ) (w : Why) (p : Place) → IsGoalAllowed bytes → IsGoalRefusal bytes w p → ⊥
+  no_refusal bytes w p a (inl x) = token_apart bytes w p a.faultless a.left_out x
+  no_refusal bytes w p a (inr x) = no_line_refusal (goal_text bytes) a.goal w p a.within x.2
