@@ -13,7 +13,8 @@ use Rattle.gb_value.specs.Form.{no_form}
 use Rattle.gb_value.specs.Path.{no_word}
 use Rattle.gb_value.specs.Program.{no_command}
 use Rattle.gb_value.specs.Sorted.{top}
-use Rattle.gb_value.specs.Values.{Values, no_values}
+use Rattle.gb_value.specs.declared.values.Values.{Values}
+use Rattle.gb_value.specs.Values.{no_values}
 use Rattle.gb_read_script.specs.Built.{made, built, tops_of}
 
 pub built_none : (t : Text) → built t [] ≡ no_values
