@@ -34,12 +34,13 @@ terminal_of FinalDot bytes = Final
 abbrev pub bytes_of : List ℕ → Token → List ℕ
 bytes_of text t = slice_range text t.from t.to
 
+-- a token of a text, at this place
+abbrev pub placed : List ℕ → Token → Place → Lexeme
+placed text t place = record { terminal = terminal_of t.kind (bytes_of text t); word = record { name = utf8_lossy (bytes_of text t); place = place } }
+
 -- a token of a text that begins at a place
 abbrev pub lexeme_of : List ℕ → Place → Token → Lexeme
-lexeme_of text at t = record {
-  terminal = terminal_of t.kind (bytes_of text t);
-  word = record { name = utf8_lossy (bytes_of text t); place = place_after at (take t.from text) };
-}
+lexeme_of text at t = placed text t (place_after at (take t.from text))
 
 -- the tokens of a text that begins at a place
 abbrev pub text_at : List ℕ → Place → List Token → Text

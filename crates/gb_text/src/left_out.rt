@@ -1,7 +1,7 @@
 // Words of the language that this prover leaves out.
 
 ghost use Rattle.std.specs.Prelude.{◌≡◌, IfSome, IfNone};
-ghost use Rattle.gb_text.specs.LeftOut.{is_word_of, is_left_out, name_before, left_out_at, IsFirstLeftOut, NoneLeftOut};
+ghost use Rattle.gb_text.specs.LeftOut.{is_word_of, is_left_out, name_before, IsFirstLeftOut, NoneLeftOut};
 ghost use Rattle.gb_text.specs.Text.{word_at};
 
 use crate::lexeme::spells;
@@ -51,9 +51,10 @@ fn is_word_of(words: &[[u8; WIDTH]], bytes: &[u8]) -> bool
 fn is_left_out(before: &str, name: &str) -> bool
     ensures { result ≡ is_left_out before.now name.now }
 {
-    is_word_of(&LEFT_OUT, name.as_bytes())
-        || (name == "+" && before == "{")
-        || (name == "*" && before == "proc")
+    match (before, name) {
+        ("{", "+") | ("proc", "*") => true,
+        _ => is_word_of(&LEFT_OUT, name.as_bytes()),
+    }
 }
 
 fn name_at(text: &Text, at: usize) -> &str
@@ -71,19 +72,13 @@ fn name_before(text: &Text, at: usize) -> &str
     if at == 0 { "" } else { name_at(text, at - 1) }
 }
 
-fn left_out_at(text: &Text, at: usize) -> bool
-    ensures { result ≡ left_out_at text.now at }
-{
-    is_left_out(name_before(text, at), name_at(text, at))
-}
-
 /// The index of the first token that is a word left out, `+` right after `{` or `*` right after `proc`.
 pub fn first_left_out(text: &Text) -> Option<usize>
     ensures first { IfSome result (λ at. IsFirstLeftOut text.now at) }
     ensures none { IfNone result (NoneLeftOut text.now) }
 {
     for at in 0..text.lexemes.len() {
-        if left_out_at(text, at) {
+        if is_left_out(name_before(text, at), name_at(text, at)) {
             return Some(at);
         }
     }

@@ -1,7 +1,7 @@
 // Levels of nesting, and the operands of the chains in them.
 
 ghost use Rattle.std.specs.Prelude.{◌≡◌, OnOk};
-ghost use Rattle.gb_text.specs.Level.{fresh, no_implied, implied_more, disjunction_begun, conjunction_begun, conjunct_begun, sum_begun, summand_begun, factor_begun, bound_begun, tail_at, prefixed_at, operand_behind, with_form, with_operand, with_atom, terminal_before, counted, ends, ended, nested, is_opening, is_closing, bracketed, is_long};
+ghost use Rattle.gb_text.specs.Level.{fresh, operand_behind, with_form, with_operand, terminal_before, counted, ends, ended, nested, is_opening, is_closing, bracketed, is_long};
 
 use crate::stack::Stack;
 use crate::terminal::Terminal;
@@ -59,109 +59,32 @@ pub fn fresh(opening: Opening) -> Level
     }
 }
 
-fn no_implied(level: Level) -> Level
-    ensures { result ≡ no_implied level }
+fn with_form(rule: Form, at: Terminal, level: Level) -> Level
+    ensures { result ≡ with_form rule at level }
 {
-    Level {
-        implied: 0,
-        ..level
-    }
-}
-
-fn implied_more(level: Level) -> Level
-    ensures { result ≡ implied_more level }
-{
-    Level {
-        implied: level.implied.saturating_add(1),
-        ..level
-    }
-}
-
-fn disjunction_begun(level: Level) -> Level
-    ensures { result ≡ disjunction_begun level }
-{
-    Level {
-        implied: level.implied.saturating_add(1),
-        disjuncts: 0,
-        ..level
-    }
-}
-
-fn conjunction_begun(level: Level) -> Level
-    ensures { result ≡ conjunction_begun level }
-{
-    Level {
-        disjuncts: level.disjuncts.saturating_add(1),
-        conjuncts: 0,
-        ..level
-    }
-}
-
-fn conjunct_begun(level: Level) -> Level
-    ensures { result ≡ conjunct_begun level }
-{
-    Level {
-        conjuncts: level.conjuncts.saturating_add(1),
-        ..level
-    }
-}
-
-fn sum_begun(level: Level) -> Level
-    ensures { result ≡ sum_begun level }
-{
-    Level {
-        summands: 1,
-        factors: 1,
-        ..level
-    }
-}
-
-fn summand_begun(level: Level) -> Level
-    ensures { result ≡ summand_begun level }
-{
-    Level {
-        summands: level.summands.saturating_add(1),
-        factors: 1,
-        ..level
-    }
-}
-
-fn factor_begun(level: Level) -> Level
-    ensures { result ≡ factor_begun level }
-{
-    Level {
-        factors: level.factors.saturating_add(1),
-        ..level
-    }
-}
-
-// The bound of a `phoare` belongs to the operand of a prefix `-` before it.
-fn bound_begun(level: Level) -> Level
-    ensures { result ≡ bound_begun level }
-{
-    match level.opening {
-        Opening::Minus => Level {
-            opening: Opening::BoundedMinus,
+    match (rule, at) {
+        (Form::Tailed, _) | (Form::FurtherTail, Terminal::DoubleArrow) => Level {
+            implied: 0,
             ..level
         },
-        _ => level,
-    }
-}
-
-fn tail_at(terminal: Terminal, level: Level) -> Level
-    ensures { result ≡ tail_at terminal level }
-{
-    match terminal {
-        Terminal::DoubleArrow => no_implied(level),
-        _ => level,
-    }
-}
-
-fn prefixed_at(terminal: Terminal, level: Level) -> Level
-    ensures { result ≡ prefixed_at terminal level }
-{
-    match terminal {
-        Terminal::Exclamation => conjunct_begun(level),
+        (Form::Disjunction, _) => Level {
+            implied: level.implied.saturating_add(1),
+            disjuncts: 0,
+            ..level
+        },
+        (Form::OpenConclusion, _) => Level {
+            implied: level.implied.saturating_add(1),
+            ..level
+        },
+        (Form::Conjunction, _) => Level {
+            disjuncts: level.disjuncts.saturating_add(1),
+            conjuncts: 0,
+            ..level
+        },
+        (Form::Compared, _) => Level {
+            conjuncts: level.conjuncts.saturating_add(1),
+            ..level
+        },
         _ => level,
     }
 }
@@ -171,44 +94,36 @@ fn operand_behind(terminal: Terminal, level: Level) -> Level
     ensures { result ≡ operand_behind terminal level }
 {
     match terminal {
-        Terminal::Plus | Terminal::Minus | Terminal::Xor => summand_begun(level),
-        Terminal::Times | Terminal::Slash | Terminal::PowerTimes => factor_begun(level),
+        Terminal::Plus | Terminal::Minus | Terminal::Xor => Level {
+            summands: level.summands.saturating_add(1),
+            factors: 1,
+            ..level
+        },
+        Terminal::Times | Terminal::Slash | Terminal::PowerTimes => Level {
+            factors: level.factors.saturating_add(1),
+            ..level
+        },
         _ => level,
     }
 }
 
-fn with_form(rule: Form, at: Terminal, level: Level) -> Level
-    ensures { result ≡ with_form rule at level }
-{
-    match rule {
-        Form::Tailed => no_implied(level),
-        Form::FurtherTail => tail_at(at, level),
-        Form::Disjunction => disjunction_begun(level),
-        Form::OpenConclusion => implied_more(level),
-        Form::Conjunction => conjunction_begun(level),
-        Form::Compared => conjunct_begun(level),
-        _ => level,
-    }
-}
-
+// The bound of a `phoare` belongs to the operand of a prefix `-` before it.
 fn with_operand(rule: Operand, before: Terminal, level: Level) -> Level
     ensures { result ≡ with_operand rule before level }
 {
     match rule {
-        Operand::Sum => sum_begun(level),
+        Operand::Sum => Level {
+            summands: 1,
+            factors: 1,
+            ..level
+        },
         Operand::Negative | Operand::Operand | Operand::PhoareOperand => {
             operand_behind(before, level)
         }
-        Operand::Bounded => bound_begun(level),
-        _ => level,
-    }
-}
-
-fn with_atom(rule: Atom, at: Terminal, level: Level) -> Level
-    ensures { result ≡ with_atom rule at level }
-{
-    match rule {
-        Atom::Prefixed => prefixed_at(at, level),
+        Operand::Bounded if matches!(level.opening, Opening::Minus) => Level {
+            opening: Opening::BoundedMinus,
+            ..level
+        },
         _ => level,
     }
 }
@@ -230,7 +145,12 @@ pub fn counted(text: &Text, rule: Rule, at: usize, level: Level) -> Level
     match rule {
         Rule::Form(rule) => with_form(rule, terminal_at(text, at), level),
         Rule::Operand(rule) => with_operand(rule, terminal_before(text, at), level),
-        Rule::Atom(rule) => with_atom(rule, terminal_at(text, at), level),
+        Rule::Atom(Atom::Prefixed) if matches!(terminal_at(text, at), Terminal::Exclamation) => {
+            Level {
+                conjuncts: level.conjuncts.saturating_add(1),
+                ..level
+            }
+        }
         _ => level,
     }
 }

@@ -1,16 +1,15 @@
 // From tokens to lexemes.
 
-ghost use Rattle.std.specs.Prelude.{◌≡◌, ◌≤◌, ◌<◌, ◌+◌, ◌-◌, ◌^◌, IfOk, length, take, drop};
+ghost use Rattle.std.specs.Prelude.{◌≡◌, ◌≤◌, ◌<◌, ◌+◌, ◌-◌, ◌^◌, IfOk, OnOk, [], ◌∷◌, ◌++◌, length, take, drop};
 ghost use Rattle.std.specs.List.{All};
-ghost use Rattle.std.specs.Str.Lossy.{utf8_lossy};
 ghost use Rattle.gb_grammar.specs.Reading.{IsKind};
 ghost use Rattle.gb_lex.specs.Lex.{AreSpans};
 ghost use Rattle.gb_lex.specs.PlaceAfter.{place_after};
-ghost use Rattle.gb_text.specs.Lexeme.{spells, spelled_in, terminal_of, bytes_of, text_at, kinds_of};
+ghost use Rattle.gb_text.specs.Lexeme.{spells, spelled_in, terminal_of, placed, text_at, kinds_of};
 
 use crate::kind::kind;
 use crate::terminal::{SPELLINGS, Spelling, Terminal, WIDTH};
-use crate::text::{Lexeme, Text};
+use crate::text::{Lexeme, Lexemes, Text};
 use gb_core::name::Name;
 use gb_core::place::Place;
 use gb_lex::places::advance;
@@ -51,14 +50,21 @@ fn terminal(kind: Kind, bytes: &[u8]) -> Terminal
     spelled_in(&SPELLINGS, bytes).unwrap_or(unspelled)
 }
 
-fn lexeme(alloc: Global, bytes: &[u8], token: &Token, place: Place) -> Result<Lexeme, AllocError>
+// Puts a token that stands at a place behind those before it.
+fn push_lexeme(
+    alloc: Global,
+    bytes: &[u8],
+    token: &Token,
+    place: Place,
+    lexemes: &mut Lexemes,
+) -> Result<(), AllocError>
     requires ordered { token.now.from ≤ token.now.to }
     requires within { token.now.to ≤ length bytes.now }
-    ensures { IfOk result (λ l. l ≡ record { terminal = terminal_of token.now.kind (bytes_of bytes.now token.now); word = record { name = utf8_lossy (bytes_of bytes.now token.now); place = place } }) }
+    ensures { OnOk result (lexemes.new ≡ lexemes.old ++ placed bytes.now token.now place ∷ []) }
 {
     let spelling = text_of(bytes, token);
     let name = Name::new(String::from_utf8_lossy(alloc, spelling)?);
-    Ok(Lexeme {
+    lexemes.push(Lexeme {
         terminal: terminal(token.kind, spelling),
         word: Word { name, place },
     })
@@ -89,7 +95,7 @@ pub fn text(alloc: Global, bytes: &[u8], tokens: &[Token], at: Place) -> Result<
         let from = token.from as usize;
         place = later_place(place, bytes, reached, from);
         reached = from;
-        lexemes.push(lexeme(alloc, bytes, token, place)?)?;
+        push_lexeme(alloc, bytes, token, place, &mut lexemes)?;
     }
     let end = later_place(place, bytes, reached, bytes.len());
     Ok(Text { lexemes, end })

@@ -1,10 +1,9 @@
 // Stacks.
 
-ghost use Rattle.std.specs.Prelude.{◌≡◌, [], ◌∷◌, length, IfOk, OnOk, MatchOption, slice_get};
-ghost use Rattle.std.specs.Option.{option_copied};
+ghost use Rattle.std.specs.Prelude.{◌≡◌, [], ◌∷◌, length, IfOk, OnOk, MatchOption};
 
 use sqlite_items::Items;
-use std::alloc::{AllocError, AllocFailed, Global};
+use std::alloc::{AllocError, Global};
 use std::marker::Model;
 
 /// A stack; contracts see its elements from the top down. What is read from its end is put together on one.
@@ -33,23 +32,10 @@ impl<T> Stack<T> {
         }
     }
 
-    /// Puts an element on top; gives it back where there is no memory for it.
-    pub fn offer(&mut self, item: T) -> Result<(), AllocFailed<T>>
-        ensures { OnOk result (self.new ≡ item ∷ self.old) }
-    {
-        self.bottom_up.push(item)
-    }
-
     pub fn pop(&mut self) -> Option<T>
         ensures { MatchOption result ((self.old ≡ []) × (self.new ≡ [])) (λ top. self.old ≡ top ∷ self.new) }
     {
         self.bottom_up.pop()
-    }
-
-    pub fn top(&self) -> Option<&T>
-        ensures { option_copied result ≡ slice_get self.now 0 }
-    {
-        self.bottom_up.last()
     }
 
     pub fn len(&self) -> usize
@@ -65,14 +51,6 @@ impl<T> Stack<T> {
         let Stack { mut bottom_up } = self;
         bottom_up.reverse();
         Items::from_vec(bottom_up)
-    }
-
-    /// Gives the memory of a stack without elements back.
-    pub fn destroy_empty(self)
-        requires { self ≡ [] }
-    {
-        let Stack { bottom_up } = self;
-        bottom_up.destroy_empty();
     }
 }
 
@@ -92,7 +70,7 @@ impl<T: Drop> Stack<T> {
     pub fn push(&mut self, item: T) -> Result<(), AllocError>
         ensures { OnOk result (self.new ≡ item ∷ self.old) }
     {
-        self.offer(item)?;
+        self.bottom_up.push(item)?;
         Ok(())
     }
 }

@@ -1,6 +1,7 @@
-use Rattle.std.proofs.Common.{◌≡◌, ℕ, false, sym, ◌∙◌, arith}
+use Rattle.std.proofs.Common.{◌≡◌, ℕ, List, false, ap, sym, ◌∙◌, arith}
 use borrow.Author.Count.{below_more}
-use Rattle.gb_text.specs.LeftOut.{left_out_at}
+use Rattle.gb_text.specs.LeftOut.{is_left_out, left_out_at}
+use Rattle.gb_text.specs.Text.{word_at}
 use Rattle.gb_text.proofs.left_out.first_left_out.Goals as goal
 
 pub loop-at-init : goal.loop-at-init
@@ -8,4 +9,6 @@ loop-at-init c = λ j h. absurd (omega arith)
 
 pub loop-at-preserved : goal.loop-at-preserved
 loop-at-preserved c =
-    below_more (λ (j : ℕ). left_out_at c.args.text.now j ≡ false) c.loop-at.at c.loop-at.invariant (sym c.left_out_at.ensures ∙ c.if-left_out_at.false)
+    let before = ap (λ (b : List ℕ). is_left_out b (word_at c.args.text.now c.loop-at.at).name) (sym c.name_before.ensures) in
+    let name = ap (is_left_out c.name_before.result.now) (sym c.name_at.ensures) in
+    below_more (λ (j : ℕ). left_out_at c.args.text.now j ≡ false) c.loop-at.at c.loop-at.invariant (before ∙ (name ∙ (sym c.is_left_out.ensures ∙ c.if-is_left_out.false)))
