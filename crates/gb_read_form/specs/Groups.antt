@@ -15,8 +15,8 @@ pub record Judgments : Type 0 where
   pub formulas : FormulaValues
   pub statements : List (List Statement)
 
-abbrev pub forms : PathValues → FormulaValues → Forms
-forms p f = record { paths = p; formulas = f }
+abbrev pub forms_of : PathValues → FormulaValues → Forms
+forms_of p f = record { paths = p; formulas = f }
 
-abbrev pub judgments : PathValues → FormulaValues → List (List Statement) → Judgments
-judgments p f s = record { paths = p; formulas = f; statements = s }
+abbrev pub judgments_of : PathValues → FormulaValues → List (List Statement) → Judgments
+judgments_of p f s = record { paths = p; formulas = f; statements = s }

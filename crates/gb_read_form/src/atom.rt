@@ -1,6 +1,6 @@
 // What each production of atoms, judgments and calls makes.
 
-ghost use Rattle.gb_read_form.specs.Groups.{forms, judgments};
+ghost use Rattle.gb_read_form.specs.Groups.{forms_of, judgments_of};
 ghost use Rattle.gb_read_form.specs.Atoms.{atom_made, call_made, judgment_made};
 ghost use Rattle.std.specs.Prelude.{OnOk, ◌≡◌};
 
@@ -37,7 +37,7 @@ pub fn atom(
     paths: &mut PathValues,
     formulas: &mut FormulaValues,
 ) -> Result<(), AllocError>
-    ensures { OnOk result (forms paths.new formulas.new ≡ atom_made text.now rule at (forms paths.old formulas.old)) }
+    ensures { OnOk result (forms_of paths.new formulas.new ≡ atom_made text.now rule at (forms_of paths.old formulas.old)) }
 {
     let shape = match rule {
         Atom::Constant => constant(terminal_at(text, at)),
@@ -137,7 +137,7 @@ pub fn judgment(
     formulas: &mut FormulaValues,
     statements: &mut Stack<Stack<Statement>>,
 ) -> Result<(), AllocError>
-    ensures { OnOk result (judgments paths.new formulas.new statements.new ≡ judgment_made text.now rule at (judgments paths.old formulas.old statements.old)) }
+    ensures { OnOk result (judgments_of paths.new formulas.new statements.new ≡ judgment_made text.now rule at (judgments_of paths.old formulas.old statements.old)) }
 {
     let shape = match rule {
         JudgmentRule::Hoare => {
@@ -215,7 +215,7 @@ pub fn call(
     paths: &mut PathValues,
     formulas: &mut FormulaValues,
 ) -> Result<(), AllocError>
-    ensures { OnOk result (forms paths.new formulas.new ≡ call_made rule (forms paths.old formulas.old)) }
+    ensures { OnOk result (forms_of paths.new formulas.new ≡ call_made rule (forms_of paths.old formulas.old)) }
 {
     match rule {
         Call::Call => {

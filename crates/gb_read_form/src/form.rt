@@ -1,6 +1,6 @@
 // What each production of forms, operands and suffixes makes.
 
-ghost use Rattle.gb_read_form.specs.Groups.{forms};
+ghost use Rattle.gb_read_form.specs.Groups.{forms_of};
 ghost use Rattle.gb_read_form.specs.Forms.{form_made, operand_made, suffix_made};
 ghost use Rattle.std.specs.Prelude.{OnOk, ◌≡◌};
 
@@ -35,7 +35,7 @@ pub fn form(
     paths: &mut PathValues,
     formulas: &mut FormulaValues,
 ) -> Result<(), AllocError>
-    ensures { OnOk result (forms paths.new formulas.new ≡ form_made text.now rule at (forms paths.old formulas.old)) }
+    ensures { OnOk result (forms_of paths.new formulas.new ≡ form_made text.now rule at (forms_of paths.old formulas.old)) }
 {
     let made = match rule {
         Form::Quantified => {
@@ -195,7 +195,7 @@ pub fn suffix(
     paths: &mut PathValues,
     formulas: &mut FormulaValues,
 ) -> Result<(), AllocError>
-    ensures { OnOk result (forms paths.new formulas.new ≡ suffix_made text.now rule at (forms paths.old formulas.old)) }
+    ensures { OnOk result (forms_of paths.new formulas.new ≡ suffix_made text.now rule at (forms_of paths.old formulas.old)) }
 {
     match rule {
         SuffixRule::Entry => {

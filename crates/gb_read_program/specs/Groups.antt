@@ -27,11 +27,11 @@ pub record Commands : Type 0 where
   pub tactics : List TacticTree
   pub commands : CommandValues
 
-abbrev pub programs : PathValues → FormulaValues → ProgramValues → Programs
-programs p f s = record { paths = p; formulas = f; programs = s }
+abbrev pub programs_of : PathValues → FormulaValues → ProgramValues → Programs
+programs_of p f s = record { paths = p; formulas = f; programs = s }
 
-abbrev pub modules : PathValues → FormulaValues → ProgramValues → List CommandShape → Modules
-modules p f s cs = record { paths = p; formulas = f; programs = s; shapes = cs }
+abbrev pub modules_of : PathValues → FormulaValues → ProgramValues → List CommandShape → Modules
+modules_of p f s cs = record { paths = p; formulas = f; programs = s; shapes = cs }
 
-abbrev pub commands : PathValues → FormulaValues → List TacticTree → CommandValues → Commands
-commands p f ts c = record { paths = p; formulas = f; tactics = ts; commands = c }
+abbrev pub commands_of : PathValues → FormulaValues → List TacticTree → CommandValues → Commands
+commands_of p f ts c = record { paths = p; formulas = f; tactics = ts; commands = c }

@@ -1,6 +1,6 @@
 // What each production of definitions and commands makes.
 
-ghost use Rattle.gb_read_program.specs.Groups.{commands};
+ghost use Rattle.gb_read_program.specs.Groups.{commands_of};
 ghost use Rattle.gb_read_program.specs.Makes.{command_made, definition_made};
 ghost use Rattle.std.specs.Prelude.{OnOk, ◌≡◌};
 
@@ -35,7 +35,7 @@ pub fn definition(
     tactics: &mut Stack<TacticTree>,
     commands: &mut CommandValues,
 ) -> Result<(), AllocError>
-    ensures { OnOk result (commands paths.new formulas.new tactics.new commands.new ≡ definition_made rule (commands paths.old formulas.old tactics.old commands.old)) }
+    ensures { OnOk result (commands_of paths.new formulas.new tactics.new commands.new ≡ definition_made rule (commands_of paths.old formulas.old tactics.old commands.old)) }
 {
     match rule {
         Definition::AbstractType => commands.type_definitions.push(TypeDefinition::Abstract),
@@ -123,7 +123,7 @@ pub fn command(
     tactics: &mut Stack<TacticTree>,
     commands: &mut CommandValues,
 ) -> Result<(), AllocError>
-    ensures { OnOk result (commands paths.new formulas.new tactics.new commands.new ≡ command_made text.now rule at (commands paths.old formulas.old tactics.old commands.old)) }
+    ensures { OnOk result (commands_of paths.new formulas.new tactics.new commands.new ≡ command_made text.now rule at (commands_of paths.old formulas.old tactics.old commands.old)) }
 {
     let made = match rule {
         CommandRule::Require => {

@@ -1,6 +1,6 @@
 // What each production of statements and modules makes.
 
-ghost use Rattle.gb_read_program.specs.Groups.{modules, programs};
+ghost use Rattle.gb_read_program.specs.Groups.{modules_of, programs_of};
 ghost use Rattle.gb_read_program.specs.Makes.{module_made, program_made, variant_made};
 ghost use Rattle.std.specs.Prelude.{OnOk, ◌≡◌};
 
@@ -42,7 +42,7 @@ pub fn program(
     formulas: &mut FormulaValues,
     programs: &mut ProgramValues,
 ) -> Result<(), AllocError>
-    ensures { OnOk result (programs paths.new formulas.new programs.new ≡ program_made text.now rule at (programs paths.old formulas.old programs.old)) }
+    ensures { OnOk result (programs_of paths.new formulas.new programs.new ≡ program_made text.now rule at (programs_of paths.old formulas.old programs.old)) }
 {
     let made = match rule {
         Program::Dotted => {
@@ -125,7 +125,7 @@ pub fn variant(
     formulas: &mut FormulaValues,
     programs: &mut ProgramValues,
 ) -> Result<(), AllocError>
-    ensures { OnOk result (programs paths.new formulas.new programs.new ≡ variant_made rule (programs paths.old formulas.old programs.old)) }
+    ensures { OnOk result (programs_of paths.new formulas.new programs.new ≡ variant_made rule (programs_of paths.old formulas.old programs.old)) }
 {
     let made = match rule {
         Loop::Suffix => {
@@ -169,7 +169,7 @@ pub fn module(
     programs: &mut ProgramValues,
     shapes: &mut Stack<CommandShape>,
 ) -> Result<(), AllocError>
-    ensures { OnOk result (modules paths.new formulas.new programs.new shapes.new ≡ module_made rule (modules paths.old formulas.old programs.old shapes.old)) }
+    ensures { OnOk result (modules_of paths.new formulas.new programs.new shapes.new ≡ module_made rule (modules_of paths.old formulas.old programs.old shapes.old)) }
 {
     match rule {
         Module::Module => {

@@ -14,11 +14,11 @@ use Rattle.gb_value.specs.Values.{lists_made, no_values}
 use Rattle.gb_read_script.specs.Groups.{with_commands, with_forms, with_judgments, with_modules, with_patterns, with_programs, with_rules, with_steps, with_tactics}
 use Rattle.gb_read_form.specs.Atoms.{atom_made, judgment_made, call_made}
 use Rattle.gb_read_form.specs.Forms.{form_made, operand_made, suffix_made}
-use Rattle.gb_read_form.specs.Groups.{forms, judgments}
+use Rattle.gb_read_form.specs.Groups.{forms_of, judgments_of}
 use Rattle.gb_read_form.specs.Paths.{word_made, type_made, bind_made, path_made}
-use Rattle.gb_read_program.specs.Groups.{commands, modules, programs}
+use Rattle.gb_read_program.specs.Groups.{commands_of, modules_of, programs_of}
 use Rattle.gb_read_program.specs.Makes.{program_made, variant_made, module_made, definition_made, command_made}
-use Rattle.gb_read_step.specs.Groups.{patterns, rules as rule_stacks, steps, tactics}
+use Rattle.gb_read_step.specs.Groups.{patterns_of, rules_of, steps_of, tactics_of}
 use Rattle.gb_read_step.specs.Steps.{step_made, program_step_made, given_made}
 use Rattle.gb_read_step.specs.Tactics.{tactic_made, pattern_made, argument_made}
 use Rattle.gb_read_script.specs.declared.build.Tops.{Tops}
@@ -32,23 +32,23 @@ made t (rules.Word r) at v = record v { paths = word_made t r at v.paths }
 made t (rules.Ty r) at v = record v { paths = type_made t r at v.paths }
 made t (rules.Bind r) at v = record v { paths = bind_made r v.paths }
 made t (rules.Path r) at v = record v { paths = path_made r v.paths }
-made t (rules.Form r) at v = with_forms v (form_made t r at (forms v.paths v.formulas))
+made t (rules.Form r) at v = with_forms v (form_made t r at (forms_of v.paths v.formulas))
 made t (rules.Operand r) at v = record v { formulas = operand_made t r at v.formulas }
-made t (rules.Suffix r) at v = with_forms v (suffix_made t r at (forms v.paths v.formulas))
-made t (rules.Atom r) at v = with_forms v (atom_made t r at (forms v.paths v.formulas))
-made t (rules.Judgment r) at v = with_judgments v (judgment_made t r at (judgments v.paths v.formulas v.programs.statements.lists))
-made t (rules.Call r) at v = with_forms v (call_made r (forms v.paths v.formulas))
-made t (rules.Program r) at v = with_programs v (program_made t r at (programs v.paths v.formulas v.programs))
-made t (rules.Loop r) at v = with_programs v (variant_made r (programs v.paths v.formulas v.programs))
-made t (rules.«Module» r) at v = with_modules v (module_made r (modules v.paths v.formulas v.programs v.commands.shapes))
-made t (rules.Definition r) at v = with_commands v (definition_made r (commands v.paths v.formulas v.tactics.tactics.one v.commands))
-made t (rules.Command r) at v = with_commands v (command_made t r at (commands v.paths v.formulas v.tactics.tactics.one v.commands))
-made t (rules.Tactic r) at v = with_tactics v (tactic_made t r at (tactics v.paths.numbers.one v.rules.rules v.tactics))
-made t (rules.Pattern r) at v = with_patterns v (pattern_made t r at (patterns v.paths.words.one v.tactics.patterns.one v.tactics.pairings))
-made t (rules.Argument r) at v = with_rules v (argument_made t r at (rule_stacks v.paths v.formulas v.rules))
-made t (rules.Step r) at v = with_steps v (step_made t r at (steps v.paths v.formulas v.tactics.patterns.lists v.rules))
-made t (rules.ProgramStep r) at v = with_rules v (program_step_made t r at (rule_stacks v.paths v.formulas v.rules))
-made t (rules.Given r) at v = with_rules v (given_made t r at (rule_stacks v.paths v.formulas v.rules))
+made t (rules.Suffix r) at v = with_forms v (suffix_made t r at (forms_of v.paths v.formulas))
+made t (rules.Atom r) at v = with_forms v (atom_made t r at (forms_of v.paths v.formulas))
+made t (rules.Judgment r) at v = with_judgments v (judgment_made t r at (judgments_of v.paths v.formulas v.programs.statements.lists))
+made t (rules.Call r) at v = with_forms v (call_made r (forms_of v.paths v.formulas))
+made t (rules.Program r) at v = with_programs v (program_made t r at (programs_of v.paths v.formulas v.programs))
+made t (rules.Loop r) at v = with_programs v (variant_made r (programs_of v.paths v.formulas v.programs))
+made t (rules.«Module» r) at v = with_modules v (module_made r (modules_of v.paths v.formulas v.programs v.commands.shapes))
+made t (rules.Definition r) at v = with_commands v (definition_made r (commands_of v.paths v.formulas v.tactics.tactics.one v.commands))
+made t (rules.Command r) at v = with_commands v (command_made t r at (commands_of v.paths v.formulas v.tactics.tactics.one v.commands))
+made t (rules.Tactic r) at v = with_tactics v (tactic_made t r at (tactics_of v.paths.numbers.one v.rules.rules v.tactics))
+made t (rules.Pattern r) at v = with_patterns v (pattern_made t r at (patterns_of v.paths.words.one v.tactics.patterns.one v.tactics.pairings))
+made t (rules.Argument r) at v = with_rules v (argument_made t r at (rules_of v.paths v.formulas v.rules))
+made t (rules.Step r) at v = with_steps v (step_made t r at (steps_of v.paths v.formulas v.tactics.patterns.lists v.rules))
+made t (rules.ProgramStep r) at v = with_rules v (program_step_made t r at (rules_of v.paths v.formulas v.rules))
+made t (rules.Given r) at v = with_rules v (given_made t r at (rules_of v.paths v.formulas v.rules))
 
 -- The productions of these steps, run from the last to the first, leave these values.
 unfoldable pub built : Text → List (Step Rule) → Values

@@ -35,14 +35,14 @@ pub record Steps : Type 0 where
   pub patterns : List (List PatternTree)
   pub rules : RuleValues
 
-abbrev pub patterns : List Word → List PatternTree → List Pairing → Patterns
-patterns ws ps qs = record { words = ws; patterns = ps; pairings = qs }
+abbrev pub patterns_of : List Word → List PatternTree → List Pairing → Patterns
+patterns_of ws ps qs = record { words = ws; patterns = ps; pairings = qs }
 
-abbrev pub tactics : List Number → List RuleTree → TacticValues → Tactics
-tactics ns rs ts = record { numbers = ns; rules = rs; tactics = ts }
+abbrev pub tactics_of : List Number → List RuleTree → TacticValues → Tactics
+tactics_of ns rs ts = record { numbers = ns; rules = rs; tactics = ts }
 
-abbrev pub rules : PathValues → FormulaValues → RuleValues → Rules
-rules p f r = record { paths = p; formulas = f; rules = r }
+abbrev pub rules_of : PathValues → FormulaValues → RuleValues → Rules
+rules_of p f r = record { paths = p; formulas = f; rules = r }
 
-abbrev pub steps : PathValues → FormulaValues → List (List PatternTree) → RuleValues → Steps
-steps p f ps r = record { paths = p; formulas = f; patterns = ps; rules = r }
+abbrev pub steps_of : PathValues → FormulaValues → List (List PatternTree) → RuleValues → Steps
+steps_of p f ps r = record { paths = p; formulas = f; patterns = ps; rules = r }

@@ -1,6 +1,6 @@
 // What each production of rules makes.
 
-ghost use Rattle.gb_read_step.specs.Groups.{rules, steps};
+ghost use Rattle.gb_read_step.specs.Groups.{rules_of, steps_of};
 ghost use Rattle.gb_read_step.specs.Steps.{given_made, program_step_made, step_made};
 ghost use Rattle.std.specs.Prelude.{OnOk, ◌≡◌};
 
@@ -42,7 +42,7 @@ pub fn step(
     patterns: &mut Stack<Stack<PatternTree>>,
     rules: &mut RuleValues,
 ) -> Result<(), AllocError>
-    ensures { OnOk result (steps paths.new formulas.new patterns.new rules.new ≡ step_made text.now rule at (steps paths.old formulas.old patterns.old rules.old)) }
+    ensures { OnOk result (steps_of paths.new formulas.new patterns.new rules.new ≡ step_made text.now rule at (steps_of paths.old formulas.old patterns.old rules.old)) }
 {
     let made = match rule {
         // Rules of one word, and laws of probability.
@@ -112,7 +112,7 @@ pub fn program_step(
     formulas: &mut FormulaValues,
     rules: &mut RuleValues,
 ) -> Result<(), AllocError>
-    ensures { OnOk result (rules paths.new formulas.new rules.new ≡ program_step_made text.now rule at (rules paths.old formulas.old rules.old)) }
+    ensures { OnOk result (rules_of paths.new formulas.new rules.new ≡ program_step_made text.now rule at (rules_of paths.old formulas.old rules.old)) }
 {
     let bodies = take_bodies(alloc, &mut formulas.sides.lists);
     let made = match rule {
@@ -207,7 +207,7 @@ pub fn given(
     formulas: &mut FormulaValues,
     rules: &mut RuleValues,
 ) -> Result<(), AllocError>
-    ensures { OnOk result (rules paths.new formulas.new rules.new ≡ given_made text.now rule at (rules paths.old formulas.old rules.old)) }
+    ensures { OnOk result (rules_of paths.new formulas.new rules.new ≡ given_made text.now rule at (rules_of paths.old formulas.old rules.old)) }
 {
     match rule {
         // The form of `have H : F`.

@@ -1,6 +1,6 @@
 // What each production of tactics, patterns and lemmas makes.
 
-ghost use Rattle.gb_read_step.specs.Groups.{patterns, rules, tactics};
+ghost use Rattle.gb_read_step.specs.Groups.{patterns_of, rules_of, tactics_of};
 ghost use Rattle.gb_read_step.specs.Tactics.{argument_made, pattern_made, tactic_made};
 ghost use Rattle.std.specs.Prelude.{OnOk, ◌≡◌};
 
@@ -37,7 +37,7 @@ pub fn pattern(
     patterns: &mut Stack<PatternTree>,
     pairings: &mut Stack<Pairing>,
 ) -> Result<(), AllocError>
-    ensures { OnOk result (patterns words.new patterns.new pairings.new ≡ pattern_made text.now rule at (patterns words.old patterns.old pairings.old)) }
+    ensures { OnOk result (patterns_of words.new patterns.new pairings.new ≡ pattern_made text.now rule at (patterns_of words.old patterns.old pairings.old)) }
 {
     match rule {
         // A name, or `&` and the name of a memory.
@@ -70,7 +70,7 @@ pub fn tactic(
     rules: &mut Stack<Boxed<RuleTree>>,
     tactics: &mut TacticValues,
 ) -> Result<(), AllocError>
-    ensures { OnOk result (tactics numbers.new rules.new tactics.new ≡ tactic_made text.now rule at (tactics numbers.old rules.old tactics.old)) }
+    ensures { OnOk result (tactics_of numbers.new rules.new tactics.new ≡ tactic_made text.now rule at (tactics_of numbers.old rules.old tactics.old)) }
 {
     let step = match rule {
         // `by t` and `try t`.
@@ -135,7 +135,7 @@ pub fn argument(
     formulas: &mut FormulaValues,
     rules: &mut RuleValues,
 ) -> Result<(), AllocError>
-    ensures { OnOk result (rules paths.new formulas.new rules.new ≡ argument_made text.now rule at (rules paths.old formulas.old rules.old)) }
+    ensures { OnOk result (rules_of paths.new formulas.new rules.new ≡ argument_made text.now rule at (rules_of paths.old formulas.old rules.old)) }
 {
     match rule {
         // A lemma with its arguments. The run that lies on its stack has nothing in it.
