@@ -4,7 +4,7 @@ ghost use Rattle.gb_read_program.specs.Groups.{commands_of};
 ghost use Rattle.gb_read_program.specs.Makes.{command_made, definition_made};
 ghost use Rattle.std.specs.Prelude.{OnOk, ◌≡◌};
 
-use crate::commands::trees::{keyword, local, named, stated};
+use crate::commands::trees::{imported, keyword, local, named, stated};
 use crate::written::typed_operator;
 use gb_compose::form::take_form;
 use gb_compose::paths::take_type;
@@ -130,7 +130,7 @@ pub fn command(
             let word = take_option(alloc, &mut paths.words.lists);
             let names = take_items(alloc, &mut paths.words.lists);
             CommandShape::Require(RequireTree {
-                imported: word.is_some(),
+                imported: imported(word),
                 names,
             })
         }
@@ -178,7 +178,7 @@ pub fn command(
             let substitutions = take_items(alloc, &mut commands.substitutions.lists);
             let realisations = take_items(alloc, &mut commands.realisations.lists);
             CommandShape::Clone(CloneTree {
-                imported: word.is_some(),
+                imported: imported(word),
                 theory,
                 name,
                 substitutions,

@@ -1,7 +1,7 @@
 // Commands put together.
 
 ghost use Rattle.std.specs.Prelude.{◌≡◌};
-ghost use Rattle.gb_read_program.specs.Commands.{keyword, local, named, stated};
+ghost use Rattle.gb_read_program.specs.Commands.{imported, keyword, local, named, stated};
 
 use gb_table::rule::{Keyword, Named, Stated};
 use gb_tree::command::{CommandShape, LemmaTree};
@@ -51,4 +51,11 @@ pub fn local(shape: CommandShape) -> CommandShape
         CommandShape::Module(tree) => CommandShape::LocalModule(tree),
         shape => shape,
     }
+}
+
+/// Whether the word `import` stands there.
+pub fn imported(word: Option<Word>) -> bool
+    ensures { result ≡ imported word }
+{
+    word.is_some()
 }
