@@ -1,5 +1,7 @@
-use Rattle.std.proofs.Common.{ap, ◌∙◌, arith, ◌≡◌, ◌+◌, ◌<◌, ◌≤◌, ℕ, length}
-use Rattle.gb_grammar.specs.Check.{place_of}
+use Rattle.std.proofs.Common.{ap, subst, ◌∙◌, arith, ◌≡◌, ◌+◌, ◌-◌, ◌<◌, ◌≤◌, ℕ, Option, Some, None, length, take, drop}
+use Rattle.std.specs.Prelude.{MatchOption}
+use Rattle.gb_grammar.specs.declared.table.Row.{Row}
+use Rattle.gb_grammar.specs.Check.{place_of, pick_row}
 use Rattle.gb_grammar.proofs.machine.pick.Given.{Over}
 use Rattle.gb_grammar.proofs.machine.pick.Goals as goal
 
@@ -36,3 +38,13 @@ slice_bounds-pick_among-start g c = (range g c).0
 
 pub slice_bounds-pick_among-end : goal.slice_bounds-pick_among-end
 slice_bounds-pick_among-end g c = (range g c).2
+
+pub returns : goal.returns
+returns g c =
+    let rows = c.args.rows.now in
+    let start = place_of c.args.places.now c.args.part in
+    let from : c.from-start.result ≡ start = c.from-start.ensures ∙ ap (place_of c.args.places.now) c.from.ensures in
+    let to : c.from-end.result ≡ place_of c.args.places.now (c.args.part + 1) = c.from-end.ensures ∙ ap (λ (n : ℕ). place_of c.args.places.now (n + 1)) c.from-2.ensures in
+    let same = ap (λ (a : ℕ). pick_row c.args.stage (take (c.from-end.result - a) (drop a rows)) c.args.part c.args.kind) from
+    ∙ (ap (λ (b : ℕ). pick_row c.args.stage (take (b - start) (drop start rows)) c.args.part c.args.kind) to ∙ c.requires.placed.all c.args.kind) in
+    subst (λ (p : Option (Row g.row.R.Denot)). MatchOption c.pick_among.result (p ≡ None) (λ r. p ≡ Some r.now)) same c.pick_among.ensures

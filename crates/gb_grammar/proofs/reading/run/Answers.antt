@@ -29,7 +29,7 @@ returns-then-not-moved g c =
     let f = faulted grammar g.claims s c.args.start c.requires.1.1.0 c.args.kinds.now c.loop-at.steps.items c.loop-at.at (reverse c.loop-at.stack.items) c.requires.1.1.1.0 (omega arith) i.came i.good halted.stuck in
     let cut = c.truncate.ensures.items ∙ cut_back grammar _ c.loop-at.at c.count-before.result (reverse c.loop-at.stack.items) c.loop-at.steps.items c.advance.new.steps.items c.count-before.ensures halted in
     let before = steps_before grammar g.claims s c.args.start c.requires.1.1.0 c.args.kinds.now c.loop-at.steps.items c.loop-at.at (reverse c.loop-at.stack.items) i.came in
-    (f, subst (λ (l : List (Step g.row.R.Denot)). StepsBefore grammar c.args.start c.args.kinds.now c.loop-at.at l) (sym cut) before)
+    (f, subst (λ (l : List (Step g.row.R.Denot)). StepsBefore grammar c.args.start c.args.kinds.now c.loop-at.at l) (sym {A = List (Step g.row.R.Denot)} cut) before)
 
 pub returns-then-not-ended : goal.returns-then-not-ended
 returns-then-not-ended g c =
@@ -44,7 +44,7 @@ returns-then-not-ended g c =
     let end : c.loop-at.at ≡ length c.args.kinds.now = omega arith in (
       f,
       subst (λ (m : ℕ). StepsBefore grammar c.args.start c.args.kinds.now m c.truncate-then-not-ended.new.self.items) end
-          (subst (λ (l : List (Step g.row.R.Denot)). StepsBefore grammar c.args.start c.args.kinds.now c.loop-at.at l) (sym cut) before),
+          (subst (λ (l : List (Step g.row.R.Denot)). StepsBefore grammar c.args.start c.args.kinds.now c.loop-at.at l) (sym {A = List (Step g.row.R.Denot)} cut) before),
     )
 
 pub returns : goal.returns
@@ -56,3 +56,9 @@ returns g c =
     let m = moved_from grammar g.claims 0 (length c.args.kinds.now) cur c.loop-at.steps.items to c.advance-2.new.steps.items c.in_ok-ended.ended c.if-not-ended.false c.in_ok-ended.ensures in
     let came = all_read grammar g.claims s c.args.start c.args.kinds.now c.loop-at.at c.loop-at.steps.items cur (omega arith) c.loop-at.invariant in
     (whole grammar g.claims s c.args.start c.requires.1.1.0 c.args.kinds.now c.loop-at.steps.items c.advance-2.new.steps.items cur to came m).found
+
+pub advance-requires : goal.advance-requires
+advance-requires g c = λ κs within. (within, (c.requires.1.0, ((c.requires.1.1.1.0 c.loop-at.at 0 (omega arith)).1, c.loop-at.invariant.good)))
+
+pub advance-requires-2 : goal.advance-requires-2
+advance-requires-2 g c = λ κs within. (within, (c.requires.1.0, (omega arith, c.loop-at.invariant.good)))
