@@ -47,36 +47,26 @@ module _ (Good : ReadLine → Type 0) (Bad : ReadLine → Why → Place → Type
   first_behind [] l why place good bad = inl bad
   first_behind (m ∷ ms) l why place good bad = inr (All-head Good m ms good, first_behind ms l why place (All-tail Good m ms good) bad)
 
-  at : (e : Refused) (lines : List ReadLine) (i : ℕ) (l : ReadLine) → IsRefusedFor (Bad l) e → i < length lines → l ≡ get_or lines i l
-      → All Good (take i lines) → IsRefusedFor (IsFirst Good Bad lines) e
-  at e lines i l told lt same good =
-      weaker e (Bad l) (IsFirst Good Bad lines) (λ why place bad. first_at lines i l why place lt good (subst (λ (m : ReadLine). Bad m why place) same bad)) told
-
-  before : (e : Refused) (goal : ReadGoal) → IsRefusedFor (IsFirst Good Bad goal.context) e → IsRefusedFor (IsFirst Good Bad (all_lines goal)) e
-  before e goal told =
-      weaker e (IsFirst Good Bad goal.context) (IsFirst Good Bad (all_lines goal)) (first_before goal.context (goal.conclusion ∷ [])) told
+  at : (e : Refused) (goal : ReadGoal) (i : ℕ) (l : ReadLine) → IsRefusedFor (Bad l) e → i < length goal.context → l ≡ get_or goal.context i l
+      → All Good (take i goal.context) → IsRefusedFor (IsFirst Good Bad (all_lines goal)) e
+  at e goal i l told lt same good =
+      let before = first_before goal.context (goal.conclusion ∷ []) in
+      weaker e (Bad l) (IsFirst Good Bad (all_lines goal))
+      (λ why place bad. before why place (first_at goal.context i l why place lt good (subst (λ (m : ReadLine). Bad m why place) same bad))) told
 
   behind : {T : Type 0} (r : Result T Refused) (goal : ReadGoal) → IfErr r (IsRefusedFor (Bad goal.conclusion)) → All Good goal.context
       → IfErr r (IsRefusedFor (IsFirst Good Bad (all_lines goal)))
   behind r goal told good =
       weaker_result r (Bad goal.conclusion) (IsFirst Good Bad (all_lines goal)) (λ why place. first_behind goal.context goal.conclusion why place good) told
 
--- a line is refused, and those before it are good
-pub chains_at : (e : Refused) (lines : List ReadLine) (i : ℕ) (l : ReadLine) → IsRefusedFor (IsTooLong l) e → i < length lines → l ≡ get_or lines i l
-    → All IsShort (take i lines) → IsRefusedFor (IsFirst IsShort IsTooLong lines) e
+-- a line of the context is refused, and those before it are good
+pub chains_at : (e : Refused) (goal : ReadGoal) (i : ℕ) (l : ReadLine) → IsRefusedFor (IsTooLong l) e → i < length goal.context → l ≡ get_or goal.context i l
+    → All IsShort (take i goal.context) → IsRefusedFor (IsFirst IsShort IsTooLong (all_lines goal)) e
 chains_at = at IsShort IsTooLong
 
-pub numbers_at : (e : Refused) (lines : List ReadLine) (i : ℕ) (l : ReadLine) → IsRefusedFor (IsTooLarge l) e → i < length lines → l ≡ get_or lines i l
-    → All IsSmall (take i lines) → IsRefusedFor (IsFirst IsSmall IsTooLarge lines) e
+pub numbers_at : (e : Refused) (goal : ReadGoal) (i : ℕ) (l : ReadLine) → IsRefusedFor (IsTooLarge l) e → i < length goal.context → l ≡ get_or goal.context i l
+    → All IsSmall (take i goal.context) → IsRefusedFor (IsFirst IsSmall IsTooLarge (all_lines goal)) e
 numbers_at = at IsSmall IsTooLarge
-
--- a line of the context is refused
-pub chains_before : (e : Refused) (goal : ReadGoal) → IsRefusedFor (IsFirst IsShort IsTooLong goal.context) e → IsRefusedFor (IsFirst IsShort IsTooLong (all_lines goal)) e
-chains_before = before IsShort IsTooLong
-
-pub numbers_before : (e : Refused) (goal : ReadGoal) → IsRefusedFor (IsFirst IsSmall IsTooLarge goal.context) e
-    → IsRefusedFor (IsFirst IsSmall IsTooLarge (all_lines goal)) e
-numbers_before = before IsSmall IsTooLarge
 
 -- the conclusion is refused
 pub chains_behind : {T : Type 0} (r : Result T Refused) (goal : ReadGoal) → IfErr r (IsRefusedFor (IsTooLong goal.conclusion)) → All IsShort goal.context

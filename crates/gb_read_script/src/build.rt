@@ -1,21 +1,18 @@
 // From the steps of a text to its values.
 
 ghost use Rattle.std.specs.Prelude.{◌≡◌, IfOk};
-ghost use Rattle.gb_value.specs.Form.{no_form};
-ghost use Rattle.gb_value.specs.Sorted.{top};
 ghost use Rattle.gb_read_script.specs.Built.{built, tops_of};
 
 use crate::dispatch::make;
 use gb_grammar::table::Step;
 use gb_table::rule::Rule;
-use gb_text::stack::Stack;
 use gb_text::text::Text;
 use gb_tree::command::Command;
 use gb_tree::form::{Bind, FormTree, Word};
 use gb_value::form::no_form;
 use gb_value::path::no_word;
 use gb_value::program::no_command;
-use gb_value::take::{take, take_word};
+use gb_value::take::{take, take_boxed, take_word};
 use gb_value::values::no_values;
 use sqlite_items::Boxed;
 use std::alloc::{AllocError, Global};
@@ -24,19 +21,9 @@ use std::alloc::{AllocError, Global};
 #[derive(Drop)]
 pub struct Tops {
     pub command: Command,
-    pub form: FormTree,
+    pub form: Boxed<FormTree>,
     pub bind: Bind,
     pub word: Word,
-}
-
-// The form on top of a stack, or the fixed one.
-fn first_form(forms: &mut Stack<Boxed<FormTree>>) -> FormTree
-    ensures { result ≡ top no_form forms.old }
-{
-    match forms.pop() {
-        Some(form) => form.into_inner(),
-        None => no_form(),
-    }
 }
 
 /// Puts together the values that the steps of a text make.
@@ -49,9 +36,10 @@ pub fn build(alloc: Global, text: &Text, steps: &[Step<Rule>]) -> Result<Tops, A
         let step = steps[i];
         make(alloc, text, step.rule, step.at, &mut values)?;
     }
+    let form = take_boxed(alloc, &mut values.formulas.forms.one, no_form())?;
     Ok(Tops {
         command: take(&mut values.commands.commands, no_command()),
-        form: first_form(&mut values.formulas.forms.one),
+        form,
         bind: take(&mut values.paths.binds.one, Bind::Memory(no_word(alloc))),
         word: take_word(alloc, &mut values.paths.words.one),
     })

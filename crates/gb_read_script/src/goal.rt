@@ -9,15 +9,15 @@ ghost use Rattle.gb_text.specs.LeftOut.{NoneLeftOut};
 ghost use Rattle.gb_read_script.specs.GoalLines.{IsRefusedFor};
 ghost use Rattle.gb_read_script.specs.Goal.{goal_text, SpellsGoal, IsWithin, IsTokenRefusal, IsLineRefusal, IsGoalRefusal, IsGoalAllowed};
 
-use crate::laws::goal_refusals_are_unique;
 use crate::goal_limits::check_limits;
-use crate::line::line_texts;
 use crate::goal_lines::{ReadGoal, read_goal};
 use crate::goal_tree::tree;
+use crate::laws::goal_refusals_are_unique;
+use crate::line::line_texts;
+use crate::reading::checked_text;
 use gb_core::place::Place;
 use gb_core::refusal::Refused;
 use gb_lex::lexing::tokens;
-use crate::reading::checked_text;
 use gb_text::text::Text;
 use gb_tree::goal::SequentTree;
 use std::alloc::Global;

@@ -28,58 +28,28 @@ fn line_numbers(line: &ReadLine) -> Result<(), Refused>
     check_numbers(&line.text)
 }
 
-// Refuses lines one of which has a chain that is too long.
-#[tactic(auto, using(crate::proofs::Firsts::chains_at))]
-fn context_chains(alloc: Global, lines: &[ReadLine]) -> Result<(), Refused>
-    ensures none { OnOk result (All IsShort lines.now) }
-    ensures long { IfErr result (IsRefusedFor (IsFirst IsShort IsTooLong lines.now)) }
-{
-    for line in lines {
-        match line_chains(alloc, line) {
-            Ok(()) => {}
-            Err(refused) => return Err(refused),
-        }
-    }
-    Ok(())
-}
-
-// Refuses lines one of which has a number out of range.
-#[tactic(auto, using(crate::proofs::Firsts::numbers_at))]
-fn context_numbers(lines: &[ReadLine]) -> Result<(), Refused>
-    ensures none { OnOk result (All IsSmall lines.now) }
-    ensures overflow { IfErr result (IsRefusedFor (IsFirst IsSmall IsTooLarge lines.now)) }
-{
-    for line in lines {
-        match line_numbers(line) {
-            Ok(()) => {}
-            Err(refused) => return Err(refused),
-        }
-    }
-    Ok(())
-}
-
 // Refuses a goal with a chain that is too long.
-#[tactic(auto, using(crate::proofs::Firsts::chains_before, crate::proofs::Firsts::chains_behind))]
+#[tactic(auto, using(crate::proofs::Firsts::chains_at))]
 fn goal_chains(alloc: Global, goal: &ReadGoal) -> Result<(), Refused>
     ensures none { OnOk result (All IsShort (all_lines goal.now)) }
     ensures long { IfErr result (IsRefusedFor (IsFirst IsShort IsTooLong (all_lines goal.now))) }
 {
-    match context_chains(alloc, goal.context.as_slice()) {
-        Err(refused) => Err(refused),
-        Ok(()) => line_chains(alloc, &goal.conclusion),
+    for line in goal.context.as_slice() {
+        line_chains(alloc, line)?;
     }
+    line_chains(alloc, &goal.conclusion)
 }
 
 // Refuses a goal with a number that is out of range.
-#[tactic(auto, using(crate::proofs::Firsts::numbers_before, crate::proofs::Firsts::numbers_behind))]
+#[tactic(auto, using(crate::proofs::Firsts::numbers_at))]
 fn goal_numbers(goal: &ReadGoal) -> Result<(), Refused>
     ensures none { OnOk result (All IsSmall (all_lines goal.now)) }
     ensures overflow { IfErr result (IsRefusedFor (IsFirst IsSmall IsTooLarge (all_lines goal.now))) }
 {
-    match context_numbers(goal.context.as_slice()) {
-        Err(refused) => Err(refused),
-        Ok(()) => line_numbers(&goal.conclusion),
+    for line in goal.context.as_slice() {
+        line_numbers(line)?;
     }
+    line_numbers(&goal.conclusion)
 }
 
 /// Refuses a goal that passes a limit, with `TooMany` or `Overflow`.
@@ -89,8 +59,6 @@ pub fn check_limits(alloc: Global, goal: &ReadGoal) -> Result<(), Refused>
     ensures in_range { OnOk result (All IsSmall (all_lines goal.now)) }
     ensures excess { IfErr result (IsRefusedFor (IsExcess goal.now)) }
 {
-    match goal_chains(alloc, goal) {
-        Err(refused) => Err(refused),
-        Ok(()) => goal_numbers(goal),
-    }
+    goal_chains(alloc, goal)?;
+    goal_numbers(goal)
 }

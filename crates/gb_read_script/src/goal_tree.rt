@@ -3,8 +3,8 @@
 ghost use Rattle.std.specs.Prelude.{◌≡◌, IfOk, map};
 ghost use Rattle.gb_read_script.specs.Goal.{entry_of, form_of, tree_of};
 
-use crate::goal_lines::{LineSort, ReadGoal, ReadLine};
 use crate::build::build;
+use crate::goal_lines::{LineSort, ReadGoal, ReadLine};
 use gb_tree::form::FormTree;
 use gb_tree::goal::{EntryTree, EntryTrees, SequentTree};
 use sqlite_items::{Boxed, Items};
@@ -15,21 +15,17 @@ fn entry(alloc: Global, line: &ReadLine) -> Result<EntryTree, AllocError>
     ensures { IfOk result (λ e. e ≡ entry_of line.now) }
 {
     let tops = build(alloc, &line.text, line.steps.as_slice())?;
-    match line.sort {
-        LineSort::Binder => Ok(EntryTree::Bind(tops.bind)),
-        LineSort::Hypothesis | LineSort::Conclusion => {
-            let form = Boxed::new(alloc, tops.form)?;
-            Ok(EntryTree::Hypothesis(tops.word, form))
-        }
-    }
+    Ok(match line.sort {
+        LineSort::Binder => EntryTree::Bind(tops.bind),
+        LineSort::Hypothesis | LineSort::Conclusion => EntryTree::Hypothesis(tops.word, tops.form),
+    })
 }
 
 // The form that a line is.
 fn form(alloc: Global, line: &ReadLine) -> Result<Boxed<FormTree>, AllocError>
     ensures { IfOk result (λ f. f ≡ form_of line.now) }
 {
-    let tops = build(alloc, &line.text, line.steps.as_slice())?;
-    Boxed::new(alloc, tops.form)
+    Ok(build(alloc, &line.text, line.steps.as_slice())?.form)
 }
 
 // The context that lines are.

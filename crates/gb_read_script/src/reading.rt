@@ -18,7 +18,7 @@ ghost use Rattle.gb_text.specs.LeftOut.{NoneLeftOut};
 ghost use Rattle.gb_text.specs.Lexeme.{kinds_of, text_at};
 ghost use Rattle.gb_text.specs.Limits.{NoneTooDeep, NoneLong};
 ghost use Rattle.gb_text.specs.Numbers.{NoneOverflow};
-ghost use Rattle.gb_read_script.specs.Reading.{IsText, Leaves, SpellsCommand, SpellsForm, IsLeftOutPlace, IsStop, IsExcess, IsLimit, IsFault, IsRefusal, IsWithin, IsAllowed};
+ghost use Rattle.gb_read_script.specs.Reading.{IsText, Leaves, SpellsCommand, SpellsForm, IsLeftOutPlace, IsStop, IsLimit, IsFault, IsRefusal, IsWithin, IsAllowed};
 
 use crate::build::{Tops, build};
 use gb_core::place::Place;
@@ -65,20 +65,6 @@ fn stop(alloc: Global, text: &Text, steps: &[Step<Rule>], at: usize) -> Refused
     }
 }
 
-// Refuses a text that these steps derive and that has a chain that is too long, or a number that is out of range.
-fn check_sizes(alloc: Global, text: &Text, steps: &[Step<Rule>]) -> Result<(), Refused>
-    ensures short { OnOk result (NoneLong text.now steps.now) }
-    ensures in_range { OnOk result (NoneOverflow text.now) }
-    ensures only { NoneLong text.now steps.now → NoneOverflow text.now → MatchResult result (λ _. Unit {0}) (λ e. e ≡ NoMemory) }
-    ensures no_fault { IfErr result (λ e. e ≢ ReadFault) }
-    ensures excess { (why : Why) (place : Place) → result ≡ Err (Script why place) → IsExcess text.now steps.now why place }
-{
-    match check_chains(alloc, text, steps) {
-        Err(refused) => Err(refused),
-        Ok(()) => check_numbers(text),
-    }
-}
-
 // Refuses a text that these steps derive and that passes a limit.
 fn check_limits(alloc: Global, text: &Text, steps: &[Step<Rule>]) -> Result<(), Refused>
     ensures shallow { OnOk result (NoneTooDeep text.now steps.now (length text.now.lexemes)) }
@@ -89,10 +75,9 @@ fn check_limits(alloc: Global, text: &Text, steps: &[Step<Rule>]) -> Result<(), 
     ensures no_fault { IfErr result (λ e. e ≢ ReadFault) }
     ensures limit { (why : Why) (place : Place) → result ≡ Err (Script why place) → IsLimit text.now steps.now why place }
 {
-    match check_depth(alloc, text, steps, text.lexemes.len()) {
-        Err(refused) => Err(refused),
-        Ok(()) => check_sizes(alloc, text, steps),
-    }
+    check_depth(alloc, text, steps, text.lexemes.len())?;
+    check_chains(alloc, text, steps)?;
+    check_numbers(text)
 }
 
 // The steps by which a text is one of this part, which passes no limit.
@@ -211,7 +196,7 @@ pub fn form(alloc: Global, text: &[u8], tokens: &Tokens, at: Place) -> Result<Fo
     ensures refused { (why : Why) (place : Place) → result ≡ Err (Script why place) → IsRefusal FORM (text_at text.now at tokens.now) why place }
 {
     match tops(alloc, text, tokens, at, FORM) {
-        Ok(tops) => Ok(tops.form),
+        Ok(tops) => Ok(tops.form.into_inner()),
         Err(refused) => Err(refused),
     }
 }
