@@ -12,10 +12,10 @@ use gb_text::terminal::Terminal;
 use gb_tree::form::{FormTree, FormTrees, Number, SideTree, Word};
 use gb_tree::judgment::CallTree;
 use gb_tree::step::{
-    ArgumentTree, Bodies, CallRule, CombinedShape, CombinedStep, ConseqTree, Contract, FelBounds,
-    FelCounter, Guards, PatternTree, ProcPaths, RuleTree, SeqBounds, SeqTree, StepTree, TacticTree,
-    TransitivityTree,
+    ArgumentTree, Bodies, CallRule, ConseqTree, Contract, FelBounds, FelCounter, Guards, ProcPaths,
+    RuleTree, SeqBounds, SeqTree, StepTree, TransitivityTree,
 };
+use gb_tree::tactic::{CombinedShape, CombinedStep, PatternTree, TacticTree};
 use gb_value::form::{Run, Suffix, no_run, take_run};
 use gb_value::path::no_place;
 use gb_value::step::{CallRest, FelRest, no_pattern};
@@ -141,7 +141,7 @@ pub fn take_two_patterns(
 fn bodies(side: Option<SideTree>) -> Bodies
     ensures { result ≡ bodies side }
 {
-    match side {
+    match &side {
         None => Bodies::Both,
         Some(SideTree::Left) => Bodies::Left,
         Some(SideTree::Right) => Bodies::Right,

@@ -6,7 +6,6 @@ ghost use Rattle.std.specs.Prelude.{OnOk, ◌≡◌};
 use gb_compose::form::take_form;
 use gb_compose::paths::take_type;
 use gb_compose_program::commands;
-use gb_compose_program::commands::local;
 use gb_compose_program::program::typed_operator;
 use gb_compose_program::statements::statement;
 use gb_compose_program::step::{take_boxed_tactic, take_tactic};
@@ -154,7 +153,7 @@ pub fn command<P, R>(
         }
         CommandRule::Local => {
             let shape = take(&mut values.commands.shapes, CommandShape::Proof);
-            local(shape)
+            shape.into_local()
         }
         CommandRule::Declare => {
             let binder = take(&mut values.paths.module_binders, no_module_binder(alloc));

@@ -6,9 +6,8 @@ ghost use Rattle.std.specs.Prelude.{◌≡◌};
 use gb_text::terminal::Terminal;
 use gb_text::text::{Text, place_at};
 use gb_tree::form::Word;
-use gb_tree::step::{
-    CombinedShape, CombinedStep, PatternShape, PatternTree, Patterns, RuleTree, StepTree,
-};
+use gb_tree::step::{RuleTree, StepTree};
+use gb_tree::tactic::{CombinedShape, CombinedStep, PatternShape, PatternTree, Patterns};
 use gb_value::step::Pairing;
 use sqlite_items::Boxed;
 
