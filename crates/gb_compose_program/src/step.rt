@@ -162,7 +162,7 @@ pub fn take_arguments(alloc: Global, runs: &mut Stack<Run>) -> FormTrees
     ensures arguments { result ≡ (top no_run runs.old).arguments }
     ensures behind { runs.new ≡ behind runs.old }
 {
-    let Run { arguments, .. } = take_run(alloc, runs);
+    let (_, arguments, _, _) = take_run(alloc, runs).into_parts();
     arguments.into_items()
 }
 
@@ -171,7 +171,7 @@ pub fn take_suffixes(alloc: Global, runs: &mut Stack<Run>) -> Stack<Suffix>
     ensures suffixes { result ≡ (top no_run runs.old).suffixes }
     ensures behind { runs.new ≡ behind runs.old }
 {
-    let Run { suffixes, .. } = take_run(alloc, runs);
+    let (suffixes, _, _, _) = take_run(alloc, runs).into_parts();
     suffixes
 }
 
