@@ -26,6 +26,7 @@ use Rattle.gb_value.specs.declared.form.Run.{Run}
 use Rattle.gb_value.specs.declared.form.Suffix.{Suffix}
 use Rattle.gb_value.specs.declared.form.Suffix.TheVariants as SuffixTree
 use Rattle.gb_value.specs.declared.form.Tail.{Tail}
+use Rattle.gb_value.specs.Form.{shape_behind}
 
 -- a form that begins at a token
 abbrev pub form_at : Text → ℕ → FormShape → FormTree
@@ -113,13 +114,6 @@ applied f (a ∷ as_) = record { shape = Shape.Apply f (a ∷ as_); place = f.pl
 
 abbrev pub path_form : Word → FormTree
 path_form w = record { shape = Shape.Path w.name; place = w.place }
-
-abbrev pub shape_behind : FormTree → Suffix → FormShape
-shape_behind f (SuffixTree.Get k) = Shape.Get f k
-shape_behind f (SuffixTree.Set k v) = Shape.Set f k v
-shape_behind f (SuffixTree.Component n) = Shape.Component f n
-shape_behind f SuffixTree.ToReal = Shape.ToReal f
-shape_behind f (SuffixTree.Side s) = Shape.Sided f s
 
 -- a form with what stands behind it
 abbrev pub suffixed : FormTree → List Suffix → FormTree

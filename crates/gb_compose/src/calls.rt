@@ -76,17 +76,9 @@ pub fn call(alloc: Global, first: Word, tail: CallTail) -> Result<CallTree, Allo
 pub fn longer_call(word: Word, tail: CallTail) -> Result<CallTail, AllocError>
     ensures { IfOk result (λ t. t ≡ longer_call word tail) }
 {
-    let CallTail {
-        mut words,
-        functor,
-        arguments,
-    } = tail;
-    words.push(word)?;
-    Ok(CallTail {
-        words,
-        functor,
-        arguments,
-    })
+    let mut tail = tail;
+    tail.words.push(word)?;
+    Ok(tail)
 }
 
 /// A module as a form, with its arguments in a bracket.

@@ -46,12 +46,7 @@ pub fn negative(alloc: Global, operand: Operand, place: Place) -> Result<Operand
 pub fn operand(alloc: Global, head: Boxed<FormTree>, run: Run) -> Result<Operand, AllocError>
     ensures { IfOk result (λ o. o ≡ operand head run) }
 {
-    let Run {
-        suffixes,
-        arguments,
-        products,
-        sums,
-    } = run;
+    let (suffixes, arguments, products, sums) = run.into_parts();
     let head = suffixed(alloc, head, suffixes)?;
     let form = applied(alloc, head, arguments.into_items())?;
     Ok(Operand {
@@ -65,31 +60,16 @@ pub fn operand(alloc: Global, head: Boxed<FormTree>, run: Run) -> Result<Operand
 pub fn suffix_run(suffix: Suffix, run: Run) -> Result<Run, AllocError>
     ensures { IfOk result (λ r. r ≡ suffix_run suffix run) }
 {
-    let Run {
-        mut suffixes,
-        arguments,
-        products,
-        sums,
-    } = run;
-    suffixes.push(suffix)?;
-    Ok(Run {
-        suffixes,
-        arguments,
-        products,
-        sums,
-    })
+    let mut run = run;
+    run.suffixes.push(suffix)?;
+    Ok(run)
 }
 
 /// A run that begins with an argument; what stood right behind this belongs to it.
 pub fn argument_run(alloc: Global, argument: Boxed<FormTree>, run: Run) -> Result<Run, AllocError>
     ensures { IfOk result (λ r. r ≡ argument_run argument run) }
 {
-    let Run {
-        suffixes,
-        mut arguments,
-        products,
-        sums,
-    } = run;
+    let (suffixes, mut arguments, products, sums) = run.into_parts();
     arguments.push(suffixed(alloc, argument, suffixes)?)?;
     Ok(Run {
         suffixes: Stack::new(alloc),

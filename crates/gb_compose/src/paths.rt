@@ -136,7 +136,7 @@ pub fn procedure(alloc: Global, first: Word, tail: PathTail) -> Result<ProcPath,
 pub fn longer_path(word: Word, tail: PathTail) -> Result<PathTail, AllocError>
     ensures { IfOk result (λ t. t ≡ longer_path word tail) }
 {
-    let PathTail { mut words, functor } = tail;
-    words.push(word)?;
-    Ok(PathTail { words, functor })
+    let mut tail = tail;
+    tail.words.push(word)?;
+    Ok(tail)
 }

@@ -48,11 +48,8 @@ fn bounded_phoare(
 ) -> Result<Boxed<FormTree>, AllocError>
     ensures { IfOk result (λ f. f ≡ bounded_phoare judgment bound) }
 {
-    let Infix { operator, operand } = bound;
-    let bound = BoundTree {
-        relation: operator,
-        value: operand,
-    };
+    let (relation, value) = bound.into_parts();
+    let bound = BoundTree { relation, value };
     phoare(alloc, judgment, Some(bound))
 }
 

@@ -5,7 +5,8 @@ ghost use Rattle.gb_value.specs.Sorted.{top, behind};
 ghost use Rattle.gb_value.specs.Step.{no_step, no_tactic};
 
 use gb_text::stack::Stack;
-use gb_tree::step::{CombinedShape, CombinedStep, RuleTree, StepTree, TacticTree};
+use gb_tree::step::{RuleTree, StepTree};
+use gb_tree::tactic::{CombinedShape, CombinedStep, TacticTree};
 use gb_value::path::no_place;
 use sqlite_items::{Boxed, Items};
 use std::alloc::{AllocError, Global};

@@ -67,6 +67,9 @@ pub fn compared(
 {
     match comparison {
         None => Ok(left),
-        Some(Infix { operator, operand }) => binary(alloc, operator, left, operand),
+        Some(infix) => {
+            let (operator, operand) = infix.into_parts();
+            binary(alloc, operator, left, operand)
+        }
     }
 }

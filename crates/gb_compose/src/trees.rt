@@ -1,7 +1,7 @@
 // Forms put together.
 
 ghost use Rattle.std.specs.Prelude.{◌≡◌, IfOk};
-ghost use Rattle.gb_compose.specs.Forms.{path_form, binary, joined, choosing, chained, combined, applied, shape_behind, suffixed, coin_before};
+ghost use Rattle.gb_compose.specs.Forms.{path_form, binary, joined, choosing, chained, combined, applied, suffixed, coin_before};
 
 use gb_text::stack::Stack;
 use gb_text::text::{Text, place_at};
@@ -93,7 +93,8 @@ pub fn combined(
 {
     let mut form = first;
     let mut more = more;
-    while let Some(Infix { operator, operand }) = more.pop() {
+    while let Some(infix) = more.pop() {
+        let (operator, operand) = infix.into_parts();
         form = binary(alloc, operator, form, operand)?;
     }
     Ok(form)
@@ -114,18 +115,6 @@ pub fn applied(
     boxed_form(alloc, FormShape::Apply(head, arguments), place)
 }
 
-fn shape_behind(head: Boxed<FormTree>, suffix: Suffix) -> FormShape
-    ensures { result ≡ shape_behind head suffix }
-{
-    match suffix {
-        Suffix::Get(key) => FormShape::Get(head, key),
-        Suffix::Set(key, value) => FormShape::Set(head, key, value),
-        Suffix::Component(number) => FormShape::Component(head, number),
-        Suffix::ToReal => FormShape::ToReal(head),
-        Suffix::Side(side) => FormShape::Sided(head, side),
-    }
-}
-
 /// A form with what stands behind it.
 pub fn suffixed(
     alloc: Global,
@@ -138,7 +127,7 @@ pub fn suffixed(
     let mut suffixes = suffixes;
     while let Some(suffix) = suffixes.pop() {
         let place = form.get().place;
-        form = boxed_form(alloc, shape_behind(form, suffix), place)?;
+        form = boxed_form(alloc, suffix.behind(form), place)?;
     }
     Ok(form)
 }

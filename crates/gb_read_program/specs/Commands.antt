@@ -36,12 +36,6 @@ abbrev pub stated : Stated → LemmaTree → CommandShape
 stated stated_rule.Axiom lemma = CommandTree.Axiom lemma
 stated stated_rule.Lemma lemma = CommandTree.Lemma lemma
 
--- A lemma or module behind `local` is a local one.
-abbrev pub local : CommandShape → CommandShape
-local (CommandTree.Lemma lemma) = CommandTree.LocalLemma lemma
-local (CommandTree.«Module» tree) = CommandTree.LocalModule tree
-local shape = shape
-
 -- whether `import` stands there
 abbrev pub imported : Option Word → Bool
 imported None = false

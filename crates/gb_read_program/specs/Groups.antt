@@ -1,7 +1,7 @@
 -- The stacks that the productions of statements, modules and commands work on.
 use Rattle.std.specs.Prelude.{List}
 use Rattle.gb_tree.specs.declared.command.CommandShape.{CommandShape}
-use Rattle.gb_tree.specs.declared.step.TacticTree.{TacticTree}
+use Rattle.gb_tree.specs.declared.tactic.TacticTree.{TacticTree}
 use Rattle.gb_value.specs.declared.form.FormulaValues.{FormulaValues}
 use Rattle.gb_value.specs.declared.path.PathValues.{PathValues}
 use Rattle.gb_value.specs.declared.program.CommandValues.{CommandValues}

@@ -25,7 +25,8 @@ use Rattle.gb_value.specs.declared.program.VariantName.TheVariants as VariantNam
 use Rattle.gb_value.specs.declared.program.ModuleRest.TheVariants as ModuleRests
 use Rattle.gb_read_program.specs.Program.{writing, statement, longer_statement, loop_shape, suffix_variant, name_variant, typed_operator}
 use Rattle.gb_read_program.specs.Groups.{Commands, Modules, Programs}
-use Rattle.gb_read_program.specs.Commands.{module_of, keyword, named, stated, local, imported}
+use Rattle.gb_read_program.specs.Commands.{module_of, keyword, named, stated, imported}
+use Rattle.gb_tree.specs.Command.{local}
 use Rattle.gb_text.specs.Text.{place_at}
 use Rattle.gb_value.specs.Form.{no_call, no_call_tail, no_form, no_suffix}
 use Rattle.gb_value.specs.Path.{no_module, no_module_binder, no_number, no_type, no_word}

@@ -4,7 +4,7 @@ ghost use Rattle.gb_read_program.specs.Groups.{commands_of};
 ghost use Rattle.gb_read_program.specs.Makes.{command_made, definition_made};
 ghost use Rattle.std.specs.Prelude.{OnOk, ◌≡◌};
 
-use crate::commands::trees::{imported, keyword, local, named, stated};
+use crate::commands::trees::{imported, keyword, named, stated};
 use crate::written::typed_operator;
 use gb_compose::form::take_form;
 use gb_compose::paths::take_type;
@@ -16,7 +16,7 @@ use gb_tree::command::{
     CloneTree, Command, CommandShape, LemmaTree, OperatorDefinition, OperatorTree, Realisation,
     RequireTree, Substitution, TypeDeclaration, TypeDefinition,
 };
-use gb_tree::step::TacticTree;
+use gb_tree::tactic::TacticTree;
 use gb_value::form::FormulaValues;
 use gb_value::path::{PathValues, no_module_binder};
 use gb_value::program::CommandValues;
@@ -149,7 +149,7 @@ pub fn command(
         }
         CommandRule::Local => {
             let shape = take(&mut commands.shapes, CommandShape::Proof);
-            local(shape)
+            shape.into_local()
         }
         CommandRule::Declare => {
             let binder = take(&mut paths.module_binders, no_module_binder(alloc));

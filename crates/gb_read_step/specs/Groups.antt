@@ -2,7 +2,7 @@
 use Rattle.std.specs.Prelude.{List}
 use Rattle.gb_tree.specs.declared.form.Number.{Number}
 use Rattle.gb_tree.specs.declared.form.Word.{Word}
-use Rattle.gb_tree.specs.declared.step.PatternTree.{PatternTree}
+use Rattle.gb_tree.specs.declared.tactic.PatternTree.{PatternTree}
 use Rattle.gb_tree.specs.declared.step.RuleTree.{RuleTree}
 use Rattle.gb_value.specs.declared.form.FormulaValues.{FormulaValues}
 use Rattle.gb_value.specs.declared.path.PathValues.{PathValues}

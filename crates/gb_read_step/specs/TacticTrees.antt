@@ -6,16 +6,16 @@ use Rattle.gb_text.specs.declared.terminal.Terminal.{Terminal}
 use Rattle.gb_text.specs.declared.terminal.Terminal.TheVariants as terminal
 use Rattle.gb_tree.specs.declared.form.Word.{Word}
 use Rattle.gb_tree.specs.declared.step.ArgumentTree.{ArgumentTree}
-use Rattle.gb_tree.specs.declared.step.CombinedShape.{CombinedShape}
-use Rattle.gb_tree.specs.declared.step.CombinedShape.TheVariants as Combined
-use Rattle.gb_tree.specs.declared.step.CombinedStep.{CombinedStep}
-use Rattle.gb_tree.specs.declared.step.Continuation.{Continuation}
+use Rattle.gb_tree.specs.declared.tactic.CombinedShape.{CombinedShape}
+use Rattle.gb_tree.specs.declared.tactic.CombinedShape.TheVariants as Combined
+use Rattle.gb_tree.specs.declared.tactic.CombinedStep.{CombinedStep}
+use Rattle.gb_tree.specs.declared.tactic.Continuation.{Continuation}
 use Rattle.gb_tree.specs.declared.step.LemmaUse.{LemmaUse}
-use Rattle.gb_tree.specs.declared.step.PatternShape.{PatternShape}
-use Rattle.gb_tree.specs.declared.step.PatternShape.TheVariants as Pattern
-use Rattle.gb_tree.specs.declared.step.PatternTree.{PatternTree}
+use Rattle.gb_tree.specs.declared.tactic.PatternShape.{PatternShape}
+use Rattle.gb_tree.specs.declared.tactic.PatternShape.TheVariants as Pattern
+use Rattle.gb_tree.specs.declared.tactic.PatternTree.{PatternTree}
 use Rattle.gb_tree.specs.declared.step.RuleTree.{RuleTree}
-use Rattle.gb_tree.specs.declared.step.TacticTree.{TacticTree}
+use Rattle.gb_tree.specs.declared.tactic.TacticTree.{TacticTree}
 use Rattle.gb_value.specs.declared.step.Pairing.{Pairing}
 use Rattle.gb_value.specs.declared.step.Pairing.TheVariants as Pairings
 

@@ -7,8 +7,8 @@ use Rattle.gb_table.specs.declared.rule.Tactic.{Tactic as TacticRule}
 use Rattle.gb_table.specs.declared.rule.Tactic.TheVariants as tactic_rule
 use Rattle.gb_table.specs.declared.rule.Argument.{Argument as ArgumentRule}
 use Rattle.gb_table.specs.declared.rule.Argument.TheVariants as argument_rule
-use Rattle.gb_tree.specs.declared.step.CombinedShape.TheVariants as CombinedOf
-use Rattle.gb_tree.specs.declared.step.Continuation.TheVariants as ContinuationOf
+use Rattle.gb_tree.specs.declared.tactic.CombinedShape.TheVariants as CombinedOf
+use Rattle.gb_tree.specs.declared.tactic.Continuation.TheVariants as ContinuationOf
 use Rattle.gb_tree.specs.declared.step.ArgumentTree.TheVariants as ArgumentOf
 use Rattle.gb_compose.specs.Forms.{coin_before, suffixed}
 use Rattle.gb_read_step.specs.Composed.{with_argument}

@@ -17,9 +17,8 @@ use gb_compose::judgment::take_call;
 use gb_table::rule::{Given, ProgramStep, Step};
 use gb_text::stack::Stack;
 use gb_text::text::{Text, terminal_at};
-use gb_tree::step::{
-    CallRule, ConseqTree, Distance, Guard, Hint, PatternTree, RuleTree, SeqTree, Summand,
-};
+use gb_tree::step::{CallRule, ConseqTree, Distance, Guard, Hint, RuleTree, SeqTree, Summand};
+use gb_tree::tactic::PatternTree;
 use gb_value::form::FormulaValues;
 use gb_value::path::{PathValues, no_procedure};
 use gb_value::step::{

@@ -15,9 +15,8 @@ use gb_table::rule::{Argument, Pattern, Tactic};
 use gb_text::stack::Stack;
 use gb_text::text::{Text, place_at, terminal_at};
 use gb_tree::form::{Number, Word};
-use gb_tree::step::{
-    ArgumentTree, CombinedShape, Continuation, LemmaUse, PatternTree, RuleTree, TacticTree,
-};
+use gb_tree::step::{ArgumentTree, LemmaUse, RuleTree};
+use gb_tree::tactic::{CombinedShape, Continuation, PatternTree, TacticTree};
 use gb_value::form::{FormulaValues, no_run};
 use gb_value::path::PathValues;
 use gb_value::step::{Pairing, RuleValues, TacticValues};

@@ -7,9 +7,14 @@ use std::alloc::{AllocError, Global};
 use std::marker::Model;
 
 /// A stack; contracts see its elements from the top down. What is read from its end is put together on one.
-#[derive(Drop)]
 pub struct Stack<T> {
     bottom_up: Vec<T>,
+}
+
+impl<T: Drop> Drop for Stack<T> {
+    fn drop(self) {
+        let Stack { bottom_up: _ } = self;
+    }
 }
 
 impl<T> Model for Stack<T> {

@@ -18,7 +18,8 @@ use gb_goal::sequent::{Sequent, Sequents, copy_sequent};
 use gb_goal::step::{Rule, Step};
 use gb_tree::command::{Command, CommandShape, LemmaTree};
 use gb_tree::program::ModuleTree;
-use gb_tree::step::{CombinedShape, StepTree, TacticTree};
+use gb_tree::step::StepTree;
+use gb_tree::tactic::{CombinedShape, TacticTree};
 use sqlite_items::Items;
 use std::alloc::{AllocError, Global};
 

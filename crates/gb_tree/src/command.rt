@@ -1,10 +1,13 @@
 // Commands as a script writes them. What is large lies in boxes, so that a command is small where it is held.
 
+ghost use Rattle.std.specs.Prelude.{◌≡◌};
+ghost use Rattle.gb_tree.specs.Command.{local};
+
 use crate::form::{
     Binders, Binds, FormTree, ModuleBinder, Number, TypeTree, TypeTrees, Word, Words,
 };
 use crate::program::{ModuleAlias, ModuleTree, ModuleTypeTree};
-use crate::step::TacticTree;
+use crate::tactic::TacticTree;
 use gb_core::place::Place;
 use sqlite_items::{Boxed, Items};
 
@@ -20,7 +23,6 @@ impl Drop for Command {
     }
 }
 
-#[derive(Drop)]
 pub enum CommandShape {
     Require(RequireTree),
     Type(Boxed<TypeDeclaration>),
@@ -48,11 +50,61 @@ pub enum CommandShape {
     Undo(Number),
 }
 
+impl Drop for CommandShape {
+    fn drop(self) {
+        match self {
+            CommandShape::Proof
+            | CommandShape::Qed
+            | CommandShape::Section
+            | CommandShape::EndSection
+            | CommandShape::Require(_)
+            | CommandShape::Type(_)
+            | CommandShape::Operator(_)
+            | CommandShape::Axiom(_)
+            | CommandShape::Lemma(_)
+            | CommandShape::LocalLemma(_)
+            | CommandShape::ModuleType(_)
+            | CommandShape::Module(_)
+            | CommandShape::LocalModule(_)
+            | CommandShape::ModuleAlias(_)
+            | CommandShape::Termination(_)
+            | CommandShape::Declare(_)
+            | CommandShape::Theory(_)
+            | CommandShape::AbstractTheory(_)
+            | CommandShape::EndTheory(_)
+            | CommandShape::Clone(_)
+            | CommandShape::Tactic(_)
+            | CommandShape::Undo(_) => {}
+        }
+    }
+}
+
+impl CommandShape {
+    /// A lemma or module behind `local`, which is a local one.
+    pub fn into_local(self) -> CommandShape
+        ensures { result ≡ local self }
+    {
+        match self {
+            CommandShape::Lemma(lemma) => CommandShape::LocalLemma(lemma),
+            CommandShape::Module(tree) => CommandShape::LocalModule(tree),
+            shape => shape,
+        }
+    }
+}
+
 /// `require import A B`.
-#[derive(Drop)]
 pub struct RequireTree {
     pub imported: bool,
     pub names: Words,
+}
+
+impl Drop for RequireTree {
+    fn drop(self) {
+        let RequireTree {
+            imported: _,
+            names: _,
+        } = self;
+    }
 }
 
 pub struct TypeDeclaration {
@@ -69,7 +121,6 @@ impl Drop for TypeDeclaration {
     }
 }
 
-#[derive(Drop)]
 pub enum TypeDefinition {
     /// `type t`.
     Abstract,
@@ -77,6 +128,15 @@ pub enum TypeDefinition {
     Alias(Boxed<TypeTree>),
     /// `type t = [a | b]`.
     Enumeration(Words),
+}
+
+impl Drop for TypeDefinition {
+    fn drop(self) {
+        match self {
+            TypeDefinition::Abstract | TypeDefinition::Alias(_) | TypeDefinition::Enumeration(_) =>
+                {}
+        }
+    }
 }
 
 pub struct OperatorTree {
@@ -123,7 +183,6 @@ impl Drop for LemmaTree {
 }
 
 /// `clone import T as U with .. proof ..`.
-#[derive(Drop)]
 pub struct CloneTree {
     pub imported: bool,
     pub theory: Word,
@@ -132,7 +191,18 @@ pub struct CloneTree {
     pub realisations: Realisations,
 }
 
-#[derive(Drop)]
+impl Drop for CloneTree {
+    fn drop(self) {
+        let CloneTree {
+            imported: _,
+            theory: _,
+            name: _,
+            substitutions: _,
+            realisations: _,
+        } = self;
+    }
+}
+
 pub enum Substitution {
     /// `type t <- u`.
     Type(Word, Boxed<TypeTree>),
@@ -140,13 +210,26 @@ pub enum Substitution {
     Operator(Word, Boxed<FormTree>),
 }
 
+impl Drop for Substitution {
+    fn drop(self) {
+        match self {
+            Substitution::Type(_, _) | Substitution::Operator(_, _) => {}
+        }
+    }
+}
+
 pub type Substitutions = Items<Substitution>;
 
 /// `a by t`: an axiom, and how it is proved.
-#[derive(Drop)]
 pub struct Realisation {
     pub axiom: Word,
     pub proof: TacticTree,
+}
+
+impl Drop for Realisation {
+    fn drop(self) {
+        let Realisation { axiom: _, proof: _ } = self;
+    }
 }
 
 pub type Realisations = Items<Realisation>;

@@ -223,11 +223,18 @@ pub enum Quantifier {
 }
 
 /// `{1}`, `{2}` or `{m}` behind a form, at its word or number.
-#[derive(Drop)]
 pub enum SideTree {
     Left,
     Right,
     Memory(Word),
+}
+
+impl Drop for SideTree {
+    fn drop(self) {
+        match self {
+            SideTree::Left | SideTree::Right | SideTree::Memory(_) => {}
+        }
+    }
 }
 
 /// A form, which lies in a box wherever it is held. Its place is its first token.

@@ -10,3 +10,4 @@ pub mod goal;
 pub mod judgment;
 pub mod program;
 pub mod step;
+pub mod tactic;

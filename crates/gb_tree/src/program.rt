@@ -6,16 +6,20 @@ use gb_core::place::Place;
 use sqlite_items::{Boxed, Items};
 
 /// `A : T`, a parameter of a functor.
-#[derive(Drop)]
 pub struct ModuleParameter {
     pub name: Word,
     pub ty: Word,
 }
 
+impl Drop for ModuleParameter {
+    fn drop(self) {
+        let ModuleParameter { name: _, ty: _ } = self;
+    }
+}
+
 pub type ModuleParameters = Items<ModuleParameter>;
 
 /// A module with its parameters, the type that it is said to have, and what it declares.
-#[derive(Drop)]
 pub struct ModuleTree {
     pub name: Word,
     pub parameters: ModuleParameters,
@@ -23,32 +27,63 @@ pub struct ModuleTree {
     pub items: ModuleItems,
 }
 
-#[derive(Drop)]
+impl Drop for ModuleTree {
+    fn drop(self) {
+        let ModuleTree {
+            name: _,
+            parameters: _,
+            ty: _,
+            items: _,
+        } = self;
+    }
+}
+
 pub enum ModuleItem {
     /// `var x, y : t`.
     Globals(Binder),
     Proc(ProcTree),
 }
 
+impl Drop for ModuleItem {
+    fn drop(self) {
+        match self {
+            ModuleItem::Globals(_) | ModuleItem::Proc(_) => {}
+        }
+    }
+}
+
 pub type ModuleItems = Items<ModuleItem>;
 
 /// `module X = M(A)`.
-#[derive(Drop)]
 pub struct ModuleAlias {
     pub name: Word,
     pub module: ModuleExpr,
 }
 
+impl Drop for ModuleAlias {
+    fn drop(self) {
+        let ModuleAlias { name: _, module: _ } = self;
+    }
+}
+
 /// `module type T (A : U) = { .. }`.
-#[derive(Drop)]
 pub struct ModuleTypeTree {
     pub name: Word,
     pub parameters: ModuleParameters,
     pub signatures: Signatures,
 }
 
+impl Drop for ModuleTypeTree {
+    fn drop(self) {
+        let ModuleTypeTree {
+            name: _,
+            parameters: _,
+            signatures: _,
+        } = self;
+    }
+}
+
 /// `proc f(x : t) : u {O.o}`. Where no oracles are named it may call all of them.
-#[derive(Drop)]
 pub struct Signature {
     pub name: Word,
     pub parameters: Binders,
@@ -56,10 +91,20 @@ pub struct Signature {
     pub oracles: Option<OraclePaths>,
 }
 
+impl Drop for Signature {
+    fn drop(self) {
+        let Signature {
+            name: _,
+            parameters: _,
+            result: _,
+            oracles: _,
+        } = self;
+    }
+}
+
 pub type Signatures = Items<Signature>;
 
 /// A procedure: no type stands for `unit`, and only such a procedure may return nothing.
-#[derive(Drop)]
 pub struct ProcTree {
     pub name: Word,
     pub parameters: Binders,
@@ -67,6 +112,19 @@ pub struct ProcTree {
     pub locals: Binders,
     pub body: Statements,
     pub value: Option<Boxed<FormTree>>,
+}
+
+impl Drop for ProcTree {
+    fn drop(self) {
+        let ProcTree {
+            name: _,
+            parameters: _,
+            result: _,
+            locals: _,
+            body: _,
+            value: _,
+        } = self;
+    }
 }
 
 #[cycle(form)]

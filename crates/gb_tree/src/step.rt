@@ -2,14 +2,20 @@
 
 use crate::form::{FormTree, FormTrees, Number, Word};
 use crate::judgment::{CallTree, ProcPath};
+use crate::tactic::Patterns;
 use gb_core::place::Place;
 use sqlite_items::{Boxed, Items};
 
 /// A rule with what it is given, at its first word.
-#[derive(Drop)]
 pub struct StepTree {
     pub rule: Boxed<RuleTree>,
     pub place: Place,
+}
+
+impl Drop for StepTree {
+    fn drop(self) {
+        let StepTree { rule: _, place: _ } = self;
+    }
 }
 
 /// The bodies of a goal on two that a rule acts on.
@@ -170,7 +176,6 @@ impl Drop for Contract {
     }
 }
 
-#[derive(Drop)]
 pub enum Rewriting {
     /// `rewrite (L a)`.
     Lemma(LemmaUse),
@@ -184,6 +189,19 @@ pub enum Rewriting {
     Law(Law),
     /// `rewrite Pr[mu_split F]`.
     SplitLaw(Boxed<FormTree>),
+}
+
+impl Drop for Rewriting {
+    fn drop(self) {
+        match self {
+            Rewriting::Lemma(_)
+            | Rewriting::Backwards(_)
+            | Rewriting::Hypothesis(_)
+            | Rewriting::Operator(_)
+            | Rewriting::Law(_)
+            | Rewriting::SplitLaw(_) => {}
+        }
+    }
 }
 
 /// The laws of probability that `rewrite Pr` names, but `mu_split`.
@@ -220,14 +238,21 @@ impl Drop for SeqTree {
 }
 
 /// The bounds of the two parts where the middle holds, those where it doesn't, and what holds in between in any case.
-#[derive(Drop)]
 pub struct SeqBounds {
     pub bounds: FormTrees,
     pub invariant: Boxed<FormTree>,
 }
 
+impl Drop for SeqBounds {
+    fn drop(self) {
+        let SeqBounds {
+            bounds: _,
+            invariant: _,
+        } = self;
+    }
+}
+
 /// What `call` is given.
-#[derive(Drop)]
 pub enum CallRule {
     /// `call (L a)`.
     Lemma(LemmaUse),
@@ -239,11 +264,29 @@ pub enum CallRule {
     Upto(Boxed<FormTree>, Boxed<FormTree>),
 }
 
+impl Drop for CallRule {
+    fn drop(self) {
+        match self {
+            CallRule::Lemma(_)
+            | CallRule::Contract(_)
+            | CallRule::Invariant(_)
+            | CallRule::Upto(_, _) => {}
+        }
+    }
+}
+
 /// How far a statement moves.
-#[derive(Drop)]
 pub enum Distance {
     Forward(Number),
     Backward(Number),
+}
+
+impl Drop for Distance {
+    fn drop(self) {
+        match self {
+            Distance::Forward(_) | Distance::Backward(_) => {}
+        }
+    }
 }
 
 /// `conseq (_ : P ==> Q : r)`; what is left out stays.
@@ -352,127 +395,51 @@ impl Drop for FelBounds {
 pub type ProcPaths = Items<ProcPath>;
 
 /// What `smt` may use besides the goal.
-#[derive(Drop)]
 pub enum Hint {
     Hypothesis(Word),
     Lemma(LemmaUse),
 }
 
+impl Drop for Hint {
+    fn drop(self) {
+        match self {
+            Hint::Hypothesis(_) | Hint::Lemma(_) => {}
+        }
+    }
+}
+
 pub type Hints = Items<Hint>;
 
 /// A hypothesis of `linear`, with its multiplier where it has one.
-#[derive(Drop)]
 pub struct Summand {
     pub multiplier: Option<Multiplier>,
     pub hypothesis: Word,
 }
 
+impl Drop for Summand {
+    fn drop(self) {
+        let Summand {
+            multiplier: _,
+            hypothesis: _,
+        } = self;
+    }
+}
+
 pub type Summands = Items<Summand>;
 
 /// `n`, `n / m`, or one of these with `-`.
-#[derive(Drop)]
 pub struct Multiplier {
     pub negative: bool,
     pub numerator: Number,
     pub denominator: Option<Number>,
 }
 
-/// A proof step with what follows it.
-#[cycle(tactic)]
-pub struct TacticTree {
-    pub first: CombinedStep,
-    pub more: Continuations,
-}
-
-impl Drop for TacticTree {
-    #[cycle(drop_tactic)]
+impl Drop for Multiplier {
     fn drop(self) {
-        let TacticTree { first, more } = self;
-        drop(first);
-        drop(more);
+        let Multiplier {
+            negative: _,
+            numerator: _,
+            denominator: _,
+        } = self;
     }
-}
-
-pub type TacticTrees = Items<TacticTree>;
-
-/// What is run on the goals that a proof step leaves: a proof step on each of them, or a list with one for each.
-#[cycle(tactic)]
-pub enum Continuation {
-    Each(CombinedStep),
-    Branches(TacticTrees, Place),
-}
-
-impl Drop for Continuation {
-    #[cycle(drop_tactic)]
-    fn drop(self) {
-        match self {
-            Continuation::Each(step) => drop(step),
-            Continuation::Branches(tactics, _) => drop(tactics),
-        }
-    }
-}
-
-pub type Continuations = Items<Continuation>;
-
-/// A proof step with the combinators before it, at its first word.
-#[cycle(tactic)]
-pub struct CombinedStep {
-    pub shape: CombinedShape,
-    pub place: Place,
-}
-
-impl Drop for CombinedStep {
-    #[cycle(drop_tactic)]
-    fn drop(self) {
-        let CombinedStep { shape, place: _ } = self;
-        drop(shape);
-    }
-}
-
-#[derive(Drop)]
-#[cycle(tactic)]
-pub enum CombinedShape {
-    By(Boxed<CombinedStep>),
-    Try(Boxed<CombinedStep>),
-    /// `do n! t`.
-    Repeat(Number, Boxed<CombinedStep>),
-    /// A tactic in brackets.
-    Group(Boxed<TacticTree>),
-    /// A rule, and what the premises of its goals are called, where `=>` follows it.
-    Rule(StepTree, Option<Patterns>),
-}
-
-/// What a premise or a variable that is taken off is called.
-#[cycle(pattern)]
-pub struct PatternTree {
-    pub shape: PatternShape,
-    pub place: Place,
-}
-
-impl Drop for PatternTree {
-    #[cycle(drop_pattern)]
-    fn drop(self) {
-        let PatternTree { shape, place: _ } = self;
-        drop(shape);
-    }
-}
-
-pub type Patterns = Items<PatternTree>;
-
-#[derive(Drop)]
-#[cycle(pattern)]
-pub enum PatternShape {
-    Name(Word),
-    /// `&m`.
-    Memory(Word),
-    /// `_`.
-    Drop,
-    /// `[p q]`.
-    Both(Boxed<PatternTree>, Boxed<PatternTree>),
-    /// `[p | q]`.
-    Either(Boxed<PatternTree>, Boxed<PatternTree>),
-    /// `//`.
-    Trivial,
-    /// `/#`.
-    Smt,
 }

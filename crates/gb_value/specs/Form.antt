@@ -1,6 +1,7 @@
--- Forms and calls that stand where a stack is empty; none is on the stacks of a text.
+-- Forms and calls that stand where a stack is empty; none is on the stacks of a text. What a suffix makes of a form.
 use Rattle.std.specs.Prelude.{Option, [], None}
 use Rattle.gb_tree.specs.declared.form.Connective.TheVariants as Operator
+use Rattle.gb_tree.specs.declared.form.FormShape.{FormShape}
 use Rattle.gb_tree.specs.declared.form.FormShape.TheVariants as Shape
 use Rattle.gb_tree.specs.declared.form.FormTree.{FormTree}
 use Rattle.gb_tree.specs.declared.form.SideTree.{SideTree}
@@ -70,3 +71,11 @@ no_functor_call = None
 -- empty stacks
 abbrev pub no_formulas : FormulaValues
 no_formulas = record { forms = nothing_sorted; tails = []; infixes = nothing_sorted; operands = []; runs = []; suffixes = []; sides = nothing_sorted; bracket_tails = []; weights = nothing_sorted; phoares = []; phoare_runs = []; equated = nothing_sorted; subjects = []; calls = []; call_tails = []; functor_calls = [] }
+
+-- the shape of a form with a suffix
+abbrev pub shape_behind : FormTree → Suffix → FormShape
+shape_behind f (SuffixTree.Get k) = Shape.Get f k
+shape_behind f (SuffixTree.Set k v) = Shape.Set f k v
+shape_behind f (SuffixTree.Component n) = Shape.Component f n
+shape_behind f SuffixTree.ToReal = Shape.ToReal f
+shape_behind f (SuffixTree.Side s) = Shape.Sided f s

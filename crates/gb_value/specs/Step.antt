@@ -2,16 +2,16 @@
 use Rattle.std.specs.Prelude.{[], None}
 use Rattle.gb_tree.specs.declared.step.CallRule.{CallRule}
 use Rattle.gb_tree.specs.declared.step.CallRule.TheVariants as CallRules
-use Rattle.gb_tree.specs.declared.step.CombinedShape.TheVariants as CombinedOf
-use Rattle.gb_tree.specs.declared.step.CombinedStep.{CombinedStep}
+use Rattle.gb_tree.specs.declared.tactic.CombinedShape.TheVariants as CombinedOf
+use Rattle.gb_tree.specs.declared.tactic.CombinedStep.{CombinedStep}
 use Rattle.gb_tree.specs.declared.step.Distance.{Distance}
 use Rattle.gb_tree.specs.declared.step.Distance.TheVariants as Distances
 use Rattle.gb_tree.specs.declared.step.LemmaUse.{LemmaUse}
-use Rattle.gb_tree.specs.declared.step.PatternShape.TheVariants as PatternOf
-use Rattle.gb_tree.specs.declared.step.PatternTree.{PatternTree}
+use Rattle.gb_tree.specs.declared.tactic.PatternShape.TheVariants as PatternOf
+use Rattle.gb_tree.specs.declared.tactic.PatternTree.{PatternTree}
 use Rattle.gb_tree.specs.declared.step.RuleTree.{RuleTree}
 use Rattle.gb_tree.specs.declared.step.RuleTree.TheVariants as RuleShape
-use Rattle.gb_tree.specs.declared.step.TacticTree.{TacticTree}
+use Rattle.gb_tree.specs.declared.tactic.TacticTree.{TacticTree}
 use Rattle.gb_value.specs.declared.step.CallRest.{CallRest}
 use Rattle.gb_value.specs.declared.step.CallRest.TheVariants as CallRests
 use Rattle.gb_value.specs.declared.step.HaveRest.{HaveRest}

@@ -1,7 +1,7 @@
 // The values of forms, of what they are put together from, and of calls.
 
 ghost use Rattle.std.specs.Prelude.{◌≡◌};
-ghost use Rattle.gb_value.specs.Form.{no_form, no_tail, no_run, no_phoare_run, no_call_tail, no_formulas};
+ghost use Rattle.gb_value.specs.Form.{no_form, no_tail, no_run, no_phoare_run, no_call_tail, no_formulas, shape_behind};
 ghost use Rattle.gb_value.specs.Sorted.{top, behind};
 
 use crate::path::no_place;
@@ -33,10 +33,27 @@ pub struct Choice {
 }
 
 /// An operator, and the operand behind it.
-#[derive(Drop)]
 pub struct Infix {
     pub operator: Connective,
     pub operand: Boxed<FormTree>,
+}
+
+impl Drop for Infix {
+    fn drop(self) {
+        let Infix {
+            operator: _,
+            operand: _,
+        } = self;
+    }
+}
+
+impl Infix {
+    pub fn into_parts(self) -> (Connective, Boxed<FormTree>)
+        ensures { result ≡ (self.operator, self.operand) }
+    {
+        let Infix { operator, operand } = self;
+        (operator, operand)
+    }
 }
 
 /// An operand, the further operands of its product, and those of its sum.
@@ -49,7 +66,6 @@ pub struct Operand {
 
 /// What follows an atom: what stands right behind it, the arguments, and the further operands of the product and the
 /// sum.
-#[derive(Drop)]
 pub struct Run {
     pub suffixes: Stack<Suffix>,
     pub arguments: Stack<Boxed<FormTree>>,
@@ -57,14 +73,72 @@ pub struct Run {
     pub sums: Stack<Infix>,
 }
 
+impl Drop for Run {
+    fn drop(self) {
+        let Run {
+            suffixes: _,
+            arguments: _,
+            products: _,
+            sums: _,
+        } = self;
+    }
+}
+
+impl Run {
+    pub fn into_parts(
+        self,
+    ) -> (
+        Stack<Suffix>,
+        Stack<Boxed<FormTree>>,
+        Stack<Infix>,
+        Stack<Infix>,
+    )
+        ensures { result ≡ (self.suffixes, self.arguments, self.products, self.sums) }
+    {
+        let Run {
+            suffixes,
+            arguments,
+            products,
+            sums,
+        } = self;
+        (suffixes, arguments, products, sums)
+    }
+}
+
 /// What may stand right behind an atom.
-#[derive(Drop)]
 pub enum Suffix {
     Get(Boxed<FormTree>),
     Set(Boxed<FormTree>, Boxed<FormTree>),
     Component(Number),
     ToReal,
     Side(SideTree),
+}
+
+impl Drop for Suffix {
+    fn drop(self) {
+        match self {
+            Suffix::Get(_)
+            | Suffix::Set(_, _)
+            | Suffix::Component(_)
+            | Suffix::ToReal
+            | Suffix::Side(_) => {}
+        }
+    }
+}
+
+impl Suffix {
+    /// The shape of a form with this suffix.
+    pub fn behind(self, head: Boxed<FormTree>) -> FormShape
+        ensures { result ≡ shape_behind head self }
+    {
+        match self {
+            Suffix::Get(key) => FormShape::Get(head, key),
+            Suffix::Set(key, value) => FormShape::Set(head, key, value),
+            Suffix::Component(number) => FormShape::Component(head, number),
+            Suffix::ToReal => FormShape::ToReal(head),
+            Suffix::Side(side) => FormShape::Sided(head, side),
+        }
+    }
 }
 
 /// What follows a form in brackets: nothing, its type, or the other parts of a tuple.

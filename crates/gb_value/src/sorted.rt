@@ -9,10 +9,15 @@ use gb_text::stack::Stack;
 use std::alloc::{AllocError, Global};
 
 /// Values of a sort, and lists of such.
-#[derive(Drop)]
 pub struct Sorted<T> {
     pub one: Stack<T>,
     pub lists: Stack<Stack<T>>,
+}
+
+impl<T: Drop> Drop for Sorted<T> {
+    fn drop(self) {
+        let Sorted { one: _, lists: _ } = self;
+    }
 }
 
 /// Empty stacks.

@@ -8,8 +8,10 @@ use crate::sorted::{Sorted, nothing_sorted};
 use gb_text::stack::Stack;
 use gb_tree::form::{FormTree, Number, Word};
 use gb_tree::step::{
-    ArgumentTree, CallRule, CombinedStep, Continuation, Distance, Guard, Guards, Hint, LemmaUse,
-    PatternShape, PatternTree, Patterns, ProcPaths, RuleTree, Summand, TacticTree,
+    ArgumentTree, CallRule, Distance, Guard, Guards, Hint, LemmaUse, ProcPaths, RuleTree, Summand,
+};
+use gb_tree::tactic::{
+    CombinedStep, Continuation, PatternShape, PatternTree, Patterns, TacticTree,
 };
 use sqlite_items::{Boxed, Items};
 use std::alloc::Global;

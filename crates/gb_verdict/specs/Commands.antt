@@ -13,11 +13,11 @@ use Rattle.gb_tree.specs.declared.command.CommandShape.{CommandShape}
 use Rattle.gb_tree.specs.declared.command.CommandShape.TheVariants as command
 use Rattle.gb_tree.specs.declared.command.LemmaTree.{LemmaTree}
 use Rattle.gb_tree.specs.declared.program.ModuleTree.{ModuleTree}
-use Rattle.gb_tree.specs.declared.step.CombinedShape.{CombinedShape}
-use Rattle.gb_tree.specs.declared.step.CombinedShape.TheVariants as combined
-use Rattle.gb_tree.specs.declared.step.Continuation.{Continuation}
+use Rattle.gb_tree.specs.declared.tactic.CombinedShape.{CombinedShape}
+use Rattle.gb_tree.specs.declared.tactic.CombinedShape.TheVariants as combined
+use Rattle.gb_tree.specs.declared.tactic.Continuation.{Continuation}
 use Rattle.gb_tree.specs.declared.step.StepTree.{StepTree}
-use Rattle.gb_tree.specs.declared.step.TacticTree.{TacticTree}
+use Rattle.gb_tree.specs.declared.tactic.TacticTree.{TacticTree}
 use Rattle.gb_elab.specs.Answers.{Answer, ◌>>=◌, given_or, not_built}
 use Rattle.gb_elab.specs.Answers.Answer.{given, refused}
 use Rattle.gb_elab_mod.specs.Modules.{module_given}

@@ -1,7 +1,7 @@
 // Commands put together.
 
 ghost use Rattle.std.specs.Prelude.{◌≡◌};
-ghost use Rattle.gb_read_program.specs.Commands.{imported, keyword, local, named, stated};
+ghost use Rattle.gb_read_program.specs.Commands.{imported, keyword, named, stated};
 
 use gb_table::rule::{Keyword, Named, Stated};
 use gb_tree::command::{CommandShape, LemmaTree};
@@ -39,17 +39,6 @@ pub fn stated(rule: Stated, lemma: Boxed<LemmaTree>) -> CommandShape
     match rule {
         Stated::Axiom => CommandShape::Axiom(lemma),
         Stated::Lemma => CommandShape::Lemma(lemma),
-    }
-}
-
-/// A lemma or module behind `local`, which is a local one.
-pub fn local(shape: CommandShape) -> CommandShape
-    ensures { result ≡ local shape }
-{
-    match shape {
-        CommandShape::Lemma(lemma) => CommandShape::LocalLemma(lemma),
-        CommandShape::Module(tree) => CommandShape::LocalModule(tree),
-        shape => shape,
     }
 }
 

@@ -108,9 +108,9 @@ pub fn loop_shape(
 pub fn suffix_variant(suffix: Suffix, tail: VariantTail) -> Result<VariantTail, AllocError>
     ensures { IfOk result (λ t. t ≡ suffix_variant suffix tail) }
 {
-    let VariantTail { mut suffixes, body } = tail;
-    suffixes.push(suffix)?;
-    Ok(VariantTail { suffixes, body })
+    let mut tail = tail;
+    tail.suffixes.push(suffix)?;
+    Ok(tail)
 }
 
 fn first_statement(

@@ -35,7 +35,7 @@ pub fn push_rule(
 fn bodies(side: Option<SideTree>) -> Bodies
     ensures { result ≡ bodies side }
 {
-    match side {
+    match &side {
         None => Bodies::Both,
         Some(SideTree::Left) => Bodies::Left,
         Some(SideTree::Right) => Bodies::Right,
@@ -56,7 +56,7 @@ pub fn take_arguments(alloc: Global, runs: &mut Stack<Run>) -> FormTrees
     ensures arguments { result ≡ (top no_run runs.old).arguments }
     ensures behind { runs.new ≡ behind runs.old }
 {
-    let Run { arguments, .. } = take_run(alloc, runs);
+    let (_, arguments, _, _) = take_run(alloc, runs).into_parts();
     arguments.into_items()
 }
 

@@ -11,10 +11,8 @@ use gb_text::stack::Stack;
 use gb_text::terminal::Terminal;
 use gb_text::text::{Text, place_at};
 use gb_tree::form::Word;
-use gb_tree::step::{
-    ArgumentTree, CombinedShape, CombinedStep, PatternShape, PatternTree, Patterns, RuleTree,
-    StepTree,
-};
+use gb_tree::step::{ArgumentTree, RuleTree, StepTree};
+use gb_tree::tactic::{CombinedShape, CombinedStep, PatternShape, PatternTree, Patterns};
 use gb_value::form::{Run, Suffix, take_run};
 use gb_value::step::{Pairing, no_pattern};
 use gb_value::take::{take, take_list};
@@ -132,7 +130,7 @@ pub fn take_suffixes(alloc: Global, runs: &mut Stack<Run>) -> Stack<Suffix>
     ensures suffixes { result ≡ (top no_run runs.old).suffixes }
     ensures behind { runs.new ≡ behind runs.old }
 {
-    let Run { suffixes, .. } = take_run(alloc, runs);
+    let (suffixes, _, _, _) = take_run(alloc, runs).into_parts();
     suffixes
 }
 
