@@ -127,24 +127,6 @@ pub fn checked_text(
     }
 }
 
-// What a text of this part leaves which passes no limit.
-fn text_tops(alloc: Global, text: &Text, part: u8) -> Result<Tops, Refused>
-    requires { IsPart part }
-    ensures found { IfOk result (Leaves part text.now) }
-    ensures within { OnOk result (IsWithin part text.now) }
-    ensures only { IsWithin part text.now → MatchResult result (λ _. Unit {0}) (λ e. e ≡ NoMemory) }
-    ensures no_fault { IfErr result (λ e. e ≢ ReadFault) }
-    ensures fault { (why : Why) (place : Place) → result ≡ Err (Script why place) → IsFault part text.now why place }
-{
-    match steps(alloc, text, part) {
-        Ok(steps) => match build(alloc, text, steps.as_slice()) {
-            Ok(tops) => Ok(tops),
-            Err(_) => Err(Refused::NoMemory),
-        },
-        Err(refused) => Err(refused),
-    }
-}
-
 // What the text of these tokens leaves, which is one of this part and passes no limit.
 fn tops(alloc: Global, bytes: &[u8], tokens: &Tokens, at: Place, part: u8) -> Result<Tops, Refused>
     requires start { IsPart part }
@@ -157,10 +139,9 @@ fn tops(alloc: Global, bytes: &[u8], tokens: &Tokens, at: Place, part: u8) -> Re
     ensures no_fault { IfErr result (λ e. e ≢ ReadFault) }
     ensures refused { (why : Why) (place : Place) → result ≡ Err (Script why place) → IsRefusal part (text_at bytes.now at tokens.now) why place }
 {
-    match checked_text(alloc, bytes, tokens, at) {
-        Ok(text) => text_tops(alloc, &text, part),
-        Err(refused) => Err(refused),
-    }
+    let text = checked_text(alloc, bytes, tokens, at)?;
+    let steps = steps(alloc, &text, part)?;
+    Ok(build(alloc, &text, steps.as_slice())?)
 }
 
 /// The command that these tokens of a text spell; the text begins at the place `at`.
