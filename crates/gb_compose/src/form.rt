@@ -24,16 +24,6 @@ pub fn take_form(
     take_boxed(alloc, forms, no_form())
 }
 
-fn no_infix(alloc: Global) -> Result<Infix, AllocError>
-    ensures { IfOk result (λ x. x ≡ no_infix) }
-{
-    let operand = Boxed::new(alloc, no_form())?;
-    Ok(Infix {
-        operator: Connective::And,
-        operand,
-    })
-}
-
 /// Takes an operator with its operand off; a fixed one where there is none.
 pub fn take_infix(alloc: Global, infixes: &mut Stack<Infix>) -> Result<Infix, AllocError>
     ensures top { IfOk result (λ x. x ≡ top no_infix infixes.old) }
@@ -41,19 +31,11 @@ pub fn take_infix(alloc: Global, infixes: &mut Stack<Infix>) -> Result<Infix, Al
 {
     match infixes.pop() {
         Some(value) => Ok(value),
-        None => no_infix(alloc),
+        None => Ok(Infix {
+            operator: Connective::And,
+            operand: Boxed::new(alloc, no_form())?,
+        }),
     }
-}
-
-fn no_operand(alloc: Global) -> Result<Operand, AllocError>
-    ensures { IfOk result (λ x. x ≡ no_operand) }
-{
-    let form = Boxed::new(alloc, no_form())?;
-    Ok(Operand {
-        form,
-        products: Stack::new(alloc),
-        sums: Stack::new(alloc),
-    })
 }
 
 /// Takes an operand off; a fixed one where there is none.
@@ -63,7 +45,11 @@ pub fn take_operand(alloc: Global, operands: &mut Stack<Operand>) -> Result<Oper
 {
     match operands.pop() {
         Some(value) => Ok(value),
-        None => no_operand(alloc),
+        None => Ok(Operand {
+            form: Boxed::new(alloc, no_form())?,
+            products: Stack::new(alloc),
+            sums: Stack::new(alloc),
+        }),
     }
 }
 

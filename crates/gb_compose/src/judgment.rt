@@ -8,7 +8,7 @@ use crate::form::{take_form, take_two_forms};
 use gb_text::stack::Stack;
 use gb_tree::form::FormTree;
 use gb_tree::judgment::{CallTree, SubjectTree};
-use gb_value::form::{PhoareTree, no_form};
+use gb_value::form::PhoareTree;
 use gb_value::path::{no_place, no_word};
 use gb_value::take::take_boxed;
 use sqlite_items::{Boxed, Items};
@@ -25,17 +25,6 @@ pub fn take_subject(
     take_boxed(alloc, subjects, SubjectTree::Block(Items::new(alloc)))
 }
 
-fn no_call(alloc: Global) -> CallTree
-    ensures { result ≡ no_call }
-{
-    CallTree {
-        module: no_word(alloc),
-        modules: Items::new(alloc),
-        proc: no_word(alloc),
-        arguments: Items::new(alloc),
-    }
-}
-
 /// Takes a call off; a fixed one where there is none.
 pub fn take_call(
     alloc: Global,
@@ -44,21 +33,13 @@ pub fn take_call(
     ensures top { IfOk result (λ b. b ≡ top no_call calls.old) }
     ensures behind { calls.new ≡ behind calls.old }
 {
-    take_boxed(alloc, calls, no_call(alloc))
-}
-
-fn no_phoare(alloc: Global) -> Result<PhoareTree, AllocError>
-    ensures { IfOk result (λ x. x ≡ no_phoare) }
-{
-    let subject = Boxed::new(alloc, SubjectTree::Block(Items::new(alloc)))?;
-    let pre = Boxed::new(alloc, no_form())?;
-    let post = Boxed::new(alloc, no_form())?;
-    Ok(PhoareTree {
-        subject,
-        pre,
-        post,
-        place: no_place(),
-    })
+    let otherwise = CallTree {
+        module: no_word(alloc),
+        modules: Items::new(alloc),
+        proc: no_word(alloc),
+        arguments: Items::new(alloc),
+    };
+    take_boxed(alloc, calls, otherwise)
 }
 
 /// Takes a `phoare` without its bound off; a fixed one where there is none.
@@ -68,7 +49,16 @@ pub fn take_phoare(alloc: Global, phoares: &mut Stack<PhoareTree>) -> Result<Pho
 {
     match phoares.pop() {
         Some(value) => Ok(value),
-        None => no_phoare(alloc),
+        None => {
+            let subject = take_subject(alloc, &mut Stack::new(alloc))?;
+            let (pre, post) = take_two_forms(alloc, &mut Stack::new(alloc))?;
+            Ok(PhoareTree {
+                subject,
+                pre,
+                post,
+                place: no_place(),
+            })
+        }
     }
 }
 

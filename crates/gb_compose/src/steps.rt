@@ -11,20 +11,6 @@ use gb_value::path::no_place;
 use sqlite_items::{Boxed, Items};
 use std::alloc::{AllocError, Global};
 
-fn no_step(alloc: Global) -> Result<CombinedStep, AllocError>
-    ensures { IfOk result (λ x. x ≡ no_step) }
-{
-    let rule = Boxed::new(alloc, RuleTree::Split)?;
-    let rule = StepTree {
-        rule,
-        place: no_place(),
-    };
-    Ok(CombinedStep {
-        shape: CombinedShape::Rule(rule, None),
-        place: no_place(),
-    })
-}
-
 /// Takes a step with its combinators off; a fixed one where there is none.
 pub fn take_step(
     alloc: Global,
@@ -35,7 +21,17 @@ pub fn take_step(
 {
     match combined.pop() {
         Some(value) => Ok(value),
-        None => no_step(alloc),
+        None => {
+            let rule = Boxed::new(alloc, RuleTree::Split)?;
+            let rule = StepTree {
+                rule,
+                place: no_place(),
+            };
+            Ok(CombinedStep {
+                shape: CombinedShape::Rule(rule, None),
+                place: no_place(),
+            })
+        }
     }
 }
 
@@ -51,16 +47,6 @@ pub fn take_boxed_step(
     Boxed::new(alloc, step)
 }
 
-fn no_tactic(alloc: Global) -> Result<TacticTree, AllocError>
-    ensures { IfOk result (λ x. x ≡ no_tactic) }
-{
-    let first = no_step(alloc)?;
-    Ok(TacticTree {
-        first,
-        more: Items::new(alloc),
-    })
-}
-
 /// Takes a proof step with what follows it off; a fixed one where there is none.
 pub fn take_tactic(alloc: Global, tactics: &mut Stack<TacticTree>) -> Result<TacticTree, AllocError>
     ensures top { IfOk result (λ x. x ≡ top no_tactic tactics.old) }
@@ -68,7 +54,10 @@ pub fn take_tactic(alloc: Global, tactics: &mut Stack<TacticTree>) -> Result<Tac
 {
     match tactics.pop() {
         Some(value) => Ok(value),
-        None => no_tactic(alloc),
+        None => Ok(TacticTree {
+            first: take_step(alloc, &mut Stack::new(alloc))?,
+            more: Items::new(alloc),
+        }),
     }
 }
 

@@ -45,7 +45,7 @@ pub fn form(
                 alloc,
                 FormShape::Quantified(quantifier(terminal_at(text, at)), binds, body),
                 place_at(text, at),
-            )?
+            )
         }
         Form::Conditional => {
             let (condition, then, otherwise) = take_three_forms(alloc, &mut formulas.forms.one)?;
@@ -53,29 +53,29 @@ pub fn form(
                 alloc,
                 FormShape::Conditional(condition, then, otherwise),
                 place_at(text, at),
-            )?
+            )
         }
         Form::Tailed => {
             let left = take_form(alloc, &mut formulas.forms.one)?;
             let tail = take(&mut formulas.tails, no_tail());
-            tailed(alloc, left, tail)?
+            tailed(alloc, left, tail)
         }
-        // A chain of operands of `\/` or of `/\`.
+        // A chain of operands of `\/`.
         Form::Disjunction => {
             let first = take_form(alloc, &mut formulas.forms.one)?;
             let more = take_items(alloc, &mut formulas.forms.lists);
-            chained(alloc, Connective::Or, first, more)?
+            chained(alloc, Connective::Or, first, more)
         }
-        // A chain of operands of `\/` or of `/\`.
+        // A chain of operands of `/\`.
         Form::Conjunction => {
             let first = take_form(alloc, &mut formulas.forms.one)?;
             let more = take_items(alloc, &mut formulas.forms.lists);
-            chained(alloc, Connective::And, first, more)?
+            chained(alloc, Connective::And, first, more)
         }
         Form::Compared => {
             let left = take_form(alloc, &mut formulas.forms.one)?;
             let comparison = take_option(alloc, &mut formulas.infixes.lists);
-            compared(alloc, left, comparison)?
+            compared(alloc, left, comparison)
         }
         Form::NoTail => return formulas.tails.push(no_tail()),
         Form::FurtherTail => {
@@ -107,7 +107,7 @@ pub fn form(
                 operand,
             });
         }
-    };
+    }?;
     formulas.forms.one.push(made)
 }
 
@@ -122,30 +122,30 @@ pub fn operand(
     ensures { OnOk result (formulas.new ≡ operand_made text.now rule at formulas.old) }
 {
     let run = match rule {
-        OperandRule::NoRun => no_run(alloc),
+        OperandRule::NoRun => Ok(no_run(alloc)),
         OperandRule::SuffixRun => {
             let suffix = take(&mut formulas.suffixes, Suffix::ToReal);
             let run = take_run(alloc, &mut formulas.runs);
-            suffix_run(suffix, run)?
+            suffix_run(suffix, run)
         }
         OperandRule::ArgumentRun => {
             let argument = take_form(alloc, &mut formulas.forms.one)?;
             let run = take_run(alloc, &mut formulas.runs);
-            argument_run(alloc, argument, run)?
+            argument_run(alloc, argument, run)
         }
         OperandRule::CoinRun => {
             let coin = coin_before(alloc, text, at)?;
             let run = take_run(alloc, &mut formulas.runs);
-            argument_run(alloc, coin, run)?
+            argument_run(alloc, coin, run)
         }
         OperandRule::OperatorRun => {
             let operand = take_operand(alloc, &mut formulas.operands)?;
-            operator_run(alloc, connective(terminal_at(text, at)), operand)?
+            operator_run(alloc, connective(terminal_at(text, at)), operand)
         }
         OperandRule::PhoareRun => {
             let argument = take_phoare(alloc, &mut formulas.phoares)?;
             let run = take(&mut formulas.phoare_runs, no_phoare_run(alloc));
-            phoare_run(alloc, argument, run)?
+            phoare_run(alloc, argument, run)
         }
         OperandRule::Sum => {
             let operand = take_operand(alloc, &mut formulas.operands)?;
@@ -182,7 +182,7 @@ pub fn operand(
             let made = plain_phoare(alloc, judgment)?;
             return formulas.forms.one.push(made);
         }
-    };
+    }?;
     formulas.runs.push(run)
 }
 

@@ -9,13 +9,26 @@ use Rattle.gb_tree.specs.declared.form.Bind.{Bind}
 use Rattle.gb_tree.specs.declared.form.Bind.TheVariants as BindTree
 use Rattle.gb_tree.specs.declared.form.FormTree.{FormTree}
 use Rattle.gb_tree.specs.declared.form.Word.{Word}
-use Rattle.gb_value.specs.Form.{no_form}
-use Rattle.gb_value.specs.Path.{no_word}
-use Rattle.gb_value.specs.Program.{no_command}
+use Rattle.gb_value.specs.declared.form.FormulaValues.{FormulaValues}
+use Rattle.gb_value.specs.declared.path.PathValues.{PathValues}
+use Rattle.gb_value.specs.declared.program.CommandValues.{CommandValues}
+use Rattle.gb_value.specs.declared.program.ProgramValues.{ProgramValues}
+use Rattle.gb_value.specs.declared.step.RuleValues.{RuleValues}
+use Rattle.gb_value.specs.declared.step.TacticValues.{TacticValues}
+use Rattle.gb_value.specs.Form.{no_form, no_formulas}
+use Rattle.gb_value.specs.Path.{no_paths, no_word}
+use Rattle.gb_value.specs.Program.{no_command, no_commands, no_programs}
+use Rattle.gb_value.specs.Step.{no_rules, no_tactics}
 use Rattle.gb_value.specs.Sorted.{top}
 use Rattle.gb_value.specs.declared.values.Values.{Values}
 use Rattle.gb_value.specs.Values.{no_values}
 use Rattle.gb_read_script.specs.Built.{made, built, tops_of}
+
+-- empty stacks
+pub none_are : (p : PathValues) (f : FormulaValues) (s : ProgramValues) (c : CommandValues) (t : TacticValues) (r : RuleValues)
+    → p ≡ no_paths → f ≡ no_formulas → s ≡ no_programs → c ≡ no_commands → t ≡ no_tactics → r ≡ no_rules
+    → record { paths = p; formulas = f; programs = s; commands = c; tactics = t; rules = r } ≡ no_values
+none_are p f s c t r ps fs ss cs ts rs = cc
 
 pub built_none : (t : Text) → built t [] ≡ no_values
 unfolding built

@@ -9,11 +9,12 @@ use gb_table::rule::Rule;
 use gb_text::text::Text;
 use gb_tree::command::Command;
 use gb_tree::form::{Bind, FormTree, Word};
-use gb_value::form::no_form;
-use gb_value::path::no_word;
-use gb_value::program::no_command;
+use gb_value::form::{no_form, no_formulas};
+use gb_value::path::{no_paths, no_word};
+use gb_value::program::{no_command, no_commands, no_programs};
+use gb_value::step::{no_rules, no_tactics};
 use gb_value::take::{take, take_boxed, take_word};
-use gb_value::values::no_values;
+use gb_value::values::Values;
 use sqlite_items::Boxed;
 use std::alloc::{AllocError, Global};
 
@@ -31,7 +32,14 @@ pub struct Tops {
 pub fn build(alloc: Global, text: &Text, steps: &[Step<Rule>]) -> Result<Tops, AllocError>
     ensures { IfOk result (λ t. t ≡ tops_of (built text.now steps.now)) }
 {
-    let mut values = no_values(alloc);
+    let mut values = Values {
+        paths: no_paths(alloc),
+        formulas: no_formulas(alloc),
+        programs: no_programs(alloc),
+        commands: no_commands(alloc),
+        tactics: no_tactics(alloc),
+        rules: no_rules(alloc),
+    };
     for i in (0..steps.len()).rev() {
         let step = steps[i];
         make(alloc, text, step.rule, step.at, &mut values)?;

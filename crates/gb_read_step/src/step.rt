@@ -5,8 +5,8 @@ ghost use Rattle.gb_read_step.specs.Steps.{given_made, program_step_made, step_m
 ghost use Rattle.std.specs.Prelude.{OnOk, ◌≡◌};
 
 use crate::step::rules::{
-    call_rule, conseq_rule, contract_rule, fel_bounds, fel_counter, fel_rule, push_rule,
-    seq_bounds, seq_rule, take_arguments, take_bodies, take_contract, transitivity_rule,
+    call_rule, contract_rule, fel_bounds, fel_counter, fel_rule, seq_bounds, take_arguments,
+    take_bodies, take_contract, transitivity_rule,
 };
 use crate::step::trees::{
     body_form_rule, body_rule, call_rest, distance, eager_rule, form_rule, have_rule, lemma_rule,
@@ -25,6 +25,7 @@ use gb_value::step::{
     CallRest, HaveRest, RuleValues, no_call_rule, no_distance, no_have_rest, no_lemma,
 };
 use gb_value::take::{take, take_items, take_number, take_option, take_word};
+use sqlite_items::Boxed;
 use std::alloc::{AllocError, Global};
 
 mod rules;
@@ -98,7 +99,7 @@ pub fn step(
             RuleTree::Linear(summands)
         }
     };
-    push_rule(alloc, made, &mut rules.rules)
+    rules.rules.push(made)
 }
 
 /// What the productions of rules on programs make.
@@ -140,16 +141,14 @@ pub fn program_step(
             let bounds = take_arguments(alloc, &mut formulas.runs);
             let invariant = take_option(alloc, &mut formulas.forms.lists);
             let bounds = seq_bounds(bounds, invariant);
-            seq_rule(
-                alloc,
-                SeqTree {
-                    bodies,
-                    first,
-                    second,
-                    middle,
-                    bounds,
-                },
-            )?
+            let seq = SeqTree {
+                bodies,
+                first,
+                second,
+                middle,
+                bounds,
+            };
+            RuleTree::Seq(Boxed::new(alloc, seq)?)
         }
         // `rnd` with none, one or two functions.
         ProgramStep::Rnd => {
@@ -177,15 +176,13 @@ pub fn program_step(
             let pre = take_option(alloc, &mut formulas.forms.lists);
             let post = take_option(alloc, &mut formulas.forms.lists);
             let bound = take_option(alloc, &mut formulas.forms.lists);
-            conseq_rule(
-                alloc,
-                ConseqTree {
-                    bodies,
-                    pre,
-                    post,
-                    bound,
-                },
-            )?
+            let conseq = ConseqTree {
+                bodies,
+                pre,
+                post,
+                bound,
+            };
+            RuleTree::Conseq(Boxed::new(alloc, conseq)?)
         }
         // `transitivity M.f (P ==> Q) (R ==> S)`.
         ProgramStep::Transitivity => {
@@ -193,7 +190,7 @@ pub fn program_step(
             transitivity_rule(alloc, bodies, procedure, &mut formulas.forms.one)?
         }
     };
-    push_rule(alloc, made, &mut rules.rules)
+    rules.rules.push(made)
 }
 
 /// What the productions of what rules are given make.

@@ -21,7 +21,6 @@ use gb_value::form::{FormulaValues, no_run};
 use gb_value::path::PathValues;
 use gb_value::step::{Pairing, RuleValues, TacticValues};
 use gb_value::take::{take, take_items, take_number, take_word};
-use sqlite_items::Boxed;
 use std::alloc::{AllocError, Global};
 
 mod trees;
@@ -66,7 +65,7 @@ pub fn tactic(
     rule: Tactic,
     at: usize,
     numbers: &mut Stack<Number>,
-    rules: &mut Stack<Boxed<RuleTree>>,
+    rules: &mut Stack<RuleTree>,
     tactics: &mut TacticValues,
 ) -> Result<(), AllocError>
     ensures { OnOk result (tactics_of numbers.new rules.new tactics.new ≡ tactic_made text.now rule at (tactics_of numbers.old rules.old tactics.old)) }

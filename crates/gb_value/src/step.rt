@@ -83,7 +83,7 @@ impl Drop for TacticValues {
 
 /// The stacks of rules, and of what they are given.
 pub struct RuleValues {
-    pub rules: Stack<Boxed<RuleTree>>,
+    pub rules: Stack<RuleTree>,
     pub lemmas: Stack<LemmaUse>,
     pub argument_lists: Stack<Stack<ArgumentTree>>,
     pub have_rests: Stack<HaveRest>,

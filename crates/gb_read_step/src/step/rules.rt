@@ -20,18 +20,6 @@ use gb_value::take::take_option;
 use sqlite_items::Boxed;
 use std::alloc::{AllocError, Global};
 
-/// Puts a rule on its stack.
-pub fn push_rule(
-    alloc: Global,
-    rule: RuleTree,
-    rules: &mut Stack<Boxed<RuleTree>>,
-) -> Result<(), AllocError>
-    ensures { OnOk result (rules.new ≡ rule ∷ rules.old) }
-{
-    let rule = Boxed::new(alloc, rule)?;
-    rules.push(rule)
-}
-
 fn bodies(side: Option<SideTree>) -> Bodies
     ensures { result ≡ bodies side }
 {
@@ -120,22 +108,6 @@ pub fn seq_bounds(bounds: FormTrees, invariant: Option<Boxed<FormTree>>) -> Opti
         None => None,
         Some(invariant) => Some(SeqBounds { bounds, invariant }),
     }
-}
-
-/// `seq` with what it is given.
-pub fn seq_rule(alloc: Global, seq: SeqTree) -> Result<RuleTree, AllocError>
-    ensures { IfOk result (λ r. r ≡ RuleTree.Seq seq) }
-{
-    let seq = Boxed::new(alloc, seq)?;
-    Ok(RuleTree::Seq(seq))
-}
-
-/// `conseq` with what it is given.
-pub fn conseq_rule(alloc: Global, conseq: ConseqTree) -> Result<RuleTree, AllocError>
-    ensures { IfOk result (λ r. r ≡ RuleTree.Conseq conseq) }
-{
-    let conseq = Boxed::new(alloc, conseq)?;
-    Ok(RuleTree::Conseq(conseq))
 }
 
 /// What `call` is given that begins with a form.

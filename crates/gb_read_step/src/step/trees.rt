@@ -9,7 +9,6 @@ ghost use Rattle.gb_value.specs.Sorted.{behind, top};
 ghost use Rattle.gb_value.specs.Step.{no_lemma};
 ghost use Rattle.std.specs.Prelude.{OnOk, ◌∷◌, ◌≡◌};
 
-use crate::step::rules::push_rule;
 use gb_compose::form::take_form;
 use gb_table::rule::{FormStep, LemmaStep, WordStep};
 use gb_text::stack::Stack;

@@ -95,18 +95,12 @@ pub fn ruled(
     CombinedShape::Rule(StepTree { rule, place }, introduction)
 }
 
-/// Takes a rule off; a fixed one where there is none.
-pub fn take_rule(
-    alloc: Global,
-    rules: &mut Stack<Boxed<RuleTree>>,
-) -> Result<Boxed<RuleTree>, AllocError>
+/// Takes a rule off, in a box; a fixed one where there is none.
+pub fn take_rule(alloc: Global, rules: &mut Stack<RuleTree>) -> Result<Boxed<RuleTree>, AllocError>
     ensures top { IfOk result (λ r. r ≡ top no_rule rules.old) }
     ensures behind { rules.new ≡ behind rules.old }
 {
-    match rules.pop() {
-        Some(rule) => Ok(rule),
-        None => Boxed::new(alloc, RuleTree::Split),
-    }
+    Boxed::new(alloc, take(rules, RuleTree::Split))
 }
 
 /// Takes two patterns off, in boxes; fixed ones where there are none.

@@ -6,11 +6,13 @@ use Rattle.gb_tree.specs.declared.form.Word.{Word}
 use Rattle.gb_value.specs.Sorted.{top}
 use Rattle.std.proofs.Math.Seq.{drop-length}
 use Rattle.gb_read_script.specs.Built.{built}
-use Rattle.gb_read_script.proofs.Builds.{built_none, tops_are}
+use Rattle.gb_read_script.proofs.Builds.{built_none, none_are, tops_are}
 use Rattle.gb_read_script.proofs.build.build.Goals as goal
 
 pub loop-i-init : goal.loop-i-init
-loop-i-init c = c.no_values-values.ensures ∙ sym (ap (built c.args.text.now) (drop-length c.args.steps.now) ∙ built_none c.args.text.now)
+loop-i-init c =
+    none_are _ _ _ _ _ _ c.no_paths.ensures c.no_formulas.ensures c.no_programs.ensures c.no_commands.ensures c.no_tactics.ensures c.no_rules.ensures
+    ∙ sym (ap (built c.args.text.now) (drop-length c.args.steps.now) ∙ built_none c.args.text.now)
 
 pub returns : goal.returns
 returns c =
