@@ -14,13 +14,13 @@ use Rattle.gb_value.specs.Values.{lists_made, no_values}
 use Rattle.gb_read_script.specs.Groups.{with_commands, with_forms, with_judgments, with_modules, with_patterns, with_programs, with_rules, with_steps, with_tactics}
 use Rattle.gb_read_form.specs.Atoms.{atom_made, judgment_made, call_made}
 use Rattle.gb_read_form.specs.Forms.{form_made, operand_made, suffix_made}
-use Rattle.gb_read_form.specs.Groups.{forms_of, judgments_of}
+use Rattle.gb_read_form.specs.Groups.{forms_of, judgments_of, modules_of, programs_of}
 use Rattle.gb_read_form.specs.Paths.{word_made, type_made, bind_made, path_made}
-use Rattle.gb_read_program.specs.Groups.{commands_of, modules_of, programs_of}
-use Rattle.gb_read_program.specs.Makes.{program_made, variant_made, module_made, definition_made, command_made}
-use Rattle.gb_read_step.specs.Groups.{patterns_of, rules_of, steps_of, tactics_of}
-use Rattle.gb_read_step.specs.Steps.{step_made, program_step_made, given_made}
-use Rattle.gb_read_step.specs.Tactics.{tactic_made, pattern_made, argument_made}
+use Rattle.gb_read_command.specs.Commands.{definition_made, command_made}
+use Rattle.gb_read_form.specs.Programs.{program_made, variant_made, module_made}
+use Rattle.gb_read_command.specs.Groups.{commands_of, patterns_of, rules_of, steps_of, tactics_of}
+use Rattle.gb_read_command.specs.Steps.{step_made, program_step_made, given_made}
+use Rattle.gb_read_command.specs.Tactics.{tactic_made, pattern_made, argument_made}
 use Rattle.gb_read_script.specs.declared.build.Tops.{Tops}
 
 -- what a production makes at a position of a text: the new values from the old ones

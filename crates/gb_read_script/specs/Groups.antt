@@ -1,8 +1,7 @@
 -- The values of a text with the stacks changed that productions work on.
 use Rattle.gb_value.specs.declared.values.Values.{Values}
-use Rattle.gb_read_form.specs.Groups.{Forms, Judgments}
-use Rattle.gb_read_program.specs.Groups.{Commands, Modules, Programs}
-use Rattle.gb_read_step.specs.Groups.{Patterns, Rules, Steps, Tactics}
+use Rattle.gb_read_form.specs.Groups.{Forms, Judgments, Modules, Programs}
+use Rattle.gb_read_command.specs.Groups.{Commands, Patterns, Rules, Steps, Tactics}
 
 abbrev pub with_forms : Values → Forms → Values
 with_forms v x = record v { paths = x.paths; formulas = x.formulas }

@@ -4,13 +4,13 @@ ghost use Rattle.std.specs.Prelude.{◌≡◌, OnOk};
 ghost use Rattle.gb_read_script.specs.Built.{made};
 
 use crate::lists::{command_list, formula_list, path_list, program_list, rule_list, tactic_list};
+use gb_read_command::command::{command, definition};
+use gb_read_command::step::{given, program_step, step};
+use gb_read_command::tactic::{argument, pattern, tactic};
 use gb_read_form::atom::{atom, call, judgment};
 use gb_read_form::form::{form, operand, suffix};
 use gb_read_form::path::{bind, path, type_tree, word};
-use gb_read_program::commands::{command, definition};
-use gb_read_program::programs::{module, program, variant};
-use gb_read_step::step::{given, program_step, step};
-use gb_read_step::tactic::{argument, pattern, tactic};
+use gb_read_form::program::{module, program, variant};
 use gb_table::rule::Rule;
 use gb_text::text::Text;
 use gb_value::values::Values;

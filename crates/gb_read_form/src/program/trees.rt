@@ -1,8 +1,9 @@
 // Statements, loops and modules put together.
 
 ghost use Rattle.std.specs.Prelude.{◌≡◌, ◌∷◌, IfOk, []};
-ghost use Rattle.gb_read_program.specs.Commands.{module_of};
-ghost use Rattle.gb_read_program.specs.Program.{writing, acting, statement_shape, statement, longer_statement, loop_shape, suffix_variant, name_variant};
+ghost use Rattle.gb_value.specs.Program.{no_written};
+ghost use Rattle.gb_value.specs.Sorted.{top, behind};
+ghost use Rattle.gb_read_form.specs.ProgramTrees.{module_of, writing, acting, statement_shape, statement, longer_statement, loop_shape, suffix_variant, name_variant};
 
 use gb_compose::calls::{call, longer_call};
 use gb_compose::trees::suffixed;
@@ -11,7 +12,7 @@ use gb_text::stack::Stack;
 use gb_tree::command::CommandShape;
 use gb_tree::form::{FormTree, SideTree, Word};
 use gb_tree::program::{ModuleAlias, ModuleTree, Statement, StatementShape, Statements, Target};
-use gb_value::form::Suffix;
+use gb_value::form::{Suffix, no_form};
 use gb_value::program::{Action, ModuleRest, StatementTail, VariantName, VariantTail, Written};
 use gb_value::take::in_front;
 use sqlite_items::Boxed;
@@ -158,5 +159,16 @@ pub fn module_of(name: Word, rest: ModuleRest) -> CommandShape
             name,
             module: expression,
         }),
+    }
+}
+
+/// Takes what is written off; a fixed value where there is none.
+pub fn take_written(alloc: Global, written: &mut Stack<Written>) -> Result<Written, AllocError>
+    ensures top { IfOk result (λ x. x ≡ top no_written written.old) }
+    ensures behind { written.new ≡ behind written.old }
+{
+    match written.pop() {
+        Some(value) => Ok(value),
+        None => Ok(Written::Value(Boxed::new(alloc, no_form())?)),
     }
 }

@@ -1,7 +1,7 @@
 // What each production of tactics, patterns and lemmas makes.
 
-ghost use Rattle.gb_read_step.specs.Groups.{patterns_of, rules_of, tactics_of};
-ghost use Rattle.gb_read_step.specs.Tactics.{argument_made, pattern_made, tactic_made};
+ghost use Rattle.gb_read_command.specs.Groups.{patterns_of, rules_of, tactics_of};
+ghost use Rattle.gb_read_command.specs.Tactics.{argument_made, pattern_made, tactic_made};
 ghost use Rattle.std.specs.Prelude.{OnOk, ◌≡◌};
 
 use crate::tactic::trees::{

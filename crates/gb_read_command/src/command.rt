@@ -1,11 +1,10 @@
 // What each production of definitions and commands makes.
 
-ghost use Rattle.gb_read_program.specs.Groups.{commands_of};
-ghost use Rattle.gb_read_program.specs.Makes.{command_made, definition_made};
+ghost use Rattle.gb_read_command.specs.Groups.{commands_of};
+ghost use Rattle.gb_read_command.specs.Commands.{command_made, definition_made};
 ghost use Rattle.std.specs.Prelude.{OnOk, ◌≡◌};
 
-use crate::commands::trees::{imported, keyword, named, stated};
-use crate::written::typed_operator;
+use crate::command::trees::{imported, keyword, named, stated, typed_operator};
 use gb_compose::form::take_form;
 use gb_compose::paths::take_type;
 use gb_compose::steps::{take_boxed_tactic, take_tactic};

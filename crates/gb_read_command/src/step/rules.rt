@@ -3,7 +3,7 @@
 ghost use Rattle.std.specs.Prelude.{◌≡◌, ◌∷◌, IfOk, OnOk};
 ghost use Rattle.gb_value.specs.Sorted.{top, behind, option_on};
 ghost use Rattle.gb_value.specs.Form.{no_form, no_run};
-ghost use Rattle.gb_read_step.specs.Composed.{bodies, seq_bounds, contract_on, contract_rule, fel_rule, call_rule};
+ghost use Rattle.gb_read_command.specs.Composed.{bodies, seq_bounds, contract_on, contract_rule, fel_rule, call_rule};
 
 use gb_compose::form::take_form;
 use gb_text::stack::Stack;

@@ -1,8 +1,8 @@
 // What productions make of the trees of their parts.
 
-ghost use Rattle.gb_read_step.specs.Composed.{bodies};
-ghost use Rattle.gb_read_step.specs.Given.{call_rest, distance, is_minus, multiplier};
-ghost use Rattle.gb_read_step.specs.Rules.{body_form_rule, body_rule, eager_rule, form_rule, have_rule, lemma_rule, plain_rule, position_rule, proc_rule, word_rule};
+ghost use Rattle.gb_read_command.specs.Composed.{bodies};
+ghost use Rattle.gb_read_command.specs.Given.{call_rest, distance, is_minus, multiplier};
+ghost use Rattle.gb_read_command.specs.Rules.{body_form_rule, body_rule, eager_rule, form_rule, have_rule, lemma_rule, plain_rule, position_rule, proc_rule, word_rule};
 ghost use Rattle.gb_value.specs.Form.{no_form};
 ghost use Rattle.gb_value.specs.Path.{no_word};
 ghost use Rattle.gb_value.specs.Sorted.{behind, top};

@@ -1,10 +1,11 @@
--- Statements, loops and operators put together.
-use Rattle.std.specs.Prelude.{[], ◌∷◌, Some, None}
-use Rattle.gb_tree.specs.declared.command.OperatorDefinition.{OperatorDefinition}
-use Rattle.gb_tree.specs.declared.command.OperatorDefinition.TheVariants as OperatorOf
+-- Statements, loops and modules put together.
+use Rattle.gb_compose.specs.Atoms.{call, longer_call}
+use Rattle.gb_compose.specs.Forms.{suffixed}
+use Rattle.gb_compose.specs.Paths.{dotted}
+use Rattle.gb_tree.specs.declared.command.CommandShape.{CommandShape}
+use Rattle.gb_tree.specs.declared.command.CommandShape.TheVariants as CommandTree
 use Rattle.gb_tree.specs.declared.form.FormTree.{FormTree}
 use Rattle.gb_tree.specs.declared.form.SideTree.TheVariants as SideOf
-use Rattle.gb_tree.specs.declared.form.TypeTree.{TypeTree}
 use Rattle.gb_tree.specs.declared.form.Word.{Word}
 use Rattle.gb_tree.specs.declared.program.Statement.{Statement}
 use Rattle.gb_tree.specs.declared.program.StatementShape.{StatementShape}
@@ -15,6 +16,8 @@ use Rattle.gb_value.specs.declared.form.Suffix.{Suffix}
 use Rattle.gb_value.specs.declared.form.Suffix.TheVariants as SuffixTree
 use Rattle.gb_value.specs.declared.program.Action.{Action}
 use Rattle.gb_value.specs.declared.program.Action.TheVariants as Actions
+use Rattle.gb_value.specs.declared.program.ModuleRest.{ModuleRest}
+use Rattle.gb_value.specs.declared.program.ModuleRest.TheVariants as ModuleRests
 use Rattle.gb_value.specs.declared.program.StatementTail.{StatementTail}
 use Rattle.gb_value.specs.declared.program.StatementTail.TheVariants as StatementTails
 use Rattle.gb_value.specs.declared.program.VariantName.{VariantName}
@@ -22,9 +25,8 @@ use Rattle.gb_value.specs.declared.program.VariantName.TheVariants as VariantNam
 use Rattle.gb_value.specs.declared.program.VariantTail.{VariantTail}
 use Rattle.gb_value.specs.declared.program.Written.{Written}
 use Rattle.gb_value.specs.declared.program.Written.TheVariants as Writing
-use Rattle.gb_compose.specs.Atoms.{call, longer_call}
-use Rattle.gb_compose.specs.Forms.{suffixed}
-use Rattle.gb_compose.specs.Paths.{dotted}
+use Rattle.std.specs.Prelude.{[], ◌∷◌, Some, None}
+use Rattle.std.specs.Prelude.{Some, None}
 
 -- Statements.
 
@@ -65,9 +67,9 @@ abbrev pub name_variant : Word → VariantName → VariantTail
 name_variant name (VariantNames.Memory tail) = suffix_variant (SuffixTree.Side (SideOf.Memory name)) tail
 name_variant name (VariantNames.Statements tail more) = record { suffixes = []; body = statement name tail ∷ more }
 
--- Operators.
+-- Modules.
 
--- an operator whose type, or that of its first argument, stands before what follows
-abbrev pub typed_operator : TypeTree → OperatorDefinition → OperatorDefinition
-typed_operator ty (OperatorOf.Defined parameters result body) = OperatorOf.Defined parameters (Some ty) body
-typed_operator ty (OperatorOf.Abstract types) = OperatorOf.Abstract (ty ∷ types)
+-- a module by its name
+abbrev pub module_of : Word → ModuleRest → CommandShape
+module_of name (ModuleRests.Body parameters ty items) = CommandTree.«Module» (record { name = name; parameters = parameters; ty = ty; items = items })
+module_of name (ModuleRests.Alias expression) = CommandTree.ModuleAlias (record { name = name; «module» = expression })

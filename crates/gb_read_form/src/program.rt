@@ -1,13 +1,13 @@
 // What each production of statements and modules makes.
 
-ghost use Rattle.gb_read_program.specs.Groups.{modules_of, programs_of};
-ghost use Rattle.gb_read_program.specs.Makes.{module_made, program_made, variant_made};
+ghost use Rattle.gb_read_form.specs.Groups.{modules_of, programs_of};
+ghost use Rattle.gb_read_form.specs.Programs.{module_made, program_made, variant_made};
 ghost use Rattle.std.specs.Prelude.{OnOk, ◌≡◌};
 
-use crate::programs::trees::{
-    longer_statement, loop_shape, module_of, name_variant, statement, suffix_variant, writing,
+use crate::program::trees::{
+    longer_statement, loop_shape, module_of, name_variant, statement, suffix_variant, take_written,
+    writing,
 };
-use crate::written::take_written;
 use gb_compose::form::{take_form, take_two_forms};
 use gb_compose::judgment::take_call;
 use gb_compose::paths::take_type;

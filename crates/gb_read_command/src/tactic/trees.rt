@@ -1,7 +1,7 @@
 // What productions make of the trees of their parts.
 
-ghost use Rattle.gb_read_step.specs.Composed.{with_argument};
-ghost use Rattle.gb_read_step.specs.TacticTrees.{combined_at, pair_pattern, pairing, pattern_at, plain_pattern, prefixed, ruled, word_pattern};
+ghost use Rattle.gb_read_command.specs.Composed.{with_argument};
+ghost use Rattle.gb_read_command.specs.TacticTrees.{combined_at, pair_pattern, pairing, pattern_at, plain_pattern, prefixed, ruled, word_pattern};
 ghost use Rattle.gb_value.specs.Form.{no_run};
 ghost use Rattle.gb_value.specs.Sorted.{top, behind};
 ghost use Rattle.gb_value.specs.Step.{no_pattern, no_rule};

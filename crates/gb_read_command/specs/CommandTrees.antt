@@ -1,5 +1,4 @@
--- The trees that productions of programs and commands make of the trees of their parts.
-use Rattle.std.specs.Prelude.{Bool, Option, Some, None, true, false}
+-- Commands and operators put together.
 use Rattle.gb_table.specs.declared.rule.Keyword.{Keyword}
 use Rattle.gb_table.specs.declared.rule.Keyword.TheVariants as keyword_rule
 use Rattle.gb_table.specs.declared.rule.Named.{Named}
@@ -9,13 +8,12 @@ use Rattle.gb_table.specs.declared.rule.Stated.TheVariants as stated_rule
 use Rattle.gb_tree.specs.declared.command.CommandShape.{CommandShape}
 use Rattle.gb_tree.specs.declared.command.CommandShape.TheVariants as CommandTree
 use Rattle.gb_tree.specs.declared.command.LemmaTree.{LemmaTree}
+use Rattle.gb_tree.specs.declared.command.OperatorDefinition.{OperatorDefinition}
+use Rattle.gb_tree.specs.declared.command.OperatorDefinition.TheVariants as OperatorOf
+use Rattle.gb_tree.specs.declared.form.TypeTree.{TypeTree}
 use Rattle.gb_tree.specs.declared.form.Word.{Word}
-use Rattle.gb_value.specs.declared.program.ModuleRest.{ModuleRest}
-use Rattle.gb_value.specs.declared.program.ModuleRest.TheVariants as ModuleRests
-
-abbrev pub module_of : Word → ModuleRest → CommandShape
-module_of name (ModuleRests.Body parameters ty items) = CommandTree.«Module» (record { name = name; parameters = parameters; ty = ty; items = items })
-module_of name (ModuleRests.Alias expression) = CommandTree.ModuleAlias (record { name = name; «module» = expression })
+use Rattle.std.specs.Prelude.{◌∷◌, Some, None}
+use Rattle.std.specs.Prelude.{Bool, Option, Some, None, true, false}
 
 -- commands of a word or two
 abbrev pub keyword : Keyword → CommandShape
@@ -40,3 +38,8 @@ stated stated_rule.Lemma lemma = CommandTree.Lemma lemma
 abbrev pub imported : Option Word → Bool
 imported None = false
 imported (Some word) = true
+
+-- an operator whose type, or that of its first argument, stands before what follows
+abbrev pub typed_operator : TypeTree → OperatorDefinition → OperatorDefinition
+typed_operator ty (OperatorOf.Defined parameters result body) = OperatorOf.Defined parameters (Some ty) body
+typed_operator ty (OperatorOf.Abstract types) = OperatorOf.Abstract (ty ∷ types)

@@ -11,14 +11,14 @@ use Rattle.gb_tree.specs.declared.tactic.CombinedShape.TheVariants as CombinedOf
 use Rattle.gb_tree.specs.declared.tactic.Continuation.TheVariants as ContinuationOf
 use Rattle.gb_tree.specs.declared.step.ArgumentTree.TheVariants as ArgumentOf
 use Rattle.gb_compose.specs.Forms.{coin_before, suffixed}
-use Rattle.gb_read_step.specs.Composed.{with_argument}
-use Rattle.gb_read_step.specs.Groups.{Patterns, Rules, Tactics}
+use Rattle.gb_read_command.specs.Composed.{with_argument}
+use Rattle.gb_read_command.specs.Groups.{Patterns, Rules, Tactics}
 use Rattle.gb_value.specs.Sorted.{top, behind, list_on}
 use Rattle.gb_value.specs.Path.{no_word, no_number}
 use Rattle.gb_value.specs.Form.{no_form, no_run}
 use Rattle.gb_value.specs.Step.{no_rule, no_step, no_tactic, no_pattern, no_pairing}
 use Rattle.gb_text.specs.Text.{place_at, terminal_at}
-use Rattle.gb_read_step.specs.TacticTrees.{pattern_at, word_pattern, plain_pattern, pairing, pair_pattern, combined_at, tactic, ruled, prefixed, lemma_use}
+use Rattle.gb_read_command.specs.TacticTrees.{pattern_at, word_pattern, plain_pattern, pairing, pair_pattern, combined_at, tactic, ruled, prefixed, lemma_use}
 
 -- what the productions of patterns make
 abbrev pub pattern_made : Text → PatternRule → ℕ → Patterns → Patterns

@@ -1,12 +1,14 @@
 // Commands put together.
 
-ghost use Rattle.std.specs.Prelude.{◌≡◌};
-ghost use Rattle.gb_read_program.specs.Commands.{imported, keyword, named, stated};
+ghost use Rattle.std.specs.Prelude.{◌≡◌, IfOk};
+ghost use Rattle.gb_read_command.specs.CommandTrees.{imported, keyword, named, stated, typed_operator};
 
 use gb_table::rule::{Keyword, Named, Stated};
-use gb_tree::command::{CommandShape, LemmaTree};
-use gb_tree::form::Word;
+use gb_tree::command::{CommandShape, LemmaTree, OperatorDefinition};
+use gb_tree::form::{TypeTree, Word};
+use gb_value::take::in_front;
 use sqlite_items::Boxed;
+use std::alloc::{AllocError, Global};
 
 /// A command of a word or two.
 pub fn keyword(rule: Keyword) -> CommandShape
@@ -47,4 +49,28 @@ pub fn imported(word: Option<Word>) -> bool
     ensures { result ≡ imported word }
 {
     word.is_some()
+}
+
+/// An operator whose type, or that of its first argument, stands before what follows.
+pub fn typed_operator(
+    alloc: Global,
+    ty: Boxed<TypeTree>,
+    definition: OperatorDefinition,
+) -> Result<OperatorDefinition, AllocError>
+    ensures { IfOk result (λ d. d ≡ typed_operator ty definition) }
+{
+    match definition {
+        OperatorDefinition::Defined {
+            parameters,
+            result: _,
+            body,
+        } => Ok(OperatorDefinition::Defined {
+            parameters,
+            result: Some(ty),
+            body,
+        }),
+        OperatorDefinition::Abstract(types) => Ok(OperatorDefinition::Abstract(in_front(
+            alloc, ty, types,
+        )?)),
+    }
 }

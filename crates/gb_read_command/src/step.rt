@@ -1,7 +1,7 @@
 // What each production of rules makes.
 
-ghost use Rattle.gb_read_step.specs.Groups.{rules_of, steps_of};
-ghost use Rattle.gb_read_step.specs.Steps.{given_made, program_step_made, step_made};
+ghost use Rattle.gb_read_command.specs.Groups.{rules_of, steps_of};
+ghost use Rattle.gb_read_command.specs.Steps.{given_made, program_step_made, step_made};
 ghost use Rattle.std.specs.Prelude.{OnOk, ◌≡◌};
 
 use crate::step::rules::{

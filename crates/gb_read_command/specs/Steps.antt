@@ -13,15 +13,15 @@ use Rattle.gb_tree.specs.declared.step.CallRule.TheVariants as CallRules
 use Rattle.gb_value.specs.declared.step.CallRest.TheVariants as CallRests
 use Rattle.gb_tree.specs.declared.step.Hint.TheVariants as Hints
 use Rattle.gb_value.specs.declared.step.FelRest.TheVariants as FelRests
-use Rattle.gb_read_step.specs.Composed.{bodies, seq_bounds, contract_on, contract_rule, fel_rule, call_rule}
+use Rattle.gb_read_command.specs.Composed.{bodies, seq_bounds, contract_on, contract_rule, fel_rule, call_rule}
 use Rattle.gb_value.specs.Sorted.{top, behind, list_on, option_on, first_of}
 use Rattle.gb_value.specs.Path.{no_word, no_number, no_procedure}
 use Rattle.gb_value.specs.Form.{no_form, no_run, no_call}
 use Rattle.gb_value.specs.Step.{no_lemma, no_have_rest, no_call_rule, no_call_rest, no_distance}
 use Rattle.gb_text.specs.Text.{terminal_at}
-use Rattle.gb_read_step.specs.Rules.{plain_rule, word_rule, form_rule, lemma_rule, body_rule, body_form_rule, proc_rule, position_rule, seq_rule, conseq_rule, transitivity_rule, eager_rule, have_rule}
-use Rattle.gb_read_step.specs.Groups.{Rules, Steps}
-use Rattle.gb_read_step.specs.Given.{guard, summand, call_rest, distance, multiplier}
+use Rattle.gb_read_command.specs.Rules.{plain_rule, word_rule, form_rule, lemma_rule, body_rule, body_form_rule, proc_rule, position_rule, seq_rule, conseq_rule, transitivity_rule, eager_rule, have_rule}
+use Rattle.gb_read_command.specs.Groups.{Rules, Steps}
+use Rattle.gb_read_command.specs.Given.{guard, summand, call_rest, distance, multiplier}
 
 -- what the productions of the other rules make
 abbrev pub step_made : Text → StepRule → ℕ → Steps → Steps

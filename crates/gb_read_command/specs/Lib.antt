@@ -1,3 +1,5 @@
+pub mod CommandTrees
+pub mod Commands
 pub mod Composed
 pub mod Given
 pub mod Groups

@@ -1,4 +1,4 @@
--- What the productions of programs and commands make, of the values of their parts: the new values from the old ones.
+-- What the productions of statements and modules make of the values of their parts: the new values.
 use Rattle.std.specs.Prelude.{ℕ, ◌∷◌, [], Some, None}
 use Rattle.gb_text.specs.declared.text.Text.{Text}
 use Rattle.gb_table.specs.declared.rule.Program.{Program as ProgramRule}
@@ -7,32 +7,23 @@ use Rattle.gb_table.specs.declared.rule.Loop.{Loop as LoopRule}
 use Rattle.gb_table.specs.declared.rule.Loop.TheVariants as loop_rule
 use Rattle.gb_table.specs.declared.rule.Module.{Module as ModuleRule}
 use Rattle.gb_table.specs.declared.rule.Module.TheVariants as module_rule
-use Rattle.gb_table.specs.declared.rule.Definition.{Definition as DefinitionRule}
-use Rattle.gb_table.specs.declared.rule.Definition.TheVariants as definition_rule
-use Rattle.gb_table.specs.declared.rule.Command.{Command as CommandRule}
-use Rattle.gb_table.specs.declared.rule.Command.TheVariants as command_rule
 use Rattle.gb_tree.specs.declared.program.StatementShape.TheVariants as StatementTree
 use Rattle.gb_tree.specs.declared.program.Target.TheVariants as TargetOf
 use Rattle.gb_tree.specs.declared.program.ModuleItem.TheVariants as ItemOf
 use Rattle.gb_tree.specs.declared.command.CommandShape.TheVariants as CommandTree
-use Rattle.gb_tree.specs.declared.command.TypeDefinition.TheVariants as TypeOf
-use Rattle.gb_tree.specs.declared.command.OperatorDefinition.TheVariants as OperatorOf
-use Rattle.gb_tree.specs.declared.command.Substitution.TheVariants as SubstitutionOf
 use Rattle.gb_value.specs.declared.program.StatementTail.TheVariants as StatementTails
 use Rattle.gb_value.specs.declared.program.Action.TheVariants as Actions
 use Rattle.gb_value.specs.declared.program.Written.TheVariants as Writing
 use Rattle.gb_value.specs.declared.program.VariantName.TheVariants as VariantNames
 use Rattle.gb_value.specs.declared.program.ModuleRest.TheVariants as ModuleRests
-use Rattle.gb_read_program.specs.Program.{writing, statement, longer_statement, loop_shape, suffix_variant, name_variant, typed_operator}
-use Rattle.gb_read_program.specs.Groups.{Commands, Modules, Programs}
-use Rattle.gb_read_program.specs.Commands.{module_of, keyword, named, stated, imported}
-use Rattle.gb_tree.specs.Command.{local}
+use Rattle.gb_read_form.specs.ProgramTrees.{writing, statement, longer_statement, loop_shape, suffix_variant, name_variant}
+use Rattle.gb_read_form.specs.Groups.{Modules, Programs}
+use Rattle.gb_read_form.specs.ProgramTrees.{module_of}
 use Rattle.gb_text.specs.Text.{place_at}
 use Rattle.gb_value.specs.Form.{no_call, no_call_tail, no_form, no_suffix}
-use Rattle.gb_value.specs.Path.{no_module, no_module_binder, no_number, no_type, no_word}
-use Rattle.gb_value.specs.Program.{no_module_rest, no_operator_definition, no_shape, no_statement_tail, no_type_definition, no_variant_name, no_variant_tail, no_written}
+use Rattle.gb_value.specs.Path.{no_module, no_type, no_word}
+use Rattle.gb_value.specs.Program.{no_module_rest, no_statement_tail, no_variant_name, no_variant_tail, no_written}
 use Rattle.gb_value.specs.Sorted.{top, behind, list_on, option_on}
-use Rattle.gb_value.specs.Step.{no_tactic}
 
 -- what the productions of statements make
 abbrev pub program_made : Text → ProgramRule → ℕ → Programs → Programs
@@ -71,31 +62,3 @@ module_made module_rule.Oracles v = record v { programs = record v.programs { or
 module_made module_rule.Oracle v = record v { paths = record v.paths { words = record v.paths.words { one = behind (behind v.paths.words.one) } }; programs = record v.programs { oracles = record v.programs.oracles { one = (record { «module» = top no_word v.paths.words.one; proc = top no_word (behind v.paths.words.one) }) ∷ v.programs.oracles.one } } }
 module_made module_rule.Globals v = record v { paths = record v.paths { words = record v.paths.words { lists = behind v.paths.words.lists }; types = record v.paths.types { one = behind v.paths.types.one } }; programs = record v.programs { items = record v.programs.items { one = (ItemOf.Globals (record { names = list_on v.paths.words.lists; ty = top no_type v.paths.types.one })) ∷ v.programs.items.one } } }
 module_made module_rule.Procedure v = record v { paths = record v.paths { words = record v.paths.words { one = behind v.paths.words.one }; binders = record v.paths.binders { lists = behind (behind v.paths.binders.lists) }; types = record v.paths.types { lists = behind v.paths.types.lists } }; programs = record v.programs { statements = record v.programs.statements { lists = behind v.programs.statements.lists }; items = record v.programs.items { one = (ItemOf.Proc (record { name = top no_word v.paths.words.one; parameters = list_on v.paths.binders.lists; result = option_on v.paths.types.lists; locals = list_on (behind v.paths.binders.lists); body = list_on v.programs.statements.lists; value = option_on v.formulas.forms.lists })) ∷ v.programs.items.one } }; formulas = record v.formulas { forms = record v.formulas.forms { lists = behind v.formulas.forms.lists } } }
-
--- what the productions of types, operators and clones make
-abbrev pub definition_made : DefinitionRule → Commands → Commands
-definition_made definition_rule.AbstractType v = record v { commands = record v.commands { type_definitions = TypeOf.Abstract ∷ v.commands.type_definitions } }
-definition_made definition_rule.Alias v = record v { paths = record v.paths { types = record v.paths.types { one = behind v.paths.types.one } }; commands = record v.commands { type_definitions = (TypeOf.Alias (top no_type v.paths.types.one)) ∷ v.commands.type_definitions } }
-definition_made definition_rule.Enumeration v = record v { paths = record v.paths { words = record v.paths.words { lists = behind v.paths.words.lists } }; commands = record v.commands { type_definitions = (TypeOf.Enumeration (list_on v.paths.words.lists)) ∷ v.commands.type_definitions } }
-definition_made definition_rule.Defined v = record v { paths = record v.paths { binders = record v.paths.binders { lists = behind v.paths.binders.lists }; types = record v.paths.types { lists = behind v.paths.types.lists } }; formulas = record v.formulas { forms = record v.formulas.forms { one = behind v.formulas.forms.one } }; commands = record v.commands { operator_definitions = (OperatorOf.Defined (list_on v.paths.binders.lists) (option_on v.paths.types.lists) (top no_form v.formulas.forms.one)) ∷ v.commands.operator_definitions } }
-definition_made definition_rule.Constant v = record v { formulas = record v.formulas { forms = record v.formulas.forms { one = behind v.formulas.forms.one } }; commands = record v.commands { operator_definitions = (OperatorOf.Defined [] None (top no_form v.formulas.forms.one)) ∷ v.commands.operator_definitions } }
-definition_made definition_rule.Typed v = record v { paths = record v.paths { types = record v.paths.types { one = behind v.paths.types.one } }; commands = record v.commands { operator_definitions = (typed_operator (top no_type v.paths.types.one) (top no_operator_definition v.commands.operator_definitions)) ∷ behind v.commands.operator_definitions } }
-definition_made definition_rule.Abstract v = record v { paths = record v.paths { types = record v.paths.types { lists = behind v.paths.types.lists } }; commands = record v.commands { operator_definitions = (OperatorOf.Abstract (list_on v.paths.types.lists)) ∷ v.commands.operator_definitions } }
-definition_made definition_rule.TypeSubstitution v = record v { paths = record v.paths { words = record v.paths.words { one = behind v.paths.words.one }; types = record v.paths.types { one = behind v.paths.types.one } }; commands = record v.commands { substitutions = record v.commands.substitutions { one = (SubstitutionOf.«Type» (top no_word v.paths.words.one) (top no_type v.paths.types.one)) ∷ v.commands.substitutions.one } } }
-definition_made definition_rule.OperatorSubstitution v = record v { paths = record v.paths { words = record v.paths.words { one = behind v.paths.words.one } }; formulas = record v.formulas { forms = record v.formulas.forms { one = behind v.formulas.forms.one } }; commands = record v.commands { substitutions = record v.commands.substitutions { one = (SubstitutionOf.Operator (top no_word v.paths.words.one) (top no_form v.formulas.forms.one)) ∷ v.commands.substitutions.one } } }
-definition_made definition_rule.Realisation v = record v { paths = record v.paths { words = record v.paths.words { one = behind v.paths.words.one } }; tactics = behind v.tactics; commands = record v.commands { realisations = record v.commands.realisations { one = (record { «axiom» = top no_word v.paths.words.one; proof = top no_tactic v.tactics }) ∷ v.commands.realisations.one } } }
-
--- what the productions of commands make
-abbrev pub command_made : Text → CommandRule → ℕ → Commands → Commands
-command_made t command_rule.Declaration at v = record v { commands = record v.commands { shapes = behind v.commands.shapes; commands = (record { shape = top no_shape v.commands.shapes; place = place_at t at }) ∷ v.commands.commands } }
-command_made t command_rule.Tactic at v = record v { tactics = behind v.tactics; commands = record v.commands { commands = (record { shape = CommandTree.Tactic (top no_tactic v.tactics); place = place_at t at }) ∷ v.commands.commands } }
-command_made t command_rule.Undo at v = record v { paths = record v.paths { numbers = record v.paths.numbers { one = behind v.paths.numbers.one } }; commands = record v.commands { commands = (record { shape = CommandTree.Undo (top no_number v.paths.numbers.one); place = place_at t at }) ∷ v.commands.commands } }
-command_made t command_rule.Require at v = record v { paths = record v.paths { words = record v.paths.words { lists = behind (behind v.paths.words.lists) } }; commands = record v.commands { shapes = (CommandTree.Require (record { imported = imported (option_on v.paths.words.lists); names = list_on (behind v.paths.words.lists) })) ∷ v.commands.shapes } }
-command_made t command_rule.«Type» at v = record v { paths = record v.paths { words = record v.paths.words { one = behind v.paths.words.one } }; commands = record v.commands { type_definitions = behind v.commands.type_definitions; shapes = (CommandTree.«Type» (record { name = top no_word v.paths.words.one; definition = top no_type_definition v.commands.type_definitions })) ∷ v.commands.shapes } }
-command_made t command_rule.Operator at v = record v { paths = record v.paths { words = record v.paths.words { one = behind v.paths.words.one } }; commands = record v.commands { operator_definitions = behind v.commands.operator_definitions; shapes = (CommandTree.Operator (record { name = top no_word v.paths.words.one; definition = top no_operator_definition v.commands.operator_definitions })) ∷ v.commands.shapes } }
-command_made t command_rule.Local at v = record v { commands = record v.commands { shapes = (local (top no_shape v.commands.shapes)) ∷ behind v.commands.shapes } }
-command_made t command_rule.Declare at v = record v { paths = record v.paths { module_binders = behind v.paths.module_binders }; commands = record v.commands { shapes = (CommandTree.Declare (top no_module_binder v.paths.module_binders)) ∷ v.commands.shapes } }
-command_made t command_rule.Clone at v = record v { paths = record v.paths { words = record { lists = behind v.paths.words.lists; one = behind (behind v.paths.words.one) } }; commands = record v.commands { substitutions = record v.commands.substitutions { lists = behind v.commands.substitutions.lists }; realisations = record v.commands.realisations { lists = behind v.commands.realisations.lists }; shapes = (CommandTree.Clone (record { imported = imported (option_on v.paths.words.lists); theory = top no_word v.paths.words.one; name = top no_word (behind v.paths.words.one); substitutions = list_on v.commands.substitutions.lists; realisations = list_on v.commands.realisations.lists })) ∷ v.commands.shapes } }
-command_made t (command_rule.Stated r) at v = record v { paths = record v.paths { words = record v.paths.words { one = behind v.paths.words.one }; binds = record v.paths.binds { lists = behind v.paths.binds.lists } }; formulas = record v.formulas { forms = record v.formulas.forms { one = behind v.formulas.forms.one } }; commands = record v.commands { shapes = (stated r (record { name = top no_word v.paths.words.one; binders = list_on v.paths.binds.lists; statement = top no_form v.formulas.forms.one })) ∷ v.commands.shapes } }
-command_made t (command_rule.Named r) at v = record v { paths = record v.paths { words = record v.paths.words { one = behind v.paths.words.one } }; commands = record v.commands { shapes = (named r (top no_word v.paths.words.one)) ∷ v.commands.shapes } }
-command_made t (command_rule.Keyword r) at v = record v { commands = record v.commands { shapes = (keyword r) ∷ v.commands.shapes } }

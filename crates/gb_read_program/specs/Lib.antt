@@ -1,4 +1,0 @@
-pub mod Commands
-pub mod Groups
-pub mod Makes
-pub mod Program
