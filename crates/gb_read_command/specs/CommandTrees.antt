@@ -1,4 +1,5 @@
 -- Commands and operators put together.
+use Rattle.std.specs.Prelude.{◌∷◌, Bool, Option, Some, None, true, false}
 use Rattle.gb_table.specs.declared.rule.Keyword.{Keyword}
 use Rattle.gb_table.specs.declared.rule.Keyword.TheVariants as keyword_rule
 use Rattle.gb_table.specs.declared.rule.Named.{Named}
@@ -12,8 +13,6 @@ use Rattle.gb_tree.specs.declared.command.OperatorDefinition.{OperatorDefinition
 use Rattle.gb_tree.specs.declared.command.OperatorDefinition.TheVariants as OperatorOf
 use Rattle.gb_tree.specs.declared.form.TypeTree.{TypeTree}
 use Rattle.gb_tree.specs.declared.form.Word.{Word}
-use Rattle.std.specs.Prelude.{◌∷◌, Some, None}
-use Rattle.std.specs.Prelude.{Bool, Option, Some, None, true, false}
 
 -- commands of a word or two
 abbrev pub keyword : Keyword → CommandShape

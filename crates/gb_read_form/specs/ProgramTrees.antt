@@ -1,4 +1,5 @@
 -- Statements, loops and modules put together.
+use Rattle.std.specs.Prelude.{[], ◌∷◌, Some, None}
 use Rattle.gb_compose.specs.Atoms.{call, longer_call}
 use Rattle.gb_compose.specs.Forms.{suffixed}
 use Rattle.gb_compose.specs.Paths.{dotted}
@@ -25,8 +26,6 @@ use Rattle.gb_value.specs.declared.program.VariantName.TheVariants as VariantNam
 use Rattle.gb_value.specs.declared.program.VariantTail.{VariantTail}
 use Rattle.gb_value.specs.declared.program.Written.{Written}
 use Rattle.gb_value.specs.declared.program.Written.TheVariants as Writing
-use Rattle.std.specs.Prelude.{[], ◌∷◌, Some, None}
-use Rattle.std.specs.Prelude.{Some, None}
 
 -- Statements.
 
