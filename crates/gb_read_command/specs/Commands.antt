@@ -9,9 +9,8 @@ use Rattle.gb_tree.specs.declared.command.CommandShape.TheVariants as CommandTre
 use Rattle.gb_tree.specs.declared.command.TypeDefinition.TheVariants as TypeOf
 use Rattle.gb_tree.specs.declared.command.OperatorDefinition.TheVariants as OperatorOf
 use Rattle.gb_tree.specs.declared.command.Substitution.TheVariants as SubstitutionOf
-use Rattle.gb_read_command.specs.CommandTrees.{statement, typed_operator}
+use Rattle.gb_read_command.specs.CommandTrees.{typed_operator, keyword, named, stated, imported}
 use Rattle.gb_read_command.specs.Groups.{Commands}
-use Rattle.gb_read_command.specs.CommandTrees.{keyword, named, stated, imported}
 use Rattle.gb_tree.specs.Command.{local}
 use Rattle.gb_text.specs.Text.{place_at}
 use Rattle.gb_value.specs.Form.{no_form}
