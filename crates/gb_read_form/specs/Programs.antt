@@ -16,9 +16,8 @@ use Rattle.gb_value.specs.declared.program.Action.TheVariants as Actions
 use Rattle.gb_value.specs.declared.program.Written.TheVariants as Writing
 use Rattle.gb_value.specs.declared.program.VariantName.TheVariants as VariantNames
 use Rattle.gb_value.specs.declared.program.ModuleRest.TheVariants as ModuleRests
-use Rattle.gb_read_form.specs.ProgramTrees.{writing, statement, longer_statement, loop_shape, suffix_variant, name_variant}
+use Rattle.gb_read_form.specs.ProgramTrees.{module_of, writing, statement, longer_statement, loop_shape, suffix_variant, name_variant}
 use Rattle.gb_read_form.specs.Groups.{Modules, Programs}
-use Rattle.gb_read_form.specs.ProgramTrees.{module_of}
 use Rattle.gb_text.specs.Text.{place_at}
 use Rattle.gb_value.specs.Form.{no_call, no_call_tail, no_form, no_suffix}
 use Rattle.gb_value.specs.Path.{no_module, no_type, no_word}
