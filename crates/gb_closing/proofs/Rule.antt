@@ -24,7 +24,7 @@ use Rattle.gb_judge.proofs.Fair.{is_fair}
 use Rattle.gb_holds.specs.Declared.{Declarations}
 use Rattle.gb_holds.specs.Settings.{Interpretation, with_program, types_of, setting}
 use Rattle.gb_holds.specs.Truth.{Choice, has_module, last_has_module, IsFirstTrue, Truth, TruthOfLast}
-use Rattle.gb_holds.specs.Holds.{EachProgram, AreValues, AreTrue, context, Holds, declared_modules, interpretation}
+use Rattle.gb_holds.specs.Holds.{EachProgram, AreValues, AreTrue, context, Holds, declared_modules, interpretation, InEachSetting}
 use Rattle.gb_holds.proofs.Fronts.{without_modules}
 use Rattle.gb_holds.proofs.SettingTypes.{setting-types}
 use Rattle.gb_smt.specs.declared.leaves.Leaf.{Leaf}
@@ -34,7 +34,7 @@ use Rattle.gb_smt.specs.Apply.{IsClosed}
 use Rattle.gb_closing.specs.Reading.{Variables, AreHeld, Reading, no_variables, inner}
 use Rattle.gb_closing.specs.Fits.{Fits, AllFit, OnlyFits}
 use Rattle.gb_closing.specs.Closing.{IsAssumed, AreAssumed, LeafHolds}
-use Rattle.gb_closing.specs.Ready.{UsedFit, SmtIsReady, InEachSetting, reading_of}
+use Rattle.gb_closing.specs.Ready.{UsedFit, SmtIsReady, reading_of}
 use Rattle.gb_closing.proofs.Used.{each_together}
 use Rattle.gb_closing.proofs.Modules.{not_simple, module_whole}
 use Rattle.gb_closing.proofs.Premises.{whole_assumed, form_assumed}

@@ -5,9 +5,6 @@ use Rattle.gb_terms.specs.declared.op.Side.TheVariants.{Memory}
 use Rattle.gb_goal.specs.declared.sequent.Hyp.{Hyp}
 use Rattle.gb_goal.specs.declared.sequent.Sequent.{Sequent}
 use Rattle.gb_meaning.specs.Setting.{Setting}
-use Rattle.gb_holds.specs.Declared.{Declarations}
-use Rattle.gb_holds.specs.Settings.{setting}
-use Rattle.gb_holds.specs.Holds.{EachProgram, InEachModel}
 use Rattle.gb_smt.specs.Leaves.{speaks_of_programs}
 use Rattle.gb_closing.specs.Reading.{Variables, no_variables, Reading, AreHeld}
 use Rattle.gb_closing.specs.Fits.{Fits}
@@ -35,7 +32,3 @@ pub record SmtIsReady (g : Setting) (q : Sequent) : Type 0 where
   pub held : (i : ℕ) → AreHeld g (variables i)
   pub hyps : UsedFit g (reading_of q variables) q.hyps
   pub conclusion : Fits g (reading_of q variables) q.conclusion
-
--- in the setting of each model, and for all programs within the modules of the sequent's context
-abbrev pub InEachSetting : Declarations → Sequent → (Setting → Type 0) → Type 0
-InEachSetting ds q P = InEachModel ds (λ i. EachProgram ds q.modules i (λ k. P (setting ds k)))

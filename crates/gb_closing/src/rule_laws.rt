@@ -9,11 +9,11 @@ ghost use Rattle.gb_meaning.specs.Terms.{Speaks};
 ghost use Rattle.gb_holds.specs.Declared.{Declarations};
 ghost use Rattle.gb_holds.specs.Settings.{Interpretation, types_of, setting};
 ghost use Rattle.gb_holds.specs.Truth.{Truth};
-ghost use Rattle.gb_holds.specs.Holds.{AreValues, AreTrue, context, Holds};
+ghost use Rattle.gb_holds.specs.Holds.{AreValues, AreTrue, context, Holds, InEachSetting};
 ghost use Rattle.gb_smt.specs.Leaves.{leaves_of};
 ghost use Rattle.gb_smt.specs.Apply.{IsClosed};
 ghost use Rattle.gb_closing.specs.Closing.{LeafHolds};
-ghost use Rattle.gb_closing.specs.Ready.{SmtIsReady, InEachSetting};
+ghost use Rattle.gb_closing.specs.Ready.{SmtIsReady};
 
 /// Where each leaf of a goal holds, the goal is true: in each state of its context in which its hypotheses are true.
 /// Quantifiers in front of the conclusion give the context a variable or a memory more, premises are hypotheses, and both

@@ -1,4 +1,3 @@
-pub mod Types
 pub mod Judgment
 pub mod Coupled
 pub mod Proc

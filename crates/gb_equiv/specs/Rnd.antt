@@ -19,7 +19,7 @@ use Rattle.gb_equiv.specs.declared.coupled.Sampled.{Sampled}
 use Rattle.gb_equiv.specs.declared.coupled.Maps.{Maps}
 use Rattle.gb_equiv.specs.declared.coupled.Coupled.{Coupled}
 use Rattle.gb_equiv.specs.declared.rnd.Last.{Last}
-use Rattle.gb_equiv.specs.Types.{ty_eq}
+use Rattle.gb_same.specs.Types.{ty_eq}
 use Rattle.gb_equiv.specs.Judgment.{OnBodies, bodies_of, on_bodies, on_side, concluding}
 use Rattle.gb_equiv.specs.Coupled.{nearest, coupled_post}
 

@@ -7,10 +7,10 @@ ghost use Rattle.gb_equiv.specs.Rnd.{sampling_of, rest_of, of_statement, last_sa
 use crate::coupled::{Coupled, Maps, Sampled, coupled_post, nearest};
 use crate::judgment::{as_bodies, on_bodies, on_side, one_goal};
 use gb_core::copy::{copy_ty, copy_var};
-use gb_core::same::same_ty;
 use gb_core::ty::Ty;
 use gb_core::var::Var;
 use gb_goal::sequent::{Sequent, Sequents};
+use gb_same::types::same_types;
 use gb_terms::copy::{copy_instrs, copy_term};
 use gb_terms::op::{Read, Side};
 use gb_terms::term::{Cmd, Form, Instr, Term};
@@ -61,7 +61,7 @@ fn last_sampling(body: &Cmd) -> Option<Last<'_>>
 fn identity(alloc: Global, left: &Ty, right: &Ty) -> Result<Option<Maps>, AllocError>
     ensures { IfOk result (λ made. made ≡ identity left.now right.now) }
 {
-    if !same_ty(left, right) {
+    if !same_types(left, right) {
         return Ok(None);
     }
     let forth = nearest(alloc, left)?;

@@ -19,8 +19,7 @@ use Rattle.gb_meaning.specs.Names.{Name}
 use Rattle.gb_meaning.specs.Operators.{outcome_type}
 use Rattle.gb_typed.specs.Finite.{IsVariableType}
 use Rattle.gb_typed.specs.Operators.{IsDistributionType}
-use Rattle.gb_typed.specs.Typing.{type_of}
-use Rattle.gb_typed.specs.Programs.{local_type}
+use Rattle.gb_meaning.specs.Written.{type_of, local_type}
 use Rattle.gb_elab.specs.Environment.{of_function}
 use Rattle.gb_elab.specs.declared.setting.Variables.TheVariants.{Sides}
 use Rattle.gb_elab_mod.specs.Occurring.{local, outcome_local, read_locals, sampling_locals, occurring}

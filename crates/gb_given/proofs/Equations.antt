@@ -18,7 +18,7 @@ use Rattle.gb_tree.specs.declared.form.EquatedTree.{EquatedTree}
 use Rattle.gb_tree.specs.declared.form.EquatedTree.TheVariants as equated
 use Rattle.gb_tree.specs.declared.form.Word.{Word}
 use Rattle.gb_typed.specs.Operators.{IsNoDistribution}
-use Rattle.gb_typed.specs.Typing.{type_of}
+use Rattle.gb_meaning.specs.Written.{type_of}
 use Rattle.gb_elab.specs.Answers.{Answer, ◌>>=◌, type_of_term}
 use Rattle.gb_elab.specs.Answers.Answer.{given}
 use Rattle.gb_elab.specs.Environment.{Environment, on_side}

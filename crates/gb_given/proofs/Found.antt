@@ -6,7 +6,7 @@ use Rattle.gb_terms.specs.declared.decl.TypedName.{TypedName}
 use Rattle.gb_typed.specs.Finite.{IsVariableType}
 use Rattle.gb_typed.specs.Operators.{item}
 use Rattle.gb_typed.specs.Typing.Binder.{value, program}
-use Rattle.gb_typed.specs.Programs.{local_type}
+use Rattle.gb_meaning.specs.Written.{local_type}
 use Rattle.gb_elab.specs.Environment.{Name}
 use Rattle.gb_elab.specs.Names.{first_named, number_before}
 use Rattle.gb_sound.proofs.Shapes.{none_some, same_some}

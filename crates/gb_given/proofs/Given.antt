@@ -8,7 +8,7 @@ use Rattle.gb_core.specs.declared.ty.Ty.{Ty}
 use Rattle.gb_core.specs.declared.ty.Ty.TheVariants.{Bool as bool_ty}
 use Rattle.gb_same.proofs.Decided.{ty_eq-Decides}
 use Rattle.gb_terms.specs.declared.term.Term.{Term}
-use Rattle.gb_typed.specs.Typing.{type_of}
+use Rattle.gb_meaning.specs.Written.{type_of}
 use Rattle.gb_elab.specs.Answers.{Answer, ◌>>=◌, given_or, counted, fits, truth, type_of_term, wanted}
 use Rattle.gb_elab.specs.Answers.Answer.{given, refused}
 use Rattle.gb_ready.proofs.Forms.{out_type}

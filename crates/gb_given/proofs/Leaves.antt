@@ -26,7 +26,7 @@ use Rattle.gb_typed.specs.Finite.{IsVariableType}
 use Rattle.gb_typed.specs.Typing.{Context, binder, IsBoundAt, IsSide}
 use Rattle.gb_typed.specs.Typing.Binder.{program}
 use Rattle.gb_typed.specs.Operators.{item}
-use Rattle.gb_typed.specs.Programs.{local_type}
+use Rattle.gb_meaning.specs.Written.{local_type}
 use Rattle.gb_elab.specs.declared.setting.Language.{Language}
 use Rattle.gb_elab.specs.declared.setting.Language.TheVariants.{Formula, Function, Program}
 use Rattle.gb_elab.specs.declared.setting.Variables.{Variables}

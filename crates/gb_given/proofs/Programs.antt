@@ -26,8 +26,7 @@ use Rattle.gb_tree.specs.declared.program.ProcTree.{ProcTree}
 use Rattle.gb_tree.specs.declared.program.Statement.{Statement}
 use Rattle.gb_tree.specs.declared.program.StatementShape.{out-StatementShape}
 use Rattle.gb_typed.specs.Finite.{IsVariableType}
-use Rattle.gb_typed.specs.Typing.{type_of}
-use Rattle.gb_typed.specs.Programs.{local_type}
+use Rattle.gb_meaning.specs.Written.{type_of, local_type}
 use Rattle.gb_elab.specs.Answers.{◌>>=◌}
 use Rattle.gb_elab.specs.Answers.Answer.{given, refused}
 use Rattle.gb_elab.specs.Environment.{Environment, program}

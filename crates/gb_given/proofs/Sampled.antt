@@ -27,7 +27,7 @@ use Rattle.gb_tree.specs.declared.step.RuleTree.TheVariants as text
 use Rattle.gb_tree.specs.declared.step.StepTree.{StepTree}
 use Rattle.gb_meaning.specs.Operators.{outcome_type}
 use Rattle.gb_typed.specs.Finite.{IsVariableType}
-use Rattle.gb_typed.specs.Typing.{type_of}
+use Rattle.gb_meaning.specs.Written.{type_of}
 use Rattle.gb_elab.specs.Answers.{Answer, ◌>>=◌}
 use Rattle.gb_elab.specs.Answers.Answer.{given}
 use Rattle.gb_elab.specs.Environment.{of_function}

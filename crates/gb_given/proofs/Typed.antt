@@ -13,7 +13,8 @@ use Rattle.gb_meaning.specs.Trees.{row}
 use Rattle.gb_laws.proofs.Nodes.{term_is_node}
 use Rattle.gb_changes.specs.Plain.{HeadIsPlain, IsPlain, AllPlain}
 use Rattle.gb_typed.specs.Operators.{IsOperator}
-use Rattle.gb_typed.specs.Typing.{type_of, IsHead}
+use Rattle.gb_typed.specs.Typing.{IsHead}
+use Rattle.gb_meaning.specs.Written.{type_of}
 use Rattle.gb_elab.specs.Answers.{truth, wanted}
 use Rattle.gb_elab.specs.Answers.Answer.{given}
 use Rattle.gb_elab.specs.Environment.{Environment}

@@ -5,7 +5,8 @@ use Rattle.gb_terms.specs.declared.decl.TypedName.{TypedName}
 use Rattle.gb_terms.specs.declared.term.Term.{Term}
 use Rattle.gb_goal.specs.declared.sequent.Sequent.{Sequent}
 use Rattle.gb_changes.specs.Plain.{IsPlain}
-use Rattle.gb_typed.specs.Typing.{Context, Binder, type_of, IsTyped}
+use Rattle.gb_typed.specs.Typing.{Context, Binder, IsTyped}
+use Rattle.gb_meaning.specs.Written.{type_of}
 use Rattle.gb_typed.specs.Typing.Binder.{value}
 use Rattle.gb_elab.specs.declared.setting.Variables.{Variables}
 use Rattle.gb_elab.specs.declared.setting.Variables.TheVariants.{Absent, Own, Sides}

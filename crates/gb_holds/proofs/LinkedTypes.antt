@@ -11,7 +11,8 @@ use Rattle.gb_meaning.specs.Program.Routine.{routine}
 use Rattle.gb_meaning.specs.Setting.{Setting}
 use Rattle.gb_holds.specs.Declared.{Signature}
 use Rattle.gb_holds.specs.Linking.{Oracles, link, link_routine, answered}
-use Rattle.gb_holds.specs.Typing.{Names, Takes, params_of, result_type, AreArguments, FitsSignature, IsTyped, IsTypedRoutine}
+use Rattle.gb_holds.specs.Typing.{Names, Takes, AreArguments, FitsSignature, IsTyped, IsTypedRoutine}
+use Rattle.gb_meaning.specs.Written.{params_of, result_type}
 use Rattle.gb_holds.specs.Programs.{AreIn, HasTypes}
 use Rattle.gb_holds.specs.Bounds.{IsAnswer}
 use Rattle.gb_holds.proofs.MoreGlobals.{routine-more}

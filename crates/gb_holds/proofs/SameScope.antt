@@ -27,7 +27,7 @@ use Rattle.gb_holds.specs.Settings.{Chosen, Table, interpreted, setting, declare
 use Rattle.gb_holds.specs.Naming.{AnyName, EachParam}
 use Rattle.gb_holds.specs.Programs.{IsProcedureFor, HasProcedures, IsProgramFor, AreNamed, AreFull}
 use Rattle.gb_holds.specs.Bounds.{IsAnswer, AreOracles, oracle_in, without, EachCallsAtMost, GroupCall, IsGroupRun, IsBounded}
-use Rattle.gb_holds.specs.Within.{AreApart, KeepsOff, IsWithinIn, IsWithin}
+use Rattle.gb_holds.specs.Within.{AreApart, is_chosen, KeepsOff, IsWithinIn, IsWithin}
 use Rattle.gb_holds.specs.Truth.{Choice, last_has_module, IsFirstTrue, Truth, TruthOfLast}
 
 -- the module types of these names are the same
@@ -92,20 +92,20 @@ turned-frame : (ds es : Declarations) → SameFrame ds es → SameFrame es ds
 turned-frame ds es e = record { types = turned-types AnyName ds es e.types; globals = sym e.globals }
 
 module _ (ds es : Declarations) (e : SameFrame ds es) where
-  keeps-to : (g : Setting) (xs : List Global) (ms : List Name) → KeepsOff ds g xs ms → KeepsOff es g xs ms
-  keeps-to g xs [] h = tt
-  keeps-to g xs (m ∷ ms) h =
-      (subst (λ z. AreApart xs (filter (λ x. bytes_eq m x.parent) z ++ g.types.footprint (named m))) e.globals h.0, keeps-to g xs ms h.1)
+  keeps-to : (cs : List Chosen) (g : Setting) (xs : List Global) (ms : List Name) → KeepsOff ds cs g xs ms → KeepsOff es cs g xs ms
+  keeps-to cs g xs [] h = tt
+  keeps-to cs g xs (m ∷ ms) h =
+      (subst (λ z. AreApart xs ((if is_chosen cs m then [] else filter (λ x. bytes_eq m x.parent) z) ++ g.types.footprint (named m))) e.globals h.0, keeps-to cs g xs ms h.1)
 
-  pub within_in-to : (g : Setting) (w : World) (b : Bind) (a : Adversary) → IsWithinIn ds g w b a → IsWithinIn es g w b a
-  within_in-to g w b a h =
+  pub within_in-to : (cs : List Chosen) (g : Setting) (w : World) (b : Bind) (a : Adversary) → IsWithinIn ds cs g w b a → IsWithinIn es cs g w b a
+  within_in-to cs g w b a h =
       let t : ModuleType = type_named ds b.ty in
       let k : EachParam AnyName t.params = any-params t.params in
       record {
         program = subst (λ z. IsProgramFor es g w z a) (e.types b.ty tt) (program-to AnyName ds es e.types t k g w a h.program);
         named = subst (λ z. AreNamed a z.signatures) (e.types b.ty tt) h.named;
         full = subst (λ z. AreFull g a z.signatures) (e.types b.ty tt) h.full;
-        apart = keeps-to g a.footprint b.minus h.apart;
+        apart = keeps-to cs g a.footprint b.minus h.apart;
         bounded = subst (λ z. IsBounded es g w z a b.bounds) (e.types b.ty tt) (bounded-to AnyName ds es e.types t k g w a b.bounds h.bounded);
       }
 
@@ -120,7 +120,7 @@ turned ds es w size t u e = record { frame = turned-frame ds es e.frame; setting
 module _ (ds es : Declarations) (w : World) (size : Name → ℕ) (t u : Table) (e : SameScope ds es w size t u) where
   pub within-to : (cs : List Chosen) (b : Bind) (a : Adversary) → IsWithin ds (interpreted w size t cs) b a → IsWithin es (interpreted w size u cs) b a
   within-to cs b a h =
-      subst (λ g. IsWithinIn es g w b a) (e.settings cs) (within_in-to ds es e.frame (setting ds (interpreted w size t cs)) w b a h)
+      subst (λ g. IsWithinIn es cs g w b a) (e.settings cs) (within_in-to ds es e.frame cs (setting ds (interpreted w size t cs)) w b a h)
 
   true-to : (f : Term) (cs : List Chosen) (s : State) → IsTrueIn (setting ds (interpreted w size t cs)) f s → IsTrueIn (setting es (interpreted w size u cs)) f s
   true-to f cs s h = subst (λ g. IsTrueIn g f s) (e.settings cs) h

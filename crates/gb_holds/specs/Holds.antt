@@ -107,6 +107,10 @@ abbrev pub InEachModel : Declarations → (Interpretation → Type 0) → Type 0
 InEachModel ds P = (w : World) (size : Name → ℕ) (table : Table) →
     IsModel ds (interpretation w size table) → EachProgram ds (declared_modules ds) (interpretation w size table) P
 
+-- in the setting of each model, and for all programs within the modules of the sequent's context
+abbrev pub InEachSetting : Declarations → Sequent → (Setting → Type 0) → Type 0
+InEachSetting ds q P = InEachModel ds (λ i. EachProgram ds q.modules i (λ k. P (setting ds k)))
+
 -- A sequent holds where it is true in each model.
 abbrev pub Holds : Declarations → Sequent → Type 0
 Holds ds q = InEachModel ds (IsTrueSequent ds q)

@@ -1,13 +1,10 @@
 -- A script with operators, on which settings are tried.
 use Rattle.std.specs.Prelude.{ℕ, [], ◌∷◌}
 use Rattle.gb_core.specs.declared.ty.Ty.TheVariants as ty
-use Rattle.gb_core.specs.declared.value.Value.TheVariants.{Num}
 use Rattle.gb_terms.specs.declared.op.Op.TheVariants.{And, Not}
 use Rattle.gb_terms.specs.declared.term.Term.{Term}
 use Rattle.gb_terms.specs.declared.term.Head.TheVariants.{Builtin, Bound, User}
 use Rattle.gb_meaning.specs.Names.{Name}
-use Rattle.gb_meaning.specs.Setting.{Meaning}
-use Rattle.gb_meaning.specs.Setting.Meaning.{finite}
 use Rattle.gb_meaning.specs.Trees.{term}
 use Rattle.gb_holds.specs.Declared.{Declarations, operator, abstract_operator}
 use Rattle.gb_holds.specs.Examples.{truth_value, input, reply}
@@ -44,6 +41,3 @@ three_operators =
         body = term (User difference_name) (term (User chosen_name) [] ty.Bool ∷ bound 0 ∷ []) ty.Bool;
       }),
     ) ∷ []
-
-abbrev pub truth_number : ℕ → Meaning
-truth_number n = finite (Num n)

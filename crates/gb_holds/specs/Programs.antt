@@ -8,7 +8,8 @@ use Rattle.gb_meaning.specs.Sound.{FullRoutine}
 use Rattle.gb_holds.specs.Declared.{Declarations, ModuleType, Signature}
 use Rattle.gb_holds.specs.Modules.{found}
 use Rattle.gb_holds.specs.Footprints.{global_order}
-use Rattle.gb_holds.specs.Typing.{global_type, params_of, result_type, IsTypedRoutine}
+use Rattle.gb_holds.specs.Typing.{global_type, IsTypedRoutine}
+use Rattle.gb_meaning.specs.Written.{params_of, result_type}
 use Rattle.gb_holds.specs.Adversary.{Adversary, callable}
 
 -- globals in order, each once

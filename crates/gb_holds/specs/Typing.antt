@@ -16,6 +16,7 @@ use Rattle.gb_meaning.specs.Values.{Global, Types, values, has}
 use Rattle.gb_meaning.specs.Program.{Program, Routine, Oracle}
 use Rattle.gb_meaning.specs.Program.Program.{done, assign, sample, branch, loop, call, ask}
 use Rattle.gb_meaning.specs.Program.Routine.{routine}
+use Rattle.gb_meaning.specs.Written.{type_of as written_type, local_type, IsModulo, params_of, result_type}
 use Rattle.gb_meaning.specs.Setting.{Setting, Meaning}
 use Rattle.gb_meaning.specs.Setting.Meaning.{finite}
 use Rattle.gb_meaning.specs.State.{State}
@@ -33,11 +34,6 @@ pub record Names : Type 0 where
 abbrev pub global_type : List Global → Name → Name → Option Ty
 global_type [] m x = None
 global_type (g ∷ gs) m x = if bytes_eq m g.parent && bytes_eq x g.name then Some g.ty else global_type gs m x
-
--- the type of a local
-abbrev pub local_type : List TypedName → Name → Option Ty
-local_type [] x = None
-local_type (l ∷ ls) x = if bytes_eq x l.name then Some l.ty else local_type ls x
 
 -- the type of a variable
 abbrev pub type_of : Names → Var → Option Ty
@@ -60,10 +56,6 @@ abbrev pub Takes : Names → List Var → Ty → Type 0
 Takes c [] t = Unit {0}
 Takes c (x ∷ []) t = type_of c x ≡ Some t
 Takes c (x ∷ y ∷ xs) t = option_map ty.Tuple (types_of c (x ∷ y ∷ xs)) ≡ Some t
-
--- the type that a term is written with
-abbrev pub written_type : Term → Ty
-written_type (Term' b h n args t) = t
 
 -- What may stand in an expression of a program: no quantifier, no judgment and no probability, and every read is one of
 -- a variable at its type, in the memory of the program.
@@ -99,11 +91,6 @@ IsTypedTerm g c e = IsExpression c e × ((s : State) → IsValueOf g.types (writ
 -- a test
 abbrev pub IsTest : Setting → Names → Term → Type 0
 IsTest g c e = IsTypedTerm g c e × (written_type e ≡ ty.Bool)
-
--- a type of numbers below a bound
-abbrev pub IsModulo : Ty → Type 0
-IsModulo (ty.Mod n) = Unit {0}
-IsModulo _ = ⊥
 
 -- a variant: a number below a bound that its type gives
 abbrev pub IsVariant : Setting → Names → Term → Type 0
@@ -145,14 +132,6 @@ IsVariableType ts t = IsPlain t × (0 < (values ts t).size)
 abbrev pub AreLocals : Types → List TypedName → Type 0
 AreLocals ts [] = Unit {0}
 AreLocals ts (l ∷ ls) = IsVariableType ts l.ty × AreLocals ts ls
-
--- the parameters of a procedure
-abbrev pub params_of : Routine → List TypedName
-params_of (routine ps ls c r) = ps
-
--- the type of its result
-abbrev pub result_type : Routine → Ty
-result_type (routine ps ls c r) = written_type r
 
 -- a call with these arguments and this left side fits the signature of an oracle
 abbrev pub FitsSignature : Setting → Names → Option Signature → List Var → List Term → Type 0

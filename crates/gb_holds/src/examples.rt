@@ -5,17 +5,17 @@ ghost use Rattle.gb_core.specs.declared.var.Var.TheVariants.{Glob};
 ghost use Rattle.gb_coupling.specs.WeightedList.{dmap};
 ghost use Rattle.gb_meaning.specs.Names.{Name, Map, empty};
 ghost use Rattle.gb_meaning.specs.Values.{World};
-ghost use Rattle.gb_meaning.specs.Program.Program.{done};
 ghost use Rattle.gb_meaning.specs.Setting.{Setting};
+ghost use Rattle.gb_meaning.specs.Meanings.{of_number};
 ghost use Rattle.gb_meaning.specs.Runs.{routine_denominator};
 ghost use Rattle.gb_holds.specs.Modules.{modules_of, module_at, no_module, found};
 ghost use Rattle.gb_holds.specs.Footprints.{footprint, footprint_read};
-ghost use Rattle.gb_holds.specs.Linking.{linked_procedure, link, link_routine};
+ghost use Rattle.gb_holds.specs.Linking.{linked_procedure, link_routine};
 ghost use Rattle.gb_holds.specs.Counted.{counted_outcomes};
 ghost use Rattle.gb_holds.specs.Settings.{Interpretation, footprints, setting};
 ghost use Rattle.gb_holds.specs.Within.{IsWithin};
 ghost use Rattle.gb_holds.specs.Holds.{Holds, interpretation, IsSound};
-ghost use Rattle.gb_holds.specs.Operators.{three_operators, difference_name, opposite_name, truth_number};
+ghost use Rattle.gb_holds.specs.Operators.{three_operators, difference_name, opposite_name};
 ghost use Rattle.gb_holds.specs.Coins.{two_coins, coin_sequent};
 ghost use Rattle.gb_holds.specs.Idling.{idling_is_proved};
 ghost use Rattle.gb_holds.specs.Examples.{types_and_keeper, adversary_with_keeper, nothing_said, oracle_and_adversary, asking_at_most, curious_program, oracle, curious, asking_keeper, asking_coin};
@@ -57,12 +57,12 @@ pub fn program_within_bound()
 /// is chosen for it.
 pub fn operators()
     ensures true_and_not_false { (i : Interpretation) →
-        (setting three_operators i).operator difference_name (truth_number 1 ∷ truth_number 0 ∷ []) ≡ truth_number 1 }
+        (setting three_operators i).operator difference_name (of_number 1 ∷ of_number 0 ∷ []) ≡ of_number 1 }
     ensures false_and_not_true { (i : Interpretation) →
-        (setting three_operators i).operator difference_name (truth_number 0 ∷ truth_number 1 ∷ []) ≡ truth_number 0 }
+        (setting three_operators i).operator difference_name (of_number 0 ∷ of_number 1 ∷ []) ≡ of_number 0 }
     ensures of_chosen { (w : World) (size : Name → ℕ) →
-        (setting three_operators (interpretation w size (λ n. record { result = λ xs. truth_number 1; denominator = 1 }))).operator opposite_name (truth_number 0 ∷ [])
-        ≡ truth_number 1 }
+        (setting three_operators (interpretation w size (λ n. record { result = λ xs. of_number 1; denominator = 1 }))).operator opposite_name (of_number 0 ∷ [])
+        ≡ of_number 1 }
 {}
 
 /// The scope in which nothing is declared is sound.

@@ -5,11 +5,11 @@ use Rattle.gb_meaning.specs.Values.{Global, World}
 use Rattle.gb_holds.specs.Declared.{Declarations, abstract_type, operator, abstract_operator, module_type, concrete_module, abstract_module, axiom_of, lemma, terminating}
 use Rattle.gb_holds.specs.Settings.{Chosen, Table, Interpretation, interpreted, program_footprint, setting, globals_from, declared_globals}
 use Rattle.gb_holds.specs.Holds.{InEachModel}
+use Rattle.gb_holds.specs.Within.{is_chosen}
 use Rattle.gb_holds.specs.Naming.{AnyName, IsFresh, IsTypeIn}
 use Rattle.gb_holds.proofs.ModuleTypes.{ChosenIn}
 use Rattle.gb_holds.proofs.SameScope.{SameTypes}
 use Rattle.gb_later.specs.Naming.{chosen_names, IsKept, AgreeOn}
-use Rattle.gb_later.specs.Formed.{owned, OwnsNone}
 use Rattle.gb_later.proofs.PlainGlobals.{EachPlain}
 
 -- the programs touch globals of types of variables, and their module types are none of the declarations that are added
@@ -34,12 +34,17 @@ pub append-programs : (es ds : Declarations) (js cs : List Chosen) → AreApartP
 append-programs es ds [] cs p q = q
 append-programs es ds (j ∷ js) cs p q = (p.0, append-programs es ds js cs p.1 q)
 
+-- the globals that are declared under a name
+abbrev pub owned : Declarations → Name → List Global
+owned ds m = filter (λ x. bytes_eq m x.parent) (declared_globals ds)
+
 -- Declarations, with programs that are chosen, beside later ones with programs of their own: whatever further programs are
 -- chosen for both, the names that the declarations es leave as they are mean the same.
 pub record Aligned (es ds later : Declarations) (w : World) (size : Name → ℕ) (table : Table) (rest more : List Chosen) : Type 0 where
   pub plain : EachPlain w
   pub types : SameTypes (IsFresh es) ds later
-  pub globals : (m : Name) → OwnsNone es m → owned ds m ≡ owned later m
+  pub globals : (m : Name) → IsFresh es m → owned ds m ≡ owned later m
+  pub chosen : (js : List Chosen) (m : Name) → IsKept es (chosen_names (js ++ rest)) m → is_chosen (js ++ rest) m ≡ is_chosen (js ++ more) m
   pub settings : (js : List Chosen) → AreApartPrograms es ds js →
       AgreeOn (IsKept es (chosen_names (js ++ rest))) AnyName (setting ds (interpreted w size table (js ++ rest))) (setting later (interpreted w size table (js ++ more)))
 
@@ -58,7 +63,7 @@ module _ (m : Name) where
   front-owned [] ys zs e = e
   front-owned (x ∷ xs) ys zs e = λ i. if bytes_eq m x.parent then x ∷ front-owned xs ys zs e i else front-owned xs ys zs e i
 
-  pub owned-alike : (ds es : Declarations) → OwnsNone es m → owned ds m ≡ owned (ds ++ es) m
+  pub owned-alike : (ds es : Declarations) → owned es m ≡ [] → owned ds m ≡ owned (ds ++ es) m
   owned-alike [] es f = sym f
   owned-alike ((n, concrete_module c) ∷ ds) es f = front-owned (globals_from n c.globals) (declared_globals ds) (declared_globals (ds ++ es)) (owned-alike ds es f)
   owned-alike ((n, abstract_type) ∷ ds) es f = owned-alike ds es f

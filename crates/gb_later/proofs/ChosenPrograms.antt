@@ -1,5 +1,5 @@
 -- What names stand for over which programs are chosen: a program hides what has its name, and a further one changes no other.
-use Rattle.std.proofs.Common.{◌≡◌, inl, inr, if◌then◌else◌, List, [], ◌∷◌, ◌++◌, false, bytes_eq, refl, sym, ◌∙◌}
+use Rattle.std.proofs.Common.{◌≡◌, inl, inr, if◌then◌else◌, List, [], ◌∷◌, ◌++◌, Bool, true, false, ◌||◌, bytes_eq, refl, sym, ◌∙◌}
 use Rattle.std.proofs.lemmas.Bool.{false≢true}
 use Rattle.gb_core.specs.declared.var.Var.{Var}
 use Rattle.gb_meaning.specs.Names.{Name}
@@ -9,6 +9,7 @@ use Rattle.gb_holds.specs.Modules.{Applied, Modules, with_module}
 use Rattle.gb_holds.specs.Adversary.{type_named, with_oracles, abstract_footprint}
 use Rattle.gb_holds.specs.Settings.{Chosen, program_footprint, with_abstract_footprints, with_abstract_programs}
 use Rattle.gb_holds.specs.Naming.{IsFresh}
+use Rattle.gb_holds.specs.Within.{is_chosen}
 use Rattle.gb_later.specs.Naming.{chosen_names, IsAmong, IsKept}
 use Rattle.gb_later.proofs.KeptNames.{unless, among-behind, kept-behind}
 
@@ -78,3 +79,17 @@ touched-further es c other rest [] n (inr x) = absurd (false≢true x)
 touched-further es c other rest (j ∷ js) n k =
     unless (bytes_eq n j.bind.name) j.program.footprint (program_footprint (js ++ rest) n) (program_footprint (js ++ c ∷ rest) n)
     (λ b. touched-further es c other rest js n (kept-behind es j.bind.name (chosen_names js) n k b))
+
+-- whether a program is chosen under a name
+
+either-alike : (b x y : Bool) → (b ≡ false → x ≡ y) → (b || x) ≡ (b || y)
+either-alike true x y f = refl
+either-alike false x y f = f refl
+
+pub chosen-further : (es : Declarations) (c : Chosen) → ((n : Name) → IsFresh es n → bytes_eq n c.bind.name ≡ false) → (rest js : List Chosen) (n : Name) →
+    IsKept es (chosen_names js) n → is_chosen (js ++ rest) n ≡ is_chosen (js ++ c ∷ rest) n
+chosen-further es c other rest [] n (inl x) = sym (λ i. other n x i || is_chosen rest n)
+chosen-further es c other rest [] n (inr x) = absurd (false≢true x)
+chosen-further es c other rest (j ∷ js) n k =
+    either-alike (bytes_eq n j.bind.name) (is_chosen (js ++ rest) n) (is_chosen (js ++ c ∷ rest) n)
+    (λ b. chosen-further es c other rest js n (kept-behind es j.bind.name (chosen_names js) n k b))

@@ -13,6 +13,7 @@ use Rattle.gb_later.specs.Naming.{AreModulesOrStatements, OperatorsName}
 use Rattle.gb_later.specs.Formed.{IsSequentApart, IsScopeApart}
 use Rattle.gb_later.proofs.PlainGlobals.{EachPlain, plain_world}
 use Rattle.gb_later.proofs.WithModules.{agrees_with}
+use Rattle.gb_later.proofs.NewNames.{owns-none}
 use Rattle.gb_later.proofs.Aligned.{AreApartPrograms, append-programs, Aligned, GoesOn, owned-alike}
 use Rattle.gb_later.proofs.SequentsAlike.{each-later, sequent-later, sequent-earlier}
 use Rattle.gb_later.proofs.ModelsEarlier.{model-earlier}
@@ -35,7 +36,8 @@ module _ (ds es : Declarations) (s : AreModulesOrStatements es) (o : OperatorsNa
   aligned-with w size table h cs p = record {
     plain = h;
     types = types-fresh ds es;
-    globals = λ m f. owned-alike m ds es f;
+    globals = λ m f. owned-alike m ds es (owns-none m es f);
+    chosen = λ js m k. refl;
     settings = λ js q. agrees_with ds es s o w size table h (js ++ cs) (append-programs es ds js cs q p);
   }
 

@@ -16,7 +16,6 @@ use Rattle.gb_holds.specs.Settings.{globals_from, declared_globals}
 use Rattle.gb_holds.specs.Holds.{declared_modules}
 use Rattle.gb_holds.specs.Naming.{EachName, IsFresh}
 use Rattle.gb_later.specs.Naming.{IsAmong}
-use Rattle.gb_later.specs.Formed.{OwnsNone}
 use Rattle.gb_later.specs.Added.{param_names, CodeNames, CodesName, ModulesName, AreBoundApart, IsNewModule, IsDeclared, AreBoundAsDeclared, IsClosedScope}
 use Rattle.gb_later.proofs.KeptNames.{off, differ, either, by-either, each-name, variables-map}
 use Rattle.gb_later.proofs.ModulesAlike.{body-map}
@@ -93,7 +92,7 @@ module _ (m : Name) where
       else filter (λ (y : Global). bytes_eq m y.parent) (globals_from n gs ++ rest))
       ∙ none-from n gs rest e
 
-  pub owns-none : (es : Declarations) → IsFresh es m → OwnsNone es m
+  pub owns-none : (es : Declarations) → IsFresh es m → filter (λ (x : Global). bytes_eq m x.parent) (declared_globals es) ≡ []
   owns-none [] f = refl
   owns-none ((n, concrete_module c) ∷ es) f = none-from n c.globals (declared_globals es) f.0 ∙ owns-none es f.1
   owns-none ((n, abstract_type) ∷ es) f = owns-none es f.1

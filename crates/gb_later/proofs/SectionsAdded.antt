@@ -27,8 +27,9 @@ use Rattle.gb_later.proofs.OperatorsAlike.{linking_same}
 use Rattle.gb_later.proofs.KeptNames.{EachFresh, kept-front, each-name}
 use Rattle.gb_later.proofs.ModulesAlike.{linking-looks, footprint-looks, modules-alike}
 use Rattle.gb_later.proofs.FootprintNames.{footprint-names}
-use Rattle.gb_later.proofs.ChosenPrograms.{programs-further, footprints-further, touched-further}
+use Rattle.gb_later.proofs.ChosenPrograms.{programs-further, footprints-further, touched-further, chosen-further}
 use Rattle.gb_later.proofs.SettingsAgree.{settings_agree}
+use Rattle.gb_later.proofs.NewNames.{owns-none}
 use Rattle.gb_later.proofs.Aligned.{AreApartPrograms, append-programs, plain-programs, Aligned, GoesOn, owned-alike}
 use Rattle.gb_later.proofs.SequentsAlike.{each-later}
 use Rattle.gb_later.proofs.ModelsEarlier.{model-earlier}
@@ -119,7 +120,8 @@ module _ (ds : Declarations) (n : Name) (b : Bind) where
     aligned-before = record {
       plain = h;
       types = λ k x. types-stay k;
-      globals = λ m f. owned-alike m ds es f;
+      globals = λ m f. owned-alike m ds es (owns-none m es f);
+      chosen = λ js m k. refl;
       settings = λ js p.
           let cs : List Chosen = js ++ [] in
           let P : Name → Type 0 = IsKept es (chosen_names cs) in
@@ -151,7 +153,8 @@ module _ (ds : Declarations) (n : Name) (b : Bind) where
       aligned-further = record {
         plain = h;
         types = λ k x. types-stay k;
-        globals = λ m f. owned-alike m ds es f;
+        globals = λ m f. owned-alike m ds es (owns-none m es f);
+        chosen = λ js k x. chosen-further es c other rest js k (kept-front es rest free js k x);
         settings = λ js q.
             settings_agree es ds later (P js) (λ k f. inl f) w size table (js ++ rest) (js ++ c ∷ rest) (λ g. operators-stay table g ds) o
             (same-footprint (P js) (λ k f. inl f) (js ++ rest) (js ++ c ∷ rest) (append-programs es ds js rest q p)

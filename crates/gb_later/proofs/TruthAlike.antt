@@ -1,5 +1,5 @@
 -- Programs are within binders, and formulas are true, alike in aligned scopes, if they name nothing that is added.
-use Rattle.std.proofs.Common.{◌≡◌, ℕ, Bool, true, false, List, [], ◌∷◌, ◌++◌, sym, ◌↔◌, subst}
+use Rattle.std.proofs.Common.{◌≡◌, ℕ, inl, inr, if◌then◌else◌, Bool, true, false, List, [], ◌∷◌, ◌++◌, sym, ◌∙◌, ◌↔◌, subst}
 use mathlib.Core.Former.{Count}
 use Rattle.gb_types.specs.Numbering.{Numbering}
 use Rattle.gb_terms.specs.declared.module.Bind.{Bind}
@@ -20,7 +20,7 @@ use Rattle.gb_holds.specs.Settings.{Chosen, Table, Interpretation, interpreted, 
 use Rattle.gb_holds.specs.Naming.{AnyName, IsFresh, EachParam, IsTypeIn}
 use Rattle.gb_holds.specs.Programs.{AreIn, IsProgramFor, AreNamed, AreFull}
 use Rattle.gb_holds.specs.Bounds.{IsBounded}
-use Rattle.gb_holds.specs.Within.{AreApart, excluded, KeepsOff, IsWithinIn, IsWithin}
+use Rattle.gb_holds.specs.Within.{AreApart, is_chosen, own_globals, excluded, KeepsOff, IsWithinIn, IsWithin}
 use Rattle.gb_holds.specs.Truth.{Choice, last_has_module, IsFirstTrue, Truth, TruthOfLast}
 use Rattle.gb_holds.proofs.SameScope.{SameTypes, program-to, bounded-to}
 use Rattle.gb_later.specs.Naming.{chosen_names, IsKept}
@@ -28,26 +28,26 @@ use Rattle.gb_later.specs.Formed.{AreSignedBounds, AreKept, IsFormedBind, IsSaid
 use Rattle.gb_later.proofs.SameForms.{truth_same}
 use Rattle.gb_later.proofs.Agreeing.{values_agree, form_agrees}
 use Rattle.gb_later.proofs.PlainGlobals.{EachPlain}
-use Rattle.gb_later.proofs.Aligned.{AreApartPrograms, Aligned}
+use Rattle.gb_later.proofs.Aligned.{AreApartPrograms, owned, Aligned}
 use Rattle.gb_later.proofs.TypedAlike.{SameBasis, basis-of, turned-basis}
 use Rattle.gb_later.proofs.WithinAlike.{plain-in, program-alike, bounded-alike, full-alike}
 
 -- what the modules of a restriction exclude is the same
-abbrev ExcludeAlike : Declarations → Declarations → Setting → Setting → List Name → Type 0
-ExcludeAlike ds es g h [] = Unit {0}
-ExcludeAlike ds es g h (m ∷ ms) = (excluded ds g m ≡ excluded es h m) × ExcludeAlike ds es g h ms
+abbrev ExcludeAlike : Declarations → Declarations → List Chosen → List Chosen → Setting → Setting → List Name → Type 0
+ExcludeAlike ds es cs ks g h [] = Unit {0}
+ExcludeAlike ds es cs ks g h (m ∷ ms) = (excluded ds cs g m ≡ excluded es ks h m) × ExcludeAlike ds es cs ks g h ms
 
-exclude-back : (ds es : Declarations) (g h : Setting) (ms : List Name) → ExcludeAlike ds es g h ms → ExcludeAlike es ds h g ms
-exclude-back ds es g h [] k = tt
-exclude-back ds es g h (m ∷ ms) k = (sym k.0, exclude-back ds es g h ms k.1)
+exclude-back : (ds es : Declarations) (cs ks : List Chosen) (g h : Setting) (ms : List Name) → ExcludeAlike ds es cs ks g h ms → ExcludeAlike es ds ks cs h g ms
+exclude-back ds es cs ks g h [] k = tt
+exclude-back ds es cs ks g h (m ∷ ms) k = (sym k.0, exclude-back ds es cs ks g h ms k.1)
 
-module _ (P : Name → Type 0) (ds es : Declarations) (e : SameTypes P ds es) (g h : Setting) (a : SameBasis g h) (w : World) (p : EachPlain w) where
-  keeps-alike : (xs : List Global) (ms : List Name) → ExcludeAlike ds es g h ms → KeepsOff ds g xs ms → KeepsOff es h xs ms
+module _ (P : Name → Type 0) (ds es : Declarations) (e : SameTypes P ds es) (g h : Setting) (a : SameBasis g h) (w : World) (p : EachPlain w) (cs ks : List Chosen) where
+  keeps-alike : (xs : List Global) (ms : List Name) → ExcludeAlike ds es cs ks g h ms → KeepsOff ds cs g xs ms → KeepsOff es ks h xs ms
   keeps-alike xs [] z k = tt
   keeps-alike xs (m ∷ ms) z k = (subst (AreApart xs) z.0 k.0, keeps-alike xs ms z.1 k.1)
 
-  within-alike : (b : Bind) → IsTypeIn P ds b.ty → ExcludeAlike ds es g h b.minus → AreSignedBounds (type_named ds b.ty).signatures b.bounds →
-      (v : Adversary) → IsWithinIn ds g w b v → IsWithinIn es h w b v
+  within-alike : (b : Bind) → IsTypeIn P ds b.ty → ExcludeAlike ds es cs ks g h b.minus → AreSignedBounds (type_named ds b.ty).signatures b.bounds →
+      (v : Adversary) → IsWithinIn ds cs g w b v → IsWithinIn es ks h w b v
   within-alike b i z y v k =
       let t : ModuleType = type_named ds b.ty in
       record {
@@ -80,23 +80,30 @@ module _ (es ds later : Declarations) (w : World) (size : Name → ℕ) (table :
   pub type-later : (n : Name) → IsTypeIn (IsFresh es) ds n → IsTypeIn (IsFresh es) later n
   type-later n k = (k.0, subst (λ t. EachParam (IsFresh es) t.params) (a.types n k.0) k.1)
 
+  -- a module of a kept name declares the same: none, where a program is chosen under it
+  owned-same : (js : List Chosen) (m : Name) → IsKept es (names js) m → own_globals ds (js ++ rest) m ≡ own_globals later (js ++ more) m
+  owned-same js m (inl f) = λ i. if a.chosen js m (inl f) i then [] else a.globals m f i
+  owned-same js m (inr x) =
+      let y : is_chosen (js ++ more) m ≡ true = sym (a.chosen js m (inr x)) ∙ x in
+      (λ i. if x i then [] else owned ds m) ∙ sym (λ i. if y i then [] else owned later m)
+
   exclude-alike : (js : List Chosen) → AreApartPrograms es ds js → (ms : List Name) → AreKept es (names js) ms →
-      ExcludeAlike ds later (setting ds (at-first js)) (setting later (at-last js)) ms
+      ExcludeAlike ds later (js ++ rest) (js ++ more) (setting ds (at-first js)) (setting later (at-last js)) ms
   exclude-alike js p [] f = tt
-  exclude-alike js p (m ∷ ms) f = ((λ i. a.globals m f.0.1 i ++ ((a.settings js p).footprints (named m) f.0.0).0 i), exclude-alike js p ms f.1)
+  exclude-alike js p (m ∷ ms) f = ((λ i. owned-same js m f.0 i ++ ((a.settings js p).footprints (named m) f.0).0 i), exclude-alike js p ms f.1)
 
   pub within-later : (js : List Chosen) → AreApartPrograms es ds js → (b : Bind) → IsFormedBind es ds (names js) b → (v : Adversary) →
       IsWithin ds (at-first js) b v → IsWithin later (at-last js) b v
   within-later js p b f v k =
-      within-alike (IsFresh es) ds later a.types (setting ds (at-first js)) (setting later (at-last js)) (basis js p) w a.plain b f.type
+      within-alike (IsFresh es) ds later a.types (setting ds (at-first js)) (setting later (at-last js)) (basis js p) w a.plain (js ++ rest) (js ++ more) b f.type
       (exclude-alike js p b.minus f.minus) f.bounds v k
 
   pub within-earlier : (js : List Chosen) → AreApartPrograms es ds js → (b : Bind) → IsFormedBind es ds (names js) b → (v : Adversary) →
       IsWithin later (at-last js) b v → IsWithin ds (at-first js) b v
   within-earlier js p b f v k =
       within-alike (IsFresh es) later ds (λ n x. sym (a.types n x)) (setting later (at-last js)) (setting ds (at-first js))
-      (turned-basis (setting ds (at-first js)) (setting later (at-last js)) (basis js p)) w a.plain b (type-later b.ty f.type)
-      (exclude-back ds later (setting ds (at-first js)) (setting later (at-last js)) b.minus (exclude-alike js p b.minus f.minus))
+      (turned-basis (setting ds (at-first js)) (setting later (at-last js)) (basis js p)) w a.plain (js ++ more) (js ++ rest) b (type-later b.ty f.type)
+      (exclude-back ds later (js ++ rest) (js ++ more) (setting ds (at-first js)) (setting later (at-last js)) b.minus (exclude-alike js p b.minus f.minus))
       (subst (λ t. AreSignedBounds t.signatures b.bounds) (a.types b.ty f.type.0) f.bounds) v k
 
   pub chosen-plain : (b : Bind) (v : Adversary) (js : List Chosen) → IsTypeIn (IsFresh es) ds b.ty → AreIn w v.footprint → AreApartPrograms es ds js →

@@ -20,7 +20,8 @@ use Rattle.gb_meaning.specs.Setting.Meaning.{finite, whole, fraction, weights}
 use Rattle.gb_meaning.specs.Terms.{val, quiet, distribution}
 use Rattle.gb_holds.specs.Declared.{Signature}
 use Rattle.gb_holds.specs.Globs.{IsGlobless}
-use Rattle.gb_holds.specs.Typing.{Names, global_type, local_type, type_of, written_type, IsExpression, IsValueOf, IsTypedTerm, IsDistributionOver, AreArguments, AreLocals, params_of, FitsSignature, IsTyped, IsTypedRoutine}
+use Rattle.gb_holds.specs.Typing.{Names, global_type, type_of, IsExpression, IsValueOf, IsTypedTerm, IsDistributionOver, AreArguments, AreLocals, FitsSignature, IsTyped, IsTypedRoutine}
+use Rattle.gb_meaning.specs.Written.{local_type, type_of as written_type, params_of}
 use Rattle.gb_holds.specs.Naming.{AnyName, EachName}
 use Rattle.gb_later.specs.Agreement.{SameFootprint, SameValues, SameTerm, SameLocals}
 use Rattle.gb_later.proofs.SameTerms.{term_same}

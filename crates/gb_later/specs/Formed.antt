@@ -1,5 +1,5 @@
 -- Sequents that name none of the declarations that are added, with abstract modules and quantifiers over modules.
-use Rattle.std.specs.Prelude.{◌≡◌, ℕ, true, List, [], ◌∷◌, filter, bytes_eq}
+use Rattle.std.specs.Prelude.{◌≡◌, ℕ, true, List, [], ◌∷◌, bytes_eq}
 use Rattle.std.specs.List.{list_any}
 use Rattle.gb_terms.specs.declared.op.Op.TheVariants as op
 use Rattle.gb_terms.specs.declared.term.Term.{Term, Term', Row_of-Term, end_of-Term, more_of-Term, end_of-Head, more_of-Head}
@@ -9,13 +9,13 @@ use Rattle.gb_terms.specs.declared.module.Bound.{Bound}
 use Rattle.gb_goal.specs.declared.sequent.Hyp.{Hyp}
 use Rattle.gb_goal.specs.declared.sequent.Sequent.{Sequent}
 use Rattle.gb_meaning.specs.Names.{Name}
-use Rattle.gb_meaning.specs.Values.{Global, World}
+use Rattle.gb_meaning.specs.Values.{World}
 use Rattle.gb_meaning.specs.Judgments.{IsSoundForm}
 use Rattle.gb_holds.specs.Declared.{Declarations, Signature, axiom_of}
 use Rattle.gb_holds.specs.Globs.{EachGlob}
 use Rattle.gb_holds.specs.Adversary.{Adversary, type_named}
 use Rattle.gb_holds.specs.Naming.{AnyName, IsFresh, IsTypeIn}
-use Rattle.gb_holds.specs.Settings.{Table, Interpretation, with_program, types_of, setting, declared_globals}
+use Rattle.gb_holds.specs.Settings.{Table, Interpretation, with_program, types_of, setting}
 use Rattle.gb_holds.specs.Within.{IsWithin}
 use Rattle.gb_holds.specs.Truth.{Choice, last_has_module}
 use Rattle.gb_holds.specs.Holds.{EachProgram, HaveVariableTypes, declared_modules, interpretation}
@@ -34,18 +34,10 @@ abbrev pub AreSignedBounds : List Signature → List Bound → Type 0
 AreSignedBounds ss [] = Unit {0}
 AreSignedBounds ss (b ∷ bs) = AreSigned ss b.procs × AreSignedBounds ss bs
 
--- the globals that are declared under a name
-abbrev pub owned : Declarations → Name → List Global
-owned ds m = filter (λ x. bytes_eq m x.parent) (declared_globals ds)
-
--- no global is declared under this name
-abbrev pub OwnsNone : Declarations → Name → Type 0
-OwnsNone es m = owned es m ≡ []
-
--- what modules of these names exclude is the same: their names are kept, and nothing is declared under them
+-- each of these names is kept, so that what its module excludes is the same
 abbrev pub AreKept : Declarations → List Name → List Name → Type 0
 AreKept es hs [] = Unit {0}
-AreKept es hs (m ∷ ms) = (IsKept es hs m × OwnsNone es m) × AreKept es hs ms
+AreKept es hs (m ∷ ms) = IsKept es hs m × AreKept es hs ms
 
 -- A binder of declarations, where modules of the names hs are bound: its module type and its restriction name none of
 -- those that are added, and its bounds name procedures of its module type.

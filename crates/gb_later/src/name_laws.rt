@@ -6,14 +6,13 @@ ghost use Rattle.gb_meaning.specs.Names.{Name};
 ghost use Rattle.gb_holds.specs.Declared.{Declarations, module_named};
 ghost use Rattle.gb_holds.specs.Naming.{IsFresh};
 ghost use Rattle.gb_later.specs.Naming.{IsKept};
-ghost use Rattle.gb_later.specs.Formed.{OwnsNone};
 ghost use Rattle.gb_later.specs.Added.{IsNewModule, IsClosedScope};
 
 /// In a scope as scripts make it, an abstract module is new under each name that is free. A name that no declaration
-/// has stands for none of them, nothing is declared under it, and it goes on to name the module that it did.
+/// has stands for none of them, and it goes on to name the module that it did.
 pub fn free_names()
     ensures modules { (ds : Declarations) (n : Name) (b : Bind) → IsClosedScope ds → IsFresh ds n → b.name ≡ n →
         IsNewModule ds n b }
-    ensures kept { (es : Declarations) (hs : List Name) (n : Name) → IsFresh es n → IsKept es hs n × OwnsNone es n }
+    ensures kept { (es : Declarations) (hs : List Name) (n : Name) → IsFresh es n → IsKept es hs n }
     ensures stays { (ds es : Declarations) (n : Name) → IsFresh es n → module_named (ds ++ es) n ≡ module_named ds n }
 {}

@@ -17,3 +17,4 @@ pub mod Loops
 pub mod Trees
 pub mod Examples
 pub mod Drawn
+pub mod Written

@@ -17,9 +17,10 @@ use Rattle.gb_meaning.specs.Sound.{FullRoutine}
 use Rattle.gb_laws.proofs.Numberings.{lawful}
 use Rattle.gb_holds.specs.Declared.{Declarations, ModuleType, Signature}
 use Rattle.gb_holds.specs.Modules.{Procedures, found}
-use Rattle.gb_holds.specs.Typing.{params_of, IsPlain, ArePlain, AreLocals}
+use Rattle.gb_holds.specs.Typing.{IsPlain, ArePlain, AreLocals}
+use Rattle.gb_meaning.specs.Written.{params_of}
 use Rattle.gb_holds.specs.Adversary.{type_named, callable}
-use Rattle.gb_holds.specs.Settings.{Interpretation, with_program, setting}
+use Rattle.gb_holds.specs.Settings.{Chosen, Interpretation, with_program, setting}
 use Rattle.gb_holds.specs.Programs.{IsProcedureFor, HasProcedures, IfThere, AreNamed, AreFull}
 use Rattle.gb_holds.specs.Within.{KeepsOff, IsWithin}
 use Rattle.gb_holds.specs.Bounds.{oracle_in}
@@ -115,9 +116,9 @@ module _ (size : Name → ℕ) (ds : Declarations) (g : Setting) (e : g.types.si
     named [] f = tt
     named (s ∷ ss) f = (subst (IfThere (λ r. params_of r ≡ s.params)) (sym f.0) refl, named ss f.1)
 
-  keeps_off : (ms : List Name) → KeepsOff ds g [] ms
-  keeps_off [] = tt
-  keeps_off (m ∷ ms) = (tt, keeps_off ms)
+  keeps_off : (cs : List Chosen) (ms : List Name) → KeepsOff ds cs g [] ms
+  keeps_off cs [] = tt
+  keeps_off cs (m ∷ ms) = (tt, keeps_off cs ms)
 
 none_if : (o : Oracle) (b : Bool) (r : Routine) (q : Option Routine) → most_asked_if_there o (Some r) ≡ 0 → most_asked_if_there o q ≡ 0 →
     most_asked_if_there o (if b then Some r else q) ≡ 0
@@ -150,6 +151,6 @@ idle_within ds i b d h =
       program = record { rising = tt; known = tt; procedures = procedures i.size ds g e t (idle_procedures i.size t.signatures) t.signatures f h };
       named = named i.size ds g e t (idle_procedures i.size t.signatures) t.signatures f;
       full = full i.size ds g e t (idle_procedures i.size t.signatures) t.signatures f;
-      apart = keeps_off i.size ds g e t b.minus;
+      apart = keeps_off i.size ds g e t k.programs b.minus;
       bounded = bounded_by_text ds g i.world t (idle i.size t) b.bounds (bounded i.size t b.bounds);
     }

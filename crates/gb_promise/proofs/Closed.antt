@@ -19,7 +19,8 @@ use Rattle.gb_equiv.specs.Judgment.{OnBodies, bodies_of}
 use Rattle.gb_sound.proofs.Shapes.{none_some, judgment_on, bodies_shape}
 use Rattle.gb_closing.specs.Reading.{no_variables, Reading}
 use Rattle.gb_closing.specs.Fits.{Fits}
-use Rattle.gb_closing.specs.Ready.{reading_of, UsedFit, SmtIsReady, InEachSetting}
+use Rattle.gb_holds.specs.Holds.{InEachSetting}
+use Rattle.gb_closing.specs.Ready.{reading_of, UsedFit, SmtIsReady}
 use Rattle.gb_ready.specs.Scoped.{ambient, IsReadable}
 use Rattle.gb_ready.specs.Programs.{closed}
 use Rattle.gb_ready.specs.Goals.{IsTypedConclusion, AreHypotheses, context_of, IsTypedSequent, IsTypedScope}

@@ -21,7 +21,7 @@ use Rattle.gb_typed.specs.Finite.{IsVariableType, IsInhabited}
 use Rattle.gb_typed.specs.Operators.{IsNoDistribution, IsOperator}
 use Rattle.gb_typed.specs.Typing.{Context, Binder, types_of, IsHead, IsTyped, AreTyped}
 use Rattle.gb_typed.specs.Typing.Binder.{value, memory}
-use Rattle.gb_typed.specs.Programs.{local_type}
+use Rattle.gb_meaning.specs.Written.{local_type}
 use Rattle.gb_typed.proofs.Sizes.{fit_in}
 use Rattle.gb_sound.proofs.Shapes.{none_some, same_some}
 use Rattle.gb_closing.specs.Reading.{Variables, no_variables, Reading, IsReadAt, inner, AreHeld}

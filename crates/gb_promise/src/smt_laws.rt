@@ -4,10 +4,10 @@ ghost use Rattle.std.specs.List.{All};
 ghost use Rattle.gb_goal.specs.declared.sequent.Sequent.{Sequent};
 ghost use Rattle.gb_goal.specs.Scope as scope;
 ghost use Rattle.gb_holds.specs.Declared.{declared};
-ghost use Rattle.gb_holds.specs.Holds.{Holds};
+ghost use Rattle.gb_holds.specs.Holds.{Holds, InEachSetting};
 ghost use Rattle.gb_smt.specs.Leaves.{leaves_of};
 ghost use Rattle.gb_smt.specs.Apply.{IsClosed};
-ghost use Rattle.gb_closing.specs.Ready.{SmtIsReady, InEachSetting};
+ghost use Rattle.gb_closing.specs.Ready.{SmtIsReady};
 ghost use Rattle.gb_ready.specs.Goals.{IsTypedSequent, IsTypedScope};
 
 /// A typed goal in a typed scope meets what `smt` asks, in each setting.

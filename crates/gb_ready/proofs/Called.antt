@@ -17,12 +17,11 @@ use Rattle.gb_meaning.specs.Values.{World}
 use Rattle.gb_meaning.specs.Setting.{Setting}
 use Rattle.gb_holds.specs.Settings.{Table}
 use Rattle.gb_holds.specs.Declared.{declared}
-use Rattle.gb_holds.specs.Holds.{IsModel, interpretation}
+use Rattle.gb_holds.specs.Holds.{IsModel, interpretation, InEachSetting}
 use Rattle.gb_typed.specs.Typing.{Context}
 use Rattle.gb_typed.proofs.Nodes.{head_typed, arguments_typed}
 use Rattle.gb_equiv.specs.Judgment.{Layer, Judgment, of_subjects, equivalence_of, bodies_of}
 use Rattle.gb_equiv.specs.Proc.{named_by, procedure_in}
-use Rattle.gb_sound.specs.Ready.{InEachSetting}
 use Rattle.gb_sound.specs.Entered.{IsLinkedTo, IsReadyForProc, ProceduresAreReady, ProcRowIsReady}
 use Rattle.gb_sound.proofs.Shapes.{judgment_node, judgment_shape}
 use Rattle.gb_sound.proofs.Shapes.{none_some}

@@ -30,7 +30,8 @@ use Rattle.gb_changes.proofs.Changed.{changed_at, term_changed_is}
 use Rattle.gb_changes.proofs.Forms.{procedure_stays}
 use Rattle.gb_changes.proofs.Puts.{plain_raised}
 use Rattle.gb_changes.proofs.Lookups.{raised_bound, read_found_under, read_of_binder, bound_found_under, bound_of_binder, side_under, side_of_binder, each_filter, each_map, read_found_without, bound_found_without, side_without}
-use Rattle.gb_typed.specs.Typing.{Context, OperatorType, Binder, binder, type_of, types_of, IsBoundAt, IsRead, IsHead, inner, IsTyped, AreTyped}
+use Rattle.gb_typed.specs.Typing.{Context, OperatorType, Binder, binder, types_of, IsBoundAt, IsRead, IsHead, inner, IsTyped, AreTyped}
+use Rattle.gb_meaning.specs.Written.{type_of}
 use Rattle.gb_typed.specs.Typing.Binder.{value, index, memory}
 use Rattle.gb_ready.specs.Scoped.{Frame, Frames, under, HaveVariableTypes, IsReadScoped, declared_subject, IsThere, HeadIsScoped, with_sides, of_arguments, of_last, IsScoped, AreScoped}
 use Rattle.gb_ready.proofs.Within.{more, only_locals}

@@ -12,7 +12,8 @@ use Rattle.gb_meaning.specs.Setting.{Setting}
 use Rattle.gb_meaning.specs.Operators.{denominator_at}
 use Rattle.gb_meaning.specs.Terms.{denominator, denominators, denominator_of}
 use Rattle.gb_typed.specs.Operators.{IsNoDistribution, IsDistributionType, IsOperator}
-use Rattle.gb_typed.specs.Typing.{Context, type_of, types_of, IsHead, inner, IsTyped, AreTyped}
+use Rattle.gb_typed.specs.Typing.{Context, types_of, IsHead, inner, IsTyped, AreTyped}
+use Rattle.gb_meaning.specs.Written.{type_of}
 use Rattle.gb_sound.proofs.Shapes.{none_some}
 use mathlib.Core.Former.{Count}
 

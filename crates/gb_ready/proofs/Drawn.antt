@@ -14,7 +14,7 @@ use Rattle.gb_meaning.specs.Operators.{outcome_type}
 use Rattle.gb_meaning.specs.Trees.{distributions}
 use Rattle.gb_typed.specs.Finite.{IsFinite}
 use Rattle.gb_typed.specs.Operators.{IsDistributionType}
-use Rattle.gb_typed.specs.Typing.{type_of}
+use Rattle.gb_meaning.specs.Written.{type_of}
 use Rattle.gb_typed.proofs.Constructors.{distribution_is}
 use Rattle.gb_equiv.specs.Rnd.{Sampling, of_type, of_statement, last_sampling}
 use Rattle.gb_sound.proofs.LastSamplings.{last_shape}

@@ -9,7 +9,8 @@ use Rattle.gb_terms.specs.declared.term.Head.TheVariants.{Proc, Body'}
 use Rattle.gb_goal.specs.Scope.{Declarations}
 use Rattle.gb_meaning.specs.Commands.{terms_in}
 use Rattle.gb_changes.specs.Formed.{AreTwo, HasArguments, HeadIsFormed, SubjectIsFormed, IsFormed, AllFormed}
-use Rattle.gb_typed.specs.Typing.{Context, type_of, types_of, IsHead, inner, IsTyped, AreTyped}
+use Rattle.gb_typed.specs.Typing.{Context, types_of, IsHead, inner, IsTyped, AreTyped}
+use Rattle.gb_meaning.specs.Written.{type_of}
 use Rattle.gb_ready.specs.Scoped.{Frames, declared_subject, IsThere, HeadIsScoped, of_arguments, of_last, IsScoped, AreScoped}
 use mathlib.Core.Former.{Count}
 

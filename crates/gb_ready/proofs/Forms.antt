@@ -14,10 +14,10 @@ use Rattle.gb_meaning.specs.Names.{Name}
 use Rattle.gb_meaning.specs.Memory.{result_name}
 use Rattle.gb_changes.specs.Uses.Use.{read as use_of}
 use Rattle.gb_changes.proofs.Trees.{out_is}
-use Rattle.gb_equiv.specs.Types.{ty_eq}
-use Rattle.gb_equiv.proofs.Types.{ty_eq-Decides}
-use Rattle.gb_typed.specs.Typing.{Context, type_of, IsRead}
-use Rattle.gb_typed.specs.Programs.{local_type}
+use Rattle.gb_same.specs.Types.{ty_eq}
+use Rattle.gb_same.proofs.Decided.{ty_eq-Decides}
+use Rattle.gb_typed.specs.Typing.{Context, IsRead}
+use Rattle.gb_meaning.specs.Written.{type_of, local_type}
 use Rattle.gb_sound.specs.Entered.{has_param, on_frames, before_calls, is_result, after_calls}
 use Rattle.gb_sound.proofs.Shapes.{none_some, same_some}
 use Rattle.gb_sound.specs.Ready.{outermost}

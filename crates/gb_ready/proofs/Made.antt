@@ -8,7 +8,8 @@ use Rattle.gb_terms.specs.Make.{node}
 use Rattle.gb_goal.specs.Scope.{Declarations}
 use Rattle.gb_meaning.specs.Trees.{row}
 use Rattle.gb_laws.proofs.Nodes.{term_is_node}
-use Rattle.gb_typed.specs.Typing.{Context, type_of, IsHead, inner, IsTyped, AllTyped}
+use Rattle.gb_typed.specs.Typing.{Context, IsHead, inner, IsTyped, AllTyped}
+use Rattle.gb_meaning.specs.Written.{type_of}
 use Rattle.gb_typed.proofs.Nodes.{node_typed, type_of_node}
 use Rattle.gb_ready.specs.Scoped.{Frames, HaveVariableTypes, HeadIsScoped, of_arguments, of_last, IsScoped, AreScoped}
 

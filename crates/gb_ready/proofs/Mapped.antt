@@ -21,13 +21,14 @@ use Rattle.gb_meaning.specs.Terms.{quiet, val}
 use Rattle.gb_changes.specs.Uses.Use.{read as use_of, bound as use_of_bound}
 use Rattle.gb_changes.proofs.Puts.{plain_node}
 use Rattle.gb_equiv.specs.declared.coupled.Maps.{Maps}
-use Rattle.gb_equiv.specs.Types.{ty_eq}
+use Rattle.gb_same.specs.Types.{ty_eq}
 use Rattle.gb_equiv.specs.Coupled.{nearest}
 use Rattle.gb_equiv.specs.Rnd.{maps}
-use Rattle.gb_equiv.proofs.Types.{ty_eq-Decides}
+use Rattle.gb_same.proofs.Decided.{ty_eq-Decides}
 use Rattle.gb_typed.specs.Finite.{IsFinite}
 use Rattle.gb_typed.specs.Operators.{IsNoDistribution}
-use Rattle.gb_typed.specs.Typing.{Context, binder, type_of, IsBoundAt, IsRead}
+use Rattle.gb_typed.specs.Typing.{Context, binder, IsBoundAt, IsRead}
+use Rattle.gb_meaning.specs.Written.{type_of}
 use Rattle.gb_typed.specs.Typing.Binder.{value}
 use Rattle.gb_typed.specs.Context.{IsSettingOf, IsStateOf}
 use Rattle.gb_typed.specs.Meant.{IsOf}

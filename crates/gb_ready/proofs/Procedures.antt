@@ -18,7 +18,7 @@ use Rattle.gb_changes.proofs.Changing.{denominator_changed}
 use Rattle.gb_changes.proofs.Shapes.{formed_changed}
 use Rattle.gb_typed.specs.Finite.{AreFiniteWith, IsFinite, IsVariableType}
 use Rattle.gb_typed.specs.Operators.{IsNoDistribution}
-use Rattle.gb_typed.specs.Typing.{type_of}
+use Rattle.gb_meaning.specs.Written.{type_of}
 use Rattle.gb_typed.specs.Context.{IsStateOf, IsFractional}
 use Rattle.gb_typed.proofs.Terms.{typed_value, typed_has}
 use Rattle.gb_holds.specs.Settings.{Table}

@@ -15,7 +15,8 @@ use Rattle.gb_goal.specs.declared.sequent.Sequent.{Sequent}
 use Rattle.gb_walk.specs.declared.change.Change.TheVariants.{ToSide}
 use Rattle.gb_walk.specs.Change.{Changes, found_for_read, read_changed, term_changed}
 use Rattle.gb_walk.specs.Sides.{reads_side}
-use Rattle.gb_typed.specs.Typing.{Context, type_of, IsRead}
+use Rattle.gb_typed.specs.Typing.{Context, IsRead}
+use Rattle.gb_meaning.specs.Written.{type_of}
 use Rattle.gb_typed.specs.Typing.Binder.{memory}
 use Rattle.gb_equiv.specs.Coupled.{implies_form}
 use Rattle.gb_equiv.specs.Skip.{for_every_memory}

@@ -22,7 +22,8 @@ use Rattle.gb_changes.specs.Plain.{HeadIsPlain, IsPlain, AllPlain}
 use Rattle.gb_changes.proofs.Trees.{raised_at, term_raised_is}
 use Rattle.gb_changes.proofs.Raising.{index_zero, index_suc}
 use Rattle.gb_changes.proofs.Lookups.{index_next}
-use Rattle.gb_typed.specs.Typing.{Context, OperatorType, Binder, binder, type_of, types_of, IsBoundAt, IsMemory, IsSide, IsRead, IsHead, inner, IsTyped, AreTyped}
+use Rattle.gb_typed.specs.Typing.{Context, OperatorType, Binder, binder, types_of, IsBoundAt, IsMemory, IsSide, IsRead, IsHead, inner, IsTyped, AreTyped}
+use Rattle.gb_meaning.specs.Written.{type_of}
 use Rattle.gb_typed.specs.Typing.Binder.{value, index, program}
 use Rattle.gb_ready.specs.Scoped.{Frame, Frames, under, HaveVariableTypes, IsReadable, IsReadScoped, HeadIsScoped, of_arguments, of_last, IsScoped, AreScoped}
 use Rattle.gb_ready.proofs.Within.{more, only_locals}

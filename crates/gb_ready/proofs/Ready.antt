@@ -14,7 +14,8 @@ use Rattle.gb_holds.specs.Declared.{declared}
 use Rattle.gb_equiv.specs.Coupled.{implies_form}
 use Rattle.gb_equiv.specs.Judgment.{OnBodies, bodies_of}
 use Rattle.gb_equiv.specs.Skip.{for_every_memory, for_every_pair}
-use Rattle.gb_sound.specs.Ready.{outermost, IsReady, InEachSetting, IsReadyForSkip, SkipIsReady}
+use Rattle.gb_holds.specs.Holds.{InEachSetting}
+use Rattle.gb_sound.specs.Ready.{outermost, IsReady, IsReadyForSkip, SkipIsReady}
 use Rattle.gb_ready.specs.Scoped.{Frames, of_programs, IsThere}
 use Rattle.gb_ready.specs.Goals.{IsForm, AreTypedBodies, IsTypedConclusion, context_of, IsTypedSequent, IsTypedScope}
 use Rattle.gb_ready.proofs.Formed.{formed}

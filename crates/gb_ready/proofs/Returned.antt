@@ -16,7 +16,8 @@ use Rattle.gb_goal.specs.Scope.{Declarations}
 use Rattle.gb_goal.specs.declared.sequent.Sequent.{Sequent}
 use Rattle.gb_walk.specs.declared.change.Change.TheVariants.{ToSide}
 use Rattle.gb_walk.specs.Change.{Changes, found_for_read, read_changed, term_changed}
-use Rattle.gb_typed.specs.Typing.{Context, type_of, IsSide, IsRead}
+use Rattle.gb_typed.specs.Typing.{Context, IsSide, IsRead}
+use Rattle.gb_meaning.specs.Written.{type_of}
 use Rattle.gb_equiv.specs.Judgment.{on_side}
 use Rattle.gb_equiv.specs.Proc.{returned}
 use Rattle.gb_sound.proofs.Shapes.{none_some}

@@ -30,13 +30,14 @@ use Rattle.gb_holds.specs.Settings.{Table, types_of, setting}
 use Rattle.gb_holds.proofs.SettingTypes.{setting-types}
 use Rattle.gb_holds.specs.Holds.{IsModel, interpretation, AreValues, context}
 use Rattle.gb_typed.specs.Operators.{item}
-use Rattle.gb_typed.specs.Typing.{type_of, IsRead}
+use Rattle.gb_typed.specs.Typing.{IsRead}
+use Rattle.gb_meaning.specs.Written.{type_of}
 use Rattle.gb_typed.specs.Context.{IsStateOf}
 use Rattle.gb_typed.specs.Meant.{IsOf}
 use Rattle.gb_typed.proofs.Meanings.{weights_have}
 use Rattle.gb_typed.proofs.Terms.{typed_meaning}
-use Rattle.gb_equiv.specs.Types.{ty_eq}
-use Rattle.gb_equiv.proofs.Types.{ty_eq-Decides}
+use Rattle.gb_same.specs.Types.{ty_eq}
+use Rattle.gb_same.proofs.Decided.{ty_eq-Decides}
 use Rattle.gb_equiv.specs.Judgment.{OnBodies, bodies_of}
 use Rattle.gb_equiv.specs.Rnd.{Sampling, last_sampling}
 use Rattle.gb_sound.specs.Ready.{InEachState}

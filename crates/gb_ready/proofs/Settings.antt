@@ -20,13 +20,12 @@ use Rattle.gb_meaning.specs.Judgments.{IsSoundIfThere}
 use Rattle.gb_holds.specs.Declared.{declared}
 use Rattle.gb_holds.specs.Footprints.{footprint_globals}
 use Rattle.gb_holds.specs.Settings.{Table, Interpretation, program_footprint, types_of, setting}
-use Rattle.gb_holds.specs.Holds.{IsModel, InEachModel, EachProgram, declared_modules, interpretation}
+use Rattle.gb_holds.specs.Holds.{IsModel, InEachModel, EachProgram, declared_modules, interpretation, InEachSetting}
 use Rattle.gb_holds.proofs.SettingTypes.{setting-types}
 use Rattle.gb_typed.specs.Finite.{AreVariables, IsInhabited}
 use Rattle.gb_typed.specs.Typing.{Context}
 use Rattle.gb_typed.specs.Context.{IsSettingOf, gives_distributions}
 use Rattle.gb_typed.proofs.Drawn.{typed_distribution}
-use Rattle.gb_sound.specs.Ready.{InEachSetting}
 use Rattle.gb_sound.proofs.Shapes.{none_some}
 use Rattle.gb_ready.specs.Scoped.{IsThere}
 use Rattle.gb_ready.specs.Programs.{closed, locals_of, AreStatements}

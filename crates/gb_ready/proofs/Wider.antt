@@ -12,7 +12,7 @@ use Rattle.gb_terms.specs.declared.term.Head.{Head}
 use Rattle.gb_terms.specs.declared.term.Head.TheVariants as head
 use Rattle.gb_goal.specs.Scope.{Declarations}
 use Rattle.gb_meaning.specs.Names.{Name}
-use Rattle.gb_typed.specs.Programs.{local_type}
+use Rattle.gb_meaning.specs.Written.{local_type}
 use Rattle.gb_sound.proofs.Shapes.{none_some}
 use Rattle.gb_ready.specs.Scoped.{Frame, Frames, under, with_sides, IsIn, IsReadable, HeadIsScoped, of_arguments, of_last, IsScoped, AreScoped}
 use mathlib.Core.Former.{Count}

@@ -11,7 +11,8 @@ use Rattle.gb_goal.specs.declared.sequent.Hyp.{Hyp}
 use Rattle.gb_goal.specs.declared.sequent.Sequent.{Sequent}
 use Rattle.gb_meaning.specs.Names.{Name}
 use Rattle.gb_typed.specs.Operators.{item}
-use Rattle.gb_typed.specs.Typing.{Context, type_of, IsTyped}
+use Rattle.gb_typed.specs.Typing.{Context, IsTyped}
+use Rattle.gb_meaning.specs.Written.{type_of}
 use Rattle.gb_equiv.specs.Judgment.{OnBodies, bodies_of}
 use Rattle.gb_ready.specs.Scoped.{Frames, ambient, of_programs, HaveVariableTypes, IsScoped}
 use Rattle.gb_ready.specs.Programs.{closed, AreStatements, AreTypedProcedures}

@@ -6,7 +6,8 @@ use Rattle.gb_terms.specs.declared.decl.TypedName.{TypedName}
 use Rattle.gb_terms.specs.declared.term.Term.{Term}
 use Rattle.gb_goal.specs.Scope.{Declarations}
 use Rattle.gb_changes.specs.Plain.{IsPlain}
-use Rattle.gb_typed.specs.Typing.{Context, type_of, IsTyped}
+use Rattle.gb_typed.specs.Typing.{Context, IsTyped}
+use Rattle.gb_meaning.specs.Written.{type_of}
 use Rattle.gb_typed.specs.Typing.Binder.{value}
 use Rattle.gb_equiv.specs.Judgment.{OnBodies}
 use Rattle.gb_equiv.specs.Rnd.{Sampling, last_sampling}

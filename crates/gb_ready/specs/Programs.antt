@@ -10,7 +10,8 @@ use Rattle.gb_meaning.specs.Operators.{outcome_type}
 use Rattle.gb_changes.specs.Plain.{IsPlain}
 use Rattle.gb_typed.specs.Finite.{IsVariableType}
 use Rattle.gb_typed.specs.Operators.{IsDistributionType}
-use Rattle.gb_typed.specs.Typing.{Context, type_of, IsTyped}
+use Rattle.gb_typed.specs.Typing.{Context, IsTyped}
+use Rattle.gb_meaning.specs.Written.{type_of}
 use Rattle.gb_ready.specs.Scoped.{of_program, IsIn, HaveVariableTypes, IsScoped}
 
 -- The context of a program: no logical variables, no memories and no binder are around. A script has neither globals nor

@@ -17,7 +17,7 @@ use Rattle.gb_terms.specs.declared.term.Subject.{Subject}
 use Rattle.gb_goal.specs.Scope.{Declarations, procedure_of}
 use Rattle.gb_meaning.specs.Memory.{result_name}
 use Rattle.gb_typed.specs.Finite.{IsVariableType}
-use Rattle.gb_typed.specs.Programs.{local_type}
+use Rattle.gb_meaning.specs.Written.{local_type}
 
 -- the locals of a memory, if there is such a memory
 abbrev pub Frame : Type 0

@@ -30,12 +30,11 @@ use Rattle.gb_holds.specs.Declared.{declared}
 use Rattle.gb_holds.specs.Declared as holding
 use Rattle.gb_holds.specs.Settings.{Interpretation, setting}
 use Rattle.gb_holds.specs.Truth.{Truth}
-use Rattle.gb_holds.specs.Holds.{Holds}
+use Rattle.gb_holds.specs.Holds.{Holds, InEachSetting}
 use Rattle.gb_holds.proofs.Fronts.{without_modules}
 use Rattle.gb_equiv.specs.Judgment.{Judgment, equivalence_of, concluding}
 use Rattle.gb_equiv.specs.Proc.{procedure_in, returned, entered}
 use Rattle.gb_equiv.specs.Rows.{subgoals}
-use Rattle.gb_sound.specs.Ready.{InEachSetting}
 use Rattle.gb_sound.specs.Entered.{before_calls, after_calls, ProcIsReady, IsLinkedTo, IsReadyForProc, ProceduresAreReady, ProcRowIsReady}
 use Rattle.gb_sound.proofs.Shapes.{none_some, same_some, judgment_node, judgment_shape}
 use Rattle.gb_sound.proofs.Equivalences.{Stand, judgment_true, judgment_front}

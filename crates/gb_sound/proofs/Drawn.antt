@@ -21,10 +21,10 @@ use Rattle.gb_meaning.specs.Terms.{Speaks, val}
 use Rattle.gb_laws.proofs.Nodes.{val_node}
 use Rattle.gb_changes.specs.Uses.Use.{read, bound, globals, starts, binds_own, binds_sides}
 use Rattle.gb_changes.specs.Led.{put, IgnoresOwn, Led}
-use Rattle.gb_equiv.specs.Types.{ty_eq}
+use Rattle.gb_same.specs.Types.{ty_eq}
 use Rattle.gb_equiv.specs.Coupled.{nearest}
 use Rattle.gb_equiv.specs.Rnd.{Sampling, sampled}
-use Rattle.gb_equiv.proofs.Types.{ty_eq-Decides}
+use Rattle.gb_same.proofs.Decided.{ty_eq-Decides}
 use Rattle.gb_sound.specs.Sampled.{is_variable, after_samplings}
 use Rattle.gb_sound.proofs.Images.{nearest_ignores_own}
 use Rattle.gb_sound.proofs.Written.{written_same, written_other, globals_same}

@@ -22,10 +22,10 @@ use Rattle.gb_changes.specs.Uses.Use.{read, bound, globals, starts, binds_own, b
 use Rattle.gb_changes.specs.Led.{IsPut, IgnoresOwn, Led}
 use Rattle.gb_changes.proofs.Changing.{plain_followed}
 use Rattle.gb_equiv.specs.declared.coupled.Maps.{Maps}
-use Rattle.gb_equiv.specs.Types.{ty_eq}
+use Rattle.gb_same.specs.Types.{ty_eq}
 use Rattle.gb_equiv.specs.Coupled.{nearest, composed}
 use Rattle.gb_equiv.specs.Rnd.{maps}
-use Rattle.gb_equiv.proofs.Types.{ty_eq-Decides}
+use Rattle.gb_same.proofs.Decided.{ty_eq-Decides}
 use Rattle.gb_sound.specs.Sampled.{of_value, MapIsReady, FunctionsAreReady}
 use Rattle.gb_sound.proofs.Shapes.{none_some, same_some}
 use Rattle.gb_sound.proofs.Sides.{led_itself}

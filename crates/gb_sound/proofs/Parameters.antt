@@ -9,8 +9,8 @@ use Rattle.gb_meaning.specs.Names.{Name, Map, get}
 use Rattle.gb_meaning.specs.Values.{Types, first, has, fit}
 use Rattle.gb_meaning.specs.Memory.{Memory, read_local, arguments}
 use Rattle.gb_laws.proofs.Maps.{get-set_same, get-set_other}
-use Rattle.gb_equiv.specs.Types.{ty_eq}
-use Rattle.gb_equiv.proofs.Types.{ty_eq-Decides}
+use Rattle.gb_same.specs.Types.{ty_eq}
+use Rattle.gb_same.proofs.Decided.{ty_eq-Decides}
 use Rattle.gb_sound.specs.Entered.{has_param}
 
 either : {A : Type 0} (b : Bool) (x : A) → (if b then x else x) ≡ x

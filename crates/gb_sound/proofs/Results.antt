@@ -28,7 +28,7 @@ use Rattle.gb_changes.specs.Led.{put, IgnoresOwn, Led}
 use Rattle.gb_changes.proofs.Changing.{plain_followed}
 use Rattle.gb_equiv.specs.Judgment.{on_side}
 use Rattle.gb_equiv.specs.Proc.{returned}
-use Rattle.gb_equiv.proofs.Types.{ty_eq-Decides}
+use Rattle.gb_same.proofs.Decided.{ty_eq-Decides}
 use Rattle.gb_sound.specs.Programs.{own_memory, IsOwn}
 use Rattle.gb_sound.specs.Entered.{before_calls, after_calls, ProcIsReady}
 use Rattle.gb_sound.proofs.Contexts.{own_same}

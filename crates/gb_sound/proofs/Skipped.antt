@@ -26,13 +26,13 @@ use Rattle.gb_holds.specs.Declared.{declared}
 use Rattle.gb_holds.specs.Declared as holding
 use Rattle.gb_holds.specs.Settings.{Interpretation, setting}
 use Rattle.gb_holds.specs.Truth.{Truth}
-use Rattle.gb_holds.specs.Holds.{Holds}
+use Rattle.gb_holds.specs.Holds.{Holds, InEachSetting}
 use Rattle.gb_holds.proofs.Fronts.{without_modules}
 use Rattle.gb_equiv.specs.Coupled.{implies_form}
 use Rattle.gb_equiv.specs.Judgment.{OnBodies, bodies_of, concluding}
 use Rattle.gb_equiv.specs.Rows.{subgoals}
 use Rattle.gb_equiv.specs.Skip.{for_every_memory, for_every_pair, of_empty}
-use Rattle.gb_sound.specs.Ready.{InEachSetting, IsReadyForSkip, SkipIsReady}
+use Rattle.gb_sound.specs.Ready.{IsReadyForSkip, SkipIsReady}
 use Rattle.gb_sound.proofs.Shapes.{none_some, same_some, judgment_node, judgment_on, bodies_shape}
 use Rattle.gb_sound.proofs.Sides.{left_at, for_each_left, for_each_right}
 use Rattle.gb_sound.proofs.Equivalences.{Stand, judgment_true, judgment_front}

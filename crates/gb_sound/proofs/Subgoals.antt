@@ -8,8 +8,8 @@ use Rattle.gb_meaning.specs.State.{State}
 use Rattle.gb_holds.specs.Declared.{Declarations}
 use Rattle.gb_holds.specs.Settings.{Interpretation, with_program, setting}
 use Rattle.gb_holds.specs.Truth.{Truth}
-use Rattle.gb_holds.specs.Holds.{EachProgram, IsTrueSequent, Holds, declared_modules, interpretation}
-use Rattle.gb_sound.specs.Ready.{InEachSetting, InEachState}
+use Rattle.gb_holds.specs.Holds.{EachProgram, IsTrueSequent, Holds, declared_modules, interpretation, InEachSetting}
+use Rattle.gb_sound.specs.Ready.{InEachState}
 
 -- two facts for all programs give a third
 both : (ds : Declarations) (bs : List Bind) (i : Interpretation) (P Q R : Interpretation → Type 0) → ((k : Interpretation) → P k → Q k → R k) →

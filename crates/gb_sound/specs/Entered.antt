@@ -27,7 +27,7 @@ use Rattle.gb_meaning.specs.Judgments.{IsSoundSubject}
 use Rattle.gb_changes.specs.Uses.{Uses}
 use Rattle.gb_changes.specs.Uses.Use.{read, starts}
 use Rattle.gb_changes.specs.Led.{IsPut}
-use Rattle.gb_equiv.specs.Types.{ty_eq}
+use Rattle.gb_same.specs.Types.{ty_eq}
 use Rattle.gb_goal.specs.Scope.{Declarations as Scope}
 use Rattle.gb_equiv.specs.Judgment.{Judgment, on_side}
 use Rattle.gb_equiv.specs.Proc.{procedure_in}

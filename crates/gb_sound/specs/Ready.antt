@@ -41,11 +41,7 @@ pub record IsReady (g : Setting) (K : Uses) (f : Term) : Type 0 where
   pub sound : IsSoundForm g f
   pub within : IsWithin K f
 
--- in the setting of each model, and for all programs within the modules of the sequent's context
-abbrev pub InEachSetting : Declarations → Sequent → (Setting → Type 0) → Type 0
-InEachSetting ds q P = InEachModel ds (λ i. EachProgram ds q.modules i (λ k. P (setting ds k)))
-
--- the same, in each state of the context
+-- in each state of the context, in the setting of each model and for all programs within the modules of the context
 abbrev pub InEachState : Declarations → Sequent → (Setting → State → Type 0) → Type 0
 InEachState ds q P = InEachModel ds (λ i. EachProgram ds q.modules i (λ k. (vs : List Value) →
     AreValues (types_of ds k) (map (λ x. x.ty) q.logical) vs → (ms : List Memory) → P (setting ds k) (context vs ms)))

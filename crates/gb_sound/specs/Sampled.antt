@@ -25,7 +25,7 @@ use Rattle.gb_changes.specs.Uses.{Uses, IsWithin}
 use Rattle.gb_changes.specs.Uses.Use.{read, bound, globals, starts, binds_own, binds_sides}
 use Rattle.gb_changes.specs.Led.{IsPut}
 use Rattle.gb_equiv.specs.declared.coupled.Maps.{Maps}
-use Rattle.gb_equiv.specs.Types.{ty_eq}
+use Rattle.gb_same.specs.Types.{ty_eq}
 use Rattle.gb_equiv.specs.Judgment.{OnBodies}
 use Rattle.gb_equiv.specs.Rnd.{Sampling, last_sampling}
 use Rattle.gb_sound.specs.Ready.{is_of_binder, IsReady}

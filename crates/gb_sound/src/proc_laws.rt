@@ -6,10 +6,9 @@ ghost use Rattle.gb_goal.specs.declared.sequent.Sequent.{Sequent};
 ghost use Rattle.gb_goal.specs.declared.step.Rule.TheVariants as rule;
 ghost use Rattle.gb_goal.specs.Scope as scope;
 ghost use Rattle.gb_holds.specs.Declared.{declared};
-ghost use Rattle.gb_holds.specs.Holds.{Holds};
+ghost use Rattle.gb_holds.specs.Holds.{Holds, InEachSetting};
 ghost use Rattle.gb_equiv.specs.Judgment.{equivalence_of};
 ghost use Rattle.gb_equiv.specs.Rows.{subgoals};
-ghost use Rattle.gb_sound.specs.Ready.{InEachSetting};
 ghost use Rattle.gb_sound.specs.Entered.{ProcRowIsReady};
 
 /// `proc`: where the equivalence of the bodies holds, with what the procedures return in place of their results, the

@@ -6,10 +6,10 @@ ghost use Rattle.gb_goal.specs.declared.sequent.Sequent.{Sequent};
 ghost use Rattle.gb_goal.specs.declared.step.Rule.TheVariants as rule;
 ghost use Rattle.gb_goal.specs.Scope as scope;
 ghost use Rattle.gb_holds.specs.Declared.{declared};
-ghost use Rattle.gb_holds.specs.Holds.{Holds};
+ghost use Rattle.gb_holds.specs.Holds.{Holds, InEachSetting};
 ghost use Rattle.gb_equiv.specs.Judgment.{bodies_of};
 ghost use Rattle.gb_equiv.specs.Rows.{subgoals};
-ghost use Rattle.gb_sound.specs.Ready.{InEachSetting, SkipIsReady};
+ghost use Rattle.gb_sound.specs.Ready.{SkipIsReady};
 
 /// `skip`: where for every two memories the precondition implies the postcondition, the equivalence of two empty bodies
 /// holds.

@@ -20,7 +20,8 @@ use Rattle.gb_laws.proofs.Drawn.{draws_distribution, draws_full}
 use Rattle.gb_laws.proofs.Types.{values_finite}
 use Rattle.gb_typed.specs.Finite.{IsFinite, IsInhabited}
 use Rattle.gb_typed.specs.Operators.{IsArithmetic, IsSigned, IsOfBits, IsDistributionType, IsOptionType, IsMapType, IsOperator}
-use Rattle.gb_typed.specs.Typing.{Context, Binder, type_of, types_of, IsLiteral, IsBoundAt, IsHead, inner, IsTyped, AreTyped}
+use Rattle.gb_typed.specs.Typing.{Context, Binder, types_of, IsLiteral, IsBoundAt, IsHead, inner, IsTyped, AreTyped}
+use Rattle.gb_meaning.specs.Written.{type_of}
 use Rattle.gb_typed.specs.Typing.Binder.{value as of_value, index as of_index, memory as of_memory, program as of_program}
 use Rattle.gb_typed.specs.Context.{gives_distributions, is_of_distributions, drawing_with, drawing, IsUnrestrictedHead, IsUnrestricted, AreUnrestricted, IsSettingOf}
 use Rattle.gb_typed.proofs.Sizes.{finite_sized}

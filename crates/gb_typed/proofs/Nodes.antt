@@ -6,7 +6,8 @@ use Rattle.gb_terms.specs.declared.term.Head.{Head}
 use Rattle.gb_terms.specs.Make.{node}
 use Rattle.gb_meaning.specs.Trees.{row}
 use Rattle.gb_laws.proofs.Nodes.{term_is_node}
-use Rattle.gb_typed.specs.Typing.{Context, type_of, types_of, IsHead, inner, IsTyped, AreTyped, AllTyped}
+use Rattle.gb_typed.specs.Typing.{Context, types_of, IsHead, inner, IsTyped, AreTyped, AllTyped}
+use Rattle.gb_meaning.specs.Written.{type_of}
 
 row_types : (ts : List Term) → types_of (row ts) ≡ map type_of ts
 row_types [] = refl

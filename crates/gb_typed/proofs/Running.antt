@@ -31,10 +31,11 @@ use Rattle.gb_laws.proofs.Memories.{read-write_global, read-write_local}
 use Rattle.gb_laws.proofs.Runs.{cases_of}
 use Rattle.gb_typed.specs.Finite.{IsInhabited}
 use Rattle.gb_typed.specs.Operators.{items, parts_in}
-use Rattle.gb_typed.specs.Typing.{Context, type_of, IsTyped}
+use Rattle.gb_typed.specs.Typing.{Context, IsTyped}
+use Rattle.gb_meaning.specs.Written.{type_of, local_type, params_of, result_type}
 use Rattle.gb_typed.specs.Context.{IsSettingOf, IsStateOf, IsFractional}
 use Rattle.gb_typed.specs.Meant.{IsOf}
-use Rattle.gb_typed.specs.Programs.{local_type, variable_type, HaveTypes, Take, IsValued, HaveFiniteTypes, AreArguments, params_of, result_type, closed_in, IsTypedProgram, IsTypedRoutine, IsHeld, HoldsGlobals, HoldsLocals, Holds, AreValuesOf, IsOutcome}
+use Rattle.gb_typed.specs.Programs.{variable_type, HaveTypes, Take, IsValued, HaveFiniteTypes, AreArguments, closed_in, IsTypedProgram, IsTypedRoutine, IsHeld, HoldsGlobals, HoldsLocals, Holds, AreValuesOf, IsOutcome}
 use Rattle.gb_typed.proofs.Sizes.{first_has}
 use Rattle.gb_typed.proofs.Meanings.{parts_have, finite_has, weights_have}
 use Rattle.gb_typed.proofs.Terms.{typed_meaning}

@@ -32,7 +32,8 @@ use Rattle.gb_laws.proofs.Types.{values_finite}
 use Rattle.gb_meaning.specs.Trees.{distributions}
 use Rattle.gb_typed.specs.Finite.{IsFinite}
 use Rattle.gb_typed.specs.Operators.{IsDistributionType, IsOperator}
-use Rattle.gb_typed.specs.Typing.{Context, Binder, type_of, types_of, IsLiteral, AreLiterals, IsBoundAt, IsRead, IsHead, inner, IsTyped, AreTyped}
+use Rattle.gb_typed.specs.Typing.{Context, Binder, types_of, IsLiteral, AreLiterals, IsBoundAt, IsRead, IsHead, inner, IsTyped, AreTyped}
+use Rattle.gb_meaning.specs.Written.{type_of}
 use Rattle.gb_typed.specs.Typing.Binder.{value, index, program}
 use Rattle.gb_typed.specs.Meant.{IsOf, AreGiven}
 use Rattle.gb_typed.specs.Context.{AreOf, FitsBinder, FitBinders, IsSettingOf, IsStateOf, IsFractional}

@@ -1,5 +1,5 @@
 -- Well-typed programs, and memories that hold values of the types of variables.
-use Rattle.std.specs.Prelude.{◌≡◌, true, if◌then◌else◌, bytes_eq, List, [], ◌∷◌, ◌++◌, Option, Some, None}
+use Rattle.std.specs.Prelude.{◌≡◌, true, List, [], ◌∷◌, ◌++◌, Option, Some, None}
 use Rattle.gb_core.specs.declared.ty.Ty.{Ty}
 use Rattle.gb_core.specs.declared.ty.Ty.TheVariants as ty
 use Rattle.gb_core.specs.declared.value.Value.{Value}
@@ -16,11 +16,8 @@ use Rattle.gb_meaning.specs.Program.Program.{done, assign, sample, branch, loop,
 use Rattle.gb_meaning.specs.Program.Routine.{routine}
 use Rattle.gb_typed.specs.Finite.{IsFinite}
 use Rattle.gb_typed.specs.Operators.{parts_in, IsDistributionType}
-use Rattle.gb_typed.specs.Typing.{Context, type_of, IsTyped}
-
-abbrev pub local_type : List TypedName → Name → Option Ty
-local_type [] x = None
-local_type (l ∷ ls) x = if bytes_eq x l.name then Some l.ty else local_type ls x
+use Rattle.gb_typed.specs.Typing.{Context, IsTyped}
+use Rattle.gb_meaning.specs.Written.{type_of, local_type, IsModulo, params_of, result_type}
 
 -- the type of a variable that a program writes
 abbrev pub variable_type : Context → List TypedName → Var → Option Ty
@@ -47,10 +44,6 @@ IsValued c e = IsTyped c e × IsFinite (type_of e)
 abbrev pub IsTest : Context → Term → Type 0
 IsTest c e = IsTyped c e × (type_of e ≡ ty.Bool)
 
-abbrev pub IsModulo : Ty → Type 0
-IsModulo (ty.Mod n) = Unit {0}
-IsModulo _ = ⊥
-
 -- a loop's variant is a number below the bound of its type
 abbrev pub IsVariant : Context → Term → Type 0
 IsVariant c v = IsTyped c v × IsModulo (type_of v)
@@ -64,12 +57,6 @@ abbrev pub AreArguments : Context → List Term → List TypedName → Type 0
 AreArguments c [] [] = Unit {0}
 AreArguments c (e ∷ es) (p ∷ ps) = (IsValued c e × (type_of e ≡ p.ty)) × AreArguments c es ps
 AreArguments c _ _ = ⊥
-
-abbrev pub params_of : Routine → List TypedName
-params_of (routine ps ls c r) = ps
-
-abbrev pub result_type : Routine → Ty
-result_type (routine ps ls c r) = type_of r
 
 -- the context of a procedure's body: it sees neither logical variables nor memories, and no binder is around it
 abbrev pub closed_in : Context → Context

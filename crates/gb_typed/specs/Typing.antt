@@ -20,6 +20,7 @@ use Rattle.gb_meaning.specs.Names.{Name}
 use Rattle.gb_meaning.specs.Operators.{outcome_type}
 use Rattle.gb_meaning.specs.Drawn.{has_weights}
 use Rattle.gb_meaning.specs.Trees.{distributions}
+use Rattle.gb_meaning.specs.Written.{type_of}
 use Rattle.gb_typed.specs.Finite.{IsFinite}
 use Rattle.gb_typed.specs.Operators.{Are, IsNoDistribution, IsDistributionType, IsOperator}
 
@@ -45,10 +46,6 @@ pub record Context : Type 0 where
   pub parameters : ProcRef → Option (List Ty)
   pub memories : ℕ
   pub bound : List Binder
-
--- the type that a term is written with
-abbrev pub type_of : Term → Ty
-type_of (Term' b h n args t) = t
 
 abbrev pub types_of : {n : _} → Row_of-Term n → List Ty
 types_of end_of-Term = []

@@ -17,9 +17,10 @@ ghost use Rattle.gb_meaning.specs.State.{State};
 ghost use Rattle.gb_meaning.specs.Terms.{Speaks, quiet, val};
 ghost use Rattle.gb_terms.specs.declared.term.Term.{Term};
 ghost use Rattle.gb_typed.specs.Meant.{IsOf};
-ghost use Rattle.gb_typed.specs.Typing.{Context, type_of, IsTyped};
+ghost use Rattle.gb_typed.specs.Typing.{Context, IsTyped};
+ghost use Rattle.gb_meaning.specs.Written.{type_of, params_of};
 ghost use Rattle.gb_typed.specs.Context.{IsSettingOf, IsStateOf, IsFractional};
-ghost use Rattle.gb_typed.specs.Programs.{IsValued, closed_in, variable_type, Take, params_of, IsTypedProgram, IsTypedRoutine, HoldsGlobals, Holds, AreValuesOf, IsOutcome};
+ghost use Rattle.gb_typed.specs.Programs.{IsValued, closed_in, variable_type, Take, IsTypedProgram, IsTypedRoutine, HoldsGlobals, Holds, AreValuesOf, IsOutcome};
 
 /// A well-typed expression of a program or a procedure, which reads neither logical variables nor what binders around bind,
 /// has a meaning of its type in every state.

@@ -21,7 +21,8 @@ ghost use Rattle.gb_meaning.specs.Trees.{distributions, options};
 ghost use Rattle.gb_typed.specs.Finite.{IsFinite, IsInhabited};
 ghost use Rattle.gb_typed.specs.Operators.{maps, tuples, IsDistributionType, IsOperator};
 ghost use Rattle.gb_typed.specs.Meant.{IsOf, AreGiven};
-ghost use Rattle.gb_typed.specs.Typing.{Context, type_of, IsHead, inner, IsTyped, AllTyped};
+ghost use Rattle.gb_typed.specs.Typing.{Context, IsHead, inner, IsTyped, AllTyped};
+ghost use Rattle.gb_meaning.specs.Written.{type_of};
 ghost use Rattle.gb_typed.specs.Context.{drawing_with, IsUnrestricted, IsSettingOf, IsStateOf, IsFractional};
 
 /// A finite type has a value where each abstract type has one, and what is read at it is one of its values.

@@ -1,10 +1,10 @@
 use Rattle.std.proofs.Common.{inl}
-use Rattle.gb_later.proofs.NewNames.{new-module, owns-none, same-named}
+use Rattle.gb_later.proofs.NewNames.{new-module, same-named}
 use Rattle.gb_later.proofs.name_laws.free_names.Goals as goal
 
 pub returns : goal.returns
 returns c = record {
   modules = λ ds n b x f e. new-module n b ds x f e;
-  kept = λ es hs n f. (inl f, owns-none n es f);
+  kept = λ es hs n f. inl f;
   stays = λ ds es n f. same-named ds es n f;
 }
