@@ -1,5 +1,5 @@
 -- The atoms of a leaf: its Boolean parts that are no connectives.
-use Rattle.std.specs.Prelude.{◌≡◌, ◌≢◌, ℕ, Bool, true, false, not, ◌&&◌, if◌then◌else◌, List, [], ◌∷◌, ◌++◌, length}
+use Rattle.std.specs.Prelude.{◌≡◌, ◌≢◌, ℕ, pred, Bool, true, false, not, ◌&&◌, if◌then◌else◌, List, [], ◌∷◌, ◌++◌, length, take}
 use Rattle.std.specs.List.{AllPairs, Contains, flat_map}
 use Rattle.gb_core.specs.declared.ty.Ty.{Ty}
 use Rattle.gb_core.specs.declared.ty.Ty.TheVariants as ty
@@ -10,6 +10,8 @@ use Rattle.gb_terms.specs.declared.term.Head.{Head}
 use Rattle.gb_terms.specs.declared.term.Head.TheVariants as head
 use Rattle.gb_terms.specs.Make.{applied}
 use Rattle.gb_walk.specs.Layers.{is_binder}
+use Rattle.gb_smt.specs.declared.atoms.Reach.{Reach}
+use Rattle.gb_smt.specs.declared.atoms.Reach.TheVariants as Reaches
 use Rattle.gb_smt.specs.declared.leaves.Leaf.{Leaf}
 
 abbrev pub is_bool : Ty → Bool
@@ -63,19 +65,42 @@ atom_of t = positive_of (out-Term t).head t
 abbrev pub own_atom : Term → List Term
 own_atom t = if is_atom t then atom_of t ∷ [] else []
 
--- the atoms in the parts of a term, of which one that binds a variable has none
-abbrev pub inner_atoms : Head → List Term → List Term
-inner_atoms h atoms = if is_binder h then [] else atoms
+-- Which arguments of a head may hold atoms: none of one that binds something, and none of a judgment; of a probability,
+-- all but the event, which stands last.
+abbrev pub reach_of : Head → Reach
+reach_of (head.Hoare c) = Reaches.Nothing
+reach_of (head.Phoare c r) = Reaches.Nothing
+reach_of (head.Equiv c d) = Reaches.Nothing
+reach_of (head.Pr p s) = Reaches.Front
+reach_of h = if is_binder h then Reaches.Nothing else Reaches.All
+
+-- the terms that are reached
+abbrev pub reached : Reach → List Term → List Term
+reached Reaches.Nothing ts = []
+reached Reaches.Front ts = take (pred (length ts)) ts
+reached Reaches.All ts = ts
+
+-- the atoms that are reached, by those of all arguments and of all but the last
+abbrev pub inner_atoms : Reach → List Term → List Term → List Term
+inner_atoms Reaches.Nothing all front = []
+inner_atoms Reaches.Front all front = front
+inner_atoms Reaches.All all front = all
 
 -- the atoms of a term, in order, at each place where one stands
 abbrev mutual
   pub term_atoms : Term → List Term
   term_atoms (Term' p (more_of-Head h end_of-Head) n args ty) =
-      own_atom (Term' p (more_of-Head h end_of-Head) n args ty) ++ inner_atoms h (row_atoms args)
+      own_atom (Term' p (more_of-Head h end_of-Head) n args ty) ++ inner_atoms (reach_of h) (row_atoms args) (front_atoms args)
 
   pub row_atoms : {n : _} → Row_of-Term n → List Term
   row_atoms end_of-Term = []
   row_atoms (more_of-Term t r) = term_atoms t ++ row_atoms r
+
+  -- those of all but the last
+  pub front_atoms : {n : _} → Row_of-Term n → List Term
+  front_atoms end_of-Term = []
+  front_atoms (more_of-Term t end_of-Term) = []
+  front_atoms (more_of-Term t (more_of-Term u r)) = term_atoms t ++ front_atoms (more_of-Term u r)
 
 -- the atoms of a leaf
 abbrev pub atoms_of : Leaf → List Term

@@ -1,8 +1,8 @@
 // The atoms of a leaf: its Boolean parts that are no connectives.
 
-ghost use Rattle.std.specs.Prelude.{◌≡◌, ◌↔◌, IsTrue, IfOk, OnOk};
+ghost use Rattle.std.specs.Prelude.{◌≡◌, ◌↔◌, IsTrue, IfOk, OnOk, pred, take, length};
 ghost use Rattle.std.specs.List.{Contains, flat_map};
-ghost use Rattle.gb_smt.specs.Atoms.{is_over_forms, is_connective, atom_of, is_atom, own_atom, term_atoms, atoms_of, AreAdded, IsCount};
+ghost use Rattle.gb_smt.specs.Atoms.{is_over_forms, is_connective, atom_of, is_atom, own_atom, reach_of, term_atoms, atoms_of, AreAdded, IsCount};
 
 use crate::leaves::Leaf;
 use gb_core::copy::copy_ty;
@@ -86,16 +86,56 @@ fn note_own_atom(alloc: Global, t: &Term, atoms: &mut Terms) -> Result<(), Alloc
     atoms.push(atom)
 }
 
-/// Adds the atoms of a term that aren't there yet. A part that binds a variable is one constant.
+/// Which arguments of a term may hold atoms.
+#[derive(Clone, Copy)]
+pub enum Reach {
+    Nothing,
+    /// All but the last.
+    Front,
+    All,
+}
+
+/// A part that binds something, a judgment and the event of a probability are constants.
+fn reach_of(head: &Head) -> Reach
+    ensures { result ≡ reach_of head.now }
+{
+    match head {
+        Head::Hoare(_) | Head::Phoare(_, _) | Head::Equiv(_, _) => Reach::Nothing,
+        Head::Pr(_, _) => Reach::Front,
+        _ => {
+            if is_binder(head) {
+                Reach::Nothing
+            } else {
+                Reach::All
+            }
+        }
+    }
+}
+
+/// Adds the atoms of a term that aren't there yet.
 #[cycle(note_atoms)]
 fn note_atoms(alloc: Global, t: &Term, atoms: &mut Terms) -> Result<(), AllocError>
     ensures { OnOk result (AreAdded atoms.old (term_atoms t.now) atoms.new) }
 {
     note_own_atom(alloc, t, atoms)?;
-    if is_binder(t.head.get()) {
-        return Ok(());
+    match reach_of(t.head.get()) {
+        Reach::Nothing => Ok(()),
+        Reach::Front => note_atoms_of_front(alloc, t.args.as_slice(), atoms),
+        Reach::All => note_atoms_of_all(alloc, t.args.as_slice(), atoms),
     }
-    note_atoms_of_all(alloc, t.args.as_slice(), atoms)
+}
+
+/// Adds those of all terms but the last.
+#[cycle(note_atoms)]
+fn note_atoms_of_front(alloc: Global, list: &[Term], atoms: &mut Terms) -> Result<(), AllocError>
+    ensures { OnOk result (AreAdded atoms.old (flat_map term_atoms (take (pred (length list.now)) list.now)) atoms.new) }
+{
+    for (i, t) in list.iter().enumerate() {
+        if i + 1 < list.len() {
+            note_atoms(alloc, t, atoms)?;
+        }
+    }
+    Ok(())
 }
 
 #[cycle(note_atoms)]
