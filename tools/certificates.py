@@ -38,7 +38,8 @@ import re
 import sys
 
 STAGES = ["", "@goal"]
-STAGE_NAMES = ["BUILT", "GOALS"]
+STAGE_NAMES = ["SCRIPTS", "GOALS"]
+STAGE_DOCS = ["The stage of commands and forms.", "The stage of these with what goals have besides."]
 WIDTH = 100
 
 
@@ -368,8 +369,8 @@ def rows_file(source, certificates, starts, rows):
     lines = [f"// Written by tools/certificates.py from {source}.", "", "use crate::rule::{self, Rule};", "use gb_grammar::table::Row;", ""]
     for start in starts:
         lines += [f"/// The part `{start}`.", f"pub const {start.upper()}: u8 = {certificates.numbers[start]};", ""]
-    for number, name in enumerate(STAGE_NAMES):
-        lines += [f"pub const {name}: u8 = {number};", ""]
+    for number, (name, doc) in enumerate(zip(STAGE_NAMES, STAGE_DOCS)):
+        lines += [f"/// {doc}", f"pub const {name}: u8 = {number};", ""]
     lines += ROWS_MACRO.splitlines() + ["", "/// The rows of the grammar.", f"pub const ROWS: [Row<Rule>; {len(rows)}] = rows! {{"]
     items, place = [], 0
     for part, production, begin, stop in rows:
@@ -479,4 +480,5 @@ def main():
     print(f"{len(parts)} parts ({stages}), {len(rows)} rows, {len(kinds)} kinds of token")
 
 
-main()
+if __name__ == "__main__":
+    main()

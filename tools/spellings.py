@@ -114,4 +114,5 @@ def main():
     print(f"{len(kinds)} kinds of token, {len(terminals)} terminals, {len(pairs)} spellings")
 
 
-main()
+if __name__ == "__main__":
+    main()

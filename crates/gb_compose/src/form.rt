@@ -1,4 +1,4 @@
-// Forms, and what they are put together from.
+// Forms, operators and operands taken off their stacks.
 
 ghost use Rattle.std.specs.Prelude.{◌≡◌, IfOk, OnOk};
 ghost use Rattle.gb_value.specs.Form.{no_form, no_infix, no_operand};

@@ -1,4 +1,4 @@
-// Judgments, and what they are about.
+// The parts of judgments, and calls, taken off their stacks.
 
 ghost use Rattle.std.specs.Prelude.{◌≡◌, IfOk, OnOk};
 ghost use Rattle.gb_value.specs.Form.{no_call, no_form, no_phoare, no_subject};

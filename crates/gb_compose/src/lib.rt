@@ -1,4 +1,4 @@
-//! Words, paths, forms and judgments put together.
+//! Words, paths, forms and judgments put together, and values in boxes, or with boxes in them, taken off their stacks.
 #![tactic(auto)]
 
 pub mod calls;

@@ -47,7 +47,7 @@ takes_modules (x ∷ xs) = true
 -- a module of procedures alone, without parameters and a type
 abbrev pub plain : ModuleTree → Answer (Unit {0})
 plain t =
-    if takes_modules t.parameters || is_some t.ty || list_any is_globals t.items then not_built t.name.place
+    if takes_modules t.parameters || is_some t.own_ty || is_some t.ty || list_any is_globals t.items then not_built t.name.place
     else given tt
 
 -- the typed tree of a module; sizes are tested behind types

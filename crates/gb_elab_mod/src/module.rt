@@ -54,7 +54,11 @@ pub fn module(alloc: Global, scope: &Scope, t: &ModuleTree) -> Result<Module, Re
 fn refuse_unbuilt(t: &ModuleTree) -> Result<(), Refused>
     ensures { Answers (plain t.now) result }
 {
-    if !t.parameters.is_empty() || t.ty.is_some() || declares_globals(t.items.as_slice()) {
+    if !t.parameters.is_empty()
+        || t.own_ty.is_some()
+        || t.ty.is_some()
+        || declares_globals(t.items.as_slice())
+    {
         Err(not_built(t.name.place))
     } else {
         Ok(())

@@ -1,7 +1,6 @@
 // The stack machine that reads.
 
-ghost use Rattle.std.specs.Prelude.{◌≡◌, ℕ, ◌<◌, ◌++◌, List, true, length, drop, reverse, MatchOption, OnOk, IfOk};
-ghost use Rattle.gb_grammar.specs.declared.table.Symbol.{Symbol};
+ghost use Rattle.std.specs.Prelude.{◌≡◌, ◌<◌, ◌++◌, true, drop, reverse, MatchOption, OnOk, IfOk};
 ghost use Rattle.gb_grammar.specs.Grammar.{has, body_of, grammar_of};
 ghost use Rattle.gb_grammar.specs.Check.{Claims, grammar_ok, IsPlaced, pick_row};
 ghost use Rattle.gb_grammar.specs.Stack.{Good, Advanced};

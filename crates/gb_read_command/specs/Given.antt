@@ -38,5 +38,5 @@ is_minus terminal.Minus = true
 is_minus _ = false
 
 -- a multiplier, whose sign is its first token
-abbrev pub multiplier : Terminal → Number → Option Number → Option Multiplier
-multiplier t n d = Some (record { negative = is_minus t; numerator = n; denominator = d })
+abbrev pub multiplier : Terminal → Number → Option Number → Multiplier
+multiplier t n d = record { negative = is_minus t; numerator = n; denominator = d }

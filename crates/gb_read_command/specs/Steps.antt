@@ -1,5 +1,5 @@
--- What the productions make of the values of their parts: the new stacks.
-use Rattle.std.specs.Prelude.{ℕ, ◌∷◌, None}
+-- What the productions of rules, and of what rules are given, make: the new stacks.
+use Rattle.std.specs.Prelude.{ℕ, ◌∷◌, Some, None}
 use Rattle.gb_text.specs.declared.text.Text.{Text}
 use Rattle.gb_table.specs.declared.rule.Step.{Step as StepRule}
 use Rattle.gb_table.specs.declared.rule.Step.TheVariants as step_rule
@@ -23,7 +23,7 @@ use Rattle.gb_read_command.specs.Rules.{plain_rule, word_rule, form_rule, lemma_
 use Rattle.gb_read_command.specs.Groups.{Rules, Steps}
 use Rattle.gb_read_command.specs.Given.{guard, summand, call_rest, distance, multiplier}
 
--- what the productions of the other rules make
+-- what the productions of rules that act on no program make
 abbrev pub step_made : Text → StepRule → ℕ → Steps → Steps
 step_made t step_rule.Plain at v = record v {
   rules = record v.rules { rules = plain_rule (terminal_at t at) ∷ v.rules.rules };
@@ -183,7 +183,7 @@ given_made t given_rule.ScaledSummand at v = record v {
     numbers = record { one = behind v.paths.numbers.one; lists = behind v.paths.numbers.lists };
     words = record v.paths.words { one = behind v.paths.words.one };
   };
-  rules = record v.rules { summands = record v.rules.summands { one = summand (multiplier (terminal_at t at) (top no_number v.paths.numbers.one) (option_on v.paths.numbers.lists)) (top no_word v.paths.words.one) ∷ v.rules.summands.one } };
+  rules = record v.rules { summands = record v.rules.summands { one = summand (Some (multiplier (terminal_at t at) (top no_number v.paths.numbers.one) (option_on v.paths.numbers.lists))) (top no_word v.paths.words.one) ∷ v.rules.summands.one } };
 }
 given_made t given_rule.FelCounter at v = record v {
   paths = record v.paths {

@@ -1,4 +1,4 @@
--- What the productions make of the values of their parts: the new stacks.
+-- What the productions of patterns, of proof steps with combinators and of arguments of lemmas make: the new stacks.
 use Rattle.std.specs.Prelude.{ℕ, [], ◌∷◌, Some, None}
 use Rattle.gb_text.specs.declared.text.Text.{Text}
 use Rattle.gb_table.specs.declared.rule.Pattern.{Pattern as PatternRule}

@@ -1,4 +1,4 @@
-// What each production of rules makes.
+// What each production of rules, and of what rules are given, makes.
 
 ghost use Rattle.gb_read_command.specs.Groups.{rules_of, steps_of};
 ghost use Rattle.gb_read_command.specs.Steps.{given_made, program_step_made, step_made};
@@ -17,7 +17,7 @@ use gb_compose::judgment::take_call;
 use gb_table::rule::{Given, ProgramStep, Step};
 use gb_text::stack::Stack;
 use gb_text::text::{Text, terminal_at};
-use gb_tree::step::{CallRule, ConseqTree, Distance, Guard, Hint, RuleTree, SeqTree, Summand};
+use gb_tree::step::{CallRule, ConseqTree, Guard, Hint, RuleTree, SeqTree, Summand};
 use gb_tree::tactic::PatternTree;
 use gb_value::form::FormulaValues;
 use gb_value::path::{PathValues, no_procedure};
@@ -31,7 +31,7 @@ use std::alloc::{AllocError, Global};
 mod rules;
 mod trees;
 
-/// What the productions of the other rules make.
+/// What the productions of rules that act on no program make.
 pub fn step(
     alloc: Global,
     text: &Text,
@@ -269,7 +269,7 @@ pub fn given(
             let hypothesis = take_word(alloc, &mut paths.words.one);
             let multiplier = multiplier(terminal_at(text, at), numerator, denominator);
             rules.summands.one.push(Summand {
-                multiplier,
+                multiplier: Some(multiplier),
                 hypothesis,
             })
         }

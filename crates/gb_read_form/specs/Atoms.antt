@@ -1,5 +1,5 @@
 -- What the productions of atoms, judgments and calls make of the values of their parts: the new values.
-use Rattle.std.specs.Prelude.{ℕ, ◌∷◌, Some, None}
+use Rattle.std.specs.Prelude.{ℕ, ◌∷◌, Option, Some, None}
 use Rattle.gb_text.specs.declared.text.Text.{Text}
 use Rattle.gb_text.specs.Text.{terminal_at}
 use Rattle.gb_table.specs.declared.rule.Atom.{Atom as AtomRule}
@@ -12,6 +12,8 @@ use Rattle.gb_tree.specs.declared.form.EquatedTree.TheVariants as EquatedOf
 use Rattle.gb_tree.specs.declared.form.FormShape.TheVariants as Shape
 use Rattle.gb_tree.specs.declared.judgment.SubjectTree.TheVariants as SubjectOf
 use Rattle.gb_value.specs.declared.form.BracketTail.TheVariants as Tails
+use Rattle.gb_value.specs.declared.form.FormulaValues.{FormulaValues}
+use Rattle.gb_value.specs.declared.form.FunctorCall.{FunctorCall}
 use Rattle.gb_value.specs.Form.{no_bracket_tail, no_call, no_call_tail, no_form, no_functor_call, no_subject}
 use Rattle.gb_value.specs.Path.{no_module, no_number, no_procedure, no_type, no_word}
 use Rattle.gb_value.specs.Sorted.{top, behind, list_on}
@@ -166,6 +168,16 @@ judgment_made t judgment_rule.BlockSubject at v = record v {
   statements = behind v.statements;
 }
 
+-- Behind `transitivity M.f (F`: the form is the first argument of the functor, where there is one, and else begins the
+-- first contract.
+abbrev pub contract_or_functor : Option FunctorCall → FormulaValues → FormulaValues
+contract_or_functor None v = record v { call_tails = no_call_tail ∷ v.call_tails; functor_calls = behind v.functor_calls }
+contract_or_functor (Some f) v = record v {
+  call_tails = call_tail (top no_form v.forms.one ∷ list_on v.forms.lists) (Some f) ∷ v.call_tails;
+  forms = record { one = behind v.forms.one; lists = behind v.forms.lists };
+  functor_calls = behind v.functor_calls;
+}
+
 -- what the productions of calls make
 abbrev pub call_made : CallRule → Forms → Forms
 call_made call_rule.Call v = record v {
@@ -200,6 +212,9 @@ call_made call_rule.Functor v = record v {
     functor_calls = functor_call (top no_word v.paths.words.one) (list_on v.formulas.forms.lists) ∷ v.formulas.functor_calls;
     forms = record v.formulas.forms { lists = behind v.formulas.forms.lists };
   };
+}
+call_made call_rule.Transitivity v = record v {
+  formulas = contract_or_functor (top no_functor_call v.formulas.functor_calls) v.formulas;
 }
 call_made call_rule.Module v = record v {
   paths = record v.paths { words = record v.paths.words { one = behind v.paths.words.one } };

@@ -18,11 +18,13 @@ use Rattle.gb_value.specs.Path.{no_bind_rest, no_module, no_number, no_path_tail
 use Rattle.gb_value.specs.Sorted.{top, behind, list_on, option_on}
 use Rattle.gb_compose.specs.Paths.{number_at, dotted, oracle_path, procedure, longer_path, functor_tail, module_expression, type_at, named_type, product, optional, plain_type, integer, bracketed_type, bind, binder, module_binder, query_bound, limit}
 
+-- what the productions of words make
 abbrev pub word_made : Text → WordRule → ℕ → PathValues → PathValues
 word_made t word_rule.Name at v = record v { words = record v.words { one = word_at t at ∷ v.words.one } }
 word_made t word_rule.Number at v = record v { numbers = record v.numbers { one = number_at t at ∷ v.numbers.one } }
 word_made t word_rule.Path at v = record v { words = record { one = dotted (top no_word v.words.one) (list_on v.words.lists) ∷ behind v.words.one; lists = behind v.words.lists } }
 
+-- what the productions of types make
 abbrev pub type_made : Text → TyRule → ℕ → PathValues → PathValues
 type_made t ty_rule.Product at v = record v { types = record { one = product (top no_type v.types.one) (list_on v.types.lists) ∷ behind v.types.one; lists = behind v.types.lists } }
 type_made t ty_rule.Options at v = record v {
@@ -48,6 +50,7 @@ type_made t ty_rule.Glob at v = record v {
   types = record v.types { one = type_at t at (TypeOf.Glob (top no_module v.modules.one)) ∷ v.types.one };
 }
 
+-- what the productions of binders make
 abbrev pub bind_made : BindRule → PathValues → PathValues
 bind_made bind_rule.Bind v = record v {
   words = record v.words { one = behind v.words.one };
@@ -94,6 +97,7 @@ bind_made bind_rule.Formal v = record v {
   binders = record v.binders { one = binder (top no_word v.words.one ∷ []) (top no_type v.types.one) ∷ v.binders.one };
 }
 
+-- what the productions of paths make
 abbrev pub path_made : PathRule → PathValues → PathValues
 path_made path_rule.Procedure v = record v {
   words = record v.words { one = behind v.words.one };

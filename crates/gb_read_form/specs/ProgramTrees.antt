@@ -70,5 +70,5 @@ name_variant name (VariantNames.Statements tail more) = record { suffixes = []; 
 
 -- a module by its name
 abbrev pub module_of : Word → ModuleRest → CommandShape
-module_of name (ModuleRests.Body parameters ty items) = CommandTree.«Module» (record { name = name; parameters = parameters; ty = ty; items = items })
+module_of name (ModuleRests.Body own_ty parameters ty items) = CommandTree.«Module» (record { name = name; own_ty = own_ty; parameters = parameters; ty = ty; items = items })
 module_of name (ModuleRests.Alias expression) = CommandTree.ModuleAlias (record { name = name; «module» = expression })

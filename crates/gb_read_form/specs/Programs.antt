@@ -49,9 +49,9 @@ variant_made loop_rule.Statements v = record v { programs = record v.programs { 
 -- what the productions of modules make
 abbrev pub module_made : ModuleRule → Modules → Modules
 module_made module_rule.«Module» v = record v { paths = record v.paths { words = record v.paths.words { one = behind v.paths.words.one } }; programs = record v.programs { module_rests = behind v.programs.module_rests }; shapes = (module_of (top no_word v.paths.words.one) (top no_module_rest v.programs.module_rests)) ∷ v.shapes }
-module_made module_rule.Body v = record v { programs = record v.programs { parameters = record v.programs.parameters { lists = behind v.programs.parameters.lists }; items = record v.programs.items { lists = behind v.programs.items.lists }; module_rests = (ModuleRests.Body (list_on v.programs.parameters.lists) (option_on v.paths.words.lists) (list_on v.programs.items.lists)) ∷ v.programs.module_rests }; paths = record v.paths { words = record v.paths.words { lists = behind v.paths.words.lists } } }
-module_made module_rule.Ascribed v = record v { paths = record v.paths { words = record v.paths.words { one = behind v.paths.words.one } }; programs = record v.programs { parameters = record v.programs.parameters { lists = behind v.programs.parameters.lists }; items = record v.programs.items { lists = behind v.programs.items.lists }; module_rests = (ModuleRests.Body (list_on v.programs.parameters.lists) (Some (top no_word v.paths.words.one)) (list_on v.programs.items.lists)) ∷ v.programs.module_rests } }
-module_made module_rule.Plain v = record v { programs = record v.programs { items = record v.programs.items { lists = behind v.programs.items.lists }; module_rests = (ModuleRests.Body [] None (list_on v.programs.items.lists)) ∷ v.programs.module_rests } }
+module_made module_rule.Body v = record v { programs = record v.programs { parameters = record v.programs.parameters { lists = behind v.programs.parameters.lists }; items = record v.programs.items { lists = behind v.programs.items.lists }; module_rests = (ModuleRests.Body None (list_on v.programs.parameters.lists) (option_on v.paths.words.lists) (list_on v.programs.items.lists)) ∷ v.programs.module_rests }; paths = record v.paths { words = record v.paths.words { lists = behind v.paths.words.lists } } }
+module_made module_rule.Ascribed v = record v { paths = record v.paths { words = record v.paths.words { one = behind v.paths.words.one } }; programs = record v.programs { parameters = record v.programs.parameters { lists = behind v.programs.parameters.lists }; items = record v.programs.items { lists = behind v.programs.items.lists }; module_rests = (ModuleRests.Body (Some (top no_word v.paths.words.one)) (list_on v.programs.parameters.lists) None (list_on v.programs.items.lists)) ∷ v.programs.module_rests } }
+module_made module_rule.Plain v = record v { programs = record v.programs { items = record v.programs.items { lists = behind v.programs.items.lists }; module_rests = (ModuleRests.Body None [] None (list_on v.programs.items.lists)) ∷ v.programs.module_rests } }
 module_made module_rule.Alias v = record v { paths = record v.paths { modules = record v.paths.modules { one = behind v.paths.modules.one } }; programs = record v.programs { module_rests = (ModuleRests.Alias (top no_module v.paths.modules.one)) ∷ v.programs.module_rests } }
 module_made module_rule.«Type» v = record v { paths = record v.paths { words = record v.paths.words { one = behind v.paths.words.one } }; programs = record v.programs { parameters = record v.programs.parameters { lists = behind v.programs.parameters.lists }; signatures = record v.programs.signatures { lists = behind v.programs.signatures.lists } }; shapes = (CommandTree.ModuleType (record { name = top no_word v.paths.words.one; parameters = list_on v.programs.parameters.lists; signatures = list_on v.programs.signatures.lists })) ∷ v.shapes }
 module_made module_rule.Parameter v = record v { paths = record v.paths { words = record v.paths.words { one = behind (behind v.paths.words.one) } }; programs = record v.programs { parameters = record v.programs.parameters { one = (record { name = top no_word v.paths.words.one; ty = top no_word (behind v.paths.words.one) }) ∷ v.programs.parameters.one } } }

@@ -16,13 +16,13 @@ use gb_compose::trees::path_form;
 use gb_table::rule::{Atom, Call, Judgment as JudgmentRule};
 use gb_text::stack::Stack;
 use gb_text::text::{Text, place_at, terminal_at};
-use gb_tree::form::{EquatedTree, FormShape, Number, Weight};
+use gb_tree::form::{EquatedTree, FormShape, Weight};
 use gb_tree::judgment::SubjectTree;
 use gb_tree::program::Statement;
 use gb_value::boxes::boxed_form;
 use gb_value::form::{BracketTail, FormulaValues, FunctorCall, PhoareTree, no_call_tail};
 use gb_value::path::{PathValues, no_module, no_procedure};
-use gb_value::take::{take, take_items, take_number, take_word};
+use gb_value::take::{in_front, take, take_items, take_number, take_word};
 use sqlite_items::Boxed;
 use std::alloc::{AllocError, Global};
 
@@ -252,5 +252,17 @@ pub fn call(
             let made = module_form(alloc, path, brackets)?;
             formulas.forms.one.push(made)
         }
+        // The form is the first argument of the functor, where there is one, and else begins the first contract.
+        Call::Transitivity => match take(&mut formulas.functor_calls, None) {
+            None => formulas.call_tails.push(no_call_tail(alloc)),
+            Some(functor) => {
+                let first = take_form(alloc, &mut formulas.forms.one)?;
+                let more = take_items(alloc, &mut formulas.forms.lists);
+                let modules = in_front(alloc, first, more)?;
+                formulas
+                    .call_tails
+                    .push(call_tail(alloc, modules, Some(functor)))
+            }
+        },
     }
 }

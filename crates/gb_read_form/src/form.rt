@@ -17,8 +17,7 @@ use gb_text::text::{Text, place_at, terminal_at};
 use gb_tree::form::{Connective, FormShape, SideTree};
 use gb_value::boxes::boxed_form;
 use gb_value::form::{
-    Choice, FormulaValues, Infix, Operand, PhoareRun, Suffix, Tail, no_phoare_run, no_run, no_tail,
-    take_run,
+    Choice, FormulaValues, Infix, PhoareRun, Suffix, Tail, no_phoare_run, no_run, no_tail, take_run,
 };
 use gb_value::path::PathValues;
 use gb_value::take::{take, take_items, take_number, take_option, take_word};

@@ -11,7 +11,7 @@ use gb_compose::paths::{formal, longer_path, optional, procedure, product, take_
 use gb_compose::words::{dotted, oracle_path};
 use gb_table::rule::{Bind as BindRule, Path, Ty, Word as WordRule};
 use gb_text::text::{Text, place_at, terminal_at, word_at};
-use gb_tree::form::{Bind, Binder, Limit, ModuleBinder, Number, QueryBound, TypeShape, Word};
+use gb_tree::form::{Bind, Binder, Limit, ModuleBinder, QueryBound, TypeShape};
 use gb_tree::judgment::ModuleExpr;
 use gb_value::boxes::boxed_type;
 use gb_value::path::{BindRest, PathValues, no_bind_rest, no_module, no_path_tail};

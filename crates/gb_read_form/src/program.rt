@@ -18,7 +18,7 @@ use gb_tree::command::CommandShape;
 use gb_tree::form::{Binder, OraclePath};
 use gb_tree::program::{
     ModuleItem, ModuleParameter, ModuleTypeTree, ProcTree, Signature, Statement, StatementShape,
-    Statements, Target,
+    Target,
 };
 use gb_value::form::{FormulaValues, Suffix, no_call_tail};
 use gb_value::path::{PathValues, no_module};
@@ -182,6 +182,7 @@ pub fn module(
             let ty = take_option(alloc, &mut paths.words.lists);
             let items = take_items(alloc, &mut programs.items.lists);
             let made = ModuleRest::Body {
+                own_ty: None,
                 parameters,
                 ty,
                 items,
@@ -193,8 +194,9 @@ pub fn module(
             let parameters = take_items(alloc, &mut programs.parameters.lists);
             let items = take_items(alloc, &mut programs.items.lists);
             let made = ModuleRest::Body {
+                own_ty: Some(ty),
                 parameters,
-                ty: Some(ty),
+                ty: None,
                 items,
             };
             programs.module_rests.push(made)
@@ -202,6 +204,7 @@ pub fn module(
         Module::Plain => {
             let items = take_items(alloc, &mut programs.items.lists);
             let made = ModuleRest::Body {
+                own_ty: None,
                 parameters: Items::new(alloc),
                 ty: None,
                 items,

@@ -2,7 +2,6 @@
 use Rattle.std.specs.Prelude.{◌≡◌, ℕ, ℤ, List, [], ◌∷◌, Option, Some, None, min, max, take}
 use Rattle.std.specs.List.{All}
 use Rattle.std.proofs.Common.{ap, sym, subst, ◌∙◌, inl, inr, arith}
-use Rattle.std.proofs.lemmas.Bool.{false≢true}
 use Rattle.std.proofs.lemmas.List.Elements.{All-head, All-tail}
 use Rattle.gb_core.specs.declared.place.Place.{Place}
 use Rattle.gb_core.specs.declared.refusal.Refused.TheVariants.{Script}
@@ -14,10 +13,8 @@ use Rattle.gb_lex.specs.PlaceAfter.{place_after}
 use Rattle.gb_table.specs.declared.rule.Rule.{Rule}
 use Rattle.gb_text.specs.declared.text.Text.{Text}
 use Rattle.gb_text.specs.LeftOut.{IsFirstLeftOut, NoneLeftOut}
-use Rattle.gb_text.specs.Text.{place_at}
 use Rattle.gb_text.specs.Limits.{IsFirstLong}
 use Rattle.gb_text.specs.Numbers.{IsFirstOverflow}
-use Rattle.gb_read_script.specs.Reading.{IsLeftOutPlace}
 use Rattle.gb_read_script.specs.declared.goal_lines.LineSort.{LineSort}
 use Rattle.gb_read_script.specs.declared.goal_lines.LineSort.TheVariants.{Binder, Hypothesis, Conclusion}
 use Rattle.gb_read_script.specs.declared.goal_lines.ReadLine.{ReadLine}
@@ -26,13 +23,7 @@ use Rattle.gb_read_script.specs.Line.{line_texts}
 use Rattle.gb_read_script.specs.GoalLines.{IsLineText, Stops, IsLineFault, IsEndingFault, IsFaultBehind, IsSyntaxPlace, IsGoal, dashes}
 use Rattle.gb_read_script.specs.Goal.{beginning, goal_text, all_lines, IsShort, IsTooLong, IsSmall, IsTooLarge, IsFirst, IsExcess, IsTokenRefusal, IsLineRefusal, IsGoalRefusal, IsWithin, IsGoalAllowed}
 use Rattle.gb_read_script.proofs.GoalUnique.{EndsEntries, same_entries, one_goal}
-
--- one reason and one place
-abbrev Same : Why → Place → Why → Place → Type 0
-Same v p w q = (v ≡ w) × (p ≡ q)
-
-one_place : (t : Text) (i j : ℕ) (p q : Place) → i ≡ j → p ≡ place_at t i → q ≡ place_at t j → p ≡ q
-one_place t i j p q e f g = f ∙ (ap (place_at t) e ∙ sym g)
+use Rattle.gb_read_script.proofs.Unique.{Same, one_place, not_long, not_overflowing, not_left_out}
 
 -- Lines.
 
@@ -106,11 +97,11 @@ module _
 
 short_apart : (l : ReadLine) (w : Why) (p : Place) → IsShort l → IsTooLong l w p → ⊥
 unfolding IsShort IsTooLong
-short_apart l w p none x = let at = x.1.1 in false≢true (sym (none x.1.0 at.within) ∙ at.here)
+short_apart l w p none x = not_long l.text l.steps p none x.1
 
 range_apart : (l : ReadLine) (w : Why) (p : Place) → IsSmall l → IsTooLarge l w p → ⊥
 unfolding IsSmall IsTooLarge
-range_apart l w p none x = let at = x.3 in let small = none x.0 at.within in let large = at.here in absurd (omega arith)
+range_apart l w p none x = not_overflowing l.text w p none x
 
 module _
     (one_long : (t : Text) (steps : List (Step Rule)) (i j : ℕ) → IsFirstLong t steps i → IsFirstLong t steps j → i ≡ j)
@@ -145,9 +136,6 @@ one_character o f a b v w p q x y e h = (cc, cc)
 some_apart : (o : Option ℕ) (a : ℕ) → o ≡ Some a → o ≡ None → ⊥
 some_apart o a x y = cc
 
-left_out_apart : (t : Text) (p : Place) → NoneLeftOut t → IsLeftOutPlace t p → ⊥
-left_out_apart t p none x = false≢true (sym (none x.0 x.1.within) ∙ x.1.here)
-
 -- where steps, first faults and first places are unique
 module _
     (one_text : (sort : LineSort) (t : Text) (a b : List (Step Rule)) → IsLineText sort t a → IsLineText sort t b → a ≡ b)
@@ -165,7 +153,7 @@ module _
 
   token_apart : (bytes : List ℕ) (w : Why) (p : Place) → fault_of bytes ≡ None → NoneLeftOut (goal_text bytes) → IsTokenRefusal bytes w p → ⊥
   token_apart bytes w p faultless none (inl x) = some_apart (fault_of bytes) x.0 x.1 faultless
-  token_apart bytes w p faultless none (inr x) = left_out_apart (goal_text bytes) p none x.2
+  token_apart bytes w p faultless none (inr x) = not_left_out (goal_text bytes) p none x.2
 
   one_line_reason : (t : Text) (v w : Why) (p q : Place) → IsLineRefusal t v p → IsLineRefusal t w q → Same v p w q
   one_line_reason t v w p q (inl x) (inl y) = (x.0 ∙ sym y.0, one_syntax_place one_text one_stop (line_texts t) t.end p q x.1 y.1)

@@ -19,10 +19,7 @@ use Rattle.gb_text.specs.Text.{place_at}
 use Rattle.gb_text.specs.Limits.{IsFirstTooDeep, NoneTooDeep, IsFirstLong, NoneLong}
 use Rattle.gb_text.specs.Numbers.{IsFirstOverflow, NoneOverflow}
 use Rattle.gb_text.specs.Places.{IsDepthPlace, IsChainPlace, IsOverflowPlace}
-use Rattle.gb_value.specs.Form.{no_form}
-use Rattle.gb_value.specs.Program.{no_command}
-use Rattle.gb_value.specs.Sorted.{top}
-use Rattle.gb_read_script.specs.Built.{built}
+use Rattle.gb_read_script.specs.Built.{built, tops_of}
 use Rattle.gb_read_script.specs.Reading.{IsText, SpellsCommand, SpellsForm, StopsAt, IsLeftOutPlace, IsStop, IsExcess, IsLimit, IsFault, IsRefusal, IsWithin, IsAllowed}
 
 -- where steps are unique
@@ -30,27 +27,30 @@ module _ (one_text : (part : ℕ) → IsPart part → (t : Text) (a b : List (St
   pub one_command : (t : Text) (c d : Command) → SpellsCommand t c → SpellsCommand t d → c ≡ d
   one_command t c d x y =
       let same : x.0 ≡ y.0 = one_text COMMAND (inl refl) t x.0 y.0 x.1 y.1 in
-      x.2 ∙ (ap (λ (s : List (Step Rule)). top no_command (built t s).commands.commands) same ∙ sym y.2)
+      x.2 ∙ (ap (λ (s : List (Step Rule)). (tops_of (built t s)).command) same ∙ sym y.2)
 
   pub one_form : (t : Text) (f g : FormTree) → SpellsForm t f → SpellsForm t g → f ≡ g
   one_form t f g x y =
       let same : x.0 ≡ y.0 = one_text FORM (inr refl) t x.0 y.0 x.1 y.1 in
-      x.2 ∙ (ap (λ (s : List (Step Rule)). top no_form (built t s).formulas.forms.one) same ∙ sym y.2)
+      x.2 ∙ (ap (λ (s : List (Step Rule)). (tops_of (built t s)).form) same ∙ sym y.2)
 
 -- one reason and one place
-abbrev Same : Why → Place → Why → Place → Type 0
+abbrev pub Same : Why → Place → Why → Place → Type 0
 Same v p w q = (v ≡ w) × (p ≡ q)
+
+pub one_place : (t : Text) (i j : ℕ) (p q : Place) → i ≡ j → p ≡ place_at t i → q ≡ place_at t j → p ≡ q
+one_place t i j p q e f g = f ∙ (ap (place_at t) e ∙ sym g)
 
 not_too_deep : (t : Text) (steps : List (Step Rule)) (fault : ℕ) (p : Place) → NoneTooDeep t steps fault → IsDepthPlace t steps fault p → ⊥
 not_too_deep t steps fault p none d = let few = none d.0 d.1.within in let many = d.1.here in omega arith
 
-not_long : (t : Text) (steps : List (Step Rule)) (p : Place) → NoneLong t steps → IsChainPlace t steps p → ⊥
+pub not_long : (t : Text) (steps : List (Step Rule)) (p : Place) → NoneLong t steps → IsChainPlace t steps p → ⊥
 not_long t steps p none c = false≢true (sym (none c.0 c.1.within) ∙ c.1.here)
 
-not_overflowing : (t : Text) (w : Why) (p : Place) → NoneOverflow t → IsOverflowPlace t w p → ⊥
+pub not_overflowing : (t : Text) (w : Why) (p : Place) → NoneOverflow t → IsOverflowPlace t w p → ⊥
 not_overflowing t w p none o = let small = none o.0 o.3.within in let large = o.3.here in omega arith
 
-not_left_out : (t : Text) (p : Place) → NoneLeftOut t → IsLeftOutPlace t p → ⊥
+pub not_left_out : (t : Text) (p : Place) → NoneLeftOut t → IsLeftOutPlace t p → ⊥
 not_left_out t p none l = false≢true (sym (none l.0 l.1.within) ∙ l.1.here)
 
 -- where first places are unique
@@ -59,9 +59,6 @@ module _
     (one_too_deep : (t : Text) (steps : List (Step Rule)) (fault i j : ℕ) → IsFirstTooDeep t steps fault i → IsFirstTooDeep t steps fault j → i ≡ j)
     (one_long : (t : Text) (steps : List (Step Rule)) (i j : ℕ) → IsFirstLong t steps i → IsFirstLong t steps j → i ≡ j)
     (one_overflow : (t : Text) (i j : ℕ) (a b c d : ℤ) → IsFirstOverflow t i a b → IsFirstOverflow t j c d → (i ≡ j) × (a ≡ c) × (b ≡ d)) where
-  one_place : (t : Text) (i j : ℕ) (p q : Place) → i ≡ j → p ≡ place_at t i → q ≡ place_at t j → p ≡ q
-  one_place t i j p q e f g = f ∙ (ap (place_at t) e ∙ sym g)
-
   one_depth_place : (t : Text) (steps : List (Step Rule)) (fault : ℕ) (p q : Place) → IsDepthPlace t steps fault p → IsDepthPlace t steps fault q → p ≡ q
   one_depth_place t steps fault p q x y = one_place t x.0 y.0 p q (one_too_deep t steps fault x.0 y.0 x.1 y.1) x.2 y.2
 

@@ -12,17 +12,12 @@ use Rattle.gb_text.specs.LeftOut.{NoneLeftOut}
 use Rattle.gb_text.specs.Limits.{NoneLong}
 use Rattle.gb_text.specs.Numbers.{NoneOverflow}
 use Rattle.gb_text.specs.Places.{IsChainPlace, IsOverflowPlace}
-use Rattle.gb_tree.specs.declared.form.Bind.{Bind}
-use Rattle.gb_tree.specs.declared.form.Bind.TheVariants as BindTree
 use Rattle.gb_tree.specs.declared.form.FormTree.{FormTree}
 use Rattle.gb_tree.specs.declared.goal.EntryTree.{EntryTree}
 use Rattle.gb_tree.specs.declared.goal.EntryTree.TheVariants as EntryOf
 use Rattle.gb_tree.specs.declared.goal.SequentTree.{SequentTree}
-use Rattle.gb_value.specs.declared.values.Values.{Values}
-use Rattle.gb_value.specs.Form.{no_form}
-use Rattle.gb_value.specs.Path.{no_word}
-use Rattle.gb_value.specs.Sorted.{top}
-use Rattle.gb_read_script.specs.Built.{built}
+use Rattle.gb_read_script.specs.declared.build.Tops.{Tops}
+use Rattle.gb_read_script.specs.Built.{built, tops_of}
 use Rattle.gb_read_script.specs.Reading.{IsLeftOutPlace}
 use Rattle.gb_read_script.specs.declared.goal_lines.LineSort.{LineSort}
 use Rattle.gb_read_script.specs.declared.goal_lines.LineSort.TheVariants.{Binder}
@@ -33,26 +28,18 @@ use Rattle.gb_read_script.specs.GoalLines.{IsGoal, IsSyntaxPlace, IsSyntax}
 
 -- Trees.
 
--- what stands where no binder was left; none of a line's texts is such
-abbrev pub no_binder : Bind
-no_binder = BindTree.Memory no_word
-
--- the form that values leave
-abbrev pub form_left : Values → FormTree
-form_left vs = top no_form vs.formulas.forms.one
-
--- the entry that the values of a line of this sort leave
-abbrev pub entry_left : LineSort → Values → EntryTree
-entry_left Binder vs = EntryOf.Bind (top no_binder vs.paths.binds.one)
-entry_left _ vs = EntryOf.Hypothesis (top no_word vs.paths.words.one) (form_left vs)
+-- the entry that a line of this sort is, which leaves these values on top
+abbrev pub entry_left : LineSort → Tops → EntryTree
+entry_left Binder tops = EntryOf.Bind tops.bind
+entry_left _ tops = EntryOf.Hypothesis tops.word tops.form
 
 -- the entry that a line is
 abbrev pub entry_of : ReadLine → EntryTree
-entry_of l = entry_left l.sort (built l.text l.steps)
+entry_of l = entry_left l.sort (tops_of (built l.text l.steps))
 
 -- the form that a line is
 abbrev pub form_of : ReadLine → FormTree
-form_of l = form_left (built l.text l.steps)
+form_of l = (tops_of (built l.text l.steps)).form
 
 abbrev pub tree_of : ReadGoal → SequentTree
 tree_of goal = record { context = map entry_of goal.context; conclusion = form_of goal.conclusion }

@@ -11,9 +11,6 @@ use Rattle.gb_table.specs.declared.rule.Rule.{Rule}
 use Rattle.gb_table.specs.declared.rows.TheConstants.{COMMAND, FORM}
 use Rattle.gb_table.specs.Language.{language}
 use Rattle.gb_text.specs.declared.text.Text.{Text}
-use Rattle.gb_value.specs.Sorted.{top}
-use Rattle.gb_value.specs.Form.{no_form}
-use Rattle.gb_value.specs.Program.{no_command}
 use Rattle.gb_text.specs.Lexeme.{kinds_of}
 use Rattle.gb_text.specs.LeftOut.{IsFirstLeftOut, NoneLeftOut}
 use Rattle.gb_text.specs.Limits.{NoneTooDeep, NoneLong}
@@ -33,11 +30,11 @@ Leaves part t tops = (steps : List (Step Rule)) × IsText part t steps × (tops 
 
 -- The text spells this command.
 abbrev pub SpellsCommand : Text → Command → Type 0
-SpellsCommand t command = (steps : List (Step Rule)) × IsText COMMAND t steps × (command ≡ top no_command (built t steps).commands.commands)
+SpellsCommand t command = (steps : List (Step Rule)) × IsText COMMAND t steps × (command ≡ (tops_of (built t steps)).command)
 
 -- The text spells this form.
 abbrev pub SpellsForm : Text → FormTree → Type 0
-SpellsForm t form = (steps : List (Step Rule)) × IsText FORM t steps × (form ≡ top no_form (built t steps).formulas.forms.one)
+SpellsForm t form = (steps : List (Step Rule)) × IsText FORM t steps × (form ≡ (tops_of (built t steps)).form)
 
 -- These steps read the text of this part up to this token, the first with which no text goes on, or up to the end where it ends too soon.
 abbrev pub StopsAt : ℕ → Text → ℕ → List (Step Rule) → Type 0

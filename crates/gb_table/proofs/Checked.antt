@@ -10,14 +10,14 @@ use Rattle.gb_grammar.proofs.Bodies.{bodies, in_order, grammar_with, grammar_pas
 ordered : in_order 0 ROWS (bodies SYMBOLS) ≡ true
 ordered = refl
 
-built_productions : productions_ok (claims 0) (grammar_with 0 ROWS (bodies SYMBOLS)) ≡ true
-built_productions = refl
+scripts_productions : productions_ok (claims 0) (grammar_with 0 ROWS (bodies SYMBOLS)) ≡ true
+scripts_productions = refl
 
-built_places : places_ok PLACES (claims 0).count ROWS ≡ true
-built_places = refl
+scripts_places : places_ok PLACES (claims 0).count ROWS ≡ true
+scripts_places = refl
 
-pub built_pass : grammar_ok 0 (claims 0) PLACES ROWS SYMBOLS ≡ true
-built_pass = grammar_passes 0 SYMBOLS (claims 0) PLACES ROWS ordered built_productions built_places
+pub scripts_pass : grammar_ok 0 (claims 0) PLACES ROWS SYMBOLS ≡ true
+scripts_pass = grammar_passes 0 SYMBOLS (claims 0) PLACES ROWS ordered scripts_productions scripts_places
 
 goals_productions : productions_ok (claims 1) (grammar_with 1 ROWS (bodies SYMBOLS)) ≡ true
 goals_productions = refl

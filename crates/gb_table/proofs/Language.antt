@@ -10,18 +10,18 @@ use Rattle.gb_grammar.specs.Grammar.{grammar_of}
 use Rattle.gb_grammar.specs.Reading.{IsKind, Spells}
 use Rattle.gb_grammar.proofs.Rows.{sound_table}
 use Rattle.gb_grammar.proofs.Unique.{unique}
-use Rattle.gb_table.specs.declared.rows.TheConstants.{BUILT, GOALS, COMMAND, FORM, ENTRY, HYPOTHESIS}
+use Rattle.gb_table.specs.declared.rows.TheConstants.{SCRIPTS, GOALS, COMMAND, FORM, ENTRY, HYPOTHESIS}
 use Rattle.gb_table.specs.declared.rule.Rule.{Rule}
 use Rattle.gb_table.specs.Language.{all_rows, all_symbols, all_places, claimed, language, goal_language, IsPart, IsLine}
-use Rattle.gb_table.proofs.Checked.{built_pass, goals_pass}
+use Rattle.gb_table.proofs.Checked.{scripts_pass, goals_pass}
 
 -- The table passes the test of a stage.
 abbrev pub Passes : ℕ → List ℕ → List (Row Rule) → List Symbol → Type 0
 Passes stage p r s = grammar_ok stage (claimed stage) p r s ≡ true
 
-pub passes : Passes BUILT all_places all_rows all_symbols
+pub passes : Passes SCRIPTS all_places all_rows all_symbols
 unfolding all_rows all_symbols all_places claimed
-passes = built_pass
+passes = scripts_pass
 
 pub goals_passed : Passes GOALS all_places all_rows all_symbols
 unfolding all_rows all_symbols all_places claimed
@@ -39,19 +39,19 @@ same_grammar : (stage : ℕ) (r : List (Row Rule)) (s : List Symbol) → r ≡ a
 same_grammar stage r s same_rows same_symbols =
     ap (λ (x : List (Row Rule)). grammar_of stage x s) same_rows ∙ ap (λ (x : List Symbol). grammar_of stage all_rows x) same_symbols
 
-pub same_language : (r : List (Row Rule)) (s : List Symbol) → r ≡ all_rows → s ≡ all_symbols → grammar_of BUILT r s ≡ language
+pub same_language : (r : List (Row Rule)) (s : List Symbol) → r ≡ all_rows → s ≡ all_symbols → grammar_of SCRIPTS r s ≡ language
 unfolding language
-same_language = same_grammar BUILT
+same_language = same_grammar SCRIPTS
 
 pub same_goal_language : (r : List (Row Rule)) (s : List Symbol) → r ≡ all_rows → s ≡ all_symbols → grammar_of GOALS r s ≡ goal_language
 unfolding goal_language
 same_goal_language = same_grammar GOALS
 
-starts_command : is_start (claimed BUILT) COMMAND ≡ true
+starts_command : is_start (claimed SCRIPTS) COMMAND ≡ true
 unfolding claimed
 starts_command = refl
 
-starts_form : is_start (claimed BUILT) FORM ≡ true
+starts_form : is_start (claimed SCRIPTS) FORM ≡ true
 unfolding claimed
 starts_form = refl
 
@@ -70,9 +70,9 @@ starts_conclusion = refl
 start_at : (stage part n : ℕ) → part ≡ n → is_start (claimed stage) n ≡ true → is_start (claimed stage) part ≡ true
 start_at stage part n e h = subst (λ (x : ℕ). is_start (claimed stage) x ≡ true) (sym e) h
 
-pub starts : (part : ℕ) → IsPart part → is_start (claimed BUILT) part ≡ true
-starts part (inl e) = start_at BUILT part COMMAND e starts_command
-starts part (inr e) = start_at BUILT part FORM e starts_form
+pub starts : (part : ℕ) → IsPart part → is_start (claimed SCRIPTS) part ≡ true
+starts part (inl e) = start_at SCRIPTS part COMMAND e starts_command
+starts part (inr e) = start_at SCRIPTS part FORM e starts_form
 
 pub starts_line : (part : ℕ) → IsLine part → is_start (claimed GOALS) part ≡ true
 starts_line part (inl e) = start_at GOALS part ENTRY e starts_entry
@@ -83,7 +83,7 @@ pub one_derivation : (part : ℕ) (kinds : List ℕ) (a b : List (Step Rule)) �
     → Spells language part kinds a → Spells language part kinds b → a ≡ b
 unfolding language
 one_derivation part kinds a b ready h x y =
-    unique language (claimed BUILT) (sound_table BUILT all_rows all_symbols (claimed BUILT) all_places passes) part (starts part ready) kinds a b h x y
+    unique language (claimed SCRIPTS) (sound_table SCRIPTS all_rows all_symbols (claimed SCRIPTS) all_places passes) part (starts part ready) kinds a b h x y
 
 pub one_line_derivation : (part : ℕ) (kinds : List ℕ) (a b : List (Step Rule)) → IsLine part → All IsKind kinds
     → Spells goal_language part kinds a → Spells goal_language part kinds b → a ≡ b

@@ -5,7 +5,7 @@ use Rattle.gb_grammar.specs.declared.table.Symbol.{Symbol}
 use Rattle.gb_grammar.specs.Check.{Claims}
 use Rattle.gb_grammar.specs.Grammar.{Grammar, grammar_of}
 use Rattle.gb_table.specs.declared.bodies.TheConstants.{SYMBOLS}
-use Rattle.gb_table.specs.declared.rows.TheConstants.{BUILT, GOALS, ROWS, PLACES, COMMAND, FORM, ENTRY, HYPOTHESIS}
+use Rattle.gb_table.specs.declared.rows.TheConstants.{SCRIPTS, GOALS, ROWS, PLACES, COMMAND, FORM, ENTRY, HYPOTHESIS}
 use Rattle.gb_table.specs.declared.rule.Rule.{Rule}
 use Rattle.gb_table.specs.Claims.{claims}
 
@@ -27,7 +27,7 @@ claimed stage = claims stage
 
 -- The grammar of the language.
 unfoldable pub language : Grammar Rule
-language = grammar_of BUILT all_rows all_symbols
+language = grammar_of SCRIPTS all_rows all_symbols
 
 -- The grammar of what stands in goals.
 unfoldable pub goal_language : Grammar Rule

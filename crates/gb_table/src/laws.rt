@@ -10,11 +10,11 @@ ghost use Rattle.gb_table.specs.Claims.{claims};
 ghost use Rattle.gb_table.specs.Language.{language, goal_language, IsPart, IsLine};
 
 use crate::bodies::SYMBOLS;
-use crate::rows::{BUILT, GOALS, PLACES, ROWS};
+use crate::rows::{GOALS, PLACES, ROWS, SCRIPTS};
 
 /// At each stage one token decides each choice.
 pub fn one_token_decides()
-    ensures built { grammar_ok BUILT (claims BUILT) PLACES ROWS SYMBOLS ≡ true }
+    ensures scripts { grammar_ok SCRIPTS (claims SCRIPTS) PLACES ROWS SYMBOLS ≡ true }
     ensures goals { grammar_ok GOALS (claims GOALS) PLACES ROWS SYMBOLS ≡ true }
 {}
 

@@ -7,11 +7,10 @@ ghost use Rattle.gb_grammar.specs.Check.{grammar_ok, is_start};
 ghost use Rattle.gb_grammar.specs.Grammar.{grammar_of};
 ghost use Rattle.gb_grammar.specs.Reading.{Spells, IsKind, IsFault};
 ghost use Rattle.gb_table.specs.declared.rule.Rule.{Rule};
-ghost use Rattle.gb_table.specs.declared.rows.TheConstants.{BUILT, GOALS};
 ghost use Rattle.gb_table.specs.Language.{all_rows, all_symbols, all_places, claimed, language, goal_language, IsPart, IsLine};
 
 use crate::bodies::SYMBOLS;
-use crate::rows::{BUILT, GOALS, PLACES, ROWS};
+use crate::rows::{GOALS, PLACES, ROWS, SCRIPTS};
 use crate::rule::Rule;
 use gb_grammar::error::ReadError;
 use gb_grammar::reading::read;
@@ -80,7 +79,7 @@ pub fn read_text(alloc: Global, part: u8, kinds: &[u8]) -> Result<Vec<Step<Rule>
 {
     read_by(
         alloc,
-        BUILT,
+        SCRIPTS,
         all_rows(),
         all_symbols(),
         all_places(),

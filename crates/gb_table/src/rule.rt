@@ -122,6 +122,7 @@ pub enum Call {
     NoFunctor,
     Functor,
     Module,
+    Transitivity,
 }
 
 #[derive(Clone, Copy)]

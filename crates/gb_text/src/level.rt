@@ -13,7 +13,8 @@ use std::alloc::AllocError;
 #[derive(Clone, Copy)]
 pub enum Opening {
     Bracket,
-    /// A quantifier, `if`, `fun`, `?`, `!` or a bar, up to a mark in the derivation.
+    /// A quantifier, `if`, `fun`, `?`, `!` or a bar, up to a mark in the derivation, the end of the form of a `have`,
+    /// or a closing bracket.
     Mark,
     /// A prefix `-`, before the end of its operand.
     Minus,

@@ -1,5 +1,6 @@
-//! Texts as the grammar sees them: from tokens to terminals and their kinds; how deep texts are nested, how long their
-//! chains are, and which numbers are out of range.
+//! Texts as the grammar sees them: from tokens to terminals and their kinds; which words are left out, how deep texts
+//! are nested, how long their chains are, and which numbers are out of range; and the stacks on which readers put
+//! values together.
 #![tactic(auto)]
 
 pub mod checks;

@@ -1,8 +1,8 @@
 // Texts that are nested too deep, and chains that are too long.
 
-ghost use Rattle.std.specs.Prelude.{◌≡◌, ℕ, ◌+◌, ◌≤◌, ◌<◌, length, IfOk, MatchOption};
+ghost use Rattle.std.specs.Prelude.{◌≡◌, ℕ, ◌≤◌, ◌<◌, length, IfOk, MatchOption};
 ghost use Rattle.gb_text.specs.Level.{brackets_after, open_brackets, top_is_long};
-ghost use Rattle.gb_text.specs.Limits.{begun, stepped, taken, begin_too_many, over, Walk, walked, brackets_behind, depth_at, IsFirstTooDeep, NoneTooDeep, IsFirstLong, NoneLong};
+ghost use Rattle.gb_text.specs.Limits.{begun, stepped, begin_too_many, over, walked, brackets_behind, depth_at, IsFirstTooDeep, NoneTooDeep, IsFirstLong, NoneLong};
 
 use crate::level::{
     Levels, Opening, bracket, counted, fresh, is_closing, is_long, is_opening, nest,

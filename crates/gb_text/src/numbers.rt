@@ -1,6 +1,6 @@
 // Numbers that are out of range.
 
-ghost use Rattle.std.specs.Prelude.{◌≡◌, ◌+◌, ◌-◌, ◌*◌, ◌<◌, ◌≤◌, ◌^◌, MatchResult, MatchOption, pos};
+ghost use Rattle.std.specs.Prelude.{◌≡◌, ◌+◌, ◌-◌, ◌*◌, ◌<◌, ◌≤◌, ◌^◌, MatchResult, MatchOption};
 ghost use Rattle.gb_text.specs.Numbers.{number_of, LeadsOut, IsOverflow, is_number, digits_at, IsFirstOverflow, NoneOverflow};
 
 use crate::terminal::Terminal;

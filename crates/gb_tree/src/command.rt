@@ -107,6 +107,7 @@ impl Drop for RequireTree {
     }
 }
 
+/// `type t`, and what it stands for.
 pub struct TypeDeclaration {
     pub name: Word,
     pub definition: TypeDefinition,
@@ -121,6 +122,7 @@ impl Drop for TypeDeclaration {
     }
 }
 
+/// What follows the name in `type t`.
 pub enum TypeDefinition {
     /// `type t`.
     Abstract,
@@ -139,6 +141,7 @@ impl Drop for TypeDefinition {
     }
 }
 
+/// `op f`, and what it stands for.
 pub struct OperatorTree {
     pub name: Word,
     pub definition: OperatorDefinition,
@@ -153,6 +156,7 @@ impl Drop for OperatorTree {
     }
 }
 
+/// What follows the name in `op f`.
 #[derive(Drop)]
 pub enum OperatorDefinition {
     /// `op f (x : t) : u = e`.
@@ -203,6 +207,7 @@ impl Drop for CloneTree {
     }
 }
 
+/// What `clone` puts in place of a type or an operator of the theory.
 pub enum Substitution {
     /// `type t <- u`.
     Type(Word, Boxed<TypeTree>),

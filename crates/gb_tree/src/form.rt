@@ -20,6 +20,7 @@ impl Drop for Word {
 }
 
 impl Word {
+    /// Its name, without the place.
     pub fn into_name(self) -> Name
         ensures { result ≡ self.name }
     {
@@ -61,6 +62,7 @@ impl Drop for TypeTree {
 }
 
 impl TypeTree {
+    /// Its shape, without the place.
     pub fn into_shape(self) -> TypeShape
         ensures { result ≡ self.shape }
     {
@@ -190,8 +192,7 @@ pub struct OraclePath {
 
 pub type OraclePaths = Items<OraclePath>;
 
-/// The operators between two operands. The two spellings of a connective differ in their places alone, so `&&` is `And`
-/// and `||` is `Or`.
+/// The operators between two operands. `/\` and `&&` are both `And`, `\/` and `||` both `Or`.
 #[derive(Clone, Copy, PartialEq, Eq)]
 pub enum Connective {
     And,
@@ -253,6 +254,7 @@ impl Drop for FormTree {
 }
 
 impl FormTree {
+    /// Its shape, without the place.
     pub fn into_shape(self) -> FormShape
         ensures { result ≡ self.shape }
     {
@@ -263,6 +265,7 @@ impl FormTree {
 
 pub type FormTrees = Items<Boxed<FormTree>>;
 
+/// What a form is. Formulas, expressions and distributions are all forms.
 #[derive(Drop)]
 #[cycle(form)]
 pub enum FormShape {

@@ -19,9 +19,10 @@ impl Drop for ModuleParameter {
 
 pub type ModuleParameters = Items<ModuleParameter>;
 
-/// A module with its parameters, the type that it is said to have, and what it declares.
+/// A module: the type in front that it has, its parameters, the type behind that it has with them, and its items.
 pub struct ModuleTree {
     pub name: Word,
+    pub own_ty: Option<Word>,
     pub parameters: ModuleParameters,
     pub ty: Option<Word>,
     pub items: ModuleItems,
@@ -31,6 +32,7 @@ impl Drop for ModuleTree {
     fn drop(self) {
         let ModuleTree {
             name: _,
+            own_ty: _,
             parameters: _,
             ty: _,
             items: _,
@@ -38,6 +40,7 @@ impl Drop for ModuleTree {
     }
 }
 
+/// What stands in the braces of a module.
 pub enum ModuleItem {
     /// `var x, y : t`.
     Globals(Binder),
@@ -127,6 +130,7 @@ impl Drop for ProcTree {
     }
 }
 
+/// A statement, at its first token.
 #[cycle(form)]
 pub struct Statement {
     pub shape: StatementShape,

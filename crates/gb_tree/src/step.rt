@@ -18,7 +18,7 @@ impl Drop for StepTree {
     }
 }
 
-/// The bodies of a goal on two that a rule acts on.
+/// Which bodies of a relational goal a rule acts on.
 #[derive(Clone, Copy, PartialEq, Eq)]
 pub enum Bodies {
     Both,
@@ -176,6 +176,7 @@ impl Drop for Contract {
     }
 }
 
+/// What follows `rewrite`.
 pub enum Rewriting {
     /// `rewrite (L a)`.
     Lemma(LemmaUse),
@@ -308,7 +309,7 @@ impl Drop for ConseqTree {
     }
 }
 
-/// `transitivity M.f (P ==> Q) (R ==> S)`.
+/// `transitivity M.f (P ==> Q) (R ==> S)`; the procedure is a call without arguments.
 pub struct TransitivityTree {
     pub bodies: Bodies,
     pub procedure: Boxed<CallTree>,

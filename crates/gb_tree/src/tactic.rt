@@ -57,6 +57,7 @@ impl Drop for CombinedStep {
     }
 }
 
+/// A combinator with what it runs, a tactic in brackets, or a rule.
 #[derive(Drop)]
 #[cycle(tactic)]
 pub enum CombinedShape {
@@ -87,6 +88,7 @@ impl Drop for PatternTree {
 
 pub type Patterns = Items<PatternTree>;
 
+/// What stands behind `=>`: names, pairs of patterns for the parts of a premise, `_`, `//` and `/#`.
 #[derive(Drop)]
 #[cycle(pattern)]
 pub enum PatternShape {

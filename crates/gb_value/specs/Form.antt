@@ -1,4 +1,4 @@
--- Forms and calls that stand where a stack is empty; none is on the stacks of a text. What a suffix makes of a form.
+-- Forms and calls that are taken off where a stack is empty. What a suffix makes of a form.
 use Rattle.std.specs.Prelude.{Option, [], None}
 use Rattle.gb_tree.specs.declared.form.Connective.TheVariants as Operator
 use Rattle.gb_tree.specs.declared.form.FormShape.{FormShape}

@@ -1,4 +1,4 @@
--- Words, types, binders and paths that stand where a stack is empty; none is on the stacks of a text.
+-- Words, types, binders and paths that are taken off where a stack is empty.
 use Rattle.std.specs.Prelude.{[], None}
 use Rattle.gb_core.specs.declared.place.Place.{Place}
 use Rattle.gb_tree.specs.declared.form.ModuleBinder.{ModuleBinder}

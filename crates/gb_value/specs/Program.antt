@@ -1,4 +1,4 @@
--- Statements, modules and commands that stand where a stack is empty; none is on the stacks of a text.
+-- Statements, modules and commands that are taken off where a stack is empty.
 use Rattle.std.specs.Prelude.{[], None}
 use Rattle.gb_tree.specs.declared.command.Command.{Command}
 use Rattle.gb_tree.specs.declared.command.CommandShape.{CommandShape}
@@ -35,7 +35,7 @@ abbrev pub no_variant_name : VariantName
 no_variant_name = VariantNames.Memory no_variant_tail
 
 abbrev pub no_module_rest : ModuleRest
-no_module_rest = ModuleRests.Body [] None []
+no_module_rest = ModuleRests.Body None [] None []
 
 abbrev pub no_type_definition : TypeDefinition
 no_type_definition = TypeOf.Abstract

@@ -1,4 +1,4 @@
--- Proof steps that stand where a stack is empty; none is on the stacks of a text.
+-- Proof steps that are taken off where a stack is empty.
 use Rattle.std.specs.Prelude.{[], None}
 use Rattle.gb_tree.specs.declared.step.CallRule.{CallRule}
 use Rattle.gb_tree.specs.declared.step.CallRule.TheVariants as CallRules

@@ -48,6 +48,7 @@ impl Drop for Infix {
 }
 
 impl Infix {
+    /// The operator and the operand.
     pub fn into_parts(self) -> (Connective, Boxed<FormTree>)
         ensures { result ≡ (self.operator, self.operand) }
     {
@@ -85,6 +86,7 @@ impl Drop for Run {
 }
 
 impl Run {
+    /// The suffixes, the arguments, and the further operands of the product and of the sum.
     pub fn into_parts(
         self,
     ) -> (
@@ -230,7 +232,7 @@ impl Drop for FormulaValues {
     }
 }
 
-// What stands where a stack is empty; none of it is on the stacks of a text.
+// What is taken off where a stack is empty.
 
 pub fn no_form() -> FormTree
     ensures { result ≡ no_form }
@@ -286,7 +288,7 @@ pub fn no_call_tail(alloc: Global) -> CallTail
     }
 }
 
-/// Empty stacks.
+/// Empty stacks of forms, of what they are put together from, and of calls.
 pub fn no_formulas(alloc: Global) -> FormulaValues
     ensures { result ≡ no_formulas }
 {

@@ -75,7 +75,7 @@ impl Drop for PathValues {
     }
 }
 
-// What stands where a stack is empty; none of it is on the stacks of a text.
+// What is taken off where a stack is empty.
 
 pub fn no_place() -> Place
     ensures { result ≡ no_place }
@@ -162,7 +162,7 @@ pub fn no_path_tail(alloc: Global) -> PathTail
     }
 }
 
-/// Empty stacks.
+/// Empty stacks of words, types, binders and paths.
 pub fn no_paths(alloc: Global) -> PathValues
     ensures { result ≡ no_paths }
 {

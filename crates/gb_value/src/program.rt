@@ -62,6 +62,7 @@ pub enum VariantName {
 #[derive(Drop)]
 pub enum ModuleRest {
     Body {
+        own_ty: Option<Word>,
         parameters: ModuleParameters,
         ty: Option<Word>,
         items: ModuleItems,
@@ -125,6 +126,8 @@ impl Drop for CommandValues {
     }
 }
 
+// What is taken off where a stack is empty.
+
 pub fn no_statement_tail(alloc: Global) -> StatementTail
     ensures { result ≡ no_statement_tail }
 {
@@ -150,6 +153,7 @@ pub fn no_module_rest(alloc: Global) -> ModuleRest
     ensures { result ≡ no_module_rest }
 {
     ModuleRest::Body {
+        own_ty: None,
         parameters: Items::new(alloc),
         ty: None,
         items: Items::new(alloc),
@@ -165,7 +169,7 @@ pub fn no_command() -> Command
     }
 }
 
-/// Empty stacks.
+/// Empty stacks of statements and modules.
 pub fn no_programs(alloc: Global) -> ProgramValues
     ensures { result ≡ no_programs }
 {
@@ -184,7 +188,7 @@ pub fn no_programs(alloc: Global) -> ProgramValues
     }
 }
 
-/// Empty stacks.
+/// Empty stacks of definitions and commands.
 pub fn no_commands(alloc: Global) -> CommandValues
     ensures { result ≡ no_commands }
 {

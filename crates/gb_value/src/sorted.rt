@@ -20,7 +20,7 @@ impl<T: Drop> Drop for Sorted<T> {
     }
 }
 
-/// Empty stacks.
+/// Empty stacks of values of a sort, and of lists of such.
 pub fn nothing_sorted<T>(alloc: Global) -> Sorted<T>
     ensures { result ≡ nothing_sorted }
 {

@@ -114,6 +114,8 @@ impl Drop for RuleValues {
     }
 }
 
+// What is taken off where a stack is empty.
+
 pub fn no_pattern() -> PatternTree
     ensures { result ≡ no_pattern }
 {
@@ -150,7 +152,7 @@ pub fn no_distance(alloc: Global) -> Distance
     Distance::Forward(no_number(alloc))
 }
 
-/// Empty stacks.
+/// Empty stacks of proof steps.
 pub fn no_tactics(alloc: Global) -> TacticValues
     ensures { result ≡ no_tactics }
 {
@@ -164,7 +166,7 @@ pub fn no_tactics(alloc: Global) -> TacticValues
     }
 }
 
-/// Empty stacks.
+/// Empty stacks of rules, and of what they are given.
 pub fn no_rules(alloc: Global) -> RuleValues
     ensures { result ≡ no_rules }
 {

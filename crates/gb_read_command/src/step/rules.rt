@@ -1,18 +1,19 @@
-// Rules put together.
+// What rules take off the stacks, and the rules whose parts lie in boxes.
 
-ghost use Rattle.std.specs.Prelude.{◌≡◌, ◌∷◌, IfOk, OnOk};
+ghost use Rattle.std.specs.Prelude.{◌≡◌, IfOk, OnOk};
 ghost use Rattle.gb_value.specs.Sorted.{top, behind, option_on};
 ghost use Rattle.gb_value.specs.Form.{no_form, no_run};
 ghost use Rattle.gb_read_command.specs.Composed.{bodies, seq_bounds, contract_on, contract_rule, fel_rule, call_rule};
+ghost use Rattle.gb_read_command.specs.Rules.{transitivity_rule};
 
-use gb_compose::form::take_form;
+use gb_compose::form::{take_form, take_three_forms, take_two_forms};
 use gb_text::stack::Stack;
 use gb_text::terminal::Terminal;
 use gb_tree::form::{FormTree, FormTrees, Number, SideTree, Word};
 use gb_tree::judgment::CallTree;
 use gb_tree::step::{
-    Bodies, CallRule, ConseqTree, Contract, FelBounds, FelCounter, Guards, ProcPaths, RuleTree,
-    SeqBounds, SeqTree, TransitivityTree,
+    Bodies, CallRule, Contract, FelBounds, FelCounter, Guards, ProcPaths, RuleTree, SeqBounds,
+    TransitivityTree,
 };
 use gb_value::form::{Run, take_run};
 use gb_value::step::{CallRest, FelRest};
@@ -56,8 +57,7 @@ pub fn take_contract(
     ensures contract { IfOk result (λ c. c ≡ contract_on forms.old) }
     ensures behind { OnOk result (forms.new ≡ behind (behind forms.old)) }
 {
-    let pre = take_form(alloc, forms)?;
-    let post = take_form(alloc, forms)?;
+    let (pre, post) = take_two_forms(alloc, forms)?;
     Ok(Contract { pre, post })
 }
 
@@ -83,7 +83,7 @@ pub fn transitivity_rule(
     procedure: Boxed<CallTree>,
     forms: &mut Stack<Boxed<FormTree>>,
 ) -> Result<RuleTree, AllocError>
-    ensures rule { IfOk result (λ r. r ≡ RuleTree.Transitivity (record { bodies = bodies; procedure = procedure; first = contract_on forms.old; second = contract_on (behind (behind forms.old)) })) }
+    ensures rule { IfOk result (λ r. r ≡ transitivity_rule bodies procedure (contract_on forms.old) (contract_on (behind (behind forms.old)))) }
     ensures behind { OnOk result (forms.new ≡ behind (behind (behind (behind forms.old)))) }
 {
     let first = take_contract(alloc, forms)?;
@@ -140,9 +140,7 @@ pub fn fel_counter(
     ensures behind { OnOk result (forms.new ≡ behind (behind (behind (behind forms.old)))) }
 {
     let counter = take_form(alloc, forms)?;
-    let bound = take_form(alloc, forms)?;
-    let bad = take_form(alloc, forms)?;
-    let invariant = take_form(alloc, forms)?;
+    let (bound, bad, invariant) = take_three_forms(alloc, forms)?;
     Ok(FelRest::Counter {
         counter,
         variable,
@@ -163,9 +161,7 @@ pub fn fel_bounds(
     ensures rest { IfOk result (λ r. r ≡ FelRest.Bounds oracles (top no_form forms.old) (top no_form (behind forms.old)) (top no_form (behind (behind forms.old)))) }
     ensures behind { OnOk result (forms.new ≡ behind (behind (behind forms.old))) }
 {
-    let bound = take_form(alloc, forms)?;
-    let bad = take_form(alloc, forms)?;
-    let invariant = take_form(alloc, forms)?;
+    let (bound, bad, invariant) = take_three_forms(alloc, forms)?;
     Ok(FelRest::Bounds {
         oracles,
         bound,

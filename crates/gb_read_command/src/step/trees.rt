@@ -1,15 +1,10 @@
-// What productions make of the trees of their parts.
+// Rules by the token or the production that names them.
 
 ghost use Rattle.gb_read_command.specs.Composed.{bodies};
 ghost use Rattle.gb_read_command.specs.Given.{call_rest, distance, is_minus, multiplier};
 ghost use Rattle.gb_read_command.specs.Rules.{body_form_rule, body_rule, eager_rule, form_rule, have_rule, lemma_rule, plain_rule, position_rule, proc_rule, word_rule};
-ghost use Rattle.gb_value.specs.Form.{no_form};
-ghost use Rattle.gb_value.specs.Path.{no_word};
-ghost use Rattle.gb_value.specs.Sorted.{behind, top};
-ghost use Rattle.gb_value.specs.Step.{no_lemma};
-ghost use Rattle.std.specs.Prelude.{OnOk, ◌∷◌, ◌≡◌};
+ghost use Rattle.std.specs.Prelude.{◌≡◌};
 
-use gb_compose::form::take_form;
 use gb_table::rule::{FormStep, LemmaStep, WordStep};
 use gb_text::stack::Stack;
 use gb_text::terminal::Terminal;
@@ -83,27 +78,20 @@ pub fn distance(terminal: Terminal, number: Number) -> Distance
     }
 }
 
-pub fn is_minus(terminal: Terminal) -> bool
+fn is_minus(terminal: Terminal) -> bool
     ensures { result ≡ is_minus terminal }
 {
-    match terminal {
-        Terminal::Minus => true,
-        _ => false,
-    }
+    matches!(terminal, Terminal::Minus)
 }
 
-pub fn multiplier(
-    terminal: Terminal,
-    numerator: Number,
-    denominator: Option<Number>,
-) -> Option<Multiplier>
+pub fn multiplier(terminal: Terminal, numerator: Number, denominator: Option<Number>) -> Multiplier
     ensures { result ≡ multiplier terminal numerator denominator }
 {
-    Some(Multiplier {
+    Multiplier {
         negative: is_minus(terminal),
         numerator,
         denominator,
-    })
+    }
 }
 
 pub fn plain_rule(terminal: Terminal) -> RuleTree

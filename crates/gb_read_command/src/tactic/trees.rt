@@ -1,4 +1,4 @@
-// What productions make of the trees of their parts.
+// Patterns, steps and arguments from their parts.
 
 ghost use Rattle.gb_read_command.specs.Composed.{with_argument};
 ghost use Rattle.gb_read_command.specs.TacticTrees.{combined_at, pair_pattern, pairing, pattern_at, plain_pattern, prefixed, ruled, word_pattern};
@@ -128,7 +128,7 @@ pub fn take_suffixes(alloc: Global, runs: &mut Stack<Run>) -> Stack<Suffix>
     suffixes
 }
 
-/// Takes a run off.
+/// Takes a run off and lets it go.
 pub fn skip_run(alloc: Global, runs: &mut Stack<Run>)
     ensures { runs.new ≡ behind runs.old }
 {

@@ -1,4 +1,4 @@
-// What productions make of the trees of their parts.
+// Constants, prefixed forms and tails of calls.
 
 ghost use Rattle.gb_compose.specs.Atoms.{call_tail, constant, prefixed};
 ghost use Rattle.std.specs.Prelude.{◌≡◌};
@@ -9,7 +9,8 @@ use gb_tree::form::{FormShape, FormTree};
 use gb_value::form::{CallFunctor, CallTail, FunctorCall};
 use sqlite_items::{Boxed, Items};
 use std::alloc::Global;
-// `{0,1}` begins with a brace; what is left of `()` is its second bracket.
+
+/// `{0,1}` begins with a brace; what is left of `()` is its second bracket.
 pub fn constant(terminal: Terminal) -> FormShape
     ensures { result ≡ constant terminal }
 {

@@ -1,4 +1,4 @@
-// What productions make of the trees of their parts.
+// Quantifiers, operators and sides by the tokens that spell them, and entries of maps from their parts.
 
 ghost use Rattle.gb_compose.specs.Forms.{connective, entry, quantifier, side_number};
 ghost use Rattle.std.specs.Prelude.{◌≡◌};

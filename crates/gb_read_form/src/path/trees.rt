@@ -1,9 +1,8 @@
-// What productions make of the trees of their parts.
+// Types, numbers and tails of paths from their parts.
 
-ghost use Rattle.gb_compose.specs.Paths.{bracketed_type, functor_tail, integer, named_type, number_at, plain_type, procedure};
+ghost use Rattle.gb_compose.specs.Paths.{bracketed_type, functor_tail, integer, named_type, number_at, plain_type};
 ghost use Rattle.std.specs.Prelude.{IfOk, ◌≡◌};
 
-use gb_compose::paths::procedure;
 use gb_text::stack::Stack;
 use gb_text::terminal::Terminal;
 use gb_text::text::{Text, word_at};

@@ -146,11 +146,13 @@ pub fn module_of(name: Word, rest: ModuleRest) -> CommandShape
 {
     match rest {
         ModuleRest::Body {
+            own_ty,
             parameters,
             ty,
             items,
         } => CommandShape::Module(ModuleTree {
             name,
+            own_ty,
             parameters,
             ty,
             items,

@@ -3,14 +3,14 @@ use Rattle.gb_grammar.specs.declared.error.ReadError.{ReadError}
 use Rattle.gb_grammar.specs.declared.table.Step.{Step}
 use Rattle.gb_grammar.specs.Grammar.{Grammar}
 use Rattle.gb_grammar.specs.Reading.{Spells, IsFault}
-use Rattle.gb_table.specs.declared.rows.TheConstants.{BUILT}
+use Rattle.gb_table.specs.declared.rows.TheConstants.{SCRIPTS}
 use Rattle.gb_table.specs.declared.rule.Rule.{Rule}
 use Rattle.gb_table.proofs.Language.{passes, passes_by, same_language, starts}
 use Rattle.gb_table.proofs.reading.read_text.Goals as goal
 
 pub read_by-requires-clause-checked : goal.read_by-requires-clause-checked
 read_by-requires-clause-checked c =
-    passes_by BUILT c.all_places.result.now c.all_rows.result.now c.all_symbols.result.now c.all_places.ensures c.all_rows.ensures c.all_symbols.ensures passes
+    passes_by SCRIPTS c.all_places.result.now c.all_rows.result.now c.all_symbols.result.now c.all_places.ensures c.all_rows.ensures c.all_symbols.ensures passes
 
 pub read_by-requires-clause-start : goal.read_by-requires-clause-start
 read_by-requires-clause-start c = starts c.args.part c.requires.part
