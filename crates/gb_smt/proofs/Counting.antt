@@ -10,13 +10,19 @@ use Rattle.gb_terms.specs.declared.term.Head.TheViews.{out-Term, outs-struct-Ter
 use Rattle.gb_terms.specs.declared.term.Head.{Head}
 use Rattle.gb_smt.specs.declared.atoms.Reach.{Reach}
 use Rattle.gb_smt.specs.declared.atoms.Reach.TheVariants as Reaches
-use Rattle.gb_smt.specs.Atoms.{is_atom, atom_of, own_atom, reach_of, reached, inner_atoms, term_atoms, row_atoms, front_atoms, AreAdded, IsCount}
+use Rattle.gb_smt.specs.Atoms.{is_atom, atom_of, own_atom, reach_of, inner_atoms, term_atoms, row_atoms, front_atoms, AreAdded, IsCount}
 
 -- the atoms of a term, from those of its arguments
 
 atoms_row : (n : _) (r : Row_of-Term n) → row_atoms r ≡ flat_map term_atoms (items-the_row-Term n r)
 atoms_row n end_of-Term = refl
 atoms_row n (more_of-Term t r) = ap (λ l. term_atoms t ++ l) (atoms_row _ r)
+
+-- the terms that are reached
+abbrev pub reached : Reach → List Term → List Term
+reached Reaches.Nothing ts = []
+reached Reaches.Front ts = take (pred (length ts)) ts
+reached Reaches.All ts = ts
 
 front_row : (n : _) (r : Row_of-Term n) → front_atoms r ≡ flat_map term_atoms (take (pred (length (items-the_row-Term n r))) (items-the_row-Term n r))
 front_row n end_of-Term = refl
