@@ -1,5 +1,5 @@
 -- Modules, lemmas and the words of a proof keep sessions good.
-use Rattle.std.proofs.Common.{◌≡◌, List, [], ◌∷◌, length, None, sym, subst}
+use Rattle.std.proofs.Common.{◌≡◌, List, [], ◌∷◌, ◌++◌, length, None, ap, sym, ◌∙◌, subst}
 use Rattle.std.specs.List.{AllByRecursion}
 use Rattle.gb_core.specs.declared.place.Place.{Place}
 use Rattle.gb_core.specs.declared.refusal.Why.TheVariants.{NoGoal}
@@ -13,7 +13,6 @@ use Rattle.gb_holds.proofs.Scopes.{gained_lemma, gained_module}
 use Rattle.gb_elab.specs.Answers.Answer.{given}
 use Rattle.gb_elab_mod.specs.Lemmas.{statement_given}
 use Rattle.gb_elab_mod.specs.Modules.{module_given}
-use Rattle.gb_closing.proofs.Used.{each_together}
 use Rattle.gb_ready.proofs.Growing.{grows}
 use Rattle.gb_given.proofs.Given.{given_bind, given_is, if_given}
 use Rattle.gb_given.proofs.Scopes.{module_added}
@@ -21,10 +20,9 @@ use Rattle.gb_given.proofs.Statements.{statement_typed}
 use Rattle.gb_verdict.specs.Session.{Session, OpenProof, with_goals, with_proved}
 use Rattle.gb_verdict.specs.Limits.{declaration_limit, each_limit}
 use Rattle.gb_verdict.specs.Commands.{within, outside, declares, opens, begun, ended}
-use Rattle.gb_accepted.specs.Holding.{HoldsIn}
 use Rattle.gb_accepted.proofs.Given.{nothing_given, given_outside}
 use Rattle.gb_accepted.proofs.Good.{IsGoodProof, IsGoodIfOpen, IsGood}
-use Rattle.gb_accepted.proofs.Later.{all_later, holds_last}
+use Rattle.gb_accepted.proofs.Later.{names_stay, hold_later, name_added, hold_with}
 
 pub declares_keeps : (s : Session) (t : ModuleTree) (place : Place) (next : Session) → IsGood s → declares s t place ≡ given next → IsGood next
 declares_keeps s t place next g e =
@@ -35,7 +33,7 @@ declares_keeps s t place next g e =
     subst IsGood (given_is _ _ c.2) (record {
       typed = module_added s.scope g.typed t b.0 b.1;
       sound = gained_module s.scope b.0.name b.0 g.sound;
-      lemmas = all_later s.scope ((b.0.name, entry.Module b.0) ∷ []) s.lemmas g.lemmas;
+      lemmas = record { names = names_stay s.scope b.0.name b.0 ∙ g.lemmas.names; hold = hold_later s.scope b.0.name b.0 g.lemmas.hold };
       proof = subst (IsGoodIfOpen _) (sym none) tt;
     })
 
@@ -49,7 +47,7 @@ opens_keeps s t place next g e =
     subst IsGood (given_is _ _ d.2) (record {
       typed = g.typed;
       sound = g.sound;
-      lemmas = g.lemmas;
+      lemmas = record { names = g.lemmas.names; hold = g.lemmas.hold };
       proof = record { free = typed.1; statement = typed.0; goals = (typed.0, tt); leads = λ hs. hs.0 };
     })
 
@@ -58,7 +56,7 @@ begun_keeps s p place next g h e =
     subst IsGood (if_given p.fresh (with_goals s p p.goals) NoGoal place next e).1 (record {
       typed = g.typed;
       sound = g.sound;
-      lemmas = g.lemmas;
+      lemmas = record { names = g.lemmas.names; hold = g.lemmas.hold };
       proof = record { free = h.free; statement = h.statement; goals = h.goals; leads = h.leads };
     })
 
@@ -67,12 +65,10 @@ proved_is_good : (s : Session) (p : OpenProof) → IsGood s → IsGoodProof s.sc
 proved_is_good s p g h holds = record {
   typed = grows [] s.scope g.typed p.name (entry.Lemma p.statement) h.free h.statement;
   sound = gained_lemma s.scope p.name p.statement g.sound holds;
-  lemmas = each_together
-      (HoldsIn (with_proved s p).scope)
-      s.lemmas
-      (p.name ∷ [])
-      (all_later s.scope ((p.name, entry.Lemma p.statement) ∷ []) s.lemmas g.lemmas)
-      (holds_last s.scope p.name p.statement holds, tt);
+  lemmas = record {
+    names = name_added s.scope p.name p.statement ∙ ap (λ ns. ns ++ p.name ∷ []) g.lemmas.names;
+    hold = hold_with s.scope p.name p.statement g.lemmas.hold holds;
+  };
   proof = tt;
 }
 

@@ -1,5 +1,5 @@
 -- Sessions in which what is declared is typed, what is proved holds, and what is open leads to a lemma that holds.
-use Rattle.std.proofs.Common.{◌≡◌, Option, Some, None}
+use Rattle.std.proofs.Common.{◌≡◌, Option, Some, None, refl}
 use Rattle.std.specs.List.{AllByRecursion}
 use Rattle.gb_goal.specs.Scope.{Declarations, entry_of}
 use Rattle.gb_holds.specs.Declared.{declared}
@@ -26,4 +26,4 @@ pub record IsGood (s : Session) : Type 0 where
   pub proof : IsGoodIfOpen s.scope s.proof
 
 pub fresh_is_good : IsGood fresh_session
-fresh_is_good = record { typed = tt; sound = tt; lemmas = tt; proof = tt }
+fresh_is_good = record { typed = tt; sound = tt; lemmas = record { names = refl; hold = tt }; proof = tt }

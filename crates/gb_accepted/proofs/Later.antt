@@ -1,29 +1,49 @@
--- Lemmas that hold in a scope hold in it when it has grown.
-use Rattle.std.proofs.Common.{[], ◌∷◌, ◌++◌, List, refl, ap, ◌∙◌}
-use Rattle.std.proofs.lemmas.List.{append_assoc}
+-- The lemmas of a scope that grows.
+use Rattle.std.proofs.Common.{◌≡◌, List, [], ◌∷◌, ◌++◌, refl, ap, sym, ◌∙◌, subst}
+use Rattle.std.proofs.lemmas.List.{append-nil, append_assoc, map-append}
 use Rattle.std.specs.List.{AllByRecursion}
+use Rattle.gb_terms.specs.declared.decl.Module.{Module}
 use Rattle.gb_goal.specs.Scope.{Declarations}
+use Rattle.gb_goal.specs.declared.scope.Entry.{Entry}
 use Rattle.gb_goal.specs.declared.scope.Entry.TheVariants as entry
 use Rattle.gb_goal.specs.declared.sequent.Sequent.{Sequent}
 use Rattle.gb_meaning.specs.Names.{Name}
 use Rattle.gb_holds.specs.Declared.{declared}
 use Rattle.gb_holds.specs.Holds.{Holds}
-use Rattle.gb_accepted.specs.Holding.{HoldsIn}
+use Rattle.gb_closing.proofs.Used.{each_together}
+use Rattle.gb_accepted.specs.Holding.{Lemma, LemmaHolds, with_entry, lemmas_in, names_of}
 
-module _ (ds es : Declarations) where
-  holds_later : (n : Name) → HoldsIn ds n → HoldsIn (ds ++ es) n
-  holds_later n h = record {
-    before = h.before;
-    statement = h.statement;
-    after = h.after ++ es;
-    stands = ap (λ z. z ++ es) h.stands ∙ append_assoc h.before ((n, entry.Lemma h.statement) ∷ h.after) es;
-    holds = h.holds;
-  }
+with_more : (before : Declarations) (n : Name) (e : Entry) (ls ks : List Lemma) → with_entry before n e (ls ++ ks) ≡ with_entry before n e ls ++ ks
+with_more before n (entry.Module m) ls ks = refl
+with_more before n (entry.Lemma q) ls ks = refl
 
-  pub all_later : (ns : List Name) → AllByRecursion (HoldsIn ds) ns → AllByRecursion (HoldsIn (ds ++ es)) ns
-  all_later [] h = tt
-  all_later (n ∷ ns) h = (holds_later n h.0, all_later ns h.1)
+lemmas_append : (before ds es : Declarations) → lemmas_in before (ds ++ es) ≡ lemmas_in before ds ++ lemmas_in (before ++ ds) es
+lemmas_append before [] es = ap (λ b. lemmas_in b es) (sym (append-nil before))
+lemmas_append before (d ∷ ds) es =
+    ap (with_entry before d.0 d.1) (lemmas_append (before ++ d ∷ []) ds es ∙ ap (λ b. lemmas_in (before ++ d ∷ []) ds ++ lemmas_in b es) (append_assoc before (d ∷ []) ds))
+    ∙ with_more before d.0 d.1 (lemmas_in (before ++ d ∷ []) ds) (lemmas_in (before ++ d ∷ ds) es)
 
--- the lemma that is declared last
-pub holds_last : (ds : Declarations) (n : Name) (q : Sequent) → Holds (declared ds) q → HoldsIn (ds ++ (n, entry.Lemma q) ∷ []) n
-holds_last ds n q h = record { before = ds; statement = q; after = []; stands = refl; holds = h }
+-- a module adds no lemma
+module _ (ds : Declarations) (n : Name) (m : Module) where
+  same_lemmas : lemmas_in [] (ds ++ (n, entry.Module m) ∷ []) ≡ lemmas_in [] ds
+  same_lemmas = lemmas_append [] ds ((n, entry.Module m) ∷ []) ∙ append-nil (lemmas_in [] ds)
+
+  pub names_stay : names_of (lemmas_in [] (ds ++ (n, entry.Module m) ∷ [])) ≡ names_of (lemmas_in [] ds)
+  names_stay = ap names_of same_lemmas
+
+  pub hold_later : AllByRecursion LemmaHolds (lemmas_in [] ds) → AllByRecursion LemmaHolds (lemmas_in [] (ds ++ (n, entry.Module m) ∷ []))
+  hold_later h = subst (AllByRecursion LemmaHolds) (sym same_lemmas) h
+
+-- a lemma is added behind the others
+module _ (ds : Declarations) (n : Name) (q : Sequent) where
+  abbrev last : Lemma
+  last = record { name = n; before = ds; statement = q }
+
+  one_more : lemmas_in [] (ds ++ (n, entry.Lemma q) ∷ []) ≡ lemmas_in [] ds ++ last ∷ []
+  one_more = lemmas_append [] ds ((n, entry.Lemma q) ∷ [])
+
+  pub name_added : names_of (lemmas_in [] (ds ++ (n, entry.Lemma q) ∷ [])) ≡ names_of (lemmas_in [] ds) ++ n ∷ []
+  name_added = ap names_of one_more ∙ map-append (λ (l : Lemma). l.name) (lemmas_in [] ds) (last ∷ [])
+
+  pub hold_with : AllByRecursion LemmaHolds (lemmas_in [] ds) → Holds (declared ds) q → AllByRecursion LemmaHolds (lemmas_in [] (ds ++ (n, entry.Lemma q) ∷ []))
+  hold_with h k = subst (AllByRecursion LemmaHolds) (sym one_more) (each_together LemmaHolds (lemmas_in [] ds) (last ∷ []) h (k, tt))

@@ -29,7 +29,7 @@ continued_keeps s p q rest qs place next g h is lead e =
     subst IsGood (given_is _ _ b.2) (record {
       typed = g.typed;
       sound = g.sound;
-      lemmas = g.lemmas;
+      lemmas = record { names = g.lemmas.names; hold = g.lemmas.hold };
       proof = record {
         free = h.free;
         statement = h.statement;

@@ -10,8 +10,8 @@ ghost use Rattle.gb_verdict.specs.Verdict.{IsOutcome};
 ghost use Rattle.gb_accepted.specs.Holding.{AllHold};
 
 /// Where a script comes to a session, and to no refusal, the scope of the session is typed, so that each name is
-/// declared once; it is sound; and each lemma that the session names stands in it, and holds over the declarations
-/// before it.
+/// declared once; it is sound; and the lemmas that the session names are those of the scope, in their order, each of
+/// which holds over the declarations before it.
 pub fn accepted_scripts()
     ensures typed { (text : List ℕ) (s : Session) → IsOutcome text (given s) → IsTypedScope s.scope }
     ensures sound { (text : List ℕ) (s : Session) → IsOutcome text (given s) → IsSound (declared s.scope) }

@@ -1,4 +1,5 @@
 //! What an accepted script promises.
 #![tactic(auto)]
 
+pub mod examples;
 pub mod laws;

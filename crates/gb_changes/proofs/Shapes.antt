@@ -54,6 +54,7 @@ mutual
   plain_sound g (Term' p (more_of-Head h end_of-Head) n ts ty) x = (plain_head_sound g h x.0, all_plain_sound g ts x.1)
 
   plain_head_sound : (g : Setting) (h : Head) → HeadIsPlain h → is_sound_at g h
+  plain_head_sound g (head.Pr p r) x = absurd x
   plain_head_sound g (head.Hoare c) x = absurd x
   plain_head_sound g (head.Phoare c r) x = absurd x
   plain_head_sound g (head.Equiv c d) x = absurd x
@@ -64,6 +65,7 @@ mutual
   all_plain_sound g (more_of-Term t ts) x = (plain_sound g t x.0, all_plain_sound g ts x.1)
 
 head_changed_sound : (g : Setting) (K : Uses) (cs : Changes) → ArePut g cs → (h : Head) (ty : Ty) → HeadIsWithin K h ty → is_sound_at g h → is_sound_at g (kept_at h cs)
+head_changed_sound g K cs a (head.Pr p r) ty w u = u
 head_changed_sound g K cs a (head.Hoare c) ty w u = subject_sound g K cs a c w.1 u
 head_changed_sound g K cs a (head.Phoare c r) ty w u = subject_sound g K cs a c w.1 u
 head_changed_sound g K cs a (head.Equiv c d) ty w u = (subject_sound g K cs a c w.1 u.0, subject_sound g K cs a d w.2 u.1)
@@ -159,7 +161,7 @@ module _ (g : Setting) where
       made_such (IsSoundForm g) (found_for_bound cs k) _ cs _ ty (put_such (IsSoundForm g) (λ t p. plain_sound g t p.plain) (found_for_bound cs k) (bound_found_each (IsPut g) cs a k))
       (sound_node g (head.Bound k) (arguments_of (head.Bound k) cs ts) ty tt e)
   sound_made (head.Glob m r) cs K ts ty a w u e = sound_node g (head.Glob m (side_changed cs r)) (arguments_of (head.Glob m r) cs ts) ty tt e
-  sound_made (head.Pr p r) cs K ts ty a w u e = sound_node g (head.Pr p (side_changed cs r)) (arguments_of (head.Pr p r) cs ts) ty tt e
+  sound_made (head.Pr p r) cs K ts ty a w u e = sound_node g (head.Pr p (side_changed cs r)) (arguments_of (head.Pr p r) cs ts) ty u e
   sound_made (head.Hoare c) cs K ts ty a w u e = sound_node g (kept_at (head.Hoare c) cs) (arguments_of (head.Hoare c) cs ts) ty (head_changed_sound g K cs a (head.Hoare c) ty w u) e
   sound_made (head.Phoare c r) cs K ts ty a w u e = sound_node g (kept_at (head.Phoare c r) cs) (arguments_of (head.Phoare c r) cs ts) ty (head_changed_sound g K cs a (head.Phoare c r) ty w u) e
   sound_made (head.Equiv c d) cs K ts ty a w u e = sound_node g (kept_at (head.Equiv c d) cs) (arguments_of (head.Equiv c d) cs ts) ty (head_changed_sound g K cs a (head.Equiv c d) ty w u) e

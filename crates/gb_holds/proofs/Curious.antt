@@ -18,6 +18,7 @@ use Rattle.gb_holds.specs.Bounds.{IsAnswer, AreOracles, counted_run}
 use Rattle.gb_holds.specs.Within.{IsWithin}
 use Rattle.gb_holds.specs.Examples.{asking_type, oracle_signature, oracle, oracle_name, param_name, main_name, input, true_literal, read_of, reply, truth_value, oracle_and_adversary, asking_at_most, curious_program}
 use Rattle.gb_holds.proofs.Groups.{bounded_by_text}
+use Rattle.gb_holds.proofs.Lists.{none_kept}
 
 fit_or_first : (ts : Types) (v : Value) (t : Bool) → has ts bool v ≡ t → has ts bool (if t then v else first ts bool) ≡ true
 unfolding out-Value denote.Hole.Carrier.out
@@ -43,7 +44,7 @@ reading g = ((tt, refl, tt), λ s. fits g.types (get s.own.frame (reply ∷ []))
 typed : (g : Setting) (w : World) → IsProgramFor oracle_and_adversary g w asking_type curious_program
 unfolding names
 typed g w = record {
-  rising = tt;
+  ordered = none_kept w;
   known = tt;
   procedures = (
     (

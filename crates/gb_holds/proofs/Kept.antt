@@ -116,7 +116,7 @@ module _ (ls : Declarations) (s : KeepModules ls) where
         let same : types_of es (interpretation w size u) ≡ types_of ds (interpretation w size t) = values-same es ds w size u t back [] in
         record {
           sizes = m.sizes;
-          rising = m.rising;
+          once = m.once;
           types = subst (λ y. HaveVariableTypes y w) same m.types;
           known = subst (AreIn w) back.frame.globals m.known;
           results = subst (λ y. GiveResults ds y t) same

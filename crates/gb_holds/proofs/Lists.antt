@@ -1,5 +1,5 @@
--- Lists of declarations.
-use Rattle.std.proofs.Common.{◌≡◌, Bool, true, false, if◌then◌else◌, [], ◌∷◌, ◌++◌, Option, Some, bytes_eq, refl, ap}
+-- Lists of declarations and of globals.
+use Rattle.std.proofs.Common.{◌≡◌, Bool, true, false, if◌then◌else◌, List, [], ◌∷◌, ◌++◌, filter, Option, Some, bytes_eq, refl, ap}
 use Rattle.gb_terms.specs.declared.decl.Module.{Module}
 use Rattle.gb_goal.specs.declared.scope.Entry.{Entry}
 use Rattle.gb_goal.specs.declared.scope.Entry.TheVariants as entry
@@ -23,3 +23,8 @@ named-if false e x r h = h
 pub declared-module : (ds : Declarations) (n : Name) → module_named (declared ds) n ≡ module_of ds n
 declared-module [] n = refl
 declared-module (d ∷ ds) n = named-if (bytes_eq n d.0) d.1 (module_named (declared ds) n) (entry_of ds n) (declared-module ds n)
+
+-- a test that holds of nothing keeps nothing
+pub none_kept : {A : Type 0} (xs : List A) → filter (λ (x : A). false) xs ≡ []
+none_kept [] = refl
+none_kept (x ∷ xs) = none_kept xs

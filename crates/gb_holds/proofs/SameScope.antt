@@ -23,11 +23,11 @@ use Rattle.gb_holds.specs.Declared.{Declarations, ModuleType, Signature, signatu
 use Rattle.gb_holds.specs.Modules.{found}
 use Rattle.gb_holds.specs.Linking.{Oracles}
 use Rattle.gb_holds.specs.Adversary.{Adversary, type_named, may_call, oracle_signature, callable}
-use Rattle.gb_holds.specs.Settings.{Chosen, Table, interpreted, setting, declared_globals}
+use Rattle.gb_holds.specs.Settings.{Chosen, is_chosen, Table, interpreted, setting, declared_globals}
 use Rattle.gb_holds.specs.Naming.{AnyName, EachParam}
 use Rattle.gb_holds.specs.Programs.{IsProcedureFor, HasProcedures, IsProgramFor, AreNamed, AreFull}
 use Rattle.gb_holds.specs.Bounds.{IsAnswer, AreOracles, oracle_in, without, EachCallsAtMost, GroupCall, IsGroupRun, IsBounded}
-use Rattle.gb_holds.specs.Within.{AreApart, is_chosen, KeepsOff, IsWithinIn, IsWithin}
+use Rattle.gb_holds.specs.Within.{AreApart, KeepsOff, IsWithinIn, IsWithin}
 use Rattle.gb_holds.specs.Truth.{Choice, last_has_module, IsFirstTrue, Truth, TruthOfLast}
 
 -- the module types of these names are the same
@@ -60,7 +60,7 @@ module _ (P : Name → Type 0) (ds es : Declarations) (e : SameTypes P ds es) wh
         (subst (λ z. IsProcedureFor g z a.footprint s (found a.procedures s.name)) (callable-same s) h.0, procedures-to g a ss h.1)
 
     pub program-to : (g : Setting) (w : World) (a : Adversary) → IsProgramFor ds g w t a → IsProgramFor es g w t a
-    program-to g w a h = record { rising = h.rising; known = h.known; procedures = procedures-to g a t.signatures h.procedures }
+    program-to g w a h = record { ordered = h.ordered; known = h.known; procedures = procedures-to g a t.signatures h.procedures }
 
     group-to : (g : Setting) (w : World) (a : Adversary) (o : Oracle) (fs : List Name) (m : Memory) (cs : List GroupCall) →
         IsGroupRun ds g w t a o fs m cs → IsGroupRun es g w t a o fs m cs

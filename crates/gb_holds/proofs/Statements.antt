@@ -11,7 +11,7 @@ use Rattle.gb_holds.specs.Modules.{Modules, Reading, no_module, modules_of, proc
 use Rattle.gb_holds.specs.Linking.{linked_procedure}
 use Rattle.gb_holds.specs.Footprints.{footprint, footprint_read, footprint_globals}
 use Rattle.gb_holds.specs.Adversary.{type_named}
-use Rattle.gb_holds.specs.Settings.{Chosen, Table, Interpretation, interpreted, program_footprint, with_abstract_footprints, footprints, types_of, bare, with_declaration, with_operators, with_abstract_programs, linked_modules, with_modules, setting, globals_from, declared_globals}
+use Rattle.gb_holds.specs.Settings.{Chosen, is_chosen, Table, Interpretation, interpreted, program_footprint, with_abstract_footprints, footprints, types_of, bare, with_declaration, with_operators, with_abstract_programs, linked_modules, with_modules, setting, globals_from, declared_globals}
 use Rattle.gb_holds.specs.Holds.{IsSilent, AreSilent, KeepsModules, KeepModules}
 use Rattle.gb_holds.specs.Naming.{AnyName}
 use Rattle.gb_holds.proofs.Later.{declared_after}
@@ -85,7 +85,7 @@ module _ (ls : Declarations) (s : KeepModules ls) where
     types_of-same : (i : Interpretation) → types_of es i ≡ types_of ds i
     types_of-same i = λ k. record {
       size = i.size;
-      footprint = λ m. footprint_globals i.world (program_footprint i.programs) (footprint (footprints-same i.programs k) m);
+      footprint = λ m. footprint_globals i.world (program_footprint i.programs) (footprint (footprints-same i.programs k) (is_chosen i.programs) m);
     }
 
     linked-same : (g : Setting) (cs : List Chosen) → linked_modules es g cs ≡ linked_modules ds g cs

@@ -4,8 +4,6 @@ use Rattle.std.specs.List.{list_any}
 use Rattle.gb_core.specs.declared.var.Var.{Var}
 use Rattle.gb_core.specs.declared.var.Var.TheVariants as var
 use Rattle.gb_terms.specs.declared.module.Bound.{Bound}
-use Rattle.gb_terms.specs.declared.module.Mexp.{Mexp}
-use Rattle.gb_terms.specs.declared.module.Mexp.TheVariants.{Name as named, Apply'}
 use Rattle.gb_terms.specs.declared.module.ProcRef.{ProcRef}
 use Rattle.gb_coupling.specs.WeightedList.{WeightedList, Every}
 use Rattle.gb_meaning.specs.Names.{Name}
@@ -18,6 +16,7 @@ use Rattle.gb_meaning.specs.Setting.{Setting}
 use Rattle.gb_meaning.specs.Runs.{parameter_values}
 use Rattle.gb_holds.specs.Declared.{Declarations, ModuleType, Signature}
 use Rattle.gb_holds.specs.Modules.{found}
+use Rattle.gb_holds.specs.Footprints.{head_name}
 use Rattle.gb_holds.specs.Linking.{Oracles}
 use Rattle.gb_holds.specs.Typing.{IsTypedRoutine}
 use Rattle.gb_holds.specs.Adversary.{Adversary, oracle_signature}
@@ -33,11 +32,6 @@ IsAnswer g w (Some s) (Some r) = HasTypes s r × IsLinkedRoutine r × IsTypedRou
 -- linked procedures for all procedures of a module type's parameters, whatever globals they write
 abbrev pub AreOracles : Declarations → Setting → World → ModuleType → Oracles → Type 0
 AreOracles ds g w t os = (o : Oracle) → IsAnswer g w (oracle_signature ds t.params o) (os o)
-
--- the module that a module expression applies
-abbrev pub head_name : Mexp → Name
-head_name (named m) = m
-head_name (Apply' m n args) = m
 
 -- the oracle that a bound names
 abbrev pub oracle_in : ProcRef → Oracle

@@ -18,6 +18,7 @@ use Rattle.gb_terms.specs.declared.op.Op.TheVariants.{Coin}
 use Rattle.gb_terms.specs.declared.term.Head.TheVariants.{Lit, Read, Builtin, AllModule, Hoare, Proc as of_procedure, Assign, Call'}
 use Rattle.gb_goal.specs.declared.sequent.Sequent.{Sequent}
 use Rattle.gb_meaning.specs.Names.{Name}
+use Rattle.gb_meaning.specs.Values.{World}
 use Rattle.gb_meaning.specs.Program.{Routine, Oracle}
 use Rattle.gb_meaning.specs.Program.Program.{done, assign, sample, branch, call, ask}
 use Rattle.gb_meaning.specs.Program.Routine.{routine}
@@ -193,3 +194,20 @@ adversary_with_keeper = Apply' (65 ∷ []) (tt ∷ []) (more_of-Mexp (named keep
 
 abbrev pub types_and_keeper : Declarations
 types_and_keeper = oracle_and_adversary ++ (keeper_name, concrete_module keeper) ∷ []
+
+-- module type E = {}
+abbrev pub silent_type : Declarations
+silent_type = (69 ∷ [], module_type (record { params = []; signatures = [] })) ∷ []
+
+-- A <: E
+abbrev pub silent : Bind
+silent = record { name = 65 ∷ []; ty = 69 ∷ []; minus = []; bounds = [] }
+
+-- the globals O.x and O.f of type `bool`, in this order
+abbrev pub owned_world : World
+owned_world =
+    record { parent = param_name; name = input; ty = ty.Bool } ∷ record { parent = param_name; name = main_name; ty = ty.Bool } ∷ []
+
+-- a program without procedures that owns both
+abbrev pub owner : Adversary
+owner = record { footprint = owned_world; procedures = [] }

@@ -1,11 +1,13 @@
 -- Which globals the procedures of a module read or write.
-use Rattle.std.specs.Prelude.{ℕ, ◌&&◌, List, [], ◌∷◌, ◌++◌, filter, Option, Some, None, bytes_eq}
+use Rattle.std.specs.Prelude.{ℕ, Bool, false, ◌&&◌, if◌then◌else◌, List, [], ◌∷◌, ◌++◌, filter, Option, Some, None, bytes_eq}
+use Rattle.std.specs.List.{list_any}
 use Rattle.std.specs.declared.cmp.Ordering.{Ordering}
 use Rattle.std.specs.declared.cmp.Ordering.TheVariants.{Less, Equal, Greater}
 use Rattle.std.specs.Ordering.{nat_cmp, ordering_then}
 use Rattle.gb_core.specs.declared.var.Var.{Var}
 use Rattle.gb_core.specs.declared.var.Var.TheVariants as var
 use Rattle.gb_terms.specs.declared.module.Mexp.{Mexp}
+use Rattle.gb_terms.specs.declared.module.Mexp.TheVariants.{Name as named, Apply'}
 use Rattle.gb_terms.specs.declared.module.ProcRef.{ProcRef}
 use Rattle.gb_terms.specs.declared.op.Read.{Read}
 use Rattle.gb_terms.specs.declared.op.Read.TheVariants.{Logical, Program}
@@ -33,10 +35,6 @@ path (var.Glob a) = a ∷ []
 -- the order of variables: that of their kinds, then that of the bytes of their names
 abbrev pub var_order : Var → Var → Ordering
 var_order x y = ordering_then (nat_cmp (kind x) (kind y)) (path_order (path x) (path y))
-
--- the order of globals
-abbrev pub global_order : Global → Global → Ordering
-global_order x y = path_order (x.parent ∷ x.name ∷ []) (y.parent ∷ y.name ∷ [])
 
 -- x before the rest, in place of an equal thing, or further behind
 abbrev pub placed : {A : Type 0} → Ordering → A → A → List A → List A → List A
@@ -112,26 +110,31 @@ abbrev pub of_all : Procedures (List Var) → List Var
 of_all [] = []
 of_all (p ∷ ps) = p.1 ++ of_all ps
 
--- The footprint of a module expression, in order. Procedures of its own open parameters aren't counted, and an abstract
--- module in it stands as one entry.
-abbrev pub footprint : Modules (List Var) → Mexp → List Var
-footprint ms m = in_order var_order (of_all (module_at ms m []))
+-- the module that a module expression applies
+abbrev pub head_name : Mexp → Name
+head_name (named m) = m
+head_name (Apply' m n args) = m
 
--- the globals of this name in a world
-abbrev pub globals_named : World → Name → Name → List Global
-globals_named w m x = filter (λ g. bytes_eq m g.parent && bytes_eq x g.name) w
+-- What a module expression touches itself: an abstract module all of its program's globals, though none of its procedures may
+-- reach them.
+abbrev pub own_entry : (Name → Bool) → Mexp → List Var
+own_entry abstract m = if abstract (head_name m) then var.Glob (head_name m) ∷ [] else []
 
--- what an entry of a footprint stands for, where f gives the footprints of programs for abstract modules
-abbrev pub entry_globals : World → (Name → List Global) → Var → List Global
-entry_globals w f (var.Global m x) = globals_named w m x
-entry_globals w f (var.Local x) = []
-entry_globals w f (var.Glob a) = f a
+-- The footprint of a module expression, where it is known which names are those of abstract modules. Procedures of its own open
+-- parameters aren't counted, and an abstract module stands as one entry.
+abbrev pub footprint : Modules (List Var) → (Name → Bool) → Mexp → List Var
+footprint ms abstract m = in_order var_order (own_entry abstract m ++ of_all (module_at ms m []))
 
--- those of all entries
-abbrev pub entries_globals : World → (Name → List Global) → List Var → List Global
-entries_globals w f [] = []
-entries_globals w f (x ∷ xs) = entry_globals w f x ++ entries_globals w f xs
+-- whether two globals are the same
+abbrev pub is_global : Global → Global → Bool
+is_global x y = bytes_eq x.parent y.parent && bytes_eq x.name y.name
 
--- the globals that a footprint stands for
+-- whether an entry of a footprint stands for this global, where f gives the footprints of programs for abstract modules
+abbrev pub stands_for : (Name → List Global) → Global → Var → Bool
+stands_for f g (var.Global m x) = bytes_eq m g.parent && bytes_eq x g.name
+stands_for f g (var.Local x) = false
+stands_for f g (var.Glob a) = list_any (is_global g) (f a)
+
+-- the globals that a footprint stands for, in the order of the world
 abbrev pub footprint_globals : World → (Name → List Global) → List Var → List Global
-footprint_globals w f xs = in_order global_order (entries_globals w f xs)
+footprint_globals w f xs = filter (λ g. list_any (stands_for f g) xs) w

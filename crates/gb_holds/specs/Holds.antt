@@ -25,7 +25,7 @@ use Rattle.gb_holds.specs.Declared.{Declarations, Declaration, abstract_type, ab
 use Rattle.gb_holds.specs.Typing.{IsVariableType}
 use Rattle.gb_holds.specs.Adversary.{Adversary, type_named}
 use Rattle.gb_holds.specs.Settings.{Table, Interpretation, interpreted, with_program, types_of, setting, declared_globals}
-use Rattle.gb_holds.specs.Programs.{IsRising, AreIn, IsProgramFor}
+use Rattle.gb_holds.specs.Programs.{AreOnce, AreIn, IsProgramFor}
 use Rattle.gb_holds.specs.Within.{IsWithin}
 use Rattle.gb_holds.specs.Truth.{Truth}
 
@@ -82,11 +82,11 @@ AxiomsAreTrue all [] i = Unit {0}
 AxiomsAreTrue all ((n, axiom_of q) ∷ ds) i = IsTrueSequent all q i × AxiomsAreTrue all ds i
 AxiomsAreTrue all (d ∷ ds) i = AxiomsAreTrue all ds i
 
--- A model of the declarations: a world of finite types that has the globals declared, and may have more; sizes of at least
--- 1; functions of the types of the abstract operators; and all axioms are true.
+-- A model of the declarations: a world of finite types that has the globals declared, each once, and may have more; sizes of
+-- at least 1; functions of the types of the abstract operators; and all axioms are true.
 pub record IsModel (ds : Declarations) (i : Interpretation) : Type 0 where
   pub sizes : (n : Name) → 0 < i.size n
-  pub rising : IsRising i.world
+  pub once : AreOnce i.world
   pub types : HaveVariableTypes (types_of ds i) i.world
   pub known : AreIn i.world (declared_globals ds)
   pub results : GiveResults ds (types_of ds i) i.table

@@ -1,22 +1,25 @@
 -- Which programs are programs for a module type.
-use Rattle.std.specs.Prelude.{◌≡◌, List, [], ◌∷◌, Option, Some, None, map}
-use Rattle.std.specs.declared.cmp.Ordering.TheVariants.{Less}
+use Rattle.std.specs.Prelude.{◌≡◌, false, List, [], ◌∷◌, Option, Some, None, map, filter}
+use Rattle.std.specs.List.{list_any}
 use Rattle.gb_meaning.specs.Values.{Global, World}
 use Rattle.gb_meaning.specs.Program.{Routine, Oracle}
 use Rattle.gb_meaning.specs.Setting.{Setting}
 use Rattle.gb_meaning.specs.Sound.{FullRoutine}
 use Rattle.gb_holds.specs.Declared.{Declarations, ModuleType, Signature}
 use Rattle.gb_holds.specs.Modules.{found}
-use Rattle.gb_holds.specs.Footprints.{global_order}
+use Rattle.gb_holds.specs.Footprints.{is_global}
 use Rattle.gb_holds.specs.Typing.{global_type, IsTypedRoutine}
 use Rattle.gb_meaning.specs.Written.{params_of, result_type}
 use Rattle.gb_holds.specs.Adversary.{Adversary, callable}
 
--- globals in order, each once
-abbrev pub IsRising : List Global → Type 0
-IsRising [] = Unit {0}
-IsRising (x ∷ []) = Unit {0}
-IsRising (x ∷ y ∷ xs) = (global_order x y ≡ Less) × IsRising (y ∷ xs)
+-- each global once
+abbrev pub AreOnce : List Global → Type 0
+AreOnce [] = Unit {0}
+AreOnce (x ∷ xs) = (list_any (is_global x) xs ≡ false) × AreOnce xs
+
+-- some globals of a world in its order: those of the world that are among them
+abbrev pub AreInOrder : World → List Global → Type 0
+AreInOrder w xs = filter (λ g. list_any (is_global g) xs) w ≡ xs
 
 -- each is a global of the world, at its type
 abbrev pub AreIn : World → List Global → Type 0
@@ -38,10 +41,10 @@ HasProcedures ds g t a [] = Unit {0}
 HasProcedures ds g t a (s ∷ ss) =
     IsProcedureFor g (callable ds t s) a.footprint s (found a.procedures s.name) × HasProcedures ds g t a ss
 
--- A program for a module type: its footprint is one of globals of the world, in order, and for each signature it has a
+-- A program for a module type: its footprint is one of globals of the world, in its order, and for each signature it has a
 -- well-typed procedure that touches no other global and calls no oracle but those that the signature names.
 pub record IsProgramFor (ds : Declarations) (g : Setting) (w : World) (t : ModuleType) (a : Adversary) : Type 0 where
-  pub rising : IsRising a.footprint
+  pub ordered : AreInOrder w a.footprint
   pub known : AreIn w a.footprint
   pub procedures : HasProcedures ds g t a t.signatures
 

@@ -1,5 +1,6 @@
 -- The setting that declarations make, where it is chosen what they leave open.
-use Rattle.std.specs.Prelude.{ℕ, List, [], ◌∷◌, ◌++◌, map, reverse, None, if◌then◌else◌, bytes_eq}
+use Rattle.std.specs.Prelude.{ℕ, Bool, List, [], ◌∷◌, ◌++◌, map, reverse, None, if◌then◌else◌, bytes_eq}
+use Rattle.std.specs.List.{list_any}
 use Rattle.gb_core.specs.declared.var.Var.{Var}
 use Rattle.gb_terms.specs.declared.decl.TypedName.{TypedName}
 use Rattle.gb_terms.specs.declared.module.Bind.{Bind}
@@ -20,6 +21,10 @@ use Rattle.gb_holds.specs.Adversary.{Adversary, type_named, with_oracles, abstra
 pub record Chosen : Type 0 where
   pub bind : Bind
   pub program : Adversary
+
+-- whether a program is chosen under this name; then the name is no declared module's
+abbrev pub is_chosen : List Chosen → Name → Bool
+is_chosen cs m = list_any (bytes_eq m) (map (λ c. c.bind.name) cs)
 
 -- what an operator means: its results, and their denominator where they are distributions
 pub record Function : Type 0 where
@@ -67,7 +72,7 @@ footprints ds cs =
 abbrev pub types_of : Declarations → Interpretation → Types
 types_of ds i = record {
   size = i.size;
-  footprint = λ m. footprint_globals i.world (program_footprint i.programs) (footprint (footprints ds i.programs) m);
+  footprint = λ m. footprint_globals i.world (program_footprint i.programs) (footprint (footprints ds i.programs) (is_chosen i.programs) m);
 }
 
 -- a setting in which no operator and no procedure is declared: each operator means the function that is chosen for it
@@ -86,10 +91,11 @@ with_operator g n f k = record g {
   denominator = λ m. if bytes_eq m n then k else g.denominator m;
 }
 
--- An operator with a body means its body; one without a body means the function that is chosen for it.
+-- An operator with a body means its body; one without a body means the function that is chosen for it, and gives no
+-- distribution.
 abbrev pub with_declaration : Table → Setting → Name → Declaration → Setting
 with_declaration table g n (operator o) = with_operator g n (λ xs. val g quiet o.body (at_arguments xs)) (denominator g o.body)
-with_declaration table g n (abstract_operator o) = with_operator g n (table n).result (table n).denominator
+with_declaration table g n (abstract_operator o) = with_operator g n (table n).result 1
 with_declaration table g n _ = g
 
 -- the setting with the declared operators; a body sees those before it

@@ -1,5 +1,5 @@
 -- The programs within a binder: those of its module type that keep to its restriction and to its bounds.
-use Rattle.std.specs.Prelude.{◌≡◌, Bool, false, ◌&&◌, if◌then◌else◌, List, [], ◌∷◌, ◌++◌, map, filter, bytes_eq}
+use Rattle.std.specs.Prelude.{◌≡◌, false, if◌then◌else◌, List, [], ◌∷◌, ◌++◌, filter, bytes_eq}
 use Rattle.std.specs.List.{list_any}
 use Rattle.gb_terms.specs.declared.module.Bind.{Bind}
 use Rattle.gb_terms.specs.declared.module.Mexp.TheVariants.{Name as named}
@@ -8,22 +8,15 @@ use Rattle.gb_meaning.specs.Values.{Global, World}
 use Rattle.gb_meaning.specs.Setting.{Setting}
 use Rattle.gb_holds.specs.Declared.{Declarations}
 use Rattle.gb_holds.specs.Adversary.{Adversary, type_named}
-use Rattle.gb_holds.specs.Settings.{Chosen, Interpretation, setting, declared_globals}
+use Rattle.gb_holds.specs.Settings.{Chosen, is_chosen, Interpretation, setting, declared_globals}
+use Rattle.gb_holds.specs.Footprints.{is_global}
 use Rattle.gb_holds.specs.Programs.{IsProgramFor, AreNamed, AreFull}
 use Rattle.gb_holds.specs.Bounds.{IsBounded}
-
--- whether two globals are the same
-abbrev pub is_global : Global → Global → Bool
-is_global x y = bytes_eq x.parent y.parent && bytes_eq x.name y.name
 
 -- no global is among these
 abbrev pub AreApart : List Global → List Global → Type 0
 AreApart [] ys = Unit {0}
 AreApart (x ∷ xs) ys = (list_any (is_global x) ys ≡ false) × AreApart xs ys
-
--- whether a program is chosen under this name; then the name is no declared module's
-abbrev pub is_chosen : List Chosen → Name → Bool
-is_chosen cs m = list_any (bytes_eq m) (map (λ c. c.bind.name) cs)
 
 -- the globals that the module of this name declares
 abbrev pub own_globals : Declarations → List Chosen → Name → List Global

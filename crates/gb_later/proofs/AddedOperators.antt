@@ -75,8 +75,8 @@ module _ (n : Name) (f : List Meaning → Meaning) (k : ℕ) where
         ∙ with-changed (with_declaration u g m (operator b)) ds h.1 o.1
     with-changed g ((m, abstract_operator b) ∷ ds) h o =
         ap (λ z. with_operators (changed u n f k) z ds)
-        ((λ i. with_operator (with_operator g n f k) m (λ xs. if differ n m h.0 i then f xs else (u m).result xs) (if differ n m h.0 i then k else (u m).denominator))
-        ∙ apart g m (u m).result (u m).denominator (differ n m h.0))
+        ((λ i. with_operator (with_operator g n f k) m (λ xs. if differ n m h.0 i then f xs else (u m).result xs) 1)
+        ∙ apart g m (u m).result 1 (differ n m h.0))
         ∙ with-changed (with_declaration u g m (abstract_operator b)) ds h.1 o.1
     with-changed g ((m, abstract_type) ∷ ds) h o = with-changed g ds h.1 o.1
     with-changed g ((m, module_type t) ∷ ds) h o = with-changed g ds h.1 o.1
@@ -119,7 +119,7 @@ module _ (ds : Declarations) (n : Name) (fresh : IsFresh ds n) (own : OperatorsN
   }
 
   pub before-abstract : (o : AbstractOperator) → Before ds (ds ++ (n, abstract_operator o) ∷ []) w size u
-  before-abstract o = before-operator (abstract_operator o) tt (u n).result (u n).denominator (λ y e. refl)
+  before-abstract o = before-operator (abstract_operator o) tt (u n).result 1 (λ y e. refl)
 
   abbrev first : Types
   first = types_of ds (interpreted w size u [])

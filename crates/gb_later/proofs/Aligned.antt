@@ -1,11 +1,10 @@
 -- Scopes that are aligned: names that are kept mean the same, whatever further programs are chosen.
-use Rattle.std.proofs.Common.{◌≡◌, ℕ, Bool, true, false, if◌then◌else◌, List, [], ◌∷◌, ◌++◌, filter, bytes_eq, sym}
+use Rattle.std.proofs.Common.{◌≡◌, ℕ, if◌then◌else◌, List, [], ◌∷◌, ◌++◌, filter, bytes_eq, sym}
 use Rattle.gb_meaning.specs.Names.{Name}
 use Rattle.gb_meaning.specs.Values.{Global, World}
 use Rattle.gb_holds.specs.Declared.{Declarations, abstract_type, operator, abstract_operator, module_type, concrete_module, abstract_module, axiom_of, lemma, terminating}
-use Rattle.gb_holds.specs.Settings.{Chosen, Table, Interpretation, interpreted, program_footprint, setting, globals_from, declared_globals}
+use Rattle.gb_holds.specs.Settings.{Chosen, is_chosen, Table, Interpretation, interpreted, setting, globals_from, declared_globals}
 use Rattle.gb_holds.specs.Holds.{InEachModel}
-use Rattle.gb_holds.specs.Within.{is_chosen}
 use Rattle.gb_holds.specs.Naming.{AnyName, IsFresh, IsTypeIn}
 use Rattle.gb_holds.proofs.ModuleTypes.{ChosenIn}
 use Rattle.gb_holds.proofs.SameScope.{SameTypes}
@@ -20,15 +19,6 @@ AreApartPrograms es ds (c ∷ cs) = (EachPlain c.program.footprint × IsTypeIn (
 pub chosen-in : (es ds : Declarations) (cs : List Chosen) → AreApartPrograms es ds cs → ChosenIn (IsFresh es) ds cs
 chosen-in es ds [] p = tt
 chosen-in es ds (c ∷ cs) p = (p.0.1, chosen-in es ds cs p.1)
-
-plain-if : (b : Bool) (xs ys : List Global) → EachPlain xs → EachPlain ys → EachPlain (if b then xs else ys)
-plain-if true xs ys h k = h
-plain-if false xs ys h k = k
-
-pub plain-programs : (es ds : Declarations) (cs : List Chosen) → AreApartPrograms es ds cs → (n : Name) → EachPlain (program_footprint cs n)
-plain-programs es ds [] p n = tt
-plain-programs es ds (c ∷ cs) p n =
-    plain-if (bytes_eq n c.bind.name) c.program.footprint (program_footprint cs n) p.0.0 (plain-programs es ds cs p.1 n)
 
 pub append-programs : (es ds : Declarations) (js cs : List Chosen) → AreApartPrograms es ds js → AreApartPrograms es ds cs → AreApartPrograms es ds (js ++ cs)
 append-programs es ds [] cs p q = q

@@ -7,9 +7,8 @@ use Rattle.gb_meaning.specs.Program.{Routine}
 use Rattle.gb_holds.specs.Declared.{Declarations}
 use Rattle.gb_holds.specs.Modules.{Applied, Modules, with_module}
 use Rattle.gb_holds.specs.Adversary.{type_named, with_oracles, abstract_footprint}
-use Rattle.gb_holds.specs.Settings.{Chosen, program_footprint, with_abstract_footprints, with_abstract_programs}
+use Rattle.gb_holds.specs.Settings.{Chosen, is_chosen, program_footprint, with_abstract_footprints, with_abstract_programs}
 use Rattle.gb_holds.specs.Naming.{IsFresh}
-use Rattle.gb_holds.specs.Within.{is_chosen}
 use Rattle.gb_later.specs.Naming.{chosen_names, IsAmong, IsKept}
 use Rattle.gb_later.proofs.KeptNames.{unless, among-behind, kept-behind}
 

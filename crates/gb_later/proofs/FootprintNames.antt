@@ -21,8 +21,8 @@ use Rattle.gb_holds.specs.Declared.{Declarations, ModuleType, Signature, abstrac
 use Rattle.gb_holds.specs.Modules.{Procedures, Functor, Applied, Modules, found, closed, no_module, argument, module_at, modules_at, procedure_at, with_module, with_params, with_procedures, module_read, modules_of}
 use Rattle.gb_holds.specs.Linking.{oracle_of}
 use Rattle.gb_holds.specs.Adversary.{type_named, oracles_called, oracle_footprints, signature_footprints, abstract_footprint}
-use Rattle.gb_holds.specs.Footprints.{placed, inserted, in_order, var_order, globals_among, of_callee, variables, variables_in, touched, touched_in, body_touched, footprint_read, of_all, footprint}
-use Rattle.gb_holds.specs.Settings.{Chosen, with_abstract_footprints, footprints}
+use Rattle.gb_holds.specs.Footprints.{placed, inserted, in_order, var_order, globals_among, of_callee, variables, variables_in, touched, touched_in, body_touched, footprint_read, of_all, head_name, own_entry, footprint}
+use Rattle.gb_holds.specs.Settings.{Chosen, is_chosen, with_abstract_footprints, footprints}
 use Rattle.gb_holds.specs.Naming.{EachName, EachNameIn, EachCall, EachCallIn, EachCallOf, IsFresh}
 use Rattle.gb_later.specs.Naming.{IsKept, VariableNames, VariablesName}
 use Rattle.gb_later.specs.Added.{param_names, CodeNames, CodesName, ModulesName}
@@ -257,13 +257,22 @@ module _ (P : Name → Type 0) where
       all-in [] h = tt
       all-in (p ∷ ps) h = append-names p.1 (of_all ps) h.0 (all-in ps h.1)
 
+      head-names : (m : Mexp) → EachName P m → P (head_name m)
+      head-names (named m) h = h
+      head-names (Apply' m n args) h = h.0
+
+      own-names : (b : Bool) (n : Name) → P n → VariablesName P (if b then var.Glob n ∷ [] else [])
+      own-names true n h = (h, tt)
+      own-names false n h = tt
+
       -- the footprint of what names modules in P, where the declared modules name nothing that is added
-      pub footprint-names : ModulesName (IsFresh es) ds → (cs : List Chosen) (m : Mexp) → EachName P m → VariablesName P (footprint (footprints ds cs) m)
+      pub footprint-names : ModulesName (IsFresh es) ds → (cs : List Chosen) (m : Mexp) → EachName P m → VariablesName P (footprint (footprints ds cs) (is_chosen cs) m)
       footprint-names c cs m h =
-          ordered-names (of_all (module_at (footprints ds cs) m []))
+          ordered-names (own_entry (is_chosen cs) m ++ of_all (module_at (footprints ds cs) m []))
+          (append-names (own_entry (is_chosen cs) m) (of_all (module_at (footprints ds cs) m [])) (own-names (is_chosen cs (head_name m)) (head_name m) (head-names m h))
           (all-in (module_at (footprints ds cs) m [])
           (module-in (footprints ds cs) m
           (each-name P (λ n. IsAppliedIn (footprints ds cs n))
           (chosen-in cs (modules_of footprint_read (with_abstract_footprints ds cs (λ n. no_module)) ds)
           (declared-in ds c (with_abstract_footprints ds cs (λ n. no_module)) (chosen-in cs (λ n. no_module) (λ n p args a. tt)))) m h)
-          [] tt))
+          [] tt)))

@@ -117,7 +117,7 @@ module _ (ds es : Declarations) (c : IsScopeApart es ds) (w : World) (size : Nam
       let types = types-back u t refl w m.types in
       record {
         sizes = m.sizes;
-        rising = m.rising;
+        once = m.once;
         types = types;
         known = known-front w ds es m.known;
         results = results-alike ds c.operators (results-front es ds u table m.results);

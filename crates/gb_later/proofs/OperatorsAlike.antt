@@ -62,7 +62,7 @@ module _ (P Q : Name → Type 0) (t : Table) where
     footprints = a.footprints;
     operators = λ m p. (
       λ k xs. if bytes_eq m n then (t n).result xs else (a.operators m p).0 k xs,
-      λ k. if bytes_eq m n then (t n).denominator else (a.operators m p).1 k,
+      λ k. if bytes_eq m n then 1 else (a.operators m p).1 k,
     );
     procedures = a.procedures;
   }

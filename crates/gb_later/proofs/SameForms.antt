@@ -165,6 +165,7 @@ module _ (g h : Setting) where
     sound_forms (more_of-Term t ts) k w = (sound_form t k.0 w.0, sound_forms ts k.1 w.1)
 
     sound-head : (hd : Head) → SameJudged g h hd → is_sound_at g hd → is_sound_at h hd
+    sound-head (head.Pr p r) k w = subject-to (Proc p) k w
     sound-head (head.Hoare c) k w = subject-to c k w
     sound-head (head.Phoare c r) k w = subject-to c k w
     sound-head (head.Equiv c d) k w = (subject-to c k.0 w.0, subject-to d k.1 w.1)

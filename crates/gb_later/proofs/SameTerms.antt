@@ -22,7 +22,7 @@ use Rattle.gb_meaning.specs.Setting.{Meaning, Setting}
 use Rattle.gb_meaning.specs.Setting.Meaning.{finite, weights, fraction}
 use Rattle.gb_meaning.specs.Meanings.{of_truth, value_in, truth}
 use Rattle.gb_meaning.specs.Distributions.{uniform}
-use Rattle.gb_meaning.specs.Operators.{Argument, operated, nullary, unary, binary, ternary, denominator_at, entry_set}
+use Rattle.gb_meaning.specs.Operators.{Argument, operated, nullary, unary, binary, ternary, denominator_at, denominator_over, entry_set}
 use Rattle.gb_meaning.specs.State.{State, memory_of, at}
 use Rattle.gb_meaning.specs.Terms.{Speaks, Part, last_of, before_last, argument, at_value, each_value, some_value, at_head, val, parts, denominator_of, denominator, denominators, quiet}
 use Rattle.gb_later.specs.Agreement.{SameValues, SameType, SameGlobals, SameRead, SameLeaf, SameTerm, SameTerms}
@@ -74,7 +74,7 @@ module _ (t u : Types) where
 module _ (g h : Setting) where
   tree_same : (hd : Head) (ks : List ℕ) (ty : Ty) → SameLeaf g h hd ty → denominator_of g hd ks ty ≡ denominator_of h hd ks ty
   tree_same (head.Builtin o) ks ty e = size_same g.types h.types o ty ks e
-  tree_same (head.User n) ks ty e = e.1
+  tree_same (head.User n) ks ty e = ap (denominator_over ty) e.1
   tree_same _ ks ty e = refl
 
   mutual

@@ -1,19 +1,21 @@
 -- What is true in each model goes on to be so when an open section declares an abstract module that the scope doesn't name.
-use Rattle.std.proofs.Common.{◌≡◌, ℕ, inl, false, List, [], ◌∷◌, ◌++◌, None, bytes_eq, refl, sym, ap, ◌∙◌, subst}
+use Rattle.std.proofs.Common.{◌≡◌, ℕ, inl, Bool, false, ◌||◌, if◌then◌else◌, List, [], ◌∷◌, ◌++◌, filter, None, bytes_eq, refl, sym, ap, ◌∙◌, subst}
 use Rattle.std.proofs.Math.Path.{fun_ext}
+use Rattle.std.specs.List.{list_any}
 use Rattle.gb_core.specs.declared.var.Var.{Var}
 use Rattle.gb_core.specs.declared.var.Var.TheVariants as var
 use Rattle.gb_terms.specs.declared.module.Bind.{Bind}
 use Rattle.gb_terms.specs.declared.module.Mexp.{Mexp}
+use Rattle.gb_terms.specs.declared.module.Mexp.TheVariants.{Name as named, Apply'}
 use Rattle.gb_meaning.specs.Names.{Name}
 use Rattle.gb_meaning.specs.Values.{Global, World}
 use Rattle.gb_meaning.specs.Setting.{Setting}
 use Rattle.gb_holds.specs.Declared.{Declarations, abstract_type, operator, abstract_operator, module_type, concrete_module, abstract_module, axiom_of, lemma, terminating, module_type_in}
-use Rattle.gb_holds.specs.Modules.{Modules, Reading, no_module, modules_of, module_at}
+use Rattle.gb_holds.specs.Modules.{Modules, Reading, no_module, modules_of}
 use Rattle.gb_holds.specs.Linking.{linked_procedure}
-use Rattle.gb_holds.specs.Footprints.{in_order, of_all, var_order, global_order, globals_named, entries_globals, footprint_globals, footprint_read, footprint}
+use Rattle.gb_holds.specs.Footprints.{in_order, of_all, var_order, own_entry, is_global, stands_for, footprint_globals, footprint_read, footprint}
 use Rattle.gb_holds.specs.Adversary.{type_named}
-use Rattle.gb_holds.specs.Settings.{Chosen, Table, Interpretation, interpreted, with_program, program_footprint, with_abstract_footprints, footprints, types_of, with_declaration, with_operators, with_abstract_programs, linked_modules}
+use Rattle.gb_holds.specs.Settings.{Chosen, is_chosen, Table, Interpretation, interpreted, with_program, program_footprint, with_abstract_footprints, footprints, types_of, with_declaration, with_operators, with_abstract_programs, linked_modules}
 use Rattle.gb_holds.specs.Holds.{EachProgram, declared_modules, interpretation}
 use Rattle.gb_holds.specs.Naming.{AnyName, EachName, IsFresh}
 use Rattle.gb_holds.proofs.Later.{same_module, declared_after}
@@ -22,7 +24,7 @@ use Rattle.gb_later.specs.Agreement.{SameFootprint}
 use Rattle.gb_later.specs.Naming.{chosen_names, IsKept, VariablesName, OperatorsName}
 use Rattle.gb_later.specs.Formed.{IsScopeApart}
 use Rattle.gb_later.specs.Added.{ModulesName, AreBoundApart, IsNewModule}
-use Rattle.gb_later.proofs.PlainGlobals.{EachPlain, plain_world, plain_footprint, plain-globals}
+use Rattle.gb_later.proofs.PlainGlobals.{EachPlain, plain_world, plain_kept, plain-globals}
 use Rattle.gb_later.proofs.OperatorsAlike.{linking_same}
 use Rattle.gb_later.proofs.KeptNames.{EachFresh, kept-front, each-name}
 use Rattle.gb_later.proofs.ModulesAlike.{linking-looks, footprint-looks, modules-alike}
@@ -30,7 +32,7 @@ use Rattle.gb_later.proofs.FootprintNames.{footprint-names}
 use Rattle.gb_later.proofs.ChosenPrograms.{programs-further, footprints-further, touched-further, chosen-further}
 use Rattle.gb_later.proofs.SettingsAgree.{settings_agree}
 use Rattle.gb_later.proofs.NewNames.{owns-none}
-use Rattle.gb_later.proofs.Aligned.{AreApartPrograms, append-programs, plain-programs, Aligned, GoesOn, owned-alike}
+use Rattle.gb_later.proofs.Aligned.{AreApartPrograms, append-programs, Aligned, GoesOn, owned-alike}
 use Rattle.gb_later.proofs.SequentsAlike.{each-later}
 use Rattle.gb_later.proofs.ModelsEarlier.{model-earlier}
 
@@ -59,12 +61,23 @@ declared-then ((n, lemma q) ∷ ds) es = declared-then ds es
 declared-then ((n, terminating f) ∷ ds) es = declared-then ds es
 
 -- entries of a footprint stand for the same globals where programs of their names touch the same
-entries-alike : (w : World) (P : Name → Type 0) (f g : Name → List Global) → ((n : Name) → P n → f n ≡ g n) → (xs : List Var) → VariablesName P xs →
-    entries_globals w f xs ≡ entries_globals w g xs
-entries-alike w P f g e [] h = refl
-entries-alike w P f g e (var.Global m x ∷ xs) h = ap (λ z. globals_named w m x ++ z) (entries-alike w P f g e xs h.1)
-entries-alike w P f g e (var.Local x ∷ xs) h = entries-alike w P f g e xs h.1
-entries-alike w P f g e (var.Glob a ∷ xs) h = λ i. e a h.0 i ++ entries-alike w P f g e xs h.1 i
+entries-alike : (P : Name → Type 0) (f h : Name → List Global) → ((n : Name) → P n → f n ≡ h n) → (g : Global) (xs : List Var) → VariablesName P xs →
+    list_any (stands_for f g) xs ≡ list_any (stands_for h g) xs
+entries-alike P f h e g [] k = refl
+entries-alike P f h e g (var.Global m x ∷ xs) k = ap (λ z. stands_for h g (var.Global m x) || z) (entries-alike P f h e g xs k.1)
+entries-alike P f h e g (var.Local x ∷ xs) k = entries-alike P f h e g xs k.1
+entries-alike P f h e g (var.Glob a ∷ xs) k = λ i. list_any (is_global g) (e a k.0 i) || entries-alike P f h e g xs k.1 i
+
+globals-alike : (w : World) (P : Name → Type 0) (f h : Name → List Global) → ((n : Name) → P n → f n ≡ h n) → (xs : List Var) → VariablesName P xs →
+    footprint_globals w f xs ≡ footprint_globals w h xs
+globals-alike w P f h e xs k =
+    let same : ◌≡◌ {A = Global → Bool} (λ g. list_any (stands_for f g) xs) (λ g. list_any (stands_for h g) xs) = fun_ext (λ g. entries-alike P f h e g xs k) in
+    ap (λ p. filter p w) same
+
+-- an abstract module stands for itself where its name is that of one
+own-alike : (P : Name → Type 0) (f h : Name → Bool) → ((n : Name) → P n → f n ≡ h n) → (m : Mexp) → EachName P m → own_entry f m ≡ own_entry h m
+own-alike P f h e (named m) k = λ i. if e m k i then var.Glob m ∷ [] else []
+own-alike P f h e (Apply' m n args) k = λ i. if e m k.0 i then var.Glob m ∷ [] else []
 
 module _ (ds : Declarations) (n : Name) (b : Bind) where
   abbrev es : Declarations
@@ -99,16 +112,15 @@ module _ (ds : Declarations) (n : Name) (b : Bind) where
 
   module _ (modules : ModulesName (IsFresh es) ds) (o : OperatorsName (IsFresh es) AnyName ds) (w : World) (size : Name → ℕ) (table : Table) (h : EachPlain w) where
     module _ (P : Name → Type 0) (sub : (k : Name) → IsFresh es k → P k) (cs ks : List Chosen) (p : AreApartPrograms es ds cs)
-        (touched : (k : Name) → P k → program_footprint cs k ≡ program_footprint ks k) (prints : (k : Name) → P k → footprints ds cs k ≡ footprints later ks k) where
+        (touched : (k : Name) → P k → program_footprint cs k ≡ program_footprint ks k) (chosen : (k : Name) → P k → is_chosen cs k ≡ is_chosen ks k) (prints : (k : Name) → P k → footprints ds cs k ≡ footprints later ks k) where
       same-footprint : (m : Mexp) → EachName P m → SameFootprint (types_of ds (interpreted w size table cs)) (types_of later (interpreted w size table ks)) m
       same-footprint m f = (
-        (λ i. in_order global_order
-            (entries-alike w P (program_footprint cs) (program_footprint ks) touched (footprint (footprints ds cs) m) (footprint-names P es sub ds modules cs m f) i))
-            ∙ (λ i. footprint_globals w (program_footprint ks)
-            (in_order var_order (of_all (same_module (footprints ds cs) (footprints later ks) m (each-name P (λ k. footprints ds cs k ≡ footprints later ks k) prints m f) i [])))),
+        globals-alike w P (program_footprint cs) (program_footprint ks) touched (footprint (footprints ds cs) (is_chosen cs) m) (footprint-names P es sub ds modules cs m f)
+            ∙ (λ i. footprint_globals w (program_footprint ks) (in_order var_order (own-alike P (is_chosen cs) (is_chosen ks) chosen m f i
+            ++ of_all (same_module (footprints ds cs) (footprints later ks) m (each-name P (λ k. footprints ds cs k ≡ footprints later ks k) prints m f) i [])))),
         plain-globals (types_of ds (interpreted w size table cs)) (types_of later (interpreted w size table ks)) refl
             ((types_of ds (interpreted w size table cs)).footprint m)
-            (plain_footprint w h (program_footprint cs) (plain-programs es ds cs p) (in_order var_order (of_all (module_at (footprints ds cs) m [])))),
+            (plain_kept (λ x. list_any (stands_for (program_footprint cs) x) (footprint (footprints ds cs) (is_chosen cs) m)) w h),
       )
 
     linked-before : (g l : Setting) (cs : List Chosen) (k : Name) → linked_modules ds g cs k ≡ linked_modules later l cs k
@@ -126,7 +138,7 @@ module _ (ds : Declarations) (n : Name) (b : Bind) where
           let cs : List Chosen = js ++ [] in
           let P : Name → Type 0 = IsKept es (chosen_names cs) in
           settings_agree es ds later P (λ k f. inl f) w size table cs cs (λ g. operators-stay table g ds) o
-          (same-footprint P (λ k f. inl f) cs cs (append-programs es ds js [] p tt) (λ k x. refl) (λ k x. footprints-stay cs k))
+          (same-footprint P (λ k f. inl f) cs cs (append-programs es ds js [] p tt) (λ k x. refl) (λ k x. refl) (λ k x. footprints-stay cs k))
           (λ g l k x. linked-before g l cs k);
     }
 
@@ -159,6 +171,7 @@ module _ (ds : Declarations) (n : Name) (b : Bind) where
             settings_agree es ds later (P js) (λ k f. inl f) w size table (js ++ rest) (js ++ c ∷ rest) (λ g. operators-stay table g ds) o
             (same-footprint (P js) (λ k f. inl f) (js ++ rest) (js ++ c ∷ rest) (append-programs es ds js rest q p)
             (λ k x. touched-further es c other rest js k (kept-front es rest free js k x))
+            (λ k x. chosen-further es c other rest js k (kept-front es rest free js k x))
             (λ k x. further-footprints js k x ∙ footprints-stay (js ++ c ∷ rest) k))
             (λ g l k x. further-linked js g k x ∙ linked-before g l (js ++ c ∷ rest) k);
       }

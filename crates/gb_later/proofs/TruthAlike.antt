@@ -16,11 +16,11 @@ use Rattle.gb_meaning.specs.State.Binding.{value, memory, program}
 use Rattle.gb_meaning.specs.Judgments.{IsTrueIn}
 use Rattle.gb_holds.specs.Declared.{Declarations, ModuleType}
 use Rattle.gb_holds.specs.Adversary.{Adversary, type_named}
-use Rattle.gb_holds.specs.Settings.{Chosen, Table, Interpretation, interpreted, setting}
+use Rattle.gb_holds.specs.Settings.{Chosen, is_chosen, Table, Interpretation, interpreted, setting}
 use Rattle.gb_holds.specs.Naming.{AnyName, IsFresh, EachParam, IsTypeIn}
 use Rattle.gb_holds.specs.Programs.{AreIn, IsProgramFor, AreNamed, AreFull}
 use Rattle.gb_holds.specs.Bounds.{IsBounded}
-use Rattle.gb_holds.specs.Within.{AreApart, is_chosen, own_globals, excluded, KeepsOff, IsWithinIn, IsWithin}
+use Rattle.gb_holds.specs.Within.{AreApart, own_globals, excluded, KeepsOff, IsWithinIn, IsWithin}
 use Rattle.gb_holds.specs.Truth.{Choice, last_has_module, IsFirstTrue, Truth, TruthOfLast}
 use Rattle.gb_holds.proofs.SameScope.{SameTypes, program-to, bounded-to}
 use Rattle.gb_later.specs.Naming.{chosen_names, IsKept}

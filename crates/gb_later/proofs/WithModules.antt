@@ -1,6 +1,7 @@
 -- A setting agrees with the one of further modules on all names but theirs.
 use Rattle.std.proofs.Common.{◌≡◌, ℕ, inl, inr, List, [], ◌∷◌, ◌++◌, refl, sym, ◌∙◌}
 use Rattle.std.proofs.Math.Path.{fun_ext}
+use Rattle.std.specs.List.{list_any}
 use Rattle.gb_core.specs.declared.var.Var.{Var}
 use Rattle.gb_terms.specs.declared.module.Mexp.{Mexp}
 use Rattle.gb_meaning.specs.Program.{Routine}
@@ -8,21 +9,21 @@ use Rattle.gb_meaning.specs.Names.{Name}
 use Rattle.gb_meaning.specs.Values.{World}
 use Rattle.gb_meaning.specs.Setting.{Setting}
 use Rattle.gb_holds.specs.Declared.{Declarations, abstract_type, operator, abstract_operator, module_type, concrete_module, abstract_module, axiom_of, lemma, terminating}
-use Rattle.gb_holds.specs.Modules.{Modules, Reading, no_module, modules_of, module_at}
+use Rattle.gb_holds.specs.Modules.{Modules, Reading, no_module, modules_of}
 use Rattle.gb_holds.specs.Linking.{linked_procedure}
-use Rattle.gb_holds.specs.Footprints.{in_order, of_all, var_order, footprint_read, footprint_globals}
-use Rattle.gb_holds.specs.Settings.{Chosen, Table, Interpretation, interpreted, program_footprint, with_abstract_footprints, footprints, types_of, with_declaration, with_operators, with_abstract_programs, linked_modules, setting}
+use Rattle.gb_holds.specs.Footprints.{in_order, of_all, var_order, footprint_read, own_entry, stands_for, footprint, footprint_globals}
+use Rattle.gb_holds.specs.Settings.{Chosen, is_chosen, Table, Interpretation, interpreted, program_footprint, with_abstract_footprints, footprints, types_of, with_declaration, with_operators, with_abstract_programs, linked_modules, setting}
 use Rattle.gb_holds.specs.Naming.{AnyName, EachName, IsFresh}
 use Rattle.gb_holds.proofs.Later.{same_module, declared_after, fresh_same}
 use Rattle.gb_holds.proofs.ModuleTypes.{types-fresh, programs_at, footprints_at}
 use Rattle.gb_later.specs.Agreement.{SameFootprint}
 use Rattle.gb_later.specs.Naming.{chosen_names, IsKept, AgreeOn, AreModulesOrStatements, OperatorsName}
-use Rattle.gb_later.proofs.PlainGlobals.{EachPlain, plain_footprint, plain-globals}
+use Rattle.gb_later.proofs.PlainGlobals.{EachPlain, plain_kept, plain-globals}
 use Rattle.gb_later.proofs.OperatorsAlike.{linking_same}
 use Rattle.gb_later.proofs.KeptNames.{each-name}
 use Rattle.gb_later.proofs.ChosenPrograms.{programs-hidden, footprints-hidden}
 use Rattle.gb_later.proofs.SettingsAgree.{narrowed, settings_agree}
-use Rattle.gb_later.proofs.Aligned.{AreApartPrograms, chosen-in, plain-programs}
+use Rattle.gb_later.proofs.Aligned.{AreApartPrograms, chosen-in}
 
 operators_after : (t : Table) (g : Setting) (ds es : Declarations) → AreModulesOrStatements es → with_operators t g (ds ++ es) ≡ with_operators t g ds
 operators_after t g (d ∷ ds) es s = operators_after t (with_declaration t g d.0 d.1) ds es s
@@ -72,9 +73,9 @@ module _ (ds es : Declarations) (s : AreModulesOrStatements es) where
     same-footprint : (m : Mexp) → EachName P m → SameFootprint (types_of ds k) (types_of (ds ++ es) k) m
     same-footprint m f = (
       λ i. footprint_globals w (program_footprint cs)
-          (in_order var_order (of_all (same_module (footprints ds cs) (footprints (ds ++ es) cs) m (each-name P (λ n. footprints ds cs n ≡ footprints (ds ++ es) cs n) footprints-agree m f) i []))),
+          (in_order var_order (own_entry (is_chosen cs) m ++ of_all (same_module (footprints ds cs) (footprints (ds ++ es) cs) m (each-name P (λ n. footprints ds cs n ≡ footprints (ds ++ es) cs n) footprints-agree m f) i []))),
       plain-globals (types_of ds k) (types_of (ds ++ es) k) refl ((types_of ds k).footprint m)
-          (plain_footprint w h (program_footprint cs) (plain-programs es ds cs p) (in_order var_order (of_all (module_at (footprints ds cs) m [])))),
+          (plain_kept (λ x. list_any (stands_for (program_footprint cs) x) (footprint (footprints ds cs) (is_chosen cs) m)) w h),
     )
 
     linked-agree : (g l : Setting) (n : Name) → P n → linked_modules ds g cs n ≡ linked_modules (ds ++ es) l cs n

@@ -163,7 +163,7 @@ module _ (g h : Setting) (a : SameBasis g h) (w : World) (p : EachPlain w) (ds :
   inside = plain-in w p v.footprint x.known
 
   pub program-alike : IsProgramFor ds h w t v
-  program-alike = record { rising = x.rising; known = x.known; procedures = procedures-alike g h a w p ds t v inside t.signatures x.procedures }
+  program-alike = record { ordered = x.ordered; known = x.known; procedures = procedures-alike g h a w p ds t v inside t.signatures x.procedures }
 
   oracles-back : (os : Oracles) → AreOracles ds h w t os → AreOracles ds g w t os
   oracles-back os k = oracles-alike h g (turned-basis g h a) w p ds t os k

@@ -23,7 +23,7 @@ use Rattle.gb_meaning.specs.Setting.{Meaning, Setting}
 use Rattle.gb_meaning.specs.Setting.Meaning.{finite, whole, fraction, weights}
 use Rattle.gb_meaning.specs.Meanings.{value_in, truth, weights_in, scaled}
 use Rattle.gb_meaning.specs.Distributions.{coin, values_below, uniform, stated, sum_of_weights, product, restricted}
-use Rattle.gb_meaning.specs.Operators.{Argument, chosen, outcome_type, operated, denominator_at}
+use Rattle.gb_meaning.specs.Operators.{Argument, chosen, outcome_type, is_distribution, operated, denominator_at}
 use Rattle.gb_meaning.specs.State.{State}
 use Rattle.gb_meaning.specs.Terms.{quiet, Part, first_of, last_of, argument, at_value, at_head, val, parts, denominator, denominators, denominator_of}
 use Rattle.gb_meaning.specs.Sound.{IsDistribution, IsFull, IsSound, IsSoundRoutine, Full, FullRoutine}
@@ -174,7 +174,10 @@ module _ (g : Setting) (d : Drawing) (o : OperatorsDraw g d) where
       same_args s [] = refl
       same_args s (p ∷ ps) = ap (λ z. argument s p.1 ∷ z) (same_args s ps)
   head_weighs u (head.User n) ty ps k h =
-      let w = o n h in
+      let both = and_parts (is_distribution ty) (d.operators n) h in
+      let w = o n both.1 in
+      subst (λ b. (0 < (if b then g.denominator n else 1)) × ((s : State) → Weighs (d.restricts ≡ false) (weights_in (g.operator n (map (λ x. x.meaning s) (map (λ p. p.1) ps)))) (if b then g.denominator n else 1)))
+      (sym both.0)
       (w.positive, λ s. record { entries = w.entries (map (λ x. x.meaning s) (map (λ p. p.1) ps)); bounded = w.bounded (map (λ x. x.meaning s) (map (λ p. p.1) ps)); full = λ f. w.full f (map (λ x. x.meaning s) (map (λ p. p.1) ps)) })
   head_weighs u (head.Weights qs) ty ps k h = (sum_positive qs h, λ s. stated_weighs qs h)
   head_weighs u head.Map ty ps k h =

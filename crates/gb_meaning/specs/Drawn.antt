@@ -15,7 +15,7 @@ use Rattle.gb_meaning.specs.Program.Program.{done, assign, sample, branch, loop,
 use Rattle.gb_meaning.specs.Program.Routine.{routine}
 use Rattle.gb_meaning.specs.Setting.{Meaning, Setting}
 use Rattle.gb_meaning.specs.Meanings.{weights_in}
-use Rattle.gb_meaning.specs.Operators.{outcome_type}
+use Rattle.gb_meaning.specs.Operators.{outcome_type, is_distribution}
 
 -- Which distributions are meant: whether `drestrict` may stand in them, and which operators of the script give one.
 pub record Drawing : Type 0 where
@@ -45,7 +45,7 @@ first_draws _ = false
 
 abbrev pub head_draws : Setting → Drawing → Head → Ty → List Bool → Bool
 head_draws g d (head.Builtin o) ty bs = operator_draws g.types o ty bs
-head_draws g d (head.User n) ty bs = d.operators n
+head_draws g d (head.User n) ty bs = is_distribution ty && d.operators n
 head_draws g d (head.Weights ps) ty bs = has_weights ps
 head_draws g d head.Map ty bs = first_draws bs
 head_draws g d head.Restrict ty bs = d.restricts && first_draws bs

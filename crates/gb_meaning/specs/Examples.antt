@@ -1,5 +1,5 @@
 -- Small programs, on which the definitions are tried.
-use Rattle.std.specs.Prelude.{ℕ, List, [], ◌∷◌, Some}
+use Rattle.std.specs.Prelude.{ℕ, List, [], ◌∷◌, Some, None}
 use Rattle.gb_core.specs.declared.ty.Ty.{Ty}
 use Rattle.gb_core.specs.declared.ty.Ty.TheVariants.{Bool, Bits, Mod, Real}
 use Rattle.gb_core.specs.declared.value.Value.TheVariants.{Num}
@@ -9,7 +9,7 @@ use Rattle.gb_terms.specs.declared.op.Op.TheVariants as op
 use Rattle.gb_terms.specs.declared.op.Side.TheVariants.{Own}
 use Rattle.gb_terms.specs.declared.op.Read.TheVariants.{Program as of_program}
 use Rattle.gb_terms.specs.declared.term.Term.{Term}
-use Rattle.gb_terms.specs.declared.term.Head.TheVariants.{Lit, Read, Builtin, Bound, Map, Restrict, Pr}
+use Rattle.gb_terms.specs.declared.term.Head.TheVariants.{Lit, Read, Builtin, User, Bound, Map, Restrict, Pr}
 use Rattle.gb_terms.specs.declared.module.Mexp.TheVariants.{Name as named}
 use Rattle.gb_terms.specs.declared.module.ProcRef.{ProcRef}
 use Rattle.gb_meaning.specs.Names.{Name}
@@ -88,6 +88,10 @@ reference = record { «module» = named b; name = x }
 abbrev pub setting_of : Types → Routine → Setting
 setting_of t r = record { types = t; operator = λ n xs. nothing; denominator = λ n. 1; procedure = λ p. Some r }
 
+-- the setting in which there is no procedure
+abbrev pub without_procedures : Types → Setting
+without_procedures t = record { types = t; operator = λ n xs. nothing; denominator = λ n. 1; procedure = λ p. None }
+
 -- `Pr[flipping(b) @ &m : res]`, for the own memory
 abbrev pub probability_of_result : Term
 probability_of_result = term (Pr reference Own) (local b Bool ∷ local result_name Bool ∷ []) Real
@@ -111,6 +115,10 @@ part_of_uniform = term Restrict (uniform (Bits 2) ∷ is_below 3 ∷ []) (distri
 -- `b ? {0,1} : dmap (uniform (bits 2)) (fun v => v < 3)`
 abbrev pub chosen_distribution : Term
 chosen_distribution = operator op.If (local b Bool ∷ coin ∷ merged ∷ []) (distributions Bool)
+
+-- the script's operator x, at no arguments
+abbrev pub named_operator : Ty → Term
+named_operator ty = term (User x) [] ty
 
 -- `oget None`
 abbrev pub value_of_none : Ty → Term

@@ -129,12 +129,13 @@ abbrev pub IsJudged : Setting → Term → Type 0
 IsJudged g (Term' p (more_of-Head h end_of-Head) n ts ty) = is_judged_at g h
 
 abbrev pub is_sound_at : Setting → Head → Type 0
+is_sound_at g (head.Pr p r) = IsSoundIfThere g (g.procedure p)
 is_sound_at g (head.Hoare c) = IsSoundSubject g c
 is_sound_at g (head.Phoare c r) = IsSoundSubject g c
 is_sound_at g (head.Equiv c d) = IsSoundSubject g c × IsSoundSubject g d
 is_sound_at g _ = Unit {0}
 
--- each judgment in the form is of sound subjects
+-- each judgment in the form is of sound subjects, and each probability is one after a sound procedure
 abbrev mutual
   pub IsSoundForm : Setting → Term → Type 0
   IsSoundForm g (Term' p (more_of-Head h end_of-Head) n ts ty) = is_sound_at g h × AllSound g ts

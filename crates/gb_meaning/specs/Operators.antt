@@ -34,6 +34,14 @@ abbrev pub outcome_type : Ty → Ty
 outcome_type (ty.Distr' p x) = only_type x
 outcome_type _ = ty.Unit
 
+abbrev pub is_distribution : Ty → Bool
+is_distribution (ty.Distr' p x) = true
+is_distribution _ = false
+
+-- the denominator of what has this type: what is no distribution has 1
+abbrev pub denominator_over : Ty → ℕ → ℕ
+denominator_over t k = if is_distribution t then k else 1
+
 -- the type of the keys of a map
 abbrev pub key_type : Ty → Ty
 key_type (ty.Map' p k q x) = only_type k

@@ -17,7 +17,7 @@ use Rattle.gb_meaning.specs.Setting.{Meaning, Setting}
 use Rattle.gb_meaning.specs.Setting.Meaning.{finite, whole, fraction, weights}
 use Rattle.gb_meaning.specs.Meanings.{nothing, of_truth, of_number, value_in, truth, fraction_in, weights_in}
 use Rattle.gb_meaning.specs.Distributions.{stated, sum_of_weights, restricted}
-use Rattle.gb_meaning.specs.Operators.{Argument, operated, denominator_at}
+use Rattle.gb_meaning.specs.Operators.{Argument, operated, denominator_at, denominator_over}
 use Rattle.gb_meaning.specs.State.{State, binding, meaning_in, memory_of, under, at}
 use Rattle.gb_meaning.specs.State.Binding.{value}
 
@@ -25,7 +25,7 @@ use Rattle.gb_meaning.specs.State.Binding.{value}
 
 abbrev pub denominator_of : Setting → Head → List ℕ → Ty → ℕ
 denominator_of g (head.Builtin o) ks ty = denominator_at g.types o ty ks
-denominator_of g (head.User n) ks ty = g.denominator n
+denominator_of g (head.User n) ks ty = denominator_over ty (g.denominator n)
 denominator_of g (head.Weights ps) ks ty = sum_of_weights ps
 denominator_of g head.Map ks ty = get_or ks 0 1
 denominator_of g head.Restrict ks ty = get_or ks 0 1

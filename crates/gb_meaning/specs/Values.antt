@@ -15,12 +15,12 @@ pub record Global : Type 0 where
   pub name : Name
   pub ty : Ty
 
--- A world: the globals that there are.
+-- A world: the globals that there are, in order.
 abbrev pub World : Type 0
 World = List Global
 
 -- What the types of a script stand for: the sizes of its abstract types, and the footprints of its modules, which
--- are the globals that a module reads or writes, in the order of variables.
+-- are the globals that a module reads or writes, in the order of the world.
 pub record Types : Type 0 where
   pub size : Name → ℕ
   pub footprint : Mexp → List Global

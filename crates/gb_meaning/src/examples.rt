@@ -13,9 +13,10 @@ ghost use Rattle.gb_meaning.specs.Setting.Meaning.{finite, fraction, weights};
 ghost use Rattle.gb_meaning.specs.State.{State, no_memory, closed, at};
 ghost use Rattle.gb_meaning.specs.Terms.{Speaks, val, denominator};
 ghost use Rattle.gb_meaning.specs.Runs.{run_denominator, out};
-ghost use Rattle.gb_meaning.specs.Judgments.{Judge, speaking};
-ghost use Rattle.gb_meaning.specs.Examples.{b, i, x, y, number, operator, memory_with, unequal_sides, counting_down, calling, flipping, setting_of};
-ghost use Rattle.gb_meaning.specs.Examples.{probability_of_result, merged, part_of_uniform, chosen_distribution, value_of_none};
+ghost use Rattle.gb_meaning.specs.Judgments.{Judge, speaking, IsSoundForm};
+ghost use Rattle.gb_meaning.specs.Examples.{b, i, x, y, number, operator, memory_with, unequal_sides, counting_down, calling, flipping, setting_of, without_procedures};
+ghost use Rattle.gb_meaning.specs.Trees.{distributions};
+ghost use Rattle.gb_meaning.specs.Examples.{probability_of_result, named_operator, merged, part_of_uniform, chosen_distribution, value_of_none};
 
 /// A local reads as it was written, and as the first value where it has no value of the type.
 pub fn reading()
@@ -62,6 +63,17 @@ pub fn call_in_new_frame()
 pub fn probability()
     ensures { (t : Types) (j : Judge) (s : State) →
         val (setting_of t flipping) (speaking (setting_of t flipping) j) probability_of_result (at s (memory_with b 1)) ≡ fraction (pos 1, 2) }
+{}
+
+/// The probability of an event after a procedure that isn't there makes no sound form.
+pub fn probability_of_no_procedure()
+    ensures { (t : Types) → IsSoundForm (without_procedures t) probability_of_result → ⊥ }
+{}
+
+/// An operator of the script has the denominator 1, whatever the setting gives it, unless its result is a distribution.
+pub fn operator_of_no_distribution()
+    ensures value { (g : Setting) → denominator g (named_operator Bool) ≡ 1 }
+    ensures distribution { (g : Setting) → denominator g (named_operator (distributions Bool)) ≡ g.denominator x }
 {}
 
 /// `oget None` is the first value of its type.

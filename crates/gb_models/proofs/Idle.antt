@@ -25,6 +25,7 @@ use Rattle.gb_holds.specs.Programs.{IsProcedureFor, HasProcedures, IfThere, AreN
 use Rattle.gb_holds.specs.Within.{KeepsOff, IsWithin}
 use Rattle.gb_holds.specs.Bounds.{oracle_in}
 use Rattle.gb_holds.specs.Asked.{most_asked_if_there, most_asked_by_all, IsBoundedByText}
+use Rattle.gb_holds.proofs.Lists.{none_kept}
 use Rattle.gb_holds.proofs.Groups.{bounded_by_text}
 use Rattle.gb_holds.proofs.PlainTypes.{plain_glob}
 use Rattle.gb_holds.proofs.SettingTypes.{setting-types}
@@ -148,7 +149,7 @@ idle_within ds i b d h =
     let e : g.types.size ≡ i.size = ap (λ (z : Types). z.size) (setting-types ds k) in
     let f : AllFound i.size (idle_procedures i.size t.signatures) t.signatures = all_found i.size t.signatures d in
     record {
-      program = record { rising = tt; known = tt; procedures = procedures i.size ds g e t (idle_procedures i.size t.signatures) t.signatures f h };
+      program = record { ordered = none_kept i.world; known = tt; procedures = procedures i.size ds g e t (idle_procedures i.size t.signatures) t.signatures f h };
       named = named i.size ds g e t (idle_procedures i.size t.signatures) t.signatures f;
       full = full i.size ds g e t (idle_procedures i.size t.signatures) t.signatures f;
       apart = keeps_off i.size ds g e t k.programs b.minus;

@@ -49,7 +49,7 @@ module _ (ds : scope.Declarations) (g : Setting) (inhabited : IsInhabited g.type
 
   hypotheses_fit : (hs : List Hyp) → AreHypotheses ds (context_of q) hs → UsedFit g T hs
   hypotheses_fit [] k = tt
-  hypotheses_fit (h ∷ hs) k = (λ e. fits ds g inhabited (context_of q) ambient T (λ n. refl) agrees h.form k.0.typed k.0.scoped, hypotheses_fit hs k.1)
+  hypotheses_fit (h ∷ hs) k = (λ e. fits ds g inhabited (context_of q) ambient T agrees h.form k.0.typed k.0.scoped, hypotheses_fit hs k.1)
 
   -- evaluation knows nothing of an equivalence
   equivalence_fits : (f : Term) (e : OnBodies) → bodies_of f ≡ Some e → Fits g T f
@@ -57,7 +57,7 @@ module _ (ds : scope.Declarations) (g : Setting) (inhabited : IsInhabited g.type
       subst (Fits g T) (sym (bodies_shape f e k)) (subst (Fits g T) (term_is_node (Equiv (judgment_on e).left (judgment_on e).right) (e.pre ∷ e.post ∷ []) (out-Term f).ty) tt)
 
   conclusion_fits : (o : Option OnBodies) → bodies_of q.conclusion ≡ o → IsTypedConclusion ds (context_of q) q.conclusion o → Fits g T q.conclusion
-  conclusion_fits None e t = fits ds g inhabited (context_of q) ambient T (λ n. refl) agrees q.conclusion t.typed t.scoped
+  conclusion_fits None e t = fits ds g inhabited (context_of q) ambient T agrees q.conclusion t.typed t.scoped
   conclusion_fits (Some k) e t = equivalence_fits q.conclusion k e
 
   goal_ready : IsTypedSequent ds q → SmtIsReady g q

@@ -14,7 +14,6 @@ use Rattle.gb_terms.specs.declared.term.Term.{Term, Term', Row_of-Term, end_of-T
 use Rattle.gb_terms.specs.declared.term.Head.TheVariants as head
 use Rattle.gb_goal.specs.Scope.{Declarations}
 use Rattle.gb_meaning.specs.Names.{Name, get}
-use Rattle.gb_meaning.specs.Memory.{Memory}
 use Rattle.gb_meaning.specs.Setting.{Setting}
 use Rattle.gb_meaning.specs.Terms.{denominators}
 use Rattle.gb_typed.specs.Finite.{IsVariableType, IsInhabited}
@@ -28,7 +27,7 @@ use Rattle.gb_closing.specs.Reading.{Variables, no_variables, Reading, IsReadAt,
 use Rattle.gb_closing.specs.Fits.{IsOfValues, Fits, AllFit, OnlyFits}
 use Rattle.gb_ready.specs.Scoped.{Frame, Frames, under, IsIn, IsReadable, IsReadScoped, HaveVariableTypes, IsScoped, AreScoped}
 use Rattle.gb_ready.proofs.Within.{more}
-use Rattle.gb_ready.proofs.Denominators.{IsWithoutOperators, denominator_one}
+use Rattle.gb_typed.proofs.Denominators.{denominator_one}
 use Rattle.gb_ready.proofs.Procedures.{variable_finite}
 use mathlib.Core.Former.{Count}
 
@@ -83,32 +82,32 @@ module _ (ds : Declarations) (g : Setting) (inhabited : IsInhabited g.types) whe
   held ls v (var.Global p x) ty e m = none_some ty e
   held ls v (var.Glob a) ty e m = none_some ty e
 
-  of_values : {n : Count} (c : Context) → IsWithoutOperators c → (o : Op) (ts : Row_of-Term n) (ty : Ty) → IsOperator o (types_of ts) ty → AreTyped c c ts → IsOfValues o (denominators g ts)
-  of_values c f op.Equal (more_of-Term t (more_of-Term u end_of-Term)) ty w k =
-      (denominator_one g c f t k.0 w.0, denominator_one g c f u k.1 (subst IsNoDistribution w.1 w.0))
-  of_values c f op.Equal end_of-Term ty w k = tt
-  of_values c f op.Equal (more_of-Term t end_of-Term) ty w k = tt
-  of_values c f op.Equal (more_of-Term t (more_of-Term u (more_of-Term v ts))) ty w k = tt
-  of_values c f _ ts ty w k = tt
+  of_values : {n : Count} (c : Context) → (o : Op) (ts : Row_of-Term n) (ty : Ty) → IsOperator o (types_of ts) ty → AreTyped c c ts → IsOfValues o (denominators g ts)
+  of_values c op.Equal (more_of-Term t (more_of-Term u end_of-Term)) ty w k =
+      (denominator_one g c t k.0 w.0, denominator_one g c u k.1 (subst IsNoDistribution w.1 w.0))
+  of_values c op.Equal end_of-Term ty w k = tt
+  of_values c op.Equal (more_of-Term t end_of-Term) ty w k = tt
+  of_values c op.Equal (more_of-Term t (more_of-Term u (more_of-Term v ts))) ty w k = tt
+  of_values c _ ts ty w k = tt
 
   mutual
-    pub fits : (c : Context) (F : Frames) (T : Reading) → IsWithoutOperators c → Agrees c F T → (t : Term) → IsTyped c t → IsScoped ds F t → Fits g T t
-    fits c F T f a (Term' p (more_of-Head (head.Read r) end_of-Head) n ts ty) w s = read_fits c F T a r (types_of ts) ty w.0 s.0
-    fits c F T f a (Term' p (more_of-Head (head.Builtin o) end_of-Head) n ts ty) w s = (of_values c f o ts ty w.0 w.1, all_fit c F T f a ts w.1 s.3)
-    fits c F T f a (Term' p (more_of-Head (head.All u) end_of-Head) n ts ty) w s =
-        only_fits c (more c (value u)) F (under None F) (inner no_variables T) f (agrees_under c F T a (value u) None) ts w.1 s.3
-    fits c F T f a (Term' p (more_of-Head (head.Some u) end_of-Head) n ts ty) w s =
-        only_fits c (more c (value u)) F (under None F) (inner no_variables T) f (agrees_under c F T a (value u) None) ts w.1 s.3
-    fits c F T f a (Term' p (more_of-Head head.AllMemory end_of-Head) n ts ty) w s =
-        (variables_of s.1, held s.1 s.2, only_fits c (more c memory) F (under (Some s.1) F) (inner (variables_of s.1) T) f (agrees_under c F T a memory (Some s.1)) ts w.1 s.3)
-    fits c F T f a (Term' p (more_of-Head _ end_of-Head) n ts ty) w s = tt
+    pub fits : (c : Context) (F : Frames) (T : Reading) → Agrees c F T → (t : Term) → IsTyped c t → IsScoped ds F t → Fits g T t
+    fits c F T a (Term' p (more_of-Head (head.Read r) end_of-Head) n ts ty) w s = read_fits c F T a r (types_of ts) ty w.0 s.0
+    fits c F T a (Term' p (more_of-Head (head.Builtin o) end_of-Head) n ts ty) w s = (of_values c o ts ty w.0 w.1, all_fit c F T a ts w.1 s.3)
+    fits c F T a (Term' p (more_of-Head (head.All u) end_of-Head) n ts ty) w s =
+        only_fits c (more c (value u)) F (under None F) (inner no_variables T) (agrees_under c F T a (value u) None) ts w.1 s.3
+    fits c F T a (Term' p (more_of-Head (head.Some u) end_of-Head) n ts ty) w s =
+        only_fits c (more c (value u)) F (under None F) (inner no_variables T) (agrees_under c F T a (value u) None) ts w.1 s.3
+    fits c F T a (Term' p (more_of-Head head.AllMemory end_of-Head) n ts ty) w s =
+        (variables_of s.1, held s.1 s.2, only_fits c (more c memory) F (under (Some s.1) F) (inner (variables_of s.1) T) (agrees_under c F T a memory (Some s.1)) ts w.1 s.3)
+    fits c F T a (Term' p (more_of-Head _ end_of-Head) n ts ty) w s = tt
 
-    all_fit : {n : Count} (c : Context) (F : Frames) (T : Reading) → IsWithoutOperators c → Agrees c F T → (ts : Row_of-Term n) → AreTyped c c ts → AreScoped ds F F ts → AllFit g T ts
-    all_fit c F T f a end_of-Term w s = tt
-    all_fit c F T f a (more_of-Term t end_of-Term) w s = (fits c F T f a t w s, tt)
-    all_fit c F T f a (more_of-Term t (more_of-Term u ts)) w s = (fits c F T f a t w.0 s.0, all_fit c F T f a (more_of-Term u ts) w.1 s.1)
+    all_fit : {n : Count} (c : Context) (F : Frames) (T : Reading) → Agrees c F T → (ts : Row_of-Term n) → AreTyped c c ts → AreScoped ds F F ts → AllFit g T ts
+    all_fit c F T a end_of-Term w s = tt
+    all_fit c F T a (more_of-Term t end_of-Term) w s = (fits c F T a t w s, tt)
+    all_fit c F T a (more_of-Term t (more_of-Term u ts)) w s = (fits c F T a t w.0 s.0, all_fit c F T a (more_of-Term u ts) w.1 s.1)
 
-    only_fits : {n : Count} (c d : Context) (F G : Frames) (T : Reading) → IsWithoutOperators d → Agrees d G T → (ts : Row_of-Term n) → AreTyped c d ts → AreScoped ds F G ts → OnlyFits g T ts
-    only_fits c d F G T f a end_of-Term w s = tt
-    only_fits c d F G T f a (more_of-Term t end_of-Term) w s = fits d G T f a t w s
-    only_fits c d F G T f a (more_of-Term t (more_of-Term u ts)) w s = tt
+    only_fits : {n : Count} (c d : Context) (F G : Frames) (T : Reading) → Agrees d G T → (ts : Row_of-Term n) → AreTyped c d ts → AreScoped ds F G ts → OnlyFits g T ts
+    only_fits c d F G T a end_of-Term w s = tt
+    only_fits c d F G T a (more_of-Term t end_of-Term) w s = fits d G T a t w s
+    only_fits c d F G T a (more_of-Term t (more_of-Term u ts)) w s = tt

@@ -1,6 +1,5 @@
 pub mod Formed
 pub mod Within
-pub mod Denominators
 pub mod Located
 pub mod Linked
 pub mod Silent

@@ -38,7 +38,7 @@ use Rattle.gb_sound.proofs.Shapes.{none_some, same_some}
 use Rattle.gb_ready.specs.Scoped.{Frames, of_programs, under, IsReadScoped}
 use Rattle.gb_ready.specs.Goals.{context_of}
 use Rattle.gb_ready.specs.Maps.{IsMap, AreMaps}
-use Rattle.gb_ready.proofs.Denominators.{denominator_one}
+use Rattle.gb_typed.proofs.Denominators.{denominator_one}
 use Rattle.gb_ready.proofs.Expressions.{nothing_declared}
 use Rattle.gb_ready.proofs.Formed.{formed}
 use Rattle.gb_ready.proofs.Made.{Made, made_node}
@@ -113,7 +113,7 @@ module _ (ds : Declarations) (q : Sequent) (ls rs : List TypedName) where
       put = record {
         formed = formed ds (on a) G f m.typed m.scoped;
         plain = m.plain;
-        denominator = denominator_one g (on a) (λ n. refl) f m.typed (subst IsNoDistribution (sym m.result) (no_distribution b h));
+        denominator = denominator_one g (on a) f m.typed (subst IsNoDistribution (sym m.result) (no_distribution b h));
       };
       within = within [] of_value (on a) G (value_admits a) f m.typed (plain_scoped ds [] G f m.plain m.scoped);
       valued = λ l r v k.

@@ -30,7 +30,7 @@ use Rattle.gb_sound.specs.Entered.{IsValued, ProcIsReady}
 use Rattle.gb_sound.proofs.Shapes.{none_some}
 use Rattle.gb_ready.specs.Programs.{closed, locals_of, IsTypedProcedure}
 use Rattle.gb_ready.specs.Goals.{IsTypedScope}
-use Rattle.gb_ready.proofs.Denominators.{denominator_one}
+use Rattle.gb_typed.proofs.Denominators.{denominator_one}
 use Rattle.gb_ready.proofs.Expressions.{expression_formed, expression_within, expression_own, body_own, body_there}
 use Rattle.gb_ready.proofs.Forms.{out_type}
 use Rattle.gb_ready.proofs.Plain.{plain_changed}
@@ -83,7 +83,7 @@ module _ (ds : scope.Declarations) (scoped : IsTypedScope ds) (w : World) (size 
       plain = plain_changed p.value (ToSide side.Own r ∷ []) (tt, tt) t.value.plain;
       denominator =
           denominator_changed (g ds scoped w size table model) p.value (ToSide side.Own r ∷ []) (tt, tt)
-          ∙ denominator_one (g ds scoped w size table model) closed (λ n. refl) p.value t.value.typed (no_distribution (type_of p.value) returns_variable);
+          ∙ denominator_one (g ds scoped w size table model) closed p.value t.value.typed (no_distribution (type_of p.value) returns_variable);
     }
 
     pub procedure_ready : ProcIsReady (g ds scoped w size table model) p

@@ -21,6 +21,7 @@ use Rattle.gb_holds.specs.Declared.{declared}
 use Rattle.gb_holds.specs.Footprints.{footprint_globals}
 use Rattle.gb_holds.specs.Settings.{Table, Interpretation, program_footprint, types_of, setting}
 use Rattle.gb_holds.specs.Holds.{IsModel, InEachModel, EachProgram, declared_modules, interpretation, InEachSetting}
+use Rattle.gb_holds.proofs.Lists.{none_kept}
 use Rattle.gb_holds.proofs.SettingTypes.{setting-types}
 use Rattle.gb_typed.specs.Finite.{AreVariables, IsInhabited}
 use Rattle.gb_typed.specs.Typing.{Context}
@@ -62,7 +63,7 @@ module _ (ds : scope.Declarations) (scoped : IsTypedScope ds) (w : World) (size 
   g = setting (declared ds) here
 
   variables_none : (m : Mexp) → AreVariables ((types_of (declared ds) here).footprint m)
-  variables_none m = subst (λ xs. AreVariables (footprint_globals w (program_footprint []) xs)) (sym (footprint_silent ds scoped m)) tt
+  variables_none m = subst (λ xs. AreVariables (footprint_globals w (program_footprint []) xs)) (sym (footprint_silent ds scoped m)) (subst AreVariables (sym (none_kept w)) tt)
 
   inhabited : IsInhabited g.types
   inhabited = subst IsInhabited (sym (setting-types (declared ds) here)) (record { sizes = model.sizes; globals = variables_none })

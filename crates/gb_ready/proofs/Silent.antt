@@ -23,6 +23,7 @@ use Rattle.gb_meaning.specs.Names.{Name}
 use Rattle.gb_holds.specs.Declared.{declared}
 use Rattle.gb_holds.specs.Modules.{Procedures, Functor, Applied, Modules, no_module, with_module, with_procedure, with_procedures, module_read, modules_of}
 use Rattle.gb_holds.specs.Footprints.{globals_among, read_variable, head_variables, variables, variables_in, body_touched, footprint_read, of_all, footprint, var_order, in_order}
+use Rattle.gb_holds.specs.Settings.{is_chosen}
 use Rattle.gb_ready.specs.Scoped.{Frames, IsReadScoped, HeadIsScoped, of_arguments, of_last, IsScoped, AreScoped}
 use Rattle.gb_ready.specs.Programs.{locals_of, AreStatements, IsTypedProcedure, AreTypedProcedures}
 use Rattle.gb_ready.specs.Goals.{AreTypedAfter}
@@ -114,6 +115,6 @@ modules_silent before ((n, entry.Module m) ∷ ds) t ms h =
     (module_silent ms n (module_read footprint_read ms m) h (procedures_silent ms m m.procs t.1.procs no_module (λ args. refl)))
 modules_silent before ((n, entry.Lemma q) ∷ ds) t ms h = modules_silent (before ++ (n, entry.Lemma q) ∷ []) ds t.2 ms h
 
-pub footprint_silent : (ds : scope.Declarations) → AreTypedAfter [] ds → (m : Mexp) → footprint (modules_of footprint_read (λ n. no_module) (declared ds)) m ≡ []
+pub footprint_silent : (ds : scope.Declarations) → AreTypedAfter [] ds → (m : Mexp) → footprint (modules_of footprint_read (λ n. no_module) (declared ds)) (is_chosen []) m ≡ []
 footprint_silent ds t (named n) = ap (in_order var_order) (modules_silent [] ds t (λ n. no_module) (λ n args. refl) n _)
 footprint_silent ds t (Apply' n m args) = ap (in_order var_order) (modules_silent [] ds t (λ n. no_module) (λ n args. refl) n _)

@@ -18,6 +18,7 @@ module _ (ds : Declarations) (g : Setting) (sound : (r : ProcRef) → IsThere (p
   subject_sound (Body' n is) k = absurd k
 
   head_sound : (F : Frames) (h : Head) (ty : Ty) → HeadIsScoped ds F h ty → is_sound_at g h
+  head_sound F (head.Pr p r) ty k = absurd k
   head_sound F (head.Hoare c) ty k = absurd k
   head_sound F (head.Phoare c r) ty k = absurd k
   head_sound F (head.Equiv c d) ty k = (subject_sound c k.0, subject_sound d k.1)

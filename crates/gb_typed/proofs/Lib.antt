@@ -3,6 +3,7 @@ pub mod Meanings
 pub mod Maps
 pub mod Operated
 pub mod Drawn
+pub mod Denominators
 pub mod Terms
 pub mod Running
 pub mod Nodes

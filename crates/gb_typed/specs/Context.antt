@@ -6,12 +6,15 @@ use Rattle.gb_core.specs.declared.value.Value.{Value}
 use Rattle.gb_terms.specs.declared.module.ProcRef.{ProcRef}
 use Rattle.gb_terms.specs.declared.term.Term.{Term, Term', Row_of-Term, end_of-Term, more_of-Term, end_of-Head, more_of-Head}
 use Rattle.gb_terms.specs.declared.term.Head.{Head}
-use Rattle.gb_terms.specs.declared.term.Head.TheVariants.{Restrict}
+use Rattle.gb_terms.specs.declared.term.Head.TheVariants.{User, Restrict}
+use Rattle.gb_coupling.specs.WeightedList.{total}
 use Rattle.gb_meaning.specs.Names.{Name}
 use Rattle.gb_meaning.specs.Memory.{Memory}
 use Rattle.gb_meaning.specs.Terms.{Speaks}
 use Rattle.gb_meaning.specs.Values.{Types}
 use Rattle.gb_meaning.specs.Setting.{Meaning, Setting}
+use Rattle.gb_meaning.specs.Meanings.{weights_in}
+use Rattle.gb_meaning.specs.Operators.{is_distribution}
 use Rattle.gb_meaning.specs.State.{State, Binding, meaning_in}
 use Rattle.gb_meaning.specs.Drawn.{Drawing, OperatorsDraw}
 use Rattle.gb_typed.specs.Finite.{IsInhabited}
@@ -25,22 +28,14 @@ AreOf t [] [] = Unit {0}
 AreOf t (u ∷ us) (x ∷ xs) = IsOf t u x × AreOf t us xs
 AreOf t _ _ = ⊥
 
-abbrev pub is_of_distributions : Ty → Bool
-is_of_distributions (ty.Distr' p x) = true
-is_of_distributions _ = false
-
 -- whether an operator of the script gives distributions
 abbrev pub gives_distributions : Option OperatorType → Bool
-gives_distributions (Some o) = is_of_distributions o.result
+gives_distributions (Some o) = is_distribution o.result
 gives_distributions None = false
 
--- trees with those operators of the script that give distributions by their types, and with or without `drestrict`
-abbrev pub drawing_with : Bool → Context → Drawing
-drawing_with restricts c = record { restricts = restricts; operators = λ n. gives_distributions (c.operator n) }
-
--- the trees of sub-distributions
+-- the trees of sub-distributions: those operators of the script may stand in them that give distributions by their types
 abbrev pub drawing : Context → Drawing
-drawing c = drawing_with true c
+drawing c = record { restricts = true; operators = λ n. gives_distributions (c.operator n) }
 
 abbrev pub IsUnrestrictedHead : Head → Type 0
 IsUnrestrictedHead Restrict = ⊥
@@ -54,6 +49,23 @@ abbrev mutual
   pub AreUnrestricted : {n : _} → Row_of-Term n → Type 0
   AreUnrestricted end_of-Term = Unit {0}
   AreUnrestricted (more_of-Term t ts) = IsUnrestricted t × AreUnrestricted ts
+
+-- the operator of the script gives distributions of full weight
+abbrev pub IsFullOperator : Setting → Name → Type 0
+IsFullOperator g n = (xs : List Meaning) → total (weights_in (g.operator n xs)) ≡ g.denominator n
+
+abbrev pub IsFullHead : Setting → Head → Ty → Type 0
+IsFullHead g (User n) t = is_distribution t ≡ true → IsFullOperator g n
+IsFullHead g _ t = Unit {0}
+
+abbrev mutual
+  -- each operator of the script that gives a distribution in the term gives full ones
+  pub NamesFull : Setting → Term → Type 0
+  NamesFull g (Term' b (more_of-Head h end_of-Head) n ts t) = IsFullHead g h t × AllNameFull g ts
+
+  pub AllNameFull : {n : _} → Setting → Row_of-Term n → Type 0
+  AllNameFull g end_of-Term = Unit {0}
+  AllNameFull g (more_of-Term t ts) = NamesFull g t × AllNameFull g ts
 
 -- The types have values; each operator of the script gives, from arguments of its types, a result of its type, and one
 -- that gives distributions gives weights over its denominator.

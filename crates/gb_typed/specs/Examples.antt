@@ -6,6 +6,7 @@ use Rattle.gb_terms.specs.declared.op.Op.{Op}
 use Rattle.gb_terms.specs.declared.op.Op.TheVariants.{Coin}
 use Rattle.gb_terms.specs.declared.term.Term.{Term}
 use Rattle.gb_terms.specs.declared.term.Head.TheVariants as head
+use Rattle.gb_meaning.specs.Names.{Name}
 use Rattle.gb_meaning.specs.Trees.{term, distributions}
 use Rattle.gb_typed.specs.Typing.{Context}
 use Rattle.gb_typed.specs.Typing.Binder.{value}
@@ -22,6 +23,13 @@ innermost t = term (head.Bound 0) [] t
 abbrev pub doubled : Op → Ty → Ty → Term
 doubled o u t = term (head.Builtin o) (innermost u ∷ innermost u ∷ []) t
 
+abbrev pub coin : Term
+coin = term (head.Builtin Coin) [] (distributions ty.Bool)
+
 -- the measure of an event under the fair coin
 abbrev pub coin_measure : Term → Term
-coin_measure e = term head.Mu (term (head.Builtin Coin) [] (distributions ty.Bool) ∷ e ∷ []) ty.Real
+coin_measure e = term head.Mu (coin ∷ e ∷ []) ty.Real
+
+-- the distribution that an operator of the script gives
+abbrev pub drawn_by : Name → Term
+drawn_by n = term (head.User n) [] (distributions ty.Bool)

@@ -12,18 +12,17 @@ ghost use Rattle.gb_meaning.specs.Setting.{Setting};
 ghost use Rattle.gb_meaning.specs.Setting.Meaning.{finite};
 ghost use Rattle.gb_meaning.specs.Meanings.{value_in};
 ghost use Rattle.gb_meaning.specs.State.{State};
-ghost use Rattle.gb_meaning.specs.Terms.{Speaks, val};
-ghost use Rattle.gb_meaning.specs.Drawn.{OperatorsDraw};
+ghost use Rattle.gb_meaning.specs.Terms.{Speaks, denominator, val};
 ghost use Rattle.gb_meaning.specs.Sound.{IsDistribution, IsFull};
 ghost use Rattle.gb_meaning.specs.Values.{Types, values, has, fit};
 ghost use Rattle.gb_meaning.specs.Operators.{Argument, operated};
 ghost use Rattle.gb_meaning.specs.Trees.{distributions, options};
 ghost use Rattle.gb_typed.specs.Finite.{IsFinite, IsInhabited};
-ghost use Rattle.gb_typed.specs.Operators.{maps, tuples, IsDistributionType, IsOperator};
+ghost use Rattle.gb_typed.specs.Operators.{maps, tuples, IsDistributionType, IsNoDistribution, IsOperator};
 ghost use Rattle.gb_typed.specs.Meant.{IsOf, AreGiven};
 ghost use Rattle.gb_typed.specs.Typing.{Context, IsHead, inner, IsTyped, AllTyped};
 ghost use Rattle.gb_meaning.specs.Written.{type_of};
-ghost use Rattle.gb_typed.specs.Context.{drawing_with, IsUnrestricted, IsSettingOf, IsStateOf, IsFractional};
+ghost use Rattle.gb_typed.specs.Context.{IsUnrestricted, NamesFull, IsSettingOf, IsStateOf, IsFractional};
 
 /// A finite type has a value where each abstract type has one, and what is read at it is one of its values.
 pub fn finite_types()
@@ -55,13 +54,18 @@ pub fn operators()
         IsOf t u (operated t o u (map (λ x. x.1) xs)) }
 {}
 
-/// A well-typed term of a type of distributions is a distribution or a sub-distribution in each state; without `drestrict` it
-/// is of full weight, where the script's operators are.
+/// A well-typed term of no type of distributions has the denominator 1, in every setting.
+pub fn denominators()
+    ensures { (c : Context) (g : Setting) (t : Term) → IsTyped c t → IsNoDistribution (type_of t) → denominator g t ≡ 1 }
+{}
+
+/// A well-typed term of a type of distributions is a distribution or a sub-distribution in each state. Without `drestrict` it
+/// is of full weight, where each operator of the script that it names for a distribution is.
 pub fn distributions()
     ensures weights { (c : Context) (g : Setting) → IsSettingOf c g → (t : Term) → IsTyped c t → IsDistributionType (type_of t) →
         IsDistribution g t }
-    ensures full { (c : Context) (g : Setting) → IsSettingOf c g → OperatorsDraw g (drawing_with false c) → (t : Term) → IsTyped c t →
-        IsUnrestricted t → IsDistributionType (type_of t) → IsFull g t }
+    ensures full { (c : Context) (g : Setting) → IsSettingOf c g → (t : Term) → IsTyped c t → IsUnrestricted t → NamesFull g t →
+        IsDistributionType (type_of t) → IsFull g t }
 {}
 
 /// In a setting and a state that fit its context a well-typed term has a meaning of its type; of a finite type this is one

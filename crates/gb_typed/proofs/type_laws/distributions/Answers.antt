@@ -3,4 +3,4 @@ use Rattle.gb_typed.proofs.Drawn.{typed_distribution, typed_full}
 use Rattle.gb_typed.proofs.type_laws.distributions.Goals as goal
 
 pub returns : goal.returns
-returns f = record { weights = λ c g i t w d. typed_distribution c g i t c refl w d; full = λ c g i o t w u d. typed_full c g i o t w u d }
+returns f = record { weights = λ c g i t w d. typed_distribution c g i t c refl w d; full = λ c g i t w u k d. typed_full c g i t w u k d }

@@ -1,5 +1,5 @@
--- A typed term of no type of distributions has the denominator 1.
-use Rattle.std.proofs.Common.{◌≡◌, ◌*◌, None, refl, sym, ◌∙◌, subst}
+-- A well-typed term of no type of distributions has the denominator 1.
+use Rattle.std.proofs.Common.{◌≡◌, ℕ, ◌*◌, refl, sym, subst}
 use Rattle.gb_core.specs.declared.ty.Ty.{Ty}
 use Rattle.gb_core.specs.declared.ty.Ty.TheVariants as ty
 use Rattle.gb_terms.specs.declared.op.Op.{Op}
@@ -7,23 +7,21 @@ use Rattle.gb_terms.specs.declared.op.Op.TheVariants as op
 use Rattle.gb_terms.specs.declared.term.Term.{Term, Term', Row_of-Term, end_of-Term, more_of-Term, end_of-Head, more_of-Head}
 use Rattle.gb_terms.specs.declared.term.Head.{Head}
 use Rattle.gb_terms.specs.declared.term.Head.TheVariants as head
-use Rattle.gb_meaning.specs.Names.{Name}
 use Rattle.gb_meaning.specs.Setting.{Setting}
-use Rattle.gb_meaning.specs.Operators.{denominator_at}
+use Rattle.gb_meaning.specs.Operators.{denominator_at, denominator_over}
 use Rattle.gb_meaning.specs.Terms.{denominator, denominators, denominator_of}
 use Rattle.gb_typed.specs.Operators.{IsNoDistribution, IsDistributionType, IsOperator}
 use Rattle.gb_typed.specs.Typing.{Context, types_of, IsHead, inner, IsTyped, AreTyped}
 use Rattle.gb_meaning.specs.Written.{type_of}
-use Rattle.gb_sound.proofs.Shapes.{none_some}
 use mathlib.Core.Former.{Count}
-
--- no operator of the script is around
-abbrev pub IsWithoutOperators : Context → Type 0
-IsWithoutOperators c = (n : Name) → c.operator n ≡ None
 
 apart : (t : Ty) → IsDistributionType t → IsNoDistribution t → ⊥
 apart (ty.Distr' p x) d k = k
 apart _ d k = d
+
+over_one : (t : Ty) (k : ℕ) → IsNoDistribution t → denominator_over t k ≡ 1
+over_one (ty.Distr' p x) k d = absurd d
+over_one _ k d = refl
 
 module _ (g : Setting) where
   abbrev IsOne : Term → Type 0
@@ -56,27 +54,27 @@ module _ (g : Setting) where
   operator_one op.If t ts w k a = chosen_one t ts w k a
   operator_one _ t ts w k a = refl
 
-  head_one : {n : Count} (c : Context) (h : Head) (t : Ty) (ts : Row_of-Term n) → IsWithoutOperators c → IsHead c h (types_of ts) t → IsNoDistribution t → AreOne ts →
+  head_one : {n : Count} (c : Context) (h : Head) (t : Ty) (ts : Row_of-Term n) → IsHead c h (types_of ts) t → IsNoDistribution t → AreOne ts →
       denominator_of g h (denominators g ts) t ≡ 1
-  head_one c (head.Builtin o) t ts f w k a = operator_one o t ts w k a
-  head_one c (head.User n) t ts f w k a = none_some _ (sym (f n) ∙ w)
-  head_one c (head.Weights ps) t end_of-Term f w k a = absurd (apart t w.0 k)
-  head_one c (head.Weights ps) t (more_of-Term x ts) f w k a = absurd w
-  head_one c head.Map t end_of-Term f w k a = absurd w
-  head_one c head.Map t (more_of-Term x end_of-Term) f w k a = absurd w
-  head_one c head.Map t (more_of-Term x (more_of-Term y end_of-Term)) f w k a = absurd (subst IsNoDistribution w.2 k)
-  head_one c head.Map t (more_of-Term x (more_of-Term y (more_of-Term z ts))) f w k a = absurd w
-  head_one c head.Restrict t end_of-Term f w k a = absurd w
-  head_one c head.Restrict t (more_of-Term x end_of-Term) f w k a = absurd w
-  head_one c head.Restrict t (more_of-Term x (more_of-Term y end_of-Term)) f w k a = absurd (apart t w.0 k)
-  head_one c head.Restrict t (more_of-Term x (more_of-Term y (more_of-Term z ts))) f w k a = absurd w
-  head_one c _ t ts f w k a = refl
+  head_one c (head.Builtin o) t ts w k a = operator_one o t ts w k a
+  head_one c (head.User n) t ts w k a = over_one t (g.denominator n) k
+  head_one c (head.Weights ps) t end_of-Term w k a = absurd (apart t w.0 k)
+  head_one c (head.Weights ps) t (more_of-Term x ts) w k a = absurd w
+  head_one c head.Map t end_of-Term w k a = absurd w
+  head_one c head.Map t (more_of-Term x end_of-Term) w k a = absurd w
+  head_one c head.Map t (more_of-Term x (more_of-Term y end_of-Term)) w k a = absurd (subst IsNoDistribution w.2 k)
+  head_one c head.Map t (more_of-Term x (more_of-Term y (more_of-Term z ts))) w k a = absurd w
+  head_one c head.Restrict t end_of-Term w k a = absurd w
+  head_one c head.Restrict t (more_of-Term x end_of-Term) w k a = absurd w
+  head_one c head.Restrict t (more_of-Term x (more_of-Term y end_of-Term)) w k a = absurd (apart t w.0 k)
+  head_one c head.Restrict t (more_of-Term x (more_of-Term y (more_of-Term z ts))) w k a = absurd w
+  head_one c _ t ts w k a = refl
 
   mutual
-    pub denominator_one : (c : Context) → IsWithoutOperators c → (t : Term) → IsTyped c t → IsOne t
-    denominator_one c f (Term' p (more_of-Head h end_of-Head) n ts t) w k = head_one c h t ts f w.0 k (all_one c (inner c h (types_of ts)) f f ts w.1)
+    pub denominator_one : (c : Context) → (t : Term) → IsTyped c t → IsOne t
+    denominator_one c (Term' p (more_of-Head h end_of-Head) n ts t) w k = head_one c h t ts w.0 k (all_one c (inner c h (types_of ts)) ts w.1)
 
-    all_one : {n : Count} (c d : Context) → IsWithoutOperators c → IsWithoutOperators d → (ts : Row_of-Term n) → AreTyped c d ts → AreOne ts
-    all_one c d f e end_of-Term w = tt
-    all_one c d f e (more_of-Term t end_of-Term) w = (denominator_one d e t w, tt)
-    all_one c d f e (more_of-Term t (more_of-Term u ts)) w = (denominator_one c f t w.0, all_one c d f e (more_of-Term u ts) w.1)
+    all_one : {n : Count} (c d : Context) → (ts : Row_of-Term n) → AreTyped c d ts → AreOne ts
+    all_one c d end_of-Term w = tt
+    all_one c d (more_of-Term t end_of-Term) w = (denominator_one d t w, tt)
+    all_one c d (more_of-Term t (more_of-Term u ts)) w = (denominator_one c t w.0, all_one c d (more_of-Term u ts) w.1)

@@ -1,0 +1,5 @@
+use Rattle.gb_holds.proofs.TwoCoins.{coins_hold}
+use Rattle.gb_accepted.proofs.examples.lemma_of_two_modules.Goals as goal
+
+pub returns : goal.returns
+returns c = coins_hold
