@@ -1,0 +1,43 @@
+// The table passes its tests, and so each text spells one tree at most, which is well-sorted.
+
+ghost use Rattle.std.specs.Prelude.{◌≡◌, ℕ, List, true};
+ghost use Rattle.std.specs.List.{All};
+ghost use Rattle.gb_grammar.specs.declared.table.Step.{Step};
+ghost use Rattle.gb_grammar.specs.Check.{grammar_ok};
+ghost use Rattle.gb_grammar.specs.Reading.{IsKind, Spells};
+ghost use Rattle.gb_script.specs.declared.action.Rule.{Rule};
+ghost use Rattle.gb_language.specs.Claims.{claims};
+ghost use Rattle.gb_language.specs.Language.{language, goal_language, IsPart, IsLine, IsTextTree, IsLineTree, IsSorted};
+ghost use Rattle.gb_script.specs.declared.text.Text.{Text};
+ghost use Rattle.gb_script.specs.declared.tree.Node.{Node};
+
+use crate::bodies::SYMBOLS;
+use crate::rows::{GOALS, PLACES, ROWS, SCRIPTS};
+
+/// At each stage one token decides each choice.
+pub fn one_token_decides()
+    ensures scripts { grammar_ok SCRIPTS (claims SCRIPTS) PLACES ROWS SYMBOLS ≡ true }
+    ensures goals { grammar_ok GOALS (claims GOALS) PLACES ROWS SYMBOLS ≡ true }
+{}
+
+/// A text of the language has at most one derivation, and so has a line of a goal.
+pub fn steps_are_unique()
+    ensures texts { (part : ℕ) (kinds : List ℕ) (a b : List (Step Rule)) → IsPart part → All IsKind kinds →
+        Spells language part kinds a → Spells language part kinds b → a ≡ b }
+    ensures lines { (part : ℕ) (kinds : List ℕ) (a b : List (Step Rule)) → IsLine part → All IsKind kinds →
+        Spells goal_language part kinds a → Spells goal_language part kinds b → a ≡ b }
+{}
+
+/// A text of the language spells at most one tree, and so does a line of a goal.
+pub fn trees_are_unique()
+    ensures texts { (part : ℕ) (kinds : List ℕ) (t : Text) (x y : Node) → IsPart part → All IsKind kinds →
+        IsTextTree part kinds t x → IsTextTree part kinds t y → x ≡ y }
+    ensures lines { (part : ℕ) (kinds : List ℕ) (t : Text) (x y : Node) → IsLine part → All IsKind kinds →
+        IsLineTree part kinds t x → IsLineTree part kinds t y → x ≡ y }
+{}
+
+/// Trees have parts of the sorts that their heads say.
+pub fn trees_are_sorted()
+    ensures texts { (part : ℕ) (kinds : List ℕ) (t : Text) (x : Node) → IsPart part → IsTextTree part kinds t x → IsSorted part x }
+    ensures lines { (part : ℕ) (kinds : List ℕ) (t : Text) (x : Node) → IsLine part → IsLineTree part kinds t x → IsSorted part x }
+{}

@@ -1,0 +1,11 @@
+pub mod Text
+pub mod Head
+pub mod Tree
+pub mod Value
+pub mod Build
+pub mod Frame
+pub mod Parse
+pub mod Sorts
+pub mod Acts
+pub mod Sorted
+pub mod Reading

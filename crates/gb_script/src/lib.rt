@@ -1,0 +1,11 @@
+//! The tree that a text spells, whatever the grammar: nodes, and what the steps of a derivation build of them.
+#![tactic(auto)]
+
+pub mod action;
+pub mod build;
+pub mod head;
+pub mod laws;
+pub mod reading;
+pub mod text;
+pub mod tree;
+pub mod value;
