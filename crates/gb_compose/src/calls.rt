@@ -6,7 +6,7 @@ ghost use Rattle.gb_compose.specs.Atoms.{bracketed, call_of, call, longer_call, 
 use crate::trees::{applied, path_form};
 use crate::words::{dotted, split_path};
 use gb_core::place::Place;
-use gb_text::stack::Stack;
+use gb_shared::Stack;
 use gb_tree::form::{FormShape, FormTree, OraclePath, Word};
 use gb_tree::judgment::CallTree;
 use gb_value::boxes::boxed_form;

@@ -6,7 +6,7 @@ ghost use Rattle.gb_value.specs.Path.{no_type};
 ghost use Rattle.gb_value.specs.Sorted.{top, behind};
 
 use crate::paths::take_type;
-use gb_text::stack::Stack;
+use gb_shared::Stack;
 use gb_tree::form::{Connective, FormTree, TypeTree};
 use gb_value::form::{Infix, Operand, no_form};
 use gb_value::take::take_boxed;

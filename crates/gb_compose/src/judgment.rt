@@ -5,7 +5,7 @@ ghost use Rattle.gb_value.specs.Form.{no_call, no_form, no_phoare, no_subject};
 ghost use Rattle.gb_value.specs.Sorted.{top, behind};
 
 use crate::form::{take_form, take_two_forms};
-use gb_text::stack::Stack;
+use gb_shared::Stack;
 use gb_tree::form::FormTree;
 use gb_tree::judgment::{CallTree, SubjectTree};
 use gb_value::form::PhoareTree;

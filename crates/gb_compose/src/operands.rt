@@ -5,7 +5,7 @@ ghost use Rattle.gb_compose.specs.Forms.{sum_of, negative, operand, suffix_run, 
 
 use crate::trees::{applied, combined, suffixed};
 use gb_core::place::Place;
-use gb_text::stack::Stack;
+use gb_shared::Stack;
 use gb_tree::form::{Connective, FormShape, FormTree};
 use gb_value::boxes::boxed_form;
 use gb_value::form::{Infix, Operand, Run, Suffix};

@@ -6,7 +6,7 @@ ghost use Rattle.gb_value.specs.Path.{no_type};
 ghost use Rattle.gb_value.specs.Sorted.{top, behind};
 
 use crate::words::{dotted, split_path};
-use gb_text::stack::Stack;
+use gb_shared::Stack;
 use gb_tree::form::{Bind, Binder, ModuleBinder, OraclePath, TypeShape, TypeTree, Word};
 use gb_tree::judgment::{ModuleExpr, ProcPath};
 use gb_value::boxes::boxed_type;

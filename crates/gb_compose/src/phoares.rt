@@ -4,7 +4,7 @@ ghost use Rattle.std.specs.Prelude.{◌≡◌, IfOk};
 ghost use Rattle.gb_compose.specs.Forms.{phoare, plain_phoare, bounded_phoare, phoare_operand, phoare_run};
 
 use crate::operands::{argument_run, operand};
-use gb_text::stack::Stack;
+use gb_shared::Stack;
 use gb_tree::form::{FormShape, FormTree};
 use gb_tree::judgment::BoundTree;
 use gb_value::boxes::boxed_form;

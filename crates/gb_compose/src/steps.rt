@@ -4,7 +4,7 @@ ghost use Rattle.std.specs.Prelude.{◌≡◌, IfOk};
 ghost use Rattle.gb_value.specs.Sorted.{top, behind};
 ghost use Rattle.gb_value.specs.Step.{no_step, no_tactic};
 
-use gb_text::stack::Stack;
+use gb_shared::Stack;
 use gb_tree::step::{RuleTree, StepTree};
 use gb_tree::tactic::{CombinedShape, CombinedStep, TacticTree};
 use gb_value::path::no_place;

@@ -3,7 +3,7 @@
 ghost use Rattle.std.specs.Prelude.{◌≡◌, IfOk};
 ghost use Rattle.gb_compose.specs.Forms.{path_form, binary, joined, choosing, chained, combined, applied, suffixed, coin_before};
 
-use gb_text::stack::Stack;
+use gb_shared::Stack;
 use gb_text::text::{Text, place_at};
 use gb_tree::form::{Connective, FormShape, FormTree, Word};
 use gb_value::boxes::boxed_form;

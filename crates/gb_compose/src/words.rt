@@ -4,7 +4,7 @@ ghost use Rattle.std.specs.Prelude.{◌≡◌, ◌∷◌, [], ◌++◌, IfOk, On
 ghost use Rattle.gb_compose.specs.Paths.{dotted, oracle_path, split_path};
 
 use gb_core::name::Name;
-use gb_text::stack::Stack;
+use gb_shared::Stack;
 use gb_tree::form::{OraclePath, Word};
 use gb_value::take::take_word;
 use sqlite_items::Items;

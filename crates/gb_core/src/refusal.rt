@@ -10,7 +10,7 @@ use crate::var::Var;
 use std::alloc::{AllocError, AllocFailed};
 
 /// Why a call gives no answer.
-#[derive(Debug, Drop)]
+#[derive(Drop)]
 pub enum Refused {
     NoMemory,
     ReadFault,
@@ -18,7 +18,6 @@ pub enum Refused {
 }
 
 /// Why a script is refused, with what the refusal tells of it.
-#[derive(Debug, Drop)]
 pub enum Why {
     /// A byte starts no token.
     Character,
@@ -38,7 +37,7 @@ pub enum Why {
     /// A module touches this excluded variable.
     Restriction(Var),
     /// A module makes more calls than a bound allows.
-    QueryBound { count: Card, bound: u64 },
+    QueryBound { count: Card, bound: u128 },
     /// A procedure calls this oracle, which its signature doesn't name.
     Oracle(Name),
     /// A loop of this procedure has no proof that it ends.
@@ -71,6 +70,46 @@ pub enum Why {
     TooMany(u64),
     /// A variable is sampled from a distribution that loses weight.
     NotLossless(Var),
+}
+
+impl Drop for Why {
+    fn drop(self) {
+        match self {
+            Why::Character
+            | Why::Syntax
+            | Why::Depth
+            | Why::Length
+            | Why::TypeMismatch
+            | Why::TypeTooLarge
+            | Why::Shape
+            | Why::Argument
+            | Why::NoGoal
+            | Why::Unclosed
+            | Why::LeftOut => {}
+            Why::QueryBound { count: _, bound: _ } => {}
+            Why::Undecided { width: _, atoms: _ } => {}
+            Why::NotLinear {
+                num: _,
+                den: _,
+                other: _,
+            } => {}
+            Why::Overflow { left: _, right: _ } => {}
+            Why::OpenGoals(_) => {}
+            Why::TooMany(_) => {}
+            Why::UnknownName(name) => drop(name),
+            Why::DoubleName(name) => drop(name),
+            Why::ModuleType(name) => drop(name),
+            Why::Oracle(name) => drop(name),
+            Why::UnprovedLoop(name) => drop(name),
+            Why::Unrealised(name) => drop(name),
+            Why::CloneMismatch(name) => drop(name),
+            Why::Require(name) => drop(name),
+            Why::Restriction(var) => drop(var),
+            Why::SideCondition(var) => drop(var),
+            Why::NotLossless(var) => drop(var),
+            Why::False(values) => drop(values),
+        }
+    }
 }
 
 /// The code of a refusal, 1 to 29.

@@ -1,31 +1,50 @@
 // Types.
 
 use crate::name::Name;
-use sqlite_items::{Boxed, Items};
+use gb_shared::{Shared, SharedItems};
+use sqlite_items::Items;
 
 /// A type. `Int`, `Real` and `Distr` stand in formulas alone.
-#[derive(Debug, Drop)]
 pub enum Ty {
     Unit,
     Bool,
-    /// Texts of so many bits, 1 to 16.
+    /// Bit strings of 1 to 16 bits.
     Bits(u8),
-    /// Whole numbers below a bound of 1 to 65,536, with arithmetic modulo the bound.
+    /// The integers modulo 1 to 65,536.
     Mod(u32),
     /// An enumeration of 1 to 256 names.
     Enumeration { name: Name, size: u16 },
     /// A tuple of 2 to 8 parts.
-    Tuple(Tys),
-    Opt(Boxed<Ty>),
+    Tuple(SharedItems<Ty>),
+    Opt(Shared<Ty>),
     /// Finite maps from keys to values.
-    Map(Boxed<Ty>, Boxed<Ty>),
+    Map(Shared<Ty>, Shared<Ty>),
     /// A type of an abstract theory, which has any size of at least 1.
     Abstract(Name),
     /// The values of all globals of an abstract module.
     Glob(Name),
-    Distr(Boxed<Ty>),
+    Distr(Shared<Ty>),
     Int,
     Real,
 }
 
 pub type Tys = Items<Ty>;
+
+impl Drop for Ty {
+    #[cycle(ty_drop)]
+    fn drop(self) {
+        match self {
+            Ty::Unit | Ty::Bool | Ty::Bits(_) | Ty::Mod(_) | Ty::Int | Ty::Real => {}
+            Ty::Enumeration { name, size: _ } => drop(name),
+            Ty::Tuple(parts) => drop(parts),
+            Ty::Opt(inner) => drop(inner),
+            Ty::Map(key, value) => {
+                drop(key);
+                drop(value);
+            }
+            Ty::Abstract(name) => drop(name),
+            Ty::Glob(module) => drop(module),
+            Ty::Distr(inner) => drop(inner),
+        }
+    }
+}

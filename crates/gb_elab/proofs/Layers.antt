@@ -1,5 +1,5 @@
 -- What a rule says of forms, from their layers, and induction over forms.
-use Rattle.std.proofs.Common.{◌≡◌, List, [], ◌∷◌, map, Option, Some, None, refl, ap, sym, subst, ◌∙◌}
+use Rattle.std.proofs.Common.{◌≡◌, List, [], ◌∷◌, map, Some, None, refl, ap, sym, subst, ◌∙◌}
 use Rattle.gb_core.specs.declared.place.Place.{Place}
 use Rattle.gb_tree.specs.declared.form.FormShape.{FormShape, out-FormShape, roll-FormShape, out-roll-FormShape, roll-out-FormShape, map-FormShape, para-FormShape, para-roll-FormShape}
 use Rattle.gb_tree.specs.declared.form.FormShape.TheOpen as layer

@@ -60,6 +60,15 @@ abbrev pub about : SubjectTree → Place → Answer ProcPath
 about (subject.Procedure f) p = given f
 about _ p = not_built p
 
+-- the two procedures that a judgment is about: as the text names them, and what has these names
+abbrev pub both_procedures : Environment → List TypedName → SubjectTree → SubjectTree → Place → Answer (ProcPath × ProcPath × Proc × Proc)
+both_procedures at bound left right p = do
+  f ← about left p
+  g ← about right p
+  m ← named_procedure at bound f
+  n ← named_procedure at bound g
+  given (f, g, m, n)
+
 -- what a precondition reads: the parameters of both procedures
 abbrev pub before : Environment → Proc → Proc → Environment
 before at f g = relational at.declared at.sequent f.params g.params

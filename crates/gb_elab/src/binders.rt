@@ -6,25 +6,25 @@ ghost use Rattle.gb_elab.specs.Forms.{bound_by, bound_in, of_type, over, over_al
 
 use crate::refusals::not_built;
 use crate::types::type_of;
-use gb_core::copy::copy_ty;
 use gb_core::refusal::Refused;
 use gb_core::ty::Ty;
-use gb_terms::copy::copy_typed;
+use gb_shared::Shared;
 use gb_terms::decl::{Typed, TypedName};
 use gb_terms::make;
+use gb_terms::share::copy_typed;
 use gb_terms::term::Form;
 use gb_tree::form::{Bind, Quantifier, Word};
 use sqlite_items::Items;
 use std::alloc::{AllocError, Global};
 
 /// Names of one type.
-pub fn of_type(alloc: Global, names: &[Word], ty: &Ty) -> Result<Typed, AllocError>
+pub fn of_type(alloc: Global, names: &[Word], ty: &Shared<Ty>) -> Result<Typed, AllocError>
     ensures { IfOk result (λ made. made ≡ of_type names.now ty.now) }
 {
     let mut all = Items::new(alloc);
     for x in names {
         let name = x.name.copy(alloc)?;
-        let ty = copy_ty(alloc, ty)?;
+        let ty = ty.share()?;
         all.push(TypedName { name, ty })?;
     }
     Ok(all)
@@ -51,7 +51,7 @@ fn bound_in(alloc: Global, bind: &Bind) -> Result<Typed, Refused>
 {
     match bind {
         Bind::Values(binder) => {
-            let ty = type_of(binder.ty.get())?;
+            let ty = type_of(alloc, binder.ty.get())?;
             Ok(of_type(alloc, binder.names.as_slice(), &ty)?)
         }
         Bind::Memory(word) => Err(not_built(word.place)),
@@ -95,14 +95,20 @@ pub fn over_all(
 {
     let mut form = body;
     for x in variables {
-        form = over(alloc, quantifier, copy_ty(alloc, &x.ty)?, form)?;
+        form = over(alloc, quantifier, &x.ty, form)?;
     }
     Ok(form)
 }
 
-fn over(alloc: Global, quantifier: Quantifier, ty: Ty, body: Form) -> Result<Form, AllocError>
-    ensures { IfOk result (λ made. made ≡ over quantifier ty body) }
+fn over(
+    alloc: Global,
+    quantifier: Quantifier,
+    ty: &Shared<Ty>,
+    body: Form,
+) -> Result<Form, AllocError>
+    ensures { IfOk result (λ made. made ≡ over quantifier ty.now body) }
 {
+    let ty = ty.share()?;
     match quantifier {
         Quantifier::Forall => make::forall(alloc, ty, body),
         Quantifier::Exists => make::exists(alloc, ty, body),

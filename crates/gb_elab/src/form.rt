@@ -1,15 +1,19 @@
 // Typing of forms, from left to right.
 
-ghost use Rattle.std.specs.Prelude.{◌≡◌, [], Some};
+ghost use Rattle.std.specs.Prelude.{◌≡◌, [], ◌∷◌, Some, IfOk};
 ghost use Rattle.std.specs.Option.{option_copied};
+ghost use Rattle.gb_core.specs.declared.ty.Ty.TheVariants.{Distr};
+ghost use Rattle.gb_terms.specs.declared.term.Head.TheVariants.{Builtin};
+ghost use Rattle.gb_terms.specs.Make.{node, applied};
 ghost use Rattle.gb_tree.specs.declared.form.FormShape.{out-FormShape};
-ghost use Rattle.gb_elab.specs.Answers.{Answers, truth};
+ghost use Rattle.gb_elab.specs.Answers.{Answers, ◌>>=◌ as ◌and_then◌, truth};
+ghost use Rattle.gb_elab.specs.Answers.Answer.{given};
 ghost use Rattle.gb_elab.specs.Environment.{ambient, environment};
-ghost use Rattle.gb_elab.specs.Forms.{coin, elaborated, equalities, equality, equation, formula, function, is_equation, judgment, left_side, negated, operator, quantified, read, relation, remembered, wants_distribution, with_equalities, with_right_side, written_as};
-ghost use Rattle.gb_elab.specs.Judgments.{after, before};
+ghost use Rattle.gb_elab.specs.Forms.{bound_by, coin, elaborated, equalities, equality, equation, formula, function, is_equation, judgment, left_side, negated, operator, quantified, read, relation, remembered, wants_distribution, with_equalities, with_right_side, written_as};
+ghost use Rattle.gb_elab.specs.Judgments.{after, before, equivalent};
 
 use crate::binders::{bound_by, of_type, over_all, reversed, within};
-use crate::judgment::{about, equiv, named_procedure, parameters, results};
+use crate::judgment::{Both, both_procedures, equiv, parameters, results};
 use crate::names::{in_memory, named, sided, unit};
 use crate::refusals::{argument, mismatch, not_built};
 use crate::setting::{Language, Setting};
@@ -21,15 +25,16 @@ use gb_core::ty::Ty;
 use gb_goal::scope::Scope;
 use gb_goal::sequent::Sequent;
 use gb_same::types::same_types;
-use gb_terms::decl::{Proc, Typed, TypedName};
+use gb_shared::Shared;
+use gb_terms::decl::{Typed, TypedName};
 use gb_terms::make;
 use gb_terms::op::{Op, Side};
 use gb_terms::term::{Form, Head, Term};
 use gb_tree::form::{
-    Connective, EquatedTree, FormShape, FormTree, Quantifier, SideTree, TypeTree, Word,
+    Bind, Connective, EquatedTree, FormShape, FormTree, Quantifier, SideTree, TypeTree, Word,
 };
 use sqlite_items::Boxed;
-use std::alloc::Global;
+use std::alloc::{AllocError, Global};
 
 /// The typed tree of a form that reads no program variable, in the context of a sequent.
 ///
@@ -68,31 +73,26 @@ pub fn typed(
 {
     let place = t.place;
     match &t.shape {
-        FormShape::Path(name) => wanted(named(alloc, at, bound, name, place)?, want, place),
-        FormShape::Unit => wanted(unit(alloc)?, want, place),
+        FormShape::Path(name) => wanted(named(alloc, at, bound, name, place), want, place),
+        FormShape::Unit => wanted(unit(alloc), want, place),
         FormShape::Bracketed(inner) => typed(alloc, at, bound, inner.get(), want),
         FormShape::Sided(inner, side) => {
-            wanted(read(alloc, at, bound, inner.get(), side)?, want, place)
+            wanted(read(alloc, at, bound, inner.get(), side), want, place)
         }
         FormShape::Coin => coin(alloc, at, want, place),
         FormShape::Function { .. } => Err(mismatch(place)),
-        FormShape::Not(a) => {
-            truth(want, place)?;
-            negated(alloc, at, bound, a.get())
-        }
+        FormShape::Not(a) => negated(alloc, at, bound, a.get(), want, place),
         FormShape::Binary(connective, a, b) => {
             let op = relation(*connective, want, place)?;
             let left = left_side(alloc, at, bound, a.get(), *connective, place)?;
             with_right_side(alloc, at, bound, b.get(), op, left)
         }
         FormShape::Equalities(list) => {
-            truth(want, place)?;
-            equalities(alloc, at, bound, list.as_slice(), place)
+            equalities(alloc, at, bound, list.as_slice(), want, place)
         }
         FormShape::Quantified(quantifier, binds, body) => {
-            formula(at, want, place)?;
-            let variables = bound_by(alloc, binds.as_slice())?;
-            quantified(alloc, at, bound, *quantifier, variables, body.get())
+            let (quantifier, binds) = (*quantifier, binds.as_slice());
+            quantified(alloc, at, bound, quantifier, binds, body.get(), want, place)
         }
         FormShape::Equiv {
             left,
@@ -101,13 +101,9 @@ pub fn typed(
             post,
         } => {
             judgment(at, want, place)?;
-            let left = about(left.get(), place)?;
-            let right = about(right.get(), place)?;
-            let f = named_procedure(alloc, at, bound, left)?;
-            let g = named_procedure(alloc, at, bound, right)?;
-            let pre = precondition(alloc, at, bound, pre.get(), f, g)?;
-            let post = postcondition(alloc, at, bound, post.get(), f, g)?;
-            Ok(equiv(alloc, left, right, pre, post)?)
+            let both = both_procedures(alloc, at, bound, left.get(), right.get(), place)?;
+            let pre = precondition(alloc, at, bound, pre.get(), &both)?;
+            equivalence(alloc, at, bound, post.get(), &both, pre)
         }
         _ => Err(not_built(place)),
     }
@@ -118,7 +114,6 @@ pub fn typed(
 /// # Errors
 ///
 /// As `typed`.
-#[cycle(form)]
 pub fn typed_as(
     alloc: Global,
     at: &Setting<'_>,
@@ -170,8 +165,16 @@ fn coin(alloc: Global, at: &Setting<'_>, want: Option<&Ty>, place: Place) -> Res
     if at.language == Language::Program && !is_distribution(want) {
         return Err(argument(place));
     }
-    let ty = Ty::Distr(Boxed::new(alloc, Ty::Bool)?);
-    wanted(make::leaf(alloc, Head::Builtin(Op::Coin), ty)?, want, place)
+    wanted(fair_coin(alloc), want, place)
+}
+
+/// The fair coin.
+fn fair_coin(alloc: Global) -> Result<Term, Refused>
+    ensures { Answers (given (node (Builtin Op.Coin) [] (Distr Ty.Bool))) result }
+{
+    let outcomes = make::truth_ty(alloc)?;
+    let ty = Shared::new(alloc, Ty::Distr(outcomes))?;
+    Ok(make::leaf(alloc, Head::Builtin(Op::Coin), ty)?)
 }
 
 /// Whether a distribution is wanted.
@@ -253,16 +256,32 @@ fn is_equation(connective: Connective) -> bool
     }
 }
 
+/// The typed tree of a form that is to be a truth.
+#[cycle(form)]
+fn typed_truth(
+    alloc: Global,
+    at: &Setting<'_>,
+    bound: &[TypedName],
+    t: &FormTree,
+) -> Result<Form, Refused>
+    ensures { Answers (elaborated t.now (environment at.now) bound.now (Some Ty.Bool)) result }
+{
+    typed(alloc, at, bound, t, Some(&Ty::Bool))
+}
+
 #[cycle(form)]
 fn negated(
     alloc: Global,
     at: &Setting<'_>,
     bound: &[TypedName],
     a: &FormTree,
+    want: Option<&Ty>,
+    place: Place,
 ) -> Result<Form, Refused>
-    ensures { Answers (negated (elaborated a.now (environment at.now) bound.now)) result }
+    ensures { Answers (truth (option_copied want.entry) place and_then λ _. negated (elaborated a.now (environment at.now) bound.now)) result }
 {
-    let a = typed_as(alloc, at, bound, a, &Ty::Bool)?;
+    truth(want, place)?;
+    let a = typed_truth(alloc, at, bound, a)?;
     Ok(make::negation(alloc, a)?)
 }
 
@@ -279,7 +298,7 @@ fn left_side(
     ensures { Answers (left_side connective place (elaborated a.now (environment at.now) bound.now)) result }
 {
     if !is_equation(connective) {
-        return typed_as(alloc, at, bound, a, &Ty::Bool);
+        return typed_truth(alloc, at, bound, a);
     }
     let a = typed(alloc, at, bound, a, None)?;
     if is_distribution(Some(a.ty.get())) {
@@ -301,8 +320,16 @@ fn with_right_side(
 ) -> Result<Form, Refused>
     ensures { Answers (with_right_side op left (elaborated b.now (environment at.now) bound.now)) result }
 {
-    let right = typed_as(alloc, at, bound, b, left.ty.get())?;
-    Ok(make::binary(alloc, op, left, right, Ty::Bool)?)
+    let right = typed(alloc, at, bound, b, Some(left.ty.get()))?;
+    Ok(compared(alloc, op, left, right)?)
+}
+
+/// An operator of two sides that makes a truth.
+fn compared(alloc: Global, op: Op, left: Term, right: Term) -> Result<Form, AllocError>
+    ensures { IfOk result (λ made. made ≡ applied op (left ∷ right ∷ []) Ty.Bool) }
+{
+    let ty = make::truth_ty(alloc)?;
+    make::binary(alloc, op, left, right, ty)
 }
 
 /// The equality of a variable of two programs.
@@ -341,10 +368,12 @@ fn equalities(
     at: &Setting<'_>,
     bound: &[TypedName],
     list: &[EquatedTree],
+    want: Option<&Ty>,
     place: Place,
 ) -> Result<Form, Refused>
-    ensures { Answers (equalities (environment at.now) bound.now list.now place) result }
+    ensures { Answers (truth (option_copied want.entry) place and_then λ _. equalities (environment at.now) bound.now list.now place) result }
 {
+    truth(want, place)?;
     if at.on_side(Side::Left).is_none() {
         return Err(argument(place));
     }
@@ -376,8 +405,28 @@ fn with_equalities(
     Ok(form)
 }
 
+/// A quantified form, which no program expression is.
 #[cycle(form)]
 fn quantified(
+    alloc: Global,
+    at: &Setting<'_>,
+    bound: &[TypedName],
+    quantifier: Quantifier,
+    binds: &[Bind],
+    body: &FormTree,
+    want: Option<&Ty>,
+    place: Place,
+) -> Result<Form, Refused>
+    ensures { Answers (formula (environment at.now) (option_copied want.entry) place and_then λ _. bound_by [] binds.now and_then λ variables. quantified quantifier variables bound.now (elaborated body.now (environment at.now))) result }
+{
+    formula(at, want, place)?;
+    let variables = bound_by(alloc, binds)?;
+    over_body(alloc, at, bound, quantifier, variables, body)
+}
+
+/// The quantifiers over these variables, which are bound in the body.
+#[cycle(form)]
+fn over_body(
     alloc: Global,
     at: &Setting<'_>,
     bound: &[TypedName],
@@ -389,7 +438,7 @@ fn quantified(
 {
     let variables = reversed(alloc, variables)?;
     let inner = within(alloc, variables.as_slice(), bound)?;
-    let body = typed_as(alloc, at, inner.as_slice(), body, &Ty::Bool)?;
+    let body = typed_truth(alloc, at, inner.as_slice(), body)?;
     Ok(over_all(alloc, quantifier, variables.as_slice(), body)?)
 }
 
@@ -400,29 +449,29 @@ fn precondition(
     at: &Setting<'_>,
     bound: &[TypedName],
     pre: &FormTree,
-    left: &Proc,
-    right: &Proc,
+    both: &Both<'_, '_>,
 ) -> Result<Form, Refused>
-    ensures { Answers (elaborated pre.now (before (environment at.now) left.now right.now) bound.now (Some Ty.Bool)) result }
+    ensures { Answers (elaborated pre.now (before (environment at.now) both.now.f.now both.now.g.now) bound.now (Some Ty.Bool)) result }
 {
-    let before = parameters(alloc, at, left, right)?;
-    typed_as(alloc, &before, bound, pre, &Ty::Bool)
+    let before = parameters(alloc, at, both)?;
+    typed_truth(alloc, &before, bound, pre)
 }
 
-/// The postcondition of an equivalence of two procedures, which reads their results.
+/// An equivalence of two procedures with its postcondition, which reads their results.
 #[cycle(form)]
-fn postcondition(
+fn equivalence(
     alloc: Global,
     at: &Setting<'_>,
     bound: &[TypedName],
     post: &FormTree,
-    left: &Proc,
-    right: &Proc,
+    both: &Both<'_, '_>,
+    pre: Form,
 ) -> Result<Form, Refused>
-    ensures { Answers (elaborated post.now (after (environment at.now) left.now right.now) bound.now (Some Ty.Bool)) result }
+    ensures { Answers (elaborated post.now (after (environment at.now) both.now.f.now both.now.g.now) bound.now (Some Ty.Bool) and_then λ post. given (equivalent both.now.left.now both.now.right.now pre post)) result }
 {
-    let after = results(alloc, at, left, right)?;
-    typed_as(alloc, &after, bound, post, &Ty::Bool)
+    let after = results(alloc, at, both)?;
+    let post = typed_truth(alloc, &after, bound, post)?;
+    Ok(equiv(alloc, both, pre, post)?)
 }
 
 /// The typed tree of a function of one variable, with the variable as the innermost bound one. Brackets may stand round
@@ -436,7 +485,7 @@ pub fn function(
     alloc: Global,
     at: &Setting<'_>,
     t: &FormTree,
-    from: &Ty,
+    from: &Shared<Ty>,
     to: &Ty,
 ) -> Result<Term, Refused>
     ensures { Answers (function t.now (environment at.now) from.now to.now) result }
@@ -447,7 +496,7 @@ pub fn function(
             if names.len() != 1 {
                 return Err(mismatch(t.place));
             }
-            written_as(ty, from)?;
+            written_as(alloc, ty, from)?;
             let variable = of_type(alloc, names.as_slice(), from)?;
             typed_as(alloc, at, variable.as_slice(), body.get(), to)
         }
@@ -456,14 +505,18 @@ pub fn function(
 }
 
 /// Refuses a type of the text that isn't the one that is wanted.
-fn written_as(written: &Option<Boxed<TypeTree>>, ty: &Ty) -> Result<(), Refused>
+fn written_as(
+    alloc: Global,
+    written: &Option<Boxed<TypeTree>>,
+    ty: &Shared<Ty>,
+) -> Result<(), Refused>
     ensures { Answers (written_as written.now ty.now) result }
 {
     match written {
         None => Ok(()),
         Some(written) => {
             let written = written.get();
-            if same_types(&type_of(written)?, ty) {
+            if same_types(type_of(alloc, written)?.get(), ty.get()) {
                 Ok(())
             } else {
                 Err(mismatch(written.place))

@@ -2,26 +2,28 @@
 
 ghost use Rattle.std.specs.Prelude.{◌≡◌, IfOk};
 ghost use Rattle.std.specs.Option.{option_copied};
+ghost use Rattle.gb_terms.specs.Make.{node};
+ghost use Rattle.gb_terms.specs.declared.term.Head.TheVariants.{Equiv, Proc as procedure};
 ghost use Rattle.gb_goal.specs.Scope.{proc_of};
 ghost use Rattle.gb_elab.specs.Answers.{Gives};
 ghost use Rattle.gb_elab.specs.Environment.{environment};
-ghost use Rattle.gb_elab.specs.Judgments.{about, after, before, equivalent, module_path, named_module, named_procedure, reference, result_of};
+ghost use Rattle.gb_elab.specs.Judgments.{about, after, before, both_procedures, equivalent, module_path, named_module, named_procedure, reference, result_of};
 
 use crate::names::is_variable;
 use crate::refusals::{argument, not_built, unknown};
 use crate::setting::Setting;
-use gb_core::copy::copy_ty;
 use gb_core::name::Name;
 use gb_core::place::Place;
 use gb_core::refusal::Refused;
 use gb_core::same::same_name;
 use gb_core::ty::Ty;
 use gb_goal::scope::Entry;
-use gb_terms::copy::copy_typed;
+use gb_shared::Shared;
 use gb_terms::decl::{Module, Proc, Typed, TypedName};
 use gb_terms::make;
 use gb_terms::module::{Mexp, ProcRef};
-use gb_terms::term::{Form, Head, Subject};
+use gb_terms::share::copy_typed;
+use gb_terms::term::{Form, Head, Subject, Terms};
 use gb_tree::form::Word;
 use gb_tree::judgment::{ModuleExpr, ProcPath, SubjectTree};
 use sqlite_items::Items;
@@ -43,7 +45,7 @@ fn module_path(module: &ModuleExpr) -> Result<&Word, Refused>
 /// # Errors
 ///
 /// `Syntax` of a body.
-pub fn about(subject: &SubjectTree, place: Place) -> Result<&ProcPath, Refused>
+fn about(subject: &SubjectTree, place: Place) -> Result<&ProcPath, Refused>
     ensures { Gives (λ f. f.now) (about subject.now place) result }
 {
     match subject {
@@ -96,7 +98,7 @@ fn procedure_of<'a>(m: &'a Module, name: &Name) -> Option<&'a Proc>
 /// `Syntax` of a module with arguments, `UnknownName` of a module or a procedure of it, `Argument` of a thing that is
 /// no module or lacks arguments.
 #[tactic(auto, unfolding(crate::specs::Judgments::named_procedure))]
-pub fn named_procedure<'a>(
+fn named_procedure<'a>(
     alloc: Global,
     at: &Setting<'a>,
     bound: &[TypedName],
@@ -112,32 +114,72 @@ pub fn named_procedure<'a>(
     }
 }
 
+/// The two procedures that a judgment is about: as the text names them, and what has these names.
+#[derive(Clone, Copy)]
+pub struct Both<'t, 'a> {
+    pub left: &'t ProcPath,
+    pub right: &'t ProcPath,
+    pub f: &'a Proc,
+    pub g: &'a Proc,
+}
+
+/// The two procedures that a judgment at this place is about.
+///
+/// # Errors
+///
+/// `Syntax` of a body, and of the module with arguments of a procedure, `UnknownName` of a module or a procedure of it,
+/// `Argument` of a thing that is no module or lacks arguments.
+pub fn both_procedures<'t, 'a>(
+    alloc: Global,
+    at: &Setting<'a>,
+    bound: &[TypedName],
+    left: &'t SubjectTree,
+    right: &'t SubjectTree,
+    place: Place,
+) -> Result<Both<'t, 'a>, Refused>
+    ensures { Gives (λ b. (b.left.now, b.right.now, b.f.now, b.g.now)) (both_procedures (environment at.now) bound.now left.now right.now place) result }
+{
+    let left = about(left, place)?;
+    let right = about(right, place)?;
+    let f = named_procedure(alloc, at, bound, left)?;
+    let g = named_procedure(alloc, at, bound, right)?;
+    Ok(Both { left, right, f, g })
+}
+
 /// A procedure as a term names it.
-fn reference(alloc: Global, path: &ProcPath) -> Result<ProcRef, AllocError>
+fn reference(alloc: Global, path: &ProcPath) -> Result<Shared<ProcRef>, AllocError>
     ensures { IfOk result (λ made. made ≡ reference path.now) }
 {
-    Ok(ProcRef {
-        module: Mexp::Name(path.module.path.name.copy(alloc)?),
-        name: path.proc.name.copy(alloc)?,
-    })
+    let name = path.proc.name.copy(alloc)?;
+    let module = path.module.path.name.copy(alloc)?;
+    let module = Mexp::Name(module);
+    Shared::new(alloc, ProcRef { module, name })
 }
 
 /// The judgment that two procedures are equivalent from a precondition to a postcondition.
-pub fn equiv(
-    alloc: Global,
-    left: &ProcPath,
-    right: &ProcPath,
-    pre: Form,
-    post: Form,
-) -> Result<Form, AllocError>
-    ensures { IfOk result (λ made. made ≡ equivalent left.now right.now pre post) }
+pub fn equiv(alloc: Global, both: &Both<'_, '_>, pre: Form, post: Form) -> Result<Form, AllocError>
+    ensures { IfOk result (λ made. made ≡ equivalent both.now.left.now both.now.right.now pre post) }
 {
-    let left = Subject::Proc(reference(alloc, left)?);
-    let right = Subject::Proc(reference(alloc, right)?);
     let mut args = Items::new(alloc);
     args.push(pre)?;
     args.push(post)?;
-    make::term(alloc, Head::Equiv(left, right), args, Ty::Bool)
+    equiv_of(alloc, both.left, both.right, args)
+}
+
+/// The judgment of these arguments on two procedures.
+fn equiv_of(
+    alloc: Global,
+    left: &ProcPath,
+    right: &ProcPath,
+    args: Terms,
+) -> Result<Form, AllocError>
+    ensures { IfOk result (λ made. made ≡ node (Equiv (procedure (reference left.now)) (procedure (reference right.now))) args Ty.Bool) }
+{
+    let ty = make::truth_ty(alloc)?;
+    let left = reference(alloc, left)?;
+    let right = reference(alloc, right)?;
+    let head = Head::Equiv(Subject::Proc(left), Subject::Proc(right));
+    make::term(alloc, head, args, ty)
 }
 
 /// What a postcondition reads of a procedure: its result, under the name `res`.
@@ -146,7 +188,7 @@ fn result_of(alloc: Global, p: &Proc) -> Result<Typed, AllocError>
 {
     let mut all = Items::new(alloc);
     let name = Name::from_str(alloc, "res")?;
-    let ty = copy_ty(alloc, &p.result)?;
+    let ty = p.result.share()?;
     all.push(TypedName { name, ty })?;
     Ok(all)
 }
@@ -155,13 +197,12 @@ fn result_of(alloc: Global, p: &Proc) -> Result<Typed, AllocError>
 pub fn parameters<'a>(
     alloc: Global,
     at: &Setting<'a>,
-    left: &Proc,
-    right: &Proc,
+    both: &Both<'_, '_>,
 ) -> Result<Setting<'a>, AllocError>
-    ensures { IfOk result (λ made. environment made ≡ before (environment at.now) left.now right.now) }
+    ensures { IfOk result (λ made. environment made ≡ before (environment at.now) both.now.f.now both.now.g.now) }
 {
-    let left = copy_typed(alloc, left.params.as_slice())?;
-    let right = copy_typed(alloc, right.params.as_slice())?;
+    let left = copy_typed(alloc, both.f.params.as_slice())?;
+    let right = copy_typed(alloc, both.g.params.as_slice())?;
     Ok(Setting::relational(at.scope, at.sequent, left, right))
 }
 
@@ -169,12 +210,11 @@ pub fn parameters<'a>(
 pub fn results<'a>(
     alloc: Global,
     at: &Setting<'a>,
-    left: &Proc,
-    right: &Proc,
+    both: &Both<'_, '_>,
 ) -> Result<Setting<'a>, AllocError>
-    ensures { IfOk result (λ made. environment made ≡ after (environment at.now) left.now right.now) }
+    ensures { IfOk result (λ made. environment made ≡ after (environment at.now) both.now.f.now both.now.g.now) }
 {
-    let left = result_of(alloc, left)?;
-    let right = result_of(alloc, right)?;
+    let left = result_of(alloc, both.f)?;
+    let right = result_of(alloc, both.g)?;
     Ok(Setting::relational(at.scope, at.sequent, left, right))
 }

@@ -4,18 +4,19 @@ ghost use Rattle.std.specs.Prelude.{◌≡◌, Ok, IfOk, bytes_eq};
 ghost use Rattle.std.specs.List.{list_any};
 ghost use Rattle.std.specs.Option.{option_copied};
 ghost use Rattle.gb_elab.specs.Answers.{Answers, Gives, Refuses, counted};
+ghost use Rattle.gb_elab.specs.Answers.Answer.{given};
 ghost use Rattle.gb_elab.specs.Environment.{environment};
 ghost use Rattle.gb_elab.specs.Names.{bound_variable, built_in, constant_term, first_named, in_memory, is_variable, logical_variable, named, names_no_value, names_other, no_variable, number_before, own_variable, program_variable, sided, unbound, unit};
 
 use crate::refusals::{argument, too_many, unknown};
 use crate::setting::Setting;
-use gb_core::copy::copy_ty;
 use gb_core::name::Name;
 use gb_core::place::Place;
 use gb_core::refusal::Refused;
 use gb_core::ty::Ty;
 use gb_core::value::Value;
 use gb_goal::sequent::{Hyp, Sequent};
+use gb_shared::Shared;
 use gb_terms::decl::TypedName;
 use gb_terms::make;
 use gb_terms::module::Bind;
@@ -67,7 +68,7 @@ fn bound_variable(alloc: Global, between: usize, x: &TypedName) -> Result<Term, 
     ensures { Answers (bound_variable between x.now) result }
 {
     let between = counted(between)?;
-    let ty = copy_ty(alloc, &x.ty)?;
+    let ty = x.ty.share()?;
     Ok(make::leaf(alloc, Head::Bound(between), ty)?)
 }
 
@@ -76,7 +77,7 @@ fn logical_variable(alloc: Global, at: usize, x: &TypedName) -> Result<Term, Ref
     ensures { Answers (logical_variable at x.now) result }
 {
     let at = counted(at)?;
-    let ty = copy_ty(alloc, &x.ty)?;
+    let ty = x.ty.share()?;
     Ok(make::logical(alloc, at, ty)?)
 }
 
@@ -85,7 +86,7 @@ fn program_variable(alloc: Global, x: &TypedName, side: Side) -> Result<Term, Al
     ensures { IfOk result (λ made. made ≡ program_variable side x.now) }
 {
     let name = x.name.copy(alloc)?;
-    let ty = copy_ty(alloc, &x.ty)?;
+    let ty = x.ty.share()?;
     make::program(alloc, name, side, ty)
 }
 
@@ -114,18 +115,19 @@ fn built_in(name: &Name) -> Option<Constant>
 }
 
 /// The one value of `unit`.
-pub fn unit(alloc: Global) -> Result<Term, AllocError>
-    ensures { IfOk result (λ made. made ≡ unit) }
+pub fn unit(alloc: Global) -> Result<Term, Refused>
+    ensures { Answers (given unit) result }
 {
-    make::leaf(alloc, Head::Lit(Value::Num(0)), Ty::Unit)
+    let ty = Shared::new(alloc, Ty::Unit)?;
+    Ok(make::leaf(alloc, Head::Lit(Value::Num(0)), ty)?)
 }
 
-fn constant_term(alloc: Global, constant: Constant) -> Result<Term, AllocError>
-    ensures { IfOk result (λ made. made ≡ constant_term constant) }
+fn constant_term(alloc: Global, constant: Constant) -> Result<Term, Refused>
+    ensures { Answers (given (constant_term constant)) result }
 {
     match constant {
-        Constant::True => make::boolean(alloc, true),
-        Constant::False => make::boolean(alloc, false),
+        Constant::True => Ok(make::boolean(alloc, true)?),
+        Constant::False => Ok(make::boolean(alloc, false)?),
         Constant::Unit => unit(alloc),
     }
 }
@@ -188,7 +190,7 @@ fn unbound(alloc: Global, at: &Setting<'_>, name: &Name, place: Place) -> Result
         return Err(argument(place));
     }
     match built_in(name) {
-        Some(constant) => Ok(constant_term(alloc, constant)?),
+        Some(constant) => constant_term(alloc, constant),
         None => Err(unknown(alloc, name, place)),
     }
 }

@@ -2,7 +2,8 @@
 
 ghost use Rattle.std.specs.Prelude.{◌≡◌};
 ghost use Rattle.std.specs.Option.{option_copied};
-ghost use Rattle.gb_elab.specs.Answers.{Answers, fits, wanted};
+ghost use Rattle.gb_terms.specs.declared.term.Term.{Term};
+ghost use Rattle.gb_elab.specs.Answers.{Answer, Answers, ◌>>=◌ as ◌and_then◌, fits, wanted};
 ghost use Rattle.gb_elab.specs.Types.{type_of};
 
 use crate::refusals::{mismatch, not_built};
@@ -10,20 +11,22 @@ use gb_core::place::Place;
 use gb_core::refusal::Refused;
 use gb_core::ty::Ty;
 use gb_same::types::same_types;
+use gb_shared::Shared;
 use gb_terms::term::Term;
 use gb_tree::form::{TypeShape, TypeTree};
+use std::alloc::Global;
 
 /// The type that a type of a script spells.
 ///
 /// # Errors
 ///
 /// `Syntax` of a type that isn't built.
-pub fn type_of(t: &TypeTree) -> Result<Ty, Refused>
+pub fn type_of(alloc: Global, t: &TypeTree) -> Result<Shared<Ty>, Refused>
     ensures { Answers (type_of t.now) result }
 {
     match &t.shape {
-        TypeShape::Unit => Ok(Ty::Unit),
-        TypeShape::Bool => Ok(Ty::Bool),
+        TypeShape::Unit => Ok(Shared::new(alloc, Ty::Unit)?),
+        TypeShape::Bool => Ok(Shared::new(alloc, Ty::Bool)?),
         _ => Err(not_built(t.place)),
     }
 }
@@ -38,10 +41,15 @@ pub fn fits(ty: &Ty, want: Option<&Ty>) -> bool
     }
 }
 
-/// The term itself, refused where another type is wanted.
-pub fn wanted(t: Term, want: Option<&Ty>, place: Place) -> Result<Term, Refused>
-    ensures { Answers (wanted (option_copied want.entry) place t) result }
+/// The term that was answered itself, refused where another type is wanted.
+pub fn wanted(
+    answer: Result<Term, Refused>,
+    want: Option<&Ty>,
+    place: Place,
+) -> Result<Term, Refused>
+    ensures { (a : Answer Term) → Answers a answer → Answers (a and_then wanted (option_copied want.entry) place) result }
 {
+    let t = answer?;
     if fits(t.ty.get(), want) {
         Ok(t)
     } else {

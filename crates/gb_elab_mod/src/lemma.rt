@@ -1,10 +1,12 @@
 // The statement of a lemma.
 
-ghost use Rattle.std.specs.Prelude.{◌≡◌, ◌≤◌, None, IfOk, OnOk};
+ghost use Rattle.std.specs.Prelude.{◌≡◌, ◌≤◌, [], Some, None, IfOk, OnOk};
 ghost use Rattle.gb_goal.specs.Scope.{entry_of};
 ghost use Rattle.gb_terms.specs.Nodes.{term_nodes};
 ghost use Rattle.gb_elab.specs.Answers.{Answers, type_of_term};
-ghost use Rattle.gb_elab_mod.specs.Lemmas.{binds_nothing, free, small, statement_given};
+ghost use Rattle.gb_elab.specs.Environment.{ambient as in_sequent};
+ghost use Rattle.gb_elab.specs.Forms.{elaborated};
+ghost use Rattle.gb_elab_mod.specs.Lemmas.{binds_nothing, free, nothing_around, small, statement_given};
 ghost use Rattle.gb_elab_mod.specs.Typed.{alone};
 
 use gb_core::refusal::Refused;
@@ -16,9 +18,18 @@ use gb_goal::scope::Scope;
 use gb_goal::sequent::{Sequent, ambient};
 use gb_terms::make;
 use gb_terms::nodes::nodes_of;
+use gb_terms::term::Form;
 use gb_tree::command::LemmaTree;
-use gb_tree::form::{Bind, Word};
-use std::alloc::Global;
+use gb_tree::form::{Bind, FormTree, Word};
+use std::alloc::{AllocError, Global};
+
+/// The empty context, with no claim.
+pub fn nothing_around(alloc: Global) -> Result<Sequent, AllocError>
+    ensures { IfOk result (λ around. around ≡ nothing_around) }
+{
+    let truth = make::boolean(alloc, true)?;
+    ambient(alloc, truth)
+}
 
 /// Refuses a name that the script has declared.
 pub fn refuse_declared(alloc: Global, scope: &Scope, name: &Word) -> Result<(), Refused>
@@ -48,7 +59,7 @@ fn refuse_binders(binders: &[Bind], name: &Word) -> Result<(), Refused>
 ///
 /// `DoubleName` at the lemma's name where it is taken, `Syntax` there where it binds something, those of typing with the
 /// wanted type `bool`, and `TooMany` of the nodes of a formula, whose place is for the caller to put in.
-#[tactic(auto, using(gb_elab::proofs::OfWantedType::typed_as_type), unfolding(crate::specs::Lemmas::statement_given))]
+#[tactic(auto, unfolding(crate::specs::Lemmas::statement_given))]
 pub fn statement(alloc: Global, scope: &Scope, t: &LemmaTree) -> Result<Sequent, Refused>
     ensures answer { Answers (statement_given scope.now t.now) result }
     ensures truth { IfOk result (λ s. type_of_term s.conclusion ≡ Ty.Bool) }
@@ -58,10 +69,19 @@ pub fn statement(alloc: Global, scope: &Scope, t: &LemmaTree) -> Result<Sequent,
 {
     refuse_declared(alloc, scope, &t.name)?;
     refuse_binders(t.binders.as_slice(), &t.name)?;
-    let around = ambient(alloc, make::boolean(alloc, true)?);
-    let conclusion = term(alloc, scope, &around, t.statement.get(), Some(&Ty::Bool))?;
+    let conclusion = stated(alloc, scope, t.statement.get())?;
     if nodes_of(&conclusion) > NODES {
         return Err(too_many(NODES));
     }
-    Ok(ambient(alloc, conclusion))
+    Ok(ambient(alloc, conclusion)?)
+}
+
+/// The typed tree of a statement.
+#[tactic(auto, using(gb_elab::proofs::OfWantedType::answers_type))]
+fn stated(alloc: Global, scope: &Scope, t: &FormTree) -> Result<Form, Refused>
+    ensures answer { Answers (elaborated t.now (in_sequent scope.now nothing_around) [] (Some Ty.Bool)) result }
+    ensures truth { IfOk result (λ f. type_of_term f ≡ Ty.Bool) }
+{
+    let around = nothing_around(alloc)?;
+    term(alloc, scope, &around, t, Some(&Ty::Bool))
 }

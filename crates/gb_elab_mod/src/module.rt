@@ -8,15 +8,14 @@ ghost use Rattle.gb_elab_mod.specs.Lemmas.{nothing_around};
 ghost use Rattle.gb_elab_mod.specs.Modules.{all_short, is_globals, module_given, plain, procedures};
 ghost use Rattle.gb_elab_mod.specs.Typed.{ReturnsItsType, names_in_text, proc_names, procs_in};
 
-use crate::lemma::refuse_declared;
+use crate::lemma::{nothing_around, refuse_declared};
 use crate::procedure::{procedure, refuse_long};
 use gb_core::name::Name;
 use gb_core::refusal::Refused;
 use gb_elab::refusals::{double, not_built};
 use gb_goal::scope::Scope;
-use gb_goal::sequent::{Sequent, ambient};
+use gb_goal::sequent::Sequent;
 use gb_terms::decl::{Module, Proc, Procs};
-use gb_terms::make;
 use gb_tree::program::{ModuleItem, ModuleTree};
 use sqlite_items::Items;
 use std::alloc::Global;
@@ -39,11 +38,12 @@ pub fn module(alloc: Global, scope: &Scope, t: &ModuleTree) -> Result<Module, Re
 {
     refuse_declared(alloc, scope, &t.name)?;
     refuse_unbuilt(t)?;
-    let around = ambient(alloc, make::boolean(alloc, true)?);
+    let around = nothing_around(alloc)?;
     let procs = procedures(alloc, scope, &around, t.items.as_slice())?;
     refuse_long_bodies(t.items.as_slice())?;
+    let name = t.name.name.copy(alloc)?;
     Ok(Module {
-        name: t.name.name.copy(alloc)?,
+        name,
         params: Items::new(alloc),
         globals: Items::new(alloc),
         procs,

@@ -5,10 +5,10 @@ ghost use Rattle.gb_terms.specs.declared.term.Head.TheVariants.{Sample};
 ghost use Rattle.gb_elab_mod.specs.Occurring.{added, local, occurring, read_locals, sampling_locals, with_all};
 
 use crate::procedure::is_local;
-use gb_core::copy::copy_ty;
 use gb_core::name::Name;
 use gb_core::ty::Ty;
 use gb_core::var::Var;
+use gb_shared::Shared;
 use gb_terms::decl::{Typed, TypedName};
 use gb_terms::op::{Read, Side};
 use gb_terms::same::same_side;
@@ -34,19 +34,24 @@ pub fn occurring(
 }
 
 /// Adds a local that isn't there.
-fn add(alloc: Global, found: &mut Typed, name: &Name, ty: &Ty) -> Result<(), AllocError>
+fn add(alloc: Global, found: &mut Typed, name: &Name, ty: &Shared<Ty>) -> Result<(), AllocError>
     ensures { OnOk result (found.new ≡ added found.old (record { name = name.now; ty = ty.now })) }
 {
     if is_local(found.as_slice(), name) {
         return Ok(());
     }
     let name = name.copy(alloc)?;
-    let ty = copy_ty(alloc, ty)?;
+    let ty = ty.share()?;
     found.push(TypedName { name, ty })
 }
 
 /// Adds the local that a variable of this type is.
-fn add_variable(alloc: Global, found: &mut Typed, var: &Var, ty: &Ty) -> Result<(), AllocError>
+fn add_variable(
+    alloc: Global,
+    found: &mut Typed,
+    var: &Var,
+    ty: &Shared<Ty>,
+) -> Result<(), AllocError>
     ensures { OnOk result (found.new ≡ with_all found.old (local var.now ty.now)) }
 {
     match var {
@@ -60,7 +65,7 @@ fn in_read(
     alloc: Global,
     found: &mut Typed,
     var: &Var,
-    ty: &Ty,
+    ty: &Shared<Ty>,
     here: bool,
 ) -> Result<(), AllocError>
     ensures { OnOk result (found.new ≡ with_all found.old (if here then local var.now ty.now else [])) }
@@ -81,7 +86,7 @@ fn in_term(alloc: Global, found: &mut Typed, t: &Term, side: Side) -> Result<(),
     match t.head.get() {
         Head::Read(read) => match read {
             Read::Program { var, side: through } => {
-                in_read(alloc, found, var, t.ty.get(), same_side(through, &side))
+                in_read(alloc, found, var, &t.ty, same_side(through, &side))
             }
             Read::Logical(_) => in_terms(alloc, found, t.args.as_slice(), side),
         },
@@ -125,7 +130,7 @@ fn in_sampling(alloc: Global, found: &mut Typed, var: &Var, from: &Term) -> Resu
     ensures { OnOk result (found.new ≡ with_all found.old (sampling_locals (Sample var.now from.now))) }
 {
     if let Ty::Distr(outcomes) = from.ty.get() {
-        add_variable(alloc, found, var, outcomes.get())?;
+        add_variable(alloc, found, var, outcomes)?;
     }
     in_term(alloc, found, from, Side::Own)
 }

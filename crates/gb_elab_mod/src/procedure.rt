@@ -1,16 +1,15 @@
 // Procedures and their statements.
 
-ghost use Rattle.std.specs.Prelude.{◌≡◌, [], IfOk, MatchResult, bytes_eq};
+ghost use Rattle.std.specs.Prelude.{◌≡◌, [], false, IfOk, MatchResult, bytes_eq};
 ghost use Rattle.std.specs.List.{list_any};
 ghost use Rattle.gb_tree.specs.declared.program.StatementShape.{out-StatementShape};
 ghost use Rattle.gb_elab.specs.Answers.{Answers, Fails, Gives};
 ghost use Rattle.gb_elab.specs.Answers.Answer.{given};
 ghost use Rattle.gb_elab.specs.Environment.{environment};
 ghost use Rattle.gb_elab_mod.specs.Modules.{short};
-ghost use Rattle.gb_elab_mod.specs.Procedures.{declared, instruction, instructions, lacks_value, locals, procedure, result_type, sampling, takes_nothing, value};
+ghost use Rattle.gb_elab_mod.specs.Procedures.{declared, instruction, instructions, lacks_value, locals, procedure, procedure_of, result_type, sampling, takes_nothing, value};
 ghost use Rattle.gb_elab_mod.specs.Typed.{ReturnsItsType};
 
-use gb_core::copy::copy_ty;
 use gb_core::name::Name;
 use gb_core::refusal::{Refused, Why};
 use gb_core::ty::Ty;
@@ -23,8 +22,9 @@ use gb_elab::types::type_of;
 use gb_goal::scope::Scope;
 use gb_goal::sequent::Sequent;
 use gb_same::types::same_types;
-use gb_terms::copy::copy_typed;
+use gb_shared::{Shared, SharedItems};
 use gb_terms::decl::{Proc, Typed, TypedName};
+use gb_terms::share::copy_typed;
 use gb_terms::term::{Cmd, Instr, Term};
 use gb_tree::form::{Binder, FormTree, Word};
 use gb_tree::program::{ProcTree, Statement, StatementShape};
@@ -41,7 +41,7 @@ pub const STATEMENTS: usize = 512;
 /// `Syntax` at its name where it has parameters, that of its result's type, `TypeMismatch` at its name where it returns
 /// nothing and has another result than `unit`, `DoubleName` of a local, and those of its statements and of the value
 /// that it returns, in the order of the text.
-#[tactic(auto, unfolding(crate::specs::Procedures::procedure, crate::specs::Procedures::procedure_of))]
+#[tactic(auto, unfolding(crate::specs::Procedures::procedure))]
 pub fn procedure(
     alloc: Global,
     scope: &Scope,
@@ -53,19 +53,37 @@ pub fn procedure(
     ensures value { IfOk result (λ p. ReturnsItsType p) }
 {
     refuse_parameters(t.parameters.as_slice(), &t.name)?;
-    let result = result_type(t)?;
-    if lacks_value(&t.value, &result) {
+    let ty = result_type(alloc, t)?;
+    if lacks_value(&t.value, ty.get()) {
         return Err(mismatch(t.name.place));
     }
+    procedure_of(alloc, scope, around, t, ty)
+}
+
+/// The typed tree of a procedure whose result has this type.
+#[tactic(auto, unfolding(crate::specs::Procedures::procedure_of))]
+fn procedure_of(
+    alloc: Global,
+    scope: &Scope,
+    around: &Sequent,
+    t: &ProcTree,
+    ty: Shared<Ty>,
+) -> Result<Proc, Refused>
+    requires { lacks_value t.now.value ty ≡ false }
+    ensures answer { Answers (procedure_of scope.now around.now t.now ty) result }
+    ensures name { IfOk result (λ p. p.name ≡ t.now.name.name) }
+    ensures value { IfOk result (λ p. ReturnsItsType p) }
+{
     let locals = locals(alloc, t.locals.as_slice())?;
     let variables = copy_typed(alloc, locals.as_slice())?;
     let at = Setting::program(scope, around, variables);
     let body = body(alloc, &at, t.body.as_slice())?;
-    let value = value(alloc, &at, &t.value, &result)?;
+    let value = value(alloc, &at, &t.value, ty.get())?;
+    let name = t.name.name.copy(alloc)?;
     Ok(Proc {
-        name: t.name.name.copy(alloc)?,
+        name,
         params: Items::new(alloc),
-        result,
+        result: ty,
         locals,
         body,
         value,
@@ -83,12 +101,12 @@ fn refuse_parameters(parameters: &[Binder], name: &Word) -> Result<(), Refused>
 }
 
 /// The type of a procedure's result.
-fn result_type(t: &ProcTree) -> Result<Ty, Refused>
+fn result_type(alloc: Global, t: &ProcTree) -> Result<Shared<Ty>, Refused>
     ensures { Answers (result_type t.now.result) result }
 {
     match &t.result {
-        None => Ok(Ty::Unit),
-        Some(written) => type_of(written.get()),
+        None => Ok(Shared::new(alloc, Ty::Unit)?),
+        Some(written) => type_of(alloc, written.get()),
     }
 }
 
@@ -135,14 +153,19 @@ fn locals(alloc: Global, binders: &[Binder]) -> Result<Typed, Refused>
 {
     let mut locals = Items::new(alloc);
     for binder in binders {
-        let ty = type_of(binder.ty.get())?;
+        let ty = type_of(alloc, binder.ty.get())?;
         declare(alloc, &mut locals, binder.names.as_slice(), &ty)?;
     }
     Ok(locals)
 }
 
 /// Declares locals of one type beside those that are declared.
-fn declare(alloc: Global, locals: &mut Typed, names: &[Word], ty: &Ty) -> Result<(), Refused>
+fn declare(
+    alloc: Global,
+    locals: &mut Typed,
+    names: &[Word],
+    ty: &Shared<Ty>,
+) -> Result<(), Refused>
     ensures { MatchResult result
         (λ _. declared locals.old names.now ty.now ≡ given locals.new)
         (λ e. Fails (declared locals.old names.now ty.now) e) }
@@ -152,7 +175,7 @@ fn declare(alloc: Global, locals: &mut Typed, names: &[Word], ty: &Ty) -> Result
             return Err(double(alloc, &x.name, x.place));
         }
         let name = x.name.copy(alloc)?;
-        let ty = copy_ty(alloc, ty)?;
+        let ty = ty.share()?;
         locals.push(TypedName { name, ty })?;
     }
     Ok(())
@@ -167,6 +190,7 @@ fn body(alloc: Global, at: &Setting<'_>, statements: &[Statement]) -> Result<Cmd
         let i = instruction(alloc, at, s)?;
         list.push(i)?;
     }
+    let list = SharedItems::new(alloc, list)?;
     Ok(Cmd { list })
 }
 
@@ -190,9 +214,8 @@ fn sampling(
     ensures { Answers (sampling (environment at.now) target.now from.now) result }
 {
     let variable = own_variable(alloc, at, target)?;
-    let outcomes = copy_ty(alloc, &variable.ty)?;
-    let wanted = Ty::Distr(Boxed::new(alloc, outcomes)?);
-    let from = typed_as(alloc, at, &[], from, &wanted)?;
+    let outcomes = variable.ty.share()?;
+    let from = typed_as(alloc, at, &[], from, &Ty::Distr(outcomes))?;
     let name = variable.name.copy(alloc)?;
     Ok(Instr::Sample(Var::Local { name }, from))
 }

@@ -18,6 +18,7 @@ use gb_goal::scope::Scope;
 use gb_goal::sequent::Sequent;
 use gb_goal::step::{Rule, Step};
 use gb_same::types::same_types;
+use gb_shared::Shared;
 use gb_terms::op::Side;
 use gb_terms::term::{Cmd, Form, Head, Instr, Subject, Terms};
 use gb_tree::form::FormTree;
@@ -63,7 +64,8 @@ fn typed_rule(
         }
         RuleTree::Rnd(bodies, functions) => {
             on_both(*bodies, place)?;
-            Ok(Rule::Rnd(couplings(alloc, scope, s, functions.as_slice())?))
+            let functions = couplings(alloc, scope, s, functions.as_slice())?;
+            Ok(Rule::Rnd(functions))
         }
         RuleTree::Skip(bodies) => {
             on_both(*bodies, place)?;
@@ -108,12 +110,12 @@ fn bodies(conclusion: &Form) -> Option<(&Cmd, &Cmd)>
 }
 
 /// The type of the variable that a body's last statement samples.
-fn last_sampled(body: &Cmd) -> Option<&Ty>
+fn last_sampled(body: &Cmd) -> Option<&Shared<Ty>>
     ensures { option_copied result ≡ last_sampled body.now }
 {
     match body.list.as_slice().last() {
         Some(Instr::Sample(_, from)) => match from.ty.get() {
-            Ty::Distr(outcomes) => Some(outcomes.get()),
+            Ty::Distr(outcomes) => Some(outcomes),
             _ => None,
         },
         _ => None,
@@ -153,7 +155,7 @@ fn couplings(
     let (Some(from), Some(to)) = (last_sampled(left), last_sampled(right)) else {
         return Ok(Items::new(alloc));
     };
-    refuse_one_way(functions, from, to)?;
+    refuse_one_way(functions, from.get(), to.get())?;
     let conditions = s.conclusion.args.as_slice();
     let on_left = occurring(alloc, conditions, Side::Left, left)?;
     let on_right = occurring(alloc, conditions, Side::Right, right)?;
@@ -167,15 +169,15 @@ fn there_and_back(
     alloc: Global,
     at: &Setting<'_>,
     forms: &[Boxed<FormTree>],
-    from: &Ty,
-    to: &Ty,
+    from: &Shared<Ty>,
+    to: &Shared<Ty>,
 ) -> Result<Terms, Refused>
     ensures answer { Answers (there_and_back (environment at.now) forms.now from.now to.now) result }
     ensures number { IfOk result (λ ts. length ts ≡ length forms.now) }
 {
     let mut typed = Items::new(alloc);
     if let [f, rest @ ..] = forms {
-        typed.push(function(alloc, at, f.get(), from, to)?)?;
+        typed.push(function(alloc, at, f.get(), from, to.get())?)?;
         typed.append(functions(alloc, at, rest, to, from)?)?;
     }
     Ok(typed)
@@ -186,15 +188,15 @@ fn functions(
     alloc: Global,
     at: &Setting<'_>,
     forms: &[Boxed<FormTree>],
-    from: &Ty,
-    to: &Ty,
+    from: &Shared<Ty>,
+    to: &Shared<Ty>,
 ) -> Result<Terms, Refused>
     ensures answer { Answers (functions (environment at.now) forms.now from.now to.now) result }
     ensures number { IfOk result (λ ts. length ts ≡ length forms.now) }
 {
     let mut typed = Items::new(alloc);
     for f in forms {
-        typed.push(function(alloc, at, f.get(), from, to)?)?;
+        typed.push(function(alloc, at, f.get(), from, to.get())?)?;
     }
     Ok(typed)
 }

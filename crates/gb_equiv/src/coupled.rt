@@ -3,22 +3,20 @@
 ghost use Rattle.std.specs.Prelude.{◌≡◌, IfOk};
 ghost use Rattle.gb_equiv.specs.Coupled.{nearest, composed, in_support, weight, for_support, keeps_weights, couples, coupled_post};
 
-use gb_core::copy::copy_ty;
 use gb_core::ty::Ty;
-use gb_terms::copy::copy_term;
-use gb_terms::make::{binary, conjunction, equality, forall, implication, leaf};
+use gb_shared::Shared;
+use gb_terms::make::{binary, conjunction, equality, forall, implication, leaf, truth_ty};
 use gb_terms::op::Op;
 use gb_terms::term::{Form, Head, Term};
 use gb_walk::change::Change;
 use gb_walk::walk::changed;
-use sqlite_items::Boxed;
 use std::alloc::{AllocError, Global};
 
 /// A distribution that is sampled on one side, read there, and the type of its values.
 #[derive(Drop)]
 pub struct Sampled {
     pub from: Term,
-    pub ty: Boxed<Ty>,
+    pub ty: Shared<Ty>,
 }
 
 /// Functions between the values of two samplings, from left to right and from right to left. The argument of a function
@@ -38,47 +36,48 @@ pub struct Coupled {
 }
 
 /// The value under the nearest binder.
-pub fn nearest(alloc: Global, ty: &Ty) -> Result<Term, AllocError>
+pub fn nearest(alloc: Global, ty: &Shared<Ty>) -> Result<Term, AllocError>
     ensures { IfOk result (λ made. made ≡ nearest ty.now) }
 {
-    leaf(alloc, Head::Bound(0), copy_ty(alloc, ty)?)
+    let ty = ty.share()?;
+    leaf(alloc, Head::Bound(0), ty)
 }
 
 /// The function `outer` after `inner`.
 fn composed(alloc: Global, outer: &Term, inner: &Term) -> Result<Term, AllocError>
     ensures { IfOk result (λ made. made ≡ composed outer.now inner.now) }
 {
-    let argument = Change::OfBound(0, copy_term(alloc, inner)?);
-    changed(alloc, outer, &[argument])
+    let inner = inner.share()?;
+    changed(alloc, outer, &[Change::OfBound(0, inner)])
 }
 
 /// `v \in d`.
 fn has_weight(alloc: Global, value: Term, from: &Term) -> Result<Form, AllocError>
     ensures { IfOk result (λ made. made ≡ in_support value from.now) }
 {
-    binary(
-        alloc,
-        Op::InSupport,
-        value,
-        copy_term(alloc, from)?,
-        Ty::Bool,
-    )
+    let from = from.share()?;
+    let ty = truth_ty(alloc)?;
+    binary(alloc, Op::InSupport, value, from, ty)
 }
 
 /// `mu1 d v`.
 fn weight(alloc: Global, from: &Term, value: Term) -> Result<Term, AllocError>
     ensures { IfOk result (λ made. made ≡ weight from.now value) }
 {
-    binary(alloc, Op::Mu1, copy_term(alloc, from)?, value, Ty::Real)
+    let from = from.share()?;
+    let ty = Shared::new(alloc, Ty::Real)?;
+    binary(alloc, Op::Mu1, from, value, ty)
 }
 
 /// `forall v, v \in d => F`.
 fn for_support(alloc: Global, sampled: &Sampled, form: Form) -> Result<Form, AllocError>
     ensures { IfOk result (λ made. made ≡ for_support sampled.now form) }
 {
-    let premise = has_weight(alloc, nearest(alloc, sampled.ty.get())?, &sampled.from)?;
+    let value = nearest(alloc, &sampled.ty)?;
+    let premise = has_weight(alloc, value, &sampled.from)?;
     let body = implication(alloc, premise, form)?;
-    forall(alloc, copy_ty(alloc, sampled.ty.get())?, body)
+    let ty = sampled.ty.share()?;
+    forall(alloc, ty, body)
 }
 
 /// Each value v on the right is the image of its source on the left, which has the same probability:
@@ -87,9 +86,9 @@ fn keeps_weights(alloc: Global, c: &Coupled) -> Result<Form, AllocError>
     ensures { IfOk result (λ made. made ≡ keeps_weights c.now) }
 {
     let round = composed(alloc, &c.maps.forth, &c.maps.back)?;
-    let returns = equality(alloc, nearest(alloc, c.right.ty.get())?, round)?;
-    let here = weight(alloc, &c.right.from, nearest(alloc, c.right.ty.get())?)?;
-    let there = weight(alloc, &c.left.from, copy_term(alloc, &c.maps.back)?)?;
+    let returns = equality(alloc, nearest(alloc, &c.right.ty)?, round)?;
+    let here = weight(alloc, &c.right.from, nearest(alloc, &c.right.ty)?)?;
+    let there = weight(alloc, &c.left.from, c.maps.back.share()?)?;
     let keeps = equality(alloc, here, there)?;
     let form = conjunction(alloc, returns, keeps)?;
     for_support(alloc, &c.right, form)
@@ -100,9 +99,9 @@ fn keeps_weights(alloc: Global, c: &Coupled) -> Result<Form, AllocError>
 fn couples(alloc: Global, c: &Coupled, post: Form) -> Result<Form, AllocError>
     ensures { IfOk result (λ made. made ≡ couples c.now post) }
 {
-    let lands = has_weight(alloc, copy_term(alloc, &c.maps.forth)?, &c.right.from)?;
+    let lands = has_weight(alloc, c.maps.forth.share()?, &c.right.from)?;
     let round = composed(alloc, &c.maps.back, &c.maps.forth)?;
-    let returns = equality(alloc, nearest(alloc, c.left.ty.get())?, round)?;
+    let returns = equality(alloc, nearest(alloc, &c.left.ty)?, round)?;
     let form = conjunction(alloc, conjunction(alloc, lands, returns)?, post)?;
     for_support(alloc, &c.left, form)
 }

@@ -4,9 +4,8 @@ ghost use Rattle.std.specs.Prelude.{◌≡◌, ◌∷◌, [], IfOk, IfSome};
 ghost use Rattle.std.specs.Option.{option_map};
 ghost use Rattle.gb_equiv.specs.Judgment.{judgment_of, parts_of, equivalence_of, bodies_of, on_bodies, on_side, concluding};
 
-use gb_core::ty::Ty;
-use gb_goal::sequent::{Sequent, Sequents, with_conclusion};
-use gb_terms::make::term;
+use gb_goal::sequent::{Sequent, Sequents};
+use gb_terms::make::{term, truth_ty};
 use gb_terms::op::Side;
 use gb_terms::term::{Cmd, Form, Head, Subject, Term};
 use gb_walk::change::Change;
@@ -76,8 +75,9 @@ pub fn on_bodies(
     let mut args = Items::new(alloc);
     args.push(pre)?;
     args.push(post)?;
+    let ty = truth_ty(alloc)?;
     let head = Head::Equiv(Subject::Body(left), Subject::Body(right));
-    term(alloc, head, args, Ty::Bool)
+    term(alloc, head, args, ty)
 }
 
 /// A term of a program, read on one side of an equivalence.
@@ -92,6 +92,6 @@ pub fn one_goal(alloc: Global, goal: &Sequent, conclusion: Form) -> Result<Seque
     ensures { IfOk result (λ goals. goals ≡ concluding goal.now conclusion) }
 {
     let mut goals = Items::new(alloc);
-    goals.push(with_conclusion(alloc, goal, conclusion)?)?;
+    goals.push(goal.with_conclusion(conclusion)?)?;
     Ok(goals)
 }

@@ -9,7 +9,6 @@ use gb_core::name::Name;
 use gb_core::var::Var;
 use gb_goal::scope::Scope;
 use gb_goal::sequent::{Sequent, Sequents};
-use gb_terms::copy::{copy_cmd, copy_term};
 use gb_terms::decl::Proc;
 use gb_terms::op::{Read, Side};
 use gb_terms::term::{Form, Subject};
@@ -26,7 +25,7 @@ fn procedure<'a>(scope: &'a Scope, subject: &Subject) -> Option<&'a Proc>
     ensures { option_copied result ≡ procedure_in scope.now subject.now }
 {
     match subject {
-        Subject::Proc(named) => scope.procedure(named),
+        Subject::Proc(named) => scope.procedure(named.get()),
         Subject::Body(_) => None,
     }
 }
@@ -63,9 +62,9 @@ fn entered(
 {
     let results = result_changes(alloc, left, right)?;
     let post = changed(alloc, post, results.as_slice())?;
-    let pre = copy_term(alloc, pre)?;
-    let left = copy_cmd(alloc, &left.body)?;
-    let right = copy_cmd(alloc, &right.body)?;
+    let pre = pre.share()?;
+    let left = left.body.share()?;
+    let right = right.body.share()?;
     on_bodies(alloc, left, right, pre, post)
 }
 
@@ -88,5 +87,6 @@ pub fn proc_rule(
         return Ok(None);
     };
     let conclusion = entered(alloc, left, right, judgment.pre, judgment.post)?;
-    Ok(Some(one_goal(alloc, goal, conclusion)?))
+    let goals = one_goal(alloc, goal, conclusion)?;
+    Ok(Some(goals))
 }

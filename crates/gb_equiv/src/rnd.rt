@@ -6,17 +6,18 @@ ghost use Rattle.gb_equiv.specs.Rnd.{sampling_of, rest_of, of_statement, last_sa
 
 use crate::coupled::{Coupled, Maps, Sampled, coupled_post, nearest};
 use crate::judgment::{as_bodies, on_bodies, on_side, one_goal};
-use gb_core::copy::{copy_ty, copy_var};
+use gb_core::copy::copy_var;
 use gb_core::ty::Ty;
 use gb_core::var::Var;
 use gb_goal::sequent::{Sequent, Sequents};
 use gb_same::types::same_types;
-use gb_terms::copy::{copy_instrs, copy_term};
+use gb_shared::{Shared, SharedItems};
 use gb_terms::op::{Read, Side};
+use gb_terms::share::share_instrs;
 use gb_terms::term::{Cmd, Form, Instr, Term};
 use gb_walk::change::Change;
 use gb_walk::walk::changed;
-use sqlite_items::{Boxed, Items};
+use sqlite_items::Items;
 use std::alloc::{AllocError, Global};
 
 /// The sampling that ends a body, and what stands before it.
@@ -25,7 +26,7 @@ pub struct Last<'a> {
     pub before: &'a [Instr],
     pub target: &'a Var,
     pub from: &'a Term,
-    pub ty: &'a Ty,
+    pub ty: &'a Shared<Ty>,
 }
 
 /// The sampling that a statement is, behind these statements.
@@ -38,7 +39,7 @@ fn sampling<'a>(before: &'a [Instr], last: &'a Instr) -> Option<Last<'a>>
                 before,
                 target,
                 from,
-                ty: ty.get(),
+                ty,
             }),
             _ => None,
         },
@@ -58,10 +59,14 @@ fn last_sampling(body: &Cmd) -> Option<Last<'_>>
 }
 
 /// The identity between the values of one type.
-fn identity(alloc: Global, left: &Ty, right: &Ty) -> Result<Option<Maps>, AllocError>
+fn identity(
+    alloc: Global,
+    left: &Shared<Ty>,
+    right: &Shared<Ty>,
+) -> Result<Option<Maps>, AllocError>
     ensures { IfOk result (λ made. made ≡ identity left.now right.now) }
 {
-    if !same_types(left, right) {
+    if !same_types(left.get(), right.get()) {
         return Ok(None);
     }
     let forth = nearest(alloc, left)?;
@@ -69,21 +74,29 @@ fn identity(alloc: Global, left: &Ty, right: &Ty) -> Result<Option<Maps>, AllocE
     Ok(Some(Maps { forth, back }))
 }
 
+/// These functions.
+fn shared_maps(forth: &Term, back: &Term) -> Result<Option<Maps>, AllocError>
+    ensures { IfOk result (λ made. made ≡ Some (record { forth = forth.now; back = back.now })) }
+{
+    let forth = forth.share()?;
+    let back = back.share()?;
+    Ok(Some(Maps { forth, back }))
+}
+
 /// The functions between the values: none is the identity, which needs one type, and one is its own inverse.
 #[tactic(auto, using(crate::proofs::Given::too_many))]
-fn maps(alloc: Global, given: &[Term], left: &Ty, right: &Ty) -> Result<Option<Maps>, AllocError>
+fn maps(
+    alloc: Global,
+    given: &[Term],
+    left: &Shared<Ty>,
+    right: &Shared<Ty>,
+) -> Result<Option<Maps>, AllocError>
     ensures { IfOk result (λ made. made ≡ maps given.now left.now right.now) }
 {
     match given {
         [] => identity(alloc, left, right),
-        [both] => Ok(Some(Maps {
-            forth: copy_term(alloc, both)?,
-            back: copy_term(alloc, both)?,
-        })),
-        [forth, back] => Ok(Some(Maps {
-            forth: copy_term(alloc, forth)?,
-            back: copy_term(alloc, back)?,
-        })),
+        [both] => shared_maps(both, both),
+        [forth, back] => shared_maps(forth, back),
         _ => Ok(None),
     }
 }
@@ -92,10 +105,9 @@ fn maps(alloc: Global, given: &[Term], left: &Ty, right: &Ty) -> Result<Option<M
 fn read_on(alloc: Global, sampling: &Last<'_>, side: Side) -> Result<Sampled, AllocError>
     ensures { IfOk result (λ made. made ≡ read_on side (sampling_of sampling.now)) }
 {
-    Ok(Sampled {
-        from: on_side(alloc, sampling.from, side)?,
-        ty: Boxed::new(alloc, copy_ty(alloc, sampling.ty)?)?,
-    })
+    let from = on_side(alloc, sampling.from, side)?;
+    let ty = sampling.ty.share()?;
+    Ok(Sampled { from, ty })
 }
 
 fn coupling(
@@ -106,11 +118,9 @@ fn coupling(
 ) -> Result<Coupled, AllocError>
     ensures { IfOk result (λ made. made ≡ coupling (sampling_of left.now) (sampling_of right.now) maps) }
 {
-    Ok(Coupled {
-        left: read_on(alloc, left, Side::Left)?,
-        right: read_on(alloc, right, Side::Right)?,
-        maps,
-    })
+    let left = read_on(alloc, left, Side::Left)?;
+    let right = read_on(alloc, right, Side::Right)?;
+    Ok(Coupled { left, right, maps })
 }
 
 /// What was sampled on one side becomes a term.
@@ -137,7 +147,7 @@ fn with_values(
     ensures { IfOk result (λ made. made ≡ with_values (sampling_of left.now) (sampling_of right.now) maps.now post.now) }
 {
     let value = nearest(alloc, left.ty)?;
-    let image = copy_term(alloc, &maps.forth)?;
+    let image = maps.forth.share()?;
     let mut changes = Items::new(alloc);
     changes.push(target_change(alloc, left, Side::Left, value)?)?;
     changes.push(target_change(alloc, right, Side::Right, image)?)?;
@@ -163,9 +173,9 @@ fn post_before(
 fn rest_of(alloc: Global, sampling: &Last<'_>) -> Result<Cmd, AllocError>
     ensures { IfOk result (λ made. made ≡ rest_of (sampling_of sampling.now)) }
 {
-    Ok(Cmd {
-        list: copy_instrs(alloc, sampling.before)?,
-    })
+    let list = share_instrs(alloc, sampling.before)?;
+    let list = SharedItems::new(alloc, list)?;
+    Ok(Cmd { list })
 }
 
 /// The equivalence of what stands before the two samplings, with the postcondition of their coupling.
@@ -180,7 +190,7 @@ fn without_samplings(
     ensures { IfOk result (λ made. made ≡ without_samplings (sampling_of left.now) (sampling_of right.now) maps pre.now post.now) }
 {
     let post = post_before(alloc, left, right, maps, post)?;
-    let pre = copy_term(alloc, pre)?;
+    let pre = pre.share()?;
     let left = rest_of(alloc, left)?;
     let right = rest_of(alloc, right)?;
     on_bodies(alloc, left, right, pre, post)
@@ -208,5 +218,6 @@ pub fn rnd_rule(
         return Ok(None);
     };
     let conclusion = without_samplings(alloc, &left, &right, maps, judgment.pre, judgment.post)?;
-    Ok(Some(one_goal(alloc, goal, conclusion)?))
+    let goals = one_goal(alloc, goal, conclusion)?;
+    Ok(Some(goals))
 }

@@ -4,10 +4,8 @@ ghost use Rattle.std.specs.Prelude.{◌≡◌, IfOk};
 ghost use Rattle.gb_equiv.specs.Skip.{for_every_memory, for_every_pair, skip_row};
 
 use crate::judgment::{as_bodies, one_goal};
-use gb_core::ty::Ty;
 use gb_goal::sequent::{Sequent, Sequents};
-use gb_terms::copy::copy_term;
-use gb_terms::make::{implication, over};
+use gb_terms::make::{implication, over, truth_ty};
 use gb_terms::op::Side;
 use gb_terms::term::{Form, Head};
 use gb_walk::change::Change;
@@ -23,15 +21,16 @@ fn for_every_memory(alloc: Global, form: Form, side: Side) -> Result<Form, Alloc
         return Ok(form);
     }
     let body = changed(alloc, &form, &[Change::ToSide(side, Side::Bound(0))])?;
-    over(alloc, Head::AllMemory, body, Ty::Bool)
+    let ty = truth_ty(alloc)?;
+    over(alloc, Head::AllMemory, body, ty)
 }
 
 /// For every two memories one form implies the other.
 fn for_every_pair(alloc: Global, pre: &Form, post: &Form) -> Result<Form, AllocError>
     ensures { IfOk result (λ made. made ≡ for_every_pair pre.now post.now) }
 {
-    let pre = copy_term(alloc, pre)?;
-    let post = copy_term(alloc, post)?;
+    let pre = pre.share()?;
+    let post = post.share()?;
     let whole = implication(alloc, pre, post)?;
     let inner = for_every_memory(alloc, whole, Side::Right)?;
     for_every_memory(alloc, inner, Side::Left)
@@ -52,5 +51,6 @@ pub fn skip_rule(alloc: Global, goal: &Sequent) -> Result<Option<Sequents>, Allo
         return Ok(None);
     };
     let conclusion = for_every_pair(alloc, judgment.pre, judgment.post)?;
-    Ok(Some(one_goal(alloc, goal, conclusion)?))
+    let goals = one_goal(alloc, goal, conclusion)?;
+    Ok(Some(goals))
 }

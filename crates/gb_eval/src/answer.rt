@@ -3,13 +3,12 @@
 ghost use Rattle.std.specs.Prelude.{◌≡◌, IfOk};
 ghost use Rattle.gb_eval.specs.Eval.{truth_answer, truth_in, truth_of, same, is_outcome};
 
-use gb_core::copy::copy_value;
 use gb_core::same::same_value;
 use gb_core::value::Value;
-use std::alloc::{AllocError, Global};
+use std::alloc::AllocError;
 
 /// A value of a finite type, the probability of one half, or the fair coin.
-#[derive(Debug, Drop)]
+#[derive(Drop)]
 pub enum Answer {
     Value(Value),
     Half,
@@ -17,10 +16,11 @@ pub enum Answer {
 }
 
 /// The answer that is this value.
-pub fn of_value(alloc: Global, v: &Value) -> Result<Option<Answer>, AllocError>
+pub fn of_value(v: &Value) -> Result<Option<Answer>, AllocError>
     ensures { IfOk result (λ found. found ≡ Some (Answer.Value v.now)) }
 {
-    Ok(Some(Answer::Value(copy_value(alloc, v)?)))
+    let v = v.share()?;
+    Ok(Some(Answer::Value(v)))
 }
 
 /// A truth value, where there is one: 1 for true, 0 for false.

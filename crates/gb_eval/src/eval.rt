@@ -26,8 +26,8 @@ pub fn truth_if_known(
 ) -> Result<Option<bool>, AllocError>
     ensures { IfOk result (λ found. found ≡ truth_of (eval reads.now t.now [])) }
 {
-    let mut bound = Items::new(alloc);
-    truth(alloc, t, reads, &mut bound)
+    let bound = Items::new(alloc);
+    truth(alloc, t, reads, bound.as_slice())
 }
 
 #[cycle(eval)]
@@ -35,10 +35,9 @@ fn truth(
     alloc: Global,
     t: &Term,
     reads: &[ReadValue],
-    bound: &mut Values,
+    bound: &[Value],
 ) -> Result<Option<bool>, AllocError>
-    ensures found { IfOk result (λ found. found ≡ truth_of (eval reads.now t.now (reverse bound.old))) }
-    ensures bound { OnOk result (bound.new ≡ bound.old) }
+    ensures { IfOk result (λ found. found ≡ truth_of (eval reads.now t.now (reverse bound.now))) }
 {
     Ok(truth_of(eval(alloc, t, reads, bound)?))
 }
@@ -49,34 +48,43 @@ fn eval(
     alloc: Global,
     t: &Term,
     reads: &[ReadValue],
-    bound: &mut Values,
+    bound: &[Value],
 ) -> Result<Option<Answer>, AllocError>
-    ensures found { IfOk result (λ found. found ≡ eval reads.now t.now (reverse bound.old)) }
-    ensures bound { OnOk result (bound.new ≡ bound.old) }
+    ensures { IfOk result (λ found. found ≡ eval reads.now t.now (reverse bound.now)) }
 {
     let args = t.args.as_slice();
     match t.head.get() {
-        Head::Lit(v) => of_value(alloc, v),
-        Head::Read(r) => value_of(alloc, reads, r),
-        Head::Bound(index) => value_bound(alloc, bound.as_slice(), *index),
+        Head::Lit(v) => of_value(v),
+        Head::Read(r) => value_of(reads, r),
+        Head::Bound(index) => value_bound(bound, *index),
         Head::Builtin(op) => operator(alloc, *op, args, reads, bound),
-        Head::All(ty) => quantifier(alloc, args, ty, false, reads, bound),
-        Head::Some(ty) => quantifier(alloc, args, ty, true, reads, bound),
+        Head::All(ty) => quantifier(alloc, args, ty.get(), false, reads, bound),
+        Head::Some(ty) => quantifier(alloc, args, ty.get(), true, reads, bound),
         _ => Ok(None),
     }
 }
 
 /// The value of a bound variable, by the number of binders between.
 #[tactic(auto, using(crate::proofs::Tests::bound_within, crate::proofs::Tests::bound_outside))]
-fn value_bound(alloc: Global, bound: &[Value], index: u32) -> Result<Option<Answer>, AllocError>
+fn value_bound(bound: &[Value], index: u32) -> Result<Option<Answer>, AllocError>
     ensures { IfOk result (λ found. found ≡ value_bound (reverse bound.now) index) }
 {
     let between = index as usize;
     if between < bound.len() {
-        of_value(alloc, &bound[bound.len() - 1 - between])
+        of_value(&bound[bound.len() - 1 - between])
     } else {
         Ok(None)
     }
+}
+
+fn share_values(alloc: Global, list: &[Value]) -> Result<Values, AllocError>
+    ensures { IfOk result (λ made. made ≡ list.now) }
+{
+    let mut out = Items::new(alloc);
+    for value in list {
+        out.push(value.share()?)?;
+    }
+    Ok(out)
 }
 
 /// The truth of a quantifier: a value that makes the body false decides `forall`, one that makes it true `exists`.
@@ -87,10 +95,9 @@ fn quantifier(
     ty: &Ty,
     deciding: bool,
     reads: &[ReadValue],
-    bound: &mut Values,
+    bound: &[Value],
 ) -> Result<Option<Answer>, AllocError>
-    ensures found { IfOk result (λ found. found ≡ quantified deciding ty.now (map (eval reads.now) args.now) (reverse bound.old)) }
-    ensures bound { OnOk result (bound.new ≡ bound.old) }
+    ensures { IfOk result (λ found. found ≡ quantified deciding ty.now (map (eval reads.now) args.now) (reverse bound.now)) }
 {
     let [body] = args else {
         return Ok(None);
@@ -99,8 +106,9 @@ fn quantifier(
         Card::Exact(n) => n,
         Card::Above => return Ok(None),
     };
+    let mut inner = share_values(alloc, bound)?;
     for at in 0..count {
-        match truth_at(alloc, body, ty, at, reads, bound)? {
+        match truth_at(alloc, body, ty, at, reads, &mut inner)? {
             Some(holds) if holds == deciding => return Ok(truth_answer(Some(deciding))),
             Some(_) => {}
             None => return Ok(None),
@@ -124,7 +132,7 @@ fn truth_at(
     ensures bound { OnOk result (bound.new ≡ bound.old) }
 {
     bound.push(nth(alloc, ty, at)?)?;
-    let found = truth(alloc, body, reads, bound)?;
+    let found = truth(alloc, body, reads, bound.as_slice())?;
     let _inner = bound.pop();
     Ok(found)
 }
@@ -135,10 +143,9 @@ fn operator(
     op: Op,
     args: &[Term],
     reads: &[ReadValue],
-    bound: &mut Values,
+    bound: &[Value],
 ) -> Result<Option<Answer>, AllocError>
-    ensures found { IfOk result (λ found. found ≡ operated op (map (λ t. eval reads.now t (reverse bound.old)) args.now)) }
-    ensures bound { OnOk result (bound.new ≡ bound.old) }
+    ensures { IfOk result (λ found. found ≡ operated op (map (λ t. eval reads.now t (reverse bound.now)) args.now)) }
 {
     match args {
         [] => Ok(nullary(op)),
@@ -157,10 +164,9 @@ fn connective(
     op: Op,
     args: &[Term],
     reads: &[ReadValue],
-    bound: &mut Values,
+    bound: &[Value],
 ) -> Result<Option<Answer>, AllocError>
-    ensures found { IfOk result (λ found. found ≡ connected op (map (λ t. eval reads.now t (reverse bound.old)) args.now)) }
-    ensures bound { OnOk result (bound.new ≡ bound.old) }
+    ensures { IfOk result (λ found. found ≡ connected op (map (λ t. eval reads.now t (reverse bound.now)) args.now)) }
 {
     let [a, b] = args else {
         return Ok(None);
@@ -181,10 +187,9 @@ fn comparison(
     op: Op,
     args: &[Term],
     reads: &[ReadValue],
-    bound: &mut Values,
+    bound: &[Value],
 ) -> Result<Option<Answer>, AllocError>
-    ensures found { IfOk result (λ found. found ≡ compared op (map (λ t. eval reads.now t (reverse bound.old)) args.now)) }
-    ensures bound { OnOk result (bound.new ≡ bound.old) }
+    ensures { IfOk result (λ found. found ≡ compared op (map (λ t. eval reads.now t (reverse bound.now)) args.now)) }
 {
     let [a, b] = args else {
         return Ok(None);
@@ -204,10 +209,9 @@ fn conditional(
     op: Op,
     args: &[Term],
     reads: &[ReadValue],
-    bound: &mut Values,
+    bound: &[Value],
 ) -> Result<Option<Answer>, AllocError>
-    ensures found { IfOk result (λ found. found ≡ chosen op (map (λ t. eval reads.now t (reverse bound.old)) args.now)) }
-    ensures bound { OnOk result (bound.new ≡ bound.old) }
+    ensures { IfOk result (λ found. found ≡ chosen op (map (λ t. eval reads.now t (reverse bound.now)) args.now)) }
 {
     let [test, a, b] = args else {
         return Ok(None);

@@ -46,7 +46,7 @@ fn is_head_known(head: &Head, count: usize) -> bool
         Head::Lit(_) | Head::Bound(_) => count == 0,
         Head::Read(read) => count == 0 && is_read_known(read),
         Head::Builtin(op) => takes(*op, count),
-        Head::All(ty) | Head::Some(ty) => count == 1 && is_finite(ty),
+        Head::All(ty) | Head::Some(ty) => count == 1 && is_finite(ty.get()),
         _ => false,
     }
 }

@@ -1,2 +1,3 @@
+pub mod Goals
 pub mod Nodes
 pub mod Scope

@@ -4,13 +4,13 @@ use gb_core::place::Place;
 use gb_terms::term::Terms;
 
 /// A proof step. Its place is its first word, where the refusals of its rule stand.
-#[derive(Debug, Drop)]
+#[derive(Drop)]
 pub struct Step {
     pub rule: Rule,
     pub place: Place,
 }
 
-#[derive(Debug, Drop)]
+#[derive(Drop)]
 pub enum Rule {
     Proc,
     /// A coupling of two samplings by functions: none is the identity, one is its own inverse, two are a function and

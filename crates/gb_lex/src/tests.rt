@@ -68,7 +68,8 @@ fn texts(rt: HostRuntime) -> Result<(), Fail> {
 fn fault(alloc: Global, text: &[u8]) -> Option<(u32, u32)>
     requires { length text.now < 1000 }
 {
-    match tokens(alloc, text, START) {
+    let answer = tokens(alloc, text, START);
+    match &answer {
         Err(
             Refused::Script {
                 why: Why::Character,

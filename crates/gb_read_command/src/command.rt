@@ -8,8 +8,8 @@ use crate::command::trees::{imported, keyword, named, stated, typed_operator};
 use gb_compose::form::take_form;
 use gb_compose::paths::take_type;
 use gb_compose::steps::{take_boxed_tactic, take_tactic};
+use gb_shared::Stack;
 use gb_table::rule::{Command as CommandRule, Definition};
-use gb_text::stack::Stack;
 use gb_text::text::{Text, place_at};
 use gb_tree::command::{
     CloneTree, Command, CommandShape, LemmaTree, OperatorDefinition, OperatorTree, Realisation,

@@ -14,8 +14,8 @@ use crate::step::trees::{
 };
 use gb_compose::form::take_form;
 use gb_compose::judgment::take_call;
+use gb_shared::Stack;
 use gb_table::rule::{Given, ProgramStep, Step};
-use gb_text::stack::Stack;
 use gb_text::text::{Text, terminal_at};
 use gb_tree::step::{CallRule, ConseqTree, Guard, Hint, RuleTree, SeqTree, Summand};
 use gb_tree::tactic::PatternTree;

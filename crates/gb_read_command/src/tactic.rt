@@ -11,8 +11,8 @@ use crate::tactic::trees::{
 use gb_compose::form::take_form;
 use gb_compose::steps::{take_boxed_step, take_boxed_tactic, take_step};
 use gb_compose::trees::{coin_before, suffixed};
+use gb_shared::Stack;
 use gb_table::rule::{Argument, Pattern, Tactic};
-use gb_text::stack::Stack;
 use gb_text::text::{Text, place_at, terminal_at};
 use gb_tree::form::{Number, Word};
 use gb_tree::step::{ArgumentTree, LemmaUse, RuleTree};

@@ -13,8 +13,8 @@ use gb_compose::judgment::{
 };
 use gb_compose::paths::take_type;
 use gb_compose::trees::path_form;
+use gb_shared::Stack;
 use gb_table::rule::{Atom, Call, Judgment as JudgmentRule};
-use gb_text::stack::Stack;
 use gb_text::text::{Text, place_at, terminal_at};
 use gb_tree::form::{EquatedTree, FormShape, Weight};
 use gb_tree::judgment::SubjectTree;

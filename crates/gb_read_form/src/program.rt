@@ -11,8 +11,8 @@ use crate::program::trees::{
 use gb_compose::form::{take_form, take_two_forms};
 use gb_compose::judgment::take_call;
 use gb_compose::paths::take_type;
+use gb_shared::Stack;
 use gb_table::rule::{Loop, Module, Program};
-use gb_text::stack::Stack;
 use gb_text::text::{Text, place_at};
 use gb_tree::command::CommandShape;
 use gb_tree::form::{Binder, OraclePath};

@@ -4,7 +4,7 @@ ghost use Rattle.std.specs.Prelude.{◌≡◌, [], IfOk, OnOk};
 ghost use Rattle.gb_read_script.specs.Line.{line_of, before, lines_before, text_of, line_texts};
 
 use gb_core::place::Place;
-use gb_text::stack::Stack;
+use gb_shared::Stack;
 use gb_text::text::{Lexeme, Lexemes, Text};
 use sqlite_items::Items;
 use std::alloc::{AllocError, Global};

@@ -13,6 +13,7 @@ use Rattle.gb_smt.specs.declared.leaves.Leaf.{Leaf}
 use Rattle.gb_smt.specs.declared.claims.Claim.{Claim}
 use Rattle.gb_smt.specs.declared.assign.Found.{Found}
 use Rattle.gb_smt.specs.declared.assign.Found.TheVariants.{True, False, Unknown}
+use Rattle.gb_smt.specs.declared.apply.Tried.{Tried}
 use Rattle.gb_smt.specs.declared.apply.Tried.TheVariants.{Closed, Refuted, Undecided}
 use Rattle.gb_smt.specs.Equations.{used_up}
 use Rattle.gb_smt.specs.Claims.{claims_of}
@@ -73,6 +74,14 @@ closed_only cs a = outcome_true cs (list_any-from_Any is_found_true cs (any_mapp
 
 pub closed_exactly : (cs : List Claim) → outcome_of cs ≡ Closed ↔ Any Closes cs
 closed_exactly cs = (closed_if cs, closed_only cs)
+
+-- the answer to a leaf, from what trying the claims of the leaf without its equations comes to
+module _ (l whole : Leaf) (t : Tried) (p : t ≡ outcome_of (claims_of l)) (q : l ≡ used_up whole) where
+  outcome : t ≡ outcome_of (claims_of (used_up whole))
+  outcome = p ∙ ap (λ x. outcome_of (claims_of x)) q
+
+  pub answer_closed : t ≡ Closed → IsClosed whole
+  answer_closed e = closed_if (claims_of (used_up whole)) (sym outcome ∙ e)
 
 -- the number of different terms
 count_once : (ts : List Term) (m n : ℕ) → IsCount ts m → IsCount ts n → m ≡ n

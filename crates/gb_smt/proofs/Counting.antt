@@ -1,5 +1,5 @@
 -- Atoms added one after another, each once.
-use Rattle.std.proofs.Common.{◌≡◌, ◌≤◌, true, false, cond, take, pred, min, ◌≢◌, ℕ, ◌+◌, ◌<◌, ◌⊎◌, inl, inr, List, [], ◌∷◌, ◌++◌, length, get_or, refl, sym, ap, ◌∙◌, subst, append-nil, append_assoc, arith}
+use Rattle.std.proofs.Common.{◌≡◌, ◌≤◌, true, false, cond, take, pred, ◌≢◌, ℕ, ◌+◌, ◌<◌, ◌⊎◌, inl, inr, List, [], ◌∷◌, ◌++◌, length, get_or, refl, sym, ap, ◌∙◌, subst, append-nil, append_assoc, arith}
 use Rattle.std.specs.List.{Contains, flat_map}
 use Rattle.std.proofs.lemmas.List.{get_or_default, take_all, take_more}
 use Rattle.std.proofs.lemmas.List.Concat.{flat_map-append}
@@ -10,19 +10,13 @@ use Rattle.gb_terms.specs.declared.term.Head.TheViews.{out-Term, outs-struct-Ter
 use Rattle.gb_terms.specs.declared.term.Head.{Head}
 use Rattle.gb_smt.specs.declared.atoms.Reach.{Reach}
 use Rattle.gb_smt.specs.declared.atoms.Reach.TheVariants as Reaches
-use Rattle.gb_smt.specs.Atoms.{is_atom, atom_of, own_atom, reach_of, inner_atoms, term_atoms, row_atoms, front_atoms, AreAdded, IsCount}
+use Rattle.gb_smt.specs.Atoms.{is_atom, atom_of, own_atom, reach_of, reached, inner_atoms, term_atoms, row_atoms, front_atoms, AreAdded, IsCount}
 
 -- the atoms of a term, from those of its arguments
 
 atoms_row : (n : _) (r : Row_of-Term n) → row_atoms r ≡ flat_map term_atoms (items-the_row-Term n r)
 atoms_row n end_of-Term = refl
 atoms_row n (more_of-Term t r) = ap (λ l. term_atoms t ++ l) (atoms_row _ r)
-
--- the terms that are reached
-abbrev pub reached : Reach → List Term → List Term
-reached Reaches.Nothing ts = []
-reached Reaches.Front ts = take (pred (length ts)) ts
-reached Reaches.All ts = ts
 
 front_row : (n : _) (r : Row_of-Term n) → front_atoms r ≡ flat_map term_atoms (take (pred (length (items-the_row-Term n r))) (items-the_row-Term n r))
 front_row n end_of-Term = refl
@@ -109,14 +103,11 @@ counted ts all a = record {
 
 -- the atoms of a term, and of terms one after another
 
-pub added_parts : (first mid all : List Term) (t : Term) (h : Head) (x : Reach) (args : List Term) → h ≡ (out-Term t).head → x ≡ reach_of h → args ≡ (out-Term t).args
-    → AreAdded first (own_atom t) mid → AreAdded mid (flat_map term_atoms (reached x args)) all → AreAdded first (term_atoms t) all
-added_parts first mid all t h x args e y z a c =
-    let q : own_atom t ++ flat_map term_atoms (reached x args) ≡ term_atoms t =
-    ap (λ l. own_atom t ++ flat_map term_atoms (reached x l)) z
-    ∙ ap (λ w. own_atom t ++ flat_map term_atoms (reached w (out-Term t).args)) (y ∙ ap reach_of e)
-    ∙ sym (atoms_out t) in
-    subst (λ l. AreAdded first l all) q (added_more first (own_atom t) (flat_map term_atoms (reached x args)) mid all a c)
+pub added_parts : (first mid all : List Term) (t : Term) (args : List Term) → args ≡ reached (reach_of (out-Term t).head) (out-Term t).args
+    → AreAdded first (own_atom t) mid → AreAdded mid (flat_map term_atoms args) all → AreAdded first (term_atoms t) all
+added_parts first mid all t args e a c =
+    let q : own_atom t ++ flat_map term_atoms args ≡ term_atoms t = ap (λ l. own_atom t ++ flat_map term_atoms l) e ∙ sym (atoms_out t) in
+    subst (λ l. AreAdded first l all) q (added_more first (own_atom t) (flat_map term_atoms args) mid all a c)
 
 pub added_next : (first mid all ts : List Term) (i : ℕ) (t : Term) → i < length ts → t ≡ get_or ts i t → AreAdded first (flat_map term_atoms (take i ts)) mid → AreAdded mid (term_atoms t) all → AreAdded first (flat_map term_atoms (take (i + 1) ts)) all
 added_next first mid all ts i t l e a c =
@@ -126,22 +117,6 @@ added_next first mid all ts i t l e a c =
     ∙ ap (λ x. flat_map term_atoms (take i ts ++ x ∷ [])) e
     ∙ sym (ap (flat_map term_atoms) (take_more ts i t l)) in
     subst (λ l. AreAdded first l all) q (added_more first (flat_map term_atoms (take i ts)) (term_atoms t) mid all a c)
-
-pub added_front_next : (first mid all ts : List Term) (i : ℕ) (t : Term) → i + 1 < length ts → t ≡ get_or ts i t
-    → AreAdded first (flat_map term_atoms (take (min i (pred (length ts))) ts)) mid → AreAdded mid (term_atoms t) all
-    → AreAdded first (flat_map term_atoms (take (min (i + 1) (pred (length ts))) ts)) all
-added_front_next first mid all ts i t l e a c =
-    let now : min i (pred (length ts)) ≡ i = omega arith in
-    let next : i + 1 ≡ min (i + 1) (pred (length ts)) = omega arith in
-    let within : i < length ts = omega arith in
-    subst (λ n. AreAdded first (flat_map term_atoms (take n ts)) all) next
-    (added_next first mid all ts i t within e (subst (λ n. AreAdded first (flat_map term_atoms (take n ts)) mid) now a) c)
-
-pub added_front_last : (first mid ts : List Term) (i : ℕ) → length ts ≤ i + 1
-    → AreAdded first (flat_map term_atoms (take (min i (pred (length ts))) ts)) mid → AreAdded first (flat_map term_atoms (take (min (i + 1) (pred (length ts))) ts)) mid
-added_front_last first mid ts i l a =
-    let same : min i (pred (length ts)) ≡ min (i + 1) (pred (length ts)) = omega arith in
-    subst (λ n. AreAdded first (flat_map term_atoms (take n ts)) mid) same a
 
 pub added_all : (first all ts : List Term) (i : ℕ) → length ts ≤ i → AreAdded first (flat_map term_atoms (take i ts)) all → AreAdded first (flat_map term_atoms ts) all
 added_all first all ts i h a = subst (λ l. AreAdded first (flat_map term_atoms l) all) (take_all i ts h) a

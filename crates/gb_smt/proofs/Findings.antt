@@ -3,9 +3,7 @@ use Rattle.std.proofs.Common.{◌≡◌, ℕ, zero, suc, ◌+◌, ◌-◌, ◌<�
 use Rattle.gb_core.specs.declared.value.Value.{Value}
 use Rattle.gb_core.specs.declared.value.Card.{Card}
 use Rattle.gb_core.specs.declared.value.Card.TheVariants.{Exact, Above}
-use Rattle.gb_core.specs.declared.ty.Ty.{Ty}
-use Rattle.gb_types.specs.Numbering.{parts_of}
-use Rattle.gb_types.specs.Types.{card_of, value_at}
+use Rattle.gb_types.specs.Types.{card_of}
 use Rattle.gb_smt.specs.declared.claims.Claim.{Claim}
 use Rattle.gb_smt.specs.declared.assign.Found.{Found}
 use Rattle.gb_smt.specs.declared.assign.Found.TheVariants.{True, False, Unknown}
@@ -49,11 +47,16 @@ module _ (c : Claim) where
   pub found_above : card_of (assignments c) ≡ Above → found_of c ≡ Unknown
   found_above e = among Above e
 
--- what is found at the assignment that decides, whose value is the one at a place of the type of the assignments
-pub found_at : (c : Claim) (ty : Ty) (count at : ℕ) (x : Value) (values : List Value) (t : Option Bool) (f : Found) → ty ≡ assignments c → card_of ty ≡ Exact count → at < count → found_before at c ≡ True → x ≡ value_at ty at → values ≡ parts_of x → t ≡ truth_under c values → f ≡ found_under t values → (f ≡ True → ⊥) → f ≡ found_of c
-found_at c ty count at x values t f p e l h q v u k d =
-    let w : values ≡ assignment c at = v ∙ ap parts_of q ∙ ap (λ y. parts_of (value_at y at)) p in
-    sym (found_here c count at values f (ap card_of (sym p) ∙ e) l h w (sym (k ∙ ap (λ x. found_under x values) u)) d)
+-- one assignment more under which the claim is true, and the one that decides
+module _ (c : Claim) (n : ℕ) (f : Found) (h : found_before n c ≡ True) (e : f ≡ found_under (truth_at c n) (assignment c n)) where
+  next : found_before (n + 1) c ≡ f
+  next = ap (λ m. found_before m c) (add-one n) ∙ ap (λ g. then_next g (found_under (truth_at c n) (assignment c n))) h ∙ sym e
+
+  pub true_there : f ≡ True → found_before (n + 1) c ≡ True
+  true_there d = next ∙ d
+
+  pub decided_there : (count : ℕ) → card_of (assignments c) ≡ Exact count → n < count → (f ≡ True → ⊥) → f ≡ found_of c
+  decided_there count k l d = sym (found_here c count n (assignment c n) f k l h refl (sym e) d)
 
 -- what is found, in words of all assignments
 

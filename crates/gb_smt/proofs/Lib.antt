@@ -2,6 +2,7 @@ pub mod Splits
 pub mod Layers
 pub mod Uses
 pub mod Noted
+pub mod Sizes
 pub mod Marks
 pub mod Parts
 pub mod Findings

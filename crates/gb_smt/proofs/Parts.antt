@@ -5,7 +5,8 @@ use Rattle.gb_terms.specs.declared.term.Term.{Term}
 use Rattle.gb_smt.specs.declared.claims.Claim.{Claim}
 use Rattle.gb_smt.specs.Variables.{Vars}
 use Rattle.gb_smt.specs.Components.{inside, outside}
-use Rattle.gb_smt.specs.Claims.{contradiction, contradictions, first_variables, component_and, components}
+use Rattle.gb_terms.specs.Make.{truth_literal}
+use Rattle.gb_smt.specs.Claims.{claim_of, contradiction, contradictions, first_variables, component_and, components}
 
 pub components_some : (n turn : ℕ) (hyps : List Term) (vs : Vars) → turn < n → first_variables hyps ≡ Some vs → components (n - turn) hyps ≡ contradiction (inside hyps vs) ∷ components (n - (turn + 1)) (outside hyps vs)
 components_some n turn hyps vs l e =
@@ -19,7 +20,7 @@ components_none (suc n) hyps e = ap (λ o. component_and o hyps (components n)) 
 pub components_done : (n turn : ℕ) (hyps : List Term) → n ≤ turn → components (n - turn) hyps ≡ contradictions hyps
 components_done n turn hyps l = let h : n - turn ≡ 0 = omega arith in ap (λ m. components m hyps) h
 
-pub contradictions_some : (hyps : List Term) → (hyps ≡ [] → ⊥) → contradictions hyps ≡ contradiction hyps ∷ []
+contradictions_some : (hyps : List Term) → (hyps ≡ [] → ⊥) → contradictions hyps ≡ contradiction hyps ∷ []
 contradictions_some [] h = absurd (h refl)
 contradictions_some (t ∷ ts) h = refl
 
@@ -33,10 +34,10 @@ component_added out more total n turn hyps rest chosen vs claim l f i o k m e =
     ∙ ap (λ x. out ++ x) (sym (components_some n turn hyps vs l f))
     ∙ e
 
-pub not_nil : {X : Type 0} (b : Bool) (xs : List X) → IsTrue b ↔ (xs ≡ []) → b ≡ false → xs ≡ [] → ⊥
+not_nil : {X : Type 0} (b : Bool) (xs : List X) → IsTrue b ↔ (xs ≡ []) → b ≡ false → xs ≡ [] → ⊥
 not_nil b xs h e q = false≢true (sym e ∙ h.1 q)
 
--- the last claim added
-pub last_added : (out more total rest : List Claim) (hyps : List Term) (claim : Claim) → (hyps ≡ [] → ⊥) → rest ≡ contradictions hyps → claim ≡ contradiction hyps → more ≡ out ++ claim ∷ [] → out ++ rest ≡ total → more ≡ total
-last_added out more total rest hyps claim h r k m e =
-    m ∙ ap (λ x. out ++ x ∷ []) k ∙ ap (λ x. out ++ x) (sym (r ∙ contradictions_some hyps h)) ∙ e
+-- the claim of the hypotheses that are left, added
+pub contradiction_added : (out more : List Claim) (hyps : List Term) (b : Bool) (never : Term) (claim : Claim) → IsTrue b ↔ (hyps ≡ []) → b ≡ false → never ≡ truth_literal false → claim ≡ claim_of hyps never → more ≡ out ++ claim ∷ [] → more ≡ out ++ contradictions hyps
+contradiction_added out more hyps b never claim h e n k m =
+    m ∙ ap (λ x. out ++ x ∷ []) (k ∙ ap (claim_of hyps) n) ∙ ap (λ x. out ++ x) (sym (contradictions_some hyps (not_nil b hyps h e)))

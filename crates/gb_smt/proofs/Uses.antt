@@ -1,6 +1,7 @@
 -- Equations that are used up.
 use Rattle.std.proofs.Common.{◌≡◌, ℕ, zero, suc, ◌+◌, ◌<◌, Bool, true, false, not, ◌||◌, cond, Option, Some, None, List, [], ◌∷◌, length, get_or, take, drop, refl, add-zero, zero-add, add-one, sym, ap, ◌∙◌, subst, arith, filter}
 use Rattle.std.specs.List.{list_any}
+use Rattle.std.specs.Option.{option_map}
 use Rattle.std.proofs.lemmas.List.{length-take, length-drop, length-append, length-map, at_drop_more, nil_from_length}
 use Rattle.gb_terms.specs.declared.op.Read.{Read}
 use Rattle.gb_terms.specs.declared.term.Term.{Term}
@@ -104,3 +105,21 @@ used_some l e q = used_at (length (with_used e l).hyps) l e q (sym (length_used 
 
 pub used_no_hyps : (l : Leaf) → length l.hyps ≡ 0 → (used_up_to (length l.hyps) l ≡ l) × (first_usable l.hyps ≡ None)
 used_no_hyps l h = (ap (λ n. used_up_to n l) h, ap first_usable (nil_from_length l.hyps h))
+
+-- one hypothesis used, or none that can be
+
+some_used : (l next : Leaf) (o : Option Equation) → first_usable l.hyps ≡ o → Some next ≡ option_map (λ e. with_used e l) o → (length next.hyps + 1 ≡ length l.hyps) × (used_up_to (length next.hyps) next ≡ used_up_to (length l.hyps) l)
+some_used l next (Some e) p q =
+    let r : with_used e l ≡ next = cc in
+    (subst (λ m. length m.hyps + 1 ≡ length l.hyps) r (length_used l e p), subst (λ m. used_up_to (length m.hyps) m ≡ used_up_to (length l.hyps) l) r (sym (used_some l e p)))
+some_used l next None p q = absurd (cc)
+
+pub next_used : (l next : Leaf) (o : Option Leaf) → o ≡ option_map (λ e. with_used e l) (first_usable l.hyps) → o ≡ Some next → (length next.hyps + 1 ≡ length l.hyps) × (used_up_to (length next.hyps) next ≡ used_up_to (length l.hyps) l)
+next_used l next o p q = some_used l next (first_usable l.hyps) refl (sym q ∙ p)
+
+none_some : (o : Option Equation) (f : Equation → Leaf) → None ≡ option_map f o → o ≡ None
+none_some None f e = refl
+none_some (Some x) f e = absurd (cc)
+
+pub none_used : (l : Leaf) (o : Option Leaf) → o ≡ option_map (λ e. with_used e l) (first_usable l.hyps) → o ≡ None → first_usable l.hyps ≡ None
+none_used l o p q = none_some (first_usable l.hyps) _ (sym q ∙ p)

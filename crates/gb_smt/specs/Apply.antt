@@ -52,6 +52,11 @@ abbrev pub open_outcome : List Claim → Tried
 open_outcome [] = Undecided (Exact 0)
 open_outcome (c ∷ cs) = refuted_by (trial_of c).found (greatest (c ∷ cs))
 
+-- the greatest of a width and the widths of claims, where none is found true
+abbrev pub widest_open : Card → List Claim → Option Card
+widest_open widest [] = Some widest
+widest_open widest (c ∷ cs) = if is_found_true c then None else widest_open (greater widest (trial_of c).width) cs
+
 -- what trying claims comes to
 abbrev pub outcome_of : List Claim → Tried
 outcome_of claims = if list_any is_found_true claims then Closed else open_outcome claims

@@ -1,5 +1,5 @@
 -- The atoms of a leaf: its Boolean parts that are no connectives.
-use Rattle.std.specs.Prelude.{◌≡◌, ◌≢◌, ℕ, Bool, true, false, not, ◌&&◌, if◌then◌else◌, List, [], ◌∷◌, ◌++◌, length}
+use Rattle.std.specs.Prelude.{◌≡◌, ◌≢◌, ℕ, Bool, true, false, not, ◌&&◌, if◌then◌else◌, List, [], ◌∷◌, ◌++◌, length, take, pred}
 use Rattle.std.specs.List.{AllPairs, Contains, flat_map}
 use Rattle.gb_core.specs.declared.ty.Ty.{Ty}
 use Rattle.gb_core.specs.declared.ty.Ty.TheVariants as ty
@@ -73,6 +73,12 @@ reach_of (head.Phoare c r) = Reaches.Nothing
 reach_of (head.Equiv c d) = Reaches.Nothing
 reach_of (head.Pr p s) = Reaches.Front
 reach_of h = if is_binder h then Reaches.Nothing else Reaches.All
+
+-- the arguments that are reached
+abbrev pub reached : Reach → List Term → List Term
+reached Reaches.Nothing ts = []
+reached Reaches.Front ts = take (pred (length ts)) ts
+reached Reaches.All ts = ts
 
 -- the atoms that are reached, by those of all arguments and of all but the last
 abbrev pub inner_atoms : Reach → List Term → List Term → List Term

@@ -2,8 +2,11 @@
 
 ghost use Rattle.std.specs.Prelude.{◌≡◌, IfOk};
 ghost use Rattle.std.specs.List.{All};
+ghost use Rattle.gb_smt.specs.declared.leaves.Leaf.{Leaf};
 ghost use Rattle.gb_smt.specs.Leaves.{leaves_of};
-ghost use Rattle.gb_smt.specs.Apply.{trial_of, outcome_of, IsAnswer, IsAnswerOf, IsClosed, IsResult};
+ghost use Rattle.gb_smt.specs.Equations.{used_up};
+ghost use Rattle.gb_smt.specs.Claims.{claims_of};
+ghost use Rattle.gb_smt.specs.Apply.{trial_of, is_true, widest_open, refuted_by, outcome_of, IsAnswer, IsAnswerOf, IsClosed, IsResult};
 
 use crate::assign::{Found, try_all};
 use crate::atoms::number_of_atoms;
@@ -16,6 +19,7 @@ use gb_core::value::{Card, Values};
 use gb_goal::scope::Scope;
 use gb_goal::sequent::{Sequent, Sequents};
 use gb_goal::step::Step;
+use gb_shared::Shared;
 use sqlite_items::Items;
 use std::alloc::{AllocError, Global};
 
@@ -30,7 +34,7 @@ struct Trial {
 fn try_claim(alloc: Global, claim: &Claim) -> Result<Trial, AllocError>
     ensures { IfOk result (λ trial. trial ≡ trial_of claim.now) }
 {
-    let width = width(alloc, claim)?;
+    let width = width(claim);
     if !is_tried(width) {
         return Ok(Trial {
             width,
@@ -63,41 +67,86 @@ enum Tried {
     Undecided(Card),
 }
 
+/// Whether a claim is found true.
+fn is_true(found: &Found) -> bool
+    ensures { result ≡ is_true found.now }
+{
+    match found {
+        Found::True => true,
+        Found::False(_) | Found::Unknown => false,
+    }
+}
+
+/// The greatest of a width and the widths of claims, where none is found true.
+fn widest_open(alloc: Global, list: &[Claim], from: Card) -> Result<Option<Card>, AllocError>
+    ensures { IfOk result (λ widest. widest ≡ widest_open from list.now) }
+{
+    let mut widest = from;
+    for claim in list {
+        let trial = try_claim(alloc, claim)?;
+        if is_true(&trial.found) {
+            return Ok(None);
+        }
+        widest = greater(widest, trial.width);
+    }
+    Ok(Some(widest))
+}
+
+/// What the first claim decides, where no claim is found true.
+fn refuted_by(first: Found, widest: Card) -> Tried
+    ensures { result ≡ refuted_by first widest }
+{
+    match first {
+        Found::False(values) if is_tried(widest) => Tried::Refuted(values),
+        _ => Tried::Undecided(widest),
+    }
+}
+
 /// Tries the claims of a leaf in order, those that aren't too wide.
 fn try_claims(alloc: Global, list: &[Claim]) -> Result<Tried, AllocError>
     ensures { IfOk result (λ tried. tried ≡ outcome_of list.now) }
 {
-    let mut widest = Card::Exact(0);
-    let mut refuting = None;
-    for claim in list {
-        let Trial { width, found } = try_claim(alloc, claim)?;
-        widest = greater(widest, width);
-        match found {
-            Found::True => return Ok(Tried::Closed),
-            Found::False(values) => refuting = refuting.or(Some(values)),
-            Found::Unknown => {}
-        }
+    let [first, others @ ..] = list else {
+        return Ok(Tried::Undecided(Card::Exact(0)));
+    };
+    let Trial { width, found } = try_claim(alloc, first)?;
+    if is_true(&found) {
+        return Ok(Tried::Closed);
     }
-    match refuting {
-        Some(values) if is_tried(widest) => Ok(Tried::Refuted(values)),
-        _ => Ok(Tried::Undecided(widest)),
+    match widest_open(alloc, others, width)? {
+        Some(widest) => Ok(refuted_by(found, widest)),
+        None => Ok(Tried::Closed),
+    }
+}
+
+/// What trying the claims of a leaf comes to.
+fn try_leaf(alloc: Global, leaf: &Leaf) -> Result<Tried, AllocError>
+    ensures { IfOk result (λ tried. tried ≡ outcome_of (claims_of leaf.now)) }
+{
+    let list = claims(alloc, leaf)?;
+    try_claims(alloc, list.as_slice())
+}
+
+/// Why a leaf whose equations are used up isn't closed.
+fn reason(alloc: Global, leaf: &Leaf) -> Result<Option<Why>, AllocError>
+    ensures { IfOk result (λ why. (whole : Leaf) → leaf.now ≡ used_up whole → IsAnswer whole why) }
+{
+    match try_leaf(alloc, leaf)? {
+        Tried::Closed => Ok(None),
+        Tried::Refuted(values) => Ok(Some(Why::False(values))),
+        Tried::Undecided(width) => {
+            let atoms = number_of_atoms(alloc, leaf)?;
+            Ok(Some(Why::Undecided { width, atoms }))
+        }
     }
 }
 
 /// Why a leaf isn't closed.
-fn close(alloc: Global, leaf: &Leaf) -> Result<Option<Why>, AllocError>
+fn close(alloc: Global, leaf: &Shared<Leaf>) -> Result<Option<Why>, AllocError>
     ensures { IfOk result (IsAnswer leaf.now) }
 {
     let leaf = used_up(alloc, leaf)?;
-    let list = claims(alloc, &leaf)?;
-    match try_claims(alloc, list.as_slice())? {
-        Tried::Closed => Ok(None),
-        Tried::Refuted(values) => Ok(Some(Why::False(values))),
-        Tried::Undecided(width) => Ok(Some(Why::Undecided {
-            width,
-            atoms: number_of_atoms(alloc, &leaf)?,
-        })),
-    }
+    reason(alloc, leaf.get())
 }
 
 /// Why a goal isn't closed, by its first leaf that isn't.

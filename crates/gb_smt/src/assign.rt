@@ -1,50 +1,57 @@
 // The assignments to the variables of a claim.
 
-ghost use Rattle.std.specs.Prelude.{◌≡◌, IfOk};
-ghost use Rattle.gb_types.specs.Numbering.{parts_of};
-ghost use Rattle.gb_smt.specs.Assign.{assignments, with_values, implied, truth_under, found_of};
+ghost use Rattle.std.specs.Prelude.{◌≡◌, map, IfOk};
+ghost use Rattle.gb_core.specs.declared.ty.Ty.TheVariants.{Tuple};
+ghost use Rattle.gb_types.specs.Numbering.{tuple_at};
+ghost use Rattle.gb_types.specs.Types.{IsPlaceBelow, card_of, numbering, value_at};
+ghost use Rattle.gb_smt.specs.Assign.{assignments, assignment, with_values, implied, truth_at, found_under, found_of};
 
 use crate::claims::Claim;
 use crate::variables::Variable;
-use crate::width::types_of_variables;
-use gb_core::copy::copy_value;
-use gb_core::ty::Ty;
-use gb_core::value::{Card, Value, Values};
+use crate::width::{number_of_values, size_of_variables};
+use gb_core::value::{Card, Values};
 use gb_eval::env::{ReadValue, ReadValues};
 use gb_eval::eval::truth_if_known;
-use gb_terms::copy::copy_read;
 use gb_terms::term::Term;
-use gb_types::card::card;
 use gb_types::nth::nth;
+use gb_types::size::size;
 use sqlite_items::Items;
 use std::alloc::{AllocError, Global};
 
-/// The values of an assignment.
-fn parts_of(alloc: Global, assignment: Value) -> Values
-    ensures { result ≡ parts_of assignment }
+/// A variable with the value at a place of its type.
+fn with_value(alloc: Global, variable: &Variable, at: u64) -> Result<ReadValue, AllocError>
+    requires { IsPlaceBelow at (card_of variable.now.ty) }
+    ensures { IfOk result (λ made. made ≡ record { read = variable.now.read; value = value_at variable.now.ty at }) }
 {
-    match assignment {
-        Value::Many(parts) => parts,
-        Value::Num(_) => Items::new(alloc),
-    }
+    let read = variable.read.share()?;
+    let value = nth(alloc, variable.ty.get(), at)?;
+    Ok(ReadValue { read, value })
 }
 
-/// The variables with these values.
-fn with_values(
-    alloc: Global,
-    variables: &[Variable],
-    values: &[Value],
-) -> Result<ReadValues, AllocError>
-    ensures { IfOk result (λ reads. reads ≡ with_values variables.now values.now) }
+/// The variables with their values in the assignment at a place, the first variable slowest.
+fn with_values(alloc: Global, variables: &[Variable], at: u64) -> Result<ReadValues, AllocError>
+    requires { IsPlaceBelow at (card_of (Tuple (map (λ v. v.ty) variables.now))) }
+    ensures { IfOk result (λ reads. reads ≡ with_values variables.now (tuple_at (map numbering (map (λ v. v.ty) variables.now)) at)) }
 {
+    let mut left = size_of_variables(variables);
+    let mut rest = at;
     let mut reads = Items::new(alloc);
-    for (variable, value) in variables.iter().zip(values) {
-        reads.push(ReadValue {
-            read: copy_read(alloc, &variable.read)?,
-            value: copy_value(alloc, value)?,
-        })?;
+    for variable in variables {
+        left /= size(variable.ty.get());
+        reads.push(with_value(alloc, variable, rest / left)?)?;
+        rest %= left;
     }
     Ok(reads)
+}
+
+fn values_of(alloc: Global, reads: &[ReadValue]) -> Result<Values, AllocError>
+    ensures { IfOk result (λ values. values ≡ map (λ r. r.value) reads.now) }
+{
+    let mut values = Items::new(alloc);
+    for entry in reads {
+        values.push(entry.value.share()?)?;
+    }
+    Ok(values)
 }
 
 /// Whether hypotheses imply a conclusion, where evaluation knows.
@@ -66,15 +73,6 @@ fn implied(
     truth_if_known(alloc, conclusion, reads)
 }
 
-/// Whether a claim is true where its variables have these values.
-fn truth_under(alloc: Global, claim: &Claim, values: &[Value]) -> Result<Option<bool>, AllocError>
-    ensures { IfOk result (λ found. found ≡ truth_under claim.now values.now) }
-{
-    let reads = with_values(alloc, claim.variables.as_slice(), values)?;
-    let hyps = claim.hyps.as_slice();
-    implied(alloc, reads.as_slice(), hyps, &claim.conclusion)
-}
-
 /// What trying all assignments comes to.
 #[derive(Drop)]
 pub enum Found {
@@ -86,24 +84,25 @@ pub enum Found {
     Unknown,
 }
 
-/// Tries the assignments of a type to the variables of a claim, in order.
-fn try_each(alloc: Global, claim: &Claim, ty: &Ty) -> Result<Found, AllocError>
-    requires { ty.now ≡ assignments claim.now }
-    ensures { IfOk result (λ found. found ≡ found_of claim.now) }
+/// What trying the assignment at a place comes to.
+fn found_at(alloc: Global, claim: &Claim, at: u64) -> Result<Found, AllocError>
+    requires { IsPlaceBelow at (card_of (assignments claim.now)) }
+    ensures { IfOk result (λ found. found ≡ found_under (truth_at claim.now at) (assignment claim.now at)) }
 {
-    let count = match card(ty) {
-        Card::Exact(n) => n,
-        Card::Above => return Ok(Found::Unknown),
-    };
-    for at in 0..count {
-        let values = parts_of(alloc, nth(alloc, ty, at)?);
-        match truth_under(alloc, claim, values.as_slice())? {
-            Some(true) => {}
-            Some(false) => return Ok(Found::False(values)),
-            None => return Ok(Found::Unknown),
+    let reads = with_values(alloc, claim.variables.as_slice(), at)?;
+    match implied(
+        alloc,
+        reads.as_slice(),
+        claim.hyps.as_slice(),
+        &claim.conclusion,
+    )? {
+        Some(true) => Ok(Found::True),
+        Some(false) => {
+            let values = values_of(alloc, reads.as_slice())?;
+            Ok(Found::False(values))
         }
+        None => Ok(Found::Unknown),
     }
-    Ok(Found::True)
 }
 
 /// Tries the assignments to the variables of a claim, in order. These are the values of the tuples of their types, so the
@@ -111,6 +110,15 @@ fn try_each(alloc: Global, claim: &Claim, ty: &Ty) -> Result<Found, AllocError>
 pub fn try_all(alloc: Global, claim: &Claim) -> Result<Found, AllocError>
     ensures { IfOk result (λ found. found ≡ found_of claim.now) }
 {
-    let ty = Ty::Tuple(types_of_variables(alloc, claim.variables.as_slice())?);
-    try_each(alloc, claim, &ty)
+    let count = match number_of_values(claim.variables.as_slice()) {
+        Card::Exact(n) => n,
+        Card::Above => return Ok(Found::Unknown),
+    };
+    for at in 0..count {
+        match found_at(alloc, claim, at)? {
+            Found::True => {}
+            decided => return Ok(decided),
+        }
+    }
+    Ok(Found::True)
 }

@@ -1,14 +1,13 @@
 // The atoms of a leaf: its Boolean parts that are no connectives.
 
-ghost use Rattle.std.specs.Prelude.{◌≡◌, ◌↔◌, IsTrue, IfOk, OnOk, pred, take, length};
+ghost use Rattle.std.specs.Prelude.{◌≡◌, ◌↔◌, ◌≤◌, [], ◌∷◌, IsTrue, IfOk, OnOk, take, length};
 ghost use Rattle.std.specs.List.{Contains, flat_map};
-ghost use Rattle.gb_smt.specs.Atoms.{is_over_forms, is_connective, atom_of, is_atom, own_atom, reach_of, term_atoms, atoms_of, AreAdded, IsCount};
+ghost use Rattle.gb_terms.specs.declared.term.Term.{out-Term};
+ghost use Rattle.gb_smt.specs.Atoms.{is_over_forms, is_connective, atom_of, is_atom, own_atom, reach_of, reached, term_atoms, atoms_of, AreAdded, IsCount};
 
 use crate::leaves::Leaf;
-use gb_core::copy::copy_ty;
 use gb_core::ty::Ty;
-use gb_terms::copy::{copy_term, copy_terms};
-use gb_terms::make::term;
+use gb_shared::Shared;
 use gb_terms::op::Op;
 use gb_terms::same::same;
 use gb_terms::term::{Head, Term, Terms};
@@ -46,11 +45,12 @@ fn atom_of(alloc: Global, t: &Term) -> Result<Term, AllocError>
 {
     match t.head.get() {
         Head::Builtin(Op::NotEqual) => {
-            let args = copy_terms(alloc, t.args.as_slice())?;
-            let ty = copy_ty(alloc, t.ty.get())?;
-            term(alloc, Head::Builtin(Op::Equal), args, ty)
+            let head = Shared::new(alloc, Head::Builtin(Op::Equal))?;
+            let args = t.args.share()?;
+            let ty = t.ty.share()?;
+            Ok(Term { head, args, ty })
         }
-        _ => copy_term(alloc, t),
+        _ => t.share(),
     }
 }
 
@@ -72,18 +72,25 @@ fn is_atom(t: &Term) -> bool
     matches!(t.ty.get(), Ty::Bool) && !matches!(t.head.get(), Head::Lit(_)) && !is_connective(t)
 }
 
-/// Adds the atom that a term is or negates, if it isn't there yet.
-fn note_own_atom(alloc: Global, t: &Term, atoms: &mut Terms) -> Result<(), AllocError>
-    ensures { OnOk result (AreAdded atoms.old (own_atom t.now) atoms.new) }
+/// Adds an atom, if it isn't there yet.
+fn add_new(atom: Term, atoms: &mut Terms) -> Result<(), AllocError>
+    ensures { OnOk result (AreAdded atoms.old (atom ∷ []) atoms.new) }
 {
-    if !is_atom(t) {
-        return Ok(());
-    }
-    let atom = atom_of(alloc, t)?;
     if is_among(atoms.as_slice(), &atom) {
         return Ok(());
     }
     atoms.push(atom)
+}
+
+/// Adds the atom that a term is or negates, if it isn't there yet.
+fn note_own_atom(alloc: Global, t: &Term, atoms: &mut Terms) -> Result<(), AllocError>
+    ensures { OnOk result (AreAdded atoms.old (own_atom t.now) atoms.new) }
+{
+    if is_atom(t) {
+        add_new(atom_of(alloc, t)?, atoms)
+    } else {
+        Ok(())
+    }
 }
 
 /// Which arguments of a term may hold atoms.
@@ -112,38 +119,41 @@ fn reach_of(head: &Head) -> Reach
     }
 }
 
+/// How many arguments of a term, from the first on, may hold atoms.
+fn number_reached(t: &Term) -> usize
+    ensures within { result ≤ length (out-Term t.now).args }
+    ensures reached { take result (out-Term t.now).args ≡ reached (reach_of (out-Term t.now).head) (out-Term t.now).args }
+{
+    let count = t.args.len();
+    match reach_of(t.head.get()) {
+        Reach::Nothing => 0,
+        Reach::Front => count.saturating_sub(1),
+        Reach::All => count,
+    }
+}
+
 /// Adds the atoms of a term that aren't there yet.
 #[cycle(note_atoms)]
 fn note_atoms(alloc: Global, t: &Term, atoms: &mut Terms) -> Result<(), AllocError>
     ensures { OnOk result (AreAdded atoms.old (term_atoms t.now) atoms.new) }
 {
     note_own_atom(alloc, t, atoms)?;
-    match reach_of(t.head.get()) {
-        Reach::Nothing => Ok(()),
-        Reach::Front => note_atoms_of_front(alloc, t.args.as_slice(), atoms),
-        Reach::All => note_atoms_of_all(alloc, t.args.as_slice(), atoms),
-    }
+    note_atoms_of(alloc, t.args.as_slice(), number_reached(t), atoms)
 }
 
-/// Adds those of all terms but the last.
+/// Adds those of the first terms of a list.
 #[cycle(note_atoms)]
-fn note_atoms_of_front(alloc: Global, list: &[Term], atoms: &mut Terms) -> Result<(), AllocError>
-    ensures { OnOk result (AreAdded atoms.old (flat_map term_atoms (take (pred (length list.now)) list.now)) atoms.new) }
+fn note_atoms_of(
+    alloc: Global,
+    list: &[Term],
+    count: usize,
+    atoms: &mut Terms,
+) -> Result<(), AllocError>
+    requires { count ≤ length list.now }
+    ensures { OnOk result (AreAdded atoms.old (flat_map term_atoms (take count list.now)) atoms.new) }
 {
-    for (i, t) in list.iter().enumerate() {
-        if i + 1 < list.len() {
-            note_atoms(alloc, t, atoms)?;
-        }
-    }
-    Ok(())
-}
-
-#[cycle(note_atoms)]
-fn note_atoms_of_all(alloc: Global, list: &[Term], atoms: &mut Terms) -> Result<(), AllocError>
-    ensures { OnOk result (AreAdded atoms.old (flat_map term_atoms list.now) atoms.new) }
-{
-    for t in list {
-        note_atoms(alloc, t, atoms)?;
+    for at in 0..count {
+        note_atoms(alloc, &list[at], atoms)?;
     }
     Ok(())
 }
@@ -153,7 +163,7 @@ pub fn number_of_atoms(alloc: Global, leaf: &Leaf) -> Result<u64, AllocError>
     ensures { IfOk result (IsCount (atoms_of leaf.now)) }
 {
     let mut atoms = Items::new(alloc);
-    note_atoms_of_all(alloc, leaf.hyps.as_slice(), &mut atoms)?;
+    note_atoms_of(alloc, leaf.hyps.as_slice(), leaf.hyps.len(), &mut atoms)?;
     note_atoms(alloc, &leaf.conclusion, &mut atoms)?;
     Ok(atoms.len() as u64)
 }

@@ -1,12 +1,13 @@
 // The claims of a leaf.
 
-ghost use Rattle.std.specs.Prelude.{◌≡◌, ◌++◌, IfOk, OnOk};
-ghost use Rattle.gb_smt.specs.Claims.{claim_of, contradiction, first_variables, components_of, claims_of};
+ghost use Rattle.std.specs.Prelude.{◌≡◌, ◌++◌, [], ◌∷◌, false, IfOk, OnOk};
+ghost use Rattle.gb_terms.specs.Make.{truth_literal};
+ghost use Rattle.gb_smt.specs.Components.{inside, outside};
+ghost use Rattle.gb_smt.specs.Claims.{claim_of, contradictions, first_variables, components_of, claims_of};
 
-use crate::components::{Parted, part};
+use crate::components::{marked, marks_of};
 use crate::leaves::Leaf;
-use crate::variables::{Variables, variables, variables_in};
-use gb_terms::copy::copy_term;
+use crate::variables::{Variable, Variables, variables, variables_in};
 use gb_terms::make::boolean;
 use gb_terms::term::{Term, Terms};
 use sqlite_items::Items;
@@ -14,7 +15,7 @@ use std::alloc::{AllocError, Global};
 
 /// Hypotheses and a conclusion that share variables, and these in the order of their first places, in the hypotheses
 /// and then in the conclusion.
-#[derive(Debug, Drop)]
+#[derive(Drop)]
 pub struct Claim {
     pub hyps: Terms,
     pub conclusion: Term,
@@ -28,7 +29,7 @@ fn claim_of(alloc: Global, hyps: Terms, conclusion: &Term) -> Result<Claim, Allo
     ensures { IfOk result (λ claim. claim ≡ claim_of hyps conclusion.now) }
 {
     let variables = variables_in(alloc, hyps.as_slice(), conclusion)?;
-    let conclusion = copy_term(alloc, conclusion)?;
+    let conclusion = conclusion.share()?;
     Ok(Claim {
         hyps,
         conclusion,
@@ -36,12 +37,23 @@ fn claim_of(alloc: Global, hyps: Terms, conclusion: &Term) -> Result<Claim, Allo
     })
 }
 
-/// The claim that hypotheses can't all hold.
-fn contradiction(alloc: Global, hyps: Terms) -> Result<Claim, AllocError>
-    ensures { IfOk result (λ claim. claim ≡ contradiction hyps) }
+/// Adds the claim of a conclusion with the hypotheses that are joined with variables, directly or through others, and
+/// gives the others.
+#[tactic(auto, using(crate::proofs::Marks::marked_inside, crate::proofs::Marks::marked_outside))]
+fn take_joined(
+    alloc: Global,
+    hyps: &[Term],
+    from: &[Variable],
+    conclusion: &Term,
+    out: &mut Claims,
+) -> Result<Terms, AllocError>
+    ensures others { IfOk result (λ others. others ≡ outside hyps.now from.now) }
+    ensures out { OnOk result (out.new ≡ out.old ++ claim_of (inside hyps.now from.now) conclusion.now ∷ []) }
 {
-    let conclusion = boolean(alloc, false)?;
-    claim_of(alloc, hyps, &conclusion)
+    let marks = marks_of(alloc, hyps, from)?;
+    let joined = marked(alloc, hyps, marks.as_slice(), true)?;
+    out.push(claim_of(alloc, joined, conclusion)?)?;
+    marked(alloc, hyps, marks.as_slice(), false)
 }
 
 /// The variables of the first hypothesis that has some.
@@ -57,26 +69,42 @@ fn first_variables(alloc: Global, hyps: &[Term]) -> Result<Option<Variables>, Al
     Ok(None)
 }
 
-/// Adds the claims of the components of hypotheses, in the order of their first ones, and the one of those that have
-/// no variables.
-fn add_components(alloc: Global, hyps: Terms, out: &mut Claims) -> Result<(), AllocError>
+/// Adds the claim that hypotheses can't all hold, if there are some. `never` is the literal `false`.
+fn add_contradiction(
+    alloc: Global,
+    hyps: Terms,
+    never: &Term,
+    out: &mut Claims,
+) -> Result<(), AllocError>
+    requires { never.now ≡ truth_literal false }
+    ensures { OnOk result (out.new ≡ out.old ++ contradictions hyps) }
+{
+    if hyps.is_empty() {
+        Ok(())
+    } else {
+        out.push(claim_of(alloc, hyps, never)?)
+    }
+}
+
+/// Adds the claims that the components of hypotheses can't all hold, in the order of their first ones, and the one of
+/// those that have no variables. `never` is the literal `false`.
+fn add_components(
+    alloc: Global,
+    hyps: Terms,
+    never: &Term,
+    out: &mut Claims,
+) -> Result<(), AllocError>
+    requires { never.now ≡ truth_literal false }
     ensures { OnOk result (out.new ≡ out.old ++ components_of hyps) }
 {
     let mut left = hyps;
     for turn in 0..left.len() {
         match first_variables(alloc, left.as_slice())? {
-            Some(from) => {
-                let Parted { inside, outside } = part(alloc, left.as_slice(), from.as_slice())?;
-                out.push(contradiction(alloc, inside)?)?;
-                left = outside;
-            }
+            Some(from) => left = take_joined(alloc, left.as_slice(), from.as_slice(), never, out)?,
             None => break,
         }
     }
-    if !left.is_empty() {
-        out.push(contradiction(alloc, left)?)?;
-    }
-    Ok(())
+    add_contradiction(alloc, left, never, out)
 }
 
 /// The claims of a leaf, any of which closes it. The conclusion with the hypotheses that are joined with it is the
@@ -85,10 +113,11 @@ fn add_components(alloc: Global, hyps: Terms, out: &mut Claims) -> Result<(), Al
 pub fn claims(alloc: Global, leaf: &Leaf) -> Result<Claims, AllocError>
     ensures { IfOk result (λ made. made ≡ claims_of leaf.now) }
 {
-    let from = variables(alloc, &leaf.conclusion)?;
-    let Parted { inside, outside } = part(alloc, leaf.hyps.as_slice(), from.as_slice())?;
     let mut out = Items::new(alloc);
-    out.push(claim_of(alloc, inside, &leaf.conclusion)?)?;
-    add_components(alloc, outside, &mut out)?;
+    let from = variables(alloc, &leaf.conclusion)?;
+    let hyps = leaf.hyps.as_slice();
+    let others = take_joined(alloc, hyps, from.as_slice(), &leaf.conclusion, &mut out)?;
+    let never = boolean(alloc, false)?;
+    add_components(alloc, others, &never, &mut out)?;
     Ok(out)
 }

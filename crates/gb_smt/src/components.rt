@@ -2,20 +2,12 @@
 
 ghost use Rattle.std.specs.Prelude.{◌≡◌, ◌||◌, map, length, false, IfOk};
 ghost use Rattle.gb_smt.specs.Variables.{variables, share};
-ghost use Rattle.gb_smt.specs.Components.{joined, linked, is_joined, inside, outside, marked};
+ghost use Rattle.gb_smt.specs.Components.{joined, linked, is_joined, marked};
 
 use crate::variables::{Variable, Variables, share, variables};
-use gb_terms::copy::copy_term;
 use gb_terms::term::{Term, Terms};
 use sqlite_items::Items;
 use std::alloc::{AllocError, Global};
-
-/// Hypotheses, parted by whether they are joined with some variables.
-#[derive(Drop)]
-pub struct Parted {
-    pub inside: Terms,
-    pub outside: Terms,
-}
 
 /// The variables of each hypothesis.
 fn variables_of_each(alloc: Global, hyps: &[Term]) -> Result<Items<Variables>, AllocError>
@@ -71,7 +63,7 @@ fn marked_further(
 
 /// Marks the hypotheses that are joined with variables.
 #[tactic(auto, using(crate::proofs::Marks::mapped))]
-fn marks_of(alloc: Global, hyps: &[Term], from: &[Variable]) -> Result<Items<bool>, AllocError>
+pub fn marks_of(alloc: Global, hyps: &[Term], from: &[Variable]) -> Result<Items<bool>, AllocError>
     ensures { IfOk result (λ marks. marks ≡ map (is_joined hyps.now from.now) hyps.now) }
 {
     let all = variables_of_each(alloc, hyps)?;
@@ -83,28 +75,20 @@ fn marks_of(alloc: Global, hyps: &[Term], from: &[Variable]) -> Result<Items<boo
 }
 
 /// The hypotheses that are marked so.
-fn marked(alloc: Global, hyps: &[Term], marks: &[bool], wanted: bool) -> Result<Terms, AllocError>
+pub fn marked(
+    alloc: Global,
+    hyps: &[Term],
+    marks: &[bool],
+    wanted: bool,
+) -> Result<Terms, AllocError>
     requires { length marks.now ≡ length hyps.now }
     ensures { IfOk result (λ made. made ≡ marked wanted hyps.now marks.now) }
 {
     let mut out = Items::new(alloc);
     for at in 0..hyps.len() {
         if marks[at] == wanted {
-            out.push(copy_term(alloc, &hyps[at])?)?;
+            out.push(hyps[at].share()?)?;
         }
     }
     Ok(out)
-}
-
-/// Parts hypotheses by whether they are joined with variables, directly or through others.
-#[tactic(auto, using(crate::proofs::Marks::marked_inside, crate::proofs::Marks::marked_outside))]
-pub fn part(alloc: Global, hyps: &[Term], from: &[Variable]) -> Result<Parted, AllocError>
-    ensures inside { IfOk result (λ parts. parts.inside ≡ inside hyps.now from.now) }
-    ensures outside { IfOk result (λ parts. parts.outside ≡ outside hyps.now from.now) }
-{
-    let marks = marks_of(alloc, hyps, from)?;
-    Ok(Parted {
-        inside: marked(alloc, hyps, marks.as_slice(), true)?,
-        outside: marked(alloc, hyps, marks.as_slice(), false)?,
-    })
 }

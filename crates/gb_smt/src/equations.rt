@@ -2,15 +2,17 @@
 
 ghost use Rattle.std.specs.Prelude.{◌≡◌, ◌+◌, ◌<◌, ◌++◌, ◌∷◌, [], map, length, IfOk, OnOk};
 ghost use Rattle.std.specs.List.{list_any};
+ghost use Rattle.std.specs.Option.{option_map};
 ghost use Rattle.gb_terms.specs.Equal.{read_eq};
 ghost use Rattle.gb_walk.specs.Change.{term_changed};
 ghost use Rattle.gb_smt.specs.Equations.{occurs, replacement, is_equality, use_of, first_usable, others, with_used, used_up};
 
-use crate::leaves::{Leaf, copy_leaf};
-use gb_terms::copy::{copy_read, copy_term};
+use crate::leaves::Leaf;
+use gb_shared::{Shared, SharedItems};
 use gb_terms::op::{Op, Read};
 use gb_terms::reads::reads;
 use gb_terms::same::same_read;
+use gb_terms::share::copy_read;
 use gb_terms::term::{Head, Term, Terms};
 use gb_walk::change::{Change, Changes};
 use gb_walk::walk::changed;
@@ -63,7 +65,8 @@ fn replacement(alloc: Global, replaced: &Term, by: &Term) -> Result<Option<Chang
                 return Ok(None);
             }
             let read = copy_read(alloc, r)?;
-            Ok(Some(Change::ToTerm(read, copy_term(alloc, by)?)))
+            let by = by.share()?;
+            Ok(Some(Change::ToTerm(read, by)))
         }
         _ => Ok(None),
     }
@@ -125,37 +128,50 @@ fn others_changed(
     hyps: &[Term],
     place: usize,
     changes: &[Change],
-) -> Result<Terms, AllocError>
+) -> Result<SharedItems<Term>, AllocError>
     requires { place < length hyps.now }
     ensures { IfOk result (λ made. made ≡ map (λ t. term_changed t changes.now) (others hyps.now place)) }
 {
     let mut out = Items::new(alloc);
     add_changed(alloc, &hyps[..place], changes, &mut out)?;
     add_changed(alloc, &hyps[place + 1..], changes, &mut out)?;
-    Ok(out)
+    SharedItems::new(alloc, out)
 }
 
 /// The leaf without the hypothesis, its replacement made everywhere.
-fn with_used(alloc: Global, leaf: &Leaf, equation: &Equation) -> Result<Leaf, AllocError>
+fn with_used(alloc: Global, leaf: &Leaf, equation: &Equation) -> Result<Shared<Leaf>, AllocError>
     requires { equation.now.place < length leaf.now.hyps }
     ensures { IfOk result (λ made. made ≡ with_used equation.now leaf.now) }
 {
     let changes = equation.changes.as_slice();
     let hyps = others_changed(alloc, leaf.hyps.as_slice(), equation.place, changes)?;
     let conclusion = changed(alloc, &leaf.conclusion, changes)?;
-    Ok(Leaf { hyps, conclusion })
+    Shared::new(alloc, Leaf { hyps, conclusion })
+}
+
+/// The leaf without the first hypothesis that can be used, where there is one.
+fn used_once(alloc: Global, leaf: &Leaf) -> Result<Option<Shared<Leaf>>, AllocError>
+    ensures { IfOk result (λ made. made ≡ option_map (λ e. with_used e leaf.now) (first_usable leaf.now.hyps)) }
+{
+    match first_usable(alloc, leaf.hyps.as_slice())? {
+        Some(equation) => {
+            let made = with_used(alloc, leaf, &equation)?;
+            Ok(Some(made))
+        }
+        None => Ok(None),
+    }
 }
 
 /// The leaf without its equations between a variable or read and a term in which it doesn't occur: the first one is
 /// dropped and used everywhere, as long as there is one.
-pub fn used_up(alloc: Global, leaf: &Leaf) -> Result<Leaf, AllocError>
+pub fn used_up(alloc: Global, leaf: &Shared<Leaf>) -> Result<Shared<Leaf>, AllocError>
     ensures value { IfOk result (λ made. made ≡ used_up leaf.now) }
     ensures none_left { IfOk result (λ made. first_usable made.hyps ≡ None) }
 {
-    let mut left = copy_leaf(alloc, leaf)?;
-    for turn in 0..leaf.hyps.len() {
-        match first_usable(alloc, left.hyps.as_slice())? {
-            Some(equation) => left = with_used(alloc, &left, &equation)?,
+    let mut left = leaf.share()?;
+    for turn in 0..leaf.get().hyps.len() {
+        match used_once(alloc, left.get())? {
+            Some(next) => left = next,
             None => break,
         }
     }

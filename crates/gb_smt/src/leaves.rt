@@ -5,13 +5,13 @@ ghost use Rattle.std.specs.List.{list_any, flat_map};
 ghost use Rattle.gb_walk.specs.Change.{term_changed};
 ghost use Rattle.gb_smt.specs.Leaves.{connective, with_variable, with_memory, context_of, is_true, unless_true, assumed, assumed_of, split, speaks_of_programs, head_speaks_of_programs, leaves_of};
 
-use gb_core::copy::copy_ty;
 use gb_core::ty::Ty;
 use gb_core::value::Value;
 use gb_goal::sequent::{Hyp, Sequent};
-use gb_terms::copy::{copy_term, copy_terms};
+use gb_shared::{Shared, SharedItems};
 use gb_terms::make::logical;
 use gb_terms::op::{Op, Side};
+use gb_terms::share::share_terms;
 use gb_terms::term::{Head, Term, Terms};
 use gb_walk::change::{Change, Changes, under_binder};
 use gb_walk::walk::changed;
@@ -19,21 +19,13 @@ use sqlite_items::Items;
 use std::alloc::{AllocError, Global};
 
 /// A part of a goal: its hypotheses imply its conclusion.
-#[derive(Debug, Drop)]
+#[derive(Drop)]
 pub struct Leaf {
-    pub hyps: Terms,
+    pub hyps: SharedItems<Term>,
     pub conclusion: Term,
 }
 
-pub type Leaves = Items<Leaf>;
-
-pub fn copy_leaf(alloc: Global, leaf: &Leaf) -> Result<Leaf, AllocError>
-    ensures { IfOk result (λ made. made ≡ leaf.now) }
-{
-    let hyps = copy_terms(alloc, leaf.hyps.as_slice())?;
-    let conclusion = copy_term(alloc, &leaf.conclusion)?;
-    Ok(Leaf { hyps, conclusion })
-}
+pub type Leaves = Items<Shared<Leaf>>;
 
 /// The context of a part of the conclusion: how many logical variables and memories there are, and what became of the
 /// quantifiers around the part.
@@ -55,22 +47,25 @@ impl Context {
     fn of(alloc: Global, goal: &Sequent) -> Result<Context, AllocError>
         ensures { IfOk result (λ c. c ≡ context_of goal.now) }
     {
+        let logical = place_after(goal.logical.len())?;
+        let memories = place_after(goal.memories.len())?;
         Ok(Context {
-            logical: place_after(goal.logical.len())?,
-            memories: place_after(goal.memories.len())?,
+            logical,
+            memories,
             changes: Items::new(alloc),
         })
     }
 
     /// This context with one variable more, for a quantifier over values.
-    fn with_variable(&self, alloc: Global, ty: &Ty) -> Result<Context, AllocError>
+    fn with_variable(&self, alloc: Global, ty: &Shared<Ty>) -> Result<Context, AllocError>
         ensures { IfOk result (λ c. c ≡ with_variable self.now ty.now) }
     {
+        let next = next_place(self.logical)?;
         let mut changes = under_binder(alloc, self.changes.as_slice())?;
-        let variable = logical(alloc, self.logical, copy_ty(alloc, ty)?)?;
+        let variable = logical(alloc, self.logical, ty.share()?)?;
         changes.push(Change::OfBound(0, variable))?;
         Ok(Context {
-            logical: next_place(self.logical)?,
+            logical: next,
             memories: self.memories,
             changes,
         })
@@ -80,12 +75,13 @@ impl Context {
     fn with_memory(&self, alloc: Global) -> Result<Context, AllocError>
         ensures { IfOk result (λ c. c ≡ with_memory self.now) }
     {
+        let next = next_place(self.memories)?;
         let mut changes = under_binder(alloc, self.changes.as_slice())?;
         let memory = Side::Memory(self.memories);
         changes.push(Change::ToSide(Side::Bound(0), memory))?;
         Ok(Context {
             logical: self.logical,
-            memories: next_place(self.memories)?,
+            memories: next,
             changes,
         })
     }
@@ -133,7 +129,7 @@ fn add_unless_true(alloc: Global, t: &Term, hyps: &mut Terms) -> Result<(), Allo
     if is_true(t.head.get()) {
         return Ok(());
     }
-    hyps.push(copy_term(alloc, t)?)
+    hyps.push(t.share()?)
 }
 
 /// Adds a hypothesis: both sides of a conjunction, and nothing for `true`.
@@ -154,13 +150,18 @@ fn assume(alloc: Global, t: &Term, hyps: &mut Terms) -> Result<(), AllocError>
 }
 
 /// The hypotheses, and behind them what the left side of an implication gives.
-fn hyps_with(alloc: Global, hyps: &[Term], t: &Term, context: &Context) -> Result<Terms, AllocError>
+fn hyps_with(
+    alloc: Global,
+    hyps: &SharedItems<Term>,
+    t: &Term,
+    context: &Context,
+) -> Result<SharedItems<Term>, AllocError>
     ensures { IfOk result (λ made. made ≡ hyps.now ++ assumed (term_changed t.now context.now.changes)) }
 {
-    let mut more = copy_terms(alloc, hyps)?;
     let hyp = changed(alloc, t, context.changes.as_slice())?;
+    let mut more = share_terms(alloc, hyps.as_slice())?;
     assume(alloc, &hyp, &mut more)?;
-    Ok(more)
+    SharedItems::new(alloc, more)
 }
 
 /// Adds the leaf of a conclusion that isn't split.
@@ -168,14 +169,14 @@ fn add_leaf(
     alloc: Global,
     t: &Term,
     context: &Context,
-    hyps: &[Term],
+    hyps: &SharedItems<Term>,
     leaves: &mut Leaves,
 ) -> Result<(), AllocError>
     ensures { OnOk result (leaves.new ≡ leaves.old ++ record { hyps = hyps.now; conclusion = term_changed t.now context.now.changes } ∷ []) }
 {
-    let hyps = copy_terms(alloc, hyps)?;
+    let hyps = hyps.share()?;
     let conclusion = changed(alloc, t, context.changes.as_slice())?;
-    leaves.push(Leaf { hyps, conclusion })
+    leaves.push(Shared::new(alloc, Leaf { hyps, conclusion })?)
 }
 
 /// Adds the leaves of a part of the conclusion under hypotheses. A quantifier over values or memories goes to the
@@ -184,7 +185,7 @@ fn split(
     alloc: Global,
     t: &Term,
     context: &Context,
-    hyps: &[Term],
+    hyps: &SharedItems<Term>,
     leaves: &mut Leaves,
 ) -> Result<(), AllocError>
     ensures { OnOk result (leaves.new ≡ leaves.old ++ split t.now context.now hyps.now) }
@@ -207,7 +208,7 @@ fn split(
         return match connective_of(t.head.get()) {
             Connective::Implication => {
                 let more = hyps_with(alloc, hyps, &args[0], context)?;
-                split(alloc, &args[1], context, more.as_slice(), leaves)
+                split(alloc, &args[1], context, &more, leaves)
             }
             Connective::Conjunction => {
                 split(alloc, &args[0], context, hyps, leaves)?;
@@ -220,7 +221,7 @@ fn split(
 }
 
 /// The hypotheses of a goal without those that hold a judgment or a probability.
-fn hyps_of(alloc: Global, list: &[Hyp]) -> Result<Terms, AllocError>
+fn hyps_of(alloc: Global, list: &[Hyp]) -> Result<SharedItems<Term>, AllocError>
     ensures { IfOk result (λ made. made ≡ flat_map assumed_of list.now) }
 {
     let mut hyps = Items::new(alloc);
@@ -229,7 +230,7 @@ fn hyps_of(alloc: Global, list: &[Hyp]) -> Result<Terms, AllocError>
             assume(alloc, &hyp.form, &mut hyps)?;
         }
     }
-    Ok(hyps)
+    SharedItems::new(alloc, hyps)
 }
 
 /// The leaves of a goal, in order. Hypotheses that hold a judgment or a probability are left out.
@@ -239,7 +240,7 @@ pub fn leaves(alloc: Global, goal: &Sequent) -> Result<Leaves, AllocError>
     let context = Context::of(alloc, goal)?;
     let hyps = hyps_of(alloc, goal.hyps.as_slice())?;
     let mut out = Items::new(alloc);
-    split(alloc, &goal.conclusion, &context, hyps.as_slice(), &mut out)?;
+    split(alloc, &goal.conclusion, &context, &hyps, &mut out)?;
     Ok(out)
 }
 

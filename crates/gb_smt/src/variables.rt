@@ -5,20 +5,20 @@ ghost use Rattle.std.specs.Option.{option_copied};
 ghost use Rattle.std.specs.List.{flat_map};
 ghost use Rattle.gb_smt.specs.Variables.{is_among, head_read, term_variables, noted, with_new, variables, variables_in, share};
 
-use gb_core::copy::copy_ty;
 use gb_core::ty::Ty;
-use gb_terms::copy::copy_read;
+use gb_shared::Shared;
 use gb_terms::op::Read;
 use gb_terms::same::same_read;
+use gb_terms::share::copy_read;
 use gb_terms::term::{Head, Term};
 use sqlite_items::Items;
 use std::alloc::{AllocError, Global};
 
 /// A variable or read, with its type.
-#[derive(Debug, Drop)]
+#[derive(Drop)]
 pub struct Variable {
-    pub read: Read,
-    pub ty: Ty,
+    pub read: Shared<Read>,
+    pub ty: Shared<Ty>,
 }
 
 pub type Variables = Items<Variable>;
@@ -27,7 +27,7 @@ fn is_among(list: &[Variable], r: &Read) -> bool
     ensures { result ≡ is_among list.now r.now }
 {
     for variable in list {
-        if same_read(&variable.read, r) {
+        if same_read(variable.read.get(), r) {
             return true;
         }
     }
@@ -45,16 +45,20 @@ fn read_of(head: &Head) -> Option<&Read>
 }
 
 /// Adds a variable, if it isn't there yet.
-fn note_read(alloc: Global, r: &Read, ty: &Ty, list: &mut Variables) -> Result<(), AllocError>
+fn note_read(
+    alloc: Global,
+    r: &Read,
+    ty: &Shared<Ty>,
+    list: &mut Variables,
+) -> Result<(), AllocError>
     ensures { OnOk result (list.new ≡ with_new list.old (record { read = r.now; ty = ty.now })) }
 {
     if is_among(list.as_slice(), r) {
         return Ok(());
     }
-    list.push(Variable {
-        read: copy_read(alloc, r)?,
-        ty: copy_ty(alloc, ty)?,
-    })
+    let read = Shared::new(alloc, copy_read(alloc, r)?)?;
+    let ty = ty.share()?;
+    list.push(Variable { read, ty })
 }
 
 /// Adds the variables and reads of a term that aren't there yet.
@@ -64,7 +68,7 @@ fn note(alloc: Global, t: &Term, list: &mut Variables) -> Result<(), AllocError>
     ensures { OnOk result (list.new ≡ noted list.old (term_variables t.now)) }
 {
     match read_of(t.head.get()) {
-        Some(r) => note_read(alloc, r, t.ty.get(), list),
+        Some(r) => note_read(alloc, r, &t.ty, list),
         None => note_all(alloc, t.args.as_slice(), list),
     }
 }
@@ -108,7 +112,7 @@ pub fn share(a: &[Variable], b: &[Variable]) -> bool
     ensures { result ≡ share a.now b.now }
 {
     for variable in a {
-        if is_among(b, &variable.read) {
+        if is_among(b, variable.read.get()) {
             return true;
         }
     }

@@ -1,81 +1,130 @@
 // The width of a claim: how many assignments there are to its variables and to those bound in it.
 
-ghost use Rattle.std.specs.Prelude.{◌≡◌, ◌++◌, map, IfOk, OnOk};
+ghost use Rattle.std.specs.Prelude.{◌≡◌, ◌≤◌, ◌*◌, ◌^◌, ◌&&◌, true, if◌then◌else◌, nat_lt, map, min};
 ghost use Rattle.std.specs.List.{flat_map};
-ghost use Rattle.gb_smt.specs.Width.{head_bound_types, bound_types, assignments_of, width_of, is_tried, greater};
+ghost use Rattle.gb_core.specs.declared.ty.Ty.TheVariants.{Tuple};
+ghost use Rattle.gb_core.specs.declared.value.Card.TheVariants.{Exact, Above};
+ghost use Rattle.gb_types.specs.Numbering.{tuples};
+ghost use Rattle.gb_types.specs.Types.{all_true, is_finite, numbering, card_of};
+ghost use Rattle.gb_smt.specs.Width.{head_bound_types, bound_types, is_known_claim, assignments_of, width_of, is_tried, greater};
 
 use crate::claims::Claim;
 use crate::variables::Variable;
-use gb_core::copy::copy_ty;
-use gb_core::ty::{Ty, Tys};
 use gb_core::value::Card;
 use gb_eval::known::{are_known, is_known};
 use gb_terms::term::{Head, Term};
-use gb_types::card::card;
-use sqlite_items::Items;
-use std::alloc::{AllocError, Global};
+use gb_types::size::{MANY, is_finite, size};
 
 /// The largest width of a claim that is tried, and the number of assignments at most.
 pub const MOST: u64 = 1 << 20;
 
-fn note_head(alloc: Global, head: &Head, tys: &mut Tys) -> Result<(), AllocError>
-    ensures { OnOk result (tys.new ≡ tys.old ++ head_bound_types head.now) }
+/// The product, up to `MANY`.
+fn times(a: u64, b: u64) -> u64
+    requires left { a ≤ 2 ^ 63 }
+    requires right { b ≤ 2 ^ 63 }
+    ensures { result ≡ min (a * b) (2 ^ 63) }
+{
+    a.saturating_mul(b).min(MANY)
+}
+
+/// The size of the type of the variable that a head binds, up to `MANY`, and 1 where it binds none.
+fn bound_size_of_head(head: &Head) -> u64
+    ensures { result ≡ min (tuples (map numbering (head_bound_types head.now))) (2 ^ 63) }
 {
     match head {
-        Head::All(ty) | Head::Some(ty) => tys.push(copy_ty(alloc, ty)?),
-        _ => Ok(()),
+        Head::All(ty) | Head::Some(ty) => size(ty.get()),
+        _ => 1,
     }
 }
 
-/// Adds the types of the variables that are bound in a term.
-#[cycle(note_bound)]
-fn note_bound(alloc: Global, t: &Term, tys: &mut Tys) -> Result<(), AllocError>
-    ensures { OnOk result (tys.new ≡ tys.old ++ bound_types t.now) }
+/// The product of the sizes of the types of the variables that are bound in a term, up to `MANY`.
+#[cycle(bound_size)]
+fn bound_size(t: &Term) -> u64
+    ensures { result ≡ min (tuples (map numbering (bound_types t.now))) (2 ^ 63) }
 {
-    note_head(alloc, t.head.get(), tys)?;
-    note_all_bound(alloc, t.args.as_slice(), tys)
+    times(
+        bound_size_of_head(t.head.get()),
+        bound_size_of_all(t.args.as_slice()),
+    )
 }
 
-#[cycle(note_bound)]
-fn note_all_bound(alloc: Global, list: &[Term], tys: &mut Tys) -> Result<(), AllocError>
-    ensures { OnOk result (tys.new ≡ tys.old ++ flat_map bound_types list.now) }
+#[cycle(bound_size)]
+fn bound_size_of_all(list: &[Term]) -> u64
+    ensures { result ≡ min (tuples (map numbering (flat_map bound_types list.now))) (2 ^ 63) }
 {
+    let mut all = 1;
     for t in list {
-        note_bound(alloc, t, tys)?;
+        all = times(all, bound_size(t));
     }
-    Ok(())
+    all
 }
 
-/// The types of variables.
-pub fn types_of_variables(alloc: Global, variables: &[Variable]) -> Result<Tys, AllocError>
-    ensures { IfOk result (λ tys. tys ≡ map (λ v. v.ty) variables.now) }
+/// The product of the sizes of the types of variables, up to `MANY`.
+pub fn size_of_variables(variables: &[Variable]) -> u64
+    ensures { result ≡ min (tuples (map numbering (map (λ v. v.ty) variables.now))) (2 ^ 63) }
 {
-    let mut tys = Items::new(alloc);
+    let mut all = 1;
     for variable in variables {
-        tys.push(copy_ty(alloc, &variable.ty)?)?;
+        all = times(all, size(variable.ty.get()));
     }
-    Ok(tys)
+    all
 }
 
-/// The number of assignments to the variables of a claim and to those bound in it.
-fn number_of_assignments(alloc: Global, claim: &Claim) -> Result<Card, AllocError>
-    ensures { IfOk result (λ number. number ≡ assignments_of claim.now) }
+/// Whether the types of variables have numbers of values of their own.
+fn are_finite(variables: &[Variable]) -> bool
+    ensures { result ≡ all_true (map is_finite (map (λ v. v.ty) variables.now)) }
 {
-    let mut tys = types_of_variables(alloc, claim.variables.as_slice())?;
-    note_all_bound(alloc, claim.hyps.as_slice(), &mut tys)?;
-    note_bound(alloc, &claim.conclusion, &mut tys)?;
-    Ok(card(&Ty::Tuple(tys)))
+    for variable in variables {
+        if !is_finite(variable.ty.get()) {
+            return false;
+        }
+    }
+    true
+}
+
+/// A number of values, where there is one below `MANY`.
+fn card_at(finite: bool, count: u64) -> Card
+    ensures { result ≡ (if finite && nat_lt count (2 ^ 63) then Exact count else Above) }
+{
+    if finite && count < MANY {
+        Card::Exact(count)
+    } else {
+        Card::Above
+    }
+}
+
+/// The number of assignments to variables.
+pub fn number_of_values(variables: &[Variable]) -> Card
+    ensures { result ≡ card_of (Tuple (map (λ v. v.ty) variables.now)) }
+{
+    card_at(are_finite(variables), size_of_variables(variables))
+}
+
+/// The number of assignments to the variables of a claim and to those bound in it, whose types are finite.
+fn number_of_assignments(claim: &Claim) -> Card
+    requires { is_known_claim claim.now ≡ true }
+    ensures { result ≡ assignments_of claim.now }
+{
+    let variables = claim.variables.as_slice();
+    let bound = times(
+        bound_size_of_all(claim.hyps.as_slice()),
+        bound_size(&claim.conclusion),
+    );
+    card_at(
+        are_finite(variables),
+        times(size_of_variables(variables), bound),
+    )
 }
 
 /// The width of a claim, the product of the sizes of its variables and of those bound in it: above, where a part of it
 /// is opaque to evaluation.
-pub fn width(alloc: Global, claim: &Claim) -> Result<Card, AllocError>
-    ensures { IfOk result (λ width. width ≡ width_of claim.now) }
+pub fn width(claim: &Claim) -> Card
+    ensures { result ≡ width_of claim.now }
 {
     if are_known(claim.hyps.as_slice()) && is_known(&claim.conclusion) {
-        number_of_assignments(alloc, claim)
+        number_of_assignments(claim)
     } else {
-        Ok(Card::Above)
+        Card::Above
     }
 }
 

@@ -219,7 +219,7 @@ fn same_pairs(a: &[Pair], b: &[Pair]) -> bool
 fn same_typed_name(a: &TypedName, b: &TypedName) -> bool
     ensures { IsTrue result ↔ a.now ≡ b.now }
 {
-    same_name(&a.name, &b.name) && same_ty(&a.ty, &b.ty)
+    same_name(&a.name, &b.name) && same_ty(a.ty.get(), b.ty.get())
 }
 
 pub fn same_typed(a: &[TypedName], b: &[TypedName]) -> bool
@@ -267,17 +267,17 @@ fn same_plain_head(a: &Head, b: &Head) -> bool
             _ => false,
         },
         Head::All(t) => match b {
-            Head::All(u) => same_ty(t, u),
+            Head::All(u) => same_ty(t.get(), u.get()),
             _ => false,
         },
         Head::Some(t) => match b {
-            Head::Some(u) => same_ty(t, u),
+            Head::Some(u) => same_ty(t.get(), u.get()),
             _ => false,
         },
         Head::AllMemory => matches!(b, Head::AllMemory),
         Head::SomeMemory => matches!(b, Head::SomeMemory),
         Head::AllModule(m) => match b {
-            Head::AllModule(n) => same_bind(m, n),
+            Head::AllModule(n) => same_bind(m.get(), n.get()),
             _ => false,
         },
         Head::Mu => matches!(b, Head::Mu),
@@ -292,11 +292,11 @@ fn same_plain_head(a: &Head, b: &Head) -> bool
         Head::Map => matches!(b, Head::Map),
         Head::Restrict => matches!(b, Head::Restrict),
         Head::Pr(p, s) => match b {
-            Head::Pr(q, t) => same_proc_ref(p, q) && same_side(s, t),
+            Head::Pr(q, t) => same_proc_ref(p.get(), q.get()) && same_side(s, t),
             _ => false,
         },
         Head::Glob(m, s) => match b {
-            Head::Glob(n, t) => same_mexp(m, n) && same_side(s, t),
+            Head::Glob(n, t) => same_mexp(m.get(), n.get()) && same_side(s, t),
             _ => false,
         },
         Head::Hoare(_) | Head::Phoare(..) | Head::Equiv(..) => unreachable!(),
@@ -355,7 +355,7 @@ pub fn same_subject(a: &Subject, b: &Subject) -> bool
 {
     match a {
         Subject::Proc(p) => match b {
-            Subject::Proc(q) => same_proc_ref(p, q),
+            Subject::Proc(q) => same_proc_ref(p.get(), q.get()),
             _ => false,
         },
         Subject::Body(c) => match b {
@@ -403,7 +403,7 @@ fn same_instr(a: &Instr, b: &Instr) -> bool
         Instr::Call(xs, p, es) => match b {
             Instr::Call(ys, q, fs) => {
                 same_vars(xs.as_slice(), ys.as_slice())
-                    && same_proc_ref(p, q)
+                    && same_proc_ref(p.get(), q.get())
                     && same_terms(es.as_slice(), fs.as_slice())
             }
             _ => false,

@@ -3,9 +3,9 @@
 ghost use Rattle.std.specs.Prelude.{◌≡◌, OnOk};
 ghost use Rattle.gb_text.specs.Level.{fresh, operand_behind, with_form, with_operand, terminal_before, counted, ends, ended, nested, is_opening, is_closing, bracketed, is_long};
 
-use crate::stack::Stack;
 use crate::terminal::Terminal;
 use crate::text::{Text, terminal_at};
+use gb_shared::Stack;
 use gb_table::rule::{Atom, Form, Level as Mark, Operand, Rule, Tactic};
 use std::alloc::AllocError;
 

@@ -1,6 +1,5 @@
 //! Texts as the grammar sees them: from tokens to terminals and their kinds; which words are left out, how deep texts
-//! are nested, how long their chains are, and which numbers are out of range; and the stacks on which readers put
-//! values together.
+//! are nested, how long their chains are, and which numbers are out of range.
 #![tactic(auto)]
 
 pub mod checks;
@@ -11,6 +10,5 @@ pub mod level;
 pub mod lexeme;
 pub mod limits;
 pub mod numbers;
-pub mod stack;
 pub mod terminal;
 pub mod text;

@@ -7,10 +7,10 @@ ghost use Rattle.gb_text.specs.Limits.{begun, stepped, begin_too_many, over, wal
 use crate::level::{
     Levels, Opening, bracket, counted, fresh, is_closing, is_long, is_opening, nest,
 };
-use crate::stack::Stack;
 use crate::terminal::Terminal;
 use crate::text::{Text, terminal_at};
 use gb_grammar::table::Step;
+use gb_shared::Stack;
 use gb_table::rule::Rule;
 use std::alloc::{AllocError, Global};
 

@@ -1,6 +1,6 @@
 // One command of a script.
 
-ghost use Rattle.std.specs.Prelude.{◌≡◌, [], ◌∷◌, ◌++◌, true, None, IfOk, OnOk};
+ghost use Rattle.std.specs.Prelude.{◌≡◌, [], ◌∷◌, ◌++◌, drop, true, false, None, IfOk, OnOk};
 ghost use Rattle.gb_goal.specs.Scope.{entry_of};
 ghost use Rattle.gb_elab.specs.Answers.{Gives};
 ghost use Rattle.gb_verdict.specs.Session.{Session, OpenProof as Opened, with_goals};
@@ -13,14 +13,14 @@ use crate::state::{OpenProof, State};
 use gb_core::name::{Name, Names};
 use gb_core::place::Place;
 use gb_core::refusal::{Refused, Why};
+use gb_goal::goals::Goals;
 use gb_goal::scope::{Entry, Scope};
-use gb_goal::sequent::{Sequent, Sequents, copy_sequent};
+use gb_goal::sequent::{Sequent, Sequents};
 use gb_goal::step::{Rule, Step};
 use gb_tree::command::{Command, CommandShape, LemmaTree};
 use gb_tree::program::ModuleTree;
 use gb_tree::step::StepTree;
 use gb_tree::tactic::{CombinedShape, TacticTree};
-use sqlite_items::Items;
 use std::alloc::{AllocError, Global};
 
 fn refused(why: Why, place: Place) -> Refused
@@ -118,11 +118,11 @@ fn opened(alloc: Global, name: &Name, statement: Sequent) -> Result<OpenProof, A
     })
 }
 
-fn one_goal(alloc: Global, goal: &Sequent) -> Result<Sequents, AllocError>
+fn one_goal(alloc: Global, goal: &Sequent) -> Result<Goals, AllocError>
     ensures { IfOk result (λ made. made ≡ goal.now ∷ []) }
 {
-    let mut goals = Items::new(alloc);
-    goals.push(copy_sequent(alloc, goal)?)?;
+    let mut goals = Goals::new(alloc);
+    goals.push(goal.share()?)?;
     Ok(goals)
 }
 
@@ -188,64 +188,74 @@ fn prove_by(alloc: Global, state: &mut State, tree: &TacticTree) -> Result<(), R
     }
 }
 
-/// A rule works on the first goal, and puts its subgoals in front of the others.
+/// A rule works on the first goal, and puts its subgoals in front of the others. Where it is refused the proof stays as it
+/// was.
 fn prove(alloc: Global, state: &mut State, tree: &StepTree) -> Result<(), Refused>
     ensures { Leads
         (InProof (session_of state.old).proof tree.now.place (λ p. WorksOn p.goals (session_of state.old) p tree.now))
         (session_of state.new) result }
 {
-    let place = tree.place;
-    let Some(proof) = &mut state.proof else {
-        return Err(refused(Why::NoGoal, place));
+    let Some(proof) = state.proof.take() else {
+        return Err(refused(Why::NoGoal, tree.place));
     };
-    let goals = next_goals(alloc, &state.scope, proof.goals.as_slice(), tree)?;
-    proof.goals = goals;
-    proof.fresh = false;
-    Ok(())
+    match subgoals(alloc, &state.scope, &proof.goals, tree) {
+        Ok(next) => {
+            let proof = stepped(proof, next)?;
+            state.proof = Some(proof);
+            Ok(())
+        }
+        Err(refused) => {
+            state.proof = Some(proof);
+            Err(refused)
+        }
+    }
 }
 
-/// The goals that are open after a proof step.
-fn next_goals(
+/// The proof with these goals in the place of the first one.
+fn stepped(proof: OpenProof, next: Sequents) -> Result<OpenProof, AllocError>
+    ensures { IfOk result (λ p. p ≡ record proof { goals = next ++ drop 1 proof.goals; fresh = false }) }
+{
+    let OpenProof {
+        name,
+        statement,
+        mut goals,
+        ..
+    } = proof;
+    goals.replace_first(next)?;
+    Ok(OpenProof {
+        name,
+        statement,
+        goals,
+        fresh: false,
+    })
+}
+
+/// The goals that a proof step puts in the place of the first one.
+fn subgoals(
     alloc: Global,
     scope: &Scope,
-    goals: &[Sequent],
+    goals: &Goals,
     tree: &StepTree,
 ) -> Result<Sequents, Refused>
     ensures { (s : Session) (p : Opened) → s.scope ≡ scope.now
-        → Meets (with_goals s p) (WorksOn goals.now s p tree.now) result }
+        → Meets (λ next. with_goals s p (next ++ drop 1 goals.now)) (WorksOn goals.now s p tree.now) result }
 {
-    let [first, rest @ ..] = goals else {
+    let Some(first) = goals.get(0) else {
         return Err(refused(Why::NoGoal, tree.place));
     };
     let step = gb_elab_mod::step::proof_step(alloc, scope, first, tree)?;
     let next = apply(alloc, &step, first, scope)?;
-    continued(alloc, next, rest, step.place)
+    within_limits(next, goals, step.place)
 }
 
-/// The subgoals of a step, in front of the other goals.
-fn continued(
-    alloc: Global,
-    next: Sequents,
-    rest: &[Sequent],
-    place: Place,
-) -> Result<Sequents, Refused>
-    ensures { (s : Session) (p : Opened) → Gives (with_goals s p) (continued s p rest.now place next) result }
+/// The subgoals of a step, where they pass no limit, neither alone nor with the goals behind the first one.
+fn within_limits(next: Sequents, goals: &Goals, place: Place) -> Result<Sequents, Refused>
+    ensures { (s : Session) (p : Opened) → Gives (λ qs. with_goals s p (qs ++ drop 1 goals.now))
+        (continued s p (drop 1 goals.now) place next) result }
 {
     check_each(next.as_slice(), place)?;
-    let next = before(alloc, next, rest)?;
-    check_all(next.as_slice(), place)?;
+    check_all(next.as_slice(), goals, place)?;
     Ok(next)
-}
-
-/// Goals in front of copies of others.
-fn before(alloc: Global, first: Sequents, rest: &[Sequent]) -> Result<Sequents, AllocError>
-    ensures { IfOk result (λ made. made ≡ first ++ rest.now) }
-{
-    let mut made = first;
-    for goal in rest {
-        made.push(copy_sequent(alloc, goal)?)?;
-    }
-    Ok(made)
 }
 
 /// The subgoals of a rule, by the crate that has its row.

@@ -1,6 +1,6 @@
 // The limits on what a script builds.
 
-ghost use Rattle.std.specs.Prelude.{◌≡◌, length, map, sum, Some};
+ghost use Rattle.std.specs.Prelude.{◌≡◌, ◌++◌, drop, length, map, sum, Some};
 ghost use Rattle.std.specs.List.{list_any};
 ghost use Rattle.gb_terms.specs.Nodes.{saturated};
 ghost use Rattle.gb_goal.specs.Nodes.{sequent_nodes};
@@ -8,6 +8,7 @@ ghost use Rattle.gb_verdict.specs.Limits.{declaration_limit, is_large, has_large
 
 use gb_core::place::Place;
 use gb_core::refusal::{Refused, Why};
+use gb_goal::goals::Goals;
 use gb_goal::scope::Scope;
 use gb_goal::sequent::{Hyp, Sequent, nodes};
 use gb_terms::nodes::nodes_of;
@@ -93,14 +94,16 @@ fn nodes_of_all(goals: &[Sequent]) -> u64
     total
 }
 
-/// Refuses the goals that are open after a command where they are too many or too large together.
-pub fn check_all(goals: &[Sequent], place: Place) -> Result<(), Refused>
-    ensures { result ≡ limited (all_limit goals.now) place }
+/// Refuses the goals that would be open after a step, which puts these in the place of the first one, where they are too
+/// many or too large together.
+pub fn check_all(next: &[Sequent], goals: &Goals, place: Place) -> Result<(), Refused>
+    ensures { result ≡ limited (all_limit (next.now ++ drop 1 goals.now)) place }
 {
-    if goals.len() > OPEN_GOALS {
+    let behind = goals.len().saturating_sub(1);
+    if next.len().saturating_add(behind) > OPEN_GOALS {
         return too_many(OPEN_GOALS as u64, place);
     }
-    if nodes_of_all(goals) > ALL_NODES {
+    if nodes_of_all(next).saturating_add(goals.nodes_behind(1)) > ALL_NODES {
         return too_many(ALL_NODES, place);
     }
     Ok(())

@@ -4,8 +4,9 @@ ghost use Rattle.std.specs.Prelude.{◌≡◌, [], true};
 ghost use Rattle.gb_theory.specs.Opened.{is_undeclared};
 
 use gb_core::name::{Name, Names};
+use gb_goal::goals::Goals;
 use gb_goal::scope::Scope;
-use gb_goal::sequent::{Sequent, Sequents};
+use gb_goal::sequent::Sequent;
 use sqlite_items::Items;
 use std::alloc::Global;
 
@@ -15,7 +16,7 @@ use std::alloc::Global;
 pub struct OpenProof {
     pub name: Name,
     pub statement: Sequent,
-    pub goals: Sequents,
+    pub goals: Goals,
     pub fresh: bool,
 }
 

@@ -20,7 +20,7 @@ use gb_tree::command::Command;
 use std::alloc::{AllocError, Global};
 
 /// What a check comes to.
-#[derive(Debug, Drop)]
+#[derive(Drop)]
 pub enum Verdict {
     /// The names of the lemmas, in the order in which they were proved.
     Accepted(Names),

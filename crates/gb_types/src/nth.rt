@@ -25,9 +25,9 @@ fn nth_below(alloc: Global, ty: &Ty, at: u64) -> Result<Value, AllocError>
     ensures { IfOk result (λ v. v ≡ value_at ty.now at) }
 {
     match ty {
-        Ty::Tuple(parts) => Ok(Value::Many(nth_tuple(alloc, parts.as_slice(), at)?)),
-        Ty::Opt(inner) => Ok(Value::Many(nth_option(alloc, inner.get(), at)?)),
-        Ty::Map(key, value) => Ok(Value::Many(nth_map(alloc, key.get(), value.get(), at)?)),
+        Ty::Tuple(parts) => Value::of_parts(alloc, nth_tuple(alloc, parts.as_slice(), at)?),
+        Ty::Opt(inner) => Value::of_parts(alloc, nth_option(alloc, inner.get(), at)?),
+        Ty::Map(key, value) => Value::of_parts(alloc, nth_map(alloc, key.get(), value.get(), at)?),
         _ => Ok(Value::Num(at)),
     }
 }
@@ -106,7 +106,7 @@ fn nth_entry(
         let mut pair = Items::new(alloc);
         pair.push(nth_below(alloc, key, place)?)?;
         pair.push(nth_below(alloc, value, choice - 1)?)?;
-        out.push(Value::Many(pair))?;
+        out.push(Value::of_parts(alloc, pair)?)?;
     }
     Ok(out)
 }

@@ -8,7 +8,7 @@ use crate::path::no_place;
 use crate::sorted::{Sorted, nothing_sorted};
 use crate::take::take;
 use gb_core::place::Place;
-use gb_text::stack::Stack;
+use gb_shared::Stack;
 use gb_tree::form::{
     Connective, EquatedTree, FormShape, FormTree, Number, SideTree, TypeTree, Weight, Word,
 };

@@ -6,7 +6,7 @@ ghost use Rattle.gb_value.specs.Path.{no_place, no_word, no_number, no_type, no_
 use crate::sorted::{Sorted, nothing_sorted};
 use gb_core::name::Name;
 use gb_core::place::Place;
-use gb_text::stack::Stack;
+use gb_shared::Stack;
 use gb_tree::form::{
     Bind, Binder, Limit, ModuleBinder, Number, QueryBound, TypeShape, TypeTree, Word,
 };

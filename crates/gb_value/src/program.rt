@@ -6,7 +6,7 @@ ghost use Rattle.gb_value.specs.Program.{no_statement_tail, no_variant_tail, no_
 use crate::form::{CallTail, Suffix, no_call_tail};
 use crate::path::no_place;
 use crate::sorted::{Sorted, nothing_sorted};
-use gb_text::stack::Stack;
+use gb_shared::Stack;
 use gb_tree::command::{
     Command, CommandShape, OperatorDefinition, Realisation, Substitution, TypeDefinition,
 };

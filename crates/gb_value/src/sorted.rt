@@ -4,8 +4,8 @@ ghost use Rattle.std.specs.Prelude.{◌≡◌, IfOk, OnOk};
 ghost use Rattle.gb_value.specs.Sorted.{behind, list_made, nothing_sorted, put_front};
 
 use crate::take::take_list;
+use gb_shared::Stack;
 use gb_table::rule::ListRule;
-use gb_text::stack::Stack;
 use std::alloc::{AllocError, Global};
 
 /// Values of a sort, and lists of such.

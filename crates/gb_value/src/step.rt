@@ -5,7 +5,7 @@ ghost use Rattle.gb_value.specs.Step.{no_pattern, no_lemma, no_have_rest, no_cal
 
 use crate::path::{no_number, no_place, no_word};
 use crate::sorted::{Sorted, nothing_sorted};
-use gb_text::stack::Stack;
+use gb_shared::Stack;
 use gb_tree::form::{FormTree, Number, Word};
 use gb_tree::step::{
     ArgumentTree, CallRule, Distance, Guard, Guards, Hint, LemmaUse, ProcPaths, RuleTree, Summand,

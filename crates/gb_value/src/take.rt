@@ -5,7 +5,7 @@ ghost use Rattle.gb_value.specs.Path.{no_number, no_word};
 ghost use Rattle.gb_value.specs.Sorted.{top, behind, list_on, option_on};
 
 use crate::path::{no_number, no_word};
-use gb_text::stack::Stack;
+use gb_shared::Stack;
 use gb_tree::form::{Number, Word};
 use sqlite_items::{Boxed, Items};
 use std::alloc::{AllocError, Global};

@@ -1,5 +1,5 @@
 -- Lists of what arguments become.
-use Rattle.std.proofs.Common.{◌≡◌, ℕ, ◌+◌, ◌<◌, ◌==◌, refl, sym, ap, ◌∙◌, List, [], ◌∷◌, ◌++◌, map, drop, length, get_or, if◌then◌else◌, Bool, true, false, ◌||◌}
+use Rattle.std.proofs.Common.{◌≡◌, ℕ, ◌+◌, ◌<◌, ◌-◌, take, take_all, append_assoc, le_of_eq, length-drop, refl, sym, ap, ◌∙◌, List, [], ◌∷◌, ◌++◌, map, drop, length, get_or, Bool, ◌||◌}
 use Rattle.std.specs.List.{list_any}
 use Rattle.std.proofs.lemmas.List.{at_drop_more}
 use Rattle.gb_walk.specs.Layers.{where_last, seen_by}
@@ -24,3 +24,18 @@ seen_by_more {X} g y z xs i x h e =
     last_of_map : (ys : List X) → where_last (map g ys) y z ≡ where_last ys y z
     last_of_map [] = refl
     last_of_map (v ∷ ys) = refl
+
+-- one argument made more, by what it sees
+pub seen_by_pushed : {X A B : Type 0} (g : X → A → B) (y z : A) (xs : List X) (i : ℕ) (x : X) → i < length xs → x ≡ get_or xs i x →
+    (out new all : List B) (b : B) (seen : A) → new ≡ out ++ (b ∷ []) → b ≡ g x seen →
+    seen ≡ where_last (take (length xs - (i + 1)) (drop (i + 1) xs)) y z →
+    out ++ seen_by y z (map g (drop i xs)) ≡ all → new ++ seen_by y z (map g (drop (i + 1) xs)) ≡ all
+seen_by_pushed {X} g y z xs i x h e out new all b seen pushed made at before =
+    ap (λ l. l ++ seen_by y z (map g behind)) pushed
+    ∙ append_assoc out (b ∷ []) (seen_by y z (map g behind))
+    ∙ ap (λ v. out ++ (v ∷ seen_by y z (map g behind))) (made ∙ ap (g x) (at ∙ ap (λ l. where_last l y z) (take_all (length xs - (i + 1)) behind (le_of_eq (length-drop (i + 1) xs)))))
+    ∙ ap (λ l. out ++ l) (sym (seen_by_more g y z xs i x h e))
+    ∙ before
+  where
+    behind : List X
+    behind = drop (i + 1) xs

@@ -7,15 +7,16 @@ ghost use Rattle.gb_walk.specs.Change.{is_read_through, is_own, is_left_or_right
 use crate::binders::is_binder;
 use crate::raise::{raised, raised_read, raised_side};
 use gb_core::copy::copy_var;
-use gb_terms::copy::{copy_read, copy_term};
+use gb_shared::Shared;
 use gb_terms::op::{Read, Side};
 use gb_terms::same::{same_read, same_side};
+use gb_terms::share::copy_read;
 use gb_terms::term::{Head, Term};
 use sqlite_items::Items;
 use std::alloc::{AllocError, Global};
 
 /// One change of a tree.
-#[derive(Debug, Drop)]
+#[derive(Drop)]
 pub enum Change {
     /// A read becomes a term.
     ToTerm(Read, Term),
@@ -28,10 +29,10 @@ pub enum Change {
 pub type Changes = Items<Change>;
 
 /// What becomes of the head of a term: a term takes the place of the whole, or the head is kept.
-#[derive(Debug, Drop)]
+#[derive(Drop)]
 pub enum Made {
     Put(Term),
-    Kept(Head),
+    Kept(Shared<Head>),
 }
 
 fn is_own(side: &Side) -> bool
@@ -95,9 +96,14 @@ impl Change {
     {
         match self {
             Change::ToTerm(read, term) => {
-                Ok(Change::ToTerm(copy_read(alloc, read)?, copy_term(alloc, term)?))
+                let read = copy_read(alloc, read)?;
+                let term = term.share()?;
+                Ok(Change::ToTerm(read, term))
             }
-            Change::OfBound(index, term) => Ok(Change::OfBound(*index, copy_term(alloc, term)?)),
+            Change::OfBound(index, term) => {
+                let term = term.share()?;
+                Ok(Change::OfBound(*index, term))
+            }
             Change::ToSide(from, to) => Ok(Change::ToSide(*from, *to)),
         }
     }
@@ -107,16 +113,20 @@ impl Change {
         ensures { IfOk result (λ c. c ≡ change_raised self.now) }
     {
         match self {
-            Change::ToTerm(read, term) => Ok(Change::ToTerm(
-                raised_read(alloc, read, 0)?,
-                raised(alloc, term, 0)?,
-            )),
-            Change::OfBound(index, term) => Ok(Change::OfBound(
-                index.checked_add(1).ok_or(AllocError)?,
-                raised(alloc, term, 0)?,
-            )),
+            Change::ToTerm(read, term) => {
+                let read = raised_read(alloc, read, 0)?;
+                let term = raised(alloc, term, 0)?;
+                Ok(Change::ToTerm(read, term))
+            }
+            Change::OfBound(index, term) => {
+                let index = index.checked_add(1).ok_or(AllocError)?;
+                let term = raised(alloc, term, 0)?;
+                Ok(Change::OfBound(index, term))
+            }
             Change::ToSide(from, to) => {
-                Ok(Change::ToSide(raised_side(*from, 0)?, raised_side(*to, 0)?))
+                let from = raised_side(*from, 0)?;
+                let to = raised_side(*to, 0)?;
+                Ok(Change::ToSide(from, to))
             }
         }
     }
@@ -240,10 +250,11 @@ fn changed_read(alloc: Global, changes: &[Change], read: &Read) -> Result<Read, 
 {
     match read {
         Read::Logical(place) => Ok(Read::Logical(*place)),
-        Read::Program { var, side } => Ok(Read::Program {
-            var: copy_var(alloc, var)?,
-            side: changed_side(changes, *side),
-        }),
+        Read::Program { var, side } => {
+            let var = copy_var(alloc, var)?;
+            let side = changed_side(changes, *side);
+            Ok(Read::Program { var, side })
+        }
     }
 }
 
@@ -252,8 +263,15 @@ pub fn made_read(alloc: Global, read: &Read, changes: &[Change]) -> Result<Made,
     ensures { IfOk result (λ made. made ≡ put_or (found_for_read changes.now read.now) (Head.Read (read_changed changes.now read.now))) }
 {
     match found_for_read(changes, read) {
-        Some(term) => Ok(Made::Put(copy_term(alloc, term)?)),
-        None => Ok(Made::Kept(Head::Read(changed_read(alloc, changes, read)?))),
+        Some(term) => {
+            let term = term.share()?;
+            Ok(Made::Put(term))
+        }
+        None => {
+            let read = changed_read(alloc, changes, read)?;
+            let head = Shared::new(alloc, Head::Read(read))?;
+            Ok(Made::Kept(head))
+        }
     }
 }
 
@@ -262,7 +280,13 @@ pub fn made_bound(alloc: Global, index: u32, changes: &[Change]) -> Result<Made,
     ensures { IfOk result (λ made. made ≡ put_or (found_for_bound changes.now index) (Head.Bound index)) }
 {
     match found_for_bound(changes, index) {
-        Some(term) => Ok(Made::Put(copy_term(alloc, term)?)),
-        None => Ok(Made::Kept(Head::Bound(index))),
+        Some(term) => {
+            let term = term.share()?;
+            Ok(Made::Put(term))
+        }
+        None => {
+            let head = Shared::new(alloc, Head::Bound(index))?;
+            Ok(Made::Kept(head))
+        }
     }
 }

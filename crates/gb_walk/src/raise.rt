@@ -6,11 +6,11 @@ ghost use Rattle.gb_walk.specs.Layers.{seen_by, where_last};
 ghost use Rattle.gb_walk.specs.Raise.{index_raised, side_raised, read_raised, last_from, term_raised, head_raised, subject_raised, instr_raised, cmd_raised};
 
 use crate::binders::is_binder;
-use gb_core::copy::{copy_ty, copy_var, copy_vars};
-use gb_terms::copy::{copy_head, copy_mexp, copy_proc_ref};
+use gb_core::copy::copy_var;
+use gb_shared::{Shared, SharedItems};
 use gb_terms::op::{Read, Side};
 use gb_terms::term::{Cmd, Head, Instr, Instrs, Subject, Term, Terms};
-use sqlite_items::{Boxed, Items};
+use sqlite_items::Items;
 use std::alloc::{AllocError, Global};
 
 /// A place that counts 2^32 binders or more is no place: then memory is said to run out.
@@ -40,10 +40,11 @@ pub fn raised_read(alloc: Global, read: &Read, from: u32) -> Result<Read, AllocE
 {
     match read {
         Read::Logical(place) => Ok(Read::Logical(*place)),
-        Read::Program { var, side } => Ok(Read::Program {
-            var: copy_var(alloc, var)?,
-            side: raised_side(*side, from)?,
-        }),
+        Read::Program { var, side } => {
+            let var = copy_var(alloc, var)?;
+            let side = raised_side(*side, from)?;
+            Ok(Read::Program { var, side })
+        }
     }
 }
 
@@ -69,10 +70,11 @@ fn argument_from(behind: &[Term], from: u32, last: u32) -> u32
 pub fn raised(alloc: Global, term: &Term, from: u32) -> Result<Term, AllocError>
     ensures { IfOk result (λ made. made ≡ term_raised term.now from) }
 {
-    let head = Boxed::new(alloc, raised_head(alloc, term.head.get(), from)?)?;
+    let head = raised_head(alloc, &term.head, from)?;
     let last = last_argument_from(head.get(), from)?;
     let args = raised_args(alloc, term.args.as_slice(), from, last)?;
-    let ty = Boxed::new(alloc, copy_ty(alloc, term.ty.get())?)?;
+    let args = SharedItems::new(alloc, args)?;
+    let ty = term.ty.share()?;
     Ok(Term { head, args, ty })
 }
 
@@ -90,29 +92,42 @@ fn raised_args(alloc: Global, args: &[Term], from: u32, last: u32) -> Result<Ter
 }
 
 #[cycle(raise)]
-fn raised_head(alloc: Global, head: &Head, from: u32) -> Result<Head, AllocError>
+fn raised_head(alloc: Global, head: &Shared<Head>, from: u32) -> Result<Shared<Head>, AllocError>
     ensures { IfOk result (λ made. made ≡ head_raised head.now from) }
 {
-    match head {
-        Head::Hoare(subject) => Ok(Head::Hoare(raised_subject(alloc, subject, from)?)),
-        Head::Phoare(subject, rel) => {
-            Ok(Head::Phoare(raised_subject(alloc, subject, from)?, *rel))
+    match head.get() {
+        Head::Hoare(subject) => {
+            let subject = raised_subject(alloc, subject, from)?;
+            Shared::new(alloc, Head::Hoare(subject))
         }
-        Head::Equiv(left, right) => Ok(Head::Equiv(
-            raised_subject(alloc, left, from)?,
-            raised_subject(alloc, right, from)?,
-        )),
-        Head::Bound(index) => Ok(Head::Bound(raised_index(*index, from)?)),
-        Head::Read(read) => Ok(Head::Read(raised_read(alloc, read, from)?)),
-        Head::Glob(module, side) => Ok(Head::Glob(
-            copy_mexp(alloc, module)?,
-            raised_side(*side, from)?,
-        )),
-        Head::Pr(procedure, side) => Ok(Head::Pr(
-            copy_proc_ref(alloc, procedure)?,
-            raised_side(*side, from)?,
-        )),
-        _ => copy_head(alloc, head),
+        Head::Phoare(subject, rel) => {
+            let subject = raised_subject(alloc, subject, from)?;
+            Shared::new(alloc, Head::Phoare(subject, *rel))
+        }
+        Head::Equiv(left, right) => {
+            let left = raised_subject(alloc, left, from)?;
+            let right = raised_subject(alloc, right, from)?;
+            Shared::new(alloc, Head::Equiv(left, right))
+        }
+        Head::Bound(index) => {
+            let index = raised_index(*index, from)?;
+            Shared::new(alloc, Head::Bound(index))
+        }
+        Head::Read(read) => {
+            let read = raised_read(alloc, read, from)?;
+            Shared::new(alloc, Head::Read(read))
+        }
+        Head::Glob(module, side) => {
+            let module = module.share()?;
+            let side = raised_side(*side, from)?;
+            Shared::new(alloc, Head::Glob(module, side))
+        }
+        Head::Pr(procedure, side) => {
+            let procedure = procedure.share()?;
+            let side = raised_side(*side, from)?;
+            Shared::new(alloc, Head::Pr(procedure, side))
+        }
+        _ => head.share(),
     }
 }
 
@@ -121,8 +136,14 @@ fn raised_subject(alloc: Global, subject: &Subject, from: u32) -> Result<Subject
     ensures { IfOk result (λ made. made ≡ subject_raised subject.now from) }
 {
     match subject {
-        Subject::Proc(procedure) => Ok(Subject::Proc(copy_proc_ref(alloc, procedure)?)),
-        Subject::Body(body) => Ok(Subject::Body(raised_cmd(alloc, body, from)?)),
+        Subject::Proc(procedure) => {
+            let procedure = procedure.share()?;
+            Ok(Subject::Proc(procedure))
+        }
+        Subject::Body(body) => {
+            let body = raised_cmd(alloc, body, from)?;
+            Ok(Subject::Body(body))
+        }
     }
 }
 
@@ -130,9 +151,9 @@ fn raised_subject(alloc: Global, subject: &Subject, from: u32) -> Result<Subject
 fn raised_cmd(alloc: Global, cmd: &Cmd, from: u32) -> Result<Cmd, AllocError>
     ensures { IfOk result (λ made. made ≡ cmd_raised cmd.now from) }
 {
-    Ok(Cmd {
-        list: raised_instrs(alloc, cmd.list.as_slice(), from)?,
-    })
+    let list = raised_instrs(alloc, cmd.list.as_slice(), from)?;
+    let list = SharedItems::new(alloc, list)?;
+    Ok(Cmd { list })
 }
 
 #[cycle(raise)]
@@ -140,29 +161,35 @@ fn raised_instr(alloc: Global, instr: &Instr, from: u32) -> Result<Instr, AllocE
     ensures { IfOk result (λ made. made ≡ instr_raised instr.now from) }
 {
     match instr {
-        Instr::Assign(targets, value) => Ok(Instr::Assign(
-            copy_vars(alloc, targets.as_slice())?,
-            raised(alloc, value, from)?,
-        )),
-        Instr::Sample(target, d) => Ok(Instr::Sample(
-            copy_var(alloc, target)?,
-            raised(alloc, d, from)?,
-        )),
-        Instr::Call(targets, procedure, args) => Ok(Instr::Call(
-            copy_vars(alloc, targets.as_slice())?,
-            copy_proc_ref(alloc, procedure)?,
-            raised_terms(alloc, args.as_slice(), from)?,
-        )),
-        Instr::If(test, yes, no) => Ok(Instr::If(
-            raised(alloc, test, from)?,
-            raised_cmd(alloc, yes, from)?,
-            raised_cmd(alloc, no, from)?,
-        )),
-        Instr::While(guard, variant, body) => Ok(Instr::While(
-            raised(alloc, guard, from)?,
-            raised(alloc, variant, from)?,
-            raised_cmd(alloc, body, from)?,
-        )),
+        Instr::Assign(targets, value) => {
+            let targets = targets.share()?;
+            let value = raised(alloc, value, from)?;
+            Ok(Instr::Assign(targets, value))
+        }
+        Instr::Sample(target, d) => {
+            let target = copy_var(alloc, target)?;
+            let d = raised(alloc, d, from)?;
+            Ok(Instr::Sample(target, d))
+        }
+        Instr::Call(targets, procedure, args) => {
+            let targets = targets.share()?;
+            let procedure = procedure.share()?;
+            let args = raised_terms(alloc, args.as_slice(), from)?;
+            let args = SharedItems::new(alloc, args)?;
+            Ok(Instr::Call(targets, procedure, args))
+        }
+        Instr::If(test, yes, no) => {
+            let test = raised(alloc, test, from)?;
+            let yes = raised_cmd(alloc, yes, from)?;
+            let no = raised_cmd(alloc, no, from)?;
+            Ok(Instr::If(test, yes, no))
+        }
+        Instr::While(guard, variant, body) => {
+            let guard = raised(alloc, guard, from)?;
+            let variant = raised(alloc, variant, from)?;
+            let body = raised_cmd(alloc, body, from)?;
+            Ok(Instr::While(guard, variant, body))
+        }
     }
 }
 

@@ -9,10 +9,10 @@ use crate::change::{
     Change, Changes, Made, changed_side, made_bound, made_read, seen_by_args, seen_by_last,
     without_own,
 };
-use gb_core::copy::{copy_ty, copy_var, copy_vars};
-use gb_terms::copy::{copy_head, copy_mexp, copy_proc_ref};
+use gb_core::copy::copy_var;
+use gb_shared::{Shared, SharedItems};
 use gb_terms::term::{Cmd, Head, Instr, Instrs, Subject, Term, Terms};
-use sqlite_items::{Boxed, Items};
+use sqlite_items::Items;
 use std::alloc::{AllocError, Global};
 
 /// The changes seen, or those given where they are the same.
@@ -39,16 +39,16 @@ fn argument_sees<'a>(behind: &[Term], changes: &'a [Change], last: &'a [Change])
 pub fn changed(alloc: Global, term: &Term, changes: &[Change]) -> Result<Term, AllocError>
     ensures { IfOk result (λ made. made ≡ term_changed term.now changes.now) }
 {
-    match made_head(alloc, term.head.get(), changes)? {
+    match made_head(alloc, &term.head, changes)? {
         Made::Put(by) => Ok(by),
         Made::Kept(head) => {
-            let head = Boxed::new(alloc, head)?;
             let by_args = seen_by_args(alloc, head.get(), changes)?;
             let by_last = seen_by_last(alloc, head.get(), changes)?;
             let seen = or_given(&by_args, changes);
             let last = or_given(&by_last, changes);
             let args = changed_args(alloc, term.args.as_slice(), seen, last)?;
-            let ty = Boxed::new(alloc, copy_ty(alloc, term.ty.get())?)?;
+            let args = SharedItems::new(alloc, args)?;
+            let ty = term.ty.share()?;
             Ok(Term { head, args, ty })
         }
     }
@@ -74,34 +74,44 @@ fn changed_args(
 
 /// What becomes of a head: a term takes its place, or it is kept, its reads led to other memories.
 #[cycle(walk)]
-fn made_head(alloc: Global, head: &Head, changes: &[Change]) -> Result<Made, AllocError>
+fn made_head(alloc: Global, head: &Shared<Head>, changes: &[Change]) -> Result<Made, AllocError>
     ensures { IfOk result (λ made. made ≡ head_changed head.now changes.now) }
 {
-    match head {
+    match head.get() {
         Head::Read(read) => made_read(alloc, read, changes),
         Head::Bound(index) => made_bound(alloc, *index, changes),
         Head::Glob(module, side) => {
+            let module = module.share()?;
             let side = changed_side(changes, *side);
-            Ok(Made::Kept(Head::Glob(copy_mexp(alloc, module)?, side)))
+            let head = Shared::new(alloc, Head::Glob(module, side))?;
+            Ok(Made::Kept(head))
         }
         Head::Pr(procedure, side) => {
+            let procedure = procedure.share()?;
             let side = changed_side(changes, *side);
-            Ok(Made::Kept(Head::Pr(copy_proc_ref(alloc, procedure)?, side)))
+            let head = Shared::new(alloc, Head::Pr(procedure, side))?;
+            Ok(Made::Kept(head))
         }
         Head::Hoare(subject) => {
             let subject = changed_subject(alloc, subject, changes)?;
-            Ok(Made::Kept(Head::Hoare(subject)))
+            let head = Shared::new(alloc, Head::Hoare(subject))?;
+            Ok(Made::Kept(head))
         }
         Head::Phoare(subject, rel) => {
             let subject = changed_subject(alloc, subject, changes)?;
-            Ok(Made::Kept(Head::Phoare(subject, *rel)))
+            let head = Shared::new(alloc, Head::Phoare(subject, *rel))?;
+            Ok(Made::Kept(head))
         }
         Head::Equiv(left, right) => {
             let left = changed_subject(alloc, left, changes)?;
             let right = changed_subject(alloc, right, changes)?;
-            Ok(Made::Kept(Head::Equiv(left, right)))
+            let head = Shared::new(alloc, Head::Equiv(left, right))?;
+            Ok(Made::Kept(head))
         }
-        _ => Ok(Made::Kept(copy_head(alloc, head)?)),
+        _ => {
+            let head = head.share()?;
+            Ok(Made::Kept(head))
+        }
     }
 }
 
@@ -114,10 +124,14 @@ fn changed_subject(
     ensures { IfOk result (λ made. made ≡ subject_changed subject.now changes.now) }
 {
     match subject {
-        Subject::Proc(procedure) => Ok(Subject::Proc(copy_proc_ref(alloc, procedure)?)),
+        Subject::Proc(procedure) => {
+            let procedure = procedure.share()?;
+            Ok(Subject::Proc(procedure))
+        }
         Subject::Body(body) => {
             let inside = without_own(alloc, changes)?;
-            Ok(Subject::Body(changed_cmd(alloc, body, inside.as_slice())?))
+            let body = changed_cmd(alloc, body, inside.as_slice())?;
+            Ok(Subject::Body(body))
         }
     }
 }
@@ -127,9 +141,9 @@ fn changed_subject(
 pub fn changed_cmd(alloc: Global, cmd: &Cmd, changes: &[Change]) -> Result<Cmd, AllocError>
     ensures { IfOk result (λ made. made ≡ cmd_changed cmd.now changes.now) }
 {
-    Ok(Cmd {
-        list: changed_instrs(alloc, cmd.list.as_slice(), changes)?,
-    })
+    let list = changed_instrs(alloc, cmd.list.as_slice(), changes)?;
+    let list = SharedItems::new(alloc, list)?;
+    Ok(Cmd { list })
 }
 
 #[cycle(walk)]
@@ -137,29 +151,35 @@ fn changed_instr(alloc: Global, instr: &Instr, changes: &[Change]) -> Result<Ins
     ensures { IfOk result (λ made. made ≡ instr_changed instr.now changes.now) }
 {
     match instr {
-        Instr::Assign(targets, value) => Ok(Instr::Assign(
-            copy_vars(alloc, targets.as_slice())?,
-            changed(alloc, value, changes)?,
-        )),
-        Instr::Sample(target, d) => Ok(Instr::Sample(
-            copy_var(alloc, target)?,
-            changed(alloc, d, changes)?,
-        )),
-        Instr::Call(targets, procedure, args) => Ok(Instr::Call(
-            copy_vars(alloc, targets.as_slice())?,
-            copy_proc_ref(alloc, procedure)?,
-            changed_terms(alloc, args.as_slice(), changes)?,
-        )),
-        Instr::If(test, yes, no) => Ok(Instr::If(
-            changed(alloc, test, changes)?,
-            changed_cmd(alloc, yes, changes)?,
-            changed_cmd(alloc, no, changes)?,
-        )),
-        Instr::While(guard, variant, body) => Ok(Instr::While(
-            changed(alloc, guard, changes)?,
-            changed(alloc, variant, changes)?,
-            changed_cmd(alloc, body, changes)?,
-        )),
+        Instr::Assign(targets, value) => {
+            let targets = targets.share()?;
+            let value = changed(alloc, value, changes)?;
+            Ok(Instr::Assign(targets, value))
+        }
+        Instr::Sample(target, d) => {
+            let target = copy_var(alloc, target)?;
+            let d = changed(alloc, d, changes)?;
+            Ok(Instr::Sample(target, d))
+        }
+        Instr::Call(targets, procedure, args) => {
+            let targets = targets.share()?;
+            let procedure = procedure.share()?;
+            let args = changed_terms(alloc, args.as_slice(), changes)?;
+            let args = SharedItems::new(alloc, args)?;
+            Ok(Instr::Call(targets, procedure, args))
+        }
+        Instr::If(test, yes, no) => {
+            let test = changed(alloc, test, changes)?;
+            let yes = changed_cmd(alloc, yes, changes)?;
+            let no = changed_cmd(alloc, no, changes)?;
+            Ok(Instr::If(test, yes, no))
+        }
+        Instr::While(guard, variant, body) => {
+            let guard = changed(alloc, guard, changes)?;
+            let variant = changed(alloc, variant, changes)?;
+            let body = changed_cmd(alloc, body, changes)?;
+            Ok(Instr::While(guard, variant, body))
+        }
     }
 }
 

@@ -7,7 +7,7 @@ ghost use Rattle.gb_read_command.specs.Composed.{bodies, seq_bounds, contract_on
 ghost use Rattle.gb_read_command.specs.Rules.{transitivity_rule};
 
 use gb_compose::form::{take_form, take_three_forms, take_two_forms};
-use gb_text::stack::Stack;
+use gb_shared::Stack;
 use gb_text::terminal::Terminal;
 use gb_tree::form::{FormTree, FormTrees, Number, SideTree, Word};
 use gb_tree::judgment::CallTree;

@@ -6,7 +6,6 @@ ghost use Rattle.gb_read_command.specs.Rules.{body_form_rule, body_rule, eager_r
 ghost use Rattle.std.specs.Prelude.{◌≡◌};
 
 use gb_table::rule::{FormStep, LemmaStep, WordStep};
-use gb_text::stack::Stack;
 use gb_text::terminal::Terminal;
 use gb_tree::form::{FormTree, Number, Word};
 use gb_tree::step::{

@@ -7,7 +7,7 @@ ghost use Rattle.gb_value.specs.Sorted.{top, behind};
 ghost use Rattle.gb_value.specs.Step.{no_pattern, no_rule};
 ghost use Rattle.std.specs.Prelude.{◌≡◌, IfOk, OnOk};
 
-use gb_text::stack::Stack;
+use gb_shared::Stack;
 use gb_text::terminal::Terminal;
 use gb_text::text::{Text, place_at};
 use gb_tree::form::Word;

@@ -3,7 +3,7 @@
 ghost use Rattle.gb_compose.specs.Atoms.{call_tail, constant, prefixed};
 ghost use Rattle.std.specs.Prelude.{◌≡◌};
 
-use gb_text::stack::Stack;
+use gb_shared::Stack;
 use gb_text::terminal::Terminal;
 use gb_tree::form::{FormShape, FormTree};
 use gb_value::form::{CallFunctor, CallTail, FunctorCall};

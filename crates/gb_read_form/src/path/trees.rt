@@ -3,7 +3,7 @@
 ghost use Rattle.gb_compose.specs.Paths.{bracketed_type, functor_tail, integer, named_type, number_at, plain_type};
 ghost use Rattle.std.specs.Prelude.{IfOk, ◌≡◌};
 
-use gb_text::stack::Stack;
+use gb_shared::Stack;
 use gb_text::terminal::Terminal;
 use gb_text::text::{Text, word_at};
 use gb_tree::form::{Number, TypeShape, TypeTree, Word};

@@ -8,7 +8,7 @@ ghost use Rattle.gb_read_form.specs.ProgramTrees.{module_of, writing, acting, st
 use gb_compose::calls::{call, longer_call};
 use gb_compose::trees::suffixed;
 use gb_compose::words::dotted;
-use gb_text::stack::Stack;
+use gb_shared::Stack;
 use gb_tree::command::CommandShape;
 use gb_tree::form::{FormTree, SideTree, Word};
 use gb_tree::program::{ModuleAlias, ModuleTree, Statement, StatementShape, Statements, Target};

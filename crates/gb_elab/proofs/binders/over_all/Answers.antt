@@ -27,5 +27,4 @@ loop-x-preserved c =
     let h : i < length vs = omega arith in
     let rest = left vs i v h c.x-item.is in
     let inside = first_inside q (drop (i + 1) vs) v c.loop-x.form in
-    let made : c.in_ok-form.form ≡ over q v.ty c.loop-x.form = c.in_ok-form.ensures ∙ ap (λ ty. over q ty c.loop-x.form) c.in_ok-copy_ty.ensures in
-    ap (over_all q (reverse (drop (i + 1) vs))) made ∙ sym inside ∙ ap (λ us. over_all q (reverse us) c.loop-x.form) (sym rest) ∙ c.loop-x.invariant
+    ap (over_all q (reverse (drop (i + 1) vs))) c.in_ok-form.ensures ∙ sym inside ∙ ap (λ us. over_all q (reverse us) c.loop-x.form) (sym rest) ∙ c.loop-x.invariant

@@ -6,8 +6,8 @@ use Rattle.gb_eval.proofs.eval.+eval.Given as goal
 
 abbrev pub invariant-quantifier-loop-at : goal.invariant-quantifier-loop-at
 invariant-quantifier-loop-at l = record {
-  bound : l.bound ≡ l.fn.bound;
+  inner : l.inner ≡ l.bound;
   body : l.args ≡ l.body ∷ [];
   count : card_of l.ty ≡ Exact l.count;
-  truths : over_places l.deciding l.at (λ i. truth_of (eval l.reads l.body (value_at l.ty i ∷ reverse l.fn.bound))) ≡ Some (not l.deciding);
+  truths : over_places l.deciding l.at (λ i. truth_of (eval l.reads l.body (value_at l.ty i ∷ reverse l.bound))) ≡ Some (not l.deciding);
 }

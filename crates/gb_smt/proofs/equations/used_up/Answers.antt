@@ -1,18 +1,10 @@
-use Rattle.std.proofs.Common.{arith, ◌∙◌, ap, sym}
-use Rattle.gb_smt.specs.Equations.{first_usable}
-use Rattle.gb_smt.proofs.Uses.{place_within, used_some, length_used}
+use Rattle.std.proofs.Common.{arith, ap, ◌∙◌}
+use Rattle.std.specs.Option.{option_map}
+use Rattle.gb_smt.specs.Equations.{first_usable, with_used}
+use Rattle.gb_smt.proofs.Uses.{next_used}
 use Rattle.gb_smt.proofs.equations.used_up.Goals as goal
-
-pub with_used-requires : goal.with_used-requires
-with_used-requires c =
-    place_within c.loop-turn.left.hyps c.in-Some.equation (ap first_usable (sym c.as_slice.ensures) ∙ sym c.in_ok-equation.ensures ∙ c.in-Some.is)
 
 pub loop-turn-preserved : goal.loop-turn-preserved
 loop-turn-preserved c =
-    let e = ap first_usable (sym c.as_slice.ensures) ∙ sym c.in_ok-equation.ensures ∙ c.in-Some.is in
-    let l = c.in_ok-left-in-Some.ensures in
-    let n = length_used c.loop-turn.left c.in-Some.equation e in
-    record {
-      count = rw l (omega (arith, n, c.loop-turn.invariant.count));
-      value = rw l (sym (used_some c.loop-turn.left c.in-Some.equation e) ∙ c.loop-turn.invariant.value);
-    }
+    let u = next_used c.loop-turn.left c.in-Some.next c.in_ok-next.field-0 (c.in_ok-next.ensures ∙ ap (λ l. option_map (λ e. with_used e l) (first_usable l.hyps)) c.get-in-loop-turn.ensures) c.in-Some.is in
+    record { count = omega (arith, u.0, c.loop-turn.invariant.count); value = u.1 ∙ c.loop-turn.invariant.value }

@@ -21,7 +21,7 @@ returns-in_default t c =
 pub returns-in_ok-more-in-Implication : goal.returns-in_ok-more-in-Implication
 returns-in_ok-more-in-Implication t c =
     let e = split_at_two c.args.t.now _ c.as_slice-args.result.now c.index-args-0-in-Implication.result c.index-args-1.result c.args.context.now c.args.hyps.now (c.in-Implication.ensures ∙ ap connective c.get-then-args-eq2.ensures) c.as_slice-args.ensures c.if-args-eq2.true c.index-args-0-in-Implication.is c.index-args-1.is in
-    let f = e ∙ ap (split c.index-args-1.result c.args.context.now) (sym (c.as_slice.ensures ∙ c.in_ok-more-in-Implication.ensures)) in
+    let f = e ∙ ap (split c.index-args-1.result c.args.context.now) (sym c.in_ok-more-in-Implication.ensures) in
     rw f c.split-in-Implication.ensures
 
 pub returns-in_ok-split-in-Conjunction : goal.returns-in_ok-split-in-Conjunction

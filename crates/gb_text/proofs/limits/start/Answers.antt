@@ -8,6 +8,6 @@ use Rattle.gb_text.proofs.limits.start.Goals as goal
 
 pub returns : goal.returns
 returns c =
-    c.in_ok-push.ensures
+    c.in_ok-push.ensures.ok
     ∙ (ap (λ (l : Level). l ∷ c.new-levels.result) c.fresh.ensures
     ∙ (ap (λ (ls : List Level). fresh Bracket ∷ ls) c.new-levels.ensures ∙ ap (λ (w : Walk). w.levels) (sym (walked-start c.args.text.now c.args.steps.now))))

@@ -1,19 +1,20 @@
 -- What becomes of the goals becomes of the open proof.
-use Rattle.std.proofs.Common.{subst, sym, ap, ◌∙◌}
-use Rattle.std.specs.Prelude.{Err}
-use Rattle.std.proofs.lemmas.Result.{err_from_is_err_and}
-use Rattle.gb_verdict.specs.Session.{OpenProof as Opened}
+use Rattle.std.proofs.Common.{◌++◌, drop, Some, refl, subst, sym}
+use Rattle.gb_elab.specs.Answers.Answer.{given}
+use Rattle.gb_verdict.specs.Session.{Session, OpenProof as Opened}
 use Rattle.gb_verdict.specs.Commands.{InProof, WorksOn}
-use Rattle.gb_theory.specs.Sessions.{session_of, Leads}
+use Rattle.gb_theory.specs.Sessions.{session_of, open_of}
+use Rattle.gb_theory.specs.declared.state.OpenProof.{OpenProof}
 use Rattle.gb_theory.proofs.InProofs.{works_or_fails, works}
 use Rattle.gb_theory.proofs.fold.prove.Goals as goal
 
-pub returns-in_err-goals : goal.returns-in_err-goals
-returns-in_err-goals c =
-    let given = err_from_is_err_and c.from_residual.result c.from_residual.ensures.1 in
-    subst (Leads (InProof (session_of c.args.state.now).proof c.args.tree.now.place (λ (p : Opened). WorksOn p.goals (session_of c.args.state.now) p c.args.tree.now)) _)
-    (sym (given.1 ∙ ap Err given.2))
-    (works_or_fails c.args.state.now c.in-Some.proof c.args.tree.now c.as_slice.result.now c.in_err-goals.field-0.0 c.in-Some.is c.as_slice.ensures c.in_err-goals.ensures)
+pub returns-in-Err : goal.returns-in-Err
+returns-in-Err c =
+    works_or_fails c.args.state.now c.in-Some.proof c.args.tree.now c.in-Some.proof.goals c.in-Err.refused (sym c.in-Some.ensures.value) refl c.in-Err.ensures
 
-pub returns : goal.returns
-returns c = works c.args.state.now c.in-Some.proof c.args.tree.now c.as_slice.result.now c.in_ok-goals.goals c.in-Some.is c.as_slice.ensures c.in_ok-goals.ensures
+pub returns-in_ok-proof-in-Ok : goal.returns-in_ok-proof-in-Ok
+returns-in_ok-proof-in-Ok c =
+    subst (λ (q : OpenProof). InProof (session_of c.args.state.now).proof c.args.tree.now.place (λ (p : Opened). WorksOn p.goals (session_of c.args.state.now) p c.args.tree.now)
+    (given (let s : Session = record { scope = c.args.state.now.scope; proof = Some (open_of q); lemmas = c.args.state.now.lemmas } in s)))
+    (sym c.in_ok-proof-in-Ok.ensures)
+    (works c.args.state.now c.in-Some.proof c.args.tree.now c.in-Some.proof.goals (c.in-Ok.next ++ drop 1 c.in-Some.proof.goals) (sym c.in-Some.ensures.value) refl c.in-Ok.ensures)

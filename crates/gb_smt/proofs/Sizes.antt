@@ -1,0 +1,200 @@
+-- The number of assignments to variables, and to those that are bound in terms.
+use Rattle.std.proofs.Common.{◌≡◌, ℕ, ◌+◌, ◌*◌, ◌^◌, ◌<◌, Bool, true, false, ◌&&◌, cond, nat_lt, min, List, [], ◌∷◌, ◌++◌, length, get_or, map, take, refl, sym, ap, ◌∙◌, subst, append-nil, mul_assoc, arith}
+use Rattle.std.specs.List.{flat_map, list_all}
+use Rattle.std.proofs.Math.Nat.{min-eq_left}
+use Rattle.std.proofs.lemmas.Bool.{and_parts, ltb-true, lt-ltb}
+use Rattle.std.proofs.lemmas.Bool.Decides.{nat_tests}
+use Rattle.std.proofs.lemmas.List.{map_more, take_more}
+use Rattle.std.proofs.lemmas.List.Concat.{flat_map-append}
+use Rattle.gb_core.specs.declared.ty.Ty.{Ty}
+use Rattle.gb_core.specs.declared.ty.Ty.TheVariants.{Tuple, rolls-Tuple}
+use Rattle.gb_core.specs.declared.ty.Ty.TheOpen as t
+use Rattle.gb_core.specs.declared.ty.Ty.TheFolds.{fold-roll-Ty}
+use Rattle.gb_core.specs.declared.value.Card.{Card}
+use Rattle.gb_core.specs.declared.value.Card.TheVariants.{Exact, Above}
+use Rattle.gb_types.specs.Numbering.{tuples}
+use Rattle.gb_types.specs.Types.{all_true, finite_step, is_finite, numbering, size_of, card_of, IsPlaceBelow}
+use Rattle.gb_types.proofs.Capped.{min_times}
+use Rattle.gb_types.proofs.Equations.{numbering-Tuple}
+use Rattle.gb_terms.specs.declared.term.Term.{Term, Term', Row_of-Term, end_of-Term, more_of-Term, end_of-Head, more_of-Head, items-the_row-Term, items_shown-the_row-Term-0}
+use Rattle.gb_terms.specs.declared.term.Head.{Head}
+use Rattle.gb_terms.specs.declared.term.Head.TheVariants as head
+use Rattle.gb_terms.specs.declared.term.Head.TheOpen as layer
+use Rattle.gb_terms.specs.declared.term.Head.TheViews.{the_lemmas, out-Term, outs-struct-Term, out-Head, roll-Head, roll-out-Head}
+use Rattle.gb_terms.specs.declared.term.Head.TheFolds.{map-Head, fold-Instr, fold-Subject, fold-Cmd, fold_out-Head}
+use Rattle.gb_terms.specs.declared.term.Instr.{Instr}
+use Rattle.gb_terms.specs.declared.term.Subject.{Subject}
+use Rattle.gb_terms.specs.declared.term.Cmd.{Cmd}
+use Rattle.gb_eval.specs.Known.{is_known, all_known, is_head_known, are_true}
+use Rattle.gb_smt.specs.declared.claims.Claim.{Claim}
+use Rattle.gb_smt.specs.declared.variables.Variable.{Variable}
+use Rattle.gb_smt.specs.Variables.{Vars}
+use Rattle.gb_smt.specs.Width.{at_head, at_instr, at_subject, at_cmd, at_term, bound_types, head_bound_types, types_of, assignments_of, is_known_claim}
+use Rattle.gb_smt.proofs.Layers.{bound_out}
+
+-- the number of tuples of values of types
+abbrev pub product : List Ty → ℕ
+product ts = tuples (map numbering ts)
+
+abbrev pub are_finite : List Ty → Bool
+are_finite ts = all_true (map is_finite ts)
+
+product-append : (xs ys : List Ty) → product (xs ++ ys) ≡ product xs * product ys
+product-append [] ys = omega arith
+product-append (x ∷ xs) ys = rw (product-append xs ys) (sym (mul_assoc (size_of x) (product xs) (product ys)))
+
+-- products up to the limit of two lists of types make the one of both
+pub product_both : (xs ys : List Ty) (x y z : ℕ) → x ≡ min (product xs) (2 ^ 63) → y ≡ min (product ys) (2 ^ 63) → z ≡ min (x * y) (2 ^ 63) → z ≡ min (product (xs ++ ys)) (2 ^ 63)
+product_both xs ys x y z p q r =
+    r ∙ (λ i. min (p i * q i) (2 ^ 63)) ∙ min_times (2 ^ 63) (product xs) (product ys) (omega arith) ∙ ap (λ n. min n (2 ^ 63)) (sym (product-append xs ys))
+
+pub product_more : (vs : Vars) (i : ℕ) (v : Variable) (x y z : ℕ) → i < length vs → v ≡ get_or vs i v → x ≡ min (product (map (λ w. w.ty) (take i vs))) (2 ^ 63) → y ≡ min (size_of v.ty) (2 ^ 63) → z ≡ min (x * y) (2 ^ 63) → z ≡ min (product (map (λ w. w.ty) (take (i + 1) vs))) (2 ^ 63)
+product_more vs i v x y z l e p q r =
+    let one : size_of v.ty ≡ product (v.ty ∷ []) = omega arith in
+    product_both (map (λ w. w.ty) (take i vs)) (v.ty ∷ []) x y z p (q ∙ ap (λ n. min n (2 ^ 63)) one) r
+    ∙ ap (λ w. min (product (map (λ w. w.ty) (take i vs) ++ w.ty ∷ [])) (2 ^ 63)) e
+    ∙ ap (λ ts. min (product ts) (2 ^ 63)) (sym (map_more (λ w. w.ty) vs i v l))
+
+pub product_bound_more : (ts : List Term) (i : ℕ) (t : Term) (x y z : ℕ) → i < length ts → t ≡ get_or ts i t → x ≡ min (product (flat_map bound_types (take i ts))) (2 ^ 63) → y ≡ min (product (bound_types t)) (2 ^ 63) → z ≡ min (x * y) (2 ^ 63) → z ≡ min (product (flat_map bound_types (take (i + 1) ts))) (2 ^ 63)
+product_bound_more ts i t x y z l e p q r =
+    product_both (flat_map bound_types (take i ts)) (bound_types t) x y z p q r
+    ∙ ap (λ us. min (product (flat_map bound_types (take i ts) ++ us)) (2 ^ 63)) (sym (append-nil (bound_types t)))
+    ∙ ap (λ us. min (product us) (2 ^ 63)) (sym (flat_map-append bound_types (take i ts) (t ∷ [])))
+    ∙ ap (λ u. min (product (flat_map bound_types (take i ts ++ u ∷ []))) (2 ^ 63)) e
+    ∙ ap (λ us. min (product (flat_map bound_types us)) (2 ^ 63)) (sym (take_more ts i t l))
+
+pub product_bound : (t : Term) (h : Head) (args : List Term) (x y z : ℕ) → h ≡ (out-Term t).head → args ≡ (out-Term t).args → x ≡ min (product (head_bound_types h)) (2 ^ 63) → y ≡ min (product (flat_map bound_types args)) (2 ^ 63) → z ≡ min (x * y) (2 ^ 63) → z ≡ min (product (bound_types t)) (2 ^ 63)
+product_bound t h args x y z p q a b r =
+    product_both (head_bound_types h) (flat_map bound_types args) x y z a b r
+    ∙ (λ i. min (product (head_bound_types (p i) ++ flat_map bound_types (q i))) (2 ^ 63))
+    ∙ ap (λ us. min (product us) (2 ^ 63)) (sym (bound_out t))
+
+-- the number of the values of a tuple, from what its types are
+
+abbrev pub card_by : Bool → ℕ → Card
+card_by b n = cond (b && nat_lt n (2 ^ 63)) (Exact n) Above
+
+above_if : (b : Bool) (n : ℕ) → nat_lt n (2 ^ 63) ≡ false → card_by b n ≡ Above
+above_if true n h = ap (λ c. cond c (Exact n) Above) h
+above_if false n h = refl
+
+up_to_limit : (b : Bool) (n : ℕ) (c : Bool) → nat_lt n (2 ^ 63) ≡ c → card_by b (min n (2 ^ 63)) ≡ card_by b n
+up_to_limit b n true h =
+    let l : n < 2 ^ 63 = ltb-true n (2 ^ 63) h in
+    let e : min n (2 ^ 63) ≡ n = min-eq_left (omega arith) in
+    ap (card_by b) e
+up_to_limit b n false h =
+    let k : nat_lt (min n (2 ^ 63)) (2 ^ 63) ≡ false = grind (arith, nat_tests) in
+    above_if b (min n (2 ^ 63)) k ∙ sym (above_if b n h)
+
+finite-Tuple : (ts : List Ty) → is_finite (Tuple ts) ≡ are_finite ts
+finite-Tuple ts = ap is_finite (sym (rolls-Tuple ts)) ∙ fold-roll-Ty Bool finite_step (t.Tuple ts)
+
+card-Tuple : (ts : List Ty) → card_of (Tuple ts) ≡ card_by (are_finite ts) (product ts)
+card-Tuple ts = λ i. card_by (finite-Tuple ts i) (numbering-Tuple ts i).size
+
+pub card_of_types : (ts : List Ty) (b : Bool) (n : ℕ) → b ≡ are_finite ts → n ≡ min (product ts) (2 ^ 63) → card_by b n ≡ card_of (Tuple ts)
+card_of_types ts b n p q =
+    (λ i. card_by (p i) (q i)) ∙ up_to_limit (are_finite ts) (product ts) (nat_lt (product ts) (2 ^ 63)) refl ∙ sym (card-Tuple ts)
+
+-- what a place below the number of tuples tells
+pub record Counted (ts : List Ty) (at : ℕ) : Type 0 where
+  pub finite : are_finite ts ≡ true
+  pub below : at < product ts
+  pub exact : product ts < 2 ^ 63
+
+counted_by : (b : Bool) (n at : ℕ) → IsPlaceBelow at (card_by b n) → (b ≡ true) × (at < n) × (n < 2 ^ 63)
+counted_by false n at h = absurd h
+counted_by true n at h = by_test (nat_lt n (2 ^ 63)) refl h
+  where
+    by_test : (c : Bool) → nat_lt n (2 ^ 63) ≡ c → IsPlaceBelow at (cond c (Exact n) Above) → (true ≡ true) × (at < n) × (n < 2 ^ 63)
+    by_test true e k = (refl, k, ltb-true n (2 ^ 63) e)
+    by_test false e k = absurd k
+
+pub counted : (ts : List Ty) (at : ℕ) → IsPlaceBelow at (card_of (Tuple ts)) → Counted ts at
+counted ts at h =
+    let p = counted_by (are_finite ts) (product ts) at (subst (IsPlaceBelow at) (card-Tuple ts) h) in
+    record { finite = p.0; below = p.1; exact = p.2 }
+
+pub place_below : (ty : Ty) (at : ℕ) → is_finite ty ≡ true → size_of ty < 2 ^ 63 → at < size_of ty → IsPlaceBelow at (card_of ty)
+place_below ty at f l h = subst (IsPlaceBelow at) (sym (λ i. cond (f i && lt-ltb (size_of ty) (2 ^ 63) l i) (Exact (size_of ty)) Above)) h
+
+-- in a term that evaluation knows, the types of bound variables are finite
+
+finite-append : (xs ys : List Ty) → are_finite (xs ++ ys) ≡ (are_finite xs && are_finite ys)
+finite-append [] ys = refl
+finite-append (x ∷ xs) ys = ap (λ b. is_finite x && b) (finite-append xs ys) ∙ and_assoc (is_finite x) (are_finite xs) (are_finite ys)
+  where
+    and_assoc : (a b c : Bool) → (a && (b && c)) ≡ ((a && b) && c)
+    and_assoc true b c = refl
+    and_assoc false b c = refl
+
+finite_both : (xs ys : List Ty) → are_finite xs ≡ true → are_finite ys ≡ true → are_finite (xs ++ ys) ≡ true
+finite_both xs ys p q = finite-append xs ys ∙ (λ i. p i && q i)
+
+one_finite : (n : Bool) (ty : Ty) → (n && is_finite ty) ≡ true → are_finite (ty ∷ []) ≡ true
+one_finite n ty h = ap (λ b. b && true) (and_parts n (is_finite ty) h).1
+
+-- the types of the variables that a head binds, by its constructors
+abbrev bound_by : Head → List Ty
+bound_by (head.All ty) = ty ∷ []
+bound_by (head.Some ty) = ty ∷ []
+bound_by _ = []
+
+bound_layer : (f : Head → List Ty) (g : Instr → List Ty) (u : Subject → List Ty) (c : Cmd → List Ty) (b : Term → List Ty) (x : layer.Head-F Head Instr Subject Cmd Term) →
+    at_head (map-Head _ _ _ _ _ (List Ty) (List Ty) (List Ty) (List Ty) (List Ty) f g u c b x) ≡ bound_by (roll-Head x)
+bound_layer f g u c b (layer.All ty) = simp the_lemmas refl
+bound_layer f g u c b (layer.Some ty) = simp the_lemmas refl
+bound_layer f g u c b _ = simp the_lemmas refl
+
+bound_is : (h : Head) → head_bound_types h ≡ bound_by h
+bound_is h =
+    fold_out-Head (List Ty) (List Ty) (List Ty) (List Ty) (List Ty) at_head at_instr at_subject at_cmd at_term h
+    ∙ bound_layer head_bound_types (fold-Instr (List Ty) (List Ty) (List Ty) (List Ty) (List Ty) at_head at_instr at_subject at_cmd at_term) (fold-Subject (List Ty) (List Ty) (List Ty) (List Ty) (List Ty) at_head at_instr at_subject at_cmd at_term) (fold-Cmd (List Ty) (List Ty) (List Ty) (List Ty) (List Ty) at_head at_instr at_subject at_cmd at_term) bound_types (out-Head h)
+    ∙ ap bound_by (roll-out-Head h)
+
+bound_by_finite : (h : Head) (n : ℕ) → is_head_known h n ≡ true → are_finite (bound_by h) ≡ true
+bound_by_finite (head.All ty) n k = one_finite _ ty k
+bound_by_finite (head.Some ty) n k = one_finite _ ty k
+bound_by_finite _ n k = refl
+
+head_finite : (h : Head) (n : ℕ) → is_head_known h n ≡ true → are_finite (head_bound_types h) ≡ true
+head_finite h n k = ap are_finite (bound_is h) ∙ bound_by_finite h n k
+
+mutual
+  unfolding Rattle.gb_terms.specs.declared.term.Head.TheBlock.shown-the_row-Head-2 denote.Hole.Carrier.shown
+
+  term_finite : (t : Term) → is_known t ≡ true → are_finite (bound_types t) ≡ true
+  term_finite (Term' p (more_of-Head h end_of-Head) n r ty) k =
+      let q = and_parts (is_head_known h _) (are_true (all_known r)) k in
+      ap are_finite (bound_out (Term' p (more_of-Head h end_of-Head) n r ty))
+      ∙ ap (λ z. are_finite (head_bound_types z.head ++ flat_map bound_types z.args)) (outs-struct-Term p (more_of-Head h end_of-Head) n r ty)
+      ∙ ap (λ l. are_finite (head_bound_types h ++ flat_map bound_types l)) (items_shown-the_row-Term-0 n r)
+      ∙ finite_both (head_bound_types h) (flat_map bound_types (items-the_row-Term _ r)) (head_finite h _ q.0) (row_finite _ r q.1)
+
+  row_finite : (n : _) (r : Row_of-Term n) → are_true (all_known r) ≡ true → are_finite (flat_map bound_types (items-the_row-Term n r)) ≡ true
+  row_finite n end_of-Term k = refl
+  row_finite n (more_of-Term t r) k =
+      let q = and_parts (is_known t) (are_true (all_known r)) k in
+      finite_both (bound_types t) (flat_map bound_types (items-the_row-Term _ r)) (term_finite t q.0) (row_finite _ r q.1)
+
+terms_finite : (ts : List Term) → list_all is_known ts ≡ true → are_finite (flat_map bound_types ts) ≡ true
+terms_finite [] k = refl
+terms_finite (t ∷ ts) k =
+    let q = and_parts (is_known t) (list_all is_known ts) k in
+    finite_both (bound_types t) (flat_map bound_types ts) (term_finite t q.0) (terms_finite ts q.1)
+
+-- the number of assignments to the variables of a claim that evaluation knows, and to those bound in it
+pub card_of_claim : (c : Claim) (hyps : List Term) (b : Bool) (v h u m n : ℕ) → is_known_claim c ≡ true → hyps ≡ c.hyps → b ≡ are_finite (map (λ w. w.ty) c.variables) → v ≡ min (product (map (λ w. w.ty) c.variables)) (2 ^ 63) → h ≡ min (product (flat_map bound_types hyps)) (2 ^ 63) → u ≡ min (product (bound_types c.conclusion)) (2 ^ 63) → m ≡ min (h * u) (2 ^ 63) → n ≡ min (v * m) (2 ^ 63) → card_by b n ≡ assignments_of c
+card_of_claim c hyps b v h u m n k e f p q r s z =
+    let known = and_parts (list_all is_known c.hyps) (is_known c.conclusion) k in
+    let bound = flat_map bound_types c.hyps ++ bound_types c.conclusion in
+    let bound_finite : are_finite bound ≡ true = finite_both (flat_map bound_types c.hyps) (bound_types c.conclusion) (terms_finite c.hyps known.0) (term_finite c.conclusion known.1) in
+    let finite : b ≡ are_finite (types_of c) =
+    f ∙ sym (and_true (are_finite (map (λ w. w.ty) c.variables))) ∙ sym (ap (λ x. are_finite (map (λ w. w.ty) c.variables) && x) bound_finite) ∙ sym (finite-append (map (λ w. w.ty) c.variables) bound) in
+    card_of_types (types_of c) b n finite
+    (product_both (map (λ w. w.ty) c.variables) bound v m n p (product_both (flat_map bound_types c.hyps) (bound_types c.conclusion) h u m (q ∙ ap (λ l. min (product (flat_map bound_types l)) (2 ^ 63)) e) r s) z)
+  where
+    and_true : (x : Bool) → (x && true) ≡ x
+    and_true true = refl
+    and_true false = refl
