@@ -11,7 +11,7 @@ use Rattle.gb_terms.specs.declared.term.Head.TheOpen as layer
 use Rattle.gb_terms.specs.declared.term.Head.TheVariants.{Assign, Sample, Call', If', While', Body'}
 use Rattle.gb_terms.specs.declared.term.Head.TheViews.{rolls-struct-Cmd, roll-Instr, roll-Subject, roll-Cmd, roll-out-Instr, roll-out-Subject, outs-Call', outs-If', outs-While', outs-Body'}
 use Rattle.gb_terms.specs.declared.term.Head.TheFolds.{fold-roll-Instr, fold-roll-Subject}
-use Rattle.gb_walk.specs.declared.change.Made.{Made}
+use Rattle.gb_walk.specs.Change.{Made}
 use Rattle.gb_walk.specs.Change.{Changes, is_own, without, at_head, at_instr, at_subject, at_cmd, at_term, term_changed, instr_changed, cmd_changed, subject_changed}
 use Rattle.gb_walk.proofs.Lists.{applied_map}
 use Rattle.gb_walk.proofs.ChangeSteps.{cmd_changed_list}

@@ -10,8 +10,8 @@ use Rattle.gb_terms.specs.declared.term.Head.TheOpen as layer
 use Rattle.gb_terms.specs.declared.term.Head.TheVariants as head
 use Rattle.gb_terms.specs.declared.term.Head.TheViews.{the_lemmas, out-Head, roll-Head, roll-out-Head}
 use Rattle.gb_terms.specs.declared.term.Head.TheFolds.{map-Head, fold_out-Term, fold_out-Head}
-use Rattle.gb_walk.specs.declared.change.Made.{Made}
-use Rattle.gb_walk.specs.declared.change.Made.TheVariants.{Kept}
+use Rattle.gb_walk.specs.Change.{Made}
+use Rattle.gb_walk.specs.Change.Made.{Kept}
 use Rattle.gb_walk.specs.Change.{Changes, found_for_read, found_for_bound, side_changed, read_changed, put_or, at_head, at_instr, at_subject, at_cmd, at_term, term_of, term_changed, head_changed, subject_changed, instr_changed, cmd_changed}
 use Rattle.gb_meaning.specs.Commands.{terms_in}
 use Rattle.sqlite_items.specs.formers.items.Items.{the_former}

@@ -11,7 +11,7 @@ use Rattle.gb_terms.specs.declared.term.Head.TheVariants as head
 use Rattle.gb_terms.specs.declared.term.Head.TheVariants.{Proc, Body'}
 use Rattle.gb_terms.specs.declared.term.Head.TheFolds.{fold-roll-Subject}
 use Rattle.gb_core.specs.declared.ty.Ty.{Ty}
-use Rattle.gb_walk.specs.declared.change.Made.{Made}
+use Rattle.gb_walk.specs.Change.{Made}
 use Rattle.gb_walk.specs.Change.{Changes, is_own, without, at_head, at_instr, at_subject, at_cmd, at_term, subject_changed}
 use Rattle.gb_meaning.specs.Setting.{Setting}
 use Rattle.gb_meaning.specs.State.{State}

@@ -26,7 +26,7 @@ use Rattle.gb_tree.specs.declared.judgment.SubjectTree.{SubjectTree}
 use Rattle.gb_elab.specs.Answers.{Answer, ◌>>=◌, Answers, Fails, truth, wanted}
 use Rattle.gb_elab.specs.Answers.Answer.{given, refused}
 use Rattle.gb_elab.specs.Environment.{Environment}
-use Rattle.gb_elab.specs.Forms.{typing, elaborated, bound_by, equalities, formula, judged, judgment, left_side, coin, negated, quantified, read, relation, with_right_side}
+use Rattle.gb_elab.specs.Forms.{typing, elaborated, bound_by, equalities, formula, judgment, left_side, coin, negated, quantified, read, relation, with_right_side}
 use Rattle.gb_elab.specs.Judgments.{about, after, before, both_procedures, equivalent, named_procedure}
 use Rattle.gb_elab.specs.Layers.{Shape}
 use Rattle.gb_elab.specs.Names.{named, unit}

@@ -6,6 +6,7 @@ ghost use Rattle.gb_elab.specs.Forms.{bound_by, bound_in, of_type, over, over_al
 
 use crate::refusals::not_built;
 use crate::types::type_of;
+use gb_core::name::Name;
 use gb_core::refusal::Refused;
 use gb_core::ty::Ty;
 use gb_shared::Shared;
@@ -23,11 +24,18 @@ pub fn of_type(alloc: Global, names: &[Word], ty: &Shared<Ty>) -> Result<Typed, 
 {
     let mut all = Items::new(alloc);
     for x in names {
-        let name = x.name.copy(alloc)?;
-        let ty = ty.share()?;
-        all.push(TypedName { name, ty })?;
+        all.push(variable(alloc, &x.name, ty)?)?;
     }
     Ok(all)
+}
+
+/// A name of this type.
+pub fn variable(alloc: Global, name: &Name, ty: &Shared<Ty>) -> Result<TypedName, AllocError>
+    ensures { IfOk result (λ made. made ≡ record { name = name.now; ty = ty.now }) }
+{
+    let name = name.copy(alloc)?;
+    let ty = ty.share()?;
+    Ok(TypedName { name, ty })
 }
 
 /// The variables that are bound, in the order of the text.
@@ -52,34 +60,22 @@ fn bound_in(alloc: Global, bind: &Bind) -> Result<Typed, Refused>
     match bind {
         Bind::Values(binder) => {
             let ty = type_of(alloc, binder.ty.get())?;
-            Ok(of_type(alloc, binder.names.as_slice(), &ty)?)
+            of_type(alloc, binder.names.as_slice(), &ty).map_err(Refused::from)
         }
         Bind::Memory(word) => Err(not_built(word.place)),
         Bind::Module(module) => Err(not_built(module.name.place)),
     }
 }
 
-/// Variables in the other order.
-pub fn reversed(alloc: Global, list: Typed) -> Result<Typed, AllocError>
-    ensures { IfOk result (λ all. all ≡ reverse list) }
+/// Variables, the last one first, and behind them those that are bound around them.
+pub fn within(alloc: Global, variables: Typed, bound: &[TypedName]) -> Result<Typed, AllocError>
+    ensures { IfOk result (λ made. made ≡ reverse variables ++ bound.now) }
 {
-    let mut rest = list;
+    let mut rest = variables;
     let mut all = Items::new(alloc);
     while let Some(x) = rest.pop() {
         all.push(x)?;
     }
-    Ok(all)
-}
-
-/// Variables, and behind them those that are bound around them.
-pub fn within(
-    alloc: Global,
-    variables: &[TypedName],
-    bound: &[TypedName],
-) -> Result<Typed, AllocError>
-    ensures { IfOk result (λ made. made ≡ variables.now ++ bound.now) }
-{
-    let mut all = copy_typed(alloc, variables)?;
     all.append(copy_typed(alloc, bound)?)?;
     Ok(all)
 }

@@ -1,24 +1,25 @@
 // Typing of forms, from left to right.
 
-ghost use Rattle.std.specs.Prelude.{◌≡◌, [], ◌∷◌, Some, IfOk};
+ghost use Rattle.std.specs.Prelude.{◌≡◌, [], ◌∷◌, if◌then◌else◌, Some, IfOk};
 ghost use Rattle.std.specs.Option.{option_copied};
+ghost use Rattle.gb_core.specs.declared.refusal.Why.TheVariants.{TypeMismatch};
 ghost use Rattle.gb_core.specs.declared.ty.Ty.TheVariants.{Distr};
+ghost use Rattle.gb_same.specs.Types.{ty_eq};
 ghost use Rattle.gb_terms.specs.declared.term.Head.TheVariants.{Builtin};
 ghost use Rattle.gb_terms.specs.Make.{node, applied};
 ghost use Rattle.gb_tree.specs.declared.form.FormShape.{out-FormShape};
-ghost use Rattle.gb_elab.specs.Answers.{Answers, ◌>>=◌ as ◌and_then◌, truth};
-ghost use Rattle.gb_elab.specs.Answers.Answer.{given};
+ghost use Rattle.gb_elab.specs.Answers.{Answers, ◌>>=◌ as ◌and_then◌, truth, type_of_term};
+ghost use Rattle.gb_elab.specs.Answers.Answer.{given, refused};
 ghost use Rattle.gb_elab.specs.Environment.{ambient, environment};
-ghost use Rattle.gb_elab.specs.Forms.{bound_by, coin, elaborated, equalities, equality, equation, formula, function, is_equation, judgment, left_side, negated, operator, quantified, read, relation, remembered, wants_distribution, with_equalities, with_right_side, written_as};
+ghost use Rattle.gb_elab.specs.Forms.{bound_by, coin, elaborated, equalities, equality, equation, formula, function, is_equation, judgment, left_side, negated, operator, quantified, read, relation, wants_distribution, with_equalities, with_right_side, written_as};
 ghost use Rattle.gb_elab.specs.Judgments.{after, before, equivalent};
 
-use crate::binders::{bound_by, of_type, over_all, reversed, within};
-use crate::judgment::{Both, both_procedures, equiv, parameters, results};
-use crate::names::{in_memory, named, sided, unit};
+use crate::binders::{bound_by, of_type, over_all, within};
+use crate::judgment::{Both, both_procedures, equiv, result_of};
+use crate::names::{named, remembered, sided, unit};
 use crate::refusals::{argument, mismatch, not_built};
 use crate::setting::{Language, Setting};
 use crate::types::{fits, type_of, wanted};
-use gb_core::name::Name;
 use gb_core::place::Place;
 use gb_core::refusal::Refused;
 use gb_core::ty::Ty;
@@ -109,23 +110,6 @@ pub fn typed(
     }
 }
 
-/// The typed tree of a form of this type.
-///
-/// # Errors
-///
-/// As `typed`.
-pub fn typed_as(
-    alloc: Global,
-    at: &Setting<'_>,
-    bound: &[TypedName],
-    t: &FormTree,
-    ty: &Ty,
-) -> Result<Term, Refused>
-    ensures { Answers (elaborated t.now (environment at.now) bound.now (Some ty.now)) result }
-{
-    typed(alloc, at, bound, t, Some(ty))
-}
-
 /// Refuses a truth where another type is wanted.
 fn truth(want: Option<&Ty>, place: Place) -> Result<(), Refused>
     ensures { Answers (truth (option_copied want.entry) place) result }
@@ -174,7 +158,7 @@ fn fair_coin(alloc: Global) -> Result<Term, Refused>
 {
     let outcomes = make::truth_ty(alloc)?;
     let ty = Shared::new(alloc, Ty::Distr(outcomes))?;
-    Ok(make::leaf(alloc, Head::Builtin(Op::Coin), ty)?)
+    make::leaf(alloc, Head::Builtin(Op::Coin), ty).map_err(Refused::from)
 }
 
 /// Whether a distribution is wanted.
@@ -204,22 +188,6 @@ fn read(
             SideTree::Memory(memory) => remembered(alloc, at, name, memory, t.place),
         },
         _ => Err(argument(t.place)),
-    }
-}
-
-/// The refusal of a read through a named memory. A program expression has none.
-fn remembered(
-    alloc: Global,
-    at: &Setting<'_>,
-    name: &Name,
-    memory: &Word,
-    place: Place,
-) -> Result<Term, Refused>
-    ensures { Answers (remembered at.now.language (environment at.now) name.now memory.now place) result }
-{
-    match at.language {
-        Language::Program => Err(argument(place)),
-        _ => in_memory(alloc, at, name, memory, place),
     }
 }
 
@@ -282,7 +250,7 @@ fn negated(
 {
     truth(want, place)?;
     let a = typed_truth(alloc, at, bound, a)?;
-    Ok(make::negation(alloc, a)?)
+    make::negation(alloc, a).map_err(Refused::from)
 }
 
 /// The left side of an operator: a truth, or of any type in an equation. Distributions have no equation.
@@ -321,7 +289,7 @@ fn with_right_side(
     ensures { Answers (with_right_side op left (elaborated b.now (environment at.now) bound.now)) result }
 {
     let right = typed(alloc, at, bound, b, Some(left.ty.get()))?;
-    Ok(compared(alloc, op, left, right)?)
+    compared(alloc, op, left, right).map_err(Refused::from)
 }
 
 /// An operator of two sides that makes a truth.
@@ -339,10 +307,17 @@ fn equality(alloc: Global, at: &Setting<'_>, bound: &[TypedName], x: &Word) -> R
 {
     let left = sided(alloc, at, bound, &x.name, Side::Left, x.place)?;
     let right = sided(alloc, at, bound, &x.name, Side::Right, x.place)?;
+    equated(alloc, left, right, x.place)
+}
+
+/// The equality of two terms, which are to be of one type.
+fn equated(alloc: Global, left: Term, right: Term, place: Place) -> Result<Form, Refused>
+    ensures { Answers (if ty_eq (type_of_term right) (type_of_term left) then given (applied Op.Equal (left ∷ right ∷ []) Ty.Bool) else refused TypeMismatch place) result }
+{
     if same_types(right.ty.get(), left.ty.get()) {
-        Ok(make::equality(alloc, left, right)?)
+        make::equality(alloc, left, right).map_err(Refused::from)
     } else {
-        Err(mismatch(x.place))
+        Err(mismatch(place))
     }
 }
 
@@ -378,7 +353,7 @@ fn equalities(
         return Err(argument(place));
     }
     match list {
-        [] => Ok(make::boolean(alloc, true)?),
+        [] => make::boolean(alloc, true).map_err(Refused::from),
         [x, rest @ ..] => {
             let first = equation(alloc, at, bound, x)?;
             with_equalities(alloc, at, bound, first, rest)
@@ -436,10 +411,10 @@ fn over_body(
 ) -> Result<Form, Refused>
     ensures { Answers (quantified quantifier variables bound.now (elaborated body.now (environment at.now))) result }
 {
-    let variables = reversed(alloc, variables)?;
-    let inner = within(alloc, variables.as_slice(), bound)?;
+    let count = variables.len();
+    let inner = within(alloc, variables, bound)?;
     let body = typed_truth(alloc, at, inner.as_slice(), body)?;
-    Ok(over_all(alloc, quantifier, variables.as_slice(), body)?)
+    over_all(alloc, quantifier, &inner.as_slice()[..count], body).map_err(Refused::from)
 }
 
 /// The precondition of an equivalence of two procedures, which reads their parameters.
@@ -453,11 +428,30 @@ fn precondition(
 ) -> Result<Form, Refused>
     ensures { Answers (elaborated pre.now (before (environment at.now) both.now.f.now both.now.g.now) bound.now (Some Ty.Bool)) result }
 {
-    let before = parameters(alloc, at, both)?;
+    let left = both.f.params.as_slice();
+    let right = both.g.params.as_slice();
+    let before = Setting::relational(at.scope, at.sequent, left, right);
     typed_truth(alloc, &before, bound, pre)
 }
 
-/// An equivalence of two procedures with its postcondition, which reads their results.
+/// The postcondition of an equivalence of two procedures, which reads their results.
+#[cycle(form)]
+fn postcondition(
+    alloc: Global,
+    at: &Setting<'_>,
+    bound: &[TypedName],
+    post: &FormTree,
+    both: &Both<'_, '_>,
+) -> Result<Form, Refused>
+    ensures { Answers (elaborated post.now (after (environment at.now) both.now.f.now both.now.g.now) bound.now (Some Ty.Bool)) result }
+{
+    let left = result_of(alloc, both.f)?;
+    let right = result_of(alloc, both.g)?;
+    let after = Setting::relational(at.scope, at.sequent, left.as_slice(), right.as_slice());
+    typed_truth(alloc, &after, bound, post)
+}
+
+/// An equivalence of two procedures with its postcondition.
 #[cycle(form)]
 fn equivalence(
     alloc: Global,
@@ -469,9 +463,8 @@ fn equivalence(
 ) -> Result<Form, Refused>
     ensures { Answers (elaborated post.now (after (environment at.now) both.now.f.now both.now.g.now) bound.now (Some Ty.Bool) and_then λ post. given (equivalent both.now.left.now both.now.right.now pre post)) result }
 {
-    let after = results(alloc, at, both)?;
-    let post = typed_truth(alloc, &after, bound, post)?;
-    Ok(equiv(alloc, both, pre, post)?)
+    let post = postcondition(alloc, at, bound, post, both)?;
+    equiv(alloc, both, pre, post).map_err(Refused::from)
 }
 
 /// The typed tree of a function of one variable, with the variable as the innermost bound one. Brackets may stand round
@@ -498,7 +491,7 @@ pub fn function(
             }
             written_as(alloc, ty, from)?;
             let variable = of_type(alloc, names.as_slice(), from)?;
-            typed_as(alloc, at, variable.as_slice(), body.get(), to)
+            typed(alloc, at, variable.as_slice(), body.get(), Some(to))
         }
         _ => Err(mismatch(t.place)),
     }

@@ -7,7 +7,7 @@ ghost use Rattle.gb_terms.specs.declared.term.Head.TheVariants.{Equiv, Proc as p
 ghost use Rattle.gb_goal.specs.Scope.{proc_of};
 ghost use Rattle.gb_elab.specs.Answers.{Gives};
 ghost use Rattle.gb_elab.specs.Environment.{environment};
-ghost use Rattle.gb_elab.specs.Judgments.{about, after, before, both_procedures, equivalent, module_path, named_module, named_procedure, reference, result_of};
+ghost use Rattle.gb_elab.specs.Judgments.{both_procedures, equivalent, named_module, named_procedure, reference, result_of};
 
 use crate::names::is_variable;
 use crate::refusals::{argument, not_built, unknown};
@@ -22,37 +22,11 @@ use gb_shared::Shared;
 use gb_terms::decl::{Module, Proc, Typed, TypedName};
 use gb_terms::make;
 use gb_terms::module::{Mexp, ProcRef};
-use gb_terms::share::copy_typed;
 use gb_terms::term::{Form, Head, Subject, Terms};
 use gb_tree::form::Word;
-use gb_tree::judgment::{ModuleExpr, ProcPath, SubjectTree};
+use gb_tree::judgment::{ProcPath, SubjectTree};
 use sqlite_items::Items;
 use std::alloc::{AllocError, Global};
-
-/// The name of a module that is given no arguments.
-fn module_path(module: &ModuleExpr) -> Result<&Word, Refused>
-    ensures { Gives (λ x. x.now) (module_path «module».now) result }
-{
-    if module.arguments.is_empty() {
-        Ok(&module.path)
-    } else {
-        Err(not_built(module.path.place))
-    }
-}
-
-/// The procedure that a judgment is about, at its place.
-///
-/// # Errors
-///
-/// `Syntax` of a body.
-fn about(subject: &SubjectTree, place: Place) -> Result<&ProcPath, Refused>
-    ensures { Gives (λ f. f.now) (about subject.now place) result }
-{
-    match subject {
-        SubjectTree::Procedure(path) => Ok(path),
-        SubjectTree::Block(_) => Err(not_built(place)),
-    }
-}
 
 /// The module of this name, all of whose parameters are given: it has none.
 #[tactic(auto, unfolding(crate::specs::Judgments::named_module))]
@@ -106,8 +80,10 @@ fn named_procedure<'a>(
 ) -> Result<&'a Proc, Refused>
     ensures { Gives (λ p. p.now) (named_procedure (environment at.now) bound.now path.now) result }
 {
-    let name = module_path(&path.module)?;
-    let module = named_module(alloc, at, bound, name)?;
+    if !path.module.arguments.is_empty() {
+        return Err(not_built(path.module.path.place));
+    }
+    let module = named_module(alloc, at, bound, &path.module.path)?;
     match procedure_of(module, &path.proc.name) {
         Some(p) => Ok(p),
         None => Err(unknown(alloc, &path.proc.name, path.proc.place)),
@@ -139,8 +115,9 @@ pub fn both_procedures<'t, 'a>(
 ) -> Result<Both<'t, 'a>, Refused>
     ensures { Gives (λ b. (b.left.now, b.right.now, b.f.now, b.g.now)) (both_procedures (environment at.now) bound.now left.now right.now place) result }
 {
-    let left = about(left, place)?;
-    let right = about(right, place)?;
+    let (SubjectTree::Procedure(left), SubjectTree::Procedure(right)) = (left, right) else {
+        return Err(not_built(place));
+    };
     let f = named_procedure(alloc, at, bound, left)?;
     let g = named_procedure(alloc, at, bound, right)?;
     Ok(Both { left, right, f, g })
@@ -183,38 +160,12 @@ fn equiv_of(
 }
 
 /// What a postcondition reads of a procedure: its result, under the name `res`.
-fn result_of(alloc: Global, p: &Proc) -> Result<Typed, AllocError>
+pub fn result_of(alloc: Global, p: &Proc) -> Result<Typed, AllocError>
     ensures { IfOk result (λ made. made ≡ result_of p.now) }
 {
-    let mut all = Items::new(alloc);
     let name = Name::from_str(alloc, "res")?;
     let ty = p.result.share()?;
+    let mut all = Items::new(alloc);
     all.push(TypedName { name, ty })?;
     Ok(all)
-}
-
-/// The setting of a precondition on two procedures: it reads their parameters.
-pub fn parameters<'a>(
-    alloc: Global,
-    at: &Setting<'a>,
-    both: &Both<'_, '_>,
-) -> Result<Setting<'a>, AllocError>
-    ensures { IfOk result (λ made. environment made ≡ before (environment at.now) both.now.f.now both.now.g.now) }
-{
-    let left = copy_typed(alloc, both.f.params.as_slice())?;
-    let right = copy_typed(alloc, both.g.params.as_slice())?;
-    Ok(Setting::relational(at.scope, at.sequent, left, right))
-}
-
-/// The setting of a postcondition on two procedures: it reads their results.
-pub fn results<'a>(
-    alloc: Global,
-    at: &Setting<'a>,
-    both: &Both<'_, '_>,
-) -> Result<Setting<'a>, AllocError>
-    ensures { IfOk result (λ made. environment made ≡ after (environment at.now) both.now.f.now both.now.g.now) }
-{
-    let left = result_of(alloc, both.f)?;
-    let right = result_of(alloc, both.g)?;
-    Ok(Setting::relational(at.scope, at.sequent, left, right))
 }

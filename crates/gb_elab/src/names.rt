@@ -3,13 +3,14 @@
 ghost use Rattle.std.specs.Prelude.{◌≡◌, Ok, IfOk, bytes_eq};
 ghost use Rattle.std.specs.List.{list_any};
 ghost use Rattle.std.specs.Option.{option_copied};
-ghost use Rattle.gb_elab.specs.Answers.{Answers, Gives, Refuses, counted};
+ghost use Rattle.gb_elab.specs.Answers.{Answers, Fails, Gives, Refuses, counted};
 ghost use Rattle.gb_elab.specs.Answers.Answer.{given};
 ghost use Rattle.gb_elab.specs.Environment.{environment};
+ghost use Rattle.gb_elab.specs.Forms.{remembered};
 ghost use Rattle.gb_elab.specs.Names.{bound_variable, built_in, constant_term, first_named, in_memory, is_variable, logical_variable, named, names_no_value, names_other, no_variable, number_before, own_variable, program_variable, sided, unbound, unit};
 
 use crate::refusals::{argument, too_many, unknown};
-use crate::setting::Setting;
+use crate::setting::{Language, Setting};
 use gb_core::name::Name;
 use gb_core::place::Place;
 use gb_core::refusal::Refused;
@@ -69,7 +70,7 @@ fn bound_variable(alloc: Global, between: usize, x: &TypedName) -> Result<Term, 
 {
     let between = counted(between)?;
     let ty = x.ty.share()?;
-    Ok(make::leaf(alloc, Head::Bound(between), ty)?)
+    make::leaf(alloc, Head::Bound(between), ty).map_err(Refused::from)
 }
 
 /// The logical variable at this place of the context.
@@ -78,16 +79,16 @@ fn logical_variable(alloc: Global, at: usize, x: &TypedName) -> Result<Term, Ref
 {
     let at = counted(at)?;
     let ty = x.ty.share()?;
-    Ok(make::logical(alloc, at, ty)?)
+    make::logical(alloc, at, ty).map_err(Refused::from)
 }
 
 /// A read of this program variable through a memory.
-fn program_variable(alloc: Global, x: &TypedName, side: Side) -> Result<Term, AllocError>
-    ensures { IfOk result (λ made. made ≡ program_variable side x.now) }
+fn program_variable(alloc: Global, x: &TypedName, side: Side) -> Result<Term, Refused>
+    ensures { Answers (given (program_variable side x.now)) result }
 {
     let name = x.name.copy(alloc)?;
     let ty = x.ty.share()?;
-    make::program(alloc, name, side, ty)
+    make::program(alloc, name, side, ty).map_err(Refused::from)
 }
 
 /// A built-in constant.
@@ -119,15 +120,15 @@ pub fn unit(alloc: Global) -> Result<Term, Refused>
     ensures { Answers (given unit) result }
 {
     let ty = Shared::new(alloc, Ty::Unit)?;
-    Ok(make::leaf(alloc, Head::Lit(Value::Num(0)), ty)?)
+    make::leaf(alloc, Head::Lit(Value::Num(0)), ty).map_err(Refused::from)
 }
 
 fn constant_term(alloc: Global, constant: Constant) -> Result<Term, Refused>
     ensures { Answers (given (constant_term constant)) result }
 {
     match constant {
-        Constant::True => Ok(make::boolean(alloc, true)?),
-        Constant::False => Ok(make::boolean(alloc, false)?),
+        Constant::True => make::boolean(alloc, true).map_err(Refused::from),
+        Constant::False => make::boolean(alloc, false).map_err(Refused::from),
         Constant::Unit => unit(alloc),
     }
 }
@@ -214,7 +215,7 @@ pub fn named(
         return bound_variable(alloc, number_before(bound, name), x);
     }
     if let Some(x) = first_named(at.own(), name) {
-        return Ok(program_variable(alloc, x, Side::Own)?);
+        return program_variable(alloc, x, Side::Own);
     }
     let logical = at.sequent.logical.as_slice();
     if let Some(x) = first_named(logical, name) {
@@ -283,7 +284,7 @@ pub fn sided(
         return Err(argument(place));
     }
     match first_named(locals, name) {
-        Some(x) => Ok(program_variable(alloc, x, side)?),
+        Some(x) => program_variable(alloc, x, side),
         None => Err(no_variable(alloc, at, name, place)),
     }
 }
@@ -294,18 +295,32 @@ pub fn sided(
 ///
 /// `UnknownName` where there is no such memory and where nothing has the name, `Argument` where another thing has it.
 #[tactic(auto, unfolding(crate::specs::Names::in_memory))]
-pub fn in_memory(
+fn in_memory(alloc: Global, at: &Setting<'_>, name: &Name, memory: &Word, place: Place) -> Refused
+    ensures { Fails (in_memory (environment at.now) name.now memory.now place) result }
+{
+    if is_among(at.sequent.memories.as_slice(), &memory.name) {
+        no_variable(alloc, at, name, place)
+    } else {
+        unknown(alloc, &memory.name, memory.place)
+    }
+}
+
+/// The refusal of a read through a named memory. A program expression has none.
+///
+/// # Errors
+///
+/// `Argument` in a program expression, and those of `in_memory`.
+pub fn remembered(
     alloc: Global,
     at: &Setting<'_>,
     name: &Name,
     memory: &Word,
     place: Place,
 ) -> Result<Term, Refused>
-    ensures { Answers (in_memory (environment at.now) name.now memory.now place) result }
+    ensures { Answers (remembered at.now.language (environment at.now) name.now memory.now place) result }
 {
-    if is_among(at.sequent.memories.as_slice(), &memory.name) {
-        Err(no_variable(alloc, at, name, place))
-    } else {
-        Err(unknown(alloc, &memory.name, memory.place))
+    match at.language {
+        Language::Program => Err(argument(place)),
+        _ => Err(in_memory(alloc, at, name, memory, place)),
     }
 }

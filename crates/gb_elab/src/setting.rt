@@ -6,8 +6,9 @@ ghost use Rattle.gb_elab.specs.Environment.{environment, ambient, relational, of
 
 use gb_goal::scope::Scope;
 use gb_goal::sequent::Sequent;
-use gb_terms::decl::{Typed, TypedName};
+use gb_terms::decl::TypedName;
 use gb_terms::op::Side;
+use std::marker::Model;
 
 /// What the names of a form mean: the declarations of the script, the context of the sequent around it (an empty one
 /// where there is none), the program variables that it may read, and which language it is written in.
@@ -15,24 +16,52 @@ use gb_terms::op::Side;
 pub struct Setting<'a> {
     pub scope: &'a Scope,
     pub sequent: &'a Sequent,
-    pub variables: Variables,
+    pub variables: Variables<'a>,
     pub language: Language,
 }
 
 /// The program variables that are not globals and that a form may read, with their types.
 #[derive(Drop)]
-pub enum Variables {
+pub enum Variables<'a> {
     /// None, as in an ambient form.
     Absent,
     /// Those of one program, read by their names alone.
-    Own(Typed),
+    Own(Borrowed<'a, TypedName>),
     /// Those of two programs, each read with its side.
-    Sides { left: Typed, right: Typed },
+    Sides {
+        left: Borrowed<'a, TypedName>,
+        right: Borrowed<'a, TypedName>,
+    },
+}
+
+/// A list that is held elsewhere. Contracts see its elements.
+#[derive(Drop)]
+pub struct Borrowed<'a, T> {
+    list: &'a [T],
+}
+
+impl<'a, T> Model for Borrowed<'a, T> {
+    ghost use Rattle.std.specs.Prelude.{List};
+    ghost use Rattle.std.specs.Coded.{coded_list};
+
+    ghost Value = { List T };
+
+    ghost coded = { coded_list T.code };
+
+    ghost view = { λ b. b.list.now };
+}
+
+impl<'a, T> Borrowed<'a, T> {
+    fn as_slice(&self) -> &'a [T]
+        ensures { result.now ≡ self.now }
+    {
+        self.list
+    }
 }
 
 /// Program expressions have no quantifier, judgment or side, and a distribution only where one is sampled. A function of a
 /// proof step is put in where the memories of a judgment are bound, so it has no judgment of its own.
-#[derive(Clone, Copy, Debug, PartialEq, Eq)]
+#[derive(Clone, Copy, PartialEq, Eq)]
 pub enum Language {
     Formula,
     Function,
@@ -56,11 +85,12 @@ impl<'a> Setting<'a> {
     pub fn relational(
         scope: &'a Scope,
         sequent: &'a Sequent,
-        left: Typed,
-        right: Typed,
+        left: &'a [TypedName],
+        right: &'a [TypedName],
     ) -> Setting<'a>
-        ensures { environment result ≡ relational scope.now sequent.now left right }
+        ensures { environment result ≡ relational scope.now sequent.now left.now right.now }
     {
+        let (left, right) = (Borrowed { list: left }, Borrowed { list: right });
         Setting {
             scope,
             sequent,
@@ -73,11 +103,12 @@ impl<'a> Setting<'a> {
     pub fn function(
         scope: &'a Scope,
         sequent: &'a Sequent,
-        left: Typed,
-        right: Typed,
+        left: &'a [TypedName],
+        right: &'a [TypedName],
     ) -> Setting<'a>
-        ensures { environment result ≡ of_function scope.now sequent.now left right }
+        ensures { environment result ≡ of_function scope.now sequent.now left.now right.now }
     {
+        let (left, right) = (Borrowed { list: left }, Borrowed { list: right });
         Setting {
             scope,
             sequent,
@@ -87,13 +118,17 @@ impl<'a> Setting<'a> {
     }
 
     /// The setting of an expression of a program with these variables.
-    pub fn program(scope: &'a Scope, sequent: &'a Sequent, variables: Typed) -> Setting<'a>
-        ensures { environment result ≡ program scope.now sequent.now variables }
+    pub fn program(
+        scope: &'a Scope,
+        sequent: &'a Sequent,
+        variables: &'a [TypedName],
+    ) -> Setting<'a>
+        ensures { environment result ≡ program scope.now sequent.now variables.now }
     {
         Setting {
             scope,
             sequent,
-            variables: Variables::Own(variables),
+            variables: Variables::Own(Borrowed { list: variables }),
             language: Language::Program,
         }
     }

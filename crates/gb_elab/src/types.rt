@@ -25,8 +25,8 @@ pub fn type_of(alloc: Global, t: &TypeTree) -> Result<Shared<Ty>, Refused>
     ensures { Answers (type_of t.now) result }
 {
     match &t.shape {
-        TypeShape::Unit => Ok(Shared::new(alloc, Ty::Unit)?),
-        TypeShape::Bool => Ok(Shared::new(alloc, Ty::Bool)?),
+        TypeShape::Unit => Shared::new(alloc, Ty::Unit).map_err(Refused::from),
+        TypeShape::Bool => Shared::new(alloc, Ty::Bool).map_err(Refused::from),
         _ => Err(not_built(t.place)),
     }
 }

@@ -73,7 +73,7 @@ pub fn statement(alloc: Global, scope: &Scope, t: &LemmaTree) -> Result<Sequent,
     if nodes_of(&conclusion) > NODES {
         return Err(too_many(NODES));
     }
-    Ok(ambient(alloc, conclusion)?)
+    ambient(alloc, conclusion).map_err(Refused::from)
 }
 
 /// The typed tree of a statement.

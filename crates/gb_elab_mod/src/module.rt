@@ -38,10 +38,9 @@ pub fn module(alloc: Global, scope: &Scope, t: &ModuleTree) -> Result<Module, Re
 {
     refuse_declared(alloc, scope, &t.name)?;
     refuse_unbuilt(t)?;
-    let around = nothing_around(alloc)?;
-    let procs = procedures(alloc, scope, &around, t.items.as_slice())?;
-    refuse_long_bodies(t.items.as_slice())?;
     let name = t.name.name.copy(alloc)?;
+    let procs = typed_procedures(alloc, scope, t.items.as_slice())?;
+    refuse_long_bodies(t.items.as_slice())?;
     Ok(Module {
         name,
         params: Items::new(alloc),
@@ -100,6 +99,16 @@ fn is_procedure(procs: &[Proc], name: &Name) -> bool
 }
 
 /// The procedures of a module, each with a name of its own.
+fn typed_procedures(alloc: Global, scope: &Scope, items: &[ModuleItem]) -> Result<Procs, Refused>
+    ensures answer { Answers (procedures scope.now [] (procs_in items.now)) result }
+    ensures names { IfOk result (λ ps. proc_names ps ≡ names_in_text (procs_in items.now)) }
+    ensures values { IfOk result (λ ps. All ReturnsItsType ps) }
+{
+    let around = nothing_around(alloc)?;
+    procedures(alloc, scope, &around, items)
+}
+
+/// The same, with nothing around.
 #[tactic(auto, unfolding(crate::specs::Modules::procedures))]
 fn procedures(
     alloc: Global,

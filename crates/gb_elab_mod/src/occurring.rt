@@ -8,8 +8,9 @@ use crate::procedure::is_local;
 use gb_core::name::Name;
 use gb_core::ty::Ty;
 use gb_core::var::Var;
+use gb_elab::binders::variable;
 use gb_shared::Shared;
-use gb_terms::decl::{Typed, TypedName};
+use gb_terms::decl::Typed;
 use gb_terms::op::{Read, Side};
 use gb_terms::same::same_side;
 use gb_terms::term::{Cmd, Head, Instr, Term};
@@ -40,9 +41,7 @@ fn add(alloc: Global, found: &mut Typed, name: &Name, ty: &Shared<Ty>) -> Result
     if is_local(found.as_slice(), name) {
         return Ok(());
     }
-    let name = name.copy(alloc)?;
-    let ty = ty.share()?;
-    found.push(TypedName { name, ty })
+    found.push(variable(alloc, name, ty)?)
 }
 
 /// Adds the local that a variable of this type is.

@@ -1,11 +1,13 @@
 // Procedures and their statements.
 
-ghost use Rattle.std.specs.Prelude.{◌≡◌, [], false, IfOk, MatchResult, bytes_eq};
+ghost use Rattle.std.specs.Prelude.{◌≡◌, [], false, Some, IfOk, MatchResult, bytes_eq};
 ghost use Rattle.std.specs.List.{list_any};
 ghost use Rattle.gb_tree.specs.declared.program.StatementShape.{out-StatementShape};
-ghost use Rattle.gb_elab.specs.Answers.{Answers, Fails, Gives};
+ghost use Rattle.gb_core.specs.declared.ty.Ty.TheVariants.{Distr};
+ghost use Rattle.gb_elab.specs.Answers.{Answers, Fails, Gives, type_of_term};
 ghost use Rattle.gb_elab.specs.Answers.Answer.{given};
 ghost use Rattle.gb_elab.specs.Environment.{environment};
+ghost use Rattle.gb_elab.specs.Forms.{elaborated};
 ghost use Rattle.gb_elab_mod.specs.Modules.{short};
 ghost use Rattle.gb_elab_mod.specs.Procedures.{declared, instruction, instructions, lacks_value, locals, procedure, procedure_of, result_type, sampling, takes_nothing, value};
 ghost use Rattle.gb_elab_mod.specs.Typed.{ReturnsItsType};
@@ -14,7 +16,8 @@ use gb_core::name::Name;
 use gb_core::refusal::{Refused, Why};
 use gb_core::ty::Ty;
 use gb_core::var::Var;
-use gb_elab::form::typed_as;
+use gb_elab::binders::variable;
+use gb_elab::form::typed;
 use gb_elab::names::{own_variable, unit};
 use gb_elab::refusals::{double, mismatch, not_built};
 use gb_elab::setting::Setting;
@@ -24,7 +27,6 @@ use gb_goal::sequent::Sequent;
 use gb_same::types::same_types;
 use gb_shared::{Shared, SharedItems};
 use gb_terms::decl::{Proc, Typed, TypedName};
-use gb_terms::share::copy_typed;
 use gb_terms::term::{Cmd, Instr, Term};
 use gb_tree::form::{Binder, FormTree, Word};
 use gb_tree::program::{ProcTree, Statement, StatementShape};
@@ -74,12 +76,11 @@ fn procedure_of(
     ensures name { IfOk result (λ p. p.name ≡ t.now.name.name) }
     ensures value { IfOk result (λ p. ReturnsItsType p) }
 {
+    let name = t.name.name.copy(alloc)?;
     let locals = locals(alloc, t.locals.as_slice())?;
-    let variables = copy_typed(alloc, locals.as_slice())?;
-    let at = Setting::program(scope, around, variables);
+    let at = Setting::program(scope, around, locals.as_slice());
     let body = body(alloc, &at, t.body.as_slice())?;
     let value = value(alloc, &at, &t.value, ty.get())?;
-    let name = t.name.name.copy(alloc)?;
     Ok(Proc {
         name,
         params: Items::new(alloc),
@@ -105,7 +106,7 @@ fn result_type(alloc: Global, t: &ProcTree) -> Result<Shared<Ty>, Refused>
     ensures { Answers (result_type t.now.result) result }
 {
     match &t.result {
-        None => Ok(Shared::new(alloc, Ty::Unit)?),
+        None => Shared::new(alloc, Ty::Unit).map_err(Refused::from),
         Some(written) => type_of(alloc, written.get()),
     }
 }
@@ -127,11 +128,13 @@ fn value(
     t: &Option<Boxed<FormTree>>,
     want: &Ty,
 ) -> Result<Term, Refused>
-    ensures { Answers (value (environment at.now) t.now want.now) result }
+    requires { lacks_value t.now want.now ≡ false }
+    ensures answer { Answers (value (environment at.now) t.now want.now) result }
+    ensures ty { IfOk result (λ v. type_of_term v ≡ want.now) }
 {
     match t {
-        None => Ok(unit(alloc)?),
-        Some(value) => typed_as(alloc, at, &[], value.get(), want),
+        None => unit(alloc),
+        Some(value) => typed(alloc, at, &[], value.get(), Some(want)),
     }
 }
 
@@ -174,9 +177,8 @@ fn declare(
         if is_local(locals.as_slice(), &x.name) {
             return Err(double(alloc, &x.name, x.place));
         }
-        let name = x.name.copy(alloc)?;
-        let ty = ty.share()?;
-        locals.push(TypedName { name, ty })?;
+        let local = variable(alloc, &x.name, ty)?;
+        locals.push(local)?;
     }
     Ok(())
 }
@@ -214,10 +216,22 @@ fn sampling(
     ensures { Answers (sampling (environment at.now) target.now from.now) result }
 {
     let variable = own_variable(alloc, at, target)?;
-    let outcomes = variable.ty.share()?;
-    let from = typed_as(alloc, at, &[], from, &Ty::Distr(outcomes))?;
     let name = variable.name.copy(alloc)?;
+    let from = source(alloc, at, from, &variable.ty)?;
     Ok(Instr::Sample(Var::Local { name }, from))
+}
+
+/// The typed tree of a distribution on a type.
+fn source(
+    alloc: Global,
+    at: &Setting<'_>,
+    from: &FormTree,
+    outcomes: &Shared<Ty>,
+) -> Result<Term, Refused>
+    ensures { Answers (elaborated from.now (environment at.now) [] (Some (Distr outcomes.now))) result }
+{
+    let outcomes = outcomes.share()?;
+    typed(alloc, at, &[], from, Some(&Ty::Distr(outcomes)))
 }
 
 /// Refuses a body of too many statements, at the first one too many.

@@ -1,8 +1,9 @@
 // Proof steps.
 
-ghost use Rattle.std.specs.Prelude.{◌≡◌, ◌⊎◌, [], length, IfOk, OnOk};
+ghost use Rattle.std.specs.Prelude.{◌≡◌, ◌⊎◌, ◌+◌, [], ◌∷◌, length, IfOk, OnOk};
 ghost use Rattle.std.specs.Option.{option_copied, option_map};
-ghost use Rattle.gb_elab.specs.Answers.{Answers};
+ghost use Rattle.gb_elab.specs.Answers.{Answers, ◌>>=◌ as ◌and_then◌};
+ghost use Rattle.gb_elab.specs.Answers.Answer.{given};
 ghost use Rattle.gb_elab.specs.Environment.{environment};
 ghost use Rattle.gb_elab_mod.specs.Steps.{bodies, couplings, functions, last_sampled, on_both, one_type, smt, step_given, there_and_back, typed_rule};
 ghost use Rattle.gb_elab_mod.specs.Typed.{IsRule};
@@ -20,7 +21,7 @@ use gb_goal::step::{Rule, Step};
 use gb_same::types::same_types;
 use gb_shared::Shared;
 use gb_terms::op::Side;
-use gb_terms::term::{Cmd, Form, Head, Instr, Subject, Terms};
+use gb_terms::term::{Cmd, Form, Head, Instr, Subject, Term, Terms};
 use gb_tree::form::FormTree;
 use gb_tree::step::{Bodies, Hint, RuleTree, StepTree};
 use sqlite_items::{Boxed, Items};
@@ -159,7 +160,7 @@ fn couplings(
     let conditions = s.conclusion.args.as_slice();
     let on_left = occurring(alloc, conditions, Side::Left, left)?;
     let on_right = occurring(alloc, conditions, Side::Right, right)?;
-    let at = Setting::function(scope, s, on_left, on_right);
+    let at = Setting::function(scope, s, on_left.as_slice(), on_right.as_slice());
     there_and_back(alloc, &at, functions, from, to)
 }
 
@@ -175,26 +176,29 @@ fn there_and_back(
     ensures answer { Answers (there_and_back (environment at.now) forms.now from.now to.now) result }
     ensures number { IfOk result (λ ts. length ts ≡ length forms.now) }
 {
-    let mut typed = Items::new(alloc);
-    if let [f, rest @ ..] = forms {
-        typed.push(function(alloc, at, f.get(), from, to.get())?)?;
-        typed.append(functions(alloc, at, rest, to, from)?)?;
+    match forms {
+        [] => Ok(Items::new(alloc)),
+        [f, rest @ ..] => {
+            let first = function(alloc, at, f.get(), from, to.get())?;
+            functions(alloc, at, first, rest, to, from)
+        }
     }
-    Ok(typed)
 }
 
-/// Functions from a type to a type.
+/// A function, and behind it functions from a type to a type.
 fn functions(
     alloc: Global,
     at: &Setting<'_>,
+    first: Term,
     forms: &[Boxed<FormTree>],
     from: &Shared<Ty>,
     to: &Shared<Ty>,
 ) -> Result<Terms, Refused>
-    ensures answer { Answers (functions (environment at.now) forms.now from.now to.now) result }
-    ensures number { IfOk result (λ ts. length ts ≡ length forms.now) }
+    ensures answer { Answers (functions (environment at.now) forms.now from.now to.now and_then λ ts. given (first ∷ ts)) result }
+    ensures number { IfOk result (λ ts. length ts ≡ length forms.now + 1) }
 {
     let mut typed = Items::new(alloc);
+    typed.push(first)?;
     for f in forms {
         typed.push(function(alloc, at, f.get(), from, to.get())?)?;
     }

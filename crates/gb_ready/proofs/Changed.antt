@@ -19,7 +19,7 @@ use Rattle.gb_goal.specs.Scope.{Declarations}
 use Rattle.gb_walk.specs.Layers.{seen_by}
 use Rattle.gb_walk.specs.Raise.{side_raised, read_raised, term_raised}
 use Rattle.gb_walk.specs.declared.change.Change.{Change}
-use Rattle.gb_walk.specs.declared.change.Made.TheVariants.{Kept}
+use Rattle.gb_walk.specs.Change.Made.{Kept}
 use Rattle.gb_walk.specs.declared.change.Change.TheVariants.{ToTerm, OfBound, ToSide}
 use Rattle.gb_walk.specs.Change.{Changes, change_raised, is_left_or_right, is_read_through, is_through, without, under_binder, seen_by_args, seen_by_last, put_or, found_for_read, found_for_bound, side_changed, read_changed, term_of, term_changed, subject_changed}
 use Rattle.gb_meaning.specs.Names.{Name}

@@ -1,8 +1,10 @@
 -- Equations that are used up.
-use Rattle.std.proofs.Common.{◌≡◌, ℕ, zero, suc, ◌+◌, ◌<◌, Bool, true, false, not, ◌||◌, cond, Option, Some, None, List, [], ◌∷◌, length, get_or, take, drop, refl, add-zero, zero-add, add-one, sym, ap, ◌∙◌, subst, arith, filter}
+use Rattle.std.proofs.Common.{◌≡◌, ℕ, zero, suc, ◌+◌, ◌-◌, ◌<◌, ◌≤◌, nat_le, ⊎_elim, Bool, true, false, not, ◌||◌, cond, Option, Some, None, List, [], ◌∷◌, ◌++◌, length, get_or, take, drop, refl, add-zero, zero-add, add-one, sym, ap, ◌∙◌, subst, append_assoc, map, arith, filter}
 use Rattle.std.specs.List.{list_any}
 use Rattle.std.specs.Option.{option_map}
-use Rattle.std.proofs.lemmas.List.{length-take, length-drop, length-append, length-map, at_drop_more, nil_from_length}
+use Rattle.std.proofs.lemmas.Bool.{cases_lt}
+use Rattle.std.proofs.lemmas.Bool.Decides.{nat_tests}
+use Rattle.std.proofs.lemmas.List.{drop_all, get_or_default, length-take, length-drop, length-append, length-map, at_drop_more, nil_from_length}
 use Rattle.gb_terms.specs.declared.op.Read.{Read}
 use Rattle.gb_terms.specs.declared.term.Term.{Term}
 use Rattle.gb_terms.specs.Equal.{read_eq}
@@ -86,6 +88,76 @@ place_within (h ∷ hs) e q = within_at (use_of h) hs h e (place_within hs) q
 pub length_others : (hs : List Term) (place : ℕ) → place < length hs → length (others hs place) + 1 ≡ length hs
 length_others hs place l =
     omega (arith, length-append (take place hs) (drop (place + 1) hs), length-take place hs, length-drop (place + 1) hs)
+
+-- the hypotheses but the one at a place, from a place on
+
+abbrev others_by : Bool → List Term → ℕ → ℕ → List Term
+others_by true hs place at = others (drop at hs) (place - at)
+others_by false hs place at = drop at hs
+
+abbrev pub others_from : List Term → ℕ → ℕ → List Term
+others_from hs place at = others_by (nat_le at place) hs place at
+
+pub others_kept : (hs : List Term) (place at : ℕ) (h : Term) → at < length hs → h ≡ get_or hs at h → (at ≡ place → ⊥) → others_from hs place at ≡ h ∷ others_from hs place (at + 1)
+others_kept hs place at h l e n = ⊎_elim before behind (cases_lt at place)
+  where
+    here : drop at hs ≡ h ∷ drop (at + 1) hs
+    here = at_drop_more (λ ys. ys) hs at h l ∙ ap (λ y. y ∷ drop (at + 1) hs) (sym e)
+
+    before : at < place → others_from hs place at ≡ h ∷ others_from hs place (at + 1)
+    before k =
+        let p : nat_le at place ≡ true = grind (arith, nat_tests) in
+        let q : nat_le (at + 1) place ≡ true = grind (arith, nat_tests) in
+        let r : place - at ≡ suc (place - (at + 1)) = omega arith in
+        ap (λ b. others_by b hs place at) p
+        ∙ (λ i. others (here i) (r i))
+        ∙ ap (λ xs. h ∷ take (place - (at + 1)) (drop (at + 1) hs) ++ xs) (ap (λ m. drop m (h ∷ drop (at + 1) hs)) (add-one (suc (place - (at + 1)))) ∙ ap (λ m. drop m (drop (at + 1) hs)) (sym (add-one (place - (at + 1)))))
+        ∙ sym (ap (λ b. h ∷ others_by b hs place (at + 1)) q)
+
+    behind : place ≤ at → others_from hs place at ≡ h ∷ others_from hs place (at + 1)
+    behind k =
+        let m : at ≡ place → ⊥ = n in
+        let p : nat_le at place ≡ false = grind (arith, nat_tests) in
+        let q : nat_le (at + 1) place ≡ false = grind (arith, nat_tests) in
+        ap (λ b. others_by b hs place at) p ∙ here ∙ sym (ap (λ b. h ∷ others_by b hs place (at + 1)) q)
+
+pub others_dropped : (hs : List Term) (place at : ℕ) (h : Term) → at < length hs → h ≡ get_or hs at h → at ≡ place → others_from hs place at ≡ others_from hs place (at + 1)
+others_dropped hs place at h l e n =
+    let here : drop at hs ≡ h ∷ drop (at + 1) hs = at_drop_more (λ ys. ys) hs at h l ∙ ap (λ y. y ∷ drop (at + 1) hs) (sym e) in
+    let p : nat_le at place ≡ true = grind (arith, nat_tests) in
+    let q : nat_le (at + 1) place ≡ false = grind (arith, nat_tests) in
+    let r : place - at ≡ 0 = omega arith in
+    ap (λ b. others_by b hs place at) p
+    ∙ (λ i. others (here i) (r i))
+    ∙ sym (ap (λ b. others_by b hs place (at + 1)) q)
+
+pub others_end : (hs : List Term) (place at : ℕ) → place < length hs → length hs ≤ at → others_from hs place at ≡ []
+others_end hs place at l m =
+    let q : nat_le at place ≡ false = grind (arith, nat_tests) in
+    ap (λ b. others_by b hs place at) q ∙ drop_all at hs m
+
+-- one place further, with what is made of the others
+module _ (f : Term → Term) (hs out more all : List Term) (place at : ℕ) (l : at < length hs) (was : out ++ map f (others_from hs place at) ≡ all) where
+  pub other_changed : (h x : Term) → h ≡ get_or hs at h → (at ≡ place → ⊥) → x ≡ f h → more ≡ out ++ x ∷ [] → more ++ map f (others_from hs place (at + 1)) ≡ all
+  other_changed h x e n p m =
+      ap (λ xs. xs ++ map f (others_from hs place (at + 1))) (m ∙ ap (λ y. out ++ y ∷ []) p)
+      ∙ append_assoc out (f h ∷ []) (map f (others_from hs place (at + 1)))
+      ∙ ap (λ xs. out ++ map f xs) (sym (others_kept hs place at h l e n))
+      ∙ was
+
+  pub one_dropped : at ≡ place → more ≡ out → more ++ map f (others_from hs place (at + 1)) ≡ all
+  one_dropped n m =
+      ap (λ xs. xs ++ map f (others_from hs place (at + 1))) m
+      ∙ ap (λ xs. out ++ map f xs) (sym (others_dropped hs place at (some_of hs at l) l (get_of hs at l) n))
+      ∙ was
+    where
+      some_of : (xs : List Term) (i : ℕ) → i < length xs → Term
+      some_of [] i k = absurd (omega arith)
+      some_of (x ∷ xs) i k = get_or (x ∷ xs) i x
+
+      get_of : (xs : List Term) (i : ℕ) (k : i < length xs) → some_of xs i k ≡ get_or xs i (some_of xs i k)
+      get_of [] i k = absurd (omega arith)
+      get_of (x ∷ xs) i k = get_or_default (x ∷ xs) i x (get_or (x ∷ xs) i x) k
 
 -- one hypothesis used
 

@@ -39,7 +39,6 @@ fn claim_of(alloc: Global, hyps: Terms, conclusion: &Term) -> Result<Claim, Allo
 
 /// Adds the claim of a conclusion with the hypotheses that are joined with variables, directly or through others, and
 /// gives the others.
-#[tactic(auto, using(crate::proofs::Marks::marked_inside, crate::proofs::Marks::marked_outside))]
 fn take_joined(
     alloc: Global,
     hyps: &[Term],
@@ -107,17 +106,24 @@ fn add_components(
     add_contradiction(alloc, left, never, out)
 }
 
+/// Adds the claims that hypotheses can't all hold.
+fn add_contradictions(alloc: Global, hyps: Terms, out: &mut Claims) -> Result<(), AllocError>
+    ensures { OnOk result (out.new ≡ out.old ++ components_of hyps) }
+{
+    let never = boolean(alloc, false)?;
+    add_components(alloc, hyps, &never, out)
+}
+
 /// The claims of a leaf, any of which closes it. The conclusion with the hypotheses that are joined with it is the
 /// first. Each other set of joined hypotheses, in the order of their first ones, and the hypotheses without variables
 /// are claims of a contradiction.
 pub fn claims(alloc: Global, leaf: &Leaf) -> Result<Claims, AllocError>
     ensures { IfOk result (λ made. made ≡ claims_of leaf.now) }
 {
-    let mut out = Items::new(alloc);
     let from = variables(alloc, &leaf.conclusion)?;
     let hyps = leaf.hyps.as_slice();
+    let mut out = Items::new(alloc);
     let others = take_joined(alloc, hyps, from.as_slice(), &leaf.conclusion, &mut out)?;
-    let never = boolean(alloc, false)?;
-    add_components(alloc, others, &never, &mut out)?;
+    add_contradictions(alloc, others, &mut out)?;
     Ok(out)
 }

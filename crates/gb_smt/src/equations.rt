@@ -95,7 +95,7 @@ fn use_of(alloc: Global, hyp: &Term) -> Result<Option<Change>, AllocError>
 }
 
 /// The first hypothesis that can be used.
-#[tactic(auto, using(crate::proofs::Uses::further_none, crate::proofs::Uses::usable_more, crate::proofs::Uses::usable_here))]
+#[tactic(auto, using(crate::proofs::Uses::further_none, crate::proofs::Uses::usable_more))]
 fn first_usable(alloc: Global, hyps: &[Term]) -> Result<Option<Equation>, AllocError>
     ensures { IfOk result (λ found. found ≡ first_usable hyps.now) }
 {
@@ -105,21 +105,6 @@ fn first_usable(alloc: Global, hyps: &[Term]) -> Result<Option<Equation>, AllocE
         }
     }
     Ok(None)
-}
-
-/// Adds the terms, with the changes made.
-fn add_changed(
-    alloc: Global,
-    list: &[Term],
-    changes: &[Change],
-    out: &mut Terms,
-) -> Result<(), AllocError>
-    ensures { OnOk result (out.new ≡ out.old ++ map (λ t. term_changed t changes.now) list.now) }
-{
-    for t in list {
-        out.push(changed(alloc, t, changes)?)?;
-    }
-    Ok(())
 }
 
 /// The hypotheses but the one at a place, with the changes made.
@@ -133,8 +118,11 @@ fn others_changed(
     ensures { IfOk result (λ made. made ≡ map (λ t. term_changed t changes.now) (others hyps.now place)) }
 {
     let mut out = Items::new(alloc);
-    add_changed(alloc, &hyps[..place], changes, &mut out)?;
-    add_changed(alloc, &hyps[place + 1..], changes, &mut out)?;
+    for at in 0..hyps.len() {
+        if at != place {
+            out.push(changed(alloc, &hyps[at], changes)?)?;
+        }
+    }
     SharedItems::new(alloc, out)
 }
 

@@ -233,15 +233,22 @@ fn hyps_of(alloc: Global, list: &[Hyp]) -> Result<SharedItems<Term>, AllocError>
     SharedItems::new(alloc, hyps)
 }
 
+/// The leaves of a goal whose context this is.
+fn leaves_in(alloc: Global, goal: &Sequent, context: &Context) -> Result<Leaves, AllocError>
+    ensures { IfOk result (λ made. made ≡ split goal.now.conclusion context.now (flat_map assumed_of goal.now.hyps)) }
+{
+    let hyps = hyps_of(alloc, goal.hyps.as_slice())?;
+    let mut out = Items::new(alloc);
+    split(alloc, &goal.conclusion, context, &hyps, &mut out)?;
+    Ok(out)
+}
+
 /// The leaves of a goal, in order. Hypotheses that hold a judgment or a probability are left out.
 pub fn leaves(alloc: Global, goal: &Sequent) -> Result<Leaves, AllocError>
     ensures { IfOk result (λ made. made ≡ leaves_of goal.now) }
 {
     let context = Context::of(alloc, goal)?;
-    let hyps = hyps_of(alloc, goal.hyps.as_slice())?;
-    let mut out = Items::new(alloc);
-    split(alloc, &goal.conclusion, &context, &hyps, &mut out)?;
-    Ok(out)
+    leaves_in(alloc, goal, &context)
 }
 
 /// Whether a judgment or a probability stands in a term.

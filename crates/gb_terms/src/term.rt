@@ -20,12 +20,21 @@ pub type Pairs = Items<Pair>;
 
 /// A typed tree: expressions, formulas, reals and distributions, by the type. What it holds may have other owners, so that
 /// a tree is small where it is held, and the same tree again takes no memory.
-#[derive(Drop)]
 #[cycle(term)]
 pub struct Term {
     pub head: Shared<Head>,
     pub args: SharedItems<Term>,
     pub ty: Shared<Ty>,
+}
+
+impl Drop for Term {
+    #[cycle(term_drop)]
+    fn drop(self) {
+        let Term { head, args, ty } = self;
+        drop(head);
+        drop(args);
+        drop(ty);
+    }
 }
 
 pub type Terms = Items<Term>;
@@ -123,10 +132,17 @@ impl Drop for Subject {
 }
 
 /// A list of statements.
-#[derive(Drop)]
 #[cycle(term)]
 pub struct Cmd {
     pub list: SharedItems<Instr>,
+}
+
+impl Drop for Cmd {
+    #[cycle(term_drop)]
+    fn drop(self) {
+        let Cmd { list } = self;
+        drop(list);
+    }
 }
 
 pub type Instrs = Items<Instr>;

@@ -1,4 +1,5 @@
 pub mod Lists
+pub mod MadeLists
 pub mod RaiseSteps
 pub mod ChangeSteps
 pub mod SideSteps

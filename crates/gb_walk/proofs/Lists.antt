@@ -39,3 +39,12 @@ seen_by_pushed {X} g y z xs i x h e out new all b seen pushed made at before =
   where
     behind : List X
     behind = drop (i + 1) xs
+
+-- arguments that all see the same
+pub seen_by_same : {X A B : Type 0} (g : X → A → B) (k : A) (xs : List X) → seen_by k k (map g xs) ≡ map (λ x. g x k) xs
+seen_by_same g k [] = refl
+seen_by_same g k (x ∷ xs) = λ j. g x (either (map g xs) j) ∷ seen_by_same g k xs j
+  where
+    either : {B : Type 0} (fs : List B) → where_last fs k k ≡ k
+    either [] = refl
+    either (f ∷ fs) = refl

@@ -14,8 +14,6 @@ use Rattle.gb_terms.specs.declared.term.Instr.{Instr, roll-Instr}
 use Rattle.gb_terms.specs.declared.term.Cmd.{Cmd, roll-Cmd}
 use Rattle.gb_terms.specs.Equal.{read_eq, side_eq}
 use Rattle.gb_core.specs.declared.ty.Ty.{Ty}
-use Rattle.gb_walk.specs.declared.change.Made.{Made}
-use Rattle.gb_walk.specs.declared.change.Made.TheVariants as made
 use Rattle.gb_walk.specs.declared.change.Change.{Change}
 use Rattle.gb_walk.specs.declared.change.Change.TheVariants as change
 use Rattle.gb_walk.specs.Layers.{head_of, is_binder, seen_by}
@@ -103,16 +101,27 @@ abbrev pub read_changed : Changes → Read → Read
 read_changed cs (Program x s) = Program x (side_changed cs s)
 read_changed cs r = r
 
+-- what becomes of the head of a term: a term takes the place of the whole, or the head is kept
+pub data Made : Type 0 where
+  Put : Term → Made
+  Kept : Head → Made
+
 abbrev pub put_or : Option Term → Head → Made
-put_or (Some t) h = made.Put t
-put_or None h = made.Kept h
+put_or (Some t) h = Put t
+put_or None h = Kept h
+
+-- the term that takes the place of a whole term of this head
+abbrev pub found : Changes → Head → Option Term
+found cs (head.Read r) = found_for_read cs r
+found cs (head.Bound i) = found_for_bound cs i
+found cs h = None
 
 abbrev pub at_head : layer.Head-F (Changes → Made) (Changes → Instr) (Changes → Subject) (Changes → Cmd) (Changes → Term) → Changes → Made
 at_head (layer.Read r) cs = put_or (found_for_read cs r) (head.Read (read_changed cs r))
 at_head (layer.Bound i) cs = put_or (found_for_bound cs i) (head.Bound i)
-at_head (layer.Glob m s) cs = made.Kept (head.Glob m (side_changed cs s))
-at_head (layer.Pr p s) cs = made.Kept (head.Pr p (side_changed cs s))
-at_head h cs = made.Kept (head_of (λ s. s cs) h)
+at_head (layer.Glob m s) cs = Kept (head.Glob m (side_changed cs s))
+at_head (layer.Pr p s) cs = Kept (head.Pr p (side_changed cs s))
+at_head h cs = Kept (head_of (λ s. s cs) h)
 
 abbrev pub at_instr : layer.Instr-F (Changes → Made) (Changes → Instr) (Changes → Subject) (Changes → Cmd) (Changes → Term) → Changes → Instr
 at_instr (layer.Assign xs e) cs = roll-Instr (layer.Assign xs (e cs))
@@ -133,8 +142,8 @@ abbrev pub args_changed : Head → Changes → List (Changes → Term) → List 
 args_changed h cs ts = seen_by (seen_by_args h cs) (seen_by_last h cs) ts
 
 abbrev pub term_of : Made → Changes → List (Changes → Term) → Ty → Term
-term_of (made.Put t) cs ts ty = t
-term_of (made.Kept h) cs ts ty = roll-Term (record { head = h; args = args_changed h cs ts; ty = ty })
+term_of (Put t) cs ts ty = t
+term_of (Kept h) cs ts ty = roll-Term (record { head = h; args = args_changed h cs ts; ty = ty })
 
 abbrev pub at_term : layer.Term-F (Changes → Made) (Changes → Instr) (Changes → Subject) (Changes → Cmd) (Changes → Term) → Changes → Term
 at_term t cs = term_of (t.head cs) cs t.args t.ty

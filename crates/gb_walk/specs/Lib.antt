@@ -1,4 +1,5 @@
 pub mod Layers
+pub mod Rebuild
 pub mod Raise
 pub mod Change
 pub mod Sides

@@ -1,13 +1,11 @@
 // Changes of a tree.
 
-ghost use Rattle.std.specs.Prelude.{◌≡◌, IfOk};
+ghost use Rattle.std.specs.Prelude.{◌≡◌, IfOk, unwrap_or};
 ghost use Rattle.std.specs.Option.{option_copied};
-ghost use Rattle.gb_walk.specs.Change.{is_read_through, is_own, is_left_or_right, without, under_binder, or_given, seen_by_args, seen_by_last, found_for_read, found_for_bound, put_or, side_changed, read_changed};
+ghost use Rattle.gb_walk.specs.Change.{is_read_through, is_own, is_left_or_right, without, under_binder, or_given, seen_by_args, seen_by_last, found_for_read, found_for_bound, found, side_changed};
 
 use crate::binders::is_binder;
 use crate::raise::{raised, raised_read, raised_side};
-use gb_core::copy::copy_var;
-use gb_shared::Shared;
 use gb_terms::op::{Read, Side};
 use gb_terms::same::{same_read, same_side};
 use gb_terms::share::copy_read;
@@ -16,7 +14,6 @@ use sqlite_items::Items;
 use std::alloc::{AllocError, Global};
 
 /// One change of a tree.
-#[derive(Drop)]
 pub enum Change {
     /// A read becomes a term.
     ToTerm(Read, Term),
@@ -26,14 +23,20 @@ pub enum Change {
     ToSide(Side, Side),
 }
 
-pub type Changes = Items<Change>;
-
-/// What becomes of the head of a term: a term takes the place of the whole, or the head is kept.
-#[derive(Drop)]
-pub enum Made {
-    Put(Term),
-    Kept(Shared<Head>),
+impl Drop for Change {
+    fn drop(self) {
+        match self {
+            Change::ToTerm(read, term) => {
+                drop(read);
+                drop(term);
+            }
+            Change::OfBound(_, term) => drop(term),
+            Change::ToSide(_, _) => {}
+        }
+    }
 }
+
+pub type Changes = Items<Change>;
 
 fn is_own(side: &Side) -> bool
     ensures { result ≡ is_own side.now }
@@ -96,8 +99,8 @@ impl Change {
     {
         match self {
             Change::ToTerm(read, term) => {
-                let read = copy_read(alloc, read)?;
                 let term = term.share()?;
+                let read = copy_read(alloc, read)?;
                 Ok(Change::ToTerm(read, term))
             }
             Change::OfBound(index, term) => {
@@ -114,8 +117,8 @@ impl Change {
     {
         match self {
             Change::ToTerm(read, term) => {
-                let read = raised_read(alloc, read, 0)?;
                 let term = raised(alloc, term, 0)?;
+                let read = raised_read(alloc, read, 0)?;
                 Ok(Change::ToTerm(read, term))
             }
             Change::OfBound(index, term) => {
@@ -230,63 +233,27 @@ fn found_for_bound(changes: &[Change], index: u32) -> Option<&Term>
     None
 }
 
-/// The memory that reads through `side` are led to.
-pub fn changed_side(changes: &[Change], side: Side) -> Side
-    ensures { result ≡ side_changed changes.now side }
+/// The term that takes the place of a whole term of this head.
+pub fn found<'a>(changes: &'a [Change], head: &Head) -> Option<&'a Term>
+    ensures { option_copied result ≡ found changes.now head.now }
+{
+    match head {
+        Head::Read(read) => found_for_read(changes, read),
+        Head::Bound(index) => found_for_bound(changes, *index),
+        _ => None,
+    }
+}
+
+/// The memory that reads through `side` are led to, if they are led to one.
+pub fn found_side(changes: &[Change], side: Side) -> Option<Side>
+    ensures { unwrap_or result side ≡ side_changed changes.now side }
 {
     for change in changes {
         if let Change::ToSide(from, to) = change {
             if same_side(from, &side) {
-                return *to;
+                return Some(*to);
             }
         }
     }
-    side
-}
-
-/// A read led to another memory.
-fn changed_read(alloc: Global, changes: &[Change], read: &Read) -> Result<Read, AllocError>
-    ensures { IfOk result (λ r. r ≡ read_changed changes.now read.now) }
-{
-    match read {
-        Read::Logical(place) => Ok(Read::Logical(*place)),
-        Read::Program { var, side } => {
-            let var = copy_var(alloc, var)?;
-            let side = changed_side(changes, *side);
-            Ok(Read::Program { var, side })
-        }
-    }
-}
-
-/// What becomes of the head of a read.
-pub fn made_read(alloc: Global, read: &Read, changes: &[Change]) -> Result<Made, AllocError>
-    ensures { IfOk result (λ made. made ≡ put_or (found_for_read changes.now read.now) (Head.Read (read_changed changes.now read.now))) }
-{
-    match found_for_read(changes, read) {
-        Some(term) => {
-            let term = term.share()?;
-            Ok(Made::Put(term))
-        }
-        None => {
-            let read = changed_read(alloc, changes, read)?;
-            let head = Shared::new(alloc, Head::Read(read))?;
-            Ok(Made::Kept(head))
-        }
-    }
-}
-
-/// What becomes of the head of a bound variable.
-pub fn made_bound(alloc: Global, index: u32, changes: &[Change]) -> Result<Made, AllocError>
-    ensures { IfOk result (λ made. made ≡ put_or (found_for_bound changes.now index) (Head.Bound index)) }
-{
-    match found_for_bound(changes, index) {
-        Some(term) => {
-            let term = term.share()?;
-            Ok(Made::Put(term))
-        }
-        None => {
-            let head = Shared::new(alloc, Head::Bound(index))?;
-            Ok(Made::Kept(head))
-        }
-    }
+    None
 }

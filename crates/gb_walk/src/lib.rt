@@ -4,5 +4,6 @@
 pub mod binders;
 pub mod change;
 pub mod raise;
+mod rebuild;
 pub mod sides;
 pub mod walk;

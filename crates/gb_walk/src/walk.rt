@@ -1,17 +1,19 @@
 // Trees with changes made.
-#![tactic(auto, using(crate::proofs::ChangeSteps::cmd_changed_list, crate::proofs::ChangeSteps::instr_changed_call, crate::proofs::Lists::seen_by_more))]
+#![tactic(auto)]
 
-ghost use Rattle.std.specs.Prelude.{◌≡◌, map, IfOk};
+ghost use Rattle.std.specs.Prelude.{◌≡◌, map, unwrap_or, IfOk};
 ghost use Rattle.gb_walk.specs.Layers.{seen_by, where_last};
-ghost use Rattle.gb_walk.specs.Change.{or_given, term_changed, head_changed, subject_changed, instr_changed, cmd_changed};
+ghost use Rattle.gb_walk.specs.Change.{or_given, found, put_or, read_changed, args_changed, term_changed, head_changed, subject_changed, instr_changed, cmd_changed};
 
-use crate::change::{
-    Change, Changes, Made, changed_side, made_bound, made_read, seen_by_args, seen_by_last,
-    without_own,
+use crate::change::{Change, Changes, found, found_side, seen_by_args, seen_by_last, without_own};
+use crate::rebuild::{
+    cmd_or_kept, equiv_head, finished_cmd, finished_terms, glob_head, head_now, hoare_head,
+    phoare_head, pr_head, put_instr, put_term, read_head, rebuilt_assign, rebuilt_body,
+    rebuilt_call, rebuilt_if, rebuilt_sample, rebuilt_term, rebuilt_while, term_or_kept,
 };
-use gb_core::copy::copy_var;
 use gb_shared::{Shared, SharedItems};
-use gb_terms::term::{Cmd, Head, Instr, Instrs, Subject, Term, Terms};
+use gb_terms::op::Read;
+use gb_terms::term::{Cmd, Head, Instr, Subject, Term};
 use sqlite_items::Items;
 use std::alloc::{AllocError, Global};
 
@@ -34,173 +36,179 @@ fn argument_sees<'a>(behind: &[Term], changes: &'a [Change], last: &'a [Change])
 
 /// The tree with the changes made, all at once: what a change puts in isn't changed again. What is bound outside of a
 /// term that is put in stays bound there, however many binders of the tree lie between. A judgment binds the memories
-/// that it speaks of, so changes of reads through these end there.
-#[cycle(walk)]
+/// that it speaks of, so changes of reads through these end there. Parts in which nothing changes are shared.
 pub fn changed(alloc: Global, term: &Term, changes: &[Change]) -> Result<Term, AllocError>
     ensures { IfOk result (λ made. made ≡ term_changed term.now changes.now) }
 {
-    match made_head(alloc, &term.head, changes)? {
-        Made::Put(by) => Ok(by),
-        Made::Kept(head) => {
-            let by_args = seen_by_args(alloc, head.get(), changes)?;
-            let by_last = seen_by_last(alloc, head.get(), changes)?;
-            let seen = or_given(&by_args, changes);
-            let last = or_given(&by_last, changes);
-            let args = changed_args(alloc, term.args.as_slice(), seen, last)?;
-            let args = SharedItems::new(alloc, args)?;
-            let ty = term.ty.share()?;
-            Ok(Term { head, args, ty })
-        }
-    }
+    let made = made_term(alloc, term, changes)?;
+    term_or_kept(made, term)
 }
 
-/// The changed arguments of a head; the last one sees `last`.
+/// The changed term; none where it is the same.
 #[cycle(walk)]
-fn changed_args(
+fn made_term(alloc: Global, term: &Term, changes: &[Change]) -> Result<Option<Term>, AllocError>
+    ensures { IfOk result (λ made. unwrap_or made term.now ≡ term_changed term.now changes.now) }
+{
+    if let Some(by) = found(changes, term.head.get()) {
+        let by = by.share()?;
+        return Ok(Some(by));
+    }
+    let head = made_head(alloc, term.head.get(), changes)?;
+    let args = made_args_of(
+        alloc,
+        term.args.as_slice(),
+        head_now(&head, &term.head),
+        changes,
+    )?;
+    rebuilt_term(term, head, args)
+}
+
+/// The changed arguments of a head that is kept.
+#[cycle(walk)]
+fn made_args_of(
+    alloc: Global,
+    args: &[Term],
+    head: &Head,
+    changes: &[Change],
+) -> Result<Option<SharedItems<Term>>, AllocError>
+    ensures { IfOk result (λ made. unwrap_or made args.now ≡ args_changed head.now changes.now (map term_changed args.now)) }
+{
+    let by_args = seen_by_args(alloc, head, changes)?;
+    let by_last = seen_by_last(alloc, head, changes)?;
+    let seen = or_given(&by_args, changes);
+    let last = or_given(&by_last, changes);
+    made_args(alloc, args, seen, last)
+}
+
+/// The changed arguments; the last one sees `last`.
+#[cycle(walk)]
+fn made_args(
     alloc: Global,
     args: &[Term],
     changes: &[Change],
     last: &[Change],
-) -> Result<Terms, AllocError>
-    ensures { IfOk result (λ made. made ≡ seen_by changes.now last.now (map term_changed args.now)) }
+) -> Result<Option<SharedItems<Term>>, AllocError>
+    ensures { IfOk result (λ made. unwrap_or made args.now ≡ seen_by changes.now last.now (map term_changed args.now)) }
 {
     let mut out = Items::new(alloc);
     for i in 0..args.len() {
         let seen = argument_sees(&args[i + 1..], changes, last);
-        out.push(changed(alloc, &args[i], seen)?)?;
+        let made = made_term(alloc, &args[i], seen)?;
+        put_term(&mut out, &args[..i], made)?;
     }
-    Ok(out)
+    finished_terms(alloc, out, args)
 }
 
-/// What becomes of a head: a term takes its place, or it is kept, its reads led to other memories.
-#[cycle(walk)]
-fn made_head(alloc: Global, head: &Shared<Head>, changes: &[Change]) -> Result<Made, AllocError>
-    ensures { IfOk result (λ made. made ≡ head_changed head.now changes.now) }
+fn made_read(
+    alloc: Global,
+    read: &Read,
+    changes: &[Change],
+) -> Result<Option<Shared<Head>>, AllocError>
+    ensures { IfOk result (λ made. unwrap_or made (Head.Read read.now) ≡ Head.Read (read_changed changes.now read.now)) }
 {
-    match head.get() {
+    match read {
+        Read::Logical(_) => Ok(None),
+        Read::Program { var, side } => read_head(alloc, var, found_side(changes, *side)),
+    }
+}
+
+/// What becomes of a head that no term takes the place of: its reads are led to other memories.
+#[cycle(walk)]
+fn made_head(
+    alloc: Global,
+    head: &Head,
+    changes: &[Change],
+) -> Result<Option<Shared<Head>>, AllocError>
+    ensures { IfOk result (λ made. put_or (found changes.now head.now) (unwrap_or made head.now) ≡ head_changed head.now changes.now) }
+{
+    match head {
         Head::Read(read) => made_read(alloc, read, changes),
-        Head::Bound(index) => made_bound(alloc, *index, changes),
-        Head::Glob(module, side) => {
-            let module = module.share()?;
-            let side = changed_side(changes, *side);
-            let head = Shared::new(alloc, Head::Glob(module, side))?;
-            Ok(Made::Kept(head))
-        }
-        Head::Pr(procedure, side) => {
-            let procedure = procedure.share()?;
-            let side = changed_side(changes, *side);
-            let head = Shared::new(alloc, Head::Pr(procedure, side))?;
-            Ok(Made::Kept(head))
-        }
+        Head::Glob(module, side) => glob_head(alloc, module, found_side(changes, *side)),
+        Head::Pr(procedure, side) => pr_head(alloc, procedure, found_side(changes, *side)),
         Head::Hoare(subject) => {
-            let subject = changed_subject(alloc, subject, changes)?;
-            let head = Shared::new(alloc, Head::Hoare(subject))?;
-            Ok(Made::Kept(head))
+            let subject = made_subject(alloc, subject, changes)?;
+            hoare_head(alloc, subject)
         }
         Head::Phoare(subject, rel) => {
-            let subject = changed_subject(alloc, subject, changes)?;
-            let head = Shared::new(alloc, Head::Phoare(subject, *rel))?;
-            Ok(Made::Kept(head))
+            let subject = made_subject(alloc, subject, changes)?;
+            phoare_head(alloc, subject, *rel)
         }
         Head::Equiv(left, right) => {
-            let left = changed_subject(alloc, left, changes)?;
-            let right = changed_subject(alloc, right, changes)?;
-            let head = Shared::new(alloc, Head::Equiv(left, right))?;
-            Ok(Made::Kept(head))
+            let made_left = made_subject(alloc, left, changes)?;
+            let made_right = made_subject(alloc, right, changes)?;
+            equiv_head(alloc, left, right, made_left, made_right)
         }
-        _ => {
-            let head = head.share()?;
-            Ok(Made::Kept(head))
-        }
+        _ => Ok(None),
     }
 }
 
 #[cycle(walk)]
-fn changed_subject(
+fn made_subject(
     alloc: Global,
     subject: &Subject,
     changes: &[Change],
-) -> Result<Subject, AllocError>
-    ensures { IfOk result (λ made. made ≡ subject_changed subject.now changes.now) }
+) -> Result<Option<Subject>, AllocError>
+    ensures { IfOk result (λ made. unwrap_or made subject.now ≡ subject_changed subject.now changes.now) }
 {
     match subject {
-        Subject::Proc(procedure) => {
-            let procedure = procedure.share()?;
-            Ok(Subject::Proc(procedure))
-        }
+        Subject::Proc(_) => Ok(None),
         Subject::Body(body) => {
             let inside = without_own(alloc, changes)?;
-            let body = changed_cmd(alloc, body, inside.as_slice())?;
-            Ok(Subject::Body(body))
+            let body = made_cmd(alloc, body, inside.as_slice())?;
+            Ok(rebuilt_body(body))
         }
     }
 }
 
 /// The statements with the changes made in their terms. What they write stays.
-#[cycle(walk)]
 pub fn changed_cmd(alloc: Global, cmd: &Cmd, changes: &[Change]) -> Result<Cmd, AllocError>
     ensures { IfOk result (λ made. made ≡ cmd_changed cmd.now changes.now) }
 {
-    let list = changed_instrs(alloc, cmd.list.as_slice(), changes)?;
-    let list = SharedItems::new(alloc, list)?;
-    Ok(Cmd { list })
+    let made = made_cmd(alloc, cmd, changes)?;
+    cmd_or_kept(made, cmd)
 }
 
 #[cycle(walk)]
-fn changed_instr(alloc: Global, instr: &Instr, changes: &[Change]) -> Result<Instr, AllocError>
-    ensures { IfOk result (λ made. made ≡ instr_changed instr.now changes.now) }
+fn made_cmd(alloc: Global, cmd: &Cmd, changes: &[Change]) -> Result<Option<Cmd>, AllocError>
+    ensures { IfOk result (λ made. unwrap_or made cmd.now ≡ cmd_changed cmd.now changes.now) }
+{
+    let list = cmd.list.as_slice();
+    let mut out = Items::new(alloc);
+    for i in 0..list.len() {
+        let made = made_instr(alloc, &list[i], changes)?;
+        put_instr(alloc, &mut out, &list[..i], made)?;
+    }
+    finished_cmd(alloc, out, cmd)
+}
+
+#[cycle(walk)]
+fn made_instr(alloc: Global, instr: &Instr, changes: &[Change]) -> Result<Option<Instr>, AllocError>
+    ensures { IfOk result (λ made. unwrap_or made instr.now ≡ instr_changed instr.now changes.now) }
 {
     match instr {
         Instr::Assign(targets, value) => {
-            let targets = targets.share()?;
-            let value = changed(alloc, value, changes)?;
-            Ok(Instr::Assign(targets, value))
+            let value = made_term(alloc, value, changes)?;
+            rebuilt_assign(targets, value)
         }
         Instr::Sample(target, d) => {
-            let target = copy_var(alloc, target)?;
-            let d = changed(alloc, d, changes)?;
-            Ok(Instr::Sample(target, d))
+            let d = made_term(alloc, d, changes)?;
+            rebuilt_sample(alloc, target, d)
         }
         Instr::Call(targets, procedure, args) => {
-            let targets = targets.share()?;
-            let procedure = procedure.share()?;
-            let args = changed_terms(alloc, args.as_slice(), changes)?;
-            let args = SharedItems::new(alloc, args)?;
-            Ok(Instr::Call(targets, procedure, args))
+            let args = made_args(alloc, args.as_slice(), changes, changes)?;
+            rebuilt_call(targets, procedure, args)
         }
         Instr::If(test, yes, no) => {
-            let test = changed(alloc, test, changes)?;
-            let yes = changed_cmd(alloc, yes, changes)?;
-            let no = changed_cmd(alloc, no, changes)?;
-            Ok(Instr::If(test, yes, no))
+            let made_test = made_term(alloc, test, changes)?;
+            let made_yes = made_cmd(alloc, yes, changes)?;
+            let made_no = made_cmd(alloc, no, changes)?;
+            rebuilt_if(test, yes, no, made_test, made_yes, made_no)
         }
         Instr::While(guard, variant, body) => {
-            let guard = changed(alloc, guard, changes)?;
-            let variant = changed(alloc, variant, changes)?;
-            let body = changed_cmd(alloc, body, changes)?;
-            Ok(Instr::While(guard, variant, body))
+            let made_guard = made_term(alloc, guard, changes)?;
+            let made_variant = made_term(alloc, variant, changes)?;
+            let made_body = made_cmd(alloc, body, changes)?;
+            rebuilt_while(guard, variant, body, made_guard, made_variant, made_body)
         }
     }
-}
-
-#[cycle(walk)]
-fn changed_terms(alloc: Global, list: &[Term], changes: &[Change]) -> Result<Terms, AllocError>
-    ensures { IfOk result (λ made. made ≡ map (λ t. term_changed t changes.now) list.now) }
-{
-    let mut out = Items::new(alloc);
-    for term in list {
-        out.push(changed(alloc, term, changes)?)?;
-    }
-    Ok(out)
-}
-
-#[cycle(walk)]
-fn changed_instrs(alloc: Global, list: &[Instr], changes: &[Change]) -> Result<Instrs, AllocError>
-    ensures { IfOk result (λ made. made ≡ map (λ i. instr_changed i changes.now) list.now) }
-{
-    let mut out = Items::new(alloc);
-    for instr in list {
-        out.push(changed_instr(alloc, instr, changes)?)?;
-    }
-    Ok(out)
 }

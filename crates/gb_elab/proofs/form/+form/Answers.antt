@@ -6,7 +6,7 @@ use Rattle.gb_tree.specs.declared.form.FormShape.{out-FormShape}
 use Rattle.gb_elab.specs.Answers.{◌>>=◌, Answers, Fails, truth, wanted}
 use Rattle.gb_elab.specs.Answers.Answer.{given}
 use Rattle.gb_elab.specs.Environment.{environment}
-use Rattle.gb_elab.specs.Forms.{bound_by, elaborated, equalities, formula, left_side, negated, quantified, read, relation, with_right_side}
+use Rattle.gb_elab.specs.Forms.{bound_by, elaborated, equalities, formula, left_side, negated, quantified, read, with_right_side}
 use Rattle.gb_elab.specs.Judgments.{after, before, both_procedures, equivalent}
 use Rattle.gb_elab.specs.Names.{unit}
 use Rattle.gb_elab.proofs.Arms.{path_gives, unit_gives, bracketed_gives, sided_gives, coin_gives, function_fails, not_gives, binary_fails, binary_left_fails, binary_gives, equalities_give, quantified_gives, equiv_fails, both_fail, pre_fails, equiv_gives, unbuilt}

@@ -29,8 +29,8 @@ returns-in_err-written_as-in-Function t c =
 
 pub returns-in_ok-variable-in-Function : goal.returns-in_ok-variable-in-Function
 returns-in_ok-variable-in-Function t c =
-    value_gives c.args.t.now (environment c.args.at.now) c.args.from.now c.args.to.now c.in-Function.names c.in-Function.ty c.in-Function.body c.in-Function.is c.in_ok-written_as-in-Function.field-0 c.typed_as.result (sym c.len.ensures ∙ c.if-len-ne1.false) c.in_ok-written_as-in-Function.ensures
-    (subst (λ a. Answers (elaborated a (environment c.args.at.now) (of_type c.in-Function.names c.args.from.now) (Some c.args.to.now)) c.typed_as.result) c.get-in-Function.ensures
-    (subst (λ vs. Answers (elaborated c.get-in-Function.result.now (environment c.args.at.now) vs (Some c.args.to.now)) c.typed_as.result)
+    value_gives c.args.t.now (environment c.args.at.now) c.args.from.now c.args.to.now c.in-Function.names c.in-Function.ty c.in-Function.body c.in-Function.is c.in_ok-written_as-in-Function.field-0 c.typed.result (sym c.len.ensures ∙ c.if-len-ne1.false) c.in_ok-written_as-in-Function.ensures
+    (subst (λ a. Answers (elaborated a (environment c.args.at.now) (of_type c.in-Function.names c.args.from.now) (Some c.args.to.now)) c.typed.result) c.get-in-Function.ensures
+    (subst (λ vs. Answers (elaborated c.get-in-Function.result.now (environment c.args.at.now) vs (Some c.args.to.now)) c.typed.result)
     (c.as_slice-in-Function.ensures ∙ c.in_ok-variable-in-Function.ensures ∙ ap (λ xs. of_type xs c.args.from.now) c.as_slice.ensures)
-    c.typed_as.ensures))
+    c.typed.ensures))

@@ -16,7 +16,5 @@ loop-x-preserved c =
     let new : list_any (λ v. bytes_eq v.name c.x-item.result.name) c.loop-x.locals ≡ false = cc in
     let next = declared_next c.loop-x.locals c.args.names.now c.args.ty.now c.loop-x.x-index c.x-item.result c.loop-x-test.true c.x-item.is new in
     let pushed : c.push.new.self ≡ c.loop-x.locals ++ record { name = c.x-item.result.name; ty = c.args.ty.now } ∷ [] =
-    c.in_ok-push.ensures.ok
-    ∙ ap (λ n. c.loop-x.locals ++ record { name = n; ty = c.in_ok-ty.ty } ∷ []) c.in_ok-name.ensures
-    ∙ ap (λ t. c.loop-x.locals ++ record { name = c.x-item.result.name; ty = t } ∷ []) c.in_ok-ty.ensures in
+    c.in_ok-push.ensures.ok ∙ ap (λ x. c.loop-x.locals ++ x ∷ []) c.in_ok-local.ensures in
     ap (λ vs. declared vs (drop (c.loop-x.x-index + 1) c.args.names.now) c.args.ty.now) pushed ∙ sym next ∙ c.loop-x.invariant

@@ -1,4 +1,6 @@
-use Rattle.std.proofs.Common.{◌≡◌, drop, length}
+use Rattle.std.proofs.Common.{◌≡◌, ◌+◌, ◌∷◌, drop, length}
+use Rattle.gb_elab.specs.Answers.{◌>>=◌}
+use Rattle.gb_elab.specs.Answers.Answer.{given}
 use Rattle.gb_elab.specs.Environment.{environment}
 use Rattle.gb_elab_mod.specs.Steps.{functions}
 use Rattle.gb_elab_mod.proofs.Gathered.{behind}
@@ -6,6 +8,6 @@ use Rattle.gb_elab_mod.proofs.step.functions.Given as goal
 
 abbrev pub invariant-loop-f : goal.invariant-loop-f
 invariant-loop-f l = record {
-  answer : behind l.typed (functions (environment l.at) (drop l.f-index l.forms) l.from l.to) ≡ functions (environment l.at) l.forms l.from l.to;
-  number : length l.typed ≡ l.f-index;
+  answer : behind l.typed (functions (environment l.at) (drop l.f-index l.forms) l.from l.to) ≡ (functions (environment l.at) l.forms l.from l.to >>= λ ts. given (l.fn.first ∷ ts));
+  number : length l.typed ≡ l.f-index + 1;
 }
