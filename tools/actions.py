@@ -1,22 +1,17 @@
 #!/usr/bin/env python3
-"""Writes the table of the grammar whose productions have actions, with its certificates and the sorts of its trees.
+"""Writes the table of the grammar of script.txt, with its actions, its certificates and the sorts of its trees.
 
     actions.py CRATE
 
-CRATE is the folder of the crate (crates/NAME). It reads script.txt and sorts.txt beside it. Written are
+CRATE is the folder of the crate (crates/NAME). grammar.py says how script.txt is read. Written are
 
     CRATE/src/rows.rt          ROWS, PLACES and a constant for each start part
     CRATE/src/bodies.rt        SYMBOLS, the bodies of the rows
-    CRATE/specs/Claims.antt    what is claimed of each part
+    CRATE/specs/Claims.antt    what is claimed of each part, `claims`, and how many parts each stage has
     CRATE/specs/Sorts.antt     the kinds of node, the signatures of heads and the sorts of parts
-    CRATE/proofs/Checked.antt  that the table passes its tests
+    CRATE/proofs/Checked.antt  that the table passes its tests, at each stage
 
-script.txt is written as certificates.py says, but for productions:
-
-    Action.Head/2: a b c       an action of gb_script, maybe with a head, and of how many values it is: the first ones
-                               of the parts, and all where no number stands there
-    Action: a b !Mark          .. what the production begins or ends among the levels and chains of a text: it isn't
-                               in the table yet
+Run `rt fmt` behind it. This script is not trusted: the check decides whether what it writes is right.
 
 sorts.txt has one line each for
 
@@ -28,15 +23,17 @@ sorts.txt has one line each for
     part p q = SORT, ?S T*     the values of these parts
 """
 import os
-import re
 import sys
 
-import certificates
-from certificates import bits, decided, decided_groups, literal, wrapped
+import grammar
+from grammar import STAGES, TOOLS, fail
 
-TOOLS = os.path.dirname(os.path.abspath(__file__))
-PRODUCTION = re.compile(r"^([A-Z][A-Za-z.]*)(?:/(\d+))?:(.*?)(?:!(\w+))?\s*(@goal)?\s*$")
-ROWS_MACRO = """// A row in the order of the parts of the grammar: part, action, of how many values, stage, starts, stops, body.
+STAGE_NAMES = ["SCRIPTS", "GOALS"]
+STAGE_DOCS = ["The stage of commands and forms.", "The stage of these with what goals have besides."]
+WIDTH = 100
+GROUP = 16  # how many values of a function on numbers stand together in a definition
+
+ROWS_MACRO = """// A row in the order of the parts of the grammar: part, action, of how many values, mark, stage, starts, stops, body.
 macro_rules! rows {
     (@action $name:ident . $head:ident) => {
         Action::$name(Head::$head)
@@ -44,12 +41,13 @@ macro_rules! rows {
     (@action $name:ident) => {
         Action::$name
     };
-    ($($part:literal ($($action:tt)*) $takes:literal $stage:literal $starts:literal $stops:literal $body:literal),* $(,)?) => {
+    ($($part:literal ($($action:tt)*) $takes:literal $mark:ident $stage:literal $starts:literal $stops:literal $body:literal),* $(,)?) => {
         [$(Row {
             part: $part,
             rule: Rule {
                 takes: $takes,
                 action: rows!(@action $($action)*),
+                mark: Mark::$mark,
             },
             stage: $stage,
             starts: $starts,
@@ -60,60 +58,59 @@ macro_rules! rows {
 }
 """
 
+BODIES_MACRO = """// Tokens by their numbers, and parts by theirs in brackets; a semicolon ends a body.
+macro_rules! bodies {
+    (@symbol [$part:literal]) => {
+        Part($part)
+    };
+    (@symbol ;) => {
+        Token(0)
+    };
+    (@symbol $token:literal) => {
+        Token($token)
+    };
+    ($($symbol:tt)*) => {
+        [$(bodies!(@symbol $symbol)),*]
+    };
+}
+"""
 
-# The grammar.
 
-def widths_of(parts, takes):
-    """How many values each part has."""
-    widths = {}
-    for _ in parts:
-        for part in parts.values():
-            for number, production in enumerate(part.productions):
-                inner = [widths.get(symbol) for symbol in production.body if symbol in parts]
-                if None not in inner and part.name not in widths:
-                    whole, taken = sum(inner), takes[part.name, number]
-                    taken = whole if taken is None else taken
-                    action = production.rule.split(".")[0]
-                    widths[part.name] = (0 if action == "Nothing" else taken if action == "Pass" else 1) + whole - taken
-    return widths
+# The table.
+
+def bits(kinds):
+    return sum(1 << kind for kind in kinds)
 
 
-def table():
-    """The kinds of token, the start parts, all parts, the certificates and the rows; productions have `takes` and `mark`."""
-    lines, takes, marks, part, number = [], {}, {}, None, 0
-    with open(os.path.join(TOOLS, "script.txt"), encoding="utf-8") as text:
-        for line in text:
-            line = line.rstrip("\n")
-            if line.startswith("part "):
-                part, number = line.split()[1], 0
-            elif part and (found := PRODUCTION.match(line)):
-                takes[part, number] = int(found[2]) if found[2] else None
-                marks[part, number] = found[4]
-                line = f"{found[1]}:{found[3]} {found[5] or ''}"
-                number += 1
+def literal(kinds):
+    """A set of kinds as a number, as short as it may be."""
+    number = bits(kinds)
+    return str(number) if number < 10 ** 9 else hex(number)
+
+
+def wrapped(items, separator):
+    """Lines of items, as many to a line as fit."""
+    lines, line = [], "   "
+    for item in items:
+        if len(line) + len(item) + len(separator) + 1 > WIDTH:
             lines.append(line)
-    kinds, starts, parts = certificates.parse(lines)
-    certificates.check_names(kinds, starts, parts)
-    widths = widths_of(parts, takes)
-    for each in parts.values():
-        for number, production in enumerate(each.productions):
-            whole = sum(widths[symbol] for symbol in production.body if symbol in parts)
-            taken = takes[each.name, number]
-            production.takes, production.mark = whole if taken is None else taken, marks[each.name, number]
-    found = certificates.Certificates(kinds, starts, parts)
-    return kinds, starts, parts, found, found.rows()
+            line = "   "
+        line += " " + item + separator
+    return lines + [line] if line.strip() else lines
 
 
-def rows_file(table, starts, rows):
-    lines = ["// Written by tools/actions.py from script.txt.", "", "use gb_grammar::table::Row;", "use gb_script::action::{Action, Rule};", "use gb_script::head::Head;", ""]
-    for start in starts:
+def rows_file(table, rows):
+    lines = ["// Written by tools/actions.py from script.txt.", "", "use gb_grammar::table::Row;",
+             "use gb_script::action::{Action, Mark, Rule};", "use gb_script::head::Head;", ""]
+    for start in table.starts:
         lines += [f"/// The part `{start}`.", f"pub const {start.upper()}: u8 = {table.numbers[start]};", ""]
-    for number, (name, doc) in enumerate(zip(certificates.STAGE_NAMES, certificates.STAGE_DOCS)):
+    for number, (name, doc) in enumerate(zip(STAGE_NAMES, STAGE_DOCS)):
         lines += [f"/// {doc}", f"pub const {name}: u8 = {number};", ""]
     lines += ROWS_MACRO.splitlines() + ["", "/// The rows of the grammar.", f"pub const ROWS: [Row<Rule>; {len(rows)}] = rows! {{"]
     items, place = [], 0
-    for part, production, begin, stop in rows:
-        items.append(f"{table.numbers[part.name]} ({production.rule}) {production.takes} {production.stage} {literal(bits(begin))} {literal(bits(stop))} {place}")
+    for part, production, starts, stops in rows:
+        rule = f"({production.action}) {production.takes} {production.mark or 'Plain'}"
+        items.append(f"{table.numbers[part.name]} {rule} {production.stage} {literal(starts)} {literal(stops)} {place}")
         place += len(production.body) + 1
     lines += wrapped(items, ",")
     places = [0]
@@ -121,6 +118,81 @@ def rows_file(table, starts, rows):
         places.append(places[-1] + len(part.productions))
     lines += ["};", "", "/// Where the rows of each part begin, and how many rows there are.", f"pub const PLACES: [u16; {len(places)}] = ["]
     return lines + [f"    {', '.join(map(str, places))},", "];"]
+
+
+def bodies_file(table, rows):
+    def symbol(name):
+        return f"[{table.numbers[name]}]" if name in table.parts else str(table.kinds[name])
+    lines = ["// Written by tools/actions.py from script.txt.", "", "use gb_grammar::table::Symbol;",
+             "use gb_grammar::table::Symbol::{Part, Token};", ""] + BODIES_MACRO.splitlines()
+    lines += ["", "/// The bodies of the rows, each up to a `Token(0)`.",
+              f"pub const SYMBOLS: [Symbol; {sum(len(production.body) + 1 for _, production, *_ in rows)}] = bodies! {{"]
+    bodies = [" ".join([symbol(s) for s in production.body] + [";"]) for _, production, *_ in rows]
+    return lines + wrapped(bodies, "") + ["};"]
+
+
+# Definitions by numbers, and the certificates.
+
+def decided(leaves, low):
+    """The lines of a choice among leaves by comparisons of `n`, the first of them at `low`, a line each."""
+    if len(leaves) == 1:
+        return [leaves[0]]
+    middle = len(leaves) // 2
+    left, right = decided(leaves[:middle], low), decided(leaves[middle:], low + middle)
+    left[0] = f"(if nat_lt n {low + middle} then {left[0]}"
+    right[0] = f"else {right[0]}"
+    right[-1] += ")"
+    return left + right
+
+
+def grouped(name, kind, leaves):
+    """Definitions NAME0, NAME1 .. of functions from numbers, with so many leaves each, and the choice among them."""
+    lines, calls = [], []
+    for low in range(0, len(leaves), GROUP):
+        calls.append(f"{name}{len(calls)}")
+        lines += [f"abbrev {calls[-1]} : ℕ → {kind}", f"{calls[-1]} n ="]
+        lines += ["    " + line for line in decided(leaves[low:low + GROUP], low)] + [""]
+
+    def choose(low, high):
+        if high - low == 1:
+            return f"{calls[low]} n"
+        middle = (low + high) // 2
+        return f"(if nat_lt n {middle * GROUP} then {choose(low, middle)} else {choose(middle, high)})"
+    return lines, choose(0, len(calls))
+
+
+def claims_file(table):
+    lines = ["-- Written by tools/actions.py from script.txt: what is claimed of each part.",
+             "use Rattle.std.specs.Prelude.{ℕ, Bool, [], ◌∷◌, true, false, nat_lt, slice_index_or, if◌then◌else◌}",
+             "use Rattle.gb_grammar.specs.Check.{Claim, Claims}", "", "abbrev claim : Bool → ℕ → ℕ → ℕ → ℕ → Claim",
+             "claim n a b w h = record { nullable = n; first = a; follow = b; weight = w; height = h }", ""]
+    parts = table.parts.values()
+    claims, choice = grouped("claims", "Claim", [
+        f"claim {'true' if part.nullable else 'false'} {bits(part.first)} {bits(part.follow)} {part.weight} {part.height}" for part in parts])
+    lines += claims + ["-- what is claimed of each part, which is found by its number", "abbrev claim_at : ℕ → Claim", f"claim_at n = {choice}"]
+    counts = [sum(1 for part in parts if part.stage <= stage) for stage in range(len(STAGES))]
+    lines += ["", "-- what is claimed of the parts that have texts up to a stage, which come first", "abbrev pub claims : ℕ → Claims"]
+    return lines + [f"claims stage = record {{ count = slice_index_or ({listed(map(str, counts))}) stage 0; at = claim_at }}"]
+
+
+def checked_file(crate):
+    lines = ["-- Written by tools/actions.py: the table passes its tests.", "use Rattle.std.specs.Prelude.{◌≡◌, true}",
+             "use Rattle.std.proofs.Common.{refl}", f"use Rattle.{crate}.specs.declared.rows.TheConstants.{{ROWS, PLACES}}",
+             f"use Rattle.{crate}.specs.declared.bodies.TheConstants.{{SYMBOLS}}", f"use Rattle.{crate}.specs.Claims.{{claims}}",
+             "use Rattle.gb_grammar.specs.Grammar.{grammar_of}", f"use Rattle.{crate}.specs.Sorts.{{part_sorts, signatures}}",
+             "use Rattle.gb_script.specs.Acts.{sorts_ok}", "use Rattle.gb_grammar.specs.Check.{productions_ok, places_ok, grammar_ok}",
+             "use Rattle.gb_grammar.proofs.Bodies.{bodies, in_order, grammar_with, grammar_passes}",
+             "", "ordered : in_order 0 ROWS (bodies SYMBOLS) ≡ true", "ordered = refl"]
+    for stage, name in enumerate(STAGE_NAMES):
+        low = name.lower()
+        lines += ["", f"{low}_productions : productions_ok (claims {stage}) (grammar_with {stage} ROWS (bodies SYMBOLS)) ≡ true", f"{low}_productions = refl",
+                  "", f"{low}_places : places_ok PLACES (claims {stage}).count ROWS ≡ true", f"{low}_places = refl",
+                  "", f"pub {low}_pass : grammar_ok {stage} (claims {stage}) PLACES ROWS SYMBOLS ≡ true",
+                  f"{low}_pass = grammar_passes {stage} SYMBOLS (claims {stage}) PLACES ROWS ordered {low}_productions {low}_places"]
+    for stage, name in enumerate(STAGE_NAMES):
+        low = name.lower()
+        lines += ["", f"pub {low}_sorted : sorts_ok signatures part_sorts (grammar_of {stage} ROWS SYMBOLS) ≡ true", f"{low}_sorted = refl"]
+    return lines
 
 
 # The sorts.
@@ -136,7 +208,7 @@ def sorts_text():
                 names, _, value = rest.partition("=")
                 for name in names.split():
                     if name in found[what]:
-                        certificates.fail(f"{what} {name} is there twice")
+                        fail(f"{what} {name} is there twice")
                     found[what][name] = value.strip()
     return found
 
@@ -146,14 +218,14 @@ def sort_name(word):
 
 
 def listed(items):
-    return " ∷ ".join(items + ["[]"])
+    return " ∷ ".join([*items, "[]"])
 
 
 def shape(words):
     """The shape of a list, from the sorts of its first elements and that of all others, which ends with '*'."""
     rest = [word.rstrip("*") for word in words if word.endswith("*")]
     if len(rest) > 1 or rest and not words[-1].endswith("*"):
-        certificates.fail(f"no shape: {words}")
+        fail(f"no shape: {words}")
     first = [sort_name(word) for word in words if not word.endswith("*")]
     return f"record {{ first = {listed(first)}; rest = {sort_name(rest[0]) if rest else '[]'} }}"
 
@@ -169,10 +241,10 @@ def part_sort(text):
     return listed([value_sort(value) for value in text.split(",")] if text else [])
 
 
-def signature(text):
+def signature(text, kinds):
     kind, *words = text.split()
     texted = words[:1] == ["text"]
-    return f"record {{ kind = {kind}_kind; text = {'true' if texted else 'false'}; parts = {shape(words[texted:])} }}"
+    return f"record {{ kind = {kinds[kind]}; text = {'true' if texted else 'false'}; parts = {shape(words[texted:])} }}"
 
 
 def role(text):
@@ -184,63 +256,47 @@ def sorts_file(table):
     found = sorts_text()
     missing = set(table.parts) ^ set(found["part"])
     if missing:
-        certificates.fail(f"parts without sorts, or sorts without parts: {sorted(missing)}")
-    heads = {production.rule.split(".")[1] for part in table.parts.values() for production in part.productions if "." in production.rule}
+        fail(f"parts without sorts, or sorts without parts: {sorted(missing)}")
+    heads = {production.head for _, production in table.productions()} - {""}
     if heads ^ set(found["head"]):
-        certificates.fail(f"heads: {sorted(heads ^ set(found['head']))}")
+        fail(f"heads: {sorted(heads ^ set(found['head']))}")
     lines = ["-- Written by tools/actions.py from sorts.txt: the kinds of node, the signatures of heads and the sorts of parts.",
-             "use Rattle.std.specs.Prelude.{ℕ, true, false, [], ◌∷◌, List, nat_lt, nat_eq, if◌then◌else◌}",
+             "use Rattle.std.specs.Prelude.{ℕ, true, false, [], ◌∷◌, List, nat_lt, if◌then◌else◌}",
              "use Rattle.gb_script.specs.declared.head.Head.{Head}", "use Rattle.gb_script.specs.declared.head.Head.TheVariants as head",
-             "use Rattle.gb_script.specs.Sorts.{Sort, Shape, Role, whole, item, list, Signature, Language, ValueSort, one, many, some}", "", "-- Kinds of node."]
+             "use Rattle.gb_script.specs.Sorts.{Sort, Role, whole, item, list, Signature, Language, ValueSort, one, many, some}", "", "-- Kinds of node."]
     for number, kind in enumerate(found["kind"]):
         lines += ["", f"abbrev pub {kind}_kind : ℕ", f"{kind}_kind = {number}"]
     lines += ["", "-- Sorts."]
     for sort, kinds in found["sort"].items():
         lines += ["", f"abbrev pub {sort_name(sort)} : Sort", f"{sort_name(sort)} = {listed([k + '_kind' for k in kinds.split()])}"]
     lines += ["", "-- what the nodes of each head are", "abbrev pub signature : Head → Signature"]
-    lines += [f"signature head.{name} = {signature(text)}" for name, text in found["head"].items()]
-    lines += [f"signature head.List = {signature('none')}".replace("none_kind", str(len(found["kind"])))]
-    size = 16
-    roles = [role(text) for text in found["kind"].values()]
-    groups = [roles[i:i + size] for i in range(0, len(roles), size)]
-    for number, group in enumerate(groups):
-        lines += ["", f"abbrev roles{number} : ℕ → Role", f"roles{number} n ="] + ["    " + line for line in decided(group, number * size)]
-    lines += ["", "-- what the nodes of each kind are", "abbrev pub role : ℕ → Role", f"role n = {decided_groups(groups, size).replace('claims', 'roles')}"]
-    sorts = [part_sort(found["part"][name]) for name in table.parts]
-    groups = [sorts[i:i + size] for i in range(0, len(sorts), size)]
-    for number, group in enumerate(groups):
-        lines += ["", f"abbrev sorts{number} : ℕ → List ValueSort", f"sorts{number} n ="] + ["    " + line for line in decided(group, number * size)]
-    lines += ["", "-- the sorts of the values of each part, which is found by its number", "abbrev pub part_sorts : ℕ → List ValueSort",
-              f"part_sorts n = {decided_groups(groups, size).replace('claims', 'sorts')}"]
+    kinds = {kind: f"{kind}_kind" for kind in found["kind"]}
+    lines += [f"signature head.{name} = {signature(text, kinds)}" for name, text in found["head"].items()]
+    lines += [f"signature head.List = {signature('none', {'none': len(kinds)})}", ""]
+    roles, choice = grouped("roles", "Role", [role(text) for text in found["kind"].values()])
+    lines += roles + ["-- what the nodes of each kind are", "abbrev pub role : ℕ → Role", f"role n = {choice}", ""]
+    sorts, choice = grouped("sorts", "List ValueSort", [part_sort(found["part"][name]) for name in table.parts])
+    lines += sorts + ["-- the sorts of the values of each part, which is found by its number", "abbrev pub part_sorts : ℕ → List ValueSort", f"part_sorts n = {choice}"]
     return lines + ["", "abbrev pub signatures : Language", "signatures = record { signature = signature; role = role }"]
-
-
-def checked_file(crate):
-    lines = certificates.checked_file("script.txt", crate)
-    lines[0] = "-- Written by tools/actions.py: the table passes its tests."
-    lines[6:6] = ["use Rattle.gb_grammar.specs.Grammar.{grammar_of}", f"use Rattle.{crate}.specs.Sorts.{{part_sorts, signatures}}", "use Rattle.gb_script.specs.Acts.{sorts_ok}"]
-    for number, name in enumerate(certificates.STAGE_NAMES):
-        low = name.lower()
-        lines += ["", f"pub {low}_sorted : sorts_ok signatures part_sorts (grammar_of {number} ROWS SYMBOLS) ≡ true", f"{low}_sorted = refl"]
-    return lines
 
 
 def main():
     if len(sys.argv) != 2:
-        certificates.fail("give the folder of the crate")
+        fail("give the folder of the crate")
     folder = sys.argv[1]
-    crate = os.path.basename(os.path.abspath(folder))
-    kinds, starts, parts, found, rows = table()
-    claims = certificates.claims_file("script.txt", found.parts)
-    bodies = certificates.bodies_file("script.txt", found, rows)
-    claims[0] = "-- Written by tools/actions.py from script.txt: what is claimed of each part."
-    bodies[0] = "// Written by tools/actions.py from script.txt."
-    files = {"src/rows.rt": rows_file(found, starts, rows), "src/bodies.rt": bodies, "specs/Claims.antt": claims,
-             "specs/Sorts.antt": sorts_file(found), "proofs/Checked.antt": checked_file(crate)}
+    table = grammar.grammar()
+    rows = table.rows()
+    files = {
+        "src/rows.rt": rows_file(table, rows),
+        "src/bodies.rt": bodies_file(table, rows),
+        "specs/Claims.antt": claims_file(table),
+        "specs/Sorts.antt": sorts_file(table),
+        "proofs/Checked.antt": checked_file(os.path.basename(os.path.abspath(folder))),
+    }
     for name, lines in files.items():
         with open(os.path.join(folder, name), "w", encoding="utf-8") as out:
             out.write("\n".join(lines) + "\n")
-    print(f"{len(parts)} parts, {len(rows)} rows, {len(kinds)} kinds of token")
+    print(f"{len(table.parts)} parts, {len(rows)} rows, {len(table.kinds)} kinds of token")
 
 
 if __name__ == "__main__":

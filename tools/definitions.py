@@ -1,17 +1,18 @@
 """Runs definitions of the files crates/*/specs/*.antt.
 
-`definition("Rattle.gb_value.specs.Values", "no_values")` is the value of a definition, or a function where it has
-arguments. What values are here:
+`definition("Rattle.gb_script.specs.Build", "built")` is the value of a definition, or a function where it has arguments.
+What values are here:
 
     naturals, and lists of these as bytes     int, tuple
     lists                                     tuple
     options                                   None, Some
     booleans                                  bool
-    records                                   Record
+    records, and nodes of trees               Record
+    pairs                                     Record, with the fields "0" and "1"
     variants of declared types                Variant
 
-Only what the definitions of trees are written with is understood: equations by patterns, records and their fields, `if`,
-and the operators and functions below.
+Only what the definitions of trees and of limits are written with is understood: equations by patterns, records and their
+fields, `if`, functions `λ x. ..`, recursion on nodes by `para-`, and the operators and functions below.
 """
 import functools
 import os
@@ -43,11 +44,6 @@ class Variant:
     name: str
     arguments: tuple = ()
 
-    @property
-    def full_name(self):
-        """The name of the type without its path, and that of the variant."""
-        return f"{self.type_path.split('.')[-1]}.{self.name}"
-
 
 STANDARD = {
     "None": None,
@@ -56,15 +52,20 @@ STANDARD = {
     "false": False,
     "codes": lambda text: tuple(map(ord, text)),
     "count_by": lambda test, values: sum(1 for value in values if test(value)),
+    "drop": lambda count, values: values[count:],
+    "length": len,
+    "map": lambda function, values: tuple(map(function, values)),
     "min": min,
     "nat_eq": lambda left, right: left == right,
+    "nat_le": lambda left, right: left <= right,
     "nat_lt": lambda left, right: left < right,
     "slice_get": lambda values, at: Some(values[at]) if at < len(values) else None,
+    "take": lambda count, values: values[:count],
 }
 
 # From the loosest to the tightest.
-OPERATORS = [["||"], ["∷", "++"], ["+", "-"], ["^"]]
-TO_THE_RIGHT = ["||", "∷", "++"]
+OPERATORS = [["||"], ["&&"], ["∷", "++"], ["+", "-"], ["^"]]
+TO_THE_RIGHT = ["||", "&&", "∷", "++"]
 OPERATIONS = {
     "∷": lambda left, right: (left,) + right,
     "++": lambda left, right: left + right,
@@ -73,7 +74,7 @@ OPERATIONS = {
     "^": lambda left, right: left ** right,
 }
 
-TOKEN = re.compile(r"""(?:\s|--[^\n]*)*(\.?[A-Za-z_][\w'-]*(?:\.[A-Za-z_][\w'-]*)*|\d+|"[^"]*"|\[\]|\+\+|\|\||==|\S)""")
+TOKEN = re.compile(r"""(?:\s|--[^\n]*)*(\.?[A-Za-z_][\w'-]*(?:\.(?:[A-Za-z_][\w'-]*|\d+))*|\d+|"[^"]*"|\[\]|\+\+|\|\||&&|==|\S)""")
 
 
 # Patterns: functions that tell whether a value is of their form, and put the values of variables into an environment.
@@ -116,6 +117,10 @@ def in_list(value):
     return (value[0], value[1:]) if value else None
 
 
+def in_successor(value):
+    return (value - 1,) if value else None
+
+
 def in_variant(type_path, name):
     return lambda value: value.arguments if (value.type_path, value.name) == (type_path, name) else None
 
@@ -138,6 +143,8 @@ def with_fields(record, names):
 def operation(operator, left, right):
     if operator == "||":
         return lambda environment: left(environment) or right(environment)
+    if operator == "&&":
+        return lambda environment: left(environment) and right(environment)
     run = OPERATIONS[operator]
     return lambda environment: run(left(environment), right(environment))
 
@@ -151,6 +158,26 @@ def record_of(base, fields):
                 raise Fault(f"no field {name} in a record of {', '.join(record)}")
             record[name] = expression(environment)
         return record
+    return value
+
+
+class Pair(Record):
+    """A part of a node, and what a recursion makes of it, once that is asked for."""
+
+    def __init__(self, part, value):
+        super().__init__({"0": part})
+        self.made = value
+
+    def __missing__(self, name):
+        self[name] = self.made(self["0"])
+        return self[name]
+
+
+def recursion(layer):
+    """The function on nodes that comes of one on nodes whose parts are there with what it makes of them."""
+    def value(node, *arguments):
+        found = layer(Record(node, parts=tuple(Pair(part, value) for part in node["parts"])))
+        return found(*arguments) if arguments else found
     return value
 
 
@@ -203,6 +230,10 @@ class Parser:
             return taken(in_option, patterns)
         if name == "None":
             return just(None)
+        if name == "zero":
+            return just(0)
+        if name == "suc":
+            return taken(in_successor, patterns)
         if name == "[]":
             return just(())
         if name == "_":
@@ -253,6 +284,8 @@ class Parser:
         if token == "(":
             inner = self.expression()
             self.expect(")")
+        elif token == "λ":
+            return self.function()
         elif token == "[]":
             inner = literal(())
         elif token == "record":
@@ -264,6 +297,20 @@ class Parser:
         else:
             inner = self.named(token)
         return with_fields(inner, self.next()[1:].split(".")) if (self.peek() or "").startswith(".") else inner
+
+    def function(self):
+        name = self.next()
+        self.expect(".")
+        self.variables.append(name)
+        body = self.expression()
+        return lambda environment: lambda argument: body({**environment, name: argument})
+
+    def skip_type(self):
+        depth = 0
+        while True:
+            depth += {"(": 1, ")": -1}.get(self.next(), 0)
+            if depth == 0:
+                return
 
     def record(self):
         base, fields = None, []
@@ -283,6 +330,8 @@ class Parser:
         constructor = self.module.constructor(name)
         if constructor:
             return literal(Variant(*constructor))
+        if name.startswith("para-"):
+            self.skip_type()
         first, *fields = name.split(".")
         if first in self.variables:
             return with_fields(lambda environment: environment[first], fields)
@@ -295,6 +344,7 @@ class Definition:
     def __init__(self, module, name, equations):
         self.module, self.name, self.equations = module, name, equations
         self.count = None
+        self.kept = None
 
     def parse(self):
         parsed = []
@@ -307,6 +357,15 @@ class Definition:
     def __call__(self, *arguments):
         if len(arguments) < self.count:
             return functools.partial(self, *arguments)
+        if self.kept is None:
+            return self.found(arguments)
+        key = tuple(argument if isinstance(argument, int) else id(argument) for argument in arguments)
+        if key not in self.kept:
+            self.kept[key] = arguments, self.found(arguments)
+        return self.kept[key][1]
+
+    def found(self, arguments):
+        """The value for arguments, by the first equation that is about them."""
         for patterns, body in self.equations:
             environment = {}
             for pattern, argument in zip(patterns, arguments):
@@ -372,8 +431,10 @@ class Module:
         base, own_name = self.used[name]
         if base.startswith("Rattle.std."):
             return STANDARD[own_name]
-        if own_name.startswith("roll-"):
+        if own_name.startswith(("roll-", "out-")):
             return lambda record: record
+        if own_name.startswith("para-"):
+            return recursion
         if base.endswith(".TheConstants"):
             return constant(base.split(".")[1], base.split(".")[4], own_name)
         return definition(base, own_name)
@@ -401,6 +462,12 @@ def definition(path, name):
     return module_at(path).value_of(name)
 
 
+def keeping(path, *names):
+    """Lets definitions keep their values for arguments that they had before, from this call to the next one."""
+    for name in names:
+        definition(path, name).kept = {}
+
+
 def lines_of(path):
     """The lines of a file, of which each byte is a character."""
     with open(path, encoding="latin-1", newline="\n") as text:
@@ -413,29 +480,5 @@ def constant(crate, file, name):
     return int(re.search(rf"pub const {name}: \w+ = (\d+);", source)[1])
 
 
-def listed(part):
-    """The elements of a list that may be an option, or what else is there."""
-    inner = part.value if isinstance(part, Some) else part
-    return inner if isinstance(inner, tuple) else () if inner is None else (inner,)
-
-
 def spelling_of(name):
     return "".join(map(chr, name))
-
-
-def shown(value):
-    """A value in one line: names and numbers as they are spelled, with places behind `@`."""
-    if isinstance(value, Record) and set(value) == {"file", "line", "col"}:
-        return f"{value['line']}:{value['col']}"
-    if isinstance(value, Record) and "place" in value:
-        rest = [part for name, part in value.items() if name != "place"]
-        return f"{shown(rest[0])}@{shown(value['place'])}"
-    if isinstance(value, Record):
-        return "{" + ", ".join(f"{name} = {shown(part)}" for name, part in value.items()) + "}"
-    if isinstance(value, Variant):
-        return value.name + (f"({', '.join(map(shown, value.arguments))})" if value.arguments else "")
-    if isinstance(value, Some):
-        return f"Some({shown(value.value)})"
-    if isinstance(value, tuple) and value and isinstance(value[0], int):
-        return spelling_of(value)
-    return f"[{', '.join(map(shown, value))}]" if isinstance(value, tuple) else str(value)

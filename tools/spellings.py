@@ -1,12 +1,16 @@
 #!/usr/bin/env python3
 """Writes the terminals of a grammar and their spellings.
 
-    spellings.py GRAMMAR SPELLINGS CRATE
+    spellings.py GRAMMAR SPELLINGS TREES CRATE
 
-GRAMMAR is the text that certificates.py reads. SPELLINGS has lines 'Kind SPELLING..', and 'Kind/Terminal SPELLING..' where
-several terminals are of one kind of token; a kind that has no such line is a terminal too. Written are
-CRATE/src/terminal.rt: enum Terminal, and the table of spellings, each filled up with spaces to the length of the longest
-one; CRATE/src/kind.rt and CRATE/specs/Kinds.antt: the number of the kind of each terminal.
+GRAMMAR is the text that actions.py reads. SPELLINGS has lines 'Kind SPELLING..', and 'Kind/Terminal SPELLING..' where
+several terminals are of one kind of token; a kind that has no such line is a terminal too. TREES and CRATE are folders of
+crates (crates/NAME). Written are
+
+    TREES/src/terminal.rt      enum Terminal
+    CRATE/src/spelling.rt      the table of spellings, each filled up with spaces to the length of the longest one
+    CRATE/src/kind.rt          the number of the kind of each terminal
+    CRATE/specs/Kinds.antt     .. and its definition
 """
 import os
 import sys
@@ -52,12 +56,16 @@ def wrapped(items, indent):
     return lines + [line.rstrip()]
 
 
-def terminal_file(sources, terminals, pairs):
-    width = max(len(spelling) for spelling, _ in pairs)
+def terminal_file(sources, terminals):
     out = [f"// Written by tools/spellings.py from {sources}.", ""]
     out += ["/// What is told apart among tokens: each spelling that the language has, names and numbers."]
     out += ["#[derive(Clone, Copy)]", "pub enum Terminal {"]
-    out += [f"    {terminal}," for terminal in terminals] + ["}", ""]
+    return out + [f"    {terminal}," for terminal in terminals] + ["}"]
+
+
+def spelling_file(sources, trees, pairs):
+    width = max(len(spelling) for spelling, _ in pairs)
+    out = [f"// Written by tools/spellings.py from {sources}.", "", f"use {trees}::terminal::Terminal;", ""]
     out += ["/// How many bytes the longest spelling has.", f"pub const WIDTH: usize = {width};", ""]
     out += ["/// A spelling of a terminal, filled up with spaces.", "#[derive(Clone, Copy)]", "pub struct Spelling {",
             f"    pub text: [u8; {width}],", "    pub terminal: Terminal,", "}", ""]
@@ -71,10 +79,10 @@ def terminal_file(sources, terminals, pairs):
     return out + wrapped(items, "    ") + ["};"]
 
 
-def kind_file(sources, crate, kinds, terminals):
+def kind_file(sources, trees, crate, kinds, terminals):
     out = [f"// Written by tools/spellings.py from {sources}.", "",
            "ghost use Rattle.std.specs.Prelude.{◌≡◌};", f"ghost use Rattle.{crate}.specs.Kinds.{{kind_of}};", "",
-           "use crate::terminal::Terminal;", "",
+           f"use {trees}::terminal::Terminal;", "",
            "/// The number of a terminal's kind in the table of the grammar.",
            "#[tactic(auto, unfolding(crate::specs::Kinds::kind_of))]", "pub fn kind(terminal: Terminal) -> u8",
            "    ensures { result ≡ kind_of terminal }", "{", "    match terminal {"]
@@ -89,10 +97,10 @@ def named(terminal):
     return "«Type»" if terminal == "Type" else terminal
 
 
-def kinds_file(sources, crate, kinds, terminals):
+def kinds_file(sources, trees, kinds, terminals):
     lines = [f"-- Written by tools/spellings.py from {sources}: the kinds of token, by their numbers."]
-    lines += ["use Rattle.std.specs.Prelude.{ℕ}", f"use Rattle.{crate}.specs.declared.terminal.Terminal.{{Terminal}}"]
-    lines += [f"use Rattle.{crate}.specs.declared.terminal.Terminal.TheVariants.{{{', '.join(map(named, terminals))}}}", ""]
+    lines += ["use Rattle.std.specs.Prelude.{ℕ}", f"use Rattle.{trees}.specs.declared.terminal.Terminal.{{Terminal}}"]
+    lines += [f"use Rattle.{trees}.specs.declared.terminal.Terminal.TheVariants.{{{', '.join(map(named, terminals))}}}", ""]
     lines += ["-- the number of a terminal's kind in the table", "unfoldable pub kind_of : Terminal → ℕ"]
     return lines + [f"kind_of {named(terminal)} = {kinds.index(kind) + 1}" for terminal, kind in terminals.items()]
 
@@ -103,14 +111,15 @@ def write(folder, name, lines):
 
 
 def main():
-    grammar, spelled, folder = sys.argv[1:]
+    grammar, spelled, trees_folder, folder = sys.argv[1:]
     kinds = kinds_of(grammar)
     terminals, pairs = spellings_of(spelled, kinds)
     sources = f"{os.path.basename(grammar)} and {os.path.basename(spelled)}"
-    crate = os.path.basename(os.path.abspath(folder))
-    write(folder, "src/terminal.rt", terminal_file(sources, terminals, pairs))
-    write(folder, "src/kind.rt", kind_file(sources, crate, kinds, terminals))
-    write(folder, "specs/Kinds.antt", kinds_file(sources, crate, kinds, terminals))
+    trees, crate = (os.path.basename(os.path.abspath(name)) for name in (trees_folder, folder))
+    write(trees_folder, "src/terminal.rt", terminal_file(sources, terminals))
+    write(folder, "src/spelling.rt", spelling_file(sources, trees, pairs))
+    write(folder, "src/kind.rt", kind_file(sources, trees, crate, kinds, terminals))
+    write(folder, "specs/Kinds.antt", kinds_file(sources, trees, kinds, terminals))
     print(f"{len(kinds)} kinds of token, {len(terminals)} terminals, {len(pairs)} spellings")
 
 

@@ -1,14 +1,19 @@
 #!/usr/bin/env python3
-"""Runs the definitions of which tree a production makes (specs/ of gb_value, gb_compose, gb_read_form, gb_read_command and
-gb_read_script) on texts. That the code makes these trees is proved; that these trees are meant is looked at here.
+"""Runs the definitions of which tree a text spells (specs/ of gb_script, with the actions of script.txt, and gb_limits) on
+texts. That the code makes these trees is proved; that these trees are meant is looked at here.
 
-    trees.py command|form TEXT..   prints the tree of each text with its places, or its refusal with the place
-    trees.py --check               tells where a tree is not what its text says, in the texts of crates/gb_texts
+    trees.py command|form|entry|hypothesis TEXT..
+                               prints the tree of each text with its places, or its refusal with the place
+    trees.py --check [FILE..]  tells where a tree is not what its text says, in the texts of crates/gb_texts and in the commands
+                               of each script FILE
+    trees.py --random COUNT    .. in texts that are made by chance from the productions of script.txt
 
-For --check each text of data/ that is read as a command or as a form is read. Where stdout says that it is refused, it must
-be refused with this code at this place. All others must leave a tree and nothing else: written out again by the lines of
-trees.txt it must have the tokens of the text, what has a place must begin at the token of this place, and forms must stand
-in brackets where they bind less tightly than what is around them. Goals are not looked at.
+A text of crates/gb_texts that stdout says to be refused must be refused with this code at this place. All other texts must
+leave a tree and nothing else: written out again by the lines of trees.txt it must have the tokens of the text, each node must
+begin at the token of its place, and forms and types must stand in brackets where they bind less tightly than what is around
+them. Of goals those are looked at that stdout says to be read, line by line.
+
+The patterns behind the form of a `have` have the place of what follows their `=>`.
 
 Trees forget, and it makes no difference,
 
@@ -16,218 +21,97 @@ Trees forget, and it makes no difference,
     - a leading `+`, `-` or `*` of a tactic;
     - `-` before a module that a restriction excludes;
     - in which brackets the parameters of a module stand: `(A : T) (B : U)` is `(A : T, B : U)`;
-    - brackets around a type, but for the place of the outermost one;
-    - braces around a block of one statement;
-    - `else { }`;
-    - of two spellings which one it is: of a connective, `&&` or `/\\`, and `||` or `\\/`; of a step, `//` or `trivial`.
-
-Whether a conditional is written with `if` or with `?` is told by the token at its place.
+    - braces around a block of one statement, and `else { }`;
+    - which spelling a connective has, `&&` or `/\\`, and `||` or `\\/`.
 """
+import itertools
 import os
+import random
 import re
 import sys
 from dataclasses import dataclass, field
 
-import certificates
-import spellings
-from definitions import CRATES, Fault, Record, Variant, constant, definition, lines_of, listed, shown, spelling_of
+import grammar
+from chance import Texts
+from definitions import Fault, Record, Variant, constant, definition, keeping, lines_of, spelling_of
+from texts import FINAL, Lexer, Refusal, commands_of, expected_answers, place_at
 
-TOOLS = os.path.dirname(os.path.abspath(__file__))
-TEXTS = os.path.join(CRATES, "gb_texts")
-PARTS = ["command", "form"]
-
-
-# Tokens.
-
-@dataclass
-class Token:
-    kind: str
-    terminal: str
-    spelling: str
-    place: Record
+LIMITS = "Rattle.gb_limits.specs.Limits"
+STARTS = ["command", "form", "entry", "hypothesis"]
 
 
-class Refusal(Exception):
-    """A text is refused, with a code and a place."""
-
-    def __init__(self, code, place):
-        self.answer = f"{code} {place['line']} {place['col']}"
-
-
-class Lexer:
-    """Finds the tokens of texts: their symbols are those of gb_lex."""
-
-    def __init__(self, kinds):
-        triples, pairs, singles = (definition("Rattle.gb_lex.specs.Symbol", name) for name in ("triples", "pairs", "singles"))
-        symbols = [re.escape(spelling_of(name)) for name in triples + pairs] + [re.escape(chr(byte)) for byte in singles]
-        self.pattern = re.compile("|".join([
-            r"(?P<Name>[A-Za-z_][A-Za-z0-9_']*)", r"(?P<Number>[0-9]+)", r"(?P<Dot>\.(?=[A-Za-z_]))",
-            r"(?P<Final>\.(?=[ \t\r\n]|\(\*|\Z))", f"(?P<Other>{'|'.join(symbols)})"]))
-        terminals, spelled = spellings.spellings_of(os.path.join(TOOLS, "spellings.txt"), kinds)
-        self.known = {spelling: (terminals[terminal], terminal) for spelling, terminal in spelled}
-
-    def tokens(self, text):
-        tokens, at = [], 0
-        while at < len(text):
-            size = blank_size(text, at)
-            if not size:
-                found = self.pattern.match(text, at)
-                if not found:
-                    raise Refusal("E01", place_at(text, at))
-                group, spelling = found.lastgroup, found[0]
-                known = (group, group) if group == "Final" else self.known.get(spelling, (group, group))
-                tokens.append(Token(*known, spelling, place_at(text, at)))
-                size = len(spelling)
-            at += size
-        return tokens
-
-
-def place_at(text, at):
-    return Record(file=0, line=text.count("\n", 0, at) + 1, col=at - text.rfind("\n", 0, at))
-
-
-def blank_size(text, at):
-    """The size of the white space or the comment at a position; 0 where none stands there."""
-    if text[at] in " \t\r\n":
-        return 1
-    if not text.startswith("(*", at):
-        return 0
-    depth = 0
-    for mark in re.compile(r"\(\*|\*\)").finditer(text, at):
-        depth += 1 if mark[0] == "(*" else -1
-        if depth == 0:
-            return mark.end() - at
-    return len(text) - at
-
-
-# Texts.
-
-@dataclass
-class Step:
-    """A production of a part, the first of the tokens that it derives, and the one behind the last."""
-    part: str
-    rule: str
-    start: int
-    end: int = 0
-
+# Reading.
 
 @dataclass
 class Reading:
-    """What is read of a text: the tree lies on one of the stacks of the values."""
+    """What is read of a text: its tokens, the place of its end, the steps that derive it and the values that these leave."""
     tokens: list
+    end: Record
     steps: list
-    values: Record
+    values: tuple
 
     @property
     def tree(self):
-        commands = self.values["commands"]["commands"]
-        return (commands or self.values["formulas"]["forms"]["one"] or (None,))[0]
+        """The one tree that is left."""
+        if [value.name for value in self.values] != ["Tree"]:
+            raise Fault(f"no tree is left, but {len(self.values)} values")
+        return self.values[0].arguments[0]
 
 
-def rule_of(name):
-    """A production's name in the grammar, `Group.Inner.Name` or `Sort List`, as a value."""
-    if " " in name:
-        sort, kind = name.split()
-        names = Variant("gb_table.rule.Sort", sort), Variant("gb_table.rule.ListRule", kind)
-        return Variant("gb_table.rule.Rule", "List", names)
-    names, inner = name.split("."), ()
-    for enum, variant in reversed(list(zip(["Rule"] + names, names))):
-        inner = (Variant("gb_table.rule." + enum, variant, inner),)
-    return inner[0]
+def head_of(node):
+    return node["head"].name
+
+
+def step_of(step):
+    """A step as a value of the definitions."""
+    action, _, head = step.production.action.partition(".")
+    heads = (Variant("gb_script.head.Head", head),) if head else ()
+    rule = Record(takes=step.production.takes, action=Variant("gb_script.action.Action", action, heads),
+                  mark=Variant("gb_script.action.Mark", step.production.mark or "Plain"))
+    return Record(rule=rule, at=step.start)
 
 
 class Reader:
-    """Reads texts by the grammar, and runs the definitions of its productions."""
+    """Reads texts by the grammar, and runs the definitions on what it reads."""
 
     def __init__(self):
-        kinds, starts, parts = certificates.parse(lines_of(os.path.join(TOOLS, "grammar.txt")))
-        table = certificates.Certificates(kinds, starts, parts)
-        self.kinds = table.kinds
-        self.choices = {name: {} for name in parts}
-        for part, production, starting, stopping in table.rows():
-            if production.stage == 0:
-                self.choices[part.name].update((kind, production) for kind in starting - stopping)
-        self.lexer = Lexer(kinds)
-        left_out = lines_of(os.path.join(CRATES, "gb_text", "src", "left_out.rt"))
-        self.left_out = [word for line in left_out for word in re.findall(r'\*b"(\w+) *"', line)]
-        self.made = definition("Rattle.gb_read_script.specs.Built", "made")
-        self.no_values = definition("Rattle.gb_value.specs.Values", "no_values")
-        self.levels = constant("gb_text", "limits", "LEVELS")
+        self.grammar = grammar.grammar()
+        self.readers = [grammar.Reader(self.grammar, stage) for stage in range(len(grammar.STAGES))]
+        self.lexer = Lexer(list(self.grammar.kinds))
+        self.built = definition("Rattle.gb_script.specs.Build", "built")
+        self.depth_at, self.is_too_many = definition(LIMITS, "depth_at"), definition(LIMITS, "is_too_many")
+        self.levels = constant("gb_limits", "limits", "LEVELS")
 
-    def read(self, part, text):
+    def read(self, part, text, stage=0):
         """What is read of a text as this part."""
-        tokens, end = self.lexer.tokens(text), place_at(text, len(text))
+        tokens = self.lexer.tokens(text)
+        self.lexer.check_left_out(tokens)
+        return self.read_tokens(part, tokens, place_at(text, len(text)), stage)
+
+    def read_tokens(self, part, tokens, end, stage):
         places = [token.place for token in tokens] + [end]
-        for before, token in zip([None] + tokens, tokens):
-            behind = (before and before.spelling, token.spelling)
-            if token.spelling in self.left_out or behind in (("{", "+"), ("proc", "*")):
-                raise Refusal("E26", token.place)
-        steps, fault = self.derived(part, tokens)
-        lexemes = [Record(terminal=Variant("gb_text.terminal.Terminal", token.terminal),
-                          word=Record(name=tuple(map(ord, token.spelling)), place=token.place)) for token in tokens]
-        whole = Record(lexemes=tuple(lexemes), end=end)
-        rules = [(rule_of(step.rule), step.start) for step in steps]
-        deep, long = passed_limits(whole, rules, len(tokens) if fault is None else fault, self.levels)
-        for code, at in (("E03", deep), ("E02", fault), ("E28", long)):
-            if at is not None:
-                raise Refusal(code, places[at])
+        steps, fault = self.readers[stage].derived(part, [token.kind for token in tokens])
+        lexemes = [Record(terminal=Variant("gb_script.terminal.Terminal", token.terminal),
+                          name=tuple(map(ord, token.spelling)), place=token.place) for token in tokens]
+        text = Record(lexemes=tuple(lexemes), end=end)
+        rules = tuple(map(step_of, steps))
+        keeping(LIMITS, "walked", "brackets_behind", "taken", "stepped")
+        if stage == 0:
+            self.check_depth(text, rules, len(tokens) if fault is None else fault)
+        if fault is not None:
+            raise Refusal("E02", places[fault])
+        for at, token in enumerate(tokens):
+            if self.is_too_many(text, rules, at):
+                raise Refusal("E28", token.place)
         for token in tokens:
             if token.spelling.isdigit() and int(token.spelling) >= 2 ** 127:
                 raise Refusal("E20", token.place)
-        values = self.no_values
-        for rule, at in reversed(rules):
-            values = self.made(whole, rule, at, values)
-        return Reading(tokens, steps, values)
+        return Reading(tokens, end, steps, self.built(text, rules))
 
-    def derived(self, part, tokens):
-        """The steps that derive the tokens, and None; or those before the first token that can't follow, and its number."""
-        kinds = [self.kinds[token.kind] for token in tokens] + [0]
-        stack, steps, at = [part], [], 0
-        while stack:
-            symbol = stack.pop()
-            if isinstance(symbol, Step):
-                symbol.end = at
-            elif symbol in self.choices:
-                production = self.choices[symbol].get(kinds[at])
-                if production is None:
-                    break
-                steps.append(Step(symbol, production.rule, at))
-                stack += [steps[-1]] + production.body[::-1]
-            elif kinds[at] == self.kinds[symbol]:
-                at += 1
-            else:
-                break
-        else:
-            if at == len(tokens):
-                return steps, None
-        return [step for step in steps if step.start < at], at
-
-
-def level(name, *arguments):
-    """What a definition of levels makes of its arguments."""
-    return definition("Rattle.gb_text.specs.Level", name)(*arguments)
-
-
-def passed_limits(text, rules, fault, limit):
-    """The first token in too many levels, and the first operand too many. The rules derive the tokens up to a fault."""
-    levels = (level("fresh", Variant("gb_text.level.Opening", "Bracket")),)
-    rules, long = rules[::-1], None
-    for at, lexeme in enumerate(text["lexemes"][:fault]):
-        while rules and rules[-1][1] <= at:
-            rule, start = rules.pop()
-            levels = level("on_top", level("counted", text, rule, start), levels)
-            if long is None and level("top_is_long", levels):
-                long = at
-            levels = level("nested", rule, levels)
-        levels = level("bracketed", lexeme["terminal"], levels)
-        if len(levels) - 1 > limit:
-            return at, long
-    brackets = level("open_brackets", levels)
-    for at, lexeme in enumerate(text["lexemes"][fault:], fault):
-        brackets = level("brackets_after", lexeme["terminal"], brackets)
-        if brackets > limit:
-            return at, long
-    return None, long
+    def check_depth(self, text, rules, fault):
+        for at, lexeme in enumerate(text["lexemes"]):
+            if self.depth_at(text, rules, fault, at) > self.levels:
+                raise Refusal("E03", lexeme["place"])
 
 
 # Trees, written out again.
@@ -239,100 +123,122 @@ class Word:
     places: list = field(default_factory=list)
 
 
-ITEM = re.compile(r"\$([\w.]+?)([?!^/@<>~].*)?")
+ITEM = re.compile(r"""\$(?:(?P<from>-?\d+)\.\.(?P<to>-?\d+)?|(?P<at>-?\d+)(?:\.(?P<inner>\d+))?|(?P<own>text|\^))
+                      (?P<test>[?!])?(?:\+(?P<behind>\d+))?(?:@(?P<line>\w+))?(?:(?P<mark>[<>~])(?P<level>\d+))?(?:/(?P<between>.+))?""", re.X)
 
 
-def part_of(value, path):
-    for name in path.split("."):
-        value = value[name] if isinstance(value, Record) else value.arguments[int(name)]
-    return value
+def elements(node):
+    """What stands in a list; a node alone."""
+    return node["parts"] if head_of(node) == "List" else (node,)
 
 
 class Writer:
-    """Writes trees of a text by the lines of trees.txt."""
+    """Writes trees by the lines of trees.txt."""
 
     def __init__(self):
-        self.templates, self.levels, self.spelled, self.misplaced = {}, {}, {}, []
-        for line in lines_of(os.path.join(TOOLS, "trees.txt")):
-            head, _, template = line.partition(":")
-            name, _, number = head.partition(" = ")
-            if head and head[0] != "#":
-                self.templates[name], self.levels[name] = template.split(), int(number or 12)
+        self.lines, self.levels, self.misplaced = {}, {}, []
+        for line in lines_of(os.path.join(grammar.TOOLS, "trees.txt")):
+            start, _, words = line.partition(":")
+            name, _, level = start.partition(" = ")
+            if start and start[0] != "#":
+                self.lines[name] = [ITEM.fullmatch(word) or word for word in words.split()]
+                self.levels[name] = int(level or 12)
 
-    def written(self, reading):
-        """The words of a tree, and the forms in it that would stand in brackets."""
-        self.spelled, self.misplaced = {shown(token.place): token.spelling for token in reading.tokens}, []
-        return self.words(reading.tree), self.misplaced
+    def written(self, tree):
+        """The words of a tree, and the nodes in it that would stand in brackets."""
+        self.misplaced = []
+        return self.words(tree), self.misplaced
 
-    def words(self, value):
-        """The words of a value."""
-        if isinstance(value, Variant):
-            return self.filled(value.full_name, value)
-        if isinstance(value, Record):
-            return self.record_words(value)
-        if isinstance(value, tuple) and value and isinstance(value[0], int):
-            return [Word(piece) for piece in re.split(r"(\.)", spelling_of(value))]
-        return [word for element in listed(value) for word in self.words(element)]
-
-    def record_words(self, record):
-        words = self.filled(self.line_of(record), record.get("shape", record))
-        if "place" in record and words:
-            words[0].places.append(record["place"])
-        return words
-
-    def line_of(self, record):
-        """The name of the line of trees.txt for a record."""
-        if "shape" not in record:
-            return ",".join(sorted(set(record) - {"place"}))
-        name, arguments = record["shape"].full_name, record["shape"].arguments[:1]
-        kinds = [self.spelled.get(shown(record["place"]))] + [kind.name for kind in arguments if isinstance(kind, Variant)]
-        return next((f"{name} {kind}" for kind in kinds if f"{name} {kind}" in self.templates), name)
-
-    def goes_on(self, form):
-        """From which level on an operator behind a form belongs to the end of the form; 13 where none does."""
-        last = ITEM.fullmatch(self.templates[self.line_of(form)][-1])
-        mark = last and last[2] or ""
-        part = listed(part_of(form["shape"], last[1]))[-1:] if mark[:1] in ("~", ">") else ()
-        return 13 if not part else int(mark[1:]) if mark[0] == "~" else self.goes_on(part[0])
-
-    def check_levels(self, forms, mark, operator):
-        for at, form in enumerate(forms):
-            followed = mark[0] == "<" or at + 1 < len(forms)
-            if self.levels[self.line_of(form)] < int(mark[1:]) or followed and operator >= self.goes_on(form):
-                self.misplaced.append(form)
-
-    def filled(self, name, value):
-        """A line of trees.txt, with the parts of a value."""
-        if name not in self.templates:
+    def words(self, node, line=None):
+        """The words of a node, by the line of this name where its head has one."""
+        if head_of(node) == "List":
+            return [word for part in node["parts"] for word in self.words(part, line)]
+        name = f"{head_of(node)} {line}" if f"{head_of(node)} {line}" in self.lines else head_of(node)
+        if name not in self.lines:
             raise Fault(f"trees.txt has no line {name}")
-        words, places, skipping = [], [], False
-        for item in self.templates[name]:
-            found = ITEM.fullmatch(item)
+        return self.filled(node, self.lines[name])
+
+    def filled(self, node, items):
+        """The words of a line, with the parts of a node."""
+        words, unwritten, skipping = [], set(range(len(node["parts"]))), False
+        own = [item for item in items if not isinstance(item, str) and item["own"]]
+        places = [] if any(item["own"] == "^" for item in own) else [node["place"]]
+        if node["text"] and not any(item["own"] == "text" for item in own):
+            raise Fault(f"{head_of(node)} has a text")
+        for item in items:
+            new = []
             if item == "$.":
                 skipping = False
-            elif not skipping and not found:
-                words.append(Word(item, places))
-                places = []
-            elif not skipping:
-                part, mark = part_of(value, found[1]), found[2] or ""
-                if mark in ("?", "!"):
-                    skipping = (part in (None, (), False)) == (mark == "?")
-                elif mark == "^":
-                    places = [part]
-                else:
-                    words += self.separated(part, mark) if mark[:1] in ("/", "@") else self.words(part)
-                if mark[:1] in ("<", ">"):
-                    self.check_levels(listed(part), mark, self.levels[name])
+            elif skipping:
+                continue
+            elif isinstance(item, str):
+                new = [Word(item)]
+            elif item["own"] == "^":
+                places = [node["place"]]
+            elif item["own"] == "text":
+                new = [Word(spelling_of(node["text"]))]
+            else:
+                found = self.found(node, item)
+                if item["test"]:
+                    skipping = bool(found) == (item["test"] == "!")
+                if not item["test"] or not found:
+                    unwritten -= self.numbers(node, item)
+                if not item["test"]:
+                    new = self.part_words(node, item, found)
+            if new:
+                new[0].places += places
+                words, places = words + new, []
+        if unwritten:
+            raise Fault(f"parts {sorted(unwritten)} of {head_of(node)} are not written")
         return words
 
-    def separated(self, part, mark):
-        """The words of the elements of a list, each by a line of its own where the mark names one."""
-        name, _, separator = mark.lstrip("@").partition("/")
+    def part_words(self, node, item, found):
+        if item["mark"]:
+            self.check_levels(found, item["mark"], int(item["level"]), self.levels[head_of(node)])
         words = []
-        for element in listed(part):
-            words += [Word(separator)] if words and separator else []
-            words += self.filled(name, element) if name else self.words(element)
+        for element in found:
+            words += [Word(item["between"])] if words and item["between"] else []
+            words += self.words(element, item["line"])
         return words
+
+    @staticmethod
+    def numbers(node, item):
+        """The numbers of the parts that an item speaks of."""
+        count = len(node["parts"])
+        if item["from"]:
+            return set(range(count)[int(item["from"]):int(item["to"]) if item["to"] else None])
+        numbers = [int(item["at"])] + ([int(item["behind"])] if item["behind"] else [])
+        if not all(-count <= number < count for number in numbers):
+            raise Fault(f"{head_of(node)} has {count} parts")
+        return {number % count for number in numbers}
+
+    def found(self, node, item):
+        """The nodes that an item speaks of."""
+        parts = [node["parts"][number] for number in sorted(self.numbers(node, item))]
+        if item["from"]:
+            return parts
+        if item["behind"]:
+            front, behind = parts
+            return [Record(behind, parts=(front,) + behind["parts"], place=front["place"])]
+        inner = elements(parts[0])
+        if item["inner"]:
+            if int(item["inner"]) >= len(inner):
+                raise Fault(f"a list of {head_of(node)} has {len(inner)} parts")
+            return [inner[int(item["inner"])]]
+        return list(inner)
+
+    def goes_on(self, node):
+        """From which level on an operator behind a node belongs to the end of the node; 13 where none does."""
+        last = self.lines[head_of(node)][-1:]
+        if not last or isinstance(last[0], str) or last[0]["mark"] not in ("~", ">"):
+            return 13
+        return int(last[0]["level"]) if last[0]["mark"] == "~" else self.goes_on(self.found(node, last[0])[-1])
+
+    def check_levels(self, nodes, mark, level, operator):
+        for at, node in enumerate(nodes):
+            followed = mark == "<" or at + 1 < len(nodes)
+            if self.levels.get(head_of(node), 0) < level or followed and operator >= self.goes_on(node):
+                self.misplaced.append(node)
 
 
 SPELLED_ALIKE = {"&&": "/\\", "||": "\\/"}
@@ -342,30 +248,28 @@ def remembered(reading):
     """The tokens of a text that its tree remembers, each with the places that may be told of it."""
     tokens = reading.tokens
     spelled = [SPELLED_ALIKE.get(token.spelling, token.spelling) for token in tokens]
-    dropped, moved, before, behind = set(), set(), [0] * len(tokens), [0] * len(tokens)
+    dropped, moved, later, before, behind = set(), set(), set(), [0] * len(tokens), [0] * len(tokens)
     for step in reading.steps:
         first, last = step.start, step.end - 1
-        if step.rule == "Ty.Bracketed" and spelled[last] == ")":
-            moved.add(first)
-            dropped.add(last)
-        elif step.rule == "Tactic.Tactic" and spelled[first] in ("+", "-", "*"):
+        if step.part == "tactic" and spelled[first] in ("+", "-", "*"):
             moved.add(first)
         elif step.part == "excluded" and spelled[first] == "-":
             dropped.add(first)
         elif step.part == "more_module_parameters" and spelled[first:first + 2] == [")", "("]:
             spelled[first] = ","
             dropped.add(first + 1)
-        elif step.part in ("block", "one_statement") and step.rule == "Statement Single":
+        elif step.part in ("block", "one_statement") and step.production.body == ["statement"]:
             before[first] += 1
             behind[last] += 1
         elif step.part == "alternative" and spelled[first:last + 1] == ["else", "{", "}"]:
             dropped.update((first, first + 1, last))
-        elif step.rule == "Step.Plain" and spelled[first] == "//":
-            spelled[first] = "trivial"
+        elif step.part == "have_patterns":
+            later.add(first - 1)
     words, places = [], []
+    all_places = [token.place for token in tokens] + [reading.end]
     for at, token in enumerate(tokens):
         words += [Word("{")] * before[at]
-        places.append(token.place)
+        places += all_places[at:at + 2] if at in later else [token.place]
         if at not in dropped | moved:
             words.append(Word(spelled[at], places))
         if at not in moved:
@@ -374,16 +278,21 @@ def remembered(reading):
     return words
 
 
-def size_of(values):
-    """How many values lie on stacks."""
-    return sum(map(size_of, values.values())) if isinstance(values, Record) else len(values)
+def shown(value):
+    """A tree in one line: the head of each node, its text, its place behind `@`, and its parts in brackets."""
+    if "line" in value:
+        return f"{value['line']}:{value['col']}"
+    text = f" '{spelling_of(value['text'])}'" if value["text"] else ""
+    parts = f"({', '.join(map(shown, value['parts']))})" if value["parts"] else ""
+    return f"{head_of(value)}{text}@{shown(value['place'])}{parts}"
 
 
 def differences(part, reading, writer):
     """What is wrong with the tree of a text."""
-    if size_of(reading.values) != 1 or reading.tree is None:
-        return [f"{size_of(reading.values)} values are left"]
-    words, misplaced = writer.written(reading)
+    try:
+        words, misplaced = writer.written(reading.tree)
+    except Fault as fault:
+        return [str(fault)]
     words += [Word(".")] * (part == "command")
     expected = remembered(reading)
     if [word.spelling for word in words] != [word.spelling for word in expected]:
@@ -393,53 +302,121 @@ def differences(part, reading, writer):
     return found + [f"no brackets around {shown(form)}" for form in misplaced]
 
 
-# What is printed.
+# What is looked at.
 
-def expected_answers():
-    """The part of each text of gb_texts, the text, its line in the file, and the line that is printed for it."""
-    words, answers = lines_of(os.path.join(TEXTS, "args")), iter(lines_of(os.path.join(TEXTS, "stdout")))
-    for what, file in zip(words[::2], words[1::2]):
-        for line in lines_of(os.path.join(TEXTS, "data", file)):
-            answer = next(answers)
-            if what in PARTS:
-                yield what, line, line, answer
-            elif what == "repeated":
-                count, first, middle, last = line.split(";", 3)
-                yield "form", first * int(count) + middle + last * int(count), line, answer
+class Check:
+    """Looks at texts, prints what is wrong, and counts."""
 
+    def __init__(self):
+        self.reader, self.writer = Reader(), Writer()
+        self.read = self.refused = self.wrong = 0
 
-def check():
-    """Prints what is wrong, and how many texts were looked at; tells whether nothing is wrong."""
-    reader, writer = Reader(), Writer()
-    read = refused = wrong = 0
-    for part, text, line, expected in expected_answers():
+    def look(self, part, text, stage=0, expected=None):
+        """Looks at a text. What is expected is `ok` or a refusal; of most texts nothing is known before."""
         found, answer = [], "ok"
         try:
-            found = differences(part, reader.read(part, text), writer)
+            found = differences(part, self.reader.read(part, text, stage), self.writer)
         except Refusal as refusal:
             answer = refusal.answer
-        except Fault as fault:
-            found = [str(fault)]
-        if f"{answer} {line}" != expected:
-            found.append(f"{answer}, and not as expected")
+        if expected not in (answer, None):
+            found.append(f"{answer}, and not {expected}")
+        self.tell(part, text, found, answer)
+
+    def look_at_goal(self, text, expected):
+        """Looks at the lines of a goal; what is expected is `ok`, with a letter for each line before the conclusion."""
+        tokens, end = self.reader.lexer.tokens(text), place_at(text, len(text))
+        found, letters, conclusion = [], "", False
+        for _, group in itertools.groupby(tokens, lambda token: token.place["line"]):
+            line = list(group)
+            if [token.spelling for token in line] == ["-", "-", "-"] and not conclusion:
+                conclusion = True
+                continue
+            for part in ["form"] if conclusion else ["entry", "hypothesis"]:
+                try:
+                    reading = self.reader.read_tokens(part, line, end, 1)
+                except Refusal:
+                    continue
+                found += differences(part, reading, self.writer)
+                letters += {"form": "", "entry": "b", "hypothesis": "h"}[part]
+                break
+            else:
+                found.append("a line is refused")
+        if f"ok {letters}".strip() != expected:
+            found.append(f"read as {letters}")
+        self.tell("goal", text, found, "ok")
+
+    def tell(self, part, text, found, answer):
         for difference in found:
-            print(f"{expected[:200]}\n    {difference[:400]}")
-        read, refused, wrong = read + (answer == "ok"), refused + (answer != "ok"), wrong + bool(found)
-    print(f"{read} texts read and written again, {refused} refused, {wrong} with a difference")
-    return wrong == 0
+            print(f"{part}: {text[:300]}\n    {difference[:600]}")
+        self.read, self.refused, self.wrong = self.read + (answer == "ok"), self.refused + (answer != "ok"), self.wrong + bool(found)
+
+    def told(self):
+        """Prints how many texts were looked at; tells whether nothing is wrong."""
+        print(f"{self.read} texts read and written again, {self.refused} refused, {self.wrong} with a difference")
+        return self.wrong == 0
+
+
+def answer_of(line, given):
+    """An answer of stdout without the text that stands behind it."""
+    return given.removesuffix(line).strip()
+
+
+def check(files):
+    looking = Check()
+    for what, text, line, given in expected_answers():
+        expected = answer_of(line, given)
+        if what in STARTS:
+            looking.look(what, text, expected=expected)
+        elif expected.startswith("ok"):
+            looking.look_at_goal(text, expected)
+    for file in files:
+        for text in commands_of(file):
+            looking.look("command", text)
+    return looking.told()
+
+
+def random_texts(reader, count, chance):
+    """Texts by chance from the productions, each of them by turns, with the part and the stage of each text."""
+    spellings = {}
+    for spelling, kind in reader.lexer.spellings().items():
+        spellings.setdefault(kind, []).append(spelling)
+    makers = []
+    for stage in range(len(grammar.STAGES)):
+        bodies = {part.name: [p.body for p in part.productions if p.stage <= stage] for part in reader.grammar.parts.values()}
+        makers.append(Texts({name: its for name, its in bodies.items() if its}, chance))
+    productions = reader.grammar.productions()
+    for number in range(count):
+        part, production = productions[number % len(productions)]
+        stage = max(production.stage, chance.choice([0, 0, 1]))
+        starts = [start for start in (STARTS[1:] if stage else STARTS) if start in makers[stage].distances(part.name)]
+        if not starts:
+            stage, starts = 0, ["command"]
+        start = chance.choice(starts)
+        kinds = makers[stage].made(start, part.name, production.body, chance.choice([5, 20, 60, 150]))
+        words = [chance.choice(spellings.get(kind, ["."])) for kind in kinds]
+        yield start, "".join(word if word in (".", FINAL) else word + " " for word in words), stage
+
+
+def check_random(count):
+    looking = Check()
+    for start, text, stage in random_texts(looking.reader, count, random.Random(1)):
+        looking.look(start, text, stage)
+    return looking.told()
 
 
 def main():
-    sys.setrecursionlimit(20000)
+    sys.setrecursionlimit(1000000)
     words = sys.argv[1:]
-    if words == ["--check"]:
-        sys.exit(not check())
-    if len(words) < 2 or words[0] not in PARTS:
+    if words[:1] == ["--check"]:
+        sys.exit(not check(words[1:]))
+    if words[:1] == ["--random"] and len(words) == 2:
+        sys.exit(not check_random(int(words[1])))
+    if len(words) < 2 or words[0] not in STARTS:
         sys.exit(__doc__)
     reader = Reader()
     for text in words[1:]:
         try:
-            print(shown(reader.read(words[0], os.fsencode(text).decode("latin-1")).tree))
+            print(shown(reader.read(words[0], os.fsencode(text).decode("latin-1"), int(words[0] in STARTS[2:])).tree))
         except Refusal as refusal:
             print(refusal.answer)
 

@@ -1,17 +1,17 @@
 -- Modules, lemmas and the words of a proof keep sessions good.
-use Rattle.std.proofs.Common.{◌≡◌, List, [], ◌∷◌, ◌++◌, length, None, ap, sym, ◌∙◌, subst}
+use Rattle.std.proofs.Common.{◌≡◌, ℕ, List, [], ◌∷◌, ◌++◌, length, None, ap, sym, ◌∙◌, subst}
 use Rattle.std.specs.List.{AllByRecursion}
 use Rattle.gb_core.specs.declared.place.Place.{Place}
 use Rattle.gb_core.specs.declared.refusal.Why.TheVariants.{NoGoal}
+use Rattle.gb_goal.specs.Scope.{entry_of}
 use Rattle.gb_goal.specs.declared.scope.Entry.TheVariants as entry
 use Rattle.gb_goal.specs.declared.sequent.Sequent.{Sequent}
-use Rattle.gb_tree.specs.declared.command.LemmaTree.{LemmaTree}
-use Rattle.gb_tree.specs.declared.program.ModuleTree.{ModuleTree}
+use Rattle.gb_script.specs.declared.tree.Node.{Node}
 use Rattle.gb_holds.specs.Declared.{declared}
 use Rattle.gb_holds.specs.Holds.{Holds}
 use Rattle.gb_holds.proofs.Scopes.{gained_lemma, gained_module}
 use Rattle.gb_elab.specs.Answers.Answer.{given}
-use Rattle.gb_elab_mod.specs.Lemmas.{statement_given}
+use Rattle.gb_elab_mod.specs.Lemmas.{lemma_name, statement_given}
 use Rattle.gb_elab_mod.specs.Modules.{module_given}
 use Rattle.gb_ready.proofs.Growing.{grows}
 use Rattle.gb_given.proofs.Given.{given_bind, given_is, if_given}
@@ -24,7 +24,7 @@ use Rattle.gb_accepted.proofs.Given.{nothing_given, given_outside}
 use Rattle.gb_accepted.proofs.Good.{IsGoodProof, IsGoodIfOpen, IsGood}
 use Rattle.gb_accepted.proofs.Later.{names_stay, hold_later, name_added, hold_with}
 
-pub declares_keeps : (s : Session) (t : ModuleTree) (place : Place) (next : Session) → IsGood s → declares s t place ≡ given next → IsGood next
+pub declares_keeps : (s : Session) (t : Node) (place : Place) (next : Session) → IsGood s → declares s t place ≡ given next → IsGood next
 declares_keeps s t place next g e =
     let a = given_bind (outside s.proof place) _ next e in
     let b = given_bind (module_given s.scope t) _ next a.2 in
@@ -37,8 +37,9 @@ declares_keeps s t place next g e =
       proof = subst (IsGoodIfOpen _) (sym none) tt;
     })
 
-pub opens_keeps : (s : Session) (t : LemmaTree) (place : Place) (next : Session) → IsGood s → opens s t place ≡ given next → IsGood next
-opens_keeps s t place next g e =
+pub opens_keeps : (s : Session) (t : Node) (name : List ℕ) (place : Place) (next : Session) → IsGood s → lemma_name t ≡ name →
+    opens s t name place ≡ given next → IsGood next
+opens_keeps s t name place next g named e =
     let a = given_bind (outside s.proof place) _ next e in
     let b = given_bind (statement_given s.scope t) _ next a.2 in
     let c = given_bind (within (declaration_limit (length s.scope)) place) _ next b.2 in
@@ -48,7 +49,7 @@ opens_keeps s t place next g e =
       typed = g.typed;
       sound = g.sound;
       lemmas = record { names = g.lemmas.names; hold = g.lemmas.hold };
-      proof = record { free = typed.1; statement = typed.0; goals = (typed.0, tt); leads = λ hs. hs.0 };
+      proof = record { free = subst (λ n. entry_of s.scope n ≡ None) named typed.1; statement = typed.0; goals = (typed.0, tt); leads = λ hs. hs.0 };
     })
 
 pub begun_keeps : (s : Session) (p : OpenProof) (place : Place) (next : Session) → IsGood s → IsGoodProof s.scope p → begun s p place ≡ given next → IsGood next

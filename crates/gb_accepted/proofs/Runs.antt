@@ -1,16 +1,17 @@
 -- Commands, and scripts of them, keep sessions good.
-use Rattle.std.proofs.Common.{ℕ, zero, suc, List, take, drop, Option, Some, None, refl, sym, subst}
+use Rattle.std.proofs.Common.{◌≡◌, ℕ, zero, suc, List, ◌∷◌, take, drop, Option, Some, None, refl, ap, sym, subst}
 use Rattle.gb_core.specs.declared.place.Place.{Place}
 use Rattle.gb_lex.specs.Lex.{cut_of}
 use Rattle.gb_lex.specs.PlaceAfter.{place_after}
 use Rattle.gb_lex.specs.declared.token.Cut.{Cut}
 use Rattle.gb_lex.specs.declared.token.Cut.TheVariants as cut
-use Rattle.gb_tree.specs.declared.command.Command.{Command}
-use Rattle.gb_tree.specs.declared.command.CommandShape.{CommandShape}
-use Rattle.gb_tree.specs.declared.command.CommandShape.TheVariants as command
-use Rattle.gb_tree.specs.declared.step.StepTree.{StepTree}
+use Rattle.gb_script.specs.declared.head.Head.{Head}
+use Rattle.gb_script.specs.declared.head.Head.TheVariants as head
+use Rattle.gb_script.specs.declared.tree.Node.{Node}
+use Rattle.gb_script.specs.Tree.{head_of, text_of, parts_of, place_of}
 use Rattle.gb_elab.specs.Answers.{Answer}
 use Rattle.gb_elab.specs.Answers.Answer.{given}
+use Rattle.gb_elab_mod.specs.Lemmas.{name_in}
 use Rattle.gb_given.proofs.Given.{given_is}
 use Rattle.gb_verdict.specs.Session.{Session, OpenProof, fresh_session}
 use Rattle.gb_verdict.specs.Commands.{InProof, Proves, sole_rule, ComesToOf, ComesTo}
@@ -25,24 +26,28 @@ in_proof : (s : Session) (o : Option OpenProof) (place : Place) (P : OpenProof �
 in_proof s None place P next h i = nothing_given _ _ next (sym i)
 in_proof s (Some p) place P next h i = (p, h, i)
 
-proves_keep : (s : Session) (t : Option StepTree) (place : Place) (next : Session) → IsGood s → Proves s t place (given next) → IsGood next
+proves_keep : (s : Session) (t : Option Node) (place : Place) (next : Session) → IsGood s → Proves s t place (given next) → IsGood next
 proves_keep s (Some t) place next g e =
-    let i = in_proof s s.proof t.place _ next g.proof e in works_keep i.0.goals s i.0 t next g i.1 refl i.2
+    let i = in_proof s s.proof (place_of t) _ next g.proof e in works_keep i.0.goals s i.0 t next g i.1 refl i.2
 proves_keep s None place next g e = nothing_given _ _ next (sym e)
 
-shape_keeps : (s : Session) (c : CommandShape) (place : Place) (next : Session) → IsGood s → ComesToOf s c place (given next) → IsGood next
-shape_keeps s (command.Module t) place next g e = declares_keeps s t place next g (sym e)
-shape_keeps s (command.Lemma t) place next g e = opens_keeps s t place next g (sym e)
-shape_keeps s command.Proof place next g e =
-    let i = in_proof s s.proof place _ next g.proof e in begun_keeps s i.0 place next g i.1 (sym i.2)
-shape_keeps s command.Qed place next g e =
-    let i = in_proof s s.proof place _ next g.proof e in ended_keeps i.0.goals s i.0 place next g i.1 i.1.leads (sym i.2)
-shape_keeps s (command.Tactic t) place next g e = proves_keep s (sole_rule t) t.first.place next g e
-shape_keeps s _ place next g e = nothing_given _ _ next (sym e)
+head_keeps : (s : Session) (c : Node) (h : Head) (parts : List Node) (next : Session) → parts_of c ≡ parts → IsGood s →
+    ComesToOf s c h parts (given next) → IsGood next
+head_keeps s c head.Module parts next are g e = declares_keeps s c (place_of c) next g (sym e)
+head_keeps s c head.AscribedModule parts next are g e = declares_keeps s c (place_of c) next g (sym e)
+head_keeps s c head.Lemma (name ∷ parts) next are g e = opens_keeps s c (text_of name) (place_of c) next g (ap name_in are) (sym e)
+head_keeps s c head.Proof parts next are g e =
+    let i = in_proof s s.proof (place_of c) _ next g.proof e in begun_keeps s i.0 (place_of c) next g i.1 (sym i.2)
+head_keeps s c head.Qed parts next are g e =
+    let i = in_proof s s.proof (place_of c) _ next g.proof e in ended_keeps i.0.goals s i.0 (place_of c) next g i.1 i.1.leads (sym i.2)
+head_keeps s c head.Tactic (step ∷ more) next are g e =
+    proves_keep s (sole_rule (head_of step) (parts_of step) more) (place_of step) next g e
+head_keeps s c _ _ next are g e = nothing_given _ _ next (sym e)
 
-command_keeps : (s : Session) (c : Command) (next : Session) → IsGood s → ComesTo s c (given next) → IsGood next
+command_keeps : (s : Session) (c : Node) (next : Session) → IsGood s → ComesTo s c (given next) → IsGood next
 command_keeps s c next g e =
-    shape_keeps s c.shape c.place next g (subst (ComesToOf s c.shape c.place) (given_placed e.0 c.place next e.2) e.1)
+    head_keeps s c (head_of c) (parts_of c) next refl g
+    (subst (ComesToOf s c (head_of c) (parts_of c)) (given_placed e.0 (place_of c) next e.2) e.1)
 
 end_keeps : (s : Session) (o : Option OpenProof) (place : Place) (last : Session) → IsGood s → IsEnd s o place (given last) → IsGood last
 end_keeps s None place last g e = subst IsGood (sym (given_is _ _ e)) g

@@ -3,7 +3,7 @@ use Rattle.std.proofs.Common.{◌≡◌, List, [], ◌∷◌, ◌++◌, sym, sub
 use Rattle.std.specs.List.{AllByRecursion}
 use Rattle.gb_core.specs.declared.place.Place.{Place}
 use Rattle.gb_goal.specs.declared.sequent.Sequent.{Sequent}
-use Rattle.gb_tree.specs.declared.step.StepTree.{StepTree}
+use Rattle.gb_script.specs.declared.tree.Node.{Node}
 use Rattle.gb_holds.specs.Declared.{declared}
 use Rattle.gb_holds.specs.Holds.{Holds}
 use Rattle.gb_elab.specs.Answers.Answer.{given}
@@ -39,7 +39,7 @@ continued_keeps s p q rest qs place next g h is lead e =
       };
     })
 
-pub works_keep : (gs : List Sequent) (s : Session) (p : OpenProof) (t : StepTree) (next : Session) → IsGood s → IsGoodProof s.scope p →
+pub works_keep : (gs : List Sequent) (s : Session) (p : OpenProof) (t : Node) (next : Session) → IsGood s → IsGoodProof s.scope p →
     p.goals ≡ gs → WorksOn gs s p t (given next) → IsGood next
 works_keep [] s p t next g h is w = nothing_given _ _ next (sym w)
 works_keep (q ∷ rest) s p t next g h is w =

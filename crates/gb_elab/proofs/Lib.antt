@@ -1,5 +1,7 @@
-pub mod Layers
+pub mod Answers
 pub mod Elaborated
+pub mod Parts
+pub mod Spellings
 pub mod Arms
 pub mod Functions
 pub mod OfWantedType

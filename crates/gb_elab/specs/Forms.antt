@@ -1,5 +1,5 @@
 -- The typing of forms: from left to right, with a type that is wanted, or none.
-use Rattle.std.specs.Prelude.{ℕ, ◌==◌, Bool, true, false, not, ◌&&◌, if◌then◌else◌, List, [], ◌∷◌, ◌++◌, map, length, reverse, Option, Some, None, is_none}
+use Rattle.std.specs.Prelude.{Bool, true, false, not, ◌&&◌, if◌then◌else◌, List, [], ◌∷◌, ◌++◌, map, reverse, Option, Some, None, is_none, codes, bytes_eq}
 use Rattle.gb_core.specs.declared.place.Place.{Place}
 use Rattle.gb_core.specs.declared.refusal.Why.TheVariants.{TypeMismatch, Argument}
 use Rattle.gb_core.specs.declared.ty.Ty.{Ty, out-Ty}
@@ -9,35 +9,24 @@ use Rattle.gb_same.specs.Types.{ty_eq}
 use Rattle.gb_terms.specs.declared.decl.TypedName.{TypedName}
 use Rattle.gb_terms.specs.declared.op.Op.{Op}
 use Rattle.gb_terms.specs.declared.op.Op.TheVariants as op
+use Rattle.gb_terms.specs.declared.op.Side.{Side}
 use Rattle.gb_terms.specs.declared.op.Side.TheVariants as side
 use Rattle.gb_terms.specs.declared.term.Term.{Term}
 use Rattle.gb_terms.specs.declared.term.Head.TheVariants.{Builtin, All, Some as Exist}
 use Rattle.gb_terms.specs.Make.{node, applied, truth_literal}
-use Rattle.gb_tree.specs.declared.form.Bind.{Bind}
-use Rattle.gb_tree.specs.declared.form.Bind.TheVariants as bind
-use Rattle.gb_tree.specs.declared.form.Connective.{Connective}
-use Rattle.gb_tree.specs.declared.form.Connective.TheVariants as connective
-use Rattle.gb_tree.specs.declared.form.EquatedTree.{EquatedTree}
-use Rattle.gb_tree.specs.declared.form.EquatedTree.TheVariants as equated
-use Rattle.gb_tree.specs.declared.form.FormShape.{out-FormShape}
-use Rattle.gb_tree.specs.declared.form.FormShape.TheOpen as layer
-use Rattle.gb_tree.specs.declared.form.FormTree.{FormTree}
-use Rattle.gb_tree.specs.declared.form.Quantifier.{Quantifier}
-use Rattle.gb_tree.specs.declared.form.Quantifier.TheVariants.{Forall, Exists}
-use Rattle.gb_tree.specs.declared.form.SideTree.{SideTree}
-use Rattle.gb_tree.specs.declared.form.SideTree.TheVariants as text
-use Rattle.gb_tree.specs.declared.form.TypeTree.{TypeTree}
-use Rattle.gb_tree.specs.declared.form.Word.{Word}
-use Rattle.gb_tree.specs.declared.judgment.ModuleExpr.{out-ModuleExpr}
-use Rattle.gb_tree.specs.declared.judgment.ProcPath.{ProcPath}
+use Rattle.gb_script.specs.declared.head.Head.{Head}
+use Rattle.gb_script.specs.declared.head.Head.TheVariants as head
+use Rattle.gb_script.specs.declared.tree.Node.{Node, para-Node}
+use Rattle.gb_script.specs.Tree.{head_of, text_of, parts_of, place_of}
+use Rattle.gb_elab.specs.declared.binders.Quantifier.{Quantifier}
+use Rattle.gb_elab.specs.declared.binders.Quantifier.TheVariants.{Forall, Exists}
 use Rattle.gb_elab.specs.declared.setting.Language.{Language}
 use Rattle.gb_elab.specs.declared.setting.Language.TheVariants.{Formula, Program}
 use Rattle.gb_elab.specs.Answers.{Answer, ◌>>=◌, not_built, type_of_term, wanted, truth}
 use Rattle.gb_elab.specs.Answers.Answer.{given, refused}
-use Rattle.gb_elab.specs.Environment.{Environment, on_side}
-use Rattle.gb_elab.specs.Judgments.{about, named_procedure, before, after, equivalent}
-use Rattle.gb_elab.specs.Layers.{Layer, Shape, of_forms}
-use Rattle.gb_elab.specs.Names.{unit, named, sided, in_memory}
+use Rattle.gb_elab.specs.Environment.{Name, Environment, on_side}
+use Rattle.gb_elab.specs.Judgments.{both_procedures, before, after, equivalent}
+use Rattle.gb_elab.specs.Names.{unit, path, named, sided, in_memory}
 use Rattle.gb_elab.specs.Types.{type_of}
 
 -- what a form means, in an environment, under bound names, the innermost first, and with a wanted type, or none
@@ -45,22 +34,29 @@ abbrev pub Typing : Type 0
 Typing = Environment → List TypedName → Option Ty → Answer Term
 
 -- names of one type
-abbrev pub of_type : List Word → Ty → List TypedName
-of_type xs t = map (λ x. record { name = x.name; ty = t }) xs
+abbrev pub of_type : List Node → Ty → List TypedName
+of_type xs t = map (λ x. record { name = text_of x; ty = t }) xs
 
-abbrev pub bound_in : Bind → Answer (List TypedName)
-bound_in (bind.Values b) = do
-  t ← type_of b.ty
-  given (of_type b.names t)
-bound_in (bind.Memory x) = not_built x.place
-bound_in (bind.Module m) = not_built m.name.place
+-- the variables of one binder; memories and modules aren't built yet
+abbrev pub bound_in : Head → List Node → Place → Answer (List TypedName)
+bound_in head.Values (x ∷ xs ∷ t ∷ []) p = do
+  ty ← type_of t
+  given (of_type (x ∷ parts_of xs) ty)
+bound_in head.Memory (x ∷ ps) p = not_built (place_of x)
+bound_in head.ModuleBind (x ∷ ps) p = not_built (place_of x)
+bound_in _ ps p = not_built p
 
 -- the variables that are bound, in the order of the text, behind those that came before
-unfoldable pub bound_by : List TypedName → List Bind → Answer (List TypedName)
+unfoldable pub bound_by : List TypedName → List Node → Answer (List TypedName)
 bound_by vs [] = given vs
 bound_by vs (b ∷ bs) = do
-  ws ← bound_in b
+  ws ← bound_in (head_of b) (parts_of b) (place_of b)
   bound_by (vs ++ ws) bs
+
+abbrev pub quantifier_of : Name → Place → Answer Quantifier
+quantifier_of x p =
+    if bytes_eq x (codes "forall") then given Forall
+    else if bytes_eq x (codes "exists") then given Exists else not_built p
 
 abbrev pub over : Quantifier → Ty → Term → Term
 over Forall t f = node (All t) (f ∷ []) bool_ty
@@ -106,37 +102,33 @@ coin at w p =
     else wanted w p (node (Builtin op.Coin) [] (Distr bool_ty))
 
 -- a name in a named memory; a program expression has none
-abbrev pub remembered : Language → Environment → List ℕ → Word → Place → Answer Term
+abbrev pub remembered : Language → Environment → Name → Node → Place → Answer Term
 remembered Program at x m p = refused Argument p
 remembered _ at x m p = in_memory at x m p
 
+-- the side of a number
+abbrev pub side_of : Name → Place → Answer Side
+side_of x p =
+    if bytes_eq x (codes "1") then given side.Left
+    else if bytes_eq x (codes "2") then given side.Right else not_built p
+
+-- a name with what stands behind it in braces: the number of a side, or the name of a memory
+abbrev pub beside : Head → Node → Environment → List TypedName → Name → Place → Answer Term
+beside head.Number s at bound x p = do
+  i ← side_of (text_of s) p
+  sided at bound x i p
+beside _ m at bound x p = remembered at.language at x m p
+
 -- a form with a side, which is of a name alone
-abbrev pub read : Environment → List TypedName → Shape FormTree → Place → SideTree → Answer Term
-read at bound (layer.FormShape::Path x) p text.Left = sided at bound x side.Left p
-read at bound (layer.FormShape::Path x) p text.Right = sided at bound x side.Right p
-read at bound (layer.FormShape::Path x) p (text.Memory m) = remembered at.language at x m p
-read at bound _ p s = refused Argument p
-
-abbrev pub operator : Connective → Place → Answer Op
-operator connective.And p = given op.And
-operator connective.Or p = given op.Or
-operator connective.Implies p = given op.Implies
-operator connective.Iff p = given op.Iff
-operator connective.Equal p = given op.Equal
-operator connective.NotEqual p = given op.NotEqual
-operator _ p = not_built p
-
--- an operator that makes a truth, where one may stand
-abbrev pub relation : Connective → Option Ty → Place → Answer Op
-relation c w p = do
-  o ← operator c p
-  _ ← truth w p
-  given o
+abbrev pub read : Environment → List TypedName → Head → Name → List Node → Place → Node → Answer Term
+read at bound head.Name x ps p s = beside (head_of s) s at bound x p
+read at bound head.Path x ps p s = beside (head_of s) s at bound (path ps) p
+read at bound _ x ps p s = refused Argument p
 
 -- the sides of an equation are of any one type, those of another operator are truths
-abbrev pub is_equation : Connective → Bool
-is_equation connective.Equal = true
-is_equation connective.NotEqual = true
+abbrev pub is_equation : Op → Bool
+is_equation op.Equal = true
+is_equation op.NotEqual = true
 is_equation _ = false
 
 -- distributions have no equation
@@ -144,8 +136,8 @@ abbrev pub comparable : Place → Term → Answer Term
 comparable p t = if is_distribution (type_of_term t) then refused TypeMismatch p else given t
 
 -- the left side of an operator
-abbrev pub left_side : Connective → Place → (Option Ty → Answer Term) → Answer Term
-left_side c p a = if is_equation c then a None >>= comparable p else a (Some bool_ty)
+abbrev pub left_side : Op → Place → (Option Ty → Answer Term) → Answer Term
+left_side o p a = if is_equation o then a None >>= comparable p else a (Some bool_ty)
 
 abbrev pub negated : (Option Ty → Answer Term) → Answer Term
 negated a = do
@@ -158,108 +150,162 @@ with_right_side o l b = do
   r ← b (Some (type_of_term l))
   given (applied o (l ∷ r ∷ []) bool_ty)
 
--- a quantified form, in whose body the variables are bound
-abbrev pub quantified : Quantifier → List TypedName → List TypedName → (List TypedName → Option Ty → Answer Term) → Answer Term
-quantified q vs bound a = do
+-- an operator that makes a truth of two forms
+abbrev pub binary : Op → List (Node × Typing) → Place → Typing
+binary o (a ∷ b ∷ []) p at bound w = do
+  _ ← truth w p
+  l ← left_side o p (a.1 at bound)
+  with_right_side o l (b.1 at bound)
+binary o _ p at bound w = not_built p
+
+-- the operator of a comparison
+abbrev pub comparison : Name → Place → Answer Op
+comparison x p =
+    if bytes_eq x (codes "=") then given op.Equal
+    else if bytes_eq x (codes "<>") then given op.NotEqual else not_built p
+
+-- a form under quantifiers, in which the variables are bound
+abbrev pub under : Quantifier → List TypedName → List TypedName → (List TypedName → Option Ty → Answer Term) → Answer Term
+under q vs bound a = do
   t ← a (reverse vs ++ bound) (Some bool_ty)
   given (over_all q vs t)
 
--- the equality of a variable of two programs
-unfoldable pub equality : Environment → List TypedName → Word → Answer Term
-equality at bound x = do
-  l ← sided at bound x.name side.Left x.place
-  r ← sided at bound x.name side.Right x.place
-  if ty_eq (type_of_term r) (type_of_term l) then given (applied op.Equal (l ∷ r ∷ []) bool_ty) else refused TypeMismatch x.place
+-- a quantified form
+abbrev pub quantified : Name → List (Node × Typing) → Place → Typing
+quantified x (bs ∷ a ∷ []) p at bound w = do
+  q ← quantifier_of x p
+  _ ← formula at w p
+  vs ← bound_by [] (parts_of bs.0)
+  under q vs bound (a.1 at)
+quantified x _ p at bound w = not_built p
 
--- what `={..}` says of one thing
-abbrev pub equation : Environment → List TypedName → EquatedTree → Answer Term
-equation at bound (equated.Path x) = equality at bound x
-equation at bound (equated.Glob m) = not_built (out-ModuleExpr m).path.place
+-- the equality of a variable of two programs
+unfoldable pub equality : Environment → List TypedName → Name → Place → Answer Term
+equality at bound x p = do
+  l ← sided at bound x side.Left p
+  r ← sided at bound x side.Right p
+  if ty_eq (type_of_term r) (type_of_term l) then given (applied op.Equal (l ∷ r ∷ []) bool_ty) else refused TypeMismatch p
+
+-- what `={..}` says of one thing; the globals of a module aren't built yet
+abbrev pub equation : Environment → List TypedName → Head → Name → List Node → Place → Answer Term
+equation at bound head.Name x ps p = equality at bound x p
+equation at bound head.Path x ps p = equality at bound (path ps) p
+equation at bound head.EquatedGlob x (m ∷ ps) p = not_built (place_of m)
+equation at bound _ x ps p = not_built p
+
+abbrev pub equation_of : Environment → List TypedName → Node → Answer Term
+equation_of at bound x = equation at bound (head_of x) (text_of x) (parts_of x) (place_of x)
 
 -- a form and, to its right, further equations
-unfoldable pub with_equalities : Environment → List TypedName → Term → List EquatedTree → Answer Term
+unfoldable pub with_equalities : Environment → List TypedName → Term → List Node → Answer Term
 with_equalities at bound f [] = given f
 with_equalities at bound f (x ∷ xs) = do
-  e ← equation at bound x
+  e ← equation_of at bound x
   with_equalities at bound (applied op.And (f ∷ e ∷ []) bool_ty) xs
 
 -- equations, joined to the left
-unfoldable pub joined : Environment → List TypedName → List EquatedTree → Answer Term
+unfoldable pub joined : Environment → List TypedName → List Node → Answer Term
 joined at bound [] = given (truth_literal true)
 joined at bound (x ∷ xs) = do
-  e ← equation at bound x
+  e ← equation_of at bound x
   with_equalities at bound e xs
 
 -- equations of two programs
-unfoldable pub equalities : Environment → List TypedName → List EquatedTree → Place → Answer Term
+unfoldable pub equalities : Environment → List TypedName → List Node → Place → Answer Term
 equalities at bound xs p = if is_none (on_side at side.Left) then refused Argument p else joined at bound xs
 
 -- an equivalence of two procedures: its precondition reads their parameters, its postcondition their results
-abbrev pub judged : Environment → List TypedName → ProcPath → ProcPath → Typing → Typing → Answer Term
-judged at bound f g a b = do
-  left ← named_procedure at bound f
-  right ← named_procedure at bound g
-  pre ← a (before at left right) bound (Some bool_ty)
-  post ← b (after at left right) bound (Some bool_ty)
-  given (equivalent f g pre post)
+abbrev pub equivalence : List (Node × Typing) → Place → Typing
+equivalence (f ∷ g ∷ a ∷ b ∷ []) p at bound w = do
+  _ ← judgment at w p
+  both ← both_procedures at bound f.0 g.0 p
+  pre ← a.1 (before at both.0.1 both.1.1) bound (Some bool_ty)
+  post ← b.1 (after at both.0.1 both.1.1) bound (Some bool_ty)
+  given (equivalent both.0.0 both.1.0 pre post)
+equivalence _ p at bound w = not_built p
 
--- The typing of each form from that of its parts, at its place. Where a form has a type by its shape alone, that is
--- tested before its parts.
-unfoldable pub typing : Layer Typing → Place → Typing
-typing (layer.FormShape::Path x) p at bound w = do
+-- parts without what is said of them
+abbrev pub bare : {A : Type 0} → List (Node × A) → List Node
+bare ps = map (λ a. a.0) ps
+
+-- The typing of each form from its head, its text, its parts, each with its own typing, and its place. Where a form has a type
+-- by its shape alone, that is tested before its parts. What isn't built is the last clause, where no form stands either that
+-- has other parts than its head is read with.
+unfoldable pub typing : Head → Name → List (Node × Typing) → Place → Typing
+typing head.Name x ps p at bound w = do
   t ← named at bound x p
   wanted w p t
-typing layer.Unit p at bound w = wanted w p unit
-typing (layer.Bracketed a) p at bound w = a.1 at bound w
-typing (layer.Sided a s) p at bound w = do
-  t ← read at bound (out-FormShape a.0.shape) a.0.place s
+typing head.Path x ps p at bound w = do
+  t ← named at bound (path (bare ps)) p
   wanted w p t
-typing layer.Coin p at bound w = coin at w p
-typing (layer.Function xs ty a) p at bound w = refused TypeMismatch p
-typing (layer.Not a) p at bound w = do
+typing head.Unit x ps p at bound w = wanted w p unit
+typing head.Bracketed x (a ∷ []) p at bound w = a.1 at bound w
+typing head.Sided x (a ∷ s ∷ []) p at bound w = do
+  t ← read at bound (head_of a.0) (text_of a.0) (parts_of a.0) (place_of a.0) s.0
+  wanted w p t
+typing head.Coin x ps p at bound w = coin at w p
+typing head.Function x ps p at bound w = refused TypeMismatch p
+typing head.TypedFunction x ps p at bound w = refused TypeMismatch p
+typing head.Not x (a ∷ []) p at bound w = do
   _ ← truth w p
   negated (a.1 at bound)
-typing (layer.Binary c a b) p at bound w = do
-  o ← relation c w p
-  l ← left_side c p (a.1 at bound)
-  with_right_side o l (b.1 at bound)
-typing (layer.Equalities xs) p at bound w = do
+typing head.And x ps p at bound w = binary op.And ps p at bound w
+typing head.Or x ps p at bound w = binary op.Or ps p at bound w
+typing head.Implies x ps p at bound w = binary op.Implies ps p at bound w
+typing head.Iff x ps p at bound w = binary op.Iff ps p at bound w
+typing head.Compared x ps p at bound w = do
+  o ← comparison x p
+  binary o ps p at bound w
+typing head.Equalities x ps p at bound w = do
   _ ← truth w p
-  equalities at bound xs p
-typing (layer.Quantified q bs a) p at bound w = do
-  _ ← formula at w p
-  vs ← bound_by [] bs
-  quantified q vs bound (a.1 at)
-typing (layer.Equiv f g a b) p at bound w = do
-  _ ← judgment at w p
-  left ← about f p
-  right ← about g p
-  judged at bound left right a.1 b.1
-typing _ p at bound w = not_built p
+  equalities at bound (bare ps) p
+typing head.Quantified x ps p at bound w = quantified x ps p at bound w
+typing head.Equiv x ps p at bound w = equivalence ps p at bound w
+typing _ x ps p at bound w = not_built p
 
 -- the typed tree of a form, or its refusal
-unfoldable pub elaborated : FormTree → Typing
-elaborated = of_forms typing
+unfoldable pub elaborated : Node → Typing
+elaborated = para-Node Typing (λ l. typing l.head l.text l.parts l.place)
+
+-- nodes, each with its typing
+abbrev pub with_typings : List Node → List (Node × Typing)
+with_typings ts = map (λ t. (t, elaborated t)) ts
 
 -- the type that the text gives a variable is the one that it has
-abbrev pub written_as : Option TypeTree → Ty → Answer (Unit {0})
-written_as None t = given tt
-written_as (Some s) t = do
+abbrev pub written_as : Node → Ty → Answer (Unit {0})
+written_as s t = do
   u ← type_of s
-  if ty_eq u t then given tt else refused TypeMismatch s.place
+  if ty_eq u t then given tt else refused TypeMismatch (place_of s)
+
+-- the variable of a function, which has one
+abbrev pub only : List Node → Place → Answer Node
+only (x ∷ []) p = given x
+only _ p = refused TypeMismatch p
 
 -- what a function means, in an environment, from a type to a type
 abbrev pub FunctionTyping : Type 0
 FunctionTyping = Environment → Ty → Ty → Answer Term
 
--- a function of one variable, which is the innermost bound one of its value; brackets may stand round it
-unfoldable pub function_typing : Layer FunctionTyping → Place → FunctionTyping
-function_typing (layer.Bracketed a) p at from to = a.1 at from to
-function_typing (layer.Function xs ty a) p at from to =
-    if length xs == 1 then (written_as ty from >>= λ _. elaborated a.0 at (of_type xs from) (Some to))
-    else refused TypeMismatch p
-function_typing _ p at from to = refused TypeMismatch p
+-- the value of a function, with its variable as the innermost bound one
+abbrev pub value_of : Node → Node → FunctionTyping
+value_of x a at from to = elaborated a at (of_type (x ∷ []) from) (Some to)
+
+-- a function of one variable; brackets may stand round it
+unfoldable pub function_typing : Head → List (Node × FunctionTyping) → Place → FunctionTyping
+function_typing head.Bracketed (a ∷ []) p at from to = a.1 at from to
+function_typing head.Function (xs ∷ a ∷ []) p at from to = do
+  x ← only (parts_of xs.0) p
+  value_of x a.0 at from to
+function_typing head.TypedFunction (xs ∷ t ∷ a ∷ []) p at from to = do
+  x ← only (parts_of xs.0) p
+  _ ← written_as t.0 from
+  value_of x a.0 at from to
+function_typing _ ps p at from to = refused TypeMismatch p
 
 -- the typed tree of a function, or its refusal
-unfoldable pub function : FormTree → FunctionTyping
-function = of_forms function_typing
+unfoldable pub function : Node → FunctionTyping
+function = para-Node FunctionTyping (λ l. function_typing l.head l.parts l.place)
+
+-- nodes, each with what it means as a function
+abbrev pub with_functions : List Node → List (Node × FunctionTyping)
+with_functions ts = map (λ t. (t, function t)) ts

@@ -1,5 +1,5 @@
 -- Judgments of two procedures.
-use Rattle.std.specs.Prelude.{List, [], ◌∷◌, Option, Some, None, if◌then◌else◌, codes}
+use Rattle.std.specs.Prelude.{List, [], ◌∷◌, ◌++◌, Option, Some, None, if◌then◌else◌, codes}
 use Rattle.gb_core.specs.declared.place.Place.{Place}
 use Rattle.gb_core.specs.declared.refusal.Why.TheVariants.{UnknownName, Argument}
 use Rattle.gb_core.specs.declared.ty.Ty.TheVariants.{Bool as bool_ty}
@@ -15,59 +15,71 @@ use Rattle.gb_terms.specs.Make.{node}
 use Rattle.gb_goal.specs.declared.scope.Entry.{Entry}
 use Rattle.gb_goal.specs.declared.scope.Entry.TheVariants as entry
 use Rattle.gb_goal.specs.Scope.{entry_of, proc_of}
-use Rattle.gb_tree.specs.declared.form.Word.{Word}
-use Rattle.gb_tree.specs.declared.judgment.ModuleExpr.{ModuleExpr, out-ModuleExpr}
-use Rattle.gb_tree.specs.declared.judgment.ProcPath.{ProcPath}
-use Rattle.gb_tree.specs.declared.judgment.SubjectTree.{SubjectTree}
-use Rattle.gb_tree.specs.declared.judgment.SubjectTree.TheVariants as subject
+use Rattle.gb_script.specs.declared.head.Head.{Head}
+use Rattle.gb_script.specs.declared.head.Head.TheVariants as head
+use Rattle.gb_script.specs.declared.tree.Node.{Node}
+use Rattle.gb_script.specs.Tree.{head_of, text_of, parts_of, place_of}
 use Rattle.gb_elab.specs.Answers.{Answer, ◌>>=◌, given_or, not_built}
 use Rattle.gb_elab.specs.Answers.Answer.{given, refused}
-use Rattle.gb_elab.specs.Environment.{Environment, relational}
+use Rattle.gb_elab.specs.Environment.{Name, Environment, relational}
 use Rattle.gb_elab.specs.Names.{is_variable}
 
 -- a module all of whose parameters are given: it has none
-abbrev pub whole : List Param → Module → Word → Answer Module
-whole [] m x = given m
-whole (q ∷ qs) m x = refused Argument x.place
+abbrev pub whole : List Param → Module → Place → Answer Module
+whole [] m p = given m
+whole (q ∷ qs) m p = refused Argument p
 
-abbrev pub module_in : Option Entry → Word → Answer Module
-module_in (Some (entry.Module m)) x = whole m.params m x
-module_in (Some e) x = refused Argument x.place
-module_in None x = refused (UnknownName x.name) x.place
+abbrev pub module_in : Option Entry → Name → Place → Answer Module
+module_in (Some (entry.Module m)) x p = whole m.params m p
+module_in (Some e) x p = refused Argument p
+module_in None x p = refused (UnknownName x) p
 
 -- the module of this name
-unfoldable pub named_module : Environment → List TypedName → Word → Answer Module
-named_module at bound x =
-    if is_variable at bound x.name then refused Argument x.place else module_in (entry_of at.declared x.name) x
+unfoldable pub named_module : Environment → List TypedName → Name → Place → Answer Module
+named_module at bound x p = if is_variable at bound x then refused Argument p else module_in (entry_of at.declared x) x p
 
--- the name of a module that is given no arguments
-abbrev pub without_arguments : List ModuleExpr → Word → Answer Word
-without_arguments [] x = given x
-without_arguments (t ∷ ts) x = not_built x.place
+-- a procedure as a text names it: by its module and its own word
+abbrev pub Path : Type 0
+Path = Name × Node
 
-abbrev pub module_path : ModuleExpr → Answer Word
-module_path m = without_arguments (out-ModuleExpr m).arguments (out-ModuleExpr m).path
+-- The last word names a procedure, those before it its module.
+abbrev pub procedure_path : Name → Node → List Node → Path
+procedure_path m f [] = (m, f)
+procedure_path m f (x ∷ xs) = procedure_path ((m ++ codes ".") ++ text_of f) x xs
 
--- the procedure that a judgment names
-unfoldable pub named_procedure : Environment → List TypedName → ProcPath → Answer Proc
-named_procedure at bound f = do
-  x ← module_path f.«module»
-  m ← named_module at bound x
-  given_or (proc_of m.procs f.proc.name) (UnknownName f.proc.name) f.proc.place
+-- a procedure that a judgment names: as a term names it, and what it is
+abbrev pub Named : Type 0
+Named = ProcRef × Proc
 
--- the procedure that a judgment is about, at its place
-abbrev pub about : SubjectTree → Place → Answer ProcPath
-about (subject.Procedure f) p = given f
-about _ p = not_built p
+-- a procedure as a term names it
+abbrev pub reference : Path → ProcRef
+reference f = record { «module» = mexp.Name f.0; name = text_of f.1 }
 
--- the two procedures that a judgment is about: as the text names them, and what has these names
-abbrev pub both_procedures : Environment → List TypedName → SubjectTree → SubjectTree → Place → Answer (ProcPath × ProcPath × Proc × Proc)
-both_procedures at bound left right p = do
-  f ← about left p
-  g ← about right p
-  m ← named_procedure at bound f
-  n ← named_procedure at bound g
-  given (f, g, m, n)
+-- the procedure of a module that stands at a place
+unfoldable pub procedure_at : Environment → List TypedName → Path → Place → Answer Named
+procedure_at at bound f p = do
+  m ← named_module at bound f.0 p
+  d ← given_or (proc_of m.procs (text_of f.1)) (UnknownName (text_of f.1)) (place_of f.1)
+  given (reference f, d)
+
+-- the procedure that a judgment names; one of a module with arguments isn't built yet
+abbrev pub named_procedure : Environment → List TypedName → Head → List Node → Place → Answer Named
+named_procedure at bound head.ProcedurePath (x ∷ y ∷ ys) p = procedure_at at bound (procedure_path (text_of x) y ys) p
+named_procedure at bound _ ps p = not_built p
+
+-- A judgment at this place is about procedures; those about bodies aren't built yet.
+abbrev pub about_procedure : Head → Place → Answer (Unit {0})
+about_procedure head.Block p = not_built p
+about_procedure _ p = given tt
+
+-- the two procedures that a judgment at this place is about
+abbrev pub both_procedures : Environment → List TypedName → Node → Node → Place → Answer (Named × Named)
+both_procedures at bound f g p = do
+  _ ← about_procedure (head_of f) p
+  _ ← about_procedure (head_of g) p
+  m ← named_procedure at bound (head_of f) (parts_of f) (place_of f)
+  n ← named_procedure at bound (head_of g) (parts_of g) (place_of g)
+  given (m, n)
 
 -- what a precondition reads: the parameters of both procedures
 abbrev pub before : Environment → Proc → Proc → Environment
@@ -81,10 +93,6 @@ result_of f = record { name = codes "res"; ty = f.result } ∷ []
 abbrev pub after : Environment → Proc → Proc → Environment
 after at f g = relational at.declared at.sequent (result_of f) (result_of g)
 
--- a procedure as a term names it
-abbrev pub reference : ProcPath → ProcRef
-reference f = record { «module» = mexp.Name (out-ModuleExpr f.«module»).path.name; name = f.proc.name }
-
 -- two procedures are equivalent from a precondition to a postcondition
-abbrev pub equivalent : ProcPath → ProcPath → Term → Term → Term
-equivalent f g pre post = node (Equiv (procedure (reference f)) (procedure (reference g))) (pre ∷ post ∷ []) bool_ty
+abbrev pub equivalent : ProcRef → ProcRef → Term → Term → Term
+equivalent f g pre post = node (Equiv (procedure f) (procedure g)) (pre ∷ post ∷ []) bool_ty

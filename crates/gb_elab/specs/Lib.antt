@@ -1,5 +1,4 @@
 pub mod Answers
-pub mod Layers
 pub mod Types
 pub mod Environment
 pub mod Names

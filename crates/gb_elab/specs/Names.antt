@@ -1,5 +1,5 @@
 -- What a name means where it stands.
-use Rattle.std.specs.Prelude.{ℕ, suc, Bool, true, false, ◌||◌, if◌then◌else◌, List, [], ◌∷◌, Option, Some, None, is_some, find, codes, bytes_eq}
+use Rattle.std.specs.Prelude.{ℕ, suc, Bool, true, false, ◌||◌, if◌then◌else◌, List, [], ◌∷◌, ◌++◌, Option, Some, None, is_some, find, codes, bytes_eq}
 use Rattle.std.specs.Option.{option_map, option_map_or}
 use Rattle.std.specs.List.{list_any}
 use Rattle.gb_core.specs.declared.place.Place.{Place}
@@ -17,12 +17,23 @@ use Rattle.gb_terms.specs.declared.term.Head.TheVariants.{Lit, Read, Bound}
 use Rattle.gb_terms.specs.Make.{node, truth_literal}
 use Rattle.gb_goal.specs.declared.sequent.Sequent.{Sequent}
 use Rattle.gb_goal.specs.Scope.{entry_of}
-use Rattle.gb_tree.specs.declared.form.Word.{Word}
+use Rattle.gb_script.specs.declared.tree.Node.{Node}
+use Rattle.gb_script.specs.Tree.{text_of, place_of}
 use Rattle.gb_elab.specs.declared.names.Constant.{Constant}
 use Rattle.gb_elab.specs.declared.names.Constant.TheVariants as constant
 use Rattle.gb_elab.specs.Answers.{Answer, ◌>>=◌, given_or, counted}
 use Rattle.gb_elab.specs.Answers.Answer.{given, refused}
 use Rattle.gb_elab.specs.Environment.{Name, Environment, own, on_side}
+
+-- a name with further words behind it, a dot before each
+abbrev pub dotted : Name → List Node → Name
+dotted x [] = x
+dotted x (y ∷ ys) = dotted ((x ++ codes ".") ++ text_of y) ys
+
+-- the name that some words are
+abbrev pub path : List Node → Name
+path [] = []
+path (x ∷ xs) = dotted (text_of x) xs
 
 -- the first thing of this name
 abbrev pub first_named : List TypedName → Name → Option TypedName
@@ -101,8 +112,8 @@ no_variable at x =
     if is_some (first_named at.sequent.logical x) || names_other at x || is_some (built_in x) then Argument else UnknownName x
 
 -- the variable of the program around that has this name
-abbrev pub own_variable : Environment → Word → Answer TypedName
-own_variable at x = given_or (first_named (own at) x.name) (no_variable at x.name) x.place
+abbrev pub own_variable : Environment → Node → Answer TypedName
+own_variable at x = given_or (first_named (own at) (text_of x)) (no_variable at (text_of x)) (place_of x)
 
 -- a variable of one of two programs; a bound one has no side
 abbrev pub variable_on : Environment → List TypedName → Name → Side → Place → List TypedName → Answer Term
@@ -115,7 +126,7 @@ unfoldable pub sided : Environment → List TypedName → Name → Side → Plac
 sided at bound x s p = option_map_or (variable_on at bound x s p) (on_side at s) (refused Argument p)
 
 -- a name in a named memory: a variable of none is in a goal
-unfoldable pub in_memory : Environment → Name → Word → Place → Answer Term
+unfoldable pub in_memory : Environment → Name → Node → Place → Answer Term
 in_memory at x m p =
-    if list_any (λ n. bytes_eq n m.name) at.sequent.memories then refused (no_variable at x) p
-    else refused (UnknownName m.name) m.place
+    if list_any (λ n. bytes_eq n (text_of m)) at.sequent.memories then refused (no_variable at x) p
+    else refused (UnknownName (text_of m)) (place_of m)

@@ -1,30 +1,56 @@
 // Bound variables and the quantifiers over them.
 
-ghost use Rattle.std.specs.Prelude.{◌≡◌, [], ◌++◌, IfOk, reverse};
-ghost use Rattle.gb_elab.specs.Answers.{Answers};
-ghost use Rattle.gb_elab.specs.Forms.{bound_by, bound_in, of_type, over, over_all};
+ghost use Rattle.std.specs.Prelude.{◌≡◌, [], ◌∷◌, ◌++◌, IfOk, reverse};
+ghost use Rattle.gb_elab.specs.Answers.{Answers, ◌>>=◌ as ◌and_then◌};
+ghost use Rattle.gb_elab.specs.Answers.Answer.{given};
+ghost use Rattle.gb_elab.specs.Types.{type_of};
+ghost use Rattle.gb_script.specs.Tree.{head_of, parts_of, place_of};
+ghost use Rattle.gb_elab.specs.Forms.{bound_by, bound_in, of_type, over, over_all, quantifier_of};
 
 use crate::refusals::not_built;
 use crate::types::type_of;
 use gb_core::name::Name;
+use gb_core::place::Place;
 use gb_core::refusal::Refused;
 use gb_core::ty::Ty;
+use gb_script::head::Head;
+use gb_script::tree::Node;
 use gb_shared::Shared;
 use gb_terms::decl::{Typed, TypedName};
 use gb_terms::make;
 use gb_terms::share::copy_typed;
 use gb_terms::term::Form;
-use gb_tree::form::{Bind, Quantifier, Word};
 use sqlite_items::Items;
 use std::alloc::{AllocError, Global};
 
+/// Whether a form speaks of all values of its variables, or of some.
+#[derive(Clone, Copy)]
+pub enum Quantifier {
+    Forall,
+    Exists,
+}
+
+/// The quantifier that a word is.
+pub fn quantifier_of(word: &Name, place: Place) -> Result<Quantifier, Refused>
+    ensures { Answers (quantifier_of word.now place) result }
+{
+    let text = word.as_str();
+    if text == "forall" {
+        Ok(Quantifier::Forall)
+    } else if text == "exists" {
+        Ok(Quantifier::Exists)
+    } else {
+        Err(not_built(place))
+    }
+}
+
 /// Names of one type.
-pub fn of_type(alloc: Global, names: &[Word], ty: &Shared<Ty>) -> Result<Typed, AllocError>
+pub fn of_type(alloc: Global, names: &[Node], ty: &Shared<Ty>) -> Result<Typed, AllocError>
     ensures { IfOk result (λ made. made ≡ of_type names.now ty.now) }
 {
     let mut all = Items::new(alloc);
     for x in names {
-        all.push(variable(alloc, &x.name, ty)?)?;
+        all.push(variable(alloc, &x.text, ty)?)?;
     }
     Ok(all)
 }
@@ -44,27 +70,42 @@ pub fn variable(alloc: Global, name: &Name, ty: &Shared<Ty>) -> Result<TypedName
 ///
 /// `Syntax` of a binder or a type that isn't built.
 #[tactic(auto, unfolding(crate::specs::Forms::bound_by))]
-pub fn bound_by(alloc: Global, binds: &[Bind]) -> Result<Typed, Refused>
+pub fn bound_by(alloc: Global, binds: &[Node]) -> Result<Typed, Refused>
     ensures { Answers (bound_by [] binds.now) result }
 {
     let mut all = Items::new(alloc);
     for bind in binds {
-        all.append(bound_in(alloc, bind)?)?;
+        all.append(bound_in(alloc, bind.head, bind.parts.as_slice(), bind.place)?)?;
     }
     Ok(all)
 }
 
-fn bound_in(alloc: Global, bind: &Bind) -> Result<Typed, Refused>
-    ensures { Answers (bound_in bind.now) result }
+/// The variables of one binder, from its head and its parts.
+fn bound_in(alloc: Global, head: Head, parts: &[Node], place: Place) -> Result<Typed, Refused>
+    ensures { Answers (bound_in head parts.now place) result }
 {
-    match bind {
-        Bind::Values(binder) => {
-            let ty = type_of(alloc, binder.ty.get())?;
-            of_type(alloc, binder.names.as_slice(), &ty).map_err(Refused::from)
-        }
-        Bind::Memory(word) => Err(not_built(word.place)),
-        Bind::Module(module) => Err(not_built(module.name.place)),
+    match head {
+        Head::Values => match parts {
+            [first, more, ty] => typed_names(alloc, first, more.parts.as_slice(), ty),
+            _ => Err(not_built(place)),
+        },
+        Head::Memory | Head::ModuleBind => match parts {
+            [name, ..] => Err(not_built(name.place)),
+            _ => Err(not_built(place)),
+        },
+        _ => Err(not_built(place)),
     }
+}
+
+/// Words of the type that the text spells.
+fn typed_names(alloc: Global, first: &Node, more: &[Node], ty: &Node) -> Result<Typed, Refused>
+    ensures { Answers (type_of ty.now and_then λ t. given (of_type (first.now ∷ more.now) t)) result }
+{
+    let ty = type_of(alloc, ty)?;
+    let mut all = Items::new(alloc);
+    all.push(variable(alloc, &first.text, &ty)?)?;
+    all.append(of_type(alloc, more, &ty)?)?;
+    Ok(all)
 }
 
 /// Variables, the last one first, and behind them those that are bound around them.

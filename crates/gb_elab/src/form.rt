@@ -1,40 +1,38 @@
 // Typing of forms, from left to right.
 
-ghost use Rattle.std.specs.Prelude.{◌≡◌, [], ◌∷◌, if◌then◌else◌, Some, IfOk};
+ghost use Rattle.std.specs.Prelude.{◌≡◌, [], ◌∷◌, Some, IfOk};
 ghost use Rattle.std.specs.Option.{option_copied};
-ghost use Rattle.gb_core.specs.declared.refusal.Why.TheVariants.{TypeMismatch};
-ghost use Rattle.gb_core.specs.declared.ty.Ty.TheVariants.{Distr};
-ghost use Rattle.gb_same.specs.Types.{ty_eq};
-ghost use Rattle.gb_terms.specs.declared.term.Head.TheVariants.{Builtin};
-ghost use Rattle.gb_terms.specs.Make.{node, applied};
-ghost use Rattle.gb_tree.specs.declared.form.FormShape.{out-FormShape};
-ghost use Rattle.gb_elab.specs.Answers.{Answers, ◌>>=◌ as ◌and_then◌, truth, type_of_term};
-ghost use Rattle.gb_elab.specs.Answers.Answer.{given, refused};
+ghost use Rattle.gb_terms.specs.Make.{applied};
+ghost use Rattle.gb_script.specs.Tree.{head_of, text_of, parts_of, place_of};
+ghost use Rattle.gb_elab.specs.Answers.{Answers, Gives, ◌>>=◌ as ◌and_then◌, truth};
+ghost use Rattle.gb_elab.specs.Answers.Answer.{given};
 ghost use Rattle.gb_elab.specs.Environment.{ambient, environment};
-ghost use Rattle.gb_elab.specs.Forms.{bound_by, coin, elaborated, equalities, equality, equation, formula, function, is_equation, judgment, left_side, negated, operator, quantified, read, relation, wants_distribution, with_equalities, with_right_side, written_as};
+ghost use Rattle.gb_elab.specs.Forms.{binary, comparison, elaborated, equivalence, function, function_typing, is_equation, left_side, negated, only, quantified, read, typing, under, value_of, with_functions, with_right_side, with_typings, written_as};
 ghost use Rattle.gb_elab.specs.Judgments.{after, before, equivalent};
+ghost use Rattle.gb_elab.specs.Names.{named, path};
 
-use crate::binders::{bound_by, of_type, over_all, within};
+use crate::allowed::{coin, formula, is_distribution, judgment, truth};
+use crate::binders::{Quantifier, bound_by, over_all, quantifier_of, variable, within};
+use crate::equalities::equalities;
 use crate::judgment::{Both, both_procedures, equiv, result_of};
-use crate::names::{named, remembered, sided, unit};
+use crate::names::{beside, named, path, unit};
 use crate::refusals::{argument, mismatch, not_built};
-use crate::setting::{Language, Setting};
-use crate::types::{fits, type_of, wanted};
+use crate::setting::Setting;
+use crate::types::{type_of, wanted};
+use gb_core::name::Name;
 use gb_core::place::Place;
 use gb_core::refusal::Refused;
 use gb_core::ty::Ty;
 use gb_goal::scope::Scope;
 use gb_goal::sequent::Sequent;
 use gb_same::types::same_types;
+use gb_script::head::Head;
+use gb_script::tree::Node;
 use gb_shared::Shared;
 use gb_terms::decl::{Typed, TypedName};
 use gb_terms::make;
-use gb_terms::op::{Op, Side};
-use gb_terms::term::{Form, Head, Term};
-use gb_tree::form::{
-    Bind, Connective, EquatedTree, FormShape, FormTree, Quantifier, SideTree, TypeTree, Word,
-};
-use sqlite_items::Boxed;
+use gb_terms::op::Op;
+use gb_terms::term::{Form, Term};
 use std::alloc::{AllocError, Global};
 
 /// The typed tree of a form that reads no program variable, in the context of a sequent.
@@ -46,7 +44,7 @@ pub fn term(
     alloc: Global,
     scope: &Scope,
     s: &Sequent,
-    t: &FormTree,
+    t: &Node,
     want: Option<&Ty>,
 ) -> Result<Term, Refused>
     ensures { Answers (elaborated t.now (ambient scope.now s.now) [] (option_copied want.entry)) result }
@@ -67,108 +65,82 @@ pub fn typed(
     alloc: Global,
     at: &Setting<'_>,
     bound: &[TypedName],
-    t: &FormTree,
+    t: &Node,
     want: Option<&Ty>,
 ) -> Result<Term, Refused>
     ensures { Answers (elaborated t.now (environment at.now) bound.now (option_copied want.entry)) result }
 {
-    let place = t.place;
-    match &t.shape {
-        FormShape::Path(name) => wanted(named(alloc, at, bound, name, place), want, place),
-        FormShape::Unit => wanted(unit(alloc), want, place),
-        FormShape::Bracketed(inner) => typed(alloc, at, bound, inner.get(), want),
-        FormShape::Sided(inner, side) => {
-            wanted(read(alloc, at, bound, inner.get(), side), want, place)
+    typing(
+        alloc,
+        at,
+        bound,
+        t.head,
+        &t.text,
+        t.parts.as_slice(),
+        t.place,
+        want,
+    )
+}
+
+/// .. from its head, its text, its parts and its place.
+#[cycle(form)]
+fn typing(
+    alloc: Global,
+    at: &Setting<'_>,
+    bound: &[TypedName],
+    head: Head,
+    text: &Name,
+    parts: &[Node],
+    place: Place,
+    want: Option<&Ty>,
+) -> Result<Term, Refused>
+    ensures { Answers (typing head text.now (with_typings parts.now) place (environment at.now) bound.now (option_copied want.entry)) result }
+{
+    match head {
+        Head::Name => wanted(named(alloc, at, bound, text, place), want, place),
+        Head::Path => wanted(at_path(alloc, at, bound, parts, place), want, place),
+        Head::Unit => wanted(unit(alloc), want, place),
+        Head::Bracketed => match parts {
+            [inner] => typed(alloc, at, bound, inner, want),
+            _ => Err(not_built(place)),
+        },
+        Head::Sided => match parts {
+            [operand, side] => wanted(read(alloc, at, bound, operand, side), want, place),
+            _ => Err(not_built(place)),
+        },
+        Head::Coin => coin(alloc, at, want, place),
+        Head::Function | Head::TypedFunction => Err(mismatch(place)),
+        Head::Not => match parts {
+            [a] => negated(alloc, at, bound, a, want, place),
+            _ => Err(not_built(place)),
+        },
+        Head::And => binary(alloc, at, bound, Op::And, parts, place, want),
+        Head::Or => binary(alloc, at, bound, Op::Or, parts, place, want),
+        Head::Implies => binary(alloc, at, bound, Op::Implies, parts, place, want),
+        Head::Iff => binary(alloc, at, bound, Op::Iff, parts, place, want),
+        Head::Compared => {
+            let op = comparison(text, place)?;
+            binary(alloc, at, bound, op, parts, place, want)
         }
-        FormShape::Coin => coin(alloc, at, want, place),
-        FormShape::Function { .. } => Err(mismatch(place)),
-        FormShape::Not(a) => negated(alloc, at, bound, a.get(), want, place),
-        FormShape::Binary(connective, a, b) => {
-            let op = relation(*connective, want, place)?;
-            let left = left_side(alloc, at, bound, a.get(), *connective, place)?;
-            with_right_side(alloc, at, bound, b.get(), op, left)
-        }
-        FormShape::Equalities(list) => {
-            equalities(alloc, at, bound, list.as_slice(), want, place)
-        }
-        FormShape::Quantified(quantifier, binds, body) => {
-            let (quantifier, binds) = (*quantifier, binds.as_slice());
-            quantified(alloc, at, bound, quantifier, binds, body.get(), want, place)
-        }
-        FormShape::Equiv {
-            left,
-            right,
-            pre,
-            post,
-        } => {
-            judgment(at, want, place)?;
-            let both = both_procedures(alloc, at, bound, left.get(), right.get(), place)?;
-            let pre = precondition(alloc, at, bound, pre.get(), &both)?;
-            equivalence(alloc, at, bound, post.get(), &both, pre)
-        }
+        Head::Equalities => equalities(alloc, at, bound, parts, want, place),
+        Head::Quantified => quantified(alloc, at, bound, text, parts, place, want),
+        Head::Equiv => equivalence(alloc, at, bound, parts, place, want),
         _ => Err(not_built(place)),
     }
 }
 
-/// Refuses a truth where another type is wanted.
-fn truth(want: Option<&Ty>, place: Place) -> Result<(), Refused>
-    ensures { Answers (truth (option_copied want.entry) place) result }
+/// The meaning of a path without a side.
+fn at_path(
+    alloc: Global,
+    at: &Setting<'_>,
+    bound: &[TypedName],
+    words: &[Node],
+    place: Place,
+) -> Result<Term, Refused>
+    ensures { Answers (named (environment at.now) bound.now (path words.now) place) result }
 {
-    if fits(&Ty::Bool, want) {
-        Ok(())
-    } else {
-        Err(mismatch(place))
-    }
-}
-
-/// Refuses a truth that no program expression is, and one where another type is wanted.
-fn formula(at: &Setting<'_>, want: Option<&Ty>, place: Place) -> Result<(), Refused>
-    ensures { Answers (formula (environment at.now) (option_copied want.entry) place) result }
-{
-    match at.language {
-        Language::Program => Err(argument(place)),
-        _ => truth(want, place),
-    }
-}
-
-/// Refuses a judgment where none may stand, and one where another type is wanted.
-fn judgment(at: &Setting<'_>, want: Option<&Ty>, place: Place) -> Result<(), Refused>
-    ensures { Answers (judgment (environment at.now) (option_copied want.entry) place) result }
-{
-    match at.language {
-        Language::Formula => truth(want, place),
-        _ => Err(argument(place)),
-    }
-}
-
-/// The typed tree of the fair coin. A program has it where it samples.
-#[tactic(auto, unfolding(crate::specs::Forms::coin))]
-fn coin(alloc: Global, at: &Setting<'_>, want: Option<&Ty>, place: Place) -> Result<Term, Refused>
-    ensures { Answers (coin (environment at.now) (option_copied want.entry) place) result }
-{
-    if at.language == Language::Program && !is_distribution(want) {
-        return Err(argument(place));
-    }
-    wanted(fair_coin(alloc), want, place)
-}
-
-/// The fair coin.
-fn fair_coin(alloc: Global) -> Result<Term, Refused>
-    ensures { Answers (given (node (Builtin Op.Coin) [] (Distr Ty.Bool))) result }
-{
-    let outcomes = make::truth_ty(alloc)?;
-    let ty = Shared::new(alloc, Ty::Distr(outcomes))?;
-    make::leaf(alloc, Head::Builtin(Op::Coin), ty).map_err(Refused::from)
-}
-
-/// Whether a distribution is wanted.
-fn is_distribution(want: Option<&Ty>) -> bool
-    ensures { result ≡ wants_distribution (option_copied want.entry) }
-{
-    match want {
-        Some(Ty::Distr(_)) => true,
-        _ => false,
-    }
+    let name = path(alloc, words)?;
+    named(alloc, at, bound, &name, place)
 }
 
 /// The typed tree of a form with a side, which is of a name alone.
@@ -176,50 +148,41 @@ fn read(
     alloc: Global,
     at: &Setting<'_>,
     bound: &[TypedName],
-    t: &FormTree,
-    side: &SideTree,
+    t: &Node,
+    side: &Node,
 ) -> Result<Term, Refused>
-    ensures { Answers (read (environment at.now) bound.now (out-FormShape t.now.shape) t.now.place side.now) result }
+    ensures { Answers (read (environment at.now) bound.now (head_of t.now) (text_of t.now) (parts_of t.now) (place_of t.now) side.now) result }
 {
-    match &t.shape {
-        FormShape::Path(name) => match side {
-            SideTree::Left => sided(alloc, at, bound, name, Side::Left, t.place),
-            SideTree::Right => sided(alloc, at, bound, name, Side::Right, t.place),
-            SideTree::Memory(memory) => remembered(alloc, at, name, memory, t.place),
-        },
+    match t.head {
+        Head::Name => beside(alloc, at, bound, &t.text, side, t.place),
+        Head::Path => {
+            let name = path(alloc, t.parts.as_slice())?;
+            beside(alloc, at, bound, &name, side, t.place)
+        }
         _ => Err(argument(t.place)),
     }
 }
 
-fn operator(connective: Connective, place: Place) -> Result<Op, Refused>
-    ensures { Answers (operator connective place) result }
+/// The operator of a comparison.
+fn comparison(text: &Name, place: Place) -> Result<Op, Refused>
+    ensures { Answers (comparison text.now place) result }
 {
-    match connective {
-        Connective::And => Ok(Op::And),
-        Connective::Or => Ok(Op::Or),
-        Connective::Implies => Ok(Op::Implies),
-        Connective::Iff => Ok(Op::Iff),
-        Connective::Equal => Ok(Op::Equal),
-        Connective::NotEqual => Ok(Op::NotEqual),
-        _ => Err(not_built(place)),
+    let text = text.as_str();
+    if text == "=" {
+        Ok(Op::Equal)
+    } else if text == "<>" {
+        Ok(Op::NotEqual)
+    } else {
+        Err(not_built(place))
     }
 }
 
-/// The operator of a connective that makes a truth, refused where another type is wanted.
-fn relation(connective: Connective, want: Option<&Ty>, place: Place) -> Result<Op, Refused>
-    ensures { Answers (relation connective (option_copied want.entry) place) result }
-{
-    let op = operator(connective, place)?;
-    truth(want, place)?;
-    Ok(op)
-}
-
 /// Whether the sides may be of any one type, and need not be truths.
-fn is_equation(connective: Connective) -> bool
-    ensures { result ≡ is_equation connective }
+fn is_equation(op: Op) -> bool
+    ensures { result ≡ is_equation op }
 {
-    match connective {
-        Connective::Equal | Connective::NotEqual => true,
+    match op {
+        Op::Equal | Op::NotEqual => true,
         _ => false,
     }
 }
@@ -230,7 +193,7 @@ fn typed_truth(
     alloc: Global,
     at: &Setting<'_>,
     bound: &[TypedName],
-    t: &FormTree,
+    t: &Node,
 ) -> Result<Form, Refused>
     ensures { Answers (elaborated t.now (environment at.now) bound.now (Some Ty.Bool)) result }
 {
@@ -242,7 +205,7 @@ fn negated(
     alloc: Global,
     at: &Setting<'_>,
     bound: &[TypedName],
-    a: &FormTree,
+    a: &Node,
     want: Option<&Ty>,
     place: Place,
 ) -> Result<Form, Refused>
@@ -259,13 +222,13 @@ fn left_side(
     alloc: Global,
     at: &Setting<'_>,
     bound: &[TypedName],
-    a: &FormTree,
-    connective: Connective,
+    a: &Node,
+    op: Op,
     place: Place,
 ) -> Result<Term, Refused>
-    ensures { Answers (left_side connective place (elaborated a.now (environment at.now) bound.now)) result }
+    ensures { Answers (left_side op place (elaborated a.now (environment at.now) bound.now)) result }
 {
-    if !is_equation(connective) {
+    if !is_equation(op) {
         return typed_truth(alloc, at, bound, a);
     }
     let a = typed(alloc, at, bound, a, None)?;
@@ -282,7 +245,7 @@ fn with_right_side(
     alloc: Global,
     at: &Setting<'_>,
     bound: &[TypedName],
-    b: &FormTree,
+    b: &Node,
     op: Op,
     left: Term,
 ) -> Result<Form, Refused>
@@ -290,6 +253,29 @@ fn with_right_side(
 {
     let right = typed(alloc, at, bound, b, Some(left.ty.get()))?;
     compared(alloc, op, left, right).map_err(Refused::from)
+}
+
+/// An operator that makes a truth of two forms.
+#[cycle(form)]
+fn binary(
+    alloc: Global,
+    at: &Setting<'_>,
+    bound: &[TypedName],
+    op: Op,
+    parts: &[Node],
+    place: Place,
+    want: Option<&Ty>,
+) -> Result<Form, Refused>
+    ensures { Answers (binary op (with_typings parts.now) place (environment at.now) bound.now (option_copied want.entry)) result }
+{
+    match parts {
+        [a, b] => {
+            truth(want, place)?;
+            let left = left_side(alloc, at, bound, a, op, place)?;
+            with_right_side(alloc, at, bound, b, op, left)
+        }
+        _ => Err(not_built(place)),
+    }
 }
 
 /// An operator of two sides that makes a truth.
@@ -300,103 +286,28 @@ fn compared(alloc: Global, op: Op, left: Term, right: Term) -> Result<Form, Allo
     make::binary(alloc, op, left, right, ty)
 }
 
-/// The equality of a variable of two programs.
-#[tactic(auto, unfolding(crate::specs::Forms::equality))]
-fn equality(alloc: Global, at: &Setting<'_>, bound: &[TypedName], x: &Word) -> Result<Form, Refused>
-    ensures { Answers (equality (environment at.now) bound.now x.now) result }
-{
-    let left = sided(alloc, at, bound, &x.name, Side::Left, x.place)?;
-    let right = sided(alloc, at, bound, &x.name, Side::Right, x.place)?;
-    equated(alloc, left, right, x.place)
-}
-
-/// The equality of two terms, which are to be of one type.
-fn equated(alloc: Global, left: Term, right: Term, place: Place) -> Result<Form, Refused>
-    ensures { Answers (if ty_eq (type_of_term right) (type_of_term left) then given (applied Op.Equal (left ∷ right ∷ []) Ty.Bool) else refused TypeMismatch place) result }
-{
-    if same_types(right.ty.get(), left.ty.get()) {
-        make::equality(alloc, left, right).map_err(Refused::from)
-    } else {
-        Err(mismatch(place))
-    }
-}
-
-/// What `={..}` says of one thing.
-fn equation(
-    alloc: Global,
-    at: &Setting<'_>,
-    bound: &[TypedName],
-    equated: &EquatedTree,
-) -> Result<Form, Refused>
-    ensures { Answers (equation (environment at.now) bound.now equated.now) result }
-{
-    match equated {
-        EquatedTree::Path(x) => equality(alloc, at, bound, x),
-        EquatedTree::Glob(module) => Err(not_built(module.get().path.place)),
-    }
-}
-
-/// Equations of two programs, joined to the left.
-#[tactic(auto, unfolding(crate::specs::Forms::equalities, crate::specs::Forms::joined))]
-fn equalities(
-    alloc: Global,
-    at: &Setting<'_>,
-    bound: &[TypedName],
-    list: &[EquatedTree],
-    want: Option<&Ty>,
-    place: Place,
-) -> Result<Form, Refused>
-    ensures { Answers (truth (option_copied want.entry) place and_then λ _. equalities (environment at.now) bound.now list.now place) result }
-{
-    truth(want, place)?;
-    if at.on_side(Side::Left).is_none() {
-        return Err(argument(place));
-    }
-    match list {
-        [] => make::boolean(alloc, true).map_err(Refused::from),
-        [x, rest @ ..] => {
-            let first = equation(alloc, at, bound, x)?;
-            with_equalities(alloc, at, bound, first, rest)
-        }
-    }
-}
-
-/// A form and, to its right, further equations.
-#[tactic(auto, unfolding(crate::specs::Forms::with_equalities))]
-fn with_equalities(
-    alloc: Global,
-    at: &Setting<'_>,
-    bound: &[TypedName],
-    first: Form,
-    list: &[EquatedTree],
-) -> Result<Form, Refused>
-    ensures { Answers (with_equalities (environment at.now) bound.now first list.now) result }
-{
-    let mut form = first;
-    for x in list {
-        let next = equation(alloc, at, bound, x)?;
-        form = make::conjunction(alloc, form, next)?;
-    }
-    Ok(form)
-}
-
 /// A quantified form, which no program expression is.
 #[cycle(form)]
 fn quantified(
     alloc: Global,
     at: &Setting<'_>,
     bound: &[TypedName],
-    quantifier: Quantifier,
-    binds: &[Bind],
-    body: &FormTree,
-    want: Option<&Ty>,
+    text: &Name,
+    parts: &[Node],
     place: Place,
+    want: Option<&Ty>,
 ) -> Result<Form, Refused>
-    ensures { Answers (formula (environment at.now) (option_copied want.entry) place and_then λ _. bound_by [] binds.now and_then λ variables. quantified quantifier variables bound.now (elaborated body.now (environment at.now))) result }
+    ensures { Answers (quantified text.now (with_typings parts.now) place (environment at.now) bound.now (option_copied want.entry)) result }
 {
-    formula(at, want, place)?;
-    let variables = bound_by(alloc, binds)?;
-    over_body(alloc, at, bound, quantifier, variables, body)
+    match parts {
+        [binds, body] => {
+            let quantifier = quantifier_of(text, place)?;
+            formula(at, want, place)?;
+            let variables = bound_by(alloc, binds.parts.as_slice())?;
+            over_body(alloc, at, bound, quantifier, variables, body)
+        }
+        _ => Err(not_built(place)),
+    }
 }
 
 /// The quantifiers over these variables, which are bound in the body.
@@ -407,14 +318,37 @@ fn over_body(
     bound: &[TypedName],
     quantifier: Quantifier,
     variables: Typed,
-    body: &FormTree,
+    body: &Node,
 ) -> Result<Form, Refused>
-    ensures { Answers (quantified quantifier variables bound.now (elaborated body.now (environment at.now))) result }
+    ensures { Answers (under quantifier variables bound.now (elaborated body.now (environment at.now))) result }
 {
     let count = variables.len();
     let inner = within(alloc, variables, bound)?;
     let body = typed_truth(alloc, at, inner.as_slice(), body)?;
     over_all(alloc, quantifier, &inner.as_slice()[..count], body).map_err(Refused::from)
+}
+
+/// An equivalence of two procedures.
+#[cycle(form)]
+fn equivalence(
+    alloc: Global,
+    at: &Setting<'_>,
+    bound: &[TypedName],
+    parts: &[Node],
+    place: Place,
+    want: Option<&Ty>,
+) -> Result<Form, Refused>
+    ensures { Answers (equivalence (with_typings parts.now) place (environment at.now) bound.now (option_copied want.entry)) result }
+{
+    match parts {
+        [f, g, pre, post] => {
+            judgment(at, want, place)?;
+            let both = both_procedures(alloc, at, bound, f, g, place)?;
+            let pre = precondition(alloc, at, bound, pre, &both)?;
+            with_postcondition(alloc, at, bound, post, &both, pre)
+        }
+        _ => Err(not_built(place)),
+    }
 }
 
 /// The precondition of an equivalence of two procedures, which reads their parameters.
@@ -423,13 +357,13 @@ fn precondition(
     alloc: Global,
     at: &Setting<'_>,
     bound: &[TypedName],
-    pre: &FormTree,
-    both: &Both<'_, '_>,
+    pre: &Node,
+    both: &Both<'_>,
 ) -> Result<Form, Refused>
-    ensures { Answers (elaborated pre.now (before (environment at.now) both.now.f.now both.now.g.now) bound.now (Some Ty.Bool)) result }
+    ensures { Answers (elaborated pre.now (before (environment at.now) both.now.left.procedure.now both.now.right.procedure.now) bound.now (Some Ty.Bool)) result }
 {
-    let left = both.f.params.as_slice();
-    let right = both.g.params.as_slice();
+    let left = both.left.procedure.params.as_slice();
+    let right = both.right.procedure.params.as_slice();
     let before = Setting::relational(at.scope, at.sequent, left, right);
     typed_truth(alloc, &before, bound, pre)
 }
@@ -440,28 +374,28 @@ fn postcondition(
     alloc: Global,
     at: &Setting<'_>,
     bound: &[TypedName],
-    post: &FormTree,
-    both: &Both<'_, '_>,
+    post: &Node,
+    both: &Both<'_>,
 ) -> Result<Form, Refused>
-    ensures { Answers (elaborated post.now (after (environment at.now) both.now.f.now both.now.g.now) bound.now (Some Ty.Bool)) result }
+    ensures { Answers (elaborated post.now (after (environment at.now) both.now.left.procedure.now both.now.right.procedure.now) bound.now (Some Ty.Bool)) result }
 {
-    let left = result_of(alloc, both.f)?;
-    let right = result_of(alloc, both.g)?;
+    let left = result_of(alloc, both.left.procedure)?;
+    let right = result_of(alloc, both.right.procedure)?;
     let after = Setting::relational(at.scope, at.sequent, left.as_slice(), right.as_slice());
     typed_truth(alloc, &after, bound, post)
 }
 
 /// An equivalence of two procedures with its postcondition.
 #[cycle(form)]
-fn equivalence(
+fn with_postcondition(
     alloc: Global,
     at: &Setting<'_>,
     bound: &[TypedName],
-    post: &FormTree,
-    both: &Both<'_, '_>,
+    post: &Node,
+    both: &Both<'_>,
     pre: Form,
 ) -> Result<Form, Refused>
-    ensures { Answers (elaborated post.now (after (environment at.now) both.now.f.now both.now.g.now) bound.now (Some Ty.Bool) and_then λ post. given (equivalent both.now.left.now both.now.right.now pre post)) result }
+    ensures { Answers (elaborated post.now (after (environment at.now) both.now.left.procedure.now both.now.right.procedure.now) bound.now (Some Ty.Bool) and_then λ post. given (equivalent both.now.left.reference both.now.right.reference pre post)) result }
 {
     let post = postcondition(alloc, at, bound, post, both)?;
     equiv(alloc, both, pre, post).map_err(Refused::from)
@@ -474,46 +408,88 @@ fn equivalence(
 ///
 /// `TypeMismatch` where the form is no function of one variable, where its variable has another type by the text (at
 /// that type), and where its value has another type; those of `type_of` and those of `typed`.
+#[cycle(function)]
 pub fn function(
     alloc: Global,
     at: &Setting<'_>,
-    t: &FormTree,
+    t: &Node,
     from: &Shared<Ty>,
     to: &Ty,
 ) -> Result<Term, Refused>
     ensures { Answers (function t.now (environment at.now) from.now to.now) result }
 {
-    match &t.shape {
-        FormShape::Bracketed(inner) => function(alloc, at, inner.get(), from, to),
-        FormShape::Function { names, ty, body } => {
-            if names.len() != 1 {
-                return Err(mismatch(t.place));
+    function_typing(alloc, at, t.head, t.parts.as_slice(), t.place, from, to)
+}
+
+/// .. from its head, its parts and its place.
+#[cycle(function)]
+fn function_typing(
+    alloc: Global,
+    at: &Setting<'_>,
+    head: Head,
+    parts: &[Node],
+    place: Place,
+    from: &Shared<Ty>,
+    to: &Ty,
+) -> Result<Term, Refused>
+    ensures { Answers (function_typing head (with_functions parts.now) place (environment at.now) from.now to.now) result }
+{
+    match head {
+        Head::Bracketed => match parts {
+            [inner] => function(alloc, at, inner, from, to),
+            _ => Err(mismatch(place)),
+        },
+        Head::Function => match parts {
+            [names, body] => {
+                let x = only(names.parts.as_slice(), place)?;
+                value_of(alloc, at, x, body, from, to)
             }
-            written_as(alloc, ty, from)?;
-            let variable = of_type(alloc, names.as_slice(), from)?;
-            typed(alloc, at, variable.as_slice(), body.get(), Some(to))
-        }
-        _ => Err(mismatch(t.place)),
+            _ => Err(mismatch(place)),
+        },
+        Head::TypedFunction => match parts {
+            [variables, ty, value] => {
+                let x = only(variables.parts.as_slice(), place)?;
+                written_as(alloc, ty, from)?;
+                value_of(alloc, at, x, value, from, to)
+            }
+            _ => Err(mismatch(place)),
+        },
+        _ => Err(mismatch(place)),
+    }
+}
+
+/// The variable of a function, which has one.
+fn only<'t>(names: &'t [Node], place: Place) -> Result<&'t Node, Refused>
+    ensures { Gives (λ x. x.now) (only names.now place) result }
+{
+    match names {
+        [x] => Ok(x),
+        _ => Err(mismatch(place)),
     }
 }
 
 /// Refuses a type of the text that isn't the one that is wanted.
-fn written_as(
-    alloc: Global,
-    written: &Option<Boxed<TypeTree>>,
-    ty: &Shared<Ty>,
-) -> Result<(), Refused>
+fn written_as(alloc: Global, written: &Node, ty: &Shared<Ty>) -> Result<(), Refused>
     ensures { Answers (written_as written.now ty.now) result }
 {
-    match written {
-        None => Ok(()),
-        Some(written) => {
-            let written = written.get();
-            if same_types(type_of(alloc, written)?.get(), ty.get()) {
-                Ok(())
-            } else {
-                Err(mismatch(written.place))
-            }
-        }
+    if same_types(type_of(alloc, written)?.get(), ty.get()) {
+        Ok(())
+    } else {
+        Err(mismatch(written.place))
     }
+}
+
+/// The value of a function, with its variable as the innermost bound one.
+fn value_of(
+    alloc: Global,
+    at: &Setting<'_>,
+    x: &Node,
+    body: &Node,
+    from: &Shared<Ty>,
+    to: &Ty,
+) -> Result<Term, Refused>
+    ensures { Answers (value_of x.now body.now (environment at.now) from.now to.now) result }
+{
+    let variable = variable(alloc, &x.text, from)?;
+    typed(alloc, at, &[variable], body, Some(to))
 }

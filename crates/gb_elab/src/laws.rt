@@ -4,7 +4,7 @@ ghost use Rattle.std.specs.Prelude.{◌≡◌, List, Option};
 ghost use Rattle.gb_core.specs.declared.ty.Ty.{Ty};
 ghost use Rattle.gb_terms.specs.declared.decl.TypedName.{TypedName};
 ghost use Rattle.gb_terms.specs.declared.term.Term.{Term};
-ghost use Rattle.gb_tree.specs.declared.form.FormTree.{FormTree};
+ghost use Rattle.gb_script.specs.declared.tree.Node.{Node};
 ghost use Rattle.gb_elab.specs.Answers.{HasType};
 ghost use Rattle.gb_elab.specs.Answers.Answer.{given};
 ghost use Rattle.gb_elab.specs.Environment.{Environment};
@@ -12,6 +12,6 @@ ghost use Rattle.gb_elab.specs.Forms.{elaborated};
 
 /// What a form means has the wanted type.
 pub fn wanted_types()
-    ensures { (t : FormTree) (at : Environment) (bound : List TypedName) (w : Option Ty) (u : Term) →
+    ensures { (t : Node) (at : Environment) (bound : List TypedName) (w : Option Ty) (u : Term) →
         elaborated t at bound w ≡ given u → HasType w u }
 {}

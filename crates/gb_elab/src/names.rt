@@ -1,15 +1,16 @@
 // What a name means where it stands.
 
-ghost use Rattle.std.specs.Prelude.{◌≡◌, Ok, IfOk, bytes_eq};
+ghost use Rattle.std.specs.Prelude.{◌≡◌, ◌++◌, Ok, IfOk, OnOk, bytes_eq, codes, string_bytes};
 ghost use Rattle.std.specs.List.{list_any};
 ghost use Rattle.std.specs.Option.{option_copied};
+ghost use Rattle.gb_script.specs.Tree.{head_of};
 ghost use Rattle.gb_elab.specs.Answers.{Answers, Fails, Gives, Refuses, counted};
 ghost use Rattle.gb_elab.specs.Answers.Answer.{given};
 ghost use Rattle.gb_elab.specs.Environment.{environment};
-ghost use Rattle.gb_elab.specs.Forms.{remembered};
-ghost use Rattle.gb_elab.specs.Names.{bound_variable, built_in, constant_term, first_named, in_memory, is_variable, logical_variable, named, names_no_value, names_other, no_variable, number_before, own_variable, program_variable, sided, unbound, unit};
+ghost use Rattle.gb_elab.specs.Forms.{beside, remembered, side_of};
+ghost use Rattle.gb_elab.specs.Names.{bound_variable, built_in, constant_term, dotted, first_named, in_memory, is_variable, logical_variable, named, names_no_value, names_other, no_variable, number_before, own_variable, path, program_variable, sided, unbound, unit};
 
-use crate::refusals::{argument, too_many, unknown};
+use crate::refusals::{argument, not_built, too_many, unknown};
 use crate::setting::{Language, Setting};
 use gb_core::name::Name;
 use gb_core::place::Place;
@@ -17,17 +18,47 @@ use gb_core::refusal::Refused;
 use gb_core::ty::Ty;
 use gb_core::value::Value;
 use gb_goal::sequent::{Hyp, Sequent};
+use gb_script::head::Head as NodeHead;
+use gb_script::tree::Node;
 use gb_shared::Shared;
 use gb_terms::decl::TypedName;
 use gb_terms::make;
 use gb_terms::module::Bind;
 use gb_terms::op::Side;
 use gb_terms::term::{Head, Term};
-use gb_tree::form::Word;
 use std::alloc::{AllocError, Global};
 
 /// The most nodes of a formula.
 pub const NODES: u64 = 65_536;
+
+/// A dot and a name at the end of a path.
+pub fn append(path: &mut String, name: &Name) -> Result<(), AllocError>
+    ensures { OnOk result (string_bytes path.new ≡ (string_bytes path.old ++ codes ".") ++ name.now) }
+{
+    path.push_str(".")?;
+    path.push_str(name.as_str())
+}
+
+/// A name with further words behind it, a dot before each.
+fn dotted(alloc: Global, first: &Name, more: &[Node]) -> Result<Name, AllocError>
+    ensures { IfOk result (λ made. made ≡ dotted first.now more.now) }
+{
+    let mut text = String::from_str(alloc, first.as_str())?;
+    for word in more {
+        append(&mut text, &word.text)?;
+    }
+    Ok(Name::new(text))
+}
+
+/// The name that some words are, joined by dots.
+pub fn path(alloc: Global, words: &[Node]) -> Result<Name, AllocError>
+    ensures { IfOk result (λ made. made ≡ path words.now) }
+{
+    match words {
+        [] => Name::from_str(alloc, ""),
+        [first, more @ ..] => dotted(alloc, &first.text, more),
+    }
+}
 
 /// The first thing of this name in a list.
 fn first_named<'a>(list: &'a [TypedName], name: &Name) -> Option<&'a TypedName>
@@ -251,13 +282,13 @@ fn no_variable(alloc: Global, at: &Setting<'_>, name: &Name, place: Place) -> Re
 pub fn own_variable<'a>(
     alloc: Global,
     at: &'a Setting<'_>,
-    x: &Word,
+    x: &Node,
 ) -> Result<&'a TypedName, Refused>
     ensures { Gives (λ v. v.now) (own_variable (environment at.now) x.now) result }
 {
-    match first_named(at.own(), &x.name) {
+    match first_named(at.own(), &x.text) {
         Some(variable) => Ok(variable),
-        None => Err(no_variable(alloc, at, &x.name, x.place)),
+        None => Err(no_variable(alloc, at, &x.text, x.place)),
     }
 }
 
@@ -295,26 +326,22 @@ pub fn sided(
 ///
 /// `UnknownName` where there is no such memory and where nothing has the name, `Argument` where another thing has it.
 #[tactic(auto, unfolding(crate::specs::Names::in_memory))]
-fn in_memory(alloc: Global, at: &Setting<'_>, name: &Name, memory: &Word, place: Place) -> Refused
+fn in_memory(alloc: Global, at: &Setting<'_>, name: &Name, memory: &Node, place: Place) -> Refused
     ensures { Fails (in_memory (environment at.now) name.now memory.now place) result }
 {
-    if is_among(at.sequent.memories.as_slice(), &memory.name) {
+    if is_among(at.sequent.memories.as_slice(), &memory.text) {
         no_variable(alloc, at, name, place)
     } else {
-        unknown(alloc, &memory.name, memory.place)
+        unknown(alloc, &memory.text, memory.place)
     }
 }
 
 /// The refusal of a read through a named memory. A program expression has none.
-///
-/// # Errors
-///
-/// `Argument` in a program expression, and those of `in_memory`.
-pub fn remembered(
+fn remembered(
     alloc: Global,
     at: &Setting<'_>,
     name: &Name,
-    memory: &Word,
+    memory: &Node,
     place: Place,
 ) -> Result<Term, Refused>
     ensures { Answers (remembered at.now.language (environment at.now) name.now memory.now place) result }
@@ -322,5 +349,40 @@ pub fn remembered(
     match at.language {
         Language::Program => Err(argument(place)),
         _ => Err(in_memory(alloc, at, name, memory, place)),
+    }
+}
+
+/// The side of a number.
+fn side_of(number: &Name, place: Place) -> Result<Side, Refused>
+    ensures { Answers (side_of number.now place) result }
+{
+    let text = number.as_str();
+    if text == "1" {
+        Ok(Side::Left)
+    } else if text == "2" {
+        Ok(Side::Right)
+    } else {
+        Err(not_built(place))
+    }
+}
+
+/// The meaning of a name with what stands behind it in braces: the number of a side, or the name of a memory.
+///
+/// # Errors
+///
+/// Those of `sided`, and `UnknownName` and `Argument` of a memory's name, which no program expression has.
+pub fn beside(
+    alloc: Global,
+    at: &Setting<'_>,
+    bound: &[TypedName],
+    name: &Name,
+    behind: &Node,
+    place: Place,
+) -> Result<Term, Refused>
+    ensures { Answers (beside (head_of behind.now) behind.now (environment at.now) bound.now name.now place) result }
+{
+    match behind.head {
+        NodeHead::Number => sided(alloc, at, bound, name, side_of(&behind.text, place)?, place),
+        _ => remembered(alloc, at, name, behind, place),
     }
 }

@@ -1,4 +1,2 @@
-pub mod Declared
 pub mod Found
 pub mod Gathered
-pub mod Values

@@ -1,60 +1,66 @@
 -- The typing of modules.
-use Rattle.std.specs.Prelude.{Bool, true, false, ◌||◌, if◌then◌else◌, List, [], ◌∷◌, ◌++◌, Option, Some, None, is_some, bytes_eq, slice_get}
+use Rattle.std.specs.Prelude.{Bool, true, false, if◌then◌else◌, List, [], ◌∷◌, ◌++◌, Option, Some, None, slice_get}
 use Rattle.std.specs.List.{list_any}
-use Rattle.gb_core.specs.declared.refusal.Why.TheVariants.{DoubleName, TooMany}
+use Rattle.gb_core.specs.declared.place.Place.{Place}
+use Rattle.gb_core.specs.declared.refusal.Why.TheVariants.{TooMany}
 use Rattle.gb_terms.specs.declared.decl.Module.{Module}
 use Rattle.gb_terms.specs.declared.decl.Proc.{Proc}
+use Rattle.gb_goal.specs.declared.sequent.Sequent.{Sequent}
 use Rattle.gb_goal.specs.Scope.{Declarations}
-use Rattle.gb_tree.specs.declared.program.ModuleItem.{ModuleItem}
-use Rattle.gb_tree.specs.declared.program.ModuleItem.TheVariants.{Globals, Proc as proc_item}
-use Rattle.gb_tree.specs.declared.program.ModuleParameter.{ModuleParameter}
-use Rattle.gb_tree.specs.declared.program.ModuleTree.{ModuleTree}
-use Rattle.gb_tree.specs.declared.program.ProcTree.{ProcTree}
-use Rattle.gb_tree.specs.declared.program.Statement.{Statement}
+use Rattle.gb_script.specs.declared.head.Head.{Head}
+use Rattle.gb_script.specs.declared.head.Head.TheVariants as head
+use Rattle.gb_script.specs.declared.tree.Node.{Node}
+use Rattle.gb_script.specs.Tree.{head_of, text_of, parts_of, place_of}
 use Rattle.gb_elab.specs.Answers.{Answer, ◌>>=◌, not_built}
 use Rattle.gb_elab.specs.Answers.Answer.{given, refused}
 use Rattle.gb_elab_mod.specs.Lemmas.{free, nothing_around}
 use Rattle.gb_elab_mod.specs.Procedures.{procedure}
-use Rattle.gb_elab_mod.specs.Typed.{procs_in}
+use Rattle.gb_elab_mod.specs.Unbuilt.{absent}
 
--- Procedures beside those that are declared: no name stands twice.
-unfoldable pub procedures : Declarations → List Proc → List ProcTree → Answer (List Proc)
-procedures ds ps [] = given ps
-procedures ds ps (t ∷ ts) =
-    if list_any (λ p. bytes_eq p.name t.name.name) ps then refused (DoubleName t.name.name) t.name.place
-    else (procedure ds nothing_around t >>= λ p. procedures ds (ps ++ p ∷ []) ts)
+-- procedures beside those that are declared
+unfoldable pub procedures : Declarations → Sequent → List Proc → List Node → Answer (List Proc)
+procedures ds s ps [] = given ps
+procedures ds s ps (t ∷ ts) = procedure ds s ps t >>= λ p. procedures ds s (ps ++ p ∷ []) ts
 
 -- a body of at most 512 statements, refused at the first one too many
-abbrev pub within_limit : Option Statement → Answer (Unit {0})
+abbrev pub within_limit : Option Node → Answer (Unit {0})
 within_limit None = given tt
-within_limit (Some s) = refused (TooMany 512) s.place
+within_limit (Some s) = refused (TooMany 512) (place_of s)
 
-abbrev pub short : ProcTree → Answer (Unit {0})
-short t = within_limit (slice_get t.body 512)
+abbrev pub short : Head → List Node → Answer (Unit {0})
+short head.Procedure (x ∷ fs ∷ r ∷ ls ∷ ss ∷ v ∷ []) = within_limit (slice_get (parts_of ss) 512)
+short _ _ = given tt
 
-abbrev pub all_short : List ProcTree → Answer (Unit {0})
+abbrev pub all_short : List Node → Answer (Unit {0})
 all_short [] = given tt
-all_short (t ∷ ts) = short t >>= λ _. all_short ts
+all_short (t ∷ ts) = short (head_of t) (parts_of t) >>= λ _. all_short ts
 
-abbrev pub is_globals : ModuleItem → Bool
-is_globals (Globals b) = true
-is_globals (proc_item t) = false
+abbrev pub is_globals : Head → Bool
+is_globals head.Globals = true
+is_globals _ = false
 
-abbrev pub takes_modules : List ModuleParameter → Bool
-takes_modules [] = false
-takes_modules (x ∷ xs) = true
+-- no globals, which aren't built
+abbrev pub without_globals : List Node → Place → Answer (Unit {0})
+without_globals ts p = if list_any (λ t. is_globals (head_of t)) ts then not_built p else given tt
 
--- a module of procedures alone, without parameters and a type
-abbrev pub plain : ModuleTree → Answer (Unit {0})
-plain t =
-    if takes_modules t.parameters || is_some t.own_ty || is_some t.ty || list_any is_globals t.items then not_built t.name.place
-    else given tt
+-- a module of this name, of procedures alone, without parameters and a type; sizes are tested behind types
+unfoldable pub plain : Declarations → Node → List Node → List Node → List Node → Answer Module
+plain ds x qs m ts = do
+  _ ← free ds x
+  _ ← absent qs (place_of x)
+  _ ← absent m (place_of x)
+  _ ← without_globals ts (place_of x)
+  ps ← procedures ds nothing_around [] ts
+  _ ← all_short ts
+  given (record { name = text_of x; params = []; globals = []; procs = ps })
 
--- the typed tree of a module; sizes are tested behind types
-unfoldable pub module_given : Declarations → ModuleTree → Answer Module
-module_given ds t = do
-  _ ← free ds t.name
-  _ ← plain t
-  ps ← procedures ds [] (procs_in t.items)
-  _ ← all_short (procs_in t.items)
-  given (record { name = t.name.name; params = []; globals = []; procs = ps })
+-- a module by its head and its parts; one with a type of its own isn't built, and the last clause takes what isn't either,
+-- with trees of another shape, of which the reader builds none, since each of its trees is well-sorted
+abbrev pub module_by : Declarations → Head → List Node → Place → Answer Module
+module_by ds head.Module (x ∷ qs ∷ m ∷ ts ∷ []) p = plain ds x (parts_of qs) (parts_of m) (parts_of ts)
+module_by ds head.AscribedModule (x ∷ xs) p = free ds x >>= λ _. not_built (place_of x)
+module_by ds _ _ p = not_built p
+
+-- the typed tree of a module
+abbrev pub module_given : Declarations → Node → Answer Module
+module_given ds t = module_by ds (head_of t) (parts_of t) (place_of t)

@@ -1,5 +1,5 @@
 -- The typing of proof steps.
-use Rattle.std.specs.Prelude.{◌-◌, if◌then◌else◌, List, [], ◌∷◌, length, slice_get, Option, Some, None}
+use Rattle.std.specs.Prelude.{ℕ, ◌-◌, Bool, true, false, if◌then◌else◌, List, [], ◌∷◌, length, slice_get, Option, Some, None, bytes_eq, codes}
 use Rattle.std.specs.Option.{option_map_or, option_zip}
 use Rattle.gb_core.specs.declared.place.Place.{Place}
 use Rattle.gb_core.specs.declared.refusal.Why.TheVariants.{TypeMismatch}
@@ -19,18 +19,16 @@ use Rattle.gb_goal.specs.declared.step.Rule.{Rule}
 use Rattle.gb_goal.specs.declared.step.Rule.TheVariants as rule
 use Rattle.gb_goal.specs.declared.step.Step.{Step}
 use Rattle.gb_goal.specs.Scope.{Declarations}
-use Rattle.gb_tree.specs.declared.form.FormTree.{FormTree}
-use Rattle.gb_tree.specs.declared.step.Bodies.{Bodies}
-use Rattle.gb_tree.specs.declared.step.Bodies.TheVariants.{Both}
-use Rattle.gb_tree.specs.declared.step.Hint.{Hint}
-use Rattle.gb_tree.specs.declared.step.RuleTree.{RuleTree}
-use Rattle.gb_tree.specs.declared.step.RuleTree.TheVariants as text
-use Rattle.gb_tree.specs.declared.step.StepTree.{StepTree}
+use Rattle.gb_script.specs.declared.head.Head.{Head as Kind}
+use Rattle.gb_script.specs.declared.head.Head.TheVariants as text
+use Rattle.gb_script.specs.declared.tree.Node.{Node}
+use Rattle.gb_script.specs.Tree.{head_of, text_of, parts_of, place_of}
 use Rattle.gb_elab.specs.Answers.{Answer, ◌>>=◌, not_built}
 use Rattle.gb_elab.specs.Answers.Answer.{given, refused}
 use Rattle.gb_elab.specs.Environment.{Environment, of_function}
 use Rattle.gb_elab.specs.Forms.{function}
 use Rattle.gb_elab_mod.specs.Occurring.{occurring}
+use Rattle.gb_elab_mod.specs.Unbuilt.{absent}
 
 abbrev pub of_subjects : layer.Subject-F Head Instr Subject Cmd Term → layer.Subject-F Head Instr Subject Cmd Term → Option (Cmd × Cmd)
 of_subjects (layer.Body c) (layer.Body d) = Some (c, d)
@@ -57,7 +55,7 @@ abbrev pub last_sampled : Cmd → Option Ty
 last_sampled c = sampled (slice_get c.list (length c.list - 1))
 
 -- functions from a type to a type
-abbrev pub functions : Environment → List FormTree → Ty → Ty → Answer (List Term)
+abbrev pub functions : Environment → List Node → Ty → Ty → Answer (List Term)
 functions at [] from to = given []
 functions at (f ∷ fs) from to = do
   t ← function f at from to
@@ -65,7 +63,7 @@ functions at (f ∷ fs) from to = do
   given (t ∷ ts)
 
 -- functions between two types: the first leads there, the others back
-unfoldable pub there_and_back : Environment → List FormTree → Ty → Ty → Answer (List Term)
+unfoldable pub there_and_back : Environment → List Node → Ty → Ty → Answer (List Term)
 there_and_back at [] from to = given []
 there_and_back at (f ∷ fs) from to = do
   t ← function f at from to
@@ -73,12 +71,12 @@ there_and_back at (f ∷ fs) from to = do
   given (t ∷ ts)
 
 -- One function leads there and back, so its types are one.
-abbrev pub one_type : List FormTree → Ty → Ty → Answer (Unit {0})
-one_type (f ∷ []) a b = if ty_eq a b then given tt else refused TypeMismatch f.place
+abbrev pub one_type : List Node → Ty → Ty → Answer (Unit {0})
+one_type (f ∷ []) a b = if ty_eq a b then given tt else refused TypeMismatch (place_of f)
 one_type _ a b = given tt
 
 -- the functions of two bodies whose last samplings are of these types; they read the locals that occur in the goal
-abbrev pub between : Declarations → Sequent → List FormTree → Cmd × Cmd → Ty × Ty → Answer (List Term)
+abbrev pub between : Declarations → Sequent → List Node → Cmd × Cmd → Ty × Ty → Answer (List Term)
 between ds g fs c t =
     one_type fs t.0 t.1 >>= λ _. there_and_back
     (of_function ds g (occurring (out-Term g.conclusion).args side.Left c.0) (occurring (out-Term g.conclusion).args side.Right c.1))
@@ -86,39 +84,44 @@ between ds g fs c t =
     t.0
     t.1
 
-abbrev pub of_bodies : Declarations → Sequent → List FormTree → Cmd × Cmd → Answer (List Term)
+abbrev pub of_bodies : Declarations → Sequent → List Node → Cmd × Cmd → Answer (List Term)
 of_bodies ds g fs c = option_map_or (between ds g fs c) (option_zip (last_sampled c.0) (last_sampled c.1)) (given [])
 
 -- The typed functions of `rnd`. Where the goal gives them no types they are left out, and the rule refuses the goal.
-unfoldable pub couplings : Declarations → Sequent → List FormTree → Answer (List Term)
+unfoldable pub couplings : Declarations → Sequent → List Node → Answer (List Term)
 couplings ds g fs = option_map_or (of_bodies ds g fs) (bodies g.conclusion) (given [])
 
--- a rule that acts on both bodies of a goal
-abbrev pub on_both : Bodies → Place → Answer (Unit {0})
-on_both Both p = given tt
-on_both _ p = not_built p
+abbrev pub is_apply : Kind → Bool
+is_apply text.Apply = true
+is_apply _ = false
 
-abbrev pub smt : List Hint → Place → Answer Rule
-smt [] p = given rule.Smt
-smt (h ∷ hs) p = not_built p
+-- the functions of `rnd`: none, one, or two, which stand as a function and its argument
+abbrev pub functions_of : List Node → List Node
+functions_of (f ∷ []) = if is_apply (head_of f) then parts_of f else f ∷ []
+functions_of fs = fs
 
-abbrev pub typed_rule : Declarations → Sequent → RuleTree → Place → Answer Rule
-typed_rule ds g (text.Proc b) p = do
-  _ ← on_both b p
+-- Rules act on both bodies of a goal: those on one of them aren't built. The last clause takes what isn't built either, and
+-- trees of another shape, of which the reader builds none, since each of its trees is well-sorted.
+abbrev pub typed_rule : Declarations → Sequent → Kind → List ℕ → List Node → Place → Answer Rule
+typed_rule ds g text.Proc x (b ∷ invariant ∷ []) p = do
+  _ ← absent (parts_of b) p
+  _ ← absent (parts_of invariant) p
   given rule.Proc
-typed_rule ds g (text.Rnd b fs) p = do
-  _ ← on_both b p
-  ts ← couplings ds g fs
+typed_rule ds g text.Rnd x (b ∷ fs) p = do
+  _ ← absent (parts_of b) p
+  ts ← couplings ds g (functions_of fs)
   given (rule.Rnd ts)
-typed_rule ds g (text.Skip b) p = do
-  _ ← on_both b p
-  given rule.Skip
-typed_rule ds g (text.Smt hs) p = smt hs p
-typed_rule ds g text.Split p = given rule.Split
-typed_rule ds g _ p = not_built p
+typed_rule ds g text.BodyStep x (b ∷ []) p = do
+  _ ← absent (parts_of b) p
+  if bytes_eq x (codes "skip") then given rule.Skip else not_built p
+typed_rule ds g text.PlainStep x [] p = if bytes_eq x (codes "split") then given rule.Split else not_built p
+typed_rule ds g text.Smt x hints p = do
+  _ ← absent hints p
+  given rule.Smt
+typed_rule ds g _ x _ p = not_built p
 
 -- a proof step with its arguments typed
-unfoldable pub step_given : Declarations → Sequent → StepTree → Answer Step
+unfoldable pub step_given : Declarations → Sequent → Node → Answer Step
 step_given ds g t = do
-  r ← typed_rule ds g t.rule t.place
-  given (record { rule = r; place = t.place })
+  r ← typed_rule ds g (head_of t) (text_of t) (parts_of t) (place_of t)
+  given (record { rule = r; place = place_of t })

@@ -1,14 +1,15 @@
 // The statement of a lemma.
 
-ghost use Rattle.std.specs.Prelude.{◌≡◌, ◌≤◌, [], Some, None, IfOk, OnOk};
+ghost use Rattle.std.specs.Prelude.{◌≡◌, [], Some, None, IfOk, OnOk};
+ghost use Rattle.gb_script.specs.Tree.{text_of};
 ghost use Rattle.gb_goal.specs.Scope.{entry_of};
-ghost use Rattle.gb_terms.specs.Nodes.{term_nodes};
-ghost use Rattle.gb_elab.specs.Answers.{Answers, type_of_term};
+ghost use Rattle.gb_elab.specs.Answers.{Answers};
 ghost use Rattle.gb_elab.specs.Environment.{ambient as in_sequent};
 ghost use Rattle.gb_elab.specs.Forms.{elaborated};
-ghost use Rattle.gb_elab_mod.specs.Lemmas.{binds_nothing, free, nothing_around, small, statement_given};
-ghost use Rattle.gb_elab_mod.specs.Typed.{alone};
+ghost use Rattle.gb_elab_mod.specs.Lemmas.{free, lemma_name, name_in, nothing_around, stated, statement_by, statement_given};
 
+use crate::unbuilt::refuse_any;
+use gb_core::place::Place;
 use gb_core::refusal::Refused;
 use gb_core::ty::Ty;
 use gb_elab::form::term;
@@ -16,11 +17,11 @@ use gb_elab::names::NODES;
 use gb_elab::refusals::{double, not_built, too_many};
 use gb_goal::scope::Scope;
 use gb_goal::sequent::{Sequent, ambient};
+use gb_script::head::Head;
+use gb_script::tree::Node;
 use gb_terms::make;
 use gb_terms::nodes::nodes_of;
 use gb_terms::term::Form;
-use gb_tree::command::LemmaTree;
-use gb_tree::form::{Bind, FormTree, Word};
 use std::alloc::{AllocError, Global};
 
 /// The empty context, with no claim.
@@ -32,24 +33,14 @@ pub fn nothing_around(alloc: Global) -> Result<Sequent, AllocError>
 }
 
 /// Refuses a name that the script has declared.
-pub fn refuse_declared(alloc: Global, scope: &Scope, name: &Word) -> Result<(), Refused>
-    ensures free { OnOk result (entry_of scope.now name.now.name ≡ None) }
+pub fn refuse_declared(alloc: Global, scope: &Scope, name: &Node) -> Result<(), Refused>
+    ensures free { OnOk result (entry_of scope.now (text_of name.now) ≡ None) }
     ensures answer { Answers (free scope.now name.now) result }
 {
-    if scope.is_free(&name.name) {
+    if scope.is_free(&name.text) {
         Ok(())
     } else {
-        Err(double(alloc, &name.name, name.place))
-    }
-}
-
-/// Refuses a lemma that binds something.
-fn refuse_binders(binders: &[Bind], name: &Word) -> Result<(), Refused>
-    ensures { Answers (binds_nothing binders.now name.now) result }
-{
-    match binders {
-        [] => Ok(()),
-        _ => Err(not_built(name.place)),
+        Err(double(alloc, &name.text, name.place))
     }
 }
 
@@ -59,29 +50,58 @@ fn refuse_binders(binders: &[Bind], name: &Word) -> Result<(), Refused>
 ///
 /// `DoubleName` at the lemma's name where it is taken, `Syntax` there where it binds something, those of typing with the
 /// wanted type `bool`, and `TooMany` of the nodes of a formula, whose place is for the caller to put in.
-#[tactic(auto, unfolding(crate::specs::Lemmas::statement_given))]
-pub fn statement(alloc: Global, scope: &Scope, t: &LemmaTree) -> Result<Sequent, Refused>
-    ensures answer { Answers (statement_given scope.now t.now) result }
-    ensures truth { IfOk result (λ s. type_of_term s.conclusion ≡ Ty.Bool) }
-    ensures size { IfOk result (λ s. term_nodes s.conclusion ≤ 65536) }
-    ensures context { IfOk result (λ s. s ≡ alone s.conclusion) }
-    ensures free { OnOk result (entry_of scope.now t.now.name.name ≡ None) }
+pub fn statement(alloc: Global, scope: &Scope, tree: &Node) -> Result<Sequent, Refused>
+    ensures answer { Answers (statement_given scope.now tree.now) result }
+    ensures free { OnOk result (entry_of scope.now (lemma_name tree.now) ≡ None) }
 {
-    refuse_declared(alloc, scope, &t.name)?;
-    refuse_binders(t.binders.as_slice(), &t.name)?;
-    let conclusion = stated(alloc, scope, t.statement.get())?;
+    statement_by(alloc, scope, tree.head, tree.parts.as_slice(), tree.place)
+}
+
+/// The same of a tree, by its head and its parts.
+fn statement_by(
+    alloc: Global,
+    scope: &Scope,
+    head: Head,
+    parts: &[Node],
+    place: Place,
+) -> Result<Sequent, Refused>
+    ensures answer { Answers (statement_by scope.now head parts.now place) result }
+    ensures free { OnOk result (entry_of scope.now (name_in parts.now) ≡ None) }
+{
+    match head {
+        Head::Lemma => match parts {
+            [name, binders, form] => stated(alloc, scope, name, binders.parts.as_slice(), form),
+            _ => Err(not_built(place)),
+        },
+        _ => Err(not_built(place)),
+    }
+}
+
+/// The same of a lemma of this name, these binders and this form.
+#[tactic(auto, unfolding(crate::specs::Lemmas::stated))]
+fn stated(
+    alloc: Global,
+    scope: &Scope,
+    name: &Node,
+    binders: &[Node],
+    form: &Node,
+) -> Result<Sequent, Refused>
+    ensures answer { Answers (stated scope.now name.now binders.now form.now) result }
+    ensures free { OnOk result (entry_of scope.now (text_of name.now) ≡ None) }
+{
+    refuse_declared(alloc, scope, name)?;
+    refuse_any(binders, name.place)?;
+    let conclusion = truth(alloc, scope, form)?;
     if nodes_of(&conclusion) > NODES {
         return Err(too_many(NODES));
     }
     ambient(alloc, conclusion).map_err(Refused::from)
 }
 
-/// The typed tree of a statement.
-#[tactic(auto, using(gb_elab::proofs::OfWantedType::answers_type))]
-fn stated(alloc: Global, scope: &Scope, t: &FormTree) -> Result<Form, Refused>
-    ensures answer { Answers (elaborated t.now (in_sequent scope.now nothing_around) [] (Some Ty.Bool)) result }
-    ensures truth { IfOk result (λ f. type_of_term f ≡ Ty.Bool) }
+/// The typed tree of a truth, with nothing around.
+fn truth(alloc: Global, scope: &Scope, form: &Node) -> Result<Form, Refused>
+    ensures { Answers (elaborated form.now (in_sequent scope.now nothing_around) [] (Some Ty.Bool)) result }
 {
     let around = nothing_around(alloc)?;
-    term(alloc, scope, &around, t, Some(&Ty::Bool))
+    term(alloc, scope, &around, form, Some(&Ty::Bool))
 }

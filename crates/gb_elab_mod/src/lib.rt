@@ -1,8 +1,10 @@
 //! Typing of modules, of the statements of lemmas, and of proof steps.
 #![tactic(auto)]
 
+pub mod couplings;
 pub mod lemma;
 pub mod module;
 pub mod occurring;
 pub mod procedure;
 pub mod step;
+pub mod unbuilt;

@@ -1,24 +1,29 @@
 // Modules.
 
-ghost use Rattle.std.specs.Prelude.{◌≡◌, [], All, None, IfOk, OnOk, bytes_eq};
-ghost use Rattle.gb_goal.specs.Scope.{entry_of};
+ghost use Rattle.std.specs.Prelude.{◌≡◌, [], None, IfOk};
 ghost use Rattle.std.specs.List.{list_any};
+ghost use Rattle.gb_script.specs.Tree.{head_of};
+ghost use Rattle.gb_goal.specs.Scope.{entry_of};
 ghost use Rattle.gb_elab.specs.Answers.{Answers};
 ghost use Rattle.gb_elab_mod.specs.Lemmas.{nothing_around};
-ghost use Rattle.gb_elab_mod.specs.Modules.{all_short, is_globals, module_given, plain, procedures};
-ghost use Rattle.gb_elab_mod.specs.Typed.{ReturnsItsType, names_in_text, proc_names, procs_in};
+ghost use Rattle.gb_elab_mod.specs.Modules.{all_short, is_globals, module_by, module_given, plain, procedures, short, without_globals};
 
 use crate::lemma::{nothing_around, refuse_declared};
-use crate::procedure::{procedure, refuse_long};
-use gb_core::name::Name;
-use gb_core::refusal::Refused;
-use gb_elab::refusals::{double, not_built};
+use crate::procedure::procedure;
+use crate::unbuilt::refuse_any;
+use gb_core::place::Place;
+use gb_core::refusal::{Refused, Why};
+use gb_elab::refusals::not_built;
 use gb_goal::scope::Scope;
 use gb_goal::sequent::Sequent;
-use gb_terms::decl::{Module, Proc, Procs};
-use gb_tree::program::{ModuleItem, ModuleTree};
+use gb_script::head::Head;
+use gb_script::tree::Node;
+use gb_terms::decl::{Module, Procs};
 use sqlite_items::Items;
 use std::alloc::Global;
+
+/// The most statements of a body.
+pub const STATEMENTS: usize = 512;
 
 /// The typed tree of a module.
 ///
@@ -26,21 +31,64 @@ use std::alloc::Global;
 ///
 /// `DoubleName` at the module's name where it is taken, `Syntax` there where it has parameters, a type or globals,
 /// `DoubleName` at the second procedure of one name, those of `procedure`, and then `TooMany` statements of a body.
-#[tactic(auto, unfolding(crate::specs::Modules::module_given))]
-pub fn module(alloc: Global, scope: &Scope, t: &ModuleTree) -> Result<Module, Refused>
-    ensures answer { Answers (module_given scope.now t.now) result }
-    ensures name { IfOk result (λ m. m.name ≡ t.now.name.name) }
-    ensures free { OnOk result (entry_of scope.now t.now.name.name ≡ None) }
-    ensures parameters { IfOk result (λ m. m.params ≡ []) }
-    ensures globals { IfOk result (λ m. m.globals ≡ []) }
-    ensures procedures { IfOk result (λ m. proc_names m.procs ≡ names_in_text (procs_in t.now.items)) }
-    ensures values { IfOk result (λ m. All ReturnsItsType m.procs) }
+/// `Syntax` at the place of the tree where it declares no module of its own.
+pub fn module(alloc: Global, scope: &Scope, tree: &Node) -> Result<Module, Refused>
+    ensures answer { Answers (module_given scope.now tree.now) result }
+    ensures free { IfOk result (λ m. entry_of scope.now m.name ≡ None) }
 {
-    refuse_declared(alloc, scope, &t.name)?;
-    refuse_unbuilt(t)?;
-    let name = t.name.name.copy(alloc)?;
-    let procs = typed_procedures(alloc, scope, t.items.as_slice())?;
-    refuse_long_bodies(t.items.as_slice())?;
+    module_by(alloc, scope, tree.head, tree.parts.as_slice(), tree.place)
+}
+
+/// The same, by the head and the parts of the tree.
+fn module_by(
+    alloc: Global,
+    scope: &Scope,
+    head: Head,
+    parts: &[Node],
+    place: Place,
+) -> Result<Module, Refused>
+    ensures answer { Answers (module_by scope.now head parts.now place) result }
+    ensures free { IfOk result (λ m. entry_of scope.now m.name ≡ None) }
+{
+    match head {
+        Head::Module => match parts {
+            [name, parameters, ty, items] => {
+                let (parameters, ty) = (parameters.parts.as_slice(), ty.parts.as_slice());
+                plain(alloc, scope, name, parameters, ty, items.parts.as_slice())
+            }
+            _ => Err(not_built(place)),
+        },
+        Head::AscribedModule => match parts {
+            [name, ..] => {
+                refuse_declared(alloc, scope, name)?;
+                Err(not_built(name.place))
+            }
+            _ => Err(not_built(place)),
+        },
+        _ => Err(not_built(place)),
+    }
+}
+
+/// The typed tree of a module of this name, which has procedures alone.
+#[tactic(auto, unfolding(crate::specs::Modules::plain))]
+fn plain(
+    alloc: Global,
+    scope: &Scope,
+    name: &Node,
+    parameters: &[Node],
+    ty: &[Node],
+    items: &[Node],
+) -> Result<Module, Refused>
+    ensures answer { Answers (plain scope.now name.now parameters.now ty.now items.now) result }
+    ensures free { IfOk result (λ m. entry_of scope.now m.name ≡ None) }
+{
+    refuse_declared(alloc, scope, name)?;
+    refuse_any(parameters, name.place)?;
+    refuse_any(ty, name.place)?;
+    refuse_globals(items, name.place)?;
+    let procs = typed_procedures(alloc, scope, items)?;
+    refuse_long_bodies(items)?;
+    let name = name.text.copy(alloc)?;
     Ok(Module {
         name,
         params: Items::new(alloc),
@@ -49,87 +97,87 @@ pub fn module(alloc: Global, scope: &Scope, t: &ModuleTree) -> Result<Module, Re
     })
 }
 
-/// Refuses a module that has parameters, a type or globals.
-fn refuse_unbuilt(t: &ModuleTree) -> Result<(), Refused>
-    ensures { Answers (plain t.now) result }
+fn is_globals(head: Head) -> bool
+    ensures { result ≡ is_globals head }
 {
-    if !t.parameters.is_empty()
-        || t.own_ty.is_some()
-        || t.ty.is_some()
-        || declares_globals(t.items.as_slice())
-    {
-        Err(not_built(t.name.place))
+    match head {
+        Head::Globals => true,
+        _ => false,
+    }
+}
+
+fn declares_globals(items: &[Node]) -> bool
+    ensures { result ≡ list_any (λ t. is_globals (head_of t)) items.now }
+{
+    for item in items {
+        if is_globals(item.head) {
+            return true;
+        }
+    }
+    false
+}
+
+/// Refuses globals, at this place.
+fn refuse_globals(items: &[Node], place: Place) -> Result<(), Refused>
+    ensures { Answers (without_globals items.now place) result }
+{
+    if declares_globals(items) {
+        Err(not_built(place))
     } else {
         Ok(())
     }
 }
 
-fn declares_globals(items: &[ModuleItem]) -> bool
-    ensures { result ≡ list_any is_globals items.now }
+/// Refuses a body of too many statements, at the first one too many.
+fn refuse_long_body(head: Head, parts: &[Node]) -> Result<(), Refused>
+    ensures { Answers (short head parts.now) result }
 {
-    for item in items {
-        if let ModuleItem::Globals(_) = item {
-            return true;
-        }
+    match head {
+        Head::Procedure => match parts {
+            [_, _, _, _, body, _] => match body.parts.get(STATEMENTS) {
+                None => Ok(()),
+                Some(s) => Err(Refused::Script {
+                    why: Why::TooMany(STATEMENTS as u64),
+                    place: s.place,
+                }),
+            },
+            _ => Ok(()),
+        },
+        _ => Ok(()),
     }
-    false
 }
 
-/// Refuses a body of too many statements, at the first one too many.
-fn refuse_long_bodies(items: &[ModuleItem]) -> Result<(), Refused>
-    ensures { Answers (all_short (procs_in items.now)) result }
+fn refuse_long_bodies(items: &[Node]) -> Result<(), Refused>
+    ensures { Answers (all_short items.now) result }
 {
     for item in items {
-        if let ModuleItem::Proc(t) = item {
-            refuse_long(t)?;
-        }
+        refuse_long_body(item.head, item.parts.as_slice())?;
     }
     Ok(())
 }
 
-fn is_procedure(procs: &[Proc], name: &Name) -> bool
-    ensures { result ≡ list_any (λ p. bytes_eq p.name name.now) procs.now }
-{
-    for p in procs {
-        if p.name == *name {
-            return true;
-        }
-    }
-    false
-}
-
 /// The procedures of a module, each with a name of its own.
-fn typed_procedures(alloc: Global, scope: &Scope, items: &[ModuleItem]) -> Result<Procs, Refused>
-    ensures answer { Answers (procedures scope.now [] (procs_in items.now)) result }
-    ensures names { IfOk result (λ ps. proc_names ps ≡ names_in_text (procs_in items.now)) }
-    ensures values { IfOk result (λ ps. All ReturnsItsType ps) }
+fn typed_procedures(alloc: Global, scope: &Scope, items: &[Node]) -> Result<Procs, Refused>
+    ensures { Answers (procedures scope.now nothing_around [] items.now) result }
 {
     let around = nothing_around(alloc)?;
     procedures(alloc, scope, &around, items)
 }
 
-/// The same, with nothing around.
+/// The same, in the context of a sequent.
 #[tactic(auto, unfolding(crate::specs::Modules::procedures))]
 fn procedures(
     alloc: Global,
     scope: &Scope,
     around: &Sequent,
-    items: &[ModuleItem],
+    items: &[Node],
 ) -> Result<Procs, Refused>
-    requires { around.now ≡ nothing_around }
-    ensures answer { Answers (procedures scope.now [] (procs_in items.now)) result }
-    ensures names { IfOk result (λ ps. proc_names ps ≡ names_in_text (procs_in items.now)) }
-    ensures values { IfOk result (λ ps. All ReturnsItsType ps) }
+    ensures { Answers (procedures scope.now around.now [] items.now) result }
 {
     let mut procs = Items::new(alloc);
     for item in items {
-        if let ModuleItem::Proc(t) = item {
-            if is_procedure(procs.as_slice(), &t.name.name) {
-                return Err(double(alloc, &t.name.name, t.name.place));
-            }
-            let p = procedure(alloc, scope, around, t)?;
-            procs.push(p)?;
-        }
+        let p = procedure(alloc, scope, around, procs.as_slice(), item)?;
+        procs.push(p)?;
     }
     Ok(procs)
 }

@@ -1,86 +1,113 @@
 // Procedures and their statements.
 
-ghost use Rattle.std.specs.Prelude.{◌≡◌, [], false, Some, IfOk, MatchResult, bytes_eq};
+ghost use Rattle.std.specs.Prelude.{◌≡◌, [], Some, MatchResult, bytes_eq};
 ghost use Rattle.std.specs.List.{list_any};
-ghost use Rattle.gb_tree.specs.declared.program.StatementShape.{out-StatementShape};
+ghost use Rattle.gb_script.specs.Tree.{text_of};
 ghost use Rattle.gb_core.specs.declared.ty.Ty.TheVariants.{Distr};
-ghost use Rattle.gb_elab.specs.Answers.{Answers, Fails, Gives, type_of_term};
+ghost use Rattle.gb_elab.specs.Answers.{Answers, Fails, Gives};
 ghost use Rattle.gb_elab.specs.Answers.Answer.{given};
 ghost use Rattle.gb_elab.specs.Environment.{environment};
 ghost use Rattle.gb_elab.specs.Forms.{elaborated};
-ghost use Rattle.gb_elab_mod.specs.Modules.{short};
-ghost use Rattle.gb_elab_mod.specs.Procedures.{declared, instruction, instructions, lacks_value, locals, procedure, procedure_of, result_type, sampling, takes_nothing, value};
-ghost use Rattle.gb_elab_mod.specs.Typed.{ReturnsItsType};
+ghost use Rattle.gb_elab_mod.specs.Procedures.{declared, instruction, instructions, lacks_value, locals, procedure, procedure_by, result_of, result_type, sampling, undeclared, untaken, value, variables, with_result};
 
+use crate::unbuilt::refuse_any;
 use gb_core::name::Name;
-use gb_core::refusal::{Refused, Why};
+use gb_core::place::Place;
+use gb_core::refusal::Refused;
 use gb_core::ty::Ty;
 use gb_core::var::Var;
 use gb_elab::binders::variable;
 use gb_elab::form::typed;
 use gb_elab::names::{own_variable, unit};
-use gb_elab::refusals::{double, mismatch, not_built};
+use gb_elab::refusals::{double, mismatch, not_built, unknown};
 use gb_elab::setting::Setting;
 use gb_elab::types::type_of;
 use gb_goal::scope::Scope;
 use gb_goal::sequent::Sequent;
 use gb_same::types::same_types;
+use gb_script::head::Head;
+use gb_script::tree::Node;
 use gb_shared::{Shared, SharedItems};
 use gb_terms::decl::{Proc, Typed, TypedName};
 use gb_terms::term::{Cmd, Instr, Term};
-use gb_tree::form::{Binder, FormTree, Word};
-use gb_tree::program::{ProcTree, Statement, StatementShape};
-use sqlite_items::{Boxed, Items};
+use sqlite_items::Items;
 use std::alloc::Global;
 
-/// The most statements of a body.
-pub const STATEMENTS: usize = 512;
-
-/// The typed tree of a procedure.
+/// The typed tree of a procedure beside others.
 ///
 /// # Errors
 ///
-/// `Syntax` at its name where it has parameters, that of its result's type, `TypeMismatch` at its name where it returns
-/// nothing and has another result than `unit`, `DoubleName` of a local, and those of its statements and of the value
-/// that it returns, in the order of the text.
+/// At its name `DoubleName` where another one has it and `Syntax` where it has parameters, that of its result's type,
+/// `TypeMismatch` at its name where it returns nothing and has another result than `unit`, `DoubleName` of a local, and
+/// those of its statements and of the value that it returns, in the order of the text.
 #[tactic(auto, unfolding(crate::specs::Procedures::procedure))]
 pub fn procedure(
     alloc: Global,
     scope: &Scope,
     around: &Sequent,
-    t: &ProcTree,
+    others: &[Proc],
+    tree: &Node,
 ) -> Result<Proc, Refused>
-    ensures answer { Answers (procedure scope.now around.now t.now) result }
-    ensures name { IfOk result (λ p. p.name ≡ t.now.name.name) }
-    ensures value { IfOk result (λ p. ReturnsItsType p) }
+    ensures { Answers (procedure scope.now around.now others.now tree.now) result }
 {
-    refuse_parameters(t.parameters.as_slice(), &t.name)?;
-    let ty = result_type(alloc, t)?;
-    if lacks_value(&t.value, ty.get()) {
-        return Err(mismatch(t.name.place));
-    }
-    procedure_of(alloc, scope, around, t, ty)
+    procedure_by(
+        alloc,
+        scope,
+        around,
+        others,
+        tree.head,
+        tree.parts.as_slice(),
+        tree.place,
+    )
 }
 
-/// The typed tree of a procedure whose result has this type.
-#[tactic(auto, unfolding(crate::specs::Procedures::procedure_of))]
-fn procedure_of(
+/// The same, by the head and the parts of the tree.
+fn procedure_by(
     alloc: Global,
     scope: &Scope,
     around: &Sequent,
-    t: &ProcTree,
+    others: &[Proc],
+    head: Head,
+    parts: &[Node],
+    place: Place,
+) -> Result<Proc, Refused>
+    ensures { Answers (procedure_by scope.now around.now others.now head parts.now place) result }
+{
+    match head {
+        Head::Procedure => match parts {
+            [name, parameters, ty, locals, body, value] => {
+                refuse_taken(alloc, others, name)?;
+                refuse_any(parameters.parts.as_slice(), name.place)?;
+                let (locals, body) = (locals.parts.as_slice(), body.parts.as_slice());
+                let value = value.parts.as_slice();
+                let ty = result_of(alloc, name, ty.parts.as_slice(), value)?;
+                with_result(alloc, scope, around, name, locals, body, value, ty)
+            }
+            _ => Err(not_built(place)),
+        },
+        _ => Err(not_built(place)),
+    }
+}
+
+/// The typed tree of a procedure of this name and result.
+#[tactic(auto, unfolding(crate::specs::Procedures::with_result))]
+fn with_result(
+    alloc: Global,
+    scope: &Scope,
+    around: &Sequent,
+    name: &Node,
+    lines: &[Node],
+    statements: &[Node],
+    returned: &[Node],
     ty: Shared<Ty>,
 ) -> Result<Proc, Refused>
-    requires { lacks_value t.now.value ty ≡ false }
-    ensures answer { Answers (procedure_of scope.now around.now t.now ty) result }
-    ensures name { IfOk result (λ p. p.name ≡ t.now.name.name) }
-    ensures value { IfOk result (λ p. ReturnsItsType p) }
+    ensures { Answers (with_result scope.now around.now name.now lines.now statements.now returned.now ty) result }
 {
-    let name = t.name.name.copy(alloc)?;
-    let locals = locals(alloc, t.locals.as_slice())?;
+    let locals = locals(alloc, lines)?;
     let at = Setting::program(scope, around, locals.as_slice());
-    let body = body(alloc, &at, t.body.as_slice())?;
-    let value = value(alloc, &at, &t.value, ty.get())?;
+    let body = body(alloc, &at, statements)?;
+    let value = value(alloc, &at, returned, ty.get())?;
+    let name = name.text.copy(alloc)?;
     Ok(Proc {
         name,
         params: Items::new(alloc),
@@ -91,50 +118,72 @@ fn procedure_of(
     })
 }
 
-/// Refuses a procedure with parameters.
-fn refuse_parameters(parameters: &[Binder], name: &Word) -> Result<(), Refused>
-    ensures { Answers (takes_nothing parameters.now name.now) result }
+fn is_procedure(procs: &[Proc], name: &Name) -> bool
+    ensures { result ≡ list_any (λ p. bytes_eq p.name name.now) procs.now }
 {
-    match parameters {
-        [] => Ok(()),
-        _ => Err(not_built(name.place)),
+    for p in procs {
+        if p.name == *name {
+            return true;
+        }
+    }
+    false
+}
+
+/// Refuses a name that one of these procedures has.
+fn refuse_taken(alloc: Global, procs: &[Proc], name: &Node) -> Result<(), Refused>
+    ensures { Answers (untaken procs.now name.now) result }
+{
+    if is_procedure(procs, &name.text) {
+        Err(double(alloc, &name.text, name.place))
+    } else {
+        Ok(())
     }
 }
 
-/// The type of a procedure's result.
-fn result_type(alloc: Global, t: &ProcTree) -> Result<Shared<Ty>, Refused>
-    ensures { Answers (result_type t.now.result) result }
+/// The type of a procedure's result, for which a value is to be returned where it isn't `unit`.
+fn result_of(
+    alloc: Global,
+    name: &Node,
+    written: &[Node],
+    value: &[Node],
+) -> Result<Shared<Ty>, Refused>
+    ensures { Answers (result_of name.now written.now value.now) result }
 {
-    match &t.result {
-        None => Shared::new(alloc, Ty::Unit).map_err(Refused::from),
-        Some(written) => type_of(alloc, written.get()),
+    let ty = result_type(alloc, written)?;
+    if lacks_value(value, ty.get()) {
+        Err(mismatch(name.place))
+    } else {
+        Ok(ty)
+    }
+}
+
+/// The type of a procedure's result; no type stands for `unit`.
+fn result_type(alloc: Global, written: &[Node]) -> Result<Shared<Ty>, Refused>
+    ensures { Answers (result_type written.now) result }
+{
+    match written {
+        [] => Shared::new(alloc, Ty::Unit).map_err(Refused::from),
+        [ty, ..] => type_of(alloc, ty),
     }
 }
 
 /// Whether a value of this type is to be returned and none is.
-fn lacks_value(value: &Option<Boxed<FormTree>>, ty: &Ty) -> bool
+fn lacks_value(value: &[Node], ty: &Ty) -> bool
     ensures { result ≡ lacks_value value.now ty.now }
 {
     match value {
-        Some(_) => false,
-        None => !same_types(ty, &Ty::Unit),
+        [] => !same_types(ty, &Ty::Unit),
+        _ => false,
     }
 }
 
 /// What a procedure returns: the value of `unit` where it has no `return`.
-fn value(
-    alloc: Global,
-    at: &Setting<'_>,
-    t: &Option<Boxed<FormTree>>,
-    want: &Ty,
-) -> Result<Term, Refused>
-    requires { lacks_value t.now want.now ≡ false }
-    ensures answer { Answers (value (environment at.now) t.now want.now) result }
-    ensures ty { IfOk result (λ v. type_of_term v ≡ want.now) }
+fn value(alloc: Global, at: &Setting<'_>, returned: &[Node], want: &Ty) -> Result<Term, Refused>
+    ensures { Answers (value (environment at.now) returned.now want.now) result }
 {
-    match t {
-        None => unit(alloc),
-        Some(value) => typed(alloc, at, &[], value.get(), Some(want)),
+    match returned {
+        [] => unit(alloc),
+        [value, ..] => typed(alloc, at, &[], value, Some(want)),
     }
 }
 
@@ -150,23 +199,63 @@ pub fn is_local(locals: &[TypedName], name: &Name) -> bool
     false
 }
 
+/// Refuses a name that one of these locals has.
+fn refuse_local(alloc: Global, locals: &[TypedName], name: &Node) -> Result<(), Refused>
+    ensures { Answers (undeclared locals.now name.now) result }
+{
+    if is_local(locals, &name.text) {
+        Err(double(alloc, &name.text, name.place))
+    } else {
+        Ok(())
+    }
+}
+
 /// The declared locals with their types, in the order of the text.
-fn locals(alloc: Global, binders: &[Binder]) -> Result<Typed, Refused>
-    ensures { Answers (locals [] binders.now) result }
+fn locals(alloc: Global, lines: &[Node]) -> Result<Typed, Refused>
+    ensures { Answers (locals [] lines.now) result }
 {
     let mut locals = Items::new(alloc);
-    for binder in binders {
-        let ty = type_of(alloc, binder.ty.get())?;
-        declare(alloc, &mut locals, binder.names.as_slice(), &ty)?;
+    for line in lines {
+        declare_line(
+            alloc,
+            &mut locals,
+            line.head,
+            line.parts.as_slice(),
+            line.place,
+        )?;
     }
     Ok(locals)
+}
+
+/// Declares the locals of a line beside those that are declared.
+fn declare_line(
+    alloc: Global,
+    locals: &mut Typed,
+    head: Head,
+    parts: &[Node],
+    place: Place,
+) -> Result<(), Refused>
+    ensures { MatchResult result
+        (λ _. variables locals.old head parts.now place ≡ given locals.new)
+        (λ e. Fails (variables locals.old head parts.now place) e) }
+{
+    match head {
+        Head::Variables => match parts {
+            [names, ty] => {
+                let ty = type_of(alloc, ty)?;
+                declare(alloc, locals, names.parts.as_slice(), &ty)
+            }
+            _ => Err(not_built(place)),
+        },
+        _ => Err(not_built(place)),
+    }
 }
 
 /// Declares locals of one type beside those that are declared.
 fn declare(
     alloc: Global,
     locals: &mut Typed,
-    names: &[Word],
+    names: &[Node],
     ty: &Shared<Ty>,
 ) -> Result<(), Refused>
     ensures { MatchResult result
@@ -174,45 +263,48 @@ fn declare(
         (λ e. Fails (declared locals.old names.now ty.now) e) }
 {
     for x in names {
-        if is_local(locals.as_slice(), &x.name) {
-            return Err(double(alloc, &x.name, x.place));
-        }
-        let local = variable(alloc, &x.name, ty)?;
+        refuse_local(alloc, locals.as_slice(), x)?;
+        let local = variable(alloc, &x.text, ty)?;
         locals.push(local)?;
     }
     Ok(())
 }
 
 /// The typed trees of statements.
-fn body(alloc: Global, at: &Setting<'_>, statements: &[Statement]) -> Result<Cmd, Refused>
+fn body(alloc: Global, at: &Setting<'_>, statements: &[Node]) -> Result<Cmd, Refused>
     ensures { Gives (λ c. c.list) (instructions (environment at.now) statements.now) result }
 {
     let mut list = Items::new(alloc);
     for s in statements {
-        let i = instruction(alloc, at, s)?;
+        let i = instruction(alloc, at, s.head, s.parts.as_slice(), s.place)?;
         list.push(i)?;
     }
     let list = SharedItems::new(alloc, list)?;
     Ok(Cmd { list })
 }
 
-fn instruction(alloc: Global, at: &Setting<'_>, s: &Statement) -> Result<Instr, Refused>
-    ensures { Answers (instruction (environment at.now) (out-StatementShape s.now.shape) s.now.place) result }
+fn instruction(
+    alloc: Global,
+    at: &Setting<'_>,
+    head: Head,
+    parts: &[Node],
+    place: Place,
+) -> Result<Instr, Refused>
+    ensures { Answers (instruction (environment at.now) head parts.now place) result }
 {
-    match &s.shape {
-        StatementShape::Sample { target, from } => sampling(alloc, at, target, from.get()),
-        _ => Err(not_built(s.place)),
+    match head {
+        Head::Sample => match parts {
+            [target, from] => sampling(alloc, at, target, from),
+            [target, _, _, ..] => Err(unknown(alloc, &target.text, target.place)),
+            _ => Err(not_built(place)),
+        },
+        _ => Err(not_built(place)),
     }
 }
 
 /// A sampling: the target is a variable of the procedure, the source a distribution on its type.
 #[tactic(auto, unfolding(crate::specs::Procedures::sampling))]
-fn sampling(
-    alloc: Global,
-    at: &Setting<'_>,
-    target: &Word,
-    from: &FormTree,
-) -> Result<Instr, Refused>
+fn sampling(alloc: Global, at: &Setting<'_>, target: &Node, from: &Node) -> Result<Instr, Refused>
     ensures { Answers (sampling (environment at.now) target.now from.now) result }
 {
     let variable = own_variable(alloc, at, target)?;
@@ -225,24 +317,11 @@ fn sampling(
 fn source(
     alloc: Global,
     at: &Setting<'_>,
-    from: &FormTree,
+    from: &Node,
     outcomes: &Shared<Ty>,
 ) -> Result<Term, Refused>
     ensures { Answers (elaborated from.now (environment at.now) [] (Some (Distr outcomes.now))) result }
 {
     let outcomes = outcomes.share()?;
     typed(alloc, at, &[], from, Some(&Ty::Distr(outcomes)))
-}
-
-/// Refuses a body of too many statements, at the first one too many.
-pub fn refuse_long(t: &ProcTree) -> Result<(), Refused>
-    ensures { Answers (short t.now) result }
-{
-    match t.body.get(STATEMENTS) {
-        None => Ok(()),
-        Some(s) => Err(Refused::Script {
-            why: Why::TooMany(STATEMENTS as u64),
-            place: s.place,
-        }),
-    }
 }

@@ -12,18 +12,17 @@ use Rattle.gb_terms.specs.declared.op.Op.TheVariants as op
 use Rattle.gb_terms.specs.declared.op.Side.TheVariants as side
 use Rattle.gb_terms.specs.declared.term.Term.{Term}
 use Rattle.gb_terms.specs.Make.{applied}
-use Rattle.gb_tree.specs.declared.form.Connective.{Connective}
-use Rattle.gb_tree.specs.declared.form.Connective.TheVariants as connective
-use Rattle.gb_tree.specs.declared.form.EquatedTree.{EquatedTree}
-use Rattle.gb_tree.specs.declared.form.EquatedTree.TheVariants as equated
-use Rattle.gb_tree.specs.declared.form.Word.{Word}
+use Rattle.gb_script.specs.declared.head.Head.{Head}
+use Rattle.gb_script.specs.declared.head.Head.TheVariants as head
+use Rattle.gb_script.specs.declared.tree.Node.{Node}
+use Rattle.gb_script.specs.Tree.{head_of, text_of, parts_of, place_of}
 use Rattle.gb_typed.specs.Operators.{IsNoDistribution}
 use Rattle.gb_meaning.specs.Written.{type_of}
 use Rattle.gb_elab.specs.Answers.{Answer, ◌>>=◌, type_of_term}
 use Rattle.gb_elab.specs.Answers.Answer.{given}
-use Rattle.gb_elab.specs.Environment.{Environment, on_side}
-use Rattle.gb_elab.specs.Forms.{comparable, equalities, equality, equation, is_distribution, joined, left_side, negated, operator, with_equalities, with_right_side}
-use Rattle.gb_elab.specs.Names.{sided}
+use Rattle.gb_elab.specs.Environment.{Name, Environment, on_side}
+use Rattle.gb_elab.specs.Forms.{comparable, equalities, equality, equation, equation_of, is_distribution, joined, left_side, negated, with_equalities, with_right_side}
+use Rattle.gb_elab.specs.Names.{path, sided}
 use Rattle.gb_ready.proofs.Forms.{out_type}
 use Rattle.gb_given.specs.Fitting.{IsFitting, IsGiven}
 use Rattle.gb_given.proofs.Given.{given_bind, given_is, if_given, if_refused}
@@ -31,24 +30,31 @@ use Rattle.gb_given.proofs.Types.{no_distribution, no_distribution_from}
 use Rattle.gb_given.proofs.Typed.{Typed, of_given, of_any, operated, combined}
 use Rattle.gb_given.proofs.Leaves.{IsVariable, sided_typed, truth_typed}
 
--- the type of the sides of a connective
-abbrev AreSides : Connective → Ty → Type 0
-AreSides connective.Equal a = IsNoDistribution a
-AreSides connective.NotEqual a = IsNoDistribution a
+-- the operators that make a truth of two forms
+abbrev pub IsConnective : Op → Type 0
+IsConnective op.And = Unit {0}
+IsConnective op.Or = Unit {0}
+IsConnective op.Implies = Unit {0}
+IsConnective op.Iff = Unit {0}
+IsConnective op.Equal = Unit {0}
+IsConnective op.NotEqual = Unit {0}
+IsConnective _ = ⊥
+
+-- the type of their sides
+abbrev AreSides : Op → Ty → Type 0
+AreSides op.Equal a = IsNoDistribution a
+AreSides op.NotEqual a = IsNoDistribution a
 AreSides _ a = a ≡ ty.Bool
 
 module _ (at : Environment) (vs : List TypedName) where
-  as_given : (l r : Term) (o q : Op) → given o ≡ given q → Typed at vs ty.Bool (applied o (l ∷ r ∷ []) ty.Bool) → Typed at vs ty.Bool (applied q (l ∷ r ∷ []) ty.Bool)
-  as_given l r o q e m = subst (λ z. Typed at vs ty.Bool (applied z (l ∷ r ∷ []) ty.Bool)) (given_is o q e) m
-
-  connected : (c : Connective) (p : Place) (o : Op) → operator c p ≡ given o → (a : Ty) (l r : Term) → AreSides c a → Typed at vs a l → Typed at vs a r → Typed at vs ty.Bool (applied o (l ∷ r ∷ []) ty.Bool)
-  connected connective.And p o e a l r k x y = as_given l r op.And o e (combined at vs op.And a a ty.Bool l r (k, (k, (refl, tt))) x y)
-  connected connective.Or p o e a l r k x y = as_given l r op.Or o e (combined at vs op.Or a a ty.Bool l r (k, (k, (refl, tt))) x y)
-  connected connective.Implies p o e a l r k x y = as_given l r op.Implies o e (combined at vs op.Implies a a ty.Bool l r (k, (k, (refl, tt))) x y)
-  connected connective.Iff p o e a l r k x y = as_given l r op.Iff o e (combined at vs op.Iff a a ty.Bool l r (k, (k, (refl, tt))) x y)
-  connected connective.Equal p o e a l r k x y = as_given l r op.Equal o e (combined at vs op.Equal a a ty.Bool l r (k, refl, refl) x y)
-  connected connective.NotEqual p o e a l r k x y = as_given l r op.NotEqual o e (combined at vs op.NotEqual a a ty.Bool l r (k, refl, refl) x y)
-  connected _ p o e a l r k x y = cc
+  connected : (o : Op) → IsConnective o → (a : Ty) (l r : Term) → AreSides o a → Typed at vs a l → Typed at vs a r → Typed at vs ty.Bool (applied o (l ∷ r ∷ []) ty.Bool)
+  connected op.And c a l r k x y = combined at vs op.And a a ty.Bool l r (k, (k, (refl, tt))) x y
+  connected op.Or c a l r k x y = combined at vs op.Or a a ty.Bool l r (k, (k, (refl, tt))) x y
+  connected op.Implies c a l r k x y = combined at vs op.Implies a a ty.Bool l r (k, (k, (refl, tt))) x y
+  connected op.Iff c a l r k x y = combined at vs op.Iff a a ty.Bool l r (k, (k, (refl, tt))) x y
+  connected op.Equal c a l r k x y = combined at vs op.Equal a a ty.Bool l r (k, refl, refl) x y
+  connected op.NotEqual c a l r k x y = combined at vs op.NotEqual a a ty.Bool l r (k, refl, refl) x y
+  connected _ c a l r k x y = absurd c
 
   -- what a typing gives is typed
   abbrev pub Gives : (Option Ty → Answer Term) → Type 0
@@ -65,20 +71,20 @@ module _ (at : Environment) (vs : List TypedName) where
   stated : (f : Option Ty → Answer Term) → Gives f → (l : Term) → f (Some ty.Bool) ≡ given l → Typed at vs (type_of l) l × (type_of l ≡ ty.Bool)
   stated f g l h = let t = g (Some ty.Bool) l h in (of_any at vs (Some ty.Bool) l t, t.wanted)
 
-  left_typed : (c : Connective) (p : Place) (f : Option Ty → Answer Term) → Gives f → (l : Term) → left_side c p f ≡ given l → Typed at vs (type_of l) l × AreSides c (type_of l)
-  left_typed connective.Equal p f g l h = compared f g p l h
-  left_typed connective.NotEqual p f g l h = compared f g p l h
+  left_typed : (o : Op) (p : Place) (f : Option Ty → Answer Term) → Gives f → (l : Term) → left_side o p f ≡ given l → Typed at vs (type_of l) l × AreSides o (type_of l)
+  left_typed op.Equal p f g l h = compared f g p l h
+  left_typed op.NotEqual p f g l h = compared f g p l h
   left_typed _ p f g l h = stated f g l h
 
   -- two forms, connected
-  pub binary_typed : (c : Connective) (p : Place) (o : Op) (f h : Option Ty → Answer Term) → operator c p ≡ given o → Gives f → Gives h → (u : Term) →
-      (left_side c p f >>= λ l. with_right_side o l h) ≡ given u → Typed at vs ty.Bool u
-  binary_typed c p o f h k gf gh u e =
-      let l = given_bind (left_side c p f) (λ l. with_right_side o l h) u e in
+  pub connected_typed : (o : Op) → IsConnective o → (p : Place) (f h : Option Ty → Answer Term) → Gives f → Gives h → (u : Term) →
+      (left_side o p f >>= λ l. with_right_side o l h) ≡ given u → Typed at vs ty.Bool u
+  connected_typed o c p f h gf gh u e =
+      let l = given_bind (left_side o p f) (λ l. with_right_side o l h) u e in
       let r = given_bind (h (Some (type_of_term l.0))) (λ r. given (applied o (l.0 ∷ r ∷ []) ty.Bool)) u l.2 in
-      let x = left_typed c p f gf l.0 l.1 in
+      let x = left_typed o p f gf l.0 l.1 in
       let y : Typed at vs (type_of l.0) r.0 = subst (λ a. Typed at vs a r.0) (out_type l.0) (of_given at vs (type_of_term l.0) r.0 (gh (Some (type_of_term l.0)) r.0 r.1)) in
-      subst (Typed at vs ty.Bool) (given_is _ u r.2) (connected c p o k (type_of l.0) l.0 r.0 x.1 x.0 y)
+      subst (Typed at vs ty.Bool) (given_is _ u r.2) (connected o c (type_of l.0) l.0 r.0 x.1 x.0 y)
 
   pub negated_typed : (f : Option Ty → Answer Term) → Gives f → (u : Term) → negated f ≡ given u → Typed at vs ty.Bool u
   negated_typed f g u h =
@@ -87,37 +93,42 @@ module _ (at : Environment) (vs : List TypedName) where
 
 module _ (at : Environment) (vs : List TypedName) (fit : IsFitting at vs) where
   -- the equality of a variable of two programs
-  equality_typed : (x : Word) (u : Term) → equality at vs x ≡ given u → Typed at vs ty.Bool u
+  equality_typed : (x : Name) (p : Place) (u : Term) → equality at vs x p ≡ given u → Typed at vs ty.Bool u
   unfolding equality
-  equality_typed x u h =
-      let l = given_bind (sided at vs x.name side.Left x.place) _ u h in
-      let r = given_bind (sided at vs x.name side.Right x.place) _ u l.2 in
-      let k = if_given (ty_eq (type_of_term r.0) (type_of_term l.0)) (applied op.Equal (l.0 ∷ r.0 ∷ []) ty.Bool) TypeMismatch x.place u r.2 in
-      let a : IsVariable at vs fit l.0 = sided_typed at vs fit x.name side.Left x.place l.0 l.1 in
-      let b : IsVariable at vs fit r.0 = sided_typed at vs fit x.name side.Right x.place r.0 r.1 in
+  equality_typed x p u h =
+      let l = given_bind (sided at vs x side.Left p) _ u h in
+      let r = given_bind (sided at vs x side.Right p) _ u l.2 in
+      let k = if_given (ty_eq (type_of_term r.0) (type_of_term l.0)) (applied op.Equal (l.0 ∷ r.0 ∷ []) ty.Bool) TypeMismatch p u r.2 in
+      let a : IsVariable at vs fit l.0 = sided_typed at vs fit x side.Left p l.0 l.1 in
+      let b : IsVariable at vs fit r.0 = sided_typed at vs fit x side.Right p r.0 r.1 in
       let same : type_of_term r.0 ≡ type_of_term l.0 = (ty_eq-Decides (type_of_term r.0) (type_of_term l.0)).0 k.0 in
       let e : b.0 ≡ a.0 = sym b.2.made.written ∙ sym (out_type r.0) ∙ same ∙ out_type l.0 ∙ a.2.made.written in
       subst (Typed at vs ty.Bool) k.1 (combined at vs op.Equal a.0 b.0 ty.Bool l.0 r.0 (no_distribution a.0 a.1, sym e, refl) a.2 b.2)
 
-  equation_typed : (x : EquatedTree) (u : Term) → equation at vs x ≡ given u → Typed at vs ty.Bool u
-  equation_typed (equated.Path x) u h = equality_typed x u h
-  equation_typed (equated.Glob m) u h = cc
+  equation_typed : (k : Head) (x : Name) (xs : List Node) (p : Place) (u : Term) → equation at vs k x xs p ≡ given u → Typed at vs ty.Bool u
+  equation_typed head.Name x xs p u h = equality_typed x p u h
+  equation_typed head.Path x xs p u h = equality_typed (path xs) p u h
+  equation_typed head.EquatedGlob x (m ∷ xs) p u h = cc
+  equation_typed _ x _ p u h = cc
 
-  with_equalities_typed : (f : Term) (xs : List EquatedTree) (u : Term) → Typed at vs ty.Bool f → with_equalities at vs f xs ≡ given u → Typed at vs ty.Bool u
+  abbrev each_typed : (x : Node) (u : Term) → equation_of at vs x ≡ given u → Typed at vs ty.Bool u
+  each_typed x = equation_typed (head_of x) (text_of x) (parts_of x) (place_of x)
+
+  with_equalities_typed : (f : Term) (xs : List Node) (u : Term) → Typed at vs ty.Bool f → with_equalities at vs f xs ≡ given u → Typed at vs ty.Bool u
   unfolding with_equalities
   with_equalities_typed f [] u m h = subst (Typed at vs ty.Bool) (given_is f u h) m
   with_equalities_typed f (x ∷ xs) u m h =
-      let q = given_bind (equation at vs x) (λ e. with_equalities at vs (applied op.And (f ∷ e ∷ []) ty.Bool) xs) u h in
+      let q = given_bind (equation_of at vs x) (λ e. with_equalities at vs (applied op.And (f ∷ e ∷ []) ty.Bool) xs) u h in
       with_equalities_typed (applied op.And (f ∷ q.0 ∷ []) ty.Bool) xs u
-      (combined at vs op.And ty.Bool ty.Bool ty.Bool f q.0 (refl, (refl, (refl, tt))) m (equation_typed x q.0 q.1)) q.2
+      (combined at vs op.And ty.Bool ty.Bool ty.Bool f q.0 (refl, (refl, (refl, tt))) m (each_typed x q.0 q.1)) q.2
 
-  joined_typed : (xs : List EquatedTree) (u : Term) → joined at vs xs ≡ given u → Typed at vs ty.Bool u
+  joined_typed : (xs : List Node) (u : Term) → joined at vs xs ≡ given u → Typed at vs ty.Bool u
   unfolding joined
   joined_typed [] u h = subst (Typed at vs ty.Bool) (given_is _ u h) (truth_typed at vs fit true)
   joined_typed (x ∷ xs) u h =
-      let q = given_bind (equation at vs x) (λ e. with_equalities at vs e xs) u h in
-      with_equalities_typed q.0 xs u (equation_typed x q.0 q.1) q.2
+      let q = given_bind (equation_of at vs x) (λ e. with_equalities at vs e xs) u h in
+      with_equalities_typed q.0 xs u (each_typed x q.0 q.1) q.2
 
-  pub equalities_typed : (xs : List EquatedTree) (p : Place) (u : Term) → equalities at vs xs p ≡ given u → Typed at vs ty.Bool u
+  pub equalities_typed : (xs : List Node) (p : Place) (u : Term) → equalities at vs xs p ≡ given u → Typed at vs ty.Bool u
   unfolding equalities
   equalities_typed xs p u h = joined_typed xs u (if_refused (is_none (on_side at side.Left)) Argument p (joined at vs xs) u h).1

@@ -9,7 +9,7 @@ use Rattle.gb_core.specs.declared.ty.Ty.TheVariants.{Bool as bool_ty}
 use Rattle.gb_same.proofs.Decided.{ty_eq-Decides}
 use Rattle.gb_terms.specs.declared.term.Term.{Term}
 use Rattle.gb_meaning.specs.Written.{type_of}
-use Rattle.gb_elab.specs.Answers.{Answer, ◌>>=◌, given_or, counted, fits, truth, type_of_term, wanted}
+use Rattle.gb_elab.specs.Answers.{Answer, ◌>>=◌, not_built, given_or, counted, fits, truth, type_of_term, wanted}
 use Rattle.gb_elab.specs.Answers.Answer.{given, refused}
 use Rattle.gb_ready.proofs.Forms.{out_type}
 use Rattle.gb_given.specs.Fitting.{IsWanted}
@@ -22,9 +22,18 @@ given_bind (refused w p) k y h = cc
 pub given_is : {A : Type 0} (x y : A) → given x ≡ given y → x ≡ y
 given_is x y h = cc
 
+pub not_given : {A : Type 0} (w : Why) (p : Place) (y : A) → refused w p ≡ given y → ⊥
+not_given w p y h = cc
+
 pub if_given : {A : Type 0} (b : Bool) (x : A) (w : Why) (p : Place) (y : A) → (if b then given x else refused w p) ≡ given y → (b ≡ true) × (x ≡ y)
 if_given true x w p y h = (refl, given_is x y h)
 if_given false x w p y h = cc
+
+-- one of two values
+pub one_of : {A : Type 0} (P : A → Type 0) (b c : Bool) (x y : A) (p : Place) (z : A) → P x → P y → (if b then given x else if c then given y else not_built p) ≡ given z → P z
+one_of P true c x y p z k l h = subst P (given_is x z h) k
+one_of P false true x y p z k l h = subst P (given_is y z h) l
+one_of P false false x y p z k l h = cc
 
 pub if_refused : {A : Type 0} (b : Bool) (w : Why) (p : Place) (a : Answer A) (y : A) → (if b then refused w p else a) ≡ given y → (b ≡ false) × (a ≡ given y)
 if_refused true w p a y h = cc
@@ -49,7 +58,7 @@ counted_is n i h = (if_given (nat_lt n (2 ^ 32)) n (TooMany 65536) (record { fil
 
 -- the wanted type
 
-fits_is : (w : Option Ty) (ty : Ty) → fits w ty ≡ true → IsWanted w ty
+pub fits_is : (w : Option Ty) (ty : Ty) → fits w ty ≡ true → IsWanted w ty
 fits_is None ty h = tt
 fits_is (Some u) ty h = (ty_eq-Decides ty u).0 h
 

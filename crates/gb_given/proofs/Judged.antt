@@ -1,6 +1,7 @@
 -- Judgments of declared procedures are typed.
 use Rattle.std.proofs.lemmas.Bool.{false≢true}
 use Rattle.std.proofs.Common.{◌≡◌, true, List, [], ◌∷◌, Option, Some, None, option_map, refl, ap, sym, ◌∙◌, subst}
+use Rattle.gb_core.specs.declared.place.Place.{Place}
 use Rattle.gb_core.specs.declared.refusal.Why.TheVariants.{UnknownName, Argument}
 use Rattle.gb_core.specs.declared.ty.Ty.{Ty}
 use Rattle.gb_core.specs.declared.ty.Ty.TheVariants as ty
@@ -9,6 +10,7 @@ use Rattle.gb_terms.specs.declared.decl.Module.{Module}
 use Rattle.gb_terms.specs.declared.decl.Param.{Param}
 use Rattle.gb_terms.specs.declared.decl.Proc.{Proc}
 use Rattle.gb_terms.specs.declared.decl.TypedName.{TypedName}
+use Rattle.gb_terms.specs.declared.module.ProcRef.{ProcRef}
 use Rattle.gb_terms.specs.declared.op.Side.{Side}
 use Rattle.gb_terms.specs.declared.op.Side.TheVariants as side
 use Rattle.gb_terms.specs.declared.term.Term.{Term}
@@ -16,15 +18,15 @@ use Rattle.gb_terms.specs.declared.term.Head.TheVariants.{Equiv, Proc as procedu
 use Rattle.gb_goal.specs.Scope.{entry_of, as_module, proc_of, proc_if_plain, proc_in, procedure_of}
 use Rattle.gb_goal.specs.declared.scope.Entry.{Entry}
 use Rattle.gb_goal.specs.declared.scope.Entry.TheVariants as entry
-use Rattle.gb_tree.specs.declared.form.FormTree.{FormTree}
-use Rattle.gb_tree.specs.declared.form.Word.{Word}
-use Rattle.gb_tree.specs.declared.judgment.ModuleExpr.{ModuleExpr, out-ModuleExpr}
-use Rattle.gb_tree.specs.declared.judgment.ProcPath.{ProcPath}
+use Rattle.gb_script.specs.declared.head.Head.{Head}
+use Rattle.gb_script.specs.declared.head.Head.TheVariants as head
+use Rattle.gb_script.specs.declared.tree.Node.{Node}
+use Rattle.gb_script.specs.Tree.{head_of, text_of, parts_of, place_of}
 use Rattle.gb_elab.specs.Answers.{given_or}
 use Rattle.gb_elab.specs.Answers.Answer.{given}
 use Rattle.gb_elab.specs.Environment.{Name, Environment}
 use Rattle.gb_elab.specs.Forms.{has_judgments}
-use Rattle.gb_elab.specs.Judgments.{whole, module_in, module_path, named_module, named_procedure, without_arguments, before, after, reference, equivalent}
+use Rattle.gb_elab.specs.Judgments.{whole, module_in, named_module, Path, procedure_path, Named, reference, procedure_at, named_procedure, about_procedure, both_procedures, before, after, equivalent}
 use Rattle.gb_elab.specs.Names.{is_variable}
 use Rattle.gb_ready.specs.Scoped.{Frame, Frames, IsThere, IsReadable, IsScoped, with_sides}
 use Rattle.gb_ready.specs.Scoped as scoped
@@ -36,16 +38,16 @@ use Rattle.gb_given.proofs.Given.{given_bind, given_is, if_refused, some_given}
 use Rattle.gb_given.proofs.Quantified.{have_front}
 use Rattle.gb_given.proofs.Typed.{Typed}
 
-whole_is : (ps : List Param) (k m : Module) (x : Word) → whole ps k x ≡ given m → (ps ≡ []) × (k ≡ m)
-whole_is [] k m x h = (refl, given_is k m h)
-whole_is (p ∷ ps) k m x h = cc
+whole_is : (ps : List Param) (k m : Module) (p : Place) → whole ps k p ≡ given m → (ps ≡ []) × (k ≡ m)
+whole_is [] k m p h = (refl, given_is k m h)
+whole_is (q ∷ qs) k m p h = cc
 
 -- the module of a name has no parameters
-module_is : (o : Option Entry) (x : Word) (m : Module) → module_in o x ≡ given m → (o ≡ Some (entry.Module m)) × (m.params ≡ [])
-module_is (Some (entry.Module k)) x m h =
-    let q = whole_is k.params k m x h in (ap (λ z. Some (entry.Module z)) q.1, subst (λ (z : Module). z.params ≡ []) q.1 q.0)
-module_is (Some (entry.Lemma s)) x m h = cc
-module_is None x m h = cc
+module_is : (o : Option Entry) (x : Name) (p : Place) (m : Module) → module_in o x p ≡ given m → (o ≡ Some (entry.Module m)) × (m.params ≡ [])
+module_is (Some (entry.Module k)) x p m h =
+    let q = whole_is k.params k m p h in (ap (λ z. Some (entry.Module z)) q.1, subst (λ (z : Module). z.params ≡ []) q.1 q.0)
+module_is (Some (entry.Lemma s)) x p m h = cc
+module_is None x p m h = cc
 
 without_params : (ps : List Param) (qs : List Proc) (n : Name) (f : Proc) → ps ≡ [] → proc_of qs n ≡ Some f → proc_if_plain ps qs n ≡ Some f
 without_params ps qs n f k h = ap (λ z. proc_if_plain z qs n) k ∙ h
@@ -53,22 +55,34 @@ without_params ps qs n f k h = ap (λ z. proc_if_plain z qs n) k ∙ h
 in_module : (o : Option Entry) (m : Module) (n : Name) (f : Proc) → o ≡ Some (entry.Module m) → m.params ≡ [] → proc_of m.procs n ≡ Some f → proc_in (as_module o) n ≡ Some f
 in_module o m n f e k h = ap (λ z. proc_in (as_module z) n) e ∙ without_params m.params m.procs n f k h
 
-name_is : (ts : List ModuleExpr) (x y : Word) → without_arguments ts x ≡ given y → x ≡ y
-name_is [] x y h = given_is x y h
-name_is (t ∷ ts) x y h = cc
+-- a named procedure is declared
+abbrev pub IsDeclared : Environment → Named → Type 0
+IsDeclared at n = procedure_of at.declared n.0 ≡ Some n.1
 
--- a procedure that a judgment names is declared
-pub named_is : (at : Environment) (vs : List TypedName) (path : ProcPath) (f : Proc) → named_procedure at vs path ≡ given f → procedure_of at.declared (reference path) ≡ Some f
-unfolding named_procedure named_module
-named_is at vs path f h =
-    let n = path.proc in
-    let x = given_bind (module_path path.«module») _ f h in
-    let m = given_bind (named_module at vs x.0) (λ (m : Module). given_or (proc_of m.procs n.name) (UnknownName n.name) n.place) f x.2 in
-    let k = if_refused (is_variable at vs x.0.name) Argument x.0.place (module_in (entry_of at.declared x.0.name) x.0) m.0 m.1 in
-    let e = module_is (entry_of at.declared x.0.name) x.0 m.0 k.1 in
-    let p = name_is (out-ModuleExpr path.«module»).arguments (out-ModuleExpr path.«module»).path x.0 x.1 in
-    subst (λ (y : Word). proc_in (as_module (entry_of at.declared y.name)) n.name ≡ Some f) (sym p)
-    (in_module (entry_of at.declared x.0.name) m.0 n.name f e.0 e.1 (some_given (proc_of m.0.procs n.name) (UnknownName n.name) n.place f m.2))
+procedure_is : (at : Environment) (vs : List TypedName) (f : Path) (p : Place) (n : Named) → procedure_at at vs f p ≡ given n → IsDeclared at n
+unfolding procedure_at named_module
+procedure_is at vs f p n h =
+    let x = text_of f.1 in
+    let m = given_bind (named_module at vs f.0 p) _ n h in
+    let d = given_bind (given_or (proc_of m.0.procs x) (UnknownName x) (place_of f.1)) (λ (d : Proc). given (reference f, d)) n m.2 in
+    let k = if_refused (is_variable at vs f.0) Argument p (module_in (entry_of at.declared f.0) f.0 p) m.0 m.1 in
+    let e = module_is (entry_of at.declared f.0) f.0 p m.0 k.1 in
+    subst (IsDeclared at) (given_is (reference f, d.0) n d.2)
+    (in_module (entry_of at.declared f.0) m.0 x d.0 e.0 e.1 (some_given (proc_of m.0.procs x) (UnknownName x) (place_of f.1) d.0 d.1))
+
+named_is : (at : Environment) (vs : List TypedName) (k : Head) (xs : List Node) (p : Place) (n : Named) → named_procedure at vs k xs p ≡ given n → IsDeclared at n
+named_is at vs head.ProcedurePath (x ∷ y ∷ ys) p n h = procedure_is at vs (procedure_path (text_of x) y ys) p n h
+named_is at vs _ _ p n h = cc
+
+-- the procedures that a judgment is about are declared
+pub both_are : (at : Environment) (vs : List TypedName) (f g : Node) (p : Place) (n : Named × Named) → both_procedures at vs f g p ≡ given n → IsDeclared at n.0 × IsDeclared at n.1
+both_are at vs f g p n h =
+    let a = given_bind (about_procedure (head_of f) p) _ n h in
+    let b = given_bind (about_procedure (head_of g) p) _ n a.2 in
+    let l = given_bind (named_procedure at vs (head_of f) (parts_of f) (place_of f)) _ n b.2 in
+    let r = given_bind (named_procedure at vs (head_of g) (parts_of g) (place_of g)) (λ (r : Named). given (l.0, r)) n l.2 in
+    subst (λ (z : Named × Named). IsDeclared at z.0 × IsDeclared at z.1) (given_is (l.0, r.0) n r.2)
+    (named_is at vs (head_of f) (parts_of f) (place_of f) l.0 l.1, named_is at vs (head_of g) (parts_of g) (place_of g) r.0 r.1)
 
 subst2 : {A : Type 0} (P : A → A → Type 0) {a b c d : A} → a ≡ b → c ≡ d → P a c → P b d
 subst2 P {a = a} {b = b} {c = c} {d = d} e f x = subst (λ z. P z d) e (subst (λ z. P a z) f x)
@@ -107,11 +121,11 @@ module _ (at : Environment) (vs : List TypedName) (fit : IsFitting at vs) where
     written = m.written;
   }
 
-  pub equivalence_typed : (f g : ProcPath) (a b : Proc) (p q : Term) → has_judgments at.language ≡ true → procedure_of at.declared (reference f) ≡ Some a → procedure_of at.declared (reference g) ≡ Some b →
+  pub equivalence_typed : (f g : ProcRef) (a b : Proc) (p q : Term) → has_judgments at.language ≡ true → procedure_of at.declared f ≡ Some a → procedure_of at.declared g ≡ Some b →
       IsGiven (before at a b) vs (Some ty.Bool) p → IsGiven (after at a b) vs (Some ty.Bool) q → Typed at vs ty.Bool (equivalent f g p q)
   equivalence_typed f g a b p q judges ea eb x y = record {
     made =
-        made_node at.declared (context_under at.sequent vs) F (Equiv (procedure (reference f)) (procedure (reference g))) (ty.Bool ∷ ty.Bool ∷ []) (p ∷ q ∷ []) ty.Bool (refl, (refl, (refl, tt)))
+        made_node at.declared (context_under at.sequent vs) F (Equiv (procedure f) (procedure g)) (ty.Bool ∷ ty.Bool ∷ []) (p ∷ q ∷ []) ty.Bool (refl, (refl, (refl, tt)))
         (subst IsThere (sym ea) tt, subst IsThere (sym eb) tt) [] tt (
           subst2 (λ (u v : Option Proc). Made at.declared (context_under at.sequent vs) (with_sides F (option_map scoped.parameters_of u) (option_map scoped.parameters_of v)) ty.Bool p) (sym ea) (sym eb)
               (condition a.params b.params p (record { typed = x.typed; scoped = x.scoped; written = x.wanted })),

@@ -17,11 +17,10 @@ use Rattle.gb_terms.specs.declared.op.Read.TheVariants as read_of
 use Rattle.gb_terms.specs.declared.term.Term.{Term}
 use Rattle.gb_terms.specs.declared.term.Head.TheVariants.{Lit, Read, Bound}
 use Rattle.gb_terms.specs.Make.{node, truth_literal}
-use Rattle.gb_tree.specs.declared.form.FormShape.TheOpen as layer
-use Rattle.gb_tree.specs.declared.form.FormTree.{FormTree}
-use Rattle.gb_tree.specs.declared.form.SideTree.{SideTree}
-use Rattle.gb_tree.specs.declared.form.SideTree.TheVariants as text
-use Rattle.gb_tree.specs.declared.form.Word.{Word}
+use Rattle.gb_script.specs.declared.head.Head.{Head}
+use Rattle.gb_script.specs.declared.head.Head.TheVariants as head
+use Rattle.gb_script.specs.declared.tree.Node.{Node}
+use Rattle.gb_script.specs.Tree.{head_of, text_of, place_of}
 use Rattle.gb_typed.specs.Finite.{IsVariableType}
 use Rattle.gb_typed.specs.Typing.{Context, binder, IsBoundAt, IsSide}
 use Rattle.gb_typed.specs.Typing.Binder.{program}
@@ -34,9 +33,8 @@ use Rattle.gb_elab.specs.declared.setting.Variables.TheVariants.{Absent, Own, Si
 use Rattle.gb_elab.specs.Answers.{Answer, counted, given_or}
 use Rattle.gb_elab.specs.Answers.Answer.{given, refused}
 use Rattle.gb_elab.specs.Environment.{Name, Environment, own, own_of, on_side, sides_of}
-use Rattle.gb_elab.specs.Names.{first_named, number_before, unit, built_in, constant_term, bound_variable, logical_variable, program_variable, names_other, unbound, named, no_variable, variable_on, sided, in_memory}
-use Rattle.gb_elab.specs.Forms.{read, remembered}
-use Rattle.gb_elab.specs.Layers.{Shape}
+use Rattle.gb_elab.specs.Names.{first_named, number_before, unit, built_in, constant_term, bound_variable, logical_variable, program_variable, names_other, unbound, named, no_variable, variable_on, sided, in_memory, path}
+use Rattle.gb_elab.specs.Forms.{beside, read, remembered, side_of}
 use Rattle.gb_sound.proofs.Shapes.{none_some, same_some}
 use Rattle.gb_ready.specs.Scoped.{IsReadable, HaveVariableTypes}
 use Rattle.gb_ready.proofs.Procedures.{variable_finite}
@@ -191,22 +189,27 @@ module _ (at : Environment) (vs : List TypedName) (fit : IsFitting at vs) where
       step (Some ls) e h = variable_typed x s p ls u (side_there at.variables vs s ls fit.variables e) h
       step None e h = cc
 
-  no_memory : (x : Name) (m : Word) (p : Place) (u : Term) → in_memory at x m p ≡ given u → ⊥
+  no_memory : (x : Name) (m : Node) (p : Place) (u : Term) → in_memory at x m p ≡ given u → ⊥
   unfolding in_memory
-  no_memory x m p u h = step (list_any (λ n. bytes_eq n m.name) at.sequent.memories) h
+  no_memory x m p u h = step (list_any (λ n. bytes_eq n (text_of m)) at.sequent.memories) h
     where
-      step : (b : Bool) → (if b then refused (no_variable at x) p else refused (UnknownName m.name) m.place) ≡ given u → ⊥
+      step : (b : Bool) → (if b then refused (no_variable at x) p else refused (UnknownName (text_of m)) (place_of m)) ≡ given u → ⊥
       step true h = cc
       step false h = cc
 
-  none_remembered : (l : Language) (x : Name) (m : Word) (p : Place) (u : Term) → remembered l at x m p ≡ given u → ⊥
+  none_remembered : (l : Language) (x : Name) (m : Node) (p : Place) (u : Term) → remembered l at x m p ≡ given u → ⊥
   none_remembered Program x m p u h = cc
   none_remembered Formula x m p u h = no_memory x m p u h
   none_remembered Function x m p u h = no_memory x m p u h
 
+  beside_typed : (k : Head) (s : Node) (x : Name) (p : Place) (u : Term) → beside k s at vs x p ≡ given u → IsSome at vs u
+  beside_typed head.Number s x p u h =
+      let i = given_bind (side_of (text_of s) p) (λ i. sided at vs x i p) u h in
+      let q = sided_typed x i.0 p u i.2 in (q.0, q.2)
+  beside_typed _ m x p u h = absurd (none_remembered at.language x m p u h)
+
   -- a form with a side
-  pub read_typed : (l : Shape FormTree) (p : Place) (s : SideTree) (u : Term) → read at vs l p s ≡ given u → IsSome at vs u
-  read_typed (layer.FormShape::Path x) p text.Left u h = let q = sided_typed x side.Left p u h in (q.0, q.2)
-  read_typed (layer.FormShape::Path x) p text.Right u h = let q = sided_typed x side.Right p u h in (q.0, q.2)
-  read_typed (layer.FormShape::Path x) p (text.Memory m) u h = absurd (none_remembered at.language x m p u h)
-  read_typed _ p s u h = cc
+  pub read_typed : (k : Head) (x : Name) (xs : List Node) (p : Place) (s : Node) (u : Term) → read at vs k x xs p s ≡ given u → IsSome at vs u
+  read_typed head.Name x xs p s u h = beside_typed (head_of s) s x p u h
+  read_typed head.Path x xs p s u h = beside_typed (head_of s) s (path xs) p u h
+  read_typed _ x xs p s u h = cc

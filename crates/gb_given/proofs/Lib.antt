@@ -1,3 +1,4 @@
+pub mod Nodes
 pub mod Given
 pub mod Types
 pub mod Found

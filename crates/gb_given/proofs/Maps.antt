@@ -13,7 +13,7 @@ use Rattle.gb_goal.specs.Scope.{Declarations}
 use Rattle.gb_goal.specs.declared.sequent.Sequent.{Sequent}
 use Rattle.gb_goal.specs.declared.step.Rule.TheVariants as rule
 use Rattle.gb_goal.specs.declared.step.Step.{Step}
-use Rattle.gb_tree.specs.declared.step.StepTree.{StepTree}
+use Rattle.gb_script.specs.declared.tree.Node.{Node}
 use Rattle.gb_elab.specs.Answers.Answer.{given}
 use Rattle.gb_elab.specs.Environment.{of_function}
 use Rattle.gb_elab_mod.specs.Steps.{outcomes, sampled, last_sampled, step_given}
@@ -70,7 +70,7 @@ module _ (ds : Declarations) (q : Sequent) (ls rs : List TypedName) where
       (subst (λ z. AreCouplings (of_function ds q ls rs) (option_zip z (last_sampled d)) ts) (ends_agree c) g))
 
 -- The functions of a typed step `rnd` are typed functions of its goal.
-pub step_maps : (ds : Declarations) (q : Sequent) → IsTypedScope ds → IsTypedSequent ds q → (t : StepTree) (s : Step) → step_given ds q t ≡ given s → (ts : List Term) → s.rule ≡ rule.Rnd ts →
+pub step_maps : (ds : Declarations) (q : Sequent) → IsTypedScope ds → IsTypedSequent ds q → (t : Node) (s : Step) → step_given ds q t ≡ given s → (ts : List Term) → s.rule ≡ rule.Rnd ts →
     AreTypedMaps ds (context_of q) ts (bodies_of q.conclusion)
 step_maps ds q scope typed t s h ts r = of_bodies (bodies_of q.conclusion) refl typed.conclusion
   where

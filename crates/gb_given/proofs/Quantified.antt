@@ -1,16 +1,18 @@
 -- Typed forms under quantifiers.
 use Rattle.std.proofs.Common.{◌≡◌, List, [], ◌∷◌, ◌++◌, reverse, refl, ap, sym, ◌∙◌, subst}
 use Rattle.std.proofs.lemmas.List.{append_assoc, reverse-append}
+use Rattle.gb_core.specs.declared.place.Place.{Place}
 use Rattle.gb_core.specs.declared.ty.Ty.{Ty}
 use Rattle.gb_core.specs.declared.ty.Ty.TheVariants as ty
 use Rattle.gb_terms.specs.declared.decl.TypedName.{TypedName}
 use Rattle.gb_terms.specs.declared.term.Term.{Term}
 use Rattle.gb_terms.specs.declared.term.Head.TheVariants.{All, Some as Exist}
-use Rattle.gb_tree.specs.declared.form.Bind.{Bind}
-use Rattle.gb_tree.specs.declared.form.Bind.TheVariants as bind
-use Rattle.gb_tree.specs.declared.form.Quantifier.{Quantifier}
-use Rattle.gb_tree.specs.declared.form.Quantifier.TheVariants.{Forall, Exists}
-use Rattle.gb_tree.specs.declared.form.Word.{Word}
+use Rattle.gb_elab.specs.declared.binders.Quantifier.{Quantifier}
+use Rattle.gb_elab.specs.declared.binders.Quantifier.TheVariants.{Forall, Exists}
+use Rattle.gb_script.specs.declared.head.Head.{Head}
+use Rattle.gb_script.specs.declared.head.Head.TheVariants as head
+use Rattle.gb_script.specs.declared.tree.Node.{Node}
+use Rattle.gb_script.specs.Tree.{head_of, parts_of, place_of}
 use Rattle.gb_typed.specs.Finite.{IsVariableType}
 use Rattle.gb_elab.specs.Answers.Answer.{given}
 use Rattle.gb_elab.specs.Environment.{Environment}
@@ -21,7 +23,7 @@ use Rattle.gb_ready.proofs.Made.{made_node}
 use Rattle.gb_ready.proofs.Procedures.{variable_finite}
 use Rattle.gb_given.specs.Fitting.{context_under, frames_under}
 use Rattle.gb_given.proofs.Given.{given_bind, given_is}
-use Rattle.gb_given.proofs.Types.{spelled}
+use Rattle.gb_given.proofs.Types.{spelled_typed}
 use Rattle.gb_given.proofs.Typed.{Typed, plain_node}
 
 reversed : (w : TypedName) (ws vs : List TypedName) → reverse (w ∷ ws) ++ vs ≡ reverse ws ++ (w ∷ vs)
@@ -39,24 +41,25 @@ pub have_reversed : (ws vs : List TypedName) → HaveVariableTypes ws → HaveVa
 have_reversed [] vs h k = k
 have_reversed (w ∷ ws) vs h k = subst HaveVariableTypes (sym (reversed w ws vs)) (have_reversed ws (w ∷ vs) h.1 (h.0, k))
 
-pub have_type : (xs : List Word) (t : Ty) → IsVariableType t → HaveVariableTypes (of_type xs t)
+pub have_type : (xs : List Node) (t : Ty) → IsVariableType t → HaveVariableTypes (of_type xs t)
 have_type [] t v = tt
 have_type (x ∷ xs) t v = (v, have_type xs t v)
 
 -- what is bound has types of variables
-bind_typed : (l : Bind) (vs : List TypedName) → bound_in l ≡ given vs → HaveVariableTypes vs
-bind_typed (bind.Values b) vs h =
-    let t = given_bind (type_of b.ty) (λ t. given (of_type b.names t)) vs h in
-    subst HaveVariableTypes (given_is (of_type b.names t.0) vs t.2) (have_type b.names t.0 (spelled b.ty t.0 t.1))
-bind_typed (bind.Memory x) vs h = cc
-bind_typed (bind.Module m) vs h = cc
+bind_typed : (k : Head) (xs : List Node) (p : Place) (vs : List TypedName) → bound_in k xs p ≡ given vs → HaveVariableTypes vs
+bind_typed head.Values (x ∷ xs ∷ t ∷ []) p vs h =
+    let u = given_bind (type_of t) (λ u. given (of_type (x ∷ parts_of xs) u)) vs h in
+    subst HaveVariableTypes (given_is (of_type (x ∷ parts_of xs) u.0) vs u.2) (have_type (x ∷ parts_of xs) u.0 (spelled_typed t u.0 u.1))
+bind_typed head.Memory (x ∷ xs) p vs h = cc
+bind_typed head.ModuleBind (x ∷ xs) p vs h = cc
+bind_typed _ _ p vs h = cc
 
-pub binders_typed : (vs : List TypedName) (bs : List Bind) (ws : List TypedName) → HaveVariableTypes vs → bound_by vs bs ≡ given ws → HaveVariableTypes ws
+pub binders_typed : (vs : List TypedName) (bs : List Node) (ws : List TypedName) → HaveVariableTypes vs → bound_by vs bs ≡ given ws → HaveVariableTypes ws
 unfolding bound_by
 binders_typed vs [] ws k h = subst HaveVariableTypes (given_is vs ws h) k
 binders_typed vs (b ∷ bs) ws k h =
-    let us = given_bind (bound_in b) (λ us. bound_by (vs ++ us) bs) ws h in
-    binders_typed (vs ++ us.0) bs ws (have_both vs us.0 k (bind_typed b us.0 us.1)) us.2
+    let us = given_bind (bound_in (head_of b) (parts_of b) (place_of b)) (λ us. bound_by (vs ++ us) bs) ws h in
+    binders_typed (vs ++ us.0) bs ws (have_both vs us.0 k (bind_typed (head_of b) (parts_of b) (place_of b) us.0 us.1)) us.2
 
 module _ (at : Environment) where
   over_typed : (q : Quantifier) (v : TypedName) (vs : List TypedName) (f : Term) → IsVariableType v.ty → Typed at (v ∷ vs) ty.Bool f → Typed at vs ty.Bool (over q v.ty f)

@@ -1,8 +1,10 @@
 -- The functions of `rnd` are typed over the locals of the bodies.
 use Rattle.std.proofs.lemmas.Bool.{false≢true}
-use Rattle.std.proofs.Common.{◌≡◌, Bool, true, false, ℕ, zero, suc, ◌-◌, List, [], ◌∷◌, length, slice_get, Option, Some, None, refl, ap, sym, ◌∙◌, subst}
+use Rattle.std.proofs.Common.{◌≡◌, Bool, true, false, if◌then◌else◌, ℕ, zero, suc, ◌-◌, List, [], ◌∷◌, length, slice_get, Option, Some, None, refl, ap, sym, ◌∙◌, subst}
+use Rattle.std.specs.Prelude.{codes, bytes_eq}
 use Rattle.std.specs.Option.{option_and_then, option_map_or, option_zip}
 use Rattle.gb_core.specs.declared.place.Place.{Place}
+use Rattle.gb_core.specs.declared.refusal.Why.TheVariants.{Syntax}
 use Rattle.gb_core.specs.declared.ty.Ty.{Ty, out-Ty}
 use Rattle.gb_core.specs.declared.var.Var.{Var}
 use Rattle.gb_core.specs.declared.var.Var.TheVariants as var
@@ -20,20 +22,20 @@ use Rattle.gb_goal.specs.declared.sequent.Sequent.{Sequent}
 use Rattle.gb_goal.specs.declared.step.Rule.{Rule}
 use Rattle.gb_goal.specs.declared.step.Rule.TheVariants as rule
 use Rattle.gb_goal.specs.declared.step.Step.{Step}
-use Rattle.gb_tree.specs.declared.form.FormTree.{FormTree}
-use Rattle.gb_tree.specs.declared.step.Hint.{Hint}
-use Rattle.gb_tree.specs.declared.step.RuleTree.{RuleTree}
-use Rattle.gb_tree.specs.declared.step.RuleTree.TheVariants as text
-use Rattle.gb_tree.specs.declared.step.StepTree.{StepTree}
+use Rattle.gb_script.specs.declared.head.Head.{Head as Kind}
+use Rattle.gb_script.specs.declared.head.Head.TheVariants as text
+use Rattle.gb_script.specs.declared.tree.Node.{Node}
+use Rattle.gb_script.specs.Tree.{head_of, text_of, parts_of, place_of}
 use Rattle.gb_meaning.specs.Operators.{outcome_type}
 use Rattle.gb_typed.specs.Finite.{IsVariableType}
 use Rattle.gb_meaning.specs.Written.{type_of}
-use Rattle.gb_elab.specs.Answers.{Answer, ◌>>=◌}
+use Rattle.gb_elab.specs.Answers.{Answer, ◌>>=◌, not_built}
 use Rattle.gb_elab.specs.Answers.Answer.{given}
 use Rattle.gb_elab.specs.Environment.{of_function}
 use Rattle.gb_elab_mod.specs.Occurring.{occurring}
-use Rattle.gb_elab_mod.specs.Steps.{outcomes, sampled, last_sampled, one_type, there_and_back, of_bodies, couplings, on_both, smt, typed_rule, step_given}
+use Rattle.gb_elab_mod.specs.Steps.{outcomes, sampled, last_sampled, one_type, there_and_back, of_bodies, couplings, functions_of, typed_rule, step_given}
 use Rattle.gb_elab_mod.specs.Steps as steps
+use Rattle.gb_elab_mod.specs.Unbuilt.{absent}
 use Rattle.gb_equiv.specs.Judgment.{Layer, Judgment, OnBodies, of_parts, of_subjects, bodies_of}
 use Rattle.gb_sound.proofs.Shapes.{none_some, same_some}
 use Rattle.gb_ready.specs.Scoped.{HaveVariableTypes, IsIn, of_programs}
@@ -42,7 +44,7 @@ use Rattle.gb_ready.specs.Goals.{context_of, AreTypedBodies, IsTypedScope, IsTyp
 use Rattle.gb_ready.proofs.Forms.{out_type}
 use Rattle.gb_given.specs.Fitting.{one_value, IsFitting, IsGiven, AreFunctions, AreThereAndBack, AreCouplings}
 use Rattle.gb_given.specs.Standing.{StandIn}
-use Rattle.gb_given.proofs.Given.{given_bind, given_is}
+use Rattle.gb_given.proofs.Given.{given_bind, given_is, if_given}
 use Rattle.gb_given.proofs.Couplings.{outcome_of, local_variable, standing_typed, occurring_stand, given_wider}
 use Rattle.gb_given.proofs.Occurring.{reads_stand}
 use Rattle.gb_given.proofs.Steps.{one_type_there, there_and_back_typed}
@@ -125,11 +127,11 @@ module _ (ds : Declarations) (q : Sequent) (scope : IsTypedScope ds) (typed : Is
   both_wider a c (t ∷ ts) g = (one_wider a c t g.0, all_wider c a ts g.1)
 
   -- the functions between two types, over the locals that occur in these conditions and the bodies
-  abbrev typed_between : List FormTree → List Term → Ty × Ty → Answer (List Term)
+  abbrev typed_between : List Node → List Term → Ty × Ty → Answer (List Term)
   typed_between fs conditions t =
       one_type fs t.0 t.1 >>= λ _. there_and_back (of_function ds q (occurring conditions side.Left e.left) (occurring conditions side.Right e.right)) fs t.0 t.1
 
-  ends_typed : (fs : List FormTree) (x y : Option Ty) (ts : List Term) → ((a : Ty) → x ≡ Some a → IsVariableType a) → ((a : Ty) → y ≡ Some a → IsVariableType a) →
+  ends_typed : (fs : List Node) (x y : Option Ty) (ts : List Term) → ((a : Ty) → x ≡ Some a → IsVariableType a) → ((a : Ty) → y ≡ Some a → IsVariableType a) →
       option_map_or (typed_between fs (e.pre ∷ e.post ∷ [])) (option_zip x y) (given []) ≡ given ts → AreCouplings (of_function ds q ls rs) (option_zip x y) ts
   ends_typed fs (Some a) (Some c) ts k l h =
       let o = given_bind (one_type fs a c) (λ _. there_and_back (of_function ds q ks ms) fs a c) ts h in
@@ -138,7 +140,7 @@ module _ (ds : Declarations) (q : Sequent) (scope : IsTypedScope ds) (typed : Is
   ends_typed fs None y ts k l h = sym (given_is [] ts h)
 
   -- the functions that typing gives in a goal on two bodies are typed over the locals of the bodies
-  couplings_typed : bodies_of q.conclusion ≡ Some e → (fs : List FormTree) (ts : List Term) → couplings ds q fs ≡ given ts →
+  couplings_typed : bodies_of q.conclusion ≡ Some e → (fs : List Node) (ts : List Term) → couplings ds q fs ≡ given ts →
       AreCouplings (of_function ds q ls rs) (option_zip (last_sampled e.left) (last_sampled e.right)) ts
   unfolding couplings
   couplings_typed s fs ts h =
@@ -148,29 +150,31 @@ module _ (ds : Declarations) (q : Sequent) (scope : IsTypedScope ds) (typed : Is
       ∙ ap (λ o. option_map_or (of_bodies ds q fs) o (given [])) (sym k.0)
       ∙ h)
 
-  no_rnd : (C : Type 0) (k j : Rule) (ts : List Term) → is_rnd k ≡ false → given k ≡ given j → j ≡ rule.Rnd ts → C
-  no_rnd C k j ts f h r = absurd (false≢true (sym f ∙ ap is_rnd (given_is k j h ∙ r)))
+  -- a step of another rule
+  no_rnd : (C : Type 0) (k j : Rule) (ts : List Term) → is_rnd k ≡ false → k ≡ j → j ≡ rule.Rnd ts → C
+  no_rnd C k j ts f h r = absurd (false≢true (sym f ∙ ap is_rnd (h ∙ r)))
 
-  no_smt : (C : Type 0) (hs : List Hint) (p : Place) (k : Rule) (ts : List Term) → smt hs p ≡ given k → k ≡ rule.Rnd ts → C
-  no_smt C [] p k ts h r = no_rnd C rule.Smt k ts refl h r
-  no_smt C (x ∷ hs) p k ts h r = cc
-
-  of_rule : bodies_of q.conclusion ≡ Some e → (t : RuleTree) (p : Place) (k : Rule) (ts : List Term) → typed_rule ds q t p ≡ given k → k ≡ rule.Rnd ts →
+  of_rule : bodies_of q.conclusion ≡ Some e → (n : Kind) (x : List ℕ) (xs : List Node) (p : Place) (k : Rule) (ts : List Term) → typed_rule ds q n x xs p ≡ given k → k ≡ rule.Rnd ts →
       AreCouplings (of_function ds q ls rs) (option_zip (last_sampled e.left) (last_sampled e.right)) ts
-  of_rule s (text.Rnd w fs) p k ts h r =
-      let o = given_bind (on_both w p) (λ _. couplings ds q fs >>= λ us. given (rule.Rnd us)) k h in
-      let x = given_bind (couplings ds q fs) (λ (us : List Term). given (rule.Rnd us)) k o.2 in
-      subst (AreCouplings (of_function ds q ls rs) (option_zip (last_sampled e.left) (last_sampled e.right))) (ap functions_in (given_is (rule.Rnd x.0) k x.2 ∙ r)) (couplings_typed s fs x.0 x.1)
-  of_rule s (text.Proc w) p k ts h r = let o = given_bind (on_both w p) (λ _. given rule.Proc) k h in no_rnd _ rule.Proc k ts refl o.2 r
-  of_rule s (text.Skip w) p k ts h r = let o = given_bind (on_both w p) (λ _. given rule.Skip) k h in no_rnd _ rule.Skip k ts refl o.2 r
-  of_rule s (text.Smt hs) p k ts h r = no_smt _ hs p k ts h r
-  of_rule s text.Split p k ts h r = no_rnd _ rule.Split k ts refl h r
-  of_rule s _ p k ts h r = cc
+  of_rule s text.Rnd x (b ∷ fs) p k ts h r =
+      let o = given_bind (absent (parts_of b) p) _ k h in
+      let y = given_bind (couplings ds q (functions_of fs)) (λ (us : List Term). given (rule.Rnd us)) k o.2 in
+      subst (AreCouplings (of_function ds q ls rs) (option_zip (last_sampled e.left) (last_sampled e.right))) (ap functions_in (given_is (rule.Rnd y.0) k y.2 ∙ r)) (couplings_typed s (functions_of fs) y.0 y.1)
+  of_rule s text.Proc x (b ∷ i ∷ []) p k ts h r =
+      let o = given_bind (absent (parts_of b) p) _ k h in
+      let y = given_bind (absent (parts_of i) p) (λ _. given rule.Proc) k o.2 in
+      no_rnd _ rule.Proc k ts refl (given_is rule.Proc k y.2) r
+  of_rule s text.BodyStep x (b ∷ []) p k ts h r =
+      let o = given_bind (absent (parts_of b) p) (λ _. if bytes_eq x (codes "skip") then given rule.Skip else not_built p) k h in
+      no_rnd _ rule.Skip k ts refl (if_given (bytes_eq x (codes "skip")) rule.Skip Syntax p k o.2).1 r
+  of_rule s text.PlainStep x [] p k ts h r = no_rnd _ rule.Split k ts refl (if_given (bytes_eq x (codes "split")) rule.Split Syntax p k h).1 r
+  of_rule s text.Smt x hints p k ts h r = let o = given_bind (absent hints p) (λ _. given rule.Smt) k h in no_rnd _ rule.Smt k ts refl (given_is rule.Smt k o.2) r
+  of_rule s _ x _ p k ts h r = cc
 
   -- The functions of a typed step `rnd` are typed over the locals of the bodies.
-  pub step_typed : bodies_of q.conclusion ≡ Some e → (t : StepTree) (s : Step) → step_given ds q t ≡ given s → (ts : List Term) → s.rule ≡ rule.Rnd ts →
+  pub step_typed : bodies_of q.conclusion ≡ Some e → (t : Node) (s : Step) → step_given ds q t ≡ given s → (ts : List Term) → s.rule ≡ rule.Rnd ts →
       AreCouplings (of_function ds q ls rs) (option_zip (last_sampled e.left) (last_sampled e.right)) ts
   unfolding step_given
   step_typed c t s h ts r =
-      let x = given_bind (typed_rule ds q t.rule t.place) (λ (k : Rule). given (record { rule = k; place = t.place })) s h in
-      of_rule c t.rule t.place x.0 ts x.1 (ap (λ (z : Step). z.rule) (given_is (record { rule = x.0; place = t.place }) s x.2) ∙ r)
+      let x = given_bind (typed_rule ds q (head_of t) (text_of t) (parts_of t) (place_of t)) (λ (k : Rule). given (record { rule = k; place = place_of t })) s h in
+      of_rule c (head_of t) (text_of t) (parts_of t) (place_of t) x.0 ts x.1 (ap (λ (z : Step). z.rule) (given_is (record { rule = x.0; place = place_of t }) s x.2) ∙ r)

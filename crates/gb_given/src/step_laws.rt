@@ -10,8 +10,7 @@ ghost use Rattle.gb_terms.specs.declared.op.Side.{Side};
 ghost use Rattle.gb_terms.specs.declared.term.Term.{Term};
 ghost use Rattle.gb_goal.specs.declared.step.Rule.TheVariants as rule;
 ghost use Rattle.gb_goal.specs.declared.step.Step.{Step};
-ghost use Rattle.gb_tree.specs.declared.form.FormTree.{FormTree};
-ghost use Rattle.gb_tree.specs.declared.step.StepTree.{StepTree};
+ghost use Rattle.gb_script.specs.declared.tree.Node.{Node};
 ghost use Rattle.gb_typed.specs.Finite.{IsVariableType};
 ghost use Rattle.gb_elab.specs.Answers.Answer.{given};
 ghost use Rattle.gb_elab.specs.Environment.{Environment, of_function};
@@ -27,7 +26,7 @@ ghost use Rattle.gb_given.specs.Standing.{IsOuter, frame_at, StandIn};
 /// In an environment that fits, what functions between two types of variables are typed to are typed and scoped terms,
 /// each under one bound value: the first leads there, the others back.
 pub fn functions_there_and_back()
-    ensures { (at : Environment) → IsFitting at [] → (fs : List FormTree) (a b : Ty) →
+    ensures { (at : Environment) → IsFitting at [] → (fs : List Node) (a b : Ty) →
         IsVariableType a → IsVariableType b → (ts : List Term) →
         there_and_back at fs a b ≡ given ts → AreThereAndBack at a b ts }
 {}
@@ -45,7 +44,7 @@ pub fn locals_read()
 pub fn steps()
     ensures { (ds : scope.Declarations) (q : Sequent) → IsTypedScope ds → IsTypedSequent ds q →
         (e : OnBodies) (ls rs : List TypedName) → AreTypedBodies ds (context_of q) e ls rs →
-        bodies_of q.conclusion ≡ Some e → (t : StepTree) (s : Step) → step_given ds q t ≡ given s →
+        bodies_of q.conclusion ≡ Some e → (t : Node) (s : Step) → step_given ds q t ≡ given s →
         (ts : List Term) → s.rule ≡ rule.Rnd ts →
         AreCouplings (of_function ds q ls rs) (option_zip (last_sampled e.left) (last_sampled e.right)) ts }
 {}
@@ -54,6 +53,6 @@ pub fn steps()
 /// between the values of the samplings that end both bodies.
 pub fn typed_rules()
     ensures { (ds : scope.Declarations) (q : Sequent) → IsTypedScope ds → IsTypedSequent ds q →
-        (t : StepTree) (s : Step) → step_given ds q t ≡ given s → (ts : List Term) → s.rule ≡ rule.Rnd ts →
+        (t : Node) (s : Step) → step_given ds q t ≡ given s → (ts : List Term) → s.rule ≡ rule.Rnd ts →
         AreTypedMaps ds (context_of q) ts (bodies_of q.conclusion) }
 {}

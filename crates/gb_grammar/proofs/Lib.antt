@@ -9,3 +9,4 @@ pub mod Words
 pub mod Turns
 pub mod Whole
 pub mod Unique
+pub mod Outcomes

@@ -1,5 +1,5 @@
 -- What reading by a grammar promises.
-use Rattle.std.specs.Prelude.{◌≡◌, ℕ, ◌+◌, ◌<◌, ◌≤◌, List, [], ◌∷◌, ◌++◌, length, take}
+use Rattle.std.specs.Prelude.{◌≡◌, ℕ, ◌+◌, ◌<◌, ◌≤◌, ◌⊎◌, List, [], ◌∷◌, ◌++◌, length, take}
 use Rattle.std.specs.List.{All}
 use Rattle.gb_grammar.specs.declared.table.Symbol.TheVariants.{Part}
 use Rattle.gb_grammar.specs.declared.error.ReadError.{ReadError}
@@ -37,3 +37,8 @@ module _ {R : Type 0} where
   abbrev pub IsFault : Grammar R → ℕ → List ℕ → ReadError R → Type 0
   IsFault g n kinds Memory = Unit {0}
   IsFault g n kinds (Fault at steps) = FirstFault g n kinds at × StepsBefore g n kinds at steps.items
+
+  -- The kinds are a text of this part, or there is a first fault, with the steps before it.
+  abbrev pub IsTextOrFault : Grammar R → ℕ → List ℕ → Type 0
+  IsTextOrFault g n kinds =
+      ((steps : List (Step R)) × Spells g n kinds steps) ⊎ ((at : ℕ) × (steps : List (Step R)) × FirstFault g n kinds at × StepsBefore g n kinds at steps)

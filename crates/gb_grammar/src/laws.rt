@@ -5,7 +5,7 @@ ghost use Rattle.std.specs.List.{All};
 ghost use Rattle.gb_grammar.specs.declared.table.Step.{Step};
 ghost use Rattle.gb_grammar.specs.Grammar.{Grammar, grammar_of};
 ghost use Rattle.gb_grammar.specs.Check.{Claims, grammar_ok, is_start};
-ghost use Rattle.gb_grammar.specs.Reading.{Spells, IsKind, FirstFault, StepsBefore};
+ghost use Rattle.gb_grammar.specs.Reading.{Spells, IsKind, FirstFault, StepsBefore, IsTextOrFault};
 
 use crate::table::{Row, Symbol};
 
@@ -33,4 +33,18 @@ pub fn first_faults_are_unique<R: Copy>()
 pub fn steps_before_are_unique<R: Copy>()
     ensures { (g : Grammar R) (part : ℕ) (kinds : List ℕ) (at : ℕ) (a b : List (Step R)) → FirstFault g part kinds at →
         StepsBefore g part kinds at a → StepsBefore g part kinds at b → a ≡ b }
+{}
+
+/// All kinds of token are a text, or have a first fault: one of the two.
+pub fn each_text_or_fault<R: Copy>(
+    _stage: u8,
+    _rows: &[Row<R>],
+    _symbols: &[Symbol],
+    _places: &[u16],
+    _start: u8,
+)
+    ghost claims: { Claims }
+    requires checked { grammar_ok _stage claims _places.now _rows.now _symbols.now ≡ true }
+    requires start { is_start claims _start ≡ true }
+    ensures { (kinds : List ℕ) → All IsKind kinds → IsTextOrFault (grammar_of _stage _rows.now _symbols.now) _start kinds }
 {}

@@ -7,8 +7,9 @@ use Rattle.gb_grammar.specs.declared.table.Step.{Step}
 use Rattle.gb_grammar.specs.declared.table.Symbol.{Symbol}
 use Rattle.gb_grammar.specs.Check.{grammar_ok, is_start}
 use Rattle.gb_grammar.specs.Grammar.{grammar_of}
-use Rattle.gb_grammar.specs.Reading.{IsKind, Spells}
+use Rattle.gb_grammar.specs.Reading.{IsKind, Spells, IsTextOrFault}
 use Rattle.gb_grammar.proofs.Rows.{sound_table}
+use Rattle.gb_grammar.proofs.Outcomes.{outcome}
 use Rattle.gb_grammar.proofs.Unique.{unique}
 use Rattle.gb_language.specs.declared.rows.TheConstants.{SCRIPTS, GOALS, COMMAND, FORM, ENTRY, HYPOTHESIS}
 use Rattle.gb_script.specs.declared.action.Rule.{Rule}
@@ -84,6 +85,14 @@ pub starts_line : (part : ℕ) → IsLine part → is_start (claimed GOALS) part
 starts_line part (inl e) = start_at GOALS part ENTRY e starts_entry
 starts_line part (inr (inl e)) = start_at GOALS part HYPOTHESIS e starts_hypothesis
 starts_line part (inr (inr e)) = start_at GOALS part FORM e starts_conclusion
+
+pub text_or_fault : (part : ℕ) (kinds : List ℕ) → IsPart part → All IsKind kinds → IsTextOrFault language part kinds
+unfolding language
+text_or_fault part kinds p = outcome language (claimed SCRIPTS) (sound_table SCRIPTS all_rows all_symbols (claimed SCRIPTS) all_places passes) part (starts part p) kinds
+
+pub line_or_fault : (part : ℕ) (kinds : List ℕ) → IsLine part → All IsKind kinds → IsTextOrFault goal_language part kinds
+unfolding goal_language
+line_or_fault part kinds p = outcome goal_language (claimed GOALS) (sound_table GOALS all_rows all_symbols (claimed GOALS) all_places goals_passed) part (starts_line part p) kinds
 
 pub one_derivation : (part : ℕ) (kinds : List ℕ) (a b : List (Step Rule)) → IsPart part → All IsKind kinds
     → Spells language part kinds a → Spells language part kinds b → a ≡ b

@@ -4,7 +4,7 @@ ghost use Rattle.std.specs.Prelude.{◌≡◌, ℕ, List, true};
 ghost use Rattle.std.specs.List.{All};
 ghost use Rattle.gb_grammar.specs.declared.table.Step.{Step};
 ghost use Rattle.gb_grammar.specs.Check.{grammar_ok};
-ghost use Rattle.gb_grammar.specs.Reading.{IsKind, Spells};
+ghost use Rattle.gb_grammar.specs.Reading.{IsKind, Spells, IsTextOrFault};
 ghost use Rattle.gb_script.specs.declared.action.Rule.{Rule};
 ghost use Rattle.gb_language.specs.Claims.{claims};
 ghost use Rattle.gb_language.specs.Language.{language, goal_language, IsPart, IsLine, IsTextTree, IsLineTree, IsSorted};
@@ -18,6 +18,13 @@ use crate::rows::{GOALS, PLACES, ROWS, SCRIPTS};
 pub fn one_token_decides()
     ensures scripts { grammar_ok SCRIPTS (claims SCRIPTS) PLACES ROWS SYMBOLS ≡ true }
     ensures goals { grammar_ok GOALS (claims GOALS) PLACES ROWS SYMBOLS ≡ true }
+{}
+
+/// All kinds of token are a text of a part of the language, or have a first fault, with the steps before it; and so it is with
+/// lines of goals.
+pub fn each_text_or_fault()
+    ensures texts { (part : ℕ) (kinds : List ℕ) → IsPart part → All IsKind kinds → IsTextOrFault language part kinds }
+    ensures lines { (part : ℕ) (kinds : List ℕ) → IsLine part → All IsKind kinds → IsTextOrFault goal_language part kinds }
 {}
 
 /// A text of the language has at most one derivation, and so has a line of a goal.

@@ -1,2 +1,4 @@
 pub mod Falsehood
 pub mod Idle
+mod Models
+mod Promised

@@ -2,3 +2,4 @@
 #![tactic(auto)]
 
 pub mod idle_laws;
+pub mod promise_laws;

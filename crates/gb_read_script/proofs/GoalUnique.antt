@@ -1,18 +1,19 @@
 -- A text spells one goal at most.
-use Rattle.std.specs.Prelude.{◌≡◌, ℕ, List, [], ◌∷◌, ◌++◌}
-use Rattle.std.specs.List.{All}
+use Rattle.std.specs.Prelude.{◌≡◌, List, [], ◌∷◌, ◌++◌}
+use Rattle.std.specs.List.{All, AllZip}
 use Rattle.std.proofs.Common.{refl, ap, sym, subst, ◌∙◌}
 use Rattle.std.proofs.lemmas.List.Elements.{All-head, All-tail}
 use Rattle.gb_grammar.specs.declared.table.Step.{Step}
-use Rattle.gb_table.specs.declared.rule.Rule.{Rule}
-use Rattle.gb_text.specs.declared.text.Text.{Text}
-use Rattle.gb_tree.specs.declared.goal.SequentTree.{SequentTree}
+use Rattle.gb_script.specs.declared.action.Rule.{Rule}
+use Rattle.gb_script.specs.declared.text.Text.{Text}
+use Rattle.gb_script.specs.declared.tree.Node.{Node}
+use Rattle.gb_read_script.specs.declared.goal_tree.SequentTree.{SequentTree}
 use Rattle.gb_read_script.specs.declared.goal_lines.LineSort.{LineSort}
 use Rattle.gb_read_script.specs.declared.goal_lines.LineSort.TheVariants.{Binder, Hypothesis, Conclusion}
 use Rattle.gb_read_script.specs.declared.goal_lines.ReadLine.{ReadLine}
 use Rattle.gb_read_script.specs.declared.goal_lines.ReadGoal.{ReadGoal}
-use Rattle.gb_read_script.specs.GoalLines.{IsLineText, MayBeEntry, IsEntry, IsConclusion, IsNoEntry, texts, IsContext, IsGoal}
-use Rattle.gb_read_script.specs.Goal.{tree_of, goal_lines, SpellsGoal}
+use Rattle.gb_read_script.specs.GoalLines.{IsLineText, MayBeEntry, IsRead, IsEntry, IsConclusion, IsNoEntry, texts, IsContext, IsGoal}
+use Rattle.gb_read_script.specs.Goal.{IsTreeOf, AreTreesOf}
 
 -- an entry isn't none
 none_apart : (sort : LineSort) (t : Text) (steps : List (Step Rule)) → IsLineText sort t steps → MayBeEntry sort t → IsNoEntry t → ⊥
@@ -37,9 +38,25 @@ EndsEntries (t ∷ ts) = IsNoEntry t
 same_parts : {A : Type 0} (a b : A) (xs ys : List A) → a ∷ xs ≡ b ∷ ys → (a ≡ b) × (xs ≡ ys)
 same_parts a b xs ys e = (cc, cc)
 
+-- where the trees of lines are unique
+module _ (one_tree : (l : ReadLine) (x y : Node) → IsTreeOf l x → IsTreeOf l y → x ≡ y) where
+  same_trees : (ls : List ReadLine) (xs ys : List Node) → AllZip IsTreeOf ls xs → AllZip IsTreeOf ls ys → xs ≡ ys
+  same_trees [] [] [] h k = refl
+  same_trees [] (x ∷ xs) ys h k = absurd h
+  same_trees [] [] (y ∷ ys) h k = absurd k
+  same_trees (l ∷ ls) [] ys h k = absurd h
+  same_trees (l ∷ ls) (x ∷ xs) [] h k = absurd k
+  same_trees (l ∷ ls) (x ∷ xs) (y ∷ ys) h k =
+      ap (λ (z : Node). z ∷ xs) (one_tree l x y h.0 k.0) ∙ ap (λ (zs : List Node). y ∷ zs) (same_trees ls xs ys h.1 k.1)
+
+  pub one_sequent : (goal : ReadGoal) (a b : SequentTree) → AreTreesOf goal a → AreTreesOf goal b → a ≡ b
+  one_sequent goal a b h k =
+      ap (λ (xs : List Node). record { context = xs; conclusion = a.conclusion }) (same_trees goal.context a.context b.context h.0 k.0)
+      ∙ ap (λ (z : Node). record { context = b.context; conclusion = z }) (one_tree goal.conclusion a.conclusion b.conclusion h.1 k.1)
+
 -- where steps are unique
 module _ (one_text : (sort : LineSort) (t : Text) (a b : List (Step Rule)) → IsLineText sort t a → IsLineText sort t b → a ≡ b) where
-  one_line : (l m : ReadLine) → l.sort ≡ m.sort → l.text ≡ m.text → IsLineText l.sort l.text l.steps → IsLineText m.sort m.text m.steps → l ≡ m
+  one_line : (l m : ReadLine) → l.sort ≡ m.sort → l.text ≡ m.text → IsRead l → IsRead m → l ≡ m
   one_line l m sort text x y =
       let z : IsLineText l.sort l.text m.steps =
       subst (λ (s : LineSort). IsLineText s l.text m.steps) (sym sort) (subst (λ (t : Text). IsLineText m.sort t m.steps) (sym text) y) in
@@ -76,10 +93,7 @@ module _ (one_text : (sort : LineSort) (t : Text) (a b : List (Step Rule)) → I
       (same.0, parts.1)
 
   one_conclusion : (l m : ReadLine) → l.text ≡ m.text → IsConclusion l → IsConclusion m → l ≡ m
-  one_conclusion l m text x y =
-      one_line l m (x.0 ∙ sym y.0) text
-      (subst (λ (s : LineSort). IsLineText s l.text l.steps) (sym x.0) x.1)
-      (subst (λ (s : LineSort). IsLineText s m.text m.steps) (sym y.0) y.1)
+  one_conclusion l m text x y = one_line l m (x.0 ∙ sym y.0) text x.1 y.1
 
   pub one_goal : (lines : List Text) (g h : ReadGoal) → IsGoal lines g → IsGoal lines h → g ≡ h
   one_goal lines g h x y =
@@ -87,6 +101,3 @@ module _ (one_text : (sort : LineSort) (t : Text) (a b : List (Step Rule)) → I
       let parts = same_parts g.conclusion.text h.conclusion.text [] [] same.1 in
       ap (λ (es : List ReadLine). record { context = es; conclusion = g.conclusion }) same.0
       ∙ ap (λ (l : ReadLine). record { context = h.context; conclusion = l }) (one_conclusion g.conclusion h.conclusion parts.0 x.1 y.1)
-
-  pub one_tree : (bytes : List ℕ) (a b : SequentTree) → SpellsGoal bytes a → SpellsGoal bytes b → a ≡ b
-  one_tree bytes a b x y = x.2 ∙ (ap tree_of (one_goal (goal_lines bytes) x.0 y.0 x.1 y.1) ∙ sym y.2)

@@ -3,8 +3,8 @@ use Rattle.std.proofs.Common.{◌≡◌, ℕ, ◌+◌, ◌<◌, cond, List, [], 
 use Rattle.std.specs.List.{prefix_len}
 use Rattle.std.proofs.lemmas.List.{at_drop_more}
 use Rattle.gb_core.specs.declared.place.Place.{Place}
-use Rattle.gb_table.specs.Language.{IsLine}
-use Rattle.gb_text.specs.declared.text.Lexeme.{Lexeme}
+use Rattle.gb_language.specs.Language.{IsLine}
+use Rattle.gb_script.specs.declared.text.Lexeme.{Lexeme}
 use Rattle.gb_read_script.specs.declared.line.Line.{Line}
 use Rattle.gb_read_script.specs.Line.{before, lines_before}
 use Rattle.gb_read_script.specs.declared.goal_lines.LineSort.{LineSort}

@@ -6,24 +6,24 @@ use Rattle.std.proofs.lemmas.List.Elements.{All-head, All-tail}
 use Rattle.gb_core.specs.declared.place.Place.{Place}
 use Rattle.gb_core.specs.declared.refusal.Refused.TheVariants.{Script}
 use Rattle.gb_core.specs.declared.refusal.Why.{Why}
-use Rattle.gb_core.specs.declared.refusal.Why.TheVariants.{Character, Overflow}
+use Rattle.gb_core.specs.declared.refusal.Why.TheVariants.{Character}
 use Rattle.gb_grammar.specs.declared.table.Step.{Step}
 use Rattle.gb_lex.specs.Lex.{fault_of}
 use Rattle.gb_lex.specs.PlaceAfter.{place_after}
-use Rattle.gb_table.specs.declared.rule.Rule.{Rule}
-use Rattle.gb_text.specs.declared.text.Text.{Text}
-use Rattle.gb_text.specs.LeftOut.{IsFirstLeftOut, NoneLeftOut}
-use Rattle.gb_text.specs.Limits.{IsFirstLong}
-use Rattle.gb_text.specs.Numbers.{IsFirstOverflow}
+use Rattle.gb_script.specs.declared.action.Rule.{Rule}
+use Rattle.gb_script.specs.declared.text.Text.{Text}
+use Rattle.gb_limits.specs.LeftOut.{IsFirstLeftOut, NoneLeftOut}
+use Rattle.gb_limits.specs.Limits.{IsFirstLong}
+use Rattle.gb_limits.specs.Numbers.{IsFirstOverflow, NoneOverflow}
 use Rattle.gb_read_script.specs.declared.goal_lines.LineSort.{LineSort}
 use Rattle.gb_read_script.specs.declared.goal_lines.LineSort.TheVariants.{Binder, Hypothesis, Conclusion}
 use Rattle.gb_read_script.specs.declared.goal_lines.ReadLine.{ReadLine}
 use Rattle.gb_read_script.specs.declared.goal_lines.ReadGoal.{ReadGoal}
 use Rattle.gb_read_script.specs.Line.{line_texts}
 use Rattle.gb_read_script.specs.GoalLines.{IsLineText, Stops, IsLineFault, IsEndingFault, IsFaultBehind, IsSyntaxPlace, IsGoal, dashes}
-use Rattle.gb_read_script.specs.Goal.{beginning, goal_text, all_lines, IsShort, IsTooLong, IsSmall, IsTooLarge, IsFirst, IsExcess, IsTokenRefusal, IsLineRefusal, IsGoalRefusal, IsWithin, IsGoalAllowed}
+use Rattle.gb_read_script.specs.Goal.{beginning, goal_text, all_lines, IsShort, IsLongPlace, IsExcess, IsTokenRefusal, IsLineRefusal, IsGoalRefusal, IsWithin, IsGoalAllowed}
 use Rattle.gb_read_script.proofs.GoalUnique.{EndsEntries, same_entries, one_goal}
-use Rattle.gb_read_script.proofs.Unique.{Same, one_place, not_long, not_overflowing, not_left_out}
+use Rattle.gb_read_script.proofs.Unique.{Same, one_place, one_overflow_place, not_long, not_overflowing, not_left_out}
 
 -- Lines.
 
@@ -75,57 +75,34 @@ module _
       same_entries one_text g.context y.entries (x.0.ruler ∷ g.conclusion.text ∷ []) y.rest (sym x.0.whole ∙ y.whole) x.0.each y.each
       x.0.dashes.2 (fault_ends y.rest end p y.fault) in
       no_fault_behind x.0.ruler g.conclusion end p (subst (λ (ls : List Text). IsFaultBehind ls end p) (sym same.1) y.fault)
-      ((λ at fault. fault.4 x.0.dashes), x.1.1)
+      ((λ at fault. fault.4 x.0.dashes), subst (λ (s : LineSort). IsLineText s g.conclusion.text g.conclusion.steps) x.1.0 x.1.1)
 
 -- Limits.
 
-module _
-    (Good : ReadLine → Type 0) (Bad : ReadLine → Why → Place → Type 0)
-    (apart : (l : ReadLine) (w : Why) (p : Place) → Good l → Bad l w p → ⊥)
-    (one : (l : ReadLine) (v w : Why) (p q : Place) → Bad l v p → Bad l w q → Same v p w q) where
-  one_first : (ls : List ReadLine) (v w : Why) (p q : Place) → IsFirst Good Bad ls v p → IsFirst Good Bad ls w q → Same v p w q
-  one_first [] v w p q x y = absurd x
-  one_first (l ∷ ls) v w p q (inl x) (inl y) = one l v w p q x y
-  one_first (l ∷ ls) v w p q (inl x) (inr y) = absurd (apart l v p y.0 x)
-  one_first (l ∷ ls) v w p q (inr x) (inl y) = absurd (apart l w q x.0 y)
-  one_first (l ∷ ls) v w p q (inr x) (inr y) = one_first ls v w p q x.1 y.1
-
-  no_first : (ls : List ReadLine) (w : Why) (p : Place) → All Good ls → IsFirst Good Bad ls w p → ⊥
-  no_first [] w p good x = x
-  no_first (l ∷ ls) w p good (inl x) = apart l w p (All-head Good l ls good) x
-  no_first (l ∷ ls) w p good (inr x) = no_first ls w p (All-tail Good l ls good) x.1
-
-short_apart : (l : ReadLine) (w : Why) (p : Place) → IsShort l → IsTooLong l w p → ⊥
-unfolding IsShort IsTooLong
-short_apart l w p none x = not_long l.text l.steps p none x.1
-
-range_apart : (l : ReadLine) (w : Why) (p : Place) → IsSmall l → IsTooLarge l w p → ⊥
-unfolding IsSmall IsTooLarge
-range_apart l w p none x = not_overflowing l.text w p none x
+no_long_place : (ls : List ReadLine) (p : Place) → All IsShort ls → IsLongPlace ls p → ⊥
+no_long_place [] p short x = x
+no_long_place (l ∷ ls) p short (inl x) = not_long l.text l.steps p (All-head IsShort l ls short) x
+no_long_place (l ∷ ls) p short (inr x) = no_long_place ls p (All-tail IsShort l ls short) x.1
 
 module _
     (one_long : (t : Text) (steps : List (Step Rule)) (i j : ℕ) → IsFirstLong t steps i → IsFirstLong t steps j → i ≡ j)
     (one_overflow : (t : Text) (i j : ℕ) (a b c d : ℤ) → IsFirstOverflow t i a b → IsFirstOverflow t j c d → (i ≡ j) × (a ≡ c) × (b ≡ d)) where
-  one_too_long : (l : ReadLine) (v w : Why) (p q : Place) → IsTooLong l v p → IsTooLong l w q → Same v p w q
-  unfolding IsTooLong
-  one_too_long l v w p q x y = (x.0 ∙ sym y.0, one_place l.text x.1.0 y.1.0 p q (one_long l.text l.steps x.1.0 y.1.0 x.1.1 y.1.1) x.1.2 y.1.2)
+  one_long_place : (ls : List ReadLine) (p q : Place) → IsLongPlace ls p → IsLongPlace ls q → p ≡ q
+  one_long_place [] p q x y = absurd x
+  one_long_place (l ∷ ls) p q (inl x) (inl y) = one_place l.text x.0 y.0 p q (one_long l.text l.steps x.0 y.0 x.1 y.1) x.2 y.2
+  one_long_place (l ∷ ls) p q (inl x) (inr y) = absurd (not_long l.text l.steps p y.0 x)
+  one_long_place (l ∷ ls) p q (inr x) (inl y) = absurd (not_long l.text l.steps q x.0 y)
+  one_long_place (l ∷ ls) p q (inr x) (inr y) = one_long_place ls p q x.1 y.1
 
-  one_out_of_range : (l : ReadLine) (v w : Why) (p q : Place) → IsTooLarge l v p → IsTooLarge l w q → Same v p w q
-  unfolding IsTooLarge
-  one_out_of_range l v w p q x y =
-      let same = one_overflow l.text x.0 y.0 x.1 x.2 y.1 y.2 x.3 y.3 in
-      let operands = ap (λ (left : ℤ). Overflow left x.2) same.1 ∙ ap (λ (right : ℤ). Overflow y.1 right) same.2 in
-      (x.4 ∙ (operands ∙ sym y.4), one_place l.text x.0 y.0 p q same.0 x.5 y.5)
+  one_excess : (t : Text) (ls : List ReadLine) (v w : Why) (p q : Place) → IsExcess t ls v p → IsExcess t ls w q → Same v p w q
+  one_excess t ls v w p q (inl x) (inl y) = (x.0 ∙ sym y.0, one_long_place ls p q x.1 y.1)
+  one_excess t ls v w p q (inl x) (inr y) = absurd (no_long_place ls p y.0 x.1)
+  one_excess t ls v w p q (inr x) (inl y) = absurd (no_long_place ls q x.0 y.1)
+  one_excess t ls v w p q (inr x) (inr y) = one_overflow_place one_overflow t v w p q x.1 y.1
 
-  one_excess : (g : ReadGoal) (v w : Why) (p q : Place) → IsExcess g v p → IsExcess g w q → Same v p w q
-  one_excess g v w p q (inl x) (inl y) = one_first IsShort IsTooLong short_apart one_too_long (all_lines g) v w p q x y
-  one_excess g v w p q (inl x) (inr y) = absurd (no_first IsShort IsTooLong short_apart one_too_long (all_lines g) v p y.0 x)
-  one_excess g v w p q (inr x) (inl y) = absurd (no_first IsShort IsTooLong short_apart one_too_long (all_lines g) w q x.0 y)
-  one_excess g v w p q (inr x) (inr y) = one_first IsSmall IsTooLarge range_apart one_out_of_range (all_lines g) v w p q x.1 y.1
-
-  no_excess : (g : ReadGoal) (w : Why) (p : Place) → All IsShort (all_lines g) → All IsSmall (all_lines g) → IsExcess g w p → ⊥
-  no_excess g w p short in_range (inl x) = no_first IsShort IsTooLong short_apart one_too_long (all_lines g) w p short x
-  no_excess g w p short in_range (inr x) = no_first IsSmall IsTooLarge range_apart one_out_of_range (all_lines g) w p in_range x.1
+no_excess : (t : Text) (ls : List ReadLine) (w : Why) (p : Place) → All IsShort ls → NoneOverflow t → IsExcess t ls w p → ⊥
+no_excess t ls w p short numbers (inl x) = no_long_place ls p short x.1
+no_excess t ls w p short numbers (inr x) = not_overflowing t w p numbers x.1
 
 -- Goals.
 
@@ -161,7 +138,7 @@ module _
   one_line_reason t v w p q (inr x) (inl y) = absurd (no_syntax_place one_text one_stop (line_texts t) x.0 t.end q x.1 y.1)
   one_line_reason t v w p q (inr x) (inr y) =
       let same = one_goal one_text (line_texts t) x.0 y.0 x.1 y.1 in
-      one_excess one_long one_overflow y.0 v w p q (subst (λ (g : ReadGoal). IsExcess g v p) same x.2) y.2
+      one_excess one_long one_overflow t (all_lines y.0) v w p q (subst (λ (g : ReadGoal). IsExcess t (all_lines g) v p) same x.2) y.2
 
   pub one_refusal : (bytes : List ℕ) (v w : Why) (p q : Place) → IsGoalRefusal bytes v p → IsGoalRefusal bytes w q → Same v p w q
   one_refusal bytes v w p q (inl x) (inl y) = one_token_reason bytes v w p q x y
@@ -173,7 +150,7 @@ module _
   no_line_refusal t g w p a (inl x) = no_syntax_place one_text one_stop (line_texts t) g t.end p a.lines x.1
   no_line_refusal t g w p a (inr x) =
       let same = one_goal one_text (line_texts t) x.0 g x.1 a.lines in
-      no_excess one_long one_overflow g w p a.short a.in_range (subst (λ (h : ReadGoal). IsExcess h w p) same x.2)
+      no_excess t (all_lines g) w p a.short a.numbers (subst (λ (h : ReadGoal). IsExcess t (all_lines h) w p) same x.2)
 
   pub no_refusal : (bytes : List ℕ) (w : Why) (p : Place) → IsGoalAllowed bytes → IsGoalRefusal bytes w p → ⊥
   no_refusal bytes w p a (inl x) = token_apart bytes w p a.faultless a.left_out x

@@ -6,12 +6,12 @@ use Rattle.gb_core.specs.declared.refusal.Refused.TheVariants.{NoMemory, ReadFau
 use Rattle.gb_core.specs.declared.refusal.Why.{Why}
 use Rattle.gb_core.specs.declared.place.Place.{Place}
 use Rattle.gb_lex.specs.Lex.{fault_of, IsCharacterFault}
-use Rattle.gb_text.specs.declared.text.Text.{Text}
-use Rattle.gb_text.specs.LeftOut.{NoneLeftOut}
+use Rattle.gb_script.specs.declared.text.Text.{Text}
+use Rattle.gb_limits.specs.LeftOut.{NoneLeftOut}
 use Rattle.gb_read_script.specs.declared.goal_lines.ReadGoal.{ReadGoal}
 use Rattle.gb_read_script.specs.Line.{line_texts}
 use Rattle.gb_read_script.specs.GoalLines.{IsGoal, IsSyntaxPlace, IsSyntax, IsRefusedFor}
-use Rattle.gb_read_script.specs.Goal.{beginning, goal_text, IsExcess, IsTokenRefusal, IsLineRefusal, IsGoalRefusal}
+use Rattle.gb_read_script.specs.Goal.{beginning, goal_text, all_lines, IsExcess, IsTokenRefusal, IsLineRefusal, IsGoalRefusal}
 
 pub character : (e : Refused) (bytes : List ℕ) → (e ≡ NoMemory) ⊎ IsCharacterFault bytes beginning e → IsRefusedFor (IsTokenRefusal bytes) e
 character NoMemory bytes h = tt
@@ -25,7 +25,7 @@ syntax_refused NoMemory t h = tt
 syntax_refused ReadFault t h = h
 syntax_refused (Script why place) t h = inl h
 
-pub excess_refused : (e : Refused) (t : Text) (goal : ReadGoal) → IsGoal (line_texts t) goal → IsRefusedFor (IsExcess goal) e → IsRefusedFor (IsLineRefusal t) e
+pub excess_refused : (e : Refused) (t : Text) (goal : ReadGoal) → IsGoal (line_texts t) goal → IsRefusedFor (IsExcess t (all_lines goal)) e → IsRefusedFor (IsLineRefusal t) e
 excess_refused NoMemory t goal lines h = tt
 excess_refused ReadFault t goal lines h = h
 excess_refused (Script why place) t goal lines h = inr (goal, lines, h)

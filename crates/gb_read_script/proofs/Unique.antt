@@ -1,38 +1,22 @@
--- A text spells one tree at most, and is refused for one reason at most.
+-- A text is refused for one reason at most, at one place.
 use Rattle.std.specs.Prelude.{◌≡◌, ℕ, ℤ, List, length}
-use Rattle.std.proofs.Common.{refl, ap, sym, subst, ◌∙◌, inl, inr, arith}
+use Rattle.std.proofs.Common.{ap, sym, subst, ◌∙◌, inl, inr, arith}
 use Rattle.std.proofs.lemmas.Bool.{false≢true}
 use Rattle.gb_core.specs.declared.place.Place.{Place}
 use Rattle.gb_core.specs.declared.refusal.Why.{Why}
 use Rattle.gb_core.specs.declared.refusal.Why.TheVariants.{Overflow}
 use Rattle.gb_grammar.specs.declared.table.Step.{Step}
 use Rattle.gb_grammar.specs.Reading.{FirstFault, StepsBefore}
-use Rattle.gb_tree.specs.declared.command.Command.{Command}
-use Rattle.gb_tree.specs.declared.form.FormTree.{FormTree}
-use Rattle.gb_table.specs.declared.rule.Rule.{Rule}
-use Rattle.gb_table.specs.declared.rows.TheConstants.{COMMAND, FORM}
-use Rattle.gb_table.specs.Language.{language, IsPart}
-use Rattle.gb_text.specs.declared.text.Text.{Text}
-use Rattle.gb_text.specs.LeftOut.{IsFirstLeftOut, NoneLeftOut}
-use Rattle.gb_text.specs.Lexeme.{kinds_of}
-use Rattle.gb_text.specs.Text.{place_at}
-use Rattle.gb_text.specs.Limits.{IsFirstTooDeep, NoneTooDeep, IsFirstLong, NoneLong}
-use Rattle.gb_text.specs.Numbers.{IsFirstOverflow, NoneOverflow}
-use Rattle.gb_text.specs.Places.{IsDepthPlace, IsChainPlace, IsOverflowPlace}
-use Rattle.gb_read_script.specs.Built.{built, tops_of}
-use Rattle.gb_read_script.specs.Reading.{IsText, SpellsCommand, SpellsForm, StopsAt, IsLeftOutPlace, IsStop, IsExcess, IsLimit, IsFault, IsRefusal, IsWithin, IsAllowed}
-
--- where steps are unique
-module _ (one_text : (part : ℕ) → IsPart part → (t : Text) (a b : List (Step Rule)) → IsText part t a → IsText part t b → a ≡ b) where
-  pub one_command : (t : Text) (c d : Command) → SpellsCommand t c → SpellsCommand t d → c ≡ d
-  one_command t c d x y =
-      let same : x.0 ≡ y.0 = one_text COMMAND (inl refl) t x.0 y.0 x.1 y.1 in
-      x.2 ∙ (ap (λ (s : List (Step Rule)). (tops_of (built t s)).command) same ∙ sym y.2)
-
-  pub one_form : (t : Text) (f g : FormTree) → SpellsForm t f → SpellsForm t g → f ≡ g
-  one_form t f g x y =
-      let same : x.0 ≡ y.0 = one_text FORM (inr refl) t x.0 y.0 x.1 y.1 in
-      x.2 ∙ (ap (λ (s : List (Step Rule)). (tops_of (built t s)).form) same ∙ sym y.2)
+use Rattle.gb_script.specs.declared.action.Rule.{Rule}
+use Rattle.gb_language.specs.Language.{language, IsPart}
+use Rattle.gb_script.specs.declared.text.Text.{Text}
+use Rattle.gb_limits.specs.LeftOut.{IsFirstLeftOut, NoneLeftOut}
+use Rattle.gb_limits.specs.Lexeme.{kinds_of}
+use Rattle.gb_script.specs.Text.{place_at}
+use Rattle.gb_limits.specs.Limits.{IsFirstTooDeep, NoneTooDeep, IsFirstLong, NoneLong}
+use Rattle.gb_limits.specs.Numbers.{IsFirstOverflow, NoneOverflow}
+use Rattle.gb_limits.specs.Places.{IsDepthPlace, IsChainPlace, IsOverflowPlace}
+use Rattle.gb_read_script.specs.Reading.{IsText, StopsAt, IsLeftOutPlace, IsStop, IsExcess, IsLimit, IsFault, IsRefusal, IsWithin, IsAllowed}
 
 -- one reason and one place
 abbrev pub Same : Why → Place → Why → Place → Type 0
@@ -53,6 +37,14 @@ not_overflowing t w p none o = let small = none o.0 o.3.within in let large = o.
 pub not_left_out : (t : Text) (p : Place) → NoneLeftOut t → IsLeftOutPlace t p → ⊥
 not_left_out t p none l = false≢true (sym (none l.0 l.1.within) ∙ l.1.here)
 
+-- where the first number out of range is unique
+module _ (one_overflow : (t : Text) (i j : ℕ) (a b c d : ℤ) → IsFirstOverflow t i a b → IsFirstOverflow t j c d → (i ≡ j) × (a ≡ c) × (b ≡ d)) where
+  pub one_overflow_place : (t : Text) (v w : Why) (p q : Place) → IsOverflowPlace t v p → IsOverflowPlace t w q → Same v p w q
+  one_overflow_place t v w p q x y =
+      let same = one_overflow t x.0 y.0 x.1 x.2 y.1 y.2 x.3 y.3 in
+      let operands = ap (λ (left : ℤ). Overflow left x.2) same.1 ∙ ap (λ (right : ℤ). Overflow y.1 right) same.2 in
+      (x.4 ∙ (operands ∙ sym y.4), one_place t x.0 y.0 p q same.0 x.5 y.5)
+
 -- where first places are unique
 module _
     (one_left_out : (t : Text) (i j : ℕ) → IsFirstLeftOut t i → IsFirstLeftOut t j → i ≡ j)
@@ -68,17 +60,11 @@ module _
   one_stop t at steps v w p q (inr x) (inl y) = absurd (not_too_deep t steps at q x.1 y.1)
   one_stop t at steps v w p q (inr x) (inr y) = (x.0 ∙ sym y.0, x.2 ∙ sym y.2)
 
-  one_overflow_place : (t : Text) (v w : Why) (p q : Place) → IsOverflowPlace t v p → IsOverflowPlace t w q → Same v p w q
-  one_overflow_place t v w p q x y =
-      let same = one_overflow t x.0 y.0 x.1 x.2 y.1 y.2 x.3 y.3 in
-      let operands = ap (λ (left : ℤ). Overflow left x.2) same.1 ∙ ap (λ (right : ℤ). Overflow y.1 right) same.2 in
-      (x.4 ∙ (operands ∙ sym y.4), one_place t x.0 y.0 p q same.0 x.5 y.5)
-
   one_excess : (t : Text) (steps : List (Step Rule)) (v w : Why) (p q : Place) → IsExcess t steps v p → IsExcess t steps w q → Same v p w q
   one_excess t steps v w p q (inl x) (inl y) = (x.0 ∙ sym y.0, one_place t x.1.0 y.1.0 p q (one_long t steps x.1.0 y.1.0 x.1.1 y.1.1) x.1.2 y.1.2)
   one_excess t steps v w p q (inl x) (inr y) = absurd (not_long t steps p y.0 x.1)
   one_excess t steps v w p q (inr x) (inl y) = absurd (not_long t steps q x.0 y.1)
-  one_excess t steps v w p q (inr x) (inr y) = one_overflow_place t v w p q x.1 y.1
+  one_excess t steps v w p q (inr x) (inr y) = one_overflow_place one_overflow t v w p q x.1 y.1
 
   one_limit : (t : Text) (steps : List (Step Rule)) (v w : Why) (p q : Place) → IsLimit t steps v p → IsLimit t steps w q → Same v p w q
   one_limit t steps v w p q (inl x) (inl y) = (x.0 ∙ sym y.0, one_depth_place t steps (length t.lexemes) p q x.1 y.1)

@@ -3,7 +3,7 @@ use Rattle.std.specs.Prelude.{◌≡◌, List, [], ◌∷◌, ◌++◌}
 use Rattle.std.specs.List.{All}
 use Rattle.std.proofs.Common.{refl, ap, ◌∙◌, sym, inl}
 use Rattle.gb_core.specs.declared.place.Place.{Place}
-use Rattle.gb_text.specs.declared.text.Text.{Text}
+use Rattle.gb_script.specs.declared.text.Text.{Text}
 use Rattle.gb_read_script.specs.declared.goal_lines.ReadLine.{ReadLine}
 use Rattle.gb_read_script.specs.GoalLines.{IsEntry, texts, IsRuler, IsContext, IsLineFault, IsAt, IsSyntaxPlace}
 

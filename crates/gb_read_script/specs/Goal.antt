@@ -1,48 +1,36 @@
 -- What the text of a goal spells, and why one is refused.
-use Rattle.std.specs.Prelude.{◌≡◌, ℕ, ◌⊎◌, List, [], ◌∷◌, ◌++◌, map, None}
-use Rattle.std.specs.List.{All}
+use Rattle.std.specs.Prelude.{◌≡◌, ℕ, ◌⊎◌, List, [], ◌∷◌, ◌++◌, None}
+use Rattle.std.specs.List.{All, AllZip}
 use Rattle.gb_core.specs.declared.place.Place.{Place}
 use Rattle.gb_core.specs.declared.refusal.Refused.TheVariants.{Script}
 use Rattle.gb_core.specs.declared.refusal.Why.{Why}
 use Rattle.gb_core.specs.declared.refusal.Why.TheVariants.{LeftOut, TooMany}
 use Rattle.gb_lex.specs.Lex.{tokens_of, fault_of, IsCharacterFault}
-use Rattle.gb_text.specs.declared.text.Text.{Text}
-use Rattle.gb_text.specs.Lexeme.{text_at}
-use Rattle.gb_text.specs.LeftOut.{NoneLeftOut}
-use Rattle.gb_text.specs.Limits.{NoneLong}
-use Rattle.gb_text.specs.Numbers.{NoneOverflow}
-use Rattle.gb_text.specs.Places.{IsChainPlace, IsOverflowPlace}
-use Rattle.gb_tree.specs.declared.form.FormTree.{FormTree}
-use Rattle.gb_tree.specs.declared.goal.EntryTree.{EntryTree}
-use Rattle.gb_tree.specs.declared.goal.EntryTree.TheVariants as EntryOf
-use Rattle.gb_tree.specs.declared.goal.SequentTree.{SequentTree}
-use Rattle.gb_read_script.specs.declared.build.Tops.{Tops}
-use Rattle.gb_read_script.specs.Built.{built, tops_of}
+use Rattle.gb_script.specs.declared.text.Text.{Text}
+use Rattle.gb_script.specs.declared.tree.Node.{Node}
+use Rattle.gb_language.specs.declared.rows.TheConstants.{ENTRY, HYPOTHESIS, FORM}
+use Rattle.gb_language.specs.Language.{IsLineTree, IsSorted}
+use Rattle.gb_limits.specs.Lexeme.{kinds_of, text_at}
+use Rattle.gb_limits.specs.LeftOut.{NoneLeftOut}
+use Rattle.gb_limits.specs.Limits.{NoneLong}
+use Rattle.gb_limits.specs.Numbers.{NoneOverflow}
+use Rattle.gb_limits.specs.Places.{IsChainPlace, IsOverflowPlace}
 use Rattle.gb_read_script.specs.Reading.{IsLeftOutPlace}
-use Rattle.gb_read_script.specs.declared.goal_lines.LineSort.{LineSort}
-use Rattle.gb_read_script.specs.declared.goal_lines.LineSort.TheVariants.{Binder}
 use Rattle.gb_read_script.specs.declared.goal_lines.ReadLine.{ReadLine}
 use Rattle.gb_read_script.specs.declared.goal_lines.ReadGoal.{ReadGoal}
+use Rattle.gb_read_script.specs.declared.goal_tree.SequentTree.{SequentTree}
 use Rattle.gb_read_script.specs.Line.{line_texts}
-use Rattle.gb_read_script.specs.GoalLines.{IsGoal, IsSyntaxPlace, IsSyntax}
+use Rattle.gb_read_script.specs.GoalLines.{part_of, IsGoal, IsSyntaxPlace, IsSyntax}
 
 -- Trees.
 
--- the entry that a line of this sort is, which leaves these values on top
-abbrev pub entry_left : LineSort → Tops → EntryTree
-entry_left Binder tops = EntryOf.Bind tops.bind
-entry_left _ tops = EntryOf.Hypothesis tops.word tops.form
+-- The line spells this tree.
+abbrev pub IsTreeOf : ReadLine → Node → Type 0
+IsTreeOf l x = IsLineTree (part_of l.sort) (kinds_of l.text) l.text x
 
--- the entry that a line is
-abbrev pub entry_of : ReadLine → EntryTree
-entry_of l = entry_left l.sort (tops_of (built l.text l.steps))
-
--- the form that a line is
-abbrev pub form_of : ReadLine → FormTree
-form_of l = (tops_of (built l.text l.steps)).form
-
-abbrev pub tree_of : ReadGoal → SequentTree
-tree_of goal = record { context = map entry_of goal.context; conclusion = form_of goal.conclusion }
+-- The lines of a goal but `---` spell these trees, one each.
+abbrev pub AreTreesOf : ReadGoal → SequentTree → Type 0
+AreTreesOf goal tree = AllZip IsTreeOf goal.context tree.context × IsTreeOf goal.conclusion tree.conclusion
 
 -- where the text of a goal begins
 abbrev pub beginning : Place
@@ -57,7 +45,14 @@ goal_lines bytes = line_texts (goal_text bytes)
 
 -- The text spells this goal.
 abbrev pub SpellsGoal : List ℕ → SequentTree → Type 0
-SpellsGoal bytes tree = (goal : ReadGoal) × IsGoal (goal_lines bytes) goal × (tree ≡ tree_of goal)
+SpellsGoal bytes tree = (goal : ReadGoal) × IsGoal (goal_lines bytes) goal × AreTreesOf goal tree
+
+-- The tree is well-sorted, as a binder or a hypothesis.
+abbrev pub IsSortedEntry : Node → Type 0
+IsSortedEntry x = IsSorted ENTRY x ⊎ IsSorted HYPOTHESIS x
+
+abbrev pub IsSortedGoal : SequentTree → Type 0
+IsSortedGoal tree = All IsSortedEntry tree.context × IsSorted FORM tree.conclusion
 
 -- Limits.
 
@@ -66,31 +61,21 @@ abbrev pub all_lines : ReadGoal → List ReadLine
 all_lines goal = goal.context ++ goal.conclusion ∷ []
 
 -- No chain of the line is too long, by its steps.
-unfoldable pub IsShort : ReadLine → Type 0
+abbrev pub IsShort : ReadLine → Type 0
 IsShort l = NoneLong l.text l.steps
 
--- By its steps, the first operand too many of a chain of the line begins at this place.
-unfoldable pub IsTooLong : ReadLine → Why → Place → Type 0
-IsTooLong l why place = (why ≡ TooMany 256) × IsChainPlace l.text l.steps place
+-- In the first of these lines that isn't short the first operand too many of a chain begins at this place.
+abbrev pub IsLongPlace : List ReadLine → Place → Type 0
+IsLongPlace [] place = ⊥
+IsLongPlace (l ∷ ls) place = IsChainPlace l.text l.steps place ⊎ (IsShort l × IsLongPlace ls place)
 
--- No number of the line is out of range.
-unfoldable pub IsSmall : ReadLine → Type 0
-IsSmall l = NoneOverflow l.text
+-- A chain of these lines has an operand too many.
+abbrev pub IsTooMany : List ReadLine → Why → Place → Type 0
+IsTooMany lines why place = (why ≡ TooMany 256) × IsLongPlace lines place
 
--- The first number of the line that is out of range stands at this place.
-unfoldable pub IsTooLarge : ReadLine → Why → Place → Type 0
-IsTooLarge l why place = IsOverflowPlace l.text why place
-
--- The first line that isn't good is bad for this reason, at this place.
-abbrev pub IsFirst : (ReadLine → Type 0) → (ReadLine → Why → Place → Type 0) → List ReadLine → Why → Place → Type 0
-IsFirst Good Bad [] why place = ⊥
-IsFirst Good Bad (l ∷ ls) why place = Bad l why place ⊎ (Good l × IsFirst Good Bad ls why place)
-
--- Why a goal that can be read passes a limit, and where: the chains of all lines come before numbers.
-abbrev pub IsExcess : ReadGoal → Why → Place → Type 0
-IsExcess goal why place =
-    IsFirst IsShort IsTooLong (all_lines goal) why place
-    ⊎ (All IsShort (all_lines goal) × IsFirst IsSmall IsTooLarge (all_lines goal) why place)
+-- A chain of the lines of a text has an operand too many, or, where none has, a number of the text is out of range.
+abbrev pub IsExcess : Text → List ReadLine → Why → Place → Type 0
+IsExcess t lines why place = IsTooMany lines why place ⊎ (All IsShort lines × IsOverflowPlace t why place)
 
 -- Refusals.
 
@@ -104,7 +89,7 @@ IsTokenRefusal bytes why place =
 abbrev pub IsLineRefusal : Text → Why → Place → Type 0
 IsLineRefusal t why place =
     IsSyntax (IsSyntaxPlace (line_texts t) t.end) why place
-    ⊎ ((goal : ReadGoal) × IsGoal (line_texts t) goal × IsExcess goal why place)
+    ⊎ ((goal : ReadGoal) × IsGoal (line_texts t) goal × IsExcess t (all_lines goal) why place)
 
 -- Why the text of a goal is refused, and where: its tokens come before its lines.
 abbrev pub IsGoalRefusal : List ℕ → Why → Place → Type 0
@@ -112,11 +97,11 @@ IsGoalRefusal bytes why place =
     IsTokenRefusal bytes why place
     ⊎ ((fault_of bytes ≡ None) × NoneLeftOut (goal_text bytes) × IsLineRefusal (goal_text bytes) why place)
 
--- The lines of a text are this goal, which passes no limit.
+-- The lines of a text are this goal, and pass no limit.
 pub record IsWithin (t : Text) (goal : ReadGoal) : Type 0 where
   pub lines : IsGoal (line_texts t) goal
   pub short : All IsShort (all_lines goal)
-  pub in_range : All IsSmall (all_lines goal)
+  pub numbers : NoneOverflow t
 
 -- The text is one of a goal, and passes no limit.
 pub record IsGoalAllowed (bytes : List ℕ) : Type 0 where

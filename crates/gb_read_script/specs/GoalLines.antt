@@ -8,15 +8,15 @@ use Rattle.gb_core.specs.declared.refusal.Why.{Why}
 use Rattle.gb_core.specs.declared.refusal.Why.TheVariants.{Syntax}
 use Rattle.gb_grammar.specs.declared.table.Step.{Step}
 use Rattle.gb_grammar.specs.Reading.{Spells, FirstFault}
-use Rattle.gb_table.specs.declared.rule.Rule.{Rule}
-use Rattle.gb_table.specs.declared.rows.TheConstants.{ENTRY, HYPOTHESIS, FORM}
-use Rattle.gb_table.specs.Language.{goal_language}
-use Rattle.gb_text.specs.declared.terminal.Terminal.{Terminal}
-use Rattle.gb_text.specs.declared.terminal.Terminal.TheVariants.{Minus}
-use Rattle.gb_text.specs.declared.text.Lexeme.{Lexeme}
-use Rattle.gb_text.specs.declared.text.Text.{Text}
-use Rattle.gb_text.specs.Lexeme.{kinds_of}
-use Rattle.gb_text.specs.Text.{place_at}
+use Rattle.gb_script.specs.declared.action.Rule.{Rule}
+use Rattle.gb_language.specs.declared.rows.TheConstants.{ENTRY, HYPOTHESIS, FORM}
+use Rattle.gb_language.specs.Language.{goal_language}
+use Rattle.gb_script.specs.declared.terminal.Terminal.{Terminal}
+use Rattle.gb_script.specs.declared.terminal.Terminal.TheVariants.{Minus}
+use Rattle.gb_script.specs.declared.text.Lexeme.{Lexeme}
+use Rattle.gb_script.specs.declared.text.Text.{Text}
+use Rattle.gb_limits.specs.Lexeme.{kinds_of}
+use Rattle.gb_script.specs.Text.{place_at}
 use Rattle.gb_read_script.specs.declared.goal_lines.Attempt.{Attempt}
 use Rattle.gb_read_script.specs.declared.goal_lines.Attempt.TheVariants.{Steps, Stop}
 use Rattle.gb_read_script.specs.declared.goal_lines.Line.{Line}
@@ -55,13 +55,17 @@ MayBeEntry Binder t = Unit {0}
 MayBeEntry Hypothesis t = IsNoLine Binder t
 MayBeEntry Conclusion t = ⊥
 
+-- The line is one of its sort, by its steps.
+abbrev pub IsRead : ReadLine → Type 0
+IsRead l = IsLineText l.sort l.text l.steps
+
 -- The line is an entry of a context.
 abbrev pub IsEntry : ReadLine → Type 0
-IsEntry l = IsLineText l.sort l.text l.steps × MayBeEntry l.sort l.text
+IsEntry l = IsRead l × MayBeEntry l.sort l.text
 
 -- The line is a conclusion.
 abbrev pub IsConclusion : ReadLine → Type 0
-IsConclusion l = (l.sort ≡ Conclusion) × IsLineText Conclusion l.text l.steps
+IsConclusion l = (l.sort ≡ Conclusion) × IsRead l
 
 unfoldable pub is_minus : Terminal → Bool
 is_minus Minus = true

@@ -1,40 +1,37 @@
--- The trees that a text spells.
+-- The trees that a text spells, and why one is refused.
 use Rattle.std.specs.Prelude.{◌≡◌, ℕ, List, ◌⊎◌, length}
 use Rattle.gb_core.specs.declared.place.Place.{Place}
 use Rattle.gb_core.specs.declared.refusal.Why.{Why}
 use Rattle.gb_core.specs.declared.refusal.Why.TheVariants.{Depth, LeftOut, Syntax, TooMany}
 use Rattle.gb_grammar.specs.declared.table.Step.{Step}
 use Rattle.gb_grammar.specs.Reading.{Spells, FirstFault, StepsBefore}
-use Rattle.gb_tree.specs.declared.command.Command.{Command}
-use Rattle.gb_tree.specs.declared.form.FormTree.{FormTree}
-use Rattle.gb_table.specs.declared.rule.Rule.{Rule}
-use Rattle.gb_table.specs.declared.rows.TheConstants.{COMMAND, FORM}
-use Rattle.gb_table.specs.Language.{language}
-use Rattle.gb_text.specs.declared.text.Text.{Text}
-use Rattle.gb_text.specs.Lexeme.{kinds_of}
-use Rattle.gb_text.specs.LeftOut.{IsFirstLeftOut, NoneLeftOut}
-use Rattle.gb_text.specs.Limits.{NoneTooDeep, NoneLong}
-use Rattle.gb_text.specs.Numbers.{NoneOverflow}
-use Rattle.gb_text.specs.Places.{IsDepthPlace, IsChainPlace, IsOverflowPlace}
-use Rattle.gb_read_script.specs.declared.build.Tops.{Tops}
-use Rattle.gb_read_script.specs.Built.{built, tops_of}
-use Rattle.gb_text.specs.Text.{place_at}
+use Rattle.gb_script.specs.declared.action.Rule.{Rule}
+use Rattle.gb_script.specs.declared.text.Text.{Text}
+use Rattle.gb_script.specs.declared.tree.Node.{Node}
+use Rattle.gb_script.specs.Text.{place_at}
+use Rattle.gb_language.specs.declared.rows.TheConstants.{COMMAND, FORM}
+use Rattle.gb_language.specs.Language.{language, IsTextTree}
+use Rattle.gb_limits.specs.Lexeme.{kinds_of}
+use Rattle.gb_limits.specs.LeftOut.{IsFirstLeftOut, NoneLeftOut}
+use Rattle.gb_limits.specs.Limits.{NoneTooDeep, NoneLong}
+use Rattle.gb_limits.specs.Numbers.{NoneOverflow}
+use Rattle.gb_limits.specs.Places.{IsDepthPlace, IsChainPlace, IsOverflowPlace}
 
 -- The text is one of this part, by these steps.
 abbrev pub IsText : ℕ → Text → List (Step Rule) → Type 0
 IsText part t steps = Spells language part (kinds_of t) steps
 
--- The text is one of this part, and leaves these values on top.
-abbrev pub Leaves : ℕ → Text → Tops → Type 0
-Leaves part t tops = (steps : List (Step Rule)) × IsText part t steps × (tops ≡ tops_of (built t steps))
+-- The text is one of this part, and spells this tree.
+abbrev pub SpellsTree : ℕ → Text → Node → Type 0
+SpellsTree part t x = IsTextTree part (kinds_of t) t x
 
 -- The text spells this command.
-abbrev pub SpellsCommand : Text → Command → Type 0
-SpellsCommand t command = (steps : List (Step Rule)) × IsText COMMAND t steps × (command ≡ (tops_of (built t steps)).command)
+abbrev pub SpellsCommand : Text → Node → Type 0
+SpellsCommand t c = SpellsTree COMMAND t c
 
 -- The text spells this form.
-abbrev pub SpellsForm : Text → FormTree → Type 0
-SpellsForm t form = (steps : List (Step Rule)) × IsText FORM t steps × (form ≡ (tops_of (built t steps)).form)
+abbrev pub SpellsForm : Text → Node → Type 0
+SpellsForm t f = SpellsTree FORM t f
 
 -- These steps read the text of this part up to this token, the first with which no text goes on, or up to the end where it ends too soon.
 abbrev pub StopsAt : ℕ → Text → ℕ → List (Step Rule) → Type 0

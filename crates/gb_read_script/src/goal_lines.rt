@@ -3,20 +3,22 @@
 ghost use Rattle.std.specs.Prelude.{◌≡◌, ◌∷◌, [], IfOk, IfErr, MatchResult, max, min};
 ghost use Rattle.gb_core.specs.declared.refusal.Why.TheVariants.{Syntax};
 ghost use Rattle.gb_core.specs.declared.refusal.Refused.TheVariants.{NoMemory, Script};
-ghost use Rattle.gb_text.specs.Text.{place_at};
+ghost use Rattle.gb_script.specs.Text.{place_at};
+ghost use Rattle.gb_read_script.specs.Line.{line_texts};
 ghost use Rattle.gb_read_script.specs.GoalLines.{part_of, IsAttempt, IsNoEntry, IsLine, IsAt, IsSyntax, IsConclusion, is_dash, dashes, IsRuler, IsContext, IsGoal, IsLineFault, IsEndingFault, IsSyntaxPlace, IsRefusedFor};
 
+use crate::line::line_texts;
 use gb_core::place::Place;
 use gb_core::refusal::{Refused, Why};
 use gb_grammar::error::ReadError;
 use gb_grammar::table::Step;
+use gb_language::reading::read_line;
+use gb_language::rows::{ENTRY, FORM, HYPOTHESIS};
+use gb_limits::lexeme::kinds;
+use gb_script::action::Rule;
+use gb_script::terminal::Terminal;
+use gb_script::text::{Lexeme, Text, place_at};
 use gb_shared::Stack;
-use gb_table::reading::read_line;
-use gb_table::rows::{ENTRY, FORM, HYPOTHESIS};
-use gb_table::rule::Rule;
-use gb_text::lexeme::kinds;
-use gb_text::terminal::Terminal;
-use gb_text::text::{Lexeme, Text, place_at};
 use sqlite_items::Items;
 use std::alloc::Global;
 
@@ -189,14 +191,15 @@ fn conclusion(alloc: Global, lines: Stack<Text>, end: Place) -> Result<ReadLine,
     }
 }
 
-/// The goal that lines are which end at a place.
+/// The goal that the lines of a text are.
 ///
 /// Refused with `Syntax` at the first token with which no goal goes on, or at the end.
-pub fn read_goal(alloc: Global, lines: Stack<Text>, end: Place) -> Result<ReadGoal, Refused>
-    ensures found { IfOk result (IsGoal lines) }
-    ensures fault { IfErr result (IsRefusedFor (IsSyntax (IsSyntaxPlace lines end))) }
+pub fn read_goal(alloc: Global, text: Text) -> Result<ReadGoal, Refused>
+    ensures found { IfOk result (IsGoal (line_texts text)) }
+    ensures fault { IfErr result (IsRefusedFor (IsSyntax (IsSyntaxPlace (line_texts text) text.end))) }
 {
-    let mut lines = lines;
+    let end = text.end;
+    let mut lines = line_texts(alloc, text)?;
     let context = context(alloc, &mut lines, end)?;
     let conclusion = conclusion(alloc, lines, end)?;
     Ok(ReadGoal {

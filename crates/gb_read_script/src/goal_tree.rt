@@ -1,50 +1,48 @@
 // From the lines of a goal to its tree.
 
-ghost use Rattle.std.specs.Prelude.{◌≡◌, IfOk, map};
-ghost use Rattle.gb_read_script.specs.Goal.{entry_of, form_of, tree_of};
+ghost use Rattle.std.specs.Prelude.{IfOk};
+ghost use Rattle.std.specs.List.{All};
+ghost use Rattle.gb_grammar.specs.Reading.{Spells};
+ghost use Rattle.gb_language.specs.Language.{goal_language, IsLine, IsLineTree, Of};
+ghost use Rattle.gb_read_script.specs.GoalLines.{IsEntry, IsConclusion};
+ghost use Rattle.gb_read_script.specs.Goal.{AreTreesOf};
 
-use crate::build::build;
-use crate::goal_lines::{LineSort, ReadGoal, ReadLine};
-use gb_tree::form::FormTree;
-use gb_tree::goal::{EntryTree, EntryTrees, SequentTree};
-use sqlite_items::{Boxed, Items};
+use crate::goal_lines::{ReadGoal, ReadLine};
+use gb_language::reading::line_tree;
+use gb_script::tree::{Node, Nodes};
+use sqlite_items::Items;
 use std::alloc::{AllocError, Global};
 
-// The entry of a context that a line is.
-fn entry(alloc: Global, line: &ReadLine) -> Result<EntryTree, AllocError>
-    ensures { IfOk result (λ e. e ≡ entry_of line.now) }
-{
-    let tops = build(alloc, &line.text, line.steps.as_slice())?;
-    Ok(match line.sort {
-        LineSort::Binder => EntryTree::Bind(tops.bind),
-        LineSort::Hypothesis | LineSort::Conclusion => EntryTree::Hypothesis(tops.word, tops.form),
-    })
+/// The trees of a goal: an entry of its context is a variable, a memory or a module, or a node `Hypothesis`.
+#[derive(Drop)]
+pub struct SequentTree {
+    pub context: Nodes,
+    pub conclusion: Node,
 }
 
-// The form that a line is.
-fn form(alloc: Global, line: &ReadLine) -> Result<Boxed<FormTree>, AllocError>
-    ensures { IfOk result (λ f. f ≡ form_of line.now) }
+// The tree that a line is.
+fn tree_of(alloc: Global, line: &ReadLine) -> Result<Node, AllocError>
+    ghost given: { Of }
+    requires part { IsLine given.part }
+    requires steps { Spells goal_language given.part given.kinds line.now.steps }
+    ensures { IfOk result (λ x. IsLineTree given.part given.kinds line.now.text x) }
 {
-    Ok(build(alloc, &line.text, line.steps.as_slice())?.form)
-}
-
-// The context that lines are.
-fn context(alloc: Global, lines: &[ReadLine]) -> Result<EntryTrees, AllocError>
-    ensures { IfOk result (λ entries. entries ≡ map entry_of lines.now) }
-{
-    let mut entries = Items::new(alloc);
-    for line in lines {
-        entries.push(entry(alloc, line)?)?;
-    }
-    Ok(entries)
+    let steps = Vec::from_slice(alloc, line.steps.as_slice())?;
+    line_tree(alloc, &line.text, steps)
 }
 
 /// The tree of a goal.
+#[tactic(auto, using(crate::proofs::Trees::one_more))]
 pub fn tree(alloc: Global, goal: &ReadGoal) -> Result<SequentTree, AllocError>
-    ensures { IfOk result (λ tree. tree ≡ tree_of goal.now) }
+    requires context { All IsEntry goal.now.context }
+    requires conclusion { IsConclusion goal.now.conclusion }
+    ensures { IfOk result (AreTreesOf goal.now) }
 {
-    let context = context(alloc, goal.context.as_slice())?;
-    let conclusion = form(alloc, &goal.conclusion)?;
+    let mut context = Items::new(alloc);
+    for line in goal.context.as_slice() {
+        context.push(tree_of(alloc, line)?)?;
+    }
+    let conclusion = tree_of(alloc, &goal.conclusion)?;
     Ok(SequentTree {
         context,
         conclusion,

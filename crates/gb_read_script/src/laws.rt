@@ -3,32 +3,31 @@
 ghost use Rattle.std.specs.Prelude.{◌≡◌, ℕ, List};
 ghost use Rattle.gb_core.specs.declared.place.Place.{Place};
 ghost use Rattle.gb_core.specs.declared.refusal.Why.{Why};
-ghost use Rattle.gb_tree.specs.declared.command.Command.{Command};
-ghost use Rattle.gb_tree.specs.declared.form.FormTree.{FormTree};
-ghost use Rattle.gb_tree.specs.declared.goal.SequentTree.{SequentTree};
-ghost use Rattle.gb_table.specs.Language.{IsPart};
-ghost use Rattle.gb_text.specs.declared.text.Text.{Text};
-ghost use Rattle.gb_read_script.specs.Goal.{SpellsGoal, IsGoalRefusal, IsGoalAllowed};
+ghost use Rattle.gb_script.specs.declared.text.Text.{Text};
+ghost use Rattle.gb_script.specs.declared.tree.Node.{Node};
+ghost use Rattle.gb_language.specs.Language.{IsPart};
+ghost use Rattle.gb_read_script.specs.declared.goal_tree.SequentTree.{SequentTree};
+ghost use Rattle.gb_read_script.specs.Goal.{SpellsGoal, IsSortedGoal, IsGoalRefusal, IsGoalAllowed};
 ghost use Rattle.gb_read_script.specs.Reading.{SpellsCommand, SpellsForm, IsRefusal, IsAllowed};
 
 use gb_grammar::laws::{first_faults_are_unique, steps_before_are_unique};
-use gb_table::laws::steps_are_unique;
-use gb_table::rule::Rule;
-use gb_text::laws::{first_places_are_unique, kinds_are_kinds};
+use gb_language::laws::{steps_are_unique, trees_are_sorted, trees_are_unique};
+use gb_limits::laws::{first_places_are_unique, kinds_are_kinds};
+use gb_script::action::Rule;
 
 /// A text spells one command at most.
 pub fn commands_are_unique()
-    ensures { (t : Text) (c d : Command) → SpellsCommand t c → SpellsCommand t d → c ≡ d }
+    ensures { (t : Text) (c d : Node) → SpellsCommand t c → SpellsCommand t d → c ≡ d }
 {
-    steps_are_unique();
+    trees_are_unique();
     kinds_are_kinds();
 }
 
 /// A text spells one form at most.
 pub fn forms_are_unique()
-    ensures { (t : Text) (f g : FormTree) → SpellsForm t f → SpellsForm t g → f ≡ g }
+    ensures { (t : Text) (f g : Node) → SpellsForm t f → SpellsForm t g → f ≡ g }
 {
-    steps_are_unique();
+    trees_are_unique();
     kinds_are_kinds();
 }
 
@@ -50,7 +49,15 @@ pub fn goals_are_unique()
     ensures { (bytes : List ℕ) (a b : SequentTree) → SpellsGoal bytes a → SpellsGoal bytes b → a ≡ b }
 {
     steps_are_unique();
+    trees_are_unique();
     kinds_are_kinds();
+}
+
+/// The trees of a goal are well-sorted.
+pub fn goals_are_sorted()
+    ensures { (bytes : List ℕ) (a : SequentTree) → SpellsGoal bytes a → IsSortedGoal a }
+{
+    trees_are_sorted();
 }
 
 /// The text of a goal is refused for one reason at most, at one place, and not at all where it passes no limit.

@@ -1,11 +1,11 @@
 // The lines of a text.
 
 ghost use Rattle.std.specs.Prelude.{◌≡◌, [], IfOk, OnOk};
-ghost use Rattle.gb_read_script.specs.Line.{line_of, before, lines_before, text_of, line_texts};
+ghost use Rattle.gb_read_script.specs.Line.{before, lines_before, text_of, line_texts};
 
 use gb_core::place::Place;
+use gb_script::text::{Lexeme, Lexemes, Text};
 use gb_shared::Stack;
-use gb_text::text::{Lexeme, Lexemes, Text};
 use sqlite_items::Items;
 use std::alloc::{AllocError, Global};
 
@@ -17,16 +17,6 @@ pub struct Line {
     pub end: Place,
 }
 
-// A line of one token.
-fn line_of(alloc: Global, token: Lexeme, end: Place) -> Result<Line, AllocError>
-    ensures { IfOk result (λ line. line ≡ line_of token end) }
-{
-    let start = token.word.place;
-    let mut tokens = Stack::new(alloc);
-    tokens.push(token)?;
-    Ok(Line { tokens, start, end })
-}
-
 // Puts a token before lines.
 fn put_before(
     alloc: Global,
@@ -36,20 +26,20 @@ fn put_before(
 ) -> Result<(), AllocError>
     ensures { OnOk result (lines.new ≡ before token end lines.old) }
 {
-    match lines.pop() {
-        None => lines.push(line_of(alloc, token, end)?),
-        Some(mut line) => {
-            if token.word.place.line == line.start.line {
-                line.start = token.word.place;
-                line.tokens.push(token)?;
-                lines.push(line)
-            } else {
-                let next = line.start;
-                lines.push(line)?;
-                lines.push(line_of(alloc, token, next)?)
-            }
+    let start = token.place;
+    let mut tokens = Stack::new(alloc);
+    let mut end = end;
+    if let Some(line) = lines.pop() {
+        if start.line == line.start.line {
+            tokens = line.tokens;
+            end = line.end;
+        } else {
+            end = line.start;
+            lines.push(line)?;
         }
     }
+    tokens.push(token)?;
+    lines.push(Line { tokens, start, end })
 }
 
 // The lines of tokens which end at a place.
@@ -65,16 +55,6 @@ fn lines_of(alloc: Global, tokens: Lexemes, end: Place) -> Result<Stack<Line>, A
     Ok(lines)
 }
 
-fn text_of(line: Line) -> Text
-    ensures { result ≡ text_of line }
-{
-    let Line { tokens, end, .. } = line;
-    Text {
-        lexemes: tokens.into_items(),
-        end,
-    }
-}
-
 /// The lines of a text, each a text that ends where the next one begins; blank lines are none.
 pub fn line_texts(alloc: Global, text: Text) -> Result<Stack<Text>, AllocError>
     ensures { IfOk result (λ texts. texts ≡ line_texts text) }
@@ -82,8 +62,11 @@ pub fn line_texts(alloc: Global, text: Text) -> Result<Stack<Text>, AllocError>
     let Text { lexemes, end } = text;
     let mut lines = lines_of(alloc, lexemes, end)?;
     let mut texts = Items::new(alloc);
-    while let Some(line) = lines.pop() {
-        texts.push(text_of(line))?;
+    while let Some(Line { tokens, end, .. }) = lines.pop() {
+        texts.push(Text {
+            lexemes: tokens.into_items(),
+            end,
+        })?;
     }
     Stack::from_items(alloc, texts)
 }

@@ -1,54 +1,33 @@
 // Reading forms and commands.
 
-ghost use Rattle.std.specs.Prelude.{◌≡◌, ◌≢◌, ◌≤◌, ◌<◌, ◌+◌, ◌^◌, List, IfOk, IfErr, OnOk, MatchResult, Err, length};
+ghost use Rattle.std.specs.Prelude.{◌≡◌, ◌≢◌, ℕ, ◌≤◌, ◌<◌, ◌+◌, ◌^◌, IfOk, IfErr, OnOk, MatchResult, Err, length};
 ghost use Rattle.gb_core.specs.declared.place.Place.{Place};
 ghost use Rattle.gb_core.specs.declared.refusal.Why.{Why};
 ghost use Rattle.gb_core.specs.declared.refusal.Why.TheVariants.{LeftOut};
 ghost use Rattle.gb_core.specs.declared.refusal.Refused.TheVariants.{NoMemory, ReadFault, Script};
-ghost use Rattle.gb_grammar.specs.declared.error.ReadError.TheVariants.{Memory};
-ghost use Rattle.gb_grammar.specs.declared.table.Step.{Step};
-ghost use Rattle.gb_grammar.specs.Reading.{IsFault as IsReadFault};
 ghost use Rattle.gb_lex.specs.Lex.{AreSpans};
-ghost use Rattle.gb_tree.specs.declared.command.Command.{Command};
-ghost use Rattle.gb_tree.specs.declared.form.FormTree.{FormTree};
-ghost use Rattle.gb_table.specs.declared.rule.Rule.{Rule};
-ghost use Rattle.gb_table.specs.declared.rows.TheConstants.{COMMAND, FORM};
-ghost use Rattle.gb_table.specs.Language.{language, IsPart};
-ghost use Rattle.gb_text.specs.LeftOut.{NoneLeftOut};
-ghost use Rattle.gb_text.specs.Lexeme.{kinds_of, text_at};
-ghost use Rattle.gb_text.specs.Limits.{NoneTooDeep, NoneLong};
-ghost use Rattle.gb_text.specs.Numbers.{NoneOverflow};
-ghost use Rattle.gb_read_script.specs.Reading.{IsText, Leaves, SpellsCommand, SpellsForm, IsLeftOutPlace, IsStop, IsLimit, IsFault, IsRefusal, IsWithin, IsAllowed};
+ghost use Rattle.gb_language.specs.declared.rows.TheConstants.{COMMAND, FORM};
+ghost use Rattle.gb_language.specs.Language.{IsPart, IsSorted};
+ghost use Rattle.gb_limits.specs.LeftOut.{NoneLeftOut};
+ghost use Rattle.gb_limits.specs.Lexeme.{text_at};
+ghost use Rattle.gb_limits.specs.Limits.{NoneTooDeep, NoneLong};
+ghost use Rattle.gb_limits.specs.Numbers.{NoneOverflow};
+ghost use Rattle.gb_read_script.specs.Reading.{IsText, SpellsTree, SpellsCommand, SpellsForm, IsLeftOutPlace, IsStop, IsLimit, IsFault, IsRefusal, IsWithin, IsAllowed};
 
-use crate::build::{Tops, build};
 use gb_core::place::Place;
 use gb_core::refusal::{Refused, Why};
 use gb_grammar::error::ReadError;
 use gb_grammar::table::Step;
+use gb_language::reading::{read_text, text_tree};
+use gb_language::rows::{COMMAND, FORM};
 use gb_lex::token::Tokens;
-use gb_table::reading::read_text;
-use gb_table::rows::{COMMAND, FORM};
-use gb_table::rule::Rule;
-use gb_text::checks::{check_chains, check_depth, check_numbers};
-use gb_text::left_out::first_left_out;
-use gb_text::lexeme::{kinds, text};
-use gb_text::text::{Text, place_at};
-use gb_tree::command::Command;
-use gb_tree::form::FormTree;
+use gb_limits::checks::{check_chains, check_depth, check_numbers};
+use gb_limits::left_out::first_left_out;
+use gb_limits::lexeme::{kinds, text};
+use gb_script::action::Rule;
+use gb_script::text::{Text, place_at};
+use gb_script::tree::Node;
 use std::alloc::Global;
-
-// The steps by which a text is one of this part.
-fn read(alloc: Global, text: &Text, part: u8) -> Result<Vec<Step<Rule>>, ReadError<Rule>>
-    requires { IsPart part }
-    ensures found { IfOk result (λ s. IsText part text.now s.items) }
-    ensures only { (s : List (Step Rule)) → IsText part text.now s → MatchResult result (λ r. r.items ≡ s) (λ e. e ≡ Memory) }
-    ensures fault { IfErr result (λ e. IsReadFault language part (kinds_of text.now) e) }
-{
-    let Ok(kinds) = kinds(alloc, text) else {
-        return Err(ReadError::Memory);
-    };
-    read_text(alloc, part, kinds.as_slice())
-}
 
 // Why a text is refused that these steps read up to a token, with which no text goes on.
 fn stop(alloc: Global, text: &Text, steps: &[Step<Rule>], at: usize) -> Refused
@@ -89,7 +68,10 @@ fn steps(alloc: Global, text: &Text, part: u8) -> Result<Vec<Step<Rule>>, Refuse
     ensures no_fault { IfErr result (λ e. e ≢ ReadFault) }
     ensures fault { (why : Why) (place : Place) → result ≡ Err (Script why place) → IsFault part text.now why place }
 {
-    match read(alloc, text, part) {
+    let Ok(kinds) = kinds(alloc, text) else {
+        return Err(Refused::NoMemory);
+    };
+    match read_text(alloc, part, kinds.as_slice()) {
         Err(ReadError::Memory) => Err(Refused::NoMemory),
         Err(ReadError::Fault { at, steps }) => Err(stop(alloc, text, steps.as_slice(), at)),
         Ok(steps) => match check_limits(alloc, text, steps.as_slice()) {
@@ -127,13 +109,17 @@ pub fn checked_text(
     }
 }
 
-// What the text of these tokens leaves, which is one of this part and passes no limit.
-fn tops(alloc: Global, bytes: &[u8], tokens: &Tokens, at: Place, part: u8) -> Result<Tops, Refused>
+// The tree of the text of these tokens, which is one of this part and passes no limit. `spelled` is the part, as a value
+// of the proof alone.
+fn tree(alloc: Global, bytes: &[u8], tokens: &Tokens, at: Place, part: u8) -> Result<Node, Refused>
+    ghost spelled: { ℕ }
+    requires same { part ≡ spelled }
     requires start { IsPart part }
     requires spans { AreSpans 0 tokens.now (length bytes.now) }
     requires line { at.line + length bytes.now < 2 ^ 32 }
     requires column { at.col + length bytes.now < 2 ^ 32 }
-    ensures found { IfOk result (Leaves part (text_at bytes.now at tokens.now)) }
+    ensures found { IfOk result (λ x. SpellsTree part (text_at bytes.now at tokens.now) x) }
+    ensures sorted { IfOk result (λ x. IsSorted part x) }
     ensures allowed { OnOk result (IsAllowed part (text_at bytes.now at tokens.now)) }
     ensures only { IsAllowed part (text_at bytes.now at tokens.now) → MatchResult result (λ _. Unit {0}) (λ e. e ≡ NoMemory) }
     ensures no_fault { IfErr result (λ e. e ≢ ReadFault) }
@@ -141,7 +127,7 @@ fn tops(alloc: Global, bytes: &[u8], tokens: &Tokens, at: Place, part: u8) -> Re
 {
     let text = checked_text(alloc, bytes, tokens, at)?;
     let steps = steps(alloc, &text, part)?;
-    Ok(build(alloc, &text, steps.as_slice())?)
+    Ok(text_tree(alloc, &text, steps)?)
 }
 
 /// The command that these tokens of a text spell; the text begins at the place `at`.
@@ -149,35 +135,32 @@ fn tops(alloc: Global, bytes: &[u8], tokens: &Tokens, at: Place, part: u8) -> Re
 /// Refused, in this order: `LeftOut` at the first token that is left out; `Depth` at the first token that stands in more
 /// than 64 levels; `Syntax` at the first token with which no command goes on, or at the end where the text ends too
 /// soon; `TooMany` at the first token of operand 257 of a chain; `Overflow` at the first number that is out of range.
-pub fn command(alloc: Global, text: &[u8], tokens: &Tokens, at: Place) -> Result<Command, Refused>
+pub fn command(alloc: Global, text: &[u8], tokens: &Tokens, at: Place) -> Result<Node, Refused>
     requires spans { AreSpans 0 tokens.now (length text.now) }
     requires line { at.line + length text.now < 2 ^ 32 }
     requires column { at.col + length text.now < 2 ^ 32 }
     ensures found { IfOk result (λ c. SpellsCommand (text_at text.now at tokens.now) c) }
+    // The tree and its parts are of the sorts that their heads say.
+    ensures sorted { IfOk result (λ c. IsSorted COMMAND c) }
     ensures allowed { OnOk result (IsAllowed COMMAND (text_at text.now at tokens.now)) }
     ensures only { IsAllowed COMMAND (text_at text.now at tokens.now) → MatchResult result (λ _. Unit {0}) (λ e. e ≡ NoMemory) }
     ensures no_fault { IfErr result (λ e. e ≢ ReadFault) }
     ensures refused { (why : Why) (place : Place) → result ≡ Err (Script why place) → IsRefusal COMMAND (text_at text.now at tokens.now) why place }
 {
-    match tops(alloc, text, tokens, at, COMMAND) {
-        Ok(tops) => Ok(tops.command),
-        Err(refused) => Err(refused),
-    }
+    tree(alloc, text, tokens, at, COMMAND)
 }
 
 /// The form that these tokens of a text spell, as [`command`] reads commands.
-pub fn form(alloc: Global, text: &[u8], tokens: &Tokens, at: Place) -> Result<FormTree, Refused>
+pub fn form(alloc: Global, text: &[u8], tokens: &Tokens, at: Place) -> Result<Node, Refused>
     requires spans { AreSpans 0 tokens.now (length text.now) }
     requires line { at.line + length text.now < 2 ^ 32 }
     requires column { at.col + length text.now < 2 ^ 32 }
     ensures found { IfOk result (λ f. SpellsForm (text_at text.now at tokens.now) f) }
+    ensures sorted { IfOk result (λ f. IsSorted FORM f) }
     ensures allowed { OnOk result (IsAllowed FORM (text_at text.now at tokens.now)) }
     ensures only { IsAllowed FORM (text_at text.now at tokens.now) → MatchResult result (λ _. Unit {0}) (λ e. e ≡ NoMemory) }
     ensures no_fault { IfErr result (λ e. e ≢ ReadFault) }
     ensures refused { (why : Why) (place : Place) → result ≡ Err (Script why place) → IsRefusal FORM (text_at text.now at tokens.now) why place }
 {
-    match tops(alloc, text, tokens, at, FORM) {
-        Ok(tops) => Ok(tops.form.into_inner()),
-        Err(refused) => Err(refused),
-    }
+    tree(alloc, text, tokens, at, FORM)
 }

@@ -1,6 +1,6 @@
 -- Actions that pass the test build well-sorted values.
-use Rattle.std.specs.Prelude.{ℕ, ◌≡◌, Bool, true, false, not, ◌&&◌, nat_eq, List, [], ◌∷◌, Option, Some, None}
-use Rattle.std.proofs.Common.{refl, sym, ◌∙◌, arith}
+use Rattle.std.specs.Prelude.{ℕ, ◌≡◌, Bool, true, false, not, ◌&&◌, nat_eq, List, [], ◌∷◌}
+use Rattle.std.proofs.Common.{refl, ap, ◌∙◌, arith}
 use Rattle.gb_core.specs.declared.place.Place.{Place}
 use Rattle.gb_grammar.proofs.Tests.{both}
 use Rattle.gb_script.specs.declared.action.Action.{Action}
@@ -14,7 +14,7 @@ use Rattle.gb_script.specs.Tree.{node, parts_of}
 use Rattle.gb_script.specs.Text.{name_at, place_at, place_before}
 use Rattle.gb_script.specs.Value.{part_of, trees_of, flattened}
 use Rattle.gb_script.specs.Build.{made, parts, flat, led, grown, into}
-use Rattle.gb_script.specs.Sorts.{Sort, holds, Language, texted, ValueSort, one, many, some, Is, formed, listed, own, Fits, more, next, HasSort, HaveSorts}
+use Rattle.gb_script.specs.Sorts.{Sort, holds, Language, text_fits, ValueSort, one, many, some, Is, formed, listed, own, Fits, more, next, HasSort, HaveSorts}
 use Rattle.gb_script.specs.Acts.{within, shape_within, flat_shape, shape_of, sort_within, sorts_within, parts_fit, all_complete, kind_of, makes, grafts, flattens, leads, extends_list, acts}
 use Rattle.gb_script.proofs.Sorts.{not_false, is_false, or_first, below, wider, refit, formed_node, listed_node, flat_sorted, value_sorted, part_sorted, parts_sorted, sort_widened}
 use Rattle.gb_script.proofs.Items.{completed, attaches_sorted}
@@ -34,19 +34,19 @@ module _ (l : Language) where
       let b = both (not q.text) (parts_fit l ts q.parts.first q.parts.rest && sort_within (one (kind_of l h)) u) e in
       let c = both (parts_fit l ts q.parts.first q.parts.rest) (sort_within (one (kind_of l h)) u) b.1 in (is_false q.text b.0, c.0, c.1)
 
-  makes_sorted : (b : Bool) (h : Head) (t : Option (List ℕ)) (ts : List ValueSort) (vs : List Value) (u : ValueSort) (p : Place) → texted t ≡ b → makes l b h ts u ≡ true → HaveSorts l ts vs
+  makes_sorted : (b : Bool) (h : Head) (t : List ℕ) (ts : List ValueSort) (vs : List Value) (u : ValueSort) (p : Place) → text_fits b t ≡ true → makes l b h ts u ≡ true → HaveSorts l ts vs
       → HasSort l u (Tree (node h t (parts p vs) p))
   makes_sorted b h t ts vs u p n e d =
       let q = l.signature h in
       let c = texted_by b h ts u e in
-      sort_widened l (one (kind_of l h)) u (Tree (node h t (parts p vs) p)) c.2 (formed_node l h t (parts p vs) p q.kind (holds_self q.kind) (n ∙ sym c.0) (own (parts_sorted l p ts vs q.parts.first q.parts.rest c.1 d)))
+      sort_widened l (one (kind_of l h)) u (Tree (node h t (parts p vs) p)) c.2 (formed_node l h t (parts p vs) p q.kind (holds_self q.kind) (ap (λ (z : Bool). text_fits z t) c.0 ∙ n) (own (parts_sorted l p ts vs q.parts.first q.parts.rest c.1 d)))
 
-  grafts_sorted : (h : Head) (f : List Sort) (r : Sort) (u : ValueSort) (xs : List Node) (p : Place) → grafts l h (record { first = f; rest = r }) u ≡ true → Fits l f r xs → HasSort l u (Tree (node h None xs p))
+  grafts_sorted : (h : Head) (f : List Sort) (r : Sort) (u : ValueSort) (xs : List Node) (p : Place) → grafts l h (record { first = f; rest = r }) u ≡ true → Fits l f r xs → HasSort l u (Tree (node h [] xs p))
   grafts_sorted h f r u xs p e d =
       let q = l.signature h in
       let b = both (not q.text) (shape_within f r q.parts.first q.parts.rest && sort_within (one (kind_of l h)) u) e in
       let c = both (shape_within f r q.parts.first q.parts.rest) (sort_within (one (kind_of l h)) u) b.1 in
-      sort_widened l (one (kind_of l h)) u (Tree (node h None xs p)) c.1 (formed_node l h None xs p q.kind (holds_self q.kind) (sym (is_false q.text b.0)) (own (refit l d q.parts.first q.parts.rest c.0)))
+      sort_widened l (one (kind_of l h)) u (Tree (node h [] xs p)) c.1 (formed_node l h [] xs p q.kind (holds_self q.kind) (ap (λ (z : Bool). text_fits z []) (is_false q.text b.0)) (own (refit l d q.parts.first q.parts.rest c.0)))
 
   flattens_sorted : (h : Head) (f : List Sort) (r s : Sort) (xs : List Node) (p : Place) → flattens l h f r s ≡ true → Fits l f r xs → Is l s (flat h p xs)
   flattens_sorted h [] r s xs p e d = absurd (not_false e)
@@ -64,7 +64,7 @@ module _ (l : Language) where
       let b = both (not q.text) (shape_within g.first g.rest q.parts.first q.parts.rest && sort_within w u) e in
       let c = both (shape_within g.first g.rest q.parts.first q.parts.rest) (sort_within w u) b.1 in
       sort_widened l w u (Trees (led h p (v ∷ vs))) c.1
-      (next {s = kind_of l h} (formed_node l h None (trees_of v) p q.kind (holds_self q.kind) (sym (is_false q.text b.0)) (own (refit l (value_sorted l t v d.0) q.parts.first q.parts.rest c.0))) (flat_sorted l ts vs d.1))
+      (next {s = kind_of l h} (formed_node l h [] (trees_of v) p q.kind (holds_self q.kind) (ap (λ (z : Bool). text_fits z []) (is_false q.text b.0)) (own (refit l (value_sorted l t v d.0) q.parts.first q.parts.rest c.0))) (flat_sorted l ts vs d.1))
 
   -- the place of a node is no matter
   moved : {s : Sort} (y : Node) (p : Place) → Is l s y → Is l s (grown p [] y)
@@ -108,9 +108,9 @@ module _ (l : Language) where
   made_sorted Nothing t at ts [] vs e d = tt
   made_sorted Nothing t at ts (u ∷ us) vs e d = absurd (not_false e)
   made_sorted Pass t at ts us vs e d = passes ts us vs e d
-  made_sorted (Make h) t at ts (u ∷ []) vs e d = (makes_sorted false h None ts vs u (place_at t at) refl e d, tt)
-  made_sorted (Enclose h) t at ts (u ∷ []) vs e d = (makes_sorted false h None ts vs u (place_before t at) refl e d, tt)
-  made_sorted (Spell h) t at ts (u ∷ []) vs e d = (makes_sorted true h (Some (name_at t at)) ts vs u (place_at t at) refl e d, tt)
+  made_sorted (Make h) t at ts (u ∷ []) vs e d = (makes_sorted false h [] ts vs u (place_at t at) refl e d, tt)
+  made_sorted (Enclose h) t at ts (u ∷ []) vs e d = (makes_sorted false h [] ts vs u (place_before t at) refl e d, tt)
+  made_sorted (Spell h) t at ts (u ∷ []) vs e d = (makes_sorted true h (name_at t at) ts vs u (place_at t at) refl e d, tt)
   made_sorted (Graft h) t at ts (u ∷ []) vs e d = (grafts_sorted h (flat_shape ts).first (flat_shape ts).rest u (flattened vs) (place_at t at) e (flat_sorted l ts vs d), tt)
   made_sorted (Flat h) t at ts (one s ∷ []) vs e d = (flattens_sorted h (flat_shape ts).first (flat_shape ts).rest s (flattened vs) (place_at t at) e (flat_sorted l ts vs d), tt)
   made_sorted Extend t at (one a ∷ []) (u ∷ []) (v ∷ []) e d = (extends_one a u (place_at t at) v e d.0, tt)

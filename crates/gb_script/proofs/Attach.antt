@@ -1,5 +1,5 @@
 -- What attaching an item makes.
-use Rattle.std.specs.Prelude.{ℕ, ◌≡◌, Bool, true, false, if◌then◌else◌, List, [], ◌∷◌, ◌++◌, map, Option, Result, IfOk}
+use Rattle.std.specs.Prelude.{ℕ, ◌≡◌, Bool, true, false, if◌then◌else◌, List, [], ◌∷◌, ◌++◌, map, Result, IfOk}
 use Rattle.std.proofs.Common.{refl, ap, sym, ◌∙◌, subst}
 use Rattle.gb_script.specs.declared.tree.Node.{Node, out-Node, roll-out-Node, para-roll-Node}
 use Rattle.gb_script.specs.Head.{goes_under}
@@ -56,16 +56,16 @@ no_parts x item h e = inside x item h ∙ ap (λ (l : List Node). node (out-Node
 pub stayed : (x item : Node) (r : Result Node AllocError) → goes_under (out-Node item).head (out-Node x).head ≡ false → IfOk r (λ n. n ≡ behind x item) → IfOk r (λ n. n ≡ attach x item)
 stayed x item r h o = subst (λ z. IfOk r (λ n. n ≡ z)) (sym (stays x item h)) o
 
-pub went_inside : (x item last longer : Node) (r : Head × Option (List ℕ) × List Node × Place) (front all : List Node) → goes_under (out-Node item).head (out-Node x).head ≡ true
+pub went_inside : (x item last longer : Node) (r : Head × List ℕ × List Node × Place) (front all : List Node) → goes_under (out-Node item).head (out-Node x).head ≡ true
     → r ≡ fields_of x → r.2 ≡ front ++ last ∷ [] → longer ≡ attach last item → all ≡ front ++ longer ∷ [] → node r.0 r.1 all r.3 ≡ attach x item
 went_inside x item last longer r front all h e p l a =
-    ap (λ (q : Head × Option (List ℕ) × List Node × Place). node q.0 q.1 all q.3) e
+    ap (λ (q : Head × List ℕ × List Node × Place). node q.0 q.1 all q.3) e
     ∙ ap (λ (ys : List Node). node (out-Node x).head (out-Node x).text ys (out-Node x).place) (a ∙ ap (λ (y : Node). front ++ y ∷ []) l)
-    ∙ sym (goes_inside x item front last h (ap (λ (q : Head × Option (List ℕ) × List Node × Place). q.2) (sym e) ∙ p))
+    ∙ sym (goes_inside x item front last h (ap (λ (q : Head × List ℕ × List Node × Place). q.2) (sym e) ∙ p))
 
-pub went_nowhere : (x item : Node) (r : Head × Option (List ℕ) × List Node × Place) (all : List Node) → goes_under (out-Node item).head (out-Node x).head ≡ true
+pub went_nowhere : (x item : Node) (r : Head × List ℕ × List Node × Place) (all : List Node) → goes_under (out-Node item).head (out-Node x).head ≡ true
     → r ≡ fields_of x → r.2 ≡ [] → all ≡ [] → node r.0 r.1 all r.3 ≡ attach x item
 went_nowhere x item r all h e p a =
-    ap (λ (q : Head × Option (List ℕ) × List Node × Place). node q.0 q.1 all q.3) e
+    ap (λ (q : Head × List ℕ × List Node × Place). node q.0 q.1 all q.3) e
     ∙ ap (λ (ys : List Node). node (out-Node x).head (out-Node x).text ys (out-Node x).place) a
-    ∙ sym (no_parts x item h (ap (λ (q : Head × Option (List ℕ) × List Node × Place). q.2) (sym e) ∙ p))
+    ∙ sym (no_parts x item h (ap (λ (q : Head × List ℕ × List Node × Place). q.2) (sym e) ∙ p))

@@ -10,8 +10,8 @@ use Rattle.gb_script.specs.declared.tree.Node.{Node, out-Node}
 use Rattle.gb_script.specs.Head.{looseness, goes_under, holders, joiner, is_joiner, joins}
 use Rattle.gb_script.specs.Tree.{node, parts_of, attach, attached, last_changed}
 use Rattle.gb_script.specs.Build.{all_attached}
-use Rattle.gb_script.specs.Sorts.{Sort, holds, Role, whole, item, list, Language, texted, ValueSort, one, Is, formed, listed, Parts, own, longer, Fits, end, more, next}
-use Rattle.gb_script.specs.Acts.{within, same_sort, all_sorts, is_nil, is_whole, grows, part_fits, completing, all_complete, reach, ends, holder_ok, holders_ok, joined_ok, joiner_ok, attaches}
+use Rattle.gb_script.specs.Sorts.{Sort, is_nil, holds, Role, whole, item, list, Language, text_fits, ValueSort, one, Is, formed, listed, Parts, own, longer, Fits, end, more, next}
+use Rattle.gb_script.specs.Acts.{within, same_sort, all_sorts, is_whole, grows, part_fits, completing, all_complete, reach, ends, holder_ok, holders_ok, joined_ok, joiner_ok, attaches}
 use Rattle.gb_script.proofs.Attach.{stays, inside, paired}
 use Rattle.gb_script.proofs.Sorts.{not_false, implied, is_false, if_or, or_first, or_second, and_both, below, within_self, wider, nothing, rest_wider, loose, formed_node}
 
@@ -58,7 +58,7 @@ module _ (l : Language) where
   -- An item with its first part.
 
   completed_by : (v : ValueSort) (s : Sort) (x i : Node) (p : Place) (k : ℕ) (r : Role) → l.role k ≡ r → completing l r v s ≡ true → ((o : Sort) → part_fits l v o ≡ true → Is l o x)
-      → texted (out-Node i).text ≡ (l.signature (out-Node i).head).text → Parts l (out-Node i).head k (parts_of i) → Is l s (node (out-Node i).head (out-Node i).text (x ∷ parts_of i) p)
+      → text_fits (l.signature (out-Node i).head).text (out-Node i).text ≡ true → Parts l (out-Node i).head k (parts_of i) → Is l s (node (out-Node i).head (out-Node i).text (x ∷ parts_of i) p)
   completed_by v s x i p k whole e h y n d = absurd (not_false h)
   completed_by v s x i p k (list o) e h y n d = absurd (not_false h)
   completed_by v s x i p k (item o w) e h y n d =

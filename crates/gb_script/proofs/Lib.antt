@@ -6,3 +6,4 @@ pub mod Sorts
 pub mod Items
 pub mod Acts
 pub mod Sorted
+pub mod Leaves

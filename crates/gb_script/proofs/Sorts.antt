@@ -1,5 +1,5 @@
 -- Sorts, and what is well-sorted.
-use Rattle.std.specs.Prelude.{ℕ, ◌≡◌, Bool, true, false, not, ◌&&◌, ◌||◌, nat_eq, List, [], ◌∷◌, ◌++◌, Option, None}
+use Rattle.std.specs.Prelude.{ℕ, ◌≡◌, Bool, true, false, not, ◌&&◌, ◌||◌, nat_eq, List, [], ◌∷◌, ◌++◌}
 use Rattle.std.proofs.Common.{refl, sym, subst, arith, ⊎_elim}
 use Rattle.std.proofs.lemmas.Bool.{eqb-true}
 use Rattle.gb_core.specs.declared.place.Place.{Place}
@@ -12,7 +12,7 @@ use Rattle.gb_script.specs.declared.value.Value.TheVariants.{Tree, Trees}
 use Rattle.gb_script.specs.Tree.{node}
 use Rattle.gb_script.specs.Value.{part_of, trees_of, flattened}
 use Rattle.gb_script.specs.Build.{parts}
-use Rattle.gb_script.specs.Sorts.{Sort, holds, Shape, Role, whole, item, list, Language, texted, ValueSort, one, many, some, Is, formed, listed, Parts, Fits, end, more, next, HasSort, HaveSorts}
+use Rattle.gb_script.specs.Sorts.{Sort, holds, Shape, Role, whole, item, list, Language, text_fits, ValueSort, one, many, some, Is, formed, listed, Parts, Fits, end, more, next, HasSort, HaveSorts}
 use Rattle.gb_script.specs.Acts.{within, all_sorts, shape_within, rest_then, shape_then, sort_then, flat_shape, shape_of, sort_within, sorts_within, implies, list_takes, has_list, part_fits, parts_fit}
 use Rattle.gb_script.proofs.Stacks.{append_nil}
 
@@ -95,17 +95,17 @@ module _ (l : Language) where
   refit (next {s = s} {f = f} {r = r} d ds) (t ∷ g) q h = let b = both (within s t) (shape_within f r g q) h in next (wider (below s t b.0) d) (refit ds g q b.1)
 
   -- nodes put together
-  pub formed_node : {s : Sort} (h : Head) (t : Option (List ℕ)) (xs : List Node) (p : Place) (k : ℕ) → holds s k ≡ true → texted t ≡ (l.signature h).text → Parts l h k xs → Is l s (node h t xs p)
+  pub formed_node : {s : Sort} (h : Head) (t : List ℕ) (xs : List Node) (p : Place) (k : ℕ) → holds s k ≡ true → text_fits (l.signature h).text t ≡ true → Parts l h k xs → Is l s (node h t xs p)
   formed_node {s = s} h t xs p k m e d =
       let r : Node-F Node = record { head = h; text = t; parts = xs; place = p } in
       let o : r ≡ out-Node (node h t xs p) = sym (out-roll-Node r) in
-      formed k m (subst (λ (z : Node-F Node). texted z.text ≡ (l.signature z.head).text) o e) (subst (λ (z : Node-F Node). Parts l z.head k z.parts) o d)
+      formed k m (subst (λ (z : Node-F Node). text_fits (l.signature z.head).text z.text ≡ true) o e) (subst (λ (z : Node-F Node). Parts l z.head k z.parts) o d)
 
-  pub listed_node : {s : Sort} (h : Head) (t : Option (List ℕ)) (xs : List Node) (p : Place) (k : ℕ) (e : Sort) → h ≡ head.List → l.role k ≡ list e → holds s k ≡ true → texted t ≡ false → Fits l [] e xs → Is l s (node h t xs p)
+  pub listed_node : {s : Sort} (h : Head) (t : List ℕ) (xs : List Node) (p : Place) (k : ℕ) (e : Sort) → h ≡ head.List → l.role k ≡ list e → holds s k ≡ true → t ≡ [] → Fits l [] e xs → Is l s (node h t xs p)
   listed_node {s = s} h t xs p k e i r m n f =
       let y : Node-F Node = record { head = h; text = t; parts = xs; place = p } in
       let o : y ≡ out-Node (node h t xs p) = sym (out-roll-Node y) in
-      listed k e (subst (λ (z : Node-F Node). z.head ≡ head.List) o i) r m (subst (λ (z : Node-F Node). texted z.text ≡ false) o n) (subst (λ (z : Node-F Node). Fits l [] e z.parts) o f)
+      listed k e (subst (λ (z : Node-F Node). z.head ≡ head.List) o i) r m (subst (λ (z : Node-F Node). z.text ≡ []) o n) (subst (λ (z : Node-F Node). Fits l [] e z.parts) o f)
 
   -- values one after another
   rest_joined : (r : Sort) (g : Shape) (ys : List Node) → Fits l g.first g.rest ys → Fits l (rest_then r g).first (rest_then r g).rest ys
@@ -138,15 +138,15 @@ module _ (l : Language) where
   flat_sorted (t ∷ ts) (v ∷ vs) d = value_then t v (flat_shape ts) (flattened vs) d.0 (flat_sorted ts vs d.1)
 
   -- values as parts
-  of_list : (k : ℕ) (t : Sort) (g : Shape) (xs : List Node) (p : Place) (r : Role) → l.role k ≡ r → list_takes r g ≡ true → Fits l g.first g.rest xs → Is l (k ∷ t) (node head.List None xs p)
+  of_list : (k : ℕ) (t : Sort) (g : Shape) (xs : List Node) (p : Place) (r : Role) → l.role k ≡ r → list_takes r g ≡ true → Fits l g.first g.rest xs → Is l (k ∷ t) (node head.List [] xs p)
   of_list k t g xs p whole e h d = absurd (not_false h)
   of_list k t g xs p (item o j) e h d = absurd (not_false h)
-  of_list k t g xs p (list s) e h d = listed_node head.List None xs p k s refl e (or_first (nat_eq k k) (holds t k) (let z : nat_eq k k ≡ true = grind arith in z)) refl (refit d [] s h)
+  of_list k t g xs p (list s) e h d = listed_node head.List [] xs p k s refl e (or_first (nat_eq k k) (holds t k) (let z : nat_eq k k ≡ true = grind arith in z)) refl (refit d [] s h)
 
-  list_sorted : (t : Sort) (g : Shape) (xs : List Node) (p : Place) → has_list l t g ≡ true → Fits l g.first g.rest xs → Is l t (node head.List None xs p)
+  list_sorted : (t : Sort) (g : Shape) (xs : List Node) (p : Place) → has_list l t g ≡ true → Fits l g.first g.rest xs → Is l t (node head.List [] xs p)
   list_sorted [] g xs p h d = absurd (not_false h)
   list_sorted (k ∷ t) g xs p h d =
-      if_or (Is l (k ∷ t) (node head.List None xs p)) (list_takes (l.role k) g) (has_list l t g) h (λ e. of_list k t g xs p (l.role k) refl e d)
+      if_or (Is l (k ∷ t) (node head.List [] xs p)) (list_takes (l.role k) g) (has_list l t g) h (λ e. of_list k t g xs p (l.role k) refl e d)
       (λ e. wider (below_right (k ∷ []) t) (list_sorted t g xs p e d))
 
   pub part_sorted : (t : ValueSort) (v : Value) (s : Sort) (p : Place) → part_fits l t s ≡ true → HasSort l t v → Is l s (part_of p v)

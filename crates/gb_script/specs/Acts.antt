@@ -8,7 +8,7 @@ use Rattle.gb_script.specs.declared.action.Action.TheVariants.{Nothing, Pass, Ma
 use Rattle.gb_script.specs.declared.action.Rule.{Rule}
 use Rattle.gb_script.specs.declared.head.Head.{Head}
 use Rattle.gb_script.specs.Head.{holders, joiner}
-use Rattle.gb_script.specs.Sorts.{Sort, holds, Shape, Role, whole, item, list, Signature, Language, ValueSort, one, many, some}
+use Rattle.gb_script.specs.Sorts.{Sort, is_nil, holds, Shape, Role, whole, item, list, Signature, Language, ValueSort, one, many, some}
 
 -- Sorts and shapes.
 
@@ -64,10 +64,6 @@ abbrev pub sorts_within : List ValueSort → List ValueSort → Bool
 sorts_within [] [] = true
 sorts_within (v ∷ vs) (w ∷ ws) = sort_within v w && sorts_within vs ws
 sorts_within _ _ = false
-
-abbrev pub is_nil : {A : Type 0} → List A → Bool
-is_nil [] = true
-is_nil (x ∷ xs) = false
 
 abbrev pub implies : Bool → Bool → Bool
 implies true b = b

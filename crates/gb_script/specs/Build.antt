@@ -1,5 +1,5 @@
 -- The trees that the steps of a derivation build.
-use Rattle.std.specs.Prelude.{◌≡◌, map, ℕ, List, [], ◌∷◌, ◌++◌, Some, None, take, drop}
+use Rattle.std.specs.Prelude.{◌≡◌, map, ℕ, List, [], ◌∷◌, ◌++◌, take, drop}
 use Rattle.gb_core.specs.declared.place.Place.{Place}
 use Rattle.gb_grammar.specs.declared.table.Step.{Step}
 use Rattle.gb_grammar.specs.Grammar.{Grammar}
@@ -10,12 +10,12 @@ use Rattle.gb_script.specs.declared.action.Rule.{Rule}
 use Rattle.gb_script.specs.declared.head.Head.{Head}
 use Rattle.gb_script.specs.declared.head.Head.TheVariants as head
 use Rattle.gb_script.specs.declared.text.Text.{Text}
-use Rattle.gb_script.specs.declared.tree.Node.{Node, out-Node}
+use Rattle.gb_script.specs.declared.tree.Node.{Node}
 use Rattle.gb_script.specs.Text.{name_at, place_at, place_before}
 use Rattle.gb_script.specs.declared.value.Value.{Value}
 use Rattle.gb_script.specs.declared.value.Value.TheVariants.{Tree, Trees}
 use Rattle.gb_script.specs.Value.{part_of, trees_of, flattened}
-use Rattle.gb_script.specs.Tree.{node, parts_of, attached}
+use Rattle.gb_script.specs.Tree.{node, head_of, text_of, parts_of, attached}
 
 -- the values as parts of a node
 abbrev pub parts : Place → List Value → List Node
@@ -24,16 +24,16 @@ parts place vs = map (λ v. part_of place v) vs
 -- a lone part itself, and a node of others
 abbrev pub flat : Head → Place → List Node → Node
 flat h place (x ∷ []) = x
-flat h place xs = node h None xs place
+flat h place xs = node h [] xs place
 
 -- the first value as the parts of a node, and the others flattened
 abbrev pub led : Head → Place → List Value → List Node
 led h place [] = []
-led h place (v ∷ vs) = node h None (trees_of v) place ∷ flattened vs
+led h place (v ∷ vs) = node h [] (trees_of v) place ∷ flattened vs
 
 -- a node that begins here, with these values in front of its parts
 abbrev pub grown : Place → List Value → Node → Node
-grown place front y = node (out-Node y).head (out-Node y).text (parts place front ++ parts_of y) place
+grown place front y = node (head_of y) (text_of y) (parts place front ++ parts_of y) place
 
 -- .. or the first element of a list
 abbrev pub into : Place → List Value → Value → Value
@@ -52,17 +52,17 @@ abbrev pub extended : Place → List Value → Value
 extended place vs = extended_behind place [] vs
 
 abbrev pub all_attached : Place → List Node → Node
-all_attached place [] = node head.List None [] place
+all_attached place [] = node head.List [] [] place
 all_attached place (x ∷ xs) = attached x xs
 
 -- what an action makes at a token of these values
 abbrev pub made : Action → Text → ℕ → List Value → List Value
 made Nothing t at vs = []
 made Pass t at vs = vs
-made (Make h) t at vs = Tree (node h None (parts (place_at t at) vs) (place_at t at)) ∷ []
-made (Enclose h) t at vs = Tree (node h None (parts (place_before t at) vs) (place_before t at)) ∷ []
-made (Spell h) t at vs = Tree (node h (Some (name_at t at)) (parts (place_at t at) vs) (place_at t at)) ∷ []
-made (Graft h) t at vs = Tree (node h None (flattened vs) (place_at t at)) ∷ []
+made (Make h) t at vs = Tree (node h [] (parts (place_at t at) vs) (place_at t at)) ∷ []
+made (Enclose h) t at vs = Tree (node h [] (parts (place_before t at) vs) (place_before t at)) ∷ []
+made (Spell h) t at vs = Tree (node h (name_at t at) (parts (place_at t at) vs) (place_at t at)) ∷ []
+made (Graft h) t at vs = Tree (node h [] (flattened vs) (place_at t at)) ∷ []
 made (Flat h) t at vs = Tree (flat h (place_at t at) (flattened vs)) ∷ []
 made Extend t at vs = extended (place_at t at) vs ∷ []
 made Many t at vs = Trees (flattened vs) ∷ []

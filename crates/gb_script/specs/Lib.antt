@@ -9,3 +9,4 @@ pub mod Sorts
 pub mod Acts
 pub mod Sorted
 pub mod Reading
+pub mod Leaves

@@ -1,11 +1,11 @@
 -- The sorts of trees.
-use Rattle.std.specs.Prelude.{◌≡◌, ℕ, Bool, true, false, nat_eq, ◌||◌, List, [], ◌∷◌, Option, Some, None}
+use Rattle.std.specs.Prelude.{◌≡◌, ℕ, Bool, true, false, nat_eq, ◌||◌, List, [], ◌∷◌}
 use Rattle.gb_script.specs.declared.head.Head.{Head}
 use Rattle.gb_script.specs.declared.head.Head.TheVariants as head
-use Rattle.gb_script.specs.declared.tree.Node.{Node, out-Node}
+use Rattle.gb_script.specs.declared.tree.Node.{Node}
 use Rattle.gb_script.specs.declared.value.Value.{Value}
 use Rattle.gb_script.specs.declared.value.Value.TheVariants.{Tree, Trees}
-use Rattle.gb_script.specs.Tree.{parts_of}
+use Rattle.gb_script.specs.Tree.{head_of, text_of, parts_of}
 use Rattle.gb_script.specs.Value.{trees_of}
 
 -- A sort is a set of kinds of node.
@@ -38,9 +38,14 @@ pub record Language : Type 0 where
   pub signature : Head → Signature
   pub role : ℕ → Role
 
-abbrev pub texted : Option (List ℕ) → Bool
-texted (Some x) = true
-texted None = false
+abbrev pub is_nil : {A : Type 0} → List A → Bool
+is_nil [] = true
+is_nil (x ∷ xs) = false
+
+-- Nodes of heads that have no text have an empty one.
+abbrev pub text_fits : Bool → List ℕ → Bool
+text_fits true x = true
+text_fits false x = is_nil x
 
 -- the sort of a value: one tree; a list of trees; or some trees: a list, or one tree in the place of a list of it alone
 pub data ValueSort : Type 0 where
@@ -52,8 +57,8 @@ module _ (l : Language) where
   mutual
     -- The node is of the sort, and so are its parts, and theirs, as their heads say.
     pub data Is : Sort → Node → Type 0 where
-      formed : {s : Sort} {x : Node} (k : ℕ) → holds s k ≡ true → texted (out-Node x).text ≡ (l.signature (out-Node x).head).text → Parts (out-Node x).head k (parts_of x) → Is s x
-      listed : {s : Sort} {x : Node} (k : ℕ) (e : Sort) → (out-Node x).head ≡ head.List → l.role k ≡ list e → holds s k ≡ true → texted (out-Node x).text ≡ false
+      formed : {s : Sort} {x : Node} (k : ℕ) → holds s k ≡ true → text_fits (l.signature (head_of x)).text (text_of x) ≡ true → Parts (head_of x) k (parts_of x) → Is s x
+      listed : {s : Sort} {x : Node} (k : ℕ) (e : Sort) → head_of x ≡ head.List → l.role k ≡ list e → holds s k ≡ true → text_of x ≡ []
           → Fits [] e (parts_of x) → Is s x
 
     -- A node of the head with these parts is of the kind: with those of its signature, or with one more in front than an item.

@@ -1,6 +1,8 @@
 -- Texts as trees are built of them.
 use Rattle.std.specs.Prelude.{ℕ, ◌-◌, List, [], Option, Some, None, slice_get}
 use Rattle.gb_core.specs.declared.place.Place.{Place}
+use Rattle.gb_script.specs.declared.terminal.Terminal.{Terminal}
+use Rattle.gb_script.specs.declared.terminal.Terminal.TheVariants.{Other}
 use Rattle.gb_script.specs.declared.text.Lexeme.{Lexeme}
 use Rattle.gb_script.specs.declared.text.Text.{Text}
 
@@ -19,6 +21,14 @@ place_or_end None end = end
 -- the place of a token; that of the end where there is no such token
 abbrev pub place_at : Text → ℕ → Place
 place_at t at = place_or_end (slice_get t.lexemes at) t.end
+
+abbrev pub terminal_or_other : Option Lexeme → Terminal
+terminal_or_other (Some l) = l.terminal
+terminal_or_other None = Other
+
+-- what a token is to the grammar
+abbrev pub terminal_at : Text → ℕ → Terminal
+terminal_at t at = terminal_or_other (slice_get t.lexemes at)
 
 -- the place of the token before
 abbrev pub place_before : Text → ℕ → Place

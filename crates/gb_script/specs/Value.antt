@@ -1,5 +1,5 @@
 -- What stands on the stack.
-use Rattle.std.specs.Prelude.{List, [], ◌∷◌, ◌++◌, None}
+use Rattle.std.specs.Prelude.{List, [], ◌∷◌, ◌++◌}
 use Rattle.gb_core.specs.declared.place.Place.{Place}
 use Rattle.gb_script.specs.declared.head.Head.TheVariants as head
 use Rattle.gb_script.specs.declared.tree.Node.{Node}
@@ -10,7 +10,7 @@ use Rattle.gb_script.specs.Tree.{node}
 -- a value as a part of a node
 abbrev pub part_of : Place → Value → Node
 part_of place (Tree x) = x
-part_of place (Trees xs) = node head.List None xs place
+part_of place (Trees xs) = node head.List [] xs place
 
 abbrev pub trees_of : Value → List Node
 trees_of (Tree x) = x ∷ []

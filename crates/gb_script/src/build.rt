@@ -1,7 +1,8 @@
 // The tree of a text from the steps of its derivation.
 
 ghost use Rattle.std.specs.Prelude.{◌≡◌, ◌++◌, [], ◌∷◌, IfOk, OnOk, take, drop, map};
-ghost use Rattle.gb_script.specs.Build.{flat, led, grown, into, extended, all_attached, makes_one, made, run, built};
+ghost use Rattle.gb_script.specs.Build.{parts, flat, led, grown, into, extended, all_attached, makes_one, made, run, built};
+ghost use Rattle.gb_script.specs.Tree.{node};
 ghost use Rattle.gb_script.specs.declared.value.Value.TheVariants.{Trees};
 ghost use Rattle.gb_script.specs.Value.{part_of as part_for, flattened, trees_of};
 
@@ -93,6 +94,7 @@ fn flattened(alloc: Global, values: Values) -> Result<Stack<Node>, AllocError>
 
 // The values as parts of a node, in front of others.
 fn parts_before(
+    alloc: Global,
     place: Place,
     values: Values,
     behind: Stack<Node>,
@@ -102,7 +104,7 @@ fn parts_before(
     let mut rest = values;
     let mut all = behind;
     while let Some(value) = rest.pop() {
-        all.push(part_of(place, value))?;
+        all.push(part_of(alloc, place, value))?;
     }
     Ok(all)
 }
@@ -111,12 +113,20 @@ fn parts_before(
 fn parts(alloc: Global, place: Place, values: Values) -> Result<Items<Node>, AllocError>
     ensures { IfOk result (λ all. all ≡ map (λ v. part_for place v) values) }
 {
-    let all = parts_before(place, values, Stack::new(alloc))?;
+    let all = parts_before(alloc, place, values, Stack::new(alloc))?;
     Ok(all.into_items())
 }
 
+// A node of the values.
+fn node(alloc: Global, head: Head, place: Place, values: Values) -> Result<Node, AllocError>
+    ensures { IfOk result (λ n. n ≡ node head [] (parts place values) place) }
+{
+    let parts = parts(alloc, place, values)?;
+    Ok(Node::new(alloc, head, parts, place))
+}
+
 // A lone part itself, and a node of others.
-fn flat(head: Head, place: Place, mut trees: Stack<Node>) -> Node
+fn flat(alloc: Global, head: Head, place: Place, mut trees: Stack<Node>) -> Node
     ensures { result ≡ flat head place trees }
 {
     if trees.len() == 1 {
@@ -124,12 +134,7 @@ fn flat(head: Head, place: Place, mut trees: Stack<Node>) -> Node
             return only;
         }
     }
-    Node {
-        head,
-        text: None,
-        parts: trees.into_items(),
-        place,
-    }
+    Node::new(alloc, head, trees.into_items(), place)
 }
 
 // The first value as the parts of a node, and the others flattened.
@@ -142,12 +147,7 @@ fn led(alloc: Global, head: Head, place: Place, values: Values) -> Result<Stack<
         Some(first) => {
             let mut others = flattened(alloc, rest.into_items())?;
             let item = value_before(first, Stack::new(alloc))?;
-            others.push(Node {
-                head,
-                text: None,
-                parts: item.into_items(),
-                place,
-            })?;
+            others.push(Node::new(alloc, head, item.into_items(), place))?;
             Ok(others)
         }
     }
@@ -159,7 +159,7 @@ fn grown(alloc: Global, place: Place, front: Values, last: Node) -> Result<Node,
 {
     let (head, text, parts, _) = last.into_fields();
     let behind = Stack::from_items(alloc, parts)?;
-    let all = parts_before(place, front, behind)?;
+    let all = parts_before(alloc, place, front, behind)?;
     Ok(Node {
         head,
         text,
@@ -213,12 +213,7 @@ fn all_attached(alloc: Global, place: Place, mut trees: Stack<Node>) -> Result<N
     ensures { IfOk result (λ n. n ≡ all_attached place trees) }
 {
     match trees.pop() {
-        None => Ok(Node {
-            head: Head::List,
-            text: None,
-            parts: Items::new(alloc),
-            place,
-        }),
+        None => Ok(Node::new(alloc, Head::List, Items::new(alloc), place)),
         Some(first) => attached(alloc, first, trees),
     }
 }
@@ -236,34 +231,25 @@ fn one_made(
     let place = place_at(text, at);
     match action {
         Action::Nothing | Action::Pass => Ok(Value::Trees(Stack::new(alloc))),
-        Action::Make(head) => Ok(Value::Tree(Node {
-            head,
-            text: None,
-            parts: parts(alloc, place, values)?,
-            place,
-        })),
+        Action::Make(head) => Ok(Value::Tree(node(alloc, head, place, values)?)),
         Action::Enclose(head) => {
             let place = place_before(text, at);
-            Ok(Value::Tree(Node {
-                head,
-                text: None,
-                parts: parts(alloc, place, values)?,
-                place,
-            }))
+            Ok(Value::Tree(node(alloc, head, place, values)?))
         }
         Action::Spell(head) => Ok(Value::Tree(Node {
             head,
-            text: Some(name_at(alloc, text, at)?),
+            text: name_at(alloc, text, at)?,
             parts: parts(alloc, place, values)?,
             place,
         })),
-        Action::Graft(head) => Ok(Value::Tree(Node {
-            head,
-            text: None,
-            parts: flattened(alloc, values)?.into_items(),
-            place,
-        })),
-        Action::Flat(head) => Ok(Value::Tree(flat(head, place, flattened(alloc, values)?))),
+        Action::Graft(head) => {
+            let parts = flattened(alloc, values)?.into_items();
+            Ok(Value::Tree(Node::new(alloc, head, parts, place)))
+        }
+        Action::Flat(head) => {
+            let trees = flattened(alloc, values)?;
+            Ok(Value::Tree(flat(alloc, head, place, trees)))
+        }
         Action::Extend => extended(alloc, place, values),
         Action::Many => Ok(Value::Trees(flattened(alloc, values)?)),
         Action::Lead(head) => Ok(Value::Trees(led(alloc, head, place, values)?)),

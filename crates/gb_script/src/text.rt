@@ -1,16 +1,18 @@
 // Texts as trees are built of them.
 
 ghost use Rattle.std.specs.Prelude.{◌≡◌, IfOk};
-ghost use Rattle.gb_script.specs.Text.{name_at, place_at, place_before};
+ghost use Rattle.gb_script.specs.Text.{name_at, place_at, terminal_at, place_before};
 
+use crate::terminal::Terminal;
 use gb_core::name::Name;
 use gb_core::place::Place;
 use sqlite_items::Items;
 use std::alloc::{AllocError, Global};
 
-/// A token: its bytes and its place.
+/// A token: what it is to the grammar, its bytes and its place.
 #[derive(Drop)]
 pub struct Lexeme {
+    pub terminal: Terminal,
     pub name: Name,
     pub place: Place,
 }
@@ -41,6 +43,16 @@ pub fn name_at(alloc: Global, text: &Text, at: usize) -> Result<Name, AllocError
     match text.lexemes.get(at) {
         Some(lexeme) => lexeme.name.copy(alloc),
         None => Ok(Name::new(String::new(alloc))),
+    }
+}
+
+/// What a token is to the grammar; `Other` where there is no such token.
+pub fn terminal_at(text: &Text, at: usize) -> Terminal
+    ensures { result ≡ terminal_at text.now at }
+{
+    match text.lexemes.get(at) {
+        Some(lexeme) => lexeme.terminal,
+        None => Terminal::Other,
     }
 }
 

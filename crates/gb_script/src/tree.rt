@@ -1,6 +1,6 @@
 // The tree of a text.
 
-ghost use Rattle.std.specs.Prelude.{◌≡◌, ◌∷◌, ◌++◌, IfOk};
+ghost use Rattle.std.specs.Prelude.{◌≡◌, [], ◌∷◌, ◌++◌, IfOk};
 ghost use Rattle.gb_script.specs.declared.tree.Node.{out-Node};
 ghost use Rattle.gb_script.specs.Tree.{node, fields_of, parts_of, behind, attach, attached};
 
@@ -11,10 +11,10 @@ use gb_shared::Stack;
 use sqlite_items::Items;
 use std::alloc::{AllocError, Global};
 
-/// A tree: what it is, its text if it has one of its own, its parts, and the place of its first token.
+/// A tree: what it is, its text, which is empty where it has none of its own, its parts, and the place of its first token.
 pub struct Node {
     pub head: Head,
-    pub text: Option<Name>,
+    pub text: Name,
     pub parts: Nodes,
     pub place: Place,
 }
@@ -34,8 +34,20 @@ impl Drop for Node {
 }
 
 impl Node {
+    /// A node that has no text of its own.
+    pub fn new(alloc: Global, head: Head, parts: Nodes, place: Place) -> Node
+        ensures { result ≡ node head [] parts place }
+    {
+        Node {
+            head,
+            text: Name::new(String::new(alloc)),
+            parts,
+            place,
+        }
+    }
+
     /// What it is made of.
-    pub fn into_fields(self) -> (Head, Option<Name>, Nodes, Place)
+    pub fn into_fields(self) -> (Head, Name, Nodes, Place)
         ensures { result ≡ fields_of self }
     {
         let Node {

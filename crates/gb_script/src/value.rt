@@ -7,6 +7,7 @@ use crate::head::Head;
 use crate::tree::Node;
 use gb_core::place::Place;
 use gb_shared::Stack;
+use std::alloc::Global;
 
 /// The value of a part: a tree, or several.
 #[derive(Drop)]
@@ -16,16 +17,11 @@ pub enum Value {
 }
 
 /// A value as a part of a node.
-pub fn part_of(place: Place, value: Value) -> Node
+pub fn part_of(alloc: Global, place: Place, value: Value) -> Node
     ensures { result ≡ part_of place value }
 {
     match value {
         Value::Tree(tree) => tree,
-        Value::Trees(trees) => Node {
-            head: Head::List,
-            text: None,
-            parts: trees.into_items(),
-            place,
-        },
+        Value::Trees(trees) => Node::new(alloc, Head::List, trees.into_items(), place),
     }
 }

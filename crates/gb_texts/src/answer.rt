@@ -4,8 +4,9 @@ use gb_core::place::Place;
 use gb_core::refusal::{Refused, Why, code};
 use gb_lex::lexing::tokens;
 use gb_read_script::goal::goal;
+use gb_read_script::goal_tree::SequentTree;
 use gb_read_script::reading::{command, form};
-use gb_tree::goal::{EntryTree, SequentTree};
+use gb_script::head::Head;
 use std::alloc::{AllocError, Global};
 
 /// What a text is read as.
@@ -70,9 +71,9 @@ fn entries(alloc: Global, tree: &SequentTree) -> Result<String, AllocError> {
         answer.push(' ')?;
     }
     for entry in tree.context.as_slice() {
-        match entry {
-            EntryTree::Bind(_) => answer.push('b')?,
-            EntryTree::Hypothesis(_, _) => answer.push('h')?,
+        match entry.head {
+            Head::Hypothesis => answer.push('h')?,
+            _ => answer.push('b')?,
         }
     }
     Ok(answer)

@@ -9,7 +9,7 @@ use Rattle.gb_core.specs.declared.refusal.Why.TheVariants.{Unclosed}
 use Rattle.gb_lex.specs.declared.token.Cut.TheVariants.{Command, End, Rest}
 use Rattle.gb_lex.specs.Lex.{cut_of}
 use Rattle.gb_lex.specs.PlaceAfter.{place_after}
-use Rattle.gb_tree.specs.declared.command.Command.{Command as CommandTree}
+use Rattle.gb_script.specs.declared.tree.Node.{Node}
 use Rattle.gb_elab.specs.Answers.{Answer}
 use Rattle.gb_elab.specs.Answers.Answer.{given, refused}
 use Rattle.gb_verdict.specs.Session.{Session, fresh_session}
@@ -33,7 +33,7 @@ unread s piece at ReadFault h = h
 unread s piece at (Script why place) h = (refused why place, h, refl)
 
 -- a command that is read and run
-pub read_runs : (s next : Session) (piece : List ℕ) (at : Place) (c : CommandTree) (r : Result (Unit {0}) Refused)
+pub read_runs : (s next : Session) (piece : List ℕ) (at : Place) (c : Node) (r : Result (Unit {0}) Refused)
     → IsReadAs piece at (given c) → Leads (ComesTo s c) next r → Leads (PieceRunsTo s piece at) next r
 read_runs s next piece at c (Ok done) read h = (given c, read, h)
 read_runs s next piece at c (Err NoMemory) read h = tt

@@ -7,9 +7,9 @@ use Rattle.gb_core.specs.declared.refusal.Refused.TheVariants.{NoMemory, ReadFau
 use Rattle.gb_core.specs.declared.refusal.Why.{Why}
 use Rattle.gb_lex.specs.Lex.{tokens_of, fault_of, IsCharacterFault}
 use Rattle.gb_lex.specs.declared.token.Token.{Token}
-use Rattle.gb_tree.specs.declared.command.Command.{Command}
-use Rattle.gb_table.specs.declared.rows.TheConstants.{COMMAND}
-use Rattle.gb_text.specs.Lexeme.{text_at}
+use Rattle.gb_script.specs.declared.tree.Node.{Node}
+use Rattle.gb_language.specs.declared.rows.TheConstants.{COMMAND}
+use Rattle.gb_limits.specs.Lexeme.{text_at}
 use Rattle.gb_read_script.specs.Reading.{SpellsCommand, IsRefusal, IsAllowed}
 use Rattle.gb_verdict.specs.Verdict.{IsReadAs}
 use Rattle.gb_theory.specs.Sessions.{IsDue, Meets}
@@ -30,13 +30,13 @@ character_due text at e (inl is) = of_memory text at e is
 character_due text at e (inr h) = of_character text at e h
 
 -- what the tokens of a text are read as
-pub read_due : (text : List ℕ) (at : Place) (tokens : List Token) (r : Result Command Refused)
+pub read_due : (text : List ℕ) (at : Place) (tokens : List Token) (r : Result Node Refused)
     → tokens ≡ tokens_of text → fault_of text ≡ None
     → IfOk r (λ c. SpellsCommand (text_at text at tokens) c)
     → OnOk r (IsAllowed COMMAND (text_at text at tokens))
     → IfErr r (λ e. e ≢ ReadFault)
     → ((why : Why) (place : Place) → r ≡ Err (Script why place) → IsRefusal COMMAND (text_at text at tokens) why place)
-    → Meets (λ (c : Command). c) (IsReadAs text at) r
+    → Meets (λ (c : Node). c) (IsReadAs text at) r
 read_due text at tokens (Ok c) are none found allowed answered refusal =
     (none, subst (λ ts. SpellsCommand (text_at text at ts) c) are found, subst (λ ts. IsAllowed COMMAND (text_at text at ts)) are allowed)
 read_due text at tokens (Err NoMemory) are none found allowed answered refusal = tt

@@ -10,7 +10,7 @@ use Rattle.gb_goal.specs.declared.sequent.Sequent.{Sequent}
 use Rattle.gb_goal.specs.declared.step.Rule.{Rule}
 use Rattle.gb_goal.specs.declared.step.Rule.TheVariants as rule
 use Rattle.gb_goal.specs.declared.step.Step.{Step}
-use Rattle.gb_tree.specs.declared.step.StepTree.{StepTree}
+use Rattle.gb_script.specs.declared.tree.Node.{Node}
 use Rattle.gb_elab.specs.Answers.{Answer, Gives}
 use Rattle.gb_elab.specs.Answers.Answer.{given, refused}
 use Rattle.gb_elab_mod.specs.Steps.{step_given}
@@ -43,7 +43,7 @@ abbrev goes_on : Session → OpenProof → List Sequent → List Sequent → Ses
 goes_on s p rest qs = with_goals s p (qs ++ rest)
 
 -- the subgoals of a rule, and what becomes of them
-rule_gives : (s : Session) (p : OpenProof) (t : StepTree) (q : Sequent) (rest : List Sequent) (step : Step) (qs : List Sequent) (r : Result (List Sequent) Refused)
+rule_gives : (s : Session) (p : OpenProof) (t : Node) (q : Sequent) (rest : List Sequent) (step : Step) (qs : List Sequent) (r : Result (List Sequent) Refused)
     → step_given s.scope q t ≡ given step → Applied s.scope step.rule step.place q (given qs)
     → Gives (goes_on s p rest) (continued s p rest step.place qs) r → Meets (goes_on s p rest) (WorksOn (q ∷ rest) s p t) r
 rule_gives s p t q rest step qs r typed applied h =
@@ -56,7 +56,7 @@ first_and_rest [] q e = absurd (cc)
 first_and_rest (g ∷ gs) q e = cc
 
 -- what becomes of the first goal and the others, in each session of this scope
-pub next_meets : (ds : Declarations) (goals : List Sequent) (q : Sequent) (t : StepTree) (step : Step) (qs : List Sequent) (r : Result (List Sequent) Refused)
+pub next_meets : (ds : Declarations) (goals : List Sequent) (q : Sequent) (t : Node) (step : Step) (qs : List Sequent) (r : Result (List Sequent) Refused)
     → slice_get goals 0 ≡ Some q → step_given ds q t ≡ given step → Applied ds step.rule step.place q (given qs)
     → ((s : Session) (p : OpenProof) → Gives (goes_on s p (drop 1 goals)) (continued s p (drop 1 goals) step.place qs) r)
     → (s : Session) (p : OpenProof) → s.scope ≡ ds → Meets (goes_on s p (drop 1 goals)) (WorksOn goals s p t) r

@@ -1,7 +1,9 @@
 -- What the state of a check stands for, and what its calls answer.
-use Rattle.std.specs.Prelude.{option_map, Result, Ok, Err}
+use Rattle.std.specs.Prelude.{◌≡◌, option_map, Result, Ok, Err}
+use Rattle.gb_core.specs.declared.place.Place.{Place}
 use Rattle.gb_core.specs.declared.refusal.Refused.{Refused}
 use Rattle.gb_core.specs.declared.refusal.Refused.TheVariants.{NoMemory, ReadFault, Script}
+use Rattle.gb_core.specs.declared.refusal.Why.{Why}
 use Rattle.gb_elab.specs.Answers.{Answer}
 use Rattle.gb_elab.specs.Answers.Answer.{given, refused}
 use Rattle.gb_verdict.specs.Session.{Session}
@@ -30,3 +32,7 @@ Meets view P (Err e) = IsDue P e
 -- What a function did that led to the session `next` is due, unless memory ran out.
 abbrev pub Leads : (Answer Session → Type 0) → Session → Result (Unit {0}) Refused → Type 0
 Leads P next r = Meets (λ _. next) P r
+
+-- A refusal leaves the session as it was. Where memory runs out nothing is said of it.
+abbrev pub IsKept : Session → Session → Result (Unit {0}) Refused → Type 0
+IsKept old new r = (why : Why) (place : Place) → r ≡ Err (Script why place) → new ≡ old

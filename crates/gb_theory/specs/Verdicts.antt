@@ -4,14 +4,14 @@ use Rattle.gb_elab.specs.Answers.{Answer}
 use Rattle.gb_elab.specs.Answers.Answer.{given, refused}
 use Rattle.gb_verdict.specs.Session.{Session}
 use Rattle.gb_core.specs.declared.place.Place.{Place}
-use Rattle.gb_tree.specs.declared.command.Command.{Command}
+use Rattle.gb_script.specs.declared.tree.Node.{Node}
 use Rattle.gb_verdict.specs.Verdict.{IsReadAs, RunsTo, IsOutcome}
 use Rattle.gb_theory.specs.declared.verdict.Verdict.{Verdict}
 use Rattle.gb_theory.specs.declared.verdict.Verdict.TheVariants.{Accepted, Refused}
 
 -- what a piece of a text comes to: it is read and run
 abbrev pub PieceRunsTo : Session → List ℕ → Place → Answer Session → Type 0
-PieceRunsTo s piece at r = (x : Answer Command) × IsReadAs piece at x × RunsTo s x r
+PieceRunsTo s piece at r = (x : Answer Node) × IsReadAs piece at x × RunsTo s x r
 
 -- the lemmas of the last session, or the first refusal
 abbrev pub verdict_of : Answer Session → Verdict

@@ -1,12 +1,15 @@
 // One command of a script.
 
 ghost use Rattle.std.specs.Prelude.{◌≡◌, [], ◌∷◌, ◌++◌, drop, true, false, None, IfOk, OnOk};
+ghost use Rattle.std.specs.Option.{option_copied};
 ghost use Rattle.gb_goal.specs.Scope.{entry_of};
+ghost use Rattle.gb_script.specs.Tree.{head_of, parts_of, place_of};
 ghost use Rattle.gb_elab.specs.Answers.{Gives};
+ghost use Rattle.gb_elab_mod.specs.Lemmas.{lemma_name};
 ghost use Rattle.gb_verdict.specs.Session.{Session, OpenProof as Opened, with_goals};
-ghost use Rattle.gb_verdict.specs.Commands.{declares, opens, begun, ended, continued, InProof, Proves, Applied, sole_rule, WorksOn, ComesToOf, ComesTo};
+ghost use Rattle.gb_verdict.specs.Commands.{declares, opens, begun, ended, continued, InProof, Proves, Applied, unnamed, sole_rule, WorksOn, ComesToOf, ComesTo};
 ghost use Rattle.gb_theory.specs.Placed.{placed};
-ghost use Rattle.gb_theory.specs.Sessions.{session_of, Meets, Leads};
+ghost use Rattle.gb_theory.specs.Sessions.{session_of, Meets, Leads, IsKept};
 
 use crate::limits::{check_all, check_declarations, check_each, check_goal};
 use crate::state::{OpenProof, State};
@@ -17,10 +20,8 @@ use gb_goal::goals::Goals;
 use gb_goal::scope::{Entry, Scope};
 use gb_goal::sequent::{Sequent, Sequents};
 use gb_goal::step::{Rule, Step};
-use gb_tree::command::{Command, CommandShape, LemmaTree};
-use gb_tree::program::ModuleTree;
-use gb_tree::step::StepTree;
-use gb_tree::tactic::{CombinedShape, TacticTree};
+use gb_script::head::Head;
+use gb_script::tree::Node;
 use std::alloc::{AllocError, Global};
 
 fn refused(why: Why, place: Place) -> Refused
@@ -29,12 +30,19 @@ fn refused(why: Why, place: Place) -> Refused
     Refused::Script { why, place }
 }
 
-/// Runs the next command of a script. A refusal without a place of its own stands at the command's first word. After
-/// an `Err` the check is over, and nothing is said of the state.
-pub fn execute(alloc: Global, state: &mut State, command: &Command) -> Result<(), Refused>
-    ensures { Leads (ComesTo (session_of state.old) command.now) (session_of state.new) result }
+/// Runs the next command of a script. A refusal without a place of its own stands at the command's first word. A command
+/// that is refused leaves the session as it was; where memory runs out nothing is said of it.
+pub fn execute(alloc: Global, state: &mut State, command: &Node) -> Result<(), Refused>
+    ensures session { Leads (ComesTo (session_of state.old) command.now) (session_of state.new) result }
+    ensures kept { IsKept (session_of state.old) (session_of state.new) result }
 {
-    match dispatch(alloc, state, command) {
+    match dispatch(
+        alloc,
+        state,
+        command,
+        command.head,
+        command.parts.as_slice(),
+    ) {
         Ok(()) => Ok(()),
         Err(refused) => Err(placed(refused, command.place)),
     }
@@ -50,18 +58,32 @@ fn placed(refused: Refused, at: Place) -> Refused
     }
 }
 
-fn dispatch(alloc: Global, state: &mut State, command: &Command) -> Result<(), Refused>
-    ensures { Leads (ComesToOf (session_of state.old) command.now.shape command.now.place)
-        (session_of state.new) result }
+/// Runs a command by its head and its parts.
+fn dispatch(
+    alloc: Global,
+    state: &mut State,
+    command: &Node,
+    head: Head,
+    parts: &[Node],
+) -> Result<(), Refused>
+    requires { parts.now ≡ parts_of command.now }
+    ensures session { Leads (ComesToOf (session_of state.old) command.now head parts.now) (session_of state.new) result }
+    ensures kept { IsKept (session_of state.old) (session_of state.new) result }
 {
-    let place = command.place;
-    match &command.shape {
-        CommandShape::Module(tree) => declare_module(alloc, state, tree, place),
-        CommandShape::Lemma(tree) => open_lemma(alloc, state, tree.get(), place),
-        CommandShape::Proof => begin_proof(state, place),
-        CommandShape::Qed => close_proof(alloc, state, place),
-        CommandShape::Tactic(tree) => prove_by(alloc, state, tree.get()),
-        _ => Err(refused(Why::Syntax, place)),
+    match head {
+        Head::Module => declare_module(alloc, state, command, command.place),
+        Head::AscribedModule => declare_module(alloc, state, command, command.place),
+        Head::Lemma => match parts {
+            [name, ..] => open_lemma(alloc, state, command, &name.text, command.place),
+            [] => Err(refused(Why::Syntax, command.place)),
+        },
+        Head::Proof => begin_proof(state, command.place),
+        Head::Qed => close_proof(alloc, state, command.place),
+        Head::Tactic => match parts {
+            [step, more @ ..] => prove_by(alloc, state, step, more),
+            [] => Err(refused(Why::Syntax, command.place)),
+        },
+        _ => Err(refused(Why::Syntax, command.place)),
     }
 }
 
@@ -69,10 +91,11 @@ fn dispatch(alloc: Global, state: &mut State, command: &Command) -> Result<(), R
 fn declare_module(
     alloc: Global,
     state: &mut State,
-    tree: &ModuleTree,
+    tree: &Node,
     place: Place,
 ) -> Result<(), Refused>
-    ensures { Gives (λ _. session_of state.new) (declares (session_of state.old) tree.now place) result }
+    ensures session { Gives (λ _. session_of state.new) (declares (session_of state.old) tree.now place) result }
+    ensures kept { IsKept (session_of state.old) (session_of state.new) result }
 {
     if state.proof.is_some() {
         return Err(refused(Why::NoGoal, place));
@@ -83,14 +106,17 @@ fn declare_module(
     Ok(())
 }
 
-/// A lemma opens its proof, with its statement as the one goal.
+/// A lemma of this name opens its proof, with its statement as the one goal.
 fn open_lemma(
     alloc: Global,
     state: &mut State,
-    tree: &LemmaTree,
+    tree: &Node,
+    name: &Name,
     place: Place,
 ) -> Result<(), Refused>
-    ensures { Gives (λ _. session_of state.new) (opens (session_of state.old) tree.now place) result }
+    requires { lemma_name tree.now ≡ name.now }
+    ensures session { Gives (λ _. session_of state.new) (opens (session_of state.old) tree.now name.now place) result }
+    ensures kept { IsKept (session_of state.old) (session_of state.new) result }
 {
     if state.proof.is_some() {
         return Err(refused(Why::NoGoal, place));
@@ -98,7 +124,7 @@ fn open_lemma(
     let statement = gb_elab_mod::lemma::statement(alloc, &state.scope, tree)?;
     check_declarations(&state.scope, place)?;
     check_goal(&statement, place)?;
-    let proof = opened(alloc, &tree.name.name, statement)?;
+    let proof = opened(alloc, name, statement)?;
     state.proof = Some(proof);
     Ok(())
 }
@@ -128,8 +154,9 @@ fn one_goal(alloc: Global, goal: &Sequent) -> Result<Goals, AllocError>
 
 /// `proof` follows its lemma at once.
 fn begin_proof(state: &mut State, place: Place) -> Result<(), Refused>
-    ensures { Leads (InProof (session_of state.old).proof place (λ p r. r ≡ begun (session_of state.old) p place))
+    ensures session { Leads (InProof (session_of state.old).proof place (λ p r. r ≡ begun (session_of state.old) p place))
         (session_of state.new) result }
+    ensures kept { IsKept (session_of state.old) (session_of state.new) result }
 {
     match &mut state.proof {
         Some(proof) if proof.fresh => {
@@ -142,15 +169,18 @@ fn begin_proof(state: &mut State, place: Place) -> Result<(), Refused>
 
 /// `qed` brings the lemma into scope where no goal is left.
 fn close_proof(alloc: Global, state: &mut State, place: Place) -> Result<(), Refused>
-    ensures { Leads
+    ensures session { Leads
         (InProof (session_of state.old).proof place (λ p r. r ≡ ended p.goals (session_of state.old) p place))
         (session_of state.new) result }
+    ensures kept { IsKept (session_of state.old) (session_of state.new) result }
 {
     let Some(proof) = state.proof.take() else {
         return Err(refused(Why::NoGoal, place));
     };
     if !proof.goals.is_empty() {
-        return Err(refused(Why::OpenGoals(proof.goals.len() as u64), place));
+        let left = proof.goals.len() as u64;
+        state.proof = Some(proof);
+        return Err(refused(Why::OpenGoals(left), place));
     }
     bring_in(alloc, &mut state.scope, &mut state.lemmas, proof)?;
     Ok(())
@@ -177,23 +207,51 @@ fn bring_in(
     scope.declare_lemma(alloc, name, statement)
 }
 
-/// A proof step is a single rule; what is more isn't built.
-fn prove_by(alloc: Global, state: &mut State, tree: &TacticTree) -> Result<(), Refused>
-    ensures { Leads (Proves (session_of state.old) (sole_rule tree.now) tree.now.first.place)
+/// A tactic is a single rule; what is more isn't built.
+fn prove_by(alloc: Global, state: &mut State, step: &Node, more: &[Node]) -> Result<(), Refused>
+    ensures session { Leads (Proves (session_of state.old) (sole_rule (head_of step.now) (parts_of step.now) more.now) (place_of step.now))
         (session_of state.new) result }
+    ensures kept { IsKept (session_of state.old) (session_of state.new) result }
 {
-    match &tree.first.shape {
-        CombinedShape::Rule(step, None) if tree.more.is_empty() => prove(alloc, state, step),
-        _ => Err(refused(Why::Syntax, tree.first.place)),
+    match sole_rule(step.head, step.parts.as_slice(), more) {
+        Some(rule) => prove(alloc, state, rule),
+        None => Err(refused(Why::Syntax, step.place)),
+    }
+}
+
+/// The rule of a tactic whose first step has this head and these parts, where it stands alone.
+fn sole_rule<'a>(head: Head, parts: &'a [Node], more: &[Node]) -> Option<&'a Node>
+    ensures { option_copied result ≡ sole_rule head parts.now more.now }
+{
+    match head {
+        Head::Rule => match parts {
+            [rule, introduction] => match more {
+                [] => unnamed(rule, introduction.head),
+                _ => None,
+            },
+            _ => None,
+        },
+        _ => None,
+    }
+}
+
+/// A rule behind which no premises are named.
+fn unnamed(rule: &Node, introduction: Head) -> Option<&Node>
+    ensures { option_copied result ≡ unnamed rule.now introduction }
+{
+    match introduction {
+        Head::NoIntroduction => Some(rule),
+        _ => None,
     }
 }
 
 /// A rule works on the first goal, and puts its subgoals in front of the others. Where it is refused the proof stays as it
 /// was.
-fn prove(alloc: Global, state: &mut State, tree: &StepTree) -> Result<(), Refused>
-    ensures { Leads
-        (InProof (session_of state.old).proof tree.now.place (λ p. WorksOn p.goals (session_of state.old) p tree.now))
+fn prove(alloc: Global, state: &mut State, tree: &Node) -> Result<(), Refused>
+    ensures session { Leads
+        (InProof (session_of state.old).proof (place_of tree.now) (λ p. WorksOn p.goals (session_of state.old) p tree.now))
         (session_of state.new) result }
+    ensures kept { IsKept (session_of state.old) (session_of state.new) result }
 {
     let Some(proof) = state.proof.take() else {
         return Err(refused(Why::NoGoal, tree.place));
@@ -231,12 +289,7 @@ fn stepped(proof: OpenProof, next: Sequents) -> Result<OpenProof, AllocError>
 }
 
 /// The goals that a proof step puts in the place of the first one.
-fn subgoals(
-    alloc: Global,
-    scope: &Scope,
-    goals: &Goals,
-    tree: &StepTree,
-) -> Result<Sequents, Refused>
+fn subgoals(alloc: Global, scope: &Scope, goals: &Goals, tree: &Node) -> Result<Sequents, Refused>
     ensures { (s : Session) (p : Opened) → s.scope ≡ scope.now
         → Meets (λ next. with_goals s p (next ++ drop 1 goals.now)) (WorksOn goals.now s p tree.now) result }
 {

@@ -16,7 +16,7 @@ use gb_lex::commands::cut;
 use gb_lex::lexing::tokens;
 use gb_lex::places::advance;
 use gb_lex::token::Cut;
-use gb_tree::command::Command;
+use gb_script::tree::Node;
 use std::alloc::{AllocError, Global};
 
 /// What a check comes to.
@@ -116,7 +116,7 @@ fn run_command(alloc: Global, state: &mut State, text: &[u8], at: Place) -> Resu
 }
 
 /// Reads one command text.
-fn read_command(alloc: Global, text: &[u8], at: Place) -> Result<Command, Refused>
+fn read_command(alloc: Global, text: &[u8], at: Place) -> Result<Node, Refused>
     requires size { length text.now < 2 ^ 31 }
     requires line { at.line + length text.now < 2 ^ 32 }
     requires column { at.col + length text.now < 2 ^ 32 }

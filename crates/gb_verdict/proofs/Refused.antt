@@ -3,13 +3,13 @@ use Rattle.std.proofs.Common.{◌≡◌, Bool, true, false, Option, Some, None, 
 use Rattle.std.specs.Prelude.{◌==◌}
 use Rattle.gb_core.specs.declared.place.Place.{Place}
 use Rattle.gb_core.specs.declared.refusal.Why.TheVariants.{NoGoal}
-use Rattle.gb_tree.specs.declared.command.Command.{Command}
-use Rattle.gb_tree.specs.declared.command.CommandShape.{CommandShape}
-use Rattle.gb_tree.specs.declared.command.CommandShape.TheVariants.{Proof, Qed}
+use Rattle.gb_script.specs.declared.head.Head.TheVariants.{Proof, Qed}
+use Rattle.gb_script.specs.declared.tree.Node.{Node}
+use Rattle.gb_script.specs.Tree.{head_of, parts_of, place_of}
 use Rattle.gb_elab.specs.Answers.{Answer}
 use Rattle.gb_elab.specs.Answers.Answer.{refused}
 use Rattle.gb_verdict.specs.Session.{Session, OpenProof}
-use Rattle.gb_verdict.specs.Commands.{InProof, ComesToOf, at_command, ComesTo}
+use Rattle.gb_verdict.specs.Commands.{InProof, ComesToOf, ComesTo}
 
 either : {A : Type 0} (b : Bool) (x : A) → x ≡ (if b then x else x)
 either true x = refl
@@ -19,13 +19,13 @@ no_proof : (o : Option OpenProof) (place : Place) (P : OpenProof → Answer Sess
 no_proof None place P e = refl
 no_proof (Some p) place P e = absurd (cc)
 
-of_shape : (s : Session) (c : Command) → ComesToOf s c.shape c.place (refused NoGoal c.place) → ComesTo s c (refused NoGoal c.place)
-of_shape s c h = (refused NoGoal c.place, h, ap (refused NoGoal) (either (c.place.line == 0) c.place))
+of_head : (s : Session) (c : Node) → ComesToOf s c (head_of c) (parts_of c) (refused NoGoal (place_of c)) → ComesTo s c (refused NoGoal (place_of c))
+of_head s c h = (refused NoGoal (place_of c), h, ap (refused NoGoal) (either ((place_of c).line == 0) (place_of c)))
 
-pub proof_refused : (s : Session) (c : Command) → s.proof ≡ None → c.shape ≡ Proof → ComesTo s c (refused NoGoal c.place)
+pub proof_refused : (s : Session) (c : Node) → s.proof ≡ None → head_of c ≡ Proof → ComesTo s c (refused NoGoal (place_of c))
 proof_refused s c none is =
-    of_shape s c (subst (λ x. ComesToOf s x c.place (refused NoGoal c.place)) (sym is) (no_proof s.proof c.place _ none))
+    of_head s c (subst (λ x. ComesToOf s c x (parts_of c) (refused NoGoal (place_of c))) (sym is) (no_proof s.proof (place_of c) _ none))
 
-pub qed_refused : (s : Session) (c : Command) → s.proof ≡ None → c.shape ≡ Qed → ComesTo s c (refused NoGoal c.place)
+pub qed_refused : (s : Session) (c : Node) → s.proof ≡ None → head_of c ≡ Qed → ComesTo s c (refused NoGoal (place_of c))
 qed_refused s c none is =
-    of_shape s c (subst (λ x. ComesToOf s x c.place (refused NoGoal c.place)) (sym is) (no_proof s.proof c.place _ none))
+    of_head s c (subst (λ x. ComesToOf s c x (parts_of c) (refused NoGoal (place_of c))) (sym is) (no_proof s.proof (place_of c) _ none))

@@ -15,14 +15,14 @@ use Rattle.gb_lex.specs.Lex.{tokens_of, fault_of, IsCharacterFault, cut_of}
 use Rattle.gb_lex.specs.declared.token.Cut.{Cut}
 use Rattle.gb_lex.specs.declared.token.Cut.TheVariants as cut
 use Rattle.gb_lex.specs.PlaceAfter.{place_after}
-use Rattle.gb_tree.specs.declared.command.Command.{Command}
-use Rattle.gb_tree.specs.declared.command.CommandShape.{CommandShape}
-use Rattle.gb_tree.specs.declared.command.CommandShape.TheVariants as command
-use Rattle.gb_tree.specs.declared.step.StepTree.{StepTree}
-use Rattle.gb_table.specs.declared.rows.TheConstants.{COMMAND}
-use Rattle.gb_table.specs.Language.{IsPart}
-use Rattle.gb_text.specs.declared.text.Text.{Text}
-use Rattle.gb_text.specs.Lexeme.{text_at}
+use Rattle.gb_script.specs.declared.head.Head.{Head}
+use Rattle.gb_script.specs.declared.head.Head.TheVariants as head
+use Rattle.gb_script.specs.declared.text.Text.{Text}
+use Rattle.gb_script.specs.declared.tree.Node.{Node}
+use Rattle.gb_script.specs.Tree.{head_of, parts_of, place_of}
+use Rattle.gb_language.specs.declared.rows.TheConstants.{COMMAND}
+use Rattle.gb_language.specs.Language.{IsPart}
+use Rattle.gb_limits.specs.Lexeme.{text_at}
 use Rattle.gb_read_script.specs.Reading.{SpellsCommand, IsRefusal, IsAllowed}
 use Rattle.gb_elab.specs.Answers.{Answer, ◌>>=◌}
 use Rattle.gb_elab.specs.Answers.Answer.{given, refused}
@@ -60,24 +60,26 @@ module _ (one_answer : (leaves : List Leaf) (a b : Option Why) → IsAnswerOf le
   one_step s p q rest step r t h k =
       h.2 ∙ (ap (λ (x : Answer (List Sequent)). x >>= continued s p rest step.place) (one_applied s.scope step.rule step.place q h.0 k.0 h.1 k.1) ∙ sym k.2)
 
-  one_on : (qs : List Sequent) (s : Session) (p : OpenProof) (tree : StepTree) (r t : Answer Session) → WorksOn qs s p tree r → WorksOn qs s p tree t → r ≡ t
+  one_on : (qs : List Sequent) (s : Session) (p : OpenProof) (tree : Node) (r t : Answer Session) → WorksOn qs s p tree r → WorksOn qs s p tree t → r ≡ t
   one_on [] s p tree r t h k = h ∙ sym k
   one_on (q ∷ rest) s p tree r t h k = after_same (step_given s.scope q tree) (Works s p q rest) (Works s p q rest) (one_step s p q rest) r t h k
 
-  one_proved : (s : Session) (tree : Option StepTree) (place : Place) (r t : Answer Session) → Proves s tree place r → Proves s tree place t → r ≡ t
-  one_proved s (Some tree) place r t h k = in_proof_same s.proof tree.place _ (λ p x y. one_on p.goals s p tree x y) r t h k
+  one_proved : (s : Session) (tree : Option Node) (place : Place) (r t : Answer Session) → Proves s tree place r → Proves s tree place t → r ≡ t
+  one_proved s (Some tree) place r t h k = in_proof_same s.proof (place_of tree) _ (λ p x y. one_on p.goals s p tree x y) r t h k
   one_proved s None place r t h k = h ∙ sym k
 
-  one_of : (s : Session) (shape : CommandShape) (place : Place) (r t : Answer Session) → ComesToOf s shape place r → ComesToOf s shape place t → r ≡ t
-  one_of s (command.Module m) place r t h k = h ∙ sym k
-  one_of s (command.Lemma l) place r t h k = h ∙ sym k
-  one_of s command.Proof place r t h k = in_proof_same s.proof place _ (λ p x y a b. a ∙ sym b) r t h k
-  one_of s command.Qed place r t h k = in_proof_same s.proof place _ (λ p x y a b. a ∙ sym b) r t h k
-  one_of s (command.Tactic tactic) place r t h k = one_proved s (sole_rule tactic) tactic.first.place r t h k
-  one_of s _ place r t h k = h ∙ sym k
+  one_of : (s : Session) (c : Node) (h : Head) (parts : List Node) (r t : Answer Session) → ComesToOf s c h parts r → ComesToOf s c h parts t → r ≡ t
+  one_of s c head.Module parts r t h k = h ∙ sym k
+  one_of s c head.AscribedModule parts r t h k = h ∙ sym k
+  one_of s c head.Lemma (name ∷ parts) r t h k = h ∙ sym k
+  one_of s c head.Proof parts r t h k = in_proof_same s.proof (place_of c) _ (λ p x y a b. a ∙ sym b) r t h k
+  one_of s c head.Qed parts r t h k = in_proof_same s.proof (place_of c) _ (λ p x y a b. a ∙ sym b) r t h k
+  one_of s c head.Tactic (step ∷ more) r t h k = one_proved s (sole_rule (head_of step) (parts_of step) more) (place_of step) r t h k
+  one_of s c _ _ r t h k = h ∙ sym k
 
-  one_command : (s : Session) (c : Command) (r t : Answer Session) → ComesTo s c r → ComesTo s c t → r ≡ t
-  one_command s c r t h k = h.2 ∙ (ap (λ (x : Answer Session). at_command c.place x) (one_of s c.shape c.place h.0 k.0 h.1 k.1) ∙ sym k.2)
+  one_command : (s : Session) (c : Node) (r t : Answer Session) → ComesTo s c r → ComesTo s c t → r ≡ t
+  one_command s c r t h k =
+      h.2 ∙ (ap (λ (x : Answer Session). at_command (place_of c) x) (one_of s c (head_of c) (parts_of c) h.0 k.0 h.1 k.1) ∙ sym k.2)
 
 no_and_some : (o : Option ℕ) (n : ℕ) → o ≡ None → o ≡ Some n → ⊥
 no_and_some o n e f = let x : None ≡ Some n = sym e ∙ f in absurd (cc)
@@ -89,7 +91,7 @@ one_offset : (o : Option ℕ) (m n : ℕ) → o ≡ Some m → o ≡ Some n → 
 one_offset o m n e f = let x : Some m ≡ Some n = sym e ∙ f in cc
 
 -- a piece that is refused
-abbrev no_command : Why → Place → Answer Command
+abbrev no_command : Why → Place → Answer Node
 no_command why place = refused why place
 
 one_script : (v w : Why) (p q : Place) → Script v p ≡ Script w q → no_command v p ≡ refused w q
@@ -106,10 +108,10 @@ one_pair v w p q e = ap (λ (x : Why). refused x p) e.0 ∙ ap (λ (x : Place). 
 -- where what texts spell and why they are refused is one
 module _
     (one_answer : (leaves : List Leaf) (a b : Option Why) → IsAnswerOf leaves a → IsAnswerOf leaves b → a ≡ b)
-    (one_spelled : (t : Text) (c d : Command) → SpellsCommand t c → SpellsCommand t d → c ≡ d)
+    (one_spelled : (t : Text) (c d : Node) → SpellsCommand t c → SpellsCommand t d → c ≡ d)
     (one_refusal : (part : ℕ) (t : Text) (v w : Why) (p q : Place) → IsPart part → IsRefusal part t v p → IsRefusal part t w q → (v ≡ w) × (p ≡ q))
     (no_refusal : (part : ℕ) (t : Text) (w : Why) (p : Place) → IsPart part → IsAllowed part t → IsRefusal part t w p → ⊥) where
-  read_and_refused : (piece : List ℕ) (at : Place) (c : Command) (why : Why) (place : Place) → IsReadAs piece at (given c) → IsReadAs piece at (refused why place) → ⊥
+  read_and_refused : (piece : List ℕ) (at : Place) (c : Node) (why : Why) (place : Place) → IsReadAs piece at (given c) → IsReadAs piece at (refused why place) → ⊥
   read_and_refused piece at c why place h (inl fault) = no_fault piece at (Script why place) h.0 fault
   read_and_refused piece at c why place h (inr k) = no_refusal COMMAND (text_at piece at (tokens_of piece)) why place (inl refl) h.2 k.1
 
@@ -119,8 +121,8 @@ module _
   one_refused piece at v w p q (inr x) (inl y) = absurd (no_fault piece at (Script w q) x.0 y)
   one_refused piece at v w p q (inr x) (inr y) = one_pair v w p q (one_refusal COMMAND (text_at piece at (tokens_of piece)) v w p q (inl refl) x.1 y.1)
 
-  one_read : (piece : List ℕ) (at : Place) (x y : Answer Command) → IsReadAs piece at x → IsReadAs piece at y → x ≡ y
-  one_read piece at (given c) (given d) h k = ap (λ (x : Command). given x) (one_spelled (text_at piece at (tokens_of piece)) c d h.1 k.1)
+  one_read : (piece : List ℕ) (at : Place) (x y : Answer Node) → IsReadAs piece at x → IsReadAs piece at y → x ≡ y
+  one_read piece at (given c) (given d) h k = ap (λ (x : Node). given x) (one_spelled (text_at piece at (tokens_of piece)) c d h.1 k.1)
   one_read piece at (given c) (refused why place) h k = absurd (read_and_refused piece at c why place h k)
   one_read piece at (refused why place) (given c) h k = absurd (read_and_refused piece at c why place k h)
   one_read piece at (refused v p) (refused w q) h k = one_refused piece at v w p q h k
@@ -135,7 +137,7 @@ module _
   one_turn : (c : Cut) (P Q : Rest) → AreOne P Q → (s : Session) (at : Place) (rest : List ℕ) (r t : Answer Session) → Goes c P s at rest r → Goes c Q s at rest t → r ≡ t
   one_turn (cut.Command to) P Q one s at rest r t h k =
       let read : k.0 ≡ h.0 = one_read (take to rest) at k.0 h.0 k.1 h.1 in
-      let came : RunsTo s h.0 k.2.0 = subst (λ (x : Answer Command). RunsTo s x k.2.0) read k.2.1 in
+      let came : RunsTo s h.0 k.2.0 = subst (λ (x : Answer Node). RunsTo s x k.2.0) read k.2.1 in
       let next : k.2.0 ≡ h.2.0 = after_same h.0 (ComesTo s) (ComesTo s) (one_command one_answer s) k.2.0 h.2.0 came h.2.1 in
       after_same h.2.0 (λ (n : Session). P n (place_after at (take to rest)) (drop to rest)) (λ (n : Session). Q n (place_after at (take to rest)) (drop to rest))
       (λ n x y. one n (place_after at (take to rest)) (drop to rest) x y) r t h.2.2

@@ -1,5 +1,5 @@
 -- What each command comes to: the next session, or its first refusal.
-use Rattle.std.specs.Prelude.{◌≡◌, ◌==◌, ℕ, Bool, true, false, List, [], ◌∷◌, ◌++◌, length, Option, Some, None, if◌then◌else◌}
+use Rattle.std.specs.Prelude.{◌≡◌, ◌==◌, ℕ, List, [], ◌∷◌, ◌++◌, length, Option, Some, None, if◌then◌else◌}
 use Rattle.gb_core.specs.declared.place.Place.{Place}
 use Rattle.gb_core.specs.declared.refusal.Why.{Why}
 use Rattle.gb_core.specs.declared.refusal.Why.TheVariants.{NoGoal, OpenGoals, Shape, TooMany}
@@ -8,16 +8,10 @@ use Rattle.gb_goal.specs.declared.sequent.Sequent.{Sequent}
 use Rattle.gb_goal.specs.declared.step.Step.{Step}
 use Rattle.gb_goal.specs.declared.step.Rule.{Rule}
 use Rattle.gb_goal.specs.declared.step.Rule.TheVariants as rule
-use Rattle.gb_tree.specs.declared.command.Command.{Command}
-use Rattle.gb_tree.specs.declared.command.CommandShape.{CommandShape}
-use Rattle.gb_tree.specs.declared.command.CommandShape.TheVariants as command
-use Rattle.gb_tree.specs.declared.command.LemmaTree.{LemmaTree}
-use Rattle.gb_tree.specs.declared.program.ModuleTree.{ModuleTree}
-use Rattle.gb_tree.specs.declared.tactic.CombinedShape.{CombinedShape}
-use Rattle.gb_tree.specs.declared.tactic.CombinedShape.TheVariants as combined
-use Rattle.gb_tree.specs.declared.tactic.Continuation.{Continuation}
-use Rattle.gb_tree.specs.declared.step.StepTree.{StepTree}
-use Rattle.gb_tree.specs.declared.tactic.TacticTree.{TacticTree}
+use Rattle.gb_script.specs.declared.head.Head.{Head}
+use Rattle.gb_script.specs.declared.head.Head.TheVariants as head
+use Rattle.gb_script.specs.declared.tree.Node.{Node}
+use Rattle.gb_script.specs.Tree.{head_of, text_of, parts_of, place_of}
 use Rattle.gb_elab.specs.Answers.{Answer, ◌>>=◌, given_or, not_built}
 use Rattle.gb_elab.specs.Answers.Answer.{given, refused}
 use Rattle.gb_elab_mod.specs.Modules.{module_given}
@@ -45,21 +39,21 @@ outside None place = given tt
 outside (Some p) place = refused NoGoal place
 
 -- a module is declared
-abbrev pub declares : Session → ModuleTree → Place → Answer Session
+abbrev pub declares : Session → Node → Place → Answer Session
 declares s t place = do
   _ ← outside s.proof place
   m ← module_given s.scope t
   _ ← within (declaration_limit (length s.scope)) place
   given (with_module s m)
 
--- a lemma opens its proof
-abbrev pub opens : Session → LemmaTree → Place → Answer Session
-opens s t place = do
+-- a lemma of this name opens its proof
+abbrev pub opens : Session → Node → List ℕ → Place → Answer Session
+opens s t name place = do
   _ ← outside s.proof place
   q ← statement_given s.scope t
   _ ← within (declaration_limit (length s.scope)) place
   _ ← within (each_limit (q ∷ [])) place
-  given (with_lemma s t.name.name q)
+  given (with_lemma s name q)
 
 -- `proof` follows its lemma at once
 abbrev pub begun : Session → OpenProof → Place → Answer Session
@@ -92,8 +86,8 @@ abbrev pub Works : Session → OpenProof → Sequent → List Sequent → Step �
 Works s p q rest step r =
     (x : Answer (List Sequent)) × Applied s.scope step.rule step.place q x × (r ≡ (x >>= continued s p rest step.place))
 
-abbrev pub WorksOn : List Sequent → Session → OpenProof → StepTree → Answer Session → Type 0
-WorksOn [] s p t r = r ≡ refused NoGoal t.place
+abbrev pub WorksOn : List Sequent → Session → OpenProof → Node → Answer Session → Type 0
+WorksOn [] s p t r = r ≡ refused NoGoal (place_of t)
 WorksOn (q ∷ rest) s p t r = After (step_given s.scope q t) (Works s p q rest) r
 
 -- an open proof is asked for
@@ -101,26 +95,31 @@ abbrev pub InProof : Option OpenProof → Place → (OpenProof → Answer Sessio
 InProof None place P r = r ≡ refused NoGoal place
 InProof (Some p) place P r = P p r
 
--- the rule that stands alone, without premises that are named
-abbrev pub alone : CombinedShape → List Continuation → Option StepTree
-alone (combined.Rule t None) [] = Some t
-alone _ _ = None
+-- a rule behind which no premises are named
+abbrev pub unnamed : Node → Head → Option Node
+unnamed rule head.NoIntroduction = Some rule
+unnamed rule _ = None
 
-abbrev pub sole_rule : TacticTree → Option StepTree
-sole_rule t = alone t.first.shape t.more
+-- the rule of a tactic whose first step has this head and these parts, where it stands alone
+abbrev pub sole_rule : Head → List Node → List Node → Option Node
+sole_rule head.Rule (rule ∷ introduction ∷ []) [] = unnamed rule (head_of introduction)
+sole_rule _ _ _ = None
 
 -- a rule is run in the open proof; what is more than one isn't built
-abbrev pub Proves : Session → Option StepTree → Place → Answer Session → Type 0
-Proves s (Some t) place r = InProof s.proof t.place (λ p. WorksOn p.goals s p t) r
+abbrev pub Proves : Session → Option Node → Place → Answer Session → Type 0
+Proves s (Some t) place r = InProof s.proof (place_of t) (λ p. WorksOn p.goals s p t) r
 Proves s None place r = r ≡ not_built place
 
-abbrev pub ComesToOf : Session → CommandShape → Place → Answer Session → Type 0
-ComesToOf s (command.Module t) place r = r ≡ declares s t place
-ComesToOf s (command.Lemma t) place r = r ≡ opens s t place
-ComesToOf s command.Proof place r = InProof s.proof place (λ p x. x ≡ begun s p place) r
-ComesToOf s command.Qed place r = InProof s.proof place (λ p x. x ≡ ended p.goals s p place) r
-ComesToOf s (command.Tactic t) place r = Proves s (sole_rule t) t.first.place r
-ComesToOf s _ place r = r ≡ not_built place
+-- What a command of this head and these parts comes to. The last clause takes what isn't built, under which nodes of another
+-- shape fall too: the reader makes none, as each tree of the language is well-sorted.
+abbrev pub ComesToOf : Session → Node → Head → List Node → Answer Session → Type 0
+ComesToOf s c head.Module parts r = r ≡ declares s c (place_of c)
+ComesToOf s c head.AscribedModule parts r = r ≡ declares s c (place_of c)
+ComesToOf s c head.Lemma (name ∷ parts) r = r ≡ opens s c (text_of name) (place_of c)
+ComesToOf s c head.Proof parts r = InProof s.proof (place_of c) (λ p x. x ≡ begun s p (place_of c)) r
+ComesToOf s c head.Qed parts r = InProof s.proof (place_of c) (λ p x. x ≡ ended p.goals s p (place_of c)) r
+ComesToOf s c head.Tactic (step ∷ more) r = Proves s (sole_rule (head_of step) (parts_of step) more) (place_of step) r
+ComesToOf s c _ _ r = r ≡ not_built (place_of c)
 
 -- a refusal without a place of its own stands at the command's first word
 abbrev pub at_command : {X : Type 0} → Place → Answer X → Answer X
@@ -128,5 +127,5 @@ at_command place (given x) = given x
 at_command place (refused why at) = refused why (if at.line == 0 then place else at)
 
 -- what a command comes to: the next session, or its first refusal
-abbrev pub ComesTo : Session → Command → Answer Session → Type 0
-ComesTo s c r = (x : Answer Session) × ComesToOf s c.shape c.place x × (r ≡ at_command c.place x)
+abbrev pub ComesTo : Session → Node → Answer Session → Type 0
+ComesTo s c r = (x : Answer Session) × ComesToOf s c (head_of c) (parts_of c) x × (r ≡ at_command (place_of c) x)

@@ -2,14 +2,15 @@
 
 ghost use Rattle.std.specs.Prelude.{◌≡◌, None};
 ghost use Rattle.gb_core.specs.declared.refusal.Why.TheVariants.{NoGoal};
-ghost use Rattle.gb_tree.specs.declared.command.Command.{Command};
-ghost use Rattle.gb_tree.specs.declared.command.CommandShape.TheVariants.{Proof, Qed};
+ghost use Rattle.gb_script.specs.declared.head.Head.TheVariants.{Proof, Qed};
+ghost use Rattle.gb_script.specs.declared.tree.Node.{Node};
+ghost use Rattle.gb_script.specs.Tree.{head_of, place_of};
 ghost use Rattle.gb_elab.specs.Answers.Answer.{refused};
 ghost use Rattle.gb_verdict.specs.Session.{Session};
 ghost use Rattle.gb_verdict.specs.Commands.{ComesTo};
 
 /// `proof` and `qed` are refused where no proof is open, at their first word.
 pub fn no_proof_is_open()
-    ensures proof { (s : Session) (c : Command) → s.proof ≡ None → c.shape ≡ Proof → ComesTo s c (refused NoGoal c.place) }
-    ensures qed { (s : Session) (c : Command) → s.proof ≡ None → c.shape ≡ Qed → ComesTo s c (refused NoGoal c.place) }
+    ensures proof { (s : Session) (c : Node) → s.proof ≡ None → head_of c ≡ Proof → ComesTo s c (refused NoGoal (place_of c)) }
+    ensures qed { (s : Session) (c : Node) → s.proof ≡ None → head_of c ≡ Qed → ComesTo s c (refused NoGoal (place_of c)) }
 {}

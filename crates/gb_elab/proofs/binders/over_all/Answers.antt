@@ -2,7 +2,7 @@ use Rattle.std.proofs.Common.{◌≡◌, ℕ, ◌+◌, ◌<◌, List, [], ◌∷
 use Rattle.std.proofs.lemmas.List.{reverse-append}
 use Rattle.gb_terms.specs.declared.decl.TypedName.{TypedName}
 use Rattle.gb_terms.specs.declared.term.Term.{Term}
-use Rattle.gb_tree.specs.declared.form.Quantifier.{Quantifier}
+use Rattle.gb_elab.specs.declared.binders.Quantifier.{Quantifier}
 use Rattle.gb_elab.specs.Forms.{over, over_all}
 use Rattle.gb_elab.proofs.binders.over_all.Goals as goal
 

@@ -1,111 +1,132 @@
--- Each shape's answer, by the lemma of that shape.
-use Rattle.std.proofs.Common.{◌≡◌, [], Some, sym, subst, rules}
+-- Each head's answer, by the lemma of that head.
+use Rattle.std.proofs.Common.{◌≡◌, length, ap, sym, ◌∙◌, arith, rules}
 use Rattle.std.specs.Option.{option_copied}
-use Rattle.gb_core.specs.declared.ty.Ty.TheVariants.{Bool as bool_ty}
-use Rattle.gb_tree.specs.declared.form.FormShape.{out-FormShape}
-use Rattle.gb_elab.specs.Answers.{◌>>=◌, Answers, Fails, truth, wanted}
+use Rattle.gb_core.specs.declared.refusal.Why.TheVariants.{Syntax, TypeMismatch}
+use Rattle.gb_script.specs.Tree.{head_of, text_of, place_of}
+use Rattle.gb_elab.specs.Answers.{Fails}
 use Rattle.gb_elab.specs.Answers.Answer.{given}
 use Rattle.gb_elab.specs.Environment.{environment}
-use Rattle.gb_elab.specs.Forms.{bound_by, elaborated, equalities, formula, left_side, negated, quantified, read, with_right_side}
-use Rattle.gb_elab.specs.Judgments.{after, before, both_procedures, equivalent}
+use Rattle.gb_elab.specs.Forms.{comparison, equivalence, typing, with_typings}
+use Rattle.gb_elab.specs.Judgments.{Named}
 use Rattle.gb_elab.specs.Names.{unit}
-use Rattle.gb_elab.proofs.Arms.{path_gives, unit_gives, bracketed_gives, sided_gives, coin_gives, function_fails, not_gives, binary_fails, binary_left_fails, binary_gives, equalities_give, quantified_gives, equiv_fails, both_fail, pre_fails, equiv_gives, unbuilt}
+use Rattle.gb_elab.proofs.Answers.{passes, leads_on, answers_as, fails_as, refuses_as}
+use Rattle.gb_elab.proofs.Arms.{meaning, equivalence_is, name_is, path_is, unit_is, bracketed_is, no_bracketed, sided_is, no_sided, coin_is, function_is, not_is, no_not, and_is, or_is, implies_is, iff_is, compared_is, equalities_is, quantified_is, equiv_is, other_form}
+use Rattle.gb_elab.proofs.Elaborated.{elaborated_is}
+use Rattle.gb_elab.proofs.Parts.{one, two, four}
 use Rattle.gb_elab.proofs.form.+form.Goals as goal
 
-pub typed-returns-in-Path : goal.typed-returns-in-Path
-typed-returns-in-Path t c = path_gives c.args.t.now (environment c.args.at.now) c.args.bound.now (option_copied c.args.want) c.in-Path.name c.wanted.result c.in-Path.is (c.wanted.ensures _ c.named.ensures)
+pub typed-returns : goal.typed-returns
+typed-returns t c =
+    let at = environment c.args.at.now in
+    answers_as _ _ c.typing.result
+    (elaborated_is c.args.t.now at c.args.bound.now (option_copied c.args.want)
+    ∙ ap (λ ps. typing (head_of c.args.t.now) (text_of c.args.t.now) (with_typings ps) (place_of c.args.t.now) at c.args.bound.now (option_copied c.args.want)) (sym c.as_slice.ensures))
+    c.typing.ensures
 
-pub typed-returns-in-Unit : goal.typed-returns-in-Unit
-typed-returns-in-Unit t c = unit_gives c.args.t.now (environment c.args.at.now) c.args.bound.now (option_copied c.args.want) c.wanted-in-Unit.result c.in-Unit.is (c.wanted-in-Unit.ensures (given unit) c.unit.ensures)
+pub typing-returns-in-Name : goal.typing-returns-in-Name
+typing-returns-in-Name t c =
+    answers_as _ _ c.wanted.result (name_is c.args.head c.args.text.now c.args.parts.now c.args.place (environment c.args.at.now) c.args.bound.now (option_copied c.args.want) c.in-Name.is) (c.wanted.ensures _ c.named.ensures)
 
-pub typed-returns-in-Bracketed : goal.typed-returns-in-Bracketed
-typed-returns-in-Bracketed t c =
-    bracketed_gives c.args.t.now (environment c.args.at.now) c.args.bound.now (option_copied c.args.want) c.in-Bracketed.inner c.typed.result c.in-Bracketed.is
-    (subst (λ a. Answers (elaborated a (environment c.args.at.now) c.args.bound.now (option_copied c.args.want)) c.typed.result) c.get.ensures c.typed.ensures)
+pub typing-returns-in-Path : goal.typing-returns-in-Path
+typing-returns-in-Path t c =
+    answers_as _ _ c.wanted-in-Path.result (path_is c.args.head c.args.text.now c.args.parts.now c.args.place (environment c.args.at.now) c.args.bound.now (option_copied c.args.want) c.in-Path.is) (c.wanted-in-Path.ensures _ c.at_path.ensures)
 
-pub typed-returns-in-Sided : goal.typed-returns-in-Sided
-typed-returns-in-Sided t c =
-    sided_gives c.args.t.now (environment c.args.at.now) c.args.bound.now (option_copied c.args.want) c.in-Sided.inner c.in-Sided.side c.wanted-in-Sided.result c.in-Sided.is
-    (subst (λ a. Answers (read (environment c.args.at.now) c.args.bound.now (out-FormShape a.shape) a.place c.in-Sided.side >>= wanted (option_copied c.args.want) c.args.t.now.place) c.wanted-in-Sided.result)
-    c.get-in-Sided.ensures (c.wanted-in-Sided.ensures _ c.read.ensures))
+pub typing-returns-in-Unit : goal.typing-returns-in-Unit
+typing-returns-in-Unit t c =
+    answers_as _ _ c.wanted-in-Unit.result (unit_is c.args.head c.args.text.now c.args.parts.now c.args.place (environment c.args.at.now) c.args.bound.now (option_copied c.args.want) c.in-Unit.is) (c.wanted-in-Unit.ensures (given unit) c.unit.ensures)
 
-pub typed-returns-in-Coin : goal.typed-returns-in-Coin
-typed-returns-in-Coin t c = coin_gives c.args.t.now (environment c.args.at.now) c.args.bound.now (option_copied c.args.want) c.coin.result c.in-Coin.is c.coin.ensures
+pub typing-returns-in-len1 : goal.typing-returns-in-len1
+typing-returns-in-len1 t c =
+    let e = one c.args.parts.now c.inner-item.result c.in-len1.len_at_least c.in-len1.len_below c.inner-item.is in
+    answers_as _ _ c.typed.result (bracketed_is c.args.head c.args.text.now c.args.parts.now c.args.place (environment c.args.at.now) c.args.bound.now (option_copied c.args.want) c.inner-item.result c.in-Bracketed.is e) c.typed.ensures
 
-pub typed-returns-in-Function : goal.typed-returns-in-Function
-typed-returns-in-Function t c =
-    subst (Fails (elaborated c.args.t.now (environment c.args.at.now) c.args.bound.now (option_copied c.args.want))) (sym c.mismatch.ensures) (function_fails c.args.t.now (environment c.args.at.now) c.args.bound.now (option_copied c.args.want) _ _ _ c.in-Function.is)
+pub typing-returns-in_default-parts : goal.typing-returns-in_default-parts
+typing-returns-in_default-parts t c =
+    let h : length c.args.parts.now ≡ 1 → ⊥ = grind arith in
+    refuses_as _ c.not_built.result Syntax c.args.place (no_bracketed c.args.head c.args.text.now c.args.parts.now c.args.place (environment c.args.at.now) c.args.bound.now (option_copied c.args.want) c.in-Bracketed.is h) c.not_built.ensures
 
-pub typed-returns-in-Not : goal.typed-returns-in-Not
-typed-returns-in-Not t c =
-    not_gives c.args.t.now (environment c.args.at.now) c.args.bound.now (option_copied c.args.want) c.in-Not.a c.negated.result c.in-Not.is
-    (subst (λ a. Answers (truth (option_copied c.args.want) c.args.t.now.place >>= λ _. negated (elaborated a (environment c.args.at.now) c.args.bound.now)) c.negated.result) c.get-in-Not.ensures c.negated.ensures)
+pub typing-returns-in-len2 : goal.typing-returns-in-len2
+typing-returns-in-len2 t c =
+    let e = two c.args.parts.now c.operand-item.result c.side-item.result c.in-len2.len_at_least c.in-len2.len_below c.operand-item.is c.side-item.is in
+    answers_as _ _ c.wanted-in-len2.result (sided_is c.args.head c.args.text.now c.args.parts.now c.args.place (environment c.args.at.now) c.args.bound.now (option_copied c.args.want) c.operand-item.result c.side-item.result c.in-Sided.is e) (c.wanted-in-len2.ensures _ c.read.ensures)
 
-pub typed-returns-in_err-op-in-Binary : goal.typed-returns-in_err-op-in-Binary
-typed-returns-in_err-op-in-Binary t c =
-    let h : Fails (elaborated c.args.t.now (environment c.args.at.now) c.args.bound.now (option_copied c.args.want)) c.in_err-op-in-Binary.field-0.0 = binary_fails c.args.t.now (environment c.args.at.now) c.args.bound.now (option_copied c.args.want) c.in-Binary.connective c.in-Binary.a c.in-Binary.b c.in-Binary.is c.in_err-op-in-Binary.field-0.0 c.in_err-op-in-Binary.ensures in
+pub typing-returns-in_default-parts-2 : goal.typing-returns-in_default-parts-2
+typing-returns-in_default-parts-2 t c =
+    let h : length c.args.parts.now ≡ 2 → ⊥ = grind arith in
+    refuses_as _ c.not_built-in_default-parts-2.result Syntax c.args.place (no_sided c.args.head c.args.text.now c.args.parts.now c.args.place (environment c.args.at.now) c.args.bound.now (option_copied c.args.want) c.in-Sided.is h) c.not_built-in_default-parts-2.ensures
+
+pub typing-returns-in-Coin : goal.typing-returns-in-Coin
+typing-returns-in-Coin t c =
+    answers_as _ _ c.coin.result (coin_is c.args.head c.args.text.now c.args.parts.now c.args.place (environment c.args.at.now) c.args.bound.now (option_copied c.args.want) c.in-Coin.is) (c.coin.ensures)
+
+pub typing-returns-in-Function : goal.typing-returns-in-Function
+typing-returns-in-Function t c =
+    refuses_as _ c.mismatch.result TypeMismatch c.args.place (function_is c.args.head c.args.text.now c.args.parts.now c.args.place (environment c.args.at.now) c.args.bound.now (option_copied c.args.want) c.in-Function.is) c.mismatch.ensures
+
+pub typing-returns-in-len1-parts : goal.typing-returns-in-len1-parts
+typing-returns-in-len1-parts t c =
+    let e = one c.args.parts.now c.a-item.result c.in-len1-parts.len_at_least c.in-len1-parts.len_below c.a-item.is in
+    answers_as _ _ c.negated.result (not_is c.args.head c.args.text.now c.args.parts.now c.args.place (environment c.args.at.now) c.args.bound.now (option_copied c.args.want) c.a-item.result c.in-Not.is e) c.negated.ensures
+
+pub typing-returns-in_default-parts-3 : goal.typing-returns-in_default-parts-3
+typing-returns-in_default-parts-3 t c =
+    let h : length c.args.parts.now ≡ 1 → ⊥ = grind arith in
+    refuses_as _ c.not_built-in_default-parts-3.result Syntax c.args.place (no_not c.args.head c.args.text.now c.args.parts.now c.args.place (environment c.args.at.now) c.args.bound.now (option_copied c.args.want) c.in-Not.is h) c.not_built-in_default-parts-3.ensures
+
+pub typing-returns-in-And : goal.typing-returns-in-And
+typing-returns-in-And t c =
+    answers_as _ _ c.binary.result (and_is c.args.head c.args.text.now c.args.parts.now c.args.place (environment c.args.at.now) c.args.bound.now (option_copied c.args.want) c.in-And.is) (c.binary.ensures)
+
+pub typing-returns-in-Or : goal.typing-returns-in-Or
+typing-returns-in-Or t c =
+    answers_as _ _ c.binary-in-Or.result (or_is c.args.head c.args.text.now c.args.parts.now c.args.place (environment c.args.at.now) c.args.bound.now (option_copied c.args.want) c.in-Or.is) (c.binary-in-Or.ensures)
+
+pub typing-returns-in-Implies : goal.typing-returns-in-Implies
+typing-returns-in-Implies t c =
+    answers_as _ _ c.binary-in-Implies.result (implies_is c.args.head c.args.text.now c.args.parts.now c.args.place (environment c.args.at.now) c.args.bound.now (option_copied c.args.want) c.in-Implies.is) (c.binary-in-Implies.ensures)
+
+pub typing-returns-in-Iff : goal.typing-returns-in-Iff
+typing-returns-in-Iff t c =
+    answers_as _ _ c.binary-in-Iff.result (iff_is c.args.head c.args.text.now c.args.parts.now c.args.place (environment c.args.at.now) c.args.bound.now (option_copied c.args.want) c.in-Iff.is) (c.binary-in-Iff.ensures)
+
+pub typing-returns-in_err-op-in-Compared : goal.typing-returns-in_err-op-in-Compared
+typing-returns-in_err-op-in-Compared t c =
+    let h : Fails (meaning c.args.head c.args.text.now c.args.parts.now c.args.place (environment c.args.at.now) c.args.bound.now (option_copied c.args.want)) c.in_err-op-in-Compared.field-0.0 = fails_as _ _ c.in_err-op-in-Compared.field-0.0 (compared_is c.args.head c.args.text.now c.args.parts.now c.args.place (environment c.args.at.now) c.args.bound.now (option_copied c.args.want) c.in-Compared.is) (passes (comparison c.args.text.now c.args.place) _ c.in_err-op-in-Compared.field-0.0 c.in_err-op-in-Compared.ensures) in
     search (rules, h)
 
-pub typed-returns-in_err-left-in-Binary : goal.typed-returns-in_err-left-in-Binary
-typed-returns-in_err-left-in-Binary t c =
-    let h : Fails (elaborated c.args.t.now (environment c.args.at.now) c.args.bound.now (option_copied c.args.want)) c.in_err-left-in-Binary.field-0.0 =
-    binary_left_fails c.args.t.now (environment c.args.at.now) c.args.bound.now (option_copied c.args.want) c.in-Binary.connective c.in-Binary.a c.in-Binary.b c.in-Binary.is c.in_ok-op-in-Binary.op c.in_err-left-in-Binary.field-0.0 c.in_ok-op-in-Binary.ensures
-    (subst (λ a. Fails (left_side c.in-Binary.connective c.args.t.now.place (elaborated a (environment c.args.at.now) c.args.bound.now)) c.in_err-left-in-Binary.field-0.0) c.get-in-Binary.ensures c.in_err-left-in-Binary.ensures) in
-    search (rules, h)
+pub typing-returns-in_ok-op-in-Compared : goal.typing-returns-in_ok-op-in-Compared
+typing-returns-in_ok-op-in-Compared t c =
+    answers_as _ _ c.binary-in-Compared.result
+    (compared_is c.args.head c.args.text.now c.args.parts.now c.args.place (environment c.args.at.now) c.args.bound.now (option_copied c.args.want) c.in-Compared.is ∙ leads_on (comparison c.args.text.now c.args.place) _ c.in_ok-op-in-Compared.op c.in_ok-op-in-Compared.ensures) c.binary-in-Compared.ensures
 
-pub typed-returns-in_ok-left-in-Binary : goal.typed-returns-in_ok-left-in-Binary
-typed-returns-in_ok-left-in-Binary t c =
-    binary_gives c.args.t.now (environment c.args.at.now) c.args.bound.now (option_copied c.args.want) c.in-Binary.connective c.in-Binary.a c.in-Binary.b c.in-Binary.is c.in_ok-op-in-Binary.op c.in_ok-left-in-Binary.left c.with_right_side.result c.in_ok-op-in-Binary.ensures
-    (subst (λ a. left_side c.in-Binary.connective c.args.t.now.place (elaborated a (environment c.args.at.now) c.args.bound.now) ≡ given c.in_ok-left-in-Binary.left) c.get-in-Binary.ensures c.in_ok-left-in-Binary.ensures)
-    (subst (λ b. Answers (with_right_side c.in_ok-op-in-Binary.op c.in_ok-left-in-Binary.left (elaborated b (environment c.args.at.now) c.args.bound.now)) c.with_right_side.result) c.get-in-Binary-2.ensures c.with_right_side.ensures)
+pub typing-returns-in-Equalities : goal.typing-returns-in-Equalities
+typing-returns-in-Equalities t c =
+    answers_as _ _ c.equalities.result (equalities_is c.args.head c.args.text.now c.args.parts.now c.args.place (environment c.args.at.now) c.args.bound.now (option_copied c.args.want) c.in-Equalities.is) (c.equalities.ensures)
 
-pub typed-returns-in-Equalities : goal.typed-returns-in-Equalities
-typed-returns-in-Equalities t c =
-    equalities_give c.args.t.now (environment c.args.at.now) c.args.bound.now (option_copied c.args.want) c.in-Equalities.list c.equalities.result c.in-Equalities.is
-    (subst (λ es. Answers (truth (option_copied c.args.want) c.args.t.now.place >>= λ _. equalities (environment c.args.at.now) c.args.bound.now es c.args.t.now.place) c.equalities.result) c.as_slice.ensures c.equalities.ensures)
+pub typing-returns-in-Quantified : goal.typing-returns-in-Quantified
+typing-returns-in-Quantified t c =
+    answers_as _ _ c.quantified.result (quantified_is c.args.head c.args.text.now c.args.parts.now c.args.place (environment c.args.at.now) c.args.bound.now (option_copied c.args.want) c.in-Quantified.is) (c.quantified.ensures)
 
-pub typed-returns-in-Quantified : goal.typed-returns-in-Quantified
-typed-returns-in-Quantified t c =
-    quantified_gives c.args.t.now (environment c.args.at.now) c.args.bound.now (option_copied c.args.want) c.in-Quantified.quantifier c.in-Quantified.binds c.in-Quantified.body c.quantified.result c.in-Quantified.is
-    (subst (λ bs. Answers (formula (environment c.args.at.now) (option_copied c.args.want) c.args.t.now.place >>= λ _. bound_by [] bs >>= λ vs. quantified c.in-Quantified.quantifier vs c.args.bound.now (elaborated c.in-Quantified.body (environment c.args.at.now))) c.quantified.result)
-    c.as_slice-binds.ensures
-    (subst (λ a. Answers (formula (environment c.args.at.now) (option_copied c.args.want) c.args.t.now.place >>= λ _. bound_by [] c.as_slice-binds.result.now >>= λ vs. quantified c.in-Quantified.quantifier vs c.args.bound.now (elaborated a (environment c.args.at.now))) c.quantified.result)
-    c.get-in-Quantified.ensures c.quantified.ensures))
+pub typing-returns-in-Equiv : goal.typing-returns-in-Equiv
+typing-returns-in-Equiv t c =
+    answers_as _ _ c.equivalence.result (equiv_is c.args.head c.args.text.now c.args.parts.now c.args.place (environment c.args.at.now) c.args.bound.now (option_copied c.args.want) c.in-Equiv.is) (c.equivalence.ensures)
 
-pub typed-returns-in_err-judgment-in-Equiv : goal.typed-returns-in_err-judgment-in-Equiv
-typed-returns-in_err-judgment-in-Equiv t c =
-    let h : Fails (elaborated c.args.t.now (environment c.args.at.now) c.args.bound.now (option_copied c.args.want)) c.in_err-judgment-in-Equiv.field-0.0 = equiv_fails c.args.t.now (environment c.args.at.now) c.args.bound.now (option_copied c.args.want) c.in-Equiv.left c.in-Equiv.right c.in-Equiv.pre c.in-Equiv.post c.in-Equiv.is c.in_err-judgment-in-Equiv.field-0.0 c.in_err-judgment-in-Equiv.ensures in
-    search (rules, h)
-
-pub typed-returns-in_err-both-in-Equiv : goal.typed-returns-in_err-both-in-Equiv
-typed-returns-in_err-both-in-Equiv t c =
-    let h : Fails (elaborated c.args.t.now (environment c.args.at.now) c.args.bound.now (option_copied c.args.want)) c.in_err-both-in-Equiv.field-0.0 =
-    both_fail c.args.t.now (environment c.args.at.now) c.args.bound.now (option_copied c.args.want) c.in-Equiv.left c.in-Equiv.right c.in-Equiv.pre c.in-Equiv.post c.in-Equiv.is c.in_ok-judgment-in-Equiv.field-0 c.in_ok-judgment-in-Equiv.ensures c.in_err-both-in-Equiv.field-0.0
-    (subst (λ x. Fails (both_procedures (environment c.args.at.now) c.args.bound.now x c.in-Equiv.right c.args.t.now.place) c.in_err-both-in-Equiv.field-0.0) c.get-in-Equiv.ensures
-    (subst (λ x. Fails (both_procedures (environment c.args.at.now) c.args.bound.now c.get-in-Equiv.result.now x c.args.t.now.place) c.in_err-both-in-Equiv.field-0.0) c.get-in-Equiv-2.ensures c.in_err-both-in-Equiv.ensures)) in
-    search (rules, h)
-
-pub typed-returns-in_err-pre-in-Equiv : goal.typed-returns-in_err-pre-in-Equiv
-typed-returns-in_err-pre-in-Equiv t c =
-    let h : Fails (elaborated c.args.t.now (environment c.args.at.now) c.args.bound.now (option_copied c.args.want)) c.in_err-pre-in-Equiv.field-0.0 =
-    pre_fails c.args.t.now (environment c.args.at.now) c.args.bound.now (option_copied c.args.want) c.in-Equiv.left c.in-Equiv.right c.in-Equiv.pre c.in-Equiv.post c.in-Equiv.is c.in_ok-judgment-in-Equiv.field-0 c.in_ok-judgment-in-Equiv.ensures (c.in_ok-both-in-Equiv.both.left.now, c.in_ok-both-in-Equiv.both.right.now, c.in_ok-both-in-Equiv.both.f.now, c.in_ok-both-in-Equiv.both.g.now)
-    (subst (λ x. both_procedures (environment c.args.at.now) c.args.bound.now x c.in-Equiv.right c.args.t.now.place ≡ given (c.in_ok-both-in-Equiv.both.left.now, c.in_ok-both-in-Equiv.both.right.now, c.in_ok-both-in-Equiv.both.f.now, c.in_ok-both-in-Equiv.both.g.now)) c.get-in-Equiv.ensures
-    (subst (λ x. both_procedures (environment c.args.at.now) c.args.bound.now c.get-in-Equiv.result.now x c.args.t.now.place ≡ given (c.in_ok-both-in-Equiv.both.left.now, c.in_ok-both-in-Equiv.both.right.now, c.in_ok-both-in-Equiv.both.f.now, c.in_ok-both-in-Equiv.both.g.now)) c.get-in-Equiv-2.ensures c.in_ok-both-in-Equiv.ensures))
-    c.in_err-pre-in-Equiv.field-0.0
-    (subst (λ a. Fails (elaborated a (before (environment c.args.at.now) c.in_ok-both-in-Equiv.both.f.now c.in_ok-both-in-Equiv.both.g.now) c.args.bound.now (Some bool_ty)) c.in_err-pre-in-Equiv.field-0.0) c.get-in-Equiv-3.ensures c.in_err-pre-in-Equiv.ensures) in
-    search (rules, h)
-
-pub typed-returns-in_ok-pre-in-Equiv : goal.typed-returns-in_ok-pre-in-Equiv
-typed-returns-in_ok-pre-in-Equiv t c =
-    equiv_gives c.args.t.now (environment c.args.at.now) c.args.bound.now (option_copied c.args.want) c.in-Equiv.left c.in-Equiv.right c.in-Equiv.pre c.in-Equiv.post c.in-Equiv.is c.in_ok-judgment-in-Equiv.field-0 c.in_ok-judgment-in-Equiv.ensures (c.in_ok-both-in-Equiv.both.left.now, c.in_ok-both-in-Equiv.both.right.now, c.in_ok-both-in-Equiv.both.f.now, c.in_ok-both-in-Equiv.both.g.now)
-    (subst (λ x. both_procedures (environment c.args.at.now) c.args.bound.now x c.in-Equiv.right c.args.t.now.place ≡ given (c.in_ok-both-in-Equiv.both.left.now, c.in_ok-both-in-Equiv.both.right.now, c.in_ok-both-in-Equiv.both.f.now, c.in_ok-both-in-Equiv.both.g.now)) c.get-in-Equiv.ensures
-    (subst (λ x. both_procedures (environment c.args.at.now) c.args.bound.now c.get-in-Equiv.result.now x c.args.t.now.place ≡ given (c.in_ok-both-in-Equiv.both.left.now, c.in_ok-both-in-Equiv.both.right.now, c.in_ok-both-in-Equiv.both.f.now, c.in_ok-both-in-Equiv.both.g.now)) c.get-in-Equiv-2.ensures c.in_ok-both-in-Equiv.ensures))
-    c.in_ok-pre-in-Equiv.pre c.equivalence.result
-    (subst (λ a. elaborated a (before (environment c.args.at.now) c.in_ok-both-in-Equiv.both.f.now c.in_ok-both-in-Equiv.both.g.now) c.args.bound.now (Some bool_ty) ≡ given c.in_ok-pre-in-Equiv.pre) c.get-in-Equiv-3.ensures c.in_ok-pre-in-Equiv.ensures)
-    (subst (λ a. Answers (elaborated a (after (environment c.args.at.now) c.in_ok-both-in-Equiv.both.f.now c.in_ok-both-in-Equiv.both.g.now) c.args.bound.now (Some bool_ty) >>= λ post. given (equivalent c.in_ok-both-in-Equiv.both.left.now c.in_ok-both-in-Equiv.both.right.now c.in_ok-pre-in-Equiv.pre post)) c.equivalence.result) c.get-in-Equiv-4.ensures c.equivalence.ensures)
-
-pub typed-returns-in_default : goal.typed-returns-in_default
-typed-returns-in_default t c =
+pub typing-returns-in_default : goal.typing-returns-in_default
+typing-returns-in_default t c =
     let n = c.in_default in
-    let h = unbuilt c.args.t.now (environment c.args.at.now) c.args.bound.now (option_copied c.args.want) n.not-Path n.not-Unit n.not-Bracketed n.not-Sided n.not-Coin n.not-Function n.not-Not n.not-Binary n.not-Equalities n.not-Quantified n.not-Equiv in
-    subst (Fails (elaborated c.args.t.now (environment c.args.at.now) c.args.bound.now (option_copied c.args.want))) (sym c.not_built.ensures) h
+    refuses_as _ c.not_built-in_default.result Syntax c.args.place
+    (other_form c.args.head c.args.text.now (with_typings c.args.parts.now) c.args.place (environment c.args.at.now) c.args.bound.now (option_copied c.args.want) n.not-Name n.not-Path n.not-Unit n.not-Bracketed n.not-Sided n.not-Coin n.not-Function n.not-TypedFunction n.not-Not n.not-And n.not-Or n.not-Implies n.not-Iff n.not-Compared n.not-Equalities n.not-Quantified n.not-Equiv)
+    c.not_built-in_default.ensures
+
+pub equivalence-returns-in_ok-pre-in-len4 : goal.equivalence-returns-in_ok-pre-in-len4
+equivalence-returns-in_ok-pre-in-len4 t c =
+    let at = environment c.args.at.now in
+    let w = option_copied c.args.want in
+    let both = c.in_ok-both-in-len4.both in
+    let m : Named × Named = ((both.left.reference, both.left.procedure.now), (both.right.reference, both.right.procedure.now)) in
+    let e = four c.args.parts.now c.f-item.result c.g-item.result c.pre-item.result c.post-item.result c.in-len4.len_at_least c.in-len4.len_below c.f-item.is c.g-item.is c.pre-item.is c.post-item.is in
+    answers_as _ _ c.with_postcondition.result
+    (ap (λ ps. equivalence (with_typings ps) c.args.place at c.args.bound.now w) e
+    ∙ equivalence_is c.f-item.result c.g-item.result c.pre-item.result c.post-item.result c.args.place at c.args.bound.now w c.in_ok-judgment-in-len4.field-0 m c.in_ok-pre-in-len4.pre
+    c.in_ok-judgment-in-len4.ensures c.in_ok-both-in-len4.ensures c.in_ok-pre-in-len4.ensures)
+    c.with_postcondition.ensures

@@ -1,7 +1,8 @@
 use Rattle.std.proofs.Common.{◌≡◌, drop}
 use Rattle.std.specs.List.{list_any}
+use Rattle.gb_script.specs.Tree.{head_of}
 use Rattle.gb_elab_mod.specs.Modules.{is_globals}
 use Rattle.gb_elab_mod.proofs.module.declares_globals.Given as goal
 
 abbrev pub invariant-loop-item : goal.invariant-loop-item
-invariant-loop-item l = list_any is_globals (drop l.item-index l.items) ≡ list_any is_globals l.items
+invariant-loop-item l = list_any (λ t. is_globals (head_of t)) (drop l.item-index l.items) ≡ list_any (λ t. is_globals (head_of t)) l.items

@@ -1,7 +1,6 @@
 use Rattle.std.proofs.Common.{◌≡◌, drop}
 use Rattle.gb_elab_mod.specs.Modules.{all_short}
-use Rattle.gb_elab_mod.specs.Typed.{procs_in}
 use Rattle.gb_elab_mod.proofs.module.refuse_long_bodies.Given as goal
 
 abbrev pub invariant-loop-item : goal.invariant-loop-item
-invariant-loop-item l = all_short (procs_in (drop l.item-index l.items)) ≡ all_short (procs_in l.items)
+invariant-loop-item l = all_short (drop l.item-index l.items) ≡ all_short l.items

@@ -2,5 +2,5 @@ use Rattle.std.proofs.Common.{◌≡◌, [], drop}
 use Rattle.gb_elab_mod.specs.Procedures.{locals}
 use Rattle.gb_elab_mod.proofs.procedure.locals.Given as goal
 
-abbrev pub invariant-loop-binder : goal.invariant-loop-binder
-invariant-loop-binder l = locals l.locals (drop l.binder-index l.binders) ≡ locals [] l.binders
+abbrev pub invariant-loop-line : goal.invariant-loop-line
+invariant-loop-line l = locals l.locals (drop l.line-index l.lines) ≡ locals [] l.lines

@@ -1,7 +1,7 @@
 use Rattle.std.proofs.Common.{◌≡◌, ◌++◌, ◌∷◌, ap, sym, subst, ◌∙◌, List}
 use Rattle.std.specs.List.{All}
 use Rattle.std.proofs.lemmas.List.Elements.{All-push}
-use Rattle.gb_text.specs.declared.text.Text.{Text}
+use Rattle.gb_script.specs.declared.text.Text.{Text}
 use Rattle.gb_read_script.specs.declared.goal_lines.Line.TheVariants.{Entry}
 use Rattle.gb_read_script.specs.declared.goal_lines.ReadLine.{ReadLine}
 use Rattle.gb_read_script.specs.GoalLines.{IsLine, IsEntry, texts}

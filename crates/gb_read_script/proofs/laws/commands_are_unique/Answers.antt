@@ -1,6 +1,7 @@
-use Rattle.gb_text.specs.Lexeme.{kinds_of}
-use Rattle.gb_read_script.proofs.Unique.{one_command}
+use Rattle.std.proofs.Common.{inl, refl}
+use Rattle.gb_language.specs.declared.rows.TheConstants.{COMMAND}
+use Rattle.gb_limits.specs.Lexeme.{kinds_of}
 use Rattle.gb_read_script.proofs.laws.commands_are_unique.Goals as goal
 
 pub returns : goal.returns
-returns c = one_command (λ part ready t a b. c.steps_are_unique.ensures.texts part (kinds_of t) a b ready (c.kinds_are_kinds.ensures t))
+returns c = λ t x y. c.trees_are_unique.ensures.texts COMMAND (kinds_of t) t x y (inl refl) (c.kinds_are_kinds.ensures t)

@@ -1,9 +1,9 @@
 use Rattle.std.proofs.Common.{List, ◌≡◌, ℕ}
 use Rattle.gb_grammar.specs.declared.table.Step.{Step}
-use Rattle.gb_table.specs.declared.rule.Rule.{Rule}
-use Rattle.gb_table.specs.Language.{goal_language}
-use Rattle.gb_text.specs.declared.text.Text.{Text}
-use Rattle.gb_text.specs.Lexeme.{kinds_of}
+use Rattle.gb_script.specs.declared.action.Rule.{Rule}
+use Rattle.gb_language.specs.Language.{goal_language}
+use Rattle.gb_script.specs.declared.text.Text.{Text}
+use Rattle.gb_limits.specs.Lexeme.{kinds_of}
 use Rattle.gb_read_script.specs.declared.goal_lines.LineSort.{LineSort}
 use Rattle.gb_read_script.specs.GoalLines.{part_of, IsLineText, Stops}
 use Rattle.gb_read_script.proofs.Lines.{part_is_line}

@@ -1,5 +1,5 @@
-use Rattle.gb_table.specs.Language.{language}
-use Rattle.gb_text.specs.Lexeme.{kinds_of}
+use Rattle.gb_language.specs.Language.{language}
+use Rattle.gb_limits.specs.Lexeme.{kinds_of}
 use Rattle.gb_read_script.proofs.Unique.{one_refusal, no_refusal}
 use Rattle.gb_read_script.proofs.laws.refusals_are_unique.Goals as goal
 

@@ -2,7 +2,7 @@
 use Rattle.std.proofs.Common.{subst, sym, ap, ◌∙◌}
 use Rattle.std.specs.Prelude.{Err}
 use Rattle.std.proofs.lemmas.Result.{err_from_is_err_and}
-use Rattle.gb_tree.specs.declared.command.Command.{Command}
+use Rattle.gb_script.specs.declared.tree.Node.{Node}
 use Rattle.gb_verdict.specs.Verdict.{IsReadAs}
 use Rattle.gb_theory.specs.Sessions.{Meets}
 use Rattle.gb_theory.proofs.Read.{character_due, read_due}
@@ -11,7 +11,7 @@ use Rattle.gb_theory.proofs.verdict.read_command.Goals as goal
 pub returns-in_err-tokens : goal.returns-in_err-tokens
 returns-in_err-tokens c =
     let given = err_from_is_err_and c.from_residual.result c.from_residual.ensures.1 in
-    subst (Meets (λ (x : Command). x) (IsReadAs c.args.text.now c.args.at)) (sym (given.1 ∙ ap Err given.2))
+    subst (Meets (λ (x : Node). x) (IsReadAs c.args.text.now c.args.at)) (sym (given.1 ∙ ap Err given.2))
     (character_due c.args.text.now c.args.at c.in_err-tokens.field-0.0 c.in_err-tokens.ensures.character)
 
 pub returns : goal.returns

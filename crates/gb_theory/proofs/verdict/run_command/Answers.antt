@@ -17,4 +17,4 @@ returns-in_err-command c =
 pub returns : goal.returns
 returns c =
     read_runs (session_of c.args.state.now) (session_of c.execute.new.state) c.args.text.now c.args.at c.in_ok-command.command c.execute.result
-    c.in_ok-command.ensures c.execute.ensures
+    c.in_ok-command.ensures c.execute.ensures.session

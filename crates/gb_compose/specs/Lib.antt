@@ -1,3 +1,0 @@
-pub mod Atoms
-pub mod Forms
-pub mod Paths

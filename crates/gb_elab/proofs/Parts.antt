@@ -1,0 +1,25 @@
+-- Lists of so many parts.
+use Rattle.std.proofs.Common.{◌≡◌, ◌<◌, ◌≤◌, List, [], ◌∷◌, length, get_or, ap, sym, ◌∙◌, arith}
+
+module _ {A : Type 0} where
+  pub one : (xs : List A) (x : A) → 1 ≤ length xs → length xs < 2 → x ≡ get_or xs 0 x → xs ≡ x ∷ []
+  one [] x h k e = absurd (omega (arith, h))
+  one (a ∷ []) x h k e = ap (λ z. z ∷ []) (sym e)
+  one (a ∷ b ∷ xs) x h k e = absurd (omega (arith, k))
+
+  pub two : (xs : List A) (x y : A) → 2 ≤ length xs → length xs < 3 → x ≡ get_or xs 0 x → y ≡ get_or xs 1 y → xs ≡ x ∷ y ∷ []
+  two [] x y h k e f = absurd (omega (arith, h))
+  two (a ∷ []) x y h k e f = absurd (omega (arith, h))
+  two (a ∷ b ∷ []) x y h k e f = ap (λ z. z ∷ b ∷ []) (sym e) ∙ ap (λ z. x ∷ z ∷ []) (sym f)
+  two (a ∷ b ∷ c ∷ xs) x y h k e f = absurd (omega (arith, k))
+
+  pub three : (xs : List A) (x y z : A) → 3 ≤ length xs → length xs < 4 → x ≡ get_or xs 0 x → y ≡ get_or xs 1 y → z ≡ get_or xs 2 z → xs ≡ x ∷ y ∷ z ∷ []
+  three [] x y z h k e f g = absurd (omega (arith, h))
+  three (a ∷ []) x y z h k e f g = absurd (omega (arith, h))
+  three (a ∷ b ∷ []) x y z h k e f g = absurd (omega (arith, h))
+  three (a ∷ b ∷ c ∷ []) x y z h k e f g = ap (λ v. v ∷ b ∷ c ∷ []) (sym e) ∙ (ap (λ v. x ∷ v ∷ c ∷ []) (sym f) ∙ ap (λ v. x ∷ y ∷ v ∷ []) (sym g))
+  three (a ∷ b ∷ c ∷ d ∷ xs) x y z h k e f g = absurd (omega (arith, k))
+
+  pub four : (xs : List A) (x y z u : A) → 4 ≤ length xs → length xs < 5 → x ≡ get_or xs 0 x → y ≡ get_or xs 1 y → z ≡ get_or xs 2 z → u ≡ get_or xs 3 u → xs ≡ x ∷ y ∷ z ∷ u ∷ []
+  four [] x y z u h k e f g i = absurd (omega (arith, h))
+  four (a ∷ xs) x y z u h k e f g i = ap (λ v. v ∷ xs) (sym e) ∙ ap (λ vs. x ∷ vs) (three xs y z u (omega (arith, h)) (omega (arith, k)) f g i)

@@ -1,0 +1,137 @@
+// Equalities of variables of two programs.
+
+ghost use Rattle.std.specs.Prelude.{◌≡◌, [], ◌∷◌, if◌then◌else◌};
+ghost use Rattle.std.specs.Option.{option_copied};
+ghost use Rattle.gb_core.specs.declared.refusal.Why.TheVariants.{TypeMismatch};
+ghost use Rattle.gb_same.specs.Types.{ty_eq};
+ghost use Rattle.gb_terms.specs.Make.{applied};
+ghost use Rattle.gb_elab.specs.Answers.{Answers, ◌>>=◌ as ◌and_then◌, truth, type_of_term};
+ghost use Rattle.gb_elab.specs.Answers.Answer.{given, refused};
+ghost use Rattle.gb_elab.specs.Environment.{environment};
+ghost use Rattle.gb_elab.specs.Forms.{equalities, equality, equation, equation_of, with_equalities};
+
+use crate::allowed::truth;
+use crate::names::{path, sided};
+use crate::refusals::{argument, mismatch, not_built};
+use crate::setting::Setting;
+use gb_core::name::Name;
+use gb_core::place::Place;
+use gb_core::refusal::Refused;
+use gb_core::ty::Ty;
+use gb_same::types::same_types;
+use gb_script::head::Head;
+use gb_script::tree::Node;
+use gb_terms::decl::TypedName;
+use gb_terms::make;
+use gb_terms::op::{Op, Side};
+use gb_terms::term::{Form, Term};
+use std::alloc::Global;
+
+/// The equality of a variable of two programs.
+#[tactic(auto, unfolding(crate::specs::Forms::equality))]
+fn equality(
+    alloc: Global,
+    at: &Setting<'_>,
+    bound: &[TypedName],
+    name: &Name,
+    place: Place,
+) -> Result<Form, Refused>
+    ensures { Answers (equality (environment at.now) bound.now name.now place) result }
+{
+    let left = sided(alloc, at, bound, name, Side::Left, place)?;
+    let right = sided(alloc, at, bound, name, Side::Right, place)?;
+    equated(alloc, left, right, place)
+}
+
+/// The equality of two terms, which are to be of one type.
+fn equated(alloc: Global, left: Term, right: Term, place: Place) -> Result<Form, Refused>
+    ensures { Answers (if ty_eq (type_of_term right) (type_of_term left) then given (applied Op.Equal (left ∷ right ∷ []) Ty.Bool) else refused TypeMismatch place) result }
+{
+    if same_types(right.ty.get(), left.ty.get()) {
+        make::equality(alloc, left, right).map_err(Refused::from)
+    } else {
+        Err(mismatch(place))
+    }
+}
+
+/// What `={..}` says of one thing.
+fn equation(alloc: Global, at: &Setting<'_>, bound: &[TypedName], x: &Node) -> Result<Form, Refused>
+    ensures { Answers (equation_of (environment at.now) bound.now x.now) result }
+{
+    equation_at(
+        alloc,
+        at,
+        bound,
+        x.head,
+        &x.text,
+        x.parts.as_slice(),
+        x.place,
+    )
+}
+
+/// .. from its head, its text, its parts and its place.
+fn equation_at(
+    alloc: Global,
+    at: &Setting<'_>,
+    bound: &[TypedName],
+    head: Head,
+    text: &Name,
+    parts: &[Node],
+    place: Place,
+) -> Result<Form, Refused>
+    ensures { Answers (equation (environment at.now) bound.now head text.now parts.now place) result }
+{
+    match head {
+        Head::Name => equality(alloc, at, bound, text, place),
+        Head::Path => equality(alloc, at, bound, &path(alloc, parts)?, place),
+        Head::EquatedGlob => match parts {
+            [module, ..] => Err(not_built(module.place)),
+            _ => Err(not_built(place)),
+        },
+        _ => Err(not_built(place)),
+    }
+}
+
+/// Equations of two programs, joined to the left.
+#[tactic(auto, unfolding(crate::specs::Forms::equalities, crate::specs::Forms::joined))]
+pub fn equalities(
+    alloc: Global,
+    at: &Setting<'_>,
+    bound: &[TypedName],
+    list: &[Node],
+    want: Option<&Ty>,
+    place: Place,
+) -> Result<Form, Refused>
+    ensures { Answers (truth (option_copied want.entry) place and_then λ _. equalities (environment at.now) bound.now list.now place) result }
+{
+    truth(want, place)?;
+    if at.on_side(Side::Left).is_none() {
+        return Err(argument(place));
+    }
+    match list {
+        [] => make::boolean(alloc, true).map_err(Refused::from),
+        [x, rest @ ..] => {
+            let first = equation(alloc, at, bound, x)?;
+            with_equalities(alloc, at, bound, first, rest)
+        }
+    }
+}
+
+/// A form and, to its right, further equations.
+#[tactic(auto, unfolding(crate::specs::Forms::with_equalities))]
+fn with_equalities(
+    alloc: Global,
+    at: &Setting<'_>,
+    bound: &[TypedName],
+    first: Form,
+    list: &[Node],
+) -> Result<Form, Refused>
+    ensures { Answers (with_equalities (environment at.now) bound.now first list.now) result }
+{
+    let mut form = first;
+    for x in list {
+        let next = equation(alloc, at, bound, x)?;
+        form = make::conjunction(alloc, form, next)?;
+    }
+    Ok(form)
+}

@@ -1,0 +1,10 @@
+use Rattle.std.proofs.Common.{◌≡◌, ◌∷◌, drop}
+use Rattle.gb_elab.specs.Answers.{◌>>=◌}
+use Rattle.gb_elab.specs.Answers.Answer.{given}
+use Rattle.gb_elab.specs.Environment.{environment}
+use Rattle.gb_elab_mod.specs.Steps.{functions}
+use Rattle.gb_elab_mod.proofs.Gathered.{behind}
+use Rattle.gb_elab_mod.proofs.couplings.functions.Given as goal
+
+abbrev pub invariant-loop-f : goal.invariant-loop-f
+invariant-loop-f l = behind l.typed (functions (environment l.at) (drop l.f-index l.forms) l.from l.to) ≡ (functions (environment l.at) l.forms l.from l.to >>= λ ts. given (l.fn.first ∷ ts))

@@ -1,0 +1,146 @@
+// The functions of `rnd`.
+
+ghost use Rattle.std.specs.Prelude.{◌≡◌, ◌∷◌};
+ghost use Rattle.std.specs.Option.{option_copied, option_map};
+ghost use Rattle.gb_elab.specs.Answers.{Answers, ◌>>=◌ as ◌and_then◌};
+ghost use Rattle.gb_elab.specs.Answers.Answer.{given};
+ghost use Rattle.gb_elab.specs.Environment.{environment};
+ghost use Rattle.gb_elab_mod.specs.Steps.{bodies, couplings, functions, functions_of, is_apply, last_sampled, one_type, there_and_back};
+
+use crate::occurring::occurring;
+use gb_core::refusal::Refused;
+use gb_core::ty::Ty;
+use gb_elab::form::function;
+use gb_elab::refusals::mismatch;
+use gb_elab::setting::Setting;
+use gb_goal::scope::Scope;
+use gb_goal::sequent::Sequent;
+use gb_same::types::same_types;
+use gb_script::head;
+use gb_script::tree::Node;
+use gb_shared::Shared;
+use gb_terms::op::Side;
+use gb_terms::term::{Cmd, Form, Head, Instr, Subject, Term, Terms};
+use sqlite_items::Items;
+use std::alloc::Global;
+
+fn is_apply(head: head::Head) -> bool
+    ensures { result ≡ is_apply head }
+{
+    match head {
+        head::Head::Apply => true,
+        _ => false,
+    }
+}
+
+/// The functions of `rnd`: two stand as a function and its argument.
+pub fn functions_of(forms: &[Node]) -> &[Node]
+    ensures { result.now ≡ functions_of forms.now }
+{
+    match forms {
+        [both] if is_apply(both.head) => both.parts.as_slice(),
+        _ => forms,
+    }
+}
+
+/// The bodies of an equivalence of two bodies.
+fn bodies(conclusion: &Form) -> Option<(&Cmd, &Cmd)>
+    ensures { option_map (λ p. (p.0.now, p.1.now)) result ≡ bodies conclusion.now }
+{
+    match conclusion.head.get() {
+        Head::Equiv(Subject::Body(left), Subject::Body(right)) => Some((left, right)),
+        _ => None,
+    }
+}
+
+/// The type of the variable that a body's last statement samples.
+fn last_sampled(body: &Cmd) -> Option<&Shared<Ty>>
+    ensures { option_copied result ≡ last_sampled body.now }
+{
+    match body.list.as_slice().last() {
+        Some(Instr::Sample(_, from)) => match from.ty.get() {
+            Ty::Distr(outcomes) => Some(outcomes),
+            _ => None,
+        },
+        _ => None,
+    }
+}
+
+/// Refuses one function between two types: it leads there and back.
+fn refuse_one_way(functions: &[Node], from: &Ty, to: &Ty) -> Result<(), Refused>
+    ensures { Answers (one_type functions.now from.now to.now) result }
+{
+    match functions {
+        [f] => {
+            if same_types(from, to) {
+                Ok(())
+            } else {
+                Err(mismatch(f.place))
+            }
+        }
+        _ => Ok(()),
+    }
+}
+
+/// The typed functions of `rnd`: the first leads from the left outcome to the right one, the second back.
+#[tactic(auto, unfolding(crate::specs::Steps::couplings))]
+pub fn couplings(
+    alloc: Global,
+    scope: &Scope,
+    s: &Sequent,
+    functions: &[Node],
+) -> Result<Terms, Refused>
+    ensures { Answers (couplings scope.now s.now functions.now) result }
+{
+    let Some((left, right)) = bodies(&s.conclusion) else {
+        return Ok(Items::new(alloc));
+    };
+    let (Some(from), Some(to)) = (last_sampled(left), last_sampled(right)) else {
+        return Ok(Items::new(alloc));
+    };
+    refuse_one_way(functions, from.get(), to.get())?;
+    let conditions = s.conclusion.args.as_slice();
+    let on_left = occurring(alloc, conditions, Side::Left, left)?;
+    let on_right = occurring(alloc, conditions, Side::Right, right)?;
+    let at = Setting::function(scope, s, on_left.as_slice(), on_right.as_slice());
+    there_and_back(alloc, &at, functions, from, to)
+}
+
+/// Functions between two types: the first leads there, the others back.
+#[tactic(auto, unfolding(crate::specs::Steps::there_and_back))]
+fn there_and_back(
+    alloc: Global,
+    at: &Setting<'_>,
+    forms: &[Node],
+    from: &Shared<Ty>,
+    to: &Shared<Ty>,
+) -> Result<Terms, Refused>
+    ensures { Answers (there_and_back (environment at.now) forms.now from.now to.now) result }
+{
+    match forms {
+        [] => Ok(Items::new(alloc)),
+        [f, rest @ ..] => {
+            let first = function(alloc, at, f, from, to.get())?;
+            functions(alloc, at, first, rest, to, from)
+        }
+    }
+}
+
+/// A function, and behind it functions from a type to a type.
+fn functions(
+    alloc: Global,
+    at: &Setting<'_>,
+    first: Term,
+    forms: &[Node],
+    from: &Shared<Ty>,
+    to: &Shared<Ty>,
+) -> Result<Terms, Refused>
+    ensures { Answers (functions (environment at.now) forms.now from.now to.now and_then λ ts. given (first ∷ ts)) result }
+{
+    let mut typed = Items::new(alloc);
+    typed.push(first)?;
+    for f in forms {
+        typed.push(function(alloc, at, f, from, to.get())?)?;
+    }
+    Ok(typed)
+}

@@ -1,0 +1,28 @@
+// Laws of kinds of token, and of the first places at which a text is refused.
+
+ghost use Rattle.std.specs.Prelude.{◌≡◌, ℕ, ℤ, List};
+ghost use Rattle.std.specs.List.{All};
+ghost use Rattle.gb_grammar.specs.declared.table.Step.{Step};
+ghost use Rattle.gb_grammar.specs.Reading.{IsKind};
+ghost use Rattle.gb_script.specs.declared.action.Rule.{Rule};
+ghost use Rattle.gb_script.specs.declared.text.Text.{Text};
+ghost use Rattle.gb_limits.specs.LeftOut.{IsFirstLeftOut};
+ghost use Rattle.gb_limits.specs.Lexeme.{kinds_of};
+ghost use Rattle.gb_limits.specs.Limits.{IsFirstTooDeep, IsFirstLong};
+ghost use Rattle.gb_limits.specs.Numbers.{IsFirstOverflow};
+
+/// The kinds of token of a text are kinds of the table.
+pub fn kinds_are_kinds()
+    ensures { (t : Text) → All IsKind (kinds_of t) }
+{}
+
+/// Of the tokens that are left out, of those in too many levels, of those with which operands too many begin, and of the
+/// numbers out of range, one at most is the first; of such a number one operation at most is the first that leads out.
+pub fn first_places_are_unique()
+    ensures left_out { (t : Text) (i j : ℕ) → IsFirstLeftOut t i → IsFirstLeftOut t j → i ≡ j }
+    ensures deep { (t : Text) (steps : List (Step Rule)) (fault i j : ℕ) →
+        IsFirstTooDeep t steps fault i → IsFirstTooDeep t steps fault j → i ≡ j }
+    ensures long { (t : Text) (steps : List (Step Rule)) (i j : ℕ) → IsFirstLong t steps i → IsFirstLong t steps j → i ≡ j }
+    ensures overflow { (t : Text) (i j : ℕ) (a b c d : ℤ) → IsFirstOverflow t i a b → IsFirstOverflow t j c d
+        → (i ≡ j) × (a ≡ c) × (b ≡ d) }
+{}

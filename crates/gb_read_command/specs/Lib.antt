@@ -1,9 +1,0 @@
-pub mod CommandTrees
-pub mod Commands
-pub mod Composed
-pub mod Given
-pub mod Groups
-pub mod Rules
-pub mod Steps
-pub mod TacticTrees
-pub mod Tactics

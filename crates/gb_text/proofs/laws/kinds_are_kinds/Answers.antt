@@ -1,6 +1,0 @@
-use Rattle.gb_text.specs.declared.text.Text.{Text}
-use Rattle.gb_text.proofs.AllKinds.{all_kinds}
-use Rattle.gb_text.proofs.laws.kinds_are_kinds.Goals as goal
-
-pub returns : goal.returns
-returns c = λ (t : Text). all_kinds t.lexemes

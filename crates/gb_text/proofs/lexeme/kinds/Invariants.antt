@@ -1,8 +1,0 @@
-use Rattle.std.proofs.Common.{◌≡◌, map, take}
-use Rattle.gb_text.specs.declared.text.Lexeme.{Lexeme}
-use Rattle.gb_text.specs.Kinds.{kind_of}
-use Rattle.gb_text.proofs.lexeme.kinds.Given as goal
-
-abbrev pub invariant-loop-lexeme : goal.invariant-loop-lexeme
-invariant-loop-lexeme l =
-    l.kinds.items ≡ map (λ (x : Lexeme). kind_of x.terminal) (take l.lexeme-index l.lexeme-items)

@@ -1,6 +1,0 @@
-use Rattle.std.proofs.Common.{◌≡◌, drop}
-use Rattle.gb_text.specs.Lexeme.{spelled_in}
-use Rattle.gb_text.proofs.lexeme.spelled_in.Given as goal
-
-abbrev pub invariant-loop-spelling : goal.invariant-loop-spelling
-invariant-loop-spelling l = spelled_in (drop l.spelling-index l.spellings) l.bytes ≡ spelled_in l.spellings l.bytes

@@ -1,6 +1,0 @@
-pub mod Form
-pub mod Path
-pub mod Program
-pub mod Sorted
-pub mod Step
-pub mod Values
