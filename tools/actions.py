@@ -9,6 +9,7 @@ CRATE is the folder of the crate (crates/NAME). grammar.py says how script.txt i
     CRATE/src/bodies.rt        SYMBOLS, the bodies of the rows
     CRATE/specs/Claims.antt    what is claimed of each part, `claims`, and how many parts each stage has
     CRATE/specs/Sorts.antt     the kinds of node, the signatures of heads and the sorts of parts
+    CRATE/specs/Spelling.antt  the kinds of token that spell the texts of nodes
     CRATE/proofs/Checked.antt  that the table passes its tests, at each stage
 
 Run `rt fmt` behind it. This script is not trusted: the check decides whether what it writes is right.
@@ -180,7 +181,8 @@ def checked_file(crate):
              "use Rattle.std.proofs.Common.{refl}", f"use Rattle.{crate}.specs.declared.rows.TheConstants.{{ROWS, PLACES}}",
              f"use Rattle.{crate}.specs.declared.bodies.TheConstants.{{SYMBOLS}}", f"use Rattle.{crate}.specs.Claims.{{claims}}",
              "use Rattle.gb_grammar.specs.Grammar.{grammar_of}", f"use Rattle.{crate}.specs.Sorts.{{part_sorts, signatures}}",
-             "use Rattle.gb_script.specs.Acts.{sorts_ok}", "use Rattle.gb_grammar.specs.Check.{productions_ok, places_ok, grammar_ok}",
+             f"use Rattle.{crate}.specs.Spelling.{{spelling}}", f"use Rattle.{crate}.specs.Language.{{still_kinds}}", "use Rattle.gb_script.specs.Acts.{sorts_ok}",
+             "use Rattle.gb_script.specs.Spelled.{spellings_ok, still_ok}", "use Rattle.gb_grammar.specs.Check.{productions_ok, places_ok, grammar_ok}",
              "use Rattle.gb_grammar.proofs.Bodies.{bodies, in_order, grammar_with, grammar_passes}",
              "", "ordered : in_order 0 ROWS (bodies SYMBOLS) ≡ true", "ordered = refl"]
     for stage, name in enumerate(STAGE_NAMES):
@@ -191,7 +193,9 @@ def checked_file(crate):
                   f"{low}_pass = grammar_passes {stage} SYMBOLS (claims {stage}) PLACES ROWS ordered {low}_productions {low}_places"]
     for stage, name in enumerate(STAGE_NAMES):
         low = name.lower()
-        lines += ["", f"pub {low}_sorted : sorts_ok signatures part_sorts (grammar_of {stage} ROWS SYMBOLS) ≡ true", f"{low}_sorted = refl"]
+        lines += ["", f"pub {low}_sorted : sorts_ok signatures part_sorts (grammar_of {stage} ROWS SYMBOLS) ≡ true", f"{low}_sorted = refl",
+                  "", f"pub {low}_spelled : spellings_ok spelling (grammar_of {stage} ROWS SYMBOLS) ≡ true", f"{low}_spelled = refl",
+                  "", f"pub {low}_still : still_ok signatures part_sorts still_kinds (grammar_of {stage} ROWS SYMBOLS) ≡ true", f"{low}_still = refl"]
     return lines
 
 
@@ -280,6 +284,20 @@ def sorts_file(table):
     return lines + ["", "abbrev pub signatures : Language", "signatures = record { signature = signature; role = role }"]
 
 
+def spelling_file(table):
+    kinds = {}
+    for _, production in table.productions():
+        if production.action.startswith("Spell."):
+            first = next(symbol for symbol in production.body if symbol in table.kinds)
+            kinds.setdefault(production.head, set()).add(table.kinds[first])
+    lines = ["-- Written by tools/actions.py from script.txt: the kinds of token that spell the texts of nodes.",
+             "use Rattle.std.specs.Prelude.{ℕ, [], ◌∷◌, List}", "use Rattle.gb_script.specs.declared.head.Head.{Head}",
+             "use Rattle.gb_script.specs.declared.head.Head.TheVariants as head",
+             "", "-- the kinds of each head that has a text", "abbrev pub spelling : Head → List ℕ"]
+    lines += [f"spelling head.{head} = {listed(map(str, sorted(found)))}" for head, found in kinds.items()]
+    return lines + ["spelling _ = []"]
+
+
 def main():
     if len(sys.argv) != 2:
         fail("give the folder of the crate")
@@ -291,6 +309,7 @@ def main():
         "src/bodies.rt": bodies_file(table, rows),
         "specs/Claims.antt": claims_file(table),
         "specs/Sorts.antt": sorts_file(table),
+        "specs/Spelling.antt": spelling_file(table),
         "proofs/Checked.antt": checked_file(os.path.basename(os.path.abspath(folder))),
     }
     for name, lines in files.items():

@@ -123,13 +123,8 @@ class Word:
     places: list = field(default_factory=list)
 
 
-ITEM = re.compile(r"""\$(?:(?P<from>-?\d+)\.\.(?P<to>-?\d+)?|(?P<at>-?\d+)(?:\.(?P<inner>\d+))?|(?P<own>text|\^))
+ITEM = re.compile(r"""\$(?:(?P<from>-?\d+)\.\.(?P<to>-?\d+)?|(?P<at>-?\d+)(?:\.(?P<inner>\d+)|(?P<list>\*))?|(?P<own>text|\^))
                       (?P<test>[?!])?(?:\+(?P<behind>\d+))?(?:@(?P<line>\w+))?(?:(?P<mark>[<>~])(?P<level>\d+))?(?:/(?P<between>.+))?""", re.X)
-
-
-def elements(node):
-    """What stands in a list; a node alone."""
-    return node["parts"] if head_of(node) == "List" else (node,)
 
 
 class Writer:
@@ -151,8 +146,6 @@ class Writer:
 
     def words(self, node, line=None):
         """The words of a node, by the line of this name where its head has one."""
-        if head_of(node) == "List":
-            return [word for part in node["parts"] for word in self.words(part, line)]
         name = f"{head_of(node)} {line}" if f"{head_of(node)} {line}" in self.lines else head_of(node)
         if name not in self.lines:
             raise Fault(f"trees.txt has no line {name}")
@@ -215,17 +208,17 @@ class Writer:
     def found(self, node, item):
         """The nodes that an item speaks of."""
         parts = [node["parts"][number] for number in sorted(self.numbers(node, item))]
-        if item["from"]:
-            return parts
+        is_list = not item["from"] and any(item[name] for name in ("list", "inner", "test", "between"))
+        if any((head_of(part) == "List") != is_list for part in parts):
+            raise Fault(f"{item[0]} of {head_of(node)} is {'no' if is_list else 'a'} list")
+        if is_list:
+            parts = list(parts[0]["parts"])
         if item["behind"]:
             front, behind = parts
             return [Record(behind, parts=(front,) + behind["parts"], place=front["place"])]
-        inner = elements(parts[0])
-        if item["inner"]:
-            if int(item["inner"]) >= len(inner):
-                raise Fault(f"a list of {head_of(node)} has {len(inner)} parts")
-            return [inner[int(item["inner"])]]
-        return list(inner)
+        if item["inner"] and int(item["inner"]) >= len(parts):
+            raise Fault(f"{item[0]} of {head_of(node)}: the list has {len(parts)} parts")
+        return [parts[int(item["inner"])]] if item["inner"] else parts
 
     def goes_on(self, node):
         """From which level on an operator behind a node belongs to the end of the node; 13 where none does."""

@@ -22,7 +22,7 @@ use Rattle.gb_verdict.specs.Limits.{declaration_limit, each_limit}
 use Rattle.gb_verdict.specs.Commands.{within, outside, declares, opens, begun, ended}
 use Rattle.gb_accepted.proofs.Given.{nothing_given, given_outside}
 use Rattle.gb_accepted.proofs.Good.{IsGoodProof, IsGoodIfOpen, IsGood}
-use Rattle.gb_accepted.proofs.Later.{names_stay, hold_later, name_added, hold_with}
+use Rattle.gb_accepted.proofs.Later.{names_stay, proved_later, name_added, proved_with}
 
 pub declares_keeps : (s : Session) (t : Node) (place : Place) (next : Session) → IsGood s → declares s t place ≡ given next → IsGood next
 declares_keeps s t place next g e =
@@ -33,7 +33,7 @@ declares_keeps s t place next g e =
     subst IsGood (given_is _ _ c.2) (record {
       typed = module_added s.scope g.typed t b.0 b.1;
       sound = gained_module s.scope b.0.name b.0 g.sound;
-      lemmas = record { names = names_stay s.scope b.0.name b.0 ∙ g.lemmas.names; hold = hold_later s.scope b.0.name b.0 g.lemmas.hold };
+      lemmas = record { names = names_stay s.scope b.0.name b.0 ∙ g.lemmas.names; proved = proved_later s.scope b.0.name b.0 g.lemmas.proved };
       proof = subst (IsGoodIfOpen _) (sym none) tt;
     })
 
@@ -48,7 +48,7 @@ opens_keeps s t name place next g named e =
     subst IsGood (given_is _ _ d.2) (record {
       typed = g.typed;
       sound = g.sound;
-      lemmas = record { names = g.lemmas.names; hold = g.lemmas.hold };
+      lemmas = record { names = g.lemmas.names; proved = g.lemmas.proved };
       proof = record { free = subst (λ n. entry_of s.scope n ≡ None) named typed.1; statement = typed.0; goals = (typed.0, tt); leads = λ hs. hs.0 };
     })
 
@@ -57,7 +57,7 @@ begun_keeps s p place next g h e =
     subst IsGood (if_given p.fresh (with_goals s p p.goals) NoGoal place next e).1 (record {
       typed = g.typed;
       sound = g.sound;
-      lemmas = record { names = g.lemmas.names; hold = g.lemmas.hold };
+      lemmas = record { names = g.lemmas.names; proved = g.lemmas.proved };
       proof = record { free = h.free; statement = h.statement; goals = h.goals; leads = h.leads };
     })
 
@@ -68,7 +68,7 @@ proved_is_good s p g h holds = record {
   sound = gained_lemma s.scope p.name p.statement g.sound holds;
   lemmas = record {
     names = name_added s.scope p.name p.statement ∙ ap (λ ns. ns ++ p.name ∷ []) g.lemmas.names;
-    hold = hold_with s.scope p.name p.statement g.lemmas.hold holds;
+    proved = proved_with s.scope p.name p.statement g.lemmas.proved g.typed h.statement holds;
   };
   proof = tt;
 }

@@ -26,4 +26,4 @@ pub record IsGood (s : Session) : Type 0 where
   pub proof : IsGoodIfOpen s.scope s.proof
 
 pub fresh_is_good : IsGood fresh_session
-fresh_is_good = record { typed = tt; sound = tt; lemmas = record { names = refl; hold = tt }; proof = tt }
+fresh_is_good = record { typed = tt; sound = tt; lemmas = record { names = refl; proved = tt }; proof = tt }

@@ -10,8 +10,9 @@ use Rattle.gb_goal.specs.declared.sequent.Sequent.{Sequent}
 use Rattle.gb_meaning.specs.Names.{Name}
 use Rattle.gb_holds.specs.Declared.{declared}
 use Rattle.gb_holds.specs.Holds.{Holds}
+use Rattle.gb_ready.specs.Goals.{IsTypedScope, IsTypedSequent}
 use Rattle.gb_closing.proofs.Used.{each_together}
-use Rattle.gb_accepted.specs.Holding.{Lemma, LemmaHolds, with_entry, lemmas_in, names_of}
+use Rattle.gb_accepted.specs.Holding.{Lemma, IsProved, with_entry, lemmas_in, names_of}
 
 with_more : (before : Declarations) (n : Name) (e : Entry) (ls ks : List Lemma) → with_entry before n e (ls ++ ks) ≡ with_entry before n e ls ++ ks
 with_more before n (entry.Module m) ls ks = refl
@@ -31,8 +32,8 @@ module _ (ds : Declarations) (n : Name) (m : Module) where
   pub names_stay : names_of (lemmas_in [] (ds ++ (n, entry.Module m) ∷ [])) ≡ names_of (lemmas_in [] ds)
   names_stay = ap names_of same_lemmas
 
-  pub hold_later : AllByRecursion LemmaHolds (lemmas_in [] ds) → AllByRecursion LemmaHolds (lemmas_in [] (ds ++ (n, entry.Module m) ∷ []))
-  hold_later h = subst (AllByRecursion LemmaHolds) (sym same_lemmas) h
+  pub proved_later : AllByRecursion IsProved (lemmas_in [] ds) → AllByRecursion IsProved (lemmas_in [] (ds ++ (n, entry.Module m) ∷ []))
+  proved_later h = subst (AllByRecursion IsProved) (sym same_lemmas) h
 
 -- a lemma is added behind the others
 module _ (ds : Declarations) (n : Name) (q : Sequent) where
@@ -45,5 +46,7 @@ module _ (ds : Declarations) (n : Name) (q : Sequent) where
   pub name_added : names_of (lemmas_in [] (ds ++ (n, entry.Lemma q) ∷ [])) ≡ names_of (lemmas_in [] ds) ++ n ∷ []
   name_added = ap names_of one_more ∙ map-append (λ (l : Lemma). l.name) (lemmas_in [] ds) (last ∷ [])
 
-  pub hold_with : AllByRecursion LemmaHolds (lemmas_in [] ds) → Holds (declared ds) q → AllByRecursion LemmaHolds (lemmas_in [] (ds ++ (n, entry.Lemma q) ∷ []))
-  hold_with h k = subst (AllByRecursion LemmaHolds) (sym one_more) (each_together LemmaHolds (lemmas_in [] ds) (last ∷ []) h (k, tt))
+  pub proved_with : AllByRecursion IsProved (lemmas_in [] ds) → IsTypedScope ds → IsTypedSequent ds q → Holds (declared ds) q → AllByRecursion IsProved (lemmas_in [] (ds ++ (n, entry.Lemma q) ∷ []))
+  proved_with h s t k =
+      let new : IsProved last = record { scope = s; typed = t; holds = k } in
+      subst (AllByRecursion IsProved) (sym one_more) (each_together IsProved (lemmas_in [] ds) (last ∷ []) h (new, tt))

@@ -29,7 +29,7 @@ continued_keeps s p q rest qs place next g h is lead e =
     subst IsGood (given_is _ _ b.2) (record {
       typed = g.typed;
       sound = g.sound;
-      lemmas = record { names = g.lemmas.names; hold = g.lemmas.hold };
+      lemmas = record { names = g.lemmas.names; proved = g.lemmas.proved };
       proof = record {
         free = h.free;
         statement = h.statement;

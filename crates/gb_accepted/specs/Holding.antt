@@ -5,9 +5,13 @@ use Rattle.gb_goal.specs.Scope.{Declarations}
 use Rattle.gb_goal.specs.declared.scope.Entry.{Entry}
 use Rattle.gb_goal.specs.declared.scope.Entry.TheVariants as entry
 use Rattle.gb_goal.specs.declared.sequent.Sequent.{Sequent}
+use Rattle.gb_terms.specs.declared.module.ProcRef.{ProcRef}
+use Rattle.gb_terms.specs.declared.term.Term.{Term}
 use Rattle.gb_meaning.specs.Names.{Name}
 use Rattle.gb_holds.specs.Declared.{declared}
-use Rattle.gb_holds.specs.Holds.{Holds}
+use Rattle.gb_holds.specs.Holds.{Holds, IsSound}
+use Rattle.gb_ready.specs.Goals.{IsTypedScope, IsTypedSequent}
+use Rattle.gb_models.specs.Promised.{HasModel, equivalence, alone, AreCoupledInEachModel}
 use Rattle.gb_verdict.specs.Session.{Session}
 
 -- A lemma: its name, the declarations before it, and its statement.
@@ -19,6 +23,18 @@ pub record Lemma : Type 0 where
 -- a lemma holds over the declarations before it
 abbrev pub LemmaHolds : Lemma → Type 0
 LemmaHolds l = Holds (declared l.before) l.statement
+
+-- A lemma that is proved: the declarations before it are typed, and its statement is in them; and it holds.
+pub record IsProved (l : Lemma) : Type 0 where
+  pub scope : IsTypedScope l.before
+  pub typed : IsTypedSequent l.before l.statement
+  pub holds : LemmaHolds l
+
+-- What a lemma promises: the declarations before it have a model, so that it doesn't hold for want of one; and where it is an
+-- equivalence of two procedures, there are couplings of their outputs, in each model and from all related memories.
+pub record IsPromise (l : Lemma) : Type 0 where
+  pub model : HasModel l.before
+  pub coupled : (f h : ProcRef) (P Q : Term) → l.statement ≡ alone (equivalence f h P Q) → AreCoupledInEachModel l.before f h P Q
 
 -- what is declared under a name, after other declarations, and further lemmas
 abbrev pub with_entry : Declarations → Name → Entry → List Lemma → List Lemma
@@ -34,7 +50,15 @@ lemmas_in before (d ∷ ds) = with_entry before d.0 d.1 (lemmas_in (before ++ d 
 abbrev pub names_of : List Lemma → List Name
 names_of ls = map (λ l. l.name) ls
 
--- The lemmas that a session names are those of its scope, in their order, and each holds.
+-- The lemmas that a session names are those of its scope, in their order, and each is proved.
 pub record AllHold (s : Session) : Type 0 where
   pub names : names_of (lemmas_in [] s.scope) ≡ s.lemmas
-  pub hold : AllByRecursion LemmaHolds (lemmas_in [] s.scope)
+  pub proved : AllByRecursion IsProved (lemmas_in [] s.scope)
+
+-- What is promised of the session that an accepted script comes to: its scope is typed, so that each name is declared once, and
+-- sound; its lemmas are proved, and keep their promises.
+pub record IsPromised (s : Session) : Type 0 where
+  pub typed : IsTypedScope s.scope
+  pub sound : IsSound (declared s.scope)
+  pub lemmas : AllHold s
+  pub promises : AllByRecursion IsPromise (lemmas_in [] s.scope)

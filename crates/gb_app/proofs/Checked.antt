@@ -11,7 +11,7 @@ use Rattle.gb_elab.specs.Answers.{Answer}
 use Rattle.gb_elab.specs.Answers.Answer.{given, refused}
 use Rattle.gb_verdict.specs.Session.{Session}
 use Rattle.gb_verdict.specs.Verdict.{IsOutcome}
-use Rattle.gb_accepted.proofs.Accepted.{lemmas_hold}
+use Rattle.gb_accepted.proofs.Accepted.{all_promised}
 use Rattle.gb_theory.specs.declared.verdict.Verdict.{Verdict}
 use Rattle.gb_theory.specs.declared.verdict.Verdict.TheVariants.{Accepted, Refused}
 use Rattle.gb_theory.specs.Verdicts.{verdict_of}
@@ -40,7 +40,7 @@ of_text held file text ls h (given s) o e = record {
   session = s;
   read = h;
   outcome = o;
-  lemmas = lemmas_hold text s o;
+  promised = all_promised text s o;
   names = ap (report_of file) e;
 }
 of_text held file text ls h (refused w p) o e = absurd (cc)

@@ -8,7 +8,7 @@ use Rattle.gb_outside.specs.declared.whole.ReadRefused.TheVariants as read
 use Rattle.gb_elab.specs.Answers.Answer.{given}
 use Rattle.gb_verdict.specs.Session.{Session}
 use Rattle.gb_verdict.specs.Verdict.{start, IsOutcome}
-use Rattle.gb_accepted.specs.Holding.{AllHold}
+use Rattle.gb_accepted.specs.Holding.{IsPromised}
 use Rattle.gb_theory.specs.declared.verdict.Verdict.{Verdict}
 use Rattle.gb_theory.specs.declared.verdict.Verdict.TheVariants.{Accepted, Refused}
 use Rattle.gb_theory.specs.Verdicts.{IsVerdict}
@@ -33,12 +33,12 @@ IsVerdictOn (Err _) v = ⊥
 abbrev pub IsVerdictFor : Held → List ℕ → Verdict → Type 0
 IsVerdictFor held file v = (r : Result (List ℕ) ReadRefused) × IsRead held file r × IsVerdictOn r v
 
--- The file of this name is accepted with this report: its text comes to a session whose lemmas all hold, and the report
--- names them.
+-- The file of this name is accepted with this report: its text comes to a session of which all is kept that is promised, that each
+-- of its lemmas holds among it; and the report names the lemmas.
 pub record IsAccepted (held : Held) (file : List ℕ) (report : List ℕ) : Type 0 where
   pub text : List ℕ
   pub session : Session
   pub read : IsRead held file (Ok text)
   pub outcome : IsOutcome text (given session)
-  pub lemmas : AllHold session
+  pub promised : IsPromised session
   pub names : report ≡ report_of file (Accepted session.lemmas)

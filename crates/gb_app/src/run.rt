@@ -44,7 +44,7 @@ pub fn run<F: Files, I: Source, K: Sink>(
     ensures verdict { IfSome (F.held files.old) (λ held. IfSome (file_of (map string_bytes words.now)) (λ file.
         (verdict : Verdict) → IsVerdictFor (Some held) file verdict → EndsBy (status_of verdict) result)) }
 
-    // Each lemma of an accepted script holds.
+    // The scope of an accepted script is typed and sound, and each lemma holds and keeps its promise.
     ensures accepted { result ≡ Status.Accepted → IfSome (file_of (map string_bytes words.now)) (λ file.
         (report : List ℕ) × IsAccepted (F.held files.old) file report
         × Appends (K.written out.old) (K.written out.new) report) }
@@ -66,6 +66,8 @@ pub fn run<F: Files, I: Source, K: Sink>(
     ensures silent { (result ≡ Status.Missing) ⊎ (result ≡ Status.ReadFault) ⊎ (result ≡ Status.NoMemory) →
         K.written out.new ≡ K.written out.old }
     ensures unchanged { F.held files.new ≡ F.held files.old }
+    // Standard input is left alone.
+    ensures input { _input.new ≡ _input.old }
 {
     match file_to_check(words) {
         None => match write_all(out, USAGE) {

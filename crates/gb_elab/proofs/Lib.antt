@@ -1,4 +1,5 @@
 pub mod Answers
+pub mod Nodes
 pub mod Elaborated
 pub mod Parts
 pub mod Spellings

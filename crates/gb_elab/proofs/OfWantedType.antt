@@ -1,7 +1,6 @@
 -- What is typed has the wanted type.
-use Rattle.std.proofs.Common.{◌≡◌, ℕ, Bool, true, false, not, ◌&&◌, if◌then◌else◌, List, [], ◌∷◌, ◌++◌, reverse, Option, Some, None, Result, Ok, Err, IfOk, is_none, refl, ap, sym, subst, ◌∙◌}
+use Rattle.std.proofs.Common.{◌≡◌, ℕ, Bool, true, false, not, ◌&&◌, if◌then◌else◌, List, [], ◌∷◌, ◌++◌, reverse, Option, Some, None, is_none, refl, ap, sym, subst, ◌∙◌}
 use Rattle.gb_core.specs.declared.place.Place.{Place}
-use Rattle.gb_core.specs.declared.refusal.Refused.{Refused}
 use Rattle.gb_core.specs.declared.refusal.Why.{Why}
 use Rattle.gb_core.specs.declared.refusal.Why.TheVariants.{Syntax, TypeMismatch, Argument}
 use Rattle.gb_core.specs.declared.ty.Ty.{Ty}
@@ -24,13 +23,13 @@ use Rattle.gb_script.specs.declared.tree.Node.{Node}
 use Rattle.gb_script.specs.Tree.{head_of, text_of, parts_of, place_of}
 use Rattle.gb_elab.specs.declared.binders.Quantifier.{Quantifier}
 use Rattle.gb_elab.specs.declared.binders.Quantifier.TheVariants.{Forall, Exists}
-use Rattle.gb_elab.specs.Answers.{Answer, ◌>>=◌, Answers, HasType, fits, truth, type_of_term, wanted}
+use Rattle.gb_elab.specs.Answers.{Answer, ◌>>=◌, HasType, fits, truth, type_of_term, wanted}
 use Rattle.gb_elab.specs.Answers.Answer.{given, refused}
 use Rattle.gb_elab.specs.Environment.{Environment, on_side}
-use Rattle.gb_elab.specs.Forms.{Typing, typing, elaborated, with_typings, bare, binary, bound_by, coin, comparison, equalities, equality, equation, equation_of, equivalence, formula, has_judgments, is_program, joined, judgment, left_side, negated, over, over_all, quantified, quantifier_of, read, under, wants_distribution, with_equalities, with_right_side}
+use Rattle.gb_elab.specs.Forms.{Typing, typing, elaborated, bare, binary, bound_by, coin, comparison, equalities, equality, equation, equation_of, equivalence, formula, has_judgments, is_program, joined, judgment, left_side, negated, over, over_all, quantified, quantifier_of, read, under, wants_distribution, with_equalities, with_right_side}
 use Rattle.gb_elab.specs.Judgments.{Named, both_procedures, before, after, equivalent}
 use Rattle.gb_elab.specs.Names.{named, path, sided, unit}
-use Rattle.gb_elab.proofs.Elaborated.{by_forms, forms, Known}
+use Rattle.gb_elab.proofs.Nodes.{said, Known, parts, by_parts}
 
 refused_not : {A : Type 0} (w : Why) (p : Place) (y : A) → refused w p ≡ given y → (C : Type 0) → C
 refused_not w p y h C = cc
@@ -132,40 +131,48 @@ coin_type at w p u h =
 abbrev pub HasTypes : Typing → Type 0
 HasTypes f = (at : Environment) (bound : List TypedName) (w : Option Ty) (u : Term) → f at bound w ≡ given u → HasType w u
 
-binary_has : (o : Op) (ts : List Node) (p : Place) → HasTypes (binary o (with_typings ts) p)
+-- a form, with what is known of it
+abbrev Form : Type 0
+Form = Known typing HasTypes
+
+abbrev typings : List Form → List (Node × Typing)
+typings = parts typing HasTypes
+
+binary_has : (o : Op) (ts : List (Node × Typing)) (p : Place) → HasTypes (binary o ts p)
 binary_has o (a ∷ b ∷ []) p at bound w u h =
-    let q = given_bind (truth w p) (λ _. left_side o p (elaborated a at bound) >>= λ l. with_right_side o l (elaborated b at bound)) u h in
-    let l = given_bind (left_side o p (elaborated a at bound)) (λ l. with_right_side o l (elaborated b at bound)) u q.2 in
-    let r = given_bind (elaborated b at bound (Some (type_of_term l.0))) (λ r. given (applied o (l.0 ∷ r ∷ []) bool_ty)) u l.2 in
+    let q = given_bind (truth w p) (λ _. left_side o p (a.1 at bound) >>= λ l. with_right_side o l (b.1 at bound)) u h in
+    let l = given_bind (left_side o p (a.1 at bound)) (λ l. with_right_side o l (b.1 at bound)) u q.2 in
+    let r = given_bind (b.1 at bound (Some (type_of_term l.0))) (λ r. given (applied o (l.0 ∷ r ∷ []) bool_ty)) u l.2 in
     truth_has w p q.0 u q.1 (given_node (Builtin o) (l.0 ∷ r.0 ∷ []) bool_ty u r.2)
 binary_has o _ p at bound w u h = refused_not Syntax p u h (HasType w u)
 
-equivalence_has : (ts : List Node) (p : Place) → HasTypes (equivalence (with_typings ts) p)
+equivalence_has : (ts : List (Node × Typing)) (p : Place) → HasTypes (equivalence ts p)
 equivalence_has (f ∷ g ∷ a ∷ b ∷ []) p at bound w u h =
     let end = λ (both : Named × Named) (pre post : Term). given (equivalent both.0.0 both.1.0 pre post) in
-    let on_post = λ (both : Named × Named) (pre : Term). elaborated b (after at both.0.1 both.1.1) bound (Some bool_ty) >>= λ post. end both pre post in
-    let on_pre = λ (both : Named × Named). elaborated a (before at both.0.1 both.1.1) bound (Some bool_ty) >>= λ pre. on_post both pre in
-    let q = given_bind (judgment at w p) (λ _. both_procedures at bound f g p >>= on_pre) u h in
-    let m = given_bind (both_procedures at bound f g p) on_pre u q.2 in
-    let pre = given_bind (elaborated a (before at m.0.0.1 m.0.1.1) bound (Some bool_ty)) (λ pre. on_post m.0 pre) u m.2 in
-    let post = given_bind (elaborated b (after at m.0.0.1 m.0.1.1) bound (Some bool_ty)) (λ post. end m.0 pre.0 post) u pre.2 in
+    let on_post = λ (both : Named × Named) (pre : Term). b.1 (after at both.0.1 both.1.1) bound (Some bool_ty) >>= λ post. end both pre post in
+    let on_pre = λ (both : Named × Named). a.1 (before at both.0.1 both.1.1) bound (Some bool_ty) >>= λ pre. on_post both pre in
+    let q = given_bind (judgment at w p) (λ _. both_procedures at bound f.0 g.0 p >>= on_pre) u h in
+    let m = given_bind (both_procedures at bound f.0 g.0 p) on_pre u q.2 in
+    let pre = given_bind (a.1 (before at m.0.0.1 m.0.1.1) bound (Some bool_ty)) (λ pre. on_post m.0 pre) u m.2 in
+    let post = given_bind (b.1 (after at m.0.0.1 m.0.1.1) bound (Some bool_ty)) (λ post. end m.0 pre.0 post) u pre.2 in
     judgment_has at w p q.0 u q.1 (given_node (Equiv (procedure m.0.0.0) (procedure m.0.1.0)) (pre.0 ∷ post.0 ∷ []) bool_ty u post.2)
 equivalence_has _ p at bound w u h = refused_not Syntax p u h (HasType w u)
 
-quantified_has : (x : List ℕ) (ks : List (Known HasTypes)) (p : Place) → HasTypes (quantified x (with_typings (forms HasTypes ks)) p)
+quantified_has : (x : List ℕ) (ks : List Form) (p : Place) → HasTypes (quantified x (typings ks) p)
 quantified_has x (bs ∷ a ∷ []) p at bound w u h =
-    let k = given_bind (quantifier_of x p) (λ k. formula at w p >>= λ _. bound_by [] (parts_of bs.0) >>= λ vs. under k vs bound (elaborated a.0 at)) u h in
-    let f = given_bind (formula at w p) (λ _. bound_by [] (parts_of bs.0) >>= λ vs. under k.0 vs bound (elaborated a.0 at)) u k.2 in
-    let vs = given_bind (bound_by [] (parts_of bs.0)) (λ vs. under k.0 vs bound (elaborated a.0 at)) u f.2 in
-    let r = given_bind (elaborated a.0 at (reverse vs.0 ++ bound) (Some bool_ty)) (λ t. given (over_all k.0 vs.0 t)) u vs.2 in
-    formula_has at w p f.0 u f.1 (quantified_type k.0 vs.0 r.0 u r.2 (a.1 at (reverse vs.0 ++ bound) (Some bool_ty) r.0 r.1))
+    let f = said typing a.0 in
+    let k = given_bind (quantifier_of x p) (λ k. formula at w p >>= λ _. bound_by [] (parts_of bs.0) >>= λ vs. under k vs bound (f at)) u h in
+    let q = given_bind (formula at w p) (λ _. bound_by [] (parts_of bs.0) >>= λ vs. under k.0 vs bound (f at)) u k.2 in
+    let vs = given_bind (bound_by [] (parts_of bs.0)) (λ vs. under k.0 vs bound (f at)) u q.2 in
+    let r = given_bind (f at (reverse vs.0 ++ bound) (Some bool_ty)) (λ t. given (over_all k.0 vs.0 t)) u vs.2 in
+    formula_has at w p q.0 u q.1 (quantified_type k.0 vs.0 r.0 u r.2 (a.1 at (reverse vs.0 ++ bound) (Some bool_ty) r.0 r.1))
 quantified_has x _ p at bound w u h = refused_not Syntax p u h (HasType w u)
 
-of_parts : (h : Head) (x : List ℕ) (ks : List (Known HasTypes)) (p : Place) → HasTypes (typing h x (with_typings (forms HasTypes ks)) p)
+of_parts : (h : Head) (x : List ℕ) (ks : List Form) (p : Place) → HasTypes (typing h x (typings ks) p)
 unfolding typing
 of_parts head.Name x ks p at bound w u h = let q = given_bind (named at bound x p) (wanted w p) u h in wanted_has w p q.0 u q.2
 of_parts head.Path x ks p at bound w u h =
-    let q = given_bind (named at bound (path (bare (with_typings (forms HasTypes ks)))) p) (wanted w p) u h in wanted_has w p q.0 u q.2
+    let q = given_bind (named at bound (path (bare (typings ks))) p) (wanted w p) u h in wanted_has w p q.0 u q.2
 of_parts head.Unit x ks p at bound w u h = wanted_has w p unit u h
 of_parts head.Bracketed x (a ∷ []) p at bound w u h = a.1 at bound w u h
 of_parts head.Sided x (a ∷ s ∷ []) p at bound w u h =
@@ -174,31 +181,24 @@ of_parts head.Coin x ks p at bound w u h = coin_type at w p u h
 of_parts head.Function x ks p at bound w u h = refused_not TypeMismatch p u h (HasType w u)
 of_parts head.TypedFunction x ks p at bound w u h = refused_not TypeMismatch p u h (HasType w u)
 of_parts head.Not x (a ∷ []) p at bound w u h =
-    let q = given_bind (truth w p) (λ _. negated (elaborated a.0 at bound)) u h in
-    let r = given_bind (elaborated a.0 at bound (Some bool_ty)) (λ t. given (applied op.Not (t ∷ []) bool_ty)) u q.2 in
+    let f = said typing a.0 at bound in
+    let q = given_bind (truth w p) (λ _. negated f) u h in
+    let r = given_bind (f (Some bool_ty)) (λ t. given (applied op.Not (t ∷ []) bool_ty)) u q.2 in
     truth_has w p q.0 u q.1 (given_node (Builtin op.Not) (r.0 ∷ []) bool_ty u r.2)
-of_parts head.And x ks p at bound w u h = binary_has op.And (forms HasTypes ks) p at bound w u h
-of_parts head.Or x ks p at bound w u h = binary_has op.Or (forms HasTypes ks) p at bound w u h
-of_parts head.Implies x ks p at bound w u h = binary_has op.Implies (forms HasTypes ks) p at bound w u h
-of_parts head.Iff x ks p at bound w u h = binary_has op.Iff (forms HasTypes ks) p at bound w u h
+of_parts head.And x ks p at bound w u h = binary_has op.And (typings ks) p at bound w u h
+of_parts head.Or x ks p at bound w u h = binary_has op.Or (typings ks) p at bound w u h
+of_parts head.Implies x ks p at bound w u h = binary_has op.Implies (typings ks) p at bound w u h
+of_parts head.Iff x ks p at bound w u h = binary_has op.Iff (typings ks) p at bound w u h
 of_parts head.Compared x ks p at bound w u h =
-    let q = given_bind (comparison x p) (λ o. binary o (with_typings (forms HasTypes ks)) p at bound w) u h in
-    binary_has q.0 (forms HasTypes ks) p at bound w u q.2
+    let q = given_bind (comparison x p) (λ o. binary o (typings ks) p at bound w) u h in
+    binary_has q.0 (typings ks) p at bound w u q.2
 of_parts head.Equalities x ks p at bound w u h =
-    let q = given_bind (truth w p) (λ _. equalities at bound (bare (with_typings (forms HasTypes ks))) p) u h in
-    truth_has w p q.0 u q.1 (equalities_type at bound (bare (with_typings (forms HasTypes ks))) p u q.2)
+    let q = given_bind (truth w p) (λ _. equalities at bound (bare (typings ks)) p) u h in
+    truth_has w p q.0 u q.1 (equalities_type at bound (bare (typings ks)) p u q.2)
 of_parts head.Quantified x ks p at bound w u h = quantified_has x ks p at bound w u h
-of_parts head.Equiv x ks p at bound w u h = equivalence_has (forms HasTypes ks) p at bound w u h
+of_parts head.Equiv x ks p at bound w u h = equivalence_has (typings ks) p at bound w u h
 of_parts _ x ks p at bound w u h = refused_not Syntax p u h (HasType w u)
 
 pub elaborated_type : (t : Node) → HasTypes (elaborated t)
-elaborated_type = by_forms HasTypes of_parts
-
-pub typed_as_type : (t : Node) (at : Environment) (bound : List TypedName) (ty : Ty) (u : Term) → elaborated t at bound (Some ty) ≡ given u → type_of_term u ≡ ty
-typed_as_type t at bound ty u h = elaborated_type t at bound (Some ty) u h
-
--- the same of what a function returned
-pub answers_type : (t : Node) (at : Environment) (bound : List TypedName) (ty : Ty) (r : Result Term Refused)
-    → Answers (elaborated t at bound (Some ty)) r → IfOk r (λ u. type_of_term u ≡ ty)
-answers_type t at bound ty (Ok u) h = typed_as_type t at bound ty u h
-answers_type t at bound ty (Err e) h = tt
+unfolding elaborated
+elaborated_type = by_parts typing HasTypes of_parts

@@ -2,7 +2,6 @@
 
 ghost use Rattle.std.specs.Prelude.{◌≡◌, [], Some, MatchResult, bytes_eq};
 ghost use Rattle.std.specs.List.{list_any};
-ghost use Rattle.gb_script.specs.Tree.{text_of};
 ghost use Rattle.gb_core.specs.declared.ty.Ty.TheVariants.{Distr};
 ghost use Rattle.gb_elab.specs.Answers.{Answers, Fails, Gives};
 ghost use Rattle.gb_elab.specs.Answers.Answer.{given};

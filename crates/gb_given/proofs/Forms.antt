@@ -25,7 +25,7 @@ use Rattle.gb_elab.specs.Names.{named, path, unit}
 use Rattle.gb_ready.proofs.Linked.{typed_procedure}
 use Rattle.gb_given.specs.Fitting.{IsFitting, IsGiven}
 use Rattle.gb_given.proofs.Given.{given_bind, given_is, if_allowed, if_refused, one_of}
-use Rattle.gb_given.proofs.Nodes.{by_parts}
+use Rattle.gb_elab.proofs.Nodes.{by_parts}
 use Rattle.gb_given.proofs.Typed.{leaf, truth_given, wanted_given, of_given}
 use Rattle.gb_given.proofs.Leaves.{named_typed, read_typed, unit_typed}
 use Rattle.gb_given.proofs.Equations.{IsConnective, connected_typed, negated_typed, equalities_typed}

@@ -14,7 +14,7 @@ use Rattle.gb_elab.specs.Environment.{Environment}
 use Rattle.gb_elab.specs.Forms.{FunctionTyping, function_typing, function, of_type, only, value_of, written_as}
 use Rattle.gb_given.specs.Fitting.{IsFitting, IsGiven, one_value}
 use Rattle.gb_given.proofs.Given.{given_bind}
-use Rattle.gb_given.proofs.Nodes.{by_parts}
+use Rattle.gb_elab.proofs.Nodes.{by_parts}
 use Rattle.gb_given.proofs.Forms.{elaborated_typed}
 
 -- a typing of functions gives typed terms

@@ -1,4 +1,3 @@
-pub mod Nodes
 pub mod Given
 pub mod Types
 pub mod Found

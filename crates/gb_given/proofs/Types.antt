@@ -27,7 +27,7 @@ use Rattle.gb_elab.specs.Forms.{is_distribution, is_distribution_layer}
 use Rattle.gb_elab.specs.Types.{Spelling, spelling, spelled, type_of}
 use Rattle.gb_ready.proofs.Procedures.{variable_finite}
 use Rattle.gb_given.proofs.Given.{one_of}
-use Rattle.gb_given.proofs.Nodes.{by_parts}
+use Rattle.gb_elab.proofs.Nodes.{by_parts}
 
 -- a type of variables is none of distributions
 pub no_distribution : (t : Ty) → IsVariableType t → IsNoDistribution t

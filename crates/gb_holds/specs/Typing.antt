@@ -109,8 +109,11 @@ AreArguments g c (e ∷ es) (p ∷ ps) = IsTypedTerm g c e × (written_type e �
 AreArguments g c _ _ = ⊥
 
 abbrev mutual
-  -- a type of variables: no whole numbers, fractions or distributions, and no values of all globals of a module
+  -- A type of variables: no whole numbers, fractions or distributions, and no values of all globals of a module. Each
+  -- modular type in it and each enumeration has a value.
   pub IsPlain : Ty → Type 0
+  IsPlain (ty.Mod n) = 0 < n
+  IsPlain (ty.Enumeration name n) = 0 < n
   IsPlain (ty.Tuple' n ts) = ArePlain ts
   IsPlain (ty.Opt' p x) = ArePlain x
   IsPlain (ty.Map' p k q x) = ArePlain k × ArePlain x

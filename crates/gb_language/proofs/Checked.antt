@@ -6,7 +6,10 @@ use Rattle.gb_language.specs.declared.bodies.TheConstants.{SYMBOLS}
 use Rattle.gb_language.specs.Claims.{claims}
 use Rattle.gb_grammar.specs.Grammar.{grammar_of}
 use Rattle.gb_language.specs.Sorts.{part_sorts, signatures}
+use Rattle.gb_language.specs.Spelling.{spelling}
+use Rattle.gb_language.specs.Language.{still_kinds}
 use Rattle.gb_script.specs.Acts.{sorts_ok}
+use Rattle.gb_script.specs.Spelled.{spellings_ok, still_ok}
 use Rattle.gb_grammar.specs.Check.{productions_ok, places_ok, grammar_ok}
 use Rattle.gb_grammar.proofs.Bodies.{bodies, in_order, grammar_with, grammar_passes}
 
@@ -34,5 +37,17 @@ goals_pass = grammar_passes 1 SYMBOLS (claims 1) PLACES ROWS ordered goals_produ
 pub scripts_sorted : sorts_ok signatures part_sorts (grammar_of 0 ROWS SYMBOLS) ≡ true
 scripts_sorted = refl
 
+pub scripts_spelled : spellings_ok spelling (grammar_of 0 ROWS SYMBOLS) ≡ true
+scripts_spelled = refl
+
+pub scripts_still : still_ok signatures part_sorts still_kinds (grammar_of 0 ROWS SYMBOLS) ≡ true
+scripts_still = refl
+
 pub goals_sorted : sorts_ok signatures part_sorts (grammar_of 1 ROWS SYMBOLS) ≡ true
 goals_sorted = refl
+
+pub goals_spelled : spellings_ok spelling (grammar_of 1 ROWS SYMBOLS) ≡ true
+goals_spelled = refl
+
+pub goals_still : still_ok signatures part_sorts still_kinds (grammar_of 1 ROWS SYMBOLS) ≡ true
+goals_still = refl

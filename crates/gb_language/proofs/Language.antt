@@ -13,14 +13,16 @@ use Rattle.gb_grammar.proofs.Outcomes.{outcome}
 use Rattle.gb_grammar.proofs.Unique.{unique}
 use Rattle.gb_language.specs.declared.rows.TheConstants.{SCRIPTS, GOALS, COMMAND, FORM, ENTRY, HYPOTHESIS}
 use Rattle.gb_script.specs.declared.action.Rule.{Rule}
-use Rattle.gb_language.specs.Language.{all_rows, all_symbols, all_places, claimed, language, goal_language, IsPart, IsLine, IsTextTree, IsLineTree, tree_sort, node_signatures, value_sorts, IsSorted}
-use Rattle.gb_language.proofs.Checked.{scripts_pass, goals_pass, scripts_sorted, goals_sorted}
+use Rattle.gb_language.specs.Language.{all_rows, all_symbols, all_places, claimed, language, goal_language, IsPart, IsLine, IsTextTree, IsLineTree, tree_sort, node_signatures, node_spelling, still_kinds, value_sorts, IsSorted, IsTreeSpelled}
+use Rattle.gb_language.proofs.Checked.{scripts_pass, goals_pass, scripts_sorted, goals_sorted, scripts_spelled, goals_spelled, scripts_still, goals_still}
 use Rattle.gb_script.specs.declared.text.Text.{Text}
 use Rattle.gb_script.specs.declared.tree.Node.{Node}
 use Rattle.gb_script.specs.Build.{built}
 use Rattle.gb_script.specs.Sorts.{one}
 use Rattle.gb_script.specs.Acts.{sorts_ok}
-use Rattle.gb_script.proofs.Sorted.{same_tree, trees_sorted}
+use Rattle.gb_script.specs.Spelled.{spellings_ok, still_ok}
+use Rattle.gb_script.proofs.Sorted.{one_sorted, same_tree, trees_sorted}
+use Rattle.gb_script.proofs.Spelled.{tree_spelled}
 
 -- The table passes the test of a stage.
 abbrev pub Passes : ℕ → List ℕ → List (Row Rule) → List Symbol → Type 0
@@ -156,8 +158,42 @@ one_text_tree part kinds t x y ready h p q = same_tree (built t q.0) x y (ap (λ
 pub one_line_tree : (part : ℕ) (kinds : List ℕ) (t : Text) (x y : Node) → IsLine part → All IsKind kinds → IsLineTree part kinds t x → IsLineTree part kinds t y → x ≡ y
 one_line_tree part kinds t x y ready h p q = same_tree (built t q.0) x y (ap (λ (l : List (Step Rule)). built t l) (sym (one_line_derivation part kinds p.0 q.0 ready h p.1 q.1)) ∙ p.2) q.2
 
+pub text_spells : (part : ℕ) (kinds : List ℕ) (t : Text) (steps : List (Step Rule)) → IsPart part → Spells language part kinds steps → (x : Node) × IsTextTree part kinds t x
+text_spells part kinds t steps ready d =
+    let o = one_sorted node_signatures t value_sorts language text_acts part (tree_sort part) (text_tree part ready) kinds steps d in
+    (o.0, (steps, d, o.1))
+
+pub line_spells : (part : ℕ) (kinds : List ℕ) (t : Text) (steps : List (Step Rule)) → IsLine part → Spells goal_language part kinds steps → (x : Node) × IsLineTree part kinds t x
+line_spells part kinds t steps ready d =
+    let o = one_sorted node_signatures t value_sorts goal_language line_acts part (tree_sort part) (line_tree part ready) kinds steps d in
+    (o.0, (steps, d, o.1))
+
 pub text_sorted : (part : ℕ) (kinds : List ℕ) (t : Text) (x : Node) → IsPart part → IsTextTree part kinds t x → IsSorted part x
 text_sorted part kinds t x ready d = trees_sorted node_signatures value_sorts language text_acts part (tree_sort part) (text_tree part ready) kinds t x d
 
 pub line_sorted : (part : ℕ) (kinds : List ℕ) (t : Text) (x : Node) → IsLine part → IsLineTree part kinds t x → IsSorted part x
 line_sorted part kinds t x ready d = trees_sorted node_signatures value_sorts goal_language line_acts part (tree_sort part) (line_tree part ready) kinds t x d
+
+-- The texts of nodes are those of tokens of the kinds that are said, and so are the places of nodes that stay.
+
+spells_texts : spellings_ok node_spelling language ≡ true
+unfolding language all_rows all_symbols node_spelling
+spells_texts = scripts_spelled
+
+spells_lines : spellings_ok node_spelling goal_language ≡ true
+unfolding goal_language all_rows all_symbols node_spelling
+spells_lines = goals_spelled
+
+text_stays : still_ok node_signatures value_sorts still_kinds language ≡ true
+unfolding language all_rows all_symbols node_signatures value_sorts
+text_stays = scripts_still
+
+line_stays : still_ok node_signatures value_sorts still_kinds goal_language ≡ true
+unfolding goal_language all_rows all_symbols node_signatures value_sorts
+line_stays = goals_still
+
+pub text_spelled : (part : ℕ) (kinds : List ℕ) (t : Text) (x : Node) → IsTextTree part kinds t x → IsTreeSpelled kinds t x
+text_spelled = tree_spelled node_signatures value_sorts node_spelling still_kinds language text_acts spells_texts text_stays
+
+pub line_spelled : (part : ℕ) (kinds : List ℕ) (t : Text) (x : Node) → IsLineTree part kinds t x → IsTreeSpelled kinds t x
+line_spelled = tree_spelled node_signatures value_sorts node_spelling still_kinds goal_language line_acts spells_lines line_stays

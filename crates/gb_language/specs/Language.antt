@@ -1,5 +1,5 @@
 -- The languages that are read.
-use Rattle.std.specs.Prelude.{◌≡◌, ℕ, List, ◌⊎◌, nat_eq, if◌then◌else◌}
+use Rattle.std.specs.Prelude.{◌≡◌, ℕ, List, [], ◌∷◌, ◌⊎◌, nat_eq, if◌then◌else◌}
 use Rattle.gb_grammar.specs.declared.table.Row.{Row}
 use Rattle.gb_grammar.specs.declared.table.Symbol.{Symbol}
 use Rattle.gb_grammar.specs.Check.{Claims}
@@ -8,10 +8,14 @@ use Rattle.gb_language.specs.declared.bodies.TheConstants.{SYMBOLS}
 use Rattle.gb_language.specs.declared.rows.TheConstants.{SCRIPTS, GOALS, ROWS, PLACES, COMMAND, FORM, ENTRY, HYPOTHESIS}
 use Rattle.gb_script.specs.declared.action.Rule.{Rule}
 use Rattle.gb_language.specs.Claims.{claims}
-use Rattle.gb_language.specs.Sorts.{command_sort, form_sort, bind_sort, hypothesis_sort, part_sorts, signatures}
+use Rattle.gb_language.specs.Spelling.{spelling}
+use Rattle.gb_language.specs.Sorts.{name_kind, number_kind, type_kind, command_sort, form_sort, bind_sort, hypothesis_sort, part_sorts, signatures}
+use Rattle.gb_script.specs.declared.head.Head.{Head}
 use Rattle.gb_script.specs.declared.text.Text.{Text}
 use Rattle.gb_script.specs.declared.tree.Node.{Node}
 use Rattle.gb_script.specs.Build.{IsTree}
+use Rattle.gb_script.specs.Each.{Each}
+use Rattle.gb_script.specs.Spelled.{IsSpelled}
 use Rattle.gb_script.specs.Sorts.{Sort, Language, ValueSort, Is}
 
 -- the rows of the table
@@ -67,6 +71,19 @@ value_sorts n = part_sorts n
 -- The tree is well-sorted, as those of the part.
 abbrev pub IsSorted : ℕ → Node → Type 0
 IsSorted part x = Is node_signatures (tree_sort part) x
+
+-- the kinds of token that spell the nodes of each head that has a text
+unfoldable pub node_spelling : Head → List ℕ
+node_spelling h = spelling h
+
+-- Names, numbers and types of one word stand where their tokens do.
+abbrev pub still_kinds : Sort
+still_kinds = name_kind ∷ number_kind ∷ type_kind ∷ []
+
+-- In a text with these kinds of token, the text of each node of the tree is that of a token of a kind of its head, and names,
+-- numbers and types stand at the token's place.
+abbrev pub IsTreeSpelled : List ℕ → Text → Node → Type 0
+IsTreeSpelled kinds t x = Each (IsSpelled node_signatures node_spelling still_kinds kinds t) x
 
 -- the part that a text is of, and its kinds of token
 pub record Of : Type 0 where

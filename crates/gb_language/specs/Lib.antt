@@ -1,3 +1,4 @@
 pub mod Claims
 pub mod Sorts
+pub mod Spelling
 pub mod Language

@@ -395,6 +395,9 @@ limit_sort = limit_kind ∷ []
 abbrev pub form_sort : Sort
 form_sort = name_kind ∷ number_kind ∷ path_kind ∷ memory_kind ∷ form_kind ∷ loop_kind ∷ []
 
+abbrev pub bracketed_sort : Sort
+bracketed_sort = form_kind ∷ []
+
 abbrev pub tail_sort : Sort
 tail_sort = implies_item_kind ∷ iff_item_kind ∷ chosen_kind ∷ []
 
@@ -1100,7 +1103,7 @@ sorts4 n =
 abbrev sorts5 : ℕ → List ValueSort
 sorts5 n =
     (if nat_lt n 88 then (if nat_lt n 84 then (if nat_lt n 82 then (if nat_lt n 81 then one form_sort ∷ []
-    else one form_sort ∷ [])
+    else one bracketed_sort ∷ [])
     else (if nat_lt n 83 then one bracket_sort ∷ []
     else one procedure_sort ∷ []))
     else (if nat_lt n 86 then (if nat_lt n 85 then one procedure_tail_sort ∷ []
@@ -1180,9 +1183,9 @@ sorts9 n =
     else (if nat_lt n 147 then one side_sort ∷ []
     else one form_sort ∷ []))
     else (if nat_lt n 150 then (if nat_lt n 149 then one form_sort ∷ []
-    else one form_sort ∷ [])
+    else one bracketed_sort ∷ [])
     else (if nat_lt n 151 then one bracket_sort ∷ []
-    else one form_sort ∷ [])))
+    else one bracketed_sort ∷ [])))
     else (if nat_lt n 156 then (if nat_lt n 154 then (if nat_lt n 153 then many (record { first = []; rest = form_sort }) ∷ []
     else many (record { first = form_sort ∷ []; rest = form_sort }) ∷ [])
     else (if nat_lt n 155 then many (record { first = []; rest = form_sort }) ∷ []

@@ -1,4 +1,4 @@
-// The table passes its tests, and so each text spells one tree at most, which is well-sorted.
+// The table passes its tests, and so each text spells one tree, which is well-sorted and has the texts of its tokens.
 
 ghost use Rattle.std.specs.Prelude.{◌≡◌, ℕ, List, true};
 ghost use Rattle.std.specs.List.{All};
@@ -7,7 +7,7 @@ ghost use Rattle.gb_grammar.specs.Check.{grammar_ok};
 ghost use Rattle.gb_grammar.specs.Reading.{IsKind, Spells, IsTextOrFault};
 ghost use Rattle.gb_script.specs.declared.action.Rule.{Rule};
 ghost use Rattle.gb_language.specs.Claims.{claims};
-ghost use Rattle.gb_language.specs.Language.{language, goal_language, IsPart, IsLine, IsTextTree, IsLineTree, IsSorted};
+ghost use Rattle.gb_language.specs.Language.{language, goal_language, IsPart, IsLine, IsTextTree, IsLineTree, IsSorted, IsTreeSpelled};
 ghost use Rattle.gb_script.specs.declared.text.Text.{Text};
 ghost use Rattle.gb_script.specs.declared.tree.Node.{Node};
 
@@ -43,8 +43,22 @@ pub fn trees_are_unique()
         IsLineTree part kinds t x → IsLineTree part kinds t y → x ≡ y }
 {}
 
+/// What is derived as a text of the language spells a tree, and so does a line of a goal.
+pub fn texts_spell_trees()
+    ensures texts { (part : ℕ) (kinds : List ℕ) (t : Text) (steps : List (Step Rule)) → IsPart part → Spells language part kinds steps →
+        (x : Node) × IsTextTree part kinds t x }
+    ensures lines { (part : ℕ) (kinds : List ℕ) (t : Text) (steps : List (Step Rule)) → IsLine part → Spells goal_language part kinds steps →
+        (x : Node) × IsLineTree part kinds t x }
+{}
+
 /// Trees have parts of the sorts that their heads say.
 pub fn trees_are_sorted()
     ensures texts { (part : ℕ) (kinds : List ℕ) (t : Text) (x : Node) → IsPart part → IsTextTree part kinds t x → IsSorted part x }
     ensures lines { (part : ℕ) (kinds : List ℕ) (t : Text) (x : Node) → IsLine part → IsLineTree part kinds t x → IsSorted part x }
+{}
+
+/// The text of each node of a tree is that of a token of a kind of its head; names and numbers stand at the token's place.
+pub fn texts_are_spelled()
+    ensures texts { (part : ℕ) (kinds : List ℕ) (t : Text) (x : Node) → IsTextTree part kinds t x → IsTreeSpelled kinds t x }
+    ensures lines { (part : ℕ) (kinds : List ℕ) (t : Text) (x : Node) → IsLineTree part kinds t x → IsTreeSpelled kinds t x }
 {}

@@ -3,3 +3,4 @@ pub mod CommentLemmas
 pub mod PieceLemmas
 pub mod PlaceLemmas
 pub mod LexLemmas
+mod Cuts

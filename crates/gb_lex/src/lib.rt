@@ -4,6 +4,7 @@
 pub mod byte;
 pub mod commands;
 pub mod comment;
+pub mod laws;
 pub mod lexing;
 pub mod piece;
 pub mod places;

@@ -2,5 +2,6 @@ mod AllKinds
 pub mod Digits
 mod Firsts
 pub mod Nesting
+mod Search
 pub mod Spans
 mod Spelled

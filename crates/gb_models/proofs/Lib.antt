@@ -1,4 +1,4 @@
 pub mod Falsehood
 pub mod Idle
-mod Models
-mod Promised
+pub mod Models
+pub mod Promised

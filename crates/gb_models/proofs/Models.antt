@@ -11,6 +11,7 @@ use Rattle.gb_holds.specs.Settings.{Table, Interpretation, types_of, declared_gl
 use Rattle.gb_holds.specs.Holds.{GiveResults, AxiomsAreTrue, IsModel, interpretation, declared_modules, Holds}
 use Rattle.gb_ready.specs.Goals.{AreTypedAfter, IsTypedScope}
 use Rattle.gb_models.specs.Falsehood.{falsehood}
+use Rattle.gb_models.specs.Promised.{HasModel}
 use Rattle.gb_models.proofs.Falsehood.{no_lemma}
 
 pub no_section : (ds : scope.Declarations) → declared_modules (declared ds) ≡ []
@@ -40,7 +41,7 @@ size n = 1
 table : Table
 table n = record { result = λ xs. nothing; denominator = 1 }
 
-pub model : (ds : scope.Declarations) → IsTypedScope ds → (w : World) × (size : Name → ℕ) × (table : Table) × IsModel (declared ds) (interpretation w size table)
+pub model : (ds : scope.Declarations) → IsTypedScope ds → HasModel ds
 unfolding size
 model ds t = (
   [],

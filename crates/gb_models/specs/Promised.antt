@@ -1,5 +1,5 @@
 -- What a lemma on two procedures promises, in the words of its publication.
-use Rattle.std.specs.Prelude.{[], ◌∷◌}
+use Rattle.std.specs.Prelude.{ℕ, [], ◌∷◌}
 use Rattle.gb_core.specs.declared.ty.Ty.TheVariants.{Bool as truths}
 use Rattle.gb_terms.specs.declared.module.ProcRef.{ProcRef}
 use Rattle.gb_terms.specs.declared.term.Term.{Term}
@@ -13,8 +13,14 @@ use Rattle.gb_meaning.specs.Setting.{Setting}
 use Rattle.gb_meaning.specs.State.{State, between}
 use Rattle.gb_meaning.specs.Judgments.{IsTrueIn, run_of, subject_denominator}
 use Rattle.gb_holds.specs.Declared.{declared}
-use Rattle.gb_holds.specs.Settings.{setting}
-use Rattle.gb_holds.specs.Holds.{context, InEachModel}
+use Rattle.gb_meaning.specs.Names.{Name}
+use Rattle.gb_meaning.specs.Values.{World}
+use Rattle.gb_holds.specs.Settings.{Table, setting}
+use Rattle.gb_holds.specs.Holds.{IsModel, context, interpretation, InEachModel}
+
+-- the declarations have a model
+abbrev pub HasModel : Declarations → Type 0
+HasModel ds = (w : World) × (size : Name → ℕ) × (table : Table) × IsModel (declared ds) (interpretation w size table)
 
 -- `equiv [f ~ h : P ==> Q]`
 abbrev pub equivalence : ProcRef → ProcRef → Term → Term → Term

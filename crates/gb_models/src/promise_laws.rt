@@ -1,23 +1,19 @@
 //! What lemmas that hold promise: their scope has a model, and equivalences give couplings.
 
-ghost use Rattle.std.specs.Prelude.{◌≡◌, ℕ, []};
+ghost use Rattle.std.specs.Prelude.{◌≡◌, []};
 ghost use Rattle.gb_terms.specs.declared.module.ProcRef.{ProcRef};
 ghost use Rattle.gb_terms.specs.declared.term.Term.{Term};
 ghost use Rattle.gb_goal.specs.Scope as scope;
 ghost use Rattle.gb_meaning.specs.Memory.{Memory};
-ghost use Rattle.gb_meaning.specs.Names.{Name};
-ghost use Rattle.gb_meaning.specs.Values.{World};
 ghost use Rattle.gb_holds.specs.Declared.{declared};
-ghost use Rattle.gb_holds.specs.Settings.{Table};
-ghost use Rattle.gb_holds.specs.Holds.{IsModel, interpretation, declared_modules, Holds};
+ghost use Rattle.gb_holds.specs.Holds.{declared_modules, Holds};
 ghost use Rattle.gb_ready.specs.Goals.{IsTypedScope, IsTypedSequent};
 ghost use Rattle.gb_models.specs.Falsehood.{falsehood};
-ghost use Rattle.gb_models.specs.Promised.{equivalence, alone, AreCoupledInEachModel};
+ghost use Rattle.gb_models.specs.Promised.{HasModel, equivalence, alone, AreCoupledInEachModel};
 
 /// A typed scope has a model and no open section, so no lemma holds in it for want of one: `false` doesn't.
 pub fn typed_scopes_have_models()
-    ensures model { (ds : scope.Declarations) → IsTypedScope ds →
-        (w : World) × (size : Name → ℕ) × (table : Table) × IsModel (declared ds) (interpretation w size table) }
+    ensures model { (ds : scope.Declarations) → IsTypedScope ds → HasModel ds }
     ensures no_section { (ds : scope.Declarations) → declared_modules (declared ds) ≡ [] }
     ensures no_falsehood { (ds : scope.Declarations) → IsTypedScope ds → ¬ (Holds (declared ds) falsehood) }
 {}

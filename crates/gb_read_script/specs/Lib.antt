@@ -2,3 +2,4 @@ pub mod Goal
 pub mod GoalLines
 pub mod Line
 pub mod Reading
+pub mod Words

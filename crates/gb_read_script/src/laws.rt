@@ -1,18 +1,26 @@
 // Laws of what texts spell, and of why they are refused.
 
-ghost use Rattle.std.specs.Prelude.{◌≡◌, ℕ, List};
+ghost use Rattle.std.specs.Prelude.{◌≡◌, ◌⊎◌, ℕ, List};
 ghost use Rattle.gb_core.specs.declared.place.Place.{Place};
 ghost use Rattle.gb_core.specs.declared.refusal.Why.{Why};
 ghost use Rattle.gb_script.specs.declared.text.Text.{Text};
 ghost use Rattle.gb_script.specs.declared.tree.Node.{Node};
+ghost use Rattle.gb_script.specs.Each.{Each};
 ghost use Rattle.gb_language.specs.Language.{IsPart};
+ghost use Rattle.gb_limits.specs.Numbers.{NoneOverflow};
+ghost use Rattle.gb_read_script.specs.declared.goal_lines.ReadLine.{ReadLine};
 ghost use Rattle.gb_read_script.specs.declared.goal_tree.SequentTree.{SequentTree};
-ghost use Rattle.gb_read_script.specs.Goal.{SpellsGoal, IsSortedGoal, IsGoalRefusal, IsGoalAllowed};
-ghost use Rattle.gb_read_script.specs.Reading.{SpellsCommand, SpellsForm, IsRefusal, IsAllowed};
+ghost use Rattle.gb_read_script.specs.Goal.{goal_text, IsTreeOf, SpellsGoal, IsSortedGoal, IsGoalRefusal, IsGoalAllowed};
+ghost use Rattle.gb_read_script.specs.Reading.{SpellsTree, SpellsCommand, SpellsForm, IsRefusal, IsAllowed};
+ghost use Rattle.gb_read_script.specs.Words.{IsWord, IsInRange, IsGoalInRange};
 
 use gb_grammar::laws::{first_faults_are_unique, steps_before_are_unique};
-use gb_language::laws::{steps_are_unique, trees_are_sorted, trees_are_unique};
-use gb_limits::laws::{first_places_are_unique, kinds_are_kinds};
+use gb_language::laws::{
+    each_text_or_fault, steps_are_unique, texts_are_spelled, texts_spell_trees, trees_are_sorted,
+    trees_are_unique,
+};
+use gb_lex::laws::each_fault_has_a_place;
+use gb_limits::laws::{first_places_are_unique, kinds_are_kinds, none_or_a_first_place};
 use gb_script::action::Rule;
 
 /// A text spells one command at most.
@@ -44,6 +52,17 @@ pub fn refusals_are_unique()
     first_places_are_unique();
 }
 
+/// A text of a part spells a tree within the limits, or is refused for a reason, at a place.
+pub fn each_text_is_read_or_refused()
+    ensures { (part : ℕ) (t : Text) → IsPart part →
+        ((x : Node) × SpellsTree part t x × IsAllowed part t) ⊎ ((why : Why) × (place : Place) × IsRefusal part t why place) }
+{
+    each_text_or_fault();
+    texts_spell_trees();
+    kinds_are_kinds();
+    none_or_a_first_place();
+}
+
 /// A text spells one goal at most.
 pub fn goals_are_unique()
     ensures { (bytes : List ℕ) (a b : SequentTree) → SpellsGoal bytes a → SpellsGoal bytes b → a ≡ b }
@@ -70,4 +89,27 @@ pub fn goal_refusals_are_unique()
     kinds_are_kinds();
     first_faults_are_unique::<Rule>();
     first_places_are_unique();
+}
+
+/// The text of a goal spells a goal within the limits, or is refused for a reason, at a place.
+pub fn each_goal_is_read_or_refused()
+    ensures { (bytes : List ℕ) →
+        ((tree : SequentTree) × SpellsGoal bytes tree × IsGoalAllowed bytes) ⊎ ((why : Why) × (place : Place) × IsGoalRefusal bytes why place) }
+{
+    each_fault_has_a_place();
+    each_text_or_fault();
+    texts_spell_trees();
+    kinds_are_kinds();
+    none_or_a_first_place();
+}
+
+/// The names and numbers of a tree that a text or a line spells are the name and number tokens of the text; so the numbers of
+/// a tree that is read are in range.
+pub fn words_are_tokens()
+    ensures trees { (part : ℕ) (t : Text) (x : Node) → SpellsTree part t x → Each (IsWord t) x }
+    ensures lines { (l : ReadLine) (x : Node) → IsTreeOf l x → Each (IsWord l.text) x }
+    ensures range { (part : ℕ) (t : Text) (x : Node) → NoneOverflow t → SpellsTree part t x → Each IsInRange x }
+    ensures goals { (bytes : List ℕ) (a : SequentTree) → NoneOverflow (goal_text bytes) → SpellsGoal bytes a → IsGoalInRange a }
+{
+    texts_are_spelled();
 }

@@ -42,12 +42,12 @@ joiner_is _ e = absurd (not_false e)
 list_joins : (g : Head) → g ≡ head.List → is_joiner g ≡ true → ⊥
 list_joins g e h = not_false (subst (λ (z : Head). is_joiner z ≡ true) e h)
 
-whole_role : (r : Role) → is_whole r ≡ true → r ≡ whole
+pub whole_role : (r : Role) → is_whole r ≡ true → r ≡ whole
 whole_role whole e = refl
 whole_role (item o k) e = absurd (not_false e)
 whole_role (list s) e = absurd (not_false e)
 
-whole_or_item : {A : Type 0} (r : Role) (o : Sort) (j : ℕ) → r ≡ whole → r ≡ item o j → A
+pub whole_or_item : {A : Type 0} (r : Role) (o : Sort) (j : ℕ) → r ≡ whole → r ≡ item o j → A
 whole_or_item r o j e f = absurd cc
 
 abbrev NonEmpty : List Node → Type 0

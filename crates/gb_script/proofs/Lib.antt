@@ -6,4 +6,6 @@ pub mod Sorts
 pub mod Items
 pub mod Acts
 pub mod Sorted
+pub mod Each
 pub mod Leaves
+pub mod Spelled

@@ -37,7 +37,7 @@ module _ (l : Language) where
   enough (t ∷ ts) us [] d = absurd d
   enough (t ∷ ts) us (v ∷ vs) d = let h = enough ts us vs d.1 in omega arith
 
-  front : (k : ℕ) (ts us : List ValueSort) (vs : List Value) → k ≤ length ts → HaveSorts l (ts ++ us) vs → HaveSorts l (take k ts) (take k vs)
+  pub front : (k : ℕ) (ts us : List ValueSort) (vs : List Value) → k ≤ length ts → HaveSorts l (ts ++ us) vs → HaveSorts l (take k ts) (take k vs)
   front zero ts us vs h d = tt
   front (suc k) [] us vs h d = absurd (omega arith)
   front (suc k) (t ∷ ts) us [] h d = absurd d
@@ -55,23 +55,23 @@ module _ (l : Language) where
   beside (t ∷ ts) us [] ws d e = absurd d
   beside (t ∷ ts) us (v ∷ vs) ws d e = (d.0, beside ts us vs ws d.1 e)
 
-  sorts_together : (sorts : ℕ → List ValueSort) (a b : List Symbol) → sorts_of sorts (a ++ b) ≡ sorts_of sorts a ++ sorts_of sorts b
+  pub sorts_together : (sorts : ℕ → List ValueSort) (a b : List Symbol) → sorts_of sorts (a ++ b) ≡ sorts_of sorts a ++ sorts_of sorts b
   sorts_together sorts [] b = refl
   sorts_together sorts (Token k ∷ a) b = sorts_together sorts a b
   sorts_together sorts (Part n ∷ a) b = ap (λ (z : List ValueSort). sorts n ++ z) (sorts_together sorts a b) ∙ sym (append_assoc (sorts n) (sorts_of sorts a) (sorts_of sorts b))
 
-  row_sorts : (sorts : ℕ → List ValueSort) (g : Grammar Rule) → sorts_ok l sorts g ≡ true → (place : ℕ) (r : Production Rule) → slice_get g place ≡ Some r → row_sorts_ok l sorts r ≡ true
+  pub row_sorts : (sorts : ℕ → List ValueSort) (g : Grammar Rule) → sorts_ok l sorts g ≡ true → (place : ℕ) (r : Production Rule) → slice_get g place ≡ Some r → row_sorts_ok l sorts r ≡ true
   row_sorts sorts [] ok place r e = absurd cc
   row_sorts sorts (q ∷ g) ok zero r e = let h = both (row_sorts_ok l sorts q) (sorts_ok l sorts g) ok in let same : q ≡ r = cc in subst (λ (x : Production Rule). row_sorts_ok l sorts x ≡ true) same h.0
   row_sorts sorts (q ∷ g) ok (suc place) r e = row_sorts sorts g (both (row_sorts_ok l sorts q) (sorts_ok l sorts g) ok).1 place r e
 
   -- What a row that passes takes, makes and leaves.
-  record Leaves (a : Action) (k m : ℕ) (ts us : List ValueSort) : Type 0 where
-    takes : k ≤ length ts
+  pub record Leaves (a : Action) (k m : ℕ) (ts us : List ValueSort) : Type 0 where
+    pub takes : k ≤ length ts
     makes : acts l a (take k ts) (take m us) ≡ true
     keeps : sorts_within (drop k ts) (drop m us) ≡ true
 
-  leaving : (a : Action) (k : ℕ) (ts us : List ValueSort) → leaves l a k ts us ≡ true → Leaves a k (length us - (length ts - k)) ts us
+  pub leaving : (a : Action) (k : ℕ) (ts us : List ValueSort) → leaves l a k ts us ≡ true → Leaves a k (length us - (length ts - k)) ts us
   leaving a k ts us e =
       let m = length us - (length ts - k) in
       let b = both (nat_le k (length ts)) (acts l a (take k ts) (take m us) && sorts_within (drop k ts) (drop m us)) e in

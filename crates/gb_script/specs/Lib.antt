@@ -9,4 +9,6 @@ pub mod Sorts
 pub mod Acts
 pub mod Sorted
 pub mod Reading
+pub mod Each
 pub mod Leaves
+pub mod Spelled

@@ -12,3 +12,5 @@ mod Different
 mod Answered
 mod Values
 mod Meant
+mod SameTerms
+mod Outcomes

@@ -1,4 +1,4 @@
-// What the truth of a claim under an assignment means, and that `smt` has one answer.
+// What the truth of a claim under an assignment means, and that `smt` has one answer to all leaves.
 
 ghost use Rattle.std.specs.Prelude.{◌≡◌, ◌↔◌, true, false, Option, Some, List};
 ghost use Rattle.std.specs.List.{Any};
@@ -42,4 +42,9 @@ pub fn closing_is_exact()
 /// There is one answer to leaves.
 pub fn there_is_one_answer()
     ensures { (leaves : List Leaf) (a b : Option Why) → IsAnswerOf leaves a → IsAnswerOf leaves b → a ≡ b }
+{}
+
+/// Each list of leaves has an answer: all are closed, or why the first that isn't isn't.
+pub fn there_is_an_answer()
+    ensures { (leaves : List Leaf) → (a : Option Why) × IsAnswerOf leaves a }
 {}

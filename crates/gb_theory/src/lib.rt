@@ -2,6 +2,7 @@
 #![tactic(auto)]
 
 mod fold;
+pub mod laws;
 mod limits;
 mod state;
 pub mod verdict;

@@ -43,7 +43,7 @@ module _ (b : Bool) (a g : Name → Numbering) (la : (n : Name) → 0 < (a n).si
 -- the values of types without `glob` are the same whatever the values of `glob` are
 module _ (a g h : Name → Numbering) where
   mutual
-    no_globs : (t : Ty) → IsFiniteWith false t → values_by a g t ≡ values_by a h t
+    pub no_globs : (t : Ty) → IsFiniteWith false t → values_by a g t ≡ values_by a h t
     no_globs ty.Unit f = refl
     no_globs ty.Bool f = refl
     no_globs (ty.Bits n) f = refl
@@ -91,7 +91,7 @@ module _ (t : Types) (i : IsInhabited t) where
   fit_in u h (Some v) = fit_step u v (first_has u h) (has t u v) refl
 
   mutual
-    widened : (u : Ty) → IsFiniteWith false u → IsFinite u
+    pub widened : (u : Ty) → IsFiniteWith false u → IsFinite u
     widened ty.Unit f = f
     widened ty.Bool f = f
     widened (ty.Bits n) f = f

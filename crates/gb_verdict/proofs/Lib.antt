@@ -1,2 +1,3 @@
+mod Exists
 pub mod Refused
 mod Unique

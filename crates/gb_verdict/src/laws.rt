@@ -1,12 +1,15 @@
-// A script comes to one thing at most.
+// A script comes to one thing.
 
 ghost use Rattle.std.specs.Prelude.{◌≡◌, ℕ, List};
 ghost use Rattle.gb_elab.specs.Answers.{Answer};
 ghost use Rattle.gb_verdict.specs.Session.{Session};
 ghost use Rattle.gb_verdict.specs.Verdict.{IsOutcome};
 
-use gb_read_script::laws::{commands_are_unique, refusals_are_unique};
-use gb_smt::laws::there_is_one_answer;
+use gb_lex::laws::{commands_have_bytes, each_fault_has_a_place};
+use gb_read_script::laws::{
+    commands_are_unique, each_text_is_read_or_refused, refusals_are_unique,
+};
+use gb_smt::laws::{there_is_an_answer, there_is_one_answer};
 
 /// A script comes to one thing at most: to one session, or to one refusal at one place.
 pub fn one_outcome()
@@ -15,4 +18,14 @@ pub fn one_outcome()
     commands_are_unique();
     refusals_are_unique();
     there_is_one_answer();
+}
+
+/// Each script comes to something: to a session, or to a refusal at a place.
+pub fn each_text_has_an_outcome()
+    ensures { (text : List ℕ) → (r : Answer Session) × IsOutcome text r }
+{
+    there_is_an_answer();
+    each_fault_has_a_place();
+    each_text_is_read_or_refused();
+    commands_have_bytes();
 }

@@ -1,0 +1,16 @@
+// A script has one verdict.
+
+ghost use Rattle.std.specs.Prelude.{◌≡◌, ℕ, List};
+ghost use Rattle.gb_theory.specs.declared.verdict.Verdict.{Verdict};
+ghost use Rattle.gb_theory.specs.Verdicts.{IsVerdict};
+
+use gb_verdict::laws::{each_text_has_an_outcome, one_outcome};
+
+/// Exactly one verdict is due on each script.
+pub fn one_verdict()
+    ensures some { (text : List ℕ) → (v : Verdict) × IsVerdict text v }
+    ensures only { (text : List ℕ) (v w : Verdict) → IsVerdict text v → IsVerdict text w → v ≡ w }
+{
+    each_text_has_an_outcome();
+    one_outcome();
+}

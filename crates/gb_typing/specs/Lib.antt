@@ -1,0 +1,12 @@
+pub mod Modules
+pub mod Context
+pub mod Typing
+pub mod Programs
+pub mod Fits
+pub mod Puts
+pub mod Changes
+pub mod Formulas
+pub mod Sequents
+pub mod Scopes
+pub mod Chosen
+pub mod Examples
