@@ -1,0 +1,3 @@
+pub mod SkipIsSound
+pub mod SeqIsSound
+pub mod IfIsSound

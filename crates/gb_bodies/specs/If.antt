@@ -1,0 +1,63 @@
+-- `if`: a branch that stands first.
+use Rattle.std.specs.Prelude.{List, [], ◌∷◌, ◌++◌, Option, Some, None}
+use Rattle.std.specs.Option.{option_zip}
+use Rattle.gb_core.specs.declared.refusal.Why.TheVariants.{Shape}
+use Rattle.gb_terms.specs.declared.op.Side.{Side}
+use Rattle.gb_terms.specs.declared.op.Side.TheVariants.{Own, Left, Right}
+use Rattle.gb_terms.specs.declared.term.Term.{Term}
+use Rattle.gb_terms.specs.declared.term.Head.{Head}
+use Rattle.gb_terms.specs.declared.term.Head.TheOpen as layer
+use Rattle.gb_terms.specs.declared.term.Subject.{Subject}
+use Rattle.gb_terms.specs.declared.term.Instr.{Instr, out-Instr}
+use Rattle.gb_terms.specs.declared.term.Cmd.{Cmd}
+use Rattle.gb_rules.specs.Goals.{Goal}
+use Rattle.gb_rules.specs.Goals.Code.{body}
+use Rattle.gb_rules.specs.Goals.Goal.{hoare, equiv, ambient}
+use Rattle.gb_rules.specs.Forms.{and_form, not_form, implies_form, equal_form, located, every_pair}
+use Rattle.gb_rules.specs.Rules.{Answer, Row, Acts}
+use Rattle.gb_rules.specs.Rules.Acts.{on_all, on_left, on_right}
+use Rattle.gb_rules.specs.Rules.Answer.{given, refused}
+
+-- a branch, and what follows it
+pub record Branch : Type 0 where
+  pub test : Term
+  pub if_true : Cmd
+  pub if_false : Cmd
+  pub rest : List Instr
+
+abbrev pub branch_at : layer.Instr-F Head Instr Subject Cmd Term → List Instr → Option Branch
+branch_at (layer.If e a b) is = Some (record { test = e; if_true = a; if_false = b; rest = is })
+branch_at _ is = None
+
+-- the branch that a body begins with
+abbrev pub first_branch : List Instr → Option Branch
+first_branch [] = None
+first_branch (i ∷ is) = branch_at (out-Instr i) is
+
+-- the statements where the test is true, and where it is false
+abbrev pub where_true : Branch → List Instr
+where_true b = b.if_true.list ++ b.rest
+
+abbrev pub where_false : Branch → List Instr
+where_false b = b.if_false.list ++ b.rest
+
+-- the goals of both sides of one branch, in a memory; a goal is made of statements and a precondition
+abbrev pub of_one : (List Instr → Term → Goal) → Side → Term → Option Branch → Answer (List Goal)
+of_one goal r p None = refused Shape
+of_one goal r p (Some b) =
+    given (goal (where_true b) (and_form p (located r b.test)) ∷ goal (where_false b) (and_form p (not_form (located r b.test))) ∷ [])
+
+-- the goals of two branches whose tests are equal
+abbrev pub of_both : Term → Term → Option (Branch × Branch) → Answer (List Goal)
+of_both p q None = refused Shape
+of_both p q (Some (a, b)) = given (
+    ambient (every_pair (implies_form p (equal_form (located Left a.test) (located Right b.test))))
+    ∷ equiv (body (where_true a)) (body (where_true b)) (and_form p (located Left a.test)) q
+    ∷ equiv (body (where_false a)) (body (where_false b)) (and_form p (not_form (located Left a.test))) q ∷ [])
+
+abbrev pub if_row : Acts → Row
+if_row on_all (hoare (body is) p q) = of_one (λ is p. hoare (body is) p q) Own p (first_branch is)
+if_row on_all (equiv (body is) (body js) p q) = of_both p q (option_zip (first_branch is) (first_branch js))
+if_row on_left (equiv (body is) (body js) p q) = of_one (λ is p. equiv (body is) (body js) p q) Left p (first_branch is)
+if_row on_right (equiv (body is) (body js) p q) = of_one (λ js p. equiv (body is) (body js) p q) Right p (first_branch js)
+if_row a G = refused Shape

@@ -1,0 +1,16 @@
+pub mod Shapes
+pub mod Given
+pub mod Runs
+pub mod Lists
+pub mod Branches
+pub mod Exact
+pub mod Conclusions
+pub mod Lifted
+pub mod Forms
+pub mod Reading
+pub mod Unread
+pub mod Every
+pub mod Ambient
+pub mod Located
+pub mod Assigned
+pub mod Quantified

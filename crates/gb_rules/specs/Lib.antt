@@ -1,0 +1,6 @@
+pub mod Goals
+pub mod Typing
+pub mod Meaning
+pub mod Rules
+pub mod Sequents
+pub mod Forms
