@@ -22,14 +22,14 @@ use Rattle.gb_coupling.proofs.Monad.{scale-one}
 use Rattle.gb_meaning.specs.Memory.{Memory}
 use Rattle.gb_meaning.specs.Setting.{Setting}
 use Rattle.gb_meaning.specs.Setting.Meaning.{finite}
-use Rattle.gb_meaning.specs.Meanings.{truth, value_in}
+use Rattle.gb_meaning.specs.Meanings.{truth, value_in, fraction_in}
 use Rattle.gb_judge.proofs.Truths.{true_equal}
 use Rattle.gb_typed.specs.Finite.{IsFinite}
 use Rattle.gb_meaning.specs.State.{State, at, between, inside, memory_of}
 use Rattle.gb_meaning.specs.Terms.{quiet, val}
 use Rattle.gb_meaning.specs.Commands.{statements}
 use Rattle.gb_meaning.specs.Runs.{is_true}
-use Rattle.gb_meaning.specs.Judgments.{Judge, IsFair, speaking, IsTrueUnder, den}
+use Rattle.gb_meaning.specs.Judgments.{Judge, IsFair, speaking, IsTrueUnder, compares, chance, den}
 use Rattle.gb_meaning.specs.Written.{type_of}
 use Rattle.gb_changes.specs.Written.{IsSide}
 use Rattle.gb_laws.proofs.Runs.{run_positive}
@@ -50,6 +50,7 @@ use Rattle.gb_rules.specs.Rules.Answer.{given}
 use Rattle.gb_rules.specs.Typing.{IsTypedGoal}
 use Rattle.gb_rules.proofs.Ambient.{pair_typed, pair_meaning}
 use Rattle.gb_rules.proofs.Branches.{branch_good}
+use Rattle.gb_rules.proofs.Chances.{chance_scaled}
 use Rattle.gb_rules.proofs.Forms.{and_typed, equal_typed, implies_typed, not_typed, and_make, implies_use, not_make}
 use Rattle.gb_rules.proofs.Given.{AreSound, refused_given, sound_given}
 use Rattle.gb_rules.proofs.Lists.{if_shape, typed_if, typed_append}
@@ -252,6 +253,12 @@ module _ (c : Context) where
       (λ s m n. at s m) (λ s m n o. refl) (λ g j s m n l d. Every (λ n. IsTrueUnder g j q (at s n)) l)
       (λ g j s m n k z l d h. Every-scale (λ n. IsTrueUnder g j q (at s n)) k l h) (λ g j s is p h m n x. h m x) (λ g j s is p f m x. f m m x)
       p w.1 is w.0 (first_branch is) refl Gs e
+  sound on_all outer ls rs (phoare (body is) r p q b) w y Gs e =
+      of_one_sound c ls (Some ls) c.left c.right side.Own tt refl (λ is p. phoare (body is) r p q b) (λ is v p u. (ls, ls, (v, u, w.2, w.3, w.4)))
+      (λ s m n. at s m) (λ s m n o. refl) (λ g j s m n l d. compares r (chance l d (λ n. den g j q (at s n))) (fraction_in (val g (speaking g j) b s)) ≡ true)
+      (λ g j s m n k z l d h. chance_scaled k z l d (λ n. den g j q (at s n)) r (fraction_in (val g (speaking g j) b s)) ∙ h)
+      (λ g j s is p h m n x. h m x) (λ g j s is p f m x. f m m x)
+      p w.1 is w.0 (first_branch is) refl Gs e
   sound on_left outer ls rs (equiv (body is) (body js) p q) w y Gs e =
       of_one_sound c ls c.own (Some ls) (Some rs) side.Left tt refl (λ is p. equiv (body is) (body js) p q) (λ is v p u. (ls, rs, (tt, v, w.2, u, w.4)))
       (λ s m n. between s m n) (λ s m n o. refl) (λ g j s m n l d. Coupling (λ a b. IsTrueUnder g j q (between s a b)) l d (run g s js n) (denominator g js))
@@ -267,7 +274,7 @@ module _ (c : Context) where
   sound on_all outer ls rs (hoare (procedure a) p q) w y Gs e = refused_given Shape Gs e
   sound on_left outer ls rs (hoare a p q) w y Gs e = refused_given Shape Gs e
   sound on_right outer ls rs (hoare a p q) w y Gs e = refused_given Shape Gs e
-  sound on_all outer ls rs (phoare a r p q b) w y Gs e = refused_given Shape Gs e
+  sound on_all outer ls rs (phoare (procedure a) r p q b) w y Gs e = refused_given Shape Gs e
   sound on_left outer ls rs (phoare a r p q b) w y Gs e = refused_given Shape Gs e
   sound on_right outer ls rs (phoare a r p q b) w y Gs e = refused_given Shape Gs e
   sound on_all outer ls rs (equiv (procedure a) b p q) w y Gs e = refused_given Shape Gs e

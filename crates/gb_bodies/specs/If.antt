@@ -12,7 +12,7 @@ use Rattle.gb_terms.specs.declared.term.Instr.{Instr, out-Instr}
 use Rattle.gb_terms.specs.declared.term.Cmd.{Cmd}
 use Rattle.gb_rules.specs.Goals.{Goal}
 use Rattle.gb_rules.specs.Goals.Code.{body}
-use Rattle.gb_rules.specs.Goals.Goal.{hoare, equiv, ambient}
+use Rattle.gb_rules.specs.Goals.Goal.{hoare, phoare, equiv, ambient}
 use Rattle.gb_rules.specs.Forms.{and_form, not_form, implies_form, equal_form, located, every_pair}
 use Rattle.gb_rules.specs.Rules.{Answer, Row, Acts}
 use Rattle.gb_rules.specs.Rules.Acts.{on_all, on_left, on_right}
@@ -57,6 +57,7 @@ of_both p q (Some (a, b)) = given (
 
 abbrev pub if_row : Acts → Row
 if_row on_all (hoare (body is) p q) = of_one (λ is p. hoare (body is) p q) Own p (first_branch is)
+if_row on_all (phoare (body is) r p q b) = of_one (λ is p. phoare (body is) r p q b) Own p (first_branch is)
 if_row on_all (equiv (body is) (body js) p q) = of_both p q (option_zip (first_branch is) (first_branch js))
 if_row on_left (equiv (body is) (body js) p q) = of_one (λ is p. equiv (body is) (body js) p q) Left p (first_branch is)
 if_row on_right (equiv (body is) (body js) p q) = of_one (λ js p. equiv (body is) (body js) p q) Right p (first_branch js)

@@ -14,3 +14,4 @@ pub mod Ambient
 pub mod Located
 pub mod Assigned
 pub mod Quantified
+pub mod Chances

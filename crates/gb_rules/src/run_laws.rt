@@ -1,8 +1,9 @@
 //! Laws of runs that rules cite.
 
-ghost use Rattle.std.specs.Prelude.{◌≡◌, ◌*◌, if◌then◌else◌, List, ◌∷◌, ◌++◌};
-ghost use Rattle.gb_coupling.specs.WeightedList.{bind, scale};
+ghost use Rattle.std.specs.Prelude.{◌≡◌, ℕ, ◌*◌, ◌<◌, Bool, if◌then◌else◌, List, ◌∷◌, ◌++◌};
+ghost use Rattle.gb_coupling.specs.WeightedList.{WeightedList, bind, scale};
 ghost use Rattle.gb_terms.specs.declared.decl.TypedName.{TypedName};
+ghost use Rattle.gb_terms.specs.declared.op.Rel.{Rel};
 ghost use Rattle.gb_terms.specs.declared.term.Cmd.{Cmd};
 ghost use Rattle.gb_terms.specs.declared.term.Head.TheVariants.{If};
 ghost use Rattle.gb_terms.specs.declared.term.Instr.{Instr};
@@ -11,7 +12,8 @@ ghost use Rattle.gb_meaning.specs.Memory.{Memory};
 ghost use Rattle.gb_meaning.specs.Runs.{is_true};
 ghost use Rattle.gb_meaning.specs.Setting.{Setting};
 ghost use Rattle.gb_meaning.specs.State.{State};
-ghost use Rattle.gb_meaning.specs.Judgments.{IsSoundSubject};
+ghost use Rattle.gb_meaning.specs.Fractions.{Fraction};
+ghost use Rattle.gb_meaning.specs.Judgments.{IsSoundSubject, compares, chance};
 ghost use Rattle.gb_typing.specs.Context.{Context};
 ghost use Rattle.gb_typing.specs.Fits.{IsSettingOf};
 ghost use Rattle.gb_rules.specs.Goals.{Code, subject_of};
@@ -33,4 +35,10 @@ pub fn branches()
         denominator g (If e a b ∷ is) ≡ denominator g b.list * denominator g (a.list ++ is) }
     ensures where_false { (g : Setting) (e : Term) (a b : Cmd) (is : List Instr) →
         denominator g (If e a b ∷ is) ≡ denominator g a.list * denominator g (b.list ++ is) }
+{}
+
+/// The chance of an event compares with a bound at each scale as it does.
+pub fn chances()
+    ensures { (k : ℕ) → 0 < k → (l : WeightedList Memory) (d : ℕ) (event : Memory → Bool) (r : Rel) (b : Fraction) →
+        compares r (chance (scale k l) (k * d) event) b ≡ compares r (chance l d event) b }
 {}
