@@ -1,7 +1,11 @@
--- Lists of so many parts.
-use Rattle.std.proofs.Common.{◌≡◌, ◌<◌, ◌≤◌, List, [], ◌∷◌, length, get_or, ap, sym, ◌∙◌, arith}
+-- Lists of so many parts, and what is left of a list.
+use Rattle.std.proofs.Common.{◌≡◌, ℕ, ◌+◌, ◌<◌, ◌≤◌, List, [], ◌∷◌, length, get_or, drop, refl, ap, sym, ◌∙◌, arith, add-one, drop-cons}
 
 module _ {A : Type 0} where
+  -- what is left of a list begins with the element at which a loop stands
+  pub left : (xs : List A) (i : ℕ) (x : A) → i < length xs → x ≡ get_or xs i x → drop i xs ≡ x ∷ drop (i + 1) xs
+  left xs i x h e = rw (drop-cons xs i x, add-one) (rw (← e) refl)
+
   pub one : (xs : List A) (x : A) → 1 ≤ length xs → length xs < 2 → x ≡ get_or xs 0 x → xs ≡ x ∷ []
   one [] x h k e = absurd (omega (arith, h))
   one (a ∷ []) x h k e = ap (λ z. z ∷ []) (sym e)

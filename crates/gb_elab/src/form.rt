@@ -187,19 +187,6 @@ fn is_equation(op: Op) -> bool
     }
 }
 
-/// The typed tree of a form that is to be a truth.
-#[cycle(form)]
-fn typed_truth(
-    alloc: Global,
-    at: &Setting<'_>,
-    bound: &[TypedName],
-    t: &Node,
-) -> Result<Form, Refused>
-    ensures { Answers (elaborated t.now (environment at.now) bound.now (Some Ty.Bool)) result }
-{
-    typed(alloc, at, bound, t, Some(&Ty::Bool))
-}
-
 #[cycle(form)]
 fn negated(
     alloc: Global,
@@ -212,7 +199,7 @@ fn negated(
     ensures { Answers (truth (option_copied want.entry) place and_then λ _. negated (elaborated a.now (environment at.now) bound.now)) result }
 {
     truth(want, place)?;
-    let a = typed_truth(alloc, at, bound, a)?;
+    let a = typed(alloc, at, bound, a, Some(&Ty::Bool))?;
     make::negation(alloc, a).map_err(Refused::from)
 }
 
@@ -229,7 +216,7 @@ fn left_side(
     ensures { Answers (left_side op place (elaborated a.now (environment at.now) bound.now)) result }
 {
     if !is_equation(op) {
-        return typed_truth(alloc, at, bound, a);
+        return typed(alloc, at, bound, a, Some(&Ty::Bool));
     }
     let a = typed(alloc, at, bound, a, None)?;
     if is_distribution(Some(a.ty.get())) {
@@ -324,7 +311,7 @@ fn over_body(
 {
     let count = variables.len();
     let inner = within(alloc, variables, bound)?;
-    let body = typed_truth(alloc, at, inner.as_slice(), body)?;
+    let body = typed(alloc, at, inner.as_slice(), body, Some(&Ty::Bool))?;
     over_all(alloc, quantifier, &inner.as_slice()[..count], body).map_err(Refused::from)
 }
 
@@ -365,7 +352,7 @@ fn precondition(
     let left = both.left.procedure.params.as_slice();
     let right = both.right.procedure.params.as_slice();
     let before = Setting::relational(at.scope, at.sequent, left, right);
-    typed_truth(alloc, &before, bound, pre)
+    typed(alloc, &before, bound, pre, Some(&Ty::Bool))
 }
 
 /// The postcondition of an equivalence of two procedures, which reads their results.
@@ -382,7 +369,7 @@ fn postcondition(
     let left = result_of(alloc, both.left.procedure)?;
     let right = result_of(alloc, both.right.procedure)?;
     let after = Setting::relational(at.scope, at.sequent, left.as_slice(), right.as_slice());
-    typed_truth(alloc, &after, bound, post)
+    typed(alloc, &after, bound, post, Some(&Ty::Bool))
 }
 
 /// An equivalence of two procedures with its postcondition.

@@ -1,9 +1,10 @@
-use Rattle.std.proofs.Common.{◌≡◌, ℕ, ◌+◌, ◌<◌, List, [], ◌∷◌, ◌++◌, length, get_or, drop, reverse, refl, sym, ap, ◌∙◌, arith, add-one, drop-cons}
+use Rattle.std.proofs.Common.{◌≡◌, ℕ, ◌+◌, ◌<◌, List, [], ◌∷◌, ◌++◌, length, drop, reverse, refl, sym, ap, ◌∙◌, arith}
 use Rattle.std.proofs.lemmas.List.{reverse-append}
 use Rattle.gb_terms.specs.declared.decl.TypedName.{TypedName}
 use Rattle.gb_terms.specs.declared.term.Term.{Term}
 use Rattle.gb_elab.specs.declared.binders.Quantifier.{Quantifier}
 use Rattle.gb_elab.specs.Forms.{over, over_all}
+use Rattle.gb_elab.proofs.Parts.{left}
 use Rattle.gb_elab.proofs.binders.over_all.Goals as goal
 
 -- quantifiers over some variables and then over others
@@ -14,9 +15,6 @@ over_append q (u ∷ us) vs f = ap (over q u.ty) (over_append q us vs f)
 -- the first of the innermost variables goes inside
 first_inside : (q : Quantifier) (vs : List TypedName) (v : TypedName) (f : Term) → over_all q (reverse (v ∷ vs)) f ≡ over_all q (reverse vs) (over q v.ty f)
 first_inside q vs v f = ap (λ us. over_all q us f) (reverse-append (v ∷ []) vs) ∙ over_append q (reverse vs) (v ∷ []) f
-
-left : (vs : List TypedName) (i : ℕ) (v : TypedName) → i < length vs → v ≡ get_or vs i v → drop i vs ≡ v ∷ drop (i + 1) vs
-left vs i v h e = rw (drop-cons vs i v, add-one) (rw (← e) refl)
 
 pub loop-x-preserved : goal.loop-x-preserved
 loop-x-preserved c =
