@@ -1,0 +1,5 @@
+pub mod Gathering
+pub mod Pairs
+pub mod Rising
+pub mod Runs
+pub mod Steps

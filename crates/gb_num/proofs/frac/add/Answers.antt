@@ -1,0 +1,11 @@
+use Rattle.std.proofs.Common.{◌≡◌, rules}
+use Rattle.std.proofs.Math.Nat.{mul-pos}
+use Rattle.gb_num.specs.Fractions.{plus, reduced}
+use Rattle.gb_num.specs.Operations.{plus_steps, outcome}
+use Rattle.gb_num.proofs.Lowest.{same_of_exact}
+use Rattle.gb_num.proofs.frac.add.Goals as goal
+
+pub returns-clause-same : goal.returns-clause-same
+returns-clause-same c =
+    let exact : c.over.result ≡ outcome (plus_steps c.args.a c.args.b) (reduced (plus c.args.a c.args.b)) = search rules in
+    same_of_exact (plus_steps c.args.a c.args.b) (plus c.args.a c.args.b) c.over.result (mul-pos c.den-3.ensures.bounded.lowest.above c.den-4.ensures.bounded.lowest.above) exact
