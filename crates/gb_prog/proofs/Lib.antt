@@ -1,0 +1,14 @@
+pub mod Straight
+pub mod Writes
+pub mod Frames
+pub mod Turns
+pub mod Loops
+pub mod LoopStatements
+pub mod Blind
+pub mod Reached
+pub mod Couplings
+pub mod Exchanged
+pub mod AllValues
+pub mod Calls
+pub mod Within
+pub mod Certain
