@@ -1,30 +1,32 @@
 -- The lemmas of accepted scripts.
 use Rattle.std.proofs.Common.{◌≡◌, ℕ, List, [], ◌∷◌, subst}
 use Rattle.std.specs.List.{AllByRecursion}
-use Rattle.gb_elab.specs.Answers.Answer.{given}
+use Rattle.gb_goal.specs.Answers.Answer.{given}
 use Rattle.gb_holds.specs.Declared.{declared}
 use Rattle.gb_holds.specs.Holds.{Holds}
-use Rattle.gb_models.proofs.Models.{model}
-use Rattle.gb_models.proofs.Promised.{couplings}
-use Rattle.gb_ready.specs.Goals.{IsTypedSequent}
+use Rattle.gb_typing.specs.Sequents.{IsTypedSequent}
+use Rattle.gb_typing.specs.Scopes.{context_of}
 use Rattle.gb_verdict.specs.Session.{Session}
 use Rattle.gb_verdict.specs.Verdict.{IsOutcome}
 use Rattle.gb_accepted.specs.Holding.{Lemma, IsProved, IsPromise, lemmas_in, IsPromised}
+use Rattle.gb_accepted.proofs.Grounds.{Grounds}
 use Rattle.gb_accepted.proofs.Runs.{outcome_is_good}
 
--- what is proved keeps its promise
-promised : (l : Lemma) → IsProved l → IsPromise l
-promised l p = record {
-  model = model l.before p.scope;
-  coupled = λ f h P Q e. couplings l.before p.scope f h P Q (subst (IsTypedSequent l.before) e p.typed) (subst (Holds (declared l.before)) e p.holds);
-}
+module _ (o : Grounds) where
+  -- what is proved keeps its promise
+  promised : (l : Lemma) → IsProved l → IsPromise l
+  promised l p = record {
+    model = o.models.model l.before p.scope;
+    coupled = λ f h P Q e.
+        o.models.coupled l.before p.scope f h P Q (subst (IsTypedSequent (context_of (declared l.before))) e p.typed) (subst (Holds (declared l.before)) e p.holds);
+  }
 
-each_promised : (ls : List Lemma) → AllByRecursion IsProved ls → AllByRecursion IsPromise ls
-each_promised [] h = tt
-each_promised (l ∷ ls) h = (promised l h.0, each_promised ls h.1)
+  each_promised : (ls : List Lemma) → AllByRecursion IsProved ls → AllByRecursion IsPromise ls
+  each_promised [] h = tt
+  each_promised (l ∷ ls) h = (promised l h.0, each_promised ls h.1)
 
--- an accepted script keeps what is promised
-pub all_promised : (text : List ℕ) (s : Session) → IsOutcome text (given s) → IsPromised s
-all_promised text s o =
-    let g = outcome_is_good text s o in
-    record { typed = g.typed; sound = g.sound; lemmas = g.lemmas; promises = each_promised (lemmas_in [] s.scope) g.lemmas.proved }
+  -- an accepted script keeps what is promised
+  pub all_promised : (text : List ℕ) (s : Session) → IsOutcome text (given s) → IsPromised s
+  all_promised text s outcome =
+      let g = outcome_is_good o text s outcome in
+      record { typed = g.typed; sound = g.sound; lemmas = g.lemmas; promises = each_promised (lemmas_in [] s.scope) g.lemmas.proved }

@@ -1,55 +1,57 @@
 -- Modules, lemmas and the words of a proof keep sessions good.
-use Rattle.std.proofs.Common.{◌≡◌, ℕ, List, [], ◌∷◌, ◌++◌, length, None, ap, sym, ◌∙◌, subst}
+use Rattle.std.proofs.Common.{◌≡◌, ℕ, false, List, [], ◌∷◌, ◌++◌, length, None, ap, sym, ◌∙◌, subst}
 use Rattle.std.specs.List.{AllByRecursion}
 use Rattle.gb_core.specs.declared.place.Place.{Place}
 use Rattle.gb_core.specs.declared.refusal.Why.TheVariants.{NoGoal}
-use Rattle.gb_goal.specs.Scope.{entry_of}
-use Rattle.gb_goal.specs.declared.scope.Entry.TheVariants as entry
 use Rattle.gb_goal.specs.declared.sequent.Sequent.{Sequent}
 use Rattle.gb_script.specs.declared.tree.Node.{Node}
 use Rattle.gb_holds.specs.Declared.{declared}
 use Rattle.gb_holds.specs.Holds.{Holds}
 use Rattle.gb_holds.proofs.Scopes.{gained_lemma, gained_module}
-use Rattle.gb_elab.specs.Answers.Answer.{given}
+use Rattle.gb_goal.specs.Answers.Answer.{given}
 use Rattle.gb_elab_mod.specs.Lemmas.{lemma_name, statement_given}
 use Rattle.gb_elab_mod.specs.Modules.{module_given}
-use Rattle.gb_ready.proofs.Growing.{grows}
-use Rattle.gb_given.proofs.Given.{given_bind, given_is, if_given}
-use Rattle.gb_given.proofs.Scopes.{module_added}
-use Rattle.gb_given.proofs.Statements.{statement_typed}
+use Rattle.gb_typing.specs.Scopes.{is_declared}
+use Rattle.gb_elab_laws.proofs.Given.{given_bind, given_is, if_given}
 use Rattle.gb_verdict.specs.Session.{Session, OpenProof, with_goals, with_proved}
 use Rattle.gb_verdict.specs.Limits.{declaration_limit, each_limit}
 use Rattle.gb_verdict.specs.Commands.{within, outside, declares, opens, begun, ended}
 use Rattle.gb_accepted.proofs.Given.{nothing_given, given_outside}
+use Rattle.gb_accepted.proofs.Grounds.{Grounds}
 use Rattle.gb_accepted.proofs.Good.{IsGoodProof, IsGoodIfOpen, IsGood}
 use Rattle.gb_accepted.proofs.Later.{names_stay, proved_later, name_added, proved_with}
 
-pub declares_keeps : (s : Session) (t : Node) (place : Place) (next : Session) → IsGood s → declares s t place ≡ given next → IsGood next
-declares_keeps s t place next g e =
+pub declares_keeps : Grounds → (s : Session) (t : Node) (place : Place) (next : Session) → IsGood s → declares s t place ≡ given next → IsGood next
+declares_keeps o s t place next g e =
     let a = given_bind (outside s.proof place) _ next e in
     let b = given_bind (module_given s.scope t) _ next a.2 in
     let c = given_bind (within (declaration_limit (length s.scope)) place) _ next b.2 in
     let none : s.proof ≡ None = given_outside s.proof place a.0 a.1 in
     subst IsGood (given_is _ _ c.2) (record {
-      typed = module_added s.scope g.typed t b.0 b.1;
+      typed = o.typing.module_added s.scope g.typed t b.0 b.1;
       sound = gained_module s.scope b.0.name b.0 g.sound;
       lemmas = record { names = names_stay s.scope b.0.name b.0 ∙ g.lemmas.names; proved = proved_later s.scope b.0.name b.0 g.lemmas.proved };
       proof = subst (IsGoodIfOpen _) (sym none) tt;
     })
 
-pub opens_keeps : (s : Session) (t : Node) (name : List ℕ) (place : Place) (next : Session) → IsGood s → lemma_name t ≡ name →
+pub opens_keeps : Grounds → (s : Session) (t : Node) (name : List ℕ) (place : Place) (next : Session) → IsGood s → lemma_name t ≡ name →
     opens s t name place ≡ given next → IsGood next
-opens_keeps s t name place next g named e =
+opens_keeps o s t name place next g named e =
     let a = given_bind (outside s.proof place) _ next e in
     let b = given_bind (statement_given s.scope t) _ next a.2 in
     let c = given_bind (within (declaration_limit (length s.scope)) place) _ next b.2 in
     let d = given_bind (within (each_limit (b.0 ∷ [])) place) _ next c.2 in
-    let typed = statement_typed s.scope g.typed t b.0 b.1 in
+    let typed = o.typing.statement s.scope g.typed t b.0 b.1 in
     subst IsGood (given_is _ _ d.2) (record {
       typed = g.typed;
       sound = g.sound;
       lemmas = record { names = g.lemmas.names; proved = g.lemmas.proved };
-      proof = record { free = subst (λ n. entry_of s.scope n ≡ None) named typed.1; statement = typed.0; goals = (typed.0, tt); leads = λ hs. hs.0 };
+      proof = record {
+        free = subst (λ n. is_declared (declared s.scope) n ≡ false) named (o.typing.free s.scope t b.0 b.1);
+        statement = typed;
+        goals = (typed, tt);
+        leads = λ hs. hs.0;
+      };
     })
 
 pub begun_keeps : (s : Session) (p : OpenProof) (place : Place) (next : Session) → IsGood s → IsGoodProof s.scope p → begun s p place ≡ given next → IsGood next
@@ -62,9 +64,9 @@ begun_keeps s p place next g h e =
     })
 
 -- the lemma of an open proof holds, and is declared
-proved_is_good : (s : Session) (p : OpenProof) → IsGood s → IsGoodProof s.scope p → Holds (declared s.scope) p.statement → IsGood (with_proved s p)
-proved_is_good s p g h holds = record {
-  typed = grows [] s.scope g.typed p.name (entry.Lemma p.statement) h.free h.statement;
+proved_is_good : Grounds → (s : Session) (p : OpenProof) → IsGood s → IsGoodProof s.scope p → Holds (declared s.scope) p.statement → IsGood (with_proved s p)
+proved_is_good o s p g h holds = record {
+  typed = o.typing.lemma_added s.scope g.typed p.name h.free p.statement h.statement;
   sound = gained_lemma s.scope p.name p.statement g.sound holds;
   lemmas = record {
     names = name_added s.scope p.name p.statement ∙ ap (λ ns. ns ++ p.name ∷ []) g.lemmas.names;
@@ -73,7 +75,7 @@ proved_is_good s p g h holds = record {
   proof = tt;
 }
 
-pub ended_keeps : (qs : List Sequent) (s : Session) (p : OpenProof) (place : Place) (next : Session) → IsGood s → IsGoodProof s.scope p →
+pub ended_keeps : Grounds → (qs : List Sequent) (s : Session) (p : OpenProof) (place : Place) (next : Session) → IsGood s → IsGoodProof s.scope p →
     (AllByRecursion (Holds (declared s.scope)) qs → Holds (declared s.scope) p.statement) → ended qs s p place ≡ given next → IsGood next
-ended_keeps [] s p place next g h leads e = subst IsGood (given_is _ _ e) (proved_is_good s p g h (leads tt))
-ended_keeps (q ∷ qs) s p place next g h leads e = nothing_given _ _ next e
+ended_keeps o [] s p place next g h leads e = subst IsGood (given_is _ _ e) (proved_is_good o s p g h (leads tt))
+ended_keeps o (q ∷ qs) s p place next g h leads e = nothing_given _ _ next e

@@ -2,10 +2,10 @@
 use Rattle.std.proofs.Common.{◌≡◌, Option, Some, None, refl, sym}
 use Rattle.gb_core.specs.declared.place.Place.{Place}
 use Rattle.gb_core.specs.declared.refusal.Why.{Why}
-use Rattle.gb_elab.specs.Answers.{Answer}
-use Rattle.gb_elab.specs.Answers.Answer.{given, refused}
+use Rattle.gb_goal.specs.Answers.{Answer, placed_at}
+use Rattle.gb_goal.specs.Answers.Answer.{given, refused}
 use Rattle.gb_verdict.specs.Session.{OpenProof}
-use Rattle.gb_verdict.specs.Commands.{After, outside, at_command}
+use Rattle.gb_verdict.specs.Commands.{After, outside}
 
 -- a refusal gives nothing
 pub nothing_given : {A B : Type 0} (w : Why) (p : Place) (x : A) → refused w p ≡ given x → B
@@ -19,6 +19,6 @@ pub given_outside : (o : Option OpenProof) (p : Place) (x : Unit {0}) → outsid
 given_outside None p x e = refl
 given_outside (Some q) p x e = nothing_given _ _ x e
 
-pub given_placed : {A : Type 0} (a : Answer A) (p : Place) (x : A) → given x ≡ at_command p a → a ≡ given x
+pub given_placed : {A : Type 0} (a : Answer A) (p : Place) (x : A) → given x ≡ placed_at p a → a ≡ given x
 given_placed (given y) p x e = sym e
 given_placed (refused w q) p x e = nothing_given _ _ x (sym e)

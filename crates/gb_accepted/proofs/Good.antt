@@ -1,18 +1,19 @@
 -- Sessions in which what is declared is typed, what is proved holds, and what is open leads to a lemma that holds.
-use Rattle.std.proofs.Common.{◌≡◌, Option, Some, None, refl}
+use Rattle.std.proofs.Common.{◌≡◌, false, Option, Some, None, refl}
 use Rattle.std.specs.List.{AllByRecursion}
-use Rattle.gb_goal.specs.Scope.{Declarations, entry_of}
+use Rattle.gb_goal.specs.Scope.{Declarations}
 use Rattle.gb_holds.specs.Declared.{declared}
 use Rattle.gb_holds.specs.Holds.{Holds, IsSound}
-use Rattle.gb_ready.specs.Goals.{IsTypedSequent, IsTypedScope}
+use Rattle.gb_typing.specs.Sequents.{IsTypedSequent}
+use Rattle.gb_typing.specs.Scopes.{context_of, is_declared, IsTypedScope}
 use Rattle.gb_verdict.specs.Session.{Session, OpenProof, fresh_session}
 use Rattle.gb_accepted.specs.Holding.{AllHold}
 
 -- The name of an open lemma is free, its statement and its goals are typed, and where its goals hold it does.
 pub record IsGoodProof (ds : Declarations) (p : OpenProof) : Type 0 where
-  pub free : entry_of ds p.name ≡ None
-  pub statement : IsTypedSequent ds p.statement
-  pub goals : AllByRecursion (IsTypedSequent ds) p.goals
+  pub free : is_declared (declared ds) p.name ≡ false
+  pub statement : IsTypedSequent (context_of (declared ds)) p.statement
+  pub goals : AllByRecursion (IsTypedSequent (context_of (declared ds))) p.goals
   pub leads : AllByRecursion (Holds (declared ds)) p.goals → Holds (declared ds) p.statement
 
 abbrev pub IsGoodIfOpen : Declarations → Option OpenProof → Type 0
@@ -20,7 +21,7 @@ IsGoodIfOpen ds None = Unit {0}
 IsGoodIfOpen ds (Some p) = IsGoodProof ds p
 
 pub record IsGood (s : Session) : Type 0 where
-  pub typed : IsTypedScope s.scope
+  pub typed : IsTypedScope (declared s.scope)
   pub sound : IsSound (declared s.scope)
   pub lemmas : AllHold s
   pub proof : IsGoodIfOpen s.scope s.proof

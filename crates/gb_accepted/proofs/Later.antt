@@ -10,8 +10,9 @@ use Rattle.gb_goal.specs.declared.sequent.Sequent.{Sequent}
 use Rattle.gb_meaning.specs.Names.{Name}
 use Rattle.gb_holds.specs.Declared.{declared}
 use Rattle.gb_holds.specs.Holds.{Holds}
-use Rattle.gb_ready.specs.Goals.{IsTypedScope, IsTypedSequent}
-use Rattle.gb_closing.proofs.Used.{each_together}
+use Rattle.gb_typing.specs.Sequents.{IsTypedSequent}
+use Rattle.gb_typing.specs.Scopes.{context_of, IsTypedScope}
+use Rattle.gb_smt_laws.proofs.Used.{each_together}
 use Rattle.gb_accepted.specs.Holding.{Lemma, IsProved, with_entry, lemmas_in, names_of}
 
 with_more : (before : Declarations) (n : Name) (e : Entry) (ls ks : List Lemma) → with_entry before n e (ls ++ ks) ≡ with_entry before n e ls ++ ks
@@ -46,7 +47,7 @@ module _ (ds : Declarations) (n : Name) (q : Sequent) where
   pub name_added : names_of (lemmas_in [] (ds ++ (n, entry.Lemma q) ∷ [])) ≡ names_of (lemmas_in [] ds) ++ n ∷ []
   name_added = ap names_of one_more ∙ map-append (λ (l : Lemma). l.name) (lemmas_in [] ds) (last ∷ [])
 
-  pub proved_with : AllByRecursion IsProved (lemmas_in [] ds) → IsTypedScope ds → IsTypedSequent ds q → Holds (declared ds) q → AllByRecursion IsProved (lemmas_in [] (ds ++ (n, entry.Lemma q) ∷ []))
+  pub proved_with : AllByRecursion IsProved (lemmas_in [] ds) → IsTypedScope (declared ds) → IsTypedSequent (context_of (declared ds)) q → Holds (declared ds) q → AllByRecursion IsProved (lemmas_in [] (ds ++ (n, entry.Lemma q) ∷ []))
   proved_with h s t k =
       let new : IsProved last = record { scope = s; typed = t; holds = k } in
       subst (AllByRecursion IsProved) (sym one_more) (each_together IsProved (lemmas_in [] ds) (last ∷ []) h (new, tt))

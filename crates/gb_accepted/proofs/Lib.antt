@@ -1,3 +1,4 @@
+mod Grounds
 mod Given
 mod Good
 mod Later

@@ -1,56 +1,85 @@
 -- What a step gives of a typed goal: typed goals, and where they hold the goal does.
-use Rattle.std.proofs.Common.{◌≡◌, List, Option, Some, None, refl, sym}
+use Rattle.std.proofs.Common.{◌≡◌, Bool, true, false, List, [], Option, Some, None, refl, ap, sym, ◌∙◌, subst}
 use Rattle.std.specs.List.{AllByRecursion}
 use Rattle.gb_core.specs.declared.place.Place.{Place}
 use Rattle.gb_core.specs.declared.refusal.Why.{Why}
 use Rattle.gb_core.specs.declared.refusal.Why.TheVariants.{Shape}
+use Rattle.gb_terms.specs.declared.decl.TypedName.{TypedName}
 use Rattle.gb_terms.specs.declared.term.Term.{Term}
+use Rattle.gb_goal.specs.Answers.{Answer, placed_at}
+use Rattle.gb_goal.specs.Answers.Answer.{given, refused}
+use Rattle.gb_goal.specs.Goal.{Goal, goal_of}
+use Rattle.gb_goal.specs.Goal.Goal.{ambient}
+use Rattle.gb_goal.specs.Rows.{Row, refusing, each_concluding, answered, stepped}
 use Rattle.gb_goal.specs.Scope.{Declarations}
 use Rattle.gb_goal.specs.declared.sequent.Sequent.{Sequent}
 use Rattle.gb_goal.specs.declared.step.Rule.{Rule}
 use Rattle.gb_goal.specs.declared.step.Rule.TheVariants as rule
 use Rattle.gb_holds.specs.Declared.{declared}
 use Rattle.gb_holds.specs.Holds.{Holds}
-use Rattle.gb_elab.specs.Answers.Answer.{given}
-use Rattle.gb_equiv.specs.Judgment.{bodies_of}
-use Rattle.gb_equiv.specs.Rows.{subgoals}
+use Rattle.gb_holds.specs.Truth.{has_module}
+use Rattle.gb_typing.specs.Sequents.{IsTypedSequent}
+use Rattle.gb_typing.specs.Scopes.{context_of}
+use Rattle.gb_rules.specs.Typing.{IsGoalOver}
+use Rattle.gb_rules.specs.Rules.{IsSoundIn}
+use Rattle.gb_equiv.specs.Rows.{IsTypedRule}
 use Rattle.gb_smt.specs.Leaves.{leaves_of}
 use Rattle.gb_smt.specs.Apply.{IsAnswerOf}
-use Rattle.gb_ready.specs.Goals.{context_of, IsTypedSequent, IsTypedScope}
-use Rattle.gb_ready.specs.Maps.{AreTypedMaps}
-use Rattle.gb_given.proofs.Given.{given_is, some_given}
-use Rattle.gb_promise.specs.Rules.{IsTypedRule, Gives}
-use Rattle.gb_promise.proofs.Rules.{rule_keeps, rule_sound}
-use Rattle.gb_verdict.specs.Commands.{closed_unless, Applied}
-use Rattle.gb_accepted.proofs.Given.{nothing_given}
-
--- a rule whose functions are typed, where it is `rnd`
-pub rule_typed : (ds : Declarations) (q : Sequent) (r : Rule) →
-    ((ts : List Term) → r ≡ rule.Rnd ts → AreTypedMaps ds (context_of q) ts (bodies_of q.conclusion)) → IsTypedRule ds q r
-rule_typed ds q rule.Proc maps = tt
-rule_typed ds q (rule.Rnd ts) maps = maps ts refl
-rule_typed ds q rule.Skip maps = tt
-rule_typed ds q rule.Smt maps = tt
-rule_typed ds q rule.Split maps = tt
-
-smt_gives : (ds : Declarations) (place : Place) (q : Sequent) (qs : List Sequent) (found : Option Why) → IsAnswerOf (leaves_of q) found →
-    given qs ≡ closed_unless found place → Gives ds rule.Smt q qs
-smt_gives ds place q qs None a e = (given_is _ _ e, a)
-smt_gives ds place q qs (Some why) a e = nothing_given _ _ qs (sym e)
-
-applied_gives : (ds : Declarations) (r : Rule) (place : Place) (q : Sequent) (qs : List Sequent) → Applied ds r place q (given qs) → Gives ds r q qs
-applied_gives ds rule.Smt place q qs a = smt_gives ds place q qs a.0 a.1 a.2
-applied_gives ds rule.Proc place q qs a = some_given (subgoals ds rule.Proc q) Shape place qs (sym a)
-applied_gives ds (rule.Rnd ts) place q qs a = some_given (subgoals ds (rule.Rnd ts) q) Shape place qs (sym a)
-applied_gives ds rule.Skip place q qs a = some_given (subgoals ds rule.Skip q) Shape place qs (sym a)
-applied_gives ds rule.Split place q qs a = some_given (subgoals ds rule.Split q) Shape place qs (sym a)
+use Rattle.gb_elab_laws.proofs.Given.{given_is}
+use Rattle.gb_verdict.specs.Commands.{closed_unless, row_of, Applied}
+use Rattle.gb_accepted.proofs.Given.{nothing_given, given_placed}
+use Rattle.gb_accepted.proofs.Grounds.{IsTyped, IsTypedGoalOf, around, Grounds}
 
 -- goals that are typed, and from which a goal follows
 pub record LeadTo (ds : Declarations) (q : Sequent) (qs : List Sequent) : Type 0 where
-  pub typed : AllByRecursion (IsTypedSequent ds) qs
+  pub typed : AllByRecursion (IsTypedSequent (context_of (declared ds))) qs
   pub leads : AllByRecursion (Holds (declared ds)) qs → Holds (declared ds) q
 
-pub applied_lead : (ds : Declarations) (r : Rule) (place : Place) (q : Sequent) (qs : List Sequent) → IsTypedScope ds → IsTypedSequent ds q → IsTypedRule ds q r →
-    Applied ds r place q (given qs) → LeadTo ds q qs
-applied_lead ds r place q qs s t k a =
-    let g = applied_gives ds r place q qs a in record { typed = rule_keeps ds r q qs s t k g; leads = rule_sound ds r q qs s t k g }
+-- a rule whose arguments are typed at a goal
+abbrev pub IsTypedAt : (ds : Declarations) (q : Sequent) → IsTypedGoalOf ds q → Rule → Type 0
+IsTypedAt ds q t r = (ls rs : List TypedName) → IsGoalOver (around ds q t) ls rs (goal_of q.conclusion) → IsTypedRule (around ds q t) r ls rs (goal_of q.conclusion)
+
+-- a row that refuses gives nothing
+none_given : (row : Row) (q : Sequent) (qs : List Sequent) (G : Goal) → goal_of q.conclusion ≡ G → row G ≡ refusing Shape → {X : Type 0} → answered row q ≡ given qs → X
+none_given row q qs G is refuses e = nothing_given _ _ qs (sym (ap (each_concluding q) (ap row is ∙ refuses)) ∙ e)
+
+module _ (g : Grounds) (ds : Declarations) (scope : IsTyped ds) (q : Sequent) (t : IsTypedGoalOf ds q) where
+  -- no rule on judgments works where a module is quantified in front
+  ambient_refused : (r : Rule) (f : Term) → row_of ds r (ambient f) ≡ refusing Shape
+  ambient_refused (rule.OnBodies r) f = g.rules.bodies_refuse ds (rule.OnBodies r) f
+  ambient_refused (rule.Relational r) f = g.rules.equiv_refuses (rule.Relational r) f
+  ambient_refused rule.Smt f = refl
+  ambient_refused rule.Split f = refl
+
+  -- a rule with a law
+  by_law : (r : Rule) (place : Place) (qs : List Sequent) →
+      ((ls rs : List TypedName) → IsGoalOver (around ds q t) ls rs (goal_of q.conclusion) → IsSoundIn (declared ds) (around ds q t) (row_of ds r) (goal_of q.conclusion)) →
+      stepped (row_of ds r) place q ≡ given qs → LeadTo ds q qs
+  by_law r place qs law e = by_front (has_module q.conclusion) refl
+    where
+      gives : answered (row_of ds r) q ≡ given qs
+      gives = given_placed (answered (row_of ds r) q) place qs (sym e)
+
+      by_front : (b : Bool) → has_module q.conclusion ≡ b → LeadTo ds q qs
+      by_front true h = none_given (row_of ds r) q qs (ambient q.conclusion) (g.rules.front q.conclusion h) (ambient_refused r q.conclusion) gives
+      by_front false h =
+          let w = g.rules.goal (around ds q t) q.conclusion t.conclusion h in
+          let k = g.rules.lifted (declared ds) scope q t w.1 w.0.0 w.0.1 w.0.2 (row_of ds r) (law w.0.0 w.0.1 w.0.2) qs gives in
+          record { typed = k.0; leads = k.1 }
+
+  of_smt : (place : Place) (qs : List Sequent) (found : Option Why) → IsAnswerOf (leaves_of q) found → given qs ≡ closed_unless found place → LeadTo ds q qs
+  of_smt place qs None a e =
+      let none : [] ≡ qs = sym (given_is _ _ e) in
+      subst (LeadTo ds q) none (record { typed = tt; leads = λ h. g.rules.smt (declared ds) scope q t a })
+  of_smt place qs (Some why) a e = nothing_given _ _ qs (sym e)
+
+  pub applied_lead : (r : Rule) (place : Place) (qs : List Sequent) → IsTypedAt ds q t r → Applied ds r place q (given qs) → LeadTo ds q qs
+  applied_lead rule.Smt place qs typed a = of_smt place qs a.0 a.1 a.2
+  applied_lead (rule.OnBodies r) place qs typed a =
+      by_law (rule.OnBodies r) place qs
+      (λ ls rs w. g.rules.on_bodies ds scope q t (rule.OnBodies r) (g.rules.outer (declared ds) q t.frames) ls rs (goal_of q.conclusion) w tt) (sym a)
+  applied_lead (rule.Relational r) place qs typed a =
+      by_law (rule.Relational r) place qs
+      (λ ls rs w. g.rules.everywhere (declared ds) (around ds q t) (row_of ds (rule.Relational r)) (goal_of q.conclusion)
+      (g.rules.relational (around ds q t) (rule.Relational r) (g.rules.outer (declared ds) q t.frames) ls rs (goal_of q.conclusion) w (typed ls rs w))) (sym a)
+  applied_lead rule.Split place qs typed a = none_given (row_of ds rule.Split) q qs (goal_of q.conclusion) refl refl (given_placed (answered (row_of ds rule.Split) q) place qs a)

@@ -10,7 +10,8 @@ use Rattle.gb_terms.specs.declared.term.Term.{Term}
 use Rattle.gb_meaning.specs.Names.{Name}
 use Rattle.gb_holds.specs.Declared.{declared}
 use Rattle.gb_holds.specs.Holds.{Holds, IsSound}
-use Rattle.gb_ready.specs.Goals.{IsTypedScope, IsTypedSequent}
+use Rattle.gb_typing.specs.Sequents.{IsTypedSequent}
+use Rattle.gb_typing.specs.Scopes.{context_of, IsTypedScope}
 use Rattle.gb_models.specs.Promised.{HasModel, equivalence, alone, AreCoupledInEachModel}
 use Rattle.gb_verdict.specs.Session.{Session}
 
@@ -26,8 +27,8 @@ LemmaHolds l = Holds (declared l.before) l.statement
 
 -- A lemma that is proved: the declarations before it are typed, and its statement is in them; and it holds.
 pub record IsProved (l : Lemma) : Type 0 where
-  pub scope : IsTypedScope l.before
-  pub typed : IsTypedSequent l.before l.statement
+  pub scope : IsTypedScope (declared l.before)
+  pub typed : IsTypedSequent (context_of (declared l.before)) l.statement
   pub holds : LemmaHolds l
 
 -- What a lemma promises: the declarations before it have a model, so that it doesn't hold for want of one; and where it is an
@@ -58,7 +59,7 @@ pub record AllHold (s : Session) : Type 0 where
 -- What is promised of the session that an accepted script comes to: its scope is typed, so that each name is declared once, and
 -- sound; its lemmas are proved, and keep their promises.
 pub record IsPromised (s : Session) : Type 0 where
-  pub typed : IsTypedScope s.scope
+  pub typed : IsTypedScope (declared s.scope)
   pub sound : IsSound (declared s.scope)
   pub lemmas : AllHold s
   pub promises : AllByRecursion IsPromise (lemmas_in [] s.scope)

@@ -1,10 +1,17 @@
 //! Each lemma of an accepted script holds.
 
 ghost use Rattle.std.specs.Prelude.{ℕ, List};
-ghost use Rattle.gb_elab.specs.Answers.Answer.{given};
+ghost use Rattle.gb_goal.specs.Answers.Answer.{given};
 ghost use Rattle.gb_verdict.specs.Session.{Session};
 ghost use Rattle.gb_verdict.specs.Verdict.{IsOutcome};
 ghost use Rattle.gb_accepted.specs.Holding.{IsPromised};
+
+use gb_elab_laws::declaration_laws::{lemmas, modules, statements};
+use gb_elab_laws::step_laws::typed_rules;
+use gb_models::promise_laws::{equivalences_give_couplings, typed_scopes_have_models};
+use gb_rules::goal_laws::{fronts, typing};
+use gb_rules::rule_laws::{contexts, declared_settings, sequents};
+use gb_smt_laws::smt_laws::sound_smt;
 
 /// Where a script comes to a session, and to no refusal, the scope of the session is typed, so that each name is
 /// declared once; it is sound; and the lemmas that the session names are those of the scope, in their order, each of
@@ -12,4 +19,21 @@ ghost use Rattle.gb_accepted.specs.Holding.{IsPromised};
 /// in each model and from each two related memories, a coupling of both outputs, with its marginals compared at each output.
 pub fn accepted_scripts()
     ensures { (text : List ℕ) (s : Session) → IsOutcome text (given s) → IsPromised s }
-{}
+{
+    modules();
+    statements();
+    lemmas();
+    typed_rules();
+    typing();
+    fronts();
+    contexts();
+    declared_settings();
+    sequents();
+    gb_bodies::laws::rules();
+    gb_bodies::laws::other_forms();
+    gb_equiv::laws::relational_rules();
+    gb_equiv::laws::other_goals();
+    sound_smt();
+    typed_scopes_have_models();
+    equivalences_give_couplings();
+}

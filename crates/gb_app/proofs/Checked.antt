@@ -7,11 +7,11 @@ use Rattle.gb_outside.specs.HeldBytes.{bytes_of}
 use Rattle.gb_outside.specs.Whole.{whole_of, Gives}
 use Rattle.gb_outside.specs.declared.whole.ReadRefused.{ReadRefused}
 use Rattle.gb_outside.specs.declared.whole.ReadRefused.TheVariants as read
-use Rattle.gb_elab.specs.Answers.{Answer}
-use Rattle.gb_elab.specs.Answers.Answer.{given, refused}
+use Rattle.gb_goal.specs.Answers.{Answer}
+use Rattle.gb_goal.specs.Answers.Answer.{given, refused}
 use Rattle.gb_verdict.specs.Session.{Session}
 use Rattle.gb_verdict.specs.Verdict.{IsOutcome}
-use Rattle.gb_accepted.proofs.Accepted.{all_promised}
+use Rattle.gb_accepted.specs.Holding.{IsPromised}
 use Rattle.gb_theory.specs.declared.verdict.Verdict.{Verdict}
 use Rattle.gb_theory.specs.declared.verdict.Verdict.TheVariants.{Accepted, Refused}
 use Rattle.gb_theory.specs.Verdicts.{verdict_of}
@@ -32,31 +32,33 @@ pub text_read : (held : Held) (file : List ℕ) (r : Result (Vec ℕ Global) Rea
 text_read None file r v h e = tt
 text_read (Some held) file r v h e = subst (Gives (whole_of (bytes_of file held))) e h
 
--- a verdict that accepts is that of a session
-of_text : (held : Held) (file text : List ℕ) (ls : List (List ℕ)) → IsRead held file (Ok text) → (r : Answer Session) → IsOutcome text r →
-    Accepted ls ≡ verdict_of r → IsAccepted held file (report_of file (Accepted ls))
-of_text held file text ls h (given s) o e = record {
-  text = text;
-  session = s;
-  read = h;
-  outcome = o;
-  promised = all_promised text s o;
-  names = ap (report_of file) e;
-}
-of_text held file text ls h (refused w p) o e = absurd (cc)
+-- where what is promised of accepted scripts is known
+module _ (promised : (text : List ℕ) (s : Session) → IsOutcome text (given s) → IsPromised s) where
+  -- a verdict that accepts is that of a session
+  of_text : (held : Held) (file text : List ℕ) (ls : List (List ℕ)) → IsRead held file (Ok text) → (r : Answer Session) → IsOutcome text r →
+      Accepted ls ≡ verdict_of r → IsAccepted held file (report_of file (Accepted ls))
+  of_text held file text ls h (given s) o e = record {
+    text = text;
+    session = s;
+    read = h;
+    outcome = o;
+    promised = promised text s o;
+    names = ap (report_of file) e;
+  }
+  of_text held file text ls h (refused w p) o e = absurd (cc)
 
-of_read : (held : Held) (file : List ℕ) (ls : List (List ℕ)) (r : Result (List ℕ) ReadRefused) → IsRead held file r →
-    IsVerdictOn r (Accepted ls) → IsAccepted held file (report_of file (Accepted ls))
-of_read held file ls (Ok text) h v = of_text held file text ls h v.0 v.1 v.2
-of_read held file ls (Err read.Length) h v = absurd (cc)
-of_read held file ls (Err read.NoMemory) h v = absurd v
-of_read held file ls (Err read.Missing) h v = absurd v
-of_read held file ls (Err read.ReadFault) h v = absurd v
+  of_read : (held : Held) (file : List ℕ) (ls : List (List ℕ)) (r : Result (List ℕ) ReadRefused) → IsRead held file r →
+      IsVerdictOn r (Accepted ls) → IsAccepted held file (report_of file (Accepted ls))
+  of_read held file ls (Ok text) h v = of_text held file text ls h v.0 v.1 v.2
+  of_read held file ls (Err read.Length) h v = absurd (cc)
+  of_read held file ls (Err read.NoMemory) h v = absurd v
+  of_read held file ls (Err read.Missing) h v = absurd v
+  of_read held file ls (Err read.ReadFault) h v = absurd v
 
-pub is_accepted : (held : Held) (file : List ℕ) (s : Status) (v : Verdict) → IsVerdictFor held file v → s ≡ status_of v →
-    s ≡ status.Accepted → IsAccepted held file (report_of file v)
-is_accepted held file s (Accepted ls) v e i = of_read held file ls v.0 v.1 v.2
-is_accepted held file s (Refused w p) v e i = absurd (cc)
+  pub is_accepted : (held : Held) (file : List ℕ) (s : Status) (v : Verdict) → IsVerdictFor held file v → s ≡ status_of v →
+      s ≡ status.Accepted → IsAccepted held file (report_of file v)
+  is_accepted held file s (Accepted ls) v e i = of_read held file ls v.0 v.1 v.2
+  is_accepted held file s (Refused w p) v e i = absurd (cc)
 
 -- what holds of the file that words ask for
 pub of_file : (o : Option (List ℕ)) (file : List ℕ) (P : List ℕ → Type 0) → o ≡ Some file → P file → IfSome o P

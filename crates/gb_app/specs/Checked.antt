@@ -5,7 +5,7 @@ use Rattle.gb_outside.specs.HeldBytes.{bytes_of}
 use Rattle.gb_outside.specs.Whole.{whole_of}
 use Rattle.gb_outside.specs.declared.whole.ReadRefused.{ReadRefused}
 use Rattle.gb_outside.specs.declared.whole.ReadRefused.TheVariants as read
-use Rattle.gb_elab.specs.Answers.Answer.{given}
+use Rattle.gb_goal.specs.Answers.Answer.{given}
 use Rattle.gb_verdict.specs.Session.{Session}
 use Rattle.gb_verdict.specs.Verdict.{start, IsOutcome}
 use Rattle.gb_accepted.specs.Holding.{IsPromised}

@@ -15,6 +15,7 @@ ghost use Rattle.gb_app.specs.Reply.{usage_line, IsReport, IsReply};
 use crate::report::{report, write};
 use crate::status::{Status, status_of};
 use crate::words::file_to_check;
+use gb_accepted::laws::accepted_scripts;
 use gb_outside::{Files, ReadRefused, Sink, Source, read_whole, write_all};
 use gb_theory::verdict::{Verdict, too_long, verdict_on};
 use gb_verdict::laws::one_outcome;
@@ -69,6 +70,8 @@ pub fn run<F: Files, I: Source, K: Sink>(
     // Standard input is left alone.
     ensures input { _input.new ≡ _input.old }
 {
+    // Each lemma of an accepted script holds (clause `accepted`).
+    accepted_scripts();
     match file_to_check(words) {
         None => match write_all(out, USAGE) {
             Ok(()) => Status::Usage,

@@ -39,14 +39,14 @@ use Rattle.gb_typing.specs.Typing.{IsForm}
 use Rattle.gb_typing.specs.Programs.{IsExpression, EachStatement, IsBody}
 use Rattle.gb_typing.specs.Fits.{IsSettingOf}
 use Rattle.gb_typing.proofs.Drawing.{body_sound}
-use Rattle.gb_rules.specs.Goals.{Goal}
-use Rattle.gb_rules.specs.Goals.Code.{body, procedure}
-use Rattle.gb_rules.specs.Goals.Goal.{hoare, phoare, equiv, ambient}
+use Rattle.gb_goal.specs.Goal.{Goal}
+use Rattle.gb_goal.specs.Goal.Code.{body, procedure}
+use Rattle.gb_goal.specs.Goal.Goal.{hoare, phoare, equiv, ambient}
 use Rattle.gb_rules.specs.Forms.{and_form, equal_form, implies_form, not_form, located, every_pair}
 use Rattle.gb_rules.specs.Meaning.{run, denominator, Stands}
 use Rattle.gb_rules.specs.Rules.{IsSoundRule, no_arguments, Acts, outermost}
 use Rattle.gb_rules.specs.Rules.Acts.{on_all, on_left, on_right}
-use Rattle.gb_rules.specs.Rules.Answer.{given}
+use Rattle.gb_goal.specs.Answers.Answer.{given}
 use Rattle.gb_rules.specs.Typing.{IsTypedGoal}
 use Rattle.gb_rules.proofs.Ambient.{pair_typed, pair_meaning}
 use Rattle.gb_rules.proofs.Branches.{branch_good}

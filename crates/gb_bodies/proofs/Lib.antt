@@ -1,3 +1,6 @@
-pub mod SkipIsSound
-pub mod SeqIsSound
 pub mod IfIsSound
+pub mod ProcIsSound
+pub mod RulesAreSound
+pub mod SeqIsSound
+pub mod SkipIsSound
+mod Others

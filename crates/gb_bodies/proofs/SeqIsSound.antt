@@ -13,8 +13,8 @@ use Rattle.gb_meaning.specs.Setting.{Setting}
 use Rattle.gb_meaning.specs.State.{State, at, between}
 use Rattle.gb_meaning.specs.Judgments.{IsTrueUnder}
 use Rattle.gb_typing.specs.Context.{Context}
-use Rattle.gb_rules.specs.Goals.Code.{body, procedure}
-use Rattle.gb_rules.specs.Goals.Goal.{hoare, phoare, equiv, ambient}
+use Rattle.gb_goal.specs.Goal.Code.{body, procedure}
+use Rattle.gb_goal.specs.Goal.Goal.{hoare, phoare, equiv, ambient}
 use Rattle.gb_rules.specs.Meaning.{run, denominator}
 use Rattle.gb_rules.specs.Rules.{Implies, IsSoundRule}
 use Rattle.gb_rules.proofs.Given.{refused_given, sound_given_if}

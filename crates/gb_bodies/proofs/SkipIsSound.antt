@@ -8,8 +8,8 @@ use Rattle.gb_meaning.specs.State.{at, between}
 use Rattle.gb_meaning.specs.Judgments.{IsTrueUnder}
 use Rattle.gb_typing.specs.Context.{Context}
 use Rattle.gb_typing.specs.Sequents.{one, two}
-use Rattle.gb_rules.specs.Goals.Code.{body, procedure}
-use Rattle.gb_rules.specs.Goals.Goal.{hoare, phoare, equiv, ambient}
+use Rattle.gb_goal.specs.Goal.Code.{body, procedure}
+use Rattle.gb_goal.specs.Goal.Goal.{hoare, phoare, equiv, ambient}
 use Rattle.gb_rules.specs.Forms.{implies_form}
 use Rattle.gb_rules.specs.Rules.{IsSoundRule, no_arguments}
 use Rattle.gb_rules.proofs.Ambient.{one_typed, one_meaning, pair_typed, pair_meaning}

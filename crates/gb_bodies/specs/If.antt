@@ -10,13 +10,15 @@ use Rattle.gb_terms.specs.declared.term.Head.TheOpen as layer
 use Rattle.gb_terms.specs.declared.term.Subject.{Subject}
 use Rattle.gb_terms.specs.declared.term.Instr.{Instr, out-Instr}
 use Rattle.gb_terms.specs.declared.term.Cmd.{Cmd}
-use Rattle.gb_rules.specs.Goals.{Goal}
-use Rattle.gb_rules.specs.Goals.Code.{body}
-use Rattle.gb_rules.specs.Goals.Goal.{hoare, phoare, equiv, ambient}
+use Rattle.gb_goal.specs.Goal.{Goal}
+use Rattle.gb_goal.specs.Goal.Code.{body}
+use Rattle.gb_goal.specs.Goal.Goal.{hoare, phoare, equiv, ambient}
 use Rattle.gb_rules.specs.Forms.{and_form, not_form, implies_form, equal_form, located, every_pair}
-use Rattle.gb_rules.specs.Rules.{Answer, Row, Acts}
+use Rattle.gb_goal.specs.Answers.{Answer}
+use Rattle.gb_goal.specs.Rows.{Row, refusing}
+use Rattle.gb_rules.specs.Rules.{Acts}
 use Rattle.gb_rules.specs.Rules.Acts.{on_all, on_left, on_right}
-use Rattle.gb_rules.specs.Rules.Answer.{given, refused}
+use Rattle.gb_goal.specs.Answers.Answer.{given}
 
 -- a branch, and what follows it
 pub record Branch : Type 0 where
@@ -43,13 +45,13 @@ where_false b = b.if_false.list ++ b.rest
 
 -- the goals of both sides of one branch, in a memory; a goal is made of statements and a precondition
 abbrev pub of_one : (List Instr → Term → Goal) → Side → Term → Option Branch → Answer (List Goal)
-of_one goal r p None = refused Shape
+of_one goal r p None = refusing Shape
 of_one goal r p (Some b) =
     given (goal (where_true b) (and_form p (located r b.test)) ∷ goal (where_false b) (and_form p (not_form (located r b.test))) ∷ [])
 
 -- the goals of two branches whose tests are equal
 abbrev pub of_both : Term → Term → Option (Branch × Branch) → Answer (List Goal)
-of_both p q None = refused Shape
+of_both p q None = refusing Shape
 of_both p q (Some (a, b)) = given (
     ambient (every_pair (implies_form p (equal_form (located Left a.test) (located Right b.test))))
     ∷ equiv (body (where_true a)) (body (where_true b)) (and_form p (located Left a.test)) q
@@ -61,4 +63,4 @@ if_row on_all (phoare (body is) r p q b) = of_one (λ is p. phoare (body is) r p
 if_row on_all (equiv (body is) (body js) p q) = of_both p q (option_zip (first_branch is) (first_branch js))
 if_row on_left (equiv (body is) (body js) p q) = of_one (λ is p. equiv (body is) (body js) p q) Left p (first_branch is)
 if_row on_right (equiv (body is) (body js) p q) = of_one (λ js p. equiv (body is) (body js) p q) Right p (first_branch js)
-if_row a G = refused Shape
+if_row a G = refusing Shape

@@ -1,3 +1,5 @@
-pub mod Skip
-pub mod Seq
 pub mod If
+pub mod Proc
+pub mod Rows
+pub mod Seq
+pub mod Skip

@@ -2,13 +2,13 @@
 use Rattle.std.specs.Prelude.{[], ◌∷◌}
 use Rattle.gb_core.specs.declared.refusal.Why.TheVariants.{Shape}
 use Rattle.gb_terms.specs.declared.op.Side.TheVariants.{Own}
-use Rattle.gb_rules.specs.Goals.Code.{body}
-use Rattle.gb_rules.specs.Goals.Goal.{hoare, equiv, ambient}
+use Rattle.gb_goal.specs.Goal.Code.{body}
+use Rattle.gb_goal.specs.Goal.Goal.{hoare, equiv, ambient}
 use Rattle.gb_rules.specs.Forms.{implies_form, every, every_pair}
-use Rattle.gb_rules.specs.Rules.{Row}
-use Rattle.gb_rules.specs.Rules.Answer.{given, refused}
+use Rattle.gb_goal.specs.Rows.{Row, refusing}
+use Rattle.gb_goal.specs.Answers.Answer.{given}
 
 abbrev pub skip_row : Row
 skip_row (hoare (body []) p q) = given (ambient (every Own (implies_form p q)) ∷ [])
 skip_row (equiv (body []) (body []) p q) = given (ambient (every_pair (implies_form p q)) ∷ [])
-skip_row G = refused Shape
+skip_row G = refusing Shape

@@ -4,8 +4,8 @@ use Rattle.gb_core.specs.declared.place.Place.{Place}
 use Rattle.gb_core.specs.declared.refusal.Refused.{Refused}
 use Rattle.gb_core.specs.declared.refusal.Refused.TheVariants.{NoMemory, ReadFault, Script}
 use Rattle.gb_core.specs.declared.refusal.Why.{Why}
-use Rattle.gb_elab.specs.Answers.{Answer, ◌>>=◌, Answers, Fails}
-use Rattle.gb_elab.specs.Answers.Answer.{given, refused}
+use Rattle.gb_goal.specs.Answers.{Answer, ◌>>=◌, Answers, Fails}
+use Rattle.gb_goal.specs.Answers.Answer.{given, refused}
 
 -- a refusal stands
 pub passes : {A B : Type 0} (a : Answer A) (k : A → Answer B) (e : Refused) → Fails a e → Fails (a >>= k) e

@@ -11,8 +11,9 @@ use Rattle.gb_script.specs.declared.head.Head.{Head}
 use Rattle.gb_script.specs.declared.head.Head.TheVariants as head
 use Rattle.gb_script.specs.declared.tree.Node.{Node}
 use Rattle.gb_script.specs.Tree.{head_of, text_of, parts_of, place_of}
-use Rattle.gb_elab.specs.Answers.{Answer, ◌>>=◌, not_built, truth, wanted}
-use Rattle.gb_elab.specs.Answers.Answer.{given, refused}
+use Rattle.gb_goal.specs.Answers.{Answer, ◌>>=◌, not_built}
+use Rattle.gb_elab.specs.Wanted.{truth, wanted}
+use Rattle.gb_goal.specs.Answers.Answer.{given, refused}
 use Rattle.gb_elab.specs.Environment.{Environment}
 use Rattle.gb_elab.specs.Forms.{Typing, typing, elaborated, with_typings, bare, binary, coin, comparison, equalities, equivalence, judgment, negated, quantified, read}
 use Rattle.gb_elab.specs.Judgments.{Named, both_procedures, before, after, equivalent}

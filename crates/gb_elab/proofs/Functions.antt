@@ -8,8 +8,8 @@ use Rattle.gb_script.specs.declared.head.Head.{Head}
 use Rattle.gb_script.specs.declared.head.Head.TheVariants as head
 use Rattle.gb_script.specs.declared.tree.Node.{Node}
 use Rattle.gb_script.specs.Tree.{parts_of}
-use Rattle.gb_elab.specs.Answers.{Answer, ◌>>=◌}
-use Rattle.gb_elab.specs.Answers.Answer.{refused}
+use Rattle.gb_goal.specs.Answers.{Answer, ◌>>=◌}
+use Rattle.gb_goal.specs.Answers.Answer.{refused}
 use Rattle.gb_elab.specs.Environment.{Environment}
 use Rattle.gb_elab.specs.Forms.{FunctionTyping, function, function_typing, only, value_of, with_functions, written_as}
 

@@ -23,8 +23,9 @@ use Rattle.gb_script.specs.declared.tree.Node.{Node}
 use Rattle.gb_script.specs.Tree.{head_of, text_of, parts_of, place_of}
 use Rattle.gb_elab.specs.declared.binders.Quantifier.{Quantifier}
 use Rattle.gb_elab.specs.declared.binders.Quantifier.TheVariants.{Forall, Exists}
-use Rattle.gb_elab.specs.Answers.{Answer, ◌>>=◌, HasType, fits, truth, type_of_term, wanted}
-use Rattle.gb_elab.specs.Answers.Answer.{given, refused}
+use Rattle.gb_goal.specs.Answers.{Answer, ◌>>=◌}
+use Rattle.gb_elab.specs.Wanted.{HasType, fits, truth, type_of_term, wanted}
+use Rattle.gb_goal.specs.Answers.Answer.{given, refused}
 use Rattle.gb_elab.specs.Environment.{Environment, on_side}
 use Rattle.gb_elab.specs.Forms.{Typing, typing, elaborated, bare, binary, bound_by, coin, comparison, equalities, equality, equation, equation_of, equivalence, formula, has_judgments, is_program, joined, judgment, left_side, negated, over, over_all, quantified, quantifier_of, read, under, wants_distribution, with_equalities, with_right_side}
 use Rattle.gb_elab.specs.Judgments.{Named, both_procedures, before, after, equivalent}

@@ -22,8 +22,9 @@ use Rattle.gb_elab.specs.declared.binders.Quantifier.{Quantifier}
 use Rattle.gb_elab.specs.declared.binders.Quantifier.TheVariants.{Forall, Exists}
 use Rattle.gb_elab.specs.declared.setting.Language.{Language}
 use Rattle.gb_elab.specs.declared.setting.Language.TheVariants.{Formula, Program}
-use Rattle.gb_elab.specs.Answers.{Answer, ◌>>=◌, not_built, type_of_term, wanted, truth}
-use Rattle.gb_elab.specs.Answers.Answer.{given, refused}
+use Rattle.gb_goal.specs.Answers.{Answer, ◌>>=◌, not_built}
+use Rattle.gb_elab.specs.Wanted.{type_of_term, wanted, truth}
+use Rattle.gb_goal.specs.Answers.Answer.{given, refused}
 use Rattle.gb_elab.specs.Environment.{Name, Environment, on_side}
 use Rattle.gb_elab.specs.Judgments.{both_procedures, before, after, equivalent}
 use Rattle.gb_elab.specs.Names.{unit, path, named, sided, in_memory}

@@ -1,4 +1,4 @@
-pub mod Answers
+pub mod Wanted
 pub mod Types
 pub mod Environment
 pub mod Names

@@ -21,8 +21,9 @@ use Rattle.gb_script.specs.declared.tree.Node.{Node}
 use Rattle.gb_script.specs.Tree.{text_of, place_of}
 use Rattle.gb_elab.specs.declared.names.Constant.{Constant}
 use Rattle.gb_elab.specs.declared.names.Constant.TheVariants as constant
-use Rattle.gb_elab.specs.Answers.{Answer, ◌>>=◌, given_or, counted}
-use Rattle.gb_elab.specs.Answers.Answer.{given, refused}
+use Rattle.gb_goal.specs.Answers.{Answer, ◌>>=◌, given_or}
+use Rattle.gb_elab.specs.Wanted.{counted}
+use Rattle.gb_goal.specs.Answers.Answer.{given, refused}
 use Rattle.gb_elab.specs.Environment.{Name, Environment, own, on_side}
 
 -- a name with further words behind it, a dot before each

@@ -5,8 +5,9 @@ ghost use Rattle.std.specs.Option.{option_copied};
 ghost use Rattle.gb_core.specs.declared.ty.Ty.TheVariants.{Distr};
 ghost use Rattle.gb_terms.specs.declared.term.Head.TheVariants.{Builtin};
 ghost use Rattle.gb_terms.specs.Make.{node};
-ghost use Rattle.gb_elab.specs.Answers.{Answers, truth};
-ghost use Rattle.gb_elab.specs.Answers.Answer.{given};
+ghost use Rattle.gb_goal.specs.Answers.{Answers};
+ghost use Rattle.gb_elab.specs.Wanted.{truth};
+ghost use Rattle.gb_goal.specs.Answers.Answer.{given};
 ghost use Rattle.gb_elab.specs.Environment.{environment};
 ghost use Rattle.gb_elab.specs.Forms.{coin, formula, judgment, wants_distribution};
 

@@ -1,8 +1,8 @@
 // Bound variables and the quantifiers over them.
 
 ghost use Rattle.std.specs.Prelude.{◌≡◌, [], ◌∷◌, ◌++◌, IfOk, reverse};
-ghost use Rattle.gb_elab.specs.Answers.{Answers, ◌>>=◌ as ◌and_then◌};
-ghost use Rattle.gb_elab.specs.Answers.Answer.{given};
+ghost use Rattle.gb_goal.specs.Answers.{Answers, ◌>>=◌ as ◌and_then◌};
+ghost use Rattle.gb_goal.specs.Answers.Answer.{given};
 ghost use Rattle.gb_elab.specs.Types.{type_of};
 ghost use Rattle.gb_script.specs.Tree.{head_of, parts_of, place_of};
 ghost use Rattle.gb_elab.specs.Forms.{bound_by, bound_in, of_type, over, over_all, quantifier_of};

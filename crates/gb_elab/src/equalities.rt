@@ -5,8 +5,9 @@ ghost use Rattle.std.specs.Option.{option_copied};
 ghost use Rattle.gb_core.specs.declared.refusal.Why.TheVariants.{TypeMismatch};
 ghost use Rattle.gb_same.specs.Types.{ty_eq};
 ghost use Rattle.gb_terms.specs.Make.{applied};
-ghost use Rattle.gb_elab.specs.Answers.{Answers, ◌>>=◌ as ◌and_then◌, truth, type_of_term};
-ghost use Rattle.gb_elab.specs.Answers.Answer.{given, refused};
+ghost use Rattle.gb_goal.specs.Answers.{Answers, ◌>>=◌ as ◌and_then◌};
+ghost use Rattle.gb_elab.specs.Wanted.{truth, type_of_term};
+ghost use Rattle.gb_goal.specs.Answers.Answer.{given, refused};
 ghost use Rattle.gb_elab.specs.Environment.{environment};
 ghost use Rattle.gb_elab.specs.Forms.{equalities, equality, equation, equation_of, with_equalities};
 

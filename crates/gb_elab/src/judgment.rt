@@ -6,7 +6,7 @@ ghost use Rattle.gb_terms.specs.Make.{node};
 ghost use Rattle.gb_terms.specs.declared.term.Head.TheVariants.{Equiv, Proc as procedure};
 ghost use Rattle.gb_goal.specs.Scope.{proc_of};
 ghost use Rattle.gb_script.specs.Tree.{text_of, parts_of, place_of};
-ghost use Rattle.gb_elab.specs.Answers.{Answers, Gives};
+ghost use Rattle.gb_goal.specs.Answers.{Answers, Gives};
 ghost use Rattle.gb_elab.specs.Environment.{environment};
 ghost use Rattle.gb_elab.specs.Judgments.{about_procedure, both_procedures, equivalent, named_module, named_procedure, procedure_at, procedure_path, reference, result_of};
 

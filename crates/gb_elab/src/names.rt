@@ -4,8 +4,9 @@ ghost use Rattle.std.specs.Prelude.{◌≡◌, ◌++◌, Ok, IfOk, OnOk, bytes_e
 ghost use Rattle.std.specs.List.{list_any};
 ghost use Rattle.std.specs.Option.{option_copied};
 ghost use Rattle.gb_script.specs.Tree.{head_of};
-ghost use Rattle.gb_elab.specs.Answers.{Answers, Fails, Gives, Refuses, counted};
-ghost use Rattle.gb_elab.specs.Answers.Answer.{given};
+ghost use Rattle.gb_goal.specs.Answers.{Answers, Fails, Gives, Refuses};
+ghost use Rattle.gb_elab.specs.Wanted.{counted};
+ghost use Rattle.gb_goal.specs.Answers.Answer.{given};
 ghost use Rattle.gb_elab.specs.Environment.{environment};
 ghost use Rattle.gb_elab.specs.Forms.{beside, remembered, side_of};
 ghost use Rattle.gb_elab.specs.Names.{bound_variable, built_in, constant_term, dotted, first_named, in_memory, is_variable, logical_variable, named, names_no_value, names_other, no_variable, number_before, own_variable, path, program_variable, sided, unbound, unit};

@@ -1,7 +1,7 @@
 // Refusals with their places.
 
 ghost use Rattle.std.specs.Prelude.{◌≡◌};
-ghost use Rattle.gb_elab.specs.Answers.{Refuses};
+ghost use Rattle.gb_goal.specs.Answers.{Refuses};
 
 use gb_core::name::Name;
 use gb_core::place::Place;

@@ -1,40 +1,148 @@
 // Types, and the type that a form is wanted to have.
 
-ghost use Rattle.std.specs.Prelude.{◌≡◌};
+ghost use Rattle.std.specs.Prelude.{◌≡◌, ◌≤◌, IfOk, take};
 ghost use Rattle.std.specs.Option.{option_copied};
 ghost use Rattle.gb_terms.specs.declared.term.Term.{Term};
-ghost use Rattle.gb_elab.specs.Answers.{Answer, Answers, ◌>>=◌ as ◌and_then◌, fits, wanted};
-ghost use Rattle.gb_elab.specs.Types.{plain_type, spelled, spelling, type_of, with_spellings};
+ghost use Rattle.gb_goal.specs.Answers.{Answer, Answers, ◌>>=◌ as ◌and_then◌};
+ghost use Rattle.gb_elab.specs.Wanted.{fits, wanted};
+ghost use Rattle.gb_elab.specs.Types.{all_spelled, bits_type, bracketed_type, int_type, map_type, option_type, plain_type, spelled, spelling, tuple_type, type_of, up_to, with_spellings};
 
-use crate::refusals::{mismatch, not_built};
+use crate::refusals::{argument, mismatch, not_built};
 use gb_core::name::Name;
 use gb_core::place::Place;
 use gb_core::refusal::Refused;
-use gb_core::ty::Ty;
+use gb_core::ty::{Ty, Tys};
+use gb_limits::numbers::number;
 use gb_same::types::same_types;
 use gb_script::head::Head;
 use gb_script::tree::Node;
-use gb_shared::Shared;
+use gb_shared::{Shared, SharedItems};
 use gb_terms::term::Term;
+use sqlite_items::Items;
 use std::alloc::Global;
 
+/// The most bits of a string.
+const BITS: u32 = 16;
+
+/// The greatest modulus.
+const MODULUS: u32 = 65_536;
+
+/// The most parts of a tuple.
+const PARTS: usize = 8;
+
 /// The type of a word.
-fn plain_type(alloc: Global, word: &Name, place: Place) -> Result<Shared<Ty>, Refused>
+fn plain_type(word: &Name, place: Place) -> Result<Ty, Refused>
     ensures { Answers (plain_type word.now place) result }
 {
     let text = word.as_str();
     if text == "unit" {
-        Shared::new(alloc, Ty::Unit).map_err(Refused::from)
+        Ok(Ty::Unit)
     } else if text == "bool" {
-        Shared::new(alloc, Ty::Bool).map_err(Refused::from)
+        Ok(Ty::Bool)
     } else {
-        Err(not_built(place))
+        Err(mismatch(place))
     }
 }
 
-/// The type that a type of a script spells, at this place.
+/// A number from 1 to a bound.
+fn up_to(most: u32, digits: &Node) -> Result<u32, Refused>
+    ensures answer { Answers (up_to most digits.now) result }
+    ensures bounded { IfOk result (λ n. n ≤ most) }
+{
+    match number(digits.text.as_str().as_bytes()) {
+        Ok(n) if n > 0 && n <= u128::from(most) => Ok(n as u32),
+        _ => Err(argument(digits.place)),
+    }
+}
+
+/// Bit strings.
+fn bits_type(parts: &[Node], place: Place) -> Result<Ty, Refused>
+    ensures { Answers (bits_type (with_spellings parts.now) place) result }
+{
+    match parts {
+        [count] => Ok(Ty::Bits(up_to(BITS, count)? as u8)),
+        _ => Err(not_built(place)),
+    }
+}
+
+/// Integers, which have a modulus.
+fn int_type(parts: &[Node], place: Place) -> Result<Ty, Refused>
+    ensures { Answers (int_type (with_spellings parts.now) place) result }
+{
+    match parts {
+        [] => Err(mismatch(place)),
+        [modulus] => Ok(Ty::Mod(up_to(MODULUS, modulus)?)),
+        _ => Err(not_built(place)),
+    }
+}
+
+/// A type in brackets.
 #[cycle(types)]
-fn spelled(alloc: Global, t: &Node, place: Place) -> Result<Shared<Ty>, Refused>
+fn bracketed_type(alloc: Global, parts: &[Node], place: Place) -> Result<Ty, Refused>
+    ensures { Answers (bracketed_type (with_spellings parts.now) place) result }
+{
+    match parts {
+        [inner] => spelled(alloc, inner, place),
+        _ => Err(not_built(place)),
+    }
+}
+
+/// Options.
+#[cycle(types)]
+fn option_type(alloc: Global, parts: &[Node], place: Place) -> Result<Ty, Refused>
+    ensures { Answers (option_type (with_spellings parts.now) place) result }
+{
+    match parts {
+        [inner] => {
+            let inner = spelled(alloc, inner, place)?;
+            Ok(Ty::Opt(Shared::new(alloc, inner)?))
+        }
+        _ => Err(not_built(place)),
+    }
+}
+
+/// Finite maps.
+#[cycle(types)]
+fn map_type(alloc: Global, parts: &[Node], place: Place) -> Result<Ty, Refused>
+    ensures { Answers (map_type (with_spellings parts.now) place) result }
+{
+    match parts {
+        [key, value] => {
+            let key = spelled(alloc, key, place)?;
+            let value = spelled(alloc, value, place)?;
+            Ok(Ty::Map(Shared::new(alloc, key)?, Shared::new(alloc, value)?))
+        }
+        _ => Err(not_built(place)),
+    }
+}
+
+/// The types of the parts that a tuple may have, from left to right.
+#[cycle(types)]
+fn first_parts(alloc: Global, parts: &[Node], place: Place) -> Result<Tys, Refused>
+    ensures { Answers (all_spelled (take 8 (with_spellings parts.now)) place) result }
+{
+    let mut types = Items::new(alloc);
+    for i in 0..parts.len().min(PARTS) {
+        types.push(spelled(alloc, &parts[i], place)?)?;
+    }
+    Ok(types)
+}
+
+/// Tuples.
+#[cycle(types)]
+fn tuple_type(alloc: Global, parts: &[Node], place: Place) -> Result<Ty, Refused>
+    ensures { Answers (tuple_type (with_spellings parts.now) place) result }
+{
+    let types = first_parts(alloc, parts, place)?;
+    match parts.get(PARTS) {
+        Some(extra) => Err(argument(extra.place)),
+        None => Ok(Ty::Tuple(SharedItems::new(alloc, types)?)),
+    }
+}
+
+/// The type that a type of a script spells, where the whole type that is written stands at this place.
+#[cycle(types)]
+fn spelled(alloc: Global, t: &Node, place: Place) -> Result<Ty, Refused>
     ensures { Answers (spelled t.now place) result }
 {
     spelling(alloc, t.head, &t.text, t.parts.as_slice(), place)
@@ -48,15 +156,17 @@ fn spelling(
     text: &Name,
     parts: &[Node],
     place: Place,
-) -> Result<Shared<Ty>, Refused>
+) -> Result<Ty, Refused>
     ensures { Answers (spelling head text.now (with_spellings parts.now) place) result }
 {
     match head {
-        Head::PlainType => plain_type(alloc, text, place),
-        Head::BracketedType => match parts {
-            [inner] => spelled(alloc, inner, place),
-            _ => Err(not_built(place)),
-        },
+        Head::PlainType => plain_type(text, place),
+        Head::BitsType => bits_type(parts, place),
+        Head::IntType => int_type(parts, place),
+        Head::BracketedType => bracketed_type(alloc, parts, place),
+        Head::OptionType => option_type(alloc, parts, place),
+        Head::MapType => map_type(alloc, parts, place),
+        Head::ProductType => tuple_type(alloc, parts, place),
         _ => Err(not_built(place)),
     }
 }
@@ -65,11 +175,12 @@ fn spelling(
 ///
 /// # Errors
 ///
-/// `Syntax` of a type that isn't built.
+/// `Argument` of a number that no type has, and of the ninth part of a tuple; `TypeMismatch` of a type that holds `int` or `real`, which
+/// stand in formulas alone; `Syntax` of a type that isn't built.
 pub fn type_of(alloc: Global, t: &Node) -> Result<Shared<Ty>, Refused>
     ensures { Answers (type_of t.now) result }
 {
-    spelled(alloc, t, t.place)
+    Shared::new(alloc, spelled(alloc, t, t.place)?).map_err(Refused::from)
 }
 
 /// Whether a form of this type may stand where a type is wanted, or none.

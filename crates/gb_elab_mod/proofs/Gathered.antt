@@ -1,7 +1,7 @@
 -- Answers that are gathered in a list, one after another.
 use Rattle.std.proofs.Common.{List, ◌++◌}
-use Rattle.gb_elab.specs.Answers.{Answer, ◌>>=◌}
-use Rattle.gb_elab.specs.Answers.Answer.{given}
+use Rattle.gb_goal.specs.Answers.{Answer, ◌>>=◌}
+use Rattle.gb_goal.specs.Answers.Answer.{given}
 
 -- what is given, behind what was given before
 abbrev pub behind : {A : Type 0} → List A → Answer (List A) → Answer (List A)

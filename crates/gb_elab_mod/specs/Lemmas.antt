@@ -12,11 +12,11 @@ use Rattle.gb_script.specs.declared.head.Head.{Head}
 use Rattle.gb_script.specs.declared.head.Head.TheVariants as head
 use Rattle.gb_script.specs.declared.tree.Node.{Node}
 use Rattle.gb_script.specs.Tree.{head_of, text_of, parts_of, place_of}
-use Rattle.gb_elab.specs.Answers.{Answer, ◌>>=◌, not_built}
-use Rattle.gb_elab.specs.Answers.Answer.{given, refused}
+use Rattle.gb_goal.specs.Answers.{Answer, ◌>>=◌, not_built}
+use Rattle.gb_goal.specs.Answers.Answer.{given, refused}
 use Rattle.gb_elab.specs.Environment.{ambient}
 use Rattle.gb_elab.specs.Forms.{elaborated}
-use Rattle.gb_elab_mod.specs.Unbuilt.{absent}
+use Rattle.gb_elab_mod.specs.Bound.{binders}
 
 -- a name that the script hasn't declared
 abbrev pub free : Declarations → Node → Answer (Unit {0})
@@ -46,7 +46,7 @@ small f = if nat_lt 65536 (term_nodes f) then refused (TooMany 65536) (record { 
 unfoldable pub stated : Declarations → Node → List Node → Node → Answer Sequent
 stated ds x bs t = do
   _ ← free ds x
-  _ ← absent bs (place_of x)
+  _ ← binders ds bs (place_of x)
   f ← elaborated t (ambient ds nothing_around) [] (Some bool_ty)
   g ← small f
   given (alone g)

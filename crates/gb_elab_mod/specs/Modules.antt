@@ -11,10 +11,11 @@ use Rattle.gb_script.specs.declared.head.Head.{Head}
 use Rattle.gb_script.specs.declared.head.Head.TheVariants as head
 use Rattle.gb_script.specs.declared.tree.Node.{Node}
 use Rattle.gb_script.specs.Tree.{head_of, text_of, parts_of, place_of}
-use Rattle.gb_elab.specs.Answers.{Answer, ◌>>=◌, not_built}
-use Rattle.gb_elab.specs.Answers.Answer.{given, refused}
+use Rattle.gb_goal.specs.Answers.{Answer, ◌>>=◌, not_built}
+use Rattle.gb_goal.specs.Answers.Answer.{given, refused}
 use Rattle.gb_elab_mod.specs.Lemmas.{free, nothing_around}
 use Rattle.gb_elab_mod.specs.Procedures.{procedure}
+use Rattle.gb_elab_mod.specs.Bound.{parameters}
 use Rattle.gb_elab_mod.specs.Unbuilt.{absent}
 
 -- procedures beside those that are declared
@@ -47,7 +48,7 @@ without_globals ts p = if list_any (λ t. is_globals (head_of t)) ts then not_bu
 unfoldable pub plain : Declarations → Node → List Node → List Node → List Node → Answer Module
 plain ds x qs m ts = do
   _ ← free ds x
-  _ ← absent qs (place_of x)
+  _ ← parameters ds x qs
   _ ← absent m (place_of x)
   _ ← without_globals ts (place_of x)
   ps ← procedures ds nothing_around [] ts

@@ -19,8 +19,8 @@ use Rattle.gb_script.specs.declared.head.Head.{Head}
 use Rattle.gb_script.specs.declared.head.Head.TheVariants as head
 use Rattle.gb_script.specs.declared.tree.Node.{Node}
 use Rattle.gb_script.specs.Tree.{head_of, text_of, parts_of, place_of}
-use Rattle.gb_elab.specs.Answers.{Answer, ◌>>=◌, not_built}
-use Rattle.gb_elab.specs.Answers.Answer.{given, refused}
+use Rattle.gb_goal.specs.Answers.{Answer, ◌>>=◌, not_built}
+use Rattle.gb_goal.specs.Answers.Answer.{given, refused}
 use Rattle.gb_elab.specs.Environment.{Environment, program}
 use Rattle.gb_elab.specs.Forms.{elaborated}
 use Rattle.gb_elab.specs.Names.{unit, own_variable}

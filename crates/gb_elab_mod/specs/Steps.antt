@@ -17,14 +17,16 @@ use Rattle.gb_terms.specs.declared.term.Cmd.{Cmd}
 use Rattle.gb_goal.specs.declared.sequent.Sequent.{Sequent}
 use Rattle.gb_goal.specs.declared.step.Rule.{Rule}
 use Rattle.gb_goal.specs.declared.step.Rule.TheVariants as rule
+use Rattle.gb_goal.specs.declared.step.BodyRule.TheVariants as on_bodies
+use Rattle.gb_goal.specs.declared.step.RelationalRule.TheVariants as relational
 use Rattle.gb_goal.specs.declared.step.Step.{Step}
 use Rattle.gb_goal.specs.Scope.{Declarations}
 use Rattle.gb_script.specs.declared.head.Head.{Head as Kind}
 use Rattle.gb_script.specs.declared.head.Head.TheVariants as text
 use Rattle.gb_script.specs.declared.tree.Node.{Node}
 use Rattle.gb_script.specs.Tree.{head_of, text_of, parts_of, place_of}
-use Rattle.gb_elab.specs.Answers.{Answer, ◌>>=◌, not_built}
-use Rattle.gb_elab.specs.Answers.Answer.{given, refused}
+use Rattle.gb_goal.specs.Answers.{Answer, ◌>>=◌, not_built}
+use Rattle.gb_goal.specs.Answers.Answer.{given, refused}
 use Rattle.gb_elab.specs.Environment.{Environment, of_function}
 use Rattle.gb_elab.specs.Forms.{function}
 use Rattle.gb_elab_mod.specs.Occurring.{occurring}
@@ -106,14 +108,14 @@ abbrev pub typed_rule : Declarations → Sequent → Kind → List ℕ → List 
 typed_rule ds g text.Proc x (b ∷ invariant ∷ []) p = do
   _ ← absent (parts_of b) p
   _ ← absent (parts_of invariant) p
-  given rule.Proc
+  given (rule.OnBodies on_bodies.Proc)
 typed_rule ds g text.Rnd x (b ∷ fs) p = do
   _ ← absent (parts_of b) p
   ts ← couplings ds g (functions_of fs)
-  given (rule.Rnd ts)
+  given (rule.Relational (relational.Rnd ts))
 typed_rule ds g text.BodyStep x (b ∷ []) p = do
   _ ← absent (parts_of b) p
-  if bytes_eq x (codes "skip") then given rule.Skip else not_built p
+  if bytes_eq x (codes "skip") then given (rule.OnBodies on_bodies.Skip) else not_built p
 typed_rule ds g text.PlainStep x [] p = if bytes_eq x (codes "split") then given rule.Split else not_built p
 typed_rule ds g text.Smt x hints p = do
   _ ← absent hints p

@@ -3,12 +3,12 @@
 ghost use Rattle.std.specs.Prelude.{◌≡◌, [], Some, None, IfOk, OnOk};
 ghost use Rattle.gb_script.specs.Tree.{text_of};
 ghost use Rattle.gb_goal.specs.Scope.{entry_of};
-ghost use Rattle.gb_elab.specs.Answers.{Answers};
+ghost use Rattle.gb_goal.specs.Answers.{Answers};
 ghost use Rattle.gb_elab.specs.Environment.{ambient as in_sequent};
 ghost use Rattle.gb_elab.specs.Forms.{elaborated};
 ghost use Rattle.gb_elab_mod.specs.Lemmas.{free, lemma_name, name_in, nothing_around, stated, statement_by, statement_given};
 
-use crate::unbuilt::refuse_any;
+use crate::bound::refuse_binders;
 use gb_core::place::Place;
 use gb_core::refusal::Refused;
 use gb_core::ty::Ty;
@@ -48,8 +48,8 @@ pub fn refuse_declared(alloc: Global, scope: &Scope, name: &Node) -> Result<(), 
 ///
 /// # Errors
 ///
-/// `DoubleName` at the lemma's name where it is taken, `Syntax` there where it binds something, those of typing with the
-/// wanted type `bool`, and `TooMany` of the nodes of a formula, whose place is for the caller to put in.
+/// `DoubleName` at the lemma's name where it is taken, and at the name that its first binder gives a module where a declared one
+/// has it; `Syntax` at the lemma's name where it binds something else; those of typing with the wanted type `bool`, and `TooMany` of the nodes of a formula, whose place is for the caller to put in.
 pub fn statement(alloc: Global, scope: &Scope, tree: &Node) -> Result<Sequent, Refused>
     ensures answer { Answers (statement_given scope.now tree.now) result }
     ensures free { OnOk result (entry_of scope.now (lemma_name tree.now) ≡ None) }
@@ -90,7 +90,7 @@ fn stated(
     ensures free { OnOk result (entry_of scope.now (text_of name.now) ≡ None) }
 {
     refuse_declared(alloc, scope, name)?;
-    refuse_any(binders, name.place)?;
+    refuse_binders(alloc, scope, binders, name.place)?;
     let conclusion = truth(alloc, scope, form)?;
     if nodes_of(&conclusion) > NODES {
         return Err(too_many(NODES));

@@ -1,6 +1,7 @@
 //! Typing of modules, of the statements of lemmas, and of proof steps.
 #![tactic(auto)]
 
+pub mod bound;
 pub mod couplings;
 pub mod lemma;
 pub mod module;

@@ -4,10 +4,11 @@ ghost use Rattle.std.specs.Prelude.{◌≡◌, [], None, IfOk};
 ghost use Rattle.std.specs.List.{list_any};
 ghost use Rattle.gb_script.specs.Tree.{head_of};
 ghost use Rattle.gb_goal.specs.Scope.{entry_of};
-ghost use Rattle.gb_elab.specs.Answers.{Answers};
+ghost use Rattle.gb_goal.specs.Answers.{Answers};
 ghost use Rattle.gb_elab_mod.specs.Lemmas.{nothing_around};
 ghost use Rattle.gb_elab_mod.specs.Modules.{all_short, is_globals, module_by, module_given, plain, procedures, short, without_globals};
 
+use crate::bound::refuse_parameters;
 use crate::lemma::{nothing_around, refuse_declared};
 use crate::procedure::procedure;
 use crate::unbuilt::refuse_any;
@@ -29,7 +30,8 @@ pub const STATEMENTS: usize = 512;
 ///
 /// # Errors
 ///
-/// `DoubleName` at the module's name where it is taken, `Syntax` there where it has parameters, a type or globals,
+/// `DoubleName` at the module's name where it is taken, and at that of its first parameter where the module itself or a declared
+/// one has it; `Syntax` at the module's name where it has parameters, a type or globals,
 /// `DoubleName` at the second procedure of one name, those of `procedure`, and then `TooMany` statements of a body.
 /// `Syntax` at the place of the tree where it declares no module of its own.
 pub fn module(alloc: Global, scope: &Scope, tree: &Node) -> Result<Module, Refused>
@@ -83,7 +85,7 @@ fn plain(
     ensures free { IfOk result (λ m. entry_of scope.now m.name ≡ None) }
 {
     refuse_declared(alloc, scope, name)?;
-    refuse_any(parameters, name.place)?;
+    refuse_parameters(alloc, scope, name, parameters)?;
     refuse_any(ty, name.place)?;
     refuse_globals(items, name.place)?;
     let procs = typed_procedures(alloc, scope, items)?;

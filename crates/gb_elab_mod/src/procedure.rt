@@ -3,8 +3,8 @@
 ghost use Rattle.std.specs.Prelude.{◌≡◌, [], Some, MatchResult, bytes_eq};
 ghost use Rattle.std.specs.List.{list_any};
 ghost use Rattle.gb_core.specs.declared.ty.Ty.TheVariants.{Distr};
-ghost use Rattle.gb_elab.specs.Answers.{Answers, Fails, Gives};
-ghost use Rattle.gb_elab.specs.Answers.Answer.{given};
+ghost use Rattle.gb_goal.specs.Answers.{Answers, Fails, Gives};
+ghost use Rattle.gb_goal.specs.Answers.Answer.{given};
 ghost use Rattle.gb_elab.specs.Environment.{environment};
 ghost use Rattle.gb_elab.specs.Forms.{elaborated};
 ghost use Rattle.gb_elab_mod.specs.Procedures.{declared, instruction, instructions, lacks_value, locals, procedure, procedure_by, result_of, result_type, sampling, undeclared, untaken, value, variables, with_result};

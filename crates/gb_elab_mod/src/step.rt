@@ -1,6 +1,6 @@
 // Proof steps.
 
-ghost use Rattle.gb_elab.specs.Answers.{Answers};
+ghost use Rattle.gb_goal.specs.Answers.{Answers};
 ghost use Rattle.gb_elab_mod.specs.Steps.{step_given, typed_rule};
 
 use crate::couplings::{couplings, functions_of};
@@ -11,7 +11,7 @@ use gb_core::refusal::Refused;
 use gb_elab::refusals::not_built;
 use gb_goal::scope::Scope;
 use gb_goal::sequent::Sequent;
-use gb_goal::step::{Rule, Step};
+use gb_goal::step::{BodyRule, RelationalRule, Rule, Step};
 use gb_script::head::Head;
 use gb_script::tree::Node;
 use std::alloc::Global;
@@ -62,7 +62,7 @@ fn typed_rule(
             [bodies, invariant] => {
                 refuse_any(bodies.parts.as_slice(), place)?;
                 refuse_any(invariant.parts.as_slice(), place)?;
-                Ok(Rule::Proc)
+                Ok(Rule::OnBodies(BodyRule::Proc))
             }
             _ => Err(not_built(place)),
         },
@@ -70,7 +70,7 @@ fn typed_rule(
             [bodies, functions @ ..] => {
                 refuse_any(bodies.parts.as_slice(), place)?;
                 let functions = couplings(alloc, scope, goal, functions_of(functions))?;
-                Ok(Rule::Rnd(functions))
+                Ok(Rule::Relational(RelationalRule::Rnd(functions)))
             }
             _ => Err(not_built(place)),
         },
@@ -78,7 +78,7 @@ fn typed_rule(
             [bodies] => {
                 refuse_any(bodies.parts.as_slice(), place)?;
                 if text.as_str() == "skip" {
-                    Ok(Rule::Skip)
+                    Ok(Rule::OnBodies(BodyRule::Skip))
                 } else {
                     Err(not_built(place))
                 }

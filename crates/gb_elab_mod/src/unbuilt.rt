@@ -1,6 +1,6 @@
 // What isn't built.
 
-ghost use Rattle.gb_elab.specs.Answers.{Answers};
+ghost use Rattle.gb_goal.specs.Answers.{Answers};
 ghost use Rattle.gb_elab_mod.specs.Unbuilt.{absent};
 
 use gb_core::place::Place;

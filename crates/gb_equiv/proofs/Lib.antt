@@ -1,2 +1,3 @@
-pub mod LastStatement
-pub mod Given
+pub mod Maps
+pub mod RndIsSound
+mod Others

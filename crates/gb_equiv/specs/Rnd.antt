@@ -1,95 +1,126 @@
--- The row of `rnd`: two samplings at the end, coupled by a function and its inverse.
-use Rattle.std.specs.Prelude.{◌-◌, if◌then◌else◌, List, [], ◌∷◌, length, take, slice_get, Option, Some, None}
-use Rattle.std.specs.Option.{option_map, option_zip, option_and_then}
-use Rattle.gb_core.specs.declared.ty.Ty.{Ty, out-Ty}
-use Rattle.gb_core.specs.declared.ty.Ty.TheOpen as ty_layer
+-- `rnd`: two samplings at the end, coupled by a function and its inverse.
+use Rattle.std.specs.Prelude.{◌≡◌, if◌then◌else◌, List, [], ◌∷◌, Option, Some, None}
+use Rattle.std.specs.Option.{option_map, option_or, option_zip}
+use Rattle.gb_core.specs.declared.refusal.Why.TheVariants.{Shape, SideCondition}
+use Rattle.gb_core.specs.declared.ty.Ty.{Ty}
 use Rattle.gb_core.specs.declared.var.Var.{Var}
+use Rattle.gb_same.specs.Types.{ty_eq}
+use Rattle.gb_terms.specs.declared.decl.TypedName.{TypedName}
 use Rattle.gb_terms.specs.declared.op.Side.{Side}
-use Rattle.gb_terms.specs.declared.op.Side.TheVariants as side
+use Rattle.gb_terms.specs.declared.op.Side.TheVariants.{Left, Right}
 use Rattle.gb_terms.specs.declared.op.Read.TheVariants.{Program}
-use Rattle.gb_terms.specs.declared.term.Term.{Term, out-Term}
-use Rattle.gb_terms.specs.declared.term.Head.TheVariants.{Sample}
-use Rattle.gb_terms.specs.declared.term.Instr.{Instr}
-use Rattle.gb_terms.specs.declared.term.Cmd.{Cmd, roll-Cmd}
-use Rattle.gb_walk.specs.declared.change.Change.{Change}
-use Rattle.gb_walk.specs.declared.change.Change.TheVariants.{ToTerm}
+use Rattle.gb_terms.specs.declared.term.Term.{Term}
+use Rattle.gb_walk.specs.declared.change.Change.TheVariants.{ToTerm, OfBound}
 use Rattle.gb_walk.specs.Change.{term_changed}
-use Rattle.gb_goal.specs.declared.sequent.Sequent.{Sequent}
-use Rattle.gb_equiv.specs.declared.coupled.Sampled.{Sampled}
+use Rattle.gb_walk.specs.Clash.{first_clash}
+use Rattle.gb_meaning.specs.Written.{type_of}
+use Rattle.gb_changes.specs.Plain.{IsPlain}
+use Rattle.gb_typed.specs.Typing.Binder.{value}
+use Rattle.gb_typing.specs.Context.{Context, within}
+use Rattle.gb_typing.specs.Sequents.{two}
+use Rattle.gb_typing.specs.Typing.{IsTyped}
+use Rattle.gb_goal.specs.Answers.{Answer}
+use Rattle.gb_goal.specs.Answers.Answer.{given}
+use Rattle.gb_goal.specs.Goal.{Goal}
+use Rattle.gb_goal.specs.Goal.Code.{body}
+use Rattle.gb_goal.specs.Goal.Goal.{equiv}
+use Rattle.gb_goal.specs.Rows.{Row, refusing}
+use Rattle.gb_rules.specs.Forms.{and_form, equal_form, located}
+use Rattle.gb_rules.specs.Samplings.{Sampling, last_sampling}
+use Rattle.gb_rules.specs.Supports.{nearest, in_support, weight, for_support}
 use Rattle.gb_equiv.specs.declared.coupled.Maps.{Maps}
 use Rattle.gb_equiv.specs.declared.coupled.Coupled.{Coupled}
-use Rattle.gb_equiv.specs.declared.rnd.Last.{Last}
-use Rattle.gb_same.specs.Types.{ty_eq}
-use Rattle.gb_equiv.specs.Judgment.{OnBodies, bodies_of, on_bodies, on_side, concluding}
-use Rattle.gb_equiv.specs.Coupled.{nearest, coupled_post}
-
--- a sampling at the end of a body: what stands before it, its target, its distribution and the type of the values
-pub record Sampling : Type 0 where
-  pub before : List Instr
-  pub target : Var
-  pub from : Term
-  pub ty : Ty
-
--- the same, of references
-abbrev pub sampling_of : Last → Sampling
-sampling_of l = record { before = l.before.now; target = l.target.now; from = l.from.now; ty = l.ty.now }
-
-abbrev pub of_type : List Instr → Var → Term → ty_layer.Ty-F Ty → Option Sampling
-of_type is x d (ty_layer.Distr t) = Some (record { before = is; target = x; from = d; ty = t })
-of_type is x d _ = None
-
-abbrev pub of_statement : List Instr → Option Instr → Option Sampling
-of_statement is (Some (Sample x d)) = of_type is x d (out-Ty (out-Term d).ty)
-of_statement is _ = None
-
--- the sampling that a body ends with
-abbrev pub last_sampling : Cmd → Option Sampling
-last_sampling c = of_statement (take (length c.list - 1) c.list) (slice_get c.list (length c.list - 1))
-
--- the statements before a sampling
-abbrev pub rest_of : Sampling → Cmd
-rest_of x = roll-Cmd (record { list = x.before })
-
--- the identity of one type
-abbrev pub identity : Ty → Ty → Option Maps
-identity a b = if ty_eq a b then Some (record { forth = nearest a; back = nearest b }) else None
 
 -- the functions forth and back: none is the identity, which needs one type, and one is its own inverse
 abbrev pub maps : List Term → Ty → Ty → Option Maps
-maps [] a b = identity a b
+maps [] a b = if ty_eq a b then Some (record { forth = nearest a; back = nearest b }) else None
 maps (f ∷ []) a b = Some (record { forth = f; back = f })
 maps (f ∷ g ∷ []) a b = Some (record { forth = f; back = g })
 maps _ a b = None
 
--- a sampling, read on a side
-abbrev pub read_on : Side → Sampling → Sampled
-read_on s x = record { from = on_side x.from s; ty = x.ty }
+-- `f (g v)`
+abbrev pub composed : Term → Term → Term
+composed f g = term_changed f (OfBound 0 g ∷ [])
 
+-- Each value on the right is the image of its source on the left, and the two weigh the same:
+-- `forall v, v \in d2 => v = f (g v) /\ mu1 d2 v = mu1 d1 (g v)`.
+abbrev pub keeps_weights : Coupled → Term
+keeps_weights c =
+    for_support c.right.ty c.right.from
+    (and_form (equal_form (nearest c.right.ty) (composed c.maps.forth c.maps.back))
+    (equal_form (weight c.right.from (nearest c.right.ty)) (weight c.left.from c.maps.back)))
+
+-- Each value on the left has an image on the right, whose source it is, and Q holds of the two:
+-- `forall v, v \in d1 => f v \in d2 /\ v = g (f v) /\ Q`.
+abbrev pub couples : Coupled → Term → Term
+couples c q =
+    for_support c.left.ty c.left.from
+    (and_form (and_form (in_support c.maps.forth c.right.from) (equal_form (nearest c.left.ty) (composed c.maps.back c.maps.forth))) q)
+
+-- what is to hold before the two samplings, Q being said of their values
+abbrev pub coupled_post : Coupled → Term → Term
+coupled_post c q = and_form (keeps_weights c) (couples c q)
+
+-- two samplings, read on both sides, and functions between their values
 abbrev pub coupling : Sampling → Sampling → Maps → Coupled
-coupling x y ms = record { left = read_on side.Left x; right = read_on side.Right y; maps = ms }
-
--- the target of a sampling on one side becomes a term
-abbrev pub sampled : Side → Sampling → Term → Change
-sampled s x t = ToTerm (Program x.target s) t
+coupling x y ms = record { left = record { from = located Left x.from; ty = x.ty }; right = record { from = located Right y.from; ty = y.ty }; maps = ms }
 
 -- the postcondition of a sampled value and its image
 abbrev pub with_values : Sampling → Sampling → Maps → Term → Term
-with_values x y ms q = term_changed q (sampled side.Left x (nearest x.ty) ∷ sampled side.Right y ms.forth ∷ [])
+with_values x y ms q = term_changed q (ToTerm (Program x.target Left) (nearest x.ty) ∷ ToTerm (Program y.target Right) ms.forth ∷ [])
 
 -- the postcondition before the two samplings
 abbrev pub post_before : Sampling → Sampling → Maps → Term → Term
 post_before x y ms q = coupled_post (coupling x y ms) (with_values x y ms q)
 
 -- the equivalence of what stands before the two samplings
-abbrev pub without_samplings : Sampling → Sampling → Maps → Term → Term → Term
-without_samplings x y ms p q =
-    on_bodies (rest_of x) (rest_of y) p (post_before x y ms q)
+abbrev pub without_samplings : Sampling → Sampling → Maps → Term → Term → Goal
+without_samplings x y ms p q = equiv (body x.before) (body y.before) p (post_before x y ms q)
 
-abbrev pub on_samplings : List Term → Sequent → OnBodies → Sampling × Sampling → Option (List Sequent)
-on_samplings fs g j xs = option_map (λ ms. concluding g (without_samplings xs.0 xs.1 ms j.pre j.post)) (maps fs xs.0.ty xs.1.ty)
+-- the variable, where the form reads another one beside it that clashes with it
+abbrev pub clashing : Side → Var → Term → Option Var
+clashing r x q = option_map (λ z. x) (first_clash r x q)
+
+-- The target that the postcondition reads beside a variable that clashes with it: the left one, or else the right one.
+abbrev pub clash_of : Sampling → Sampling → Term → Option Var
+clash_of x y q = option_or (clashing Left x.target q) (clashing Right y.target q)
+
+abbrev pub unless_clash : Option Var → Goal → Answer (List Goal)
+unless_clash (Some z) G = refusing (SideCondition z)
+unless_clash None G = given (G ∷ [])
+
+abbrev pub by_maps : Sampling → Sampling → Term → Term → Option Maps → Answer (List Goal)
+by_maps x y p q (Some ms) = unless_clash (clash_of x y q) (without_samplings x y ms p q)
+by_maps x y p q None = refusing Shape
+
+abbrev pub by_ends : List Term → Term → Term → Option (Sampling × Sampling) → Answer (List Goal)
+by_ends fs p q (Some (x, y)) = by_maps x y p q (maps fs x.ty y.ty)
+by_ends fs p q None = refusing Shape
 
 -- the goal without the samplings that end both bodies
-abbrev pub rnd_row : List Term → Sequent → Option (List Sequent)
-rnd_row fs g =
-    option_and_then (λ (j : OnBodies). option_and_then (on_samplings fs g j) (option_zip (last_sampling j.left) (last_sampling j.right)))
-    (bodies_of g.conclusion)
+abbrev pub rnd_row : List Term → Row
+rnd_row fs (equiv (body is) (body js) p q) = by_ends fs p q (option_zip (last_sampling is) (last_sampling js))
+rnd_row fs G = refusing Shape
+
+-- A function from values of a type to values of another: a plain term under a binder of its argument, which may read both memories.
+pub record IsFunction (c : Context) (a b : Ty) (f : Term) : Type 0 where
+  pub typed : IsTyped (within c (value a) None) f
+  pub plain : IsPlain f
+  pub result : type_of f ≡ b
+
+-- functions that couple values of two types: forth and back; one is from a type to itself
+abbrev pub AreFunctions : Context → Ty → Ty → List Term → Type 0
+AreFunctions c a b [] = Unit {0}
+AreFunctions c a b (f ∷ []) = (a ≡ b) × IsFunction c a b f
+AreFunctions c a b (f ∷ h ∷ []) = IsFunction c a b f × IsFunction c b a h
+AreFunctions c a b _ = Unit {0}
+
+-- functions between the values of two samplings, if there are two
+abbrev pub AreBetween : Context → List Term → Option (Sampling × Sampling) → Type 0
+AreBetween c fs (Some (x, y)) = AreFunctions c x.ty y.ty fs
+AreBetween c fs None = Unit {0}
+
+-- the functions of a step: between the values of the samplings that end both bodies
+abbrev pub AreTypedFunctions : Context → List Term → List TypedName → List TypedName → Goal → Type 0
+AreTypedFunctions c fs ls rs (equiv (body is) (body js) p q) = AreBetween (two c ls rs) fs (option_zip (last_sampling is) (last_sampling js))
+AreTypedFunctions c fs ls rs G = Unit {0}

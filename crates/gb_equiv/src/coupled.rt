@@ -1,13 +1,13 @@
 // The postcondition of two coupled samplings.
 
 ghost use Rattle.std.specs.Prelude.{◌≡◌, IfOk};
-ghost use Rattle.gb_equiv.specs.Coupled.{nearest, composed, in_support, weight, for_support, keeps_weights, couples, coupled_post};
+ghost use Rattle.gb_equiv.specs.Rnd.{composed, keeps_weights, couples, coupled_post};
 
 use gb_core::ty::Ty;
+use gb_rules::supports::{for_support, in_support, nearest, weight};
 use gb_shared::Shared;
-use gb_terms::make::{binary, conjunction, equality, forall, implication, leaf, truth_ty};
-use gb_terms::op::Op;
-use gb_terms::term::{Form, Head, Term};
+use gb_terms::make::{conjunction, equality};
+use gb_terms::term::{Form, Term};
 use gb_walk::change::Change;
 use gb_walk::walk::changed;
 use std::alloc::{AllocError, Global};
@@ -35,49 +35,12 @@ pub struct Coupled {
     pub maps: Maps,
 }
 
-/// The value under the nearest binder.
-pub fn nearest(alloc: Global, ty: &Shared<Ty>) -> Result<Term, AllocError>
-    ensures { IfOk result (λ made. made ≡ nearest ty.now) }
-{
-    let ty = ty.share()?;
-    leaf(alloc, Head::Bound(0), ty)
-}
-
 /// The function `outer` after `inner`.
 fn composed(alloc: Global, outer: &Term, inner: &Term) -> Result<Term, AllocError>
     ensures { IfOk result (λ made. made ≡ composed outer.now inner.now) }
 {
     let inner = inner.share()?;
     changed(alloc, outer, &[Change::OfBound(0, inner)])
-}
-
-/// `v \in d`.
-fn has_weight(alloc: Global, value: Term, from: &Term) -> Result<Form, AllocError>
-    ensures { IfOk result (λ made. made ≡ in_support value from.now) }
-{
-    let from = from.share()?;
-    let ty = truth_ty(alloc)?;
-    binary(alloc, Op::InSupport, value, from, ty)
-}
-
-/// `mu1 d v`.
-fn weight(alloc: Global, from: &Term, value: Term) -> Result<Term, AllocError>
-    ensures { IfOk result (λ made. made ≡ weight from.now value) }
-{
-    let from = from.share()?;
-    let ty = Shared::new(alloc, Ty::Real)?;
-    binary(alloc, Op::Mu1, from, value, ty)
-}
-
-/// `forall v, v \in d => F`.
-fn for_support(alloc: Global, sampled: &Sampled, form: Form) -> Result<Form, AllocError>
-    ensures { IfOk result (λ made. made ≡ for_support sampled.now form) }
-{
-    let value = nearest(alloc, &sampled.ty)?;
-    let premise = has_weight(alloc, value, &sampled.from)?;
-    let body = implication(alloc, premise, form)?;
-    let ty = sampled.ty.share()?;
-    forall(alloc, ty, body)
 }
 
 /// Each value v on the right is the image of its source on the left, which has the same probability:
@@ -91,7 +54,7 @@ fn keeps_weights(alloc: Global, c: &Coupled) -> Result<Form, AllocError>
     let there = weight(alloc, &c.left.from, c.maps.back.share()?)?;
     let keeps = equality(alloc, here, there)?;
     let form = conjunction(alloc, returns, keeps)?;
-    for_support(alloc, &c.right, form)
+    for_support(alloc, &c.right.ty, &c.right.from, form)
 }
 
 /// Each value v on the left has an image on the right, of which it is the source, and the postcondition holds of the
@@ -99,11 +62,11 @@ fn keeps_weights(alloc: Global, c: &Coupled) -> Result<Form, AllocError>
 fn couples(alloc: Global, c: &Coupled, post: Form) -> Result<Form, AllocError>
     ensures { IfOk result (λ made. made ≡ couples c.now post) }
 {
-    let lands = has_weight(alloc, c.maps.forth.share()?, &c.right.from)?;
+    let lands = in_support(alloc, c.maps.forth.share()?, &c.right.from)?;
     let round = composed(alloc, &c.maps.back, &c.maps.forth)?;
     let returns = equality(alloc, nearest(alloc, &c.left.ty)?, round)?;
     let form = conjunction(alloc, conjunction(alloc, lands, returns)?, post)?;
-    for_support(alloc, &c.left, form)
+    for_support(alloc, &c.left.ty, &c.left.from, form)
 }
 
 /// What must hold before two coupled samplings, so that `post`, in which the two values stand already, holds after them.

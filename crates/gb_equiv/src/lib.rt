@@ -1,11 +1,9 @@
-//! The relational rules: `proc`, `rnd` and `skip` on equivalences of two programs.
+//! The rules on equivalences of two programs.
 #![tactic(auto)]
 
 mod coupled;
-pub mod judgment;
-mod proc;
+pub mod laws;
 mod rnd;
 mod rule;
-mod skip;
 
 pub use rule::apply;

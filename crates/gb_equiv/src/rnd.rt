@@ -1,62 +1,38 @@
 // The rule `rnd`: two samplings at the end, coupled by a function and its inverse.
 
 ghost use Rattle.std.specs.Prelude.{◌≡◌, ◌∷◌, [], Some, IfOk};
-ghost use Rattle.std.specs.Option.{option_map};
-ghost use Rattle.gb_equiv.specs.Rnd.{sampling_of, rest_of, of_statement, last_sampling, identity, maps, read_on, coupling, sampled, with_values, post_before, without_samplings, rnd_row};
+ghost use Rattle.std.specs.Option.{option_copied};
+ghost use Rattle.gb_core.specs.declared.refusal.Refused.TheVariants.{Script};
+ghost use Rattle.gb_core.specs.declared.refusal.Why.TheVariants.{Shape};
+ghost use Rattle.gb_goal.specs.Answers.{Answers};
+ghost use Rattle.gb_goal.specs.Goal.{form_of};
+ghost use Rattle.gb_goal.specs.Rows.{stepped};
+ghost use Rattle.gb_terms.specs.declared.op.Side.TheVariants.{Own};
+ghost use Rattle.gb_terms.specs.declared.op.Read.TheVariants.{Program};
+ghost use Rattle.gb_walk.specs.declared.change.Change.TheVariants.{ToSide, ToTerm};
+ghost use Rattle.gb_walk.specs.Change.{term_changed};
+ghost use Rattle.gb_rules.specs.Samplings.{sampling_of};
+ghost use Rattle.gb_equiv.specs.Rnd.{maps, with_values, post_before, without_samplings, clash_of, rnd_row};
 
-use crate::coupled::{Coupled, Maps, Sampled, coupled_post, nearest};
-use crate::judgment::{as_bodies, on_bodies, on_side, one_goal};
+use crate::coupled::{Coupled, Maps, Sampled, coupled_post};
 use gb_core::copy::copy_var;
+use gb_core::place::Place;
+use gb_core::refusal::{Refused, Why};
 use gb_core::ty::Ty;
 use gb_core::var::Var;
+use gb_goal::goal::{Code, Goal, equiv, goal_of};
 use gb_goal::sequent::{Sequent, Sequents};
+use gb_rules::samplings::{Last, last_sampling, rest_of};
+use gb_rules::supports::nearest;
 use gb_same::types::same_types;
-use gb_shared::{Shared, SharedItems};
+use gb_shared::Shared;
 use gb_terms::op::{Read, Side};
-use gb_terms::share::share_instrs;
-use gb_terms::term::{Cmd, Form, Instr, Term};
-use gb_walk::change::Change;
+use gb_terms::term::{Form, Term};
+use gb_walk::change::{Change, Changes};
+use gb_walk::clash::first_clash;
 use gb_walk::walk::changed;
 use sqlite_items::Items;
 use std::alloc::{AllocError, Global};
-
-/// The sampling that ends a body, and what stands before it.
-#[derive(Clone, Copy)]
-pub struct Last<'a> {
-    pub before: &'a [Instr],
-    pub target: &'a Var,
-    pub from: &'a Term,
-    pub ty: &'a Shared<Ty>,
-}
-
-/// The sampling that a statement is, behind these statements.
-fn sampling<'a>(before: &'a [Instr], last: &'a Instr) -> Option<Last<'a>>
-    ensures { option_map sampling_of result ≡ of_statement before.now (Some last.now) }
-{
-    match last {
-        Instr::Sample(target, from) => match from.ty.get() {
-            Ty::Distr(ty) => Some(Last {
-                before,
-                target,
-                from,
-                ty,
-            }),
-            _ => None,
-        },
-        _ => None,
-    }
-}
-
-/// The sampling that a body ends with.
-#[tactic(auto, using(crate::proofs::LastStatement::last_statement, crate::proofs::LastStatement::no_statement))]
-fn last_sampling(body: &Cmd) -> Option<Last<'_>>
-    ensures { option_map sampling_of result ≡ last_sampling body.now }
-{
-    match body.list.as_slice().split_last() {
-        Some((last, before)) => sampling(before, last),
-        None => None,
-    }
-}
 
 /// The identity between the values of one type.
 fn identity(
@@ -64,7 +40,7 @@ fn identity(
     left: &Shared<Ty>,
     right: &Shared<Ty>,
 ) -> Result<Option<Maps>, AllocError>
-    ensures { IfOk result (λ made. made ≡ identity left.now right.now) }
+    ensures { IfOk result (λ made. made ≡ maps [] left.now right.now) }
 {
     if !same_types(left.get(), right.get()) {
         return Ok(None);
@@ -84,7 +60,7 @@ fn shared_maps(forth: &Term, back: &Term) -> Result<Option<Maps>, AllocError>
 }
 
 /// The functions between the values: none is the identity, which needs one type, and one is its own inverse.
-#[tactic(auto, using(crate::proofs::Given::too_many))]
+#[tactic(auto, using(crate::proofs::Maps::too_many))]
 fn maps(
     alloc: Global,
     given: &[Term],
@@ -101,26 +77,13 @@ fn maps(
     }
 }
 
-/// A sampling, read on a side.
+/// A sampling, read on a side of an equivalence.
 fn read_on(alloc: Global, sampling: &Last<'_>, side: Side) -> Result<Sampled, AllocError>
-    ensures { IfOk result (λ made. made ≡ read_on side (sampling_of sampling.now)) }
+    ensures { IfOk result (λ made. made ≡ record { from = term_changed sampling.now.from.now (ToSide Own side ∷ []); ty = sampling.now.ty.now }) }
 {
-    let from = on_side(alloc, sampling.from, side)?;
+    let from = changed(alloc, sampling.from, &[Change::ToSide(Side::Own, side)])?;
     let ty = sampling.ty.share()?;
     Ok(Sampled { from, ty })
-}
-
-fn coupling(
-    alloc: Global,
-    left: &Last<'_>,
-    right: &Last<'_>,
-    maps: Maps,
-) -> Result<Coupled, AllocError>
-    ensures { IfOk result (λ made. made ≡ coupling (sampling_of left.now) (sampling_of right.now) maps) }
-{
-    let left = read_on(alloc, left, Side::Left)?;
-    let right = read_on(alloc, right, Side::Right)?;
-    Ok(Coupled { left, right, maps })
 }
 
 /// What was sampled on one side becomes a term.
@@ -130,7 +93,7 @@ fn target_change(
     side: Side,
     by: Term,
 ) -> Result<Change, AllocError>
-    ensures { IfOk result (λ made. made ≡ sampled side (sampling_of sampling.now) by) }
+    ensures { IfOk result (λ made. made ≡ ToTerm (Program sampling.now.target.now side) by) }
 {
     let var = copy_var(alloc, sampling.target)?;
     Ok(Change::ToTerm(Read::Program { var, side }, by))
@@ -148,7 +111,7 @@ fn with_values(
 {
     let value = nearest(alloc, left.ty)?;
     let image = maps.forth.share()?;
-    let mut changes = Items::new(alloc);
+    let mut changes: Changes = Items::new(alloc);
     changes.push(target_change(alloc, left, Side::Left, value)?)?;
     changes.push(target_change(alloc, right, Side::Right, image)?)?;
     changed(alloc, post, changes.as_slice())
@@ -165,17 +128,9 @@ fn post_before(
     ensures { IfOk result (λ made. made ≡ post_before (sampling_of left.now) (sampling_of right.now) maps post.now) }
 {
     let post = with_values(alloc, left, right, &maps, post)?;
-    let coupled = coupling(alloc, left, right, maps)?;
-    coupled_post(alloc, &coupled, post)
-}
-
-/// The statements before a sampling.
-fn rest_of(alloc: Global, sampling: &Last<'_>) -> Result<Cmd, AllocError>
-    ensures { IfOk result (λ made. made ≡ rest_of (sampling_of sampling.now)) }
-{
-    let list = share_instrs(alloc, sampling.before)?;
-    let list = SharedItems::new(alloc, list)?;
-    Ok(Cmd { list })
+    let left = read_on(alloc, left, Side::Left)?;
+    let right = read_on(alloc, right, Side::Right)?;
+    coupled_post(alloc, &Coupled { left, right, maps }, post)
 }
 
 /// The equivalence of what stands before the two samplings, with the postcondition of their coupling.
@@ -187,37 +142,67 @@ fn without_samplings(
     pre: &Form,
     post: &Form,
 ) -> Result<Form, AllocError>
-    ensures { IfOk result (λ made. made ≡ without_samplings (sampling_of left.now) (sampling_of right.now) maps pre.now post.now) }
+    ensures { IfOk result (λ made. made ≡ form_of (without_samplings (sampling_of left.now) (sampling_of right.now) maps pre.now post.now)) }
 {
     let post = post_before(alloc, left, right, maps, post)?;
     let pre = pre.share()?;
     let left = rest_of(alloc, left)?;
     let right = rest_of(alloc, right)?;
-    on_bodies(alloc, left, right, pre, post)
+    equiv(alloc, left, right, pre, post)
+}
+
+/// The target that the postcondition reads beside a variable that clashes with it: the left one, or else the right one.
+fn clash_of<'a>(left: &Last<'a>, right: &Last<'a>, post: &Form) -> Option<&'a Var>
+    ensures { option_copied result ≡ clash_of (sampling_of left.now) (sampling_of right.now) post.now }
+{
+    match first_clash(&Side::Left, left.target, post) {
+        Some(_) => Some(left.target),
+        None => match first_clash(&Side::Right, right.target, post) {
+            Some(_) => Some(right.target),
+            None => None,
+        },
+    }
+}
+
+fn no_such_shape(place: Place) -> Refused
+    ensures { result ≡ Script Shape place }
+{
+    Refused::Script {
+        why: Why::Shape,
+        place,
+    }
 }
 
 /// On an equivalence of two bodies that end with a sampling: both leave, and the postcondition becomes that of the
-/// coupled samplings. Nothing on any other goal.
+/// coupled samplings. Refused with `Shape` on another goal, at types that differ without a function, and for more than
+/// two functions, and with `SideCondition` where the postcondition reads a variable that clashes with a target.
 pub fn rnd_rule(
     alloc: Global,
     goal: &Sequent,
     given: &[Term],
-) -> Result<Option<Sequents>, AllocError>
-    ensures { IfOk result (λ goals. goals ≡ rnd_row given.now goal.now) }
+    place: Place,
+) -> Result<Sequents, Refused>
+    ensures { Answers (stepped (rnd_row given.now) place goal.now) result }
 {
-    let Some(judgment) = as_bodies(&goal.conclusion) else {
-        return Ok(None);
+    let Goal::Equiv(Code::Body(left), Code::Body(right), pre, post) = goal_of(&goal.conclusion)
+    else {
+        return Err(no_such_shape(place));
     };
-    let Some(left) = last_sampling(judgment.left) else {
-        return Ok(None);
-    };
-    let Some(right) = last_sampling(judgment.right) else {
-        return Ok(None);
+    let (Some(left), Some(right)) = (last_sampling(left), last_sampling(right)) else {
+        return Err(no_such_shape(place));
     };
     let Some(maps) = maps(alloc, given, left.ty, right.ty)? else {
-        return Ok(None);
+        return Err(no_such_shape(place));
     };
-    let conclusion = without_samplings(alloc, &left, &right, maps, judgment.pre, judgment.post)?;
-    let goals = one_goal(alloc, goal, conclusion)?;
-    Ok(Some(goals))
+    if let Some(var) = clash_of(&left, &right, post) {
+        let var = copy_var(alloc, var)?;
+        return Err(Refused::Script {
+            why: Why::SideCondition(var),
+            place,
+        });
+    }
+    let conclusion = without_samplings(alloc, &left, &right, maps, pre, post)?;
+    let mut goals = Items::new(alloc);
+    goals.push(goal.with_conclusion(conclusion)?)?;
+    Ok(goals)
 }

@@ -1,44 +1,33 @@
 // The rule that a proof step names.
 
-ghost use Rattle.std.specs.Prelude.{◌≡◌, Some, IfOk, IfErr};
-ghost use Rattle.gb_equiv.specs.Rows.{subgoals, IsRefused};
+ghost use Rattle.gb_goal.specs.Answers.{Answers};
+ghost use Rattle.gb_goal.specs.Rows.{stepped};
+ghost use Rattle.gb_equiv.specs.Rows.{rule_row};
 
-use crate::proc::proc_rule;
 use crate::rnd::rnd_rule;
-use crate::skip::skip_rule;
 use gb_core::refusal::{Refused, Why};
 use gb_goal::scope::Scope;
 use gb_goal::sequent::{Sequent, Sequents};
-use gb_goal::step::{Rule, Step};
-use std::alloc::{AllocError, Global};
+use gb_goal::step::{RelationalRule, Rule, Step};
+use std::alloc::Global;
 
-/// The subgoals of the rule, or nothing where the goal hasn't the form that the rule needs.
-fn subgoals(
+/// The subgoals of a relational rule at a goal, in order. Refused as the rule says, at the place of the step.
+pub fn apply(
     alloc: Global,
-    rule: &Rule,
+    step: &Step,
     goal: &Sequent,
-    scope: &Scope,
-) -> Result<Option<Sequents>, AllocError>
-    ensures { IfOk result (λ goals. goals ≡ subgoals scope.now rule.now goal.now) }
+    _scope: &Scope,
+) -> Result<Sequents, Refused>
+    ensures { Answers (stepped (rule_row step.now.rule) step.now.place goal.now) result }
 {
-    match rule {
-        Rule::Proc => proc_rule(alloc, goal, scope),
-        Rule::Rnd(maps) => rnd_rule(alloc, goal, maps.as_slice()),
-        Rule::Skip => skip_rule(alloc, goal),
-        _ => Ok(None),
-    }
-}
-
-/// The subgoals of a relational rule at a goal, in order. Refused with `Shape`, at the place of the step, where the goal
-/// hasn't the form that the rule needs.
-pub fn apply(alloc: Global, step: &Step, goal: &Sequent, scope: &Scope) -> Result<Sequents, Refused>
-    ensures given { IfOk result (λ goals. subgoals scope.now step.now.rule goal.now ≡ Some goals) }
-    ensures refused { IfErr result (λ why. IsRefused (subgoals scope.now step.now.rule goal.now) step.now.place why) }
-{
-    match subgoals(alloc, &step.rule, goal, scope) {
-        Err(AllocError) => Err(Refused::NoMemory),
-        Ok(Some(goals)) => Ok(goals),
-        Ok(None) => Err(Refused::Script {
+    match &step.rule {
+        Rule::Relational(RelationalRule::Rnd(maps)) => rnd_rule(
+            alloc,
+            goal,
+            maps.as_slice(),
+            step.place,
+        ),
+        _ => Err(Refused::Script {
             why: Why::Shape,
             place: step.place,
         }),

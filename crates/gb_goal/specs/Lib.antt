@@ -1,3 +1,7 @@
+pub mod Answers
+pub mod Goal
 pub mod Goals
 pub mod Nodes
+pub mod Rows
 pub mod Scope
+pub mod Views

@@ -1,4 +1,12 @@
 pub mod Falsehood
+pub mod Globals
 pub mod Idle
 pub mod Models
 pub mod Promised
+pub mod MoreNames
+pub mod LinkedNames
+pub mod NamedForms
+pub mod Staying
+pub mod Growing
+pub mod GrowingGoals
+pub mod StayingOn

@@ -1,5 +1,5 @@
 -- Equivalences that hold give couplings.
-use Rattle.std.proofs.Common.{◌≡◌, ℕ, false, [], ◌∷◌, Some, None, ap, sym, subst}
+use Rattle.std.proofs.Common.{◌≡◌, ℕ, false, [], ◌∷◌, ap, sym, subst}
 use Rattle.gb_core.specs.declared.ty.Ty.TheVariants.{Bool as truths}
 use Rattle.gb_terms.specs.declared.module.ProcRef.{ProcRef}
 use Rattle.gb_terms.specs.declared.term.Term.{Term}
@@ -21,18 +21,13 @@ use Rattle.gb_holds.specs.Settings.{Table, setting}
 use Rattle.gb_holds.specs.Truth.{has_module}
 use Rattle.gb_holds.specs.Holds.{IsTrueSequent, EachProgram, IsModel, interpretation, Holds}
 use Rattle.gb_holds.proofs.Fronts.{without_modules}
-use Rattle.gb_ready.specs.Goals.{IsTypedScope, IsTypedSequent}
+use Rattle.gb_typing.specs.Fits.{IsSettingOf}
+use Rattle.gb_typing.specs.Sequents.{of_sequent, IsTypedSequent}
+use Rattle.gb_typing.specs.Scopes.{context_of, IsTypedScope}
+use Rattle.gb_typing.proofs.Conclusions.{conclusion_sound}
+use Rattle.gb_typing.proofs.Models.{each_setting}
 use Rattle.gb_models.specs.Promised.{equivalence, alone, nothing_around, HaveCoupledOutputs, AreCoupledInEachModel}
 use Rattle.gb_models.proofs.Models.{no_section}
-use Rattle.gb_terms.specs.declared.term.Head.TheOpen as layer
-use Rattle.gb_terms.specs.declared.term.Subject.{out-Subject}
-use Rattle.gb_terms.specs.declared.term.Head.TheViews.{out-roll-Term, out-roll-Subject, roll-Subject}
-use Rattle.gb_equiv.specs.Judgment.{of_parts, equivalence_of, bodies_of}
-use Rattle.gb_ready.specs.Goals.{IsTypedConclusion, context_of}
-use Rattle.gb_ready.proofs.Called.{no_bodies}
-use Rattle.gb_ready.proofs.SoundForms.{sound_form}
-use Rattle.gb_ready.specs.Scoped.{ambient}
-use Rattle.gb_ready.proofs.Settings.{g, declared_sound}
 use Rattle.gb_coupling.proofs.Basic.{coupling_weakening}
 
 module _ (s : Setting) (f h : ProcRef) (P Q : Term) where
@@ -49,30 +44,29 @@ module _ (f h : ProcRef) (P Q : Term) where
   in_front : has_module (equivalence f h P Q) ≡ false
   in_front = ap has_module (sym (term_is_node (Equiv (Proc f) (Proc h)) (P ∷ Q ∷ []) truths))
 
-  is_judgment : equivalence_of (equivalence f h P Q) ≡ Some (record { left = Proc f; right = Proc h; pre = P; post = Q })
-  is_judgment = ap (λ l. of_parts l.head l.args) (out-roll-Term _)
+  -- in a model of a typed scope the setting fits, and a typed equivalence is a sound form
+  module _ (ds : scope.Declarations) (scoped : IsTypedScope (declared ds)) (w : World) (size : Name → ℕ) (table : Table) (model : IsModel (declared ds) (interpretation w size table)) where
+    abbrev g : Setting
+    g = setting (declared ds) (interpretation w size table)
 
-  shown : out-Subject (Proc f) ≡ layer.Proc f
-  unfolding roll-Subject denote.Hole.Carrier.roll
-  shown = out-roll-Subject (layer.Proc f)
+    fits : (t : IsTypedSequent (context_of (declared ds)) (alone (equivalence f h P Q))) →
+        IsSettingOf (of_sequent (context_of (declared ds)) (alone (equivalence f h P Q)) t.frames) g
+    fits t =
+        subst (λ bs. EachProgram (declared ds) bs (interpretation w size table)
+        (λ i. IsSettingOf (of_sequent (context_of (declared ds)) (alone (equivalence f h P Q)) t.frames) (setting (declared ds) i)))
+        (no_section ds) (each_setting (declared ds) scoped (alone (equivalence f h P Q)) t.modules t.frames w size table model)
 
-  on_no_bodies : bodies_of (equivalence f h P Q) ≡ None
-  on_no_bodies = no_bodies (equivalence f h P Q) _ f is_judgment shown
+    sound_in : IsTypedSequent (context_of (declared ds)) (alone (equivalence f h P Q)) → IsSoundForm g (equivalence f h P Q)
+    sound_in t = conclusion_sound (of_sequent (context_of (declared ds)) (alone (equivalence f h P Q)) t.frames) g (fits t) (equivalence f h P Q) t.conclusion in_front
 
-  -- in a model of a typed scope, a typed equivalence is a sound form
-  module _ (ds : scope.Declarations) (scoped : IsTypedScope ds) (w : World) (size : Name → ℕ) (table : Table) (model : IsModel (declared ds) (interpretation w size table)) where
-    sound_in : IsTypedSequent ds (alone (equivalence f h P Q)) → IsSoundForm (setting (declared ds) (interpretation w size table)) (equivalence f h P Q)
-    sound_in t =
-        let form = subst (λ o. IsTypedConclusion ds (context_of (alone (equivalence f h P Q))) (equivalence f h P Q) o) on_no_bodies t.conclusion in
-        sound_form ds (g ds scoped w size table model) (declared_sound ds scoped w size table model) ambient (equivalence f h P Q) form.scoped
-
-    true_in : Holds (declared ds) (alone (equivalence f h P Q)) → IsTrueIn (setting (declared ds) (interpretation w size table)) (equivalence f h P Q) nothing_around
+    true_in : Holds (declared ds) (alone (equivalence f h P Q)) → IsTrueIn g (equivalence f h P Q) nothing_around
     true_in k =
         let i = interpretation w size table in
         let t = subst (λ bs. EachProgram (declared ds) bs i (IsTrueSequent (declared ds) (alone (equivalence f h P Q)))) (no_section ds) (k w size table model) in
         (without_modules (declared ds) (equivalence f h P Q) i nothing_around in_front).0 (t [] tt [] tt)
 
-pub couplings : (ds : scope.Declarations) → IsTypedScope ds → (f h : ProcRef) (P Q : Term) → IsTypedSequent ds (alone (equivalence f h P Q)) → Holds (declared ds) (alone (equivalence f h P Q)) → AreCoupledInEachModel ds f h P Q
+pub couplings : (ds : scope.Declarations) → IsTypedScope (declared ds) → (f h : ProcRef) (P Q : Term) → IsTypedSequent (context_of (declared ds)) (alone (equivalence f h P Q)) →
+    Holds (declared ds) (alone (equivalence f h P Q)) → AreCoupledInEachModel ds f h P Q
 couplings ds scoped f h P Q t k w size table model =
     let i = interpretation w size table in
     subst (λ bs. EachProgram (declared ds) bs i (λ z. HaveCoupledOutputs (setting (declared ds) z) f h P Q)) (sym (no_section ds))

@@ -1,3 +1,4 @@
 pub mod Idle
 pub mod Falsehood
 pub mod Promised
+pub mod Speaking

@@ -53,7 +53,7 @@ module _ (c : Context) (ls : List TypedName) (F L K : Frame) where
   frame_kept x (side.Memory n) i f l k keeps = absurd i
   frame_kept x (side.Bound n) i f l k keeps = absurd i
 
-  variable_in : (x : Var) (r : Side) (t : Ty) → frame_of around r ≡ Some ls → variable_type (erased c) ls x ≡ Some t → IsIn around (frame_of around r) x t
+  pub variable_in : (x : Var) (r : Side) (t : Ty) → frame_of around r ≡ Some ls → variable_type (erased c) ls x ≡ Some t → IsIn around (frame_of around r) x t
   variable_in (var.Local x) r t frame e = subst (λ o. local_in o x ≡ Some t) (sym frame) e
   variable_in (var.Global m x) r t frame e = (subst IsFrame (sym frame) tt, e)
   variable_in (var.Glob a) r t frame e = none_some t e

@@ -23,9 +23,9 @@ use Rattle.gb_typing.specs.Typing.{IsTyped, AreTyped, IsForm}
 use Rattle.gb_typing.specs.Formulas.{IsFirstForm, IsFormula, IsLastFormula}
 use Rattle.gb_typing.specs.Sequents.{IsConclusion}
 use Rattle.gb_typing.proofs.Conclusions.{formula_form}
-use Rattle.gb_rules.specs.Goals.{Code, Goal, subject_of, form_of, code_of, goal_at, goal_of}
-use Rattle.gb_rules.specs.Goals.Code.{body, procedure}
-use Rattle.gb_rules.specs.Goals.Goal.{hoare, phoare, equiv, ambient}
+use Rattle.gb_goal.specs.Goal.{Code, Goal, subject_of, form_of, code_of, goal_at, goal_of}
+use Rattle.gb_goal.specs.Goal.Code.{body, procedure}
+use Rattle.gb_goal.specs.Goal.Goal.{hoare, phoare, equiv, ambient}
 use Rattle.gb_rules.specs.Typing.{AreAlike, IsCode, frame_before, frame_after, IsGoalOver, IsTypedGoal}
 use Rattle.gb_rules.proofs.Lists.{row_each, hidden_each}
 use Rattle.gb_rules.proofs.Shapes.{code_row, code_back}

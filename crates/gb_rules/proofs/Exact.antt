@@ -17,9 +17,9 @@ use Rattle.gb_typing.specs.Context.{Context}
 use Rattle.gb_typing.specs.Fits.{IsSettingOf}
 use Rattle.gb_typing.proofs.Drawing.{subject_sound}
 use Rattle.gb_typing.proofs.Sound.{procedures_sound}
-use Rattle.gb_rules.specs.Goals.{Code, Goal, subject_of, form_of}
-use Rattle.gb_rules.specs.Goals.Code.{body, procedure}
-use Rattle.gb_rules.specs.Goals.Goal.{hoare, phoare, equiv, ambient}
+use Rattle.gb_goal.specs.Goal.{Code, Goal, subject_of, form_of}
+use Rattle.gb_goal.specs.Goal.Code.{body, procedure}
+use Rattle.gb_goal.specs.Goal.Goal.{hoare, phoare, equiv, ambient}
 use Rattle.gb_rules.specs.Typing.{IsCode, IsGoalOver}
 use Rattle.gb_rules.specs.Meaning.{run_of, denominator_of, Stands}
 use Rattle.gb_rules.proofs.Lists.{hidden_each}

@@ -1,6 +1,6 @@
 -- Forms that rules make: typing and meaning.
 use Rattle.std.proofs.Common.{◌≡◌, Bool, true, false, not, ◌&&◌, ◌||◌, [], ◌∷◌, refl, ap, sym, ◌∙◌}
-use Rattle.std.proofs.lemmas.Bool.{false≢true}
+use Rattle.std.proofs.lemmas.Bool.{false≢true, and_parts}
 use Rattle.gb_core.specs.declared.ty.Ty.TheVariants as ty
 use Rattle.gb_terms.specs.declared.op.Op.TheVariants.{And, Equal, Implies, Not}
 use Rattle.gb_terms.specs.declared.term.Term.{Term}
@@ -49,6 +49,9 @@ followed false b h e = absurd (false≢true e)
 module _ (g : Setting) (j : Judge) (a b : Term) (s : State) where
   pub implies_use : den g j (implies_form a b) s ≡ true → den g j a s ≡ true → den g j b s ≡ true
   implies_use h = followed (den g j a s) (den g j b s) (sym (true_implies g j a b s) ∙ h)
+
+  pub and_use : den g j (and_form a b) s ≡ true → (den g j a s ≡ true) × (den g j b s ≡ true)
+  and_use h = and_parts (den g j a s) (den g j b s) (sym (true_and g j a b s) ∙ h)
 
   pub and_make : den g j a s ≡ true → den g j b s ≡ true → den g j (and_form a b) s ≡ true
   and_make h k = true_and g j a b s ∙ (λ i. h i && k i)

@@ -1,3 +1,7 @@
+pub mod Called
+pub mod Parameters
+pub mod Returned
+pub mod Widened
 pub mod Shapes
 pub mod Given
 pub mod Runs
@@ -7,6 +11,7 @@ pub mod Exact
 pub mod Conclusions
 pub mod Lifted
 pub mod Forms
+pub mod Fronts
 pub mod Reading
 pub mod Unread
 pub mod Every
@@ -15,3 +20,7 @@ pub mod Located
 pub mod Assigned
 pub mod Quantified
 pub mod Chances
+pub mod ClashFree
+pub mod Supported
+pub mod Composed
+pub mod LastSampling

@@ -28,15 +28,18 @@ use Rattle.gb_typing.specs.Formulas.{with_module}
 use Rattle.gb_typing.specs.Sequents.{with_modules, of_sequent, IsTypedSequent}
 use Rattle.gb_typing.specs.Scopes.{nothing, with_declared, with_each, context_of}
 use Rattle.gb_typing.specs.Fits.{IsSettingOf, IsStateOf}
-use Rattle.gb_rules.specs.Goals.{Goal, form_of, goal_of}
+use Rattle.gb_typing.specs.Chosen.{IsChosenOver}
+use Rattle.gb_goal.specs.Goal.{Goal, form_of, goal_of}
 use Rattle.gb_rules.specs.Typing.{IsGoalOver, IsTypedGoal}
 use Rattle.gb_rules.specs.Meaning.{Stands}
-use Rattle.gb_rules.specs.Rules.{Answer, Row, Implies, outermost, IsSoundAt}
-use Rattle.gb_rules.specs.Rules.Answer.{given, refused}
-use Rattle.gb_rules.specs.Sequents.{concluding, each_concluding, answered}
+use Rattle.gb_goal.specs.Answers.{Answer}
+use Rattle.gb_goal.specs.Rows.{Row}
+use Rattle.gb_rules.specs.Rules.{ImpliesIn, outermost, IsSoundIn}
+use Rattle.gb_goal.specs.Answers.Answer.{given, refused}
+use Rattle.gb_goal.specs.Rows.{concluding, each_concluding, answered}
 use Rattle.gb_rules.proofs.Conclusions.{goal_conclusion, goal_front}
 use Rattle.gb_rules.proofs.Exact.{exact}
-use Rattle.gb_rules.proofs.Given.{refused_given, same_given}
+use Rattle.gb_rules.proofs.Given.{refused_at, same_given}
 use Rattle.gb_rules.proofs.Shapes.{goal_form}
 
 -- No binder is around a goal, and no memory but named ones.
@@ -125,28 +128,32 @@ module _ (ds : Declarations) (q : Sequent) (fs : List (List TypedName)) where
         bound = tt;
       })
 
-  module _ (k : Interpretation) (fits : IsSettingOf c (setting ds k)) (s : State) where
+  module _ (k : Interpretation) (fits : IsSettingOf c (setting ds k)) (chosen : IsChosenOver ds k) (s : State) where
     all_stand : (j : Judge) → IsFair (setting ds k) j → (Gs : List Goal) → AllByRecursion (IsTypedGoal c) Gs → AllByRecursion (λ G. Truth ds (form_of G) k s) Gs → AllByRecursion (Stands (setting ds k) j s) Gs
     all_stand j fair [] w h = tt
     all_stand j fair (G ∷ Gs) w h =
         ((exact c (setting ds k) fits j fair s w.0.0 w.0.1 G w.0.2).0 ((without_modules ds (form_of G) k s (goal_front c w.0.0 w.0.1 G w.0.2)).0 h.0 j fair), all_stand j fair Gs w.1 h.1)
 
-    concluded : (ls rs : List TypedName) (G : Goal) → IsGoalOver c ls rs G → (Gs : List Goal) → AllByRecursion (IsTypedGoal c) Gs → Implies c Gs G → IsStateOf c (setting ds k) s →
+    concluded : (ls rs : List TypedName) (G : Goal) → IsGoalOver c ls rs G → (Gs : List Goal) → AllByRecursion (IsTypedGoal c) Gs → ImpliesIn ds c Gs G → IsStateOf c (setting ds k) s →
         AllByRecursion (λ G. Truth ds (form_of G) k s) Gs → Truth ds (form_of G) k s
     concluded ls rs G w Gs ws f fit h =
         (without_modules ds (form_of G) k s (goal_front c ls rs G w)).1
-        (λ j fair. (exact c (setting ds k) fits j fair s ls rs G w).1 (f (setting ds k) fits j fair s fit (all_stand j fair Gs ws h)))
+        (λ j fair. (exact c (setting ds k) fits j fair s ls rs G w).1 (f (setting ds k) fits (record { interpretation = k; chosen = chosen; meant = refl }) j fair s fit (all_stand j fair Gs ws h)))
 
   said : (k : Interpretation) (vs : List Value) (ms : List Memory) (Gs : List Goal) → AreValues (types_of ds k) (map (λ x. x.ty) q.logical) vs → AreTrue ds q.hyps k (context vs ms) →
       AllByRecursion (λ G. Says ds q (form_of G) k) Gs → AllByRecursion (λ G. Truth ds (form_of G) k (context vs ms)) Gs
   said k vs ms [] v t h = tt
   said k vs ms (G ∷ Gs) v t h = (h.0 vs v ms t, said k vs ms Gs v t h.1)
 
-  holds_by_rule : InEachSetting ds q (IsSettingOf c) → (ls rs : List TypedName) (G : Goal) → form_of G ≡ q.conclusion → IsGoalOver c ls rs G → (Gs : List Goal) → AllByRecursion (IsTypedGoal c) Gs →
-      Implies c Gs G → AllByRecursion (Holds ds) (map (concluding q) Gs) → Holds ds q
+  -- the setting fits, and programs of their types are chosen
+  abbrev IsFitting : Interpretation → Type 0
+  IsFitting k = IsSettingOf c (setting ds k) × IsChosenOver ds k
+
+  holds_by_rule : InEachSequent ds q IsFitting → (ls rs : List TypedName) (G : Goal) → form_of G ≡ q.conclusion → IsGoalOver c ls rs G → (Gs : List Goal) → AllByRecursion (IsTypedGoal c) Gs →
+      ImpliesIn ds c Gs G → AllByRecursion (Holds ds) (map (concluding q) Gs) → Holds ds q
   holds_by_rule settings ls rs G e w Gs ws f h =
-      joined ds q (λ k. IsSettingOf c (setting ds k)) (λ k. AllByRecursion (λ G. Says ds q (form_of G) k) Gs) (λ k. Says ds q q.conclusion k)
-      (λ k fits says vs v ms t. subst (λ z. Truth ds z k (context vs ms)) e (concluded k fits (context vs ms) ls rs G w Gs ws f (state_fits k vs ms v) (said k vs ms Gs v t says)))
+      joined ds q IsFitting (λ k. AllByRecursion (λ G. Says ds q (form_of G) k) Gs) (λ k. Says ds q q.conclusion k)
+      (λ k fits says vs v ms t. subst (λ z. Truth ds z k (context vs ms)) e (concluded k fits.0 fits.1 (context vs ms) ls rs G w Gs ws f (state_fits k vs ms v) (said k vs ms Gs v t says)))
       settings (gathered ds q Gs h)
 
 module _ (ds : Declarations) (q : Sequent) (t : IsTypedSequent (context_of ds) q) where
@@ -164,16 +171,20 @@ module _ (ds : Declarations) (q : Sequent) (t : IsTypedSequent (context_of ds) q
     typed_subgoals Gs w.1,
   )
 
-  pub by_rule : InEachSetting ds q (IsSettingOf (of_sequent (context_of ds) q t.frames)) → type_of q.conclusion ≡ ty.Bool → (ls rs : List TypedName) →
-      IsGoalOver (of_sequent (context_of ds) q t.frames) ls rs (goal_of q.conclusion) → (row : Row) → IsSoundAt (of_sequent (context_of ds) q t.frames) row (goal_of q.conclusion) →
+  pub by_rule : InEachSetting ds q (IsSettingOf (of_sequent (context_of ds) q t.frames)) → InEachSequent ds q (IsChosenOver ds) → type_of q.conclusion ≡ ty.Bool → (ls rs : List TypedName) →
+      IsGoalOver (of_sequent (context_of ds) q t.frames) ls rs (goal_of q.conclusion) → (row : Row) → IsSoundIn ds (of_sequent (context_of ds) q t.frames) row (goal_of q.conclusion) →
       (qs : List Sequent) → answered row q ≡ given qs → AllByRecursion (IsTypedSequent (context_of ds)) qs × (AllByRecursion (Holds ds) qs → Holds ds q)
-  by_rule settings truth ls rs w row law qs e = step_of (row (goal_of q.conclusion)) refl e
+  by_rule settings programs truth ls rs w row law qs e = step_of (row (goal_of q.conclusion)) refl e
     where
+      fitting : InEachSequent ds q (IsFitting ds q t.frames)
+      fitting =
+          joined ds q (λ k. IsSettingOf (of_sequent (context_of ds) q t.frames) (setting ds k)) (IsChosenOver ds) (IsFitting ds q t.frames) (λ k x y. (x, y)) settings programs
+
       step_of : (a : Answer (List Goal)) → row (goal_of q.conclusion) ≡ a → each_concluding q a ≡ given qs → AllByRecursion (IsTypedSequent (context_of ds)) qs × (AllByRecursion (Holds ds) qs → Holds ds q)
       step_of (given Gs) r e =
           let k = law Gs r in
           let same : map (concluding q) Gs ≡ qs = same_given (map (concluding q) Gs) qs e in (
             subst (AllByRecursion (IsTypedSequent (context_of ds))) same (typed_subgoals Gs k.0),
-            λ h. holds_by_rule ds q t.frames settings ls rs (goal_of q.conclusion) (goal_form q.conclusion truth) w Gs k.0 k.1 (subst (AllByRecursion (Holds ds)) (sym same) h),
+            λ h. holds_by_rule ds q t.frames fitting ls rs (goal_of q.conclusion) (goal_form q.conclusion truth) w Gs k.0 k.1 (subst (AllByRecursion (Holds ds)) (sym same) h),
           )
-      step_of (refused v) r e = refused_given v qs e
+      step_of (refused v p) r e = refused_at v p qs e

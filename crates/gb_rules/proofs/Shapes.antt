@@ -19,9 +19,9 @@ use Rattle.gb_meaning.specs.Trees.{row, places}
 use Rattle.gb_meaning.specs.Written.{type_of}
 use Rattle.gb_laws.proofs.Nodes.{each_is_node, term_is_node}
 use Rattle.gb_changes.proofs.Trees.{out_is}
-use Rattle.gb_rules.specs.Goals.{Code, Goal, subject_of, form_of, code_at, code_of, goal_at, goal_of, IsJudgment}
-use Rattle.gb_rules.specs.Goals.Code.{body, procedure}
-use Rattle.gb_rules.specs.Goals.Goal.{hoare, phoare, equiv, ambient}
+use Rattle.gb_goal.specs.Goal.{Code, Goal, subject_of, form_of, code_at, code_of, goal_at, goal_of, IsJudgment}
+use Rattle.gb_goal.specs.Goal.Code.{body, procedure}
+use Rattle.gb_goal.specs.Goal.Goal.{hoare, phoare, equiv, ambient}
 
 out_type : (t : Term) → (out-Term t).ty ≡ type_of t
 out_type (Term' tt (more_of-Head h end_of-Head) n ts ty) = ap (λ z. z.ty) (out_is h n ts ty)

@@ -1,6 +1,7 @@
-pub mod Goals
+pub mod Calls
 pub mod Typing
 pub mod Meaning
 pub mod Rules
-pub mod Sequents
 pub mod Forms
+pub mod Supports
+pub mod Samplings

@@ -11,9 +11,9 @@ use Rattle.gb_meaning.specs.Meanings.{fraction_in}
 use Rattle.gb_meaning.specs.Runs.{out, run_denominator}
 use Rattle.gb_meaning.specs.Commands.{statements}
 use Rattle.gb_meaning.specs.Judgments.{Judge, speaking, IsTrueUnder, compares, chance, den, from_frame, outcome_denominator}
-use Rattle.gb_rules.specs.Goals.{Code, Goal}
-use Rattle.gb_rules.specs.Goals.Code.{body, procedure}
-use Rattle.gb_rules.specs.Goals.Goal.{hoare, phoare, equiv, ambient}
+use Rattle.gb_goal.specs.Goal.{Code, Goal}
+use Rattle.gb_goal.specs.Goal.Code.{body, procedure}
+use Rattle.gb_goal.specs.Goal.Goal.{hoare, phoare, equiv, ambient}
 
 -- the run of a list of statements, and its denominator
 abbrev pub run : Setting → State → List Instr → Memory → WeightedList Memory

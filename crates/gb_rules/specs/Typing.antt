@@ -6,9 +6,9 @@ use Rattle.gb_meaning.specs.Written.{type_of}
 use Rattle.gb_typing.specs.Context.{Context, Frame, procedure, with_own, with_sides}
 use Rattle.gb_typing.specs.Typing.{IsThere, before, after, IsTyped, IsForm}
 use Rattle.gb_typing.specs.Programs.{IsBody}
-use Rattle.gb_rules.specs.Goals.{Code, Goal}
-use Rattle.gb_rules.specs.Goals.Code.{body, procedure as of_procedure}
-use Rattle.gb_rules.specs.Goals.Goal.{hoare, phoare, equiv, ambient}
+use Rattle.gb_goal.specs.Goal.{Code, Goal}
+use Rattle.gb_goal.specs.Goal.Code.{body, procedure as of_procedure}
+use Rattle.gb_goal.specs.Goal.Goal.{hoare, phoare, equiv, ambient}
 
 -- a body over these locals, or a procedure that is there
 abbrev pub IsCode : Context → List TypedName → Code → Type 0

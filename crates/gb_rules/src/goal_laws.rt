@@ -12,7 +12,8 @@ ghost use Rattle.gb_holds.specs.Truth.{has_module};
 ghost use Rattle.gb_typing.specs.Context.{Context};
 ghost use Rattle.gb_typing.specs.Sequents.{IsConclusion};
 ghost use Rattle.gb_typing.specs.Fits.{IsSettingOf};
-ghost use Rattle.gb_rules.specs.Goals.{Goal, form_of, goal_of, IsJudgment};
+ghost use Rattle.gb_goal.specs.Goal.{Goal, form_of, goal_of, IsJudgment};
+ghost use Rattle.gb_goal.specs.Goal.Goal.{ambient};
 ghost use Rattle.gb_rules.specs.Typing.{IsGoalOver, IsTypedGoal};
 ghost use Rattle.gb_rules.specs.Meaning.{Stands};
 
@@ -28,6 +29,11 @@ pub fn typing()
     ensures goal { (c : Context) (f : Term) → IsConclusion c f → has_module f ≡ false → IsTypedGoal c (goal_of f) × (type_of f ≡ ty.Bool) }
     ensures conclusion { (c : Context) (ls rs : List TypedName) (G : Goal) → IsGoalOver c ls rs G → IsConclusion c (form_of G) }
     ensures front { (c : Context) (ls rs : List TypedName) (G : Goal) → IsGoalOver c ls rs G → has_module (form_of G) ≡ false }
+{}
+
+/// A conclusion in front of which a module is quantified is no judgment.
+pub fn fronts()
+    ensures { (f : Term) → has_module f ≡ true → goal_of f ≡ ambient f }
 {}
 
 /// The form of a typed goal is true, under a fair judge, exactly where the goal stands.

@@ -16,7 +16,7 @@ ghost use Rattle.gb_meaning.specs.Fractions.{Fraction};
 ghost use Rattle.gb_meaning.specs.Judgments.{IsSoundSubject, compares, chance};
 ghost use Rattle.gb_typing.specs.Context.{Context};
 ghost use Rattle.gb_typing.specs.Fits.{IsSettingOf};
-ghost use Rattle.gb_rules.specs.Goals.{Code, subject_of};
+ghost use Rattle.gb_goal.specs.Goal.{Code, subject_of};
 ghost use Rattle.gb_rules.specs.Typing.{IsCode};
 ghost use Rattle.gb_rules.specs.Meaning.{run, denominator};
 

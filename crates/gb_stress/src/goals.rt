@@ -8,7 +8,7 @@ use gb_core::var::Var;
 use gb_goal::goals::Goals;
 use gb_goal::scope::Scope;
 use gb_goal::sequent::{Sequent, ambient};
-use gb_goal::step::{Rule, Step};
+use gb_goal::step::{RelationalRule, Rule, Step};
 use gb_shared::{Shared, SharedItems};
 use gb_terms::make::{boolean, term, truth_ty};
 use gb_terms::op::Op;
@@ -77,7 +77,7 @@ fn step(alloc: Global, scope: &Scope, goals: &mut Goals) -> Result<(), Refused> 
         col: 1,
     };
     let step = Step {
-        rule: Rule::Rnd(Items::new(alloc)),
+        rule: Rule::Relational(RelationalRule::Rnd(Items::new(alloc))),
         place,
     };
     if let Some(first) = goals.get(0) {

@@ -7,8 +7,8 @@ use Rattle.gb_core.specs.declared.refusal.Refused.{Refused}
 use Rattle.gb_core.specs.declared.refusal.Refused.TheVariants.{NoMemory, ReadFault, Script}
 use Rattle.gb_goal.specs.declared.sequent.Sequent.{Sequent}
 use Rattle.gb_script.specs.declared.tree.Node.{Node}
-use Rattle.gb_elab.specs.Answers.{Answer, ◌>>=◌, Fails}
-use Rattle.gb_elab.specs.Answers.Answer.{given}
+use Rattle.gb_goal.specs.Answers.{Answer, ◌>>=◌, Fails}
+use Rattle.gb_goal.specs.Answers.Answer.{given}
 use Rattle.gb_elab_mod.specs.Lemmas.{statement_given}
 use Rattle.gb_verdict.specs.Limits.{declaration_limit, goal_limit, each_limit, limited}
 use Rattle.gb_verdict.specs.Session.{Session, with_lemma}

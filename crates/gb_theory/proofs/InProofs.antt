@@ -4,8 +4,8 @@ use Rattle.gb_core.specs.declared.refusal.Refused.{Refused}
 use Rattle.gb_goal.specs.declared.sequent.Sequent.{Sequent}
 use Rattle.gb_script.specs.declared.tree.Node.{Node}
 use Rattle.gb_script.specs.Tree.{place_of}
-use Rattle.gb_elab.specs.Answers.{Answer}
-use Rattle.gb_elab.specs.Answers.Answer.{given}
+use Rattle.gb_goal.specs.Answers.{Answer}
+use Rattle.gb_goal.specs.Answers.Answer.{given}
 use Rattle.gb_verdict.specs.Session.{Session, with_goals}
 use Rattle.gb_verdict.specs.Session.{OpenProof as Opened}
 use Rattle.gb_verdict.specs.Commands.{InProof, WorksOn}

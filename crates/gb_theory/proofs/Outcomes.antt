@@ -10,8 +10,8 @@ use Rattle.gb_lex.specs.declared.token.Cut.TheVariants.{Command, End, Rest}
 use Rattle.gb_lex.specs.Lex.{cut_of}
 use Rattle.gb_lex.specs.PlaceAfter.{place_after}
 use Rattle.gb_script.specs.declared.tree.Node.{Node}
-use Rattle.gb_elab.specs.Answers.{Answer}
-use Rattle.gb_elab.specs.Answers.Answer.{given, refused}
+use Rattle.gb_goal.specs.Answers.{Answer}
+use Rattle.gb_goal.specs.Answers.Answer.{given, refused}
 use Rattle.gb_verdict.specs.Session.{Session, fresh_session}
 use Rattle.gb_verdict.specs.Commands.{ComesTo}
 use Rattle.gb_verdict.specs.Verdict.{IsReadAs, IsEnd, Ends, Goes, RunsIn, start, IsOutcome}

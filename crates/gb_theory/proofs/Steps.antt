@@ -11,13 +11,18 @@ use Rattle.gb_goal.specs.declared.step.Rule.{Rule}
 use Rattle.gb_goal.specs.declared.step.Rule.TheVariants as rule
 use Rattle.gb_goal.specs.declared.step.Step.{Step}
 use Rattle.gb_script.specs.declared.tree.Node.{Node}
-use Rattle.gb_elab.specs.Answers.{Answer, Gives}
-use Rattle.gb_elab.specs.Answers.Answer.{given, refused}
+use Rattle.gb_goal.specs.Answers.{Answer, Answers, Gives}
+use Rattle.gb_goal.specs.Rows.{stepped}
+use Rattle.gb_goal.specs.declared.step.BodyRule.{BodyRule}
+use Rattle.gb_goal.specs.declared.step.RelationalRule.{RelationalRule}
+use Rattle.gb_bodies.specs.Rows as bodies
+use Rattle.gb_equiv.specs.Rows as equiv
+use Rattle.gb_goal.specs.Answers.Answer.{given, refused}
 use Rattle.gb_elab_mod.specs.Steps.{step_given}
 use Rattle.gb_smt.specs.Leaves.{leaves_of}
 use Rattle.gb_smt.specs.Apply.{IsResult}
 use Rattle.gb_verdict.specs.Session.{Session, OpenProof, with_goals}
-use Rattle.gb_verdict.specs.Commands.{After, Applied, continued, Works, WorksOn}
+use Rattle.gb_verdict.specs.Commands.{After, row_of, Applied, continued, Works, WorksOn}
 use Rattle.gb_theory.specs.Sessions.{Meets}
 use Rattle.gb_theory.proofs.Answered.{gives_meets}
 
@@ -33,6 +38,19 @@ pub smt_meets : (ds : Declarations) (r : Rule) (place : Place) (q : Sequent) (re
     → r ≡ rule.Smt → IsResult (leaves_of q) place result → Meets (λ (x : List Sequent). x) (Applied ds r place q) result
 smt_meets ds r place q result is h =
     subst (λ x. Meets (λ (y : List Sequent). y) (Applied ds x place q) result) (sym is) (of_smt ds place q result h)
+
+-- what a row gives is what is applied
+pub body_meets : (ds : Declarations) (r : Rule) (b : BodyRule) (place : Place) (q : Sequent) (result : Result (List Sequent) Refused)
+    → r ≡ rule.OnBodies b → Answers (stepped (bodies.rule_row ds r) place q) result → Meets (λ (x : List Sequent). x) (Applied ds r place q) result
+body_meets ds r b place q result is h =
+    subst (λ x. Answers (stepped (bodies.rule_row ds x) place q) result → Meets (λ (y : List Sequent). y) (Applied ds x place q) result) (sym is)
+    (λ k. gives_meets (λ (x : List Sequent). x) (Applied ds (rule.OnBodies b) place q) (stepped (row_of ds (rule.OnBodies b)) place q) result k (λ x e. e)) h
+
+pub relational_meets : (ds : Declarations) (r : Rule) (b : RelationalRule) (place : Place) (q : Sequent) (result : Result (List Sequent) Refused)
+    → r ≡ rule.Relational b → Answers (stepped (equiv.rule_row r) place q) result → Meets (λ (x : List Sequent). x) (Applied ds r place q) result
+relational_meets ds r b place q result is h =
+    subst (λ x. Answers (stepped (equiv.rule_row x) place q) result → Meets (λ (y : List Sequent). y) (Applied ds x place q) result) (sym is)
+    (λ k. gives_meets (λ (x : List Sequent). x) (Applied ds (rule.Relational b) place q) (stepped (row_of ds (rule.Relational b)) place q) result k (λ x e. e)) h
 
 -- what goes on from an answer that is given
 after_given : {X Y : Type 0} (P : X → Answer Y → Type 0) (a : Answer X) (x : X) (r : Answer Y) → a ≡ given x → P x r → After a P r

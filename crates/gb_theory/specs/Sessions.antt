@@ -4,8 +4,8 @@ use Rattle.gb_core.specs.declared.place.Place.{Place}
 use Rattle.gb_core.specs.declared.refusal.Refused.{Refused}
 use Rattle.gb_core.specs.declared.refusal.Refused.TheVariants.{NoMemory, ReadFault, Script}
 use Rattle.gb_core.specs.declared.refusal.Why.{Why}
-use Rattle.gb_elab.specs.Answers.{Answer}
-use Rattle.gb_elab.specs.Answers.Answer.{given, refused}
+use Rattle.gb_goal.specs.Answers.{Answer}
+use Rattle.gb_goal.specs.Answers.Answer.{given, refused}
 use Rattle.gb_verdict.specs.Session.{Session}
 use Rattle.gb_verdict.specs.Session as session
 use Rattle.gb_theory.specs.declared.state.OpenProof.{OpenProof}

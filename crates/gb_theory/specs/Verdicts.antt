@@ -1,7 +1,7 @@
 -- Which verdict is due on a text.
 use Rattle.std.specs.Prelude.{◌≡◌, ℕ, List}
-use Rattle.gb_elab.specs.Answers.{Answer}
-use Rattle.gb_elab.specs.Answers.Answer.{given, refused}
+use Rattle.gb_goal.specs.Answers.{Answer}
+use Rattle.gb_goal.specs.Answers.Answer.{given, refused}
 use Rattle.gb_verdict.specs.Session.{Session}
 use Rattle.gb_core.specs.declared.place.Place.{Place}
 use Rattle.gb_script.specs.declared.tree.Node.{Node}

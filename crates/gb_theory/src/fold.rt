@@ -4,7 +4,7 @@ ghost use Rattle.std.specs.Prelude.{◌≡◌, [], ◌∷◌, ◌++◌, drop, tr
 ghost use Rattle.std.specs.Option.{option_copied};
 ghost use Rattle.gb_goal.specs.Scope.{entry_of};
 ghost use Rattle.gb_script.specs.Tree.{head_of, parts_of, place_of};
-ghost use Rattle.gb_elab.specs.Answers.{Gives};
+ghost use Rattle.gb_goal.specs.Answers.{Gives};
 ghost use Rattle.gb_elab_mod.specs.Lemmas.{lemma_name};
 ghost use Rattle.gb_verdict.specs.Session.{Session, OpenProof as Opened, with_goals};
 ghost use Rattle.gb_verdict.specs.Commands.{declares, opens, begun, ended, continued, InProof, Proves, Applied, unnamed, sole_rule, WorksOn, ComesToOf, ComesTo};
@@ -83,6 +83,10 @@ fn dispatch(
             [step, more @ ..] => prove_by(alloc, state, step, more),
             [] => Err(refused(Why::Syntax, command.place)),
         },
+        // no section and no theory can be opened yet
+        Head::Local | Head::Declare | Head::EndSection | Head::EndTheory => {
+            Err(refused(Why::NoGoal, command.place))
+        }
         _ => Err(refused(Why::Syntax, command.place)),
     }
 }
@@ -316,7 +320,9 @@ fn apply(alloc: Global, step: &Step, goal: &Sequent, scope: &Scope) -> Result<Se
     ensures { Meets (λ x. x) (Applied scope.now step.now.rule step.now.place goal.now) result }
 {
     match &step.rule {
+        Rule::OnBodies(_) => gb_bodies::apply::apply(alloc, step, goal, scope),
+        Rule::Relational(_) => gb_equiv::apply(alloc, step, goal, scope),
         Rule::Smt => gb_smt::apply::apply(alloc, step, goal, scope),
-        _ => gb_equiv::apply(alloc, step, goal, scope),
+        Rule::Split => Err(refused(Why::Shape, step.place)),
     }
 }

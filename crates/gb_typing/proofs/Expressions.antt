@@ -112,12 +112,12 @@ module _ (c : Context) (ls : List TypedName) where
     pub expression_own : (e : Term) → IsExpression c ls e → IsTyped (reframed c (Some ls) l k) e
     expression_own e x = wider inner (reframed c (Some ls) l k) (record { operator = λ n o h. h; bounds = λ i ty w. absurd w; reads = reads_wider }) e x.plain x.typed
 
-  not_in : (x : Var) (ty : Ty) → reads_in inner None x ty ≡ true → ⊥
+  pub not_in : (x : Var) (ty : Ty) → reads_in inner None x ty ≡ true → ⊥
   not_in (var.Local x) ty e = false≢true e
   not_in (var.Global m x) ty e = false≢true e
   not_in (var.Glob a) ty e = false≢true e
 
-  abbrev K : Uses
+  abbrev pub K : Uses
   K = unbinding (uses_of inner)
 
   module _ (g : Setting) (j : Speaks) where

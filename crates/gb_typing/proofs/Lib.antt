@@ -1,3 +1,9 @@
+pub mod LinkedProcedures
+pub mod Located
+pub mod Scripts
+pub mod Grown
+pub mod RunsAnywhere
+pub mod Anywhere
 pub mod Uses
 pub mod Both
 pub mod Formed

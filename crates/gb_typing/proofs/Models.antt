@@ -24,7 +24,7 @@ use Rattle.gb_typing.specs.Context.{Context}
 use Rattle.gb_typing.specs.Fits.{IsSettingOf}
 use Rattle.gb_typing.specs.Sequents.{AreBinders, of_sequent}
 use Rattle.gb_typing.specs.Scopes.{nothing, IsMeasured, AreVariableTypes, context_of, AreTypedAfter, IsTypedScope}
-use Rattle.gb_typing.specs.Chosen.{IsFittingWorld, AreChosen, AreUnchosen}
+use Rattle.gb_typing.specs.Chosen.{IsFittingWorld, AreChosen, AreUnchosen, IsChosenOver}
 use Rattle.gb_typing.proofs.Choosing.{scope_programs, goal_programs}
 use Rattle.gb_typing.proofs.Once.{types_inhabited}
 use Rattle.gb_typing.proofs.Operators.{scope_operators}
@@ -127,10 +127,17 @@ module _ (ds : Declarations) (scope : IsTypedScope ds) (q : Sequent) (binders : 
       let world : IsFittingWorld (at cs) = record { sizes = model.sizes; once = model.once; variables = world_variables (types_of ds (at [])) w model.types } in
       goal_fits ds (at cs) scope (scope_operators ds (at cs) scope (types_inhabited ds (at cs) world) (results cs ds [] nothing scope model.results)) u x.0 model.once q binders x.1 fs
 
-  -- all programs that are chosen within the binders
-  pub each_setting : EachProgram ds (declared_modules ds) (at []) (λ i. EachProgram ds q.modules i Fits)
-  each_setting =
+  -- what is so of programs of their types is so of all programs that are chosen within the binders
+  each_program : (P : Interpretation → Type 0) → ((cs : List Chosen) → AreChosen ds (at cs) (declared_modules ds ++ q.modules) → AreUnchosen cs ds → P (at cs)) →
+      EachProgram ds (declared_modules ds) (at []) (λ i. EachProgram ds q.modules i P)
+  each_program P f =
       scope_programs ds apart w (plain_world (types_of ds (at [])) w model.types) size table ds [] nothing scope [] []
-      (record { known = tt; modules = tt; free = λ n e. refl; chosen = tt; unchosen = tt }) (λ i. EachProgram ds q.modules i Fits)
-      (λ es x. goal_programs ds apart w (plain_world (types_of ds (at [])) w model.types) size table q.modules (context_of ds) binders (declared_modules ds) x.known x.modules es x.chosen x.unchosen Fits
-      (λ cs y u. fits cs y u))
+      (record { known = tt; modules = tt; free = λ n e. refl; chosen = tt; unchosen = tt }) (λ i. EachProgram ds q.modules i P)
+      (λ es x. goal_programs ds apart w (plain_world (types_of ds (at [])) w model.types) size table q.modules (context_of ds) binders (declared_modules ds) x.known x.modules es x.chosen x.unchosen P
+      (λ cs y u. f cs y u))
+
+  pub each_setting : EachProgram ds (declared_modules ds) (at []) (λ i. EachProgram ds q.modules i Fits)
+  each_setting = each_program Fits fits
+
+  pub each_chosen : EachProgram ds (declared_modules ds) (at []) (λ i. EachProgram ds q.modules i (IsChosenOver ds))
+  each_chosen = each_program (IsChosenOver ds) (λ cs k u. record { chosen = (front_chosen ds (at cs) (declared_modules ds) q.modules k).0; unchosen = u })

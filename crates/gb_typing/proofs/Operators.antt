@@ -208,7 +208,7 @@ moved g s c e same w = record {
 
 -- Names that are declared.
 
-declared_more : (before : Declarations) (d : Name × Declaration) (n : Name) → is_declared before n ≡ true → is_declared (before ++ d ∷ []) n ≡ true
+pub declared_more : (before : Declarations) (d : Name × Declaration) (n : Name) → is_declared before n ≡ true → is_declared (before ++ d ∷ []) n ≡ true
 declared_more [] d n e = absurd (false≢true e)
 declared_more (x ∷ xs) d n e = step (bytes_eq n x.0) (declared_more xs d n) e
   where
@@ -216,7 +216,7 @@ declared_more (x ∷ xs) d n e = step (bytes_eq n x.0) (declared_more xs d n) e
     step true later e = refl
     step false later e = later e
 
-declared_last : (before : Declarations) (d : Name × Declaration) (n : Name) → bytes_eq n d.0 ≡ true → is_declared (before ++ d ∷ []) n ≡ true
+pub declared_last : (before : Declarations) (d : Name × Declaration) (n : Name) → bytes_eq n d.0 ≡ true → is_declared (before ++ d ∷ []) n ≡ true
 declared_last [] d n e = ap (λ b. b || false) e
 declared_last (x ∷ xs) d n e = step (bytes_eq n x.0) (declared_last xs d n e)
   where
@@ -224,7 +224,7 @@ declared_last (x ∷ xs) d n e = step (bytes_eq n x.0) (declared_last xs d n e)
     step true k = refl
     step false k = k
 
-other_name : (before : Declarations) (n k : Name) → is_declared before n ≡ true → is_declared before k ≡ false → bytes_eq n k ≡ false
+pub other_name : (before : Declarations) (n k : Name) → is_declared before n ≡ true → is_declared before k ≡ false → bytes_eq n k ≡ false
 other_name before n k e f = step (bytes_eq n k) refl
   where
     step : (b : Bool) → bytes_eq n k ≡ b → b ≡ false

@@ -25,7 +25,7 @@ use Rattle.gb_typing.specs.Context.{Context, procedure, erased}
 use Rattle.gb_typing.specs.Fits.{IsOfType, IsSettingOf}
 use Rattle.gb_typing.specs.Formulas.{IsKnown, with_module}
 use Rattle.gb_typing.specs.Sequents.{with_modules, AreBinders, of_sequent}
-use Rattle.gb_typing.specs.Scopes.{nothing, AreParams, with_type, with_declared, with_each, is_declared, AreTypedAfter, IsTypedScope}
+use Rattle.gb_typing.specs.Scopes.{nothing, with_param, AreParams, with_type, with_declared, with_each, is_declared, AreTypedAfter, IsTypedScope}
 use Rattle.gb_typing.specs.Chosen.{chosen_under, IsChosenIf, AreChosen, AreUnchosen, FitAt}
 use Rattle.gb_typing.proofs.Once.{footprints_once}
 use Rattle.gb_typing.proofs.Provided.{like, IsApplied, procedure_stands}
@@ -76,7 +76,7 @@ known_more ms n t (p ∷ ps) k = (step (bytes_eq p.ty n) k.0, known_more ms n t 
 
 are_known : (ms : Modules) (ps : List Param) → AreParams ms ps → AreKnown ms.types ps
 are_known ms [] w = tt
-are_known ms (p ∷ ps) w = (w.0.0, are_known ms ps w.1)
+are_known ms (p ∷ ps) w = (w.0.0, are_known (with_param ms p) ps w.1)
 
 agree_more : (all : Declarations) (ms : Modules) → Agree all ms.types → (n : Name) (t : ModuleType) → AreParams ms t.params → module_type_of all n ≡ Some t → Agree all (with_type ms n t).types
 agree_more all ms a n t w e = record { declared = λ k u. one k u (bytes_eq k n) refl; params = λ k u h. known_more ms n t u.params (other k u (bytes_eq k n) h) }

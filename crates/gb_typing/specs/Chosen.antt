@@ -8,6 +8,7 @@ use Rattle.gb_typed.specs.Context as typed
 use Rattle.gb_typed.specs.Finite.{AreVariables}
 use Rattle.gb_holds.specs.Declared.{Declarations, ModuleType, concrete_module}
 use Rattle.gb_holds.specs.Adversary.{Adversary, type_named}
+use Rattle.gb_holds.specs.Holds.{declared_modules}
 use Rattle.gb_holds.specs.Programs.{AreOnce, IsProgramFor, AreNamed}
 use Rattle.gb_holds.specs.Settings.{Chosen, Interpretation, setting}
 use Rattle.gb_typing.specs.Context.{Context, erased}
@@ -43,6 +44,11 @@ abbrev pub AreUnchosen : List Chosen → Declarations → Type 0
 AreUnchosen cs [] = Unit {0}
 AreUnchosen cs ((n, concrete_module m) ∷ ds) = (chosen_under cs n ≡ None) × AreUnchosen cs ds
 AreUnchosen cs (d ∷ ds) = AreUnchosen cs ds
+
+-- Programs of their types are chosen for the modules that open sections declare, and none under the name of a declared module.
+pub record IsChosenOver (ds : Declarations) (i : Interpretation) : Type 0 where
+  pub chosen : AreChosen ds i (declared_modules ds)
+  pub unchosen : AreUnchosen i.programs ds
 
 -- the setting has operators of the declared types, where those before each declaration are known and in the end
 abbrev pub FitAt : Setting → Context → Declarations → Type 0

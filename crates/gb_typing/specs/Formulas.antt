@@ -1,5 +1,6 @@
 -- Formulas: module binders stand in front, behind other quantifiers and premises at most.
-use Rattle.std.specs.Prelude.{◌≡◌, true, List, [], ◌∷◌, Option, Some, None, if◌then◌else◌, bytes_eq}
+use Rattle.std.specs.Prelude.{◌≡◌, ℕ, zero, suc, true, List, [], ◌∷◌, Option, Some, None, if◌then◌else◌, bytes_eq}
+use Rattle.std.specs.Fmt.{decimal}
 use Rattle.gb_terms.specs.declared.decl.TypedName.{TypedName}
 use Rattle.gb_terms.specs.declared.decl.Param.{Param}
 use Rattle.gb_terms.specs.declared.module.Bind.{Bind}
@@ -68,12 +69,32 @@ abbrev pub IsFirstForm : {n : _} → Context → Row_of-Term n → Type 0
 IsFirstForm c end_of-Term = Unit {0}
 IsFirstForm c (more_of-Term t ts) = IsForm c t
 
+abbrev mutual
+  -- how many quantifiers over modules stand in front
+  pub modules_in_front : Term → ℕ
+  modules_in_front (Term' p (more_of-Head (head.AllModule b) end_of-Head) n ts ty) = suc (last_modules_in_front ts)
+  modules_in_front (Term' p (more_of-Head (head.All u) end_of-Head) n ts ty) = last_modules_in_front ts
+  modules_in_front (Term' p (more_of-Head head.AllMemory end_of-Head) n ts ty) = last_modules_in_front ts
+  modules_in_front (Term' p (more_of-Head (head.Builtin Implies) end_of-Head) n ts ty) = last_modules_in_front ts
+  modules_in_front _ = zero
+
+  pub last_modules_in_front : {n : _} → Row_of-Term n → ℕ
+  last_modules_in_front end_of-Term = zero
+  last_modules_in_front (more_of-Term t end_of-Term) = modules_in_front t
+  last_modules_in_front (more_of-Term t (more_of-Term u ts)) = last_modules_in_front (more_of-Term u ts)
+
+-- The name of a bound module: how many quantifiers over modules stand behind its own, in digits. So forms that differ in the
+-- names of bound modules alone are one, and no module of a script has such a name.
+abbrev pub bound_name : {n : _} → Row_of-Term n → Name
+bound_name ts = decimal (last_modules_in_front ts)
+
 -- A formula: quantifiers over modules, and quantifiers and premises before them, are those of truth in all interpretations; the
 -- rest is a form.
 abbrev mutual
   pub IsFormula : Context → Term → Type 0
   IsFormula c (Term' p (more_of-Head (head.AllModule b) end_of-Head) n ts ty) =
-      IsHead (erased c) (head.AllModule b) (types_of ts) ty × IsBinder c b × IsLastFormula (within (with_module c b) program None) ts
+      IsHead (erased c) (head.AllModule b) (types_of ts) ty × IsBinder c b × (b.name ≡ bound_name ts)
+      × IsLastFormula (within (with_module c b) program None) ts
   IsFormula c (Term' p (more_of-Head (head.All u) end_of-Head) n ts ty) =
       Choice (last_has_module ts)
       (IsHead (erased c) (head.All u) (types_of ts) ty × IsLastFormula (within c (value u) None) ts)

@@ -88,10 +88,15 @@ AreVariableTypes (t ∷ ts) = IsVariableType t × AreVariableTypes ts
 
 -- Module types.
 
--- modules of these types are given: they lack none themselves
+-- a module of the parameter's type, under its name
+abbrev pub with_param : Modules → Param → Modules
+with_param ms p = with_interface ms p.name (Some (of_functor_type (functor_type ms.types (ms.types p.ty))))
+
+-- Modules of these types are given, which lack none themselves. No module is known yet under the name of a parameter.
 abbrev pub AreParams : Modules → List Param → Type 0
 AreParams ms [] = Unit {0}
-AreParams ms (p ∷ ps) = (IsKnown (ms.types p.ty) × (params_in (ms.types p.ty) ≡ [])) × AreParams ms ps
+AreParams ms (p ∷ ps) =
+    (IsKnown (ms.types p.ty) × (params_in (ms.types p.ty) ≡ []) × (ms.interfaces p.name ≡ None)) × AreParams (with_param ms p) ps
 
 -- each is an oracle of the parameters
 abbrev pub AreOracles : Modules → List Param → MayCall → Type 0
@@ -141,16 +146,22 @@ AreProcedures c m earlier [] = Unit {0}
 AreProcedures c m earlier (p ∷ ps) =
     (found earlier p.name ≡ None) × IsProcedure (in_module c m earlier) p × AreProcedures c m (earlier ++ (p.name, type_of_procedure p) ∷ []) ps
 
--- each parameter has a module type
+-- each parameter has a module type, and a name under which no module is known yet
 abbrev pub AreTaken : Modules → List Param → Type 0
 AreTaken ms [] = Unit {0}
-AreTaken ms (p ∷ ps) = IsKnown (ms.types p.ty) × AreTaken ms ps
+AreTaken ms (p ∷ ps) = (IsKnown (ms.types p.ty) × (ms.interfaces p.name ≡ None)) × AreTaken (with_param ms p) ps
+
+-- no two have the same name
+abbrev pub HaveOwnNames : List TypedName → Type 0
+HaveOwnNames [] = Unit {0}
+HaveOwnNames (l ∷ ls) = (local_type ls l.name ≡ None) × HaveOwnNames ls
 
 -- a module, under its name
 pub record IsModule (c : Context) (n : Name) (m : Module) : Type 0 where
   pub name : m.name ≡ n
-  pub params : AreTaken c.modules m.params
+  pub params : AreTaken (with_interface c.modules m.name (Some (interface_with c.modules.types m.params []))) m.params
   pub globals : HaveVariableTypes m.globals
+  pub names : HaveOwnNames m.globals
   pub procs : AreProcedures c m [] m.procs
 
 -- Declarations.

@@ -5,12 +5,12 @@ ghost use Rattle.gb_terms.specs.declared.decl.TypedName.{TypedName};
 ghost use Rattle.gb_goal.specs.declared.sequent.Sequent.{Sequent};
 ghost use Rattle.gb_typed.specs.Finite.{IsInhabited};
 ghost use Rattle.gb_holds.specs.Declared.{Declarations};
-ghost use Rattle.gb_holds.specs.Holds.{GiveResults, declared_modules, InEachSetting};
+ghost use Rattle.gb_holds.specs.Holds.{GiveResults, declared_modules, EachProgram, InEachModel, InEachSetting};
 ghost use Rattle.gb_holds.specs.Settings.{Interpretation, types_of, setting};
 ghost use Rattle.gb_typing.specs.Fits.{IsSettingOf};
 ghost use Rattle.gb_typing.specs.Sequents.{AreBinders, of_sequent};
 ghost use Rattle.gb_typing.specs.Scopes.{nothing, context_of, IsTypedScope};
-ghost use Rattle.gb_typing.specs.Chosen.{IsFittingWorld, AreChosen, AreUnchosen, FitAt};
+ghost use Rattle.gb_typing.specs.Chosen.{IsFittingWorld, AreChosen, AreUnchosen, IsChosenOver, FitAt};
 
 /// In a world and sizes that fit, each footprint has globals of types of variables. Where each abstract operator has results of its
 /// type, the operators of a typed scope are of their types in its setting.
@@ -36,4 +36,11 @@ pub fn settings()
 pub fn models()
     ensures { (ds : Declarations) → IsTypedScope ds → (q : Sequent) → AreBinders (context_of ds) q.modules → (fs : List (List TypedName)) →
         InEachSetting ds q (IsSettingOf (of_sequent (context_of ds) q fs)) }
+{}
+
+/// In each model of a typed scope, and for all such programs, those of modules that open sections declare are programs of their types,
+/// and none hides a declared module.
+pub fn programs()
+    ensures { (ds : Declarations) → IsTypedScope ds → (q : Sequent) → AreBinders (context_of ds) q.modules →
+        InEachModel ds (λ i. EachProgram ds q.modules i (IsChosenOver ds)) }
 {}

@@ -4,7 +4,7 @@ use Rattle.std.proofs.Common.{refl, sym, subst, inl, inr, ⊎_elim, arith, lengt
 use Rattle.gb_core.specs.declared.place.Place.{Place}
 use Rattle.gb_core.specs.declared.refusal.Refused.TheVariants.{Script}
 use Rattle.gb_core.specs.declared.refusal.Why.{Why}
-use Rattle.gb_core.specs.declared.refusal.Why.TheVariants.{Character, NoGoal, Shape, Unclosed}
+use Rattle.gb_core.specs.declared.refusal.Why.TheVariants.{Character, NoGoal, Unclosed}
 use Rattle.gb_goal.specs.Scope.{Declarations}
 use Rattle.gb_goal.specs.declared.sequent.Sequent.{Sequent}
 use Rattle.gb_goal.specs.declared.step.Step.{Step}
@@ -23,15 +23,15 @@ use Rattle.gb_language.specs.declared.rows.TheConstants.{COMMAND}
 use Rattle.gb_language.specs.Language.{IsPart}
 use Rattle.gb_limits.specs.Lexeme.{text_at}
 use Rattle.gb_read_script.specs.Reading.{SpellsTree, IsRefusal, IsAllowed}
-use Rattle.gb_elab.specs.Answers.{Answer, ◌>>=◌, given_or, not_built}
-use Rattle.gb_elab.specs.Answers.Answer.{given, refused}
+use Rattle.gb_goal.specs.Answers.{Answer, ◌>>=◌, not_built, placed_at}
+use Rattle.gb_goal.specs.Answers.Answer.{given, refused}
 use Rattle.gb_elab_mod.specs.Steps.{step_given}
-use Rattle.gb_equiv.specs.Rows.{subgoals}
+use Rattle.gb_goal.specs.Rows.{stepped}
 use Rattle.gb_smt.specs.declared.leaves.Leaf.{Leaf}
 use Rattle.gb_smt.specs.Leaves.{leaves_of}
 use Rattle.gb_smt.specs.Apply.{IsAnswerOf}
 use Rattle.gb_verdict.specs.Session.{Session, OpenProof, fresh_session}
-use Rattle.gb_verdict.specs.Commands.{After, declares, opens, begun, ended, closed_unless, Applied, continued, Works, WorksOn, InProof, sole_rule, Proves, ComesToOf, at_command, ComesTo}
+use Rattle.gb_verdict.specs.Commands.{After, declares, opens, begun, ended, closed_unless, row_of, Applied, continued, Works, WorksOn, InProof, sole_rule, Proves, ComesToOf, ComesTo}
 use Rattle.gb_verdict.specs.Verdict.{IsReadAs, IsEnd, Ends, Goes, RunsIn, start, IsOutcome}
 
 -- Some answer is such.
@@ -50,10 +50,9 @@ in_proof (Some p) place P some = some p
 module _ (an_answer : (leaves : List Leaf) → (a : Option Why) × IsAnswerOf leaves a) where
   applied : (ds : Declarations) (r : Rule) (place : Place) (q : Sequent) → Some_of (Applied ds r place q)
   applied ds rule.Smt place q = let found = an_answer (leaves_of q) in (closed_unless found.0 place, (found.0, found.1, refl))
-  applied ds rule.Proc place q = (given_or (subgoals ds rule.Proc q) Shape place, refl)
-  applied ds (rule.Rnd fs) place q = (given_or (subgoals ds (rule.Rnd fs) q) Shape place, refl)
-  applied ds rule.Skip place q = (given_or (subgoals ds rule.Skip q) Shape place, refl)
-  applied ds rule.Split place q = (given_or (subgoals ds rule.Split q) Shape place, refl)
+  applied ds (rule.OnBodies r) place q = (stepped (row_of ds (rule.OnBodies r)) place q, refl)
+  applied ds (rule.Relational r) place q = (stepped (row_of ds (rule.Relational r)) place q, refl)
+  applied ds rule.Split place q = (stepped (row_of ds rule.Split) place q, refl)
 
   worked : (s : Session) (p : OpenProof) (q : Sequent) (rest : List Sequent) (step : Step) → Some_of (Works s p q rest step)
   worked s p q rest step =
@@ -75,12 +74,16 @@ module _ (an_answer : (leaves : List Leaf) → (a : Option Why) × IsAnswerOf le
   come_of s c head.Proof parts = in_proof s.proof (place_of c) (λ p x. x ≡ begun s p (place_of c)) (λ p. (begun s p (place_of c), refl))
   come_of s c head.Qed parts = in_proof s.proof (place_of c) (λ p x. x ≡ ended p.goals s p (place_of c)) (λ p. (ended p.goals s p (place_of c), refl))
   come_of s c head.Tactic (step ∷ more) = proved s (sole_rule (head_of step) (parts_of step) more) (place_of step)
+  come_of s c head.Local parts = (refused NoGoal (place_of c), refl)
+  come_of s c head.Declare parts = (refused NoGoal (place_of c), refl)
+  come_of s c head.EndSection parts = (refused NoGoal (place_of c), refl)
+  come_of s c head.EndTheory parts = (refused NoGoal (place_of c), refl)
   come_of s c _ _ = (not_built (place_of c), refl)
 
   command : (s : Session) (c : Node) → Some_of (ComesTo s c)
   command s c =
       let x = come_of s c (head_of c) (parts_of c) in
-      (at_command (place_of c) x.0, (x.0, x.1, refl))
+      (placed_at (place_of c) x.0, (x.0, x.1, refl))
 
   -- where each text is read or refused, and commands that are cut off have bytes
   module _

@@ -6,8 +6,8 @@ use Rattle.gb_core.specs.declared.refusal.Why.TheVariants.{NoGoal}
 use Rattle.gb_script.specs.declared.head.Head.TheVariants.{Proof, Qed}
 use Rattle.gb_script.specs.declared.tree.Node.{Node}
 use Rattle.gb_script.specs.Tree.{head_of, parts_of, place_of}
-use Rattle.gb_elab.specs.Answers.{Answer}
-use Rattle.gb_elab.specs.Answers.Answer.{refused}
+use Rattle.gb_goal.specs.Answers.{Answer}
+use Rattle.gb_goal.specs.Answers.Answer.{refused}
 use Rattle.gb_verdict.specs.Session.{Session, OpenProof}
 use Rattle.gb_verdict.specs.Commands.{InProof, ComesToOf, ComesTo}
 

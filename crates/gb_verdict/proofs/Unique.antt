@@ -24,14 +24,14 @@ use Rattle.gb_language.specs.declared.rows.TheConstants.{COMMAND}
 use Rattle.gb_language.specs.Language.{IsPart}
 use Rattle.gb_limits.specs.Lexeme.{text_at}
 use Rattle.gb_read_script.specs.Reading.{SpellsCommand, IsRefusal, IsAllowed}
-use Rattle.gb_elab.specs.Answers.{Answer, ◌>>=◌}
-use Rattle.gb_elab.specs.Answers.Answer.{given, refused}
+use Rattle.gb_goal.specs.Answers.{Answer, ◌>>=◌, placed_at}
+use Rattle.gb_goal.specs.Answers.Answer.{given, refused}
 use Rattle.gb_elab_mod.specs.Steps.{step_given}
 use Rattle.gb_smt.specs.declared.leaves.Leaf.{Leaf}
 use Rattle.gb_smt.specs.Leaves.{leaves_of}
 use Rattle.gb_smt.specs.Apply.{IsAnswerOf}
 use Rattle.gb_verdict.specs.Session.{Session, OpenProof, fresh_session}
-use Rattle.gb_verdict.specs.Commands.{After, closed_unless, Applied, continued, Works, WorksOn, InProof, Proves, ComesToOf, sole_rule, at_command, ComesTo}
+use Rattle.gb_verdict.specs.Commands.{After, closed_unless, Applied, continued, Works, WorksOn, InProof, Proves, ComesToOf, sole_rule, ComesTo}
 use Rattle.gb_verdict.specs.Verdict.{IsReadAs, IsEnd, Ends, RunsTo, Goes, RunsIn, start, IsOutcome}
 
 -- answers that go on from one answer are one where what follows is one
@@ -50,9 +50,8 @@ module _ (one_answer : (leaves : List Leaf) (a b : Option Why) → IsAnswerOf le
   one_applied : (ds : Declarations) (r : Rule) (place : Place) (q : Sequent) (x y : Answer (List Sequent)) → Applied ds r place q x → Applied ds r place q y → x ≡ y
   one_applied ds rule.Smt place q x y h k =
       h.2 ∙ (ap (λ (found : Option Why). closed_unless found place) (one_answer (leaves_of q) h.0 k.0 h.1 k.1) ∙ sym k.2)
-  one_applied ds rule.Proc place q x y h k = h ∙ sym k
-  one_applied ds (rule.Rnd fs) place q x y h k = h ∙ sym k
-  one_applied ds rule.Skip place q x y h k = h ∙ sym k
+  one_applied ds (rule.OnBodies r) place q x y h k = h ∙ sym k
+  one_applied ds (rule.Relational r) place q x y h k = h ∙ sym k
   one_applied ds rule.Split place q x y h k = h ∙ sym k
 
   one_step : (s : Session) (p : OpenProof) (q : Sequent) (rest : List Sequent) (step : Step) (r t : Answer Session)
@@ -79,7 +78,7 @@ module _ (one_answer : (leaves : List Leaf) (a b : Option Why) → IsAnswerOf le
 
   one_command : (s : Session) (c : Node) (r t : Answer Session) → ComesTo s c r → ComesTo s c t → r ≡ t
   one_command s c r t h k =
-      h.2 ∙ (ap (λ (x : Answer Session). at_command (place_of c) x) (one_of s c (head_of c) (parts_of c) h.0 k.0 h.1 k.1) ∙ sym k.2)
+      h.2 ∙ (ap (λ (x : Answer Session). placed_at (place_of c) x) (one_of s c (head_of c) (parts_of c) h.0 k.0 h.1 k.1) ∙ sym k.2)
 
 no_and_some : (o : Option ℕ) (n : ℕ) → o ≡ None → o ≡ Some n → ⊥
 no_and_some o n e f = let x : None ≡ Some n = sym e ∙ f in absurd (cc)

@@ -12,12 +12,14 @@ use Rattle.gb_script.specs.declared.head.Head.{Head}
 use Rattle.gb_script.specs.declared.head.Head.TheVariants as head
 use Rattle.gb_script.specs.declared.tree.Node.{Node}
 use Rattle.gb_script.specs.Tree.{head_of, text_of, parts_of, place_of}
-use Rattle.gb_elab.specs.Answers.{Answer, ◌>>=◌, given_or, not_built}
-use Rattle.gb_elab.specs.Answers.Answer.{given, refused}
+use Rattle.gb_goal.specs.Answers.{Answer, ◌>>=◌, not_built, placed_at}
+use Rattle.gb_goal.specs.Answers.Answer.{given, refused}
 use Rattle.gb_elab_mod.specs.Modules.{module_given}
 use Rattle.gb_elab_mod.specs.Lemmas.{statement_given}
 use Rattle.gb_elab_mod.specs.Steps.{step_given}
-use Rattle.gb_equiv.specs.Rows.{subgoals}
+use Rattle.gb_goal.specs.Rows.{Row, refusing, stepped}
+use Rattle.gb_bodies.specs.Rows as bodies
+use Rattle.gb_equiv.specs.Rows as equiv
 use Rattle.gb_smt.specs.Leaves.{leaves_of}
 use Rattle.gb_smt.specs.Apply.{IsAnswerOf}
 use Rattle.gb_verdict.specs.Limits.{declaration_limit, each_limit, all_limit}
@@ -69,10 +71,16 @@ abbrev pub closed_unless : Option Why → Place → Answer (List Sequent)
 closed_unless None place = given []
 closed_unless (Some why) place = refused why place
 
+-- the row of a rule, by the family that it is of
+abbrev pub row_of : Declarations → Rule → Row
+row_of ds (rule.OnBodies r) = bodies.rule_row ds (rule.OnBodies r)
+row_of ds (rule.Relational r) = equiv.rule_row (rule.Relational r)
+row_of ds _ = λ G. refusing Shape
+
 -- What a rule gives for a goal: its subgoals, or why it refuses the goal. What `smt` finds has one answer.
 abbrev pub Applied : Declarations → Rule → Place → Sequent → Answer (List Sequent) → Type 0
 Applied ds rule.Smt place q x = (found : Option Why) × IsAnswerOf (leaves_of q) found × (x ≡ closed_unless found place)
-Applied ds r place q x = x ≡ given_or (subgoals ds r q) Shape place
+Applied ds r place q x = x ≡ stepped (row_of ds r) place q
 
 -- the subgoals of a step stand in front of the other goals
 abbrev pub continued : Session → OpenProof → List Sequent → Place → List Sequent → Answer Session
@@ -110,7 +118,8 @@ abbrev pub Proves : Session → Option Node → Place → Answer Session → Typ
 Proves s (Some t) place r = InProof s.proof (place_of t) (λ p. WorksOn p.goals s p t) r
 Proves s None place r = r ≡ not_built place
 
--- What a command of this head and these parts comes to. The last clause takes what isn't built, under which nodes of another
+-- What a command of this head and these parts comes to. No section and no theory can be opened yet, so none is where `local`,
+-- `declare` and `end` ask for one. The last clause takes what isn't built, under which nodes of another
 -- shape fall too: the reader makes none, as each tree of the language is well-sorted.
 abbrev pub ComesToOf : Session → Node → Head → List Node → Answer Session → Type 0
 ComesToOf s c head.Module parts r = r ≡ declares s c (place_of c)
@@ -119,13 +128,12 @@ ComesToOf s c head.Lemma (name ∷ parts) r = r ≡ opens s c (text_of name) (pl
 ComesToOf s c head.Proof parts r = InProof s.proof (place_of c) (λ p x. x ≡ begun s p (place_of c)) r
 ComesToOf s c head.Qed parts r = InProof s.proof (place_of c) (λ p x. x ≡ ended p.goals s p (place_of c)) r
 ComesToOf s c head.Tactic (step ∷ more) r = Proves s (sole_rule (head_of step) (parts_of step) more) (place_of step) r
+ComesToOf s c head.Local parts r = r ≡ refused NoGoal (place_of c)
+ComesToOf s c head.Declare parts r = r ≡ refused NoGoal (place_of c)
+ComesToOf s c head.EndSection parts r = r ≡ refused NoGoal (place_of c)
+ComesToOf s c head.EndTheory parts r = r ≡ refused NoGoal (place_of c)
 ComesToOf s c _ _ r = r ≡ not_built (place_of c)
-
--- a refusal without a place of its own stands at the command's first word
-abbrev pub at_command : {X : Type 0} → Place → Answer X → Answer X
-at_command place (given x) = given x
-at_command place (refused why at) = refused why (if at.line == 0 then place else at)
 
 -- what a command comes to: the next session, or its first refusal
 abbrev pub ComesTo : Session → Node → Answer Session → Type 0
-ComesTo s c r = (x : Answer Session) × ComesToOf s c (head_of c) (parts_of c) x × (r ≡ at_command (place_of c) x)
+ComesTo s c r = (x : Answer Session) × ComesToOf s c (head_of c) (parts_of c) x × (r ≡ placed_at (place_of c) x)

@@ -11,8 +11,8 @@ use Rattle.gb_script.specs.declared.tree.Node.{Node}
 use Rattle.gb_language.specs.declared.rows.TheConstants.{COMMAND}
 use Rattle.gb_limits.specs.Lexeme.{text_at}
 use Rattle.gb_read_script.specs.Reading.{SpellsCommand, IsRefusal, IsAllowed}
-use Rattle.gb_elab.specs.Answers.{Answer}
-use Rattle.gb_elab.specs.Answers.Answer.{given, refused}
+use Rattle.gb_goal.specs.Answers.{Answer}
+use Rattle.gb_goal.specs.Answers.Answer.{given, refused}
 use Rattle.gb_verdict.specs.Session.{Session, OpenProof, fresh_session}
 use Rattle.gb_verdict.specs.Commands.{After, ComesTo}
 

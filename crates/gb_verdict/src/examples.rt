@@ -5,7 +5,7 @@ ghost use Rattle.gb_core.specs.declared.refusal.Why.TheVariants.{NoGoal};
 ghost use Rattle.gb_script.specs.declared.head.Head.TheVariants.{Proof, Qed};
 ghost use Rattle.gb_script.specs.declared.tree.Node.{Node};
 ghost use Rattle.gb_script.specs.Tree.{head_of, place_of};
-ghost use Rattle.gb_elab.specs.Answers.Answer.{refused};
+ghost use Rattle.gb_goal.specs.Answers.Answer.{refused};
 ghost use Rattle.gb_verdict.specs.Session.{Session};
 ghost use Rattle.gb_verdict.specs.Commands.{ComesTo};
 

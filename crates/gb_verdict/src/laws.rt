@@ -1,7 +1,7 @@
 // A script comes to one thing.
 
 ghost use Rattle.std.specs.Prelude.{◌≡◌, ℕ, List};
-ghost use Rattle.gb_elab.specs.Answers.{Answer};
+ghost use Rattle.gb_goal.specs.Answers.{Answer};
 ghost use Rattle.gb_verdict.specs.Session.{Session};
 ghost use Rattle.gb_verdict.specs.Verdict.{IsOutcome};
 

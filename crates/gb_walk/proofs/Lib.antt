@@ -3,3 +3,4 @@ pub mod MadeLists
 pub mod RaiseSteps
 pub mod ChangeSteps
 pub mod SideSteps
+pub mod ClashSteps

@@ -3,3 +3,4 @@ pub mod Rebuild
 pub mod Raise
 pub mod Change
 pub mod Sides
+pub mod Clash

@@ -38,7 +38,8 @@ impl Drop for Change {
 
 pub type Changes = Items<Change>;
 
-fn is_own(side: &Side) -> bool
+/// Whether this is the one memory of a judgment on one program, or of an event.
+pub fn is_own(side: &Side) -> bool
     ensures { result ≡ is_own side.now }
 {
     matches!(side, Side::Own)

@@ -3,6 +3,7 @@
 
 pub mod binders;
 pub mod change;
+pub mod clash;
 pub mod raise;
 mod rebuild;
 pub mod sides;

@@ -9,4 +9,4 @@ returns-in-Some-clause-verdict g c = of_held_file _ _ _ _ c.in-Some.ensures c.ch
 pub returns-in-Some-clause-accepted : goal.returns-in-Some-clause-accepted
 returns-in-Some-clause-accepted g c = λ ended.
     let r = c.check_file.ensures.reported (inl ended) in
-    of_file _ _ _ c.in-Some.ensures (_, is_accepted _ _ _ r.0 r.1 r.2 ended, r.3)
+    of_file _ _ _ c.in-Some.ensures (_, is_accepted c.accepted_scripts.ensures _ _ _ r.0 r.1 r.2 ended, r.3)

@@ -3,7 +3,7 @@ use Rattle.gb_core.specs.declared.ty.Ty.TheVariants.{Bool as bool_ty, Distr}
 use Rattle.gb_terms.specs.declared.op.Op.TheVariants.{Coin}
 use Rattle.gb_terms.specs.declared.term.Head.TheVariants.{Builtin}
 use Rattle.gb_terms.specs.Make.{node}
-use Rattle.gb_elab.specs.Answers.Answer.{given}
+use Rattle.gb_goal.specs.Answers.Answer.{given}
 use Rattle.gb_elab.specs.Forms.{coin}
 use Rattle.gb_elab.proofs.allowed.coin.Goals as goal
 

@@ -3,8 +3,8 @@ use Rattle.std.proofs.Common.{◌≡◌, length, ap, sym, ◌∙◌, arith, rule
 use Rattle.std.specs.Option.{option_copied}
 use Rattle.gb_core.specs.declared.refusal.Why.TheVariants.{Syntax, TypeMismatch}
 use Rattle.gb_script.specs.Tree.{head_of, text_of, place_of}
-use Rattle.gb_elab.specs.Answers.{Fails}
-use Rattle.gb_elab.specs.Answers.Answer.{given}
+use Rattle.gb_goal.specs.Answers.{Fails}
+use Rattle.gb_goal.specs.Answers.Answer.{given}
 use Rattle.gb_elab.specs.Environment.{environment}
 use Rattle.gb_elab.specs.Forms.{comparison, equivalence, typing, with_typings}
 use Rattle.gb_elab.specs.Judgments.{Named}

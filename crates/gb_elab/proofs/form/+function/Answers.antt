@@ -2,7 +2,7 @@
 use Rattle.std.proofs.Common.{◌≡◌, length, ap, sym, ◌∙◌, arith, rules}
 use Rattle.gb_core.specs.declared.refusal.Why.TheVariants.{TypeMismatch}
 use Rattle.gb_script.specs.Tree.{head_of, place_of}
-use Rattle.gb_elab.specs.Answers.{◌>>=◌, Fails}
+use Rattle.gb_goal.specs.Answers.{◌>>=◌, Fails}
 use Rattle.gb_elab.specs.Environment.{environment}
 use Rattle.gb_elab.specs.Forms.{function_typing, only, value_of, with_functions, written_as}
 use Rattle.gb_elab.proofs.Answers.{passes, leads_on, answers_as, fails_as, refuses_as}

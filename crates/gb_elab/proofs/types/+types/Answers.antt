@@ -1,12 +1,49 @@
-use Rattle.std.proofs.Common.{◌≡◌, length, ap, sym, ◌∙◌, arith}
+use Rattle.std.proofs.Common.{rules, ◌≡◌, ◌+◌, ◌<◌, ◌≤◌, min, length, take, drop, ap, sym, ◌∙◌, subst}
+use Rattle.std.proofs.lemmas.List.{append-nil}
 use Rattle.gb_core.specs.declared.refusal.Why.TheVariants.{Syntax}
 use Rattle.gb_script.specs.Tree.{head_of, text_of}
-use Rattle.gb_elab.specs.Types.{spelling, with_spellings}
-use Rattle.gb_elab.proofs.Answers.{answers_as, refuses_as}
+use Rattle.gb_goal.specs.Answers.Answer.{given}
+use Rattle.gb_elab.specs.Types.{all_given, spelled, spelling, with_spellings}
+use Rattle.gb_elab.proofs.Answers.{answers_as, fails_as, refuses_as}
 use Rattle.gb_elab.proofs.Elaborated.{spelled_is}
-use Rattle.gb_elab.proofs.Parts.{one}
-use Rattle.gb_elab.proofs.Spellings.{plain_is, bracket_is, no_bracket, no_type}
+use Rattle.gb_elab.proofs.Spellings.{answers, behind, behind_none, behind_one, behind_refused, first_answers, next_part, no_part, no_type}
 use Rattle.gb_elab.proofs.types.+types.Goals as goal
+
+pub first_parts-loop-i-init : goal.first_parts-loop-i-init
+first_parts-loop-i-init t c =
+    let a = all_given (answers c.args.place (take 8 c.args.parts.now)) in
+    subst (λ ts. a ≡ behind ts a) (sym c.new-types.ensures) (behind_none a)
+
+pub first_parts-returns-in_err-spelled : goal.first_parts-returns-in_err-spelled
+first_parts-returns-in_err-spelled t c =
+    let ps = c.args.parts.now in
+    let x = c.index-parts-i.result in
+    let h : c.loop-i.i < min (length ps) 8 = rw (← c.min-i-end.ensures) c.loop-i-test.true in
+    let rest = answers c.args.place (drop (c.loop-i.i + 1) (take 8 ps)) in
+    let e =
+    first_answers 8 c.args.place ps ∙ c.loop-i.invariant
+    ∙ ap (λ ts. behind c.loop-i.types (all_given (answers c.args.place ts))) (next_part 8 c.loop-i.i ps x h c.index-parts-i.is) in
+    let fails = fails_as _ _ _ e (behind_refused c.loop-i.types (spelled x c.args.place) rest _ c.in_err-spelled.ensures) in
+    search rules
+
+pub first_parts-loop-i-preserved : goal.first_parts-loop-i-preserved
+first_parts-loop-i-preserved t c =
+    let ps = c.args.parts.now in
+    let x = c.index-parts-i.result in
+    let h : c.loop-i.i < min (length ps) 8 = rw (← c.min-i-end.ensures) c.loop-i-test.true in
+    let rest = answers c.args.place (drop (c.loop-i.i + 1) (take 8 ps)) in
+    c.loop-i.invariant
+    ∙ ap (λ ts. behind c.loop-i.types (all_given (answers c.args.place ts))) (next_part 8 c.loop-i.i ps x h c.index-parts-i.is)
+    ∙ behind_one c.loop-i.types c.in_ok-spelled.field-0 _ rest c.in_ok-spelled.ensures
+    ∙ ap (λ ts. behind ts (all_given rest)) (sym c.in_ok-push.ensures.ok)
+
+pub first_parts-returns : goal.first_parts-returns
+first_parts-returns t c =
+    let ps = c.args.parts.now in
+    let h : min (length ps) 8 ≤ c.loop-i.i = rw (← c.min-i-end.ensures) c.loop-i-test.false in
+    first_answers 8 c.args.place ps ∙ c.loop-i.invariant
+    ∙ ap (λ ts. behind c.loop-i.types (all_given (answers c.args.place ts))) (no_part 8 c.loop-i.i ps h)
+    ∙ ap given (append-nil c.loop-i.types)
 
 pub spelled-returns : goal.spelled-returns
 spelled-returns t c =
@@ -15,18 +52,37 @@ spelled-returns t c =
     c.spelling.ensures
 
 pub spelling-returns-in-PlainType : goal.spelling-returns-in-PlainType
-spelling-returns-in-PlainType t c = answers_as _ _ c.plain_type.result (plain_is c.args.head c.args.text.now c.args.parts.now c.args.place c.in-PlainType.is) c.plain_type.ensures
+unfolding spelling
+spelling-returns-in-PlainType t c = answers_as _ _ c.plain_type.result (ap (λ h. spelling h c.args.text.now (with_spellings c.args.parts.now) c.args.place) c.in-PlainType.is) c.plain_type.ensures
 
-pub spelling-returns-in-len1 : goal.spelling-returns-in-len1
-spelling-returns-in-len1 t c =
-    let e = one c.args.parts.now c.inner-item.result c.in-len1.len_at_least c.in-len1.len_below c.inner-item.is in
-    answers_as _ _ c.spelled.result (bracket_is c.args.head c.args.text.now c.args.parts.now c.args.place c.inner-item.result c.in-BracketedType.is e) c.spelled.ensures
+pub spelling-returns-in-BitsType : goal.spelling-returns-in-BitsType
+unfolding spelling
+spelling-returns-in-BitsType t c = answers_as _ _ c.bits_type.result (ap (λ h. spelling h c.args.text.now (with_spellings c.args.parts.now) c.args.place) c.in-BitsType.is) c.bits_type.ensures
 
-pub spelling-returns-in_default-parts : goal.spelling-returns-in_default-parts
-spelling-returns-in_default-parts t c =
-    let h : length c.args.parts.now ≡ 1 → ⊥ = grind arith in
-    refuses_as _ c.not_built.result Syntax c.args.place (no_bracket c.args.head c.args.text.now c.args.parts.now c.args.place c.in-BracketedType.is h) c.not_built.ensures
+pub spelling-returns-in-IntType : goal.spelling-returns-in-IntType
+unfolding spelling
+spelling-returns-in-IntType t c = answers_as _ _ c.int_type.result (ap (λ h. spelling h c.args.text.now (with_spellings c.args.parts.now) c.args.place) c.in-IntType.is) c.int_type.ensures
+
+pub spelling-returns-in-BracketedType : goal.spelling-returns-in-BracketedType
+unfolding spelling
+spelling-returns-in-BracketedType t c = answers_as _ _ c.bracketed_type.result (ap (λ h. spelling h c.args.text.now (with_spellings c.args.parts.now) c.args.place) c.in-BracketedType.is) c.bracketed_type.ensures
+
+pub spelling-returns-in-OptionType : goal.spelling-returns-in-OptionType
+unfolding spelling
+spelling-returns-in-OptionType t c = answers_as _ _ c.option_type.result (ap (λ h. spelling h c.args.text.now (with_spellings c.args.parts.now) c.args.place) c.in-OptionType.is) c.option_type.ensures
+
+pub spelling-returns-in-MapType : goal.spelling-returns-in-MapType
+unfolding spelling
+spelling-returns-in-MapType t c = answers_as _ _ c.map_type.result (ap (λ h. spelling h c.args.text.now (with_spellings c.args.parts.now) c.args.place) c.in-MapType.is) c.map_type.ensures
+
+pub spelling-returns-in-ProductType : goal.spelling-returns-in-ProductType
+unfolding spelling
+spelling-returns-in-ProductType t c = answers_as _ _ c.tuple_type.result (ap (λ h. spelling h c.args.text.now (with_spellings c.args.parts.now) c.args.place) c.in-ProductType.is) c.tuple_type.ensures
 
 pub spelling-returns-in_default : goal.spelling-returns-in_default
 spelling-returns-in_default t c =
-    refuses_as _ c.not_built-in_default.result Syntax c.args.place (no_type c.args.head c.args.text.now c.args.parts.now c.args.place c.in_default.not-PlainType c.in_default.not-BracketedType) c.not_built-in_default.ensures
+    let d = c.in_default in
+    refuses_as _ c.not_built.result Syntax c.args.place
+    (no_type c.args.head c.args.text.now (with_spellings c.args.parts.now) c.args.place
+    d.not-PlainType d.not-IntType d.not-BitsType d.not-BracketedType d.not-MapType d.not-ProductType d.not-OptionType)
+    c.not_built.ensures

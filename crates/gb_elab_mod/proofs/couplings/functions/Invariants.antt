@@ -1,6 +1,6 @@
 use Rattle.std.proofs.Common.{◌≡◌, ◌∷◌, drop}
-use Rattle.gb_elab.specs.Answers.{◌>>=◌}
-use Rattle.gb_elab.specs.Answers.Answer.{given}
+use Rattle.gb_goal.specs.Answers.{◌>>=◌}
+use Rattle.gb_goal.specs.Answers.Answer.{given}
 use Rattle.gb_elab.specs.Environment.{environment}
 use Rattle.gb_elab_mod.specs.Steps.{functions}
 use Rattle.gb_elab_mod.proofs.Gathered.{behind}

@@ -1,5 +1,5 @@
-use Rattle.gb_theory.proofs.Steps.{smt_meets}
+use Rattle.gb_theory.proofs.Steps.{body_meets, relational_meets, smt_meets}
 use Rattle.gb_theory.proofs.fold.apply.Goals as goal
 
 pub returns-in-Smt : goal.returns-in-Smt
-returns-in-Smt c = smt_meets c.args.scope.now c.args.step.now.rule c.args.step.now.place c.args.goal.now c.apply.result c.in-Smt.is c.apply.ensures.answer
+returns-in-Smt c = smt_meets c.args.scope.now c.args.step.now.rule c.args.step.now.place c.args.goal.now c.apply-in-Smt.result c.in-Smt.is c.apply-in-Smt.ensures.answer

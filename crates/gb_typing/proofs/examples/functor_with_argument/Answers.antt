@@ -19,13 +19,14 @@ scope = (
   record { params = tt; signatures = (((tt, tt), tt, tt), refl, tt) },
   (
     refl,
-    record { params = ((tt, refl), tt); signatures = ((tt, tt, (tt, tt)), refl, tt) },
+    record { params = ((tt, refl, refl), tt); signatures = ((tt, tt, (tt, tt)), refl, tt) },
     (
       refl,
       record {
         name = refl;
         params = tt;
         globals = (tt, tt);
+        names = (refl, tt);
         procs = (
           refl,
           record {
@@ -44,8 +45,9 @@ scope = (
         refl,
         record {
           name = refl;
-          params = (tt, tt);
+          params = ((tt, refl), tt);
           globals = tt;
+          names = tt;
           procs = (
             refl,
             record {

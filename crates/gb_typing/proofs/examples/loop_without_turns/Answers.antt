@@ -9,6 +9,7 @@ typed_module = record {
   name = refl;
   params = tt;
   globals = tt;
+  names = tt;
   procs = (
     refl,
     record {

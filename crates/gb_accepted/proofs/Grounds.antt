@@ -1,0 +1,86 @@
+-- What the crates below promise: of typing, of rules and of models.
+use Rattle.std.specs.Prelude.{◌≡◌, true, false, List, [], ◌∷◌, ◌++◌}
+use Rattle.std.specs.List.{All, AllByRecursion}
+use Rattle.gb_core.specs.declared.ty.Ty.TheVariants as ty
+use Rattle.gb_core.specs.declared.refusal.Why.TheVariants.{Shape}
+use Rattle.gb_terms.specs.declared.decl.Module.{Module}
+use Rattle.gb_terms.specs.declared.decl.TypedName.{TypedName}
+use Rattle.gb_terms.specs.declared.module.ProcRef.{ProcRef}
+use Rattle.gb_terms.specs.declared.term.Term.{Term}
+use Rattle.gb_script.specs.declared.tree.Node.{Node}
+use Rattle.gb_goal.specs.Answers.Answer.{given}
+use Rattle.gb_goal.specs.Goal.{Goal, goal_of}
+use Rattle.gb_goal.specs.Goal.Goal.{ambient}
+use Rattle.gb_goal.specs.Rows.{Row, refusing, answered}
+use Rattle.gb_goal.specs.Scope as scope
+use Rattle.gb_goal.specs.declared.scope.Entry.TheVariants as entry
+use Rattle.gb_goal.specs.declared.sequent.Sequent.{Sequent}
+use Rattle.gb_goal.specs.declared.step.Rule.{Rule}
+use Rattle.gb_goal.specs.declared.step.Step.{Step}
+use Rattle.gb_meaning.specs.Names.{Name}
+use Rattle.gb_meaning.specs.Written.{type_of}
+use Rattle.gb_holds.specs.Declared.{Declarations, declared}
+use Rattle.gb_holds.specs.Holds.{Holds}
+use Rattle.gb_holds.specs.Truth.{has_module}
+use Rattle.gb_typing.specs.Context.{Context}
+use Rattle.gb_typing.specs.Sequents.{IsConclusion, of_sequent, IsTypedSequent}
+use Rattle.gb_typing.specs.Scopes.{context_of, is_declared, IsTypedScope}
+use Rattle.gb_rules.specs.Typing.{IsGoalOver, IsTypedGoal}
+use Rattle.gb_rules.specs.Rules.{outermost, IsSoundAt, IsSoundIn, IsSoundRule, IsSoundRuleIn, no_arguments}
+use Rattle.gb_bodies.specs.Rows as bodies
+use Rattle.gb_equiv.specs.Rows as equiv
+use Rattle.gb_equiv.specs.Rows.{IsTypedRule}
+use Rattle.gb_smt.specs.Leaves.{leaves_of}
+use Rattle.gb_smt.specs.Apply.{IsClosed}
+use Rattle.gb_elab_mod.specs.Lemmas.{lemma_name, statement_given}
+use Rattle.gb_elab_mod.specs.Modules.{module_given}
+use Rattle.gb_elab_mod.specs.Steps.{step_given}
+use Rattle.gb_models.specs.Promised.{HasModel, equivalence, alone, AreCoupledInEachModel}
+
+-- typed declarations of a scope, a typed goal over them, and its context
+abbrev pub IsTyped : scope.Declarations → Type 0
+IsTyped ds = IsTypedScope (declared ds)
+
+abbrev pub IsTypedGoalOf : scope.Declarations → Sequent → Type 0
+IsTypedGoalOf ds q = IsTypedSequent (context_of (declared ds)) q
+
+abbrev pub around : (ds : scope.Declarations) (q : Sequent) → IsTypedGoalOf ds q → Context
+around ds q t = of_sequent (context_of (declared ds)) q t.frames
+
+-- What is declared stays typed.
+pub record OfTyping : Type 0 where
+  pub module_added : (ds : scope.Declarations) → IsTyped ds → (t : Node) (m : Module) → module_given ds t ≡ given m → IsTyped (ds ++ (m.name, entry.Module m) ∷ [])
+  pub statement : (ds : scope.Declarations) → IsTyped ds → (t : Node) (q : Sequent) → statement_given ds t ≡ given q → IsTypedGoalOf ds q
+  pub free : (ds : scope.Declarations) (t : Node) (q : Sequent) → statement_given ds t ≡ given q → is_declared (declared ds) (lemma_name t) ≡ false
+  pub lemma_added : (ds : scope.Declarations) → IsTyped ds → (n : Name) → is_declared (declared ds) n ≡ false → (q : Sequent) → IsTypedGoalOf ds q →
+      IsTyped (ds ++ (n, entry.Lemma q) ∷ [])
+  pub rule : (ds : scope.Declarations) (q : Sequent) (t : IsTypedGoalOf ds q) (n : Node) (s : Step) → step_given ds q n ≡ given s →
+      (ls rs : List TypedName) → IsGoalOver (around ds q t) ls rs (goal_of q.conclusion) → IsTypedRule (around ds q t) s.rule ls rs (goal_of q.conclusion)
+
+-- Rules are sound.
+pub record OfRules : Type 0 where
+  pub goal : (c : Context) (f : Term) → IsConclusion c f → has_module f ≡ false → IsTypedGoal c (goal_of f) × (type_of f ≡ ty.Bool)
+  pub front : (f : Term) → has_module f ≡ true → goal_of f ≡ ambient f
+  pub outer : (ds : Declarations) (q : Sequent) (fs : List (List TypedName)) → of_sequent (context_of ds) q fs ≡ outermost (of_sequent (context_of ds) q fs)
+  pub everywhere : (ds : Declarations) (c : Context) (row : Row) (G : Goal) → IsSoundAt c row G → IsSoundIn ds c row G
+  pub lifted : (ds : Declarations) → IsTypedScope ds → (q : Sequent) (t : IsTypedSequent (context_of ds) q) → type_of q.conclusion ≡ ty.Bool →
+      (ls rs : List TypedName) → IsGoalOver (of_sequent (context_of ds) q t.frames) ls rs (goal_of q.conclusion) →
+      (row : Row) → IsSoundIn ds (of_sequent (context_of ds) q t.frames) row (goal_of q.conclusion) →
+      (qs : List Sequent) → answered row q ≡ given qs → AllByRecursion (IsTypedSequent (context_of ds)) qs × (AllByRecursion (Holds ds) qs → Holds ds q)
+  pub on_bodies : (ds : scope.Declarations) → IsTyped ds → (q : Sequent) (t : IsTypedGoalOf ds q) (r : Rule) →
+      IsSoundRuleIn (declared ds) (around ds q t) (bodies.rule_row ds r) no_arguments
+  pub bodies_refuse : (ds : scope.Declarations) (r : Rule) (f : Term) → bodies.rule_row ds r (ambient f) ≡ refusing Shape
+  pub equiv_refuses : (r : Rule) (f : Term) → equiv.rule_row r (ambient f) ≡ refusing Shape
+  pub relational : (c : Context) (r : Rule) → IsSoundRule c (equiv.rule_row r) (IsTypedRule c r)
+  pub smt : (ds : Declarations) → IsTypedScope ds → (q : Sequent) → IsTypedSequent (context_of ds) q → All IsClosed (leaves_of q) → Holds ds q
+
+-- Typed scopes have models, and equivalences give couplings.
+pub record OfModels : Type 0 where
+  pub model : (ds : scope.Declarations) → IsTyped ds → HasModel ds
+  pub coupled : (ds : scope.Declarations) → IsTyped ds → (f h : ProcRef) (P Q : Term) → IsTypedGoalOf ds (alone (equivalence f h P Q)) →
+      Holds (declared ds) (alone (equivalence f h P Q)) → AreCoupledInEachModel ds f h P Q
+
+pub record Grounds : Type 0 where
+  pub typing : OfTyping
+  pub rules : OfRules
+  pub models : OfModels

@@ -1,0 +1,137 @@
+//! The rule `proc`.
+
+ghost use Rattle.std.specs.Prelude.{◌≡◌, ◌∷◌, [], IfOk};
+ghost use Rattle.gb_holds.specs.Declared.{declared};
+ghost use Rattle.gb_typing.specs.Scopes.{context_of, IsTypedScope};
+ghost use Rattle.gb_typing.specs.Sequents.{of_sequent, IsTypedSequent};
+ghost use Rattle.gb_goal.specs.declared.sequent.Sequent.{Sequent as TypedSequent};
+ghost use Rattle.gb_goal.specs.Answers.{Answers};
+ghost use Rattle.gb_goal.specs.Goal.{form_of};
+ghost use Rattle.gb_goal.specs.Goal.Code.{body};
+ghost use Rattle.gb_goal.specs.Goal.Goal.{hoare, equiv};
+ghost use Rattle.gb_goal.specs.Rows.{answered, each_concluding};
+ghost use Rattle.gb_goal.specs.Scope.{Declarations};
+ghost use Rattle.gb_goal.specs.Views.{goal_seen};
+ghost use Rattle.gb_walk.specs.Change.{term_changed};
+ghost use Rattle.gb_rules.specs.Rules.{IsSoundRuleIn, no_arguments};
+ghost use Rattle.gb_rules.specs.Calls.{returned};
+ghost use Rattle.gb_bodies.specs.Proc.{proc_row};
+
+use crate::forms::located;
+use crate::subgoals::{no_shape, one_goal};
+use gb_core::name::Name;
+use gb_core::refusal::Refused;
+use gb_core::var::Var;
+use gb_goal::goal::{Code, Goal, equiv, goal_of, hoare};
+use gb_goal::scope::Scope;
+use gb_goal::sequent::{Sequent, Sequents};
+use gb_terms::decl::Proc;
+use gb_terms::op::{Read, Side};
+use gb_terms::term::Form;
+use gb_walk::change::{Change, Changes};
+use gb_walk::walk::changed;
+use sqlite_items::Items;
+use std::alloc::{AllocError, Global};
+
+/// The variable that stands for the result of a procedure.
+const RESULT: &str = "res";
+
+/// The result of a procedure in a memory becomes the term that the procedure returns.
+fn returned(alloc: Global, proc: &Proc, side: Side) -> Result<Change, AllocError>
+    ensures { IfOk result (λ made. made ≡ returned side proc.now) }
+{
+    let name = Name::from_str(alloc, RESULT)?;
+    let value = located(alloc, &proc.value, side)?;
+    let var = Var::Local { name };
+    Ok(Change::ToTerm(Read::Program { var, side }, value))
+}
+
+/// The results of two procedures become the terms that they return.
+fn both_returned(alloc: Global, left: &Proc, right: &Proc) -> Result<Changes, AllocError>
+    ensures { IfOk result (λ made. made ≡ returned Side.Left left.now ∷ returned Side.Right right.now ∷ []) }
+{
+    let mut results = Items::new(alloc);
+    results.push(returned(alloc, left, Side::Left)?)?;
+    results.push(returned(alloc, right, Side::Right)?)?;
+    Ok(results)
+}
+
+/// What is said of the result of a procedure, of the term that it returns.
+fn said_of_one(alloc: Global, proc: &Proc, post: &Form) -> Result<Form, AllocError>
+    ensures { IfOk result (λ made. made ≡ term_changed post.now (returned Side.Own proc.now ∷ [])) }
+{
+    let result = returned(alloc, proc, Side::Own)?;
+    changed(alloc, post, &[result])
+}
+
+/// The same of two procedures.
+fn said_of_both(alloc: Global, left: &Proc, right: &Proc, post: &Form) -> Result<Form, AllocError>
+    ensures { IfOk result (λ made. made ≡ term_changed post.now (returned Side.Left left.now ∷ returned Side.Right right.now ∷ [])) }
+{
+    let results = both_returned(alloc, left, right)?;
+    changed(alloc, post, results.as_slice())
+}
+
+/// The judgment on the body of a procedure.
+fn one_entered(alloc: Global, proc: &Proc, pre: &Form, post: &Form) -> Result<Form, AllocError>
+    ensures { IfOk result (λ made. made ≡ form_of (hoare (body proc.now.body.list) pre.now (term_changed post.now (returned Side.Own proc.now ∷ [])))) }
+{
+    let post = said_of_one(alloc, proc, post)?;
+    let pre = pre.share()?;
+    let list = proc.body.list.share()?;
+    hoare(alloc, list, pre, post)
+}
+
+/// The judgment on the bodies of two procedures.
+fn two_entered(
+    alloc: Global,
+    left: &Proc,
+    right: &Proc,
+    pre: &Form,
+    post: &Form,
+) -> Result<Form, AllocError>
+    ensures { IfOk result (λ made. made ≡ form_of (equiv (body left.now.body.list) (body right.now.body.list) pre.now
+        (term_changed post.now (returned Side.Left left.now ∷ returned Side.Right right.now ∷ [])))) }
+{
+    let post = said_of_both(alloc, left, right, post)?;
+    let pre = pre.share()?;
+    let left = left.body.list.share()?;
+    let right = right.body.list.share()?;
+    equiv(alloc, left, right, pre, post)
+}
+
+/// The subgoals of a goal that is seen so.
+fn entered(alloc: Global, goal: &Sequent, seen: Goal, scope: &Scope) -> Result<Sequents, Refused>
+    ensures { Answers (each_concluding goal.now (proc_row scope.now (goal_seen seen.entry))) result }
+{
+    let conclusion = match seen {
+        Goal::Hoare(Code::Procedure(named), pre, post) => {
+            let Some(proc) = scope.procedure(named) else {
+                return Err(no_shape());
+            };
+            one_entered(alloc, proc, pre, post)?
+        }
+        Goal::Equiv(Code::Procedure(left), Code::Procedure(right), pre, post) => {
+            let (Some(left), Some(right)) = (scope.procedure(left), scope.procedure(right)) else {
+                return Err(no_shape());
+            };
+            two_entered(alloc, left, right, pre, post)?
+        }
+        _ => return Err(no_shape()),
+    };
+    Ok(one_goal(alloc, goal, conclusion)?)
+}
+
+/// The subgoals of `proc`: from concrete procedures of modules without parameters to their bodies. Parameters are locals, and the
+/// postcondition speaks of the terms that the procedures return in place of their results. Refused with `Shape` at any other goal.
+pub fn proc(alloc: Global, goal: &Sequent, scope: &Scope) -> Result<Sequents, Refused>
+    ensures { Answers (answered (proc_row scope.now) goal.now) result }
+{
+    entered(alloc, goal, goal_of(&goal.conclusion), scope)
+}
+
+/// `proc` is sound over each typed scope, at the goal of each typed sequent.
+pub fn proc_is_sound()
+    ensures { (ds : Declarations) → IsTypedScope (declared ds) → (q : TypedSequent) (t : IsTypedSequent (context_of (declared ds)) q) →
+        IsSoundRuleIn (declared ds) (of_sequent (context_of (declared ds)) q t.frames) (proc_row ds) no_arguments }
+{}

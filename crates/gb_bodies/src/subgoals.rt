@@ -1,0 +1,49 @@
+//! The goals that rules give, and their refusals.
+
+ghost use Rattle.std.specs.Prelude.{◌≡◌, List, [], ◌∷◌, IfOk};
+ghost use Rattle.gb_core.specs.declared.refusal.Why.TheVariants.{Shape};
+ghost use Rattle.gb_goal.specs.Answers.{nowhere, placed_at, Answers, Answer};
+ghost use Rattle.gb_goal.specs.declared.sequent.Sequent.{Sequent as Goal};
+
+use gb_core::place::Place;
+use gb_core::refusal::{Refused, Why};
+use gb_goal::sequent::{Sequent, Sequents};
+use gb_terms::term::Form;
+use sqlite_items::Items;
+use std::alloc::{AllocError, Global};
+
+/// The one goal with the context of `goal` and this conclusion.
+pub fn one_goal(alloc: Global, goal: &Sequent, conclusion: Form) -> Result<Sequents, AllocError>
+    ensures { IfOk result (λ goals. goals ≡ record goal.now { conclusion = conclusion } ∷ []) }
+{
+    let mut goals = Items::new(alloc);
+    goals.push(goal.with_conclusion(conclusion)?)?;
+    Ok(goals)
+}
+
+/// The goal hasn't the form that a rule needs. The refusal has no place of its own.
+pub fn no_shape() -> Refused
+    ensures { result ≡ Refused.Script Shape nowhere }
+{
+    let place = Place {
+        file: 0,
+        line: 0,
+        col: 0,
+    };
+    Refused::Script {
+        why: Why::Shape,
+        place,
+    }
+}
+
+/// A refusal without a place of its own stands at this one. Lines count from 1.
+pub fn placed(made: Result<Sequents, Refused>, at: Place) -> Result<Sequents, Refused>
+    ensures { (answer : Answer (List Goal)) → Answers answer made → Answers (placed_at at answer) result }
+{
+    match made {
+        Err(Refused::Script { why, place }) if place.line == 0 => {
+            Err(Refused::Script { why, place: at })
+        }
+        other => other,
+    }
+}

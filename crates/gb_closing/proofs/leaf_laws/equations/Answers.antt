@@ -1,6 +1,0 @@
-use Rattle.std.proofs.Common.{length}
-use Rattle.gb_closing.proofs.Used.{used_holds}
-use Rattle.gb_closing.proofs.leaf_laws.equations.Goals as goal
-
-pub returns : goal.returns
-returns c = λ g j l h. used_holds g j (length l.hyps) l h

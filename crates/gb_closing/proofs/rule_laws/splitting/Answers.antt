@@ -1,5 +1,0 @@
-use Rattle.gb_closing.proofs.Rule.{conclusion_true}
-use Rattle.gb_closing.proofs.rule_laws.splitting.Goals as goal
-
-pub returns : goal.returns
-returns c = λ ds k q ready held vs typed ms t. conclusion_true ds k q ready vs typed ms held t

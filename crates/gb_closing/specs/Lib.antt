@@ -1,5 +1,0 @@
-pub mod Simple
-pub mod Reading
-pub mod Fits
-pub mod Closing
-pub mod Ready

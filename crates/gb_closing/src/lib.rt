@@ -1,5 +1,0 @@
-//! What the rule `smt` closes holds.
-#![tactic(auto)]
-
-pub mod leaf_laws;
-pub mod rule_laws;

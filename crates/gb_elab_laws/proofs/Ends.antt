@@ -1,0 +1,143 @@
+-- The samplings that end a well-typed body, and its locals.
+use Rattle.std.proofs.Common.{◌≡◌, ◌-◌, ℕ, zero, suc, Bool, true, false, if◌then◌else◌, List, [], ◌∷◌, ◌++◌, length, take, slice_get, flat_map, Option, Some, None, option_map, bytes_eq, refl, ap, sym, ◌∙◌, subst, arith}
+use Rattle.std.proofs.lemmas.Slice.Eq.{bytes_eq-Decides}
+use Rattle.gb_core.specs.declared.ty.Ty.{Ty, out-Ty, end_of-Ty, more_of-Ty}
+use Rattle.gb_core.specs.declared.ty.Ty.TheVariants as ty
+use Rattle.gb_core.specs.declared.ty.Ty.TheOpen as ty_layer
+use Rattle.gb_core.specs.declared.var.Var.{Var}
+use Rattle.gb_core.specs.declared.var.Var.TheVariants as var
+use Rattle.gb_terms.specs.declared.decl.TypedName.{TypedName}
+use Rattle.gb_terms.specs.declared.op.Side.{Side}
+use Rattle.gb_terms.specs.declared.op.Side.TheVariants as side
+use Rattle.gb_terms.specs.declared.term.Cmd.{Cmd}
+use Rattle.gb_terms.specs.declared.term.Instr.{Instr}
+use Rattle.gb_terms.specs.declared.term.Term.{Term, out-Term}
+use Rattle.gb_terms.specs.declared.term.Head.TheVariants.{Assign, Sample, Call', If', While'}
+use Rattle.gb_meaning.specs.Names.{Name}
+use Rattle.gb_meaning.specs.Operators.{outcome_type}
+use Rattle.gb_meaning.specs.Written.{type_of, local_type}
+use Rattle.gb_typed.specs.Finite.{IsFinite}
+use Rattle.gb_typed.specs.Operators.{IsDistributionType}
+use Rattle.gb_typed.specs.Programs.{variable_type, HaveFiniteTypes}
+use Rattle.gb_typing.specs.Context.{Context, erased, of_program}
+use Rattle.gb_typing.specs.Programs.{IsStatement, EachStatement, IsBody}
+use Rattle.gb_elab_mod.specs.Occurring.{local, outcome_local, read_locals, sampling_locals, occurring}
+use Rattle.gb_elab_mod.specs.Steps.{outcomes, sampled, last_sampled}
+use Rattle.gb_elab_laws.specs.Fitting.{AreIn}
+use Rattle.gb_elab_laws.specs.Reading.{StandIn}
+use Rattle.gb_rules.specs.Samplings.{Sampling, behind, last_sampling, of_statement, of_type}
+use Rattle.gb_elab_laws.proofs.Given.{none_some, same_some, out_type}
+use Rattle.gb_elab_laws.proofs.Types.{distribution_layer, have_finite}
+use Rattle.gb_elab_laws.proofs.Occurring.{reads_stand, stand_both, all_stand}
+
+-- Typing and the rule see the same samplings at the end.
+
+outcomes_are : (is : List Instr) (x : Var) (d : Term) (u : ty_layer.Ty-F Ty) → outcomes u ≡ option_map (λ (y : Sampling). y.ty) (of_type is x d u)
+outcomes_are is x d (ty_layer.Distr t) = refl
+outcomes_are is x d _ = refl
+
+statement_is : (is : List Instr) (i : Instr) → sampled (Some i) ≡ option_map (λ (y : Sampling). y.ty) (of_statement is i)
+statement_is is (Sample x d) = outcomes_are is x d (out-Ty (out-Term d).ty)
+statement_is is (Assign xs e) = refl
+statement_is is (Call' xs p n es) = refl
+statement_is is (If' e m b n c) = refl
+statement_is is (While' e v n b) = refl
+
+behind_type : (i : Instr) (o : Option Sampling) → option_map (λ (y : Sampling). y.ty) o ≡ option_map (λ (y : Sampling). y.ty) (option_map (behind i) o)
+behind_type i (Some x) = refl
+behind_type i None = refl
+
+last_agrees : (is : List Instr) → sampled (slice_get is (length is - 1)) ≡ option_map (λ (y : Sampling). y.ty) (last_sampling is)
+last_agrees [] = refl
+last_agrees (i ∷ []) = statement_is [] i
+last_agrees (i ∷ j ∷ is) =
+    let e : length (i ∷ j ∷ is) - 1 ≡ suc (length (j ∷ is) - 1) = omega arith in
+    ap (λ n. sampled (slice_get (i ∷ j ∷ is) n)) e ∙ last_agrees (j ∷ is) ∙ behind_type i (last_sampling (j ∷ is))
+
+pub ends_agree : (c : Cmd) → last_sampled c ≡ option_map (λ (y : Sampling). y.ty) (last_sampling c.list)
+ends_agree c = last_agrees c.list
+
+outcome_of : (u : Ty) → IsDistributionType u → out-Ty u ≡ ty_layer.Distr (outcome_type u)
+outcome_of (ty.Distr' p (more_of-Ty t end_of-Ty)) k = distribution_layer t
+outcome_of _ k = absurd k
+
+outcome_finite : (u : Ty) → IsDistributionType u → IsFinite (outcome_type u)
+outcome_finite (ty.Distr' p (more_of-Ty t end_of-Ty)) k = k
+outcome_finite _ k = absurd k
+
+module _ (c : Context) (ls : List TypedName) where
+  statement_at : (is : List Instr) (i : ℕ) (x : Instr) → EachStatement c ls is → slice_get is i ≡ Some x → IsStatement c ls x
+  statement_at [] i x k e = none_some x e
+  statement_at (y ∷ is) zero x k e = subst (IsStatement c ls) (same_some y x e) k.0
+  statement_at (y ∷ is) (suc i) x k e = statement_at is i x k.1 e
+
+  sampled_finite : (o : Option Instr) → ((x : Instr) → o ≡ Some x → IsStatement c ls x) → (a : Ty) → sampled o ≡ Some a → IsFinite a
+  sampled_finite None k a e = none_some a e
+  sampled_finite (Some (Sample x d)) k a e =
+      let s = k (Sample x d) refl in
+      let t : outcome_type (type_of d) ≡ a = same_some (outcome_type (type_of d)) a (sym (ap (λ u. outcomes (out-Ty u)) (out_type d) ∙ ap outcomes (outcome_of (type_of d) s.1)) ∙ e) in
+      subst IsFinite t (outcome_finite (type_of d) s.1)
+  sampled_finite (Some (Assign xs e)) k a h = none_some a h
+  sampled_finite (Some (Call' xs p n es)) k a h = none_some a h
+  sampled_finite (Some (If' e m b n d)) k a h = none_some a h
+  sampled_finite (Some (While' e v n b)) k a h = none_some a h
+
+  -- the values that a body samples at its end are of a type of values
+  pub last_finite : (d : Cmd) → EachStatement c ls d.list → (a : Ty) → last_sampled d ≡ Some a → IsFinite a
+  last_finite d k a e = sampled_finite (slice_get d.list (length d.list - 1)) (λ x i. statement_at d.list (length d.list - 1) x k i) a e
+
+  target_stands : (x : Var) (t : Ty) → variable_type (erased c) ls x ≡ Some t → StandIn (Some ls) (local x t)
+  target_stands (var.Local x) t h = (h, tt)
+  target_stands (var.Global m x) t h = tt
+  target_stands (var.Glob a) t h = tt
+
+  sampling_stands : (x : Var) (d : Term) → IsStatement c ls (Sample x d) → StandIn (Some ls) (outcome_local x (out-Ty (out-Term d).ty) ++ read_locals d side.Own)
+  sampling_stands x d s =
+      let e : outcome_local x (out-Ty (out-Term d).ty) ≡ local x (outcome_type (type_of d)) =
+      ap (λ u. outcome_local x (out-Ty u)) (out_type d) ∙ ap (outcome_local x) (outcome_of (type_of d) s.1) in
+      stand_both (Some ls) (outcome_local x (out-Ty (out-Term d).ty)) (read_locals d side.Own)
+      (subst (StandIn (Some ls)) (sym e) (target_stands x (outcome_type (type_of d)) s.2)) (reads_stand (of_program c ls) d s.0.typed side.Own tt)
+
+  statements_stand : (is : List Instr) → EachStatement c ls is → StandIn (Some ls) (flat_map sampling_locals is)
+  statements_stand [] k = tt
+  statements_stand (Sample x d ∷ is) k = stand_both (Some ls) (sampling_locals (Sample x d)) (flat_map sampling_locals is) (sampling_stands x d k.0) (statements_stand is k.1)
+  statements_stand (Assign xs e ∷ is) k = statements_stand is k.1
+  statements_stand (Call' xs p n es ∷ is) k = statements_stand is k.1
+  statements_stand (If' e m a n b ∷ is) k = statements_stand is k.1
+  statements_stand (While' e v n a ∷ is) k = statements_stand is k.1
+
+  -- what occurs in two conditions and a body are locals of the body
+  occurring_stand : (s : Side) (p q : Term) (d : Cmd) → StandIn (Some ls) (read_locals p s) → StandIn (Some ls) (read_locals q s) → EachStatement c ls d.list →
+      StandIn (Some ls) (occurring (p ∷ q ∷ []) s d)
+  occurring_stand s p q d hp hq k =
+      let conditions = stand_both (Some ls) (read_locals p s) (read_locals q s ++ []) hp (stand_both (Some ls) (read_locals q s) [] hq tt) in
+      all_stand (Some ls) [] (flat_map (λ t. read_locals t s) (p ∷ q ∷ []) ++ flat_map sampling_locals d.list) tt
+      (stand_both (Some ls) (flat_map (λ t. read_locals t s) (p ∷ q ∷ [])) (flat_map sampling_locals d.list) conditions (statements_stand d.list k))
+
+local_finite : (ls : List TypedName) (x : Name) (t : Ty) → HaveFiniteTypes ls → local_type ls x ≡ Some t → IsFinite t
+local_finite [] x t h e = none_some t e
+local_finite (l ∷ ls) x t h e = step (bytes_eq x l.name) (local_finite ls x t h.1) e
+  where
+    step : (b : Bool) → (local_type ls x ≡ Some t → IsFinite t) → (if b then Some l.ty else local_type ls x) ≡ Some t → IsFinite t
+    step true f e = subst IsFinite (same_some l.ty t e) h.0
+    step false f e = f e
+
+module _ (ls : List TypedName) where
+  standing_finite : HaveFiniteTypes ls → (vs : List TypedName) → StandIn (Some ls) vs → HaveFiniteTypes vs
+  standing_finite h [] k = tt
+  standing_finite h (v ∷ vs) k = (local_finite ls v.name v.ty h k.0, standing_finite h vs k.1)
+
+  standing_name : (vs : List TypedName) → StandIn (Some ls) vs → (x : Name) (t : Ty) → local_type vs x ≡ Some t → local_type ls x ≡ Some t
+  standing_name [] k x t e = none_some t e
+  standing_name (v ∷ vs) k x t e = step (bytes_eq x v.name) refl (standing_name vs k.1 x t) e
+    where
+      step : (b : Bool) → bytes_eq x v.name ≡ b → (local_type vs x ≡ Some t → local_type ls x ≡ Some t) → (if b then Some v.ty else local_type vs x) ≡ Some t → local_type ls x ≡ Some t
+      step true i f e = ap (local_type ls) ((bytes_eq-Decides x v.name).0 i) ∙ k.0 ∙ e
+      step false i f e = f e
+
+  -- what occurs in a goal is read in the memory of a body
+  pub occurring_in : (c : Context) (s : Side) (p q : Term) (d : Cmd) → StandIn (Some ls) (read_locals p s) → StandIn (Some ls) (read_locals q s) → IsBody c ls d.list →
+      AreIn (Some ls) (occurring (p ∷ q ∷ []) s d)
+  occurring_in c s p q d hp hq b =
+      let k : StandIn (Some ls) (occurring (p ∷ q ∷ []) s d) = occurring_stand c ls s p q d hp hq b.statements in
+      record { there = standing_name _ k; finite = standing_finite (have_finite ls b.locals) _ k }

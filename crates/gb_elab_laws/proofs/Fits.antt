@@ -1,0 +1,153 @@
+-- The contexts of statements, programs and functions fit their environments.
+use Rattle.std.proofs.Common.{◌≡◌, Bool, true, false, if◌then◌else◌, List, [], ◌∷◌, ◌++◌, Option, Some, None, bytes_eq, refl, ap, ◌∙◌, subst}
+use Rattle.std.proofs.lemmas.Bool.{false≢true}
+use Rattle.gb_terms.specs.declared.decl.Module.{Module}
+use Rattle.gb_terms.specs.declared.decl.Param.{Param}
+use Rattle.gb_terms.specs.declared.decl.Proc.{Proc}
+use Rattle.gb_terms.specs.declared.decl.TypedName.{TypedName}
+use Rattle.gb_terms.specs.declared.module.Mexp.{Mexp}
+use Rattle.gb_terms.specs.declared.module.Mexp.TheVariants.{Name as named, Apply'}
+use Rattle.gb_goal.specs.Scope as scope
+use Rattle.gb_goal.specs.Scope.{entry_of, as_module, proc_of, proc_if_plain, proc_in, proc_at, procedure_of}
+use Rattle.gb_goal.specs.declared.scope.Entry.{Entry}
+use Rattle.gb_goal.specs.declared.scope.Entry.TheVariants as entry
+use Rattle.gb_goal.specs.declared.sequent.Sequent.{Sequent}
+use Rattle.gb_meaning.specs.Names.{Name}
+use Rattle.gb_typed.specs.Finite.{IsVariableType}
+use Rattle.gb_typed.specs.Programs.{HaveFiniteTypes}
+use Rattle.gb_holds.specs.Declared.{Declarations, declaration_of, declared, concrete_module, lemma}
+use Rattle.gb_holds.specs.Modules.{Procedures, found}
+use Rattle.gb_typing.specs.Modules.{ProcedureType, Interface, of_complete}
+use Rattle.gb_typing.specs.Modules as typing
+use Rattle.gb_typing.specs.Context.{Context, of_program}
+use Rattle.gb_typing.specs.Programs.{HaveVariableTypes, type_of_procedure}
+use Rattle.gb_typing.specs.Sequents.{of_sequent, two, IsTypedSequent}
+use Rattle.gb_typing.specs.Scopes.{interface_with, procedure_types, nothing, with_declared, with_each, context_of, is_declared, AreProcedures, AreTypedAfter, IsTypedScope}
+use Rattle.gb_typing.proofs.Operators.{declared_more, declared_last, other_name}
+use Rattle.gb_typing.proofs.Variables.{variable_finite}
+use Rattle.gb_rules.proofs.Lifted.{sequent_outermost}
+use Rattle.gb_elab.specs.Environment.{ambient, of_function, program}
+use Rattle.gb_elab_mod.specs.Lemmas.{nothing_around}
+use Rattle.gb_elab_laws.specs.Fitting.{AreIn, IsTypeOf, IsFitting}
+use Rattle.gb_elab_laws.proofs.Given.{none_some, same_some}
+use Rattle.gb_elab_laws.proofs.Types.{have_finite}
+use Rattle.gb_elab_laws.proofs.Quantified.{have_front}
+
+-- what is declared later leaves the modules that are declared
+stays : (ds : scope.Declarations) (before : Declarations) (c : Context) (n : Name) → is_declared before n ≡ true → AreTypedAfter c before (declared ds) →
+    (with_each c (declared ds)).modules.interfaces n ≡ c.modules.interfaces n
+stays [] before c n d w = refl
+stays ((k, entry.Module m) ∷ ds) before c n d w =
+    stays ds (before ++ (k, concrete_module m) ∷ []) (with_declared c k (concrete_module m)) n (declared_more before (k, concrete_module m) n d) w.2
+    ∙ ap (λ (b : Bool). if b then Some (interface_with c.modules.types m.params (procedure_types m.procs)) else c.modules.interfaces n) (other_name before n k d w.0)
+stays ((k, entry.Lemma q) ∷ ds) before c n d w = stays ds (before ++ (k, lemma q) ∷ []) c n (declared_more before (k, lemma q) n d) w.2
+
+-- A declared module stands under its name, and its procedures are typed.
+record Stands (o : Option Interface) (m : Module) : Type 0 where
+  context : Context
+  procedures : AreProcedures context m [] m.procs
+  there : m.params ≡ [] → o ≡ Some (record { lacks = []; procedures = procedure_types m.procs })
+
+stands : (ds : scope.Declarations) (before : Declarations) (c : Context) → AreTypedAfter c before (declared ds) → (n : Name) (m : Module) → entry_of ds n ≡ Some (entry.Module m) →
+    Stands ((with_each c (declared ds)).modules.interfaces n) m
+stands [] before c w n m e = none_some (entry.Module m) e
+stands ((k, d) ∷ ds) before c w n m e = step (bytes_eq n k) refl (stands ds (before ++ (k, declaration_of d) ∷ []) (with_declared c k (declaration_of d)) w.2 n m) e
+  where
+    here : bytes_eq n k ≡ true → (x : Entry) → AreTypedAfter c before ((k, declaration_of x) ∷ declared ds) → x ≡ entry.Module m →
+        Stands ((with_each (with_declared c k (declaration_of x)) (declared ds)).modules.interfaces n) m
+    here i (entry.Lemma q) v h = cc
+    here i (entry.Module r) v h =
+        let s : r ≡ m = (let f : entry.Module r ≡ entry.Module m = h in cc) in
+        subst (λ z. Stands ((with_each (with_declared c k (concrete_module r)) (declared ds)).modules.interfaces n) z) s (record {
+          context = c;
+          procedures = v.1.procs;
+          there = λ p.
+              stays ds (before ++ (k, concrete_module r) ∷ []) (with_declared c k (concrete_module r)) n (declared_last before (k, concrete_module r) n i) v.2
+              ∙ ap (λ (b : Bool). if b then Some (interface_with c.modules.types r.params (procedure_types r.procs)) else c.modules.interfaces n) i
+              ∙ ap (λ ps. Some (interface_with c.modules.types ps (procedure_types r.procs))) p;
+        })
+
+    step : (b : Bool) → bytes_eq n k ≡ b → (entry_of ds n ≡ Some (entry.Module m) → Stands ((with_each (with_declared c k (declaration_of d)) (declared ds)).modules.interfaces n) m) →
+        (if b then Some d else entry_of ds n) ≡ Some (entry.Module m) → Stands ((with_each (with_declared c k (declaration_of d)) (declared ds)).modules.interfaces n) m
+    step true i f h = here i d w (same_some d (entry.Module m) h)
+    step false i f h = f h
+
+-- the type of a procedure, which is one of values
+abbrev HasType : Option ProcedureType → Proc → Type 0
+HasType o f = HaveVariableTypes f.params × IsVariableType f.result × (o ≡ Some (type_of_procedure f))
+
+-- a procedure of a typed module
+typed_among : (c : Context) (m : Module) (earlier : Procedures ProcedureType) (ps : List Proc) → AreProcedures c m earlier ps → (n : Name) (f : Proc) → proc_of ps n ≡ Some f →
+    HasType (found (procedure_types ps) n) f
+typed_among c m earlier [] w n f e = none_some f e
+typed_among c m earlier (p ∷ ps) w n f e = step (bytes_eq n p.name) (typed_among c m (earlier ++ (p.name, type_of_procedure p) ∷ []) ps w.2 n f) e
+  where
+    step : (b : Bool) → (proc_of ps n ≡ Some f → HasType (found (procedure_types ps) n) f) → (if b then Some p else proc_of ps n) ≡ Some f →
+        HasType (if b then Some (type_of_procedure p) else found (procedure_types ps) n) f
+    step true g e =
+        let s = same_some p f e in
+        let params = subst (λ (z : Proc). HaveVariableTypes z.params) s (have_front p.params p.locals w.1.body.locals) in
+        (params, subst (λ (z : Proc). IsVariableType z.result) s w.1.result, ap (λ z. Some (type_of_procedure z)) s)
+    step false g e = g e
+
+plain_is : (ps : List Param) (qs : List Proc) (n : Name) (f : Proc) → proc_if_plain ps qs n ≡ Some f → (ps ≡ []) × (proc_of qs n ≡ Some f)
+plain_is [] qs n f e = (refl, e)
+plain_is (p ∷ ps) qs n f e = none_some f e
+
+-- a declared procedure has its type
+procedure_named : (ds : scope.Declarations) → IsTypedScope (declared ds) → (n g : Name) (f : Proc) → proc_in (as_module (entry_of ds n)) g ≡ Some f →
+    IsTypeOf (typing.procedure_of ((context_of (declared ds)).modules.interfaces n) g) f
+procedure_named ds w n g f e = of_entry (entry_of ds n) refl e
+  where
+    of_entry : (o : Option Entry) → entry_of ds n ≡ o → proc_in (as_module o) g ≡ Some f → IsTypeOf (typing.procedure_of ((context_of (declared ds)).modules.interfaces n) g) f
+    of_entry None i h = none_some f h
+    of_entry (Some (entry.Lemma q)) i h = none_some f h
+    of_entry (Some (entry.Module m)) i h =
+        let p = plain_is m.params m.procs g f h in
+        let s = stands ds [] nothing w n m i in
+        let t = typed_among s.context m [] m.procs s.procedures g f p.1 in
+        record {
+          there = ap (λ o. typing.procedure_of o g) (s.there p.0) ∙ t.2;
+          params = have_finite f.params t.0;
+          result = variable_finite f.result t.1;
+        }
+
+declared_procedure : (ds : scope.Declarations) → IsTypedScope (declared ds) → (m : Mexp) (g : Name) (f : Proc) → proc_at ds m g ≡ Some f →
+    IsTypeOf (typing.procedure_type (context_of (declared ds)).modules (record { «module» = m; name = g })) f
+declared_procedure ds w (named n) g f e = procedure_named ds w n g f e
+declared_procedure ds w (Apply' n k args) g f e = none_some f e
+
+-- no binder is around a goal
+goal_bound : (ds : Declarations) (q : Sequent) (fs : List (List TypedName)) → (of_sequent (context_of ds) q fs).bound ≡ []
+goal_bound ds q fs = ap (λ (c : Context). c.bound) (sequent_outermost ds q fs)
+
+pub statement_fits : (ds : scope.Declarations) → IsTypedScope (declared ds) → IsFitting (of_sequent (context_of (declared ds)) nothing_around []) (ambient ds nothing_around) []
+statement_fits ds w = record {
+  logical = λ i. refl;
+  values = tt;
+  bound = goal_bound (declared ds) nothing_around [];
+  bound_values = tt;
+  variables = tt;
+  procedures = λ e p f h. declared_procedure ds w p.«module» p.name f h;
+}
+
+pub program_fits : (c : Context) (ds : scope.Declarations) (ls : List TypedName) → HaveFiniteTypes ls → IsFitting (of_program c ls) (program ds nothing_around ls) []
+program_fits c ds ls h = record {
+  logical = λ i. refl;
+  values = tt;
+  bound = refl;
+  bound_values = tt;
+  variables = record { there = λ x t e. e; finite = h };
+  procedures = λ e. absurd (false≢true e);
+}
+
+pub function_fits : (ds : scope.Declarations) (q : Sequent) (t : IsTypedSequent (context_of (declared ds)) q) (ls rs xs ys : List TypedName) → AreIn (Some ls) xs → AreIn (Some rs) ys →
+    IsFitting (two (of_sequent (context_of (declared ds)) q t.frames) ls rs) (of_function ds q xs ys) []
+function_fits ds q t ls rs xs ys h k = record {
+  logical = λ i. refl;
+  values = t.logical;
+  bound = goal_bound (declared ds) q t.frames;
+  bound_values = tt;
+  variables = (h, k);
+  procedures = λ e. absurd (false≢true e);
+}

@@ -1,0 +1,245 @@
+-- What the typing of procedures and modules gives is typed.
+use Rattle.std.proofs.Common.{◌≡◌, Bool, true, false, not, ◌||◌, if◌then◌else◌, List, [], ◌∷◌, ◌++◌, Option, Some, None, is_some, bytes_eq, refl, ap, sym, ◌∙◌, subst}
+use Rattle.std.specs.List.{list_any}
+use Rattle.std.proofs.lemmas.List.{append-nil, append_assoc}
+use Rattle.gb_core.specs.declared.place.Place.{Place}
+use Rattle.gb_core.specs.declared.refusal.Why.TheVariants.{DoubleName, Syntax, TypeMismatch}
+use Rattle.gb_core.specs.declared.ty.Ty.{Ty}
+use Rattle.gb_core.specs.declared.ty.Ty.TheVariants as ty
+use Rattle.gb_core.specs.declared.var.Var.TheVariants.{Local}
+use Rattle.gb_same.specs.Types.{ty_eq}
+use Rattle.gb_same.proofs.Decided.{ty_eq-Decides}
+use Rattle.gb_terms.specs.declared.decl.Module.{Module}
+use Rattle.gb_terms.specs.declared.decl.Proc.{Proc}
+use Rattle.gb_terms.specs.declared.decl.TypedName.{TypedName}
+use Rattle.gb_terms.specs.declared.term.Term.{Term}
+use Rattle.gb_terms.specs.declared.term.Head.TheVariants.{Sample}
+use Rattle.gb_terms.specs.declared.term.Instr.{Instr}
+use Rattle.gb_goal.specs.Scope.{Declarations, entry_of}
+use Rattle.gb_script.specs.declared.head.Head.{Head}
+use Rattle.gb_script.specs.declared.head.Head.TheVariants as head
+use Rattle.gb_script.specs.declared.tree.Node.{Node}
+use Rattle.gb_script.specs.Tree.{head_of, text_of, parts_of, place_of}
+use Rattle.gb_typed.specs.Finite.{IsVariableType}
+use Rattle.gb_meaning.specs.Names.{Name}
+use Rattle.gb_meaning.specs.Operators.{outcome_type}
+use Rattle.gb_meaning.specs.Written.{type_of, local_type}
+use Rattle.gb_goal.specs.Answers.{not_built}
+use Rattle.gb_goal.specs.Answers.Answer.{given, refused}
+use Rattle.gb_elab.specs.declared.setting.Language.TheVariants.{Program}
+use Rattle.gb_elab.specs.Environment.{Environment, program}
+use Rattle.gb_elab.specs.Forms.{elaborated}
+use Rattle.gb_elab.specs.Names.{unit, own_variable, first_named, no_variable}
+use Rattle.gb_elab.specs.Types as spelled_as
+use Rattle.gb_elab_mod.specs.Lemmas.{free, nothing_around}
+use Rattle.gb_elab_mod.specs.Procedures.{untaken, result_type, lacks_value, value, undeclared, declared, variables, locals, sampling, instruction, instructions, with_result, result_of, procedure_by, procedure}
+use Rattle.gb_elab_mod.specs.Modules.{procedures, all_short, without_globals, plain, module_by, module_given}
+use Rattle.gb_elab_mod.specs.Bound.{parameters}
+use Rattle.gb_elab_mod.specs.Unbuilt.{absent}
+use Rattle.gb_typed.specs.Programs.{variable_type}
+use Rattle.gb_typing.specs.Modules.{ProcedureType}
+use Rattle.gb_typing.specs.Context.{Context, erased, of_program}
+use Rattle.gb_typing.specs.Programs.{IsExpression, IsStatement, EachStatement, HaveVariableTypes, IsProcedure, type_of_procedure}
+use Rattle.gb_typing.specs.Scopes.{procedure_types, in_module, context_of, is_declared, AreProcedures, IsModule}
+use Rattle.gb_holds.specs.Declared.{declared as declarations}
+use Rattle.gb_holds.specs.Modules.{Procedures, found as named}
+use Rattle.gb_elab_laws.specs.Fitting.{IsFitting, IsGiven}
+use Rattle.gb_elab_laws.proofs.Given.{given_bind, given_is, if_refused, not_given, some_given}
+use Rattle.gb_elab_laws.proofs.Types.{distributions_over, have_finite, spelled_typed}
+use Rattle.gb_typing.proofs.Globals.{name_test}
+use Rattle.gb_elab_laws.proofs.Found.{found}
+use Rattle.gb_elab_laws.proofs.Typed.{given_from}
+use Rattle.gb_elab_laws.proofs.Leaves.{unit_typed}
+use Rattle.gb_elab_laws.proofs.Fits.{program_fits}
+use Rattle.gb_elab_laws.proofs.Forms.{elaborated_typed}
+
+have_both : (ls ms : List TypedName) → HaveVariableTypes ls → HaveVariableTypes ms → HaveVariableTypes (ls ++ ms)
+have_both [] ms h k = k
+have_both (l ∷ ls) ms h k = (h.0, have_both ls ms h.1 k)
+
+result_typed : (ts : List Node) (u : Ty) → result_type ts ≡ given u → IsVariableType u
+result_typed [] u h = subst IsVariableType (given_is ty.Unit u h) tt
+result_typed (t ∷ ts) u h = spelled_typed t u h
+
+-- the result of a procedure has a type of variables, and a value is returned where it is to be
+result_is : (x : Node) (ts vs : List Node) (u : Ty) → result_of x ts vs ≡ given u → IsVariableType u × (lacks_value vs u ≡ false)
+result_is x ts vs u h =
+    let t = given_bind (result_type ts) (λ t. if lacks_value vs t then refused TypeMismatch (place_of x) else given t) u h in
+    let k = if_refused (lacks_value vs t.0) TypeMismatch (place_of x) (given t.0) u t.2 in
+    subst (λ z. IsVariableType z × (lacks_value vs z ≡ false)) (given_is t.0 u k.1) (result_typed ts t.0 t.1, k.0)
+
+declared_typed : (vs : List TypedName) (xs : List Node) (t : Ty) (ws : List TypedName) → HaveVariableTypes vs → IsVariableType t → declared vs xs t ≡ given ws → HaveVariableTypes ws
+declared_typed vs [] t ws h v e = subst HaveVariableTypes (given_is vs ws e) h
+declared_typed vs (x ∷ xs) t ws h v e =
+    let next = vs ++ record { name = text_of x; ty = t } ∷ [] in
+    declared_typed next xs t ws (have_both vs (record { name = text_of x; ty = t } ∷ []) h (v, tt)) v
+    (given_bind (undeclared vs x) (λ _. declared next xs t) ws e).2
+
+variables_typed : (vs : List TypedName) (k : Head) (xs : List Node) (p : Place) (ws : List TypedName) → HaveVariableTypes vs → variables vs k xs p ≡ given ws → HaveVariableTypes ws
+variables_typed vs head.Variables (xs ∷ t ∷ []) p ws h e =
+    let u = given_bind (spelled_as.type_of t) (declared vs (parts_of xs)) ws e in declared_typed vs (parts_of xs) u.0 ws h (spelled_typed t u.0 u.1) u.2
+variables_typed vs _ _ p ws h e = cc
+
+-- the locals of a procedure have types of variables
+locals_typed : (vs : List TypedName) (bs : List Node) (ws : List TypedName) → HaveVariableTypes vs → locals vs bs ≡ given ws → HaveVariableTypes ws
+locals_typed vs [] ws h e = subst HaveVariableTypes (given_is vs ws e) h
+locals_typed vs (b ∷ bs) ws h e =
+    let us = given_bind (variables vs (head_of b) (parts_of b) (place_of b)) (λ us. locals us bs) ws e in
+    locals_typed us.0 bs ws (variables_typed vs (head_of b) (parts_of b) (place_of b) us.0 h us.1) us.2
+
+module _ (ds : Declarations) (c : Context) where
+  module _ (vs : List TypedName) (typed : HaveVariableTypes vs) where
+    abbrev here : Environment
+    here = program ds nothing_around vs
+
+    abbrev inner : Context
+    inner = of_program c vs
+
+    fits : IsFitting inner here []
+    fits = program_fits c ds vs (have_finite vs typed)
+
+    -- what is typed in a program is an expression
+    expression : (w : Option Ty) (e : Term) → IsGiven inner Program w e → IsExpression c vs e
+    expression w e g = record { typed = g.typed; plain = g.plain refl }
+
+    sampling_typed : (x d : Node) (i : Instr) → sampling here x d ≡ given i → IsStatement c vs i
+    unfolding sampling
+    sampling_typed x d i h =
+        let v = given_bind (own_variable here x) _ i h in
+        let from = given_bind (elaborated d here [] (Some (ty.Distr v.0.ty))) (λ (e : Term). given (Sample (Local v.0.name) e)) i v.2 in
+        let f = found vs (text_of x) v.0 (some_given (first_named vs (text_of x)) (no_variable here (text_of x)) (place_of x) v.0 v.1) in
+        let g = elaborated_typed d inner here [] fits (Some (ty.Distr v.0.ty)) from.0 from.1 in
+        let k = distributions_over v.0.ty (type_of from.0) (f.finite (have_finite vs typed)) g.wanted in
+        let target : variable_type (erased c) vs (Local v.0.name) ≡ Some (outcome_type (type_of from.0)) = ap (local_type vs) f.name ∙ f.frame ∙ ap Some (sym k.1) in
+        subst (IsStatement c vs) {x = Sample (Local v.0.name) from.0} (given_is (Sample (Local v.0.name) from.0) i from.2) (expression (Some (ty.Distr v.0.ty)) from.0 g, k.0, target)
+
+    statement : (k : Head) (xs : List Node) (p : Place) (i : Instr) → instruction here k xs p ≡ given i → IsStatement c vs i
+    statement head.Sample (x ∷ d ∷ []) p i h = sampling_typed x d i h
+    statement head.Sample (x ∷ y ∷ z ∷ zs) p i h = cc
+    statement _ _ p i h = cc
+
+    statements_typed : (ss : List Node) (is : List Instr) → instructions here ss ≡ given is → EachStatement c vs is
+    statements_typed [] is h = subst (EachStatement c vs) (given_is [] is h) tt
+    statements_typed (s ∷ ss) is h =
+        let i = given_bind (instruction here (head_of s) (parts_of s) (place_of s)) _ is h in
+        let js = given_bind (instructions here ss) (λ (js : List Instr). given (i.0 ∷ js)) is i.2 in
+        subst (EachStatement c vs) (given_is (i.0 ∷ js.0) is js.2) (statement (head_of s) (parts_of s) (place_of s) i.0 i.1, statements_typed ss js.0 js.1)
+
+    value_typed : (ts : List Node) (r : Ty) (u : Term) → lacks_value ts r ≡ false → value here ts r ≡ given u → IsGiven inner Program (Some r) u
+    value_typed (t ∷ ts) r u l h = elaborated_typed t inner here [] fits (Some r) u h
+    value_typed [] r u l h =
+        let e : r ≡ ty.Unit = is_unit (ty_eq r ty.Unit) refl l in
+        subst (IsGiven inner Program (Some r)) (given_is unit u h) (given_from inner Program (Some r) ty.Unit unit (unit_typed inner here [] fits) (sym e))
+      where
+        is_unit : (b : Bool) → ty_eq r ty.Unit ≡ b → not b ≡ false → r ≡ ty.Unit
+        is_unit true e k = (ty_eq-Decides r ty.Unit).0 e
+        is_unit false e k = cc
+
+  -- a procedure of this name
+  abbrev IsOf : Name → Proc → Type 0
+  IsOf n p = (p.name ≡ n) × IsProcedure c p
+
+  with_result_typed : (x : Node) (ls ss v : List Node) (r : Ty) (p : Proc) → IsVariableType r → lacks_value v r ≡ false → with_result ds nothing_around x ls ss v r ≡ given p → IsOf (text_of x) p
+  unfolding with_result
+  with_result_typed x ls ss v r p k l h =
+      let vs = given_bind (locals [] ls) _ p h in
+      let is = given_bind (instructions (program ds nothing_around vs.0) ss) _ p vs.2 in
+      let u = given_bind (value (program ds nothing_around vs.0) v r) _ p is.2 in
+      let typed = locals_typed [] ls vs.0 tt vs.1 in
+      let g = value_typed vs.0 typed v r u.0 l u.1 in
+      subst (IsOf (text_of x)) (given_is _ p u.2) (
+        refl,
+        record {
+          body = record { locals = typed; statements = statements_typed vs.0 typed ss is.0 is.1 };
+          value = expression vs.0 typed (Some r) u.0 g;
+          returned = g.wanted;
+          result = k;
+        },
+      )
+
+  free_name : (ps : List Proc) (n : Name) → list_any (λ p. bytes_eq p.name n) ps ≡ false → named (procedure_types ps) n ≡ None
+  free_name [] n e = refl
+  free_name (p ∷ ps) n e = step (bytes_eq p.name n) (bytes_eq n p.name) (name_test p.name n) (free_name ps n) e
+    where
+      step : (a b : Bool) → a ≡ b → (list_any (λ p. bytes_eq p.name n) ps ≡ false → named (procedure_types ps) n ≡ None) → (a || list_any (λ p. bytes_eq p.name n) ps) ≡ false →
+          (if b then Some (type_of_procedure p) else named (procedure_types ps) n) ≡ None
+      step true b i f e = cc
+      step false true i f e = cc
+      step false false i f e = f e
+
+  -- a procedure beside others, under a name of its own
+  abbrev IsBeside : List Proc → Proc → Type 0
+  IsBeside ps p = (named (procedure_types ps) p.name ≡ None) × IsProcedure c p
+
+  of_procedure_parts : (ps : List Proc) (k : Head) (xs : List Node) (q : Place) (p : Proc) → procedure_by ds nothing_around ps k xs q ≡ given p → IsBeside ps p
+  of_procedure_parts ps head.Procedure (x ∷ fs ∷ r ∷ ls ∷ ss ∷ v ∷ []) q p h =
+      let n = given_bind (untaken ps x) _ p h in
+      let a = given_bind (absent (parts_of fs) (place_of x)) _ p n.2 in
+      let t = given_bind (result_of x (parts_of r) (parts_of v)) (with_result ds nothing_around x (parts_of ls) (parts_of ss) (parts_of v)) p a.2 in
+      let k = result_is x (parts_of r) (parts_of v) t.0 t.1 in
+      let w = with_result_typed x (parts_of ls) (parts_of ss) (parts_of v) t.0 p k.0 k.1 t.2 in
+      let u = if_refused (list_any (λ (p : Proc). bytes_eq p.name (text_of x)) ps) (DoubleName (text_of x)) (place_of x) (given tt) n.0 n.1 in
+      (ap (named (procedure_types ps)) w.0 ∙ free_name ps (text_of x) u.0, w.1)
+  of_procedure_parts ps _ _ q p h = cc
+
+  procedure_typed : (ps : List Proc) (t : Node) (p : Proc) → procedure ds nothing_around ps t ≡ given p → IsBeside ps p
+  unfolding procedure
+  procedure_typed ps t p h = of_procedure_parts ps (head_of t) (parts_of t) (place_of t) p h
+
+-- procedures behind others
+procedures_both : (c : Context) (m : Module) (earlier : Procedures ProcedureType) (ps qs : List Proc) → AreProcedures c m earlier ps →
+    AreProcedures c m (earlier ++ procedure_types ps) qs → AreProcedures c m earlier (ps ++ qs)
+procedures_both c m earlier [] qs h k = subst (λ z. AreProcedures c m z qs) (append-nil earlier) k
+procedures_both c m earlier (p ∷ ps) qs h k =
+    let next = subst (λ z. AreProcedures c m z qs) (sym (append_assoc earlier ((p.name, type_of_procedure p) ∷ []) (procedure_types ps))) k in
+    (h.0, h.1, procedures_both c m (earlier ++ (p.name, type_of_procedure p) ∷ []) ps qs h.2 next)
+
+procedures_typed : (ds : Declarations) (c : Context) (m : Module) (ps : List Proc) (ts : List Node) (qs : List Proc) → AreProcedures c m [] ps →
+    procedures ds nothing_around ps ts ≡ given qs → AreProcedures c m [] qs
+unfolding procedures
+procedures_typed ds c m ps [] qs k h = subst (AreProcedures c m []) (given_is ps qs h) k
+procedures_typed ds c m ps (t ∷ ts) qs k h =
+    let p = given_bind (procedure ds nothing_around ps t) (λ p. procedures ds nothing_around (ps ++ p ∷ []) ts) qs h in
+    let b = procedure_typed ds (in_module c m (procedure_types ps)) ps t p.0 p.1 in
+    procedures_typed ds c m (ps ++ p.0 ∷ []) ts qs (procedures_both c m [] ps (p.0 ∷ []) k (b.0, b.1, tt)) p.2
+
+-- a name that a script hasn't declared is free
+undeclared_is : (ds : Declarations) (n : Name) → is_some (entry_of ds n) ≡ false → is_declared (declarations ds) n ≡ false
+undeclared_is [] n e = refl
+undeclared_is (d ∷ ds) n e = step (bytes_eq n d.0) (undeclared_is ds n) e
+  where
+    step : (b : Bool) → (is_some (entry_of ds n) ≡ false → is_declared (declarations ds) n ≡ false) → is_some (if b then Some d.1 else entry_of ds n) ≡ false →
+        (b || is_declared (declarations ds) n) ≡ false
+    step true f e = cc
+    step false f e = f e
+
+pub free_is : (ds : Declarations) (x : Node) (y : Unit {0}) → free ds x ≡ given y → is_declared (declarations ds) (text_of x) ≡ false
+free_is ds x y h = undeclared_is ds (text_of x) (if_refused (is_some (entry_of ds (text_of x))) (DoubleName (text_of x)) (place_of x) (given tt) y h).0
+
+-- a module under a free name
+abbrev IsNew : Declarations → Module → Type 0
+IsNew ds m = IsModule (context_of (declarations ds)) m.name m × (is_declared (declarations ds) m.name ≡ false)
+
+plain_typed : (ds : Declarations) (x : Node) (qs ys ts : List Node) (m : Module) → plain ds x qs ys ts ≡ given m → IsNew ds m
+unfolding plain
+plain_typed ds x qs ys ts m h =
+    let f = given_bind (free ds x) _ m h in
+    let a = given_bind (parameters ds x qs) _ m f.2 in
+    let b = given_bind (absent ys (place_of x)) _ m a.2 in
+    let g = given_bind (without_globals ts (place_of x)) _ m b.2 in
+    let ps = given_bind (procedures ds nothing_around [] ts) _ m g.2 in
+    let s = given_bind (all_short ts) _ m ps.2 in
+    let new : Module = record { name = text_of x; params = []; globals = []; procs = ps.0 } in
+    subst (IsNew ds) {x = new} (given_is new m s.2)
+    (record { name = refl; params = tt; globals = tt; names = tt; procs = procedures_typed ds (context_of (declarations ds)) new [] ts ps.0 tt ps.1 }, free_is ds x f.0 f.1)
+
+of_module_parts : (ds : Declarations) (k : Head) (xs : List Node) (p : Place) (m : Module) → module_by ds k xs p ≡ given m → IsNew ds m
+of_module_parts ds head.Module (x ∷ qs ∷ ys ∷ ts ∷ []) p m h = plain_typed ds x (parts_of qs) (parts_of ys) (parts_of ts) m h
+of_module_parts ds head.AscribedModule (x ∷ xs) p m h = let f = given_bind (free ds x) (λ _. not_built (place_of x)) m h in absurd (not_given Syntax (place_of x) m f.2)
+of_module_parts ds _ _ p m h = cc
+
+pub module_typed : (ds : Declarations) (t : Node) (m : Module) → module_given ds t ≡ given m → IsModule (context_of (declarations ds)) m.name m
+module_typed ds t m h = (of_module_parts ds (head_of t) (parts_of t) (place_of t) m h).0
+
+pub module_free : (ds : Declarations) (t : Node) (m : Module) → module_given ds t ≡ given m → is_declared (declarations ds) m.name ≡ false
+module_free ds t m h = (of_module_parts ds (head_of t) (parts_of t) (place_of t) m h).1

@@ -1,0 +1,216 @@
+-- The functions of `rnd` are typed over the locals of the bodies.
+use Rattle.std.proofs.lemmas.Bool.{false≢true}
+use Rattle.std.proofs.Common.{◌≡◌, Bool, true, false, if◌then◌else◌, ℕ, List, [], ◌∷◌, Option, Some, None, option_map, refl, ap, sym, ◌∙◌, subst}
+use Rattle.std.specs.Prelude.{codes, bytes_eq}
+use Rattle.std.specs.Option.{option_map_or, option_zip}
+use Rattle.gb_core.specs.declared.place.Place.{Place}
+use Rattle.gb_core.specs.declared.refusal.Why.TheVariants.{Syntax, TypeMismatch}
+use Rattle.gb_core.specs.declared.ty.Ty.{Ty}
+use Rattle.gb_same.specs.Types.{ty_eq}
+use Rattle.gb_same.proofs.Decided.{ty_eq-Decides}
+use Rattle.gb_terms.specs.declared.decl.TypedName.{TypedName}
+use Rattle.gb_terms.specs.declared.op.Side.TheVariants as side
+use Rattle.gb_terms.specs.declared.term.Cmd.{Cmd}
+use Rattle.gb_terms.specs.declared.term.Instr.{Instr}
+use Rattle.gb_terms.specs.declared.term.Subject.{Subject, out-Subject}
+use Rattle.gb_terms.specs.declared.term.Term.{Term, out-Term}
+use Rattle.gb_terms.specs.declared.term.Head.{Head}
+use Rattle.gb_terms.specs.declared.term.Head.TheOpen as layer
+use Rattle.gb_terms.specs.declared.term.Head.TheVariants as head
+use Rattle.gb_goal.specs.Scope as scope
+use Rattle.gb_goal.specs.Goal.{code_at, goal_at, goal_of}
+use Rattle.gb_goal.specs.Goal.Goal.{equiv}
+use Rattle.gb_goal.specs.declared.sequent.Sequent.{Sequent}
+use Rattle.gb_goal.specs.declared.step.Rule.{Rule}
+use Rattle.gb_goal.specs.declared.step.Rule.TheVariants as rule
+use Rattle.gb_goal.specs.declared.step.BodyRule.TheVariants as on_bodies
+use Rattle.gb_goal.specs.declared.step.RelationalRule.TheVariants as relational
+use Rattle.gb_goal.specs.declared.step.Step.{Step}
+use Rattle.gb_script.specs.declared.head.Head.{Head as Kind}
+use Rattle.gb_script.specs.declared.head.Head.TheVariants as text
+use Rattle.gb_script.specs.declared.tree.Node.{Node}
+use Rattle.gb_script.specs.Tree.{head_of, text_of, parts_of, place_of}
+use Rattle.gb_holds.specs.Declared.{declared}
+use Rattle.gb_typed.specs.Finite.{IsFinite}
+use Rattle.gb_typed.specs.Typing.Binder.{value}
+use Rattle.gb_typing.specs.Context.{Context, within}
+use Rattle.gb_typing.specs.Sequents.{two, of_sequent, IsTypedSequent}
+use Rattle.gb_typing.specs.Scopes.{context_of}
+use Rattle.gb_rules.specs.Typing.{IsGoalOver}
+use Rattle.gb_goal.specs.Answers.{Answer, ◌>>=◌, not_built}
+use Rattle.gb_goal.specs.Answers.Answer.{given}
+use Rattle.gb_elab.specs.declared.setting.Language.TheVariants.{Function}
+use Rattle.gb_elab.specs.Environment.{Environment, of_function}
+use Rattle.gb_elab.specs.Forms.{function}
+use Rattle.gb_elab_mod.specs.Occurring.{occurring}
+use Rattle.gb_elab_mod.specs.Steps.{last_sampled, functions, one_type, there_and_back, of_bodies, couplings, functions_of, typed_rule, step_given}
+use Rattle.gb_elab_mod.specs.Steps as steps
+use Rattle.gb_elab_mod.specs.Unbuilt.{absent}
+use Rattle.gb_elab_laws.specs.Fitting.{IsFitting, IsGiven}
+use Rattle.gb_equiv.specs.Rows.{IsTypedRule}
+use Rattle.gb_rules.specs.Samplings.{Sampling, last_sampling}
+use Rattle.gb_equiv.specs.Rnd.{IsFunction, AreFunctions, AreBetween, AreTypedFunctions}
+use Rattle.gb_elab_laws.proofs.Given.{given_bind, given_is, if_given}
+use Rattle.gb_elab_laws.proofs.Ends.{ends_agree, last_finite, occurring_in}
+use Rattle.gb_elab_laws.proofs.Fits.{function_fits}
+use Rattle.gb_elab_laws.proofs.Functions.{function_typed}
+use Rattle.gb_elab_laws.proofs.Occurring.{reads_stand}
+
+-- Functions of a coupling, in a context that fits.
+module _ (c : Context) (ds : scope.Declarations) (q : Sequent) (xs ys : List TypedName) (fit : IsFitting c (of_function ds q xs ys) []) where
+  abbrev at : Environment
+  at = of_function ds q xs ys
+
+  one_typed : (f : Node) (a b : Ty) → IsFinite a → (t : Term) → function f at a b ≡ given t → IsFunction c a b t
+  one_typed f a b v t h =
+      let g : IsGiven (within c (value a) None) Function (Some b) t = function_typed f c at fit a b v t h in
+      record { typed = g.typed; plain = g.plain refl; result = g.wanted }
+
+  -- functions there and back; one alone is given only where both types are one
+  functions_typed : (fs : List Node) (a b : Ty) → IsFinite a → IsFinite b → (x : Unit {0}) (ts : List Term) → one_type fs a b ≡ given x → there_and_back at fs a b ≡ given ts →
+      AreFunctions c a b ts
+  unfolding there_and_back
+  functions_typed [] a b v w x ts o h = subst (AreFunctions c a b) (given_is [] ts h) tt
+  functions_typed (f ∷ []) a b v w x ts o h =
+      let e : a ≡ b = (ty_eq-Decides a b).0 (if_given (ty_eq a b) tt TypeMismatch (place_of f) x o).0 in
+      let t = given_bind (function f at a b) _ ts h in
+      subst (AreFunctions c a b) (given_is (t.0 ∷ []) ts t.2) (e, one_typed f a b v t.0 t.1)
+  functions_typed (f ∷ g ∷ fs) a b v w x ts o h =
+      let t = given_bind (function f at a b) _ ts h in
+      let us = given_bind (functions at (g ∷ fs) b a) (λ (us : List Term). given (t.0 ∷ us)) ts t.2 in
+      let u = given_bind (function g at b a) _ us.0 us.1 in
+      let rs = given_bind (functions at fs b a) (λ (rs : List Term). given (u.0 ∷ rs)) us.0 u.2 in
+      subst (AreFunctions c a b) {x = t.0 ∷ us.0} (given_is (t.0 ∷ us.0) ts us.2)
+      (subst (λ z. AreFunctions c a b (t.0 ∷ z)) {x = u.0 ∷ rs.0} (given_is (u.0 ∷ rs.0) us.0 rs.2) (pair rs.0 (one_typed f a b v t.0 t.1) (one_typed g b a w u.0 u.1)))
+    where
+      pair : {t u : Term} (rs : List Term) → IsFunction c a b t → IsFunction c b a u → AreFunctions c a b (t ∷ u ∷ rs)
+      pair [] k l = (k, l)
+      pair (r ∷ rs) k l = tt
+
+abbrev functions_in : Rule → List Term
+functions_in (rule.Relational (relational.Rnd ts)) = ts
+functions_in _ = []
+
+abbrev is_relational : Rule → Bool
+is_relational (rule.Relational r) = true
+is_relational _ = false
+
+module _ (ds : scope.Declarations) (q : Sequent) (t : IsTypedSequent (context_of (declared ds)) q) where
+  abbrev here : Context
+  here = of_sequent (context_of (declared ds)) q t.frames
+
+  module _ (ls rs : List TypedName) where
+    -- the functions between two types, over the locals that occur in these conditions and the bodies
+    abbrev typed_between : List Node → List Term → Cmd × Cmd → Ty × Ty → Answer (List Term)
+    typed_between fs conditions d u =
+        one_type fs u.0 u.1 >>= λ _. there_and_back (of_function ds q (occurring conditions side.Left d.0) (occurring conditions side.Right d.1)) fs u.0 u.1
+
+    abbrev typed_at_ends : List Node → List Term → Cmd × Cmd → Answer (List Term)
+    typed_at_ends fs conditions d = option_map_or (typed_between fs conditions d) (option_zip (last_sampled d.0) (last_sampled d.1)) (given [])
+
+    -- two bodies
+    module _ (fs : List Node) (l r : Cmd) (p k : Term) (w : IsGoalOver here ls rs (equiv (code_at (layer.Body l)) (code_at (layer.Body r)) p k)) where
+      abbrev conditions : List Term
+      conditions = p ∷ k ∷ []
+
+      fits : IsFitting (two here ls rs) (of_function ds q (occurring conditions side.Left l) (occurring conditions side.Right r)) []
+      fits =
+          function_fits ds q t ls rs _ _
+          (occurring_in ls here side.Left p k l (reads_stand (two here ls rs) p w.3.typed side.Left tt) (reads_stand (two here ls rs) k w.4.typed side.Left tt) w.1)
+          (occurring_in rs here side.Right p k r (reads_stand (two here ls rs) p w.3.typed side.Right tt) (reads_stand (two here ls rs) k w.4.typed side.Right tt) w.2)
+
+      at_ends : (x y : Option Sampling) (us : List Term) → ((a : Ty) → option_map (λ (z : Sampling). z.ty) x ≡ Some a → IsFinite a) →
+          ((a : Ty) → option_map (λ (z : Sampling). z.ty) y ≡ Some a → IsFinite a) →
+          option_map_or (typed_between fs conditions (l, r)) (option_zip (option_map (λ (z : Sampling). z.ty) x) (option_map (λ (z : Sampling). z.ty) y)) (given []) ≡ given us →
+          AreBetween (two here ls rs) us (option_zip x y)
+      at_ends (Some x) (Some y) us f g h =
+          let o = given_bind (one_type fs x.ty y.ty) (λ _. there_and_back (of_function ds q (occurring conditions side.Left l) (occurring conditions side.Right r)) fs x.ty y.ty) us h in
+          functions_typed (two here ls rs) ds q _ _ fits fs x.ty y.ty (f x.ty refl) (g y.ty refl) o.0 us o.1 o.2
+      at_ends (Some x) None us f g h = tt
+      at_ends None y us f g h = tt
+
+      of_ends : (us : List Term) → typed_at_ends fs conditions (l, r) ≡ given us → AreBetween (two here ls rs) us (option_zip (last_sampling l.list) (last_sampling r.list))
+      of_ends us h =
+          at_ends (last_sampling l.list) (last_sampling r.list) us
+          (λ a e. last_finite here ls l w.1.statements a (ends_agree l ∙ e)) (λ a e. last_finite here rs r w.2.statements a (ends_agree r ∙ e))
+          (ap (λ z. option_map_or (typed_between fs conditions (l, r)) (option_zip (option_map (λ (z : Sampling). z.ty) (last_sampling l.list)) z) (given [])) (sym (ends_agree r))
+          ∙ ap (λ z. option_map_or (typed_between fs conditions (l, r)) (option_zip z (last_sampled r)) (given [])) (sym (ends_agree l))
+          ∙ h)
+
+    abbrev Layer : Type 0
+    Layer = layer.Subject-F Head Instr Subject Cmd Term
+
+    of_subjects : (fs : List Node) (x y : Layer) (p k : Term) (us : List Term) → option_map_or (typed_at_ends fs (p ∷ k ∷ [])) (steps.of_subjects x y) (given []) ≡ given us →
+        IsGoalOver here ls rs (equiv (code_at x) (code_at y) p k) → AreTypedFunctions here us ls rs (equiv (code_at x) (code_at y) p k)
+    of_subjects fs (layer.Body l) (layer.Body r) p k us h w = of_ends fs l r p k w us h
+    of_subjects fs (layer.Body l) (layer.Proc r) p k us h w = tt
+    of_subjects fs (layer.Proc l) y p k us h w = tt
+
+    of_head : (fs : List Node) (f : Term) (n : Head) (ts us : List Term) → option_map_or (typed_at_ends fs ts) (steps.of_head n) (given []) ≡ given us →
+        IsGoalOver here ls rs (goal_at f n ts) → AreTypedFunctions here us ls rs (goal_at f n ts)
+    of_head fs f (head.Equiv s u) (p ∷ k ∷ []) us h w = of_subjects fs (out-Subject s) (out-Subject u) p k us h w
+    of_head fs f (head.Equiv s u) [] us h w = tt
+    of_head fs f (head.Equiv s u) (p ∷ []) us h w = tt
+    of_head fs f (head.Equiv s u) (p ∷ k ∷ x ∷ ts) us h w = tt
+    of_head fs f (head.Hoare s) [] us h w = tt
+    of_head fs f (head.Hoare s) (p ∷ []) us h w = tt
+    of_head fs f (head.Hoare s) (p ∷ k ∷ []) us h w = tt
+    of_head fs f (head.Hoare s) (p ∷ k ∷ x ∷ ts) us h w = tt
+    of_head fs f (head.Phoare s r) [] us h w = tt
+    of_head fs f (head.Phoare s r) (p ∷ []) us h w = tt
+    of_head fs f (head.Phoare s r) (p ∷ k ∷ []) us h w = tt
+    of_head fs f (head.Phoare s r) (p ∷ k ∷ b ∷ []) us h w = tt
+    of_head fs f (head.Phoare s r) (p ∷ k ∷ b ∷ x ∷ ts) us h w = tt
+    of_head fs f _ ts us h w = tt
+
+    abbrev Typed : List Term → Type 0
+    Typed us = AreTypedFunctions here us ls rs (goal_of q.conclusion)
+
+    module _ (w : IsGoalOver here ls rs (goal_of q.conclusion)) where
+      couplings_typed : (fs : List Node) (us : List Term) → couplings ds q fs ≡ given us → Typed us
+      unfolding couplings
+      couplings_typed fs us h = of_head fs q.conclusion (out-Term q.conclusion).head (out-Term q.conclusion).args us h w
+
+      -- a rule of another family
+      other : (k j : Rule) (us : List Term) → is_relational k ≡ false → k ≡ j → j ≡ rule.Relational (relational.Rnd us) → Typed us
+      other k j us f h r = absurd (false≢true (sym f ∙ ap is_relational (h ∙ r)))
+
+      of_rule : (n : Kind) (x : List ℕ) (xs : List Node) (p : Place) (k : Rule) (us : List Term) → typed_rule ds q n x xs p ≡ given k → k ≡ rule.Relational (relational.Rnd us) → Typed us
+      of_rule text.Rnd x (b ∷ fs) p k us h r =
+          let o = given_bind (absent (parts_of b) p) _ k h in
+          let y = given_bind (couplings ds q (functions_of fs)) (λ (us : List Term). given (rule.Relational (relational.Rnd us))) k o.2 in
+          subst Typed (ap functions_in (given_is (rule.Relational (relational.Rnd y.0)) k y.2 ∙ r)) (couplings_typed (functions_of fs) y.0 y.1)
+      of_rule text.Proc x (b ∷ i ∷ []) p k us h r =
+          let o = given_bind (absent (parts_of b) p) _ k h in
+          let y = given_bind (absent (parts_of i) p) (λ _. given (rule.OnBodies on_bodies.Proc)) k o.2 in
+          other (rule.OnBodies on_bodies.Proc) k us refl (given_is (rule.OnBodies on_bodies.Proc) k y.2) r
+      of_rule text.BodyStep x (b ∷ []) p k us h r =
+          let o = given_bind (absent (parts_of b) p) (λ _. if bytes_eq x (codes "skip") then given (rule.OnBodies on_bodies.Skip) else not_built p) k h in
+          other (rule.OnBodies on_bodies.Skip) k us refl (if_given (bytes_eq x (codes "skip")) (rule.OnBodies on_bodies.Skip) Syntax p k o.2).1 r
+      of_rule text.PlainStep x [] p k us h r = other rule.Split k us refl (if_given (bytes_eq x (codes "split")) rule.Split Syntax p k h).1 r
+      of_rule text.Smt x hints p k us h r = let o = given_bind (absent hints p) (λ _. given rule.Smt) k h in other rule.Smt k us refl (given_is rule.Smt k o.2) r
+      of_rule _ x _ p k us h r = cc
+
+-- The functions of a typed step `rnd` are typed over the locals of the bodies.
+pub step_typed : (ds : scope.Declarations) (q : Sequent) (t : IsTypedSequent (context_of (declared ds)) q) → (n : Node) (s : Step) → step_given ds q n ≡ given s →
+    (fs : List Term) → s.rule ≡ rule.Relational (relational.Rnd fs) → (ls rs : List TypedName) →
+    IsGoalOver (of_sequent (context_of (declared ds)) q t.frames) ls rs (goal_of q.conclusion) →
+    AreTypedFunctions (of_sequent (context_of (declared ds)) q t.frames) fs ls rs (goal_of q.conclusion)
+unfolding step_given
+step_typed ds q t n s h fs r ls rs w =
+    let x = given_bind (typed_rule ds q (head_of n) (text_of n) (parts_of n) (place_of n)) (λ (k : Rule). given (record { rule = k; place = place_of n })) s h in
+    of_rule ds q t ls rs w (head_of n) (text_of n) (parts_of n) (place_of n) x.0 fs x.1 (ap (λ (z : Step). z.rule) (given_is (record { rule = x.0; place = place_of n }) s x.2) ∙ r)
+
+-- The arguments of a typed step are typed.
+module _ (ds : scope.Declarations) (q : Sequent) (t : IsTypedSequent (context_of (declared ds)) q) (n : Node) (s : Step) (h : step_given ds q n ≡ given s) where
+  module _ (ls rs : List TypedName) (w : IsGoalOver (of_sequent (context_of (declared ds)) q t.frames) ls rs (goal_of q.conclusion)) where
+    of_step : (r : Rule) → s.rule ≡ r → IsTypedRule (of_sequent (context_of (declared ds)) q t.frames) r ls rs (goal_of q.conclusion)
+    of_step (rule.Relational (relational.Rnd fs)) e = step_typed ds q t n s h fs e ls rs w
+    of_step (rule.OnBodies r) e = tt
+    of_step rule.Smt e = tt
+    of_step rule.Split e = tt
+
+pub rule_typed : (ds : scope.Declarations) (q : Sequent) (t : IsTypedSequent (context_of (declared ds)) q) → (n : Node) (s : Step) → step_given ds q n ≡ given s →
+    (ls rs : List TypedName) → IsGoalOver (of_sequent (context_of (declared ds)) q t.frames) ls rs (goal_of q.conclusion) →
+    IsTypedRule (of_sequent (context_of (declared ds)) q t.frames) s.rule ls rs (goal_of q.conclusion)
+rule_typed ds q t n s h ls rs w = of_step ds q t n s h ls rs w s.rule refl

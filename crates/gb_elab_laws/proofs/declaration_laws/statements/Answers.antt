@@ -1,0 +1,10 @@
+use Rattle.gb_elab_laws.proofs.Statements.{statement_is}
+use Rattle.gb_elab_laws.proofs.declaration_laws.statements.Goals as goal
+
+pub returns : goal.returns
+returns x = record {
+  typed = λ ds w t q h. (statement_is ds t q h).typed w;
+  truth = λ ds w t q h. (statement_is ds t q h).truth w;
+  front = λ ds w t q h. (statement_is ds t q h).front w;
+  free = λ ds t q h. (statement_is ds t q h).free;
+}

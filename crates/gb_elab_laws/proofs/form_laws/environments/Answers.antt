@@ -1,0 +1,5 @@
+use Rattle.gb_elab_laws.proofs.Fits.{statement_fits, program_fits, function_fits}
+use Rattle.gb_elab_laws.proofs.form_laws.environments.Goals as goal
+
+pub returns : goal.returns
+returns x = record { statement = statement_fits; program = program_fits; function = function_fits }

@@ -1,0 +1,5 @@
+use Rattle.gb_elab_laws.proofs.Functions.{function_typed}
+use Rattle.gb_elab_laws.proofs.form_laws.functions.Goals as goal
+
+pub returns : goal.returns
+returns x = function_typed

@@ -1,0 +1,45 @@
+//! What the typing of declarations gives.
+
+ghost use Rattle.std.specs.Prelude.{◌≡◌, false, [], ◌∷◌, ◌++◌};
+ghost use Rattle.gb_core.specs.declared.ty.Ty.TheVariants as ty;
+ghost use Rattle.gb_terms.specs.declared.decl.Module.{Module};
+ghost use Rattle.gb_script.specs.declared.tree.Node.{Node};
+ghost use Rattle.gb_goal.specs.Scope as scope;
+ghost use Rattle.gb_goal.specs.declared.scope.Entry.TheVariants as entry;
+ghost use Rattle.gb_goal.specs.declared.sequent.Sequent.{Sequent};
+ghost use Rattle.gb_goal.specs.Answers.Answer.{given};
+ghost use Rattle.gb_meaning.specs.Names.{Name};
+ghost use Rattle.gb_meaning.specs.Written.{type_of};
+ghost use Rattle.gb_holds.specs.Declared.{declared};
+ghost use Rattle.gb_holds.specs.Truth.{has_module};
+ghost use Rattle.gb_typing.specs.Sequents.{IsTypedSequent};
+ghost use Rattle.gb_typing.specs.Scopes.{context_of, is_declared, IsModule, IsTypedScope};
+ghost use Rattle.gb_elab_mod.specs.Lemmas.{lemma_name, statement_given};
+ghost use Rattle.gb_elab_mod.specs.Modules.{module_given};
+
+/// What a module is typed to is a well-typed module under a free name, with which a typed scope stays typed.
+pub fn modules()
+    ensures typed { (ds : scope.Declarations) → (t : Node) (m : Module) → module_given ds t ≡ given m → IsModule (context_of (declared ds)) m.name m }
+    ensures free { (ds : scope.Declarations) → (t : Node) (m : Module) → module_given ds t ≡ given m → is_declared (declared ds) m.name ≡ false }
+    ensures added { (ds : scope.Declarations) → IsTypedScope (declared ds) → (t : Node) (m : Module) → module_given ds t ≡ given m →
+        IsTypedScope (declared (ds ++ (m.name, entry.Module m) ∷ [])) }
+{}
+
+/// In a typed scope, the goal that a lemma states is a typed goal, its conclusion is a truth in front of which no module is
+/// quantified, and the lemma's name is free.
+pub fn statements()
+    ensures typed { (ds : scope.Declarations) → IsTypedScope (declared ds) → (t : Node) (q : Sequent) → statement_given ds t ≡ given q →
+        IsTypedSequent (context_of (declared ds)) q }
+    ensures truth { (ds : scope.Declarations) → IsTypedScope (declared ds) → (t : Node) (q : Sequent) → statement_given ds t ≡ given q →
+        type_of q.conclusion ≡ ty.Bool }
+    ensures front { (ds : scope.Declarations) → IsTypedScope (declared ds) → (t : Node) (q : Sequent) → statement_given ds t ≡ given q →
+        has_module q.conclusion ≡ false }
+    ensures free { (ds : scope.Declarations) → (t : Node) (q : Sequent) → statement_given ds t ≡ given q →
+        is_declared (declared ds) (lemma_name t) ≡ false }
+{}
+
+/// A typed scope stays typed with a lemma of a typed goal, under a free name.
+pub fn lemmas()
+    ensures { (ds : scope.Declarations) → IsTypedScope (declared ds) → (n : Name) → is_declared (declared ds) n ≡ false → (q : Sequent) →
+        IsTypedSequent (context_of (declared ds)) q → IsTypedScope (declared (ds ++ (n, entry.Lemma q) ∷ [])) }
+{}

@@ -1,0 +1,46 @@
+//! What the typing of forms gives.
+
+ghost use Rattle.std.specs.Prelude.{◌≡◌, List, [], None, Option, Some};
+ghost use Rattle.gb_core.specs.declared.ty.Ty.{Ty};
+ghost use Rattle.gb_terms.specs.declared.decl.TypedName.{TypedName};
+ghost use Rattle.gb_terms.specs.declared.term.Term.{Term};
+ghost use Rattle.gb_script.specs.declared.tree.Node.{Node};
+ghost use Rattle.gb_goal.specs.declared.sequent.Sequent.{Sequent};
+ghost use Rattle.gb_goal.specs.Scope as scope;
+ghost use Rattle.gb_goal.specs.Answers.Answer.{given};
+ghost use Rattle.gb_holds.specs.Declared.{declared};
+ghost use Rattle.gb_typed.specs.Finite.{IsFinite};
+ghost use Rattle.gb_typed.specs.Programs.{HaveFiniteTypes};
+ghost use Rattle.gb_typed.specs.Typing.Binder.{value};
+ghost use Rattle.gb_typing.specs.Context.{Context, of_program, within};
+ghost use Rattle.gb_typing.specs.Sequents.{of_sequent, two, IsTypedSequent};
+ghost use Rattle.gb_typing.specs.Scopes.{context_of, IsTypedScope};
+ghost use Rattle.gb_elab.specs.Environment.{Environment, ambient, of_function, program};
+ghost use Rattle.gb_elab.specs.Forms.{elaborated, function};
+ghost use Rattle.gb_elab_mod.specs.Lemmas.{nothing_around};
+ghost use Rattle.gb_elab_laws.specs.Fitting.{AreIn, IsFitting, IsGiven};
+
+/// In a context that fits the environment, what a form is elaborated to is a well-typed term of the wanted type.
+pub fn forms()
+    ensures { (t : Node) (c : Context) (at : Environment) (vs : List TypedName) → IsFitting c at vs → (w : Option Ty) (u : Term) →
+        elaborated t at vs w ≡ given u → IsGiven c at.language w u }
+{}
+
+/// What a function from a type of values to another type is elaborated to is a well-typed term of the other type, under a binder
+/// of its argument.
+pub fn functions()
+    ensures { (t : Node) (c : Context) (at : Environment) → IsFitting c at [] → (a b : Ty) → IsFinite a → (u : Term) →
+        function t at a b ≡ given u → IsGiven (within c (value a) None) at.language (Some b) u }
+{}
+
+/// The contexts that fit the environments in which forms stand: that of a statement, those of programs, and those of the functions
+/// of a proof step, over some of the locals of its goal.
+pub fn environments()
+    ensures statement { (ds : scope.Declarations) → IsTypedScope (declared ds) →
+        IsFitting (of_sequent (context_of (declared ds)) nothing_around []) (ambient ds nothing_around) [] }
+    ensures program { (c : Context) (ds : scope.Declarations) (ls : List TypedName) → HaveFiniteTypes ls →
+        IsFitting (of_program c ls) (program ds nothing_around ls) [] }
+    ensures function { (ds : scope.Declarations) (q : Sequent) (t : IsTypedSequent (context_of (declared ds)) q) →
+        (ls rs xs ys : List TypedName) → AreIn (Some ls) xs → AreIn (Some rs) ys →
+        IsFitting (two (of_sequent (context_of (declared ds)) q t.frames) ls rs) (of_function ds q xs ys) [] }
+{}

@@ -1,0 +1,36 @@
+//! What the typing of a proof step gives.
+
+ghost use Rattle.std.specs.Prelude.{◌≡◌, List};
+ghost use Rattle.gb_terms.specs.declared.decl.TypedName.{TypedName};
+ghost use Rattle.gb_terms.specs.declared.op.Side.{Side};
+ghost use Rattle.gb_terms.specs.declared.term.Term.{Term};
+ghost use Rattle.gb_script.specs.declared.tree.Node.{Node};
+ghost use Rattle.gb_goal.specs.Scope as scope;
+ghost use Rattle.gb_goal.specs.declared.sequent.Sequent.{Sequent};
+ghost use Rattle.gb_goal.specs.declared.step.Step.{Step};
+ghost use Rattle.gb_goal.specs.Answers.Answer.{given};
+ghost use Rattle.gb_goal.specs.Goal.{goal_of};
+ghost use Rattle.gb_holds.specs.Declared.{declared};
+ghost use Rattle.gb_typing.specs.Context.{Context, frame_of};
+ghost use Rattle.gb_typing.specs.Typing.{IsTyped};
+ghost use Rattle.gb_typing.specs.Sequents.{of_sequent, IsTypedSequent};
+ghost use Rattle.gb_typing.specs.Scopes.{context_of};
+ghost use Rattle.gb_rules.specs.Typing.{IsGoalOver};
+ghost use Rattle.gb_elab_mod.specs.Occurring.{read_locals};
+ghost use Rattle.gb_elab_mod.specs.Steps.{step_given};
+ghost use Rattle.gb_elab_laws.specs.Reading.{IsOuter, StandIn};
+ghost use Rattle.gb_equiv.specs.Rows.{IsTypedRule};
+
+/// The locals that a well-typed term reads through the own memory, the left or the right one are locals of this memory.
+pub fn locals_read()
+    ensures { (c : Context) (t : Term) → IsTyped c t → (s : Side) → IsOuter s → StandIn (frame_of c s) (read_locals t s) }
+{}
+
+/// The arguments of a typed step at a typed goal are typed: the functions of `rnd` between the values of the samplings that end both
+/// bodies, over the locals of the bodies.
+pub fn typed_rules()
+    ensures { (ds : scope.Declarations) (q : Sequent) (t : IsTypedSequent (context_of (declared ds)) q) →
+        (n : Node) (s : Step) → step_given ds q n ≡ given s →
+        (ls rs : List TypedName) → IsGoalOver (of_sequent (context_of (declared ds)) q t.frames) ls rs (goal_of q.conclusion) →
+        IsTypedRule (of_sequent (context_of (declared ds)) q t.frames) s.rule ls rs (goal_of q.conclusion) }
+{}

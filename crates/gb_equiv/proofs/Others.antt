@@ -1,0 +1,16 @@
+-- Forms that are no judgments are refused.
+use Rattle.std.proofs.Common.{◌≡◌, refl}
+use Rattle.gb_core.specs.declared.refusal.Why.TheVariants.{Shape}
+use Rattle.gb_terms.specs.declared.term.Term.{Term}
+use Rattle.gb_goal.specs.declared.step.RelationalRule.TheVariants.{Rnd}
+use Rattle.gb_goal.specs.declared.step.Rule.{Rule}
+use Rattle.gb_goal.specs.declared.step.Rule.TheVariants.{OnBodies, Relational, Smt, Split}
+use Rattle.gb_goal.specs.Goal.Goal.{ambient}
+use Rattle.gb_goal.specs.Rows.{refusing}
+use Rattle.gb_equiv.specs.Rows.{rule_row}
+
+pub others_refused : (r : Rule) (f : Term) → rule_row r (ambient f) ≡ refusing Shape
+others_refused (Relational (Rnd fs)) f = refl
+others_refused (OnBodies r) f = refl
+others_refused Smt f = refl
+others_refused Split f = refl

@@ -1,0 +1,195 @@
+-- Typed goals stay typed as the scope of a script grows.
+use Rattle.std.proofs.Common.{◌≡◌, Bool, true, false, List, [], ◌∷◌, ◌++◌, Option, Some, None, refl, sym, ◌∙◌, subst}
+use Rattle.std.proofs.lemmas.Bool.{false≢true}
+use Rattle.std.proofs.lemmas.List.{append_assoc, append-nil}
+use Rattle.gb_core.specs.declared.ty.Ty.{Ty}
+use Rattle.gb_core.specs.declared.var.Var.{Var}
+use Rattle.gb_core.specs.declared.var.Var.TheVariants as var
+use Rattle.gb_terms.specs.declared.decl.TypedName.{TypedName}
+use Rattle.gb_terms.specs.declared.module.Bind.{Bind}
+use Rattle.gb_terms.specs.declared.module.ProcRef.{ProcRef}
+use Rattle.gb_terms.specs.declared.op.Op.TheVariants as op
+use Rattle.gb_terms.specs.declared.term.Term.{Term, Term', end_of-Head, more_of-Head}
+use Rattle.gb_terms.specs.declared.term.Head.TheVariants as head
+use Rattle.gb_terms.specs.declared.term.Head.TheVariants.{Body', Assign, Sample, Call', If', While'}
+use Rattle.gb_terms.specs.declared.term.Instr.{Instr, Row_of-Instr, end_of-Instr, more_of-Instr}
+use Rattle.gb_goal.specs.declared.scope.Entry.TheVariants as entry
+use Rattle.gb_goal.specs.declared.sequent.Hyp.{Hyp}
+use Rattle.gb_goal.specs.declared.sequent.Sequent.{Sequent}
+use Rattle.gb_goal.specs.Scope as scope
+use Rattle.gb_meaning.specs.Commands.{terms_in}
+use Rattle.gb_meaning.specs.Names.{Name}
+use Rattle.gb_holds.specs.Declared.{Declarations, declared, concrete_module, lemma}
+use Rattle.gb_holds.specs.Truth.{Choice, has_module, last_has_module}
+use Rattle.gb_holds.proofs.Lists.{declared-append}
+use Rattle.gb_typed.specs.Operators.{parts_in}
+use Rattle.gb_typed.specs.Programs.{variable_type, HaveTypes, Take}
+use Rattle.gb_typing.specs.Context.{Context, procedure, erased, of_program, no_module, with_own}
+use Rattle.gb_typing.specs.Formulas.{IsFormula}
+use Rattle.gb_typing.specs.Modules.{ProcedureType}
+use Rattle.gb_typing.specs.Programs.{IsExpression, IsValued, AreArguments, IsCall, IsStatement, AreStatements}
+use Rattle.gb_typing.specs.Sequents.{one, two, IsOver, AreBinders, with_modules, of_sequent, AreFormulas, IsConclusion, IsTypedSequent}
+use Rattle.gb_typing.specs.Scopes.{nothing, with_declared, with_each, context_of, AreTypedAfter, IsTypedScope}
+use Rattle.gb_typing.specs.Typing.{IsForm}
+use Rattle.gb_typing.proofs.Conclusions.{formula_form}
+use Rattle.gb_typing.proofs.Grown.{Grows}
+use Rattle.gb_typing.proofs.Scripts.{IsKnownFrom, known_nothing, known_next, known_same, grows, grown}
+use Rattle.gb_models.specs.Speaking.{HaveNoModule, IsWithoutModules}
+use Rattle.gb_models.proofs.Growing.{over, Grown, typed_grown, all_grown, form_grown}
+use Rattle.gb_models.proofs.Staying.{split, without_modules}
+use mathlib.Core.Former.{Count}
+
+second : (b : Bool) (A B : Type 0) → b ≡ false → B → Choice b A B
+second true A B e w = absurd (false≢true (sym e))
+second false A B e w = w
+
+-- a form without a quantifier over modules in front is a formula
+form_formula : (c : Context) (f : Term) → has_module f ≡ false → IsForm c f → IsFormula c f
+form_formula c (Term' p (more_of-Head (head.AllModule b) end_of-Head) n ts ty) e k = absurd (false≢true (sym e))
+form_formula c (Term' p (more_of-Head (head.All u) end_of-Head) n ts ty) e k = second (last_has_module ts) _ _ e k
+form_formula c (Term' p (more_of-Head head.AllMemory end_of-Head) n ts ty) e k = second (last_has_module ts) _ _ e k
+form_formula c (Term' p (more_of-Head (head.Builtin op.Implies) end_of-Head) n ts ty) e k = second (last_has_module ts) _ _ e k
+form_formula c f e k = k
+
+module _ (e c : Context) (g : Grown e c) where
+  -- programs
+
+  module _ (ls : List TypedName) where
+    expression_grown : (x : Term) → IsExpression c ls x → IsExpression (over e c) ls x
+    expression_grown x w = record {
+      typed = typed_grown (record e { has_globals = no_module }) (of_program c ls) (g.0, g.1, g.2, λ a h. h) x w.typed;
+      plain = w.plain;
+    }
+
+    valued_grown : (x : Term) → IsValued c ls x → IsValued (over e c) ls x
+    valued_grown x w = record { expression = expression_grown x w.expression; finite = w.finite }
+
+    variable_grown : (x : Var) (t : Ty) → variable_type (erased c) ls x ≡ Some t → variable_type (erased (over e c)) ls x ≡ Some t
+    variable_grown (var.Local x) t h = h
+    variable_grown (var.Global m x) t h = g.0 m x t h
+    variable_grown (var.Glob a) t h = h
+
+    types_grown : (xs : List Var) (ts : List Ty) → HaveTypes (erased c) ls xs ts → HaveTypes (erased (over e c)) ls xs ts
+    types_grown [] [] w = tt
+    types_grown [] (t ∷ ts) w = absurd w
+    types_grown (x ∷ xs) [] w = absurd w
+    types_grown (x ∷ xs) (t ∷ ts) w = (variable_grown x t w.0, types_grown xs ts w.1)
+
+    take_grown : (xs : List Var) (t : Ty) → Take (erased c) ls xs t → Take (erased (over e c)) ls xs t
+    take_grown [] t w = tt
+    take_grown (x ∷ []) t w = variable_grown x t w
+    take_grown (x ∷ y ∷ xs) t w = types_grown (x ∷ y ∷ xs) (parts_in t) w
+
+    arguments_grown : (es : List Term) (ps : List TypedName) → AreArguments c ls es ps → AreArguments (over e c) ls es ps
+    arguments_grown [] [] w = tt
+    arguments_grown [] (p ∷ ps) w = absurd w
+    arguments_grown (x ∷ es) [] w = absurd w
+    arguments_grown (x ∷ es) (p ∷ ps) w = ((valued_grown x w.0.0, w.0.1), arguments_grown es ps w.1)
+
+    call_grown : (xs : List Var) (p : ProcRef) (es : List Term) (o : Option ProcedureType) → procedure c p ≡ o → IsCall c ls xs o es → IsCall (over e c) ls xs (procedure (over e c) p) es
+    call_grown xs p es None h w = absurd w
+    call_grown xs p es (Some t) h w = subst (λ o. IsCall (over e c) ls xs o es) (sym (g.2 p t h)) (arguments_grown es t.params w.0, take_grown xs t.result w.1)
+
+    mutual
+      statement_grown : (i : Instr) → IsStatement c ls i → IsStatement (over e c) ls i
+      statement_grown (Assign xs x) w = (valued_grown x w.0, take_grown xs _ w.1)
+      statement_grown (Sample x d) w = (expression_grown d w.0, w.1, variable_grown x _ w.2)
+      statement_grown (Call' xs p n es) w = call_grown xs p (terms_in es) (procedure c p) refl w
+      statement_grown (If' x m a n b) w = ((expression_grown x w.0.0, w.0.1), statements_grown a w.1, statements_grown b w.2)
+      statement_grown (While' x v n a) w = ((expression_grown x w.0.0, w.0.1), (expression_grown v w.1.0, w.1.1), statements_grown a w.2)
+
+      statements_grown : {n : Count} (is : Row_of-Instr n) → AreStatements c ls is → AreStatements (over e c) ls is
+      statements_grown end_of-Instr w = tt
+      statements_grown (more_of-Instr i is) w = (statement_grown i w.0, statements_grown is w.1)
+
+    body_grown : {n : Count} (is : Row_of-Instr n) → IsOver c ls is → IsOver (over e c) ls is
+    body_grown is w = (w.0, statements_grown is w.1)
+
+  -- goals
+
+  formula_grown : (f : Term) → has_module f ≡ false → IsFormula c f → IsFormula (over e c) f
+  formula_grown f h w = form_formula (over e c) f h (form_grown e c g f (formula_form c f w h))
+
+  formulas_grown : (hs : List Hyp) → HaveNoModule hs → AreFormulas c hs → AreFormulas (over e c) hs
+  formulas_grown [] h w = tt
+  formulas_grown (x ∷ hs) h w = (formula_grown x.form h.0 w.0, formulas_grown hs h.1 w.1)
+
+  conclusion_grown : (f : Term) → has_module f ≡ false → IsConclusion c f → IsConclusion (over e c) f
+  conclusion_grown (Term' a (more_of-Head (head.Hoare (Body' k is)) end_of-Head) n ts t) h w =
+      (w.0, w.1, body_grown w.1 is w.2, all_grown e (one c w.1) (one c w.1) (one c w.1) g g g ts w.3)
+  conclusion_grown (Term' a (more_of-Head (head.Phoare (Body' k is) r) end_of-Head) n ts t) h w =
+      (w.0, w.1, body_grown w.1 is w.2, all_grown e (one c w.1) (one c w.1) (with_own c None) g g g ts w.3)
+  conclusion_grown (Term' a (more_of-Head (head.Equiv (Body' k is) (Body' l js)) end_of-Head) n ts t) h w =
+      (w.0, w.1, w.2, body_grown w.1 is w.3, body_grown w.2 js w.4, all_grown e (two c w.1 w.2) (two c w.1 w.2) (two c w.1 w.2) g g g ts w.5)
+  conclusion_grown f h w = formula_grown f h w
+
+-- a goal stays typed where more is known
+
+module _ (c e : Context) (more : Grown e c) (same : e ≡ over e c) (q : Sequent) (t : IsTypedSequent c q) (without : IsWithoutModules q) where
+  -- the goal's context, with these modules
+  abbrev around : Context → List Bind → Context
+  around z bs = record (with_modules z bs) { logical = (of_sequent z q t.frames).logical; named = (of_sequent z q t.frames).named }
+
+  moved : (P : Context → Type 0) → ((z : Context) → Grown e z → P z → P (over e z)) → P (of_sequent c q t.frames) → P (of_sequent e q t.frames)
+  moved P f x =
+      subst (λ bs. P (around e bs)) (sym without.modules)
+      (subst (λ z. P (around z [])) (sym same) (f (around c []) more (subst (λ bs. P (around c bs)) without.modules x)))
+
+  pub goal_grown : IsTypedSequent e q
+  goal_grown = record {
+    modules = subst (AreBinders e) (sym without.modules) tt;
+    logical = t.logical;
+    frames = t.frames;
+    memories = t.memories;
+    hyps = moved (λ z. AreFormulas z q.hyps) (λ z g w. formulas_grown e z g q.hyps without.hyps w) t.hyps;
+    conclusion = moved (λ z. IsConclusion z q.conclusion) (λ z g w. conclusion_grown e z g q.conclusion without.conclusion w) t.conclusion;
+  }
+
+-- Contexts of scripts.
+
+pub each_append : (xs ys : Declarations) (c : Context) → with_each c (xs ++ ys) ≡ with_each (with_each c xs) ys
+each_append [] ys c = refl
+each_append (x ∷ xs) ys c = each_append xs ys (with_declared c x.0 x.1)
+
+-- declarations leave the rest of a context as it is
+each_over : (es : scope.Declarations) (c : Context) → with_each c (declared es) ≡ over (with_each c (declared es)) c
+each_over [] c = refl
+each_over ((n, entry.Module m) ∷ es) c = each_over es (with_declared c n (concrete_module m))
+each_over ((n, entry.Lemma q) ∷ es) c = each_over es c
+
+same_globals : (es : scope.Declarations) (c : Context) (a : Name) → (with_each c (declared es)).has_globals a ≡ c.has_globals a
+same_globals [] c a = refl
+same_globals ((n, entry.Module m) ∷ es) c a = same_globals es (with_declared c n (concrete_module m)) a
+same_globals ((n, entry.Lemma q) ∷ es) c a = same_globals es c a
+
+known_from : (ds : scope.Declarations) (before : Declarations) (c : Context) → AreTypedAfter c before (declared ds) → IsKnownFrom before c → IsKnownFrom (before ++ declared ds) (with_each c (declared ds))
+known_from [] before c w k = subst (λ z. IsKnownFrom z c) (sym (append-nil before)) k
+known_from ((n, entry.Module m) ∷ ds) before c w k =
+    subst (λ z. IsKnownFrom z (with_each (with_declared c n (concrete_module m)) (declared ds))) (append_assoc before ((n, concrete_module m) ∷ []) (declared ds))
+    (known_from ds (before ++ (n, concrete_module m) ∷ []) (with_declared c n (concrete_module m)) w.2 (known_next c n m w.1 before k))
+known_from ((n, entry.Lemma q) ∷ ds) before c w k =
+    subst (λ z. IsKnownFrom z (with_each c (declared ds))) (append_assoc before ((n, lemma q) ∷ []) (declared ds))
+    (known_from ds (before ++ (n, lemma q) ∷ []) c w.2 (known_same c before n (lemma q) k))
+
+module _ (ds es : scope.Declarations) (typed : AreTypedAfter nothing [] (declared ds)) (later : AreTypedAfter (context_of (declared ds)) (declared ds) (declared es)) where
+  abbrev c : Context
+  c = context_of (declared ds)
+
+  abbrev e : Context
+  e = with_each c (declared es)
+
+  more_known : Grown e c
+  more_known =
+      let k : IsKnownFrom (declared ds) c = known_from ds [] nothing typed known_nothing in
+      let x = grown es (declared ds) c later k in
+      let g : Grows c e = grows c e k.plain x.1 x.0 in
+      (g.global, g.operator, g.procedures, λ a h. same_globals es c a ∙ h)
+
+  goal_typed : (q : Sequent) → IsTypedSequent c q → IsTypedSequent e q
+  goal_typed q t = goal_grown c e more_known (each_over es c) q t (without_modules ds q t)
+
+pub stays_typed : (ds es : scope.Declarations) → IsTypedScope (declared (ds ++ es)) → (q : Sequent) → IsTypedSequent (context_of (declared ds)) q → IsTypedSequent (context_of (declared (ds ++ es))) q
+stays_typed ds es scoped q t =
+    let w = split (declared ds) (declared es) [] nothing (subst IsTypedScope (declared-append ds es) scoped) in
+    subst (λ z. IsTypedSequent (context_of z) q) (sym (declared-append ds es))
+    (subst (λ z. IsTypedSequent z q) (sym (each_append (declared ds) (declared es) nothing)) (goal_typed ds es w.0 w.1 q t))

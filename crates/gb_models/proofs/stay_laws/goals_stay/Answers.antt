@@ -1,0 +1,15 @@
+use Rattle.gb_models.proofs.StayingOn.{goal_stays_on}
+use Rattle.gb_models.proofs.Staying.{goal_stays, script_stays, without_modules}
+use Rattle.gb_models.proofs.stay_laws.goals_stay.Goals as goal
+
+pub returns-clause-kinds : goal.returns-clause-kinds
+returns-clause-kinds c = goal_stays_on
+
+pub returns-clause-modules : goal.returns-clause-modules
+returns-clause-modules c = goal_stays
+
+pub returns-clause-scripts : goal.returns-clause-scripts
+returns-clause-scripts c = script_stays
+
+pub returns-clause-without : goal.returns-clause-without
+returns-clause-without c = without_modules

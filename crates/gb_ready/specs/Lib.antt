@@ -1,4 +1,0 @@
-pub mod Scoped
-pub mod Programs
-pub mod Goals
-pub mod Maps

@@ -1,0 +1,135 @@
+-- A claim that is true under every assignment is true in each state in which its variables have values of their types.
+use Rattle.std.proofs.Common.{◌≡◌, ℕ, ◌<◌, ◌^◌, nat_lt, Bool, true, false, ◌&&◌, if◌then◌else◌, Some, List, [], ◌∷◌, map, refl, ap, sym, ◌∙◌, subst}
+use Rattle.std.specs.List.{list_all}
+use Rattle.std.proofs.lemmas.Bool.{false≢true, and_parts, and_from}
+use Rattle.gb_core.specs.declared.ty.Ty.{Ty}
+use Rattle.gb_core.specs.declared.ty.Ty.TheVariants.{Tuple, rolls-Tuple}
+use Rattle.gb_core.specs.declared.ty.Ty.TheOpen as layer
+use Rattle.gb_core.specs.declared.ty.Ty.TheFolds.{fold-roll-Ty}
+use Rattle.gb_core.specs.declared.value.Value.{Value}
+use Rattle.gb_core.specs.declared.value.Value.TheVariants.{Many}
+use Rattle.gb_core.specs.declared.value.Card.{Card}
+use Rattle.gb_core.specs.declared.value.Card.TheVariants.{Exact, Above}
+use Rattle.gb_types.specs.Numbering.{is_many_in, parts_in, parts_of, is_tuple}
+use Rattle.gb_types.specs.Types.{numbering, finite_step, is_finite, all_true, size_of, card_of, place_of}
+use Rattle.gb_types.proofs.Lawful.{Lawful, out-Many}
+use Rattle.gb_types.proofs.Equations.{numbering-Tuple}
+use Rattle.gb_terms.specs.declared.term.Term.{Term}
+use Rattle.gb_meaning.specs.Setting.{Setting}
+use Rattle.gb_meaning.specs.Meanings.{value_in, truth}
+use Rattle.gb_meaning.specs.State.{State}
+use Rattle.gb_meaning.specs.Terms.{Speaks, val}
+use Rattle.gb_laws.proofs.Types.{values_finite}
+use Rattle.gb_laws.proofs.Numberings.{lawful}
+use Rattle.gb_eval.specs.Known.{is_known}
+use Rattle.gb_smt.specs.declared.claims.Claim.{Claim}
+use Rattle.gb_smt.specs.Variables.{Vars, variables_in}
+use Rattle.gb_smt.specs.Claims.{claim_of}
+use Rattle.gb_smt.specs.Width.{assignments_of, width_of, is_tried, is_known_claim}
+use Rattle.gb_smt.specs.Assign.{assignment, with_values, truth_under, IsTrueEverywhere}
+use Rattle.gb_smt.specs.Apply.{Closes}
+use Rattle.gb_smt.specs.Meant.{AreTrue}
+use Rattle.gb_smt_laws.specs.Reading.{Reading, IsReadingOf}
+use Rattle.gb_smt_laws.specs.Fits.{Fits}
+use Rattle.gb_smt_laws.specs.Closing.{FitsIfSimple, AreAssumed, IsConcluded}
+use Rattle.gb_smt_laws.proofs.Implied as implied
+use Rattle.gb_smt_laws.proofs.Known.{known_simple, AreRead}
+use Rattle.gb_smt_laws.proofs.Given.{AreKnown, itself, variables_read, values_of, given, each_given}
+
+finite_tuple : (ts : List Ty) → is_finite (Tuple ts) ≡ all_true (map is_finite ts)
+finite_tuple ts = ap is_finite (sym (rolls-Tuple ts)) ∙ fold-roll-Ty Bool finite_step (layer.Tuple ts)
+
+above_exact : (n : ℕ) → Above ≡ Exact n → ⊥
+above_exact n e = false≢true (ap is_exact e)
+  where
+    is_exact : Card → Bool
+    is_exact (Exact n) = true
+    is_exact Above = false
+
+exact_same : (m n : ℕ) → Exact m ≡ Exact n → m ≡ n
+exact_same m n e = ap size e
+  where
+    size : Card → ℕ
+    size (Exact n) = n
+    size Above = 0
+
+card_exact : (ty : Ty) (n : ℕ) → card_of ty ≡ Exact n → (is_finite ty ≡ true) × (size_of ty ≡ n)
+card_exact ty n e = step (is_finite ty) refl (nat_lt (size_of ty) (2 ^ 63)) e
+  where
+    step : (b : Bool) → is_finite ty ≡ b → (c : Bool) → (if b && c then Exact (size_of ty) else Above) ≡ Exact n → (is_finite ty ≡ true) × (size_of ty ≡ n)
+    step true f true e = (f, exact_same (size_of ty) n e)
+    step true f false e = absurd (above_exact n e)
+    step false f c e = absurd (above_exact n e)
+
+module _ (g : Setting) (j : Speaks) (s : State) (W : Reading) (valid : IsReadingOf g W s) where
+  have_values : (vs : Vars) → AreRead W vs → all_true (map is_finite (map (λ v. v.ty) vs)) ≡ true → is_tuple (map numbering (map (λ v. v.ty) vs)) (values_of g s vs) ≡ true
+  have_values [] a f = refl
+  have_values (v ∷ vs) a f =
+      let finite = and_parts (is_finite v.ty) (all_true (map is_finite (map (λ v. v.ty) vs))) f in
+      let w = valid v.read v.ty a.0 in
+      and_from _ _ ((λ i. (sym (values_finite g.types v.ty finite.0) i).has (value_in (w.1 i))) ∙ w.2) (have_values vs a.1 finite.1)
+
+  module _ (hs : List Term) (t : Term) (known : AreKnown g W hs) (k : is_known t ≡ true) (w : Fits g W t) (everywhere : IsTrueEverywhere (claim_of hs t)) where
+    abbrev vs : Vars
+    vs = variables_in hs t
+
+    abbrev row : Ty
+    row = Tuple (map (λ v. v.ty) vs)
+
+    abbrev tuple : Value
+    tuple = Many (values_of g s vs)
+
+    reads : AreRead W vs
+    reads = variables_read g W hs t known k w
+
+    counted : (is_finite row ≡ true) × (size_of row ≡ everywhere.count)
+    counted = card_exact row everywhere.count everywhere.exact
+
+    order : Lawful (numbering row)
+    order = subst Lawful (values_finite g.types row counted.0) (lawful g.types row)
+
+    is_assignment : (numbering row).has tuple ≡ true
+    is_assignment =
+        (λ i. (numbering-Tuple (map (λ v. v.ty) vs) i).has tuple)
+        ∙ ap (λ z. is_many_in z && is_tuple (map numbering (map (λ v. v.ty) vs)) (parts_in z)) (out-Many (values_of g s vs))
+        ∙ have_values vs reads (sym (finite_tuple (map (λ v. v.ty) vs)) ∙ counted.0)
+
+    tried : assignment (claim_of hs t) (place_of row tuple) ≡ values_of g s vs
+    tried = ap (λ v. parts_of v) (order.at_place tuple is_assignment) ∙ ap parts_in (out-Many (values_of g s vs))
+
+    true_there : truth_under (claim_of hs t) (values_of g s vs) ≡ Some true
+    true_there =
+        ap (truth_under (claim_of hs t)) (sym tried)
+        ∙ everywhere.each (place_of row tuple) (subst (λ n. place_of row tuple < n) counted.1 (order.below tuple is_assignment))
+
+    all_known_in : (hs : List Term) → AreKnown g W hs → list_all is_known hs ≡ true
+    all_known_in [] a = refl
+    all_known_in (h ∷ hs) a = and_from (is_known h) (list_all is_known hs) a.0.0 (all_known_in hs a.1)
+
+    pub claim_true : AreTrue g j s hs → truth (val g j t s) ≡ true
+    claim_true a =
+        implied.conclusion_true g j s (with_values vs (values_of g s vs)) hs t (all_known_in hs known) k
+        (each_given g s W valid vs reads hs known) (given g s W valid vs reads t W (itself W) k w) true_there a
+
+  known_if_tried : (c : Claim) → is_tried (width_of c) ≡ true → is_known_claim c ≡ true
+  known_if_tried c e = step (is_known_claim c) e
+    where
+      step : (b : Bool) → is_tried (if b then assignments_of c else Above) ≡ true → b ≡ true
+      step true e = refl
+      step false e = absurd (false≢true e)
+
+  all_known : (hs : List Term) → list_all is_known hs ≡ true → AreAssumed g j W s hs → AreKnown g W hs × AreTrue g j s hs
+  all_known [] k a = (tt, tt)
+  all_known (h ∷ hs) k a =
+      let known = and_parts (is_known h) (list_all is_known hs) k in
+      let one = a.0 (known_simple h known.0) in
+      let rest = all_known hs known.1 a.1 in
+      (((known.0, one.0), rest.0), (one.1, rest.1))
+
+  -- a claim that closes is true
+  pub closed_claim : (hs : List Term) (t : Term) → Closes (claim_of hs t) → AreAssumed g j W s hs → FitsIfSimple g W t → IsConcluded g j s t
+  closed_claim hs t c a f =
+      let known = and_parts (list_all is_known hs) (is_known t) (known_if_tried (claim_of hs t) c.0) in
+      let each = all_known hs known.0 a in
+      let simple = known_simple t known.1 in
+      (simple, claim_true hs t each.0 known.1 (f simple) c.1 each.1)

@@ -1,0 +1,174 @@
+-- The variables of a claim have values of their types.
+use Rattle.std.proofs.Common.{◌≡◌, Bool, true, false, ◌==◌, if◌then◌else◌, Some, List, [], ◌∷◌, ◌++◌, map, length, refl, ap, sym, ◌∙◌, subst}
+use Rattle.std.specs.List.{flat_map, AllByRecursion}
+use Rattle.std.proofs.lemmas.Bool.{false≢true, and_parts}
+use Rattle.gb_core.specs.declared.ty.Ty.{Ty}
+use Rattle.gb_core.specs.declared.value.Value.{Value}
+use Rattle.gb_terms.specs.declared.op.Read.{Read}
+use Rattle.gb_terms.specs.declared.op.Read.TheVariants.{Logical, Program}
+use Rattle.gb_terms.specs.declared.term.Term.{Term, Term', Row_of-Term, end_of-Term, more_of-Term, end_of-Head, more_of-Head}
+use Rattle.gb_terms.specs.declared.term.Head.TheVariants as head
+use Rattle.gb_terms.specs.Equal.{read_eq}
+use Rattle.gb_terms.proofs.Equality.{read_eq-Decides}
+use Rattle.gb_meaning.specs.Setting.{Setting}
+use Rattle.gb_meaning.specs.Setting.Meaning.{finite}
+use Rattle.gb_meaning.specs.Meanings.{value_in}
+use Rattle.gb_meaning.specs.State.{State}
+use Rattle.gb_meaning.specs.Terms.{read_at}
+use Rattle.gb_meaning.specs.Commands.{terms_in}
+use Rattle.gb_eval.specs.declared.env.ReadValue.{ReadValue}
+use Rattle.gb_eval.specs.declared.answer.Answer.TheVariants as answer
+use Rattle.gb_types.specs.Types.{is_finite}
+use Rattle.gb_eval.specs.Eval.{value_of}
+use Rattle.gb_eval.specs.Known.{is_known, all_known, is_head_known, are_true, is_read_known}
+use Rattle.gb_eval.specs.Meant.{Means, AreGiven, AllGiven}
+use Rattle.gb_smt.specs.declared.variables.Variable.{Variable}
+use Rattle.gb_smt.specs.Variables.{Vars, term_variables, is_among, with_new, noted, variables_in}
+use Rattle.gb_smt.specs.Assign.{with_values}
+use Rattle.gb_smt.specs.Meant.{EachGiven}
+use Rattle.gb_smt_laws.specs.Reading.{no_variables, Reading, IsReadAt, inner, IsReadingOf}
+use Rattle.gb_smt_laws.specs.Fits.{Fits, AllFit, OnlyFits}
+use Rattle.gb_smt_laws.proofs.Known.{some_is_none, two_is_one, none_is_one, variables_are, AreRead, read_together, Sees, sees_beneath}
+use mathlib.Core.Former.{Count}
+
+no_terms : {n : Count} (ts : Row_of-Term n) → (length (all_known ts) == 0) ≡ true → terms_in ts ≡ []
+no_terms end_of-Term e = refl
+no_terms (more_of-Term t ts) e = some_is_none (length (all_known ts)) _ e
+
+none_read : {n : Count} (W : Reading) (ts : Row_of-Term n) → (length (all_known ts) == 0) ≡ true → AreRead W (flat_map term_variables (terms_in ts))
+none_read W ts e = subst (λ l. AreRead W (flat_map term_variables l)) (sym (no_terms ts e)) tt
+
+-- the variables of a term that is known and fits are read at their types
+mutual
+  pub term_reads : (g : Setting) (t : Term) (V W : Reading) → Sees V W → is_known t ≡ true → Fits g V t → AreRead W (term_variables t)
+  term_reads g (Term' p (more_of-Head (head.Read r) end_of-Head) n ts ty) V W f k w =
+      let known = and_parts (is_head_known (head.Read r) (length (all_known ts))) (are_true (all_known ts)) k in
+      subst (AreRead W) (sym (variables_are (head.Read r) n ts ty)) (f r ty (and_parts (length (all_known ts) == 0) (is_read_known r) known.0).1 w, tt)
+  term_reads g (Term' p (more_of-Head (head.Lit v) end_of-Head) n ts ty) V W f k w =
+      let known = and_parts (is_head_known (head.Lit v) (length (all_known ts))) (are_true (all_known ts)) k in
+      subst (AreRead W) (sym (variables_are (head.Lit v) n ts ty)) (none_read W ts known.0)
+  term_reads g (Term' p (more_of-Head (head.Bound i) end_of-Head) n ts ty) V W f k w =
+      let known = and_parts (is_head_known (head.Bound i) (length (all_known ts))) (are_true (all_known ts)) k in
+      subst (AreRead W) (sym (variables_are (head.Bound i) n ts ty)) (none_read W ts known.0)
+  term_reads g (Term' p (more_of-Head (head.Builtin o) end_of-Head) n ts ty) V W f k w =
+      let known = and_parts (is_head_known (head.Builtin o) (length (all_known ts))) (are_true (all_known ts)) k in
+      subst (AreRead W) (sym (variables_are (head.Builtin o) n ts ty)) (row_reads g ts V W f known.1 w.1)
+  term_reads g (Term' p (more_of-Head (head.All u) end_of-Head) n ts ty) V W f k w =
+      let known = and_parts (is_head_known (head.All u) (length (all_known ts))) (are_true (all_known ts)) k in
+      subst (AreRead W) (sym (variables_are (head.All u) n ts ty))
+      (only_reads g ts V W f (and_parts (length (all_known ts) == 1) (is_finite u) known.0).0 known.1 w)
+  term_reads g (Term' p (more_of-Head (head.Some u) end_of-Head) n ts ty) V W f k w =
+      let known = and_parts (is_head_known (head.Some u) (length (all_known ts))) (are_true (all_known ts)) k in
+      subst (AreRead W) (sym (variables_are (head.Some u) n ts ty))
+      (only_reads g ts V W f (and_parts (length (all_known ts) == 1) (is_finite u) known.0).0 known.1 w)
+  term_reads g (Term' p (more_of-Head h end_of-Head) n ts ty) V W f k w = absurd (false≢true k)
+
+  row_reads : {n : Count} (g : Setting) (ts : Row_of-Term n) (V W : Reading) → Sees V W → are_true (all_known ts) ≡ true → AllFit g V ts → AreRead W (flat_map term_variables (terms_in ts))
+  row_reads g end_of-Term V W f k w = tt
+  row_reads g (more_of-Term t ts) V W f k w =
+      let known = and_parts (is_known t) (are_true (all_known ts)) k in
+      read_together W (term_variables t) (flat_map term_variables (terms_in ts)) (term_reads g t V W f known.0 w.0) (row_reads g ts V W f known.1 w.1)
+
+  only_reads : {n : Count} (g : Setting) (ts : Row_of-Term n) (V W : Reading) → Sees V W → (length (all_known ts) == 1) ≡ true → are_true (all_known ts) ≡ true → OnlyFits g (inner no_variables V) ts → AreRead W (flat_map term_variables (terms_in ts))
+  only_reads g end_of-Term V W f e k w = none_is_one _ e
+  only_reads g (more_of-Term t end_of-Term) V W f e k w =
+      read_together W (term_variables t) [] (term_reads g t (inner no_variables V) W (sees_beneath V W f) (and_parts (is_known t) true k).0 w) tt
+  only_reads g (more_of-Term t (more_of-Term v ts)) V W f e k w = two_is_one (length (all_known ts)) _ e
+
+new_read : (W : Reading) (vs : Vars) (v : Variable) → AreRead W vs → IsReadAt W v.read v.ty → AreRead W (with_new vs v)
+new_read W vs v a k = step (is_among vs v.read)
+  where
+    step : (b : Bool) → AreRead W (if b then vs else vs ++ v ∷ [])
+    step true = a
+    step false = read_together W vs (v ∷ []) a (k, tt)
+
+noted_read : (W : Reading) (vs ws : Vars) → AreRead W vs → AreRead W ws → AreRead W (noted vs ws)
+noted_read W vs [] a b = a
+noted_read W vs (w ∷ ws) a b = noted_read W (with_new vs w) ws (new_read W vs w a b.0) b.1
+
+-- each of the forms is known and fits
+abbrev pub AreKnown : Setting → Reading → List Term → Type 0
+AreKnown g W hs = AllByRecursion (λ h. (is_known h ≡ true) × Fits g W h) hs
+
+pub itself : (W : Reading) → Sees W W
+itself W r ty k e = e
+
+each_read : (g : Setting) (W : Reading) (hs : List Term) → AreKnown g W hs → AreRead W (flat_map term_variables hs)
+each_read g W [] a = tt
+each_read g W (h ∷ hs) a = read_together W (term_variables h) (flat_map term_variables hs) (term_reads g h W W (itself W) a.0.0 a.0.1) (each_read g W hs a.1)
+
+-- the variables of a claim are read at their types
+pub variables_read : (g : Setting) (W : Reading) (hs : List Term) (t : Term) → AreKnown g W hs → is_known t ≡ true → Fits g W t → AreRead W (variables_in hs t)
+variables_read g W hs t a k w =
+    noted_read W (noted [] (flat_map term_variables hs)) (term_variables t) (noted_read W [] (flat_map term_variables hs) tt (each_read g W hs a)) (term_reads g t W W (itself W) k w)
+
+some_same : (a b : Ty) → Some a ≡ Some b → a ≡ b
+some_same a b e = cc
+
+pub one_type : (W : Reading) (r : Read) (a b : Ty) → IsReadAt W r a → IsReadAt W r b → a ≡ b
+one_type W (Logical i) a b e f = some_same a b (sym e ∙ f)
+one_type W (Program x r) a b e f = some_same a b (sym e ∙ f)
+
+module _ (g : Setting) (s : State) where
+  abbrev pub value_at : Variable → Value
+  value_at v = value_in (read_at g v.read v.ty s)
+
+  abbrev pub values_of : Vars → List Value
+  values_of vs = map value_at vs
+
+  module _ (W : Reading) (valid : IsReadingOf g W s) where
+    value_given : (vs : Vars) (r : Read) (ty : Ty) → AreRead W vs → IsReadAt W r ty → Means (value_of (with_values vs (values_of vs)) r) (read_at g r ty s) 1
+    value_given [] r ty a k = tt
+    value_given (v ∷ vs) r ty a k = step (read_eq v.read r) refl (value_given vs r ty a.1 k)
+      where
+        found : v.read ≡ r → read_at g r ty s ≡ finite (value_at v)
+        found e =
+            let w = valid r ty k in
+            let types : v.ty ≡ ty = one_type W r v.ty ty (subst (λ o. IsReadAt W o v.ty) e a.0) k in
+            let path : read_at g v.read v.ty s ≡ finite w.0 = (λ i. read_at g (e i) (types i) s) ∙ w.1 in
+            w.1 ∙ ap finite (sym (ap value_in path))
+
+        step : (b : Bool) → read_eq v.read r ≡ b → Means (value_of (with_values vs (values_of vs)) r) (read_at g r ty s) 1 →
+            Means (if b then Some (answer.Value (value_at v)) else value_of (with_values vs (values_of vs)) r) (read_at g r ty s) 1
+        step false e m = m
+        step true e m = found ((read_eq-Decides v.read r).0 e)
+
+    module _ (vs : Vars) (a : AreRead W vs) where
+      abbrev reads : List ReadValue
+      reads = with_values vs (values_of vs)
+
+      none_given : {n : Count} (ts : Row_of-Term n) → (length (all_known ts) == 0) ≡ true → AllGiven g s reads ts
+      none_given end_of-Term e = tt
+      none_given (more_of-Term t ts) e = some_is_none (length (all_known ts)) _ e
+
+      mutual
+        pub given : (t : Term) (V : Reading) → Sees V W → is_known t ≡ true → Fits g V t → AreGiven g s reads t
+        given (Term' p (more_of-Head (head.Read r) end_of-Head) n ts ty) V f k w =
+            let known = and_parts (is_head_known (head.Read r) (length (all_known ts))) (are_true (all_known ts)) k in
+            let both = and_parts (length (all_known ts) == 0) (is_read_known r) known.0 in
+            (value_given vs r ty a (f r ty both.1 w), none_given ts both.0)
+        given (Term' p (more_of-Head (head.Lit v) end_of-Head) n ts ty) V f k w = (tt, none_given ts (and_parts (is_head_known (head.Lit v) (length (all_known ts))) (are_true (all_known ts)) k).0)
+        given (Term' p (more_of-Head (head.Bound i) end_of-Head) n ts ty) V f k w = (tt, none_given ts (and_parts (is_head_known (head.Bound i) (length (all_known ts))) (are_true (all_known ts)) k).0)
+        given (Term' p (more_of-Head (head.Builtin o) end_of-Head) n ts ty) V f k w = (tt, row_given ts V f (and_parts (is_head_known (head.Builtin o) (length (all_known ts))) (are_true (all_known ts)) k).1 w.1)
+        given (Term' p (more_of-Head (head.All u) end_of-Head) n ts ty) V f k w =
+            let known = and_parts (is_head_known (head.All u) (length (all_known ts))) (are_true (all_known ts)) k in
+            (tt, only_given ts V f (and_parts (length (all_known ts) == 1) (is_finite u) known.0).0 known.1 w)
+        given (Term' p (more_of-Head (head.Some u) end_of-Head) n ts ty) V f k w =
+            let known = and_parts (is_head_known (head.Some u) (length (all_known ts))) (are_true (all_known ts)) k in
+            (tt, only_given ts V f (and_parts (length (all_known ts) == 1) (is_finite u) known.0).0 known.1 w)
+        given (Term' p (more_of-Head h end_of-Head) n ts ty) V f k w = absurd (false≢true k)
+
+        row_given : {n : Count} (ts : Row_of-Term n) (V : Reading) → Sees V W → are_true (all_known ts) ≡ true → AllFit g V ts → AllGiven g s reads ts
+        row_given end_of-Term V f k w = tt
+        row_given (more_of-Term t ts) V f k w =
+            let known = and_parts (is_known t) (are_true (all_known ts)) k in
+            (given t V f known.0 w.0, row_given ts V f known.1 w.1)
+
+        only_given : {n : Count} (ts : Row_of-Term n) (V : Reading) → Sees V W → (length (all_known ts) == 1) ≡ true → are_true (all_known ts) ≡ true → OnlyFits g (inner no_variables V) ts → AllGiven g s reads ts
+        only_given end_of-Term V f e k w = tt
+        only_given (more_of-Term t end_of-Term) V f e k w = (given t (inner no_variables V) (sees_beneath V W f) (and_parts (is_known t) true k).0 w, tt)
+        only_given (more_of-Term t (more_of-Term v ts)) V f e k w = two_is_one (length (all_known ts)) _ e
+
+      pub each_given : (hs : List Term) → AreKnown g W hs → EachGiven g s reads hs
+      each_given [] k = tt
+      each_given (h ∷ hs) k = (given h W (itself W) k.0.0 k.0.1, each_given hs k.1)

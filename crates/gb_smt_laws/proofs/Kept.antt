@@ -1,0 +1,84 @@
+-- A simple term means the same where what it reads is the same.
+use Rattle.std.proofs.Common.{◌≡◌, ℕ, zero, suc, true, refl}
+use Rattle.std.specs.List.{list_all}
+use Rattle.std.proofs.lemmas.Bool.{false≢true, and_parts}
+use Rattle.gb_core.specs.declared.ty.Ty.{Ty}
+use Rattle.gb_terms.specs.declared.op.Side.TheVariants as side
+use Rattle.gb_terms.specs.declared.op.Read.{Read}
+use Rattle.gb_terms.specs.declared.op.Read.TheVariants.{Logical, Program}
+use Rattle.gb_terms.specs.declared.term.Term.{Term, Term', Row_of-Term, end_of-Term, more_of-Term, end_of-Head, more_of-Head}
+use Rattle.gb_terms.specs.declared.term.Head.TheVariants as head
+use Rattle.gb_meaning.specs.Setting.{Setting}
+use Rattle.gb_meaning.specs.State.{State, Binding, binding, meaning_in, under}
+use Rattle.gb_meaning.specs.State.Binding.{program}
+use Rattle.gb_meaning.specs.Terms.{Speaks, read_at, val, parts}
+use Rattle.gb_changes.proofs.Heads.{Moved, Here, Under, inner_same}
+use Rattle.gb_smt_laws.specs.Simple.{is_simple, all_simple, only}
+use Rattle.gb_smt_laws.specs.Reading.{no_variables, Reading, IsReadAt, inner}
+use Rattle.gb_smt_laws.specs.Fits.{Fits, AllFit, OnlyFits}
+use Rattle.gb_smt_laws.proofs.Raised.{no_type}
+use mathlib.Core.Former.{Count}
+
+-- what T reads in s, V reads in z, and it is the same; so is what is bound
+pub record Keeps (g : Setting) (T V : Reading) (s z : State) : Type 0 where
+  pub reads : (r : Read) (ty : Ty) → IsReadAt T r ty → IsReadAt V r ty × (read_at g r ty z ≡ read_at g r ty s)
+  pub bound : (i : ℕ) → meaning_in (binding z i) ≡ meaning_in (binding s i)
+
+keeps_under : (g : Setting) (T V : Reading) (s z : State) → Keeps g T V s z → (b : Binding) → Keeps g (inner no_variables T) (inner no_variables V) (under s b) (under z b)
+keeps_under g T V s z k b = record { reads = reads; bound = bound }
+  where
+    reads : (r : Read) (ty : Ty) → IsReadAt (inner no_variables T) r ty → IsReadAt (inner no_variables V) r ty × (read_at g r ty (under z b) ≡ read_at g r ty (under s b))
+    reads (Logical i) ty e = k.reads (Logical i) ty e
+    reads (Program x side.Own) ty e = k.reads (Program x side.Own) ty e
+    reads (Program x side.Left) ty e = k.reads (Program x side.Left) ty e
+    reads (Program x side.Right) ty e = k.reads (Program x side.Right) ty e
+    reads (Program x (side.Memory i)) ty e = k.reads (Program x (side.Memory i)) ty e
+    reads (Program x (side.Bound zero)) ty e = absurd (no_type ty e)
+    reads (Program x (side.Bound (suc i))) ty e = k.reads (Program x (side.Bound i)) ty e
+
+    bound : (i : ℕ) → meaning_in (binding (under z b) i) ≡ meaning_in (binding (under s b) i)
+    bound zero = refl
+    bound (suc i) = k.bound i
+
+module _ (g : Setting) (j : Speaks) where
+  abbrev IsKept : Reading → State → State → Term → Type 0
+  IsKept V s z t = Fits g V t × (val g j t z ≡ val g j t s)
+
+  mutual
+    pub kept : (t : Term) (T V : Reading) (s z : State) → Keeps g T V s z → is_simple t ≡ true → Fits g T t → IsKept V s z t
+    kept (Term' p (more_of-Head (head.Lit v) end_of-Head) n ts ty) T V s z k b w = (tt, refl)
+    kept (Term' p (more_of-Head (head.Read r) end_of-Head) n ts ty) T V s z k b w = k.reads r ty w
+    kept (Term' p (more_of-Head (head.Bound i) end_of-Head) n ts ty) T V s z k b w = (tt, k.bound i)
+    kept (Term' p (more_of-Head (head.Builtin o) end_of-Head) n ts ty) T V s z k b w =
+        let t : Term = Term' p (more_of-Head (head.Builtin o) end_of-Head) n ts ty in
+        let each = row_kept ts T V s z k b w.1 in
+        ((w.0, each.0), inner_same z s g j t t (head.Builtin o) (parts g j ts) (parts g j ts) ty tt tt each.1)
+    kept (Term' p (more_of-Head (head.All u) end_of-Head) n ts ty) T V s z k b w =
+        let f : Term = Term' p (more_of-Head (head.All u) end_of-Head) n ts ty in
+        let each = only_kept ts T V s z k b w in
+        (each.0, inner_same z s g j f f (head.All u) (parts g j ts) (parts g j ts) ty tt tt each.1)
+    kept (Term' p (more_of-Head (head.Some u) end_of-Head) n ts ty) T V s z k b w =
+        let f : Term = Term' p (more_of-Head (head.Some u) end_of-Head) n ts ty in
+        let each = only_kept ts T V s z k b w in
+        (each.0, inner_same z s g j f f (head.Some u) (parts g j ts) (parts g j ts) ty tt tt each.1)
+    kept (Term' p (more_of-Head h end_of-Head) n ts ty) T V s z k b w = absurd (false≢true b)
+
+    row_kept : {n : Count} (ts : Row_of-Term n) (T V : Reading) (s z : State) → Keeps g T V s z → list_all (λ b. b) (all_simple ts) ≡ true → AllFit g T ts →
+        AllFit g V ts × Moved (Here z s) (Here z s) (parts g j ts) (parts g j ts)
+    row_kept end_of-Term T V s z k b w = (tt, tt)
+    row_kept (more_of-Term t end_of-Term) T V s z k b w =
+        let one = kept t T V s z k (and_parts (is_simple t) true b).0 w.0 in
+        ((one.0, tt), (one.1, refl))
+    row_kept (more_of-Term t (more_of-Term u ts)) T V s z k b w =
+        let c = and_parts (is_simple t) (list_all (λ b. b) (all_simple (more_of-Term u ts))) b in
+        let one = kept t T V s z k c.0 w.0 in
+        let rest = row_kept (more_of-Term u ts) T V s z k c.1 w.1 in
+        ((one.0, rest.0), ((one.1, refl), rest.1))
+
+    only_kept : {n : Count} (ts : Row_of-Term n) (T V : Reading) (s z : State) → Keeps g T V s z → only (all_simple ts) ≡ true → OnlyFits g (inner no_variables T) ts →
+        OnlyFits g (inner no_variables V) ts × Moved (Here z s) (Under z s) (parts g j ts) (parts g j ts)
+    only_kept end_of-Term T V s z k b w = absurd (false≢true b)
+    only_kept (more_of-Term t end_of-Term) T V s z k b w =
+        let below = λ (c : Binding). kept t (inner no_variables T) (inner no_variables V) (under s c) (under z c) (keeps_under g T V s z k c) b w in
+        ((below program).0, λ c. (below c).1)
+    only_kept (more_of-Term t (more_of-Term u ts)) T V s z k b w = absurd (false≢true b)

@@ -1,0 +1,103 @@
+-- What evaluation knows is simple, and reads no memory that a binder binds.
+use Rattle.std.proofs.Common.{◌≡◌, suc, true, ◌==◌, Option, Some, None, List, [], ◌∷◌, ◌++◌, length, refl, ap, ◌∙◌, arith}
+use Rattle.std.specs.List.{list_all, flat_map, AllByRecursion}
+use Rattle.std.proofs.lemmas.Bool.{false≢true, and_parts, and_from}
+use Rattle.std.proofs.lemmas.Bool.Decides.{Decides-eqb}
+use Rattle.gb_core.specs.declared.ty.Ty.{Ty}
+use Rattle.gb_types.specs.Types.{is_finite}
+use Rattle.gb_terms.specs.declared.op.Side.TheVariants as side
+use Rattle.gb_terms.specs.declared.op.Read.{Read}
+use Rattle.gb_terms.specs.declared.op.Read.TheVariants.{Logical, Program}
+use Rattle.gb_terms.specs.declared.term.Term.{Term, Term', Row_of-Term, end_of-Term, more_of-Term, end_of-Head, more_of-Head}
+use Rattle.gb_terms.specs.declared.term.Head.{Head}
+use Rattle.gb_terms.specs.declared.term.Head.TheVariants as head
+use Rattle.gb_terms.specs.declared.term.Head.TheOpen as layer
+use Rattle.gb_terms.specs.declared.term.Head.TheViews.{the_lemmas, out-Head, roll-Head, roll-out-Head}
+use Rattle.gb_terms.specs.declared.term.Head.TheFolds.{map-Head, fold-Instr, fold-Subject, fold-Cmd, fold_out-Head}
+use Rattle.gb_meaning.specs.Commands.{terms_in}
+use Rattle.sqlite_items.specs.formers.items.Items.{the_former}
+use Rattle.gb_changes.proofs.Trees.{out_is, HeadLayer}
+use Rattle.gb_eval.specs.Known.{is_known, all_known, is_head_known, are_true, is_read_known}
+use Rattle.gb_smt.specs.Variables.{Vars, at_head, at_instr, at_subject, at_cmd, at_term, of_read, term_variables, head_read}
+use Rattle.gb_smt.proofs.Layers.{variables_out}
+use Rattle.gb_smt_laws.specs.Simple.{is_simple, all_simple, only}
+use Rattle.gb_smt_laws.specs.Reading.{no_variables, Reading, IsReadAt, inner}
+use mathlib.Core.Former.{Count, arity, this}
+
+pub two_is_one : (n : _) (A : Type 0) → (suc (suc n) == 1) ≡ true → A
+two_is_one n A h = let e = (Decides-eqb (suc (suc n)) 1).0 h in absurd (omega (arith, e))
+
+pub none_is_one : (A : Type 0) → (0 == 1) ≡ true → A
+none_is_one A h = let e = (Decides-eqb 0 1).0 h in absurd (omega (arith, e))
+
+pub some_is_none : (n : _) (A : Type 0) → (suc n == 0) ≡ true → A
+some_is_none n A h = let e = (Decides-eqb (suc n) 0).0 h in absurd (omega (arith, e))
+
+mutual
+  pub known_simple : (t : Term) → is_known t ≡ true → is_simple t ≡ true
+  known_simple (Term' p (more_of-Head (head.Lit v) end_of-Head) n ts ty) k = refl
+  known_simple (Term' p (more_of-Head (head.Read r) end_of-Head) n ts ty) k = refl
+  known_simple (Term' p (more_of-Head (head.Bound i) end_of-Head) n ts ty) k = refl
+  known_simple (Term' p (more_of-Head (head.Builtin o) end_of-Head) n ts ty) k = row_simple ts (and_parts (is_head_known (head.Builtin o) (length (all_known ts))) (are_true (all_known ts)) k).1
+  known_simple (Term' p (more_of-Head (head.All u) end_of-Head) n ts ty) k =
+      let both = and_parts (is_head_known (head.All u) (length (all_known ts))) (are_true (all_known ts)) k in
+      only_simple ts (and_parts (length (all_known ts) == 1) (is_finite u) both.0).0 both.1
+  known_simple (Term' p (more_of-Head (head.Some u) end_of-Head) n ts ty) k =
+      let both = and_parts (is_head_known (head.Some u) (length (all_known ts))) (are_true (all_known ts)) k in
+      only_simple ts (and_parts (length (all_known ts) == 1) (is_finite u) both.0).0 both.1
+  known_simple (Term' p (more_of-Head h end_of-Head) n ts ty) k = absurd (false≢true k)
+
+  row_simple : {n : Count} (ts : Row_of-Term n) → are_true (all_known ts) ≡ true → list_all (λ b. b) (all_simple ts) ≡ true
+  row_simple end_of-Term l = refl
+  row_simple (more_of-Term t ts) l =
+      let both = and_parts (is_known t) (are_true (all_known ts)) l in
+      and_from (is_simple t) (list_all (λ b. b) (all_simple ts)) (known_simple t both.0) (row_simple ts both.1)
+
+  only_simple : {n : Count} (ts : Row_of-Term n) → (length (all_known ts) == 1) ≡ true → are_true (all_known ts) ≡ true → only (all_simple ts) ≡ true
+  only_simple end_of-Term e l = none_is_one _ e
+  only_simple (more_of-Term t end_of-Term) e l = known_simple t (and_parts (is_known t) true l).0
+  only_simple (more_of-Term t (more_of-Term v ts)) e l = two_is_one (length (all_known ts)) _ e
+
+-- the variables of a term, by its constructors
+
+abbrev pub read_of : Head → Option Read
+read_of (head.Read r) = Some r
+read_of _ = None
+
+read_layer : (x : HeadLayer) →
+    at_head (map-Head _ _ _ _ _ (Option Read) (Unit {0}) (Unit {0}) (Unit {0}) Vars head_read (fold-Instr (Option Read) (Unit {0}) (Unit {0}) (Unit {0}) Vars at_head at_instr at_subject at_cmd at_term) (fold-Subject (Option Read) (Unit {0}) (Unit {0}) (Unit {0}) Vars at_head at_instr at_subject at_cmd at_term) (fold-Cmd (Option Read) (Unit {0}) (Unit {0}) (Unit {0}) Vars at_head at_instr at_subject at_cmd at_term) term_variables x) ≡ read_of (roll-Head x)
+read_layer (layer.Read r) = simp the_lemmas refl
+read_layer _ = simp the_lemmas refl
+
+pub head_read_is : (h : Head) → head_read h ≡ read_of h
+head_read_is h =
+    fold_out-Head (Option Read) (Unit {0}) (Unit {0}) (Unit {0}) Vars at_head at_instr at_subject at_cmd at_term h
+    ∙ read_layer (out-Head h)
+    ∙ ap read_of (roll-out-Head h)
+
+pub variables_are : (h : Head) (n : List (Unit {0})) (ts : Row_of-Term (arity (the_former (this {0})) n)) (ty : Ty) →
+    term_variables (Term' tt (more_of-Head h end_of-Head) n ts ty) ≡ of_read (read_of h) ty (flat_map term_variables (terms_in ts))
+variables_are h n ts ty =
+    variables_out (Term' tt (more_of-Head h end_of-Head) n ts ty)
+    ∙ ap (λ z. of_read (head_read z.head) z.ty (flat_map term_variables z.args)) (out_is h n ts ty)
+    ∙ ap (λ o. of_read o ty (flat_map term_variables (terms_in ts))) (head_read_is h)
+
+-- each is read at its type
+abbrev pub AreRead : Reading → Vars → Type 0
+AreRead W vs = AllByRecursion (λ v. IsReadAt W v.read v.ty) vs
+
+pub read_together : (W : Reading) (vs ws : Vars) → AreRead W vs → AreRead W ws → AreRead W (vs ++ ws)
+read_together W [] ws a b = b
+read_together W (v ∷ vs) ws a b = (a.0, read_together W vs ws a.1 b)
+
+-- what V reads of memories that no binder binds W reads too
+abbrev pub Sees : Reading → Reading → Type 0
+Sees V W = (r : Read) (ty : Ty) → is_read_known r ≡ true → IsReadAt V r ty → IsReadAt W r ty
+
+pub sees_beneath : (V W : Reading) → Sees V W → Sees (inner no_variables V) W
+sees_beneath V W f (Logical i) ty k e = f (Logical i) ty k e
+sees_beneath V W f (Program x side.Own) ty k e = f (Program x side.Own) ty k e
+sees_beneath V W f (Program x side.Left) ty k e = f (Program x side.Left) ty k e
+sees_beneath V W f (Program x side.Right) ty k e = f (Program x side.Right) ty k e
+sees_beneath V W f (Program x (side.Memory i)) ty k e = f (Program x (side.Memory i)) ty k e
+sees_beneath V W f (Program x (side.Bound i)) ty k e = absurd (false≢true k)

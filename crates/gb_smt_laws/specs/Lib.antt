@@ -1,0 +1,6 @@
+pub mod Simple
+pub mod Reading
+pub mod Fits
+pub mod Closing
+pub mod Ready
+pub mod Step

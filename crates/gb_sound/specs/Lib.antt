@@ -1,4 +1,0 @@
-pub mod Ready
-pub mod Programs
-pub mod Entered
-pub mod Sampled

@@ -1,0 +1,34 @@
+//! The concrete procedures of a script.
+
+ghost use Rattle.std.specs.Prelude.{◌≡◌, List, Some};
+ghost use Rattle.gb_goal.specs.declared.sequent.Sequent.{Sequent};
+ghost use Rattle.gb_goal.specs.Scope.{Declarations, procedure_of};
+ghost use Rattle.gb_terms.specs.declared.decl.Proc.{Proc};
+ghost use Rattle.gb_terms.specs.declared.decl.TypedName.{TypedName};
+ghost use Rattle.gb_terms.specs.declared.module.ProcRef.{ProcRef};
+ghost use Rattle.gb_meaning.specs.Commands.{statements};
+ghost use Rattle.gb_meaning.specs.Program.Routine.{routine};
+ghost use Rattle.gb_holds.specs.Declared.{declared};
+ghost use Rattle.gb_holds.specs.Settings.{Interpretation, setting};
+ghost use Rattle.gb_typing.specs.Chosen.{AreUnchosen};
+ghost use Rattle.gb_typing.specs.Context.{procedure};
+ghost use Rattle.gb_typing.specs.Programs.{IsProcedure, type_of_procedure};
+ghost use Rattle.gb_typing.specs.Scopes.{context_of, IsTypedScope};
+ghost use Rattle.gb_typing.specs.Sequents.{AreBinders, of_sequent};
+
+/// A concrete procedure of a typed scope is typed in the context of each goal over the scope, and has its type there.
+pub fn typed_procedures()
+    ensures typed { (ds : Declarations) → IsTypedScope (declared ds) → (q : Sequent) → AreBinders (context_of (declared ds)) q.modules →
+        (fs : List (List TypedName)) (r : ProcRef) (p : Proc) → procedure_of ds r ≡ Some p → IsProcedure (of_sequent (context_of (declared ds)) q fs) p }
+    ensures of_type { (ds : Declarations) → IsTypedScope (declared ds) → (q : Sequent) → AreBinders (context_of (declared ds)) q.modules →
+        (fs : List (List TypedName)) (r : ProcRef) (p : Proc) → procedure_of ds r ≡ Some p →
+        procedure (of_sequent (context_of (declared ds)) q fs) r ≡ Some (type_of_procedure p) }
+{}
+
+/// In a setting of a typed scope, where no chosen program hides a declared module, a concrete procedure is its body, in which each call
+/// carries what it names in the setting.
+pub fn linked_procedures()
+    ensures { (ds : Declarations) → IsTypedScope (declared ds) → (i : Interpretation) → AreUnchosen i.programs (declared ds) →
+        (r : ProcRef) (p : Proc) → procedure_of ds r ≡ Some p →
+        (setting (declared ds) i).procedure r ≡ Some (routine p.params p.locals (statements (setting (declared ds) i) p.body.list) p.value) }
+{}
