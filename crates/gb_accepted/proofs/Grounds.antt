@@ -2,6 +2,7 @@
 use Rattle.std.specs.Prelude.{◌≡◌, true, false, List, [], ◌∷◌, ◌++◌}
 use Rattle.std.specs.List.{All, AllByRecursion}
 use Rattle.gb_core.specs.declared.ty.Ty.TheVariants as ty
+use Rattle.gb_core.specs.declared.place.Place.{Place}
 use Rattle.gb_core.specs.declared.refusal.Why.TheVariants.{Shape}
 use Rattle.gb_terms.specs.declared.decl.Module.{Module}
 use Rattle.gb_terms.specs.declared.decl.TypedName.{TypedName}
@@ -15,7 +16,9 @@ use Rattle.gb_goal.specs.Rows.{Row, refusing, answered}
 use Rattle.gb_goal.specs.Scope as scope
 use Rattle.gb_goal.specs.declared.scope.Entry.TheVariants as entry
 use Rattle.gb_goal.specs.declared.sequent.Sequent.{Sequent}
+use Rattle.gb_goal.specs.declared.step.AmbientRule.{AmbientRule}
 use Rattle.gb_goal.specs.declared.step.Rule.{Rule}
+use Rattle.gb_goal.specs.declared.step.Rule.TheVariants.{Ambient}
 use Rattle.gb_goal.specs.declared.step.Step.{Step}
 use Rattle.gb_meaning.specs.Names.{Name}
 use Rattle.gb_meaning.specs.Written.{type_of}
@@ -30,6 +33,7 @@ use Rattle.gb_rules.specs.Rules.{outermost, IsSoundAt, IsSoundIn, IsSoundRule, I
 use Rattle.gb_bodies.specs.Rows as bodies
 use Rattle.gb_equiv.specs.Rows as equiv
 use Rattle.gb_equiv.specs.Rows.{IsTypedRule}
+use Rattle.gb_amb.specs.Steps.{IsAnswer, IsTypedStep, LeadTo}
 use Rattle.gb_smt.specs.Leaves.{leaves_of}
 use Rattle.gb_smt.specs.Apply.{IsClosed}
 use Rattle.gb_elab_mod.specs.Lemmas.{lemma_name, statement_given}
@@ -54,6 +58,8 @@ pub record OfTyping : Type 0 where
   pub free : (ds : scope.Declarations) (t : Node) (q : Sequent) → statement_given ds t ≡ given q → is_declared (declared ds) (lemma_name t) ≡ false
   pub lemma_added : (ds : scope.Declarations) → IsTyped ds → (n : Name) → is_declared (declared ds) n ≡ false → (q : Sequent) → IsTypedGoalOf ds q →
       IsTyped (ds ++ (n, entry.Lemma q) ∷ [])
+  pub conclusion : (ds : scope.Declarations) → IsTyped ds → (q : Sequent) (t : IsTypedGoalOf ds q) (n : Node) (s : Step) → step_given ds q n ≡ given s →
+      (r : AmbientRule) → s.rule ≡ Ambient r → IsTypedStep (around ds q t) r
   pub rule : (ds : scope.Declarations) (q : Sequent) (t : IsTypedGoalOf ds q) (n : Node) (s : Step) → step_given ds q n ≡ given s →
       (ls rs : List TypedName) → IsGoalOver (around ds q t) ls rs (goal_of q.conclusion) → IsTypedRule (around ds q t) s.rule ls rs (goal_of q.conclusion)
 
@@ -72,6 +78,8 @@ pub record OfRules : Type 0 where
   pub bodies_refuse : (ds : scope.Declarations) (r : Rule) (f : Term) → bodies.rule_row ds r (ambient f) ≡ refusing Shape
   pub equiv_refuses : (r : Rule) (f : Term) → equiv.rule_row r (ambient f) ≡ refusing Shape
   pub relational : (c : Context) (r : Rule) → IsSoundRule c (equiv.rule_row r) (IsTypedRule c r)
+  pub on_conclusions : (ds : Declarations) → IsTypedScope ds → (q : Sequent) (t : IsTypedSequent (context_of ds) q) → (r : AmbientRule) →
+      IsTypedStep (of_sequent (context_of ds) q t.frames) r → (place : Place) (qs : List Sequent) → IsAnswer r place q (given qs) → LeadTo ds q qs
   pub smt : (ds : Declarations) → IsTypedScope ds → (q : Sequent) → IsTypedSequent (context_of ds) q → All IsClosed (leaves_of q) → Holds ds q
 
 -- Typed scopes have models, and equivalences give couplings.

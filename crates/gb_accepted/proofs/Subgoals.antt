@@ -13,6 +13,7 @@ use Rattle.gb_goal.specs.Goal.Goal.{ambient}
 use Rattle.gb_goal.specs.Rows.{Row, refusing, each_concluding, answered, stepped}
 use Rattle.gb_goal.specs.Scope.{Declarations}
 use Rattle.gb_goal.specs.declared.sequent.Sequent.{Sequent}
+use Rattle.gb_goal.specs.declared.step.AmbientRule.{AmbientRule}
 use Rattle.gb_goal.specs.declared.step.Rule.{Rule}
 use Rattle.gb_goal.specs.declared.step.Rule.TheVariants as rule
 use Rattle.gb_holds.specs.Declared.{declared}
@@ -23,6 +24,7 @@ use Rattle.gb_typing.specs.Scopes.{context_of}
 use Rattle.gb_rules.specs.Typing.{IsGoalOver}
 use Rattle.gb_rules.specs.Rules.{IsSoundIn}
 use Rattle.gb_equiv.specs.Rows.{IsTypedRule}
+use Rattle.gb_amb.specs.Steps.{IsTypedStep}
 use Rattle.gb_smt.specs.Leaves.{leaves_of}
 use Rattle.gb_smt.specs.Apply.{IsAnswerOf}
 use Rattle.gb_elab_laws.proofs.Given.{given_is}
@@ -39,6 +41,10 @@ pub record LeadTo (ds : Declarations) (q : Sequent) (qs : List Sequent) : Type 0
 abbrev pub IsTypedAt : (ds : Declarations) (q : Sequent) → IsTypedGoalOf ds q → Rule → Type 0
 IsTypedAt ds q t r = (ls rs : List TypedName) → IsGoalOver (around ds q t) ls rs (goal_of q.conclusion) → IsTypedRule (around ds q t) r ls rs (goal_of q.conclusion)
 
+-- a rule on a conclusion that brings typed forms to a goal
+abbrev pub HasTypedForms : (ds : Declarations) (q : Sequent) → IsTypedGoalOf ds q → Rule → Type 0
+HasTypedForms ds q t r = (a : AmbientRule) → r ≡ rule.Ambient a → IsTypedStep (around ds q t) a
+
 -- a row that refuses gives nothing
 none_given : (row : Row) (q : Sequent) (qs : List Sequent) (G : Goal) → goal_of q.conclusion ≡ G → row G ≡ refusing Shape → {X : Type 0} → answered row q ≡ given qs → X
 none_given row q qs G is refuses e = nothing_given _ _ qs (sym (ap (each_concluding q) (ap row is ∙ refuses)) ∙ e)
@@ -49,7 +55,7 @@ module _ (g : Grounds) (ds : Declarations) (scope : IsTyped ds) (q : Sequent) (t
   ambient_refused (rule.OnBodies r) f = g.rules.bodies_refuse ds (rule.OnBodies r) f
   ambient_refused (rule.Relational r) f = g.rules.equiv_refuses (rule.Relational r) f
   ambient_refused rule.Smt f = refl
-  ambient_refused rule.Split f = refl
+  ambient_refused (rule.Ambient r) f = refl
 
   -- a rule with a law
   by_law : (r : Rule) (place : Place) (qs : List Sequent) →
@@ -73,13 +79,14 @@ module _ (g : Grounds) (ds : Declarations) (scope : IsTyped ds) (q : Sequent) (t
       subst (LeadTo ds q) none (record { typed = tt; leads = λ h. g.rules.smt (declared ds) scope q t a })
   of_smt place qs (Some why) a e = nothing_given _ _ qs (sym e)
 
-  pub applied_lead : (r : Rule) (place : Place) (qs : List Sequent) → IsTypedAt ds q t r → Applied ds r place q (given qs) → LeadTo ds q qs
-  applied_lead rule.Smt place qs typed a = of_smt place qs a.0 a.1 a.2
-  applied_lead (rule.OnBodies r) place qs typed a =
+  pub applied_lead : (r : Rule) (place : Place) (qs : List Sequent) → IsTypedAt ds q t r → HasTypedForms ds q t r → Applied ds r place q (given qs) → LeadTo ds q qs
+  applied_lead rule.Smt place qs typed forms a = of_smt place qs a.0 a.1 a.2
+  applied_lead (rule.OnBodies r) place qs typed forms a =
       by_law (rule.OnBodies r) place qs
       (λ ls rs w. g.rules.on_bodies ds scope q t (rule.OnBodies r) (g.rules.outer (declared ds) q t.frames) ls rs (goal_of q.conclusion) w tt) (sym a)
-  applied_lead (rule.Relational r) place qs typed a =
+  applied_lead (rule.Relational r) place qs typed forms a =
       by_law (rule.Relational r) place qs
       (λ ls rs w. g.rules.everywhere (declared ds) (around ds q t) (row_of ds (rule.Relational r)) (goal_of q.conclusion)
       (g.rules.relational (around ds q t) (rule.Relational r) (g.rules.outer (declared ds) q t.frames) ls rs (goal_of q.conclusion) w (typed ls rs w))) (sym a)
-  applied_lead rule.Split place qs typed a = none_given (row_of ds rule.Split) q qs (goal_of q.conclusion) refl refl (given_placed (answered (row_of ds rule.Split) q) place qs a)
+  applied_lead (rule.Ambient r) place qs typed forms a =
+      let k = g.rules.on_conclusions (declared ds) scope q t r (forms r refl) place qs a in record { typed = k.typed; leads = k.leads }

@@ -7,7 +7,7 @@ ghost use Rattle.gb_verdict.specs.Verdict.{IsOutcome};
 ghost use Rattle.gb_accepted.specs.Holding.{IsPromised};
 
 use gb_elab_laws::declaration_laws::{lemmas, modules, statements};
-use gb_elab_laws::step_laws::typed_rules;
+use gb_elab_laws::step_laws::{typed_forms, typed_rules};
 use gb_models::promise_laws::{equivalences_give_couplings, typed_scopes_have_models};
 use gb_rules::goal_laws::{fronts, typing};
 use gb_rules::rule_laws::{contexts, declared_settings, sequents};
@@ -24,6 +24,7 @@ pub fn accepted_scripts()
     statements();
     lemmas();
     typed_rules();
+    typed_forms();
     typing();
     fronts();
     contexts();
@@ -33,6 +34,7 @@ pub fn accepted_scripts()
     gb_bodies::laws::other_forms();
     gb_equiv::laws::relational_rules();
     gb_equiv::laws::other_goals();
+    gb_amb::laws::steps();
     sound_smt();
     typed_scopes_have_models();
     equivalences_give_couplings();

@@ -4,7 +4,7 @@ use Rattle.gb_core.specs.declared.refusal.Why.TheVariants.{Shape}
 use Rattle.gb_terms.specs.declared.term.Term.{Term}
 use Rattle.gb_goal.specs.declared.step.BodyRule.TheVariants.{Proc, Skip}
 use Rattle.gb_goal.specs.declared.step.Rule.{Rule}
-use Rattle.gb_goal.specs.declared.step.Rule.TheVariants.{OnBodies, Relational, Smt, Split}
+use Rattle.gb_goal.specs.declared.step.Rule.TheVariants.{OnBodies, Relational, Ambient, Smt}
 use Rattle.gb_goal.specs.Scope.{Declarations}
 use Rattle.gb_goal.specs.Goal.Goal.{ambient}
 use Rattle.gb_goal.specs.Rows.{refusing}
@@ -15,4 +15,4 @@ others_refused ds (OnBodies Proc) f = refl
 others_refused ds (OnBodies Skip) f = refl
 others_refused ds (Relational r) f = refl
 others_refused ds Smt f = refl
-others_refused ds Split f = refl
+others_refused ds (Ambient r) f = refl

@@ -3,7 +3,7 @@ use Rattle.gb_core.specs.declared.refusal.Why.TheVariants.{Shape}
 use Rattle.gb_goal.specs.declared.sequent.Sequent.{Sequent}
 use Rattle.gb_goal.specs.declared.step.BodyRule.TheVariants as on_bodies
 use Rattle.gb_goal.specs.declared.step.Rule.{Rule}
-use Rattle.gb_goal.specs.declared.step.Rule.TheVariants.{OnBodies, Relational, Smt, Split}
+use Rattle.gb_goal.specs.declared.step.Rule.TheVariants.{OnBodies, Relational, Ambient, Smt}
 use Rattle.gb_goal.specs.Scope.{Declarations}
 use Rattle.gb_holds.specs.Declared.{declared}
 use Rattle.gb_typing.specs.Scopes.{context_of, IsTypedScope}
@@ -22,4 +22,4 @@ module _ (ds : Declarations) (scoped : IsTypedScope (declared ds)) (q : Sequent)
       (k.0, λ g fits over j fair s fit h. k.1 g fits j fair s fit h)
   each_sound (Relational r) outer ls rs G w y Gs e = refused_given Shape Gs e
   each_sound Smt outer ls rs G w y Gs e = refused_given Shape Gs e
-  each_sound Split outer ls rs G w y Gs e = refused_given Shape Gs e
+  each_sound (Ambient r) outer ls rs G w y Gs e = refused_given Shape Gs e

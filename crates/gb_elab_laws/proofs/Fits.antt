@@ -25,6 +25,7 @@ use Rattle.gb_typing.specs.Sequents.{of_sequent, two, IsTypedSequent}
 use Rattle.gb_typing.specs.Scopes.{interface_with, procedure_types, nothing, with_declared, with_each, context_of, is_declared, AreProcedures, AreTypedAfter, IsTypedScope}
 use Rattle.gb_typing.proofs.Operators.{declared_more, declared_last, other_name}
 use Rattle.gb_typing.proofs.Variables.{variable_finite}
+use Rattle.gb_typing.proofs.Located.{typed_there}
 use Rattle.gb_rules.proofs.Lifted.{sequent_outermost}
 use Rattle.gb_elab.specs.Environment.{ambient, of_function, program}
 use Rattle.gb_elab_mod.specs.Lemmas.{nothing_around}
@@ -150,4 +151,18 @@ function_fits ds q t ls rs xs ys h k = record {
   bound_values = tt;
   variables = (h, k);
   procedures = λ e. absurd (false≢true e);
+}
+
+-- a goal of a typed scope, around which forms stand that steps bring
+pub goal_fits : (ds : scope.Declarations) → IsTypedScope (declared ds) → (q : Sequent) (t : IsTypedSequent (context_of (declared ds)) q) →
+    IsFitting (of_sequent (context_of (declared ds)) q t.frames) (ambient ds q) []
+goal_fits ds w q t = record {
+  logical = λ i. refl;
+  values = t.logical;
+  bound = goal_bound (declared ds) q t.frames;
+  bound_values = tt;
+  variables = tt;
+  procedures = λ e p f h.
+      let d = declared_procedure ds w p.«module» p.name f h in
+      record { there = (typed_there ds w q t.modules t.frames p f h).type; params = d.params; result = d.result };
 }

@@ -12,6 +12,7 @@ pub mod Fits
 pub mod Occurring
 pub mod Ends
 pub mod Sampled
+mod Brought
 pub mod Programs
 pub mod Statements
 pub mod Scopes

@@ -23,6 +23,8 @@ use Rattle.gb_goal.specs.Goal.Goal.{equiv}
 use Rattle.gb_goal.specs.declared.sequent.Sequent.{Sequent}
 use Rattle.gb_goal.specs.declared.step.Rule.{Rule}
 use Rattle.gb_goal.specs.declared.step.Rule.TheVariants as rule
+use Rattle.gb_goal.specs.declared.step.AmbientRule.{AmbientRule}
+use Rattle.gb_goal.specs.declared.step.AmbientRule.TheVariants as conclusion
 use Rattle.gb_goal.specs.declared.step.BodyRule.TheVariants as on_bodies
 use Rattle.gb_goal.specs.declared.step.RelationalRule.TheVariants as relational
 use Rattle.gb_goal.specs.declared.step.Step.{Step}
@@ -43,7 +45,7 @@ use Rattle.gb_elab.specs.declared.setting.Language.TheVariants.{Function}
 use Rattle.gb_elab.specs.Environment.{Environment, of_function}
 use Rattle.gb_elab.specs.Forms.{function}
 use Rattle.gb_elab_mod.specs.Occurring.{occurring}
-use Rattle.gb_elab_mod.specs.Steps.{last_sampled, functions, one_type, there_and_back, of_bodies, couplings, functions_of, typed_rule, step_given}
+use Rattle.gb_elab_mod.specs.Steps.{last_sampled, functions, one_type, there_and_back, of_bodies, couplings, functions_of, plain_rule, new_name, formed, of_conclusion, typed_rule, step_given}
 use Rattle.gb_elab_mod.specs.Steps as steps
 use Rattle.gb_elab_mod.specs.Unbuilt.{absent}
 use Rattle.gb_elab_laws.specs.Fitting.{IsFitting, IsGiven}
@@ -187,7 +189,17 @@ module _ (ds : scope.Declarations) (q : Sequent) (t : IsTypedSequent (context_of
       of_rule text.BodyStep x (b ∷ []) p k us h r =
           let o = given_bind (absent (parts_of b) p) (λ _. if bytes_eq x (codes "skip") then given (rule.OnBodies on_bodies.Skip) else not_built p) k h in
           other (rule.OnBodies on_bodies.Skip) k us refl (if_given (bytes_eq x (codes "skip")) (rule.OnBodies on_bodies.Skip) Syntax p k o.2).1 r
-      of_rule text.PlainStep x [] p k us h r = other rule.Split k us refl (if_given (bytes_eq x (codes "split")) rule.Split Syntax p k h).1 r
+      of_rule text.PlainStep x [] p k us h r =
+          let o = given_bind (plain_rule x p) (λ (a : AmbientRule). given (rule.Ambient a)) k h in other (rule.Ambient o.0) k us refl (given_is (rule.Ambient o.0) k o.2) r
+      of_rule text.CaseStep x (b ∷ f ∷ []) p k us h r =
+          let o = given_bind (absent (parts_of b) p) _ k h in
+          let y = given_bind (of_conclusion q p) _ k o.2 in
+          let z = given_bind (formed ds q f) (λ (t : Term). given (rule.Ambient (conclusion.Case t))) k y.2 in
+          other (rule.Ambient (conclusion.Case z.0)) k us refl (given_is (rule.Ambient (conclusion.Case z.0)) k z.2) r
+      of_rule text.HaveForm x (n ∷ f ∷ []) p k us h r =
+          let o = given_bind (new_name q (text_of n) (place_of n)) _ k h in
+          let z = given_bind (formed ds q f) (λ (t : Term). given (rule.Ambient (conclusion.Have (text_of n) t))) k o.2 in
+          other (rule.Ambient (conclusion.Have (text_of n) z.0)) k us refl (given_is (rule.Ambient (conclusion.Have (text_of n) z.0)) k z.2) r
       of_rule text.Smt x hints p k us h r = let o = given_bind (absent hints p) (λ _. given rule.Smt) k h in other rule.Smt k us refl (given_is rule.Smt k o.2) r
       of_rule _ x _ p k us h r = cc
 
@@ -208,7 +220,7 @@ module _ (ds : scope.Declarations) (q : Sequent) (t : IsTypedSequent (context_of
     of_step (rule.Relational (relational.Rnd fs)) e = step_typed ds q t n s h fs e ls rs w
     of_step (rule.OnBodies r) e = tt
     of_step rule.Smt e = tt
-    of_step rule.Split e = tt
+    of_step (rule.Ambient r) e = tt
 
 pub rule_typed : (ds : scope.Declarations) (q : Sequent) (t : IsTypedSequent (context_of (declared ds)) q) → (n : Node) (s : Step) → step_given ds q n ≡ given s →
     (ls rs : List TypedName) → IsGoalOver (of_sequent (context_of (declared ds)) q t.frames) ls rs (goal_of q.conclusion) →

@@ -7,6 +7,8 @@ ghost use Rattle.gb_terms.specs.declared.term.Term.{Term};
 ghost use Rattle.gb_script.specs.declared.tree.Node.{Node};
 ghost use Rattle.gb_goal.specs.Scope as scope;
 ghost use Rattle.gb_goal.specs.declared.sequent.Sequent.{Sequent};
+ghost use Rattle.gb_goal.specs.declared.step.AmbientRule.{AmbientRule};
+ghost use Rattle.gb_goal.specs.declared.step.Rule.TheVariants.{Ambient};
 ghost use Rattle.gb_goal.specs.declared.step.Step.{Step};
 ghost use Rattle.gb_goal.specs.Answers.Answer.{given};
 ghost use Rattle.gb_goal.specs.Goal.{goal_of};
@@ -14,12 +16,13 @@ ghost use Rattle.gb_holds.specs.Declared.{declared};
 ghost use Rattle.gb_typing.specs.Context.{Context, frame_of};
 ghost use Rattle.gb_typing.specs.Typing.{IsTyped};
 ghost use Rattle.gb_typing.specs.Sequents.{of_sequent, IsTypedSequent};
-ghost use Rattle.gb_typing.specs.Scopes.{context_of};
+ghost use Rattle.gb_typing.specs.Scopes.{context_of, IsTypedScope};
 ghost use Rattle.gb_rules.specs.Typing.{IsGoalOver};
 ghost use Rattle.gb_elab_mod.specs.Occurring.{read_locals};
 ghost use Rattle.gb_elab_mod.specs.Steps.{step_given};
 ghost use Rattle.gb_elab_laws.specs.Reading.{IsOuter, StandIn};
 ghost use Rattle.gb_equiv.specs.Rows.{IsTypedRule};
+ghost use Rattle.gb_amb.specs.Steps.{IsTypedStep};
 
 /// The locals that a well-typed term reads through the own memory, the left or the right one are locals of this memory.
 pub fn locals_read()
@@ -33,4 +36,11 @@ pub fn typed_rules()
         (n : Node) (s : Step) → step_given ds q n ≡ given s →
         (ls rs : List TypedName) → IsGoalOver (of_sequent (context_of (declared ds)) q t.frames) ls rs (goal_of q.conclusion) →
         IsTypedRule (of_sequent (context_of (declared ds)) q t.frames) s.rule ls rs (goal_of q.conclusion) }
+{}
+
+/// The form that a typed step on a conclusion brings to a typed goal of a typed scope is typed in the goal's context.
+pub fn typed_forms()
+    ensures { (ds : scope.Declarations) → IsTypedScope (declared ds) → (q : Sequent) (t : IsTypedSequent (context_of (declared ds)) q) →
+        (n : Node) (s : Step) → step_given ds q n ≡ given s → (r : AmbientRule) → s.rule ≡ Ambient r →
+        IsTypedStep (of_sequent (context_of (declared ds)) q t.frames) r }
 {}

@@ -1,10 +1,12 @@
 -- The typing of proof steps.
-use Rattle.std.specs.Prelude.{ℕ, ◌-◌, Bool, true, false, if◌then◌else◌, List, [], ◌∷◌, length, slice_get, Option, Some, None, bytes_eq, codes}
+use Rattle.std.specs.Prelude.{ℕ, ◌-◌, Bool, true, false, ◌||◌, if◌then◌else◌, List, [], ◌∷◌, length, slice_get, Option, Some, None, bytes_eq, codes}
 use Rattle.std.specs.Option.{option_map_or, option_zip}
+use Rattle.std.specs.List.{list_any}
 use Rattle.gb_core.specs.declared.place.Place.{Place}
-use Rattle.gb_core.specs.declared.refusal.Why.TheVariants.{TypeMismatch}
+use Rattle.gb_core.specs.declared.refusal.Why.TheVariants.{DoubleName, TypeMismatch}
 use Rattle.gb_core.specs.declared.ty.Ty.{Ty, out-Ty}
 use Rattle.gb_core.specs.declared.ty.Ty.TheOpen as ty_layer
+use Rattle.gb_core.specs.declared.ty.Ty.TheVariants.{Bool as bool_ty}
 use Rattle.gb_same.specs.Types.{ty_eq}
 use Rattle.gb_terms.specs.declared.op.Side.TheVariants as side
 use Rattle.gb_terms.specs.declared.term.Term.{Term, out-Term}
@@ -17,9 +19,12 @@ use Rattle.gb_terms.specs.declared.term.Cmd.{Cmd}
 use Rattle.gb_goal.specs.declared.sequent.Sequent.{Sequent}
 use Rattle.gb_goal.specs.declared.step.Rule.{Rule}
 use Rattle.gb_goal.specs.declared.step.Rule.TheVariants as rule
+use Rattle.gb_goal.specs.declared.step.AmbientRule.{AmbientRule}
+use Rattle.gb_goal.specs.declared.step.AmbientRule.TheVariants as conclusion
 use Rattle.gb_goal.specs.declared.step.BodyRule.TheVariants as on_bodies
 use Rattle.gb_goal.specs.declared.step.RelationalRule.TheVariants as relational
 use Rattle.gb_goal.specs.declared.step.Step.{Step}
+use Rattle.gb_goal.specs.Goal.{judges_bodies}
 use Rattle.gb_goal.specs.Scope.{Declarations}
 use Rattle.gb_script.specs.declared.head.Head.{Head as Kind}
 use Rattle.gb_script.specs.declared.head.Head.TheVariants as text
@@ -27,8 +32,8 @@ use Rattle.gb_script.specs.declared.tree.Node.{Node}
 use Rattle.gb_script.specs.Tree.{head_of, text_of, parts_of, place_of}
 use Rattle.gb_goal.specs.Answers.{Answer, ◌>>=◌, not_built}
 use Rattle.gb_goal.specs.Answers.Answer.{given, refused}
-use Rattle.gb_elab.specs.Environment.{Environment, of_function}
-use Rattle.gb_elab.specs.Forms.{function}
+use Rattle.gb_elab.specs.Environment.{Environment, ambient, of_function}
+use Rattle.gb_elab.specs.Forms.{elaborated, function}
 use Rattle.gb_elab_mod.specs.Occurring.{occurring}
 use Rattle.gb_elab_mod.specs.Unbuilt.{absent}
 
@@ -102,6 +107,32 @@ abbrev pub functions_of : List Node → List Node
 functions_of (f ∷ []) = if is_apply (head_of f) then parts_of f else f ∷ []
 functions_of fs = fs
 
+-- the steps on a conclusion that stand alone
+abbrev pub plain_rule : List ℕ → Place → Answer AmbientRule
+plain_rule x p =
+    if bytes_eq x (codes "split") then given conclusion.Split
+    else if bytes_eq x (codes "left") then given conclusion.Left
+    else if bytes_eq x (codes "right") then given conclusion.Right
+    else if bytes_eq x (codes "assumption") then given conclusion.Assumption else not_built p
+
+-- whether the name is that of a variable, a memory, a module or a hypothesis of the goal
+abbrev pub is_taken : Sequent → List ℕ → Bool
+is_taken g n =
+    list_any (λ x. bytes_eq n x.name) g.logical
+    || (list_any (λ m. bytes_eq n m) g.memories || (list_any (λ b. bytes_eq n b.name) g.modules || list_any (λ h. bytes_eq n h.name) g.hyps))
+
+-- a new name in the context of a goal
+abbrev pub new_name : Sequent → List ℕ → Place → Answer (Unit {0})
+new_name g n p = if is_taken g n then refused (DoubleName n) p else given tt
+
+-- a form that a step brings to a goal
+abbrev pub formed : Declarations → Sequent → Node → Answer Term
+formed ds g f = elaborated f (ambient ds g) [] (Some bool_ty)
+
+-- `case` of a conclusion that is no judgment of bodies; of these it isn't built
+abbrev pub of_conclusion : Sequent → Place → Answer (Unit {0})
+of_conclusion g p = if judges_bodies (out-Term g.conclusion).head then not_built p else given tt
+
 -- Rules act on both bodies of a goal: those on one of them aren't built. The last clause takes what isn't built either, and
 -- trees of another shape, of which the reader builds none, since each of its trees is well-sorted.
 abbrev pub typed_rule : Declarations → Sequent → Kind → List ℕ → List Node → Place → Answer Rule
@@ -116,7 +147,18 @@ typed_rule ds g text.Rnd x (b ∷ fs) p = do
 typed_rule ds g text.BodyStep x (b ∷ []) p = do
   _ ← absent (parts_of b) p
   if bytes_eq x (codes "skip") then given (rule.OnBodies on_bodies.Skip) else not_built p
-typed_rule ds g text.PlainStep x [] p = if bytes_eq x (codes "split") then given rule.Split else not_built p
+typed_rule ds g text.PlainStep x [] p = do
+  r ← plain_rule x p
+  given (rule.Ambient r)
+typed_rule ds g text.CaseStep x (b ∷ f ∷ []) p = do
+  _ ← absent (parts_of b) p
+  _ ← of_conclusion g p
+  t ← formed ds g f
+  given (rule.Ambient (conclusion.Case t))
+typed_rule ds g text.HaveForm x (n ∷ f ∷ []) p = do
+  _ ← new_name g (text_of n) (place_of n)
+  t ← formed ds g f
+  given (rule.Ambient (conclusion.Have (text_of n) t))
 typed_rule ds g text.Smt x hints p = do
   _ ← absent hints p
   given rule.Smt

@@ -2,6 +2,7 @@
 #![tactic(auto)]
 
 pub mod bound;
+pub mod conclusions;
 pub mod couplings;
 pub mod lemma;
 pub mod module;

@@ -3,6 +3,7 @@
 ghost use Rattle.gb_goal.specs.Answers.{Answers};
 ghost use Rattle.gb_elab_mod.specs.Steps.{step_given, typed_rule};
 
+use crate::conclusions::{case_rule, have_rule, plain_rule};
 use crate::couplings::{couplings, functions_of};
 use crate::unbuilt::refuse_any;
 use gb_core::name::Name;
@@ -86,7 +87,18 @@ fn typed_rule(
             _ => Err(not_built(place)),
         },
         Head::PlainStep => match parts {
-            [] if text.as_str() == "split" => Ok(Rule::Split),
+            [] => Ok(Rule::Ambient(plain_rule(text, place)?)),
+            _ => Err(not_built(place)),
+        },
+        Head::CaseStep => match parts {
+            [bodies, form] => {
+                refuse_any(bodies.parts.as_slice(), place)?;
+                case_rule(alloc, scope, goal, form, place)
+            }
+            _ => Err(not_built(place)),
+        },
+        Head::HaveForm => match parts {
+            [name, form] => have_rule(alloc, scope, goal, name, form),
             _ => Err(not_built(place)),
         },
         Head::Smt => {

@@ -4,7 +4,7 @@ use Rattle.gb_core.specs.declared.refusal.Why.TheVariants.{Shape}
 use Rattle.gb_terms.specs.declared.term.Term.{Term}
 use Rattle.gb_goal.specs.declared.step.RelationalRule.TheVariants.{Rnd}
 use Rattle.gb_goal.specs.declared.step.Rule.{Rule}
-use Rattle.gb_goal.specs.declared.step.Rule.TheVariants.{OnBodies, Relational, Smt, Split}
+use Rattle.gb_goal.specs.declared.step.Rule.TheVariants.{OnBodies, Relational, Ambient, Smt}
 use Rattle.gb_goal.specs.Goal.Goal.{ambient}
 use Rattle.gb_goal.specs.Rows.{refusing}
 use Rattle.gb_equiv.specs.Rows.{rule_row}
@@ -13,4 +13,4 @@ pub others_refused : (r : Rule) (f : Term) → rule_row r (ambient f) ≡ refusi
 others_refused (Relational (Rnd fs)) f = refl
 others_refused (OnBodies r) f = refl
 others_refused Smt f = refl
-others_refused Split f = refl
+others_refused (Ambient r) f = refl

@@ -1,5 +1,5 @@
 -- What a rule sees of a goal: judgments of bodies and of procedures, and other forms.
-use Rattle.std.specs.Prelude.{List, [], ◌∷◌}
+use Rattle.std.specs.Prelude.{Bool, true, false, List, [], ◌∷◌}
 use Rattle.gb_core.specs.declared.ty.Ty.TheVariants.{Bool as bool_ty}
 use Rattle.gb_terms.specs.declared.module.ProcRef.{ProcRef}
 use Rattle.gb_terms.specs.declared.op.Rel.{Rel}
@@ -57,3 +57,14 @@ goal_of f = goal_at f (out-Term f).head (out-Term f).args
 abbrev pub IsJudgment : Goal → Type 0
 IsJudgment (ambient f) = ⊥
 IsJudgment G = Unit {0}
+
+abbrev pub is_body_at : layer.Subject-F Head Instr Subject Cmd Term → Bool
+is_body_at (layer.Body c) = true
+is_body_at (layer.Proc p) = false
+
+-- whether a form with this head is a judgment that speaks of a body; one on two programs by the first of them
+abbrev pub judges_bodies : Head → Bool
+judges_bodies (head.Hoare s) = is_body_at (out-Subject s)
+judges_bodies (head.Phoare s r) = is_body_at (out-Subject s)
+judges_bodies (head.Equiv s u) = is_body_at (out-Subject s)
+judges_bodies _ = false

@@ -2,7 +2,8 @@
 
 ghost use Rattle.std.specs.Prelude.{◌≡◌, [], ◌∷◌, IfOk};
 ghost use Rattle.gb_terms.specs.Make.{node};
-ghost use Rattle.gb_goal.specs.Goal.{code_of, goal_of, form_of};
+ghost use Rattle.gb_terms.specs.declared.term.Term.{out-Term};
+ghost use Rattle.gb_goal.specs.Goal.{code_of, goal_of, form_of, judges_bodies};
 ghost use Rattle.gb_goal.specs.Goal.Code.{body};
 ghost use Rattle.gb_goal.specs.Goal.Goal.{hoare, equiv};
 ghost use Rattle.gb_goal.specs.Views.{code_seen, goal_seen};
@@ -55,6 +56,18 @@ pub fn goal_of(form: &Form) -> Goal<'_>
             Goal::Equiv(code_of(left), code_of(right), pre, post)
         }
         _ => Goal::Ambient(form),
+    }
+}
+
+/// Whether a form is a judgment that speaks of a body.
+pub fn judges_bodies(form: &Form) -> bool
+    ensures { result ≡ judges_bodies (out-Term form.now).head }
+{
+    match form.head.get() {
+        Head::Hoare(subject) | Head::Phoare(subject, _) | Head::Equiv(subject, _) => {
+            matches!(subject, Subject::Body(_))
+        }
+        _ => false,
     }
 }
 

@@ -1,7 +1,8 @@
 // Proof steps with typed arguments.
 
+use gb_core::name::Name;
 use gb_core::place::Place;
-use gb_terms::term::Terms;
+use gb_terms::term::{Form, Terms};
 
 /// A proof step. Its place is its first word, where the refusals of its rule stand.
 #[derive(Drop)]
@@ -15,9 +16,8 @@ pub struct Step {
 pub enum Rule {
     OnBodies(BodyRule),
     Relational(RelationalRule),
+    Ambient(AmbientRule),
     Smt,
-    /// A conclusion into its parts.
-    Split,
 }
 
 /// A rule on programs, for judgments of every kind.
@@ -33,4 +33,21 @@ pub enum RelationalRule {
     /// A coupling of two samplings by functions: none is the identity, one is its own inverse, two are a function and
     /// its inverse. Each function is a term in which the sampled value is the innermost bound variable.
     Rnd(Terms),
+}
+
+/// A rule on conclusions of every kind and the hypotheses around them.
+#[derive(Drop)]
+pub enum AmbientRule {
+    /// A conjunction or an equivalence into its parts.
+    Split,
+    /// The left side of a disjunction.
+    Left,
+    /// The right side of a disjunction.
+    Right,
+    /// A conclusion that is a hypothesis.
+    Assumption,
+    /// The conclusion where a form is true, and where it isn't.
+    Case(Form),
+    /// A form is shown, and then is a hypothesis of this name.
+    Have(Name, Form),
 }

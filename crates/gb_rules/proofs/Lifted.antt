@@ -73,7 +73,7 @@ sequent_outermost ds q fs =
 
 -- Facts for all programs.
 
-each : (ds : Declarations) (bs : List Bind) (i : Interpretation) (P : Interpretation → Type 0) → ((k : Interpretation) → P k) → EachProgram ds bs i P
+pub each : (ds : Declarations) (bs : List Bind) (i : Interpretation) (P : Interpretation → Type 0) → ((k : Interpretation) → P k) → EachProgram ds bs i P
 each ds [] i P f = f i
 each ds (b ∷ bs) i P f = λ a w. each ds bs (with_program i b a) P f
 
@@ -82,10 +82,10 @@ both : (ds : Declarations) (bs : List Bind) (i : Interpretation) (P Q R : Interp
 both ds [] i P Q R f x y = f i x y
 both ds (b ∷ bs) i P Q R f x y = λ a w. both ds bs (with_program i b a) P Q R f (x a w) (y a w)
 
-abbrev InEachSequent : Declarations → Sequent → (Interpretation → Type 0) → Type 0
+abbrev pub InEachSequent : Declarations → Sequent → (Interpretation → Type 0) → Type 0
 InEachSequent ds q P = InEachModel ds (λ i. EachProgram ds q.modules i P)
 
-joined : (ds : Declarations) (q : Sequent) (P Q R : Interpretation → Type 0) → ((k : Interpretation) → P k → Q k → R k) → InEachSequent ds q P → InEachSequent ds q Q → InEachSequent ds q R
+pub joined : (ds : Declarations) (q : Sequent) (P Q R : Interpretation → Type 0) → ((k : Interpretation) → P k → Q k → R k) → InEachSequent ds q P → InEachSequent ds q Q → InEachSequent ds q R
 joined ds q P Q R f x y w size table m =
     both ds (declared_modules ds) (interpretation w size table) (λ i. EachProgram ds q.modules i P) (λ i. EachProgram ds q.modules i Q) (λ i. EachProgram ds q.modules i R)
     (λ i u v. both ds q.modules i P Q R f u v) (x w size table m) (y w size table m)
@@ -120,7 +120,7 @@ module _ (ds : Declarations) (q : Sequent) (fs : List (List TypedName)) where
   abbrev c : Context
   c = of_sequent (context_of ds) q fs
 
-  state_fits : (k : Interpretation) (vs : List Value) (ms : List Memory) → AreValues (types_of ds k) (map (λ x. x.ty) q.logical) vs → IsStateOf c (setting ds k) (context vs ms)
+  pub state_fits : (k : Interpretation) (vs : List Value) (ms : List Memory) → AreValues (types_of ds k) (map (λ x. x.ty) q.logical) vs → IsStateOf c (setting ds k) (context vs ms)
   state_fits k vs ms w =
       subst (λ c. IsStateOf c (setting ds k) (context vs ms)) (sym (sequent_outermost ds q fs))
       (record {

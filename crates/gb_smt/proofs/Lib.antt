@@ -12,5 +12,5 @@ mod Different
 mod Answered
 mod Values
 mod Meant
-mod SameTerms
+pub mod SameTerms
 mod Outcomes

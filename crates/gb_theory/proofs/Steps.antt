@@ -13,6 +13,7 @@ use Rattle.gb_goal.specs.declared.step.Step.{Step}
 use Rattle.gb_script.specs.declared.tree.Node.{Node}
 use Rattle.gb_goal.specs.Answers.{Answer, Answers, Gives}
 use Rattle.gb_goal.specs.Rows.{stepped}
+use Rattle.gb_goal.specs.declared.step.AmbientRule.{AmbientRule}
 use Rattle.gb_goal.specs.declared.step.BodyRule.{BodyRule}
 use Rattle.gb_goal.specs.declared.step.RelationalRule.{RelationalRule}
 use Rattle.gb_bodies.specs.Rows as bodies
@@ -21,6 +22,7 @@ use Rattle.gb_goal.specs.Answers.Answer.{given, refused}
 use Rattle.gb_elab_mod.specs.Steps.{step_given}
 use Rattle.gb_smt.specs.Leaves.{leaves_of}
 use Rattle.gb_smt.specs.Apply.{IsResult}
+use Rattle.gb_amb.specs.Steps.{IsAnswer, Returns}
 use Rattle.gb_verdict.specs.Session.{Session, OpenProof, with_goals}
 use Rattle.gb_verdict.specs.Commands.{After, row_of, Applied, continued, Works, WorksOn}
 use Rattle.gb_theory.specs.Sessions.{Meets}
@@ -38,6 +40,18 @@ pub smt_meets : (ds : Declarations) (r : Rule) (place : Place) (q : Sequent) (re
     → r ≡ rule.Smt → IsResult (leaves_of q) place result → Meets (λ (x : List Sequent). x) (Applied ds r place q) result
 smt_meets ds r place q result is h =
     subst (λ x. Meets (λ (y : List Sequent). y) (Applied ds x place q) result) (sym is) (of_smt ds place q result h)
+
+-- what a step on a conclusion gives is what is applied
+pub ambient_meets : (ds : Declarations) (r : Rule) (b : AmbientRule) (place : Place) (q : Sequent) (result : Result (List Sequent) Refused)
+    → r ≡ rule.Ambient b → Returns (IsAnswer b place q) result → Meets (λ (x : List Sequent). x) (Applied ds r place q) result
+ambient_meets ds r b place q result is h =
+    subst (λ x. Meets (λ (y : List Sequent). y) (Applied ds x place q) result) (sym is) (returned result h)
+  where
+    returned : (result : Result (List Sequent) Refused) → Returns (IsAnswer b place q) result → Meets (λ (x : List Sequent). x) (IsAnswer b place q) result
+    returned (Ok qs) h = h
+    returned (Err NoMemory) h = h
+    returned (Err ReadFault) h = h
+    returned (Err (Script why at)) h = h
 
 -- what a row gives is what is applied
 pub body_meets : (ds : Declarations) (r : Rule) (b : BodyRule) (place : Place) (q : Sequent) (result : Result (List Sequent) Refused)

@@ -322,7 +322,7 @@ fn apply(alloc: Global, step: &Step, goal: &Sequent, scope: &Scope) -> Result<Se
     match &step.rule {
         Rule::OnBodies(_) => gb_bodies::apply::apply(alloc, step, goal, scope),
         Rule::Relational(_) => gb_equiv::apply(alloc, step, goal, scope),
+        Rule::Ambient(rule) => gb_amb::apply::apply(alloc, rule, step.place, goal),
         Rule::Smt => gb_smt::apply::apply(alloc, step, goal, scope),
-        Rule::Split => Err(refused(Why::Shape, step.place)),
     }
 }

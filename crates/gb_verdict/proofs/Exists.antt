@@ -7,6 +7,7 @@ use Rattle.gb_core.specs.declared.refusal.Why.{Why}
 use Rattle.gb_core.specs.declared.refusal.Why.TheVariants.{Character, NoGoal, Unclosed}
 use Rattle.gb_goal.specs.Scope.{Declarations}
 use Rattle.gb_goal.specs.declared.sequent.Sequent.{Sequent}
+use Rattle.gb_goal.specs.declared.step.AmbientRule.{AmbientRule}
 use Rattle.gb_goal.specs.declared.step.Step.{Step}
 use Rattle.gb_goal.specs.declared.step.Rule.{Rule}
 use Rattle.gb_goal.specs.declared.step.Rule.TheVariants as rule
@@ -30,6 +31,7 @@ use Rattle.gb_goal.specs.Rows.{stepped}
 use Rattle.gb_smt.specs.declared.leaves.Leaf.{Leaf}
 use Rattle.gb_smt.specs.Leaves.{leaves_of}
 use Rattle.gb_smt.specs.Apply.{IsAnswerOf}
+use Rattle.gb_amb.specs.Steps.{IsAnswer}
 use Rattle.gb_verdict.specs.Session.{Session, OpenProof, fresh_session}
 use Rattle.gb_verdict.specs.Commands.{After, declares, opens, begun, ended, closed_unless, row_of, Applied, continued, Works, WorksOn, InProof, sole_rule, Proves, ComesToOf, ComesTo}
 use Rattle.gb_verdict.specs.Verdict.{IsReadAs, IsEnd, Ends, Goes, RunsIn, start, IsOutcome}
@@ -47,12 +49,14 @@ in_proof None place P some = (refused NoGoal place, refl)
 in_proof (Some p) place P some = some p
 
 -- where `smt` finds something of all leaves
-module _ (an_answer : (leaves : List Leaf) → (a : Option Why) × IsAnswerOf leaves a) where
+module _
+    (an_answer : (leaves : List Leaf) → (a : Option Why) × IsAnswerOf leaves a)
+    (some_answer : (r : AmbientRule) (place : Place) (q : Sequent) → (x : Answer (List Sequent)) × IsAnswer r place q x) where
   applied : (ds : Declarations) (r : Rule) (place : Place) (q : Sequent) → Some_of (Applied ds r place q)
   applied ds rule.Smt place q = let found = an_answer (leaves_of q) in (closed_unless found.0 place, (found.0, found.1, refl))
   applied ds (rule.OnBodies r) place q = (stepped (row_of ds (rule.OnBodies r)) place q, refl)
   applied ds (rule.Relational r) place q = (stepped (row_of ds (rule.Relational r)) place q, refl)
-  applied ds rule.Split place q = (stepped (row_of ds rule.Split) place q, refl)
+  applied ds (rule.Ambient r) place q = some_answer r place q
 
   worked : (s : Session) (p : OpenProof) (q : Sequent) (rest : List Sequent) (step : Step) → Some_of (Works s p q rest step)
   worked s p q rest step =

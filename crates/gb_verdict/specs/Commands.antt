@@ -22,6 +22,7 @@ use Rattle.gb_bodies.specs.Rows as bodies
 use Rattle.gb_equiv.specs.Rows as equiv
 use Rattle.gb_smt.specs.Leaves.{leaves_of}
 use Rattle.gb_smt.specs.Apply.{IsAnswerOf}
+use Rattle.gb_amb.specs.Steps as conclusions
 use Rattle.gb_verdict.specs.Limits.{declaration_limit, each_limit, all_limit}
 use Rattle.gb_verdict.specs.Session.{Session, OpenProof, with_module, with_lemma, with_goals, with_proved}
 
@@ -77,9 +78,11 @@ row_of ds (rule.OnBodies r) = bodies.rule_row ds (rule.OnBodies r)
 row_of ds (rule.Relational r) = equiv.rule_row (rule.Relational r)
 row_of ds _ = λ G. refusing Shape
 
--- What a rule gives for a goal: its subgoals, or why it refuses the goal. What `smt` finds has one answer.
+-- What a rule gives for a goal: its subgoals, or why it refuses the goal. What `smt` finds has one answer, and so has a step on a
+-- conclusion.
 abbrev pub Applied : Declarations → Rule → Place → Sequent → Answer (List Sequent) → Type 0
 Applied ds rule.Smt place q x = (found : Option Why) × IsAnswerOf (leaves_of q) found × (x ≡ closed_unless found place)
+Applied ds (rule.Ambient r) place q x = conclusions.IsAnswer r place q x
 Applied ds r place q x = x ≡ stepped (row_of ds r) place q
 
 -- the subgoals of a step stand in front of the other goals

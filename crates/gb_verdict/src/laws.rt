@@ -5,6 +5,7 @@ ghost use Rattle.gb_goal.specs.Answers.{Answer};
 ghost use Rattle.gb_verdict.specs.Session.{Session};
 ghost use Rattle.gb_verdict.specs.Verdict.{IsOutcome};
 
+use gb_amb::laws::answers;
 use gb_lex::laws::{commands_have_bytes, each_fault_has_a_place};
 use gb_read_script::laws::{
     commands_are_unique, each_text_is_read_or_refused, refusals_are_unique,
@@ -18,6 +19,7 @@ pub fn one_outcome()
     commands_are_unique();
     refusals_are_unique();
     there_is_one_answer();
+    answers();
 }
 
 /// Each script comes to something: to a session, or to a refusal at a place.
@@ -25,6 +27,7 @@ pub fn each_text_has_an_outcome()
     ensures { (text : List ℕ) → (r : Answer Session) × IsOutcome text r }
 {
     there_is_an_answer();
+    answers();
     each_fault_has_a_place();
     each_text_is_read_or_refused();
     commands_have_bytes();

@@ -9,6 +9,7 @@ returns c =
         statement = c.statements.ensures.typed;
         free = c.statements.ensures.free;
         lemma_added = c.lemmas.ensures;
+        conclusion = c.typed_forms.ensures;
         rule = c.typed_rules.ensures;
       };
       rules = record {
@@ -21,6 +22,7 @@ returns c =
         bodies_refuse = c.other_forms.ensures;
         equiv_refuses = c.other_goals.ensures;
         relational = c.relational_rules.ensures;
+        on_conclusions = c.steps.ensures;
         smt = c.sound_smt.ensures;
       };
       models = record { model = c.typed_scopes_have_models.ensures.model; coupled = c.equivalences_give_couplings.ensures.coupled };

@@ -1,6 +1,6 @@
 use Rattle.gb_core.specs.declared.refusal.Why.TheVariants.{Shape}
 use Rattle.gb_goal.specs.declared.step.Rule.{Rule}
-use Rattle.gb_goal.specs.declared.step.Rule.TheVariants.{Relational, OnBodies, Smt, Split}
+use Rattle.gb_goal.specs.declared.step.Rule.TheVariants.{Relational, OnBodies, Ambient, Smt}
 use Rattle.gb_goal.specs.declared.step.RelationalRule.TheVariants.{Rnd}
 use Rattle.gb_typing.specs.Context.{Context}
 use Rattle.gb_rules.specs.Rules.{IsSoundRule}
@@ -13,7 +13,7 @@ rule_sound : (c : Context) (r : Rule) → IsSoundRule c (rule_row r) (IsTypedRul
 rule_sound c (Relational (Rnd fs)) outer ls rs G w k Gs e = sound c fs outer ls rs G w k Gs e
 rule_sound c (OnBodies r) outer ls rs G w k Gs e = refused_given Shape Gs e
 rule_sound c Smt outer ls rs G w k Gs e = refused_given Shape Gs e
-rule_sound c Split outer ls rs G w k Gs e = refused_given Shape Gs e
+rule_sound c (Ambient r) outer ls rs G w k Gs e = refused_given Shape Gs e
 
 pub returns : goal.returns
 returns x = rule_sound

@@ -1,0 +1,4 @@
+pub mod Taken
+pub mod Cases
+pub mod Around
+pub mod Sound

@@ -1,0 +1,169 @@
+-- Steps on conclusions are sound, and each has one answer.
+use Rattle.std.proofs.Common.{◌≡◌, inl, inr, ⊎_elim, ℕ, Bool, true, false, if◌then◌else◌, List, [], ◌∷◌, ◌++◌, map, refl, ap, sym, ◌∙◌, subst}
+use Rattle.std.specs.List.{AllByRecursion}
+use Rattle.gb_core.specs.declared.place.Place.{Place}
+use Rattle.gb_core.specs.declared.refusal.Why.TheVariants.{Shape}
+use Rattle.gb_terms.specs.declared.term.Term.{Term, out-Term}
+use Rattle.gb_goal.specs.Answers.{Answer}
+use Rattle.gb_goal.specs.Answers.Answer.{given, refused}
+use Rattle.gb_goal.specs.declared.sequent.Hyp.{Hyp}
+use Rattle.gb_goal.specs.declared.sequent.Sequent.{Sequent}
+use Rattle.gb_goal.specs.declared.step.AmbientRule.{AmbientRule}
+use Rattle.gb_goal.specs.declared.step.AmbientRule.TheVariants.{Split, Left, Right, Assumption, Case, Have}
+use Rattle.gb_meaning.specs.State.{State}
+use Rattle.gb_meaning.specs.Judgments.{Judge, IsFair, IsTrueUnder}
+use Rattle.gb_holds.specs.Declared.{Declarations}
+use Rattle.gb_holds.specs.Settings.{Interpretation, setting}
+use Rattle.gb_holds.specs.Truth.{has_module, Truth}
+use Rattle.gb_holds.specs.Holds.{AreTrue}
+use Rattle.gb_holds.proofs.Fronts.{without_modules}
+use Rattle.gb_typing.specs.Context.{Context}
+use Rattle.gb_typing.specs.Typing.{IsForm}
+use Rattle.gb_typing.specs.Sequents.{IsConclusion, AreFormulas, IsTypedSequent}
+use Rattle.gb_typing.specs.Scopes.{context_of, IsTypedScope}
+use Rattle.gb_typing.proofs.Sound.{procedures_sound, sound_form}
+use Rattle.gb_rules.specs.Forms.{implies_form, not_form}
+use Rattle.gb_goal.specs.Goal.Goal.{ambient}
+use Rattle.gb_rules.proofs.Conclusions.{goal_conclusion, goal_front}
+use Rattle.gb_rules.proofs.Forms.{not_typed}
+use Rattle.gb_rules.proofs.Given.{refused_at, same_given}
+use Rattle.gb_smt.proofs.SameTerms.{same_terms}
+use Rattle.gb_goal.specs.Goal.{judges_bodies}
+use Rattle.gb_amb.specs.Parts.{concluding, each_concluding, parts_of, by_parts}
+use Rattle.gb_amb.specs.Steps.{IsAmong, assuming, Decides, by_cases, IsAnswer, IsTypedStep, LeadTo}
+use Rattle.gb_amb.proofs.Around.{Part, here, placed, IsTypedPart, IsTruePart, parts_lead}
+use Rattle.gb_amb.proofs.Cases.{form_formula, conclusion_formula, implication_typed, cases_used}
+use Rattle.gb_amb.proofs.Taken.{IsTaken, parts_taken}
+
+-- a form among hypotheses is true where they are
+module _ (ds : Declarations) (k : Interpretation) (s : State) where
+  assumed_true : (hs : List Hyp) (f : Term) → IsAmong hs f → AreTrue ds hs k s → Truth ds f k s
+  assumed_true [] f m h = absurd m
+  assumed_true (x ∷ hs) f (inl e) h = subst (λ f. Truth ds f k s) e h.0
+  assumed_true (x ∷ hs) f (inr m) h = assumed_true hs f m h.1
+
+  all_true : (hs : List Hyp) (name : List ℕ) (f : Term) → AreTrue ds hs k s → Truth ds f k s → AreTrue ds (hs ++ record { name = name; form = f } ∷ []) k s
+  all_true [] name f h t = (t, tt)
+  all_true (x ∷ hs) name f h t = (h.0, all_true hs name f h.1 t)
+
+form_conclusion : (c : Context) (f : Term) → IsForm c f → IsConclusion c f
+form_conclusion c f w = goal_conclusion c [] [] (ambient f) w
+
+form_front : (c : Context) (f : Term) → IsForm c f → has_module f ≡ false
+form_front c f w = goal_front c [] [] (ambient f) w
+
+formulas_with : (c : Context) (hs : List Hyp) (name : List ℕ) (f : Term) → AreFormulas c hs → IsForm c f → AreFormulas c (hs ++ record { name = name; form = f } ∷ [])
+formulas_with c [] name f w v = (form_formula c f v, tt)
+formulas_with c (x ∷ hs) name f w v = (w.0, formulas_with c hs name f w.1 v)
+
+module _ (ds : Declarations) (scope : IsTypedScope ds) (q : Sequent) (t : IsTypedSequent (context_of ds) q) where
+  abbrev c : Context
+  c = here ds scope q t
+
+  -- the conclusions that a goal follows from, in its context and under its hypotheses
+  abbrev part_of : Term → Part
+  part_of f = record { hyps = q.hyps; conclusion = f }
+
+  nothing_left : (qs : List Sequent) → [] ≡ qs → LeadTo ds q [] → LeadTo ds q qs
+  nothing_left qs e l = subst (LeadTo ds q) e l
+
+  by_assumption : IsAmong q.hyps q.conclusion → LeadTo ds q []
+  by_assumption m = parts_lead ds scope q t [] tt (λ k fits s fit x h. assumed_true ds k s q.hyps q.conclusion m h)
+
+  -- the parts of a form
+  typed_forms : (fs : List Term) → AllByRecursion (IsForm c) fs → AllByRecursion (IsTypedPart ds scope q t) (map part_of fs)
+  typed_forms [] w = tt
+  typed_forms (f ∷ fs) w = ((t.hyps, form_conclusion c f w.0), typed_forms fs w.1)
+
+  true_forms : (k : Interpretation) (s : State) (fs : List Term) → AllByRecursion (IsForm c) fs → AllByRecursion (IsTruePart ds scope q t k s) (map part_of fs) → AreTrue ds q.hyps k s →
+      (j : Judge) → IsFair (setting ds k) j → AllByRecursion (λ a. IsTrueUnder (setting ds k) j a s) fs
+  true_forms k s [] w x h j fair = tt
+  true_forms k s (f ∷ fs) w x h j fair =
+      ((without_modules ds f k s (form_front c f w.0)).0 (x.0 h) j fair, true_forms k s fs w.1 x.1 h j fair)
+
+  same_goals : (fs : List Term) → map (placed ds scope q t) (map part_of fs) ≡ map (concluding q) fs
+  same_goals [] = refl
+  same_goals (f ∷ fs) = ap (λ qs. concluding q f ∷ qs) (same_goals fs)
+
+  of_taken : (fs : List Term) → IsTaken c q.conclusion fs → LeadTo ds q (map (concluding q) fs)
+  of_taken fs k =
+      subst (LeadTo ds q) (same_goals fs)
+      (parts_lead ds scope q t (map part_of fs) (typed_forms fs k.from.typed)
+      (λ i fits s fit x h. (without_modules ds q.conclusion i s (form_front c q.conclusion k.form)).1
+      (λ j fair. k.from.implied (setting ds i) j s (true_forms i s fs k.from.typed x h j fair))))
+
+  by_its_parts : (r : AmbientRule) (place : Place) (qs : List Sequent) → given qs ≡ by_parts r place q → LeadTo ds q qs
+  by_its_parts r place qs e = step (parts_of r place q.conclusion) refl e
+    where
+      step : (x : Answer (List Term)) → parts_of r place q.conclusion ≡ x → given qs ≡ each_concluding q x → LeadTo ds q qs
+      step (given fs) u e = subst (LeadTo ds q) (sym (same_given qs (map (concluding q) fs) e)) (of_taken fs (parts_taken c place r q.conclusion t.conclusion fs u))
+      step (refused w p) u e = refused_at w p qs (sym e)
+
+  abbrev both_cases : Term → List Sequent
+  both_cases f = concluding q (implies_form f q.conclusion) ∷ concluding q (implies_form (not_form f) q.conclusion) ∷ []
+
+  by_two_cases : (f : Term) → IsForm c f → judges_bodies (out-Term q.conclusion).head ≡ false → LeadTo ds q (both_cases f)
+  by_two_cases f w e =
+      let v = conclusion_formula c q.conclusion t.conclusion e in
+      parts_lead ds scope q t (part_of (implies_form f q.conclusion) ∷ part_of (implies_form (not_form f) q.conclusion) ∷ [])
+      ((t.hyps, implication_typed c f w q.conclusion v), ((t.hyps, implication_typed c (not_form f) (not_typed c f w) q.conclusion v), tt))
+      (λ k fits s fit x h. cases_used ds k s f q.conclusion (sound_form (setting ds k) c (procedures_sound c (setting ds k) fits) f w.typed) (x.0 h) (x.1.0 h))
+
+  of_cases : (f : Term) → IsForm c f → (place : Place) (qs : List Sequent) → given qs ≡ by_cases f place q → LeadTo ds q qs
+  of_cases f w place qs e = step (judges_bodies (out-Term q.conclusion).head) refl e
+    where
+      step : (b : Bool) → judges_bodies (out-Term q.conclusion).head ≡ b → given qs ≡ (if b then refused Shape place else given (both_cases f)) → LeadTo ds q qs
+      step true u e = refused_at Shape place qs (sym e)
+      step false u e = subst (LeadTo ds q) (sym (same_given qs (both_cases f) e)) (by_two_cases f w u)
+
+  by_cut : (name : List ℕ) (f : Term) → IsForm c f → LeadTo ds q (concluding q f ∷ assuming q name f ∷ [])
+  by_cut name f w =
+      parts_lead ds scope q t (part_of f ∷ record { hyps = q.hyps ++ record { name = name; form = f } ∷ []; conclusion = q.conclusion } ∷ [])
+      ((t.hyps, form_conclusion c f w), ((formulas_with c q.hyps name f t.hyps w, t.conclusion), tt))
+      (λ k fits s fit x h. x.1.0 (all_true ds k s q.hyps name f h (x.0 h)))
+
+  pub steps_sound : (r : AmbientRule) → IsTypedStep c r → (place : Place) (qs : List Sequent) → IsAnswer r place q (given qs) → LeadTo ds q qs
+  steps_sound Assumption w place qs (inl (m, e)) = nothing_left qs (same_given [] qs (sym e)) (by_assumption m)
+  steps_sound Assumption w place qs (inr (m, e)) = refused_at Shape place qs (sym e)
+  steps_sound (Case f) w place qs e = of_cases f w place qs e
+  steps_sound (Have name f) w place qs e = subst (LeadTo ds q) (sym (same_given qs _ e)) (by_cut name f w)
+  steps_sound Split w place qs e = by_its_parts Split place qs e
+  steps_sound Left w place qs e = by_its_parts Left place qs e
+  steps_sound Right w place qs e = by_its_parts Right place qs e
+
+-- Answers.
+
+decided : (P : Type 0) → Dec P → (x y : Answer (List Sequent)) → (r : Answer (List Sequent)) × Decides P x y r
+decided P (yes p) x y = (x, inl (p, refl))
+decided P (no n) x y = (y, inr (n, refl))
+
+one_decided : (P : Type 0) (x y r t : Answer (List Sequent)) → Decides P x y r → Decides P x y t → r ≡ t
+one_decided P x y r t (inl (p, e)) (inl (u, k)) = e ∙ sym k
+one_decided P x y r t (inl (p, e)) (inr (u, k)) = absurd (u p)
+one_decided P x y r t (inr (p, e)) (inl (u, k)) = absurd (p u)
+one_decided P x y r t (inr (p, e)) (inr (u, k)) = e ∙ sym k
+
+among : (hs : List Hyp) (f : Term) → Dec (IsAmong hs f)
+among [] f = no (λ m. m)
+among (x ∷ hs) f = step (same_terms x.form f) (among hs f)
+  where
+    step : Dec (x.form ≡ f) → Dec (IsAmong hs f) → Dec (IsAmong (x ∷ hs) f)
+    step (yes p) d = yes (inl p)
+    step (no n) (yes m) = yes (inr m)
+    step (no n) (no m) = no (⊎_elim n m)
+
+pub some_answer : (r : AmbientRule) (place : Place) (q : Sequent) → (x : Answer (List Sequent)) × IsAnswer r place q x
+some_answer Assumption place q = decided (IsAmong q.hyps q.conclusion) (among q.hyps q.conclusion) (given []) (refused Shape place)
+some_answer (Case f) place q = (by_cases f place q, refl)
+some_answer (Have name f) place q = (given (concluding q f ∷ assuming q name f ∷ []), refl)
+some_answer Split place q = (by_parts Split place q, refl)
+some_answer Left place q = (by_parts Left place q, refl)
+some_answer Right place q = (by_parts Right place q, refl)
+
+pub one_answer : (r : AmbientRule) (place : Place) (q : Sequent) (x y : Answer (List Sequent)) → IsAnswer r place q x → IsAnswer r place q y → x ≡ y
+one_answer Assumption place q x y h k = one_decided (IsAmong q.hyps q.conclusion) (given []) (refused Shape place) x y h k
+one_answer (Case f) place q x y h k = h ∙ sym k
+one_answer (Have name f) place q x y h k = h ∙ sym k
+one_answer Split place q x y h k = h ∙ sym k
+one_answer Left place q x y h k = h ∙ sym k
+one_answer Right place q x y h k = h ∙ sym k

@@ -1,0 +1,131 @@
+-- The parts of a conclusion are typed, and imply it.
+use Rattle.std.proofs.Common.{◌≡◌, Bool, true, false, ◌||◌, List, [], ◌∷◌, refl, ap, sym, ◌∙◌, subst}
+use Rattle.std.specs.List.{AllByRecursion}
+use Rattle.std.proofs.lemmas.Bool.{false≢true}
+use Rattle.gb_core.specs.declared.place.Place.{Place}
+use Rattle.gb_core.specs.declared.refusal.Why.TheVariants.{Shape}
+use Rattle.gb_core.specs.declared.ty.Ty.{Ty}
+use Rattle.gb_terms.specs.declared.op.Op.TheVariants as op
+use Rattle.gb_terms.specs.declared.term.Term.{Term, Term', Row_of-Term, end_of-Term, more_of-Term, end_of-Head, more_of-Head}
+use Rattle.gb_terms.specs.declared.term.Head.{Head}
+use Rattle.gb_terms.specs.declared.term.Head.TheVariants as head
+use Rattle.gb_terms.specs.Make.{node}
+use Rattle.gb_goal.specs.Answers.Answer.{given}
+use Rattle.gb_goal.specs.declared.step.AmbientRule.{AmbientRule}
+use Rattle.gb_goal.specs.declared.step.AmbientRule.TheVariants.{Split, Left, Right}
+use Rattle.gb_meaning.specs.Commands.{terms_in}
+use Rattle.gb_meaning.specs.Operators.{alike}
+use Rattle.gb_meaning.specs.Setting.{Setting}
+use Rattle.gb_meaning.specs.State.{State}
+use Rattle.gb_meaning.specs.Judgments.{Judge, den, IsTrueUnder}
+use Rattle.gb_laws.proofs.Nodes.{each_is_node}
+use Rattle.gb_judge.proofs.Truths.{true_or, true_iff}
+use Rattle.gb_changes.proofs.Trees.{out_is}
+use Rattle.gb_typed.specs.Typing.{types_of, IsHead}
+use Rattle.gb_typing.specs.Context.{Context, erased}
+use Rattle.gb_typing.specs.Typing.{AreTyped, IsForm}
+use Rattle.gb_typing.specs.Sequents.{IsConclusion}
+use Rattle.gb_rules.specs.Forms.{implies_form}
+use Rattle.gb_rules.proofs.Forms.{implies_typed, implies_use, and_make}
+use Rattle.gb_rules.proofs.Given.{refused_at, same_given}
+use Rattle.gb_amb.specs.Parts.{parts_at, parts_of}
+use mathlib.Core.Former.{Count}
+
+-- a form, and typed forms that imply it under each judge
+pub record ComesFrom (c : Context) (f : Term) (fs : List Term) : Type 0 where
+  pub typed : AllByRecursion (IsForm c) fs
+  pub implied : (g : Setting) (j : Judge) (s : State) → AllByRecursion (λ a. IsTrueUnder g j a s) fs → IsTrueUnder g j f s
+
+alike_made : (a b : Bool) → (a ≡ true → b ≡ true) → (b ≡ true → a ≡ true) → alike a b ≡ true
+alike_made true true f h = refl
+alike_made true false f h = f refl
+alike_made false true f h = h refl
+alike_made false false f h = refl
+
+left_true : (a b : Bool) → a ≡ true → (a || b) ≡ true
+left_true true b e = refl
+left_true false b e = absurd (false≢true e)
+
+right_true : (a b : Bool) → b ≡ true → (a || b) ≡ true
+right_true true b e = refl
+right_true false b e = e
+
+module _ (c : Context) (r : AmbientRule) (place : Place) where
+  abbrev at_node : Head → List Term → Ty → List Term → Type 0
+  at_node h ts t fs = ComesFrom c (node h ts t) fs
+
+  of_and : {n : Count} (ts : Row_of-Term n) (t : Ty) → IsHead (erased c) (head.Builtin op.And) (types_of ts) t → AreTyped c c c ts → (fs : List Term) →
+      parts_at Split place (head.Builtin op.And) (terms_in ts) ≡ given fs → at_node (head.Builtin op.And) (terms_in ts) t fs
+  of_and (more_of-Term a (more_of-Term b end_of-Term)) t k w fs e =
+      subst (at_node (head.Builtin op.And) (a ∷ b ∷ []) t) (same_given (a ∷ b ∷ []) fs e) (record {
+        typed = (record { typed = w.0; truth = k.0 }, (record { typed = w.1; truth = k.1.0 }, tt));
+        implied = λ g j s h. subst (λ t. IsTrueUnder g j (node (head.Builtin op.And) (a ∷ b ∷ []) t) s) (sym k.1.1.0) (and_make g j a b s h.0 h.1.0);
+      })
+  of_and end_of-Term t k w fs e = refused_at Shape place fs e
+  of_and (more_of-Term a end_of-Term) t k w fs e = refused_at Shape place fs e
+  of_and (more_of-Term a (more_of-Term b (more_of-Term d ts))) t k w fs e = refused_at Shape place fs e
+
+  of_iff : {n : Count} (ts : Row_of-Term n) (t : Ty) → IsHead (erased c) (head.Builtin op.Iff) (types_of ts) t → AreTyped c c c ts → (fs : List Term) →
+      parts_at Split place (head.Builtin op.Iff) (terms_in ts) ≡ given fs → at_node (head.Builtin op.Iff) (terms_in ts) t fs
+  of_iff (more_of-Term a (more_of-Term b end_of-Term)) t k w fs e =
+      let x : IsForm c a = record { typed = w.0; truth = k.0 } in
+      let y : IsForm c b = record { typed = w.1; truth = k.1.0 } in
+      subst (at_node (head.Builtin op.Iff) (a ∷ b ∷ []) t) (same_given (implies_form a b ∷ implies_form b a ∷ []) fs e) (record {
+        typed = (implies_typed c a b x y, (implies_typed c b a y x, tt));
+        implied = λ g j s h. subst (λ t. IsTrueUnder g j (node (head.Builtin op.Iff) (a ∷ b ∷ []) t) s) (sym k.1.1.0)
+            (true_iff g j a b s ∙ alike_made (den g j a s) (den g j b s) (implies_use g j a b s h.0) (implies_use g j b a s h.1.0));
+      })
+  of_iff end_of-Term t k w fs e = refused_at Shape place fs e
+  of_iff (more_of-Term a end_of-Term) t k w fs e = refused_at Shape place fs e
+  of_iff (more_of-Term a (more_of-Term b (more_of-Term d ts))) t k w fs e = refused_at Shape place fs e
+
+  of_left : {n : Count} (ts : Row_of-Term n) (t : Ty) → IsHead (erased c) (head.Builtin op.Or) (types_of ts) t → AreTyped c c c ts → (fs : List Term) →
+      parts_at Left place (head.Builtin op.Or) (terms_in ts) ≡ given fs → at_node (head.Builtin op.Or) (terms_in ts) t fs
+  of_left (more_of-Term a (more_of-Term b end_of-Term)) t k w fs e =
+      subst (at_node (head.Builtin op.Or) (a ∷ b ∷ []) t) (same_given (a ∷ []) fs e) (record {
+        typed = (record { typed = w.0; truth = k.0 }, tt);
+        implied = λ g j s h. subst (λ t. IsTrueUnder g j (node (head.Builtin op.Or) (a ∷ b ∷ []) t) s) (sym k.1.1.0)
+            (true_or g j a b s ∙ left_true (den g j a s) (den g j b s) h.0);
+      })
+  of_left end_of-Term t k w fs e = refused_at Shape place fs e
+  of_left (more_of-Term a end_of-Term) t k w fs e = refused_at Shape place fs e
+  of_left (more_of-Term a (more_of-Term b (more_of-Term d ts))) t k w fs e = refused_at Shape place fs e
+
+  of_right : {n : Count} (ts : Row_of-Term n) (t : Ty) → IsHead (erased c) (head.Builtin op.Or) (types_of ts) t → AreTyped c c c ts → (fs : List Term) →
+      parts_at Right place (head.Builtin op.Or) (terms_in ts) ≡ given fs → at_node (head.Builtin op.Or) (terms_in ts) t fs
+  of_right (more_of-Term a (more_of-Term b end_of-Term)) t k w fs e =
+      subst (at_node (head.Builtin op.Or) (a ∷ b ∷ []) t) (same_given (b ∷ []) fs e) (record {
+        typed = (record { typed = w.1; truth = k.1.0 }, tt);
+        implied = λ g j s h. subst (λ t. IsTrueUnder g j (node (head.Builtin op.Or) (a ∷ b ∷ []) t) s) (sym k.1.1.0)
+            (true_or g j a b s ∙ right_true (den g j a s) (den g j b s) h.0);
+      })
+  of_right end_of-Term t k w fs e = refused_at Shape place fs e
+  of_right (more_of-Term a end_of-Term) t k w fs e = refused_at Shape place fs e
+  of_right (more_of-Term a (more_of-Term b (more_of-Term d ts))) t k w fs e = refused_at Shape place fs e
+
+-- a conclusion that has parts is a form
+pub record IsTaken (c : Context) (f : Term) (fs : List Term) : Type 0 where
+  pub form : IsForm c f
+  pub from : ComesFrom c f fs
+
+module _ (c : Context) (place : Place) where
+  by_layer : (r : AmbientRule) (h : Head) (n : _) (ts : _) (t : Ty) (fs : List Term) → parts_of r place (Term' tt (more_of-Head h end_of-Head) n ts t) ≡ given fs → parts_at r place h (terms_in ts) ≡ given fs
+  by_layer r h n ts t fs e = subst (λ x. parts_at r place x.head x.args ≡ given fs) (out_is h n ts t) e
+
+  taken : (h : Head) (n : _) (ts : _) (t : Ty) (fs : List Term) → IsForm c (Term' tt (more_of-Head h end_of-Head) n ts t) → ComesFrom c (node h (terms_in ts) t) fs →
+      IsTaken c (Term' tt (more_of-Head h end_of-Head) n ts t) fs
+  taken h n ts t fs w k = record {
+    form = w;
+    from = subst (λ f. ComesFrom c f fs) (sym (each_is_node (Term' tt (more_of-Head h end_of-Head) n ts t) ∙ ap (λ x. node x.head x.args x.ty) (out_is h n ts t))) k;
+  }
+
+  pub parts_taken : (r : AmbientRule) (f : Term) → IsConclusion c f → (fs : List Term) → parts_of r place f ≡ given fs → IsTaken c f fs
+  parts_taken Split (Term' tt (more_of-Head (head.Builtin op.And) end_of-Head) n ts t) w fs e =
+      taken (head.Builtin op.And) n ts t fs w (of_and c Split place ts t w.typed.0 w.typed.3 fs (by_layer Split (head.Builtin op.And) n ts t fs e))
+  parts_taken Split (Term' tt (more_of-Head (head.Builtin op.Iff) end_of-Head) n ts t) w fs e =
+      taken (head.Builtin op.Iff) n ts t fs w (of_iff c Split place ts t w.typed.0 w.typed.3 fs (by_layer Split (head.Builtin op.Iff) n ts t fs e))
+  parts_taken Left (Term' tt (more_of-Head (head.Builtin op.Or) end_of-Head) n ts t) w fs e =
+      taken (head.Builtin op.Or) n ts t fs w (of_left c Left place ts t w.typed.0 w.typed.3 fs (by_layer Left (head.Builtin op.Or) n ts t fs e))
+  parts_taken Right (Term' tt (more_of-Head (head.Builtin op.Or) end_of-Head) n ts t) w fs e =
+      taken (head.Builtin op.Or) n ts t fs w (of_right c Right place ts t w.typed.0 w.typed.3 fs (by_layer Right (head.Builtin op.Or) n ts t fs e))
+  parts_taken r (Term' tt (more_of-Head h end_of-Head) n ts t) w fs e = refused_at Shape place fs (by_layer r h n ts t fs e)

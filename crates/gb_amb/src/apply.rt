@@ -1,0 +1,90 @@
+// The step on conclusions that a rule names.
+
+ghost use Rattle.std.specs.Prelude.{◌≡◌, [], ◌∷◌, IfOk};
+ghost use Rattle.gb_goal.specs.Answers.Answer.{given, refused};
+ghost use Rattle.gb_core.specs.declared.refusal.Why.TheVariants.{Shape};
+ghost use Rattle.gb_goal.specs.Answers.{Answers};
+ghost use Rattle.gb_rules.specs.Forms.{implies_form, not_form};
+ghost use Rattle.gb_amb.specs.Parts.{concluding};
+ghost use Rattle.gb_amb.specs.Steps.{assuming, by_cases, Decides, IsAnswer, Returns, IsAmong};
+
+use crate::assumed::is_among;
+use crate::goals;
+use crate::goals::{no_shape, two};
+use crate::parts::by_parts;
+use gb_core::name::Name;
+use gb_core::place::Place;
+use gb_core::refusal::Refused;
+use gb_goal::goal::judges_bodies;
+use gb_goal::sequent::{Sequent, Sequents};
+use gb_goal::step::AmbientRule;
+use gb_terms::make::{implication, negation};
+use gb_terms::term::Form;
+use sqlite_items::Items;
+use std::alloc::{AllocError, Global};
+
+/// A conclusion under a premise.
+fn under(alloc: Global, premise: Form, goal: &Sequent) -> Result<Form, AllocError>
+    ensures { IfOk result (λ made. made ≡ implies_form premise goal.now.conclusion) }
+{
+    let conclusion = goal.conclusion.share()?;
+    implication(alloc, premise, conclusion)
+}
+
+/// The conclusion where a form is true, and where it isn't.
+fn cases(alloc: Global, form: &Form, goal: &Sequent) -> Result<Sequents, AllocError>
+    ensures { IfOk result (λ goals. goals ≡ concluding goal.now (implies_form form.now goal.now.conclusion)
+        ∷ concluding goal.now (implies_form (not_form form.now) goal.now.conclusion) ∷ []) }
+{
+    let first = under(alloc, form.share()?, goal)?;
+    let other = negation(alloc, form.share()?)?;
+    let second = under(alloc, other, goal)?;
+    two(alloc, goal, first, second)
+}
+
+fn by_cases(alloc: Global, form: &Form, place: Place, goal: &Sequent) -> Result<Sequents, Refused>
+    ensures { Answers (by_cases form.now place goal.now) result }
+{
+    if judges_bodies(&goal.conclusion) {
+        return Err(no_shape(place));
+    }
+    Ok(cases(alloc, form, goal)?)
+}
+
+/// A form to be shown, and the goal in which it is a hypothesis.
+fn have(alloc: Global, name: &Name, form: &Form, goal: &Sequent) -> Result<Sequents, AllocError>
+    ensures { IfOk result (λ goals. goals ≡ concluding goal.now form.now ∷ assuming goal.now name.now form.now ∷ []) }
+{
+    let shown = form.share()?;
+    let mut goals = goals::one(alloc, goal, shown)?;
+    goals.push(goals::assuming(alloc, goal, name, form)?)?;
+    Ok(goals)
+}
+
+/// No goals, where the conclusion is a hypothesis.
+fn assumption(alloc: Global, place: Place, goal: &Sequent) -> Result<Sequents, Refused>
+    ensures { Returns (Decides (IsAmong goal.now.hyps goal.now.conclusion) (given []) (refused Shape place)) result }
+{
+    if is_among(goal.hyps.as_slice(), &goal.conclusion) {
+        return Ok(Items::new(alloc));
+    }
+    Err(no_shape(place))
+}
+
+/// The goals that a step on the conclusion gives, in order. Refused at the place of the step, with `Shape`, where the goal hasn't
+/// the form that the step needs.
+pub fn apply(
+    alloc: Global,
+    rule: &AmbientRule,
+    place: Place,
+    goal: &Sequent,
+) -> Result<Sequents, Refused>
+    ensures { Returns (IsAnswer rule.now place goal.now) result }
+{
+    match rule {
+        AmbientRule::Assumption => assumption(alloc, place, goal),
+        AmbientRule::Case(form) => by_cases(alloc, form, place, goal),
+        AmbientRule::Have(name, form) => Ok(have(alloc, name, form, goal)?),
+        _ => by_parts(alloc, rule, place, goal),
+    }
+}

@@ -1,0 +1,8 @@
+//! Rules on conclusions of every kind and the hypotheses around them.
+#![tactic(auto)]
+
+pub mod apply;
+pub mod assumed;
+pub mod goals;
+pub mod laws;
+pub mod parts;

@@ -1,0 +1,106 @@
+-- The forms that steps on conclusions bring to goals are typed.
+use Rattle.std.proofs.Common.{◌≡◌, Bool, true, false, if◌then◌else◌, ℕ, List, [], ◌∷◌, Some, refl, ap, sym, ◌∙◌, subst}
+use Rattle.std.proofs.lemmas.Bool.{false≢true}
+use Rattle.std.specs.Prelude.{codes, bytes_eq}
+use Rattle.gb_core.specs.declared.place.Place.{Place}
+use Rattle.gb_core.specs.declared.refusal.Why.TheVariants.{Syntax}
+use Rattle.gb_core.specs.declared.ty.Ty.TheVariants as ty
+use Rattle.gb_terms.specs.declared.term.Term.{Term}
+use Rattle.gb_goal.specs.Scope as scope
+use Rattle.gb_goal.specs.declared.sequent.Sequent.{Sequent}
+use Rattle.gb_goal.specs.declared.step.AmbientRule.{AmbientRule}
+use Rattle.gb_goal.specs.declared.step.AmbientRule.TheVariants as conclusion
+use Rattle.gb_goal.specs.declared.step.Rule.{Rule}
+use Rattle.gb_goal.specs.declared.step.Rule.TheVariants as rule
+use Rattle.gb_goal.specs.declared.step.BodyRule.TheVariants as on_bodies
+use Rattle.gb_goal.specs.declared.step.RelationalRule.TheVariants as relational
+use Rattle.gb_goal.specs.declared.step.Step.{Step}
+use Rattle.gb_goal.specs.Answers.{Answer, not_built}
+use Rattle.gb_goal.specs.Answers.Answer.{given}
+use Rattle.gb_script.specs.declared.head.Head.{Head as Kind}
+use Rattle.gb_script.specs.declared.head.Head.TheVariants as text
+use Rattle.gb_script.specs.declared.tree.Node.{Node}
+use Rattle.gb_script.specs.Tree.{head_of, text_of, parts_of, place_of}
+use Rattle.gb_holds.specs.Declared.{declared}
+use Rattle.gb_typing.specs.Context.{Context}
+use Rattle.gb_typing.specs.Typing.{IsForm}
+use Rattle.gb_typing.specs.Sequents.{of_sequent, IsTypedSequent}
+use Rattle.gb_typing.specs.Scopes.{context_of, IsTypedScope}
+use Rattle.gb_elab.specs.Environment.{ambient}
+use Rattle.gb_elab.specs.Forms.{elaborated}
+use Rattle.gb_elab_mod.specs.Steps.{couplings, functions_of, plain_rule, new_name, formed, of_conclusion, typed_rule, step_given}
+use Rattle.gb_elab_mod.specs.Unbuilt.{absent}
+use Rattle.gb_elab_laws.proofs.Given.{given_bind, given_is, if_given}
+use Rattle.gb_elab_laws.proofs.Fits.{goal_fits}
+use Rattle.gb_elab_laws.proofs.Forms.{elaborated_typed}
+use Rattle.gb_amb.specs.Steps.{IsTypedStep}
+
+module _ (ds : scope.Declarations) (scoped : IsTypedScope (declared ds)) (q : Sequent) (t : IsTypedSequent (context_of (declared ds)) q) where
+  abbrev here : Context
+  here = of_sequent (context_of (declared ds)) q t.frames
+
+  form_typed : (f : Node) (u : Term) → formed ds q f ≡ given u → IsForm here u
+  form_typed f u h =
+      let g = elaborated_typed f here (ambient ds q) [] (goal_fits ds scoped q t) (Some ty.Bool) u h in
+      record { typed = g.typed; truth = g.wanted }
+
+  abbrev HasForms : Rule → Type 0
+  HasForms k = (r : AmbientRule) → k ≡ rule.Ambient r → IsTypedStep here r
+
+  abbrev ambient_of : AmbientRule → Rule → AmbientRule
+  ambient_of d (rule.Ambient r) = r
+  ambient_of d _ = d
+
+  -- a step that brings this
+  brings : (a : AmbientRule) → IsTypedStep here a → (k : Rule) → rule.Ambient a ≡ k → HasForms k
+  brings a w k e = λ r f. subst (IsTypedStep here) (ap (ambient_of a) (e ∙ f)) w
+
+  abbrev is_ambient : Rule → Bool
+  is_ambient (rule.Ambient r) = true
+  is_ambient _ = false
+
+  other : (j k : Rule) → is_ambient j ≡ false → j ≡ k → HasForms k
+  other j k n e = λ r f. absurd (false≢true (sym n ∙ ap is_ambient (e ∙ f)))
+
+  plain_typed : (x : List ℕ) (p : Place) (a : AmbientRule) → plain_rule x p ≡ given a → IsTypedStep here a
+  plain_typed x p a h = by_name (bytes_eq x (codes "split")) (bytes_eq x (codes "left")) (bytes_eq x (codes "right")) (bytes_eq x (codes "assumption")) h
+    where
+      by_name : (b c d e : Bool) → (if b then given conclusion.Split else if c then given conclusion.Left else if d then given conclusion.Right else if e then given conclusion.Assumption else not_built p) ≡ given a → IsTypedStep here a
+      by_name true c d e h = subst (IsTypedStep here) (given_is conclusion.Split a h) tt
+      by_name false true d e h = subst (IsTypedStep here) (given_is conclusion.Left a h) tt
+      by_name false false true e h = subst (IsTypedStep here) (given_is conclusion.Right a h) tt
+      by_name false false false true h = subst (IsTypedStep here) (given_is conclusion.Assumption a h) tt
+      by_name false false false false h = cc
+
+  rule_forms : (n : Kind) (x : List ℕ) (xs : List Node) (p : Place) (k : Rule) → typed_rule ds q n x xs p ≡ given k → HasForms k
+  rule_forms text.PlainStep x [] p k h =
+      let o = given_bind (plain_rule x p) (λ (a : AmbientRule). given (rule.Ambient a)) k h in brings o.0 (plain_typed x p o.0 o.1) k (given_is (rule.Ambient o.0) k o.2)
+  rule_forms text.CaseStep x (b ∷ f ∷ []) p k h =
+      let o = given_bind (absent (parts_of b) p) _ k h in
+      let y = given_bind (of_conclusion q p) _ k o.2 in
+      let z = given_bind (formed ds q f) (λ (t : Term). given (rule.Ambient (conclusion.Case t))) k y.2 in
+      brings (conclusion.Case z.0) (form_typed f z.0 z.1) k (given_is (rule.Ambient (conclusion.Case z.0)) k z.2)
+  rule_forms text.HaveForm x (n ∷ f ∷ []) p k h =
+      let o = given_bind (new_name q (text_of n) (place_of n)) _ k h in
+      let z = given_bind (formed ds q f) (λ (t : Term). given (rule.Ambient (conclusion.Have (text_of n) t))) k o.2 in
+      brings (conclusion.Have (text_of n) z.0) (form_typed f z.0 z.1) k (given_is (rule.Ambient (conclusion.Have (text_of n) z.0)) k z.2)
+  rule_forms text.Rnd x (b ∷ fs) p k h =
+      let o = given_bind (absent (parts_of b) p) _ k h in
+      let y = given_bind (couplings ds q (functions_of fs)) (λ (us : List Term). given (rule.Relational (relational.Rnd us))) k o.2 in
+      other (rule.Relational (relational.Rnd y.0)) k refl (given_is (rule.Relational (relational.Rnd y.0)) k y.2)
+  rule_forms text.Proc x (b ∷ i ∷ []) p k h =
+      let o = given_bind (absent (parts_of b) p) _ k h in
+      let y = given_bind (absent (parts_of i) p) (λ _. given (rule.OnBodies on_bodies.Proc)) k o.2 in
+      other (rule.OnBodies on_bodies.Proc) k refl (given_is (rule.OnBodies on_bodies.Proc) k y.2)
+  rule_forms text.BodyStep x (b ∷ []) p k h =
+      let o = given_bind (absent (parts_of b) p) (λ _. if bytes_eq x (codes "skip") then given (rule.OnBodies on_bodies.Skip) else not_built p) k h in
+      other (rule.OnBodies on_bodies.Skip) k refl (if_given (bytes_eq x (codes "skip")) (rule.OnBodies on_bodies.Skip) Syntax p k o.2).1
+  rule_forms text.Smt x hints p k h = let o = given_bind (absent hints p) (λ _. given rule.Smt) k h in other rule.Smt k refl (given_is rule.Smt k o.2)
+  rule_forms _ x _ p k h = cc
+
+pub step_forms : (ds : scope.Declarations) → IsTypedScope (declared ds) → (q : Sequent) (t : IsTypedSequent (context_of (declared ds)) q) →
+    (n : Node) (s : Step) → step_given ds q n ≡ given s → (r : AmbientRule) → s.rule ≡ rule.Ambient r → IsTypedStep (of_sequent (context_of (declared ds)) q t.frames) r
+unfolding step_given
+step_forms ds scoped q t n s h r e =
+    let x = given_bind (typed_rule ds q (head_of n) (text_of n) (parts_of n) (place_of n)) (λ (k : Rule). given (record { rule = k; place = place_of n })) s h in
+    rule_forms ds scoped q t (head_of n) (text_of n) (parts_of n) (place_of n) x.0 x.1 r (ap (λ (z : Step). z.rule) (given_is (record { rule = x.0; place = place_of n }) s x.2) ∙ e)

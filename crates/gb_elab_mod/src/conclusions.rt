@@ -1,0 +1,122 @@
+// The typing of steps on conclusions.
+
+ghost use Rattle.std.specs.Prelude.{◌≡◌, Some, bytes_eq};
+ghost use Rattle.std.specs.List.{list_any};
+ghost use Rattle.gb_goal.specs.Answers.{Answers, ◌>>=◌ as ◌and_then◌};
+ghost use Rattle.gb_goal.specs.Answers.Answer.{given};
+ghost use Rattle.gb_script.specs.Tree.{text_of, place_of};
+ghost use Rattle.gb_elab_mod.specs.Steps.{formed, is_taken, new_name, of_conclusion, plain_rule};
+
+use gb_core::name::Name;
+use gb_core::place::Place;
+use gb_core::refusal::Refused;
+use gb_core::same::same_name;
+use gb_core::ty::Ty;
+use gb_elab::form::term;
+use gb_elab::refusals::{double, not_built};
+use gb_goal::goal::judges_bodies;
+use gb_goal::scope::Scope;
+use gb_goal::sequent::{Hyp, Sequent};
+use gb_goal::step::{AmbientRule, Rule};
+use gb_script::tree::Node;
+use gb_terms::decl::TypedName;
+use gb_terms::module::Bind;
+use gb_terms::term::Form;
+use std::alloc::Global;
+
+/// The steps on a conclusion that stand alone.
+pub fn plain_rule(text: &Name, place: Place) -> Result<AmbientRule, Refused>
+    ensures { Answers (plain_rule text.now place) result }
+{
+    match text.as_str() {
+        "split" => Ok(AmbientRule::Split),
+        "left" => Ok(AmbientRule::Left),
+        "right" => Ok(AmbientRule::Right),
+        "assumption" => Ok(AmbientRule::Assumption),
+        _ => Err(not_built(place)),
+    }
+}
+
+fn is_variable(list: &[TypedName], name: &Name) -> bool
+    ensures { result ≡ list_any (λ x. bytes_eq name.now x.name) list.now }
+{
+    list.iter().any(|x| same_name(name, &x.name))
+}
+
+fn is_memory(list: &[Name], name: &Name) -> bool
+    ensures { result ≡ list_any (λ m. bytes_eq name.now m) list.now }
+{
+    list.iter().any(|m| same_name(name, m))
+}
+
+fn is_module(list: &[Bind], name: &Name) -> bool
+    ensures { result ≡ list_any (λ b. bytes_eq name.now b.name) list.now }
+{
+    list.iter().any(|b| same_name(name, &b.name))
+}
+
+fn is_hypothesis(list: &[Hyp], name: &Name) -> bool
+    ensures { result ≡ list_any (λ h. bytes_eq name.now h.name) list.now }
+{
+    list.iter().any(|h| same_name(name, &h.name))
+}
+
+/// Whether the name is that of a variable, a memory, a module or a hypothesis of the goal.
+fn is_taken(goal: &Sequent, name: &Name) -> bool
+    ensures { result ≡ is_taken goal.now name.now }
+{
+    is_variable(goal.logical.as_slice(), name)
+        || (is_memory(goal.memories.as_slice(), name)
+            || (is_module(goal.modules.as_slice(), name)
+                || is_hypothesis(goal.hyps.as_slice(), name)))
+}
+
+/// Refuses a name that the context of a goal has already.
+fn check_new(alloc: Global, goal: &Sequent, name: &Name, place: Place) -> Result<(), Refused>
+    ensures { Answers (new_name goal.now name.now place) result }
+{
+    if !is_taken(goal, name) {
+        return Ok(());
+    }
+    Err(double(alloc, name, place))
+}
+
+/// A form that a step brings to a goal.
+fn formed(alloc: Global, scope: &Scope, goal: &Sequent, tree: &Node) -> Result<Form, Refused>
+    ensures { Answers (formed scope.now goal.now tree.now) result }
+{
+    term(alloc, scope, goal, tree, Some(&Ty::Bool))
+}
+
+/// The rule that shows a conclusion by cases on a form.
+pub fn case_rule(
+    alloc: Global,
+    scope: &Scope,
+    goal: &Sequent,
+    form: &Node,
+    place: Place,
+) -> Result<Rule, Refused>
+    ensures { Answers (of_conclusion goal.now place and_then (λ _. formed scope.now goal.now form.now and_then (λ t. given (Rule.Ambient (AmbientRule.Case t))))) result }
+{
+    if judges_bodies(&goal.conclusion) {
+        return Err(not_built(place));
+    }
+    let form = formed(alloc, scope, goal, form)?;
+    Ok(Rule::Ambient(AmbientRule::Case(form)))
+}
+
+/// The rule that shows a form first.
+pub fn have_rule(
+    alloc: Global,
+    scope: &Scope,
+    goal: &Sequent,
+    name: &Node,
+    form: &Node,
+) -> Result<Rule, Refused>
+    ensures { Answers (new_name goal.now (text_of name.now) (place_of name.now) and_then (λ _. formed scope.now goal.now form.now and_then (λ t. given (Rule.Ambient (AmbientRule.Have (text_of name.now) t))))) result }
+{
+    check_new(alloc, goal, &name.text, name.place)?;
+    let form = formed(alloc, scope, goal, form)?;
+    let name = name.text.copy(alloc)?;
+    Ok(Rule::Ambient(AmbientRule::Have(name, form)))
+}
