@@ -29,7 +29,7 @@ use Rattle.gb_typing.specs.Context.{Context}
 use Rattle.gb_typing.specs.Sequents.{IsConclusion, of_sequent, IsTypedSequent}
 use Rattle.gb_typing.specs.Scopes.{context_of, is_declared, IsTypedScope}
 use Rattle.gb_rules.specs.Typing.{IsGoalOver, IsTypedGoal}
-use Rattle.gb_rules.specs.Rules.{outermost, IsSoundAt, IsSoundIn, IsSoundRule, IsSoundRuleIn, no_arguments}
+use Rattle.gb_rules.specs.Rules.{outermost, IsSoundAt, IsSoundIn, IsSoundRule, IsSoundRuleIn}
 use Rattle.gb_bodies.specs.Rows as bodies
 use Rattle.gb_equiv.specs.Rows as equiv
 use Rattle.gb_equiv.specs.Rows.{IsTypedRule}
@@ -58,6 +58,8 @@ pub record OfTyping : Type 0 where
   pub free : (ds : scope.Declarations) (t : Node) (q : Sequent) → statement_given ds t ≡ given q → is_declared (declared ds) (lemma_name t) ≡ false
   pub lemma_added : (ds : scope.Declarations) → IsTyped ds → (n : Name) → is_declared (declared ds) n ≡ false → (q : Sequent) → IsTypedGoalOf ds q →
       IsTyped (ds ++ (n, entry.Lemma q) ∷ [])
+  pub body_rule : (ds : scope.Declarations) → IsTyped ds → (q : Sequent) (t : IsTypedGoalOf ds q) (n : Node) (s : Step) → step_given ds q n ≡ given s →
+      (ls rs : List TypedName) → IsGoalOver (around ds q t) ls rs (goal_of q.conclusion) → bodies.IsTypedRule (around ds q t) s.rule ls rs (goal_of q.conclusion)
   pub conclusion : (ds : scope.Declarations) → IsTyped ds → (q : Sequent) (t : IsTypedGoalOf ds q) (n : Node) (s : Step) → step_given ds q n ≡ given s →
       (r : AmbientRule) → s.rule ≡ Ambient r → IsTypedStep (around ds q t) r
   pub rule : (ds : scope.Declarations) (q : Sequent) (t : IsTypedGoalOf ds q) (n : Node) (s : Step) → step_given ds q n ≡ given s →
@@ -74,7 +76,7 @@ pub record OfRules : Type 0 where
       (row : Row) → IsSoundIn ds (of_sequent (context_of ds) q t.frames) row (goal_of q.conclusion) →
       (qs : List Sequent) → answered row q ≡ given qs → AllByRecursion (IsTypedSequent (context_of ds)) qs × (AllByRecursion (Holds ds) qs → Holds ds q)
   pub on_bodies : (ds : scope.Declarations) → IsTyped ds → (q : Sequent) (t : IsTypedGoalOf ds q) (r : Rule) →
-      IsSoundRuleIn (declared ds) (around ds q t) (bodies.rule_row ds r) no_arguments
+      IsSoundRuleIn (declared ds) (around ds q t) (bodies.rule_row ds r) (bodies.IsTypedRule (around ds q t) r)
   pub bodies_refuse : (ds : scope.Declarations) (r : Rule) (f : Term) → bodies.rule_row ds r (ambient f) ≡ refusing Shape
   pub equiv_refuses : (r : Rule) (f : Term) → equiv.rule_row r (ambient f) ≡ refusing Shape
   pub relational : (c : Context) (r : Rule) → IsSoundRule c (equiv.rule_row r) (IsTypedRule c r)

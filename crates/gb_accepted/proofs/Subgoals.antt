@@ -23,6 +23,7 @@ use Rattle.gb_typing.specs.Sequents.{IsTypedSequent}
 use Rattle.gb_typing.specs.Scopes.{context_of}
 use Rattle.gb_rules.specs.Typing.{IsGoalOver}
 use Rattle.gb_rules.specs.Rules.{IsSoundIn}
+use Rattle.gb_bodies.specs.Rows as bodies
 use Rattle.gb_equiv.specs.Rows.{IsTypedRule}
 use Rattle.gb_amb.specs.Steps.{IsTypedStep}
 use Rattle.gb_smt.specs.Leaves.{leaves_of}
@@ -39,7 +40,9 @@ pub record LeadTo (ds : Declarations) (q : Sequent) (qs : List Sequent) : Type 0
 
 -- a rule whose arguments are typed at a goal
 abbrev pub IsTypedAt : (ds : Declarations) (q : Sequent) → IsTypedGoalOf ds q → Rule → Type 0
-IsTypedAt ds q t r = (ls rs : List TypedName) → IsGoalOver (around ds q t) ls rs (goal_of q.conclusion) → IsTypedRule (around ds q t) r ls rs (goal_of q.conclusion)
+IsTypedAt ds q t r =
+    (ls rs : List TypedName) → IsGoalOver (around ds q t) ls rs (goal_of q.conclusion) →
+    bodies.IsTypedRule (around ds q t) r ls rs (goal_of q.conclusion) × IsTypedRule (around ds q t) r ls rs (goal_of q.conclusion)
 
 -- a rule on a conclusion that brings typed forms to a goal
 abbrev pub HasTypedForms : (ds : Declarations) (q : Sequent) → IsTypedGoalOf ds q → Rule → Type 0
@@ -83,10 +86,10 @@ module _ (g : Grounds) (ds : Declarations) (scope : IsTyped ds) (q : Sequent) (t
   applied_lead rule.Smt place qs typed forms a = of_smt place qs a.0 a.1 a.2
   applied_lead (rule.OnBodies r) place qs typed forms a =
       by_law (rule.OnBodies r) place qs
-      (λ ls rs w. g.rules.on_bodies ds scope q t (rule.OnBodies r) (g.rules.outer (declared ds) q t.frames) ls rs (goal_of q.conclusion) w tt) (sym a)
+      (λ ls rs w. g.rules.on_bodies ds scope q t (rule.OnBodies r) (g.rules.outer (declared ds) q t.frames) ls rs (goal_of q.conclusion) w (typed ls rs w).0) (sym a)
   applied_lead (rule.Relational r) place qs typed forms a =
       by_law (rule.Relational r) place qs
       (λ ls rs w. g.rules.everywhere (declared ds) (around ds q t) (row_of ds (rule.Relational r)) (goal_of q.conclusion)
-      (g.rules.relational (around ds q t) (rule.Relational r) (g.rules.outer (declared ds) q t.frames) ls rs (goal_of q.conclusion) w (typed ls rs w))) (sym a)
+      (g.rules.relational (around ds q t) (rule.Relational r) (g.rules.outer (declared ds) q t.frames) ls rs (goal_of q.conclusion) w (typed ls rs w).1)) (sym a)
   applied_lead (rule.Ambient r) place qs typed forms a =
       let k = g.rules.on_conclusions (declared ds) scope q t r (forms r refl) place qs a in record { typed = k.typed; leads = k.leads }

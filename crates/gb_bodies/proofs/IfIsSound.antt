@@ -44,8 +44,9 @@ use Rattle.gb_goal.specs.Goal.Code.{body, procedure}
 use Rattle.gb_goal.specs.Goal.Goal.{hoare, phoare, equiv, ambient}
 use Rattle.gb_rules.specs.Forms.{and_form, equal_form, implies_form, not_form, located, every_pair}
 use Rattle.gb_rules.specs.Meaning.{run, denominator, Stands}
-use Rattle.gb_rules.specs.Rules.{IsSoundRule, no_arguments, Acts, outermost}
-use Rattle.gb_rules.specs.Rules.Acts.{on_all, on_left, on_right}
+use Rattle.gb_rules.specs.Rules.{IsSoundRule, no_arguments, outermost}
+use Rattle.gb_goal.specs.declared.step.Acts.{Acts}
+use Rattle.gb_goal.specs.declared.step.Acts.TheVariants as on
 use Rattle.gb_goal.specs.Answers.Answer.{given}
 use Rattle.gb_rules.specs.Typing.{IsTypedGoal}
 use Rattle.gb_rules.proofs.Ambient.{pair_typed, pair_meaning}
@@ -248,41 +249,41 @@ module _ (c : Context) (outer : c ≡ outermost c) (ls rs : List TypedName) (p q
 
 module _ (c : Context) where
   pub sound : (a : Acts) → IsSoundRule c (if_row a) no_arguments
-  sound on_all outer ls rs (hoare (body is) p q) w y Gs e =
+  sound on.All outer ls rs (hoare (body is) p q) w y Gs e =
       of_one_sound c ls (Some ls) c.left c.right side.Own tt refl (λ is p. hoare (body is) p q) (λ is v p u. (ls, ls, (v, u, w.2)))
       (λ s m n. at s m) (λ s m n o. refl) (λ g j s m n l d. Every (λ n. IsTrueUnder g j q (at s n)) l)
       (λ g j s m n k z l d h. Every-scale (λ n. IsTrueUnder g j q (at s n)) k l h) (λ g j s is p h m n x. h m x) (λ g j s is p f m x. f m m x)
       p w.1 is w.0 (first_branch is) refl Gs e
-  sound on_all outer ls rs (phoare (body is) r p q b) w y Gs e =
+  sound on.All outer ls rs (phoare (body is) r p q b) w y Gs e =
       of_one_sound c ls (Some ls) c.left c.right side.Own tt refl (λ is p. phoare (body is) r p q b) (λ is v p u. (ls, ls, (v, u, w.2, w.3, w.4)))
       (λ s m n. at s m) (λ s m n o. refl) (λ g j s m n l d. compares r (chance l d (λ n. den g j q (at s n))) (fraction_in (val g (speaking g j) b s)) ≡ true)
       (λ g j s m n k z l d h. chance_scaled k z l d (λ n. den g j q (at s n)) r (fraction_in (val g (speaking g j) b s)) ∙ h)
       (λ g j s is p h m n x. h m x) (λ g j s is p f m x. f m m x)
       p w.1 is w.0 (first_branch is) refl Gs e
-  sound on_left outer ls rs (equiv (body is) (body js) p q) w y Gs e =
+  sound on.Left outer ls rs (equiv (body is) (body js) p q) w y Gs e =
       of_one_sound c ls c.own (Some ls) (Some rs) side.Left tt refl (λ is p. equiv (body is) (body js) p q) (λ is v p u. (ls, rs, (tt, v, w.2, u, w.4)))
       (λ s m n. between s m n) (λ s m n o. refl) (λ g j s m n l d. Coupling (λ a b. IsTrueUnder g j q (between s a b)) l d (run g s js n) (denominator g js))
       (λ g j s m n k z l d h. scaled_left (λ a b. IsTrueUnder g j q (between s a b)) k l d (run g s js n) (denominator g js) h) (λ g j s is p h m n x. h m n x) (λ g j s is p f m n x. f m n x)
       p w.3 is w.1 (first_branch is) refl Gs e
-  sound on_right outer ls rs (equiv (body is) (body js) p q) w y Gs e =
+  sound on.Right outer ls rs (equiv (body is) (body js) p q) w y Gs e =
       of_one_sound c rs c.own (Some ls) (Some rs) side.Right tt refl (λ js p. equiv (body is) (body js) p q) (λ js v p u. (ls, rs, (tt, w.1, v, u, w.4)))
       (λ s m n. between s m n) (λ s m n o. refl) (λ g j s m n l d. Coupling (λ a b. IsTrueUnder g j q (between s a b)) (run g s is m) (denominator g is) l d)
       (λ g j s m n k z l d h. scaled_right (λ a b. IsTrueUnder g j q (between s a b)) k (run g s is m) (denominator g is) l d h) (λ g j s js p h m n x. h m n x) (λ g j s js p f m n x. f m n x)
       p w.3 js w.2 (first_branch js) refl Gs e
-  sound on_all outer ls rs (equiv (body is) (body js) p q) w y Gs e =
+  sound on.All outer ls rs (equiv (body is) (body js) p q) w y Gs e =
       of_both_sound c outer ls rs p q w.3 w.4 is js w.1 w.2 (first_branch is) (first_branch js) refl refl Gs e
-  sound on_all outer ls rs (hoare (procedure a) p q) w y Gs e = refused_given Shape Gs e
-  sound on_left outer ls rs (hoare a p q) w y Gs e = refused_given Shape Gs e
-  sound on_right outer ls rs (hoare a p q) w y Gs e = refused_given Shape Gs e
-  sound on_all outer ls rs (phoare (procedure a) r p q b) w y Gs e = refused_given Shape Gs e
-  sound on_left outer ls rs (phoare a r p q b) w y Gs e = refused_given Shape Gs e
-  sound on_right outer ls rs (phoare a r p q b) w y Gs e = refused_given Shape Gs e
-  sound on_all outer ls rs (equiv (procedure a) b p q) w y Gs e = refused_given Shape Gs e
-  sound on_left outer ls rs (equiv (procedure a) b p q) w y Gs e = refused_given Shape Gs e
-  sound on_right outer ls rs (equiv (procedure a) b p q) w y Gs e = refused_given Shape Gs e
-  sound on_all outer ls rs (equiv (body is) (procedure b) p q) w y Gs e = refused_given Shape Gs e
-  sound on_left outer ls rs (equiv (body is) (procedure b) p q) w y Gs e = refused_given Shape Gs e
-  sound on_right outer ls rs (equiv (body is) (procedure b) p q) w y Gs e = refused_given Shape Gs e
-  sound on_all outer ls rs (ambient f) w y Gs e = refused_given Shape Gs e
-  sound on_left outer ls rs (ambient f) w y Gs e = refused_given Shape Gs e
-  sound on_right outer ls rs (ambient f) w y Gs e = refused_given Shape Gs e
+  sound on.All outer ls rs (hoare (procedure a) p q) w y Gs e = refused_given Shape Gs e
+  sound on.Left outer ls rs (hoare a p q) w y Gs e = refused_given Shape Gs e
+  sound on.Right outer ls rs (hoare a p q) w y Gs e = refused_given Shape Gs e
+  sound on.All outer ls rs (phoare (procedure a) r p q b) w y Gs e = refused_given Shape Gs e
+  sound on.Left outer ls rs (phoare a r p q b) w y Gs e = refused_given Shape Gs e
+  sound on.Right outer ls rs (phoare a r p q b) w y Gs e = refused_given Shape Gs e
+  sound on.All outer ls rs (equiv (procedure a) b p q) w y Gs e = refused_given Shape Gs e
+  sound on.Left outer ls rs (equiv (procedure a) b p q) w y Gs e = refused_given Shape Gs e
+  sound on.Right outer ls rs (equiv (procedure a) b p q) w y Gs e = refused_given Shape Gs e
+  sound on.All outer ls rs (equiv (body is) (procedure b) p q) w y Gs e = refused_given Shape Gs e
+  sound on.Left outer ls rs (equiv (body is) (procedure b) p q) w y Gs e = refused_given Shape Gs e
+  sound on.Right outer ls rs (equiv (body is) (procedure b) p q) w y Gs e = refused_given Shape Gs e
+  sound on.All outer ls rs (ambient f) w y Gs e = refused_given Shape Gs e
+  sound on.Left outer ls rs (ambient f) w y Gs e = refused_given Shape Gs e
+  sound on.Right outer ls rs (ambient f) w y Gs e = refused_given Shape Gs e

@@ -2,7 +2,9 @@
 use Rattle.std.proofs.Common.{◌≡◌, refl}
 use Rattle.gb_core.specs.declared.refusal.Why.TheVariants.{Shape}
 use Rattle.gb_terms.specs.declared.term.Term.{Term}
-use Rattle.gb_goal.specs.declared.step.BodyRule.TheVariants.{Proc, Skip}
+use Rattle.gb_goal.specs.declared.step.BodyRule.TheVariants.{Proc, Skip, Seq, If, Wp, Unfit}
+use Rattle.gb_goal.specs.declared.step.Acts.TheVariants as on
+use Rattle.gb_goal.specs.declared.step.Cut.TheVariants.{One, Two}
 use Rattle.gb_goal.specs.declared.step.Rule.{Rule}
 use Rattle.gb_goal.specs.declared.step.Rule.TheVariants.{OnBodies, Relational, Ambient, Smt}
 use Rattle.gb_goal.specs.Scope.{Declarations}
@@ -13,6 +15,15 @@ use Rattle.gb_bodies.specs.Rows.{rule_row}
 pub others_refused : (ds : Declarations) (r : Rule) (f : Term) → rule_row ds r (ambient f) ≡ refusing Shape
 others_refused ds (OnBodies Proc) f = refl
 others_refused ds (OnBodies Skip) f = refl
+others_refused ds (OnBodies (Seq (One k) r)) f = refl
+others_refused ds (OnBodies (Seq (Two k l) r)) f = refl
+others_refused ds (OnBodies (If on.All)) f = refl
+others_refused ds (OnBodies (If on.Left)) f = refl
+others_refused ds (OnBodies (If on.Right)) f = refl
+others_refused ds (OnBodies (Wp on.All)) f = refl
+others_refused ds (OnBodies (Wp on.Left)) f = refl
+others_refused ds (OnBodies (Wp on.Right)) f = refl
+others_refused ds (OnBodies Unfit) f = refl
 others_refused ds (Relational r) f = refl
 others_refused ds Smt f = refl
 others_refused ds (Ambient r) f = refl

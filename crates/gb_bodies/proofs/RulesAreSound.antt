@@ -8,18 +8,38 @@ use Rattle.gb_goal.specs.Scope.{Declarations}
 use Rattle.gb_holds.specs.Declared.{declared}
 use Rattle.gb_typing.specs.Scopes.{context_of, IsTypedScope}
 use Rattle.gb_typing.specs.Sequents.{of_sequent, IsTypedSequent}
-use Rattle.gb_rules.specs.Rules.{IsSoundRuleIn, no_arguments}
+use Rattle.gb_typing.specs.Context.{Context}
+use Rattle.gb_goal.specs.Goal.{Goal}
+use Rattle.gb_goal.specs.Rows.{Row}
+use Rattle.gb_holds.specs.Declared as holds
+use Rattle.gb_rules.specs.Rules.{IsSoundAt, IsSoundIn, IsSoundRuleIn}
 use Rattle.gb_rules.proofs.Given.{refused_given}
-use Rattle.gb_bodies.specs.Rows.{rule_row}
+use Rattle.gb_bodies.specs.If.{if_row}
+use Rattle.gb_bodies.specs.Rows.{rule_row, IsTypedRule}
+use Rattle.gb_bodies.specs.Seq.{seq_row}
+use Rattle.gb_bodies.specs.Skip.{skip_row}
+use Rattle.gb_bodies.specs.Wp.{wp_row}
+use Rattle.gb_bodies.proofs.IfIsSound as of_if
 use Rattle.gb_bodies.proofs.ProcIsSound as of_proc
+use Rattle.gb_bodies.proofs.SeqIsSound as of_seq
 use Rattle.gb_bodies.proofs.SkipIsSound as of_skip
+use Rattle.gb_bodies.proofs.WpIsSound as of_wp
+
+-- a rule that looks at no declarations
+anywhere : (ds : holds.Declarations) (c : Context) (row : Row) (G : Goal) → IsSoundAt c row G → IsSoundIn ds c row G
+anywhere ds c row G h Gs e = let k = h Gs e in (k.0, λ g fits over j fair s fit l. k.1 g fits j fair s fit l)
 
 module _ (ds : Declarations) (scoped : IsTypedScope (declared ds)) (q : Sequent) (t : IsTypedSequent (context_of (declared ds)) q) where
-  pub each_sound : (r : Rule) → IsSoundRuleIn (declared ds) (of_sequent (context_of (declared ds)) q t.frames) (rule_row ds r) no_arguments
+  abbrev c : Context
+  c = of_sequent (context_of (declared ds)) q t.frames
+
+  pub each_sound : (r : Rule) → IsSoundRuleIn (declared ds) c (rule_row ds r) (IsTypedRule c r)
   each_sound (OnBodies on_bodies.Proc) outer ls rs G w y Gs e = of_proc.sound ds scoped q t outer ls rs G w y Gs e
-  each_sound (OnBodies on_bodies.Skip) outer ls rs G w y Gs e =
-      let k = of_skip.sound (of_sequent (context_of (declared ds)) q t.frames) outer ls rs G w y Gs e in
-      (k.0, λ g fits over j fair s fit h. k.1 g fits j fair s fit h)
+  each_sound (OnBodies on_bodies.Skip) outer ls rs G w y Gs e = anywhere (declared ds) c skip_row G (of_skip.sound c outer ls rs G w y) Gs e
+  each_sound (OnBodies (on_bodies.Seq k r)) outer ls rs G w y Gs e = anywhere (declared ds) c (seq_row k r) G (of_seq.sound c r k outer ls rs G w y) Gs e
+  each_sound (OnBodies (on_bodies.If a)) outer ls rs G w y Gs e = anywhere (declared ds) c (if_row a) G (of_if.sound c a outer ls rs G w y) Gs e
+  each_sound (OnBodies (on_bodies.Wp a)) outer ls rs G w y Gs e = anywhere (declared ds) c (wp_row a) G (of_wp.sound c a outer ls rs G w y) Gs e
+  each_sound (OnBodies on_bodies.Unfit) outer ls rs G w y Gs e = refused_given Shape Gs e
   each_sound (Relational r) outer ls rs G w y Gs e = refused_given Shape Gs e
   each_sound Smt outer ls rs G w y Gs e = refused_given Shape Gs e
   each_sound (Ambient r) outer ls rs G w y Gs e = refused_given Shape Gs e

@@ -19,16 +19,10 @@ use Rattle.gb_rules.specs.Meaning.{run, denominator}
 use Rattle.gb_rules.specs.Rules.{Implies, IsSoundRule}
 use Rattle.gb_rules.proofs.Given.{refused_given, sound_given_if}
 use Rattle.gb_rules.proofs.Lists.{first_part, rest_part}
-use Rattle.gb_rules.proofs.Runs.{run_append, denominator_append}
-use Rattle.gb_bodies.specs.Seq.{Cut, seq_row, IsTypedCut}
-use Rattle.gb_bodies.specs.Seq.Cut.{of_one, of_two}
-
-module _ (g : Setting) (s : State) (k : ℕ) (is : List Instr) where
-  run_cut : (m : Memory) → bind (run g s (take k is) m) (λ n. run g s (drop k is) n) ≡ run g s is m
-  run_cut m = sym (run_append g s (take k is) (drop k is) m) ∙ ap (λ is. run g s is m) (take-append-drop k is)
-
-  denominator_cut : denominator g (take k is) * denominator g (drop k is) ≡ denominator g is
-  denominator_cut = sym (denominator_append g (take k is) (drop k is)) ∙ ap (denominator g) (take-append-drop k is)
+use Rattle.gb_rules.proofs.Runs.{run_cut, denominator_cut}
+use Rattle.gb_goal.specs.declared.step.Cut.{Cut}
+use Rattle.gb_goal.specs.declared.step.Cut.TheVariants.{One, Two}
+use Rattle.gb_bodies.specs.Seq.{seq_row, IsTypedCut}
 
 module _ (c : Context) (r : Term) where
   one_implies : (k : ℕ) (is : List Instr) (p q : Term) → Implies c (hoare (body (take k is)) p r ∷ hoare (body (drop k is)) r q ∷ []) (hoare (body is) p q)
@@ -43,21 +37,21 @@ module _ (c : Context) (r : Term) where
       (coupling_sequence (λ a b. IsTrueUnder g j q (between s a b)) (λ a. run g s (drop k is) a) (denominator g (drop k is)) (λ b. run g s (drop l js) b) (denominator g (drop l js))
       (λ a b. IsTrueUnder g j r (between s a b)) (h.0 m n x) (λ a b y. h.1.0 a b y))
 
-  pub sound : (k : Cut) → IsSoundRule c (seq_row k r) (IsTypedCut c r)
-  sound (of_one k) outer ls rs (hoare (body is) p q) w y Gs e =
+  pub sound : (k : Cut) → IsSoundRule c (seq_row k r) (IsTypedCut c k r)
+  sound (One k) outer ls rs (hoare (body is) p q) w y Gs e =
       sound_given_if (nat_le k (length is)) Argument c (hoare (body is) p q) _ Gs
       (((ls, rs, (first_part c ls k is w.0, w.1, y)), ((ls, rs, (rest_part c ls k is w.0, y, w.2)), tt)), one_implies k is p q) e
-  sound (of_two k l) outer ls rs (equiv (body is) (body js) p q) w y Gs e =
+  sound (Two k l) outer ls rs (equiv (body is) (body js) p q) w y Gs e =
       sound_given_if (nat_le k (length is) && nat_le l (length js)) Argument c (equiv (body is) (body js) p q) _ Gs (
         ((ls, rs, (tt, first_part c ls k is w.1, first_part c rs l js w.2, w.3, y)), ((ls, rs, (tt, rest_part c ls k is w.1, rest_part c rs l js w.2, y, w.4)), tt)),
         two_imply k l is js p q,
       ) e
-  sound (of_one k) outer ls rs (hoare (procedure a) p q) w y Gs e = refused_given Shape Gs e
-  sound (of_one k) outer ls rs (phoare a o p q b) w y Gs e = refused_given Shape Gs e
-  sound (of_one k) outer ls rs (equiv a b p q) w y Gs e = refused_given Shape Gs e
-  sound (of_one k) outer ls rs (ambient f) w y Gs e = refused_given Shape Gs e
-  sound (of_two k l) outer ls rs (hoare a p q) w y Gs e = refused_given Shape Gs e
-  sound (of_two k l) outer ls rs (phoare a o p q b) w y Gs e = refused_given Shape Gs e
-  sound (of_two k l) outer ls rs (equiv (procedure a) b p q) w y Gs e = refused_given Shape Gs e
-  sound (of_two k l) outer ls rs (equiv (body is) (procedure b) p q) w y Gs e = refused_given Shape Gs e
-  sound (of_two k l) outer ls rs (ambient f) w y Gs e = refused_given Shape Gs e
+  sound (One k) outer ls rs (hoare (procedure a) p q) w y Gs e = refused_given Shape Gs e
+  sound (One k) outer ls rs (phoare a o p q b) w y Gs e = refused_given Shape Gs e
+  sound (One k) outer ls rs (equiv a b p q) w y Gs e = refused_given Shape Gs e
+  sound (One k) outer ls rs (ambient f) w y Gs e = refused_given Shape Gs e
+  sound (Two k l) outer ls rs (hoare a p q) w y Gs e = refused_given Shape Gs e
+  sound (Two k l) outer ls rs (phoare a o p q b) w y Gs e = refused_given Shape Gs e
+  sound (Two k l) outer ls rs (equiv (procedure a) b p q) w y Gs e = refused_given Shape Gs e
+  sound (Two k l) outer ls rs (equiv (body is) (procedure b) p q) w y Gs e = refused_given Shape Gs e
+  sound (Two k l) outer ls rs (ambient f) w y Gs e = refused_given Shape Gs e

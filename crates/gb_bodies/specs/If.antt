@@ -12,13 +12,15 @@ use Rattle.gb_terms.specs.declared.term.Instr.{Instr, out-Instr}
 use Rattle.gb_terms.specs.declared.term.Cmd.{Cmd}
 use Rattle.gb_goal.specs.Goal.{Goal}
 use Rattle.gb_goal.specs.Goal.Code.{body}
-use Rattle.gb_goal.specs.Goal.Goal.{hoare, phoare, equiv, ambient}
+use Rattle.gb_goal.specs.Goal.Goal.{equiv, ambient}
 use Rattle.gb_rules.specs.Forms.{and_form, not_form, implies_form, equal_form, located, every_pair}
 use Rattle.gb_goal.specs.Answers.{Answer}
 use Rattle.gb_goal.specs.Rows.{Row, refusing}
-use Rattle.gb_rules.specs.Rules.{Acts}
-use Rattle.gb_rules.specs.Rules.Acts.{on_all, on_left, on_right}
+use Rattle.gb_goal.specs.declared.step.Acts.{Acts}
+use Rattle.gb_goal.specs.declared.step.Acts.TheVariants as on
 use Rattle.gb_goal.specs.Answers.Answer.{given}
+use Rattle.gb_bodies.specs.OneBody.{one_body, on_one}
+use Rattle.gb_bodies.specs.declared.branch.Branch as seen
 
 -- a branch, and what follows it
 pub record Branch : Type 0 where
@@ -26,6 +28,10 @@ pub record Branch : Type 0 where
   pub if_true : Cmd
   pub if_false : Cmd
   pub rest : List Instr
+
+-- the same, of references
+abbrev pub branch_seen : seen.Branch → Branch
+branch_seen b = record { test = b.test.now; if_true = b.if_true.now; if_false = b.if_false.now; rest = b.rest.now }
 
 abbrev pub branch_at : layer.Instr-F Head Instr Subject Cmd Term → List Instr → Option Branch
 branch_at (layer.If e a b) is = Some (record { test = e; if_true = a; if_false = b; rest = is })
@@ -57,10 +63,10 @@ of_both p q (Some (a, b)) = given (
     ∷ equiv (body (where_true a)) (body (where_true b)) (and_form p (located Left a.test)) q
     ∷ equiv (body (where_false a)) (body (where_false b)) (and_form p (not_form (located Left a.test))) q ∷ [])
 
+-- the same of the bodies of a goal, where a step acts on two
+abbrev pub if_both : Acts → Row
+if_both on.All (equiv (body is) (body js) p q) = of_both p q (option_zip (first_branch is) (first_branch js))
+if_both a G = refusing Shape
+
 abbrev pub if_row : Acts → Row
-if_row on_all (hoare (body is) p q) = of_one (λ is p. hoare (body is) p q) Own p (first_branch is)
-if_row on_all (phoare (body is) r p q b) = of_one (λ is p. phoare (body is) r p q b) Own p (first_branch is)
-if_row on_all (equiv (body is) (body js) p q) = of_both p q (option_zip (first_branch is) (first_branch js))
-if_row on_left (equiv (body is) (body js) p q) = of_one (λ is p. equiv (body is) (body js) p q) Left p (first_branch is)
-if_row on_right (equiv (body is) (body js) p q) = of_one (λ js p. equiv (body is) (body js) p q) Right p (first_branch js)
-if_row a G = refusing Shape
+if_row a G = on_one (λ o. of_one (λ is p. o.goal is p o.post) o.side o.pre (first_branch o.list)) (one_body a G) (if_both a G)

@@ -4,9 +4,12 @@ ghost use Rattle.gb_goal.specs.Answers.{Answers};
 ghost use Rattle.gb_goal.specs.Rows.{answered, stepped};
 ghost use Rattle.gb_bodies.specs.Rows.{body_row, rule_row};
 
+use crate::branch::if_rule;
 use crate::proc::proc;
+use crate::seq::seq;
 use crate::skip::skip;
 use crate::subgoals::{no_shape, placed};
+use crate::wp::wp;
 use gb_core::refusal::Refused;
 use gb_goal::scope::Scope;
 use gb_goal::sequent::{Sequent, Sequents};
@@ -25,6 +28,10 @@ fn subgoals(
     match rule {
         BodyRule::Proc => proc(alloc, goal, scope),
         BodyRule::Skip => skip(alloc, goal),
+        BodyRule::Seq(position, between) => seq(alloc, goal, *position, between),
+        BodyRule::If(acts) => if_rule(alloc, goal, *acts),
+        BodyRule::Wp(acts) => wp(alloc, goal, *acts),
+        BodyRule::Unfit => Err(no_shape()),
     }
 }
 

@@ -11,13 +11,15 @@ ghost use Rattle.gb_goal.specs.Scope.{Declarations};
 ghost use Rattle.gb_holds.specs.Declared.{declared};
 ghost use Rattle.gb_typing.specs.Scopes.{context_of, IsTypedScope};
 ghost use Rattle.gb_typing.specs.Sequents.{of_sequent, IsTypedSequent};
-ghost use Rattle.gb_rules.specs.Rules.{IsSoundRuleIn, no_arguments};
-ghost use Rattle.gb_bodies.specs.Rows.{rule_row};
+ghost use Rattle.gb_rules.specs.Rules.{IsSoundRuleIn};
+ghost use Rattle.gb_bodies.specs.Rows.{rule_row, IsTypedRule};
 
-/// Each rule is sound over each typed scope, at the goal of each typed sequent: what it gives is typed, and implies the goal.
+/// Each rule with typed arguments is sound over each typed scope, at the goal of each typed sequent: what it gives is typed, and
+/// implies the goal.
 pub fn rules()
     ensures { (ds : Declarations) → IsTypedScope (declared ds) → (q : Sequent) (t : IsTypedSequent (context_of (declared ds)) q) → (r : Rule) →
-        IsSoundRuleIn (declared ds) (of_sequent (context_of (declared ds)) q t.frames) (rule_row ds r) no_arguments }
+        IsSoundRuleIn (declared ds) (of_sequent (context_of (declared ds)) q t.frames) (rule_row ds r)
+        (IsTypedRule (of_sequent (context_of (declared ds)) q t.frames) r) }
 {}
 
 /// A form that is no judgment is refused.

@@ -1,11 +1,102 @@
 //! The rule `seq`.
 
+ghost use Rattle.std.specs.Prelude.{◌≡◌, IfOk};
 ghost use Rattle.gb_terms.specs.declared.term.Term.{Term};
+ghost use Rattle.gb_goal.specs.declared.step.Cut.{Cut as Position};
+ghost use Rattle.gb_goal.specs.Answers.{Answers};
+ghost use Rattle.gb_goal.specs.Goal.Code.{body};
+ghost use Rattle.gb_goal.specs.Goal.Goal.{hoare, equiv};
+ghost use Rattle.gb_goal.specs.Goal.{form_of};
+ghost use Rattle.gb_goal.specs.Rows.{answered, each_concluding};
+ghost use Rattle.gb_goal.specs.Views.{goal_seen};
 ghost use Rattle.gb_typing.specs.Context.{Context};
 ghost use Rattle.gb_rules.specs.Rules.{IsSoundRule};
-ghost use Rattle.gb_bodies.specs.Seq.{Cut, seq_row, IsTypedCut};
+ghost use Rattle.gb_bodies.specs.Seq.{seq_row, IsTypedCut};
+
+use crate::subgoals::{no_shape, refusal, shared_body, two_goals};
+use gb_core::refusal::{Refused, Why};
+use gb_goal::goal::{Code, Goal, equiv, goal_of, hoare};
+use gb_goal::sequent::{Sequent, Sequents};
+use gb_goal::step::Cut;
+use gb_terms::term::{Form, Instr};
+use std::alloc::{AllocError, Global};
+
+/// The judgment of one body from a condition to another.
+fn of_one(alloc: Global, list: &[Instr], pre: &Form, post: &Form) -> Result<Form, AllocError>
+    ensures { IfOk result (λ made. made ≡ form_of (hoare (body list.now) pre.now post.now)) }
+{
+    let list = shared_body(alloc, list)?;
+    let pre = pre.share()?;
+    let post = post.share()?;
+    hoare(alloc, list, pre, post)
+}
+
+/// The equivalence of two bodies from a condition to another.
+fn of_two(
+    alloc: Global,
+    left: &[Instr],
+    right: &[Instr],
+    pre: &Form,
+    post: &Form,
+) -> Result<Form, AllocError>
+    ensures { IfOk result (λ made. made ≡ form_of (equiv (body left.now) (body right.now) pre.now post.now)) }
+{
+    let left = shared_body(alloc, left)?;
+    let right = shared_body(alloc, right)?;
+    let pre = pre.share()?;
+    let post = post.share()?;
+    equiv(alloc, left, right, pre, post)
+}
+
+/// The subgoals of a goal that is seen so.
+fn cut(
+    alloc: Global,
+    goal: &Sequent,
+    seen: Goal,
+    cut: Cut,
+    between: &Form,
+) -> Result<Sequents, Refused>
+    ensures { Answers (each_concluding goal.now (seq_row cut between.now (goal_seen seen.entry))) result }
+{
+    match (cut, seen) {
+        (Cut::One(count), Goal::Hoare(Code::Body(list), pre, post)) => {
+            if count > list.len() as u128 {
+                return Err(refusal(Why::Argument));
+            }
+            let (first, rest) = list.split_at(count as usize);
+            let first = of_one(alloc, first, pre, between)?;
+            let rest = of_one(alloc, rest, between, post)?;
+            Ok(two_goals(alloc, goal, first, rest)?)
+        }
+        (Cut::Two(here, there), Goal::Equiv(Code::Body(left), Code::Body(right), pre, post)) => {
+            if here > left.len() as u128 || there > right.len() as u128 {
+                return Err(refusal(Why::Argument));
+            }
+            let (left, left_rest) = left.split_at(here as usize);
+            let (right, right_rest) = right.split_at(there as usize);
+            let first = of_two(alloc, left, right, pre, between)?;
+            let rest = of_two(alloc, left_rest, right_rest, between, post)?;
+            Ok(two_goals(alloc, goal, first, rest)?)
+        }
+        _ => Err(no_shape()),
+    }
+}
+
+/// The subgoals of `seq`: what is said between the parts of each body holds after the first, and the rest leads from there to the
+/// postcondition. Refused with `Shape` where the goal hasn't as many bodies as the cut, and with `Argument` where a part is longer
+/// than its body.
+pub fn seq(
+    alloc: Global,
+    goal: &Sequent,
+    position: Cut,
+    between: &Form,
+) -> Result<Sequents, Refused>
+    ensures { Answers (answered (seq_row position between.now) goal.now) result }
+{
+    cut(alloc, goal, goal_of(&goal.conclusion), position, between)
+}
 
 /// `seq k : (R)` and `seq k l : (R)` are sound.
 pub fn seq_is_sound()
-    ensures { (c : Context) (k : Cut) (r : Term) → IsSoundRule c (seq_row k r) (IsTypedCut c r) }
+    ensures { (c : Context) (k : Position) (r : Term) → IsSoundRule c (seq_row k r) (IsTypedCut c k r) }
 {}

@@ -30,6 +30,10 @@ environment s = record { declared = s.scope.now; sequent = s.sequent.now; variab
 abbrev pub ambient : Declarations → Sequent → Environment
 ambient ds s = record { declared = ds; sequent = s; variables = Absent; language = Formula }
 
+-- a form on one program with these variables
+abbrev pub unary : Declarations → Sequent → List TypedName → Environment
+unary ds s vs = record { declared = ds; sequent = s; variables = Own vs; language = Formula }
+
 -- a form on two programs with these variables
 abbrev pub relational : Declarations → Sequent → List TypedName → List TypedName → Environment
 relational ds s l r = record { declared = ds; sequent = s; variables = Sides l r; language = Formula }

@@ -2,7 +2,7 @@
 
 ghost use Rattle.std.specs.Prelude.{◌≡◌};
 ghost use Rattle.std.specs.Option.{option_copied};
-ghost use Rattle.gb_elab.specs.Environment.{environment, ambient, relational, of_function, program, own_of, sides_of};
+ghost use Rattle.gb_elab.specs.Environment.{environment, ambient, unary, relational, of_function, program, own_of, sides_of};
 
 use gb_goal::scope::Scope;
 use gb_goal::sequent::Sequent;
@@ -77,6 +77,18 @@ impl<'a> Setting<'a> {
             scope,
             sequent,
             variables: Variables::Absent,
+            language: Language::Formula,
+        }
+    }
+
+    /// The setting of a form on one program with these variables.
+    pub fn unary(scope: &'a Scope, sequent: &'a Sequent, variables: &'a [TypedName]) -> Setting<'a>
+        ensures { environment result ≡ unary scope.now sequent.now variables.now }
+    {
+        Setting {
+            scope,
+            sequent,
+            variables: Variables::Own(Borrowed { list: variables }),
             language: Language::Formula,
         }
     }

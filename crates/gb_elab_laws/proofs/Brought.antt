@@ -3,7 +3,6 @@ use Rattle.std.proofs.Common.{◌≡◌, Bool, true, false, if◌then◌else◌,
 use Rattle.std.proofs.lemmas.Bool.{false≢true}
 use Rattle.std.specs.Prelude.{codes, bytes_eq}
 use Rattle.gb_core.specs.declared.place.Place.{Place}
-use Rattle.gb_core.specs.declared.refusal.Why.TheVariants.{Syntax}
 use Rattle.gb_core.specs.declared.ty.Ty.TheVariants as ty
 use Rattle.gb_terms.specs.declared.term.Term.{Term}
 use Rattle.gb_goal.specs.Scope as scope
@@ -28,9 +27,9 @@ use Rattle.gb_typing.specs.Sequents.{of_sequent, IsTypedSequent}
 use Rattle.gb_typing.specs.Scopes.{context_of, IsTypedScope}
 use Rattle.gb_elab.specs.Environment.{ambient}
 use Rattle.gb_elab.specs.Forms.{elaborated}
-use Rattle.gb_elab_mod.specs.Steps.{couplings, functions_of, plain_rule, new_name, formed, of_conclusion, typed_rule, step_given}
+use Rattle.gb_elab_mod.specs.Steps.{acts, couplings, cut_of, functions_of, conclusion_rule, new_name, formed, of_bodies_rule, of_conclusion, on_all, plain_rule, seq_rule, typed_rule, step_given}
 use Rattle.gb_elab_mod.specs.Unbuilt.{absent}
-use Rattle.gb_elab_laws.proofs.Given.{given_bind, given_is, if_given}
+use Rattle.gb_elab_laws.proofs.Given.{given_bind, given_is}
 use Rattle.gb_elab_laws.proofs.Fits.{goal_fits}
 use Rattle.gb_elab_laws.proofs.Forms.{elaborated_typed}
 use Rattle.gb_amb.specs.Steps.{IsTypedStep}
@@ -62,7 +61,7 @@ module _ (ds : scope.Declarations) (scoped : IsTypedScope (declared ds)) (q : Se
   other : (j k : Rule) → is_ambient j ≡ false → j ≡ k → HasForms k
   other j k n e = λ r f. absurd (false≢true (sym n ∙ ap is_ambient (e ∙ f)))
 
-  plain_typed : (x : List ℕ) (p : Place) (a : AmbientRule) → plain_rule x p ≡ given a → IsTypedStep here a
+  plain_typed : (x : List ℕ) (p : Place) (a : AmbientRule) → conclusion_rule x p ≡ given a → IsTypedStep here a
   plain_typed x p a h = by_name (bytes_eq x (codes "split")) (bytes_eq x (codes "left")) (bytes_eq x (codes "right")) (bytes_eq x (codes "assumption")) h
     where
       by_name : (b c d e : Bool) → (if b then given conclusion.Split else if c then given conclusion.Left else if d then given conclusion.Right else if e then given conclusion.Assumption else not_built p) ≡ given a → IsTypedStep here a
@@ -74,7 +73,7 @@ module _ (ds : scope.Declarations) (scoped : IsTypedScope (declared ds)) (q : Se
 
   rule_forms : (n : Kind) (x : List ℕ) (xs : List Node) (p : Place) (k : Rule) → typed_rule ds q n x xs p ≡ given k → HasForms k
   rule_forms text.PlainStep x [] p k h =
-      let o = given_bind (plain_rule x p) (λ (a : AmbientRule). given (rule.Ambient a)) k h in brings o.0 (plain_typed x p o.0 o.1) k (given_is (rule.Ambient o.0) k o.2)
+      let o = given_bind (conclusion_rule x p) (λ (a : AmbientRule). given (rule.Ambient a)) k h in brings o.0 (plain_typed x p o.0 o.1) k (given_is (rule.Ambient o.0) k o.2)
   rule_forms text.CaseStep x (b ∷ f ∷ []) p k h =
       let o = given_bind (absent (parts_of b) p) _ k h in
       let y = given_bind (of_conclusion q p) _ k o.2 in
@@ -89,12 +88,14 @@ module _ (ds : scope.Declarations) (scoped : IsTypedScope (declared ds)) (q : Se
       let y = given_bind (couplings ds q (functions_of fs)) (λ (us : List Term). given (rule.Relational (relational.Rnd us))) k o.2 in
       other (rule.Relational (relational.Rnd y.0)) k refl (given_is (rule.Relational (relational.Rnd y.0)) k y.2)
   rule_forms text.Proc x (b ∷ i ∷ []) p k h =
-      let o = given_bind (absent (parts_of b) p) _ k h in
-      let y = given_bind (absent (parts_of i) p) (λ _. given (rule.OnBodies on_bodies.Proc)) k o.2 in
-      other (rule.OnBodies on_bodies.Proc) k refl (given_is (rule.OnBodies on_bodies.Proc) k y.2)
+      let y = given_bind (absent (parts_of i) p) (λ _. given (rule.OnBodies (on_all (acts (parts_of b)) on_bodies.Proc))) k h in
+      other (rule.OnBodies (on_all (acts (parts_of b)) on_bodies.Proc)) k refl (given_is (rule.OnBodies (on_all (acts (parts_of b)) on_bodies.Proc)) k y.2)
   rule_forms text.BodyStep x (b ∷ []) p k h =
-      let o = given_bind (absent (parts_of b) p) (λ _. if bytes_eq x (codes "skip") then given (rule.OnBodies on_bodies.Skip) else not_built p) k h in
-      other (rule.OnBodies on_bodies.Skip) k refl (if_given (bytes_eq x (codes "skip")) (rule.OnBodies on_bodies.Skip) Syntax p k o.2).1
+      let y = given_bind (plain_rule x (acts (parts_of b)) p) (λ z. given (rule.OnBodies z)) k h in other (rule.OnBodies y.0) k refl (given_is (rule.OnBodies y.0) k y.2)
+  rule_forms text.Seq x (b ∷ n ∷ ns ∷ f ∷ bounds ∷ []) p k h =
+      let o = given_bind (absent (parts_of bounds) p) (λ _. of_bodies_rule (seq_rule ds q (acts (parts_of b)) (cut_of n (parts_of ns)) f)) k h in
+      let y = given_bind (seq_rule ds q (acts (parts_of b)) (cut_of n (parts_of ns)) f) (λ z. given (rule.OnBodies z)) k o.2 in
+      other (rule.OnBodies y.0) k refl (given_is (rule.OnBodies y.0) k y.2)
   rule_forms text.Smt x hints p k h = let o = given_bind (absent hints p) (λ _. given rule.Smt) k h in other rule.Smt k refl (given_is rule.Smt k o.2)
   rule_forms _ x _ p k h = cc
 

@@ -10,18 +10,21 @@ use Rattle.gb_terms.specs.declared.decl.TypedName.{TypedName}
 use Rattle.gb_terms.specs.declared.op.Side.{Side}
 use Rattle.gb_terms.specs.declared.op.Side.TheVariants as side
 use Rattle.gb_terms.specs.declared.term.Cmd.{Cmd}
-use Rattle.gb_terms.specs.declared.term.Instr.{Instr}
-use Rattle.gb_terms.specs.declared.term.Term.{Term, out-Term}
+use Rattle.gb_terms.specs.declared.term.Instr.{Instr, Row_of-Instr, end_of-Instr, more_of-Instr}
+use Rattle.gb_terms.specs.declared.term.Term.{Term, out-Term, Row_of-Term, end_of-Term, more_of-Term}
 use Rattle.gb_terms.specs.declared.term.Head.TheVariants.{Assign, Sample, Call', If', While'}
 use Rattle.gb_meaning.specs.Names.{Name}
 use Rattle.gb_meaning.specs.Operators.{outcome_type}
 use Rattle.gb_meaning.specs.Written.{type_of, local_type}
 use Rattle.gb_typed.specs.Finite.{IsFinite}
 use Rattle.gb_typed.specs.Operators.{IsDistributionType}
-use Rattle.gb_typed.specs.Programs.{variable_type, HaveFiniteTypes}
-use Rattle.gb_typing.specs.Context.{Context, erased, of_program}
-use Rattle.gb_typing.specs.Programs.{IsStatement, EachStatement, IsBody}
-use Rattle.gb_elab_mod.specs.Occurring.{local, outcome_local, read_locals, sampling_locals, occurring}
+use Rattle.gb_meaning.specs.Commands.{terms_in}
+use Rattle.gb_typed.specs.Programs.{variable_type, Take, HaveFiniteTypes}
+use Rattle.gb_typing.specs.Modules.{ProcedureType}
+use Rattle.gb_typing.specs.Context.{Context, erased, of_program, procedure}
+use Rattle.gb_typing.specs.Programs.{IsExpression, AreArguments, IsCall, IsStatement, AreStatements, EachStatement, IsBody}
+use mathlib.Core.Former.{Count}
+use Rattle.gb_elab_mod.specs.Occurring.{local, assigned, outcome_local, read_locals, row_locals, row_read, sampled as sampled_local, statement_locals, occurring}
 use Rattle.gb_elab_mod.specs.Steps.{outcomes, sampled, last_sampled}
 use Rattle.gb_elab_laws.specs.Fitting.{AreIn}
 use Rattle.gb_elab_laws.specs.Reading.{StandIn}
@@ -91,28 +94,55 @@ module _ (c : Context) (ls : List TypedName) where
   target_stands (var.Global m x) t h = tt
   target_stands (var.Glob a) t h = tt
 
-  sampling_stands : (x : Var) (d : Term) → IsStatement c ls (Sample x d) → StandIn (Some ls) (outcome_local x (out-Ty (out-Term d).ty) ++ read_locals d side.Own)
+  sampling_stands : (x : Var) (d : Term) → IsStatement c ls (Sample x d) → StandIn (Some ls) (sampled_local x d)
   sampling_stands x d s =
-      let e : outcome_local x (out-Ty (out-Term d).ty) ≡ local x (outcome_type (type_of d)) =
-      ap (λ u. outcome_local x (out-Ty u)) (out_type d) ∙ ap (outcome_local x) (outcome_of (type_of d) s.1) in
-      stand_both (Some ls) (outcome_local x (out-Ty (out-Term d).ty)) (read_locals d side.Own)
-      (subst (StandIn (Some ls)) (sym e) (target_stands x (outcome_type (type_of d)) s.2)) (reads_stand (of_program c ls) d s.0.typed side.Own tt)
+      let e : sampled_local x d ≡ local x (outcome_type (type_of d)) = ap (λ u. outcome_local x (out-Ty u)) (out_type d) ∙ ap (outcome_local x) (outcome_of (type_of d) s.1) in
+      subst (StandIn (Some ls)) (sym e) (target_stands x (outcome_type (type_of d)) s.2)
 
-  statements_stand : (is : List Instr) → EachStatement c ls is → StandIn (Some ls) (flat_map sampling_locals is)
+  targets_stand : (xs : List Var) (e : Term) → Take (erased c) ls xs (type_of e) → StandIn (Some ls) (assigned xs e)
+  targets_stand [] e h = tt
+  targets_stand (x ∷ []) e h = subst (λ t. StandIn (Some ls) (local x t)) (sym (out_type e)) (target_stands x (type_of e) h)
+  targets_stand (x ∷ y ∷ xs) e h = tt
+
+  -- what an expression reads
+  read_stands : (e : Term) → IsExpression c ls e → StandIn (Some ls) (read_locals e side.Own)
+  read_stands e x = reads_stand (of_program c ls) e x.typed side.Own tt
+
+  arguments_stand : {n : Count} (es : Row_of-Term n) (ps : List TypedName) → AreArguments c ls (terms_in es) ps → StandIn (Some ls) (row_read es)
+  arguments_stand end_of-Term ps h = tt
+  arguments_stand (more_of-Term e es) (p ∷ ps) h = stand_both (Some ls) (read_locals e side.Own) (row_read es) (read_stands e h.0.0.expression) (arguments_stand es ps h.1)
+  arguments_stand (more_of-Term e es) [] h = absurd h
+
+  call_stands : {n : Count} (xs : List Var) (o : Option ProcedureType) (es : Row_of-Term n) → IsCall c ls xs o (terms_in es) → StandIn (Some ls) (row_read es)
+  call_stands xs (Some p) es h = arguments_stand es p.params h.0
+  call_stands xs None es h = absurd h
+
+  mutual
+    statement_stands : (i : Instr) → IsStatement c ls i → StandIn (Some ls) (statement_locals i)
+    statement_stands (Assign xs e) k = stand_both (Some ls) (assigned xs e) (read_locals e side.Own) (targets_stand xs e k.1) (read_stands e k.0.expression)
+    statement_stands (Sample x d) k = stand_both (Some ls) (sampled_local x d) (read_locals d side.Own) (sampling_stands x d k) (read_stands d k.0)
+    statement_stands (Call' xs p n es) k = call_stands xs (procedure c p) es k
+    statement_stands (If' e m a n b) k =
+        stand_both (Some ls) (read_locals e side.Own) (row_locals a ++ row_locals b) (read_stands e k.0.0) (stand_both (Some ls) (row_locals a) (row_locals b) (row_stands a k.1) (row_stands b k.2))
+    statement_stands (While' e v n a) k =
+        stand_both (Some ls) (read_locals e side.Own) (read_locals v side.Own ++ row_locals a) (read_stands e k.0.0)
+        (stand_both (Some ls) (read_locals v side.Own) (row_locals a) (read_stands v k.1.0) (row_stands a k.2))
+
+    row_stands : {n : Count} (is : Row_of-Instr n) → AreStatements c ls is → StandIn (Some ls) (row_locals is)
+    row_stands end_of-Instr k = tt
+    row_stands (more_of-Instr i is) k = stand_both (Some ls) (statement_locals i) (row_locals is) (statement_stands i k.0) (row_stands is k.1)
+
+  statements_stand : (is : List Instr) → EachStatement c ls is → StandIn (Some ls) (flat_map statement_locals is)
   statements_stand [] k = tt
-  statements_stand (Sample x d ∷ is) k = stand_both (Some ls) (sampling_locals (Sample x d)) (flat_map sampling_locals is) (sampling_stands x d k.0) (statements_stand is k.1)
-  statements_stand (Assign xs e ∷ is) k = statements_stand is k.1
-  statements_stand (Call' xs p n es ∷ is) k = statements_stand is k.1
-  statements_stand (If' e m a n b ∷ is) k = statements_stand is k.1
-  statements_stand (While' e v n a ∷ is) k = statements_stand is k.1
+  statements_stand (i ∷ is) k = stand_both (Some ls) (statement_locals i) (flat_map statement_locals is) (statement_stands i k.0) (statements_stand is k.1)
 
   -- what occurs in two conditions and a body are locals of the body
-  occurring_stand : (s : Side) (p q : Term) (d : Cmd) → StandIn (Some ls) (read_locals p s) → StandIn (Some ls) (read_locals q s) → EachStatement c ls d.list →
-      StandIn (Some ls) (occurring (p ∷ q ∷ []) s d)
-  occurring_stand s p q d hp hq k =
+  occurring_stand : (s : Side) (p q : Term) (is : List Instr) → StandIn (Some ls) (read_locals p s) → StandIn (Some ls) (read_locals q s) → EachStatement c ls is →
+      StandIn (Some ls) (occurring (p ∷ q ∷ []) s is)
+  occurring_stand s p q is hp hq k =
       let conditions = stand_both (Some ls) (read_locals p s) (read_locals q s ++ []) hp (stand_both (Some ls) (read_locals q s) [] hq tt) in
-      all_stand (Some ls) [] (flat_map (λ t. read_locals t s) (p ∷ q ∷ []) ++ flat_map sampling_locals d.list) tt
-      (stand_both (Some ls) (flat_map (λ t. read_locals t s) (p ∷ q ∷ [])) (flat_map sampling_locals d.list) conditions (statements_stand d.list k))
+      all_stand (Some ls) [] (flat_map (λ t. read_locals t s) (p ∷ q ∷ []) ++ flat_map statement_locals is) tt
+      (stand_both (Some ls) (flat_map (λ t. read_locals t s) (p ∷ q ∷ [])) (flat_map statement_locals is) conditions (statements_stand is k))
 
 local_finite : (ls : List TypedName) (x : Name) (t : Ty) → HaveFiniteTypes ls → local_type ls x ≡ Some t → IsFinite t
 local_finite [] x t h e = none_some t e
@@ -136,8 +166,8 @@ module _ (ls : List TypedName) where
       step false i f e = f e
 
   -- what occurs in a goal is read in the memory of a body
-  pub occurring_in : (c : Context) (s : Side) (p q : Term) (d : Cmd) → StandIn (Some ls) (read_locals p s) → StandIn (Some ls) (read_locals q s) → IsBody c ls d.list →
-      AreIn (Some ls) (occurring (p ∷ q ∷ []) s d)
-  occurring_in c s p q d hp hq b =
-      let k : StandIn (Some ls) (occurring (p ∷ q ∷ []) s d) = occurring_stand c ls s p q d hp hq b.statements in
+  pub occurring_in : (c : Context) (s : Side) (p q : Term) (is : List Instr) → StandIn (Some ls) (read_locals p s) → StandIn (Some ls) (read_locals q s) → IsBody c ls is →
+      AreIn (Some ls) (occurring (p ∷ q ∷ []) s is)
+  occurring_in c s p q is hp hq b =
+      let k : StandIn (Some ls) (occurring (p ∷ q ∷ []) s is) = occurring_stand c ls s p q is hp hq b.statements in
       record { there = standing_name _ k; finite = standing_finite (have_finite ls b.locals) _ k }

@@ -1,10 +1,12 @@
 -- The contexts of statements, programs and functions fit their environments.
-use Rattle.std.proofs.Common.{◌≡◌, Bool, true, false, if◌then◌else◌, List, [], ◌∷◌, ◌++◌, Option, Some, None, bytes_eq, refl, ap, ◌∙◌, subst}
+use Rattle.std.proofs.Common.{◌≡◌, Bool, true, false, if◌then◌else◌, List, [], ◌∷◌, ◌++◌, Option, Some, None, bytes_eq, refl, ap, sym, ◌∙◌, subst}
+use Rattle.std.proofs.lemmas.Slice.Eq.{bytes_eq-Decides}
 use Rattle.std.proofs.lemmas.Bool.{false≢true}
 use Rattle.gb_terms.specs.declared.decl.Module.{Module}
 use Rattle.gb_terms.specs.declared.decl.Param.{Param}
 use Rattle.gb_terms.specs.declared.decl.Proc.{Proc}
 use Rattle.gb_terms.specs.declared.decl.TypedName.{TypedName}
+use Rattle.gb_terms.specs.declared.module.Bind.{Bind}
 use Rattle.gb_terms.specs.declared.module.Mexp.{Mexp}
 use Rattle.gb_terms.specs.declared.module.Mexp.TheVariants.{Name as named, Apply'}
 use Rattle.gb_goal.specs.Scope as scope
@@ -17,17 +19,18 @@ use Rattle.gb_typed.specs.Finite.{IsVariableType}
 use Rattle.gb_typed.specs.Programs.{HaveFiniteTypes}
 use Rattle.gb_holds.specs.Declared.{Declarations, declaration_of, declared, concrete_module, lemma}
 use Rattle.gb_holds.specs.Modules.{Procedures, found}
-use Rattle.gb_typing.specs.Modules.{ProcedureType, Interface, of_complete}
+use Rattle.gb_typing.specs.Modules.{ProcedureType, Interface, of_complete, functor_type, of_functor_type}
 use Rattle.gb_typing.specs.Modules as typing
 use Rattle.gb_typing.specs.Context.{Context, of_program}
 use Rattle.gb_typing.specs.Programs.{HaveVariableTypes, type_of_procedure}
-use Rattle.gb_typing.specs.Sequents.{of_sequent, two, IsTypedSequent}
+use Rattle.gb_typing.specs.Formulas.{with_module}
+use Rattle.gb_typing.specs.Sequents.{one, of_sequent, two, with_modules, AreBinders, IsTypedSequent}
 use Rattle.gb_typing.specs.Scopes.{interface_with, procedure_types, nothing, with_declared, with_each, context_of, is_declared, AreProcedures, AreTypedAfter, IsTypedScope}
 use Rattle.gb_typing.proofs.Operators.{declared_more, declared_last, other_name}
 use Rattle.gb_typing.proofs.Variables.{variable_finite}
 use Rattle.gb_typing.proofs.Located.{typed_there}
 use Rattle.gb_rules.proofs.Lifted.{sequent_outermost}
-use Rattle.gb_elab.specs.Environment.{ambient, of_function, program}
+use Rattle.gb_elab.specs.Environment.{ambient, of_function, program, relational, unary}
 use Rattle.gb_elab_mod.specs.Lemmas.{nothing_around}
 use Rattle.gb_elab_laws.specs.Fitting.{AreIn, IsTypeOf, IsFitting}
 use Rattle.gb_elab_laws.proofs.Given.{none_some, same_some}
@@ -165,4 +168,52 @@ goal_fits ds w q t = record {
   procedures = λ e p f h.
       let d = declared_procedure ds w p.«module» p.name f h in
       record { there = (typed_there ds w q t.modules t.frames p f h).type; params = d.params; result = d.result };
+}
+
+-- a module that is known stays known among the modules of a goal's context
+known_still : (c : Context) (bs : List Bind) → AreBinders c bs → (n : Name) (i : Interface) → c.modules.interfaces n ≡ Some i → (with_modules c bs).modules.interfaces n ≡ Some i
+known_still c [] h n i e = e
+known_still c (b ∷ bs) h n i e = known_still (with_module c b) bs h.1 n i (step (bytes_eq n b.name) refl)
+  where
+    step : (t : Bool) → bytes_eq n b.name ≡ t → (if t then Some (of_functor_type (functor_type c.modules.types (c.modules.types b.ty))) else c.modules.interfaces n) ≡ Some i
+    step true k = none_some i (sym h.0.free ∙ ap c.modules.interfaces (sym ((bytes_eq-Decides n b.name).0 k)) ∙ e)
+    step false k = e
+
+procedure_still : (c : Context) (bs : List Bind) → AreBinders c bs → (n g : Name) (t : ProcedureType) → typing.procedure_of (c.modules.interfaces n) g ≡ Some t →
+    typing.procedure_of ((with_modules c bs).modules.interfaces n) g ≡ Some t
+procedure_still c bs h n g t e = step (c.modules.interfaces n) refl e
+  where
+    step : (o : Option Interface) → c.modules.interfaces n ≡ o → typing.procedure_of o g ≡ Some t → typing.procedure_of ((with_modules c bs).modules.interfaces n) g ≡ Some t
+    step None k f = none_some t f
+    step (Some i) k f = ap (λ o. typing.procedure_of o g) (known_still c bs h n i k) ∙ f
+
+-- a declared procedure has its type in the context of a goal
+goal_procedure : (ds : scope.Declarations) → IsTypedScope (declared ds) → (q : Sequent) (t : IsTypedSequent (context_of (declared ds)) q) (m : Mexp) (g : Name) (f : Proc) → proc_at ds m g ≡ Some f →
+    IsTypeOf (typing.procedure_type (of_sequent (context_of (declared ds)) q t.frames).modules (record { «module» = m; name = g })) f
+goal_procedure ds w q t (named n) g f e =
+    let k = procedure_named ds w n g f e in
+    record { there = procedure_still (context_of (declared ds)) q.modules t.modules n g (type_of_procedure f) k.there; params = k.params; result = k.result }
+goal_procedure ds w q t (Apply' n k args) g f e = none_some f e
+
+-- forms of a proof step on one program, and on two, over some of the locals of the goal
+pub one_fits : (ds : scope.Declarations) → IsTypedScope (declared ds) → (q : Sequent) (t : IsTypedSequent (context_of (declared ds)) q) (ls xs : List TypedName) → AreIn (Some ls) xs →
+    IsFitting (one (of_sequent (context_of (declared ds)) q t.frames) ls) (unary ds q xs) []
+one_fits ds w q t ls xs h = record {
+  logical = λ i. refl;
+  values = t.logical;
+  bound = goal_bound (declared ds) q t.frames;
+  bound_values = tt;
+  variables = h;
+  procedures = λ e p f k. goal_procedure ds w q t p.«module» p.name f k;
+}
+
+pub two_fit : (ds : scope.Declarations) → IsTypedScope (declared ds) → (q : Sequent) (t : IsTypedSequent (context_of (declared ds)) q) (ls rs xs ys : List TypedName) → AreIn (Some ls) xs →
+    AreIn (Some rs) ys → IsFitting (two (of_sequent (context_of (declared ds)) q t.frames) ls rs) (relational ds q xs ys) []
+two_fit ds w q t ls rs xs ys h k = record {
+  logical = λ i. refl;
+  values = t.logical;
+  bound = goal_bound (declared ds) q t.frames;
+  bound_values = tt;
+  variables = (h, k);
+  procedures = λ e p f k. goal_procedure ds w q t p.«module» p.name f k;
 }

@@ -12,6 +12,8 @@ pub mod Fits
 pub mod Occurring
 pub mod Ends
 pub mod Sampled
+pub mod Cuts
+pub mod Stated
 mod Brought
 pub mod Programs
 pub mod Statements

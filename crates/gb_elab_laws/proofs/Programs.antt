@@ -24,7 +24,7 @@ use Rattle.gb_typed.specs.Finite.{IsVariableType}
 use Rattle.gb_meaning.specs.Names.{Name}
 use Rattle.gb_meaning.specs.Operators.{outcome_type}
 use Rattle.gb_meaning.specs.Written.{type_of, local_type}
-use Rattle.gb_goal.specs.Answers.{not_built}
+use Rattle.gb_goal.specs.Answers.{◌>>=◌, not_built}
 use Rattle.gb_goal.specs.Answers.Answer.{given, refused}
 use Rattle.gb_elab.specs.declared.setting.Language.TheVariants.{Program}
 use Rattle.gb_elab.specs.Environment.{Environment, program}
@@ -32,7 +32,8 @@ use Rattle.gb_elab.specs.Forms.{elaborated}
 use Rattle.gb_elab.specs.Names.{unit, own_variable, first_named, no_variable}
 use Rattle.gb_elab.specs.Types as spelled_as
 use Rattle.gb_elab_mod.specs.Lemmas.{free, nothing_around}
-use Rattle.gb_elab_mod.specs.Procedures.{untaken, result_type, lacks_value, value, undeclared, declared, variables, locals, sampling, instruction, instructions, with_result, result_of, procedure_by, procedure}
+use Rattle.gb_elab_mod.specs.Statements.{all_stated, with_statings}
+use Rattle.gb_elab_mod.specs.Procedures.{untaken, result_type, lacks_value, value, undeclared, formal, formals, declared, variables, locals, with_result, result_of, procedure_by, procedure}
 use Rattle.gb_elab_mod.specs.Modules.{procedures, all_short, without_globals, plain, module_by, module_given}
 use Rattle.gb_elab_mod.specs.Bound.{parameters}
 use Rattle.gb_elab_mod.specs.Unbuilt.{absent}
@@ -52,6 +53,7 @@ use Rattle.gb_elab_laws.proofs.Typed.{given_from}
 use Rattle.gb_elab_laws.proofs.Leaves.{unit_typed}
 use Rattle.gb_elab_laws.proofs.Fits.{program_fits}
 use Rattle.gb_elab_laws.proofs.Forms.{elaborated_typed}
+use Rattle.gb_elab_laws.proofs.Stated.{fits, expression, statements_typed}
 
 have_both : (ls ms : List TypedName) → HaveVariableTypes ls → HaveVariableTypes ms → HaveVariableTypes (ls ++ ms)
 have_both [] ms h k = k
@@ -68,68 +70,54 @@ result_is x ts vs u h =
     let k = if_refused (lacks_value vs t.0) TypeMismatch (place_of x) (given t.0) u t.2 in
     subst (λ z. IsVariableType z × (lacks_value vs z ≡ false)) (given_is t.0 u k.1) (result_typed ts t.0 t.1, k.0)
 
-declared_typed : (vs : List TypedName) (xs : List Node) (t : Ty) (ws : List TypedName) → HaveVariableTypes vs → IsVariableType t → declared vs xs t ≡ given ws → HaveVariableTypes ws
-declared_typed vs [] t ws h v e = subst HaveVariableTypes (given_is vs ws e) h
-declared_typed vs (x ∷ xs) t ws h v e =
-    let next = vs ++ record { name = text_of x; ty = t } ∷ [] in
-    declared_typed next xs t ws (have_both vs (record { name = text_of x; ty = t } ∷ []) h (v, tt)) v
-    (given_bind (undeclared vs x) (λ _. declared next xs t) ws e).2
+formal_typed : (vs : List TypedName) (k : Head) (xs : List Node) (p : Place) (ws : List TypedName) → HaveVariableTypes vs → formal vs k xs p ≡ given ws → HaveVariableTypes ws
+formal_typed vs head.Formal (x ∷ t ∷ []) p ws h e =
+    let o = given_bind (undeclared vs x) _ ws e in
+    let u = given_bind (spelled_as.type_of t) (λ u. given (vs ++ record { name = text_of x; ty = u } ∷ [])) ws o.2 in
+    subst HaveVariableTypes (given_is (vs ++ record { name = text_of x; ty = u.0 } ∷ []) ws u.2) (have_both vs (record { name = text_of x; ty = u.0 } ∷ []) h (spelled_typed t u.0 u.1, tt))
+formal_typed vs _ _ p ws h e = cc
 
-variables_typed : (vs : List TypedName) (k : Head) (xs : List Node) (p : Place) (ws : List TypedName) → HaveVariableTypes vs → variables vs k xs p ≡ given ws → HaveVariableTypes ws
-variables_typed vs head.Variables (xs ∷ t ∷ []) p ws h e =
-    let u = given_bind (spelled_as.type_of t) (declared vs (parts_of xs)) ws e in declared_typed vs (parts_of xs) u.0 ws h (spelled_typed t u.0 u.1) u.2
-variables_typed vs _ _ p ws h e = cc
+-- the parameters of a procedure have types of variables
+formals_typed : (vs : List TypedName) (fs : List Node) (ws : List TypedName) → HaveVariableTypes vs → formals vs fs ≡ given ws → HaveVariableTypes ws
+formals_typed vs [] ws h e = subst HaveVariableTypes (given_is vs ws e) h
+formals_typed vs (f ∷ fs) ws h e =
+    let us = given_bind (formal vs (head_of f) (parts_of f) (place_of f)) (λ us. formals us fs) ws e in
+    formals_typed us.0 fs ws (formal_typed vs (head_of f) (parts_of f) (place_of f) us.0 h us.1) us.2
 
--- the locals of a procedure have types of variables
-locals_typed : (vs : List TypedName) (bs : List Node) (ws : List TypedName) → HaveVariableTypes vs → locals vs bs ≡ given ws → HaveVariableTypes ws
-locals_typed vs [] ws h e = subst HaveVariableTypes (given_is vs ws e) h
-locals_typed vs (b ∷ bs) ws h e =
-    let us = given_bind (variables vs (head_of b) (parts_of b) (place_of b)) (λ us. locals us bs) ws e in
-    locals_typed us.0 bs ws (variables_typed vs (head_of b) (parts_of b) (place_of b) us.0 h us.1) us.2
+module _ (ps : List TypedName) where
+  declared_typed : (vs : List TypedName) (xs : List Node) (t : Ty) (ws : List TypedName) → HaveVariableTypes vs → IsVariableType t → declared ps vs xs t ≡ given ws → HaveVariableTypes ws
+  declared_typed vs [] t ws h v e = subst HaveVariableTypes (given_is vs ws e) h
+  declared_typed vs (x ∷ xs) t ws h v e =
+      let next = vs ++ record { name = text_of x; ty = t } ∷ [] in
+      let o = given_bind (undeclared ps x) (λ _. undeclared vs x >>= λ _. declared ps next xs t) ws e in
+      declared_typed next xs t ws (have_both vs (record { name = text_of x; ty = t } ∷ []) h (v, tt)) v
+      (given_bind (undeclared vs x) (λ _. declared ps next xs t) ws o.2).2
+
+  variables_typed : (vs : List TypedName) (k : Head) (xs : List Node) (p : Place) (ws : List TypedName) → HaveVariableTypes vs → variables ps vs k xs p ≡ given ws → HaveVariableTypes ws
+  variables_typed vs head.Variables (xs ∷ t ∷ []) p ws h e =
+      let u = given_bind (spelled_as.type_of t) (declared ps vs (parts_of xs)) ws e in declared_typed vs (parts_of xs) u.0 ws h (spelled_typed t u.0 u.1) u.2
+  variables_typed vs _ _ p ws h e = cc
+
+  -- the locals of a procedure have types of variables
+  locals_typed : (vs : List TypedName) (bs : List Node) (ws : List TypedName) → HaveVariableTypes vs → locals ps vs bs ≡ given ws → HaveVariableTypes ws
+  locals_typed vs [] ws h e = subst HaveVariableTypes (given_is vs ws e) h
+  locals_typed vs (b ∷ bs) ws h e =
+      let us = given_bind (variables ps vs (head_of b) (parts_of b) (place_of b)) (λ us. locals ps us bs) ws e in
+      locals_typed us.0 bs ws (variables_typed vs (head_of b) (parts_of b) (place_of b) us.0 h us.1) us.2
 
 module _ (ds : Declarations) (c : Context) where
   module _ (vs : List TypedName) (typed : HaveVariableTypes vs) where
-    abbrev here : Environment
-    here = program ds nothing_around vs
+    abbrev at : Environment
+    at = program ds nothing_around vs
 
-    abbrev inner : Context
-    inner = of_program c vs
+    abbrev around : Context
+    around = of_program c vs
 
-    fits : IsFitting inner here []
-    fits = program_fits c ds vs (have_finite vs typed)
-
-    -- what is typed in a program is an expression
-    expression : (w : Option Ty) (e : Term) → IsGiven inner Program w e → IsExpression c vs e
-    expression w e g = record { typed = g.typed; plain = g.plain refl }
-
-    sampling_typed : (x d : Node) (i : Instr) → sampling here x d ≡ given i → IsStatement c vs i
-    unfolding sampling
-    sampling_typed x d i h =
-        let v = given_bind (own_variable here x) _ i h in
-        let from = given_bind (elaborated d here [] (Some (ty.Distr v.0.ty))) (λ (e : Term). given (Sample (Local v.0.name) e)) i v.2 in
-        let f = found vs (text_of x) v.0 (some_given (first_named vs (text_of x)) (no_variable here (text_of x)) (place_of x) v.0 v.1) in
-        let g = elaborated_typed d inner here [] fits (Some (ty.Distr v.0.ty)) from.0 from.1 in
-        let k = distributions_over v.0.ty (type_of from.0) (f.finite (have_finite vs typed)) g.wanted in
-        let target : variable_type (erased c) vs (Local v.0.name) ≡ Some (outcome_type (type_of from.0)) = ap (local_type vs) f.name ∙ f.frame ∙ ap Some (sym k.1) in
-        subst (IsStatement c vs) {x = Sample (Local v.0.name) from.0} (given_is (Sample (Local v.0.name) from.0) i from.2) (expression (Some (ty.Distr v.0.ty)) from.0 g, k.0, target)
-
-    statement : (k : Head) (xs : List Node) (p : Place) (i : Instr) → instruction here k xs p ≡ given i → IsStatement c vs i
-    statement head.Sample (x ∷ d ∷ []) p i h = sampling_typed x d i h
-    statement head.Sample (x ∷ y ∷ z ∷ zs) p i h = cc
-    statement _ _ p i h = cc
-
-    statements_typed : (ss : List Node) (is : List Instr) → instructions here ss ≡ given is → EachStatement c vs is
-    statements_typed [] is h = subst (EachStatement c vs) (given_is [] is h) tt
-    statements_typed (s ∷ ss) is h =
-        let i = given_bind (instruction here (head_of s) (parts_of s) (place_of s)) _ is h in
-        let js = given_bind (instructions here ss) (λ (js : List Instr). given (i.0 ∷ js)) is i.2 in
-        subst (EachStatement c vs) (given_is (i.0 ∷ js.0) is js.2) (statement (head_of s) (parts_of s) (place_of s) i.0 i.1, statements_typed ss js.0 js.1)
-
-    value_typed : (ts : List Node) (r : Ty) (u : Term) → lacks_value ts r ≡ false → value here ts r ≡ given u → IsGiven inner Program (Some r) u
-    value_typed (t ∷ ts) r u l h = elaborated_typed t inner here [] fits (Some r) u h
+    value_typed : (ts : List Node) (r : Ty) (u : Term) → lacks_value ts r ≡ false → value at ts r ≡ given u → IsGiven around Program (Some r) u
+    value_typed (t ∷ ts) r u l h = elaborated_typed t around at [] (fits ds c vs typed) (Some r) u h
     value_typed [] r u l h =
         let e : r ≡ ty.Unit = is_unit (ty_eq r ty.Unit) refl l in
-        subst (IsGiven inner Program (Some r)) (given_is unit u h) (given_from inner Program (Some r) ty.Unit unit (unit_typed inner here [] fits) (sym e))
+        subst (IsGiven around Program (Some r)) (given_is unit u h) (given_from around Program (Some r) ty.Unit unit (unit_typed around at [] (fits ds c vs typed)) (sym e))
       where
         is_unit : (b : Bool) → ty_eq r ty.Unit ≡ b → not b ≡ false → r ≡ ty.Unit
         is_unit true e k = (ty_eq-Decides r ty.Unit).0 e
@@ -139,19 +127,20 @@ module _ (ds : Declarations) (c : Context) where
   abbrev IsOf : Name → Proc → Type 0
   IsOf n p = (p.name ≡ n) × IsProcedure c p
 
-  with_result_typed : (x : Node) (ls ss v : List Node) (r : Ty) (p : Proc) → IsVariableType r → lacks_value v r ≡ false → with_result ds nothing_around x ls ss v r ≡ given p → IsOf (text_of x) p
+  with_result_typed : (x : Node) (ps : List TypedName) (ls ss v : List Node) (r : Ty) (p : Proc) → HaveVariableTypes ps → IsVariableType r → lacks_value v r ≡ false →
+      with_result ds nothing_around x ps ls ss v r ≡ given p → IsOf (text_of x) p
   unfolding with_result
-  with_result_typed x ls ss v r p k l h =
-      let vs = given_bind (locals [] ls) _ p h in
-      let is = given_bind (instructions (program ds nothing_around vs.0) ss) _ p vs.2 in
-      let u = given_bind (value (program ds nothing_around vs.0) v r) _ p is.2 in
-      let typed = locals_typed [] ls vs.0 tt vs.1 in
-      let g = value_typed vs.0 typed v r u.0 l u.1 in
+  with_result_typed x ps ls ss v r p m k l h =
+      let vs = given_bind (locals ps [] ls) _ p h in
+      let is = given_bind (all_stated (with_statings ss) (program ds nothing_around (ps ++ vs.0))) _ p vs.2 in
+      let u = given_bind (value (program ds nothing_around (ps ++ vs.0)) v r) _ p is.2 in
+      let typed = have_both ps vs.0 m (locals_typed ps [] ls vs.0 tt vs.1) in
+      let g = value_typed (ps ++ vs.0) typed v r u.0 l u.1 in
       subst (IsOf (text_of x)) (given_is _ p u.2) (
         refl,
         record {
-          body = record { locals = typed; statements = statements_typed vs.0 typed ss is.0 is.1 };
-          value = expression vs.0 typed (Some r) u.0 g;
+          body = record { locals = typed; statements = statements_typed ds c (ps ++ vs.0) typed ss is.0 is.1 };
+          value = expression ds c (ps ++ vs.0) typed (Some r) u.0 g;
           returned = g.wanted;
           result = k;
         },
@@ -174,10 +163,10 @@ module _ (ds : Declarations) (c : Context) where
   of_procedure_parts : (ps : List Proc) (k : Head) (xs : List Node) (q : Place) (p : Proc) → procedure_by ds nothing_around ps k xs q ≡ given p → IsBeside ps p
   of_procedure_parts ps head.Procedure (x ∷ fs ∷ r ∷ ls ∷ ss ∷ v ∷ []) q p h =
       let n = given_bind (untaken ps x) _ p h in
-      let a = given_bind (absent (parts_of fs) (place_of x)) _ p n.2 in
-      let t = given_bind (result_of x (parts_of r) (parts_of v)) (with_result ds nothing_around x (parts_of ls) (parts_of ss) (parts_of v)) p a.2 in
+      let f = given_bind (formals [] (parts_of fs)) _ p n.2 in
+      let t = given_bind (result_of x (parts_of r) (parts_of v)) (with_result ds nothing_around x f.0 (parts_of ls) (parts_of ss) (parts_of v)) p f.2 in
       let k = result_is x (parts_of r) (parts_of v) t.0 t.1 in
-      let w = with_result_typed x (parts_of ls) (parts_of ss) (parts_of v) t.0 p k.0 k.1 t.2 in
+      let w = with_result_typed x f.0 (parts_of ls) (parts_of ss) (parts_of v) t.0 p (formals_typed [] (parts_of fs) f.0 tt f.1) k.0 k.1 t.2 in
       let u = if_refused (list_any (λ (p : Proc). bytes_eq p.name (text_of x)) ps) (DoubleName (text_of x)) (place_of x) (given tt) n.0 n.1 in
       (ap (named (procedure_types ps)) w.0 ∙ free_name ps (text_of x) u.0, w.1)
   of_procedure_parts ps _ _ q p h = cc

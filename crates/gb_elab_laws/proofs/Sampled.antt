@@ -26,7 +26,7 @@ use Rattle.gb_goal.specs.declared.step.Rule.TheVariants as rule
 use Rattle.gb_goal.specs.declared.step.AmbientRule.{AmbientRule}
 use Rattle.gb_goal.specs.declared.step.AmbientRule.TheVariants as conclusion
 use Rattle.gb_goal.specs.declared.step.BodyRule.TheVariants as on_bodies
-use Rattle.gb_goal.specs.declared.step.RelationalRule.TheVariants as relational
+use Rattle.gb_goal.specs.declared.step.RelationalRule.TheVariants as relational_rule
 use Rattle.gb_goal.specs.declared.step.Step.{Step}
 use Rattle.gb_script.specs.declared.head.Head.{Head as Kind}
 use Rattle.gb_script.specs.declared.head.Head.TheVariants as text
@@ -45,7 +45,7 @@ use Rattle.gb_elab.specs.declared.setting.Language.TheVariants.{Function}
 use Rattle.gb_elab.specs.Environment.{Environment, of_function}
 use Rattle.gb_elab.specs.Forms.{function}
 use Rattle.gb_elab_mod.specs.Occurring.{occurring}
-use Rattle.gb_elab_mod.specs.Steps.{last_sampled, functions, one_type, there_and_back, of_bodies, couplings, functions_of, plain_rule, new_name, formed, of_conclusion, typed_rule, step_given}
+use Rattle.gb_elab_mod.specs.Steps.{acts, cut_of, last_sampled, functions, of_bodies_rule, on_all, one_type, plain_rule, conclusion_rule, new_name, formed, of_conclusion, seq_rule, there_and_back, of_bodies, couplings, functions_of, typed_rule, step_given}
 use Rattle.gb_elab_mod.specs.Steps as steps
 use Rattle.gb_elab_mod.specs.Unbuilt.{absent}
 use Rattle.gb_elab_laws.specs.Fitting.{IsFitting, IsGiven}
@@ -90,7 +90,7 @@ module _ (c : Context) (ds : scope.Declarations) (q : Sequent) (xs ys : List Typ
       pair (r ∷ rs) k l = tt
 
 abbrev functions_in : Rule → List Term
-functions_in (rule.Relational (relational.Rnd ts)) = ts
+functions_in (rule.Relational (relational_rule.Rnd ts)) = ts
 functions_in _ = []
 
 abbrev is_relational : Rule → Bool
@@ -105,7 +105,7 @@ module _ (ds : scope.Declarations) (q : Sequent) (t : IsTypedSequent (context_of
     -- the functions between two types, over the locals that occur in these conditions and the bodies
     abbrev typed_between : List Node → List Term → Cmd × Cmd → Ty × Ty → Answer (List Term)
     typed_between fs conditions d u =
-        one_type fs u.0 u.1 >>= λ _. there_and_back (of_function ds q (occurring conditions side.Left d.0) (occurring conditions side.Right d.1)) fs u.0 u.1
+        one_type fs u.0 u.1 >>= λ _. there_and_back (of_function ds q (occurring conditions side.Left d.0.list) (occurring conditions side.Right d.1.list)) fs u.0 u.1
 
     abbrev typed_at_ends : List Node → List Term → Cmd × Cmd → Answer (List Term)
     typed_at_ends fs conditions d = option_map_or (typed_between fs conditions d) (option_zip (last_sampled d.0) (last_sampled d.1)) (given [])
@@ -115,18 +115,18 @@ module _ (ds : scope.Declarations) (q : Sequent) (t : IsTypedSequent (context_of
       abbrev conditions : List Term
       conditions = p ∷ k ∷ []
 
-      fits : IsFitting (two here ls rs) (of_function ds q (occurring conditions side.Left l) (occurring conditions side.Right r)) []
+      fits : IsFitting (two here ls rs) (of_function ds q (occurring conditions side.Left l.list) (occurring conditions side.Right r.list)) []
       fits =
           function_fits ds q t ls rs _ _
-          (occurring_in ls here side.Left p k l (reads_stand (two here ls rs) p w.3.typed side.Left tt) (reads_stand (two here ls rs) k w.4.typed side.Left tt) w.1)
-          (occurring_in rs here side.Right p k r (reads_stand (two here ls rs) p w.3.typed side.Right tt) (reads_stand (two here ls rs) k w.4.typed side.Right tt) w.2)
+          (occurring_in ls here side.Left p k l.list (reads_stand (two here ls rs) p w.3.typed side.Left tt) (reads_stand (two here ls rs) k w.4.typed side.Left tt) w.1)
+          (occurring_in rs here side.Right p k r.list (reads_stand (two here ls rs) p w.3.typed side.Right tt) (reads_stand (two here ls rs) k w.4.typed side.Right tt) w.2)
 
       at_ends : (x y : Option Sampling) (us : List Term) → ((a : Ty) → option_map (λ (z : Sampling). z.ty) x ≡ Some a → IsFinite a) →
           ((a : Ty) → option_map (λ (z : Sampling). z.ty) y ≡ Some a → IsFinite a) →
           option_map_or (typed_between fs conditions (l, r)) (option_zip (option_map (λ (z : Sampling). z.ty) x) (option_map (λ (z : Sampling). z.ty) y)) (given []) ≡ given us →
           AreBetween (two here ls rs) us (option_zip x y)
       at_ends (Some x) (Some y) us f g h =
-          let o = given_bind (one_type fs x.ty y.ty) (λ _. there_and_back (of_function ds q (occurring conditions side.Left l) (occurring conditions side.Right r)) fs x.ty y.ty) us h in
+          let o = given_bind (one_type fs x.ty y.ty) (λ _. there_and_back (of_function ds q (occurring conditions side.Left l.list) (occurring conditions side.Right r.list)) fs x.ty y.ty) us h in
           functions_typed (two here ls rs) ds q _ _ fits fs x.ty y.ty (f x.ty refl) (g y.ty refl) o.0 us o.1 o.2
       at_ends (Some x) None us f g h = tt
       at_ends None y us f g h = tt
@@ -174,23 +174,24 @@ module _ (ds : scope.Declarations) (q : Sequent) (t : IsTypedSequent (context_of
       couplings_typed fs us h = of_head fs q.conclusion (out-Term q.conclusion).head (out-Term q.conclusion).args us h w
 
       -- a rule of another family
-      other : (k j : Rule) (us : List Term) → is_relational k ≡ false → k ≡ j → j ≡ rule.Relational (relational.Rnd us) → Typed us
+      other : (k j : Rule) (us : List Term) → is_relational k ≡ false → k ≡ j → j ≡ rule.Relational (relational_rule.Rnd us) → Typed us
       other k j us f h r = absurd (false≢true (sym f ∙ ap is_relational (h ∙ r)))
 
-      of_rule : (n : Kind) (x : List ℕ) (xs : List Node) (p : Place) (k : Rule) (us : List Term) → typed_rule ds q n x xs p ≡ given k → k ≡ rule.Relational (relational.Rnd us) → Typed us
+      of_rule : (n : Kind) (x : List ℕ) (xs : List Node) (p : Place) (k : Rule) (us : List Term) → typed_rule ds q n x xs p ≡ given k → k ≡ rule.Relational (relational_rule.Rnd us) → Typed us
       of_rule text.Rnd x (b ∷ fs) p k us h r =
           let o = given_bind (absent (parts_of b) p) _ k h in
-          let y = given_bind (couplings ds q (functions_of fs)) (λ (us : List Term). given (rule.Relational (relational.Rnd us))) k o.2 in
-          subst Typed (ap functions_in (given_is (rule.Relational (relational.Rnd y.0)) k y.2 ∙ r)) (couplings_typed (functions_of fs) y.0 y.1)
+          let y = given_bind (couplings ds q (functions_of fs)) (λ (us : List Term). given (rule.Relational (relational_rule.Rnd us))) k o.2 in
+          subst Typed (ap functions_in (given_is (rule.Relational (relational_rule.Rnd y.0)) k y.2 ∙ r)) (couplings_typed (functions_of fs) y.0 y.1)
       of_rule text.Proc x (b ∷ i ∷ []) p k us h r =
-          let o = given_bind (absent (parts_of b) p) _ k h in
-          let y = given_bind (absent (parts_of i) p) (λ _. given (rule.OnBodies on_bodies.Proc)) k o.2 in
-          other (rule.OnBodies on_bodies.Proc) k us refl (given_is (rule.OnBodies on_bodies.Proc) k y.2) r
-      of_rule text.BodyStep x (b ∷ []) p k us h r =
-          let o = given_bind (absent (parts_of b) p) (λ _. if bytes_eq x (codes "skip") then given (rule.OnBodies on_bodies.Skip) else not_built p) k h in
-          other (rule.OnBodies on_bodies.Skip) k us refl (if_given (bytes_eq x (codes "skip")) (rule.OnBodies on_bodies.Skip) Syntax p k o.2).1 r
+          let y = given_bind (absent (parts_of i) p) (λ _. given (rule.OnBodies (on_all (acts (parts_of b)) on_bodies.Proc))) k h in
+          other (rule.OnBodies (on_all (acts (parts_of b)) on_bodies.Proc)) k us refl (given_is (rule.OnBodies (on_all (acts (parts_of b)) on_bodies.Proc)) k y.2) r
+      of_rule text.BodyStep x (b ∷ []) p k us h r = let y = given_bind (plain_rule x (acts (parts_of b)) p) (λ z. given (rule.OnBodies z)) k h in other (rule.OnBodies y.0) k us refl (given_is (rule.OnBodies y.0) k y.2) r
+      of_rule text.Seq x (b ∷ n ∷ ns ∷ f ∷ bounds ∷ []) p k us h r =
+          let o = given_bind (absent (parts_of bounds) p) (λ _. of_bodies_rule (seq_rule ds q (acts (parts_of b)) (cut_of n (parts_of ns)) f)) k h in
+          let y = given_bind (seq_rule ds q (acts (parts_of b)) (cut_of n (parts_of ns)) f) (λ z. given (rule.OnBodies z)) k o.2 in
+          other (rule.OnBodies y.0) k us refl (given_is (rule.OnBodies y.0) k y.2) r
       of_rule text.PlainStep x [] p k us h r =
-          let o = given_bind (plain_rule x p) (λ (a : AmbientRule). given (rule.Ambient a)) k h in other (rule.Ambient o.0) k us refl (given_is (rule.Ambient o.0) k o.2) r
+          let o = given_bind (conclusion_rule x p) (λ (a : AmbientRule). given (rule.Ambient a)) k h in other (rule.Ambient o.0) k us refl (given_is (rule.Ambient o.0) k o.2) r
       of_rule text.CaseStep x (b ∷ f ∷ []) p k us h r =
           let o = given_bind (absent (parts_of b) p) _ k h in
           let y = given_bind (of_conclusion q p) _ k o.2 in
@@ -205,7 +206,7 @@ module _ (ds : scope.Declarations) (q : Sequent) (t : IsTypedSequent (context_of
 
 -- The functions of a typed step `rnd` are typed over the locals of the bodies.
 pub step_typed : (ds : scope.Declarations) (q : Sequent) (t : IsTypedSequent (context_of (declared ds)) q) → (n : Node) (s : Step) → step_given ds q n ≡ given s →
-    (fs : List Term) → s.rule ≡ rule.Relational (relational.Rnd fs) → (ls rs : List TypedName) →
+    (fs : List Term) → s.rule ≡ rule.Relational (relational_rule.Rnd fs) → (ls rs : List TypedName) →
     IsGoalOver (of_sequent (context_of (declared ds)) q t.frames) ls rs (goal_of q.conclusion) →
     AreTypedFunctions (of_sequent (context_of (declared ds)) q t.frames) fs ls rs (goal_of q.conclusion)
 unfolding step_given
@@ -217,7 +218,7 @@ step_typed ds q t n s h fs r ls rs w =
 module _ (ds : scope.Declarations) (q : Sequent) (t : IsTypedSequent (context_of (declared ds)) q) (n : Node) (s : Step) (h : step_given ds q n ≡ given s) where
   module _ (ls rs : List TypedName) (w : IsGoalOver (of_sequent (context_of (declared ds)) q t.frames) ls rs (goal_of q.conclusion)) where
     of_step : (r : Rule) → s.rule ≡ r → IsTypedRule (of_sequent (context_of (declared ds)) q t.frames) r ls rs (goal_of q.conclusion)
-    of_step (rule.Relational (relational.Rnd fs)) e = step_typed ds q t n s h fs e ls rs w
+    of_step (rule.Relational (relational_rule.Rnd fs)) e = step_typed ds q t n s h fs e ls rs w
     of_step (rule.OnBodies r) e = tt
     of_step rule.Smt e = tt
     of_step (rule.Ambient r) e = tt

@@ -21,6 +21,7 @@ ghost use Rattle.gb_rules.specs.Typing.{IsGoalOver};
 ghost use Rattle.gb_elab_mod.specs.Occurring.{read_locals};
 ghost use Rattle.gb_elab_mod.specs.Steps.{step_given};
 ghost use Rattle.gb_elab_laws.specs.Reading.{IsOuter, StandIn};
+ghost use Rattle.gb_bodies.specs.Rows as bodies;
 ghost use Rattle.gb_equiv.specs.Rows.{IsTypedRule};
 ghost use Rattle.gb_amb.specs.Steps.{IsTypedStep};
 
@@ -29,10 +30,14 @@ pub fn locals_read()
     ensures { (c : Context) (t : Term) → IsTyped c t → (s : Side) → IsOuter s → StandIn (frame_of c s) (read_locals t s) }
 {}
 
-/// The arguments of a typed step at a typed goal are typed: the functions of `rnd` between the values of the samplings that end both
-/// bodies, over the locals of the bodies.
+/// The arguments of a typed step at a typed goal are typed over the locals of the bodies: the functions of `rnd` between the values of
+/// the samplings that end both bodies, and in a typed scope the form of `seq`.
 pub fn typed_rules()
-    ensures { (ds : scope.Declarations) (q : Sequent) (t : IsTypedSequent (context_of (declared ds)) q) →
+    ensures bodies { (ds : scope.Declarations) → IsTypedScope (declared ds) → (q : Sequent) (t : IsTypedSequent (context_of (declared ds)) q) →
+        (n : Node) (s : Step) → step_given ds q n ≡ given s →
+        (ls rs : List TypedName) → IsGoalOver (of_sequent (context_of (declared ds)) q t.frames) ls rs (goal_of q.conclusion) →
+        bodies.IsTypedRule (of_sequent (context_of (declared ds)) q t.frames) s.rule ls rs (goal_of q.conclusion) }
+    ensures relational { (ds : scope.Declarations) (q : Sequent) (t : IsTypedSequent (context_of (declared ds)) q) →
         (n : Node) (s : Step) → step_given ds q n ≡ given s →
         (ls rs : List TypedName) → IsGoalOver (of_sequent (context_of (declared ds)) q t.frames) ls rs (goal_of q.conclusion) →
         IsTypedRule (of_sequent (context_of (declared ds)) q t.frames) s.rule ls rs (goal_of q.conclusion) }

@@ -3,23 +3,28 @@ use Rattle.std.proofs.Common.{◌≡◌, ℕ, ◌+◌, ◌<◌, if◌then◌else
 use Rattle.std.proofs.lemmas.List.{at_drop_more}
 use Rattle.std.proofs.lemmas.List.Folds.{flat_map-map}
 use Rattle.gb_core.specs.declared.ty.Ty.{Ty}
+use Rattle.gb_core.specs.declared.var.Var.{Var}
 use Rattle.gb_terms.specs.declared.decl.TypedName.{TypedName}
 use Rattle.gb_terms.specs.declared.module.ProcRef.{ProcRef}
 use Rattle.gb_terms.specs.declared.op.Read.{Read}
 use Rattle.gb_terms.specs.declared.op.Rel.{Rel}
 use Rattle.gb_terms.specs.declared.op.Side.{Side}
+use Rattle.gb_terms.specs.declared.op.Side.TheVariants as side
 use Rattle.gb_terms.specs.declared.op.Read.TheVariants.{Logical, Program}
-use Rattle.gb_terms.specs.declared.term.Term.{Term, out-Term}
+use Rattle.gb_terms.specs.declared.term.Term.{Term, out-Term, Row_of-Term, end_of-Term, more_of-Term, items-the_row-Term, items_hidden-the_row-Term-0}
 use Rattle.gb_terms.specs.declared.term.Head.{Head}
 use Rattle.gb_terms.specs.declared.term.Subject.{Subject}
-use Rattle.gb_terms.specs.declared.term.Instr.{Instr}
-use Rattle.gb_terms.specs.declared.term.Cmd.{Cmd}
+use Rattle.gb_terms.specs.declared.term.Instr.{Instr, Row_of-Instr, end_of-Instr, more_of-Instr}
+use Rattle.gb_terms.specs.declared.term.Cmd.{Cmd, items-the_row-Instr, items_hidden-the_row-Instr-1}
+use Rattle.gb_terms.specs.declared.term.Head.TheBlock as B
+use Rattle.gb_terms.specs.declared.term.Head.TheVariants.{Call, If, While}
 use Rattle.gb_terms.specs.declared.term.Head.TheOpen as layer
 use Rattle.gb_terms.specs.declared.term.Head.TheVariants as head
 use Rattle.gb_terms.specs.declared.term.Head.TheViews.{the_lemmas, out-Head, roll-Head, roll-out-Head}
 use Rattle.gb_terms.specs.declared.term.Head.TheFolds.{map-Head, fold-Head, fold_out-Term, fold_out-Head}
 use Rattle.gb_terms.specs.Equal.{side_eq}
-use Rattle.gb_elab_mod.specs.Occurring.{Closed, Locals, added, at_head, at_term, local, or_args, read_locals, with_all}
+use Rattle.gb_elab_mod.specs.Occurring.{Closed, Locals, added, at_head, at_term, local, or_args, read_locals, row_locals, row_read, statement_locals, with_all}
+use mathlib.Core.Former.{Count}
 
 pub with_append : (vs xs ys : List TypedName) → with_all vs (xs ++ ys) ≡ with_all (with_all vs xs) ys
 with_append vs [] ys = refl
@@ -74,3 +79,28 @@ read_locals_out t s =
     ap (λ f. f s) (fold_out-Term Closed (Unit {0}) (Unit {0}) (Unit {0}) Locals at_head (λ i. tt) (λ j. tt) (λ c. tt) at_term t)
     ∙ ap (or_args (folded_head (out-Term t).head s (out-Term t).ty)) (flat_map-map (λ (a : Locals). a s) read_locals (out-Term t).args)
     ∙ ap (λ o. or_args o (flat_map (λ u. read_locals u s) (out-Term t).args)) (folded_is (out-Term t).head s (out-Term t).ty)
+
+pub with_three : (vs xs ys zs : List TypedName) → with_all vs (xs ++ (ys ++ zs)) ≡ with_all (with_all (with_all vs xs) ys) zs
+with_three vs xs ys zs = with_append vs xs (ys ++ zs) ∙ with_append (with_all vs xs) ys zs
+
+-- the locals of a statement, by the lists of its terms and of the statements in it
+
+row_terms : {n : Count} (r : Row_of-Term n) → row_read r ≡ flat_map (λ t. read_locals t side.Own) (items-the_row-Term _ r)
+row_terms end_of-Term = refl
+row_terms (more_of-Term t r) = ap (λ xs. read_locals t side.Own ++ xs) (row_terms r)
+
+row_body : {n : Count} (r : Row_of-Instr n) → row_locals r ≡ flat_map statement_locals (items-the_row-Instr _ r)
+row_body end_of-Instr = refl
+row_body (more_of-Instr i r) = ap (λ xs. statement_locals i ++ xs) (row_body r)
+
+body_locals : (is : List Instr) → row_locals (B.hidden-the_row-Instr-1 is) ≡ flat_map statement_locals is
+body_locals is = row_body (B.hidden-the_row-Instr-1 is) ∙ ap (flat_map statement_locals) (items_hidden-the_row-Instr-1 is)
+
+pub call_locals : (xs : List Var) (p : ProcRef) (es : List Term) → statement_locals (Call xs p es) ≡ flat_map (λ t. read_locals t side.Own) es
+call_locals xs p es = row_terms (B.hidden-the_row-Term-0 es) ∙ ap (flat_map (λ t. read_locals t side.Own)) (items_hidden-the_row-Term-0 es)
+
+pub if_locals : (e : Term) (a b : Cmd) → statement_locals (If e a b) ≡ read_locals e side.Own ++ (flat_map statement_locals a.list ++ flat_map statement_locals b.list)
+if_locals e a b = λ i. read_locals e side.Own ++ (body_locals a.list i ++ body_locals b.list i)
+
+pub while_locals : (e v : Term) (a : Cmd) → statement_locals (While e v a) ≡ read_locals e side.Own ++ (read_locals v side.Own ++ flat_map statement_locals a.list)
+while_locals e v a = λ i. read_locals e side.Own ++ (read_locals v side.Own ++ body_locals a.list i)

@@ -15,6 +15,7 @@ use Rattle.gb_goal.specs.Answers.{Answer, ◌>>=◌, not_built}
 use Rattle.gb_goal.specs.Answers.Answer.{given, refused}
 use Rattle.gb_elab_mod.specs.Lemmas.{free, nothing_around}
 use Rattle.gb_elab_mod.specs.Procedures.{procedure}
+use Rattle.gb_elab_mod.specs.Statements.{places}
 use Rattle.gb_elab_mod.specs.Bound.{parameters}
 use Rattle.gb_elab_mod.specs.Unbuilt.{absent}
 
@@ -23,13 +24,13 @@ unfoldable pub procedures : Declarations → Sequent → List Proc → List Node
 procedures ds s ps [] = given ps
 procedures ds s ps (t ∷ ts) = procedure ds s ps t >>= λ p. procedures ds s (ps ++ p ∷ []) ts
 
--- a body of at most 512 statements, refused at the first one too many
-abbrev pub within_limit : Option Node → Answer (Unit {0})
+-- a body of at most 512 statements, those in others counted, refused at the first one too many
+abbrev pub within_limit : Option Place → Answer (Unit {0})
 within_limit None = given tt
-within_limit (Some s) = refused (TooMany 512) (place_of s)
+within_limit (Some p) = refused (TooMany 512) p
 
 abbrev pub short : Head → List Node → Answer (Unit {0})
-short head.Procedure (x ∷ fs ∷ r ∷ ls ∷ ss ∷ v ∷ []) = within_limit (slice_get (parts_of ss) 512)
+short head.Procedure (x ∷ fs ∷ r ∷ ls ∷ ss ∷ v ∷ []) = within_limit (slice_get (places ss) 512)
 short _ _ = given tt
 
 abbrev pub all_short : List Node → Answer (Unit {0})

@@ -9,12 +9,11 @@ use Rattle.gb_terms.specs.declared.decl.TypedName.{TypedName}
 use Rattle.gb_terms.specs.declared.op.Side.{Side}
 use Rattle.gb_terms.specs.declared.op.Side.TheVariants as side
 use Rattle.gb_terms.specs.declared.op.Read.TheVariants.{Program}
-use Rattle.gb_terms.specs.declared.term.Term.{Term, out-Term}
-use Rattle.gb_terms.specs.declared.term.Head.TheVariants.{Sample}
+use Rattle.gb_terms.specs.declared.term.Term.{Term, out-Term, Row_of-Term, end_of-Term, more_of-Term}
+use Rattle.gb_terms.specs.declared.term.Head.TheVariants.{Assign, Sample, Call', If', While'}
 use Rattle.gb_terms.specs.declared.term.Head.TheOpen as layer
 use Rattle.gb_terms.specs.declared.term.Head.TheFolds.{fold-Term}
-use Rattle.gb_terms.specs.declared.term.Instr.{Instr}
-use Rattle.gb_terms.specs.declared.term.Cmd.{Cmd}
+use Rattle.gb_terms.specs.declared.term.Instr.{Instr, Row_of-Instr, end_of-Instr, more_of-Instr}
 use Rattle.gb_terms.specs.Equal.{side_eq}
 
 -- the local that a variable of this type is
@@ -53,10 +52,31 @@ abbrev pub outcome_local : Var → ty_layer.Ty-F Ty → List TypedName
 outcome_local x (ty_layer.Distr t) = local x t
 outcome_local x _ = []
 
--- the local that a sampling writes, and those that it reads
-abbrev pub sampling_locals : Instr → List TypedName
-sampling_locals (Sample x d) = outcome_local x (out-Ty (out-Term d).ty) ++ read_locals d side.Own
-sampling_locals _ = []
+-- the locals that a sampling, and that an assignment writes
+abbrev pub sampled : Var → Term → List TypedName
+sampled x d = outcome_local x (out-Ty (out-Term d).ty)
+
+abbrev pub assigned : List Var → Term → List TypedName
+assigned (x ∷ []) e = local x (out-Term e).ty
+assigned _ e = []
+
+-- the locals that terms of a program read
+abbrev pub row_read : {n : _} → Row_of-Term n → List TypedName
+row_read end_of-Term = []
+row_read (more_of-Term t ts) = read_locals t side.Own ++ row_read ts
+
+abbrev mutual
+  -- the locals that a statement writes and reads, with those of the statements in it
+  pub statement_locals : Instr → List TypedName
+  statement_locals (Assign xs e) = assigned xs e ++ read_locals e side.Own
+  statement_locals (Sample x d) = sampled x d ++ read_locals d side.Own
+  statement_locals (Call' xs p n es) = row_read es
+  statement_locals (If' e m a n b) = read_locals e side.Own ++ (row_locals a ++ row_locals b)
+  statement_locals (While' e v n a) = read_locals e side.Own ++ (read_locals v side.Own ++ row_locals a)
+
+  pub row_locals : {n : _} → Row_of-Instr n → List TypedName
+  row_locals end_of-Instr = []
+  row_locals (more_of-Instr i is) = statement_locals i ++ row_locals is
 
 -- a local beside others, where none of them has its name
 abbrev pub added : List TypedName → TypedName → List TypedName
@@ -67,5 +87,5 @@ with_all vs [] = vs
 with_all vs (x ∷ xs) = with_all (added vs x) xs
 
 -- the locals that conditions read through the memory of a side and that the body of this side reads or writes, each once
-abbrev pub occurring : List Term → Side → Cmd → List TypedName
-occurring ts s c = with_all [] (flat_map (λ t. read_locals t s) ts ++ flat_map sampling_locals c.list)
+abbrev pub occurring : List Term → Side → List Instr → List TypedName
+occurring ts s is = with_all [] (flat_map (λ t. read_locals t s) ts ++ flat_map statement_locals is)

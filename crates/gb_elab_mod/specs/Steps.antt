@@ -1,5 +1,5 @@
 -- The typing of proof steps.
-use Rattle.std.specs.Prelude.{ℕ, ◌-◌, Bool, true, false, ◌||◌, if◌then◌else◌, List, [], ◌∷◌, length, slice_get, Option, Some, None, bytes_eq, codes}
+use Rattle.std.specs.Prelude.{ℕ, ◌-◌, ◌^◌, nat_lt, Bool, true, false, ◌||◌, if◌then◌else◌, List, [], ◌∷◌, length, slice_get, Option, Some, None, bytes_eq, codes}
 use Rattle.std.specs.Option.{option_map_or, option_zip}
 use Rattle.std.specs.List.{list_any}
 use Rattle.gb_core.specs.declared.place.Place.{Place}
@@ -14,6 +14,7 @@ use Rattle.gb_terms.specs.declared.term.Head.{Head}
 use Rattle.gb_terms.specs.declared.term.Head.TheVariants.{Equiv, Sample}
 use Rattle.gb_terms.specs.declared.term.Head.TheOpen as layer
 use Rattle.gb_terms.specs.declared.term.Subject.{Subject, out-Subject}
+use Rattle.gb_terms.specs.declared.decl.TypedName.{TypedName}
 use Rattle.gb_terms.specs.declared.term.Instr.{Instr}
 use Rattle.gb_terms.specs.declared.term.Cmd.{Cmd}
 use Rattle.gb_goal.specs.declared.sequent.Sequent.{Sequent}
@@ -21,8 +22,16 @@ use Rattle.gb_goal.specs.declared.step.Rule.{Rule}
 use Rattle.gb_goal.specs.declared.step.Rule.TheVariants as rule
 use Rattle.gb_goal.specs.declared.step.AmbientRule.{AmbientRule}
 use Rattle.gb_goal.specs.declared.step.AmbientRule.TheVariants as conclusion
+use Rattle.gb_goal.specs.declared.step.BodyRule.{BodyRule}
 use Rattle.gb_goal.specs.declared.step.BodyRule.TheVariants as on_bodies
-use Rattle.gb_goal.specs.declared.step.RelationalRule.TheVariants as relational
+use Rattle.gb_goal.specs.declared.step.Acts.{Acts}
+use Rattle.gb_goal.specs.declared.step.Acts.TheVariants as on
+use Rattle.gb_goal.specs.declared.step.Cut.{Cut}
+use Rattle.gb_goal.specs.declared.step.Cut.TheVariants as cut
+use Rattle.gb_goal.specs.Goal.{Goal, goal_of}
+use Rattle.gb_goal.specs.Goal.Code.{body}
+use Rattle.gb_goal.specs.Goal.Goal.{hoare, equiv}
+use Rattle.gb_goal.specs.declared.step.RelationalRule.TheVariants as relational_rule
 use Rattle.gb_goal.specs.declared.step.Step.{Step}
 use Rattle.gb_goal.specs.Goal.{judges_bodies}
 use Rattle.gb_goal.specs.Scope.{Declarations}
@@ -32,8 +41,9 @@ use Rattle.gb_script.specs.declared.tree.Node.{Node}
 use Rattle.gb_script.specs.Tree.{head_of, text_of, parts_of, place_of}
 use Rattle.gb_goal.specs.Answers.{Answer, ◌>>=◌, not_built}
 use Rattle.gb_goal.specs.Answers.Answer.{given, refused}
-use Rattle.gb_elab.specs.Environment.{Environment, ambient, of_function}
+use Rattle.gb_elab.specs.Environment.{Environment, ambient, of_function, relational, unary}
 use Rattle.gb_elab.specs.Forms.{elaborated, function}
+use Rattle.gb_limits.specs.Numbers.{number_of}
 use Rattle.gb_elab_mod.specs.Occurring.{occurring}
 use Rattle.gb_elab_mod.specs.Unbuilt.{absent}
 
@@ -86,7 +96,7 @@ one_type _ a b = given tt
 abbrev pub between : Declarations → Sequent → List Node → Cmd × Cmd → Ty × Ty → Answer (List Term)
 between ds g fs c t =
     one_type fs t.0 t.1 >>= λ _. there_and_back
-    (of_function ds g (occurring (out-Term g.conclusion).args side.Left c.0) (occurring (out-Term g.conclusion).args side.Right c.1))
+    (of_function ds g (occurring (out-Term g.conclusion).args side.Left c.0.list) (occurring (out-Term g.conclusion).args side.Right c.1.list))
     fs
     t.0
     t.1
@@ -107,9 +117,55 @@ abbrev pub functions_of : List Node → List Node
 functions_of (f ∷ []) = if is_apply (head_of f) then parts_of f else f ∷ []
 functions_of fs = fs
 
+-- the programs on which a step acts
+abbrev pub acts : List Node → Acts
+acts [] = on.All
+acts (n ∷ ns) = if bytes_eq (text_of n) (codes "1") then on.Left else on.Right
+
+-- a rule that acts on all programs of a goal alone
+abbrev pub on_all : Acts → BodyRule → BodyRule
+on_all on.All r = r
+on_all a r = on_bodies.Unfit
+
+-- a rule without other arguments
+abbrev pub plain_rule : List ℕ → Acts → Place → Answer BodyRule
+plain_rule x a p =
+    if bytes_eq x (codes "skip") then given (on_all a on_bodies.Skip)
+    else if bytes_eq x (codes "if") then given (on_bodies.If a)
+    else if bytes_eq x (codes "wp") then given (on_bodies.Wp a) else not_built p
+
+-- A position in a body. No body is as long as the numbers that the reader doesn't let pass.
+abbrev pub position : Node → ℕ
+position n = if nat_lt (number_of (text_of n)) (2 ^ 127) then number_of (text_of n) else 2 ^ 127
+
+-- the positions of a cut, in one body or in two
+abbrev pub cut_of : Node → List Node → Cut
+cut_of n [] = cut.One (position n)
+cut_of n (m ∷ ms) = cut.Two (position n) (position m)
+
+-- A cut of the bodies of a goal, with the form between, which reads the locals that occur in the goal. Where the goal has no such
+-- bodies the form has no type, and the rule refuses the goal.
+unfoldable pub cut_rule : Declarations → Sequent → Cut → Node → Goal → Answer BodyRule
+cut_rule ds s (cut.One k) r (hoare (body is) p q) = do
+  f ← elaborated r (unary ds s (occurring (p ∷ q ∷ []) side.Own is)) [] (Some bool_ty)
+  given (on_bodies.Seq (cut.One k) f)
+cut_rule ds s (cut.Two k l) r (equiv (body is) (body js) p q) = do
+  f ← elaborated r (relational ds s (occurring (p ∷ q ∷ []) side.Left is) (occurring (p ∷ q ∷ []) side.Right js)) [] (Some bool_ty)
+  given (on_bodies.Seq (cut.Two k l) f)
+cut_rule ds s k r G = given on_bodies.Unfit
+
+-- the same of a step that acts on these programs
+abbrev pub seq_rule : Declarations → Sequent → Acts → Cut → Node → Answer BodyRule
+seq_rule ds s on.All k r = cut_rule ds s k r (goal_of s.conclusion)
+seq_rule ds s a k r = given on_bodies.Unfit
+
+-- a rule on programs
+abbrev pub of_bodies_rule : Answer BodyRule → Answer Rule
+of_bodies_rule a = a >>= λ r. given (rule.OnBodies r)
+
 -- the steps on a conclusion that stand alone
-abbrev pub plain_rule : List ℕ → Place → Answer AmbientRule
-plain_rule x p =
+abbrev pub conclusion_rule : List ℕ → Place → Answer AmbientRule
+conclusion_rule x p =
     if bytes_eq x (codes "split") then given conclusion.Split
     else if bytes_eq x (codes "left") then given conclusion.Left
     else if bytes_eq x (codes "right") then given conclusion.Right
@@ -133,22 +189,22 @@ formed ds g f = elaborated f (ambient ds g) [] (Some bool_ty)
 abbrev pub of_conclusion : Sequent → Place → Answer (Unit {0})
 of_conclusion g p = if judges_bodies (out-Term g.conclusion).head then not_built p else given tt
 
--- Rules act on both bodies of a goal: those on one of them aren't built. The last clause takes what isn't built either, and
--- trees of another shape, of which the reader builds none, since each of its trees is well-sorted.
+-- The last clause takes what isn't built, and trees of another shape, of which the reader builds none, since each of its trees is
+-- well-sorted.
 abbrev pub typed_rule : Declarations → Sequent → Kind → List ℕ → List Node → Place → Answer Rule
 typed_rule ds g text.Proc x (b ∷ invariant ∷ []) p = do
-  _ ← absent (parts_of b) p
   _ ← absent (parts_of invariant) p
-  given (rule.OnBodies on_bodies.Proc)
+  given (rule.OnBodies (on_all (acts (parts_of b)) on_bodies.Proc))
 typed_rule ds g text.Rnd x (b ∷ fs) p = do
   _ ← absent (parts_of b) p
   ts ← couplings ds g (functions_of fs)
-  given (rule.Relational (relational.Rnd ts))
-typed_rule ds g text.BodyStep x (b ∷ []) p = do
-  _ ← absent (parts_of b) p
-  if bytes_eq x (codes "skip") then given (rule.OnBodies on_bodies.Skip) else not_built p
+  given (rule.Relational (relational_rule.Rnd ts))
+typed_rule ds g text.BodyStep x (b ∷ []) p = of_bodies_rule (plain_rule x (acts (parts_of b)) p)
+typed_rule ds g text.Seq x (b ∷ n ∷ ns ∷ r ∷ bounds ∷ []) p = do
+  _ ← absent (parts_of bounds) p
+  of_bodies_rule (seq_rule ds g (acts (parts_of b)) (cut_of n (parts_of ns)) r)
 typed_rule ds g text.PlainStep x [] p = do
-  r ← plain_rule x p
+  r ← conclusion_rule x p
   given (rule.Ambient r)
 typed_rule ds g text.CaseStep x (b ∷ f ∷ []) p = do
   _ ← absent (parts_of b) p

@@ -5,7 +5,7 @@ ghost use Rattle.std.specs.List.{list_any};
 ghost use Rattle.gb_goal.specs.Answers.{Answers, ◌>>=◌ as ◌and_then◌};
 ghost use Rattle.gb_goal.specs.Answers.Answer.{given};
 ghost use Rattle.gb_script.specs.Tree.{text_of, place_of};
-ghost use Rattle.gb_elab_mod.specs.Steps.{formed, is_taken, new_name, of_conclusion, plain_rule};
+ghost use Rattle.gb_elab_mod.specs.Steps.{conclusion_rule, formed, is_taken, new_name, of_conclusion};
 
 use gb_core::name::Name;
 use gb_core::place::Place;
@@ -25,8 +25,8 @@ use gb_terms::term::Form;
 use std::alloc::Global;
 
 /// The steps on a conclusion that stand alone.
-pub fn plain_rule(text: &Name, place: Place) -> Result<AmbientRule, Refused>
-    ensures { Answers (plain_rule text.now place) result }
+pub fn conclusion_rule(text: &Name, place: Place) -> Result<AmbientRule, Refused>
+    ensures { Answers (conclusion_rule text.now place) result }
 {
     match text.as_str() {
         "split" => Ok(AmbientRule::Split),

@@ -4,9 +4,12 @@
 pub mod bound;
 pub mod conclusions;
 pub mod couplings;
+pub mod cut;
 pub mod lemma;
 pub mod module;
 pub mod occurring;
+pub mod places;
 pub mod procedure;
+pub mod statement;
 pub mod step;
 pub mod unbuilt;

@@ -10,6 +10,7 @@ ghost use Rattle.gb_elab_mod.specs.Modules.{all_short, is_globals, module_by, mo
 
 use crate::bound::refuse_parameters;
 use crate::lemma::{nothing_around, refuse_declared};
+use crate::places::places;
 use crate::procedure::procedure;
 use crate::unbuilt::refuse_any;
 use gb_core::place::Place;
@@ -89,7 +90,7 @@ fn plain(
     refuse_any(ty, name.place)?;
     refuse_globals(items, name.place)?;
     let procs = typed_procedures(alloc, scope, items)?;
-    refuse_long_bodies(items)?;
+    refuse_long_bodies(alloc, items)?;
     let name = name.text.copy(alloc)?;
     Ok(Module {
         name,
@@ -130,30 +131,33 @@ fn refuse_globals(items: &[Node], place: Place) -> Result<(), Refused>
     }
 }
 
-/// Refuses a body of too many statements, at the first one too many.
-fn refuse_long_body(head: Head, parts: &[Node]) -> Result<(), Refused>
+/// Refuses a body of too many statements, those in others counted, at the first one too many.
+fn refuse_long_body(alloc: Global, head: Head, parts: &[Node]) -> Result<(), Refused>
     ensures { Answers (short head parts.now) result }
 {
     match head {
         Head::Procedure => match parts {
-            [_, _, _, _, body, _] => match body.parts.get(STATEMENTS) {
-                None => Ok(()),
-                Some(s) => Err(Refused::Script {
-                    why: Why::TooMany(STATEMENTS as u64),
-                    place: s.place,
-                }),
-            },
+            [_, _, _, _, body, _] => {
+                let places = places(alloc, body)?;
+                match places.get(STATEMENTS) {
+                    None => Ok(()),
+                    Some(place) => Err(Refused::Script {
+                        why: Why::TooMany(STATEMENTS as u64),
+                        place: *place,
+                    }),
+                }
+            }
             _ => Ok(()),
         },
         _ => Ok(()),
     }
 }
 
-fn refuse_long_bodies(items: &[Node]) -> Result<(), Refused>
+fn refuse_long_bodies(alloc: Global, items: &[Node]) -> Result<(), Refused>
     ensures { Answers (all_short items.now) result }
 {
     for item in items {
-        refuse_long_body(item.head, item.parts.as_slice())?;
+        refuse_long_body(alloc, item.head, item.parts.as_slice())?;
     }
     Ok(())
 }

@@ -1,8 +1,7 @@
 // The locals of the bodies of a goal: those that occur in it, each with the type that it has there.
 
-ghost use Rattle.std.specs.Prelude.{◌≡◌, [], flat_map, if◌then◌else◌, IfOk, OnOk};
-ghost use Rattle.gb_terms.specs.declared.term.Head.TheVariants.{Sample};
-ghost use Rattle.gb_elab_mod.specs.Occurring.{added, local, occurring, read_locals, sampling_locals, with_all};
+ghost use Rattle.std.specs.Prelude.{◌≡◌, [], ◌∷◌, flat_map, if◌then◌else◌, IfOk, OnOk};
+ghost use Rattle.gb_elab_mod.specs.Occurring.{added, assigned, local, occurring, read_locals, sampled, statement_locals, with_all};
 
 use crate::procedure::is_local;
 use gb_core::name::Name;
@@ -13,7 +12,7 @@ use gb_shared::Shared;
 use gb_terms::decl::Typed;
 use gb_terms::op::{Read, Side};
 use gb_terms::same::same_side;
-use gb_terms::term::{Cmd, Head, Instr, Term};
+use gb_terms::term::{Head, Instr, Term};
 use sqlite_items::Items;
 use std::alloc::{AllocError, Global};
 
@@ -24,12 +23,30 @@ pub fn occurring(
     alloc: Global,
     conditions: &[Term],
     side: Side,
-    body: &Cmd,
+    body: &[Instr],
 ) -> Result<Typed, AllocError>
     ensures { IfOk result (λ found. found ≡ occurring conditions.now side body.now) }
 {
     let mut found = Items::new(alloc);
     in_terms(alloc, &mut found, conditions, side)?;
+    in_body(alloc, &mut found, body)?;
+    Ok(found)
+}
+
+/// The same of a precondition and a postcondition.
+#[tactic(auto, using(crate::proofs::Found::with_append))]
+pub fn occurring_between(
+    alloc: Global,
+    pre: &Term,
+    post: &Term,
+    side: Side,
+    body: &[Instr],
+) -> Result<Typed, AllocError>
+    ensures { IfOk result (λ found. found ≡ occurring (pre.now ∷ post.now ∷ []) side body.now) }
+{
+    let mut found = Items::new(alloc);
+    in_term(alloc, &mut found, pre, side)?;
+    in_term(alloc, &mut found, post, side)?;
     in_body(alloc, &mut found, body)?;
     Ok(found)
 }
@@ -104,32 +121,67 @@ fn in_terms(alloc: Global, found: &mut Typed, list: &[Term], side: Side) -> Resu
     Ok(())
 }
 
-/// Adds the locals of a body. Its statements are samplings.
-fn in_body(alloc: Global, found: &mut Typed, body: &Cmd) -> Result<(), AllocError>
-    ensures { OnOk result (found.new ≡ with_all found.old (flat_map sampling_locals body.now.list)) }
+/// Adds the local that a sampling writes.
+fn in_target(alloc: Global, found: &mut Typed, var: &Var, from: &Term) -> Result<(), AllocError>
+    ensures { OnOk result (found.new ≡ with_all found.old (sampled var.now from.now)) }
 {
-    for i in body.list.as_slice() {
-        in_statement(alloc, found, i)?;
-    }
-    Ok(())
-}
-
-fn in_statement(alloc: Global, found: &mut Typed, i: &Instr) -> Result<(), AllocError>
-    ensures { OnOk result (found.new ≡ with_all found.old (sampling_locals i.now)) }
-{
-    match i {
-        Instr::Sample(var, from) => in_sampling(alloc, found, var, from),
+    match from.ty.get() {
+        Ty::Distr(outcomes) => add_variable(alloc, found, var, outcomes),
         _ => Ok(()),
     }
 }
 
-/// Adds the local that a sampling writes and those that it reads.
-#[tactic(auto, using(crate::proofs::Found::with_append))]
-fn in_sampling(alloc: Global, found: &mut Typed, var: &Var, from: &Term) -> Result<(), AllocError>
-    ensures { OnOk result (found.new ≡ with_all found.old (sampling_locals (Sample var.now from.now))) }
+/// Adds the local that an assignment writes.
+fn in_targets(
+    alloc: Global,
+    found: &mut Typed,
+    vars: &[Var],
+    value: &Term,
+) -> Result<(), AllocError>
+    ensures { OnOk result (found.new ≡ with_all found.old (assigned vars.now value.now)) }
 {
-    if let Ty::Distr(outcomes) = from.ty.get() {
-        add_variable(alloc, found, var, outcomes)?;
+    match vars {
+        [var] => add_variable(alloc, found, var, &value.ty),
+        _ => Ok(()),
     }
-    in_term(alloc, found, from, Side::Own)
+}
+
+/// Adds the locals that a statement writes and reads, with those of the statements in it.
+#[cycle(statements)]
+#[tactic(auto, using(crate::proofs::Found::with_append, crate::proofs::Found::call_locals, crate::proofs::Found::if_locals, crate::proofs::Found::while_locals))]
+fn in_statement(alloc: Global, found: &mut Typed, i: &Instr) -> Result<(), AllocError>
+    ensures { OnOk result (found.new ≡ with_all found.old (statement_locals i.now)) }
+{
+    match i {
+        Instr::Assign(vars, value) => {
+            in_targets(alloc, found, vars.as_slice(), value)?;
+            in_term(alloc, found, value, Side::Own)
+        }
+        Instr::Sample(var, from) => {
+            in_target(alloc, found, var, from)?;
+            in_term(alloc, found, from, Side::Own)
+        }
+        Instr::Call(_, _, args) => in_terms(alloc, found, args.as_slice(), Side::Own),
+        Instr::If(test, yes, no) => {
+            in_term(alloc, found, test, Side::Own)?;
+            in_body(alloc, found, yes.list.as_slice())?;
+            in_body(alloc, found, no.list.as_slice())
+        }
+        Instr::While(guard, variant, body) => {
+            in_term(alloc, found, guard, Side::Own)?;
+            in_term(alloc, found, variant, Side::Own)?;
+            in_body(alloc, found, body.list.as_slice())
+        }
+    }
+}
+
+/// Adds the locals of a body.
+#[cycle(statements)]
+fn in_body(alloc: Global, found: &mut Typed, body: &[Instr]) -> Result<(), AllocError>
+    ensures { OnOk result (found.new ≡ with_all found.old (flat_map statement_locals body.now)) }
+{
+    for i in body {
+        in_statement(alloc, found, i)?;
+    }
+    Ok(())
 }

@@ -1,24 +1,21 @@
-// Procedures and their statements.
+// Procedures.
 
-ghost use Rattle.std.specs.Prelude.{◌≡◌, [], Some, MatchResult, bytes_eq};
+ghost use Rattle.std.specs.Prelude.{◌≡◌, ◌++◌, [], IfOk, MatchResult, bytes_eq};
 ghost use Rattle.std.specs.List.{list_any};
-ghost use Rattle.gb_core.specs.declared.ty.Ty.TheVariants.{Distr};
-ghost use Rattle.gb_goal.specs.Answers.{Answers, Fails, Gives};
+ghost use Rattle.gb_goal.specs.Answers.{Answers, Fails};
 ghost use Rattle.gb_goal.specs.Answers.Answer.{given};
 ghost use Rattle.gb_elab.specs.Environment.{environment};
-ghost use Rattle.gb_elab.specs.Forms.{elaborated};
-ghost use Rattle.gb_elab_mod.specs.Procedures.{declared, instruction, instructions, lacks_value, locals, procedure, procedure_by, result_of, result_type, sampling, undeclared, untaken, value, variables, with_result};
+ghost use Rattle.gb_elab_mod.specs.Procedures.{declared, formal, formals, lacks_value, locals, procedure, procedure_by, result_of, result_type, undeclared, untaken, value, variables, with_result};
 
-use crate::unbuilt::refuse_any;
+use crate::statement::body;
 use gb_core::name::Name;
 use gb_core::place::Place;
 use gb_core::refusal::Refused;
 use gb_core::ty::Ty;
-use gb_core::var::Var;
 use gb_elab::binders::variable;
 use gb_elab::form::typed;
-use gb_elab::names::{own_variable, unit};
-use gb_elab::refusals::{double, mismatch, not_built, unknown};
+use gb_elab::names::unit;
+use gb_elab::refusals::{double, mismatch, not_built};
 use gb_elab::setting::Setting;
 use gb_elab::types::type_of;
 use gb_goal::scope::Scope;
@@ -26,17 +23,18 @@ use gb_goal::sequent::Sequent;
 use gb_same::types::same_types;
 use gb_script::head::Head;
 use gb_script::tree::Node;
-use gb_shared::{Shared, SharedItems};
+use gb_shared::Shared;
 use gb_terms::decl::{Proc, Typed, TypedName};
-use gb_terms::term::{Cmd, Instr, Term};
+use gb_terms::share::copy_typed;
+use gb_terms::term::Term;
 use sqlite_items::Items;
-use std::alloc::Global;
+use std::alloc::{AllocError, Global};
 
 /// The typed tree of a procedure beside others.
 ///
 /// # Errors
 ///
-/// At its name `DoubleName` where another one has it and `Syntax` where it has parameters, that of its result's type,
+/// At its name `DoubleName` where another one has it, `DoubleName` of a parameter and those of its type, that of its result's type,
 /// `TypeMismatch` at its name where it returns nothing and has another result than `unit`, `DoubleName` of a local, and
 /// those of its statements and of the value that it returns, in the order of the text.
 #[tactic(auto, unfolding(crate::specs::Procedures::procedure))]
@@ -76,11 +74,11 @@ fn procedure_by(
         Head::Procedure => match parts {
             [name, parameters, ty, locals, body, value] => {
                 refuse_taken(alloc, others, name)?;
-                refuse_any(parameters.parts.as_slice(), name.place)?;
+                let params = formals(alloc, parameters.parts.as_slice())?;
                 let (locals, body) = (locals.parts.as_slice(), body.parts.as_slice());
                 let value = value.parts.as_slice();
                 let ty = result_of(alloc, name, ty.parts.as_slice(), value)?;
-                with_result(alloc, scope, around, name, locals, body, value, ty)
+                with_result(alloc, scope, around, name, params, locals, body, value, ty)
             }
             _ => Err(not_built(place)),
         },
@@ -88,28 +86,43 @@ fn procedure_by(
     }
 }
 
-/// The typed tree of a procedure of this name and result.
+/// The parameters and the locals of a procedure.
+fn with_locals(
+    alloc: Global,
+    params: &[TypedName],
+    locals: &[TypedName],
+) -> Result<Typed, AllocError>
+    ensures { IfOk result (λ made. made ≡ params.now ++ locals.now) }
+{
+    let mut both = copy_typed(alloc, params)?;
+    both.append(copy_typed(alloc, locals)?)?;
+    Ok(both)
+}
+
+/// The typed tree of a procedure of this name, these parameters and this result.
 #[tactic(auto, unfolding(crate::specs::Procedures::with_result))]
 fn with_result(
     alloc: Global,
     scope: &Scope,
     around: &Sequent,
     name: &Node,
+    params: Typed,
     lines: &[Node],
     statements: &[Node],
     returned: &[Node],
     ty: Shared<Ty>,
 ) -> Result<Proc, Refused>
-    ensures { Answers (with_result scope.now around.now name.now lines.now statements.now returned.now ty) result }
+    ensures { Answers (with_result scope.now around.now name.now params lines.now statements.now returned.now ty) result }
 {
-    let locals = locals(alloc, lines)?;
-    let at = Setting::program(scope, around, locals.as_slice());
+    let locals = locals(alloc, params.as_slice(), lines)?;
+    let visible = with_locals(alloc, params.as_slice(), locals.as_slice())?;
+    let at = Setting::program(scope, around, visible.as_slice());
     let body = body(alloc, &at, statements)?;
     let value = value(alloc, &at, returned, ty.get())?;
     let name = name.text.copy(alloc)?;
     Ok(Proc {
         name,
-        params: Items::new(alloc),
+        params,
         result: ty,
         locals,
         body,
@@ -209,14 +222,58 @@ fn refuse_local(alloc: Global, locals: &[TypedName], name: &Node) -> Result<(), 
     }
 }
 
+/// The parameters with their types, in the order of the text.
+fn formals(alloc: Global, trees: &[Node]) -> Result<Typed, Refused>
+    ensures { Answers (formals [] trees.now) result }
+{
+    let mut params = Items::new(alloc);
+    for tree in trees {
+        declare_formal(
+            alloc,
+            &mut params,
+            tree.head,
+            tree.parts.as_slice(),
+            tree.place,
+        )?;
+    }
+    Ok(params)
+}
+
+/// Declares a parameter beside those that are declared.
+fn declare_formal(
+    alloc: Global,
+    params: &mut Typed,
+    head: Head,
+    parts: &[Node],
+    place: Place,
+) -> Result<(), Refused>
+    ensures { MatchResult result
+        (λ _. formal params.old head parts.now place ≡ given params.new)
+        (λ e. Fails (formal params.old head parts.now place) e) }
+{
+    match head {
+        Head::Formal => match parts {
+            [name, ty] => {
+                refuse_local(alloc, params.as_slice(), name)?;
+                let ty = type_of(alloc, ty)?;
+                params.push(variable(alloc, &name.text, &ty)?)?;
+                Ok(())
+            }
+            _ => Err(not_built(place)),
+        },
+        _ => Err(not_built(place)),
+    }
+}
+
 /// The declared locals with their types, in the order of the text.
-fn locals(alloc: Global, lines: &[Node]) -> Result<Typed, Refused>
-    ensures { Answers (locals [] lines.now) result }
+fn locals(alloc: Global, params: &[TypedName], lines: &[Node]) -> Result<Typed, Refused>
+    ensures { Answers (locals params.now [] lines.now) result }
 {
     let mut locals = Items::new(alloc);
     for line in lines {
         declare_line(
             alloc,
+            params,
             &mut locals,
             line.head,
             line.parts.as_slice(),
@@ -226,23 +283,24 @@ fn locals(alloc: Global, lines: &[Node]) -> Result<Typed, Refused>
     Ok(locals)
 }
 
-/// Declares the locals of a line beside those that are declared.
+/// Declares the locals of a line beside what is declared.
 fn declare_line(
     alloc: Global,
+    params: &[TypedName],
     locals: &mut Typed,
     head: Head,
     parts: &[Node],
     place: Place,
 ) -> Result<(), Refused>
     ensures { MatchResult result
-        (λ _. variables locals.old head parts.now place ≡ given locals.new)
-        (λ e. Fails (variables locals.old head parts.now place) e) }
+        (λ _. variables params.now locals.old head parts.now place ≡ given locals.new)
+        (λ e. Fails (variables params.now locals.old head parts.now place) e) }
 {
     match head {
         Head::Variables => match parts {
             [names, ty] => {
                 let ty = type_of(alloc, ty)?;
-                declare(alloc, locals, names.parts.as_slice(), &ty)
+                declare(alloc, params, locals, names.parts.as_slice(), &ty)
             }
             _ => Err(not_built(place)),
         },
@@ -250,77 +308,23 @@ fn declare_line(
     }
 }
 
-/// Declares locals of one type beside those that are declared.
+/// Declares locals of one type beside what is declared.
 fn declare(
     alloc: Global,
+    params: &[TypedName],
     locals: &mut Typed,
     names: &[Node],
     ty: &Shared<Ty>,
 ) -> Result<(), Refused>
     ensures { MatchResult result
-        (λ _. declared locals.old names.now ty.now ≡ given locals.new)
-        (λ e. Fails (declared locals.old names.now ty.now) e) }
+        (λ _. declared params.now locals.old names.now ty.now ≡ given locals.new)
+        (λ e. Fails (declared params.now locals.old names.now ty.now) e) }
 {
     for x in names {
+        refuse_local(alloc, params, x)?;
         refuse_local(alloc, locals.as_slice(), x)?;
         let local = variable(alloc, &x.text, ty)?;
         locals.push(local)?;
     }
     Ok(())
-}
-
-/// The typed trees of statements.
-fn body(alloc: Global, at: &Setting<'_>, statements: &[Node]) -> Result<Cmd, Refused>
-    ensures { Gives (λ c. c.list) (instructions (environment at.now) statements.now) result }
-{
-    let mut list = Items::new(alloc);
-    for s in statements {
-        let i = instruction(alloc, at, s.head, s.parts.as_slice(), s.place)?;
-        list.push(i)?;
-    }
-    let list = SharedItems::new(alloc, list)?;
-    Ok(Cmd { list })
-}
-
-fn instruction(
-    alloc: Global,
-    at: &Setting<'_>,
-    head: Head,
-    parts: &[Node],
-    place: Place,
-) -> Result<Instr, Refused>
-    ensures { Answers (instruction (environment at.now) head parts.now place) result }
-{
-    match head {
-        Head::Sample => match parts {
-            [target, from] => sampling(alloc, at, target, from),
-            [target, _, _, ..] => Err(unknown(alloc, &target.text, target.place)),
-            _ => Err(not_built(place)),
-        },
-        _ => Err(not_built(place)),
-    }
-}
-
-/// A sampling: the target is a variable of the procedure, the source a distribution on its type.
-#[tactic(auto, unfolding(crate::specs::Procedures::sampling))]
-fn sampling(alloc: Global, at: &Setting<'_>, target: &Node, from: &Node) -> Result<Instr, Refused>
-    ensures { Answers (sampling (environment at.now) target.now from.now) result }
-{
-    let variable = own_variable(alloc, at, target)?;
-    let name = variable.name.copy(alloc)?;
-    let from = source(alloc, at, from, &variable.ty)?;
-    Ok(Instr::Sample(Var::Local { name }, from))
-}
-
-/// The typed tree of a distribution on a type.
-fn source(
-    alloc: Global,
-    at: &Setting<'_>,
-    from: &Node,
-    outcomes: &Shared<Ty>,
-) -> Result<Term, Refused>
-    ensures { Answers (elaborated from.now (environment at.now) [] (Some (Distr outcomes.now))) result }
-{
-    let outcomes = outcomes.share()?;
-    typed(alloc, at, &[], from, Some(&Ty::Distr(outcomes)))
 }

@@ -1,10 +1,12 @@
 // Proof steps.
 
+ghost use Rattle.std.specs.Prelude.{◌≡◌};
 ghost use Rattle.gb_goal.specs.Answers.{Answers};
-ghost use Rattle.gb_elab_mod.specs.Steps.{step_given, typed_rule};
+ghost use Rattle.gb_elab_mod.specs.Steps.{acts, on_all, plain_rule, step_given, typed_rule};
 
-use crate::conclusions::{case_rule, have_rule, plain_rule};
+use crate::conclusions::{case_rule, conclusion_rule, have_rule};
 use crate::couplings::{couplings, functions_of};
+use crate::cut::{cut_of, seq_rule};
 use crate::unbuilt::refuse_any;
 use gb_core::name::Name;
 use gb_core::place::Place;
@@ -12,7 +14,7 @@ use gb_core::refusal::Refused;
 use gb_elab::refusals::not_built;
 use gb_goal::scope::Scope;
 use gb_goal::sequent::Sequent;
-use gb_goal::step::{BodyRule, RelationalRule, Rule, Step};
+use gb_goal::step::{Acts, BodyRule, RelationalRule, Rule, Step};
 use gb_script::head::Head;
 use gb_script::tree::Node;
 use std::alloc::Global;
@@ -46,6 +48,48 @@ pub fn proof_step(
     Ok(Step { rule, place })
 }
 
+/// The programs on which a step acts.
+fn acts(bodies: &[Node]) -> Acts
+    ensures { result ≡ acts bodies.now }
+{
+    match bodies {
+        [] => Acts::All,
+        [number, ..] => {
+            if number.text.as_str() == "1" {
+                Acts::Left
+            } else {
+                Acts::Right
+            }
+        }
+    }
+}
+
+/// A rule that acts on all programs of a goal alone.
+fn on_all(acts: Acts, rule: BodyRule) -> BodyRule
+    ensures { result ≡ on_all acts rule }
+{
+    match acts {
+        Acts::All => rule,
+        _ => BodyRule::Unfit,
+    }
+}
+
+/// A rule without other arguments than the programs on which it acts.
+fn plain_rule(name: &Name, acts: Acts, place: Place) -> Result<BodyRule, Refused>
+    ensures { Answers (plain_rule name.now acts place) result }
+{
+    let name = name.as_str();
+    if name == "skip" {
+        Ok(on_all(acts, BodyRule::Skip))
+    } else if name == "if" {
+        Ok(BodyRule::If(acts))
+    } else if name == "wp" {
+        Ok(BodyRule::Wp(acts))
+    } else {
+        Err(not_built(place))
+    }
+}
+
 /// The rule with its arguments typed.
 fn typed_rule(
     alloc: Global,
@@ -61,9 +105,9 @@ fn typed_rule(
     match head {
         Head::Proc => match parts {
             [bodies, invariant] => {
-                refuse_any(bodies.parts.as_slice(), place)?;
                 refuse_any(invariant.parts.as_slice(), place)?;
-                Ok(Rule::OnBodies(BodyRule::Proc))
+                let acts = acts(bodies.parts.as_slice());
+                Ok(Rule::OnBodies(on_all(acts, BodyRule::Proc)))
             }
             _ => Err(not_built(place)),
         },
@@ -77,17 +121,23 @@ fn typed_rule(
         },
         Head::BodyStep => match parts {
             [bodies] => {
-                refuse_any(bodies.parts.as_slice(), place)?;
-                if text.as_str() == "skip" {
-                    Ok(Rule::OnBodies(BodyRule::Skip))
-                } else {
-                    Err(not_built(place))
-                }
+                let rule = plain_rule(text, acts(bodies.parts.as_slice()), place)?;
+                Ok(Rule::OnBodies(rule))
+            }
+            _ => Err(not_built(place)),
+        },
+        Head::Seq => match parts {
+            [bodies, first, second, between, bounds] => {
+                refuse_any(bounds.parts.as_slice(), place)?;
+                let acts = acts(bodies.parts.as_slice());
+                let at = cut_of(first, second.parts.as_slice());
+                let rule = seq_rule(alloc, scope, goal, acts, at, between)?;
+                Ok(Rule::OnBodies(rule))
             }
             _ => Err(not_built(place)),
         },
         Head::PlainStep => match parts {
-            [] => Ok(Rule::Ambient(plain_rule(text, place)?)),
+            [] => Ok(Rule::Ambient(conclusion_rule(text, place)?)),
             _ => Err(not_built(place)),
         },
         Head::CaseStep => match parts {

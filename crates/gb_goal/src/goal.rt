@@ -5,7 +5,7 @@ ghost use Rattle.gb_terms.specs.Make.{node};
 ghost use Rattle.gb_terms.specs.declared.term.Term.{out-Term};
 ghost use Rattle.gb_goal.specs.Goal.{code_of, goal_of, form_of, judges_bodies};
 ghost use Rattle.gb_goal.specs.Goal.Code.{body};
-ghost use Rattle.gb_goal.specs.Goal.Goal.{hoare, equiv};
+ghost use Rattle.gb_goal.specs.Goal.Goal.{hoare, phoare, equiv};
 ghost use Rattle.gb_goal.specs.Views.{code_seen, goal_seen};
 
 use gb_core::ty::Ty;
@@ -92,6 +92,30 @@ pub fn hoare(
     ensures { IfOk result (λ made. made ≡ form_of (hoare (body list) pre post)) }
 {
     judgment(alloc, Head::Hoare(Subject::Body(Cmd { list })), pre, post)
+}
+
+/// How likely the postcondition is after a body, where it starts from the precondition.
+pub fn phoare(
+    alloc: Global,
+    list: SharedItems<Instr>,
+    rel: Rel,
+    pre: Form,
+    post: Form,
+    bound: Term,
+) -> Result<Form, AllocError>
+    ensures { IfOk result (λ made. made ≡ form_of (phoare (body list) rel pre post bound)) }
+{
+    let mut args = Items::new(alloc);
+    args.push(pre)?;
+    args.push(post)?;
+    args.push(bound)?;
+    let ty = truth_ty(alloc)?;
+    term(
+        alloc,
+        Head::Phoare(Subject::Body(Cmd { list }), rel),
+        args,
+        ty,
+    )
 }
 
 /// The equivalence of two bodies.

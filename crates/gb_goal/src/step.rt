@@ -20,11 +20,32 @@ pub enum Rule {
     Smt,
 }
 
+/// The programs of a goal on which a step acts: all of them, or one of two.
+#[derive(Clone, Copy)]
+pub enum Acts {
+    All,
+    Left,
+    Right,
+}
+
+/// How many statements stand before a cut, in one body or in two.
+#[derive(Clone, Copy)]
+pub enum Cut {
+    One(u128),
+    Two(u128, u128),
+}
+
 /// A rule on programs, for judgments of every kind.
 #[derive(Drop)]
 pub enum BodyRule {
     Proc,
     Skip,
+    /// Bodies that are cut in two, and what is said between their parts.
+    Seq(Cut, Form),
+    If(Acts),
+    Wp(Acts),
+    /// A step to which the form of the goal does not fit: its arguments have no types there.
+    Unfit,
 }
 
 /// A rule on equivalences.

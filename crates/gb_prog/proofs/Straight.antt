@@ -77,7 +77,7 @@ module _ (g : Setting) where
         after g s (If e a b ∷ is) m ≡ after g s is (if is_true g s e m then after g s a.list m else after g s b.list m)
     after_branch e a b is m = ap (λ c. ended g s c m) (statement_if g e a b (statements g is))
 
-    ended_then : (i : Instr) → IsStraight i → (c : Program) (m : Memory) → ended g s (statement g i c) m ≡ ended g s c (ended g s (statement g i done) m)
+    pub ended_then : (i : Instr) → IsStraight i → (c : Program) (m : Memory) → ended g s (statement g i c) m ≡ ended g s c (ended g s (statement g i done) m)
     ended_then (Assign xs e) h c m = refl
     ended_then (If' e k a n b) h c m = refl
     ended_then (Sample x d) h c m = absurd h

@@ -16,12 +16,6 @@ use Rattle.gb_goal.specs.Rows.{Row}
 use Rattle.gb_rules.specs.Typing.{IsGoalOver, IsTypedGoal}
 use Rattle.gb_rules.specs.Meaning.{Stands}
 
--- the programs of a goal on which a step acts: all of them, or one of two
-pub data Acts : Type 0 where
-  on_all : Acts
-  on_left : Acts
-  on_right : Acts
-
 -- In each setting and state that fit the context, the goal stands where all subgoals stand.
 abbrev pub Implies : Context → List Goal → Goal → Type 0
 Implies c Gs G = (g : Setting) → IsSettingOf c g → (j : Judge) → IsFair g j → (s : State) → IsStateOf c g s →

@@ -9,8 +9,9 @@ returns c =
         statement = c.statements.ensures.typed;
         free = c.statements.ensures.free;
         lemma_added = c.lemmas.ensures;
+        body_rule = c.typed_rules.ensures.bodies;
         conclusion = c.typed_forms.ensures;
-        rule = c.typed_rules.ensures;
+        rule = c.typed_rules.ensures.relational;
       };
       rules = record {
         goal = c.typing.ensures.goal;

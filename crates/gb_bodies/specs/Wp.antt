@@ -1,0 +1,99 @@
+-- `wp`: what ends a body without chance leaves it, and the postcondition becomes what has to hold before it.
+use Rattle.std.specs.Prelude.{ℕ, zero, suc, Bool, true, false, ◌&&◌, List, [], ◌∷◌, take, drop, Option, Some, None}
+use Rattle.gb_core.specs.declared.refusal.Why.TheVariants.{Shape, SideCondition}
+use Rattle.gb_core.specs.declared.var.Var.{Var}
+use Rattle.gb_terms.specs.declared.op.Side.{Side}
+use Rattle.gb_terms.specs.declared.op.Side.TheVariants.{Left, Right}
+use Rattle.gb_terms.specs.declared.term.Term.{Term}
+use Rattle.gb_terms.specs.declared.term.Instr.{Instr, Row_of-Instr, end_of-Instr, more_of-Instr}
+use Rattle.gb_terms.specs.declared.term.Head.TheVariants.{Assign, If'}
+use Rattle.gb_walk.specs.Clash.{first_clash}
+use Rattle.gb_goal.specs.declared.step.Acts.{Acts}
+use Rattle.gb_goal.specs.declared.step.Acts.TheVariants as on
+use Rattle.gb_goal.specs.Answers.{Answer, ◌>>=◌}
+use Rattle.gb_goal.specs.Answers.Answer.{given}
+use Rattle.gb_goal.specs.Goal.{Goal}
+use Rattle.gb_goal.specs.Goal.Code.{body}
+use Rattle.gb_goal.specs.Goal.Goal.{equiv}
+use Rattle.gb_goal.specs.Rows.{Row, refusing}
+use Rattle.gb_rules.specs.Forms.{and_form, implies_form, not_form, located, replaced}
+use Rattle.gb_bodies.specs.OneBody.{OneBody, one_body, on_one}
+
+abbrev mutual
+  -- an assignment to a variable, or a branch whose sides are made of such statements
+  pub is_straight : Instr → Bool
+  is_straight (Assign (x ∷ []) e) = true
+  is_straight (If' e m a n b) = row_is_straight a && row_is_straight b
+  is_straight _ = false
+
+  pub row_is_straight : {n : _} → Row_of-Instr n → Bool
+  row_is_straight end_of-Instr = true
+  row_is_straight (more_of-Instr i is) = is_straight i && row_is_straight is
+
+-- the same of lists
+abbrev pub are_straight : List Instr → Bool
+are_straight [] = true
+are_straight (i ∷ is) = is_straight i && are_straight is
+
+-- what is so where a test is true, and what where it is false
+abbrev pub by_test : Term → Term → Term → Term
+by_test e a b = and_form (implies_form e a) (implies_form (not_form e) b)
+
+-- a form with a term in place of a variable, if it reads no other variable that clashes with that one
+abbrev pub unless_clash : Option Var → Var → Term → Answer Term
+unless_clash None x f = given f
+unless_clash (Some y) x f = refusing (SideCondition x)
+
+abbrev mutual
+  -- what has to hold before a statement without chance, in a memory, so that a form holds after it
+  pub before : Side → Instr → Term → Answer Term
+  before r (Assign (x ∷ []) e) q = unless_clash (first_clash r x q) x (replaced r x e q)
+  before r (If' e m a n b) q = do
+    f ← before_row r a q
+    h ← before_row r b q
+    given (by_test (located r e) f h)
+  before r _ q = refusing Shape
+
+  pub before_row : {n : _} → Side → Row_of-Instr n → Term → Answer Term
+  before_row r end_of-Instr q = given q
+  before_row r (more_of-Instr i is) q = before_row r is q >>= before r i
+
+-- the same of lists
+abbrev pub before_all : Side → List Instr → Term → Answer Term
+before_all r [] q = given q
+before_all r (i ∷ is) q = before_all r is q >>= before r i
+
+-- how many statements stay behind a further one, which leaves if it is without chance and none stays
+abbrev pub with_front : Bool → ℕ → ℕ
+with_front true zero = zero
+with_front false zero = suc zero
+with_front b (suc k) = suc (suc k)
+
+-- how many statements stay of a body: a statement leaves it if it is without chance, and all behind it leave
+abbrev pub staying : List Instr → ℕ
+staying [] = zero
+staying (i ∷ is) = with_front (is_straight i) (staying is)
+
+-- what stays of a body, and what ends it without chance
+abbrev pub front : List Instr → List Instr
+front is = take (staying is) is
+
+abbrev pub ending : List Instr → List Instr
+ending is = drop (staying is) is
+
+-- one body
+abbrev pub wp_one : OneBody → Answer (List Goal)
+wp_one o = do
+  q ← before_all o.side (ending o.list) o.post
+  given (o.goal (front o.list) o.pre q ∷ [])
+
+-- two bodies
+abbrev pub wp_both : Acts → Row
+wp_both on.All (equiv (body is) (body js) p q) = do
+  l ← before_all Left (ending is) q
+  r ← before_all Right (ending js) l
+  given (equiv (body (front is)) (body (front js)) p r ∷ [])
+wp_both a G = refusing Shape
+
+abbrev pub wp_row : Acts → Row
+wp_row a G = on_one wp_one (one_body a G) (wp_both a G)

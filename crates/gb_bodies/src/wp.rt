@@ -1,0 +1,206 @@
+//! The rule `wp`.
+
+ghost use Rattle.std.specs.Prelude.{◌≡◌, ◌≤◌, length, IfOk};
+ghost use Rattle.gb_goal.specs.declared.step.Acts.{Acts as Programs};
+ghost use Rattle.gb_goal.specs.Answers.{Answers};
+ghost use Rattle.gb_goal.specs.Goal.{form_of};
+ghost use Rattle.gb_goal.specs.Goal.Code.{body};
+ghost use Rattle.gb_goal.specs.Goal.Goal.{equiv};
+ghost use Rattle.gb_goal.specs.Rows.{answered, each_concluding};
+ghost use Rattle.gb_goal.specs.Views.{goal_seen};
+ghost use Rattle.gb_typing.specs.Context.{Context};
+ghost use Rattle.gb_rules.specs.Forms.{located, replaced};
+ghost use Rattle.gb_rules.specs.Rules.{IsSoundRule, no_arguments};
+ghost use Rattle.gb_bodies.specs.OneBody.{one_seen};
+ghost use Rattle.gb_bodies.specs.Wp.{are_straight, before, before_all, by_test, front, is_straight, staying, unless_clash, wp_both, wp_one, wp_row};
+ghost use Rattle.gb_walk.specs.Clash as of_clash;
+
+use crate::forms::located;
+use crate::one_body::{OneBody, filled, one_body, side_of};
+use crate::subgoals::{no_shape, one_goal, refusal, shared_body};
+use gb_core::copy::copy_var;
+use gb_core::refusal::{Refused, Why};
+use gb_core::var::Var;
+use gb_goal::goal::{Code, Goal, equiv, goal_of};
+use gb_goal::sequent::{Sequent, Sequents};
+use gb_goal::step::Acts;
+use gb_terms::make::{conjunction, implication, negation};
+use gb_terms::op::{Read, Side};
+use gb_terms::term::{Form, Instr, Term};
+use gb_walk::change::Change;
+use gb_walk::clash::first_clash;
+use gb_walk::walk::changed;
+use std::alloc::{AllocError, Global};
+
+/// Whether a statement is an assignment to a variable, or a branch whose sides are made of such statements.
+#[cycle(straight)]
+fn is_straight(statement: &Instr) -> bool
+    ensures { result ≡ is_straight statement.now }
+{
+    match statement {
+        Instr::Assign(targets, _) => match targets.as_slice() {
+            [_] => true,
+            _ => false,
+        },
+        Instr::If(_, yes, no) => {
+            are_straight(yes.list.as_slice()) && are_straight(no.list.as_slice())
+        }
+        _ => false,
+    }
+}
+
+#[cycle(straight)]
+fn are_straight(list: &[Instr]) -> bool
+    ensures { result ≡ are_straight list.now }
+{
+    for statement in list {
+        if !is_straight(statement) {
+            return false;
+        }
+    }
+    true
+}
+
+/// How many statements stay of a body: a statement leaves it if it is without chance, and all behind it leave.
+fn staying(list: &[Instr]) -> usize
+    ensures count { result ≡ staying list.now }
+    ensures within { result ≤ length list.now }
+{
+    for k in 0..list.len() {
+        let at = list.len() - 1 - k;
+        if !is_straight(&list[at]) {
+            return at + 1;
+        }
+    }
+    0
+}
+
+/// What a form becomes in front of an assignment to a variable.
+fn before_assign(
+    alloc: Global,
+    side: Side,
+    target: &Var,
+    value: &Term,
+    post: &Form,
+) -> Result<Form, Refused>
+    ensures { Answers (unless_clash (of_clash.first_clash side target.now post.now) target.now (replaced side target.now value.now post.now)) result }
+{
+    if first_clash(&side, target, post).is_some() {
+        let target = copy_var(alloc, target)?;
+        return Err(refusal(Why::SideCondition(target)));
+    }
+    let value = located(alloc, value, side)?;
+    let var = copy_var(alloc, target)?;
+    Ok(changed(
+        alloc,
+        post,
+        &[Change::ToTerm(Read::Program { var, side }, value)],
+    )?)
+}
+
+/// What is so where a test is true, and what where it is false.
+fn by_test(alloc: Global, test: Form, yes: Form, no: Form) -> Result<Form, AllocError>
+    ensures { IfOk result (λ made. made ≡ by_test test yes no) }
+{
+    let holds = test.share()?;
+    let yes = implication(alloc, holds, yes)?;
+    let fails = negation(alloc, test)?;
+    let no = implication(alloc, fails, no)?;
+    conjunction(alloc, yes, no)
+}
+
+/// What has to hold before a statement without chance, so that a form holds after it.
+#[cycle(wp)]
+fn before(alloc: Global, side: Side, statement: &Instr, post: &Form) -> Result<Form, Refused>
+    ensures { Answers (before side statement.now post.now) result }
+{
+    match statement {
+        Instr::Assign(targets, value) => match targets.as_slice() {
+            [target] => before_assign(alloc, side, target, value, post),
+            _ => Err(no_shape()),
+        },
+        Instr::If(test, yes, no) => {
+            let yes = before_all(alloc, side, yes.list.as_slice(), post)?;
+            let no = before_all(alloc, side, no.list.as_slice(), post)?;
+            let test = located(alloc, test, side)?;
+            Ok(by_test(alloc, test, yes, no)?)
+        }
+        _ => Err(no_shape()),
+    }
+}
+
+/// The same of statements one after another.
+#[cycle(wp)]
+fn before_all(alloc: Global, side: Side, list: &[Instr], post: &Form) -> Result<Form, Refused>
+    ensures { Answers (before_all side list.now post.now) result }
+{
+    let mut form = post.share()?;
+    for k in 0..list.len() {
+        let at = list.len() - 1 - k;
+        form = before(alloc, side, &list[at], &form)?;
+    }
+    Ok(form)
+}
+
+/// The subgoal on one body.
+fn wp_one(alloc: Global, goal: &Sequent, one: &OneBody<'_>) -> Result<Sequents, Refused>
+    ensures { Answers (each_concluding goal.now (wp_one (one_seen one.now))) result }
+{
+    let (front, ending) = one.list.split_at(staying(one.list));
+    let post = before_all(alloc, side_of(one.around), ending, one.post)?;
+    let pre = one.pre.share()?;
+    let list = shared_body(alloc, front)?;
+    let conclusion = filled(alloc, one.around, list, pre, post)?;
+    Ok(one_goal(alloc, goal, conclusion)?)
+}
+
+/// The equivalence of what stays of two bodies.
+fn fronts(
+    alloc: Global,
+    left: &[Instr],
+    right: &[Instr],
+    pre: &Form,
+    post: Form,
+) -> Result<Form, AllocError>
+    ensures { IfOk result (λ made. made ≡ form_of (equiv (body left.now) (body right.now) pre.now post)) }
+{
+    let pre = pre.share()?;
+    let left = shared_body(alloc, left)?;
+    let right = shared_body(alloc, right)?;
+    equiv(alloc, left, right, pre, post)
+}
+
+/// The subgoal on two bodies.
+fn wp_both(alloc: Global, goal: &Sequent, acts: Acts, seen: Goal) -> Result<Sequents, Refused>
+    ensures { Answers (each_concluding goal.now (wp_both acts (goal_seen seen.entry))) result }
+{
+    match (acts, seen) {
+        (Acts::All, Goal::Equiv(Code::Body(left), Code::Body(right), pre, post)) => {
+            let (left, left_ending) = left.split_at(staying(left));
+            let (right, right_ending) = right.split_at(staying(right));
+            let post = before_all(alloc, Side::Left, left_ending, post)?;
+            let post = before_all(alloc, Side::Right, right_ending, &post)?;
+            let conclusion = fronts(alloc, left, right, pre, post)?;
+            Ok(one_goal(alloc, goal, conclusion)?)
+        }
+        _ => Err(no_shape()),
+    }
+}
+
+/// The subgoal of `wp`: the assignments that end each body, and the branches between such, leave it, and the postcondition becomes
+/// what has to hold before them. Refused with `Shape` where the goal has no such bodies, and with `SideCondition` where a form reads a
+/// variable that clashes with one that is assigned.
+pub fn wp(alloc: Global, goal: &Sequent, acts: Acts) -> Result<Sequents, Refused>
+    ensures { Answers (answered (wp_row acts) goal.now) result }
+{
+    let seen = goal_of(&goal.conclusion);
+    match one_body(acts, seen) {
+        Some(one) => wp_one(alloc, goal, &one),
+        None => wp_both(alloc, goal, acts, seen),
+    }
+}
+
+/// `wp`, and `wp` on one of two programs, are sound.
+pub fn wp_is_sound()
+    ensures { (c : Context) (a : Programs) → IsSoundRule c (wp_row a) no_arguments }
+{}

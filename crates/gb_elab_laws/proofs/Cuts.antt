@@ -1,0 +1,149 @@
+-- The form between the parts of bodies that are cut is typed over the locals of the bodies.
+use Rattle.std.proofs.Common.{◌≡◌, ℕ, Bool, true, false, if◌then◌else◌, List, [], ◌∷◌, Some, refl, ap, sym, ◌∙◌, subst}
+use Rattle.std.specs.Prelude.{bytes_eq, codes}
+use Rattle.gb_core.specs.declared.place.Place.{Place}
+use Rattle.gb_core.specs.declared.ty.Ty.TheVariants as ty
+use Rattle.gb_terms.specs.declared.decl.TypedName.{TypedName}
+use Rattle.gb_terms.specs.declared.op.Side.TheVariants as side
+use Rattle.gb_terms.specs.declared.term.Term.{Term}
+use Rattle.gb_goal.specs.Scope as scope
+use Rattle.gb_goal.specs.Goal.{Goal, goal_of}
+use Rattle.gb_goal.specs.Goal.Code.{body, procedure}
+use Rattle.gb_goal.specs.Goal.Goal.{hoare, phoare, equiv, ambient}
+use Rattle.gb_goal.specs.declared.sequent.Sequent.{Sequent}
+use Rattle.gb_goal.specs.declared.step.Acts.{Acts}
+use Rattle.gb_goal.specs.declared.step.Acts.TheVariants as on
+use Rattle.gb_goal.specs.declared.step.AmbientRule.{AmbientRule}
+use Rattle.gb_goal.specs.declared.step.AmbientRule.TheVariants as conclusion
+use Rattle.gb_goal.specs.declared.step.BodyRule.{BodyRule}
+use Rattle.gb_goal.specs.declared.step.BodyRule.TheVariants as on_bodies
+use Rattle.gb_goal.specs.declared.step.Cut.{Cut}
+use Rattle.gb_goal.specs.declared.step.Cut.TheVariants as cut
+use Rattle.gb_goal.specs.declared.step.Rule.{Rule}
+use Rattle.gb_goal.specs.declared.step.Rule.TheVariants as rule
+use Rattle.gb_goal.specs.declared.step.RelationalRule.TheVariants as relational_rule
+use Rattle.gb_goal.specs.declared.step.Step.{Step}
+use Rattle.gb_script.specs.declared.head.Head.{Head as Kind}
+use Rattle.gb_script.specs.declared.head.Head.TheVariants as text
+use Rattle.gb_script.specs.declared.tree.Node.{Node}
+use Rattle.gb_script.specs.Tree.{head_of, text_of, parts_of, place_of}
+use Rattle.gb_holds.specs.Declared.{declared}
+use Rattle.gb_typing.specs.Context.{Context}
+use Rattle.gb_typing.specs.Sequents.{one, two, of_sequent, IsTypedSequent}
+use Rattle.gb_typing.specs.Scopes.{context_of, IsTypedScope}
+use Rattle.gb_typing.specs.Typing.{IsForm}
+use Rattle.gb_rules.specs.Typing.{IsGoalOver}
+use Rattle.gb_goal.specs.Answers.{Answer, ◌>>=◌, not_built}
+use Rattle.gb_goal.specs.Answers.Answer.{given}
+use Rattle.gb_elab.specs.Environment.{relational, unary}
+use Rattle.gb_elab.specs.Forms.{elaborated}
+use Rattle.gb_elab_mod.specs.Occurring.{occurring}
+use Rattle.gb_elab_mod.specs.Steps.{acts, conclusion_rule, couplings, cut_of, cut_rule, formed, functions_of, new_name, of_bodies_rule, of_conclusion, on_all, plain_rule, seq_rule, step_given, typed_rule}
+use Rattle.gb_elab_mod.specs.Unbuilt.{absent}
+use Rattle.gb_bodies.specs.Rows.{IsTypedRule}
+use Rattle.gb_elab_laws.proofs.Given.{given_bind, given_is}
+use Rattle.gb_elab_laws.proofs.Ends.{occurring_in}
+use Rattle.gb_elab_laws.proofs.Fits.{one_fits, two_fit}
+use Rattle.gb_elab_laws.proofs.Forms.{elaborated_typed}
+use Rattle.gb_elab_laws.proofs.Occurring.{reads_stand}
+
+module _ (ds : scope.Declarations) (scoped : IsTypedScope (declared ds)) (q : Sequent) (t : IsTypedSequent (context_of (declared ds)) q) (ls rs : List TypedName) where
+  abbrev here : Context
+  here = of_sequent (context_of (declared ds)) q t.frames
+
+  abbrev Typed : Goal → BodyRule → Type 0
+  Typed G r = IsTypedRule here (rule.OnBodies r) ls rs G
+
+  cut_typed : (G : Goal) → IsGoalOver here ls rs G → (k : Cut) (n : Node) (r : BodyRule) → cut_rule ds q k n G ≡ given r → Typed G r
+  unfolding cut_rule
+  cut_typed (hoare (body is) p g) w (cut.One k) n r h =
+      let xs = occurring (p ∷ g ∷ []) side.Own is in
+      let f = given_bind (elaborated n (unary ds q xs) [] (Some ty.Bool)) (λ f. given (on_bodies.Seq (cut.One k) f)) r h in
+      let fits = one_fits ds scoped q t ls xs (occurring_in ls here side.Own p g is (reads_stand (one here ls) p w.1.typed side.Own tt) (reads_stand (one here ls) g w.2.typed side.Own tt) w.0) in
+      let e = elaborated_typed n (one here ls) (unary ds q xs) [] fits (Some ty.Bool) f.0 f.1 in
+      subst (Typed (hoare (body is) p g)) {x = on_bodies.Seq (cut.One k) f.0} (given_is (on_bodies.Seq (cut.One k) f.0) r f.2) (record { typed = e.typed; truth = e.wanted })
+  cut_typed (equiv (body is) (body js) p g) w (cut.Two k l) n r h =
+      let xs = occurring (p ∷ g ∷ []) side.Left is in
+      let ys = occurring (p ∷ g ∷ []) side.Right js in
+      let f = given_bind (elaborated n (relational ds q xs ys) [] (Some ty.Bool)) (λ f. given (on_bodies.Seq (cut.Two k l) f)) r h in
+      let fits =
+      two_fit ds scoped q t ls rs xs ys
+      (occurring_in ls here side.Left p g is (reads_stand (two here ls rs) p w.3.typed side.Left tt) (reads_stand (two here ls rs) g w.4.typed side.Left tt) w.1)
+      (occurring_in rs here side.Right p g js (reads_stand (two here ls rs) p w.3.typed side.Right tt) (reads_stand (two here ls rs) g w.4.typed side.Right tt) w.2) in
+      let e = elaborated_typed n (two here ls rs) (relational ds q xs ys) [] fits (Some ty.Bool) f.0 f.1 in
+      subst (Typed (equiv (body is) (body js) p g)) {x = on_bodies.Seq (cut.Two k l) f.0} (given_is (on_bodies.Seq (cut.Two k l) f.0) r f.2) (record { typed = e.typed; truth = e.wanted })
+  cut_typed (hoare (body is) p g) w (cut.Two k l) n r h = subst (Typed (hoare (body is) p g)) (given_is on_bodies.Unfit r h) tt
+  cut_typed (hoare (procedure a) p g) w (cut.One k) n r h = subst (Typed (hoare (procedure a) p g)) (given_is on_bodies.Unfit r h) tt
+  cut_typed (hoare (procedure a) p g) w (cut.Two k l) n r h = subst (Typed (hoare (procedure a) p g)) (given_is on_bodies.Unfit r h) tt
+  cut_typed (phoare a o p g b) w (cut.One k) n r h = subst (Typed (phoare a o p g b)) (given_is on_bodies.Unfit r h) tt
+  cut_typed (phoare a o p g b) w (cut.Two k l) n r h = subst (Typed (phoare a o p g b)) (given_is on_bodies.Unfit r h) tt
+  cut_typed (equiv (procedure a) b p g) w (cut.One k) n r h = subst (Typed (equiv (procedure a) b p g)) (given_is on_bodies.Unfit r h) tt
+  cut_typed (equiv (procedure a) b p g) w (cut.Two k l) n r h = subst (Typed (equiv (procedure a) b p g)) (given_is on_bodies.Unfit r h) tt
+  cut_typed (equiv (body is) (procedure b) p g) w (cut.One k) n r h = subst (Typed (equiv (body is) (procedure b) p g)) (given_is on_bodies.Unfit r h) tt
+  cut_typed (equiv (body is) (procedure b) p g) w (cut.Two k l) n r h = subst (Typed (equiv (body is) (procedure b) p g)) (given_is on_bodies.Unfit r h) tt
+  cut_typed (ambient f) w (cut.One k) n r h = subst (Typed (ambient f)) (given_is on_bodies.Unfit r h) tt
+  cut_typed (ambient f) w (cut.Two k l) n r h = subst (Typed (ambient f)) (given_is on_bodies.Unfit r h) tt
+  cut_typed (equiv (body is) (body js) p g) w (cut.One k) n r h = subst (Typed (equiv (body is) (body js) p g)) (given_is on_bodies.Unfit r h) tt
+
+  seq_typed : (G : Goal) → IsGoalOver here ls rs G → goal_of q.conclusion ≡ G → (a : Acts) (k : Cut) (n : Node) (r : BodyRule) → seq_rule ds q a k n ≡ given r → Typed G r
+  seq_typed G w e on.All k n r h = cut_typed G w k n r (sym (ap (cut_rule ds q k n) e) ∙ h)
+  seq_typed G w e on.Left k n r h = subst (Typed G) (given_is on_bodies.Unfit r h) tt
+  seq_typed G w e on.Right k n r h = subst (Typed G) (given_is on_bodies.Unfit r h) tt
+
+  -- rules without a form
+  all_typed : (G : Goal) (a : Acts) (r : BodyRule) → Typed G r → Typed G (on_all a r)
+  all_typed G on.All r h = h
+  all_typed G on.Left r h = tt
+  all_typed G on.Right r h = tt
+
+  plain_typed : (G : Goal) (x : List ℕ) (a : Acts) (p : Place) (r : BodyRule) → plain_rule x a p ≡ given r → Typed G r
+  plain_typed G x a p r h = step (bytes_eq x (codes "skip")) (bytes_eq x (codes "if")) (bytes_eq x (codes "wp")) h
+    where
+      step : (s i v : Bool) → (if s then given (on_all a on_bodies.Skip) else if i then given (on_bodies.If a) else if v then given (on_bodies.Wp a) else not_built p) ≡ given r → Typed G r
+      step true i v k = subst (Typed G) (given_is (on_all a on_bodies.Skip) r k) (all_typed G a on_bodies.Skip tt)
+      step false true v k = subst (Typed G) (given_is (on_bodies.If a) r k) tt
+      step false false true k = subst (Typed G) (given_is (on_bodies.Wp a) r k) tt
+      step false false false k = cc
+
+  abbrev TypedAt : Rule → Type 0
+  TypedAt k = IsTypedRule here k ls rs (goal_of q.conclusion)
+
+  module _ (w : IsGoalOver here ls rs (goal_of q.conclusion)) where
+    of_rule : (n : Kind) (x : List ℕ) (xs : List Node) (p : Place) (k : Rule) → typed_rule ds q n x xs p ≡ given k → TypedAt k
+    of_rule text.Rnd x (b ∷ fs) p k h =
+        let o = given_bind (absent (parts_of b) p) _ k h in
+        let y = given_bind (couplings ds q (functions_of fs)) (λ us. given (rule.Relational (relational_rule.Rnd us))) k o.2 in
+        subst TypedAt (given_is (rule.Relational (relational_rule.Rnd y.0)) k y.2) tt
+    of_rule text.Proc x (b ∷ i ∷ []) p k h =
+        let y = given_bind (absent (parts_of i) p) (λ _. given (rule.OnBodies (on_all (acts (parts_of b)) on_bodies.Proc))) k h in
+        subst TypedAt (given_is (rule.OnBodies (on_all (acts (parts_of b)) on_bodies.Proc)) k y.2) (all_typed (goal_of q.conclusion) (acts (parts_of b)) on_bodies.Proc tt)
+    of_rule text.BodyStep x (b ∷ []) p k h =
+        let y = given_bind (plain_rule x (acts (parts_of b)) p) (λ z. given (rule.OnBodies z)) k h in
+        subst TypedAt (given_is (rule.OnBodies y.0) k y.2) (plain_typed (goal_of q.conclusion) x (acts (parts_of b)) p y.0 y.1)
+    of_rule text.Seq x (b ∷ n ∷ ns ∷ f ∷ bounds ∷ []) p k h =
+        let o = given_bind (absent (parts_of bounds) p) (λ _. of_bodies_rule (seq_rule ds q (acts (parts_of b)) (cut_of n (parts_of ns)) f)) k h in
+        let y = given_bind (seq_rule ds q (acts (parts_of b)) (cut_of n (parts_of ns)) f) (λ z. given (rule.OnBodies z)) k o.2 in
+        subst TypedAt (given_is (rule.OnBodies y.0) k y.2) (seq_typed (goal_of q.conclusion) w refl (acts (parts_of b)) (cut_of n (parts_of ns)) f y.0 y.1)
+    of_rule text.PlainStep x [] p k h =
+        let o = given_bind (conclusion_rule x p) (λ (a : AmbientRule). given (rule.Ambient a)) k h in subst TypedAt (given_is (rule.Ambient o.0) k o.2) tt
+    of_rule text.CaseStep x (b ∷ f ∷ []) p k h =
+        let o = given_bind (absent (parts_of b) p) _ k h in
+        let y = given_bind (of_conclusion q p) _ k o.2 in
+        let z = given_bind (formed ds q f) (λ (t : Term). given (rule.Ambient (conclusion.Case t))) k y.2 in
+        subst TypedAt (given_is (rule.Ambient (conclusion.Case z.0)) k z.2) tt
+    of_rule text.HaveForm x (n ∷ f ∷ []) p k h =
+        let o = given_bind (new_name q (text_of n) (place_of n)) _ k h in
+        let z = given_bind (formed ds q f) (λ (t : Term). given (rule.Ambient (conclusion.Have (text_of n) t))) k o.2 in
+        subst TypedAt (given_is (rule.Ambient (conclusion.Have (text_of n) z.0)) k z.2) tt
+    of_rule text.Smt x hints p k h = let o = given_bind (absent hints p) (λ _. given rule.Smt) k h in subst TypedAt (given_is rule.Smt k o.2) tt
+    of_rule _ x _ p k h = cc
+
+-- The arguments of a typed step of a rule on programs are typed.
+pub body_typed : (ds : scope.Declarations) → IsTypedScope (declared ds) → (q : Sequent) (t : IsTypedSequent (context_of (declared ds)) q) → (n : Node) (s : Step) → step_given ds q n ≡ given s →
+    (ls rs : List TypedName) → IsGoalOver (of_sequent (context_of (declared ds)) q t.frames) ls rs (goal_of q.conclusion) →
+    IsTypedRule (of_sequent (context_of (declared ds)) q t.frames) s.rule ls rs (goal_of q.conclusion)
+unfolding step_given
+body_typed ds scoped q t n s h ls rs w =
+    let x = given_bind (typed_rule ds q (head_of n) (text_of n) (parts_of n) (place_of n)) (λ (k : Rule). given (record { rule = k; place = place_of n })) s h in
+    subst (λ (s : Step). IsTypedRule (of_sequent (context_of (declared ds)) q t.frames) s.rule ls rs (goal_of q.conclusion)) (given_is (record { rule = x.0; place = place_of n }) s x.2)
+    (of_rule ds scoped q t ls rs w (head_of n) (text_of n) (parts_of n) (place_of n) x.0 x.1)

@@ -1,0 +1,186 @@
+// Statements.
+
+ghost use Rattle.std.specs.Prelude.{◌≡◌, [], ◌∷◌, Some, IfOk};
+ghost use Rattle.gb_core.specs.declared.ty.Ty.TheVariants.{Distr};
+ghost use Rattle.gb_core.specs.declared.var.Var.TheVariants.{Local};
+ghost use Rattle.gb_terms.specs.declared.term.Head.TheVariants.{If};
+ghost use Rattle.gb_goal.specs.Answers.{Answers, Gives};
+ghost use Rattle.gb_elab.specs.Environment.{environment};
+ghost use Rattle.gb_elab.specs.Forms.{elaborated};
+ghost use Rattle.gb_elab_mod.specs.Statements.{all_stated, alone, assignment, instruction, sampling, stated, stating, with_statings};
+
+use gb_core::name::Name;
+use gb_core::place::Place;
+use gb_core::refusal::Refused;
+use gb_core::ty::Ty;
+use gb_core::var::Var;
+use gb_elab::form::typed;
+use gb_elab::names::own_variable;
+use gb_elab::refusals::{not_built, unknown};
+use gb_elab::setting::Setting;
+use gb_script::head::Head;
+use gb_script::tree::Node;
+use gb_shared::{Shared, SharedItems};
+use gb_terms::term::{Cmd, Instr, Instrs, Term};
+use sqlite_items::Items;
+use std::alloc::{AllocError, Global};
+
+/// A sampling: the target is a variable of the procedure, the source a distribution on its type.
+#[tactic(auto, unfolding(crate::specs::Statements::sampling))]
+fn sampling(alloc: Global, at: &Setting<'_>, target: &Node, from: &Node) -> Result<Instr, Refused>
+    ensures { Answers (sampling (environment at.now) target.now from.now) result }
+{
+    let variable = own_variable(alloc, at, target)?;
+    let name = variable.name.copy(alloc)?;
+    let from = source(alloc, at, from, &variable.ty)?;
+    Ok(Instr::Sample(Var::Local { name }, from))
+}
+
+/// The typed tree of a distribution on a type.
+fn source(
+    alloc: Global,
+    at: &Setting<'_>,
+    from: &Node,
+    outcomes: &Shared<Ty>,
+) -> Result<Term, Refused>
+    ensures { Answers (elaborated from.now (environment at.now) [] (Some (Distr outcomes.now))) result }
+{
+    let outcomes = outcomes.share()?;
+    typed(alloc, at, &[], from, Some(&Ty::Distr(outcomes)))
+}
+
+/// One variable, as what is assigned to.
+fn target(alloc: Global, name: &Name) -> Result<SharedItems<Var>, AllocError>
+    ensures { IfOk result (λ made. made ≡ Local name.now ∷ []) }
+{
+    let name = name.copy(alloc)?;
+    let mut targets = Items::new(alloc);
+    targets.push(Var::Local { name })?;
+    SharedItems::new(alloc, targets)
+}
+
+/// An assignment: the target is a variable of the procedure, the value of its type.
+#[tactic(auto, unfolding(crate::specs::Statements::assignment))]
+fn assignment(alloc: Global, at: &Setting<'_>, to: &Node, value: &Node) -> Result<Instr, Refused>
+    ensures { Answers (assignment (environment at.now) to.now value.now) result }
+{
+    let variable = own_variable(alloc, at, to)?;
+    let targets = target(alloc, &variable.name)?;
+    let value = typed(alloc, at, &[], value, Some(variable.ty.get()))?;
+    Ok(Instr::Assign(targets, value))
+}
+
+/// A statement without others in it.
+fn instruction(
+    alloc: Global,
+    at: &Setting<'_>,
+    head: Head,
+    parts: &[Node],
+    place: Place,
+) -> Result<Instr, Refused>
+    ensures { Answers (instruction (environment at.now) head parts.now place) result }
+{
+    match head {
+        Head::Sample => match parts {
+            [target, from] => sampling(alloc, at, target, from),
+            [target, _, _, ..] => Err(unknown(alloc, &target.text, target.place)),
+            _ => Err(not_built(place)),
+        },
+        Head::Assign => match parts {
+            [target, value] => assignment(alloc, at, target, value),
+            [target, _, _, ..] => Err(unknown(alloc, &target.text, target.place)),
+            _ => Err(not_built(place)),
+        },
+        _ => Err(not_built(place)),
+    }
+}
+
+/// One statement alone.
+fn alone(
+    alloc: Global,
+    at: &Setting<'_>,
+    head: Head,
+    parts: &[Node],
+    place: Place,
+) -> Result<Instrs, Refused>
+    ensures { Answers (alone (instruction (environment at.now) head parts.now place)) result }
+{
+    let i = instruction(alloc, at, head, parts, place)?;
+    let mut list = Items::new(alloc);
+    list.push(i)?;
+    Ok(list)
+}
+
+/// The branch on a test, with both of its sides.
+fn branched(alloc: Global, test: Term, yes: Instrs, no: Instrs) -> Result<Instrs, AllocError>
+    ensures { IfOk result (λ made. made ≡ If test (record { list = yes }) (record { list = no }) ∷ []) }
+{
+    let yes = SharedItems::new(alloc, yes)?;
+    let no = SharedItems::new(alloc, no)?;
+    let mut list = Items::new(alloc);
+    list.push(Instr::If(test, Cmd { list: yes }, Cmd { list: no }))?;
+    Ok(list)
+}
+
+/// The typed trees of a statement, or of those of a block.
+#[cycle(statements)]
+#[tactic(auto, using(crate::proofs::Stated::stated_is))]
+fn stated(alloc: Global, at: &Setting<'_>, tree: &Node) -> Result<Instrs, Refused>
+    ensures { Answers (stated tree.now (environment at.now)) result }
+{
+    stating(alloc, at, tree.head, tree.parts.as_slice(), tree.place)
+}
+
+/// .. from its head, its parts and its place.
+#[cycle(statements)]
+#[tactic(auto, using(crate::proofs::Stated::bare_is))]
+fn stating(
+    alloc: Global,
+    at: &Setting<'_>,
+    head: Head,
+    parts: &[Node],
+    place: Place,
+) -> Result<Instrs, Refused>
+    ensures { Answers (stating head (with_statings parts.now) place (environment at.now)) result }
+{
+    match head {
+        Head::If => match parts {
+            [test, yes, no] => {
+                let test = typed(alloc, at, &[], test, Some(&Ty::Bool))?;
+                let yes = stated(alloc, at, yes)?;
+                let no = stated(alloc, at, no)?;
+                Ok(branched(alloc, test, yes, no)?)
+            }
+            _ => Err(not_built(place)),
+        },
+        Head::List => all_stated(alloc, at, parts),
+        _ => alone(alloc, at, head, parts, place),
+    }
+}
+
+/// The typed trees of statements one after another.
+#[cycle(statements)]
+fn all_stated(alloc: Global, at: &Setting<'_>, trees: &[Node]) -> Result<Instrs, Refused>
+    ensures { Answers (all_stated (with_statings trees.now) (environment at.now)) result }
+{
+    let mut list = Items::new(alloc);
+    for tree in trees {
+        let more = stated(alloc, at, tree)?;
+        list.append(more)?;
+    }
+    Ok(list)
+}
+
+/// The typed tree of a body.
+///
+/// # Errors
+///
+/// Of the first statement that has one: `UnknownName` and `Argument` of a target that is no variable of the procedure, those of its
+/// forms, and `Syntax` where it isn't built.
+pub fn body(alloc: Global, at: &Setting<'_>, statements: &[Node]) -> Result<Cmd, Refused>
+    ensures { Gives (λ c. c.list) (all_stated (with_statings statements.now) (environment at.now)) result }
+{
+    let list = all_stated(alloc, at, statements)?;
+    let list = SharedItems::new(alloc, list)?;
+    Ok(Cmd { list })
+}
