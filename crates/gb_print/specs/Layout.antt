@@ -1,0 +1,293 @@
+-- How heads are written: what stands in front of a form's arguments, between them and behind them, and where they get brackets.
+use Rattle.std.specs.Prelude.{ℕ, ℤ, ◌==◌, Bool, true, false, not, if◌then◌else◌, List, [], Option, Some, None, pos, negsuc, nat_lt, codes}
+use Rattle.std.specs.List.{slice_get}
+use Rattle.std.specs.Fmt.{signed_decimal}
+use Rattle.gb_core.specs.declared.ty.Ty.{Ty, out-Ty}
+use Rattle.gb_core.specs.declared.ty.Ty.TheOpen as ty_layer
+use Rattle.gb_core.specs.declared.value.Value.{Value, out-Value, fold-Value}
+use Rattle.gb_core.specs.declared.value.Value.TheOpen as value_layer
+use Rattle.gb_terms.specs.declared.op.Op.{Op}
+use Rattle.gb_terms.specs.declared.op.Op.TheVariants as op
+use Rattle.gb_terms.specs.declared.op.Rel.{Rel}
+use Rattle.gb_terms.specs.declared.op.Rel.TheVariants as rel
+use Rattle.gb_terms.specs.declared.term.Pair.{Pair}
+use Rattle.gb_terms.specs.declared.term.Term.{Term}
+use Rattle.gb_terms.specs.declared.term.Head.{Head}
+use Rattle.gb_terms.specs.declared.term.Head.TheVariants as head
+use Rattle.gb_terms.specs.declared.module.Bind.{Bind}
+use Rattle.gb_print_names.specs.declared.place.Enumeration.{Enumeration}
+use Rattle.gb_print_names.specs.declared.place.Known.{Known}
+use Rattle.gb_print_names.specs.Text.{Text, Writing, ◌▸◌, nothing, word, number, separated, bar}
+use Rattle.gb_print_names.specs.Names.{Name, Place, perhaps, bound_at, memory, beside, read, constants}
+use Rattle.gb_print_names.specs.Types.{type_text, type_operand}
+use Rattle.gb_print_names.specs.Modules.{module_text, procedure, abstract_module}
+use Rattle.gb_print.specs.declared.shape.Shape.{Shape}
+use Rattle.gb_print.specs.declared.shape.Shape.TheVariants.{Atom, Postfix, Bounded, Application, Sum, Operation}
+use Rattle.gb_print.specs.Open.{type_read}
+
+-- Literals.
+
+abbrev pub truth_word : ℕ → Text
+truth_word n = if n == 0 then codes "false" else codes "true"
+
+abbrev pub numeral_layer : List Enumeration → ty_layer.Ty-F Ty → ℕ → Writing
+numeral_layer es ty_layer.Unit n = word (codes "tt")
+numeral_layer es ty_layer.Bool n = word (truth_word n)
+numeral_layer es (ty_layer.Enumeration x size) n = perhaps (slice_get (constants es x) n)
+numeral_layer es t n = number n
+
+-- a number as a value of a type
+abbrev pub numeral : List Enumeration → Ty → ℕ → Writing
+numeral es t n = numeral_layer es (out-Ty t) n
+
+abbrev pub at_value : value_layer.Value-F Writing → Writing
+at_value (value_layer.Num n) = number n
+at_value (value_layer.Many ws) = word (codes "(") ▸ separated (codes ", ") (λ w. w) ws ▸ word (codes ")")
+
+-- a value by its numbers alone
+abbrev pub value_text : Value → Writing
+value_text = fold-Value Writing at_value
+
+abbrev pub literal_layer : List Enumeration → Ty → Value → value_layer.Value-F Value → Writing
+literal_layer es t v (value_layer.Num n) = numeral es t n
+literal_layer es t v (value_layer.Many vs) = value_text v
+
+-- a literal: a number, a truth, `tt`, a constant of an enumeration; a value with parts, which no script makes a literal, as these
+abbrev pub literal : List Enumeration → Ty → Value → Writing
+literal es t v = literal_layer es t v (out-Value v)
+
+abbrev pub outcome_layer : ty_layer.Ty-F Ty → Ty → Ty
+outcome_layer (ty_layer.Distr u) t = u
+outcome_layer l t = t
+
+-- what a distribution gives
+abbrev pub outcome : Ty → Ty
+outcome t = outcome_layer (out-Ty t) t
+
+-- what stands behind the postcondition, where there is a bound
+abbrev pub compared : Rel → Text
+compared rel.AtMost = codes "] <= "
+compared rel.Equal = codes "] = "
+compared rel.AtLeast = codes "] >= "
+
+-- Operators.
+
+-- how an operator is written: its shape, and what stands in front of its operands, between the first two, in front of further ones, and
+-- behind the last one
+pub record Spelling : Type 0 where
+  pub shape : Shape
+  pub opening : Text
+  pub second : Text
+  pub further : Text
+  pub closing : Text
+
+-- a word that stands by itself
+abbrev pub alone : Text → Spelling
+alone w = record { shape = Atom; opening = w; second = []; further = []; closing = [] }
+
+abbrev pub in_front : Text → Spelling
+in_front w = record { shape = Operation; opening = w; second = []; further = []; closing = [] }
+
+abbrev pub in_between : Text → Spelling
+in_between w = record { shape = Operation; opening = []; second = w; further = []; closing = [] }
+
+abbrev pub behind : Text → Spelling
+behind w = record { shape = Postfix; opening = []; second = []; further = []; closing = w }
+
+-- a name in front of its arguments
+abbrev pub applied : Text → Spelling
+applied w = record { shape = Application; opening = w; second = codes " "; further = []; closing = [] }
+
+abbrev pub spelling : Op → Spelling
+spelling op.Not = in_front (codes "!")
+spelling op.And = in_between (codes " /\\ ")
+spelling op.Or = in_between (codes " \\/ ")
+spelling op.Implies = in_between (codes " => ")
+spelling op.Iff = in_between (codes " <=> ")
+spelling op.Equal = in_between (codes " = ")
+spelling op.NotEqual = in_between (codes " <> ")
+spelling op.Less = in_between (codes " < ")
+spelling op.AtMost = in_between (codes " <= ")
+spelling op.Plus = in_between (codes " + ")
+spelling op.Minus = in_between (codes " - ")
+spelling op.Times = in_between (codes " * ")
+spelling op.Negate = in_front (codes "-")
+spelling op.Xor = record { shape = Sum; opening = []; second = codes " +^ "; further = []; closing = [] }
+spelling op.Divide = in_between (codes " / ")
+spelling op.ToReal = behind (codes "%r")
+spelling op.Abs = record { shape = Atom; opening = codes "`|"; second = []; further = []; closing = codes "|" }
+spelling op.If = record { shape = Operation; opening = []; second = codes " ? "; further = codes " : "; closing = [] }
+spelling op.Tuple = record { shape = Atom; opening = codes "("; second = codes ", "; further = codes ", "; closing = codes ")" }
+spelling (op.Part k) = behind (codes ".`")
+spelling op.Some = applied (codes "Some ")
+spelling op.None = alone (codes "None")
+spelling op.Oget = applied (codes "oget ")
+spelling op.Empty = alone (codes "empty")
+spelling op.Get = record { shape = Postfix; opening = []; second = codes ".["; further = []; closing = codes "]" }
+spelling op.Set = record { shape = Postfix; opening = []; second = codes ".["; further = codes " <- "; closing = codes "]" }
+spelling op.InMap = in_between (codes " \\in ")
+spelling op.InSupport = in_between (codes " \\in ")
+spelling op.Mu1 = applied (codes "mu1 ")
+spelling op.Coin = alone (codes "{0,1}")
+spelling op.Uniform = alone (codes "uniform ")
+spelling op.Dunit = applied (codes "dunit ")
+spelling op.Product = in_between (codes " `*` ")
+
+abbrev pub before_operand : Op → ℕ → Text
+before_operand o i = if i == 0 then [] else if i == 1 then (spelling o).second else (spelling o).further
+
+-- behind the operands; a part is taken by its number, and a bar doesn't join another one
+abbrev pub operator_closing : Op → Writing
+operator_closing (op.Part k) = word (codes ".`") ▸ number k
+operator_closing op.Abs = bar
+operator_closing o = word (spelling o).closing
+
+-- the type of which a distribution is uniform
+abbrev pub operator_type : Op → Ty → Place → Writing
+operator_type op.Uniform t at = type_operand (outcome t) at.bound
+operator_type _ t at = nothing
+
+-- Heads.
+
+abbrev pub weighted : List Enumeration → Ty → Pair → Writing
+weighted es t p = literal es t p.value ▸ word (codes " : ") ▸ number p.weight
+
+-- A form begins with this; the programs of a judgment follow.
+abbrev pub opening : Head → Ty → Place → Writing
+opening (head.Lit v) t at = literal at.enumerations t v
+opening (head.Whole n) t at = word (signed_decimal n)
+opening (head.Read r) t at = read at r
+opening (head.Bound i) t at = bound_at at.bound i
+opening (head.Builtin o) t at = word (spelling o).opening ▸ operator_type o t at
+opening (head.User x) t at = word x
+opening head.Mu t at = word (codes "mu")
+opening (head.Sum q) t at = word (codes "sum ") ▸ number q
+opening (head.Weights ps) t at =
+    word (codes "weights [") ▸ separated (codes "; ") (weighted at.enumerations (outcome t)) ps ▸ word (codes "]")
+opening head.Map t at = word (codes "dmap")
+opening head.Restrict t at = word (codes "drestrict")
+opening (head.Pr p s) t at = word (codes "Pr[") ▸ procedure at.bound p ▸ word (codes "(")
+opening (head.Glob m s) t at = word (codes "(glob ") ▸ module_text m at.bound ▸ word (codes ")") ▸ beside at s
+opening (head.Hoare c) t at = word (codes "hoare [")
+opening (head.Phoare c r) t at = word (codes "phoare [")
+opening (head.Equiv c d) t at = word (codes "equiv [")
+opening _ t at = nothing
+
+-- in front of the parts of a judgment
+abbrev pub before_part : Text → ℕ → Text
+before_part bound i = if i == 0 then codes " : " else if i == 1 then codes " ==> " else bound
+
+-- in front of an argument under no binder
+abbrev pub before : Head → ℕ → Bool → Place → Writing
+before (head.Builtin o) i last at = word (before_operand o i)
+before (head.Hoare c) i last at = word (before_part [] i)
+before (head.Phoare c r) i last at = word (before_part (compared r) i)
+before (head.Equiv c d) i last at = word (before_part [] i)
+before (head.Pr p s) i last at =
+    if last then word (codes ") @ &") ▸ memory at s ▸ word (codes " : ") else word (if i == 0 then [] else codes ", ")
+before h i last at = word (codes " ")
+
+-- A form ends with this.
+abbrev pub closing : Head → Writing
+closing (head.Builtin o) = operator_closing o
+closing head.Mu = word (codes ")")
+closing (head.Sum q) = word (codes ")")
+closing head.Map = word (codes ")")
+closing head.Restrict = word (codes ")")
+closing (head.Pr p s) = word (codes "]")
+closing (head.Hoare c) = word (codes "]")
+closing (head.Equiv c d) = word (codes "]")
+closing _ = nothing
+
+-- Binders.
+
+-- the letter of what a head binds
+abbrev pub letter : Head → Text
+letter head.AllMemory = codes "m"
+letter head.SomeMemory = codes "m"
+letter (head.AllModule b) = codes "A"
+letter _ = codes "v"
+
+-- the name that it has in the tree
+abbrev pub stands : Head → Name
+stands (head.AllModule b) = b.name
+stands _ = []
+
+-- a quantifier over the values of a type
+abbrev pub over_values : Text → Name → Ty → List Known → Writing
+over_values q x t bound = word q ▸ word (codes " (") ▸ word x ▸ word (codes " : ") ▸ type_text t bound ▸ word (codes "), ")
+
+abbrev pub over_memories : Text → Name → Writing
+over_memories q m = word q ▸ word (codes " &") ▸ word m ▸ word (codes ", ")
+
+abbrev pub over_modules : Name → Bind → List Known → Writing
+over_modules x b bound = word (codes "forall (") ▸ abstract_module bound x b ▸ word (codes "), ")
+
+-- the variable of a sum below q is of the type `int[q]` by itself
+abbrev pub is_mod_layer : ℕ → ty_layer.Ty-F Ty → Bool
+is_mod_layer q (ty_layer.Mod n) = n == q
+is_mod_layer q _ = false
+
+-- its type, where it is another one
+abbrev pub type_needed : ℕ → Option Ty → Option Ty
+type_needed q None = None
+type_needed q (Some t) = if is_mod_layer q (out-Ty t) then None else Some t
+
+-- the variable of a function, with its type where this is needed
+abbrev pub of_function : Name → Option Ty → List Known → Writing
+of_function x None bound = word (codes " (fun ") ▸ word x ▸ word (codes " => ")
+of_function x (Some t) bound = word (codes " (fun (") ▸ word x ▸ word (codes " : ") ▸ type_text t bound ▸ word (codes ") => ")
+
+-- what a head binds in a term, under its name
+abbrev pub binding : Head → Term → Name → List Known → Writing
+binding (head.All t) f x bound = over_values (codes "forall") x t bound
+binding (head.Some t) f x bound = over_values (codes "exists") x t bound
+binding head.AllMemory f x bound = over_memories (codes "forall") x
+binding head.SomeMemory f x bound = over_memories (codes "exists") x
+binding (head.AllModule b) f x bound = over_modules x b bound
+binding (head.Sum q) f x bound = of_function x (type_needed q (type_read f 0)) bound
+binding h f x bound = of_function x None bound
+
+-- Shapes.
+
+abbrev pub is_natural : ℤ → Bool
+is_natural (pos n) = true
+is_natural (negsuc n) = false
+
+-- the shape of a form, by its head
+abbrev pub shape : Head → Shape
+shape (head.Whole n) = if is_natural n then Atom else Operation
+shape (head.Builtin o) = (spelling o).shape
+shape (head.User x) = Application
+shape (head.All t) = Operation
+shape (head.Some t) = Operation
+shape head.AllMemory = Operation
+shape head.SomeMemory = Operation
+shape (head.AllModule b) = Operation
+shape head.Mu = Application
+shape (head.Sum q) = Application
+shape head.Map = Application
+shape head.Restrict = Application
+shape (head.Phoare c r) = Bounded
+shape _ = Atom
+
+-- A form of this shape and these arguments needs no brackets as an operand. An application without arguments is a name.
+abbrev pub stands_alone : Shape → List Term → Bool
+stands_alone Atom ts = true
+stands_alone Postfix ts = true
+stands_alone Bounded ts = true
+stands_alone Application [] = true
+stands_alone _ ts = false
+
+-- an argument that stands in brackets or bars of the form
+abbrev pub encloses : Shape → ℕ → Bool
+encloses Atom i = true
+encloses Postfix i = not (i == 0)
+encloses Bounded i = nat_lt i 2
+encloses _ i = false
+
+-- The bound of a judgment is a sum, to which further arguments behind it or a `+^` would belong.
+abbrev pub runs_on : Shape → ℕ → Shape → Bool
+runs_on Application i Bounded = true
+runs_on Sum i Bounded = i == 0
+runs_on _ i _ = false

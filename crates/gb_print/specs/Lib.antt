@@ -1,0 +1,4 @@
+pub mod Open
+pub mod Layout
+pub mod Forms
+pub mod Goals

@@ -1,0 +1,4 @@
+pub mod Lists
+pub mod Primes
+pub mod LocalSteps
+pub mod Differing

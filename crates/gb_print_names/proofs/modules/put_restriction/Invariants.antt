@@ -1,0 +1,8 @@
+use Rattle.std.proofs.Common.{◌≡◌, codes, drop}
+use Rattle.gb_print_names.specs.Text.{◌▸◌, each, word}
+use Rattle.gb_print_names.specs.Modules.{excluded}
+use Rattle.gb_print_names.proofs.modules.put_restriction.Given as goal
+
+abbrev pub invariant-loop-name : goal.invariant-loop-name
+invariant-loop-name l =
+    each (λ x. word (codes ", ") ▸ excluded l.bound x) (drop l.name-index l.rest) l.text ≡ each (λ x. word (codes ", ") ▸ excluded l.bound x) l.rest l.initial.text
