@@ -1,5 +1,5 @@
 -- The lemmas of accepted scripts.
-use Rattle.std.proofs.Common.{◌≡◌, ℕ, List, [], ◌∷◌, subst}
+use Rattle.std.proofs.Common.{ℕ, List, [], ◌∷◌, subst}
 use Rattle.std.specs.List.{AllByRecursion}
 use Rattle.gb_goal.specs.Answers.Answer.{given}
 use Rattle.gb_holds.specs.Declared.{declared}
@@ -17,8 +17,8 @@ module _ (o : Grounds) where
   promised : (l : Lemma) → IsProved l → IsPromise l
   promised l p = record {
     model = o.models.model l.before p.scope;
-    coupled = λ f h P Q e.
-        o.models.coupled l.before p.scope f h P Q (subst (IsTypedSequent (context_of (declared l.before))) e p.typed) (subst (Holds (declared l.before)) e p.holds);
+    coupled = λ xs ms f h P Q e.
+        o.models.coupled l.before p.scope xs ms f h P Q (subst (IsTypedSequent (context_of (declared l.before))) e p.typed) (subst (Holds (declared l.before)) e p.holds);
   }
 
   each_promised : (ls : List Lemma) → AllByRecursion IsProved ls → AllByRecursion IsPromise ls

@@ -14,6 +14,7 @@ use Rattle.gb_goal.specs.Goal.{Goal, goal_of}
 use Rattle.gb_goal.specs.Goal.Goal.{ambient}
 use Rattle.gb_goal.specs.Rows.{Row, refusing, answered}
 use Rattle.gb_goal.specs.Scope as scope
+use Rattle.gb_goal.specs.Scope.{AreNoLemmas}
 use Rattle.gb_goal.specs.declared.scope.Entry.TheVariants as entry
 use Rattle.gb_goal.specs.declared.sequent.Sequent.{Sequent}
 use Rattle.gb_goal.specs.declared.step.AmbientRule.{AmbientRule}
@@ -36,10 +37,11 @@ use Rattle.gb_equiv.specs.Rows.{IsTypedRule}
 use Rattle.gb_amb.specs.Steps.{IsAnswer, IsTypedStep, LeadTo}
 use Rattle.gb_smt.specs.Leaves.{leaves_of}
 use Rattle.gb_smt.specs.Apply.{IsClosed}
+use Rattle.gb_elab_mod.specs.Entries.{entries_given}
 use Rattle.gb_elab_mod.specs.Lemmas.{lemma_name, statement_given}
 use Rattle.gb_elab_mod.specs.Modules.{module_given}
 use Rattle.gb_elab_mod.specs.Steps.{step_given}
-use Rattle.gb_models.specs.Promised.{HasModel, equivalence, alone, AreCoupledInEachModel}
+use Rattle.gb_models.specs.Promised.{HasModel, equivalence, stated, AreCoupledInEachModel}
 
 -- typed declarations of a scope, a typed goal over them, and its context
 abbrev pub IsTyped : scope.Declarations → Type 0
@@ -53,6 +55,8 @@ around ds q t = of_sequent (context_of (declared ds)) q t.frames
 
 -- What is declared stays typed.
 pub record OfTyping : Type 0 where
+  pub entries_added : (ds : scope.Declarations) → IsTyped ds → (t : Node) (added : scope.Declarations) → entries_given ds t ≡ given added → IsTyped (ds ++ added)
+  pub others : (ds : scope.Declarations) (t : Node) (added : scope.Declarations) → entries_given ds t ≡ given added → AreNoLemmas added
   pub module_added : (ds : scope.Declarations) → IsTyped ds → (t : Node) (m : Module) → module_given ds t ≡ given m → IsTyped (ds ++ (m.name, entry.Module m) ∷ [])
   pub statement : (ds : scope.Declarations) → IsTyped ds → (t : Node) (q : Sequent) → statement_given ds t ≡ given q → IsTypedGoalOf ds q
   pub free : (ds : scope.Declarations) (t : Node) (q : Sequent) → statement_given ds t ≡ given q → is_declared (declared ds) (lemma_name t) ≡ false
@@ -62,7 +66,7 @@ pub record OfTyping : Type 0 where
       (ls rs : List TypedName) → IsGoalOver (around ds q t) ls rs (goal_of q.conclusion) → bodies.IsTypedRule (around ds q t) s.rule ls rs (goal_of q.conclusion)
   pub conclusion : (ds : scope.Declarations) → IsTyped ds → (q : Sequent) (t : IsTypedGoalOf ds q) (n : Node) (s : Step) → step_given ds q n ≡ given s →
       (r : AmbientRule) → s.rule ≡ Ambient r → IsTypedStep (around ds q t) r
-  pub rule : (ds : scope.Declarations) (q : Sequent) (t : IsTypedGoalOf ds q) (n : Node) (s : Step) → step_given ds q n ≡ given s →
+  pub rule : (ds : scope.Declarations) → IsTyped ds → (q : Sequent) (t : IsTypedGoalOf ds q) (n : Node) (s : Step) → step_given ds q n ≡ given s →
       (ls rs : List TypedName) → IsGoalOver (around ds q t) ls rs (goal_of q.conclusion) → IsTypedRule (around ds q t) s.rule ls rs (goal_of q.conclusion)
 
 -- Rules are sound.
@@ -87,8 +91,8 @@ pub record OfRules : Type 0 where
 -- Typed scopes have models, and equivalences give couplings.
 pub record OfModels : Type 0 where
   pub model : (ds : scope.Declarations) → IsTyped ds → HasModel ds
-  pub coupled : (ds : scope.Declarations) → IsTyped ds → (f h : ProcRef) (P Q : Term) → IsTypedGoalOf ds (alone (equivalence f h P Q)) →
-      Holds (declared ds) (alone (equivalence f h P Q)) → AreCoupledInEachModel ds f h P Q
+  pub coupled : (ds : scope.Declarations) → IsTyped ds → (xs : List TypedName) (ms : List Name) (f h : ProcRef) (P Q : Term) → IsTypedGoalOf ds (stated xs ms (equivalence f h P Q)) →
+      Holds (declared ds) (stated xs ms (equivalence f h P Q)) → AreCoupledInEachModel ds xs f h P Q
 
 pub record Grounds : Type 0 where
   pub typing : OfTyping

@@ -1,9 +1,8 @@
 -- The lemmas of a scope that grows.
-use Rattle.std.proofs.Common.{◌≡◌, List, [], ◌∷◌, ◌++◌, refl, ap, sym, ◌∙◌, subst}
+use Rattle.std.proofs.Common.{◌≡◌, List, [], ◌∷◌, ◌++◌, Some, None, refl, ap, sym, ◌∙◌, subst}
 use Rattle.std.proofs.lemmas.List.{append-nil, append_assoc, map-append}
 use Rattle.std.specs.List.{AllByRecursion}
-use Rattle.gb_terms.specs.declared.decl.Module.{Module}
-use Rattle.gb_goal.specs.Scope.{Declarations}
+use Rattle.gb_goal.specs.Scope.{Declarations, as_lemma, AreNoLemmas}
 use Rattle.gb_goal.specs.declared.scope.Entry.{Entry}
 use Rattle.gb_goal.specs.declared.scope.Entry.TheVariants as entry
 use Rattle.gb_goal.specs.declared.sequent.Sequent.{Sequent}
@@ -18,6 +17,11 @@ use Rattle.gb_accepted.specs.Holding.{Lemma, IsProved, with_entry, lemmas_in, na
 with_more : (before : Declarations) (n : Name) (e : Entry) (ls ks : List Lemma) → with_entry before n e (ls ++ ks) ≡ with_entry before n e ls ++ ks
 with_more before n (entry.Module m) ls ks = refl
 with_more before n (entry.Lemma q) ls ks = refl
+with_more before n (entry.Type t) ls ks = refl
+with_more before n entry.AbstractType ls ks = refl
+with_more before n (entry.Constant c) ls ks = refl
+with_more before n (entry.Operator o) ls ks = refl
+with_more before n (entry.AbstractOperator o) ls ks = refl
 
 lemmas_append : (before ds es : Declarations) → lemmas_in before (ds ++ es) ≡ lemmas_in before ds ++ lemmas_in (before ++ ds) es
 lemmas_append before [] es = ap (λ b. lemmas_in b es) (sym (append-nil before))
@@ -25,15 +29,31 @@ lemmas_append before (d ∷ ds) es =
     ap (with_entry before d.0 d.1) (lemmas_append (before ++ d ∷ []) ds es ∙ ap (λ b. lemmas_in (before ++ d ∷ []) ds ++ lemmas_in b es) (append_assoc before (d ∷ []) ds))
     ∙ with_more before d.0 d.1 (lemmas_in (before ++ d ∷ []) ds) (lemmas_in (before ++ d ∷ ds) es)
 
--- a module adds no lemma
-module _ (ds : Declarations) (n : Name) (m : Module) where
-  same_lemmas : lemmas_in [] (ds ++ (n, entry.Module m) ∷ []) ≡ lemmas_in [] ds
-  same_lemmas = lemmas_append [] ds ((n, entry.Module m) ∷ []) ∙ append-nil (lemmas_in [] ds)
+some_none : {A B : Type 0} (x : A) → Some x ≡ None → B
+some_none x e = cc
 
-  pub names_stay : names_of (lemmas_in [] (ds ++ (n, entry.Module m) ∷ [])) ≡ names_of (lemmas_in [] ds)
+-- what is no lemma adds none
+no_lemma : (before : Declarations) (n : Name) (e : Entry) (ls : List Lemma) → as_lemma (Some e) ≡ None → with_entry before n e ls ≡ ls
+no_lemma before n (entry.Module m) ls h = refl
+no_lemma before n (entry.Lemma q) ls h = some_none q h
+no_lemma before n (entry.Type t) ls h = refl
+no_lemma before n entry.AbstractType ls h = refl
+no_lemma before n (entry.Constant c) ls h = refl
+no_lemma before n (entry.Operator o) ls h = refl
+no_lemma before n (entry.AbstractOperator o) ls h = refl
+
+none_in : (before added : Declarations) → AreNoLemmas added → lemmas_in before added ≡ []
+none_in before [] h = refl
+none_in before (d ∷ added) h = no_lemma before d.0 d.1 _ h.0 ∙ none_in (before ++ d ∷ []) added h.1
+
+module _ (ds added : Declarations) (others : AreNoLemmas added) where
+  same_lemmas : lemmas_in [] (ds ++ added) ≡ lemmas_in [] ds
+  same_lemmas = lemmas_append [] ds added ∙ ap (λ ls. lemmas_in [] ds ++ ls) (none_in ds added others) ∙ append-nil (lemmas_in [] ds)
+
+  pub names_stay : names_of (lemmas_in [] (ds ++ added)) ≡ names_of (lemmas_in [] ds)
   names_stay = ap names_of same_lemmas
 
-  pub proved_later : AllByRecursion IsProved (lemmas_in [] ds) → AllByRecursion IsProved (lemmas_in [] (ds ++ (n, entry.Module m) ∷ []))
+  pub proved_later : AllByRecursion IsProved (lemmas_in [] ds) → AllByRecursion IsProved (lemmas_in [] (ds ++ added))
   proved_later h = subst (AllByRecursion IsProved) (sym same_lemmas) h
 
 -- a lemma is added behind the others

@@ -1,5 +1,5 @@
 -- Commands, and scripts of them, keep sessions good.
-use Rattle.std.proofs.Common.{◌≡◌, ℕ, zero, suc, List, ◌∷◌, take, drop, Option, Some, None, refl, ap, sym, subst}
+use Rattle.std.proofs.Common.{◌≡◌, ℕ, zero, suc, List, [], ◌∷◌, take, drop, Option, Some, None, refl, ap, sym, subst}
 use Rattle.gb_core.specs.declared.place.Place.{Place}
 use Rattle.gb_lex.specs.Lex.{cut_of}
 use Rattle.gb_lex.specs.PlaceAfter.{place_after}
@@ -19,7 +19,7 @@ use Rattle.gb_verdict.specs.Verdict.{RunsTo, IsEnd, Ends, Goes, RunsIn, start, I
 use Rattle.gb_accepted.proofs.Given.{nothing_given, given_after, given_placed}
 use Rattle.gb_accepted.proofs.Grounds.{Grounds}
 use Rattle.gb_accepted.proofs.Good.{IsGoodProof, IsGoodIfOpen, IsGood, fresh_is_good}
-use Rattle.gb_accepted.proofs.Declarations.{declares_keeps, opens_keeps, begun_keeps, ended_keeps}
+use Rattle.gb_accepted.proofs.Declarations.{requires_keeps, brings_keeps, assumes_nothing, declares_keeps, opens_keeps, begun_keeps, ended_keeps}
 use Rattle.gb_accepted.proofs.Steps.{works_keep}
 
 in_proof : (s : Session) (o : Option OpenProof) (place : Place) (P : OpenProof → Answer Session → Type 0) (next : Session) → IsGoodIfOpen s.scope o →
@@ -35,6 +35,10 @@ module _ (o : Grounds) where
 
   head_keeps : (s : Session) (c : Node) (h : Head) (parts : List Node) (next : Session) → parts_of c ≡ parts → IsGood s →
       ComesToOf s c h parts (given next) → IsGood next
+  head_keeps s c head.Require (import ∷ names ∷ []) next are g e = requires_keeps s (parts_of names) (place_of c) next g (sym e)
+  head_keeps s c head.TypeDeclaration parts next are g e = brings_keeps o s c (place_of c) next g (sym e)
+  head_keeps s c head.OperatorDeclaration parts next are g e = brings_keeps o s c (place_of c) next g (sym e)
+  head_keeps s c head.Axiom parts next are g e = absurd (assumes_nothing s (place_of c) next (sym e))
   head_keeps s c head.Module parts next are g e = declares_keeps o s c (place_of c) next g (sym e)
   head_keeps s c head.AscribedModule parts next are g e = declares_keeps o s c (place_of c) next g (sym e)
   head_keeps s c head.Lemma (name ∷ parts) next are g e = opens_keeps o s c (text_of name) (place_of c) next g (ap name_in are) (sym e)

@@ -48,4 +48,4 @@ works_keep o (q ∷ rest) s p t next g h is w =
     let goals : AllByRecursion (IsTypedSequent (context_of (declared s.scope))) (q ∷ rest) = subst (AllByRecursion (IsTypedSequent (context_of (declared s.scope)))) is h.goals in
     let b = given_bind a.2.0 (continued s p rest a.0.place) next (sym a.2.2) in
     let applied : Applied s.scope a.0.rule a.0.place q (given b.0) = subst (Applied s.scope a.0.rule a.0.place q) b.1 a.2.1 in
-    continued_keeps s p q rest b.0 a.0.place next g h is (applied_lead o s.scope g.typed q goals.0 a.0.rule a.0.place b.0 (λ ls rs w. (o.typing.body_rule s.scope g.typed q goals.0 t a.0 a.1 ls rs w, o.typing.rule s.scope q goals.0 t a.0 a.1 ls rs w)) (o.typing.conclusion s.scope g.typed q goals.0 t a.0 a.1) applied) b.2
+    continued_keeps s p q rest b.0 a.0.place next g h is (applied_lead o s.scope g.typed q goals.0 a.0.rule a.0.place b.0 (λ ls rs w. (o.typing.body_rule s.scope g.typed q goals.0 t a.0 a.1 ls rs w, o.typing.rule s.scope g.typed q goals.0 t a.0 a.1 ls rs w)) (o.typing.conclusion s.scope g.typed q goals.0 t a.0 a.1) applied) b.2

@@ -5,6 +5,7 @@ use Rattle.gb_goal.specs.Scope.{Declarations}
 use Rattle.gb_goal.specs.declared.scope.Entry.{Entry}
 use Rattle.gb_goal.specs.declared.scope.Entry.TheVariants as entry
 use Rattle.gb_goal.specs.declared.sequent.Sequent.{Sequent}
+use Rattle.gb_terms.specs.declared.decl.TypedName.{TypedName}
 use Rattle.gb_terms.specs.declared.module.ProcRef.{ProcRef}
 use Rattle.gb_terms.specs.declared.term.Term.{Term}
 use Rattle.gb_meaning.specs.Names.{Name}
@@ -12,7 +13,7 @@ use Rattle.gb_holds.specs.Declared.{declared}
 use Rattle.gb_holds.specs.Holds.{Holds, IsSound}
 use Rattle.gb_typing.specs.Sequents.{IsTypedSequent}
 use Rattle.gb_typing.specs.Scopes.{context_of, IsTypedScope}
-use Rattle.gb_models.specs.Promised.{HasModel, equivalence, alone, AreCoupledInEachModel}
+use Rattle.gb_models.specs.Promised.{HasModel, equivalence, stated, AreCoupledInEachModel}
 use Rattle.gb_verdict.specs.Session.{Session}
 
 -- A lemma: its name, the declarations before it, and its statement.
@@ -32,15 +33,16 @@ pub record IsProved (l : Lemma) : Type 0 where
   pub holds : LemmaHolds l
 
 -- What a lemma promises: the declarations before it have a model, so that it doesn't hold for want of one; and where it is an
--- equivalence of two procedures, there are couplings of their outputs, in each model and from all related memories.
+-- equivalence of two procedures, there are couplings of their outputs, in each model, for all values of its variables, and from all
+-- related memories.
 pub record IsPromise (l : Lemma) : Type 0 where
   pub model : HasModel l.before
-  pub coupled : (f h : ProcRef) (P Q : Term) → l.statement ≡ alone (equivalence f h P Q) → AreCoupledInEachModel l.before f h P Q
+  pub coupled : (xs : List TypedName) (ms : List Name) (f h : ProcRef) (P Q : Term) → l.statement ≡ stated xs ms (equivalence f h P Q) → AreCoupledInEachModel l.before xs f h P Q
 
 -- what is declared under a name, after other declarations, and further lemmas
 abbrev pub with_entry : Declarations → Name → Entry → List Lemma → List Lemma
-with_entry before n (entry.Module m) ls = ls
 with_entry before n (entry.Lemma q) ls = record { name = n; before = before; statement = q } ∷ ls
+with_entry before n e ls = ls
 
 -- the lemmas of declarations behind others
 abbrev pub lemmas_in : Declarations → Declarations → List Lemma

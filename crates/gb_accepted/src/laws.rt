@@ -6,7 +6,7 @@ ghost use Rattle.gb_verdict.specs.Session.{Session};
 ghost use Rattle.gb_verdict.specs.Verdict.{IsOutcome};
 ghost use Rattle.gb_accepted.specs.Holding.{IsPromised};
 
-use gb_elab_laws::declaration_laws::{lemmas, modules, statements};
+use gb_elab_laws::declaration_laws::{entries, lemmas, modules, statements};
 use gb_elab_laws::step_laws::{typed_forms, typed_rules};
 use gb_models::promise_laws::{equivalences_give_couplings, typed_scopes_have_models};
 use gb_rules::goal_laws::{fronts, typing};
@@ -20,6 +20,7 @@ use gb_smt_laws::smt_laws::sound_smt;
 pub fn accepted_scripts()
     ensures { (text : List ℕ) (s : Session) → IsOutcome text (given s) → IsPromised s }
 {
+    entries();
     modules();
     statements();
     lemmas();

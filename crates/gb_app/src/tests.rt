@@ -116,7 +116,7 @@ fn runs_over_memory(rt: HostRuntime) {
             "lemma a (M <: T) : true.",
             (0, 0),
             Status::Refused,
-            "refused E02 row.ec 1 7\n",
+            "refused E02 row.ec 1 10\n",
         ),
         (("check", "other.ec"), "", (0, 0), Status::Missing, ""),
         (("check", "-v"), "", (0, 0), Status::Usage, USAGE),

@@ -1,3 +1,4 @@
+pub mod Events
 pub mod Gathering
 pub mod Pairs
 pub mod Rising

@@ -1,8 +1,6 @@
-pub mod Answers
-pub mod Nodes
 pub mod Elaborated
-pub mod Parts
-pub mod Spellings
 pub mod Arms
 pub mod Functions
 pub mod OfWantedType
+pub mod Operands
+pub mod Applied

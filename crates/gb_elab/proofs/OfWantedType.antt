@@ -1,11 +1,14 @@
 -- What is typed has the wanted type.
-use Rattle.std.proofs.Common.{◌≡◌, ℕ, Bool, true, false, not, ◌&&◌, if◌then◌else◌, List, [], ◌∷◌, ◌++◌, reverse, Option, Some, None, is_none, refl, ap, sym, subst, ◌∙◌}
+use Rattle.std.proofs.Common.{◌≡◌, ℕ, ◌==◌, ◌^◌, nat_lt, pos, Bool, true, false, ◌&&◌, if◌then◌else◌, List, [], ◌∷◌, ◌++◌, reverse, length, Option, Some, None, is_none, refl, ap, sym, subst, ◌∙◌}
+use Rattle.std.specs.Option.{option_map_or}
 use Rattle.gb_core.specs.declared.place.Place.{Place}
 use Rattle.gb_core.specs.declared.refusal.Why.{Why}
-use Rattle.gb_core.specs.declared.refusal.Why.TheVariants.{Syntax, TypeMismatch, Argument}
+use Rattle.gb_core.specs.declared.refusal.Why.TheVariants.{Syntax, TypeMismatch, TypeTooLarge, Argument}
 use Rattle.gb_core.specs.declared.ty.Ty.{Ty}
-use Rattle.gb_core.specs.declared.value.Value.TheVariants.{Num}
+use Rattle.gb_core.specs.declared.ty.Ty.TheVariants as ty
 use Rattle.gb_core.specs.declared.ty.Ty.TheVariants.{Bool as bool_ty, Distr}
+use Rattle.gb_core.specs.declared.value.Value.TheVariants.{Num}
+use Rattle.gb_limits.specs.Numbers.{number_of}
 use Rattle.gb_same.proofs.Decided.{ty_eq-Decides}
 use Rattle.gb_same.specs.Types.{ty_eq}
 use Rattle.gb_terms.specs.declared.decl.TypedName.{TypedName}
@@ -14,23 +17,43 @@ use Rattle.gb_terms.specs.declared.op.Op.TheVariants as op
 use Rattle.gb_terms.specs.declared.op.Side.TheVariants as side
 use Rattle.gb_terms.specs.declared.term.Term.{Term}
 use Rattle.gb_terms.specs.declared.term.Head.{Head as TermHead}
-use Rattle.gb_terms.specs.declared.term.Head.TheVariants.{Lit, Builtin, All, Some as Exist, Equiv, Proc as procedure}
+use Rattle.gb_terms.specs.declared.term.Head.TheVariants.{Lit, User, Whole, Builtin, All, Some as Exist, Equiv, Proc as procedure}
 use Rattle.gb_terms.specs.declared.term.Head.TheViews.{out-roll-Term}
 use Rattle.gb_terms.specs.Make.{node, applied}
 use Rattle.gb_script.specs.declared.head.Head.{Head}
 use Rattle.gb_script.specs.declared.head.Head.TheVariants as head
 use Rattle.gb_script.specs.declared.tree.Node.{Node}
 use Rattle.gb_script.specs.Tree.{head_of, text_of, parts_of, place_of}
-use Rattle.gb_elab.specs.declared.binders.Quantifier.{Quantifier}
-use Rattle.gb_elab.specs.declared.binders.Quantifier.TheVariants.{Forall, Exists}
-use Rattle.gb_goal.specs.Answers.{Answer, ◌>>=◌}
-use Rattle.gb_elab.specs.Wanted.{HasType, fits, truth, type_of_term, wanted}
+use Rattle.gb_goal.specs.Answers.{Answer, ◌>>=◌, given_or}
 use Rattle.gb_goal.specs.Answers.Answer.{given, refused}
-use Rattle.gb_elab.specs.Environment.{Environment, on_side}
-use Rattle.gb_elab.specs.Forms.{Typing, typing, elaborated, bare, binary, bound_by, coin, comparison, equalities, equality, equation, equation_of, equivalence, formula, has_judgments, is_program, joined, judgment, left_side, negated, over, over_all, quantified, quantifier_of, read, under, wants_distribution, with_equalities, with_right_side}
-use Rattle.gb_elab.specs.Judgments.{Named, both_procedures, before, after, equivalent}
-use Rattle.gb_elab.specs.Names.{named, path, sided, unit}
-use Rattle.gb_elab.proofs.Nodes.{said, Known, parts, by_parts}
+use Rattle.gb_goal.specs.declared.scope.Constant.{Constant}
+use Rattle.gb_goal.specs.declared.scope.OperatorType.{OperatorType}
+use Rattle.gb_names.specs.declared.binders.Quantifier.{Quantifier}
+use Rattle.gb_names.specs.declared.binders.Quantifier.TheVariants.{Forall, Exists}
+use Rattle.gb_names.specs.declared.names.Known.{Known}
+use Rattle.gb_names.specs.declared.names.Known.TheVariants as known
+use Rattle.gb_names.specs.Allowed.{coin, distribution_here, formula, has_judgments, is_program, judgment, may_have, stands}
+use Rattle.gb_names.specs.Binders.{bound_by, over, over_all, quantifier_of}
+use Rattle.gb_names.specs.Environment.{Environment, on_side}
+use Rattle.gb_names.specs.Judgments.{Named, both_procedures, before, after, equivalent}
+use Rattle.gb_names.specs.Names.{constant_at, known_at, operator_at, named, path, sided, unit}
+use Rattle.gb_names.specs.Types.{type_of, type_or_number}
+use Rattle.gb_names.specs.Wanted.{HasType, fits, truth, type_of_term, wanted}
+use Rattle.gb_names.proofs.Nodes.{said, Known as Told, parts, by_parts}
+use Rattle.gb_operators.specs.declared.domain.Domain.{Domain}
+use Rattle.gb_operators.specs.declared.operators.Operator.{Operator}
+use Rattle.gb_operators.specs.declared.rules.Rule.{Rule}
+use Rattle.gb_operators.specs.declared.rules.Rule.TheVariants as rule
+use Rattle.gb_operators.specs.Constants.{constant, literal, open_constant}
+use Rattle.gb_operators.specs.Domain.{type_in, written_as}
+use Rattle.gb_operators.specs.Drawn.{uniform}
+use Rattle.gb_operators.specs.Kinds.{is_small}
+use Rattle.gb_operators.specs.Literals.{as_whole, bound_of, holds, number, numeral, part_number}
+use Rattle.gb_operators.specs.Open.{right_first}
+use Rattle.gb_operators.specs.Operators.{operator_of}
+use Rattle.gb_operators.specs.Rules.{asked, made, rule_for, rule_of, user_made}
+use Rattle.gb_elab.specs.Equalities.{equalities, equality, equation, equation_of, joined, with_equalities}
+use Rattle.gb_elab.specs.Forms.{Meaning, Part, Typing, annotated, applied as applied_name, applied_form, application, bare, bracketed, bracketed_function, by_rule, call, declared, equivalence, function_typing, meaning, meant, only, operand, operands, operation, operator_alone, plain_function, projection, quantified, read, simple, summed, typed_function, typing, under, user_call, value_of, with_side}
 
 refused_not : {A : Type 0} (w : Why) (p : Place) (y : A) → refused w p ≡ given y → (C : Type 0) → C
 refused_not w p y h C = cc
@@ -122,84 +145,265 @@ over_all_type q (v ∷ vs) f e = over_type q v.ty (over_all q vs f)
 quantified_type : (q : Quantifier) (vs : List TypedName) (f u : Term) → given (over_all q vs f) ≡ given u → type_of_term f ≡ bool_ty → type_of_term u ≡ bool_ty
 quantified_type q vs f u h e = ap type_of_term (sym (given_is (over_all q vs f) u h)) ∙ over_all_type q vs f e
 
-coin_type : (at : Environment) (w : Option Ty) (p : Place) (u : Term) → coin at w p ≡ given u → HasType w u
-unfolding coin
-coin_type at w p u h =
+stands_has : (at : Environment) (w : Option Ty) (p : Place) (t : Ty) (x : Unit {0}) (u : Term) → stands at w p t ≡ given x → type_of_term u ≡ t → HasType w u
+stands_has at w p t x u h e =
+    let q = if_given (fits w t) tt TypeMismatch p x (if_else_refused (may_have at.language w t) Argument p (if fits w t then given tt else refused TypeMismatch p) x h) in
+    fits_has w u (ap (fits w) e ∙ q.0)
+
+coin_has : (at : Environment) (w : Option Ty) (p : Place) (u : Term) → coin at w p ≡ given u → HasType w u
+coin_has at w p u h =
     let c = node (Builtin op.Coin) [] (Distr bool_ty) in
-    wanted_has w p c u (if_refused (is_program at.language && not (wants_distribution w)) Argument p (wanted w p c) u h)
+    let q = given_bind (distribution_here at w p) (λ _. wanted w p c) u h in wanted_has w p c u q.2
+
+open_has : (o : Op) (f : Ty → Bool) (w : Option Ty) (p : Place) (u : Term) → open_constant o f w p ≡ given u → HasType w u
+open_has o f None p u h = tt
+open_has o f (Some t) p u h = let q = if_given (f t) (applied o [] t) TypeMismatch p u h in ap type_of_term (sym q.1) ∙ node_type (Builtin o) [] t
+
+constant_has : (k : Known) (w : Option Ty) (p : Place) (u : Term) → constant k w p ≡ given u → HasType w u
+constant_has known.True w p u h = wanted_has w p _ u h
+constant_has known.False w p u h = wanted_has w p _ u h
+constant_has known.Unit w p u h = wanted_has w p _ u h
+constant_has known.None w p u h = open_has op.None _ w p u h
+constant_has known.Empty w p u h = open_has op.Empty _ w p u h
+constant_has _ w p u h = refused_not TypeMismatch p u h (HasType w u)
+
+whole_has : (at : Environment) (n : ℕ) (w : Option Ty) (p : Place) (u : Term) → as_whole at n w p ≡ given u → HasType w u
+whole_has at n w p u h =
+    let q = given_bind (stands at w p ty.Int) (λ _. given (node (Whole (pos n)) [] ty.Int)) u h in
+    stands_has at w p ty.Int q.0 u q.1 (given_node (Whole (pos n)) [] ty.Int u q.2)
+
+held_has : (b : Bool) (at : Environment) (n : ℕ) (t : Ty) (p : Place) (u : Term) → (if b then given (node (Lit (Num n)) [] t) else as_whole at n (Some t) p) ≡ given u → HasType (Some t) u
+held_has true at n t p u h = given_node (Lit (Num n)) [] t u h
+held_has false at n t p u h = whole_has at n (Some t) p u h
+
+number_has : (at : Environment) (n : ℕ) (w : Option Ty) (p : Place) (u : Term) → number at n w p ≡ given u → HasType w u
+number_has at n None p u h = tt
+number_has at n (Some t) p u h = held_has (nat_lt n (2 ^ 63) && holds n t) at n t p u h
+
+numeral_has : (at : Environment) (x : List ℕ) (w : Option Ty) (p : Place) (u : Term) → numeral at x w p ≡ given u → HasType w u
+numeral_has at x w p u h = number_has at (number_of x) w p u (if_else_refused (nat_lt (number_of x) (2 ^ 127)) Syntax p (number at (number_of x) w p) u h)
+
+uniform_has : (ts : List Node) (p : Place) (at : Environment) (w : Option Ty) (u : Term) → uniform ts p at w ≡ given u → HasType w u
+uniform_has (s ∷ []) p at w u h =
+    let end = λ (t : Ty). if is_small t then given (node (Builtin op.Uniform) [] (Distr t)) else refused TypeTooLarge p in
+    let t = given_bind (type_of at.declared s) (λ t. stands at w p (Distr t) >>= λ _. end t) u h in
+    let q = given_bind (stands at w p (Distr t.0)) (λ _. end t.0) u t.2 in
+    let r = if_given (is_small t.0) (node (Builtin op.Uniform) [] (Distr t.0)) TypeTooLarge p u q.2 in
+    stands_has at w p (Distr t.0) q.0 u q.1 (ap type_of_term (sym r.1) ∙ node_type (Builtin op.Uniform) [] (Distr t.0))
+uniform_has _ p at w u h = refused_not Syntax p u h (HasType w u)
 
 -- terms that a typing gives have the wanted type
 abbrev pub HasTypes : Typing → Type 0
 HasTypes f = (at : Environment) (bound : List TypedName) (w : Option Ty) (u : Term) → f at bound w ≡ given u → HasType w u
 
--- a form, with what is known of it
-abbrev Form : Type 0
-Form = Known typing HasTypes
+-- .. and values of functions
+abbrev pub HasTypesOf : Meaning → Type 0
+HasTypesOf m = HasTypes m.form × ((d : Domain) → HasTypes (m.function d))
 
-abbrev typings : List Form → List (Node × Typing)
-typings = parts typing HasTypes
+-- a part, with what is known of it
+abbrev Given : Type 0
+Given = Told meaning HasTypesOf
 
-binary_has : (o : Op) (ts : List (Node × Typing)) (p : Place) → HasTypes (binary o ts p)
-binary_has o (a ∷ b ∷ []) p at bound w u h =
-    let q = given_bind (truth w p) (λ _. left_side o p (a.1 at bound) >>= λ l. with_right_side o l (b.1 at bound)) u h in
-    let l = given_bind (left_side o p (a.1 at bound)) (λ l. with_right_side o l (b.1 at bound)) u q.2 in
-    let r = given_bind (b.1 at bound (Some (type_of_term l.0))) (λ r. given (applied o (l.0 ∷ r ∷ []) bool_ty)) u l.2 in
-    truth_has w p q.0 u q.1 (given_node (Builtin o) (l.0 ∷ r.0 ∷ []) bool_ty u r.2)
-binary_has o _ p at bound w u h = refused_not Syntax p u h (HasType w u)
+abbrev all : List Given → List Part
+all = parts meaning HasTypesOf
 
-equivalence_has : (ts : List (Node × Typing)) (p : Place) → HasTypes (equivalence ts p)
+operands_has : (r : Rule) (p : Place) (at : Environment) (bound : List TypedName) (w : Option Ty) (ts : List Term) (bs : List Part) (u : Term) → operands r p at bound w ts bs ≡ given u → HasType w u
+unfolding operands
+operands_has r p at bound w ts [] u h = let q = given_bind (made r p ts) (wanted w p) u h in wanted_has w p q.0 u q.2
+operands_has r p at bound w ts (a ∷ bs) u h =
+    let rest = λ (t : Term). operands r p at bound w (ts ++ t ∷ []) bs in
+    let k = given_bind (asked r at w p (place_of a.0) ts) (λ k. operand k a at bound >>= rest) u h in
+    let t = given_bind (operand k.0 a at bound) rest u k.2 in
+    operands_has r p at bound w (ts ++ t.0 ∷ []) bs u t.2
+
+rule_has : (r : Rule) (bs : List Part) (p : Place) → HasTypes (by_rule r bs p)
+rule_has r bs p at bound w u h = operands_has r p at bound w [] bs u h
+
+alone_has : (x : List ℕ) (o : OperatorType) (p : Place) (at : Environment) (w : Option Ty) (u : Term) → operator_alone x o p at w ≡ given u → HasType w u
+alone_has x o p at w u h =
+    let q = given_bind (stands at w p o.result) (λ _. user_made x o p []) u h in
+    let r = if_given (0 == length o.params) (node (User x) [] o.result) TypeMismatch p u q.2 in
+    stands_has at w p o.result q.0 u q.1 (ap type_of_term (sym r.1) ∙ node_type (User x) [] o.result)
+
+declared_has : (c : Option Constant) (o : Option OperatorType) (x : List ℕ) (p : Place) → HasTypes (declared c o x p)
+declared_has (Some c) o x p at bound w u h = wanted_has w p (literal c) u h
+declared_has None (Some o) x p at bound w u h = alone_has x o p at w u h
+declared_has None None x p at bound w u h = let q = given_bind (named at bound x p) (wanted w p) u h in wanted_has w p q.0 u q.2
+
+known_has : (o : Option Known) (a : Answer Term) (w : Option Ty) (p : Place) (u : Term) → (a ≡ given u → HasType w u) → option_map_or (λ k. constant k w p) o a ≡ given u → HasType w u
+known_has None a w p u f h = f h
+known_has (Some k) a w p u f h = constant_has k w p u h
+
+simple_has : (x : List ℕ) (p : Place) → HasTypes (simple x p)
+simple_has x p at bound w u h =
+    known_has (known_at at bound x) (declared (constant_at at bound x) (operator_at at bound x) x p at bound w) w p u
+    (declared_has (constant_at at bound x) (operator_at at bound x) x p at bound w u) h
+
+annotated_has : (ts : List Part) (p : Place) → HasTypes (annotated ts p)
+annotated_has (a ∷ s ∷ []) p at bound w u h =
+    let q = given_bind (type_or_number at.declared s.0) (λ t. by_rule (rule.Annotated t) (a ∷ []) p at bound w) u h in
+    rule_has (rule.Annotated q.0) (a ∷ []) p at bound w u q.2
+annotated_has _ p at bound w u h = refused_not Syntax p u h (HasType w u)
+
+projection_has : (ts : List Part) (p : Place) → HasTypes (projection ts p)
+projection_has (a ∷ n ∷ []) p at bound w u h = rule_has (rule.Part (part_number (text_of n.0)) (place_of n.0)) (a ∷ []) p at bound w u h
+projection_has _ p at bound w u h = refused_not Syntax p u h (HasType w u)
+
+summed_has : (ts : List Part) (p : Place) → HasTypes (summed ts p)
+summed_has (q ∷ f ∷ []) p at bound w u h =
+    let x = given_bind (stands at w p ty.Real) (λ _. bound_of q.0 >>= λ n. by_rule (rule.Sum n) (f ∷ []) p at bound w) u h in
+    let n = given_bind (bound_of q.0) (λ n. by_rule (rule.Sum n) (f ∷ []) p at bound w) u x.2 in
+    rule_has (rule.Sum n.0) (f ∷ []) p at bound w u n.2
+summed_has _ p at bound w u h = refused_not TypeMismatch p u h (HasType w u)
+
+ruled_has : (o : Option Rule) (ts : List Part) (p : Place) (at : Environment) (bound : List TypedName) (w : Option Ty) (u : Term)
+    → (given_or o TypeMismatch p >>= λ r. by_rule r ts p at bound w) ≡ given u → HasType w u
+ruled_has o ts p at bound w u h = let r = given_bind (given_or o TypeMismatch p) (λ r. by_rule r ts p at bound w) u h in rule_has r.0 ts p at bound w u r.2
+
+call_has : (k : Known) (ts : List Part) (p : Place) → HasTypes (call k ts p)
+call_has known.Sum ts p at bound w u h = summed_has ts p at bound w u h
+call_has known.True ts p at bound w u h = ruled_has (rule_of known.True (length ts)) ts p at bound w u h
+call_has known.False ts p at bound w u h = ruled_has (rule_of known.False (length ts)) ts p at bound w u h
+call_has known.Unit ts p at bound w u h = ruled_has (rule_of known.Unit (length ts)) ts p at bound w u h
+call_has known.None ts p at bound w u h = ruled_has (rule_of known.None (length ts)) ts p at bound w u h
+call_has known.Empty ts p at bound w u h = ruled_has (rule_of known.Empty (length ts)) ts p at bound w u h
+call_has known.Some ts p at bound w u h = ruled_has (rule_of known.Some (length ts)) ts p at bound w u h
+call_has known.Oget ts p at bound w u h = ruled_has (rule_of known.Oget (length ts)) ts p at bound w u h
+call_has known.Dunit ts p at bound w u h = ruled_has (rule_of known.Dunit (length ts)) ts p at bound w u h
+call_has known.Dmap ts p at bound w u h = ruled_has (rule_of known.Dmap (length ts)) ts p at bound w u h
+call_has known.Drestrict ts p at bound w u h = ruled_has (rule_of known.Drestrict (length ts)) ts p at bound w u h
+call_has known.Mu ts p at bound w u h = ruled_has (rule_of known.Mu (length ts)) ts p at bound w u h
+call_has known.Mu1 ts p at bound w u h = ruled_has (rule_of known.Mu1 (length ts)) ts p at bound w u h
+
+user_has : (o : Option OperatorType) (x : List ℕ) (ts : List Part) (p : Place) → HasTypes (user_call o x ts p)
+user_has (Some o) x ts p at bound w u h =
+    let call = if length ts == length o.params then by_rule (rule.User x o) ts p at bound w else refused TypeMismatch p in
+    let q = given_bind (stands at w p o.result) (λ _. call) u h in
+    rule_has (rule.User x o) ts p at bound w u (if_else_refused (length ts == length o.params) TypeMismatch p (by_rule (rule.User x o) ts p at bound w) u q.2)
+user_has None x ts p at bound w u h =
+    let q = given_bind (simple x p at bound None) (λ _. refused TypeMismatch p) u h in refused_not TypeMismatch p u q.2 (HasType w u)
+
+at_known : (o : Option Known) (a : Answer Term) (ts : List Part) (p : Place) (at : Environment) (bound : List TypedName) (w : Option Ty) (u : Term)
+    → (a ≡ given u → HasType w u) → option_map_or (λ k. call k ts p at bound w) o a ≡ given u → HasType w u
+at_known None a ts p at bound w u f h = f h
+at_known (Some k) a ts p at bound w u f h = call_has k ts p at bound w u h
+
+applied_has : (x : List ℕ) (ts : List Part) (p : Place) → HasTypes (applied_name x ts p)
+applied_has x ts p at bound w u h =
+    at_known (known_at at bound x) (user_call (operator_at at bound x) x ts p at bound w) ts p at bound w u (user_has (operator_at at bound x) x ts p at bound w u) h
+
+application_has : (h : Head) (x : List ℕ) (ns : List Node) (ts : List Part) (p : Place) → HasTypes (application h x ns ts p)
+application_has head.Name x ns ts p at bound w u h = applied_has x ts p at bound w u h
+application_has head.Path x ns ts p at bound w u h = applied_has (path ns) ts p at bound w u h
+application_has _ x ns ts p at bound w u h = refused_not TypeMismatch p u h (HasType w u)
+
+applied_form_has : (ts : List Part) (p : Place) → HasTypes (applied_form ts p)
+applied_form_has (f ∷ ts) p at bound w u h = application_has (head_of f.0) (text_of f.0) (parts_of f.0) ts p at bound w u h
+applied_form_has [] p at bound w u h = refused_not Syntax p u h (HasType w u)
+
+either_has : (b : Bool) (x y : Answer Term) (w : Option Ty) (u : Term) → (x ≡ given u → HasType w u) → (y ≡ given u → HasType w u) → (if b then x else y) ≡ given u → HasType w u
+either_has true x y w u f g h = f h
+either_has false x y w u f g h = g h
+
+operation_has : (o : Option Operator) (ts : List Part) (p : Place) → HasTypes (operation o ts p)
+operation_has (Some o) (a ∷ []) p at bound w u h = rule_has (rule_for o false a.0) (a ∷ []) p at bound w u h
+operation_has (Some o) (a ∷ b ∷ []) p at bound w u h =
+    either_has (right_first a.0 b.0) (by_rule (rule_for o true b.0) (b ∷ a ∷ []) p at bound w) (by_rule (rule_for o false b.0) (a ∷ b ∷ []) p at bound w) w u
+    (rule_has (rule_for o true b.0) (b ∷ a ∷ []) p at bound w u) (rule_has (rule_for o false b.0) (a ∷ b ∷ []) p at bound w u) h
+operation_has (Some o) [] p at bound w u h = refused_not Syntax p u h (HasType w u)
+operation_has (Some o) (a ∷ b ∷ c ∷ ts) p at bound w u h = refused_not Syntax p u h (HasType w u)
+operation_has None ts p at bound w u h = refused_not Syntax p u h (HasType w u)
+
+equivalence_has : (ts : List Part) (p : Place) → HasTypes (equivalence ts p)
 equivalence_has (f ∷ g ∷ a ∷ b ∷ []) p at bound w u h =
     let end = λ (both : Named × Named) (pre post : Term). given (equivalent both.0.0 both.1.0 pre post) in
-    let on_post = λ (both : Named × Named) (pre : Term). b.1 (after at both.0.1 both.1.1) bound (Some bool_ty) >>= λ post. end both pre post in
-    let on_pre = λ (both : Named × Named). a.1 (before at both.0.1 both.1.1) bound (Some bool_ty) >>= λ pre. on_post both pre in
+    let on_post = λ (both : Named × Named) (pre : Term). b.1.form (after at both.0.1 both.1.1) bound (Some bool_ty) >>= λ post. end both pre post in
+    let on_pre = λ (both : Named × Named). a.1.form (before at both.0.1 both.1.1) bound (Some bool_ty) >>= λ pre. on_post both pre in
     let q = given_bind (judgment at w p) (λ _. both_procedures at bound f.0 g.0 p >>= on_pre) u h in
     let m = given_bind (both_procedures at bound f.0 g.0 p) on_pre u q.2 in
-    let pre = given_bind (a.1 (before at m.0.0.1 m.0.1.1) bound (Some bool_ty)) (λ pre. on_post m.0 pre) u m.2 in
-    let post = given_bind (b.1 (after at m.0.0.1 m.0.1.1) bound (Some bool_ty)) (λ post. end m.0 pre.0 post) u pre.2 in
+    let pre = given_bind (a.1.form (before at m.0.0.1 m.0.1.1) bound (Some bool_ty)) (λ pre. on_post m.0 pre) u m.2 in
+    let post = given_bind (b.1.form (after at m.0.0.1 m.0.1.1) bound (Some bool_ty)) (λ post. end m.0 pre.0 post) u pre.2 in
     judgment_has at w p q.0 u q.1 (given_node (Equiv (procedure m.0.0.0) (procedure m.0.1.0)) (pre.0 ∷ post.0 ∷ []) bool_ty u post.2)
 equivalence_has _ p at bound w u h = refused_not Syntax p u h (HasType w u)
 
-quantified_has : (x : List ℕ) (ks : List Form) (p : Place) → HasTypes (quantified x (typings ks) p)
+quantified_has : (x : List ℕ) (ks : List Given) (p : Place) → HasTypes (quantified x (all ks) p)
 quantified_has x (bs ∷ a ∷ []) p at bound w u h =
-    let f = said typing a.0 in
-    let k = given_bind (quantifier_of x p) (λ k. formula at w p >>= λ _. bound_by [] (parts_of bs.0) >>= λ vs. under k vs bound (f at)) u h in
-    let q = given_bind (formula at w p) (λ _. bound_by [] (parts_of bs.0) >>= λ vs. under k.0 vs bound (f at)) u k.2 in
-    let vs = given_bind (bound_by [] (parts_of bs.0)) (λ vs. under k.0 vs bound (f at)) u q.2 in
+    let f = (said meaning a.0).form in
+    let k = given_bind (quantifier_of x p) (λ k. formula at w p >>= λ _. bound_by at.declared [] (parts_of bs.0) >>= λ vs. under k vs bound (f at)) u h in
+    let q = given_bind (formula at w p) (λ _. bound_by at.declared [] (parts_of bs.0) >>= λ vs. under k.0 vs bound (f at)) u k.2 in
+    let vs = given_bind (bound_by at.declared [] (parts_of bs.0)) (λ vs. under k.0 vs bound (f at)) u q.2 in
     let r = given_bind (f at (reverse vs.0 ++ bound) (Some bool_ty)) (λ t. given (over_all k.0 vs.0 t)) u vs.2 in
-    formula_has at w p q.0 u q.1 (quantified_type k.0 vs.0 r.0 u r.2 (a.1 at (reverse vs.0 ++ bound) (Some bool_ty) r.0 r.1))
+    formula_has at w p q.0 u q.1 (quantified_type k.0 vs.0 r.0 u r.2 (a.1.0 at (reverse vs.0 ++ bound) (Some bool_ty) r.0 r.1))
 quantified_has x _ p at bound w u h = refused_not Syntax p u h (HasType w u)
 
-of_parts : (h : Head) (x : List ℕ) (ks : List Form) (p : Place) → HasTypes (typing h x (typings ks) p)
+bracketed_has : (ks : List Given) (p : Place) → HasTypes (bracketed (all ks) p)
+bracketed_has (a ∷ []) p at bound w u h = a.1.0 at bound w u h
+bracketed_has _ p at bound w u h = refused_not Syntax p u h (HasType w u)
+
+side_has : (ts : List Node) (p : Place) → HasTypes (with_side ts p)
+side_has (a ∷ s ∷ []) p at bound w u h =
+    let q = given_bind (read at bound (head_of a) (text_of a) (parts_of a) (place_of a) s) (wanted w p) u h in wanted_has w p q.0 u q.2
+side_has _ p at bound w u h = refused_not Syntax p u h (HasType w u)
+
+of_parts : (h : Head) (x : List ℕ) (ks : List Given) (p : Place) → HasTypes (typing h x (all ks) p)
 unfolding typing
-of_parts head.Name x ks p at bound w u h = let q = given_bind (named at bound x p) (wanted w p) u h in wanted_has w p q.0 u q.2
-of_parts head.Path x ks p at bound w u h =
-    let q = given_bind (named at bound (path (bare (typings ks))) p) (wanted w p) u h in wanted_has w p q.0 u q.2
+of_parts head.Name x ks p at bound w u h = simple_has x p at bound w u h
+of_parts head.Path x ks p at bound w u h = simple_has (path (bare (all ks))) p at bound w u h
+of_parts head.Number x ks p at bound w u h = numeral_has at x w p u h
 of_parts head.Unit x ks p at bound w u h = wanted_has w p unit u h
-of_parts head.Bracketed x (a ∷ []) p at bound w u h = a.1 at bound w u h
-of_parts head.Sided x (a ∷ s ∷ []) p at bound w u h =
-    let q = given_bind (read at bound (head_of a.0) (text_of a.0) (parts_of a.0) (place_of a.0) s.0) (wanted w p) u h in wanted_has w p q.0 u q.2
-of_parts head.Coin x ks p at bound w u h = coin_type at w p u h
+of_parts head.Bracketed x ks p at bound w u h = bracketed_has ks p at bound w u h
+of_parts head.Sided x ks p at bound w u h = side_has (bare (all ks)) p at bound w u h
+of_parts head.Coin x ks p at bound w u h = coin_has at w p u h
 of_parts head.Function x ks p at bound w u h = refused_not TypeMismatch p u h (HasType w u)
 of_parts head.TypedFunction x ks p at bound w u h = refused_not TypeMismatch p u h (HasType w u)
-of_parts head.Not x (a ∷ []) p at bound w u h =
-    let f = said typing a.0 at bound in
-    let q = given_bind (truth w p) (λ _. negated f) u h in
-    let r = given_bind (f (Some bool_ty)) (λ t. given (applied op.Not (t ∷ []) bool_ty)) u q.2 in
-    truth_has w p q.0 u q.1 (given_node (Builtin op.Not) (r.0 ∷ []) bool_ty u r.2)
-of_parts head.And x ks p at bound w u h = binary_has op.And (typings ks) p at bound w u h
-of_parts head.Or x ks p at bound w u h = binary_has op.Or (typings ks) p at bound w u h
-of_parts head.Implies x ks p at bound w u h = binary_has op.Implies (typings ks) p at bound w u h
-of_parts head.Iff x ks p at bound w u h = binary_has op.Iff (typings ks) p at bound w u h
-of_parts head.Compared x ks p at bound w u h =
-    let q = given_bind (comparison x p) (λ o. binary o (typings ks) p at bound w) u h in
-    binary_has q.0 (typings ks) p at bound w u q.2
+of_parts head.Typed x ks p at bound w u h = annotated_has (all ks) p at bound w u h
+of_parts head.Tuple x ks p at bound w u h = rule_has (rule.Tuple (length (all ks))) (all ks) p at bound w u h
+of_parts head.Component x ks p at bound w u h = projection_has (all ks) p at bound w u h
+of_parts head.Conditional x ks p at bound w u h = rule_has rule.If (all ks) p at bound w u h
+of_parts head.Chosen x ks p at bound w u h = rule_has rule.If (all ks) p at bound w u h
+of_parts head.Get x ks p at bound w u h = rule_has rule.Get (all ks) p at bound w u h
+of_parts head.Set x ks p at bound w u h = rule_has rule.Set (all ks) p at bound w u h
+of_parts head.PowerProduct x ks p at bound w u h = rule_has rule.Product (all ks) p at bound w u h
+of_parts head.Uniform x ks p at bound w u h = uniform_has (bare (all ks)) p at w u h
+of_parts head.Apply x ks p at bound w u h = applied_form_has (all ks) p at bound w u h
 of_parts head.Equalities x ks p at bound w u h =
-    let q = given_bind (truth w p) (λ _. equalities at bound (bare (typings ks)) p) u h in
-    truth_has w p q.0 u q.1 (equalities_type at bound (bare (typings ks)) p u q.2)
+    let q = given_bind (truth w p) (λ _. equalities at bound (bare (all ks)) p) u h in
+    truth_has w p q.0 u q.1 (equalities_type at bound (bare (all ks)) p u q.2)
 of_parts head.Quantified x ks p at bound w u h = quantified_has x ks p at bound w u h
-of_parts head.Equiv x ks p at bound w u h = equivalence_has (typings ks) p at bound w u h
-of_parts _ x ks p at bound w u h = refused_not Syntax p u h (HasType w u)
+of_parts head.Equiv x ks p at bound w u h = equivalence_has (all ks) p at bound w u h
+of_parts k x ks p at bound w u h = operation_has (operator_of k x) (all ks) p at bound w u h
 
-pub elaborated_type : (t : Node) → HasTypes (elaborated t)
-unfolding elaborated
-elaborated_type = by_parts typing HasTypes of_parts
+value_has : (k : Given) (x : List ℕ) (t : Ty) → HasTypes (value_of x t (k.0, said meaning k.0))
+value_has k x t at bound w u h = k.1.0 at (record { name = x; ty = t } ∷ bound) w u h
+
+in_brackets : (ks : List Given) (p : Place) (d : Domain) → HasTypes (bracketed_function (all ks) p d)
+in_brackets (a ∷ []) p d at bound w u h = a.1.1 d at bound w u h
+in_brackets _ p d at bound w u h = refused_not TypeMismatch p u h (HasType w u)
+
+plain_has : (ks : List Given) (p : Place) (d : Domain) → HasTypes (plain_function (all ks) p d)
+plain_has (xs ∷ a ∷ []) p d at bound w u h =
+    let x = given_bind (only (parts_of xs.0) p) (λ x. value_of (text_of x) (type_in d) (a.0, said meaning a.0) at bound w) u h in
+    value_has a (text_of x.0) (type_in d) at bound w u x.2
+plain_has _ p d at bound w u h = refused_not TypeMismatch p u h (HasType w u)
+
+typed_has : (ks : List Given) (p : Place) (d : Domain) → HasTypes (typed_function (all ks) p d)
+typed_has (xs ∷ s ∷ a ∷ []) p d at bound w u h =
+    let f : Part = (a.0, said meaning a.0) in
+    let x = given_bind (only (parts_of xs.0) p) (λ x. written_as at.declared d s.0 >>= λ t. value_of (text_of x) t f at bound w) u h in
+    let t = given_bind (written_as at.declared d s.0) (λ t. value_of (text_of x.0) t f at bound w) u x.2 in
+    value_has a (text_of x.0) t.0 at bound w u t.2
+typed_has _ p d at bound w u h = refused_not TypeMismatch p u h (HasType w u)
+
+of_functions : (h : Head) (ks : List Given) (p : Place) (d : Domain) → HasTypes (function_typing h (all ks) p d)
+unfolding function_typing
+of_functions head.Bracketed ks p d at bound w u h = in_brackets ks p d at bound w u h
+of_functions head.Function ks p d at bound w u h = plain_has ks p d at bound w u h
+of_functions head.TypedFunction ks p d at bound w u h = typed_has ks p d at bound w u h
+of_functions _ ks p d at bound w u h = refused_not TypeMismatch p u h (HasType w u)
+
+pub meant_types : (t : Node) → HasTypesOf (meant t)
+unfolding meant
+meant_types = by_parts meaning HasTypesOf (λ h x ks p. (of_parts h x ks p, of_functions h ks p))
+
+pub elaborated_type : (t : Node) → HasTypes ((meant t).form)
+elaborated_type t = (meant_types t).0

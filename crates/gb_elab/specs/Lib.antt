@@ -1,6 +1,2 @@
-pub mod Wanted
-pub mod Types
-pub mod Environment
-pub mod Names
-pub mod Judgments
+pub mod Equalities
 pub mod Forms

@@ -6,19 +6,19 @@ ghost use Rattle.gb_core.specs.declared.refusal.Why.TheVariants.{TypeMismatch};
 ghost use Rattle.gb_same.specs.Types.{ty_eq};
 ghost use Rattle.gb_terms.specs.Make.{applied};
 ghost use Rattle.gb_goal.specs.Answers.{Answers, ◌>>=◌ as ◌and_then◌};
-ghost use Rattle.gb_elab.specs.Wanted.{truth, type_of_term};
+ghost use Rattle.gb_names.specs.Wanted.{truth, type_of_term};
 ghost use Rattle.gb_goal.specs.Answers.Answer.{given, refused};
-ghost use Rattle.gb_elab.specs.Environment.{environment};
-ghost use Rattle.gb_elab.specs.Forms.{equalities, equality, equation, equation_of, with_equalities};
+ghost use Rattle.gb_names.specs.Environment.{environment};
+ghost use Rattle.gb_elab.specs.Equalities.{equalities, equality, equation, equation_of, with_equalities};
 
-use crate::allowed::truth;
-use crate::names::{path, sided};
-use crate::refusals::{argument, mismatch, not_built};
-use crate::setting::Setting;
 use gb_core::name::Name;
 use gb_core::place::Place;
 use gb_core::refusal::Refused;
 use gb_core::ty::Ty;
+use gb_names::allowed::truth;
+use gb_names::names::{path, sided};
+use gb_names::refusals::{argument, mismatch, not_built};
+use gb_names::setting::Setting;
 use gb_same::types::same_types;
 use gb_script::head::Head;
 use gb_script::tree::Node;
@@ -29,7 +29,7 @@ use gb_terms::term::{Form, Term};
 use std::alloc::Global;
 
 /// The equality of a variable of two programs.
-#[tactic(auto, unfolding(crate::specs::Forms::equality))]
+#[tactic(auto, unfolding(crate::specs::Equalities::equality))]
 fn equality(
     alloc: Global,
     at: &Setting<'_>,
@@ -94,7 +94,7 @@ fn equation_at(
 }
 
 /// Equations of two programs, joined to the left.
-#[tactic(auto, unfolding(crate::specs::Forms::equalities, crate::specs::Forms::joined))]
+#[tactic(auto, unfolding(crate::specs::Equalities::equalities, crate::specs::Equalities::joined))]
 pub fn equalities(
     alloc: Global,
     at: &Setting<'_>,
@@ -119,7 +119,7 @@ pub fn equalities(
 }
 
 /// A form and, to its right, further equations.
-#[tactic(auto, unfolding(crate::specs::Forms::with_equalities))]
+#[tactic(auto, unfolding(crate::specs::Equalities::with_equalities))]
 fn with_equalities(
     alloc: Global,
     at: &Setting<'_>,

@@ -1,40 +1,46 @@
 // Typing of forms, from left to right.
 
-ghost use Rattle.std.specs.Prelude.{◌≡◌, [], ◌∷◌, Some, IfOk};
+ghost use Rattle.std.specs.Prelude.{◌≡◌, [], ◌∷◌, drop, Some};
 ghost use Rattle.std.specs.Option.{option_copied};
-ghost use Rattle.gb_terms.specs.Make.{applied};
 ghost use Rattle.gb_script.specs.Tree.{head_of, text_of, parts_of, place_of};
 ghost use Rattle.gb_goal.specs.Answers.{Answers, Gives, ◌>>=◌ as ◌and_then◌};
-ghost use Rattle.gb_elab.specs.Wanted.{truth};
 ghost use Rattle.gb_goal.specs.Answers.Answer.{given};
-ghost use Rattle.gb_elab.specs.Environment.{ambient, environment};
-ghost use Rattle.gb_elab.specs.Forms.{binary, comparison, elaborated, equivalence, function, function_typing, is_equation, left_side, negated, only, quantified, read, typing, under, value_of, with_functions, with_right_side, with_typings, written_as};
-ghost use Rattle.gb_elab.specs.Judgments.{after, before, equivalent};
-ghost use Rattle.gb_elab.specs.Names.{named, path};
+ghost use Rattle.gb_names.specs.Environment.{ambient, environment};
+ghost use Rattle.gb_names.specs.Names.{constant_at, operator_at, path};
+ghost use Rattle.gb_operators.specs.Rules.{asked};
+ghost use Rattle.gb_names.specs.Judgments.{after, before, equivalent};
+ghost use Rattle.gb_elab.specs.Forms.{annotated, applied, applied_form, application, bracketed, bracketed_function, by_rule, call, declared, elaborated, equivalence, from_right, function, function_of, function_typing, meant, only, operand, operands, operation, operator_alone, plain_function, projection, quantified, read, simple, summed, typed_function, typing, under, user_call, value_of, with_meanings, with_side};
 
-use crate::allowed::{coin, formula, is_distribution, judgment, truth};
-use crate::binders::{Quantifier, bound_by, over_all, quantifier_of, variable, within};
 use crate::equalities::equalities;
-use crate::judgment::{Both, both_procedures, equiv, result_of};
-use crate::names::{beside, named, path, unit};
-use crate::refusals::{argument, mismatch, not_built};
-use crate::setting::Setting;
-use crate::types::{type_of, wanted};
 use gb_core::name::Name;
 use gb_core::place::Place;
 use gb_core::refusal::Refused;
 use gb_core::ty::Ty;
-use gb_goal::scope::Scope;
+use gb_goal::scope::{OperatorType, Scope};
 use gb_goal::sequent::Sequent;
-use gb_same::types::same_types;
+use gb_names::allowed::{coin, formula, judgment, stands};
+use gb_names::binders::{Quantifier, bound_by, over_all, quantifier_of, variable, within};
+use gb_names::judgment::{Both, both_procedures, equiv, result_of};
+use gb_names::names::{Known, beside, constant_at, known_at, named, operator_at, path, unit};
+use gb_names::refusals::{argument, mismatch, not_built};
+use gb_names::setting::Setting;
+use gb_names::types::{type_or_number, wanted};
+use gb_operators::asked::asked;
+use gb_operators::constants::{constant, literal};
+use gb_operators::domain::{Domain, type_in, written_as};
+use gb_operators::drawn::uniform;
+use gb_operators::literals::{bound_of, numeral, part_number};
+use gb_operators::made::{made, user_made};
+use gb_operators::open::right_first;
+use gb_operators::operators::{Operator, operator_of};
+use gb_operators::rules::{Asked, Rule, rule_for, rule_of};
 use gb_script::head::Head;
 use gb_script::tree::Node;
 use gb_shared::Shared;
 use gb_terms::decl::{Typed, TypedName};
-use gb_terms::make;
-use gb_terms::op::Op;
-use gb_terms::term::{Form, Term};
-use std::alloc::{AllocError, Global};
+use gb_terms::term::{Form, Term, Terms};
+use sqlite_items::Items;
+use std::alloc::Global;
 
 /// The typed tree of a form that reads no program variable, in the context of a sequent.
 ///
@@ -95,39 +101,99 @@ fn typing(
     place: Place,
     want: Option<&Ty>,
 ) -> Result<Term, Refused>
-    ensures { Answers (typing head text.now (with_typings parts.now) place (environment at.now) bound.now (option_copied want.entry)) result }
+    ensures { Answers (typing head text.now (with_meanings parts.now) place (environment at.now) bound.now (option_copied want.entry)) result }
 {
     match head {
-        Head::Name => wanted(named(alloc, at, bound, text, place), want, place),
-        Head::Path => wanted(at_path(alloc, at, bound, parts, place), want, place),
+        Head::Name => simple(alloc, at, bound, text, want, place),
+        Head::Path => at_path(alloc, at, bound, parts, want, place),
+        Head::Number => numeral(alloc, at, text, want, place),
         Head::Unit => wanted(unit(alloc), want, place),
-        Head::Bracketed => match parts {
-            [inner] => typed(alloc, at, bound, inner, want),
-            _ => Err(not_built(place)),
-        },
-        Head::Sided => match parts {
-            [operand, side] => wanted(read(alloc, at, bound, operand, side), want, place),
-            _ => Err(not_built(place)),
-        },
+        Head::Bracketed => bracketed(alloc, at, bound, parts, place, want),
+        Head::Sided => with_side(alloc, at, bound, parts, place, want),
         Head::Coin => coin(alloc, at, want, place),
         Head::Function | Head::TypedFunction => Err(mismatch(place)),
-        Head::Not => match parts {
-            [a] => negated(alloc, at, bound, a, want, place),
-            _ => Err(not_built(place)),
-        },
-        Head::And => binary(alloc, at, bound, Op::And, parts, place, want),
-        Head::Or => binary(alloc, at, bound, Op::Or, parts, place, want),
-        Head::Implies => binary(alloc, at, bound, Op::Implies, parts, place, want),
-        Head::Iff => binary(alloc, at, bound, Op::Iff, parts, place, want),
-        Head::Compared => {
-            let op = comparison(text, place)?;
-            binary(alloc, at, bound, op, parts, place, want)
-        }
+        Head::Typed => annotated(alloc, at, bound, parts, place, want),
+        Head::Tuple => by_rule(
+            alloc,
+            at,
+            bound,
+            Rule::Tuple(parts.len()),
+            parts,
+            place,
+            want,
+        ),
+        Head::Component => projection(alloc, at, bound, parts, place, want),
+        Head::Conditional | Head::Chosen => by_rule(alloc, at, bound, Rule::If, parts, place, want),
+        Head::Get => by_rule(alloc, at, bound, Rule::Get, parts, place, want),
+        Head::Set => by_rule(alloc, at, bound, Rule::Set, parts, place, want),
+        Head::PowerProduct => by_rule(alloc, at, bound, Rule::Product, parts, place, want),
+        Head::Uniform => uniform(alloc, at, parts, want, place),
+        Head::Apply => applied_form(alloc, at, bound, parts, place, want),
         Head::Equalities => equalities(alloc, at, bound, parts, want, place),
         Head::Quantified => quantified(alloc, at, bound, text, parts, place, want),
         Head::Equiv => equivalence(alloc, at, bound, parts, place, want),
-        _ => Err(not_built(place)),
+        _ => operation(
+            alloc,
+            at,
+            bound,
+            operator_of(head, text),
+            parts,
+            place,
+            want,
+        ),
     }
+}
+
+/// The meaning of a name without a side: of a built-in one where nothing else has it.
+fn simple(
+    alloc: Global,
+    at: &Setting<'_>,
+    bound: &[TypedName],
+    name: &Name,
+    want: Option<&Ty>,
+    place: Place,
+) -> Result<Term, Refused>
+    ensures { Answers (simple name.now place (environment at.now) bound.now (option_copied want.entry)) result }
+{
+    match known_at(at, bound, name) {
+        Some(known) => constant(alloc, known, want, place),
+        None => declared(alloc, at, bound, name, want, place),
+    }
+}
+
+/// The meaning of a name of the script without arguments, or of a variable.
+fn declared(
+    alloc: Global,
+    at: &Setting<'_>,
+    bound: &[TypedName],
+    name: &Name,
+    want: Option<&Ty>,
+    place: Place,
+) -> Result<Term, Refused>
+    ensures { Answers (declared (constant_at (environment at.now) bound.now name.now) (operator_at (environment at.now) bound.now name.now) name.now place (environment at.now) bound.now (option_copied want.entry)) result }
+{
+    if let Some(constant) = constant_at(at, bound, name) {
+        return wanted(literal(alloc, constant), want, place);
+    }
+    match operator_at(at, bound, name)? {
+        Some(operator) => operator_alone(alloc, at, name, &operator, want, place),
+        None => wanted(named(alloc, at, bound, name, place), want, place),
+    }
+}
+
+/// An operator of the script without arguments.
+fn operator_alone(
+    alloc: Global,
+    at: &Setting<'_>,
+    name: &Name,
+    operator: &OperatorType,
+    want: Option<&Ty>,
+    place: Place,
+) -> Result<Term, Refused>
+    ensures { Answers (operator_alone name.now operator.now place (environment at.now) (option_copied want.entry)) result }
+{
+    stands(at, want, place, operator.result.get())?;
+    user_made(alloc, name, operator, place, Items::new(alloc))
 }
 
 /// The meaning of a path without a side.
@@ -136,12 +202,13 @@ fn at_path(
     at: &Setting<'_>,
     bound: &[TypedName],
     words: &[Node],
+    want: Option<&Ty>,
     place: Place,
 ) -> Result<Term, Refused>
-    ensures { Answers (named (environment at.now) bound.now (path words.now) place) result }
+    ensures { Answers (simple (path words.now) place (environment at.now) bound.now (option_copied want.entry)) result }
 {
     let name = path(alloc, words)?;
-    named(alloc, at, bound, &name, place)
+    simple(alloc, at, bound, &name, want, place)
 }
 
 /// The typed tree of a form with a side, which is of a name alone.
@@ -164,114 +231,377 @@ fn read(
     }
 }
 
-/// The operator of a comparison.
-fn comparison(text: &Name, place: Place) -> Result<Op, Refused>
-    ensures { Answers (comparison text.now place) result }
-{
-    let text = text.as_str();
-    if text == "=" {
-        Ok(Op::Equal)
-    } else if text == "<>" {
-        Ok(Op::NotEqual)
-    } else {
-        Err(not_built(place))
-    }
-}
-
-/// Whether the sides may be of any one type, and need not be truths.
-fn is_equation(op: Op) -> bool
-    ensures { result ≡ is_equation op }
-{
-    match op {
-        Op::Equal | Op::NotEqual => true,
-        _ => false,
-    }
-}
-
-#[cycle(form)]
-fn negated(
+/// A form with a side.
+fn with_side(
     alloc: Global,
     at: &Setting<'_>,
     bound: &[TypedName],
-    a: &Node,
-    want: Option<&Ty>,
-    place: Place,
-) -> Result<Form, Refused>
-    ensures { Answers (truth (option_copied want.entry) place and_then λ _. negated (elaborated a.now (environment at.now) bound.now)) result }
-{
-    truth(want, place)?;
-    let a = typed(alloc, at, bound, a, Some(&Ty::Bool))?;
-    make::negation(alloc, a).map_err(Refused::from)
-}
-
-/// The left side of an operator: a truth, or of any type in an equation. Distributions have no equation.
-#[cycle(form)]
-fn left_side(
-    alloc: Global,
-    at: &Setting<'_>,
-    bound: &[TypedName],
-    a: &Node,
-    op: Op,
-    place: Place,
-) -> Result<Term, Refused>
-    ensures { Answers (left_side op place (elaborated a.now (environment at.now) bound.now)) result }
-{
-    if !is_equation(op) {
-        return typed(alloc, at, bound, a, Some(&Ty::Bool));
-    }
-    let a = typed(alloc, at, bound, a, None)?;
-    if is_distribution(Some(a.ty.get())) {
-        Err(mismatch(place))
-    } else {
-        Ok(a)
-    }
-}
-
-/// An operator at its left side and a right one, which has the type of the left one.
-#[cycle(form)]
-fn with_right_side(
-    alloc: Global,
-    at: &Setting<'_>,
-    bound: &[TypedName],
-    b: &Node,
-    op: Op,
-    left: Term,
-) -> Result<Form, Refused>
-    ensures { Answers (with_right_side op left (elaborated b.now (environment at.now) bound.now)) result }
-{
-    let right = typed(alloc, at, bound, b, Some(left.ty.get()))?;
-    compared(alloc, op, left, right).map_err(Refused::from)
-}
-
-/// An operator that makes a truth of two forms.
-#[cycle(form)]
-fn binary(
-    alloc: Global,
-    at: &Setting<'_>,
-    bound: &[TypedName],
-    op: Op,
     parts: &[Node],
     place: Place,
     want: Option<&Ty>,
-) -> Result<Form, Refused>
-    ensures { Answers (binary op (with_typings parts.now) place (environment at.now) bound.now (option_copied want.entry)) result }
+) -> Result<Term, Refused>
+    ensures { Answers (with_side parts.now place (environment at.now) bound.now (option_copied want.entry)) result }
 {
     match parts {
-        [a, b] => {
-            truth(want, place)?;
-            let left = left_side(alloc, at, bound, a, op, place)?;
-            with_right_side(alloc, at, bound, b, op, left)
+        [operand, side] => wanted(read(alloc, at, bound, operand, side), want, place),
+        _ => Err(not_built(place)),
+    }
+}
+
+/// A form in brackets, which pass the wanted type on.
+#[cycle(form)]
+fn bracketed(
+    alloc: Global,
+    at: &Setting<'_>,
+    bound: &[TypedName],
+    parts: &[Node],
+    place: Place,
+    want: Option<&Ty>,
+) -> Result<Term, Refused>
+    ensures { Answers (bracketed (with_meanings parts.now) place (environment at.now) bound.now (option_copied want.entry)) result }
+{
+    match parts {
+        [inner] => typed(alloc, at, bound, inner, want),
+        _ => Err(not_built(place)),
+    }
+}
+
+/// A part as it is asked for.
+#[cycle(form)]
+fn operand(
+    alloc: Global,
+    at: &Setting<'_>,
+    bound: &[TypedName],
+    asked: &Asked,
+    part: &Node,
+) -> Result<Term, Refused>
+    ensures { Answers (operand asked.now (part.now, meant part.now) (environment at.now) bound.now) result }
+{
+    match asked {
+        Asked::Form(want) => typed(alloc, at, bound, part, inside(want)),
+        Asked::Source(want) => typed(alloc, &at.sampled(), bound, part, inside(want)),
+        Asked::Function(domain, want) => {
+            function_of(alloc, at, bound, part, domain, inside(want))
+        }
+    }
+}
+
+/// What a shared type holds, where there is one.
+fn inside(ty: &Option<Shared<Ty>>) -> Option<&Ty>
+    ensures { option_copied result ≡ ty.now }
+{
+    match ty {
+        Some(ty) => Some(ty.get()),
+        None => None,
+    }
+}
+
+/// The next part, typed as its rule asks.
+#[cycle(form)]
+fn next(
+    alloc: Global,
+    at: &Setting<'_>,
+    bound: &[TypedName],
+    rule: &Rule,
+    part: &Node,
+    place: Place,
+    want: Option<&Ty>,
+    done: &[Term],
+) -> Result<Term, Refused>
+    ensures { Answers (asked rule.now (environment at.now) (option_copied want.entry) place (place_of part.now) done.now and_then λ k. operand k (part.now, meant part.now) (environment at.now) bound.now) result }
+{
+    let asked = asked(alloc, rule, at, want, place, part.place, done)?;
+    operand(alloc, at, bound, &asked, part)
+}
+
+/// A form that a rule makes of its parts, which are typed from left to right.
+#[cycle(form)]
+#[tactic(auto, unfolding(crate::specs::Forms::operands))]
+fn by_rule(
+    alloc: Global,
+    at: &Setting<'_>,
+    bound: &[TypedName],
+    rule: Rule,
+    parts: &[Node],
+    place: Place,
+    want: Option<&Ty>,
+) -> Result<Term, Refused>
+    ensures { Answers (by_rule rule (with_meanings parts.now) place (environment at.now) bound.now (option_copied want.entry)) result }
+{
+    let mut done = Items::new(alloc);
+    for part in parts {
+        done.push(next(alloc, at, bound, &rule, part, place, want, done.as_slice())?)?;
+    }
+    wanted(made(alloc, &rule, place, done), want, place)
+}
+
+/// .. of one part.
+#[cycle(form)]
+#[tactic(auto, unfolding(crate::specs::Forms::operands))]
+fn of_one(
+    alloc: Global,
+    at: &Setting<'_>,
+    bound: &[TypedName],
+    rule: Rule,
+    part: &Node,
+    place: Place,
+    want: Option<&Ty>,
+) -> Result<Term, Refused>
+    ensures { Answers (by_rule rule ((part.now, meant part.now) ∷ []) place (environment at.now) bound.now (option_copied want.entry)) result }
+{
+    let mut done = Items::new(alloc);
+    let form = next(alloc, at, bound, &rule, part, place, want, &[])?;
+    done.push(form)?;
+    wanted(made(alloc, &rule, place, done), want, place)
+}
+
+/// .. of two parts, which are typed from right to left.
+#[cycle(form)]
+#[tactic(auto, unfolding(crate::specs::Forms::operands))]
+fn from_right(
+    alloc: Global,
+    at: &Setting<'_>,
+    bound: &[TypedName],
+    rule: Rule,
+    parts: &[Node],
+    place: Place,
+    want: Option<&Ty>,
+) -> Result<Term, Refused>
+    ensures { Answers (from_right rule (with_meanings parts.now) place (environment at.now) bound.now (option_copied want.entry)) result }
+{
+    match parts {
+        [left, right] => {
+            let mut done = Items::new(alloc);
+            let first = next(alloc, at, bound, &rule, right, place, want, &[])?;
+            done.push(first)?;
+            let second = next(alloc, at, bound, &rule, left, place, want, done.as_slice())?;
+            done.push(second)?;
+            wanted(made(alloc, &rule, place, done), want, place)
         }
         _ => Err(not_built(place)),
     }
 }
 
-/// An operator of two sides that makes a truth.
-fn compared(alloc: Global, op: Op, left: Term, right: Term) -> Result<Form, AllocError>
-    ensures { IfOk result (λ made. made ≡ applied op (left ∷ right ∷ []) Ty.Bool) }
+/// A form that an operator makes. An open left side takes the type of the right one, where that isn't open.
+#[cycle(form)]
+fn operation(
+    alloc: Global,
+    at: &Setting<'_>,
+    bound: &[TypedName],
+    operator: Option<Operator>,
+    parts: &[Node],
+    place: Place,
+    want: Option<&Ty>,
+) -> Result<Term, Refused>
+    ensures { Answers (operation operator (with_meanings parts.now) place (environment at.now) bound.now (option_copied want.entry)) result }
 {
-    let ty = make::truth_ty(alloc)?;
-    make::binary(alloc, op, left, right, ty)
+    let Some(operator) = operator else {
+        return Err(not_built(place));
+    };
+    match parts {
+        [a] => by_rule(
+            alloc,
+            at,
+            bound,
+            rule_for(operator, false, a),
+            parts,
+            place,
+            want,
+        ),
+        [a, b] => {
+            let backwards = right_first(a, b);
+            let rule = rule_for(operator, backwards, b);
+            if backwards {
+                from_right(alloc, at, bound, rule, parts, place, want)
+            } else {
+                by_rule(alloc, at, bound, rule, parts, place, want)
+            }
+        }
+        _ => Err(not_built(place)),
+    }
+}
+
+/// A form with the type that the text gives it.
+#[cycle(form)]
+fn annotated(
+    alloc: Global,
+    at: &Setting<'_>,
+    bound: &[TypedName],
+    parts: &[Node],
+    place: Place,
+    want: Option<&Ty>,
+) -> Result<Term, Refused>
+    ensures { Answers (annotated (with_meanings parts.now) place (environment at.now) bound.now (option_copied want.entry)) result }
+{
+    match parts {
+        [form, written] => {
+            let rule = Rule::Annotated(type_or_number(alloc, at.scope, written)?);
+            of_one(alloc, at, bound, rule, form, place, want)
+        }
+        _ => Err(not_built(place)),
+    }
+}
+
+/// A part of a tuple, by its number.
+#[cycle(form)]
+fn projection(
+    alloc: Global,
+    at: &Setting<'_>,
+    bound: &[TypedName],
+    parts: &[Node],
+    place: Place,
+    want: Option<&Ty>,
+) -> Result<Term, Refused>
+    ensures { Answers (projection (with_meanings parts.now) place (environment at.now) bound.now (option_copied want.entry)) result }
+{
+    match parts {
+        [tuple, digits] => {
+            let rule = Rule::Part(part_number(&digits.text), digits.place);
+            of_one(alloc, at, bound, rule, tuple, place, want)
+        }
+        _ => Err(not_built(place)),
+    }
+}
+
+/// A sum over the numbers below one.
+#[cycle(form)]
+fn summed(
+    alloc: Global,
+    at: &Setting<'_>,
+    bound: &[TypedName],
+    parts: &[Node],
+    place: Place,
+    want: Option<&Ty>,
+) -> Result<Term, Refused>
+    ensures { Answers (summed (with_meanings parts.now) place (environment at.now) bound.now (option_copied want.entry)) result }
+{
+    match parts {
+        [below, summand] => {
+            stands(at, want, place, &Ty::Real)?;
+            let rule = Rule::Sum(bound_of(below)?);
+            of_one(alloc, at, bound, rule, summand, place, want)
+        }
+        _ => Err(mismatch(place)),
+    }
+}
+
+/// A built-in operator at its arguments.
+#[cycle(form)]
+fn call(
+    alloc: Global,
+    at: &Setting<'_>,
+    bound: &[TypedName],
+    known: Known,
+    parts: &[Node],
+    place: Place,
+    want: Option<&Ty>,
+) -> Result<Term, Refused>
+    ensures { Answers (call known (with_meanings parts.now) place (environment at.now) bound.now (option_copied want.entry)) result }
+{
+    match known {
+        Known::Sum => summed(alloc, at, bound, parts, place, want),
+        _ => match rule_of(known, parts.len()) {
+            Some(rule) => by_rule(alloc, at, bound, rule, parts, place, want),
+            None => Err(mismatch(place)),
+        },
+    }
+}
+
+/// A name at arguments, which is that of an operator.
+#[cycle(form)]
+fn applied(
+    alloc: Global,
+    at: &Setting<'_>,
+    bound: &[TypedName],
+    name: &Name,
+    parts: &[Node],
+    place: Place,
+    want: Option<&Ty>,
+) -> Result<Term, Refused>
+    ensures { Answers (applied name.now (with_meanings parts.now) place (environment at.now) bound.now (option_copied want.entry)) result }
+{
+    match known_at(at, bound, name) {
+        Some(known) => call(alloc, at, bound, known, parts, place, want),
+        None => user_call(alloc, at, bound, name, parts, place, want),
+    }
+}
+
+/// An operator of the script at its arguments.
+#[cycle(form)]
+fn user_call(
+    alloc: Global,
+    at: &Setting<'_>,
+    bound: &[TypedName],
+    name: &Name,
+    parts: &[Node],
+    place: Place,
+    want: Option<&Ty>,
+) -> Result<Term, Refused>
+    ensures { Answers (user_call (operator_at (environment at.now) bound.now name.now) name.now (with_meanings parts.now) place (environment at.now) bound.now (option_copied want.entry)) result }
+{
+    let Some(operator) = operator_at(at, bound, name)? else {
+        simple(alloc, at, bound, name, None, place)?;
+        return Err(mismatch(place));
+    };
+    stands(at, want, place, operator.result.get())?;
+    if parts.len() != operator.params.len() {
+        return Err(mismatch(place));
+    }
+    let name = name.copy(alloc)?;
+    by_rule(
+        alloc,
+        at,
+        bound,
+        Rule::User(name, operator),
+        parts,
+        place,
+        want,
+    )
+}
+
+/// A name with the arguments behind it.
+#[cycle(form)]
+#[tactic(auto, using(crate::proofs::Applied::none_behind))]
+fn with_arguments(
+    alloc: Global,
+    at: &Setting<'_>,
+    bound: &[TypedName],
+    name: &Name,
+    parts: &[Node],
+    place: Place,
+    want: Option<&Ty>,
+) -> Result<Term, Refused>
+    ensures { Answers (applied name.now (with_meanings (drop 1 parts.now)) place (environment at.now) bound.now (option_copied want.entry)) result }
+{
+    match parts {
+        [_, arguments @ ..] => applied(alloc, at, bound, name, arguments, place, want),
+        [] => applied(alloc, at, bound, name, parts, place, want),
+    }
+}
+
+/// A form at arguments, which is a name.
+#[cycle(form)]
+fn applied_form(
+    alloc: Global,
+    at: &Setting<'_>,
+    bound: &[TypedName],
+    parts: &[Node],
+    place: Place,
+    want: Option<&Ty>,
+) -> Result<Term, Refused>
+    ensures { Answers (applied_form (with_meanings parts.now) place (environment at.now) bound.now (option_copied want.entry)) result }
+{
+    match parts {
+        [operator, ..] => match operator.head {
+            Head::Name => with_arguments(alloc, at, bound, &operator.text, parts, place, want),
+            Head::Path => {
+                let name = path(alloc, operator.parts.as_slice())?;
+                with_arguments(alloc, at, bound, &name, parts, place, want)
+            }
+            _ => Err(mismatch(place)),
+        },
+        [] => Err(not_built(place)),
+    }
 }
 
 /// A quantified form, which no program expression is.
@@ -285,13 +615,13 @@ fn quantified(
     place: Place,
     want: Option<&Ty>,
 ) -> Result<Form, Refused>
-    ensures { Answers (quantified text.now (with_typings parts.now) place (environment at.now) bound.now (option_copied want.entry)) result }
+    ensures { Answers (quantified text.now (with_meanings parts.now) place (environment at.now) bound.now (option_copied want.entry)) result }
 {
     match parts {
         [binds, body] => {
             let quantifier = quantifier_of(text, place)?;
             formula(at, want, place)?;
-            let variables = bound_by(alloc, binds.parts.as_slice())?;
+            let variables = bound_by(alloc, at.scope, binds.parts.as_slice())?;
             over_body(alloc, at, bound, quantifier, variables, body)
         }
         _ => Err(not_built(place)),
@@ -326,7 +656,7 @@ fn equivalence(
     place: Place,
     want: Option<&Ty>,
 ) -> Result<Form, Refused>
-    ensures { Answers (equivalence (with_typings parts.now) place (environment at.now) bound.now (option_copied want.entry)) result }
+    ensures { Answers (equivalence (with_meanings parts.now) place (environment at.now) bound.now (option_copied want.entry)) result }
 {
     match parts {
         [f, g, pre, post] => {
@@ -389,14 +719,11 @@ fn with_postcondition(
     equiv(alloc, both, pre, post).map_err(Refused::from)
 }
 
-/// The typed tree of a function of one variable, with the variable as the innermost bound one. Brackets may stand round
-/// it.
+/// The typed tree of a function of one variable from a type to a type, with its variable as the only bound one.
 ///
 /// # Errors
 ///
-/// `TypeMismatch` where the form is no function of one variable, where its variable has another type by the text (at
-/// that type), and where its value has another type; those of `type_of` and those of `typed`.
-#[cycle(function)]
+/// As `function_of`.
 pub fn function(
     alloc: Global,
     at: &Setting<'_>,
@@ -406,42 +733,123 @@ pub fn function(
 ) -> Result<Term, Refused>
     ensures { Answers (function t.now (environment at.now) from.now to.now) result }
 {
-    function_typing(alloc, at, t.head, t.parts.as_slice(), t.place, from, to)
+    let domain = Domain::Exactly(from.share()?);
+    function_of(alloc, at, &[], t, &domain, Some(to))
+}
+
+/// The typed tree of a function of one variable, with the variable as the innermost bound one. Brackets may stand round
+/// it.
+///
+/// # Errors
+///
+/// `TypeMismatch` where the form is no function of one variable, where its variable has another type by the text (at
+/// that type), and where its value has another type; those of `written_as` and those of `typed`.
+#[cycle(form)]
+fn function_of(
+    alloc: Global,
+    at: &Setting<'_>,
+    bound: &[TypedName],
+    t: &Node,
+    domain: &Domain,
+    want: Option<&Ty>,
+) -> Result<Term, Refused>
+    ensures { Answers (function_of t.now domain.now (environment at.now) bound.now (option_copied want.entry)) result }
+{
+    function_typing(
+        alloc,
+        at,
+        bound,
+        t.head,
+        t.parts.as_slice(),
+        t.place,
+        domain,
+        want,
+    )
 }
 
 /// .. from its head, its parts and its place.
-#[cycle(function)]
+#[cycle(form)]
 fn function_typing(
     alloc: Global,
     at: &Setting<'_>,
+    bound: &[TypedName],
     head: Head,
     parts: &[Node],
     place: Place,
-    from: &Shared<Ty>,
-    to: &Ty,
+    domain: &Domain,
+    want: Option<&Ty>,
 ) -> Result<Term, Refused>
-    ensures { Answers (function_typing head (with_functions parts.now) place (environment at.now) from.now to.now) result }
+    ensures { Answers (function_typing head (with_meanings parts.now) place domain.now (environment at.now) bound.now (option_copied want.entry)) result }
 {
     match head {
-        Head::Bracketed => match parts {
-            [inner] => function(alloc, at, inner, from, to),
-            _ => Err(mismatch(place)),
-        },
-        Head::Function => match parts {
-            [names, body] => {
-                let x = only(names.parts.as_slice(), place)?;
-                value_of(alloc, at, x, body, from, to)
-            }
-            _ => Err(mismatch(place)),
-        },
-        Head::TypedFunction => match parts {
-            [variables, ty, value] => {
-                let x = only(variables.parts.as_slice(), place)?;
-                written_as(alloc, ty, from)?;
-                value_of(alloc, at, x, value, from, to)
-            }
-            _ => Err(mismatch(place)),
-        },
+        Head::Bracketed => bracketed_function(alloc, at, bound, parts, place, domain, want),
+        Head::Function => plain_function(alloc, at, bound, parts, place, domain, want),
+        Head::TypedFunction => typed_function(alloc, at, bound, parts, place, domain, want),
+        _ => Err(mismatch(place)),
+    }
+}
+
+/// A function in brackets.
+#[cycle(form)]
+fn bracketed_function(
+    alloc: Global,
+    at: &Setting<'_>,
+    bound: &[TypedName],
+    parts: &[Node],
+    place: Place,
+    domain: &Domain,
+    want: Option<&Ty>,
+) -> Result<Term, Refused>
+    ensures { Answers (bracketed_function (with_meanings parts.now) place domain.now (environment at.now) bound.now (option_copied want.entry)) result }
+{
+    match parts {
+        [inner] => function_of(alloc, at, bound, inner, domain, want),
+        _ => Err(mismatch(place)),
+    }
+}
+
+/// A function whose variable has no type by the text.
+#[cycle(form)]
+fn plain_function(
+    alloc: Global,
+    at: &Setting<'_>,
+    bound: &[TypedName],
+    parts: &[Node],
+    place: Place,
+    domain: &Domain,
+    want: Option<&Ty>,
+) -> Result<Term, Refused>
+    ensures { Answers (plain_function (with_meanings parts.now) place domain.now (environment at.now) bound.now (option_copied want.entry)) result }
+{
+    match parts {
+        [names, body] => {
+            let x = only(names.parts.as_slice(), place)?;
+            let ty = type_in(alloc, domain)?;
+            value_of(alloc, at, bound, body, &x.text, &ty, want)
+        }
+        _ => Err(mismatch(place)),
+    }
+}
+
+/// A function whose variable has a type by the text.
+#[cycle(form)]
+fn typed_function(
+    alloc: Global,
+    at: &Setting<'_>,
+    bound: &[TypedName],
+    parts: &[Node],
+    place: Place,
+    domain: &Domain,
+    want: Option<&Ty>,
+) -> Result<Term, Refused>
+    ensures { Answers (typed_function (with_meanings parts.now) place domain.now (environment at.now) bound.now (option_copied want.entry)) result }
+{
+    match parts {
+        [names, written, body] => {
+            let x = only(names.parts.as_slice(), place)?;
+            let ty = written_as(alloc, at.scope, domain, written)?;
+            value_of(alloc, at, bound, body, &x.text, &ty, want)
+        }
         _ => Err(mismatch(place)),
     }
 }
@@ -456,28 +864,21 @@ fn only<'t>(names: &'t [Node], place: Place) -> Result<&'t Node, Refused>
     }
 }
 
-/// Refuses a type of the text that isn't the one that is wanted.
-fn written_as(alloc: Global, written: &Node, ty: &Shared<Ty>) -> Result<(), Refused>
-    ensures { Answers (written_as written.now ty.now) result }
-{
-    if same_types(type_of(alloc, written)?.get(), ty.get()) {
-        Ok(())
-    } else {
-        Err(mismatch(written.place))
-    }
-}
-
 /// The value of a function, with its variable as the innermost bound one.
+#[cycle(form)]
 fn value_of(
     alloc: Global,
     at: &Setting<'_>,
-    x: &Node,
+    bound: &[TypedName],
     body: &Node,
-    from: &Shared<Ty>,
-    to: &Ty,
+    name: &Name,
+    ty: &Shared<Ty>,
+    want: Option<&Ty>,
 ) -> Result<Term, Refused>
-    ensures { Answers (value_of x.now body.now (environment at.now) from.now to.now) result }
+    ensures { Answers (value_of name.now ty.now (body.now, meant body.now) (environment at.now) bound.now (option_copied want.entry)) result }
 {
-    let variable = variable(alloc, &x.text, from)?;
-    typed(alloc, at, &[variable], body, Some(to))
+    let mut variables = Items::new(alloc);
+    variables.push(variable(alloc, name, ty)?)?;
+    let inner = within(alloc, variables, bound)?;
+    typed(alloc, at, inner.as_slice(), body, want)
 }

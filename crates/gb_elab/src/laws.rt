@@ -5,9 +5,9 @@ ghost use Rattle.gb_core.specs.declared.ty.Ty.{Ty};
 ghost use Rattle.gb_terms.specs.declared.decl.TypedName.{TypedName};
 ghost use Rattle.gb_terms.specs.declared.term.Term.{Term};
 ghost use Rattle.gb_script.specs.declared.tree.Node.{Node};
-ghost use Rattle.gb_elab.specs.Wanted.{HasType};
+ghost use Rattle.gb_names.specs.Wanted.{HasType};
 ghost use Rattle.gb_goal.specs.Answers.Answer.{given};
-ghost use Rattle.gb_elab.specs.Environment.{Environment};
+ghost use Rattle.gb_names.specs.Environment.{Environment};
 ghost use Rattle.gb_elab.specs.Forms.{elaborated};
 
 /// What a form means has the wanted type.

@@ -14,7 +14,7 @@ use Rattle.gb_goal.specs.declared.step.Rule.TheVariants as rule
 use Rattle.gb_goal.specs.declared.step.BodyRule.TheVariants as on_bodies
 use Rattle.gb_goal.specs.declared.step.RelationalRule.TheVariants as relational
 use Rattle.gb_goal.specs.declared.step.Step.{Step}
-use Rattle.gb_goal.specs.Answers.{Answer, not_built}
+use Rattle.gb_goal.specs.Answers.{not_built}
 use Rattle.gb_goal.specs.Answers.Answer.{given}
 use Rattle.gb_script.specs.declared.head.Head.{Head as Kind}
 use Rattle.gb_script.specs.declared.head.Head.TheVariants as text
@@ -25,8 +25,7 @@ use Rattle.gb_typing.specs.Context.{Context}
 use Rattle.gb_typing.specs.Typing.{IsForm}
 use Rattle.gb_typing.specs.Sequents.{of_sequent, IsTypedSequent}
 use Rattle.gb_typing.specs.Scopes.{context_of, IsTypedScope}
-use Rattle.gb_elab.specs.Environment.{ambient}
-use Rattle.gb_elab.specs.Forms.{elaborated}
+use Rattle.gb_names.specs.Environment.{ambient}
 use Rattle.gb_elab_mod.specs.Steps.{acts, couplings, cut_of, functions_of, conclusion_rule, new_name, formed, of_bodies_rule, of_conclusion, on_all, plain_rule, seq_rule, typed_rule, step_given}
 use Rattle.gb_elab_mod.specs.Unbuilt.{absent}
 use Rattle.gb_elab_laws.proofs.Given.{given_bind, given_is}
@@ -40,7 +39,7 @@ module _ (ds : scope.Declarations) (scoped : IsTypedScope (declared ds)) (q : Se
 
   form_typed : (f : Node) (u : Term) → formed ds q f ≡ given u → IsForm here u
   form_typed f u h =
-      let g = elaborated_typed f here (ambient ds q) [] (goal_fits ds scoped q t) (Some ty.Bool) u h in
+      let g = elaborated_typed f here (ambient ds q) [] (goal_fits ds scoped q t) (Some ty.Bool) tt u h in
       record { typed = g.typed; truth = g.wanted }
 
   abbrev HasForms : Rule → Type 0

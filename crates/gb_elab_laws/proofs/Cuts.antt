@@ -31,11 +31,10 @@ use Rattle.gb_holds.specs.Declared.{declared}
 use Rattle.gb_typing.specs.Context.{Context}
 use Rattle.gb_typing.specs.Sequents.{one, two, of_sequent, IsTypedSequent}
 use Rattle.gb_typing.specs.Scopes.{context_of, IsTypedScope}
-use Rattle.gb_typing.specs.Typing.{IsForm}
 use Rattle.gb_rules.specs.Typing.{IsGoalOver}
-use Rattle.gb_goal.specs.Answers.{Answer, ◌>>=◌, not_built}
+use Rattle.gb_goal.specs.Answers.{not_built}
 use Rattle.gb_goal.specs.Answers.Answer.{given}
-use Rattle.gb_elab.specs.Environment.{relational, unary}
+use Rattle.gb_names.specs.Environment.{relational, unary}
 use Rattle.gb_elab.specs.Forms.{elaborated}
 use Rattle.gb_elab_mod.specs.Occurring.{occurring}
 use Rattle.gb_elab_mod.specs.Steps.{acts, conclusion_rule, couplings, cut_of, cut_rule, formed, functions_of, new_name, of_bodies_rule, of_conclusion, on_all, plain_rule, seq_rule, step_given, typed_rule}
@@ -60,7 +59,7 @@ module _ (ds : scope.Declarations) (scoped : IsTypedScope (declared ds)) (q : Se
       let xs = occurring (p ∷ g ∷ []) side.Own is in
       let f = given_bind (elaborated n (unary ds q xs) [] (Some ty.Bool)) (λ f. given (on_bodies.Seq (cut.One k) f)) r h in
       let fits = one_fits ds scoped q t ls xs (occurring_in ls here side.Own p g is (reads_stand (one here ls) p w.1.typed side.Own tt) (reads_stand (one here ls) g w.2.typed side.Own tt) w.0) in
-      let e = elaborated_typed n (one here ls) (unary ds q xs) [] fits (Some ty.Bool) f.0 f.1 in
+      let e = elaborated_typed n (one here ls) (unary ds q xs) [] fits (Some ty.Bool) tt f.0 f.1 in
       subst (Typed (hoare (body is) p g)) {x = on_bodies.Seq (cut.One k) f.0} (given_is (on_bodies.Seq (cut.One k) f.0) r f.2) (record { typed = e.typed; truth = e.wanted })
   cut_typed (equiv (body is) (body js) p g) w (cut.Two k l) n r h =
       let xs = occurring (p ∷ g ∷ []) side.Left is in
@@ -70,7 +69,7 @@ module _ (ds : scope.Declarations) (scoped : IsTypedScope (declared ds)) (q : Se
       two_fit ds scoped q t ls rs xs ys
       (occurring_in ls here side.Left p g is (reads_stand (two here ls rs) p w.3.typed side.Left tt) (reads_stand (two here ls rs) g w.4.typed side.Left tt) w.1)
       (occurring_in rs here side.Right p g js (reads_stand (two here ls rs) p w.3.typed side.Right tt) (reads_stand (two here ls rs) g w.4.typed side.Right tt) w.2) in
-      let e = elaborated_typed n (two here ls rs) (relational ds q xs ys) [] fits (Some ty.Bool) f.0 f.1 in
+      let e = elaborated_typed n (two here ls rs) (relational ds q xs ys) [] fits (Some ty.Bool) tt f.0 f.1 in
       subst (Typed (equiv (body is) (body js) p g)) {x = on_bodies.Seq (cut.Two k l) f.0} (given_is (on_bodies.Seq (cut.Two k l) f.0) r f.2) (record { typed = e.typed; truth = e.wanted })
   cut_typed (hoare (body is) p g) w (cut.Two k l) n r h = subst (Typed (hoare (body is) p g)) (given_is on_bodies.Unfit r h) tt
   cut_typed (hoare (procedure a) p g) w (cut.One k) n r h = subst (Typed (hoare (procedure a) p g)) (given_is on_bodies.Unfit r h) tt

@@ -30,12 +30,14 @@ use Rattle.gb_typing.proofs.Operators.{declared_more, declared_last, other_name}
 use Rattle.gb_typing.proofs.Variables.{variable_finite}
 use Rattle.gb_typing.proofs.Located.{typed_there}
 use Rattle.gb_rules.proofs.Lifted.{sequent_outermost}
-use Rattle.gb_elab.specs.Environment.{ambient, of_function, program, relational, unary}
+use Rattle.gb_names.specs.Environment.{ambient, of_function, program, relational, unary}
 use Rattle.gb_elab_mod.specs.Lemmas.{nothing_around}
-use Rattle.gb_elab_laws.specs.Fitting.{AreIn, IsTypeOf, IsFitting}
+use Rattle.gb_elab_laws.specs.Fitting.{AllFiniteWith, AreBound, AreDeclared, AreIn, IsTypeOf, IsFitting}
 use Rattle.gb_elab_laws.proofs.Given.{none_some, same_some}
+use Rattle.gb_elab_laws.proofs.Declared.{goal_declared}
 use Rattle.gb_elab_laws.proofs.Types.{have_finite}
 use Rattle.gb_elab_laws.proofs.Quantified.{have_front}
+use Rattle.gb_elab_laws.proofs.Found.{all_with}
 
 -- what is declared later leaves the modules that are declared
 stays : (ds : scope.Declarations) (before : Declarations) (c : Context) (n : Name) → is_declared before n ≡ true → AreTypedAfter c before (declared ds) →
@@ -45,6 +47,16 @@ stays ((k, entry.Module m) ∷ ds) before c n d w =
     stays ds (before ++ (k, concrete_module m) ∷ []) (with_declared c k (concrete_module m)) n (declared_more before (k, concrete_module m) n d) w.2
     ∙ ap (λ (b : Bool). if b then Some (interface_with c.modules.types m.params (procedure_types m.procs)) else c.modules.interfaces n) (other_name before n k d w.0)
 stays ((k, entry.Lemma q) ∷ ds) before c n d w = stays ds (before ++ (k, lemma q) ∷ []) c n (declared_more before (k, lemma q) n d) w.2
+stays ((k, entry.Type t) ∷ ds) before c n d w =
+    let x = declaration_of (entry.Type t) in stays ds (before ++ (k, x) ∷ []) (with_declared c k x) n (declared_more before (k, x) n d) w.2
+stays ((k, entry.AbstractType) ∷ ds) before c n d w =
+    let x = declaration_of entry.AbstractType in stays ds (before ++ (k, x) ∷ []) (with_declared c k x) n (declared_more before (k, x) n d) w.2
+stays ((k, entry.Constant a) ∷ ds) before c n d w =
+    let x = declaration_of (entry.Constant a) in stays ds (before ++ (k, x) ∷ []) (with_declared c k x) n (declared_more before (k, x) n d) w.2
+stays ((k, entry.Operator o) ∷ ds) before c n d w =
+    let x = declaration_of (entry.Operator o) in stays ds (before ++ (k, x) ∷ []) (with_declared c k x) n (declared_more before (k, x) n d) w.2
+stays ((k, entry.AbstractOperator o) ∷ ds) before c n d w =
+    let x = declaration_of (entry.AbstractOperator o) in stays ds (before ++ (k, x) ∷ []) (with_declared c k x) n (declared_more before (k, x) n d) w.2
 
 -- A declared module stands under its name, and its procedures are typed.
 record Stands (o : Option Interface) (m : Module) : Type 0 where
@@ -59,7 +71,6 @@ stands ((k, d) ∷ ds) before c w n m e = step (bytes_eq n k) refl (stands ds (b
   where
     here : bytes_eq n k ≡ true → (x : Entry) → AreTypedAfter c before ((k, declaration_of x) ∷ declared ds) → x ≡ entry.Module m →
         Stands ((with_each (with_declared c k (declaration_of x)) (declared ds)).modules.interfaces n) m
-    here i (entry.Lemma q) v h = cc
     here i (entry.Module r) v h =
         let s : r ≡ m = (let f : entry.Module r ≡ entry.Module m = h in cc) in
         subst (λ z. Stands ((with_each (with_declared c k (concrete_module r)) (declared ds)).modules.interfaces n) z) s (record {
@@ -70,6 +81,7 @@ stands ((k, d) ∷ ds) before c w n m e = step (bytes_eq n k) refl (stands ds (b
               ∙ ap (λ (b : Bool). if b then Some (interface_with c.modules.types r.params (procedure_types r.procs)) else c.modules.interfaces n) i
               ∙ ap (λ ps. Some (interface_with c.modules.types ps (procedure_types r.procs))) p;
         })
+    here i _ v h = cc
 
     step : (b : Bool) → bytes_eq n k ≡ b → (entry_of ds n ≡ Some (entry.Module m) → Stands ((with_each (with_declared c k (declaration_of d)) (declared ds)).modules.interfaces n) m) →
         (if b then Some d else entry_of ds n) ≡ Some (entry.Module m) → Stands ((with_each (with_declared c k (declaration_of d)) (declared ds)).modules.interfaces n) m
@@ -105,7 +117,6 @@ procedure_named ds w n g f e = of_entry (entry_of ds n) refl e
   where
     of_entry : (o : Option Entry) → entry_of ds n ≡ o → proc_in (as_module o) g ≡ Some f → IsTypeOf (typing.procedure_of ((context_of (declared ds)).modules.interfaces n) g) f
     of_entry None i h = none_some f h
-    of_entry (Some (entry.Lemma q)) i h = none_some f h
     of_entry (Some (entry.Module m)) i h =
         let p = plain_is m.params m.procs g f h in
         let s = stands ds [] nothing w n m i in
@@ -115,6 +126,7 @@ procedure_named ds w n g f e = of_entry (entry_of ds n) refl e
           params = have_finite f.params t.0;
           result = variable_finite f.result t.1;
         }
+    of_entry (Some _) i h = none_some f h
 
 declared_procedure : (ds : scope.Declarations) → IsTypedScope (declared ds) → (m : Mexp) (g : Name) (f : Proc) → proc_at ds m g ≡ Some f →
     IsTypeOf (typing.procedure_type (context_of (declared ds)).modules (record { «module» = m; name = g })) f
@@ -125,49 +137,41 @@ declared_procedure ds w (Apply' n k args) g f e = none_some f e
 goal_bound : (ds : Declarations) (q : Sequent) (fs : List (List TypedName)) → (of_sequent (context_of ds) q fs).bound ≡ []
 goal_bound ds q fs = ap (λ (c : Context). c.bound) (sequent_outermost ds q fs)
 
+-- the context of a goal without modules, whose variables are of types of values
+pub context_fits : (ds : scope.Declarations) (q : Sequent) (fs : List (List TypedName)) → q.modules ≡ [] → AllFiniteWith true q.logical → IsTypedScope (declared ds) →
+    IsFitting (of_sequent (context_of (declared ds)) q fs) (ambient ds q) []
+context_fits ds q fs none h w = record {
+  logical = λ i. refl;
+  values = h;
+  bound = subst (λ bs. AreBound true bs []) (sym (goal_bound (declared ds) q fs)) tt;
+  variables = tt;
+  declared = goal_declared ds w q fs;
+  procedures = λ e p f k.
+      subst (λ bs. IsTypeOf (typing.procedure_type (with_modules (context_of (declared ds)) bs).modules p) f) (sym none) (declared_procedure ds w p.«module» p.name f k);
+}
+
 pub statement_fits : (ds : scope.Declarations) → IsTypedScope (declared ds) → IsFitting (of_sequent (context_of (declared ds)) nothing_around []) (ambient ds nothing_around) []
-statement_fits ds w = record {
-  logical = λ i. refl;
-  values = tt;
-  bound = goal_bound (declared ds) nothing_around [];
-  bound_values = tt;
-  variables = tt;
-  procedures = λ e p f h. declared_procedure ds w p.«module» p.name f h;
-}
+statement_fits ds w = context_fits ds nothing_around [] refl tt w
 
-pub program_fits : (c : Context) (ds : scope.Declarations) (ls : List TypedName) → HaveFiniteTypes ls → IsFitting (of_program c ls) (program ds nothing_around ls) []
-program_fits c ds ls h = record {
+pub program_fits : (c : Context) (ds : scope.Declarations) (ls : List TypedName) → AreDeclared c.operator ds → HaveFiniteTypes ls → IsFitting (of_program c ls) (program ds nothing_around ls) []
+program_fits c ds ls names h = record {
   logical = λ i. refl;
   values = tt;
-  bound = refl;
-  bound_values = tt;
-  variables = record { there = λ x t e. e; finite = h };
+  bound = tt;
+  variables = (refl, record { there = λ x t e. e; finite = h });
+  declared = names;
   procedures = λ e. absurd (false≢true e);
 }
 
-pub function_fits : (ds : scope.Declarations) (q : Sequent) (t : IsTypedSequent (context_of (declared ds)) q) (ls rs xs ys : List TypedName) → AreIn (Some ls) xs → AreIn (Some rs) ys →
+pub function_fits : (ds : scope.Declarations) → IsTypedScope (declared ds) → (q : Sequent) (t : IsTypedSequent (context_of (declared ds)) q) (ls rs xs ys : List TypedName) → AreIn (Some ls) xs → AreIn (Some rs) ys →
     IsFitting (two (of_sequent (context_of (declared ds)) q t.frames) ls rs) (of_function ds q xs ys) []
-function_fits ds q t ls rs xs ys h k = record {
+function_fits ds w q t ls rs xs ys h k = record {
   logical = λ i. refl;
-  values = t.logical;
-  bound = goal_bound (declared ds) q t.frames;
-  bound_values = tt;
-  variables = (h, k);
+  values = all_with q.logical t.logical;
+  bound = subst (λ bs. AreBound true bs []) (sym (goal_bound (declared ds) q t.frames)) tt;
+  variables = (refl, h, k);
+  declared = goal_declared ds w q t.frames;
   procedures = λ e. absurd (false≢true e);
-}
-
--- a goal of a typed scope, around which forms stand that steps bring
-pub goal_fits : (ds : scope.Declarations) → IsTypedScope (declared ds) → (q : Sequent) (t : IsTypedSequent (context_of (declared ds)) q) →
-    IsFitting (of_sequent (context_of (declared ds)) q t.frames) (ambient ds q) []
-goal_fits ds w q t = record {
-  logical = λ i. refl;
-  values = t.logical;
-  bound = goal_bound (declared ds) q t.frames;
-  bound_values = tt;
-  variables = tt;
-  procedures = λ e p f h.
-      let d = declared_procedure ds w p.«module» p.name f h in
-      record { there = (typed_there ds w q t.modules t.frames p f h).type; params = d.params; result = d.result };
 }
 
 -- a module that is known stays known among the modules of a goal's context
@@ -200,10 +204,10 @@ pub one_fits : (ds : scope.Declarations) → IsTypedScope (declared ds) → (q :
     IsFitting (one (of_sequent (context_of (declared ds)) q t.frames) ls) (unary ds q xs) []
 one_fits ds w q t ls xs h = record {
   logical = λ i. refl;
-  values = t.logical;
-  bound = goal_bound (declared ds) q t.frames;
-  bound_values = tt;
-  variables = h;
+  values = all_with q.logical t.logical;
+  bound = subst (λ bs. AreBound true bs []) (sym (goal_bound (declared ds) q t.frames)) tt;
+  variables = (refl, h);
+  declared = goal_declared ds w q t.frames;
   procedures = λ e p f k. goal_procedure ds w q t p.«module» p.name f k;
 }
 
@@ -211,9 +215,23 @@ pub two_fit : (ds : scope.Declarations) → IsTypedScope (declared ds) → (q : 
     AreIn (Some rs) ys → IsFitting (two (of_sequent (context_of (declared ds)) q t.frames) ls rs) (relational ds q xs ys) []
 two_fit ds w q t ls rs xs ys h k = record {
   logical = λ i. refl;
-  values = t.logical;
-  bound = goal_bound (declared ds) q t.frames;
-  bound_values = tt;
-  variables = (h, k);
+  values = all_with q.logical t.logical;
+  bound = subst (λ bs. AreBound true bs []) (sym (goal_bound (declared ds) q t.frames)) tt;
+  variables = (refl, h, k);
+  declared = goal_declared ds w q t.frames;
   procedures = λ e p f k. goal_procedure ds w q t p.«module» p.name f k;
+}
+
+-- a goal of a typed scope, around which forms stand that steps bring
+pub goal_fits : (ds : scope.Declarations) → IsTypedScope (declared ds) → (q : Sequent) (t : IsTypedSequent (context_of (declared ds)) q) →
+    IsFitting (of_sequent (context_of (declared ds)) q t.frames) (ambient ds q) []
+goal_fits ds w q t = record {
+  logical = λ i. refl;
+  values = all_with q.logical t.logical;
+  bound = subst (λ bs. AreBound true bs []) (sym (goal_bound (declared ds) q t.frames)) tt;
+  variables = tt;
+  declared = goal_declared ds w q t.frames;
+  procedures = λ e p f h.
+      let d = declared_procedure ds w p.«module» p.name f h in
+      record { there = (typed_there ds w q t.modules t.frames p f h).type; params = d.params; result = d.result };
 }

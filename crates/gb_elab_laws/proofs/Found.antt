@@ -2,24 +2,31 @@
 use Rattle.std.proofs.Common.{◌≡◌, ℕ, suc, Bool, true, false, if◌then◌else◌, List, [], ◌∷◌, map, get_or, Some, bytes_eq, refl, ap, sym, ◌∙◌, subst}
 use Rattle.std.proofs.lemmas.Slice.Eq.{bytes_eq-Decides}
 use Rattle.gb_terms.specs.declared.decl.TypedName.{TypedName}
-use Rattle.gb_typed.specs.Finite.{IsFinite}
+use Rattle.gb_typed.specs.Finite.{IsFinite, IsFiniteWith}
 use Rattle.gb_typed.specs.Operators.{item}
-use Rattle.gb_typed.specs.Typing.Binder.{value, program}
+use Rattle.gb_typed.specs.Typing.{Binder}
+use Rattle.gb_typed.specs.Typing.Binder.{program}
 use Rattle.gb_meaning.specs.Written.{local_type}
-use Rattle.gb_elab.specs.Environment.{Name}
-use Rattle.gb_elab.specs.Names.{first_named, number_before}
+use Rattle.gb_names.specs.Environment.{Name}
+use Rattle.gb_names.specs.Names.{first_named, number_before}
 use Rattle.gb_typed.specs.Programs.{HaveFiniteTypes}
 use Rattle.gb_typing.proofs.Globals.{name_test}
-use Rattle.gb_elab_laws.specs.Fitting.{binders}
+use Rattle.gb_elab_laws.specs.Fitting.{AllFiniteWith, AreBound, IsBoundName}
 use Rattle.gb_elab_laws.proofs.Given.{none_some, same_some}
+
+-- types of values, with those of globals
+pub all_with : (vs : List TypedName) → HaveFiniteTypes vs → AllFiniteWith true vs
+all_with [] h = tt
+all_with (v ∷ vs) h = (h.0, all_with vs h.1)
 
 -- what a name that is found stands for
 pub record Found (vs : List TypedName) (x : Name) (v : TypedName) : Type 0 where
   pub name : v.name ≡ x
-  pub bound : get_or (binders vs) (number_before vs x) program ≡ value v.ty
+  pub bound : (globs : Bool) (bs : List Binder) → AreBound globs bs vs → IsBoundName globs (get_or bs (number_before vs x) program) v
   pub item : item (map (λ (l : TypedName). l.ty) vs) (number_before vs x) ≡ Some v.ty
   pub frame : local_type vs x ≡ Some v.ty
   pub finite : HaveFiniteTypes vs → IsFinite v.ty
+  pub finite_with : (globs : Bool) → AllFiniteWith globs vs → IsFiniteWith globs v.ty
 
 pub found : (vs : List TypedName) (x : Name) (v : TypedName) → first_named vs x ≡ Some v → Found vs x v
 found [] x v e = none_some v e
@@ -28,15 +35,25 @@ found (l ∷ ls) x v e = step (bytes_eq l.name x) refl (found ls x v) e
     number : Bool → ℕ
     number b = if b then 0 else suc (number_before ls x)
 
+    first_bound : (globs : Bool) (bs : List Binder) → AreBound globs bs (l ∷ ls) → IsBoundName globs (get_or bs 0 program) l
+    first_bound globs [] k = absurd k
+    first_bound globs (b ∷ bs) k = k.0
+
+    next_bound : (globs : Bool) (bs : List Binder) → ((cs : List Binder) → AreBound globs cs ls → IsBoundName globs (get_or cs (number_before ls x) program) v) →
+        AreBound globs bs (l ∷ ls) → IsBoundName globs (get_or bs (suc (number_before ls x)) program) v
+    next_bound globs [] f k = absurd k
+    next_bound globs (b ∷ bs) f k = f bs k.1
+
     head : bytes_eq l.name x ≡ true → l ≡ v → Found (l ∷ ls) x v
     head k e =
         let n : number_before (l ∷ ls) x ≡ 0 = ap number k in
         record {
           name = ap (λ (z : TypedName). z.name) (sym e) ∙ (bytes_eq-Decides l.name x).0 k;
-          bound = ap (λ i. get_or (binders (l ∷ ls)) i program) n ∙ ap (λ (z : TypedName). value z.ty) e;
+          bound = λ globs bs k. subst (λ i. IsBoundName globs (get_or bs i program) v) (sym n) (subst (IsBoundName globs (get_or bs 0 program)) e (first_bound globs bs k));
           item = ap (item (map (λ (z : TypedName). z.ty) (l ∷ ls))) n ∙ ap (λ (z : TypedName). Some z.ty) e;
           frame = ap (λ (b : Bool). if b then Some l.ty else local_type ls x) (name_test x l.name ∙ k) ∙ ap (λ (z : TypedName). Some z.ty) e;
           finite = λ h. subst (λ (z : TypedName). IsFinite z.ty) e h.0;
+          finite_with = λ globs h. subst (λ (z : TypedName). IsFiniteWith globs z.ty) e h.0;
         }
 
     tail : bytes_eq l.name x ≡ false → Found ls x v → Found (l ∷ ls) x v
@@ -44,10 +61,11 @@ found (l ∷ ls) x v e = step (bytes_eq l.name x) refl (found ls x v) e
         let n : number_before (l ∷ ls) x ≡ suc (number_before ls x) = ap number k in
         record {
           name = f.name;
-          bound = ap (λ i. get_or (binders (l ∷ ls)) i program) n ∙ f.bound;
+          bound = λ globs bs k. subst (λ i. IsBoundName globs (get_or bs i program) v) (sym n) (next_bound globs bs (f.bound globs) k);
           item = ap (item (map (λ (z : TypedName). z.ty) (l ∷ ls))) n ∙ f.item;
           frame = ap (λ (b : Bool). if b then Some l.ty else local_type ls x) (name_test x l.name ∙ k) ∙ f.frame;
           finite = λ h. f.finite h.1;
+          finite_with = λ globs h. f.finite_with globs h.1;
         }
 
     step : (b : Bool) → bytes_eq l.name x ≡ b → (first_named ls x ≡ Some v → Found ls x v) → (if b then Some l else first_named ls x) ≡ Some v → Found (l ∷ ls) x v

@@ -10,7 +10,7 @@ use Rattle.gb_same.proofs.Decided.{ty_eq-Decides}
 use Rattle.gb_terms.specs.declared.term.Term.{Term, Term', end_of-Head, more_of-Head, out-Term}
 use Rattle.gb_meaning.specs.Written.{type_of}
 use Rattle.gb_goal.specs.Answers.{Answer, ◌>>=◌, not_built, nowhere, given_or}
-use Rattle.gb_elab.specs.Wanted.{counted, fits, truth, type_of_term, wanted}
+use Rattle.gb_names.specs.Wanted.{counted, fits, truth, type_of_term, wanted}
 use Rattle.gb_goal.specs.Answers.Answer.{given, refused}
 use Rattle.gb_changes.proofs.Trees.{out_is}
 use Rattle.gb_elab_laws.specs.Fitting.{IsWanted}
@@ -20,6 +20,16 @@ none_some x e = cc
 
 pub same_some : {A : Type 0} (x y : A) → Some x ≡ Some y → x ≡ y
 same_some x y e = cc
+
+-- what is there under a test
+pub if_some : {A : Type 0} (b : Bool) (x y : A) → (if b then Some x else None) ≡ Some y → (b ≡ true) × (x ≡ y)
+if_some true x y e = (refl, same_some x y e)
+if_some false x y e = none_some y e
+
+-- what is there unless a test holds
+pub if_none : {A : Type 0} (b : Bool) (o : Option A) (y : A) → (if b then None else o) ≡ Some y → o ≡ Some y
+if_none true o y e = none_some y e
+if_none false o y e = e
 
 pub out_type : (t : Term) → (out-Term t).ty ≡ type_of t
 out_type (Term' tt (more_of-Head h end_of-Head) n ts ty) = ap (λ z. z.ty) (out_is h n ts ty)

@@ -20,17 +20,18 @@ use Rattle.gb_script.specs.declared.tree.Node.{Node}
 use Rattle.gb_script.specs.Tree.{head_of, text_of, parts_of, place_of}
 use Rattle.gb_goal.specs.Answers.{given_or}
 use Rattle.gb_goal.specs.Answers.Answer.{given}
-use Rattle.gb_elab.specs.declared.setting.Language.TheVariants.{Formula}
-use Rattle.gb_elab.specs.Environment.{Name, Environment, relational}
-use Rattle.gb_elab.specs.Forms.{has_judgments}
-use Rattle.gb_elab.specs.Judgments.{whole, module_in, named_module, Path, procedure_path, Named, reference, procedure_at, named_procedure, about_procedure, both_procedures, before, after, result_of, equivalent}
-use Rattle.gb_elab.specs.Names.{is_variable}
+use Rattle.gb_names.specs.declared.setting.Language.{Language}
+use Rattle.gb_names.specs.declared.setting.Language.TheVariants.{Formula, Function, Program, Sampled, Operator}
+use Rattle.gb_names.specs.Environment.{Name, Environment, relational}
+use Rattle.gb_names.specs.Allowed.{has_judgments}
+use Rattle.gb_names.specs.Judgments.{whole, module_in, named_module, Path, procedure_path, Named, reference, procedure_at, named_procedure, about_procedure, both_procedures, before, after, result_of, equivalent}
+use Rattle.gb_names.specs.Names.{is_variable}
 use Rattle.gb_typing.specs.Modules.{ProcedureType}
 use Rattle.gb_typing.specs.Context.{Frame, Context, local_in, procedure, with_sides}
 use Rattle.gb_typing.specs.Typing.{IsThere}
 use Rattle.gb_typing.specs.Typing as typed
 use Rattle.gb_typing.proofs.Made.{made_node}
-use Rattle.gb_elab_laws.specs.Fitting.{AreIn, IsTypeOf, IsFitting, IsGiven}
+use Rattle.gb_elab_laws.specs.Fitting.{has_globs, AllFiniteWith, AreBound, AreIn, IsTypeOf, IsFitting, IsGiven}
 use Rattle.gb_elab_laws.proofs.Given.{given_bind, given_is, if_refused, some_given}
 use Rattle.gb_elab_laws.proofs.Typed.{Typed}
 
@@ -42,7 +43,7 @@ whole_is (q ∷ qs) k m p h = cc
 module_is : (o : Option Entry) (x : Name) (p : Place) (m : Module) → module_in o x p ≡ given m → (o ≡ Some (entry.Module m)) × (m.params ≡ [])
 module_is (Some (entry.Module k)) x p m h =
     let q = whole_is k.params k m p h in (ap (λ z. Some (entry.Module z)) q.1, subst (λ (z : Module). z.params ≡ []) q.1 q.0)
-module_is (Some (entry.Lemma s)) x p m h = cc
+module_is (Some _) x p m h = cc
 module_is None x p m h = cc
 
 without_params : (ps : List Param) (qs : List Proc) (n : Name) (f : Proc) → ps ≡ [] → proc_of qs n ≡ Some f → proc_if_plain ps qs n ≡ Some f
@@ -50,6 +51,14 @@ without_params ps qs n f k h = ap (λ z. proc_if_plain z qs n) k ∙ h
 
 in_module : (o : Option Entry) (m : Module) (n : Name) (f : Proc) → o ≡ Some (entry.Module m) → m.params ≡ [] → proc_of m.procs n ≡ Some f → proc_in (as_module o) n ≡ Some f
 in_module o m n f e k h = ap (λ z. proc_in (as_module z) n) e ∙ without_params m.params m.procs n f k h
+
+-- where judgments may stand, types of globals may
+judging : (l : Language) → has_judgments l ≡ true → has_globs l ≡ true
+judging Formula h = refl
+judging Function h = refl
+judging Program h = refl
+judging Sampled h = refl
+judging Operator h = cc
 
 -- a named procedure is declared
 abbrev pub IsDeclared : Environment → Named → Type 0
@@ -85,10 +94,10 @@ module _ (c : Context) (at : Environment) (vs : List TypedName) (fit : IsFitting
   condition : (F G : Frame) (ls rs : List TypedName) → AreIn F ls → AreIn G rs → IsFitting (with_sides c F G) (relational at.declared at.sequent ls rs) vs
   condition F G ls rs h k = record {
     logical = fit.logical;
-    values = fit.values;
-    bound = fit.bound;
-    bound_values = fit.bound_values;
-    variables = (h, k);
+    values = subst (λ b. AllFiniteWith b at.sequent.logical) (judging at.language judges) fit.values;
+    bound = subst (λ b. AreBound b c.bound vs) (judging at.language judges) fit.bound;
+    variables = (refl, h, k);
+    declared = fit.declared;
     procedures = λ e. fit.procedures judges;
   }
 
@@ -122,5 +131,7 @@ module _ (c : Context) (at : Environment) (vs : List TypedName) (fit : IsFitting
           made_node c (Equiv (procedure_subject f) (procedure_subject g)) (ty.Bool ∷ ty.Bool ∷ []) (p ∷ q ∷ []) ty.Bool (refl, (refl, (refl, tt)))
           (subst IsThere (sym left.there) tt, subst IsThere (sym right.there) tt) []
           (record { typed = x.typed; written = x.wanted }, record { typed = y.typed; written = y.wanted });
+      type = tt;
+      apart = λ k. absurd (false≢true (sym k ∙ judging at.language judges));
       plain = λ k. absurd (false≢true (sym k ∙ judges));
     }

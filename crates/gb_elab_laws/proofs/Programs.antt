@@ -1,20 +1,17 @@
 -- What the typing of procedures and modules gives is typed.
-use Rattle.std.proofs.Common.{◌≡◌, Bool, true, false, not, ◌||◌, if◌then◌else◌, List, [], ◌∷◌, ◌++◌, Option, Some, None, is_some, bytes_eq, refl, ap, sym, ◌∙◌, subst}
+use Rattle.std.proofs.Common.{◌≡◌, Bool, true, false, not, ◌||◌, if◌then◌else◌, List, [], ◌∷◌, ◌++◌, Some, None, is_some, bytes_eq, refl, ap, sym, ◌∙◌, subst}
 use Rattle.std.specs.List.{list_any}
 use Rattle.std.proofs.lemmas.List.{append-nil, append_assoc}
 use Rattle.gb_core.specs.declared.place.Place.{Place}
 use Rattle.gb_core.specs.declared.refusal.Why.TheVariants.{DoubleName, Syntax, TypeMismatch}
 use Rattle.gb_core.specs.declared.ty.Ty.{Ty}
 use Rattle.gb_core.specs.declared.ty.Ty.TheVariants as ty
-use Rattle.gb_core.specs.declared.var.Var.TheVariants.{Local}
 use Rattle.gb_same.specs.Types.{ty_eq}
 use Rattle.gb_same.proofs.Decided.{ty_eq-Decides}
 use Rattle.gb_terms.specs.declared.decl.Module.{Module}
 use Rattle.gb_terms.specs.declared.decl.Proc.{Proc}
 use Rattle.gb_terms.specs.declared.decl.TypedName.{TypedName}
 use Rattle.gb_terms.specs.declared.term.Term.{Term}
-use Rattle.gb_terms.specs.declared.term.Head.TheVariants.{Sample}
-use Rattle.gb_terms.specs.declared.term.Instr.{Instr}
 use Rattle.gb_goal.specs.Scope.{Declarations, entry_of}
 use Rattle.gb_script.specs.declared.head.Head.{Head}
 use Rattle.gb_script.specs.declared.head.Head.TheVariants as head
@@ -22,36 +19,33 @@ use Rattle.gb_script.specs.declared.tree.Node.{Node}
 use Rattle.gb_script.specs.Tree.{head_of, text_of, parts_of, place_of}
 use Rattle.gb_typed.specs.Finite.{IsVariableType}
 use Rattle.gb_meaning.specs.Names.{Name}
-use Rattle.gb_meaning.specs.Operators.{outcome_type}
-use Rattle.gb_meaning.specs.Written.{type_of, local_type}
 use Rattle.gb_goal.specs.Answers.{◌>>=◌, not_built}
 use Rattle.gb_goal.specs.Answers.Answer.{given, refused}
-use Rattle.gb_elab.specs.declared.setting.Language.TheVariants.{Program}
-use Rattle.gb_elab.specs.Environment.{Environment, program}
-use Rattle.gb_elab.specs.Forms.{elaborated}
-use Rattle.gb_elab.specs.Names.{unit, own_variable, first_named, no_variable}
-use Rattle.gb_elab.specs.Types as spelled_as
+use Rattle.gb_names.specs.declared.setting.Language.TheVariants.{Program}
+use Rattle.gb_names.specs.Environment.{Environment, program}
+use Rattle.gb_names.specs.Names.{unit}
+use Rattle.gb_names.specs.Types as spelled_as
 use Rattle.gb_elab_mod.specs.Lemmas.{free, nothing_around}
 use Rattle.gb_elab_mod.specs.Statements.{all_stated, with_statings}
 use Rattle.gb_elab_mod.specs.Procedures.{untaken, result_type, lacks_value, value, undeclared, formal, formals, declared, variables, locals, with_result, result_of, procedure_by, procedure}
 use Rattle.gb_elab_mod.specs.Modules.{procedures, all_short, without_globals, plain, module_by, module_given}
 use Rattle.gb_elab_mod.specs.Bound.{parameters}
 use Rattle.gb_elab_mod.specs.Unbuilt.{absent}
-use Rattle.gb_typed.specs.Programs.{variable_type}
 use Rattle.gb_typing.specs.Modules.{ProcedureType}
-use Rattle.gb_typing.specs.Context.{Context, erased, of_program}
-use Rattle.gb_typing.specs.Programs.{IsExpression, IsStatement, EachStatement, HaveVariableTypes, IsProcedure, type_of_procedure}
-use Rattle.gb_typing.specs.Scopes.{procedure_types, in_module, context_of, is_declared, AreProcedures, IsModule}
+use Rattle.gb_typing.specs.Context.{Context, of_program}
+use Rattle.gb_typing.specs.Programs.{HaveVariableTypes, IsProcedure, type_of_procedure}
+use Rattle.gb_typing.specs.Scopes.{procedure_types, in_module, context_of, is_declared, AreProcedures, IsModule, IsTypedScope}
 use Rattle.gb_holds.specs.Declared.{declared as declarations}
 use Rattle.gb_holds.specs.Modules.{Procedures, found as named}
-use Rattle.gb_elab_laws.specs.Fitting.{IsFitting, IsGiven}
-use Rattle.gb_elab_laws.proofs.Given.{given_bind, given_is, if_refused, not_given, some_given}
-use Rattle.gb_elab_laws.proofs.Types.{distributions_over, have_finite, spelled_typed}
+use Rattle.gb_elab_laws.specs.Fitting.{AreTypes, AreDeclared, IsGiven}
+use Rattle.gb_elab_laws.proofs.Given.{given_bind, given_is, if_refused, not_given}
+use Rattle.gb_elab_laws.proofs.Types.{spelled_typed}
 use Rattle.gb_typing.proofs.Globals.{name_test}
-use Rattle.gb_elab_laws.proofs.Found.{found}
 use Rattle.gb_elab_laws.proofs.Typed.{given_from}
 use Rattle.gb_elab_laws.proofs.Leaves.{unit_typed}
-use Rattle.gb_elab_laws.proofs.Fits.{program_fits}
+use Rattle.gb_elab_laws.proofs.Declared.{declared_in}
+use Rattle.gb_elab_laws.proofs.Shapes.{finite_form}
+use Rattle.gb_typing.proofs.Variables.{variable_finite}
 use Rattle.gb_elab_laws.proofs.Forms.{elaborated_typed}
 use Rattle.gb_elab_laws.proofs.Stated.{fits, expression, statements_typed}
 
@@ -59,32 +53,33 @@ have_both : (ls ms : List TypedName) → HaveVariableTypes ls → HaveVariableTy
 have_both [] ms h k = k
 have_both (l ∷ ls) ms h k = (h.0, have_both ls ms h.1 k)
 
-result_typed : (ts : List Node) (u : Ty) → result_type ts ≡ given u → IsVariableType u
-result_typed [] u h = subst IsVariableType (given_is ty.Unit u h) tt
-result_typed (t ∷ ts) u h = spelled_typed t u h
+module _ (ds : Declarations) (names : AreTypes ds) where
+  result_typed : (ts : List Node) (u : Ty) → result_type ds ts ≡ given u → IsVariableType u
+  result_typed [] u h = subst IsVariableType (given_is ty.Unit u h) tt
+  result_typed (t ∷ ts) u h = spelled_typed ds names t u h
 
--- the result of a procedure has a type of variables, and a value is returned where it is to be
-result_is : (x : Node) (ts vs : List Node) (u : Ty) → result_of x ts vs ≡ given u → IsVariableType u × (lacks_value vs u ≡ false)
-result_is x ts vs u h =
-    let t = given_bind (result_type ts) (λ t. if lacks_value vs t then refused TypeMismatch (place_of x) else given t) u h in
-    let k = if_refused (lacks_value vs t.0) TypeMismatch (place_of x) (given t.0) u t.2 in
-    subst (λ z. IsVariableType z × (lacks_value vs z ≡ false)) (given_is t.0 u k.1) (result_typed ts t.0 t.1, k.0)
+  -- the result of a procedure has a type of variables, and a value is returned where it is to be
+  result_is : (x : Node) (ts vs : List Node) (u : Ty) → result_of ds x ts vs ≡ given u → IsVariableType u × (lacks_value vs u ≡ false)
+  result_is x ts vs u h =
+      let t = given_bind (result_type ds ts) (λ t. if lacks_value vs t then refused TypeMismatch (place_of x) else given t) u h in
+      let k = if_refused (lacks_value vs t.0) TypeMismatch (place_of x) (given t.0) u t.2 in
+      subst (λ z. IsVariableType z × (lacks_value vs z ≡ false)) (given_is t.0 u k.1) (result_typed ts t.0 t.1, k.0)
 
-formal_typed : (vs : List TypedName) (k : Head) (xs : List Node) (p : Place) (ws : List TypedName) → HaveVariableTypes vs → formal vs k xs p ≡ given ws → HaveVariableTypes ws
-formal_typed vs head.Formal (x ∷ t ∷ []) p ws h e =
-    let o = given_bind (undeclared vs x) _ ws e in
-    let u = given_bind (spelled_as.type_of t) (λ u. given (vs ++ record { name = text_of x; ty = u } ∷ [])) ws o.2 in
-    subst HaveVariableTypes (given_is (vs ++ record { name = text_of x; ty = u.0 } ∷ []) ws u.2) (have_both vs (record { name = text_of x; ty = u.0 } ∷ []) h (spelled_typed t u.0 u.1, tt))
-formal_typed vs _ _ p ws h e = cc
+  formal_typed : (vs : List TypedName) (k : Head) (xs : List Node) (p : Place) (ws : List TypedName) → HaveVariableTypes vs → formal ds vs k xs p ≡ given ws → HaveVariableTypes ws
+  formal_typed vs head.Formal (x ∷ t ∷ []) p ws h e =
+      let o = given_bind (undeclared vs x) _ ws e in
+      let u = given_bind (spelled_as.type_of ds t) (λ u. given (vs ++ record { name = text_of x; ty = u } ∷ [])) ws o.2 in
+      subst HaveVariableTypes (given_is (vs ++ record { name = text_of x; ty = u.0 } ∷ []) ws u.2) (have_both vs (record { name = text_of x; ty = u.0 } ∷ []) h (spelled_typed ds names t u.0 u.1, tt))
+  formal_typed vs _ _ p ws h e = cc
 
--- the parameters of a procedure have types of variables
-formals_typed : (vs : List TypedName) (fs : List Node) (ws : List TypedName) → HaveVariableTypes vs → formals vs fs ≡ given ws → HaveVariableTypes ws
-formals_typed vs [] ws h e = subst HaveVariableTypes (given_is vs ws e) h
-formals_typed vs (f ∷ fs) ws h e =
-    let us = given_bind (formal vs (head_of f) (parts_of f) (place_of f)) (λ us. formals us fs) ws e in
-    formals_typed us.0 fs ws (formal_typed vs (head_of f) (parts_of f) (place_of f) us.0 h us.1) us.2
+  -- the parameters of a procedure have types of variables
+  formals_typed : (vs : List TypedName) (fs : List Node) (ws : List TypedName) → HaveVariableTypes vs → formals ds vs fs ≡ given ws → HaveVariableTypes ws
+  formals_typed vs [] ws h e = subst HaveVariableTypes (given_is vs ws e) h
+  formals_typed vs (f ∷ fs) ws h e =
+      let us = given_bind (formal ds vs (head_of f) (parts_of f) (place_of f)) (λ us. formals ds us fs) ws e in
+      formals_typed us.0 fs ws (formal_typed vs (head_of f) (parts_of f) (place_of f) us.0 h us.1) us.2
 
-module _ (ps : List TypedName) where
+module _ (ds : Declarations) (names : AreTypes ds) (ps : List TypedName) where
   declared_typed : (vs : List TypedName) (xs : List Node) (t : Ty) (ws : List TypedName) → HaveVariableTypes vs → IsVariableType t → declared ps vs xs t ≡ given ws → HaveVariableTypes ws
   declared_typed vs [] t ws h v e = subst HaveVariableTypes (given_is vs ws e) h
   declared_typed vs (x ∷ xs) t ws h v e =
@@ -93,19 +88,19 @@ module _ (ps : List TypedName) where
       declared_typed next xs t ws (have_both vs (record { name = text_of x; ty = t } ∷ []) h (v, tt)) v
       (given_bind (undeclared vs x) (λ _. declared ps next xs t) ws o.2).2
 
-  variables_typed : (vs : List TypedName) (k : Head) (xs : List Node) (p : Place) (ws : List TypedName) → HaveVariableTypes vs → variables ps vs k xs p ≡ given ws → HaveVariableTypes ws
+  variables_typed : (vs : List TypedName) (k : Head) (xs : List Node) (p : Place) (ws : List TypedName) → HaveVariableTypes vs → variables ds ps vs k xs p ≡ given ws → HaveVariableTypes ws
   variables_typed vs head.Variables (xs ∷ t ∷ []) p ws h e =
-      let u = given_bind (spelled_as.type_of t) (declared ps vs (parts_of xs)) ws e in declared_typed vs (parts_of xs) u.0 ws h (spelled_typed t u.0 u.1) u.2
+      let u = given_bind (spelled_as.type_of ds t) (declared ps vs (parts_of xs)) ws e in declared_typed vs (parts_of xs) u.0 ws h (spelled_typed ds names t u.0 u.1) u.2
   variables_typed vs _ _ p ws h e = cc
 
   -- the locals of a procedure have types of variables
-  locals_typed : (vs : List TypedName) (bs : List Node) (ws : List TypedName) → HaveVariableTypes vs → locals ps vs bs ≡ given ws → HaveVariableTypes ws
+  locals_typed : (vs : List TypedName) (bs : List Node) (ws : List TypedName) → HaveVariableTypes vs → locals ds ps vs bs ≡ given ws → HaveVariableTypes ws
   locals_typed vs [] ws h e = subst HaveVariableTypes (given_is vs ws e) h
   locals_typed vs (b ∷ bs) ws h e =
-      let us = given_bind (variables ps vs (head_of b) (parts_of b) (place_of b)) (λ us. locals ps us bs) ws e in
+      let us = given_bind (variables ds ps vs (head_of b) (parts_of b) (place_of b)) (λ us. locals ds ps us bs) ws e in
       locals_typed us.0 bs ws (variables_typed vs (head_of b) (parts_of b) (place_of b) us.0 h us.1) us.2
 
-module _ (ds : Declarations) (c : Context) where
+module _ (ds : Declarations) (c : Context) (names : AreDeclared c.operator ds) where
   module _ (vs : List TypedName) (typed : HaveVariableTypes vs) where
     abbrev at : Environment
     at = program ds nothing_around vs
@@ -113,11 +108,11 @@ module _ (ds : Declarations) (c : Context) where
     abbrev around : Context
     around = of_program c vs
 
-    value_typed : (ts : List Node) (r : Ty) (u : Term) → lacks_value ts r ≡ false → value at ts r ≡ given u → IsGiven around Program (Some r) u
-    value_typed (t ∷ ts) r u l h = elaborated_typed t around at [] (fits ds c vs typed) (Some r) u h
-    value_typed [] r u l h =
+    value_typed : (ts : List Node) (r : Ty) (u : Term) → IsVariableType r → lacks_value ts r ≡ false → value at ts r ≡ given u → IsGiven around Program (Some r) u
+    value_typed (t ∷ ts) r u k l h = elaborated_typed t around at [] (fits ds c names vs typed) (Some r) (finite_form true r (variable_finite r k)) u h
+    value_typed [] r u k l h =
         let e : r ≡ ty.Unit = is_unit (ty_eq r ty.Unit) refl l in
-        subst (IsGiven around Program (Some r)) (given_is unit u h) (given_from around Program (Some r) ty.Unit unit (unit_typed around at [] (fits ds c vs typed)) (sym e))
+        subst (IsGiven around Program (Some r)) (given_is unit u h) (given_from around Program (Some r) ty.Unit unit (unit_typed around at [] (fits ds c names vs typed)) (sym e))
       where
         is_unit : (b : Bool) → ty_eq r ty.Unit ≡ b → not b ≡ false → r ≡ ty.Unit
         is_unit true e k = (ty_eq-Decides r ty.Unit).0 e
@@ -131,16 +126,16 @@ module _ (ds : Declarations) (c : Context) where
       with_result ds nothing_around x ps ls ss v r ≡ given p → IsOf (text_of x) p
   unfolding with_result
   with_result_typed x ps ls ss v r p m k l h =
-      let vs = given_bind (locals ps [] ls) _ p h in
+      let vs = given_bind (locals ds ps [] ls) _ p h in
       let is = given_bind (all_stated (with_statings ss) (program ds nothing_around (ps ++ vs.0))) _ p vs.2 in
       let u = given_bind (value (program ds nothing_around (ps ++ vs.0)) v r) _ p is.2 in
-      let typed = have_both ps vs.0 m (locals_typed ps [] ls vs.0 tt vs.1) in
-      let g = value_typed (ps ++ vs.0) typed v r u.0 l u.1 in
+      let typed = have_both ps vs.0 m (locals_typed ds names.types ps [] ls vs.0 tt vs.1) in
+      let g = value_typed (ps ++ vs.0) typed v r u.0 k l u.1 in
       subst (IsOf (text_of x)) (given_is _ p u.2) (
         refl,
         record {
-          body = record { locals = typed; statements = statements_typed ds c (ps ++ vs.0) typed ss is.0 is.1 };
-          value = expression ds c (ps ++ vs.0) typed (Some r) u.0 g;
+          body = record { locals = typed; statements = statements_typed ds c names (ps ++ vs.0) typed ss is.0 is.1 };
+          value = expression ds c names (ps ++ vs.0) typed (Some r) u.0 g;
           returned = g.wanted;
           result = k;
         },
@@ -163,10 +158,10 @@ module _ (ds : Declarations) (c : Context) where
   of_procedure_parts : (ps : List Proc) (k : Head) (xs : List Node) (q : Place) (p : Proc) → procedure_by ds nothing_around ps k xs q ≡ given p → IsBeside ps p
   of_procedure_parts ps head.Procedure (x ∷ fs ∷ r ∷ ls ∷ ss ∷ v ∷ []) q p h =
       let n = given_bind (untaken ps x) _ p h in
-      let f = given_bind (formals [] (parts_of fs)) _ p n.2 in
-      let t = given_bind (result_of x (parts_of r) (parts_of v)) (with_result ds nothing_around x f.0 (parts_of ls) (parts_of ss) (parts_of v)) p f.2 in
-      let k = result_is x (parts_of r) (parts_of v) t.0 t.1 in
-      let w = with_result_typed x f.0 (parts_of ls) (parts_of ss) (parts_of v) t.0 p (formals_typed [] (parts_of fs) f.0 tt f.1) k.0 k.1 t.2 in
+      let f = given_bind (formals ds [] (parts_of fs)) _ p n.2 in
+      let t = given_bind (result_of ds x (parts_of r) (parts_of v)) (with_result ds nothing_around x f.0 (parts_of ls) (parts_of ss) (parts_of v)) p f.2 in
+      let k = result_is ds names.types x (parts_of r) (parts_of v) t.0 t.1 in
+      let w = with_result_typed x f.0 (parts_of ls) (parts_of ss) (parts_of v) t.0 p (formals_typed ds names.types [] (parts_of fs) f.0 tt f.1) k.0 k.1 t.2 in
       let u = if_refused (list_any (λ (p : Proc). bytes_eq p.name (text_of x)) ps) (DoubleName (text_of x)) (place_of x) (given tt) n.0 n.1 in
       (ap (named (procedure_types ps)) w.0 ∙ free_name ps (text_of x) u.0, w.1)
   of_procedure_parts ps _ _ q p h = cc
@@ -183,14 +178,14 @@ procedures_both c m earlier (p ∷ ps) qs h k =
     let next = subst (λ z. AreProcedures c m z qs) (sym (append_assoc earlier ((p.name, type_of_procedure p) ∷ []) (procedure_types ps))) k in
     (h.0, h.1, procedures_both c m (earlier ++ (p.name, type_of_procedure p) ∷ []) ps qs h.2 next)
 
-procedures_typed : (ds : Declarations) (c : Context) (m : Module) (ps : List Proc) (ts : List Node) (qs : List Proc) → AreProcedures c m [] ps →
+procedures_typed : (ds : Declarations) (c : Context) → AreDeclared c.operator ds → (m : Module) (ps : List Proc) (ts : List Node) (qs : List Proc) → AreProcedures c m [] ps →
     procedures ds nothing_around ps ts ≡ given qs → AreProcedures c m [] qs
 unfolding procedures
-procedures_typed ds c m ps [] qs k h = subst (AreProcedures c m []) (given_is ps qs h) k
-procedures_typed ds c m ps (t ∷ ts) qs k h =
+procedures_typed ds c names m ps [] qs k h = subst (AreProcedures c m []) (given_is ps qs h) k
+procedures_typed ds c names m ps (t ∷ ts) qs k h =
     let p = given_bind (procedure ds nothing_around ps t) (λ p. procedures ds nothing_around (ps ++ p ∷ []) ts) qs h in
-    let b = procedure_typed ds (in_module c m (procedure_types ps)) ps t p.0 p.1 in
-    procedures_typed ds c m (ps ++ p.0 ∷ []) ts qs (procedures_both c m [] ps (p.0 ∷ []) k (b.0, b.1, tt)) p.2
+    let b = procedure_typed ds (in_module c m (procedure_types ps)) names ps t p.0 p.1 in
+    procedures_typed ds c names m (ps ++ p.0 ∷ []) ts qs (procedures_both c m [] ps (p.0 ∷ []) k (b.0, b.1, tt)) p.2
 
 -- a name that a script hasn't declared is free
 undeclared_is : (ds : Declarations) (n : Name) → is_some (entry_of ds n) ≡ false → is_declared (declarations ds) n ≡ false
@@ -207,7 +202,7 @@ free_is ds x y h = undeclared_is ds (text_of x) (if_refused (is_some (entry_of d
 
 -- a module under a free name
 abbrev IsNew : Declarations → Module → Type 0
-IsNew ds m = IsModule (context_of (declarations ds)) m.name m × (is_declared (declarations ds) m.name ≡ false)
+IsNew ds m = (IsTypedScope (declarations ds) → IsModule (context_of (declarations ds)) m.name m) × (is_declared (declarations ds) m.name ≡ false)
 
 plain_typed : (ds : Declarations) (x : Node) (qs ys ts : List Node) (m : Module) → plain ds x qs ys ts ≡ given m → IsNew ds m
 unfolding plain
@@ -220,15 +215,15 @@ plain_typed ds x qs ys ts m h =
     let s = given_bind (all_short ts) _ m ps.2 in
     let new : Module = record { name = text_of x; params = []; globals = []; procs = ps.0 } in
     subst (IsNew ds) {x = new} (given_is new m s.2)
-    (record { name = refl; params = tt; globals = tt; names = tt; procs = procedures_typed ds (context_of (declarations ds)) new [] ts ps.0 tt ps.1 }, free_is ds x f.0 f.1)
+    (λ w. record { name = refl; params = tt; globals = tt; names = tt; procs = procedures_typed ds (context_of (declarations ds)) (declared_in ds w) new [] ts ps.0 tt ps.1 }, free_is ds x f.0 f.1)
 
 of_module_parts : (ds : Declarations) (k : Head) (xs : List Node) (p : Place) (m : Module) → module_by ds k xs p ≡ given m → IsNew ds m
 of_module_parts ds head.Module (x ∷ qs ∷ ys ∷ ts ∷ []) p m h = plain_typed ds x (parts_of qs) (parts_of ys) (parts_of ts) m h
 of_module_parts ds head.AscribedModule (x ∷ xs) p m h = let f = given_bind (free ds x) (λ _. not_built (place_of x)) m h in absurd (not_given Syntax (place_of x) m f.2)
 of_module_parts ds _ _ p m h = cc
 
-pub module_typed : (ds : Declarations) (t : Node) (m : Module) → module_given ds t ≡ given m → IsModule (context_of (declarations ds)) m.name m
-module_typed ds t m h = (of_module_parts ds (head_of t) (parts_of t) (place_of t) m h).0
+pub module_typed : (ds : Declarations) → IsTypedScope (declarations ds) → (t : Node) (m : Module) → module_given ds t ≡ given m → IsModule (context_of (declarations ds)) m.name m
+module_typed ds w t m h = (of_module_parts ds (head_of t) (parts_of t) (place_of t) m h).0 w
 
 pub module_free : (ds : Declarations) (t : Node) (m : Module) → module_given ds t ≡ given m → is_declared (declarations ds) m.name ≡ false
 module_free ds t m h = (of_module_parts ds (head_of t) (parts_of t) (place_of t) m h).1

@@ -1,10 +1,9 @@
 -- The functions of `rnd` are typed over the locals of the bodies.
 use Rattle.std.proofs.lemmas.Bool.{false≢true}
-use Rattle.std.proofs.Common.{◌≡◌, Bool, true, false, if◌then◌else◌, ℕ, List, [], ◌∷◌, Option, Some, None, option_map, refl, ap, sym, ◌∙◌, subst}
-use Rattle.std.specs.Prelude.{codes, bytes_eq}
+use Rattle.std.proofs.Common.{◌≡◌, Bool, true, false, ℕ, List, [], ◌∷◌, Option, Some, None, option_map, refl, ap, sym, ◌∙◌, subst}
 use Rattle.std.specs.Option.{option_map_or, option_zip}
 use Rattle.gb_core.specs.declared.place.Place.{Place}
-use Rattle.gb_core.specs.declared.refusal.Why.TheVariants.{Syntax, TypeMismatch}
+use Rattle.gb_core.specs.declared.refusal.Why.TheVariants.{TypeMismatch}
 use Rattle.gb_core.specs.declared.ty.Ty.{Ty}
 use Rattle.gb_same.specs.Types.{ty_eq}
 use Rattle.gb_same.proofs.Decided.{ty_eq-Decides}
@@ -37,12 +36,12 @@ use Rattle.gb_typed.specs.Finite.{IsFinite}
 use Rattle.gb_typed.specs.Typing.Binder.{value}
 use Rattle.gb_typing.specs.Context.{Context, within}
 use Rattle.gb_typing.specs.Sequents.{two, of_sequent, IsTypedSequent}
-use Rattle.gb_typing.specs.Scopes.{context_of}
+use Rattle.gb_typing.specs.Scopes.{context_of, IsTypedScope}
 use Rattle.gb_rules.specs.Typing.{IsGoalOver}
-use Rattle.gb_goal.specs.Answers.{Answer, ◌>>=◌, not_built}
+use Rattle.gb_goal.specs.Answers.{Answer, ◌>>=◌}
 use Rattle.gb_goal.specs.Answers.Answer.{given}
-use Rattle.gb_elab.specs.declared.setting.Language.TheVariants.{Function}
-use Rattle.gb_elab.specs.Environment.{Environment, of_function}
+use Rattle.gb_names.specs.declared.setting.Language.TheVariants.{Function}
+use Rattle.gb_names.specs.Environment.{Environment, of_function}
 use Rattle.gb_elab.specs.Forms.{function}
 use Rattle.gb_elab_mod.specs.Occurring.{occurring}
 use Rattle.gb_elab_mod.specs.Steps.{acts, cut_of, last_sampled, functions, of_bodies_rule, on_all, one_type, plain_rule, conclusion_rule, new_name, formed, of_conclusion, seq_rule, there_and_back, of_bodies, couplings, functions_of, typed_rule, step_given}
@@ -55,7 +54,8 @@ use Rattle.gb_equiv.specs.Rnd.{IsFunction, AreFunctions, AreBetween, AreTypedFun
 use Rattle.gb_elab_laws.proofs.Given.{given_bind, given_is, if_given}
 use Rattle.gb_elab_laws.proofs.Ends.{ends_agree, last_finite, occurring_in}
 use Rattle.gb_elab_laws.proofs.Fits.{function_fits}
-use Rattle.gb_elab_laws.proofs.Functions.{function_typed}
+use Rattle.gb_elab_laws.proofs.Shapes.{finite_form}
+use Rattle.gb_elab_laws.proofs.Forms.{function_typed}
 use Rattle.gb_elab_laws.proofs.Occurring.{reads_stand}
 
 -- Functions of a coupling, in a context that fits.
@@ -63,9 +63,9 @@ module _ (c : Context) (ds : scope.Declarations) (q : Sequent) (xs ys : List Typ
   abbrev at : Environment
   at = of_function ds q xs ys
 
-  one_typed : (f : Node) (a b : Ty) → IsFinite a → (t : Term) → function f at a b ≡ given t → IsFunction c a b t
-  one_typed f a b v t h =
-      let g : IsGiven (within c (value a) None) Function (Some b) t = function_typed f c at fit a b v t h in
+  one_typed : (f : Node) (a b : Ty) → IsFinite a → IsFinite b → (t : Term) → function f at a b ≡ given t → IsFunction c a b t
+  one_typed f a b v w t h =
+      let g : IsGiven (within c (value a) None) Function (Some b) t = function_typed f c at fit a b v (finite_form true b w) t h in
       record { typed = g.typed; plain = g.plain refl; result = g.wanted }
 
   -- functions there and back; one alone is given only where both types are one
@@ -76,14 +76,14 @@ module _ (c : Context) (ds : scope.Declarations) (q : Sequent) (xs ys : List Typ
   functions_typed (f ∷ []) a b v w x ts o h =
       let e : a ≡ b = (ty_eq-Decides a b).0 (if_given (ty_eq a b) tt TypeMismatch (place_of f) x o).0 in
       let t = given_bind (function f at a b) _ ts h in
-      subst (AreFunctions c a b) (given_is (t.0 ∷ []) ts t.2) (e, one_typed f a b v t.0 t.1)
+      subst (AreFunctions c a b) (given_is (t.0 ∷ []) ts t.2) (e, one_typed f a b v w t.0 t.1)
   functions_typed (f ∷ g ∷ fs) a b v w x ts o h =
       let t = given_bind (function f at a b) _ ts h in
       let us = given_bind (functions at (g ∷ fs) b a) (λ (us : List Term). given (t.0 ∷ us)) ts t.2 in
       let u = given_bind (function g at b a) _ us.0 us.1 in
       let rs = given_bind (functions at fs b a) (λ (rs : List Term). given (u.0 ∷ rs)) us.0 u.2 in
       subst (AreFunctions c a b) {x = t.0 ∷ us.0} (given_is (t.0 ∷ us.0) ts us.2)
-      (subst (λ z. AreFunctions c a b (t.0 ∷ z)) {x = u.0 ∷ rs.0} (given_is (u.0 ∷ rs.0) us.0 rs.2) (pair rs.0 (one_typed f a b v t.0 t.1) (one_typed g b a w u.0 u.1)))
+      (subst (λ z. AreFunctions c a b (t.0 ∷ z)) {x = u.0 ∷ rs.0} (given_is (u.0 ∷ rs.0) us.0 rs.2) (pair rs.0 (one_typed f a b v w t.0 t.1) (one_typed g b a w v u.0 u.1)))
     where
       pair : {t u : Term} (rs : List Term) → IsFunction c a b t → IsFunction c b a u → AreFunctions c a b (t ∷ u ∷ rs)
       pair [] k l = (k, l)
@@ -97,7 +97,7 @@ abbrev is_relational : Rule → Bool
 is_relational (rule.Relational r) = true
 is_relational _ = false
 
-module _ (ds : scope.Declarations) (q : Sequent) (t : IsTypedSequent (context_of (declared ds)) q) where
+module _ (ds : scope.Declarations) (scoped : IsTypedScope (declared ds)) (q : Sequent) (t : IsTypedSequent (context_of (declared ds)) q) where
   abbrev here : Context
   here = of_sequent (context_of (declared ds)) q t.frames
 
@@ -117,7 +117,7 @@ module _ (ds : scope.Declarations) (q : Sequent) (t : IsTypedSequent (context_of
 
       fits : IsFitting (two here ls rs) (of_function ds q (occurring conditions side.Left l.list) (occurring conditions side.Right r.list)) []
       fits =
-          function_fits ds q t ls rs _ _
+          function_fits ds scoped q t ls rs _ _
           (occurring_in ls here side.Left p k l.list (reads_stand (two here ls rs) p w.3.typed side.Left tt) (reads_stand (two here ls rs) k w.4.typed side.Left tt) w.1)
           (occurring_in rs here side.Right p k r.list (reads_stand (two here ls rs) p w.3.typed side.Right tt) (reads_stand (two here ls rs) k w.4.typed side.Right tt) w.2)
 
@@ -205,25 +205,25 @@ module _ (ds : scope.Declarations) (q : Sequent) (t : IsTypedSequent (context_of
       of_rule _ x _ p k us h r = cc
 
 -- The functions of a typed step `rnd` are typed over the locals of the bodies.
-pub step_typed : (ds : scope.Declarations) (q : Sequent) (t : IsTypedSequent (context_of (declared ds)) q) → (n : Node) (s : Step) → step_given ds q n ≡ given s →
+pub step_typed : (ds : scope.Declarations) → IsTypedScope (declared ds) → (q : Sequent) (t : IsTypedSequent (context_of (declared ds)) q) → (n : Node) (s : Step) → step_given ds q n ≡ given s →
     (fs : List Term) → s.rule ≡ rule.Relational (relational_rule.Rnd fs) → (ls rs : List TypedName) →
     IsGoalOver (of_sequent (context_of (declared ds)) q t.frames) ls rs (goal_of q.conclusion) →
     AreTypedFunctions (of_sequent (context_of (declared ds)) q t.frames) fs ls rs (goal_of q.conclusion)
 unfolding step_given
-step_typed ds q t n s h fs r ls rs w =
+step_typed ds scoped q t n s h fs r ls rs w =
     let x = given_bind (typed_rule ds q (head_of n) (text_of n) (parts_of n) (place_of n)) (λ (k : Rule). given (record { rule = k; place = place_of n })) s h in
-    of_rule ds q t ls rs w (head_of n) (text_of n) (parts_of n) (place_of n) x.0 fs x.1 (ap (λ (z : Step). z.rule) (given_is (record { rule = x.0; place = place_of n }) s x.2) ∙ r)
+    of_rule ds scoped q t ls rs w (head_of n) (text_of n) (parts_of n) (place_of n) x.0 fs x.1 (ap (λ (z : Step). z.rule) (given_is (record { rule = x.0; place = place_of n }) s x.2) ∙ r)
 
 -- The arguments of a typed step are typed.
-module _ (ds : scope.Declarations) (q : Sequent) (t : IsTypedSequent (context_of (declared ds)) q) (n : Node) (s : Step) (h : step_given ds q n ≡ given s) where
+module _ (ds : scope.Declarations) (scoped : IsTypedScope (declared ds)) (q : Sequent) (t : IsTypedSequent (context_of (declared ds)) q) (n : Node) (s : Step) (h : step_given ds q n ≡ given s) where
   module _ (ls rs : List TypedName) (w : IsGoalOver (of_sequent (context_of (declared ds)) q t.frames) ls rs (goal_of q.conclusion)) where
     of_step : (r : Rule) → s.rule ≡ r → IsTypedRule (of_sequent (context_of (declared ds)) q t.frames) r ls rs (goal_of q.conclusion)
-    of_step (rule.Relational (relational_rule.Rnd fs)) e = step_typed ds q t n s h fs e ls rs w
+    of_step (rule.Relational (relational_rule.Rnd fs)) e = step_typed ds scoped q t n s h fs e ls rs w
     of_step (rule.OnBodies r) e = tt
     of_step rule.Smt e = tt
     of_step (rule.Ambient r) e = tt
 
-pub rule_typed : (ds : scope.Declarations) (q : Sequent) (t : IsTypedSequent (context_of (declared ds)) q) → (n : Node) (s : Step) → step_given ds q n ≡ given s →
+pub rule_typed : (ds : scope.Declarations) → IsTypedScope (declared ds) → (q : Sequent) (t : IsTypedSequent (context_of (declared ds)) q) → (n : Node) (s : Step) → step_given ds q n ≡ given s →
     (ls rs : List TypedName) → IsGoalOver (of_sequent (context_of (declared ds)) q t.frames) ls rs (goal_of q.conclusion) →
     IsTypedRule (of_sequent (context_of (declared ds)) q t.frames) s.rule ls rs (goal_of q.conclusion)
-rule_typed ds q t n s h ls rs w = of_step ds q t n s h ls rs w s.rule refl
+rule_typed ds scoped q t n s h ls rs w = of_step ds scoped q t n s h ls rs w s.rule refl

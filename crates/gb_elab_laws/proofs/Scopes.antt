@@ -16,7 +16,7 @@ use Rattle.gb_goal.specs.Answers.Answer.{given}
 use Rattle.gb_elab_mod.specs.Modules.{module_given}
 use Rattle.gb_elab_laws.proofs.Programs.{module_typed, module_free}
 
-typed_after : (c : Context) (before ds es : Declarations) → AreTypedAfter c before ds → AreTypedAfter (with_each c ds) (before ++ ds) es → AreTypedAfter c before (ds ++ es)
+pub typed_after : (c : Context) (before ds es : Declarations) → AreTypedAfter c before ds → AreTypedAfter (with_each c ds) (before ++ ds) es → AreTypedAfter c before (ds ++ es)
 typed_after c before [] es h k = subst (λ z. AreTypedAfter c z es) (append-nil before) k
 typed_after c before (d ∷ ds) es h k =
     let next = subst (λ z. AreTypedAfter (with_each (with_declared c d.0 d.1) ds) z es) (sym (append_assoc before (d ∷ []) ds)) k in
@@ -32,4 +32,4 @@ lemma_added ds s n f q t = subst IsTypedScope (sym (declared-append ds ((n, entr
 
 pub module_added : (ds : scope.Declarations) → IsTypedScope (declared ds) → (t : Node) (m : Module) → module_given ds t ≡ given m →
     IsTypedScope (declared (ds ++ (m.name, entry.Module m) ∷ []))
-module_added ds s t m h = with_module ds m.name m s (module_free ds t m h) (module_typed ds t m h)
+module_added ds s t m h = with_module ds m.name m s (module_free ds t m h) (module_typed ds s t m h)

@@ -1,8 +1,7 @@
 -- What the typing of statements gives is typed.
-use Rattle.std.proofs.Common.{◌≡◌, ℕ, List, [], ◌∷◌, ◌++◌, map, Some, refl, ap, sym, ◌∙◌, subst}
+use Rattle.std.proofs.Common.{◌≡◌, ℕ, true, List, [], ◌∷◌, ◌++◌, map, Some, refl, ap, sym, ◌∙◌, subst}
 use Rattle.gb_core.specs.declared.place.Place.{Place}
 use Rattle.gb_core.specs.declared.ty.Ty.TheVariants as ty
-use Rattle.gb_core.specs.declared.ty.Ty.{Ty}
 use Rattle.gb_core.specs.declared.var.Var.TheVariants.{Local}
 use Rattle.gb_terms.specs.declared.decl.TypedName.{TypedName}
 use Rattle.gb_terms.specs.declared.term.Term.{Term}
@@ -17,11 +16,11 @@ use Rattle.gb_meaning.specs.Operators.{outcome_type}
 use Rattle.gb_meaning.specs.Written.{type_of, local_type}
 use Rattle.gb_goal.specs.Answers.{◌>>=◌}
 use Rattle.gb_goal.specs.Answers.Answer.{given}
-use Rattle.gb_elab.specs.declared.setting.Language.TheVariants.{Program}
-use Rattle.gb_elab.specs.Environment.{Environment, program}
+use Rattle.gb_names.specs.declared.setting.Language.TheVariants.{Program}
+use Rattle.gb_names.specs.Environment.{Environment, program}
 use Rattle.gb_elab.specs.Forms.{elaborated}
-use Rattle.gb_elab.specs.Names.{own_variable, first_named, no_variable}
-use Rattle.gb_elab.proofs.Nodes.{by_parts}
+use Rattle.gb_names.specs.Names.{own_variable, first_named, no_variable}
+use Rattle.gb_names.proofs.Nodes.{by_parts}
 use Rattle.gb_elab_mod.specs.Lemmas.{nothing_around}
 use Rattle.gb_elab_mod.specs.Statements.{Stating, all_stated, alone, assignment, branch, instruction, sampling, stated, stating, with_statings}
 use Rattle.gb_typed.specs.Finite.{IsFinite}
@@ -29,14 +28,15 @@ use Rattle.gb_typed.specs.Programs.{variable_type}
 use Rattle.gb_typing.specs.Context.{Context, erased, of_program}
 use Rattle.gb_typing.specs.Programs.{IsExpression, IsStatement, EachStatement, HaveVariableTypes}
 use Rattle.gb_rules.proofs.Lists.{hidden_each, typed_append}
-use Rattle.gb_elab_laws.specs.Fitting.{IsFitting, IsGiven}
+use Rattle.gb_elab_laws.specs.Fitting.{AreDeclared, IsFitting, IsGiven}
 use Rattle.gb_elab_laws.proofs.Given.{given_bind, given_is, some_given}
 use Rattle.gb_elab_laws.proofs.Types.{distributions_over, have_finite}
 use Rattle.gb_elab_laws.proofs.Found.{found}
 use Rattle.gb_elab_laws.proofs.Fits.{program_fits}
+use Rattle.gb_elab_laws.proofs.Shapes.{finite_form, drawn_form}
 use Rattle.gb_elab_laws.proofs.Forms.{elaborated_typed}
 
-module _ (ds : Declarations) (c : Context) (vs : List TypedName) (typed : HaveVariableTypes vs) where
+module _ (ds : Declarations) (c : Context) (names : AreDeclared c.operator ds) (vs : List TypedName) (typed : HaveVariableTypes vs) where
   abbrev here : Environment
   here = program ds nothing_around vs
 
@@ -44,7 +44,7 @@ module _ (ds : Declarations) (c : Context) (vs : List TypedName) (typed : HaveVa
   inner = of_program c vs
 
   pub fits : IsFitting inner here []
-  fits = program_fits c ds vs (have_finite vs typed)
+  fits = program_fits c ds vs names (have_finite vs typed)
 
   -- what is typed in a program is an expression
   pub expression : (w : _) (e : Term) → IsGiven inner Program w e → IsExpression c vs e
@@ -56,7 +56,7 @@ module _ (ds : Declarations) (c : Context) (vs : List TypedName) (typed : HaveVa
       let v = given_bind (own_variable here x) _ i h in
       let from = given_bind (elaborated d here [] (Some (ty.Distr v.0.ty))) (λ (e : Term). given (Sample (Local v.0.name) e)) i v.2 in
       let f = found vs (text_of x) v.0 (some_given (first_named vs (text_of x)) (no_variable here (text_of x)) (place_of x) v.0 v.1) in
-      let g = elaborated_typed d inner here [] fits (Some (ty.Distr v.0.ty)) from.0 from.1 in
+      let g = elaborated_typed d inner here [] fits (Some (ty.Distr v.0.ty)) (drawn_form true v.0.ty (f.finite (have_finite vs typed))) from.0 from.1 in
       let k = distributions_over v.0.ty (type_of from.0) (f.finite (have_finite vs typed)) g.wanted in
       let target : variable_type (erased c) vs (Local v.0.name) ≡ Some (outcome_type (type_of from.0)) = ap (local_type vs) f.name ∙ f.frame ∙ ap Some (sym k.1) in
       subst (IsStatement c vs) {x = Sample (Local v.0.name) from.0} (given_is (Sample (Local v.0.name) from.0) i from.2) (expression (Some (ty.Distr v.0.ty)) from.0 g, k.0, target)
@@ -67,7 +67,7 @@ module _ (ds : Declarations) (c : Context) (vs : List TypedName) (typed : HaveVa
       let v = given_bind (own_variable here x) _ i h in
       let u = given_bind (elaborated e here [] (Some v.0.ty)) (λ (u : Term). given (Assign (Local v.0.name ∷ []) u)) i v.2 in
       let f = found vs (text_of x) v.0 (some_given (first_named vs (text_of x)) (no_variable here (text_of x)) (place_of x) v.0 v.1) in
-      let g = elaborated_typed e inner here [] fits (Some v.0.ty) u.0 u.1 in
+      let g = elaborated_typed e inner here [] fits (Some v.0.ty) (finite_form true v.0.ty (f.finite (have_finite vs typed))) u.0 u.1 in
       let target : variable_type (erased c) vs (Local v.0.name) ≡ Some (type_of u.0) = ap (local_type vs) f.name ∙ f.frame ∙ ap Some (sym g.wanted) in
       let finite : IsFinite (type_of u.0) = subst IsFinite (sym g.wanted) (f.finite (have_finite vs typed)) in
       subst (IsStatement c vs) {x = Assign (Local v.0.name ∷ []) u.0} (given_is (Assign (Local v.0.name ∷ []) u.0) i u.2)
@@ -100,7 +100,7 @@ module _ (ds : Declarations) (c : Context) (vs : List TypedName) (typed : HaveVa
       let t = given_bind (elaborated e here [] (Some ty.Bool)) _ is h in
       let y = given_bind (a here) _ is t.2 in
       let n = given_bind (b here) (λ js. given (If t.0 (record { list = y.0 }) (record { list = js }) ∷ [])) is y.2 in
-      let k = elaborated_typed e inner here [] fits (Some ty.Bool) t.0 t.1 in
+      let k = elaborated_typed e inner here [] fits (Some ty.Bool) tt t.0 t.1 in
       subst (EachStatement c vs) (given_is (If t.0 (record { list = y.0 }) (record { list = n.0 }) ∷ []) is n.2)
       (((expression (Some ty.Bool) t.0 k, k.wanted), hidden_each c vs y.0 (f y.0 y.1), hidden_each c vs n.0 (g n.0 n.1)), tt)
 

@@ -6,32 +6,46 @@ use Rattle.gb_core.specs.declared.ty.Ty.TheVariants.{Bool as bool_ty}
 use Rattle.gb_terms.specs.declared.op.Op.{Op}
 use Rattle.gb_terms.specs.declared.term.Term.{Term}
 use Rattle.gb_terms.specs.declared.term.Head.{Head}
-use Rattle.gb_terms.specs.declared.term.Head.TheVariants.{Builtin}
+use Rattle.gb_terms.specs.declared.term.Head.TheVariants.{Builtin, User}
 use Rattle.gb_terms.specs.Make.{node, applied}
+use Rattle.gb_meaning.specs.Names.{Name}
 use Rattle.gb_meaning.specs.Trees.{row}
 use Rattle.gb_meaning.specs.Written.{type_of}
 use Rattle.gb_laws.proofs.Nodes.{term_is_node}
 use Rattle.gb_changes.specs.Plain.{HeadIsPlain, IsPlain, AllPlain}
+use Rattle.gb_holds.specs.Globs.{EachGlob}
+use Rattle.gb_holds.specs.Naming.{AnyName}
+use Rattle.gb_later.specs.Naming.{NoName, HeadNames, TermNames, TermsName}
 use Rattle.gb_typed.specs.Operators.{IsOperator}
 use Rattle.gb_typed.specs.Typing.{IsHead}
 use Rattle.gb_typing.specs.Context.{Context, erased}
 use Rattle.gb_typing.specs.Typing.{IsNamed}
 use Rattle.gb_typing.specs.Changes.{Made}
-use Rattle.gb_typing.proofs.Made.{made_node}
-use Rattle.gb_elab.specs.Wanted.{truth, wanted}
+use Rattle.gb_typing.proofs.Made.{EachMade, made_node}
+use Rattle.gb_names.specs.Wanted.{truth, wanted}
 use Rattle.gb_goal.specs.Answers.Answer.{given}
-use Rattle.gb_elab.specs.declared.setting.Language.{Language}
-use Rattle.gb_elab.specs.Forms.{has_judgments}
-use Rattle.gb_elab_laws.specs.Fitting.{IsWanted, IsGiven}
+use Rattle.gb_names.specs.declared.setting.Language.{Language}
+use Rattle.gb_names.specs.Allowed.{has_judgments}
+use Rattle.gb_elab_laws.specs.Fitting.{has_globs, IsFormType, IsWanted, IsGiven}
 use Rattle.gb_elab_laws.proofs.Given.{wanted_is, truth_is}
+use Rattle.gb_elab_laws.proofs.Shapes.{globless}
 
 pub plain_node : (h : Head) (ts : List Term) (ty : Ty) → HeadIsPlain h → AllPlain (row ts) → IsPlain (node h ts ty)
 plain_node h ts ty k p = subst IsPlain (term_is_node h ts ty) (k, p)
 
--- a well-typed term, written with a type
+pub apart_node : (h : Head) (ts : List Term) (ty : Ty) → HeadNames NoName AnyName h ty → TermsName NoName AnyName (row ts) → TermNames NoName AnyName (node h ts ty)
+apart_node h ts ty k p = subst (TermNames NoName AnyName) (term_is_node h ts ty) (k, p)
+
+-- a well-typed term, written with a type that a form may have
 pub record Typed (c : Context) (l : Language) (ty : Ty) (t : Term) : Type 0 where
   pub made : Made c ty t
+  pub type : IsFormType (has_globs l) ty
   pub plain : has_judgments l ≡ false → IsPlain t
+  pub apart : has_globs l ≡ false → TermNames NoName AnyName t
+
+-- the types of a language without types of globals speak of no module
+pub no_globs : (l : Language) (ty : Ty) → IsFormType (has_globs l) ty → has_globs l ≡ false → EachGlob NoName ty
+no_globs l ty f p = globless ty (subst (λ b. IsFormType b ty) p f)
 
 module _ (c : Context) (l : Language) where
   -- the same, of some type
@@ -39,13 +53,24 @@ module _ (c : Context) (l : Language) where
   IsSome t = (ty : Ty) × Typed c l ty t
 
   pub given_from : (w : Option Ty) (ty : Ty) (t : Term) → Typed c l ty t → IsWanted w ty → IsGiven c l w t
-  given_from w ty t m h = record { typed = m.made.typed; wanted = subst (IsWanted w) (sym m.made.written) h; plain = m.plain }
+  given_from w ty t m h = record {
+    typed = m.made.typed;
+    type = subst (IsFormType (has_globs l)) (sym m.made.written) m.type;
+    wanted = subst (IsWanted w) (sym m.made.written) h;
+    plain = m.plain;
+    apart = m.apart;
+  }
 
   pub of_given : (ty : Ty) (t : Term) → IsGiven c l (Some ty) t → Typed c l ty t
-  of_given ty t g = record { made = record { typed = g.typed; written = g.wanted }; plain = g.plain }
+  of_given ty t g = record {
+    made = record { typed = g.typed; written = g.wanted };
+    type = subst (IsFormType (has_globs l)) g.wanted g.type;
+    plain = g.plain;
+    apart = g.apart;
+  }
 
   pub of_any : (w : Option Ty) (t : Term) → IsGiven c l w t → Typed c l (type_of t) t
-  of_any w t g = record { made = record { typed = g.typed; written = refl }; plain = g.plain }
+  of_any w t g = record { made = record { typed = g.typed; written = refl }; type = g.type; plain = g.plain; apart = g.apart }
 
   -- a term, where a type is wanted
   pub wanted_given : (w : Option Ty) (p : Place) (t u : Term) → IsSome t → wanted w p t ≡ given u → IsGiven c l w u
@@ -58,18 +83,84 @@ module _ (c : Context) (l : Language) where
   truth_given w p x t h m = given_from w bool_ty t m (truth_is w p x h)
 
   -- a term without arguments
-  pub leaf : (h : Head) (ty : Ty) → IsHead (erased c) h [] ty → IsNamed c h ty → HeadIsPlain h → Typed c l ty (node h [] ty)
-  leaf h ty k s p = record { made = made_node c h [] [] ty k s [] tt; plain = λ _. plain_node h [] ty p tt }
-
-  -- an operator of one argument, and of two
-  pub operated : (o : Op) (a ty : Ty) (x : Term) → IsOperator o (a ∷ []) ty → Typed c l a x → Typed c l ty (applied o (x ∷ []) ty)
-  operated o a ty x k m = record {
-    made = made_node c (Builtin o) (a ∷ []) (x ∷ []) ty k tt [] m.made;
-    plain = λ p. plain_node (Builtin o) (x ∷ []) ty tt (m.plain p, tt);
+  pub leaf : (h : Head) (ty : Ty) → IsFormType (has_globs l) ty → IsHead (erased c) h [] ty → IsNamed c h ty → HeadIsPlain h →
+      (EachGlob NoName ty → HeadNames NoName AnyName h ty) → Typed c l ty (node h [] ty)
+  leaf h ty f k s p n = record {
+    made = made_node c h [] [] ty k s [] tt;
+    type = f;
+    plain = λ _. plain_node h [] ty p tt;
+    apart = λ q. apart_node h [] ty (n (no_globs l ty f q)) tt;
   }
 
-  pub combined : (o : Op) (a b ty : Ty) (x y : Term) → IsOperator o (a ∷ b ∷ []) ty → Typed c l a x → Typed c l b y → Typed c l ty (applied o (x ∷ y ∷ []) ty)
-  combined o a b ty x y k m n = record {
+  -- an operator of one argument, of two, and of three
+  pub operated : (o : Op) (a ty : Ty) (x : Term) → IsFormType (has_globs l) ty → IsOperator o (a ∷ []) ty → Typed c l a x → Typed c l ty (applied o (x ∷ []) ty)
+  operated o a ty x f k m = record {
+    made = made_node c (Builtin o) (a ∷ []) (x ∷ []) ty k tt [] m.made;
+    type = f;
+    plain = λ p. plain_node (Builtin o) (x ∷ []) ty tt (m.plain p, tt);
+    apart = λ p. apart_node (Builtin o) (x ∷ []) ty (no_globs l ty f p) (m.apart p, tt);
+  }
+
+  pub combined : (o : Op) (a b ty : Ty) (x y : Term) → IsFormType (has_globs l) ty → IsOperator o (a ∷ b ∷ []) ty → Typed c l a x → Typed c l b y →
+      Typed c l ty (applied o (x ∷ y ∷ []) ty)
+  combined o a b ty x y f k m n = record {
     made = made_node c (Builtin o) (a ∷ b ∷ []) (x ∷ y ∷ []) ty k tt [] (m.made, n.made);
+    type = f;
     plain = λ p. plain_node (Builtin o) (x ∷ y ∷ []) ty tt (m.plain p, (n.plain p, tt));
+    apart = λ p. apart_node (Builtin o) (x ∷ y ∷ []) ty (no_globs l ty f p) (m.apart p, (n.apart p, tt));
+  }
+
+  pub of_three : (o : Op) (a b d ty : Ty) (x y z : Term) → IsFormType (has_globs l) ty → IsOperator o (a ∷ b ∷ d ∷ []) ty → Typed c l a x → Typed c l b y → Typed c l d z →
+      Typed c l ty (applied o (x ∷ y ∷ z ∷ []) ty)
+  of_three o a b d ty x y z f k m n r = record {
+    made = made_node c (Builtin o) (a ∷ b ∷ d ∷ []) (x ∷ y ∷ z ∷ []) ty k tt [] (m.made, (n.made, r.made));
+    type = f;
+    plain = λ p. plain_node (Builtin o) (x ∷ y ∷ z ∷ []) ty tt (m.plain p, (n.plain p, (r.plain p, tt)));
+    apart = λ p. apart_node (Builtin o) (x ∷ y ∷ z ∷ []) ty (no_globs l ty f p) (m.apart p, (n.apart p, (r.apart p, tt)));
+  }
+
+-- terms of these types
+abbrev pub EachTyped : Context → Language → List Ty → List Term → Type 0
+EachTyped c l [] [] = Unit {0}
+EachTyped c l (u ∷ us) (t ∷ ts) = Typed c l u t × EachTyped c l us ts
+EachTyped c l _ _ = ⊥
+
+module _ (c : Context) (l : Language) where
+  each_made : (us : List Ty) (ts : List Term) → EachTyped c l us ts → EachMade c c c us ts
+  each_made [] [] m = tt
+  each_made [] (t ∷ ts) m = absurd m
+  each_made (u ∷ us) [] m = absurd m
+  each_made (u ∷ []) (t ∷ []) m = m.0.made
+  each_made (u ∷ []) (t ∷ s ∷ ts) m = absurd m.1
+  each_made (u ∷ v ∷ us) (t ∷ []) m = absurd m.1
+  each_made (u ∷ v ∷ us) (t ∷ s ∷ ts) m = (m.0.made, each_made (v ∷ us) (s ∷ ts) m.1)
+
+  each_plain : (us : List Ty) (ts : List Term) → EachTyped c l us ts → has_judgments l ≡ false → AllPlain (row ts)
+  each_plain [] [] m p = tt
+  each_plain [] (t ∷ ts) m p = absurd m
+  each_plain (u ∷ us) [] m p = absurd m
+  each_plain (u ∷ us) (t ∷ ts) m p = (m.0.plain p, each_plain us ts m.1 p)
+
+  each_apart : (us : List Ty) (ts : List Term) → EachTyped c l us ts → has_globs l ≡ false → TermsName NoName AnyName (row ts)
+  each_apart [] [] m p = tt
+  each_apart [] (t ∷ ts) m p = absurd m
+  each_apart (u ∷ us) [] m p = absurd m
+  each_apart (u ∷ us) (t ∷ ts) m p = (m.0.apart p, each_apart us ts m.1 p)
+
+  -- an operator of any number of arguments, a built-in one and one of the script
+  pub of_many : (o : Op) (us : List Ty) (ty : Ty) (ts : List Term) → IsFormType (has_globs l) ty → IsOperator o us ty → EachTyped c l us ts → Typed c l ty (applied o ts ty)
+  of_many o us ty ts f k m = record {
+    made = made_node c (Builtin o) us ts ty k tt [] (each_made us ts m);
+    type = f;
+    plain = λ p. plain_node (Builtin o) ts ty tt (each_plain us ts m p);
+    apart = λ p. apart_node (Builtin o) ts ty (no_globs l ty f p) (each_apart us ts m p);
+  }
+
+  pub of_script : (n : Name) (us : List Ty) (ty : Ty) (ts : List Term) → IsFormType (has_globs l) ty → c.operator n ≡ Some (record { params = us; result = ty }) → EachTyped c l us ts →
+      Typed c l ty (node (User n) ts ty)
+  of_script n us ty ts f k m = record {
+    made = made_node c (User n) us ts ty k tt [] (each_made us ts m);
+    type = f;
+    plain = λ p. plain_node (User n) ts ty tt (each_plain us ts m p);
+    apart = λ p. apart_node (User n) ts ty tt (each_apart us ts m p);
   }

@@ -8,33 +8,30 @@ use Rattle.gb_core.specs.declared.refusal.Why.TheVariants.{Argument, TypeMismatc
 use Rattle.gb_core.specs.declared.ty.Ty.{Ty, out-Ty, end_of-Ty, more_of-Ty}
 use Rattle.gb_core.specs.declared.ty.Ty.TheVariants as ty
 use Rattle.gb_core.specs.declared.ty.Ty.TheOpen as layer
-use Rattle.gb_core.specs.declared.ty.Ty.TheFolds.{fold-roll-Ty}
 use Rattle.gb_core.specs.declared.ty.Ty.TheViews.{out-roll-Ty}
-use Rattle.gb_core.specs.declared.value.Value as X
-use Rattle.gb_core.specs.declared.value.Value.TheVariants.{Num}
 use Rattle.gb_script.specs.declared.head.Head.{Head}
 use Rattle.gb_script.specs.declared.head.Head.TheVariants as head
 use Rattle.gb_script.specs.declared.tree.Node.{Node}
 use Rattle.gb_script.specs.Tree.{place_of, text_of}
 use Rattle.gb_limits.specs.Numbers.{number_of}
-use Rattle.gb_types.specs.Numbering.{Numbering}
-use Rattle.gb_types.specs.Types.{finite_step, is_finite, numbering_step, numbering}
 use Rattle.gb_meaning.specs.Operators.{outcome_type}
 use Rattle.gb_meaning.specs.Trees.{distributions}
 use Rattle.gb_typed.specs.Finite.{AreFiniteWith, IsFinite, IsVariableType}
 use Rattle.gb_typed.specs.Operators.{row, IsNoDistribution, IsDistributionType}
 use Rattle.gb_typed.specs.Programs.{HaveFiniteTypes}
-use Rattle.gb_typed.specs.Typing.{IsLiteral}
 use Rattle.gb_typed.proofs.Constructors.{distribution_is, map_is, option_is, tuple_is}
 use Rattle.gb_typing.specs.Programs.{HaveVariableTypes}
 use Rattle.gb_typing.proofs.Variables.{variable_finite}
 use Rattle.gb_terms.specs.declared.decl.TypedName.{TypedName}
 use Rattle.gb_goal.specs.Answers.{Answer, ◌>>=◌}
+use Rattle.gb_goal.specs.Scope.{Declarations, type_named}
 use Rattle.gb_goal.specs.Answers.Answer.{given, refused}
-use Rattle.gb_elab.specs.Forms.{is_distribution, is_distribution_layer}
-use Rattle.gb_elab.specs.Types.{Spelling, plain_type, up_to, bits_type, int_type, option_type, map_type, all_spelled, tuple_of, tuple_type, spelling, spelled, type_of}
-use Rattle.gb_elab_laws.proofs.Given.{given_bind, given_is, if_refused}
-use Rattle.gb_elab.proofs.Nodes.{by_parts}
+use Rattle.gb_names.specs.Allowed.{is_distribution, is_distribution_layer}
+use Rattle.gb_names.specs.Names.{path}
+use Rattle.gb_names.specs.Types.{Spelling, plain_type, up_to, bits_type, int_type, option_type, map_type, all_spelled, tuple_of, tuple_type, no_type, declared_type, words, spelling, spelled, type_of}
+use Rattle.gb_elab_laws.specs.Fitting.{AreTypes}
+use Rattle.gb_elab_laws.proofs.Given.{given_bind, given_is, if_refused, some_given}
+use Rattle.gb_names.proofs.Nodes.{by_parts}
 
 pub have_finite : (vs : List TypedName) → HaveVariableTypes vs → HaveFiniteTypes vs
 have_finite [] h = tt
@@ -73,7 +70,7 @@ abbrev GivesVariable : Answer Ty → Type 0
 GivesVariable a = (u : Ty) → a ≡ given u → IsVariableType u
 
 abbrev IsOfVariables : Spelling → Type 0
-IsOfVariables f = (p : Place) → GivesVariable (f p)
+IsOfVariables f = (ds : Declarations) → AreTypes ds → (p : Place) → GivesVariable (f ds p)
 
 -- a type, with what is known of it
 abbrev Known : Type 0
@@ -128,62 +125,61 @@ int_typed (n ∷ []) p u h =
     subst IsVariableType (given_is (ty.Mod k.0) u k.2) (above_none 65536 n.0 k.0 k.1)
 int_typed (n ∷ m ∷ ks) p u h = cc
 
-options_typed : (ks : List Known) (p : Place) → GivesVariable (option_type (parts ks) p)
-options_typed [] p u h = cc
-options_typed (k ∷ []) p u h =
-    let t = given_bind (spelled k.0 p) (λ t. given (ty.Opt t)) u h in
-    subst IsVariableType (given_is (ty.Opt t.0) u t.2) (option_typed t.0 (k.1 p t.0 t.1))
-options_typed (k ∷ l ∷ ks) p u h = cc
+module _ (ds : Declarations) (names : AreTypes ds) where
+  options_typed : (ks : List Known) (p : Place) → GivesVariable (option_type (parts ks) ds p)
+  options_typed [] p u h = cc
+  options_typed (k ∷ []) p u h =
+      let t = given_bind (spelled k.0 ds p) (λ t. given (ty.Opt t)) u h in
+      subst IsVariableType (given_is (ty.Opt t.0) u t.2) (option_typed t.0 (k.1 ds names p t.0 t.1))
+  options_typed (k ∷ l ∷ ks) p u h = cc
 
-maps_typed : (ks : List Known) (p : Place) → GivesVariable (map_type (parts ks) p)
-maps_typed [] p u h = cc
-maps_typed (k ∷ []) p u h = cc
-maps_typed (k ∷ l ∷ []) p u h =
-    let t = given_bind (spelled k.0 p) (λ t. spelled l.0 p >>= λ v. given (ty.Map t v)) u h in
-    let v = given_bind (spelled l.0 p) (λ v. given (ty.Map t.0 v)) u t.2 in
-    subst IsVariableType (given_is (ty.Map t.0 v.0) u v.2) (map_typed t.0 v.0 (k.1 p t.0 t.1) (l.1 p v.0 v.1))
-maps_typed (k ∷ l ∷ m ∷ ks) p u h = cc
+  maps_typed : (ks : List Known) (p : Place) → GivesVariable (map_type (parts ks) ds p)
+  maps_typed [] p u h = cc
+  maps_typed (k ∷ []) p u h = cc
+  maps_typed (k ∷ l ∷ []) p u h =
+      let t = given_bind (spelled k.0 ds p) (λ t. spelled l.0 ds p >>= λ v. given (ty.Map t v)) u h in
+      let v = given_bind (spelled l.0 ds p) (λ v. given (ty.Map t.0 v)) u t.2 in
+      subst IsVariableType (given_is (ty.Map t.0 v.0) u v.2) (map_typed t.0 v.0 (k.1 ds names p t.0 t.1) (l.1 ds names p v.0 v.1))
+  maps_typed (k ∷ l ∷ m ∷ ks) p u h = cc
 
-all_typed : (n : ℕ) (ks : List Known) (p : Place) (ts : List Ty) → all_spelled (take n (parts ks)) p ≡ given ts → AllByRecursion IsVariableType ts
-all_typed zero ks p ts h = subst (AllByRecursion IsVariableType) (given_is [] ts h) tt
-all_typed (suc n) [] p ts h = subst (AllByRecursion IsVariableType) (given_is [] ts h) tt
-all_typed (suc n) (k ∷ ks) p ts h =
-    let t = given_bind (spelled k.0 p) (λ t. all_spelled (take n (parts ks)) p >>= λ us. given (t ∷ us)) ts h in
-    let us = given_bind (all_spelled (take n (parts ks)) p) (λ us. given (t.0 ∷ us)) ts t.2 in
-    subst (AllByRecursion IsVariableType) (given_is (t.0 ∷ us.0) ts us.2) (k.1 p t.0 t.1, all_typed n ks p us.0 us.1)
+  all_typed : (n : ℕ) (ks : List Known) (p : Place) (ts : List Ty) → all_spelled (take n (parts ks)) ds p ≡ given ts → AllByRecursion IsVariableType ts
+  all_typed zero ks p ts h = subst (AllByRecursion IsVariableType) (given_is [] ts h) tt
+  all_typed (suc n) [] p ts h = subst (AllByRecursion IsVariableType) (given_is [] ts h) tt
+  all_typed (suc n) (k ∷ ks) p ts h =
+      let t = given_bind (spelled k.0 ds p) (λ t. all_spelled (take n (parts ks)) ds p >>= λ us. given (t ∷ us)) ts h in
+      let us = given_bind (all_spelled (take n (parts ks)) ds p) (λ us. given (t.0 ∷ us)) ts t.2 in
+      subst (AllByRecursion IsVariableType) (given_is (t.0 ∷ us.0) ts us.2) (k.1 ds names p t.0 t.1, all_typed n ks p us.0 us.1)
 
-tuples_typed : (ks : List Known) (p : Place) → GivesVariable (tuple_type (parts ks) p)
-tuples_typed ks p u h =
-    let ts = given_bind (all_spelled (take 8 (parts ks)) p) (λ ts. tuple_of ts (drop 8 (parts ks))) u h in
-    last (drop 8 (parts ks)) ts.0 (all_typed 8 ks p ts.0 ts.1) ts.2
-  where
-    last : (more : List (Node × Spelling)) (ts : List Ty) → AllByRecursion IsVariableType ts → tuple_of ts more ≡ given u → IsVariableType u
-    last [] ts k e = subst IsVariableType (given_is (ty.Tuple ts) u e) (tuple_typed ts k)
-    last (a ∷ more) ts k e = cc
+  tuples_typed : (ks : List Known) (p : Place) → GivesVariable (tuple_type (parts ks) ds p)
+  tuples_typed ks p u h =
+      let ts = given_bind (all_spelled (take 8 (parts ks)) ds p) (λ ts. tuple_of ts (drop 8 (parts ks))) u h in
+      last (drop 8 (parts ks)) ts.0 (all_typed 8 ks p ts.0 ts.1) ts.2
+    where
+      last : (more : List (Node × Spelling)) (ts : List Ty) → AllByRecursion IsVariableType ts → tuple_of ts more ≡ given u → IsVariableType u
+      last [] ts k e = subst IsVariableType (given_is (ty.Tuple ts) u e) (tuple_typed ts k)
+      last (a ∷ more) ts k e = cc
 
-of_parts : (k : Head) (x : List ℕ) (ks : List Known) (p : Place) → IsOfVariables (spelling k x (parts ks))
+  -- a name of a type
+  named_typed : (x : List ℕ) (q : Place) → GivesVariable (declared_type ds x q)
+  named_typed x q u h = names x u (some_given (type_named ds x) (no_type ds x) q u h)
+
+of_parts : (k : Head) (x : List ℕ) (ks : List Known) (q : Place) → IsOfVariables (spelling k x (parts ks) q)
 unfolding spelling
-of_parts head.PlainType x ks at p u h = plain_typed x p u h
-of_parts head.BitsType x ks at p u h = bits_typed (parts ks) p u h
-of_parts head.IntType x ks at p u h = int_typed (parts ks) p u h
-of_parts head.BracketedType x (k ∷ []) at p u h = k.1 p u h
-of_parts head.OptionType x ks at p u h = options_typed ks p u h
-of_parts head.MapType x ks at p u h = maps_typed ks p u h
-of_parts head.ProductType x ks at p u h = tuples_typed ks p u h
-of_parts _ x _ at p u h = cc
+of_parts head.PlainType x ks q ds n at u h = plain_typed x at u h
+of_parts head.BitsType x ks q ds n at u h = bits_typed (parts ks) at u h
+of_parts head.IntType x ks q ds n at u h = int_typed (parts ks) at u h
+of_parts head.BracketedType x (k ∷ []) q ds n at u h = k.1 ds n at u h
+of_parts head.OptionType x ks q ds n at u h = options_typed ds n ks at u h
+of_parts head.MapType x ks q ds n at u h = maps_typed ds n ks at u h
+of_parts head.ProductType x ks q ds n at u h = tuples_typed ds n ks at u h
+of_parts head.Name x ks q ds n at u h = named_typed ds n x q u h
+of_parts head.Path x ks q ds n at u h = named_typed ds n (path (words (parts ks))) q u h
+of_parts _ x _ q ds n at u h = cc
 
 all_of_variables : (t : Node) → IsOfVariables (spelled t)
 unfolding spelled
-all_of_variables = by_parts (λ k x ys p. spelling k x ys) IsOfVariables of_parts
+all_of_variables = by_parts (λ k x ys q. spelling k x ys q) IsOfVariables of_parts
 
 -- a script spells types of variables
-pub spelled_typed : (t : Node) (u : Ty) → type_of t ≡ given u → IsVariableType u
-spelled_typed t u h = all_of_variables t (place_of t) u h
-
--- the literal of `unit`
-pub unit_literal : IsLiteral ty.Unit (Num 0)
-unfolding X.out-Value denote.Hole.Carrier.out
-unit_literal = (
-  ap is_finite (sym ty.rolls-Unit) ∙ fold-roll-Ty Bool finite_step layer.Unit,
-  ap (λ (k : Numbering). k.has (Num 0)) (ap numbering (sym ty.rolls-Unit) ∙ fold-roll-Ty Numbering numbering_step layer.Unit),
-)
+pub spelled_typed : (ds : Declarations) → AreTypes ds → (t : Node) (u : Ty) → type_of ds t ≡ given u → IsVariableType u
+spelled_typed ds names t u h = all_of_variables t ds names (place_of t) u h

@@ -1,43 +1,80 @@
 -- Contexts that fit environments, and what typing gives in them.
-use Rattle.std.specs.Prelude.{◌≡◌, ℕ, true, false, List, map, Option, Some, None}
+use Rattle.std.specs.Prelude.{◌≡◌, ℕ, Bool, true, false, List, [], ◌∷◌, map, Option, Some, None}
 use Rattle.gb_core.specs.declared.ty.Ty.{Ty}
+use Rattle.gb_core.specs.declared.ty.Ty.TheVariants as ty
 use Rattle.gb_terms.specs.declared.decl.Proc.{Proc}
 use Rattle.gb_terms.specs.declared.decl.TypedName.{TypedName}
 use Rattle.gb_terms.specs.declared.module.ProcRef.{ProcRef}
 use Rattle.gb_terms.specs.declared.term.Term.{Term}
-use Rattle.gb_goal.specs.Scope.{procedure_of}
+use Rattle.gb_core.specs.declared.value.Value.TheVariants.{Num}
+use Rattle.gb_goal.specs.declared.scope.Constant.{Constant}
+use Rattle.gb_goal.specs.declared.scope.OperatorType.{OperatorType as DeclaredOperator}
+use Rattle.gb_goal.specs.Scope.{Declarations, constant_named, operator_named, procedure_of, type_named}
 use Rattle.gb_meaning.specs.Names.{Name}
 use Rattle.gb_meaning.specs.Written.{type_of, local_type}
 use Rattle.gb_changes.specs.Plain.{IsPlain}
-use Rattle.gb_typed.specs.Finite.{IsFinite}
+use Rattle.gb_holds.specs.Naming.{AnyName}
+use Rattle.gb_later.specs.Naming.{NoName, TermNames}
+use Rattle.gb_typed.specs.Finite.{AreFiniteWith, IsFiniteWith, IsFinite, IsVariableType}
 use Rattle.gb_typed.specs.Operators.{item}
 use Rattle.gb_typed.specs.Programs.{HaveFiniteTypes}
-use Rattle.gb_typed.specs.Typing.{Binder}
-use Rattle.gb_typed.specs.Typing.Binder.{value}
+use Rattle.gb_typed.specs.Typing.{Binder, OperatorType, IsBoundAt, IsLiteral}
 use Rattle.gb_typing.specs.Modules.{ProcedureType}
 use Rattle.gb_typing.specs.Context.{Frame, Context, procedure, local_in}
 use Rattle.gb_typing.specs.Typing.{IsTyped}
 use Rattle.gb_typing.specs.Programs.{type_of_procedure}
-use Rattle.gb_elab.specs.declared.setting.Language.{Language}
-use Rattle.gb_elab.specs.declared.setting.Variables.{Variables}
-use Rattle.gb_elab.specs.declared.setting.Variables.TheVariants.{Absent, Own, Sides}
-use Rattle.gb_elab.specs.Environment.{Environment}
-use Rattle.gb_elab.specs.Forms.{has_judgments}
+use Rattle.gb_typing.specs.Scopes.{AreMeasured}
+use Rattle.gb_names.specs.declared.setting.Language.{Language}
+use Rattle.gb_names.specs.declared.setting.Language.TheVariants.{Operator}
+use Rattle.gb_names.specs.declared.setting.Variables.{Variables}
+use Rattle.gb_names.specs.declared.setting.Variables.TheVariants.{Absent, Own, Sides}
+use Rattle.gb_names.specs.Environment.{Environment}
+use Rattle.gb_names.specs.Allowed.{has_judgments}
 
--- what bound names bind: values of their types
-abbrev pub binders : List TypedName → List Binder
-binders vs = map (λ v. value v.ty) vs
+-- whether types of the globals of modules may stand in a form
+abbrev pub has_globs : Language → Bool
+has_globs Operator = false
+has_globs _ = true
+
+-- A type that a form may have: of values, of numbers, or of distributions over values. It is told whether types of the globals of
+-- modules may stand in it.
+abbrev pub IsFormType : Bool → Ty → Type 0
+IsFormType globs ty.Int = Unit {0}
+IsFormType globs ty.Real = Unit {0}
+IsFormType globs (ty.Distr' p x) = AreFiniteWith globs x
+IsFormType globs t = IsFiniteWith globs t
+
+-- where a type is wanted, it is one that a form may have
+abbrev pub IsFormTypeIf : Bool → Option Ty → Type 0
+IsFormTypeIf globs None = Unit {0}
+IsFormTypeIf globs (Some t) = IsFormType globs t
+
+-- what is bound is read at the type of its name: a value, or a number below a bound
+abbrev pub IsBoundName : Bool → Binder → TypedName → Type 0
+IsBoundName globs b v = IsBoundAt b v.ty × IsFormType globs v.ty
+
+-- one binder for each bound name
+abbrev pub AreBound : Bool → List Binder → List TypedName → Type 0
+AreBound globs [] [] = Unit {0}
+AreBound globs (b ∷ bs) (v ∷ vs) = IsBoundName globs b v × AreBound globs bs vs
+AreBound globs _ _ = ⊥
+
+-- all types are of values
+abbrev pub AllFiniteWith : Bool → List TypedName → Type 0
+AllFiniteWith globs [] = Unit {0}
+AllFiniteWith globs (v ∷ vs) = IsFiniteWith globs v.ty × AllFiniteWith globs vs
 
 -- Variables that are read in a memory: there each name is a local of the same type, and all types are of values.
 pub record AreIn (f : Frame) (vs : List TypedName) : Type 0 where
   pub there : (x : Name) (t : Ty) → local_type vs x ≡ Some t → local_in f x ≡ Some t
   pub finite : HaveFiniteTypes vs
 
--- the program variables of an environment are read in the memories of a context
-abbrev pub AreReadable : Context → Variables → Type 0
-AreReadable c Absent = Unit {0}
-AreReadable c (Own vs) = AreIn c.own vs
-AreReadable c (Sides ls rs) = AreIn c.left ls × AreIn c.right rs
+-- The program variables of an environment are read in the memories of a context. Where no types of globals may stand there are
+-- none.
+abbrev pub AreReadable : Bool → Context → Variables → Type 0
+AreReadable globs c Absent = Unit {0}
+AreReadable globs c (Own vs) = (globs ≡ true) × AreIn c.own vs
+AreReadable globs c (Sides ls rs) = (globs ≡ true) × AreIn c.left ls × AreIn c.right rs
 
 -- the type of a declared procedure, whose parameters and result are values
 pub record IsTypeOf (t : Option ProcedureType) (f : Proc) : Type 0 where
@@ -45,14 +82,35 @@ pub record IsTypeOf (t : Option ProcedureType) (f : Proc) : Type 0 where
   pub params : HaveFiniteTypes f.params
   pub result : IsFinite f.result
 
--- A context that fits an environment, under bound names: what the environment gives a name stands there, at types of values; and
--- where judgments may stand, each declared procedure does.
+-- the names of types stand for types of values
+abbrev pub AreTypes : Declarations → Type 0
+AreTypes ds = (n : Name) (t : Ty) → type_named ds n ≡ Some t → IsVariableType t
+
+-- the constants of enumerations are values of their types
+abbrev pub AreConstants : Declarations → Type 0
+AreConstants ds = (n : Name) (k : Constant) → constant_named ds n ≡ Some k → IsVariableType k.ty × IsLiteral k.ty (Num k.number)
+
+-- An operator of the script stands with its types: it takes values and numbers, and in the type of what it gives there are no
+-- globals of modules.
+pub record IsUsable (t : Option OperatorType) (o : DeclaredOperator) : Type 0 where
+  pub there : t ≡ Some (record { params = o.params; result = o.result })
+  pub params : AreMeasured o.params
+  pub result : IsFormType false o.result
+
+-- what declared names stand for, where these operators stand
+pub record AreDeclared (operators : Name → Option OperatorType) (ds : Declarations) : Type 0 where
+  pub types : AreTypes ds
+  pub constants : AreConstants ds
+  pub usable : (n : Name) (o : DeclaredOperator) → operator_named ds n ≡ Some o → IsUsable (operators n) o
+
+-- A context that fits an environment, under bound names: what the environment gives a name stands there, at types of values; what
+-- is bound, at types of forms; what is declared stands with its types; and where judgments may stand, each declared procedure does.
 pub record IsFitting (c : Context) (at : Environment) (vs : List TypedName) : Type 0 where
   pub logical : (i : ℕ) → c.logical i ≡ item (map (λ x. x.ty) at.sequent.logical) i
-  pub values : HaveFiniteTypes at.sequent.logical
-  pub bound : c.bound ≡ binders vs
-  pub bound_values : HaveFiniteTypes vs
-  pub variables : AreReadable c at.variables
+  pub values : AllFiniteWith (has_globs at.language) at.sequent.logical
+  pub bound : AreBound (has_globs at.language) c.bound vs
+  pub variables : AreReadable (has_globs at.language) c at.variables
+  pub declared : AreDeclared c.operator at.declared
   pub procedures : has_judgments at.language ≡ true → (p : ProcRef) (f : Proc) → procedure_of at.declared p ≡ Some f → IsTypeOf (procedure c p) f
 
 -- of the wanted type, where one is wanted
@@ -60,8 +118,11 @@ abbrev pub IsWanted : Option Ty → Ty → Type 0
 IsWanted None t = Unit {0}
 IsWanted (Some w) t = t ≡ w
 
--- A well-typed term of the wanted type. Where the language has no judgments, it speaks of no procedure.
+-- A well-typed term of a type that a form may have, which is the wanted one. Where the language has no judgments, it speaks of
+-- no procedure, and where it has no types of globals, of no module.
 pub record IsGiven (c : Context) (l : Language) (w : Option Ty) (t : Term) : Type 0 where
   pub typed : IsTyped c t
+  pub type : IsFormType (has_globs l) (type_of t)
   pub wanted : IsWanted w (type_of t)
   pub plain : has_judgments l ≡ false → IsPlain t
+  pub apart : has_globs l ≡ false → TermNames NoName AnyName t

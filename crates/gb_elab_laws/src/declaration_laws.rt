@@ -5,6 +5,7 @@ ghost use Rattle.gb_core.specs.declared.ty.Ty.TheVariants as ty;
 ghost use Rattle.gb_terms.specs.declared.decl.Module.{Module};
 ghost use Rattle.gb_script.specs.declared.tree.Node.{Node};
 ghost use Rattle.gb_goal.specs.Scope as scope;
+ghost use Rattle.gb_goal.specs.Scope.{AreNoLemmas};
 ghost use Rattle.gb_goal.specs.declared.scope.Entry.TheVariants as entry;
 ghost use Rattle.gb_goal.specs.declared.sequent.Sequent.{Sequent};
 ghost use Rattle.gb_goal.specs.Answers.Answer.{given};
@@ -14,12 +15,20 @@ ghost use Rattle.gb_holds.specs.Declared.{declared};
 ghost use Rattle.gb_holds.specs.Truth.{has_module};
 ghost use Rattle.gb_typing.specs.Sequents.{IsTypedSequent};
 ghost use Rattle.gb_typing.specs.Scopes.{context_of, is_declared, IsModule, IsTypedScope};
+ghost use Rattle.gb_elab_mod.specs.Entries.{entries_given};
 ghost use Rattle.gb_elab_mod.specs.Lemmas.{lemma_name, statement_given};
 ghost use Rattle.gb_elab_mod.specs.Modules.{module_given};
 
-/// What a module is typed to is a well-typed module under a free name, with which a typed scope stays typed.
+/// A typed scope stays typed with what a command `type` or `op` declares, none of which is a lemma.
+pub fn entries()
+    ensures added { (ds : scope.Declarations) → IsTypedScope (declared ds) → (t : Node) (added : scope.Declarations) → entries_given ds t ≡ given added →
+        IsTypedScope (declared (ds ++ added)) }
+    ensures others { (ds : scope.Declarations) → (t : Node) (added : scope.Declarations) → entries_given ds t ≡ given added → AreNoLemmas added }
+{}
+
+/// What a module is typed to in a typed scope is a well-typed module under a free name, with which the scope stays typed.
 pub fn modules()
-    ensures typed { (ds : scope.Declarations) → (t : Node) (m : Module) → module_given ds t ≡ given m → IsModule (context_of (declared ds)) m.name m }
+    ensures typed { (ds : scope.Declarations) → IsTypedScope (declared ds) → (t : Node) (m : Module) → module_given ds t ≡ given m → IsModule (context_of (declared ds)) m.name m }
     ensures free { (ds : scope.Declarations) → (t : Node) (m : Module) → module_given ds t ≡ given m → is_declared (declared ds) m.name ≡ false }
     ensures added { (ds : scope.Declarations) → IsTypedScope (declared ds) → (t : Node) (m : Module) → module_given ds t ≡ given m →
         IsTypedScope (declared (ds ++ (m.name, entry.Module m) ∷ [])) }

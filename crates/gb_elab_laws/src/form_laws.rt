@@ -9,38 +9,40 @@ ghost use Rattle.gb_goal.specs.declared.sequent.Sequent.{Sequent};
 ghost use Rattle.gb_goal.specs.Scope as scope;
 ghost use Rattle.gb_goal.specs.Answers.Answer.{given};
 ghost use Rattle.gb_holds.specs.Declared.{declared};
-ghost use Rattle.gb_typed.specs.Finite.{IsFinite};
+ghost use Rattle.gb_typed.specs.Finite.{IsFiniteWith};
 ghost use Rattle.gb_typed.specs.Programs.{HaveFiniteTypes};
 ghost use Rattle.gb_typed.specs.Typing.Binder.{value};
 ghost use Rattle.gb_typing.specs.Context.{Context, of_program, within};
 ghost use Rattle.gb_typing.specs.Sequents.{of_sequent, two, IsTypedSequent};
 ghost use Rattle.gb_typing.specs.Scopes.{context_of, IsTypedScope};
-ghost use Rattle.gb_elab.specs.Environment.{Environment, ambient, of_function, program};
+ghost use Rattle.gb_names.specs.Environment.{Environment, ambient, of_function, program};
 ghost use Rattle.gb_elab.specs.Forms.{elaborated, function};
 ghost use Rattle.gb_elab_mod.specs.Lemmas.{nothing_around};
-ghost use Rattle.gb_elab_laws.specs.Fitting.{AreIn, IsFitting, IsGiven};
+ghost use Rattle.gb_elab_laws.specs.Fitting.{has_globs, IsFormType, IsFormTypeIf, AreDeclared, AreIn, IsFitting, IsGiven};
 
-/// In a context that fits the environment, what a form is elaborated to is a well-typed term of the wanted type.
+/// In a context that fits the environment, what a form is elaborated to is a well-typed term of the wanted type, where this is one
+/// that a form may have.
 pub fn forms()
-    ensures { (t : Node) (c : Context) (at : Environment) (vs : List TypedName) → IsFitting c at vs → (w : Option Ty) (u : Term) →
-        elaborated t at vs w ≡ given u → IsGiven c at.language w u }
+    ensures { (t : Node) (c : Context) (at : Environment) (vs : List TypedName) → IsFitting c at vs → (w : Option Ty) → IsFormTypeIf (has_globs at.language) w →
+        (u : Term) → elaborated t at vs w ≡ given u → IsGiven c at.language w u }
 {}
 
 /// What a function from a type of values to another type is elaborated to is a well-typed term of the other type, under a binder
 /// of its argument.
 pub fn functions()
-    ensures { (t : Node) (c : Context) (at : Environment) → IsFitting c at [] → (a b : Ty) → IsFinite a → (u : Term) →
+    ensures { (t : Node) (c : Context) (at : Environment) → IsFitting c at [] → (a b : Ty) → IsFiniteWith (has_globs at.language) a → IsFormType (has_globs at.language) b → (u : Term) →
         function t at a b ≡ given u → IsGiven (within c (value a) None) at.language (Some b) u }
 {}
 
-/// The contexts that fit the environments in which forms stand: that of a statement, those of programs, and those of the functions
-/// of a proof step, over some of the locals of its goal.
+/// The contexts that fit the environments in which forms stand: that of a statement, those of programs, where what is declared stands,
+/// and those of the functions of a proof step, over some of the locals of its goal. A typed scope stands in its context.
 pub fn environments()
     ensures statement { (ds : scope.Declarations) → IsTypedScope (declared ds) →
         IsFitting (of_sequent (context_of (declared ds)) nothing_around []) (ambient ds nothing_around) [] }
-    ensures program { (c : Context) (ds : scope.Declarations) (ls : List TypedName) → HaveFiniteTypes ls →
+    ensures names { (ds : scope.Declarations) → IsTypedScope (declared ds) → AreDeclared (context_of (declared ds)).operator ds }
+    ensures program { (c : Context) (ds : scope.Declarations) (ls : List TypedName) → AreDeclared c.operator ds → HaveFiniteTypes ls →
         IsFitting (of_program c ls) (program ds nothing_around ls) [] }
-    ensures function { (ds : scope.Declarations) (q : Sequent) (t : IsTypedSequent (context_of (declared ds)) q) →
+    ensures function { (ds : scope.Declarations) → IsTypedScope (declared ds) → (q : Sequent) (t : IsTypedSequent (context_of (declared ds)) q) →
         (ls rs xs ys : List TypedName) → AreIn (Some ls) xs → AreIn (Some rs) ys →
         IsFitting (two (of_sequent (context_of (declared ds)) q t.frames) ls rs) (of_function ds q xs ys) [] }
 {}

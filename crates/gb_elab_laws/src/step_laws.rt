@@ -31,13 +31,13 @@ pub fn locals_read()
 {}
 
 /// The arguments of a typed step at a typed goal are typed over the locals of the bodies: the functions of `rnd` between the values of
-/// the samplings that end both bodies, and in a typed scope the form of `seq`.
+/// the samplings that end both bodies, and the form of `seq`, in a typed scope.
 pub fn typed_rules()
     ensures bodies { (ds : scope.Declarations) → IsTypedScope (declared ds) → (q : Sequent) (t : IsTypedSequent (context_of (declared ds)) q) →
         (n : Node) (s : Step) → step_given ds q n ≡ given s →
         (ls rs : List TypedName) → IsGoalOver (of_sequent (context_of (declared ds)) q t.frames) ls rs (goal_of q.conclusion) →
         bodies.IsTypedRule (of_sequent (context_of (declared ds)) q t.frames) s.rule ls rs (goal_of q.conclusion) }
-    ensures relational { (ds : scope.Declarations) (q : Sequent) (t : IsTypedSequent (context_of (declared ds)) q) →
+    ensures relational { (ds : scope.Declarations) → IsTypedScope (declared ds) → (q : Sequent) (t : IsTypedSequent (context_of (declared ds)) q) →
         (n : Node) (s : Step) → step_given ds q n ≡ given s →
         (ls rs : List TypedName) → IsGoalOver (of_sequent (context_of (declared ds)) q t.frames) ls rs (goal_of q.conclusion) →
         IsTypedRule (of_sequent (context_of (declared ds)) q t.frames) s.rule ls rs (goal_of q.conclusion) }

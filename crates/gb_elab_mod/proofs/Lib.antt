@@ -1,3 +1,5 @@
 pub mod Found
 pub mod Gathered
+pub mod New
+pub mod Constants
 pub mod Stated

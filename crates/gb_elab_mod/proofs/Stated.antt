@@ -6,7 +6,7 @@ use Rattle.gb_script.specs.declared.tree.Node.{Node, out-Node, roll-out-Node, pa
 use Rattle.gb_script.specs.Tree.{head_of, parts_of, place_of}
 use Rattle.gb_goal.specs.Answers.{Answer}
 use Rattle.gb_goal.specs.Answers.Answer.{given, refused}
-use Rattle.gb_elab.specs.Environment.{Environment}
+use Rattle.gb_names.specs.Environment.{Environment}
 use Rattle.gb_elab_mod.specs.Statements.{Stating, counting, places, stated, stating, with_places, with_statings}
 use Rattle.gb_elab_mod.proofs.Gathered.{behind}
 

@@ -1,28 +1,15 @@
 -- Modules that are bound. Programs are found by the names of modules, so no module that stands has the name of one that is bound.
 use Rattle.std.specs.Prelude.{if◌then◌else◌, List, [], ◌∷◌, is_some, bytes_eq}
-use Rattle.gb_core.specs.declared.place.Place.{Place}
 use Rattle.gb_core.specs.declared.refusal.Why.TheVariants.{DoubleName}
 use Rattle.gb_goal.specs.Answers.{Answer, ◌>>=◌, not_built}
 use Rattle.gb_goal.specs.Answers.Answer.{given, refused}
 use Rattle.gb_goal.specs.Scope.{Declarations, module_of}
-use Rattle.gb_script.specs.declared.head.Head.{Head}
-use Rattle.gb_script.specs.declared.head.Head.TheVariants as head
 use Rattle.gb_script.specs.declared.tree.Node.{Node}
-use Rattle.gb_script.specs.Tree.{head_of, text_of, parts_of, place_of}
+use Rattle.gb_script.specs.Tree.{text_of, parts_of, place_of}
 
 -- the name of a bound module, which no declared one has
 abbrev pub apart : Declarations → Node → Answer (Unit {0})
 apart ds x = if is_some (module_of ds (text_of x)) then refused (DoubleName (text_of x)) (place_of x) else given tt
-
--- the name that a binder gives a module
-abbrev pub binder_name : Declarations → Head → List Node → Answer (Unit {0})
-binder_name ds head.ModuleBind (x ∷ ps) = apart ds x
-binder_name ds _ _ = given tt
-
--- the binders of a lemma, of which none is built
-abbrev pub binders : Declarations → List Node → Place → Answer (Unit {0})
-binders ds [] p = given tt
-binders ds (b ∷ bs) p = binder_name ds (head_of b) (parts_of b) >>= λ _. not_built p
 
 -- the name of a parameter of a module, which isn't the module's own either
 abbrev pub parameter_name : Declarations → Node → List Node → Answer (Unit {0})

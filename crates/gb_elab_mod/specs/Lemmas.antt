@@ -14,9 +14,10 @@ use Rattle.gb_script.specs.declared.tree.Node.{Node}
 use Rattle.gb_script.specs.Tree.{head_of, text_of, parts_of, place_of}
 use Rattle.gb_goal.specs.Answers.{Answer, ◌>>=◌, not_built}
 use Rattle.gb_goal.specs.Answers.Answer.{given, refused}
-use Rattle.gb_elab.specs.Environment.{ambient}
+use Rattle.gb_names.specs.Environment.{ambient}
 use Rattle.gb_elab.specs.Forms.{elaborated}
-use Rattle.gb_elab_mod.specs.Bound.{binders}
+use Rattle.gb_elab_mod.specs.declared.context.Bound.{Bound}
+use Rattle.gb_elab_mod.specs.Contexts.{nothing_bound, all_bound, in_context, context_of}
 
 -- a name that the script hasn't declared
 abbrev pub free : Declarations → Node → Answer (Unit {0})
@@ -42,14 +43,19 @@ nothing_around = alone (truth_literal true)
 abbrev pub small : Term → Answer Term
 small f = if nat_lt 65536 (term_nodes f) then refused (TooMany 65536) (record { file = 0; line = 0; col = 0 }) else given f
 
--- the goal that a lemma states, in the empty context: its name, its binders, of which none is built, and its form
+-- a form in the context of what is bound
+unfoldable pub claimed : Declarations → Bound → Node → Answer Sequent
+claimed ds b t = do
+  f ← elaborated t (ambient ds (context_of b)) [] (Some bool_ty)
+  g ← small f
+  given (in_context b g)
+
+-- the goal that a lemma states: its name, its binders, which make the context, and its form
 unfoldable pub stated : Declarations → Node → List Node → Node → Answer Sequent
 stated ds x bs t = do
   _ ← free ds x
-  _ ← binders ds bs (place_of x)
-  f ← elaborated t (ambient ds nothing_around) [] (Some bool_ty)
-  g ← small f
-  given (alone g)
+  b ← all_bound ds nothing_bound bs
+  claimed ds b t
 
 -- the same of a tree, by its head and its parts; the last clause takes other trees, of which the reader builds none with
 -- this head, since each of its trees is well-sorted

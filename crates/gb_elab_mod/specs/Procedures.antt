@@ -18,10 +18,10 @@ use Rattle.gb_script.specs.declared.tree.Node.{Node}
 use Rattle.gb_script.specs.Tree.{head_of, text_of, parts_of, place_of}
 use Rattle.gb_goal.specs.Answers.{Answer, ◌>>=◌, not_built}
 use Rattle.gb_goal.specs.Answers.Answer.{given, refused}
-use Rattle.gb_elab.specs.Environment.{Environment, program}
+use Rattle.gb_names.specs.Environment.{Environment, program}
 use Rattle.gb_elab.specs.Forms.{elaborated}
-use Rattle.gb_elab.specs.Names.{unit}
-use Rattle.gb_elab.specs.Types.{type_of}
+use Rattle.gb_names.specs.Names.{unit}
+use Rattle.gb_names.specs.Types.{type_of}
 use Rattle.gb_elab_mod.specs.Statements.{all_stated, with_statings}
 
 -- The definitions by head and parts have a last clause for what isn't built. Trees of another shape fall under it too, of
@@ -32,9 +32,9 @@ abbrev pub untaken : List Proc → Node → Answer (Unit {0})
 untaken ps x = if list_any (λ p. bytes_eq p.name (text_of x)) ps then refused (DoubleName (text_of x)) (place_of x) else given tt
 
 -- the type of a procedure's result; no type stands for `unit`
-abbrev pub result_type : List Node → Answer Ty
-result_type [] = given unit_ty
-result_type (t ∷ ts) = type_of t
+abbrev pub result_type : Declarations → List Node → Answer Ty
+result_type ds [] = given unit_ty
+result_type ds (t ∷ ts) = type_of ds t
 
 -- a value of this type is to be returned, and none is
 abbrev pub lacks_value : List Node → Ty → Bool
@@ -51,17 +51,17 @@ abbrev pub undeclared : List TypedName → Node → Answer (Unit {0})
 undeclared vs x = if list_any (λ v. bytes_eq v.name (text_of x)) vs then refused (DoubleName (text_of x)) (place_of x) else given tt
 
 -- a parameter beside those before it
-abbrev pub formal : List TypedName → Head → List Node → Place → Answer (List TypedName)
-formal vs head.Formal (x ∷ t ∷ []) p = do
+abbrev pub formal : Declarations → List TypedName → Head → List Node → Place → Answer (List TypedName)
+formal ds vs head.Formal (x ∷ t ∷ []) p = do
   _ ← undeclared vs x
-  u ← type_of t
+  u ← type_of ds t
   given (vs ++ record { name = text_of x; ty = u } ∷ [])
-formal vs _ _ p = not_built p
+formal ds vs _ _ p = not_built p
 
 -- parameters, in order
-abbrev pub formals : List TypedName → List Node → Answer (List TypedName)
-formals vs [] = given vs
-formals vs (f ∷ fs) = formal vs (head_of f) (parts_of f) (place_of f) >>= λ ws. formals ws fs
+abbrev pub formals : Declarations → List TypedName → List Node → Answer (List TypedName)
+formals ds vs [] = given vs
+formals ds vs (f ∷ fs) = formal ds vs (head_of f) (parts_of f) (place_of f) >>= λ ws. formals ds ws fs
 
 -- Names of one type beside parameters and locals that are declared: none is declared twice.
 abbrev pub declared : List TypedName → List TypedName → List Node → Ty → Answer (List TypedName)
@@ -72,33 +72,33 @@ declared ps vs (x ∷ xs) t = do
   declared ps (vs ++ record { name = text_of x; ty = t } ∷ []) xs t
 
 -- a line of locals beside what is declared
-abbrev pub variables : List TypedName → List TypedName → Head → List Node → Place → Answer (List TypedName)
-variables ps vs head.Variables (xs ∷ t ∷ []) p = type_of t >>= declared ps vs (parts_of xs)
-variables ps vs _ _ p = not_built p
+abbrev pub variables : Declarations → List TypedName → List TypedName → Head → List Node → Place → Answer (List TypedName)
+variables ds ps vs head.Variables (xs ∷ t ∷ []) p = type_of ds t >>= declared ps vs (parts_of xs)
+variables ds ps vs _ _ p = not_built p
 
 -- lines of locals, in order
-abbrev pub locals : List TypedName → List TypedName → List Node → Answer (List TypedName)
-locals ps vs [] = given vs
-locals ps vs (b ∷ bs) = variables ps vs (head_of b) (parts_of b) (place_of b) >>= λ ws. locals ps ws bs
+abbrev pub locals : Declarations → List TypedName → List TypedName → List Node → Answer (List TypedName)
+locals ds ps vs [] = given vs
+locals ds ps vs (b ∷ bs) = variables ds ps vs (head_of b) (parts_of b) (place_of b) >>= λ ws. locals ds ps ws bs
 
 -- a procedure of this name, these parameters and this result, from its locals, its statements and its value, in the order of the text
 unfoldable pub with_result : Declarations → Sequent → Node → List TypedName → List Node → List Node → List Node → Ty → Answer Proc
 with_result ds s x ps ls ss r t = do
-  vs ← locals ps [] ls
+  vs ← locals ds ps [] ls
   is ← all_stated (with_statings ss) (program ds s (ps ++ vs))
   v ← value (program ds s (ps ++ vs)) r t
   given (record { name = text_of x; params = ps; result = t; locals = vs; body = roll-Cmd (record { list = is }); value = v })
 
 -- the result of a procedure of this name: where it is no `unit`, a value is to be returned
-abbrev pub result_of : Node → List Node → List Node → Answer Ty
-result_of x r v = result_type r >>= λ t. if lacks_value v t then refused TypeMismatch (place_of x) else given t
+abbrev pub result_of : Declarations → Node → List Node → List Node → Answer Ty
+result_of ds x r v = result_type ds r >>= λ t. if lacks_value v t then refused TypeMismatch (place_of x) else given t
 
 -- a procedure beside others, by its head and its parts
 abbrev pub procedure_by : Declarations → Sequent → List Proc → Head → List Node → Place → Answer Proc
 procedure_by ds s qs head.Procedure (x ∷ fs ∷ r ∷ ls ∷ ss ∷ v ∷ []) p = do
   _ ← untaken qs x
-  ps ← formals [] (parts_of fs)
-  t ← result_of x (parts_of r) (parts_of v)
+  ps ← formals ds [] (parts_of fs)
+  t ← result_of ds x (parts_of r) (parts_of v)
   with_result ds s x ps (parts_of ls) (parts_of ss) (parts_of v) t
 procedure_by ds s qs _ _ p = not_built p
 

@@ -12,9 +12,9 @@ use Rattle.gb_script.specs.declared.tree.Node.{Node, para-Node}
 use Rattle.gb_script.specs.Tree.{text_of, place_of}
 use Rattle.gb_goal.specs.Answers.{Answer, ◌>>=◌, not_built}
 use Rattle.gb_goal.specs.Answers.Answer.{given, refused}
-use Rattle.gb_elab.specs.Environment.{Environment}
+use Rattle.gb_names.specs.Environment.{Environment}
 use Rattle.gb_elab.specs.Forms.{elaborated}
-use Rattle.gb_elab.specs.Names.{own_variable}
+use Rattle.gb_names.specs.Names.{own_variable}
 
 -- A sampling: the target is a variable of the procedure, the source a distribution on its type.
 unfoldable pub sampling : Environment → Node → Node → Answer Instr

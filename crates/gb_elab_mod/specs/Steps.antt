@@ -14,7 +14,6 @@ use Rattle.gb_terms.specs.declared.term.Head.{Head}
 use Rattle.gb_terms.specs.declared.term.Head.TheVariants.{Equiv, Sample}
 use Rattle.gb_terms.specs.declared.term.Head.TheOpen as layer
 use Rattle.gb_terms.specs.declared.term.Subject.{Subject, out-Subject}
-use Rattle.gb_terms.specs.declared.decl.TypedName.{TypedName}
 use Rattle.gb_terms.specs.declared.term.Instr.{Instr}
 use Rattle.gb_terms.specs.declared.term.Cmd.{Cmd}
 use Rattle.gb_goal.specs.declared.sequent.Sequent.{Sequent}
@@ -41,7 +40,7 @@ use Rattle.gb_script.specs.declared.tree.Node.{Node}
 use Rattle.gb_script.specs.Tree.{head_of, text_of, parts_of, place_of}
 use Rattle.gb_goal.specs.Answers.{Answer, ◌>>=◌, not_built}
 use Rattle.gb_goal.specs.Answers.Answer.{given, refused}
-use Rattle.gb_elab.specs.Environment.{Environment, ambient, of_function, relational, unary}
+use Rattle.gb_names.specs.Environment.{Environment, ambient, of_function, relational, unary}
 use Rattle.gb_elab.specs.Forms.{elaborated, function}
 use Rattle.gb_limits.specs.Numbers.{number_of}
 use Rattle.gb_elab_mod.specs.Occurring.{occurring}

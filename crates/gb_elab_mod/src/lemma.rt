@@ -4,24 +4,22 @@ ghost use Rattle.std.specs.Prelude.{◌≡◌, [], Some, None, IfOk, OnOk};
 ghost use Rattle.gb_script.specs.Tree.{text_of};
 ghost use Rattle.gb_goal.specs.Scope.{entry_of};
 ghost use Rattle.gb_goal.specs.Answers.{Answers};
-ghost use Rattle.gb_elab.specs.Environment.{ambient as in_sequent};
-ghost use Rattle.gb_elab.specs.Forms.{elaborated};
-ghost use Rattle.gb_elab_mod.specs.Lemmas.{free, lemma_name, name_in, nothing_around, stated, statement_by, statement_given};
+ghost use Rattle.gb_elab_mod.specs.Lemmas.{claimed, free, lemma_name, name_in, nothing_around, small, stated, statement_by, statement_given};
 
-use crate::bound::refuse_binders;
+use crate::context::{Bound, all_bound, context_of};
 use gb_core::place::Place;
 use gb_core::refusal::Refused;
 use gb_core::ty::Ty;
 use gb_elab::form::term;
-use gb_elab::names::NODES;
-use gb_elab::refusals::{double, not_built, too_many};
 use gb_goal::scope::Scope;
 use gb_goal::sequent::{Sequent, ambient};
+use gb_names::names::NODES;
+use gb_names::refusals::{double, not_built, too_many};
 use gb_script::head::Head;
 use gb_script::tree::Node;
 use gb_terms::make;
 use gb_terms::nodes::nodes_of;
-use gb_terms::term::Form;
+use gb_terms::term::Term;
 use std::alloc::{AllocError, Global};
 
 /// The empty context, with no claim.
@@ -44,12 +42,12 @@ pub fn refuse_declared(alloc: Global, scope: &Scope, name: &Node) -> Result<(), 
     }
 }
 
-/// The goal that a lemma states: its statement, in an empty context.
+/// The goal that a lemma states: its statement, in the context that its binders make.
 ///
 /// # Errors
 ///
-/// `DoubleName` at the lemma's name where it is taken, and at the name that its first binder gives a module where a declared one
-/// has it; `Syntax` at the lemma's name where it binds something else; those of typing with the wanted type `bool`, and `TooMany` of the nodes of a formula, whose place is for the caller to put in.
+/// `DoubleName` at the lemma's name where it is taken; those of its binders; those of typing with the wanted type `bool`, and
+/// `TooMany` of the nodes of a formula, whose place is for the caller to put in.
 pub fn statement(alloc: Global, scope: &Scope, tree: &Node) -> Result<Sequent, Refused>
     ensures answer { Answers (statement_given scope.now tree.now) result }
     ensures free { OnOk result (entry_of scope.now (lemma_name tree.now) ≡ None) }
@@ -90,18 +88,26 @@ fn stated(
     ensures free { OnOk result (entry_of scope.now (text_of name.now) ≡ None) }
 {
     refuse_declared(alloc, scope, name)?;
-    refuse_binders(alloc, scope, binders, name.place)?;
-    let conclusion = truth(alloc, scope, form)?;
-    if nodes_of(&conclusion) > NODES {
-        return Err(too_many(NODES));
-    }
-    ambient(alloc, conclusion).map_err(Refused::from)
+    let bound = all_bound(alloc, scope, binders)?;
+    claimed(alloc, scope, bound, form)
 }
 
-/// The typed tree of a truth, with nothing around.
-fn truth(alloc: Global, scope: &Scope, form: &Node) -> Result<Form, Refused>
-    ensures { Answers (elaborated form.now (in_sequent scope.now nothing_around) [] (Some Ty.Bool)) result }
+/// A form in the context of what is bound.
+#[tactic(auto, unfolding(crate::specs::Lemmas::claimed))]
+fn claimed(alloc: Global, scope: &Scope, bound: Bound, form: &Node) -> Result<Sequent, Refused>
+    ensures { Answers (claimed scope.now bound form.now) result }
 {
-    let around = nothing_around(alloc)?;
-    term(alloc, scope, &around, form, Some(&Ty::Bool))
+    let around = context_of(alloc, bound)?;
+    let conclusion = small(term(alloc, scope, &around, form, Some(&Ty::Bool))?)?;
+    around.with_conclusion(conclusion).map_err(Refused::from)
+}
+
+/// A form of no more nodes than a formula may have.
+pub fn small(form: Term) -> Result<Term, Refused>
+    ensures { Answers (small form) result }
+{
+    if nodes_of(&form) > NODES {
+        return Err(too_many(NODES));
+    }
+    Ok(form)
 }

@@ -7,7 +7,7 @@ use crate::procedure::is_local;
 use gb_core::name::Name;
 use gb_core::ty::Ty;
 use gb_core::var::Var;
-use gb_elab::binders::variable;
+use gb_names::binders::variable;
 use gb_shared::Shared;
 use gb_terms::decl::Typed;
 use gb_terms::op::{Read, Side};

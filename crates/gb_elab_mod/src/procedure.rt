@@ -4,7 +4,7 @@ ghost use Rattle.std.specs.Prelude.{◌≡◌, ◌++◌, [], IfOk, MatchResult, 
 ghost use Rattle.std.specs.List.{list_any};
 ghost use Rattle.gb_goal.specs.Answers.{Answers, Fails};
 ghost use Rattle.gb_goal.specs.Answers.Answer.{given};
-ghost use Rattle.gb_elab.specs.Environment.{environment};
+ghost use Rattle.gb_names.specs.Environment.{environment};
 ghost use Rattle.gb_elab_mod.specs.Procedures.{declared, formal, formals, lacks_value, locals, procedure, procedure_by, result_of, result_type, undeclared, untaken, value, variables, with_result};
 
 use crate::statement::body;
@@ -12,14 +12,14 @@ use gb_core::name::Name;
 use gb_core::place::Place;
 use gb_core::refusal::Refused;
 use gb_core::ty::Ty;
-use gb_elab::binders::variable;
 use gb_elab::form::typed;
-use gb_elab::names::unit;
-use gb_elab::refusals::{double, mismatch, not_built};
-use gb_elab::setting::Setting;
-use gb_elab::types::type_of;
 use gb_goal::scope::Scope;
 use gb_goal::sequent::Sequent;
+use gb_names::binders::variable;
+use gb_names::names::unit;
+use gb_names::refusals::{double, mismatch, not_built};
+use gb_names::setting::Setting;
+use gb_names::types::type_of;
 use gb_same::types::same_types;
 use gb_script::head::Head;
 use gb_script::tree::Node;
@@ -74,10 +74,10 @@ fn procedure_by(
         Head::Procedure => match parts {
             [name, parameters, ty, locals, body, value] => {
                 refuse_taken(alloc, others, name)?;
-                let params = formals(alloc, parameters.parts.as_slice())?;
+                let params = formals(alloc, scope, parameters.parts.as_slice())?;
                 let (locals, body) = (locals.parts.as_slice(), body.parts.as_slice());
                 let value = value.parts.as_slice();
-                let ty = result_of(alloc, name, ty.parts.as_slice(), value)?;
+                let ty = result_of(alloc, scope, name, ty.parts.as_slice(), value)?;
                 with_result(alloc, scope, around, name, params, locals, body, value, ty)
             }
             _ => Err(not_built(place)),
@@ -114,7 +114,7 @@ fn with_result(
 ) -> Result<Proc, Refused>
     ensures { Answers (with_result scope.now around.now name.now params lines.now statements.now returned.now ty) result }
 {
-    let locals = locals(alloc, params.as_slice(), lines)?;
+    let locals = locals(alloc, scope, params.as_slice(), lines)?;
     let visible = with_locals(alloc, params.as_slice(), locals.as_slice())?;
     let at = Setting::program(scope, around, visible.as_slice());
     let body = body(alloc, &at, statements)?;
@@ -155,13 +155,14 @@ fn refuse_taken(alloc: Global, procs: &[Proc], name: &Node) -> Result<(), Refuse
 /// The type of a procedure's result, for which a value is to be returned where it isn't `unit`.
 fn result_of(
     alloc: Global,
+    scope: &Scope,
     name: &Node,
     written: &[Node],
     value: &[Node],
 ) -> Result<Shared<Ty>, Refused>
-    ensures { Answers (result_of name.now written.now value.now) result }
+    ensures { Answers (result_of scope.now name.now written.now value.now) result }
 {
-    let ty = result_type(alloc, written)?;
+    let ty = result_type(alloc, scope, written)?;
     if lacks_value(value, ty.get()) {
         Err(mismatch(name.place))
     } else {
@@ -170,12 +171,12 @@ fn result_of(
 }
 
 /// The type of a procedure's result; no type stands for `unit`.
-fn result_type(alloc: Global, written: &[Node]) -> Result<Shared<Ty>, Refused>
-    ensures { Answers (result_type written.now) result }
+fn result_type(alloc: Global, scope: &Scope, written: &[Node]) -> Result<Shared<Ty>, Refused>
+    ensures { Answers (result_type scope.now written.now) result }
 {
     match written {
         [] => Shared::new(alloc, Ty::Unit).map_err(Refused::from),
-        [ty, ..] => type_of(alloc, ty),
+        [ty, ..] => type_of(alloc, scope, ty),
     }
 }
 
@@ -223,13 +224,14 @@ fn refuse_local(alloc: Global, locals: &[TypedName], name: &Node) -> Result<(), 
 }
 
 /// The parameters with their types, in the order of the text.
-fn formals(alloc: Global, trees: &[Node]) -> Result<Typed, Refused>
-    ensures { Answers (formals [] trees.now) result }
+fn formals(alloc: Global, scope: &Scope, trees: &[Node]) -> Result<Typed, Refused>
+    ensures { Answers (formals scope.now [] trees.now) result }
 {
     let mut params = Items::new(alloc);
     for tree in trees {
         declare_formal(
             alloc,
+            scope,
             &mut params,
             tree.head,
             tree.parts.as_slice(),
@@ -242,20 +244,21 @@ fn formals(alloc: Global, trees: &[Node]) -> Result<Typed, Refused>
 /// Declares a parameter beside those that are declared.
 fn declare_formal(
     alloc: Global,
+    scope: &Scope,
     params: &mut Typed,
     head: Head,
     parts: &[Node],
     place: Place,
 ) -> Result<(), Refused>
     ensures { MatchResult result
-        (λ _. formal params.old head parts.now place ≡ given params.new)
-        (λ e. Fails (formal params.old head parts.now place) e) }
+        (λ _. formal scope.now params.old head parts.now place ≡ given params.new)
+        (λ e. Fails (formal scope.now params.old head parts.now place) e) }
 {
     match head {
         Head::Formal => match parts {
             [name, ty] => {
                 refuse_local(alloc, params.as_slice(), name)?;
-                let ty = type_of(alloc, ty)?;
+                let ty = type_of(alloc, scope, ty)?;
                 params.push(variable(alloc, &name.text, &ty)?)?;
                 Ok(())
             }
@@ -266,13 +269,19 @@ fn declare_formal(
 }
 
 /// The declared locals with their types, in the order of the text.
-fn locals(alloc: Global, params: &[TypedName], lines: &[Node]) -> Result<Typed, Refused>
-    ensures { Answers (locals params.now [] lines.now) result }
+fn locals(
+    alloc: Global,
+    scope: &Scope,
+    params: &[TypedName],
+    lines: &[Node],
+) -> Result<Typed, Refused>
+    ensures { Answers (locals scope.now params.now [] lines.now) result }
 {
     let mut locals = Items::new(alloc);
     for line in lines {
         declare_line(
             alloc,
+            scope,
             params,
             &mut locals,
             line.head,
@@ -286,6 +295,7 @@ fn locals(alloc: Global, params: &[TypedName], lines: &[Node]) -> Result<Typed, 
 /// Declares the locals of a line beside what is declared.
 fn declare_line(
     alloc: Global,
+    scope: &Scope,
     params: &[TypedName],
     locals: &mut Typed,
     head: Head,
@@ -293,13 +303,13 @@ fn declare_line(
     place: Place,
 ) -> Result<(), Refused>
     ensures { MatchResult result
-        (λ _. variables params.now locals.old head parts.now place ≡ given locals.new)
-        (λ e. Fails (variables params.now locals.old head parts.now place) e) }
+        (λ _. variables scope.now params.now locals.old head parts.now place ≡ given locals.new)
+        (λ e. Fails (variables scope.now params.now locals.old head parts.now place) e) }
 {
     match head {
         Head::Variables => match parts {
             [names, ty] => {
-                let ty = type_of(alloc, ty)?;
+                let ty = type_of(alloc, scope, ty)?;
                 declare(alloc, params, locals, names.parts.as_slice(), &ty)
             }
             _ => Err(not_built(place)),

@@ -5,7 +5,7 @@ ghost use Rattle.gb_elab_mod.specs.Unbuilt.{absent};
 
 use gb_core::place::Place;
 use gb_core::refusal::Refused;
-use gb_elab::refusals::not_built;
+use gb_names::refusals::not_built;
 use gb_script::tree::Node;
 
 /// Refuses parts that aren't built, at this place.

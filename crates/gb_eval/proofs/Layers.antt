@@ -1,18 +1,26 @@
 -- Terms from their heads and the lists of their arguments.
-use Rattle.std.proofs.Common.{◌≡◌, ℕ, Bool, ◌&&◌, None, List, [], ◌∷◌, map, length, refl, sym, ap, ◌∙◌}
+use Rattle.std.proofs.Common.{◌≡◌, ℕ, ℤ, Bool, ◌&&◌, List, [], ◌∷◌, map, length, refl, sym, ap, ◌∙◌}
 use Rattle.std.specs.List.{list_all}
 use Rattle.std.proofs.lemmas.List.{length-map}
-use Rattle.std.proofs.lemmas.Simd.{map-map}
-use Rattle.gb_core.specs.declared.ty.Ty.{Ty}
-use Rattle.gb_core.specs.declared.value.Value.{Value}
-use Rattle.gb_terms.specs.declared.op.Op.{Op}
-use Rattle.gb_terms.specs.declared.op.Read.{Read}
 use Rattle.gb_terms.specs.declared.term.Term.{Term, Term', Row_of-Term, end_of-Term, more_of-Term, end_of-Head, more_of-Head, items-the_row-Term, items_shown-the_row-Term-0}
 use Rattle.gb_terms.specs.declared.term.Head.{Head}
-use Rattle.gb_terms.specs.declared.term.Head.TheVariants as head
 use Rattle.gb_terms.specs.declared.term.Head.TheViews.{out-Term, outs-struct-Term}
+use Rattle.gb_core.specs.declared.ty.Ty.{Ty}
+use Rattle.gb_core.specs.declared.value.Value.{Value}
 use Rattle.gb_eval.specs.declared.env.ReadValue.{ReadValue}
-use Rattle.gb_eval.specs.Eval.{eval, eval_all, at_head, operated}
+use Rattle.gb_eval.specs.Findings.{Comes}
+use Rattle.gb_eval.specs.Eval.{part_of, eval, eval_all, at_head}
+use Rattle.gb_core.specs.declared.ty.Ty.TheVariants as ty
+use Rattle.gb_types.specs.Types.{card_of}
+use Rattle.gb_terms.specs.declared.op.Op.{Op}
+use Rattle.gb_terms.specs.declared.op.Read.{Read}
+use Rattle.gb_terms.specs.declared.op.Op.TheVariants as op
+use Rattle.gb_terms.specs.declared.term.Head.TheVariants as head
+use Rattle.gb_meaning.specs.Operators.{outcome_type}
+use Rattle.gb_typed.proofs.Constructors.{distribution_is}
+use Rattle.gb_eval.specs.Findings.Comes.{unknown}
+use Rattle.gb_eval.specs.Operators.{nullary, uniform_over}
+use Rattle.gb_eval.specs.Totals.{total_of, totals_of, head_total, operator_total, number_of_outcomes}
 use Rattle.gb_eval.specs.Known.{is_known, all_known, is_head_known, are_true}
 
 known_row : (n : _) (r : Row_of-Term n) → all_known r ≡ map is_known (items-the_row-Term n r)
@@ -34,32 +42,70 @@ known_out (Term' p (more_of-Head h end_of-Head) n r ty) =
     ∙ known_by h _
     ∙ sym (ap (λ z. is_head_known z.head (length z.args) && list_all is_known z.args) (outs-struct-Term p (more_of-Head h end_of-Head) n r ty))
 
-eval_row : (reads : List ReadValue) (n : _) (r : Row_of-Term n) → eval_all reads r ≡ map (eval reads) (items-the_row-Term n r)
+eval_row : (reads : List ReadValue) (n : _) (r : Row_of-Term n) → eval_all reads r ≡ map (part_of reads) (items-the_row-Term n r)
 eval_row reads n end_of-Term = refl
-eval_row reads n (more_of-Term t r) = ap (λ l. eval reads t ∷ l) (eval_row reads _ r)
+eval_row reads n (more_of-Term t r) = ap (λ l. part_of reads t ∷ l) (eval_row reads _ r)
 
 -- what a term comes to, by its head and its arguments
-pub eval_out : (reads : List ReadValue) (t : Term) (bound : List Value) → eval reads t bound ≡ at_head reads (out-Term t).head (map (eval reads) (out-Term t).args) bound
+pub eval_out : (reads : List ReadValue) (t : Term) (bound : List Value) → eval reads t bound ≡ at_head reads (out-Term t).head (out-Term t).ty (map (part_of reads) (out-Term t).args) bound
 unfolding Rattle.gb_terms.specs.declared.term.Head.TheBlock.shown-the_row-Head-2 denote.Hole.Carrier.shown
 eval_out reads (Term' p (more_of-Head h end_of-Head) n r ty) bound =
-    ap (λ l. at_head reads h l bound) (eval_row reads _ r ∙ sym (ap (map (eval reads)) (items_shown-the_row-Term-0 n r)))
-    ∙ sym (ap (λ z. at_head reads z.head (map (eval reads) z.args) bound) (outs-struct-Term p (more_of-Head h end_of-Head) n r ty))
+    ap (λ l. at_head reads h ty l bound) (eval_row reads _ r ∙ sym (ap (map (part_of reads)) (items_shown-the_row-Term-0 n r)))
+    ∙ sym (ap (λ z. at_head reads z.head z.ty (map (part_of reads) z.args) bound) (outs-struct-Term p (more_of-Head h end_of-Head) n r ty))
 
-module _ (reads : List ReadValue) (t : Term) (h : Head) (xs : List Term) (bound : List Value) (p : h ≡ (out-Term t).head) (q : xs ≡ (out-Term t).args) where
-  pub eval_at : (g : Head) → h ≡ g → eval reads t bound ≡ at_head reads g (map (eval reads) xs) bound
-  eval_at g e = eval_out reads t bound ∙ (λ i. at_head reads ((sym p ∙ e) i) (map (eval reads) (sym q i)) bound)
+module _ (reads : List ReadValue) (t : Term) (h : Head) (xs : List Term) (ty : Ty) (bound : List Value) (p : h ≡ (out-Term t).head) (q : xs ≡ (out-Term t).args) (r : ty ≡ (out-Term t).ty) where
+  pub eval_at : (g : Head) → h ≡ g → eval reads t bound ≡ at_head reads g ty (map (part_of reads) xs) bound
+  eval_at g e = eval_out reads t bound ∙ (λ i. at_head reads ((sym p ∙ e) i) (sym r i) (map (part_of reads) (sym q i)) bound)
 
-  pub eval_operator : (o : Op) → h ≡ head.Builtin o → eval reads t bound ≡ operated o (map (λ u. eval reads u bound) xs)
-  eval_operator o e = eval_at (head.Builtin o) e ∙ ap (operated o) (map-map (λ x. x bound) (eval reads) xs)
-
-  pub eval_other : ((v : Value) → h ≡ head.Lit v → ⊥) → ((r : Read) → h ≡ head.Read r → ⊥) → ((i : ℕ) → h ≡ head.Bound i → ⊥) → ((o : Op) → h ≡ head.Builtin o → ⊥) → ((ty : Ty) → h ≡ head.All ty → ⊥) → ((ty : Ty) → h ≡ head.Some ty → ⊥) → eval reads t bound ≡ None
-  eval_other l r b o a s = eval_at h refl ∙ none h l r b o a s
+  pub eval_other : ((v : Value) → h ≡ head.Lit v → ⊥) → ((n : ℤ) → h ≡ head.Whole n → ⊥) → ((r : Read) → h ≡ head.Read r → ⊥) → ((i : ℕ) → h ≡ head.Bound i → ⊥) → ((o : Op) → h ≡ head.Builtin o → ⊥) → ((u : Ty) → h ≡ head.All u → ⊥) → ((u : Ty) → h ≡ head.Some u → ⊥) → (h ≡ head.Mu → ⊥) → ((n : ℕ) → h ≡ head.Sum n → ⊥) → (h ≡ head.Restrict → ⊥) → eval reads t bound ≡ unknown
+  eval_other l w r b o a s m n c = eval_at h refl ∙ none h l w r b o a s m n c
     where
-      none : (g : Head) → ((v : Value) → g ≡ head.Lit v → ⊥) → ((r : Read) → g ≡ head.Read r → ⊥) → ((i : ℕ) → g ≡ head.Bound i → ⊥) → ((o : Op) → g ≡ head.Builtin o → ⊥) → ((ty : Ty) → g ≡ head.All ty → ⊥) → ((ty : Ty) → g ≡ head.Some ty → ⊥) → at_head reads g (map (eval reads) xs) bound ≡ None
-      none (head.Lit v) l r b o a s = absurd (l v refl)
-      none (head.Read x) l r b o a s = absurd (r x refl)
-      none (head.Bound i) l r b o a s = absurd (b i refl)
-      none (head.Builtin x) l r b o a s = absurd (o x refl)
-      none (head.All ty) l r b o a s = absurd (a ty refl)
-      none (head.Some ty) l r b o a s = absurd (s ty refl)
-      none _ l r b o a s = refl
+      none : (g : Head) → ((v : Value) → g ≡ head.Lit v → ⊥) → ((n : ℤ) → g ≡ head.Whole n → ⊥) → ((r : Read) → g ≡ head.Read r → ⊥) → ((i : ℕ) → g ≡ head.Bound i → ⊥) → ((o : Op) → g ≡ head.Builtin o → ⊥) → ((u : Ty) → g ≡ head.All u → ⊥) → ((u : Ty) → g ≡ head.Some u → ⊥) → (g ≡ head.Mu → ⊥) → ((n : ℕ) → g ≡ head.Sum n → ⊥) → (g ≡ head.Restrict → ⊥) → at_head reads g ty (map (part_of reads) xs) bound ≡ unknown
+      none (head.Lit v) l w r b o a s m n c = absurd (l v refl)
+      none (head.Whole k) l w r b o a s m n c = absurd (w k refl)
+      none (head.Read x) l w r b o a s m n c = absurd (r x refl)
+      none (head.Bound i) l w r b o a s m n c = absurd (b i refl)
+      none (head.Builtin x) l w r b o a s m n c = absurd (o x refl)
+      none (head.All u) l w r b o a s m n c = absurd (a u refl)
+      none (head.Some u) l w r b o a s m n c = absurd (s u refl)
+      none head.Mu l w r b o a s m n c = absurd (m refl)
+      none (head.Sum k) l w r b o a s m n c = absurd (n k refl)
+      none head.Restrict l w r b o a s m n c = absurd (c refl)
+      none _ l w r b o a s m n c = refl
+
+total_row : (n : _) (r : Row_of-Term n) → totals_of r ≡ map total_of (items-the_row-Term n r)
+total_row n end_of-Term = refl
+total_row n (more_of-Term t r) = ap (λ l. total_of t ∷ l) (total_row _ r)
+
+-- the denominator of a term, by its head and its arguments
+pub total_out : (t : Term) → total_of t ≡ head_total (out-Term t).head (out-Term t).ty (map total_of (out-Term t).args)
+unfolding Rattle.gb_terms.specs.declared.term.Head.TheBlock.shown-the_row-Head-2 denote.Hole.Carrier.shown
+total_out (Term' p (more_of-Head h end_of-Head) n r ty) =
+    ap (head_total h ty) (total_row _ r ∙ sym (ap (map total_of) (items_shown-the_row-Term-0 n r)))
+    ∙ sym (ap (λ z. head_total z.head z.ty (map total_of z.args)) (outs-struct-Term p (more_of-Head h end_of-Head) n r ty))
+
+module _ (t : Term) (h : Head) (xs : List Term) (ty : Ty) (p : h ≡ (out-Term t).head) (q : xs ≡ (out-Term t).args) (r : ty ≡ (out-Term t).ty) where
+  pub total_at : (g : Head) → h ≡ g → total_of t ≡ head_total g ty (map total_of xs)
+  total_at g e = total_out t ∙ (λ i. head_total ((sym p ∙ e) i) (sym r i) (map total_of (sym q i)))
+
+  pub total_other : ((o : Op) → h ≡ head.Builtin o → ⊥) → (h ≡ head.Restrict → ⊥) → total_of t ≡ unknown
+  total_other b s = total_at h refl ∙ none h b s
+    where
+      none : (g : Head) → ((o : Op) → g ≡ head.Builtin o → ⊥) → (g ≡ head.Restrict → ⊥) → head_total g ty (map total_of xs) ≡ unknown
+      none (head.Builtin o) b s = absurd (b o refl)
+      none head.Restrict b s = absurd (s refl)
+      none _ b s = refl
+
+outcome_is : (t : Ty) → outcome_type (ty.Distr t) ≡ t
+outcome_is t = ap outcome_type (distribution_is t)
+
+-- the uniform distribution of a type of distributions
+module _ (o : Op) (u v w : Ty) (e : o ≡ op.Uniform) (f : u ≡ ty.Distr v) (g : w ≡ v) where
+  over_it : outcome_type u ≡ w
+  over_it = ap outcome_type f ∙ outcome_is v ∙ sym g
+
+  pub uniform_total : (ks : List (Comes ℕ)) → operator_total o u ks ≡ number_of_outcomes (card_of w)
+  uniform_total ks = ap (λ p. operator_total p u ks) e ∙ ap (λ z. number_of_outcomes (card_of z)) over_it
+
+  pub uniform_nullary : nullary o u ≡ uniform_over (card_of w) w
+  uniform_nullary = ap (λ p. nullary p u) e ∙ ap (λ z. uniform_over (card_of z) z) over_it

@@ -1,5 +1,8 @@
+pub mod AtFindings
+pub mod Fractions
 pub mod Layers
-pub mod Tests
-pub mod Truths
-pub mod Arguments
+pub mod Places
 pub mod Sound
+pub mod Stops
+pub mod Tables
+pub mod Truths

@@ -1,36 +1,95 @@
 -- What a term comes to is what it means.
-use Rattle.std.proofs.Common.{◌≡◌, ℕ, zero, suc, ◌<◌, Bool, true, false, ◌&&◌, nat_lt, ◌^◌, if◌then◌else◌, Option, Some, None, List, [], ◌∷◌, map, length, get_or, refl, sym, ap, ◌∙◌, subst, arith}
-use Rattle.std.proofs.lemmas.Bool.{false≢true, and_parts}
-use Rattle.std.proofs.lemmas.List.{length-map}
-use Rattle.std.proofs.lemmas.Simd.{map-map}
+use Rattle.std.proofs.Common.{◌≡◌, ℕ, zero, suc, ◌*◌, ◌<◌, ◌^◌, Bool, true, false, nat_le, if◌then◌else◌, pos, List, [], ◌∷◌, ◌++◌, map, get_or, refl, sym, ap, ◌∙◌, subst, arith}
+use Rattle.std.proofs.Math.Nat.{mul_comm}
+use Rattle.std.proofs.lemmas.Bool.{false≢true}
 use Rattle.gb_core.specs.declared.ty.Ty.{Ty}
 use Rattle.gb_core.specs.declared.value.Value.{Value}
+use Rattle.gb_core.specs.declared.value.Value.TheVariants.{Num, Many}
 use Rattle.gb_core.specs.declared.value.Card.{Card}
 use Rattle.gb_core.specs.declared.value.Card.TheVariants.{Exact, Above}
-use Rattle.gb_types.specs.Types.{numbering, is_finite, size_of, value_at, card_of}
+use Rattle.gb_types.specs.Types.{value_at, card_of}
+use Rattle.gb_terms.specs.declared.op.Op.{Op}
+use Rattle.gb_terms.specs.declared.op.Op.TheVariants as op
 use Rattle.gb_terms.specs.declared.op.Side.TheVariants as side
 use Rattle.gb_terms.specs.declared.op.Read.{Read}
 use Rattle.gb_terms.specs.declared.op.Read.TheVariants.{Logical, Program}
 use Rattle.gb_terms.specs.declared.term.Term.{Term, Term', Row_of-Term, end_of-Term, more_of-Term, end_of-Head, more_of-Head}
 use Rattle.gb_terms.specs.declared.term.Head.{Head}
 use Rattle.gb_terms.specs.declared.term.Head.TheVariants as head
-use Rattle.gb_meaning.specs.Setting.{Setting}
-use Rattle.gb_meaning.specs.Setting.Meaning.{finite}
-use Rattle.gb_meaning.specs.Values.{values}
+use Rattle.gb_coupling.specs.WeightedList.{WeightedList, mass, weight, total, bit, scale}
+use Rattle.gb_coupling.proofs.Masses.{mass-scale}
+use Rattle.gb_num.specs.Fractions.{Fraction, IsSame, plus}
+use Rattle.gb_num.specs.Operations.{product_of, plus_steps}
+use Rattle.gb_dist.specs.Lists as lists
+use Rattle.gb_dist.specs.Places.{outcomes}
+use Rattle.gb_dist.proofs.Events.{kept_is, kept_mass}
+use Rattle.gb_meaning.specs.Setting.{Setting, Meaning}
+use Rattle.gb_meaning.specs.Setting.{Meaning as meaning}
+use Rattle.gb_meaning.specs.Values.{Types, values}
+use Rattle.gb_meaning.specs.Fractions as mf
 use Rattle.gb_meaning.specs.Meanings as m
-use Rattle.gb_meaning.specs.Operators.{operated, denominator_at}
+use Rattle.gb_meaning.specs.Distributions as distributions
+use Rattle.gb_meaning.specs.Operators as o
+use Rattle.gb_meaning.specs.Operators.{Argument, denominator_at, outcome_type}
 use Rattle.gb_meaning.specs.State.{State, Binding, meaning_in}
-use Rattle.gb_meaning.specs.State.Binding.{value, program}
-use Rattle.gb_meaning.specs.Terms.{Speaks, val, parts, Part, part_of, argument, at_value, last_of, each_value, some_value, each_below, some_below, read_at, at_head, denominator, denominators, denominator_of}
-use Rattle.gb_laws.proofs.Types.{values_finite}
-use Rattle.gb_eval.specs.declared.answer.Answer.{Answer}
+use Rattle.gb_meaning.specs.State as st
+use Rattle.gb_meaning.specs.State.{Binding as binding}
+use Rattle.gb_meaning.specs.Terms as mt
+use Rattle.gb_meaning.specs.Terms.{Speaks, val, parts, argument, at_value, last_of, first_of, each_value, some_value, each_below, some_below, sum_below, read_at, denominator, denominators, denominator_of}
 use Rattle.gb_eval.specs.declared.env.ReadValue.{ReadValue}
-use Rattle.gb_eval.specs.Eval as e
-use Rattle.gb_eval.specs.Eval.{Answers, eval, eval_all, truth_of, value_of, value_bound, over_values, over_places}
-use Rattle.gb_eval.specs.Known.{takes, is_known, all_known, is_head_known, are_true, is_read_known}
-use Rattle.gb_eval.specs.Meant.{Means, Binds, is_given_at, AreGiven, AllGiven}
-use Rattle.gb_eval.proofs.Truths.{IsTruth, truth_meant, answer_meant, each_meant, some_meant}
-use Rattle.gb_eval.proofs.Arguments.{AreArguments, operator_meant, operator_above}
+use Rattle.gb_eval.specs.Findings.{Finding, Comes, ◌>>=◌, of_truth, value_in, fraction_in, collected, over, table_in}
+use Rattle.gb_eval.specs.Findings.Finding.{value, whole, fraction, table}
+use Rattle.gb_eval.specs.Findings.Comes.{found, unknown, overflow}
+use Rattle.gb_eval.specs.Operators as e
+use Rattle.gb_eval.specs.Operators.{connective, is_connective, zero_fraction, chance}
+use Rattle.gb_eval.specs.Totals.{total_of, totals_of, head_total, operator_total, multiplied}
+use Rattle.gb_eval.specs.Known.{is_tuple}
+use Rattle.gb_eval.specs.Eval as ev
+use Rattle.gb_eval.specs.Eval.{Part, eval, eval_all, value_of, value_bound, over_values, event}
+use Rattle.gb_eval.specs.Meant.{IsFraction, IsTable, IsFound, Means, Binds, is_given_at, AreGiven, AllGiven}
+use Rattle.gb_eval.proofs.Truths.{Finds, IsTruth, then_finds, after_finds, if_finds, means_finds, finds_means, comes_truth, answer_meant, and_meant, or_meant, implies_meant, iff_meant, each_meant, some_meant}
+use Rattle.gb_eval.proofs.Tables.{behind_none, one_collected, chance_meant, restricted_mass, event_meant, exact, IsTotal, outcomes_total}
+use Rattle.gb_eval.proofs.Fractions.{above_product, same_plus, reduced_meant}
+use Rattle.gb_eval.proofs.AtFindings.{binary_meant, unary_meant, nullary_meant}
+
+-- a side of a conditional, over the product of both denominators
+side_meant : (x : Finding) (a : Meaning) (i j k : ℕ) (c : Comes ℕ) → IsFound x a i → Finds (IsTotal j) c → i * j ≡ k → Means (ev.scaled c x) (m.scaled j a) k
+side_meant (value v) a i j k c h l e = ap (m.scaled j) h
+side_meant (whole n) a i j k c h l e = ap (m.scaled j) h
+side_meant (fraction p) a i j k c h l e = record { meant = h.meant; is = ap (m.scaled j) h.is; above = h.above; found_above = h.found_above; same = h.same }
+side_meant (table n d) a i j k c h l e =
+    finds_means _ _ k
+    (then_finds (IsTotal j) (λ f. IsFound f (m.scaled j a) k) c _ l
+    (λ z q r. after_finds (λ f. IsFound f (m.scaled j a) k) _ _ (record {
+      meant = scale j h.meant;
+      is = ap (m.scaled j) h.is;
+      same = λ f. mass-scale z d f ∙ (λ y. r.is y * h.same f y) ∙ sym (mass-scale j h.meant f);
+      total = (λ y. h.total y * r.is y) ∙ e;
+    })))
+
+-- operators that make no tuple, by the number of their arguments
+abbrev plainly : Types → Op → Ty → List Argument → Meaning
+plainly t p ty [] = o.nullary t p ty
+plainly t p ty (a ∷ []) = o.unary t p ty a.meaning
+plainly t p ty (a ∷ b ∷ []) = o.binary t p ty a b
+plainly t p ty (a ∷ b ∷ c ∷ []) = o.ternary t p ty a b c
+plainly t p ty _ = m.nothing
+
+operated_plainly : (t : Types) (ty : Ty) (p : Op) (xs : List Argument) → is_tuple p ≡ false → o.operated t p ty xs ≡ plainly t p ty xs
+operated_plainly t ty op.Tuple xs h = absurd (false≢true (sym h))
+operated_plainly t ty _ [] h = refl
+operated_plainly t ty _ (a ∷ []) h = refl
+operated_plainly t ty _ (a ∷ b ∷ []) h = refl
+operated_plainly t ty _ (a ∷ b ∷ c ∷ []) h = refl
+operated_plainly t ty _ (a ∷ b ∷ c ∷ d ∷ xs) h = refl
+
+-- denominators
+
+multiplied_total : (c d : Comes ℕ) (j k : ℕ) → Finds (IsTotal j) c → Finds (IsTotal k) d → Finds (IsTotal (j * k)) (multiplied (c ∷ d ∷ []))
+multiplied_total c d j k h l =
+    then_finds (IsTotal j) (IsTotal (j * k)) c _ h (λ m e q.
+    then_finds (IsTotal k) (IsTotal (j * k)) d _ l (λ n w r.
+    after_finds (IsTotal (j * k)) (product_of (pos m) (pos n) ∷ []) (m * n) (record { is = λ i. q.is i * r.is i; above = above_product m n q.above r.above })))
 
 module _ (g : Setting) (j : Speaks) (s : State) (reads : List ReadValue) where
   -- the state inside of binders
@@ -38,155 +97,330 @@ module _ (g : Setting) (j : Speaks) (s : State) (reads : List ReadValue) where
   inner bs = record s { bound = bs }
 
   -- a part means what its term comes to, inside of binders too
-  record IsMeant (x : Answers) (p : Part) : Type 0 where
-    means : (bs : List Binding) (vs : List Value) → Binds bs vs → Means (x vs) (p.meaning (inner bs)) p.denominator
-    above : 0 < p.denominator
+  record IsMeant (x : Part) (p : mt.Part) : Type 0 where
+    means : (bs : List Binding) (vs : List Value) → Binds bs vs → Means (x.comes vs) (p.meaning (inner bs)) p.denominator
+    total : Finds (IsTotal p.denominator) x.total
 
-  abbrev AreMeant : List Answers → List Part → Type 0
+  abbrev AreMeant : List Part → List mt.Part → Type 0
   AreMeant [] [] = Unit {0}
   AreMeant (x ∷ xs) (p ∷ ps) = IsMeant x p × AreMeant xs ps
   AreMeant _ _ = ⊥
 
-  bound_meant : (bs : List Binding) (vs : List Value) (i : ℕ) → Binds bs vs → Means (value_bound vs i) (meaning_in (get_or bs i program)) 1
+  bound_meant : (bs : List Binding) (vs : List Value) (i : ℕ) → Binds bs vs → Means (value_bound vs i) (meaning_in (get_or bs i binding.program)) 1
   bound_meant bs [] i h = tt
   bound_meant [] (v ∷ vs) i h = absurd h
   bound_meant (b ∷ bs) (v ∷ vs) zero h = ap meaning_in h.0
   bound_meant (b ∷ bs) (v ∷ vs) (suc i) h = bound_meant bs vs i h.1
 
   -- a read of a memory that no binder binds is the same inside of binders
-  read_inside : (r : Read) (ty : Ty) (bs : List Binding) → is_read_known r ≡ true → read_at g r ty (inner bs) ≡ read_at g r ty s
-  read_inside (Logical i) ty bs h = refl
-  read_inside (Program x side.Own) ty bs h = refl
-  read_inside (Program x side.Left) ty bs h = refl
-  read_inside (Program x side.Right) ty bs h = refl
-  read_inside (Program x (side.Memory i)) ty bs h = refl
-  read_inside (Program x (side.Bound i)) ty bs h = absurd (false≢true h)
+  read_meant : (r : Read) (ty : Ty) (bs : List Binding) → Means (value_of reads r) (read_at g r ty s) 1 → Means (value_of reads r) (read_at g r ty (inner bs)) 1
+  read_meant (Logical i) ty bs h = h
+  read_meant (Program x side.Own) ty bs h = h
+  read_meant (Program x side.Left) ty bs h = h
+  read_meant (Program x side.Right) ty bs h = h
+  read_meant (Program x (side.Memory i)) ty bs h = h
+  read_meant (Program x (side.Bound i)) ty bs h = tt
+
+  -- the truth of a part where a binder binds a value
+  body_meant : (x : Part) (p : mt.Part) → IsMeant x p → (bs : List Binding) (vs : List Value) → Binds bs vs → (v : Value) → IsTruth (ev.truth_under x (v ∷ vs)) (m.truth (at_value p (inner bs) v))
+  body_meant x p h bs vs b v = comes_truth (x.comes (v ∷ vs)) _ p.denominator (h.means (binding.value (meaning.finite v) ∷ bs) (v ∷ vs) (refl, b))
+
+  truth_meant : (x : Part) (p : mt.Part) → IsMeant x p → (bs : List Binding) (vs : List Value) → Binds bs vs → IsTruth (ev.truth_under x vs) (m.truth (p.meaning (inner bs)))
+  truth_meant x p h bs vs b = comes_truth (x.comes vs) _ p.denominator (h.means bs vs b)
 
   -- quantifiers
 
-  exact_size : (b : Bool) (k n : ℕ) → (if b then Exact k else Above) ≡ Exact n → n ≡ k
-  exact_size true k n h = sym (ap size_in h)
-    where
-      size_in : Card → ℕ
-      size_in (Exact n) = n
-      size_in Above = 0
-  exact_size false k n h = absurd (false≢true (ap is_exact h))
-    where
-      is_exact : Card → Bool
-      is_exact (Exact n) = true
-      is_exact Above = false
-
-  all_values_meant : (u : Ty) (c : Card) (f : Value → Option Bool) (h : Value → Bool) → card_of u ≡ c → values g.types u ≡ numbering u → ((v : Value) → IsTruth (f v) (h v)) → IsTruth (over_values false c u f) (each_value (values g.types u) h)
-  all_values_meant u Above f h c v k = tt
-  all_values_meant u (Exact n) f h c v k =
-      let size = exact_size (is_finite u && nat_lt (size_of u) (2 ^ 63)) (size_of u) n c in
-      subst (λ t. IsTruth (over_values false (Exact n) u f) (each_value t h)) (sym v)
-      (subst (λ i. IsTruth (over_places false n (λ i. f (value_at u i))) (each_below i (λ i. h (value_at u i)))) size
+  all_values_meant : (u : Ty) (c : Card) (f : Value → Comes Bool) (h : Value → Bool) → card_of u ≡ c → ((v : Value) → IsTruth (f v) (h v)) → IsTruth (over_values false c u f) (each_value (values g.types u) h)
+  all_values_meant u Above f h c k = tt
+  all_values_meant u (Exact n) f h c k =
+      subst (λ t. IsTruth (over_values false (Exact n) u f) (each_value t h)) (sym (exact g.types u n c).0)
+      (subst (λ i. IsTruth (over_values false (Exact n) u f) (each_below i (λ i. h (value_at u i)))) (exact g.types u n c).1
       (each_meant n (λ i. f (value_at u i)) (λ i. h (value_at u i)) (λ i. k (value_at u i))))
 
-  some_value_meant : (u : Ty) (c : Card) (f : Value → Option Bool) (h : Value → Bool) → card_of u ≡ c → values g.types u ≡ numbering u → ((v : Value) → IsTruth (f v) (h v)) → IsTruth (over_values true c u f) (some_value (values g.types u) h)
-  some_value_meant u Above f h c v k = tt
-  some_value_meant u (Exact n) f h c v k =
-      let size = exact_size (is_finite u && nat_lt (size_of u) (2 ^ 63)) (size_of u) n c in
-      subst (λ t. IsTruth (over_values true (Exact n) u f) (some_value t h)) (sym v)
-      (subst (λ i. IsTruth (over_places true n (λ i. f (value_at u i))) (some_below i (λ i. h (value_at u i)))) size
+  some_value_meant : (u : Ty) (c : Card) (f : Value → Comes Bool) (h : Value → Bool) → card_of u ≡ c → ((v : Value) → IsTruth (f v) (h v)) → IsTruth (over_values true c u f) (some_value (values g.types u) h)
+  some_value_meant u Above f h c k = tt
+  some_value_meant u (Exact n) f h c k =
+      subst (λ t. IsTruth (over_values true (Exact n) u f) (some_value t h)) (sym (exact g.types u n c).0)
+      (subst (λ i. IsTruth (over_values true (Exact n) u f) (some_below i (λ i. h (value_at u i)))) (exact g.types u n c).1
       (some_meant n (λ i. f (value_at u i)) (λ i. h (value_at u i)) (λ i. k (value_at u i))))
 
-  body_meant : (x : Answers) (p : Part) → IsMeant x p → (bs : List Binding) (vs : List Value) → Binds bs vs → (v : Value) → IsTruth (truth_of (x (v ∷ vs))) (m.truth (at_value p (inner bs) v))
-  body_meant x p h bs vs b v = truth_meant (x (v ∷ vs)) _ p.denominator (h.means (value (finite v) ∷ bs) (v ∷ vs) (refl, b))
+  forall_meant : (u : Ty) (xs : List Part) (ps : List mt.Part) (bs : List Binding) (vs : List Value) → AreMeant xs ps → Binds bs vs → Means (ev.quantified false u xs vs) (m.of_truth (each_value (values g.types u) (λ v. m.truth (at_value (last_of ps) (inner bs) v)))) 1
+  forall_meant u [] ps bs vs h b = tt
+  forall_meant u (x ∷ []) (p ∷ []) bs vs h b = answer_meant _ _ 1 (all_values_meant u (card_of u) _ _ refl (body_meant x p h.0 bs vs b))
+  forall_meant u (x ∷ []) [] bs vs h b = absurd h
+  forall_meant u (x ∷ []) (p ∷ q ∷ ps) bs vs h b = absurd h.1
+  forall_meant u (x ∷ y ∷ xs) ps bs vs h b = tt
 
-  forall_meant : (u : Ty) (xs : List Answers) (ps : List Part) (bs : List Binding) (vs : List Value) → AreMeant xs ps → Binds bs vs → is_finite u ≡ true → Means (e.quantified false u xs vs) (m.of_truth (each_value (values g.types u) (λ v. m.truth (at_value (last_of ps) (inner bs) v)))) 1
-  forall_meant u [] ps bs vs h b f = tt
-  forall_meant u (x ∷ []) (p ∷ []) bs vs h b f = answer_meant _ _ 1 (all_values_meant u (card_of u) _ _ refl (values_finite g.types u f) (body_meant x p h.0 bs vs b))
-  forall_meant u (x ∷ []) [] bs vs h b f = absurd h
-  forall_meant u (x ∷ []) (p ∷ q ∷ ps) bs vs h b f = absurd h.1
-  forall_meant u (x ∷ y ∷ xs) ps bs vs h b f = tt
+  exists_meant : (u : Ty) (xs : List Part) (ps : List mt.Part) (bs : List Binding) (vs : List Value) → AreMeant xs ps → Binds bs vs → Means (ev.quantified true u xs vs) (m.of_truth (some_value (values g.types u) (λ v. m.truth (at_value (last_of ps) (inner bs) v)))) 1
+  exists_meant u [] ps bs vs h b = tt
+  exists_meant u (x ∷ []) (p ∷ []) bs vs h b = answer_meant _ _ 1 (some_value_meant u (card_of u) _ _ refl (body_meant x p h.0 bs vs b))
+  exists_meant u (x ∷ []) [] bs vs h b = absurd h
+  exists_meant u (x ∷ []) (p ∷ q ∷ ps) bs vs h b = absurd h.1
+  exists_meant u (x ∷ y ∷ xs) ps bs vs h b = tt
 
-  exists_meant : (u : Ty) (xs : List Answers) (ps : List Part) (bs : List Binding) (vs : List Value) → AreMeant xs ps → Binds bs vs → is_finite u ≡ true → Means (e.quantified true u xs vs) (m.of_truth (some_value (values g.types u) (λ v. m.truth (at_value (last_of ps) (inner bs) v)))) 1
-  exists_meant u [] ps bs vs h b f = tt
-  exists_meant u (x ∷ []) (p ∷ []) bs vs h b f = answer_meant _ _ 1 (some_value_meant u (card_of u) _ _ refl (values_finite g.types u f) (body_meant x p h.0 bs vs b))
-  exists_meant u (x ∷ []) [] bs vs h b f = absurd h
-  exists_meant u (x ∷ []) (p ∷ q ∷ ps) bs vs h b f = absurd h.1
-  exists_meant u (x ∷ y ∷ xs) ps bs vs h b f = tt
+  -- distributions and events
+
+  event_at : (x : Part) (p : mt.Part) → IsMeant x p → (bs : List Binding) (vs : List Value) → Binds bs vs → (l : WeightedList Value) →
+      Finds (λ ts. ts ≡ map (λ v. m.truth (at_value p (inner bs) v)) (outcomes l)) (event x l vs)
+  event_at x p h bs vs b l = event_meant (λ v. ev.truth_under x (v ∷ vs)) (λ v. m.truth (at_value p (inner bs) v)) (body_meant x p h bs vs b) l []
+
+  -- a distribution that is found
+  table_meant : (x : Part) (p : mt.Part) → IsMeant x p → (bs : List Binding) (vs : List Value) → Binds bs vs → Finds (λ d. IsTable d.0 d.1 (p.meaning (inner bs)) p.denominator) (ev.table_under x vs)
+  table_meant x p h bs vs b =
+      then_finds (λ f. IsFound f (p.meaning (inner bs)) p.denominator) (λ d. IsTable d.0 d.1 (p.meaning (inner bs)) p.denominator) (x.comes vs) table_in (means_finds _ _ _ (h.means bs vs b)) (λ f e i. step f i)
+    where
+      step : (f : Finding) → IsFound f (p.meaning (inner bs)) p.denominator → Finds (λ d. IsTable d.0 d.1 (p.meaning (inner bs)) p.denominator) (table_in f)
+      step (value v) i = tt
+      step (whole v) i = tt
+      step (fraction v) i = tt
+      step (table n l) i = i
+
+  measured_meant : (x y : Part) (p q : mt.Part) (bs : List Binding) (vs : List Value) → IsMeant x p → IsMeant y q → Binds bs vs →
+      Means (ev.measured (x ∷ y ∷ []) vs) (meaning.fraction (pos (weight (m.weights_in (p.meaning (inner bs))) (λ v. m.truth (at_value q (inner bs) v))), p.denominator)) 1
+  measured_meant x y p q bs vs h k b =
+      finds_means _ _ 1 (then_finds (λ d. IsTable d.0 d.1 (p.meaning (inner bs)) p.denominator) (λ f. IsFound f (meaning.fraction (pos (weight (m.weights_in (p.meaning (inner bs))) test), p.denominator)) 1) (ev.table_under x vs) (λ d. ev.weighed y d vs) (table_meant x p h bs vs b)
+      (λ d e i. then_finds (λ ts. ts ≡ map test (outcomes d.1)) (λ f. IsFound f (meaning.fraction (pos (weight (m.weights_in (p.meaning (inner bs))) test), p.denominator)) 1) (event y d.1 vs) (λ ts. chance (total (lists.kept ts d.1)) d.0) (event_at y q k bs vs b d.1)
+      (λ ts w r. means_finds _ _ 1 (chance_meant _ _ d.0 p.denominator 1
+      (ap (λ z. total (lists.kept z d.1)) r ∙ kept_mass test d.1 ∙ i.same (λ v. bit (test v)) ∙ sym (ap (λ z. weight (m.weights_in z) test) i.is)) i.total))))
+    where
+      test : Value → Bool
+      test v = m.truth (at_value q (inner bs) v)
+
+  restricted_meant : (x y : Part) (p q : mt.Part) (bs : List Binding) (vs : List Value) → IsMeant x p → IsMeant y q → Binds bs vs →
+      Means (ev.restricted (x ∷ y ∷ []) vs) (meaning.weights (distributions.restricted (m.weights_in (p.meaning (inner bs))) (λ v. m.truth (at_value q (inner bs) v)))) p.denominator
+  restricted_meant x y p q bs vs h k b =
+      finds_means _ _ p.denominator (then_finds (λ d. IsTable d.0 d.1 (p.meaning (inner bs)) p.denominator) (λ f. IsFound f (meaning.weights (distributions.restricted (m.weights_in (p.meaning (inner bs))) test)) p.denominator) (ev.table_under x vs) (λ d. ev.narrowed y d vs) (table_meant x p h bs vs b)
+      (λ d e i. then_finds (λ ts. ts ≡ map test (outcomes d.1)) (λ f. IsFound f (meaning.weights (distributions.restricted (m.weights_in (p.meaning (inner bs))) test)) p.denominator) (event y d.1 vs) (λ ts. found (table d.0 (lists.kept ts d.1))) (event_at y q k bs vs b d.1)
+      (λ ts w r. record {
+        meant = distributions.restricted i.meant test;
+        is = ap (λ z. meaning.weights (distributions.restricted (m.weights_in z) test)) i.is;
+        same = λ f. ap (λ z. mass (lists.kept z d.1) f) r ∙ ap (λ z. mass z f) (kept_is test d.1) ∙ restricted_mass test d.1 f ∙ i.same (λ v. bit (test v) * f v) ∙ sym (restricted_mass test i.meant f);
+        total = i.total;
+      })))
+    where
+      test : Value → Bool
+      test v = m.truth (at_value q (inner bs) v)
+
+  -- sums
+
+  fraction_found : (c : Comes Finding) (x : Meaning) (k : ℕ) → Means c x k → Finds (λ a. IsFraction a (meaning.fraction (m.fraction_in x))) (c >>= fraction_in)
+  fraction_found (found (fraction a)) x k h = record { meant = h.meant; is = ap (λ z. meaning.fraction (m.fraction_in z)) h.is; above = h.above; found_above = h.found_above; same = h.same }
+  fraction_found (found (value v)) x k h = tt
+  fraction_found (found (whole v)) x k h = tt
+  fraction_found (found (table n l)) x k h = tt
+  fraction_found unknown x k h = tt
+  fraction_found (overflow v) x k h = tt
+
+  -- a sum of fractions that are found for others
+  record IsSum (a b : Fraction) : Type 0 where
+    above : 0 < a.1
+    meant_above : 0 < b.1
+    same : IsSame a b
+
+  of_fraction : (a b : Fraction) → IsFraction a (meaning.fraction b) → IsSum a b
+  of_fraction a b f =
+      let e : f.meant ≡ b = sym (ap m.fraction_in f.is) in
+      record { above = f.found_above; meant_above = subst (λ z. 0 < z.1) e f.above; same = subst (λ z. IsSame a z) e f.same }
+
+  sum_meant : (f : ℕ → Comes Fraction) (h : ℕ → Fraction) → ((i : ℕ) → Finds (λ a. IsFraction a (meaning.fraction (h i))) (f i)) → (n : ℕ) → Finds (λ a. IsSum a (sum_below n h)) (over (ev.next_sum f) zero_fraction n)
+  sum_meant f h k zero = record { above = omega arith; meant_above = omega arith; same = refl }
+  sum_meant f h k (suc n) =
+      then_finds (λ a. IsSum a (sum_below n h)) (λ a. IsSum a (sum_below (suc n) h)) (over (ev.next_sum f) zero_fraction n) (λ a. ev.next_sum f a n) (sum_meant f h k n)
+      (λ a e i. then_finds (λ b. IsFraction b (meaning.fraction (h n))) (λ a. IsSum a (sum_below (suc n) h)) (f n) _ (k n)
+      (λ b q r. let c = of_fraction b (h n) r in
+      after_finds (λ a. IsSum a (sum_below (suc n) h)) (plus_steps a b) _
+      (of_fraction _ _ (reduced_meant (plus a b) (mf.plus (sum_below n h) (h n)) (above_product _ _ i.above c.above) (above_product _ _ i.meant_above c.meant_above) (same_plus a (sum_below n h) b (h n) i.same c.same)))))
+
+  summed_meant : (q : ℕ) (x : Part) (p : mt.Part) (bs : List Binding) (vs : List Value) → IsMeant x p → Binds bs vs →
+      Means (ev.summed q (x ∷ []) vs) (meaning.fraction (sum_below q (λ i. m.fraction_in (p.meaning (st.under (inner bs) (binding.value (m.of_number i))))))) 1
+  summed_meant q x p bs vs h b =
+      finds_means _ _ 1
+      (if_finds (λ f. IsFound f _ 1) (nat_le q (2 ^ 32)) _ (λ e.
+      then_finds (λ a. IsSum a (sum_below q value)) (λ f. IsFound f (meaning.fraction (sum_below q value)) 1) (over (ev.next_sum body) zero_fraction q) _
+      (sum_meant body value (λ i. fraction_found (x.comes (Num i ∷ vs)) _ p.denominator (h.means (binding.value (m.of_number i) ∷ bs) (Num i ∷ vs) (refl, b))) q)
+      (λ a w r. record { meant = sum_below q value; is = refl; above = r.meant_above; found_above = r.above; same = r.same })))
+    where
+      body : ℕ → Comes Fraction
+      body i = x.comes (Num i ∷ vs) >>= fraction_in
+
+      value : ℕ → Fraction
+      value i = m.fraction_in (p.meaning (st.under (inner bs) (binding.value (m.of_number i))))
 
   -- operators
 
-  arguments_meant : (xs : List Answers) (ps : List Part) (bs : List Binding) (vs : List Value) → AreMeant xs ps → Binds bs vs → AreArguments (map (λ x. x vs) xs) (map (argument (inner bs)) ps)
-  arguments_meant [] [] bs vs h b = tt
-  arguments_meant [] (p ∷ ps) bs vs h b = absurd h
-  arguments_meant (x ∷ xs) [] bs vs h b = absurd h
-  arguments_meant (x ∷ xs) (p ∷ ps) bs vs h b = (record { means = h.0.means bs vs b; above = h.0.above }, arguments_meant xs ps bs vs h.1 b)
+  value_found : (c : Comes Finding) (x : Meaning) (k : ℕ) → Means c x k → Finds (λ v. m.value_in x ≡ v) (c >>= value_in)
+  value_found (found (value v)) x k h = ap m.value_in h
+  value_found (found (whole v)) x k h = tt
+  value_found (found (fraction v)) x k h = tt
+  value_found (found (table n l)) x k h = tt
+  value_found unknown x k h = tt
+  value_found (overflow v) x k h = tt
 
-  argument_denominators : (ps : List Part) (bs : List Binding) → map (λ y. y.denominator) (map (argument (inner bs)) ps) ≡ map (λ p. p.denominator) ps
-  argument_denominators [] bs = refl
-  argument_denominators (p ∷ ps) bs = ap (λ l. p.denominator ∷ l) (argument_denominators ps bs)
+  tuple_meant : (xs : List Part) (ps : List mt.Part) (bs : List Binding) (vs : List Value) → AreMeant xs ps → Binds bs vs → (out : List Value) →
+      Finds (λ ws. ws ≡ out ++ map (λ p. m.value_in (p.meaning (inner bs))) ps) (collected out (map (λ x. x.comes vs >>= value_in) xs))
+  tuple_meant [] [] bs vs h b out = behind_none out
+  tuple_meant [] (p ∷ ps) bs vs h b out = absurd h
+  tuple_meant (x ∷ xs) [] bs vs h b out = absurd h
+  tuple_meant (x ∷ xs) (p ∷ ps) bs vs h b out =
+      one_collected out (x.comes vs >>= value_in) (m.value_in (p.meaning (inner bs))) (map (λ x. x.comes vs >>= value_in) xs) (map (λ p. m.value_in (p.meaning (inner bs))) ps)
+      (value_found (x.comes vs) (p.meaning (inner bs)) p.denominator (h.0.means bs vs b)) (tuple_meant xs ps bs vs h.1 b)
+
+  same_parts : (ps : List mt.Part) (bs : List Binding) → map (λ a. m.value_in a.meaning) (map (argument (inner bs)) ps) ≡ map (λ p. m.value_in (p.meaning (inner bs))) ps
+  same_parts [] bs = refl
+  same_parts (p ∷ ps) bs = ap (λ l. m.value_in (p.meaning (inner bs)) ∷ l) (same_parts ps bs)
+
+  -- operators at their numbers of arguments, but those of tuples
+  module _ (ty : Ty) (bs : List Binding) (vs : List Value) (b : Binds bs vs) where
+    one_meant : (p : Op) (x : Part) (q : mt.Part) → IsMeant x q → Means (x.comes vs >>= λ a. e.unary p ty a) (o.unary g.types p ty (q.meaning (inner bs))) (denominator_at g.types p ty (q.denominator ∷ []))
+    one_meant p x q h =
+        finds_means _ _ _ (then_finds (λ f. IsFound f (q.meaning (inner bs)) q.denominator) _ (x.comes vs) _ (means_finds _ _ _ (h.means bs vs b))
+        (λ f w i. means_finds _ _ _ (unary_meant g.types ty p f (argument (inner bs) q) i)))
+
+    two_meant : (p : Op) (x y : Part) (q r : mt.Part) → IsMeant x q → IsMeant y r →
+        Means (x.comes vs >>= λ a. y.comes vs >>= λ c. e.binary p ty a c) (o.binary g.types p ty (argument (inner bs) q) (argument (inner bs) r)) (denominator_at g.types p ty (q.denominator ∷ r.denominator ∷ []))
+    two_meant p x y q r h k =
+        finds_means _ _ _ (then_finds (λ f. IsFound f (q.meaning (inner bs)) q.denominator) _ (x.comes vs) _ (means_finds _ _ _ (h.means bs vs b))
+        (λ f w i. then_finds (λ f. IsFound f (r.meaning (inner bs)) r.denominator) _ (y.comes vs) _ (means_finds _ _ _ (k.means bs vs b))
+        (λ f2 w2 i2. means_finds _ _ _ (binary_meant g.types ty p f f2 (argument (inner bs) q) (argument (inner bs) r) i i2))))
+
+    chosen_meant : (c : Comes Bool) (d : Bool) (y z : Part) (r u : mt.Part) → IsTruth c d → IsMeant y r → IsMeant z u →
+        Means (c >>= λ a. ev.chosen a y z vs) (o.chosen d (argument (inner bs) r) (argument (inner bs) u)) (r.denominator * u.denominator)
+    chosen_meant c d y z r u h k l =
+        finds_means _ _ _ (then_finds (λ a. d ≡ a) (λ f. IsFound f (o.chosen d (argument (inner bs) r) (argument (inner bs) u)) (r.denominator * u.denominator)) c (λ a. ev.chosen a y z vs) h (λ a w i. by a d i))
+      where
+        by : (a d : Bool) → d ≡ a → Finds (λ f. IsFound f (o.chosen d (argument (inner bs) r) (argument (inner bs) u)) (r.denominator * u.denominator)) (ev.chosen a y z vs)
+        by true true i =
+            then_finds (λ f. IsFound f (r.meaning (inner bs)) r.denominator) _ (y.comes vs) _ (means_finds _ _ _ (k.means bs vs b))
+            (λ f w q. means_finds _ _ _ (side_meant f _ r.denominator u.denominator _ z.total q l.total refl))
+        by false false i =
+            then_finds (λ f. IsFound f (u.meaning (inner bs)) u.denominator) _ (z.comes vs) _ (means_finds _ _ _ (l.means bs vs b))
+            (λ f w q. means_finds _ _ _ (side_meant f _ u.denominator r.denominator _ y.total q k.total (mul_comm u.denominator r.denominator)))
+        by true false i = absurd (false≢true i)
+        by false true i = absurd (false≢true (sym i))
+
+    connected_meant : (p : Op) (x y : Part) (q r : mt.Part) → IsMeant x q → IsMeant y r → is_connective p ≡ true →
+        Means (connective p (ev.truth_under x vs) (ev.truth_under y vs) >>= λ a. found (of_truth a)) (o.binary g.types p ty (argument (inner bs) q) (argument (inner bs) r)) (denominator_at g.types p ty (q.denominator ∷ r.denominator ∷ []))
+    connected_meant op.And x y q r h k w = answer_meant _ _ 1 (and_meant _ _ _ _ (truth_meant x q h bs vs b) (truth_meant y r k bs vs b))
+    connected_meant op.Or x y q r h k w = answer_meant _ _ 1 (or_meant _ _ _ _ (truth_meant x q h bs vs b) (truth_meant y r k bs vs b))
+    connected_meant op.Implies x y q r h k w = answer_meant _ _ 1 (implies_meant _ _ _ _ (truth_meant x q h bs vs b) (truth_meant y r k bs vs b))
+    connected_meant op.Iff x y q r h k w = answer_meant _ _ 1 (iff_meant _ _ _ _ (truth_meant x q h bs vs b) (truth_meant y r k bs vs b))
+    connected_meant _ x y q r h k w = absurd (false≢true w)
+
+    at_two_meant : (p : Op) (x y : Part) (q r : mt.Part) → IsMeant x q → IsMeant y r → (c : Bool) → is_connective p ≡ c →
+        Means (if c then (connective p (ev.truth_under x vs) (ev.truth_under y vs) >>= λ a. found (of_truth a)) else (x.comes vs >>= λ a. y.comes vs >>= λ d. e.binary p ty a d))
+        (o.binary g.types p ty (argument (inner bs) q) (argument (inner bs) r)) (denominator_at g.types p ty (q.denominator ∷ r.denominator ∷ []))
+    at_two_meant p x y q r h k true w = connected_meant p x y q r h k w
+    at_two_meant p x y q r h k false w = two_meant p x y q r h k
+
+    conditional_meant : (p : Op) (x y z : Part) (q r u : mt.Part) → IsMeant x q → IsMeant y r → IsMeant z u →
+        Means (ev.at_three p (x ∷ y ∷ z ∷ []) vs) (o.ternary g.types p ty (argument (inner bs) q) (argument (inner bs) r) (argument (inner bs) u)) (denominator_at g.types p ty (q.denominator ∷ r.denominator ∷ u.denominator ∷ []))
+    conditional_meant op.If x y z q r u h k l = chosen_meant (ev.truth_under x vs) _ y z r u (truth_meant x q h bs vs b) k l
+    conditional_meant _ x y z q r u h k l = tt
+
+    plainly_meant : (p : Op) (xs : List Part) (ps : List mt.Part) → AreMeant xs ps → Means (ev.at_arguments p ty xs vs) (plainly g.types p ty (map (argument (inner bs)) ps)) (denominator_at g.types p ty (map (λ p. p.denominator) ps))
+    plainly_meant p [] [] h = nullary_meant g.types ty p
+    plainly_meant p [] (q ∷ ps) h = absurd h
+    plainly_meant p (x ∷ xs) [] h = absurd h
+    plainly_meant p (x ∷ []) (q ∷ []) h = one_meant p x q h.0
+    plainly_meant p (x ∷ []) (q ∷ r ∷ ps) h = absurd h.1
+    plainly_meant p (x ∷ y ∷ xs) (q ∷ []) h = absurd h.1
+    plainly_meant p (x ∷ y ∷ []) (q ∷ r ∷ []) h = at_two_meant p x y q r h.0 h.1.0 (is_connective p) refl
+    plainly_meant p (x ∷ y ∷ []) (q ∷ r ∷ u ∷ ps) h = absurd h.1.1
+    plainly_meant p (x ∷ y ∷ z ∷ xs) (q ∷ r ∷ []) h = absurd h.1.1
+    plainly_meant p (x ∷ y ∷ z ∷ []) (q ∷ r ∷ u ∷ []) h = conditional_meant p x y z q r u h.0 h.1.0 h.1.1.0
+    plainly_meant p (x ∷ y ∷ z ∷ []) (q ∷ r ∷ u ∷ w ∷ ps) h = absurd h.1.1.1
+    plainly_meant p (x ∷ y ∷ z ∷ w ∷ xs) ps h = tt
+
+    operated_meant : (p : Op) (xs : List Part) (ps : List mt.Part) → AreMeant xs ps → (c : Bool) → is_tuple p ≡ c →
+        Means (if c then ev.tuple xs vs else ev.at_arguments p ty xs vs) (o.operated g.types p ty (map (argument (inner bs)) ps)) (denominator_at g.types p ty (map (λ p. p.denominator) ps))
+    operated_meant p xs ps h false e = subst (λ z. Means (ev.at_arguments p ty xs vs) z (denominator_at g.types p ty (map (λ p. p.denominator) ps))) (sym (operated_plainly g.types ty p (map (argument (inner bs)) ps) e)) (plainly_meant p xs ps h)
+    operated_meant op.Tuple xs ps h true e =
+        finds_means _ _ 1
+        (then_finds (λ ws. ws ≡ map (λ p. m.value_in (p.meaning (inner bs))) ps) _ (collected [] (map (λ x. x.comes vs >>= value_in) xs)) (λ ws. found (value (Many ws))) (tuple_meant xs ps bs vs h b [])
+        (λ ws w q. ap (λ l. meaning.finite (Many l)) (same_parts ps bs ∙ sym q)))
+    operated_meant _ xs ps h true e = absurd (false≢true e)
 
   part_denominators : {n : _} (r : Row_of-Term n) → denominators g r ≡ map (λ p. p.denominator) (parts g j r)
   part_denominators end_of-Term = refl
   part_denominators (more_of-Term t r) = ap (λ l. denominator g t ∷ l) (part_denominators r)
 
-  mapped_length : (xs : List Answers) (vs : List Value) → length (map (λ x. x vs) xs) ≡ length xs
-  mapped_length [] vs = refl
-  mapped_length (x ∷ xs) vs = ap suc (mapped_length xs vs)
+  head_meant : (t : Term) (h : Head) (xs : List Part) (ps : List mt.Part) (ty : Ty) → AreMeant xs ps → is_given_at g s reads h ty → (bs : List Binding) (vs : List Value) → Binds bs vs → Means (ev.at_head reads h ty xs vs) (mt.at_head g j t h ps ty (inner bs)) (denominator_of g h (map (λ p. p.denominator) ps) ty)
+  head_meant t (head.Lit v) xs ps ty h w bs vs b = refl
+  head_meant t (head.Whole n) xs ps ty h w bs vs b = refl
+  head_meant t (head.Bound i) xs ps ty h w bs vs b = bound_meant bs vs i b
+  head_meant t (head.Read r) xs ps ty h w bs vs b = read_meant r ty bs w
+  head_meant t (head.Builtin o) xs ps ty h w bs vs b = operated_meant ty bs vs b o xs ps h (is_tuple o) refl
+  head_meant t (head.All u) xs ps ty h w bs vs b = forall_meant u xs ps bs vs h b
+  head_meant t (head.Some u) xs ps ty h w bs vs b = exists_meant u xs ps bs vs h b
+  head_meant t head.Mu (x ∷ y ∷ []) (p ∷ q ∷ []) ty h w bs vs b = measured_meant x y p q bs vs h.0 h.1.0 b
+  head_meant t head.Mu (x ∷ y ∷ []) (p ∷ q ∷ r ∷ ps) ty h w bs vs b = absurd h.1.1
+  head_meant t head.Mu (x ∷ y ∷ []) (p ∷ []) ty h w bs vs b = absurd h.1
+  head_meant t head.Mu (x ∷ y ∷ []) [] ty h w bs vs b = absurd h
+  head_meant t head.Restrict (x ∷ y ∷ []) (p ∷ q ∷ []) ty h w bs vs b = restricted_meant x y p q bs vs h.0 h.1.0 b
+  head_meant t head.Restrict (x ∷ y ∷ []) (p ∷ q ∷ r ∷ ps) ty h w bs vs b = absurd h.1.1
+  head_meant t head.Restrict (x ∷ y ∷ []) (p ∷ []) ty h w bs vs b = absurd h.1
+  head_meant t head.Restrict (x ∷ y ∷ []) [] ty h w bs vs b = absurd h
+  head_meant t (head.Sum q) (x ∷ []) (p ∷ []) ty h w bs vs b = summed_meant q x p bs vs h.0 b
+  head_meant t (head.Sum q) (x ∷ []) (p ∷ r ∷ ps) ty h w bs vs b = absurd h.1
+  head_meant t (head.Sum q) (x ∷ []) [] ty h w bs vs b = absurd h
+  head_meant t _ xs ps ty h w bs vs b = tt
 
-  head_meant : (t : Term) (h : Head) (xs : List Answers) (ps : List Part) (ty : Ty) → AreMeant xs ps → is_head_known h (length xs) ≡ true → is_given_at g s reads h ty → (bs : List Binding) (vs : List Value) → Binds bs vs → Means (e.at_head reads h xs vs) (at_head g j t h ps ty (inner bs)) (denominator_of g h (map (λ p. p.denominator) ps) ty)
-  head_meant t (head.Lit v) xs ps ty h k w bs vs b = refl
-  head_meant t (head.Bound i) xs ps ty h k w bs vs b = bound_meant bs vs i b
-  head_meant t (head.Read r) xs ps ty h k w bs vs b = subst (λ x. Means (value_of reads r) x 1) (sym (read_inside r ty bs (and_parts _ _ k).1)) w
-  head_meant t (head.Builtin o) xs ps ty h k w bs vs b =
-      let known = ap (takes o) (mapped_length xs vs) ∙ k in
-      subst (λ ks. Means (e.operated o (map (λ x. x vs) xs)) (operated g.types o ty (map (argument (inner bs)) ps)) (denominator_at g.types o ty ks)) (argument_denominators ps bs)
-      (operator_meant g.types ty o (map (λ x. x vs) xs) (map (argument (inner bs)) ps) (arguments_meant xs ps bs vs h b) known)
-  head_meant t (head.All u) xs ps ty h k w bs vs b = forall_meant u xs ps bs vs h b (and_parts _ _ k).1
-  head_meant t (head.Some u) xs ps ty h k w bs vs b = exists_meant u xs ps bs vs h b (and_parts _ _ k).1
-  head_meant t _ xs ps ty h k w bs vs b = absurd (false≢true k)
+  operator_total_meant : (p : Op) (xs : List Part) (ps : List mt.Part) (ty : Ty) → AreMeant xs ps → Finds (IsTotal (denominator_at g.types p ty (map (λ p. p.denominator) ps))) (operator_total p ty (map (λ x. x.total) xs))
+  operator_total_meant op.Coin xs ps ty h = record { is = refl; above = omega arith }
+  operator_total_meant op.Uniform xs ps ty h = outcomes_total g.types (outcome_type ty) (card_of (outcome_type ty)) refl
+  operator_total_meant op.Dunit xs ps ty h = record { is = refl; above = omega arith }
+  operator_total_meant op.Product [] ps ty h = tt
+  operator_total_meant op.Product (x ∷ []) ps ty h = tt
+  operator_total_meant op.Product (x ∷ y ∷ []) (p ∷ q ∷ []) ty h = multiplied_total x.total y.total _ _ h.0.total h.1.0.total
+  operator_total_meant op.Product (x ∷ y ∷ []) (p ∷ q ∷ r ∷ ps) ty h = absurd h.1.1
+  operator_total_meant op.Product (x ∷ y ∷ []) (p ∷ []) ty h = absurd h.1
+  operator_total_meant op.Product (x ∷ y ∷ []) [] ty h = absurd h
+  operator_total_meant op.Product (x ∷ y ∷ z ∷ xs) ps ty h = tt
+  operator_total_meant op.If [] ps ty h = tt
+  operator_total_meant op.If (x ∷ []) ps ty h = tt
+  operator_total_meant op.If (x ∷ y ∷ []) ps ty h = tt
+  operator_total_meant op.If (x ∷ y ∷ z ∷ []) (p ∷ q ∷ r ∷ []) ty h = multiplied_total y.total z.total _ _ h.1.0.total h.1.1.0.total
+  operator_total_meant op.If (x ∷ y ∷ z ∷ []) (p ∷ q ∷ r ∷ u ∷ ps) ty h = absurd h.1.1.1
+  operator_total_meant op.If (x ∷ y ∷ z ∷ []) (p ∷ q ∷ []) ty h = absurd h.1.1
+  operator_total_meant op.If (x ∷ y ∷ z ∷ []) (p ∷ []) ty h = absurd h.1
+  operator_total_meant op.If (x ∷ y ∷ z ∷ []) [] ty h = absurd h
+  operator_total_meant op.If (x ∷ y ∷ z ∷ w ∷ xs) ps ty h = tt
+  operator_total_meant _ xs ps ty h = tt
 
-  head_above : (h : Head) (xs : List Answers) (ps : List Part) (ty : Ty) → AreMeant xs ps → is_head_known h (length xs) ≡ true → 0 < denominator_of g h (map (λ p. p.denominator) ps) ty
-  head_above (head.Lit v) xs ps ty h k = omega arith
-  head_above (head.Bound i) xs ps ty h k = omega arith
-  head_above (head.Read r) xs ps ty h k = omega arith
-  head_above (head.Builtin o) xs ps ty h k = above xs ps h k
-    where
-      listed : (xs : List Answers) (ps : List Part) → AreMeant xs ps → AreArguments (map (λ x. None) xs) (map (λ p. record { meaning = m.nothing; denominator = p.denominator }) ps)
-      listed [] [] h = tt
-      listed [] (p ∷ ps) h = absurd h
-      listed (x ∷ xs) [] h = absurd h
-      listed (x ∷ xs) (p ∷ ps) h = (record { means = tt; above = h.0.above }, listed xs ps h.1)
+  head_total_meant : (h : Head) (xs : List Part) (ps : List mt.Part) (ty : Ty) → AreMeant xs ps → Finds (IsTotal (denominator_of g h (map (λ p. p.denominator) ps) ty)) (head_total h ty (map (λ x. x.total) xs))
+  head_total_meant (head.Builtin o) xs ps ty h = operator_total_meant o xs ps ty h
+  head_total_meant head.Restrict [] ps ty h = tt
+  head_total_meant head.Restrict (x ∷ []) ps ty h = tt
+  head_total_meant head.Restrict (x ∷ y ∷ z ∷ xs) ps ty h = tt
+  head_total_meant head.Restrict (x ∷ y ∷ []) (p ∷ q ∷ []) ty h = h.0.total
+  head_total_meant head.Restrict (x ∷ y ∷ []) (p ∷ q ∷ r ∷ ps) ty h = absurd h.1.1
+  head_total_meant head.Restrict (x ∷ y ∷ []) (p ∷ []) ty h = absurd h.1
+  head_total_meant head.Restrict (x ∷ y ∷ []) [] ty h = absurd h
+  head_total_meant _ xs ps ty h = tt
 
-      above : (xs : List Answers) (ps : List Part) → AreMeant xs ps → takes o (length xs) ≡ true → 0 < denominator_at g.types o ty (map (λ p. p.denominator) ps)
-      above xs ps h k =
-          let n : length (map {B = Option Answer} (λ x. None) xs) ≡ length xs = length-map xs (λ x. None) in
-          subst (λ ks. 0 < denominator_at g.types o ty ks) (map-map (λ y. y.denominator) (λ p. record { meaning = m.nothing; denominator = p.denominator }) ps)
-          (operator_above g.types ty o _ _ (listed xs ps h) (ap (takes o) n ∙ k))
-  head_above (head.All u) xs ps ty h k = omega arith
-  head_above (head.Some u) xs ps ty h k = omega arith
-  head_above _ xs ps ty h k = absurd (false≢true k)
-
-  lengths : {n : _} (r : Row_of-Term n) → length (all_known r) ≡ length (eval_all reads r)
-  lengths end_of-Term = refl
-  lengths (more_of-Term t r) = ap suc (lengths r)
+  part_totals : {n : _} (r : Row_of-Term n) → totals_of r ≡ map (λ x. x.total) (eval_all reads r)
+  part_totals end_of-Term = refl
+  part_totals (more_of-Term t r) = ap (λ l. total_of t ∷ l) (part_totals r)
 
   mutual
-    term_meant : (t : Term) → is_known t ≡ true → AreGiven g s reads t → IsMeant (eval reads t) (part_of g j t)
-    term_meant (Term' p (more_of-Head h end_of-Head) n ts ty) k w =
-        let known = and_parts (is_head_known h (length (all_known ts))) (are_true (all_known ts)) k in
-        let head_known = ap (is_head_known h) (sym (lengths ts)) ∙ known.0 in
-        let inside = row_meant ts known.1 w.1 in
+    term_meant : (t : Term) → AreGiven g s reads t → IsMeant (ev.part_of reads t) (mt.part_of g j t)
+    term_meant (Term' p (more_of-Head h end_of-Head) n ts ty) w =
+        let inside = row_meant ts w.1 in
         record {
           means = λ bs vs b.
-              subst (λ ks. Means (e.at_head reads h (eval_all reads ts) vs) (at_head g j (Term' p (more_of-Head h end_of-Head) n ts ty) h (parts g j ts) ty (inner bs)) (denominator_of g h ks ty)) (sym (part_denominators ts))
-              (head_meant (Term' p (more_of-Head h end_of-Head) n ts ty) h (eval_all reads ts) (parts g j ts) ty inside head_known w.0 bs vs b);
-          above = subst (λ ks. 0 < denominator_of g h ks ty) (sym (part_denominators ts)) (head_above h (eval_all reads ts) (parts g j ts) ty inside head_known);
+              subst (λ ks. Means (ev.at_head reads h ty (eval_all reads ts) vs) (mt.at_head g j (Term' p (more_of-Head h end_of-Head) n ts ty) h (parts g j ts) ty (inner bs)) (denominator_of g h ks ty)) (sym (part_denominators ts))
+              (head_meant (Term' p (more_of-Head h end_of-Head) n ts ty) h (eval_all reads ts) (parts g j ts) ty inside w.0 bs vs b);
+          total = subst (λ ks. Finds (IsTotal (denominator_of g h ks ty)) (head_total h ty (totals_of ts))) (sym (part_denominators ts))
+              (subst (λ us. Finds (IsTotal (denominator_of g h (map (λ p. p.denominator) (parts g j ts)) ty)) (head_total h ty us)) (sym (part_totals ts))
+              (head_total_meant h (eval_all reads ts) (parts g j ts) ty inside));
         }
 
-    row_meant : {n : _} (r : Row_of-Term n) → are_true (all_known r) ≡ true → AllGiven g s reads r → AreMeant (eval_all reads r) (parts g j r)
-    row_meant end_of-Term k w = tt
-    row_meant (more_of-Term t r) k w =
-        let known = and_parts (is_known t) (are_true (all_known r)) k in
-        (term_meant t known.0 w.0, row_meant r known.1 w.1)
+    row_meant : {n : _} (r : Row_of-Term n) → AllGiven g s reads r → AreMeant (eval_all reads r) (parts g j r)
+    row_meant end_of-Term w = tt
+    row_meant (more_of-Term t r) w = (term_meant t w.0, row_meant r w.1)
 
-pub answer_sound : (g : Setting) (j : Speaks) (s : State) (reads : List ReadValue) (t : Term) (bound : List Value) → is_known t ≡ true → AreGiven g s reads t → Binds s.bound bound → Means (eval reads t bound) (val g j t s) (denominator g t)
-answer_sound g j s reads t bound k w b = (term_meant g j s reads t k w).means s.bound bound b
+pub answer_sound : (g : Setting) (j : Speaks) (s : State) (reads : List ReadValue) (t : Term) (bound : List Value) → AreGiven g s reads t → Binds s.bound bound → Means (eval reads t bound) (val g j t s) (denominator g t)
+answer_sound g j s reads t bound w b = (term_meant g j s reads t w).means s.bound bound b
 
-pub truth_sound : (g : Setting) (j : Speaks) (s : State) (reads : List ReadValue) (t : Term) (b : Bool) → is_known t ≡ true → AreGiven g s reads t → truth_of (eval reads t []) ≡ Some b → m.truth (val g j t s) ≡ b
-truth_sound g j s reads t b k w h = subst (λ c. IsTruth c (m.truth (val g j t s))) h (truth_meant (eval reads t []) (val g j t s) (denominator g t) (answer_sound g j s reads t [] k w tt))
+pub truth_sound : (g : Setting) (j : Speaks) (s : State) (reads : List ReadValue) (t : Term) (b : Bool) → AreGiven g s reads t → ev.truth_at reads t [] ≡ found b → m.truth (val g j t s) ≡ b
+truth_sound g j s reads t b w h = subst (λ c. IsTruth c (m.truth (val g j t s))) h (comes_truth (eval reads t []) (val g j t s) (denominator g t) (answer_sound g j s reads t [] w tt))

@@ -1,37 +1,65 @@
--- Truths and answers that mean what a form does.
-use Rattle.std.proofs.Common.{◌≡◌, ℕ, zero, suc, ◌*◌, ◌<◌, Bool, true, false, not, ◌&&◌, ◌||◌, ◌==◌, is_some, if◌then◌else◌, pos, Option, Some, None, [], ◌∷◌, refl, sym, ap, ◌∙◌, subst, arith}
-use Rattle.std.proofs.Math.IntN.{pos-*ℤ-pos}
-use Rattle.std.proofs.Math.Nat.{mul_assoc, mul_comm}
-use Rattle.std.proofs.lemmas.Bool.{false≢true}
-use Rattle.std.proofs.lemmas.Bool.Decides.{Decides-eqb, Decides-int_eq}
-use Rattle.gb_core.specs.declared.value.Value.{Value}
+-- Findings and truths that mean what a form does.
+use Rattle.std.proofs.Common.{◌≡◌, ℕ, zero, suc, Bool, true, false, not, ◌&&◌, ◌||◌, ◌==◌, if◌then◌else◌, Option, Some, None, List, refl, sym, ap, ◌∙◌, subst}
+use Rattle.std.proofs.lemmas.Bool.Decides.{Decides-eqb}
 use Rattle.gb_core.specs.declared.value.Value.TheVariants.{Num, Many', rolls-Num}
 use Rattle.gb_core.specs.declared.value.Value.TheOpen as v
 use Rattle.gb_core.specs.declared.value.Value.TheViews.{out-Value, out-roll-Value}
-use Rattle.gb_types.specs.Numbering.{number_in}
-use Rattle.gb_coupling.specs.WeightedList.{scale, weight}
+use Rattle.gb_types.specs.Numbering.{number_in, number_of}
 use Rattle.gb_terms.specs.declared.op.Op.TheVariants as op
+use Rattle.gb_num.specs.declared.whole.Overflow.{Overflow}
+use Rattle.gb_num.specs.Operations.{Operation, first_overflow}
 use Rattle.gb_meaning.specs.Setting.{Meaning}
-use Rattle.gb_meaning.specs.Setting.Meaning.{finite, weights}
-use Rattle.gb_meaning.specs.Values.{value_eq}
 use Rattle.gb_meaning.specs.Meanings as m
-use Rattle.gb_meaning.specs.Fractions.{is_same}
-use Rattle.gb_meaning.specs.Distributions.{coin}
 use Rattle.gb_meaning.specs.Operators as o
 use Rattle.gb_meaning.specs.Terms.{each_below, some_below}
-use Rattle.gb_eval.specs.declared.answer.Answer.{Answer}
-use Rattle.gb_eval.specs.declared.answer.Answer.TheVariants as answer
-use Rattle.gb_eval.specs.Eval.{unless_decided, truth_answer, truth_of_number, truth_of_value, truth_of, same, negated, connective, over_places}
-use Rattle.gb_eval.specs.Meant.{Means}
+use Rattle.gb_eval.specs.Findings.{Finding, Comes, ◌>>=◌, unless, after, of_truth, truth_in, truth_of_number, over}
+use Rattle.gb_eval.specs.Findings.Finding.{value, whole, fraction, table}
+use Rattle.gb_eval.specs.Findings.Comes.{found, unknown, overflow}
+use Rattle.gb_eval.specs.Operators.{connective}
+use Rattle.gb_eval.specs.Eval.{next_truth}
+use Rattle.gb_eval.specs.Meant.{IsFound, Means}
+
+-- what is found has a property
+abbrev pub Finds : {A : Type 0} → (A → Type 0) → Comes A → Type 0
+Finds P (found x) = P x
+Finds P unknown = Unit {0}
+Finds P (overflow o) = Unit {0}
+
+pub then_finds : {A B : Type 0} (P : A → Type 0) (Q : B → Type 0) (c : Comes A) (k : A → Comes B) → Finds P c → ((x : A) → c ≡ found x → P x → Finds Q (k x)) → Finds Q (c >>= k)
+then_finds P Q (found x) k h f = f x refl h
+then_finds P Q unknown k h f = tt
+then_finds P Q (overflow o) k h f = tt
+
+pub unless_finds : {A : Type 0} (P : A → Type 0) (o : Option Overflow) (x : A) → P x → Finds P (unless o x)
+unless_finds P None x h = h
+unless_finds P (Some o) x h = tt
+
+pub after_finds : {A : Type 0} (P : A → Type 0) (os : List Operation) (x : A) → P x → Finds P (after os x)
+after_finds P os x h = unless_finds P (first_overflow os) x h
+
+pub if_finds : {A : Type 0} (P : A → Type 0) (b : Bool) (c : Comes A) → (b ≡ true → Finds P c) → Finds P (if b then c else unknown)
+if_finds P true c f = f refl
+if_finds P false c f = tt
+
+-- what is found means what a part does
+pub means_finds : (c : Comes Finding) (x : Meaning) (k : ℕ) → Means c x k → Finds (λ f. IsFound f x k) c
+means_finds (found f) x k h = h
+means_finds unknown x k h = tt
+means_finds (overflow o) x k h = tt
+
+pub finds_means : (c : Comes Finding) (x : Meaning) (k : ℕ) → Finds (λ f. IsFound f x k) c → Means c x k
+finds_means (found f) x k h = h
+finds_means unknown x k h = tt
+finds_means (overflow o) x k h = tt
 
 -- a truth that is found is the truth
-abbrev pub IsTruth : Option Bool → Bool → Type 0
-IsTruth None b = Unit {0}
-IsTruth (Some c) b = b ≡ c
+abbrev pub IsTruth : Comes Bool → Bool → Type 0
+IsTruth c b = Finds (λ d. b ≡ d) c
 
--- a number that is no truth value, or one
+pub number_is : (n : ℕ) → number_of (Num n) ≡ n
+number_is n = ap number_in (ap out-Value (sym (rolls-Num n)) ∙ out-roll-Value (v.Num n))
 
-number_truth : (n : ℕ) (b c : Bool) → b ≡ (n == 0) → c ≡ (n == 1) → IsTruth (if b then Some false else if c then Some true else None) (n == 1)
+number_truth : (n : ℕ) (b c : Bool) → b ≡ (n == 0) → c ≡ (n == 1) → IsTruth (if b then found false else if c then found true else unknown) (n == 1)
 number_truth n true c e f = one_of n (sym e)
   where
     one_of : (n : ℕ) → (n == 0) ≡ true → (n == 1) ≡ false
@@ -39,126 +67,79 @@ number_truth n true c e f = one_of n (sym e)
 number_truth n false true e f = sym f
 number_truth n false false e f = tt
 
-number_is : (n : ℕ) → m.truth (finite (Num n)) ≡ (n == 1)
-number_is n = ap (λ x. number_in x == 1) (ap out-Value (sym (rolls-Num n)) ∙ out-roll-Value (v.Num n))
+pub truth_meant : (f : Finding) (x : Meaning) (k : ℕ) → IsFound f x k → IsTruth (truth_in f) (m.truth x)
+truth_meant (value (Num n)) x k h =
+    subst (λ y. IsTruth (truth_of_number n) (m.truth y)) (sym h)
+    (subst (λ i. IsTruth (truth_of_number n) (i == 1)) (sym (number_is n)) (number_truth n (n == 0) (n == 1) refl refl))
+truth_meant (value (Many' n r)) x k h = tt
+truth_meant (whole n) x k h = tt
+truth_meant (fraction a) x k h = tt
+truth_meant (table n l) x k h = tt
 
-value_truth : (v : Value) → IsTruth (truth_of_value v) (m.truth (finite v))
-value_truth (Num n) = subst (IsTruth (truth_of_number n)) (sym (number_is n)) (number_truth n (n == 0) (n == 1) refl refl)
-value_truth (Many' n r) = tt
+pub comes_truth : (c : Comes Finding) (x : Meaning) (k : ℕ) → Means c x k → IsTruth (c >>= truth_in) (m.truth x)
+comes_truth c x k h = then_finds (λ f. IsFound f x k) (λ d. m.truth x ≡ d) c truth_in (means_finds c x k h) (λ f e i. truth_meant f x k i)
 
-pub truth_meant : (a : Option Answer) (x : Meaning) (k : ℕ) → Means a x k → IsTruth (truth_of a) (m.truth x)
-truth_meant None x k h = tt
-truth_meant (Some (answer.Value v)) x k h = subst (λ y. IsTruth (truth_of_value v) (m.truth y)) (sym h) (value_truth v)
-truth_meant (Some answer.Half) x k h = tt
-truth_meant (Some answer.Coin) x k h = tt
+pub of_truth_meant : (a b : Bool) (k : ℕ) → b ≡ a → IsFound (of_truth a) (m.of_truth b) k
+of_truth_meant true b k h = ap m.of_truth h
+of_truth_meant false b k h = ap m.of_truth h
 
-pub answer_meant : (c : Option Bool) (b : Bool) (k : ℕ) → IsTruth c b → Means (truth_answer c) (m.of_truth b) k
-answer_meant None b k h = tt
-answer_meant (Some true) b k h = ap m.of_truth h
-answer_meant (Some false) b k h = ap m.of_truth h
+pub answer_meant : (c : Comes Bool) (b : Bool) (k : ℕ) → IsTruth c b → Means (c >>= λ a. found (of_truth a)) (m.of_truth b) k
+answer_meant (found a) b k h = of_truth_meant a b k h
+answer_meant unknown b k h = tt
+answer_meant (overflow o) b k h = tt
 
 -- connectives
 
-pub not_meant : (c : Option Bool) (b : Bool) → IsTruth c b → IsTruth (negated c) (not b)
-not_meant None b h = tt
-not_meant (Some c) b h = ap not h
+pub and_meant : (c d : Comes Bool) (a b : Bool) → IsTruth c a → IsTruth d b → IsTruth (connective op.And c d) (a && b)
+and_meant unknown d a b h k = tt
+and_meant (overflow o) d a b h k = tt
+and_meant (found true) (found e) a b h k = λ i. h i && k i
+and_meant (found true) unknown a b h k = tt
+and_meant (found true) (overflow o) a b h k = tt
+and_meant (found false) d a b h k = ap (λ z. z && b) h
 
-pub and_meant : (c d : Option Bool) (a b : Bool) → IsTruth c a → IsTruth d b → IsTruth (connective op.And c d) (a && b)
-and_meant None d a b h k = tt
-and_meant (Some true) d true b h k = k
-and_meant (Some true) d false b h k = absurd (false≢true h)
-and_meant (Some false) d true b h k = absurd (false≢true (sym h))
-and_meant (Some false) d false b h k = refl
+pub or_meant : (c d : Comes Bool) (a b : Bool) → IsTruth c a → IsTruth d b → IsTruth (connective op.Or c d) (a || b)
+or_meant unknown d a b h k = tt
+or_meant (overflow o) d a b h k = tt
+or_meant (found false) (found e) a b h k = λ i. h i || k i
+or_meant (found false) unknown a b h k = tt
+or_meant (found false) (overflow o) a b h k = tt
+or_meant (found true) d a b h k = ap (λ z. z || b) h
 
-pub or_meant : (c d : Option Bool) (a b : Bool) → IsTruth c a → IsTruth d b → IsTruth (connective op.Or c d) (a || b)
-or_meant None d a b h k = tt
-or_meant (Some true) d true b h k = refl
-or_meant (Some true) d false b h k = absurd (false≢true h)
-or_meant (Some false) d true b h k = absurd (false≢true (sym h))
-or_meant (Some false) d false b h k = k
+pub implies_meant : (c d : Comes Bool) (a b : Bool) → IsTruth c a → IsTruth d b → IsTruth (connective op.Implies c d) (not a || b)
+implies_meant unknown d a b h k = tt
+implies_meant (overflow o) d a b h k = tt
+implies_meant (found true) (found e) a b h k = λ i. not (h i) || k i
+implies_meant (found true) unknown a b h k = tt
+implies_meant (found true) (overflow o) a b h k = tt
+implies_meant (found false) d a b h k = ap (λ z. not z || b) h
 
-pub implies_meant : (c d : Option Bool) (a b : Bool) → IsTruth c a → IsTruth d b → IsTruth (connective op.Implies c d) (not a || b)
-implies_meant None d a b h k = tt
-implies_meant (Some true) d true b h k = k
-implies_meant (Some true) d false b h k = absurd (false≢true h)
-implies_meant (Some false) d true b h k = absurd (false≢true (sym h))
-implies_meant (Some false) d false b h k = refl
-
-pub iff_meant : (c d : Option Bool) (a b : Bool) → IsTruth c a → IsTruth d b → IsTruth (connective op.Iff c d) (o.alike a b)
-iff_meant None d a b h k = tt
-iff_meant (Some true) d true b h k = k
-iff_meant (Some true) d false b h k = absurd (false≢true h)
-iff_meant (Some false) d true b h k = absurd (false≢true (sym h))
-iff_meant (Some false) d false b h k = not_meant d b k
-
--- equality
-
-halves : (n k : ℕ) → is_same (pos n, 2 * n) (pos k, 2 * k) ≡ true
-halves n k =
-    let e : n * (2 * k) ≡ k * (2 * n) = grind (arith, mul_comm n k) in
-    (Decides-int_eq _ _).1 (pos-*ℤ-pos n (2 * k) ∙ ap pos e ∙ sym (pos-*ℤ-pos k (2 * n)))
-
-pub same_meant : (a b : Answer) (x y : Meaning) (j k : ℕ) → Means (Some a) x j → Means (Some b) y k → IsTruth (same a b) (m.same x y)
-same_meant (answer.Value v) (answer.Value w) x y j k h i = λ z. m.same (h z) (i z)
-same_meant (answer.Value v) answer.Half x y j k h i = tt
-same_meant (answer.Value v) answer.Coin x y j k h i = tt
-same_meant answer.Half (answer.Value w) x y j k h i = tt
-same_meant answer.Half answer.Half x y j k h i = (λ z. m.same (h.2 z) (i.2 z)) ∙ halves h.0 i.0
-same_meant answer.Half answer.Coin x y j k h i = tt
-same_meant answer.Coin b x y j k h i = tt
-
--- the fair coin
-
-weight_of_number : (c n : ℕ) (a b : Bool) → a ≡ (n == 0) → b ≡ (n == 1) → is_some (if a then Some false else if b then Some true else None) ≡ true → weight (scale c coin) (λ w. value_eq w (Num n)) ≡ c
-weight_of_number c n true b e f h = let k = (Decides-eqb n 0).0 (sym e) in ap (λ i. weight (scale c coin) (λ w. value_eq w (Num i))) k ∙ omega arith
-weight_of_number c n false true e f h = let k = (Decides-eqb n 1).0 (sym f) in ap (λ i. weight (scale c coin) (λ w. value_eq w (Num i))) k ∙ omega arith
-weight_of_number c n false false e f h = absurd (false≢true h)
-
-pub weight_of_outcome : (c : ℕ) (v : Value) → is_some (truth_of_value v) ≡ true → weight (scale c coin) (λ w. value_eq w v) ≡ c
-weight_of_outcome c (Num n) h = weight_of_number c n _ _ refl refl h
-weight_of_outcome c (Many' n r) h = absurd (false≢true h)
-
--- a side of a conditional
-
-scale_scale : (c n : ℕ) → scale c (scale n coin) ≡ scale (c * n) coin
-scale_scale c n = λ i. (Num 0, e i) ∷ (Num 1, e i) ∷ []
-  where
-    e : c * (n * 1) ≡ (c * n) * 1
-    e = sym (mul_assoc c n 1)
-
-pub above_product : (a b : ℕ) → 0 < a → 0 < b → 0 < a * b
-above_product (suc a) (suc b) h k = grind arith
-above_product zero b h k = absurd (omega arith)
-above_product (suc a) zero h k = absurd (omega arith)
-
-pub side_meant : (a : Option Answer) (x : Meaning) (k c d : ℕ) → Means a x k → 0 < c → d ≡ c * k → Means a (m.scaled c x) d
-side_meant None x k c d h l e = tt
-side_meant (Some (answer.Value v)) x k c d h l e = ap (m.scaled c) h
-side_meant (Some answer.Half) x k c d h l e = (h.0, h.1, ap (m.scaled c) h.2)
-side_meant (Some answer.Coin) x k c d h l e =
-    let f : c * (2 * h.0) ≡ 2 * (c * h.0) = grind arith in
-    (c * h.0, above_product c h.0 l h.1, ap (m.scaled c) h.2 ∙ ap weights (scale_scale c h.0), e ∙ ap (λ y. c * y) h.3 ∙ f)
+pub iff_meant : (c d : Comes Bool) (a b : Bool) → IsTruth c a → IsTruth d b → IsTruth (connective op.Iff c d) (o.alike a b)
+iff_meant unknown d a b h k = tt
+iff_meant (overflow o) d a b h k = tt
+iff_meant (found true) (found e) a b h k = λ i. o.alike (h i) (k i)
+iff_meant (found false) (found e) a b h k = λ i. o.alike (h i) (k i)
+iff_meant (found true) unknown a b h k = tt
+iff_meant (found true) (overflow o) a b h k = tt
+iff_meant (found false) unknown a b h k = tt
+iff_meant (found false) (overflow o) a b h k = tt
 
 -- quantifiers
 
-pub each_meant : (n : ℕ) (f : ℕ → Option Bool) (e : ℕ → Bool) → ((i : ℕ) → IsTruth (f i) (e i)) → IsTruth (over_places false n f) (each_below n e)
+pub each_meant : (n : ℕ) (f : ℕ → Comes Bool) (e : ℕ → Bool) → ((i : ℕ) → IsTruth (f i) (e i)) → IsTruth (over (next_truth false f) true n) (each_below n e)
 each_meant zero f e h = refl
-each_meant (suc n) f e h = step (over_places false n f) (each_below n e) (each_meant n f e h)
+each_meant (suc n) f e h =
+    then_finds (λ d. each_below n e ≡ d) (λ d. (each_below n e && e n) ≡ d) (over (next_truth false f) true n) (λ b. next_truth false f b n) (each_meant n f e h) (λ b q k. step b k)
   where
-    step : (c : Option Bool) (b : Bool) → IsTruth c b → IsTruth (unless_decided false c (f n)) (b && e n)
-    step None b k = tt
-    step (Some true) true k = h n
-    step (Some true) false k = absurd (false≢true k)
-    step (Some false) true k = absurd (false≢true (sym k))
-    step (Some false) false k = refl
+    step : (b : Bool) → each_below n e ≡ b → IsTruth (next_truth false f b n) (each_below n e && e n)
+    step true k = subst (λ z. IsTruth (f n) (z && e n)) (sym k) (h n)
+    step false k = ap (λ z. z && e n) k
 
-pub some_meant : (n : ℕ) (f : ℕ → Option Bool) (e : ℕ → Bool) → ((i : ℕ) → IsTruth (f i) (e i)) → IsTruth (over_places true n f) (some_below n e)
+pub some_meant : (n : ℕ) (f : ℕ → Comes Bool) (e : ℕ → Bool) → ((i : ℕ) → IsTruth (f i) (e i)) → IsTruth (over (next_truth true f) false n) (some_below n e)
 some_meant zero f e h = refl
-some_meant (suc n) f e h = step (over_places true n f) (some_below n e) (some_meant n f e h)
+some_meant (suc n) f e h =
+    then_finds (λ d. some_below n e ≡ d) (λ d. (some_below n e || e n) ≡ d) (over (next_truth true f) false n) (λ b. next_truth true f b n) (some_meant n f e h) (λ b q k. step b k)
   where
-    step : (c : Option Bool) (b : Bool) → IsTruth c b → IsTruth (unless_decided true c (f n)) (b || e n)
-    step None b k = tt
-    step (Some true) true k = refl
-    step (Some true) false k = absurd (false≢true k)
-    step (Some false) true k = absurd (false≢true (sym k))
-    step (Some false) false k = h n
+    step : (b : Bool) → some_below n e ≡ b → IsTruth (next_truth true f b n) (some_below n e || e n)
+    step false k = subst (λ z. IsTruth (f n) (z || e n)) (sym k) (h n)
+    step true k = ap (λ z. z || e n) k

@@ -1,9 +1,8 @@
 -- What terms come to.
-use Rattle.std.specs.Prelude.{ℕ, zero, suc, Bool, true, false, ◌&&◌, ◌==◌, not, is_some, if◌then◌else◌, Option, Some, None, List, [], ◌∷◌, map}
-use Rattle.std.specs.Option.{option_or}
+use Rattle.std.specs.Prelude.{ℕ, zero, suc, ◌*◌, ◌^◌, Bool, true, false, not, nat_le, if◌then◌else◌, pos, List, [], ◌∷◌, ◌++◌, map}
 use Rattle.gb_core.specs.declared.ty.Ty.{Ty}
 use Rattle.gb_core.specs.declared.value.Value.{Value}
-use Rattle.gb_core.specs.declared.value.Value.TheVariants.{Num, Many'}
+use Rattle.gb_core.specs.declared.value.Value.TheVariants.{Num, Many}
 use Rattle.gb_core.specs.declared.value.Card.{Card}
 use Rattle.gb_core.specs.declared.value.Card.TheVariants.{Exact, Above}
 use Rattle.gb_types.specs.Types.{card_of, value_at}
@@ -14,167 +13,158 @@ use Rattle.gb_terms.specs.declared.term.Term.{Term, Term', Row_of-Term, end_of-T
 use Rattle.gb_terms.specs.declared.term.Head.{Head}
 use Rattle.gb_terms.specs.declared.term.Head.TheVariants as head
 use Rattle.gb_terms.specs.Equal.{read_eq}
-use Rattle.gb_meaning.specs.Values.{value_eq}
-use Rattle.gb_eval.specs.declared.answer.Answer.{Answer}
-use Rattle.gb_eval.specs.declared.answer.Answer.TheVariants as answer
+use Rattle.gb_coupling.specs.WeightedList.{WeightedList, total, scale}
+use Rattle.gb_num.specs.Fractions.{Fraction, plus, reduced}
+use Rattle.gb_num.specs.Operations.{product_of, plus_steps}
+use Rattle.gb_dist.specs.Lists.{kept}
+use Rattle.gb_dist.specs.Places.{outcomes}
+use Rattle.gb_dist.specs.Rows.{scaling_steps}
 use Rattle.gb_eval.specs.declared.env.ReadValue.{ReadValue}
-
--- 1 for true, 0 for false
-abbrev pub of_truth : Bool → Answer
-of_truth true = answer.Value (Num 1)
-of_truth false = answer.Value (Num 0)
-
-abbrev pub truth_answer : Option Bool → Option Answer
-truth_answer None = None
-truth_answer (Some b) = Some (of_truth b)
-
-abbrev pub truth_of_number : ℕ → Option Bool
-truth_of_number n = if n == 0 then Some false else if n == 1 then Some true else None
-
-abbrev pub truth_of_value : Value → Option Bool
-truth_of_value (Num n) = truth_of_number n
-truth_of_value (Many' n r) = None
-
-abbrev pub truth_in : Answer → Option Bool
-truth_in (answer.Value v) = truth_of_value v
-truth_in _ = None
-
-abbrev pub truth_of : Option Answer → Option Bool
-truth_of None = None
-truth_of (Some a) = truth_in a
-
-abbrev pub same : Answer → Answer → Option Bool
-same (answer.Value v) (answer.Value w) = Some (value_eq v w)
-same answer.Half answer.Half = Some true
-same _ _ = None
-
-abbrev pub is_coin : Answer → Bool
-is_coin answer.Coin = true
-is_coin _ = false
-
-abbrev pub is_outcome : Answer → Answer → Bool
-is_outcome a d = is_coin d && is_some (truth_in a)
+use Rattle.gb_eval.specs.Findings.{Finding, Comes, ◌>>=◌, after, collected, over, of_truth, truth_in, value_in, fraction_in, table_in}
+use Rattle.gb_eval.specs.Findings.Finding.{value, whole, fraction, table}
+use Rattle.gb_eval.specs.Findings.Comes.{found, unknown}
+use Rattle.gb_eval.specs.Operators.{nullary, unary, binary, is_connective, connective, zero_fraction, chance}
+use Rattle.gb_eval.specs.Totals.{total_of}
+use Rattle.gb_eval.specs.Known.{is_read_known, is_tuple}
 
 -- the value of the first entry of the read
-abbrev pub value_of : List ReadValue → Read → Option Answer
-value_of [] r = None
-value_of (e ∷ es) r = if read_eq e.read r then Some (answer.Value e.value) else value_of es r
+abbrev pub value_among : List ReadValue → Read → Comes Finding
+value_among [] r = unknown
+value_among (e ∷ es) r = if read_eq e.read r then found (value e.value) else value_among es r
+
+-- the value of a read of a memory that no binder binds
+abbrev pub value_of : List ReadValue → Read → Comes Finding
+value_of es r = if is_read_known r then value_among es r else unknown
 
 -- the value of the variable with so many binders between
-abbrev pub value_bound : List Value → ℕ → Option Answer
-value_bound [] i = None
-value_bound (v ∷ vs) zero = Some (answer.Value v)
+abbrev pub value_bound : List Value → ℕ → Comes Finding
+value_bound [] i = unknown
+value_bound (v ∷ vs) zero = found (value v)
 value_bound (v ∷ vs) (suc i) = value_bound vs i
 
-abbrev pub negated : Option Bool → Option Bool
-negated None = None
-negated (Some b) = Some (not b)
+-- A part of a term: what it comes to under the values that the binders around bind, the innermost first, and the
+-- denominator of its tree.
+pub record Part : Type 0 where
+  pub comes : List Value → Comes Finding
+  pub total : Comes ℕ
 
-abbrev pub nullary : Op → Option Answer
-nullary op.Coin = Some answer.Coin
-nullary _ = None
+abbrev pub truth_under : Part → List Value → Comes Bool
+truth_under x bound = x.comes bound >>= truth_in
 
-abbrev pub unary : Op → Option Bool → Option Bool
-unary op.Not a = negated a
-unary _ a = None
+-- A side of a conditional that is a distribution: its weights and its denominator times the denominator of the other side.
+abbrev pub scaled : Comes ℕ → Finding → Comes Finding
+scaled k (table n l) = k >>= λ c. after (scaling_steps l c ++ product_of (pos n) (pos c) ∷ []) (table (n * c) (scale c l))
+scaled k x = found x
 
-abbrev pub is_connective : Op → Bool
-is_connective op.And = true
-is_connective op.Or = true
-is_connective op.Implies = true
-is_connective op.Iff = true
-is_connective _ = false
+abbrev pub chosen : Bool → Part → Part → List Value → Comes Finding
+chosen true x y bound = x.comes bound >>= scaled y.total
+chosen false x y bound = y.comes bound >>= scaled x.total
 
--- what the left side of a connective decides alone
-abbrev pub left_decides : Op → Bool → Option Bool
-left_decides op.And false = Some false
-left_decides op.Or true = Some true
-left_decides op.Implies false = Some true
-left_decides _ _ = None
+abbrev pub conditional : List Part → List Value → Comes Finding
+conditional (x ∷ y ∷ z ∷ []) bound = truth_under x bound >>= λ a. chosen a y z bound
+conditional _ bound = unknown
 
--- what the right side decides where the left one doesn't
-abbrev pub right_decides : Op → Bool → Option Bool → Option Bool
-right_decides op.Iff false r = negated r
-right_decides _ a r = r
+abbrev pub at_three : Op → List Part → List Value → Comes Finding
+at_three op.If xs bound = conditional xs bound
+at_three _ xs bound = unknown
 
-abbrev pub connective : Op → Option Bool → Option Bool → Option Bool
-connective o None r = None
-connective o (Some a) r = option_or (left_decides o a) (right_decides o a r)
+abbrev pub tuple : List Part → List Value → Comes Finding
+tuple xs bound = collected [] (map (λ x. x.comes bound >>= value_in) xs) >>= λ vs. found (value (Many vs))
 
-abbrev pub connected : Op → List (Option Answer) → Option Answer
-connected o (a ∷ b ∷ []) = truth_answer (connective o (truth_of a) (truth_of b))
-connected o _ = None
+abbrev pub connected : Op → List Part → List Value → Comes Finding
+connected o (x ∷ y ∷ []) bound = connective o (truth_under x bound) (truth_under y bound) >>= λ a. found (of_truth a)
+connected o _ bound = unknown
 
--- equality, and the support and the weights of the fair coin
-abbrev pub of_both : Op → Answer → Answer → Option Answer
-of_both op.Equal a b = truth_answer (same a b)
-of_both op.NotEqual a b = truth_answer (negated (same a b))
-of_both op.InSupport a b = if is_outcome a b then truth_answer (Some true) else None
-of_both op.Mu1 a b = if is_outcome b a then Some answer.Half else None
-of_both _ a b = None
+-- operands come to something from left to right
+abbrev pub at_two : Op → Ty → Part → Part → List Value → Comes Finding
+at_two o ty x y bound =
+    if is_connective o then connected o (x ∷ y ∷ []) bound else (x.comes bound >>= λ a. y.comes bound >>= λ b. binary o ty a b)
 
-abbrev pub compared : Op → List (Option Answer) → Option Answer
-compared o (Some a ∷ Some b ∷ []) = of_both o a b
-compared o _ = None
+abbrev pub at_arguments : Op → Ty → List Part → List Value → Comes Finding
+at_arguments o ty [] bound = nullary o ty
+at_arguments o ty (x ∷ []) bound = x.comes bound >>= λ a. unary o ty a
+at_arguments o ty (x ∷ y ∷ []) bound = at_two o ty x y bound
+at_arguments o ty (x ∷ y ∷ z ∷ []) bound = at_three o (x ∷ y ∷ z ∷ []) bound
+at_arguments o ty _ bound = unknown
 
-abbrev pub conditional : Op → Option Bool → Option Answer → Option Answer → Option Answer
-conditional op.If (Some true) a b = a
-conditional op.If (Some false) a b = b
-conditional _ _ a b = None
+abbrev pub operated : Op → Ty → List Part → List Value → Comes Finding
+operated o ty xs bound = if is_tuple o then tuple xs bound else at_arguments o ty xs bound
 
-abbrev pub chosen : Op → List (Option Answer) → Option Answer
-chosen o (a ∷ b ∷ c ∷ []) = conditional o (truth_of a) b c
-chosen o _ = None
+-- the truth of a quantifier after one place more: what decides it, false for `forall` and true for `exists`, stands
+abbrev pub next_truth : Bool → (ℕ → Comes Bool) → Bool → ℕ → Comes Bool
+next_truth true f true n = found true
+next_truth true f false n = f n
+next_truth false f true n = f n
+next_truth false f false n = found false
 
--- an operator at what its arguments come to
-abbrev pub operated : Op → List (Option Answer) → Option Answer
-operated o [] = nullary o
-operated o (a ∷ []) = truth_answer (unary o (truth_of a))
-operated o (a ∷ b ∷ []) = if is_connective o then connected o (a ∷ b ∷ []) else compared o (a ∷ b ∷ [])
-operated o (a ∷ b ∷ c ∷ []) = chosen o (a ∷ b ∷ c ∷ [])
-operated o _ = None
+-- the truth of a quantifier over a type, whose values are tried in order up to the first that decides
+abbrev pub over_values : Bool → Card → Ty → (Value → Comes Bool) → Comes Bool
+over_values deciding (Exact n) ty f = over (next_truth deciding (λ i. f (value_at ty i))) (not deciding) n
+over_values deciding Above ty f = unknown
 
--- the next truth of a quantifier, unless one before is unknown or decides it
-abbrev pub unless_decided : Bool → Option Bool → Option Bool → Option Bool
-unless_decided deciding None next = None
-unless_decided true (Some true) next = Some true
-unless_decided true (Some false) next = next
-unless_decided false (Some true) next = next
-unless_decided false (Some false) next = Some false
+abbrev pub quantified : Bool → Ty → List Part → List Value → Comes Finding
+quantified deciding ty (x ∷ []) bound = over_values deciding (card_of ty) ty (λ v. truth_under x (v ∷ bound)) >>= λ a. found (of_truth a)
+quantified deciding ty _ bound = unknown
 
--- The truth of a quantifier over the places below n: the first truth that decides it, false for `forall` and true for
--- `exists`, where those before are known.
-abbrev pub over_places : Bool → ℕ → (ℕ → Option Bool) → Option Bool
-over_places deciding zero f = Some (not deciding)
-over_places deciding (suc n) f = unless_decided deciding (over_places deciding n f) (f n)
+-- the truth of an event at each outcome of a table, in order
+abbrev pub event : Part → WeightedList Value → List Value → Comes (List Bool)
+event x l bound = collected [] (map (λ v. truth_under x (v ∷ bound)) (outcomes l))
 
-abbrev pub over_values : Bool → Card → Ty → (Value → Option Bool) → Option Bool
-over_values deciding (Exact n) ty f = over_places deciding n (λ i. f (value_at ty i))
-over_values deciding Above ty f = None
+abbrev pub table_under : Part → List Value → Comes (ℕ × WeightedList Value)
+table_under x bound = x.comes bound >>= table_in
 
--- what a term comes to, under the values that the binders around bind, the innermost first
-abbrev pub Answers : Type 0
-Answers = List Value → Option Answer
+-- the measure of an event, and the part of a table on which it is true
+abbrev pub weighed : Part → ℕ × WeightedList Value → List Value → Comes Finding
+weighed y d bound = event y d.1 bound >>= λ bs. chance (total (kept bs d.1)) d.0
 
-abbrev pub quantified : Bool → Ty → List Answers → Answers
-quantified deciding ty (x ∷ []) bound = truth_answer (over_values deciding (card_of ty) ty (λ v. truth_of (x (v ∷ bound))))
-quantified deciding ty _ bound = None
+abbrev pub narrowed : Part → ℕ × WeightedList Value → List Value → Comes Finding
+narrowed y d bound = event y d.1 bound >>= λ bs. found (table d.0 (kept bs d.1))
 
--- a head at what the arguments come to
-abbrev pub at_head : List ReadValue → Head → List Answers → Answers
-at_head reads (head.Lit v) xs bound = Some (answer.Value v)
-at_head reads (head.Read r) xs bound = value_of reads r
-at_head reads (head.Bound i) xs bound = value_bound bound i
-at_head reads (head.Builtin o) xs bound = operated o (map (λ x. x bound) xs)
-at_head reads (head.All ty) xs bound = quantified false ty xs bound
-at_head reads (head.Some ty) xs bound = quantified true ty xs bound
-at_head reads _ xs bound = None
+abbrev pub measured : List Part → List Value → Comes Finding
+measured (x ∷ y ∷ []) bound = table_under x bound >>= λ d. weighed y d bound
+measured _ bound = unknown
 
--- What a term comes to where reads have these values; nothing where evaluation doesn't know it.
+abbrev pub restricted : List Part → List Value → Comes Finding
+restricted (x ∷ y ∷ []) bound = table_under x bound >>= λ d. narrowed y d bound
+restricted _ bound = unknown
+
+-- the sum over the numbers below q, one by one
+abbrev pub next_sum : (ℕ → Comes Fraction) → Fraction → ℕ → Comes Fraction
+next_sum f a n = f n >>= λ b. after (plus_steps a b) (reduced (plus a b))
+
+abbrev pub summed : ℕ → List Part → List Value → Comes Finding
+summed q (x ∷ []) bound =
+    if nat_le q (2 ^ 32) then (over (next_sum (λ i. x.comes (Num i ∷ bound) >>= fraction_in)) zero_fraction q >>= λ a. found (fraction a))
+    else unknown
+summed q _ bound = unknown
+
+-- a head at what its arguments come to
+abbrev pub at_head : List ReadValue → Head → Ty → List Part → List Value → Comes Finding
+at_head reads (head.Lit v) ty xs bound = found (value v)
+at_head reads (head.Whole n) ty xs bound = found (whole n)
+at_head reads (head.Read r) ty xs bound = value_of reads r
+at_head reads (head.Bound i) ty xs bound = value_bound bound i
+at_head reads (head.Builtin o) ty xs bound = operated o ty xs bound
+at_head reads (head.All u) ty xs bound = quantified false u xs bound
+at_head reads (head.Some u) ty xs bound = quantified true u xs bound
+at_head reads head.Mu ty xs bound = measured xs bound
+at_head reads head.Restrict ty xs bound = restricted xs bound
+at_head reads (head.Sum q) ty xs bound = summed q xs bound
+at_head reads _ ty xs bound = unknown
+
+-- What a term comes to where reads have these values.
 abbrev mutual
-  pub eval : List ReadValue → Term → Answers
-  eval reads (Term' p (more_of-Head h end_of-Head) n ts ty) bound = at_head reads h (eval_all reads ts) bound
+  pub eval : List ReadValue → Term → List Value → Comes Finding
+  eval reads (Term' p (more_of-Head h end_of-Head) n ts ty) bound = at_head reads h ty (eval_all reads ts) bound
 
-  pub eval_all : {n : _} → List ReadValue → Row_of-Term n → List Answers
+  pub eval_all : {n : _} → List ReadValue → Row_of-Term n → List Part
   eval_all reads end_of-Term = []
-  eval_all reads (more_of-Term t ts) = eval reads t ∷ eval_all reads ts
+  eval_all reads (more_of-Term t ts) = record { comes = λ bound. eval reads t bound; total = total_of t } ∷ eval_all reads ts
+
+-- a term as a part
+abbrev pub part_of : List ReadValue → Term → Part
+part_of reads t = record { comes = λ bound. eval reads t bound; total = total_of t }
+
+-- the truth of a form
+abbrev pub truth_at : List ReadValue → Term → List Value → Comes Bool
+truth_at reads t bound = eval reads t bound >>= truth_in

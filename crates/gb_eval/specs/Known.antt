@@ -1,9 +1,9 @@
 -- The terms that evaluation knows.
-use Rattle.std.specs.Prelude.{ℕ, Bool, true, false, ◌&&◌, ◌==◌, not, List, [], ◌∷◌, length}
+use Rattle.std.specs.Prelude.{ℕ, Bool, true, false, ◌&&◌, ◌||◌, ◌==◌, not, Option, Some, None, List, [], ◌∷◌, length}
 use Rattle.std.specs.List.{list_all}
 use Rattle.gb_types.specs.Types.{is_finite}
 use Rattle.gb_terms.specs.declared.op.Op.{Op}
-use Rattle.gb_terms.specs.declared.op.Op.TheVariants.{Coin, Not, And, Or, Implies, Iff, Equal, NotEqual, InSupport, Mu1, If}
+use Rattle.gb_terms.specs.declared.op.Op.TheVariants as op
 use Rattle.gb_terms.specs.declared.op.Side.{Side}
 use Rattle.gb_terms.specs.declared.op.Side.TheVariants.{Bound}
 use Rattle.gb_terms.specs.declared.op.Read.{Read}
@@ -12,20 +12,36 @@ use Rattle.gb_terms.specs.declared.term.Term.{Term, Term', Row_of-Term, end_of-T
 use Rattle.gb_terms.specs.declared.term.Head.{Head}
 use Rattle.gb_terms.specs.declared.term.Head.TheVariants as head
 
+-- The number of arguments at which evaluation knows an operator. A tuple may have any.
+abbrev pub arity : Op → Option ℕ
+arity op.None = Some 0
+arity op.Empty = Some 0
+arity op.Coin = Some 0
+arity op.Uniform = Some 0
+arity op.Not = Some 1
+arity op.Negate = Some 1
+arity op.ToReal = Some 1
+arity op.Abs = Some 1
+arity (op.Part i) = Some 1
+arity op.Some = Some 1
+arity op.Oget = Some 1
+arity op.Dunit = Some 1
+arity op.If = Some 3
+arity op.Set = None
+arity op.Tuple = None
+arity _ = Some 2
+
+abbrev pub is_arity : Option ℕ → ℕ → Bool
+is_arity None n = false
+is_arity (Some k) n = n == k
+
+abbrev pub is_tuple : Op → Bool
+is_tuple op.Tuple = true
+is_tuple _ = false
+
 -- an operator that evaluation knows, at its number of arguments
 abbrev pub takes : Op → ℕ → Bool
-takes Coin n = n == 0
-takes Not n = n == 1
-takes And n = n == 2
-takes Or n = n == 2
-takes Implies n = n == 2
-takes Iff n = n == 2
-takes Equal n = n == 2
-takes NotEqual n = n == 2
-takes InSupport n = n == 2
-takes Mu1 n = n == 2
-takes If n = n == 3
-takes _ n = false
+takes o n = is_tuple o || is_arity (arity o) n
 
 abbrev pub is_bound : Side → Bool
 is_bound (Bound i) = true
@@ -38,6 +54,7 @@ is_read_known (Program x s) = not (is_bound s)
 
 abbrev pub is_head_known : Head → ℕ → Bool
 is_head_known (head.Lit v) n = n == 0
+is_head_known (head.Whole k) n = n == 0
 is_head_known (head.Bound i) n = n == 0
 is_head_known (head.Read r) n = (n == 0) && is_read_known r
 is_head_known (head.Builtin o) n = takes o n

@@ -1,3 +1,6 @@
-pub mod Eval
+pub mod Findings
+pub mod Operators
+pub mod Totals
 pub mod Known
+pub mod Eval
 pub mod Meant

@@ -1,36 +1,49 @@
 -- When what a term comes to is what it means.
-use Rattle.std.specs.Prelude.{◌≡◌, ℕ, ◌*◌, ◌<◌, pos, Option, Some, None, List, [], ◌∷◌}
+use Rattle.std.specs.Prelude.{◌≡◌, ℕ, ◌<◌, List, [], ◌∷◌}
 use Rattle.gb_core.specs.declared.ty.Ty.{Ty}
 use Rattle.gb_core.specs.declared.value.Value.{Value}
 use Rattle.gb_terms.specs.declared.term.Term.{Term, Term', Row_of-Term, end_of-Term, more_of-Term, end_of-Head, more_of-Head}
 use Rattle.gb_terms.specs.declared.term.Head.{Head}
 use Rattle.gb_terms.specs.declared.term.Head.TheVariants as head
-use Rattle.gb_coupling.specs.WeightedList.{scale}
+use Rattle.gb_coupling.specs.WeightedList.{WeightedList, mass}
+use Rattle.gb_num.specs.Fractions.{Fraction, IsSame}
 use Rattle.gb_meaning.specs.Setting.{Meaning, Setting}
-use Rattle.gb_meaning.specs.Setting.Meaning.{finite, fraction, weights}
-use Rattle.gb_meaning.specs.Distributions.{coin}
+use Rattle.gb_meaning.specs.Setting.Meaning.{finite, whole, fraction, weights}
 use Rattle.gb_meaning.specs.State.{State, Binding}
 use Rattle.gb_meaning.specs.State.Binding.{value}
 use Rattle.gb_meaning.specs.Terms.{read_at}
-use Rattle.gb_eval.specs.declared.answer.Answer.{Answer}
-use Rattle.gb_eval.specs.declared.answer.Answer.TheVariants as answer
 use Rattle.gb_eval.specs.declared.env.ReadValue.{ReadValue}
+use Rattle.gb_eval.specs.Findings.{Finding, Finding as finding, Comes}
+use Rattle.gb_eval.specs.Findings.Comes.{found, unknown, overflow}
 use Rattle.gb_eval.specs.Eval.{value_of}
 
--- one half, as n over 2 * n
-abbrev pub IsHalf : Meaning → Type 0
-IsHalf m = (n : ℕ) × (0 < n) × (m ≡ fraction (pos n, 2 * n))
+-- a fraction that is the same by cross products
+pub record IsFraction (a : Fraction) (m : Meaning) : Type 0 where
+  pub meant : Fraction
+  pub is : m ≡ fraction meant
+  pub above : 0 < meant.1
+  pub found_above : 0 < a.1
+  pub same : IsSame a meant
 
--- the fair coin, with n for each side over 2 * n
-abbrev pub IsCoin : Meaning → ℕ → Type 0
-IsCoin m k = (n : ℕ) × (0 < n) × (m ≡ weights (scale n coin)) × (k ≡ 2 * n)
+-- a distribution with this denominator, which gives each function the same expectation, so each value the same weight
+pub record IsTable (n : ℕ) (l : WeightedList Value) (m : Meaning) (k : ℕ) : Type 0 where
+  pub meant : WeightedList Value
+  pub is : m ≡ weights meant
+  pub same : (f : Value → ℕ) → mass l f ≡ mass meant f
+  pub total : n ≡ k
 
--- what a term comes to is what it means, over the denominator of its tree; nothing is said of a term that isn't known
-abbrev pub Means : Option Answer → Meaning → ℕ → Type 0
-Means None m k = Unit {0}
-Means (Some (answer.Value v)) m k = m ≡ finite v
-Means (Some answer.Half) m k = IsHalf m
-Means (Some answer.Coin) m k = IsCoin m k
+-- what is found is this meaning, over the denominator of its tree
+abbrev pub IsFound : Finding → Meaning → ℕ → Type 0
+IsFound (finding.value v) m k = m ≡ finite v
+IsFound (finding.whole n) m k = m ≡ whole n
+IsFound (finding.fraction a) m k = IsFraction a m
+IsFound (finding.table n l) m k = IsTable n l m k
+
+-- what a term comes to is what it means; nothing is said where evaluation stops
+abbrev pub Means : Comes Finding → Meaning → ℕ → Type 0
+Means (found x) m k = IsFound x m k
+Means unknown m k = Unit {0}
+Means (overflow o) m k = Unit {0}
 
 -- the innermost binders bind these values
 abbrev pub Binds : List Binding → List Value → Type 0

@@ -1,81 +1,127 @@
-// What terms come to.
+// What evaluation answers.
 
-ghost use Rattle.std.specs.Prelude.{◌≡◌, IfOk};
-ghost use Rattle.gb_eval.specs.Eval.{truth_answer, truth_in, truth_of, same, is_outcome};
+ghost use Rattle.std.specs.Prelude.{◌≡◌};
+ghost use Rattle.gb_core.specs.declared.value.Value.TheVariants.{Num};
+ghost use Rattle.gb_eval.specs.Findings.{Finds, fraction_in, number_in, of_number, of_truth, shown, truth_in, truth_of_number, value_in};
 
-use gb_core::same::same_value;
+use gb_core::refusal::{Refused, Why};
 use gb_core::value::Value;
-use std::alloc::AllocError;
+use gb_dist::table::Table;
+use gb_num::{Frac, Overflow};
+use std::alloc::{AllocError, AllocFailed};
 
-/// A value of a finite type, the probability of one half, or the fair coin.
+/// A value of a finite type, a whole number, a fraction in lowest terms, or a distribution.
 #[derive(Drop)]
 pub enum Answer {
     Value(Value),
-    Half,
-    Coin,
+    Whole(i128),
+    Fraction(Frac),
+    Table(Table),
 }
 
-/// The answer that is this value.
-pub fn of_value(v: &Value) -> Result<Option<Answer>, AllocError>
-    ensures { IfOk result (λ found. found ≡ Some (Answer.Value v.now)) }
-{
-    let v = v.share()?;
-    Ok(Some(Answer::Value(v)))
+/// Why evaluation stops: for want of memory, at a part that is opaque to it, or at an operation on whole numbers whose result
+/// isn't below 2^127 in size.
+#[derive(Clone, Copy)]
+pub enum Stop {
+    NoMemory,
+    Unknown,
+    Overflow(Overflow),
 }
 
-/// A truth value, where there is one: 1 for true, 0 for false.
-pub fn truth_answer(truth: Option<bool>) -> Option<Answer>
-    ensures { result ≡ truth_answer truth }
+impl From<AllocError> for Stop {
+    ghost use Rattle.gb_eval.specs.declared.answer.Stop.TheVariants.{NoMemory};
+
+    ghost from_gives = { λ _ e. e ≡ NoMemory };
+
+    fn from(_refused: AllocError) -> Stop {
+        Stop::NoMemory
+    }
+}
+
+impl<T: Drop> From<AllocFailed<T>> for Stop {
+    ghost use Rattle.gb_eval.specs.declared.answer.Stop.TheVariants.{NoMemory};
+
+    ghost from_gives = { λ _ e. e ≡ NoMemory };
+
+    fn from(_refused: AllocFailed<T>) -> Stop {
+        Stop::NoMemory
+    }
+}
+
+impl From<Overflow> for Stop {
+    ghost use Rattle.gb_eval.specs.declared.answer.Stop.TheVariants.{Overflow};
+
+    ghost from_gives = { λ o e. e ≡ Overflow o };
+
+    fn from(overflow: Overflow) -> Stop {
+        Stop::Overflow(overflow)
+    }
+}
+
+impl From<Refused> for Stop {
+    ghost use Rattle.gb_eval.specs.Findings.{stop_of};
+
+    ghost from_gives = { λ r e. e ≡ stop_of r };
+
+    fn from(refused: Refused) -> Stop {
+        match &refused {
+            Refused::NoMemory => Stop::NoMemory,
+            Refused::Script {
+                why: Why::Overflow { left, right },
+                ..
+            } => Stop::Overflow(Overflow {
+                left: *left,
+                right: *right,
+            }),
+            _ => Stop::Unknown,
+        }
+    }
+}
+
+/// A truth value: 1 for true, 0 for false.
+pub fn of_truth(truth: bool) -> Answer
+    ensures { shown result ≡ of_truth truth }
 {
-    match truth {
-        Some(true) => Some(Answer::Value(Value::Num(1))),
-        Some(false) => Some(Answer::Value(Value::Num(0))),
-        None => None,
+    Answer::Value(Value::Num(u64::from(truth)))
+}
+
+/// The number that an answer is.
+pub fn number_in(a: &Answer) -> Result<u64, Stop>
+    ensures { Finds (number_in (shown a.now)) result }
+{
+    match a {
+        Answer::Value(Value::Num(n)) => Ok(*n),
+        _ => Err(Stop::Unknown),
     }
 }
 
 /// The truth that an answer is.
-pub fn truth_in(a: &Answer) -> Option<bool>
-    ensures { result ≡ truth_in a.now }
+pub fn truth_in(a: &Answer) -> Result<bool, Stop>
+    ensures { Finds (truth_in (shown a.now)) result }
 {
-    match a {
-        Answer::Value(Value::Num(0)) => Some(false),
-        Answer::Value(Value::Num(1)) => Some(true),
-        _ => None,
+    match number_in(a)? {
+        0 => Ok(false),
+        1 => Ok(true),
+        _ => Err(Stop::Unknown),
     }
 }
 
-/// The truth that an answer is, where there is one.
-pub fn truth_of(a: Option<Answer>) -> Option<bool>
-    ensures { result ≡ truth_of a }
+/// The value that an answer is.
+pub fn value_in(a: Answer) -> Result<Value, Stop>
+    ensures { Finds (value_in (shown a)) result }
 {
     match a {
-        Some(found) => truth_in(&found),
-        None => None,
+        Answer::Value(v) => Ok(v),
+        _ => Err(Stop::Unknown),
     }
 }
 
-/// Whether two values, or two probabilities, are the same.
-#[tactic(auto, using(crate::proofs::Tests::value_test))]
-pub fn same(a: &Answer, b: &Answer) -> Option<bool>
-    ensures { result ≡ same a.now b.now }
+/// The fraction that an answer is.
+pub fn fraction_in(a: &Answer) -> Result<Frac, Stop>
+    ensures { Finds (fraction_in (shown a.now)) result }
 {
     match a {
-        Answer::Value(v) => match b {
-            Answer::Value(w) => Some(same_value(v, w)),
-            _ => None,
-        },
-        Answer::Half => match b {
-            Answer::Half => Some(true),
-            _ => None,
-        },
-        Answer::Coin => None,
+        Answer::Fraction(f) => Ok(*f),
+        _ => Err(Stop::Unknown),
     }
-}
-
-/// Whether an answer is an outcome of a distribution, which is the fair coin.
-pub fn is_outcome(a: &Answer, distribution: &Answer) -> bool
-    ensures { result ≡ is_outcome a.now distribution.now }
-{
-    matches!(distribution, Answer::Coin) && truth_in(a).is_some()
 }

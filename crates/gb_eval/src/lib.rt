@@ -1,9 +1,11 @@
-//! Evaluation of closed terms over finite types.
+//! Evaluation of closed terms: values of finite types, whole numbers, exact fractions and distributions.
 #![tactic(auto)]
 
-mod answer;
+pub mod answer;
 pub mod env;
 pub mod eval;
 pub mod known;
 pub mod laws;
+mod numbers;
 mod operators;
+mod total;

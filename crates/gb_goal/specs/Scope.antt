@@ -1,12 +1,17 @@
 -- Look-up in the declarations of a script.
-use Rattle.std.specs.Prelude.{ℕ, List, [], ◌∷◌, Option, Some, None, if◌then◌else◌, bytes_eq}
+use Rattle.std.specs.Prelude.{◌≡◌, ℕ, ◌+◌, List, [], ◌∷◌, ◌++◌, Option, Some, None, if◌then◌else◌, bytes_eq}
+use Rattle.gb_core.specs.declared.ty.Ty.{Ty}
+use Rattle.gb_core.specs.declared.ty.Ty.TheVariants.{Abstract}
 use Rattle.gb_terms.specs.declared.decl.Module.{Module}
 use Rattle.gb_terms.specs.declared.decl.Param.{Param}
 use Rattle.gb_terms.specs.declared.decl.Proc.{Proc}
 use Rattle.gb_terms.specs.declared.module.Mexp.{Mexp}
 use Rattle.gb_terms.specs.declared.module.Mexp.TheVariants.{Name}
 use Rattle.gb_terms.specs.declared.module.ProcRef.{ProcRef}
+use Rattle.gb_terms.specs.declared.term.Term.{out-Term}
 use Rattle.gb_goal.specs.declared.sequent.Sequent.{Sequent}
+use Rattle.gb_goal.specs.declared.scope.Constant.{Constant}
+use Rattle.gb_goal.specs.declared.scope.OperatorType.{OperatorType}
 use Rattle.gb_goal.specs.declared.scope.Entry.{Entry}
 use Rattle.gb_goal.specs.declared.scope.Entry.TheVariants as entry
 
@@ -27,6 +32,21 @@ abbrev pub as_lemma : Option Entry → Option Sequent
 as_lemma (Some (entry.Lemma s)) = Some s
 as_lemma _ = None
 
+-- an abstract type is known by its name alone
+abbrev pub as_type : List ℕ → Option Entry → Option Ty
+as_type n (Some (entry.Type t)) = Some t
+as_type n (Some entry.AbstractType) = Some (Abstract n)
+as_type n _ = None
+
+abbrev pub as_constant : Option Entry → Option Constant
+as_constant (Some (entry.Constant c)) = Some c
+as_constant _ = None
+
+abbrev pub as_operator : Option Entry → Option OperatorType
+as_operator (Some (entry.Operator o)) = Some (record { params = o.params; result = (out-Term o.body).ty })
+as_operator (Some (entry.AbstractOperator t)) = Some t
+as_operator _ = None
+
 -- the module of this name
 abbrev pub module_of : Declarations → List ℕ → Option Module
 module_of ds n = as_module (entry_of ds n)
@@ -34,6 +54,18 @@ module_of ds n = as_module (entry_of ds n)
 -- the statement of the lemma of this name
 abbrev pub lemma_of : Declarations → List ℕ → Option Sequent
 lemma_of ds n = as_lemma (entry_of ds n)
+
+-- the type that this name stands for
+abbrev pub type_named : Declarations → List ℕ → Option Ty
+type_named ds n = as_type n (entry_of ds n)
+
+-- the constant of this name, which an enumeration has
+abbrev pub constant_named : Declarations → List ℕ → Option Constant
+constant_named ds n = as_constant (entry_of ds n)
+
+-- the types of the operator of this name: those of its parameters, and that of its result
+abbrev pub operator_named : Declarations → List ℕ → Option OperatorType
+operator_named ds n = as_operator (entry_of ds n)
 
 -- the first procedure of this name
 abbrev pub proc_of : List Proc → List ℕ → Option Proc
@@ -56,3 +88,23 @@ proc_at ds _ n = None
 -- the procedure that a reference to a declared module, by its name, means
 abbrev pub procedure_of : Declarations → ProcRef → Option Proc
 procedure_of ds p = proc_at ds p.module p.name
+
+-- how many declarations a thing counts as: the constants of an enumeration are declared with their type, as one
+abbrev pub weight : Entry → ℕ
+weight (entry.Constant c) = 0
+weight _ = 1
+
+-- how many declarations there are
+abbrev pub declarations_in : Declarations → ℕ
+declarations_in [] = 0
+declarations_in (d ∷ ds) = weight d.1 + declarations_in ds
+
+-- further things, each under a name that nothing before it has
+abbrev pub AreNew : Declarations → Declarations → Type 0
+AreNew ds [] = Unit {0}
+AreNew ds (d ∷ more) = (entry_of ds d.0 ≡ None) × AreNew (ds ++ d ∷ []) more
+
+-- things that aren't lemmas
+abbrev pub AreNoLemmas : Declarations → Type 0
+AreNoLemmas [] = Unit {0}
+AreNoLemmas (d ∷ ds) = (as_lemma (Some d.1) ≡ None) × AreNoLemmas ds

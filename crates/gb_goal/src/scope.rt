@@ -1,25 +1,84 @@
 // The scope of a script.
 
-ghost use Rattle.std.specs.Prelude.{◌≡◌, ◌↔◌, [], ◌∷◌, ◌++◌, length, None, string_bytes, IsTrue, OnOk, OnErr};
+ghost use Rattle.std.specs.Prelude.{◌≡◌, ◌≤◌, ◌↔◌, [], ◌∷◌, ◌++◌, None, string_bytes, IsTrue, IfOk, OnOk, OnErr};
 ghost use Rattle.std.specs.Option.{option_copied};
-ghost use Rattle.gb_goal.specs.Scope.{entry_of, module_of, lemma_of, proc_of, proc_in, procedure_of};
+ghost use Rattle.gb_goal.specs.Scope.{AreNew, constant_named, declarations_in, entry_of, module_of, lemma_of, operator_named, proc_of, proc_in, procedure_of, type_named, weight};
 
 use crate::sequent::Sequent;
 use gb_core::name::Name;
 use gb_core::same::same_name;
+use gb_core::ty::Ty;
+use gb_shared::{Shared, SharedItems};
 use gb_terms::decl::{Module, Proc};
 use gb_terms::module::{Mexp, ProcRef};
+use gb_terms::term::Term;
 use indexmap::IndexMap;
-use sqlite_items::Boxed;
+use sqlite_items::{Boxed, Items};
 use std::alloc::{AllocError, Global};
 use std::marker::Model;
 
-/// A thing that a script has declared.
+/// A constant of an enumeration: its type, and its number there, from 0.
 #[derive(Drop)]
+pub struct Constant {
+    pub ty: Shared<Ty>,
+    pub number: u64,
+}
+
+/// An operator with a body, in which the parameters are the innermost bound variables, the last one first.
+#[derive(Drop)]
+pub struct Operator {
+    pub params: SharedItems<Shared<Ty>>,
+    pub body: Term,
+}
+
+/// The types of an operator's parameters, and that of its result.
+#[derive(Drop)]
+pub struct OperatorType {
+    pub params: SharedItems<Shared<Ty>>,
+    pub result: Shared<Ty>,
+}
+
+/// A thing that a script has declared.
 pub enum Entry {
     Module(Module),
     /// A lemma's statement.
     Lemma(Sequent),
+    /// What the name of a type stands for: an abbreviated type, or an enumeration.
+    Type(Shared<Ty>),
+    /// A type of any values.
+    AbstractType,
+    Constant(Constant),
+    Operator(Operator),
+    /// An operator without a body.
+    AbstractOperator(OperatorType),
+}
+
+/// Things with their names, in order of declaration.
+pub type Entries = Items<(Name, Boxed<Entry>)>;
+
+impl Drop for Entry {
+    fn drop(self) {
+        match self {
+            Entry::Module(module) => drop(module),
+            Entry::Lemma(statement) => drop(statement),
+            Entry::Type(ty) => drop(ty),
+            Entry::AbstractType => {}
+            Entry::Constant(constant) => drop(constant),
+            Entry::Operator(operator) => drop(operator),
+            Entry::AbstractOperator(ty) => drop(ty),
+        }
+    }
+}
+
+/// How many declarations a thing counts as.
+fn weight(entry: &Entry) -> usize
+    ensures weight { result ≡ weight entry.now }
+    ensures small { result ≤ 1 }
+{
+    match entry {
+        Entry::Constant(_) => 0,
+        _ => 1,
+    }
 }
 
 /// All that a script has declared so far. Contracts see the list of names with what they name, in order of declaration.
@@ -72,11 +131,17 @@ impl Scope {
         }
     }
 
-    /// The number of declarations.
-    pub fn len(&self) -> usize
-        ensures { result ≡ length self.now }
+    /// The number of declarations. The constants of an enumeration are declared with their type, as one.
+    pub fn declarations(&self) -> usize
+        ensures { result ≡ declarations_in self.now }
     {
-        self.entries.len()
+        let mut count = 0usize;
+        for i in 0..self.entries.len() {
+            if let Some((_, entry)) = self.entries.get_index(i) {
+                count += weight(entry.get());
+            }
+        }
+        count
     }
 
     pub fn is_empty(&self) -> bool
@@ -119,6 +184,49 @@ impl Scope {
         match self.entry(name) {
             Some(Entry::Lemma(sequent)) => Some(sequent),
             _ => None,
+        }
+    }
+
+    /// The type that a name stands for.
+    pub fn type_named(&self, alloc: Global, name: &Name) -> Result<Option<Shared<Ty>>, AllocError>
+        ensures { IfOk result (λ found. found ≡ type_named self.now name.now) }
+    {
+        match self.entry(name) {
+            Some(Entry::Type(ty)) => Ok(Some(ty.share()?)),
+            Some(Entry::AbstractType) => {
+                let name = name.copy(alloc)?;
+                Ok(Some(Shared::new(alloc, Ty::Abstract(name))?))
+            }
+            _ => Ok(None),
+        }
+    }
+
+    /// The constant of this name, which an enumeration has.
+    pub fn constant_named(&self, name: &Name) -> Option<&Constant>
+        ensures { option_copied result ≡ constant_named self.now name.now }
+    {
+        match self.entry(name) {
+            Some(Entry::Constant(constant)) => Some(constant),
+            _ => None,
+        }
+    }
+
+    /// The types of the operator of this name, with a body or without one.
+    pub fn operator_named(&self, name: &Name) -> Result<Option<OperatorType>, AllocError>
+        ensures { IfOk result (λ found. found ≡ operator_named self.now name.now) }
+    {
+        match self.entry(name) {
+            Some(Entry::Operator(operator)) => {
+                let params = operator.params.share()?;
+                let result = operator.body.ty.share()?;
+                Ok(Some(OperatorType { params, result }))
+            }
+            Some(Entry::AbstractOperator(ty)) => {
+                let params = ty.params.share()?;
+                let result = ty.result.share()?;
+                Ok(Some(OperatorType { params, result }))
+            }
+            _ => Ok(None),
         }
     }
 
@@ -166,5 +274,18 @@ impl Scope {
         let entry = Boxed::new(alloc, Entry::Lemma(statement))?;
         let key = String::from_str(alloc, name.as_str())?;
         self.insert(key, entry)
+    }
+
+    /// Declares things under their names, which are free and different.
+    pub fn declare_all(&mut self, alloc: Global, mut added: Entries) -> Result<(), AllocError>
+        requires { AreNew self.old added }
+        ensures { OnOk result (self.new ≡ self.old ++ added) }
+    {
+        while !added.is_empty() {
+            let (name, entry) = added.remove(0);
+            let key = String::from_str(alloc, name.as_str())?;
+            self.insert(key, entry)?;
+        }
+        Ok(())
     }
 }

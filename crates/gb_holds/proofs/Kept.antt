@@ -7,7 +7,7 @@ use Rattle.gb_goal.specs.declared.sequent.Sequent.{Sequent}
 use Rattle.gb_meaning.specs.Names.{Name}
 use Rattle.gb_meaning.specs.Values.{World, Types}
 use Rattle.gb_meaning.specs.State.{State}
-use Rattle.gb_holds.specs.Declared.{Declarations, abstract_type, operator, abstract_operator, module_type, concrete_module, abstract_module, axiom_of, lemma, terminating}
+use Rattle.gb_holds.specs.Declared.{Declarations, abstract_type, abbreviation, operator, abstract_operator, module_type, concrete_module, abstract_module, axiom_of, lemma, terminating}
 use Rattle.gb_holds.specs.Programs.{AreIn}
 use Rattle.gb_holds.specs.Settings.{Chosen, Table, Interpretation, interpreted, types_of}
 use Rattle.gb_holds.specs.Holds.{EachProgram, AreValues, context, AreTrue, IsTrueSequent, HaveVariableTypes, GiveResults, AxiomsAreTrue, IsModel, declared_modules, interpretation, InEachModel, Holds, AreSilent, KeepModules}
@@ -45,6 +45,7 @@ module _ (ls : Declarations) where
   results-front [] t table h = tt
   results-front ((n, abstract_operator o) ∷ ds) t table h = (h.0, results-front ds t table h.1)
   results-front ((n, abstract_type) ∷ ds) t table h = results-front ds t table h
+  results-front ((n, abbreviation stood) ∷ ds) t table h = results-front ds t table h
   results-front ((n, operator o) ∷ ds) t table h = results-front ds t table h
   results-front ((n, module_type m) ∷ ds) t table h = results-front ds t table h
   results-front ((n, concrete_module m) ∷ ds) t table h = results-front ds t table h
@@ -57,6 +58,7 @@ module _ (ls : Declarations) where
   axioms-front all [] i h = tt
   axioms-front all ((n, axiom_of q) ∷ ds) i h = (h.0, axioms-front all ds i h.1)
   axioms-front all ((n, abstract_type) ∷ ds) i h = axioms-front all ds i h
+  axioms-front all ((n, abbreviation stood) ∷ ds) i h = axioms-front all ds i h
   axioms-front all ((n, operator o) ∷ ds) i h = axioms-front all ds i h
   axioms-front all ((n, abstract_operator o) ∷ ds) i h = axioms-front all ds i h
   axioms-front all ((n, module_type m) ∷ ds) i h = axioms-front all ds i h
@@ -70,6 +72,7 @@ no-declared [] r = refl
 no-declared ((n, lemma q) ∷ rest) r = no-declared rest r.1
 no-declared ((n, terminating f) ∷ rest) r = no-declared rest r.1
 no-declared ((n, abstract_type) ∷ rest) r = no-declared rest r.1
+no-declared ((n, abbreviation stood) ∷ rest) r = no-declared rest r.1
 no-declared ((n, operator o) ∷ rest) r = no-declared rest r.1
 no-declared ((n, abstract_operator o) ∷ rest) r = no-declared rest r.1
 no-declared ((n, module_type t) ∷ rest) r = absurd r.0
@@ -82,6 +85,7 @@ module _ (ls : Declarations) (s : declared_modules ls ≡ []) where
   declared-same [] = s
   declared-same ((n, abstract_module b) ∷ ds) = ap (λ z. b ∷ z) (declared-same ds)
   declared-same ((n, abstract_type) ∷ ds) = declared-same ds
+  declared-same ((n, abbreviation stood) ∷ ds) = declared-same ds
   declared-same ((n, operator o) ∷ ds) = declared-same ds
   declared-same ((n, abstract_operator o) ∷ ds) = declared-same ds
   declared-same ((n, module_type t) ∷ ds) = declared-same ds
@@ -103,6 +107,7 @@ module _ (ls : Declarations) (s : KeepModules ls) where
     axioms-to [] h = tt
     axioms-to ((n, axiom_of q) ∷ rest) h = (sequent-to es ds w size u t back q [] h.0, axioms-to rest h.1)
     axioms-to ((n, abstract_type) ∷ rest) h = axioms-to rest h
+    axioms-to ((n, abbreviation stood) ∷ rest) h = axioms-to rest h
     axioms-to ((n, operator o) ∷ rest) h = axioms-to rest h
     axioms-to ((n, abstract_operator o) ∷ rest) h = axioms-to rest h
     axioms-to ((n, module_type m) ∷ rest) h = axioms-to rest h

@@ -6,7 +6,7 @@ use Rattle.gb_terms.specs.declared.decl.Proc.{Proc}
 use Rattle.gb_goal.specs.Scope.{proc_of}
 use Rattle.gb_meaning.specs.Names.{Name}
 use Rattle.gb_meaning.specs.Values.{World}
-use Rattle.gb_holds.specs.Declared.{Declarations, ModuleType, abstract_type, operator, abstract_operator, module_type, concrete_module, abstract_module, axiom_of, lemma, terminating, module_in, module_named}
+use Rattle.gb_holds.specs.Declared.{Declarations, ModuleType, abstract_type, abbreviation, operator, abstract_operator, module_type, concrete_module, abstract_module, axiom_of, lemma, terminating, module_in, module_named}
 use Rattle.gb_holds.specs.Adversary.{Adversary, type_named}
 use Rattle.gb_holds.specs.Naming.{AnyName}
 use Rattle.gb_holds.specs.Programs.{IsProgramFor}
@@ -44,6 +44,7 @@ none-named [] s n = refl
 none-named ((k, lemma q) ∷ ls) s n = none-if (bytes_eq n k) (module_named ls n) (none-named ls s.1 n)
 none-named ((k, terminating f) ∷ ls) s n = none-if (bytes_eq n k) (module_named ls n) (none-named ls s.1 n)
 none-named ((k, abstract_type) ∷ ls) s n = none-if (bytes_eq n k) (module_named ls n) (none-named ls s.1 n)
+none-named ((k, abbreviation stood) ∷ ls) s n = none-if (bytes_eq n k) (module_named ls n) (none-named ls s.1 n)
 none-named ((k, operator o) ∷ ls) s n = none-if (bytes_eq n k) (module_named ls n) (none-named ls s.1 n)
 none-named ((k, abstract_operator o) ∷ ls) s n = none-if (bytes_eq n k) (module_named ls n) (none-named ls s.1 n)
 none-named ((k, axiom_of q) ∷ ls) s n = none-if (bytes_eq n k) (module_named ls n) (none-named ls s.1 n)

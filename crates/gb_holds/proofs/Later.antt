@@ -11,7 +11,7 @@ use Rattle.gb_meaning.specs.Program.{Program}
 use Rattle.gb_meaning.specs.Program.Program.{assign, sample, branch, loop}
 use Rattle.gb_meaning.specs.Setting.{Setting}
 use Rattle.gb_meaning.specs.Commands.{program_of, called, terms_in, statement, statements}
-use Rattle.gb_holds.specs.Declared.{Declarations, abstract_type, operator, abstract_operator, module_type, concrete_module, abstract_module, axiom_of, lemma, terminating}
+use Rattle.gb_holds.specs.Declared.{Declarations, abstract_type, abbreviation, operator, abstract_operator, module_type, concrete_module, abstract_module, axiom_of, lemma, terminating}
 use Rattle.gb_holds.specs.Modules.{Modules, closed, module_at, modules_at, with_module, Reading, module_read, modules_of}
 use Rattle.gb_holds.specs.Naming.{EachName, EachNameIn, EachCall, EachCallIn, EachCallOf, IsFresh}
 
@@ -32,6 +32,7 @@ module _ {X : Type 0} where
     declared_after ms [] es = refl
     declared_after ms ((n, concrete_module m) ∷ ds) es = declared_after (with_module ms n (module_read read ms m)) ds es
     declared_after ms ((n, abstract_type) ∷ ds) es = declared_after ms ds es
+    declared_after ms ((n, abbreviation stood) ∷ ds) es = declared_after ms ds es
     declared_after ms ((n, operator o) ∷ ds) es = declared_after ms ds es
     declared_after ms ((n, abstract_operator o) ∷ ds) es = declared_after ms ds es
     declared_after ms ((n, module_type t) ∷ ds) es = declared_after ms ds es
@@ -45,6 +46,7 @@ module _ {X : Type 0} where
     fresh_same ms ((n, concrete_module m) ∷ es) k h =
         fresh_same (with_module ms n (module_read read ms m)) es k h.1 ∙ ap (λ (b : Bool). if b then module_read read ms m else ms k) h.0
     fresh_same ms ((n, abstract_type) ∷ es) k h = fresh_same ms es k h.1
+    fresh_same ms ((n, abbreviation stood) ∷ es) k h = fresh_same ms es k h.1
     fresh_same ms ((n, operator o) ∷ es) k h = fresh_same ms es k h.1
     fresh_same ms ((n, abstract_operator o) ∷ es) k h = fresh_same ms es k h.1
     fresh_same ms ((n, module_type t) ∷ es) k h = fresh_same ms es k h.1

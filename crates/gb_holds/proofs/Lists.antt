@@ -14,6 +14,11 @@ declared-append (d ∷ ds) es = ap (λ r. (d.0, declaration_of d.1) ∷ r) (decl
 module_in-entry : (e : Entry) → module_in (declaration_of e) ≡ as_module (Some e)
 module_in-entry (entry.Module m) = refl
 module_in-entry (entry.Lemma q) = refl
+module_in-entry (entry.Type t) = refl
+module_in-entry entry.AbstractType = refl
+module_in-entry (entry.Constant c) = refl
+module_in-entry (entry.Operator o) = refl
+module_in-entry (entry.AbstractOperator o) = refl
 
 named-if : (b : Bool) (e : Entry) (x : Option Module) (r : Option Entry) → x ≡ as_module r →
     (if b then module_in (declaration_of e) else x) ≡ as_module (if b then Some e else r)

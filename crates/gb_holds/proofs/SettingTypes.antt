@@ -2,11 +2,12 @@
 use Rattle.std.proofs.Common.{◌≡◌, [], ◌∷◌, refl, ◌∙◌}
 use Rattle.gb_meaning.specs.Names.{Name}
 use Rattle.gb_meaning.specs.Setting.{Setting}
-use Rattle.gb_holds.specs.Declared.{Declarations, Declaration, abstract_type, operator, abstract_operator, module_type, concrete_module, abstract_module, axiom_of, lemma, terminating}
+use Rattle.gb_holds.specs.Declared.{Declarations, Declaration, abstract_type, abbreviation, operator, abstract_operator, module_type, concrete_module, abstract_module, axiom_of, lemma, terminating}
 use Rattle.gb_holds.specs.Settings.{Table, Interpretation, types_of, bare, with_declaration, with_operators, setting}
 
 declaration-types : (i : Table) (g : Setting) (n : Name) (d : Declaration) → (with_declaration i g n d).types ≡ g.types
 declaration-types i g n abstract_type = refl
+declaration-types i g n (abbreviation stood) = refl
 declaration-types i g n (operator o) = refl
 declaration-types i g n (abstract_operator o) = refl
 declaration-types i g n (module_type t) = refl

@@ -6,7 +6,7 @@ use Rattle.gb_meaning.specs.Names.{Name}
 use Rattle.gb_meaning.specs.Program.{Routine}
 use Rattle.gb_meaning.specs.Setting.{Setting}
 use Rattle.gb_meaning.specs.Values.{World, Types}
-use Rattle.gb_holds.specs.Declared.{Declarations, Declaration, abstract_type, operator, abstract_operator, module_type, concrete_module, abstract_module, axiom_of, lemma, terminating, module_type_in}
+use Rattle.gb_holds.specs.Declared.{Declarations, Declaration, abstract_type, abbreviation, operator, abstract_operator, module_type, concrete_module, abstract_module, axiom_of, lemma, terminating, module_type_in}
 use Rattle.gb_holds.specs.Modules.{Modules, Reading, no_module, modules_of, procedure_at}
 use Rattle.gb_holds.specs.Linking.{linked_procedure}
 use Rattle.gb_holds.specs.Footprints.{footprint, footprint_read, footprint_globals}
@@ -23,6 +23,7 @@ no-modules read ms [] s = refl
 no-modules read ms ((k, lemma q) ∷ ls) s = no-modules read ms ls s.1
 no-modules read ms ((k, terminating f) ∷ ls) s = no-modules read ms ls s.1
 no-modules read ms ((k, abstract_type) ∷ ls) s = no-modules read ms ls s.1
+no-modules read ms ((k, abbreviation stood) ∷ ls) s = no-modules read ms ls s.1
 no-modules read ms ((k, operator o) ∷ ls) s = no-modules read ms ls s.1
 no-modules read ms ((k, abstract_operator o) ∷ ls) s = no-modules read ms ls s.1
 no-modules read ms ((k, module_type t) ∷ ls) s = absurd s.0
@@ -35,6 +36,7 @@ no-globals [] s = refl
 no-globals ((k, lemma q) ∷ ls) s = no-globals ls s.1
 no-globals ((k, terminating f) ∷ ls) s = no-globals ls s.1
 no-globals ((k, abstract_type) ∷ ls) s = no-globals ls s.1
+no-globals ((k, abbreviation stood) ∷ ls) s = no-globals ls s.1
 no-globals ((k, operator o) ∷ ls) s = no-globals ls s.1
 no-globals ((k, abstract_operator o) ∷ ls) s = no-globals ls s.1
 no-globals ((k, module_type t) ∷ ls) s = absurd s.0
@@ -58,6 +60,7 @@ module _ (ls : Declarations) (s : KeepModules ls) where
   globals-same [] = no-globals ls s
   globals-same ((n, concrete_module m) ∷ ds) = ap (λ z. globals_from n m.globals ++ z) (globals-same ds)
   globals-same ((n, abstract_type) ∷ ds) = globals-same ds
+  globals-same ((n, abbreviation stood) ∷ ds) = globals-same ds
   globals-same ((n, operator o) ∷ ds) = globals-same ds
   globals-same ((n, abstract_operator o) ∷ ds) = globals-same ds
   globals-same ((n, module_type t) ∷ ds) = globals-same ds
@@ -113,6 +116,7 @@ module _ (ls : Declarations) (s : KeepModules ls) where
 pub silent-keeps : (ls : Declarations) → AreSilent ls → KeepModules ls
 silent-keeps [] s = tt
 silent-keeps ((n, abstract_type) ∷ ls) s = (tt, silent-keeps ls s.1)
+silent-keeps ((n, abbreviation stood) ∷ ls) s = (tt, silent-keeps ls s.1)
 silent-keeps ((n, axiom_of q) ∷ ls) s = (tt, silent-keeps ls s.1)
 silent-keeps ((n, lemma q) ∷ ls) s = (tt, silent-keeps ls s.1)
 silent-keeps ((n, terminating f) ∷ ls) s = (tt, silent-keeps ls s.1)
@@ -126,6 +130,7 @@ no-operator : (t : Table) (g : Setting) (n : Name) (d : Declaration) → IsSilen
 no-operator t g n (lemma q) s = refl
 no-operator t g n (terminating f) s = refl
 no-operator t g n abstract_type s = refl
+no-operator t g n (abbreviation stood) s = refl
 no-operator t g n (axiom_of q) s = refl
 no-operator t g n (operator o) s = absurd s
 no-operator t g n (abstract_operator o) s = absurd s

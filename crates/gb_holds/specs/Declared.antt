@@ -7,15 +7,16 @@ use Rattle.gb_terms.specs.declared.decl.Module.{Module}
 use Rattle.gb_terms.specs.declared.module.Bind.{Bind}
 use Rattle.gb_terms.specs.declared.term.Term.{Term}
 use Rattle.gb_goal.specs.declared.sequent.Sequent.{Sequent}
+use Rattle.gb_goal.specs.declared.scope.Constant.{Constant}
 use Rattle.gb_goal.specs.declared.scope.Entry.{Entry}
 use Rattle.gb_goal.specs.declared.scope.Entry.TheVariants as entry
 use Rattle.gb_goal.specs.Scope as scope
 use Rattle.gb_meaning.specs.Names.{Name}
 use Rattle.gb_meaning.specs.Program.{Oracle}
 
--- an operator with a body, in which the parameters are the innermost bound variables, the last one first
+-- an operator with a body, in which the parameters, of these types, are the innermost bound variables, the last one first
 pub record DefinedOperator : Type 0 where
-  pub params : List TypedName
+  pub params : List Ty
   pub body : Term
 
 -- an operator without a body, which stands for any function from values of these types to values of its result
@@ -40,9 +41,16 @@ pub record ModuleType : Type 0 where
   pub params : List Param
   pub signatures : List Signature
 
+-- what a name stands for: a type, as an enumeration, or a value, as a constant of an enumeration
+pub data Abbreviated : Type 0 where
+  for_type : Ty → Abbreviated
+  for_value : Constant → Abbreviated
+
 -- What is declared under a name.
 pub data Declaration : Type 0 where
   abstract_type : Declaration
+  -- Typed trees have what the name stands for in its place, so that no meaning rests on it.
+  abbreviation : Abbreviated → Declaration
   operator : DefinedOperator → Declaration
   abstract_operator : AbstractOperator → Declaration
   module_type : ModuleType → Declaration
@@ -62,6 +70,11 @@ Declarations = List (Name × Declaration)
 abbrev pub declaration_of : Entry → Declaration
 declaration_of (entry.Module m) = concrete_module m
 declaration_of (entry.Lemma s) = lemma s
+declaration_of (entry.Type t) = abbreviation (for_type t)
+declaration_of entry.AbstractType = abstract_type
+declaration_of (entry.Constant c) = abbreviation (for_value c)
+declaration_of (entry.Operator o) = operator (record { params = o.params; body = o.body })
+declaration_of (entry.AbstractOperator o) = abstract_operator (record { params = o.params; result = o.result })
 
 -- the declarations of a scope
 abbrev pub declared : scope.Declarations → Declarations

@@ -21,7 +21,7 @@ use Rattle.gb_meaning.specs.Setting.Meaning.{finite, whole, fraction}
 use Rattle.gb_meaning.specs.State.{State, closed, no_memory}
 use Rattle.gb_meaning.specs.Commands.{statements}
 use Rattle.gb_meaning.specs.Loops.{IsGood}
-use Rattle.gb_holds.specs.Declared.{Declarations, Declaration, abstract_type, abstract_operator, module_type, concrete_module, abstract_module, axiom_of, lemma, terminating, module_named}
+use Rattle.gb_holds.specs.Declared.{Declarations, Declaration, abstract_type, abbreviation, abstract_operator, module_type, concrete_module, abstract_module, axiom_of, lemma, terminating, module_named}
 use Rattle.gb_holds.specs.Typing.{IsVariableType}
 use Rattle.gb_holds.specs.Adversary.{Adversary, type_named}
 use Rattle.gb_holds.specs.Settings.{Table, Interpretation, interpreted, with_program, types_of, setting, declared_globals}
@@ -169,6 +169,7 @@ IsSound ds = AreSoundAfter [] ds
 -- A declaration of a type, an axiom, a lemma, or that loops are proved: it leaves what names mean as it is.
 abbrev pub IsSilent : Declaration → Type 0
 IsSilent abstract_type = Unit {0}
+IsSilent (abbreviation stood) = Unit {0}
 IsSilent (axiom_of q) = Unit {0}
 IsSilent (lemma q) = Unit {0}
 IsSilent (terminating f) = Unit {0}

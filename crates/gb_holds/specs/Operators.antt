@@ -7,7 +7,6 @@ use Rattle.gb_terms.specs.declared.term.Head.TheVariants.{Builtin, Bound, User}
 use Rattle.gb_meaning.specs.Names.{Name}
 use Rattle.gb_meaning.specs.Trees.{term}
 use Rattle.gb_holds.specs.Declared.{Declarations, operator, abstract_operator}
-use Rattle.gb_holds.specs.Examples.{truth_value, input, reply}
 
 -- The names c, d and e.
 
@@ -31,13 +30,13 @@ three_operators =
     (chosen_name, abstract_operator (record { params = []; result = ty.Bool })) ∷ (
       difference_name,
       operator (record {
-        params = truth_value input ∷ truth_value reply ∷ [];
+        params = ty.Bool ∷ ty.Bool ∷ [];
         body = term (Builtin And) (bound 1 ∷ term (Builtin Not) (bound 0 ∷ []) ty.Bool ∷ []) ty.Bool;
       }),
     ) ∷ (
       opposite_name,
       operator (record {
-        params = truth_value input ∷ [];
+        params = ty.Bool ∷ [];
         body = term (User difference_name) (term (User chosen_name) [] ty.Bool ∷ bound 0 ∷ []) ty.Bool;
       }),
     ) ∷ []

@@ -1,12 +1,12 @@
 //! The laws of settings and of truth.
 
 ghost use Rattle.std.specs.Prelude.{◌≡◌, ◌↔◌, ◌++◌, false, [], ◌∷◌, map};
-ghost use Rattle.gb_terms.specs.declared.decl.Module.{Module};
 ghost use Rattle.gb_terms.specs.declared.term.Term.{Term};
 ghost use Rattle.gb_meaning.specs.Names.{Name};
 ghost use Rattle.gb_meaning.specs.State.{State};
 ghost use Rattle.gb_meaning.specs.Judgments.{IsTrueIn};
 ghost use Rattle.gb_goal.specs.Scope as scope;
+ghost use Rattle.gb_goal.specs.Scope.{AreNoLemmas};
 ghost use Rattle.gb_goal.specs.declared.scope.Entry.TheVariants as entry;
 ghost use Rattle.gb_goal.specs.declared.sequent.Sequent.{Sequent};
 ghost use Rattle.gb_holds.specs.Declared.{Declarations, Declaration, declared};
@@ -31,12 +31,11 @@ pub fn sound_scopes()
         IsSound (ds ++ (n, d) ∷ []) ↔ (IsSound ds × IsSoundAfter ds n d) }
 {}
 
-/// A sound scope that gains a lemma which holds is sound, and so is one that gains a module.
+/// A sound scope that gains a lemma which holds is sound, and so is one that gains things that aren't lemmas.
 pub fn scopes_of_scripts()
     ensures lemma { (ds : scope.Declarations) (n : Name) (q : Sequent) → IsSound (declared ds) → Holds (declared ds) q →
         IsSound (declared (ds ++ (n, entry.Lemma q) ∷ [])) }
-    ensures modules { (ds : scope.Declarations) (n : Name) (m : Module) → IsSound (declared ds) →
-        IsSound (declared (ds ++ (n, entry.Module m) ∷ [])) }
+    ensures others { (ds added : scope.Declarations) → AreNoLemmas added → IsSound (declared ds) → IsSound (declared (ds ++ added)) }
 {}
 
 /// What holds goes on to hold when types, axioms, lemmas and proved loops are declared: these leave what names mean as it is.

@@ -10,7 +10,7 @@ use Rattle.gb_meaning.specs.Values.{World, Types}
 use Rattle.gb_meaning.specs.Setting.{Setting, Meaning}
 use Rattle.gb_meaning.specs.Setting.Meaning.{finite}
 use Rattle.gb_meaning.specs.Terms.{val, quiet, denominator}
-use Rattle.gb_holds.specs.Declared.{Declarations, Declaration, DefinedOperator, AbstractOperator, abstract_type, operator, abstract_operator, module_type, concrete_module, abstract_module, axiom_of, lemma, terminating}
+use Rattle.gb_holds.specs.Declared.{Declarations, Declaration, DefinedOperator, AbstractOperator, abstract_type, abbreviation, operator, abstract_operator, module_type, concrete_module, abstract_module, axiom_of, lemma, terminating}
 use Rattle.gb_holds.specs.Naming.{EachName, IsFresh}
 use Rattle.gb_holds.specs.Settings.{Table, interpreted, types_of, bare, at_arguments, with_operator, with_declaration, with_operators}
 use Rattle.gb_holds.specs.Holds.{IsResult, GiveResults, KeepsModules}
@@ -79,6 +79,7 @@ module _ (n : Name) (f : List Meaning → Meaning) (k : ℕ) where
         ∙ apart g m (u m).result 1 (differ n m h.0))
         ∙ with-changed (with_declaration u g m (abstract_operator b)) ds h.1 o.1
     with-changed g ((m, abstract_type) ∷ ds) h o = with-changed g ds h.1 o.1
+    with-changed g ((m, abbreviation stood) ∷ ds) h o = with-changed g ds h.1 o.1
     with-changed g ((m, module_type t) ∷ ds) h o = with-changed g ds h.1 o.1
     with-changed g ((m, concrete_module c) ∷ ds) h o = with-changed g ds h.1 o.1
     with-changed g ((m, abstract_module b) ∷ ds) h o = with-changed g ds h.1 o.1
@@ -94,6 +95,7 @@ module _ (n : Name) (f : List Meaning → Meaning) (k : ℕ) where
     )
     results-changed y ((m, operator b) ∷ ds) h r = results-changed y ds h.1 r
     results-changed y ((m, abstract_type) ∷ ds) h r = results-changed y ds h.1 r
+    results-changed y ((m, abbreviation stood) ∷ ds) h r = results-changed y ds h.1 r
     results-changed y ((m, module_type t) ∷ ds) h r = results-changed y ds h.1 r
     results-changed y ((m, concrete_module c) ∷ ds) h r = results-changed y ds h.1 r
     results-changed y ((m, abstract_module b) ∷ ds) h r = results-changed y ds h.1 r

@@ -4,7 +4,7 @@ use Rattle.std.proofs.lemmas.List.{append_assoc, append-nil}
 use Rattle.gb_goal.specs.declared.sequent.Sequent.{Sequent}
 use Rattle.gb_meaning.specs.Names.{Name}
 use Rattle.gb_meaning.specs.Values.{World}
-use Rattle.gb_holds.specs.Declared.{Declarations, Declaration, abstract_type, operator, abstract_operator, module_type, concrete_module, abstract_module, axiom_of, lemma, terminating}
+use Rattle.gb_holds.specs.Declared.{Declarations, Declaration, abstract_type, abbreviation, operator, abstract_operator, module_type, concrete_module, abstract_module, axiom_of, lemma, terminating}
 use Rattle.gb_holds.specs.Settings.{Table}
 use Rattle.gb_holds.specs.Holds.{KeepModules, AreSilent, Holds, IsTerminating, IsSoundAfter, AreSoundAfter, IsSound}
 use Rattle.gb_holds.proofs.Statements.{silent-keeps}
@@ -35,6 +35,7 @@ before-new ds n (operator o) k h w size u =
 before-new ds n (abstract_operator o) k h w size u =
     let r = names-split NoName (IsOther n) ds ((n, abstract_operator o) ∷ []) h.1 in before-abstract ds n h.0 r.0 w size u o
 before-new ds n abstract_type k h w size u = absurd k
+before-new ds n (abbreviation stood) k h w size u = absurd k
 before-new ds n (module_type t) k h w size u = absurd k
 before-new ds n (concrete_module m) k h w size u = absurd k
 before-new ds n (abstract_module b) k h w size u = absurd k
@@ -54,6 +55,7 @@ silent ds ls s q x = still_holds ls (silent-keeps ls s) ds (before-silent ls s d
 
 one-added : (ds : Declarations) (n : Name) (d : Declaration) (q : Sequent) → IsAdded (IsSequentApartIn q) ds n d → Holds ds q → Holds (ds ++ (n, d) ∷ []) q
 one-added ds n abstract_type q a x = silent ds ((n, abstract_type) ∷ []) (tt, tt) q x
+one-added ds n (abbreviation stood) q a x = silent ds ((n, abbreviation stood) ∷ []) (tt, tt) q x
 one-added ds n (operator o) q a x = holds-new ds n (operator o) tt a q x
 one-added ds n (abstract_operator o) q a x = holds-new ds n (abstract_operator o) tt a q x
 one-added ds n (module_type t) q a x = holds-along ((n, module_type t) ∷ []) ds (goes-with ds ((n, module_type t) ∷ []) (tt, tt) a.0) q a.1 x
@@ -69,6 +71,7 @@ silent-loops ds ls s m f x = still_proved ls (silent-keeps ls s) ds (before-sile
 one-beside : (ds : Declarations) (n : Name) (d : Declaration) (m f : Name) → IsAdded (AreLoopsApart m f) ds n d → IsTerminating ds m f →
     IsTerminating (ds ++ (n, d) ∷ []) m f
 one-beside ds n abstract_type m f a x = silent-loops ds ((n, abstract_type) ∷ []) (tt, tt) m f x
+one-beside ds n (abbreviation stood) m f a x = silent-loops ds ((n, abbreviation stood) ∷ []) (tt, tt) m f x
 one-beside ds n (operator o) m f a x = loops-new ds n (operator o) tt a m f x
 one-beside ds n (abstract_operator o) m f a x = loops-new ds n (abstract_operator o) tt a m f x
 one-beside ds n (module_type t) m f a x = loops-along ((n, module_type t) ∷ []) ds (goes-with ds ((n, module_type t) ∷ []) (tt, tt) a.0) m f a.1 x

@@ -2,7 +2,7 @@
 use Rattle.std.proofs.Common.{◌≡◌, ℕ, if◌then◌else◌, List, [], ◌∷◌, ◌++◌, filter, bytes_eq, sym}
 use Rattle.gb_meaning.specs.Names.{Name}
 use Rattle.gb_meaning.specs.Values.{Global, World}
-use Rattle.gb_holds.specs.Declared.{Declarations, abstract_type, operator, abstract_operator, module_type, concrete_module, abstract_module, axiom_of, lemma, terminating}
+use Rattle.gb_holds.specs.Declared.{Declarations, abstract_type, abbreviation, operator, abstract_operator, module_type, concrete_module, abstract_module, axiom_of, lemma, terminating}
 use Rattle.gb_holds.specs.Settings.{Chosen, is_chosen, Table, Interpretation, interpreted, setting, globals_from, declared_globals}
 use Rattle.gb_holds.specs.Holds.{InEachModel}
 use Rattle.gb_holds.specs.Naming.{AnyName, IsFresh, IsTypeIn}
@@ -57,6 +57,7 @@ module _ (m : Name) where
   owned-alike [] es f = sym f
   owned-alike ((n, concrete_module c) ∷ ds) es f = front-owned (globals_from n c.globals) (declared_globals ds) (declared_globals (ds ++ es)) (owned-alike ds es f)
   owned-alike ((n, abstract_type) ∷ ds) es f = owned-alike ds es f
+  owned-alike ((n, abbreviation stood) ∷ ds) es f = owned-alike ds es f
   owned-alike ((n, operator o) ∷ ds) es f = owned-alike ds es f
   owned-alike ((n, abstract_operator o) ∷ ds) es f = owned-alike ds es f
   owned-alike ((n, module_type t) ∷ ds) es f = owned-alike ds es f

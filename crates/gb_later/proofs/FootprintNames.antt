@@ -17,7 +17,7 @@ use Rattle.gb_terms.specs.declared.term.Instr.{Instr, Row_of-Instr, end_of-Instr
 use Rattle.gb_terms.specs.declared.term.Head.TheVariants.{Assign, Sample, Call', If', While'}
 use Rattle.gb_meaning.specs.Names.{Name}
 use Rattle.gb_meaning.specs.Program.{Oracle}
-use Rattle.gb_holds.specs.Declared.{Declarations, ModuleType, Signature, abstract_type, operator, abstract_operator, module_type, concrete_module, abstract_module, axiom_of, lemma, terminating}
+use Rattle.gb_holds.specs.Declared.{Declarations, ModuleType, Signature, abstract_type, abbreviation, operator, abstract_operator, module_type, concrete_module, abstract_module, axiom_of, lemma, terminating}
 use Rattle.gb_holds.specs.Modules.{Procedures, Functor, Applied, Modules, found, closed, no_module, argument, module_at, modules_at, procedure_at, with_module, with_params, with_procedures, module_read, modules_of}
 use Rattle.gb_holds.specs.Linking.{oracle_of}
 use Rattle.gb_holds.specs.Adversary.{type_named, oracles_called, oracle_footprints, signature_footprints, abstract_footprint}
@@ -210,6 +210,7 @@ module _ (P : Name → Type 0) where
         declared-in ds c.1 (with_module ms k (module_read footprint_read ms m))
         (λ n p. applied-if (bytes_eq n k) (module_read footprint_read ms m) (ms n) (codes-in ms h m m.procs c.0 no_module (λ args a. tt)) (λ b. h n p))
     declared-in ((k, abstract_type) ∷ ds) c ms h = declared-in ds c ms h
+    declared-in ((k, abbreviation stood) ∷ ds) c ms h = declared-in ds c ms h
     declared-in ((k, operator o) ∷ ds) c ms h = declared-in ds c ms h
     declared-in ((k, abstract_operator o) ∷ ds) c ms h = declared-in ds c ms h
     declared-in ((k, module_type t) ∷ ds) c ms h = declared-in ds c ms h

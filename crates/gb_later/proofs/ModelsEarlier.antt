@@ -8,7 +8,7 @@ use Rattle.gb_meaning.specs.Names.{Name}
 use Rattle.gb_meaning.specs.Values.{Global, World, Types}
 use Rattle.gb_meaning.specs.Setting.{Meaning}
 use Rattle.gb_meaning.specs.Setting.Meaning.{finite, whole, fraction}
-use Rattle.gb_holds.specs.Declared.{Declarations, abstract_type, operator, abstract_operator, module_type, concrete_module, abstract_module, axiom_of, lemma, terminating}
+use Rattle.gb_holds.specs.Declared.{Declarations, abstract_type, abbreviation, operator, abstract_operator, module_type, concrete_module, abstract_module, axiom_of, lemma, terminating}
 use Rattle.gb_holds.specs.Globs.{EachGlob}
 use Rattle.gb_holds.specs.Programs.{AreIn}
 use Rattle.gb_holds.specs.Settings.{Table, Interpretation, types_of, setting, globals_from, declared_globals}
@@ -46,6 +46,7 @@ known-front w ((n, concrete_module m) ∷ ds) es h =
 known-front w ((n, lemma q) ∷ ds) es h = known-front w ds es h
 known-front w ((n, terminating f) ∷ ds) es h = known-front w ds es h
 known-front w ((n, abstract_type) ∷ ds) es h = known-front w ds es h
+known-front w ((n, abbreviation stood) ∷ ds) es h = known-front w ds es h
 known-front w ((n, operator o) ∷ ds) es h = known-front w ds es h
 known-front w ((n, abstract_operator o) ∷ ds) es h = known-front w ds es h
 known-front w ((n, module_type t) ∷ ds) es h = known-front w ds es h
@@ -93,6 +94,7 @@ module _ (ds es : Declarations) (c : IsScopeApart es ds) (w : World) (size : Nam
   )
   results-alike ((n, operator x) ∷ rest) o k = results-alike rest o.1 k
   results-alike ((n, abstract_type) ∷ rest) o k = results-alike rest o.1 k
+  results-alike ((n, abbreviation stood) ∷ rest) o k = results-alike rest o.1 k
   results-alike ((n, module_type x) ∷ rest) o k = results-alike rest o.1 k
   results-alike ((n, concrete_module x) ∷ rest) o k = results-alike rest o.1 k
   results-alike ((n, abstract_module x) ∷ rest) o k = results-alike rest o.1 k
@@ -106,6 +108,7 @@ module _ (ds es : Declarations) (c : IsScopeApart es ds) (w : World) (size : Nam
   axioms-alike ((n, abstract_operator y) ∷ rest) x k = axioms-alike rest x k
   axioms-alike ((n, operator y) ∷ rest) x k = axioms-alike rest x k
   axioms-alike ((n, abstract_type) ∷ rest) x k = axioms-alike rest x k
+  axioms-alike ((n, abbreviation stood) ∷ rest) x k = axioms-alike rest x k
   axioms-alike ((n, module_type y) ∷ rest) x k = axioms-alike rest x k
   axioms-alike ((n, concrete_module y) ∷ rest) x k = axioms-alike rest x k
   axioms-alike ((n, abstract_module y) ∷ rest) x k = axioms-alike rest x k

@@ -3,7 +3,7 @@ use Rattle.std.proofs.Common.{◌≡◌, ℕ, List, [], ◌∷◌, ◌++◌, ◌
 use Rattle.gb_goal.specs.declared.sequent.Sequent.{Sequent}
 use Rattle.gb_meaning.specs.Names.{Name}
 use Rattle.gb_meaning.specs.Values.{World}
-use Rattle.gb_holds.specs.Declared.{Declarations, abstract_type, operator, abstract_operator, module_type, concrete_module, abstract_module, axiom_of, lemma, terminating}
+use Rattle.gb_holds.specs.Declared.{Declarations, abstract_type, abbreviation, operator, abstract_operator, module_type, concrete_module, abstract_module, axiom_of, lemma, terminating}
 use Rattle.gb_holds.specs.Settings.{Chosen, Table, types_of}
 use Rattle.gb_holds.specs.Holds.{EachProgram, IsTrueSequent, HaveVariableTypes, declared_modules, interpretation}
 use Rattle.gb_holds.specs.Naming.{AnyName, IsFresh}
@@ -25,6 +25,7 @@ no-declared ((n, module_type t) ∷ es) s = no-declared es s.1
 no-declared ((n, lemma q) ∷ es) s = no-declared es s.1
 no-declared ((n, terminating f) ∷ es) s = no-declared es s.1
 no-declared ((n, abstract_type) ∷ es) s = absurd s.0
+no-declared ((n, abbreviation stood) ∷ es) s = absurd s.0
 no-declared ((n, operator o) ∷ es) s = absurd s.0
 no-declared ((n, abstract_operator o) ∷ es) s = absurd s.0
 no-declared ((n, abstract_module b) ∷ es) s = absurd s.0

@@ -13,7 +13,7 @@ use Rattle.gb_terms.specs.declared.term.Head.TheVariants.{Assign, Sample, Call',
 use Rattle.gb_meaning.specs.Names.{Name}
 use Rattle.gb_meaning.specs.Program.Routine.{routine}
 use Rattle.gb_meaning.specs.Setting.{Setting}
-use Rattle.gb_holds.specs.Declared.{Declarations, abstract_type, operator, abstract_operator, module_type, concrete_module, abstract_module, axiom_of, lemma, terminating}
+use Rattle.gb_holds.specs.Declared.{Declarations, abstract_type, abbreviation, operator, abstract_operator, module_type, concrete_module, abstract_module, axiom_of, lemma, terminating}
 use Rattle.gb_holds.specs.Modules.{Applied, Functor, Modules, Reading, no_module, found, argument, procedure_at, with_module, with_params, with_procedures, module_read, modules_of}
 use Rattle.gb_holds.specs.Linking.{calling, linked_procedure}
 use Rattle.gb_holds.specs.Footprints.{of_callee, variables, variables_in, touched, touched_in, body_touched, globals_among, in_order, var_order, footprint_read}
@@ -112,6 +112,7 @@ module _ {X : Type 0} (read : Reading X) (looks : LooksAtCalls read) (es : Decla
       modules-alike ds a.1 (with_module ms k (module_read read ms m)) (with_module ks k (module_read read ks m))
       (λ x q i. if bytes_eq x k then module-alike ms ks h m a.0 i else h x q i) n p
   modules-alike ((k, abstract_type) ∷ ds) a ms ks h n p = modules-alike ds a ms ks h n p
+  modules-alike ((k, abbreviation stood) ∷ ds) a ms ks h n p = modules-alike ds a ms ks h n p
   modules-alike ((k, operator o) ∷ ds) a ms ks h n p = modules-alike ds a ms ks h n p
   modules-alike ((k, abstract_operator o) ∷ ds) a ms ks h n p = modules-alike ds a ms ks h n p
   modules-alike ((k, module_type t) ∷ ds) a ms ks h n p = modules-alike ds a ms ks h n p

@@ -10,7 +10,7 @@ use Rattle.gb_terms.specs.declared.decl.Proc.{Proc}
 use Rattle.gb_terms.specs.declared.module.Bind.{Bind}
 use Rattle.gb_meaning.specs.Names.{Name}
 use Rattle.gb_meaning.specs.Values.{Global}
-use Rattle.gb_holds.specs.Declared.{Declarations, abstract_type, operator, abstract_operator, module_type, concrete_module, abstract_module, axiom_of, lemma, terminating, module_in, module_named}
+use Rattle.gb_holds.specs.Declared.{Declarations, abstract_type, abbreviation, operator, abstract_operator, module_type, concrete_module, abstract_module, axiom_of, lemma, terminating, module_in, module_named}
 use Rattle.gb_holds.specs.Footprints.{variables, body_touched}
 use Rattle.gb_holds.specs.Settings.{globals_from, declared_globals}
 use Rattle.gb_holds.specs.Holds.{declared_modules}
@@ -42,6 +42,7 @@ module _ (P Q : Name → Type 0) (f : (n : Name) → P n → Q n) where
   modules-map [] h = tt
   modules-map ((n, concrete_module m) ∷ ds) h = (codes-map m.params m.procs h.0, modules-map ds h.1)
   modules-map ((n, abstract_type) ∷ ds) h = modules-map ds h
+  modules-map ((n, abbreviation stood) ∷ ds) h = modules-map ds h
   modules-map ((n, operator o) ∷ ds) h = modules-map ds h
   modules-map ((n, abstract_operator o) ∷ ds) h = modules-map ds h
   modules-map ((n, module_type t) ∷ ds) h = modules-map ds h
@@ -64,6 +65,7 @@ module _ (n : Name) (b : Bind) where
   bound-apart [] f h = tt
   bound-apart ((m, abstract_module c) ∷ ds) f h = ((subst (λ k. bytes_eq k n ≡ false) (sym h.0) (differ n m f.0), tt), bound-apart ds f.1 h.1)
   bound-apart ((m, abstract_type) ∷ ds) f h = bound-apart ds f.1 h
+  bound-apart ((m, abbreviation stood) ∷ ds) f h = bound-apart ds f.1 h
   bound-apart ((m, operator o) ∷ ds) f h = bound-apart ds f.1 h
   bound-apart ((m, abstract_operator o) ∷ ds) f h = bound-apart ds f.1 h
   bound-apart ((m, module_type t) ∷ ds) f h = bound-apart ds f.1 h
@@ -96,6 +98,7 @@ module _ (m : Name) where
   owns-none [] f = refl
   owns-none ((n, concrete_module c) ∷ es) f = none-from n c.globals (declared_globals es) f.0 ∙ owns-none es f.1
   owns-none ((n, abstract_type) ∷ es) f = owns-none es f.1
+  owns-none ((n, abbreviation stood) ∷ es) f = owns-none es f.1
   owns-none ((n, operator o) ∷ es) f = owns-none es f.1
   owns-none ((n, abstract_operator o) ∷ es) f = owns-none es f.1
   owns-none ((n, module_type t) ∷ es) f = owns-none es f.1

@@ -10,7 +10,7 @@ use Rattle.gb_meaning.specs.Program.{Routine}
 use Rattle.gb_meaning.specs.Program.Routine.{routine}
 use Rattle.gb_meaning.specs.Setting.{Setting, Meaning}
 use Rattle.gb_meaning.specs.Terms.{val, quiet}
-use Rattle.gb_holds.specs.Declared.{Declarations, Declaration, abstract_type, operator, abstract_operator, module_type, concrete_module, abstract_module, axiom_of, lemma, terminating}
+use Rattle.gb_holds.specs.Declared.{Declarations, Declaration, abstract_type, abbreviation, operator, abstract_operator, module_type, concrete_module, abstract_module, axiom_of, lemma, terminating}
 use Rattle.gb_holds.specs.Modules.{Reading}
 use Rattle.gb_holds.specs.Linking.{calling, linked_procedure}
 use Rattle.gb_holds.specs.Settings.{Table, at_arguments, with_declaration, with_operators}
@@ -67,6 +67,7 @@ module _ (P Q : Name → Type 0) (t : Table) where
     procedures = a.procedures;
   }
   declaration-agrees g h a n abstract_type e = a
+  declaration-agrees g h a n (abbreviation stood) e = a
   declaration-agrees g h a n (module_type y) e = a
   declaration-agrees g h a n (concrete_module m) e = a
   declaration-agrees g h a n (abstract_module b) e = a

@@ -10,7 +10,7 @@ use Rattle.gb_terms.specs.declared.module.Mexp.TheVariants.{Name as named, Apply
 use Rattle.gb_meaning.specs.Names.{Name}
 use Rattle.gb_meaning.specs.Values.{Global, World}
 use Rattle.gb_meaning.specs.Setting.{Setting}
-use Rattle.gb_holds.specs.Declared.{Declarations, abstract_type, operator, abstract_operator, module_type, concrete_module, abstract_module, axiom_of, lemma, terminating, module_type_in}
+use Rattle.gb_holds.specs.Declared.{Declarations, abstract_type, abbreviation, operator, abstract_operator, module_type, concrete_module, abstract_module, axiom_of, lemma, terminating, module_type_in}
 use Rattle.gb_holds.specs.Modules.{Modules, Reading, no_module, modules_of}
 use Rattle.gb_holds.specs.Linking.{linked_procedure}
 use Rattle.gb_holds.specs.Footprints.{in_order, of_all, var_order, own_entry, is_global, stands_for, footprint_globals, footprint_read, footprint}
@@ -52,6 +52,7 @@ declared-then : (ds es : Declarations) → declared_modules (ds ++ es) ≡ decla
 declared-then [] es = refl
 declared-then ((n, abstract_module b) ∷ ds) es = ap (λ z. b ∷ z) (declared-then ds es)
 declared-then ((n, abstract_type) ∷ ds) es = declared-then ds es
+declared-then ((n, abbreviation stood) ∷ ds) es = declared-then ds es
 declared-then ((n, operator o) ∷ ds) es = declared-then ds es
 declared-then ((n, abstract_operator o) ∷ ds) es = declared-then ds es
 declared-then ((n, module_type t) ∷ ds) es = declared-then ds es

@@ -8,7 +8,7 @@ use Rattle.gb_meaning.specs.Program.{Routine}
 use Rattle.gb_meaning.specs.Names.{Name}
 use Rattle.gb_meaning.specs.Values.{World}
 use Rattle.gb_meaning.specs.Setting.{Setting}
-use Rattle.gb_holds.specs.Declared.{Declarations, abstract_type, operator, abstract_operator, module_type, concrete_module, abstract_module, axiom_of, lemma, terminating}
+use Rattle.gb_holds.specs.Declared.{Declarations, abstract_type, abbreviation, operator, abstract_operator, module_type, concrete_module, abstract_module, axiom_of, lemma, terminating}
 use Rattle.gb_holds.specs.Modules.{Modules, Reading, no_module, modules_of}
 use Rattle.gb_holds.specs.Linking.{linked_procedure}
 use Rattle.gb_holds.specs.Footprints.{in_order, of_all, var_order, footprint_read, own_entry, stands_for, footprint, footprint_globals}
@@ -32,6 +32,7 @@ operators_after t g [] ((n, concrete_module m) ∷ es) s = operators_after t g [
 operators_after t g [] ((n, lemma q) ∷ es) s = operators_after t g [] es s.1
 operators_after t g [] ((n, terminating f) ∷ es) s = operators_after t g [] es s.1
 operators_after t g [] ((n, abstract_type) ∷ es) s = absurd s.0
+operators_after t g [] ((n, abbreviation stood) ∷ es) s = absurd s.0
 operators_after t g [] ((n, operator o) ∷ es) s = absurd s.0
 operators_after t g [] ((n, abstract_operator o) ∷ es) s = absurd s.0
 operators_after t g [] ((n, module_type y) ∷ es) s = operators_after t g [] es s.1

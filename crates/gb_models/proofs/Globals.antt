@@ -11,7 +11,7 @@ use Rattle.gb_goal.specs.declared.scope.Entry.TheVariants as entry
 use Rattle.gb_meaning.specs.Names.{Name}
 use Rattle.gb_meaning.specs.Values.{Global, World, Types}
 use Rattle.gb_meaning.specs.Written.{local_type}
-use Rattle.gb_holds.specs.Declared.{Declarations, declared, concrete_module, lemma}
+use Rattle.gb_holds.specs.Declared.{Declarations, declaration_of, declared, concrete_module, lemma}
 use Rattle.gb_holds.specs.Footprints.{is_global}
 use Rattle.gb_holds.specs.Holds.{HaveVariableTypes as HaveWorldTypes}
 use Rattle.gb_holds.specs.Programs.{AreOnce, AreIn}
@@ -65,6 +65,11 @@ none_later ((k, entry.Module m) ∷ ds) before c w n d x p =
     none_of_both x (globals_from k m.globals) (declared_globals (declared ds)) (other_module n k (other_name before n k d w.0) x p m.globals)
     (none_later ds (before ++ (k, concrete_module m) ∷ []) (with_declared c k (concrete_module m)) w.2 n (declared_more before (k, concrete_module m) n d) x p)
 none_later ((k, entry.Lemma q) ∷ ds) before c w n d x p = none_later ds (before ++ (k, lemma q) ∷ []) c w.2 n (declared_more before (k, lemma q) n d) x p
+none_later ((k, entry.Type t0) ∷ ds) before c w n d x p = none_later ds (before ++ (k, declaration_of (entry.Type t0)) ∷ []) c w.2 n (declared_more before (k, declaration_of (entry.Type t0)) n d) x p
+none_later ((k, entry.AbstractType) ∷ ds) before c w n d x p = none_later ds (before ++ (k, declaration_of entry.AbstractType) ∷ []) c w.2 n (declared_more before (k, declaration_of entry.AbstractType) n d) x p
+none_later ((k, entry.Constant a0) ∷ ds) before c w n d x p = none_later ds (before ++ (k, declaration_of (entry.Constant a0)) ∷ []) c w.2 n (declared_more before (k, declaration_of (entry.Constant a0)) n d) x p
+none_later ((k, entry.Operator o0) ∷ ds) before c w n d x p = none_later ds (before ++ (k, declaration_of (entry.Operator o0)) ∷ []) (with_declared c k (declaration_of (entry.Operator o0))) w.2 n (declared_more before (k, declaration_of (entry.Operator o0)) n d) x p
+none_later ((k, entry.AbstractOperator o0) ∷ ds) before c w n d x p = none_later ds (before ++ (k, declaration_of (entry.AbstractOperator o0)) ∷ []) (with_declared c k (declaration_of (entry.AbstractOperator o0))) w.2 n (declared_more before (k, declaration_of (entry.AbstractOperator o0)) n d) x p
 
 own_name : (n : Name) (l : TypedName) (ls : List TypedName) → local_type ls l.name ≡ None → list_any (is_global (record { parent = n; name = l.name; ty = l.ty })) (globals_from n ls) ≡ false
 own_name n l [] e = refl
@@ -89,6 +94,11 @@ globals_once ((n, entry.Module m) ∷ ds) before c w =
     (none_later ds (before ++ (n, concrete_module m) ∷ []) (with_declared c n (concrete_module m)) w.2 n (declared_last before (n, concrete_module m) n ((bytes_eq-Decides n n).1 refl)))
     (globals_once ds (before ++ (n, concrete_module m) ∷ []) (with_declared c n (concrete_module m)) w.2)
 globals_once ((n, entry.Lemma q) ∷ ds) before c w = globals_once ds (before ++ (n, lemma q) ∷ []) c w.2
+globals_once ((n, entry.Type t0) ∷ ds) before c w = globals_once ds (before ++ (n, declaration_of (entry.Type t0)) ∷ []) c w.2
+globals_once ((n, entry.AbstractType) ∷ ds) before c w = globals_once ds (before ++ (n, declaration_of entry.AbstractType) ∷ []) c w.2
+globals_once ((n, entry.Constant a0) ∷ ds) before c w = globals_once ds (before ++ (n, declaration_of (entry.Constant a0)) ∷ []) c w.2
+globals_once ((n, entry.Operator o0) ∷ ds) before c w = globals_once ds (before ++ (n, declaration_of (entry.Operator o0)) ∷ []) (with_declared c n (declaration_of (entry.Operator o0))) w.2
+globals_once ((n, entry.AbstractOperator o0) ∷ ds) before c w = globals_once ds (before ++ (n, declaration_of (entry.AbstractOperator o0)) ∷ []) (with_declared c n (declaration_of (entry.AbstractOperator o0))) w.2
 
 -- Their types are those of variables.
 
@@ -102,6 +112,11 @@ globals_variables ((n, entry.Module m) ∷ ds) before c w =
     variables_both n m.globals (declared_globals (declared ds)) (let x = w.1 in x.globals)
     (globals_variables ds (before ++ (n, concrete_module m) ∷ []) (with_declared c n (concrete_module m)) w.2)
 globals_variables ((n, entry.Lemma q) ∷ ds) before c w = globals_variables ds (before ++ (n, lemma q) ∷ []) c w.2
+globals_variables ((n, entry.Type t0) ∷ ds) before c w = globals_variables ds (before ++ (n, declaration_of (entry.Type t0)) ∷ []) c w.2
+globals_variables ((n, entry.AbstractType) ∷ ds) before c w = globals_variables ds (before ++ (n, declaration_of entry.AbstractType) ∷ []) c w.2
+globals_variables ((n, entry.Constant a0) ∷ ds) before c w = globals_variables ds (before ++ (n, declaration_of (entry.Constant a0)) ∷ []) c w.2
+globals_variables ((n, entry.Operator o0) ∷ ds) before c w = globals_variables ds (before ++ (n, declaration_of (entry.Operator o0)) ∷ []) (with_declared c n (declaration_of (entry.Operator o0))) w.2
+globals_variables ((n, entry.AbstractOperator o0) ∷ ds) before c w = globals_variables ds (before ++ (n, declaration_of (entry.AbstractOperator o0)) ∷ []) (with_declared c n (declaration_of (entry.AbstractOperator o0))) w.2
 
 pub world_types : (ts : Types) → IsInhabited ts → (w : World) → AreVariables w → HaveWorldTypes ts w
 world_types ts i [] h = tt

@@ -19,7 +19,7 @@ use Rattle.gb_goal.specs.declared.sequent.Sequent.{Sequent}
 use Rattle.gb_goal.specs.Scope as scope
 use Rattle.gb_meaning.specs.Commands.{terms_in}
 use Rattle.gb_meaning.specs.Names.{Name}
-use Rattle.gb_holds.specs.Declared.{Declarations, declared, concrete_module, lemma}
+use Rattle.gb_holds.specs.Declared.{Declarations, declaration_of, declared, concrete_module, lemma}
 use Rattle.gb_holds.specs.Truth.{Choice, has_module, last_has_module}
 use Rattle.gb_holds.proofs.Lists.{declared-append}
 use Rattle.gb_typed.specs.Operators.{parts_in}
@@ -33,7 +33,7 @@ use Rattle.gb_typing.specs.Scopes.{nothing, with_declared, with_each, context_of
 use Rattle.gb_typing.specs.Typing.{IsForm}
 use Rattle.gb_typing.proofs.Conclusions.{formula_form}
 use Rattle.gb_typing.proofs.Grown.{Grows}
-use Rattle.gb_typing.proofs.Scripts.{IsKnownFrom, known_nothing, known_next, known_same, grows, grown}
+use Rattle.gb_typing.proofs.Scripts.{IsKnownFrom, known_nothing, known_next, known_same, known_operator, grows, grown}
 use Rattle.gb_models.specs.Speaking.{HaveNoModule, IsWithoutModules}
 use Rattle.gb_models.proofs.Growing.{over, Grown, typed_grown, all_grown, form_grown}
 use Rattle.gb_models.proofs.Staying.{split, without_modules}
@@ -156,11 +156,21 @@ each_over : (es : scope.Declarations) (c : Context) → with_each c (declared es
 each_over [] c = refl
 each_over ((n, entry.Module m) ∷ es) c = each_over es (with_declared c n (concrete_module m))
 each_over ((n, entry.Lemma q) ∷ es) c = each_over es c
+each_over ((n, entry.Type t) ∷ es) c = each_over es c
+each_over ((n, entry.AbstractType) ∷ es) c = each_over es c
+each_over ((n, entry.Constant a) ∷ es) c = each_over es c
+each_over ((n, entry.Operator o) ∷ es) c = each_over es (with_declared c n (declaration_of (entry.Operator o)))
+each_over ((n, entry.AbstractOperator o) ∷ es) c = each_over es (with_declared c n (declaration_of (entry.AbstractOperator o)))
 
 same_globals : (es : scope.Declarations) (c : Context) (a : Name) → (with_each c (declared es)).has_globals a ≡ c.has_globals a
 same_globals [] c a = refl
 same_globals ((n, entry.Module m) ∷ es) c a = same_globals es (with_declared c n (concrete_module m)) a
 same_globals ((n, entry.Lemma q) ∷ es) c a = same_globals es c a
+same_globals ((n, entry.Type t) ∷ es) c a = same_globals es c a
+same_globals ((n, entry.AbstractType) ∷ es) c a = same_globals es c a
+same_globals ((n, entry.Constant k) ∷ es) c a = same_globals es c a
+same_globals ((n, entry.Operator o) ∷ es) c a = same_globals es (with_declared c n (declaration_of (entry.Operator o))) a
+same_globals ((n, entry.AbstractOperator o) ∷ es) c a = same_globals es (with_declared c n (declaration_of (entry.AbstractOperator o))) a
 
 known_from : (ds : scope.Declarations) (before : Declarations) (c : Context) → AreTypedAfter c before (declared ds) → IsKnownFrom before c → IsKnownFrom (before ++ declared ds) (with_each c (declared ds))
 known_from [] before c w k = subst (λ z. IsKnownFrom z c) (sym (append-nil before)) k
@@ -170,6 +180,21 @@ known_from ((n, entry.Module m) ∷ ds) before c w k =
 known_from ((n, entry.Lemma q) ∷ ds) before c w k =
     subst (λ z. IsKnownFrom z (with_each c (declared ds))) (append_assoc before ((n, lemma q) ∷ []) (declared ds))
     (known_from ds (before ++ (n, lemma q) ∷ []) c w.2 (known_same c before n (lemma q) k))
+known_from ((n, entry.Type t0) ∷ ds) before c w k =
+    subst (λ z. IsKnownFrom z (with_each c (declared ds))) (append_assoc before ((n, declaration_of (entry.Type t0)) ∷ []) (declared ds))
+    (known_from ds (before ++ (n, declaration_of (entry.Type t0)) ∷ []) c w.2 (known_same c before n _ k))
+known_from ((n, entry.AbstractType) ∷ ds) before c w k =
+    subst (λ z. IsKnownFrom z (with_each c (declared ds))) (append_assoc before ((n, declaration_of entry.AbstractType) ∷ []) (declared ds))
+    (known_from ds (before ++ (n, declaration_of entry.AbstractType) ∷ []) c w.2 (known_same c before n _ k))
+known_from ((n, entry.Constant a0) ∷ ds) before c w k =
+    subst (λ z. IsKnownFrom z (with_each c (declared ds))) (append_assoc before ((n, declaration_of (entry.Constant a0)) ∷ []) (declared ds))
+    (known_from ds (before ++ (n, declaration_of (entry.Constant a0)) ∷ []) c w.2 (known_same c before n _ k))
+known_from ((n, entry.Operator o0) ∷ ds) before c w k =
+    subst (λ z. IsKnownFrom z (with_each (with_declared c n (declaration_of (entry.Operator o0))) (declared ds))) (append_assoc before ((n, declaration_of (entry.Operator o0)) ∷ []) (declared ds))
+    (known_from ds (before ++ (n, declaration_of (entry.Operator o0)) ∷ []) (with_declared c n (declaration_of (entry.Operator o0))) w.2 (known_operator c n _ before k _))
+known_from ((n, entry.AbstractOperator o0) ∷ ds) before c w k =
+    subst (λ z. IsKnownFrom z (with_each (with_declared c n (declaration_of (entry.AbstractOperator o0))) (declared ds))) (append_assoc before ((n, declaration_of (entry.AbstractOperator o0)) ∷ []) (declared ds))
+    (known_from ds (before ++ (n, declaration_of (entry.AbstractOperator o0)) ∷ []) (with_declared c n (declaration_of (entry.AbstractOperator o0))) w.2 (known_operator c n _ before k _))
 
 module _ (ds es : scope.Declarations) (typed : AreTypedAfter nothing [] (declared ds)) (later : AreTypedAfter (context_of (declared ds)) (declared ds) (declared es)) where
   abbrev c : Context

@@ -24,7 +24,7 @@ use Rattle.gb_meaning.specs.Written.{type_of}
 use Rattle.gb_typed.specs.Finite.{IsVariableType, AreFiniteWith}
 use Rattle.gb_typed.specs.Operators.{parts_in}
 use Rattle.gb_typed.specs.Programs.{variable_type, HaveTypes, Take}
-use Rattle.gb_holds.specs.Declared.{Declarations, abstract_type, operator, abstract_operator, module_type, concrete_module, abstract_module, axiom_of, lemma, terminating}
+use Rattle.gb_holds.specs.Declared.{Declarations, abstract_type, abbreviation, operator, abstract_operator, module_type, concrete_module, abstract_module, axiom_of, lemma, terminating}
 use Rattle.gb_holds.specs.Globs.{EachGlob, EachGlobIn}
 use Rattle.gb_holds.specs.Holds.{interpretation}
 use Rattle.gb_holds.specs.Linking.{calling, linked_procedure}
@@ -239,6 +239,7 @@ module _ (P : Name → Type 0) where
         declared_in ds _ _ w.2 k.1 (with_module ms n (module_read (linked_procedure g) ms m))
         (with_in ms h n (module_read (linked_procedure g) ms m) (codes_in c m ms h m.procs [] (let x = w.1 in x.procs) k.0 no_module (λ args a. tt)))
     declared_in ((n, abstract_type) ∷ ds) before c w k ms h = declared_in ds _ _ w.2 k.1 ms h
+    declared_in ((n, abbreviation stood) ∷ ds) before c w k ms h = declared_in ds _ _ w.2 k.1 ms h
     declared_in ((n, operator o) ∷ ds) before c w k ms h = declared_in ds _ _ w.2 k.1 ms h
     declared_in ((n, abstract_operator o) ∷ ds) before c w k ms h = declared_in ds _ _ w.2 k.1 ms h
     declared_in ((n, module_type t) ∷ ds) before c w k ms h = declared_in ds _ _ w.2 k.1 ms h

@@ -16,7 +16,7 @@ use Rattle.gb_goal.specs.Scope as scope
 use Rattle.gb_meaning.specs.Names.{Name}
 use Rattle.gb_meaning.specs.Setting.{Setting}
 use Rattle.gb_meaning.specs.Values.{World}
-use Rattle.gb_holds.specs.Declared.{Declarations, Declaration, declared, abstract_type, operator, abstract_operator, module_type, concrete_module, abstract_module, axiom_of, lemma, terminating}
+use Rattle.gb_holds.specs.Declared.{Declarations, Declaration, declaration_of, declared, abstract_type, abbreviation, operator, abstract_operator, module_type, concrete_module, abstract_module, axiom_of, lemma, terminating}
 use Rattle.gb_holds.specs.Holds.{EachProgram, IsModel, interpretation, declared_modules, EachDeclared, Holds}
 use Rattle.gb_holds.specs.Naming.{AnyName, IsFresh}
 use Rattle.gb_holds.specs.Settings.{Table, Interpretation, setting}
@@ -90,6 +90,7 @@ fresh_behind ((n, concrete_module m) ∷ es) before c y w k e = (other_name befo
 fresh_behind ((n, module_type t) ∷ es) before c y w k e = (other_name before k n e w.0, fresh_behind es _ _ y.1 w.2 k (declared_more before _ k e))
 fresh_behind ((n, lemma q) ∷ es) before c y w k e = (other_name before k n e w.0, fresh_behind es _ _ y.1 w.2 k (declared_more before _ k e))
 fresh_behind ((n, abstract_type) ∷ es) before c y w k e = absurd y.0
+fresh_behind ((n, abbreviation stood) ∷ es) before c y w k e = absurd y.0
 fresh_behind ((n, operator o) ∷ es) before c y w k e = absurd y.0
 fresh_behind ((n, abstract_operator o) ∷ es) before c y w k e = absurd y.0
 fresh_behind ((n, abstract_module b) ∷ es) before c y w k e = absurd y.0
@@ -117,6 +118,7 @@ one_declared before n (concrete_module m) c w k = λ j h. named_declared before 
 one_declared before n (abstract_module b) c w k = λ j h.
     named_declared before n (abstract_module b) c k b.name w.0 (of_functor_type (functor_type c.modules.types (c.modules.types b.ty))) j h
 one_declared before n abstract_type c w k = kept_declared before n abstract_type c c refl k
+one_declared before n (abbreviation stood) c w k = kept_declared before n (abbreviation stood) c c refl k
 one_declared before n (operator o) c w k = kept_declared before n (operator o) c (with_declared c n (operator o)) refl k
 one_declared before n (abstract_operator o) c w k = kept_declared before n (abstract_operator o) c (with_declared c n (abstract_operator o)) refl k
 one_declared before n (module_type t) c w k = kept_declared before n (module_type t) c (with_declared c n (module_type t)) refl k
@@ -136,6 +138,7 @@ no_section_in : (ds : Declarations) → EachDeclared IsFirm ds → declared_modu
 no_section_in [] y = refl
 no_section_in ((n, abstract_module b) ∷ ds) y = absurd y.0
 no_section_in ((n, abstract_type) ∷ ds) y = no_section_in ds y.1
+no_section_in ((n, abbreviation stood) ∷ ds) y = no_section_in ds y.1
 no_section_in ((n, operator o) ∷ ds) y = no_section_in ds y.1
 no_section_in ((n, abstract_operator o) ∷ ds) y = no_section_in ds y.1
 no_section_in ((n, module_type t) ∷ ds) y = no_section_in ds y.1
@@ -148,6 +151,7 @@ no_axioms : (es all ds : Declarations) (i : Interpretation) → EachDeclared IsF
 no_axioms es all [] i y = tt
 no_axioms es all ((n, abstract_module b) ∷ ds) i y = absurd y.0
 no_axioms es all ((n, abstract_type) ∷ ds) i y = no_axioms es all ds i y.1
+no_axioms es all ((n, abbreviation stood) ∷ ds) i y = no_axioms es all ds i y.1
 no_axioms es all ((n, operator o) ∷ ds) i y = no_axioms es all ds i y.1
 no_axioms es all ((n, abstract_operator o) ∷ ds) i y = no_axioms es all ds i y.1
 no_axioms es all ((n, module_type t) ∷ ds) i y = no_axioms es all ds i y.1
@@ -172,6 +176,7 @@ modules_or_statements ((n, concrete_module m) ∷ es) y = (tt, modules_or_statem
 modules_or_statements ((n, module_type t) ∷ es) y = (tt, modules_or_statements es y.1)
 modules_or_statements ((n, lemma q) ∷ es) y = (tt, modules_or_statements es y.1)
 modules_or_statements ((n, abstract_type) ∷ es) y = absurd y.0
+modules_or_statements ((n, abbreviation stood) ∷ es) y = absurd y.0
 modules_or_statements ((n, operator o) ∷ es) y = absurd y.0
 modules_or_statements ((n, abstract_operator o) ∷ es) y = absurd y.0
 modules_or_statements ((n, abstract_module b) ∷ es) y = absurd y.0
@@ -273,6 +278,11 @@ no_types : (ds : scope.Declarations) (c : Context) → ((n : Name) → c.modules
 no_types [] c k n = k n
 no_types ((m, entry.Module x) ∷ ds) c k n = no_types ds (with_declared c m (concrete_module x)) k n
 no_types ((m, entry.Lemma q) ∷ ds) c k n = no_types ds c k n
+no_types ((m, entry.Type t) ∷ ds) c k n = no_types ds c k n
+no_types ((m, entry.AbstractType) ∷ ds) c k n = no_types ds c k n
+no_types ((m, entry.Constant a) ∷ ds) c k n = no_types ds c k n
+no_types ((m, entry.Operator o) ∷ ds) c k n = no_types ds (with_declared c m (declaration_of (entry.Operator o))) k n
+no_types ((m, entry.AbstractOperator o) ∷ ds) c k n = no_types ds (with_declared c m (declaration_of (entry.AbstractOperator o))) k n
 
 -- Without module types there are no binders of modules.
 
@@ -303,15 +313,15 @@ no_module_concluded c k (Term' a (more_of-Head (head.Phoare (Body' m is) r) end_
 no_module_concluded c k (Term' a (more_of-Head (head.Equiv (Body' m is) (Body' l js)) end_of-Head) n ts t) w = refl
 no_module_concluded c k f w = no_module c k f w
 
-all_firm : (ds : scope.Declarations) → EachDeclared IsFirm (declared ds)
+pub all_firm : (ds : scope.Declarations) → EachDeclared IsFirm (declared ds)
 all_firm [] = tt
 all_firm ((n, entry.Module m) ∷ ds) = (tt, all_firm ds)
 all_firm ((n, entry.Lemma q) ∷ ds) = (tt, all_firm ds)
-
-all_added : (es : scope.Declarations) → EachDeclared IsModuleOrLemma (declared es)
-all_added [] = tt
-all_added ((n, entry.Module m) ∷ es) = (tt, all_added es)
-all_added ((n, entry.Lemma q) ∷ es) = (tt, all_added es)
+all_firm ((n, entry.Type t) ∷ ds) = (tt, all_firm ds)
+all_firm ((n, entry.AbstractType) ∷ ds) = (tt, all_firm ds)
+all_firm ((n, entry.Constant a) ∷ ds) = (tt, all_firm ds)
+all_firm ((n, entry.Operator o) ∷ ds) = (tt, all_firm ds)
+all_firm ((n, entry.AbstractOperator o) ∷ ds) = (tt, all_firm ds)
 
 no_module_in : (c : Context) → ((n : Name) → c.modules.types n ≡ None) → (hs : List Hyp) → AreFormulas c hs → HaveNoModule hs
 no_module_in c k [] w = tt
@@ -329,10 +339,3 @@ without_modules ds q t = record {
 
     types : (n : Name) → (with_modules (context_of (declared ds)) q.modules).modules.types n ≡ None
     types n = ap (λ bs. (with_modules (context_of (declared ds)) bs).modules.types n) unbound ∙ no_types ds nothing (λ n. refl) n
-
-pub script_stays : (ds es : scope.Declarations) → IsTypedScope (declared (ds ++ es)) → (q : Sequent) → IsTypedSequent (context_of (declared ds)) q →
-    ScopeSpeaks NoName (declared ds) → GoalSpeaks NoName q → Holds (declared ds) q → Holds (declared (ds ++ es)) q
-script_stays ds es scoped q t k s h =
-    subst (λ z. Holds z q) (sym (declared-append ds es))
-    (goal_stays (declared ds) (declared es) (subst IsTypedScope (declared-append ds es) scoped) (all_firm ds) (all_added es) q t (without_modules ds q t)
-    (more_scope NoName (IsFresh (declared es)) (λ n f. absurd f) (declared ds) k) (more_goal NoName (IsFresh (declared es)) (λ n f. absurd f) q s) h)

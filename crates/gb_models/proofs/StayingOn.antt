@@ -9,12 +9,14 @@ use Rattle.gb_terms.specs.declared.module.ProcRef.{ProcRef}
 use Rattle.gb_terms.specs.declared.term.Term.{Term, Term', Row_of-Term, end_of-Term, more_of-Term, end_of-Head, more_of-Head}
 use Rattle.gb_terms.specs.declared.term.Head.{Head}
 use Rattle.gb_terms.specs.declared.term.Head.TheVariants as head
+use Rattle.gb_goal.specs.Scope as scope
 use Rattle.gb_goal.specs.declared.sequent.Sequent.{Sequent}
 use Rattle.gb_meaning.specs.Names.{Name}
 use Rattle.gb_meaning.specs.Written.{local_type}
-use Rattle.gb_holds.specs.Declared.{Declarations, Declaration, abstract_type, operator, abstract_operator, module_type, concrete_module, abstract_module, axiom_of, lemma, terminating}
+use Rattle.gb_holds.specs.Declared.{Declarations, Declaration, declared, abstract_type, abbreviation, operator, abstract_operator, module_type, concrete_module, abstract_module, axiom_of, lemma, terminating}
 use Rattle.gb_holds.specs.Holds.{EachDeclared, Holds}
 use Rattle.gb_holds.specs.Naming.{AnyName, IsFresh}
+use Rattle.gb_holds.proofs.Lists.{declared-append}
 use Rattle.gb_later.specs.Added.{IsNewOperator, IsSequentApartIn, IsAdded, AreAddedTo}
 use Rattle.gb_later.specs.Naming.{NoName, IsOther, IsKept, HeadNames, TermNames, TermsName, OperatorsName}
 use Rattle.gb_later.proofs.Additions.{all-added}
@@ -32,7 +34,7 @@ use Rattle.gb_models.proofs.GrowingGoals.{each_append, goal_grown}
 use Rattle.gb_models.proofs.LinkedNames.{none_some, variables_apart, measured_apart}
 use Rattle.gb_models.proofs.MoreNames.{more_scope, more_goal}
 use Rattle.gb_models.proofs.NamedForms.{AllKnown, given_known, interface_known}
-use Rattle.gb_models.proofs.Staying.{split, AllDeclared, declared_more, declared_last, other_name, one_declared, scope_apart, apart}
+use Rattle.gb_models.proofs.Staying.{split, all_firm, without_modules, AllDeclared, declared_more, declared_last, other_name, one_declared, scope_apart, apart}
 use mathlib.Core.Former.{Count}
 
 -- What a context knows is declared.
@@ -107,6 +109,7 @@ grown_one before n (module_type x) c y free k =
 grown_one before n (abstract_module b) c y free k = absurd y
 grown_one before n (axiom_of q) c y free k = absurd y
 grown_one before n abstract_type c y free k = (λ h x t e. e, λ j u e. e, λ p t e. e, λ a h. h)
+grown_one before n (abbreviation stood) c y free k = (λ h x t e. e, λ j u e. e, λ p t e. e, λ a h. h)
 grown_one before n (lemma q) c y free k = (λ h x t e. e, λ j u e. e, λ p t e. e, λ a h. h)
 grown_one before n (terminating f) c y free k = (λ h x t e. e, λ j u e. e, λ p t e. e, λ a h. h)
 
@@ -227,6 +230,7 @@ module _ (q : Sequent) (without : IsWithoutModules q) (says : GoalSpeaks NoName 
     one_added n (abstract_module b) y free w = absurd y
     one_added n (axiom_of p) y free w = absurd y
     one_added n abstract_type y free w = tt
+    one_added n (abbreviation stood) y free w = tt
     one_added n (lemma p) y free w = tt
     one_added n (terminating f) y free w = tt
 
@@ -257,3 +261,12 @@ goal_stays_on ds es scoped firm q t without spoken says h =
     let f = part_each IsFirm ds es firm in
     let k = part_each (DeclarationSpeaks NoName) ds es spoken in
     all-added ds es q (added_to q without says es ds w.0 w.1 f.0 f.1 k.0 k.1 t) h
+
+-- Scripts.
+pub script_stays : (ds es : scope.Declarations) → IsTypedScope (declared (ds ++ es)) → (q : Sequent) → IsTypedSequent (context_of (declared ds)) q →
+    ScopeSpeaks NoName (declared (ds ++ es)) → GoalSpeaks NoName q → Holds (declared ds) q → Holds (declared (ds ++ es)) q
+script_stays ds es scoped q t k s h =
+    let a = declared-append ds es in
+    subst (λ z. Holds z q) (sym a)
+    (goal_stays_on (declared ds) (declared es) (subst IsTypedScope a scoped) (subst (EachDeclared IsFirm) a (all_firm (ds ++ es))) q t (without_modules ds q t)
+    (subst (ScopeSpeaks NoName) a k) s h)

@@ -1,6 +1,8 @@
 -- What a lemma on two procedures promises, in the words of its publication.
-use Rattle.std.specs.Prelude.{ℕ, [], ◌∷◌}
+use Rattle.std.specs.Prelude.{ℕ, List, [], ◌∷◌, map}
 use Rattle.gb_core.specs.declared.ty.Ty.TheVariants.{Bool as truths}
+use Rattle.gb_core.specs.declared.value.Value.{Value}
+use Rattle.gb_terms.specs.declared.decl.TypedName.{TypedName}
 use Rattle.gb_terms.specs.declared.module.ProcRef.{ProcRef}
 use Rattle.gb_terms.specs.declared.term.Term.{Term}
 use Rattle.gb_terms.specs.declared.term.Head.TheVariants.{Equiv, Proc}
@@ -15,8 +17,8 @@ use Rattle.gb_meaning.specs.Judgments.{IsTrueIn, run_of, subject_denominator}
 use Rattle.gb_holds.specs.Declared.{declared}
 use Rattle.gb_meaning.specs.Names.{Name}
 use Rattle.gb_meaning.specs.Values.{World}
-use Rattle.gb_holds.specs.Settings.{Table, setting}
-use Rattle.gb_holds.specs.Holds.{IsModel, context, interpretation, InEachModel}
+use Rattle.gb_holds.specs.Settings.{Table, Interpretation, types_of, setting}
+use Rattle.gb_holds.specs.Holds.{AreValues, IsModel, context, interpretation, InEachModel}
 
 -- the declarations have a model
 abbrev pub HasModel : Declarations → Type 0
@@ -26,25 +28,26 @@ HasModel ds = (w : World) × (size : Name → ℕ) × (table : Table) × IsModel
 abbrev pub equivalence : ProcRef → ProcRef → Term → Term → Term
 equivalence f h P Q = node (Equiv (Proc f) (Proc h)) (P ∷ Q ∷ []) truths
 
--- a form alone: a sequent without a context
-abbrev pub alone : Term → Sequent
-alone f = record { logical = []; memories = []; modules = []; hyps = []; conclusion = f }
+-- a form in a context of values and memories
+abbrev pub stated : List TypedName → List Name → Term → Sequent
+stated xs ms f = record { logical = xs; memories = ms; modules = []; hyps = []; conclusion = f }
 
--- the state in which nothing is around
-abbrev pub nothing_around : State
-nothing_around = context [] []
-
--- a relation between two memories, as a form says it in a setting
-abbrev pub Relates : Setting → Term → Memory → Memory → Type 0
-Relates g P m n = IsTrueIn g P (between nothing_around m n)
+-- a relation between two memories, as a form says it in a setting and a state
+abbrev pub Relates : Setting → State → Term → Memory → Memory → Type 0
+Relates g s P m n = IsTrueIn g P (between s m n)
 
 -- From each two memories in P there is a coupling of the outputs of both procedures: pairs of memories in Q, each with a
 -- weight, whose marginals are the two output distributions, at each output.
-abbrev pub HaveCoupledOutputs : Setting → ProcRef → ProcRef → Term → Term → Type 0
-HaveCoupledOutputs g f h P Q = (d : Discrete Memory) (m n : Memory) → Relates g P m n →
-    PointwiseCoupling d d (Relates g Q)
-    (run_of g nothing_around (Proc f) m) (subject_denominator g (Proc f)) (run_of g nothing_around (Proc h) n) (subject_denominator g (Proc h))
+abbrev pub HaveCoupledOutputs : Setting → State → ProcRef → ProcRef → Term → Term → Type 0
+HaveCoupledOutputs g s f h P Q = (d : Discrete Memory) (m n : Memory) → Relates g s P m n →
+    PointwiseCoupling d d (Relates g s Q)
+    (run_of g s (Proc f) m) (subject_denominator g (Proc f)) (run_of g s (Proc h) n) (subject_denominator g (Proc h))
+
+-- for all values of these variables, and all memories
+abbrev pub AreCoupled : Declarations → List TypedName → ProcRef → ProcRef → Term → Term → Interpretation → Type 0
+AreCoupled ds xs f h P Q i = (vs : List Value) → AreValues (types_of (declared ds) i) (map (λ x. x.ty) xs) vs → (ms : List Memory) →
+    HaveCoupledOutputs (setting (declared ds) i) (context vs ms) f h P Q
 
 -- in the setting of each model of the declarations
-abbrev pub AreCoupledInEachModel : Declarations → ProcRef → ProcRef → Term → Term → Type 0
-AreCoupledInEachModel ds f h P Q = InEachModel (declared ds) (λ i. HaveCoupledOutputs (setting (declared ds) i) f h P Q)
+abbrev pub AreCoupledInEachModel : Declarations → List TypedName → ProcRef → ProcRef → Term → Term → Type 0
+AreCoupledInEachModel ds xs f h P Q = InEachModel (declared ds) (AreCoupled ds xs f h P Q)

@@ -24,7 +24,7 @@ pub fn goals_stay()
         ScopeSpeaks (IsFresh es) ds → GoalSpeaks (IsFresh es) q → Holds ds q → Holds (ds ++ es) q }
     ensures scripts { (ds es : scope.Declarations) → IsTypedScope (declared (ds ++ es)) →
         (q : Sequent) → IsTypedSequent (context_of (declared ds)) q →
-        ScopeSpeaks NoName (declared ds) → GoalSpeaks NoName q → Holds (declared ds) q → Holds (declared (ds ++ es)) q }
+        ScopeSpeaks NoName (declared (ds ++ es)) → GoalSpeaks NoName q → Holds (declared ds) q → Holds (declared (ds ++ es)) q }
     ensures without { (ds : scope.Declarations) (q : Sequent) → IsTypedSequent (context_of (declared ds)) q → IsWithoutModules q }
 {}
 

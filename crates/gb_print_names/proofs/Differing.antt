@@ -6,6 +6,7 @@ use Rattle.std.specs.Fmt.{decimal}
 use Rattle.std.specs.Str.Parse.{AllDigits}
 use Rattle.std.proofs.lemmas.Fmt.{decimal_is_IsNumeral, decimal_injective, decimal_nonempty}
 use Rattle.std.proofs.lemmas.Str.Parse.{digit_from_value}
+use Rattle.gb_goal.specs.Scope.{declarations_in}
 use Rattle.gb_print_names.specs.Names.{Place, primed, numbered, is_taken, bound_name}
 
 abbrev primes : ℕ → List ℕ
@@ -56,7 +57,7 @@ pub names_differ : (l k : ℕ) (p q : Place) → length p.bound < 2 ^ 64 → len
 names_differ l k p q small short other same =
     let m = length p.bound in
     let n = length q.bound in
-    let a = with_primes (length p.taken + length p.declared) (is_taken p) (numbered (l ∷ []) m) in
-    let b = with_primes (length q.taken + length q.declared) (is_taken q) (numbered (k ∷ []) n) in
+    let a = with_primes (length p.taken + declarations_in p.declared) (is_taken p) (numbered (l ∷ []) m) in
+    let b = with_primes (length q.taken + declarations_in q.declared) (is_taken q) (numbered (k ∷ []) n) in
     let e = sym (ap (λ x. x ++ primes a.0) (numbered_is l m)) ∙ sym a.1 ∙ same ∙ b.1 ∙ ap (λ x. x ++ primes b.0) (numbered_is k n) in
     other (digits_tell m n small short (same_digits (digits_of m) (digits_of n) a.0 b.0 (are_digits m small) (are_digits n short) (ap (drop 1) e)))

@@ -9,7 +9,7 @@ use Rattle.gb_terms.specs.declared.op.Side.{Side}
 use Rattle.gb_terms.specs.declared.op.Side.TheVariants as side
 use Rattle.gb_terms.specs.declared.op.Read.{Read}
 use Rattle.gb_terms.specs.declared.op.Read.TheVariants.{Logical, Program}
-use Rattle.gb_goal.specs.Scope.{Declarations, entry_of}
+use Rattle.gb_goal.specs.Scope.{Declarations, declarations_in, entry_of}
 use Rattle.gb_print_names.specs.declared.place.Enumeration.{Enumeration}
 use Rattle.gb_print_names.specs.declared.place.Known.{Known}
 use Rattle.gb_print_names.specs.declared.place.Setting.{Setting}
@@ -52,7 +52,7 @@ numbered letter n = if n == 0 then letter else letter ++ decimal n
 -- The name that is printed for what a binder binds. With as many primes as there are names, one of the names isn't taken: those of
 -- constants are among the names of enumerations.
 abbrev pub bound_name : Text → Place → Name
-bound_name letter at = primed (length at.taken + length at.declared) (is_taken at) (numbered letter (length at.bound))
+bound_name letter at = primed (length at.taken + declarations_in at.declared) (is_taken at) (numbered letter (length at.bound))
 
 -- a place under a binder more: what is bound has a name in the tree where it is a module, and the name that is printed
 abbrev pub under : Name → Text → Place → Place

@@ -94,7 +94,7 @@ pub fn bound_name(
     let most = at
         .taken
         .len()
-        .checked_add(at.scope.len())
+        .checked_add(at.scope.declarations())
         .ok_or(AllocError)?;
     let name = numbered(alloc, letter, bound.len())?;
     primed(alloc, at, name, most)

@@ -17,7 +17,7 @@ use Rattle.gb_meaning.specs.State.{State}
 use Rattle.gb_meaning.specs.Judgments.{Judge, IsFair}
 use Rattle.gb_meaning.specs.Written.{type_of}
 use Rattle.gb_typed.specs.Operators.{item}
-use Rattle.gb_holds.specs.Declared.{Declarations, Declaration, abstract_type, operator, abstract_operator, module_type, concrete_module, abstract_module, axiom_of, lemma, terminating}
+use Rattle.gb_holds.specs.Declared.{Declarations, Declaration, abstract_type, abbreviation, operator, abstract_operator, module_type, concrete_module, abstract_module, axiom_of, lemma, terminating}
 use Rattle.gb_holds.specs.Settings.{Interpretation, with_program, setting, types_of}
 use Rattle.gb_holds.specs.Truth.{Truth}
 use Rattle.gb_holds.specs.Holds.{EachProgram, AreValues, context, AreTrue, declared_modules, interpretation, InEachModel, InEachSetting, Holds}
@@ -51,6 +51,7 @@ declared_outermost c n (module_type t) e = ap (λ c. with_declared c n (module_t
 declared_outermost c n (concrete_module m) e = ap (λ c. with_declared c n (concrete_module m)) e
 declared_outermost c n (abstract_module b) e = ap (λ c. with_declared c n (abstract_module b)) e
 declared_outermost c n abstract_type e = e
+declared_outermost c n (abbreviation stood) e = e
 declared_outermost c n (axiom_of q) e = e
 declared_outermost c n (lemma q) e = e
 declared_outermost c n (terminating f) e = e

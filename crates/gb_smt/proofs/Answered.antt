@@ -1,5 +1,5 @@
 -- A claim closes its leaf exactly where it is found true, and there is one answer to leaves.
-use Rattle.std.proofs.Common.{◌≡◌, ℕ, ◌↔◌, true, false, Bool, cond, Option, Some, None, List, [], ◌∷◌, ◌++◌, refl, sym, ap, ◌∙◌, subst, arith}
+use Rattle.std.proofs.Common.{◌≡◌, ℕ, ℤ, pos, ◌↔◌, true, false, Bool, cond, Option, Some, None, List, [], ◌∷◌, ◌++◌, refl, sym, ap, ◌∙◌, subst, arith}
 use Rattle.std.specs.List.{list_any, All, Any}
 use Rattle.std.proofs.lemmas.Bool.{false≢true}
 use Rattle.std.proofs.lemmas.List.Elements.{All-head, All-tail}
@@ -12,15 +12,17 @@ use Rattle.gb_terms.specs.declared.term.Term.{Term}
 use Rattle.gb_smt.specs.declared.leaves.Leaf.{Leaf}
 use Rattle.gb_smt.specs.declared.claims.Claim.{Claim}
 use Rattle.gb_smt.specs.declared.assign.Found.{Found}
-use Rattle.gb_smt.specs.declared.assign.Found.TheVariants.{True, False, Unknown}
+use Rattle.gb_smt.specs.declared.assign.Found.TheVariants.{True, False, Unknown, Overflow}
 use Rattle.gb_smt.specs.declared.apply.Tried.{Tried}
-use Rattle.gb_smt.specs.declared.apply.Tried.TheVariants.{Closed, Refuted, Undecided}
+use Rattle.gb_smt.specs.declared.apply.Tried.TheVariants.{Closed, Refuted, Undecided, OutOfRange}
+use Rattle.gb_smt.specs.declared.apply.Open.{Open}
+use Rattle.gb_num.specs.declared.whole.Overflow as number
 use Rattle.gb_smt.specs.Equations.{used_up}
 use Rattle.gb_smt.specs.Claims.{claims_of}
 use Rattle.gb_smt.specs.Width.{width_of, is_tried}
 use Rattle.gb_smt.specs.Assign.{found_of}
 use Rattle.gb_smt.specs.Atoms.{IsCount}
-use Rattle.gb_smt.specs.Apply.{trial_at, trial_of, is_true, is_found_true, greatest, refuted_by, open_outcome, outcome_of, Closes, IsClosed, IsReason, IsOpen, IsFirstOpen, IsAnswerOf}
+use Rattle.gb_smt.specs.Apply.{trial_at, trial_of, is_true, is_found_true, shown_by, out_of_range_or, refuted_by, left_open, open_outcome, outcome_of, Closes, IsClosed, IsReason, IsOpen, IsFirstOpen, IsAnswerOf}
 use Rattle.gb_smt.proofs.Findings.{found_exactly}
 use Rattle.gb_smt.proofs.Different.{no_more}
 use Rattle.gb_smt.proofs.Trials.{trial_by, outcome_open, outcome_true}
@@ -31,6 +33,7 @@ true_only : (w : Card) (f : Found) → is_true (trial_at w f).found ≡ true →
 true_only w True e = refl
 true_only w (False values) e = absurd (false≢true e)
 true_only w Unknown e = absurd (false≢true e)
+true_only w (Overflow o) e = absurd (false≢true e)
 
 true_by : (b : Bool) (w : Card) (f : Found) → is_true (trial_by b w f).found ≡ true → (b ≡ true) × (f ≡ True)
 true_by true w f e = (refl, true_only w f e)
@@ -52,15 +55,23 @@ any_mapped P Q f cs a = (a.0, a.1, a.2, a.3, f a.1 a.4)
 not_closed_by : (f : Found) (w : Card) → refuted_by f w ≡ Closed → ⊥
 not_closed_by True w e = cc
 not_closed_by Unknown w e = cc
+not_closed_by (Overflow o) w e = cc
 not_closed_by (False values) w e = by_width (is_tried w) e
   where
     by_width : (b : Bool) → cond b (Refuted values) (Undecided w) ≡ Closed → ⊥
     by_width true e = cc
     by_width false e = cc
 
+not_closed_at : (f : Found) (o : Open) → left_open f o ≡ Closed → ⊥
+not_closed_at f o e = by_overflow o.overflow e
+  where
+    by_overflow : (x : Option number.Overflow) → out_of_range_or x (refuted_by f o.widest) ≡ Closed → ⊥
+    by_overflow (Some y) e = cc
+    by_overflow None e = not_closed_by f o.widest e
+
 not_closed : (cs : List Claim) → open_outcome cs ≡ Closed → ⊥
 not_closed [] e = cc
-not_closed (c ∷ cs) e = not_closed_by (trial_of c).found (greatest (c ∷ cs)) e
+not_closed (c ∷ cs) e = not_closed_at (trial_of c).found (shown_by (c ∷ cs)) e
 
 closed_by_test : (cs : List Claim) (b : Bool) → list_any is_found_true cs ≡ b → outcome_of cs ≡ Closed → Any Closes cs
 closed_by_test cs true h e = any_mapped (λ c. is_found_true c ≡ true) Closes closes_if cs (Any-from_list_any is_found_true cs h)
@@ -95,6 +106,7 @@ count_once ts m n a b =
 closed_or_open : (l : Leaf) (w : Why) → IsClosed l → IsOpen l w → ⊥
 closed_or_open l (why.False values) c r = let e = closed_only (claims_of (used_up l)) c in cc
 closed_or_open l (why.Undecided width atoms) c r = let e = closed_only (claims_of (used_up l)) c in let q = r.0 in cc
+closed_or_open l (why.Overflow left right) c r = let e = closed_only (claims_of (used_up l)) c in cc
 closed_or_open l _ c r = r
 
 undecided_once : (l : Leaf) (width w : Card) (m n : ℕ) → IsReason l (why.Undecided width m) → IsReason l (why.Undecided w n) → why.Undecided width m ≡ why.Undecided w n
@@ -105,16 +117,36 @@ undecided_once l width w m n a b =
 false_once : (l : Leaf) (values : List Value) (w : Why) → IsReason l (why.False values) → IsReason l w → why.False values ≡ w
 false_once l values (why.False vs) a b = let e : values ≡ vs = cc in ap why.False e
 false_once l values (why.Undecided width n) a b = let q = b.0 in absurd (cc)
+false_once l values (why.Overflow left right) a b = absurd (cc)
 false_once l values _ a b = absurd b
 
 undecided_or : (l : Leaf) (width : Card) (n : ℕ) (w : Why) → IsReason l (why.Undecided width n) → IsReason l w → why.Undecided width n ≡ w
 undecided_or l width n (why.False values) a b = let q = a.0 in absurd (cc)
 undecided_or l width n (why.Undecided v m) a b = undecided_once l width v n m a b
+undecided_or l width n (why.Overflow left right) a b = let q = a.0 in absurd (cc)
 undecided_or l width n _ a b = absurd b
+
+operands_same : (a b c d : ℤ) → OutOfRange (record { left = a; right = b }) ≡ OutOfRange (record { left = c; right = d }) → why.Overflow a b ≡ why.Overflow c d
+operands_same a b c d e = λ i. why.Overflow (left_of (e i)) (right_of (e i))
+  where
+    left_of : Tried → ℤ
+    left_of (OutOfRange o) = o.left
+    left_of _ = pos 0
+
+    right_of : Tried → ℤ
+    right_of (OutOfRange o) = o.right
+    right_of _ = pos 0
+
+overflow_once : (l : Leaf) (left right : ℤ) (w : Why) → IsReason l (why.Overflow left right) → IsReason l w → why.Overflow left right ≡ w
+overflow_once l left right (why.False values) a b = absurd (cc)
+overflow_once l left right (why.Undecided width n) a b = let q = b.0 in absurd (cc)
+overflow_once l left right (why.Overflow x y) a b = operands_same left right x y (sym a ∙ b)
+overflow_once l left right _ a b = absurd b
 
 one_reason : (l : Leaf) (v w : Why) → IsReason l v → IsReason l w → v ≡ w
 one_reason l (why.False values) w a b = false_once l values w a b
 one_reason l (why.Undecided width n) w a b = undecided_or l width n w a b
+one_reason l (why.Overflow left right) w a b = overflow_once l left right w a b
 one_reason l _ w a b = absurd a
 
 head_same : (a b : Leaf) (us vs : List Leaf) → a ∷ us ≡ b ∷ vs → a ≡ b

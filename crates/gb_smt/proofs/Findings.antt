@@ -1,18 +1,22 @@
 -- What trying the assignments of a claim finds.
-use Rattle.std.proofs.Common.{◌≡◌, ℕ, zero, suc, ◌+◌, ◌-◌, ◌<◌, inl, inr, ◌↔◌, true, false, Bool, Option, Some, None, List, refl, sym, ap, ◌∙◌, add-one, add-zero, add-suc, below_more, arith}
+use Rattle.std.proofs.Common.{◌≡◌, ℕ, zero, suc, ◌+◌, ◌-◌, ◌<◌, inl, inr, ◌↔◌, true, false, Bool, List, refl, sym, ap, ◌∙◌, add-one, add-zero, add-suc, below_more, arith}
 use Rattle.gb_core.specs.declared.value.Value.{Value}
 use Rattle.gb_core.specs.declared.value.Card.{Card}
 use Rattle.gb_core.specs.declared.value.Card.TheVariants.{Exact, Above}
 use Rattle.gb_types.specs.Types.{card_of}
+use Rattle.gb_num.specs.declared.whole.Overflow as number
+use Rattle.gb_eval.specs.Findings.{Comes}
+use Rattle.gb_eval.specs.Findings.Comes.{found, unknown, overflow}
 use Rattle.gb_smt.specs.declared.claims.Claim.{Claim}
 use Rattle.gb_smt.specs.declared.assign.Found.{Found}
-use Rattle.gb_smt.specs.declared.assign.Found.TheVariants.{True, False, Unknown}
+use Rattle.gb_smt.specs.declared.assign.Found.TheVariants.{True, False, Unknown, Overflow}
 use Rattle.gb_smt.specs.Assign.{assignments, assignment, truth_under, truth_at, TrueBefore, IsFirst, IsUnknown, IsOf, found_under, then_next, found_before, found_among, found_of}
 
 first_decides : (f next : Found) → (f ≡ True → ⊥) → then_next f next ≡ f
 first_decides True next h = absurd (h refl)
 first_decides (False values) next h = refl
 first_decides Unknown next h = refl
+first_decides (Overflow o) next h = refl
 
 module _ (c : Claim) where
   -- one assignment more
@@ -60,25 +64,35 @@ module _ (c : Claim) (n : ℕ) (f : Found) (h : found_before n c ≡ True) (e : 
 
 -- what is found, in words of all assignments
 
-found_true : (t : Option Bool) (values : List Value) → found_under t values ≡ True → t ≡ Some true
-found_true (Some true) values e = refl
-found_true (Some false) values e = absurd (cc)
-found_true None values e = absurd (cc)
+found_true : (t : Comes Bool) (values : List Value) → found_under t values ≡ True → t ≡ found true
+found_true (found true) values e = refl
+found_true (found false) values e = absurd (cc)
+found_true unknown values e = absurd (cc)
+found_true (overflow o) values e = absurd (cc)
 
-found_false : (t : Option Bool) (values vs : List Value) → found_under t values ≡ False vs → (t ≡ Some false) × (vs ≡ values)
-found_false (Some true) values vs e = absurd (cc)
-found_false (Some false) values vs e = (refl, cc)
-found_false None values vs e = absurd (cc)
+found_false : (t : Comes Bool) (values vs : List Value) → found_under t values ≡ False vs → (t ≡ found false) × (vs ≡ values)
+found_false (found true) values vs e = absurd (cc)
+found_false (found false) values vs e = (refl, cc)
+found_false unknown values vs e = absurd (cc)
+found_false (overflow o) values vs e = absurd (cc)
 
-found_unknown : (t : Option Bool) (values : List Value) → found_under t values ≡ Unknown → t ≡ None
-found_unknown (Some true) values e = absurd (cc)
-found_unknown (Some false) values e = absurd (cc)
-found_unknown None values e = refl
+found_unknown : (t : Comes Bool) (values : List Value) → found_under t values ≡ Unknown → t ≡ unknown
+found_unknown (found true) values e = absurd (cc)
+found_unknown (found false) values e = absurd (cc)
+found_unknown unknown values e = refl
+found_unknown (overflow o) values e = absurd (cc)
+
+found_overflow : (t : Comes Bool) (values : List Value) (o : number.Overflow) → found_under t values ≡ Overflow o → t ≡ overflow o
+found_overflow (found true) values o e = absurd (cc)
+found_overflow (found false) values o e = absurd (cc)
+found_overflow unknown values o e = absurd (cc)
+found_overflow (overflow p) values o e = let q : p ≡ o = cc in ap overflow q
 
 both_true : (f g : Found) → then_next f g ≡ True → (f ≡ True) × (g ≡ True)
 both_true True g e = (refl, e)
 both_true (False values) g e = absurd (cc)
 both_true Unknown g e = absurd (cc)
+both_true (Overflow o) g e = absurd (cc)
 
 -- this place is the first whose assignment decides
 record IsDecidedBefore (c : Claim) (n : ℕ) (f : Found) : Type 0 where
@@ -94,6 +108,7 @@ here_or_before : (c : Claim) (n : ℕ) (f g : Found) → found_before n c ≡ g 
 here_or_before c n f True e k r = record { place = n; below = omega arith; before = e; there = k }
 here_or_before c n f (False values) e k r = further c n f (r (e ∙ k))
 here_or_before c n f Unknown e k r = further c n f (r (e ∙ k))
+here_or_before c n f (Overflow o) e k r = further c n f (r (e ∙ k))
 
 decided_before : (c : Claim) (n : ℕ) (f : Found) → (f ≡ True → ⊥) → found_before n c ≡ f → IsDecidedBefore c n f
 decided_before c zero f d e = absurd (d (sym e))
@@ -103,7 +118,7 @@ true_before : (c : Claim) (n : ℕ) → found_before n c ≡ True → TrueBefore
 true_before c zero h i l = absurd (omega arith)
 true_before c (suc n) h i l =
     let p = both_true (found_before n c) (found_under (truth_at c n) (assignment c n)) h in
-    below_more (λ k. truth_at c k ≡ Some true) n (true_before c n p.0) (found_true (truth_at c n) (assignment c n) p.1) i (omega arith)
+    below_more (λ k. truth_at c k ≡ found true) n (true_before c n p.0) (found_true (truth_at c n) (assignment c n) p.1) i (omega arith)
 
 before_true : (c : Claim) (n : ℕ) → TrueBefore n c → found_before n c ≡ True
 before_true c zero h = refl
@@ -111,7 +126,7 @@ before_true c (suc n) h =
     ap (λ f. then_next f (found_under (truth_at c n) (assignment c n))) (before_true c n (λ i l. h i (omega arith)))
     ∙ ap (λ t. found_under t (assignment c n)) (h n (omega arith))
 
-first_at : (c : Claim) (count : ℕ) (f : Found) (values : List Value) (t : Option Bool) → card_of (assignments c) ≡ Exact count → (d : IsDecidedBefore c count f) → truth_at c d.place ≡ t → values ≡ assignment c d.place → IsFirst c values t
+first_at : (c : Claim) (count : ℕ) (f : Found) (values : List Value) (t : Comes Bool) → card_of (assignments c) ≡ Exact count → (d : IsDecidedBefore c count f) → truth_at c d.place ≡ t → values ≡ assignment c d.place → IsFirst c values t
 first_at c count f values t e d u v = record {
   count = count;
   exact = e;
@@ -127,26 +142,31 @@ by_count c (Exact n) True e h = record { count = n; exact = e; each = true_befor
 by_count c (Exact n) (False values) e h =
     let d = decided_before c n (False values) (λ q. cc) h in
     let p = found_false (truth_at c d.place) (assignment c d.place) values d.there in
-    first_at c n (False values) values (Some false) e d p.0 p.1
+    first_at c n (False values) values (found false) e d p.0 p.1
 by_count c (Exact n) Unknown e h =
     let d = decided_before c n Unknown (λ q. cc) h in
-    inr (assignment c d.place, first_at c n Unknown (assignment c d.place) None e d (found_unknown (truth_at c d.place) (assignment c d.place) d.there) refl)
+    inr (assignment c d.place, first_at c n Unknown (assignment c d.place) unknown e d (found_unknown (truth_at c d.place) (assignment c d.place) d.there) refl)
+by_count c (Exact n) (Overflow o) e h =
+    let d = decided_before c n (Overflow o) (λ q. cc) h in
+    (assignment c d.place, first_at c n (Overflow o) (assignment c d.place) (overflow o) e d (found_overflow (truth_at c d.place) (assignment c d.place) o d.there) refl)
 by_count c Above True e h = absurd (cc)
 by_count c Above (False values) e h = absurd (cc)
 by_count c Above Unknown e h = inl e
+by_count c Above (Overflow o) e h = absurd (cc)
 
-first_found : (c : Claim) (f : Found) (values : List Value) (t : Option Bool) → IsFirst c values t → found_under t values ≡ f → (f ≡ True → ⊥) → found_of c ≡ f
+first_found : (c : Claim) (f : Found) (values : List Value) (t : Comes Bool) → IsFirst c values t → found_under t values ≡ f → (f ≡ True → ⊥) → found_of c ≡ f
 first_found c f values t i u d =
     found_here c i.count i.place values f i.exact i.below (before_true c i.place i.before) i.values_at (ap (λ x. found_under x values) i.there ∙ u) d
 
 unknown_found : (c : Claim) → IsUnknown c → found_of c ≡ Unknown
 unknown_found c (inl e) = found_above c e
-unknown_found c (inr p) = first_found c Unknown p.0 None p.1 refl (λ q. cc)
+unknown_found c (inr p) = first_found c Unknown p.0 unknown p.1 refl (λ q. cc)
 
 found_if : (c : Claim) (f : Found) → IsOf c f → found_of c ≡ f
 found_if c True i = found_everywhere c i.count i.count i.exact refl (before_true c i.count i.each)
-found_if c (False values) i = first_found c (False values) values (Some false) i refl (λ q. cc)
+found_if c (False values) i = first_found c (False values) values (found false) i refl (λ q. cc)
 found_if c Unknown i = unknown_found c i
+found_if c (Overflow o) i = first_found c (Overflow o) i.0 (overflow o) i.1 refl (λ q. cc)
 
 pub found_exactly : (c : Claim) (f : Found) → found_of c ≡ f ↔ IsOf c f
 found_exactly c f = (by_count c (card_of (assignments c)) f refl, found_if c f)

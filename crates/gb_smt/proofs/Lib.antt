@@ -11,6 +11,6 @@ pub mod Counting
 mod Different
 mod Answered
 mod Values
-mod Meant
+pub mod Meant
 pub mod SameTerms
 mod Outcomes

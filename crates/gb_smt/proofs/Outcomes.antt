@@ -1,5 +1,5 @@
 -- There is an answer to leaves.
-use Rattle.std.proofs.Common.{◌≡◌, ℕ, zero, suc, ◌+◌, ◌<◌, Option, Some, None, List, [], ◌∷◌, ◌++◌, length, get_or, refl, ap, arith}
+use Rattle.std.proofs.Common.{◌≡◌, ℕ, zero, suc, ◌<◌, Option, Some, None, List, [], ◌∷◌, ◌++◌, length, get_or, refl, ap, arith}
 use Rattle.std.specs.List.{Contains}
 use Rattle.std.proofs.lemmas.List.Elements.{All-nil, All-cons}
 use Rattle.gb_core.specs.declared.refusal.Why.{Why}
@@ -7,7 +7,7 @@ use Rattle.gb_core.specs.declared.refusal.Why.TheVariants as why
 use Rattle.gb_terms.specs.declared.term.Term.{Term}
 use Rattle.gb_smt.specs.declared.leaves.Leaf.{Leaf}
 use Rattle.gb_smt.specs.declared.apply.Tried.{Tried}
-use Rattle.gb_smt.specs.declared.apply.Tried.TheVariants.{Closed, Refuted, Undecided}
+use Rattle.gb_smt.specs.declared.apply.Tried.TheVariants.{Closed, Refuted, Undecided, OutOfRange}
 use Rattle.gb_smt.specs.Equations.{used_up}
 use Rattle.gb_smt.specs.Claims.{claims_of}
 use Rattle.gb_smt.specs.Atoms.{atoms_of, AreAdded, IsCount}
@@ -54,6 +54,7 @@ module _ (same : Discrete Term) where
   answered : (l : Leaf) (t : Tried) → outcome_of (claims_of (used_up l)) ≡ t → (o : Option Why) × IsAnswer l o
   answered l Closed e = (None, (closed_exactly (claims_of (used_up l))).0 e)
   answered l (Refuted values) e = (Some (why.False values), e)
+  answered l (OutOfRange o) e = (Some (why.Overflow o.left o.right), e)
   answered l (Undecided width) e = let n = count (atoms_of (used_up l)) in (Some (why.Undecided width n.0), (e, n.1))
 
   answer : (l : Leaf) → (o : Option Why) × IsAnswer l o

@@ -10,12 +10,13 @@ use Rattle.gb_smt.specs.declared.leaves.Leaf.{Leaf}
 use Rattle.gb_smt.specs.declared.claims.Claim.{Claim}
 use Rattle.gb_smt.specs.declared.assign.Found.{Found}
 use Rattle.gb_smt.specs.declared.assign.Found.TheVariants.{Unknown}
+use Rattle.gb_smt.specs.declared.apply.Open.{Open}
 use Rattle.gb_smt.specs.declared.apply.Trial.{Trial}
 use Rattle.gb_smt.specs.declared.apply.Tried.{Tried}
 use Rattle.gb_smt.specs.declared.apply.Tried.TheVariants.{Closed}
 use Rattle.gb_smt.specs.Width.{width_of, is_tried, greater}
 use Rattle.gb_smt.specs.Assign.{found_of}
-use Rattle.gb_smt.specs.Apply.{trial_at, trial_of, is_true, is_found_true, greatest, widest_open, refuted_by, open_outcome, outcome_of, IsClosed, IsAnswer, IsFirstOpen}
+use Rattle.gb_smt.specs.Apply.{trial_at, trial_of, is_true, is_found_true, open_at, and_then, nothing_open, shown_by, open_after, left_open, open_outcome, outcome_of, IsClosed, IsAnswer, IsFirstOpen}
 
 -- the trial of a claim, by whether its width is tried
 
@@ -38,33 +39,36 @@ outcome_open xs h = ap (λ b. cond b Closed (open_outcome xs)) h
 pub outcome_true : (xs : List Claim) → list_any is_found_true xs ≡ true → outcome_of xs ≡ Closed
 outcome_true xs h = ap (λ b. cond b Closed (open_outcome xs)) h
 
--- the greatest width of claims none of which is found true, one claim further
+-- what claims show none of which is found true, one claim further
 
-module _ (cs : List Claim) (i : ℕ) (c : Claim) (t : Trial) (w : Card) (l : i < length cs) (e : c ≡ get_or cs i c) (p : t ≡ trial_of c) where
-  one_open : widest_open w (drop i cs) ≡ cond (is_true t.found) None (widest_open (greater w t.width) (drop (i + 1) cs))
+module _ (cs : List Claim) (i : ℕ) (c : Claim) (t : Trial) (o : Open) (l : i < length cs) (e : c ≡ get_or cs i c) (p : t ≡ trial_of c) where
+  one_open : open_after o (drop i cs) ≡ cond (is_true t.found) None (open_after (and_then o (open_at t)) (drop (i + 1) cs))
   one_open =
-      at_drop_more (widest_open w) cs i c l
-      ∙ ap (λ d. widest_open w (d ∷ drop (i + 1) cs)) (sym e)
-      ∙ sym (ap (λ u. cond (is_true u.found) None (widest_open (greater w u.width) (drop (i + 1) cs))) p)
+      at_drop_more (open_after o) cs i c l
+      ∙ ap (λ d. open_after o (d ∷ drop (i + 1) cs)) (sym e)
+      ∙ sym (ap (λ u. cond (is_true u.found) None (open_after (and_then o (open_at u)) (drop (i + 1) cs))) p)
 
-  pub open_stop : is_true t.found ≡ true → widest_open w (drop i cs) ≡ None
-  open_stop h = one_open ∙ ap (λ b. cond b None (widest_open (greater w t.width) (drop (i + 1) cs))) h
+  pub open_stop : is_true t.found ≡ true → open_after o (drop i cs) ≡ None
+  open_stop h = one_open ∙ ap (λ b. cond b None (open_after (and_then o (open_at t)) (drop (i + 1) cs))) h
 
-  pub open_next : is_true t.found ≡ false → widest_open (greater w t.width) (drop (i + 1) cs) ≡ widest_open w (drop i cs)
-  open_next h = sym (one_open ∙ ap (λ b. cond b None (widest_open (greater w t.width) (drop (i + 1) cs))) h)
+  pub open_next : is_true t.found ≡ false → open_after (and_then o (open_at t)) (drop (i + 1) cs) ≡ open_after o (drop i cs)
+  open_next h = sym (one_open ∙ ap (λ b. cond b None (open_after (and_then o (open_at t)) (drop (i + 1) cs))) h)
 
-widest_is : (w : Card) (cs : List Claim) → widest_open w cs ≡ cond (list_any is_found_true cs) None (Some (fold greater w (map (λ c. (trial_of c).width) cs)))
-widest_is w [] = refl
-widest_is w (c ∷ cs) = by_first (is_found_true c) (widest_is (greater w (trial_of c).width) cs)
+open_is : (o : Open) (cs : List Claim) → open_after o cs ≡ cond (list_any is_found_true cs) None (Some (fold and_then o (map (λ c. open_at (trial_of c)) cs)))
+open_is o [] = refl
+open_is o (c ∷ cs) = by_first (is_found_true c) (open_is (and_then o (open_at (trial_of c))) cs)
   where
-    by_first : (b : Bool) → widest_open (greater w (trial_of c).width) cs ≡ cond (list_any is_found_true cs) None (Some (fold greater (greater w (trial_of c).width) (map (λ d. (trial_of d).width) cs)))
-        → cond b None (widest_open (greater w (trial_of c).width) cs) ≡ cond (b || list_any is_found_true cs) None (Some (fold greater (greater w (trial_of c).width) (map (λ d. (trial_of d).width) cs)))
+    by_first : (b : Bool) → open_after (and_then o (open_at (trial_of c))) cs ≡ cond (list_any is_found_true cs) None (Some (fold and_then (and_then o (open_at (trial_of c))) (map (λ d. open_at (trial_of d)) cs)))
+        → cond b None (open_after (and_then o (open_at (trial_of c))) cs) ≡ cond (b || list_any is_found_true cs) None (Some (fold and_then (and_then o (open_at (trial_of c))) (map (λ d. open_at (trial_of d)) cs)))
     by_first true h = refl
     by_first false h = h
 
 least : (w : Card) → greater (Exact 0) w ≡ w
 least (Exact n) = ap Exact (omega arith)
 least Above = refl
+
+first_open_one : (o : Open) → and_then nothing_open o ≡ o
+first_open_one o = λ i. record { widest = least o.widest i; overflow = o.overflow }
 
 pub first_and_others : (xs : List Claim) (c : Claim) → 1 ≤ length xs → c ≡ get_or xs 0 c → xs ≡ c ∷ take (length xs - 1) (drop 1 xs)
 first_and_others [] c l e = absurd (omega arith)
@@ -78,13 +82,13 @@ module _ (xs cs : List Claim) (c : Claim) (t : Trial) (e : xs ≡ c ∷ cs) (p :
   pub first_true : is_true t.found ≡ true → Closed ≡ outcome_of xs
   first_true h = sym (ap outcome_of e ∙ outcome_true (c ∷ cs) (ap (λ b. b || list_any is_found_true cs) (sym first_is ∙ h)))
 
-  widest_by : (b : Bool) → list_any is_found_true cs ≡ b → widest_open t.width cs ≡ cond b None (Some (greatest (c ∷ cs)))
-  widest_by b h =
-      widest_is t.width cs
-      ∙ ap (λ x. cond x None (Some (fold greater t.width (map (λ d. (trial_of d).width) cs)))) h
-      ∙ ap (λ w. cond b None (Some (fold greater w (map (λ d. (trial_of d).width) cs)))) (ap (λ u. u.width) p ∙ sym (least (trial_of c).width))
+  open_by : (b : Bool) → list_any is_found_true cs ≡ b → open_after (open_at t) cs ≡ cond b None (Some (shown_by (c ∷ cs)))
+  open_by b h =
+      open_is (open_at t) cs
+      ∙ ap (λ x. cond x None (Some (fold and_then (open_at t) (map (λ d. open_at (trial_of d)) cs)))) h
+      ∙ ap (λ o. cond b None (Some (fold and_then o (map (λ d. open_at (trial_of d)) cs)))) (ap open_at p ∙ sym (first_open_one (open_at (trial_of c))))
 
-  pub other_true : (o : Option Card) → o ≡ widest_open t.width cs → o ≡ None → Closed ≡ outcome_of xs
+  pub other_true : (o : Option Open) → o ≡ open_after (open_at t) cs → o ≡ None → Closed ≡ outcome_of xs
   other_true o q n = by_others (list_any is_found_true cs) refl
     where
       by_others : (b : Bool) → list_any is_found_true cs ≡ b → Closed ≡ outcome_of xs
@@ -93,18 +97,18 @@ module _ (xs cs : List Claim) (c : Claim) (t : Trial) (e : xs ≡ c ∷ cs) (p :
           or_true : (b : Bool) → (b || true) ≡ true
           or_true true = refl
           or_true false = refl
-      by_others false h = let f = sym n ∙ q ∙ widest_by false h in absurd (cc)
+      by_others false h = let f = sym n ∙ q ∙ open_by false h in absurd (cc)
 
-  pub none_true : (o : Option Card) (w : Card) (r : Tried) → is_true t.found ≡ false → o ≡ widest_open t.width cs → o ≡ Some w → r ≡ refuted_by t.found w → r ≡ outcome_of xs
+  pub none_true : (o : Option Open) (w : Open) (r : Tried) → is_true t.found ≡ false → o ≡ open_after (open_at t) cs → o ≡ Some w → r ≡ left_open t.found w → r ≡ outcome_of xs
   none_true o w r d q n k = by_others (list_any is_found_true cs) refl
     where
       by_others : (b : Bool) → list_any is_found_true cs ≡ b → r ≡ outcome_of xs
-      by_others true h = let f = sym n ∙ q ∙ widest_by true h in absurd (cc)
+      by_others true h = let f = sym n ∙ q ∙ open_by true h in absurd (cc)
       by_others false h =
-          let f : Some w ≡ Some (greatest (c ∷ cs)) = sym n ∙ q ∙ widest_by false h in
-          let g : w ≡ greatest (c ∷ cs) = cc in
+          let f : Some w ≡ Some (shown_by (c ∷ cs)) = sym n ∙ q ∙ open_by false h in
+          let g : w ≡ shown_by (c ∷ cs) = cc in
           k
-          ∙ (λ i. refuted_by (p i).found (g i))
+          ∙ (λ i. left_open (p i).found (g i))
           ∙ sym (ap outcome_of e ∙ outcome_open (c ∷ cs) (λ i. (sym first_is ∙ d) i || h i))
 
 -- leaves one after another

@@ -1,5 +1,5 @@
 -- The assignment at a place, variable by variable.
-use Rattle.std.proofs.Common.{◌≡◌, ℕ, ◌+◌, ◌*◌, ◌/◌, ◌%◌, ◌^◌, ◌<◌, ◌≤◌, min, true, false, Bool, Option, Some, List, [], ◌∷◌, ◌++◌, length, get_or, map, drop, refl, sym, ap, ◌∙◌, append-nil, append_assoc, arith}
+use Rattle.std.proofs.Common.{◌≡◌, ℕ, ◌+◌, ◌*◌, ◌/◌, ◌%◌, ◌^◌, ◌<◌, ◌≤◌, min, true, false, Bool, List, [], ◌∷◌, ◌++◌, length, get_or, map, drop, refl, sym, ap, ◌∙◌, append-nil, append_assoc, arith}
 use Rattle.std.proofs.lemmas.Bool.{and_parts}
 use Rattle.std.proofs.lemmas.List.{at_drop_more, drop_all}
 use Rattle.gb_core.specs.declared.value.Value.{Value}
@@ -9,6 +9,8 @@ use Rattle.gb_types.proofs.Equations.{numbering-Tuple}
 use Rattle.gb_types.proofs.Lawful.{out-Many}
 use Rattle.gb_types.proofs.Steps.{Digit, digit, factors}
 use Rattle.gb_eval.specs.declared.env.ReadValue.{ReadValue}
+use Rattle.gb_eval.specs.Findings.{Comes}
+use Rattle.gb_eval.specs.Findings.Comes.{found}
 use Rattle.gb_smt.specs.declared.claims.Claim.{Claim}
 use Rattle.gb_smt.specs.declared.variables.Variable.{Variable}
 use Rattle.gb_smt.specs.Variables.{Vars}
@@ -65,9 +67,15 @@ values_back [] i = refl
 values_back (v ∷ vs) i = ap (λ l. value_at v.ty (i / count vs) ∷ l) (values_back vs (i % count vs))
 
 -- what is found where a claim is false under the assignment at a place
-pub false_at : (c : Claim) (i : ℕ) (vs : Vars) (reads : List ReadValue) (values : List Value) (t : Option Bool) → vs ≡ c.variables → reads ≡ with_values vs (values_at vs i) → t ≡ implied reads c.hyps c.conclusion → t ≡ Some false → values ≡ map (λ r. r.value) reads → False values ≡ found_under (truth_at c i) (assignment c i)
-false_at c i vs reads values t e p q f v =
+pub false_at : (c : Claim) (i : ℕ) (vs : Vars) (reads : List ReadValue) (values : List Value) → vs ≡ c.variables → reads ≡ with_values vs (values_at vs i) → implied reads c.hyps c.conclusion ≡ found false → values ≡ map (λ r. r.value) reads → False values ≡ found_under (truth_at c i) (assignment c i)
+false_at c i vs reads values e p f v =
     let all : reads ≡ with_values c.variables (values_at c.variables i) = p ∙ ap (λ us. with_values us (values_at us i)) e in
     let w : values ≡ assignment c i = v ∙ ap (map (λ r. r.value)) all ∙ values_back c.variables i ∙ sym (assignment_at c i) in
-    let u : truth_at c i ≡ Some false = ap (truth_under c) (assignment_at c i) ∙ sym (ap (λ l. implied l c.hyps c.conclusion) all) ∙ sym q ∙ f in
+    let u : truth_at c i ≡ found false = ap (truth_under c) (assignment_at c i) ∙ sym (ap (λ l. implied l c.hyps c.conclusion) all) ∙ f in
     ap False w ∙ sym (ap (λ o. found_under o (assignment c i)) u)
+
+-- what is found there, whatever the truth of the claim
+pub found_there : (c : Claim) (i : ℕ) (vs : Vars) (reads : List ReadValue) (t : Comes Bool) → vs ≡ c.variables → reads ≡ with_values vs (values_at vs i) → implied reads c.hyps c.conclusion ≡ t → truth_at c i ≡ t
+found_there c i vs reads t e p f =
+    let all : reads ≡ with_values c.variables (values_at c.variables i) = p ∙ ap (λ us. with_values us (values_at us i)) e in
+    ap (truth_under c) (assignment_at c i) ∙ sym (ap (λ l. implied l c.hyps c.conclusion) all) ∙ f

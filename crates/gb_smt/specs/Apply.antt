@@ -1,6 +1,7 @@
 -- What `smt` answers.
 use Rattle.std.specs.Prelude.{◌≡◌, Bool, true, false, IsTrue, if◌then◌else◌, Option, Some, None, Result, Ok, Err, List, [], ◌∷◌, ◌++◌, map, fold}
 use Rattle.std.specs.List.{list_any, All, Any}
+use Rattle.std.specs.Option.{option_or}
 use Rattle.gb_core.specs.declared.place.Place.{Place}
 use Rattle.gb_core.specs.declared.value.Card.{Card}
 use Rattle.gb_core.specs.declared.value.Card.TheVariants.{Exact, Above}
@@ -12,10 +13,12 @@ use Rattle.gb_goal.specs.declared.sequent.Sequent.{Sequent}
 use Rattle.gb_smt.specs.declared.leaves.Leaf.{Leaf}
 use Rattle.gb_smt.specs.declared.claims.Claim.{Claim}
 use Rattle.gb_smt.specs.declared.assign.Found.{Found}
-use Rattle.gb_smt.specs.declared.assign.Found.TheVariants.{True, False, Unknown}
+use Rattle.gb_smt.specs.declared.assign.Found.TheVariants.{True, False, Unknown, Overflow}
 use Rattle.gb_smt.specs.declared.apply.Trial.{Trial}
 use Rattle.gb_smt.specs.declared.apply.Tried.{Tried}
-use Rattle.gb_smt.specs.declared.apply.Tried.TheVariants.{Closed, Refuted, Undecided}
+use Rattle.gb_smt.specs.declared.apply.Tried.TheVariants.{Closed, Refuted, Undecided, OutOfRange}
+use Rattle.gb_smt.specs.declared.apply.Open.{Open}
+use Rattle.gb_num.specs.declared.whole.Overflow as number
 use Rattle.gb_smt.specs.Equations.{used_up}
 use Rattle.gb_smt.specs.Claims.{claims_of}
 use Rattle.gb_smt.specs.Width.{width_of, is_tried, greater}
@@ -38,24 +41,46 @@ is_true _ = false
 abbrev pub is_found_true : Claim → Bool
 is_found_true c = is_true (trial_of c).found
 
--- the greatest width of a claim
-abbrev pub greatest : List Claim → Card
-greatest claims = fold greater (Exact 0) (map (λ c. (trial_of c).width) claims)
+-- What claims that aren't found true have shown: their greatest width, and the first overflow.
+
+abbrev pub overflow_in : Found → Option number.Overflow
+overflow_in (Overflow o) = Some o
+overflow_in _ = None
+
+abbrev pub open_at : Trial → Open
+open_at t = record { widest = t.width; overflow = overflow_in t.found }
+
+abbrev pub and_then : Open → Open → Open
+and_then a b = record { widest = greater a.widest b.widest; overflow = option_or a.overflow b.overflow }
+
+abbrev pub nothing_open : Open
+nothing_open = record { widest = Exact 0; overflow = None }
+
+abbrev pub shown_by : List Claim → Open
+shown_by claims = fold and_then nothing_open (map (λ c. open_at (trial_of c)) claims)
 
 -- refuted as the first claim is, where none is too wide
 abbrev pub refuted_by : Found → Card → Tried
 refuted_by (False values) widest = if is_tried widest then Refuted values else Undecided widest
 refuted_by _ widest = Undecided widest
 
+abbrev pub out_of_range_or : Option number.Overflow → Tried → Tried
+out_of_range_or (Some o) t = OutOfRange o
+out_of_range_or None t = t
+
+-- an overflow decides, and else the first claim and the greatest width
+abbrev pub left_open : Found → Open → Tried
+left_open first o = out_of_range_or o.overflow (refuted_by first o.widest)
+
 -- what trying claims comes to where none is found true
 abbrev pub open_outcome : List Claim → Tried
 open_outcome [] = Undecided (Exact 0)
-open_outcome (c ∷ cs) = refuted_by (trial_of c).found (greatest (c ∷ cs))
+open_outcome (c ∷ cs) = left_open (trial_of c).found (shown_by (c ∷ cs))
 
--- the greatest of a width and the widths of claims, where none is found true
-abbrev pub widest_open : Card → List Claim → Option Card
-widest_open widest [] = Some widest
-widest_open widest (c ∷ cs) = if is_found_true c then None else widest_open (greater widest (trial_of c).width) cs
+-- what some claims have shown, and the claims behind them, where none is found true
+abbrev pub open_after : Open → List Claim → Option Open
+open_after o [] = Some o
+open_after o (c ∷ cs) = if is_found_true c then None else open_after (and_then o (open_at (trial_of c))) cs
 
 -- what trying claims comes to
 abbrev pub outcome_of : List Claim → Tried
@@ -69,9 +94,11 @@ Closes c = IsTrue (is_tried (width_of c)) × IsTrueEverywhere c
 abbrev pub IsClosed : Leaf → Type 0
 IsClosed l = Any Closes (claims_of (used_up l))
 
--- Why a leaf without equations isn't closed: false under the first assignment under which its first claim is, where all
--- its claims are tried; else undecided, with the greatest width and the number of its atoms.
+-- Why a leaf without equations isn't closed: out of range, by the first of its claims, in order, whose evaluation goes out of
+-- range before it is false; else false under the first assignment under which its first claim is, where all its claims are tried;
+-- else undecided, with the greatest width and the number of its atoms.
 abbrev pub IsReason : Leaf → Why → Type 0
+IsReason l (why.Overflow left right) = outcome_of (claims_of l) ≡ OutOfRange (record { left = left; right = right })
 IsReason l (why.False values) = outcome_of (claims_of l) ≡ Refuted values
 IsReason l (why.Undecided width atoms) = (outcome_of (claims_of l) ≡ Undecided width) × IsCount (atoms_of l) atoms
 IsReason l _ = ⊥

@@ -1,5 +1,5 @@
 -- The assignments to the variables of a claim, and its truth under them.
-use Rattle.std.specs.Prelude.{◌≡◌, ◌⊎◌, ◌<◌, ℕ, zero, suc, true, false, Bool, Option, Some, None, List, [], ◌∷◌, map}
+use Rattle.std.specs.Prelude.{◌≡◌, ◌⊎◌, ◌<◌, ℕ, zero, suc, true, false, Bool, if◌then◌else◌, List, [], ◌∷◌, map}
 use Rattle.gb_core.specs.declared.ty.Ty.{Ty}
 use Rattle.gb_core.specs.declared.ty.Ty.TheVariants.{Tuple}
 use Rattle.gb_core.specs.declared.value.Value.{Value}
@@ -7,13 +7,14 @@ use Rattle.gb_core.specs.declared.value.Card.{Card}
 use Rattle.gb_core.specs.declared.value.Card.TheVariants.{Exact, Above}
 use Rattle.gb_types.specs.Numbering.{parts_of}
 use Rattle.gb_types.specs.Types.{card_of, value_at}
-use Rattle.gb_terms.specs.declared.op.Op.TheVariants.{Implies}
 use Rattle.gb_terms.specs.declared.term.Term.{Term}
 use Rattle.gb_eval.specs.declared.env.ReadValue.{ReadValue}
-use Rattle.gb_eval.specs.Eval.{eval, truth_of, connective}
+use Rattle.gb_eval.specs.Findings.{Comes, ◌>>=◌}
+use Rattle.gb_eval.specs.Findings.Comes.{found, unknown, overflow}
+use Rattle.gb_eval.specs.Eval as eval
 use Rattle.gb_smt.specs.declared.claims.Claim.{Claim}
 use Rattle.gb_smt.specs.declared.assign.Found.{Found}
-use Rattle.gb_smt.specs.declared.assign.Found.TheVariants.{True, False, Unknown}
+use Rattle.gb_smt.specs.declared.assign.Found.TheVariants.{True, False, Unknown, Overflow}
 use Rattle.gb_smt.specs.Variables.{Vars}
 
 -- the type whose values are the assignments
@@ -30,21 +31,21 @@ with_values (v ∷ vs) (x ∷ xs) = record { read = v.read; value = x } ∷ with
 with_values _ _ = []
 
 -- whether hypotheses, one after another, imply a form
-abbrev pub implied : List ReadValue → List Term → Term → Option Bool
-implied reads [] t = truth_of (eval reads t [])
-implied reads (h ∷ hs) t = connective Implies (truth_of (eval reads h [])) (implied reads hs t)
+abbrev pub implied : List ReadValue → List Term → Term → Comes Bool
+implied reads [] t = eval.truth_at reads t []
+implied reads (h ∷ hs) t = eval.truth_at reads h [] >>= λ a. if a then implied reads hs t else found true
 
 -- the truth of a claim where its variables have these values, if evaluation knows it
-abbrev pub truth_under : Claim → List Value → Option Bool
+abbrev pub truth_under : Claim → List Value → Comes Bool
 truth_under c values = implied (with_values c.variables values) c.hyps c.conclusion
 
 -- the truth of a claim under the assignment at a place
-abbrev pub truth_at : Claim → ℕ → Option Bool
+abbrev pub truth_at : Claim → ℕ → Comes Bool
 truth_at c i = truth_under c (assignment c i)
 
 -- the claim is true under every assignment before a place
 abbrev pub TrueBefore : ℕ → Claim → Type 0
-TrueBefore n c = (i : ℕ) → i < n → truth_at c i ≡ Some true
+TrueBefore n c = (i : ℕ) → i < n → truth_at c i ≡ found true
 
 -- there are so many assignments, and the claim is true under each of them
 pub record IsTrueEverywhere (c : Claim) : Type 0 where
@@ -53,7 +54,7 @@ pub record IsTrueEverywhere (c : Claim) : Type 0 where
   pub each : TrueBefore count c
 
 -- The values are the first assignment under which the claim isn't true, and its truth under it is this one.
-pub record IsFirst (c : Claim) (values : List Value) (truth : Option Bool) : Type 0 where
+pub record IsFirst (c : Claim) (values : List Value) (truth : Comes Bool) : Type 0 where
   pub count : ℕ
   pub exact : card_of (assignments c) ≡ Exact count
   pub place : ℕ
@@ -65,19 +66,21 @@ pub record IsFirst (c : Claim) (values : List Value) (truth : Option Bool) : Typ
 -- Either there are too many assignments, or evaluation doesn't know the truth of the claim under the first one under
 -- which it isn't true.
 abbrev pub IsUnknown : Claim → Type 0
-IsUnknown c = (card_of (assignments c) ≡ Above) ⊎ ((values : List Value) × IsFirst c values None)
+IsUnknown c = (card_of (assignments c) ≡ Above) ⊎ ((values : List Value) × IsFirst c values unknown)
 
 -- what is found of a claim, in words of all assignments
 abbrev pub IsOf : Claim → Found → Type 0
 IsOf c True = IsTrueEverywhere c
-IsOf c (False values) = IsFirst c values (Some false)
+IsOf c (False values) = IsFirst c values (found false)
 IsOf c Unknown = IsUnknown c
+IsOf c (Overflow o) = (values : List Value) × IsFirst c values (overflow o)
 
 -- what is found under one assignment
-abbrev pub found_under : Option Bool → List Value → Found
-found_under (Some true) values = True
-found_under (Some false) values = False values
-found_under None values = Unknown
+abbrev pub found_under : Comes Bool → List Value → Found
+found_under (found true) values = True
+found_under (found false) values = False values
+found_under unknown values = Unknown
+found_under (overflow o) values = Overflow o
 
 -- the first that isn't `True` decides
 abbrev pub then_next : Found → Found → Found

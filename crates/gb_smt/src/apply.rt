@@ -6,7 +6,7 @@ ghost use Rattle.gb_smt.specs.declared.leaves.Leaf.{Leaf};
 ghost use Rattle.gb_smt.specs.Leaves.{leaves_of};
 ghost use Rattle.gb_smt.specs.Equations.{used_up};
 ghost use Rattle.gb_smt.specs.Claims.{claims_of};
-ghost use Rattle.gb_smt.specs.Apply.{trial_of, is_true, widest_open, refuted_by, outcome_of, IsAnswer, IsAnswerOf, IsClosed, IsResult};
+ghost use Rattle.gb_smt.specs.Apply.{trial_of, is_true, open_after, open_at, and_then, left_open, outcome_of, IsAnswer, IsAnswerOf, IsClosed, IsResult};
 
 use crate::assign::{Found, try_all};
 use crate::atoms::number_of_atoms;
@@ -19,6 +19,7 @@ use gb_core::value::{Card, Values};
 use gb_goal::scope::Scope;
 use gb_goal::sequent::{Sequent, Sequents};
 use gb_goal::step::Step;
+use gb_num::Overflow;
 use gb_shared::Shared;
 use sqlite_items::Items;
 use std::alloc::{AllocError, Global};
@@ -41,20 +42,12 @@ fn try_claim(alloc: Global, claim: &Claim) -> Result<Trial, AllocError>
             found: Found::Unknown,
         });
     }
-    match try_all(alloc, claim)? {
-        Found::True => Ok(Trial {
-            width,
-            found: Found::True,
-        }),
-        Found::False(values) => Ok(Trial {
-            width,
-            found: Found::False(values),
-        }),
-        Found::Unknown => Ok(Trial {
-            width: Card::Above,
-            found: Found::Unknown,
-        }),
-    }
+    let found = try_all(alloc, claim)?;
+    let width = match found {
+        Found::Unknown => Card::Above,
+        _ => width,
+    };
+    Ok(Trial { width, found })
 }
 
 /// What trying a leaf comes to.
@@ -65,6 +58,15 @@ enum Tried {
     Refuted(Values),
     /// The greatest width of a claim.
     Undecided(Card),
+    /// The first overflow of a claim.
+    OutOfRange(Overflow),
+}
+
+/// What claims that aren't found true have shown: their greatest width, and the first overflow.
+#[derive(Clone, Copy)]
+struct Open {
+    widest: Card,
+    overflow: Option<Overflow>,
 }
 
 /// Whether a claim is found true.
@@ -73,32 +75,57 @@ fn is_true(found: &Found) -> bool
 {
     match found {
         Found::True => true,
-        Found::False(_) | Found::Unknown => false,
+        _ => false,
     }
 }
 
-/// The greatest of a width and the widths of claims, where none is found true.
-fn widest_open(alloc: Global, list: &[Claim], from: Card) -> Result<Option<Card>, AllocError>
-    ensures { IfOk result (λ widest. widest ≡ widest_open from list.now) }
+/// What a trial that isn't true shows.
+fn open_at(trial: &Trial) -> Open
+    ensures { result ≡ open_at trial.now }
 {
-    let mut widest = from;
+    let overflow = match trial.found {
+        Found::Overflow(overflow) => Some(overflow),
+        _ => None,
+    };
+    Open {
+        widest: trial.width,
+        overflow,
+    }
+}
+
+/// What one claim and others behind it show.
+fn and_then(first: Open, others: Open) -> Open
+    ensures { result ≡ and_then first others }
+{
+    Open {
+        widest: greater(first.widest, others.widest),
+        overflow: first.overflow.or(others.overflow),
+    }
+}
+
+/// What some claims have shown, and claims behind them, where none of these is found true.
+fn open_after(alloc: Global, list: &[Claim], from: Open) -> Result<Option<Open>, AllocError>
+    ensures { IfOk result (λ found. found ≡ open_after from list.now) }
+{
+    let mut shown = from;
     for claim in list {
         let trial = try_claim(alloc, claim)?;
         if is_true(&trial.found) {
             return Ok(None);
         }
-        widest = greater(widest, trial.width);
+        shown = and_then(shown, open_at(&trial));
     }
-    Ok(Some(widest))
+    Ok(Some(shown))
 }
 
-/// What the first claim decides, where no claim is found true.
-fn refuted_by(first: Found, widest: Card) -> Tried
-    ensures { result ≡ refuted_by first widest }
+/// What the claims decide, where none is found true.
+fn left_open(first: Found, shown: Open) -> Tried
+    ensures { result ≡ left_open first shown }
 {
-    match first {
-        Found::False(values) if is_tried(widest) => Tried::Refuted(values),
-        _ => Tried::Undecided(widest),
+    match (shown.overflow, first) {
+        (Some(overflow), _) => Tried::OutOfRange(overflow),
+        (None, Found::False(values)) if is_tried(shown.widest) => Tried::Refuted(values),
+        _ => Tried::Undecided(shown.widest),
     }
 }
 
@@ -106,15 +133,16 @@ fn refuted_by(first: Found, widest: Card) -> Tried
 fn try_claims(alloc: Global, list: &[Claim]) -> Result<Tried, AllocError>
     ensures { IfOk result (λ tried. tried ≡ outcome_of list.now) }
 {
-    let [first, others @ ..] = list else {
+    let [claim, others @ ..] = list else {
         return Ok(Tried::Undecided(Card::Exact(0)));
     };
-    let Trial { width, found } = try_claim(alloc, first)?;
-    if is_true(&found) {
+    let trial = try_claim(alloc, claim)?;
+    if is_true(&trial.found) {
         return Ok(Tried::Closed);
     }
-    match widest_open(alloc, others, width)? {
-        Some(widest) => Ok(refuted_by(found, widest)),
+    let first = open_at(&trial);
+    match open_after(alloc, others, first)? {
+        Some(shown) => Ok(left_open(trial.found, shown)),
         None => Ok(Tried::Closed),
     }
 }
@@ -134,6 +162,7 @@ fn reason(alloc: Global, leaf: &Leaf) -> Result<Option<Why>, AllocError>
     match try_leaf(alloc, leaf)? {
         Tried::Closed => Ok(None),
         Tried::Refuted(values) => Ok(Some(Why::False(values))),
+        Tried::OutOfRange(Overflow { left, right }) => Ok(Some(Why::Overflow { left, right })),
         Tried::Undecided(width) => {
             let atoms = number_of_atoms(alloc, leaf)?;
             Ok(Some(Why::Undecided { width, atoms }))
@@ -166,9 +195,9 @@ fn close_goal(alloc: Global, goal: &Sequent) -> Result<Option<Why>, AllocError>
 /// implications to the hypotheses, and conjunctions are split; then equations between a variable and a term are used
 /// up. Each such leaf closes when one of its claims, of a width of at most 2^20, is true under every assignment.
 ///
-/// The first leaf that doesn't close decides the refusal, at the place of the step: false, with the first assignment
-/// under which its first claim is false, where all its claims could be tried; else undecided, with the greatest width
-/// and the number of atoms.
+/// The first leaf that doesn't close decides the refusal, at the place of the step: the operands of an operation out of range,
+/// where evaluation of a claim comes to one before it is false; else false, with the first assignment under which its first
+/// claim is false, where all its claims could be tried; else undecided, with the greatest width and the number of atoms.
 pub fn apply(
     alloc: Global,
     step: &Step,

@@ -1,17 +1,20 @@
 // The assignments to the variables of a claim.
 
-ghost use Rattle.std.specs.Prelude.{◌≡◌, map, IfOk};
+ghost use Rattle.std.specs.Prelude.{◌≡◌, length, map, IfOk, OnOk};
 ghost use Rattle.gb_core.specs.declared.ty.Ty.TheVariants.{Tuple};
 ghost use Rattle.gb_types.specs.Numbering.{tuple_at};
+ghost use Rattle.gb_eval.specs.Findings.{Finds};
 ghost use Rattle.gb_types.specs.Types.{IsPlaceBelow, card_of, numbering, value_at};
 ghost use Rattle.gb_smt.specs.Assign.{assignments, assignment, with_values, implied, truth_at, found_under, found_of};
 
 use crate::claims::Claim;
 use crate::variables::Variable;
 use crate::width::{number_of_values, size_of_variables};
-use gb_core::value::{Card, Values};
+use gb_core::value::{Card, Value, Values};
+use gb_eval::answer::Stop;
 use gb_eval::env::{ReadValue, ReadValues};
-use gb_eval::eval::truth_if_known;
+use gb_eval::eval::truth;
+use gb_num::Overflow;
 use gb_terms::term::Term;
 use gb_types::nth::nth;
 use gb_types::size::size;
@@ -28,20 +31,40 @@ fn with_value(alloc: Global, variable: &Variable, at: u64) -> Result<ReadValue, 
     Ok(ReadValue { read, value })
 }
 
-/// The variables with their values in the assignment at a place, the first variable slowest.
-fn with_values(alloc: Global, variables: &[Variable], at: u64) -> Result<ReadValues, AllocError>
-    requires { IsPlaceBelow at (card_of (Tuple (map (λ v. v.ty) variables.now))) }
-    ensures { IfOk result (λ reads. reads ≡ with_values variables.now (tuple_at (map numbering (map (λ v. v.ty) variables.now)) at)) }
+/// The variables with some values.
+fn unassigned(alloc: Global, variables: &[Variable]) -> Result<ReadValues, AllocError>
+    ensures { IfOk result (λ reads. length reads ≡ length variables.now) }
+{
+    let mut reads = Items::new(alloc);
+    for variable in variables {
+        let read = variable.read.share()?;
+        let value = Value::Num(0);
+        reads.push(ReadValue { read, value })?;
+    }
+    Ok(reads)
+}
+
+/// Gives variables their values in the assignment at a place, the first variable slowest.
+fn assign(
+    alloc: Global,
+    variables: &[Variable],
+    at: u64,
+    reads: &mut ReadValues,
+) -> Result<(), AllocError>
+    requires below { IsPlaceBelow at (card_of (Tuple (map (λ v. v.ty) variables.now))) }
+    requires each { length reads.old ≡ length variables.now }
+    ensures values { OnOk result (reads.new ≡ with_values variables.now (tuple_at (map numbering (map (λ v. v.ty) variables.now)) at)) }
+    ensures each { OnOk result (length reads.new ≡ length variables.now) }
 {
     let mut left = size_of_variables(variables);
     let mut rest = at;
-    let mut reads = Items::new(alloc);
-    for variable in variables {
+    for i in 0..variables.len() {
+        let variable = &variables[i];
         left /= size(variable.ty.get());
-        reads.push(with_value(alloc, variable, rest / left)?)?;
+        reads.set(i, with_value(alloc, variable, rest / left)?);
         rest %= left;
     }
-    Ok(reads)
+    Ok(())
 }
 
 fn values_of(alloc: Global, reads: &[ReadValue]) -> Result<Values, AllocError>
@@ -54,23 +77,21 @@ fn values_of(alloc: Global, reads: &[ReadValue]) -> Result<Values, AllocError>
     Ok(values)
 }
 
-/// Whether hypotheses imply a conclusion, where evaluation knows.
+/// Whether hypotheses imply a conclusion.
 fn implied(
     alloc: Global,
     reads: &[ReadValue],
     hyps: &[Term],
     conclusion: &Term,
-) -> Result<Option<bool>, AllocError>
-    ensures { IfOk result (λ found. found ≡ implied reads.now hyps.now conclusion.now) }
+) -> Result<bool, Stop>
+    ensures { Finds (implied reads.now hyps.now conclusion.now) result }
 {
     for hyp in hyps {
-        match truth_if_known(alloc, hyp, reads)? {
-            Some(true) => {}
-            Some(false) => return Ok(Some(true)),
-            None => return Ok(None),
+        if !truth(alloc, hyp, reads)? {
+            return Ok(true);
         }
     }
-    truth_if_known(alloc, conclusion, reads)
+    truth(alloc, conclusion, reads)
 }
 
 /// What trying all assignments comes to.
@@ -82,26 +103,37 @@ pub enum Found {
     False(Values),
     /// Evaluation doesn't know its truth under the first assignment under which it isn't true, or there are too many.
     Unknown,
+    /// Evaluation goes out of range under the first assignment under which it isn't true.
+    Overflow(Overflow),
 }
 
 /// What trying the assignment at a place comes to.
-fn found_at(alloc: Global, claim: &Claim, at: u64) -> Result<Found, AllocError>
-    requires { IsPlaceBelow at (card_of (assignments claim.now)) }
-    ensures { IfOk result (λ found. found ≡ found_under (truth_at claim.now at) (assignment claim.now at)) }
+fn found_at(
+    alloc: Global,
+    claim: &Claim,
+    at: u64,
+    reads: &mut ReadValues,
+) -> Result<Found, AllocError>
+    requires below { IsPlaceBelow at (card_of (assignments claim.now)) }
+    requires each { length reads.old ≡ length claim.now.variables }
+    ensures found { IfOk result (λ found. found ≡ found_under (truth_at claim.now at) (assignment claim.now at)) }
+    ensures each { OnOk result (length reads.new ≡ length claim.now.variables) }
 {
-    let reads = with_values(alloc, claim.variables.as_slice(), at)?;
+    assign(alloc, claim.variables.as_slice(), at, reads)?;
     match implied(
         alloc,
         reads.as_slice(),
         claim.hyps.as_slice(),
         &claim.conclusion,
-    )? {
-        Some(true) => Ok(Found::True),
-        Some(false) => {
+    ) {
+        Ok(true) => Ok(Found::True),
+        Ok(false) => {
             let values = values_of(alloc, reads.as_slice())?;
             Ok(Found::False(values))
         }
-        None => Ok(Found::Unknown),
+        Err(Stop::Unknown) => Ok(Found::Unknown),
+        Err(Stop::Overflow(overflow)) => Ok(Found::Overflow(overflow)),
+        Err(Stop::NoMemory) => Err(AllocError),
     }
 }
 
@@ -114,8 +146,9 @@ pub fn try_all(alloc: Global, claim: &Claim) -> Result<Found, AllocError>
         Card::Exact(n) => n,
         Card::Above => return Ok(Found::Unknown),
     };
+    let mut reads = unassigned(alloc, claim.variables.as_slice())?;
     for at in 0..count {
-        match found_at(alloc, claim, at)? {
+        match found_at(alloc, claim, at, &mut reads)? {
             Found::True => {}
             decided => return Ok(decided),
         }

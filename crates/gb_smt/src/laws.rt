@@ -1,6 +1,6 @@
 // What the truth of a claim under an assignment means, and that `smt` has one answer to all leaves.
 
-ghost use Rattle.std.specs.Prelude.{◌≡◌, ◌↔◌, true, false, Option, Some, List};
+ghost use Rattle.std.specs.Prelude.{◌≡◌, ◌↔◌, true, false, Option, List};
 ghost use Rattle.std.specs.List.{Any};
 ghost use Rattle.gb_core.specs.declared.refusal.Why.{Why};
 ghost use Rattle.gb_core.specs.declared.value.Value.{Value};
@@ -8,13 +8,13 @@ ghost use Rattle.gb_meaning.specs.Setting.{Setting};
 ghost use Rattle.gb_meaning.specs.Meanings.{truth};
 ghost use Rattle.gb_meaning.specs.State.{State};
 ghost use Rattle.gb_meaning.specs.Terms.{Speaks, val};
+ghost use Rattle.gb_eval.specs.Findings.Comes.{found};
 ghost use Rattle.gb_smt.specs.declared.claims.Claim.{Claim};
 ghost use Rattle.gb_smt.specs.declared.leaves.Leaf.{Leaf};
 ghost use Rattle.gb_smt.specs.declared.assign.Found.{Found};
 ghost use Rattle.gb_smt.specs.declared.apply.Tried.TheVariants.{Closed};
 ghost use Rattle.gb_smt.specs.Assign.{truth_under, found_of, IsOf};
 ghost use Rattle.gb_smt.specs.Apply.{Closes, outcome_of, IsAnswerOf};
-ghost use Rattle.gb_smt.specs.Width.{is_known_claim};
 ghost use Rattle.gb_smt.specs.Meant.{AreTrue, HasValues};
 
 /// In each setting and in each state where the variables of a claim have the values of an assignment: if the claim is true
@@ -22,13 +22,13 @@ ghost use Rattle.gb_smt.specs.Meant.{AreTrue, HasValues};
 /// true and the conclusion is false.
 pub fn claims_are_read_right()
     ensures holds { (g : Setting) (j : Speaks) (s : State) (c : Claim) (values : List Value) →
-        is_known_claim c ≡ true → HasValues g s c values → truth_under c values ≡ Some true → AreTrue g j s c.hyps → truth (val g j c.conclusion s) ≡ true }
+        HasValues g s c values → truth_under c values ≡ found true → AreTrue g j s c.hyps → truth (val g j c.conclusion s) ≡ true }
     ensures fails { (g : Setting) (j : Speaks) (s : State) (c : Claim) (values : List Value) →
-        is_known_claim c ≡ true → HasValues g s c values → truth_under c values ≡ Some false → AreTrue g j s c.hyps × (truth (val g j c.conclusion s) ≡ false) }
+        HasValues g s c values → truth_under c values ≡ found false → AreTrue g j s c.hyps × (truth (val g j c.conclusion s) ≡ false) }
 {}
 
-/// Trying the assignments of a claim finds that it is true exactly where it is so under each, and that it is false, or
-/// unknown, exactly where it is so under the first assignment under which it isn't true. It is unknown too where there are
+/// Trying the assignments of a claim finds that it is true exactly where it is so under each, and that it is false, unknown
+/// or out of range exactly where it is so under the first assignment under which it isn't true. It is unknown too where there are
 /// too many assignments.
 pub fn findings_are_exact()
     ensures { (c : Claim) (f : Found) → found_of c ≡ f ↔ IsOf c f }

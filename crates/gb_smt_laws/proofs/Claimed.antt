@@ -1,5 +1,5 @@
 -- A claim that is true under every assignment is true in each state in which its variables have values of their types.
-use Rattle.std.proofs.Common.{◌≡◌, ℕ, ◌<◌, ◌^◌, nat_lt, Bool, true, false, ◌&&◌, if◌then◌else◌, Some, List, [], ◌∷◌, map, refl, ap, sym, ◌∙◌, subst}
+use Rattle.std.proofs.Common.{◌≡◌, ℕ, ◌<◌, ◌^◌, nat_lt, Bool, true, false, ◌&&◌, if◌then◌else◌, List, [], ◌∷◌, map, refl, ap, sym, ◌∙◌, subst}
 use Rattle.std.specs.List.{list_all}
 use Rattle.std.proofs.lemmas.Bool.{false≢true, and_parts, and_from}
 use Rattle.gb_core.specs.declared.ty.Ty.{Ty}
@@ -21,6 +21,7 @@ use Rattle.gb_meaning.specs.State.{State}
 use Rattle.gb_meaning.specs.Terms.{Speaks, val}
 use Rattle.gb_laws.proofs.Types.{values_finite}
 use Rattle.gb_laws.proofs.Numberings.{lawful}
+use Rattle.gb_eval.specs.Findings.Comes.{found}
 use Rattle.gb_eval.specs.Known.{is_known}
 use Rattle.gb_smt.specs.declared.claims.Claim.{Claim}
 use Rattle.gb_smt.specs.Variables.{Vars, variables_in}
@@ -97,18 +98,14 @@ module _ (g : Setting) (j : Speaks) (s : State) (W : Reading) (valid : IsReading
     tried : assignment (claim_of hs t) (place_of row tuple) ≡ values_of g s vs
     tried = ap (λ v. parts_of v) (order.at_place tuple is_assignment) ∙ ap parts_in (out-Many (values_of g s vs))
 
-    true_there : truth_under (claim_of hs t) (values_of g s vs) ≡ Some true
+    true_there : truth_under (claim_of hs t) (values_of g s vs) ≡ found true
     true_there =
         ap (truth_under (claim_of hs t)) (sym tried)
         ∙ everywhere.each (place_of row tuple) (subst (λ n. place_of row tuple < n) counted.1 (order.below tuple is_assignment))
 
-    all_known_in : (hs : List Term) → AreKnown g W hs → list_all is_known hs ≡ true
-    all_known_in [] a = refl
-    all_known_in (h ∷ hs) a = and_from (is_known h) (list_all is_known hs) a.0.0 (all_known_in hs a.1)
-
     pub claim_true : AreTrue g j s hs → truth (val g j t s) ≡ true
     claim_true a =
-        implied.conclusion_true g j s (with_values vs (values_of g s vs)) hs t (all_known_in hs known) k
+        implied.conclusion_true g j s (with_values vs (values_of g s vs)) hs t
         (each_given g s W valid vs reads hs known) (given g s W valid vs reads t W (itself W) k w) true_there a
 
   known_if_tried : (c : Claim) → is_tried (width_of c) ≡ true → is_known_claim c ≡ true

@@ -22,7 +22,7 @@ use Rattle.gb_changes.proofs.Changing.{arguments_of}
 use Rattle.gb_smt_laws.specs.Simple.{is_simple, all_simple, is_simple_at, only}
 use Rattle.gb_smt_laws.specs.Reading.{no_variables, Reading, IsReadAt, inner}
 use Rattle.gb_smt_laws.specs.Fits.{IsOfValues, Fits, AllFit, OnlyFits}
-use Rattle.gb_smt_laws.proofs.Nodes.{OnlyFit, simple_node, literal_fits, bound_fits, read_fits, operator_fits, each_fits, some_fits}
+use Rattle.gb_smt_laws.proofs.Nodes.{OnlyFit, simple_node, literal_fits, whole_fits, bound_fits, read_fits, operator_fits, each_fits, some_fits}
 use Rattle.gb_smt_laws.proofs.Led.{OnFound, IsPutFor, Leading, leading_under}
 use mathlib.Core.Former.{Count}
 
@@ -42,6 +42,7 @@ mutual
   -- a term is simple where it is with changes made
   pub simple_before : (t : Term) (cs : Changes) → is_simple (term_changed t cs) ≡ true → is_simple t ≡ true
   simple_before (Term' p (more_of-Head (head.Lit v) end_of-Head) n ts ty) cs b = refl
+  simple_before (Term' p (more_of-Head (head.Whole v) end_of-Head) n ts ty) cs b = refl
   simple_before (Term' p (more_of-Head (head.Read r) end_of-Head) n ts ty) cs b = refl
   simple_before (Term' p (more_of-Head (head.Bound i) end_of-Head) n ts ty) cs b = refl
   simple_before (Term' p (more_of-Head (head.Builtin o) end_of-Head) n ts ty) cs b = row_before ts cs (at_node (term_changed (Term' p (more_of-Head (head.Builtin o) end_of-Head) n ts ty) cs) (head.Builtin o) (changed_row cs ts) ty (term_changed_is (head.Builtin o) n ts ty cs) b)
@@ -52,7 +53,6 @@ mutual
   simple_before (Term' p (more_of-Head (head.Hoare c) end_of-Head) n ts ty) cs b = never (term_changed (Term' p (more_of-Head (head.Hoare c) end_of-Head) n ts ty) cs) (head.Hoare (subject_changed c cs)) (arguments_of (head.Hoare c) cs ts) ty _ (term_changed_is (head.Hoare c) n ts ty cs) b refl
   simple_before (Term' p (more_of-Head (head.Phoare c r) end_of-Head) n ts ty) cs b = never (term_changed (Term' p (more_of-Head (head.Phoare c r) end_of-Head) n ts ty) cs) (head.Phoare (subject_changed c cs) r) (arguments_of (head.Phoare c r) cs ts) ty _ (term_changed_is (head.Phoare c r) n ts ty cs) b refl
   simple_before (Term' p (more_of-Head (head.Equiv c d) end_of-Head) n ts ty) cs b = never (term_changed (Term' p (more_of-Head (head.Equiv c d) end_of-Head) n ts ty) cs) (head.Equiv (subject_changed c cs) (subject_changed d cs)) (arguments_of (head.Equiv c d) cs ts) ty _ (term_changed_is (head.Equiv c d) n ts ty cs) b refl
-  simple_before (Term' p (more_of-Head (head.Whole v) end_of-Head) n ts ty) cs b = never (term_changed (Term' p (more_of-Head (head.Whole v) end_of-Head) n ts ty) cs) (head.Whole v) (arguments_of (head.Whole v) cs ts) ty _ (term_changed_is (head.Whole v) n ts ty cs) b refl
   simple_before (Term' p (more_of-Head (head.User v) end_of-Head) n ts ty) cs b = never (term_changed (Term' p (more_of-Head (head.User v) end_of-Head) n ts ty) cs) (head.User v) (arguments_of (head.User v) cs ts) ty _ (term_changed_is (head.User v) n ts ty cs) b refl
   simple_before (Term' p (more_of-Head (head.AllModule v) end_of-Head) n ts ty) cs b = never (term_changed (Term' p (more_of-Head (head.AllModule v) end_of-Head) n ts ty) cs) (head.AllModule v) (arguments_of (head.AllModule v) cs ts) ty _ (term_changed_is (head.AllModule v) n ts ty cs) b refl
   simple_before (Term' p (more_of-Head (head.Sum v) end_of-Head) n ts ty) cs b = never (term_changed (Term' p (more_of-Head (head.Sum v) end_of-Head) n ts ty) cs) (head.Sum v) (arguments_of (head.Sum v) cs ts) ty _ (term_changed_is (head.Sum v) n ts ty cs) b refl
@@ -122,6 +122,9 @@ module _ (g : Setting) (j : Speaks) where
     followed (Term' p (more_of-Head (head.Lit v) end_of-Head) n ts ty) cs T W s q l w b d =
         let args = changed_row cs ts in
         from_node (head.Lit v) args ty W s _ 1 _ (term_changed_is (head.Lit v) n ts ty cs) (literal_fits g W v args ty) (val_node g j (head.Lit v) args ty s) (denominator_node g (head.Lit v) args ty)
+    followed (Term' p (more_of-Head (head.Whole v) end_of-Head) n ts ty) cs T W s q l w b d =
+        let args = changed_row cs ts in
+        from_node (head.Whole v) args ty W s _ 1 _ (term_changed_is (head.Whole v) n ts ty cs) (whole_fits g W v args ty) (val_node g j (head.Whole v) args ty s) (denominator_node g (head.Whole v) args ty)
     followed (Term' p (more_of-Head (head.Read r) end_of-Head) n ts ty) cs T W s q l w b d =
         let e = term_changed_is (head.Read r) n ts ty cs in
         let x = read_replaced (found_for_read cs r) (read_changed cs r) cs (map term_changed (terms_in ts)) ty W s (read_at g r ty q) (l.reads r ty w) (sym (ap is_simple e) ∙ d) in

@@ -17,9 +17,10 @@ use Rattle.gb_meaning.specs.State.{State}
 use Rattle.gb_meaning.specs.Terms.{read_at}
 use Rattle.gb_meaning.specs.Commands.{terms_in}
 use Rattle.gb_eval.specs.declared.env.ReadValue.{ReadValue}
-use Rattle.gb_eval.specs.declared.answer.Answer.TheVariants as answer
+use Rattle.gb_eval.specs.Findings.{Finding as finding}
+use Rattle.gb_eval.specs.Findings.Comes.{found, unknown}
 use Rattle.gb_types.specs.Types.{is_finite}
-use Rattle.gb_eval.specs.Eval.{value_of}
+use Rattle.gb_eval.specs.Eval.{value_of, value_among}
 use Rattle.gb_eval.specs.Known.{is_known, all_known, is_head_known, are_true, is_read_known}
 use Rattle.gb_eval.specs.Meant.{Means, AreGiven, AllGiven}
 use Rattle.gb_smt.specs.declared.variables.Variable.{Variable}
@@ -47,6 +48,9 @@ mutual
   term_reads g (Term' p (more_of-Head (head.Lit v) end_of-Head) n ts ty) V W f k w =
       let known = and_parts (is_head_known (head.Lit v) (length (all_known ts))) (are_true (all_known ts)) k in
       subst (AreRead W) (sym (variables_are (head.Lit v) n ts ty)) (none_read W ts known.0)
+  term_reads g (Term' p (more_of-Head (head.Whole v) end_of-Head) n ts ty) V W f k w =
+      let known = and_parts (is_head_known (head.Whole v) (length (all_known ts))) (are_true (all_known ts)) k in
+      subst (AreRead W) (sym (variables_are (head.Whole v) n ts ty)) (none_read W ts known.0)
   term_reads g (Term' p (more_of-Head (head.Bound i) end_of-Head) n ts ty) V W f k w =
       let known = and_parts (is_head_known (head.Bound i) (length (all_known ts))) (are_true (all_known ts)) k in
       subst (AreRead W) (sym (variables_are (head.Bound i) n ts ty)) (none_read W ts known.0)
@@ -117,21 +121,28 @@ module _ (g : Setting) (s : State) where
   values_of vs = map value_at vs
 
   module _ (W : Reading) (valid : IsReadingOf g W s) where
-    value_given : (vs : Vars) (r : Read) (ty : Ty) → AreRead W vs → IsReadAt W r ty → Means (value_of (with_values vs (values_of vs)) r) (read_at g r ty s) 1
-    value_given [] r ty a k = tt
-    value_given (v ∷ vs) r ty a k = step (read_eq v.read r) refl (value_given vs r ty a.1 k)
+    value_there : (vs : Vars) (r : Read) (ty : Ty) → AreRead W vs → IsReadAt W r ty → Means (value_among (with_values vs (values_of vs)) r) (read_at g r ty s) 1
+    value_there [] r ty a k = tt
+    value_there (v ∷ vs) r ty a k = step (read_eq v.read r) refl (value_there vs r ty a.1 k)
       where
-        found : v.read ≡ r → read_at g r ty s ≡ finite (value_at v)
-        found e =
+        is_there : v.read ≡ r → read_at g r ty s ≡ finite (value_at v)
+        is_there e =
             let w = valid r ty k in
             let types : v.ty ≡ ty = one_type W r v.ty ty (subst (λ o. IsReadAt W o v.ty) e a.0) k in
             let path : read_at g v.read v.ty s ≡ finite w.0 = (λ i. read_at g (e i) (types i) s) ∙ w.1 in
             w.1 ∙ ap finite (sym (ap value_in path))
 
-        step : (b : Bool) → read_eq v.read r ≡ b → Means (value_of (with_values vs (values_of vs)) r) (read_at g r ty s) 1 →
-            Means (if b then Some (answer.Value (value_at v)) else value_of (with_values vs (values_of vs)) r) (read_at g r ty s) 1
+        step : (b : Bool) → read_eq v.read r ≡ b → Means (value_among (with_values vs (values_of vs)) r) (read_at g r ty s) 1 →
+            Means (if b then found (finding.value (value_at v)) else value_among (with_values vs (values_of vs)) r) (read_at g r ty s) 1
         step false e m = m
-        step true e m = found ((read_eq-Decides v.read r).0 e)
+        step true e m = is_there ((read_eq-Decides v.read r).0 e)
+
+    value_given : (vs : Vars) (r : Read) (ty : Ty) → AreRead W vs → IsReadAt W r ty → Means (value_of (with_values vs (values_of vs)) r) (read_at g r ty s) 1
+    value_given vs r ty a k = by (is_read_known r)
+      where
+        by : (b : Bool) → Means (if b then value_among (with_values vs (values_of vs)) r else unknown) (read_at g r ty s) 1
+        by true = value_there vs r ty a k
+        by false = tt
 
     module _ (vs : Vars) (a : AreRead W vs) where
       abbrev reads : List ReadValue
@@ -148,6 +159,7 @@ module _ (g : Setting) (s : State) where
             let both = and_parts (length (all_known ts) == 0) (is_read_known r) known.0 in
             (value_given vs r ty a (f r ty both.1 w), none_given ts both.0)
         given (Term' p (more_of-Head (head.Lit v) end_of-Head) n ts ty) V f k w = (tt, none_given ts (and_parts (is_head_known (head.Lit v) (length (all_known ts))) (are_true (all_known ts)) k).0)
+        given (Term' p (more_of-Head (head.Whole v) end_of-Head) n ts ty) V f k w = (tt, none_given ts (and_parts (is_head_known (head.Whole v) (length (all_known ts))) (are_true (all_known ts)) k).0)
         given (Term' p (more_of-Head (head.Bound i) end_of-Head) n ts ty) V f k w = (tt, none_given ts (and_parts (is_head_known (head.Bound i) (length (all_known ts))) (are_true (all_known ts)) k).0)
         given (Term' p (more_of-Head (head.Builtin o) end_of-Head) n ts ty) V f k w = (tt, row_given ts V f (and_parts (is_head_known (head.Builtin o) (length (all_known ts))) (are_true (all_known ts)) k).1 w.1)
         given (Term' p (more_of-Head (head.All u) end_of-Head) n ts ty) V f k w =

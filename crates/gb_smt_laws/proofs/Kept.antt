@@ -47,6 +47,7 @@ module _ (g : Setting) (j : Speaks) where
   mutual
     pub kept : (t : Term) (T V : Reading) (s z : State) → Keeps g T V s z → is_simple t ≡ true → Fits g T t → IsKept V s z t
     kept (Term' p (more_of-Head (head.Lit v) end_of-Head) n ts ty) T V s z k b w = (tt, refl)
+    kept (Term' p (more_of-Head (head.Whole v) end_of-Head) n ts ty) T V s z k b w = (tt, refl)
     kept (Term' p (more_of-Head (head.Read r) end_of-Head) n ts ty) T V s z k b w = k.reads r ty w
     kept (Term' p (more_of-Head (head.Bound i) end_of-Head) n ts ty) T V s z k b w = (tt, k.bound i)
     kept (Term' p (more_of-Head (head.Builtin o) end_of-Head) n ts ty) T V s z k b w =

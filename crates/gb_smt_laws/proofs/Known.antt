@@ -36,6 +36,7 @@ some_is_none n A h = let e = (Decides-eqb (suc n) 0).0 h in absurd (omega (arith
 mutual
   pub known_simple : (t : Term) → is_known t ≡ true → is_simple t ≡ true
   known_simple (Term' p (more_of-Head (head.Lit v) end_of-Head) n ts ty) k = refl
+  known_simple (Term' p (more_of-Head (head.Whole v) end_of-Head) n ts ty) k = refl
   known_simple (Term' p (more_of-Head (head.Read r) end_of-Head) n ts ty) k = refl
   known_simple (Term' p (more_of-Head (head.Bound i) end_of-Head) n ts ty) k = refl
   known_simple (Term' p (more_of-Head (head.Builtin o) end_of-Head) n ts ty) k = row_simple ts (and_parts (is_head_known (head.Builtin o) (length (all_known ts))) (are_true (all_known ts)) k).1

@@ -53,6 +53,9 @@ module _ (g : Setting) where
     pub literal_fits : (v : Value) (ts : List Term) (ty : Ty) → Fits g T (node (head.Lit v) ts ty)
     literal_fits v ts ty = subst (Fits g T) (term_is_node (head.Lit v) ts ty) tt
 
+    pub whole_fits : (v : _) (ts : List Term) (ty : Ty) → Fits g T (node (head.Whole v) ts ty)
+    whole_fits v ts ty = subst (Fits g T) (term_is_node (head.Whole v) ts ty) tt
+
     pub bound_fits : (i : _) (ts : List Term) (ty : Ty) → Fits g T (node (head.Bound i) ts ty)
     bound_fits i ts ty = subst (Fits g T) (term_is_node (head.Bound i) ts ty) tt
 

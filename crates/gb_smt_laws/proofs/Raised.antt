@@ -28,7 +28,7 @@ use Rattle.gb_changes.proofs.Raising.{index_suc, lifted_under, lifted_side, deno
 use Rattle.gb_smt_laws.specs.Simple.{is_simple, all_simple, is_simple_at, only}
 use Rattle.gb_smt_laws.specs.Reading.{Variables, no_variables, Reading, IsReadAt, inner}
 use Rattle.gb_smt_laws.specs.Fits.{IsOfValues, Fits, AllFit, OnlyFits}
-use Rattle.gb_smt_laws.proofs.Nodes.{OnlyFit, simple_node, literal_fits, bound_fits, read_fits, operator_fits, each_fits, some_fits}
+use Rattle.gb_smt_laws.proofs.Nodes.{OnlyFit, simple_node, literal_fits, whole_fits, bound_fits, read_fits, operator_fits, each_fits, some_fits}
 use mathlib.Core.Former.{Count}
 
 pub no_type : (ty : Ty) → None ≡ Some ty → ⊥
@@ -107,6 +107,10 @@ module _ (g : Setting) (j : Speaks) where
         let args = raised_row k k ts in
         let e = term_raised_is (head.Lit v) n ts ty k in
         (subst (Fits g V) (sym e) (literal_fits g V v args ty), ap (λ t. val g j t s) e ∙ val_node g j (head.Lit v) args ty s)
+    raised_fits (Term' p (more_of-Head (head.Whole v) end_of-Head) n ts ty) k W V f s q l b w =
+        let args = raised_row k k ts in
+        let e = term_raised_is (head.Whole v) n ts ty k in
+        (subst (Fits g V) (sym e) (whole_fits g V v args ty), ap (λ t. val g j t s) e ∙ val_node g j (head.Whole v) args ty s)
     raised_fits (Term' p (more_of-Head (head.Read r) end_of-Head) n ts ty) k W V f s q l b w =
         let args = raised_row k k ts in
         let e = term_raised_is (head.Read r) n ts ty k in (

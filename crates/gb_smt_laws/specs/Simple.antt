@@ -12,6 +12,7 @@ only _ = false
 -- whether the term of a head is simple, where it is known of the arguments which are
 abbrev pub is_simple_at : Head → List Bool → Bool
 is_simple_at (head.Lit v) bs = true
+is_simple_at (head.Whole n) bs = true
 is_simple_at (head.Read r) bs = true
 is_simple_at (head.Bound i) bs = true
 is_simple_at (head.Builtin o) bs = list_all (λ b. b) bs

@@ -1,10 +1,11 @@
 -- A lemma that opens its proof, step by step.
-use Rattle.std.proofs.Common.{◌≡◌, ℕ, List, [], ◌∷◌, length, Option, Some, None, refl, ap, sym, subst, ◌∙◌}
+use Rattle.std.proofs.Common.{◌≡◌, ℕ, List, [], ◌∷◌, Option, Some, None, refl, ap, sym, subst, ◌∙◌}
 use Rattle.std.specs.Prelude.{Ok, Err}
 use Rattle.std.specs.Option.{option_or}
 use Rattle.gb_core.specs.declared.place.Place.{Place}
 use Rattle.gb_core.specs.declared.refusal.Refused.{Refused}
 use Rattle.gb_core.specs.declared.refusal.Refused.TheVariants.{NoMemory, ReadFault, Script}
+use Rattle.gb_goal.specs.Scope.{declarations_in}
 use Rattle.gb_goal.specs.declared.sequent.Sequent.{Sequent}
 use Rattle.gb_script.specs.declared.tree.Node.{Node}
 use Rattle.gb_goal.specs.Answers.{Answer, ◌>>=◌, Fails}
@@ -18,7 +19,7 @@ use Rattle.gb_theory.proofs.Answered.{then_given, within_given}
 -- a statement is typed, and its proof is opened
 abbrev statement_opens : Session → Node → List ℕ → Place → Sequent → Answer Session
 statement_opens s t name place q = do
-  _ ← within (declaration_limit (length s.scope)) place
+  _ ← within (declaration_limit (declarations_in s.scope)) place
   _ ← within (each_limit (q ∷ [])) place
   given (with_lemma s name q)
 
@@ -37,16 +38,16 @@ or_none None = refl
 or_none (Some n) = refl
 
 opens_given : (s : Session) (t : Node) (name : List ℕ) (place : Place) (q : Sequent) → s.proof ≡ None → statement_given s.scope t ≡ given q
-    → Ok tt ≡ limited (declaration_limit (length s.scope)) place
+    → Ok tt ≡ limited (declaration_limit (declarations_in s.scope)) place
     → opens s t name place ≡ (within (goal_limit q) place >>= λ _. given (with_lemma s name q))
 opens_given s t name place q none typed room =
     opens_typed s t name place q none typed
-    ∙ then_given (λ _. within (each_limit (q ∷ [])) place >>= λ _. given (with_lemma s name q)) (within (declaration_limit (length s.scope)) place) tt (within_given (declaration_limit (length s.scope)) place room)
+    ∙ then_given (λ _. within (each_limit (q ∷ [])) place >>= λ _. given (with_lemma s name q)) (within (declaration_limit (declarations_in s.scope)) place) tt (within_given (declaration_limit (declarations_in s.scope)) place room)
     ∙ ap (λ limit. within limit place >>= λ _. given (with_lemma s name q)) (or_none (goal_limit q))
 
 -- the proof is open, where the statement is typed and no limit is passed
 pub opens_done : (s : Session) (t : Node) (name : List ℕ) (place : Place) (q : Sequent) → s.proof ≡ None → statement_given s.scope t ≡ given q
-    → Ok tt ≡ limited (declaration_limit (length s.scope)) place → Ok tt ≡ limited (goal_limit q) place
+    → Ok tt ≡ limited (declaration_limit (declarations_in s.scope)) place → Ok tt ≡ limited (goal_limit q) place
     → opens s t name place ≡ given (with_lemma s name q)
 opens_done s t name place q none typed room small =
     opens_given s t name place q none typed room
@@ -61,7 +62,7 @@ limit_fails (Some n) place (Script why at) f h = cc
 
 -- the statement passes a limit
 pub opens_fails : (s : Session) (t : Node) (name : List ℕ) (place : Place) (q : Sequent) (e : Refused) → s.proof ≡ None → statement_given s.scope t ≡ given q
-    → Ok tt ≡ limited (declaration_limit (length s.scope)) place → Err e ≡ limited (goal_limit q) place
+    → Ok tt ≡ limited (declaration_limit (declarations_in s.scope)) place → Err e ≡ limited (goal_limit q) place
     → Fails (opens s t name place) e
 opens_fails s t name place q e none typed room large =
     subst (λ a. Fails a e) (sym (opens_given s t name place q none typed room))

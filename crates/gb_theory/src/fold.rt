@@ -7,7 +7,7 @@ ghost use Rattle.gb_script.specs.Tree.{head_of, parts_of, place_of};
 ghost use Rattle.gb_goal.specs.Answers.{Gives};
 ghost use Rattle.gb_elab_mod.specs.Lemmas.{lemma_name};
 ghost use Rattle.gb_verdict.specs.Session.{Session, OpenProof as Opened, with_goals};
-ghost use Rattle.gb_verdict.specs.Commands.{declares, opens, begun, ended, continued, InProof, Proves, Applied, unnamed, sole_rule, WorksOn, ComesToOf, ComesTo};
+ghost use Rattle.gb_verdict.specs.Commands.{assumes, brings, declares, is_built_in, opens, requires_files, begun, ended, continued, InProof, Proves, Applied, unnamed, sole_rule, WorksOn, ComesToOf, ComesTo};
 ghost use Rattle.gb_theory.specs.Placed.{placed};
 ghost use Rattle.gb_theory.specs.Sessions.{session_of, Meets, Leads, IsKept};
 
@@ -71,6 +71,14 @@ fn dispatch(
     ensures kept { IsKept (session_of state.old) (session_of state.new) result }
 {
     match head {
+        Head::Require => match parts {
+            [_, names] => require_files(state, names.parts.as_slice(), command.place),
+            _ => Err(refused(Why::Syntax, command.place)),
+        },
+        Head::TypeDeclaration | Head::OperatorDeclaration => {
+            declare(alloc, state, command, command.place)
+        }
+        Head::Axiom => assume(state, command.place),
         Head::Module => declare_module(alloc, state, command, command.place),
         Head::AscribedModule => declare_module(alloc, state, command, command.place),
         Head::Lemma => match parts {
@@ -89,6 +97,59 @@ fn dispatch(
         }
         _ => Err(refused(Why::Syntax, command.place)),
     }
+}
+
+/// Files of the standard library bring nothing; others aren't built yet.
+fn require_files(state: &State, names: &[Node], place: Place) -> Result<(), Refused>
+    ensures { Gives (λ _. session_of state.now) (requires_files (session_of state.now) names.now place) result }
+{
+    if state.proof.is_some() {
+        return Err(refused(Why::NoGoal, place));
+    }
+    for name in names {
+        if !is_built_in(&name.text) {
+            return Err(refused(Why::Syntax, name.place));
+        }
+    }
+    Ok(())
+}
+
+/// A file of the standard library whose operators are in scope anyhow.
+fn is_built_in(name: &Name) -> bool
+    ensures { result ≡ is_built_in name.now }
+{
+    let name = name.as_str();
+    name == "AllCore"
+        || name == "Distr"
+        || name == "FMap"
+        || name == "Bool"
+        || name == "Int"
+        || name == "Real"
+        || name == "DBool"
+}
+
+/// An axiom stands in abstract theories alone, of which none can be opened yet.
+fn assume(state: &State, place: Place) -> Result<(), Refused>
+    ensures { Gives (λ _. session_of state.now) (assumes (session_of state.now) place) result }
+{
+    if state.proof.is_some() {
+        return Err(refused(Why::NoGoal, place));
+    }
+    Err(refused(Why::LeftOut, place))
+}
+
+/// A type, with its constants, or an operator is declared.
+fn declare(alloc: Global, state: &mut State, tree: &Node, place: Place) -> Result<(), Refused>
+    ensures session { Gives (λ _. session_of state.new) (brings (session_of state.old) tree.now place) result }
+    ensures kept { IsKept (session_of state.old) (session_of state.new) result }
+{
+    if state.proof.is_some() {
+        return Err(refused(Why::NoGoal, place));
+    }
+    let added = gb_elab_mod::entries::entries(alloc, &state.scope, tree)?;
+    check_declarations(&state.scope, place)?;
+    state.scope.declare_all(alloc, added)?;
+    Ok(())
 }
 
 /// A declaration stands outside proofs.

@@ -1,9 +1,10 @@
 // The limits on what a script builds.
 
-ghost use Rattle.std.specs.Prelude.{◌≡◌, ◌++◌, drop, length, map, sum, Some};
+ghost use Rattle.std.specs.Prelude.{◌≡◌, ◌++◌, drop, map, sum, Some};
 ghost use Rattle.std.specs.List.{list_any};
 ghost use Rattle.gb_terms.specs.Nodes.{saturated};
 ghost use Rattle.gb_goal.specs.Nodes.{sequent_nodes};
+ghost use Rattle.gb_goal.specs.Scope.{declarations_in};
 ghost use Rattle.gb_verdict.specs.Limits.{declaration_limit, is_large, has_large_form, goal_limit, each_limit, all_limit, limited};
 
 use gb_core::place::Place;
@@ -35,9 +36,9 @@ fn too_many(limit: u64, place: Place) -> Result<(), Refused>
 
 /// Refuses one declaration more where the scope has as many as it may have.
 pub fn check_declarations(scope: &Scope, place: Place) -> Result<(), Refused>
-    ensures { result ≡ limited (declaration_limit (length scope.now)) place }
+    ensures { result ≡ limited (declaration_limit (declarations_in scope.now)) place }
 {
-    if scope.len() >= DECLARATIONS {
+    if scope.declarations() >= DECLARATIONS {
         return too_many(DECLARATIONS as u64, place);
     }
     Ok(())

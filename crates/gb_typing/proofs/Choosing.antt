@@ -9,7 +9,7 @@ use Rattle.gb_terms.specs.declared.module.Mexp.{Mexp}
 use Rattle.gb_terms.specs.declared.module.Mexp.TheVariants.{Name as named, Apply'}
 use Rattle.gb_meaning.specs.Names.{Name}
 use Rattle.gb_meaning.specs.Values.{World}
-use Rattle.gb_holds.specs.Declared.{Declarations, Declaration, abstract_type, operator, abstract_operator, module_type, concrete_module, abstract_module, axiom_of, lemma, terminating}
+use Rattle.gb_holds.specs.Declared.{Declarations, Declaration, abstract_type, abbreviation, operator, abstract_operator, module_type, concrete_module, abstract_module, axiom_of, lemma, terminating}
 use Rattle.gb_holds.specs.Adversary.{Adversary, type_named}
 use Rattle.gb_holds.specs.Naming.{AnyName, EachName}
 use Rattle.gb_holds.specs.Settings.{Chosen, Table, Interpretation, interpreted, with_program, types_of, bare, setting}
@@ -117,6 +117,7 @@ module _ (ds : Declarations) (apart : OperatorsName NoName AnyName ds) (w : Worl
   stay_unchosen c cs x e ((n, concrete_module m) ∷ es) k u =
       (ap (λ z. if z then Some x else chosen_under cs n) (known_other c n x.bind.name k.0 e) ∙ u.0, stay_unchosen c cs x e es k.1 u.1)
   stay_unchosen c cs x e ((n, abstract_type) ∷ es) k u = stay_unchosen c cs x e es k u
+  stay_unchosen c cs x e ((n, abbreviation stood) ∷ es) k u = stay_unchosen c cs x e es k u
   stay_unchosen c cs x e ((n, operator o) ∷ es) k u = stay_unchosen c cs x e es k u
   stay_unchosen c cs x e ((n, abstract_operator o) ∷ es) k u = stay_unchosen c cs x e es k u
   stay_unchosen c cs x e ((n, module_type t) ∷ es) k u = stay_unchosen c cs x e es k u
@@ -129,6 +130,7 @@ module _ (ds : Declarations) (apart : OperatorsName NoName AnyName ds) (w : Worl
   modules_stay c b [] k = tt
   modules_stay c b ((n, concrete_module m) ∷ es) k = (known_if (bytes_eq n b.name) _ (c.modules.interfaces n) k.0, modules_stay c b es k.1)
   modules_stay c b ((n, abstract_type) ∷ es) k = modules_stay c b es k
+  modules_stay c b ((n, abbreviation stood) ∷ es) k = modules_stay c b es k
   modules_stay c b ((n, operator o) ∷ es) k = modules_stay c b es k
   modules_stay c b ((n, abstract_operator o) ∷ es) k = modules_stay c b es k
   modules_stay c b ((n, module_type t) ∷ es) k = modules_stay c b es k
@@ -152,6 +154,7 @@ module _ (ds : Declarations) (apart : OperatorsName NoName AnyName ds) (w : Worl
   unchosen_both : (cs : List Chosen) (xs ys : Declarations) → AreUnchosen cs xs → AreUnchosen cs ys → AreUnchosen cs (xs ++ ys)
   unchosen_both cs [] ys u k = k
   unchosen_both cs ((n, abstract_type) ∷ xs) ys u k = unchosen_both cs xs ys u k
+  unchosen_both cs ((n, abbreviation stood) ∷ xs) ys u k = unchosen_both cs xs ys u k
   unchosen_both cs ((n, operator o) ∷ xs) ys u k = unchosen_both cs xs ys u k
   unchosen_both cs ((n, abstract_operator o) ∷ xs) ys u k = unchosen_both cs xs ys u k
   unchosen_both cs ((n, module_type t) ∷ xs) ys u k = unchosen_both cs xs ys u k
@@ -164,6 +167,7 @@ module _ (ds : Declarations) (apart : OperatorsName NoName AnyName ds) (w : Worl
   modules_both : (c : Context) (xs ys : Declarations) → ModulesKnown c xs → ModulesKnown c ys → ModulesKnown c (xs ++ ys)
   modules_both c [] ys u k = k
   modules_both c ((n, abstract_type) ∷ xs) ys u k = modules_both c xs ys u k
+  modules_both c ((n, abbreviation stood) ∷ xs) ys u k = modules_both c xs ys u k
   modules_both c ((n, operator o) ∷ xs) ys u k = modules_both c xs ys u k
   modules_both c ((n, abstract_operator o) ∷ xs) ys u k = modules_both c xs ys u k
   modules_both c ((n, module_type t) ∷ xs) ys u k = modules_both c xs ys u k
@@ -180,6 +184,7 @@ module _ (ds : Declarations) (apart : OperatorsName NoName AnyName ds) (w : Worl
   modules_with : (c : Context) (k : Name) (i : Interface) (es : Declarations) → ModulesKnown c es → ModulesKnown (record c { modules = with_interface c.modules k (Some i) }) es
   modules_with c k i [] w = tt
   modules_with c k i ((n, abstract_type) ∷ es) w = modules_with c k i es w
+  modules_with c k i ((n, abbreviation stood) ∷ es) w = modules_with c k i es w
   modules_with c k i ((n, operator o) ∷ es) w = modules_with c k i es w
   modules_with c k i ((n, abstract_operator o) ∷ es) w = modules_with c k i es w
   modules_with c k i ((n, module_type t) ∷ es) w = modules_with c k i es w
@@ -259,6 +264,7 @@ module _ (ds : Declarations) (apart : OperatorsName NoName AnyName ds) (w : Worl
   modules_same : (c e : Context) → c.modules.interfaces ≡ e.modules.interfaces → (es : Declarations) → ModulesKnown c es → ModulesKnown e es
   modules_same c e p [] w = tt
   modules_same c e p ((n, abstract_type) ∷ es) w = modules_same c e p es w
+  modules_same c e p ((n, abbreviation stood) ∷ es) w = modules_same c e p es w
   modules_same c e p ((n, operator o) ∷ es) w = modules_same c e p es w
   modules_same c e p ((n, abstract_operator o) ∷ es) w = modules_same c e p es w
   modules_same c e p ((n, module_type t) ∷ es) w = modules_same c e p es w
@@ -279,6 +285,9 @@ module _ (ds : Declarations) (apart : OperatorsName NoName AnyName ds) (w : Worl
   scope_programs ((n, abstract_type) ∷ rest) before c w done cs x Q f =
       scope_programs rest (before ++ (n, abstract_type) ∷ []) (with_declared c n abstract_type) w.2 done cs (quiet c before (n, abstract_type) done cs x tt tt) Q
       (λ es y. f es (subst (λ z. Gone (with_each (with_declared c n abstract_type) rest) z (done ++ declared_modules rest) es) (append_assoc before ((n, abstract_type) ∷ []) rest) y))
+  scope_programs ((n, abbreviation stood) ∷ rest) before c w done cs x Q f =
+      scope_programs rest (before ++ (n, abbreviation stood) ∷ []) (with_declared c n (abbreviation stood)) w.2 done cs (quiet c before (n, abbreviation stood) done cs x tt tt) Q
+      (λ es y. f es (subst (λ z. Gone (with_each (with_declared c n (abbreviation stood)) rest) z (done ++ declared_modules rest) es) (append_assoc before ((n, abbreviation stood) ∷ []) rest) y))
   scope_programs ((n, operator o) ∷ rest) before c w done cs x Q f =
       scope_programs rest (before ++ (n, operator o) ∷ []) (with_declared c n (operator o)) w.2 done cs (same_interfaces c (with_declared c n (operator o)) refl (before ++ (n, operator o) ∷ []) done cs (quiet c before (n, operator o) done cs x tt tt)) Q
       (λ es y. f es (subst (λ z. Gone (with_each (with_declared c n (operator o)) rest) z (done ++ declared_modules rest) es) (append_assoc before ((n, operator o) ∷ []) rest) y))

@@ -5,7 +5,7 @@ use Rattle.std.proofs.lemmas.Slice.Eq.{bytes_eq-Decides}
 use Rattle.gb_meaning.specs.Names.{Name}
 use Rattle.gb_meaning.specs.Program.{Routine}
 use Rattle.gb_meaning.specs.Setting.{Setting}
-use Rattle.gb_holds.specs.Declared.{Declarations, abstract_type, operator, abstract_operator, module_type, concrete_module, abstract_module, axiom_of, lemma, terminating}
+use Rattle.gb_holds.specs.Declared.{Declarations, abstract_type, abbreviation, operator, abstract_operator, module_type, concrete_module, abstract_module, axiom_of, lemma, terminating}
 use Rattle.gb_holds.specs.Linking.{linked_procedure}
 use Rattle.gb_holds.specs.Modules.{Applied, with_module, module_read, modules_of}
 use Rattle.gb_holds.specs.Modules as linked
@@ -59,6 +59,7 @@ module _ (g h : Setting) (cs : List Chosen) (base : linked.Modules Routine) wher
       Stand c.modules ks → Keeps ks → Stand (with_each c ds).modules (modules_of (linked_procedure h) ks ds) × Keeps (modules_of (linked_procedure h) ks ds)
   scope_stands [] before c w f u p ks s k = (s, k)
   scope_stands ((n, abstract_type) ∷ ds) before c w f u p ks s k = scope_stands ds _ _ w.2 f.1 u p ks s k
+  scope_stands ((n, abbreviation stood) ∷ ds) before c w f u p ks s k = scope_stands ds _ _ w.2 f.1 u p ks s k
   scope_stands ((n, operator o) ∷ ds) before c w f u p ks s k = scope_stands ds _ _ w.2 f.1 u p ks s k
   scope_stands ((n, abstract_operator o) ∷ ds) before c w f u p ks s k = scope_stands ds _ _ w.2 f.1 u p ks s k
   scope_stands ((n, module_type t) ∷ ds) before c w f u p ks s k = scope_stands ds _ _ w.2 f.1 u p ks s k

@@ -20,7 +20,7 @@ use Rattle.gb_meaning.specs.Names.{Name}
 use Rattle.gb_meaning.specs.Program.{Routine}
 use Rattle.gb_meaning.specs.Program.Routine.{routine}
 use Rattle.gb_meaning.specs.Setting.{Setting}
-use Rattle.gb_holds.specs.Declared.{Declarations, declared, concrete_module}
+use Rattle.gb_holds.specs.Declared.{Declarations, declaration_of, declared, concrete_module}
 use Rattle.gb_holds.specs.Linking.{calling, linked_procedure}
 use Rattle.gb_holds.specs.Modules.{Procedures, Applied, found, module_at, modules_at, procedure_at, no_module, with_module, with_params, with_procedures, module_read, modules_of}
 use Rattle.gb_holds.specs.Modules as linked
@@ -96,6 +96,11 @@ fresh_later : (ds : scope.Declarations) (before : Declarations) (c : Context) �
 fresh_later [] before c w k e = tt
 fresh_later ((n, entry.Module m) ∷ ds) before c w k e = (other_name before k n e w.0, fresh_later ds _ _ w.2 k (declared_more before _ k e))
 fresh_later ((n, entry.Lemma q) ∷ ds) before c w k e = (other_name before k n e w.0, fresh_later ds _ _ w.2 k (declared_more before _ k e))
+fresh_later ((n, entry.Type t) ∷ ds) before c w k e = (other_name before k n e w.0, fresh_later ds _ _ w.2 k (declared_more before _ k e))
+fresh_later ((n, entry.AbstractType) ∷ ds) before c w k e = (other_name before k n e w.0, fresh_later ds _ _ w.2 k (declared_more before _ k e))
+fresh_later ((n, entry.Constant a) ∷ ds) before c w k e = (other_name before k n e w.0, fresh_later ds _ _ w.2 k (declared_more before _ k e))
+fresh_later ((n, entry.Operator o) ∷ ds) before c w k e = (other_name before k n e w.0, fresh_later ds _ _ w.2 k (declared_more before _ k e))
+fresh_later ((n, entry.AbstractOperator o) ∷ ds) before c w k e = (other_name before k n e w.0, fresh_later ds _ _ w.2 k (declared_more before _ k e))
 
 listed : (ps : List Proc) (f : Name) (t : ProcedureType) → found (procedure_types ps) f ≡ Some t → list_any (λ q. bytes_eq f q.name) ps ≡ true
 listed [] f t e = none_some t e
@@ -129,6 +134,11 @@ module _ (cs : List Chosen) where
       step k i true q e = ap (chosen_under cs) (same_name k n q) ∙ u.0
       step k i false q e = h k i e
   hidden ((n, entry.Lemma q) ∷ ds) c u h = hidden ds c u h
+  hidden ((n, entry.Type t) ∷ ds) c u h = hidden ds c u h
+  hidden ((n, entry.AbstractType) ∷ ds) c u h = hidden ds c u h
+  hidden ((n, entry.Constant a) ∷ ds) c u h = hidden ds c u h
+  hidden ((n, entry.Operator o) ∷ ds) c u h = hidden ds (with_declared c n (declaration_of (entry.Operator o))) u h
+  hidden ((n, entry.AbstractOperator o) ∷ ds) c u h = hidden ds (with_declared c n (declaration_of (entry.AbstractOperator o))) u h
 
 module _ (ds : scope.Declarations) (scoped : IsTypedScope (declared ds)) (i : Interpretation) (unchosen : AreUnchosen i.programs (declared ds)) where
   abbrev g : Setting

@@ -15,7 +15,7 @@ use Rattle.gb_goal.specs.declared.sequent.Sequent.{Sequent}
 use Rattle.gb_goal.specs.Scope as scope
 use Rattle.gb_goal.specs.Scope.{entry_of, as_module, module_of, proc_of, proc_if_plain, proc_in, proc_at, procedure_of}
 use Rattle.gb_meaning.specs.Names.{Name}
-use Rattle.gb_holds.specs.Declared.{Declarations, declared, concrete_module, lemma}
+use Rattle.gb_holds.specs.Declared.{Declarations, declaration_of, declared, concrete_module, lemma}
 use Rattle.gb_holds.specs.Modules.{Procedures, found}
 use Rattle.gb_holds.specs.Naming.{IsFreshAmong}
 use Rattle.gb_typing.specs.Context.{Context, procedure}
@@ -25,7 +25,7 @@ use Rattle.gb_typing.specs.Programs.{IsProcedure, type_of_procedure}
 use Rattle.gb_typing.specs.Scopes.{nothing, interface_with, procedure_types, in_module, with_params, with_globals, AreProcedures, IsModule, with_declared, with_each, is_declared, context_of, AreTypedAfter, IsTypedScope}
 use Rattle.gb_typing.specs.Sequents.{AreBinders, of_sequent}
 use Rattle.gb_typing.proofs.Grown.{Grows, grown_procedure}
-use Rattle.gb_typing.proofs.Scripts.{none_some, same_some, same_name, itself, HasNoFunctor, typed_bare, GrowsPlainly, grows, grows_on, IsKnownFrom, known_nothing, known_same, known_next, parameterless, grown}
+use Rattle.gb_typing.proofs.Scripts.{none_some, same_some, same_name, itself, HasNoFunctor, typed_bare, GrowsPlainly, grows, grows_on, IsKnownFrom, known_nothing, known_same, known_operator, known_next, parameterless, grown}
 
 -- the first procedure of a name, those before it, and those after it
 pub record Among (c : Context) (m : Module) (earlier : Procedures ProcedureType) (ps : List Proc) (f : Name) (p : Proc) : Type 0 where
@@ -107,6 +107,11 @@ first_located ds before c n f p (entry.Module m) w k r = record {
   procedure = plain_procedure m.params m.procs f p (parameterless c n m w.1 k.plain) r;
 }
 first_located ds before c n f p (entry.Lemma q) w k r = none_some p r
+first_located ds before c n f p (entry.Type t) w k r = none_some p r
+first_located ds before c n f p entry.AbstractType w k r = none_some p r
+first_located ds before c n f p (entry.Constant a) w k r = none_some p r
+first_located ds before c n f p (entry.Operator o) w k r = none_some p r
+first_located ds before c n f p (entry.AbstractOperator o) w k r = none_some p r
 
 later_located : (d : Name × Entry) (ds : scope.Declarations) (c e : Context) → with_each c (declared (d ∷ ds)) ≡ with_each e (declared ds) → (n f : Name) (p : Proc) → Located ds e n f p → Located (d ∷ ds) c n f p
 later_located d ds c e same n f p l = record {
@@ -140,6 +145,23 @@ located ((h, entry.Module m) ∷ ds) before c w k n f p r =
 located ((h, entry.Lemma z) ∷ ds) before c w k n f p r =
     here_or_later h (entry.Lemma z) ds before c w k n f p
     (λ r. later_located (h, entry.Lemma z) ds c c refl n f p (located ds (before ++ (h, lemma z) ∷ []) c w.2 (known_same c before h (lemma z) k) n f p r)) (bytes_eq n h) refl r
+located ((h, entry.Type z) ∷ ds) before c w k n f p r =
+    here_or_later h (entry.Type z) ds before c w k n f p
+    (λ r. later_located (h, entry.Type z) ds c c refl n f p (located ds (before ++ (h, declaration_of (entry.Type z)) ∷ []) c w.2 (known_same c before h _ k) n f p r)) (bytes_eq n h) refl r
+located ((h, entry.AbstractType) ∷ ds) before c w k n f p r =
+    here_or_later h entry.AbstractType ds before c w k n f p
+    (λ r. later_located (h, entry.AbstractType) ds c c refl n f p (located ds (before ++ (h, declaration_of entry.AbstractType) ∷ []) c w.2 (known_same c before h _ k) n f p r)) (bytes_eq n h) refl r
+located ((h, entry.Constant z) ∷ ds) before c w k n f p r =
+    here_or_later h (entry.Constant z) ds before c w k n f p
+    (λ r. later_located (h, entry.Constant z) ds c c refl n f p (located ds (before ++ (h, declaration_of (entry.Constant z)) ∷ []) c w.2 (known_same c before h _ k) n f p r)) (bytes_eq n h) refl r
+located ((h, entry.Operator z) ∷ ds) before c w k n f p r =
+    here_or_later h (entry.Operator z) ds before c w k n f p
+    (λ r. later_located (h, entry.Operator z) ds c (with_declared c h (declaration_of (entry.Operator z))) refl n f p
+    (located ds (before ++ (h, declaration_of (entry.Operator z)) ∷ []) (with_declared c h (declaration_of (entry.Operator z))) w.2 (known_operator c h _ before k _) n f p r)) (bytes_eq n h) refl r
+located ((h, entry.AbstractOperator z) ∷ ds) before c w k n f p r =
+    here_or_later h (entry.AbstractOperator z) ds before c w k n f p
+    (λ r. later_located (h, entry.AbstractOperator z) ds c (with_declared c h (declaration_of (entry.AbstractOperator z))) refl n f p
+    (located ds (before ++ (h, declaration_of (entry.AbstractOperator z)) ∷ []) (with_declared c h (declaration_of (entry.AbstractOperator z))) w.2 (known_operator c h _ before k _) n f p r)) (bytes_eq n h) refl r
 
 -- The context of a procedure is within that of the scope.
 
@@ -165,7 +187,7 @@ module _ (c : Context) (n : Name) (m : Module) (w : IsModule c n m) (plain : Has
   of_procedures ps = interface_with c.modules.types m.params ps
 
   inside_grows : GrowsPlainly inside (with_declared c n (concrete_module m))
-  inside_grows = record { global = λ h x t e. e; operator = refl; interface = λ k i e. step k i (bytes_eq k n) e }
+  inside_grows = record { global = λ h x t e. e; operator = λ h o e. e; interface = λ k i e. step k i (bytes_eq k n) e }
     where
       step : (k : Name) (i : Interface) (b : Bool) → (if b then Some (of_procedures front) else c.modules.interfaces k) ≡ Some i →
           (j : Interface) × ((if b then Some (of_procedures (procedure_types m.procs)) else c.modules.interfaces k) ≡ Some j) × ((f : Name) (t : ProcedureType) → found i.procedures f ≡ Some t → found j.procedures f ≡ Some t)

@@ -11,7 +11,7 @@ use Rattle.gb_core.specs.declared.value.Value.{Value}
 use Rattle.gb_meaning.specs.Setting.{Meaning}
 use Rattle.gb_meaning.specs.Setting.Meaning.{finite, whole, fraction, weights}
 use Rattle.gb_meaning.specs.Values.{World, has}
-use Rattle.gb_holds.specs.Declared.{Declarations, abstract_type, operator, abstract_operator, module_type, concrete_module, abstract_module, axiom_of, lemma, terminating}
+use Rattle.gb_holds.specs.Declared.{Declarations, abstract_type, abbreviation, operator, abstract_operator, module_type, concrete_module, abstract_module, axiom_of, lemma, terminating}
 use Rattle.gb_holds.specs.Globs.{EachGlob, EachGlobIn}
 use Rattle.gb_holds.specs.Naming.{AnyName}
 use Rattle.gb_holds.specs.Settings.{Chosen, Table, Interpretation, types_of, setting}
@@ -66,6 +66,7 @@ operators_apart [] before c w = tt
 operators_apart ((n, operator o) ∷ ds) before c w = ((let x = w.1 in x.apart), operators_apart ds _ _ w.2)
 operators_apart ((n, abstract_operator o) ∷ ds) before c w = ((none_among o.params w.1.0, none_measured o.result w.1.1), operators_apart ds _ _ w.2)
 operators_apart ((n, abstract_type) ∷ ds) before c w = (tt, operators_apart ds _ _ w.2)
+operators_apart ((n, abbreviation stood) ∷ ds) before c w = (tt, operators_apart ds _ _ w.2)
 operators_apart ((n, module_type t) ∷ ds) before c w = (tt, operators_apart ds _ _ w.2)
 operators_apart ((n, concrete_module m) ∷ ds) before c w = (tt, operators_apart ds _ _ w.2)
 operators_apart ((n, abstract_module b) ∷ ds) before c w = (tt, operators_apart ds _ _ w.2)
@@ -114,6 +115,7 @@ module _ (ds : Declarations) (scope : IsTypedScope ds) (q : Sequent) (binders : 
       ((λ vs k. result_moved [] cs o.result w.1.1 ((table n).result (map finite vs)) (h.0 vs (values_moved cs [] o.params w.1.0 vs k))), results cs rest _ _ w.2 h.1)
   results cs ((n, operator o) ∷ rest) before c w h = results cs rest _ _ w.2 h
   results cs ((n, abstract_type) ∷ rest) before c w h = results cs rest _ _ w.2 h
+  results cs ((n, abbreviation stood) ∷ rest) before c w h = results cs rest _ _ w.2 h
   results cs ((n, module_type t) ∷ rest) before c w h = results cs rest _ _ w.2 h
   results cs ((n, concrete_module m) ∷ rest) before c w h = results cs rest _ _ w.2 h
   results cs ((n, abstract_module b) ∷ rest) before c w h = results cs rest _ _ w.2 h

@@ -6,7 +6,6 @@ use Rattle.std.proofs.lemmas.Slice.Eq.{bytes_eq-Decides}
 use Rattle.gb_core.specs.declared.ty.Ty.{Ty}
 use Rattle.gb_core.specs.declared.ty.Ty.TheVariants as ty
 use Rattle.gb_core.specs.declared.value.Value.{Value}
-use Rattle.gb_terms.specs.declared.decl.TypedName.{TypedName}
 use Rattle.gb_coupling.specs.WeightedList.{total, IsPositive}
 use Rattle.gb_meaning.specs.Meanings.{weights_in}
 use Rattle.gb_meaning.specs.Names.{Name}
@@ -18,7 +17,7 @@ use Rattle.gb_meaning.specs.State.Binding.{value as value_bound}
 use Rattle.gb_meaning.specs.Terms.{quiet, val, denominator}
 use Rattle.gb_meaning.specs.Values.{Types, has}
 use Rattle.gb_meaning.specs.Written.{type_of}
-use Rattle.gb_holds.specs.Declared.{Declarations, Declaration, DefinedOperator, AbstractOperator, abstract_type, operator, abstract_operator, module_type, concrete_module, abstract_module, axiom_of, lemma, terminating}
+use Rattle.gb_holds.specs.Declared.{Declarations, Declaration, DefinedOperator, AbstractOperator, abstract_type, abbreviation, operator, abstract_operator, module_type, concrete_module, abstract_module, axiom_of, lemma, terminating}
 use Rattle.gb_holds.specs.Holds.{AreValues, IsResult, GiveResults}
 use Rattle.gb_holds.specs.Settings.{Table, Interpretation, types_of, bare, at_arguments, with_operator, with_declaration, with_operators, setting}
 use Rattle.gb_typed.specs.Context.{AreOf, gives_distributions, FitsBinder, FitBinders}
@@ -68,14 +67,14 @@ module _ (t : Types) where
   fit_binders (b ∷ bs) [] w = absurd w
   fit_binders (b ∷ bs) (x ∷ xs) w = (w.0, fit_binders bs xs w.1)
 
-  reversed : (ps : List TypedName) (xs : List Meaning) → AreOf t (map (λ p. p.ty) ps) xs → EachFits (reverse (map (λ p. value p.ty) ps)) (reverse (map value_bound xs))
+  reversed : (us : List Ty) (xs : List Meaning) → AreOf t us xs → EachFits (reverse (map value us)) (reverse (map value_bound xs))
   reversed [] [] w = tt
   reversed [] (x ∷ xs) w = absurd w
-  reversed (p ∷ ps) [] w = absurd w
-  reversed (p ∷ ps) (x ∷ xs) w =
-      subst (λ bs. EachFits bs (reverse (map value_bound (x ∷ xs)))) (sym (reverse-append (value p.ty ∷ []) (map (λ p. value p.ty) ps)))
-      (subst (EachFits (reverse (map (λ p. value p.ty) ps) ++ value p.ty ∷ [])) (sym (reverse-append (value_bound x ∷ []) (map value_bound xs)))
-      (both_fit (reverse (map (λ p. value p.ty) ps)) (value p.ty ∷ []) (reverse (map value_bound xs)) (value_bound x ∷ []) (reversed ps xs w.1) (w.0, tt)))
+  reversed (u ∷ us) [] w = absurd w
+  reversed (u ∷ us) (x ∷ xs) w =
+      subst (λ bs. EachFits bs (reverse (map value_bound (x ∷ xs)))) (sym (reverse-append (value u ∷ []) (map value us)))
+      (subst (EachFits (reverse (map value us) ++ value u ∷ [])) (sym (reverse-append (value_bound x ∷ []) (map value_bound xs)))
+      (both_fit (reverse (map value us)) (value u ∷ []) (reverse (map value_bound xs)) (value_bound x ∷ []) (reversed us xs w.1) (w.0, tt)))
 
   -- a meaning of a type of values is a value
   value_of : (u : Ty) → IsVariableType u → (x : Meaning) → IsOf t u x → (v : Value) × (x ≡ finite v) × (has t u v ≡ true)
@@ -245,6 +244,7 @@ module _ (table : Table) where
   stays ((k, abstract_operator o) ∷ ds) before c w s n e =
       same_after _ s n k _ _ (other_name before n k e w.0) (stays ds _ _ w.2 (with_declaration table s k (abstract_operator o)) n (declared_more before (k, abstract_operator o) n e))
   stays ((k, abstract_type) ∷ ds) before c w s n e = stays ds _ _ w.2 s n (declared_more before (k, abstract_type) n e)
+  stays ((k, abbreviation stood) ∷ ds) before c w s n e = stays ds _ _ w.2 s n (declared_more before (k, abbreviation stood) n e)
   stays ((k, module_type t) ∷ ds) before c w s n e = stays ds _ _ w.2 s n (declared_more before (k, module_type t) n e)
   stays ((k, concrete_module m) ∷ ds) before c w s n e = stays ds _ _ w.2 s n (declared_more before (k, concrete_module m) n e)
   stays ((k, abstract_module b) ∷ ds) before c w s n e = stays ds _ _ w.2 s n (declared_more before (k, abstract_module b) n e)
@@ -257,6 +257,7 @@ module _ (table : Table) where
   types_stay ((k, operator o) ∷ ds) s = types_stay ds (with_declaration table s k (operator o))
   types_stay ((k, abstract_operator o) ∷ ds) s = types_stay ds (with_declaration table s k (abstract_operator o))
   types_stay ((k, abstract_type) ∷ ds) s = types_stay ds s
+  types_stay ((k, abbreviation stood) ∷ ds) s = types_stay ds s
   types_stay ((k, module_type t) ∷ ds) s = types_stay ds s
   types_stay ((k, concrete_module m) ∷ ds) s = types_stay ds s
   types_stay ((k, abstract_module b) ∷ ds) s = types_stay ds s
@@ -305,6 +306,8 @@ module _ (table : Table) where
     )
     operators_fit ((n, abstract_type) ∷ ds) before c w s f a r k =
         (here ((n, abstract_type) ∷ ds) before c w s f a k, operators_fit ds _ _ w.2 s f (more c before (n, abstract_type) a) r k)
+    operators_fit ((n, abbreviation stood) ∷ ds) before c w s f a r k =
+        (here ((n, abbreviation stood) ∷ ds) before c w s f a k, operators_fit ds _ _ w.2 s f (more c before (n, abbreviation stood) a) r k)
     operators_fit ((n, module_type t) ∷ ds) before c w s f a r k =
         (here ((n, module_type t) ∷ ds) before c w s f a k, operators_fit ds _ (with_declared c n (module_type t)) w.2 s f (more c before (n, module_type t) a) r (record { inhabited = k.inhabited; operators = k.operators; distributions = k.distributions }))
     operators_fit ((n, concrete_module m) ∷ ds) before c w s f a r k =

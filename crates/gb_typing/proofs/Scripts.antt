@@ -12,13 +12,14 @@ use Rattle.gb_goal.specs.declared.scope.Entry.TheVariants as entry
 use Rattle.gb_goal.specs.Scope as scope
 use Rattle.gb_goal.specs.Scope.{entry_of, as_module, module_of, proc_of, proc_if_plain, proc_in, proc_at, procedure_of}
 use Rattle.gb_meaning.specs.Names.{Name}
-use Rattle.gb_holds.specs.Declared.{Declarations, declared, concrete_module}
+use Rattle.gb_holds.specs.Declared.{Declarations, declaration_of, declared, concrete_module}
 use Rattle.gb_holds.specs.Modules.{Procedures, found}
 use Rattle.gb_meaning.specs.Written.{local_type}
+use Rattle.gb_typed.specs.Typing.{OperatorType}
 use Rattle.gb_typing.specs.Context.{Context}
 use Rattle.gb_typing.specs.Formulas.{IsKnown}
 use Rattle.gb_typing.specs.Modules.{ProcedureType, Interface, Modules, FunctorType, left_over, lacking, given, interface_at, interfaces_at, of_complete, procedure_of as procedure_in, procedure_type}
-use Rattle.gb_typing.specs.Scopes.{nothing, interface_with, procedure_types, AreTaken, IsModule, with_declared, with_each, is_declared, AreTypedAfter}
+use Rattle.gb_typing.specs.Scopes.{nothing, interface_with, procedure_types, AreTaken, IsModule, with_operator, with_declared, with_each, is_declared, AreTypedAfter}
 use Rattle.gb_typing.proofs.Globals.{or_false}
 use Rattle.gb_typing.proofs.Grown.{Grows}
 use mathlib.Core.Former.{Count}
@@ -107,14 +108,14 @@ module _ (ms : Modules) (plain : HasNoFunctor ms) where
 -- a context in which more is known than in another one, of a script
 pub record GrowsPlainly (c d : Context) : Type 0 where
   pub global : (m x : Name) (t : Ty) → c.global m x ≡ Some t → d.global m x ≡ Some t
-  pub operator : c.operator ≡ d.operator
+  pub operator : (n : Name) (o : OperatorType) → c.operator n ≡ Some o → d.operator n ≡ Some o
   pub interface : (n : Name) (i : Interface) → c.modules.interfaces n ≡ Some i →
       (j : Interface) × (d.modules.interfaces n ≡ Some j) × ((f : Name) (t : ProcedureType) → found i.procedures f ≡ Some t → found j.procedures f ≡ Some t)
 
 pub grows : (c d : Context) → HasNoFunctor c.modules → HasNoFunctor d.modules → GrowsPlainly c d → Grows c d
 grows c d k l g = record {
   global = g.global;
-  operator = λ n o e. subst (λ z. z n ≡ Some o) g.operator e;
+  operator = g.operator;
   procedures = λ p t e.
       let b : Bare c.modules p t = bare c.modules k p t e in
       let j = g.interface (name_of p.«module») b.interface b.there in
@@ -122,12 +123,12 @@ grows c d k l g = record {
 }
 
 grows_itself : (c : Context) → GrowsPlainly c c
-grows_itself c = record { global = λ m x t e. e; operator = refl; interface = λ n i e. (i, e, λ f t h. h) }
+grows_itself c = record { global = λ m x t e. e; operator = λ n o e. e; interface = λ n i e. (i, e, λ f t h. h) }
 
 pub grows_on : (c d e : Context) → GrowsPlainly c d → GrowsPlainly d e → GrowsPlainly c e
 grows_on c d e k l = record {
   global = λ m x t h. l.global m x t (k.global m x t h);
-  operator = k.operator ∙ l.operator;
+  operator = λ n o h. l.operator n o (k.operator n o h);
   interface = λ n i h. let x = k.interface n i h in let y = l.interface n x.0 x.1 in (y.0, y.1, λ f t z. y.2 f t (x.2 f t z));
 }
 
@@ -138,6 +139,7 @@ pub record IsKnownFrom (before : Declarations) (c : Context) : Type 0 where
   pub plain : HasNoFunctor c.modules
   pub interfaces : (n : Name) → is_declared before n ≡ false → c.modules.interfaces n ≡ None
   pub globals : (n x : Name) → is_declared before n ≡ false → c.global n x ≡ None
+  pub operators : (n : Name) → is_declared before n ≡ false → c.operator n ≡ None
 
 undeclared : (before : Declarations) (n k : Name) (d : _) → is_declared (before ++ (n, d) ∷ []) k ≡ false → (is_declared before k ≡ false) × (bytes_eq k n ≡ false)
 undeclared [] n k d e = (refl, (or_false (bytes_eq k n) false e).0)
@@ -175,10 +177,11 @@ module _ (c : Context) (n : Name) (m : Module) (w : IsModule c n m) where
     interfaces = λ h e. let x = undeclared before n h (concrete_module m) e in
         ap (λ b. if b then Some (interface_with c.modules.types m.params (procedure_types m.procs)) else c.modules.interfaces h) x.1 ∙ k.interfaces h x.0;
     globals = λ h y e. let x = undeclared before n h (concrete_module m) e in ap (λ b. if b then local_type m.globals y else c.global h y) x.1 ∙ k.globals h y x.0;
+    operators = λ h e. k.operators h (undeclared before n h (concrete_module m) e).0;
   }
 
   pub grows_next : (before : Declarations) → IsKnownFrom before c → is_declared before n ≡ false → GrowsPlainly c next
-  grows_next before k free = record { global = more_globals; operator = refl; interface = more_interfaces }
+  grows_next before k free = record { global = more_globals; operator = λ h o e. e; interface = more_interfaces }
     where
       more_globals : (h x : Name) (t : Ty) → c.global h x ≡ Some t → next.global h x ≡ Some t
       more_globals h x t e = step (bytes_eq h n) refl
@@ -196,15 +199,36 @@ module _ (c : Context) (n : Name) (m : Module) (w : IsModule c n m) where
           step false q = e
 
 pub known_nothing : IsKnownFrom [] nothing
-known_nothing = record { plain = record { types = λ n. refl; lacks = λ n i e. none_some i e }; interfaces = λ n e. refl; globals = λ n x e. refl }
+known_nothing = record { plain = record { types = λ n. refl; lacks = λ n i e. none_some i e }; interfaces = λ n e. refl; globals = λ n x e. refl; operators = λ n e. refl }
 
--- what is known before a lemma is known after it
+-- what is known before a declaration that no context tells is known after it
 pub known_same : (c : Context) (before : Declarations) (n : Name) (d : _) → IsKnownFrom before c → IsKnownFrom (before ++ (n, d) ∷ []) c
 known_same c before n d k = record {
   plain = k.plain;
   interfaces = λ h e. k.interfaces h (undeclared before n h d e).0;
   globals = λ h y e. k.globals h y (undeclared before n h d e).0;
+  operators = λ h e. k.operators h (undeclared before n h d e).0;
 }
+
+-- An operator more.
+module _ (c : Context) (n : Name) (o : OperatorType) (before : Declarations) (k : IsKnownFrom before c) where
+  pub known_operator : (d : _) → IsKnownFrom (before ++ (n, d) ∷ []) (with_operator c n o)
+  known_operator d = record {
+    plain = k.plain;
+    interfaces = λ h e. k.interfaces h (undeclared before n h d e).0;
+    globals = λ h y e. k.globals h y (undeclared before n h d e).0;
+    operators = λ h e. let x = undeclared before n h d e in ap (λ b. if b then Some o else c.operator h) x.1 ∙ k.operators h x.0;
+  }
+
+  pub grows_operator : is_declared before n ≡ false → GrowsPlainly c (with_operator c n o)
+  grows_operator free = record { global = λ m x t e. e; operator = more_operators; interface = λ n i e. (i, e, λ f t h. h) }
+    where
+      more_operators : (h : Name) (u : OperatorType) → c.operator h ≡ Some u → (with_operator c n o).operator h ≡ Some u
+      more_operators h u e = step (bytes_eq h n) refl
+        where
+          step : (b : Bool) → bytes_eq h n ≡ b → (if b then Some o else c.operator h) ≡ Some u
+          step true q = none_some u (sym (k.operators h (ap (is_declared before) (same_name h n q) ∙ free)) ∙ e)
+          step false q = e
 
 pub grown : (ds : scope.Declarations) (before : Declarations) (c : Context) → AreTypedAfter c before (declared ds) → IsKnownFrom before c →
     GrowsPlainly c (with_each c (declared ds)) × HasNoFunctor (with_each c (declared ds)).modules
@@ -214,3 +238,14 @@ grown ((n, entry.Module m) ∷ ds) before c w k =
     let x = grown ds (before ++ (n, concrete_module m) ∷ []) d w.2 (known_next c n m w.1 before k) in
     (grows_on c d (with_each d (declared ds)) (grows_next c n m w.1 before k w.0) x.0, x.1)
 grown ((n, entry.Lemma q) ∷ ds) before c w k = grown ds _ c w.2 (known_same c before n _ k)
+grown ((n, entry.Type t) ∷ ds) before c w k = grown ds _ c w.2 (known_same c before n _ k)
+grown ((n, entry.AbstractType) ∷ ds) before c w k = grown ds _ c w.2 (known_same c before n _ k)
+grown ((n, entry.Constant a) ∷ ds) before c w k = grown ds _ c w.2 (known_same c before n _ k)
+grown ((n, entry.Operator o) ∷ ds) before c w k =
+    let d : Context = with_declared c n (declaration_of (entry.Operator o)) in
+    let x = grown ds (before ++ (n, declaration_of (entry.Operator o)) ∷ []) d w.2 (known_operator c n _ before k _) in
+    (grows_on c d (with_each d (declared ds)) (grows_operator c n _ before k w.0) x.0, x.1)
+grown ((n, entry.AbstractOperator o) ∷ ds) before c w k =
+    let d : Context = with_declared c n (declaration_of (entry.AbstractOperator o)) in
+    let x = grown ds (before ++ (n, declaration_of (entry.AbstractOperator o)) ∷ []) d w.2 (known_operator c n _ before k _) in
+    (grows_on c d (with_each d (declared ds)) (grows_operator c n _ before k w.0) x.0, x.1)

@@ -9,7 +9,7 @@ use Rattle.gb_terms.specs.declared.module.ProcRef.{ProcRef}
 use Rattle.gb_meaning.specs.Names.{Name}
 use Rattle.gb_meaning.specs.Program.{Routine}
 use Rattle.gb_meaning.specs.Setting.{Setting}
-use Rattle.gb_holds.specs.Declared.{Declarations, Declaration, ModuleType, module_type_in, module_type_of, abstract_type, operator, abstract_operator, module_type, concrete_module, abstract_module, axiom_of, lemma, terminating}
+use Rattle.gb_holds.specs.Declared.{Declarations, Declaration, ModuleType, module_type_in, module_type_of, abstract_type, abbreviation, operator, abstract_operator, module_type, concrete_module, abstract_module, axiom_of, lemma, terminating}
 use Rattle.gb_holds.specs.Adversary.{or_none, type_named, with_oracles}
 use Rattle.gb_holds.specs.Modules.{no_module, modules_of}
 use Rattle.gb_holds.specs.Modules as linked
@@ -161,6 +161,7 @@ module _ (all : Declarations) (i : Interpretation) where
   agree_at ((n, module_type t) ∷ ds) before c e w a =
       agree_at ds (before ++ (n, module_type t) ∷ []) (with_declared c n (module_type t)) (next before (n, module_type t) ds e) w.2 (let x = w.1 in with_next_type before n t ds e c a w.0 x.params)
   agree_at ((n, abstract_type) ∷ ds) before c e w a = agree_at ds _ _ (next before (n, abstract_type) ds e) w.2 a
+  agree_at ((n, abbreviation stood) ∷ ds) before c e w a = agree_at ds _ _ (next before (n, abbreviation stood) ds e) w.2 a
   agree_at ((n, operator o) ∷ ds) before c e w a = agree_at ds _ _ (next before (n, operator o) ds e) w.2 a
   agree_at ((n, abstract_operator o) ∷ ds) before c e w a = agree_at ds _ _ (next before (n, abstract_operator o) ds e) w.2 a
   agree_at ((n, concrete_module m) ∷ ds) before c e w a = agree_at ds _ _ (next before (n, concrete_module m) ds e) w.2 a
@@ -177,6 +178,7 @@ module _ (all : Declarations) (i : Interpretation) where
   programs_at ((n, abstract_module b) ∷ ds) before c e w a k =
       (binder_applied c.modules.types a b (λ k. no_module) (let x = w.1.1 in x.known) k.0, programs_at ds _ _ (next before (n, abstract_module b) ds e) w.2 a k.1)
   programs_at ((n, abstract_type) ∷ ds) before c e w a k = programs_at ds _ _ (next before (n, abstract_type) ds e) w.2 a k
+  programs_at ((n, abbreviation stood) ∷ ds) before c e w a k = programs_at ds _ _ (next before (n, abbreviation stood) ds e) w.2 a k
   programs_at ((n, operator o) ∷ ds) before c e w a k = programs_at ds _ _ (next before (n, operator o) ds e) w.2 a k
   programs_at ((n, abstract_operator o) ∷ ds) before c e w a k = programs_at ds _ _ (next before (n, abstract_operator o) ds e) w.2 a k
   programs_at ((n, concrete_module m) ∷ ds) before c e w a k = programs_at ds _ _ (next before (n, concrete_module m) ds e) w.2 a k

@@ -3,6 +3,7 @@ use Rattle.std.specs.Prelude.{◌≡◌, Bool, false, List, [], ◌∷◌, ◌++
 use Rattle.std.specs.List.{list_any}
 use Rattle.gb_core.specs.declared.ty.Ty.{Ty}
 use Rattle.gb_core.specs.declared.ty.Ty.TheVariants as ty
+use Rattle.gb_core.specs.declared.value.Value.TheVariants.{Num}
 use Rattle.gb_terms.specs.declared.decl.TypedName.{TypedName}
 use Rattle.gb_terms.specs.declared.decl.Param.{Param}
 use Rattle.gb_terms.specs.declared.decl.Proc.{Proc}
@@ -12,9 +13,9 @@ use Rattle.gb_meaning.specs.Written.{type_of, local_type}
 use Rattle.gb_changes.specs.Plain.{IsPlain}
 use Rattle.gb_typed.specs.Finite.{IsVariableType}
 use Rattle.gb_typed.specs.Operators.{IsDistributionType}
-use Rattle.gb_typed.specs.Typing.{OperatorType}
+use Rattle.gb_typed.specs.Typing.{OperatorType, IsLiteral}
 use Rattle.gb_typed.specs.Typing.Binder.{value}
-use Rattle.gb_holds.specs.Declared.{Declarations, Declaration, DefinedOperator, ModuleType, Signature, MayCall, every, those, signature_in, abstract_type, operator, abstract_operator, module_type, concrete_module, abstract_module, axiom_of, lemma, terminating}
+use Rattle.gb_holds.specs.Declared.{Declarations, Declaration, Abbreviated, for_type, for_value, DefinedOperator, ModuleType, Signature, MayCall, every, those, signature_in, abstract_type, abbreviation, operator, abstract_operator, module_type, concrete_module, abstract_module, axiom_of, lemma, terminating}
 use Rattle.gb_holds.specs.Modules.{Procedures, found}
 use Rattle.gb_holds.specs.Naming.{AnyName}
 use Rattle.gb_later.specs.Naming.{NoName, TermNames}
@@ -44,10 +45,10 @@ nothing = record {
 -- Operators.
 
 abbrev pub operator_type : DefinedOperator → OperatorType
-operator_type o = record { params = map (λ x. x.ty) o.params; result = type_of o.body }
+operator_type o = record { params = o.params; result = type_of o.body }
 
 -- the context of an operator's body: its parameters are bound, the last one innermost
-abbrev pub of_operator : Context → List TypedName → Context
+abbrev pub of_operator : Context → List Ty → Context
 of_operator c ps = record c {
   logical = λ i. None;
   has_globals = no_module;
@@ -55,7 +56,7 @@ of_operator c ps = record c {
   left = None;
   right = None;
   named = [];
-  bound = reverse (map (λ x. value x.ty) ps);
+  bound = reverse (map value ps);
   frames = map (λ x. None) ps;
 }
 
@@ -65,9 +66,9 @@ IsMeasured ty.Int = Unit {0}
 IsMeasured ty.Real = Unit {0}
 IsMeasured t = IsVariableType t
 
-abbrev pub AreMeasured : List TypedName → Type 0
+abbrev pub AreMeasured : List Ty → Type 0
 AreMeasured [] = Unit {0}
-AreMeasured (p ∷ ps) = IsMeasured p.ty × AreMeasured ps
+AreMeasured (t ∷ ts) = IsMeasured t × AreMeasured ts
 
 -- what an operator gives: a value, a number or a distribution of values
 abbrev pub IsResult : Ty → Type 0
@@ -198,9 +199,15 @@ abbrev pub HasProcedure : Option Interface → Name → Type 0
 HasProcedure None f = ⊥
 HasProcedure (Some i) f = IsKnown (found i.procedures f)
 
+-- a name stands for a type of values, or for one of its values
+abbrev pub IsAbbreviation : Abbreviated → Type 0
+IsAbbreviation (for_type t) = IsVariableType t
+IsAbbreviation (for_value c) = IsVariableType c.ty × IsLiteral c.ty (Num c.number)
+
 -- what may be declared under a name in a context
 abbrev pub IsDeclared : Context → Name → Declaration → Type 0
 IsDeclared c n abstract_type = Unit {0}
+IsDeclared c n (abbreviation a) = IsAbbreviation a
 IsDeclared c n (operator o) = IsDefined c o
 IsDeclared c n (abstract_operator o) = AreVariableTypes o.params × IsMeasured o.result
 IsDeclared c n (module_type t) = IsModuleType c t

@@ -33,7 +33,7 @@ use Rattle.gb_smt.specs.Leaves.{leaves_of}
 use Rattle.gb_smt.specs.Apply.{IsAnswerOf}
 use Rattle.gb_amb.specs.Steps.{IsAnswer}
 use Rattle.gb_verdict.specs.Session.{Session, OpenProof, fresh_session}
-use Rattle.gb_verdict.specs.Commands.{After, declares, opens, begun, ended, closed_unless, row_of, Applied, continued, Works, WorksOn, InProof, sole_rule, Proves, ComesToOf, ComesTo}
+use Rattle.gb_verdict.specs.Commands.{After, requires_files, assumes, brings, declares, opens, begun, ended, closed_unless, row_of, Applied, continued, Works, WorksOn, InProof, sole_rule, Proves, ComesToOf, ComesTo}
 use Rattle.gb_verdict.specs.Verdict.{IsReadAs, IsEnd, Ends, Goes, RunsIn, start, IsOutcome}
 
 -- Some answer is such.
@@ -72,6 +72,10 @@ module _
   proved s None place = (not_built place, refl)
 
   come_of : (s : Session) (c : Node) (h : Head) (parts : List Node) → Some_of (ComesToOf s c h parts)
+  come_of s c head.Require (import ∷ names ∷ []) = (requires_files s (parts_of names) (place_of c), refl)
+  come_of s c head.TypeDeclaration parts = (brings s c (place_of c), refl)
+  come_of s c head.OperatorDeclaration parts = (brings s c (place_of c), refl)
+  come_of s c head.Axiom parts = (assumes s (place_of c), refl)
   come_of s c head.Module parts = (declares s c (place_of c), refl)
   come_of s c head.AscribedModule parts = (declares s c (place_of c), refl)
   come_of s c head.Lemma (name ∷ parts) = (opens s c (text_of name) (place_of c), refl)

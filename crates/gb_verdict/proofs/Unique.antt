@@ -72,6 +72,7 @@ module _
   one_proved s None place r t h k = h ∙ sym k
 
   one_of : (s : Session) (c : Node) (h : Head) (parts : List Node) (r t : Answer Session) → ComesToOf s c h parts r → ComesToOf s c h parts t → r ≡ t
+  one_of s c head.Require (import ∷ names ∷ []) r t h k = h ∙ sym k
   one_of s c head.Module parts r t h k = h ∙ sym k
   one_of s c head.AscribedModule parts r t h k = h ∙ sym k
   one_of s c head.Lemma (name ∷ parts) r t h k = h ∙ sym k

@@ -1,9 +1,9 @@
 -- What each command comes to: the next session, or its first refusal.
-use Rattle.std.specs.Prelude.{◌≡◌, ◌==◌, ℕ, List, [], ◌∷◌, ◌++◌, length, Option, Some, None, if◌then◌else◌}
+use Rattle.std.specs.Prelude.{◌≡◌, ◌||◌, ℕ, Bool, List, [], ◌∷◌, ◌++◌, length, Option, Some, None, if◌then◌else◌, codes, bytes_eq}
 use Rattle.gb_core.specs.declared.place.Place.{Place}
 use Rattle.gb_core.specs.declared.refusal.Why.{Why}
-use Rattle.gb_core.specs.declared.refusal.Why.TheVariants.{NoGoal, OpenGoals, Shape, TooMany}
-use Rattle.gb_goal.specs.Scope.{Declarations}
+use Rattle.gb_core.specs.declared.refusal.Why.TheVariants.{LeftOut, NoGoal, OpenGoals, Shape, TooMany}
+use Rattle.gb_goal.specs.Scope.{Declarations, declarations_in}
 use Rattle.gb_goal.specs.declared.sequent.Sequent.{Sequent}
 use Rattle.gb_goal.specs.declared.step.Step.{Step}
 use Rattle.gb_goal.specs.declared.step.Rule.{Rule}
@@ -14,6 +14,7 @@ use Rattle.gb_script.specs.declared.tree.Node.{Node}
 use Rattle.gb_script.specs.Tree.{head_of, text_of, parts_of, place_of}
 use Rattle.gb_goal.specs.Answers.{Answer, ◌>>=◌, not_built, placed_at}
 use Rattle.gb_goal.specs.Answers.Answer.{given, refused}
+use Rattle.gb_elab_mod.specs.Entries.{entries_given}
 use Rattle.gb_elab_mod.specs.Modules.{module_given}
 use Rattle.gb_elab_mod.specs.Lemmas.{statement_given}
 use Rattle.gb_elab_mod.specs.Steps.{step_given}
@@ -24,7 +25,7 @@ use Rattle.gb_smt.specs.Leaves.{leaves_of}
 use Rattle.gb_smt.specs.Apply.{IsAnswerOf}
 use Rattle.gb_amb.specs.Steps as conclusions
 use Rattle.gb_verdict.specs.Limits.{declaration_limit, each_limit, all_limit}
-use Rattle.gb_verdict.specs.Session.{Session, OpenProof, with_module, with_lemma, with_goals, with_proved}
+use Rattle.gb_verdict.specs.Session.{Session, OpenProof, with_entries, with_module, with_lemma, with_goals, with_proved}
 
 -- an answer that goes on from this one; a refusal stands
 abbrev pub After : {X Y : Type 0} → Answer X → (X → Answer Y → Type 0) → Answer Y → Type 0
@@ -41,12 +42,42 @@ abbrev pub outside : Option OpenProof → Place → Answer (Unit {0})
 outside None place = given tt
 outside (Some p) place = refused NoGoal place
 
+-- a file of the standard library whose operators are in scope anyhow
+abbrev pub is_built_in : List ℕ → Bool
+is_built_in x =
+    bytes_eq x (codes "AllCore") || bytes_eq x (codes "Distr") || bytes_eq x (codes "FMap") || bytes_eq x (codes "Bool")
+    || bytes_eq x (codes "Int") || bytes_eq x (codes "Real") || bytes_eq x (codes "DBool")
+
+-- the files that are required: those of the standard library bring nothing, and others aren't built yet
+abbrev pub brought : List Node → Answer (Unit {0})
+brought [] = given tt
+brought (x ∷ xs) = if is_built_in (text_of x) then brought xs else not_built (place_of x)
+
+-- files are required
+abbrev pub requires_files : Session → List Node → Place → Answer Session
+requires_files s names place = do
+  _ ← outside s.proof place
+  _ ← brought names
+  given s
+
+-- An axiom stands in abstract theories alone, of which none can be opened yet.
+abbrev pub assumes : Session → Place → Answer Session
+assumes s place = outside s.proof place >>= λ _. refused LeftOut place
+
+-- a type, with its constants, or an operator is declared
+abbrev pub brings : Session → Node → Place → Answer Session
+brings s t place = do
+  _ ← outside s.proof place
+  added ← entries_given s.scope t
+  _ ← within (declaration_limit (declarations_in s.scope)) place
+  given (with_entries s added)
+
 -- a module is declared
 abbrev pub declares : Session → Node → Place → Answer Session
 declares s t place = do
   _ ← outside s.proof place
   m ← module_given s.scope t
-  _ ← within (declaration_limit (length s.scope)) place
+  _ ← within (declaration_limit (declarations_in s.scope)) place
   given (with_module s m)
 
 -- a lemma of this name opens its proof
@@ -54,7 +85,7 @@ abbrev pub opens : Session → Node → List ℕ → Place → Answer Session
 opens s t name place = do
   _ ← outside s.proof place
   q ← statement_given s.scope t
-  _ ← within (declaration_limit (length s.scope)) place
+  _ ← within (declaration_limit (declarations_in s.scope)) place
   _ ← within (each_limit (q ∷ [])) place
   given (with_lemma s name q)
 
@@ -125,6 +156,10 @@ Proves s None place r = r ≡ not_built place
 -- `declare` and `end` ask for one. The last clause takes what isn't built, under which nodes of another
 -- shape fall too: the reader makes none, as each tree of the language is well-sorted.
 abbrev pub ComesToOf : Session → Node → Head → List Node → Answer Session → Type 0
+ComesToOf s c head.Require (import ∷ names ∷ []) r = r ≡ requires_files s (parts_of names) (place_of c)
+ComesToOf s c head.TypeDeclaration parts r = r ≡ brings s c (place_of c)
+ComesToOf s c head.OperatorDeclaration parts r = r ≡ brings s c (place_of c)
+ComesToOf s c head.Axiom parts r = r ≡ assumes s (place_of c)
 ComesToOf s c head.Module parts r = r ≡ declares s c (place_of c)
 ComesToOf s c head.AscribedModule parts r = r ≡ declares s c (place_of c)
 ComesToOf s c head.Lemma (name ∷ parts) r = r ≡ opens s c (text_of name) (place_of c)

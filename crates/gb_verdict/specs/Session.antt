@@ -23,6 +23,10 @@ pub record Session : Type 0 where
 abbrev pub fresh_session : Session
 fresh_session = record { scope = []; proof = None; lemmas = [] }
 
+-- more is declared
+abbrev pub with_entries : Session → Declarations → Session
+with_entries s added = record s { scope = s.scope ++ added }
+
 -- a module more is declared
 abbrev pub with_module : Session → Module → Session
 with_module s m = record s { scope = s.scope ++ (m.name, entry.Module m) ∷ [] }

@@ -5,6 +5,8 @@ pub returns : goal.returns
 returns c =
     all_promised (record {
       typing = record {
+        entries_added = c.entries.ensures.added;
+        others = c.entries.ensures.others;
         module_added = c.modules.ensures.added;
         statement = c.statements.ensures.typed;
         free = c.statements.ensures.free;

@@ -1,29 +1,8 @@
-use Rattle.std.proofs.Common.{◌≡◌, Bool, true, false, [], ◌∷◌, map, refl, ap, arith, ◌+◌, ◌*◌}
-use Rattle.gb_core.specs.declared.value.Value.{Value}
-use Rattle.gb_coupling.specs.WeightedList.{WeightedList, total, weight, bit}
-use Rattle.gb_dist.specs.Lists.{kept, restricted}
-use Rattle.gb_dist.specs.Places.{outcomes}
-use Rattle.std.specs.Prelude.{ℕ, if◌then◌else◌}
+use Rattle.gb_dist.proofs.Events.{kept_is, kept_mass}
 use Rattle.gb_dist.proofs.laws.events.Goals as goal
 
-one_kept : (b : Bool) (bs : _) (e : Value × ℕ) (l r : WeightedList Value) → kept bs l ≡ r → kept (b ∷ bs) (e ∷ l) ≡ (if b then e ∷ r else r)
-one_kept true bs e l r h = ap (λ (k : WeightedList Value). e ∷ k) h
-one_kept false bs e l r h = h
-
-kept_by : (p : Value → Bool) (l : WeightedList Value) → kept (map p (outcomes l)) l ≡ restricted l p
-kept_by p [] = refl
-kept_by p (e ∷ l) = one_kept (p e.0) (map p (outcomes l)) e l (restricted l p) (kept_by p l)
-
-one_weighed : (b : Bool) (bs : _) (e : Value × ℕ) (l : WeightedList Value) (n : ℕ) → total (kept bs l) ≡ n → total (kept (b ∷ bs) (e ∷ l)) ≡ e.1 * bit b + n
-one_weighed true bs e l n h = omega (arith, h)
-one_weighed false bs e l n h = omega (arith, h)
-
-weighed_by : (p : Value → Bool) (l : WeightedList Value) → total (kept (map p (outcomes l)) l) ≡ weight l p
-weighed_by p [] = refl
-weighed_by p (e ∷ l) = one_weighed (p e.0) (map p (outcomes l)) e l (weight l p) (weighed_by p l)
-
 pub returns-clause-kept : goal.returns-clause-kept
-returns-clause-kept c = kept_by
+returns-clause-kept c = kept_is
 
 pub returns-clause-mass : goal.returns-clause-mass
-returns-clause-mass c = weighed_by
+returns-clause-mass c = kept_mass

@@ -1,6 +1,6 @@
 use Rattle.std.proofs.Common.{◌≡◌, drop}
-use Rattle.gb_elab.specs.Environment.{environment}
-use Rattle.gb_elab.specs.Forms.{with_equalities}
+use Rattle.gb_names.specs.Environment.{environment}
+use Rattle.gb_elab.specs.Equalities.{with_equalities}
 use Rattle.gb_elab.proofs.equalities.with_equalities.Given as goal
 
 abbrev pub invariant-loop-x : goal.invariant-loop-x

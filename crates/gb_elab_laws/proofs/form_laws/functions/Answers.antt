@@ -1,4 +1,4 @@
-use Rattle.gb_elab_laws.proofs.Functions.{function_typed}
+use Rattle.gb_elab_laws.proofs.Forms.{function_typed}
 use Rattle.gb_elab_laws.proofs.form_laws.functions.Goals as goal
 
 pub returns : goal.returns

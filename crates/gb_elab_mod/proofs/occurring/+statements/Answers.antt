@@ -1,4 +1,4 @@
-use Rattle.std.proofs.Common.{◌≡◌, flat_map, rules, ap, ◌∙◌}
+use Rattle.std.proofs.Common.{flat_map, rules, ap, ◌∙◌}
 use Rattle.gb_terms.specs.declared.op.Side.TheVariants as side
 use Rattle.gb_elab_mod.specs.Occurring.{read_locals, statement_locals, with_all}
 use Rattle.gb_elab_mod.proofs.Found.{call_locals, if_locals, while_locals, with_more, with_three}

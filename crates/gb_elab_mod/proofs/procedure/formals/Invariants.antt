@@ -3,4 +3,4 @@ use Rattle.gb_elab_mod.specs.Procedures.{formals}
 use Rattle.gb_elab_mod.proofs.procedure.formals.Given as goal
 
 abbrev pub invariant-loop-tree : goal.invariant-loop-tree
-invariant-loop-tree l = formals l.params (drop l.tree-index l.trees) ≡ formals [] l.trees
+invariant-loop-tree l = formals l.scope l.params (drop l.tree-index l.trees) ≡ formals l.scope [] l.trees

@@ -1,5 +1,5 @@
 use Rattle.std.proofs.Common.{◌≡◌, drop}
-use Rattle.gb_elab.specs.Environment.{environment}
+use Rattle.gb_names.specs.Environment.{environment}
 use Rattle.gb_elab_mod.specs.Statements.{all_stated, with_statings}
 use Rattle.gb_elab_mod.proofs.Gathered.{behind}
 use Rattle.gb_elab_mod.proofs.statement.+statements.Given as goal

@@ -1,5 +1,5 @@
-use Rattle.gb_models.proofs.StayingOn.{goal_stays_on}
-use Rattle.gb_models.proofs.Staying.{goal_stays, script_stays, without_modules}
+use Rattle.gb_models.proofs.StayingOn.{goal_stays_on, script_stays}
+use Rattle.gb_models.proofs.Staying.{goal_stays, without_modules}
 use Rattle.gb_models.proofs.stay_laws.goals_stay.Goals as goal
 
 pub returns-clause-kinds : goal.returns-clause-kinds

@@ -1,4 +1,4 @@
-use Rattle.std.proofs.Common.{◌≡◌}
+use Rattle.std.proofs.Common.{◌≡◌, length}
 use Rattle.gb_core.specs.declared.value.Card.TheVariants.{Exact}
 use Rattle.gb_types.specs.Types.{card_of}
 use Rattle.gb_smt.specs.declared.assign.Found.TheVariants.{True}
@@ -8,5 +8,6 @@ use Rattle.gb_smt.proofs.assign.try_all.Given as goal
 abbrev pub invariant-loop-at : goal.invariant-loop-at
 invariant-loop-at l = record {
   exact : card_of (assignments l.claim) ≡ Exact l.count;
+  each : length l.reads ≡ length l.claim.variables;
   before : found_before l.at l.claim ≡ True;
 }

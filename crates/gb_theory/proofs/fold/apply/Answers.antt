@@ -1,4 +1,4 @@
-use Rattle.gb_theory.proofs.Steps.{ambient_meets, body_meets, relational_meets, smt_meets}
+use Rattle.gb_theory.proofs.Steps.{ambient_meets, smt_meets}
 use Rattle.gb_theory.proofs.fold.apply.Goals as goal
 
 pub returns-in-Smt : goal.returns-in-Smt

@@ -1,6 +1,0 @@
-use Rattle.std.proofs.Common.{◌≡◌, take}
-use Rattle.gb_elab.specs.Forms.{of_type}
-use Rattle.gb_elab.proofs.binders.of_type.Given as goal
-
-abbrev pub invariant-loop-x : goal.invariant-loop-x
-invariant-loop-x l = l.all ≡ of_type (take l.x-index l.names) l.ty

@@ -1,6 +1,0 @@
-use Rattle.std.proofs.Common.{◌≡◌, drop, reverse}
-use Rattle.gb_elab.specs.Forms.{over_all}
-use Rattle.gb_elab.proofs.binders.over_all.Given as goal
-
-abbrev pub invariant-loop-x : goal.invariant-loop-x
-invariant-loop-x l = over_all l.quantifier (reverse (drop l.x-index l.variables)) l.form ≡ over_all l.quantifier (reverse l.variables) l.fn.body

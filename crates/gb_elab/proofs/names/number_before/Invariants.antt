@@ -1,6 +1,0 @@
-use Rattle.std.proofs.Common.{◌≡◌, ◌+◌, drop}
-use Rattle.gb_elab.specs.Names.{number_before}
-use Rattle.gb_elab.proofs.names.number_before.Given as goal
-
-abbrev pub invariant-loop-i : goal.invariant-loop-i
-invariant-loop-i l = l.i + number_before (drop l.i l.list) l.name ≡ number_before l.list l.name

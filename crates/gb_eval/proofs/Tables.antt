@@ -1,0 +1,145 @@
+-- Tables that mean what a distribution does.
+use Rattle.std.proofs.Common.{◌≡◌, ℕ, ◌+◌, ◌*◌, ◌<◌, Bool, true, false, ◌&&◌, nat_lt, nat_le, ◌^◌, if◌then◌else◌, pos, List, [], ◌∷◌, ◌++◌, map, refl, sym, ap, ◌∙◌, subst, arith}
+use Rattle.std.proofs.lemmas.Bool.{false≢true, and_parts, ltb-true}
+use Rattle.gb_core.specs.declared.ty.Ty.{Ty}
+use Rattle.gb_core.specs.declared.value.Value.{Value}
+use Rattle.gb_core.specs.declared.value.Value.TheVariants.{Many}
+use Rattle.gb_core.specs.declared.value.Card.{Card}
+use Rattle.gb_core.specs.declared.value.Card.TheVariants.{Exact, Above}
+use Rattle.gb_types.specs.Types.{numbering, is_finite, size_of, card_of}
+use Rattle.gb_coupling.specs.WeightedList.{WeightedList, mass, weight, bit, dmap}
+use Rattle.gb_coupling.proofs.Masses.{mass-bind, mass-dmap, mass-same}
+use Rattle.gb_num.specs.Fractions.{reduced}
+use Rattle.gb_dist.specs.Lists as lists
+use Rattle.gb_dist.specs.Places.{outcomes}
+use Rattle.gb_meaning.specs.Setting.{Meaning}
+use Rattle.gb_meaning.specs.Setting.{Meaning as meaning}
+use Rattle.gb_meaning.specs.Values.{Types, values, value_eq}
+use Rattle.gb_meaning.specs.Distributions as distributions
+use Rattle.gb_meaning.specs.Meanings as m
+use Rattle.gb_meaning.specs.Operators as o
+use Rattle.gb_laws.proofs.Types.{values_finite}
+use Rattle.gb_eval.specs.Findings.{Comes, ◌>>=◌, collected}
+use Rattle.gb_eval.specs.Findings.Finding.{fraction, table}
+use Rattle.gb_eval.specs.Findings.Comes.{found, unknown, overflow}
+use Rattle.gb_eval.specs.Operators.{chance, uniform_over}
+use Rattle.gb_eval.specs.Totals.{number_of_outcomes}
+use Rattle.gb_eval.specs.Meant.{IsTable, Means}
+use Rattle.gb_eval.proofs.Truths.{Finds, IsTruth}
+use Rattle.gb_eval.proofs.Fractions.{reduced_meant}
+
+-- a weight over a denominator
+pub chance_meant : (w v n k j : ℕ) → w ≡ v → n ≡ k → Means (chance w n) (meaning.fraction (pos v, k)) j
+chance_meant w v n k j p q =
+    subst (λ z. Means (chance w n) (meaning.fraction (pos z, k)) j) p
+    (subst (λ z. Means (chance w n) (meaning.fraction (pos w, z)) j) q (by (nat_lt 0 n) refl))
+  where
+    by : (b : Bool) → nat_lt 0 n ≡ b → Means (if b then found (fraction (reduced (pos w, n))) else unknown) (meaning.fraction (pos w, n)) j
+    by true e = let l : 0 < n = ltb-true 0 n e in reduced_meant (pos w, n) (pos w, n) l l refl
+    by false e = tt
+
+-- the weight of a value
+pub weight_meant : (v : Value) (n k : ℕ) (l : WeightedList Value) (x : Meaning) → IsTable n l x k → (y : Meaning) → y ≡ meaning.finite v → weight l (λ w. value_eq w v) ≡ o.weight_of x y
+weight_meant v n k l x h y e =
+    h.same (λ w. bit (value_eq w v))
+    ∙ sym (λ i. weight (m.weights_in (h.is i)) (λ w. value_eq w (m.value_in (e i))))
+
+-- the part of a distribution on which a test holds
+
+restricted_more : (p : Value → Bool) (e : Value × ℕ) (l : WeightedList Value) (f : Value → ℕ) (b : Bool) → mass (lists.restricted l p) f ≡ mass l (λ v. bit (p v) * f v) →
+    mass (if b then e ∷ lists.restricted l p else lists.restricted l p) f ≡ e.1 * (bit b * f e.0) + mass l (λ v. bit (p v) * f v)
+restricted_more p e l f true i = omega (arith, i)
+restricted_more p e l f false i = omega (arith, i)
+
+pub restricted_mass : (p : Value → Bool) (l : WeightedList Value) (f : Value → ℕ) → mass (lists.restricted l p) f ≡ mass l (λ v. bit (p v) * f v)
+restricted_mass p [] f = refl
+restricted_mass p (e ∷ l) f = restricted_more p e l f (p e.0) (restricted_mass p l f)
+
+-- lists
+
+pub behind_none : {A : Type 0} (xs : List A) → xs ≡ xs ++ []
+behind_none [] = refl
+behind_none (x ∷ xs) = ap (λ z. x ∷ z) (behind_none xs)
+
+pub behind_one : {A : Type 0} (xs : List A) (a : A) (ys : List A) → (xs ++ a ∷ []) ++ ys ≡ xs ++ a ∷ ys
+behind_one [] a ys = refl
+behind_one (x ∷ xs) a ys = ap (λ z. x ∷ z) (behind_one xs a ys)
+
+-- one thing more is collected, which is the one that is meant
+pub one_collected : {A : Type 0} (out : List A) (c : Comes A) (a : A) (cs : List (Comes A)) (rest : List A) → Finds (λ b. a ≡ b) c →
+    ((more : List A) → Finds (λ bs. bs ≡ more ++ rest) (collected more cs)) → Finds (λ bs. bs ≡ out ++ a ∷ rest) (c >>= λ b. collected (out ++ b ∷ []) cs)
+one_collected out (found b) a cs rest q f =
+    subst (λ z. Finds (λ bs. bs ≡ z) (collected (out ++ b ∷ []) cs)) (behind_one out b rest ∙ ap (λ z. out ++ z ∷ rest) (sym q)) (f (out ++ b ∷ []))
+one_collected out unknown a cs rest q f = tt
+one_collected out (overflow x) a cs rest q f = tt
+
+-- the event is true at each outcome where the test is
+pub event_meant : (f : Value → Comes Bool) (p : Value → Bool) → ((v : Value) → IsTruth (f v) (p v)) → (l : WeightedList Value) (out : List Bool) → Finds (λ bs. bs ≡ out ++ map p (outcomes l)) (collected out (map f (outcomes l)))
+event_meant f p h [] out = behind_none out
+event_meant f p h (e ∷ l) out = one_collected out (f e.0) (p e.0) (map f (outcomes l)) (map p (outcomes l)) (h e.0) (event_meant f p h l)
+
+-- pairs
+
+product_mass : (d e : WeightedList Value) (f : Value → ℕ) → mass (lists.product d e) f ≡ mass d (λ v. mass e (λ w. f (Many (v ∷ w ∷ []))))
+product_mass d e f =
+    mass-bind d (λ v. dmap (λ w. Many (v ∷ w ∷ [])) e) f
+    ∙ mass-same d _ _ (λ v. mass-dmap (λ w. Many (v ∷ w ∷ [])) e f)
+
+pub product_same : (d e r s : WeightedList Value) → ((f : Value → ℕ) → mass d f ≡ mass r f) → ((f : Value → ℕ) → mass e f ≡ mass s f) → (f : Value → ℕ) → mass (lists.product d e) f ≡ mass (lists.product r s) f
+product_same d e r s h k f =
+    product_mass d e f
+    ∙ h (λ v. mass e (λ w. f (Many (v ∷ w ∷ []))))
+    ∙ mass-same r _ _ (λ v. k (λ w. f (Many (v ∷ w ∷ []))))
+    ∙ sym (product_mass r s f)
+
+-- the uniform distribution
+
+exact_size : (b : Bool) (k n : ℕ) → (if b then Exact k else Above) ≡ Exact n → n ≡ k
+exact_size true k n h = sym (ap size_in h)
+  where
+    size_in : Card → ℕ
+    size_in (Exact n) = n
+    size_in Above = 0
+exact_size false k n h = absurd (false≢true (ap is_exact h))
+  where
+    is_exact : Card → Bool
+    is_exact (Exact n) = true
+    is_exact Above = false
+
+exact_finite : (a b : Bool) (k n : ℕ) → (if a && b then Exact k else Above) ≡ Exact n → a ≡ true
+exact_finite true b k n h = refl
+exact_finite false b k n h = absurd (false≢true (ap is_exact h))
+  where
+    is_exact : Card → Bool
+    is_exact (Exact n) = true
+    is_exact Above = false
+
+-- a type with an exact number of values
+pub exact : (t : Types) (u : Ty) (n : ℕ) → card_of u ≡ Exact n → (values t u ≡ numbering u) × (n ≡ size_of u)
+exact t u n e = (values_finite t u (exact_finite (is_finite u) (nat_lt (size_of u) (2 ^ 63)) (size_of u) n e), exact_size (is_finite u && nat_lt (size_of u) (2 ^ 63)) (size_of u) n e)
+
+pub uniform_meant : (t : Types) (u : Ty) (c : Card) → card_of u ≡ c → Means (uniform_over c u) (meaning.weights (distributions.uniform (values t u))) (values t u).size
+uniform_meant t u Above e = tt
+uniform_meant t u (Exact n) e = by (nat_lt 0 n && nat_le n 65536)
+  where
+    by : (b : Bool) → Means (if b then found (table n (lists.uniform (numbering u))) else unknown) (meaning.weights (distributions.uniform (values t u))) (values t u).size
+    by true = record {
+      meant = distributions.uniform (values t u);
+      is = refl;
+      same = λ f. ap (λ z. mass (lists.uniform z) f) (sym (exact t u n e).0);
+      total = (exact t u n e).1 ∙ ap (λ z. z.size) (sym (exact t u n e).0);
+    }
+    by false = tt
+
+-- a denominator above 0
+pub record IsTotal (k n : ℕ) : Type 0 where
+  pub is : n ≡ k
+  pub above : 0 < n
+
+pub outcomes_total : (t : Types) (u : Ty) (c : Card) → card_of u ≡ c → Finds (IsTotal (values t u).size) (number_of_outcomes c)
+outcomes_total t u Above e = tt
+outcomes_total t u (Exact n) e = by (nat_lt 0 n && nat_le n 65536) refl
+  where
+    by : (b : Bool) → (nat_lt 0 n && nat_le n 65536) ≡ b → Finds (IsTotal (values t u).size) (if b then found n else unknown)
+    by true q = record { is = (exact t u n e).1 ∙ ap (λ z. z.size) (sym (exact t u n e).0); above = ltb-true 0 n (and_parts (nat_lt 0 n) (nat_le n 65536) q).0 }
+    by false q = tt

@@ -1,0 +1,26 @@
+use Rattle.std.proofs.Common.{map, refl}
+use Rattle.gb_terms.specs.declared.term.Head.TheVariants as head
+use Rattle.gb_eval.specs.Totals.{total_of}
+use Rattle.gb_eval.proofs.Layers.{total_at, total_other, uniform_total}
+use Rattle.gb_eval.proofs.Stops.{gives_as}
+use Rattle.gb_eval.proofs.total.+total.Goals as goal
+
+pub operator_total-returns-in-Distr-clause-value : goal.operator_total-returns-in-Distr-clause-value
+operator_total-returns-in-Distr-clause-value t c =
+    gives_as (λ x. x) _ _ c.number_of_outcomes.result (uniform_total c.args.op c.args.ty.now c.in-Distr.outcomes c.get.result.now c.in-Uniform.is c.in-Distr.is c.get.ensures (map total_of c.args.args.now)) c.number_of_outcomes.ensures.value
+
+pub total-returns-in-Builtin-clause-value : goal.total-returns-in-Builtin-clause-value
+total-returns-in-Builtin-clause-value t c =
+    gives_as (λ x. x) _ _ c.operator_total.result
+    (total_at c.args.t.now c.get.result.now c.as_slice-args.result.now c.get-in-Builtin.result.now c.get.ensures c.as_slice-args.ensures c.get-in-Builtin.ensures (head.Builtin c.in-Builtin.op) c.in-Builtin.is)
+    c.operator_total.ensures.value
+
+pub total-returns-in-Restrict-clause-value : goal.total-returns-in-Restrict-clause-value
+total-returns-in-Restrict-clause-value t c =
+    gives_as (λ x. x) _ _ c.of_first.result
+    (total_at c.args.t.now c.get.result.now c.as_slice-args.result.now _ c.get.ensures c.as_slice-args.ensures refl head.Restrict c.in-Restrict.is)
+    c.of_first.ensures.value
+
+pub total-returns-in_default : goal.total-returns-in_default
+total-returns-in_default t c =
+    record { value = total_other c.args.t.now c.get.result.now c.as_slice-args.result.now _ c.get.ensures c.as_slice-args.ensures refl c.in_default.not-Builtin c.in_default.not-Restrict; above = tt; small = tt }

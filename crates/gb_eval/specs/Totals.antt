@@ -1,0 +1,51 @@
+-- Denominators of distributions, as evaluation reads them from the tree alone.
+use Rattle.std.specs.Prelude.{ℕ, ◌*◌, ◌&&◌, nat_lt, nat_le, if◌then◌else◌, pos, List, [], ◌∷◌}
+use Rattle.gb_core.specs.declared.ty.Ty.{Ty}
+use Rattle.gb_core.specs.declared.value.Card.{Card}
+use Rattle.gb_core.specs.declared.value.Card.TheVariants.{Exact, Above}
+use Rattle.gb_types.specs.Types.{card_of}
+use Rattle.gb_terms.specs.declared.op.Op.{Op}
+use Rattle.gb_terms.specs.declared.op.Op.TheVariants as op
+use Rattle.gb_terms.specs.declared.term.Term.{Term, Term', Row_of-Term, end_of-Term, more_of-Term, end_of-Head, more_of-Head}
+use Rattle.gb_terms.specs.declared.term.Head.{Head}
+use Rattle.gb_terms.specs.declared.term.Head.TheVariants as head
+use Rattle.gb_num.specs.Operations.{product_of}
+use Rattle.gb_meaning.specs.Operators.{outcome_type}
+use Rattle.gb_eval.specs.Findings.{Comes, ◌>>=◌, after}
+use Rattle.gb_eval.specs.Findings.Comes.{found, unknown}
+
+abbrev pub number_of_outcomes : Card → Comes ℕ
+number_of_outcomes (Exact n) = if nat_lt 0 n && nat_le n 65536 then found n else unknown
+number_of_outcomes Above = unknown
+
+-- the product of two denominators
+abbrev pub multiplied : List (Comes ℕ) → Comes ℕ
+multiplied (x ∷ y ∷ []) = x >>= λ m. y >>= λ n. after (product_of (pos m) (pos n) ∷ []) (m * n)
+multiplied _ = unknown
+
+abbrev pub operator_total : Op → Ty → List (Comes ℕ) → Comes ℕ
+operator_total op.Coin ty ks = found 2
+operator_total op.Uniform ty ks = number_of_outcomes (card_of (outcome_type ty))
+operator_total op.Dunit ty ks = found 1
+operator_total op.Product ty ks = multiplied ks
+operator_total op.If ty (i ∷ ks) = multiplied ks
+operator_total _ ty ks = unknown
+
+-- that of the first of two arguments
+abbrev pub of_first : List (Comes ℕ) → Comes ℕ
+of_first (k ∷ b ∷ []) = k
+of_first _ = unknown
+
+abbrev pub head_total : Head → Ty → List (Comes ℕ) → Comes ℕ
+head_total (head.Builtin o) ty ks = operator_total o ty ks
+head_total head.Restrict ty ks = of_first ks
+head_total _ ty ks = unknown
+
+abbrev mutual
+  -- the denominator of a distribution
+  pub total_of : Term → Comes ℕ
+  total_of (Term' p (more_of-Head h end_of-Head) n ts ty) = head_total h ty (totals_of ts)
+
+  pub totals_of : {n : _} → Row_of-Term n → List (Comes ℕ)
+  totals_of end_of-Term = []
+  totals_of (more_of-Term t ts) = total_of t ∷ totals_of ts

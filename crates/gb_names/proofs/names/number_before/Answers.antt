@@ -1,0 +1,20 @@
+use Rattle.std.proofs.Common.{◌≡◌, ℕ, suc, ◌+◌, ◌<◌, Bool, true, false, if◌then◌else◌, List, length, get_or, drop, bytes_eq, ap, sym, ◌∙◌, arith}
+use Rattle.gb_terms.specs.declared.decl.TypedName.{TypedName}
+use Rattle.gb_names.specs.Names.{number_before}
+use Rattle.gb_names.proofs.Parts.{left}
+use Rattle.gb_names.proofs.names.number_before.Goals as goal
+
+-- the number from an element on
+at : (vs : List TypedName) (x : List ℕ) (i : ℕ) (v : TypedName) (b : Bool) → i < length vs → v ≡ get_or vs i v → bytes_eq (get_or vs i v).name x ≡ b
+    → number_before (drop i vs) x ≡ (if b then 0 else suc (number_before (drop (i + 1) vs) x))
+at vs x i v b h e t = ap (λ us. number_before us x) (left vs i v h e) ∙ ap (λ c. if c then 0 else suc (number_before (drop (i + 1) vs) x)) (ap (λ u. bytes_eq u.name x) e ∙ t)
+
+pub returns-then-eq : goal.returns-then-eq
+returns-then-eq c =
+    let e = at c.args.list.now c.args.name.now c.loop-i.i c.index-list-i.result true (omega arith) c.index-list-i.is (sym c.eq.ensures ∙ c.if-eq.true) in
+    omega (arith, e, c.loop-i.invariant)
+
+pub loop-i-preserved : goal.loop-i-preserved
+loop-i-preserved c =
+    let e = at c.args.list.now c.args.name.now c.loop-i.i c.index-list-i.result false (omega arith) c.index-list-i.is (sym c.eq.ensures ∙ c.if-eq.false) in
+    omega (arith, e, c.loop-i.invariant)

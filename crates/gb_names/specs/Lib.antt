@@ -1,0 +1,7 @@
+pub mod Wanted
+pub mod Types
+pub mod Environment
+pub mod Names
+pub mod Binders
+pub mod Allowed
+pub mod Judgments

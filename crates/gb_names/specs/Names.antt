@@ -1,0 +1,182 @@
+-- What a name means where it stands.
+use Rattle.std.specs.Prelude.{ℕ, suc, Bool, true, false, ◌||◌, if◌then◌else◌, List, [], ◌∷◌, ◌++◌, Option, Some, None, is_some, find, codes, bytes_eq}
+use Rattle.std.specs.Option.{option_map, option_map_or}
+use Rattle.std.specs.List.{list_any}
+use Rattle.gb_core.specs.declared.place.Place.{Place}
+use Rattle.gb_core.specs.declared.refusal.Why.{Why}
+use Rattle.gb_core.specs.declared.refusal.Why.TheVariants.{UnknownName, Argument}
+use Rattle.gb_core.specs.declared.ty.Ty.TheVariants.{Unit as unit_ty}
+use Rattle.gb_core.specs.declared.value.Value.TheVariants.{Num}
+use Rattle.gb_core.specs.declared.var.Var.TheVariants.{Local}
+use Rattle.gb_terms.specs.declared.decl.TypedName.{TypedName}
+use Rattle.gb_terms.specs.declared.op.Side.{Side}
+use Rattle.gb_terms.specs.declared.op.Side.TheVariants as side
+use Rattle.gb_terms.specs.declared.op.Read.TheVariants as read
+use Rattle.gb_terms.specs.declared.term.Term.{Term}
+use Rattle.gb_terms.specs.declared.term.Head.TheVariants.{Lit, Read, Bound}
+use Rattle.gb_terms.specs.Make.{node}
+use Rattle.gb_goal.specs.declared.sequent.Sequent.{Sequent}
+use Rattle.gb_goal.specs.declared.scope.Constant.{Constant}
+use Rattle.gb_goal.specs.declared.scope.OperatorType.{OperatorType}
+use Rattle.gb_goal.specs.Scope.{constant_named, entry_of, operator_named}
+use Rattle.gb_script.specs.declared.head.Head.{Head}
+use Rattle.gb_script.specs.declared.head.Head.TheVariants as head
+use Rattle.gb_script.specs.declared.tree.Node.{Node}
+use Rattle.gb_script.specs.Tree.{text_of, place_of}
+use Rattle.gb_names.specs.declared.setting.Language.{Language}
+use Rattle.gb_names.specs.declared.setting.Language.TheVariants.{Formula, Function}
+use Rattle.gb_names.specs.declared.names.Known.{Known}
+use Rattle.gb_names.specs.declared.names.Known.TheVariants as known
+use Rattle.gb_goal.specs.Answers.{Answer, ◌>>=◌, given_or, not_built}
+use Rattle.gb_names.specs.Wanted.{counted}
+use Rattle.gb_goal.specs.Answers.Answer.{given, refused}
+use Rattle.gb_names.specs.Environment.{Name, Environment, own, on_side}
+
+-- a name with further words behind it, a dot before each
+abbrev pub dotted : Name → List Node → Name
+dotted x [] = x
+dotted x (y ∷ ys) = dotted ((x ++ codes ".") ++ text_of y) ys
+
+-- the name that some words are
+abbrev pub path : List Node → Name
+path [] = []
+path (x ∷ xs) = dotted (text_of x) xs
+
+-- the first thing of this name
+abbrev pub first_named : List TypedName → Name → Option TypedName
+first_named vs x = find (λ v. bytes_eq v.name x) vs
+
+-- how many things stand before the first of this name
+abbrev pub number_before : List TypedName → Name → ℕ
+number_before [] x = 0
+number_before (v ∷ vs) x = if bytes_eq v.name x then 0 else suc (number_before vs x)
+
+-- the one value of `unit`
+abbrev pub unit : Term
+unit = node (Lit (Num 0)) [] unit_ty
+
+-- the built-in thing of a name
+unfoldable pub built_in : Name → Option Known
+built_in x =
+    if bytes_eq x (codes "true") then Some known.True
+    else if bytes_eq x (codes "false") then Some known.False
+    else if bytes_eq x (codes "tt") then Some known.Unit
+    else if bytes_eq x (codes "None") then Some known.None
+    else if bytes_eq x (codes "empty") then Some known.Empty
+    else if bytes_eq x (codes "Some") then Some known.Some
+    else if bytes_eq x (codes "oget") then Some known.Oget
+    else if bytes_eq x (codes "dunit") then Some known.Dunit
+    else if bytes_eq x (codes "dmap") then Some known.Dmap
+    else if bytes_eq x (codes "drestrict") then Some known.Drestrict
+    else if bytes_eq x (codes "mu") then Some known.Mu
+    else if bytes_eq x (codes "mu1") then Some known.Mu1
+    else if bytes_eq x (codes "sum") then Some known.Sum else None
+
+-- a variable that is bound below so many other binders
+abbrev pub bound_variable : ℕ → TypedName → Answer Term
+bound_variable n v = do
+  i ← counted n
+  given (node (Bound i) [] v.ty)
+
+-- the logical variable at this place of the context
+abbrev pub logical_variable : ℕ → TypedName → Answer Term
+logical_variable n v = do
+  i ← counted n
+  given (node (Read (read.Logical i)) [] v.ty)
+
+-- a read of a program variable through a memory
+abbrev pub program_variable : Side → TypedName → Term
+program_variable s v = node (Read (read.Program (Local v.name) s)) [] v.ty
+
+-- a memory, an abstract module or a hypothesis of the context has this name
+abbrev pub names_no_value : Sequent → Name → Bool
+names_no_value s x =
+    list_any (λ m. bytes_eq m x) s.memories
+    || list_any (λ m. bytes_eq m.name x) s.modules
+    || list_any (λ h. bytes_eq h.name x) s.hyps
+
+-- a thing that is no variable has this name
+abbrev pub names_other : Environment → Name → Bool
+names_other at x = names_no_value at.sequent x || is_some (entry_of at.declared x)
+
+-- a name that no variable has
+abbrev pub unbound : Environment → Name → Place → Answer Term
+unbound at x p = if names_other at x then refused Argument p else refused (UnknownName x) p
+
+-- A name without a side is that of a variable that is bound in the form, the innermost first, of a variable of the
+-- program around, or of a logical variable of the context.
+unfoldable pub named : Environment → List TypedName → Name → Place → Answer Term
+named at bound x p =
+    option_map_or (bound_variable (number_before bound x))
+    (first_named bound x)
+    (option_map_or (λ v. given (program_variable side.Own v))
+    (first_named (own at) x)
+    (option_map_or (logical_variable (number_before at.sequent.logical x)) (first_named at.sequent.logical x) (unbound at x p)))
+
+-- a logical variable, bound in the form or of the context, has this name
+abbrev pub is_variable : Environment → List TypedName → Name → Bool
+is_variable at bound x = is_some (first_named bound x) || is_some (first_named at.sequent.logical x)
+
+-- a thing that is nearer than the declarations has this name
+abbrev pub hidden : Environment → List TypedName → Name → Bool
+hidden at bound x = is_variable at bound x || (is_some (first_named (own at) x) || names_no_value at.sequent x)
+
+-- the built-in thing that a name means, where nothing else has it
+abbrev pub known_at : Environment → List TypedName → Name → Option Known
+known_at at bound x = if hidden at bound x || is_some (entry_of at.declared x) then None else built_in x
+
+-- the constant of an enumeration that a name means
+abbrev pub constant_at : Environment → List TypedName → Name → Option Constant
+constant_at at bound x = if hidden at bound x then None else constant_named at.declared x
+
+-- the operator of the script that a name means
+abbrev pub operator_at : Environment → List TypedName → Name → Option OperatorType
+operator_at at bound x = if hidden at bound x then None else operator_named at.declared x
+
+-- why a name means no variable of a program: another thing has it, or nothing
+abbrev pub no_variable : Environment → Name → Why
+no_variable at x =
+    if is_some (first_named at.sequent.logical x) || names_other at x || is_some (built_in x) then Argument else UnknownName x
+
+-- the variable of the program around that has this name
+abbrev pub own_variable : Environment → Node → Answer TypedName
+own_variable at x = given_or (first_named (own at) (text_of x)) (no_variable at (text_of x)) (place_of x)
+
+-- a variable of one of two programs; a bound one has no side
+abbrev pub variable_on : Environment → List TypedName → Name → Side → Place → List TypedName → Answer Term
+variable_on at bound x s p vs =
+    if is_some (first_named bound x) then refused Argument p
+    else given_or (option_map (program_variable s) (first_named vs x)) (no_variable at x) p
+
+-- a name with a side
+unfoldable pub sided : Environment → List TypedName → Name → Side → Place → Answer Term
+sided at bound x s p = option_map_or (variable_on at bound x s p) (on_side at s) (refused Argument p)
+
+-- a name in a named memory: a variable of none is in a goal
+unfoldable pub in_memory : Environment → Name → Node → Place → Answer Term
+in_memory at x m p =
+    if list_any (λ n. bytes_eq n (text_of m)) at.sequent.memories then refused (no_variable at x) p
+    else refused (UnknownName (text_of m)) (place_of m)
+
+-- whether named memories may be read
+abbrev pub has_memories : Language → Bool
+has_memories Formula = true
+has_memories Function = true
+has_memories _ = false
+
+-- a name in a named memory
+abbrev pub remembered : Environment → Name → Node → Place → Answer Term
+remembered at x m p = if has_memories at.language then in_memory at x m p else refused Argument p
+
+-- the side of a number
+abbrev pub side_of : Name → Place → Answer Side
+side_of x p =
+    if bytes_eq x (codes "1") then given side.Left
+    else if bytes_eq x (codes "2") then given side.Right else not_built p
+
+-- a name with what stands behind it in braces: the number of a side, or the name of a memory
+abbrev pub beside : Head → Node → Environment → List TypedName → Name → Place → Answer Term
+beside head.Number s at bound x p = do
+  i ← side_of (text_of s) p
+  sided at bound x i p
+beside _ m at bound x p = remembered at x m p

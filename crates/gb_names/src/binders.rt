@@ -1,0 +1,230 @@
+// Bound variables and the quantifiers over them.
+
+ghost use Rattle.std.specs.Prelude.{◌≡◌, ◌||◌, [], ◌∷◌, ◌++◌, IfOk, bytes_eq, reverse};
+ghost use Rattle.std.specs.List.{list_any};
+ghost use Rattle.gb_goal.specs.Answers.{Answers, ◌>>=◌ as ◌and_then◌};
+ghost use Rattle.gb_goal.specs.Answers.Answer.{given};
+ghost use Rattle.gb_names.specs.Types.{type_of};
+ghost use Rattle.gb_script.specs.Tree.{head_of, parts_of, place_of, text_of};
+ghost use Rattle.gb_names.specs.Binders.{bound_by, bound_in, new_names, of_type, over, over_all, quantifier_of};
+
+use crate::refusals::{double, not_built};
+use crate::types::type_of;
+use gb_core::name::Name;
+use gb_core::place::Place;
+use gb_core::refusal::Refused;
+use gb_core::ty::Ty;
+use gb_goal::scope::Scope;
+use gb_script::head::Head;
+use gb_script::tree::Node;
+use gb_shared::Shared;
+use gb_terms::decl::{Typed, TypedName};
+use gb_terms::make;
+use gb_terms::share::copy_typed;
+use gb_terms::term::Form;
+use sqlite_items::Items;
+use std::alloc::{AllocError, Global};
+
+/// Whether a form speaks of all values of its variables, or of some.
+#[derive(Clone, Copy)]
+pub enum Quantifier {
+    Forall,
+    Exists,
+}
+
+/// The quantifier that a word is.
+pub fn quantifier_of(word: &Name, place: Place) -> Result<Quantifier, Refused>
+    ensures { Answers (quantifier_of word.now place) result }
+{
+    let text = word.as_str();
+    if text == "forall" {
+        Ok(Quantifier::Forall)
+    } else if text == "exists" {
+        Ok(Quantifier::Exists)
+    } else {
+        Err(not_built(place))
+    }
+}
+
+/// Names of one type.
+pub fn of_type(alloc: Global, names: &[Node], ty: &Shared<Ty>) -> Result<Typed, AllocError>
+    ensures { IfOk result (λ made. made ≡ of_type names.now ty.now) }
+{
+    let mut all = Items::new(alloc);
+    for x in names {
+        all.push(variable(alloc, &x.text, ty)?)?;
+    }
+    Ok(all)
+}
+
+/// A name of this type.
+pub fn variable(alloc: Global, name: &Name, ty: &Shared<Ty>) -> Result<TypedName, AllocError>
+    ensures { IfOk result (λ made. made ≡ record { name = name.now; ty = ty.now }) }
+{
+    let name = name.copy(alloc)?;
+    let ty = ty.share()?;
+    Ok(TypedName { name, ty })
+}
+
+/// The variables that are bound, in the order of the text.
+///
+/// # Errors
+///
+/// `DoubleName` of a name that one of them has already, those of `type_of`, and `Syntax` of a binder that isn't built.
+#[tactic(auto, unfolding(crate::specs::Binders::bound_by))]
+pub fn bound_by(alloc: Global, scope: &Scope, binds: &[Node]) -> Result<Typed, Refused>
+    ensures { Answers (bound_by scope.now [] binds.now) result }
+{
+    let mut all = Items::new(alloc);
+    for bind in binds {
+        let more = bound_in(
+            alloc,
+            scope,
+            all.as_slice(),
+            bind.head,
+            bind.parts.as_slice(),
+            bind.place,
+        )?;
+        all.append(more)?;
+    }
+    Ok(all)
+}
+
+/// The variables of one binder, from its head and its parts, beside others.
+fn bound_in(
+    alloc: Global,
+    scope: &Scope,
+    beside: &[TypedName],
+    head: Head,
+    parts: &[Node],
+    place: Place,
+) -> Result<Typed, Refused>
+    ensures { Answers (bound_in scope.now beside.now head parts.now place) result }
+{
+    match head {
+        Head::Values => match parts {
+            [first, more, ty] => {
+                new_names(alloc, beside, first, more.parts.as_slice())?;
+                typed_names(alloc, scope, first, more.parts.as_slice(), ty)
+            }
+            _ => Err(not_built(place)),
+        },
+        Head::Memory | Head::ModuleBind => match parts {
+            [name, ..] => Err(not_built(name.place)),
+            _ => Err(not_built(place)),
+        },
+        _ => Err(not_built(place)),
+    }
+}
+
+fn is_name_of(list: &[TypedName], name: &Name) -> bool
+    ensures { result ≡ list_any (λ v. bytes_eq v.name name.now) list.now }
+{
+    for x in list {
+        if x.name == *name {
+            return true;
+        }
+    }
+    false
+}
+
+fn is_word_of(list: &[Node], name: &Name) -> bool
+    ensures { result ≡ list_any (λ y. bytes_eq (text_of y) name.now) list.now }
+{
+    for x in list {
+        if x.text == *name {
+            return true;
+        }
+    }
+    false
+}
+
+/// Whether one of these has this name, or one of these words is it.
+fn is_bound(beside: &[TypedName], first: &Node, before: &[Node], name: &Name) -> bool
+    ensures { result ≡ (list_any (λ v. bytes_eq v.name name.now) beside.now || (bytes_eq (text_of first.now) name.now || list_any (λ y. bytes_eq (text_of y) name.now) before.now)) }
+{
+    is_name_of(beside, name) || (first.text == *name || is_word_of(before, name))
+}
+
+/// Refuses a name that is bound beside these, or is one of them twice.
+#[tactic(auto, unfolding(crate::specs::Binders::new_names))]
+fn new_names(
+    alloc: Global,
+    beside: &[TypedName],
+    first: &Node,
+    more: &[Node],
+) -> Result<(), Refused>
+    ensures { Answers (new_names beside.now [] (first.now ∷ more.now)) result }
+{
+    if is_name_of(beside, &first.text) {
+        return Err(double(alloc, &first.text, first.place));
+    }
+    for i in 0..more.len() {
+        let x = &more[i];
+        if is_bound(beside, first, &more[..i], &x.text) {
+            return Err(double(alloc, &x.text, x.place));
+        }
+    }
+    Ok(())
+}
+
+/// Words of the type that the text spells.
+fn typed_names(
+    alloc: Global,
+    scope: &Scope,
+    first: &Node,
+    more: &[Node],
+    ty: &Node,
+) -> Result<Typed, Refused>
+    ensures { Answers (type_of scope.now ty.now and_then λ t. given (of_type (first.now ∷ more.now) t)) result }
+{
+    let ty = type_of(alloc, scope, ty)?;
+    let mut all = Items::new(alloc);
+    all.push(variable(alloc, &first.text, &ty)?)?;
+    all.append(of_type(alloc, more, &ty)?)?;
+    Ok(all)
+}
+
+/// Variables, the last one first, and behind them those that are bound around them.
+pub fn within(alloc: Global, variables: Typed, bound: &[TypedName]) -> Result<Typed, AllocError>
+    ensures { IfOk result (λ made. made ≡ reverse variables ++ bound.now) }
+{
+    let mut rest = variables;
+    let mut all = Items::new(alloc);
+    while let Some(x) = rest.pop() {
+        all.push(x)?;
+    }
+    all.append(copy_typed(alloc, bound)?)?;
+    Ok(all)
+}
+
+/// The quantifiers over these variables, the first one innermost.
+pub fn over_all(
+    alloc: Global,
+    quantifier: Quantifier,
+    variables: &[TypedName],
+    body: Form,
+) -> Result<Form, AllocError>
+    ensures { IfOk result (λ made. made ≡ over_all quantifier (reverse variables.now) body) }
+{
+    let mut form = body;
+    for x in variables {
+        form = over(alloc, quantifier, &x.ty, form)?;
+    }
+    Ok(form)
+}
+
+fn over(
+    alloc: Global,
+    quantifier: Quantifier,
+    ty: &Shared<Ty>,
+    body: Form,
+) -> Result<Form, AllocError>
+    ensures { IfOk result (λ made. made ≡ over quantifier ty.now body) }
+{
+    let ty = ty.share()?;
+    match quantifier {
+        Quantifier::Forall => make::forall(alloc, ty, body),
+        Quantifier::Exists => make::exists(alloc, ty, body),
+    }
+}

@@ -1,0 +1,10 @@
+//! What names and types mean where they stand.
+#![tactic(auto)]
+
+pub mod allowed;
+pub mod binders;
+pub mod judgment;
+pub mod names;
+pub mod refusals;
+pub mod setting;
+pub mod types;

@@ -1,0 +1,440 @@
+// What a name means where it stands.
+
+ghost use Rattle.std.specs.Prelude.{◌≡◌, ◌++◌, Ok, IfOk, OnOk, bytes_eq, codes, string_bytes};
+ghost use Rattle.std.specs.List.{list_any};
+ghost use Rattle.std.specs.Option.{option_copied};
+ghost use Rattle.gb_script.specs.Tree.{head_of};
+ghost use Rattle.gb_goal.specs.Answers.{Answers, Fails, Gives, Refuses};
+ghost use Rattle.gb_names.specs.Wanted.{counted};
+ghost use Rattle.gb_goal.specs.Answers.Answer.{given};
+ghost use Rattle.gb_names.specs.Environment.{environment};
+ghost use Rattle.gb_names.specs.Names.{beside, remembered, side_of};
+ghost use Rattle.gb_names.specs.Names.{bound_variable, built_in, constant_at, dotted, first_named, hidden, in_memory, is_variable, known_at, logical_variable, named, names_no_value, names_other, no_variable, number_before, operator_at, own_variable, path, program_variable, sided, unbound, unit};
+
+use crate::refusals::{argument, not_built, too_many, unknown};
+use crate::setting::{Language, Setting};
+use gb_core::name::Name;
+use gb_core::place::Place;
+use gb_core::refusal::Refused;
+use gb_core::ty::Ty;
+use gb_core::value::Value;
+use gb_goal::scope::{Constant, OperatorType};
+use gb_goal::sequent::{Hyp, Sequent};
+use gb_script::head::Head as NodeHead;
+use gb_script::tree::Node;
+use gb_shared::Shared;
+use gb_terms::decl::TypedName;
+use gb_terms::make;
+use gb_terms::module::Bind;
+use gb_terms::op::Side;
+use gb_terms::term::{Head, Term};
+use std::alloc::{AllocError, Global};
+
+/// The most nodes of a formula.
+pub const NODES: u64 = 65_536;
+
+/// A dot and a name at the end of a path.
+pub fn append(path: &mut String, name: &Name) -> Result<(), AllocError>
+    ensures { OnOk result (string_bytes path.new ≡ (string_bytes path.old ++ codes ".") ++ name.now) }
+{
+    path.push_str(".")?;
+    path.push_str(name.as_str())
+}
+
+/// A name with further words behind it, a dot before each.
+fn dotted(alloc: Global, first: &Name, more: &[Node]) -> Result<Name, AllocError>
+    ensures { IfOk result (λ made. made ≡ dotted first.now more.now) }
+{
+    let mut text = String::from_str(alloc, first.as_str())?;
+    for word in more {
+        append(&mut text, &word.text)?;
+    }
+    Ok(Name::new(text))
+}
+
+/// The name that some words are, joined by dots.
+pub fn path(alloc: Global, words: &[Node]) -> Result<Name, AllocError>
+    ensures { IfOk result (λ made. made ≡ path words.now) }
+{
+    match words {
+        [] => Name::from_str(alloc, ""),
+        [first, more @ ..] => dotted(alloc, &first.text, more),
+    }
+}
+
+/// The first thing of this name in a list.
+fn first_named<'a>(list: &'a [TypedName], name: &Name) -> Option<&'a TypedName>
+    ensures { option_copied result ≡ first_named list.now name.now }
+{
+    for x in list {
+        if x.name == *name {
+            return Some(x);
+        }
+    }
+    None
+}
+
+/// How many things stand before the first of this name.
+fn number_before(list: &[TypedName], name: &Name) -> usize
+    ensures { result ≡ number_before list.now name.now }
+{
+    for i in 0..list.len() {
+        if list[i].name == *name {
+            return i;
+        }
+    }
+    list.len()
+}
+
+/// A number of things as a term counts them. More are past the nodes of a formula.
+fn counted(n: usize) -> Result<u32, Refused>
+    ensures { Answers (counted n) result }
+{
+    if n < 0x1_0000_0000 {
+        Ok(n as u32)
+    } else {
+        Err(too_many(NODES))
+    }
+}
+
+/// A variable that is bound below so many other binders.
+fn bound_variable(alloc: Global, between: usize, x: &TypedName) -> Result<Term, Refused>
+    ensures { Answers (bound_variable between x.now) result }
+{
+    let between = counted(between)?;
+    let ty = x.ty.share()?;
+    make::leaf(alloc, Head::Bound(between), ty).map_err(Refused::from)
+}
+
+/// The logical variable at this place of the context.
+fn logical_variable(alloc: Global, at: usize, x: &TypedName) -> Result<Term, Refused>
+    ensures { Answers (logical_variable at x.now) result }
+{
+    let at = counted(at)?;
+    let ty = x.ty.share()?;
+    make::logical(alloc, at, ty).map_err(Refused::from)
+}
+
+/// A read of this program variable through a memory.
+fn program_variable(alloc: Global, x: &TypedName, side: Side) -> Result<Term, Refused>
+    ensures { Answers (given (program_variable side x.now)) result }
+{
+    let name = x.name.copy(alloc)?;
+    let ty = x.ty.share()?;
+    make::program(alloc, name, side, ty).map_err(Refused::from)
+}
+
+/// A built-in constant or operator.
+#[derive(Clone, Copy)]
+pub enum Known {
+    True,
+    False,
+    Unit,
+    None,
+    Empty,
+    Some,
+    Oget,
+    Dunit,
+    Dmap,
+    Drestrict,
+    Mu,
+    Mu1,
+    Sum,
+}
+
+/// The built-in thing of this name.
+#[tactic(auto, unfolding(crate::specs::Names::built_in))]
+fn built_in(name: &Name) -> Option<Known>
+    ensures { result ≡ built_in name.now }
+{
+    match name.as_str() {
+        "true" => Some(Known::True),
+        "false" => Some(Known::False),
+        "tt" => Some(Known::Unit),
+        "None" => Some(Known::None),
+        "empty" => Some(Known::Empty),
+        "Some" => Some(Known::Some),
+        "oget" => Some(Known::Oget),
+        "dunit" => Some(Known::Dunit),
+        "dmap" => Some(Known::Dmap),
+        "drestrict" => Some(Known::Drestrict),
+        "mu" => Some(Known::Mu),
+        "mu1" => Some(Known::Mu1),
+        "sum" => Some(Known::Sum),
+        _ => None,
+    }
+}
+
+/// The one value of `unit`.
+pub fn unit(alloc: Global) -> Result<Term, Refused>
+    ensures { Answers (given unit) result }
+{
+    let ty = Shared::new(alloc, Ty::Unit)?;
+    make::leaf(alloc, Head::Lit(Value::Num(0)), ty).map_err(Refused::from)
+}
+
+fn is_among(list: &[Name], name: &Name) -> bool
+    ensures { result ≡ list_any (λ x. bytes_eq x name.now) list.now }
+{
+    for x in list {
+        if *x == *name {
+            return true;
+        }
+    }
+    false
+}
+
+fn is_module(list: &[Bind], name: &Name) -> bool
+    ensures { result ≡ list_any (λ x. bytes_eq x.name name.now) list.now }
+{
+    for x in list {
+        if x.name == *name {
+            return true;
+        }
+    }
+    false
+}
+
+fn is_hyp(list: &[Hyp], name: &Name) -> bool
+    ensures { result ≡ list_any (λ x. bytes_eq x.name name.now) list.now }
+{
+    for x in list {
+        if x.name == *name {
+            return true;
+        }
+    }
+    false
+}
+
+/// Whether a memory, an abstract module or a hypothesis of the context has this name.
+fn names_no_value(s: &Sequent, name: &Name) -> bool
+    ensures { result ≡ names_no_value s.now name.now }
+{
+    is_among(s.memories.as_slice(), name)
+        || is_module(s.modules.as_slice(), name)
+        || is_hyp(s.hyps.as_slice(), name)
+}
+
+/// Whether a thing that is no variable has this name.
+fn names_other(at: &Setting<'_>, name: &Name) -> bool
+    ensures { result ≡ names_other (environment at.now) name.now }
+{
+    names_no_value(at.sequent, name) || at.scope.entry(name).is_some()
+}
+
+/// The refusal of a name that no variable has.
+fn unbound(alloc: Global, at: &Setting<'_>, name: &Name, place: Place) -> Refused
+    ensures { Fails (unbound (environment at.now) name.now place) result }
+{
+    if names_other(at, name) {
+        argument(place)
+    } else {
+        unknown(alloc, name, place)
+    }
+}
+
+/// The meaning of a name without a side. Where two programs are around, their variables have none without it.
+///
+/// # Errors
+///
+/// `UnknownName` where nothing has the name, and `Argument` where it is no value's.
+#[tactic(auto, unfolding(crate::specs::Names::named))]
+pub fn named(
+    alloc: Global,
+    at: &Setting<'_>,
+    bound: &[TypedName],
+    name: &Name,
+    place: Place,
+) -> Result<Term, Refused>
+    ensures { Answers (named (environment at.now) bound.now name.now place) result }
+{
+    if let Some(x) = first_named(bound, name) {
+        return bound_variable(alloc, number_before(bound, name), x);
+    }
+    if let Some(x) = first_named(at.own(), name) {
+        return program_variable(alloc, x, Side::Own);
+    }
+    let logical = at.sequent.logical.as_slice();
+    if let Some(x) = first_named(logical, name) {
+        return logical_variable(alloc, number_before(logical, name), x);
+    }
+    Err(unbound(alloc, at, name, place))
+}
+
+/// Whether a logical variable, bound in the form or of the context, has this name.
+pub fn is_variable(at: &Setting<'_>, bound: &[TypedName], name: &Name) -> bool
+    ensures { result ≡ is_variable (environment at.now) bound.now name.now }
+{
+    first_named(bound, name).is_some() || first_named(at.sequent.logical.as_slice(), name).is_some()
+}
+
+/// Whether a thing that is nearer than the declarations has this name.
+fn hidden(at: &Setting<'_>, bound: &[TypedName], name: &Name) -> bool
+    ensures { result ≡ hidden (environment at.now) bound.now name.now }
+{
+    is_variable(at, bound, name)
+        || first_named(at.own(), name).is_some()
+        || names_no_value(at.sequent, name)
+}
+
+/// The built-in thing that a name means, where nothing else has it.
+pub fn known_at(at: &Setting<'_>, bound: &[TypedName], name: &Name) -> Option<Known>
+    ensures { result ≡ known_at (environment at.now) bound.now name.now }
+{
+    if hidden(at, bound, name) || at.scope.entry(name).is_some() {
+        None
+    } else {
+        built_in(name)
+    }
+}
+
+/// The constant of an enumeration that a name means.
+pub fn constant_at<'a>(at: &Setting<'a>, bound: &[TypedName], name: &Name) -> Option<&'a Constant>
+    ensures { option_copied result ≡ constant_at (environment at.now) bound.now name.now }
+{
+    if hidden(at, bound, name) {
+        None
+    } else {
+        at.scope.constant_named(name)
+    }
+}
+
+/// The operator of the script that a name means.
+pub fn operator_at(
+    at: &Setting<'_>,
+    bound: &[TypedName],
+    name: &Name,
+) -> Result<Option<OperatorType>, AllocError>
+    ensures { IfOk result (λ found. found ≡ operator_at (environment at.now) bound.now name.now) }
+{
+    if hidden(at, bound, name) {
+        Ok(None)
+    } else {
+        at.scope.operator_named(name)
+    }
+}
+
+/// Why a name means no variable of a program: something else has it, or nothing.
+fn no_variable(alloc: Global, at: &Setting<'_>, name: &Name, place: Place) -> Refused
+    ensures { Refuses (no_variable (environment at.now) name.now) place result }
+{
+    let logical = at.sequent.logical.as_slice();
+    if first_named(logical, name).is_some() || names_other(at, name) || built_in(name).is_some() {
+        argument(place)
+    } else {
+        unknown(alloc, name, place)
+    }
+}
+
+/// The variable of the program around that has this name.
+///
+/// # Errors
+///
+/// `UnknownName` where nothing has the name, `Argument` where another thing has it.
+pub fn own_variable<'a>(
+    alloc: Global,
+    at: &'a Setting<'_>,
+    x: &Node,
+) -> Result<&'a TypedName, Refused>
+    ensures { Gives (λ v. v.now) (own_variable (environment at.now) x.now) result }
+{
+    match first_named(at.own(), &x.text) {
+        Some(variable) => Ok(variable),
+        None => Err(no_variable(alloc, at, &x.text, x.place)),
+    }
+}
+
+/// The meaning of a name with a side.
+///
+/// # Errors
+///
+/// `Argument` where there is no such memory and where the name is another thing's, `UnknownName` where nothing has it.
+#[tactic(auto, unfolding(crate::specs::Names::sided))]
+pub fn sided(
+    alloc: Global,
+    at: &Setting<'_>,
+    bound: &[TypedName],
+    name: &Name,
+    side: Side,
+    place: Place,
+) -> Result<Term, Refused>
+    ensures { Answers (sided (environment at.now) bound.now name.now side place) result }
+{
+    let Some(locals) = at.on_side(side) else {
+        return Err(argument(place));
+    };
+    if first_named(bound, name).is_some() {
+        return Err(argument(place));
+    }
+    match first_named(locals, name) {
+        Some(x) => program_variable(alloc, x, side),
+        None => Err(no_variable(alloc, at, name, place)),
+    }
+}
+
+/// The refusal of a read through a named memory: no proof step that is built brings a variable of one into a goal.
+///
+/// # Errors
+///
+/// `UnknownName` where there is no such memory and where nothing has the name, `Argument` where another thing has it.
+#[tactic(auto, unfolding(crate::specs::Names::in_memory))]
+fn in_memory(alloc: Global, at: &Setting<'_>, name: &Name, memory: &Node, place: Place) -> Refused
+    ensures { Fails (in_memory (environment at.now) name.now memory.now place) result }
+{
+    if is_among(at.sequent.memories.as_slice(), &memory.text) {
+        no_variable(alloc, at, name, place)
+    } else {
+        unknown(alloc, &memory.text, memory.place)
+    }
+}
+
+/// The refusal of a read through a named memory. A program expression has none.
+fn remembered(
+    alloc: Global,
+    at: &Setting<'_>,
+    name: &Name,
+    memory: &Node,
+    place: Place,
+) -> Result<Term, Refused>
+    ensures { Answers (remembered (environment at.now) name.now memory.now place) result }
+{
+    match at.language {
+        Language::Formula | Language::Function => { Err(in_memory(alloc, at, name, memory, place)) }
+        Language::Program | Language::Sampled | Language::Operator => Err(argument(place)),
+    }
+}
+
+/// The side of a number.
+fn side_of(number: &Name, place: Place) -> Result<Side, Refused>
+    ensures { Answers (side_of number.now place) result }
+{
+    let text = number.as_str();
+    if text == "1" {
+        Ok(Side::Left)
+    } else if text == "2" {
+        Ok(Side::Right)
+    } else {
+        Err(not_built(place))
+    }
+}
+
+/// The meaning of a name with what stands behind it in braces: the number of a side, or the name of a memory.
+///
+/// # Errors
+///
+/// Those of `sided`, and `UnknownName` and `Argument` of a memory's name, which no program expression has.
+pub fn beside(
+    alloc: Global,
+    at: &Setting<'_>,
+    bound: &[TypedName],
+    name: &Name,
+    behind: &Node,
+    place: Place,
+) -> Result<Term, Refused>
+    ensures { Answers (beside (head_of behind.now) behind.now (environment at.now) bound.now name.now place) result }
+{
+    match behind.head {
+        NodeHead::Number => sided(alloc, at, bound, name, side_of(&behind.text, place)?, place),
+        _ => remembered(alloc, at, name, behind, place),
+    }
+}

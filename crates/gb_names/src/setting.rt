@@ -1,0 +1,231 @@
+// Where a form stands.
+
+ghost use Rattle.std.specs.Prelude.{◌≡◌};
+ghost use Rattle.std.specs.Option.{option_copied};
+ghost use Rattle.gb_names.specs.Environment.{environment, ambient, unary, relational, of_function, of_operator, program, own_of, sampled, sampled_in, sides_of};
+
+use gb_goal::scope::Scope;
+use gb_goal::sequent::Sequent;
+use gb_terms::decl::TypedName;
+use gb_terms::op::Side;
+use std::marker::Model;
+
+/// What the names of a form mean: the declarations of the script, the context of the sequent around it (an empty one
+/// where there is none), the program variables that it may read, and which language it is written in.
+#[derive(Drop)]
+pub struct Setting<'a> {
+    pub scope: &'a Scope,
+    pub sequent: &'a Sequent,
+    pub variables: Variables<'a>,
+    pub language: Language,
+}
+
+/// The program variables that are not globals and that a form may read, with their types.
+#[derive(Drop)]
+pub enum Variables<'a> {
+    /// None, as in an ambient form.
+    Absent,
+    /// Those of one program, read by their names alone.
+    Own(Borrowed<'a, TypedName>),
+    /// Those of two programs, each read with its side.
+    Sides {
+        left: Borrowed<'a, TypedName>,
+        right: Borrowed<'a, TypedName>,
+    },
+}
+
+/// A list that is held elsewhere. Contracts see its elements.
+#[derive(Drop)]
+pub struct Borrowed<'a, T> {
+    list: &'a [T],
+}
+
+impl<'a, T> Model for Borrowed<'a, T> {
+    ghost use Rattle.std.specs.Prelude.{List};
+    ghost use Rattle.std.specs.Coded.{coded_list};
+
+    ghost Value = { List T };
+
+    ghost coded = { coded_list T.code };
+
+    ghost view = { λ b. b.list.now };
+}
+
+impl<'a, T> Borrowed<'a, T> {
+    fn as_slice(&self) -> &'a [T]
+        ensures { result.now ≡ self.now }
+    {
+        self.list
+    }
+
+    fn again(&self) -> Borrowed<'a, T>
+        ensures { result ≡ self.now }
+    {
+        Borrowed { list: self.list }
+    }
+}
+
+/// Program expressions have no quantifier, judgment or side, and a distribution only where one is sampled. A function of a
+/// proof step is put in where the memories of a judgment are bound, so it has no judgment of its own.
+#[derive(Clone, Copy, PartialEq, Eq)]
+pub enum Language {
+    Formula,
+    Function,
+    Program,
+    /// A distribution that a program samples, of whatever type.
+    Sampled,
+    /// The body of an operator, which has no memory and no judgment.
+    Operator,
+}
+
+impl Language {
+    fn sampled(self) -> Language
+        ensures { result ≡ sampled_in self }
+    {
+        match self {
+            Language::Program => Language::Sampled,
+            other => other,
+        }
+    }
+}
+
+impl<'a> Variables<'a> {
+    fn borrow(&self) -> Variables<'a>
+        ensures { result ≡ self.now }
+    {
+        match self {
+            Variables::Absent => Variables::Absent,
+            Variables::Own(own) => Variables::Own(own.again()),
+            Variables::Sides { left, right } => Variables::Sides {
+                left: left.again(),
+                right: right.again(),
+            },
+        }
+    }
+}
+
+impl<'a> Setting<'a> {
+    /// The setting of a form that reads no program variable.
+    pub fn ambient(scope: &'a Scope, sequent: &'a Sequent) -> Setting<'a>
+        ensures { environment result ≡ ambient scope.now sequent.now }
+    {
+        Setting {
+            scope,
+            sequent,
+            variables: Variables::Absent,
+            language: Language::Formula,
+        }
+    }
+
+    /// The setting of a form on one program with these variables.
+    pub fn unary(scope: &'a Scope, sequent: &'a Sequent, variables: &'a [TypedName]) -> Setting<'a>
+        ensures { environment result ≡ unary scope.now sequent.now variables.now }
+    {
+        Setting {
+            scope,
+            sequent,
+            variables: Variables::Own(Borrowed { list: variables }),
+            language: Language::Formula,
+        }
+    }
+
+    /// The setting of a form on two programs with these variables.
+    pub fn relational(
+        scope: &'a Scope,
+        sequent: &'a Sequent,
+        left: &'a [TypedName],
+        right: &'a [TypedName],
+    ) -> Setting<'a>
+        ensures { environment result ≡ relational scope.now sequent.now left.now right.now }
+    {
+        let (left, right) = (Borrowed { list: left }, Borrowed { list: right });
+        Setting {
+            scope,
+            sequent,
+            variables: Variables::Sides { left, right },
+            language: Language::Formula,
+        }
+    }
+
+    /// The setting of a function of a proof step, on two programs with these variables.
+    pub fn function(
+        scope: &'a Scope,
+        sequent: &'a Sequent,
+        left: &'a [TypedName],
+        right: &'a [TypedName],
+    ) -> Setting<'a>
+        ensures { environment result ≡ of_function scope.now sequent.now left.now right.now }
+    {
+        let (left, right) = (Borrowed { list: left }, Borrowed { list: right });
+        Setting {
+            scope,
+            sequent,
+            variables: Variables::Sides { left, right },
+            language: Language::Function,
+        }
+    }
+
+    /// The setting of the body of an operator.
+    pub fn operator(scope: &'a Scope, sequent: &'a Sequent) -> Setting<'a>
+        ensures { environment result ≡ of_operator scope.now sequent.now }
+    {
+        Setting {
+            scope,
+            sequent,
+            variables: Variables::Absent,
+            language: Language::Operator,
+        }
+    }
+
+    /// The setting of an expression of a program with these variables.
+    pub fn program(
+        scope: &'a Scope,
+        sequent: &'a Sequent,
+        variables: &'a [TypedName],
+    ) -> Setting<'a>
+        ensures { environment result ≡ program scope.now sequent.now variables.now }
+    {
+        Setting {
+            scope,
+            sequent,
+            variables: Variables::Own(Borrowed { list: variables }),
+            language: Language::Program,
+        }
+    }
+
+    /// The setting of a distribution that is sampled where a form is, of whatever type.
+    pub fn sampled(&self) -> Setting<'a>
+        ensures { environment result ≡ sampled (environment self.now) }
+    {
+        Setting {
+            scope: self.scope,
+            sequent: self.sequent,
+            variables: self.variables.borrow(),
+            language: self.language.sampled(),
+        }
+    }
+
+    /// The variables that are read by their names alone.
+    pub fn own(&self) -> &[TypedName]
+        ensures { result.now ≡ own_of self.now.variables }
+    {
+        match &self.variables {
+            Variables::Own(own) => own.as_slice(),
+            _ => &[],
+        }
+    }
+
+    /// The variables of the left program or of the right one, where there are two.
+    pub fn on_side(&self, side: Side) -> Option<&[TypedName]>
+        ensures { option_copied result ≡ sides_of self.now.variables side }
+    {
+        match &self.variables {
+            Variables::Sides { left, right } => match side {
+                Side::Left => Some(left.as_slice()),
+                Side::Right => Some(right.as_slice()),
+                _ => None,
+            },
+            _ => None,
+        }
+    }
+}
