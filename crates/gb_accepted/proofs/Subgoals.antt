@@ -12,9 +12,9 @@ use Rattle.gb_goal.specs.Goal.Goal.{ambient}
 use Rattle.gb_goal.specs.Rows.{Row, refusing, each_concluding, answered, stepped}
 use Rattle.gb_goal.specs.Scope.{Declarations}
 use Rattle.gb_goal.specs.declared.sequent.Sequent.{Sequent}
-use Rattle.gb_goal.specs.declared.step.AmbientRule.{AmbientRule}
-use Rattle.gb_goal.specs.declared.step.Rule.{Rule}
-use Rattle.gb_goal.specs.declared.step.Rule.TheVariants as rule
+use Rattle.gb_steps.specs.declared.step.AmbientRule.{AmbientRule}
+use Rattle.gb_steps.specs.declared.step.Rule.{Rule}
+use Rattle.gb_steps.specs.declared.step.Rule.TheVariants as rule
 use Rattle.gb_holds.specs.Declared.{declared}
 use Rattle.gb_holds.specs.Holds.{Holds}
 use Rattle.gb_holds.specs.Truth.{has_module}

@@ -9,8 +9,8 @@ use Rattle.gb_terms.specs.declared.term.Head.TheVariants.{Builtin}
 use Rattle.gb_goal.specs.Answers.{Answer}
 use Rattle.gb_goal.specs.Answers.Answer.{given, refused}
 use Rattle.gb_goal.specs.declared.sequent.Sequent.{Sequent}
-use Rattle.gb_goal.specs.declared.step.AmbientRule.{AmbientRule}
-use Rattle.gb_goal.specs.declared.step.AmbientRule.TheVariants.{Split, Left, Right}
+use Rattle.gb_steps.specs.declared.step.AmbientRule.{AmbientRule}
+use Rattle.gb_steps.specs.declared.step.AmbientRule.TheVariants.{Split, Left, Right}
 use Rattle.gb_rules.specs.Forms.{implies_form}
 
 -- the parts of a conclusion with this head and these arguments: those of a conjunction or of an equivalence, or one side of a

@@ -11,8 +11,8 @@ use Rattle.gb_goal.specs.Answers.Answer.{given, refused}
 use Rattle.gb_goal.specs.Goal.{judges_bodies}
 use Rattle.gb_goal.specs.declared.sequent.Hyp.{Hyp}
 use Rattle.gb_goal.specs.declared.sequent.Sequent.{Sequent}
-use Rattle.gb_goal.specs.declared.step.AmbientRule.{AmbientRule}
-use Rattle.gb_goal.specs.declared.step.AmbientRule.TheVariants.{Assumption, Case, Have}
+use Rattle.gb_steps.specs.declared.step.AmbientRule.{AmbientRule}
+use Rattle.gb_steps.specs.declared.step.AmbientRule.TheVariants.{Assumption, Case, Have}
 use Rattle.gb_holds.specs.Declared.{Declarations}
 use Rattle.gb_holds.specs.Holds.{Holds}
 use Rattle.gb_typing.specs.Context.{Context}

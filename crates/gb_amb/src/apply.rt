@@ -17,7 +17,7 @@ use gb_core::place::Place;
 use gb_core::refusal::Refused;
 use gb_goal::goal::judges_bodies;
 use gb_goal::sequent::{Sequent, Sequents};
-use gb_goal::step::AmbientRule;
+use gb_steps::step::AmbientRule;
 use gb_terms::make::{implication, negation};
 use gb_terms::term::Form;
 use sqlite_items::Items;

@@ -9,7 +9,7 @@ use crate::goals::{no_shape, one, two};
 use gb_core::place::Place;
 use gb_core::refusal::Refused;
 use gb_goal::sequent::{Sequent, Sequents};
-use gb_goal::step::AmbientRule;
+use gb_steps::step::AmbientRule;
 use gb_terms::make::implication;
 use gb_terms::op::Op;
 use gb_terms::term::{Form, Head, Term};

@@ -45,8 +45,8 @@ use Rattle.gb_goal.specs.Goal.Goal.{hoare, phoare, equiv, ambient}
 use Rattle.gb_rules.specs.Forms.{and_form, equal_form, implies_form, not_form, located, every_pair}
 use Rattle.gb_rules.specs.Meaning.{run, denominator, Stands}
 use Rattle.gb_rules.specs.Rules.{IsSoundRule, no_arguments, outermost}
-use Rattle.gb_goal.specs.declared.step.Acts.{Acts}
-use Rattle.gb_goal.specs.declared.step.Acts.TheVariants as on
+use Rattle.gb_steps.specs.declared.step.Acts.{Acts}
+use Rattle.gb_steps.specs.declared.step.Acts.TheVariants as on
 use Rattle.gb_goal.specs.Answers.Answer.{given}
 use Rattle.gb_rules.specs.Typing.{IsTypedGoal}
 use Rattle.gb_rules.proofs.Ambient.{pair_typed, pair_meaning}

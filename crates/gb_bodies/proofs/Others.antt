@@ -2,11 +2,11 @@
 use Rattle.std.proofs.Common.{◌≡◌, refl}
 use Rattle.gb_core.specs.declared.refusal.Why.TheVariants.{Shape}
 use Rattle.gb_terms.specs.declared.term.Term.{Term}
-use Rattle.gb_goal.specs.declared.step.BodyRule.TheVariants.{Proc, Skip, Seq, If, Wp, Unfit}
-use Rattle.gb_goal.specs.declared.step.Acts.TheVariants as on
-use Rattle.gb_goal.specs.declared.step.Cut.TheVariants.{One, Two}
-use Rattle.gb_goal.specs.declared.step.Rule.{Rule}
-use Rattle.gb_goal.specs.declared.step.Rule.TheVariants.{OnBodies, Relational, Ambient, Smt}
+use Rattle.gb_steps.specs.declared.step.BodyRule.TheVariants.{Proc, Skip, Seq, If, Wp, Unfit}
+use Rattle.gb_steps.specs.declared.step.Acts.TheVariants as on
+use Rattle.gb_steps.specs.declared.step.Cut.TheVariants.{One, Two}
+use Rattle.gb_steps.specs.declared.step.Rule.{Rule}
+use Rattle.gb_steps.specs.declared.step.Rule.TheVariants.{OnBodies, Relational, Ambient, Smt}
 use Rattle.gb_goal.specs.Scope.{Declarations}
 use Rattle.gb_goal.specs.Goal.Goal.{ambient}
 use Rattle.gb_goal.specs.Rows.{refusing}

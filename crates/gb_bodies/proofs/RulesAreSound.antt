@@ -1,9 +1,9 @@
 -- Each rule on programs is sound.
 use Rattle.gb_core.specs.declared.refusal.Why.TheVariants.{Shape}
 use Rattle.gb_goal.specs.declared.sequent.Sequent.{Sequent}
-use Rattle.gb_goal.specs.declared.step.BodyRule.TheVariants as on_bodies
-use Rattle.gb_goal.specs.declared.step.Rule.{Rule}
-use Rattle.gb_goal.specs.declared.step.Rule.TheVariants.{OnBodies, Relational, Ambient, Smt}
+use Rattle.gb_steps.specs.declared.step.BodyRule.TheVariants as on_bodies
+use Rattle.gb_steps.specs.declared.step.Rule.{Rule}
+use Rattle.gb_steps.specs.declared.step.Rule.TheVariants.{OnBodies, Relational, Ambient, Smt}
 use Rattle.gb_goal.specs.Scope.{Declarations}
 use Rattle.gb_holds.specs.Declared.{declared}
 use Rattle.gb_typing.specs.Scopes.{context_of, IsTypedScope}

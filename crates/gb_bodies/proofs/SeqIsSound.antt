@@ -20,8 +20,8 @@ use Rattle.gb_rules.specs.Rules.{Implies, IsSoundRule}
 use Rattle.gb_rules.proofs.Given.{refused_given, sound_given_if}
 use Rattle.gb_rules.proofs.Lists.{first_part, rest_part}
 use Rattle.gb_rules.proofs.Runs.{run_cut, denominator_cut}
-use Rattle.gb_goal.specs.declared.step.Cut.{Cut}
-use Rattle.gb_goal.specs.declared.step.Cut.TheVariants.{One, Two}
+use Rattle.gb_steps.specs.declared.step.Cut.{Cut}
+use Rattle.gb_steps.specs.declared.step.Cut.TheVariants.{One, Two}
 use Rattle.gb_bodies.specs.Seq.{seq_row, IsTypedCut}
 
 module _ (c : Context) (r : Term) where

@@ -20,8 +20,8 @@ use Rattle.gb_coupling.proofs.Entries.{Every-dmap}
 use Rattle.gb_coupling.proofs.Masses.{mass-dmap}
 use Rattle.gb_coupling.proofs.Monad.{bind-unit_right, dmap_by_bind}
 use Rattle.gb_walk.specs.Clash.{first_clash}
-use Rattle.gb_goal.specs.declared.step.Acts.{Acts}
-use Rattle.gb_goal.specs.declared.step.Acts.TheVariants as on
+use Rattle.gb_steps.specs.declared.step.Acts.{Acts}
+use Rattle.gb_steps.specs.declared.step.Acts.TheVariants as on
 use Rattle.gb_goal.specs.Answers.{Answer, ◌>>=◌}
 use Rattle.gb_goal.specs.Answers.Answer.{given, refused}
 use Rattle.gb_goal.specs.Goal.{Goal}

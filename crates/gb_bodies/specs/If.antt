@@ -16,8 +16,8 @@ use Rattle.gb_goal.specs.Goal.Goal.{equiv, ambient}
 use Rattle.gb_rules.specs.Forms.{and_form, not_form, implies_form, equal_form, located, every_pair}
 use Rattle.gb_goal.specs.Answers.{Answer}
 use Rattle.gb_goal.specs.Rows.{Row, refusing}
-use Rattle.gb_goal.specs.declared.step.Acts.{Acts}
-use Rattle.gb_goal.specs.declared.step.Acts.TheVariants as on
+use Rattle.gb_steps.specs.declared.step.Acts.{Acts}
+use Rattle.gb_steps.specs.declared.step.Acts.TheVariants as on
 use Rattle.gb_goal.specs.Answers.Answer.{given}
 use Rattle.gb_bodies.specs.OneBody.{one_body, on_one}
 use Rattle.gb_bodies.specs.declared.branch.Branch as seen

@@ -3,10 +3,10 @@ use Rattle.std.specs.Prelude.{List}
 use Rattle.gb_core.specs.declared.refusal.Why.TheVariants.{Shape}
 use Rattle.gb_terms.specs.declared.decl.TypedName.{TypedName}
 use Rattle.gb_typing.specs.Context.{Context}
-use Rattle.gb_goal.specs.declared.step.BodyRule.{BodyRule}
-use Rattle.gb_goal.specs.declared.step.BodyRule.TheVariants as on_bodies
-use Rattle.gb_goal.specs.declared.step.Rule.{Rule}
-use Rattle.gb_goal.specs.declared.step.Rule.TheVariants.{OnBodies}
+use Rattle.gb_steps.specs.declared.step.BodyRule.{BodyRule}
+use Rattle.gb_steps.specs.declared.step.BodyRule.TheVariants as on_bodies
+use Rattle.gb_steps.specs.declared.step.Rule.{Rule}
+use Rattle.gb_steps.specs.declared.step.Rule.TheVariants.{OnBodies}
 use Rattle.gb_goal.specs.Goal.{Goal}
 use Rattle.gb_goal.specs.Scope.{Declarations}
 use Rattle.gb_goal.specs.Rows.{Row, refusing}

@@ -6,8 +6,8 @@ use Rattle.gb_terms.specs.declared.term.Term.{Term}
 use Rattle.gb_typing.specs.Context.{Context}
 use Rattle.gb_typing.specs.Sequents.{one, two}
 use Rattle.gb_typing.specs.Typing.{IsForm}
-use Rattle.gb_goal.specs.declared.step.Cut.{Cut}
-use Rattle.gb_goal.specs.declared.step.Cut.TheVariants.{One, Two}
+use Rattle.gb_steps.specs.declared.step.Cut.{Cut}
+use Rattle.gb_steps.specs.declared.step.Cut.TheVariants.{One, Two}
 use Rattle.gb_goal.specs.Goal.{Goal}
 use Rattle.gb_goal.specs.Goal.Code.{body}
 use Rattle.gb_goal.specs.Goal.Goal.{hoare, equiv}

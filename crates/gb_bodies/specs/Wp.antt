@@ -8,8 +8,8 @@ use Rattle.gb_terms.specs.declared.term.Term.{Term}
 use Rattle.gb_terms.specs.declared.term.Instr.{Instr, Row_of-Instr, end_of-Instr, more_of-Instr}
 use Rattle.gb_terms.specs.declared.term.Head.TheVariants.{Assign, If'}
 use Rattle.gb_walk.specs.Clash.{first_clash}
-use Rattle.gb_goal.specs.declared.step.Acts.{Acts}
-use Rattle.gb_goal.specs.declared.step.Acts.TheVariants as on
+use Rattle.gb_steps.specs.declared.step.Acts.{Acts}
+use Rattle.gb_steps.specs.declared.step.Acts.TheVariants as on
 use Rattle.gb_goal.specs.Answers.{Answer, ◌>>=◌}
 use Rattle.gb_goal.specs.Answers.Answer.{given}
 use Rattle.gb_goal.specs.Goal.{Goal}

@@ -13,7 +13,7 @@ use crate::wp::wp;
 use gb_core::refusal::Refused;
 use gb_goal::scope::Scope;
 use gb_goal::sequent::{Sequent, Sequents};
-use gb_goal::step::{BodyRule, Rule, Step};
+use gb_steps::step::{BodyRule, Rule, Step};
 use std::alloc::Global;
 
 /// The subgoals of a rule on programs.

@@ -2,7 +2,7 @@
 
 ghost use Rattle.std.specs.Prelude.{◌≡◌, ◌++◌, if◌then◌else◌, Some, IfOk};
 ghost use Rattle.std.specs.Option.{option_map};
-ghost use Rattle.gb_goal.specs.declared.step.Acts.{Acts as Programs};
+ghost use Rattle.gb_steps.specs.declared.step.Acts.{Acts as Programs};
 ghost use Rattle.gb_goal.specs.Answers.{Answers};
 ghost use Rattle.gb_goal.specs.Goal.{form_of};
 ghost use Rattle.gb_goal.specs.Goal.Code.{body};
@@ -21,7 +21,7 @@ use crate::subgoals::{no_shape, one_goal, two_goals};
 use gb_core::refusal::Refused;
 use gb_goal::goal::{Code, Goal, equiv, goal_of};
 use gb_goal::sequent::{Sequent, Sequents};
-use gb_goal::step::Acts;
+use gb_steps::step::Acts;
 use gb_shared::SharedItems;
 use gb_terms::make::{conjunction, equality, implication, negation};
 use gb_terms::op::Side;

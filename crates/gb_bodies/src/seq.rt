@@ -2,7 +2,7 @@
 
 ghost use Rattle.std.specs.Prelude.{◌≡◌, IfOk};
 ghost use Rattle.gb_terms.specs.declared.term.Term.{Term};
-ghost use Rattle.gb_goal.specs.declared.step.Cut.{Cut as Position};
+ghost use Rattle.gb_steps.specs.declared.step.Cut.{Cut as Position};
 ghost use Rattle.gb_goal.specs.Answers.{Answers};
 ghost use Rattle.gb_goal.specs.Goal.Code.{body};
 ghost use Rattle.gb_goal.specs.Goal.Goal.{hoare, equiv};
@@ -17,7 +17,7 @@ use crate::subgoals::{no_shape, refusal, shared_body, two_goals};
 use gb_core::refusal::{Refused, Why};
 use gb_goal::goal::{Code, Goal, equiv, goal_of, hoare};
 use gb_goal::sequent::{Sequent, Sequents};
-use gb_goal::step::Cut;
+use gb_steps::step::Cut;
 use gb_terms::term::{Form, Instr};
 use std::alloc::{AllocError, Global};
 

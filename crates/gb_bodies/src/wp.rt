@@ -1,7 +1,7 @@
 //! The rule `wp`.
 
 ghost use Rattle.std.specs.Prelude.{◌≡◌, ◌≤◌, length, IfOk};
-ghost use Rattle.gb_goal.specs.declared.step.Acts.{Acts as Programs};
+ghost use Rattle.gb_steps.specs.declared.step.Acts.{Acts as Programs};
 ghost use Rattle.gb_goal.specs.Answers.{Answers};
 ghost use Rattle.gb_goal.specs.Goal.{form_of};
 ghost use Rattle.gb_goal.specs.Goal.Code.{body};
@@ -23,7 +23,7 @@ use gb_core::refusal::{Refused, Why};
 use gb_core::var::Var;
 use gb_goal::goal::{Code, Goal, equiv, goal_of};
 use gb_goal::sequent::{Sequent, Sequents};
-use gb_goal::step::Acts;
+use gb_steps::step::Acts;
 use gb_terms::make::{conjunction, implication, negation};
 use gb_terms::op::{Read, Side};
 use gb_terms::term::{Form, Instr, Term};

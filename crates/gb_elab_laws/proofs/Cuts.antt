@@ -11,18 +11,18 @@ use Rattle.gb_goal.specs.Goal.{Goal, goal_of}
 use Rattle.gb_goal.specs.Goal.Code.{body, procedure}
 use Rattle.gb_goal.specs.Goal.Goal.{hoare, phoare, equiv, ambient}
 use Rattle.gb_goal.specs.declared.sequent.Sequent.{Sequent}
-use Rattle.gb_goal.specs.declared.step.Acts.{Acts}
-use Rattle.gb_goal.specs.declared.step.Acts.TheVariants as on
-use Rattle.gb_goal.specs.declared.step.AmbientRule.{AmbientRule}
-use Rattle.gb_goal.specs.declared.step.AmbientRule.TheVariants as conclusion
-use Rattle.gb_goal.specs.declared.step.BodyRule.{BodyRule}
-use Rattle.gb_goal.specs.declared.step.BodyRule.TheVariants as on_bodies
-use Rattle.gb_goal.specs.declared.step.Cut.{Cut}
-use Rattle.gb_goal.specs.declared.step.Cut.TheVariants as cut
-use Rattle.gb_goal.specs.declared.step.Rule.{Rule}
-use Rattle.gb_goal.specs.declared.step.Rule.TheVariants as rule
-use Rattle.gb_goal.specs.declared.step.RelationalRule.TheVariants as relational_rule
-use Rattle.gb_goal.specs.declared.step.Step.{Step}
+use Rattle.gb_steps.specs.declared.step.Acts.{Acts}
+use Rattle.gb_steps.specs.declared.step.Acts.TheVariants as on
+use Rattle.gb_steps.specs.declared.step.AmbientRule.{AmbientRule}
+use Rattle.gb_steps.specs.declared.step.AmbientRule.TheVariants as conclusion
+use Rattle.gb_steps.specs.declared.step.BodyRule.{BodyRule}
+use Rattle.gb_steps.specs.declared.step.BodyRule.TheVariants as on_bodies
+use Rattle.gb_steps.specs.declared.step.Cut.{Cut}
+use Rattle.gb_steps.specs.declared.step.Cut.TheVariants as cut
+use Rattle.gb_steps.specs.declared.step.Rule.{Rule}
+use Rattle.gb_steps.specs.declared.step.Rule.TheVariants as rule
+use Rattle.gb_steps.specs.declared.step.RelationalRule.TheVariants as relational_rule
+use Rattle.gb_steps.specs.declared.step.Step.{Step}
 use Rattle.gb_script.specs.declared.head.Head.{Head as Kind}
 use Rattle.gb_script.specs.declared.head.Head.TheVariants as text
 use Rattle.gb_script.specs.declared.tree.Node.{Node}

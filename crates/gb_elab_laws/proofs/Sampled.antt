@@ -20,13 +20,13 @@ use Rattle.gb_goal.specs.Scope as scope
 use Rattle.gb_goal.specs.Goal.{code_at, goal_at, goal_of}
 use Rattle.gb_goal.specs.Goal.Goal.{equiv}
 use Rattle.gb_goal.specs.declared.sequent.Sequent.{Sequent}
-use Rattle.gb_goal.specs.declared.step.Rule.{Rule}
-use Rattle.gb_goal.specs.declared.step.Rule.TheVariants as rule
-use Rattle.gb_goal.specs.declared.step.AmbientRule.{AmbientRule}
-use Rattle.gb_goal.specs.declared.step.AmbientRule.TheVariants as conclusion
-use Rattle.gb_goal.specs.declared.step.BodyRule.TheVariants as on_bodies
-use Rattle.gb_goal.specs.declared.step.RelationalRule.TheVariants as relational_rule
-use Rattle.gb_goal.specs.declared.step.Step.{Step}
+use Rattle.gb_steps.specs.declared.step.Rule.{Rule}
+use Rattle.gb_steps.specs.declared.step.Rule.TheVariants as rule
+use Rattle.gb_steps.specs.declared.step.AmbientRule.{AmbientRule}
+use Rattle.gb_steps.specs.declared.step.AmbientRule.TheVariants as conclusion
+use Rattle.gb_steps.specs.declared.step.BodyRule.TheVariants as on_bodies
+use Rattle.gb_steps.specs.declared.step.RelationalRule.TheVariants as relational_rule
+use Rattle.gb_steps.specs.declared.step.Step.{Step}
 use Rattle.gb_script.specs.declared.head.Head.{Head as Kind}
 use Rattle.gb_script.specs.declared.head.Head.TheVariants as text
 use Rattle.gb_script.specs.declared.tree.Node.{Node}

@@ -16,7 +16,7 @@ use gb_elab::form::term;
 use gb_goal::goal::judges_bodies;
 use gb_goal::scope::Scope;
 use gb_goal::sequent::{Hyp, Sequent};
-use gb_goal::step::{AmbientRule, Rule};
+use gb_steps::step::{AmbientRule, Rule};
 use gb_names::refusals::{double, not_built};
 use gb_script::tree::Node;
 use gb_terms::decl::TypedName;

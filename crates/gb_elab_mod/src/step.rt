@@ -13,7 +13,7 @@ use gb_core::place::Place;
 use gb_core::refusal::Refused;
 use gb_goal::scope::Scope;
 use gb_goal::sequent::Sequent;
-use gb_goal::step::{Acts, BodyRule, RelationalRule, Rule, Step};
+use gb_steps::step::{Acts, BodyRule, RelationalRule, Rule, Step};
 use gb_names::refusals::not_built;
 use gb_script::head::Head;
 use gb_script::tree::Node;

@@ -2,9 +2,9 @@
 use Rattle.std.specs.Prelude.{List}
 use Rattle.gb_core.specs.declared.refusal.Why.TheVariants.{Shape}
 use Rattle.gb_terms.specs.declared.decl.TypedName.{TypedName}
-use Rattle.gb_goal.specs.declared.step.Rule.{Rule}
-use Rattle.gb_goal.specs.declared.step.Rule.TheVariants.{Relational}
-use Rattle.gb_goal.specs.declared.step.RelationalRule.TheVariants.{Rnd}
+use Rattle.gb_steps.specs.declared.step.Rule.{Rule}
+use Rattle.gb_steps.specs.declared.step.Rule.TheVariants.{Relational}
+use Rattle.gb_steps.specs.declared.step.RelationalRule.TheVariants.{Rnd}
 use Rattle.gb_goal.specs.Goal.{Goal}
 use Rattle.gb_goal.specs.Rows.{Row, refusing}
 use Rattle.gb_typing.specs.Context.{Context}

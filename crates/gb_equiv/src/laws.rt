@@ -4,7 +4,7 @@ ghost use Rattle.std.specs.Prelude.{◌≡◌, List};
 ghost use Rattle.gb_core.specs.declared.refusal.Why.TheVariants.{Shape};
 ghost use Rattle.gb_goal.specs.Goal.Goal.{ambient};
 ghost use Rattle.gb_goal.specs.Rows.{refusing};
-ghost use Rattle.gb_goal.specs.declared.step.Rule.{Rule};
+ghost use Rattle.gb_steps.specs.declared.step.Rule.{Rule};
 ghost use Rattle.gb_terms.specs.declared.term.Term.{Term};
 ghost use Rattle.gb_typing.specs.Context.{Context};
 ghost use Rattle.gb_rules.specs.Rules.{IsSoundRule};

@@ -8,7 +8,7 @@ use crate::rnd::rnd_rule;
 use gb_core::refusal::{Refused, Why};
 use gb_goal::scope::Scope;
 use gb_goal::sequent::{Sequent, Sequents};
-use gb_goal::step::{RelationalRule, Rule, Step};
+use gb_steps::step::{RelationalRule, Rule, Step};
 use std::alloc::Global;
 
 /// The subgoals of a relational rule at a goal, in order. Refused as the rule says, at the place of the step.

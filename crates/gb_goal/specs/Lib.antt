@@ -1,6 +1,5 @@
 pub mod Answers
 pub mod Goal
-pub mod Goals
 pub mod Nodes
 pub mod Rows
 pub mod Scope

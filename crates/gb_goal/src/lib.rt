@@ -1,8 +1,6 @@
-//! Sequents, the open goals of a proof, proof steps and the scope of a script.
+//! Sequents, goals as rules see them, and the scope of a script.
 #![tactic(auto)]
 
 pub mod goal;
-pub mod goals;
 pub mod scope;
 pub mod sequent;
-pub mod step;

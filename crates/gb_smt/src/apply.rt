@@ -18,7 +18,7 @@ use gb_core::refusal::{Refused, Why};
 use gb_core::value::{Card, Values};
 use gb_goal::scope::Scope;
 use gb_goal::sequent::{Sequent, Sequents};
-use gb_goal::step::Step;
+use gb_steps::step::Step;
 use gb_num::Overflow;
 use gb_shared::Shared;
 use sqlite_items::Items;

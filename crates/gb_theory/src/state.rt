@@ -4,7 +4,7 @@ ghost use Rattle.std.specs.Prelude.{◌≡◌, [], true};
 ghost use Rattle.gb_theory.specs.Opened.{is_undeclared};
 
 use gb_core::name::{Name, Names};
-use gb_goal::goals::Goals;
+use gb_steps::goals::Goals;
 use gb_goal::scope::Scope;
 use gb_goal::sequent::Sequent;
 use sqlite_items::Items;

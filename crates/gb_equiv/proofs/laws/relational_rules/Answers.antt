@@ -1,7 +1,7 @@
 use Rattle.gb_core.specs.declared.refusal.Why.TheVariants.{Shape}
-use Rattle.gb_goal.specs.declared.step.Rule.{Rule}
-use Rattle.gb_goal.specs.declared.step.Rule.TheVariants.{Relational, OnBodies, Ambient, Smt}
-use Rattle.gb_goal.specs.declared.step.RelationalRule.TheVariants.{Rnd}
+use Rattle.gb_steps.specs.declared.step.Rule.{Rule}
+use Rattle.gb_steps.specs.declared.step.Rule.TheVariants.{Relational, OnBodies, Ambient, Smt}
+use Rattle.gb_steps.specs.declared.step.RelationalRule.TheVariants.{Rnd}
 use Rattle.gb_typing.specs.Context.{Context}
 use Rattle.gb_rules.specs.Rules.{IsSoundRule}
 use Rattle.gb_rules.proofs.Given.{refused_given}

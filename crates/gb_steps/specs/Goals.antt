@@ -1,7 +1,7 @@
 -- Open goals on a stack.
 use Rattle.std.specs.Prelude.{◌≡◌, List, [], ◌∷◌, map, sum}
 use Rattle.gb_terms.specs.Nodes.{saturated}
-use Rattle.gb_goal.specs.declared.goals.Open.{Open}
+use Rattle.gb_steps.specs.declared.goals.Open.{Open}
 use Rattle.gb_goal.specs.declared.sequent.Sequent.{Sequent}
 use Rattle.gb_goal.specs.Nodes.{sequent_nodes}
 

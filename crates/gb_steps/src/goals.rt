@@ -6,7 +6,7 @@ ghost use Rattle.std.specs.Option.{option_copied};
 ghost use Rattle.gb_terms.specs.Nodes.{saturated};
 ghost use Rattle.gb_goal.specs.Nodes.{sequent_nodes};
 
-use crate::sequent::{Sequent, Sequents, nodes};
+use gb_goal::sequent::{Sequent, Sequents, nodes};
 use gb_shared::Stack;
 use std::alloc::{AllocError, Global};
 use std::marker::Model;
@@ -30,7 +30,7 @@ impl Model for Goals {
     ghost use Rattle.std.specs.Coded.{codes};
     ghost use Rattle.gb_goal.specs.declared.sequent.Sequent.{Sequent};
     ghost use Rattle.gb_goal.specs.contracts.sequent.Sequent as sequent;
-    ghost use Rattle.gb_goal.specs.Goals.{goals_of, AreCounted};
+    ghost use Rattle.gb_steps.specs.Goals.{goals_of, AreCounted};
 
     ghost Value = { List Sequent };
 

@@ -2,8 +2,8 @@
 use Rattle.std.proofs.Common.{◌≡◌, ℕ, zero, suc, List, [], ◌∷◌, map, sum, drop, Option, Some, None, refl, sym, ap, ◌∙◌}
 use Rattle.std.specs.List.{slice_get}
 use Rattle.gb_terms.specs.Nodes.{saturated}
-use Rattle.gb_goal.specs.declared.goals.Open.{Open}
-use Rattle.gb_goal.specs.Goals.{goals_of, AreCounted}
+use Rattle.gb_steps.specs.declared.goals.Open.{Open}
+use Rattle.gb_steps.specs.Goals.{goals_of, AreCounted}
 use Rattle.gb_goal.specs.Nodes.{sequent_nodes}
 
 -- the nodes of all but the first few goals
