@@ -8,8 +8,8 @@ ghost use Rattle.gb_bodies.specs.OneBody.{filled, one_body, one_seen, side_of};
 
 use crate::subgoals::shared_body;
 use gb_goal::goal::{Code, Goal, equiv, hoare, phoare};
-use gb_steps::step::Acts;
 use gb_shared::SharedItems;
+use gb_steps::step::Acts;
 use gb_terms::op::{Rel, Side};
 use gb_terms::term::{Form, Instr, Term};
 use std::alloc::{AllocError, Global};

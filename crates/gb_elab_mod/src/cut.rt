@@ -12,10 +12,10 @@ use gb_elab::form::typed;
 use gb_goal::goal::{Code, Goal, goal_of};
 use gb_goal::scope::Scope;
 use gb_goal::sequent::Sequent;
-use gb_steps::step::{Acts, BodyRule, Cut};
 use gb_limits::numbers::number;
 use gb_names::setting::Setting;
 use gb_script::tree::Node;
+use gb_steps::step::{Acts, BodyRule, Cut};
 use gb_terms::op::Side;
 use std::alloc::Global;
 

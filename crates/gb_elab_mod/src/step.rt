@@ -13,10 +13,10 @@ use gb_core::place::Place;
 use gb_core::refusal::Refused;
 use gb_goal::scope::Scope;
 use gb_goal::sequent::Sequent;
-use gb_steps::step::{Acts, BodyRule, RelationalRule, Rule, Step};
 use gb_names::refusals::not_built;
 use gb_script::head::Head;
 use gb_script::tree::Node;
+use gb_steps::step::{Acts, BodyRule, RelationalRule, Rule, Step};
 use std::alloc::Global;
 
 /// The proof step of a rule with its arguments typed where the goal gives them types. The functions of `rnd` have the

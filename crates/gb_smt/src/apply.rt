@@ -18,9 +18,9 @@ use gb_core::refusal::{Refused, Why};
 use gb_core::value::{Card, Values};
 use gb_goal::scope::Scope;
 use gb_goal::sequent::{Sequent, Sequents};
-use gb_steps::step::Step;
 use gb_num::Overflow;
 use gb_shared::Shared;
+use gb_steps::step::Step;
 use sqlite_items::Items;
 use std::alloc::{AllocError, Global};
 

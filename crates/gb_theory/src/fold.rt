@@ -16,12 +16,12 @@ use crate::state::{OpenProof, State};
 use gb_core::name::{Name, Names};
 use gb_core::place::Place;
 use gb_core::refusal::{Refused, Why};
-use gb_steps::goals::Goals;
 use gb_goal::scope::{Entry, Scope};
 use gb_goal::sequent::{Sequent, Sequents};
-use gb_steps::step::{Rule, Step};
 use gb_script::head::Head;
 use gb_script::tree::Node;
+use gb_steps::goals::Goals;
+use gb_steps::step::{Rule, Step};
 use std::alloc::{AllocError, Global};
 
 fn refused(why: Why, place: Place) -> Refused

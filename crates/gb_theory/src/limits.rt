@@ -9,9 +9,9 @@ ghost use Rattle.gb_verdict.specs.Limits.{declaration_limit, is_large, has_large
 
 use gb_core::place::Place;
 use gb_core::refusal::{Refused, Why};
-use gb_steps::goals::Goals;
 use gb_goal::scope::Scope;
 use gb_goal::sequent::{Hyp, Sequent, nodes};
+use gb_steps::goals::Goals;
 use gb_terms::nodes::nodes_of;
 use gb_terms::term::Form;
 

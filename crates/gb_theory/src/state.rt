@@ -4,9 +4,9 @@ ghost use Rattle.std.specs.Prelude.{◌≡◌, [], true};
 ghost use Rattle.gb_theory.specs.Opened.{is_undeclared};
 
 use gb_core::name::{Name, Names};
-use gb_steps::goals::Goals;
 use gb_goal::scope::Scope;
 use gb_goal::sequent::Sequent;
+use gb_steps::goals::Goals;
 use sqlite_items::Items;
 use std::alloc::Global;
 
