@@ -3,7 +3,7 @@ use Rattle.gb_terms.specs.Nodes.{saturated}
 use Rattle.gb_goal.specs.declared.sequent.Sequent.{Sequent}
 use Rattle.gb_goal.specs.Nodes.{sequent_nodes}
 use Rattle.gb_steps.proofs.Counted.{counted_at, none_behind}
-use Rattle.gb_goal.proofs.goals.Goals.nodes_behind.Goals as goal
+use Rattle.gb_steps.proofs.goals.Goals.nodes_behind.Goals as goal
 
 pub returns-in-Some : goal.returns-in-Some
 returns-in-Some c =
