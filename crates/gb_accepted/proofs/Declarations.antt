@@ -11,9 +11,9 @@ use Rattle.gb_holds.specs.Declared.{declared}
 use Rattle.gb_holds.specs.Holds.{Holds}
 use Rattle.gb_holds.proofs.Scopes.{gained_lemma, gained_others}
 use Rattle.gb_goal.specs.Answers.Answer.{given}
-use Rattle.gb_elab_mod.specs.Entries.{entries_given}
+use Rattle.gb_elab_prog.specs.Entries.{entries_given}
 use Rattle.gb_elab_mod.specs.Lemmas.{lemma_name, statement_given}
-use Rattle.gb_elab_mod.specs.Modules.{module_given}
+use Rattle.gb_elab_prog.specs.Modules.{module_given}
 use Rattle.gb_typing.specs.Scopes.{is_declared, IsTypedScope}
 use Rattle.gb_elab_laws.proofs.Given.{given_bind, given_is, if_given}
 use Rattle.gb_verdict.specs.Session.{Session, OpenProof, with_entries, with_goals, with_proved}

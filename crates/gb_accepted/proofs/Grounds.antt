@@ -37,9 +37,9 @@ use Rattle.gb_equiv.specs.Rows.{IsTypedRule}
 use Rattle.gb_amb.specs.Steps.{IsAnswer, IsTypedStep, LeadTo}
 use Rattle.gb_smt.specs.Leaves.{leaves_of}
 use Rattle.gb_smt.specs.Apply.{IsClosed}
-use Rattle.gb_elab_mod.specs.Entries.{entries_given}
+use Rattle.gb_elab_prog.specs.Entries.{entries_given}
 use Rattle.gb_elab_mod.specs.Lemmas.{lemma_name, statement_given}
-use Rattle.gb_elab_mod.specs.Modules.{module_given}
+use Rattle.gb_elab_prog.specs.Modules.{module_given}
 use Rattle.gb_elab_mod.specs.Steps.{step_given}
 use Rattle.gb_models.specs.Promised.{HasModel, equivalence, stated, AreCoupledInEachModel}
 

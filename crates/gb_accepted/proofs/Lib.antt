@@ -3,6 +3,7 @@ mod Given
 mod Good
 mod Later
 mod Subgoals
+mod Tactics
 mod Declarations
 mod Steps
 mod Runs

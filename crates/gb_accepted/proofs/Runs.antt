@@ -14,7 +14,7 @@ use Rattle.gb_goal.specs.Answers.Answer.{given}
 use Rattle.gb_elab_mod.specs.Lemmas.{name_in}
 use Rattle.gb_elab_laws.proofs.Given.{given_is}
 use Rattle.gb_verdict.specs.Session.{Session, OpenProof, fresh_session}
-use Rattle.gb_verdict.specs.Commands.{InProof, Proves, sole_rule, ComesToOf, ComesTo}
+use Rattle.gb_verdict.specs.Commands.{InProof, Proves, ComesToOf, ComesTo}
 use Rattle.gb_verdict.specs.Verdict.{RunsTo, IsEnd, Ends, Goes, RunsIn, start, IsOutcome}
 use Rattle.gb_accepted.proofs.Given.{nothing_given, given_after, given_placed}
 use Rattle.gb_accepted.proofs.Grounds.{Grounds}
@@ -28,10 +28,9 @@ in_proof s None place P next h i = nothing_given _ _ next (sym i)
 in_proof s (Some p) place P next h i = (p, h, i)
 
 module _ (o : Grounds) where
-  proves_keep : (s : Session) (t : Option Node) (place : Place) (next : Session) → IsGood s → Proves s t place (given next) → IsGood next
-  proves_keep s (Some t) place next g e =
-      let i = in_proof s s.proof (place_of t) _ next g.proof e in works_keep o i.0.goals s i.0 t next g i.1 refl i.2
-  proves_keep s None place next g e = nothing_given _ _ next (sym e)
+  proves_keep : (s : Session) (t : Node) (place : Place) (next : Session) → IsGood s → Proves s t place (given next) → IsGood next
+  proves_keep s t place next g e =
+      let i = in_proof s s.proof place _ next g.proof e in works_keep o i.0.goals s i.0 t place next g i.1 refl i.2
 
   head_keeps : (s : Session) (c : Node) (h : Head) (parts : List Node) (next : Session) → parts_of c ≡ parts → IsGood s →
       ComesToOf s c h parts (given next) → IsGood next
@@ -47,7 +46,7 @@ module _ (o : Grounds) where
   head_keeps s c head.Qed parts next are g e =
       let i = in_proof s s.proof (place_of c) _ next g.proof e in ended_keeps o i.0.goals s i.0 (place_of c) next g i.1 i.1.leads (sym i.2)
   head_keeps s c head.Tactic (step ∷ more) next are g e =
-      proves_keep s (sole_rule (head_of step) (parts_of step) more) (place_of step) next g e
+      proves_keep s c (place_of step) next g e
   head_keeps s c _ _ next are g e = nothing_given _ _ next (sym e)
 
   command_keeps : (s : Session) (c : Node) (next : Session) → IsGood s → ComesTo s c (given next) → IsGood next

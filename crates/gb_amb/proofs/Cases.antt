@@ -1,5 +1,5 @@
 -- Conclusions by cases on a form.
-use Rattle.std.proofs.Common.{◌≡◌, Bool, true, false, [], ◌∷◌, refl, ap, sym, ◌∙◌, subst}
+use Rattle.std.proofs.Common.{◌≡◌, Bool, true, false, not, ◌||◌, [], ◌∷◌, refl, ap, sym, ◌∙◌, subst}
 use Rattle.std.proofs.lemmas.Bool.{false≢true}
 use Rattle.gb_core.specs.declared.ty.Ty.TheVariants as ty
 use Rattle.gb_terms.specs.declared.op.Op.TheVariants.{Implies}
@@ -9,11 +9,13 @@ use Rattle.gb_terms.specs.declared.term.Term.{Term, Term', Row_of-Term, end_of-T
 use Rattle.gb_terms.specs.declared.term.Head.TheVariants as head
 use Rattle.gb_terms.specs.declared.term.Head.TheVariants.{Body', Proc}
 use Rattle.gb_terms.specs.declared.term.Head.TheViews.{outs-Body'}
+use Rattle.gb_meaning.specs.Trees.{places, row}
 use Rattle.gb_meaning.specs.Setting.{Setting}
 use Rattle.gb_meaning.specs.State.{State}
 use Rattle.gb_meaning.specs.Judgments.{Judge, IsFair, IsSoundForm, IsTrueIn, den}
 use Rattle.gb_laws.proofs.Nodes.{term_is_node}
 use Rattle.gb_judge.proofs.Exact.{trying}
+use Rattle.gb_judge.proofs.Truths.{true_implies}
 use Rattle.gb_judge.proofs.Fair.{is_fair}
 use Rattle.gb_judge.proofs.Unique.{true_under_each}
 use Rattle.gb_changes.proofs.Trees.{out_is}
@@ -37,6 +39,10 @@ use mathlib.Core.Former.{Count}
 chosen : (b : Bool) (A B : Type 0) → (b ≡ true → A) → (b ≡ false → B) → Choice b A B
 chosen true A B f h = f refl
 chosen false A B f h = h refl
+
+follows : (a b : Bool) → (a ≡ true → b ≡ true) → (not a || b) ≡ true
+follows true b f = f refl
+follows false b f = refl
 
 first_of : (b : Bool) (A B : Type 0) → b ≡ true → Choice b A B → A
 first_of true A B e x = x
@@ -99,12 +105,17 @@ module _ (c : Context) where
 
 module _ (c : Context) (a : Term) (w : IsForm c a) where
   -- a form in front of a formula
-  pub implication_typed : (f : Term) → IsFormula c f → IsConclusion c (implies_form a f)
-  implication_typed f v =
-      subst (IsConclusion c) (term_is_node (head.Builtin Implies) (a ∷ f ∷ []) ty.Bool)
-      (chosen (has_module f) _ _
+  implied : (f : Term) → IsFormula c f → IsFormula c (Term' tt (more_of-Head (head.Builtin Implies) end_of-Head) (places (a ∷ f ∷ [])) (row (a ∷ f ∷ [])) ty.Bool)
+  implied f v =
+      chosen (has_module f) _ _
       (λ e. ((w.truth, (formula_truth c f v e, (refl, tt))), w, v))
-      (λ e. subst (IsForm c) (sym (term_is_node (head.Builtin Implies) (a ∷ f ∷ []) ty.Bool)) (implies_typed c a f w (formula_form c f v e))))
+      (λ e. subst (IsForm c) (sym (term_is_node (head.Builtin Implies) (a ∷ f ∷ []) ty.Bool)) (implies_typed c a f w (formula_form c f v e)))
+
+  pub implication_formula : (f : Term) → IsFormula c f → IsFormula c (implies_form a f)
+  implication_formula f v = subst (IsFormula c) (term_is_node (head.Builtin Implies) (a ∷ f ∷ []) ty.Bool) (implied f v)
+
+  pub implication_typed : (f : Term) → IsFormula c f → IsConclusion c (implies_form a f)
+  implication_typed f v = subst (IsConclusion c) (term_is_node (head.Builtin Implies) (a ∷ f ∷ []) ty.Bool) (implied f v)
 
 module _ (ds : Declarations) (k : Interpretation) (s : State) where
   abbrev g : Setting
@@ -124,6 +135,15 @@ module _ (ds : Declarations) (k : Interpretation) (s : State) where
       step false e =
           (without_modules ds f k s e).1
           (λ j fair. implies_use g j a f s ((without_modules ds (implies_form a f) k s (same ∙ e)).0 h j fair) (p j fair))
+
+  -- a formula under a premise, if it follows from it
+  pub implication_made : (a f : Term) → IsSoundForm g a → (IsTrueIn g a s → Truth ds f k s) → Truth ds (implies_form a f) k s
+  implication_made a f sound h =
+      subst (λ x. Truth ds x k s) (term_is_node (head.Builtin Implies) (a ∷ f ∷ []) ty.Bool)
+      (chosen (has_module f) _ _ (λ e. h)
+      (λ e. subst (λ x. IsTrueIn g x s) (sym (term_is_node (head.Builtin Implies) (a ∷ f ∷ []) ty.Bool))
+      (λ j fair. true_implies g j a f s ∙ follows (den g j a s) (den g j f s)
+      (λ u. (without_modules ds f k s e).0 (h ((true_under_each g j fair a sound s).1 u)) j fair))))
 
   -- a formula that follows from a form, and from its negation
   pub cases_used : (a f : Term) → IsSoundForm g a → Truth ds (implies_form a f) k s → Truth ds (implies_form (not_form a) f) k s → Truth ds f k s

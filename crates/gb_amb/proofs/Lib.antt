@@ -1,4 +1,10 @@
+pub mod Fronts
+pub mod Idle
+pub mod Wider
+pub mod States
 pub mod Taken
 pub mod Cases
+pub mod Premises
 pub mod Around
+pub mod Introducing
 pub mod Sound

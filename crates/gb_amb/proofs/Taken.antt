@@ -1,34 +1,39 @@
 -- The parts of a conclusion are typed, and imply it.
-use Rattle.std.proofs.Common.{◌≡◌, Bool, true, false, ◌||◌, List, [], ◌∷◌, refl, ap, sym, ◌∙◌, subst}
+use Rattle.std.proofs.Common.{◌≡◌, ◌⊎◌, inl, inr, Bool, true, false, ◌||◌, List, [], ◌∷◌, refl, ap, sym, ◌∙◌, subst}
 use Rattle.std.specs.List.{AllByRecursion}
 use Rattle.std.proofs.lemmas.Bool.{false≢true}
 use Rattle.gb_core.specs.declared.place.Place.{Place}
 use Rattle.gb_core.specs.declared.refusal.Why.TheVariants.{Shape}
 use Rattle.gb_core.specs.declared.ty.Ty.{Ty}
+use Rattle.gb_core.specs.declared.ty.Ty.TheVariants as ty
 use Rattle.gb_terms.specs.declared.op.Op.TheVariants as op
-use Rattle.gb_terms.specs.declared.term.Term.{Term, Term', Row_of-Term, end_of-Term, more_of-Term, end_of-Head, more_of-Head}
+use Rattle.gb_terms.specs.declared.term.Term.{Term, Term', Row_of-Term, end_of-Term, more_of-Term, end_of-Head, more_of-Head, out-Term}
 use Rattle.gb_terms.specs.declared.term.Head.{Head}
 use Rattle.gb_terms.specs.declared.term.Head.TheVariants as head
 use Rattle.gb_terms.specs.Make.{node}
-use Rattle.gb_goal.specs.Answers.Answer.{given}
+use Rattle.gb_goal.specs.Answers.Answer.{given, refused}
 use Rattle.gb_steps.specs.declared.step.AmbientRule.{AmbientRule}
-use Rattle.gb_steps.specs.declared.step.AmbientRule.TheVariants.{Split, Left, Right}
+use Rattle.gb_steps.specs.declared.step.AmbientRule.TheVariants.{Split, Left, Right, Discard}
 use Rattle.gb_meaning.specs.Commands.{terms_in}
 use Rattle.gb_meaning.specs.Operators.{alike}
 use Rattle.gb_meaning.specs.Setting.{Setting}
 use Rattle.gb_meaning.specs.State.{State}
+use Rattle.gb_meaning.specs.Written.{type_of}
 use Rattle.gb_meaning.specs.Judgments.{Judge, den, IsTrueUnder}
 use Rattle.gb_laws.proofs.Nodes.{each_is_node}
 use Rattle.gb_judge.proofs.Truths.{true_or, true_iff}
 use Rattle.gb_changes.proofs.Trees.{out_is}
+use Rattle.gb_holds.specs.Truth.{Choice, has_module, last_has_module}
 use Rattle.gb_typed.specs.Typing.{types_of, IsHead}
 use Rattle.gb_typing.specs.Context.{Context, erased}
 use Rattle.gb_typing.specs.Typing.{AreTyped, IsForm}
+use Rattle.gb_typing.specs.Formulas.{IsFirstForm, IsFormula, IsLastFormula}
 use Rattle.gb_typing.specs.Sequents.{IsConclusion}
 use Rattle.gb_rules.specs.Forms.{implies_form}
 use Rattle.gb_rules.proofs.Forms.{implies_typed, implies_use, and_make}
 use Rattle.gb_rules.proofs.Given.{refused_at, same_given}
-use Rattle.gb_amb.specs.Parts.{parts_at, parts_of}
+use Rattle.gb_amb.specs.Parts.{by_premise, by_shape, parts_at, parts_of}
+use Rattle.gb_amb.proofs.Cases.{form_formula}
 use mathlib.Core.Former.{Count}
 
 -- a form, and typed forms that imply it under each judge
@@ -108,24 +113,91 @@ pub record IsTaken (c : Context) (f : Term) (fs : List Term) : Type 0 where
   pub form : IsForm c f
   pub from : ComesFrom c f fs
 
+abbrev pub is_implies : Head → Bool
+is_implies (head.Builtin op.Implies) = true
+is_implies _ = false
+
+-- a conclusion that is a formula under a premise, by which its parts are
+pub record IsUnder (c : Context) (place : Place) (r : AmbientRule) (f : Term) (fs : List Term) : Type 0 where
+  pub premise : Term
+  pub rest : Term
+  pub form : IsForm c premise
+  pub formula : IsFormula c rest
+  pub is : f ≡ implies_form premise rest
+  pub args : (out-Term f).args ≡ premise ∷ rest ∷ []
+  pub parts : by_premise r place (out-Term premise).head (out-Term premise).args rest ≡ given fs
+
+module _ (place : Place) where
+  none : (r : AmbientRule) → by_shape r place (head.Builtin op.Implies) [] ≡ refused Shape place
+  none Split = refl
+  none Left = refl
+  none Right = refl
+  none r = refl
+
+  alone : (r : AmbientRule) (a : Term) → by_shape r place (head.Builtin op.Implies) (a ∷ []) ≡ refused Shape place
+  alone Split a = refl
+  alone Left a = refl
+  alone Right a = refl
+  alone r a = refl
+
+  pair : (r : AmbientRule) (a b : Term) → by_shape r place (head.Builtin op.Implies) (a ∷ b ∷ []) ≡ by_premise r place (out-Term a).head (out-Term a).args b
+  pair Split a b = refl
+  pair Left a b = refl
+  pair Right a b = refl
+  pair r a b = refl
+
+  many : (r : AmbientRule) (a b d : Term) (ts : List Term) → by_shape r place (head.Builtin op.Implies) (a ∷ b ∷ d ∷ ts) ≡ refused Shape place
+  many Split a b d ts = refl
+  many Left a b d ts = refl
+  many Right a b d ts = refl
+  many r a b d ts = refl
+
 module _ (c : Context) (place : Place) where
-  by_layer : (r : AmbientRule) (h : Head) (n : _) (ts : _) (t : Ty) (fs : List Term) → parts_of r place (Term' tt (more_of-Head h end_of-Head) n ts t) ≡ given fs → parts_at r place h (terms_in ts) ≡ given fs
-  by_layer r h n ts t fs e = subst (λ x. parts_at r place x.head x.args ≡ given fs) (out_is h n ts t) e
+  of_implies : {m : Count} (r : AmbientRule) (ts : Row_of-Term m) (t : Ty) (f : Term) (W : Type 0) →
+      (W → IsHead (erased c) (head.Builtin op.Implies) (types_of ts) t × AreTyped c c c ts) → f ≡ node (head.Builtin op.Implies) (terms_in ts) t → (out-Term f).args ≡ terms_in ts →
+      Choice (last_has_module ts) (IsHead (erased c) (head.Builtin op.Implies) (types_of ts) t × IsFirstForm c ts × IsLastFormula c ts) W →
+      (fs : List Term) → by_shape r place (head.Builtin op.Implies) (terms_in ts) ≡ given fs → IsUnder c place r f fs
+  of_implies r (more_of-Term a (more_of-Term b end_of-Term)) t f W k is args w fs e =
+      let x = by_choice (has_module b) w in
+      record { premise = a; rest = b; form = x.1; formula = x.2; is = is ∙ ap (λ t. node (head.Builtin op.Implies) (a ∷ b ∷ []) t) x.0; args = args; parts = sym (pair place r a b) ∙ e }
+    where
+      by_choice : (z : Bool) → Choice z (IsHead (erased c) (head.Builtin op.Implies) (type_of a ∷ type_of b ∷ []) t × IsForm c a × IsFormula c b) W → (t ≡ ty.Bool) × IsForm c a × IsFormula c b
+      by_choice true v = (v.0.1.1.0, v.1, v.2)
+      by_choice false v = let y = k v in (y.0.1.1.0, record { typed = y.1.0; truth = y.0.0 }, form_formula c b (record { typed = y.1.1; truth = y.0.1.0 }))
+  of_implies r end_of-Term t f W k is args w fs e = refused_at Shape place fs (sym (none place r) ∙ e)
+  of_implies r (more_of-Term a end_of-Term) t f W k is args w fs e = refused_at Shape place fs (sym (alone place r a) ∙ e)
+  of_implies r (more_of-Term a (more_of-Term b (more_of-Term d ts))) t f W k is args w fs e = refused_at Shape place fs (sym (many place r a b d (terms_in ts)) ∙ e)
 
-  taken : (h : Head) (n : _) (ts : _) (t : Ty) (fs : List Term) → IsForm c (Term' tt (more_of-Head h end_of-Head) n ts t) → ComesFrom c (node h (terms_in ts) t) fs →
-      IsTaken c (Term' tt (more_of-Head h end_of-Head) n ts t) fs
-  taken h n ts t fs w k = record {
-    form = w;
-    from = subst (λ f. ComesFrom c f fs) (sym (each_is_node (Term' tt (more_of-Head h end_of-Head) n ts t) ∙ ap (λ x. node x.head x.args x.ty) (out_is h n ts t))) k;
-  }
+  by_layer : (r : AmbientRule) (h : Head) (n : _) (ts : _) (t : Ty) (fs : List Term) → parts_of r place (Term' tt (more_of-Head h end_of-Head) n ts t) ≡ given fs → by_shape r place h (terms_in ts) ≡ given fs
+  by_layer r h n ts t fs e = subst (λ x. by_shape r place x.head x.args ≡ given fs) (out_is h n ts t) e
 
-  pub parts_taken : (r : AmbientRule) (f : Term) → IsConclusion c f → (fs : List Term) → parts_of r place f ≡ given fs → IsTaken c f fs
+  node_of : (h : Head) (n : _) (ts : _) (t : Ty) → Term' tt (more_of-Head h end_of-Head) n ts t ≡ node h (terms_in ts) t
+  node_of h n ts t = each_is_node (Term' tt (more_of-Head h end_of-Head) n ts t) ∙ ap (λ x. node x.head x.args x.ty) (out_is h n ts t)
+
+  taken : (r : AmbientRule) (h : Head) (n : _) (ts : _) (t : Ty) (fs : List Term) → IsForm c (Term' tt (more_of-Head h end_of-Head) n ts t) → ComesFrom c (node h (terms_in ts) t) fs →
+      IsTaken c (Term' tt (more_of-Head h end_of-Head) n ts t) fs ⊎ IsUnder c place r (Term' tt (more_of-Head h end_of-Head) n ts t) fs
+  taken r h n ts t fs w k = inl (record { form = w; from = subst (λ f. ComesFrom c f fs) (sym (node_of h n ts t)) k })
+
+  under : (r : AmbientRule) (n : _) (ts : _) (t : Ty) → IsConclusion c (Term' tt (more_of-Head (head.Builtin op.Implies) end_of-Head) n ts t) → (fs : List Term) →
+      parts_of r place (Term' tt (more_of-Head (head.Builtin op.Implies) end_of-Head) n ts t) ≡ given fs → IsUnder c place r (Term' tt (more_of-Head (head.Builtin op.Implies) end_of-Head) n ts t) fs
+  under r n ts t w fs e =
+      of_implies r ts t (Term' tt (more_of-Head (head.Builtin op.Implies) end_of-Head) n ts t) (IsForm c (Term' tt (more_of-Head (head.Builtin op.Implies) end_of-Head) n ts t))
+      (λ v. (v.typed.0, v.typed.3)) (node_of (head.Builtin op.Implies) n ts t) (ap (λ x. x.args) (out_is (head.Builtin op.Implies) n ts t)) w fs (by_layer r (head.Builtin op.Implies) n ts t fs e)
+
+  -- a conclusion that is an implication
+  pub implies_under : (f : Term) → IsConclusion c f → is_implies (out-Term f).head ≡ true → (fs : List Term) → parts_of Discard place f ≡ given fs → IsUnder c place Discard f fs
+  implies_under (Term' tt (more_of-Head (head.Builtin op.Implies) end_of-Head) n ts t) w h fs e = under Discard n ts t w fs e
+  implies_under (Term' tt (more_of-Head h end_of-Head) n ts t) w i fs e = absurd (false≢true (sym (ap (λ x. is_implies x.head) (out_is h n ts t)) ∙ i))
+
+  pub parts_taken : (r : AmbientRule) (f : Term) → IsConclusion c f → (fs : List Term) → parts_of r place f ≡ given fs → IsTaken c f fs ⊎ IsUnder c place r f fs
   parts_taken Split (Term' tt (more_of-Head (head.Builtin op.And) end_of-Head) n ts t) w fs e =
-      taken (head.Builtin op.And) n ts t fs w (of_and c Split place ts t w.typed.0 w.typed.3 fs (by_layer Split (head.Builtin op.And) n ts t fs e))
+      taken Split (head.Builtin op.And) n ts t fs w (of_and c Split place ts t w.typed.0 w.typed.3 fs (by_layer Split (head.Builtin op.And) n ts t fs e))
   parts_taken Split (Term' tt (more_of-Head (head.Builtin op.Iff) end_of-Head) n ts t) w fs e =
-      taken (head.Builtin op.Iff) n ts t fs w (of_iff c Split place ts t w.typed.0 w.typed.3 fs (by_layer Split (head.Builtin op.Iff) n ts t fs e))
+      taken Split (head.Builtin op.Iff) n ts t fs w (of_iff c Split place ts t w.typed.0 w.typed.3 fs (by_layer Split (head.Builtin op.Iff) n ts t fs e))
   parts_taken Left (Term' tt (more_of-Head (head.Builtin op.Or) end_of-Head) n ts t) w fs e =
-      taken (head.Builtin op.Or) n ts t fs w (of_left c Left place ts t w.typed.0 w.typed.3 fs (by_layer Left (head.Builtin op.Or) n ts t fs e))
+      taken Left (head.Builtin op.Or) n ts t fs w (of_left c Left place ts t w.typed.0 w.typed.3 fs (by_layer Left (head.Builtin op.Or) n ts t fs e))
   parts_taken Right (Term' tt (more_of-Head (head.Builtin op.Or) end_of-Head) n ts t) w fs e =
-      taken (head.Builtin op.Or) n ts t fs w (of_right c Right place ts t w.typed.0 w.typed.3 fs (by_layer Right (head.Builtin op.Or) n ts t fs e))
+      taken Right (head.Builtin op.Or) n ts t fs w (of_right c Right place ts t w.typed.0 w.typed.3 fs (by_layer Right (head.Builtin op.Or) n ts t fs e))
+  parts_taken r (Term' tt (more_of-Head (head.Builtin op.Implies) end_of-Head) n ts t) w fs e =
+      inr (under r n ts t w fs e)
   parts_taken r (Term' tt (more_of-Head h end_of-Head) n ts t) w fs e = refused_at Shape place fs (by_layer r h n ts t fs e)

@@ -1,2 +1,4 @@
+pub mod Introduced
 pub mod Parts
+pub mod Quantified
 pub mod Steps

@@ -1,17 +1,35 @@
--- `split`, `left` and `right`: the parts of a conclusion that are to be shown.
-use Rattle.std.specs.Prelude.{List, [], ◌∷◌, map}
+-- The parts of a conclusion that are to be shown: those of the conclusion itself, and those by its leading premise.
+use Rattle.std.specs.Prelude.{List, [], ◌∷◌, map, if◌then◌else◌}
 use Rattle.gb_core.specs.declared.place.Place.{Place}
 use Rattle.gb_core.specs.declared.refusal.Why.TheVariants.{Shape}
-use Rattle.gb_terms.specs.declared.op.Op.TheVariants.{And, Or, Iff}
+use Rattle.gb_core.specs.declared.ty.Ty.TheVariants.{Bool as bool_ty}
+use Rattle.gb_terms.specs.declared.op.Op.TheVariants.{And, Or, Iff, Implies}
 use Rattle.gb_terms.specs.declared.term.Term.{Term, out-Term}
 use Rattle.gb_terms.specs.declared.term.Head.{Head}
-use Rattle.gb_terms.specs.declared.term.Head.TheVariants.{Builtin}
+use Rattle.gb_terms.specs.declared.term.Head.TheVariants.{Builtin, All, Some, AllMemory, SomeMemory}
+use Rattle.gb_terms.specs.Make.{node}
 use Rattle.gb_goal.specs.Answers.{Answer}
 use Rattle.gb_goal.specs.Answers.Answer.{given, refused}
 use Rattle.gb_goal.specs.declared.sequent.Sequent.{Sequent}
 use Rattle.gb_steps.specs.declared.step.AmbientRule.{AmbientRule}
-use Rattle.gb_steps.specs.declared.step.AmbientRule.TheVariants.{Split, Left, Right}
+use Rattle.gb_steps.specs.declared.step.AmbientRule.TheVariants.{Split, Left, Right, Discard, Unpack, Branch}
 use Rattle.gb_rules.specs.Forms.{implies_form}
+use Rattle.gb_amb.specs.Quantified.{quantifies_modules}
+
+-- a form with c behind a quantifier; with a quantifier over modules in c this isn't built
+abbrev pub unless_module : Place → Term → Term → Answer (List Term)
+unless_module place c f = if quantifies_modules c then refused Shape place else given (f ∷ [])
+
+-- What is to be shown of a conclusion c under a premise with this head and these arguments: c without the premise; under both sides
+-- of a conjunction, one after the other; for each thing that is said to exist; or under each side of a disjunction. Nothing is
+-- bound around the goal, so c is the same behind a quantifier.
+abbrev pub by_premise : AmbientRule → Place → Head → List Term → Term → Answer (List Term)
+by_premise Discard place h ts c = given (c ∷ [])
+by_premise Unpack place (Builtin And) (a ∷ b ∷ []) c = given (implies_form a (implies_form b c) ∷ [])
+by_premise Unpack place (Some u) (a ∷ []) c = unless_module place c (node (All u) (implies_form a c ∷ []) bool_ty)
+by_premise Unpack place SomeMemory (a ∷ []) c = unless_module place c (node AllMemory (implies_form a c ∷ []) bool_ty)
+by_premise Branch place (Builtin Or) (a ∷ b ∷ []) c = given (implies_form a c ∷ implies_form b c ∷ [])
+by_premise r place h ts c = refused Shape place
 
 -- the parts of a conclusion with this head and these arguments: those of a conjunction or of an equivalence, or one side of a
 -- disjunction
@@ -22,8 +40,13 @@ parts_at Left place (Builtin Or) (a ∷ b ∷ []) = given (a ∷ [])
 parts_at Right place (Builtin Or) (a ∷ b ∷ []) = given (b ∷ [])
 parts_at r place h ts = refused Shape place
 
+-- an implication by its premise, and other conclusions by themselves
+abbrev pub by_shape : AmbientRule → Place → Head → List Term → Answer (List Term)
+by_shape r place (Builtin Implies) (a ∷ c ∷ []) = by_premise r place (out-Term a).head (out-Term a).args c
+by_shape r place h ts = parts_at r place h ts
+
 abbrev pub parts_of : AmbientRule → Place → Term → Answer (List Term)
-parts_of r place f = parts_at r place (out-Term f).head (out-Term f).args
+parts_of r place f = by_shape r place (out-Term f).head (out-Term f).args
 
 -- the goal with another conclusion
 abbrev pub concluding : Sequent → Term → Sequent

@@ -12,7 +12,7 @@ use Rattle.gb_goal.specs.Goal.{judges_bodies}
 use Rattle.gb_goal.specs.declared.sequent.Hyp.{Hyp}
 use Rattle.gb_goal.specs.declared.sequent.Sequent.{Sequent}
 use Rattle.gb_steps.specs.declared.step.AmbientRule.{AmbientRule}
-use Rattle.gb_steps.specs.declared.step.AmbientRule.TheVariants.{Assumption, Case, Have}
+use Rattle.gb_steps.specs.declared.step.AmbientRule.TheVariants.{Assumption, Case, Have, Introduce, IntroduceMemory}
 use Rattle.gb_holds.specs.Declared.{Declarations}
 use Rattle.gb_holds.specs.Holds.{Holds}
 use Rattle.gb_typing.specs.Context.{Context}
@@ -20,6 +20,7 @@ use Rattle.gb_typing.specs.Typing.{IsForm}
 use Rattle.gb_typing.specs.Sequents.{IsTypedSequent}
 use Rattle.gb_typing.specs.Scopes.{context_of}
 use Rattle.gb_rules.specs.Forms.{implies_form, not_form}
+use Rattle.gb_amb.specs.Introduced.{introduced}
 use Rattle.gb_amb.specs.Parts.{concluding, by_parts}
 
 -- a form is that of a hypothesis
@@ -46,6 +47,8 @@ abbrev pub IsAnswer : AmbientRule → Place → Sequent → Answer (List Sequent
 IsAnswer Assumption place q r = Decides (IsAmong q.hyps q.conclusion) (given []) (refused Shape place) r
 IsAnswer (Case f) place q r = r ≡ by_cases f place q
 IsAnswer (Have name f) place q r = r ≡ given (concluding q f ∷ assuming q name f ∷ [])
+IsAnswer (Introduce x) place q r = r ≡ introduced (Introduce x) place q
+IsAnswer (IntroduceMemory x) place q r = r ≡ introduced (IntroduceMemory x) place q
 IsAnswer rule place q r = r ≡ by_parts rule place q
 
 -- the forms that a step brings are typed

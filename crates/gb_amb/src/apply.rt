@@ -11,6 +11,7 @@ ghost use Rattle.gb_amb.specs.Steps.{assuming, by_cases, Decides, IsAnswer, Retu
 use crate::assumed::is_among;
 use crate::goals;
 use crate::goals::{no_shape, two};
+use crate::introduced::introduced;
 use crate::parts::by_parts;
 use gb_core::name::Name;
 use gb_core::place::Place;
@@ -85,6 +86,9 @@ pub fn apply(
         AmbientRule::Assumption => assumption(alloc, place, goal),
         AmbientRule::Case(form) => by_cases(alloc, form, place, goal),
         AmbientRule::Have(name, form) => Ok(have(alloc, name, form, goal)?),
+        AmbientRule::Introduce(_) | AmbientRule::IntroduceMemory(_) => {
+            introduced(alloc, rule, place, goal)
+        }
         _ => by_parts(alloc, rule, place, goal),
     }
 }

@@ -4,5 +4,7 @@
 pub mod apply;
 pub mod assumed;
 pub mod goals;
+pub mod introduced;
 pub mod laws;
 pub mod parts;
+pub mod quantified;

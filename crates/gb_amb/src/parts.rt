@@ -3,14 +3,20 @@
 ghost use Rattle.std.specs.Prelude.{◌≡◌, [], ◌∷◌, IfOk};
 ghost use Rattle.gb_goal.specs.Answers.{Answers};
 ghost use Rattle.gb_rules.specs.Forms.{implies_form};
-ghost use Rattle.gb_amb.specs.Parts.{by_parts, each_concluding, parts_at};
+ghost use Rattle.gb_core.specs.declared.ty.Ty.TheVariants.{Bool as bool_ty};
+ghost use Rattle.gb_terms.specs.declared.term.Head.TheVariants.{All, AllMemory};
+ghost use Rattle.gb_terms.specs.Make.{node};
+ghost use Rattle.gb_amb.specs.Parts.{by_parts, by_premise, by_shape, each_concluding, parts_at};
 
 use crate::goals::{no_shape, one, two};
+use crate::quantified::refuse_modules;
 use gb_core::place::Place;
 use gb_core::refusal::Refused;
+use gb_core::ty::Ty;
 use gb_goal::sequent::{Sequent, Sequents};
+use gb_shared::Shared;
 use gb_steps::step::AmbientRule;
-use gb_terms::make::implication;
+use gb_terms::make::{forall, implication, over, truth_ty};
 use gb_terms::op::Op;
 use gb_terms::term::{Form, Head, Term};
 use std::alloc::{AllocError, Global};
@@ -39,6 +45,105 @@ fn both_ways(alloc: Global, goal: &Sequent, a: &Form, b: &Form) -> Result<Sequen
     two(alloc, goal, there, back)
 }
 
+/// The conclusion under a premise and, before it, another one.
+fn under_both(
+    alloc: Global,
+    goal: &Sequent,
+    a: &Form,
+    b: &Form,
+    conclusion: &Form,
+) -> Result<Sequents, AllocError>
+    ensures { IfOk result (λ goals. goals ≡ record goal.now { conclusion = implies_form a.now (implies_form b.now conclusion.now) } ∷ []) }
+{
+    let inner = implies(alloc, b, conclusion)?;
+    let form = implies(alloc, a, &inner)?;
+    one(alloc, goal, form)
+}
+
+/// The conclusion under each of two premises.
+fn under_each(
+    alloc: Global,
+    goal: &Sequent,
+    a: &Form,
+    b: &Form,
+    conclusion: &Form,
+) -> Result<Sequents, AllocError>
+    ensures { IfOk result (λ goals. goals ≡ record goal.now { conclusion = implies_form a.now conclusion.now } ∷ record goal.now { conclusion = implies_form b.now conclusion.now } ∷ []) }
+{
+    let first = implies(alloc, a, conclusion)?;
+    let second = implies(alloc, b, conclusion)?;
+    two(alloc, goal, first, second)
+}
+
+/// The conclusion under a premise, for each value of a type.
+fn for_each_value(
+    alloc: Global,
+    goal: &Sequent,
+    ty: &Shared<Ty>,
+    a: &Form,
+    conclusion: &Form,
+) -> Result<Sequents, AllocError>
+    ensures { IfOk result (λ goals. goals ≡ record goal.now { conclusion = node (All ty.now) (implies_form a.now conclusion.now ∷ []) bool_ty } ∷ []) }
+{
+    let body = implies(alloc, a, conclusion)?;
+    let form = forall(alloc, ty.share()?, body)?;
+    one(alloc, goal, form)
+}
+
+/// The conclusion under a premise, for each memory.
+fn for_each_memory(
+    alloc: Global,
+    goal: &Sequent,
+    a: &Form,
+    conclusion: &Form,
+) -> Result<Sequents, AllocError>
+    ensures { IfOk result (λ goals. goals ≡ record goal.now { conclusion = node AllMemory (implies_form a.now conclusion.now ∷ []) bool_ty } ∷ []) }
+{
+    let body = implies(alloc, a, conclusion)?;
+    let truth = truth_ty(alloc)?;
+    let form = over(alloc, Head::AllMemory, body, truth)?;
+    one(alloc, goal, form)
+}
+
+fn alone(alloc: Global, goal: &Sequent, form: &Form) -> Result<Sequents, AllocError>
+    ensures { IfOk result (λ goals. goals ≡ record goal.now { conclusion = form.now } ∷ []) }
+{
+    let form = form.share()?;
+    one(alloc, goal, form)
+}
+
+/// The goals of a conclusion under a premise of this head and these arguments.
+fn by_premise(
+    alloc: Global,
+    rule: &AmbientRule,
+    place: Place,
+    goal: &Sequent,
+    head: &Head,
+    args: &[Term],
+    conclusion: &Form,
+) -> Result<Sequents, Refused>
+    ensures { Answers (each_concluding goal.now (by_premise rule.now place head.now args.now conclusion.now)) result }
+{
+    match (rule, head, args) {
+        (AmbientRule::Discard, _, _) => Ok(alone(alloc, goal, conclusion)?),
+        (AmbientRule::Unpack, Head::Builtin(Op::And), [a, b]) => {
+            Ok(under_both(alloc, goal, a, b, conclusion)?)
+        }
+        (AmbientRule::Unpack, Head::Some(ty), [a]) => {
+            refuse_modules(place, conclusion)?;
+            Ok(for_each_value(alloc, goal, ty, a, conclusion)?)
+        }
+        (AmbientRule::Unpack, Head::SomeMemory, [a]) => {
+            refuse_modules(place, conclusion)?;
+            Ok(for_each_memory(alloc, goal, a, conclusion)?)
+        }
+        (AmbientRule::Branch, Head::Builtin(Op::Or), [a, b]) => {
+            Ok(under_each(alloc, goal, a, b, conclusion)?)
+        }
+        _ => Err(no_shape(place)),
+    }
+}
+
 fn by_head(
     alloc: Global,
     rule: &AmbientRule,
@@ -52,15 +157,34 @@ fn by_head(
     match (rule, head, args) {
         (AmbientRule::Split, Head::Builtin(Op::And), [a, b]) => Ok(both(alloc, goal, a, b)?),
         (AmbientRule::Split, Head::Builtin(Op::Iff), [a, b]) => Ok(both_ways(alloc, goal, a, b)?),
-        (AmbientRule::Left, Head::Builtin(Op::Or), [a, _]) => {
-            let side = a.share()?;
-            Ok(one(alloc, goal, side)?)
-        }
-        (AmbientRule::Right, Head::Builtin(Op::Or), [_, b]) => {
-            let side = b.share()?;
-            Ok(one(alloc, goal, side)?)
-        }
+        (AmbientRule::Left, Head::Builtin(Op::Or), [a, _]) => Ok(alone(alloc, goal, a)?),
+        (AmbientRule::Right, Head::Builtin(Op::Or), [_, b]) => Ok(alone(alloc, goal, b)?),
         _ => Err(no_shape(place)),
+    }
+}
+
+/// The goals of a conclusion of this head and these arguments: an implication by its premise, and others by themselves.
+fn by_shape(
+    alloc: Global,
+    rule: &AmbientRule,
+    place: Place,
+    goal: &Sequent,
+    head: &Head,
+    args: &[Term],
+) -> Result<Sequents, Refused>
+    ensures { Answers (each_concluding goal.now (by_shape rule.now place head.now args.now)) result }
+{
+    match (head, args) {
+        (Head::Builtin(Op::Implies), [premise, conclusion]) => by_premise(
+            alloc,
+            rule,
+            place,
+            goal,
+            premise.head.get(),
+            premise.args.as_slice(),
+            conclusion,
+        ),
+        _ => by_head(alloc, rule, place, goal, head, args),
     }
 }
 
@@ -74,7 +198,7 @@ pub fn by_parts(
     ensures { Answers (by_parts rule.now place goal.now) result }
 {
     let head = goal.conclusion.head.get();
-    by_head(
+    by_shape(
         alloc,
         rule,
         place,

@@ -1,3 +1,4 @@
+pub mod CaseIsSound
 pub mod IfIsSound
 pub mod ProcIsSound
 pub mod RulesAreSound

@@ -2,7 +2,7 @@
 use Rattle.std.proofs.Common.{◌≡◌, refl}
 use Rattle.gb_core.specs.declared.refusal.Why.TheVariants.{Shape}
 use Rattle.gb_terms.specs.declared.term.Term.{Term}
-use Rattle.gb_steps.specs.declared.step.BodyRule.TheVariants.{Proc, Skip, Seq, If, Wp, Unfit}
+use Rattle.gb_steps.specs.declared.step.BodyRule.TheVariants.{Proc, Skip, Seq, If, Wp, Case, Unfit}
 use Rattle.gb_steps.specs.declared.step.Acts.TheVariants as on
 use Rattle.gb_steps.specs.declared.step.Cut.TheVariants.{One, Two}
 use Rattle.gb_steps.specs.declared.step.Rule.{Rule}
@@ -23,6 +23,7 @@ others_refused ds (OnBodies (If on.Right)) f = refl
 others_refused ds (OnBodies (Wp on.All)) f = refl
 others_refused ds (OnBodies (Wp on.Left)) f = refl
 others_refused ds (OnBodies (Wp on.Right)) f = refl
+others_refused ds (OnBodies (Case h)) f = refl
 others_refused ds (OnBodies Unfit) f = refl
 others_refused ds (Relational r) f = refl
 others_refused ds Smt f = refl

@@ -1,3 +1,4 @@
+pub mod Case
 pub mod If
 pub mod OneBody
 pub mod Proc

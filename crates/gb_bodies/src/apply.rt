@@ -5,6 +5,7 @@ ghost use Rattle.gb_goal.specs.Rows.{answered, stepped};
 ghost use Rattle.gb_bodies.specs.Rows.{body_row, rule_row};
 
 use crate::branch::if_rule;
+use crate::case::case;
 use crate::proc::proc;
 use crate::seq::seq;
 use crate::skip::skip;
@@ -31,6 +32,7 @@ fn subgoals(
         BodyRule::Seq(position, between) => seq(alloc, goal, *position, between),
         BodyRule::If(acts) => if_rule(alloc, goal, *acts),
         BodyRule::Wp(acts) => wp(alloc, goal, *acts),
+        BodyRule::Case(form) => case(alloc, goal, form),
         BodyRule::Unfit => Err(no_shape()),
     }
 }

@@ -3,6 +3,7 @@
 
 pub mod apply;
 pub mod branch;
+pub mod case;
 pub mod forms;
 pub mod laws;
 pub mod one_body;

@@ -3,8 +3,9 @@ use Rattle.std.proofs.Common.{◌≡◌, ◌⊎◌, inl, inr, ℕ, List, [], ◌
 use Rattle.gb_core.specs.declared.place.Place.{Place}
 use Rattle.gb_core.specs.declared.refusal.Why.TheVariants.{TypeMismatch}
 use Rattle.gb_core.specs.declared.ty.Ty.{Ty}
-use Rattle.gb_core.specs.declared.ty.Ty.TheVariants.{Bool as bool_ty}
+use Rattle.gb_core.specs.declared.ty.Ty.TheVariants.{Bool as bool_ty, Real as real_ty}
 use Rattle.gb_terms.specs.declared.decl.TypedName.{TypedName}
+use Rattle.gb_terms.specs.declared.op.Rel.{Rel}
 use Rattle.gb_terms.specs.declared.term.Term.{Term}
 use Rattle.gb_script.specs.declared.head.Head.{Head}
 use Rattle.gb_script.specs.declared.head.Head.TheVariants as head
@@ -13,7 +14,7 @@ use Rattle.gb_goal.specs.Answers.{Answer, ◌>>=◌}
 use Rattle.gb_goal.specs.Answers.Answer.{given, refused}
 use Rattle.gb_names.specs.Allowed.{coin, judgment}
 use Rattle.gb_names.specs.Environment.{Environment}
-use Rattle.gb_names.specs.Judgments.{Named, both_procedures, before, after, equivalent}
+use Rattle.gb_names.specs.Judgments.{Named, both_procedures, one_procedure, before, after, equivalent}
 use Rattle.gb_names.specs.Names.{path, unit}
 use Rattle.gb_names.specs.Wanted.{truth, wanted}
 use Rattle.gb_names.proofs.Answers.{leads_on}
@@ -21,8 +22,10 @@ use Rattle.gb_operators.specs.declared.rules.Rule.TheVariants as rule
 use Rattle.gb_operators.specs.Drawn.{uniform}
 use Rattle.gb_operators.specs.Literals.{numeral}
 use Rattle.gb_operators.specs.Operators.{operator_of}
+use Rattle.gb_elab.specs.declared.contract.Contract.{Contract}
+use Rattle.gb_elab.specs.OneProcedure.{after_one, around, before_one, lossless, relation, with_chance}
 use Rattle.gb_elab.specs.Equalities.{equalities}
-use Rattle.gb_elab.specs.Forms.{Part, annotated, applied_form, bracketed, by_rule, elaborated, equivalence, operation, projection, quantified, simple, typing, with_meanings, with_side}
+use Rattle.gb_elab.specs.Forms.{Part, annotated, applied_form, bounded, bracketed, by_rule, contract, contract_of, contracting, elaborated, equivalence, hoare, operation, projection, quantified, simple, typing, with_meanings, with_side}
 use Rattle.gb_elab.proofs.Elaborated.{bare_meanings, length_meanings}
 
 module _ (h : Head) (x : List ℕ) (ts : List Node) (p : Place) (at : Environment) (bound : List TypedName) (w : Option Ty) where
@@ -92,6 +95,22 @@ module _ (h : Head) (x : List ℕ) (ts : List Node) (p : Place) (at : Environmen
   unfolding typing
   equiv_is e = at_head head.Equiv e
 
+  pub hoare_is : h ≡ head.Hoare → meaning ≡ hoare (with_meanings ts) p at bound w
+  unfolding typing
+  hoare_is e = at_head head.Hoare e
+
+  pub phoare_is : h ≡ head.Phoare → meaning ≡ (judgment at w p >>= λ _. refused TypeMismatch p)
+  unfolding typing
+  phoare_is e = at_head head.Phoare e
+
+  pub bounded_is : h ≡ head.Bounded → meaning ≡ bounded x (with_meanings ts) p at bound w
+  unfolding typing
+  bounded_is e = at_head head.Bounded e
+
+  pub lossless_is : h ≡ head.Lossless → meaning ≡ (judgment at w p >>= λ _. lossless at bound ts p)
+  unfolding typing
+  lossless_is e = at_head head.Lossless e ∙ ap (λ us. judgment at w p >>= λ _. lossless at bound us p) (bare_meanings ts)
+
   pub path_is : h ≡ head.Path → meaning ≡ simple (path ts) p at bound w
   unfolding typing
   path_is e = at_head head.Path e ∙ ap (λ us. simple (path us) p at bound w) (bare_meanings ts)
@@ -132,31 +151,60 @@ equivalence_is f g a b p at bound w x m pre h k e =
     leads_on (judgment at w p) (λ _. both_procedures at bound f g p >>= on_pre) x h
     ∙ (leads_on (both_procedures at bound f g p) on_pre m k ∙ leads_on (elaborated a (before at m.0.1 m.1.1) bound (Some bool_ty)) (on_post m) pre e)
 
+-- a contract with its precondition
+pub contract_is : (f a b : Node) (p : Place) (at : Environment) (bound : List TypedName) (m : Named) (pre : Term)
+    → one_procedure at bound f p ≡ given m → elaborated a (before_one at m.1) bound (Some bool_ty) ≡ given pre
+    → contract (with_meanings (f ∷ a ∷ b ∷ [])) p at bound
+    ≡ (elaborated b (after_one at m.1) bound (Some bool_ty) >>= λ post. given (record { procedure = m.0; pre = pre; post = post }))
+contract_is f a b p at bound m pre k e =
+    let on_post = λ (m : Named) (pre : Term). elaborated b (after_one at m.1) bound (Some bool_ty) >>= λ post. given (record { procedure = m.0; pre = pre; post = post }) in
+    leads_on (one_procedure at bound f p) (λ m. elaborated a (before_one at m.1) bound (Some bool_ty) >>= λ pre. on_post m pre) m k
+    ∙ leads_on (elaborated a (before_one at m.1) bound (Some bool_ty)) (on_post m) pre e
+
+-- a judgment with its relation and what it says but for its bound
+pub bounded_is_by : (x : List ℕ) (a r : Node) (p : Place) (at : Environment) (bound : List TypedName) (w : Option Ty) (y : Unit {0}) (s : Rel) (c : Contract)
+    → judgment at w p ≡ given y → relation x p ≡ given s → contract_of a at bound ≡ given c
+    → bounded x (with_meanings (a ∷ r ∷ [])) p at bound w ≡ (elaborated r (around at) bound (Some real_ty) >>= λ b. given (with_chance c s b))
+bounded_is_by x a r p at bound w y s c h k e =
+    let on_bound = λ (s : Rel) (c : Contract). elaborated r (around at) bound (Some real_ty) >>= λ b. given (with_chance c s b) in
+    let on_contract = λ (s : Rel). contract_of a at bound >>= λ c. on_bound s c in
+    leads_on (judgment at w p) (λ _. relation x p >>= on_contract) y h
+    ∙ (leads_on (relation x p) on_contract s k ∙ leads_on (contract_of a at bound) (on_bound s) c e)
+
+-- a form of another head is no judgment that needs a bound
+pub other_contract : (k : Head) (ts : List Part) (p : Place) (at : Environment) (bound : List TypedName) → (k ≡ head.Phoare → ⊥) → contracting k ts p at bound ≡ refused TypeMismatch p
+other_contract head.Phoare ts p at bound n = absurd (n refl)
+other_contract _ ts p at bound n = refl
+
 -- a form of another head is one that an operator makes, or isn't built
 pub other_form : (k : Head) (x : List ℕ) (ts : List Part) (p : Place) (at : Environment) (bound : List TypedName) (w : Option Ty)
-    → (k ≡ head.Name → ⊥) → (k ≡ head.Path → ⊥) → (k ≡ head.Number → ⊥) → (k ≡ head.Unit → ⊥) → (k ≡ head.Bracketed → ⊥) → (k ≡ head.Sided → ⊥) → (k ≡ head.Coin → ⊥) → (k ≡ head.Function → ⊥) → (k ≡ head.TypedFunction → ⊥) → (k ≡ head.Typed → ⊥) → (k ≡ head.Tuple → ⊥) → (k ≡ head.Component → ⊥) → (k ≡ head.Conditional → ⊥) → (k ≡ head.Chosen → ⊥) → (k ≡ head.Get → ⊥) → (k ≡ head.Set → ⊥) → (k ≡ head.PowerProduct → ⊥) → (k ≡ head.Uniform → ⊥) → (k ≡ head.Apply → ⊥) → (k ≡ head.Equalities → ⊥) → (k ≡ head.Quantified → ⊥) → (k ≡ head.Equiv → ⊥)
+    → (k ≡ head.Name → ⊥) → (k ≡ head.Path → ⊥) → (k ≡ head.Number → ⊥) → (k ≡ head.Unit → ⊥) → (k ≡ head.Bracketed → ⊥) → (k ≡ head.Sided → ⊥) → (k ≡ head.Coin → ⊥) → (k ≡ head.Function → ⊥) → (k ≡ head.TypedFunction → ⊥) → (k ≡ head.Typed → ⊥) → (k ≡ head.Tuple → ⊥) → (k ≡ head.Component → ⊥) → (k ≡ head.Conditional → ⊥) → (k ≡ head.Chosen → ⊥) → (k ≡ head.Get → ⊥) → (k ≡ head.Set → ⊥) → (k ≡ head.PowerProduct → ⊥) → (k ≡ head.Uniform → ⊥) → (k ≡ head.Apply → ⊥) → (k ≡ head.Equalities → ⊥) → (k ≡ head.Quantified → ⊥) → (k ≡ head.Equiv → ⊥) → (k ≡ head.Hoare → ⊥) → (k ≡ head.Phoare → ⊥) → (k ≡ head.Bounded → ⊥) → (k ≡ head.Lossless → ⊥)
     → typing k x ts p at bound w ≡ operation (operator_of k x) ts p at bound w
 unfolding typing
-other_form head.Name x ts p at bound w n0 n1 n2 n3 n4 n5 n6 n7 n8 n9 n10 n11 n12 n13 n14 n15 n16 n17 n18 n19 n20 n21 = absurd (n0 refl)
-other_form head.Path x ts p at bound w n0 n1 n2 n3 n4 n5 n6 n7 n8 n9 n10 n11 n12 n13 n14 n15 n16 n17 n18 n19 n20 n21 = absurd (n1 refl)
-other_form head.Number x ts p at bound w n0 n1 n2 n3 n4 n5 n6 n7 n8 n9 n10 n11 n12 n13 n14 n15 n16 n17 n18 n19 n20 n21 = absurd (n2 refl)
-other_form head.Unit x ts p at bound w n0 n1 n2 n3 n4 n5 n6 n7 n8 n9 n10 n11 n12 n13 n14 n15 n16 n17 n18 n19 n20 n21 = absurd (n3 refl)
-other_form head.Bracketed x ts p at bound w n0 n1 n2 n3 n4 n5 n6 n7 n8 n9 n10 n11 n12 n13 n14 n15 n16 n17 n18 n19 n20 n21 = absurd (n4 refl)
-other_form head.Sided x ts p at bound w n0 n1 n2 n3 n4 n5 n6 n7 n8 n9 n10 n11 n12 n13 n14 n15 n16 n17 n18 n19 n20 n21 = absurd (n5 refl)
-other_form head.Coin x ts p at bound w n0 n1 n2 n3 n4 n5 n6 n7 n8 n9 n10 n11 n12 n13 n14 n15 n16 n17 n18 n19 n20 n21 = absurd (n6 refl)
-other_form head.Function x ts p at bound w n0 n1 n2 n3 n4 n5 n6 n7 n8 n9 n10 n11 n12 n13 n14 n15 n16 n17 n18 n19 n20 n21 = absurd (n7 refl)
-other_form head.TypedFunction x ts p at bound w n0 n1 n2 n3 n4 n5 n6 n7 n8 n9 n10 n11 n12 n13 n14 n15 n16 n17 n18 n19 n20 n21 = absurd (n8 refl)
-other_form head.Typed x ts p at bound w n0 n1 n2 n3 n4 n5 n6 n7 n8 n9 n10 n11 n12 n13 n14 n15 n16 n17 n18 n19 n20 n21 = absurd (n9 refl)
-other_form head.Tuple x ts p at bound w n0 n1 n2 n3 n4 n5 n6 n7 n8 n9 n10 n11 n12 n13 n14 n15 n16 n17 n18 n19 n20 n21 = absurd (n10 refl)
-other_form head.Component x ts p at bound w n0 n1 n2 n3 n4 n5 n6 n7 n8 n9 n10 n11 n12 n13 n14 n15 n16 n17 n18 n19 n20 n21 = absurd (n11 refl)
-other_form head.Conditional x ts p at bound w n0 n1 n2 n3 n4 n5 n6 n7 n8 n9 n10 n11 n12 n13 n14 n15 n16 n17 n18 n19 n20 n21 = absurd (n12 refl)
-other_form head.Chosen x ts p at bound w n0 n1 n2 n3 n4 n5 n6 n7 n8 n9 n10 n11 n12 n13 n14 n15 n16 n17 n18 n19 n20 n21 = absurd (n13 refl)
-other_form head.Get x ts p at bound w n0 n1 n2 n3 n4 n5 n6 n7 n8 n9 n10 n11 n12 n13 n14 n15 n16 n17 n18 n19 n20 n21 = absurd (n14 refl)
-other_form head.Set x ts p at bound w n0 n1 n2 n3 n4 n5 n6 n7 n8 n9 n10 n11 n12 n13 n14 n15 n16 n17 n18 n19 n20 n21 = absurd (n15 refl)
-other_form head.PowerProduct x ts p at bound w n0 n1 n2 n3 n4 n5 n6 n7 n8 n9 n10 n11 n12 n13 n14 n15 n16 n17 n18 n19 n20 n21 = absurd (n16 refl)
-other_form head.Uniform x ts p at bound w n0 n1 n2 n3 n4 n5 n6 n7 n8 n9 n10 n11 n12 n13 n14 n15 n16 n17 n18 n19 n20 n21 = absurd (n17 refl)
-other_form head.Apply x ts p at bound w n0 n1 n2 n3 n4 n5 n6 n7 n8 n9 n10 n11 n12 n13 n14 n15 n16 n17 n18 n19 n20 n21 = absurd (n18 refl)
-other_form head.Equalities x ts p at bound w n0 n1 n2 n3 n4 n5 n6 n7 n8 n9 n10 n11 n12 n13 n14 n15 n16 n17 n18 n19 n20 n21 = absurd (n19 refl)
-other_form head.Quantified x ts p at bound w n0 n1 n2 n3 n4 n5 n6 n7 n8 n9 n10 n11 n12 n13 n14 n15 n16 n17 n18 n19 n20 n21 = absurd (n20 refl)
-other_form head.Equiv x ts p at bound w n0 n1 n2 n3 n4 n5 n6 n7 n8 n9 n10 n11 n12 n13 n14 n15 n16 n17 n18 n19 n20 n21 = absurd (n21 refl)
-other_form _ x ts p at bound w n0 n1 n2 n3 n4 n5 n6 n7 n8 n9 n10 n11 n12 n13 n14 n15 n16 n17 n18 n19 n20 n21 = refl
+other_form head.Name x ts p at bound w n0 n1 n2 n3 n4 n5 n6 n7 n8 n9 n10 n11 n12 n13 n14 n15 n16 n17 n18 n19 n20 n21 n22 n23 n24 n25 = absurd (n0 refl)
+other_form head.Path x ts p at bound w n0 n1 n2 n3 n4 n5 n6 n7 n8 n9 n10 n11 n12 n13 n14 n15 n16 n17 n18 n19 n20 n21 n22 n23 n24 n25 = absurd (n1 refl)
+other_form head.Number x ts p at bound w n0 n1 n2 n3 n4 n5 n6 n7 n8 n9 n10 n11 n12 n13 n14 n15 n16 n17 n18 n19 n20 n21 n22 n23 n24 n25 = absurd (n2 refl)
+other_form head.Unit x ts p at bound w n0 n1 n2 n3 n4 n5 n6 n7 n8 n9 n10 n11 n12 n13 n14 n15 n16 n17 n18 n19 n20 n21 n22 n23 n24 n25 = absurd (n3 refl)
+other_form head.Bracketed x ts p at bound w n0 n1 n2 n3 n4 n5 n6 n7 n8 n9 n10 n11 n12 n13 n14 n15 n16 n17 n18 n19 n20 n21 n22 n23 n24 n25 = absurd (n4 refl)
+other_form head.Sided x ts p at bound w n0 n1 n2 n3 n4 n5 n6 n7 n8 n9 n10 n11 n12 n13 n14 n15 n16 n17 n18 n19 n20 n21 n22 n23 n24 n25 = absurd (n5 refl)
+other_form head.Coin x ts p at bound w n0 n1 n2 n3 n4 n5 n6 n7 n8 n9 n10 n11 n12 n13 n14 n15 n16 n17 n18 n19 n20 n21 n22 n23 n24 n25 = absurd (n6 refl)
+other_form head.Function x ts p at bound w n0 n1 n2 n3 n4 n5 n6 n7 n8 n9 n10 n11 n12 n13 n14 n15 n16 n17 n18 n19 n20 n21 n22 n23 n24 n25 = absurd (n7 refl)
+other_form head.TypedFunction x ts p at bound w n0 n1 n2 n3 n4 n5 n6 n7 n8 n9 n10 n11 n12 n13 n14 n15 n16 n17 n18 n19 n20 n21 n22 n23 n24 n25 = absurd (n8 refl)
+other_form head.Typed x ts p at bound w n0 n1 n2 n3 n4 n5 n6 n7 n8 n9 n10 n11 n12 n13 n14 n15 n16 n17 n18 n19 n20 n21 n22 n23 n24 n25 = absurd (n9 refl)
+other_form head.Tuple x ts p at bound w n0 n1 n2 n3 n4 n5 n6 n7 n8 n9 n10 n11 n12 n13 n14 n15 n16 n17 n18 n19 n20 n21 n22 n23 n24 n25 = absurd (n10 refl)
+other_form head.Component x ts p at bound w n0 n1 n2 n3 n4 n5 n6 n7 n8 n9 n10 n11 n12 n13 n14 n15 n16 n17 n18 n19 n20 n21 n22 n23 n24 n25 = absurd (n11 refl)
+other_form head.Conditional x ts p at bound w n0 n1 n2 n3 n4 n5 n6 n7 n8 n9 n10 n11 n12 n13 n14 n15 n16 n17 n18 n19 n20 n21 n22 n23 n24 n25 = absurd (n12 refl)
+other_form head.Chosen x ts p at bound w n0 n1 n2 n3 n4 n5 n6 n7 n8 n9 n10 n11 n12 n13 n14 n15 n16 n17 n18 n19 n20 n21 n22 n23 n24 n25 = absurd (n13 refl)
+other_form head.Get x ts p at bound w n0 n1 n2 n3 n4 n5 n6 n7 n8 n9 n10 n11 n12 n13 n14 n15 n16 n17 n18 n19 n20 n21 n22 n23 n24 n25 = absurd (n14 refl)
+other_form head.Set x ts p at bound w n0 n1 n2 n3 n4 n5 n6 n7 n8 n9 n10 n11 n12 n13 n14 n15 n16 n17 n18 n19 n20 n21 n22 n23 n24 n25 = absurd (n15 refl)
+other_form head.PowerProduct x ts p at bound w n0 n1 n2 n3 n4 n5 n6 n7 n8 n9 n10 n11 n12 n13 n14 n15 n16 n17 n18 n19 n20 n21 n22 n23 n24 n25 = absurd (n16 refl)
+other_form head.Uniform x ts p at bound w n0 n1 n2 n3 n4 n5 n6 n7 n8 n9 n10 n11 n12 n13 n14 n15 n16 n17 n18 n19 n20 n21 n22 n23 n24 n25 = absurd (n17 refl)
+other_form head.Apply x ts p at bound w n0 n1 n2 n3 n4 n5 n6 n7 n8 n9 n10 n11 n12 n13 n14 n15 n16 n17 n18 n19 n20 n21 n22 n23 n24 n25 = absurd (n18 refl)
+other_form head.Equalities x ts p at bound w n0 n1 n2 n3 n4 n5 n6 n7 n8 n9 n10 n11 n12 n13 n14 n15 n16 n17 n18 n19 n20 n21 n22 n23 n24 n25 = absurd (n19 refl)
+other_form head.Quantified x ts p at bound w n0 n1 n2 n3 n4 n5 n6 n7 n8 n9 n10 n11 n12 n13 n14 n15 n16 n17 n18 n19 n20 n21 n22 n23 n24 n25 = absurd (n20 refl)
+other_form head.Equiv x ts p at bound w n0 n1 n2 n3 n4 n5 n6 n7 n8 n9 n10 n11 n12 n13 n14 n15 n16 n17 n18 n19 n20 n21 n22 n23 n24 n25 = absurd (n21 refl)
+other_form head.Hoare x ts p at bound w n0 n1 n2 n3 n4 n5 n6 n7 n8 n9 n10 n11 n12 n13 n14 n15 n16 n17 n18 n19 n20 n21 n22 n23 n24 n25 = absurd (n22 refl)
+other_form head.Phoare x ts p at bound w n0 n1 n2 n3 n4 n5 n6 n7 n8 n9 n10 n11 n12 n13 n14 n15 n16 n17 n18 n19 n20 n21 n22 n23 n24 n25 = absurd (n23 refl)
+other_form head.Bounded x ts p at bound w n0 n1 n2 n3 n4 n5 n6 n7 n8 n9 n10 n11 n12 n13 n14 n15 n16 n17 n18 n19 n20 n21 n22 n23 n24 n25 = absurd (n24 refl)
+other_form head.Lossless x ts p at bound w n0 n1 n2 n3 n4 n5 n6 n7 n8 n9 n10 n11 n12 n13 n14 n15 n16 n17 n18 n19 n20 n21 n22 n23 n24 n25 = absurd (n25 refl)
+other_form _ x ts p at bound w n0 n1 n2 n3 n4 n5 n6 n7 n8 n9 n10 n11 n12 n13 n14 n15 n16 n17 n18 n19 n20 n21 n22 n23 n24 n25 = refl

@@ -7,7 +7,7 @@ use Rattle.gb_script.specs.Tree.{head_of, text_of, parts_of, place_of}
 use Rattle.gb_names.specs.Environment.{Environment}
 use Rattle.gb_names.proofs.Nodes.{said_is}
 use Rattle.gb_operators.specs.declared.domain.Domain.{Domain}
-use Rattle.gb_elab.specs.Forms.{bare, elaborated, function_of, function_typing, meaning, meant, typing, with_meanings}
+use Rattle.gb_elab.specs.Forms.{bare, contract_of, contracting, elaborated, function_of, function_typing, meaning, meant, typing, with_meanings}
 
 pub meant_is : (t : Node) → meant t ≡ meaning (head_of t) (text_of t) (with_meanings (parts_of t)) (place_of t)
 unfolding meant
@@ -20,6 +20,10 @@ elaborated_is t at bound w = ap (λ m. m.form at bound w) (meant_is t)
 pub function_of_is : (t : Node) (d : Domain) (at : Environment) (bound : List TypedName) (w : Option Ty)
     → function_of t d at bound w ≡ function_typing (head_of t) (with_meanings (parts_of t)) (place_of t) d at bound w
 function_of_is t d at bound w = ap (λ m. m.function d at bound w) (meant_is t)
+
+pub contract_of_is : (t : Node) (at : Environment) (bound : List TypedName)
+    → contract_of t at bound ≡ contracting (head_of t) (with_meanings (parts_of t)) (place_of t) at bound
+contract_of_is t at bound = ap (λ m. m.contract at bound) (meant_is t)
 
 pub bare_meanings : (ts : List Node) → bare (with_meanings ts) ≡ ts
 bare_meanings [] = refl

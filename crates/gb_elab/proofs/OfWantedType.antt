@@ -14,12 +14,14 @@ use Rattle.gb_same.specs.Types.{ty_eq}
 use Rattle.gb_terms.specs.declared.decl.TypedName.{TypedName}
 use Rattle.gb_terms.specs.declared.op.Op.{Op}
 use Rattle.gb_terms.specs.declared.op.Op.TheVariants as op
+use Rattle.gb_terms.specs.declared.op.Rel.{Rel}
+use Rattle.gb_terms.specs.declared.op.Rel.TheVariants as rel
 use Rattle.gb_terms.specs.declared.op.Side.TheVariants as side
 use Rattle.gb_terms.specs.declared.term.Term.{Term}
 use Rattle.gb_terms.specs.declared.term.Head.{Head as TermHead}
-use Rattle.gb_terms.specs.declared.term.Head.TheVariants.{Lit, User, Whole, Builtin, All, Some as Exist, Equiv, Proc as procedure}
+use Rattle.gb_terms.specs.declared.term.Head.TheVariants.{Lit, User, Whole, Builtin, All, Some as Exist, Equiv, Hoare, Phoare, Proc as procedure}
 use Rattle.gb_terms.specs.declared.term.Head.TheViews.{out-roll-Term}
-use Rattle.gb_terms.specs.Make.{node, applied}
+use Rattle.gb_terms.specs.Make.{node, applied, truth_literal}
 use Rattle.gb_script.specs.declared.head.Head.{Head}
 use Rattle.gb_script.specs.declared.head.Head.TheVariants as head
 use Rattle.gb_script.specs.declared.tree.Node.{Node}
@@ -35,7 +37,7 @@ use Rattle.gb_names.specs.declared.names.Known.TheVariants as known
 use Rattle.gb_names.specs.Allowed.{coin, distribution_here, formula, has_judgments, is_program, judgment, may_have, stands}
 use Rattle.gb_names.specs.Binders.{bound_by, over, over_all, quantifier_of}
 use Rattle.gb_names.specs.Environment.{Environment, on_side}
-use Rattle.gb_names.specs.Judgments.{Named, both_procedures, before, after, equivalent}
+use Rattle.gb_names.specs.Judgments.{Named, both_procedures, one_procedure, before, after, equivalent}
 use Rattle.gb_names.specs.Names.{constant_at, known_at, operator_at, named, path, sided, unit}
 use Rattle.gb_names.specs.Types.{type_of, type_or_number}
 use Rattle.gb_names.specs.Wanted.{HasType, fits, truth, type_of_term, wanted}
@@ -52,8 +54,10 @@ use Rattle.gb_operators.specs.Literals.{as_whole, bound_of, holds, number, numer
 use Rattle.gb_operators.specs.Open.{right_first}
 use Rattle.gb_operators.specs.Operators.{operator_of}
 use Rattle.gb_operators.specs.Rules.{asked, made, rule_for, rule_of, user_made}
+use Rattle.gb_elab.specs.declared.contract.Contract.{Contract}
+use Rattle.gb_elab.specs.OneProcedure.{always, around, ends, lossless, one, relation, with_chance}
 use Rattle.gb_elab.specs.Equalities.{equalities, equality, equation, equation_of, joined, with_equalities}
-use Rattle.gb_elab.specs.Forms.{Meaning, Part, Typing, annotated, applied as applied_name, applied_form, application, bare, bracketed, bracketed_function, by_rule, call, declared, equivalence, function_typing, meaning, meant, only, operand, operands, operation, operator_alone, plain_function, projection, quantified, read, simple, summed, typed_function, typing, under, user_call, value_of, with_side}
+use Rattle.gb_elab.specs.Forms.{Meaning, Part, Typing, annotated, applied as applied_name, applied_form, application, bare, bounded, bracketed, bracketed_function, by_rule, call, contract, declared, equivalence, function_typing, hoare, meaning, meant, only, operand, operands, operation, operator_alone, plain_function, projection, quantified, read, simple, summed, typed_function, typing, under, user_call, value_of, with_side}
 
 refused_not : {A : Type 0} (w : Why) (p : Place) (y : A) → refused w p ≡ given y → (C : Type 0) → C
 refused_not w p y h C = cc
@@ -326,6 +330,33 @@ equivalence_has (f ∷ g ∷ a ∷ b ∷ []) p at bound w u h =
     judgment_has at w p q.0 u q.1 (given_node (Equiv (procedure m.0.0.0) (procedure m.0.1.0)) (pre.0 ∷ post.0 ∷ []) bool_ty u post.2)
 equivalence_has _ p at bound w u h = refused_not Syntax p u h (HasType w u)
 
+chance_type : (c : Contract) (r : Rel) (b u : Term) → given (with_chance c r b) ≡ given u → type_of_term u ≡ bool_ty
+chance_type c r b u h = given_node (Phoare (procedure c.procedure) r) (c.pre ∷ c.post ∷ b ∷ []) bool_ty u h
+
+hoare_has : (ts : List Part) (p : Place) → HasTypes (hoare ts p)
+hoare_has ts p at bound w u h =
+    let q = given_bind (judgment at w p) (λ _. contract ts p at bound >>= λ c. given (always c)) u h in
+    let c = given_bind (contract ts p at bound) (λ c. given (always c)) u q.2 in
+    judgment_has at w p q.0 u q.1 (given_node (Hoare (procedure c.0.procedure)) (c.0.pre ∷ c.0.post ∷ []) bool_ty u c.2)
+
+bounded_has : (x : List ℕ) (ts : List Part) (p : Place) → HasTypes (bounded x ts p)
+bounded_has x (a ∷ r ∷ []) p at bound w u h =
+    let end = λ (s : Rel) (c : Contract) (b : Term). given (with_chance c s b) in
+    let on_bound = λ (s : Rel) (c : Contract). r.1.form (around at) bound (Some ty.Real) >>= λ b. end s c b in
+    let on_contract = λ (s : Rel). a.1.contract at bound >>= λ c. on_bound s c in
+    let q = given_bind (judgment at w p) (λ _. relation x p >>= on_contract) u h in
+    let s = given_bind (relation x p) on_contract u q.2 in
+    let c = given_bind (a.1.contract at bound) (on_bound s.0) u s.2 in
+    let b = given_bind (r.1.form (around at) bound (Some ty.Real)) (end s.0 c.0) u c.2 in
+    judgment_has at w p q.0 u q.1 (chance_type c.0 s.0 b.0 u b.2)
+bounded_has x _ p at bound w u h = refused_not Syntax p u h (HasType w u)
+
+lossless_type : (at : Environment) (bound : List TypedName) (ts : List Node) (p : Place) (u : Term) → lossless at bound ts p ≡ given u → type_of_term u ≡ bool_ty
+lossless_type at bound (f ∷ []) p u h =
+    let m = given_bind (one_procedure at bound f p) (λ m. given (ends m.0)) u h in
+    chance_type (record { procedure = m.0.0; pre = truth_literal true; post = truth_literal true }) rel.Equal one u m.2
+lossless_type at bound _ p u h = refused_not Syntax p u h _
+
 quantified_has : (x : List ℕ) (ks : List Given) (p : Place) → HasTypes (quantified x (all ks) p)
 quantified_has x (bs ∷ a ∷ []) p at bound w u h =
     let f = (said meaning a.0).form in
@@ -371,6 +402,12 @@ of_parts head.Equalities x ks p at bound w u h =
     truth_has w p q.0 u q.1 (equalities_type at bound (bare (all ks)) p u q.2)
 of_parts head.Quantified x ks p at bound w u h = quantified_has x ks p at bound w u h
 of_parts head.Equiv x ks p at bound w u h = equivalence_has (all ks) p at bound w u h
+of_parts head.Hoare x ks p at bound w u h = hoare_has (all ks) p at bound w u h
+of_parts head.Phoare x ks p at bound w u h = let q = given_bind (judgment at w p) (λ _. refused TypeMismatch p) u h in refused_not TypeMismatch p u q.2 (HasType w u)
+of_parts head.Bounded x ks p at bound w u h = bounded_has x (all ks) p at bound w u h
+of_parts head.Lossless x ks p at bound w u h =
+    let q = given_bind (judgment at w p) (λ _. lossless at bound (bare (all ks)) p) u h in
+    judgment_has at w p q.0 u q.1 (lossless_type at bound (bare (all ks)) p u q.2)
 of_parts k x ks p at bound w u h = operation_has (operator_of k x) (all ks) p at bound w u h
 
 value_has : (k : Given) (x : List ℕ) (t : Ty) → HasTypes (value_of x t (k.0, said meaning k.0))

@@ -22,7 +22,7 @@ use Rattle.gb_names.specs.Wanted.{wanted, truth}
 use Rattle.gb_names.specs.Allowed.{coin, formula, judgment, stands}
 use Rattle.gb_names.specs.Binders.{bound_by, over_all, quantifier_of}
 use Rattle.gb_names.specs.Environment.{Name, Environment, sampled}
-use Rattle.gb_names.specs.Judgments.{both_procedures, before, after, equivalent}
+use Rattle.gb_names.specs.Judgments.{both_procedures, one_procedure, before, after, equivalent}
 use Rattle.gb_names.specs.Names.{beside, constant_at, known_at, named, operator_at, path, unit}
 use Rattle.gb_names.specs.Types.{type_or_number}
 use Rattle.gb_operators.specs.declared.domain.Domain.{Domain}
@@ -39,17 +39,24 @@ use Rattle.gb_operators.specs.Literals.{bound_of, numeral, part_number}
 use Rattle.gb_operators.specs.Open.{right_first}
 use Rattle.gb_operators.specs.Operators.{operator_of}
 use Rattle.gb_operators.specs.Rules.{asked, made, rule_for, rule_of, user_made}
+use Rattle.gb_elab.specs.declared.contract.Contract.{Contract}
+use Rattle.gb_elab.specs.OneProcedure.{after_one, always, around, before_one, lossless, relation, with_chance}
 use Rattle.gb_elab.specs.Equalities.{equalities}
 
 -- what a form means, in an environment, under bound names, the innermost first, and with a wanted type, or none
 abbrev pub Typing : Type 0
 Typing = Environment → List TypedName → Option Ty → Answer Term
 
--- What a node means: as a form; and as a function of one variable, of which a type is asked, with the type that is wanted of
--- its value.
+-- what a judgment of one procedure says but for its bound
+abbrev pub Contracting : Type 0
+Contracting = Environment → List TypedName → Answer Contract
+
+-- What a node means: as a form; as a function of one variable, of which a type is asked, with the type that is wanted of its
+-- value; and as a judgment behind which a bound stands.
 pub record Meaning : Type 0 where
   pub form : Typing
   pub function : Domain → Typing
+  pub contract : Contracting
 
 -- a part of a form, with what it means
 abbrev pub Part : Type 0
@@ -198,6 +205,31 @@ equivalence (f ∷ g ∷ a ∷ b ∷ []) p at bound w = do
   given (equivalent both.0.0 both.1.0 pre post)
 equivalence _ p at bound w = not_built p
 
+-- a contract of one procedure: its precondition reads the parameters, its postcondition the result
+abbrev pub contract : List Part → Place → Contracting
+contract (f ∷ a ∷ b ∷ []) p at bound = do
+  m ← one_procedure at bound f.0 p
+  pre ← a.1.form (before_one at m.1) bound (Some ty.Bool)
+  post ← b.1.form (after_one at m.1) bound (Some ty.Bool)
+  given (record { procedure = m.0; pre = pre; post = post })
+contract _ p at bound = not_built p
+
+abbrev pub hoare : List Part → Place → Typing
+hoare ps p at bound w = do
+  _ ← judgment at w p
+  c ← contract ps p at bound
+  given (always c)
+
+-- a judgment with a relation and a bound behind it
+abbrev pub bounded : Name → List Part → Place → Typing
+bounded x (a ∷ r ∷ []) p at bound w = do
+  _ ← judgment at w p
+  s ← relation x p
+  c ← a.1.contract at bound
+  b ← r.1.form (around at) bound (Some ty.Real)
+  given (with_chance c s b)
+bounded x _ p at bound w = not_built p
+
 -- The typing of each form from its head, its text, its parts, each with what it means, and its place. Where a form has a type
 -- by its shape alone, that is tested before its parts. What isn't built is the last clause, where no form stands either that
 -- has other parts than its head is read with.
@@ -226,6 +258,14 @@ typing head.Equalities x ps p at bound w = do
   equalities at bound (bare ps) p
 typing head.Quantified x ps p at bound w = quantified x ps p at bound w
 typing head.Equiv x ps p at bound w = equivalence ps p at bound w
+typing head.Hoare x ps p at bound w = hoare ps p at bound w
+typing head.Phoare x ps p at bound w = do
+  _ ← judgment at w p
+  refused TypeMismatch p
+typing head.Bounded x ps p at bound w = bounded x ps p at bound w
+typing head.Lossless x ps p at bound w = do
+  _ ← judgment at w p
+  lossless at bound (bare ps) p
 typing h x ps p at bound w = operation (operator_of h x) ps p at bound w
 
 -- the variable of a function, which has one
@@ -262,8 +302,13 @@ function_typing head.Function ps p d at bound w = plain_function ps p d at bound
 function_typing head.TypedFunction ps p d at bound w = typed_function ps p d at bound w
 function_typing _ ps p d at bound w = refused TypeMismatch p
 
+-- a judgment that needs a bound
+abbrev pub contracting : Head → List Part → Place → Contracting
+contracting head.Phoare ps p at bound = contract ps p at bound
+contracting _ ps p at bound = refused TypeMismatch p
+
 abbrev pub meaning : Head → Name → List Part → Place → Meaning
-meaning h x ps p = record { form = typing h x ps p; function = function_typing h ps p }
+meaning h x ps p = record { form = typing h x ps p; function = function_typing h ps p; contract = contracting h ps p }
 
 -- what a node means
 unfoldable pub meant : Node → Meaning
@@ -276,6 +321,10 @@ elaborated t = (meant t).form
 -- the typed tree of the value of a function, or its refusal
 abbrev pub function_of : Node → Domain → Typing
 function_of t = (meant t).function
+
+-- what a judgment says but for its bound, or its refusal
+abbrev pub contract_of : Node → Contracting
+contract_of t = (meant t).contract
 
 -- nodes, each with what it means
 abbrev pub with_meanings : List Node → List Part

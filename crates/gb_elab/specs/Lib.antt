@@ -1,2 +1,3 @@
+pub mod OneProcedure
 pub mod Equalities
 pub mod Forms

@@ -4,13 +4,17 @@ ghost use Rattle.std.specs.Prelude.{◌≡◌, [], ◌∷◌, drop, Some};
 ghost use Rattle.std.specs.Option.{option_copied};
 ghost use Rattle.gb_script.specs.Tree.{head_of, text_of, parts_of, place_of};
 ghost use Rattle.gb_goal.specs.Answers.{Answers, Gives, ◌>>=◌ as ◌and_then◌};
-ghost use Rattle.gb_goal.specs.Answers.Answer.{given};
+ghost use Rattle.gb_core.specs.declared.refusal.Why.TheVariants.{TypeMismatch};
+ghost use Rattle.gb_goal.specs.Answers.Answer.{given, refused};
+ghost use Rattle.gb_names.specs.Allowed.{judgment};
+ghost use Rattle.gb_elab.specs.OneProcedure.{after_one, around, before_one, lossless, with_chance};
 ghost use Rattle.gb_names.specs.Environment.{ambient, environment};
 ghost use Rattle.gb_names.specs.Names.{constant_at, operator_at, path};
 ghost use Rattle.gb_operators.specs.Rules.{asked};
 ghost use Rattle.gb_names.specs.Judgments.{after, before, equivalent};
-ghost use Rattle.gb_elab.specs.Forms.{annotated, applied, applied_form, application, bracketed, bracketed_function, by_rule, call, declared, elaborated, equivalence, from_right, function, function_of, function_typing, meant, only, operand, operands, operation, operator_alone, plain_function, projection, quantified, read, simple, summed, typed_function, typing, under, user_call, value_of, with_meanings, with_side};
+ghost use Rattle.gb_elab.specs.Forms.{annotated, applied, applied_form, application, bounded, bracketed, bracketed_function, by_rule, call, contract, contract_of, declared, elaborated, equivalence, hoare, from_right, function, function_of, function_typing, meant, only, operand, operands, operation, operator_alone, plain_function, projection, quantified, read, simple, summed, typed_function, typing, under, user_call, value_of, with_meanings, with_side};
 
+use crate::contract::{Contract, always, lossless, relation, with_chance};
 use crate::equalities::equalities;
 use gb_core::name::Name;
 use gb_core::place::Place;
@@ -20,7 +24,7 @@ use gb_goal::scope::{OperatorType, Scope};
 use gb_goal::sequent::Sequent;
 use gb_names::allowed::{coin, formula, judgment, stands};
 use gb_names::binders::{Quantifier, bound_by, over_all, quantifier_of, variable, within};
-use gb_names::judgment::{Both, both_procedures, equiv, result_of};
+use gb_names::judgment::{Both, Named, both_procedures, equiv, one_procedure, result_of};
 use gb_names::names::{Known, beside, constant_at, known_at, named, operator_at, path, unit};
 use gb_names::refusals::{argument, mismatch, not_built};
 use gb_names::setting::Setting;
@@ -38,6 +42,7 @@ use gb_script::head::Head;
 use gb_script::tree::Node;
 use gb_shared::Shared;
 use gb_terms::decl::{Typed, TypedName};
+use gb_terms::op::Rel;
 use gb_terms::term::{Form, Term, Terms};
 use sqlite_items::Items;
 use std::alloc::Global;
@@ -132,6 +137,10 @@ fn typing(
         Head::Equalities => equalities(alloc, at, bound, parts, want, place),
         Head::Quantified => quantified(alloc, at, bound, text, parts, place, want),
         Head::Equiv => equivalence(alloc, at, bound, parts, place, want),
+        Head::Hoare => hoare(alloc, at, bound, parts, place, want),
+        Head::Phoare => without_bound(at, place, want),
+        Head::Bounded => bounded(alloc, at, bound, text, parts, place, want),
+        Head::Lossless => lossless(alloc, at, bound, parts, place, want),
         _ => operation(
             alloc,
             at,
@@ -717,6 +726,161 @@ fn with_postcondition(
 {
     let post = postcondition(alloc, at, bound, post, both)?;
     equiv(alloc, both, pre, post).map_err(Refused::from)
+}
+
+/// A judgment of one procedure that needs no bound.
+#[cycle(form)]
+fn hoare(
+    alloc: Global,
+    at: &Setting<'_>,
+    bound: &[TypedName],
+    parts: &[Node],
+    place: Place,
+    want: Option<&Ty>,
+) -> Result<Form, Refused>
+    ensures { Answers (hoare (with_meanings parts.now) place (environment at.now) bound.now (option_copied want.entry)) result }
+{
+    judgment(at, want, place)?;
+    let contract = contract(alloc, at, bound, parts, place)?;
+    always(alloc, contract).map_err(Refused::from)
+}
+
+/// Refuses a judgment without the bound that it needs.
+fn without_bound(at: &Setting<'_>, place: Place, want: Option<&Ty>) -> Result<Form, Refused>
+    ensures { Answers (judgment (environment at.now) (option_copied want.entry) place and_then λ _. refused TypeMismatch place) result }
+{
+    judgment(at, want, place)?;
+    Err(mismatch(place))
+}
+
+/// A judgment of one procedure with its bound, which reads logical variables alone.
+#[cycle(form)]
+fn bounded(
+    alloc: Global,
+    at: &Setting<'_>,
+    bound: &[TypedName],
+    sign: &Name,
+    parts: &[Node],
+    place: Place,
+    want: Option<&Ty>,
+) -> Result<Form, Refused>
+    ensures { Answers (bounded sign.now (with_meanings parts.now) place (environment at.now) bound.now (option_copied want.entry)) result }
+{
+    match parts {
+        [judged, limit] => {
+            judgment(at, want, place)?;
+            let relation = relation(sign, place)?;
+            let contract = contract_of(alloc, at, bound, judged)?;
+            bounded_by(alloc, at, bound, contract, relation, limit)
+        }
+        _ => Err(not_built(place)),
+    }
+}
+
+/// A contract with a relation and a bound.
+#[cycle(form)]
+fn bounded_by(
+    alloc: Global,
+    at: &Setting<'_>,
+    bound: &[TypedName],
+    contract: Contract,
+    relation: Rel,
+    limit: &Node,
+) -> Result<Form, Refused>
+    ensures { Answers (elaborated limit.now (around (environment at.now)) bound.now (Some Ty.Real) and_then λ b. given (with_chance contract relation b)) result }
+{
+    let around = Setting::ambient(at.scope, at.sequent);
+    let limit = typed(alloc, &around, bound, limit, Some(&Ty::Real))?;
+    with_chance(alloc, contract, relation, limit).map_err(Refused::from)
+}
+
+/// A judgment of one procedure behind which its bound stands.
+#[cycle(form)]
+fn contract_of(
+    alloc: Global,
+    at: &Setting<'_>,
+    bound: &[TypedName],
+    t: &Node,
+) -> Result<Contract, Refused>
+    ensures { Answers (contract_of t.now (environment at.now) bound.now) result }
+{
+    match t.head {
+        Head::Phoare => contract(alloc, at, bound, t.parts.as_slice(), t.place),
+        _ => Err(mismatch(t.place)),
+    }
+}
+
+/// What a judgment says of one procedure: its precondition reads the parameters.
+#[cycle(form)]
+fn contract(
+    alloc: Global,
+    at: &Setting<'_>,
+    bound: &[TypedName],
+    parts: &[Node],
+    place: Place,
+) -> Result<Contract, Refused>
+    ensures { Answers (contract (with_meanings parts.now) place (environment at.now) bound.now) result }
+{
+    match parts {
+        [f, pre, post] => {
+            let named = one_procedure(alloc, at, bound, f, place)?;
+            let pre = before_one(alloc, at, bound, pre, &named)?;
+            with_result(alloc, at, bound, post, &named, pre)
+        }
+        _ => Err(not_built(place)),
+    }
+}
+
+/// The precondition of a judgment of one procedure, which reads its parameters.
+#[cycle(form)]
+fn before_one(
+    alloc: Global,
+    at: &Setting<'_>,
+    bound: &[TypedName],
+    pre: &Node,
+    named: &Named<'_>,
+) -> Result<Form, Refused>
+    ensures { Answers (elaborated pre.now (before_one (environment at.now) named.now.procedure.now) bound.now (Some Ty.Bool)) result }
+{
+    let before = Setting::unary(at.scope, at.sequent, named.procedure.params.as_slice());
+    typed(alloc, &before, bound, pre, Some(&Ty::Bool))
+}
+
+/// The postcondition of a judgment of one procedure, which reads its result.
+#[cycle(form)]
+fn after_one(
+    alloc: Global,
+    at: &Setting<'_>,
+    bound: &[TypedName],
+    post: &Node,
+    named: &Named<'_>,
+) -> Result<Form, Refused>
+    ensures { Answers (elaborated post.now (after_one (environment at.now) named.now.procedure.now) bound.now (Some Ty.Bool)) result }
+{
+    let result = result_of(alloc, named.procedure)?;
+    let after = Setting::unary(at.scope, at.sequent, result.as_slice());
+    typed(alloc, &after, bound, post, Some(&Ty::Bool))
+}
+
+/// What a judgment says of one procedure behind its precondition.
+#[cycle(form)]
+fn with_result(
+    alloc: Global,
+    at: &Setting<'_>,
+    bound: &[TypedName],
+    post: &Node,
+    named: &Named<'_>,
+    pre: Form,
+) -> Result<Contract, Refused>
+    ensures { Answers (elaborated post.now (after_one (environment at.now) named.now.procedure.now) bound.now (Some Ty.Bool) and_then λ post. given (record { procedure = named.now.reference; pre = pre; post = post })) result }
+{
+    let post = after_one(alloc, at, bound, post, named)?;
+    let procedure = named.reference.share()?;
+    Ok(Contract {
+        procedure,
+        pre,
+        post,
+    })
 }
 
 /// The typed tree of a function of one variable from a type to a type, with its variable as the only bound one.

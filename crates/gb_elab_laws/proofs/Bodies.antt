@@ -23,10 +23,10 @@ use Rattle.gb_typing.specs.Scopes.{of_operator as in_operator, IsMeasured, AreMe
 use Rattle.gb_names.specs.Binders.{of_type}
 use Rattle.gb_names.specs.Types.{all_given, type_of, type_or_number}
 use Rattle.gb_elab.specs.Forms.{elaborated}
-use Rattle.gb_elab_mod.specs.declared.context.Bound.{Bound}
-use Rattle.gb_elab_mod.specs.Contexts.{taken, nothing_bound}
-use Rattle.gb_elab_mod.specs.Lemmas.{small}
-use Rattle.gb_elab_mod.specs.Operators.{of_body, of_one_type, parameters, all_parameters, written, body, defined, undefined, operator_entry}
+use Rattle.gb_elab_prog.specs.declared.context.Bound.{Bound}
+use Rattle.gb_elab_prog.specs.Contexts.{taken, nothing_bound}
+use Rattle.gb_elab_prog.specs.Sizes.{small}
+use Rattle.gb_elab_prog.specs.Operators.{of_body, of_one_type, parameters, all_parameters, written, body, defined, undefined, operator_entry}
 use Rattle.gb_elab_laws.specs.Fitting.{IsFormType, IsFormTypeIf, AreTypes, AreDeclared, IsFitting}
 use Rattle.gb_elab_laws.proofs.Given.{given_bind, given_is, if_refused}
 use Rattle.gb_elab_laws.proofs.Measured.{measured, measured_form}
@@ -90,6 +90,8 @@ body_fits ds c vs names h = record {
   bound = parameters_bound vs h;
   variables = tt;
   declared = names;
+  around = tt;
+  globals = λ e. absurd (false≢true e);
   procedures = λ e p f k. absurd (false≢true e);
 }
 

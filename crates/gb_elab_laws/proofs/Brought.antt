@@ -4,7 +4,7 @@ use Rattle.std.proofs.lemmas.Bool.{false≢true}
 use Rattle.std.specs.Prelude.{codes, bytes_eq}
 use Rattle.gb_core.specs.declared.place.Place.{Place}
 use Rattle.gb_core.specs.declared.ty.Ty.TheVariants as ty
-use Rattle.gb_terms.specs.declared.term.Term.{Term}
+use Rattle.gb_terms.specs.declared.term.Term.{Term, out-Term}
 use Rattle.gb_goal.specs.Scope as scope
 use Rattle.gb_goal.specs.declared.sequent.Sequent.{Sequent}
 use Rattle.gb_steps.specs.declared.step.AmbientRule.{AmbientRule}
@@ -12,9 +12,9 @@ use Rattle.gb_steps.specs.declared.step.AmbientRule.TheVariants as conclusion
 use Rattle.gb_steps.specs.declared.step.Rule.{Rule}
 use Rattle.gb_steps.specs.declared.step.Rule.TheVariants as rule
 use Rattle.gb_steps.specs.declared.step.BodyRule.TheVariants as on_bodies
-use Rattle.gb_steps.specs.declared.step.RelationalRule.TheVariants as relational
 use Rattle.gb_steps.specs.declared.step.Step.{Step}
 use Rattle.gb_goal.specs.Answers.{not_built}
+use Rattle.gb_goal.specs.Goal.{goal_of, judges_bodies}
 use Rattle.gb_goal.specs.Answers.Answer.{given}
 use Rattle.gb_script.specs.declared.head.Head.{Head as Kind}
 use Rattle.gb_script.specs.declared.head.Head.TheVariants as text
@@ -26,8 +26,8 @@ use Rattle.gb_typing.specs.Typing.{IsForm}
 use Rattle.gb_typing.specs.Sequents.{of_sequent, IsTypedSequent}
 use Rattle.gb_typing.specs.Scopes.{context_of, IsTypedScope}
 use Rattle.gb_names.specs.Environment.{ambient}
-use Rattle.gb_elab_mod.specs.Steps.{acts, couplings, cut_of, functions_of, conclusion_rule, new_name, formed, of_bodies_rule, of_conclusion, on_all, plain_rule, seq_rule, typed_rule, step_given}
-use Rattle.gb_elab_mod.specs.Unbuilt.{absent}
+use Rattle.gb_elab_mod.specs.Steps.{acts, coupling_rule, couplings, cut_of, functions_of, conclusion_rule, new_name, formed, case_of_bodies, case_of_conclusion, of_bodies_rule, on_all, plain_rule, seq_rule, typed_rule, step_given}
+use Rattle.gb_elab_prog.specs.Unbuilt.{absent}
 use Rattle.gb_elab_laws.proofs.Given.{given_bind, given_is}
 use Rattle.gb_elab_laws.proofs.Fits.{goal_fits}
 use Rattle.gb_elab_laws.proofs.Forms.{elaborated_typed}
@@ -60,6 +60,11 @@ module _ (ds : scope.Declarations) (scoped : IsTypedScope (declared ds)) (q : Se
   other : (j k : Rule) → is_ambient j ≡ false → j ≡ k → HasForms k
   other j k n e = λ r f. absurd (false≢true (sym n ∙ ap is_ambient (e ∙ f)))
 
+  no_ambient : (fs : List Node) (us : List Term) → is_ambient (coupling_rule fs us) ≡ false
+  no_ambient [] us = refl
+  no_ambient (f ∷ fs) [] = refl
+  no_ambient (f ∷ fs) (u ∷ us) = refl
+
   plain_typed : (x : List ℕ) (p : Place) (a : AmbientRule) → conclusion_rule x p ≡ given a → IsTypedStep here a
   plain_typed x p a h = by_name (bytes_eq x (codes "split")) (bytes_eq x (codes "left")) (bytes_eq x (codes "right")) (bytes_eq x (codes "assumption")) h
     where
@@ -70,22 +75,26 @@ module _ (ds : scope.Declarations) (scoped : IsTypedScope (declared ds)) (q : Se
       by_name false false false true h = subst (IsTypedStep here) (given_is conclusion.Assumption a h) tt
       by_name false false false false h = cc
 
+  of_case : (f : Node) (k : Rule) (b : Bool) → (if b then of_bodies_rule (case_of_bodies ds q f (goal_of q.conclusion)) else case_of_conclusion ds q f) ≡ given k → HasForms k
+  of_case f k true h =
+      let y = given_bind (case_of_bodies ds q f (goal_of q.conclusion)) (λ z. given (rule.OnBodies z)) k h in other (rule.OnBodies y.0) k refl (given_is (rule.OnBodies y.0) k y.2)
+  of_case f k false h =
+      let z = given_bind (formed ds q f) (λ (t : Term). given (rule.Ambient (conclusion.Case t))) k h in
+      brings (conclusion.Case z.0) (form_typed f z.0 z.1) k (given_is (rule.Ambient (conclusion.Case z.0)) k z.2)
+
   rule_forms : (n : Kind) (x : List ℕ) (xs : List Node) (p : Place) (k : Rule) → typed_rule ds q n x xs p ≡ given k → HasForms k
   rule_forms text.PlainStep x [] p k h =
       let o = given_bind (conclusion_rule x p) (λ (a : AmbientRule). given (rule.Ambient a)) k h in brings o.0 (plain_typed x p o.0 o.1) k (given_is (rule.Ambient o.0) k o.2)
   rule_forms text.CaseStep x (b ∷ f ∷ []) p k h =
-      let o = given_bind (absent (parts_of b) p) _ k h in
-      let y = given_bind (of_conclusion q p) _ k o.2 in
-      let z = given_bind (formed ds q f) (λ (t : Term). given (rule.Ambient (conclusion.Case t))) k y.2 in
-      brings (conclusion.Case z.0) (form_typed f z.0 z.1) k (given_is (rule.Ambient (conclusion.Case z.0)) k z.2)
+      let o = given_bind (absent (parts_of b) p) _ k h in of_case f k (judges_bodies (out-Term q.conclusion).head) o.2
   rule_forms text.HaveForm x (n ∷ f ∷ []) p k h =
       let o = given_bind (new_name q (text_of n) (place_of n)) _ k h in
       let z = given_bind (formed ds q f) (λ (t : Term). given (rule.Ambient (conclusion.Have (text_of n) t))) k o.2 in
       brings (conclusion.Have (text_of n) z.0) (form_typed f z.0 z.1) k (given_is (rule.Ambient (conclusion.Have (text_of n) z.0)) k z.2)
   rule_forms text.Rnd x (b ∷ fs) p k h =
       let o = given_bind (absent (parts_of b) p) _ k h in
-      let y = given_bind (couplings ds q (functions_of fs)) (λ (us : List Term). given (rule.Relational (relational.Rnd us))) k o.2 in
-      other (rule.Relational (relational.Rnd y.0)) k refl (given_is (rule.Relational (relational.Rnd y.0)) k y.2)
+      let y = given_bind (couplings ds q (functions_of fs)) (λ (us : List Term). given (coupling_rule (functions_of fs) us)) k o.2 in
+      other (coupling_rule (functions_of fs) y.0) k (no_ambient (functions_of fs) y.0) (given_is (coupling_rule (functions_of fs) y.0) k y.2)
   rule_forms text.Proc x (b ∷ i ∷ []) p k h =
       let y = given_bind (absent (parts_of i) p) (λ _. given (rule.OnBodies (on_all (acts (parts_of b)) on_bodies.Proc))) k h in
       other (rule.OnBodies (on_all (acts (parts_of b)) on_bodies.Proc)) k refl (given_is (rule.OnBodies (on_all (acts (parts_of b)) on_bodies.Proc)) k y.2)
@@ -96,6 +105,12 @@ module _ (ds : scope.Declarations) (scoped : IsTypedScope (declared ds)) (q : Se
       let y = given_bind (seq_rule ds q (acts (parts_of b)) (cut_of n (parts_of ns)) f) (λ z. given (rule.OnBodies z)) k o.2 in
       other (rule.OnBodies y.0) k refl (given_is (rule.OnBodies y.0) k y.2)
   rule_forms text.Smt x hints p k h = let o = given_bind (absent hints p) (λ _. given rule.Smt) k h in other rule.Smt k refl (given_is rule.Smt k o.2)
+  rule_forms text.Name x [] p k h = brings (conclusion.Introduce x) tt k (given_is (rule.Ambient (conclusion.Introduce x)) k h)
+  rule_forms text.Memory x (n ∷ []) p k h = brings (conclusion.IntroduceMemory (text_of n)) tt k (given_is (rule.Ambient (conclusion.IntroduceMemory (text_of n))) k h)
+  rule_forms text.Drop x [] p k h = brings conclusion.Discard tt k (given_is (rule.Ambient conclusion.Discard) k h)
+  rule_forms text.BothPatterns x ps p k h = brings conclusion.Unpack tt k (given_is (rule.Ambient conclusion.Unpack) k h)
+  rule_forms text.EitherPattern x ps p k h = brings conclusion.Branch tt k (given_is (rule.Ambient conclusion.Branch) k h)
+  rule_forms text.SmtPattern x [] p k h = other rule.Smt k refl (given_is rule.Smt k h)
   rule_forms _ x _ p k h = cc
 
 pub step_forms : (ds : scope.Declarations) → IsTypedScope (declared ds) → (q : Sequent) (t : IsTypedSequent (context_of (declared ds)) q) →

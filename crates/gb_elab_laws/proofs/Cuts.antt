@@ -5,9 +5,10 @@ use Rattle.gb_core.specs.declared.place.Place.{Place}
 use Rattle.gb_core.specs.declared.ty.Ty.TheVariants as ty
 use Rattle.gb_terms.specs.declared.decl.TypedName.{TypedName}
 use Rattle.gb_terms.specs.declared.op.Side.TheVariants as side
-use Rattle.gb_terms.specs.declared.term.Term.{Term}
+use Rattle.gb_terms.specs.declared.term.Term.{Term, out-Term}
+use Rattle.gb_terms.specs.declared.term.Instr.{Instr}
 use Rattle.gb_goal.specs.Scope as scope
-use Rattle.gb_goal.specs.Goal.{Goal, goal_of}
+use Rattle.gb_goal.specs.Goal.{Goal, goal_of, judges_bodies}
 use Rattle.gb_goal.specs.Goal.Code.{body, procedure}
 use Rattle.gb_goal.specs.Goal.Goal.{hoare, phoare, equiv, ambient}
 use Rattle.gb_goal.specs.declared.sequent.Sequent.{Sequent}
@@ -21,7 +22,6 @@ use Rattle.gb_steps.specs.declared.step.Cut.{Cut}
 use Rattle.gb_steps.specs.declared.step.Cut.TheVariants as cut
 use Rattle.gb_steps.specs.declared.step.Rule.{Rule}
 use Rattle.gb_steps.specs.declared.step.Rule.TheVariants as rule
-use Rattle.gb_steps.specs.declared.step.RelationalRule.TheVariants as relational_rule
 use Rattle.gb_steps.specs.declared.step.Step.{Step}
 use Rattle.gb_script.specs.declared.head.Head.{Head as Kind}
 use Rattle.gb_script.specs.declared.head.Head.TheVariants as text
@@ -29,6 +29,8 @@ use Rattle.gb_script.specs.declared.tree.Node.{Node}
 use Rattle.gb_script.specs.Tree.{head_of, text_of, parts_of, place_of}
 use Rattle.gb_holds.specs.Declared.{declared}
 use Rattle.gb_typing.specs.Context.{Context}
+use Rattle.gb_typing.specs.Programs.{IsBody}
+use Rattle.gb_typing.specs.Typing.{IsForm}
 use Rattle.gb_typing.specs.Sequents.{one, two, of_sequent, IsTypedSequent}
 use Rattle.gb_typing.specs.Scopes.{context_of, IsTypedScope}
 use Rattle.gb_rules.specs.Typing.{IsGoalOver}
@@ -37,8 +39,8 @@ use Rattle.gb_goal.specs.Answers.Answer.{given}
 use Rattle.gb_names.specs.Environment.{relational, unary}
 use Rattle.gb_elab.specs.Forms.{elaborated}
 use Rattle.gb_elab_mod.specs.Occurring.{occurring}
-use Rattle.gb_elab_mod.specs.Steps.{acts, conclusion_rule, couplings, cut_of, cut_rule, formed, functions_of, new_name, of_bodies_rule, of_conclusion, on_all, plain_rule, seq_rule, step_given, typed_rule}
-use Rattle.gb_elab_mod.specs.Unbuilt.{absent}
+use Rattle.gb_elab_mod.specs.Steps.{acts, case_of_bodies, case_of_conclusion, case_rule, conclusion_rule, coupling_rule, couplings, cut_of, cut_rule, formed, functions_of, new_name, of_bodies_rule, on_all, plain_rule, seq_rule, step_given, typed_rule}
+use Rattle.gb_elab_prog.specs.Unbuilt.{absent}
 use Rattle.gb_bodies.specs.Rows.{IsTypedRule}
 use Rattle.gb_elab_laws.proofs.Given.{given_bind, given_is}
 use Rattle.gb_elab_laws.proofs.Ends.{occurring_in}
@@ -53,24 +55,35 @@ module _ (ds : scope.Declarations) (scoped : IsTypedScope (declared ds)) (q : Se
   abbrev Typed : Goal → BodyRule → Type 0
   Typed G r = IsTypedRule here (rule.OnBodies r) ls rs G
 
+  -- a form over the locals that occur in a judgment of bodies is typed over those of the bodies
+  said_of_one : (is : List Instr) (p g : Term) → IsBody here ls is → IsForm (one here ls) p → IsForm (one here ls) g → (n : Node) (f : Term) →
+      elaborated n (unary ds q (occurring (p ∷ g ∷ []) side.Own is)) [] (Some ty.Bool) ≡ given f → IsForm (one here ls) f
+  said_of_one is p g over before after n f h =
+      let xs = occurring (p ∷ g ∷ []) side.Own is in
+      let fits = one_fits ds scoped q t ls xs (occurring_in ls here side.Own p g is (reads_stand (one here ls) p before.typed side.Own tt) (reads_stand (one here ls) g after.typed side.Own tt) over) in
+      let e = elaborated_typed n (one here ls) (unary ds q xs) [] fits (Some ty.Bool) tt f h in
+      record { typed = e.typed; truth = e.wanted }
+
+  said_of_two : (is js : List Instr) (p g : Term) → IsBody here ls is → IsBody here rs js → IsForm (two here ls rs) p → IsForm (two here ls rs) g → (n : Node) (f : Term) →
+      elaborated n (relational ds q (occurring (p ∷ g ∷ []) side.Left is) (occurring (p ∷ g ∷ []) side.Right js)) [] (Some ty.Bool) ≡ given f → IsForm (two here ls rs) f
+  said_of_two is js p g left right before after n f h =
+      let xs = occurring (p ∷ g ∷ []) side.Left is in
+      let ys = occurring (p ∷ g ∷ []) side.Right js in
+      let fits =
+      two_fit ds scoped q t ls rs xs ys
+      (occurring_in ls here side.Left p g is (reads_stand (two here ls rs) p before.typed side.Left tt) (reads_stand (two here ls rs) g after.typed side.Left tt) left)
+      (occurring_in rs here side.Right p g js (reads_stand (two here ls rs) p before.typed side.Right tt) (reads_stand (two here ls rs) g after.typed side.Right tt) right) in
+      let e = elaborated_typed n (two here ls rs) (relational ds q xs ys) [] fits (Some ty.Bool) tt f h in
+      record { typed = e.typed; truth = e.wanted }
+
   cut_typed : (G : Goal) → IsGoalOver here ls rs G → (k : Cut) (n : Node) (r : BodyRule) → cut_rule ds q k n G ≡ given r → Typed G r
   unfolding cut_rule
   cut_typed (hoare (body is) p g) w (cut.One k) n r h =
-      let xs = occurring (p ∷ g ∷ []) side.Own is in
-      let f = given_bind (elaborated n (unary ds q xs) [] (Some ty.Bool)) (λ f. given (on_bodies.Seq (cut.One k) f)) r h in
-      let fits = one_fits ds scoped q t ls xs (occurring_in ls here side.Own p g is (reads_stand (one here ls) p w.1.typed side.Own tt) (reads_stand (one here ls) g w.2.typed side.Own tt) w.0) in
-      let e = elaborated_typed n (one here ls) (unary ds q xs) [] fits (Some ty.Bool) tt f.0 f.1 in
-      subst (Typed (hoare (body is) p g)) {x = on_bodies.Seq (cut.One k) f.0} (given_is (on_bodies.Seq (cut.One k) f.0) r f.2) (record { typed = e.typed; truth = e.wanted })
+      let f = given_bind (elaborated n (unary ds q (occurring (p ∷ g ∷ []) side.Own is)) [] (Some ty.Bool)) (λ f. given (on_bodies.Seq (cut.One k) f)) r h in
+      subst (Typed (hoare (body is) p g)) {x = on_bodies.Seq (cut.One k) f.0} (given_is (on_bodies.Seq (cut.One k) f.0) r f.2) (said_of_one is p g w.0 w.1 w.2 n f.0 f.1)
   cut_typed (equiv (body is) (body js) p g) w (cut.Two k l) n r h =
-      let xs = occurring (p ∷ g ∷ []) side.Left is in
-      let ys = occurring (p ∷ g ∷ []) side.Right js in
-      let f = given_bind (elaborated n (relational ds q xs ys) [] (Some ty.Bool)) (λ f. given (on_bodies.Seq (cut.Two k l) f)) r h in
-      let fits =
-      two_fit ds scoped q t ls rs xs ys
-      (occurring_in ls here side.Left p g is (reads_stand (two here ls rs) p w.3.typed side.Left tt) (reads_stand (two here ls rs) g w.4.typed side.Left tt) w.1)
-      (occurring_in rs here side.Right p g js (reads_stand (two here ls rs) p w.3.typed side.Right tt) (reads_stand (two here ls rs) g w.4.typed side.Right tt) w.2) in
-      let e = elaborated_typed n (two here ls rs) (relational ds q xs ys) [] fits (Some ty.Bool) tt f.0 f.1 in
-      subst (Typed (equiv (body is) (body js) p g)) {x = on_bodies.Seq (cut.Two k l) f.0} (given_is (on_bodies.Seq (cut.Two k l) f.0) r f.2) (record { typed = e.typed; truth = e.wanted })
+      let f = given_bind (elaborated n (relational ds q (occurring (p ∷ g ∷ []) side.Left is) (occurring (p ∷ g ∷ []) side.Right js)) [] (Some ty.Bool)) (λ f. given (on_bodies.Seq (cut.Two k l) f)) r h in
+      subst (Typed (equiv (body is) (body js) p g)) {x = on_bodies.Seq (cut.Two k l) f.0} (given_is (on_bodies.Seq (cut.Two k l) f.0) r f.2) (said_of_two is js p g w.1 w.2 w.3 w.4 n f.0 f.1)
   cut_typed (hoare (body is) p g) w (cut.Two k l) n r h = subst (Typed (hoare (body is) p g)) (given_is on_bodies.Unfit r h) tt
   cut_typed (hoare (procedure a) p g) w (cut.One k) n r h = subst (Typed (hoare (procedure a) p g)) (given_is on_bodies.Unfit r h) tt
   cut_typed (hoare (procedure a) p g) w (cut.Two k l) n r h = subst (Typed (hoare (procedure a) p g)) (given_is on_bodies.Unfit r h) tt
@@ -83,6 +96,23 @@ module _ (ds : scope.Declarations) (scoped : IsTypedScope (declared ds)) (q : Se
   cut_typed (ambient f) w (cut.One k) n r h = subst (Typed (ambient f)) (given_is on_bodies.Unfit r h) tt
   cut_typed (ambient f) w (cut.Two k l) n r h = subst (Typed (ambient f)) (given_is on_bodies.Unfit r h) tt
   cut_typed (equiv (body is) (body js) p g) w (cut.One k) n r h = subst (Typed (equiv (body is) (body js) p g)) (given_is on_bodies.Unfit r h) tt
+
+  bodies_typed : (G : Goal) → IsGoalOver here ls rs G → (n : Node) (r : BodyRule) → case_of_bodies ds q n G ≡ given r → Typed G r
+  unfolding case_of_bodies
+  bodies_typed (hoare (body is) p g) w n r h =
+      let f = given_bind (elaborated n (unary ds q (occurring (p ∷ g ∷ []) side.Own is)) [] (Some ty.Bool)) (λ f. given (on_bodies.Case f)) r h in
+      subst (Typed (hoare (body is) p g)) {x = on_bodies.Case f.0} (given_is (on_bodies.Case f.0) r f.2) (said_of_one is p g w.0 w.1 w.2 n f.0 f.1)
+  bodies_typed (phoare (body is) o p g b) w n r h =
+      let f = given_bind (elaborated n (unary ds q (occurring (p ∷ g ∷ []) side.Own is)) [] (Some ty.Bool)) (λ f. given (on_bodies.Case f)) r h in
+      subst (Typed (phoare (body is) o p g b)) {x = on_bodies.Case f.0} (given_is (on_bodies.Case f.0) r f.2) (said_of_one is p g w.0 w.1 w.2 n f.0 f.1)
+  bodies_typed (equiv (body is) (body js) p g) w n r h =
+      let f = given_bind (elaborated n (relational ds q (occurring (p ∷ g ∷ []) side.Left is) (occurring (p ∷ g ∷ []) side.Right js)) [] (Some ty.Bool)) (λ f. given (on_bodies.Case f)) r h in
+      subst (Typed (equiv (body is) (body js) p g)) {x = on_bodies.Case f.0} (given_is (on_bodies.Case f.0) r f.2) (said_of_two is js p g w.1 w.2 w.3 w.4 n f.0 f.1)
+  bodies_typed (hoare (procedure a) p g) w n r h = subst (Typed (hoare (procedure a) p g)) (given_is on_bodies.Unfit r h) tt
+  bodies_typed (phoare (procedure a) o p g b) w n r h = subst (Typed (phoare (procedure a) o p g b)) (given_is on_bodies.Unfit r h) tt
+  bodies_typed (equiv (procedure a) b p g) w n r h = subst (Typed (equiv (procedure a) b p g)) (given_is on_bodies.Unfit r h) tt
+  bodies_typed (equiv (body is) (procedure b) p g) w n r h = subst (Typed (equiv (body is) (procedure b) p g)) (given_is on_bodies.Unfit r h) tt
+  bodies_typed (ambient f) w n r h = subst (Typed (ambient f)) (given_is on_bodies.Unfit r h) tt
 
   seq_typed : (G : Goal) → IsGoalOver here ls rs G → goal_of q.conclusion ≡ G → (a : Acts) (k : Cut) (n : Node) (r : BodyRule) → seq_rule ds q a k n ≡ given r → Typed G r
   seq_typed G w e on.All k n r h = cut_typed G w k n r (sym (ap (cut_rule ds q k n) e) ∙ h)
@@ -107,12 +137,28 @@ module _ (ds : scope.Declarations) (scoped : IsTypedScope (declared ds)) (q : Se
   abbrev TypedAt : Rule → Type 0
   TypedAt k = IsTypedRule here k ls rs (goal_of q.conclusion)
 
+  coupling_typed : (fs : List Node) (us : List Term) → TypedAt (coupling_rule fs us)
+  coupling_typed [] us = tt
+  coupling_typed (f ∷ fs) [] = tt
+  coupling_typed (f ∷ fs) (u ∷ us) = tt
+
   module _ (w : IsGoalOver here ls rs (goal_of q.conclusion)) where
+    case_typed : (f : Node) (k : Rule) → case_rule ds q f ≡ given k → TypedAt k
+    case_typed f k h = step (judges_bodies (out-Term q.conclusion).head) h
+      where
+        step : (b : Bool) → (if b then of_bodies_rule (case_of_bodies ds q f (goal_of q.conclusion)) else case_of_conclusion ds q f) ≡ given k → TypedAt k
+        step true h =
+            let y = given_bind (case_of_bodies ds q f (goal_of q.conclusion)) (λ z. given (rule.OnBodies z)) k h in
+            subst TypedAt (given_is (rule.OnBodies y.0) k y.2) (bodies_typed (goal_of q.conclusion) w f y.0 y.1)
+        step false h =
+            let z = given_bind (formed ds q f) (λ (t : Term). given (rule.Ambient (conclusion.Case t))) k h in
+            subst TypedAt (given_is (rule.Ambient (conclusion.Case z.0)) k z.2) tt
+
     of_rule : (n : Kind) (x : List ℕ) (xs : List Node) (p : Place) (k : Rule) → typed_rule ds q n x xs p ≡ given k → TypedAt k
     of_rule text.Rnd x (b ∷ fs) p k h =
         let o = given_bind (absent (parts_of b) p) _ k h in
-        let y = given_bind (couplings ds q (functions_of fs)) (λ us. given (rule.Relational (relational_rule.Rnd us))) k o.2 in
-        subst TypedAt (given_is (rule.Relational (relational_rule.Rnd y.0)) k y.2) tt
+        let y = given_bind (couplings ds q (functions_of fs)) (λ us. given (coupling_rule (functions_of fs) us)) k o.2 in
+        subst TypedAt (given_is (coupling_rule (functions_of fs) y.0) k y.2) (coupling_typed (functions_of fs) y.0)
     of_rule text.Proc x (b ∷ i ∷ []) p k h =
         let y = given_bind (absent (parts_of i) p) (λ _. given (rule.OnBodies (on_all (acts (parts_of b)) on_bodies.Proc))) k h in
         subst TypedAt (given_is (rule.OnBodies (on_all (acts (parts_of b)) on_bodies.Proc)) k y.2) (all_typed (goal_of q.conclusion) (acts (parts_of b)) on_bodies.Proc tt)
@@ -126,15 +172,18 @@ module _ (ds : scope.Declarations) (scoped : IsTypedScope (declared ds)) (q : Se
     of_rule text.PlainStep x [] p k h =
         let o = given_bind (conclusion_rule x p) (λ (a : AmbientRule). given (rule.Ambient a)) k h in subst TypedAt (given_is (rule.Ambient o.0) k o.2) tt
     of_rule text.CaseStep x (b ∷ f ∷ []) p k h =
-        let o = given_bind (absent (parts_of b) p) _ k h in
-        let y = given_bind (of_conclusion q p) _ k o.2 in
-        let z = given_bind (formed ds q f) (λ (t : Term). given (rule.Ambient (conclusion.Case t))) k y.2 in
-        subst TypedAt (given_is (rule.Ambient (conclusion.Case z.0)) k z.2) tt
+        let o = given_bind (absent (parts_of b) p) _ k h in case_typed f k o.2
     of_rule text.HaveForm x (n ∷ f ∷ []) p k h =
         let o = given_bind (new_name q (text_of n) (place_of n)) _ k h in
         let z = given_bind (formed ds q f) (λ (t : Term). given (rule.Ambient (conclusion.Have (text_of n) t))) k o.2 in
         subst TypedAt (given_is (rule.Ambient (conclusion.Have (text_of n) z.0)) k z.2) tt
     of_rule text.Smt x hints p k h = let o = given_bind (absent hints p) (λ _. given rule.Smt) k h in subst TypedAt (given_is rule.Smt k o.2) tt
+    of_rule text.Name x [] p k h = subst TypedAt (given_is (rule.Ambient (conclusion.Introduce x)) k h) tt
+    of_rule text.Memory x (n ∷ []) p k h = subst TypedAt (given_is (rule.Ambient (conclusion.IntroduceMemory (text_of n))) k h) tt
+    of_rule text.Drop x [] p k h = subst TypedAt (given_is (rule.Ambient conclusion.Discard) k h) tt
+    of_rule text.BothPatterns x ps p k h = subst TypedAt (given_is (rule.Ambient conclusion.Unpack) k h) tt
+    of_rule text.EitherPattern x ps p k h = subst TypedAt (given_is (rule.Ambient conclusion.Branch) k h) tt
+    of_rule text.SmtPattern x [] p k h = subst TypedAt (given_is (rule.Smt) k h) tt
     of_rule _ x _ p k h = cc
 
 -- The arguments of a typed step of a rule on programs are typed.

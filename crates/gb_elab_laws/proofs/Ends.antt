@@ -170,4 +170,4 @@ module _ (ls : List TypedName) where
       AreIn (Some ls) (occurring (p ∷ q ∷ []) s is)
   occurring_in c s p q is hp hq b =
       let k : StandIn (Some ls) (occurring (p ∷ q ∷ []) s is) = occurring_stand c ls s p q is hp hq b.statements in
-      record { there = standing_name _ k; finite = standing_finite (have_finite ls b.locals) _ k }
+      record { memory = tt; there = standing_name _ k; finite = standing_finite (have_finite ls b.locals) _ k }

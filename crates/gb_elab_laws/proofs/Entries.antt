@@ -18,14 +18,14 @@ use Rattle.gb_holds.proofs.Lists.{declared-append}
 use Rattle.gb_typing.specs.Context.{Context}
 use Rattle.gb_typing.specs.Scopes.{nothing, context_of, is_declared, IsAbbreviation, AreTypedAfter, IsTypedScope}
 use Rattle.gb_names.specs.Types.{all_given, type_of, type_or_number}
-use Rattle.gb_elab_mod.specs.Types.{constants, enumeration, enumeration_type, new, only, type_entries, without}
-use Rattle.gb_elab_mod.specs.Lemmas.{free}
-use Rattle.gb_elab_mod.specs.Contexts.{nothing_bound}
-use Rattle.gb_elab_mod.specs.Operators.{all_parameters, body, defined, operator_entry, undefined, written}
-use Rattle.gb_elab_mod.specs.Entries.{entries_by, entries_given}
-use Rattle.gb_elab_mod.proofs.New.{given_bind, given_is, entries_new}
+use Rattle.gb_elab_prog.specs.Types.{constants, enumeration, enumeration_type, new, only, type_entries, without}
+use Rattle.gb_elab_prog.specs.Fresh.{free}
+use Rattle.gb_elab_prog.specs.Contexts.{nothing_bound}
+use Rattle.gb_elab_prog.specs.Operators.{all_parameters, body, defined, operator_entry, undefined, written}
+use Rattle.gb_elab_prog.specs.Entries.{entries_by, entries_given}
+use Rattle.gb_elab_prog.proofs.New.{given_bind, given_is, entries_new}
 use Rattle.gb_elab_laws.proofs.Bodies.{IsOperatorIn, operator_typed}
-use Rattle.gb_elab_laws.proofs.Programs.{free_is}
+use Rattle.gb_elab_laws.proofs.Members.{free_is}
 use Rattle.gb_elab_laws.proofs.Literals.{enumeration_literal}
 use Rattle.gb_elab_laws.proofs.Scopes.{typed_after}
 use Rattle.gb_elab_laws.proofs.Types.{spelled_typed}

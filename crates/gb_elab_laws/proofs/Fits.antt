@@ -10,12 +10,13 @@ use Rattle.gb_terms.specs.declared.module.Bind.{Bind}
 use Rattle.gb_terms.specs.declared.module.Mexp.{Mexp}
 use Rattle.gb_terms.specs.declared.module.Mexp.TheVariants.{Name as named, Apply'}
 use Rattle.gb_goal.specs.Scope as scope
-use Rattle.gb_goal.specs.Scope.{entry_of, as_module, proc_of, proc_if_plain, proc_in, proc_at, procedure_of}
+use Rattle.gb_goal.specs.Scope.{entry_of, as_module, module_of, proc_of, proc_if_plain, proc_in, proc_at, procedure_of}
 use Rattle.gb_goal.specs.declared.scope.Entry.{Entry}
 use Rattle.gb_goal.specs.declared.scope.Entry.TheVariants as entry
 use Rattle.gb_goal.specs.declared.sequent.Sequent.{Sequent}
 use Rattle.gb_meaning.specs.Names.{Name}
-use Rattle.gb_typed.specs.Finite.{IsVariableType}
+use Rattle.gb_meaning.specs.Written.{local_type}
+use Rattle.gb_typed.specs.Finite.{IsFinite, IsVariableType}
 use Rattle.gb_typed.specs.Programs.{HaveFiniteTypes}
 use Rattle.gb_holds.specs.Declared.{Declarations, declaration_of, declared, concrete_module, lemma}
 use Rattle.gb_holds.specs.Modules.{Procedures, found}
@@ -31,21 +32,27 @@ use Rattle.gb_typing.proofs.Variables.{variable_finite}
 use Rattle.gb_typing.proofs.Located.{typed_there}
 use Rattle.gb_rules.proofs.Lifted.{sequent_outermost}
 use Rattle.gb_names.specs.Environment.{ambient, of_function, program, relational, unary}
-use Rattle.gb_elab_mod.specs.Lemmas.{nothing_around}
-use Rattle.gb_elab_laws.specs.Fitting.{AllFiniteWith, AreBound, AreDeclared, AreIn, IsTypeOf, IsFitting}
+use Rattle.gb_elab_prog.specs.Contexts.{nothing_around}
+use Rattle.gb_elab_laws.specs.Fitting.{AllFiniteWith, AreBound, AreDeclared, AreIn, HasGlobals, IsTypeOf, IsFitting}
 use Rattle.gb_elab_laws.proofs.Given.{none_some, same_some}
 use Rattle.gb_elab_laws.proofs.Declared.{goal_declared}
 use Rattle.gb_elab_laws.proofs.Types.{have_finite}
 use Rattle.gb_elab_laws.proofs.Quantified.{have_front}
-use Rattle.gb_elab_laws.proofs.Found.{all_with}
+use Rattle.gb_elab_laws.proofs.Found.{all_with, found as found_name}
+
+-- a module is known as before, and so are its globals
+abbrev Same : Name → Context → Context → Type 0
+Same n d c = (d.modules.interfaces n ≡ c.modules.interfaces n) × ((x : Name) → d.global n x ≡ c.global n x)
 
 -- what is declared later leaves the modules that are declared
-stays : (ds : scope.Declarations) (before : Declarations) (c : Context) (n : Name) → is_declared before n ≡ true → AreTypedAfter c before (declared ds) →
-    (with_each c (declared ds)).modules.interfaces n ≡ c.modules.interfaces n
-stays [] before c n d w = refl
+stays : (ds : scope.Declarations) (before : Declarations) (c : Context) (n : Name) → is_declared before n ≡ true → AreTypedAfter c before (declared ds) → Same n (with_each c (declared ds)) c
+stays [] before c n d w = (refl, λ x. refl)
 stays ((k, entry.Module m) ∷ ds) before c n d w =
-    stays ds (before ++ (k, concrete_module m) ∷ []) (with_declared c k (concrete_module m)) n (declared_more before (k, concrete_module m) n d) w.2
-    ∙ ap (λ (b : Bool). if b then Some (interface_with c.modules.types m.params (procedure_types m.procs)) else c.modules.interfaces n) (other_name before n k d w.0)
+    let rest = stays ds (before ++ (k, concrete_module m) ∷ []) (with_declared c k (concrete_module m)) n (declared_more before (k, concrete_module m) n d) w.2 in
+    let other = other_name before n k d w.0 in (
+      rest.0 ∙ ap (λ (b : Bool). if b then Some (interface_with c.modules.types m.params (procedure_types m.procs)) else c.modules.interfaces n) other,
+      λ x. rest.1 x ∙ ap (λ (b : Bool). if b then local_type m.globals x else c.global n x) other,
+    )
 stays ((k, entry.Lemma q) ∷ ds) before c n d w = stays ds (before ++ (k, lemma q) ∷ []) c n (declared_more before (k, lemma q) n d) w.2
 stays ((k, entry.Type t) ∷ ds) before c n d w =
     let x = declaration_of (entry.Type t) in stays ds (before ++ (k, x) ∷ []) (with_declared c k x) n (declared_more before (k, x) n d) w.2
@@ -58,33 +65,38 @@ stays ((k, entry.Operator o) ∷ ds) before c n d w =
 stays ((k, entry.AbstractOperator o) ∷ ds) before c n d w =
     let x = declaration_of (entry.AbstractOperator o) in stays ds (before ++ (k, x) ∷ []) (with_declared c k x) n (declared_more before (k, x) n d) w.2
 
--- A declared module stands under its name, and its procedures are typed.
-record Stands (o : Option Interface) (m : Module) : Type 0 where
+-- A declared module stands under its name with its globals, and its procedures are typed.
+record Stands (d : Context) (n : Name) (m : Module) : Type 0 where
   context : Context
   procedures : AreProcedures context m [] m.procs
-  there : m.params ≡ [] → o ≡ Some (record { lacks = []; procedures = procedure_types m.procs })
+  there : m.params ≡ [] → d.modules.interfaces n ≡ Some (record { lacks = []; procedures = procedure_types m.procs })
+  globals : (x : Name) → d.global n x ≡ local_type m.globals x
+  types : HaveVariableTypes m.globals
 
 stands : (ds : scope.Declarations) (before : Declarations) (c : Context) → AreTypedAfter c before (declared ds) → (n : Name) (m : Module) → entry_of ds n ≡ Some (entry.Module m) →
-    Stands ((with_each c (declared ds)).modules.interfaces n) m
+    Stands (with_each c (declared ds)) n m
 stands [] before c w n m e = none_some (entry.Module m) e
 stands ((k, d) ∷ ds) before c w n m e = step (bytes_eq n k) refl (stands ds (before ++ (k, declaration_of d) ∷ []) (with_declared c k (declaration_of d)) w.2 n m) e
   where
     here : bytes_eq n k ≡ true → (x : Entry) → AreTypedAfter c before ((k, declaration_of x) ∷ declared ds) → x ≡ entry.Module m →
-        Stands ((with_each (with_declared c k (declaration_of x)) (declared ds)).modules.interfaces n) m
+        Stands (with_each (with_declared c k (declaration_of x)) (declared ds)) n m
     here i (entry.Module r) v h =
         let s : r ≡ m = (let f : entry.Module r ≡ entry.Module m = h in cc) in
-        subst (λ z. Stands ((with_each (with_declared c k (concrete_module r)) (declared ds)).modules.interfaces n) z) s (record {
+        let rest = stays ds (before ++ (k, concrete_module r) ∷ []) (with_declared c k (concrete_module r)) n (declared_last before (k, concrete_module r) n i) v.2 in
+        subst (Stands (with_each (with_declared c k (concrete_module r)) (declared ds)) n) s (record {
           context = c;
           procedures = v.1.procs;
+          globals = λ x. rest.1 x ∙ ap (λ (b : Bool). if b then local_type r.globals x else c.global n x) i;
+          types = v.1.globals;
           there = λ p.
-              stays ds (before ++ (k, concrete_module r) ∷ []) (with_declared c k (concrete_module r)) n (declared_last before (k, concrete_module r) n i) v.2
+              rest.0
               ∙ ap (λ (b : Bool). if b then Some (interface_with c.modules.types r.params (procedure_types r.procs)) else c.modules.interfaces n) i
               ∙ ap (λ ps. Some (interface_with c.modules.types ps (procedure_types r.procs))) p;
         })
     here i _ v h = cc
 
-    step : (b : Bool) → bytes_eq n k ≡ b → (entry_of ds n ≡ Some (entry.Module m) → Stands ((with_each (with_declared c k (declaration_of d)) (declared ds)).modules.interfaces n) m) →
-        (if b then Some d else entry_of ds n) ≡ Some (entry.Module m) → Stands ((with_each (with_declared c k (declaration_of d)) (declared ds)).modules.interfaces n) m
+    step : (b : Bool) → bytes_eq n k ≡ b → (entry_of ds n ≡ Some (entry.Module m) → Stands (with_each (with_declared c k (declaration_of d)) (declared ds)) n m) →
+        (if b then Some d else entry_of ds n) ≡ Some (entry.Module m) → Stands (with_each (with_declared c k (declaration_of d)) (declared ds)) n m
     step true i f h = here i d w (same_some d (entry.Module m) h)
     step false i f h = f h
 
@@ -133,6 +145,27 @@ declared_procedure : (ds : scope.Declarations) → IsTypedScope (declared ds) �
 declared_procedure ds w (named n) g f e = procedure_named ds w n g f e
 declared_procedure ds w (Apply' n k args) g f e = none_some f e
 
+-- the globals of a declared module stand in the context of the scope
+pub declared_globals : (ds : scope.Declarations) → IsTypedScope (declared ds) → (n : Name) (m : Module) → module_of ds n ≡ Some m → HasGlobals (context_of (declared ds)).global n m
+declared_globals ds w n m e x v f = step (entry_of ds n) refl e
+  where
+    step : (o : Option Entry) → entry_of ds n ≡ o → as_module o ≡ Some m → ((context_of (declared ds)).global n v.name ≡ Some v.ty) × IsFinite v.ty
+    step (Some (entry.Module r)) i h =
+        let s = stands ds [] nothing w n m (i ∙ ap (λ z. Some (entry.Module z)) (same_some r m h)) in
+        let k = found_name m.globals x v f in
+        (s.globals v.name ∙ ap (local_type m.globals) k.name ∙ k.frame, k.finite (have_finite m.globals s.types))
+    step _ i h = none_some m h
+
+-- abstract modules leave globals
+globals_left : (c : Context) (bs : List Bind) → (with_modules c bs).global ≡ c.global
+globals_left c [] = refl
+globals_left c (b ∷ bs) = globals_left (with_module c b) bs
+
+-- .. and in the context of a goal
+goal_globals : (ds : scope.Declarations) → IsTypedScope (declared ds) → (q : Sequent) (fs : List (List TypedName)) (n : Name) (m : Module) → module_of ds n ≡ Some m →
+    HasGlobals (of_sequent (context_of (declared ds)) q fs).global n m
+goal_globals ds w q fs n m e = subst (λ f. HasGlobals f n m) (sym (globals_left (context_of (declared ds)) q.modules)) (declared_globals ds w n m e)
+
 -- no binder is around a goal
 goal_bound : (ds : Declarations) (q : Sequent) (fs : List (List TypedName)) → (of_sequent (context_of ds) q fs).bound ≡ []
 goal_bound ds q fs = ap (λ (c : Context). c.bound) (sequent_outermost ds q fs)
@@ -146,6 +179,8 @@ context_fits ds q fs none h w = record {
   bound = subst (λ bs. AreBound true bs []) (sym (goal_bound (declared ds) q fs)) tt;
   variables = tt;
   declared = goal_declared ds w q fs;
+  around = tt;
+  globals = λ e. goal_globals ds w q fs;
   procedures = λ e p f k.
       subst (λ bs. IsTypeOf (typing.procedure_type (with_modules (context_of (declared ds)) bs).modules p) f) (sym none) (declared_procedure ds w p.«module» p.name f k);
 }
@@ -153,13 +188,17 @@ context_fits ds q fs none h w = record {
 pub statement_fits : (ds : scope.Declarations) → IsTypedScope (declared ds) → IsFitting (of_sequent (context_of (declared ds)) nothing_around []) (ambient ds nothing_around) []
 statement_fits ds w = context_fits ds nothing_around [] refl tt w
 
-pub program_fits : (c : Context) (ds : scope.Declarations) (ls : List TypedName) → AreDeclared c.operator ds → HaveFiniteTypes ls → IsFitting (of_program c ls) (program ds nothing_around ls) []
-program_fits c ds ls names h = record {
+pub program_fits : (c : Context) (ds : scope.Declarations) (m : Module) (ls : List TypedName) → AreDeclared c.operator ds →
+    ((n : Name) (k : Module) → module_of ds n ≡ Some k → HasGlobals c.global n k) → HasGlobals c.global m.name m → HaveFiniteTypes ls →
+    IsFitting (of_program c ls) (program ds m nothing_around ls) []
+program_fits c ds m ls names others own h = record {
   logical = λ i. refl;
   values = tt;
   bound = tt;
-  variables = (refl, record { there = λ x t e. e; finite = h });
+  variables = (refl, record { memory = tt; there = λ x t e. e; finite = h });
   declared = names;
+  around = own;
+  globals = λ e. others;
   procedures = λ e. absurd (false≢true e);
 }
 
@@ -171,6 +210,8 @@ function_fits ds w q t ls rs xs ys h k = record {
   bound = subst (λ bs. AreBound true bs []) (sym (goal_bound (declared ds) q t.frames)) tt;
   variables = (refl, h, k);
   declared = goal_declared ds w q t.frames;
+  around = tt;
+  globals = λ e. goal_globals ds w q t.frames;
   procedures = λ e. absurd (false≢true e);
 }
 
@@ -208,6 +249,8 @@ one_fits ds w q t ls xs h = record {
   bound = subst (λ bs. AreBound true bs []) (sym (goal_bound (declared ds) q t.frames)) tt;
   variables = (refl, h);
   declared = goal_declared ds w q t.frames;
+  around = tt;
+  globals = λ e. goal_globals ds w q t.frames;
   procedures = λ e p f k. goal_procedure ds w q t p.«module» p.name f k;
 }
 
@@ -219,6 +262,8 @@ two_fit ds w q t ls rs xs ys h k = record {
   bound = subst (λ bs. AreBound true bs []) (sym (goal_bound (declared ds) q t.frames)) tt;
   variables = (refl, h, k);
   declared = goal_declared ds w q t.frames;
+  around = tt;
+  globals = λ e. goal_globals ds w q t.frames;
   procedures = λ e p f k. goal_procedure ds w q t p.«module» p.name f k;
 }
 
@@ -231,6 +276,8 @@ goal_fits ds w q t = record {
   bound = subst (λ bs. AreBound true bs []) (sym (goal_bound (declared ds) q t.frames)) tt;
   variables = tt;
   declared = goal_declared ds w q t.frames;
+  around = tt;
+  globals = λ e. goal_globals ds w q t.frames;
   procedures = λ e p f h.
       let d = declared_procedure ds w p.«module» p.name f h in
       record { there = (typed_there ds w q t.modules t.frames p f h).type; params = d.params; result = d.result };

@@ -24,7 +24,7 @@ use Rattle.gb_terms.specs.declared.term.Head.TheVariants.{User}
 use Rattle.gb_terms.specs.Make.{node}
 use Rattle.gb_typed.specs.Finite.{IsFiniteWith}
 use Rattle.gb_typed.specs.Typing.Binder.{value, index}
-use Rattle.gb_typing.specs.Context.{Context, within}
+use Rattle.gb_typing.specs.Context.{Context, with_own, within}
 use Rattle.gb_meaning.specs.Written.{type_of as written_type}
 use Rattle.gb_names.specs.declared.names.Known.{Known as BuiltIn}
 use Rattle.gb_names.specs.declared.names.Known.TheVariants as known
@@ -33,7 +33,7 @@ use Rattle.gb_names.specs.declared.setting.Language.TheVariants.{Formula, Functi
 use Rattle.gb_names.specs.Allowed.{formula, has_judgments, is_program, judgment, stands}
 use Rattle.gb_names.specs.Binders.{bound_by, over_all, quantifier_of}
 use Rattle.gb_names.specs.Environment.{Name, Environment, sampled, sampled_in}
-use Rattle.gb_names.specs.Judgments.{both_procedures, before, after, equivalent}
+use Rattle.gb_names.specs.Judgments.{both_procedures, one_procedure, before, after, equivalent}
 use Rattle.gb_names.specs.Names.{constant_at, hidden, known_at, named, operator_at, path, unit}
 use Rattle.gb_names.specs.Types.{type_of, type_or_number}
 use Rattle.gb_names.specs.Wanted.{truth, wanted}
@@ -54,7 +54,9 @@ use Rattle.gb_operators.specs.Literals.{bound_of, is_bound, number_in, part_numb
 use Rattle.gb_operators.specs.Open.{right_first}
 use Rattle.gb_operators.specs.Operators.{comparison, operator_of}
 use Rattle.gb_operators.specs.Rules.{asked, made, rule_for, rule_of, user_made}
-use Rattle.gb_elab.specs.Forms.{Typing, Meaning, Part, annotated, applied, applied_form, application, bare, bracketed, by_rule, call, declared, elaborated, equivalence, function, function_typing, meaning, meant, only, operand, operands, operation, operator_alone, projection, quantified, read, simple, summed, typing, under, user_call, value_of, with_side}
+use Rattle.gb_elab.specs.declared.contract.Contract.{Contract}
+use Rattle.gb_elab.specs.OneProcedure.{after_one, always, around, before_one, lossless, relation, with_chance}
+use Rattle.gb_elab.specs.Forms.{Contracting, Typing, Meaning, Part, annotated, applied, applied_form, application, bare, bounded, bracketed, by_rule, call, contract, contracting, contract_of, declared, elaborated, equivalence, function, hoare, function_typing, meaning, meant, only, operand, operands, operation, operator_alone, projection, quantified, read, simple, summed, typing, under, user_call, value_of, with_side}
 use Rattle.gb_elab_laws.specs.Fitting.{has_globs, IsFormType, IsFormTypeIf, IsBoundName, IsUsable, AllFiniteWith, AreBound, AreReadable, IsFitting, IsGiven}
 use Rattle.gb_elab_laws.proofs.Given.{given_bind, given_is, if_allowed, if_given, if_none, if_refused, if_some, none_some, not_given, some_given}
 use Rattle.gb_elab_laws.proofs.Types.{no_distribution}
@@ -67,7 +69,8 @@ use Rattle.gb_elab_laws.proofs.Leaves.{named_typed, read_typed, unit_typed}
 use Rattle.gb_elab_laws.proofs.Constants.{coin_typed, constant_typed, literal_typed, numeral_typed, stands_is, uniform_typed}
 use Rattle.gb_elab_laws.proofs.Equations.{equalities_typed}
 use Rattle.gb_elab_laws.proofs.Quantified.{inner_fits, under_all, under_all_fits, binders_typed, variables_with, over_all_typed}
-use Rattle.gb_elab_laws.proofs.Judged.{both_are, before_fits, after_fits, equivalence_typed}
+use Rattle.gb_elab_laws.proofs.Judged.{both_are, one_is, before_fits, after_fits, equivalence_typed}
+use Rattle.gb_elab_laws.proofs.OneProcedure.{IsContract, is_there, before_fits as before_one_fits, after_fits as after_one_fits, around_fits, always_typed, with_chance_typed, lossless_typed}
 use Rattle.gb_elab_laws.proofs.Asked.{Suits, binder_of, IsDomain, IsRule, IsAskable, IsOperand, AreOperands, behind}
 use Rattle.gb_elab_laws.proofs.Askable.{askable}
 use Rattle.gb_elab_laws.proofs.Rules.{made_typed}
@@ -82,8 +85,12 @@ abbrev pub GivesValues : (Domain → Typing) → Type 0
 GivesValues f = (c : Context) (at : Environment) (vs : List TypedName) → IsFitting c at vs → (d : Domain) → IsDomain (has_globs at.language) d → (w : Option Ty) →
     IsFormTypeIf (has_globs at.language) w → (u : Term) → f d at vs w ≡ given u → IsGiven (within c (binder_of d) None) at.language w u
 
+-- a judgment without its bound gives typed conditions
+abbrev pub GivesContracts : Contracting → Type 0
+GivesContracts f = (c : Context) (at : Environment) (vs : List TypedName) → IsFitting c at vs → has_judgments at.language ≡ true → (k : Contract) → f at vs ≡ given k → IsContract c k
+
 abbrev pub IsTyped : Meaning → Type 0
-IsTyped m = GivesTyped m.form × GivesValues m.function
+IsTyped m = GivesTyped m.form × GivesValues m.function × GivesContracts m.contract
 
 -- a form, with what is known of what it means
 abbrev Known : Type 0
@@ -114,6 +121,8 @@ sampled_fits c at vs fit = record {
   bound = subst (λ b. AreBound b c.bound vs) (sym (same_globs at.language)) fit.bound;
   variables = subst (λ b. AreReadable b c at.variables) (sym (same_globs at.language)) fit.variables;
   declared = fit.declared;
+  around = fit.around;
+  globals = λ e. fit.globals (sym (same_globs at.language) ∙ e);
   procedures = λ e. fit.procedures (sym (same_judgments at.language) ∙ e);
 }
 
@@ -350,6 +359,46 @@ equiv_typed (m ∷ g ∷ a ∷ b ∷ []) p c at vs fit w f u h =
     (b.1.0 _ (after at l.1 r.1) vs (after_fits c at vs fit k.0 l.0 r.0 l.1 r.1 there.0 there.1) (Some ty.Bool) tt post.0 post.1)))
 equiv_typed _ p c at vs fit w f u h = cc
 
+contract_typed : (ks : List Known) (p : Place) → GivesContracts (contract (parts ks) p)
+contract_typed (f ∷ a ∷ b ∷ []) p c at vs fit j k h =
+    let m = given_bind (one_procedure at vs f.0 p) _ k h in
+    let pre = given_bind (elaborated a.0 (before_one at m.0.1) vs (Some ty.Bool)) _ k m.2 in
+    let end = λ (t : Term). given (record { procedure = m.0.0; pre = pre.0; post = t }) in
+    let post = given_bind (elaborated b.0 (after_one at m.0.1) vs (Some ty.Bool)) end k pre.2 in
+    let there = one_is at vs f.0 p m.0 m.1 in
+    subst (IsContract c) (given_is _ k post.2)
+    (record {
+      there = is_there c at vs fit j m.0.0 m.0.1 there;
+      pre = a.1.0 _ (before_one at m.0.1) vs (before_one_fits c at vs fit j m.0.0 m.0.1 there) (Some ty.Bool) tt pre.0 pre.1;
+      post = b.1.0 _ (after_one at m.0.1) vs (after_one_fits c at vs fit j m.0.0 m.0.1 there) (Some ty.Bool) tt post.0 post.1;
+    })
+contract_typed _ p c at vs fit j k h = cc
+
+-- a judgment may stand, and is of the wanted type
+judged : (c : Context) (at : Environment) (w : Option Ty) (p : Place) (x : Unit {0}) → judgment at w p ≡ given x → (has_judgments at.language ≡ true) × (truth w p ≡ given x)
+judged c at w p x e = if_allowed (has_judgments at.language) (truth w p) Argument p x e
+
+hoare_typed : (ks : List Known) (p : Place) → GivesTyped (hoare (parts ks) p)
+hoare_typed ks p c at vs fit w f u h =
+    let x = given_bind (judgment at w p) _ u h in
+    let j = judged c at w p x.0 x.1 in
+    let k = given_bind (contract (parts ks) p at vs) (λ (k : Contract). given (always k)) u x.2 in
+    subst (IsGiven c at.language w) (given_is _ u k.2)
+    (truth_given c at.language w p x.0 (always k.0) j.1 (always_typed c at vs fit j.0 k.0 (contract_typed ks p c at vs fit j.0 k.0 k.1)))
+
+bounded_typed : (x : Name) (ks : List Known) (p : Place) → GivesTyped (bounded x (parts ks) p)
+bounded_typed x (a ∷ r ∷ []) p c at vs fit w f u h =
+    let y = given_bind (judgment at w p) _ u h in
+    let j = judged c at w p y.0 y.1 in
+    let s = given_bind (relation x p) _ u y.2 in
+    let k = given_bind (contract_of a.0 at vs) _ u s.2 in
+    let b = given_bind (elaborated r.0 (around at) vs (Some ty.Real)) (λ (t : Term). given (with_chance k.0 s.0 t)) u k.2 in
+    subst (IsGiven c at.language w) (given_is _ u b.2)
+    (truth_given c at.language w p y.0 (with_chance k.0 s.0 b.0) j.1
+    (with_chance_typed c at vs fit j.0 k.0 s.0 b.0 (a.1.2 c at vs fit j.0 k.0 k.1)
+    (r.1.0 (with_own c None) (around at) vs (around_fits c at vs fit j.0) (Some ty.Real) tt b.0 b.1)))
+bounded_typed x _ p c at vs fit w f u h = cc
+
 -- a form with a side
 with_side_typed : (ns : List Node) (p : Place) → GivesTyped (with_side ns p)
 with_side_typed (a ∷ s ∷ []) p c at vs fit w f u e =
@@ -389,6 +438,12 @@ form_parts head.Equalities x ks p c at vs fit w f u e =
     let q = given_bind (truth w p) _ u e in truth_given c at.language w p q.0 u q.1 (equalities_typed c at vs fit (bare (parts ks)) p u q.2)
 form_parts head.Quantified x ks p c at vs fit w f u e = quantified_typed x ks p c at vs fit w f u e
 form_parts head.Equiv x ks p c at vs fit w f u e = equiv_typed ks p c at vs fit w f u e
+form_parts head.Hoare x ks p c at vs fit w f u e = hoare_typed ks p c at vs fit w f u e
+form_parts head.Phoare x ks p c at vs fit w f u e = let q = given_bind (judgment at w p) (λ _. refused TypeMismatch p) u e in absurd (not_given TypeMismatch p u q.2)
+form_parts head.Bounded x ks p c at vs fit w f u e = bounded_typed x ks p c at vs fit w f u e
+form_parts head.Lossless x ks p c at vs fit w f u e =
+    let q = given_bind (judgment at w p) _ u e in
+    let j = judged c at w p q.0 q.1 in truth_given c at.language w p q.0 u j.1 (lossless_typed c at vs fit j.0 (bare (parts ks)) p u q.2)
 form_parts h x ks p c at vs fit w f u e = operation_typed (operator_of h x) (operator_known h x) ks p c at vs fit w f u e
 
 -- the name of a function's variable
@@ -428,8 +483,12 @@ function_parts head.TypedFunction (xs ∷ s ∷ a ∷ []) p c at vs fit d n w f 
     value_typed a d (text_of x.0) t.0 c at vs fit (written_name at.declared (has_globs at.language) d n (text_of x.0) s.0 t.0 t.1) w f u t.2
 function_parts _ _ p c at vs fit d n w f u e = cc
 
+contract_parts : (h : Head) (ks : List Known) (p : Place) → GivesContracts (contracting h (parts ks) p)
+contract_parts head.Phoare ks p c at vs fit j k e = contract_typed ks p c at vs fit j k e
+contract_parts _ ks p c at vs fit j k e = cc
+
 all_parts : (h : Head) (x : Name) (ks : List Known) (p : Place) → IsTyped (meaning h x (parts ks) p)
-all_parts h x ks p = (form_parts h x ks p, function_parts h ks p)
+all_parts h x ks p = (form_parts h x ks p, function_parts h ks p, contract_parts h ks p)
 
 pub meant_typed : (t : Node) → IsTyped (meant t)
 unfolding meant

@@ -24,11 +24,11 @@ use Rattle.gb_names.specs.declared.setting.Language.{Language}
 use Rattle.gb_names.specs.declared.setting.Language.TheVariants.{Formula, Function, Program, Sampled, Operator}
 use Rattle.gb_names.specs.Environment.{Name, Environment, relational}
 use Rattle.gb_names.specs.Allowed.{has_judgments}
-use Rattle.gb_names.specs.Judgments.{whole, module_in, named_module, Path, procedure_path, Named, reference, procedure_at, named_procedure, about_procedure, both_procedures, before, after, result_of, equivalent}
+use Rattle.gb_names.specs.Judgments.{whole, module_in, named_module, Path, procedure_path, Named, reference, procedure_at, named_procedure, about_procedure, one_procedure, both_procedures, before, after, result_of, equivalent}
 use Rattle.gb_names.specs.Names.{is_variable}
 use Rattle.gb_typing.specs.Modules.{ProcedureType}
 use Rattle.gb_typing.specs.Context.{Frame, Context, local_in, procedure, with_sides}
-use Rattle.gb_typing.specs.Typing.{IsThere}
+use Rattle.gb_typing.specs.Typing.{IsFrame, IsThere}
 use Rattle.gb_typing.specs.Typing as typed
 use Rattle.gb_typing.proofs.Made.{made_node}
 use Rattle.gb_elab_laws.specs.Fitting.{has_globs, AllFiniteWith, AreBound, AreIn, IsTypeOf, IsFitting, IsGiven}
@@ -53,7 +53,7 @@ in_module : (o : Option Entry) (m : Module) (n : Name) (f : Proc) → o ≡ Some
 in_module o m n f e k h = ap (λ z. proc_in (as_module z) n) e ∙ without_params m.params m.procs n f k h
 
 -- where judgments may stand, types of globals may
-judging : (l : Language) → has_judgments l ≡ true → has_globs l ≡ true
+pub judging : (l : Language) → has_judgments l ≡ true → has_globs l ≡ true
 judging Formula h = refl
 judging Function h = refl
 judging Program h = refl
@@ -89,6 +89,17 @@ both_are at vs f g p n h =
     subst (λ (z : Named × Named). IsDeclared at z.0 × IsDeclared at z.1) (given_is (l.0, r.0) n r.2)
     (named_is at vs (head_of f) (parts_of f) (place_of f) l.0 l.1, named_is at vs (head_of g) (parts_of g) (place_of g) r.0 r.1)
 
+-- the procedure that a judgment is about is declared
+pub one_is : (at : Environment) (vs : List TypedName) (f : Node) (p : Place) (n : Named) → one_procedure at vs f p ≡ given n → IsDeclared at n
+one_is at vs f p n h = let a = given_bind (about_procedure (head_of f) p) _ n h in named_is at vs (head_of f) (parts_of f) (place_of f) n a.2
+
+-- the parameters of a procedure are read before it, and its result after it
+pub params_in : (t : Option ProcedureType) (f : Proc) → IsTypeOf t f → AreIn (typed.before t) f.params
+params_in t f w = record { memory = subst (λ z. IsFrame (typed.before z)) (sym w.there) tt; there = λ x u e. subst (λ z. local_in (typed.before z) x ≡ Some u) (sym w.there) e; finite = w.params }
+
+pub result_in : (t : Option ProcedureType) (f : Proc) → IsTypeOf t f → AreIn (typed.after t) (result_of f)
+result_in t f w = record { memory = subst (λ z. IsFrame (typed.after z)) (sym w.there) tt; there = λ x u e. subst (λ z. local_in (typed.after z) x ≡ Some u) (sym w.there) e; finite = (w.result, tt) }
+
 module _ (c : Context) (at : Environment) (vs : List TypedName) (fit : IsFitting c at vs) (judges : has_judgments at.language ≡ true) where
   -- conditions on two programs over these variables
   condition : (F G : Frame) (ls rs : List TypedName) → AreIn F ls → AreIn G rs → IsFitting (with_sides c F G) (relational at.declared at.sequent ls rs) vs
@@ -98,15 +109,10 @@ module _ (c : Context) (at : Environment) (vs : List TypedName) (fit : IsFitting
     bound = subst (λ b. AreBound b c.bound vs) (judging at.language judges) fit.bound;
     variables = (refl, h, k);
     declared = fit.declared;
+    around = tt;
+    globals = λ e. fit.globals (judging at.language judges);
     procedures = λ e. fit.procedures judges;
   }
-
-  -- the parameters of a procedure are read before it, and its result after it
-  params_in : (t : Option ProcedureType) (f : Proc) → IsTypeOf t f → AreIn (typed.before t) f.params
-  params_in t f w = record { there = λ x u e. subst (λ z. local_in (typed.before z) x ≡ Some u) (sym w.there) e; finite = w.params }
-
-  result_in : (t : Option ProcedureType) (f : Proc) → IsTypeOf t f → AreIn (typed.after t) (result_of f)
-  result_in t f w = record { there = λ x u e. subst (λ z. local_in (typed.after z) x ≡ Some u) (sym w.there) e; finite = (w.result, tt) }
 
   module _ (f g : ProcRef) (a b : Proc) (ea : procedure_of at.declared f ≡ Some a) (eb : procedure_of at.declared g ≡ Some b) where
     left : IsTypeOf (procedure c f) a

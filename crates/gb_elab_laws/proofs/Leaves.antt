@@ -2,12 +2,16 @@
 use Rattle.std.proofs.Common.{◌≡◌, Bool, true, false, if◌then◌else◌, List, [], map, get_or, is_some, Option, Some, None, option_map, bytes_eq, refl, ap, sym, ◌∙◌, subst, arith}
 use Rattle.std.specs.Option.{option_map_or}
 use Rattle.std.specs.List.{list_any}
+use Rattle.std.specs.Path.{dot, rsplit_once}
+use Rattle.std.proofs.lemmas.Bool.{false≢true}
+use Rattle.std.proofs.lemmas.Slice.Eq.{bytes_eq-Decides}
 use Rattle.gb_core.specs.declared.place.Place.{Place}
 use Rattle.gb_core.specs.declared.refusal.Why.TheVariants.{UnknownName, Argument}
 use Rattle.gb_core.specs.declared.ty.Ty.{Ty}
 use Rattle.gb_core.specs.declared.ty.Ty.TheVariants as ty
 use Rattle.gb_core.specs.declared.value.Value.TheVariants.{Num}
-use Rattle.gb_core.specs.declared.var.Var.TheVariants.{Local}
+use Rattle.gb_core.specs.declared.var.Var.TheVariants.{Local, Global}
+use Rattle.gb_terms.specs.declared.decl.Module.{Module}
 use Rattle.gb_terms.specs.declared.decl.TypedName.{TypedName}
 use Rattle.gb_terms.specs.declared.op.Side.{Side}
 use Rattle.gb_terms.specs.declared.op.Side.TheVariants as side
@@ -19,28 +23,30 @@ use Rattle.gb_script.specs.declared.head.Head.{Head}
 use Rattle.gb_script.specs.declared.head.Head.TheVariants as head
 use Rattle.gb_script.specs.declared.tree.Node.{Node}
 use Rattle.gb_script.specs.Tree.{head_of, text_of, place_of}
-use Rattle.gb_typed.specs.Finite.{IsFinite}
+use Rattle.gb_typed.specs.Finite.{IsFinite, IsFiniteWith}
 use Rattle.gb_typed.specs.Typing.{binder, IsSide}
 use Rattle.gb_typed.specs.Typing.Binder.{program}
 use Rattle.gb_typed.specs.Operators.{item}
 use Rattle.gb_meaning.specs.Written.{local_type}
 use Rattle.gb_names.specs.declared.setting.Variables.{Variables}
 use Rattle.gb_names.specs.declared.setting.Variables.TheVariants.{Absent, Own, Sides}
-use Rattle.gb_goal.specs.Answers.{Answer, given_or}
+use Rattle.gb_goal.specs.Answers.{Answer, not_built}
+use Rattle.gb_goal.specs.Scope.{module_of}
 use Rattle.gb_names.specs.Wanted.{counted}
 use Rattle.gb_goal.specs.Answers.Answer.{given, refused}
 use Rattle.gb_names.specs.Environment.{Name, Environment, own, own_of, on_side, sides_of}
-use Rattle.gb_names.specs.Names.{first_named, number_before, unit, bound_variable, logical_variable, program_variable, names_other, unbound, named, no_variable, variable_on, sided, in_memory, path}
+use Rattle.gb_names.specs.Names.{ModuleVariable, first_named, global_at, global_in, global_variable, has_own, module_if, number_before, own_global, unit, unsided, bound_variable, logical_variable, program_variable, names_other, unbound, named, no_variable, variable_on, sided, in_memory, path}
 use Rattle.gb_names.specs.Names.{beside, has_memories, remembered, side_of}
 use Rattle.gb_elab.specs.Forms.{read}
-use Rattle.gb_typing.specs.Context.{Frame, Context, erased, frame_of}
+use Rattle.gb_typing.specs.Context.{Frame, Context, erased, frame_of, local_in}
+use Rattle.gb_typing.specs.Typing.{IsFrame}
 use Rattle.gb_typing.proofs.Literals.{bool_literal}
-use Rattle.gb_elab_laws.specs.Fitting.{has_globs, AllFiniteWith, IsBoundName, AreIn, AreReadable, IsFitting}
-use Rattle.gb_elab_laws.proofs.Given.{given_bind, given_is, if_allowed, if_refused, some_given, counted_is, none_some, same_some}
+use Rattle.gb_elab_laws.specs.Fitting.{has_globs, AllFiniteWith, IsBoundName, AreIn, AreReadable, HasGlobals, HasGlobalsIf, IsFitting}
+use Rattle.gb_elab_laws.proofs.Given.{given_bind, given_is, if_allowed, if_refused, counted_is, none_some, same_some}
 use Rattle.gb_elab_laws.proofs.Literals.{unit_literal}
 use Rattle.gb_elab_laws.proofs.Shapes.{with_globs, finite_form}
 use Rattle.gb_elab_laws.proofs.Found.{Found, found, all_with}
-use Rattle.gb_elab_laws.proofs.Typed.{Typed, IsSome, leaf}
+use Rattle.gb_elab_laws.proofs.Typed.{Typed, IsSome, leaf, whole_leaf}
 
 mapped : {A B : Type 0} (f : A → B) (o : Option A) (y : B) → option_map f o ≡ Some y → (x : A) × (o ≡ Some x) × (f x ≡ y)
 mapped f (Some x) y e = (x, refl, same_some (f x) y e)
@@ -48,14 +54,14 @@ mapped f None y e = none_some y e
 
 -- variables are read in a memory of these locals; where types of globals may not stand, there are none
 record IsRead (globs : Bool) (f : Frame) (vs : List TypedName) : Type 0 where
-  variables : AreIn f vs
+  there : (x : Name) (t : Ty) → local_type vs x ≡ Some t → local_in f x ≡ Some t
   values : AllFiniteWith globs vs
 
 none_read : (globs : Bool) (f : Frame) → IsRead globs f []
-none_read globs f = record { variables = record { there = λ x t e. none_some t e; finite = tt }; values = tt }
+none_read globs f = record { there = λ x t e. none_some t e; values = tt }
 
 all_read : (globs : Bool) (f : Frame) (vs : List TypedName) → globs ≡ true → AreIn f vs → IsRead globs f vs
-all_read globs f vs g h = record { variables = h; values = subst (λ b. AllFiniteWith b vs) (sym g) (all_with vs h.finite) }
+all_read globs f vs g h = record { there = h.there; values = subst (λ b. AllFiniteWith b vs) (sym g) (all_with vs h.finite) }
 
 -- the variables of the program around are read in the own memory
 own_there : (globs : Bool) (c : Context) (vars : Variables) → AreReadable globs c vars → IsRead globs c.own (own_of vars)
@@ -63,14 +69,25 @@ own_there globs c Absent h = none_read globs c.own
 own_there globs c (Own ls) h = all_read globs c.own ls h.0 h.1
 own_there globs c (Sides ls rs) h = none_read globs c.own
 
+-- a memory is there, and types of globals may stand
+record HasMemory (globs : Bool) (c : Context) (s : Side) : Type 0 where
+  side : IsSide (erased c) s
+  frame : IsFrame (frame_of c s)
+  whole : globs ≡ true
+
+own_memory : (globs : Bool) (c : Context) (vars : Variables) → has_own vars ≡ true → AreReadable globs c vars → HasMemory globs c side.Own
+own_memory globs c (Own ls) e h = record { side = tt; frame = h.1.memory; whole = h.0 }
+own_memory globs c Absent e h = absurd (false≢true e)
+own_memory globs c (Sides ls rs) e h = absurd (false≢true e)
+
 -- the variables of a side are read in its memory
 record OnSide (globs : Bool) (c : Context) (s : Side) (ls : List TypedName) : Type 0 where
-  side : IsSide (erased c) s
+  memory : HasMemory globs c s
   read : IsRead globs (frame_of c s) ls
 
 side_there : (globs : Bool) (c : Context) (vars : Variables) (s : Side) (ls : List TypedName) → AreReadable globs c vars → sides_of vars s ≡ Some ls → OnSide globs c s ls
-side_there globs c (Sides ls rs) side.Left ms h e = record { side = tt; read = subst (IsRead globs c.left) (same_some ls ms e) (all_read globs c.left ls h.0 h.1) }
-side_there globs c (Sides ls rs) side.Right ms h e = record { side = tt; read = subst (IsRead globs c.right) (same_some rs ms e) (all_read globs c.right rs h.0 h.2) }
+side_there globs c (Sides ls rs) side.Left ms h e = record { memory = record { side = tt; frame = h.1.memory; whole = h.0 }; read = subst (IsRead globs c.left) (same_some ls ms e) (all_read globs c.left ls h.0 h.1) }
+side_there globs c (Sides ls rs) side.Right ms h e = record { memory = record { side = tt; frame = h.2.memory; whole = h.0 }; read = subst (IsRead globs c.right) (same_some rs ms e) (all_read globs c.right rs h.0 h.2) }
 side_there globs c _ s ms h e = none_some ms e
 
 module _ (c : Context) (at : Environment) (vs : List TypedName) (fit : IsFitting c at vs) where
@@ -111,7 +128,7 @@ module _ (c : Context) (at : Environment) (vs : List TypedName) (fit : IsFitting
       let there : local_type ls v.name ≡ Some v.ty = ap (local_type ls) f.name ∙ f.frame in
       let finite = f.finite_with globs r.values in
       let value = with_globs globs v.ty finite in
-      (v.ty, value, leaf c at.language (Read (read_of.Program (Local v.name) s)) v.ty (finite_form globs v.ty finite) (i, value) (r.variables.there v.name v.ty there) tt (λ e. (tt, e)))
+      (v.ty, value, leaf c at.language (Read (read_of.Program (Local v.name) s)) v.ty (finite_form globs v.ty finite) (i, value) (r.there v.name v.ty there) tt (λ e. (tt, e)))
 
   own_variable_typed : (x : Name) (v : TypedName) → Found (own at) x v → IsSome c at.language (program_variable side.Own v)
   own_variable_typed x v f =
@@ -125,8 +142,52 @@ module _ (c : Context) (at : Environment) (vs : List TypedName) (fit : IsFitting
       step true e = cc
       step false e = cc
 
+  -- a global stands with its type, which is of values
+  abbrev pub Stands : ModuleVariable → Type 0
+  Stands g = (c.global g.0 g.1.name ≡ Some g.1.ty) × IsFinite g.1.ty
+
+  in_stands : (n : Name) (o : Option Module) (x : Name) (g : ModuleVariable) → ((m : Module) → o ≡ Some m → HasGlobals c.global n m) → global_in n o x ≡ Some g → Stands g
+  in_stands n None x g h e = none_some g e
+  in_stands n (Some m) x g h e = let k = mapped (λ (v : TypedName). (n, v)) (first_named m.globals x) g e in subst Stands k.2 (h m refl x k.0 k.1)
+
+  own_stands : (o : Option Module) (x : Name) (g : ModuleVariable) → HasGlobalsIf c.global o → own_global o x ≡ Some g → Stands g
+  own_stands None x g h e = none_some g e
+  own_stands (Some m) x g h e = in_stands m.name (Some m) x g (λ k i. subst (HasGlobals c.global m.name) (same_some m k i) h) e
+
+  module_stands : has_globs at.language ≡ true → (o : Option Module) (n : Name) (m : Module) → HasGlobalsIf c.global o → module_if o at.declared n ≡ Some m → HasGlobals c.global n m
+  module_stands w None n m h e = fit.globals w n m e
+  module_stands w (Some k) n m h e = step (bytes_eq n k.name) refl e
+    where
+      step : (b : Bool) → bytes_eq n k.name ≡ b → (if b then Some k else module_of at.declared n) ≡ Some m → HasGlobals c.global n m
+      step true i f = subst (HasGlobals c.global n) (same_some k m f) (subst (λ z. HasGlobals c.global z k) (sym ((bytes_eq-Decides n k.name).0 i)) h)
+      step false i f = fit.globals w n m f
+
+  pub global_stands : has_globs at.language ≡ true → (x : Name) (g : ModuleVariable) → global_at at x ≡ Some g → Stands g
+  unfolding global_at
+  global_stands w x g e = step (rsplit_once dot x) e
+    where
+      step : (o : Option (Name × Name)) → option_map_or (λ p. global_in p.0 (module_if at.inside at.declared p.0) p.1) o (own_global at.inside x) ≡ Some g → Stands g
+      step (Some p) f = in_stands p.0 (module_if at.inside at.declared p.0) p.1 g (λ m i. module_stands w at.inside p.0 m fit.around i) f
+      step None f = own_stands at.inside x g fit.around f
+
+  -- a read of a global
+  global_typed : (s : Side) → HasMemory (has_globs at.language) c s → (x : Name) (g : ModuleVariable) → global_at at x ≡ Some g → IsVariable (global_variable s g)
+  global_typed s h x g e =
+      let k = global_stands h.whole x g e in
+      let finite = subst (λ b. IsFiniteWith b g.1.ty) (sym h.whole) k.1 in (
+        g.1.ty,
+        k.1,
+        whole_leaf c at.language h.whole (Read (read_of.Program (Global g.0 g.1.name) s)) g.1.ty (finite_form (has_globs at.language) g.1.ty finite) (h.side, k.1, k.0) (h.frame, k.0) tt,
+      )
+
+  unsided_typed : (x : Name) (p : Place) (g : ModuleVariable) (u : Term) → global_at at x ≡ Some g → unsided at p g ≡ given u → IsSome c at.language u
+  unsided_typed x p g u e h =
+      let k = if_allowed (has_own at.variables) (given (global_variable side.Own g)) Argument p u h in
+      let t = global_typed side.Own (own_memory (has_globs at.language) c at.variables k.0 fit.variables) x g e in
+      subst (IsSome c at.language) (given_is _ u k.1) (t.0, t.2)
+
   -- a choice between what a name may mean
-  chosen : (f : TypedName → Answer Term) (o : Option TypedName) (d : Answer Term) (u : Term) → ((v : TypedName) → o ≡ Some v → f v ≡ given u → IsSome c at.language u) →
+  chosen : {A : Type 0} (f : A → Answer Term) (o : Option A) (d : Answer Term) (u : Term) → ((v : A) → o ≡ Some v → f v ≡ given u → IsSome c at.language u) →
       (d ≡ given u → IsSome c at.language u) → option_map_or f o d ≡ given u → IsSome c at.language u
   chosen f (Some v) d u k l h = k v refl h
   chosen f None d u k l h = l h
@@ -138,14 +199,22 @@ module _ (c : Context) (at : Environment) (vs : List TypedName) (fit : IsFitting
       let logicals = at.sequent.logical in
       chosen (bound_variable (number_before vs x)) (first_named vs x) _ u (λ v e k. bound_typed x v u (found vs x v e) k)
       (chosen (λ v. given (program_variable side.Own v)) (first_named (own at) x) _ u (λ v e k. subst (IsSome c at.language) (given_is _ u k) (own_variable_typed x v (found (own at) x v e)))
-      (chosen (logical_variable (number_before logicals x)) (first_named logicals x) (unbound at x p) u (λ v e k. logical_typed x v u (found logicals x v e) k) (unbound_typed x p u)))
+      (chosen (logical_variable (number_before logicals x)) (first_named logicals x) _ u (λ v e k. logical_typed x v u (found logicals x v e) k)
+      (chosen (unsided at p) (global_at at x) (unbound at x p) u (λ g e k. unsided_typed x p g u e k) (unbound_typed x p u))))
       h
 
   variable_typed : (x : Name) (s : Side) (p : Place) (ls : List TypedName) (u : Term) → OnSide (has_globs at.language) c s ls → variable_on at vs x s p ls ≡ given u → IsVariable u
   variable_typed x s p ls u o h =
-      let q = if_refused (is_some (first_named vs x)) Argument p (given_or (option_map (program_variable s) (first_named ls x)) (no_variable at x) p) u h in
-      let k = mapped (program_variable s) (first_named ls x) u (some_given (option_map (program_variable s) (first_named ls x)) (no_variable at x) p u q.1) in
-      subst IsVariable k.2 (local_typed s ls o.side o.read x k.0 (found ls x k.0 k.1))
+      local (first_named ls x) refl (if_refused (is_some (first_named vs x)) Argument p _ u h).1
+    where
+      global : (y : Option ModuleVariable) → global_at at x ≡ y → option_map_or (λ g. given (global_variable s g)) y (refused (no_variable at x) p) ≡ given u → IsVariable u
+      global (Some g) e k = subst IsVariable (given_is _ u k) (global_typed s o.memory x g e)
+      global None e k = cc
+
+      local : (y : Option TypedName) → first_named ls x ≡ y →
+          option_map_or (λ v. given (program_variable s v)) y (option_map_or (λ g. given (global_variable s g)) (global_at at x) (refused (no_variable at x) p)) ≡ given u → IsVariable u
+      local (Some v) e k = subst IsVariable (given_is _ u k) (local_typed s ls o.memory.side o.read x v (found ls x v e))
+      local None e k = global (global_at at x) refl k
 
   -- a name with a side
   pub sided_typed : (x : Name) (s : Side) (p : Place) (u : Term) → sided at vs x s p ≡ given u → IsVariable u
@@ -160,8 +229,12 @@ module _ (c : Context) (at : Environment) (vs : List TypedName) (fit : IsFitting
   unfolding in_memory
   no_memory x m p u h = step (list_any (λ n. bytes_eq n (text_of m)) at.sequent.memories) h
     where
-      step : (b : Bool) → (if b then refused (no_variable at x) p else refused (UnknownName (text_of m)) (place_of m)) ≡ given u → ⊥
-      step true h = cc
+      among : (b : Bool) → (if b then not_built p else refused (no_variable at x) p) ≡ given u → ⊥
+      among true h = cc
+      among false h = cc
+
+      step : (b : Bool) → (if b then (if is_some (global_at at x) then not_built p else refused (no_variable at x) p) else refused (UnknownName (text_of m)) (place_of m)) ≡ given u → ⊥
+      step true h = among (is_some (global_at at x)) h
       step false h = cc
 
   none_remembered : (x : Name) (m : Node) (p : Place) (u : Term) → remembered at x m p ≡ given u → ⊥

@@ -13,6 +13,7 @@ pub mod Leaves
 pub mod Equations
 pub mod Quantified
 pub mod Judged
+pub mod OneProcedure
 pub mod Tested
 pub mod Asked
 pub mod Askable
@@ -28,6 +29,7 @@ pub mod Cuts
 pub mod Stated
 mod Brought
 pub mod Programs
+pub mod Members
 pub mod Statements
 pub mod Scopes
 pub mod Bodies

@@ -1,9 +1,8 @@
--- What the typing of procedures and modules gives is typed.
-use Rattle.std.proofs.Common.{◌≡◌, Bool, true, false, not, ◌||◌, if◌then◌else◌, List, [], ◌∷◌, ◌++◌, Some, None, is_some, bytes_eq, refl, ap, sym, ◌∙◌, subst}
+-- What the typing of procedures gives is typed.
+use Rattle.std.proofs.Common.{◌≡◌, Bool, true, false, not, ◌||◌, if◌then◌else◌, List, [], ◌∷◌, ◌++◌, Some, None, bytes_eq, refl, ap, sym, ◌∙◌, subst}
 use Rattle.std.specs.List.{list_any}
-use Rattle.std.proofs.lemmas.List.{append-nil, append_assoc}
 use Rattle.gb_core.specs.declared.place.Place.{Place}
-use Rattle.gb_core.specs.declared.refusal.Why.TheVariants.{DoubleName, Syntax, TypeMismatch}
+use Rattle.gb_core.specs.declared.refusal.Why.TheVariants.{DoubleName, TypeMismatch}
 use Rattle.gb_core.specs.declared.ty.Ty.{Ty}
 use Rattle.gb_core.specs.declared.ty.Ty.TheVariants as ty
 use Rattle.gb_same.specs.Types.{ty_eq}
@@ -12,44 +11,38 @@ use Rattle.gb_terms.specs.declared.decl.Module.{Module}
 use Rattle.gb_terms.specs.declared.decl.Proc.{Proc}
 use Rattle.gb_terms.specs.declared.decl.TypedName.{TypedName}
 use Rattle.gb_terms.specs.declared.term.Term.{Term}
-use Rattle.gb_goal.specs.Scope.{Declarations, entry_of}
+use Rattle.gb_goal.specs.Scope.{Declarations}
+use Rattle.gb_goal.specs.Answers.{◌>>=◌}
 use Rattle.gb_script.specs.declared.head.Head.{Head}
 use Rattle.gb_script.specs.declared.head.Head.TheVariants as head
 use Rattle.gb_script.specs.declared.tree.Node.{Node}
 use Rattle.gb_script.specs.Tree.{head_of, text_of, parts_of, place_of}
 use Rattle.gb_typed.specs.Finite.{IsVariableType}
 use Rattle.gb_meaning.specs.Names.{Name}
-use Rattle.gb_goal.specs.Answers.{◌>>=◌, not_built}
 use Rattle.gb_goal.specs.Answers.Answer.{given, refused}
 use Rattle.gb_names.specs.declared.setting.Language.TheVariants.{Program}
 use Rattle.gb_names.specs.Environment.{Environment, program}
 use Rattle.gb_names.specs.Names.{unit}
 use Rattle.gb_names.specs.Types as spelled_as
-use Rattle.gb_elab_mod.specs.Lemmas.{free, nothing_around}
-use Rattle.gb_elab_mod.specs.Statements.{all_stated, with_statings}
-use Rattle.gb_elab_mod.specs.Procedures.{untaken, result_type, lacks_value, value, undeclared, formal, formals, declared, variables, locals, with_result, result_of, procedure_by, procedure}
-use Rattle.gb_elab_mod.specs.Modules.{procedures, all_short, without_globals, plain, module_by, module_given}
-use Rattle.gb_elab_mod.specs.Bound.{parameters}
-use Rattle.gb_elab_mod.specs.Unbuilt.{absent}
-use Rattle.gb_typing.specs.Modules.{ProcedureType}
+use Rattle.gb_elab_prog.specs.Contexts.{nothing_around}
+use Rattle.gb_elab_prog.specs.Statements.{all_stated, with_statings}
+use Rattle.gb_elab_prog.specs.Procedures.{is_member, untaken, result_type, lacks_value, value, undeclared, formal, formals, declared, variables, locals, with_result, result_of, procedure_by}
 use Rattle.gb_typing.specs.Context.{Context, of_program}
 use Rattle.gb_typing.specs.Programs.{HaveVariableTypes, IsProcedure, type_of_procedure}
-use Rattle.gb_typing.specs.Scopes.{procedure_types, in_module, context_of, is_declared, AreProcedures, IsModule, IsTypedScope}
-use Rattle.gb_holds.specs.Declared.{declared as declarations}
-use Rattle.gb_holds.specs.Modules.{Procedures, found as named}
-use Rattle.gb_elab_laws.specs.Fitting.{AreTypes, AreDeclared, IsGiven}
-use Rattle.gb_elab_laws.proofs.Given.{given_bind, given_is, if_refused, not_given}
+use Rattle.gb_typing.specs.Scopes.{procedure_types}
+use Rattle.gb_holds.specs.Modules.{found as named}
+use Rattle.gb_elab_laws.specs.Fitting.{AreTypes, IsGiven}
+use Rattle.gb_elab_laws.proofs.Given.{given_bind, given_is, if_refused}
 use Rattle.gb_elab_laws.proofs.Types.{spelled_typed}
-use Rattle.gb_typing.proofs.Globals.{name_test}
+use Rattle.gb_typing.proofs.Globals.{name_test, or_false}
 use Rattle.gb_elab_laws.proofs.Typed.{given_from}
 use Rattle.gb_elab_laws.proofs.Leaves.{unit_typed}
-use Rattle.gb_elab_laws.proofs.Declared.{declared_in}
 use Rattle.gb_elab_laws.proofs.Shapes.{finite_form}
 use Rattle.gb_typing.proofs.Variables.{variable_finite}
 use Rattle.gb_elab_laws.proofs.Forms.{elaborated_typed}
-use Rattle.gb_elab_laws.proofs.Stated.{fits, expression, statements_typed}
+use Rattle.gb_elab_laws.proofs.Stated.{IsAround, fits, expression, statements_typed}
 
-have_both : (ls ms : List TypedName) → HaveVariableTypes ls → HaveVariableTypes ms → HaveVariableTypes (ls ++ ms)
+pub have_both : (ls ms : List TypedName) → HaveVariableTypes ls → HaveVariableTypes ms → HaveVariableTypes (ls ++ ms)
 have_both [] ms h k = k
 have_both (l ∷ ls) ms h k = (h.0, have_both ls ms h.1 k)
 
@@ -100,19 +93,19 @@ module _ (ds : Declarations) (names : AreTypes ds) (ps : List TypedName) where
       let us = given_bind (variables ds ps vs (head_of b) (parts_of b) (place_of b)) (λ us. locals ds ps us bs) ws e in
       locals_typed us.0 bs ws (variables_typed vs (head_of b) (parts_of b) (place_of b) us.0 h us.1) us.2
 
-module _ (ds : Declarations) (c : Context) (names : AreDeclared c.operator ds) where
+module _ (ds : Declarations) (c : Context) (m : Module) (beside : IsAround ds c m) where
   module _ (vs : List TypedName) (typed : HaveVariableTypes vs) where
     abbrev at : Environment
-    at = program ds nothing_around vs
+    at = program ds m nothing_around vs
 
     abbrev around : Context
     around = of_program c vs
 
     value_typed : (ts : List Node) (r : Ty) (u : Term) → IsVariableType r → lacks_value ts r ≡ false → value at ts r ≡ given u → IsGiven around Program (Some r) u
-    value_typed (t ∷ ts) r u k l h = elaborated_typed t around at [] (fits ds c names vs typed) (Some r) (finite_form true r (variable_finite r k)) u h
+    value_typed (t ∷ ts) r u k l h = elaborated_typed t around at [] (fits ds c m beside vs typed) (Some r) (finite_form true r (variable_finite r k)) u h
     value_typed [] r u k l h =
         let e : r ≡ ty.Unit = is_unit (ty_eq r ty.Unit) refl l in
-        subst (IsGiven around Program (Some r)) (given_is unit u h) (given_from around Program (Some r) ty.Unit unit (unit_typed around at [] (fits ds c names vs typed)) (sym e))
+        subst (IsGiven around Program (Some r)) (given_is unit u h) (given_from around Program (Some r) ty.Unit unit (unit_typed around at [] (fits ds c m beside vs typed)) (sym e))
       where
         is_unit : (b : Bool) → ty_eq r ty.Unit ≡ b → not b ≡ false → r ≡ ty.Unit
         is_unit true e k = (ty_eq-Decides r ty.Unit).0 e
@@ -123,19 +116,19 @@ module _ (ds : Declarations) (c : Context) (names : AreDeclared c.operator ds) w
   IsOf n p = (p.name ≡ n) × IsProcedure c p
 
   with_result_typed : (x : Node) (ps : List TypedName) (ls ss v : List Node) (r : Ty) (p : Proc) → HaveVariableTypes ps → IsVariableType r → lacks_value v r ≡ false →
-      with_result ds nothing_around x ps ls ss v r ≡ given p → IsOf (text_of x) p
+      with_result ds nothing_around m x ps ls ss v r ≡ given p → IsOf (text_of x) p
   unfolding with_result
-  with_result_typed x ps ls ss v r p m k l h =
+  with_result_typed x ps ls ss v r p n k l h =
       let vs = given_bind (locals ds ps [] ls) _ p h in
-      let is = given_bind (all_stated (with_statings ss) (program ds nothing_around (ps ++ vs.0))) _ p vs.2 in
-      let u = given_bind (value (program ds nothing_around (ps ++ vs.0)) v r) _ p is.2 in
-      let typed = have_both ps vs.0 m (locals_typed ds names.types ps [] ls vs.0 tt vs.1) in
+      let is = given_bind (all_stated (with_statings ss) (program ds m nothing_around (ps ++ vs.0))) _ p vs.2 in
+      let u = given_bind (value (program ds m nothing_around (ps ++ vs.0)) v r) _ p is.2 in
+      let typed = have_both ps vs.0 n (locals_typed ds beside.names.types ps [] ls vs.0 tt vs.1) in
       let g = value_typed (ps ++ vs.0) typed v r u.0 k l u.1 in
       subst (IsOf (text_of x)) (given_is _ p u.2) (
         refl,
         record {
-          body = record { locals = typed; statements = statements_typed ds c names (ps ++ vs.0) typed ss is.0 is.1 };
-          value = expression ds c names (ps ++ vs.0) typed (Some r) u.0 g;
+          body = record { locals = typed; statements = statements_typed ds c m beside (ps ++ vs.0) typed ss is.0 is.1 };
+          value = expression ds c m beside (ps ++ vs.0) typed (Some r) u.0 g;
           returned = g.wanted;
           result = k;
         },
@@ -152,78 +145,17 @@ module _ (ds : Declarations) (c : Context) (names : AreDeclared c.operator ds) w
       step false false i f e = f e
 
   -- a procedure beside others, under a name of its own
-  abbrev IsBeside : List Proc → Proc → Type 0
+  abbrev pub IsBeside : List Proc → Proc → Type 0
   IsBeside ps p = (named (procedure_types ps) p.name ≡ None) × IsProcedure c p
 
-  of_procedure_parts : (ps : List Proc) (k : Head) (xs : List Node) (q : Place) (p : Proc) → procedure_by ds nothing_around ps k xs q ≡ given p → IsBeside ps p
-  of_procedure_parts ps head.Procedure (x ∷ fs ∷ r ∷ ls ∷ ss ∷ v ∷ []) q p h =
-      let n = given_bind (untaken ps x) _ p h in
+  pub procedure_typed : (k : Head) (xs : List Node) (q : Place) (p : Proc) → procedure_by ds nothing_around m k xs q ≡ given p → IsBeside m.procs p
+  procedure_typed head.Procedure (x ∷ fs ∷ r ∷ ls ∷ ss ∷ v ∷ []) q p h =
+      let n = given_bind (untaken m x) _ p h in
       let f = given_bind (formals ds [] (parts_of fs)) _ p n.2 in
-      let t = given_bind (result_of ds x (parts_of r) (parts_of v)) (with_result ds nothing_around x f.0 (parts_of ls) (parts_of ss) (parts_of v)) p f.2 in
-      let k = result_is ds names.types x (parts_of r) (parts_of v) t.0 t.1 in
-      let w = with_result_typed x f.0 (parts_of ls) (parts_of ss) (parts_of v) t.0 p (formals_typed ds names.types [] (parts_of fs) f.0 tt f.1) k.0 k.1 t.2 in
-      let u = if_refused (list_any (λ (p : Proc). bytes_eq p.name (text_of x)) ps) (DoubleName (text_of x)) (place_of x) (given tt) n.0 n.1 in
-      (ap (named (procedure_types ps)) w.0 ∙ free_name ps (text_of x) u.0, w.1)
-  of_procedure_parts ps _ _ q p h = cc
-
-  procedure_typed : (ps : List Proc) (t : Node) (p : Proc) → procedure ds nothing_around ps t ≡ given p → IsBeside ps p
-  unfolding procedure
-  procedure_typed ps t p h = of_procedure_parts ps (head_of t) (parts_of t) (place_of t) p h
-
--- procedures behind others
-procedures_both : (c : Context) (m : Module) (earlier : Procedures ProcedureType) (ps qs : List Proc) → AreProcedures c m earlier ps →
-    AreProcedures c m (earlier ++ procedure_types ps) qs → AreProcedures c m earlier (ps ++ qs)
-procedures_both c m earlier [] qs h k = subst (λ z. AreProcedures c m z qs) (append-nil earlier) k
-procedures_both c m earlier (p ∷ ps) qs h k =
-    let next = subst (λ z. AreProcedures c m z qs) (sym (append_assoc earlier ((p.name, type_of_procedure p) ∷ []) (procedure_types ps))) k in
-    (h.0, h.1, procedures_both c m (earlier ++ (p.name, type_of_procedure p) ∷ []) ps qs h.2 next)
-
-procedures_typed : (ds : Declarations) (c : Context) → AreDeclared c.operator ds → (m : Module) (ps : List Proc) (ts : List Node) (qs : List Proc) → AreProcedures c m [] ps →
-    procedures ds nothing_around ps ts ≡ given qs → AreProcedures c m [] qs
-unfolding procedures
-procedures_typed ds c names m ps [] qs k h = subst (AreProcedures c m []) (given_is ps qs h) k
-procedures_typed ds c names m ps (t ∷ ts) qs k h =
-    let p = given_bind (procedure ds nothing_around ps t) (λ p. procedures ds nothing_around (ps ++ p ∷ []) ts) qs h in
-    let b = procedure_typed ds (in_module c m (procedure_types ps)) names ps t p.0 p.1 in
-    procedures_typed ds c names m (ps ++ p.0 ∷ []) ts qs (procedures_both c m [] ps (p.0 ∷ []) k (b.0, b.1, tt)) p.2
-
--- a name that a script hasn't declared is free
-undeclared_is : (ds : Declarations) (n : Name) → is_some (entry_of ds n) ≡ false → is_declared (declarations ds) n ≡ false
-undeclared_is [] n e = refl
-undeclared_is (d ∷ ds) n e = step (bytes_eq n d.0) (undeclared_is ds n) e
-  where
-    step : (b : Bool) → (is_some (entry_of ds n) ≡ false → is_declared (declarations ds) n ≡ false) → is_some (if b then Some d.1 else entry_of ds n) ≡ false →
-        (b || is_declared (declarations ds) n) ≡ false
-    step true f e = cc
-    step false f e = f e
-
-pub free_is : (ds : Declarations) (x : Node) (y : Unit {0}) → free ds x ≡ given y → is_declared (declarations ds) (text_of x) ≡ false
-free_is ds x y h = undeclared_is ds (text_of x) (if_refused (is_some (entry_of ds (text_of x))) (DoubleName (text_of x)) (place_of x) (given tt) y h).0
-
--- a module under a free name
-abbrev IsNew : Declarations → Module → Type 0
-IsNew ds m = (IsTypedScope (declarations ds) → IsModule (context_of (declarations ds)) m.name m) × (is_declared (declarations ds) m.name ≡ false)
-
-plain_typed : (ds : Declarations) (x : Node) (qs ys ts : List Node) (m : Module) → plain ds x qs ys ts ≡ given m → IsNew ds m
-unfolding plain
-plain_typed ds x qs ys ts m h =
-    let f = given_bind (free ds x) _ m h in
-    let a = given_bind (parameters ds x qs) _ m f.2 in
-    let b = given_bind (absent ys (place_of x)) _ m a.2 in
-    let g = given_bind (without_globals ts (place_of x)) _ m b.2 in
-    let ps = given_bind (procedures ds nothing_around [] ts) _ m g.2 in
-    let s = given_bind (all_short ts) _ m ps.2 in
-    let new : Module = record { name = text_of x; params = []; globals = []; procs = ps.0 } in
-    subst (IsNew ds) {x = new} (given_is new m s.2)
-    (λ w. record { name = refl; params = tt; globals = tt; names = tt; procs = procedures_typed ds (context_of (declarations ds)) (declared_in ds w) new [] ts ps.0 tt ps.1 }, free_is ds x f.0 f.1)
-
-of_module_parts : (ds : Declarations) (k : Head) (xs : List Node) (p : Place) (m : Module) → module_by ds k xs p ≡ given m → IsNew ds m
-of_module_parts ds head.Module (x ∷ qs ∷ ys ∷ ts ∷ []) p m h = plain_typed ds x (parts_of qs) (parts_of ys) (parts_of ts) m h
-of_module_parts ds head.AscribedModule (x ∷ xs) p m h = let f = given_bind (free ds x) (λ _. not_built (place_of x)) m h in absurd (not_given Syntax (place_of x) m f.2)
-of_module_parts ds _ _ p m h = cc
-
-pub module_typed : (ds : Declarations) → IsTypedScope (declarations ds) → (t : Node) (m : Module) → module_given ds t ≡ given m → IsModule (context_of (declarations ds)) m.name m
-module_typed ds w t m h = (of_module_parts ds (head_of t) (parts_of t) (place_of t) m h).0 w
-
-pub module_free : (ds : Declarations) (t : Node) (m : Module) → module_given ds t ≡ given m → is_declared (declarations ds) m.name ≡ false
-module_free ds t m h = (of_module_parts ds (head_of t) (parts_of t) (place_of t) m h).1
+      let t = given_bind (result_of ds x (parts_of r) (parts_of v)) (with_result ds nothing_around m x f.0 (parts_of ls) (parts_of ss) (parts_of v)) p f.2 in
+      let k = result_is ds beside.names.types x (parts_of r) (parts_of v) t.0 t.1 in
+      let w = with_result_typed x f.0 (parts_of ls) (parts_of ss) (parts_of v) t.0 p (formals_typed ds beside.names.types [] (parts_of fs) f.0 tt f.1) k.0 k.1 t.2 in
+      let u = if_refused (is_member m (text_of x)) (DoubleName (text_of x)) (place_of x) (given tt) n.0 n.1 in
+      let o = or_false (list_any (λ (l : TypedName). bytes_eq l.name (text_of x)) m.globals) (list_any (λ (q : Proc). bytes_eq q.name (text_of x)) m.procs) u.0 in
+      (ap (named (procedure_types m.procs)) w.0 ∙ free_name m.procs (text_of x) o.1, w.1)
+  procedure_typed _ _ q p h = cc

@@ -87,6 +87,8 @@ module _ (at : Environment) where
     bound = (h, fit.bound);
     variables = readable at.variables fit.variables;
     declared = fit.declared;
+    around = fit.around;
+    globals = fit.globals;
     procedures = fit.procedures;
   }
     where

@@ -1,6 +1,6 @@
 -- The functions of `rnd` are typed over the locals of the bodies.
 use Rattle.std.proofs.lemmas.Bool.{false≢true}
-use Rattle.std.proofs.Common.{◌≡◌, Bool, true, false, ℕ, List, [], ◌∷◌, Option, Some, None, option_map, refl, ap, sym, ◌∙◌, subst}
+use Rattle.std.proofs.Common.{◌≡◌, Bool, true, false, if◌then◌else◌, ℕ, List, [], ◌∷◌, Option, Some, None, option_map, refl, ap, sym, ◌∙◌, subst}
 use Rattle.std.specs.Option.{option_map_or, option_zip}
 use Rattle.gb_core.specs.declared.place.Place.{Place}
 use Rattle.gb_core.specs.declared.refusal.Why.TheVariants.{TypeMismatch}
@@ -17,7 +17,7 @@ use Rattle.gb_terms.specs.declared.term.Head.{Head}
 use Rattle.gb_terms.specs.declared.term.Head.TheOpen as layer
 use Rattle.gb_terms.specs.declared.term.Head.TheVariants as head
 use Rattle.gb_goal.specs.Scope as scope
-use Rattle.gb_goal.specs.Goal.{code_at, goal_at, goal_of}
+use Rattle.gb_goal.specs.Goal.{code_at, goal_at, goal_of, judges_bodies}
 use Rattle.gb_goal.specs.Goal.Goal.{equiv}
 use Rattle.gb_goal.specs.declared.sequent.Sequent.{Sequent}
 use Rattle.gb_steps.specs.declared.step.Rule.{Rule}
@@ -44,9 +44,9 @@ use Rattle.gb_names.specs.declared.setting.Language.TheVariants.{Function}
 use Rattle.gb_names.specs.Environment.{Environment, of_function}
 use Rattle.gb_elab.specs.Forms.{function}
 use Rattle.gb_elab_mod.specs.Occurring.{occurring}
-use Rattle.gb_elab_mod.specs.Steps.{acts, cut_of, last_sampled, functions, of_bodies_rule, on_all, one_type, plain_rule, conclusion_rule, new_name, formed, of_conclusion, seq_rule, there_and_back, of_bodies, couplings, functions_of, typed_rule, step_given}
+use Rattle.gb_elab_mod.specs.Steps.{acts, cut_of, last_sampled, functions, of_bodies_rule, on_all, one_type, plain_rule, conclusion_rule, case_of_bodies, case_of_conclusion, new_name, formed, seq_rule, there_and_back, of_bodies, couplings, coupling_rule, functions_of, typed_rule, step_given}
 use Rattle.gb_elab_mod.specs.Steps as steps
-use Rattle.gb_elab_mod.specs.Unbuilt.{absent}
+use Rattle.gb_elab_prog.specs.Unbuilt.{absent}
 use Rattle.gb_elab_laws.specs.Fitting.{IsFitting, IsGiven}
 use Rattle.gb_equiv.specs.Rows.{IsTypedRule}
 use Rattle.gb_rules.specs.Samplings.{Sampling, last_sampling}
@@ -173,15 +173,29 @@ module _ (ds : scope.Declarations) (scoped : IsTypedScope (declared ds)) (q : Se
       unfolding couplings
       couplings_typed fs us h = of_head fs q.conclusion (out-Term q.conclusion).head (out-Term q.conclusion).args us h w
 
+      -- the functions of a rule
+      coupling_is : (fs : List Node) (ts us : List Term) → coupling_rule fs ts ≡ rule.Relational (relational_rule.Rnd us) → ts ≡ us
+      coupling_is [] ts us e = ap functions_in e
+      coupling_is (f ∷ fs) [] us e = absurd (false≢true (ap is_relational e))
+      coupling_is (f ∷ fs) (t ∷ ts) us e = ap functions_in e
+
       -- a rule of another family
       other : (k j : Rule) (us : List Term) → is_relational k ≡ false → k ≡ j → j ≡ rule.Relational (relational_rule.Rnd us) → Typed us
       other k j us f h r = absurd (false≢true (sym f ∙ ap is_relational (h ∙ r)))
 
+      of_case : (f : Node) (k : Rule) (us : List Term) (b : Bool) → (if b then of_bodies_rule (case_of_bodies ds q f (goal_of q.conclusion)) else case_of_conclusion ds q f) ≡ given k →
+          k ≡ rule.Relational (relational_rule.Rnd us) → Typed us
+      of_case f k us true h r =
+          let y = given_bind (case_of_bodies ds q f (goal_of q.conclusion)) (λ z. given (rule.OnBodies z)) k h in other (rule.OnBodies y.0) k us refl (given_is (rule.OnBodies y.0) k y.2) r
+      of_case f k us false h r =
+          let z = given_bind (formed ds q f) (λ (t : Term). given (rule.Ambient (conclusion.Case t))) k h in
+          other (rule.Ambient (conclusion.Case z.0)) k us refl (given_is (rule.Ambient (conclusion.Case z.0)) k z.2) r
+
       of_rule : (n : Kind) (x : List ℕ) (xs : List Node) (p : Place) (k : Rule) (us : List Term) → typed_rule ds q n x xs p ≡ given k → k ≡ rule.Relational (relational_rule.Rnd us) → Typed us
       of_rule text.Rnd x (b ∷ fs) p k us h r =
           let o = given_bind (absent (parts_of b) p) _ k h in
-          let y = given_bind (couplings ds q (functions_of fs)) (λ (us : List Term). given (rule.Relational (relational_rule.Rnd us))) k o.2 in
-          subst Typed (ap functions_in (given_is (rule.Relational (relational_rule.Rnd y.0)) k y.2 ∙ r)) (couplings_typed (functions_of fs) y.0 y.1)
+          let y = given_bind (couplings ds q (functions_of fs)) (λ (us : List Term). given (coupling_rule (functions_of fs) us)) k o.2 in
+          subst Typed (coupling_is (functions_of fs) y.0 us (given_is (coupling_rule (functions_of fs) y.0) k y.2 ∙ r)) (couplings_typed (functions_of fs) y.0 y.1)
       of_rule text.Proc x (b ∷ i ∷ []) p k us h r =
           let y = given_bind (absent (parts_of i) p) (λ _. given (rule.OnBodies (on_all (acts (parts_of b)) on_bodies.Proc))) k h in
           other (rule.OnBodies (on_all (acts (parts_of b)) on_bodies.Proc)) k us refl (given_is (rule.OnBodies (on_all (acts (parts_of b)) on_bodies.Proc)) k y.2) r
@@ -193,15 +207,18 @@ module _ (ds : scope.Declarations) (scoped : IsTypedScope (declared ds)) (q : Se
       of_rule text.PlainStep x [] p k us h r =
           let o = given_bind (conclusion_rule x p) (λ (a : AmbientRule). given (rule.Ambient a)) k h in other (rule.Ambient o.0) k us refl (given_is (rule.Ambient o.0) k o.2) r
       of_rule text.CaseStep x (b ∷ f ∷ []) p k us h r =
-          let o = given_bind (absent (parts_of b) p) _ k h in
-          let y = given_bind (of_conclusion q p) _ k o.2 in
-          let z = given_bind (formed ds q f) (λ (t : Term). given (rule.Ambient (conclusion.Case t))) k y.2 in
-          other (rule.Ambient (conclusion.Case z.0)) k us refl (given_is (rule.Ambient (conclusion.Case z.0)) k z.2) r
+          let o = given_bind (absent (parts_of b) p) _ k h in of_case f k us (judges_bodies (out-Term q.conclusion).head) o.2 r
       of_rule text.HaveForm x (n ∷ f ∷ []) p k us h r =
           let o = given_bind (new_name q (text_of n) (place_of n)) _ k h in
           let z = given_bind (formed ds q f) (λ (t : Term). given (rule.Ambient (conclusion.Have (text_of n) t))) k o.2 in
           other (rule.Ambient (conclusion.Have (text_of n) z.0)) k us refl (given_is (rule.Ambient (conclusion.Have (text_of n) z.0)) k z.2) r
       of_rule text.Smt x hints p k us h r = let o = given_bind (absent hints p) (λ _. given rule.Smt) k h in other rule.Smt k us refl (given_is rule.Smt k o.2) r
+      of_rule text.Name x [] p k us h r = other (rule.Ambient (conclusion.Introduce x)) k us refl (given_is (rule.Ambient (conclusion.Introduce x)) k h) r
+      of_rule text.Memory x (n ∷ []) p k us h r = other (rule.Ambient (conclusion.IntroduceMemory (text_of n))) k us refl (given_is (rule.Ambient (conclusion.IntroduceMemory (text_of n))) k h) r
+      of_rule text.Drop x [] p k us h r = other (rule.Ambient conclusion.Discard) k us refl (given_is (rule.Ambient conclusion.Discard) k h) r
+      of_rule text.BothPatterns x ps p k us h r = other (rule.Ambient conclusion.Unpack) k us refl (given_is (rule.Ambient conclusion.Unpack) k h) r
+      of_rule text.EitherPattern x ps p k us h r = other (rule.Ambient conclusion.Branch) k us refl (given_is (rule.Ambient conclusion.Branch) k h) r
+      of_rule text.SmtPattern x [] p k us h r = other (rule.Smt) k us refl (given_is (rule.Smt) k h) r
       of_rule _ x _ p k us h r = cc
 
 -- The functions of a typed step `rnd` are typed over the locals of the bodies.

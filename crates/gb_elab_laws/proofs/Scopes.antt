@@ -13,8 +13,8 @@ use Rattle.gb_typing.specs.Context.{Context}
 use Rattle.gb_typing.specs.Sequents.{IsTypedSequent}
 use Rattle.gb_typing.specs.Scopes.{nothing, with_declared, with_each, context_of, is_declared, IsModule, AreTypedAfter, IsTypedScope}
 use Rattle.gb_goal.specs.Answers.Answer.{given}
-use Rattle.gb_elab_mod.specs.Modules.{module_given}
-use Rattle.gb_elab_laws.proofs.Programs.{module_typed, module_free}
+use Rattle.gb_elab_prog.specs.Modules.{module_given}
+use Rattle.gb_elab_laws.proofs.Members.{module_typed, module_free}
 
 pub typed_after : (c : Context) (before ds es : Declarations) → AreTypedAfter c before ds → AreTypedAfter (with_each c ds) (before ++ ds) es → AreTypedAfter c before (ds ++ es)
 typed_after c before [] es h k = subst (λ z. AreTypedAfter c z es) (append-nil before) k

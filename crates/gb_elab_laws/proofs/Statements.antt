@@ -31,17 +31,19 @@ use Rattle.gb_rules.proofs.Conclusions.{goal_conclusion, goal_front}
 use Rattle.gb_goal.specs.Answers.Answer.{given}
 use Rattle.gb_names.specs.Environment.{ambient}
 use Rattle.gb_elab.specs.Forms.{elaborated}
-use Rattle.gb_elab_mod.specs.Lemmas.{claimed, free, lemma_name, name_in, small, stated, statement_by, statement_given}
-use Rattle.gb_elab_mod.specs.declared.context.Bound.{Bound}
-use Rattle.gb_elab_mod.specs.Bound.{apart}
-use Rattle.gb_elab_mod.specs.Contexts.{taken, values_bound, memory_bound, bound_by, all_bound, nothing_bound, in_context}
-use Rattle.gb_elab_mod.specs.Contexts.{context_of as around}
+use Rattle.gb_elab_mod.specs.Lemmas.{claimed, lemma_name, name_in, stated, statement_by, statement_given}
+use Rattle.gb_elab_prog.specs.Fresh.{free}
+use Rattle.gb_elab_prog.specs.Sizes.{small}
+use Rattle.gb_elab_prog.specs.declared.context.Bound.{Bound}
+use Rattle.gb_elab_prog.specs.Bound.{apart}
+use Rattle.gb_elab_prog.specs.Contexts.{taken, values_bound, memory_bound, bound_by, all_bound, nothing_bound, in_context}
+use Rattle.gb_elab_prog.specs.Contexts.{context_of as around}
 use Rattle.gb_elab_laws.proofs.Given.{given_bind, given_is, if_refused, not_given}
 use Rattle.gb_elab_laws.specs.Fitting.{AreTypes}
 use Rattle.gb_elab_laws.proofs.Declared.{declared_in}
 use Rattle.gb_elab_laws.proofs.Fits.{context_fits}
 use Rattle.gb_elab_laws.proofs.Forms.{elaborated_typed}
-use Rattle.gb_elab_laws.proofs.Programs.{free_is}
+use Rattle.gb_elab_laws.proofs.Members.{free_is}
 use Rattle.gb_elab_laws.proofs.Types.{spelled_typed}
 use Rattle.gb_elab_laws.proofs.Found.{all_with}
 

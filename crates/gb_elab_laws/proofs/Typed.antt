@@ -1,5 +1,6 @@
 -- Typed terms in contexts that fit.
-use Rattle.std.proofs.Common.{◌≡◌, false, List, [], ◌∷◌, Option, Some, refl, sym, subst}
+use Rattle.std.proofs.Common.{◌≡◌, true, false, List, [], ◌∷◌, Option, Some, refl, sym, ◌∙◌, subst}
+use Rattle.std.proofs.lemmas.Bool.{false≢true}
 use Rattle.gb_core.specs.declared.place.Place.{Place}
 use Rattle.gb_core.specs.declared.ty.Ty.{Ty}
 use Rattle.gb_core.specs.declared.ty.Ty.TheVariants.{Bool as bool_ty}
@@ -81,6 +82,15 @@ module _ (c : Context) (l : Language) where
   -- a form, where a type is wanted that a truth may have
   pub truth_given : (w : Option Ty) (p : Place) (x : Unit {0}) (t : Term) → truth w p ≡ given x → Typed c l bool_ty t → IsGiven c l w t
   truth_given w p x t h m = given_from w bool_ty t m (truth_is w p x h)
+
+  -- a term without arguments, where types of globals may stand
+  pub whole_leaf : has_globs l ≡ true → (h : Head) (ty : Ty) → IsFormType (has_globs l) ty → IsHead (erased c) h [] ty → IsNamed c h ty → HeadIsPlain h → Typed c l ty (node h [] ty)
+  whole_leaf w h ty f k s p = record {
+    made = made_node c h [] [] ty k s [] tt;
+    type = f;
+    plain = λ _. plain_node h [] ty p tt;
+    apart = λ q. absurd (false≢true (sym q ∙ w));
+  }
 
   -- a term without arguments
   pub leaf : (h : Head) (ty : Ty) → IsFormType (has_globs l) ty → IsHead (erased c) h [] ty → IsNamed c h ty → HeadIsPlain h →

@@ -2,6 +2,7 @@
 use Rattle.std.specs.Prelude.{◌≡◌, ℕ, Bool, true, false, List, [], ◌∷◌, map, Option, Some, None}
 use Rattle.gb_core.specs.declared.ty.Ty.{Ty}
 use Rattle.gb_core.specs.declared.ty.Ty.TheVariants as ty
+use Rattle.gb_terms.specs.declared.decl.Module.{Module}
 use Rattle.gb_terms.specs.declared.decl.Proc.{Proc}
 use Rattle.gb_terms.specs.declared.decl.TypedName.{TypedName}
 use Rattle.gb_terms.specs.declared.module.ProcRef.{ProcRef}
@@ -9,7 +10,7 @@ use Rattle.gb_terms.specs.declared.term.Term.{Term}
 use Rattle.gb_core.specs.declared.value.Value.TheVariants.{Num}
 use Rattle.gb_goal.specs.declared.scope.Constant.{Constant}
 use Rattle.gb_goal.specs.declared.scope.OperatorType.{OperatorType as DeclaredOperator}
-use Rattle.gb_goal.specs.Scope.{Declarations, constant_named, operator_named, procedure_of, type_named}
+use Rattle.gb_goal.specs.Scope.{Declarations, constant_named, module_of, operator_named, procedure_of, type_named}
 use Rattle.gb_meaning.specs.Names.{Name}
 use Rattle.gb_meaning.specs.Written.{type_of, local_type}
 use Rattle.gb_changes.specs.Plain.{IsPlain}
@@ -21,7 +22,7 @@ use Rattle.gb_typed.specs.Programs.{HaveFiniteTypes}
 use Rattle.gb_typed.specs.Typing.{Binder, OperatorType, IsBoundAt, IsLiteral}
 use Rattle.gb_typing.specs.Modules.{ProcedureType}
 use Rattle.gb_typing.specs.Context.{Frame, Context, procedure, local_in}
-use Rattle.gb_typing.specs.Typing.{IsTyped}
+use Rattle.gb_typing.specs.Typing.{IsFrame, IsTyped}
 use Rattle.gb_typing.specs.Programs.{type_of_procedure}
 use Rattle.gb_typing.specs.Scopes.{AreMeasured}
 use Rattle.gb_names.specs.declared.setting.Language.{Language}
@@ -30,6 +31,7 @@ use Rattle.gb_names.specs.declared.setting.Variables.{Variables}
 use Rattle.gb_names.specs.declared.setting.Variables.TheVariants.{Absent, Own, Sides}
 use Rattle.gb_names.specs.Environment.{Environment}
 use Rattle.gb_names.specs.Allowed.{has_judgments}
+use Rattle.gb_names.specs.Names.{first_named}
 
 -- whether types of the globals of modules may stand in a form
 abbrev pub has_globs : Language → Bool
@@ -66,6 +68,7 @@ AllFiniteWith globs (v ∷ vs) = IsFiniteWith globs v.ty × AllFiniteWith globs 
 
 -- Variables that are read in a memory: there each name is a local of the same type, and all types are of values.
 pub record AreIn (f : Frame) (vs : List TypedName) : Type 0 where
+  pub memory : IsFrame f
   pub there : (x : Name) (t : Ty) → local_type vs x ≡ Some t → local_in f x ≡ Some t
   pub finite : HaveFiniteTypes vs
 
@@ -103,14 +106,26 @@ pub record AreDeclared (operators : Name → Option OperatorType) (ds : Declarat
   pub constants : AreConstants ds
   pub usable : (n : Name) (o : DeclaredOperator) → operator_named ds n ≡ Some o → IsUsable (operators n) o
 
+-- the globals of a module stand under its name with their types, which are of values
+abbrev pub HasGlobals : (Name → Name → Option Ty) → Name → Module → Type 0
+HasGlobals globals n m = (x : Name) (v : TypedName) → first_named m.globals x ≡ Some v → (globals n v.name ≡ Some v.ty) × IsFinite v.ty
+
+-- so do those of the module around
+abbrev pub HasGlobalsIf : (Name → Name → Option Ty) → Option Module → Type 0
+HasGlobalsIf globals None = Unit {0}
+HasGlobalsIf globals (Some m) = HasGlobals globals m.name m
+
 -- A context that fits an environment, under bound names: what the environment gives a name stands there, at types of values; what
--- is bound, at types of forms; what is declared stands with its types; and where judgments may stand, each declared procedure does.
+-- is bound, at types of forms; what is declared stands with its types, and so do the globals of the module around; where globals may
+-- be read, those of each declared module do; and where judgments may stand, each declared procedure does.
 pub record IsFitting (c : Context) (at : Environment) (vs : List TypedName) : Type 0 where
   pub logical : (i : ℕ) → c.logical i ≡ item (map (λ x. x.ty) at.sequent.logical) i
   pub values : AllFiniteWith (has_globs at.language) at.sequent.logical
   pub bound : AreBound (has_globs at.language) c.bound vs
   pub variables : AreReadable (has_globs at.language) c at.variables
   pub declared : AreDeclared c.operator at.declared
+  pub around : HasGlobalsIf c.global at.inside
+  pub globals : has_globs at.language ≡ true → (n : Name) (m : Module) → module_of at.declared n ≡ Some m → HasGlobals c.global n m
   pub procedures : has_judgments at.language ≡ true → (p : ProcRef) (f : Proc) → procedure_of at.declared p ≡ Some f → IsTypeOf (procedure c p) f
 
 -- of the wanted type, where one is wanted

@@ -15,9 +15,9 @@ ghost use Rattle.gb_holds.specs.Declared.{declared};
 ghost use Rattle.gb_holds.specs.Truth.{has_module};
 ghost use Rattle.gb_typing.specs.Sequents.{IsTypedSequent};
 ghost use Rattle.gb_typing.specs.Scopes.{context_of, is_declared, IsModule, IsTypedScope};
-ghost use Rattle.gb_elab_mod.specs.Entries.{entries_given};
+ghost use Rattle.gb_elab_prog.specs.Entries.{entries_given};
 ghost use Rattle.gb_elab_mod.specs.Lemmas.{lemma_name, statement_given};
-ghost use Rattle.gb_elab_mod.specs.Modules.{module_given};
+ghost use Rattle.gb_elab_prog.specs.Modules.{module_given};
 
 /// A typed scope stays typed with what a command `type` or `op` declares, none of which is a lemma.
 pub fn entries()

@@ -2,11 +2,14 @@
 
 ghost use Rattle.std.specs.Prelude.{◌≡◌, List, [], None, Option, Some};
 ghost use Rattle.gb_core.specs.declared.ty.Ty.{Ty};
+ghost use Rattle.gb_terms.specs.declared.decl.Module.{Module};
 ghost use Rattle.gb_terms.specs.declared.decl.TypedName.{TypedName};
 ghost use Rattle.gb_terms.specs.declared.term.Term.{Term};
 ghost use Rattle.gb_script.specs.declared.tree.Node.{Node};
 ghost use Rattle.gb_goal.specs.declared.sequent.Sequent.{Sequent};
 ghost use Rattle.gb_goal.specs.Scope as scope;
+ghost use Rattle.gb_goal.specs.Scope.{module_of};
+ghost use Rattle.gb_meaning.specs.Names.{Name};
 ghost use Rattle.gb_goal.specs.Answers.Answer.{given};
 ghost use Rattle.gb_holds.specs.Declared.{declared};
 ghost use Rattle.gb_typed.specs.Finite.{IsFiniteWith};
@@ -17,8 +20,8 @@ ghost use Rattle.gb_typing.specs.Sequents.{of_sequent, two, IsTypedSequent};
 ghost use Rattle.gb_typing.specs.Scopes.{context_of, IsTypedScope};
 ghost use Rattle.gb_names.specs.Environment.{Environment, ambient, of_function, program};
 ghost use Rattle.gb_elab.specs.Forms.{elaborated, function};
-ghost use Rattle.gb_elab_mod.specs.Lemmas.{nothing_around};
-ghost use Rattle.gb_elab_laws.specs.Fitting.{has_globs, IsFormType, IsFormTypeIf, AreDeclared, AreIn, IsFitting, IsGiven};
+ghost use Rattle.gb_elab_prog.specs.Contexts.{nothing_around};
+ghost use Rattle.gb_elab_laws.specs.Fitting.{has_globs, IsFormType, IsFormTypeIf, AreDeclared, AreIn, HasGlobals, IsFitting, IsGiven};
 
 /// In a context that fits the environment, what a form is elaborated to is a well-typed term of the wanted type, where this is one
 /// that a form may have.
@@ -34,14 +37,18 @@ pub fn functions()
         function t at a b ≡ given u → IsGiven (within c (value a) None) at.language (Some b) u }
 {}
 
-/// The contexts that fit the environments in which forms stand: that of a statement, those of programs, where what is declared stands,
-/// and those of the functions of a proof step, over some of the locals of its goal. A typed scope stands in its context.
+/// The contexts that fit the environments in which forms stand: that of a statement, those of programs, where what is declared
+/// stands and the globals of its module do, and those of the functions of a proof step, over some of the locals of its goal. A typed
+/// scope stands in its context, with the globals of its modules.
 pub fn environments()
     ensures statement { (ds : scope.Declarations) → IsTypedScope (declared ds) →
         IsFitting (of_sequent (context_of (declared ds)) nothing_around []) (ambient ds nothing_around) [] }
     ensures names { (ds : scope.Declarations) → IsTypedScope (declared ds) → AreDeclared (context_of (declared ds)).operator ds }
-    ensures program { (c : Context) (ds : scope.Declarations) (ls : List TypedName) → AreDeclared c.operator ds → HaveFiniteTypes ls →
-        IsFitting (of_program c ls) (program ds nothing_around ls) [] }
+    ensures globals { (ds : scope.Declarations) → IsTypedScope (declared ds) → (n : Name) (m : Module) → module_of ds n ≡ Some m →
+        HasGlobals (context_of (declared ds)).global n m }
+    ensures program { (c : Context) (ds : scope.Declarations) (m : Module) (ls : List TypedName) → AreDeclared c.operator ds →
+        ((n : Name) (k : Module) → module_of ds n ≡ Some k → HasGlobals c.global n k) → HasGlobals c.global m.name m → HaveFiniteTypes ls →
+        IsFitting (of_program c ls) (program ds m nothing_around ls) [] }
     ensures function { (ds : scope.Declarations) → IsTypedScope (declared ds) → (q : Sequent) (t : IsTypedSequent (context_of (declared ds)) q) →
         (ls rs xs ys : List TypedName) → AreIn (Some ls) xs → AreIn (Some rs) ys →
         IsFitting (two (of_sequent (context_of (declared ds)) q t.frames) ls rs) (of_function ds q xs ys) [] }

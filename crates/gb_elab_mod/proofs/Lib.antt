@@ -1,5 +1,1 @@
 pub mod Found
-pub mod Gathered
-pub mod New
-pub mod Constants
-pub mod Stated

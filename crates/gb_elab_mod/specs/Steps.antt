@@ -29,7 +29,7 @@ use Rattle.gb_steps.specs.declared.step.Cut.{Cut}
 use Rattle.gb_steps.specs.declared.step.Cut.TheVariants as cut
 use Rattle.gb_goal.specs.Goal.{Goal, goal_of}
 use Rattle.gb_goal.specs.Goal.Code.{body}
-use Rattle.gb_goal.specs.Goal.Goal.{hoare, equiv}
+use Rattle.gb_goal.specs.Goal.Goal.{hoare, phoare, equiv}
 use Rattle.gb_steps.specs.declared.step.RelationalRule.TheVariants as relational_rule
 use Rattle.gb_steps.specs.declared.step.Step.{Step}
 use Rattle.gb_goal.specs.Goal.{judges_bodies}
@@ -44,7 +44,7 @@ use Rattle.gb_names.specs.Environment.{Environment, ambient, of_function, relati
 use Rattle.gb_elab.specs.Forms.{elaborated, function}
 use Rattle.gb_limits.specs.Numbers.{number_of}
 use Rattle.gb_elab_mod.specs.Occurring.{occurring}
-use Rattle.gb_elab_mod.specs.Unbuilt.{absent}
+use Rattle.gb_elab_prog.specs.Unbuilt.{absent}
 
 abbrev pub of_subjects : layer.Subject-F Head Instr Subject Cmd Term → layer.Subject-F Head Instr Subject Cmd Term → Option (Cmd × Cmd)
 of_subjects (layer.Body c) (layer.Body d) = Some (c, d)
@@ -103,9 +103,14 @@ between ds g fs c t =
 abbrev pub of_bodies : Declarations → Sequent → List Node → Cmd × Cmd → Answer (List Term)
 of_bodies ds g fs c = option_map_or (between ds g fs c) (option_zip (last_sampled c.0) (last_sampled c.1)) (given [])
 
--- The typed functions of `rnd`. Where the goal gives them no types they are left out, and the rule refuses the goal.
+-- The typed functions of `rnd`. Where the goal gives them no types they are left out.
 unfoldable pub couplings : Declarations → Sequent → List Node → Answer (List Term)
 couplings ds g fs = option_map_or (of_bodies ds g fs) (bodies g.conclusion) (given [])
+
+-- `rnd` with its functions; those that have no types at a goal don't fit it
+abbrev pub coupling_rule : List Node → List Term → Rule
+coupling_rule (f ∷ fs) [] = rule.OnBodies on_bodies.Unfit
+coupling_rule fs ts = rule.Relational (relational_rule.Rnd ts)
 
 abbrev pub is_apply : Kind → Bool
 is_apply text.Apply = true
@@ -184,12 +189,41 @@ new_name g n p = if is_taken g n then refused (DoubleName n) p else given tt
 abbrev pub formed : Declarations → Sequent → Node → Answer Term
 formed ds g f = elaborated f (ambient ds g) [] (Some bool_ty)
 
--- `case` of a conclusion that is no judgment of bodies; of these it isn't built
-abbrev pub of_conclusion : Sequent → Place → Answer (Unit {0})
-of_conclusion g p = if judges_bodies (out-Term g.conclusion).head then not_built p else given tt
+-- The form of `case` at a judgment of bodies, which reads the locals that occur in the goal.
+unfoldable pub case_of_bodies : Declarations → Sequent → Node → Goal → Answer BodyRule
+case_of_bodies ds s r (hoare (body is) p q) = do
+  f ← elaborated r (unary ds s (occurring (p ∷ q ∷ []) side.Own is)) [] (Some bool_ty)
+  given (on_bodies.Case f)
+case_of_bodies ds s r (phoare (body is) o p q b) = do
+  f ← elaborated r (unary ds s (occurring (p ∷ q ∷ []) side.Own is)) [] (Some bool_ty)
+  given (on_bodies.Case f)
+case_of_bodies ds s r (equiv (body is) (body js) p q) = do
+  f ← elaborated r (relational ds s (occurring (p ∷ q ∷ []) side.Left is) (occurring (p ∷ q ∷ []) side.Right js)) [] (Some bool_ty)
+  given (on_bodies.Case f)
+case_of_bodies ds s r G = given on_bodies.Unfit
 
--- The last clause takes what isn't built, and trees of another shape, of which the reader builds none, since each of its trees is
--- well-sorted.
+-- the form of `case` at any other conclusion
+abbrev pub case_of_conclusion : Declarations → Sequent → Node → Answer Rule
+case_of_conclusion ds g f = do
+  t ← formed ds g f
+  given (rule.Ambient (conclusion.Case t))
+
+abbrev pub case_rule : Declarations → Sequent → Node → Answer Rule
+case_rule ds g f =
+    if judges_bodies (out-Term g.conclusion).head then of_bodies_rule (case_of_bodies ds g f (goal_of g.conclusion)) else case_of_conclusion ds g f
+
+-- The rule of a pattern, whose own patterns are steps of their own. The last clause takes what isn't built, and trees of another
+-- shape, of which the reader builds none, since each of its trees is well-sorted.
+abbrev pub pattern : Kind → List ℕ → List Node → Place → Answer Rule
+pattern text.Name x [] p = given (rule.Ambient (conclusion.Introduce x))
+pattern text.Memory x (n ∷ []) p = given (rule.Ambient (conclusion.IntroduceMemory (text_of n)))
+pattern text.Drop x [] p = given (rule.Ambient conclusion.Discard)
+pattern text.BothPatterns x ps p = given (rule.Ambient conclusion.Unpack)
+pattern text.EitherPattern x ps p = given (rule.Ambient conclusion.Branch)
+pattern text.SmtPattern x [] p = given rule.Smt
+pattern _ x ps p = not_built p
+
+-- a rule or a pattern
 abbrev pub typed_rule : Declarations → Sequent → Kind → List ℕ → List Node → Place → Answer Rule
 typed_rule ds g text.Proc x (b ∷ invariant ∷ []) p = do
   _ ← absent (parts_of invariant) p
@@ -197,7 +231,7 @@ typed_rule ds g text.Proc x (b ∷ invariant ∷ []) p = do
 typed_rule ds g text.Rnd x (b ∷ fs) p = do
   _ ← absent (parts_of b) p
   ts ← couplings ds g (functions_of fs)
-  given (rule.Relational (relational_rule.Rnd ts))
+  given (coupling_rule (functions_of fs) ts)
 typed_rule ds g text.BodyStep x (b ∷ []) p = of_bodies_rule (plain_rule x (acts (parts_of b)) p)
 typed_rule ds g text.Seq x (b ∷ n ∷ ns ∷ r ∷ bounds ∷ []) p = do
   _ ← absent (parts_of bounds) p
@@ -207,9 +241,7 @@ typed_rule ds g text.PlainStep x [] p = do
   given (rule.Ambient r)
 typed_rule ds g text.CaseStep x (b ∷ f ∷ []) p = do
   _ ← absent (parts_of b) p
-  _ ← of_conclusion g p
-  t ← formed ds g f
-  given (rule.Ambient (conclusion.Case t))
+  case_rule ds g f
 typed_rule ds g text.HaveForm x (n ∷ f ∷ []) p = do
   _ ← new_name g (text_of n) (place_of n)
   t ← formed ds g f
@@ -217,7 +249,7 @@ typed_rule ds g text.HaveForm x (n ∷ f ∷ []) p = do
 typed_rule ds g text.Smt x hints p = do
   _ ← absent hints p
   given rule.Smt
-typed_rule ds g _ x _ p = not_built p
+typed_rule ds g k x ps p = pattern k x ps p
 
 -- a proof step with its arguments typed
 unfoldable pub step_given : Declarations → Sequent → Node → Answer Step

@@ -5,15 +5,16 @@ ghost use Rattle.std.specs.List.{list_any};
 ghost use Rattle.gb_goal.specs.Answers.{Answers, ◌>>=◌ as ◌and_then◌};
 ghost use Rattle.gb_goal.specs.Answers.Answer.{given};
 ghost use Rattle.gb_script.specs.Tree.{text_of, place_of};
-ghost use Rattle.gb_elab_mod.specs.Steps.{conclusion_rule, formed, is_taken, new_name, of_conclusion};
+ghost use Rattle.gb_elab_mod.specs.Steps.{case_rule, conclusion_rule, formed, is_taken, new_name};
 
+use crate::cut::case_of_bodies;
 use gb_core::name::Name;
 use gb_core::place::Place;
 use gb_core::refusal::Refused;
 use gb_core::same::same_name;
 use gb_core::ty::Ty;
 use gb_elab::form::term;
-use gb_goal::goal::judges_bodies;
+use gb_goal::goal::{goal_of, judges_bodies};
 use gb_goal::scope::Scope;
 use gb_goal::sequent::{Hyp, Sequent};
 use gb_names::refusals::{double, not_built};
@@ -88,18 +89,13 @@ fn formed(alloc: Global, scope: &Scope, goal: &Sequent, tree: &Node) -> Result<F
     term(alloc, scope, goal, tree, Some(&Ty::Bool))
 }
 
-/// The rule that shows a conclusion by cases on a form.
-pub fn case_rule(
-    alloc: Global,
-    scope: &Scope,
-    goal: &Sequent,
-    form: &Node,
-    place: Place,
-) -> Result<Rule, Refused>
-    ensures { Answers (of_conclusion goal.now place and_then (λ _. formed scope.now goal.now form.now and_then (λ t. given (Rule.Ambient (AmbientRule.Case t))))) result }
+/// The rule that works by cases on a form, on a judgment of bodies or on another conclusion.
+pub fn case_rule(alloc: Global, scope: &Scope, goal: &Sequent, form: &Node) -> Result<Rule, Refused>
+    ensures { Answers (case_rule scope.now goal.now form.now) result }
 {
     if judges_bodies(&goal.conclusion) {
-        return Err(not_built(place));
+        let rule = case_of_bodies(alloc, scope, goal, form, goal_of(&goal.conclusion))?;
+        return Ok(Rule::OnBodies(rule));
     }
     let form = formed(alloc, scope, goal, form)?;
     Ok(Rule::Ambient(AmbientRule::Case(form)))

@@ -5,7 +5,7 @@ ghost use Rattle.std.specs.Option.{option_copied, option_map};
 ghost use Rattle.gb_goal.specs.Answers.{Answers, ◌>>=◌ as ◌and_then◌};
 ghost use Rattle.gb_goal.specs.Answers.Answer.{given};
 ghost use Rattle.gb_names.specs.Environment.{environment};
-ghost use Rattle.gb_elab_mod.specs.Steps.{bodies, couplings, functions, functions_of, is_apply, last_sampled, one_type, there_and_back};
+ghost use Rattle.gb_elab_mod.specs.Steps.{bodies, coupling_rule, couplings, functions, functions_of, is_apply, last_sampled, one_type, there_and_back};
 
 use crate::occurring::occurring;
 use gb_core::refusal::Refused;
@@ -19,6 +19,7 @@ use gb_same::types::same_types;
 use gb_script::head;
 use gb_script::tree::Node;
 use gb_shared::Shared;
+use gb_steps::step::{BodyRule, RelationalRule, Rule};
 use gb_terms::op::Side;
 use gb_terms::term::{Cmd, Form, Head, Instr, Subject, Term, Terms};
 use sqlite_items::Items;
@@ -80,6 +81,16 @@ fn refuse_one_way(functions: &[Node], from: &Ty, to: &Ty) -> Result<(), Refused>
         }
         _ => Ok(()),
     }
+}
+
+/// `rnd` with its functions; those that have no types at a goal don't fit it.
+pub fn coupling_rule(functions: &[Node], typed: Terms) -> Rule
+    ensures { result ≡ coupling_rule functions.now typed }
+{
+    if !functions.is_empty() && typed.is_empty() {
+        return Rule::OnBodies(BodyRule::Unfit);
+    }
+    Rule::Relational(RelationalRule::Rnd(typed))
 }
 
 /// The typed functions of `rnd`: the first leads from the left outcome to the right one, the second back.

@@ -1,9 +1,13 @@
-// The form between the parts of bodies that are cut.
+// The forms that `seq` and `case` say of bodies.
 
-ghost use Rattle.std.specs.Prelude.{◌≡◌};
+ghost use Rattle.std.specs.Prelude.{◌≡◌, [], ◌∷◌, Some};
+ghost use Rattle.gb_terms.specs.declared.op.Side.TheVariants.{Own, Left, Right};
+ghost use Rattle.gb_names.specs.Environment.{relational, unary};
+ghost use Rattle.gb_elab.specs.Forms.{elaborated};
+ghost use Rattle.gb_elab_mod.specs.Occurring.{occurring};
 ghost use Rattle.gb_goal.specs.Answers.{Answers};
 ghost use Rattle.gb_goal.specs.Views.{goal_seen};
-ghost use Rattle.gb_elab_mod.specs.Steps.{cut_of, cut_rule, position, seq_rule};
+ghost use Rattle.gb_elab_mod.specs.Steps.{case_of_bodies, cut_of, cut_rule, position, seq_rule};
 
 use crate::occurring::occurring_between;
 use gb_core::refusal::Refused;
@@ -17,6 +21,7 @@ use gb_names::setting::Setting;
 use gb_script::tree::Node;
 use gb_steps::step::{Acts, BodyRule, Cut};
 use gb_terms::op::Side;
+use gb_terms::term::{Form, Instr};
 use std::alloc::Global;
 
 /// A position in a body. No body is as long as the numbers that the reader doesn't let pass.
@@ -39,6 +44,42 @@ pub fn cut_of(first: &Node, second: &[Node]) -> Cut
     }
 }
 
+/// A form over the locals that occur in a judgment of one body.
+fn on_one(
+    alloc: Global,
+    scope: &Scope,
+    goal: &Sequent,
+    body: &[Instr],
+    pre: &Form,
+    post: &Form,
+    tree: &Node,
+) -> Result<Form, Refused>
+    ensures { Answers (elaborated tree.now (unary scope.now goal.now (occurring (pre.now ∷ post.now ∷ []) Own body.now)) [] (Some Ty.Bool)) result }
+{
+    let locals = occurring_between(alloc, pre, post, Side::Own, body)?;
+    let setting = Setting::unary(scope, goal, locals.as_slice());
+    typed(alloc, &setting, &[], tree, Some(&Ty::Bool))
+}
+
+/// A form over the locals that occur in an equivalence of two bodies.
+fn on_two(
+    alloc: Global,
+    scope: &Scope,
+    goal: &Sequent,
+    bodies: (&[Instr], &[Instr]),
+    pre: &Form,
+    post: &Form,
+    tree: &Node,
+) -> Result<Form, Refused>
+    ensures { Answers (elaborated tree.now (relational scope.now goal.now (occurring (pre.now ∷ post.now ∷ []) Left bodies.entry.0.now) (occurring (pre.now ∷ post.now ∷ []) Right bodies.entry.1.now)) [] (Some Ty.Bool)) result }
+{
+    let (left, right) = bodies;
+    let left = occurring_between(alloc, pre, post, Side::Left, left)?;
+    let right = occurring_between(alloc, pre, post, Side::Right, right)?;
+    let setting = Setting::relational(scope, goal, left.as_slice(), right.as_slice());
+    typed(alloc, &setting, &[], tree, Some(&Ty::Bool))
+}
+
 /// The form between the parts of the bodies of a goal that is seen so.
 #[tactic(auto, unfolding(crate::specs::Steps::cut_rule))]
 fn cut_rule(
@@ -53,17 +94,41 @@ fn cut_rule(
 {
     match (at, seen) {
         (Cut::One(_), Goal::Hoare(Code::Body(body), pre, post)) => {
-            let locals = occurring_between(alloc, pre, post, Side::Own, body)?;
-            let setting = Setting::unary(scope, goal, locals.as_slice());
-            let form = typed(alloc, &setting, &[], between, Some(&Ty::Bool))?;
+            let form = on_one(alloc, scope, goal, body, pre, post, between)?;
             Ok(BodyRule::Seq(at, form))
         }
         (Cut::Two(..), Goal::Equiv(Code::Body(left), Code::Body(right), pre, post)) => {
-            let left = occurring_between(alloc, pre, post, Side::Left, left)?;
-            let right = occurring_between(alloc, pre, post, Side::Right, right)?;
-            let setting = Setting::relational(scope, goal, left.as_slice(), right.as_slice());
-            let form = typed(alloc, &setting, &[], between, Some(&Ty::Bool))?;
+            let form = on_two(alloc, scope, goal, (left, right), pre, post, between)?;
             Ok(BodyRule::Seq(at, form))
+        }
+        _ => Ok(BodyRule::Unfit),
+    }
+}
+
+/// The typed step of `case`, with its form, at a judgment of bodies that is seen so.
+///
+/// # Errors
+///
+/// Those of the form, over the locals that occur in the goal.
+#[tactic(auto, unfolding(crate::specs::Steps::case_of_bodies))]
+pub fn case_of_bodies(
+    alloc: Global,
+    scope: &Scope,
+    goal: &Sequent,
+    form: &Node,
+    seen: Goal<'_>,
+) -> Result<BodyRule, Refused>
+    ensures { Answers (case_of_bodies scope.now goal.now form.now (goal_seen seen.entry)) result }
+{
+    match seen {
+        Goal::Hoare(Code::Body(body), pre, post)
+        | Goal::Phoare(Code::Body(body), _, pre, post, _) => {
+            let form = on_one(alloc, scope, goal, body, pre, post, form)?;
+            Ok(BodyRule::Case(form))
+        }
+        Goal::Equiv(Code::Body(left), Code::Body(right), pre, post) => {
+            let form = on_two(alloc, scope, goal, (left, right), pre, post, form)?;
+            Ok(BodyRule::Case(form))
         }
         _ => Ok(BodyRule::Unfit),
     }

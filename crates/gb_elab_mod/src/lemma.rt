@@ -1,46 +1,24 @@
 // The statement of a lemma.
 
-ghost use Rattle.std.specs.Prelude.{◌≡◌, [], Some, None, IfOk, OnOk};
+ghost use Rattle.std.specs.Prelude.{◌≡◌, [], Some, None, OnOk};
 ghost use Rattle.gb_script.specs.Tree.{text_of};
 ghost use Rattle.gb_goal.specs.Scope.{entry_of};
 ghost use Rattle.gb_goal.specs.Answers.{Answers};
-ghost use Rattle.gb_elab_mod.specs.Lemmas.{claimed, free, lemma_name, name_in, nothing_around, small, stated, statement_by, statement_given};
+ghost use Rattle.gb_elab_mod.specs.Lemmas.{claimed, lemma_name, name_in, stated, statement_by, statement_given};
 
-use crate::context::{Bound, all_bound, context_of};
 use gb_core::place::Place;
 use gb_core::refusal::Refused;
 use gb_core::ty::Ty;
 use gb_elab::form::term;
+use gb_elab_prog::context::{Bound, all_bound, context_of};
+use gb_elab_prog::fresh::refuse_declared;
+use gb_elab_prog::sizes::small;
 use gb_goal::scope::Scope;
-use gb_goal::sequent::{Sequent, ambient};
-use gb_names::names::NODES;
-use gb_names::refusals::{double, not_built, too_many};
+use gb_goal::sequent::Sequent;
+use gb_names::refusals::not_built;
 use gb_script::head::Head;
 use gb_script::tree::Node;
-use gb_terms::make;
-use gb_terms::nodes::nodes_of;
-use gb_terms::term::Term;
-use std::alloc::{AllocError, Global};
-
-/// The empty context, with no claim.
-pub fn nothing_around(alloc: Global) -> Result<Sequent, AllocError>
-    ensures { IfOk result (λ around. around ≡ nothing_around) }
-{
-    let truth = make::boolean(alloc, true)?;
-    ambient(alloc, truth)
-}
-
-/// Refuses a name that the script has declared.
-pub fn refuse_declared(alloc: Global, scope: &Scope, name: &Node) -> Result<(), Refused>
-    ensures free { OnOk result (entry_of scope.now (text_of name.now) ≡ None) }
-    ensures answer { Answers (free scope.now name.now) result }
-{
-    if scope.is_free(&name.text) {
-        Ok(())
-    } else {
-        Err(double(alloc, &name.text, name.place))
-    }
-}
+use std::alloc::Global;
 
 /// The goal that a lemma states: its statement, in the context that its binders make.
 ///
@@ -100,14 +78,4 @@ fn claimed(alloc: Global, scope: &Scope, bound: Bound, form: &Node) -> Result<Se
     let around = context_of(alloc, bound)?;
     let conclusion = small(term(alloc, scope, &around, form, Some(&Ty::Bool))?)?;
     around.with_conclusion(conclusion).map_err(Refused::from)
-}
-
-/// A form of no more nodes than a formula may have.
-pub fn small(form: Term) -> Result<Term, Refused>
-    ensures { Answers (small form) result }
-{
-    if nodes_of(&form) > NODES {
-        return Err(too_many(NODES));
-    }
-    Ok(form)
 }

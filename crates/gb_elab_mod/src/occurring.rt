@@ -3,10 +3,10 @@
 ghost use Rattle.std.specs.Prelude.{◌≡◌, [], ◌∷◌, flat_map, if◌then◌else◌, IfOk, OnOk};
 ghost use Rattle.gb_elab_mod.specs.Occurring.{added, assigned, local, occurring, read_locals, sampled, statement_locals, with_all};
 
-use crate::procedure::is_local;
 use gb_core::name::Name;
 use gb_core::ty::Ty;
 use gb_core::var::Var;
+use gb_elab_prog::procedure::is_local;
 use gb_names::binders::variable;
 use gb_shared::Shared;
 use gb_terms::decl::Typed;

@@ -2,21 +2,21 @@
 
 ghost use Rattle.std.specs.Prelude.{◌≡◌};
 ghost use Rattle.gb_goal.specs.Answers.{Answers};
-ghost use Rattle.gb_elab_mod.specs.Steps.{acts, on_all, plain_rule, step_given, typed_rule};
+ghost use Rattle.gb_elab_mod.specs.Steps.{acts, on_all, pattern, plain_rule, step_given, typed_rule};
 
 use crate::conclusions::{case_rule, conclusion_rule, have_rule};
-use crate::couplings::{couplings, functions_of};
+use crate::couplings::{coupling_rule, couplings, functions_of};
 use crate::cut::{cut_of, seq_rule};
-use crate::unbuilt::refuse_any;
 use gb_core::name::Name;
 use gb_core::place::Place;
 use gb_core::refusal::Refused;
+use gb_elab_prog::unbuilt::refuse_any;
 use gb_goal::scope::Scope;
 use gb_goal::sequent::Sequent;
 use gb_names::refusals::not_built;
 use gb_script::head::Head;
 use gb_script::tree::Node;
-use gb_steps::step::{Acts, BodyRule, RelationalRule, Rule, Step};
+use gb_steps::step::{Acts, AmbientRule, BodyRule, Rule, Step};
 use std::alloc::Global;
 
 /// The proof step of a rule with its arguments typed where the goal gives them types. The functions of `rnd` have the
@@ -90,7 +90,34 @@ fn plain_rule(name: &Name, acts: Acts, place: Place) -> Result<BodyRule, Refused
     }
 }
 
-/// The rule with its arguments typed.
+/// The rule of a pattern, whose own patterns are steps of their own.
+fn pattern(
+    alloc: Global,
+    head: Head,
+    text: &Name,
+    parts: &[Node],
+    place: Place,
+) -> Result<Rule, Refused>
+    ensures { Answers (pattern head text.now parts.now place) result }
+{
+    match (head, parts) {
+        (Head::Name, []) => {
+            let name = text.copy(alloc)?;
+            Ok(Rule::Ambient(AmbientRule::Introduce(name)))
+        }
+        (Head::Memory, [memory]) => {
+            let name = memory.text.copy(alloc)?;
+            Ok(Rule::Ambient(AmbientRule::IntroduceMemory(name)))
+        }
+        (Head::Drop, []) => Ok(Rule::Ambient(AmbientRule::Discard)),
+        (Head::BothPatterns, _) => Ok(Rule::Ambient(AmbientRule::Unpack)),
+        (Head::EitherPattern, _) => Ok(Rule::Ambient(AmbientRule::Branch)),
+        (Head::SmtPattern, []) => Ok(Rule::Smt),
+        _ => Err(not_built(place)),
+    }
+}
+
+/// The rule of a step or of a pattern, with its arguments typed.
 fn typed_rule(
     alloc: Global,
     scope: &Scope,
@@ -114,8 +141,9 @@ fn typed_rule(
         Head::Rnd => match parts {
             [bodies, functions @ ..] => {
                 refuse_any(bodies.parts.as_slice(), place)?;
-                let functions = couplings(alloc, scope, goal, functions_of(functions))?;
-                Ok(Rule::Relational(RelationalRule::Rnd(functions)))
+                let functions = functions_of(functions);
+                let typed = couplings(alloc, scope, goal, functions)?;
+                Ok(coupling_rule(functions, typed))
             }
             _ => Err(not_built(place)),
         },
@@ -143,7 +171,7 @@ fn typed_rule(
         Head::CaseStep => match parts {
             [bodies, form] => {
                 refuse_any(bodies.parts.as_slice(), place)?;
-                case_rule(alloc, scope, goal, form, place)
+                case_rule(alloc, scope, goal, form)
             }
             _ => Err(not_built(place)),
         },
@@ -155,6 +183,6 @@ fn typed_rule(
             refuse_any(parts, place)?;
             Ok(Rule::Smt)
         }
-        _ => Err(not_built(place)),
+        _ => pattern(alloc, head, text, parts, place),
     }
 }

@@ -1,3 +1,4 @@
+mod DrawnIsSound
 pub mod Maps
 pub mod RndIsSound
 mod Others

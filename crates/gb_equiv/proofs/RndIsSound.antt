@@ -10,6 +10,7 @@ use Rattle.gb_core.specs.declared.var.Var.{Var}
 use Rattle.gb_same.specs.Types.{ty_eq}
 use Rattle.gb_same.proofs.Decided.{ty_eq-Decides}
 use Rattle.gb_terms.specs.declared.decl.TypedName.{TypedName}
+use Rattle.gb_terms.specs.declared.module.ProcRef.{ProcRef}
 use Rattle.gb_terms.specs.declared.op.Side.TheVariants as side
 use Rattle.gb_terms.specs.declared.term.Term.{Term}
 use Rattle.gb_terms.specs.declared.term.Head.TheVariants as head
@@ -47,8 +48,8 @@ use Rattle.gb_typing.proofs.Clashes.{left_of_no_clash}
 use Rattle.gb_typing.proofs.Fitting.{fits_reframed, state_between}
 use Rattle.gb_goal.specs.Answers.Answer.{given}
 use Rattle.gb_goal.specs.Goal.{Goal}
-use Rattle.gb_goal.specs.Goal.Code.{body}
-use Rattle.gb_goal.specs.Goal.Goal.{equiv}
+use Rattle.gb_goal.specs.Goal.Code.{body, procedure}
+use Rattle.gb_goal.specs.Goal.Goal.{hoare, phoare, equiv, ambient}
 use Rattle.gb_walk.specs.Clash.{first_clash}
 use Rattle.gb_rules.specs.Forms.{IsAlone, and_form, equal_form}
 use Rattle.gb_rules.specs.Meaning.{run, denominator as run_denominator}
@@ -64,9 +65,11 @@ use Rattle.gb_rules.proofs.Quantified.{inner_typed, inner_meaning}
 use Rattle.gb_rules.proofs.Runs.{coupled_in_turn}
 use Rattle.gb_rules.proofs.LastSampling.{IsDrawn, drawn, last_one}
 use Rattle.gb_rules.proofs.Supported.{equal_values, equal_reals, weight_made, support_made, nearest_made, for_support_made, weight_of_is, supported, same_weights, for_support_use, draws, drawn_typed, located_denominator, run_sampling, sampling_denominator, from_made, target_put, from_weights}
+use Rattle.gb_equiv.proofs.DrawnIsSound.{sound as drawn_sound}
 use Rattle.gb_equiv.specs.declared.coupled.Coupled.{Coupled}
 use Rattle.gb_equiv.specs.declared.coupled.Maps.{Maps}
-use Rattle.gb_equiv.specs.Rnd.{composed, keeps_weights, couples, maps, coupling, with_values, post_before, unless_clash, by_maps, by_ends, rnd_row, IsFunction, AreFunctions, AreBetween, AreTypedFunctions}
+use Rattle.gb_equiv.specs.Drawn.{unless_clash}
+use Rattle.gb_equiv.specs.Rnd.{composed, keeps_weights, couples, maps, coupling, with_values, post_before, by_maps, by_ends, rnd_row, IsFunction, AreFunctions, AreBetween, AreTypedFunctions}
 
 module _ (b : Context) (ls rs : List TypedName) where
   abbrev c : Context
@@ -307,10 +310,26 @@ module _ (b : Context) (ls rs : List TypedName) where
     with_ends (Some x) None ex ey k r = refused_given Shape Gs r
     with_ends (Some x) (Some y) ex ey k r = with_maps x y ex ey (maps fs x.ty y.ty) refl k (first_clash side.Left x.target q) (first_clash side.Right y.target q) refl refl r
 
+no_procedure : {P : Type 0} (fs : List Term) (a : ProcRef) (p q : Term) (Gs : List Goal) → rnd_row fs (hoare (procedure a) p q) ≡ given Gs → P
+no_procedure [] a p q Gs e = refused_given Shape Gs e
+no_procedure (f ∷ fs) a p q Gs e = refused_given Shape Gs e
+
 module _ (c : Context) (fs : List Term) where
   pub sound : IsSoundRule c (rnd_row fs) (AreTypedFunctions c fs)
   sound outer ls rs (equiv (body is) (body js) p q) w k Gs e =
       let G = equiv (body is) (body js) p q in
       subst (λ c. AreSound c G Gs) (sym outer)
       (with_ends c ls rs fs is js p q (subst (λ c. IsGoalOver c ls rs G) outer w) Gs (last_sampling is) (last_sampling js) refl refl (subst (λ c. AreTypedFunctions c fs ls rs G) outer k) e)
-  sound outer ls rs _ w k Gs e = refused_given Shape Gs e
+  sound outer ls rs (hoare (body is) p q) w k Gs e = on_one outer ls rs is p q w Gs fs e
+    where
+      on_one : c ≡ outermost c → (ls rs : List TypedName) (is : List Instr) (p q : Term) → IsGoalOver c ls rs (hoare (body is) p q) → (Gs : List Goal) → (fs : List Term) →
+          rnd_row fs (hoare (body is) p q) ≡ given Gs → AreSound c (hoare (body is) p q) Gs
+      on_one outer ls rs is p q w Gs [] e =
+          let G = hoare (body is) p q in
+          subst (λ c. AreSound c G Gs) (sym outer) (drawn_sound c ls rs is p q (subst (λ c. IsGoalOver c ls rs G) outer w) Gs (last_sampling is) refl e)
+      on_one outer ls rs is p q w Gs (f ∷ fs) e = refused_given Shape Gs e
+  sound outer ls rs (hoare (procedure a) p q) w k Gs e = no_procedure fs a p q Gs e
+  sound outer ls rs (phoare a o p q r) w k Gs e = refused_given Shape Gs e
+  sound outer ls rs (equiv (procedure a) d p q) w k Gs e = refused_given Shape Gs e
+  sound outer ls rs (equiv (body is) (procedure d) p q) w k Gs e = refused_given Shape Gs e
+  sound outer ls rs (ambient f) w k Gs e = refused_given Shape Gs e

@@ -1,18 +1,16 @@
--- `rnd`: two samplings at the end, coupled by a function and its inverse.
+-- `rnd`: two samplings at the end, coupled by a function and its inverse; and one sampling at the end of one body.
 use Rattle.std.specs.Prelude.{◌≡◌, if◌then◌else◌, List, [], ◌∷◌, Option, Some, None}
-use Rattle.std.specs.Option.{option_map, option_or, option_zip}
-use Rattle.gb_core.specs.declared.refusal.Why.TheVariants.{Shape, SideCondition}
+use Rattle.std.specs.Option.{option_or, option_zip}
+use Rattle.gb_core.specs.declared.refusal.Why.TheVariants.{Shape}
 use Rattle.gb_core.specs.declared.ty.Ty.{Ty}
 use Rattle.gb_core.specs.declared.var.Var.{Var}
 use Rattle.gb_same.specs.Types.{ty_eq}
 use Rattle.gb_terms.specs.declared.decl.TypedName.{TypedName}
-use Rattle.gb_terms.specs.declared.op.Side.{Side}
 use Rattle.gb_terms.specs.declared.op.Side.TheVariants.{Left, Right}
 use Rattle.gb_terms.specs.declared.op.Read.TheVariants.{Program}
 use Rattle.gb_terms.specs.declared.term.Term.{Term}
 use Rattle.gb_walk.specs.declared.change.Change.TheVariants.{ToTerm, OfBound}
 use Rattle.gb_walk.specs.Change.{term_changed}
-use Rattle.gb_walk.specs.Clash.{first_clash}
 use Rattle.gb_meaning.specs.Written.{type_of}
 use Rattle.gb_changes.specs.Plain.{IsPlain}
 use Rattle.gb_typed.specs.Typing.Binder.{value}
@@ -20,14 +18,14 @@ use Rattle.gb_typing.specs.Context.{Context, within}
 use Rattle.gb_typing.specs.Sequents.{two}
 use Rattle.gb_typing.specs.Typing.{IsTyped}
 use Rattle.gb_goal.specs.Answers.{Answer}
-use Rattle.gb_goal.specs.Answers.Answer.{given}
 use Rattle.gb_goal.specs.Goal.{Goal}
 use Rattle.gb_goal.specs.Goal.Code.{body}
-use Rattle.gb_goal.specs.Goal.Goal.{equiv}
+use Rattle.gb_goal.specs.Goal.Goal.{hoare, equiv}
 use Rattle.gb_goal.specs.Rows.{Row, refusing}
 use Rattle.gb_rules.specs.Forms.{and_form, equal_form, located}
 use Rattle.gb_rules.specs.Samplings.{Sampling, last_sampling}
 use Rattle.gb_rules.specs.Supports.{nearest, in_support, weight, for_support}
+use Rattle.gb_equiv.specs.Drawn.{clashing, unless_clash, by_end}
 use Rattle.gb_equiv.specs.declared.coupled.Maps.{Maps}
 use Rattle.gb_equiv.specs.declared.coupled.Coupled.{Coupled}
 
@@ -77,17 +75,9 @@ post_before x y ms q = coupled_post (coupling x y ms) (with_values x y ms q)
 abbrev pub without_samplings : Sampling → Sampling → Maps → Term → Term → Goal
 without_samplings x y ms p q = equiv (body x.before) (body y.before) p (post_before x y ms q)
 
--- the variable, where the form reads another one beside it that clashes with it
-abbrev pub clashing : Side → Var → Term → Option Var
-clashing r x q = option_map (λ z. x) (first_clash r x q)
-
 -- The target that the postcondition reads beside a variable that clashes with it: the left one, or else the right one.
 abbrev pub clash_of : Sampling → Sampling → Term → Option Var
 clash_of x y q = option_or (clashing Left x.target q) (clashing Right y.target q)
-
-abbrev pub unless_clash : Option Var → Goal → Answer (List Goal)
-unless_clash (Some z) G = refusing (SideCondition z)
-unless_clash None G = given (G ∷ [])
 
 abbrev pub by_maps : Sampling → Sampling → Term → Term → Option Maps → Answer (List Goal)
 by_maps x y p q (Some ms) = unless_clash (clash_of x y q) (without_samplings x y ms p q)
@@ -97,9 +87,10 @@ abbrev pub by_ends : List Term → Term → Term → Option (Sampling × Samplin
 by_ends fs p q (Some (x, y)) = by_maps x y p q (maps fs x.ty y.ty)
 by_ends fs p q None = refusing Shape
 
--- the goal without the samplings that end both bodies
+-- the goal without the samplings that end its bodies; on one body there is no function
 abbrev pub rnd_row : List Term → Row
 rnd_row fs (equiv (body is) (body js) p q) = by_ends fs p q (option_zip (last_sampling is) (last_sampling js))
+rnd_row [] (hoare (body is) p q) = by_end p q (last_sampling is)
 rnd_row fs G = refusing Shape
 
 -- A function from values of a type to values of another: a plain term under a binder of its argument, which may read both memories.

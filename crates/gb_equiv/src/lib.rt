@@ -2,6 +2,7 @@
 #![tactic(auto)]
 
 mod coupled;
+mod drawn;
 pub mod laws;
 mod rnd;
 mod rule;

@@ -1,23 +1,20 @@
 // The rule `rnd`: two samplings at the end, coupled by a function and its inverse.
 
 ghost use Rattle.std.specs.Prelude.{◌≡◌, ◌∷◌, [], Some, IfOk};
-ghost use Rattle.std.specs.Option.{option_copied};
-ghost use Rattle.gb_core.specs.declared.refusal.Refused.TheVariants.{Script};
-ghost use Rattle.gb_core.specs.declared.refusal.Why.TheVariants.{Shape};
-ghost use Rattle.gb_goal.specs.Answers.{Answers};
+ghost use Rattle.std.specs.Option.{option_copied, option_zip};
+ghost use Rattle.gb_goal.specs.Answers.{Answers, placed_at};
 ghost use Rattle.gb_goal.specs.Goal.{form_of};
-ghost use Rattle.gb_goal.specs.Rows.{stepped};
+ghost use Rattle.gb_goal.specs.Rows.{each_concluding, stepped};
 ghost use Rattle.gb_terms.specs.declared.op.Side.TheVariants.{Own};
-ghost use Rattle.gb_terms.specs.declared.op.Read.TheVariants.{Program};
-ghost use Rattle.gb_walk.specs.declared.change.Change.TheVariants.{ToSide, ToTerm};
+ghost use Rattle.gb_walk.specs.declared.change.Change.TheVariants.{ToSide};
 ghost use Rattle.gb_walk.specs.Change.{term_changed};
-ghost use Rattle.gb_rules.specs.Samplings.{sampling_of};
-ghost use Rattle.gb_equiv.specs.Rnd.{maps, with_values, post_before, without_samplings, clash_of, rnd_row};
+ghost use Rattle.gb_rules.specs.Samplings.{sampling_of, last_sampling};
+ghost use Rattle.gb_equiv.specs.Rnd.{maps, with_values, post_before, without_samplings, clash_of, by_ends, rnd_row};
 
 use crate::coupled::{Coupled, Maps, Sampled, coupled_post};
-use gb_core::copy::copy_var;
+use crate::drawn::{alone, clashing, drawn_rule, no_such_shape, target_change};
 use gb_core::place::Place;
-use gb_core::refusal::{Refused, Why};
+use gb_core::refusal::Refused;
 use gb_core::ty::Ty;
 use gb_core::var::Var;
 use gb_goal::goal::{Code, Goal, equiv, goal_of};
@@ -26,13 +23,22 @@ use gb_rules::samplings::{Last, last_sampling, rest_of};
 use gb_rules::supports::nearest;
 use gb_same::types::same_types;
 use gb_shared::Shared;
-use gb_terms::op::{Read, Side};
-use gb_terms::term::{Form, Term};
+use gb_terms::op::Side;
+use gb_terms::term::{Form, Instr, Term};
 use gb_walk::change::{Change, Changes};
 use gb_walk::clash::first_clash;
 use gb_walk::walk::changed;
 use sqlite_items::Items;
 use std::alloc::{AllocError, Global};
+
+/// Two bodies and what is said before and after them.
+#[derive(Clone, Copy)]
+struct Bodies<'a> {
+    left: &'a [Instr],
+    right: &'a [Instr],
+    pre: &'a Form,
+    post: &'a Form,
+}
 
 /// The identity between the values of one type.
 fn identity(
@@ -84,19 +90,6 @@ fn read_on(alloc: Global, sampling: &Last<'_>, side: Side) -> Result<Sampled, Al
     let from = changed(alloc, sampling.from, &[Change::ToSide(Side::Own, side)])?;
     let ty = sampling.ty.share()?;
     Ok(Sampled { from, ty })
-}
-
-/// What was sampled on one side becomes a term.
-fn target_change(
-    alloc: Global,
-    sampling: &Last<'_>,
-    side: Side,
-    by: Term,
-) -> Result<Change, AllocError>
-    ensures { IfOk result (λ made. made ≡ ToTerm (Program sampling.now.target.now side) by) }
-{
-    let var = copy_var(alloc, sampling.target)?;
-    Ok(Change::ToTerm(Read::Program { var, side }, by))
 }
 
 /// The postcondition with the sampled value in place of the left target, and its image in place of the right one.
@@ -164,18 +157,35 @@ fn clash_of<'a>(left: &Last<'a>, right: &Last<'a>, post: &Form) -> Option<&'a Va
     }
 }
 
-fn no_such_shape(place: Place) -> Refused
-    ensures { result ≡ Script Shape place }
+/// On an equivalence of two bodies that end with a sampling: both leave, and the postcondition becomes that of the
+/// coupled samplings.
+fn coupled_rule(
+    alloc: Global,
+    goal: &Sequent,
+    given: &[Term],
+    of: Bodies<'_>,
+    place: Place,
+) -> Result<Sequents, Refused>
+    ensures { Answers (placed_at place (each_concluding goal.now (by_ends given.now of.entry.pre.now of.entry.post.now (option_zip (last_sampling of.entry.left.now) (last_sampling of.entry.right.now))))) result }
 {
-    Refused::Script {
-        why: Why::Shape,
-        place,
+    let (Some(left), Some(right)) = (last_sampling(of.left), last_sampling(of.right)) else {
+        return Err(no_such_shape(place));
+    };
+    let Some(maps) = maps(alloc, given, left.ty, right.ty)? else {
+        return Err(no_such_shape(place));
+    };
+    if let Some(var) = clash_of(&left, &right, of.post) {
+        return Err(clashing(alloc, var, place));
     }
+    let conclusion = without_samplings(alloc, &left, &right, maps, of.pre, of.post)?;
+    Ok(alone(alloc, goal, conclusion)?)
 }
 
 /// On an equivalence of two bodies that end with a sampling: both leave, and the postcondition becomes that of the
-/// coupled samplings. Refused with `Shape` on another goal, at types that differ without a function, and for more than
-/// two functions, and with `SideCondition` where the postcondition reads a variable that clashes with a target.
+/// coupled samplings. On a judgment of one body that ends with a sampling, without a function: it leaves, and the
+/// postcondition is asked of each value that it may draw. Refused with `Shape` on another goal, at types that differ
+/// without a function, and for more than two functions, and with `SideCondition` where the postcondition reads a variable
+/// that clashes with a target.
 pub fn rnd_rule(
     alloc: Global,
     goal: &Sequent,
@@ -184,25 +194,19 @@ pub fn rnd_rule(
 ) -> Result<Sequents, Refused>
     ensures { Answers (stepped (rnd_row given.now) place goal.now) result }
 {
-    let Goal::Equiv(Code::Body(left), Code::Body(right), pre, post) = goal_of(&goal.conclusion)
-    else {
-        return Err(no_such_shape(place));
-    };
-    let (Some(left), Some(right)) = (last_sampling(left), last_sampling(right)) else {
-        return Err(no_such_shape(place));
-    };
-    let Some(maps) = maps(alloc, given, left.ty, right.ty)? else {
-        return Err(no_such_shape(place));
-    };
-    if let Some(var) = clash_of(&left, &right, post) {
-        let var = copy_var(alloc, var)?;
-        return Err(Refused::Script {
-            why: Why::SideCondition(var),
-            place,
-        });
+    match (goal_of(&goal.conclusion), given) {
+        (Goal::Equiv(Code::Body(left), Code::Body(right), pre, post), _) => {
+            let of = Bodies {
+                left,
+                right,
+                pre,
+                post,
+            };
+            coupled_rule(alloc, goal, given, of, place)
+        }
+        (Goal::Hoare(Code::Body(body), pre, post), []) => {
+            drawn_rule(alloc, goal, body, pre, post, place)
+        }
+        _ => Err(no_such_shape(place)),
     }
-    let conclusion = without_samplings(alloc, &left, &right, maps, pre, post)?;
-    let mut goals = Items::new(alloc);
-    goals.push(goal.with_conclusion(conclusion)?)?;
-    Ok(goals)
 }

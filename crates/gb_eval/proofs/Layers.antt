@@ -1,7 +1,6 @@
 -- Terms from their heads and the lists of their arguments.
 use Rattle.std.proofs.Common.{◌≡◌, ℕ, ℤ, Bool, ◌&&◌, List, [], ◌∷◌, map, length, refl, sym, ap, ◌∙◌}
 use Rattle.std.specs.List.{list_all}
-use Rattle.std.proofs.lemmas.List.{length-map}
 use Rattle.gb_terms.specs.declared.term.Term.{Term, Term', Row_of-Term, end_of-Term, more_of-Term, end_of-Head, more_of-Head, items-the_row-Term, items_shown-the_row-Term-0}
 use Rattle.gb_terms.specs.declared.term.Head.{Head}
 use Rattle.gb_terms.specs.declared.term.Head.TheViews.{out-Term, outs-struct-Term}
@@ -11,36 +10,45 @@ use Rattle.gb_eval.specs.declared.env.ReadValue.{ReadValue}
 use Rattle.gb_eval.specs.Findings.{Comes}
 use Rattle.gb_eval.specs.Eval.{part_of, eval, eval_all, at_head}
 use Rattle.gb_core.specs.declared.ty.Ty.TheVariants as ty
-use Rattle.gb_types.specs.Types.{card_of}
+use Rattle.gb_types.specs.Types.{card_of, is_finite}
 use Rattle.gb_terms.specs.declared.op.Op.{Op}
 use Rattle.gb_terms.specs.declared.op.Read.{Read}
 use Rattle.gb_terms.specs.declared.op.Op.TheVariants as op
 use Rattle.gb_terms.specs.declared.term.Head.TheVariants as head
 use Rattle.gb_meaning.specs.Operators.{outcome_type}
+use Rattle.gb_meaning.specs.Written.{type_of}
+use Rattle.gb_typed.specs.Typing.{types_of}
 use Rattle.gb_typed.proofs.Constructors.{distribution_is}
 use Rattle.gb_eval.specs.Findings.Comes.{unknown}
 use Rattle.gb_eval.specs.Operators.{nullary, uniform_over}
 use Rattle.gb_eval.specs.Totals.{total_of, totals_of, head_total, operator_total, number_of_outcomes}
-use Rattle.gb_eval.specs.Known.{is_known, all_known, is_head_known, are_true}
+use Rattle.gb_eval.specs.Known.{is_known, all_known, has_finite_outcomes, is_head_known, are_true}
 
 known_row : (n : _) (r : Row_of-Term n) → all_known r ≡ map is_known (items-the_row-Term n r)
 known_row n end_of-Term = refl
 known_row n (more_of-Term t r) = ap (λ l. is_known t ∷ l) (known_row _ r)
 
+types_row : (n : _) (r : Row_of-Term n) → types_of r ≡ map type_of (items-the_row-Term n r)
+types_row n end_of-Term = refl
+types_row n (more_of-Term t r) = ap (λ l. type_of t ∷ l) (types_row _ r)
+
 all_of : {X : Type 0} (f : X → Bool) (xs : List X) → are_true (map f xs) ≡ list_all f xs
 all_of f [] = refl
 all_of f (x ∷ xs) = ap (λ b. f x && b) (all_of f xs)
 
-known_by : (h : Head) (ts : List Term) → (is_head_known h (length (map is_known ts)) && are_true (map is_known ts)) ≡ (is_head_known h (length ts) && list_all is_known ts)
-known_by h ts = (λ i. is_head_known h (length-map ts is_known i) && all_of is_known ts i)
+-- the type of a term, as the code reads it
+pub type_is : (t : Term) → type_of t ≡ (out-Term t).ty
+unfolding Rattle.gb_terms.specs.declared.term.Head.TheBlock.shown-the_row-Head-2 denote.Hole.Carrier.shown
+type_is (Term' p (more_of-Head h end_of-Head) n r ty) = sym (ap (λ z. z.ty) (outs-struct-Term p (more_of-Head h end_of-Head) n r ty))
 
 -- whether evaluation knows a term, by its head and its arguments
-pub known_out : (t : Term) → is_known t ≡ (is_head_known (out-Term t).head (length (out-Term t).args) && list_all is_known (out-Term t).args)
+pub known_out : (t : Term) → is_known t ≡ (is_head_known (out-Term t).head (map type_of (out-Term t).args) && list_all is_known (out-Term t).args)
 unfolding Rattle.gb_terms.specs.declared.term.Head.TheBlock.shown-the_row-Head-2 denote.Hole.Carrier.shown
 known_out (Term' p (more_of-Head h end_of-Head) n r ty) =
-    ap (λ l. is_head_known h (length l) && are_true l) (known_row _ r ∙ sym (ap (map is_known) (items_shown-the_row-Term-0 n r)))
-    ∙ known_by h _
-    ∙ sym (ap (λ z. is_head_known z.head (length z.args) && list_all is_known z.args) (outs-struct-Term p (more_of-Head h end_of-Head) n r ty))
+    (λ i. is_head_known h (types_row _ r i) && are_true (known_row _ r i))
+    ∙ ap (λ b. is_head_known h (map type_of (items-the_row-Term _ r)) && b) (all_of is_known (items-the_row-Term _ r))
+    ∙ ap (λ l. is_head_known h (map type_of l) && list_all is_known l) (sym (items_shown-the_row-Term-0 n r))
+    ∙ sym (ap (λ z. is_head_known z.head (map type_of z.args) && list_all is_known z.args) (outs-struct-Term p (more_of-Head h end_of-Head) n r ty))
 
 eval_row : (reads : List ReadValue) (n : _) (r : Row_of-Term n) → eval_all reads r ≡ map (part_of reads) (items-the_row-Term n r)
 eval_row reads n end_of-Term = refl
@@ -98,6 +106,10 @@ module _ (t : Term) (h : Head) (xs : List Term) (ty : Ty) (p : h ≡ (out-Term t
 
 outcome_is : (t : Ty) → outcome_type (ty.Distr t) ≡ t
 outcome_is t = ap outcome_type (distribution_is t)
+
+-- whether the outcomes of a distribution are of a finite type
+pub finite_outcomes : (u v w : Ty) (b : Bool) → u ≡ ty.Distr v → w ≡ v → b ≡ is_finite w → b ≡ has_finite_outcomes u
+finite_outcomes u v w b e f g = g ∙ ap is_finite f ∙ sym (ap has_finite_outcomes (e ∙ distribution_is v))
 
 -- the uniform distribution of a type of distributions
 module _ (o : Op) (u v w : Ty) (e : o ≡ op.Uniform) (f : u ≡ ty.Distr v) (g : w ≡ v) where

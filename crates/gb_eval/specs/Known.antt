@@ -1,6 +1,7 @@
 -- The terms that evaluation knows.
 use Rattle.std.specs.Prelude.{ℕ, Bool, true, false, ◌&&◌, ◌||◌, ◌==◌, not, Option, Some, None, List, [], ◌∷◌, length}
 use Rattle.std.specs.List.{list_all}
+use Rattle.gb_core.specs.declared.ty.Ty.{Ty}
 use Rattle.gb_types.specs.Types.{is_finite}
 use Rattle.gb_terms.specs.declared.op.Op.{Op}
 use Rattle.gb_terms.specs.declared.op.Op.TheVariants as op
@@ -11,6 +12,8 @@ use Rattle.gb_terms.specs.declared.op.Read.TheVariants.{Logical, Program}
 use Rattle.gb_terms.specs.declared.term.Term.{Term, Term', Row_of-Term, end_of-Term, more_of-Term, end_of-Head, more_of-Head}
 use Rattle.gb_terms.specs.declared.term.Head.{Head}
 use Rattle.gb_terms.specs.declared.term.Head.TheVariants as head
+use Rattle.gb_meaning.specs.Operators.{is_distribution, outcome_type}
+use Rattle.gb_typed.specs.Typing.{types_of}
 
 -- The number of arguments at which evaluation knows an operator. A tuple may have any.
 abbrev pub arity : Op → Option ℕ
@@ -52,15 +55,27 @@ abbrev pub is_read_known : Read → Bool
 is_read_known (Logical i) = true
 is_read_known (Program x s) = not (is_bound s)
 
-abbrev pub is_head_known : Head → ℕ → Bool
-is_head_known (head.Lit v) n = n == 0
-is_head_known (head.Whole k) n = n == 0
-is_head_known (head.Bound i) n = n == 0
-is_head_known (head.Read r) n = (n == 0) && is_read_known r
-is_head_known (head.Builtin o) n = takes o n
-is_head_known (head.All ty) n = (n == 1) && is_finite ty
-is_head_known (head.Some ty) n = (n == 1) && is_finite ty
-is_head_known _ n = false
+abbrev pub has_finite_outcomes : Ty → Bool
+has_finite_outcomes d = is_distribution d && is_finite (outcome_type d)
+
+-- a distribution over a finite type, and what is said of its outcomes
+abbrev pub are_of_outcomes : List Ty → Bool
+are_of_outcomes (d ∷ a ∷ []) = has_finite_outcomes d
+are_of_outcomes _ = false
+
+-- whether evaluation knows a head at arguments of these types
+abbrev pub is_head_known : Head → List Ty → Bool
+is_head_known (head.Lit v) us = length us == 0
+is_head_known (head.Whole k) us = length us == 0
+is_head_known (head.Bound i) us = length us == 0
+is_head_known (head.Read r) us = (length us == 0) && is_read_known r
+is_head_known (head.Builtin o) us = takes o (length us)
+is_head_known (head.All ty) us = (length us == 1) && is_finite ty
+is_head_known (head.Some ty) us = (length us == 1) && is_finite ty
+is_head_known (head.Sum q) us = length us == 1
+is_head_known head.Mu us = are_of_outcomes us
+is_head_known head.Restrict us = are_of_outcomes us
+is_head_known _ us = false
 
 abbrev pub are_true : List Bool → Bool
 are_true bs = list_all (λ b. b) bs
@@ -68,7 +83,7 @@ are_true bs = list_all (λ b. b) bs
 -- evaluation knows each part of the term
 abbrev mutual
   pub is_known : Term → Bool
-  is_known (Term' p (more_of-Head h end_of-Head) n ts ty) = is_head_known h (length (all_known ts)) && are_true (all_known ts)
+  is_known (Term' p (more_of-Head h end_of-Head) n ts ty) = is_head_known h (types_of ts) && are_true (all_known ts)
 
   pub all_known : {n : _} → Row_of-Term n → List Bool
   all_known end_of-Term = []

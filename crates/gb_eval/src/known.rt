@@ -1,9 +1,11 @@
 // The terms that evaluation knows.
 
-ghost use Rattle.std.specs.Prelude.{◌≡◌};
+ghost use Rattle.std.specs.Prelude.{◌≡◌, map};
 ghost use Rattle.std.specs.List.{list_all};
-ghost use Rattle.gb_eval.specs.Known.{arity, is_tuple, takes, is_read_known, is_head_known, is_known};
+ghost use Rattle.gb_meaning.specs.Written.{type_of};
+ghost use Rattle.gb_eval.specs.Known.{are_of_outcomes, has_finite_outcomes, arity, is_tuple, takes, is_read_known, is_head_known, is_known};
 
+use gb_core::ty::Ty;
 use gb_terms::op::{Op, Read, Side};
 use gb_terms::term::{Head, Term};
 use gb_types::size::is_finite;
@@ -52,27 +54,50 @@ pub fn is_read_known(read: &Read) -> bool
     }
 }
 
-/// Whether evaluation knows a head at so many arguments.
-fn is_head_known(head: &Head, count: usize) -> bool
-    ensures { result ≡ is_head_known head.now count }
+fn has_finite_outcomes(ty: &Ty) -> bool
+    ensures { result ≡ has_finite_outcomes ty.now }
+{
+    match ty {
+        Ty::Distr(outcomes) => is_finite(outcomes.get()),
+        _ => false,
+    }
+}
+
+/// Whether the first of two arguments is a distribution over a finite type.
+fn are_of_outcomes(args: &[Term]) -> bool
+    ensures { result ≡ are_of_outcomes (map type_of args.now) }
+{
+    match args {
+        [d, _] => has_finite_outcomes(d.ty.get()),
+        _ => false,
+    }
+}
+
+/// Whether evaluation knows a head at its arguments.
+fn is_head_known(head: &Head, args: &[Term]) -> bool
+    ensures { result ≡ is_head_known head.now (map type_of args.now) }
 {
     match head {
-        Head::Lit(_) | Head::Whole(_) | Head::Bound(_) => count == 0,
-        Head::Read(read) => count == 0 && is_read_known(read),
-        Head::Builtin(op) => takes(*op, count),
-        Head::All(ty) | Head::Some(ty) => count == 1 && is_finite(ty.get()),
+        Head::Lit(_) | Head::Whole(_) | Head::Bound(_) => args.is_empty(),
+        Head::Read(read) => args.is_empty() && is_read_known(read),
+        Head::Builtin(op) => takes(*op, args.len()),
+        Head::All(ty) | Head::Some(ty) => args.len() == 1 && is_finite(ty.get()),
+        Head::Sum(_) => args.len() == 1,
+        Head::Mu | Head::Restrict => are_of_outcomes(args),
         _ => false,
     }
 }
 
 /// Whether evaluation knows each part of a term: literals, variables, reads of memories that no binder binds, the built-in
-/// operators but that which sets an entry of a map, and quantifiers over finite types.
+/// operators but that which sets an entry of a map, quantifiers over finite types, sums, and measures and parts of distributions over
+/// finite types.
 #[cycle(known)]
 #[tactic(auto, using(crate::proofs::Layers::known_out))]
 pub fn is_known(t: &Term) -> bool
     ensures { result ≡ is_known t.now }
 {
-    is_head_known(t.head.get(), t.args.len()) && are_known(t.args.as_slice())
+    let args = t.args.as_slice();
+    is_head_known(t.head.get(), args) && are_known(args)
 }
 
 #[cycle(known)]

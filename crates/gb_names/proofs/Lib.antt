@@ -1,3 +1,4 @@
+mod LastDot
 pub mod Answers
 pub mod Nodes
 pub mod Parts

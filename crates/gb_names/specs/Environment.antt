@@ -1,5 +1,7 @@
 -- Where a form stands.
 use Rattle.std.specs.Prelude.{ℕ, List, [], Option, Some, None}
+use Rattle.std.specs.Option.{option_copied}
+use Rattle.gb_terms.specs.declared.decl.Module.{Module}
 use Rattle.gb_terms.specs.declared.decl.TypedName.{TypedName}
 use Rattle.gb_terms.specs.declared.op.Side.{Side}
 use Rattle.gb_terms.specs.declared.op.Side.TheVariants as side
@@ -14,41 +16,42 @@ use Rattle.gb_names.specs.declared.setting.Variables.TheVariants.{Absent, Own, S
 abbrev pub Name : Type 0
 Name = List ℕ
 
--- What the names of a form mean: the declarations of the script, the context of the sequent around it, the program
--- variables that it may read, and the language that it is written in.
+-- What the names of a form mean: the declarations of the script, the module around it as far as it is typed, the context of the
+-- sequent around it, the program variables that it may read, and the language that it is written in.
 pub record Environment : Type 0 where
   pub declared : Declarations
+  pub inside : Option Module
   pub sequent : Sequent
   pub variables : Variables
   pub language : Language
 
 -- the same, of references
 abbrev pub environment : Setting → Environment
-environment s = record { declared = s.scope.now; sequent = s.sequent.now; variables = s.variables; language = s.language }
+environment s = record { declared = s.scope.now; inside = option_copied s.inside; sequent = s.sequent.now; variables = s.variables; language = s.language }
 
 -- a form that reads no program variable
 abbrev pub ambient : Declarations → Sequent → Environment
-ambient ds s = record { declared = ds; sequent = s; variables = Absent; language = Formula }
+ambient ds s = record { declared = ds; inside = None; sequent = s; variables = Absent; language = Formula }
 
 -- a form on one program with these variables
 abbrev pub unary : Declarations → Sequent → List TypedName → Environment
-unary ds s vs = record { declared = ds; sequent = s; variables = Own vs; language = Formula }
+unary ds s vs = record { declared = ds; inside = None; sequent = s; variables = Own vs; language = Formula }
 
 -- a form on two programs with these variables
 abbrev pub relational : Declarations → Sequent → List TypedName → List TypedName → Environment
-relational ds s l r = record { declared = ds; sequent = s; variables = Sides l r; language = Formula }
+relational ds s l r = record { declared = ds; inside = None; sequent = s; variables = Sides l r; language = Formula }
 
 -- a function of a proof step, on two programs with these variables
 abbrev pub of_function : Declarations → Sequent → List TypedName → List TypedName → Environment
-of_function ds s l r = record { declared = ds; sequent = s; variables = Sides l r; language = Function }
+of_function ds s l r = record { declared = ds; inside = None; sequent = s; variables = Sides l r; language = Function }
 
 -- the body of an operator
 abbrev pub of_operator : Declarations → Sequent → Environment
-of_operator ds s = record { declared = ds; sequent = s; variables = Absent; language = Operator }
+of_operator ds s = record { declared = ds; inside = None; sequent = s; variables = Absent; language = Operator }
 
--- an expression of a program with these variables
-abbrev pub program : Declarations → Sequent → List TypedName → Environment
-program ds s vs = record { declared = ds; sequent = s; variables = Own vs; language = Program }
+-- an expression of a program of this module, which is typed so far, with these variables
+abbrev pub program : Declarations → Module → Sequent → List TypedName → Environment
+program ds m s vs = record { declared = ds; inside = Some m; sequent = s; variables = Own vs; language = Program }
 
 abbrev pub own_of : Variables → List TypedName
 own_of (Own vs) = vs
@@ -73,4 +76,4 @@ sampled_in l = l
 
 -- .. of a distribution that is sampled where the form is, of whatever type
 abbrev pub sampled : Environment → Environment
-sampled at = record { declared = at.declared; sequent = at.sequent; variables = at.variables; language = sampled_in at.language }
+sampled at = record at { language = sampled_in at.language }

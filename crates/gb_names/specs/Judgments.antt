@@ -1,4 +1,4 @@
--- Judgments of two procedures.
+-- The procedures that judgments speak of, and what their conditions read.
 use Rattle.std.specs.Prelude.{List, [], ◌∷◌, ◌++◌, Option, Some, None, if◌then◌else◌, codes}
 use Rattle.gb_core.specs.declared.place.Place.{Place}
 use Rattle.gb_core.specs.declared.refusal.Why.TheVariants.{UnknownName, Argument}
@@ -71,6 +71,12 @@ named_procedure at bound _ ps p = not_built p
 abbrev pub about_procedure : Head → Place → Answer (Unit {0})
 about_procedure head.Block p = not_built p
 about_procedure _ p = given tt
+
+-- the procedure that a judgment at this place is about
+abbrev pub one_procedure : Environment → List TypedName → Node → Place → Answer Named
+one_procedure at bound f p = do
+  _ ← about_procedure (head_of f) p
+  named_procedure at bound (head_of f) (parts_of f) (place_of f)
 
 -- the two procedures that a judgment at this place is about
 abbrev pub both_procedures : Environment → List TypedName → Node → Node → Place → Answer (Named × Named)

@@ -2,12 +2,16 @@
 use Rattle.std.specs.Prelude.{ℕ, suc, Bool, true, false, ◌||◌, if◌then◌else◌, List, [], ◌∷◌, ◌++◌, Option, Some, None, is_some, find, codes, bytes_eq}
 use Rattle.std.specs.Option.{option_map, option_map_or}
 use Rattle.std.specs.List.{list_any}
+use Rattle.std.specs.Path.{dot, rsplit_once}
 use Rattle.gb_core.specs.declared.place.Place.{Place}
 use Rattle.gb_core.specs.declared.refusal.Why.{Why}
 use Rattle.gb_core.specs.declared.refusal.Why.TheVariants.{UnknownName, Argument}
 use Rattle.gb_core.specs.declared.ty.Ty.TheVariants.{Unit as unit_ty}
 use Rattle.gb_core.specs.declared.value.Value.TheVariants.{Num}
-use Rattle.gb_core.specs.declared.var.Var.TheVariants.{Local}
+use Rattle.gb_core.specs.declared.ty.Ty.{Ty}
+use Rattle.gb_core.specs.declared.var.Var.{Var}
+use Rattle.gb_core.specs.declared.var.Var.TheVariants.{Local, Global}
+use Rattle.gb_terms.specs.declared.decl.Module.{Module}
 use Rattle.gb_terms.specs.declared.decl.TypedName.{TypedName}
 use Rattle.gb_terms.specs.declared.op.Side.{Side}
 use Rattle.gb_terms.specs.declared.op.Side.TheVariants as side
@@ -18,13 +22,15 @@ use Rattle.gb_terms.specs.Make.{node}
 use Rattle.gb_goal.specs.declared.sequent.Sequent.{Sequent}
 use Rattle.gb_goal.specs.declared.scope.Constant.{Constant}
 use Rattle.gb_goal.specs.declared.scope.OperatorType.{OperatorType}
-use Rattle.gb_goal.specs.Scope.{constant_named, entry_of, operator_named}
+use Rattle.gb_goal.specs.Scope.{Declarations, constant_named, entry_of, module_of, operator_named}
 use Rattle.gb_script.specs.declared.head.Head.{Head}
 use Rattle.gb_script.specs.declared.head.Head.TheVariants as head
 use Rattle.gb_script.specs.declared.tree.Node.{Node}
 use Rattle.gb_script.specs.Tree.{text_of, place_of}
 use Rattle.gb_names.specs.declared.setting.Language.{Language}
 use Rattle.gb_names.specs.declared.setting.Language.TheVariants.{Formula, Function}
+use Rattle.gb_names.specs.declared.setting.Variables.{Variables}
+use Rattle.gb_names.specs.declared.setting.Variables.TheVariants.{Own}
 use Rattle.gb_names.specs.declared.names.Known.{Known}
 use Rattle.gb_names.specs.declared.names.Known.TheVariants as known
 use Rattle.gb_goal.specs.Answers.{Answer, ◌>>=◌, given_or, not_built}
@@ -103,15 +109,53 @@ names_other at x = names_no_value at.sequent x || is_some (entry_of at.declared 
 abbrev pub unbound : Environment → Name → Place → Answer Term
 unbound at x p = if names_other at x then refused Argument p else refused (UnknownName x) p
 
+-- a global: the name of its module, and the variable there
+abbrev pub ModuleVariable : Type 0
+ModuleVariable = Name × TypedName
+
+-- the global of a module that has this name
+abbrev pub global_in : Name → Option Module → Name → Option ModuleVariable
+global_in n None x = None
+global_in n (Some m) x = option_map (λ v. (n, v)) (first_named m.globals x)
+
+-- the module of this name: the one around, or a declared one
+abbrev pub module_if : Option Module → Declarations → Name → Option Module
+module_if None ds n = module_of ds n
+module_if (Some m) ds n = if bytes_eq n m.name then Some m else module_of ds n
+
+-- a global of the module around, by its own name
+abbrev pub own_global : Option Module → Name → Option ModuleVariable
+own_global None x = None
+own_global (Some m) x = global_in m.name (Some m) x
+
+-- A global is named by its module's name and its own, with a dot between, and inside of its module by its own name alone.
+unfoldable pub global_at : Environment → Name → Option ModuleVariable
+global_at at x = option_map_or (λ w. global_in w.0 (module_if at.inside at.declared w.0) w.1) (rsplit_once dot x) (own_global at.inside x)
+
+-- a read of a global through a memory
+abbrev pub global_variable : Side → ModuleVariable → Term
+global_variable s g = node (Read (read.Program (Global g.0 g.1.name) s)) [] g.1.ty
+
+-- a program with a memory of its own is around
+abbrev pub has_own : Variables → Bool
+has_own (Own vs) = true
+has_own _ = false
+
+-- a global by its name alone, which the memory of the program around has
+abbrev pub unsided : Environment → Place → ModuleVariable → Answer Term
+unsided at p g = if has_own at.variables then given (global_variable side.Own g) else refused Argument p
+
 -- A name without a side is that of a variable that is bound in the form, the innermost first, of a variable of the
--- program around, or of a logical variable of the context.
+-- program around, of a logical variable of the context, or of a global.
 unfoldable pub named : Environment → List TypedName → Name → Place → Answer Term
 named at bound x p =
     option_map_or (bound_variable (number_before bound x))
     (first_named bound x)
     (option_map_or (λ v. given (program_variable side.Own v))
     (first_named (own at) x)
-    (option_map_or (logical_variable (number_before at.sequent.logical x)) (first_named at.sequent.logical x) (unbound at x p)))
+    (option_map_or (logical_variable (number_before at.sequent.logical x))
+    (first_named at.sequent.logical x)
+    (option_map_or (unsided at p) (global_at at x) (unbound at x p))))
 
 -- a logical variable, bound in the form or of the context, has this name
 abbrev pub is_variable : Environment → List TypedName → Name → Bool
@@ -119,7 +163,8 @@ is_variable at bound x = is_some (first_named bound x) || is_some (first_named a
 
 -- a thing that is nearer than the declarations has this name
 abbrev pub hidden : Environment → List TypedName → Name → Bool
-hidden at bound x = is_variable at bound x || (is_some (first_named (own at) x) || names_no_value at.sequent x)
+hidden at bound x =
+    is_variable at bound x || (is_some (first_named (own at) x) || (names_no_value at.sequent x || is_some (own_global at.inside x)))
 
 -- the built-in thing that a name means, where nothing else has it
 abbrev pub known_at : Environment → List TypedName → Name → Option Known
@@ -138,24 +183,36 @@ abbrev pub no_variable : Environment → Name → Why
 no_variable at x =
     if is_some (first_named at.sequent.logical x) || names_other at x || is_some (built_in x) then Argument else UnknownName x
 
--- the variable of the program around that has this name
-abbrev pub own_variable : Environment → Node → Answer TypedName
-own_variable at x = given_or (first_named (own at) (text_of x)) (no_variable at (text_of x)) (place_of x)
+-- a variable that a statement writes, with its type
+abbrev pub Target : Type 0
+Target = Var × Ty
 
--- a variable of one of two programs; a bound one has no side
+abbrev pub global_target : ModuleVariable → Answer Target
+global_target g = given (Global g.0 g.1.name, g.1.ty)
+
+-- the variable of the program around, or the global, that has this name
+abbrev pub target : Environment → Name → Place → Answer Target
+target at x p =
+    option_map_or (λ v. given (Local v.name, v.ty))
+    (first_named (own at) x)
+    (option_map_or global_target (global_at at x) (refused (no_variable at x) p))
+
+-- a variable of one of two programs, or a global; a bound one has no side
 abbrev pub variable_on : Environment → List TypedName → Name → Side → Place → List TypedName → Answer Term
 variable_on at bound x s p vs =
     if is_some (first_named bound x) then refused Argument p
-    else given_or (option_map (program_variable s) (first_named vs x)) (no_variable at x) p
+    else option_map_or (λ v. given (program_variable s v))
+    (first_named vs x)
+    (option_map_or (λ g. given (global_variable s g)) (global_at at x) (refused (no_variable at x) p))
 
 -- a name with a side
 unfoldable pub sided : Environment → List TypedName → Name → Side → Place → Answer Term
 sided at bound x s p = option_map_or (variable_on at bound x s p) (on_side at s) (refused Argument p)
 
--- a name in a named memory: a variable of none is in a goal
+-- a name in a named memory: a local of none is in a goal, and globals aren't built yet
 unfoldable pub in_memory : Environment → Name → Node → Place → Answer Term
 in_memory at x m p =
-    if list_any (λ n. bytes_eq n (text_of m)) at.sequent.memories then refused (no_variable at x) p
+    if list_any (λ n. bytes_eq n (text_of m)) at.sequent.memories then (if is_some (global_at at x) then not_built p else refused (no_variable at x) p)
     else refused (UnknownName (text_of m)) (place_of m)
 
 -- whether named memories may be read

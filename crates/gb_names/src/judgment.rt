@@ -8,7 +8,7 @@ ghost use Rattle.gb_goal.specs.Scope.{proc_of};
 ghost use Rattle.gb_script.specs.Tree.{text_of, parts_of, place_of};
 ghost use Rattle.gb_goal.specs.Answers.{Answers, Gives};
 ghost use Rattle.gb_names.specs.Environment.{environment};
-ghost use Rattle.gb_names.specs.Judgments.{about_procedure, both_procedures, equivalent, named_module, named_procedure, procedure_at, procedure_path, reference, result_of};
+ghost use Rattle.gb_names.specs.Judgments.{about_procedure, both_procedures, equivalent, named_module, named_procedure, one_procedure, procedure_at, procedure_path, reference, result_of};
 
 use crate::names::{append, is_variable};
 use crate::refusals::{argument, not_built, unknown};
@@ -169,6 +169,24 @@ fn about_procedure(head: NodeHead, place: Place) -> Result<(), Refused>
         NodeHead::Block => Err(not_built(place)),
         _ => Ok(()),
     }
+}
+
+/// The procedure that a judgment at this place is about.
+///
+/// # Errors
+///
+/// As `both_procedures`.
+pub fn one_procedure<'a>(
+    alloc: Global,
+    at: &Setting<'a>,
+    bound: &[TypedName],
+    f: &Node,
+    place: Place,
+) -> Result<Named<'a>, Refused>
+    ensures { Gives (λ m. (m.reference, m.procedure.now)) (one_procedure (environment at.now) bound.now f.now place) result }
+{
+    about_procedure(f.head, place)?;
+    named_procedure(alloc, at, bound, f.head, f.parts.as_slice(), f.place)
 }
 
 /// The two procedures that a judgment at this place is about.

@@ -3,6 +3,7 @@
 
 pub mod allowed;
 pub mod binders;
+pub mod globals;
 pub mod judgment;
 pub mod names;
 pub mod refusals;

@@ -3,14 +3,16 @@
 ghost use Rattle.std.specs.Prelude.{◌≡◌, ◌++◌, Ok, IfOk, OnOk, bytes_eq, codes, string_bytes};
 ghost use Rattle.std.specs.List.{list_any};
 ghost use Rattle.std.specs.Option.{option_copied};
+ghost use Rattle.gb_core.specs.declared.var.Var.TheVariants.{Local};
 ghost use Rattle.gb_script.specs.Tree.{head_of};
 ghost use Rattle.gb_goal.specs.Answers.{Answers, Fails, Gives, Refuses};
 ghost use Rattle.gb_names.specs.Wanted.{counted};
 ghost use Rattle.gb_goal.specs.Answers.Answer.{given};
 ghost use Rattle.gb_names.specs.Environment.{environment};
 ghost use Rattle.gb_names.specs.Names.{beside, remembered, side_of};
-ghost use Rattle.gb_names.specs.Names.{bound_variable, built_in, constant_at, dotted, first_named, hidden, in_memory, is_variable, known_at, logical_variable, named, names_no_value, names_other, no_variable, number_before, operator_at, own_variable, path, program_variable, sided, unbound, unit};
+ghost use Rattle.gb_names.specs.Names.{bound_variable, built_in, constant_at, dotted, first_named, hidden, in_memory, is_variable, known_at, logical_variable, named, names_no_value, names_other, no_variable, number_before, operator_at, target, variable_on, path, program_variable, sided, unbound, unit};
 
+use crate::globals::{Target, global_at, global_target, global_variable, is_own_global, unsided};
 use crate::refusals::{argument, not_built, too_many, unknown};
 use crate::setting::{Language, Setting};
 use gb_core::name::Name;
@@ -18,6 +20,7 @@ use gb_core::place::Place;
 use gb_core::refusal::Refused;
 use gb_core::ty::Ty;
 use gb_core::value::Value;
+use gb_core::var::Var;
 use gb_goal::scope::{Constant, OperatorType};
 use gb_goal::sequent::{Hyp, Sequent};
 use gb_script::head::Head as NodeHead;
@@ -63,7 +66,7 @@ pub fn path(alloc: Global, words: &[Node]) -> Result<Name, AllocError>
 }
 
 /// The first thing of this name in a list.
-fn first_named<'a>(list: &'a [TypedName], name: &Name) -> Option<&'a TypedName>
+pub fn first_named<'a>(list: &'a [TypedName], name: &Name) -> Option<&'a TypedName>
     ensures { option_copied result ≡ first_named list.now name.now }
 {
     for x in list {
@@ -237,7 +240,7 @@ fn unbound(alloc: Global, at: &Setting<'_>, name: &Name, place: Place) -> Refuse
 ///
 /// # Errors
 ///
-/// `UnknownName` where nothing has the name, and `Argument` where it is no value's.
+/// `UnknownName` where nothing has the name, and `Argument` where it is no value's, or that of a global whose memory isn't there.
 #[tactic(auto, unfolding(crate::specs::Names::named))]
 pub fn named(
     alloc: Global,
@@ -258,7 +261,10 @@ pub fn named(
     if let Some(x) = first_named(logical, name) {
         return logical_variable(alloc, number_before(logical, name), x);
     }
-    Err(unbound(alloc, at, name, place))
+    match global_at(alloc, at, name)? {
+        Some(global) => unsided(alloc, at, place, global),
+        None => Err(unbound(alloc, at, name, place)),
+    }
 }
 
 /// Whether a logical variable, bound in the form or of the context, has this name.
@@ -275,6 +281,7 @@ fn hidden(at: &Setting<'_>, bound: &[TypedName], name: &Name) -> bool
     is_variable(at, bound, name)
         || first_named(at.own(), name).is_some()
         || names_no_value(at.sequent, name)
+        || is_own_global(at, name)
 }
 
 /// The built-in thing that a name means, where nothing else has it.
@@ -326,22 +333,34 @@ fn no_variable(alloc: Global, at: &Setting<'_>, name: &Name, place: Place) -> Re
     }
 }
 
-/// The variable of the program around that has this name.
+/// The variable of the program around, or the global, that has this name.
 ///
 /// # Errors
 ///
 /// `UnknownName` where nothing has the name, `Argument` where another thing has it.
-pub fn own_variable<'a>(
-    alloc: Global,
-    at: &'a Setting<'_>,
-    x: &Node,
-) -> Result<&'a TypedName, Refused>
-    ensures { Gives (λ v. v.now) (own_variable (environment at.now) x.now) result }
+pub fn target(alloc: Global, at: &Setting<'_>, name: &Name, place: Place) -> Result<Target, Refused>
+    ensures { Gives (λ v. (v.var, v.ty)) (target (environment at.now) name.now place) result }
 {
-    match first_named(at.own(), &x.text) {
-        Some(variable) => Ok(variable),
-        None => Err(no_variable(alloc, at, &x.text, x.place)),
+    if let Some(local) = first_named(at.own(), name) {
+        return Ok(local_target(alloc, local)?);
     }
+    match global_at(alloc, at, name)? {
+        Some(global) => Ok(global_target(alloc, global)?),
+        None => Err(no_variable(alloc, at, name, place)),
+    }
+}
+
+/// A local that a statement writes.
+fn local_target(alloc: Global, local: &TypedName) -> Result<Target, AllocError>
+    ensures var { IfOk result (λ made. made.var ≡ Local local.now.name) }
+    ensures ty { IfOk result (λ made. made.ty ≡ local.now.ty) }
+{
+    let name = local.name.copy(alloc)?;
+    let ty = local.ty.share()?;
+    Ok(Target {
+        var: Var::Local { name },
+        ty,
+    })
 }
 
 /// The meaning of a name with a side.
@@ -360,31 +379,57 @@ pub fn sided(
 ) -> Result<Term, Refused>
     ensures { Answers (sided (environment at.now) bound.now name.now side place) result }
 {
-    let Some(locals) = at.on_side(side) else {
-        return Err(argument(place));
-    };
+    match at.on_side(side) {
+        Some(locals) => variable_on(alloc, at, bound, name, side, place, locals),
+        None => Err(argument(place)),
+    }
+}
+
+/// A variable of one of two programs, or a global.
+fn variable_on(
+    alloc: Global,
+    at: &Setting<'_>,
+    bound: &[TypedName],
+    name: &Name,
+    side: Side,
+    place: Place,
+    locals: &[TypedName],
+) -> Result<Term, Refused>
+    ensures { Answers (variable_on (environment at.now) bound.now name.now side place locals.now) result }
+{
     if first_named(bound, name).is_some() {
         return Err(argument(place));
     }
-    match first_named(locals, name) {
-        Some(x) => program_variable(alloc, x, side),
+    if let Some(x) = first_named(locals, name) {
+        return program_variable(alloc, x, side);
+    }
+    match global_at(alloc, at, name)? {
+        Some(global) => global_variable(alloc, side, global),
         None => Err(no_variable(alloc, at, name, place)),
     }
 }
 
-/// The refusal of a read through a named memory: no proof step that is built brings a variable of one into a goal.
+/// The refusal of a read through a named memory: no proof step that is built brings a local of one into a goal.
 ///
 /// # Errors
 ///
-/// `UnknownName` where there is no such memory and where nothing has the name, `Argument` where another thing has it.
+/// `UnknownName` where there is no such memory and where nothing has the name, `Syntax` of a global, `Argument` where another thing has it.
 #[tactic(auto, unfolding(crate::specs::Names::in_memory))]
-fn in_memory(alloc: Global, at: &Setting<'_>, name: &Name, memory: &Node, place: Place) -> Refused
-    ensures { Fails (in_memory (environment at.now) name.now memory.now place) result }
+fn in_memory(
+    alloc: Global,
+    at: &Setting<'_>,
+    name: &Name,
+    memory: &Node,
+    place: Place,
+) -> Result<Term, Refused>
+    ensures { Answers (in_memory (environment at.now) name.now memory.now place) result }
 {
-    if is_among(at.sequent.memories.as_slice(), &memory.text) {
-        no_variable(alloc, at, name, place)
-    } else {
-        unknown(alloc, &memory.text, memory.place)
+    if !is_among(at.sequent.memories.as_slice(), &memory.text) {
+        return Err(unknown(alloc, &memory.text, memory.place));
+    }
+    match global_at(alloc, at, name)? {
+        Some(_) => Err(not_built(place)),
+        None => Err(no_variable(alloc, at, name, place)),
     }
 }
 
@@ -399,7 +444,7 @@ fn remembered(
     ensures { Answers (remembered (environment at.now) name.now memory.now place) result }
 {
     match at.language {
-        Language::Formula | Language::Function => { Err(in_memory(alloc, at, name, memory, place)) }
+        Language::Formula | Language::Function => in_memory(alloc, at, name, memory, place),
         Language::Program | Language::Sampled | Language::Operator => Err(argument(place)),
     }
 }

@@ -6,15 +6,16 @@ ghost use Rattle.gb_names.specs.Environment.{environment, ambient, unary, relati
 
 use gb_goal::scope::Scope;
 use gb_goal::sequent::Sequent;
-use gb_terms::decl::TypedName;
+use gb_terms::decl::{Module, TypedName};
 use gb_terms::op::Side;
 use std::marker::Model;
 
-/// What the names of a form mean: the declarations of the script, the context of the sequent around it (an empty one
-/// where there is none), the program variables that it may read, and which language it is written in.
+/// What the names of a form mean: the declarations of the script, the module around it as far as it is typed, the context of the
+/// sequent around it (an empty one where there is none), the program variables that it may read, and which language it is written in.
 #[derive(Drop)]
 pub struct Setting<'a> {
     pub scope: &'a Scope,
+    pub inside: Option<&'a Module>,
     pub sequent: &'a Sequent,
     pub variables: Variables<'a>,
     pub language: Language,
@@ -111,6 +112,7 @@ impl<'a> Setting<'a> {
     {
         Setting {
             scope,
+            inside: None,
             sequent,
             variables: Variables::Absent,
             language: Language::Formula,
@@ -123,6 +125,7 @@ impl<'a> Setting<'a> {
     {
         Setting {
             scope,
+            inside: None,
             sequent,
             variables: Variables::Own(Borrowed { list: variables }),
             language: Language::Formula,
@@ -141,6 +144,7 @@ impl<'a> Setting<'a> {
         let (left, right) = (Borrowed { list: left }, Borrowed { list: right });
         Setting {
             scope,
+            inside: None,
             sequent,
             variables: Variables::Sides { left, right },
             language: Language::Formula,
@@ -159,6 +163,7 @@ impl<'a> Setting<'a> {
         let (left, right) = (Borrowed { list: left }, Borrowed { list: right });
         Setting {
             scope,
+            inside: None,
             sequent,
             variables: Variables::Sides { left, right },
             language: Language::Function,
@@ -171,22 +176,25 @@ impl<'a> Setting<'a> {
     {
         Setting {
             scope,
+            inside: None,
             sequent,
             variables: Variables::Absent,
             language: Language::Operator,
         }
     }
 
-    /// The setting of an expression of a program with these variables.
+    /// The setting of an expression of a program of this module, which is typed so far, with these variables.
     pub fn program(
         scope: &'a Scope,
+        module: &'a Module,
         sequent: &'a Sequent,
         variables: &'a [TypedName],
     ) -> Setting<'a>
-        ensures { environment result ≡ program scope.now sequent.now variables.now }
+        ensures { environment result ≡ program scope.now «module».now sequent.now variables.now }
     {
         Setting {
             scope,
+            inside: Some(module),
             sequent,
             variables: Variables::Own(Borrowed { list: variables }),
             language: Language::Program,
@@ -199,6 +207,7 @@ impl<'a> Setting<'a> {
     {
         Setting {
             scope: self.scope,
+            inside: self.inside,
             sequent: self.sequent,
             variables: self.variables.borrow(),
             language: self.language.sampled(),

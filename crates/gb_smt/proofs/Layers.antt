@@ -1,10 +1,12 @@
 -- What the folds make of a term, from what they make of its parts.
-use Rattle.std.proofs.Common.{◌≡◌, Bool, ◌||◌, Option, List, [], ◌∷◌, ◌++◌, map, refl, ap, ◌∙◌}
+use Rattle.std.proofs.Common.{◌≡◌, Bool, ◌||◌, Option, List, [], ◌∷◌, ◌++◌, map, refl, sym, ap, ◌∙◌}
 use Rattle.std.specs.List.{list_any, flat_map}
 use Rattle.gb_terms.specs.declared.op.Read.{Read}
-use Rattle.gb_terms.specs.declared.term.Term.{Term}
-use Rattle.gb_terms.specs.declared.term.Head.TheViews.{out-Term}
+use Rattle.gb_terms.specs.declared.term.Term.{Term, Term', Row_of-Term, end_of-Term, more_of-Term, end_of-Head, more_of-Head, items-the_row-Term, items_shown-the_row-Term-0}
+use Rattle.gb_terms.specs.declared.term.Head.TheViews.{out-Term, outs-struct-Term}
 use Rattle.gb_terms.specs.declared.term.Head.TheFolds.{fold_out-Term}
+use Rattle.gb_meaning.specs.Written.{type_of}
+use Rattle.gb_typed.specs.Typing.{types_of}
 use Rattle.gb_smt.specs.Leaves as leaves
 use Rattle.gb_smt.specs.Variables as vars
 use Rattle.gb_smt.specs.Width as width
@@ -27,7 +29,17 @@ variables_out t =
     fold_out-Term (Option Read) (Unit {0}) (Unit {0}) (Unit {0}) vars.Vars vars.at_head vars.at_instr vars.at_subject vars.at_cmd vars.at_term t
     ∙ ap (vars.of_read (vars.head_read (out-Term t).head) (out-Term t).ty) (joined vars.term_variables (out-Term t).args)
 
-pub bound_out : (t : Term) → width.bound_types t ≡ width.head_bound_types (out-Term t).head ++ flat_map width.bound_types (out-Term t).args
-bound_out t =
-    fold_out-Term width.Tys width.Tys width.Tys width.Tys width.Tys width.at_head width.at_instr width.at_subject width.at_cmd width.at_term t
-    ∙ ap (λ l. width.head_bound_types (out-Term t).head ++ l) (joined width.bound_types (out-Term t).args)
+types_row : (n : _) (r : Row_of-Term n) → types_of r ≡ map type_of (items-the_row-Term n r)
+types_row n end_of-Term = refl
+types_row n (more_of-Term t r) = ap (λ l. type_of t ∷ l) (types_row _ r)
+
+bound_row : (n : _) (r : Row_of-Term n) → width.all_bound r ≡ flat_map width.bound_types (items-the_row-Term n r)
+bound_row n end_of-Term = refl
+bound_row n (more_of-Term t r) = ap (λ l. width.bound_types t ++ l) (bound_row _ r)
+
+pub bound_out : (t : Term) → width.bound_types t ≡ width.bound_by (out-Term t).head (map type_of (out-Term t).args) ++ flat_map width.bound_types (out-Term t).args
+unfolding Rattle.gb_terms.specs.declared.term.Head.TheBlock.shown-the_row-Head-2 denote.Hole.Carrier.shown
+bound_out (Term' p (more_of-Head h end_of-Head) n r ty) =
+    (λ i. width.bound_by h (types_row _ r i) ++ bound_row _ r i)
+    ∙ ap (λ l. width.bound_by h (map type_of l) ++ flat_map width.bound_types l) (sym (items_shown-the_row-Term-0 n r))
+    ∙ sym (ap (λ z. width.bound_by z.head (map type_of z.args) ++ flat_map width.bound_types z.args) (outs-struct-Term p (more_of-Head h end_of-Head) n r ty))

@@ -2,12 +2,12 @@
 use Rattle.std.proofs.Common.{◌≡◌, ℕ, ◌+◌, ◌*◌, ◌^◌, ◌<◌, Bool, true, false, ◌&&◌, cond, nat_lt, min, List, [], ◌∷◌, ◌++◌, length, get_or, map, take, refl, sym, ap, ◌∙◌, subst, append-nil, mul_assoc, arith}
 use Rattle.std.specs.List.{flat_map, list_all}
 use Rattle.std.proofs.Math.Nat.{min-eq_left}
-use Rattle.std.proofs.lemmas.Bool.{and_parts, ltb-true, lt-ltb}
+use Rattle.std.proofs.lemmas.Bool.{false≢true, and_parts, ltb-true, lt-ltb}
 use Rattle.std.proofs.lemmas.Bool.Decides.{nat_tests}
 use Rattle.std.proofs.lemmas.List.{map_more, take_more}
 use Rattle.std.proofs.lemmas.List.Concat.{flat_map-append}
 use Rattle.gb_core.specs.declared.ty.Ty.{Ty}
-use Rattle.gb_core.specs.declared.ty.Ty.TheVariants.{Tuple, rolls-Tuple}
+use Rattle.gb_core.specs.declared.ty.Ty.TheVariants.{Distr, Mod, Tuple, rolls-Mod, rolls-Tuple}
 use Rattle.gb_core.specs.declared.ty.Ty.TheOpen as t
 use Rattle.gb_core.specs.declared.ty.Ty.TheFolds.{fold-roll-Ty}
 use Rattle.gb_core.specs.declared.value.Card.{Card}
@@ -16,21 +16,21 @@ use Rattle.gb_types.specs.Numbering.{tuples}
 use Rattle.gb_types.specs.Types.{all_true, finite_step, is_finite, numbering, size_of, card_of, IsPlaceBelow}
 use Rattle.gb_types.proofs.Capped.{min_times}
 use Rattle.gb_types.proofs.Equations.{numbering-Tuple}
-use Rattle.gb_terms.specs.declared.term.Term.{Term, Term', Row_of-Term, end_of-Term, more_of-Term, end_of-Head, more_of-Head, items-the_row-Term, items_shown-the_row-Term-0}
+use Rattle.gb_terms.specs.declared.term.Term.{Term, Term', Row_of-Term, end_of-Term, more_of-Term, end_of-Head, more_of-Head}
 use Rattle.gb_terms.specs.declared.term.Head.{Head}
 use Rattle.gb_terms.specs.declared.term.Head.TheVariants as head
-use Rattle.gb_terms.specs.declared.term.Head.TheOpen as layer
-use Rattle.gb_terms.specs.declared.term.Head.TheViews.{the_lemmas, out-Term, outs-struct-Term, out-Head, roll-Head, roll-out-Head}
-use Rattle.gb_terms.specs.declared.term.Head.TheFolds.{map-Head, fold-Instr, fold-Subject, fold-Cmd, fold_out-Head}
-use Rattle.gb_terms.specs.declared.term.Instr.{Instr}
-use Rattle.gb_terms.specs.declared.term.Subject.{Subject}
-use Rattle.gb_terms.specs.declared.term.Cmd.{Cmd}
+use Rattle.gb_terms.specs.declared.term.Head.TheViews.{out-Term}
+use Rattle.gb_meaning.specs.Operators.{outcome_type}
+use Rattle.gb_meaning.specs.Written.{type_of}
+use Rattle.gb_typed.specs.Typing.{types_of}
+use Rattle.gb_typed.proofs.Constructors.{distribution_is}
 use Rattle.gb_eval.specs.Known.{is_known, all_known, is_head_known, are_true}
 use Rattle.gb_smt.specs.declared.claims.Claim.{Claim}
 use Rattle.gb_smt.specs.declared.variables.Variable.{Variable}
 use Rattle.gb_smt.specs.Variables.{Vars}
-use Rattle.gb_smt.specs.Width.{at_head, at_instr, at_subject, at_cmd, at_term, bound_types, head_bound_types, types_of, assignments_of, is_known_claim}
+use Rattle.gb_smt.specs.Width.{bound_by, bound_types, all_bound, types_in, assignments_of, is_known_claim}
 use Rattle.gb_smt.proofs.Layers.{bound_out}
+use mathlib.Core.Former.{Count}
 
 -- the number of tuples of values of types
 abbrev pub product : List Ty → ℕ
@@ -63,10 +63,10 @@ product_bound_more ts i t x y z l e p q r =
     ∙ ap (λ u. min (product (flat_map bound_types (take i ts ++ u ∷ []))) (2 ^ 63)) e
     ∙ ap (λ us. min (product (flat_map bound_types us)) (2 ^ 63)) (sym (take_more ts i t l))
 
-pub product_bound : (t : Term) (h : Head) (args : List Term) (x y z : ℕ) → h ≡ (out-Term t).head → args ≡ (out-Term t).args → x ≡ min (product (head_bound_types h)) (2 ^ 63) → y ≡ min (product (flat_map bound_types args)) (2 ^ 63) → z ≡ min (x * y) (2 ^ 63) → z ≡ min (product (bound_types t)) (2 ^ 63)
+pub product_bound : (t : Term) (h : Head) (args : List Term) (x y z : ℕ) → h ≡ (out-Term t).head → args ≡ (out-Term t).args → x ≡ min (product (bound_by h (map type_of args))) (2 ^ 63) → y ≡ min (product (flat_map bound_types args)) (2 ^ 63) → z ≡ min (x * y) (2 ^ 63) → z ≡ min (product (bound_types t)) (2 ^ 63)
 product_bound t h args x y z p q a b r =
-    product_both (head_bound_types h) (flat_map bound_types args) x y z a b r
-    ∙ (λ i. min (product (head_bound_types (p i) ++ flat_map bound_types (q i))) (2 ^ 63))
+    product_both (bound_by h (map type_of args)) (flat_map bound_types args) x y z a b r
+    ∙ (λ i. min (product (bound_by (p i) (map type_of (q i)) ++ flat_map bound_types (q i))) (2 ^ 63))
     ∙ ap (λ us. min (product us) (2 ^ 63)) (sym (bound_out t))
 
 -- the number of the values of a tuple, from what its types are
@@ -119,6 +119,10 @@ counted ts at h =
 pub place_below : (ty : Ty) (at : ℕ) → is_finite ty ≡ true → size_of ty < 2 ^ 63 → at < size_of ty → IsPlaceBelow at (card_of ty)
 place_below ty at f l h = subst (IsPlaceBelow at) (sym (λ i. cond (f i && lt-ltb (size_of ty) (2 ^ 63) l i) (Exact (size_of ty)) Above)) h
 
+-- how many outcomes a distribution may have
+pub outcomes_size : (u v w : Ty) (n : ℕ) → u ≡ Distr v → w ≡ v → n ≡ min (size_of w) (2 ^ 63) → n ≡ min (size_of (outcome_type u)) (2 ^ 63)
+outcomes_size u v w n e f g = g ∙ ap (λ z. min (size_of z) (2 ^ 63)) (f ∙ sym (ap outcome_type (e ∙ distribution_is v)))
+
 -- in a term that evaluation knows, the types of bound variables are finite
 
 finite-append : (xs ys : List Ty) → are_finite (xs ++ ys) ≡ (are_finite xs && are_finite ys)
@@ -135,48 +139,31 @@ finite_both xs ys p q = finite-append xs ys ∙ (λ i. p i && q i)
 one_finite : (n : Bool) (ty : Ty) → (n && is_finite ty) ≡ true → are_finite (ty ∷ []) ≡ true
 one_finite n ty h = ap (λ b. b && true) (and_parts n (is_finite ty) h).1
 
--- the types of the variables that a head binds, by its constructors
-abbrev bound_by : Head → List Ty
-bound_by (head.All ty) = ty ∷ []
-bound_by (head.Some ty) = ty ∷ []
-bound_by _ = []
+finite-Mod : (q : ℕ) → are_finite (Mod q ∷ []) ≡ true
+finite-Mod q = ap (λ b. b && true) (ap is_finite (sym (rolls-Mod q)) ∙ fold-roll-Ty Bool finite_step (t.Mod q))
 
-bound_layer : (f : Head → List Ty) (g : Instr → List Ty) (u : Subject → List Ty) (c : Cmd → List Ty) (b : Term → List Ty) (x : layer.Head-F Head Instr Subject Cmd Term) →
-    at_head (map-Head _ _ _ _ _ (List Ty) (List Ty) (List Ty) (List Ty) (List Ty) f g u c b x) ≡ bound_by (roll-Head x)
-bound_layer f g u c b (layer.All ty) = simp the_lemmas refl
-bound_layer f g u c b (layer.Some ty) = simp the_lemmas refl
-bound_layer f g u c b _ = simp the_lemmas refl
-
-bound_is : (h : Head) → head_bound_types h ≡ bound_by h
-bound_is h =
-    fold_out-Head (List Ty) (List Ty) (List Ty) (List Ty) (List Ty) at_head at_instr at_subject at_cmd at_term h
-    ∙ bound_layer head_bound_types (fold-Instr (List Ty) (List Ty) (List Ty) (List Ty) (List Ty) at_head at_instr at_subject at_cmd at_term) (fold-Subject (List Ty) (List Ty) (List Ty) (List Ty) (List Ty) at_head at_instr at_subject at_cmd at_term) (fold-Cmd (List Ty) (List Ty) (List Ty) (List Ty) (List Ty) at_head at_instr at_subject at_cmd at_term) bound_types (out-Head h)
-    ∙ ap bound_by (roll-out-Head h)
-
-bound_by_finite : (h : Head) (n : ℕ) → is_head_known h n ≡ true → are_finite (bound_by h) ≡ true
-bound_by_finite (head.All ty) n k = one_finite _ ty k
-bound_by_finite (head.Some ty) n k = one_finite _ ty k
-bound_by_finite _ n k = refl
-
-head_finite : (h : Head) (n : ℕ) → is_head_known h n ≡ true → are_finite (head_bound_types h) ≡ true
-head_finite h n k = ap are_finite (bound_is h) ∙ bound_by_finite h n k
+head_finite : (h : Head) (us : List Ty) → is_head_known h us ≡ true → are_finite (bound_by h us) ≡ true
+head_finite (head.All ty) us k = one_finite _ ty k
+head_finite (head.Some ty) us k = one_finite _ ty k
+head_finite (head.Sum q) us k = finite-Mod q
+head_finite head.Mu (d ∷ a ∷ []) k = one_finite _ (outcome_type d) k
+head_finite head.Restrict (d ∷ a ∷ []) k = one_finite _ (outcome_type d) k
+head_finite head.Mu us k = absurd (false≢true k)
+head_finite head.Restrict us k = absurd (false≢true k)
+head_finite head.Map us k = absurd (false≢true k)
+head_finite _ us k = refl
 
 mutual
-  unfolding Rattle.gb_terms.specs.declared.term.Head.TheBlock.shown-the_row-Head-2 denote.Hole.Carrier.shown
-
   term_finite : (t : Term) → is_known t ≡ true → are_finite (bound_types t) ≡ true
   term_finite (Term' p (more_of-Head h end_of-Head) n r ty) k =
-      let q = and_parts (is_head_known h _) (are_true (all_known r)) k in
-      ap are_finite (bound_out (Term' p (more_of-Head h end_of-Head) n r ty))
-      ∙ ap (λ z. are_finite (head_bound_types z.head ++ flat_map bound_types z.args)) (outs-struct-Term p (more_of-Head h end_of-Head) n r ty)
-      ∙ ap (λ l. are_finite (head_bound_types h ++ flat_map bound_types l)) (items_shown-the_row-Term-0 n r)
-      ∙ finite_both (head_bound_types h) (flat_map bound_types (items-the_row-Term _ r)) (head_finite h _ q.0) (row_finite _ r q.1)
+      let q = and_parts (is_head_known h (types_of r)) (are_true (all_known r)) k in
+      finite_both (bound_by h (types_of r)) (all_bound r) (head_finite h (types_of r) q.0) (row_finite r q.1)
 
-  row_finite : (n : _) (r : Row_of-Term n) → are_true (all_known r) ≡ true → are_finite (flat_map bound_types (items-the_row-Term n r)) ≡ true
-  row_finite n end_of-Term k = refl
-  row_finite n (more_of-Term t r) k =
+  row_finite : {n : Count} (r : Row_of-Term n) → are_true (all_known r) ≡ true → are_finite (all_bound r) ≡ true
+  row_finite end_of-Term k = refl
+  row_finite (more_of-Term t r) k =
       let q = and_parts (is_known t) (are_true (all_known r)) k in
-      finite_both (bound_types t) (flat_map bound_types (items-the_row-Term _ r)) (term_finite t q.0) (row_finite _ r q.1)
+      finite_both (bound_types t) (all_bound r) (term_finite t q.0) (row_finite r q.1)
 
 terms_finite : (ts : List Term) → list_all is_known ts ≡ true → are_finite (flat_map bound_types ts) ≡ true
 terms_finite [] k = refl
@@ -190,9 +177,9 @@ card_of_claim c hyps b v h u m n k e f p q r s z =
     let known = and_parts (list_all is_known c.hyps) (is_known c.conclusion) k in
     let bound = flat_map bound_types c.hyps ++ bound_types c.conclusion in
     let bound_finite : are_finite bound ≡ true = finite_both (flat_map bound_types c.hyps) (bound_types c.conclusion) (terms_finite c.hyps known.0) (term_finite c.conclusion known.1) in
-    let finite : b ≡ are_finite (types_of c) =
+    let finite : b ≡ are_finite (types_in c) =
     f ∙ sym (and_true (are_finite (map (λ w. w.ty) c.variables))) ∙ sym (ap (λ x. are_finite (map (λ w. w.ty) c.variables) && x) bound_finite) ∙ sym (finite-append (map (λ w. w.ty) c.variables) bound) in
-    card_of_types (types_of c) b n finite
+    card_of_types (types_in c) b n finite
     (product_both (map (λ w. w.ty) c.variables) bound v m n p (product_both (flat_map bound_types c.hyps) (bound_types c.conclusion) h u m (q ∙ ap (λ l. min (product (flat_map bound_types l)) (2 ^ 63)) e) r s) z)
   where
     and_true : (x : Bool) → (x && true) ≡ x

@@ -2,51 +2,53 @@
 use Rattle.std.specs.Prelude.{◌^◌, Bool, false, ◌&&◌, if◌then◌else◌, nat_le, max, List, [], ◌∷◌, ◌++◌, map}
 use Rattle.std.specs.List.{list_all, flat_map}
 use Rattle.gb_core.specs.declared.ty.Ty.{Ty}
-use Rattle.gb_core.specs.declared.ty.Ty.TheVariants.{Tuple}
+use Rattle.gb_core.specs.declared.ty.Ty.TheVariants.{Mod, Tuple}
 use Rattle.gb_core.specs.declared.value.Card.{Card}
 use Rattle.gb_core.specs.declared.value.Card.TheVariants.{Exact, Above}
 use Rattle.gb_types.specs.Types.{card_of}
-use Rattle.gb_terms.specs.declared.term.Term.{Term}
+use Rattle.gb_terms.specs.declared.term.Term.{Term, Term', Row_of-Term, end_of-Term, more_of-Term, end_of-Head, more_of-Head}
 use Rattle.gb_terms.specs.declared.term.Head.{Head}
-use Rattle.gb_terms.specs.declared.term.Head.TheOpen as layer
-use Rattle.gb_terms.specs.declared.term.Head.TheFolds.{fold-Term, fold-Head}
+use Rattle.gb_terms.specs.declared.term.Head.TheVariants as head
+use Rattle.gb_meaning.specs.Operators.{outcome_type}
+use Rattle.gb_typed.specs.Typing.{types_of}
 use Rattle.gb_eval.specs.Known.{is_known}
 use Rattle.gb_smt.specs.declared.claims.Claim.{Claim}
 
 abbrev pub Tys : Type 0
 Tys = List Ty
 
-abbrev pub at_head : layer.Head-F Tys Tys Tys Tys Tys → Tys
-at_head (layer.All ty) = ty ∷ []
-at_head (layer.Some ty) = ty ∷ []
-at_head _ = []
+-- that of the outcomes of the first of these types, which is of a distribution
+abbrev pub of_outcomes : Tys → Tys
+of_outcomes [] = []
+of_outcomes (d ∷ us) = outcome_type d ∷ []
 
-abbrev pub at_instr : layer.Instr-F Tys Tys Tys Tys Tys → Tys
-at_instr _ = []
+-- The type of the variable that a head binds, where its arguments have these types. The variable of a sum is a number below
+-- its bound.
+abbrev pub bound_by : Head → Tys → Tys
+bound_by (head.All ty) us = ty ∷ []
+bound_by (head.Some ty) us = ty ∷ []
+bound_by (head.Sum q) us = Mod q ∷ []
+bound_by head.Mu us = of_outcomes us
+bound_by head.Map us = of_outcomes us
+bound_by head.Restrict us = of_outcomes us
+bound_by _ us = []
 
-abbrev pub at_subject : layer.Subject-F Tys Tys Tys Tys Tys → Tys
-at_subject _ = []
+abbrev mutual
+  -- the types of the variables that are bound in a term
+  pub bound_types : Term → Tys
+  bound_types (Term' p (more_of-Head h end_of-Head) n ts ty) = bound_by h (types_of ts) ++ all_bound ts
 
-abbrev pub at_cmd : layer.Cmd-F Tys Tys Tys Tys Tys → Tys
-at_cmd _ = []
-
-abbrev pub at_term : layer.Term-F Tys Tys Tys Tys Tys → Tys
-at_term t = t.head ++ flat_map (λ tys. tys) t.args
-
--- the types of the variables that are bound in a term
-abbrev pub bound_types : Term → Tys
-bound_types = fold-Term Tys Tys Tys Tys Tys at_head at_instr at_subject at_cmd at_term
-
-abbrev pub head_bound_types : Head → Tys
-head_bound_types = fold-Head Tys Tys Tys Tys Tys at_head at_instr at_subject at_cmd at_term
+  pub all_bound : {n : _} → Row_of-Term n → Tys
+  all_bound end_of-Term = []
+  all_bound (more_of-Term t ts) = bound_types t ++ all_bound ts
 
 -- the types of the variables of a claim, and of those bound in it
-abbrev pub types_of : Claim → Tys
-types_of c = map (λ v. v.ty) c.variables ++ (flat_map bound_types c.hyps ++ bound_types c.conclusion)
+abbrev pub types_in : Claim → Tys
+types_in c = map (λ v. v.ty) c.variables ++ (flat_map bound_types c.hyps ++ bound_types c.conclusion)
 
 -- the product of their sizes
 abbrev pub assignments_of : Claim → Card
-assignments_of c = card_of (Tuple (types_of c))
+assignments_of c = card_of (Tuple (types_in c))
 
 -- evaluation knows each part of the claim
 abbrev pub is_known_claim : Claim → Bool

@@ -5,11 +5,14 @@ ghost use Rattle.std.specs.List.{flat_map};
 ghost use Rattle.gb_core.specs.declared.ty.Ty.TheVariants.{Tuple};
 ghost use Rattle.gb_core.specs.declared.value.Card.TheVariants.{Exact, Above};
 ghost use Rattle.gb_types.specs.Numbering.{tuples};
-ghost use Rattle.gb_types.specs.Types.{all_true, is_finite, numbering, card_of};
-ghost use Rattle.gb_smt.specs.Width.{head_bound_types, bound_types, is_known_claim, assignments_of, width_of, is_tried, greater};
+ghost use Rattle.gb_types.specs.Types.{all_true, is_finite, numbering, size_of, card_of};
+ghost use Rattle.gb_meaning.specs.Operators.{outcome_type};
+ghost use Rattle.gb_meaning.specs.Written.{type_of};
+ghost use Rattle.gb_smt.specs.Width.{bound_by, bound_types, is_known_claim, assignments_of, width_of, is_tried, greater};
 
 use crate::claims::Claim;
 use crate::variables::Variable;
+use gb_core::ty::Ty;
 use gb_core::value::Card;
 use gb_eval::known::{are_known, is_known};
 use gb_terms::term::{Head, Term};
@@ -27,12 +30,27 @@ fn times(a: u64, b: u64) -> u64
     a.saturating_mul(b).min(MANY)
 }
 
+/// The size of the type of the outcomes of a distribution, up to `MANY`.
+fn size_of_outcomes(ty: &Ty) -> u64
+    ensures { result ≡ min (size_of (outcome_type ty.now)) (2 ^ 63) }
+{
+    match ty {
+        Ty::Distr(outcomes) => size(outcomes.get()),
+        _ => 1,
+    }
+}
+
 /// The size of the type of the variable that a head binds, up to `MANY`, and 1 where it binds none.
-fn bound_size_of_head(head: &Head) -> u64
-    ensures { result ≡ min (tuples (map numbering (head_bound_types head.now))) (2 ^ 63) }
+fn bound_size_of_head(head: &Head, args: &[Term]) -> u64
+    ensures { result ≡ min (tuples (map numbering (bound_by head.now (map type_of args.now)))) (2 ^ 63) }
 {
     match head {
         Head::All(ty) | Head::Some(ty) => size(ty.get()),
+        Head::Sum(count) => (*count).min(u128::from(MANY)) as u64,
+        Head::Mu | Head::Map | Head::Restrict => match args {
+            [d, ..] => size_of_outcomes(d.ty.get()),
+            [] => 1,
+        },
         _ => 1,
     }
 }
@@ -42,9 +60,10 @@ fn bound_size_of_head(head: &Head) -> u64
 fn bound_size(t: &Term) -> u64
     ensures { result ≡ min (tuples (map numbering (bound_types t.now))) (2 ^ 63) }
 {
+    let args = t.args.as_slice();
     times(
-        bound_size_of_head(t.head.get()),
-        bound_size_of_all(t.args.as_slice()),
+        bound_size_of_head(t.head.get(), args),
+        bound_size_of_all(args),
     )
 }
 

@@ -1,5 +1,5 @@
 -- Typed forms and formulas fit a reading that gives what they read its type in their context.
-use Rattle.std.proofs.Common.{◌≡◌, ℕ, zero, suc, Bool, true, false, if◌then◌else◌, Option, Some, None, [], ◌∷◌, refl, ap, sym, ◌∙◌, subst}
+use Rattle.std.proofs.Common.{◌≡◌, ℕ, zero, suc, Bool, true, false, if◌then◌else◌, Option, Some, None, List, [], ◌∷◌, refl, ap, sym, ◌∙◌, subst}
 use Rattle.gb_core.specs.declared.ty.Ty.{Ty}
 use Rattle.gb_core.specs.declared.ty.Ty.TheVariants as ty
 use Rattle.gb_core.specs.declared.value.Value.{Value}
@@ -18,21 +18,22 @@ use Rattle.gb_meaning.specs.Memory.{Memory, read}
 use Rattle.gb_meaning.specs.Setting.{Setting}
 use Rattle.gb_meaning.specs.Terms.{denominators}
 use Rattle.gb_meaning.specs.Values.{Types, first, has, fit}
-use Rattle.gb_meaning.specs.Written.{local_type}
+use Rattle.gb_meaning.specs.Operators.{outcome_type}
+use Rattle.gb_meaning.specs.Written.{local_type, type_of}
 use Rattle.gb_typed.specs.Finite.{IsFinite, IsInhabited}
 use Rattle.gb_typed.specs.Operators.{IsNoDistribution, IsOperator}
 use Rattle.gb_typed.specs.Typing.{Binder, types_of, IsHead}
-use Rattle.gb_typed.specs.Typing.Binder.{value, memory}
+use Rattle.gb_typed.specs.Typing.Binder.{value, index, memory}
 use Rattle.gb_typed.proofs.Denominators.{denominator_one}
 use Rattle.gb_typed.proofs.Sizes.{first_has, glob_in}
 use Rattle.gb_holds.specs.Truth.{last_has_module, Choice}
 use Rattle.gb_typing.specs.Context.{Frame, Context, erased, frame_of, within}
-use Rattle.gb_typing.specs.Typing.{IsIn, IsNamed, IsTyped, AreTyped}
+use Rattle.gb_typing.specs.Typing.{IsIn, IsNamed, last, IsTyped, AreTyped}
 use Rattle.gb_typing.specs.Formulas.{IsFirstForm, IsFormula, IsLastFormula}
 use Rattle.gb_typing.specs.Sequents.{IsConclusion}
 use Rattle.gb_typing.proofs.Erased.{erased_typed}
 use Rattle.gb_smt_laws.specs.Reading.{Variables, no_variables, Reading, IsReadAt, inner, AreHeld}
-use Rattle.gb_smt_laws.specs.Fits.{IsOfValues, Fits, AllFit, OnlyFits}
+use Rattle.gb_smt_laws.specs.Fits.{IsOfValues, Fits, AllFit, OnlyFits, BothFit}
 use Rattle.gb_smt_laws.proofs.Equations.{none_some, some_some}
 use mathlib.Core.Former.{Count}
 
@@ -156,6 +157,13 @@ module _ (g : Setting) (inhabited : IsInhabited g.types) where
         only_fits c c (within c (value v) None) (inner no_variables T) (agrees_under c T a (value v) None) ts w.3
     fits c T a (Term' p (more_of-Head (head.Some v) end_of-Head) n ts u) w =
         only_fits c c (within c (value v) None) (inner no_variables T) (agrees_under c T a (value v) None) ts w.3
+    fits c T a (Term' p (more_of-Head (head.User v) end_of-Head) n ts u) w = all_fit c T a ts w.3
+    fits c T a (Term' p (more_of-Head (head.Weights ps) end_of-Head) n ts u) w = all_fit c T a ts w.3
+    fits c T a (Term' p (more_of-Head (head.Sum q) end_of-Head) n ts u) w =
+        only_fits c c (within c (index q) None) (inner no_variables T) (agrees_under c T a (index q) None) ts w.3
+    fits c T a (Term' p (more_of-Head head.Mu end_of-Head) n ts u) w = outcomes_fit c T a (last c w.2 head.Mu) (λ v vs. refl) ts w.3
+    fits c T a (Term' p (more_of-Head head.Map end_of-Head) n ts u) w = outcomes_fit c T a (last c w.2 head.Map) (λ v vs. refl) ts w.3
+    fits c T a (Term' p (more_of-Head head.Restrict end_of-Head) n ts u) w = outcomes_fit c T a (last c w.2 head.Restrict) (λ v vs. refl) ts w.3
     fits c T a (Term' p (more_of-Head head.AllMemory end_of-Head) n ts u) w = (
       variables_in g c (Some w.2),
       held c (Some w.2),
@@ -172,6 +180,18 @@ module _ (g : Setting) (inhabited : IsInhabited g.types) where
     only_fits a b d T k end_of-Term w = tt
     only_fits a b d T k (more_of-Term t end_of-Term) w = fits d T k t w
     only_fits a b d T k (more_of-Term t (more_of-Term v ts)) w = tt
+
+    -- a distribution, and what is said of its outcomes
+    outcomes_fit : {n : Count} (c : Context) (T : Reading) → Agrees c T → (d : List Ty → Context) →
+        ((v : Ty) (vs : List Ty) → d (v ∷ vs) ≡ within c (value (outcome_type v)) None) → (ts : Row_of-Term n) → AreTyped c c (d (types_of ts)) ts → BothFit g T ts
+    outcomes_fit c T a d e end_of-Term w = tt
+    outcomes_fit c T a d e (more_of-Term t end_of-Term) w = tt
+    outcomes_fit c T a d e (more_of-Term t (more_of-Term v end_of-Term)) w = (
+      fits c T a t w.0,
+      fits (within c (value (outcome_type (type_of t))) None) (inner no_variables T) (agrees_under c T a (value (outcome_type (type_of t))) None) v
+          (subst (λ b. IsTyped b v) (e (type_of t) (type_of v ∷ [])) w.1),
+    )
+    outcomes_fit c T a d e (more_of-Term t (more_of-Term v (more_of-Term z ts))) w = tt
 
   -- Formulas.
   mutual

@@ -16,15 +16,18 @@ use Rattle.gb_meaning.specs.State.Binding.{program}
 use Rattle.gb_meaning.specs.Terms.{Speaks, read_at, val, parts, part_of, denominator, denominators, denominator_of}
 use Rattle.gb_meaning.specs.Commands.{terms_in}
 use Rattle.gb_laws.proofs.Nodes.{val_node, denominator_node}
-use Rattle.gb_changes.proofs.Heads.{Moved, Here, Under, inner_same}
+use Rattle.gb_changes.specs.Formed.{HasArguments}
+use Rattle.gb_changes.proofs.Heads.{Moved, Here, Under, IsInner, Related, inner_same}
+use Rattle.gb_changes.proofs.Raising.{has_parts}
 use Rattle.gb_changes.proofs.Changed.{term_changed_is}
 use Rattle.gb_changes.proofs.Changing.{arguments_of}
-use Rattle.gb_smt_laws.specs.Simple.{is_simple, all_simple, is_simple_at, only}
+use Rattle.gb_smt_laws.specs.Simple.{is_simple, all_simple, is_simple_at, only, both}
 use Rattle.gb_smt_laws.specs.Reading.{no_variables, Reading, IsReadAt, inner}
-use Rattle.gb_smt_laws.specs.Fits.{IsOfValues, Fits, AllFit, OnlyFits}
-use Rattle.gb_smt_laws.proofs.Nodes.{OnlyFit, simple_node, literal_fits, whole_fits, bound_fits, read_fits, operator_fits, each_fits, some_fits}
+use Rattle.gb_smt_laws.specs.Fits.{IsOfValues, Fits, AllFit, OnlyFits, BothFit}
+use Rattle.gb_smt_laws.proofs.Nodes.{OnlyFit, BothAreFit, only_row, both_row, fits_row, two_simple, simple_node, node_fits, literal_fits, whole_fits, bound_fits, read_fits, operator_fits}
 use Rattle.gb_smt_laws.proofs.Led.{OnFound, IsPutFor, Leading, leading_under}
-use mathlib.Core.Former.{Count}
+use Rattle.sqlite_items.specs.formers.items.Items.{the_former}
+use mathlib.Core.Former.{Count, arity, this}
 
 abbrev pub changed_row : {n : Count} → Changes → Row_of-Term n → List Term
 changed_row cs ts = seen_by cs cs (map term_changed (terms_in ts))
@@ -53,15 +56,15 @@ mutual
   simple_before (Term' p (more_of-Head (head.Hoare c) end_of-Head) n ts ty) cs b = never (term_changed (Term' p (more_of-Head (head.Hoare c) end_of-Head) n ts ty) cs) (head.Hoare (subject_changed c cs)) (arguments_of (head.Hoare c) cs ts) ty _ (term_changed_is (head.Hoare c) n ts ty cs) b refl
   simple_before (Term' p (more_of-Head (head.Phoare c r) end_of-Head) n ts ty) cs b = never (term_changed (Term' p (more_of-Head (head.Phoare c r) end_of-Head) n ts ty) cs) (head.Phoare (subject_changed c cs) r) (arguments_of (head.Phoare c r) cs ts) ty _ (term_changed_is (head.Phoare c r) n ts ty cs) b refl
   simple_before (Term' p (more_of-Head (head.Equiv c d) end_of-Head) n ts ty) cs b = never (term_changed (Term' p (more_of-Head (head.Equiv c d) end_of-Head) n ts ty) cs) (head.Equiv (subject_changed c cs) (subject_changed d cs)) (arguments_of (head.Equiv c d) cs ts) ty _ (term_changed_is (head.Equiv c d) n ts ty cs) b refl
-  simple_before (Term' p (more_of-Head (head.User v) end_of-Head) n ts ty) cs b = never (term_changed (Term' p (more_of-Head (head.User v) end_of-Head) n ts ty) cs) (head.User v) (arguments_of (head.User v) cs ts) ty _ (term_changed_is (head.User v) n ts ty cs) b refl
+  simple_before (Term' p (more_of-Head (head.User v) end_of-Head) n ts ty) cs b = row_before ts cs (at_node (term_changed (Term' p (more_of-Head (head.User v) end_of-Head) n ts ty) cs) (head.User v) (changed_row cs ts) ty (term_changed_is (head.User v) n ts ty cs) b)
   simple_before (Term' p (more_of-Head (head.AllModule v) end_of-Head) n ts ty) cs b = never (term_changed (Term' p (more_of-Head (head.AllModule v) end_of-Head) n ts ty) cs) (head.AllModule v) (arguments_of (head.AllModule v) cs ts) ty _ (term_changed_is (head.AllModule v) n ts ty cs) b refl
-  simple_before (Term' p (more_of-Head (head.Sum v) end_of-Head) n ts ty) cs b = never (term_changed (Term' p (more_of-Head (head.Sum v) end_of-Head) n ts ty) cs) (head.Sum v) (arguments_of (head.Sum v) cs ts) ty _ (term_changed_is (head.Sum v) n ts ty cs) b refl
-  simple_before (Term' p (more_of-Head (head.Weights v) end_of-Head) n ts ty) cs b = never (term_changed (Term' p (more_of-Head (head.Weights v) end_of-Head) n ts ty) cs) (head.Weights v) (arguments_of (head.Weights v) cs ts) ty _ (term_changed_is (head.Weights v) n ts ty cs) b refl
+  simple_before (Term' p (more_of-Head (head.Sum v) end_of-Head) n ts ty) cs b = only_before ts cs (at_node (term_changed (Term' p (more_of-Head (head.Sum v) end_of-Head) n ts ty) cs) (head.Sum v) (changed_under cs ts) ty (term_changed_is (head.Sum v) n ts ty cs) b)
+  simple_before (Term' p (more_of-Head (head.Weights v) end_of-Head) n ts ty) cs b = row_before ts cs (at_node (term_changed (Term' p (more_of-Head (head.Weights v) end_of-Head) n ts ty) cs) (head.Weights v) (changed_row cs ts) ty (term_changed_is (head.Weights v) n ts ty cs) b)
   simple_before (Term' p (more_of-Head head.AllMemory end_of-Head) n ts ty) cs b = never (term_changed (Term' p (more_of-Head head.AllMemory end_of-Head) n ts ty) cs) head.AllMemory (arguments_of head.AllMemory cs ts) ty _ (term_changed_is head.AllMemory n ts ty cs) b refl
   simple_before (Term' p (more_of-Head head.SomeMemory end_of-Head) n ts ty) cs b = never (term_changed (Term' p (more_of-Head head.SomeMemory end_of-Head) n ts ty) cs) head.SomeMemory (arguments_of head.SomeMemory cs ts) ty _ (term_changed_is head.SomeMemory n ts ty cs) b refl
-  simple_before (Term' p (more_of-Head head.Mu end_of-Head) n ts ty) cs b = never (term_changed (Term' p (more_of-Head head.Mu end_of-Head) n ts ty) cs) head.Mu (arguments_of head.Mu cs ts) ty _ (term_changed_is head.Mu n ts ty cs) b refl
-  simple_before (Term' p (more_of-Head head.Map end_of-Head) n ts ty) cs b = never (term_changed (Term' p (more_of-Head head.Map end_of-Head) n ts ty) cs) head.Map (arguments_of head.Map cs ts) ty _ (term_changed_is head.Map n ts ty cs) b refl
-  simple_before (Term' p (more_of-Head head.Restrict end_of-Head) n ts ty) cs b = never (term_changed (Term' p (more_of-Head head.Restrict end_of-Head) n ts ty) cs) head.Restrict (arguments_of head.Restrict cs ts) ty _ (term_changed_is head.Restrict n ts ty cs) b refl
+  simple_before (Term' p (more_of-Head head.Mu end_of-Head) n ts ty) cs b = both_before ts cs (at_node (term_changed (Term' p (more_of-Head head.Mu end_of-Head) n ts ty) cs) head.Mu (changed_under cs ts) ty (term_changed_is head.Mu n ts ty cs) b)
+  simple_before (Term' p (more_of-Head head.Map end_of-Head) n ts ty) cs b = both_before ts cs (at_node (term_changed (Term' p (more_of-Head head.Map end_of-Head) n ts ty) cs) head.Map (changed_under cs ts) ty (term_changed_is head.Map n ts ty cs) b)
+  simple_before (Term' p (more_of-Head head.Restrict end_of-Head) n ts ty) cs b = both_before ts cs (at_node (term_changed (Term' p (more_of-Head head.Restrict end_of-Head) n ts ty) cs) head.Restrict (changed_under cs ts) ty (term_changed_is head.Restrict n ts ty cs) b)
 
   row_before : {n : Count} (ts : Row_of-Term n) (cs : Changes) → list_all (λ b. b) (map is_simple (changed_row cs ts)) ≡ true → list_all (λ b. b) (all_simple ts) ≡ true
   row_before end_of-Term cs b = refl
@@ -74,6 +77,14 @@ mutual
   only_before end_of-Term cs b = b
   only_before (more_of-Term t end_of-Term) cs b = simple_before t (under_binder cs) b
   only_before (more_of-Term t (more_of-Term u ts)) cs b = b
+
+  both_before : {n : Count} (ts : Row_of-Term n) (cs : Changes) → both (map is_simple (changed_under cs ts)) ≡ true → both (all_simple ts) ≡ true
+  both_before end_of-Term cs b = b
+  both_before (more_of-Term t end_of-Term) cs b = b
+  both_before (more_of-Term t (more_of-Term u end_of-Term)) cs b =
+      let c = and_parts (is_simple (term_changed t cs)) (is_simple (term_changed u (under_binder cs))) b in
+      and_from (is_simple t) (is_simple u) (simple_before t cs c.0) (simple_before u (under_binder cs) c.1)
+  both_before (more_of-Term t (more_of-Term u (more_of-Term v ts))) cs b = b
 
 module _ (g : Setting) (j : Speaks) where
   -- what is made of a read or of a bound variable
@@ -111,11 +122,27 @@ module _ (g : Setting) (j : Speaks) where
       × Moved (Here s q) (Here s q) (map (part_of g j) (changed_row cs ts)) (parts g j ts) × (map (denominator g) (changed_row cs ts) ≡ denominators g ts)
 
   abbrev OnlyFollows : {n : Count} → Changes → Reading → State → State → Row_of-Term n → Type 0
-  OnlyFollows cs W s q ts = OnlyFit g (inner no_variables W) (changed_under cs ts) × Moved (Here s q) (Under s q) (map (part_of g j) (changed_under cs ts)) (parts g j ts)
+  OnlyFollows cs W s q ts =
+      OnlyFit g (inner no_variables W) (changed_under cs ts)
+      × Moved (Here s q) (Under s q) (map (part_of g j) (changed_under cs ts)) (parts g j ts) × (map (denominator g) (changed_under cs ts) ≡ denominators g ts)
+
+  abbrev BothFollow : {n : Count} → Changes → Reading → State → State → Row_of-Term n → Type 0
+  BothFollow cs W s q ts =
+      BothAreFit g W (changed_under cs ts)
+      × Moved (Here s q) (Under s q) (map (part_of g j) (changed_under cs ts)) (parts g j ts) × (map (denominator g) (changed_under cs ts) ≡ denominators g ts)
 
   from_node : (h : Head) (args : List Term) (ty : Ty) (W : Reading) (s : State) (x : Meaning) (k : ℕ) (t : Term) → t ≡ node h args ty → Fits g W (node h args ty) →
       val g j (node h args ty) s ≡ x → denominator g (node h args ty) ≡ k → Fits g W t × (val g j t s ≡ x) × (denominator g t ≡ k)
   from_node h args ty W s x k t e f v d = (subst (Fits g W) (sym e) f, ap (λ t. val g j t s) e ∙ v, ap (denominator g) e ∙ d)
+
+  -- a term whose changed node fits, with arguments that mean what they meant
+  made : (h : Head) (n : List (Unit {0})) (ts : Row_of-Term (arity (the_former (this {0})) n)) (ty : Ty) (cs : Changes) (W : Reading) (s q : State) (args : List Term) →
+      term_changed (Term' tt (more_of-Head h end_of-Head) n ts ty) cs ≡ node h args ty → Fits g W (node h args ty) → IsInner s q h → HasArguments h (parts g j ts) →
+      Related s q h (map (part_of g j) args) (parts g j ts) → map (denominator g) args ≡ denominators g ts → Follows cs W s q (Term' tt (more_of-Head h end_of-Head) n ts ty)
+  made h n ts ty cs W s q args e f i a r d =
+      from_node h args ty W s _ _ _ e f
+      (val_node g j h args ty s ∙ inner_same s q g j (node h args ty) (Term' tt (more_of-Head h end_of-Head) n ts ty) h (map (part_of g j) args) (parts g j ts) ty i a r)
+      (denominator_node g h args ty ∙ ap (λ ks. denominator_of g h ks ty) d)
 
   mutual
     pub followed : (t : Term) (cs : Changes) (T W : Reading) (s q : State) → Leading g j cs T W s q → Fits g T t → is_simple t ≡ true → is_simple (term_changed t cs) ≡ true → Follows cs W s q t
@@ -137,23 +164,47 @@ module _ (g : Setting) (j : Speaks) where
         let args = changed_row cs ts in
         let e = term_changed_is (head.Builtin o) n ts ty cs in
         let r = row_followed ts cs T W s q l w.1 b (at_node _ (head.Builtin o) args ty e d) in
-        from_node (head.Builtin o) args ty W s _ _ _ e (operator_fits g W o args ty (subst (IsOfValues o) (sym r.2) w.0) r.0)
-        (val_node g j (head.Builtin o) args ty s ∙ inner_same s q g j (node (head.Builtin o) args ty) (Term' p (more_of-Head (head.Builtin o) end_of-Head) n ts ty) (head.Builtin o) (map (part_of g j) args) (parts g j ts) ty tt tt r.1)
-        (denominator_node g (head.Builtin o) args ty ∙ ap (λ ks. denominator_of g (head.Builtin o) ks ty) r.2)
+        made (head.Builtin o) n ts ty cs W s q args e (operator_fits g W o args ty (subst (IsOfValues o) (sym r.2) w.0) r.0) tt tt r.1 r.2
+    followed (Term' p (more_of-Head (head.User v) end_of-Head) n ts ty) cs T W s q l w b d =
+        let args = changed_row cs ts in
+        let e = term_changed_is (head.User v) n ts ty cs in
+        let r = row_followed ts cs T W s q l w b (at_node _ (head.User v) args ty e d) in
+        made (head.User v) n ts ty cs W s q args e (node_fits g W (head.User v) args ty (fits_row g W args r.0)) tt tt r.1 r.2
+    followed (Term' p (more_of-Head (head.Weights ps) end_of-Head) n ts ty) cs T W s q l w b d =
+        let args = changed_row cs ts in
+        let e = term_changed_is (head.Weights ps) n ts ty cs in
+        let r = row_followed ts cs T W s q l w b (at_node _ (head.Weights ps) args ty e d) in
+        made (head.Weights ps) n ts ty cs W s q args e (node_fits g W (head.Weights ps) args ty (fits_row g W args r.0)) tt tt r.1 r.2
     followed (Term' p (more_of-Head (head.All u) end_of-Head) n ts ty) cs T W s q l w b d =
         let args = changed_under cs ts in
         let e = term_changed_is (head.All u) n ts ty cs in
         let r = only_followed ts cs T W s q l w b (at_node _ (head.All u) args ty e d) in
-        from_node (head.All u) args ty W s _ 1 _ e (each_fits g W u args ty r.0)
-        (val_node g j (head.All u) args ty s ∙ inner_same s q g j (node (head.All u) args ty) (Term' p (more_of-Head (head.All u) end_of-Head) n ts ty) (head.All u) (map (part_of g j) args) (parts g j ts) ty tt tt r.1)
-        (denominator_node g (head.All u) args ty)
+        made (head.All u) n ts ty cs W s q args e (node_fits g W (head.All u) args ty (only_row g (inner no_variables W) args r.0)) tt tt r.1 r.2
     followed (Term' p (more_of-Head (head.Some u) end_of-Head) n ts ty) cs T W s q l w b d =
         let args = changed_under cs ts in
         let e = term_changed_is (head.Some u) n ts ty cs in
         let r = only_followed ts cs T W s q l w b (at_node _ (head.Some u) args ty e d) in
-        from_node (head.Some u) args ty W s _ 1 _ e (some_fits g W u args ty r.0)
-        (val_node g j (head.Some u) args ty s ∙ inner_same s q g j (node (head.Some u) args ty) (Term' p (more_of-Head (head.Some u) end_of-Head) n ts ty) (head.Some u) (map (part_of g j) args) (parts g j ts) ty tt tt r.1)
-        (denominator_node g (head.Some u) args ty)
+        made (head.Some u) n ts ty cs W s q args e (node_fits g W (head.Some u) args ty (only_row g (inner no_variables W) args r.0)) tt tt r.1 r.2
+    followed (Term' p (more_of-Head (head.Sum m) end_of-Head) n ts ty) cs T W s q l w b d =
+        let args = changed_under cs ts in
+        let e = term_changed_is (head.Sum m) n ts ty cs in
+        let r = only_followed ts cs T W s q l w b (at_node _ (head.Sum m) args ty e d) in
+        made (head.Sum m) n ts ty cs W s q args e (node_fits g W (head.Sum m) args ty (only_row g (inner no_variables W) args r.0)) tt tt r.1 r.2
+    followed (Term' p (more_of-Head head.Mu end_of-Head) n ts ty) cs T W s q l w b d =
+        let args = changed_under cs ts in
+        let e = term_changed_is head.Mu n ts ty cs in
+        let r = both_followed ts cs T W s q l w b (at_node _ head.Mu args ty e d) in
+        made head.Mu n ts ty cs W s q args e (node_fits g W head.Mu args ty (both_row g W args r.0)) tt (has_parts g j head.Mu ts (two_simple ts b)) r.1 r.2
+    followed (Term' p (more_of-Head head.Map end_of-Head) n ts ty) cs T W s q l w b d =
+        let args = changed_under cs ts in
+        let e = term_changed_is head.Map n ts ty cs in
+        let r = both_followed ts cs T W s q l w b (at_node _ head.Map args ty e d) in
+        made head.Map n ts ty cs W s q args e (node_fits g W head.Map args ty (both_row g W args r.0)) tt (has_parts g j head.Map ts (two_simple ts b)) r.1 r.2
+    followed (Term' p (more_of-Head head.Restrict end_of-Head) n ts ty) cs T W s q l w b d =
+        let args = changed_under cs ts in
+        let e = term_changed_is head.Restrict n ts ty cs in
+        let r = both_followed ts cs T W s q l w b (at_node _ head.Restrict args ty e d) in
+        made head.Restrict n ts ty cs W s q args e (node_fits g W head.Restrict args ty (both_row g W args r.0)) tt (has_parts g j head.Restrict ts (two_simple ts b)) r.1 r.2
     followed (Term' p (more_of-Head h end_of-Head) n ts ty) cs T W s q l w b d = absurd (false≢true b)
 
     row_followed : {n : Count} (ts : Row_of-Term n) (cs : Changes) (T W : Reading) (s q : State) → Leading g j cs T W s q → AllFit g T ts → list_all (λ b. b) (all_simple ts) ≡ true →
@@ -174,5 +225,17 @@ module _ (g : Setting) (j : Speaks) where
     only_followed end_of-Term cs T W s q l w b d = absurd (false≢true b)
     only_followed (more_of-Term t end_of-Term) cs T W s q l w b d =
         let below = λ (c : Binding). followed t (under_binder cs) (inner no_variables T) (inner no_variables W) (under s c) (under q c) (leading_under g j cs T W s q l c) w b d in
-        ((below program).0, λ c. (below c).1)
+        ((below program).0, (λ c. (below c).1), ap (λ k. k ∷ []) (below program).2)
     only_followed (more_of-Term t (more_of-Term u ts)) cs T W s q l w b d = absurd (false≢true b)
+
+    both_followed : {n : Count} (ts : Row_of-Term n) (cs : Changes) (T W : Reading) (s q : State) → Leading g j cs T W s q → BothFit g T ts → both (all_simple ts) ≡ true →
+        both (map is_simple (changed_under cs ts)) ≡ true → BothFollow cs W s q ts
+    both_followed end_of-Term cs T W s q l w b d = absurd (false≢true b)
+    both_followed (more_of-Term t end_of-Term) cs T W s q l w b d = absurd (false≢true b)
+    both_followed (more_of-Term t (more_of-Term u end_of-Term)) cs T W s q l w b d =
+        let before = and_parts (is_simple t) (is_simple u) b in
+        let after = and_parts (is_simple (term_changed t cs)) (is_simple (term_changed u (under_binder cs))) d in
+        let one = followed t cs T W s q l w.0 before.0 after.0 in
+        let below = λ (c : Binding). followed u (under_binder cs) (inner no_variables T) (inner no_variables W) (under s c) (under q c) (leading_under g j cs T W s q l c) w.1 before.1 after.1 in
+        ((one.0, (below program).0), ((one.1, one.2), λ c. (below c).1), λ i. one.2 i ∷ (below program).2 i ∷ [])
+    both_followed (more_of-Term t (more_of-Term u (more_of-Term v ts))) cs T W s q l w b d = absurd (false≢true b)

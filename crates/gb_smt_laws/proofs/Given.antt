@@ -1,5 +1,5 @@
 -- The variables of a claim have values of their types.
-use Rattle.std.proofs.Common.{◌≡◌, Bool, true, false, ◌==◌, if◌then◌else◌, Some, List, [], ◌∷◌, ◌++◌, map, length, refl, ap, sym, ◌∙◌, subst}
+use Rattle.std.proofs.Common.{◌≡◌, Bool, true, false, ◌&&◌, ◌==◌, if◌then◌else◌, Some, List, [], ◌∷◌, ◌++◌, map, length, refl, ap, sym, ◌∙◌, subst}
 use Rattle.std.specs.List.{flat_map, AllByRecursion}
 use Rattle.std.proofs.lemmas.Bool.{false≢true, and_parts}
 use Rattle.gb_core.specs.declared.ty.Ty.{Ty}
@@ -19,52 +19,61 @@ use Rattle.gb_meaning.specs.Commands.{terms_in}
 use Rattle.gb_eval.specs.declared.env.ReadValue.{ReadValue}
 use Rattle.gb_eval.specs.Findings.{Finding as finding}
 use Rattle.gb_eval.specs.Findings.Comes.{found, unknown}
-use Rattle.gb_types.specs.Types.{is_finite}
 use Rattle.gb_eval.specs.Eval.{value_of, value_among}
-use Rattle.gb_eval.specs.Known.{is_known, all_known, is_head_known, are_true, is_read_known}
+use Rattle.gb_typed.specs.Typing.{types_of}
+use Rattle.gb_eval.specs.Known.{is_known, all_known, are_of_outcomes, are_true, is_read_known}
 use Rattle.gb_eval.specs.Meant.{Means, AreGiven, AllGiven}
 use Rattle.gb_smt.specs.declared.variables.Variable.{Variable}
 use Rattle.gb_smt.specs.Variables.{Vars, term_variables, is_among, with_new, noted, variables_in}
 use Rattle.gb_smt.specs.Assign.{with_values}
 use Rattle.gb_smt.specs.Meant.{EachGiven}
 use Rattle.gb_smt_laws.specs.Reading.{no_variables, Reading, IsReadAt, inner, IsReadingOf}
-use Rattle.gb_smt_laws.specs.Fits.{Fits, AllFit, OnlyFits}
-use Rattle.gb_smt_laws.proofs.Known.{some_is_none, two_is_one, none_is_one, variables_are, AreRead, read_together, Sees, sees_beneath}
+use Rattle.gb_smt_laws.specs.Fits.{Fits, AllFit, OnlyFits, BothFit}
+use Rattle.gb_smt_laws.proofs.Known.{known_parts, one_argument, some_is_none, two_is_one, none_is_one, variables_are, AreRead, read_together, Sees, sees_beneath}
 use mathlib.Core.Former.{Count}
 
-no_terms : {n : Count} (ts : Row_of-Term n) → (length (all_known ts) == 0) ≡ true → terms_in ts ≡ []
+no_terms : {n : Count} (ts : Row_of-Term n) → (length (types_of ts) == 0) ≡ true → terms_in ts ≡ []
 no_terms end_of-Term e = refl
-no_terms (more_of-Term t ts) e = some_is_none (length (all_known ts)) _ e
+no_terms (more_of-Term t ts) e = some_is_none (length (types_of ts)) _ e
 
-none_read : {n : Count} (W : Reading) (ts : Row_of-Term n) → (length (all_known ts) == 0) ≡ true → AreRead W (flat_map term_variables (terms_in ts))
+none_read : {n : Count} (W : Reading) (ts : Row_of-Term n) → (length (types_of ts) == 0) ≡ true → AreRead W (flat_map term_variables (terms_in ts))
 none_read W ts e = subst (λ l. AreRead W (flat_map term_variables l)) (sym (no_terms ts e)) tt
 
 -- the variables of a term that is known and fits are read at their types
 mutual
   pub term_reads : (g : Setting) (t : Term) (V W : Reading) → Sees V W → is_known t ≡ true → Fits g V t → AreRead W (term_variables t)
   term_reads g (Term' p (more_of-Head (head.Read r) end_of-Head) n ts ty) V W f k w =
-      let known = and_parts (is_head_known (head.Read r) (length (all_known ts))) (are_true (all_known ts)) k in
-      subst (AreRead W) (sym (variables_are (head.Read r) n ts ty)) (f r ty (and_parts (length (all_known ts) == 0) (is_read_known r) known.0).1 w, tt)
+      let known = known_parts (head.Read r) ts k in
+      subst (AreRead W) (sym (variables_are (head.Read r) n ts ty)) (f r ty (and_parts (length (types_of ts) == 0) (is_read_known r) known.0).1 w, tt)
   term_reads g (Term' p (more_of-Head (head.Lit v) end_of-Head) n ts ty) V W f k w =
-      let known = and_parts (is_head_known (head.Lit v) (length (all_known ts))) (are_true (all_known ts)) k in
+      let known = known_parts (head.Lit v) ts k in
       subst (AreRead W) (sym (variables_are (head.Lit v) n ts ty)) (none_read W ts known.0)
   term_reads g (Term' p (more_of-Head (head.Whole v) end_of-Head) n ts ty) V W f k w =
-      let known = and_parts (is_head_known (head.Whole v) (length (all_known ts))) (are_true (all_known ts)) k in
+      let known = known_parts (head.Whole v) ts k in
       subst (AreRead W) (sym (variables_are (head.Whole v) n ts ty)) (none_read W ts known.0)
   term_reads g (Term' p (more_of-Head (head.Bound i) end_of-Head) n ts ty) V W f k w =
-      let known = and_parts (is_head_known (head.Bound i) (length (all_known ts))) (are_true (all_known ts)) k in
+      let known = known_parts (head.Bound i) ts k in
       subst (AreRead W) (sym (variables_are (head.Bound i) n ts ty)) (none_read W ts known.0)
   term_reads g (Term' p (more_of-Head (head.Builtin o) end_of-Head) n ts ty) V W f k w =
-      let known = and_parts (is_head_known (head.Builtin o) (length (all_known ts))) (are_true (all_known ts)) k in
+      let known = known_parts (head.Builtin o) ts k in
       subst (AreRead W) (sym (variables_are (head.Builtin o) n ts ty)) (row_reads g ts V W f known.1 w.1)
   term_reads g (Term' p (more_of-Head (head.All u) end_of-Head) n ts ty) V W f k w =
-      let known = and_parts (is_head_known (head.All u) (length (all_known ts))) (are_true (all_known ts)) k in
+      let known = known_parts (head.All u) ts k in
       subst (AreRead W) (sym (variables_are (head.All u) n ts ty))
-      (only_reads g ts V W f (and_parts (length (all_known ts) == 1) (is_finite u) known.0).0 known.1 w)
+      (only_reads g ts V W f (one_argument ts u known.0) known.1 w)
   term_reads g (Term' p (more_of-Head (head.Some u) end_of-Head) n ts ty) V W f k w =
-      let known = and_parts (is_head_known (head.Some u) (length (all_known ts))) (are_true (all_known ts)) k in
+      let known = known_parts (head.Some u) ts k in
       subst (AreRead W) (sym (variables_are (head.Some u) n ts ty))
-      (only_reads g ts V W f (and_parts (length (all_known ts) == 1) (is_finite u) known.0).0 known.1 w)
+      (only_reads g ts V W f (one_argument ts u known.0) known.1 w)
+  term_reads g (Term' p (more_of-Head (head.Sum q) end_of-Head) n ts ty) V W f k w =
+      let known = known_parts (head.Sum q) ts k in
+      subst (AreRead W) (sym (variables_are (head.Sum q) n ts ty)) (only_reads g ts V W f known.0 known.1 w)
+  term_reads g (Term' p (more_of-Head head.Mu end_of-Head) n ts ty) V W f k w =
+      let known = known_parts head.Mu ts k in
+      subst (AreRead W) (sym (variables_are head.Mu n ts ty)) (both_read g ts V W f known.0 known.1 w)
+  term_reads g (Term' p (more_of-Head head.Restrict end_of-Head) n ts ty) V W f k w =
+      let known = known_parts head.Restrict ts k in
+      subst (AreRead W) (sym (variables_are head.Restrict n ts ty)) (both_read g ts V W f known.0 known.1 w)
   term_reads g (Term' p (more_of-Head h end_of-Head) n ts ty) V W f k w = absurd (false≢true k)
 
   row_reads : {n : Count} (g : Setting) (ts : Row_of-Term n) (V W : Reading) → Sees V W → are_true (all_known ts) ≡ true → AllFit g V ts → AreRead W (flat_map term_variables (terms_in ts))
@@ -73,11 +82,20 @@ mutual
       let known = and_parts (is_known t) (are_true (all_known ts)) k in
       read_together W (term_variables t) (flat_map term_variables (terms_in ts)) (term_reads g t V W f known.0 w.0) (row_reads g ts V W f known.1 w.1)
 
-  only_reads : {n : Count} (g : Setting) (ts : Row_of-Term n) (V W : Reading) → Sees V W → (length (all_known ts) == 1) ≡ true → are_true (all_known ts) ≡ true → OnlyFits g (inner no_variables V) ts → AreRead W (flat_map term_variables (terms_in ts))
+  only_reads : {n : Count} (g : Setting) (ts : Row_of-Term n) (V W : Reading) → Sees V W → (length (types_of ts) == 1) ≡ true → are_true (all_known ts) ≡ true → OnlyFits g (inner no_variables V) ts → AreRead W (flat_map term_variables (terms_in ts))
   only_reads g end_of-Term V W f e k w = none_is_one _ e
   only_reads g (more_of-Term t end_of-Term) V W f e k w =
       read_together W (term_variables t) [] (term_reads g t (inner no_variables V) W (sees_beneath V W f) (and_parts (is_known t) true k).0 w) tt
-  only_reads g (more_of-Term t (more_of-Term v ts)) V W f e k w = two_is_one (length (all_known ts)) _ e
+  only_reads g (more_of-Term t (more_of-Term v ts)) V W f e k w = two_is_one (length (types_of ts)) _ e
+
+  both_read : {n : Count} (g : Setting) (ts : Row_of-Term n) (V W : Reading) → Sees V W → are_of_outcomes (types_of ts) ≡ true → are_true (all_known ts) ≡ true → BothFit g V ts → AreRead W (flat_map term_variables (terms_in ts))
+  both_read g end_of-Term V W f e k w = tt
+  both_read g (more_of-Term t end_of-Term) V W f e k w = absurd (false≢true e)
+  both_read g (more_of-Term t (more_of-Term v end_of-Term)) V W f e k w =
+      let first = and_parts (is_known t) (is_known v && true) k in
+      read_together W (term_variables t) (term_variables v ++ []) (term_reads g t V W f first.0 w.0)
+      (read_together W (term_variables v) [] (term_reads g v (inner no_variables V) W (sees_beneath V W f) (and_parts (is_known v) true first.1).0 w.1) tt)
+  both_read g (more_of-Term t (more_of-Term v (more_of-Term u ts))) V W f e k w = absurd (false≢true e)
 
 new_read : (W : Reading) (vs : Vars) (v : Variable) → AreRead W vs → IsReadAt W v.read v.ty → AreRead W (with_new vs v)
 new_read W vs v a k = step (is_among vs v.read)
@@ -148,26 +166,35 @@ module _ (g : Setting) (s : State) where
       abbrev reads : List ReadValue
       reads = with_values vs (values_of vs)
 
-      none_given : {n : Count} (ts : Row_of-Term n) → (length (all_known ts) == 0) ≡ true → AllGiven g s reads ts
+      none_given : {n : Count} (ts : Row_of-Term n) → (length (types_of ts) == 0) ≡ true → AllGiven g s reads ts
       none_given end_of-Term e = tt
-      none_given (more_of-Term t ts) e = some_is_none (length (all_known ts)) _ e
+      none_given (more_of-Term t ts) e = some_is_none (length (types_of ts)) _ e
 
       mutual
         pub given : (t : Term) (V : Reading) → Sees V W → is_known t ≡ true → Fits g V t → AreGiven g s reads t
         given (Term' p (more_of-Head (head.Read r) end_of-Head) n ts ty) V f k w =
-            let known = and_parts (is_head_known (head.Read r) (length (all_known ts))) (are_true (all_known ts)) k in
-            let both = and_parts (length (all_known ts) == 0) (is_read_known r) known.0 in
+            let known = known_parts (head.Read r) ts k in
+            let both = and_parts (length (types_of ts) == 0) (is_read_known r) known.0 in
             (value_given vs r ty a (f r ty both.1 w), none_given ts both.0)
-        given (Term' p (more_of-Head (head.Lit v) end_of-Head) n ts ty) V f k w = (tt, none_given ts (and_parts (is_head_known (head.Lit v) (length (all_known ts))) (are_true (all_known ts)) k).0)
-        given (Term' p (more_of-Head (head.Whole v) end_of-Head) n ts ty) V f k w = (tt, none_given ts (and_parts (is_head_known (head.Whole v) (length (all_known ts))) (are_true (all_known ts)) k).0)
-        given (Term' p (more_of-Head (head.Bound i) end_of-Head) n ts ty) V f k w = (tt, none_given ts (and_parts (is_head_known (head.Bound i) (length (all_known ts))) (are_true (all_known ts)) k).0)
-        given (Term' p (more_of-Head (head.Builtin o) end_of-Head) n ts ty) V f k w = (tt, row_given ts V f (and_parts (is_head_known (head.Builtin o) (length (all_known ts))) (are_true (all_known ts)) k).1 w.1)
+        given (Term' p (more_of-Head (head.Lit v) end_of-Head) n ts ty) V f k w = (tt, none_given ts (known_parts (head.Lit v) ts k).0)
+        given (Term' p (more_of-Head (head.Whole v) end_of-Head) n ts ty) V f k w = (tt, none_given ts (known_parts (head.Whole v) ts k).0)
+        given (Term' p (more_of-Head (head.Bound i) end_of-Head) n ts ty) V f k w = (tt, none_given ts (known_parts (head.Bound i) ts k).0)
+        given (Term' p (more_of-Head (head.Builtin o) end_of-Head) n ts ty) V f k w = (tt, row_given ts V f (known_parts (head.Builtin o) ts k).1 w.1)
         given (Term' p (more_of-Head (head.All u) end_of-Head) n ts ty) V f k w =
-            let known = and_parts (is_head_known (head.All u) (length (all_known ts))) (are_true (all_known ts)) k in
-            (tt, only_given ts V f (and_parts (length (all_known ts) == 1) (is_finite u) known.0).0 known.1 w)
+            let known = known_parts (head.All u) ts k in
+            (tt, only_given ts V f (one_argument ts u known.0) known.1 w)
         given (Term' p (more_of-Head (head.Some u) end_of-Head) n ts ty) V f k w =
-            let known = and_parts (is_head_known (head.Some u) (length (all_known ts))) (are_true (all_known ts)) k in
-            (tt, only_given ts V f (and_parts (length (all_known ts) == 1) (is_finite u) known.0).0 known.1 w)
+            let known = known_parts (head.Some u) ts k in
+            (tt, only_given ts V f (one_argument ts u known.0) known.1 w)
+        given (Term' p (more_of-Head (head.Sum q) end_of-Head) n ts ty) V f k w =
+            let known = known_parts (head.Sum q) ts k in
+            (tt, only_given ts V f known.0 known.1 w)
+        given (Term' p (more_of-Head head.Mu end_of-Head) n ts ty) V f k w =
+            let known = known_parts head.Mu ts k in
+            (tt, both_given ts V f known.0 known.1 w)
+        given (Term' p (more_of-Head head.Restrict end_of-Head) n ts ty) V f k w =
+            let known = known_parts head.Restrict ts k in
+            (tt, both_given ts V f known.0 known.1 w)
         given (Term' p (more_of-Head h end_of-Head) n ts ty) V f k w = absurd (false≢true k)
 
         row_given : {n : Count} (ts : Row_of-Term n) (V : Reading) → Sees V W → are_true (all_known ts) ≡ true → AllFit g V ts → AllGiven g s reads ts
@@ -176,10 +203,18 @@ module _ (g : Setting) (s : State) where
             let known = and_parts (is_known t) (are_true (all_known ts)) k in
             (given t V f known.0 w.0, row_given ts V f known.1 w.1)
 
-        only_given : {n : Count} (ts : Row_of-Term n) (V : Reading) → Sees V W → (length (all_known ts) == 1) ≡ true → are_true (all_known ts) ≡ true → OnlyFits g (inner no_variables V) ts → AllGiven g s reads ts
+        only_given : {n : Count} (ts : Row_of-Term n) (V : Reading) → Sees V W → (length (types_of ts) == 1) ≡ true → are_true (all_known ts) ≡ true → OnlyFits g (inner no_variables V) ts → AllGiven g s reads ts
         only_given end_of-Term V f e k w = tt
         only_given (more_of-Term t end_of-Term) V f e k w = (given t (inner no_variables V) (sees_beneath V W f) (and_parts (is_known t) true k).0 w, tt)
-        only_given (more_of-Term t (more_of-Term v ts)) V f e k w = two_is_one (length (all_known ts)) _ e
+        only_given (more_of-Term t (more_of-Term v ts)) V f e k w = two_is_one (length (types_of ts)) _ e
+
+        both_given : {n : Count} (ts : Row_of-Term n) (V : Reading) → Sees V W → are_of_outcomes (types_of ts) ≡ true → are_true (all_known ts) ≡ true → BothFit g V ts → AllGiven g s reads ts
+        both_given end_of-Term V f e k w = tt
+        both_given (more_of-Term t end_of-Term) V f e k w = absurd (false≢true e)
+        both_given (more_of-Term t (more_of-Term v end_of-Term)) V f e k w =
+            let first = and_parts (is_known t) (is_known v && true) k in
+            (given t V f first.0 w.0, (given v (inner no_variables V) (sees_beneath V W f) (and_parts (is_known v) true first.1).0 w.1, tt))
+        both_given (more_of-Term t (more_of-Term v (more_of-Term u ts))) V f e k w = absurd (false≢true e)
 
       pub each_given : (hs : List Term) → AreKnown g W hs → EachGiven g s reads hs
       each_given [] k = tt

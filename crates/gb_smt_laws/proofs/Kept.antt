@@ -1,5 +1,5 @@
 -- A simple term means the same where what it reads is the same.
-use Rattle.std.proofs.Common.{◌≡◌, ℕ, zero, suc, true, refl}
+use Rattle.std.proofs.Common.{◌≡◌, ℕ, zero, suc, true, List, refl}
 use Rattle.std.specs.List.{list_all}
 use Rattle.std.proofs.lemmas.Bool.{false≢true, and_parts}
 use Rattle.gb_core.specs.declared.ty.Ty.{Ty}
@@ -12,12 +12,17 @@ use Rattle.gb_meaning.specs.Setting.{Setting}
 use Rattle.gb_meaning.specs.State.{State, Binding, binding, meaning_in, under}
 use Rattle.gb_meaning.specs.State.Binding.{program}
 use Rattle.gb_meaning.specs.Terms.{Speaks, read_at, val, parts}
-use Rattle.gb_changes.proofs.Heads.{Moved, Here, Under, inner_same}
-use Rattle.gb_smt_laws.specs.Simple.{is_simple, all_simple, only}
+use Rattle.gb_changes.specs.Formed.{HasArguments}
+use Rattle.gb_changes.proofs.Heads.{Moved, Here, Under, IsInner, Related, inner_same}
+use Rattle.gb_changes.proofs.Raising.{has_parts}
+use Rattle.gb_smt_laws.specs.Simple.{is_simple, all_simple, only, both}
 use Rattle.gb_smt_laws.specs.Reading.{no_variables, Reading, IsReadAt, inner}
-use Rattle.gb_smt_laws.specs.Fits.{Fits, AllFit, OnlyFits}
+use Rattle.gb_smt_laws.specs.Fits.{Fits, AllFit, OnlyFits, BothFit}
+use Rattle.gb_smt_laws.proofs.Nodes.{two_simple}
 use Rattle.gb_smt_laws.proofs.Raised.{no_type}
-use mathlib.Core.Former.{Count}
+use Rattle.gb_terms.specs.declared.term.Head.{Head}
+use Rattle.sqlite_items.specs.formers.items.Items.{the_former}
+use mathlib.Core.Former.{Count, arity, this}
 
 -- what T reads in s, V reads in z, and it is the same; so is what is bound
 pub record Keeps (g : Setting) (T V : Reading) (s z : State) : Type 0 where
@@ -44,6 +49,13 @@ module _ (g : Setting) (j : Speaks) where
   abbrev IsKept : Reading → State → State → Term → Type 0
   IsKept V s z t = Fits g V t × (val g j t z ≡ val g j t s)
 
+  -- a node whose parts mean the same means the same
+  same : (h : Head) (n : List (Unit {0})) (ts : Row_of-Term (arity (the_former (this {0})) n)) (ty : Ty) (s z : State) → IsInner z s h → HasArguments h (parts g j ts) →
+      Related z s h (parts g j ts) (parts g j ts) → val g j (Term' tt (more_of-Head h end_of-Head) n ts ty) z ≡ val g j (Term' tt (more_of-Head h end_of-Head) n ts ty) s
+  same h n ts ty s z i a r =
+      let t : Term = Term' tt (more_of-Head h end_of-Head) n ts ty in
+      inner_same z s g j t t h (parts g j ts) (parts g j ts) ty i a r
+
   mutual
     pub kept : (t : Term) (T V : Reading) (s z : State) → Keeps g T V s z → is_simple t ≡ true → Fits g T t → IsKept V s z t
     kept (Term' p (more_of-Head (head.Lit v) end_of-Head) n ts ty) T V s z k b w = (tt, refl)
@@ -51,17 +63,32 @@ module _ (g : Setting) (j : Speaks) where
     kept (Term' p (more_of-Head (head.Read r) end_of-Head) n ts ty) T V s z k b w = k.reads r ty w
     kept (Term' p (more_of-Head (head.Bound i) end_of-Head) n ts ty) T V s z k b w = (tt, k.bound i)
     kept (Term' p (more_of-Head (head.Builtin o) end_of-Head) n ts ty) T V s z k b w =
-        let t : Term = Term' p (more_of-Head (head.Builtin o) end_of-Head) n ts ty in
         let each = row_kept ts T V s z k b w.1 in
-        ((w.0, each.0), inner_same z s g j t t (head.Builtin o) (parts g j ts) (parts g j ts) ty tt tt each.1)
+        ((w.0, each.0), same (head.Builtin o) n ts ty s z tt tt each.1)
+    kept (Term' p (more_of-Head (head.User v) end_of-Head) n ts ty) T V s z k b w =
+        let each = row_kept ts T V s z k b w in
+        (each.0, same (head.User v) n ts ty s z tt tt each.1)
+    kept (Term' p (more_of-Head (head.Weights ps) end_of-Head) n ts ty) T V s z k b w =
+        let each = row_kept ts T V s z k b w in
+        (each.0, same (head.Weights ps) n ts ty s z tt tt each.1)
     kept (Term' p (more_of-Head (head.All u) end_of-Head) n ts ty) T V s z k b w =
-        let f : Term = Term' p (more_of-Head (head.All u) end_of-Head) n ts ty in
         let each = only_kept ts T V s z k b w in
-        (each.0, inner_same z s g j f f (head.All u) (parts g j ts) (parts g j ts) ty tt tt each.1)
+        (each.0, same (head.All u) n ts ty s z tt tt each.1)
     kept (Term' p (more_of-Head (head.Some u) end_of-Head) n ts ty) T V s z k b w =
-        let f : Term = Term' p (more_of-Head (head.Some u) end_of-Head) n ts ty in
         let each = only_kept ts T V s z k b w in
-        (each.0, inner_same z s g j f f (head.Some u) (parts g j ts) (parts g j ts) ty tt tt each.1)
+        (each.0, same (head.Some u) n ts ty s z tt tt each.1)
+    kept (Term' p (more_of-Head (head.Sum q) end_of-Head) n ts ty) T V s z k b w =
+        let each = only_kept ts T V s z k b w in
+        (each.0, same (head.Sum q) n ts ty s z tt tt each.1)
+    kept (Term' p (more_of-Head head.Mu end_of-Head) n ts ty) T V s z k b w =
+        let each = both_kept ts T V s z k b w in
+        (each.0, same head.Mu n ts ty s z tt (has_parts g j head.Mu ts (two_simple ts b)) each.1)
+    kept (Term' p (more_of-Head head.Map end_of-Head) n ts ty) T V s z k b w =
+        let each = both_kept ts T V s z k b w in
+        (each.0, same head.Map n ts ty s z tt (has_parts g j head.Map ts (two_simple ts b)) each.1)
+    kept (Term' p (more_of-Head head.Restrict end_of-Head) n ts ty) T V s z k b w =
+        let each = both_kept ts T V s z k b w in
+        (each.0, same head.Restrict n ts ty s z tt (has_parts g j head.Restrict ts (two_simple ts b)) each.1)
     kept (Term' p (more_of-Head h end_of-Head) n ts ty) T V s z k b w = absurd (false≢true b)
 
     row_kept : {n : Count} (ts : Row_of-Term n) (T V : Reading) (s z : State) → Keeps g T V s z → list_all (λ b. b) (all_simple ts) ≡ true → AllFit g T ts →
@@ -83,3 +110,14 @@ module _ (g : Setting) (j : Speaks) where
         let below = λ (c : Binding). kept t (inner no_variables T) (inner no_variables V) (under s c) (under z c) (keeps_under g T V s z k c) b w in
         ((below program).0, λ c. (below c).1)
     only_kept (more_of-Term t (more_of-Term u ts)) T V s z k b w = absurd (false≢true b)
+
+    both_kept : {n : Count} (ts : Row_of-Term n) (T V : Reading) (s z : State) → Keeps g T V s z → both (all_simple ts) ≡ true → BothFit g T ts →
+        BothFit g V ts × Moved (Here z s) (Under z s) (parts g j ts) (parts g j ts)
+    both_kept end_of-Term T V s z k b w = absurd (false≢true b)
+    both_kept (more_of-Term t end_of-Term) T V s z k b w = absurd (false≢true b)
+    both_kept (more_of-Term t (more_of-Term u end_of-Term)) T V s z k b w =
+        let c = and_parts (is_simple t) (is_simple u) b in
+        let one = kept t T V s z k c.0 w.0 in
+        let below = λ (d : Binding). kept u (inner no_variables T) (inner no_variables V) (under s d) (under z d) (keeps_under g T V s z k d) c.1 w.1 in
+        ((one.0, (below program).0), ((one.1, refl), λ d. (below d).1))
+    both_kept (more_of-Term t (more_of-Term u (more_of-Term v ts))) T V s z k b w = absurd (false≢true b)

@@ -22,14 +22,16 @@ use Rattle.gb_meaning.specs.Commands.{terms_in}
 use Rattle.gb_laws.proofs.Nodes.{val_node}
 use Rattle.gb_changes.specs.Lifted.{Lifted}
 use Rattle.gb_changes.proofs.Trees.{raised_at, term_raised_is}
-use Rattle.gb_changes.proofs.Heads.{Moved, Here, Under, inner_same}
+use Rattle.gb_changes.specs.Formed.{HasArguments}
+use Rattle.gb_changes.proofs.Heads.{Moved, Here, Under, IsInner, Related, inner_same}
 use Rattle.gb_changes.proofs.Lookups.{raised_bound}
-use Rattle.gb_changes.proofs.Raising.{index_suc, lifted_under, lifted_side, denominator_raised}
-use Rattle.gb_smt_laws.specs.Simple.{is_simple, all_simple, is_simple_at, only}
+use Rattle.gb_changes.proofs.Raising.{index_suc, lifted_under, lifted_side, has_parts, denominator_raised}
+use Rattle.gb_smt_laws.specs.Simple.{is_simple, all_simple, is_simple_at, only, both}
 use Rattle.gb_smt_laws.specs.Reading.{Variables, no_variables, Reading, IsReadAt, inner}
-use Rattle.gb_smt_laws.specs.Fits.{IsOfValues, Fits, AllFit, OnlyFits}
-use Rattle.gb_smt_laws.proofs.Nodes.{OnlyFit, simple_node, literal_fits, whole_fits, bound_fits, read_fits, operator_fits, each_fits, some_fits}
-use mathlib.Core.Former.{Count}
+use Rattle.gb_smt_laws.specs.Fits.{IsOfValues, Fits, AllFit, OnlyFits, BothFit}
+use Rattle.gb_smt_laws.proofs.Nodes.{OnlyFit, BothAreFit, only_row, both_row, fits_row, two_simple, simple_node, node_fits, literal_fits, whole_fits, bound_fits, read_fits, operator_fits}
+use Rattle.sqlite_items.specs.formers.items.Items.{the_former}
+use mathlib.Core.Former.{Count, arity, this}
 
 pub no_type : (ty : Ty) → None ≡ Some ty → ⊥
 no_type ty e = cc
@@ -101,6 +103,19 @@ module _ (g : Setting) (j : Speaks) where
   OnlyIsRaised k V s q ts =
       OnlyFit g (inner no_variables V) (raised_row k (k + 1) ts) × Moved (Here s q) (Under s q) (map (part_of g j) (raised_row k (k + 1) ts)) (parts g j ts)
 
+  abbrev BothAreRaised : {n : Count} → ℕ → Reading → State → State → Row_of-Term n → Type 0
+  BothAreRaised k V s q ts =
+      BothAreFit g V (raised_row k (k + 1) ts) × Moved (Here s q) (Under s q) (map (part_of g j) (raised_row k (k + 1) ts)) (parts g j ts)
+
+  -- a term whose raised node fits, with arguments that mean what they meant
+  made : (h : Head) (n : List (Unit {0})) (ts : Row_of-Term (arity (the_former (this {0})) n)) (ty : Ty) (k : ℕ) (V : Reading) (s q : State) (args : List Term) →
+      term_raised (Term' tt (more_of-Head h end_of-Head) n ts ty) k ≡ node h args ty → Fits g V (node h args ty) → IsInner s q h → HasArguments h (parts g j ts) →
+      Related s q h (map (part_of g j) args) (parts g j ts) → IsRaised k V s q (Term' tt (more_of-Head h end_of-Head) n ts ty)
+  made h n ts ty k V s q args e f i a r = (
+    subst (Fits g V) (sym e) f,
+    ap (λ t. val g j t s) e ∙ val_node g j h args ty s ∙ inner_same s q g j (node h args ty) (Term' tt (more_of-Head h end_of-Head) n ts ty) h (map (part_of g j) args) (parts g j ts) ty i a r,
+  )
+
   mutual
     pub raised_fits : (t : Term) (k : ℕ) (W V : Reading) → RaisesTo k W V → (s q : State) → Lifted k s q → is_simple t ≡ true → Fits g W t → IsRaised k V s q t
     raised_fits (Term' p (more_of-Head (head.Lit v) end_of-Head) n ts ty) k W V f s q l b w =
@@ -125,28 +140,41 @@ module _ (g : Setting) (j : Speaks) where
         )
     raised_fits (Term' p (more_of-Head (head.Builtin o) end_of-Head) n ts ty) k W V f s q l b w =
         let args = raised_row k k ts in
-        let e = term_raised_is (head.Builtin o) n ts ty k in
-        let each = rows_fit ts k W V f s q l b w.1 in (
-          subst (Fits g V) (sym e) (operator_fits g V o args ty (subst (IsOfValues o) (sym each.2) w.0) each.0),
-          ap (λ t. val g j t s) e ∙ val_node g j (head.Builtin o) args ty s
-              ∙ inner_same s q g j (node (head.Builtin o) args ty) (Term' p (more_of-Head (head.Builtin o) end_of-Head) n ts ty) (head.Builtin o) (map (part_of g j) args) (parts g j ts) ty tt tt each.1,
-        )
+        let each = rows_fit ts k W V f s q l b w.1 in
+        made (head.Builtin o) n ts ty k V s q args (term_raised_is (head.Builtin o) n ts ty k)
+        (operator_fits g V o args ty (subst (IsOfValues o) (sym each.2) w.0) each.0) tt tt each.1
+    raised_fits (Term' p (more_of-Head (head.User v) end_of-Head) n ts ty) k W V f s q l b w =
+        let args = raised_row k k ts in
+        let each = rows_fit ts k W V f s q l b w in
+        made (head.User v) n ts ty k V s q args (term_raised_is (head.User v) n ts ty k) (node_fits g V (head.User v) args ty (fits_row g V args each.0)) tt tt each.1
+    raised_fits (Term' p (more_of-Head (head.Weights ps) end_of-Head) n ts ty) k W V f s q l b w =
+        let args = raised_row k k ts in
+        let each = rows_fit ts k W V f s q l b w in
+        made (head.Weights ps) n ts ty k V s q args (term_raised_is (head.Weights ps) n ts ty k) (node_fits g V (head.Weights ps) args ty (fits_row g V args each.0)) tt tt each.1
     raised_fits (Term' p (more_of-Head (head.All u) end_of-Head) n ts ty) k W V f s q l b w =
         let args = raised_row k (k + 1) ts in
-        let e = term_raised_is (head.All u) n ts ty k in
-        let each = only_raised ts k W V f s q l b w in (
-          subst (Fits g V) (sym e) (each_fits g V u args ty each.0),
-          ap (λ t. val g j t s) e ∙ val_node g j (head.All u) args ty s
-              ∙ inner_same s q g j (node (head.All u) args ty) (Term' p (more_of-Head (head.All u) end_of-Head) n ts ty) (head.All u) (map (part_of g j) args) (parts g j ts) ty tt tt each.1,
-        )
+        let each = only_raised ts k W V f s q l b w in
+        made (head.All u) n ts ty k V s q args (term_raised_is (head.All u) n ts ty k) (node_fits g V (head.All u) args ty (only_row g (inner no_variables V) args each.0)) tt tt each.1
     raised_fits (Term' p (more_of-Head (head.Some u) end_of-Head) n ts ty) k W V f s q l b w =
         let args = raised_row k (k + 1) ts in
-        let e = term_raised_is (head.Some u) n ts ty k in
-        let each = only_raised ts k W V f s q l b w in (
-          subst (Fits g V) (sym e) (some_fits g V u args ty each.0),
-          ap (λ t. val g j t s) e ∙ val_node g j (head.Some u) args ty s
-              ∙ inner_same s q g j (node (head.Some u) args ty) (Term' p (more_of-Head (head.Some u) end_of-Head) n ts ty) (head.Some u) (map (part_of g j) args) (parts g j ts) ty tt tt each.1,
-        )
+        let each = only_raised ts k W V f s q l b w in
+        made (head.Some u) n ts ty k V s q args (term_raised_is (head.Some u) n ts ty k) (node_fits g V (head.Some u) args ty (only_row g (inner no_variables V) args each.0)) tt tt each.1
+    raised_fits (Term' p (more_of-Head (head.Sum m) end_of-Head) n ts ty) k W V f s q l b w =
+        let args = raised_row k (k + 1) ts in
+        let each = only_raised ts k W V f s q l b w in
+        made (head.Sum m) n ts ty k V s q args (term_raised_is (head.Sum m) n ts ty k) (node_fits g V (head.Sum m) args ty (only_row g (inner no_variables V) args each.0)) tt tt each.1
+    raised_fits (Term' p (more_of-Head head.Mu end_of-Head) n ts ty) k W V f s q l b w =
+        let args = raised_row k (k + 1) ts in
+        let each = both_raised ts k W V f s q l b w in
+        made head.Mu n ts ty k V s q args (term_raised_is head.Mu n ts ty k) (node_fits g V head.Mu args ty (both_row g V args each.0)) tt (has_parts g j head.Mu ts (two_simple ts b)) each.1
+    raised_fits (Term' p (more_of-Head head.Map end_of-Head) n ts ty) k W V f s q l b w =
+        let args = raised_row k (k + 1) ts in
+        let each = both_raised ts k W V f s q l b w in
+        made head.Map n ts ty k V s q args (term_raised_is head.Map n ts ty k) (node_fits g V head.Map args ty (both_row g V args each.0)) tt (has_parts g j head.Map ts (two_simple ts b)) each.1
+    raised_fits (Term' p (more_of-Head head.Restrict end_of-Head) n ts ty) k W V f s q l b w =
+        let args = raised_row k (k + 1) ts in
+        let each = both_raised ts k W V f s q l b w in
+        made head.Restrict n ts ty k V s q args (term_raised_is head.Restrict n ts ty k) (node_fits g V head.Restrict args ty (both_row g V args each.0)) tt (has_parts g j head.Restrict ts (two_simple ts b)) each.1
     raised_fits (Term' p (more_of-Head h end_of-Head) n ts ty) k W V f s q l b w = absurd (false≢true b)
 
     rows_fit : {n : Count} (ts : Row_of-Term n) (k : ℕ) (W V : Reading) → RaisesTo k W V → (s q : State) → Lifted k s q → list_all (λ b. b) (all_simple ts) ≡ true → AllFit g W ts →
@@ -169,3 +197,14 @@ module _ (g : Setting) (j : Speaks) where
         let below = λ (c : Binding). raised_fits t (k + 1) (inner no_variables W) (inner no_variables V) (raises_beneath k W V f) (under s c) (under q c) (lifted_under k s q l c) b w in
         ((below program).0, λ c. (below c).1)
     only_raised (more_of-Term t (more_of-Term u ts)) k W V f s q l b w = absurd (false≢true b)
+
+    both_raised : {n : Count} (ts : Row_of-Term n) (k : ℕ) (W V : Reading) → RaisesTo k W V → (s q : State) → Lifted k s q → both (all_simple ts) ≡ true → BothFit g W ts →
+        BothAreRaised k V s q ts
+    both_raised end_of-Term k W V f s q l b w = absurd (false≢true b)
+    both_raised (more_of-Term t end_of-Term) k W V f s q l b w = absurd (false≢true b)
+    both_raised (more_of-Term t (more_of-Term u end_of-Term)) k W V f s q l b w =
+        let c = and_parts (is_simple t) (is_simple u) b in
+        let one = raised_fits t k W V f s q l c.0 w.0 in
+        let below = λ (d : Binding). raised_fits u (k + 1) (inner no_variables W) (inner no_variables V) (raises_beneath k W V f) (under s d) (under q d) (lifted_under k s q l d) c.1 w.1 in
+        ((one.0, (below program).0), ((one.1, denominator_raised g t k), λ d. (below d).1))
+    both_raised (more_of-Term t (more_of-Term u (more_of-Term v ts))) k W V f s q l b w = absurd (false≢true b)

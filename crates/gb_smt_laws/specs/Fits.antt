@@ -19,8 +19,14 @@ abbrev mutual
   pub Fits : Setting → Reading → Term → Type 0
   Fits g T (Term' p (more_of-Head (head.Read r) end_of-Head) n ts ty) = IsReadAt T r ty
   Fits g T (Term' p (more_of-Head (head.Builtin o) end_of-Head) n ts ty) = IsOfValues o (denominators g ts) × AllFit g T ts
+  Fits g T (Term' p (more_of-Head (head.User v) end_of-Head) n ts ty) = AllFit g T ts
+  Fits g T (Term' p (more_of-Head (head.Weights ps) end_of-Head) n ts ty) = AllFit g T ts
   Fits g T (Term' p (more_of-Head (head.All u) end_of-Head) n ts ty) = OnlyFits g (inner no_variables T) ts
   Fits g T (Term' p (more_of-Head (head.Some u) end_of-Head) n ts ty) = OnlyFits g (inner no_variables T) ts
+  Fits g T (Term' p (more_of-Head (head.Sum q) end_of-Head) n ts ty) = OnlyFits g (inner no_variables T) ts
+  Fits g T (Term' p (more_of-Head head.Mu end_of-Head) n ts ty) = BothFit g T ts
+  Fits g T (Term' p (more_of-Head head.Map end_of-Head) n ts ty) = BothFit g T ts
+  Fits g T (Term' p (more_of-Head head.Restrict end_of-Head) n ts ty) = BothFit g T ts
   Fits g T (Term' p (more_of-Head head.AllMemory end_of-Head) n ts ty) =
       (f : Variables) × AreHeld g f × OnlyFits g (inner f T) ts
   Fits g T _ = Unit {0}
@@ -32,3 +38,8 @@ abbrev mutual
   pub OnlyFits : {n : _} → Setting → Reading → Row_of-Term n → Type 0
   OnlyFits g T (more_of-Term t end_of-Term) = Fits g T t
   OnlyFits g T _ = Unit {0}
+
+  -- a distribution, and what is said of its outcomes
+  pub BothFit : {n : _} → Setting → Reading → Row_of-Term n → Type 0
+  BothFit g T (more_of-Term t (more_of-Term u end_of-Term)) = Fits g T t × Fits g (inner no_variables T) u
+  BothFit g T _ = Unit {0}

@@ -44,6 +44,8 @@ pub enum BodyRule {
     Seq(Cut, Form),
     If(Acts),
     Wp(Acts),
+    /// The goal where a form holds before, and the goal where it doesn't.
+    Case(Form),
     /// A step to which the form of the goal does not fit: its arguments have no types there.
     Unfit,
 }
@@ -71,4 +73,14 @@ pub enum AmbientRule {
     Case(Form),
     /// A form is shown, and then is a hypothesis of this name.
     Have(Name, Form),
+    /// The value of a leading `forall` as a variable of this name, or a leading premise as a hypothesis of this name.
+    Introduce(Name),
+    /// The memory of a leading `forall` as a memory of this name.
+    IntroduceMemory(Name),
+    /// A leading premise is dropped.
+    Discard,
+    /// A leading premise that is a conjunction as two premises; one that is an `exists` as a `forall` in front.
+    Unpack,
+    /// A leading premise that is a disjunction as one goal for each side.
+    Branch,
 }

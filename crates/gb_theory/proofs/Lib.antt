@@ -1,4 +1,5 @@
 pub mod Answered
+pub mod Combined
 pub mod Cuts
 pub mod Declared
 pub mod InProofs

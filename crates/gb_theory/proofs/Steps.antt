@@ -1,5 +1,5 @@
 -- What rules give, and the goals after a step.
-use Rattle.std.proofs.Common.{◌≡◌, List, [], ◌∷◌, ◌++◌, drop, Some, None, ap, sym, subst}
+use Rattle.std.proofs.Common.{◌≡◌, List, [], ◌∷◌, ◌++◌, drop, Some, None, ap, sym, ◌∙◌, subst}
 use Rattle.std.specs.List.{slice_get}
 use Rattle.std.specs.Prelude.{Result, Ok, Err}
 use Rattle.gb_core.specs.declared.place.Place.{Place}
@@ -11,7 +11,7 @@ use Rattle.gb_steps.specs.declared.step.Rule.{Rule}
 use Rattle.gb_steps.specs.declared.step.Rule.TheVariants as rule
 use Rattle.gb_steps.specs.declared.step.Step.{Step}
 use Rattle.gb_script.specs.declared.tree.Node.{Node}
-use Rattle.gb_goal.specs.Answers.{Answer, Answers, Gives}
+use Rattle.gb_goal.specs.Answers.{Answer, Answers, Gives, Fails, ◌>>=◌}
 use Rattle.gb_goal.specs.Rows.{stepped}
 use Rattle.gb_steps.specs.declared.step.AmbientRule.{AmbientRule}
 use Rattle.gb_steps.specs.declared.step.BodyRule.{BodyRule}
@@ -24,8 +24,9 @@ use Rattle.gb_smt.specs.Leaves.{leaves_of}
 use Rattle.gb_smt.specs.Apply.{IsResult}
 use Rattle.gb_amb.specs.Steps.{IsAnswer, Returns}
 use Rattle.gb_verdict.specs.Session.{Session, OpenProof, with_goals}
-use Rattle.gb_verdict.specs.Commands.{After, row_of, Applied, continued, Works, WorksOn}
-use Rattle.gb_theory.specs.Sessions.{Meets}
+use Rattle.gb_verdict.specs.Tactics.{Stepping, works}
+use Rattle.gb_verdict.specs.Commands.{After, allowed, row_of, Applied, AreRules, RuleAnswers, continued, WorksOn}
+use Rattle.gb_theory.specs.Sessions.{Meets, IsDue}
 use Rattle.gb_theory.proofs.Answered.{gives_meets}
 
 of_smt : (ds : Declarations) (place : Place) (q : Sequent) (result : Result (List Sequent) Refused)
@@ -70,17 +71,28 @@ relational_meets ds r b place q result is h =
 after_given : {X Y : Type 0} (P : X → Answer Y → Type 0) (a : Answer X) (x : X) (r : Answer Y) → a ≡ given x → P x r → After a P r
 after_given P a x r e h = subst (λ y. After y P r) (sym e) h
 
+-- what a typed step at a goal comes to
+abbrev Ruled : Declarations → Sequent → Step → Answer (List Sequent) → Type 0
+Ruled ds q step x = (y : Answer (List Sequent)) × Applied ds step.rule step.place q y × (x ≡ (y >>= allowed step.place))
+
+-- the subgoals of a rule, each within its limits
+pub subgoals_meet : (ds : Declarations) (t : Node) (q : Sequent) (step : Step) (qs : List Sequent) (r : Result (List Sequent) Refused)
+    → step_given ds q t ≡ given step → Applied ds step.rule step.place q (given qs) → Answers (allowed step.place qs) r → Meets (λ (x : List Sequent). x) (RuleAnswers ds t q) r
+subgoals_meet ds t q step qs r typed applied h =
+    gives_meets (λ (x : List Sequent). x) (RuleAnswers ds t q) (allowed step.place qs) r h
+    (λ x e. after_given (Ruled ds q) (step_given ds q t) step x typed (given qs, applied, e))
+
+-- where one answer is due, what meets it is that answer
+pub one_is_met : (P : Answer (List Sequent) → Type 0) (a : Answer (List Sequent)) (r : Result (List Sequent) Refused)
+    → ((x y : Answer (List Sequent)) → P x → P y → x ≡ y) → P a → Meets (λ (x : List Sequent). x) P r → Answers a r
+one_is_met P a (Ok qs) one h m = one a (given qs) h m
+one_is_met P a (Err NoMemory) one h m = tt
+one_is_met P a (Err ReadFault) one h m = m
+one_is_met P a (Err (Script why at)) one h m = one a (refused why at) h m
+
 -- the session in which these goals stand in front of the others
 abbrev goes_on : Session → OpenProof → List Sequent → List Sequent → Session
 goes_on s p rest qs = with_goals s p (qs ++ rest)
-
--- the subgoals of a rule, and what becomes of them
-rule_gives : (s : Session) (p : OpenProof) (t : Node) (q : Sequent) (rest : List Sequent) (step : Step) (qs : List Sequent) (r : Result (List Sequent) Refused)
-    → step_given s.scope q t ≡ given step → Applied s.scope step.rule step.place q (given qs)
-    → Gives (goes_on s p rest) (continued s p rest step.place qs) r → Meets (goes_on s p rest) (WorksOn (q ∷ rest) s p t) r
-rule_gives s p t q rest step qs r typed applied h =
-    gives_meets (goes_on s p rest) (WorksOn (q ∷ rest) s p t) (continued s p rest step.place qs) r h
-    (λ x e. after_given (Works s p q rest) (step_given s.scope q t) step x typed (given qs, applied, e))
 
 -- the first goal, and the others
 first_and_rest : (goals : List Sequent) (q : Sequent) → slice_get goals 0 ≡ Some q → goals ≡ q ∷ drop 1 goals
@@ -88,12 +100,18 @@ first_and_rest [] q e = absurd (cc)
 first_and_rest (g ∷ gs) q e = cc
 
 -- what becomes of the first goal and the others, in each session of this scope
-pub next_meets : (ds : Declarations) (goals : List Sequent) (q : Sequent) (t : Node) (step : Step) (qs : List Sequent) (r : Result (List Sequent) Refused)
-    → slice_get goals 0 ≡ Some q → step_given ds q t ≡ given step → Applied ds step.rule step.place q (given qs)
-    → ((s : Session) (p : OpenProof) → Gives (goes_on s p (drop 1 goals)) (continued s p (drop 1 goals) step.place qs) r)
-    → (s : Session) (p : OpenProof) → s.scope ≡ ds → Meets (goes_on s p (drop 1 goals)) (WorksOn goals s p t) r
-next_meets ds goals q t step qs r first typed applied h s p is =
-    subst (λ (gs : List Sequent). Meets (goes_on s p (drop 1 goals)) (WorksOn gs s p t) r) (sym (first_and_rest goals q first))
-    (rule_gives s p t q (drop 1 goals) step qs r
-    (subst (λ (d : Declarations). step_given d q t ≡ given step) (sym is) typed)
-    (subst (λ (d : Declarations). Applied d step.rule step.place q (given qs)) (sym is) applied) (h s p))
+module _ (ds : Declarations) (goals : List Sequent) (q : Sequent) (t : Node) (place : Place) (first : slice_get goals 0 ≡ Some q) (f : Node → Stepping) (rules : AreRules ds f) where
+  pub next_meets : (qs : List Sequent) (r : Result (List Sequent) Refused) → works f t (q ∷ []) ≡ given qs
+      → ((s : Session) (p : OpenProof) → Gives (goes_on s p (drop 1 goals)) (continued s p (drop 1 goals) place qs) r)
+      → (s : Session) (p : OpenProof) → s.scope ≡ ds → Meets (goes_on s p (drop 1 goals)) (WorksOn goals s p t place) r
+  next_meets qs r worked h s p is =
+      subst (λ (gs : List Sequent). Meets (goes_on s p (drop 1 goals)) (WorksOn gs s p t place) r) (sym (first_and_rest goals q first))
+      (gives_meets (goes_on s p (drop 1 goals)) (WorksOn (q ∷ drop 1 goals) s p t place) (continued s p (drop 1 goals) place qs) r (h s p)
+      (λ x e. (f, subst (λ d. AreRules d f) (sym is) rules, e ∙ sym (ap (λ (a : Answer (List Sequent)). a >>= continued s p (drop 1 goals) place) worked))))
+
+  pub next_fails : (e : Refused) → Fails (works f t (q ∷ [])) e → (s : Session) (p : OpenProof) → s.scope ≡ ds → IsDue (WorksOn goals s p t place) e
+  next_fails NoMemory h s p is = tt
+  next_fails ReadFault h s p is = h
+  next_fails (Script why at) h s p is =
+      subst (λ (gs : List Sequent). WorksOn gs s p t place (refused why at)) (sym (first_and_rest goals q first))
+      (f, subst (λ d. AreRules d f) (sym is) rules, sym (ap (λ (a : Answer (List Sequent)). a >>= continued s p (drop 1 goals) place) h))

@@ -1,4 +1,5 @@
 pub mod Opened
 pub mod Placed
 pub mod Sessions
+pub mod Tactics
 pub mod Verdicts

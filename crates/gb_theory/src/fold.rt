@@ -7,12 +7,13 @@ ghost use Rattle.gb_script.specs.Tree.{head_of, parts_of, place_of};
 ghost use Rattle.gb_goal.specs.Answers.{Gives};
 ghost use Rattle.gb_elab_mod.specs.Lemmas.{lemma_name};
 ghost use Rattle.gb_verdict.specs.Session.{Session, OpenProof as Opened, with_goals};
-ghost use Rattle.gb_verdict.specs.Commands.{assumes, brings, declares, is_built_in, opens, requires_files, begun, ended, continued, InProof, Proves, Applied, unnamed, sole_rule, WorksOn, ComesToOf, ComesTo};
+ghost use Rattle.gb_verdict.specs.Commands.{assumes, brings, declares, is_built_in, opens, requires_files, begun, ended, continued, InProof, Proves, WorksOn, ComesToOf, ComesTo};
 ghost use Rattle.gb_theory.specs.Placed.{placed};
 ghost use Rattle.gb_theory.specs.Sessions.{session_of, Meets, Leads, IsKept};
 
-use crate::limits::{check_all, check_declarations, check_each, check_goal};
+use crate::limits::{check_all, check_declarations, check_goal};
 use crate::state::{OpenProof, State};
+use crate::tactics::work_on_one;
 use gb_core::name::{Name, Names};
 use gb_core::place::Place;
 use gb_core::refusal::{Refused, Why};
@@ -21,7 +22,7 @@ use gb_goal::sequent::{Sequent, Sequents};
 use gb_script::head::Head;
 use gb_script::tree::Node;
 use gb_steps::goals::Goals;
-use gb_steps::step::{Rule, Step};
+use gb_verdict::laws::rules_have_answers;
 use std::alloc::{AllocError, Global};
 
 fn refused(why: Why, place: Place) -> Refused
@@ -88,7 +89,7 @@ fn dispatch(
         Head::Proof => begin_proof(state, command.place),
         Head::Qed => close_proof(alloc, state, command.place),
         Head::Tactic => match parts {
-            [step, more @ ..] => prove_by(alloc, state, step, more),
+            [step, ..] => prove(alloc, state, command, step.place),
             [] => Err(refused(Why::Syntax, command.place)),
         },
         // no section and no theory can be opened yet
@@ -146,7 +147,7 @@ fn declare(alloc: Global, state: &mut State, tree: &Node, place: Place) -> Resul
     if state.proof.is_some() {
         return Err(refused(Why::NoGoal, place));
     }
-    let added = gb_elab_mod::entries::entries(alloc, &state.scope, tree)?;
+    let added = gb_elab_prog::entries::entries(alloc, &state.scope, tree)?;
     check_declarations(&state.scope, place)?;
     state.scope.declare_all(alloc, added)?;
     Ok(())
@@ -165,7 +166,7 @@ fn declare_module(
     if state.proof.is_some() {
         return Err(refused(Why::NoGoal, place));
     }
-    let module = gb_elab_mod::module::module(alloc, &state.scope, tree)?;
+    let module = gb_elab_prog::module::module(alloc, &state.scope, tree)?;
     check_declarations(&state.scope, place)?;
     state.scope.declare_module(alloc, module)?;
     Ok(())
@@ -272,56 +273,16 @@ fn bring_in(
     scope.declare_lemma(alloc, name, statement)
 }
 
-/// A tactic is a single rule; what is more isn't built.
-fn prove_by(alloc: Global, state: &mut State, step: &Node, more: &[Node]) -> Result<(), Refused>
-    ensures session { Leads (Proves (session_of state.old) (sole_rule (head_of step.now) (parts_of step.now) more.now) (place_of step.now))
-        (session_of state.new) result }
-    ensures kept { IsKept (session_of state.old) (session_of state.new) result }
-{
-    match sole_rule(step.head, step.parts.as_slice(), more) {
-        Some(rule) => prove(alloc, state, rule),
-        None => Err(refused(Why::Syntax, step.place)),
-    }
-}
-
-/// The rule of a tactic whose first step has this head and these parts, where it stands alone.
-fn sole_rule<'a>(head: Head, parts: &'a [Node], more: &[Node]) -> Option<&'a Node>
-    ensures { option_copied result ≡ sole_rule head parts.now more.now }
-{
-    match head {
-        Head::Rule => match parts {
-            [rule, introduction] => match more {
-                [] => unnamed(rule, introduction.head),
-                _ => None,
-            },
-            _ => None,
-        },
-        _ => None,
-    }
-}
-
-/// A rule behind which no premises are named.
-fn unnamed(rule: &Node, introduction: Head) -> Option<&Node>
-    ensures { option_copied result ≡ unnamed rule.now introduction }
-{
-    match introduction {
-        Head::NoIntroduction => Some(rule),
-        _ => None,
-    }
-}
-
-/// A rule works on the first goal, and puts its subgoals in front of the others. Where it is refused the proof stays as it
-/// was.
-fn prove(alloc: Global, state: &mut State, tree: &Node) -> Result<(), Refused>
-    ensures session { Leads
-        (InProof (session_of state.old).proof (place_of tree.now) (λ p. WorksOn p.goals (session_of state.old) p tree.now))
-        (session_of state.new) result }
+/// A tactic works on the first goal, and puts what is left of it in front of the others. Where it is refused the proof stays as
+/// it was.
+fn prove(alloc: Global, state: &mut State, tree: &Node, place: Place) -> Result<(), Refused>
+    ensures session { Leads (Proves (session_of state.old) tree.now place) (session_of state.new) result }
     ensures kept { IsKept (session_of state.old) (session_of state.new) result }
 {
     let Some(proof) = state.proof.take() else {
-        return Err(refused(Why::NoGoal, tree.place));
+        return Err(refused(Why::NoGoal, place));
     };
-    match subgoals(alloc, &state.scope, &proof.goals, tree) {
+    match subgoals(alloc, &state.scope, &proof.goals, tree, place) {
         Ok(next) => {
             let proof = stepped(proof, next)?;
             state.proof = Some(proof);
@@ -353,37 +314,30 @@ fn stepped(proof: OpenProof, next: Sequents) -> Result<OpenProof, AllocError>
     })
 }
 
-/// The goals that a proof step puts in the place of the first one.
-fn subgoals(alloc: Global, scope: &Scope, goals: &Goals, tree: &Node) -> Result<Sequents, Refused>
+/// The goals that a tactic puts in the place of the first one.
+fn subgoals(
+    alloc: Global,
+    scope: &Scope,
+    goals: &Goals,
+    tree: &Node,
+    place: Place,
+) -> Result<Sequents, Refused>
     ensures { (s : Session) (p : Opened) → s.scope ≡ scope.now
-        → Meets (λ next. with_goals s p (next ++ drop 1 goals.now)) (WorksOn goals.now s p tree.now) result }
+        → Meets (λ next. with_goals s p (next ++ drop 1 goals.now)) (WorksOn goals.now s p tree.now place) result }
 {
     let Some(first) = goals.get(0) else {
-        return Err(refused(Why::NoGoal, tree.place));
+        return Err(refused(Why::NoGoal, place));
     };
-    let step = gb_elab_mod::step::proof_step(alloc, scope, first, tree)?;
-    let next = apply(alloc, &step, first, scope)?;
-    within_limits(next, goals, step.place)
+    rules_have_answers();
+    let next = work_on_one(alloc, scope, tree, first)?;
+    within_limits(next, goals, place)
 }
 
-/// The subgoals of a step, where they pass no limit, neither alone nor with the goals behind the first one.
+/// The goals that are left of the first one, where they pass no limit with the others.
 fn within_limits(next: Sequents, goals: &Goals, place: Place) -> Result<Sequents, Refused>
     ensures { (s : Session) (p : Opened) → Gives (λ qs. with_goals s p (qs ++ drop 1 goals.now))
         (continued s p (drop 1 goals.now) place next) result }
 {
-    check_each(next.as_slice(), place)?;
     check_all(next.as_slice(), goals, place)?;
     Ok(next)
-}
-
-/// The subgoals of a rule, by the crate that has its row.
-fn apply(alloc: Global, step: &Step, goal: &Sequent, scope: &Scope) -> Result<Sequents, Refused>
-    ensures { Meets (λ x. x) (Applied scope.now step.now.rule step.now.place goal.now) result }
-{
-    match &step.rule {
-        Rule::OnBodies(_) => gb_bodies::apply::apply(alloc, step, goal, scope),
-        Rule::Relational(_) => gb_equiv::apply(alloc, step, goal, scope),
-        Rule::Ambient(rule) => gb_amb::apply::apply(alloc, rule, step.place, goal),
-        Rule::Smt => gb_smt::apply::apply(alloc, step, goal, scope),
-    }
 }

@@ -5,4 +5,5 @@ mod fold;
 pub mod laws;
 mod limits;
 mod state;
+mod tactics;
 pub mod verdict;

@@ -33,7 +33,8 @@ use Rattle.gb_smt.specs.Leaves.{leaves_of}
 use Rattle.gb_smt.specs.Apply.{IsAnswerOf}
 use Rattle.gb_amb.specs.Steps.{IsAnswer}
 use Rattle.gb_verdict.specs.Session.{Session, OpenProof, fresh_session}
-use Rattle.gb_verdict.specs.Commands.{After, requires_files, assumes, brings, declares, opens, begun, ended, closed_unless, row_of, Applied, continued, Works, WorksOn, InProof, sole_rule, Proves, ComesToOf, ComesTo}
+use Rattle.gb_verdict.specs.Commands.{After, requires_files, assumes, brings, declares, opens, begun, ended, closed_unless, row_of, Applied, allowed, RuleAnswers, AreRules, continued, WorksOn, InProof, Proves, ComesToOf, ComesTo}
+use Rattle.gb_verdict.specs.Tactics.{Stepping, works}
 use Rattle.gb_verdict.specs.Verdict.{IsReadAs, IsEnd, Ends, Goes, RunsIn, start, IsOutcome}
 
 -- Some answer is such.
@@ -58,18 +59,24 @@ module _
   applied ds (rule.Relational r) place q = (stepped (row_of ds (rule.Relational r)) place q, refl)
   applied ds (rule.Ambient r) place q = some_answer r place q
 
-  worked : (s : Session) (p : OpenProof) (q : Sequent) (rest : List Sequent) (step : Step) → Some_of (Works s p q rest step)
-  worked s p q rest step =
-      let x = applied s.scope step.rule step.place q in
-      (x.0 >>= continued s p rest step.place, (x.0, x.1, refl))
+  rule_answers : (ds : Declarations) (t : Node) (q : Sequent) → Some_of (RuleAnswers ds t q)
+  rule_answers ds t q =
+      after (step_given ds q t) (λ step x. (y : Answer (List Sequent)) × Applied ds step.rule step.place q y × (x ≡ (y >>= allowed step.place)))
+      (λ step. let y = applied ds step.rule step.place q in (y.0 >>= allowed step.place, (y.0, y.1, refl)))
 
-  worked_on : (qs : List Sequent) (s : Session) (p : OpenProof) (tree : Node) → Some_of (WorksOn qs s p tree)
-  worked_on [] s p tree = (refused NoGoal (place_of tree), refl)
-  worked_on (q ∷ rest) s p tree = after (step_given s.scope q tree) (Works s p q rest) (worked s p q rest)
+  abbrev rules : Declarations → Node → Stepping
+  rules ds t q = (rule_answers ds t q).0
 
-  proved : (s : Session) (tree : Option Node) (place : Place) → Some_of (Proves s tree place)
-  proved s (Some tree) place = in_proof s.proof (place_of tree) (λ p. WorksOn p.goals s p tree) (λ p. worked_on p.goals s p tree)
-  proved s None place = (not_built place, refl)
+  pub all_rules : (ds : Declarations) → (f : Node → Stepping) × AreRules ds f
+  all_rules ds = (rules ds, λ t q. (rule_answers ds t q).1)
+
+  worked_on : (qs : List Sequent) (s : Session) (p : OpenProof) (tree : Node) (place : Place) → Some_of (WorksOn qs s p tree place)
+  worked_on [] s p tree place = (refused NoGoal place, refl)
+  worked_on (q ∷ rest) s p tree place =
+      (works (rules s.scope) tree (q ∷ []) >>= continued s p rest place, (rules s.scope, (λ t q. (rule_answers s.scope t q).1), refl))
+
+  proved : (s : Session) (tree : Node) (place : Place) → Some_of (Proves s tree place)
+  proved s tree place = in_proof s.proof place (λ p. WorksOn p.goals s p tree place) (λ p. worked_on p.goals s p tree place)
 
   come_of : (s : Session) (c : Node) (h : Head) (parts : List Node) → Some_of (ComesToOf s c h parts)
   come_of s c head.Require (import ∷ names ∷ []) = (requires_files s (parts_of names) (place_of c), refl)
@@ -81,7 +88,7 @@ module _
   come_of s c head.Lemma (name ∷ parts) = (opens s c (text_of name) (place_of c), refl)
   come_of s c head.Proof parts = in_proof s.proof (place_of c) (λ p x. x ≡ begun s p (place_of c)) (λ p. (begun s p (place_of c), refl))
   come_of s c head.Qed parts = in_proof s.proof (place_of c) (λ p x. x ≡ ended p.goals s p (place_of c)) (λ p. (ended p.goals s p (place_of c), refl))
-  come_of s c head.Tactic (step ∷ more) = proved s (sole_rule (head_of step) (parts_of step) more) (place_of step)
+  come_of s c head.Tactic (step ∷ more) = proved s c (place_of step)
   come_of s c head.Local parts = (refused NoGoal (place_of c), refl)
   come_of s c head.Declare parts = (refused NoGoal (place_of c), refl)
   come_of s c head.EndSection parts = (refused NoGoal (place_of c), refl)

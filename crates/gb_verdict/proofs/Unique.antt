@@ -33,7 +33,9 @@ use Rattle.gb_smt.specs.Leaves.{leaves_of}
 use Rattle.gb_smt.specs.Apply.{IsAnswerOf}
 use Rattle.gb_amb.specs.Steps.{IsAnswer}
 use Rattle.gb_verdict.specs.Session.{Session, OpenProof, fresh_session}
-use Rattle.gb_verdict.specs.Commands.{After, closed_unless, Applied, continued, Works, WorksOn, InProof, Proves, ComesToOf, sole_rule, ComesTo}
+use Rattle.gb_verdict.specs.Commands.{After, closed_unless, Applied, allowed, RuleAnswers, AreRules, continued, WorksOn, InProof, Proves, ComesToOf, ComesTo}
+use Rattle.gb_verdict.specs.Tactics.{Stepping, works}
+use Rattle.std.proofs.Math.Path.{fun_ext}
 use Rattle.gb_verdict.specs.Verdict.{IsReadAs, IsEnd, Ends, RunsTo, Goes, RunsIn, start, IsOutcome}
 
 -- answers that go on from one answer are one where what follows is one
@@ -58,18 +60,25 @@ module _
   one_applied ds (rule.Relational r) place q x y h k = h ∙ sym k
   one_applied ds (rule.Ambient r) place q x y h k = one_step_answer r place q x y h k
 
-  one_step : (s : Session) (p : OpenProof) (q : Sequent) (rest : List Sequent) (step : Step) (r t : Answer Session)
-      → Works s p q rest step r → Works s p q rest step t → r ≡ t
-  one_step s p q rest step r t h k =
-      h.2 ∙ (ap (λ (x : Answer (List Sequent)). x >>= continued s p rest step.place) (one_applied s.scope step.rule step.place q h.0 k.0 h.1 k.1) ∙ sym k.2)
+  -- the answer of a typed rule, within the limits of a goal
+  abbrev Ruled : Declarations → Sequent → Step → Answer (List Sequent) → Type 0
+  Ruled ds q step x = (y : Answer (List Sequent)) × Applied ds step.rule step.place q y × (x ≡ (y >>= allowed step.place))
 
-  one_on : (qs : List Sequent) (s : Session) (p : OpenProof) (tree : Node) (r t : Answer Session) → WorksOn qs s p tree r → WorksOn qs s p tree t → r ≡ t
-  one_on [] s p tree r t h k = h ∙ sym k
-  one_on (q ∷ rest) s p tree r t h k = after_same (step_given s.scope q tree) (Works s p q rest) (Works s p q rest) (one_step s p q rest) r t h k
+  pub one_rule : (ds : Declarations) (t : Node) (q : Sequent) (x y : Answer (List Sequent)) → RuleAnswers ds t q x → RuleAnswers ds t q y → x ≡ y
+  one_rule ds t q x y h k =
+      after_same (step_given ds q t) (Ruled ds q) (Ruled ds q)
+      (λ step a b u v. u.2 ∙ (ap (λ (z : Answer (List Sequent)). z >>= allowed step.place) (one_applied ds step.rule step.place q u.0 v.0 u.1 v.1) ∙ sym v.2)) x y h k
 
-  one_proved : (s : Session) (tree : Option Node) (place : Place) (r t : Answer Session) → Proves s tree place r → Proves s tree place t → r ≡ t
-  one_proved s (Some tree) place r t h k = in_proof_same s.proof (place_of tree) _ (λ p x y. one_on p.goals s p tree x y) r t h k
-  one_proved s None place r t h k = h ∙ sym k
+  one_way : (ds : Declarations) (f g : Node → Stepping) → AreRules ds f → AreRules ds g → f ≡ g
+  one_way ds f g h k = fun_ext (λ t. fun_ext (λ q. one_rule ds t q (f t q) (g t q) (h t q) (k t q)))
+
+  one_on : (qs : List Sequent) (s : Session) (p : OpenProof) (tree : Node) (place : Place) (r t : Answer Session) → WorksOn qs s p tree place r → WorksOn qs s p tree place t → r ≡ t
+  one_on [] s p tree place r t h k = h ∙ sym k
+  one_on (q ∷ rest) s p tree place r t h k =
+      h.2 ∙ (ap (λ (f : Node → Stepping). works f tree (q ∷ []) >>= continued s p rest place) (one_way s.scope h.0 k.0 h.1 k.1) ∙ sym k.2)
+
+  one_proved : (s : Session) (tree : Node) (place : Place) (r t : Answer Session) → Proves s tree place r → Proves s tree place t → r ≡ t
+  one_proved s tree place r t h k = in_proof_same s.proof place _ (λ p x y. one_on p.goals s p tree place x y) r t h k
 
   one_of : (s : Session) (c : Node) (h : Head) (parts : List Node) (r t : Answer Session) → ComesToOf s c h parts r → ComesToOf s c h parts t → r ≡ t
   one_of s c head.Require (import ∷ names ∷ []) r t h k = h ∙ sym k
@@ -78,7 +87,7 @@ module _
   one_of s c head.Lemma (name ∷ parts) r t h k = h ∙ sym k
   one_of s c head.Proof parts r t h k = in_proof_same s.proof (place_of c) _ (λ p x y a b. a ∙ sym b) r t h k
   one_of s c head.Qed parts r t h k = in_proof_same s.proof (place_of c) _ (λ p x y a b. a ∙ sym b) r t h k
-  one_of s c head.Tactic (step ∷ more) r t h k = one_proved s (sole_rule (head_of step) (parts_of step) more) (place_of step) r t h k
+  one_of s c head.Tactic (step ∷ more) r t h k = one_proved s c (place_of step) r t h k
   one_of s c _ _ r t h k = h ∙ sym k
 
   one_command : (s : Session) (c : Node) (r t : Answer Session) → ComesTo s c r → ComesTo s c t → r ≡ t

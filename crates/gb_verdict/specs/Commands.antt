@@ -14,8 +14,8 @@ use Rattle.gb_script.specs.declared.tree.Node.{Node}
 use Rattle.gb_script.specs.Tree.{head_of, text_of, parts_of, place_of}
 use Rattle.gb_goal.specs.Answers.{Answer, ◌>>=◌, not_built, placed_at}
 use Rattle.gb_goal.specs.Answers.Answer.{given, refused}
-use Rattle.gb_elab_mod.specs.Entries.{entries_given}
-use Rattle.gb_elab_mod.specs.Modules.{module_given}
+use Rattle.gb_elab_prog.specs.Entries.{entries_given}
+use Rattle.gb_elab_prog.specs.Modules.{module_given}
 use Rattle.gb_elab_mod.specs.Lemmas.{statement_given}
 use Rattle.gb_elab_mod.specs.Steps.{step_given}
 use Rattle.gb_goal.specs.Rows.{Row, refusing, stepped}
@@ -25,6 +25,7 @@ use Rattle.gb_smt.specs.Leaves.{leaves_of}
 use Rattle.gb_smt.specs.Apply.{IsAnswerOf}
 use Rattle.gb_amb.specs.Steps as conclusions
 use Rattle.gb_verdict.specs.Limits.{declaration_limit, each_limit, all_limit}
+use Rattle.gb_verdict.specs.Tactics.{Stepping, works}
 use Rattle.gb_verdict.specs.Session.{Session, OpenProof, with_entries, with_module, with_lemma, with_goals, with_proved}
 
 -- an answer that goes on from this one; a refusal stands
@@ -36,6 +37,12 @@ After (refused why place) P r = r ≡ refused why place
 abbrev pub within : Option ℕ → Place → Answer (Unit {0})
 within None place = given tt
 within (Some limit) place = refused (TooMany limit) place
+
+-- goals that pass no limit of their own
+abbrev pub allowed : Place → List Sequent → Answer (List Sequent)
+allowed place qs = do
+  _ ← within (each_limit qs) place
+  given qs
 
 -- declarations stand outside proofs
 abbrev pub outside : Option OpenProof → Place → Answer (Unit {0})
@@ -116,41 +123,34 @@ Applied ds rule.Smt place q x = (found : Option Why) × IsAnswerOf (leaves_of q)
 Applied ds (rule.Ambient r) place q x = conclusions.IsAnswer r place q x
 Applied ds r place q x = x ≡ stepped (row_of ds r) place q
 
--- the subgoals of a step stand in front of the other goals
+-- What a rule of a text answers at a goal, with its arguments typed there: its subgoals, each within the limits of a goal.
+abbrev pub RuleAnswers : Declarations → Node → Sequent → Answer (List Sequent) → Type 0
+RuleAnswers ds t q r =
+    After (step_given ds q t) (λ step x. (y : Answer (List Sequent)) × Applied ds step.rule step.place q y × (x ≡ (y >>= allowed step.place))) r
+
+-- each rule answers so
+abbrev pub AreRules : Declarations → (Node → Stepping) → Type 0
+AreRules ds f = (t : Node) (q : Sequent) → RuleAnswers ds t q (f t q)
+
+-- what is left of the first goal stands in front of the other goals
 abbrev pub continued : Session → OpenProof → List Sequent → Place → List Sequent → Answer Session
 continued s p rest place qs = do
-  _ ← within (each_limit qs) place
   _ ← within (all_limit (qs ++ rest)) place
   given (with_goals s p (qs ++ rest))
 
--- a typed step works on the first goal
-abbrev pub Works : Session → OpenProof → Sequent → List Sequent → Step → Answer Session → Type 0
-Works s p q rest step r =
-    (x : Answer (List Sequent)) × Applied s.scope step.rule step.place q x × (r ≡ (x >>= continued s p rest step.place))
-
-abbrev pub WorksOn : List Sequent → Session → OpenProof → Node → Answer Session → Type 0
-WorksOn [] s p t r = r ≡ refused NoGoal (place_of t)
-WorksOn (q ∷ rest) s p t r = After (step_given s.scope q t) (Works s p q rest) r
+-- a tactic works on the first goal
+abbrev pub WorksOn : List Sequent → Session → OpenProof → Node → Place → Answer Session → Type 0
+WorksOn [] s p t place r = r ≡ refused NoGoal place
+WorksOn (q ∷ rest) s p t place r = (f : Node → Stepping) × AreRules s.scope f × (r ≡ (works f t (q ∷ []) >>= continued s p rest place))
 
 -- an open proof is asked for
 abbrev pub InProof : Option OpenProof → Place → (OpenProof → Answer Session → Type 0) → Answer Session → Type 0
 InProof None place P r = r ≡ refused NoGoal place
 InProof (Some p) place P r = P p r
 
--- a rule behind which no premises are named
-abbrev pub unnamed : Node → Head → Option Node
-unnamed rule head.NoIntroduction = Some rule
-unnamed rule _ = None
-
--- the rule of a tactic whose first step has this head and these parts, where it stands alone
-abbrev pub sole_rule : Head → List Node → List Node → Option Node
-sole_rule head.Rule (rule ∷ introduction ∷ []) [] = unnamed rule (head_of introduction)
-sole_rule _ _ _ = None
-
--- a rule is run in the open proof; what is more than one isn't built
-abbrev pub Proves : Session → Option Node → Place → Answer Session → Type 0
-Proves s (Some t) place r = InProof s.proof (place_of t) (λ p. WorksOn p.goals s p t) r
-Proves s None place r = r ≡ not_built place
+-- a tactic is run in the open proof
+abbrev pub Proves : Session → Node → Place → Answer Session → Type 0
+Proves s t place r = InProof s.proof place (λ p. WorksOn p.goals s p t place) r
 
 -- What a command of this head and these parts comes to. No section and no theory can be opened yet, so none is where `local`,
 -- `declare` and `end` ask for one. The last clause takes what isn't built, under which nodes of another
@@ -165,7 +165,7 @@ ComesToOf s c head.AscribedModule parts r = r ≡ declares s c (place_of c)
 ComesToOf s c head.Lemma (name ∷ parts) r = r ≡ opens s c (text_of name) (place_of c)
 ComesToOf s c head.Proof parts r = InProof s.proof (place_of c) (λ p x. x ≡ begun s p (place_of c)) r
 ComesToOf s c head.Qed parts r = InProof s.proof (place_of c) (λ p x. x ≡ ended p.goals s p (place_of c)) r
-ComesToOf s c head.Tactic (step ∷ more) r = Proves s (sole_rule (head_of step) (parts_of step) more) (place_of step) r
+ComesToOf s c head.Tactic (step ∷ more) r = Proves s c (place_of step) r
 ComesToOf s c head.Local parts r = r ≡ refused NoGoal (place_of c)
 ComesToOf s c head.Declare parts r = r ≡ refused NoGoal (place_of c)
 ComesToOf s c head.EndSection parts r = r ≡ refused NoGoal (place_of c)

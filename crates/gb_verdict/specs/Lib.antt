@@ -1,4 +1,5 @@
 pub mod Limits
 pub mod Session
+pub mod Tactics
 pub mod Commands
 pub mod Verdict

@@ -3,6 +3,11 @@
 ghost use Rattle.std.specs.Prelude.{◌≡◌, ℕ, List};
 ghost use Rattle.gb_goal.specs.Answers.{Answer};
 ghost use Rattle.gb_verdict.specs.Session.{Session};
+ghost use Rattle.gb_script.specs.declared.tree.Node.{Node};
+ghost use Rattle.gb_goal.specs.Scope.{Declarations};
+ghost use Rattle.gb_goal.specs.declared.sequent.Sequent.{Sequent};
+ghost use Rattle.gb_verdict.specs.Tactics.{Stepping};
+ghost use Rattle.gb_verdict.specs.Commands.{AreRules, RuleAnswers};
 ghost use Rattle.gb_verdict.specs.Verdict.{IsOutcome};
 
 use gb_amb::laws::answers;
@@ -31,4 +36,14 @@ pub fn each_text_has_an_outcome()
     each_fault_has_a_place();
     each_text_is_read_or_refused();
     commands_have_bytes();
+}
+
+/// Each rule of a text answers something at each goal, and one thing at most.
+pub fn rules_have_answers()
+    ensures some { (ds : Declarations) → (f : Node → Stepping) × AreRules ds f }
+    ensures one { (ds : Declarations) (t : Node) (q : Sequent) (x y : Answer (List Sequent)) → RuleAnswers ds t q x → RuleAnswers ds t q y → x ≡ y }
+{
+    there_is_an_answer();
+    there_is_one_answer();
+    answers();
 }

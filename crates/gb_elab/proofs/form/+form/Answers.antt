@@ -3,7 +3,7 @@ use Rattle.std.proofs.Common.{rules, ◌≡◌, [], ◌∷◌, ◌++◌, ◌+◌
 use Rattle.std.proofs.lemmas.List.{drop_all}
 use Rattle.std.specs.Option.{option_copied}
 use Rattle.gb_core.specs.declared.refusal.Why.TheVariants.{TypeMismatch}
-use Rattle.gb_script.specs.Tree.{head_of, text_of, place_of}
+use Rattle.gb_script.specs.Tree.{head_of, parts_of, text_of, place_of}
 use Rattle.gb_script.specs.declared.tree.Node.{size-Node}
 use Rattle.gb_goal.specs.Answers.{◌>>=◌}
 use Rattle.gb_goal.specs.Answers.Answer.{given}
@@ -12,12 +12,12 @@ use Rattle.gb_names.specs.Judgments.{Named}
 use Rattle.gb_names.specs.Names.{path, unit}
 use Rattle.gb_names.specs.Wanted.{wanted}
 use Rattle.gb_names.proofs.Answers.{answers_as, fails_as, refuses_as}
-use Rattle.gb_names.proofs.Parts.{four, left, two}
+use Rattle.gb_names.proofs.Parts.{four, left, three, two}
 use Rattle.gb_operators.specs.Rules.{made}
-use Rattle.gb_elab.specs.Forms.{applied, equivalence, from_right, function_typing, operation, typing, with_meanings}
-use Rattle.gb_elab.proofs.Arms.{name_is, path_is, number_is, unit_is, bracketed_is, sided_is, coin_is, function_is, typed_is, tuple_is, component_is, branches_is, get_is, set_is, product_is, uniform_is, apply_is, equalities_is, quantified_is, equiv_is, equivalence_is, other_form}
+use Rattle.gb_elab.specs.Forms.{applied, bounded, contract, contracting, equivalence, from_right, function_typing, operation, typing, with_meanings}
+use Rattle.gb_elab.proofs.Arms.{name_is, path_is, number_is, unit_is, bracketed_is, sided_is, coin_is, function_is, typed_is, tuple_is, component_is, branches_is, get_is, set_is, product_is, uniform_is, apply_is, equalities_is, quantified_is, equiv_is, equivalence_is, hoare_is, phoare_is, bounded_is, bounded_is_by, lossless_is, contract_is, other_contract, other_form}
 use Rattle.gb_elab.proofs.Functions as functions
-use Rattle.gb_elab.proofs.Elaborated.{elaborated_is, function_of_is}
+use Rattle.gb_elab.proofs.Elaborated.{contract_of_is, elaborated_is, function_of_is}
 use Rattle.gb_elab.proofs.Applied.{by_name, by_path, rest_is, rest_most}
 use Rattle.gb_elab.proofs.Operands.{at_end, behind, next_of, of_one, of_two, refuses}
 use Rattle.gb_elab.proofs.form.+form.Goals as goal
@@ -110,11 +110,27 @@ pub typing-returns-in-Equiv : goal.typing-returns-in-Equiv
 typing-returns-in-Equiv t c =
     answers_as _ _ c.equivalence.result (equiv_is c.args.head c.args.text.now c.args.parts.now c.args.place (environment c.args.at.now) c.args.bound.now (option_copied c.args.want) c.in-Equiv.is) (c.equivalence.ensures)
 
+pub typing-returns-in-Hoare : goal.typing-returns-in-Hoare
+typing-returns-in-Hoare t c =
+    answers_as _ _ c.hoare.result (hoare_is c.args.head c.args.text.now c.args.parts.now c.args.place (environment c.args.at.now) c.args.bound.now (option_copied c.args.want) c.in-Hoare.is) (c.hoare.ensures)
+
+pub typing-returns-in-Phoare : goal.typing-returns-in-Phoare
+typing-returns-in-Phoare t c =
+    answers_as _ _ c.without_bound.result (phoare_is c.args.head c.args.text.now c.args.parts.now c.args.place (environment c.args.at.now) c.args.bound.now (option_copied c.args.want) c.in-Phoare.is) (c.without_bound.ensures)
+
+pub typing-returns-in-Bounded : goal.typing-returns-in-Bounded
+typing-returns-in-Bounded t c =
+    answers_as _ _ c.bounded.result (bounded_is c.args.head c.args.text.now c.args.parts.now c.args.place (environment c.args.at.now) c.args.bound.now (option_copied c.args.want) c.in-Bounded.is) (c.bounded.ensures)
+
+pub typing-returns-in-Lossless : goal.typing-returns-in-Lossless
+typing-returns-in-Lossless t c =
+    answers_as _ _ c.lossless.result (lossless_is c.args.head c.args.text.now c.args.parts.now c.args.place (environment c.args.at.now) c.args.bound.now (option_copied c.args.want) c.in-Lossless.is) (c.lossless.ensures)
+
 pub typing-returns-in_default : goal.typing-returns-in_default
 typing-returns-in_default t c =
     let n = c.in_default in
     answers_as _ _ c.operation.result
-    (other_form c.args.head c.args.text.now (with_meanings c.args.parts.now) c.args.place (environment c.args.at.now) c.args.bound.now (option_copied c.args.want) n.not-Name n.not-Path n.not-Number n.not-Unit n.not-Bracketed n.not-Sided n.not-Coin n.not-Function n.not-TypedFunction n.not-Typed n.not-Tuple n.not-Component n.not-Conditional n.not-Chosen n.not-Get n.not-Set n.not-PowerProduct n.not-Uniform n.not-Apply n.not-Equalities n.not-Quantified n.not-Equiv
+    (other_form c.args.head c.args.text.now (with_meanings c.args.parts.now) c.args.place (environment c.args.at.now) c.args.bound.now (option_copied c.args.want) n.not-Name n.not-Path n.not-Number n.not-Unit n.not-Bracketed n.not-Sided n.not-Coin n.not-Function n.not-TypedFunction n.not-Typed n.not-Tuple n.not-Component n.not-Conditional n.not-Chosen n.not-Get n.not-Set n.not-PowerProduct n.not-Uniform n.not-Apply n.not-Equalities n.not-Quantified n.not-Equiv n.not-Hoare n.not-Phoare n.not-Bounded n.not-Lossless
     ∙ ap (λ o. operation o (with_meanings c.args.parts.now) c.args.place (environment c.args.at.now) c.args.bound.now (option_copied c.args.want)) (sym c.operator_of.ensures))
     c.operation.ensures
 
@@ -215,6 +231,45 @@ equivalence-returns-in_ok-pre-in-len4 t c =
     ∙ equivalence_is c.f-item.result c.g-item.result c.pre-item.result c.post-item.result c.args.place at c.args.bound.now w c.in_ok-judgment-in-len4.field-0 m c.in_ok-pre-in-len4.pre
     c.in_ok-judgment-in-len4.ensures c.in_ok-both-in-len4.ensures c.in_ok-pre-in-len4.ensures)
     c.with_postcondition.ensures
+
+pub bounded-returns-in_ok-contract-in-len2 : goal.bounded-returns-in_ok-contract-in-len2
+bounded-returns-in_ok-contract-in-len2 t c =
+    let at = environment c.args.at.now in
+    let w = option_copied c.args.want in
+    let e = two c.args.parts.now c.judged-item.result c.limit-item.result c.in-len2.len_at_least c.in-len2.len_below c.judged-item.is c.limit-item.is in
+    answers_as _ _ c.bounded_by.result
+    (ap (λ ps. bounded c.args.sign.now (with_meanings ps) c.args.place at c.args.bound.now w) e
+    ∙ bounded_is_by c.args.sign.now c.judged-item.result c.limit-item.result c.args.place at c.args.bound.now w c.in_ok-judgment-in-len2.field-0 c.in_ok-relation-in-len2.relation c.in_ok-contract-in-len2.contract
+    c.in_ok-judgment-in-len2.ensures c.in_ok-relation-in-len2.ensures c.in_ok-contract-in-len2.ensures)
+    c.bounded_by.ensures
+
+pub contract_of-returns-in-Phoare : goal.contract_of-returns-in-Phoare
+contract_of-returns-in-Phoare t c =
+    let at = environment c.args.at.now in
+    answers_as _ _ c.contract.result
+    (contract_of_is c.args.t.now at c.args.bound.now
+    ∙ (ap (λ k. contracting k (with_meanings (parts_of c.args.t.now)) (place_of c.args.t.now) at c.args.bound.now) c.in-Phoare.is
+    ∙ ap (λ ps. contract (with_meanings ps) (place_of c.args.t.now) at c.args.bound.now) (sym c.as_slice.ensures)))
+    c.contract.ensures
+
+pub contract_of-returns-in_default : goal.contract_of-returns-in_default
+contract_of-returns-in_default t c =
+    let at = environment c.args.at.now in
+    refuses_as _ c.mismatch.result TypeMismatch (place_of c.args.t.now)
+    (contract_of_is c.args.t.now at c.args.bound.now
+    ∙ other_contract (head_of c.args.t.now) (with_meanings (parts_of c.args.t.now)) (place_of c.args.t.now) at c.args.bound.now c.in_default.not-Phoare)
+    c.mismatch.ensures
+
+pub contract-returns-in_ok-pre-in-len3 : goal.contract-returns-in_ok-pre-in-len3
+contract-returns-in_ok-pre-in-len3 t c =
+    let at = environment c.args.at.now in
+    let named = c.in_ok-named-in-len3.named in
+    let e = three c.args.parts.now c.f-item.result c.pre-item.result c.post-item.result c.in-len3.len_at_least c.in-len3.len_below c.f-item.is c.pre-item.is c.post-item.is in
+    answers_as _ _ c.with_result.result
+    (ap (λ ps. contract (with_meanings ps) c.args.place at c.args.bound.now) e
+    ∙ contract_is c.f-item.result c.pre-item.result c.post-item.result c.args.place at c.args.bound.now (named.reference, named.procedure.now) c.in_ok-pre-in-len3.pre
+    c.in_ok-named-in-len3.ensures c.in_ok-pre-in-len3.ensures)
+    c.with_result.ensures
 
 pub function_of-returns : goal.function_of-returns
 function_of-returns t c =

@@ -1,4 +1,4 @@
-use Rattle.gb_elab_laws.proofs.Programs.{module_typed, module_free}
+use Rattle.gb_elab_laws.proofs.Members.{module_typed, module_free}
 use Rattle.gb_elab_laws.proofs.Scopes.{module_added}
 use Rattle.gb_elab_laws.proofs.declaration_laws.modules.Goals as goal
 

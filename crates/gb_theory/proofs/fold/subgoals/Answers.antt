@@ -1,9 +1,23 @@
--- The rule's subgoals stand in front of the other goals.
-use Rattle.std.proofs.Common.{sym}
-use Rattle.gb_theory.proofs.Steps.{next_meets}
+-- What is left of the first goal stands in front of the other goals.
+use Rattle.std.proofs.Common.{◌++◌, drop, ap, sym, ◌∙◌, subst}
+use Rattle.std.proofs.lemmas.Result.{err_from_is_err_and}
+use Rattle.std.specs.Prelude.{Err}
+use Rattle.gb_verdict.specs.Session.{with_goals}
+use Rattle.gb_verdict.specs.Commands.{WorksOn}
+use Rattle.gb_theory.specs.Sessions.{Meets}
+use Rattle.gb_theory.proofs.Steps.{next_meets, next_fails}
 use Rattle.gb_theory.proofs.fold.subgoals.Goals as goal
+
+pub returns-in_err-next : goal.returns-in_err-next
+returns-in_err-next c = λ s p is.
+    let rules = c.rules_have_answers.ensures.some c.args.scope.now in
+    let e = err_from_is_err_and c.from_residual.result c.from_residual.ensures.1 in
+    subst (Meets (λ next. with_goals s p (next ++ drop 1 c.args.goals.now)) (WorksOn c.args.goals.now s p c.args.tree.now c.args.place)) (sym (e.1 ∙ ap Err e.2))
+    (next_fails c.args.scope.now c.args.goals.now c.in-Some.first.now c.args.tree.now c.args.place (sym c.in-Some.ensures) rules.0 rules.1 c.in_err-next.field-0.0
+    (c.in_err-next.ensures rules.0 rules.1) s p is)
 
 pub returns : goal.returns
 returns c = λ s p is.
-    next_meets c.args.scope.now c.args.goals.now c.in-Some.first.now c.args.tree.now c.in_ok-step.step c.in_ok-next.next c.within_limits.result
-    (sym c.in-Some.ensures) c.in_ok-step.ensures c.in_ok-next.ensures c.within_limits.ensures s p is
+    let rules = c.rules_have_answers.ensures.some c.args.scope.now in
+    next_meets c.args.scope.now c.args.goals.now c.in-Some.first.now c.args.tree.now c.args.place (sym c.in-Some.ensures) rules.0 rules.1 c.in_ok-next.next c.within_limits.result
+    (c.in_ok-next.ensures rules.0 rules.1) c.within_limits.ensures s p is

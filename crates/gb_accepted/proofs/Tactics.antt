@@ -1,0 +1,148 @@
+-- What is left of goals after a tactic leads to them.
+use Rattle.std.proofs.Common.{◌≡◌, ℕ, zero, suc, ◌==◌, Bool, true, false, ◌&&◌, nat_le, if◌then◌else◌, List, [], ◌∷◌, ◌++◌, length, map, append-nil, refl, sym, ap, subst}
+use Rattle.std.proofs.lemmas.Bool.{eqb-true}
+use Rattle.std.specs.List.{AllByRecursion, zip}
+use Rattle.gb_core.specs.declared.place.Place.{Place}
+use Rattle.gb_core.specs.declared.refusal.Why.TheVariants.{Argument, Syntax}
+use Rattle.gb_goal.specs.declared.sequent.Sequent.{Sequent}
+use Rattle.gb_script.specs.declared.head.Head.{Head}
+use Rattle.gb_script.specs.declared.head.Head.TheVariants as head
+use Rattle.gb_script.specs.declared.tree.Node.{Node}
+use Rattle.gb_script.specs.Tree.{head_of, text_of, place_of}
+use Rattle.gb_limits.specs.Numbers.{number_of}
+use Rattle.gb_goal.specs.Answers.{Answer}
+use Rattle.gb_goal.specs.Answers.Answer.{given, refused}
+use Rattle.gb_smt_laws.proofs.Split.{each_left}
+use Rattle.gb_smt_laws.proofs.Used.{each_together}
+use Rattle.gb_names.proofs.Nodes.{said, Known, parts, by_parts}
+use Rattle.gb_elab_laws.proofs.Given.{given_bind, given_is}
+use Rattle.gb_verdict.specs.Tactics.{Stepping, Working, gathered_behind, on_each, in_turn, spread, or_left, repeated, times, alone, stepped_by, worked, works}
+use Rattle.gb_accepted.proofs.Given.{nothing_given}
+
+-- goals that are typed, and from which goals follow that hold
+pub record Lead (T H : Sequent → Type 0) (qs rs : List Sequent) : Type 0 where
+  pub typed : AllByRecursion T rs
+  pub leads : AllByRecursion H rs → AllByRecursion H qs
+
+module _ (T H : Sequent → Type 0) where
+  -- what works on goals leaves goals that lead to them
+  abbrev pub Keeps : Working → Type 0
+  Keeps w = (qs rs : List Sequent) → AllByRecursion T qs → w qs ≡ given rs → Lead T H qs rs
+
+  abbrev pub KeepsEach : Stepping → Type 0
+  KeepsEach f = (q : Sequent) (rs : List Sequent) → T q → f q ≡ given rs → Lead T H (q ∷ []) rs
+
+  left : (qs rs : List Sequent) → AllByRecursion T qs → given qs ≡ given rs → Lead T H qs rs
+  left qs rs t e = subst (Lead T H qs) (given_is qs rs e) (record { typed = t; leads = λ h. h })
+
+  after : (qs rs ss : List Sequent) → Lead T H qs rs → Lead T H rs ss → Lead T H qs ss
+  after qs rs ss x y = record { typed = y.typed; leads = λ h. x.leads (y.leads h) }
+
+  -- each goal beside an answer that leads to it
+  abbrev Answered : List Sequent → List (Answer (List Sequent)) → Type 0
+  Answered [] [] = Unit {0}
+  Answered (q ∷ qs) (x ∷ xs) = ((rs : List Sequent) → x ≡ given rs → Lead T H (q ∷ []) rs) × Answered qs xs
+  Answered _ _ = ⊥
+
+  abbrev one_each : List Working → List Sequent → List (Answer (List Sequent))
+  one_each ws qs = map (λ x. x.0 (x.1 ∷ [])) (zip ws qs)
+
+  -- goals that were left before stay in front
+  gathered_keep : (ls qs : List Sequent) (xs : List (Answer (List Sequent))) (rs : List Sequent) → AllByRecursion T ls → Answered qs xs →
+      gathered_behind ls xs ≡ given rs → Lead T H (ls ++ qs) rs
+  gathered_keep ls [] [] rs t u e = subst (λ z. Lead T H z rs) (sym (append-nil ls)) (left ls rs t e)
+  gathered_keep ls (q ∷ qs) (x ∷ xs) rs t u e =
+      let a = given_bind x (λ (more : List Sequent). gathered_behind (ls ++ more) xs) rs e in
+      let k = u.0 a.0 a.1 in
+      let y = gathered_keep (ls ++ a.0) qs xs rs (each_together T ls a.0 t k.typed) u.1 a.2 in
+      record {
+        typed = y.typed;
+        leads = λ h.
+            let s = each_left H (ls ++ a.0) qs (y.leads h) in
+            let v = each_left H ls a.0 s.0 in
+            each_together H ls (q ∷ qs) v.0 ((k.leads v.1).0, s.1);
+      }
+  gathered_keep ls [] (x ∷ xs) rs t u e = absurd u
+  gathered_keep ls (q ∷ qs) [] rs t u e = absurd u
+
+  each_answered : (f : Stepping) → KeepsEach f → (qs : List Sequent) → AllByRecursion T qs → Answered qs (map f qs)
+  each_answered f k [] t = tt
+  each_answered f k (q ∷ qs) t = ((λ rs e. k q rs t.0 e), each_answered f k qs t.1)
+
+  pub each_keeps : (f : Stepping) → KeepsEach f → Keeps (on_each f)
+  each_keeps f k qs rs t e = gathered_keep [] qs (map f qs) rs tt (each_answered f k qs t) e
+
+  one_keeps : (w : Working) → Keeps w → KeepsEach (λ q. w (q ∷ []))
+  one_keeps w k q rs t e = k (q ∷ []) rs (t, tt) e
+
+  left_or : (a : Answer (List Sequent)) (q : Sequent) (rs : List Sequent) → T q → ((ss : List Sequent) → a ≡ given ss → Lead T H (q ∷ []) ss) →
+      or_left a q ≡ given rs → Lead T H (q ∷ []) rs
+  left_or (given qs) q rs t k e = k rs e
+  left_or (refused why place) q rs t k e = left (q ∷ []) rs (t, tt) e
+
+  repeat_keeps : (n : ℕ) (w : Working) → Keeps w → Keeps (repeated n w)
+  repeat_keeps zero w k qs rs t e = left qs rs t e
+  repeat_keeps (suc n) w k qs rs t e =
+      let a = given_bind (w qs) (repeated n w) rs e in
+      let x = k qs a.0 t a.1 in
+      after qs a.0 rs x (repeat_keeps n w k a.0 rs x.typed a.2)
+
+  times_keep : (n : ℕ) (place : Place) (w : Working) → Keeps w → Keeps (times n place w)
+  times_keep n place w k qs rs t e = by_count (nat_le 1 n && nat_le n 64) e
+    where
+      by_count : (b : Bool) → (if b then repeated n w qs else refused Argument place) ≡ given rs → Lead T H qs rs
+      by_count true e = repeat_keeps n w k qs rs t e
+      by_count false e = nothing_given Argument place rs e
+
+  alone_keeps : (h : Head) (place : Place) (f : Stepping) → KeepsEach f → KeepsEach (alone h place f)
+  alone_keeps head.NoIntroduction place f k = k
+  alone_keeps _ place f k = λ q rs t e. nothing_given Syntax place rs e
+
+  module _ (f : Node → Stepping) (rules : (n : Node) → KeepsEach (f n)) where
+    abbrev rule : Head → List ℕ → List (Node × Working) → Place → Working
+    rule h x ws place = worked f h ws place
+
+    abbrev Part : Type 0
+    Part = Known rule Keeps
+
+    abbrev all_of : List Part → List Working
+    all_of ks = map (λ x. x.1) (parts rule Keeps ks)
+
+    turn_keeps : (ks : List Part) → Keeps (in_turn (all_of ks))
+    turn_keeps [] qs rs t e = left qs rs t e
+    turn_keeps (k ∷ ks) qs rs t e =
+        let a = given_bind (said rule k.0 qs) (in_turn (all_of ks)) rs e in
+        let x = k.1 qs a.0 t a.1 in
+        after qs a.0 rs x (turn_keeps ks a.0 rs x.typed a.2)
+
+    spread_answered : (ks : List Part) (qs : List Sequent) → AllByRecursion T qs → length (all_of ks) ≡ length qs →
+        Answered qs (one_each (all_of ks) qs)
+    spread_answered [] [] t same = tt
+    spread_answered [] (q ∷ qs) t same = absurd (cc)
+    spread_answered (k ∷ ks) [] t same = absurd (cc)
+    spread_answered (k ∷ ks) (q ∷ qs) t same = ((λ rs e. k.1 (q ∷ []) rs (t.0, tt) e), spread_answered ks qs t.1 (cc))
+
+    spread_keeps : (ks : List Part) (place : Place) → Keeps (spread (all_of ks) place)
+    spread_keeps ks place qs rs t e = by_length (length (all_of ks) == length qs) refl e
+      where
+        by_length : (b : Bool) → (length (all_of ks) == length qs) ≡ b → (if b then gathered_behind [] (one_each (all_of ks) qs) else refused Argument place) ≡ given rs → Lead T H qs rs
+        by_length true same e = gathered_keep [] qs (one_each (all_of ks) qs) rs tt (spread_answered ks qs t (eqb-true (length (all_of ks)) (length qs) same)) e
+        by_length false same e = nothing_given Argument place rs e
+
+    step_keeps : (h : Head) (ks : List Part) (place : Place) → KeepsEach (stepped_by f h (parts rule Keeps ks) place)
+    step_keeps head.Tactic ks place = one_keeps (in_turn (all_of ks)) (turn_keeps ks)
+    step_keeps head.Group (k ∷ []) place = one_keeps (said rule k.0) k.1
+    step_keeps head.Try (k ∷ []) place = λ q rs t e. left_or (said rule k.0 (q ∷ [])) q rs t (λ ss h. one_keeps (said rule k.0) k.1 q ss t h) e
+    step_keeps head.Repeat (n ∷ k ∷ []) place =
+        one_keeps (times (number_of (text_of n.0)) (place_of n.0) (said rule k.0)) (times_keep (number_of (text_of n.0)) (place_of n.0) (said rule k.0) k.1)
+    step_keeps head.Rule (r ∷ i ∷ []) place = alone_keeps (head_of i.0) place (f r.0) (rules r.0)
+    step_keeps _ ks place = λ q rs t e. nothing_given Syntax place rs e
+
+    part_keeps : (h : Head) (x : List ℕ) (ks : List Part) (place : Place) → Keeps (rule h x (parts rule Keeps ks) place)
+    part_keeps head.Next x (k ∷ []) place = k.1
+    part_keeps head.Branches x ks place = spread_keeps ks place
+    part_keeps h x ks place = each_keeps (stepped_by f h (parts rule Keeps ks) place) (step_keeps h ks place)
+
+    pub tactic_keeps : (n : Node) → Keeps (works f n)
+    unfolding works
+    tactic_keeps n = by_parts rule Keeps part_keeps n

@@ -1,7 +1,0 @@
-use Rattle.std.proofs.Common.{◌≡◌, map, drop}
-use Rattle.gb_names.specs.Types.{all_given, type_of}
-use Rattle.gb_elab_mod.proofs.Gathered.{behind}
-use Rattle.gb_elab_mod.proofs.operators.all_types.Given as goal
-
-abbrev pub invariant-loop-ty : goal.invariant-loop-ty
-invariant-loop-ty l = behind l.all (all_given (map (type_of l.scope) (drop l.ty-index l.types))) ≡ all_given (map (type_of l.scope) l.types)

@@ -1,6 +1,0 @@
-use Rattle.std.proofs.Common.{◌≡◌, [], drop}
-use Rattle.gb_elab_mod.specs.Procedures.{formals}
-use Rattle.gb_elab_mod.proofs.procedure.formals.Given as goal
-
-abbrev pub invariant-loop-tree : goal.invariant-loop-tree
-invariant-loop-tree l = formals l.scope l.params (drop l.tree-index l.trees) ≡ formals l.scope [] l.trees

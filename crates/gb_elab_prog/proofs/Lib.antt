@@ -1,0 +1,4 @@
+pub mod Gathered
+pub mod New
+pub mod Constants
+pub mod Stated

@@ -1,0 +1,11 @@
+pub mod Unbuilt
+pub mod Bound
+pub mod Fresh
+pub mod Sizes
+pub mod Contexts
+pub mod Types
+pub mod Operators
+pub mod Entries
+pub mod Statements
+pub mod Procedures
+pub mod Modules

@@ -1,0 +1,86 @@
+-- The typing of modules.
+use Rattle.std.specs.Prelude.{ℕ, List, [], ◌∷◌, ◌++◌, map, Option, Some, None, slice_get}
+use Rattle.gb_core.specs.declared.place.Place.{Place}
+use Rattle.gb_core.specs.declared.refusal.Why.TheVariants.{TooMany}
+use Rattle.gb_terms.specs.declared.decl.Module.{Module}
+use Rattle.gb_goal.specs.declared.sequent.Sequent.{Sequent}
+use Rattle.gb_goal.specs.Scope.{Declarations}
+use Rattle.gb_script.specs.declared.head.Head.{Head}
+use Rattle.gb_script.specs.declared.head.Head.TheVariants as head
+use Rattle.gb_script.specs.declared.tree.Node.{Node}
+use Rattle.gb_script.specs.Tree.{head_of, text_of, parts_of, place_of}
+use Rattle.gb_goal.specs.Answers.{Answer, ◌>>=◌, not_built}
+use Rattle.gb_goal.specs.Answers.Answer.{given, refused}
+use Rattle.gb_elab_prog.specs.Fresh.{free}
+use Rattle.gb_elab_prog.specs.Contexts.{nothing_around, taken}
+use Rattle.gb_names.specs.Binders.{of_type}
+use Rattle.gb_names.specs.Types.{type_of}
+use Rattle.gb_elab_prog.specs.Procedures.{procedure_by}
+use Rattle.gb_elab_prog.specs.Statements.{places}
+use Rattle.gb_elab_prog.specs.Bound.{parameters}
+use Rattle.gb_elab_prog.specs.Unbuilt.{absent}
+
+-- the names of the members of a module
+abbrev pub member_names : Module → List (List ℕ)
+member_names m = map (λ v. v.name) m.globals ++ map (λ p. p.name) m.procs
+
+-- a line of globals, whose names no member of the module has
+abbrev pub with_globals : Declarations → Module → List Node → Node → Answer Module
+with_globals ds m xs t = do
+  _ ← taken (member_names m) xs
+  u ← type_of ds t
+  given (record m { globals = m.globals ++ of_type xs u })
+
+-- a procedure, which may name the members before it
+abbrev pub with_procedure : Declarations → Sequent → Module → Head → List Node → Place → Answer Module
+with_procedure ds s m h ps p = do
+  q ← procedure_by ds s m h ps p
+  given (record m { procs = m.procs ++ q ∷ [] })
+
+-- a module with one member more
+abbrev pub with_member : Declarations → Sequent → Module → Head → List Node → Place → Answer Module
+with_member ds s m head.Globals (xs ∷ t ∷ []) p = with_globals ds m (parts_of xs) t
+with_member ds s m h ps p = with_procedure ds s m h ps p
+
+-- .. with several, in the order of the text
+unfoldable pub with_members : Declarations → Sequent → Module → List Node → Answer Module
+with_members ds s m [] = given m
+with_members ds s m (t ∷ ts) = with_member ds s m (head_of t) (parts_of t) (place_of t) >>= λ n. with_members ds s n ts
+
+-- a body of at most 512 statements, those in others counted, refused at the first one too many
+abbrev pub within_limit : Option Place → Answer (Unit {0})
+within_limit None = given tt
+within_limit (Some p) = refused (TooMany 512) p
+
+abbrev pub short : Head → List Node → Answer (Unit {0})
+short head.Procedure (x ∷ fs ∷ r ∷ ls ∷ ss ∷ v ∷ []) = within_limit (slice_get (places ss) 512)
+short _ _ = given tt
+
+abbrev pub all_short : List Node → Answer (Unit {0})
+all_short [] = given tt
+all_short (t ∷ ts) = short (head_of t) (parts_of t) >>= λ _. all_short ts
+
+-- a module of this name, without members
+abbrev pub empty_module : List ℕ → Module
+empty_module x = record { name = x; params = []; globals = []; procs = [] }
+
+-- a module of this name, without parameters and a type; sizes are tested behind types
+unfoldable pub plain : Declarations → Node → List Node → List Node → List Node → Answer Module
+plain ds x qs m ts = do
+  _ ← free ds x
+  _ ← parameters ds x qs
+  _ ← absent m (place_of x)
+  made ← with_members ds nothing_around (empty_module (text_of x)) ts
+  _ ← all_short ts
+  given made
+
+-- a module by its head and its parts; one with a type of its own isn't built, and the last clause takes what isn't either,
+-- with trees of another shape, of which the reader builds none, since each of its trees is well-sorted
+abbrev pub module_by : Declarations → Head → List Node → Place → Answer Module
+module_by ds head.Module (x ∷ qs ∷ m ∷ ts ∷ []) p = plain ds x (parts_of qs) (parts_of m) (parts_of ts)
+module_by ds head.AscribedModule (x ∷ xs) p = free ds x >>= λ _. not_built (place_of x)
+module_by ds _ _ p = not_built p
+
+-- the typed tree of a module
+abbrev pub module_given : Declarations → Node → Answer Module
+module_given ds t = module_by ds (head_of t) (parts_of t) (place_of t)

@@ -1,0 +1,16 @@
+//! Typing of types and operators, of the binders of lemmas, and of modules with their procedures and statements.
+#![tactic(auto)]
+
+pub mod bound;
+pub mod context;
+pub mod entries;
+pub mod fresh;
+pub mod members;
+pub mod module;
+pub mod operators;
+pub mod places;
+pub mod procedure;
+pub mod sizes;
+pub mod statement;
+pub mod types;
+pub mod unbuilt;

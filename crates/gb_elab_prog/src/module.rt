@@ -1,0 +1,120 @@
+// Modules.
+
+ghost use Rattle.std.specs.Prelude.{◌≡◌, None, IfOk};
+ghost use Rattle.gb_goal.specs.Scope.{entry_of};
+ghost use Rattle.gb_goal.specs.Answers.{Answers};
+ghost use Rattle.gb_elab_prog.specs.Modules.{all_short, module_by, module_given, plain, short};
+
+use crate::bound::refuse_parameters;
+use crate::fresh::refuse_declared;
+use crate::members::members;
+use crate::places::places;
+use crate::unbuilt::refuse_any;
+use gb_core::place::Place;
+use gb_core::refusal::{Refused, Why};
+use gb_goal::scope::Scope;
+use gb_names::refusals::not_built;
+use gb_script::head::Head;
+use gb_script::tree::Node;
+use gb_terms::decl::Module;
+use std::alloc::Global;
+
+/// The most statements of a body.
+pub const STATEMENTS: usize = 512;
+
+/// The typed tree of a module.
+///
+/// # Errors
+///
+/// `DoubleName` at the module's name where it is taken, and at that of its first parameter where the module itself or a declared
+/// one has it; `Syntax` at the module's name where it has parameters or a type; `DoubleName` at the second global or procedure
+/// of one name, those of types and of `procedure`, in the order of the text; and then `TooMany` statements of a body.
+/// `Syntax` at the place of the tree where it declares no module of its own.
+pub fn module(alloc: Global, scope: &Scope, tree: &Node) -> Result<Module, Refused>
+    ensures answer { Answers (module_given scope.now tree.now) result }
+    ensures free { IfOk result (λ m. entry_of scope.now m.name ≡ None) }
+{
+    module_by(alloc, scope, tree.head, tree.parts.as_slice(), tree.place)
+}
+
+/// The same, by the head and the parts of the tree.
+fn module_by(
+    alloc: Global,
+    scope: &Scope,
+    head: Head,
+    parts: &[Node],
+    place: Place,
+) -> Result<Module, Refused>
+    ensures answer { Answers (module_by scope.now head parts.now place) result }
+    ensures free { IfOk result (λ m. entry_of scope.now m.name ≡ None) }
+{
+    match head {
+        Head::Module => match parts {
+            [name, parameters, ty, items] => {
+                let (parameters, ty) = (parameters.parts.as_slice(), ty.parts.as_slice());
+                plain(alloc, scope, name, parameters, ty, items.parts.as_slice())
+            }
+            _ => Err(not_built(place)),
+        },
+        Head::AscribedModule => match parts {
+            [name, ..] => {
+                refuse_declared(alloc, scope, name)?;
+                Err(not_built(name.place))
+            }
+            _ => Err(not_built(place)),
+        },
+        _ => Err(not_built(place)),
+    }
+}
+
+/// The typed tree of a module of this name, without parameters and a type.
+#[tactic(auto, unfolding(crate::specs::Modules::plain))]
+fn plain(
+    alloc: Global,
+    scope: &Scope,
+    name: &Node,
+    parameters: &[Node],
+    ty: &[Node],
+    items: &[Node],
+) -> Result<Module, Refused>
+    ensures answer { Answers (plain scope.now name.now parameters.now ty.now items.now) result }
+    ensures free { IfOk result (λ m. entry_of scope.now m.name ≡ None) }
+{
+    refuse_declared(alloc, scope, name)?;
+    refuse_parameters(alloc, scope, name, parameters)?;
+    refuse_any(ty, name.place)?;
+    let module = members(alloc, scope, name, items)?;
+    refuse_long_bodies(alloc, items)?;
+    Ok(module)
+}
+
+/// Refuses a body of too many statements, those in others counted, at the first one too many.
+fn refuse_long_body(alloc: Global, head: Head, parts: &[Node]) -> Result<(), Refused>
+    ensures { Answers (short head parts.now) result }
+{
+    match head {
+        Head::Procedure => match parts {
+            [_, _, _, _, body, _] => {
+                let places = places(alloc, body)?;
+                match places.get(STATEMENTS) {
+                    None => Ok(()),
+                    Some(place) => Err(Refused::Script {
+                        why: Why::TooMany(STATEMENTS as u64),
+                        place: *place,
+                    }),
+                }
+            }
+            _ => Ok(()),
+        },
+        _ => Ok(()),
+    }
+}
+
+fn refuse_long_bodies(alloc: Global, items: &[Node]) -> Result<(), Refused>
+    ensures { Answers (all_short items.now) result }
+{
+    for item in items {
+        refuse_long_body(alloc, item.head, item.parts.as_slice())?;
+    }
+    Ok(())
+}

@@ -1,0 +1,230 @@
+// What commands `op` declare.
+
+ghost use Rattle.std.specs.Prelude.{◌≡◌, map, IfOk};
+ghost use Rattle.std.specs.Option.{option_copied};
+ghost use Rattle.gb_goal.specs.Answers.{Answers};
+ghost use Rattle.gb_names.specs.Types.{all_given, type_of};
+ghost use Rattle.gb_elab_prog.specs.Contexts.{nothing_bound};
+ghost use Rattle.gb_elab_prog.specs.Operators.{all_parameters, body, defined, of_one_type, operator_entry, parameters, undefined, written};
+
+use crate::context::{Bound, nothing_around, take_names};
+use crate::sizes::small;
+use gb_core::place::Place;
+use gb_core::refusal::Refused;
+use gb_core::ty::Ty;
+use gb_elab::form::typed;
+use gb_goal::scope::{Entry, Operator, OperatorType, Scope};
+use gb_names::binders::{of_type, within};
+use gb_names::refusals::not_built;
+use gb_names::setting::Setting;
+use gb_names::types::{type_of, type_or_number};
+use gb_script::head::Head;
+use gb_script::tree::Node;
+use gb_shared::{Shared, SharedItems};
+use gb_terms::decl::TypedName;
+use gb_terms::term::Term;
+use sqlite_items::{Boxed, Items};
+use std::alloc::{AllocError, Global};
+
+/// What the name of an operator stands for, from the head and the parts of its definition.
+///
+/// # Errors
+///
+/// `DoubleName` at a parameter whose name stands twice; those of types, and those of typing its body, in which no judgment stands
+/// and nothing of programs is read; `TooMany` of the nodes of a form, whose place is for the caller to put in.
+pub fn operator_entry(
+    alloc: Global,
+    scope: &Scope,
+    head: Head,
+    parts: &[Node],
+    place: Place,
+) -> Result<Boxed<Entry>, Refused>
+    ensures { Answers (operator_entry scope.now head parts.now place) result }
+{
+    match head {
+        Head::DefinedOperator => match parts {
+            [groups, result, body] => defined(
+                alloc,
+                scope,
+                groups.parts.as_slice(),
+                result.parts.as_slice(),
+                body,
+            ),
+            _ => Err(not_built(place)),
+        },
+        Head::Constant => match parts {
+            [body] => defined(alloc, scope, &[], &[], body),
+            _ => Err(not_built(place)),
+        },
+        Head::TypedConstant => match parts {
+            [_, body] => defined(alloc, scope, &[], &parts[..1], body),
+            _ => Err(not_built(place)),
+        },
+        Head::AbstractOperator => {
+            let last = parts.len().saturating_sub(1);
+            undefined(alloc, scope, &parts[..last], &parts[last..], place)
+        }
+        _ => Err(not_built(place)),
+    }
+}
+
+/// An operator with a body.
+#[tactic(auto, unfolding(crate::specs::Operators::defined))]
+fn defined(
+    alloc: Global,
+    scope: &Scope,
+    groups: &[Node],
+    to: &[Node],
+    form: &Node,
+) -> Result<Boxed<Entry>, Refused>
+    ensures { Answers (defined scope.now groups.now to.now form.now) result }
+{
+    let bound = all_parameters(alloc, scope, groups)?;
+    let params = types_of(alloc, bound.values.as_slice())?;
+    let want = written(alloc, scope, to)?;
+    let body = body_of(alloc, scope, bound, want, form)?;
+    Boxed::new(alloc, Entry::Operator(Operator { params, body })).map_err(Refused::from)
+}
+
+/// The parameters of all brackets.
+#[tactic(auto, unfolding(crate::specs::Operators::all_parameters))]
+fn all_parameters(alloc: Global, scope: &Scope, groups: &[Node]) -> Result<Bound, Refused>
+    ensures { Answers (all_parameters scope.now nothing_bound groups.now) result }
+{
+    let mut bound = Bound::nothing(alloc);
+    for x in groups {
+        bound = parameters(alloc, scope, bound, x.head, x.parts.as_slice(), x.place)?;
+    }
+    Ok(bound)
+}
+
+/// Parameters of one type beside others.
+fn parameters(
+    alloc: Global,
+    scope: &Scope,
+    bound: Bound,
+    head: Head,
+    parts: &[Node],
+    place: Place,
+) -> Result<Bound, Refused>
+    ensures { Answers (parameters scope.now bound head parts.now place) result }
+{
+    match head {
+        Head::Variables => match parts {
+            [names, ty] => bind_all(alloc, scope, bound, names.parts.as_slice(), ty),
+            _ => Err(not_built(place)),
+        },
+        _ => Err(not_built(place)),
+    }
+}
+
+fn bind_all(
+    alloc: Global,
+    scope: &Scope,
+    bound: Bound,
+    words: &[Node],
+    ty: &Node,
+) -> Result<Bound, Refused>
+    ensures { Answers (of_one_type scope.now bound words.now ty.now) result }
+{
+    let Bound {
+        mut names,
+        mut values,
+        memories,
+    } = bound;
+    take_names(alloc, &mut names, words)?;
+    let ty = type_or_number(alloc, scope, ty)?;
+    values.append(of_type(alloc, words, &ty)?)?;
+    Ok(Bound {
+        names,
+        values,
+        memories,
+    })
+}
+
+/// The types of parameters.
+fn types_of(alloc: Global, params: &[TypedName]) -> Result<SharedItems<Shared<Ty>>, AllocError>
+    ensures { IfOk result (λ made. made ≡ map (λ v. v.ty) params.now) }
+{
+    let mut types = Items::new(alloc);
+    for x in params {
+        types.push(x.ty.share()?)?;
+    }
+    SharedItems::new(alloc, types)
+}
+
+/// The type that is written for the result, if one is.
+fn written(alloc: Global, scope: &Scope, to: &[Node]) -> Result<Option<Shared<Ty>>, Refused>
+    ensures { Answers (written scope.now to.now) result }
+{
+    match to {
+        [] => Ok(None),
+        [ty, ..] => Ok(Some(type_or_number(alloc, scope, ty)?)),
+    }
+}
+
+/// The typed tree of a body under its parameters, the last one innermost.
+#[tactic(auto, unfolding(crate::specs::Operators::body))]
+fn body_of(
+    alloc: Global,
+    scope: &Scope,
+    bound: Bound,
+    want: Option<Shared<Ty>>,
+    form: &Node,
+) -> Result<Term, Refused>
+    ensures { Answers (body scope.now bound.values want form.now) result }
+{
+    let around = nothing_around(alloc)?;
+    let params = within(alloc, bound.values, &[])?;
+    let at = Setting::operator(scope, &around);
+    small(typed(alloc, &at, params.as_slice(), form, inside(&want))?)
+}
+
+/// What a shared type holds, where there is one.
+fn inside(ty: &Option<Shared<Ty>>) -> Option<&Ty>
+    ensures { option_copied result ≡ ty.now }
+{
+    match ty {
+        Some(ty) => Some(ty.get()),
+        None => None,
+    }
+}
+
+/// An operator without a body: the types of its parameters, and that of its result.
+fn undefined(
+    alloc: Global,
+    scope: &Scope,
+    types: &[Node],
+    to: &[Node],
+    place: Place,
+) -> Result<Boxed<Entry>, Refused>
+    ensures { Answers (undefined scope.now types.now to.now place) result }
+{
+    match to {
+        [to] => {
+            let params = all_types(alloc, scope, types)?;
+            let result = type_or_number(alloc, scope, to)?;
+            Boxed::new(
+                alloc,
+                Entry::AbstractOperator(OperatorType { params, result }),
+            )
+            .map_err(Refused::from)
+        }
+        _ => Err(not_built(place)),
+    }
+}
+
+/// The types that are spelled, in order.
+fn all_types(
+    alloc: Global,
+    scope: &Scope,
+    types: &[Node],
+) -> Result<SharedItems<Shared<Ty>>, Refused>
+    ensures { Answers (all_given (map (type_of scope.now) types.now)) result }
+{
+    let mut all = Items::new(alloc);
+    for ty in types {
+        all.push(type_of(alloc, scope, ty)?)?;
+    }
+    SharedItems::new(alloc, all).map_err(Refused::from)
+}

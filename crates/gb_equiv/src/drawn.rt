@@ -1,0 +1,120 @@
+// The rule `rnd` on one body: a sampling at its end.
+
+ghost use Rattle.std.specs.Prelude.{◌≡◌, ◌∷◌, [], IfOk};
+ghost use Rattle.gb_core.specs.declared.refusal.Refused.TheVariants.{Script};
+ghost use Rattle.gb_core.specs.declared.refusal.Why.TheVariants.{Shape, SideCondition};
+ghost use Rattle.gb_goal.specs.Answers.{Answers, Refuses, placed_at};
+ghost use Rattle.gb_goal.specs.Goal.{form_of};
+ghost use Rattle.gb_goal.specs.Rows.{each_concluding};
+ghost use Rattle.gb_terms.specs.declared.op.Read.TheVariants.{Program};
+ghost use Rattle.gb_walk.specs.declared.change.Change.TheVariants.{ToTerm};
+ghost use Rattle.gb_rules.specs.Samplings.{sampling_of, last_sampling};
+ghost use Rattle.gb_equiv.specs.Drawn.{each_drawn, without_sampling, by_end};
+
+use gb_core::copy::copy_var;
+use gb_core::place::Place;
+use gb_core::refusal::{Refused, Why};
+use gb_core::var::Var;
+use gb_goal::goal::hoare;
+use gb_goal::sequent::{Sequent, Sequents};
+use gb_rules::samplings::{Last, last_sampling, rest_of};
+use gb_rules::supports::{for_support, nearest};
+use gb_terms::op::{Read, Side};
+use gb_terms::term::{Form, Instr, Term};
+use gb_walk::change::Change;
+use gb_walk::clash::first_clash;
+use gb_walk::walk::changed;
+use sqlite_items::Items;
+use std::alloc::{AllocError, Global};
+
+/// The goal hasn't the form that the step needs.
+pub fn no_such_shape(place: Place) -> Refused
+    ensures { result ≡ Script Shape place }
+{
+    Refused::Script {
+        why: Why::Shape,
+        place,
+    }
+}
+
+/// The postcondition reads a variable that clashes with this one.
+pub fn clashing(alloc: Global, var: &Var, place: Place) -> Refused
+    ensures { Refuses (SideCondition var.now) place result }
+{
+    match copy_var(alloc, var) {
+        Ok(var) => Refused::Script {
+            why: Why::SideCondition(var),
+            place,
+        },
+        Err(_) => Refused::NoMemory,
+    }
+}
+
+/// The goal with another conclusion, alone.
+pub fn alone(alloc: Global, goal: &Sequent, conclusion: Form) -> Result<Sequents, AllocError>
+    ensures { IfOk result (λ goals. goals ≡ record goal.now { conclusion = conclusion } ∷ []) }
+{
+    let mut goals = Items::new(alloc);
+    goals.push(goal.with_conclusion(conclusion)?)?;
+    Ok(goals)
+}
+
+/// What was sampled on one side becomes a term.
+pub fn target_change(
+    alloc: Global,
+    sampling: &Last<'_>,
+    side: Side,
+    by: Term,
+) -> Result<Change, AllocError>
+    ensures { IfOk result (λ made. made ≡ ToTerm (Program sampling.now.target.now side) by) }
+{
+    let var = copy_var(alloc, sampling.target)?;
+    Ok(Change::ToTerm(Read::Program { var, side }, by))
+}
+
+/// What is to hold before a sampling, so that the postcondition holds of each value that it may draw.
+fn each_drawn(alloc: Global, sampling: &Last<'_>, post: &Form) -> Result<Form, AllocError>
+    ensures { IfOk result (λ made. made ≡ each_drawn (sampling_of sampling.now) post.now) }
+{
+    let value = nearest(alloc, sampling.ty)?;
+    let change = target_change(alloc, sampling, Side::Own, value)?;
+    let post = changed(alloc, post, &[change])?;
+    for_support(alloc, sampling.ty, sampling.from, post)
+}
+
+/// The judgment of what stands before a sampling.
+fn without_sampling(
+    alloc: Global,
+    sampling: &Last<'_>,
+    pre: &Form,
+    post: &Form,
+) -> Result<Form, AllocError>
+    ensures { IfOk result (λ made. made ≡ form_of (without_sampling (sampling_of sampling.now) pre.now post.now)) }
+{
+    let post = each_drawn(alloc, sampling, post)?;
+    let pre = pre.share()?;
+    let rest = rest_of(alloc, sampling)?;
+    hoare(alloc, rest, pre, post)
+}
+
+/// On a body that ends with a sampling: it leaves. Refused with `Shape` on another body, and with `SideCondition` where the
+/// postcondition reads a variable that clashes with the target.
+pub fn drawn_rule(
+    alloc: Global,
+    goal: &Sequent,
+    body: &[Instr],
+    pre: &Form,
+    post: &Form,
+    place: Place,
+) -> Result<Sequents, Refused>
+    ensures { Answers (placed_at place (each_concluding goal.now (by_end pre.now post.now (last_sampling body.now)))) result }
+{
+    let Some(sampling) = last_sampling(body) else {
+        return Err(no_such_shape(place));
+    };
+    if first_clash(&Side::Own, sampling.target, post).is_some() {
+        return Err(clashing(alloc, sampling.target, place));
+    }
+    let conclusion = without_sampling(alloc, &sampling, pre, post)?;
+    Ok(alone(alloc, goal, conclusion)?)
+}

@@ -1,0 +1,170 @@
+// Globals, which forms and statements name by a module and a word.
+
+ghost use Rattle.std.specs.Prelude.{◌≡◌, IfOk, is_some};
+ghost use Rattle.std.specs.Option.{option_copied, option_map};
+ghost use Rattle.std.specs.Path.{dot, rsplit_once};
+ghost use Rattle.gb_goal.specs.Answers.{Answers};
+ghost use Rattle.gb_goal.specs.Answers.Answer.{given};
+ghost use Rattle.gb_names.specs.Environment.{environment};
+ghost use Rattle.gb_names.specs.Names.{global_at, global_in, global_target, global_variable, has_own, module_if, own_global, unsided};
+
+use crate::names::first_named;
+use crate::refusals::argument;
+use crate::setting::{Setting, Variables};
+use gb_core::name::Name;
+use gb_core::place::Place;
+use gb_core::refusal::Refused;
+use gb_core::ty::Ty;
+use gb_core::var::Var;
+use gb_goal::scope::Scope;
+use gb_shared::Shared;
+use gb_terms::decl::{Module, TypedName};
+use gb_terms::make;
+use gb_terms::op::Side;
+use gb_terms::term::Term;
+use std::alloc::{AllocError, Global};
+
+/// A global: the name of its module, and the variable there.
+#[derive(Drop)]
+pub struct ModuleVariable<'a> {
+    pub owner: Name,
+    pub variable: &'a TypedName,
+}
+
+/// What stands before the last dot of a name, and behind it.
+fn parts_of(name: &Name) -> Option<(&str, &str)>
+    ensures { option_map (λ p. (p.0.now, p.1.now)) result ≡ rsplit_once dot name.now }
+{
+    name.as_str().rsplit_once('.')
+}
+
+/// The module of this name: the one around, or a declared one.
+fn module_if<'a>(inside: Option<&'a Module>, scope: &'a Scope, name: &Name) -> Option<&'a Module>
+    ensures { option_copied result ≡ module_if (option_copied inside.entry) scope.now name.now }
+{
+    match inside {
+        Some(module) if *name == module.name => Some(module),
+        _ => scope.module(name),
+    }
+}
+
+/// The global of a module that has this name.
+fn global_in<'a>(owner: Name, module: Option<&'a Module>, name: &Name) -> Option<ModuleVariable<'a>>
+    ensures { option_map (λ g. (g.owner, g.variable.now)) result ≡ global_in owner (option_copied «module».entry) name.now }
+{
+    let variable = first_named(module?.globals.as_slice(), name)?;
+    Some(ModuleVariable { owner, variable })
+}
+
+/// A global of the module around, by its own name.
+fn own_global<'a>(
+    alloc: Global,
+    inside: Option<&'a Module>,
+    name: &Name,
+) -> Result<Option<ModuleVariable<'a>>, AllocError>
+    ensures { IfOk result (λ found. option_map (λ g. (g.owner, g.variable.now)) found ≡ own_global (option_copied inside.entry) name.now) }
+{
+    match inside {
+        None => Ok(None),
+        Some(module) => {
+            let owner = module.name.copy(alloc)?;
+            Ok(global_in(owner, inside, name))
+        }
+    }
+}
+
+/// Whether the module around has a global of this name.
+pub fn is_own_global(at: &Setting<'_>, name: &Name) -> bool
+    ensures { result ≡ is_some (own_global (environment at.now).inside name.now) }
+{
+    match at.inside {
+        None => false,
+        Some(module) => first_named(module.globals.as_slice(), name).is_some(),
+    }
+}
+
+/// The global that is named: by its module and its own name with a dot between, or inside of its module by its own name alone.
+#[tactic(auto, unfolding(crate::specs::Names::global_at))]
+pub fn global_at<'a>(
+    alloc: Global,
+    at: &Setting<'a>,
+    name: &Name,
+) -> Result<Option<ModuleVariable<'a>>, AllocError>
+    ensures { IfOk result (λ found. option_map (λ g. (g.owner, g.variable.now)) found ≡ global_at (environment at.now) name.now) }
+{
+    match parts_of(name) {
+        None => own_global(alloc, at.inside, name),
+        Some((owner, own)) => {
+            let owner = Name::from_str(alloc, owner)?;
+            let own = Name::from_str(alloc, own)?;
+            let module = module_if(at.inside, at.scope, &owner);
+            Ok(global_in(owner, module, &own))
+        }
+    }
+}
+
+/// The variable that a global is.
+fn variable_of(alloc: Global, global: ModuleVariable<'_>) -> Result<Var, AllocError>
+    ensures { IfOk result (λ made. made ≡ Var.Global global.entry.owner global.entry.variable.now.name) }
+{
+    let name = global.variable.name.copy(alloc)?;
+    Ok(Var::Global {
+        module: global.owner,
+        name,
+    })
+}
+
+/// A read of a global through a memory.
+pub fn global_variable(
+    alloc: Global,
+    side: Side,
+    global: ModuleVariable<'_>,
+) -> Result<Term, Refused>
+    ensures { Answers (given (global_variable side (global.entry.owner, global.entry.variable.now))) result }
+{
+    let ty = global.variable.ty.share()?;
+    let var = variable_of(alloc, global)?;
+    make::variable(alloc, var, side, ty).map_err(Refused::from)
+}
+
+/// Whether a program with a memory of its own is around.
+fn has_own(variables: &Variables<'_>) -> bool
+    ensures { result ≡ has_own variables.now }
+{
+    match variables {
+        Variables::Own(_) => true,
+        _ => false,
+    }
+}
+
+/// A read of a global by its name alone, which the memory of the program around has.
+pub fn unsided(
+    alloc: Global,
+    at: &Setting<'_>,
+    place: Place,
+    global: ModuleVariable<'_>,
+) -> Result<Term, Refused>
+    ensures { Answers (unsided (environment at.now) place (global.entry.owner, global.entry.variable.now)) result }
+{
+    if has_own(&at.variables) {
+        global_variable(alloc, Side::Own, global)
+    } else {
+        Err(argument(place))
+    }
+}
+
+/// A variable that a statement writes, with its type.
+#[derive(Drop)]
+pub struct Target {
+    pub var: Var,
+    pub ty: Shared<Ty>,
+}
+
+/// A global that a statement writes.
+pub fn global_target(alloc: Global, global: ModuleVariable<'_>) -> Result<Target, AllocError>
+    ensures { IfOk result (λ made. given (made.var, made.ty) ≡ global_target (global.entry.owner, global.entry.variable.now)) }
+{
+    let ty = global.variable.ty.share()?;
+    let var = variable_of(alloc, global)?;
+    Ok(Target { var, ty })
+}

@@ -1,0 +1,118 @@
+-- What tactics make of goals, by their heads and parts.
+use Rattle.std.proofs.Common.{◌≡◌, ℕ, suc, ◌+◌, ◌-◌, ◌<◌, ◌≤◌, ◌==◌, Bool, true, false, ◌&&◌, nat_le, if◌then◌else◌, List, [], ◌∷◌, ◌++◌, drop, length, map, Option, Some, None, refl, ap, sym, ◌∙◌, arith}
+use Rattle.std.proofs.lemmas.Bool.{eq-eqb}
+use Rattle.std.proofs.lemmas.List.{drop_all, length-map}
+use Rattle.std.specs.List.{zip}
+use Rattle.gb_core.specs.declared.place.Place.{Place}
+use Rattle.gb_core.specs.declared.refusal.Refused.{Refused}
+use Rattle.gb_core.specs.declared.refusal.Why.TheVariants.{Argument}
+use Rattle.gb_goal.specs.Answers.{Answer, Fails}
+use Rattle.gb_goal.specs.Answers.Answer.{given, refused}
+use Rattle.gb_goal.specs.declared.sequent.Sequent.{Sequent}
+use Rattle.gb_script.specs.declared.head.Head.{Head}
+use Rattle.gb_script.specs.declared.head.Head.TheVariants as head
+use Rattle.gb_script.specs.declared.tree.Node.{Node}
+use Rattle.gb_script.specs.Tree.{head_of, text_of, parts_of, place_of}
+use Rattle.gb_limits.specs.Numbers.{number_of}
+use Rattle.gb_names.proofs.Answers.{fails_as, leads_on, passes}
+use Rattle.gb_names.proofs.Nodes.{said_is}
+use Rattle.gb_verdict.specs.Tactics.{Stepping, alone, gathered_behind, in_turn, on_each, repeated, spread, stepped_by, times, Working, worked, works}
+use Rattle.gb_theory.specs.Tactics.{with_works, each_works, times_allowed}
+
+module _ (f : Node → Stepping) where
+  pub works_is : (t : Node) → works f t ≡ worked f (head_of t) (with_works f (parts_of t)) (place_of t)
+  unfolding works
+  works_is t = said_is (λ h x ws p. worked f h ws p) t
+
+  each : (ts : List Node) → map (λ x. x.1) (with_works f ts) ≡ each_works f ts
+  each [] = refl
+  each (t ∷ ts) = ap (λ ws. works f t ∷ ws) (each ts)
+
+  module _ (h : Head) (ts : List Node) (place : Place) where
+    pub tactic_is : (q : Sequent) → h ≡ head.Tactic → stepped_by f h (with_works f ts) place q ≡ in_turn (each_works f ts) (q ∷ [])
+    tactic_is q e = ap (λ k. stepped_by f k (with_works f ts) place q) e ∙ ap (λ ws. in_turn ws (q ∷ [])) (each ts)
+
+    pub repeat_is : (q : Sequent) (n t : Node) → h ≡ head.Repeat → ts ≡ n ∷ t ∷ [] →
+        stepped_by f h (with_works f ts) place q ≡ times (number_of (text_of n)) (place_of n) (works f t) (q ∷ [])
+    repeat_is q n t e is = ap (λ k. stepped_by f k (with_works f ts) place q) e ∙ ap (λ us. stepped_by f head.Repeat (with_works f us) place q) is
+
+    pub rule_is : (q : Sequent) (r i : Node) → h ≡ head.Rule → ts ≡ r ∷ i ∷ [] →
+        stepped_by f h (with_works f ts) place q ≡ alone (head_of i) place (f r) q
+    rule_is q r i e is = ap (λ k. stepped_by f k (with_works f ts) place q) e ∙ ap (λ us. stepped_by f head.Rule (with_works f us) place q) is
+
+    pub branches_is : (qs : List Sequent) → h ≡ head.Branches → worked f h (with_works f ts) place qs ≡ spread (each_works f ts) place qs
+    branches_is qs e = ap (λ k. worked f k (with_works f ts) place qs) e ∙ ap (λ ws. spread ws place qs) (each ts)
+
+  pub step_is : (h : Head) (ws : List (Node × Working)) (place : Place) (qs : List Sequent) → (h ≡ head.Next → ⊥) → (h ≡ head.Branches → ⊥) →
+      worked f h ws place qs ≡ on_each (stepped_by f h ws place) qs
+  step_is head.Next ws place qs n b = absurd (n refl)
+  step_is head.Branches ws place qs n b = absurd (b refl)
+  step_is _ ws place qs n b = refl
+
+-- the next goal
+module _ (g : Stepping) (goals : List Sequent) (i : ℕ) (q : Sequent) (ls : List Sequent) (here : drop i goals ≡ q ∷ drop (i + 1) goals) where
+  pub next_given : (more : List Sequent) → g q ≡ given more → gathered_behind ls (map g (drop i goals)) ≡ gathered_behind (ls ++ more) (map g (drop (i + 1) goals))
+  next_given more e =
+      ap (λ qs. gathered_behind ls (map g qs)) here
+      ∙ leads_on (g q) (λ (xs : List Sequent). gathered_behind (ls ++ xs) (map g (drop (i + 1) goals))) more e
+
+  pub next_fails : (e : Refused) → Fails (g q) e → Fails (gathered_behind ls (map g (drop i goals))) e
+  next_fails e h =
+      fails_as _ _ e (ap (λ qs. gathered_behind ls (map g qs)) here)
+      (passes (g q) (λ (xs : List Sequent). gathered_behind (ls ++ xs) (map g (drop (i + 1) goals))) e h)
+
+abbrev pub one_each : List Working → List Sequent → List (Answer (List Sequent))
+one_each ws qs = map (λ x. x.0 (x.1 ∷ [])) (zip ws qs)
+
+-- the next goal, with the next tactic
+module _ (f : Node → Stepping) (ts : List Node) (goals : List Sequent) (i : ℕ) (t : Node) (q : Sequent) (ls : List Sequent)
+    (tactic : drop i ts ≡ t ∷ drop (i + 1) ts) (here : drop i goals ≡ q ∷ drop (i + 1) goals) where
+  next_pair : gathered_behind ls (one_each (each_works f (drop i ts)) (drop i goals))
+      ≡ gathered_behind ls (works f t (q ∷ []) ∷ one_each (each_works f (drop (i + 1) ts)) (drop (i + 1) goals))
+  next_pair =
+      ap (λ us. gathered_behind ls (one_each (each_works f us) (drop i goals))) tactic
+      ∙ ap (λ qs. gathered_behind ls (one_each (each_works f (t ∷ drop (i + 1) ts)) qs)) here
+
+  abbrev after : List Sequent → Answer (List Sequent)
+  after xs = gathered_behind (ls ++ xs) (one_each (each_works f (drop (i + 1) ts)) (drop (i + 1) goals))
+
+  pub pair_given : (more : List Sequent) → works f t (q ∷ []) ≡ given more →
+      gathered_behind ls (one_each (each_works f (drop i ts)) (drop i goals)) ≡ after more
+  pair_given more e = next_pair ∙ leads_on (works f t (q ∷ [])) after more e
+
+  pub pair_fails : (e : Refused) → Fails (works f t (q ∷ [])) e → Fails (gathered_behind ls (one_each (each_works f (drop i ts)) (drop i goals))) e
+  pair_fails e h = fails_as _ _ e next_pair (passes (works f t (q ∷ [])) after e h)
+
+-- as many tactics as goals
+pub spread_is : (f : Node → Stepping) (ts : List Node) (place : Place) (qs : List Sequent) → length ts ≡ length qs →
+    spread (each_works f ts) place qs ≡ gathered_behind [] (one_each (each_works f ts) qs)
+spread_is f ts place qs e =
+    let same : (length (each_works f ts) == length qs) ≡ true = eq-eqb (length (each_works f ts)) (length qs) (length-map ts (works f) ∙ e) in
+    ap (λ (b : Bool). if b then gathered_behind [] (one_each (each_works f ts) qs) else refused Argument place) same
+
+-- no tactic is left
+pub spread_ends : (f : Node → Stepping) (ts : List Node) (i : ℕ) (ls qs : List Sequent) → length ts ≤ i →
+    gathered_behind ls (one_each (each_works f (drop i ts)) qs) ≡ given ls
+spread_ends f ts i ls qs h = ap (λ us. gathered_behind ls (one_each (each_works f us) qs)) (drop_all i ts h)
+
+-- the next round
+module _ (w : Working) (n c : ℕ) (less : c < n) (qs : List Sequent) where
+  next_round : repeated (n - c) w qs ≡ repeated (suc (n - (c + 1))) w qs
+  next_round = let one : n - c ≡ suc (n - (c + 1)) = omega (arith, less) in ap (λ k. repeated k w qs) one
+
+  pub round_given : (rs : List Sequent) → w qs ≡ given rs → repeated (n - c) w qs ≡ repeated (n - (c + 1)) w rs
+  round_given rs e = next_round ∙ leads_on (w qs) (repeated (n - (c + 1)) w) rs e
+
+  pub round_fails : (e : Refused) → Fails (w qs) e → Fails (repeated (n - c) w qs) e
+  round_fails e h = fails_as _ _ e next_round (passes (w qs) (repeated (n - (c + 1)) w) e h)
+
+same_some : {A : Type 0} (x y : A) → Some x ≡ Some y → x ≡ y
+same_some x y e = cc
+
+-- rounds that may be asked for
+pub times_is : (n r : ℕ) (place : Place) (w : Working) (qs : List Sequent) → times_allowed n ≡ Some r → times n place w qs ≡ repeated r w qs
+times_is n r place w qs e = by_count (nat_le 1 n && nat_le n 64) e
+  where
+    by_count : (b : Bool) → (if b then Some n else None) ≡ Some r → (if b then repeated n w qs else refused Argument place) ≡ repeated r w qs
+    by_count true e = ap (λ k. repeated k w qs) (same_some n r e)
+    by_count false e = absurd (cc)

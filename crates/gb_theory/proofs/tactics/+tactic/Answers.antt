@@ -1,0 +1,138 @@
+-- What a node makes of goals is what its head and its parts make of them.
+use Rattle.std.proofs.Common.{◌≡◌, ◌+◌, ◌<◌, [], ◌∷◌, drop, map, ap, sym, ◌∙◌, subst, arith}
+use Rattle.std.proofs.lemmas.Result.{err_from_is_err_and}
+use Rattle.std.specs.Prelude.{Err}
+use Rattle.gb_goal.specs.Answers.{Answers, Fails}
+use Rattle.gb_goal.specs.Answers.Answer.{given}
+use Rattle.gb_limits.specs.Numbers.{number_of}
+use Rattle.gb_script.specs.Tree.{head_of, text_of, place_of}
+use Rattle.gb_names.proofs.Answers.{answers_as, fails_as}
+use Rattle.gb_names.proofs.Parts.{left, two}
+use Rattle.gb_verdict.specs.Tactics.{gathered_behind, in_turn, on_each, spread, stepped_by, times, worked, works}
+use Rattle.gb_theory.specs.Tactics.{each_works, with_works}
+use Rattle.gb_theory.proofs.Combined.{works_is, tactic_is, repeat_is, rule_is, branches_is, step_is, next_given, next_fails, one_each, pair_given, pair_fails, spread_is, spread_ends, round_given, round_fails, times_is}
+use Rattle.gb_theory.proofs.tactics.+tactic.Goals as goal
+
+pub work-returns : goal.work-returns
+work-returns t c = λ f rules.
+    answers_as _ _ c.worked.result
+    (ap (λ w. w c.args.goals.now) (works_is f c.args.tree.now)
+    ∙ ap (λ ts. worked f (head_of c.args.tree.now) (with_works f ts) (place_of c.args.tree.now) c.args.goals.now) (sym c.as_slice.ensures))
+    (c.worked.ensures f rules)
+
+pub worked-returns-in-Branches : goal.worked-returns-in-Branches
+worked-returns-in-Branches t c = λ f rules.
+    answers_as _ _ c.spread.result (branches_is f c.args.head c.args.parts.now c.args.place c.args.goals.now c.in-Branches.is) (c.spread.ensures f rules)
+
+pub worked-returns-in_default : goal.worked-returns-in_default
+worked-returns-in_default t c = λ f rules.
+    answers_as _ _ c.on_each-in_default.result
+    (step_is f c.args.head (with_works f c.args.parts.now) c.args.place c.args.goals.now c.in_default.not-Next c.in_default.not-Branches)
+    (c.on_each-in_default.ensures f rules)
+
+pub stepped_by-returns-in_ok-only-in-Tactic : goal.stepped_by-returns-in_ok-only-in-Tactic
+stepped_by-returns-in_ok-only-in-Tactic t c = λ f rules.
+    answers_as _ _ c.in_turn.result
+    (tactic_is f c.args.head c.args.parts.now c.args.place c.args.goal.now c.in-Tactic.is
+    ∙ ap (λ qs. in_turn (each_works f c.args.parts.now) qs) (sym c.in_ok-only-in-Tactic.ensures))
+    (c.in_turn.ensures f rules)
+
+pub stepped_by-returns-in_ok-only-in-len2 : goal.stepped_by-returns-in_ok-only-in-len2
+stepped_by-returns-in_ok-only-in-len2 t c = λ f rules.
+    let n = c.count-item.result in
+    let s = c.step-item-then-parts-lt3.result in
+    answers_as _ _ c.times.result
+    (repeat_is f c.args.head c.args.parts.now c.args.place c.args.goal.now n s c.in-Repeat.is
+    (two c.args.parts.now n s c.in-len2.len_at_least c.in-len2.len_below c.count-item.is c.step-item-then-parts-lt3.is)
+    ∙ ap (λ qs. times (number_of (text_of n)) (place_of n) (works f s) qs) (sym c.in_ok-only-in-len2.ensures))
+    (c.times.ensures f rules)
+
+pub stepped_by-returns-in-len2-parts : goal.stepped_by-returns-in-len2-parts
+stepped_by-returns-in-len2-parts t c = λ f rules.
+    let r = c.tree-item.result in
+    let i = c.introduction-item.result in
+    answers_as _ _ c.alone.result
+    (rule_is f c.args.head c.args.parts.now c.args.place c.args.goal.now r i c.in-Rule.is
+    (two c.args.parts.now r i c.in-len2-parts.len_at_least c.in-len2-parts.len_below c.tree-item.is c.introduction-item.is))
+    (c.alone.ensures f rules)
+
+pub on_each-returns-in_err-more : goal.on_each-returns-in_err-more
+on_each-returns-in_err-more t c = λ f rules.
+    let qs = c.args.goals.now in
+    let i = c.loop-goal.goal-index in
+    let g = stepped_by f c.args.head (with_works f c.args.parts.now) c.args.place in
+    let e = err_from_is_err_and c.from_residual.result c.from_residual.ensures.1 in
+    subst (Answers (on_each g qs)) (sym (e.1 ∙ ap Err e.2))
+    (fails_as _ _ c.in_err-more.field-0.0 (sym (c.loop-goal.invariant f rules))
+    (next_fails g qs i c.goal-item.result c.loop-goal.left (left qs i c.goal-item.result c.loop-goal-test.true c.goal-item.is) c.in_err-more.field-0.0
+    (c.in_err-more.ensures f rules)))
+
+pub on_each-loop-goal-preserved : goal.on_each-loop-goal-preserved
+on_each-loop-goal-preserved t c = λ f rules.
+    let qs = c.args.goals.now in
+    let i = c.loop-goal.goal-index in
+    let g = stepped_by f c.args.head (with_works f c.args.parts.now) c.args.place in
+    ap (λ ls. gathered_behind ls (map g (drop (i + 1) qs))) c.in_ok-append.ensures
+    ∙ sym (next_given g qs i c.goal-item.result c.loop-goal.left (left qs i c.goal-item.result c.loop-goal-test.true c.goal-item.is) c.in_ok-more.more
+    (c.in_ok-more.ensures f rules))
+    ∙ c.loop-goal.invariant f rules
+
+pub spread-loop-i-init : goal.spread-loop-i-init
+spread-loop-i-init t c =
+    (c.if-tactics-goals.false, λ f rules. ap (λ ls. gathered_behind ls (one_each (each_works f c.args.tactics.now) c.args.goals.now)) c.new-left.ensures)
+
+pub spread-returns-in_err-more : goal.spread-returns-in_err-more
+spread-returns-in_err-more t c = λ f rules.
+    let ts = c.args.tactics.now in
+    let qs = c.args.goals.now in
+    let i = c.loop-i.i in
+    let e = err_from_is_err_and c.from_residual-in_err-more.result c.from_residual-in_err-more.ensures.1 in
+    let one = c.as_slice.ensures ∙ c.in_ok-one.ensures in
+    subst (Answers (spread (each_works f ts) c.args.place qs)) (sym (e.1 ∙ ap Err e.2))
+    (fails_as _ _ c.in_err-more.field-0.0 (spread_is f ts c.args.place qs c.loop-i.invariant.0 ∙ sym (c.loop-i.invariant.1 f rules))
+    (pair_fails f ts qs i c.index-tactics-i.result c.index-goals-i.result c.loop-i.left
+    (left ts i c.index-tactics-i.result c.loop-i-test.true c.index-tactics-i.is)
+    (left qs i c.index-goals-i.result (subst (λ n. i < n) c.loop-i.invariant.0 c.loop-i-test.true) c.index-goals-i.is) c.in_err-more.field-0.0
+    (subst (λ gs. Fails (works f c.index-tactics-i.result gs) c.in_err-more.field-0.0) one (c.in_err-more.ensures f rules))))
+
+pub spread-loop-i-preserved : goal.spread-loop-i-preserved
+spread-loop-i-preserved t c =
+    let ts = c.args.tactics.now in
+    let qs = c.args.goals.now in
+    let i = c.loop-i.i in
+    let one = c.as_slice.ensures ∙ c.in_ok-one.ensures in (
+      c.loop-i.invariant.0,
+      λ f rules.
+          ap (λ ls. gathered_behind ls (one_each (each_works f (drop (i + 1) ts)) (drop (i + 1) qs))) c.in_ok-append.ensures
+          ∙ sym (pair_given f ts qs i c.index-tactics-i.result c.index-goals-i.result c.loop-i.left
+          (left ts i c.index-tactics-i.result c.loop-i-test.true c.index-tactics-i.is)
+          (left qs i c.index-goals-i.result (subst (λ n. i < n) c.loop-i.invariant.0 c.loop-i-test.true) c.index-goals-i.is) c.in_ok-more.more
+          (subst (λ gs. works f c.index-tactics-i.result gs ≡ given c.in_ok-more.more) one (c.in_ok-more.ensures f rules)))
+          ∙ c.loop-i.invariant.1 f rules,
+    )
+
+pub spread-returns : goal.spread-returns
+spread-returns t c = λ f rules.
+    let ts = c.args.tactics.now in
+    let qs = c.args.goals.now in
+    spread_is f ts c.args.place qs c.loop-i.invariant.0
+    ∙ sym (c.loop-i.invariant.1 f rules)
+    ∙ spread_ends f ts c.loop-i.i c.loop-i.left (drop c.loop-i.i qs) (omega arith)
+
+pub times-returns-in_err-left : goal.times-returns-in_err-left
+times-returns-in_err-left t c = λ f rules.
+    let n = c.args.count.now in
+    let w = works f c.args.step.now in
+    let e = err_from_is_err_and c.from_residual.result c.from_residual.ensures.1 in
+    subst (Answers (times (number_of (text_of n)) (place_of n) w c.args.goals)) (sym (e.1 ∙ ap Err e.2))
+    (fails_as _ _ c.in_err-left.field-0.0
+    (times_is (number_of (text_of n)) c.in-Some.rounds (place_of n) w c.args.goals (sym c.in-Some.ensures) ∙ sym (c.loop.invariant f rules))
+    (round_fails w c.in-Some.rounds c.loop.counter c.loop-test.true c.loop.left c.in_err-left.field-0.0
+    (subst (λ gs. Fails (w gs) c.in_err-left.field-0.0) c.as_slice.ensures (c.in_err-left.ensures f rules))))
+
+pub times-loop-preserved : goal.times-loop-preserved
+times-loop-preserved t c = λ f rules.
+    let w = works f c.args.step.now in
+    sym (round_given w c.in-Some.rounds c.loop.counter c.loop-test.true c.loop.left c.in_ok-left.left
+    (subst (λ gs. w gs ≡ given c.in_ok-left.left) c.as_slice.ensures (c.in_ok-left.ensures f rules)))
+    ∙ c.loop.invariant f rules

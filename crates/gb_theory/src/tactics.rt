@@ -1,0 +1,276 @@
+// What a proof step with its combinators makes of goals.
+
+ghost use Rattle.std.specs.Prelude.{◌≡◌, [], ◌∷◌, IfOk};
+ghost use Rattle.gb_goal.specs.Answers.{Answers};
+ghost use Rattle.gb_limits.specs.Numbers.{number_of};
+ghost use Rattle.gb_script.specs.declared.tree.Node.{Node as Tree};
+ghost use Rattle.gb_script.specs.Tree.{text_of, place_of};
+ghost use Rattle.gb_verdict.specs.Commands.{AreRules, RuleAnswers, Applied, allowed};
+ghost use Rattle.gb_verdict.specs.Tactics.{Stepping, on_each, in_turn, spread, or_left, times, alone, stepped_by, worked, works};
+ghost use Rattle.gb_theory.specs.Sessions.{Meets};
+ghost use Rattle.gb_theory.specs.Tactics.{with_works, each_works, times_allowed};
+
+use crate::limits::check_each;
+use gb_core::place::Place;
+use gb_core::refusal::Refused;
+use gb_goal::scope::Scope;
+use gb_goal::sequent::{Sequent, Sequents};
+use gb_limits::numbers::number;
+use gb_names::refusals::{argument, not_built};
+use gb_script::head::Head;
+use gb_script::tree::Node;
+use gb_steps::step::{Rule, Step};
+use gb_verdict::laws::rules_have_answers;
+use sqlite_items::Items;
+use std::alloc::{AllocError, Global};
+
+/// The subgoals of a rule, by the crate that has its row.
+fn apply(alloc: Global, step: &Step, goal: &Sequent, scope: &Scope) -> Result<Sequents, Refused>
+    ensures { Meets (λ x. x) (Applied scope.now step.now.rule step.now.place goal.now) result }
+{
+    match &step.rule {
+        Rule::OnBodies(_) => gb_bodies::apply::apply(alloc, step, goal, scope),
+        Rule::Relational(_) => gb_equiv::apply(alloc, step, goal, scope),
+        Rule::Ambient(rule) => gb_amb::apply::apply(alloc, rule, step.place, goal),
+        Rule::Smt => gb_smt::apply::apply(alloc, step, goal, scope),
+    }
+}
+
+/// Goals of which each is within its limits.
+fn allowed(goals: Sequents, place: Place) -> Result<Sequents, Refused>
+    ensures { Answers (allowed place goals) result }
+{
+    check_each(goals.as_slice(), place)?;
+    Ok(goals)
+}
+
+/// The subgoals of a rule of a text, with its arguments typed at the goal.
+fn subgoals(alloc: Global, scope: &Scope, tree: &Node, goal: &Sequent) -> Result<Sequents, Refused>
+    ensures { Meets (λ x. x) (RuleAnswers scope.now tree.now goal.now) result }
+{
+    let step = gb_elab_mod::step::proof_step(alloc, scope, goal, tree)?;
+    let goals = apply(alloc, &step, goal, scope)?;
+    allowed(goals, step.place)
+}
+
+/// What a rule of a text makes of a goal: it answers one thing.
+fn rule(alloc: Global, scope: &Scope, tree: &Node, goal: &Sequent) -> Result<Sequents, Refused>
+    ensures { (f : Tree → Stepping) → AreRules scope.now f → Answers (f tree.now goal.now) result }
+{
+    rules_have_answers();
+    subgoals(alloc, scope, tree, goal)
+}
+
+/// A rule behind which no premises are named.
+fn alone(
+    alloc: Global,
+    scope: &Scope,
+    tree: &Node,
+    introduction: Head,
+    place: Place,
+    goal: &Sequent,
+) -> Result<Sequents, Refused>
+    ensures { (f : Tree → Stepping) → AreRules scope.now f → Answers (alone introduction place (f tree.now) goal.now) result }
+{
+    match introduction {
+        Head::NoIntroduction => rule(alloc, scope, tree, goal),
+        _ => Err(not_built(place)),
+    }
+}
+
+/// A goal alone.
+fn only(alloc: Global, goal: &Sequent) -> Result<Sequents, AllocError>
+    ensures { IfOk result (λ made. made ≡ goal.now ∷ []) }
+{
+    let mut one = Items::new(alloc);
+    one.push(goal.share()?)?;
+    Ok(one)
+}
+
+/// How often a step is to be repeated, where this is 1 to 64 times.
+fn times_allowed(digits: &Node) -> Option<u64>
+    ensures { result ≡ times_allowed (number_of (text_of digits.now)) }
+{
+    match number(digits.text.as_str().as_bytes()) {
+        Ok(count) if 1 <= count && count <= 64 => Some(count as u64),
+        _ => None,
+    }
+}
+
+/// What a tactic makes of one goal.
+pub fn work_on_one(
+    alloc: Global,
+    scope: &Scope,
+    tactic: &Node,
+    goal: &Sequent,
+) -> Result<Sequents, Refused>
+    ensures { (f : Tree → Stepping) → AreRules scope.now f → Answers (works f tactic.now (goal.now ∷ [])) result }
+{
+    let one = only(alloc, goal)?;
+    work(alloc, scope, tactic, one.as_slice())
+}
+
+/// What a step, or what stands behind a `;`, makes of goals.
+#[cycle(tactic)]
+fn work(alloc: Global, scope: &Scope, tree: &Node, goals: &[Sequent]) -> Result<Sequents, Refused>
+    ensures { (f : Tree → Stepping) → AreRules scope.now f → Answers (works f tree.now goals.now) result }
+{
+    worked(
+        alloc,
+        scope,
+        tree.head,
+        tree.parts.as_slice(),
+        tree.place,
+        goals,
+    )
+}
+
+/// .. from its head, its parts and its place.
+#[cycle(tactic)]
+fn worked(
+    alloc: Global,
+    scope: &Scope,
+    head: Head,
+    parts: &[Node],
+    place: Place,
+    goals: &[Sequent],
+) -> Result<Sequents, Refused>
+    ensures { (f : Tree → Stepping) → AreRules scope.now f → Answers (worked f head (with_works f parts.now) place goals.now) result }
+{
+    match head {
+        Head::Next => match parts {
+            [step] => work(alloc, scope, step, goals),
+            _ => on_each(alloc, scope, head, parts, place, goals),
+        },
+        Head::Branches => spread(alloc, scope, parts, place, goals),
+        _ => on_each(alloc, scope, head, parts, place, goals),
+    }
+}
+
+/// A step on each goal.
+#[cycle(tactic)]
+fn on_each(
+    alloc: Global,
+    scope: &Scope,
+    head: Head,
+    parts: &[Node],
+    place: Place,
+    goals: &[Sequent],
+) -> Result<Sequents, Refused>
+    ensures { (f : Tree → Stepping) → AreRules scope.now f → Answers (on_each (stepped_by f head (with_works f parts.now) place) goals.now) result }
+{
+    let mut left = Items::new(alloc);
+    for goal in goals {
+        let more = stepped_by(alloc, scope, head, parts, place, goal)?;
+        left.append(more)?;
+    }
+    Ok(left)
+}
+
+/// What a step of this head, these parts and this place makes of a goal.
+#[cycle(tactic)]
+fn stepped_by(
+    alloc: Global,
+    scope: &Scope,
+    head: Head,
+    parts: &[Node],
+    place: Place,
+    goal: &Sequent,
+) -> Result<Sequents, Refused>
+    ensures { (f : Tree → Stepping) → AreRules scope.now f → Answers (stepped_by f head (with_works f parts.now) place goal.now) result }
+{
+    match head {
+        Head::Tactic => in_turn(alloc, scope, parts, only(alloc, goal)?),
+        Head::Group => match parts {
+            [tactic] => work(alloc, scope, tactic, only(alloc, goal)?.as_slice()),
+            _ => Err(not_built(place)),
+        },
+        Head::Try => match parts {
+            [step] => attempt(alloc, scope, step, goal),
+            _ => Err(not_built(place)),
+        },
+        Head::Repeat => match parts {
+            [count, step] => times(alloc, scope, step, count, only(alloc, goal)?),
+            _ => Err(not_built(place)),
+        },
+        Head::Rule => match parts {
+            [tree, introduction] => alone(alloc, scope, tree, introduction.head, place, goal),
+            _ => Err(not_built(place)),
+        },
+        _ => Err(not_built(place)),
+    }
+}
+
+/// Steps one after another on goals.
+#[cycle(tactic)]
+fn in_turn(
+    alloc: Global,
+    scope: &Scope,
+    steps: &[Node],
+    goals: Sequents,
+) -> Result<Sequents, Refused>
+    ensures { (f : Tree → Stepping) → AreRules scope.now f → Answers (in_turn (each_works f steps.now) goals) result }
+{
+    let mut left = goals;
+    for step in steps {
+        left = work(alloc, scope, step, left.as_slice())?;
+    }
+    Ok(left)
+}
+
+/// One tactic for each goal, as many as there are goals.
+#[cycle(tactic)]
+fn spread(
+    alloc: Global,
+    scope: &Scope,
+    tactics: &[Node],
+    place: Place,
+    goals: &[Sequent],
+) -> Result<Sequents, Refused>
+    ensures { (f : Tree → Stepping) → AreRules scope.now f → Answers (spread (each_works f tactics.now) place goals.now) result }
+{
+    if tactics.len() != goals.len() {
+        return Err(argument(place));
+    }
+    let mut left = Items::new(alloc);
+    for (i, tactic) in tactics.iter().enumerate() {
+        let one = only(alloc, &goals[i])?;
+        let more = work(alloc, scope, tactic, one.as_slice())?;
+        left.append(more)?;
+    }
+    Ok(left)
+}
+
+/// A step on one goal, which a refusal leaves. Want of memory isn't caught.
+#[cycle(tactic)]
+fn attempt(alloc: Global, scope: &Scope, step: &Node, goal: &Sequent) -> Result<Sequents, Refused>
+    ensures { (f : Tree → Stepping) → AreRules scope.now f → Answers (or_left (works f step.now (goal.now ∷ [])) goal.now) result }
+{
+    let one = only(alloc, goal)?;
+    match work(alloc, scope, step, one.as_slice()) {
+        Err(Refused::Script { .. }) => Ok(one),
+        other => other,
+    }
+}
+
+/// A step 1 to 64 times.
+#[cycle(tactic)]
+fn times(
+    alloc: Global,
+    scope: &Scope,
+    step: &Node,
+    count: &Node,
+    goals: Sequents,
+) -> Result<Sequents, Refused>
+    ensures { (f : Tree → Stepping) → AreRules scope.now f
+        → Answers (times (number_of (text_of count.now)) (place_of count.now) (works f step.now) goals) result }
+{
+    let Some(rounds) = times_allowed(count) else {
+        return Err(argument(count.place));
+    };
+    let mut left = goals;
+    for _ in 0..rounds {
+        left = work(alloc, scope, step, left.as_slice())?;
+    }
+    Ok(left)
+}
