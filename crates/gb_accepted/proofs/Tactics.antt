@@ -8,16 +8,17 @@ use Rattle.gb_goal.specs.declared.sequent.Sequent.{Sequent}
 use Rattle.gb_script.specs.declared.head.Head.{Head}
 use Rattle.gb_script.specs.declared.head.Head.TheVariants as head
 use Rattle.gb_script.specs.declared.tree.Node.{Node}
-use Rattle.gb_script.specs.Tree.{head_of, text_of, place_of}
+use Rattle.gb_script.specs.Tree.{node, head_of, text_of, place_of}
 use Rattle.gb_limits.specs.Numbers.{number_of}
-use Rattle.gb_goal.specs.Answers.{Answer}
+use Rattle.gb_goal.specs.Answers.{Answer, ◌>>=◌, nowhere, placed_at}
 use Rattle.gb_goal.specs.Answers.Answer.{given, refused}
 use Rattle.gb_smt_laws.proofs.Split.{each_left}
 use Rattle.gb_smt_laws.proofs.Used.{each_together}
 use Rattle.gb_names.proofs.Nodes.{said, Known, parts, by_parts}
 use Rattle.gb_elab_laws.proofs.Given.{given_bind, given_is}
-use Rattle.gb_verdict.specs.Tactics.{Stepping, Working, gathered_behind, on_each, in_turn, spread, or_left, repeated, times, alone, stepped_by, worked, works}
-use Rattle.gb_accepted.proofs.Given.{nothing_given}
+use Rattle.gb_verdict.specs.Patterns.{all_new, is_pattern}
+use Rattle.gb_verdict.specs.Tactics.{Stepping, Working, gathered_behind, on_each, in_turn, spread, or_left, repeated, times, fitted, inside, introduced, ruled, patterned, stepped_by, worked, works}
+use Rattle.gb_accepted.proofs.Given.{given_placed, nothing_given}
 
 -- goals that are typed, and from which goals follow that hold
 pub record Lead (T H : Sequent → Type 0) (qs rs : List Sequent) : Type 0 where
@@ -94,13 +95,20 @@ module _ (T H : Sequent → Type 0) where
       by_count true e = repeat_keeps n w k qs rs t e
       by_count false e = nothing_given Argument place rs e
 
-  alone_keeps : (h : Head) (place : Place) (f : Stepping) → KeepsEach f → KeepsEach (alone h place f)
-  alone_keeps head.NoIntroduction place f k = k
-  alone_keeps _ place f k = λ q rs t e. nothing_given Syntax place rs e
+  fitted_given : (h : Head) (x : Answer (List Sequent)) (rs : List Sequent) → fitted h x ≡ given rs → x ≡ given rs
+  fitted_given head.SmtPattern x rs e = e
+  fitted_given head.TrivialPattern x rs e = e
+  fitted_given _ (given qs) rs e = e
+  fitted_given _ (refused why place) rs e = nothing_given why nowhere rs e
+
+  inside_keeps : (h : Head) (w : Working) → Keeps w → Keeps (inside h w)
+  inside_keeps head.BothPatterns w k = k
+  inside_keeps head.EitherPattern w k = k
+  inside_keeps _ w k = λ qs rs t e. left qs rs t e
 
   module _ (f : Node → Stepping) (rules : (n : Node) → KeepsEach (f n)) where
     abbrev rule : Head → List ℕ → List (Node × Working) → Place → Working
-    rule h x ws place = worked f h ws place
+    rule h x ws place = patterned f h (node h x (map (λ w. w.0) ws) place) (worked f h ws place)
 
     abbrev Part : Type 0
     Part = Known rule Keeps
@@ -129,19 +137,55 @@ module _ (T H : Sequent → Type 0) where
         by_length true same e = gathered_keep [] qs (one_each (all_of ks) qs) rs tt (spread_answered ks qs t (eqb-true (length (all_of ks)) (length qs) same)) e
         by_length false same e = nothing_given Argument place rs e
 
+    introduced_keeps : (ks : List Part) → KeepsEach (introduced (parts rule Keeps ks))
+    introduced_keeps ks q rs t e =
+        let a = given_bind (all_new q (map (λ x. x.0) (parts rule Keeps ks))) (λ (_ : Unit {0}). in_turn (all_of ks) (q ∷ [])) rs e in
+        turn_keeps ks (q ∷ []) rs (t, tt) a.2
+
+    ruled_keeps : (h : Head) (r : Part) → KeepsEach (ruled f h (r.0, said rule r.0))
+    ruled_keeps head.Move r = one_keeps (said rule r.0) r.1
+    ruled_keeps _ r = rules r.0
+
+    -- a rule, and what stands behind it
+    rule_keeps : (r i : Part) (place : Place) → KeepsEach (λ q. placed_at place (ruled f (head_of r.0) (r.0, said rule r.0) q >>= said rule i.0))
+    rule_keeps r i place q rs t e =
+        let e = given_placed (ruled f (head_of r.0) (r.0, said rule r.0) q >>= said rule i.0) place rs (sym e) in
+        let a = given_bind (ruled f (head_of r.0) (r.0, said rule r.0) q) (said rule i.0) rs e in
+        let x = ruled_keeps (head_of r.0) r q a.0 t a.1 in
+        after (q ∷ []) a.0 rs x (i.1 a.0 rs x.typed a.2)
+
     step_keeps : (h : Head) (ks : List Part) (place : Place) → KeepsEach (stepped_by f h (parts rule Keeps ks) place)
     step_keeps head.Tactic ks place = one_keeps (in_turn (all_of ks)) (turn_keeps ks)
     step_keeps head.Group (k ∷ []) place = one_keeps (said rule k.0) k.1
     step_keeps head.Try (k ∷ []) place = λ q rs t e. left_or (said rule k.0 (q ∷ [])) q rs t (λ ss h. one_keeps (said rule k.0) k.1 q ss t h) e
     step_keeps head.Repeat (n ∷ k ∷ []) place =
         one_keeps (times (number_of (text_of n.0)) (place_of n.0) (said rule k.0)) (times_keep (number_of (text_of n.0)) (place_of n.0) (said rule k.0) k.1)
-    step_keeps head.Rule (r ∷ i ∷ []) place = alone_keeps (head_of i.0) place (f r.0) (rules r.0)
+    step_keeps head.Rule (r ∷ i ∷ []) place = rule_keeps r i place
+    step_keeps head.NoIntroduction ks place = λ q rs t e. left (q ∷ []) rs (t, tt) e
+    step_keeps head.Introduction ks place = introduced_keeps ks
+    step_keeps head.Move ks place = introduced_keeps ks
+    step_keeps head.BothPatterns ks place = one_keeps (in_turn (all_of ks)) (turn_keeps ks)
     step_keeps _ ks place = λ q rs t e. nothing_given Syntax place rs e
 
+    worked_keeps : (h : Head) (ks : List Part) (place : Place) → Keeps (worked f h (parts rule Keeps ks) place)
+    worked_keeps head.Next (k ∷ []) place = k.1
+    worked_keeps head.EitherPattern ks place = spread_keeps ks place
+    worked_keeps head.Branches ks place = spread_keeps ks place
+    worked_keeps h ks place = each_keeps (stepped_by f h (parts rule Keeps ks) place) (step_keeps h ks place)
+
     part_keeps : (h : Head) (x : List ℕ) (ks : List Part) (place : Place) → Keeps (rule h x (parts rule Keeps ks) place)
-    part_keeps head.Next x (k ∷ []) place = k.1
-    part_keeps head.Branches x ks place = spread_keeps ks place
-    part_keeps h x ks place = each_keeps (stepped_by f h (parts rule Keeps ks) place) (step_keeps h ks place)
+    part_keeps h x ks place = by_pattern (is_pattern h)
+      where
+        by_pattern : (b : Bool) →
+            Keeps (if b then on_each (λ q. fitted h (f (node h x (map (λ w. w.0) (parts rule Keeps ks)) place) q) >>= inside h (worked f h (parts rule Keeps ks) place)) else worked f h (parts rule Keeps ks) place)
+        by_pattern true =
+            let t = node h x (map (λ w. w.0) (parts rule Keeps ks)) place in
+            each_keeps (λ q. fitted h (f t q) >>= inside h (worked f h (parts rule Keeps ks) place))
+            (λ q rs typed e.
+            let a = given_bind (fitted h (f t q)) (inside h (worked f h (parts rule Keeps ks) place)) rs e in
+            let k = rules t q a.0 typed (fitted_given h (f t q) a.0 a.1) in
+            after (q ∷ []) a.0 rs k (inside_keeps h (worked f h (parts rule Keeps ks) place) (worked_keeps h ks place) a.0 rs k.typed a.2))
+        by_pattern false = worked_keeps h ks place
 
     pub tactic_keeps : (n : Node) → Keeps (works f n)
     unfolding works

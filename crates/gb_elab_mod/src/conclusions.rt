@@ -63,7 +63,7 @@ fn is_hypothesis(list: &[Hyp], name: &Name) -> bool
 }
 
 /// Whether the name is that of a variable, a memory, a module or a hypothesis of the goal.
-fn is_taken(goal: &Sequent, name: &Name) -> bool
+pub fn is_taken(goal: &Sequent, name: &Name) -> bool
     ensures { result ≡ is_taken goal.now name.now }
 {
     is_variable(goal.logical.as_slice(), name)

@@ -1,28 +1,50 @@
 -- What tactics make of goals, by their heads and parts.
-use Rattle.std.proofs.Common.{◌≡◌, ℕ, suc, ◌+◌, ◌-◌, ◌<◌, ◌≤◌, ◌==◌, Bool, true, false, ◌&&◌, nat_le, if◌then◌else◌, List, [], ◌∷◌, ◌++◌, drop, length, map, Option, Some, None, refl, ap, sym, ◌∙◌, arith}
+use Rattle.std.proofs.Common.{◌≡◌, ℕ, suc, ◌+◌, ◌-◌, ◌<◌, ◌≤◌, ◌==◌, Bool, true, false, ◌&&◌, nat_le, if◌then◌else◌, List, [], ◌∷◌, ◌++◌, drop, length, map, Some, None, refl, ap, ◌∙◌, arith}
 use Rattle.std.proofs.lemmas.Bool.{eq-eqb}
 use Rattle.std.proofs.lemmas.List.{drop_all, length-map}
 use Rattle.std.specs.List.{zip}
 use Rattle.gb_core.specs.declared.place.Place.{Place}
 use Rattle.gb_core.specs.declared.refusal.Refused.{Refused}
 use Rattle.gb_core.specs.declared.refusal.Why.TheVariants.{Argument}
-use Rattle.gb_goal.specs.Answers.{Answer, Fails}
+use Rattle.gb_goal.specs.Answers.{Answer, ◌>>=◌, Fails, placed_at}
 use Rattle.gb_goal.specs.Answers.Answer.{given, refused}
 use Rattle.gb_goal.specs.declared.sequent.Sequent.{Sequent}
 use Rattle.gb_script.specs.declared.head.Head.{Head}
 use Rattle.gb_script.specs.declared.head.Head.TheVariants as head
-use Rattle.gb_script.specs.declared.tree.Node.{Node}
-use Rattle.gb_script.specs.Tree.{head_of, text_of, parts_of, place_of}
+use Rattle.gb_script.specs.declared.tree.Node.{Node, roll-out-Node}
+use Rattle.gb_script.specs.Tree.{node, head_of, text_of, parts_of, place_of}
 use Rattle.gb_limits.specs.Numbers.{number_of}
 use Rattle.gb_names.proofs.Answers.{fails_as, leads_on, passes}
 use Rattle.gb_names.proofs.Nodes.{said_is}
-use Rattle.gb_verdict.specs.Tactics.{Stepping, alone, gathered_behind, in_turn, on_each, repeated, spread, stepped_by, times, Working, worked, works}
-use Rattle.gb_theory.specs.Tactics.{with_works, each_works, times_allowed}
+use Rattle.gb_verdict.specs.Patterns.{all_new, is_pattern}
+use Rattle.gb_verdict.specs.Tactics.{Stepping, gathered_behind, in_turn, introduced, on_each, patterned, repeated, ruled, spread, stepped_by, times, Working, worked, works}
+use Rattle.gb_theory.specs.Tactics.{with_works, each_works, fits, inner, times_allowed}
+
+placed_behind : (place : Place) (a : Answer (List Sequent)) (k : List Sequent → Answer (List Sequent)) →
+    placed_at place (a >>= k) ≡ (placed_at place a >>= λ qs. placed_at place (k qs))
+placed_behind place (given x) k = refl
+placed_behind place (refused why at) k = refl
 
 module _ (f : Node → Stepping) where
-  pub works_is : (t : Node) → works f t ≡ worked f (head_of t) (with_works f (parts_of t)) (place_of t)
+  firsts : (ts : List Node) → map (λ x. x.0) (with_works f ts) ≡ ts
+  firsts [] = refl
+  firsts (t ∷ ts) = ap (λ us. t ∷ us) (firsts ts)
+
+  whole : (t : Node) → node (head_of t) (text_of t) (map (λ x. x.0) (with_works f (parts_of t))) (place_of t) ≡ t
+  whole t = ap (λ ts. node (head_of t) (text_of t) ts (place_of t)) (firsts (parts_of t)) ∙ roll-out-Node t
+
+  works_is : (t : Node) → works f t ≡ patterned f (head_of t) t (inner f t)
   unfolding works
-  works_is t = said_is (λ h x ws p. worked f h ws p) t
+  works_is t =
+      said_is (λ h x ws p. patterned f h (node h x (map (λ w. w.0) ws) p) (worked f h ws p)) t
+      ∙ ap (λ u. patterned f (head_of t) u (inner f t)) (whole t)
+
+  -- a pattern, and what is no pattern
+  pub pattern_is : (t : Node) → is_pattern (head_of t) ≡ true → works f t ≡ on_each (fits f t)
+  pattern_is t e = works_is t ∙ ap (λ (b : Bool). if b then on_each (fits f t) else inner f t) e
+
+  pub no_pattern_is : (t : Node) → is_pattern (head_of t) ≡ false → works f t ≡ inner f t
+  no_pattern_is t e = works_is t ∙ ap (λ (b : Bool). if b then on_each (fits f t) else inner f t) e
 
   each : (ts : List Node) → map (λ x. x.1) (with_works f ts) ≡ each_works f ts
   each [] = refl
@@ -36,18 +58,44 @@ module _ (f : Node → Stepping) where
         stepped_by f h (with_works f ts) place q ≡ times (number_of (text_of n)) (place_of n) (works f t) (q ∷ [])
     repeat_is q n t e is = ap (λ k. stepped_by f k (with_works f ts) place q) e ∙ ap (λ us. stepped_by f head.Repeat (with_works f us) place q) is
 
-    pub rule_is : (q : Sequent) (r i : Node) → h ≡ head.Rule → ts ≡ r ∷ i ∷ [] →
-        stepped_by f h (with_works f ts) place q ≡ alone (head_of i) place (f r) q
-    rule_is q r i e is = ap (λ k. stepped_by f k (with_works f ts) place q) e ∙ ap (λ us. stepped_by f head.Rule (with_works f us) place q) is
+    pub both_is : (q : Sequent) → h ≡ head.BothPatterns → stepped_by f h (with_works f ts) place q ≡ in_turn (each_works f ts) (q ∷ [])
+    both_is q e = ap (λ k. stepped_by f k (with_works f ts) place q) e ∙ ap (λ ws. in_turn ws (q ∷ [])) (each ts)
+
+    -- a rule, and then the patterns behind it, each with its refusals at the rule
+    pub rule_is : (q : Sequent) (r i : Node) → ts ≡ r ∷ i ∷ [] →
+        stepped_by f head.Rule (with_works f ts) place q ≡ (placed_at place (ruled f (head_of r) (r, works f r) q) >>= λ qs. placed_at place (works f i qs))
+    rule_is q r i is =
+        ap (λ us. stepped_by f head.Rule (with_works f us) place q) is ∙ placed_behind place (ruled f (head_of r) (r, works f r) q) (works f i)
+
+    pub either_is : (qs : List Sequent) → h ≡ head.EitherPattern → worked f h (with_works f ts) place qs ≡ spread (each_works f ts) place qs
+    either_is qs e = ap (λ k. worked f k (with_works f ts) place qs) e ∙ ap (λ ws. spread ws place qs) (each ts)
 
     pub branches_is : (qs : List Sequent) → h ≡ head.Branches → worked f h (with_works f ts) place qs ≡ spread (each_works f ts) place qs
     branches_is qs e = ap (λ k. worked f k (with_works f ts) place qs) e ∙ ap (λ ws. spread ws place qs) (each ts)
 
-  pub step_is : (h : Head) (ws : List (Node × Working)) (place : Place) (qs : List Sequent) → (h ≡ head.Next → ⊥) → (h ≡ head.Branches → ⊥) →
+  pub step_is : (h : Head) (ws : List (Node × Working)) (place : Place) (qs : List Sequent) → (h ≡ head.Next → ⊥) → (h ≡ head.EitherPattern → ⊥) → (h ≡ head.Branches → ⊥) →
       worked f h ws place qs ≡ on_each (stepped_by f h ws place) qs
-  step_is head.Next ws place qs n b = absurd (n refl)
-  step_is head.Branches ws place qs n b = absurd (b refl)
-  step_is _ ws place qs n b = refl
+  step_is head.Next ws place qs n e b = absurd (n refl)
+  step_is head.EitherPattern ws place qs n e b = absurd (e refl)
+  step_is head.Branches ws place qs n e b = absurd (b refl)
+  step_is _ ws place qs n e b = refl
+
+  pub rules_alone : (h : Head) (r : Node × Working) (q : Sequent) → (h ≡ head.Move → ⊥) → ruled f h r q ≡ f r.0 q
+  rules_alone head.Move r q m = absurd (m refl)
+  rules_alone _ r q m = refl
+
+  -- patterns whose names are new
+  module _ (ts : List Node) (q : Sequent) where
+    named : introduced (with_works f ts) q ≡ (all_new q ts >>= λ _. in_turn (each_works f ts) (q ∷ []))
+    named =
+        ap (λ us. all_new q us >>= λ (_ : Unit {0}). in_turn (map (λ x. x.1) (with_works f ts)) (q ∷ [])) (firsts ts)
+        ∙ ap (λ ws. all_new q ts >>= λ (_ : Unit {0}). in_turn ws (q ∷ [])) (each ts)
+
+    pub introduced_is : all_new q ts ≡ given tt → introduced (with_works f ts) q ≡ in_turn (each_works f ts) (q ∷ [])
+    introduced_is e = named ∙ leads_on (all_new q ts) (λ (_ : Unit {0}). in_turn (each_works f ts) (q ∷ [])) tt e
+
+    pub introduced_fails : (e : Refused) → Fails (all_new q ts) e → Fails (introduced (with_works f ts) q) e
+    introduced_fails e h = fails_as _ _ e named (passes (all_new q ts) (λ (_ : Unit {0}). in_turn (each_works f ts) (q ∷ [])) e h)
 
 -- the next goal
 module _ (g : Stepping) (goals : List Sequent) (i : ℕ) (q : Sequent) (ls : List Sequent) (here : drop i goals ≡ q ∷ drop (i + 1) goals) where

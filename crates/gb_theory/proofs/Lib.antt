@@ -4,6 +4,7 @@ pub mod Cuts
 pub mod Declared
 pub mod InProofs
 pub mod Outcomes
+pub mod Named
 pub mod Passed
 pub mod Read
 pub mod Steps

@@ -1,7 +1,11 @@
 -- The parts of a tactic, each with what it makes of goals.
 use Rattle.std.specs.Prelude.{ℕ, ◌&&◌, nat_le, if◌then◌else◌, List, map, Option, Some, None}
 use Rattle.gb_script.specs.declared.tree.Node.{Node}
-use Rattle.gb_verdict.specs.Tactics.{Stepping, Working, works}
+use Rattle.gb_script.specs.Tree.{head_of, parts_of, place_of}
+use Rattle.gb_goal.specs.Answers.{◌>>=◌}
+use Rattle.gb_goal.specs.declared.sequent.Sequent.{Sequent}
+use Rattle.gb_verdict.specs.Patterns.{Naming, added}
+use Rattle.gb_verdict.specs.Tactics.{Stepping, Working, fitted, inside, worked, works}
 
 abbrev pub with_works : (Node → Stepping) → List Node → List (Node × Working)
 with_works f ts = map (λ t. (t, works f t)) ts
@@ -9,6 +13,21 @@ with_works f ts = map (λ t. (t, works f t)) ts
 abbrev pub each_works : (Node → Stepping) → List Node → List Working
 each_works f ts = map (works f) ts
 
+-- what the head and the parts of a node make of goals
+abbrev pub inner : (Node → Stepping) → Node → Working
+inner f t = worked f (head_of t) (with_works f (parts_of t)) (place_of t)
+
+-- what a pattern makes of a goal
+abbrev pub fits : (Node → Stepping) → Node → Stepping
+fits f t q = fitted (head_of t) (f t q) >>= inside (head_of t) (inner f t)
+
 -- a number of rounds that may be asked for
 abbrev pub times_allowed : ℕ → Option ℕ
 times_allowed n = if nat_le 1 n && nat_le n 64 then Some n else None
+
+-- the parts of patterns, each with the names that it adds
+abbrev pub with_added : Sequent → List Node → List (Node × Naming)
+with_added q ts = map (λ t. (t, added q t)) ts
+
+abbrev pub each_adds : Sequent → List Node → List Naming
+each_adds q ts = map (λ n. n.1) (with_added q ts)

@@ -4,6 +4,7 @@
 mod fold;
 pub mod laws;
 mod limits;
+mod names;
 mod state;
 mod tactics;
 pub mod verdict;

@@ -1,16 +1,21 @@
 // What a proof step with its combinators makes of goals.
 
 ghost use Rattle.std.specs.Prelude.{◌≡◌, [], ◌∷◌, IfOk};
-ghost use Rattle.gb_goal.specs.Answers.{Answers};
+ghost use Rattle.std.specs.Prelude.{List};
+ghost use Rattle.gb_goal.specs.Answers.{Answer, Answers, ◌>>=◌ as ◌and_then◌};
+ghost use Rattle.gb_goal.specs.declared.sequent.Sequent.{Sequent as Goal};
 ghost use Rattle.gb_limits.specs.Numbers.{number_of};
 ghost use Rattle.gb_script.specs.declared.tree.Node.{Node as Tree};
-ghost use Rattle.gb_script.specs.Tree.{text_of, place_of};
+ghost use Rattle.gb_script.specs.Tree.{head_of, parts_of, text_of, place_of};
 ghost use Rattle.gb_verdict.specs.Commands.{AreRules, RuleAnswers, Applied, allowed};
-ghost use Rattle.gb_verdict.specs.Tactics.{Stepping, on_each, in_turn, spread, or_left, times, alone, stepped_by, worked, works};
+ghost use Rattle.gb_verdict.specs.Patterns.{is_pattern};
+ghost use Rattle.gb_verdict.specs.Tactics.{Stepping, fitted, inside, introduced, on_each, in_turn, ruled, spread, or_left, times, stepped_by, worked, works};
 ghost use Rattle.gb_theory.specs.Sessions.{Meets};
-ghost use Rattle.gb_theory.specs.Tactics.{with_works, each_works, times_allowed};
+ghost use Rattle.gb_theory.specs.Tactics.{with_works, each_works, fits, times_allowed};
 
 use crate::limits::check_each;
+use crate::names::check_new;
+use gb_bodies::subgoals::{placed, refusal};
 use gb_core::place::Place;
 use gb_core::refusal::Refused;
 use gb_goal::scope::Scope;
@@ -61,21 +66,46 @@ fn rule(alloc: Global, scope: &Scope, tree: &Node, goal: &Sequent) -> Result<Seq
     subgoals(alloc, scope, tree, goal)
 }
 
-/// A rule behind which no premises are named.
-fn alone(
+/// Patterns are rules too.
+fn is_pattern(head: Head) -> bool
+    ensures { result ≡ is_pattern head }
+{
+    match head {
+        Head::Name
+        | Head::Memory
+        | Head::Drop
+        | Head::TrivialPattern
+        | Head::SmtPattern
+        | Head::BothPatterns
+        | Head::EitherPattern => true,
+        _ => false,
+    }
+}
+
+/// A refusal of a pattern that doesn't fit has no place of its own.
+fn fitted(head: Head, made: Result<Sequents, Refused>) -> Result<Sequents, Refused>
+    ensures { (x : Answer (List Goal)) → Answers x made → Answers (fitted head x) result }
+{
+    match head {
+        Head::SmtPattern => made,
+        Head::TrivialPattern => made,
+        _ => match made {
+            Err(Refused::Script { why, .. }) => Err(refusal(why)),
+            other => other,
+        },
+    }
+}
+
+/// What a pattern makes of a goal as a rule.
+fn pattern_rule(
     alloc: Global,
     scope: &Scope,
     tree: &Node,
-    introduction: Head,
-    place: Place,
     goal: &Sequent,
 ) -> Result<Sequents, Refused>
-    ensures { (f : Tree → Stepping) → AreRules scope.now f → Answers (alone introduction place (f tree.now) goal.now) result }
+    ensures { (f : Tree → Stepping) → AreRules scope.now f → Answers (fitted (head_of tree.now) (f tree.now goal.now)) result }
 {
-    match introduction {
-        Head::NoIntroduction => rule(alloc, scope, tree, goal),
-        _ => Err(not_built(place)),
-    }
+    fitted(tree.head, rule(alloc, scope, tree, goal))
 }
 
 /// A goal alone.
@@ -110,11 +140,14 @@ pub fn work_on_one(
     work(alloc, scope, tactic, one.as_slice())
 }
 
-/// What a step, or what stands behind a `;`, makes of goals.
+/// What a step, a pattern, or what stands behind a `;`, makes of goals.
 #[cycle(tactic)]
 fn work(alloc: Global, scope: &Scope, tree: &Node, goals: &[Sequent]) -> Result<Sequents, Refused>
     ensures { (f : Tree → Stepping) → AreRules scope.now f → Answers (works f tree.now goals.now) result }
 {
+    if is_pattern(tree.head) {
+        return pattern(alloc, scope, tree, goals);
+    }
     worked(
         alloc,
         scope,
@@ -123,6 +156,60 @@ fn work(alloc: Global, scope: &Scope, tree: &Node, goals: &[Sequent]) -> Result<
         tree.place,
         goals,
     )
+}
+
+/// A pattern on each goal.
+#[cycle(tactic)]
+fn pattern(
+    alloc: Global,
+    scope: &Scope,
+    tree: &Node,
+    goals: &[Sequent],
+) -> Result<Sequents, Refused>
+    ensures { (f : Tree → Stepping) → AreRules scope.now f → Answers (on_each (fits f tree.now) goals.now) result }
+{
+    let mut left = Items::new(alloc);
+    for goal in goals {
+        let more = fit(alloc, scope, tree, goal)?;
+        left.append(more)?;
+    }
+    Ok(left)
+}
+
+/// A pattern on a goal: first it works as a rule, and then what stands inside it.
+#[cycle(tactic)]
+fn fit(alloc: Global, scope: &Scope, tree: &Node, goal: &Sequent) -> Result<Sequents, Refused>
+    ensures { (f : Tree → Stepping) → AreRules scope.now f → Answers (fits f tree.now goal.now) result }
+{
+    let goals = pattern_rule(alloc, scope, tree, goal)?;
+    inside(
+        alloc,
+        scope,
+        tree.head,
+        tree.parts.as_slice(),
+        tree.place,
+        goals,
+    )
+}
+
+/// What stands inside a pattern.
+#[cycle(tactic)]
+fn inside(
+    alloc: Global,
+    scope: &Scope,
+    head: Head,
+    parts: &[Node],
+    place: Place,
+    goals: Sequents,
+) -> Result<Sequents, Refused>
+    ensures { (f : Tree → Stepping) → AreRules scope.now f
+        → Answers (inside head (worked f head (with_works f parts.now) place) goals) result }
+{
+    match head {
+        Head::BothPatterns => worked(alloc, scope, head, parts, place, goals.as_slice()),
+        Head::EitherPattern => worked(alloc, scope, head, parts, place, goals.as_slice()),
+        _ => Ok(goals),
+    }
 }
 
 /// .. from its head, its parts and its place.
@@ -142,6 +229,7 @@ fn worked(
             [step] => work(alloc, scope, step, goals),
             _ => on_each(alloc, scope, head, parts, place, goals),
         },
+        Head::EitherPattern => spread(alloc, scope, parts, place, goals),
         Head::Branches => spread(alloc, scope, parts, place, goals),
         _ => on_each(alloc, scope, head, parts, place, goals),
     }
@@ -181,6 +269,7 @@ fn stepped_by(
 {
     match head {
         Head::Tactic => in_turn(alloc, scope, parts, only(alloc, goal)?),
+        Head::BothPatterns => in_turn(alloc, scope, parts, only(alloc, goal)?),
         Head::Group => match parts {
             [tactic] => work(alloc, scope, tactic, only(alloc, goal)?.as_slice()),
             _ => Err(not_built(place)),
@@ -193,12 +282,57 @@ fn stepped_by(
             [count, step] => times(alloc, scope, step, count, only(alloc, goal)?),
             _ => Err(not_built(place)),
         },
-        Head::Rule => match parts {
-            [tree, introduction] => alone(alloc, scope, tree, introduction.head, place, goal),
-            _ => Err(not_built(place)),
-        },
+        Head::Rule => with_patterns(alloc, scope, parts, place, goal),
+        Head::NoIntroduction => Ok(only(alloc, goal)?),
+        Head::Introduction => introduced(alloc, scope, parts, goal),
+        Head::Move => introduced(alloc, scope, parts, goal),
         _ => Err(not_built(place)),
     }
+}
+
+/// A rule, and then the patterns behind it.
+#[cycle(tactic)]
+fn with_patterns(
+    alloc: Global,
+    scope: &Scope,
+    parts: &[Node],
+    place: Place,
+    goal: &Sequent,
+) -> Result<Sequents, Refused>
+    ensures { (f : Tree → Stepping) → AreRules scope.now f → Answers (stepped_by f Head.Rule (with_works f parts.now) place goal.now) result }
+{
+    match parts {
+        [tree, introduction] => {
+            let goals = placed(ruled(alloc, scope, tree, goal), place)?;
+            placed(work(alloc, scope, introduction, goals.as_slice()), place)
+        }
+        _ => Err(not_built(place)),
+    }
+}
+
+/// A rule; `move` has none but its patterns.
+#[cycle(tactic)]
+fn ruled(alloc: Global, scope: &Scope, tree: &Node, goal: &Sequent) -> Result<Sequents, Refused>
+    ensures { (f : Tree → Stepping) → AreRules scope.now f → Answers (ruled f (head_of tree.now) (tree.now, works f tree.now) goal.now) result }
+{
+    match tree.head {
+        Head::Move => work(alloc, scope, tree, only(alloc, goal)?.as_slice()),
+        _ => rule(alloc, scope, tree, goal),
+    }
+}
+
+/// Patterns on a goal, once all their names are new.
+#[cycle(tactic)]
+fn introduced(
+    alloc: Global,
+    scope: &Scope,
+    patterns: &[Node],
+    goal: &Sequent,
+) -> Result<Sequents, Refused>
+    ensures { (f : Tree → Stepping) → AreRules scope.now f → Answers (introduced (with_works f patterns.now) goal.now) result }
+{
+    check_new(alloc, goal, patterns)?;
+    in_turn(alloc, scope, patterns, only(alloc, goal)?)
 }
 
 /// Steps one after another on goals.

@@ -5,7 +5,6 @@ use Rattle.gb_core.specs.declared.refusal.Why.{Why}
 use Rattle.gb_core.specs.declared.refusal.Why.TheVariants.{LeftOut, NoGoal, OpenGoals, Shape, TooMany}
 use Rattle.gb_goal.specs.Scope.{Declarations, declarations_in}
 use Rattle.gb_goal.specs.declared.sequent.Sequent.{Sequent}
-use Rattle.gb_steps.specs.declared.step.Step.{Step}
 use Rattle.gb_steps.specs.declared.step.Rule.{Rule}
 use Rattle.gb_steps.specs.declared.step.Rule.TheVariants as rule
 use Rattle.gb_script.specs.declared.head.Head.{Head}

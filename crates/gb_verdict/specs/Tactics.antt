@@ -4,13 +4,14 @@ use Rattle.std.specs.Prelude.{ℕ, zero, suc, ◌==◌, ◌&&◌, nat_le, if◌t
 use Rattle.std.specs.List.{zip}
 use Rattle.gb_core.specs.declared.place.Place.{Place}
 use Rattle.gb_core.specs.declared.refusal.Why.TheVariants.{Argument}
-use Rattle.gb_goal.specs.Answers.{Answer, ◌>>=◌, not_built}
+use Rattle.gb_goal.specs.Answers.{Answer, ◌>>=◌, not_built, nowhere, placed_at}
 use Rattle.gb_goal.specs.Answers.Answer.{given, refused}
 use Rattle.gb_goal.specs.declared.sequent.Sequent.{Sequent}
 use Rattle.gb_script.specs.declared.head.Head.{Head}
 use Rattle.gb_script.specs.declared.head.Head.TheVariants as head
 use Rattle.gb_script.specs.declared.tree.Node.{Node, para-Node}
-use Rattle.gb_script.specs.Tree.{head_of, text_of, place_of}
+use Rattle.gb_script.specs.Tree.{node, head_of, text_of, place_of}
+use Rattle.gb_verdict.specs.Patterns.{is_pattern, all_new}
 use Rattle.gb_limits.specs.Numbers.{number_of}
 
 -- what a step makes of one goal, and of several
@@ -59,27 +60,56 @@ repeated (suc n) w qs = do
 abbrev pub times : ℕ → Place → Working → Working
 times n place w qs = if nat_le 1 n && nat_le n 64 then repeated n w qs else refused Argument place
 
--- a rule behind which no premises are named
-abbrev pub alone : Head → Place → Stepping → Stepping
-alone head.NoIntroduction place f q = f q
-alone _ place f q = not_built place
+-- A pattern works on a goal as a rule. Where it doesn't fit the refusal has no place of its own, so it stands at the rule before the
+-- pattern; `/#` is refused at its own place.
+abbrev pub fitted : Head → Answer (List Sequent) → Answer (List Sequent)
+fitted head.SmtPattern x = x
+fitted head.TrivialPattern x = x
+fitted h (given qs) = given qs
+fitted h (refused why place) = refused why nowhere
+
+-- what stands inside a pattern works on the goals that the pattern leaves
+abbrev pub inside : Head → Working → Working
+inside head.BothPatterns w qs = w qs
+inside head.EitherPattern w qs = w qs
+inside h w qs = given qs
+
+-- a pattern works as a rule first
+abbrev pub patterned : (Node → Stepping) → Head → Node → Working → Working
+patterned f h t w = if is_pattern h then on_each (λ q. fitted h (f t q) >>= inside h w) else w
+
+-- patterns on a goal, once all their names are new
+abbrev pub introduced : List (Node × Working) → Stepping
+introduced ws q = do
+  _ ← all_new q (map (λ x. x.0) ws)
+  in_turn (map (λ x. x.1) ws) (q ∷ [])
+
+-- a rule; `move` has none but its patterns
+abbrev pub ruled : (Node → Stepping) → Head → Node × Working → Stepping
+ruled f head.Move r q = r.1 (q ∷ [])
+ruled f h r q = f r.0 q
 
 -- What a step of this head, these parts and this place makes of a goal, where it is known what its rules make of goals, and its
--- parts. A leading sign is passed over. `by` and premises that are named aren't built, and fall under the last clauses.
+-- parts. A leading sign is passed over. `by` isn't built, and falls under the last clause.
 abbrev pub stepped_by : (Node → Stepping) → Head → List (Node × Working) → Place → Stepping
 stepped_by f head.Tactic ws place q = in_turn (map (λ x. x.1) ws) (q ∷ [])
+stepped_by f head.BothPatterns ws place q = in_turn (map (λ x. x.1) ws) (q ∷ [])
 stepped_by f head.Group (w ∷ []) place q = w.1 (q ∷ [])
 stepped_by f head.Try (w ∷ []) place q = or_left (w.1 (q ∷ [])) q
 stepped_by f head.Repeat (n ∷ w ∷ []) place q = times (number_of (text_of n.0)) (place_of n.0) w.1 (q ∷ [])
-stepped_by f head.Rule (r ∷ i ∷ []) place q = alone (head_of i.0) place (f r.0) q
+stepped_by f head.Rule (r ∷ i ∷ []) place q = placed_at place (ruled f (head_of r.0) r q >>= i.1)
+stepped_by f head.NoIntroduction ws place q = given (q ∷ [])
+stepped_by f head.Introduction ws place q = introduced ws q
+stepped_by f head.Move ws place q = introduced ws q
 stepped_by f h ws place q = not_built place
 
--- what a step, or what stands behind a `;`, makes of goals
+-- what a step, what stands behind a `;`, or what stands inside a pattern makes of goals
 abbrev pub worked : (Node → Stepping) → Head → List (Node × Working) → Place → Working
 worked f head.Next (w ∷ []) place = w.1
+worked f head.EitherPattern ws place = spread (map (λ x. x.1) ws) place
 worked f head.Branches ws place = spread (map (λ x. x.1) ws) place
 worked f h ws place = on_each (stepped_by f h ws place)
 
 -- the same of a node, by its rules alone
 unfoldable pub works : (Node → Stepping) → Node → Working
-works f = para-Node Working (λ l. worked f l.head l.parts l.place)
+works f = para-Node Working (λ l. patterned f l.head (node l.head l.text (map (λ x. x.0) l.parts) l.place) (worked f l.head l.parts l.place))

@@ -1,33 +1,32 @@
 -- What a node makes of goals is what its head and its parts make of them.
-use Rattle.std.proofs.Common.{◌≡◌, ◌+◌, ◌<◌, [], ◌∷◌, drop, map, ap, sym, ◌∙◌, subst, arith}
+use Rattle.std.proofs.Common.{◌≡◌, ◌+◌, ◌<◌, drop, map, ap, sym, ◌∙◌, subst, arith}
 use Rattle.std.proofs.lemmas.Result.{err_from_is_err_and}
 use Rattle.std.specs.Prelude.{Err}
-use Rattle.gb_goal.specs.Answers.{Answers, Fails}
+use Rattle.gb_goal.specs.Answers.{Answers, Fails, placed_at}
 use Rattle.gb_goal.specs.Answers.Answer.{given}
 use Rattle.gb_limits.specs.Numbers.{number_of}
+use Rattle.gb_script.specs.declared.head.Head.TheVariants as head
 use Rattle.gb_script.specs.Tree.{head_of, text_of, place_of}
-use Rattle.gb_names.proofs.Answers.{answers_as, fails_as}
+use Rattle.gb_names.proofs.Answers.{answers_as, fails_as, leads_on, passes}
 use Rattle.gb_names.proofs.Parts.{left, two}
-use Rattle.gb_verdict.specs.Tactics.{gathered_behind, in_turn, on_each, spread, stepped_by, times, worked, works}
-use Rattle.gb_theory.specs.Tactics.{each_works, with_works}
-use Rattle.gb_theory.proofs.Combined.{works_is, tactic_is, repeat_is, rule_is, branches_is, step_is, next_given, next_fails, one_each, pair_given, pair_fails, spread_is, spread_ends, round_given, round_fails, times_is}
+use Rattle.gb_verdict.specs.Tactics.{fitted, gathered_behind, in_turn, inside, introduced, on_each, ruled, spread, stepped_by, times, worked, works}
+use Rattle.gb_theory.specs.Tactics.{each_works, with_works, fits, inner}
+use Rattle.gb_theory.proofs.Combined.{pattern_is, no_pattern_is, rules_alone, tactic_is, both_is, either_is, repeat_is, rule_is, introduced_is, introduced_fails, branches_is, step_is, next_given, next_fails, one_each, pair_given, pair_fails, spread_is, spread_ends, round_given, round_fails, times_is}
 use Rattle.gb_theory.proofs.tactics.+tactic.Goals as goal
 
-pub work-returns : goal.work-returns
-work-returns t c = λ f rules.
-    answers_as _ _ c.worked.result
-    (ap (λ w. w c.args.goals.now) (works_is f c.args.tree.now)
-    ∙ ap (λ ts. worked f (head_of c.args.tree.now) (with_works f ts) (place_of c.args.tree.now) c.args.goals.now) (sym c.as_slice.ensures))
-    (c.worked.ensures f rules)
+pub worked-returns-in-EitherPattern : goal.worked-returns-in-EitherPattern
+worked-returns-in-EitherPattern t c = λ f rules.
+    answers_as _ _ c.spread.result (either_is f c.args.head c.args.parts.now c.args.place c.args.goals.now c.in-EitherPattern.is)
+    (c.spread.ensures f rules)
 
 pub worked-returns-in-Branches : goal.worked-returns-in-Branches
 worked-returns-in-Branches t c = λ f rules.
-    answers_as _ _ c.spread.result (branches_is f c.args.head c.args.parts.now c.args.place c.args.goals.now c.in-Branches.is) (c.spread.ensures f rules)
+    answers_as _ _ c.spread-in-Branches.result (branches_is f c.args.head c.args.parts.now c.args.place c.args.goals.now c.in-Branches.is) (c.spread-in-Branches.ensures f rules)
 
 pub worked-returns-in_default : goal.worked-returns-in_default
 worked-returns-in_default t c = λ f rules.
     answers_as _ _ c.on_each-in_default.result
-    (step_is f c.args.head (with_works f c.args.parts.now) c.args.place c.args.goals.now c.in_default.not-Next c.in_default.not-Branches)
+    (step_is f c.args.head (with_works f c.args.parts.now) c.args.place c.args.goals.now c.in_default.not-Next c.in_default.not-EitherPattern c.in_default.not-Branches)
     (c.on_each-in_default.ensures f rules)
 
 pub stepped_by-returns-in_ok-only-in-Tactic : goal.stepped_by-returns-in_ok-only-in-Tactic
@@ -47,14 +46,59 @@ stepped_by-returns-in_ok-only-in-len2 t c = λ f rules.
     ∙ ap (λ qs. times (number_of (text_of n)) (place_of n) (works f s) qs) (sym c.in_ok-only-in-len2.ensures))
     (c.times.ensures f rules)
 
-pub stepped_by-returns-in-len2-parts : goal.stepped_by-returns-in-len2-parts
-stepped_by-returns-in-len2-parts t c = λ f rules.
-    let r = c.tree-item.result in
-    let i = c.introduction-item.result in
-    answers_as _ _ c.alone.result
-    (rule_is f c.args.head c.args.parts.now c.args.place c.args.goal.now r i c.in-Rule.is
-    (two c.args.parts.now r i c.in-len2-parts.len_at_least c.in-len2-parts.len_below c.tree-item.is c.introduction-item.is))
-    (c.alone.ensures f rules)
+pub work-returns-then-is_pattern : goal.work-returns-then-is_pattern
+work-returns-then-is_pattern t c = λ f rules.
+    answers_as _ _ c.pattern.result (ap (λ w. w c.args.goals.now) (pattern_is f c.args.tree.now (sym c.is_pattern.ensures ∙ c.if-is_pattern.true)))
+    (c.pattern.ensures f rules)
+
+pub work-returns : goal.work-returns
+work-returns t c = λ f rules.
+    answers_as _ _ c.worked.result
+    (ap (λ w. w c.args.goals.now) (no_pattern_is f c.args.tree.now (sym c.is_pattern.ensures ∙ c.if-is_pattern.false))
+    ∙ ap (λ ts. worked f (head_of c.args.tree.now) (with_works f ts) (place_of c.args.tree.now) c.args.goals.now) (sym c.as_slice.ensures))
+    (c.worked.ensures f rules)
+
+pub fit-returns : goal.fit-returns
+fit-returns t c = λ f rules.
+    let n = c.args.tree.now in
+    answers_as _ _ c.inside.result
+    (leads_on (fitted (head_of n) (f n c.args.goal.now)) (inside (head_of n) (inner f n)) c.in_ok-goals.goals (c.in_ok-goals.ensures f rules)
+    ∙ ap (λ ts. inside (head_of n) (worked f (head_of n) (with_works f ts) (place_of n)) c.in_ok-goals.goals) (sym c.as_slice.ensures))
+    (c.inside.ensures f rules)
+
+pub introduced-returns : goal.introduced-returns
+introduced-returns t c = λ f rules.
+    let ts = c.args.patterns.now in
+    answers_as _ _ c.in_turn.result
+    (introduced_is f ts c.args.goal.now c.in_ok-check_new.ensures ∙ ap (λ qs. in_turn (each_works f ts) qs) (sym c.in_ok-only.ensures))
+    (c.in_turn.ensures f rules)
+
+pub stepped_by-returns-in_ok-only-in-BothPatterns : goal.stepped_by-returns-in_ok-only-in-BothPatterns
+stepped_by-returns-in_ok-only-in-BothPatterns t c = λ f rules.
+    answers_as _ _ c.in_turn-in-BothPatterns.result
+    (both_is f c.args.head c.args.parts.now c.args.place c.args.goal.now c.in-BothPatterns.is
+    ∙ ap (λ qs. in_turn (each_works f c.args.parts.now) qs) (sym c.in_ok-only-in-BothPatterns.ensures))
+    (c.in_turn-in-BothPatterns.ensures f rules)
+
+pub fit-returns-in_err-goals : goal.fit-returns-in_err-goals
+fit-returns-in_err-goals t c = λ f rules.
+    let n = c.args.tree.now in
+    let e = err_from_is_err_and c.from_residual.result c.from_residual.ensures.1 in
+    subst (Answers (fits f n c.args.goal.now)) (sym (e.1 ∙ ap Err e.2))
+    (passes (fitted (head_of n) (f n c.args.goal.now)) (inside (head_of n) (inner f n)) c.in_err-goals.field-0.0 (c.in_err-goals.ensures f rules))
+
+pub introduced-returns-in_err-check_new : goal.introduced-returns-in_err-check_new
+introduced-returns-in_err-check_new t c = λ f rules.
+    let ts = c.args.patterns.now in
+    let q = c.args.goal.now in
+    let e = err_from_is_err_and c.from_residual.result c.from_residual.ensures.1 in
+    subst (Answers (introduced (with_works f ts) q)) (sym (e.1 ∙ ap Err e.2))
+    (introduced_fails f ts q c.in_err-check_new.field-0.0 c.in_err-check_new.ensures)
+
+pub ruled-returns-in_default : goal.ruled-returns-in_default
+ruled-returns-in_default t c = λ f rules.
+    let n = c.args.tree.now in
+    answers_as _ _ c.rule.result (rules_alone f (head_of n) (n, works f n) c.args.goal.now c.in_default.not-Move) (c.rule.ensures f rules)
 
 pub on_each-returns-in_err-more : goal.on_each-returns-in_err-more
 on_each-returns-in_err-more t c = λ f rules.
@@ -72,6 +116,27 @@ on_each-loop-goal-preserved t c = λ f rules.
     let qs = c.args.goals.now in
     let i = c.loop-goal.goal-index in
     let g = stepped_by f c.args.head (with_works f c.args.parts.now) c.args.place in
+    ap (λ ls. gathered_behind ls (map g (drop (i + 1) qs))) c.in_ok-append.ensures
+    ∙ sym (next_given g qs i c.goal-item.result c.loop-goal.left (left qs i c.goal-item.result c.loop-goal-test.true c.goal-item.is) c.in_ok-more.more
+    (c.in_ok-more.ensures f rules))
+    ∙ c.loop-goal.invariant f rules
+
+pub pattern-returns-in_err-more : goal.pattern-returns-in_err-more
+pattern-returns-in_err-more t c = λ f rules.
+    let qs = c.args.goals.now in
+    let i = c.loop-goal.goal-index in
+    let g = fits f c.args.tree.now in
+    let e = err_from_is_err_and c.from_residual.result c.from_residual.ensures.1 in
+    subst (Answers (on_each g qs)) (sym (e.1 ∙ ap Err e.2))
+    (fails_as _ _ c.in_err-more.field-0.0 (sym (c.loop-goal.invariant f rules))
+    (next_fails g qs i c.goal-item.result c.loop-goal.left (left qs i c.goal-item.result c.loop-goal-test.true c.goal-item.is) c.in_err-more.field-0.0
+    (c.in_err-more.ensures f rules)))
+
+pub pattern-loop-goal-preserved : goal.pattern-loop-goal-preserved
+pattern-loop-goal-preserved t c = λ f rules.
+    let qs = c.args.goals.now in
+    let i = c.loop-goal.goal-index in
+    let g = fits f c.args.tree.now in
     ap (λ ls. gathered_behind ls (map g (drop (i + 1) qs))) c.in_ok-append.ensures
     ∙ sym (next_given g qs i c.goal-item.result c.loop-goal.left (left qs i c.goal-item.result c.loop-goal-test.true c.goal-item.is) c.in_ok-more.more
     (c.in_ok-more.ensures f rules))
@@ -136,3 +201,27 @@ times-loop-preserved t c = λ f rules.
     sym (round_given w c.in-Some.rounds c.loop.counter c.loop-test.true c.loop.left c.in_ok-left.left
     (subst (λ gs. w gs ≡ given c.in_ok-left.left) c.as_slice.ensures (c.in_ok-left.ensures f rules)))
     ∙ c.loop.invariant f rules
+
+pub with_patterns-returns-in_ok-goals-in-len2 : goal.with_patterns-returns-in_ok-goals-in-len2
+with_patterns-returns-in_ok-goals-in-len2 t c = λ f rules.
+    let r = c.tree-item.result in
+    let i = c.introduction-item.result in
+    let place = c.args.place in
+    let first = ruled f (head_of r) (r, works f r) c.args.goal.now in
+    answers_as _ _ c.placed-in-len2.result
+    (rule_is f head.Rule c.args.parts.now place c.args.goal.now r i (two c.args.parts.now r i c.in-len2.len_at_least c.in-len2.len_below c.tree-item.is c.introduction-item.is)
+    ∙ leads_on (placed_at place first) (λ qs. placed_at place (works f i qs)) c.in_ok-goals-in-len2.goals (c.in_ok-goals-in-len2.ensures first (c.ruled.ensures f rules))
+    ∙ ap (λ qs. placed_at place (works f i qs)) (sym c.as_slice.ensures))
+    (c.placed-in-len2.ensures (works f i c.as_slice.result.now) (c.work.ensures f rules))
+
+pub with_patterns-returns-in_err-goals-in-len2 : goal.with_patterns-returns-in_err-goals-in-len2
+with_patterns-returns-in_err-goals-in-len2 t c = λ f rules.
+    let r = c.tree-item.result in
+    let i = c.introduction-item.result in
+    let place = c.args.place in
+    let first = ruled f (head_of r) (r, works f r) c.args.goal.now in
+    let e = err_from_is_err_and c.from_residual.result c.from_residual.ensures.1 in
+    subst (Answers (stepped_by f head.Rule (with_works f c.args.parts.now) place c.args.goal.now)) (sym (e.1 ∙ ap Err e.2))
+    (fails_as _ _ c.in_err-goals-in-len2.field-0.0
+    (rule_is f head.Rule c.args.parts.now place c.args.goal.now r i (two c.args.parts.now r i c.in-len2.len_at_least c.in-len2.len_below c.tree-item.is c.introduction-item.is))
+    (passes (placed_at place first) (λ qs. placed_at place (works f i qs)) c.in_err-goals-in-len2.field-0.0 (c.in_err-goals-in-len2.ensures first (c.ruled.ensures f rules))))

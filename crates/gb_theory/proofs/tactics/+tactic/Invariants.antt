@@ -4,7 +4,7 @@ use Rattle.std.specs.List.{zip}
 use Rattle.gb_script.specs.declared.tree.Node.{Node as Tree}
 use Rattle.gb_verdict.specs.Commands.{AreRules}
 use Rattle.gb_verdict.specs.Tactics.{Stepping, gathered_behind, in_turn, repeated, stepped_by, works}
-use Rattle.gb_theory.specs.Tactics.{with_works, each_works}
+use Rattle.gb_theory.specs.Tactics.{with_works, each_works, fits}
 use Rattle.gb_theory.proofs.tactics.+tactic.Given as goal
 
 abbrev pub invariant-in_turn-loop-step : goal.invariant-in_turn-loop-step
@@ -17,6 +17,11 @@ invariant-on_each-loop-goal l =
     (f : Tree → Stepping) → AreRules l.scope f →
     gathered_behind l.left (map (stepped_by f l.head (with_works f l.parts) l.place) (drop l.goal-index l.goals))
     ≡ gathered_behind [] (map (stepped_by f l.head (with_works f l.parts) l.place) l.goals)
+
+abbrev pub invariant-pattern-loop-goal : goal.invariant-pattern-loop-goal
+invariant-pattern-loop-goal l =
+    (f : Tree → Stepping) → AreRules l.scope f →
+    gathered_behind l.left (map (fits f l.tree) (drop l.goal-index l.goals)) ≡ gathered_behind [] (map (fits f l.tree) l.goals)
 
 abbrev pub invariant-spread-loop-i : goal.invariant-spread-loop-i
 invariant-spread-loop-i l =

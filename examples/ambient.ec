@@ -1,0 +1,32 @@
+(* Patterns take off what stands in front of a conclusion. *)
+
+lemma taken : forall (x y : bool), x => y => x.
+proof.
+move=> x y hx hy.       (* two variables and two hypotheses enter the context *)
+assumption.             (* the conclusion is the hypothesis hx *)
+qed.
+
+lemma dropped : forall (x y : bool), x => y => x.
+proof.
+move=> x y hx _.        (* the second premise is dropped *)
+assumption.
+qed.
+
+lemma both_sides : forall (x y : bool), x /\ y => x.
+proof.
+move=> x y [hx hy].     (* a conjunction as two hypotheses *)
+assumption.
+qed.
+
+lemma a_witness : (exists (x : bool), x /\ !x) => false.
+proof.
+move=> [x [hx hn]].     (* a value that is said to exist, and both sides of what is said of it *)
+smt().
+qed.
+
+lemma one_side : forall (x y : bool), x \/ y => y \/ x.
+proof.
+move=> x y [hx | hy].   (* two goals, one for each side *)
+right. assumption.
+left. assumption.
+qed.
