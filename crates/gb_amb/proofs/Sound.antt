@@ -42,7 +42,7 @@ use Rattle.gb_goal.specs.Goal.Goal.{ambient}
 use Rattle.gb_rules.proofs.Conclusions.{goal_conclusion, goal_front}
 use Rattle.gb_rules.proofs.Forms.{not_typed}
 use Rattle.gb_rules.proofs.Given.{refused_at, same_given}
-use Rattle.gb_smt.proofs.SameTerms.{same_terms}
+use Rattle.gb_apart.proofs.SameTerms.{same_terms}
 use Rattle.gb_goal.specs.Goal.{judges_bodies}
 use Rattle.gb_amb.specs.Parts.{concluding, each_concluding, by_shape, parts_of, by_parts}
 use Rattle.gb_amb.specs.Steps.{IsAmong, assuming, Decides, by_cases, IsAnswer, IsTypedStep, LeadTo}

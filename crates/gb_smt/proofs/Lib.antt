@@ -12,5 +12,4 @@ mod Different
 mod Answered
 mod Values
 pub mod Meant
-pub mod SameTerms
 mod Outcomes

@@ -1,0 +1,4 @@
+//! Typed trees are told apart.
+#![tactic(auto)]
+
+pub mod laws;
