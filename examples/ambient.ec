@@ -30,3 +30,14 @@ move=> x y [hx | hy].   (* two goals, one for each side *)
 right. assumption.
 left. assumption.
 qed.
+
+lemma closed : forall (x y : bool), x => x /\ (y <=> y).
+proof.
+trivial.                (* what stands in front enters the context; x is a hypothesis, and y <=> y needs none *)
+qed.
+
+lemma a_negation : forall (x : bool), exists (y : bool), y <=> !x.
+proof.
+move=> x.
+by exists (!x).         (* what is left, !x <=> !x, is closed *)
+qed.

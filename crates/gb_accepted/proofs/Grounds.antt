@@ -65,7 +65,7 @@ pub record OfTyping : Type 0 where
   pub body_rule : (ds : scope.Declarations) → IsTyped ds → (q : Sequent) (t : IsTypedGoalOf ds q) (n : Node) (s : Step) → step_given ds q n ≡ given s →
       (ls rs : List TypedName) → IsGoalOver (around ds q t) ls rs (goal_of q.conclusion) → bodies.IsTypedRule (around ds q t) s.rule ls rs (goal_of q.conclusion)
   pub conclusion : (ds : scope.Declarations) → IsTyped ds → (q : Sequent) (t : IsTypedGoalOf ds q) (n : Node) (s : Step) → step_given ds q n ≡ given s →
-      (r : AmbientRule) → s.rule ≡ Ambient r → IsTypedStep (around ds q t) r
+      (r : AmbientRule) → s.rule ≡ Ambient r → IsTypedStep (around ds q t) q.conclusion r
   pub rule : (ds : scope.Declarations) → IsTyped ds → (q : Sequent) (t : IsTypedGoalOf ds q) (n : Node) (s : Step) → step_given ds q n ≡ given s →
       (ls rs : List TypedName) → IsGoalOver (around ds q t) ls rs (goal_of q.conclusion) → IsTypedRule (around ds q t) s.rule ls rs (goal_of q.conclusion)
 
@@ -85,7 +85,7 @@ pub record OfRules : Type 0 where
   pub equiv_refuses : (r : Rule) (f : Term) → equiv.rule_row r (ambient f) ≡ refusing Shape
   pub relational : (c : Context) (r : Rule) → IsSoundRule c (equiv.rule_row r) (IsTypedRule c r)
   pub on_conclusions : (ds : Declarations) → IsTypedScope ds → (q : Sequent) (t : IsTypedSequent (context_of ds) q) → (r : AmbientRule) →
-      IsTypedStep (of_sequent (context_of ds) q t.frames) r → (place : Place) (qs : List Sequent) → IsAnswer r place q (given qs) → LeadTo ds q qs
+      IsTypedStep (of_sequent (context_of ds) q t.frames) q.conclusion r → (place : Place) (qs : List Sequent) → IsAnswer r place q (given qs) → LeadTo ds q qs
   pub smt : (ds : Declarations) → IsTypedScope ds → (q : Sequent) → IsTypedSequent (context_of ds) q → All IsClosed (leaves_of q) → Holds ds q
 
 -- Typed scopes have models, and equivalences give couplings.

@@ -45,7 +45,7 @@ IsTypedAt ds q t r =
 
 -- a rule on a conclusion that brings typed forms to a goal
 abbrev pub HasTypedForms : (ds : Declarations) (q : Sequent) → IsTypedGoalOf ds q → Rule → Type 0
-HasTypedForms ds q t r = (a : AmbientRule) → r ≡ rule.Ambient a → IsTypedStep (around ds q t) a
+HasTypedForms ds q t r = (a : AmbientRule) → r ≡ rule.Ambient a → IsTypedStep (around ds q t) q.conclusion a
 
 -- a row that refuses gives nothing
 none_given : (row : Row) (q : Sequent) (qs : List Sequent) (G : Goal) → goal_of q.conclusion ≡ G → row G ≡ refusing Shape → {X : Type 0} → answered row q ≡ given qs → X

@@ -17,7 +17,7 @@ use Rattle.gb_smt_laws.proofs.Used.{each_together}
 use Rattle.gb_names.proofs.Nodes.{said, Known, parts, by_parts}
 use Rattle.gb_elab_laws.proofs.Given.{given_bind, given_is}
 use Rattle.gb_verdict.specs.Patterns.{all_new, is_pattern}
-use Rattle.gb_verdict.specs.Tactics.{Stepping, Working, gathered_behind, on_each, in_turn, spread, or_left, repeated, times, fitted, inside, introduced, ruled, patterned, stepped_by, worked, works}
+use Rattle.gb_verdict.specs.Tactics.{Stepping, Working, gathered_behind, on_each, in_turn, spread, or_left, repeated, times, fitted, inside, introduced, ruled, patterned, done_at, stepped_by, worked, works}
 use Rattle.gb_accepted.proofs.Given.{given_placed, nothing_given}
 
 -- goals that are typed, and from which goals follow that hold
@@ -160,6 +160,10 @@ module _ (T H : Sequent → Type 0) where
     step_keeps head.Try (k ∷ []) place = λ q rs t e. left_or (said rule k.0 (q ∷ [])) q rs t (λ ss h. one_keeps (said rule k.0) k.1 q ss t h) e
     step_keeps head.Repeat (n ∷ k ∷ []) place =
         one_keeps (times (number_of (text_of n.0)) (place_of n.0) (said rule k.0)) (times_keep (number_of (text_of n.0)) (place_of n.0) (said rule k.0) k.1)
+    step_keeps head.By (k ∷ []) place = λ q rs t e.
+        let a = given_bind (said rule k.0 (q ∷ [])) (on_each (f (done_at place))) rs e in
+        let x = one_keeps (said rule k.0) k.1 q a.0 t a.1 in
+        after (q ∷ []) a.0 rs x (each_keeps (f (done_at place)) (rules (done_at place)) a.0 rs x.typed a.2)
     step_keeps head.Rule (r ∷ i ∷ []) place = rule_keeps r i place
     step_keeps head.NoIntroduction ks place = λ q rs t e. left (q ∷ []) rs (t, tt) e
     step_keeps head.Introduction ks place = introduced_keeps ks

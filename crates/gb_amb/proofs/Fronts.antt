@@ -25,11 +25,11 @@ modules_out t =
     fold_out-Term Bool Bool Bool Bool Bool at_head at_instr at_subject at_cmd at_term t
     ∙ ap (λ b. is_module_quantifier (out-Term t).head || b) (any_of quantifies_modules (out-Term t).args)
 
-second : (a b : Bool) → (a || b) ≡ false → b ≡ false
+pub second : (a b : Bool) → (a || b) ≡ false → b ≡ false
 second true b e = absurd (false≢true (sym e))
 second false b e = e
 
-first : (a b : Bool) → (a || b) ≡ false → a ≡ false
+pub first : (a b : Bool) → (a || b) ≡ false → a ≡ false
 first true b e = absurd (false≢true (sym e))
 first false b e = refl
 

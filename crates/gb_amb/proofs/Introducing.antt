@@ -1,33 +1,29 @@
 -- Quantifiers that are taken into the context.
-use Rattle.std.proofs.Common.{◌≡◌, ℕ, ◌+◌, ◌||◌, Bool, true, false, if◌then◌else◌, List, [], ◌∷◌, ◌++◌, length, map, Some, None, refl, ap, sym, ◌∙◌, subst, arith}
-use Rattle.std.specs.List.{AllByRecursion, list_any}
+use Rattle.std.proofs.Common.{◌≡◌, ℕ, ◌||◌, Bool, true, false, List, [], ◌∷◌, ◌++◌, length, map, Some, None, refl, ap, sym, ◌∙◌, subst, arith}
+use Rattle.std.specs.List.{list_any}
 use Rattle.std.proofs.lemmas.Bool.{false≢true}
 use Rattle.std.proofs.lemmas.List.{length-append, length-map}
 use Rattle.gb_core.specs.declared.ty.Ty.{Ty}
-use Rattle.gb_core.specs.declared.ty.Ty.TheVariants as ty
 use Rattle.gb_core.specs.declared.value.Value.{Value}
 use Rattle.gb_terms.specs.declared.decl.TypedName.{TypedName}
 use Rattle.gb_terms.specs.declared.op.Read.TheVariants.{Logical}
 use Rattle.gb_terms.specs.declared.op.Side.TheVariants as side
 use Rattle.gb_terms.specs.declared.term.Term.{Term, out-Term}
-use Rattle.gb_terms.specs.declared.term.Head.{Head}
 use Rattle.gb_terms.specs.declared.term.Head.TheVariants as head
 use Rattle.gb_terms.specs.Make.{node}
 use Rattle.gb_walk.specs.declared.change.Change.TheVariants.{OfBound, ToSide}
-use Rattle.gb_walk.specs.Change.{Changes, term_changed}
+use Rattle.gb_walk.specs.Change.{term_changed}
 use Rattle.gb_goal.specs.Goal.{judges_bodies}
 use Rattle.gb_goal.specs.declared.sequent.Hyp.{Hyp}
 use Rattle.gb_goal.specs.declared.sequent.Sequent.{Sequent}
 use Rattle.gb_meaning.specs.Meanings.{truth}
 use Rattle.gb_meaning.specs.Memory.{Memory}
-use Rattle.gb_meaning.specs.Setting.{Setting}
 use Rattle.gb_meaning.specs.Setting.Meaning.{finite}
 use Rattle.gb_meaning.specs.State.{State, under}
 use Rattle.gb_meaning.specs.State.Binding.{value as value_bound, memory as memory_bound}
 use Rattle.gb_meaning.specs.Written.{type_of}
 use Rattle.gb_meaning.specs.Judgments.{Judge, IsFair, IsTrueIn, den}
 use Rattle.gb_meaning.specs.Values.{Types, has}
-use Rattle.gb_laws.proofs.Nodes.{each_is_node}
 use Rattle.gb_judge.proofs.Truths.{true_all, true_all_memory}
 use Rattle.gb_holds.specs.Declared.{Declarations}
 use Rattle.gb_holds.specs.Settings.{Interpretation, setting, types_of}
@@ -36,7 +32,6 @@ use Rattle.gb_holds.specs.Holds.{AreValues, context, AreTrue, Holds}
 use Rattle.gb_holds.proofs.Fronts.{without_modules}
 use Rattle.gb_holds.proofs.SettingTypes.{setting-types}
 use Rattle.gb_typed.specs.Finite.{IsFinite}
-use Rattle.gb_typed.specs.Operators.{item}
 use Rattle.gb_typed.specs.Programs.{HaveFiniteTypes}
 use Rattle.gb_typed.specs.Typing.Binder.{value, memory}
 use Rattle.gb_typing.specs.Context.{Context, Frame, within}
@@ -47,12 +42,11 @@ use Rattle.gb_typing.specs.Scopes.{context_of, IsTypedScope}
 use Rattle.gb_typing.proofs.Conclusions.{formula_form}
 use Rattle.gb_typing.proofs.Made.{IsNode, parts_typed}
 use Rattle.gb_typing.proofs.Models.{each_setting}
-use Rattle.gb_rules.specs.Rules.{outermost}
 use Rattle.gb_goal.specs.Goal.Goal.{ambient}
 use Rattle.gb_rules.proofs.Conclusions.{goal_conclusion, no_module as front_of}
 use Rattle.gb_rules.proofs.Lifted.{InEachSequent, joined, sequent_outermost}
 use Rattle.gb_amb.specs.Quantified.{quantifies_modules, goal_quantifies_modules}
-use Rattle.gb_amb.specs.Introduced.{next_variable, with_variable, with_memory}
+use Rattle.gb_amb.specs.Introduced.{with_variable, with_memory}
 use Rattle.gb_amb.specs.Steps.{LeadTo}
 use Rattle.gb_amb.proofs.Cases.{form_formula, conclusion_formula}
 use Rattle.gb_amb.proofs.Fronts.{none_in_front}

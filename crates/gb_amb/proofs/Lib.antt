@@ -1,3 +1,4 @@
+pub mod Layers
 pub mod Fronts
 pub mod Idle
 pub mod Wider
@@ -7,4 +8,9 @@ pub mod Cases
 pub mod Premises
 pub mod Around
 pub mod Introducing
+pub mod Itself
+pub mod Leading
+pub mod Speaking
+pub mod Witnessed
+pub mod Closing
 pub mod Sound

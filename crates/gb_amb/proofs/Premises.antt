@@ -1,13 +1,11 @@
 -- What is to be shown of a conclusion, by its leading premise.
-use Rattle.std.proofs.Common.{◌≡◌, ◌⊎◌, inl, inr, zero, suc, Bool, true, false, ◌||◌, if◌then◌else◌, List, [], ◌∷◌, Some, None, refl, ap, sym, ◌∙◌, subst}
+use Rattle.std.proofs.Common.{◌≡◌, ◌⊎◌, inl, inr, Bool, true, false, ◌||◌, if◌then◌else◌, List, [], ◌∷◌, Some, None, refl, ap, sym, ◌∙◌, subst}
 use Rattle.std.specs.List.{AllByRecursion}
 use Rattle.std.proofs.lemmas.Bool.{false≢true}
 use Rattle.gb_core.specs.declared.place.Place.{Place}
 use Rattle.gb_core.specs.declared.refusal.Why.TheVariants.{Shape}
 use Rattle.gb_core.specs.declared.ty.Ty.{Ty}
 use Rattle.gb_core.specs.declared.ty.Ty.TheVariants as ty
-use Rattle.gb_core.specs.declared.value.Value.{Value}
-use Rattle.gb_terms.specs.declared.decl.TypedName.{TypedName}
 use Rattle.gb_terms.specs.declared.op.Op.TheVariants as op
 use Rattle.gb_terms.specs.declared.op.Side.TheVariants as side
 use Rattle.gb_terms.specs.declared.op.Read.TheVariants.{Logical, Program}
@@ -18,15 +16,12 @@ use Rattle.gb_terms.specs.Make.{node}
 use Rattle.gb_goal.specs.Answers.Answer.{given, refused}
 use Rattle.gb_steps.specs.declared.step.AmbientRule.{AmbientRule}
 use Rattle.gb_steps.specs.declared.step.AmbientRule.TheVariants.{Discard, Unpack, Branch}
-use Rattle.gb_meaning.specs.Memory.{Memory}
 use Rattle.gb_meaning.specs.Meanings.{truth}
 use Rattle.gb_meaning.specs.Setting.Meaning.{finite}
 use Rattle.gb_meaning.specs.Setting.{Setting}
 use Rattle.gb_meaning.specs.State.{State, Binding, under}
 use Rattle.gb_meaning.specs.State.Binding.{value as value_bound, memory as memory_bound}
-use Rattle.gb_meaning.specs.Values.{has}
-use Rattle.gb_meaning.specs.Written.{type_of}
-use Rattle.gb_meaning.specs.Judgments.{Judge, IsFair, IsSoundForm, IsTrueIn, den}
+use Rattle.gb_meaning.specs.Judgments.{Judge, IsFair, IsSoundForm, den}
 use Rattle.gb_laws.proofs.Nodes.{each_is_node}
 use Rattle.gb_judge.proofs.Exact.{trying}
 use Rattle.gb_judge.proofs.Fair.{is_fair}
@@ -39,27 +34,25 @@ use Rattle.gb_holds.specs.Declared.{Declarations}
 use Rattle.gb_holds.specs.Settings.{Interpretation, setting}
 use Rattle.gb_holds.specs.Truth.{has_module, Truth}
 use Rattle.gb_holds.proofs.Fronts.{without_modules}
-use Rattle.gb_typed.specs.Typing.{Binder}
 use Rattle.gb_typed.specs.Typing.Binder.{value, memory}
 use Rattle.gb_typing.specs.Context.{Context, Frame, within}
 use Rattle.gb_typing.specs.Typing.{IsForm}
 use Rattle.gb_typing.specs.Formulas.{IsFormula}
-use Rattle.gb_typing.specs.Fits.{IsSettingOf}
+use Rattle.gb_typing.specs.Fits.{IsSettingOf, IsStateOf}
 use Rattle.gb_typing.specs.Sequents.{IsConclusion}
 use Rattle.gb_typing.proofs.Conclusions.{formula_form}
 use Rattle.gb_typing.proofs.Formed.{formed}
-use Rattle.gb_typing.proofs.Made.{IsNode, made_node, parts_typed}
+use Rattle.gb_typing.proofs.Made.{made_node, parts_typed}
 use Rattle.gb_typing.proofs.Sound.{procedures_sound, sound_form}
 use Rattle.gb_typing.proofs.Uses.{uses_of, uses_typed}
 use Rattle.gb_rules.specs.Forms.{implies_form}
-use Rattle.gb_rules.specs.Rules.{outermost}
 use Rattle.gb_goal.specs.Goal.Goal.{ambient}
 use Rattle.gb_rules.proofs.Conclusions.{goal_conclusion, no_module as front_of}
 use Rattle.gb_rules.proofs.Forms.{and_use, form_made, implies_typed, implies_use, made_form}
 use Rattle.gb_rules.proofs.Given.{refused_at, same_given}
 use Rattle.gb_amb.specs.Parts.{by_premise, unless_module}
 use Rattle.gb_amb.specs.Quantified.{quantifies_modules}
-use Rattle.gb_amb.proofs.Cases.{form_formula, implication_formula, implication_made, implication_typed, implication_used}
+use Rattle.gb_amb.proofs.Cases.{implication_formula, implication_made, implication_typed, implication_used}
 use Rattle.gb_amb.proofs.Fronts.{none_in_front}
 use Rattle.gb_amb.proofs.States.{not_in}
 use Rattle.gb_amb.proofs.Wider.{small, behind}
@@ -75,7 +68,7 @@ form_conclusion c f w = goal_conclusion c [] [] (ambient f) w
 -- typed conclusions, and a formula that follows from them in each setting of a context
 pub record Follows (ds : Declarations) (c : Context) (f : Term) (fs : List Term) : Type 0 where
   pub typed : AllByRecursion (IsConclusion c) fs
-  pub leads : (k : Interpretation) → IsSettingOf c (setting ds k) → (s : State) → AllByRecursion (λ a. Truth ds a k s) fs → Truth ds f k s
+  pub leads : (k : Interpretation) → IsSettingOf c (setting ds k) → (s : State) → IsStateOf c (setting ds k) s → AllByRecursion (λ a. Truth ds a k s) fs → Truth ds f k s
 
 module _ (ds : Declarations) (b : Context) (us : List Ty) (ns : List Frame) (f : Term) (v : IsFormula (small b us ns) f) where
   abbrev c : Context
@@ -88,7 +81,7 @@ module _ (ds : Declarations) (b : Context) (us : List Ty) (ns : List Frame) (f :
   dropped : (a : Term) → IsForm c a → IsConclusion c f → Shown a (f ∷ [])
   dropped a w u = record {
     typed = (u, tt);
-    leads = λ k fits s h. implication_made ds k s a f (sound_form (setting ds k) c (procedures_sound c (setting ds k) fits) a w.typed) (λ p. h.0);
+    leads = λ k fits s fit h. implication_made ds k s a f (sound_form (setting ds k) c (procedures_sound c (setting ds k) fits) a w.typed) (λ p. h.0);
   }
 
   of_both : (x y : Term) (r : Ty) → IsForm c (node (head.Builtin op.And) (x ∷ y ∷ []) r) → Shown (node (head.Builtin op.And) (x ∷ y ∷ []) r) (implies_form x (implies_form y f) ∷ [])
@@ -98,7 +91,7 @@ module _ (ds : Declarations) (b : Context) (us : List Ty) (ns : List Frame) (f :
       let wy : IsForm c y = record { typed = n.3.1; truth = n.0.1.0 } in
       record {
         typed = (implication_typed c x wx (implies_form y f) (implication_formula c y wy f v), tt);
-        leads = λ k fits s h.
+        leads = λ k fits s fit h.
             implication_made ds k s (node (head.Builtin op.And) (x ∷ y ∷ []) r) f (sound_form (setting ds k) c (procedures_sound c (setting ds k) fits) (node (head.Builtin op.And) (x ∷ y ∷ []) r) w.typed)
             (λ p.
             let both : (j : Judge) → IsFair (setting ds k) j → (den (setting ds k) j x s ≡ true) × (den (setting ds k) j y s ≡ true) =
@@ -118,7 +111,7 @@ module _ (ds : Declarations) (b : Context) (us : List Ty) (ns : List Frame) (f :
       let wy : IsForm c y = record { typed = n.3.1; truth = n.0.1.0 } in
       record {
         typed = (implication_typed c x wx f v, (implication_typed c y wy f v, tt));
-        leads = λ k fits s h.
+        leads = λ k fits s fit h.
             let g = setting ds k in
             let sound = procedures_sound c g fits in
             implication_made ds k s (node (head.Builtin op.Or) (x ∷ y ∷ []) r) f (sound_form g c sound (node (head.Builtin op.Or) (x ∷ y ∷ []) r) w.typed)
@@ -164,7 +157,7 @@ module _ (ds : Declarations) (b : Context) (us : List Ty) (ns : List Frame) (f :
         form_made c _ (made_node c (head.All u) (ty.Bool ∷ []) (implies_form x f ∷ []) ty.Bool (p.0.0, (refl, (refl, tt))) tt [] (made_form d (implies_form x f) body)) in
         record {
           typed = (form_conclusion c _ shown, tt);
-          leads = λ k fits s h.
+          leads = λ k fits s fit h.
               implication_made ds k s (node (head.Some u) (x ∷ []) r) f (sound_form (setting ds k) c (procedures_sound c (setting ds k) fits) (node (head.Some u) (x ∷ []) r) w.typed)
               (λ q. (without_modules ds f k s n).1 (λ j fair.
               let e = (true_some (setting ds k) j u x s).0 (subst (λ r. den (setting ds k) j (node (head.Some u) (x ∷ []) r) s ≡ true) p.0.1.1.0 (q j fair)) in
@@ -182,7 +175,7 @@ module _ (ds : Declarations) (b : Context) (us : List Ty) (ns : List Frame) (f :
         form_made c _ (made_node c head.AllMemory (ty.Bool ∷ []) (implies_form x f ∷ []) ty.Bool (refl, (refl, tt)) tt p.2 (made_form d (implies_form x f) body)) in
         record {
           typed = (form_conclusion c _ shown, tt);
-          leads = λ k fits s h.
+          leads = λ k fits s fit h.
               implication_made ds k s (node head.SomeMemory (x ∷ []) r) f (sound_form (setting ds k) c (procedures_sound c (setting ds k) fits) (node head.SomeMemory (x ∷ []) r) w.typed)
               (λ q. (without_modules ds f k s n).1 (λ j fair.
               let e = (true_some_memory (setting ds k) j fair x s).0 (subst (λ r. den (setting ds k) j (node head.SomeMemory (x ∷ []) r) s ≡ true) p.0.1.0 (q j fair)) in

@@ -1,235 +1,104 @@
 -- Steps on conclusions are sound, and each has one answer.
-use Rattle.std.proofs.Common.{◌≡◌, ◌⊎◌, inl, inr, ⊎_elim, ℕ, Some, Bool, true, false, if◌then◌else◌, List, [], ◌∷◌, ◌++◌, map, refl, ap, sym, ◌∙◌, subst}
-use Rattle.std.specs.List.{AllByRecursion}
+use Rattle.std.proofs.Common.{◌≡◌, inl, inr, Some, Bool, true, false, if◌then◌else◌, List, [], ◌∷◌, map, refl, ap, sym, ◌∙◌, subst}
 use Rattle.gb_core.specs.declared.place.Place.{Place}
 use Rattle.gb_core.specs.declared.refusal.Why.TheVariants.{Shape}
 use Rattle.gb_terms.specs.declared.op.Op.TheVariants as op
-use Rattle.gb_terms.specs.declared.term.Term.{Term, Term', end_of-Head, more_of-Head, out-Term}
+use Rattle.gb_terms.specs.declared.term.Term.{Term, out-Term}
 use Rattle.gb_terms.specs.declared.term.Head.{Head}
 use Rattle.gb_terms.specs.declared.term.Head.TheVariants as head
-use Rattle.gb_terms.specs.declared.term.Head.TheVariants.{Body'}
 use Rattle.gb_terms.specs.Make.{node}
-use Rattle.gb_goal.specs.Answers.{nowhere}
-use Rattle.gb_laws.proofs.Nodes.{each_is_node}
-use Rattle.gb_typing.specs.Formulas.{IsFormula}
+use Rattle.gb_laws.proofs.Nodes.{term_is_node}
+use Rattle.gb_walk.specs.declared.change.Change.TheVariants.{OfBound}
+use Rattle.gb_walk.specs.Change.{term_changed}
+use Rattle.gb_typing.proofs.Conclusions.{formula_form}
 use Rattle.gb_typing.specs.Sequents.{with_modules}
-use Rattle.gb_rules.proofs.Lifted.{sequent_outermost}
-use Rattle.gb_amb.specs.Quantified.{goal_quantifies_modules}
-use Rattle.gb_amb.specs.Introduced.{introduced, introduced_at, unless_modules, with_memory, with_premise, with_variable}
+use Rattle.gb_amb.specs.Introduced.{introduced, introduced_at, with_memory, with_premise, with_variable}
 use Rattle.gb_amb.proofs.Introducing.{memory_leads, value_leads}
-use Rattle.gb_amb.proofs.Premises.{Follows, premise_follows}
-use Rattle.gb_amb.proofs.Wider.{small}
+use Rattle.gb_amb.proofs.Premises.{Follows}
+use Rattle.gb_amb.proofs.Speaking.{plain}
+use Rattle.gb_amb.proofs.Witnessed.{witness_follows}
 use Rattle.gb_goal.specs.Answers.{Answer}
 use Rattle.gb_goal.specs.Answers.Answer.{given, refused}
-use Rattle.gb_goal.specs.declared.sequent.Hyp.{Hyp}
 use Rattle.gb_goal.specs.declared.sequent.Sequent.{Sequent}
 use Rattle.gb_steps.specs.declared.step.AmbientRule.{AmbientRule}
-use Rattle.gb_steps.specs.declared.step.AmbientRule.TheVariants.{Split, Left, Right, Assumption, Case, Have, Introduce, IntroduceMemory, Discard, Unpack, Branch}
-use Rattle.gb_meaning.specs.State.{State}
-use Rattle.gb_meaning.specs.Judgments.{Judge, IsFair, IsTrueUnder}
+use Rattle.gb_steps.specs.declared.step.AmbientRule.TheVariants.{Split, Left, Right, Assumption, Case, Have, Introduce, IntroduceMemory, Discard, Unpack, Branch, Witness, Trivial, Done}
+use Rattle.gb_core.specs.declared.ty.Ty.{Ty}
+use Rattle.gb_meaning.specs.Written.{type_of}
 use Rattle.gb_holds.specs.Declared.{Declarations}
-use Rattle.gb_holds.specs.Settings.{Interpretation, setting}
-use Rattle.gb_holds.specs.Truth.{has_module, Truth}
-use Rattle.gb_holds.specs.Holds.{AreTrue}
-use Rattle.gb_holds.proofs.Fronts.{without_modules}
-use Rattle.gb_typing.specs.Context.{Context}
-use Rattle.gb_typing.specs.Typing.{IsForm}
-use Rattle.gb_typing.specs.Sequents.{IsConclusion, AreFormulas, IsTypedSequent}
+use Rattle.gb_holds.specs.Truth.{has_module}
+use Rattle.gb_typing.specs.Typing.{IsTyped, IsForm}
+use Rattle.gb_typing.specs.Sequents.{IsTypedSequent}
 use Rattle.gb_typing.specs.Scopes.{context_of, IsTypedScope}
-use Rattle.gb_typing.proofs.Sound.{procedures_sound, sound_form}
-use Rattle.gb_rules.specs.Forms.{implies_form, not_form}
-use Rattle.gb_goal.specs.Goal.Goal.{ambient}
-use Rattle.gb_rules.proofs.Conclusions.{goal_conclusion, goal_front}
-use Rattle.gb_rules.proofs.Forms.{not_typed}
 use Rattle.gb_rules.proofs.Given.{refused_at, same_given}
-use Rattle.gb_apart.proofs.SameTerms.{same_terms}
 use Rattle.gb_goal.specs.Goal.{judges_bodies}
-use Rattle.gb_amb.specs.Parts.{concluding, each_concluding, by_shape, parts_of, by_parts}
-use Rattle.gb_amb.specs.Steps.{IsAmong, assuming, Decides, by_cases, IsAnswer, IsTypedStep, LeadTo}
-use Rattle.gb_amb.proofs.Around.{Part, here, placed, IsTypedPart, IsTruePart, parts_lead}
-use Rattle.gb_amb.proofs.Cases.{form_formula, conclusion_formula, implication_made, implication_typed, cases_used}
-use Rattle.gb_amb.proofs.Taken.{IsTaken, IsUnder, implies_under, is_implies, parts_taken}
-
--- a form among hypotheses is true where they are
-module _ (ds : Declarations) (k : Interpretation) (s : State) where
-  assumed_true : (hs : List Hyp) (f : Term) → IsAmong hs f → AreTrue ds hs k s → Truth ds f k s
-  assumed_true [] f m h = absurd m
-  assumed_true (x ∷ hs) f (inl e) h = subst (λ f. Truth ds f k s) e h.0
-  assumed_true (x ∷ hs) f (inr m) h = assumed_true hs f m h.1
-
-  all_true : (hs : List Hyp) (name : List ℕ) (f : Term) → AreTrue ds hs k s → Truth ds f k s → AreTrue ds (hs ++ record { name = name; form = f } ∷ []) k s
-  all_true [] name f h t = (t, tt)
-  all_true (x ∷ hs) name f h t = (h.0, all_true hs name f h.1 t)
-
-form_conclusion : (c : Context) (f : Term) → IsForm c f → IsConclusion c f
-form_conclusion c f w = goal_conclusion c [] [] (ambient f) w
-
-form_front : (c : Context) (f : Term) → IsForm c f → has_module f ≡ false
-form_front c f w = goal_front c [] [] (ambient f) w
-
--- a formula is a conclusion
-formula_conclusion : (c : Context) (f : Term) → IsFormula c f → IsConclusion c f
-formula_conclusion c (Term' a (more_of-Head (head.Hoare (Body' k is)) end_of-Head) n ts t) w = absurd w.typed.1
-formula_conclusion c (Term' a (more_of-Head (head.Phoare (Body' k is) r) end_of-Head) n ts t) w = absurd w.typed.1
-formula_conclusion c (Term' a (more_of-Head (head.Equiv (Body' k is) (Body' l js)) end_of-Head) n ts t) w = absurd w.typed.1.0
-formula_conclusion c f w = w
-
-formulas_with : (c : Context) (hs : List Hyp) (name : List ℕ) (f : Term) → AreFormulas c hs → IsForm c f → AreFormulas c (hs ++ record { name = name; form = f } ∷ [])
-formulas_with c [] name f w v = (form_formula c f v, tt)
-formulas_with c (x ∷ hs) name f w v = (w.0, formulas_with c hs name f w.1 v)
+use Rattle.gb_amb.specs.Parts.{concluding, by_parts}
+use Rattle.gb_amb.specs.Closed.{IsAmong, IsClosed}
+use Rattle.gb_amb.specs.Speaking.{speaks_of_programs}
+use Rattle.gb_amb.specs.Witness.{witnessed, witnessed_at}
+use Rattle.gb_amb.specs.Steps.{assuming, Decides, by_cases, IsAnswer, IsTypedStep, IsWitness, LeadTo}
+use Rattle.gb_amb.proofs.Around.{here}
+use Rattle.gb_amb.proofs.Cases.{conclusion_formula}
+use Rattle.gb_amb.proofs.Closing.{among, closed, closed_leads}
+use Rattle.gb_amb.proofs.Leading.{nothing_left, by_assumption, of_cases, by_its_parts, by_cut, premise_taken, unless, node_is, here_small, of_following}
 
 module _ (ds : Declarations) (scope : IsTypedScope ds) (q : Sequent) (t : IsTypedSequent (context_of ds) q) where
-  abbrev c : Context
-  c = here ds scope q t
-
-  -- the conclusions that a goal follows from, in its context and under its hypotheses
-  abbrev part_of : Term → Part
-  part_of f = record { hyps = q.hyps; conclusion = f }
-
-  nothing_left : (qs : List Sequent) → [] ≡ qs → LeadTo ds q [] → LeadTo ds q qs
-  nothing_left qs e l = subst (LeadTo ds q) e l
-
-  by_assumption : IsAmong q.hyps q.conclusion → LeadTo ds q []
-  by_assumption m = parts_lead ds scope q t [] tt (λ k fits s fit x h. assumed_true ds k s q.hyps q.conclusion m h)
-
-  -- the parts of a form
-  typed_forms : (fs : List Term) → AllByRecursion (IsForm c) fs → AllByRecursion (IsTypedPart ds scope q t) (map part_of fs)
-  typed_forms [] w = tt
-  typed_forms (f ∷ fs) w = ((t.hyps, form_conclusion c f w.0), typed_forms fs w.1)
-
-  true_forms : (k : Interpretation) (s : State) (fs : List Term) → AllByRecursion (IsForm c) fs → AllByRecursion (IsTruePart ds scope q t k s) (map part_of fs) → AreTrue ds q.hyps k s →
-      (j : Judge) → IsFair (setting ds k) j → AllByRecursion (λ a. IsTrueUnder (setting ds k) j a s) fs
-  true_forms k s [] w x h j fair = tt
-  true_forms k s (f ∷ fs) w x h j fair =
-      ((without_modules ds f k s (form_front c f w.0)).0 (x.0 h) j fair, true_forms k s fs w.1 x.1 h j fair)
-
-  same_goals : (fs : List Term) → map (placed ds scope q t) (map part_of fs) ≡ map (concluding q) fs
-  same_goals [] = refl
-  same_goals (f ∷ fs) = ap (λ qs. concluding q f ∷ qs) (same_goals fs)
-
-  of_taken : (fs : List Term) → IsTaken c q.conclusion fs → LeadTo ds q (map (concluding q) fs)
-  of_taken fs k =
-      subst (LeadTo ds q) (same_goals fs)
-      (parts_lead ds scope q t (map part_of fs) (typed_forms fs k.from.typed)
-      (λ i fits s fit x h. (without_modules ds q.conclusion i s (form_front c q.conclusion k.form)).1
-      (λ j fair. k.from.implied (setting ds i) j s (true_forms i s fs k.from.typed x h j fair))))
-
-  -- the parts by a premise
-  here_small : c ≡ small (with_modules (context_of ds) q.modules) (map (λ x. x.ty) q.logical) (map (λ l. Some l) t.frames)
-  here_small = sequent_outermost ds q t.frames
-
-  typed_parts : (fs : List Term) → AllByRecursion (IsConclusion c) fs → AllByRecursion (IsTypedPart ds scope q t) (map part_of fs)
-  typed_parts [] w = tt
-  typed_parts (f ∷ fs) w = ((t.hyps, w.0), typed_parts fs w.1)
-
-  true_parts : (k : Interpretation) (s : State) (fs : List Term) → AllByRecursion (IsTruePart ds scope q t k s) (map part_of fs) → AreTrue ds q.hyps k s → AllByRecursion (λ a. Truth ds a k s) fs
-  true_parts k s [] x h = tt
-  true_parts k s (f ∷ fs) x h = (x.0 h, true_parts k s fs x.1 h)
-
-  of_following : (f : Term) (fs : List Term) → q.conclusion ≡ f → Follows ds c f fs → LeadTo ds q (map (concluding q) fs)
-  of_following f fs is k =
-      subst (LeadTo ds q) (same_goals fs)
-      (parts_lead ds scope q t (map part_of fs) (typed_parts fs k.typed)
-      (λ i fits s fit x h. subst (λ z. Truth ds z i s) (sym is) (k.leads i fits s (true_parts i s fs x h))))
-
-  of_under : (r : AmbientRule) (place : Place) (fs : List Term) → IsUnder c place r q.conclusion fs → LeadTo ds q (map (concluding q) fs)
-  of_under r place fs k =
-      of_following (implies_form k.premise k.rest) fs k.is
-      (subst (λ d. IsFormula d k.rest → IsForm d k.premise → Follows ds d (implies_form k.premise k.rest) fs) (sym here_small)
-      (λ v w. premise_follows ds (with_modules (context_of ds) q.modules) (map (λ x. x.ty) q.logical) (map (λ l. Some l) t.frames) k.rest v place (formula_conclusion (small (with_modules (context_of ds) q.modules) (map (λ x. x.ty) q.logical) (map (λ l. Some l) t.frames)) k.rest v) r k.premise w fs k.parts) k.formula k.form)
-
-  of_parts : (r : AmbientRule) (place : Place) (fs : List Term) → IsTaken c q.conclusion fs ⊎ IsUnder c place r q.conclusion fs → LeadTo ds q (map (concluding q) fs)
-  of_parts r place fs (inl k) = of_taken fs k
-  of_parts r place fs (inr k) = of_under r place fs k
-
-  by_its_parts : (r : AmbientRule) (place : Place) (qs : List Sequent) → given qs ≡ by_parts r place q → LeadTo ds q qs
-  by_its_parts r place qs e = step (parts_of r place q.conclusion) refl e
-    where
-      step : (x : Answer (List Term)) → parts_of r place q.conclusion ≡ x → given qs ≡ each_concluding q x → LeadTo ds q qs
-      step (given fs) u e = subst (LeadTo ds q) (sym (same_given qs (map (concluding q) fs) e)) (of_parts r place fs (parts_taken c place r q.conclusion t.conclusion fs u))
-      step (refused w p) u e = refused_at w p qs (sym e)
-
-  abbrev both_cases : Term → List Sequent
-  both_cases f = concluding q (implies_form f q.conclusion) ∷ concluding q (implies_form (not_form f) q.conclusion) ∷ []
-
-  by_two_cases : (f : Term) → IsForm c f → judges_bodies (out-Term q.conclusion).head ≡ false → LeadTo ds q (both_cases f)
-  by_two_cases f w e =
-      let v = conclusion_formula c q.conclusion t.conclusion e in
-      parts_lead ds scope q t (part_of (implies_form f q.conclusion) ∷ part_of (implies_form (not_form f) q.conclusion) ∷ [])
-      ((t.hyps, implication_typed c f w q.conclusion v), ((t.hyps, implication_typed c (not_form f) (not_typed c f w) q.conclusion v), tt))
-      (λ k fits s fit x h. cases_used ds k s f q.conclusion (sound_form (setting ds k) c (procedures_sound c (setting ds k) fits) f w.typed) (x.0 h) (x.1.0 h))
-
-  of_cases : (f : Term) → IsForm c f → (place : Place) (qs : List Sequent) → given qs ≡ by_cases f place q → LeadTo ds q qs
-  of_cases f w place qs e = step (judges_bodies (out-Term q.conclusion).head) refl e
-    where
-      step : (b : Bool) → judges_bodies (out-Term q.conclusion).head ≡ b → given qs ≡ (if b then refused Shape place else given (both_cases f)) → LeadTo ds q qs
-      step true u e = refused_at Shape place qs (sym e)
-      step false u e = subst (LeadTo ds q) (sym (same_given qs (both_cases f) e)) (by_two_cases f w u)
-
-  by_cut : (name : List ℕ) (f : Term) → IsForm c f → LeadTo ds q (concluding q f ∷ assuming q name f ∷ [])
-  by_cut name f w =
-      parts_lead ds scope q t (part_of f ∷ record { hyps = q.hyps ++ record { name = name; form = f } ∷ []; conclusion = q.conclusion } ∷ [])
-      ((t.hyps, form_conclusion c f w), ((formulas_with c q.hyps name f t.hyps w, t.conclusion), tt))
-      (λ k fits s fit x h. x.1.0 (all_true ds k s q.hyps name f h (x.0 h)))
-
-  -- What stands in front of the conclusion, taken into the context.
-
-  abbrev first_of : Term → List Term → Term
-  first_of d [] = d
-  first_of d (x ∷ xs) = x
-
-  abbrev second_of : Term → List Term → Term
-  second_of d [] = d
-  second_of d (x ∷ xs) = first_of d xs
-
-  premise_taken : (name : List ℕ) (a f : Term) → (out-Term q.conclusion).head ≡ head.Builtin op.Implies → (out-Term q.conclusion).args ≡ a ∷ f ∷ [] → LeadTo ds q (with_premise q name a f ∷ [])
-  premise_taken name a f h e =
-      let k = implies_under c nowhere q.conclusion t.conclusion (ap is_implies h) (f ∷ []) (λ i. by_shape Discard nowhere (h i) (e i)) in
-      let args = sym k.args ∙ e in
-      subst (λ x. LeadTo ds q (with_premise q name x f ∷ [])) (ap (first_of a) args)
-      (subst (λ x. LeadTo ds q (with_premise q name k.premise x ∷ [])) (ap (second_of a) args)
-      (parts_lead ds scope q t (record { hyps = q.hyps ++ record { name = name; form = k.premise } ∷ []; conclusion = k.rest } ∷ [])
-      ((formulas_with c q.hyps name k.premise t.hyps k.form, formula_conclusion c k.rest k.formula), tt)
-      (λ i fits s fit x hyps. subst (λ z. Truth ds z i s) (sym k.is)
-      (implication_made ds i s k.premise k.rest (sound_form (setting ds i) c (procedures_sound c (setting ds i) fits) k.premise (let w = k.form in w.typed))
-      (λ p. x.0 (all_true ds i s q.hyps name k.premise hyps
-      ((without_modules ds k.premise i s (form_front c k.premise k.form)).1 p)))))))
-
-  unless : (place : Place) (wider : Sequent) (qs : List Sequent) → given qs ≡ unless_modules place q wider → (goal_quantifies_modules q ≡ false → LeadTo ds q (wider ∷ [])) → LeadTo ds q qs
-  unless place wider qs e f = step (goal_quantifies_modules q) refl e
-    where
-      step : (b : Bool) → goal_quantifies_modules q ≡ b → given qs ≡ (if b then refused Shape place else given (wider ∷ [])) → LeadTo ds q qs
-      step true u e = refused_at Shape place qs (sym e)
-      step false u e = subst (LeadTo ds q) (sym (same_given qs (wider ∷ []) e)) (f u)
-
-  node_is : (h : Head) (ts : List Term) → (out-Term q.conclusion).head ≡ h → (out-Term q.conclusion).args ≡ ts → q.conclusion ≡ node h ts (out-Term q.conclusion).ty
-  node_is h ts u v = each_is_node q.conclusion ∙ (λ i. node (u i) (v i) (out-Term q.conclusion).ty)
-
   by_head : (r : AmbientRule) (place : Place) (h : Head) (ts : List Term) → (out-Term q.conclusion).head ≡ h → (out-Term q.conclusion).args ≡ ts → (qs : List Sequent) →
       given qs ≡ introduced_at r place q h ts → LeadTo ds q qs
   by_head (Introduce x) place (head.All u) (f ∷ []) hs xs qs e =
-      unless place (with_variable q x u f) qs e
-      (λ n. value_leads ds scope q t n x u f (out-Term q.conclusion).ty (node_is (head.All u) (f ∷ []) hs xs) (ap judges_bodies hs))
+      unless ds scope q t place (with_variable q x u f) qs e
+      (λ n. value_leads ds scope q t n x u f (out-Term q.conclusion).ty (node_is ds scope q t (head.All u) (f ∷ []) hs xs) (ap judges_bodies hs))
   by_head (Introduce x) place (head.Builtin op.Implies) (a ∷ f ∷ []) hs xs qs e =
-      subst (LeadTo ds q) (sym (same_given qs (with_premise q x a f ∷ []) e)) (premise_taken x a f hs xs)
+      subst (LeadTo ds q) (sym (same_given qs (with_premise q x a f ∷ []) e)) (premise_taken ds scope q t x a f hs xs)
   by_head (IntroduceMemory x) place head.AllMemory (f ∷ []) hs xs qs e =
-      unless place (with_memory q x f) qs e
-      (λ n. memory_leads ds scope q t n x f (out-Term q.conclusion).ty (node_is head.AllMemory (f ∷ []) hs xs) (ap judges_bodies hs))
+      unless ds scope q t place (with_memory q x f) qs e
+      (λ n. memory_leads ds scope q t n x f (out-Term q.conclusion).ty (node_is ds scope q t head.AllMemory (f ∷ []) hs xs) (ap judges_bodies hs))
   by_head r place h ts hs xs qs e = refused_at Shape place qs (sym e)
 
-  pub steps_sound : (r : AmbientRule) → IsTypedStep c r → (place : Place) (qs : List Sequent) → IsAnswer r place q (given qs) → LeadTo ds q qs
-  steps_sound Assumption w place qs (inl (m, e)) = nothing_left qs (same_given [] qs (sym e)) (by_assumption m)
+  -- A term for what is said to exist.
+  witness_leads : (x : Term) (u : Ty) (f : Term) → (out-Term q.conclusion).head ≡ head.Some u → (out-Term q.conclusion).args ≡ f ∷ [] → IsTyped (here ds scope q t) x × (type_of x ≡ u) →
+      speaks_of_programs x ≡ false → LeadTo ds q (concluding q (term_changed f (OfBound 0 x ∷ [])) ∷ [])
+  witness_leads x u f hs xs w s =
+      let c = here ds scope q t in
+      let r = (out-Term q.conclusion).ty in
+      let is = node_is ds scope q t (head.Some u) (f ∷ []) hs xs in
+      let front = ap has_module (is ∙ sym (term_is_node (head.Some u) (f ∷ []) r)) in
+      let whole = subst (IsForm c) is (formula_form c q.conclusion (conclusion_formula c q.conclusion t.conclusion (ap judges_bodies hs)) front) in
+      of_following ds scope q t (node (head.Some u) (f ∷ []) r) (term_changed f (OfBound 0 x ∷ []) ∷ []) is
+      (subst (λ d. IsTyped d x → IsForm d (node (head.Some u) (f ∷ []) r) → Follows ds d (node (head.Some u) (f ∷ []) r) (term_changed f (OfBound 0 x ∷ []) ∷ []))
+      (sym (here_small ds scope q t))
+      (λ y z. witness_follows (with_modules (context_of ds) q.modules) (map (λ x. x.ty) q.logical) (map (λ l. Some l) t.frames) x y (plain x s) u w.1 ds f r z) w.0 whole)
+
+  by_witness : (x : Term) (place : Place) (h : Head) (ts : List Term) → (out-Term q.conclusion).head ≡ h → (out-Term q.conclusion).args ≡ ts → IsWitness (here ds scope q t) x h →
+      (qs : List Sequent) → given qs ≡ witnessed_at x place q h ts → LeadTo ds q qs
+  by_witness x place (head.Some u) (f ∷ []) hs xs w qs e = step (speaks_of_programs x) refl e
+    where
+      step : (b : Bool) → speaks_of_programs x ≡ b → given qs ≡ (if b then refused Shape place else given (concluding q (term_changed f (OfBound 0 x ∷ [])) ∷ [])) → LeadTo ds q qs
+      step true s e = refused_at Shape place qs (sym e)
+      step false s e = subst (LeadTo ds q) (sym (same_given qs _ e)) (witness_leads x u f hs xs w s)
+  by_witness x place h ts hs xs w qs e = refused_at Shape place qs (sym e)
+
+  -- a goal that stays
+  left : LeadTo ds q (q ∷ [])
+  left = record { typed = (t, tt); leads = λ h. h.0 }
+
+  pub steps_sound : (r : AmbientRule) → IsTypedStep (here ds scope q t) q.conclusion r → (place : Place) (qs : List Sequent) → IsAnswer r place q (given qs) → LeadTo ds q qs
+  steps_sound Assumption w place qs (inl (m, e)) = nothing_left ds scope q t qs (same_given [] qs (sym e)) (by_assumption ds scope q t m)
   steps_sound Assumption w place qs (inr (m, e)) = refused_at Shape place qs (sym e)
-  steps_sound (Case f) w place qs e = of_cases f w place qs e
-  steps_sound (Have name f) w place qs e = subst (LeadTo ds q) (sym (same_given qs _ e)) (by_cut name f w)
+  steps_sound (Case f) w place qs e = of_cases ds scope q t f w place qs e
+  steps_sound (Have name f) w place qs e = subst (LeadTo ds q) (sym (same_given qs _ e)) (by_cut ds scope q t name f w)
   steps_sound (Introduce x) w place qs e = by_head (Introduce x) place _ _ refl refl qs e
   steps_sound (IntroduceMemory x) w place qs e = by_head (IntroduceMemory x) place _ _ refl refl qs e
-  steps_sound Split w place qs e = by_its_parts Split place qs e
-  steps_sound Left w place qs e = by_its_parts Left place qs e
-  steps_sound Right w place qs e = by_its_parts Right place qs e
-  steps_sound Discard w place qs e = by_its_parts Discard place qs e
-  steps_sound Unpack w place qs e = by_its_parts Unpack place qs e
-  steps_sound Branch w place qs e = by_its_parts Branch place qs e
+  steps_sound (Witness x) w place qs e = by_witness x place _ _ refl refl w qs e
+  steps_sound Trivial w place qs (inl (m, e)) = nothing_left ds scope q t qs (same_given [] qs (sym e)) (closed_leads ds scope q t m)
+  steps_sound Trivial w place qs (inr (m, e)) = subst (LeadTo ds q) (same_given (q ∷ []) qs (sym e)) left
+  steps_sound Done w place qs (inl (m, e)) = nothing_left ds scope q t qs (same_given [] qs (sym e)) (closed_leads ds scope q t m)
+  steps_sound Done w place qs (inr (m, e)) = refused_at Shape place qs (sym e)
+  steps_sound Split w place qs e = by_its_parts ds scope q t Split place qs e
+  steps_sound Left w place qs e = by_its_parts ds scope q t Left place qs e
+  steps_sound Right w place qs e = by_its_parts ds scope q t Right place qs e
+  steps_sound Discard w place qs e = by_its_parts ds scope q t Discard place qs e
+  steps_sound Unpack w place qs e = by_its_parts ds scope q t Unpack place qs e
+  steps_sound Branch w place qs e = by_its_parts ds scope q t Branch place qs e
 
 -- Answers.
 
@@ -243,19 +112,13 @@ one_decided P x y r t (inl (p, e)) (inr (u, k)) = absurd (u p)
 one_decided P x y r t (inr (p, e)) (inl (u, k)) = absurd (p u)
 one_decided P x y r t (inr (p, e)) (inr (u, k)) = e ∙ sym k
 
-among : (hs : List Hyp) (f : Term) → Dec (IsAmong hs f)
-among [] f = no (λ m. m)
-among (x ∷ hs) f = step (same_terms x.form f) (among hs f)
-  where
-    step : Dec (x.form ≡ f) → Dec (IsAmong hs f) → Dec (IsAmong (x ∷ hs) f)
-    step (yes p) d = yes (inl p)
-    step (no n) (yes m) = yes (inr m)
-    step (no n) (no m) = no (⊎_elim n m)
-
 pub some_answer : (r : AmbientRule) (place : Place) (q : Sequent) → (x : Answer (List Sequent)) × IsAnswer r place q x
 some_answer Assumption place q = decided (IsAmong q.hyps q.conclusion) (among q.hyps q.conclusion) (given []) (refused Shape place)
 some_answer (Case f) place q = (by_cases f place q, refl)
 some_answer (Have name f) place q = (given (concluding q f ∷ assuming q name f ∷ []), refl)
+some_answer (Witness e) place q = (witnessed e place q, refl)
+some_answer Trivial place q = decided (IsClosed q) (closed q) (given []) (given (q ∷ []))
+some_answer Done place q = decided (IsClosed q) (closed q) (given []) (refused Shape place)
 some_answer Split place q = (by_parts Split place q, refl)
 some_answer Left place q = (by_parts Left place q, refl)
 some_answer Right place q = (by_parts Right place q, refl)
@@ -269,6 +132,9 @@ pub one_answer : (r : AmbientRule) (place : Place) (q : Sequent) (x y : Answer (
 one_answer Assumption place q x y h k = one_decided (IsAmong q.hyps q.conclusion) (given []) (refused Shape place) x y h k
 one_answer (Case f) place q x y h k = h ∙ sym k
 one_answer (Have name f) place q x y h k = h ∙ sym k
+one_answer (Witness e) place q x y h k = h ∙ sym k
+one_answer Trivial place q x y h k = one_decided (IsClosed q) (given []) (given (q ∷ [])) x y h k
+one_answer Done place q x y h k = one_decided (IsClosed q) (given []) (refused Shape place) x y h k
 one_answer Split place q x y h k = h ∙ sym k
 one_answer Left place q x y h k = h ∙ sym k
 one_answer Right place q x y h k = h ∙ sym k

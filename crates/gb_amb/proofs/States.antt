@@ -1,9 +1,9 @@
 -- What forms mean in states with more variables and memories.
-use Rattle.std.proofs.Common.{◌≡◌, ℕ, zero, suc, ◌+◌, ◌==◌, ◌<◌, ◌||◌, Bool, true, false, if◌then◌else◌, List, [], ◌∷◌, ◌++◌, length, map, get_or, Option, Some, None, refl, ap, sym, ◌∙◌, subst, arith}
+use Rattle.std.proofs.Common.{◌≡◌, ℕ, zero, suc, ◌==◌, ◌<◌, Bool, true, false, if◌then◌else◌, List, [], ◌∷◌, ◌++◌, length, get_or, Some, None, refl, ap, sym, ◌∙◌, subst, arith}
 use Rattle.std.proofs.Math.Dec.{eqb-suc-suc}
 use Rattle.std.proofs.lemmas.Bool.{false≢true}
 use Rattle.std.proofs.lemmas.Bool.Decides.{Decides-eqb}
-use Rattle.std.proofs.lemmas.List.{get_or_append_left, get_or_at, get_or_past}
+use Rattle.std.proofs.lemmas.List.{get_or_at}
 use Rattle.gb_core.specs.declared.ty.Ty.{Ty}
 use Rattle.gb_core.specs.declared.value.Value.{Value}
 use Rattle.gb_core.specs.declared.value.Value.TheVariants.{Num}
@@ -14,17 +14,16 @@ use Rattle.gb_terms.specs.declared.op.Side.{Side}
 use Rattle.gb_terms.specs.declared.op.Side.TheVariants as side
 use Rattle.gb_terms.specs.declared.op.Read.TheVariants.{Logical, Program}
 use Rattle.gb_terms.specs.declared.term.Term.{Term}
-use Rattle.gb_terms.specs.declared.term.Head.{Head}
 use Rattle.gb_terms.specs.declared.term.Head.TheVariants as head
 use Rattle.gb_terms.specs.Make.{node}
 use Rattle.gb_walk.specs.declared.change.Change.TheVariants.{ToTerm, OfBound}
-use Rattle.gb_walk.specs.Change.{Changes, or_later, side_changed, term_changed}
+use Rattle.gb_walk.specs.Change.{Changes, or_later, term_changed}
 use Rattle.gb_meaning.specs.Memory.{Memory, read}
-use Rattle.gb_meaning.specs.Setting.{Meaning, Setting}
+use Rattle.gb_meaning.specs.Setting.{Setting}
 use Rattle.gb_meaning.specs.Setting.Meaning.{finite}
 use Rattle.gb_meaning.specs.State.{State, no_memory, under, memory_of}
 use Rattle.gb_meaning.specs.State.Binding.{value as value_bound, memory as memory_bound}
-use Rattle.gb_meaning.specs.Terms.{Speaks, read_at, val}
+use Rattle.gb_meaning.specs.Terms.{Speaks, val}
 use Rattle.gb_meaning.specs.Judgments.{Judge, IsFair, speaking}
 use Rattle.gb_laws.proofs.Nodes.{term_is_node, val_node, denominator_node}
 use Rattle.gb_changes.specs.Formed.{IsFormed}
@@ -35,17 +34,16 @@ use Rattle.gb_changes.proofs.Agreeing.{form_agrees}
 use Rattle.gb_changes.proofs.Forms.{form_followed}
 use Rattle.gb_changes.proofs.Puts.{plain_node}
 use Rattle.gb_holds.specs.Holds.{context}
-use Rattle.gb_typed.specs.Operators.{item}
 use Rattle.gb_typed.specs.Typing.Binder.{value, memory}
-use Rattle.gb_typing.specs.Context.{Context, Frame, frame_of, within}
+use Rattle.gb_typing.specs.Context.{Context, Frame, within}
 use Rattle.gb_typing.specs.Typing.{IsTyped, IsForm}
 use Rattle.gb_typing.specs.Fits.{IsSettingOf}
 use Rattle.gb_typing.proofs.Fitting.{fits_within}
 use Rattle.gb_typing.proofs.Formed.{formed}
 use Rattle.gb_typing.proofs.Sound.{procedures_sound, sound_form}
-use Rattle.gb_typing.proofs.Uses.{is_frame, is_place, reads_in, uses_of, uses_typed}
+use Rattle.gb_typing.proofs.Uses.{is_frame, reads_in, uses_of, uses_typed}
 use Rattle.gb_amb.proofs.Idle.{unchanged}
-use Rattle.gb_amb.proofs.Wider.{small, large, item_past, to_variable, to_memory}
+use Rattle.gb_amb.proofs.Wider.{small, item_past, to_memory}
 
 -- The values and the memories of a longer context.
 

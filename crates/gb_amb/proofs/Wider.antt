@@ -1,10 +1,8 @@
 -- Forms in wider contexts: with more variables and memories, or behind a quantifier.
-use Rattle.std.proofs.Common.{◌≡◌, ℕ, zero, suc, ◌+◌, ◌<◌, Bool, true, false, if◌then◌else◌, inr, List, [], ◌∷◌, ◌++◌, length, map, get_or, Option, Some, None, refl, ap, sym, ◌∙◌, subst, arith}
+use Rattle.std.proofs.Common.{◌≡◌, ℕ, zero, suc, ◌<◌, Bool, true, false, if◌then◌else◌, inr, List, [], ◌∷◌, ◌++◌, length, get_or, Option, Some, None, refl, ap, sym, ◌∙◌, subst, arith}
 use Rattle.std.proofs.lemmas.Bool.{false≢true}
-use Rattle.std.proofs.lemmas.List.{length-append, length-map, get_or_append_left, get_or_at}
+use Rattle.std.proofs.lemmas.List.{length-append, get_or_append_left, get_or_at}
 use Rattle.gb_core.specs.declared.ty.Ty.{Ty}
-use Rattle.gb_core.specs.declared.ty.Ty.TheVariants as ty
-use Rattle.gb_core.specs.declared.var.Var.{Var}
 use Rattle.gb_terms.specs.declared.decl.TypedName.{TypedName}
 use Rattle.gb_terms.specs.declared.op.Side.{Side}
 use Rattle.gb_terms.specs.declared.op.Side.TheVariants as side
@@ -24,7 +22,7 @@ use Rattle.gb_typed.specs.Typing.Binder.{value, memory}
 use Rattle.gb_typed.specs.Typing as typed
 use Rattle.gb_typing.specs.Context.{Context, Frame, erased, frame_of, within}
 use Rattle.gb_typing.specs.Typing.{IsFrame, IsPlace, IsForm}
-use Rattle.gb_typing.specs.Changes.{binder, IsLeaf, IsMemoryIn, Becomes, Leads, Made, Stays, no_read}
+use Rattle.gb_typing.specs.Changes.{binder, IsLeaf, Becomes, Leads, Made, Stays, no_read}
 use Rattle.gb_typing.proofs.Changed.{changed}
 use Rattle.gb_typing.proofs.Made.{made_node}
 use Rattle.gb_rules.specs.Rules.{outermost}

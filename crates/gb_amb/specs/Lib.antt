@@ -1,4 +1,7 @@
+pub mod Closed
 pub mod Introduced
 pub mod Parts
 pub mod Quantified
+pub mod Speaking
+pub mod Witness
 pub mod Steps

@@ -6,27 +6,26 @@ use Rattle.gb_core.specs.declared.refusal.Refused.{Refused}
 use Rattle.gb_core.specs.declared.refusal.Refused.TheVariants.{NoMemory, ReadFault, Script}
 use Rattle.gb_core.specs.declared.refusal.Why.TheVariants.{Shape}
 use Rattle.gb_terms.specs.declared.term.Term.{Term, out-Term}
+use Rattle.gb_terms.specs.declared.term.Head.{Head}
+use Rattle.gb_terms.specs.declared.term.Head.TheVariants.{Some}
 use Rattle.gb_goal.specs.Answers.{Answer}
 use Rattle.gb_goal.specs.Answers.Answer.{given, refused}
 use Rattle.gb_goal.specs.Goal.{judges_bodies}
-use Rattle.gb_goal.specs.declared.sequent.Hyp.{Hyp}
 use Rattle.gb_goal.specs.declared.sequent.Sequent.{Sequent}
 use Rattle.gb_steps.specs.declared.step.AmbientRule.{AmbientRule}
-use Rattle.gb_steps.specs.declared.step.AmbientRule.TheVariants.{Assumption, Case, Have, Introduce, IntroduceMemory}
+use Rattle.gb_steps.specs.declared.step.AmbientRule.TheVariants.{Assumption, Case, Have, Introduce, IntroduceMemory, Witness, Trivial, Done}
+use Rattle.gb_meaning.specs.Written.{type_of}
 use Rattle.gb_holds.specs.Declared.{Declarations}
 use Rattle.gb_holds.specs.Holds.{Holds}
 use Rattle.gb_typing.specs.Context.{Context}
-use Rattle.gb_typing.specs.Typing.{IsForm}
+use Rattle.gb_typing.specs.Typing.{IsTyped, IsForm}
 use Rattle.gb_typing.specs.Sequents.{IsTypedSequent}
 use Rattle.gb_typing.specs.Scopes.{context_of}
 use Rattle.gb_rules.specs.Forms.{implies_form, not_form}
+use Rattle.gb_amb.specs.Closed.{IsAmong, IsClosed}
 use Rattle.gb_amb.specs.Introduced.{introduced}
 use Rattle.gb_amb.specs.Parts.{concluding, by_parts}
-
--- a form is that of a hypothesis
-abbrev pub IsAmong : List Hyp → Term → Type 0
-IsAmong [] f = ⊥
-IsAmong (h ∷ hs) f = (h.form ≡ f) ⊎ IsAmong hs f
+use Rattle.gb_amb.specs.Witness.{witnessed}
 
 -- the goal with one hypothesis more, behind the others
 abbrev pub assuming : Sequent → List ℕ → Term → Sequent
@@ -49,13 +48,22 @@ IsAnswer (Case f) place q r = r ≡ by_cases f place q
 IsAnswer (Have name f) place q r = r ≡ given (concluding q f ∷ assuming q name f ∷ [])
 IsAnswer (Introduce x) place q r = r ≡ introduced (Introduce x) place q
 IsAnswer (IntroduceMemory x) place q r = r ≡ introduced (IntroduceMemory x) place q
+IsAnswer (Witness e) place q r = r ≡ witnessed e place q
+IsAnswer Trivial place q r = Decides (IsClosed q) (given []) (given (q ∷ [])) r
+IsAnswer Done place q r = Decides (IsClosed q) (given []) (refused Shape place) r
 IsAnswer rule place q r = r ≡ by_parts rule place q
 
--- the forms that a step brings are typed
-abbrev pub IsTypedStep : Context → AmbientRule → Type 0
-IsTypedStep c (Case f) = IsForm c f
-IsTypedStep c (Have name f) = IsForm c f
-IsTypedStep c rule = Unit {0}
+-- a typed term of the type of what is said to exist, where this is a value
+abbrev pub IsWitness : Context → Term → Head → Type 0
+IsWitness c e (Some u) = IsTyped c e × (type_of e ≡ u)
+IsWitness c e h = Unit {0}
+
+-- what a step brings to a goal with this conclusion is typed
+abbrev pub IsTypedStep : Context → Term → AmbientRule → Type 0
+IsTypedStep c C (Case f) = IsForm c f
+IsTypedStep c C (Have name f) = IsForm c f
+IsTypedStep c C (Witness e) = IsWitness c e (out-Term C).head
+IsTypedStep c C rule = Unit {0}
 
 -- Typed goals, from which a goal follows.
 pub record LeadTo (ds : Declarations) (q : Sequent) (qs : List Sequent) : Type 0 where

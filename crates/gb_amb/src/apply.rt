@@ -6,13 +6,16 @@ ghost use Rattle.gb_core.specs.declared.refusal.Why.TheVariants.{Shape};
 ghost use Rattle.gb_goal.specs.Answers.{Answers};
 ghost use Rattle.gb_rules.specs.Forms.{implies_form, not_form};
 ghost use Rattle.gb_amb.specs.Parts.{concluding};
-ghost use Rattle.gb_amb.specs.Steps.{assuming, by_cases, Decides, IsAnswer, Returns, IsAmong};
+ghost use Rattle.gb_amb.specs.Steps.{assuming, by_cases, Decides, IsAnswer, Returns};
+ghost use Rattle.gb_amb.specs.Closed.{IsAmong};
 
 use crate::assumed::is_among;
+use crate::closed::{done, trivial};
 use crate::goals;
 use crate::goals::{no_shape, two};
 use crate::introduced::introduced;
 use crate::parts::by_parts;
+use crate::witness::witnessed;
 use gb_core::name::Name;
 use gb_core::place::Place;
 use gb_core::refusal::Refused;
@@ -89,6 +92,9 @@ pub fn apply(
         AmbientRule::Introduce(_) | AmbientRule::IntroduceMemory(_) => {
             introduced(alloc, rule, place, goal)
         }
+        AmbientRule::Witness(term) => witnessed(alloc, term, place, goal),
+        AmbientRule::Trivial => trivial(alloc, goal),
+        AmbientRule::Done => done(alloc, place, goal),
         _ => by_parts(alloc, rule, place, goal),
     }
 }

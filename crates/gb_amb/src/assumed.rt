@@ -1,7 +1,7 @@
 // Conclusions that are hypotheses.
 
 ghost use Rattle.std.specs.Prelude.{◌↔◌, IsTrue};
-ghost use Rattle.gb_amb.specs.Steps.{IsAmong};
+ghost use Rattle.gb_amb.specs.Closed.{IsAmong};
 
 use gb_goal::sequent::Hyp;
 use gb_terms::same::same;

@@ -25,6 +25,15 @@ pub fn no_shape(place: Place) -> Refused
     }
 }
 
+/// A goal alone.
+pub fn alone(alloc: Global, goal: Sequent) -> Result<Sequents, AllocError>
+    ensures { IfOk result (λ goals. goals ≡ goal ∷ []) }
+{
+    let mut goals = Items::new(alloc);
+    goals.push(goal)?;
+    Ok(goals)
+}
+
 /// The goal with another conclusion, alone.
 pub fn one(alloc: Global, goal: &Sequent, conclusion: Form) -> Result<Sequents, AllocError>
     ensures { IfOk result (λ goals. goals ≡ concluding goal.now conclusion ∷ []) }

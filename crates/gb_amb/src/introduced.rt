@@ -6,7 +6,7 @@ ghost use Rattle.gb_walk.specs.declared.change.Change.TheVariants.{OfBound};
 ghost use Rattle.gb_walk.specs.Change.{term_changed};
 ghost use Rattle.gb_amb.specs.Introduced.{introduced, introduced_at, next_variable, with_memory, with_premise, with_variable};
 
-use crate::goals::{assuming, no_shape};
+use crate::goals::{alone, assuming, no_shape};
 use crate::quantified::refuse_goal_modules;
 use gb_core::copy::copy_names;
 use gb_core::name::Name;
@@ -34,7 +34,7 @@ fn place_after(length: usize) -> Result<u32, AllocError>
 }
 
 /// A form with one change made.
-fn changed_once(alloc: Global, form: &Form, change: Change) -> Result<Form, AllocError>
+pub fn changed_once(alloc: Global, form: &Form, change: Change) -> Result<Form, AllocError>
     ensures { IfOk result (λ made. made ≡ term_changed form.now (change ∷ [])) }
 {
     let mut changes = Items::new(alloc);
@@ -73,7 +73,7 @@ fn variables_with(
 }
 
 /// The goal of the body of a quantifier over values, with a variable more.
-fn with_variable(
+pub fn with_variable(
     alloc: Global,
     name: &Name,
     ty: &Shared<Ty>,
@@ -98,7 +98,7 @@ fn memories_with(alloc: Global, list: &[Name], name: &Name) -> Result<SharedItem
 }
 
 /// The goal of the body of a quantifier over memories, with a memory more.
-fn with_memory(
+pub fn with_memory(
     alloc: Global,
     name: &Name,
     body: &Form,
@@ -115,7 +115,7 @@ fn with_memory(
 }
 
 /// The goal of the rest of an implication, with the premise as a hypothesis more.
-fn with_premise(
+pub fn with_premise(
     alloc: Global,
     name: &Name,
     premise: &Form,
@@ -126,14 +126,6 @@ fn with_premise(
 {
     let conclusion = rest.share()?;
     assuming(alloc, &goal.with_conclusion(conclusion)?, name, premise)
-}
-
-fn alone(alloc: Global, goal: Sequent) -> Result<Sequents, AllocError>
-    ensures { IfOk result (λ goals. goals ≡ goal ∷ []) }
-{
-    let mut goals = Items::new(alloc);
-    goals.push(goal)?;
-    Ok(goals)
 }
 
 fn by_head(

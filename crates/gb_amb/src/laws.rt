@@ -14,7 +14,7 @@ ghost use Rattle.gb_amb.specs.Steps.{IsAnswer, IsTypedStep, LeadTo};
 /// A step at the goal of a typed scope gives typed goals, and if each of them holds, the goal holds.
 pub fn steps()
     ensures { (ds : Declarations) → IsTypedScope ds → (q : Sequent) (t : IsTypedSequent (context_of ds) q) → (r : AmbientRule) →
-        IsTypedStep (of_sequent (context_of ds) q t.frames) r → (place : Place) (qs : List Sequent) → IsAnswer r place q (given qs) →
+        IsTypedStep (of_sequent (context_of ds) q t.frames) q.conclusion r → (place : Place) (qs : List Sequent) → IsAnswer r place q (given qs) →
         LeadTo ds q qs }
 {}
 

@@ -3,8 +3,10 @@
 
 pub mod apply;
 pub mod assumed;
+pub mod closed;
 pub mod goals;
 pub mod introduced;
 pub mod laws;
 pub mod parts;
 pub mod quantified;
+pub mod witness;

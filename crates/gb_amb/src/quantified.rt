@@ -57,11 +57,18 @@ pub fn refuse_modules(place: Place, form: &Form) -> Result<(), Refused>
     Ok(())
 }
 
+/// Whether a quantifier over modules stands in the conclusion or in a hypothesis.
+pub fn goal_quantifies_modules(goal: &Sequent) -> bool
+    ensures { result ≡ goal_quantifies_modules goal.now }
+{
+    quantifies_modules(&goal.conclusion) || in_hypotheses(goal.hyps.as_slice())
+}
+
 /// Refuses a goal with a quantifier over modules in the conclusion or in a hypothesis.
 pub fn refuse_goal_modules(place: Place, goal: &Sequent) -> Result<(), Refused>
     ensures { Answers (if goal_quantifies_modules goal.now then refused Shape place else given tt) result }
 {
-    if quantifies_modules(&goal.conclusion) || in_hypotheses(goal.hyps.as_slice()) {
+    if goal_quantifies_modules(goal) {
         return Err(no_shape(place));
     }
     Ok(())

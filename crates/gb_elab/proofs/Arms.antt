@@ -22,6 +22,7 @@ use Rattle.gb_operators.specs.declared.rules.Rule.TheVariants as rule
 use Rattle.gb_operators.specs.Drawn.{uniform}
 use Rattle.gb_operators.specs.Literals.{numeral}
 use Rattle.gb_operators.specs.Operators.{operator_of}
+use Rattle.gb_weights.specs.Weights.{weights}
 use Rattle.gb_elab.specs.declared.contract.Contract.{Contract}
 use Rattle.gb_elab.specs.OneProcedure.{after_one, around, before_one, lossless, relation, with_chance}
 use Rattle.gb_elab.specs.Equalities.{equalities}
@@ -123,6 +124,10 @@ module _ (h : Head) (x : List ℕ) (ts : List Node) (p : Place) (at : Environmen
   unfolding typing
   uniform_is e = at_head head.Uniform e ∙ ap (λ us. uniform us p at w) (bare_meanings ts)
 
+  pub weights_is : h ≡ head.Weights → meaning ≡ weights ts p at bound w
+  unfolding typing
+  weights_is e = at_head head.Weights e ∙ ap (λ us. weights us p at bound w) (bare_meanings ts)
+
   pub function_is : (h ≡ head.Function) ⊎ (h ≡ head.TypedFunction) → meaning ≡ refused TypeMismatch p
   unfolding typing
   function_is (inl e) = at_head head.Function e
@@ -178,33 +183,34 @@ other_contract _ ts p at bound n = refl
 
 -- a form of another head is one that an operator makes, or isn't built
 pub other_form : (k : Head) (x : List ℕ) (ts : List Part) (p : Place) (at : Environment) (bound : List TypedName) (w : Option Ty)
-    → (k ≡ head.Name → ⊥) → (k ≡ head.Path → ⊥) → (k ≡ head.Number → ⊥) → (k ≡ head.Unit → ⊥) → (k ≡ head.Bracketed → ⊥) → (k ≡ head.Sided → ⊥) → (k ≡ head.Coin → ⊥) → (k ≡ head.Function → ⊥) → (k ≡ head.TypedFunction → ⊥) → (k ≡ head.Typed → ⊥) → (k ≡ head.Tuple → ⊥) → (k ≡ head.Component → ⊥) → (k ≡ head.Conditional → ⊥) → (k ≡ head.Chosen → ⊥) → (k ≡ head.Get → ⊥) → (k ≡ head.Set → ⊥) → (k ≡ head.PowerProduct → ⊥) → (k ≡ head.Uniform → ⊥) → (k ≡ head.Apply → ⊥) → (k ≡ head.Equalities → ⊥) → (k ≡ head.Quantified → ⊥) → (k ≡ head.Equiv → ⊥) → (k ≡ head.Hoare → ⊥) → (k ≡ head.Phoare → ⊥) → (k ≡ head.Bounded → ⊥) → (k ≡ head.Lossless → ⊥)
+    → (k ≡ head.Name → ⊥) → (k ≡ head.Path → ⊥) → (k ≡ head.Number → ⊥) → (k ≡ head.Unit → ⊥) → (k ≡ head.Bracketed → ⊥) → (k ≡ head.Sided → ⊥) → (k ≡ head.Coin → ⊥) → (k ≡ head.Function → ⊥) → (k ≡ head.TypedFunction → ⊥) → (k ≡ head.Typed → ⊥) → (k ≡ head.Tuple → ⊥) → (k ≡ head.Component → ⊥) → (k ≡ head.Conditional → ⊥) → (k ≡ head.Chosen → ⊥) → (k ≡ head.Get → ⊥) → (k ≡ head.Set → ⊥) → (k ≡ head.PowerProduct → ⊥) → (k ≡ head.Uniform → ⊥) → (k ≡ head.Weights → ⊥) → (k ≡ head.Apply → ⊥) → (k ≡ head.Equalities → ⊥) → (k ≡ head.Quantified → ⊥) → (k ≡ head.Equiv → ⊥) → (k ≡ head.Hoare → ⊥) → (k ≡ head.Phoare → ⊥) → (k ≡ head.Bounded → ⊥) → (k ≡ head.Lossless → ⊥)
     → typing k x ts p at bound w ≡ operation (operator_of k x) ts p at bound w
 unfolding typing
-other_form head.Name x ts p at bound w n0 n1 n2 n3 n4 n5 n6 n7 n8 n9 n10 n11 n12 n13 n14 n15 n16 n17 n18 n19 n20 n21 n22 n23 n24 n25 = absurd (n0 refl)
-other_form head.Path x ts p at bound w n0 n1 n2 n3 n4 n5 n6 n7 n8 n9 n10 n11 n12 n13 n14 n15 n16 n17 n18 n19 n20 n21 n22 n23 n24 n25 = absurd (n1 refl)
-other_form head.Number x ts p at bound w n0 n1 n2 n3 n4 n5 n6 n7 n8 n9 n10 n11 n12 n13 n14 n15 n16 n17 n18 n19 n20 n21 n22 n23 n24 n25 = absurd (n2 refl)
-other_form head.Unit x ts p at bound w n0 n1 n2 n3 n4 n5 n6 n7 n8 n9 n10 n11 n12 n13 n14 n15 n16 n17 n18 n19 n20 n21 n22 n23 n24 n25 = absurd (n3 refl)
-other_form head.Bracketed x ts p at bound w n0 n1 n2 n3 n4 n5 n6 n7 n8 n9 n10 n11 n12 n13 n14 n15 n16 n17 n18 n19 n20 n21 n22 n23 n24 n25 = absurd (n4 refl)
-other_form head.Sided x ts p at bound w n0 n1 n2 n3 n4 n5 n6 n7 n8 n9 n10 n11 n12 n13 n14 n15 n16 n17 n18 n19 n20 n21 n22 n23 n24 n25 = absurd (n5 refl)
-other_form head.Coin x ts p at bound w n0 n1 n2 n3 n4 n5 n6 n7 n8 n9 n10 n11 n12 n13 n14 n15 n16 n17 n18 n19 n20 n21 n22 n23 n24 n25 = absurd (n6 refl)
-other_form head.Function x ts p at bound w n0 n1 n2 n3 n4 n5 n6 n7 n8 n9 n10 n11 n12 n13 n14 n15 n16 n17 n18 n19 n20 n21 n22 n23 n24 n25 = absurd (n7 refl)
-other_form head.TypedFunction x ts p at bound w n0 n1 n2 n3 n4 n5 n6 n7 n8 n9 n10 n11 n12 n13 n14 n15 n16 n17 n18 n19 n20 n21 n22 n23 n24 n25 = absurd (n8 refl)
-other_form head.Typed x ts p at bound w n0 n1 n2 n3 n4 n5 n6 n7 n8 n9 n10 n11 n12 n13 n14 n15 n16 n17 n18 n19 n20 n21 n22 n23 n24 n25 = absurd (n9 refl)
-other_form head.Tuple x ts p at bound w n0 n1 n2 n3 n4 n5 n6 n7 n8 n9 n10 n11 n12 n13 n14 n15 n16 n17 n18 n19 n20 n21 n22 n23 n24 n25 = absurd (n10 refl)
-other_form head.Component x ts p at bound w n0 n1 n2 n3 n4 n5 n6 n7 n8 n9 n10 n11 n12 n13 n14 n15 n16 n17 n18 n19 n20 n21 n22 n23 n24 n25 = absurd (n11 refl)
-other_form head.Conditional x ts p at bound w n0 n1 n2 n3 n4 n5 n6 n7 n8 n9 n10 n11 n12 n13 n14 n15 n16 n17 n18 n19 n20 n21 n22 n23 n24 n25 = absurd (n12 refl)
-other_form head.Chosen x ts p at bound w n0 n1 n2 n3 n4 n5 n6 n7 n8 n9 n10 n11 n12 n13 n14 n15 n16 n17 n18 n19 n20 n21 n22 n23 n24 n25 = absurd (n13 refl)
-other_form head.Get x ts p at bound w n0 n1 n2 n3 n4 n5 n6 n7 n8 n9 n10 n11 n12 n13 n14 n15 n16 n17 n18 n19 n20 n21 n22 n23 n24 n25 = absurd (n14 refl)
-other_form head.Set x ts p at bound w n0 n1 n2 n3 n4 n5 n6 n7 n8 n9 n10 n11 n12 n13 n14 n15 n16 n17 n18 n19 n20 n21 n22 n23 n24 n25 = absurd (n15 refl)
-other_form head.PowerProduct x ts p at bound w n0 n1 n2 n3 n4 n5 n6 n7 n8 n9 n10 n11 n12 n13 n14 n15 n16 n17 n18 n19 n20 n21 n22 n23 n24 n25 = absurd (n16 refl)
-other_form head.Uniform x ts p at bound w n0 n1 n2 n3 n4 n5 n6 n7 n8 n9 n10 n11 n12 n13 n14 n15 n16 n17 n18 n19 n20 n21 n22 n23 n24 n25 = absurd (n17 refl)
-other_form head.Apply x ts p at bound w n0 n1 n2 n3 n4 n5 n6 n7 n8 n9 n10 n11 n12 n13 n14 n15 n16 n17 n18 n19 n20 n21 n22 n23 n24 n25 = absurd (n18 refl)
-other_form head.Equalities x ts p at bound w n0 n1 n2 n3 n4 n5 n6 n7 n8 n9 n10 n11 n12 n13 n14 n15 n16 n17 n18 n19 n20 n21 n22 n23 n24 n25 = absurd (n19 refl)
-other_form head.Quantified x ts p at bound w n0 n1 n2 n3 n4 n5 n6 n7 n8 n9 n10 n11 n12 n13 n14 n15 n16 n17 n18 n19 n20 n21 n22 n23 n24 n25 = absurd (n20 refl)
-other_form head.Equiv x ts p at bound w n0 n1 n2 n3 n4 n5 n6 n7 n8 n9 n10 n11 n12 n13 n14 n15 n16 n17 n18 n19 n20 n21 n22 n23 n24 n25 = absurd (n21 refl)
-other_form head.Hoare x ts p at bound w n0 n1 n2 n3 n4 n5 n6 n7 n8 n9 n10 n11 n12 n13 n14 n15 n16 n17 n18 n19 n20 n21 n22 n23 n24 n25 = absurd (n22 refl)
-other_form head.Phoare x ts p at bound w n0 n1 n2 n3 n4 n5 n6 n7 n8 n9 n10 n11 n12 n13 n14 n15 n16 n17 n18 n19 n20 n21 n22 n23 n24 n25 = absurd (n23 refl)
-other_form head.Bounded x ts p at bound w n0 n1 n2 n3 n4 n5 n6 n7 n8 n9 n10 n11 n12 n13 n14 n15 n16 n17 n18 n19 n20 n21 n22 n23 n24 n25 = absurd (n24 refl)
-other_form head.Lossless x ts p at bound w n0 n1 n2 n3 n4 n5 n6 n7 n8 n9 n10 n11 n12 n13 n14 n15 n16 n17 n18 n19 n20 n21 n22 n23 n24 n25 = absurd (n25 refl)
-other_form _ x ts p at bound w n0 n1 n2 n3 n4 n5 n6 n7 n8 n9 n10 n11 n12 n13 n14 n15 n16 n17 n18 n19 n20 n21 n22 n23 n24 n25 = refl
+other_form head.Name x ts p at bound w n0 n1 n2 n3 n4 n5 n6 n7 n8 n9 n10 n11 n12 n13 n14 n15 n16 n17 n18 n19 n20 n21 n22 n23 n24 n25 n26 = absurd (n0 refl)
+other_form head.Path x ts p at bound w n0 n1 n2 n3 n4 n5 n6 n7 n8 n9 n10 n11 n12 n13 n14 n15 n16 n17 n18 n19 n20 n21 n22 n23 n24 n25 n26 = absurd (n1 refl)
+other_form head.Number x ts p at bound w n0 n1 n2 n3 n4 n5 n6 n7 n8 n9 n10 n11 n12 n13 n14 n15 n16 n17 n18 n19 n20 n21 n22 n23 n24 n25 n26 = absurd (n2 refl)
+other_form head.Unit x ts p at bound w n0 n1 n2 n3 n4 n5 n6 n7 n8 n9 n10 n11 n12 n13 n14 n15 n16 n17 n18 n19 n20 n21 n22 n23 n24 n25 n26 = absurd (n3 refl)
+other_form head.Bracketed x ts p at bound w n0 n1 n2 n3 n4 n5 n6 n7 n8 n9 n10 n11 n12 n13 n14 n15 n16 n17 n18 n19 n20 n21 n22 n23 n24 n25 n26 = absurd (n4 refl)
+other_form head.Sided x ts p at bound w n0 n1 n2 n3 n4 n5 n6 n7 n8 n9 n10 n11 n12 n13 n14 n15 n16 n17 n18 n19 n20 n21 n22 n23 n24 n25 n26 = absurd (n5 refl)
+other_form head.Coin x ts p at bound w n0 n1 n2 n3 n4 n5 n6 n7 n8 n9 n10 n11 n12 n13 n14 n15 n16 n17 n18 n19 n20 n21 n22 n23 n24 n25 n26 = absurd (n6 refl)
+other_form head.Function x ts p at bound w n0 n1 n2 n3 n4 n5 n6 n7 n8 n9 n10 n11 n12 n13 n14 n15 n16 n17 n18 n19 n20 n21 n22 n23 n24 n25 n26 = absurd (n7 refl)
+other_form head.TypedFunction x ts p at bound w n0 n1 n2 n3 n4 n5 n6 n7 n8 n9 n10 n11 n12 n13 n14 n15 n16 n17 n18 n19 n20 n21 n22 n23 n24 n25 n26 = absurd (n8 refl)
+other_form head.Typed x ts p at bound w n0 n1 n2 n3 n4 n5 n6 n7 n8 n9 n10 n11 n12 n13 n14 n15 n16 n17 n18 n19 n20 n21 n22 n23 n24 n25 n26 = absurd (n9 refl)
+other_form head.Tuple x ts p at bound w n0 n1 n2 n3 n4 n5 n6 n7 n8 n9 n10 n11 n12 n13 n14 n15 n16 n17 n18 n19 n20 n21 n22 n23 n24 n25 n26 = absurd (n10 refl)
+other_form head.Component x ts p at bound w n0 n1 n2 n3 n4 n5 n6 n7 n8 n9 n10 n11 n12 n13 n14 n15 n16 n17 n18 n19 n20 n21 n22 n23 n24 n25 n26 = absurd (n11 refl)
+other_form head.Conditional x ts p at bound w n0 n1 n2 n3 n4 n5 n6 n7 n8 n9 n10 n11 n12 n13 n14 n15 n16 n17 n18 n19 n20 n21 n22 n23 n24 n25 n26 = absurd (n12 refl)
+other_form head.Chosen x ts p at bound w n0 n1 n2 n3 n4 n5 n6 n7 n8 n9 n10 n11 n12 n13 n14 n15 n16 n17 n18 n19 n20 n21 n22 n23 n24 n25 n26 = absurd (n13 refl)
+other_form head.Get x ts p at bound w n0 n1 n2 n3 n4 n5 n6 n7 n8 n9 n10 n11 n12 n13 n14 n15 n16 n17 n18 n19 n20 n21 n22 n23 n24 n25 n26 = absurd (n14 refl)
+other_form head.Set x ts p at bound w n0 n1 n2 n3 n4 n5 n6 n7 n8 n9 n10 n11 n12 n13 n14 n15 n16 n17 n18 n19 n20 n21 n22 n23 n24 n25 n26 = absurd (n15 refl)
+other_form head.PowerProduct x ts p at bound w n0 n1 n2 n3 n4 n5 n6 n7 n8 n9 n10 n11 n12 n13 n14 n15 n16 n17 n18 n19 n20 n21 n22 n23 n24 n25 n26 = absurd (n16 refl)
+other_form head.Uniform x ts p at bound w n0 n1 n2 n3 n4 n5 n6 n7 n8 n9 n10 n11 n12 n13 n14 n15 n16 n17 n18 n19 n20 n21 n22 n23 n24 n25 n26 = absurd (n17 refl)
+other_form head.Weights x ts p at bound w n0 n1 n2 n3 n4 n5 n6 n7 n8 n9 n10 n11 n12 n13 n14 n15 n16 n17 n18 n19 n20 n21 n22 n23 n24 n25 n26 = absurd (n18 refl)
+other_form head.Apply x ts p at bound w n0 n1 n2 n3 n4 n5 n6 n7 n8 n9 n10 n11 n12 n13 n14 n15 n16 n17 n18 n19 n20 n21 n22 n23 n24 n25 n26 = absurd (n19 refl)
+other_form head.Equalities x ts p at bound w n0 n1 n2 n3 n4 n5 n6 n7 n8 n9 n10 n11 n12 n13 n14 n15 n16 n17 n18 n19 n20 n21 n22 n23 n24 n25 n26 = absurd (n20 refl)
+other_form head.Quantified x ts p at bound w n0 n1 n2 n3 n4 n5 n6 n7 n8 n9 n10 n11 n12 n13 n14 n15 n16 n17 n18 n19 n20 n21 n22 n23 n24 n25 n26 = absurd (n21 refl)
+other_form head.Equiv x ts p at bound w n0 n1 n2 n3 n4 n5 n6 n7 n8 n9 n10 n11 n12 n13 n14 n15 n16 n17 n18 n19 n20 n21 n22 n23 n24 n25 n26 = absurd (n22 refl)
+other_form head.Hoare x ts p at bound w n0 n1 n2 n3 n4 n5 n6 n7 n8 n9 n10 n11 n12 n13 n14 n15 n16 n17 n18 n19 n20 n21 n22 n23 n24 n25 n26 = absurd (n23 refl)
+other_form head.Phoare x ts p at bound w n0 n1 n2 n3 n4 n5 n6 n7 n8 n9 n10 n11 n12 n13 n14 n15 n16 n17 n18 n19 n20 n21 n22 n23 n24 n25 n26 = absurd (n24 refl)
+other_form head.Bounded x ts p at bound w n0 n1 n2 n3 n4 n5 n6 n7 n8 n9 n10 n11 n12 n13 n14 n15 n16 n17 n18 n19 n20 n21 n22 n23 n24 n25 n26 = absurd (n25 refl)
+other_form head.Lossless x ts p at bound w n0 n1 n2 n3 n4 n5 n6 n7 n8 n9 n10 n11 n12 n13 n14 n15 n16 n17 n18 n19 n20 n21 n22 n23 n24 n25 n26 = absurd (n26 refl)
+other_form _ x ts p at bound w n0 n1 n2 n3 n4 n5 n6 n7 n8 n9 n10 n11 n12 n13 n14 n15 n16 n17 n18 n19 n20 n21 n22 n23 n24 n25 n26 = refl

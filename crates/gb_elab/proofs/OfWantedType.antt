@@ -49,11 +49,12 @@ use Rattle.gb_operators.specs.declared.rules.Rule.TheVariants as rule
 use Rattle.gb_operators.specs.Constants.{constant, literal, open_constant}
 use Rattle.gb_operators.specs.Domain.{type_in, written_as}
 use Rattle.gb_operators.specs.Drawn.{uniform}
-use Rattle.gb_operators.specs.Kinds.{is_small}
+use Rattle.gb_operators.specs.Kinds.{is_small, outcome}
 use Rattle.gb_operators.specs.Literals.{as_whole, bound_of, holds, number, numeral, part_number}
 use Rattle.gb_operators.specs.Open.{right_first}
-use Rattle.gb_operators.specs.Operators.{operator_of}
+use Rattle.gb_operators.specs.Operators.{operator_of, part_wanted}
 use Rattle.gb_operators.specs.Rules.{asked, made, rule_for, rule_of, user_made}
+use Rattle.gb_weights.specs.Weights.{outcomes, stated, weighed_all, weights}
 use Rattle.gb_elab.specs.declared.contract.Contract.{Contract}
 use Rattle.gb_elab.specs.OneProcedure.{always, around, ends, lossless, one, relation, with_chance}
 use Rattle.gb_elab.specs.Equalities.{equalities, equality, equation, equation_of, joined, with_equalities}
@@ -195,6 +196,16 @@ uniform_has (s ∷ []) p at w u h =
     let r = if_given (is_small t.0) (node (Builtin op.Uniform) [] (Distr t.0)) TypeTooLarge p u q.2 in
     stands_has at w p (Distr t.0) q.0 u q.1 (ap type_of_term (sym r.1) ∙ node_type (Builtin op.Uniform) [] (Distr t.0))
 uniform_has _ p at w u h = refused_not Syntax p u h (HasType w u)
+
+weights_has : (xs : List Node) (p : Place) (at : Environment) (bound : List TypedName) (w : Option Ty) (u : Term) → weights xs p at bound w ≡ given u → HasType w u
+weights_has xs p at bound w u h =
+    let end = λ (t : Ty). weighed_all at bound t [] xs >>= λ ps. wanted w p (stated t ps) in
+    let over = λ (v : Option Ty). outcomes at bound v xs p >>= end in
+    let q = given_bind (distribution_here at w p) (λ _. part_wanted outcome w p >>= over) u h in
+    let v = given_bind (part_wanted outcome w p) over u q.2 in
+    let t = given_bind (outcomes at bound v.0 xs p) end u v.2 in
+    let ps = given_bind (weighed_all at bound t.0 [] xs) (λ ps. wanted w p (stated t.0 ps)) u t.2 in
+    wanted_has w p (stated t.0 ps.0) u ps.2
 
 -- terms that a typing gives have the wanted type
 abbrev pub HasTypes : Typing → Type 0
@@ -396,6 +407,7 @@ of_parts head.Get x ks p at bound w u h = rule_has rule.Get (all ks) p at bound 
 of_parts head.Set x ks p at bound w u h = rule_has rule.Set (all ks) p at bound w u h
 of_parts head.PowerProduct x ks p at bound w u h = rule_has rule.Product (all ks) p at bound w u h
 of_parts head.Uniform x ks p at bound w u h = uniform_has (bare (all ks)) p at w u h
+of_parts head.Weights x ks p at bound w u h = weights_has (bare (all ks)) p at bound w u h
 of_parts head.Apply x ks p at bound w u h = applied_form_has (all ks) p at bound w u h
 of_parts head.Equalities x ks p at bound w u h =
     let q = given_bind (truth w p) (λ _. equalities at bound (bare (all ks)) p) u h in

@@ -39,6 +39,7 @@ use Rattle.gb_operators.specs.Literals.{bound_of, numeral, part_number}
 use Rattle.gb_operators.specs.Open.{right_first}
 use Rattle.gb_operators.specs.Operators.{operator_of}
 use Rattle.gb_operators.specs.Rules.{asked, made, rule_for, rule_of, user_made}
+use Rattle.gb_weights.specs.Weights.{weights}
 use Rattle.gb_elab.specs.declared.contract.Contract.{Contract}
 use Rattle.gb_elab.specs.OneProcedure.{after_one, always, around, before_one, lossless, relation, with_chance}
 use Rattle.gb_elab.specs.Equalities.{equalities}
@@ -252,6 +253,7 @@ typing head.Get x ps p at bound w = by_rule rule.Get ps p at bound w
 typing head.Set x ps p at bound w = by_rule rule.Set ps p at bound w
 typing head.PowerProduct x ps p at bound w = by_rule rule.Product ps p at bound w
 typing head.Uniform x ps p at bound w = uniform (bare ps) p at w
+typing head.Weights x ps p at bound w = weights (bare ps) p at bound w
 typing head.Apply x ps p at bound w = applied_form ps p at bound w
 typing head.Equalities x ps p at bound w = do
   _ ← truth w p

@@ -44,6 +44,7 @@ use gb_shared::Shared;
 use gb_terms::decl::{Typed, TypedName};
 use gb_terms::op::Rel;
 use gb_terms::term::{Form, Term, Terms};
+use gb_weights::weights::weights;
 use sqlite_items::Items;
 use std::alloc::Global;
 
@@ -133,6 +134,7 @@ fn typing(
         Head::Set => by_rule(alloc, at, bound, Rule::Set, parts, place, want),
         Head::PowerProduct => by_rule(alloc, at, bound, Rule::Product, parts, place, want),
         Head::Uniform => uniform(alloc, at, parts, want, place),
+        Head::Weights => weights(alloc, at, bound, parts, want, place),
         Head::Apply => applied_form(alloc, at, bound, parts, place, want),
         Head::Equalities => equalities(alloc, at, bound, parts, want, place),
         Head::Quantified => quantified(alloc, at, bound, text, parts, place, want),

@@ -3,8 +3,11 @@ use Rattle.std.proofs.Common.{◌≡◌, Bool, true, false, if◌then◌else◌,
 use Rattle.std.proofs.lemmas.Bool.{false≢true}
 use Rattle.std.specs.Prelude.{codes, bytes_eq}
 use Rattle.gb_core.specs.declared.place.Place.{Place}
+use Rattle.gb_core.specs.declared.ty.Ty.{Ty}
 use Rattle.gb_core.specs.declared.ty.Ty.TheVariants as ty
-use Rattle.gb_terms.specs.declared.term.Term.{Term, out-Term}
+use Rattle.gb_terms.specs.declared.term.Term.{Term, Term', Row_of-Term, end_of-Term, more_of-Term, end_of-Head, more_of-Head, out-Term}
+use Rattle.gb_terms.specs.declared.term.Head.{Head}
+use Rattle.gb_terms.specs.declared.term.Head.TheVariants as head
 use Rattle.gb_goal.specs.Scope as scope
 use Rattle.gb_goal.specs.declared.sequent.Sequent.{Sequent}
 use Rattle.gb_steps.specs.declared.step.AmbientRule.{AmbientRule}
@@ -13,7 +16,7 @@ use Rattle.gb_steps.specs.declared.step.Rule.{Rule}
 use Rattle.gb_steps.specs.declared.step.Rule.TheVariants as rule
 use Rattle.gb_steps.specs.declared.step.BodyRule.TheVariants as on_bodies
 use Rattle.gb_steps.specs.declared.step.Step.{Step}
-use Rattle.gb_goal.specs.Answers.{not_built}
+use Rattle.gb_goal.specs.Answers.{Answer, not_built}
 use Rattle.gb_goal.specs.Goal.{goal_of, judges_bodies}
 use Rattle.gb_goal.specs.Answers.Answer.{given}
 use Rattle.gb_script.specs.declared.head.Head.{Head as Kind}
@@ -21,17 +24,25 @@ use Rattle.gb_script.specs.declared.head.Head.TheVariants as text
 use Rattle.gb_script.specs.declared.tree.Node.{Node}
 use Rattle.gb_script.specs.Tree.{head_of, text_of, parts_of, place_of}
 use Rattle.gb_holds.specs.Declared.{declared}
-use Rattle.gb_typing.specs.Context.{Context}
-use Rattle.gb_typing.specs.Typing.{IsForm}
-use Rattle.gb_typing.specs.Sequents.{of_sequent, IsTypedSequent}
+use Rattle.gb_typing.specs.Context.{Context, erased}
+use Rattle.gb_changes.proofs.Trees.{out_is}
+use Rattle.gb_meaning.specs.Written.{type_of}
+use Rattle.gb_typed.specs.Finite.{IsFinite}
+use Rattle.gb_typed.specs.Typing.{types_of, IsHead}
+use Rattle.gb_typing.specs.Typing.{IsTyped, IsForm}
+use Rattle.gb_typing.specs.Sequents.{IsConclusion, of_sequent, IsTypedSequent}
 use Rattle.gb_typing.specs.Scopes.{context_of, IsTypedScope}
 use Rattle.gb_names.specs.Environment.{ambient}
-use Rattle.gb_elab_mod.specs.Steps.{acts, coupling_rule, couplings, cut_of, functions_of, conclusion_rule, new_name, formed, case_of_bodies, case_of_conclusion, of_bodies_rule, on_all, plain_rule, seq_rule, typed_rule, step_given}
+use Rattle.gb_elab.specs.Forms.{elaborated}
+use Rattle.gb_elab_mod.specs.Steps.{asked_of, acts, coupling_rule, couplings, cut_of, functions_of, conclusion_rule, new_name, formed, case_of_bodies, case_of_conclusion, of_bodies_rule, on_all, plain_rule, seq_rule, typed_rule, step_given}
 use Rattle.gb_elab_prog.specs.Unbuilt.{absent}
+use Rattle.gb_elab_laws.specs.Fitting.{IsFormTypeIf, IsWanted}
+use Rattle.gb_elab_laws.proofs.Shapes.{finite_form}
 use Rattle.gb_elab_laws.proofs.Given.{given_bind, given_is}
 use Rattle.gb_elab_laws.proofs.Fits.{goal_fits}
 use Rattle.gb_elab_laws.proofs.Forms.{elaborated_typed}
-use Rattle.gb_amb.specs.Steps.{IsTypedStep}
+use Rattle.gb_amb.specs.Steps.{IsTypedStep, IsWitness}
+use mathlib.Core.Former.{Count}
 
 module _ (ds : scope.Declarations) (scoped : IsTypedScope (declared ds)) (q : Sequent) (t : IsTypedSequent (context_of (declared ds)) q) where
   abbrev here : Context
@@ -43,15 +54,15 @@ module _ (ds : scope.Declarations) (scoped : IsTypedScope (declared ds)) (q : Se
       record { typed = g.typed; truth = g.wanted }
 
   abbrev HasForms : Rule → Type 0
-  HasForms k = (r : AmbientRule) → k ≡ rule.Ambient r → IsTypedStep here r
+  HasForms k = (r : AmbientRule) → k ≡ rule.Ambient r → IsTypedStep here q.conclusion r
 
   abbrev ambient_of : AmbientRule → Rule → AmbientRule
   ambient_of d (rule.Ambient r) = r
   ambient_of d _ = d
 
   -- a step that brings this
-  brings : (a : AmbientRule) → IsTypedStep here a → (k : Rule) → rule.Ambient a ≡ k → HasForms k
-  brings a w k e = λ r f. subst (IsTypedStep here) (ap (ambient_of a) (e ∙ f)) w
+  brings : (a : AmbientRule) → IsTypedStep here q.conclusion a → (k : Rule) → rule.Ambient a ≡ k → HasForms k
+  brings a w k e = λ r f. subst (IsTypedStep here q.conclusion) (ap (ambient_of a) (e ∙ f)) w
 
   abbrev is_ambient : Rule → Bool
   is_ambient (rule.Ambient r) = true
@@ -65,15 +76,35 @@ module _ (ds : scope.Declarations) (scoped : IsTypedScope (declared ds)) (q : Se
   no_ambient (f ∷ fs) [] = refl
   no_ambient (f ∷ fs) (u ∷ us) = refl
 
-  plain_typed : (x : List ℕ) (p : Place) (a : AmbientRule) → conclusion_rule x p ≡ given a → IsTypedStep here a
-  plain_typed x p a h = by_name (bytes_eq x (codes "split")) (bytes_eq x (codes "left")) (bytes_eq x (codes "right")) (bytes_eq x (codes "assumption")) h
-    where
-      by_name : (b c d e : Bool) → (if b then given conclusion.Split else if c then given conclusion.Left else if d then given conclusion.Right else if e then given conclusion.Assumption else not_built p) ≡ given a → IsTypedStep here a
-      by_name true c d e h = subst (IsTypedStep here) (given_is conclusion.Split a h) tt
-      by_name false true d e h = subst (IsTypedStep here) (given_is conclusion.Left a h) tt
-      by_name false false true e h = subst (IsTypedStep here) (given_is conclusion.Right a h) tt
-      by_name false false false true h = subst (IsTypedStep here) (given_is conclusion.Assumption a h) tt
-      by_name false false false false h = cc
+  -- the first of these that is chosen, else none
+  abbrev chosen_of : List (Bool × AmbientRule) → Place → Answer AmbientRule
+  chosen_of [] p = not_built p
+  chosen_of (x ∷ xs) p = if x.0 then given x.1 else chosen_of xs p
+
+  -- rules that bring no form
+  abbrev BringNothing : List (Bool × AmbientRule) → Type 0
+  BringNothing [] = Unit {0}
+  BringNothing (x ∷ xs) = IsTypedStep here q.conclusion x.1 × BringNothing xs
+
+  chosen_typed : (xs : List (Bool × AmbientRule)) (p : Place) (a : AmbientRule) → BringNothing xs → chosen_of xs p ≡ given a → IsTypedStep here q.conclusion a
+  chosen_typed [] p a w h = cc
+  chosen_typed ((true, r) ∷ xs) p a w h = subst (IsTypedStep here q.conclusion) (given_is r a h) w.0
+  chosen_typed ((false, r) ∷ xs) p a w h = chosen_typed xs p a w.1 h
+
+  plain_typed : (x : List ℕ) (p : Place) (a : AmbientRule) → conclusion_rule x p ≡ given a → IsTypedStep here q.conclusion a
+  plain_typed x p a h =
+      chosen_typed
+      ((bytes_eq x (codes "split"), conclusion.Split)
+      ∷ (bytes_eq x (codes "left"), conclusion.Left)
+      ∷ (bytes_eq x (codes "right"), conclusion.Right)
+      ∷ (bytes_eq x (codes "assumption"), conclusion.Assumption)
+      ∷ (bytes_eq x (codes "trivial"), conclusion.Trivial)
+      ∷ (bytes_eq x (codes "//"), conclusion.Trivial)
+      ∷ (bytes_eq x (codes "done"), conclusion.Done) ∷ [])
+      p
+      a
+      (tt, (tt, (tt, (tt, (tt, (tt, (tt, tt)))))))
+      h
 
   of_case : (f : Node) (k : Rule) (b : Bool) → (if b then of_bodies_rule (case_of_bodies ds q f (goal_of q.conclusion)) else case_of_conclusion ds q f) ≡ given k → HasForms k
   of_case f k true h =
@@ -81,6 +112,27 @@ module _ (ds : scope.Declarations) (scoped : IsTypedScope (declared ds)) (q : Se
   of_case f k false h =
       let z = given_bind (formed ds q f) (λ (t : Term). given (rule.Ambient (conclusion.Case t))) k h in
       brings (conclusion.Case z.0) (form_typed f z.0 z.1) k (given_is (rule.Ambient (conclusion.Case z.0)) k z.2)
+
+  -- the type of what is said to exist is one of values
+  quantified_finite : {n : Count} (u : Ty) (ts : Row_of-Term n) (r : Ty) → IsHead (erased here) (head.Some u) (types_of ts) r → IsFinite u
+  quantified_finite u (more_of-Term a end_of-Term) r w = w.0
+  quantified_finite u end_of-Term r w = absurd w
+  quantified_finite u (more_of-Term a (more_of-Term b ts)) r w = absurd w
+
+  asked_finite : (f : Term) → IsConclusion here f → IsFormTypeIf true (asked_of (out-Term f).head)
+  asked_finite (Term' tt (more_of-Head (head.Some u) end_of-Head) n ts r) w =
+      subst (λ h. IsFormTypeIf true (asked_of h)) (sym (ap (λ x. x.head) (out_is (head.Some u) n ts r))) (finite_form true u (quantified_finite u ts r w.typed.0))
+  asked_finite (Term' tt (more_of-Head h end_of-Head) n ts r) w = subst (λ h. IsFormTypeIf true (asked_of h)) (sym (ap (λ x. x.head) (out_is h n ts r))) tt
+
+  witness_typed : (h : Head) (e : Term) → IsTyped here e → IsWanted (asked_of h) (type_of e) → IsWitness here e h
+  witness_typed (head.Some u) e w k = (w, k)
+  witness_typed _ e w k = tt
+
+  of_witness : (n : Node) (e : Term) → elaborated n (ambient ds q) [] (asked_of (out-Term q.conclusion).head) ≡ given e → IsTypedStep here q.conclusion (conclusion.Witness e)
+  of_witness n e h =
+      let w = asked_of (out-Term q.conclusion).head in
+      let g = elaborated_typed n here (ambient ds q) [] (goal_fits ds scoped q t) w (asked_finite q.conclusion t.conclusion) e h in
+      witness_typed (out-Term q.conclusion).head e g.typed g.wanted
 
   rule_forms : (n : Kind) (x : List ℕ) (xs : List Node) (p : Place) (k : Rule) → typed_rule ds q n x xs p ≡ given k → HasForms k
   rule_forms text.PlainStep x [] p k h =
@@ -110,11 +162,15 @@ module _ (ds : scope.Declarations) (scoped : IsTypedScope (declared ds)) (q : Se
   rule_forms text.Drop x [] p k h = brings conclusion.Discard tt k (given_is (rule.Ambient conclusion.Discard) k h)
   rule_forms text.BothPatterns x ps p k h = brings conclusion.Unpack tt k (given_is (rule.Ambient conclusion.Unpack) k h)
   rule_forms text.EitherPattern x ps p k h = brings conclusion.Branch tt k (given_is (rule.Ambient conclusion.Branch) k h)
+  rule_forms text.Witness x (n ∷ []) p k h =
+      let o = given_bind (elaborated n (ambient ds q) [] (asked_of (out-Term q.conclusion).head)) (λ (u : Term). given (rule.Ambient (conclusion.Witness u))) k h in
+      brings (conclusion.Witness o.0) (of_witness n o.0 o.1) k (given_is (rule.Ambient (conclusion.Witness o.0)) k o.2)
+  rule_forms text.TrivialPattern x [] p k h = brings conclusion.Trivial tt k (given_is (rule.Ambient conclusion.Trivial) k h)
   rule_forms text.SmtPattern x [] p k h = other rule.Smt k refl (given_is rule.Smt k h)
   rule_forms _ x _ p k h = cc
 
 pub step_forms : (ds : scope.Declarations) → IsTypedScope (declared ds) → (q : Sequent) (t : IsTypedSequent (context_of (declared ds)) q) →
-    (n : Node) (s : Step) → step_given ds q n ≡ given s → (r : AmbientRule) → s.rule ≡ rule.Ambient r → IsTypedStep (of_sequent (context_of (declared ds)) q t.frames) r
+    (n : Node) (s : Step) → step_given ds q n ≡ given s → (r : AmbientRule) → s.rule ≡ rule.Ambient r → IsTypedStep (of_sequent (context_of (declared ds)) q t.frames) q.conclusion r
 unfolding step_given
 step_forms ds scoped q t n s h r e =
     let x = given_bind (typed_rule ds q (head_of n) (text_of n) (parts_of n) (place_of n)) (λ (k : Rule). given (record { rule = k; place = place_of n })) s h in

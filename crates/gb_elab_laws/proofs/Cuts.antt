@@ -36,10 +36,10 @@ use Rattle.gb_typing.specs.Scopes.{context_of, IsTypedScope}
 use Rattle.gb_rules.specs.Typing.{IsGoalOver}
 use Rattle.gb_goal.specs.Answers.{not_built}
 use Rattle.gb_goal.specs.Answers.Answer.{given}
-use Rattle.gb_names.specs.Environment.{relational, unary}
+use Rattle.gb_names.specs.Environment.{ambient as outside, relational, unary}
 use Rattle.gb_elab.specs.Forms.{elaborated}
 use Rattle.gb_elab_mod.specs.Occurring.{occurring}
-use Rattle.gb_elab_mod.specs.Steps.{acts, case_of_bodies, case_of_conclusion, case_rule, conclusion_rule, coupling_rule, couplings, cut_of, cut_rule, formed, functions_of, new_name, of_bodies_rule, on_all, plain_rule, seq_rule, step_given, typed_rule}
+use Rattle.gb_elab_mod.specs.Steps.{acts, case_of_bodies, case_of_conclusion, case_rule, conclusion_rule, coupling_rule, couplings, cut_of, cut_rule, formed, functions_of, new_name, of_bodies_rule, on_all, plain_rule, seq_rule, step_given, typed_rule, asked_of}
 use Rattle.gb_elab_prog.specs.Unbuilt.{absent}
 use Rattle.gb_bodies.specs.Rows.{IsTypedRule}
 use Rattle.gb_elab_laws.proofs.Given.{given_bind, given_is}
@@ -183,6 +183,10 @@ module _ (ds : scope.Declarations) (scoped : IsTypedScope (declared ds)) (q : Se
     of_rule text.Drop x [] p k h = subst TypedAt (given_is (rule.Ambient conclusion.Discard) k h) tt
     of_rule text.BothPatterns x ps p k h = subst TypedAt (given_is (rule.Ambient conclusion.Unpack) k h) tt
     of_rule text.EitherPattern x ps p k h = subst TypedAt (given_is (rule.Ambient conclusion.Branch) k h) tt
+    of_rule text.Witness x (e ∷ []) p k h =
+        let o = given_bind (elaborated e (outside ds q) [] (asked_of (out-Term q.conclusion).head)) (λ (u : Term). given (rule.Ambient (conclusion.Witness u))) k h in
+        subst TypedAt (given_is (rule.Ambient (conclusion.Witness o.0)) k o.2) tt
+    of_rule text.TrivialPattern x [] p k h = subst TypedAt (given_is (rule.Ambient conclusion.Trivial) k h) tt
     of_rule text.SmtPattern x [] p k h = subst TypedAt (given_is (rule.Smt) k h) tt
     of_rule _ x _ p k h = cc
 

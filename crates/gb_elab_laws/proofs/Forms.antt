@@ -67,6 +67,7 @@ use Rattle.gb_elab_laws.proofs.Globless.{form_with}
 use Rattle.gb_elab_laws.proofs.Typed.{EachTyped, given_from, of_script, truth_given, wanted_given, of_given}
 use Rattle.gb_elab_laws.proofs.Leaves.{named_typed, read_typed, unit_typed}
 use Rattle.gb_elab_laws.proofs.Constants.{coin_typed, constant_typed, literal_typed, numeral_typed, stands_is, uniform_typed}
+use Rattle.gb_elab_laws.proofs.Weighed.{weights_typed}
 use Rattle.gb_elab_laws.proofs.Equations.{equalities_typed}
 use Rattle.gb_elab_laws.proofs.Quantified.{inner_fits, under_all, under_all_fits, binders_typed, variables_with, over_all_typed}
 use Rattle.gb_elab_laws.proofs.Judged.{both_are, one_is, before_fits, after_fits, equivalence_typed}
@@ -433,6 +434,7 @@ form_parts head.Get x ks p c at vs fit w f u e = rule_typed rule.Get (λ c globs
 form_parts head.Set x ks p c at vs fit w f u e = rule_typed rule.Set (λ c globs. tt) ks p c at vs fit w f u e
 form_parts head.PowerProduct x ks p c at vs fit w f u e = rule_typed rule.Product (λ c globs. tt) ks p c at vs fit w f u e
 form_parts head.Uniform x ks p c at vs fit w f u e = let names = fit.declared in uniform_typed c at names.types (bare (parts ks)) w p u e
+form_parts head.Weights x ks p c at vs fit w f u e = weights_typed c at vs fit (bare (parts ks)) p w u e
 form_parts head.Apply x ks p c at vs fit w f u e = applied_form_typed ks p c at vs fit w f u e
 form_parts head.Equalities x ks p c at vs fit w f u e =
     let q = given_bind (truth w p) _ u e in truth_given c at.language w p q.0 u q.1 (equalities_typed c at vs fit (bare (parts ks)) p u q.2)

@@ -19,6 +19,7 @@ pub mod Asked
 pub mod Askable
 pub mod Rules
 pub mod Constants
+pub mod Weighed
 pub mod Forms
 pub mod Parameters
 pub mod Fits

@@ -41,10 +41,10 @@ use Rattle.gb_rules.specs.Typing.{IsGoalOver}
 use Rattle.gb_goal.specs.Answers.{Answer, ◌>>=◌}
 use Rattle.gb_goal.specs.Answers.Answer.{given}
 use Rattle.gb_names.specs.declared.setting.Language.TheVariants.{Function}
-use Rattle.gb_names.specs.Environment.{Environment, of_function}
-use Rattle.gb_elab.specs.Forms.{function}
+use Rattle.gb_names.specs.Environment.{Environment, ambient, of_function}
+use Rattle.gb_elab.specs.Forms.{elaborated, function}
 use Rattle.gb_elab_mod.specs.Occurring.{occurring}
-use Rattle.gb_elab_mod.specs.Steps.{acts, cut_of, last_sampled, functions, of_bodies_rule, on_all, one_type, plain_rule, conclusion_rule, case_of_bodies, case_of_conclusion, new_name, formed, seq_rule, there_and_back, of_bodies, couplings, coupling_rule, functions_of, typed_rule, step_given}
+use Rattle.gb_elab_mod.specs.Steps.{acts, cut_of, last_sampled, functions, of_bodies_rule, on_all, one_type, plain_rule, conclusion_rule, case_of_bodies, case_of_conclusion, new_name, formed, seq_rule, there_and_back, of_bodies, couplings, coupling_rule, functions_of, typed_rule, step_given, asked_of}
 use Rattle.gb_elab_mod.specs.Steps as steps
 use Rattle.gb_elab_prog.specs.Unbuilt.{absent}
 use Rattle.gb_elab_laws.specs.Fitting.{IsFitting, IsGiven}
@@ -218,6 +218,10 @@ module _ (ds : scope.Declarations) (scoped : IsTypedScope (declared ds)) (q : Se
       of_rule text.Drop x [] p k us h r = other (rule.Ambient conclusion.Discard) k us refl (given_is (rule.Ambient conclusion.Discard) k h) r
       of_rule text.BothPatterns x ps p k us h r = other (rule.Ambient conclusion.Unpack) k us refl (given_is (rule.Ambient conclusion.Unpack) k h) r
       of_rule text.EitherPattern x ps p k us h r = other (rule.Ambient conclusion.Branch) k us refl (given_is (rule.Ambient conclusion.Branch) k h) r
+      of_rule text.Witness x (e ∷ []) p k us h r =
+          let o = given_bind (elaborated e (ambient ds q) [] (asked_of (out-Term q.conclusion).head)) (λ (u : Term). given (rule.Ambient (conclusion.Witness u))) k h in
+          other (rule.Ambient (conclusion.Witness o.0)) k us refl (given_is (rule.Ambient (conclusion.Witness o.0)) k o.2) r
+      of_rule text.TrivialPattern x [] p k us h r = other (rule.Ambient conclusion.Trivial) k us refl (given_is (rule.Ambient conclusion.Trivial) k h) r
       of_rule text.SmtPattern x [] p k us h r = other (rule.Smt) k us refl (given_is (rule.Smt) k h) r
       of_rule _ x _ p k us h r = cc
 

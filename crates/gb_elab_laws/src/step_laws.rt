@@ -47,5 +47,5 @@ pub fn typed_rules()
 pub fn typed_forms()
     ensures { (ds : scope.Declarations) → IsTypedScope (declared ds) → (q : Sequent) (t : IsTypedSequent (context_of (declared ds)) q) →
         (n : Node) (s : Step) → step_given ds q n ≡ given s → (r : AmbientRule) → s.rule ≡ Ambient r →
-        IsTypedStep (of_sequent (context_of (declared ds)) q t.frames) r }
+        IsTypedStep (of_sequent (context_of (declared ds)) q t.frames) q.conclusion r }
 {}

@@ -12,6 +12,7 @@ use Rattle.gb_terms.specs.declared.op.Side.TheVariants as side
 use Rattle.gb_terms.specs.declared.term.Term.{Term, out-Term}
 use Rattle.gb_terms.specs.declared.term.Head.{Head}
 use Rattle.gb_terms.specs.declared.term.Head.TheVariants.{Equiv, Sample}
+use Rattle.gb_terms.specs.declared.term.Head.TheVariants as head
 use Rattle.gb_terms.specs.declared.term.Head.TheOpen as layer
 use Rattle.gb_terms.specs.declared.term.Subject.{Subject, out-Subject}
 use Rattle.gb_terms.specs.declared.term.Instr.{Instr}
@@ -173,7 +174,10 @@ conclusion_rule x p =
     if bytes_eq x (codes "split") then given conclusion.Split
     else if bytes_eq x (codes "left") then given conclusion.Left
     else if bytes_eq x (codes "right") then given conclusion.Right
-    else if bytes_eq x (codes "assumption") then given conclusion.Assumption else not_built p
+    else if bytes_eq x (codes "assumption") then given conclusion.Assumption
+    else if bytes_eq x (codes "trivial") then given conclusion.Trivial
+    else if bytes_eq x (codes "//") then given conclusion.Trivial
+    else if bytes_eq x (codes "done") then given conclusion.Done else not_built p
 
 -- whether the name is that of a variable, a memory, a module or a hypothesis of the goal
 abbrev pub is_taken : Sequent → List ℕ → Bool
@@ -212,6 +216,17 @@ abbrev pub case_rule : Declarations → Sequent → Node → Answer Rule
 case_rule ds g f =
     if judges_bodies (out-Term g.conclusion).head then of_bodies_rule (case_of_bodies ds g f (goal_of g.conclusion)) else case_of_conclusion ds g f
 
+-- the type of a value that is said to exist
+abbrev pub asked_of : Head → Option Ty
+asked_of (head.Some u) = Some u
+asked_of _ = None
+
+-- a term of this type, or of any, where nothing is said to exist
+abbrev pub witness_rule : Declarations → Sequent → Node → Answer Rule
+witness_rule ds g e = do
+  t ← elaborated e (ambient ds g) [] (asked_of (out-Term g.conclusion).head)
+  given (rule.Ambient (conclusion.Witness t))
+
 -- The rule of a pattern, whose own patterns are steps of their own. The last clause takes what isn't built, and trees of another
 -- shape, of which the reader builds none, since each of its trees is well-sorted.
 abbrev pub pattern : Kind → List ℕ → List Node → Place → Answer Rule
@@ -221,6 +236,7 @@ pattern text.Drop x [] p = given (rule.Ambient conclusion.Discard)
 pattern text.BothPatterns x ps p = given (rule.Ambient conclusion.Unpack)
 pattern text.EitherPattern x ps p = given (rule.Ambient conclusion.Branch)
 pattern text.SmtPattern x [] p = given rule.Smt
+pattern text.TrivialPattern x [] p = given (rule.Ambient conclusion.Trivial)
 pattern _ x ps p = not_built p
 
 -- a rule or a pattern
@@ -246,6 +262,7 @@ typed_rule ds g text.HaveForm x (n ∷ f ∷ []) p = do
   _ ← new_name g (text_of n) (place_of n)
   t ← formed ds g f
   given (rule.Ambient (conclusion.Have (text_of n) t))
+typed_rule ds g text.Witness x (e ∷ []) p = witness_rule ds g e
 typed_rule ds g text.Smt x hints p = do
   _ ← absent hints p
   given rule.Smt

@@ -1,11 +1,12 @@
 // The typing of steps on conclusions.
 
 ghost use Rattle.std.specs.Prelude.{◌≡◌, Some, bytes_eq};
+ghost use Rattle.std.specs.Option.{option_copied};
 ghost use Rattle.std.specs.List.{list_any};
 ghost use Rattle.gb_goal.specs.Answers.{Answers, ◌>>=◌ as ◌and_then◌};
 ghost use Rattle.gb_goal.specs.Answers.Answer.{given};
 ghost use Rattle.gb_script.specs.Tree.{text_of, place_of};
-ghost use Rattle.gb_elab_mod.specs.Steps.{case_rule, conclusion_rule, formed, is_taken, new_name};
+ghost use Rattle.gb_elab_mod.specs.Steps.{asked_of, case_rule, conclusion_rule, formed, is_taken, new_name, witness_rule};
 
 use crate::cut::case_of_bodies;
 use gb_core::name::Name;
@@ -22,7 +23,7 @@ use gb_script::tree::Node;
 use gb_steps::step::{AmbientRule, Rule};
 use gb_terms::decl::TypedName;
 use gb_terms::module::Bind;
-use gb_terms::term::Form;
+use gb_terms::term::{Form, Head};
 use std::alloc::Global;
 
 /// The steps on a conclusion that stand alone.
@@ -34,6 +35,9 @@ pub fn conclusion_rule(text: &Name, place: Place) -> Result<AmbientRule, Refused
         "left" => Ok(AmbientRule::Left),
         "right" => Ok(AmbientRule::Right),
         "assumption" => Ok(AmbientRule::Assumption),
+        "trivial" => Ok(AmbientRule::Trivial),
+        "//" => Ok(AmbientRule::Trivial),
+        "done" => Ok(AmbientRule::Done),
         _ => Err(not_built(place)),
     }
 }
@@ -99,6 +103,30 @@ pub fn case_rule(alloc: Global, scope: &Scope, goal: &Sequent, form: &Node) -> R
     }
     let form = formed(alloc, scope, goal, form)?;
     Ok(Rule::Ambient(AmbientRule::Case(form)))
+}
+
+/// The type of a value that is said to exist.
+fn asked_of(head: &Head) -> Option<&Ty>
+    ensures { option_copied result ≡ asked_of head.now }
+{
+    match head {
+        Head::Some(ty) => Some(ty.get()),
+        _ => None,
+    }
+}
+
+/// The rule that puts a term in place of what is said to exist.
+pub fn witness_rule(
+    alloc: Global,
+    scope: &Scope,
+    goal: &Sequent,
+    witness: &Node,
+) -> Result<Rule, Refused>
+    ensures { Answers (witness_rule scope.now goal.now witness.now) result }
+{
+    let wanted = asked_of(goal.conclusion.head.get());
+    let witness = term(alloc, scope, goal, witness, wanted)?;
+    Ok(Rule::Ambient(AmbientRule::Witness(witness)))
 }
 
 /// The rule that shows a form first.

@@ -4,7 +4,7 @@ ghost use Rattle.std.specs.Prelude.{◌≡◌};
 ghost use Rattle.gb_goal.specs.Answers.{Answers};
 ghost use Rattle.gb_elab_mod.specs.Steps.{acts, on_all, pattern, plain_rule, step_given, typed_rule};
 
-use crate::conclusions::{case_rule, conclusion_rule, have_rule};
+use crate::conclusions::{case_rule, conclusion_rule, have_rule, witness_rule};
 use crate::couplings::{coupling_rule, couplings, functions_of};
 use crate::cut::{cut_of, seq_rule};
 use gb_core::name::Name;
@@ -113,6 +113,7 @@ fn pattern(
         (Head::BothPatterns, _) => Ok(Rule::Ambient(AmbientRule::Unpack)),
         (Head::EitherPattern, _) => Ok(Rule::Ambient(AmbientRule::Branch)),
         (Head::SmtPattern, []) => Ok(Rule::Smt),
+        (Head::TrivialPattern, []) => Ok(Rule::Ambient(AmbientRule::Trivial)),
         _ => Err(not_built(place)),
     }
 }
@@ -177,6 +178,10 @@ fn typed_rule(
         },
         Head::HaveForm => match parts {
             [name, form] => have_rule(alloc, scope, goal, name, form),
+            _ => Err(not_built(place)),
+        },
+        Head::Witness => match parts {
+            [witness] => witness_rule(alloc, scope, goal, witness),
             _ => Err(not_built(place)),
         },
         Head::Smt => {

@@ -1,8 +1,9 @@
 -- Terms from their heads and the lists of their arguments.
-use Rattle.std.proofs.Common.{◌≡◌, ℕ, ℤ, Bool, ◌&&◌, List, [], ◌∷◌, map, length, refl, sym, ap, ◌∙◌}
+use Rattle.std.proofs.Common.{◌≡◌, ◌⊎◌, inl, inr, ℕ, ℤ, Bool, ◌&&◌, List, [], ◌∷◌, map, refl, sym, ap, ◌∙◌}
 use Rattle.std.specs.List.{list_all}
 use Rattle.gb_terms.specs.declared.term.Term.{Term, Term', Row_of-Term, end_of-Term, more_of-Term, end_of-Head, more_of-Head, items-the_row-Term, items_shown-the_row-Term-0}
 use Rattle.gb_terms.specs.declared.term.Head.{Head}
+use Rattle.gb_terms.specs.declared.term.Pair.{Pair}
 use Rattle.gb_terms.specs.declared.term.Head.TheViews.{out-Term, outs-struct-Term}
 use Rattle.gb_core.specs.declared.ty.Ty.{Ty}
 use Rattle.gb_core.specs.declared.value.Value.{Value}
@@ -21,7 +22,7 @@ use Rattle.gb_typed.specs.Typing.{types_of}
 use Rattle.gb_typed.proofs.Constructors.{distribution_is}
 use Rattle.gb_eval.specs.Findings.Comes.{unknown}
 use Rattle.gb_eval.specs.Operators.{nullary, uniform_over}
-use Rattle.gb_eval.specs.Totals.{total_of, totals_of, head_total, operator_total, number_of_outcomes}
+use Rattle.gb_eval.specs.Totals.{total_of, totals_of, head_total, of_first, operator_total, number_of_outcomes}
 use Rattle.gb_eval.specs.Known.{is_known, all_known, has_finite_outcomes, is_head_known, are_true}
 
 known_row : (n : _) (r : Row_of-Term n) → all_known r ≡ map is_known (items-the_row-Term n r)
@@ -65,21 +66,23 @@ module _ (reads : List ReadValue) (t : Term) (h : Head) (xs : List Term) (ty : T
   pub eval_at : (g : Head) → h ≡ g → eval reads t bound ≡ at_head reads g ty (map (part_of reads) xs) bound
   eval_at g e = eval_out reads t bound ∙ (λ i. at_head reads ((sym p ∙ e) i) (sym r i) (map (part_of reads) (sym q i)) bound)
 
-  pub eval_other : ((v : Value) → h ≡ head.Lit v → ⊥) → ((n : ℤ) → h ≡ head.Whole n → ⊥) → ((r : Read) → h ≡ head.Read r → ⊥) → ((i : ℕ) → h ≡ head.Bound i → ⊥) → ((o : Op) → h ≡ head.Builtin o → ⊥) → ((u : Ty) → h ≡ head.All u → ⊥) → ((u : Ty) → h ≡ head.Some u → ⊥) → (h ≡ head.Mu → ⊥) → ((n : ℕ) → h ≡ head.Sum n → ⊥) → (h ≡ head.Restrict → ⊥) → eval reads t bound ≡ unknown
-  eval_other l w r b o a s m n c = eval_at h refl ∙ none h l w r b o a s m n c
+  pub eval_other : ((v : Value) → h ≡ head.Lit v → ⊥) → ((n : ℤ) → h ≡ head.Whole n → ⊥) → ((r : Read) → h ≡ head.Read r → ⊥) → ((i : ℕ) → h ≡ head.Bound i → ⊥) → ((o : Op) → h ≡ head.Builtin o → ⊥) → ((u : Ty) → h ≡ head.All u → ⊥) → ((u : Ty) → h ≡ head.Some u → ⊥) → (h ≡ head.Mu → ⊥) → ((n : ℕ) → h ≡ head.Sum n → ⊥) → (h ≡ head.Restrict → ⊥) → (h ≡ head.Map → ⊥) → ((ps : List Pair) → h ≡ head.Weights ps → ⊥) → eval reads t bound ≡ unknown
+  eval_other l w r b o a s m n c d u = eval_at h refl ∙ none h l w r b o a s m n c d u
     where
-      none : (g : Head) → ((v : Value) → g ≡ head.Lit v → ⊥) → ((n : ℤ) → g ≡ head.Whole n → ⊥) → ((r : Read) → g ≡ head.Read r → ⊥) → ((i : ℕ) → g ≡ head.Bound i → ⊥) → ((o : Op) → g ≡ head.Builtin o → ⊥) → ((u : Ty) → g ≡ head.All u → ⊥) → ((u : Ty) → g ≡ head.Some u → ⊥) → (g ≡ head.Mu → ⊥) → ((n : ℕ) → g ≡ head.Sum n → ⊥) → (g ≡ head.Restrict → ⊥) → at_head reads g ty (map (part_of reads) xs) bound ≡ unknown
-      none (head.Lit v) l w r b o a s m n c = absurd (l v refl)
-      none (head.Whole k) l w r b o a s m n c = absurd (w k refl)
-      none (head.Read x) l w r b o a s m n c = absurd (r x refl)
-      none (head.Bound i) l w r b o a s m n c = absurd (b i refl)
-      none (head.Builtin x) l w r b o a s m n c = absurd (o x refl)
-      none (head.All u) l w r b o a s m n c = absurd (a u refl)
-      none (head.Some u) l w r b o a s m n c = absurd (s u refl)
-      none head.Mu l w r b o a s m n c = absurd (m refl)
-      none (head.Sum k) l w r b o a s m n c = absurd (n k refl)
-      none head.Restrict l w r b o a s m n c = absurd (c refl)
-      none _ l w r b o a s m n c = refl
+      none : (g : Head) → ((v : Value) → g ≡ head.Lit v → ⊥) → ((n : ℤ) → g ≡ head.Whole n → ⊥) → ((r : Read) → g ≡ head.Read r → ⊥) → ((i : ℕ) → g ≡ head.Bound i → ⊥) → ((o : Op) → g ≡ head.Builtin o → ⊥) → ((u : Ty) → g ≡ head.All u → ⊥) → ((u : Ty) → g ≡ head.Some u → ⊥) → (g ≡ head.Mu → ⊥) → ((n : ℕ) → g ≡ head.Sum n → ⊥) → (g ≡ head.Restrict → ⊥) → (g ≡ head.Map → ⊥) → ((ps : List Pair) → g ≡ head.Weights ps → ⊥) → at_head reads g ty (map (part_of reads) xs) bound ≡ unknown
+      none (head.Lit v) l w r b o a s m n c d z = absurd (l v refl)
+      none (head.Whole k) l w r b o a s m n c d z = absurd (w k refl)
+      none (head.Read x) l w r b o a s m n c d z = absurd (r x refl)
+      none (head.Bound i) l w r b o a s m n c d z = absurd (b i refl)
+      none (head.Builtin x) l w r b o a s m n c d z = absurd (o x refl)
+      none (head.All u) l w r b o a s m n c d z = absurd (a u refl)
+      none (head.Some u) l w r b o a s m n c d z = absurd (s u refl)
+      none head.Mu l w r b o a s m n c d z = absurd (m refl)
+      none (head.Sum k) l w r b o a s m n c d z = absurd (n k refl)
+      none head.Restrict l w r b o a s m n c d z = absurd (c refl)
+      none head.Map l w r b o a s m n c d z = absurd (d refl)
+      none (head.Weights ps) l w r b o a s m n c d z = absurd (z ps refl)
+      none _ l w r b o a s m n c d z = refl
 
 total_row : (n : _) (r : Row_of-Term n) → totals_of r ≡ map total_of (items-the_row-Term n r)
 total_row n end_of-Term = refl
@@ -96,13 +99,20 @@ module _ (t : Term) (h : Head) (xs : List Term) (ty : Ty) (p : h ≡ (out-Term t
   pub total_at : (g : Head) → h ≡ g → total_of t ≡ head_total g ty (map total_of xs)
   total_at g e = total_out t ∙ (λ i. head_total ((sym p ∙ e) i) (sym r i) (map total_of (sym q i)))
 
-  pub total_other : ((o : Op) → h ≡ head.Builtin o → ⊥) → (h ≡ head.Restrict → ⊥) → total_of t ≡ unknown
-  total_other b s = total_at h refl ∙ none h b s
+  pub total_other : ((o : Op) → h ≡ head.Builtin o → ⊥) → (h ≡ head.Restrict → ⊥) → (h ≡ head.Map → ⊥) → ((ps : List Pair) → h ≡ head.Weights ps → ⊥) → total_of t ≡ unknown
+  total_other b s m w = total_at h refl ∙ none h b s m w
     where
-      none : (g : Head) → ((o : Op) → g ≡ head.Builtin o → ⊥) → (g ≡ head.Restrict → ⊥) → head_total g ty (map total_of xs) ≡ unknown
-      none (head.Builtin o) b s = absurd (b o refl)
-      none head.Restrict b s = absurd (s refl)
-      none _ b s = refl
+      none : (g : Head) → ((o : Op) → g ≡ head.Builtin o → ⊥) → (g ≡ head.Restrict → ⊥) → (g ≡ head.Map → ⊥) → ((ps : List Pair) → g ≡ head.Weights ps → ⊥) → head_total g ty (map total_of xs) ≡ unknown
+      none (head.Builtin o) b s m w = absurd (b o refl)
+      none head.Restrict b s m w = absurd (s refl)
+      none head.Map b s m w = absurd (m refl)
+      none (head.Weights ps) b s m w = absurd (w ps refl)
+      none _ b s m w = refl
+
+  -- that of an image or a part is that of its source
+  pub total_first : (h ≡ head.Map) ⊎ (h ≡ head.Restrict) → total_of t ≡ of_first (map total_of xs)
+  total_first (inl e) = total_at head.Map e
+  total_first (inr e) = total_at head.Restrict e
 
 outcome_is : (t : Ty) → outcome_type (ty.Distr t) ≡ t
 outcome_is t = ap outcome_type (distribution_is t)

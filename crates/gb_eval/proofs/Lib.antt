@@ -1,4 +1,5 @@
 pub mod AtFindings
+pub mod Entries
 pub mod Fractions
 pub mod Layers
 pub mod Places
@@ -6,3 +7,5 @@ pub mod Sound
 pub mod Stops
 pub mod Tables
 pub mod Truths
+pub mod Updates
+pub mod Weights

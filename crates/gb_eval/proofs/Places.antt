@@ -18,9 +18,9 @@ use Rattle.gb_dist.specs.Rows.{entries}
 use Rattle.gb_dist.specs.Places.{outcomes}
 use Rattle.gb_eval.specs.declared.answer.Stop.{Stop}
 use Rattle.gb_eval.specs.declared.answer.Stop.TheVariants as stop
-use Rattle.gb_eval.specs.Findings.{of_truth, collected, fraction_in, Stops}
+use Rattle.gb_eval.specs.Findings.{of_truth, collected, fraction_in, value_in, Stops}
 use Rattle.gb_eval.specs.Known.{is_tuple}
-use Rattle.gb_eval.specs.Eval.{Part, at_three, value_bound, truth_under, next_truth, next_sum, over_values, quantified, summed, event, measured, narrowed, operated, restricted, table_under, tuple, weighed}
+use Rattle.gb_eval.specs.Eval.{Part, at_three, image_of, images, mapped, value_bound, truth_under, next_truth, next_sum, over_values, quantified, summed, event, measured, narrowed, operated, restricted, table_under, tuple, weighed}
 use Rattle.gb_eval.proofs.Stops.{leads_on, passes, stops_as}
 use Rattle.gb_eval.specs.declared.answer.Answer.{Answer}
 use Rattle.gb_eval.specs.declared.answer.Answer.TheVariants as answer
@@ -145,6 +145,11 @@ event_length x rs bound bs e =
     let q = collected_length [] (map (λ v. truth_under x (v ∷ bound)) (outcomes (entries rs))) bs e in
     omega (arith, q, length-map (outcomes (entries rs)) (λ v. truth_under x (v ∷ bound)), length-map (entries rs) (λ (e : Value × ℕ). e.0), length-map {B = Value × ℕ} rs (λ (r : Row). (r.value, r.weight)))
 
+pub images_length : (x : Part) (rs : List Row) (bound : List Value) (vs : List Value) → images x (entries rs) bound ≡ found vs → length vs ≡ length rs
+images_length x rs bound vs e =
+    let q = collected_length [] (map (λ v. x.comes (v ∷ bound) >>= value_in) (outcomes (entries rs))) vs e in
+    omega (arith, q, length-map (outcomes (entries rs)) (λ v. x.comes (v ∷ bound) >>= value_in), length-map (entries rs) (λ (e : Value × ℕ). e.0), length-map {B = Value × ℕ} rs (λ (r : Row). (r.value, r.weight)))
+
 -- operators at more than three arguments
 pub operated_many : {X : Type 0} (o : Op) (t : Ty) (f : X → Part) (xs : List X) (bound : List Value) (b : Bool) → b ≡ is_tuple o → b ≡ false → 4 ≤ length xs → operated o t (map f xs) bound ≡ unknown
 operated_many o t f [] bound b e g h = absurd (omega arith)
@@ -154,11 +159,11 @@ operated_many o t f (a ∷ c ∷ d ∷ []) bound b e g h = absurd (omega arith)
 operated_many o t f (a ∷ c ∷ d ∷ i ∷ xs) bound b e g h = ap (λ z. if z then tuple (map f (a ∷ c ∷ d ∷ i ∷ xs)) bound else unknown) (sym e ∙ g)
 
 -- and at three
-pub operated_three : {X : Type 0} (o : Op) (t : Ty) (f : X → Part) (xs : List X) (bound : List Value) (b : Bool) → b ≡ is_tuple o → b ≡ false → 3 ≤ length xs → length xs < 4 → operated o t (map f xs) bound ≡ at_three o (map f xs) bound
+pub operated_three : {X : Type 0} (o : Op) (t : Ty) (f : X → Part) (xs : List X) (bound : List Value) (b : Bool) → b ≡ is_tuple o → b ≡ false → 3 ≤ length xs → length xs < 4 → operated o t (map f xs) bound ≡ at_three o t (map f xs) bound
 operated_three o t f [] bound b e g h k = absurd (omega arith)
 operated_three o t f (a ∷ []) bound b e g h k = absurd (omega arith)
 operated_three o t f (a ∷ c ∷ []) bound b e g h k = absurd (omega arith)
-operated_three o t f (a ∷ c ∷ d ∷ []) bound b e g h k = ap (λ z. if z then tuple (map f (a ∷ c ∷ d ∷ [])) bound else at_three o (map f (a ∷ c ∷ d ∷ [])) bound) (sym e ∙ g)
+operated_three o t f (a ∷ c ∷ d ∷ []) bound b e g h k = ap (λ z. if z then tuple (map f (a ∷ c ∷ d ∷ [])) bound else at_three o t (map f (a ∷ c ∷ d ∷ [])) bound) (sym e ∙ g)
 operated_three o t f (a ∷ c ∷ d ∷ i ∷ xs) bound b e g h k = absurd (omega arith)
 
 -- distributions and events
@@ -166,6 +171,9 @@ operated_three o t f (a ∷ c ∷ d ∷ i ∷ xs) bound b e g h k = absurd (omeg
 module _ {X : Type 0} (f : X → Part) (xs : List X) (a b : X) (bound : List Value) (d : ℕ × WeightedList Value) (h : 2 ≤ length xs) (k : length xs < 3) (p : a ≡ get_or xs 0 a) (q : b ≡ get_or xs 1 b) (e : table_under (f a) bound ≡ found d) where
   pub measured_by : measured (map f xs) bound ≡ weighed (f b) d bound
   measured_by = ap (λ l. measured (map f l) bound) (two_of xs a b h k p q) ∙ leads_on (table_under (f a) bound) (λ r. weighed (f b) r bound) d e
+
+  pub mapped_by : mapped (map f xs) bound ≡ image_of (f b) d bound
+  mapped_by = ap (λ l. mapped (map f l) bound) (two_of xs a b h k p q) ∙ leads_on (table_under (f a) bound) (λ r. image_of (f b) r bound) d e
 
   pub restricted_by : restricted (map f xs) bound ≡ narrowed (f b) d bound
   restricted_by = ap (λ l. restricted (map f l) bound) (two_of xs a b h k p q) ∙ leads_on (table_under (f a) bound) (λ r. narrowed (f b) r bound) d e

@@ -16,7 +16,7 @@ use Rattle.gb_terms.specs.declared.op.Read.TheVariants.{Logical, Program}
 use Rattle.gb_terms.specs.declared.term.Term.{Term, Term', Row_of-Term, end_of-Term, more_of-Term, end_of-Head, more_of-Head}
 use Rattle.gb_terms.specs.declared.term.Head.{Head}
 use Rattle.gb_terms.specs.declared.term.Head.TheVariants as head
-use Rattle.gb_coupling.specs.WeightedList.{WeightedList, mass, weight, total, bit, scale}
+use Rattle.gb_coupling.specs.WeightedList.{WeightedList, dmap, mass, weight, total, bit, scale}
 use Rattle.gb_coupling.proofs.Masses.{mass-scale}
 use Rattle.gb_num.specs.Fractions.{Fraction, IsSame, plus}
 use Rattle.gb_num.specs.Operations.{product_of, plus_steps}
@@ -45,12 +45,13 @@ use Rattle.gb_eval.specs.Operators.{connective, is_connective, zero_fraction, ch
 use Rattle.gb_eval.specs.Totals.{total_of, totals_of, head_total, operator_total, multiplied}
 use Rattle.gb_eval.specs.Known.{is_tuple}
 use Rattle.gb_eval.specs.Eval as ev
-use Rattle.gb_eval.specs.Eval.{Part, eval, eval_all, value_of, value_bound, over_values, event}
+use Rattle.gb_eval.specs.Eval.{Part, eval, eval_all, value_of, value_bound, over_values, event, images}
 use Rattle.gb_eval.specs.Meant.{IsFraction, IsTable, IsFound, Means, Binds, is_given_at, AreGiven, AllGiven}
 use Rattle.gb_eval.proofs.Truths.{Finds, IsTruth, then_finds, after_finds, if_finds, means_finds, finds_means, comes_truth, answer_meant, and_meant, or_meant, implies_meant, iff_meant, each_meant, some_meant}
-use Rattle.gb_eval.proofs.Tables.{behind_none, one_collected, chance_meant, restricted_mass, event_meant, exact, IsTotal, outcomes_total}
+use Rattle.gb_eval.proofs.Tables.{behind_none, one_collected, chance_meant, restricted_mass, each_collected, imaged_is, image_same, exact, IsTotal, outcomes_total, stated_total, stated_meant}
 use Rattle.gb_eval.proofs.Fractions.{above_product, same_plus, reduced_meant}
 use Rattle.gb_eval.proofs.AtFindings.{binary_meant, unary_meant, nullary_meant}
+use Rattle.gb_eval.proofs.Updates.{updated_meant}
 
 -- a side of a conditional, over the product of both denominators
 side_meant : (x : Finding) (a : Meaning) (i j k : ℕ) (c : Comes ℕ) → IsFound x a i → Finds (IsTotal j) c → i * j ≡ k → Means (ev.scaled c x) (m.scaled j a) k
@@ -162,7 +163,7 @@ module _ (g : Setting) (j : Speaks) (s : State) (reads : List ReadValue) where
 
   event_at : (x : Part) (p : mt.Part) → IsMeant x p → (bs : List Binding) (vs : List Value) → Binds bs vs → (l : WeightedList Value) →
       Finds (λ ts. ts ≡ map (λ v. m.truth (at_value p (inner bs) v)) (outcomes l)) (event x l vs)
-  event_at x p h bs vs b l = event_meant (λ v. ev.truth_under x (v ∷ vs)) (λ v. m.truth (at_value p (inner bs) v)) (body_meant x p h bs vs b) l []
+  event_at x p h bs vs b l = each_collected (λ v. ev.truth_under x (v ∷ vs)) (λ v. m.truth (at_value p (inner bs) v)) (body_meant x p h bs vs b) l []
 
   -- a distribution that is found
   table_meant : (x : Part) (p : mt.Part) → IsMeant x p → (bs : List Binding) (vs : List Value) → Binds bs vs → Finds (λ d. IsTable d.0 d.1 (p.meaning (inner bs)) p.denominator) (ev.table_under x vs)
@@ -269,6 +270,32 @@ module _ (g : Setting) (j : Speaks) (s : State) (reads : List ReadValue) where
   same_parts [] bs = refl
   same_parts (p ∷ ps) bs = ap (λ l. m.value_in (p.meaning (inner bs)) ∷ l) (same_parts ps bs)
 
+  -- images
+
+  images_at : (x : Part) (p : mt.Part) → IsMeant x p → (bs : List Binding) (vs : List Value) → Binds bs vs → (l : WeightedList Value) →
+      Finds (λ ws. ws ≡ map (λ v. m.value_in (at_value p (inner bs) v)) (outcomes l)) (images x l vs)
+  images_at x p h bs vs b l =
+      each_collected (λ v. x.comes (v ∷ vs) >>= value_in) (λ v. m.value_in (at_value p (inner bs) v))
+      (λ v. value_found (x.comes (v ∷ vs)) (at_value p (inner bs) v) p.denominator (h.means (binding.value (meaning.finite v) ∷ bs) (v ∷ vs) (refl, b))) l []
+
+  mapped_meant : (x y : Part) (p q : mt.Part) (bs : List Binding) (vs : List Value) → IsMeant x p → IsMeant y q → Binds bs vs →
+      Means (ev.mapped (x ∷ y ∷ []) vs) (meaning.weights (dmap (λ v. m.value_in (at_value q (inner bs) v)) (m.weights_in (p.meaning (inner bs))))) p.denominator
+  mapped_meant x y p q bs vs h k b =
+      finds_means _ _ p.denominator (then_finds (λ d. IsTable d.0 d.1 (p.meaning (inner bs)) p.denominator) P (ev.table_under x vs) (λ d. ev.image_of y d vs) (table_meant x p h bs vs b)
+      (λ d e i. then_finds (λ ws. ws ≡ map image (outcomes d.1)) P (images y d.1 vs) (λ ws. found (table d.0 (lists.imaged ws d.1))) (images_at y q k bs vs b d.1)
+      (λ ws w r. record {
+        meant = dmap image i.meant;
+        is = ap (λ z. meaning.weights (dmap image (m.weights_in z))) i.is;
+        same = λ f. ap (λ z. mass (lists.imaged z d.1) f) r ∙ ap (λ z. mass z f) (imaged_is image d.1) ∙ image_same image d.1 i.meant i.same f;
+        total = i.total;
+      })))
+    where
+      image : Value → Value
+      image v = m.value_in (at_value q (inner bs) v)
+
+      P : Finding → Type 0
+      P f = IsFound f (meaning.weights (dmap image (m.weights_in (p.meaning (inner bs))))) p.denominator
+
   -- operators at their numbers of arguments, but those of tuples
   module _ (ty : Ty) (bs : List Binding) (vs : List Value) (b : Binds bs vs) where
     one_meant : (p : Op) (x : Part) (q : mt.Part) → IsMeant x q → Means (x.comes vs >>= λ a. e.unary p ty a) (o.unary g.types p ty (q.meaning (inner bs))) (denominator_at g.types p ty (q.denominator ∷ []))
@@ -313,7 +340,12 @@ module _ (g : Setting) (j : Speaks) (s : State) (reads : List ReadValue) where
     at_two_meant p x y q r h k false w = two_meant p x y q r h k
 
     conditional_meant : (p : Op) (x y z : Part) (q r u : mt.Part) → IsMeant x q → IsMeant y r → IsMeant z u →
-        Means (ev.at_three p (x ∷ y ∷ z ∷ []) vs) (o.ternary g.types p ty (argument (inner bs) q) (argument (inner bs) r) (argument (inner bs) u)) (denominator_at g.types p ty (q.denominator ∷ r.denominator ∷ u.denominator ∷ []))
+        Means (ev.at_three p ty (x ∷ y ∷ z ∷ []) vs) (o.ternary g.types p ty (argument (inner bs) q) (argument (inner bs) r) (argument (inner bs) u)) (denominator_at g.types p ty (q.denominator ∷ r.denominator ∷ u.denominator ∷ []))
+    conditional_meant op.Set x y z q r u h k l =
+        finds_means _ _ 1 (then_finds (λ f. IsFound f (q.meaning (inner bs)) q.denominator) _ (x.comes vs) _ (means_finds _ _ _ (h.means bs vs b))
+        (λ f1 w1 i1. then_finds (λ f. IsFound f (r.meaning (inner bs)) r.denominator) _ (y.comes vs) _ (means_finds _ _ _ (k.means bs vs b))
+        (λ f2 w2 i2. then_finds (λ f. IsFound f (u.meaning (inner bs)) u.denominator) _ (z.comes vs) _ (means_finds _ _ _ (l.means bs vs b))
+        (λ f3 w3 i3. means_finds _ _ 1 (updated_meant g.types ty f1 f2 f3 _ _ _ _ _ _ i1 i2 i3)))))
     conditional_meant op.If x y z q r u h k l = chosen_meant (ev.truth_under x vs) _ y z r u (truth_meant x q h bs vs b) k l
     conditional_meant _ x y z q r u h k l = tt
 
@@ -360,6 +392,11 @@ module _ (g : Setting) (j : Speaks) (s : State) (reads : List ReadValue) where
   head_meant t head.Restrict (x ∷ y ∷ []) (p ∷ q ∷ r ∷ ps) ty h w bs vs b = absurd h.1.1
   head_meant t head.Restrict (x ∷ y ∷ []) (p ∷ []) ty h w bs vs b = absurd h.1
   head_meant t head.Restrict (x ∷ y ∷ []) [] ty h w bs vs b = absurd h
+  head_meant t head.Map (x ∷ y ∷ []) (p ∷ q ∷ []) ty h w bs vs b = mapped_meant x y p q bs vs h.0 h.1.0 b
+  head_meant t head.Map (x ∷ y ∷ []) (p ∷ q ∷ r ∷ ps) ty h w bs vs b = absurd h.1.1
+  head_meant t head.Map (x ∷ y ∷ []) (p ∷ []) ty h w bs vs b = absurd h.1
+  head_meant t head.Map (x ∷ y ∷ []) [] ty h w bs vs b = absurd h
+  head_meant t (head.Weights qs) xs ps ty h w bs vs b = stated_meant qs
   head_meant t (head.Sum q) (x ∷ []) (p ∷ []) ty h w bs vs b = summed_meant q x p bs vs h.0 b
   head_meant t (head.Sum q) (x ∷ []) (p ∷ r ∷ ps) ty h w bs vs b = absurd h.1
   head_meant t (head.Sum q) (x ∷ []) [] ty h w bs vs b = absurd h
@@ -389,6 +426,14 @@ module _ (g : Setting) (j : Speaks) (s : State) (reads : List ReadValue) where
 
   head_total_meant : (h : Head) (xs : List Part) (ps : List mt.Part) (ty : Ty) → AreMeant xs ps → Finds (IsTotal (denominator_of g h (map (λ p. p.denominator) ps) ty)) (head_total h ty (map (λ x. x.total) xs))
   head_total_meant (head.Builtin o) xs ps ty h = operator_total_meant o xs ps ty h
+  head_total_meant (head.Weights qs) xs ps ty h = stated_total qs
+  head_total_meant head.Map [] ps ty h = tt
+  head_total_meant head.Map (x ∷ []) ps ty h = tt
+  head_total_meant head.Map (x ∷ y ∷ z ∷ xs) ps ty h = tt
+  head_total_meant head.Map (x ∷ y ∷ []) (p ∷ q ∷ []) ty h = h.0.total
+  head_total_meant head.Map (x ∷ y ∷ []) (p ∷ q ∷ r ∷ ps) ty h = absurd h.1.1
+  head_total_meant head.Map (x ∷ y ∷ []) (p ∷ []) ty h = absurd h.1
+  head_total_meant head.Map (x ∷ y ∷ []) [] ty h = absurd h
   head_total_meant head.Restrict [] ps ty h = tt
   head_total_meant head.Restrict (x ∷ []) ps ty h = tt
   head_total_meant head.Restrict (x ∷ y ∷ z ∷ xs) ps ty h = tt

@@ -7,7 +7,7 @@ use Rattle.gb_core.specs.declared.value.Value.TheVariants.{Many}
 use Rattle.gb_core.specs.declared.value.Card.{Card}
 use Rattle.gb_core.specs.declared.value.Card.TheVariants.{Exact, Above}
 use Rattle.gb_types.specs.Types.{numbering, is_finite, size_of, card_of}
-use Rattle.gb_coupling.specs.WeightedList.{WeightedList, mass, weight, bit, dmap}
+use Rattle.gb_coupling.specs.WeightedList.{WeightedList, mass, total, weight, bit, dmap}
 use Rattle.gb_coupling.proofs.Masses.{mass-bind, mass-dmap, mass-same}
 use Rattle.gb_num.specs.Fractions.{reduced}
 use Rattle.gb_dist.specs.Lists as lists
@@ -19,13 +19,16 @@ use Rattle.gb_meaning.specs.Distributions as distributions
 use Rattle.gb_meaning.specs.Meanings as m
 use Rattle.gb_meaning.specs.Operators as o
 use Rattle.gb_laws.proofs.Types.{values_finite}
-use Rattle.gb_eval.specs.Findings.{Comes, ◌>>=◌, collected}
+use Rattle.gb_eval.specs.Findings.{Comes, ◌>>=◌, after, collected}
 use Rattle.gb_eval.specs.Findings.Finding.{fraction, table}
 use Rattle.gb_eval.specs.Findings.Comes.{found, unknown, overflow}
 use Rattle.gb_eval.specs.Operators.{chance, uniform_over}
-use Rattle.gb_eval.specs.Totals.{number_of_outcomes}
+use Rattle.gb_eval.specs.Totals.{are_weights, is_weight, number_of_outcomes, weights_total}
+use Rattle.gb_eval.specs.Eval.{weighted}
+use Rattle.gb_terms.specs.declared.term.Pair.{Pair}
+use Rattle.gb_dist.specs.Rows.{adding_steps}
 use Rattle.gb_eval.specs.Meant.{IsTable, Means}
-use Rattle.gb_eval.proofs.Truths.{Finds, IsTruth}
+use Rattle.gb_eval.proofs.Truths.{Finds, if_finds, after_finds, then_finds, finds_means}
 use Rattle.gb_eval.proofs.Fractions.{reduced_meant}
 
 -- a weight over a denominator
@@ -73,10 +76,26 @@ one_collected out (found b) a cs rest q f =
 one_collected out unknown a cs rest q f = tt
 one_collected out (overflow x) a cs rest q f = tt
 
--- the event is true at each outcome where the test is
-pub event_meant : (f : Value → Comes Bool) (p : Value → Bool) → ((v : Value) → IsTruth (f v) (p v)) → (l : WeightedList Value) (out : List Bool) → Finds (λ bs. bs ≡ out ++ map p (outcomes l)) (collected out (map f (outcomes l)))
-event_meant f p h [] out = behind_none out
-event_meant f p h (e ∷ l) out = one_collected out (f e.0) (p e.0) (map f (outcomes l)) (map p (outcomes l)) (h e.0) (event_meant f p h l)
+-- what is found at each outcome is what is meant there
+pub each_collected : {A : Type 0} (f : Value → Comes A) (p : Value → A) → ((v : Value) → Finds (λ a. p v ≡ a) (f v)) → (l : WeightedList Value) (out : List A) →
+    Finds (λ xs. xs ≡ out ++ map p (outcomes l)) (collected out (map f (outcomes l)))
+each_collected f p h [] out = behind_none out
+each_collected f p h (e ∷ l) out = one_collected out (f e.0) (p e.0) (map f (outcomes l)) (map p (outcomes l)) (h e.0) (each_collected f p h l)
+
+-- images
+
+pub imaged_is : (p : Value → Value) (l : WeightedList Value) → lists.imaged (map p (outcomes l)) l ≡ dmap p l
+imaged_is p [] = refl
+imaged_is p (e ∷ l) = ap (λ z. (p e.0, e.1) ∷ z) (imaged_is p l)
+
+pub image_same : (p : Value → Value) (l r : WeightedList Value) → ((f : Value → ℕ) → mass l f ≡ mass r f) → (f : Value → ℕ) → mass (dmap p l) f ≡ mass (dmap p r) f
+image_same p l r h f = mass-dmap p l f ∙ h (λ v. f (p v)) ∙ sym (mass-dmap p r f)
+
+-- stated weights
+
+sum_is : (ps : List Pair) → total (distributions.stated ps) ≡ distributions.sum_of_weights ps
+sum_is [] = refl
+sum_is (p ∷ ps) = let q = sum_is ps in omega (arith, q)
 
 -- pairs
 
@@ -143,3 +162,24 @@ outcomes_total t u (Exact n) e = by (nat_lt 0 n && nat_le n 65536) refl
     by : (b : Bool) → (nat_lt 0 n && nat_le n 65536) ≡ b → Finds (IsTotal (values t u).size) (if b then found n else unknown)
     by true q = record { is = (exact t u n e).1 ∙ ap (λ z. z.size) (sym (exact t u n e).0); above = ltb-true 0 n (and_parts (nat_lt 0 n) (nat_le n 65536) q).0 }
     by false q = tt
+
+sum_total : (l : WeightedList Value) → Finds (IsTotal (total l)) (weights_total l)
+sum_total [] = tt
+sum_total (e ∷ l) =
+    if_finds (IsTotal (total (e ∷ l))) (are_weights (e ∷ l)) (after (adding_steps 0 (e ∷ l)) (total (e ∷ l)))
+    (λ w. after_finds (IsTotal (total (e ∷ l))) (adding_steps 0 (e ∷ l)) (total (e ∷ l)) (record { is = refl; above = above w }))
+  where
+    above : are_weights (e ∷ l) ≡ true → 0 < total (e ∷ l)
+    above w =
+        let one = and_parts (is_weight e.1) (are_weights l) w in
+        let p : 0 < e.1 = ltb-true 0 e.1 (and_parts (nat_lt 0 e.1) (nat_lt e.1 (2 ^ 127)) one.0).0 in
+        omega (arith, p)
+
+-- the sum of stated weights
+pub stated_total : (ps : List Pair) → Finds (IsTotal (distributions.sum_of_weights ps)) (weights_total (distributions.stated ps))
+stated_total ps = subst (λ k. Finds (IsTotal k) (weights_total (distributions.stated ps))) (sum_is ps) (sum_total (distributions.stated ps))
+
+pub stated_meant : (ps : List Pair) → Means (weighted (distributions.stated ps)) (meaning.weights (distributions.stated ps)) (distributions.sum_of_weights ps)
+stated_meant ps =
+    finds_means _ _ _ (then_finds (IsTotal (distributions.sum_of_weights ps)) _ (weights_total (distributions.stated ps)) (λ n. found (table n (distributions.stated ps))) (stated_total ps)
+    (λ n e q. record { meant = distributions.stated ps; is = refl; same = λ f. refl; total = q.is }))

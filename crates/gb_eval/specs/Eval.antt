@@ -16,15 +16,16 @@ use Rattle.gb_terms.specs.Equal.{read_eq}
 use Rattle.gb_coupling.specs.WeightedList.{WeightedList, total, scale}
 use Rattle.gb_num.specs.Fractions.{Fraction, plus, reduced}
 use Rattle.gb_num.specs.Operations.{product_of, plus_steps}
-use Rattle.gb_dist.specs.Lists.{kept}
+use Rattle.gb_dist.specs.Lists.{imaged, kept}
+use Rattle.gb_meaning.specs.Distributions.{stated}
 use Rattle.gb_dist.specs.Places.{outcomes}
 use Rattle.gb_dist.specs.Rows.{scaling_steps}
 use Rattle.gb_eval.specs.declared.env.ReadValue.{ReadValue}
 use Rattle.gb_eval.specs.Findings.{Finding, Comes, ◌>>=◌, after, collected, over, of_truth, truth_in, value_in, fraction_in, table_in}
 use Rattle.gb_eval.specs.Findings.Finding.{value, whole, fraction, table}
 use Rattle.gb_eval.specs.Findings.Comes.{found, unknown}
-use Rattle.gb_eval.specs.Operators.{nullary, unary, binary, is_connective, connective, zero_fraction, chance}
-use Rattle.gb_eval.specs.Totals.{total_of}
+use Rattle.gb_eval.specs.Operators.{nullary, unary, binary, updated, is_connective, connective, zero_fraction, chance}
+use Rattle.gb_eval.specs.Totals.{total_of, weights_total}
 use Rattle.gb_eval.specs.Known.{is_read_known, is_tuple}
 
 -- the value of the first entry of the read
@@ -64,9 +65,14 @@ abbrev pub conditional : List Part → List Value → Comes Finding
 conditional (x ∷ y ∷ z ∷ []) bound = truth_under x bound >>= λ a. chosen a y z bound
 conditional _ bound = unknown
 
-abbrev pub at_three : Op → List Part → List Value → Comes Finding
-at_three op.If xs bound = conditional xs bound
-at_three _ xs bound = unknown
+abbrev pub map_update : Ty → List Part → List Value → Comes Finding
+map_update ty (x ∷ y ∷ z ∷ []) bound = x.comes bound >>= λ a. y.comes bound >>= λ b. z.comes bound >>= λ c. updated ty a b c
+map_update ty _ bound = unknown
+
+abbrev pub at_three : Op → Ty → List Part → List Value → Comes Finding
+at_three op.If ty xs bound = conditional xs bound
+at_three op.Set ty xs bound = map_update ty xs bound
+at_three _ ty xs bound = unknown
 
 abbrev pub tuple : List Part → List Value → Comes Finding
 tuple xs bound = collected [] (map (λ x. x.comes bound >>= value_in) xs) >>= λ vs. found (value (Many vs))
@@ -84,7 +90,7 @@ abbrev pub at_arguments : Op → Ty → List Part → List Value → Comes Findi
 at_arguments o ty [] bound = nullary o ty
 at_arguments o ty (x ∷ []) bound = x.comes bound >>= λ a. unary o ty a
 at_arguments o ty (x ∷ y ∷ []) bound = at_two o ty x y bound
-at_arguments o ty (x ∷ y ∷ z ∷ []) bound = at_three o (x ∷ y ∷ z ∷ []) bound
+at_arguments o ty (x ∷ y ∷ z ∷ []) bound = at_three o ty (x ∷ y ∷ z ∷ []) bound
 at_arguments o ty _ bound = unknown
 
 abbrev pub operated : Op → Ty → List Part → List Value → Comes Finding
@@ -128,6 +134,22 @@ abbrev pub restricted : List Part → List Value → Comes Finding
 restricted (x ∷ y ∷ []) bound = table_under x bound >>= λ d. narrowed y d bound
 restricted _ bound = unknown
 
+-- the image of each outcome of a table, in order
+abbrev pub images : Part → WeightedList Value → List Value → Comes (List Value)
+images y l bound = collected [] (map (λ v. y.comes (v ∷ bound) >>= value_in) (outcomes l))
+
+-- the table of images, each with the weight of its source
+abbrev pub image_of : Part → ℕ × WeightedList Value → List Value → Comes Finding
+image_of y d bound = images y d.1 bound >>= λ vs. found (table d.0 (imaged vs d.1))
+
+abbrev pub mapped : List Part → List Value → Comes Finding
+mapped (x ∷ y ∷ []) bound = table_under x bound >>= λ d. image_of y d bound
+mapped _ bound = unknown
+
+-- stated weights, over their sum
+abbrev pub weighted : WeightedList Value → Comes Finding
+weighted l = weights_total l >>= λ n. found (table n l)
+
 -- the sum over the numbers below q, one by one
 abbrev pub next_sum : (ℕ → Comes Fraction) → Fraction → ℕ → Comes Fraction
 next_sum f a n = f n >>= λ b. after (plus_steps a b) (reduced (plus a b))
@@ -149,6 +171,8 @@ at_head reads (head.All u) ty xs bound = quantified false u xs bound
 at_head reads (head.Some u) ty xs bound = quantified true u xs bound
 at_head reads head.Mu ty xs bound = measured xs bound
 at_head reads head.Restrict ty xs bound = restricted xs bound
+at_head reads head.Map ty xs bound = mapped xs bound
+at_head reads (head.Weights ps) ty xs bound = weighted (stated ps)
 at_head reads (head.Sum q) ty xs bound = summed q xs bound
 at_head reads _ ty xs bound = unknown
 

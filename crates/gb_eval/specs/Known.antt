@@ -30,7 +30,7 @@ arity op.Some = Some 1
 arity op.Oget = Some 1
 arity op.Dunit = Some 1
 arity op.If = Some 3
-arity op.Set = None
+arity op.Set = Some 3
 arity op.Tuple = None
 arity _ = Some 2
 
@@ -73,7 +73,9 @@ is_head_known (head.Builtin o) us = takes o (length us)
 is_head_known (head.All ty) us = (length us == 1) && is_finite ty
 is_head_known (head.Some ty) us = (length us == 1) && is_finite ty
 is_head_known (head.Sum q) us = length us == 1
+is_head_known (head.Weights ps) us = length us == 0
 is_head_known head.Mu us = are_of_outcomes us
+is_head_known head.Map us = are_of_outcomes us
 is_head_known head.Restrict us = are_of_outcomes us
 is_head_known _ us = false
 

@@ -1,5 +1,6 @@
 -- Denominators of distributions, as evaluation reads them from the tree alone.
-use Rattle.std.specs.Prelude.{ℕ, ◌*◌, ◌&&◌, nat_lt, nat_le, if◌then◌else◌, pos, List, [], ◌∷◌}
+use Rattle.std.specs.Prelude.{ℕ, ◌*◌, ◌^◌, Bool, ◌&&◌, nat_lt, nat_le, if◌then◌else◌, pos, List, [], ◌∷◌}
+use Rattle.std.specs.List.{list_all}
 use Rattle.gb_core.specs.declared.ty.Ty.{Ty}
 use Rattle.gb_core.specs.declared.value.Card.{Card}
 use Rattle.gb_core.specs.declared.value.Card.TheVariants.{Exact, Above}
@@ -10,6 +11,10 @@ use Rattle.gb_terms.specs.declared.term.Term.{Term, Term', Row_of-Term, end_of-T
 use Rattle.gb_terms.specs.declared.term.Head.{Head}
 use Rattle.gb_terms.specs.declared.term.Head.TheVariants as head
 use Rattle.gb_num.specs.Operations.{product_of}
+use Rattle.gb_core.specs.declared.value.Value.{Value}
+use Rattle.gb_coupling.specs.WeightedList.{WeightedList, total}
+use Rattle.gb_dist.specs.Rows.{adding_steps}
+use Rattle.gb_meaning.specs.Distributions.{stated}
 use Rattle.gb_meaning.specs.Operators.{outcome_type}
 use Rattle.gb_eval.specs.Findings.{Comes, ◌>>=◌, after}
 use Rattle.gb_eval.specs.Findings.Comes.{found, unknown}
@@ -36,8 +41,22 @@ abbrev pub of_first : List (Comes ℕ) → Comes ℕ
 of_first (k ∷ b ∷ []) = k
 of_first _ = unknown
 
+-- a weight above 0 and below 2^127
+abbrev pub is_weight : ℕ → Bool
+is_weight w = nat_lt 0 w && nat_lt w (2 ^ 127)
+
+abbrev pub are_weights : WeightedList Value → Bool
+are_weights l = list_all (λ e. is_weight e.1) l
+
+-- the sum of stated weights
+abbrev pub weights_total : WeightedList Value → Comes ℕ
+weights_total [] = unknown
+weights_total (e ∷ l) = if are_weights (e ∷ l) then after (adding_steps 0 (e ∷ l)) (total (e ∷ l)) else unknown
+
 abbrev pub head_total : Head → Ty → List (Comes ℕ) → Comes ℕ
 head_total (head.Builtin o) ty ks = operator_total o ty ks
+head_total (head.Weights ps) ty ks = weights_total (stated ps)
+head_total head.Map ty ks = of_first ks
 head_total head.Restrict ty ks = of_first ks
 head_total _ ty ks = unknown
 

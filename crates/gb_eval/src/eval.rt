@@ -7,11 +7,13 @@ ghost use Rattle.gb_core.specs.declared.value.Value.TheVariants.{Num};
 ghost use Rattle.gb_eval.specs.Findings.{Finds, Gives, ◌>>=◌ as ◌and_then◌, fraction_in, shown, shown_table};
 ghost use Rattle.gb_eval.specs.Findings.Finding.{whole};
 ghost use Rattle.gb_eval.specs.Totals.{total_of};
-ghost use Rattle.gb_eval.specs.Eval.{at_three, connected, eval, event, measured, narrowed, next_sum, operated, part_of, quantified, restricted, scaled, summed, table_under, truth_at, tuple, weighed};
+ghost use Rattle.gb_eval.specs.Eval.{at_three, conditional, connected, eval, event, image_of, images, map_update, mapped, measured, narrowed, next_sum, operated, part_of, quantified, restricted, scaled, summed, table_under, truth_at, tuple, weighed};
 
 use crate::answer::{Answer, Stop, fraction_in, of_truth, truth_in, value_in};
 use crate::env::{ReadValue, value_bound, value_of};
 use crate::known::is_tuple;
+use crate::making::{imaged, weighted};
+use crate::maps::updated;
 use crate::numbers::chance;
 use crate::operators::{binary, is_connective, left_decides, nullary, right_decides, unary};
 use crate::total::total;
@@ -81,6 +83,8 @@ pub fn eval(
         Head::Some(ty) => quantifier(alloc, args, ty.get(), true, reads, bound),
         Head::Mu => measure(alloc, args, reads, bound),
         Head::Restrict => restriction(alloc, args, reads, bound),
+        Head::Map => image(alloc, args, reads, bound),
+        Head::Weights(pairs) => weighted(alloc, pairs.as_slice()),
         Head::Sum(count) => sum(alloc, args, *count, reads, bound),
         _ => Err(Stop::Unknown),
     }
@@ -122,7 +126,7 @@ fn operator(
             let b = eval(alloc, b, reads, bound)?;
             binary(alloc, op, ty, a, b)
         }
-        [_, _, _] => conditional(alloc, op, args, reads, bound),
+        [_, _, _] => ternary(alloc, args, op, ty, reads, bound),
         _ => Err(Stop::Unknown),
     }
 }
@@ -169,24 +173,40 @@ fn connective(
     Ok(of_truth(right_decides(op, left, right)))
 }
 
+/// An operator at three arguments.
+#[cycle(eval)]
+fn ternary(
+    alloc: Global,
+    args: &[Term],
+    op: Op,
+    ty: &Ty,
+    reads: &[ReadValue],
+    bound: &mut Values,
+) -> Result<Answer, Stop>
+    ensures found { Gives shown (at_three op ty.now (map (part_of reads.now) args.now) (reverse bound.old)) result }
+    ensures bound { OnOk result (bound.new ≡ bound.old) }
+{
+    match op {
+        Op::If => conditional(alloc, args, reads, bound),
+        Op::Set => update(alloc, args, ty, reads, bound),
+        _ => Err(Stop::Unknown),
+    }
+}
+
 /// The side of a conditional that the test chooses.
 #[cycle(eval)]
 fn conditional(
     alloc: Global,
-    op: Op,
     args: &[Term],
     reads: &[ReadValue],
     bound: &mut Values,
 ) -> Result<Answer, Stop>
-    ensures found { Gives shown (at_three op (map (part_of reads.now) args.now) (reverse bound.old)) result }
+    ensures found { Gives shown (conditional (map (part_of reads.now) args.now) (reverse bound.old)) result }
     ensures bound { OnOk result (bound.new ≡ bound.old) }
 {
     let [test, a, b] = args else {
         return Err(Stop::Unknown);
     };
-    if op != Op::If {
-        return Err(Stop::Unknown);
-    }
     if truth_under(alloc, test, reads, bound)? {
         let side = eval(alloc, a, reads, bound)?;
         scaled(alloc, side, b)
@@ -194,6 +214,27 @@ fn conditional(
         let side = eval(alloc, b, reads, bound)?;
         scaled(alloc, side, a)
     }
+}
+
+/// A map with a value for a key.
+#[cycle(eval)]
+fn update(
+    alloc: Global,
+    args: &[Term],
+    ty: &Ty,
+    reads: &[ReadValue],
+    bound: &mut Values,
+) -> Result<Answer, Stop>
+    ensures found { Gives shown (map_update ty.now (map (part_of reads.now) args.now) (reverse bound.old)) result }
+    ensures bound { OnOk result (bound.new ≡ bound.old) }
+{
+    let [map, key, v] = args else {
+        return Err(Stop::Unknown);
+    };
+    let map = eval(alloc, map, reads, bound)?;
+    let key = eval(alloc, key, reads, bound)?;
+    let v = eval(alloc, v, reads, bound)?;
+    updated(alloc, ty, map, key, v)
 }
 
 /// A chosen side: of a distribution its weights and its denominator times the denominator of the other side.
@@ -371,6 +412,62 @@ fn restriction(
     };
     let table = table(alloc, d, reads, bound)?;
     narrowed(alloc, body, &table, reads, bound)
+}
+
+/// The image of each outcome of a table.
+#[cycle(eval)]
+fn images(
+    alloc: Global,
+    body: &Term,
+    rows: &[Row],
+    reads: &[ReadValue],
+    bound: &mut Values,
+) -> Result<Values, Stop>
+    ensures found { Finds (images (part_of reads.now body.now) (entries rows.now) (reverse bound.old)) result }
+    ensures bound { OnOk result (bound.new ≡ bound.old) }
+{
+    let mut out = Items::new(alloc);
+    for row in rows {
+        let value = row.value.share()?;
+        let image = eval_with(alloc, body, value, reads, bound)?;
+        out.push(value_in(image)?)?;
+    }
+    Ok(out)
+}
+
+/// The table of the images of the outcomes of a table.
+#[cycle(eval)]
+#[tactic(auto, using(crate::proofs::Places::images_length))]
+fn image_of(
+    alloc: Global,
+    body: &Term,
+    table: &Table,
+    reads: &[ReadValue],
+    bound: &mut Values,
+) -> Result<Answer, Stop>
+    ensures found { Gives shown (image_of (part_of reads.now body.now) (shown_table table.now) (reverse bound.old)) result }
+    ensures bound { OnOk result (bound.new ≡ bound.old) }
+{
+    let images = images(alloc, body, table.rows.as_slice(), reads, bound)?;
+    Ok(Answer::Table(imaged(alloc, table, images.as_slice())?))
+}
+
+/// The distribution of the image of an outcome.
+#[cycle(eval)]
+fn image(
+    alloc: Global,
+    args: &[Term],
+    reads: &[ReadValue],
+    bound: &mut Values,
+) -> Result<Answer, Stop>
+    ensures found { Gives shown (mapped (map (part_of reads.now) args.now) (reverse bound.old)) result }
+    ensures bound { OnOk result (bound.new ≡ bound.old) }
+{
+    let [d, body] = args else {
+        return Err(Stop::Unknown);
+    };
+    let table = table(alloc, d, reads, bound)?;
+    image_of(alloc, body, &table, reads, bound)
 }
 
 /// The fraction that a body comes to where its binder binds a number.

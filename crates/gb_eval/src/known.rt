@@ -31,8 +31,8 @@ fn arity(op: Op) -> Option<usize>
         | Op::Some
         | Op::Oget
         | Op::Dunit => Some(1),
-        Op::If => Some(3),
-        Op::Set | Op::Tuple => None,
+        Op::If | Op::Set => Some(3),
+        Op::Tuple => None,
         _ => Some(2),
     }
 }
@@ -78,19 +78,18 @@ fn is_head_known(head: &Head, args: &[Term]) -> bool
     ensures { result ≡ is_head_known head.now (map type_of args.now) }
 {
     match head {
-        Head::Lit(_) | Head::Whole(_) | Head::Bound(_) => args.is_empty(),
+        Head::Lit(_) | Head::Whole(_) | Head::Bound(_) | Head::Weights(_) => args.is_empty(),
         Head::Read(read) => args.is_empty() && is_read_known(read),
         Head::Builtin(op) => takes(*op, args.len()),
         Head::All(ty) | Head::Some(ty) => args.len() == 1 && is_finite(ty.get()),
         Head::Sum(_) => args.len() == 1,
-        Head::Mu | Head::Restrict => are_of_outcomes(args),
+        Head::Mu | Head::Map | Head::Restrict => are_of_outcomes(args),
         _ => false,
     }
 }
 
 /// Whether evaluation knows each part of a term: literals, variables, reads of memories that no binder binds, the built-in
-/// operators but that which sets an entry of a map, quantifiers over finite types, sums, and measures and parts of distributions over
-/// finite types.
+/// operators, quantifiers over finite types, sums, stated weights, and measures, images and parts of distributions over finite types.
 #[cycle(known)]
 #[tactic(auto, using(crate::proofs::Layers::known_out))]
 pub fn is_known(t: &Term) -> bool

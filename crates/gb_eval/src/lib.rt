@@ -6,6 +6,8 @@ pub mod env;
 pub mod eval;
 pub mod known;
 pub mod laws;
+mod making;
+mod maps;
 mod numbers;
 mod operators;
 mod total;

@@ -19,21 +19,12 @@ use gb_core::value::{Card, Value, Values};
 use gb_dist::combine::product;
 use gb_dist::make::{coin, dunit, uniform};
 use gb_dist::parts::weight;
+use gb_maps::entries::parts;
 use gb_terms::op::Op;
 use gb_types::card::card;
 use gb_types::nth::nth;
 use sqlite_items::Items;
 use std::alloc::{AllocError, Global};
-
-/// The parts of a value, none of a number.
-fn parts(v: &Value) -> &[Value]
-    ensures { result.now ≡ parts_of v.now }
-{
-    match v {
-        Value::Num(_) => &[],
-        Value::Many(list) => list.as_slice(),
-    }
-}
 
 /// The uniform distribution over a type of at most 65,536 values.
 fn uniform_over(alloc: Global, ty: &Ty) -> Result<Answer, Stop>

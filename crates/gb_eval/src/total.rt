@@ -1,16 +1,20 @@
 // Denominators of distributions.
 
-ghost use Rattle.std.specs.Prelude.{◌≡◌, ◌<◌, ◌^◌, map, IfOk};
+ghost use Rattle.std.specs.Prelude.{◌≡◌, ◌<◌, ◌^◌, true, map, All, IfOk};
 ghost use Rattle.gb_types.specs.Types.{card_of};
-ghost use Rattle.gb_eval.specs.Findings.{Finds};
-ghost use Rattle.gb_eval.specs.Totals.{multiplied, number_of_outcomes, of_first, operator_total, total_of};
+ghost use Rattle.gb_coupling.specs.WeightedList.{total as sum};
+ghost use Rattle.gb_dist.specs.Lists.{is_positive};
+ghost use Rattle.gb_dist.specs.Rows.{adding_steps};
+ghost use Rattle.gb_meaning.specs.Distributions.{stated};
+ghost use Rattle.gb_eval.specs.Findings.{Finds, after};
+ghost use Rattle.gb_eval.specs.Totals.{are_weights, is_weight, multiplied, number_of_outcomes, of_first, operator_total, total_of, weights_total};
 
 use crate::answer::Stop;
 use gb_core::ty::Ty;
 use gb_core::value::Card;
-use gb_dist::number::times;
+use gb_dist::number::{plus, times};
 use gb_terms::op::Op;
-use gb_terms::term::{Head, Term};
+use gb_terms::term::{Head, Pair, Term};
 use gb_types::card::card;
 
 /// How many outcomes the uniform distribution over a type has.
@@ -25,6 +29,52 @@ fn number_of_outcomes(ty: &Ty) -> Result<u128, Stop>
     }
 }
 
+/// Whether a weight is above 0 and below 2^127.
+fn is_weight(weight: u128) -> bool
+    ensures { result ≡ is_weight weight }
+{
+    0 < weight && weight < 1 << 127
+}
+
+fn are_weights(pairs: &[Pair]) -> bool
+    ensures { result ≡ are_weights (stated pairs.now) }
+{
+    for pair in pairs {
+        if !is_weight(pair.weight) {
+            return false;
+        }
+    }
+    true
+}
+
+/// The sum of weights, one by one.
+fn sum_of(pairs: &[Pair]) -> Result<u128, Stop>
+    requires { All (λ p. p.weight < 2 ^ 127) pairs.now }
+    ensures value { Finds (after (adding_steps 0 (stated pairs.now)) (sum (stated pairs.now))) result }
+    ensures sum { IfOk result (λ n. n ≡ sum (stated pairs.now)) }
+    ensures small { IfOk result (λ n. n < 2 ^ 127) }
+{
+    let mut total = 0;
+    for pair in pairs {
+        total = plus(total, pair.weight)?;
+    }
+    Ok(total)
+}
+
+/// The sum of stated weights.
+pub fn weights_total(pairs: &[Pair]) -> Result<u128, Stop>
+    ensures value { Finds (weights_total (stated pairs.now)) result }
+    ensures sum { IfOk result (λ n. n ≡ sum (stated pairs.now)) }
+    ensures positive { IfOk result (λ n. is_positive (stated pairs.now) ≡ true) }
+    ensures above { IfOk result (λ n. 0 < n) }
+    ensures small { IfOk result (λ n. n < 2 ^ 127) }
+{
+    if pairs.is_empty() || !are_weights(pairs) {
+        return Err(Stop::Unknown);
+    }
+    sum_of(pairs)
+}
+
 /// The denominator of a distribution, read from its tree alone.
 #[cycle(total)]
 pub fn total(t: &Term) -> Result<u128, Stop>
@@ -35,7 +85,8 @@ pub fn total(t: &Term) -> Result<u128, Stop>
     let args = t.args.as_slice();
     match t.head.get() {
         Head::Builtin(op) => operator_total(args, *op, t.ty.get()),
-        Head::Restrict => of_first(args),
+        Head::Map | Head::Restrict => of_first(args),
+        Head::Weights(pairs) => weights_total(pairs.as_slice()),
         _ => Err(Stop::Unknown),
     }
 }

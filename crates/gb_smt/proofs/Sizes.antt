@@ -147,6 +147,7 @@ head_finite (head.All ty) us k = one_finite _ ty k
 head_finite (head.Some ty) us k = one_finite _ ty k
 head_finite (head.Sum q) us k = finite-Mod q
 head_finite head.Mu (d ∷ a ∷ []) k = one_finite _ (outcome_type d) k
+head_finite head.Map (d ∷ a ∷ []) k = one_finite _ (outcome_type d) k
 head_finite head.Restrict (d ∷ a ∷ []) k = one_finite _ (outcome_type d) k
 head_finite head.Mu us k = absurd (false≢true k)
 head_finite head.Restrict us k = absurd (false≢true k)

@@ -71,6 +71,12 @@ mutual
   term_reads g (Term' p (more_of-Head head.Mu end_of-Head) n ts ty) V W f k w =
       let known = known_parts head.Mu ts k in
       subst (AreRead W) (sym (variables_are head.Mu n ts ty)) (both_read g ts V W f known.0 known.1 w)
+  term_reads g (Term' p (more_of-Head (head.Weights ps) end_of-Head) n ts ty) V W f k w =
+      let known = known_parts (head.Weights ps) ts k in
+      subst (AreRead W) (sym (variables_are (head.Weights ps) n ts ty)) (none_read W ts known.0)
+  term_reads g (Term' p (more_of-Head head.Map end_of-Head) n ts ty) V W f k w =
+      let known = known_parts head.Map ts k in
+      subst (AreRead W) (sym (variables_are head.Map n ts ty)) (both_read g ts V W f known.0 known.1 w)
   term_reads g (Term' p (more_of-Head head.Restrict end_of-Head) n ts ty) V W f k w =
       let known = known_parts head.Restrict ts k in
       subst (AreRead W) (sym (variables_are head.Restrict n ts ty)) (both_read g ts V W f known.0 known.1 w)
@@ -191,6 +197,10 @@ module _ (g : Setting) (s : State) where
             (tt, only_given ts V f known.0 known.1 w)
         given (Term' p (more_of-Head head.Mu end_of-Head) n ts ty) V f k w =
             let known = known_parts head.Mu ts k in
+            (tt, both_given ts V f known.0 known.1 w)
+        given (Term' p (more_of-Head (head.Weights ps) end_of-Head) n ts ty) V f k w = (tt, none_given ts (known_parts (head.Weights ps) ts k).0)
+        given (Term' p (more_of-Head head.Map end_of-Head) n ts ty) V f k w =
+            let known = known_parts head.Map ts k in
             (tt, both_given ts V f known.0 known.1 w)
         given (Term' p (more_of-Head head.Restrict end_of-Head) n ts ty) V f k w =
             let known = known_parts head.Restrict ts k in

@@ -62,6 +62,10 @@ mutual
   known_simple (Term' p (more_of-Head head.Mu end_of-Head) n ts ty) k =
       let both = known_parts head.Mu ts k in
       both_simple ts both.0 both.1
+  known_simple (Term' p (more_of-Head (head.Weights ps) end_of-Head) n ts ty) k = row_simple ts (known_parts (head.Weights ps) ts k).1
+  known_simple (Term' p (more_of-Head head.Map end_of-Head) n ts ty) k =
+      let both = known_parts head.Map ts k in
+      both_simple ts both.0 both.1
   known_simple (Term' p (more_of-Head head.Restrict end_of-Head) n ts ty) k =
       let both = known_parts head.Restrict ts k in
       both_simple ts both.0 both.1

@@ -2,7 +2,7 @@
 
 use gb_core::name::Name;
 use gb_core::place::Place;
-use gb_terms::term::{Form, Terms};
+use gb_terms::term::{Form, Term, Terms};
 
 /// A proof step. Its place is its first word, where the refusals of its rule stand.
 #[derive(Drop)]
@@ -83,4 +83,10 @@ pub enum AmbientRule {
     Unpack,
     /// A leading premise that is a disjunction as one goal for each side.
     Branch,
+    /// A term in place of the value that an `exists` binds.
+    Witness(Term),
+    /// No goals, where the conclusion is closed by its parts and the hypotheses; else the goal stays.
+    Trivial,
+    /// No goals, where the conclusion is closed by its parts and the hypotheses.
+    Done,
 }

@@ -17,7 +17,7 @@ use Rattle.gb_limits.specs.Numbers.{number_of}
 use Rattle.gb_names.proofs.Answers.{fails_as, leads_on, passes}
 use Rattle.gb_names.proofs.Nodes.{said_is}
 use Rattle.gb_verdict.specs.Patterns.{all_new, is_pattern}
-use Rattle.gb_verdict.specs.Tactics.{Stepping, gathered_behind, in_turn, introduced, on_each, patterned, repeated, ruled, spread, stepped_by, times, Working, worked, works}
+use Rattle.gb_verdict.specs.Tactics.{Stepping, done_at, gathered_behind, in_turn, introduced, on_each, patterned, repeated, ruled, spread, stepped_by, times, Working, worked, works}
 use Rattle.gb_theory.specs.Tactics.{with_works, each_works, fits, inner, times_allowed}
 
 placed_behind : (place : Place) (a : Answer (List Sequent)) (k : List Sequent → Answer (List Sequent)) →
@@ -57,6 +57,11 @@ module _ (f : Node → Stepping) where
     pub repeat_is : (q : Sequent) (n t : Node) → h ≡ head.Repeat → ts ≡ n ∷ t ∷ [] →
         stepped_by f h (with_works f ts) place q ≡ times (number_of (text_of n)) (place_of n) (works f t) (q ∷ [])
     repeat_is q n t e is = ap (λ k. stepped_by f k (with_works f ts) place q) e ∙ ap (λ us. stepped_by f head.Repeat (with_works f us) place q) is
+
+    -- a step that `done` closes
+    pub by_is : (q : Sequent) (t : Node) → h ≡ head.By → ts ≡ t ∷ [] →
+        stepped_by f h (with_works f ts) place q ≡ (works f t (q ∷ []) >>= on_each (f (done_at place)))
+    by_is q t e is = ap (λ k. stepped_by f k (with_works f ts) place q) e ∙ ap (λ us. stepped_by f head.By (with_works f us) place q) is
 
     pub both_is : (q : Sequent) → h ≡ head.BothPatterns → stepped_by f h (with_works f ts) place q ≡ in_turn (each_works f ts) (q ∷ [])
     both_is q e = ap (λ k. stepped_by f k (with_works f ts) place q) e ∙ ap (λ ws. in_turn ws (q ∷ [])) (each ts)

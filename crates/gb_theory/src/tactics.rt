@@ -9,13 +9,14 @@ ghost use Rattle.gb_script.specs.declared.tree.Node.{Node as Tree};
 ghost use Rattle.gb_script.specs.Tree.{head_of, parts_of, text_of, place_of};
 ghost use Rattle.gb_verdict.specs.Commands.{AreRules, RuleAnswers, Applied, allowed};
 ghost use Rattle.gb_verdict.specs.Patterns.{is_pattern};
-ghost use Rattle.gb_verdict.specs.Tactics.{Stepping, fitted, inside, introduced, on_each, in_turn, ruled, spread, or_left, times, stepped_by, worked, works};
+ghost use Rattle.gb_verdict.specs.Tactics.{Stepping, done_at, fitted, inside, introduced, on_each, in_turn, ruled, spread, or_left, times, stepped_by, worked, works};
 ghost use Rattle.gb_theory.specs.Sessions.{Meets};
 ghost use Rattle.gb_theory.specs.Tactics.{with_works, each_works, fits, times_allowed};
 
 use crate::limits::check_each;
 use crate::names::check_new;
 use gb_bodies::subgoals::{placed, refusal};
+use gb_core::name::Name;
 use gb_core::place::Place;
 use gb_core::refusal::Refused;
 use gb_goal::scope::Scope;
@@ -106,6 +107,44 @@ fn pattern_rule(
     ensures { (f : Tree → Stepping) → AreRules scope.now f → Answers (fitted (head_of tree.now) (f tree.now goal.now)) result }
 {
     fitted(tree.head, rule(alloc, scope, tree, goal))
+}
+
+/// `done`, as it is written.
+fn done_at(alloc: Global, place: Place) -> Result<Node, AllocError>
+    ensures { IfOk result (λ step. step ≡ done_at place) }
+{
+    let text = Name::from_str(alloc, "done")?;
+    Ok(Node {
+        head: Head::PlainStep,
+        text,
+        parts: Items::new(alloc),
+        place,
+    })
+}
+
+/// A rule on each goal.
+fn rule_on_each(
+    alloc: Global,
+    scope: &Scope,
+    tree: &Node,
+    goals: &[Sequent],
+) -> Result<Sequents, Refused>
+    ensures { (f : Tree → Stepping) → AreRules scope.now f → Answers (on_each (f tree.now) goals.now) result }
+{
+    let mut left = Items::new(alloc);
+    for goal in goals {
+        let more = rule(alloc, scope, tree, goal)?;
+        left.append(more)?;
+    }
+    Ok(left)
+}
+
+/// `done` on each goal.
+fn done(alloc: Global, scope: &Scope, place: Place, goals: &[Sequent]) -> Result<Sequents, Refused>
+    ensures { (f : Tree → Stepping) → AreRules scope.now f → Answers (on_each (f (done_at place)) goals.now) result }
+{
+    let step = done_at(alloc, place)?;
+    rule_on_each(alloc, scope, &step, goals)
 }
 
 /// A goal alone.
@@ -282,12 +321,32 @@ fn stepped_by(
             [count, step] => times(alloc, scope, step, count, only(alloc, goal)?),
             _ => Err(not_built(place)),
         },
+        Head::By => match parts {
+            [step] => by(alloc, scope, step, place, goal),
+            _ => Err(not_built(place)),
+        },
         Head::Rule => with_patterns(alloc, scope, parts, place, goal),
         Head::NoIntroduction => Ok(only(alloc, goal)?),
         Head::Introduction => introduced(alloc, scope, parts, goal),
         Head::Move => introduced(alloc, scope, parts, goal),
         _ => Err(not_built(place)),
     }
+}
+
+/// A step that leaves no goals, once `done` works on those that it leaves.
+#[cycle(tactic)]
+fn by(
+    alloc: Global,
+    scope: &Scope,
+    step: &Node,
+    place: Place,
+    goal: &Sequent,
+) -> Result<Sequents, Refused>
+    ensures { (f : Tree → Stepping) → AreRules scope.now f → Answers (works f step.now (goal.now ∷ []) and_then on_each (f (done_at place))) result }
+{
+    let one = only(alloc, goal)?;
+    let left = work(alloc, scope, step, one.as_slice())?;
+    done(alloc, scope, place, left.as_slice())
 }
 
 /// A rule, and then the patterns behind it.

@@ -1,6 +1,6 @@
 -- What a proof step with its combinators makes of goals. A step works on one goal, of which some goals are left, or none. On several
 -- goals it works on one after another, and the first refusal stands.
-use Rattle.std.specs.Prelude.{ℕ, zero, suc, ◌==◌, ◌&&◌, nat_le, if◌then◌else◌, List, [], ◌∷◌, ◌++◌, length, map}
+use Rattle.std.specs.Prelude.{ℕ, zero, suc, ◌==◌, ◌&&◌, nat_le, if◌then◌else◌, List, [], ◌∷◌, ◌++◌, length, map, codes}
 use Rattle.std.specs.List.{zip}
 use Rattle.gb_core.specs.declared.place.Place.{Place}
 use Rattle.gb_core.specs.declared.refusal.Why.TheVariants.{Argument}
@@ -89,14 +89,19 @@ abbrev pub ruled : (Node → Stepping) → Head → Node × Working → Stepping
 ruled f head.Move r q = r.1 (q ∷ [])
 ruled f h r q = f r.0 q
 
+-- `done`, as it is written
+abbrev pub done_at : Place → Node
+done_at place = node head.PlainStep (codes "done") [] place
+
 -- What a step of this head, these parts and this place makes of a goal, where it is known what its rules make of goals, and its
--- parts. A leading sign is passed over. `by` isn't built, and falls under the last clause.
+-- parts. A leading sign is passed over.
 abbrev pub stepped_by : (Node → Stepping) → Head → List (Node × Working) → Place → Stepping
 stepped_by f head.Tactic ws place q = in_turn (map (λ x. x.1) ws) (q ∷ [])
 stepped_by f head.BothPatterns ws place q = in_turn (map (λ x. x.1) ws) (q ∷ [])
 stepped_by f head.Group (w ∷ []) place q = w.1 (q ∷ [])
 stepped_by f head.Try (w ∷ []) place q = or_left (w.1 (q ∷ [])) q
 stepped_by f head.Repeat (n ∷ w ∷ []) place q = times (number_of (text_of n.0)) (place_of n.0) w.1 (q ∷ [])
+stepped_by f head.By (w ∷ []) place q = w.1 (q ∷ []) >>= on_each (f (done_at place))
 stepped_by f head.Rule (r ∷ i ∷ []) place q = placed_at place (ruled f (head_of r.0) r q >>= i.1)
 stepped_by f head.NoIntroduction ws place q = given (q ∷ [])
 stepped_by f head.Introduction ws place q = introduced ws q

@@ -15,7 +15,7 @@ use Rattle.gb_names.proofs.Answers.{answers_as, fails_as, refuses_as}
 use Rattle.gb_names.proofs.Parts.{four, left, three, two}
 use Rattle.gb_operators.specs.Rules.{made}
 use Rattle.gb_elab.specs.Forms.{applied, bounded, contract, contracting, equivalence, from_right, function_typing, operation, typing, with_meanings}
-use Rattle.gb_elab.proofs.Arms.{name_is, path_is, number_is, unit_is, bracketed_is, sided_is, coin_is, function_is, typed_is, tuple_is, component_is, branches_is, get_is, set_is, product_is, uniform_is, apply_is, equalities_is, quantified_is, equiv_is, equivalence_is, hoare_is, phoare_is, bounded_is, bounded_is_by, lossless_is, contract_is, other_contract, other_form}
+use Rattle.gb_elab.proofs.Arms.{name_is, path_is, number_is, unit_is, bracketed_is, sided_is, coin_is, function_is, typed_is, tuple_is, component_is, branches_is, get_is, set_is, product_is, uniform_is, weights_is, apply_is, equalities_is, quantified_is, equiv_is, equivalence_is, hoare_is, phoare_is, bounded_is, bounded_is_by, lossless_is, contract_is, other_contract, other_form}
 use Rattle.gb_elab.proofs.Functions as functions
 use Rattle.gb_elab.proofs.Elaborated.{contract_of_is, elaborated_is, function_of_is}
 use Rattle.gb_elab.proofs.Applied.{by_name, by_path, rest_is, rest_most}
@@ -94,6 +94,10 @@ pub typing-returns-in-Uniform : goal.typing-returns-in-Uniform
 typing-returns-in-Uniform t c =
     answers_as _ _ c.uniform.result (uniform_is c.args.head c.args.text.now c.args.parts.now c.args.place (environment c.args.at.now) c.args.bound.now (option_copied c.args.want) c.in-Uniform.is) (c.uniform.ensures)
 
+pub typing-returns-in-Weights : goal.typing-returns-in-Weights
+typing-returns-in-Weights t c =
+    answers_as _ _ c.weights.result (weights_is c.args.head c.args.text.now c.args.parts.now c.args.place (environment c.args.at.now) c.args.bound.now (option_copied c.args.want) c.in-Weights.is) (c.weights.ensures)
+
 pub typing-returns-in-Apply : goal.typing-returns-in-Apply
 typing-returns-in-Apply t c =
     answers_as _ _ c.applied_form.result (apply_is c.args.head c.args.text.now c.args.parts.now c.args.place (environment c.args.at.now) c.args.bound.now (option_copied c.args.want) c.in-Apply.is) (c.applied_form.ensures)
@@ -130,7 +134,7 @@ pub typing-returns-in_default : goal.typing-returns-in_default
 typing-returns-in_default t c =
     let n = c.in_default in
     answers_as _ _ c.operation.result
-    (other_form c.args.head c.args.text.now (with_meanings c.args.parts.now) c.args.place (environment c.args.at.now) c.args.bound.now (option_copied c.args.want) n.not-Name n.not-Path n.not-Number n.not-Unit n.not-Bracketed n.not-Sided n.not-Coin n.not-Function n.not-TypedFunction n.not-Typed n.not-Tuple n.not-Component n.not-Conditional n.not-Chosen n.not-Get n.not-Set n.not-PowerProduct n.not-Uniform n.not-Apply n.not-Equalities n.not-Quantified n.not-Equiv n.not-Hoare n.not-Phoare n.not-Bounded n.not-Lossless
+    (other_form c.args.head c.args.text.now (with_meanings c.args.parts.now) c.args.place (environment c.args.at.now) c.args.bound.now (option_copied c.args.want) n.not-Name n.not-Path n.not-Number n.not-Unit n.not-Bracketed n.not-Sided n.not-Coin n.not-Function n.not-TypedFunction n.not-Typed n.not-Tuple n.not-Component n.not-Conditional n.not-Chosen n.not-Get n.not-Set n.not-PowerProduct n.not-Uniform n.not-Weights n.not-Apply n.not-Equalities n.not-Quantified n.not-Equiv n.not-Hoare n.not-Phoare n.not-Bounded n.not-Lossless
     ∙ ap (λ o. operation o (with_meanings c.args.parts.now) c.args.place (environment c.args.at.now) c.args.bound.now (option_copied c.args.want)) (sym c.operator_of.ensures))
     c.operation.ensures
 

@@ -1,13 +1,14 @@
 use Rattle.std.proofs.Common.{true, false, ◌∷◌, map, reverse, refl, sym, ap, ◌∙◌, arith, rules}
 use Rattle.gb_terms.specs.declared.term.Head.TheVariants as head
 use Rattle.gb_core.specs.declared.value.Value.TheVariants.{Num}
+use Rattle.gb_meaning.specs.Distributions.{stated}
 use Rattle.gb_eval.specs.Findings.{◌>>=◌, fraction_in, shown, shown_table, Stops}
 use Rattle.gb_eval.specs.Findings.Finding.{value}
 use Rattle.gb_eval.specs.Findings.Comes.{found}
-use Rattle.gb_eval.specs.Eval.{eval, narrowed, next_sum, part_of, quantified, summed, truth_at, value_bound, weighed}
+use Rattle.gb_eval.specs.Eval.{eval, image_of, narrowed, next_sum, part_of, quantified, summed, truth_at, value_bound, weighed, weighted}
 use Rattle.gb_eval.proofs.Layers.{eval_at, eval_other}
 use Rattle.gb_eval.proofs.Stops.{gives_as, stops_as}
-use Rattle.gb_eval.proofs.Places.{beq_same, measured_by, operated_many, operated_three, quantified_decided, quantified_stops, restricted_by, summed_stops, summed_whole}
+use Rattle.gb_eval.proofs.Places.{beq_same, mapped_by, measured_by, operated_many, operated_three, quantified_decided, quantified_stops, restricted_by, summed_stops, summed_whole}
 use Rattle.gb_eval.proofs.eval.+eval.Goals as goal
 
 pub eval-returns-in_ok-value-in-Lit-clause-found : goal.eval-returns-in_ok-value-in-Lit-clause-found
@@ -65,6 +66,19 @@ eval-returns-in-Restrict-clause-found t c =
     (eval_at c.args.reads.now c.args.t.now c.get.result.now c.as_slice-args.result.now _ (reverse c.args.bound.now) c.get.ensures c.as_slice-args.ensures refl head.Restrict c.in-Restrict.is)
     c.restriction.ensures.found
 
+pub eval-returns-in-Map-clause-found : goal.eval-returns-in-Map-clause-found
+eval-returns-in-Map-clause-found t c =
+    gives_as shown _ _ c.image.result
+    (eval_at c.args.reads.now c.args.t.now c.get.result.now c.as_slice-args.result.now _ (reverse c.args.bound.now) c.get.ensures c.as_slice-args.ensures refl head.Map c.in-Map.is)
+    c.image.ensures.found
+
+pub eval-returns-in-Weights-clause-found : goal.eval-returns-in-Weights-clause-found
+eval-returns-in-Weights-clause-found t c =
+    gives_as shown _ _ c.weighted.result
+    (eval_at c.args.reads.now c.args.t.now c.get.result.now c.as_slice-args.result.now _ (reverse c.args.bound.now) c.get.ensures c.as_slice-args.ensures refl (head.Weights c.in-Weights.pairs) c.in-Weights.is
+    ∙ ap (λ ps. weighted (stated ps)) (sym c.as_slice-in-Weights.ensures))
+    c.weighted.ensures
+
 pub eval-returns-in-Sum-clause-found : goal.eval-returns-in-Sum-clause-found
 eval-returns-in-Sum-clause-found t c =
     gives_as shown _ _ c.sum.result
@@ -74,7 +88,7 @@ eval-returns-in-Sum-clause-found t c =
 pub eval-returns-in_default : goal.eval-returns-in_default
 eval-returns-in_default t c =
     record {
-      found = eval_other c.args.reads.now c.args.t.now c.get.result.now c.as_slice-args.result.now _ (reverse c.args.bound.now) c.get.ensures c.as_slice-args.ensures refl c.in_default.not-Lit c.in_default.not-Whole c.in_default.not-Read c.in_default.not-Bound c.in_default.not-Builtin c.in_default.not-All c.in_default.not-Some c.in_default.not-Mu c.in_default.not-Sum c.in_default.not-Restrict;
+      found = eval_other c.args.reads.now c.args.t.now c.get.result.now c.as_slice-args.result.now _ (reverse c.args.bound.now) c.get.ensures c.as_slice-args.ensures refl c.in_default.not-Lit c.in_default.not-Whole c.in_default.not-Read c.in_default.not-Bound c.in_default.not-Builtin c.in_default.not-All c.in_default.not-Some c.in_default.not-Mu c.in_default.not-Sum c.in_default.not-Restrict c.in_default.not-Map c.in_default.not-Weights;
       bound = tt;
     }
 
@@ -131,8 +145,15 @@ restriction-returns-clause-found t c =
     ∙ ap (λ vs. narrowed (part_of c.args.reads.now c.body-item.result) (shown_table c.in_ok-table.table) (reverse vs)) (sym c.in_ok-table.ensures.bound))
     c.narrowed.ensures.found
 
+pub image-returns-clause-found : goal.image-returns-clause-found
+image-returns-clause-found t c =
+    gives_as shown _ _ c.image_of.result
+    (mapped_by (part_of c.args.reads.now) c.args.args.now c.d-item.result c.body-item.result (reverse c.args.bound.now) (shown_table c.in_ok-table.table) c.in-len2.len_at_least c.in-len2.len_below c.d-item.is c.body-item.is c.in_ok-table.ensures.found
+    ∙ ap (λ vs. image_of (part_of c.args.reads.now c.body-item.result) (shown_table c.in_ok-table.table) (reverse vs)) (sym c.in_ok-table.ensures.bound))
+    c.image_of.ensures.found
+
 pub operator-returns-in-len3-clause-found : goal.operator-returns-in-len3-clause-found
 operator-returns-in-len3-clause-found t c =
-    gives_as shown _ _ c.conditional.result
+    gives_as shown _ _ c.ternary.result
     (operated_three c.args.op c.args.ty.now (part_of c.args.reads.now) c.args.args.now (reverse c.args.bound.now) c.is_tuple.result c.is_tuple.ensures c.if-is_tuple.false c.in-len3.len_at_least c.in-len3.len_below)
-    c.conditional.ensures.found
+    c.ternary.ensures.found

@@ -32,6 +32,13 @@ invariant-event-loop-row l = record {
       ≡ collected [] (map (λ v. truth_under (part_of l.reads l.body) (v ∷ reverse l.initial.bound)) (outcomes (entries l.rows)));
 }
 
+abbrev pub invariant-images-loop-row : goal.invariant-images-loop-row
+invariant-images-loop-row l = record {
+  bound : l.bound ≡ l.initial.bound;
+  images : collected l.out (map (λ v. eval l.reads l.body (v ∷ reverse l.initial.bound) >>= value_in) (outcomes (entries (drop l.row-index l.rows))))
+      ≡ collected [] (map (λ v. eval l.reads l.body (v ∷ reverse l.initial.bound) >>= value_in) (outcomes (entries l.rows)));
+}
+
 abbrev pub invariant-sum-loop-at : goal.invariant-sum-loop-at
 invariant-sum-loop-at l = record {
   bound : l.bound ≡ l.initial.bound;

@@ -1,7 +1,8 @@
-use Rattle.std.proofs.Common.{map, refl}
+use Rattle.std.proofs.Common.{map, refl, sym, ap, ◌∙◌}
+use Rattle.gb_meaning.specs.Distributions.{stated}
 use Rattle.gb_terms.specs.declared.term.Head.TheVariants as head
-use Rattle.gb_eval.specs.Totals.{total_of}
-use Rattle.gb_eval.proofs.Layers.{total_at, total_other, uniform_total}
+use Rattle.gb_eval.specs.Totals.{total_of, weights_total}
+use Rattle.gb_eval.proofs.Layers.{total_at, total_first, total_other, uniform_total}
 use Rattle.gb_eval.proofs.Stops.{gives_as}
 use Rattle.gb_eval.proofs.total.+total.Goals as goal
 
@@ -15,12 +16,19 @@ total-returns-in-Builtin-clause-value t c =
     (total_at c.args.t.now c.get.result.now c.as_slice-args.result.now c.get-in-Builtin.result.now c.get.ensures c.as_slice-args.ensures c.get-in-Builtin.ensures (head.Builtin c.in-Builtin.op) c.in-Builtin.is)
     c.operator_total.ensures.value
 
-pub total-returns-in-Restrict-clause-value : goal.total-returns-in-Restrict-clause-value
-total-returns-in-Restrict-clause-value t c =
+pub total-returns-in-Map-clause-value : goal.total-returns-in-Map-clause-value
+total-returns-in-Map-clause-value t c =
     gives_as (λ x. x) _ _ c.of_first.result
-    (total_at c.args.t.now c.get.result.now c.as_slice-args.result.now _ c.get.ensures c.as_slice-args.ensures refl head.Restrict c.in-Restrict.is)
+    (total_first c.args.t.now c.get.result.now c.as_slice-args.result.now _ c.get.ensures c.as_slice-args.ensures refl c.in-Map.is)
     c.of_first.ensures.value
+
+pub total-returns-in-Weights-clause-value : goal.total-returns-in-Weights-clause-value
+total-returns-in-Weights-clause-value t c =
+    gives_as (λ x. x) _ _ c.weights_total.result
+    (total_at c.args.t.now c.get.result.now c.as_slice-args.result.now _ c.get.ensures c.as_slice-args.ensures refl (head.Weights c.in-Weights.pairs) c.in-Weights.is
+    ∙ ap (λ ps. weights_total (stated ps)) (sym c.as_slice.ensures))
+    c.weights_total.ensures.value
 
 pub total-returns-in_default : goal.total-returns-in_default
 total-returns-in_default t c =
-    record { value = total_other c.args.t.now c.get.result.now c.as_slice-args.result.now _ c.get.ensures c.as_slice-args.ensures refl c.in_default.not-Builtin c.in_default.not-Restrict; above = tt; small = tt }
+    record { value = total_other c.args.t.now c.get.result.now c.as_slice-args.result.now _ c.get.ensures c.as_slice-args.ensures refl c.in_default.not-Builtin c.in_default.not-Restrict c.in_default.not-Map c.in_default.not-Weights; above = tt; small = tt }

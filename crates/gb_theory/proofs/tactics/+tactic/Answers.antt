@@ -1,15 +1,15 @@
 -- What a node makes of goals is what its head and its parts make of them.
-use Rattle.std.proofs.Common.{◌≡◌, ◌+◌, ◌<◌, drop, map, ap, sym, ◌∙◌, subst, arith}
+use Rattle.std.proofs.Common.{◌≡◌, ◌+◌, ◌<◌, [], ◌∷◌, drop, map, ap, sym, ◌∙◌, subst, arith}
 use Rattle.std.proofs.lemmas.Result.{err_from_is_err_and}
 use Rattle.std.specs.Prelude.{Err}
-use Rattle.gb_goal.specs.Answers.{Answers, Fails, placed_at}
+use Rattle.gb_goal.specs.Answers.{Answers, ◌>>=◌, Fails, placed_at}
 use Rattle.gb_goal.specs.Answers.Answer.{given}
 use Rattle.gb_limits.specs.Numbers.{number_of}
 use Rattle.gb_script.specs.declared.head.Head.TheVariants as head
 use Rattle.gb_script.specs.Tree.{head_of, text_of, place_of}
 use Rattle.gb_names.proofs.Answers.{answers_as, fails_as, leads_on, passes}
 use Rattle.gb_names.proofs.Parts.{left, two}
-use Rattle.gb_verdict.specs.Tactics.{fitted, gathered_behind, in_turn, inside, introduced, on_each, ruled, spread, stepped_by, times, worked, works}
+use Rattle.gb_verdict.specs.Tactics.{done_at, fitted, gathered_behind, in_turn, inside, introduced, on_each, ruled, spread, stepped_by, times, worked, works}
 use Rattle.gb_theory.specs.Tactics.{each_works, with_works, fits, inner}
 use Rattle.gb_theory.proofs.Combined.{pattern_is, no_pattern_is, rules_alone, tactic_is, both_is, either_is, repeat_is, rule_is, introduced_is, introduced_fails, branches_is, step_is, next_given, next_fails, one_each, pair_given, pair_fails, spread_is, spread_ends, round_given, round_fails, times_is}
 use Rattle.gb_theory.proofs.tactics.+tactic.Goals as goal
@@ -79,6 +79,25 @@ stepped_by-returns-in_ok-only-in-BothPatterns t c = λ f rules.
     (both_is f c.args.head c.args.parts.now c.args.place c.args.goal.now c.in-BothPatterns.is
     ∙ ap (λ qs. in_turn (each_works f c.args.parts.now) qs) (sym c.in_ok-only-in-BothPatterns.ensures))
     (c.in_turn-in-BothPatterns.ensures f rules)
+
+pub by-returns : goal.by-returns
+by-returns t c = λ f rules.
+    let n = c.args.step.now in
+    let done = on_each (f (done_at c.args.place)) in
+    let one = c.as_slice.ensures ∙ c.in_ok-one.ensures in
+    answers_as _ _ c.done.result
+    (leads_on (works f n (c.args.goal.now ∷ [])) done c.in_ok-left.left (subst (λ gs. works f n gs ≡ given c.in_ok-left.left) one (c.in_ok-left.ensures f rules))
+    ∙ ap done (sym c.as_slice-2.ensures))
+    (c.done.ensures f rules)
+
+pub by-returns-in_err-left : goal.by-returns-in_err-left
+by-returns-in_err-left t c = λ f rules.
+    let n = c.args.step.now in
+    let done = on_each (f (done_at c.args.place)) in
+    let e = err_from_is_err_and c.from_residual-in_err-left.result c.from_residual-in_err-left.ensures.1 in
+    let one = c.as_slice.ensures ∙ c.in_ok-one.ensures in
+    subst (Answers (works f n (c.args.goal.now ∷ []) >>= done)) (sym (e.1 ∙ ap Err e.2))
+    (passes (works f n (c.args.goal.now ∷ [])) done c.in_err-left.field-0.0 (subst (λ gs. Fails (works f n gs) c.in_err-left.field-0.0) one (c.in_err-left.ensures f rules)))
 
 pub fit-returns-in_err-goals : goal.fit-returns-in_err-goals
 fit-returns-in_err-goals t c = λ f rules.

@@ -1,0 +1,4 @@
+//! Maps as lists of entries.
+#![tactic(auto)]
+
+pub mod entries;

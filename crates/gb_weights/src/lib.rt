@@ -1,0 +1,4 @@
+//! Distributions of stated weights.
+#![tactic(auto)]
+
+pub mod weights;
