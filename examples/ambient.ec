@@ -41,3 +41,11 @@ proof.
 move=> x.
 by exists (!x).         (* what is left, !x <=> !x, is closed *)
 qed.
+
+lemma used : forall (p : bool), (forall (b c : bool), b = c => p) => p.
+proof.
+move=> p h.
+have k := h true.       (* what a hypothesis says of a value is a hypothesis *)
+apply (k true).         (* it says the conclusion, under a premise *)
+smt().
+qed.

@@ -19,7 +19,9 @@ use Rattle.gb_goal.specs.declared.scope.Entry.TheVariants as entry
 use Rattle.gb_goal.specs.declared.sequent.Sequent.{Sequent}
 use Rattle.gb_steps.specs.declared.step.AmbientRule.{AmbientRule}
 use Rattle.gb_steps.specs.declared.step.Rule.{Rule}
-use Rattle.gb_steps.specs.declared.step.Rule.TheVariants.{Ambient}
+use Rattle.gb_steps.specs.declared.step.Rule.TheVariants.{Ambient, Use}
+use Rattle.gb_steps.specs.declared.step.Multiple.{Multiple}
+use Rattle.gb_steps.specs.declared.step.UseRule.{UseRule}
 use Rattle.gb_steps.specs.declared.step.Step.{Step}
 use Rattle.gb_meaning.specs.Names.{Name}
 use Rattle.gb_meaning.specs.Written.{type_of}
@@ -30,11 +32,14 @@ use Rattle.gb_typing.specs.Context.{Context}
 use Rattle.gb_typing.specs.Sequents.{IsConclusion, of_sequent, IsTypedSequent}
 use Rattle.gb_typing.specs.Scopes.{context_of, is_declared, IsTypedScope}
 use Rattle.gb_rules.specs.Typing.{IsGoalOver, IsTypedGoal}
-use Rattle.gb_rules.specs.Rules.{outermost, IsSoundAt, IsSoundIn, IsSoundRule, IsSoundRuleIn}
+use Rattle.gb_rules.specs.Rules.{no_arguments, outermost, IsSoundAt, IsSoundIn, IsSoundRule, IsSoundRuleIn}
 use Rattle.gb_bodies.specs.Rows as bodies
 use Rattle.gb_equiv.specs.Rows as equiv
 use Rattle.gb_equiv.specs.Rows.{IsTypedRule}
+use Rattle.gb_phoare.specs.Rows as chance_rows
 use Rattle.gb_amb.specs.Steps.{IsAnswer, IsTypedStep, LeadTo}
+use Rattle.gb_linear.specs.Closing.{linear_answer}
+use Rattle.gb_use.specs.Uses as uses
 use Rattle.gb_smt.specs.Leaves.{leaves_of}
 use Rattle.gb_smt.specs.Apply.{IsClosed}
 use Rattle.gb_elab_prog.specs.Entries.{entries_given}
@@ -66,6 +71,8 @@ pub record OfTyping : Type 0 where
       (ls rs : List TypedName) → IsGoalOver (around ds q t) ls rs (goal_of q.conclusion) → bodies.IsTypedRule (around ds q t) s.rule ls rs (goal_of q.conclusion)
   pub conclusion : (ds : scope.Declarations) → IsTyped ds → (q : Sequent) (t : IsTypedGoalOf ds q) (n : Node) (s : Step) → step_given ds q n ≡ given s →
       (r : AmbientRule) → s.rule ≡ Ambient r → IsTypedStep (around ds q t) q.conclusion r
+  pub used : (ds : scope.Declarations) → IsTyped ds → (q : Sequent) (t : IsTypedGoalOf ds q) (n : Node) (s : Step) → step_given ds q n ≡ given s →
+      (r : UseRule) → s.rule ≡ Use r → uses.IsTypedStep q (around ds q t) r
   pub rule : (ds : scope.Declarations) → IsTyped ds → (q : Sequent) (t : IsTypedGoalOf ds q) (n : Node) (s : Step) → step_given ds q n ≡ given s →
       (ls rs : List TypedName) → IsGoalOver (around ds q t) ls rs (goal_of q.conclusion) → IsTypedRule (around ds q t) s.rule ls rs (goal_of q.conclusion)
 
@@ -84,9 +91,16 @@ pub record OfRules : Type 0 where
   pub bodies_refuse : (ds : scope.Declarations) (r : Rule) (f : Term) → bodies.rule_row ds r (ambient f) ≡ refusing Shape
   pub equiv_refuses : (r : Rule) (f : Term) → equiv.rule_row r (ambient f) ≡ refusing Shape
   pub relational : (c : Context) (r : Rule) → IsSoundRule c (equiv.rule_row r) (IsTypedRule c r)
+  pub chances : (ds : scope.Declarations) → IsTyped ds → (q : Sequent) (t : IsTypedGoalOf ds q) (r : Rule) →
+      IsSoundRuleIn (declared ds) (around ds q t) (chance_rows.rule_row ds r) no_arguments
+  pub chances_refuse : (ds : scope.Declarations) (r : Rule) (f : Term) → chance_rows.rule_row ds r (ambient f) ≡ refusing Shape
   pub on_conclusions : (ds : Declarations) → IsTypedScope ds → (q : Sequent) (t : IsTypedSequent (context_of ds) q) → (r : AmbientRule) →
       IsTypedStep (of_sequent (context_of ds) q t.frames) q.conclusion r → (place : Place) (qs : List Sequent) → IsAnswer r place q (given qs) → LeadTo ds q qs
+  pub on_uses : (ds : Declarations) → IsTypedScope ds → (q : Sequent) (t : IsTypedSequent (context_of ds) q) → (r : UseRule) →
+      uses.IsTypedStep q (of_sequent (context_of ds) q t.frames) r → (place : Place) (qs : List Sequent) → uses.IsAnswer r place q (given qs) → LeadTo ds q qs
   pub smt : (ds : Declarations) → IsTypedScope ds → (q : Sequent) → IsTypedSequent (context_of ds) q → All IsClosed (leaves_of q) → Holds ds q
+  pub linear : (ds : Declarations) → IsTypedScope ds → (q : Sequent) → IsTypedSequent (context_of ds) q → (ms : List Multiple) (place : Place) (qs : List Sequent) →
+      linear_answer ms place q ≡ given qs → AllByRecursion (IsTypedSequent (context_of ds)) qs × (AllByRecursion (Holds ds) qs → Holds ds q)
 
 -- Typed scopes have models, and equivalences give couplings.
 pub record OfModels : Type 0 where

@@ -37,7 +37,7 @@ rule_leads o ds scope t q typed rs h =
     let b = given_bind a.2.0 (allowed a.0.place) rs (sym a.2.2) in
     let c = given_bind (within (each_limit b.0) a.0.place) (λ _. given b.0) rs b.2 in
     let applied : Applied ds a.0.rule a.0.place q (given b.0) = subst (Applied ds a.0.rule a.0.place q) b.1 a.2.1 in
-    let k = applied_lead o ds scope q typed a.0.rule a.0.place b.0 (λ ls rs w. (o.typing.body_rule ds scope q typed t a.0 a.1 ls rs w, o.typing.rule ds scope q typed t a.0 a.1 ls rs w)) (o.typing.conclusion ds scope q typed t a.0 a.1) applied in
+    let k = applied_lead o ds scope q typed a.0.rule a.0.place b.0 (λ ls rs w. (o.typing.body_rule ds scope q typed t a.0 a.1 ls rs w, o.typing.rule ds scope q typed t a.0 a.1 ls rs w)) (o.typing.conclusion ds scope q typed t a.0 a.1) (o.typing.used ds scope q typed t a.0 a.1) applied in
     subst (LeadIn ds (q ∷ [])) (given_is b.0 rs c.2) (record { typed = k.typed; leads = λ h. (k.leads h, tt) })
 
 continued_keeps : (s : Session) (p : OpenProof) (q : Sequent) (rest qs : List Sequent) (place : Place) (next : Session) → IsGood s → IsGoodProof s.scope p →

@@ -13,8 +13,10 @@ use Rattle.gb_goal.specs.Rows.{Row, refusing, each_concluding, answered, stepped
 use Rattle.gb_goal.specs.Scope.{Declarations}
 use Rattle.gb_goal.specs.declared.sequent.Sequent.{Sequent}
 use Rattle.gb_steps.specs.declared.step.AmbientRule.{AmbientRule}
+use Rattle.gb_steps.specs.declared.step.UseRule.{UseRule}
 use Rattle.gb_steps.specs.declared.step.Rule.{Rule}
 use Rattle.gb_steps.specs.declared.step.Rule.TheVariants as rule
+use Rattle.gb_steps.specs.declared.step.Multiple.{Multiple}
 use Rattle.gb_holds.specs.Declared.{declared}
 use Rattle.gb_holds.specs.Holds.{Holds}
 use Rattle.gb_holds.specs.Truth.{has_module}
@@ -25,6 +27,8 @@ use Rattle.gb_rules.specs.Rules.{IsSoundIn}
 use Rattle.gb_bodies.specs.Rows as bodies
 use Rattle.gb_equiv.specs.Rows.{IsTypedRule}
 use Rattle.gb_amb.specs.Steps.{IsTypedStep}
+use Rattle.gb_linear.specs.Closing.{linear_answer}
+use Rattle.gb_use.specs.Uses as uses
 use Rattle.gb_smt.specs.Leaves.{leaves_of}
 use Rattle.gb_smt.specs.Apply.{IsAnswerOf}
 use Rattle.gb_elab_laws.proofs.Given.{given_is}
@@ -47,6 +51,10 @@ IsTypedAt ds q t r =
 abbrev pub HasTypedForms : (ds : Declarations) (q : Sequent) → IsTypedGoalOf ds q → Rule → Type 0
 HasTypedForms ds q t r = (a : AmbientRule) → r ≡ rule.Ambient a → IsTypedStep (around ds q t) q.conclusion a
 
+-- a rule that uses what a hypothesis of a goal says of typed terms
+abbrev pub UsesHypotheses : (ds : Declarations) (q : Sequent) → IsTypedGoalOf ds q → Rule → Type 0
+UsesHypotheses ds q t r = (a : UseRule) → r ≡ rule.Use a → uses.IsTypedStep q (around ds q t) a
+
 -- a row that refuses gives nothing
 none_given : (row : Row) (q : Sequent) (qs : List Sequent) (G : Goal) → goal_of q.conclusion ≡ G → row G ≡ refusing Shape → {X : Type 0} → answered row q ≡ given qs → X
 none_given row q qs G is refuses e = nothing_given _ _ qs (sym (ap (each_concluding q) (ap row is ∙ refuses)) ∙ e)
@@ -56,8 +64,11 @@ module _ (g : Grounds) (ds : Declarations) (scope : IsTyped ds) (q : Sequent) (t
   ambient_refused : (r : Rule) (f : Term) → row_of ds r (ambient f) ≡ refusing Shape
   ambient_refused (rule.OnBodies r) f = g.rules.bodies_refuse ds (rule.OnBodies r) f
   ambient_refused (rule.Relational r) f = g.rules.equiv_refuses (rule.Relational r) f
+  ambient_refused (rule.Chance r) f = g.rules.chances_refuse ds (rule.Chance r) f
   ambient_refused rule.Smt f = refl
+  ambient_refused (rule.Linear ms) f = refl
   ambient_refused (rule.Ambient r) f = refl
+  ambient_refused (rule.Use r) f = refl
 
   -- a rule with a law
   by_law : (r : Rule) (place : Place) (qs : List Sequent) →
@@ -81,14 +92,22 @@ module _ (g : Grounds) (ds : Declarations) (scope : IsTyped ds) (q : Sequent) (t
       subst (LeadTo ds q) none (record { typed = tt; leads = λ h. g.rules.smt (declared ds) scope q t a })
   of_smt place qs (Some why) a e = nothing_given _ _ qs (sym e)
 
-  pub applied_lead : (r : Rule) (place : Place) (qs : List Sequent) → IsTypedAt ds q t r → HasTypedForms ds q t r → Applied ds r place q (given qs) → LeadTo ds q qs
-  applied_lead rule.Smt place qs typed forms a = of_smt place qs a.0 a.1 a.2
-  applied_lead (rule.OnBodies r) place qs typed forms a =
+  of_linear : (ms : List Multiple) (place : Place) (qs : List Sequent) → linear_answer ms place q ≡ given qs → LeadTo ds q qs
+  of_linear ms place qs e = let k = g.rules.linear (declared ds) scope q t ms place qs e in record { typed = k.0; leads = k.1 }
+
+  pub applied_lead : (r : Rule) (place : Place) (qs : List Sequent) → IsTypedAt ds q t r → HasTypedForms ds q t r → UsesHypotheses ds q t r → Applied ds r place q (given qs) → LeadTo ds q qs
+  applied_lead rule.Smt place qs typed forms used a = of_smt place qs a.0 a.1 a.2
+  applied_lead (rule.Linear ms) place qs typed forms used a = of_linear ms place qs (sym a)
+  applied_lead (rule.OnBodies r) place qs typed forms used a =
       by_law (rule.OnBodies r) place qs
       (λ ls rs w. g.rules.on_bodies ds scope q t (rule.OnBodies r) (g.rules.outer (declared ds) q t.frames) ls rs (goal_of q.conclusion) w (typed ls rs w).0) (sym a)
-  applied_lead (rule.Relational r) place qs typed forms a =
+  applied_lead (rule.Relational r) place qs typed forms used a =
       by_law (rule.Relational r) place qs
       (λ ls rs w. g.rules.everywhere (declared ds) (around ds q t) (row_of ds (rule.Relational r)) (goal_of q.conclusion)
       (g.rules.relational (around ds q t) (rule.Relational r) (g.rules.outer (declared ds) q t.frames) ls rs (goal_of q.conclusion) w (typed ls rs w).1)) (sym a)
-  applied_lead (rule.Ambient r) place qs typed forms a =
+  applied_lead (rule.Chance r) place qs typed forms used a =
+      by_law (rule.Chance r) place qs (λ ls rs w. g.rules.chances ds scope q t (rule.Chance r) (g.rules.outer (declared ds) q t.frames) ls rs (goal_of q.conclusion) w tt) (sym a)
+  applied_lead (rule.Ambient r) place qs typed forms used a =
       let k = g.rules.on_conclusions (declared ds) scope q t r (forms r refl) place qs a in record { typed = k.typed; leads = k.leads }
+  applied_lead (rule.Use r) place qs typed forms used a =
+      let k = g.rules.on_uses (declared ds) scope q t r (used r refl) place qs a in record { typed = k.typed; leads = k.leads }

@@ -8,6 +8,7 @@ ghost use Rattle.gb_accepted.specs.Holding.{IsPromised};
 
 use gb_elab_laws::declaration_laws::{entries, lemmas, modules, statements};
 use gb_elab_laws::step_laws::{typed_forms, typed_rules};
+use gb_linear_laws::laws::linear_is_sound;
 use gb_models::promise_laws::{equivalences_give_couplings, typed_scopes_have_models};
 use gb_rules::goal_laws::{fronts, typing};
 use gb_rules::rule_laws::{contexts, declared_settings, sequents};
@@ -35,8 +36,12 @@ pub fn accepted_scripts()
     gb_bodies::laws::other_forms();
     gb_equiv::laws::relational_rules();
     gb_equiv::laws::other_goals();
+    gb_phoare::laws::chance_rules();
+    gb_phoare::laws::no_judgments();
     gb_amb::laws::steps();
+    gb_use::laws::sound_uses();
     sound_smt();
+    linear_is_sound();
     typed_scopes_have_models();
     equivalences_give_couplings();
 }

@@ -190,7 +190,7 @@ module _ (b : Context) (us : List Ty) (ns : List Frame) (e : Term) (w : IsTyped 
       stays = record { own = λ r q. q; sides = λ r q. q };
     }
 
-    body_typed : (f : Term) → IsForm inner f → IsForm c (term_changed f to_term)
+    pub body_typed : (f : Term) → IsForm inner f → IsForm c (term_changed f to_term)
     body_typed f z = form_moved b to_term _ _ ns ns (value u ∷ []) [] (None ∷ []) [] moves f z
 
     module _ (g : Setting) (fits : IsSettingOf c g) (j : Judge) (fair : IsFair g j) (fin : IsFinite (type_of e)) (s : State) (v : Value) (means : val g (speaking g j) e s ≡ finite v) where
@@ -214,7 +214,7 @@ module _ (b : Context) (us : List Ty) (ns : List Frame) (e : Term) (w : IsTyped 
       led binds_own k = ((λ x q m. ignores_own g fits j fair q m), tt)
       led binds_sides k = ((λ x q m n. ignores_sides g fits j fair q m n), tt)
 
-      body_means : (f : Term) → IsForm inner f → val g (speaking g j) (term_changed f to_term) s ≡ val g (speaking g j) f (under s (value_bound (finite v)))
+      pub body_means : (f : Term) → IsForm inner f → val g (speaking g j) (term_changed f to_term) s ≡ val g (speaking g j) f (under s (value_bound (finite v)))
       body_means f z =
           let fit = fits_within c g fits (value u) None in
           form_followed g j fair f (formed inner f z.typed) (sound_form g inner (procedures_sound inner g fit) f z.typed) to_term (uses_of inner) s (under s (value_bound (finite v)))

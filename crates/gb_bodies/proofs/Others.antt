@@ -2,11 +2,11 @@
 use Rattle.std.proofs.Common.{◌≡◌, refl}
 use Rattle.gb_core.specs.declared.refusal.Why.TheVariants.{Shape}
 use Rattle.gb_terms.specs.declared.term.Term.{Term}
-use Rattle.gb_steps.specs.declared.step.BodyRule.TheVariants.{Proc, Skip, Seq, If, Wp, Case, Unfit}
+use Rattle.gb_steps.specs.declared.step.BodyRule.TheVariants.{Proc, Skip, Seq, If, Wp, Case, Conseq, Unfit}
 use Rattle.gb_steps.specs.declared.step.Acts.TheVariants as on
 use Rattle.gb_steps.specs.declared.step.Cut.TheVariants.{One, Two}
 use Rattle.gb_steps.specs.declared.step.Rule.{Rule}
-use Rattle.gb_steps.specs.declared.step.Rule.TheVariants.{OnBodies, Relational, Ambient, Smt}
+use Rattle.gb_steps.specs.declared.step.Rule.TheVariants.{OnBodies, Relational, Ambient, Smt, Linear, Chance, Use}
 use Rattle.gb_goal.specs.Scope.{Declarations}
 use Rattle.gb_goal.specs.Goal.Goal.{ambient}
 use Rattle.gb_goal.specs.Rows.{refusing}
@@ -24,7 +24,11 @@ others_refused ds (OnBodies (Wp on.All)) f = refl
 others_refused ds (OnBodies (Wp on.Left)) f = refl
 others_refused ds (OnBodies (Wp on.Right)) f = refl
 others_refused ds (OnBodies (Case h)) f = refl
+others_refused ds (OnBodies (Conseq w)) f = refl
 others_refused ds (OnBodies Unfit) f = refl
 others_refused ds (Relational r) f = refl
 others_refused ds Smt f = refl
+others_refused ds (Linear ms) f = refl
 others_refused ds (Ambient r) f = refl
+others_refused ds (Chance r) f = refl
+others_refused ds (Use r) f = refl

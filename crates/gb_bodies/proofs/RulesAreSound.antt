@@ -3,7 +3,7 @@ use Rattle.gb_core.specs.declared.refusal.Why.TheVariants.{Shape}
 use Rattle.gb_goal.specs.declared.sequent.Sequent.{Sequent}
 use Rattle.gb_steps.specs.declared.step.BodyRule.TheVariants as on_bodies
 use Rattle.gb_steps.specs.declared.step.Rule.{Rule}
-use Rattle.gb_steps.specs.declared.step.Rule.TheVariants.{OnBodies, Relational, Ambient, Smt}
+use Rattle.gb_steps.specs.declared.step.Rule.TheVariants.{OnBodies, Relational, Ambient, Smt, Linear, Chance, Use}
 use Rattle.gb_goal.specs.Scope.{Declarations}
 use Rattle.gb_holds.specs.Declared.{declared}
 use Rattle.gb_typing.specs.Scopes.{context_of, IsTypedScope}
@@ -15,12 +15,14 @@ use Rattle.gb_holds.specs.Declared as holds
 use Rattle.gb_rules.specs.Rules.{IsSoundAt, IsSoundIn, IsSoundRuleIn}
 use Rattle.gb_rules.proofs.Given.{refused_given}
 use Rattle.gb_bodies.specs.Case.{case_row}
+use Rattle.gb_bodies.specs.Conseq.{conseq_row}
 use Rattle.gb_bodies.specs.If.{if_row}
 use Rattle.gb_bodies.specs.Rows.{rule_row, IsTypedRule}
 use Rattle.gb_bodies.specs.Seq.{seq_row}
 use Rattle.gb_bodies.specs.Skip.{skip_row}
 use Rattle.gb_bodies.specs.Wp.{wp_row}
 use Rattle.gb_bodies.proofs.CaseIsSound as of_case
+use Rattle.gb_bodies.proofs.ConseqIsSound as of_conseq
 use Rattle.gb_bodies.proofs.IfIsSound as of_if
 use Rattle.gb_bodies.proofs.ProcIsSound as of_proc
 use Rattle.gb_bodies.proofs.SeqIsSound as of_seq
@@ -42,7 +44,11 @@ module _ (ds : Declarations) (scoped : IsTypedScope (declared ds)) (q : Sequent)
   each_sound (OnBodies (on_bodies.If a)) outer ls rs G w y Gs e = anywhere (declared ds) c (if_row a) G (of_if.sound c a outer ls rs G w y) Gs e
   each_sound (OnBodies (on_bodies.Wp a)) outer ls rs G w y Gs e = anywhere (declared ds) c (wp_row a) G (of_wp.sound c a outer ls rs G w y) Gs e
   each_sound (OnBodies (on_bodies.Case f)) outer ls rs G w y Gs e = anywhere (declared ds) c (case_row f) G (of_case.sound c f outer ls rs G w y) Gs e
+  each_sound (OnBodies (on_bodies.Conseq n)) outer ls rs G w y Gs e = anywhere (declared ds) c (conseq_row n) G (of_conseq.sound c n outer ls rs G w y) Gs e
   each_sound (OnBodies on_bodies.Unfit) outer ls rs G w y Gs e = refused_given Shape Gs e
   each_sound (Relational r) outer ls rs G w y Gs e = refused_given Shape Gs e
   each_sound Smt outer ls rs G w y Gs e = refused_given Shape Gs e
+  each_sound (Linear ms) outer ls rs G w y Gs e = refused_given Shape Gs e
   each_sound (Ambient r) outer ls rs G w y Gs e = refused_given Shape Gs e
+  each_sound (Chance r) outer ls rs G w y Gs e = refused_given Shape Gs e
+  each_sound (Use r) outer ls rs G w y Gs e = refused_given Shape Gs e

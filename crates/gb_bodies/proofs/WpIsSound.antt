@@ -1,7 +1,7 @@
 -- `wp` is sound.
-use Rattle.std.proofs.Common.{◌≡◌, ℕ, zero, suc, ◌*◌, ◌==◌, Bool, pos, true, false, not, ◌&&◌, ◌||◌, if◌then◌else◌, List, [], ◌∷◌, ◌++◌, take, drop, Option, Some, None, refl, ap, sym, ◌∙◌, subst, arith}
+use Rattle.std.proofs.Common.{◌≡◌, ℕ, zero, suc, ◌<◌, ◌*◌, ◌==◌, nat_lt, Bool, pos, true, false, not, ◌&&◌, ◌||◌, if◌then◌else◌, List, [], ◌∷◌, ◌++◌, length, take, drop, Option, Some, None, refl, ap, sym, ◌∙◌, subst, arith}
 use Rattle.std.proofs.Math.Path.{fun_ext}
-use Rattle.std.proofs.lemmas.Bool.{false≢true}
+use Rattle.std.proofs.lemmas.Bool.{false≢true, ltb-true}
 use Rattle.std.specs.List.{AllByRecursion}
 use Rattle.gb_core.specs.declared.refusal.Why.TheVariants.{Shape, SideCondition}
 use Rattle.gb_core.specs.declared.ty.Ty.TheVariants as ty
@@ -19,7 +19,6 @@ use Rattle.gb_coupling.proofs.Basic.{coupling_dmap}
 use Rattle.gb_coupling.proofs.Entries.{Every-dmap}
 use Rattle.gb_coupling.proofs.Masses.{mass-dmap}
 use Rattle.gb_coupling.proofs.Monad.{bind-unit_right, dmap_by_bind}
-use Rattle.gb_walk.specs.Clash.{first_clash}
 use Rattle.gb_steps.specs.declared.step.Acts.{Acts}
 use Rattle.gb_steps.specs.declared.step.Acts.TheVariants as on
 use Rattle.gb_goal.specs.Answers.{Answer, ◌>>=◌}
@@ -27,7 +26,7 @@ use Rattle.gb_goal.specs.Answers.Answer.{given, refused}
 use Rattle.gb_goal.specs.Goal.{Goal}
 use Rattle.gb_goal.specs.Goal.Code.{body, procedure}
 use Rattle.gb_goal.specs.Goal.Goal.{hoare, phoare, equiv, ambient}
-use Rattle.gb_meaning.specs.Memory.{Memory, write, assigned}
+use Rattle.gb_meaning.specs.Memory.{Memory, assigned}
 use Rattle.gb_meaning.specs.Program.{Program}
 use Rattle.gb_meaning.specs.Program.Program.{done, assign, sample, branch, loop, call, ask}
 use Rattle.gb_meaning.specs.Commands.{program_of, statement, statements}
@@ -44,12 +43,10 @@ use Rattle.gb_typing.specs.Context.{Context, Frame, frame_of, reframed}
 use Rattle.gb_typing.specs.Typing.{IsForm}
 use Rattle.gb_typing.specs.Programs.{IsExpression, IsStatement, AreStatements, EachStatement}
 use Rattle.gb_typing.specs.Fits.{IsSettingOf, IsStateOf}
-use Rattle.gb_rules.specs.Forms.{located, replaced, implies_form, and_form, not_form}
+use Rattle.gb_rules.specs.Forms.{located, implies_form, and_form, not_form}
 use Rattle.gb_rules.specs.Meaning.{run, denominator, Stands}
 use Rattle.gb_rules.specs.Rules.{Implies, IsSoundRule, no_arguments}
 use Rattle.gb_rules.specs.Typing.{IsTypedGoal}
-use Rattle.gb_rules.proofs.Assigned.{replaced_typed, replaced_meaning}
-use Rattle.gb_rules.proofs.ClashFree.{one_clear}
 use Rattle.gb_rules.proofs.Forms.{and_typed, implies_typed, not_typed}
 use Rattle.gb_rules.proofs.Given.{AreSound, refused_at, refused_given, same_given, sound_given}
 use Rattle.gb_rules.proofs.Lists.{first_part, typed_drop}
@@ -57,8 +54,10 @@ use Rattle.gb_rules.proofs.Located.{test_typed as form_typed, located_value}
 use Rattle.gb_rules.proofs.Runs.{run_cut, denominator_cut}
 use Rattle.gb_prog.specs.Straight.{IsStraight, RowIsStraight, AreStraight, ended, after}
 use Rattle.gb_prog.proofs.Straight.{ended_then, straight_run, straight_denominator}
+use Rattle.gb_bodies.specs.Assigned.{assigned_form, clashing}
 use Rattle.gb_bodies.specs.OneBody.{OneBody}
 use Rattle.gb_bodies.specs.Wp.{is_straight, row_is_straight, are_straight, by_test, unless_clash, before, before_row, before_all, with_front, staying, front, ending, wp_row}
+use Rattle.gb_bodies.proofs.AssignedForms.{assigned_typed, assigned_meaning, put_read, put_twice}
 use mathlib.Core.Former.{Count}
 
 -- what is given after a step is given by the step and what follows
@@ -72,11 +71,12 @@ both_true : (a b : Bool) → (a && b) ≡ true → (a ≡ true) × (b ≡ true)
 both_true true b e = (refl, e)
 both_true false b e = absurd (false≢true e)
 
+few : (xs : List Var) → nat_lt (length xs) 9 ≡ true → length xs < 9
+few xs h = ltb-true (length xs) 9 h
+
 mutual
   straight_is : (i : Instr) → is_straight i ≡ true → IsStraight i
-  straight_is (Assign [] e) h = absurd (false≢true h)
-  straight_is (Assign (x ∷ []) e) h = tt
-  straight_is (Assign (x ∷ y ∷ xs) e) h = absurd (false≢true h)
+  straight_is (Assign xs e) h = tt
   straight_is (Sample x d) h = absurd (false≢true h)
   straight_is (Call' xs p n es) h = absurd (false≢true h)
   straight_is (If' e m a n b) h = let k = both_true (row_is_straight a) (row_is_straight b) h in (row_is a k.0, row_is b k.1)
@@ -123,20 +123,6 @@ row_program g (While' e v n a) r = refl
 
 -- The memory of a side, in a state in which it is put.
 
-put_twice : (s : State) (r : Side) → IsSide r → (m n : Memory) → with_side (with_side s r m) r n ≡ with_side s r n
-put_twice s side.Own i m n = refl
-put_twice s side.Left i m n = refl
-put_twice s side.Right i m n = refl
-put_twice s (side.Memory k) i m n = absurd i
-put_twice s (side.Bound k) i m n = absurd i
-
-put_read : (s : State) (r : Side) → IsSide r → (m : Memory) → memory_of (with_side s r m) r ≡ m
-put_read s side.Own i m = refl
-put_read s side.Left i m = refl
-put_read s side.Right i m = refl
-put_read s (side.Memory k) i m = absurd i
-put_read s (side.Bound k) i m = absurd i
-
 put_inside : (s : State) (r : Side) → IsSide r → (m n : Memory) → inside (with_side s r m) n ≡ inside s n
 put_inside s side.Own i m n = refl
 put_inside s side.Left i m n = refl
@@ -148,9 +134,9 @@ module _ (c : Context) (ls : List TypedName) (F L K : Frame) (r : Side) (side_is
   abbrev d : Context
   d = reframed c F L K
 
-  assign_typed : (x : Var) (e q w : Term) → IsStatement c ls (Assign (x ∷ []) e) → IsForm d q → (o : Option Var) → unless_clash o x (replaced r x e q) ≡ given w → IsForm d w
-  assign_typed x e q w k f None h = subst (IsForm d) (same_given _ w h) (replaced_typed c ls F L K r side_is frame x e k.0 k.1 q f)
-  assign_typed x e q w k f (Some y) h = refused_given (SideCondition x) w h
+  assign_typed : (xs : List Var) (e q w : Term) → IsStatement c ls (Assign xs e) → length xs < 9 → IsForm d q → (o : Option Var) → unless_clash o (assigned_form r xs e q) ≡ given w → IsForm d w
+  assign_typed xs e q w k l f None h = subst (IsForm d) (same_given _ w h) (assigned_typed c ls F L K r side_is frame xs e k.0 k.1 l q f)
+  assign_typed xs e q w k l f (Some y) h = refused_given (SideCondition y) w h
 
   test_typed : (e f h : Term) → IsExpression c ls e → type_of e ≡ ty.Bool → IsForm d f → IsForm d h → IsForm d (by_test (located r e) f h)
   test_typed e f h x b u v =
@@ -158,26 +144,31 @@ module _ (c : Context) (ls : List TypedName) (F L K : Frame) (r : Side) (side_is
       and_typed d (implies_form (located r e) f) (implies_form (not_form (located r e)) h) (implies_typed d (located r e) f t u) (implies_typed d (not_form (located r e)) h (not_typed d (located r e) t) v)
 
   mutual
-    before_typed : (i : Instr) → IsStatement c ls i → (q w : Term) → IsForm d q → before r i q ≡ given w → IsForm d w
-    before_typed (Assign [] e) k q w f h = refused_given Shape w h
-    before_typed (Assign (x ∷ []) e) k q w f h = assign_typed x e q w k f (first_clash r x q) h
-    before_typed (Assign (x ∷ y ∷ xs) e) k q w f h = refused_given Shape w h
-    before_typed (Sample x e) k q w f h = refused_given Shape w h
-    before_typed (Call' xs p n es) k q w f h = refused_given Shape w h
-    before_typed (If' e m a n b) k q w f h =
+    before_typed : (i : Instr) → IsStatement c ls i → (q w : Term) → IsForm d q → is_straight i ≡ true → before r i q ≡ given w → IsForm d w
+    before_typed (Assign xs e) k q w f l h = assign_typed xs e q w k (few xs l) f (clashing r xs q) h
+    before_typed (Sample x e) k q w f l h = refused_given Shape w h
+    before_typed (Call' xs p n es) k q w f l h = refused_given Shape w h
+    before_typed (If' e m a n b) k q w f l h =
+        let t = both_true (row_is_straight a) (row_is_straight b) l in
         let y = given_then (before_row r a q) (λ y. before_row r b q >>= λ z. given (by_test (located r e) y z)) w h in
         let z = given_then (before_row r b q) (λ z. given (by_test (located r e) y.0 z)) w y.2 in
         subst (IsForm d) (same_given (by_test (located r e) y.0 z.0) w z.2)
-        (test_typed e y.0 z.0 k.0.0 k.0.1 (row_typed a k.1 q y.0 f y.1) (row_typed b k.2 q z.0 f z.1))
-    before_typed (While' e v n a) k q w f h = refused_given Shape w h
+        (test_typed e y.0 z.0 k.0.0 k.0.1 (row_typed a k.1 q y.0 f t.0 y.1) (row_typed b k.2 q z.0 f t.1 z.1))
+    before_typed (While' e v n a) k q w f l h = refused_given Shape w h
 
-    row_typed : {n : Count} (is : Row_of-Instr n) → AreStatements c ls is → (q w : Term) → IsForm d q → before_row r is q ≡ given w → IsForm d w
-    row_typed end_of-Instr k q w f h = subst (IsForm d) (same_given q w h) f
-    row_typed (more_of-Instr i is) k q w f h = let y = given_then (before_row r is q) (before r i) w h in before_typed i k.0 y.0 w (row_typed is k.1 q y.0 f y.1) y.2
+    row_typed : {n : Count} (is : Row_of-Instr n) → AreStatements c ls is → (q w : Term) → IsForm d q → row_is_straight is ≡ true → before_row r is q ≡ given w → IsForm d w
+    row_typed end_of-Instr k q w f l h = subst (IsForm d) (same_given q w h) f
+    row_typed (more_of-Instr i is) k q w f l h =
+        let y = given_then (before_row r is q) (before r i) w h in
+        let t = both_true (is_straight i) (row_is_straight is) l in
+        before_typed i k.0 y.0 w (row_typed is k.1 q y.0 f t.1 y.1) t.0 y.2
 
-  all_typed : (is : List Instr) → EachStatement c ls is → (q w : Term) → IsForm d q → before_all r is q ≡ given w → IsForm d w
-  all_typed [] k q w f h = subst (IsForm d) (same_given q w h) f
-  all_typed (i ∷ is) k q w f h = let y = given_then (before_all r is q) (before r i) w h in before_typed i k.0 y.0 w (all_typed is k.1 q y.0 f y.1) y.2
+  all_typed : (is : List Instr) → EachStatement c ls is → (q w : Term) → IsForm d q → are_straight is ≡ true → before_all r is q ≡ given w → IsForm d w
+  all_typed [] k q w f l h = subst (IsForm d) (same_given q w h) f
+  all_typed (i ∷ is) k q w f l h =
+      let y = given_then (before_all r is q) (before r i) w h in
+      let t = both_true (is_straight i) (are_straight is) l in
+      before_typed i k.0 y.0 w (all_typed is k.1 q y.0 f t.1 y.1) t.0 y.2
 
   module _ (g : Setting) (fits : IsSettingOf c g) (j : Judge) (fair : IsFair g j) (s : State) (fit : IsStateOf c g s) where
     -- a form says in a memory what another one says in the memory that a program leads to
@@ -191,23 +182,22 @@ module _ (c : Context) (ls : List TypedName) (F L K : Frame) (r : Side) (side_is
     fit_put (side.Memory k) i m = absurd i
     fit_put (side.Bound k) i m = absurd i
 
-    -- after a write in a memory that is put
-    written_put : (x : Var) (e : Term) (m : Memory) →
-        with_side (with_side s r m) r (write g.types (memory_of (with_side s r m) r) x (valued g (with_side s r m) e (memory_of (with_side s r m) r)))
-        ≡ with_side s r (write g.types m x (valued g s e m))
-    written_put x e m =
+    -- after an assignment in a memory that is put
+    assigned_put : (xs : List Var) (e : Term) (m : Memory) →
+        with_side (with_side s r m) r (assigned g.types (memory_of (with_side s r m) r) xs (valued g (with_side s r m) e (memory_of (with_side s r m) r)))
+        ≡ with_side s r (assigned g.types m xs (valued g s e m))
+    assigned_put xs e m =
         put_twice s r side_is m _
-        ∙ (λ i. with_side s r (write g.types (put_read s r side_is m i) x (valued g (with_side s r m) e (put_read s r side_is m i))))
-        ∙ ap (λ z. with_side s r (write g.types m x z)) (ap (λ z. value_in (val g quiet e z)) (put_inside s r side_is m m))
+        ∙ (λ i. with_side s r (assigned g.types (put_read s r side_is m i) xs (valued g (with_side s r m) e (put_read s r side_is m i))))
+        ∙ ap (λ z. with_side s r (assigned g.types m xs z)) (ap (λ z. value_in (val g quiet e z)) (put_inside s r side_is m m))
 
-    assign_says : (x : Var) (e q w : Term) → IsStatement c ls (Assign (x ∷ []) e) → IsForm d q → (o : Option Var) → first_clash r x q ≡ o → unless_clash o x (replaced r x e q) ≡ given w →
-        Says w (statement g (Assign (x ∷ []) e) done) q
-    assign_says x e q w k f None o h m =
-        let y = one_clear d q f.typed r side_is x o in
-        ap (λ w. den g j w (with_side s r m)) (sym (same_given (replaced r x e q) w h))
-        ∙ replaced_meaning c ls F L K r side_is frame x e k.0 k.1 g fits j fair y.0 (y.2 g) q f y.1 (with_side s r m) (fit_put r side_is m)
-        ∙ ap (den g j q) (written_put x e m)
-    assign_says x e q w k f (Some y) o h m = refused_given (SideCondition x) w h
+    assign_says : (xs : List Var) (e q w : Term) → IsStatement c ls (Assign xs e) → length xs < 9 → IsForm d q → (o : Option Var) → clashing r xs q ≡ o →
+        unless_clash o (assigned_form r xs e q) ≡ given w → Says w (statement g (Assign xs e) done) q
+    assign_says xs e q w k l f None o h m =
+        ap (λ w. den g j w (with_side s r m)) (sym (same_given (assigned_form r xs e q) w h))
+        ∙ assigned_meaning c ls F L K r side_is frame g fits j fair (with_side s r m) (fit_put r side_is m) xs e k.0 k.1 l q f o
+        ∙ ap (den g j q) (assigned_put xs e m)
+    assign_says xs e q w k l f (Some y) o h m = refused_given (SideCondition y) w h
 
     test_is : (e : Term) → IsExpression c ls e → (m : Memory) → den g j (located r e) (with_side s r m) ≡ is_true g s e m
     test_is e x m =
@@ -226,9 +216,7 @@ module _ (c : Context) (ls : List TypedName) (F L K : Frame) (r : Side) (side_is
 
     mutual
       before_says : (i : Instr) → IsStatement c ls i → (q w : Term) → IsForm d q → is_straight i ≡ true → before r i q ≡ given w → Says w (statement g i done) q
-      before_says (Assign [] e) k q w f l h = refused_given Shape w h
-      before_says (Assign (x ∷ []) e) k q w f l h = assign_says x e q w k f (first_clash r x q) refl h
-      before_says (Assign (x ∷ y ∷ xs) e) k q w f l h = refused_given Shape w h
+      before_says (Assign xs e) k q w f l h = assign_says xs e q w k (few xs l) f (clashing r xs q) refl h
       before_says (Sample x e) k q w f l h = refused_given Shape w h
       before_says (Call' xs p n es) k q w f l h = refused_given Shape w h
       before_says (If' e o a n b) k q w f l h =
@@ -244,7 +232,7 @@ module _ (c : Context) (ls : List TypedName) (F L K : Frame) (r : Side) (side_is
       row_says (more_of-Instr i is) k q w f l h m =
           let y = given_then (before_row r is q) (before r i) w h in
           let t = both_true (is_straight i) (row_is_straight is) l in
-          before_says i k.0 y.0 w (row_typed is k.1 q y.0 f y.1) t.0 y.2 m
+          before_says i k.0 y.0 w (row_typed is k.1 q y.0 f t.1 y.1) t.0 y.2 m
           ∙ row_says is k.1 q y.0 f t.1 y.1 (ended g s (statement g i done) m)
           ∙ ap (λ n. den g j q (with_side s r n)) (sym (ended_then g s i (straight_is i t.0) (program_of g is) m) ∙ ap (λ p. ended g s p m) (sym (row_program g i is)))
 
@@ -253,7 +241,7 @@ module _ (c : Context) (ls : List TypedName) (F L K : Frame) (r : Side) (side_is
     all_says (i ∷ is) k q w f l h m =
         let y = given_then (before_all r is q) (before r i) w h in
         let t = both_true (is_straight i) (are_straight is) l in
-        before_says i k.0 y.0 w (all_typed is k.1 q y.0 f y.1) t.0 y.2 m
+        before_says i k.0 y.0 w (all_typed is k.1 q y.0 f t.1 y.1) t.0 y.2 m
         ∙ all_says is k.1 q y.0 f t.1 y.1 (ended g s (statement g i done) m)
         ∙ ap (λ n. den g j q (with_side s r n)) (sym (ended_then g s i (straight_is i t.0) (statements g is) m))
 
@@ -322,21 +310,21 @@ module _ (c : Context) where
       let x = given_then (before_all side.Own (ending is) q) (λ z. given (hoare (body (front is)) p z ∷ [])) Gs e in
       let v = typed_drop c ls (staying is) is w.0.statements in
       sound_given c (hoare (body is) p q) (hoare (body (front is)) p x.0 ∷ []) Gs (
-        ((ls, ls, (first_part c ls (staying is) is w.0, w.1, all_typed c ls (Some ls) c.left c.right side.Own tt refl (ending is) v q x.0 w.2 x.1)), tt),
+        ((ls, ls, (first_part c ls (staying is) is w.0, w.1, all_typed c ls (Some ls) c.left c.right side.Own tt refl (ending is) v q x.0 w.2 (ending_is is) x.1)), tt),
         λ g fits j fair s fit h. hoare_before g j s is p q x.0 (λ m. all_says c ls (Some ls) c.left c.right side.Own tt refl g fits j fair s fit (ending is) v q x.0 w.2 (ending_is is) x.1 m) h.0,
       ) x.2
   sound on.All outer ls rs (phoare (body is) r p q b) w y Gs e =
       let x = given_then (before_all side.Own (ending is) q) (λ z. given (phoare (body (front is)) r p z b ∷ [])) Gs e in
       let v = typed_drop c ls (staying is) is w.0.statements in
       sound_given c (phoare (body is) r p q b) (phoare (body (front is)) r p x.0 b ∷ []) Gs (
-        ((ls, ls, (first_part c ls (staying is) is w.0, w.1, all_typed c ls (Some ls) c.left c.right side.Own tt refl (ending is) v q x.0 w.2 x.1, w.3, w.4)), tt),
+        ((ls, ls, (first_part c ls (staying is) is w.0, w.1, all_typed c ls (Some ls) c.left c.right side.Own tt refl (ending is) v q x.0 w.2 (ending_is is) x.1, w.3, w.4)), tt),
         λ g fits j fair s fit h. phoare_before g j s is r p q b x.0 (λ m. all_says c ls (Some ls) c.left c.right side.Own tt refl g fits j fair s fit (ending is) v q x.0 w.2 (ending_is is) x.1 m) h.0,
       ) x.2
   sound on.Left outer ls rs (equiv (body is) (body js) p q) w y Gs e =
       let x = given_then (before_all side.Left (ending is) q) (λ z. given (equiv (body (front is)) (body js) p z ∷ [])) Gs e in
       let v = typed_drop c ls (staying is) is w.1.statements in
       sound_given c (equiv (body is) (body js) p q) (equiv (body (front is)) (body js) p x.0 ∷ []) Gs (
-        ((ls, rs, (tt, first_part c ls (staying is) is w.1, w.2, w.3, all_typed c ls c.own (Some ls) (Some rs) side.Left tt refl (ending is) v q x.0 w.4 x.1)), tt),
+        ((ls, rs, (tt, first_part c ls (staying is) is w.1, w.2, w.3, all_typed c ls c.own (Some ls) (Some rs) side.Left tt refl (ending is) v q x.0 w.4 (ending_is is) x.1)), tt),
         λ g fits j fair s fit h. equiv_before g j s is js (front is) js (effect g s is) (λ n. n) p q x.0 (run_front g s is) (denominator_front g s is) (same_run g s js) refl
             (λ m n. all_says c ls c.own (Some ls) (Some rs) side.Left tt refl g fits j fair (between s m n) (record { logical = fit.logical; bound = fit.bound }) (ending is) v q x.0 w.4 (ending_is is) x.1 m
             ∙ ap (λ k. den g j q (between s k n)) (same_effect g s m n is m)) h.0,
@@ -345,7 +333,7 @@ module _ (c : Context) where
       let x = given_then (before_all side.Right (ending js) q) (λ z. given (equiv (body is) (body (front js)) p z ∷ [])) Gs e in
       let v = typed_drop c rs (staying js) js w.2.statements in
       sound_given c (equiv (body is) (body js) p q) (equiv (body is) (body (front js)) p x.0 ∷ []) Gs (
-        ((ls, rs, (tt, w.1, first_part c rs (staying js) js w.2, w.3, all_typed c rs c.own (Some ls) (Some rs) side.Right tt refl (ending js) v q x.0 w.4 x.1)), tt),
+        ((ls, rs, (tt, w.1, first_part c rs (staying js) js w.2, w.3, all_typed c rs c.own (Some ls) (Some rs) side.Right tt refl (ending js) v q x.0 w.4 (ending_is js) x.1)), tt),
         λ g fits j fair s fit h. equiv_before g j s is js is (front js) (λ m. m) (effect g s js) p q x.0 (same_run g s is) refl (run_front g s js) (denominator_front g s js)
             (λ m n. all_says c rs c.own (Some ls) (Some rs) side.Right tt refl g fits j fair (between s m n) (record { logical = fit.logical; bound = fit.bound }) (ending js) v q x.0 w.4 (ending_is js) x.1 n
             ∙ ap (λ k. den g j q (between s m k)) (same_effect g s m n js n)) h.0,
@@ -355,9 +343,9 @@ module _ (c : Context) where
       let z = given_then (before_all side.Right (ending js) x.0) (λ u. given (equiv (body (front is)) (body (front js)) p u ∷ [])) Gs x.2 in
       let v = typed_drop c ls (staying is) is w.1.statements in
       let u = typed_drop c rs (staying js) js w.2.statements in
-      let f = all_typed c ls c.own (Some ls) (Some rs) side.Left tt refl (ending is) v q x.0 w.4 x.1 in
+      let f = all_typed c ls c.own (Some ls) (Some rs) side.Left tt refl (ending is) v q x.0 w.4 (ending_is is) x.1 in
       sound_given c (equiv (body is) (body js) p q) (equiv (body (front is)) (body (front js)) p z.0 ∷ []) Gs (
-        ((ls, rs, (tt, first_part c ls (staying is) is w.1, first_part c rs (staying js) js w.2, w.3, all_typed c rs c.own (Some ls) (Some rs) side.Right tt refl (ending js) u x.0 z.0 f z.1)), tt),
+        ((ls, rs, (tt, first_part c ls (staying is) is w.1, first_part c rs (staying js) js w.2, w.3, all_typed c rs c.own (Some ls) (Some rs) side.Right tt refl (ending js) u x.0 z.0 f (ending_is js) z.1)), tt),
         λ g fits j fair s fit h. equiv_before g j s is js (front is) (front js) (effect g s is) (effect g s js) p q z.0 (run_front g s is) (denominator_front g s is) (run_front g s js) (denominator_front g s js)
             (λ m n. all_says c rs c.own (Some ls) (Some rs) side.Right tt refl g fits j fair (between s m n) (record { logical = fit.logical; bound = fit.bound }) (ending js) u x.0 z.0 f (ending_is js) z.1 n
             ∙ ap (λ k. den g j x.0 (between s m k)) (same_effect g s m n js n)

@@ -12,6 +12,7 @@ use Rattle.gb_goal.specs.Scope.{Declarations}
 use Rattle.gb_goal.specs.Rows.{Row, refusing}
 use Rattle.gb_rules.specs.Rules.{no_arguments}
 use Rattle.gb_bodies.specs.Case.{case_row, IsTypedCase}
+use Rattle.gb_bodies.specs.Conseq.{conseq_row, IsTypedWeakened}
 use Rattle.gb_bodies.specs.If.{if_row}
 use Rattle.gb_bodies.specs.Proc.{proc_row}
 use Rattle.gb_bodies.specs.Seq.{seq_row, IsTypedCut}
@@ -25,6 +26,7 @@ body_row ds (on_bodies.Seq k r) = seq_row k r
 body_row ds (on_bodies.If a) = if_row a
 body_row ds (on_bodies.Wp a) = wp_row a
 body_row ds (on_bodies.Case f) = case_row f
+body_row ds (on_bodies.Conseq w) = conseq_row w
 body_row ds on_bodies.Unfit = λ G. refusing Shape
 
 -- rules of other families aren't of this crate
@@ -36,4 +38,5 @@ rule_row ds r = λ G. refusing Shape
 abbrev pub IsTypedRule : Context → Rule → List TypedName → List TypedName → Goal → Type 0
 IsTypedRule c (OnBodies (on_bodies.Seq k r)) = IsTypedCut c k r
 IsTypedRule c (OnBodies (on_bodies.Case f)) = IsTypedCase c f
+IsTypedRule c (OnBodies (on_bodies.Conseq w)) = IsTypedWeakened c w
 IsTypedRule c r = no_arguments

@@ -1,5 +1,5 @@
 -- `wp`: what ends a body without chance leaves it, and the postcondition becomes what has to hold before it.
-use Rattle.std.specs.Prelude.{ℕ, zero, suc, Bool, true, false, ◌&&◌, List, [], ◌∷◌, take, drop, Option, Some, None}
+use Rattle.std.specs.Prelude.{ℕ, zero, suc, Bool, true, false, ◌&&◌, nat_lt, List, [], ◌∷◌, length, take, drop, Option, Some, None}
 use Rattle.gb_core.specs.declared.refusal.Why.TheVariants.{Shape, SideCondition}
 use Rattle.gb_core.specs.declared.var.Var.{Var}
 use Rattle.gb_terms.specs.declared.op.Side.{Side}
@@ -7,7 +7,6 @@ use Rattle.gb_terms.specs.declared.op.Side.TheVariants.{Left, Right}
 use Rattle.gb_terms.specs.declared.term.Term.{Term}
 use Rattle.gb_terms.specs.declared.term.Instr.{Instr, Row_of-Instr, end_of-Instr, more_of-Instr}
 use Rattle.gb_terms.specs.declared.term.Head.TheVariants.{Assign, If'}
-use Rattle.gb_walk.specs.Clash.{first_clash}
 use Rattle.gb_steps.specs.declared.step.Acts.{Acts}
 use Rattle.gb_steps.specs.declared.step.Acts.TheVariants as on
 use Rattle.gb_goal.specs.Answers.{Answer, ◌>>=◌}
@@ -16,13 +15,14 @@ use Rattle.gb_goal.specs.Goal.{Goal}
 use Rattle.gb_goal.specs.Goal.Code.{body}
 use Rattle.gb_goal.specs.Goal.Goal.{equiv}
 use Rattle.gb_goal.specs.Rows.{Row, refusing}
-use Rattle.gb_rules.specs.Forms.{and_form, implies_form, not_form, located, replaced}
+use Rattle.gb_rules.specs.Forms.{and_form, implies_form, not_form, located}
+use Rattle.gb_bodies.specs.Assigned.{assigned_form, clashing}
 use Rattle.gb_bodies.specs.OneBody.{OneBody, one_body, on_one}
 
 abbrev mutual
-  -- an assignment to a variable, or a branch whose sides are made of such statements
+  -- an assignment to at most 8 variables, or a branch whose sides are made of such statements
   pub is_straight : Instr → Bool
-  is_straight (Assign (x ∷ []) e) = true
+  is_straight (Assign xs e) = nat_lt (length xs) 9
   is_straight (If' e m a n b) = row_is_straight a && row_is_straight b
   is_straight _ = false
 
@@ -39,15 +39,15 @@ are_straight (i ∷ is) = is_straight i && are_straight is
 abbrev pub by_test : Term → Term → Term → Term
 by_test e a b = and_form (implies_form e a) (implies_form (not_form e) b)
 
--- a form with a term in place of a variable, if it reads no other variable that clashes with that one
-abbrev pub unless_clash : Option Var → Var → Term → Answer Term
-unless_clash None x f = given f
-unless_clash (Some y) x f = refusing (SideCondition x)
+-- a form, if no variable clashes with another one
+abbrev pub unless_clash : Option Var → Term → Answer Term
+unless_clash None f = given f
+unless_clash (Some x) f = refusing (SideCondition x)
 
 abbrev mutual
   -- what has to hold before a statement without chance, in a memory, so that a form holds after it
   pub before : Side → Instr → Term → Answer Term
-  before r (Assign (x ∷ []) e) q = unless_clash (first_clash r x q) x (replaced r x e q)
+  before r (Assign xs e) q = unless_clash (clashing r xs q) (assigned_form r xs e q)
   before r (If' e m a n b) q = do
     f ← before_row r a q
     h ← before_row r b q

@@ -6,6 +6,7 @@ ghost use Rattle.gb_bodies.specs.Rows.{body_row, rule_row};
 
 use crate::branch::if_rule;
 use crate::case::case;
+use crate::conseq::conseq;
 use crate::proc::proc;
 use crate::seq::seq;
 use crate::skip::skip;
@@ -33,6 +34,7 @@ fn subgoals(
         BodyRule::If(acts) => if_rule(alloc, goal, *acts),
         BodyRule::Wp(acts) => wp(alloc, goal, *acts),
         BodyRule::Case(form) => case(alloc, goal, form),
+        BodyRule::Conseq(weakened) => conseq(alloc, goal, weakened),
         BodyRule::Unfit => Err(no_shape()),
     }
 }

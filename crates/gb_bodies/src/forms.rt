@@ -1,9 +1,9 @@
 //! Forms that rules make.
 
 ghost use Rattle.std.specs.Prelude.{◌≡◌, IfOk};
-ghost use Rattle.gb_rules.specs.Forms.{located, every, every_pair};
+ghost use Rattle.gb_rules.specs.Forms.{located, every, every_pair, implies_form};
 
-use gb_terms::make::{over, truth_ty};
+use gb_terms::make::{implication, over, truth_ty};
 use gb_terms::op::Side;
 use gb_terms::term::{Form, Head, Term};
 use gb_walk::change::Change;
@@ -39,4 +39,13 @@ pub fn every_pair(alloc: Global, form: Form) -> Result<Form, AllocError>
 {
     let inner = every(alloc, Side::Right, form)?;
     every(alloc, Side::Left, inner)
+}
+
+/// One form implies the other.
+pub fn implied(alloc: Global, pre: &Form, post: &Form) -> Result<Form, AllocError>
+    ensures { IfOk result (λ made. made ≡ implies_form pre.now post.now) }
+{
+    let pre = pre.share()?;
+    let post = post.share()?;
+    implication(alloc, pre, post)
 }

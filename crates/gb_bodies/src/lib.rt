@@ -2,9 +2,12 @@
 #![tactic(auto)]
 
 pub mod apply;
+pub mod assigned;
 pub mod branch;
 pub mod case;
+pub mod conseq;
 pub mod forms;
+pub mod judged;
 pub mod laws;
 pub mod one_body;
 pub mod proc;

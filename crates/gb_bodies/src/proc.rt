@@ -8,26 +8,26 @@ ghost use Rattle.gb_goal.specs.declared.sequent.Sequent.{Sequent as TypedSequent
 ghost use Rattle.gb_goal.specs.Answers.{Answers};
 ghost use Rattle.gb_goal.specs.Goal.{form_of};
 ghost use Rattle.gb_goal.specs.Goal.Code.{body};
-ghost use Rattle.gb_goal.specs.Goal.Goal.{hoare, equiv};
+ghost use Rattle.gb_goal.specs.Goal.Goal.{hoare, phoare, equiv};
 ghost use Rattle.gb_goal.specs.Rows.{answered, each_concluding};
 ghost use Rattle.gb_goal.specs.Scope.{Declarations};
 ghost use Rattle.gb_goal.specs.Views.{goal_seen};
 ghost use Rattle.gb_walk.specs.Change.{term_changed};
 ghost use Rattle.gb_rules.specs.Rules.{IsSoundRuleIn, no_arguments};
 ghost use Rattle.gb_rules.specs.Calls.{returned};
-ghost use Rattle.gb_bodies.specs.Proc.{proc_row};
+ghost use Rattle.gb_bodies.specs.Proc.{of_result, proc_row};
 
 use crate::forms::located;
 use crate::subgoals::{no_shape, one_goal};
 use gb_core::name::Name;
 use gb_core::refusal::Refused;
 use gb_core::var::Var;
-use gb_goal::goal::{Code, Goal, equiv, goal_of, hoare};
+use gb_goal::goal::{Code, Goal, equiv, goal_of, hoare, phoare};
 use gb_goal::scope::Scope;
 use gb_goal::sequent::{Sequent, Sequents};
 use gb_terms::decl::Proc;
-use gb_terms::op::{Read, Side};
-use gb_terms::term::Form;
+use gb_terms::op::{Read, Rel, Side};
+use gb_terms::term::{Form, RealTerm};
 use gb_walk::change::{Change, Changes};
 use gb_walk::walk::changed;
 use sqlite_items::Items;
@@ -58,7 +58,7 @@ fn both_returned(alloc: Global, left: &Proc, right: &Proc) -> Result<Changes, Al
 
 /// What is said of the result of a procedure, of the term that it returns.
 fn said_of_one(alloc: Global, proc: &Proc, post: &Form) -> Result<Form, AllocError>
-    ensures { IfOk result (λ made. made ≡ term_changed post.now (returned Side.Own proc.now ∷ [])) }
+    ensures { IfOk result (λ made. made ≡ of_result proc.now post.now) }
 {
     let result = returned(alloc, proc, Side::Own)?;
     changed(alloc, post, &[result])
@@ -74,12 +74,30 @@ fn said_of_both(alloc: Global, left: &Proc, right: &Proc, post: &Form) -> Result
 
 /// The judgment on the body of a procedure.
 fn one_entered(alloc: Global, proc: &Proc, pre: &Form, post: &Form) -> Result<Form, AllocError>
-    ensures { IfOk result (λ made. made ≡ form_of (hoare (body proc.now.body.list) pre.now (term_changed post.now (returned Side.Own proc.now ∷ [])))) }
+    ensures { IfOk result (λ made. made ≡ form_of (hoare (body proc.now.body.list) pre.now (of_result proc.now post.now))) }
 {
     let post = said_of_one(alloc, proc, post)?;
     let pre = pre.share()?;
     let list = proc.body.list.share()?;
     hoare(alloc, list, pre, post)
+}
+
+/// The judgment on the body of a procedure, with a probability.
+fn chance_entered(
+    alloc: Global,
+    proc: &Proc,
+    rel: Rel,
+    pre: &Form,
+    post: &Form,
+    bound: &RealTerm,
+) -> Result<Form, AllocError>
+    ensures { IfOk result (λ made. made ≡ form_of (phoare (body proc.now.body.list) rel pre.now (of_result proc.now post.now) bound.now)) }
+{
+    let post = said_of_one(alloc, proc, post)?;
+    let pre = pre.share()?;
+    let bound = bound.share()?;
+    let list = proc.body.list.share()?;
+    phoare(alloc, list, rel, pre, post, bound)
 }
 
 /// The judgment on the bodies of two procedures.
@@ -110,6 +128,12 @@ fn entered(alloc: Global, goal: &Sequent, seen: Goal, scope: &Scope) -> Result<S
                 return Err(no_shape());
             };
             one_entered(alloc, proc, pre, post)?
+        }
+        Goal::Phoare(Code::Procedure(named), rel, pre, post, bound) => {
+            let Some(proc) = scope.procedure(named) else {
+                return Err(no_shape());
+            };
+            chance_entered(alloc, proc, rel, pre, post, bound)?
         }
         Goal::Equiv(Code::Procedure(left), Code::Procedure(right), pre, post) => {
             let (Some(left), Some(right)) = (scope.procedure(left), scope.procedure(right)) else {

@@ -1,32 +1,21 @@
 //! The rule `skip`.
 
-ghost use Rattle.std.specs.Prelude.{◌≡◌, IfOk};
 ghost use Rattle.gb_typing.specs.Context.{Context};
 ghost use Rattle.gb_goal.specs.Answers.{Answers};
 ghost use Rattle.gb_goal.specs.Rows.{answered, each_concluding};
 ghost use Rattle.gb_goal.specs.Views.{goal_seen};
-ghost use Rattle.gb_rules.specs.Forms.{implies_form};
 ghost use Rattle.gb_rules.specs.Rules.{IsSoundRule, no_arguments};
 ghost use Rattle.gb_bodies.specs.Skip.{skip_row};
 
-use crate::forms::{every, every_pair};
+use crate::forms::{every, every_pair, implied};
 use crate::subgoals::{no_shape, one_goal};
+use gb_chance::compared::certain_or_not;
 use gb_core::refusal::Refused;
 use gb_goal::goal::{Code, Goal, goal_of};
 use gb_goal::sequent::{Sequent, Sequents};
 use gb_terms::make::implication;
 use gb_terms::op::Side;
-use gb_terms::term::Form;
-use std::alloc::{AllocError, Global};
-
-/// One form implies the other.
-fn implied(alloc: Global, pre: &Form, post: &Form) -> Result<Form, AllocError>
-    ensures { IfOk result (λ made. made ≡ implies_form pre.now post.now) }
-{
-    let pre = pre.share()?;
-    let post = post.share()?;
-    implication(alloc, pre, post)
-}
+use std::alloc::Global;
 
 /// The subgoals of a goal that is seen so.
 fn skipped(alloc: Global, goal: &Sequent, seen: Goal) -> Result<Sequents, Refused>
@@ -35,6 +24,11 @@ fn skipped(alloc: Global, goal: &Sequent, seen: Goal) -> Result<Sequents, Refuse
     let conclusion = match seen {
         Goal::Hoare(Code::Body([]), pre, post) => {
             every(alloc, Side::Own, implied(alloc, pre, post)?)?
+        }
+        Goal::Phoare(Code::Body([]), rel, pre, post, bound) => {
+            let met = certain_or_not(alloc, rel, post, bound)?;
+            let form = implication(alloc, pre.share()?, met)?;
+            every(alloc, Side::Own, form)?
         }
         Goal::Equiv(Code::Body([]), Code::Body([]), pre, post) => {
             every_pair(alloc, implied(alloc, pre, post)?)?
@@ -45,7 +39,7 @@ fn skipped(alloc: Global, goal: &Sequent, seen: Goal) -> Result<Sequents, Refuse
 }
 
 /// The subgoals of `skip`: where the bodies of a judgment are empty, its precondition implies its postcondition, in every
-/// memory. Refused with `Shape` at any other goal.
+/// memory. With a probability it implies that 1 stands so to the bound where the postcondition holds, and 0 where it doesn't. Refused with `Shape` at any other goal.
 pub fn skip(alloc: Global, goal: &Sequent) -> Result<Sequents, Refused>
     ensures { Answers (answered skip_row goal.now) result }
 {

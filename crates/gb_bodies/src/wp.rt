@@ -9,12 +9,13 @@ ghost use Rattle.gb_goal.specs.Goal.Goal.{equiv};
 ghost use Rattle.gb_goal.specs.Rows.{answered, each_concluding};
 ghost use Rattle.gb_goal.specs.Views.{goal_seen};
 ghost use Rattle.gb_typing.specs.Context.{Context};
-ghost use Rattle.gb_rules.specs.Forms.{located, replaced};
+ghost use Rattle.gb_rules.specs.Forms.{located};
 ghost use Rattle.gb_rules.specs.Rules.{IsSoundRule, no_arguments};
+ghost use Rattle.gb_bodies.specs.Assigned.{assigned_form, clashing};
 ghost use Rattle.gb_bodies.specs.OneBody.{one_seen};
 ghost use Rattle.gb_bodies.specs.Wp.{are_straight, before, before_all, by_test, front, is_straight, staying, unless_clash, wp_both, wp_one, wp_row};
-ghost use Rattle.gb_walk.specs.Clash as of_clash;
 
+use crate::assigned::{assigned_form, clashing};
 use crate::forms::located;
 use crate::one_body::{OneBody, filled, one_body, side_of};
 use crate::subgoals::{no_shape, one_goal, refusal, shared_body};
@@ -25,23 +26,20 @@ use gb_goal::goal::{Code, Goal, equiv, goal_of};
 use gb_goal::sequent::{Sequent, Sequents};
 use gb_steps::step::Acts;
 use gb_terms::make::{conjunction, implication, negation};
-use gb_terms::op::{Read, Side};
+use gb_terms::op::Side;
 use gb_terms::term::{Form, Instr, Term};
-use gb_walk::change::Change;
-use gb_walk::clash::first_clash;
-use gb_walk::walk::changed;
 use std::alloc::{AllocError, Global};
 
-/// Whether a statement is an assignment to a variable, or a branch whose sides are made of such statements.
+/// More variables than a tuple has parts.
+const MANY: usize = 9;
+
+/// Whether a statement is an assignment to at most 8 variables, or a branch whose sides are made of such statements.
 #[cycle(straight)]
 fn is_straight(statement: &Instr) -> bool
     ensures { result ≡ is_straight statement.now }
 {
     match statement {
-        Instr::Assign(targets, _) => match targets.as_slice() {
-            [_] => true,
-            _ => false,
-        },
+        Instr::Assign(targets, _) => targets.len() < MANY,
         Instr::If(_, yes, no) => {
             are_straight(yes.list.as_slice()) && are_straight(no.list.as_slice())
         }
@@ -75,27 +73,21 @@ fn staying(list: &[Instr]) -> usize
     0
 }
 
-/// What a form becomes in front of an assignment to a variable.
+/// What a form becomes in front of an assignment.
 fn before_assign(
     alloc: Global,
     side: Side,
-    target: &Var,
+    targets: &[Var],
     value: &Term,
     post: &Form,
 ) -> Result<Form, Refused>
-    ensures { Answers (unless_clash (of_clash.first_clash side target.now post.now) target.now (replaced side target.now value.now post.now)) result }
+    ensures { Answers (unless_clash (clashing side targets.now post.now) (assigned_form side targets.now value.now post.now)) result }
 {
-    if first_clash(&side, target, post).is_some() {
+    if let Some(target) = clashing(side, targets, post) {
         let target = copy_var(alloc, target)?;
         return Err(refusal(Why::SideCondition(target)));
     }
-    let value = located(alloc, value, side)?;
-    let var = copy_var(alloc, target)?;
-    Ok(changed(
-        alloc,
-        post,
-        &[Change::ToTerm(Read::Program { var, side }, value)],
-    )?)
+    Ok(assigned_form(alloc, side, targets, value, post)?)
 }
 
 /// What is so where a test is true, and what where it is false.
@@ -115,10 +107,9 @@ fn before(alloc: Global, side: Side, statement: &Instr, post: &Form) -> Result<F
     ensures { Answers (before side statement.now post.now) result }
 {
     match statement {
-        Instr::Assign(targets, value) => match targets.as_slice() {
-            [target] => before_assign(alloc, side, target, value, post),
-            _ => Err(no_shape()),
-        },
+        Instr::Assign(targets, value) => {
+            before_assign(alloc, side, targets.as_slice(), value, post)
+        }
         Instr::If(test, yes, no) => {
             let yes = before_all(alloc, side, yes.list.as_slice(), post)?;
             let no = before_all(alloc, side, no.list.as_slice(), post)?;

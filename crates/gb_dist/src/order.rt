@@ -43,7 +43,8 @@ pub fn weights(alloc: Global, rows: &[Row], ty: &Ty) -> Result<Table, Refused>
     Ok(Table { total, rows })
 }
 
-fn imaged(alloc: Global, images: &[Value], rows: &[Row]) -> Result<Rows, AllocError>
+/// Rows with an image in the place of each value, given in order.
+pub fn imaged(alloc: Global, images: &[Value], rows: &[Row]) -> Result<Rows, AllocError>
     requires { length images.now ≡ length rows.now }
     ensures { IfOk result (λ out. entries out ≡ imaged images.now (entries rows.now)) }
 {

@@ -2,7 +2,7 @@
 use Rattle.std.proofs.Common.{◌≡◌, ℕ, zero, suc, ◌≤◌, ◌<◌, List, [], ◌∷◌, length, get_or, take, drop, ◌-◌, Option, refl, ap, sym, subst, ◌∙◌, arith, length-drop, take_all}
 use Rattle.gb_core.specs.declared.place.Place.{Place}
 use Rattle.gb_core.specs.declared.ty.Ty.{Ty}
-use Rattle.gb_terms.specs.declared.decl.TypedName.{TypedName}
+use Rattle.gb_names.specs.declared.bindings.Binding.{Binding}
 use Rattle.gb_script.specs.declared.head.Head.TheVariants as head
 use Rattle.gb_script.specs.declared.tree.Node.{Node}
 use Rattle.gb_script.specs.Tree.{head_of, text_of, parts_of}
@@ -32,7 +32,7 @@ pub none_behind : {A : Type 0} (xs : List A) → length xs < 1 → drop 1 xs ≡
 none_behind [] h = refl
 none_behind (x ∷ xs) h = absurd (omega (arith, h))
 
-module _ (ts : List Node) (f : Node) (p : Place) (at : Environment) (bound : List TypedName) (w : Option Ty) where
+module _ (ts : List Node) (f : Node) (p : Place) (at : Environment) (bound : List Binding) (w : Option Ty) where
   pub by_name : 1 ≤ length ts → f ≡ get_or ts 0 f → head_of f ≡ head.Name
       → applied_form (with_meanings ts) p at bound w ≡ applied (text_of f) (with_meanings (drop 1 ts)) p at bound w
   by_name h e k = first ts h e

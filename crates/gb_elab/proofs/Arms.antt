@@ -4,7 +4,7 @@ use Rattle.gb_core.specs.declared.place.Place.{Place}
 use Rattle.gb_core.specs.declared.refusal.Why.TheVariants.{TypeMismatch}
 use Rattle.gb_core.specs.declared.ty.Ty.{Ty}
 use Rattle.gb_core.specs.declared.ty.Ty.TheVariants.{Bool as bool_ty, Real as real_ty}
-use Rattle.gb_terms.specs.declared.decl.TypedName.{TypedName}
+use Rattle.gb_names.specs.declared.bindings.Binding.{Binding}
 use Rattle.gb_terms.specs.declared.op.Rel.{Rel}
 use Rattle.gb_terms.specs.declared.term.Term.{Term}
 use Rattle.gb_script.specs.declared.head.Head.{Head}
@@ -26,10 +26,10 @@ use Rattle.gb_weights.specs.Weights.{weights}
 use Rattle.gb_elab.specs.declared.contract.Contract.{Contract}
 use Rattle.gb_elab.specs.OneProcedure.{after_one, around, before_one, lossless, relation, with_chance}
 use Rattle.gb_elab.specs.Equalities.{equalities}
-use Rattle.gb_elab.specs.Forms.{Part, annotated, applied_form, bounded, bracketed, by_rule, contract, contract_of, contracting, elaborated, equivalence, hoare, operation, projection, quantified, simple, typing, with_meanings, with_side}
+use Rattle.gb_elab.specs.Forms.{Part, annotated, applied_form, bounded, bracketed, by_rule, contract, contract_of, contracting, elaborated, equivalence, hoare, operation, probability, projection, quantified, simple, typing, with_meanings, with_side}
 use Rattle.gb_elab.proofs.Elaborated.{bare_meanings, length_meanings}
 
-module _ (h : Head) (x : List ℕ) (ts : List Node) (p : Place) (at : Environment) (bound : List TypedName) (w : Option Ty) where
+module _ (h : Head) (x : List ℕ) (ts : List Node) (p : Place) (at : Environment) (bound : List Binding) (w : Option Ty) where
   abbrev pub meaning : Answer Term
   meaning = typing h x (with_meanings ts) p at bound w
 
@@ -112,6 +112,10 @@ module _ (h : Head) (x : List ℕ) (ts : List Node) (p : Place) (at : Environmen
   unfolding typing
   lossless_is e = at_head head.Lossless e ∙ ap (λ us. judgment at w p >>= λ _. lossless at bound us p) (bare_meanings ts)
 
+  pub probability_is : h ≡ head.Probability → meaning ≡ probability (with_meanings ts) p at bound w
+  unfolding typing
+  probability_is e = at_head head.Probability e
+
   pub path_is : h ≡ head.Path → meaning ≡ simple (path ts) p at bound w
   unfolding typing
   path_is e = at_head head.Path e ∙ ap (λ us. simple (path us) p at bound w) (bare_meanings ts)
@@ -146,7 +150,7 @@ module _ (h : Head) (x : List ℕ) (ts : List Node) (p : Place) (at : Environmen
   sided_is e = at_head head.Sided e ∙ ap (λ us. with_side us p at bound w) (bare_meanings ts)
 
 -- an equivalence with its precondition
-pub equivalence_is : (f g a b : Node) (p : Place) (at : Environment) (bound : List TypedName) (w : Option Ty) (x : Unit {0}) (m : Named × Named) (pre : Term)
+pub equivalence_is : (f g a b : Node) (p : Place) (at : Environment) (bound : List Binding) (w : Option Ty) (x : Unit {0}) (m : Named × Named) (pre : Term)
     → judgment at w p ≡ given x → both_procedures at bound f g p ≡ given m → elaborated a (before at m.0.1 m.1.1) bound (Some bool_ty) ≡ given pre
     → equivalence (with_meanings (f ∷ g ∷ a ∷ b ∷ [])) p at bound w
     ≡ (elaborated b (after at m.0.1 m.1.1) bound (Some bool_ty) >>= λ post. given (equivalent m.0.0 m.1.0 pre post))
@@ -157,7 +161,7 @@ equivalence_is f g a b p at bound w x m pre h k e =
     ∙ (leads_on (both_procedures at bound f g p) on_pre m k ∙ leads_on (elaborated a (before at m.0.1 m.1.1) bound (Some bool_ty)) (on_post m) pre e)
 
 -- a contract with its precondition
-pub contract_is : (f a b : Node) (p : Place) (at : Environment) (bound : List TypedName) (m : Named) (pre : Term)
+pub contract_is : (f a b : Node) (p : Place) (at : Environment) (bound : List Binding) (m : Named) (pre : Term)
     → one_procedure at bound f p ≡ given m → elaborated a (before_one at m.1) bound (Some bool_ty) ≡ given pre
     → contract (with_meanings (f ∷ a ∷ b ∷ [])) p at bound
     ≡ (elaborated b (after_one at m.1) bound (Some bool_ty) >>= λ post. given (record { procedure = m.0; pre = pre; post = post }))
@@ -167,7 +171,7 @@ contract_is f a b p at bound m pre k e =
     ∙ leads_on (elaborated a (before_one at m.1) bound (Some bool_ty)) (on_post m) pre e
 
 -- a judgment with its relation and what it says but for its bound
-pub bounded_is_by : (x : List ℕ) (a r : Node) (p : Place) (at : Environment) (bound : List TypedName) (w : Option Ty) (y : Unit {0}) (s : Rel) (c : Contract)
+pub bounded_is_by : (x : List ℕ) (a r : Node) (p : Place) (at : Environment) (bound : List Binding) (w : Option Ty) (y : Unit {0}) (s : Rel) (c : Contract)
     → judgment at w p ≡ given y → relation x p ≡ given s → contract_of a at bound ≡ given c
     → bounded x (with_meanings (a ∷ r ∷ [])) p at bound w ≡ (elaborated r (around at) bound (Some real_ty) >>= λ b. given (with_chance c s b))
 bounded_is_by x a r p at bound w y s c h k e =
@@ -177,40 +181,41 @@ bounded_is_by x a r p at bound w y s c h k e =
     ∙ (leads_on (relation x p) on_contract s k ∙ leads_on (contract_of a at bound) (on_bound s) c e)
 
 -- a form of another head is no judgment that needs a bound
-pub other_contract : (k : Head) (ts : List Part) (p : Place) (at : Environment) (bound : List TypedName) → (k ≡ head.Phoare → ⊥) → contracting k ts p at bound ≡ refused TypeMismatch p
+pub other_contract : (k : Head) (ts : List Part) (p : Place) (at : Environment) (bound : List Binding) → (k ≡ head.Phoare → ⊥) → contracting k ts p at bound ≡ refused TypeMismatch p
 other_contract head.Phoare ts p at bound n = absurd (n refl)
 other_contract _ ts p at bound n = refl
 
 -- a form of another head is one that an operator makes, or isn't built
-pub other_form : (k : Head) (x : List ℕ) (ts : List Part) (p : Place) (at : Environment) (bound : List TypedName) (w : Option Ty)
-    → (k ≡ head.Name → ⊥) → (k ≡ head.Path → ⊥) → (k ≡ head.Number → ⊥) → (k ≡ head.Unit → ⊥) → (k ≡ head.Bracketed → ⊥) → (k ≡ head.Sided → ⊥) → (k ≡ head.Coin → ⊥) → (k ≡ head.Function → ⊥) → (k ≡ head.TypedFunction → ⊥) → (k ≡ head.Typed → ⊥) → (k ≡ head.Tuple → ⊥) → (k ≡ head.Component → ⊥) → (k ≡ head.Conditional → ⊥) → (k ≡ head.Chosen → ⊥) → (k ≡ head.Get → ⊥) → (k ≡ head.Set → ⊥) → (k ≡ head.PowerProduct → ⊥) → (k ≡ head.Uniform → ⊥) → (k ≡ head.Weights → ⊥) → (k ≡ head.Apply → ⊥) → (k ≡ head.Equalities → ⊥) → (k ≡ head.Quantified → ⊥) → (k ≡ head.Equiv → ⊥) → (k ≡ head.Hoare → ⊥) → (k ≡ head.Phoare → ⊥) → (k ≡ head.Bounded → ⊥) → (k ≡ head.Lossless → ⊥)
+pub other_form : (k : Head) (x : List ℕ) (ts : List Part) (p : Place) (at : Environment) (bound : List Binding) (w : Option Ty)
+    → (k ≡ head.Name → ⊥) → (k ≡ head.Path → ⊥) → (k ≡ head.Number → ⊥) → (k ≡ head.Unit → ⊥) → (k ≡ head.Bracketed → ⊥) → (k ≡ head.Sided → ⊥) → (k ≡ head.Coin → ⊥) → (k ≡ head.Function → ⊥) → (k ≡ head.TypedFunction → ⊥) → (k ≡ head.Typed → ⊥) → (k ≡ head.Tuple → ⊥) → (k ≡ head.Component → ⊥) → (k ≡ head.Conditional → ⊥) → (k ≡ head.Chosen → ⊥) → (k ≡ head.Get → ⊥) → (k ≡ head.Set → ⊥) → (k ≡ head.PowerProduct → ⊥) → (k ≡ head.Uniform → ⊥) → (k ≡ head.Weights → ⊥) → (k ≡ head.Apply → ⊥) → (k ≡ head.Equalities → ⊥) → (k ≡ head.Quantified → ⊥) → (k ≡ head.Equiv → ⊥) → (k ≡ head.Hoare → ⊥) → (k ≡ head.Phoare → ⊥) → (k ≡ head.Bounded → ⊥) → (k ≡ head.Lossless → ⊥) → (k ≡ head.Probability → ⊥)
     → typing k x ts p at bound w ≡ operation (operator_of k x) ts p at bound w
 unfolding typing
-other_form head.Name x ts p at bound w n0 n1 n2 n3 n4 n5 n6 n7 n8 n9 n10 n11 n12 n13 n14 n15 n16 n17 n18 n19 n20 n21 n22 n23 n24 n25 n26 = absurd (n0 refl)
-other_form head.Path x ts p at bound w n0 n1 n2 n3 n4 n5 n6 n7 n8 n9 n10 n11 n12 n13 n14 n15 n16 n17 n18 n19 n20 n21 n22 n23 n24 n25 n26 = absurd (n1 refl)
-other_form head.Number x ts p at bound w n0 n1 n2 n3 n4 n5 n6 n7 n8 n9 n10 n11 n12 n13 n14 n15 n16 n17 n18 n19 n20 n21 n22 n23 n24 n25 n26 = absurd (n2 refl)
-other_form head.Unit x ts p at bound w n0 n1 n2 n3 n4 n5 n6 n7 n8 n9 n10 n11 n12 n13 n14 n15 n16 n17 n18 n19 n20 n21 n22 n23 n24 n25 n26 = absurd (n3 refl)
-other_form head.Bracketed x ts p at bound w n0 n1 n2 n3 n4 n5 n6 n7 n8 n9 n10 n11 n12 n13 n14 n15 n16 n17 n18 n19 n20 n21 n22 n23 n24 n25 n26 = absurd (n4 refl)
-other_form head.Sided x ts p at bound w n0 n1 n2 n3 n4 n5 n6 n7 n8 n9 n10 n11 n12 n13 n14 n15 n16 n17 n18 n19 n20 n21 n22 n23 n24 n25 n26 = absurd (n5 refl)
-other_form head.Coin x ts p at bound w n0 n1 n2 n3 n4 n5 n6 n7 n8 n9 n10 n11 n12 n13 n14 n15 n16 n17 n18 n19 n20 n21 n22 n23 n24 n25 n26 = absurd (n6 refl)
-other_form head.Function x ts p at bound w n0 n1 n2 n3 n4 n5 n6 n7 n8 n9 n10 n11 n12 n13 n14 n15 n16 n17 n18 n19 n20 n21 n22 n23 n24 n25 n26 = absurd (n7 refl)
-other_form head.TypedFunction x ts p at bound w n0 n1 n2 n3 n4 n5 n6 n7 n8 n9 n10 n11 n12 n13 n14 n15 n16 n17 n18 n19 n20 n21 n22 n23 n24 n25 n26 = absurd (n8 refl)
-other_form head.Typed x ts p at bound w n0 n1 n2 n3 n4 n5 n6 n7 n8 n9 n10 n11 n12 n13 n14 n15 n16 n17 n18 n19 n20 n21 n22 n23 n24 n25 n26 = absurd (n9 refl)
-other_form head.Tuple x ts p at bound w n0 n1 n2 n3 n4 n5 n6 n7 n8 n9 n10 n11 n12 n13 n14 n15 n16 n17 n18 n19 n20 n21 n22 n23 n24 n25 n26 = absurd (n10 refl)
-other_form head.Component x ts p at bound w n0 n1 n2 n3 n4 n5 n6 n7 n8 n9 n10 n11 n12 n13 n14 n15 n16 n17 n18 n19 n20 n21 n22 n23 n24 n25 n26 = absurd (n11 refl)
-other_form head.Conditional x ts p at bound w n0 n1 n2 n3 n4 n5 n6 n7 n8 n9 n10 n11 n12 n13 n14 n15 n16 n17 n18 n19 n20 n21 n22 n23 n24 n25 n26 = absurd (n12 refl)
-other_form head.Chosen x ts p at bound w n0 n1 n2 n3 n4 n5 n6 n7 n8 n9 n10 n11 n12 n13 n14 n15 n16 n17 n18 n19 n20 n21 n22 n23 n24 n25 n26 = absurd (n13 refl)
-other_form head.Get x ts p at bound w n0 n1 n2 n3 n4 n5 n6 n7 n8 n9 n10 n11 n12 n13 n14 n15 n16 n17 n18 n19 n20 n21 n22 n23 n24 n25 n26 = absurd (n14 refl)
-other_form head.Set x ts p at bound w n0 n1 n2 n3 n4 n5 n6 n7 n8 n9 n10 n11 n12 n13 n14 n15 n16 n17 n18 n19 n20 n21 n22 n23 n24 n25 n26 = absurd (n15 refl)
-other_form head.PowerProduct x ts p at bound w n0 n1 n2 n3 n4 n5 n6 n7 n8 n9 n10 n11 n12 n13 n14 n15 n16 n17 n18 n19 n20 n21 n22 n23 n24 n25 n26 = absurd (n16 refl)
-other_form head.Uniform x ts p at bound w n0 n1 n2 n3 n4 n5 n6 n7 n8 n9 n10 n11 n12 n13 n14 n15 n16 n17 n18 n19 n20 n21 n22 n23 n24 n25 n26 = absurd (n17 refl)
-other_form head.Weights x ts p at bound w n0 n1 n2 n3 n4 n5 n6 n7 n8 n9 n10 n11 n12 n13 n14 n15 n16 n17 n18 n19 n20 n21 n22 n23 n24 n25 n26 = absurd (n18 refl)
-other_form head.Apply x ts p at bound w n0 n1 n2 n3 n4 n5 n6 n7 n8 n9 n10 n11 n12 n13 n14 n15 n16 n17 n18 n19 n20 n21 n22 n23 n24 n25 n26 = absurd (n19 refl)
-other_form head.Equalities x ts p at bound w n0 n1 n2 n3 n4 n5 n6 n7 n8 n9 n10 n11 n12 n13 n14 n15 n16 n17 n18 n19 n20 n21 n22 n23 n24 n25 n26 = absurd (n20 refl)
-other_form head.Quantified x ts p at bound w n0 n1 n2 n3 n4 n5 n6 n7 n8 n9 n10 n11 n12 n13 n14 n15 n16 n17 n18 n19 n20 n21 n22 n23 n24 n25 n26 = absurd (n21 refl)
-other_form head.Equiv x ts p at bound w n0 n1 n2 n3 n4 n5 n6 n7 n8 n9 n10 n11 n12 n13 n14 n15 n16 n17 n18 n19 n20 n21 n22 n23 n24 n25 n26 = absurd (n22 refl)
-other_form head.Hoare x ts p at bound w n0 n1 n2 n3 n4 n5 n6 n7 n8 n9 n10 n11 n12 n13 n14 n15 n16 n17 n18 n19 n20 n21 n22 n23 n24 n25 n26 = absurd (n23 refl)
-other_form head.Phoare x ts p at bound w n0 n1 n2 n3 n4 n5 n6 n7 n8 n9 n10 n11 n12 n13 n14 n15 n16 n17 n18 n19 n20 n21 n22 n23 n24 n25 n26 = absurd (n24 refl)
-other_form head.Bounded x ts p at bound w n0 n1 n2 n3 n4 n5 n6 n7 n8 n9 n10 n11 n12 n13 n14 n15 n16 n17 n18 n19 n20 n21 n22 n23 n24 n25 n26 = absurd (n25 refl)
-other_form head.Lossless x ts p at bound w n0 n1 n2 n3 n4 n5 n6 n7 n8 n9 n10 n11 n12 n13 n14 n15 n16 n17 n18 n19 n20 n21 n22 n23 n24 n25 n26 = absurd (n26 refl)
-other_form _ x ts p at bound w n0 n1 n2 n3 n4 n5 n6 n7 n8 n9 n10 n11 n12 n13 n14 n15 n16 n17 n18 n19 n20 n21 n22 n23 n24 n25 n26 = refl
+other_form head.Name x ts p at bound w n0 n1 n2 n3 n4 n5 n6 n7 n8 n9 n10 n11 n12 n13 n14 n15 n16 n17 n18 n19 n20 n21 n22 n23 n24 n25 n26 n27 = absurd (n0 refl)
+other_form head.Path x ts p at bound w n0 n1 n2 n3 n4 n5 n6 n7 n8 n9 n10 n11 n12 n13 n14 n15 n16 n17 n18 n19 n20 n21 n22 n23 n24 n25 n26 n27 = absurd (n1 refl)
+other_form head.Number x ts p at bound w n0 n1 n2 n3 n4 n5 n6 n7 n8 n9 n10 n11 n12 n13 n14 n15 n16 n17 n18 n19 n20 n21 n22 n23 n24 n25 n26 n27 = absurd (n2 refl)
+other_form head.Unit x ts p at bound w n0 n1 n2 n3 n4 n5 n6 n7 n8 n9 n10 n11 n12 n13 n14 n15 n16 n17 n18 n19 n20 n21 n22 n23 n24 n25 n26 n27 = absurd (n3 refl)
+other_form head.Bracketed x ts p at bound w n0 n1 n2 n3 n4 n5 n6 n7 n8 n9 n10 n11 n12 n13 n14 n15 n16 n17 n18 n19 n20 n21 n22 n23 n24 n25 n26 n27 = absurd (n4 refl)
+other_form head.Sided x ts p at bound w n0 n1 n2 n3 n4 n5 n6 n7 n8 n9 n10 n11 n12 n13 n14 n15 n16 n17 n18 n19 n20 n21 n22 n23 n24 n25 n26 n27 = absurd (n5 refl)
+other_form head.Coin x ts p at bound w n0 n1 n2 n3 n4 n5 n6 n7 n8 n9 n10 n11 n12 n13 n14 n15 n16 n17 n18 n19 n20 n21 n22 n23 n24 n25 n26 n27 = absurd (n6 refl)
+other_form head.Function x ts p at bound w n0 n1 n2 n3 n4 n5 n6 n7 n8 n9 n10 n11 n12 n13 n14 n15 n16 n17 n18 n19 n20 n21 n22 n23 n24 n25 n26 n27 = absurd (n7 refl)
+other_form head.TypedFunction x ts p at bound w n0 n1 n2 n3 n4 n5 n6 n7 n8 n9 n10 n11 n12 n13 n14 n15 n16 n17 n18 n19 n20 n21 n22 n23 n24 n25 n26 n27 = absurd (n8 refl)
+other_form head.Typed x ts p at bound w n0 n1 n2 n3 n4 n5 n6 n7 n8 n9 n10 n11 n12 n13 n14 n15 n16 n17 n18 n19 n20 n21 n22 n23 n24 n25 n26 n27 = absurd (n9 refl)
+other_form head.Tuple x ts p at bound w n0 n1 n2 n3 n4 n5 n6 n7 n8 n9 n10 n11 n12 n13 n14 n15 n16 n17 n18 n19 n20 n21 n22 n23 n24 n25 n26 n27 = absurd (n10 refl)
+other_form head.Component x ts p at bound w n0 n1 n2 n3 n4 n5 n6 n7 n8 n9 n10 n11 n12 n13 n14 n15 n16 n17 n18 n19 n20 n21 n22 n23 n24 n25 n26 n27 = absurd (n11 refl)
+other_form head.Conditional x ts p at bound w n0 n1 n2 n3 n4 n5 n6 n7 n8 n9 n10 n11 n12 n13 n14 n15 n16 n17 n18 n19 n20 n21 n22 n23 n24 n25 n26 n27 = absurd (n12 refl)
+other_form head.Chosen x ts p at bound w n0 n1 n2 n3 n4 n5 n6 n7 n8 n9 n10 n11 n12 n13 n14 n15 n16 n17 n18 n19 n20 n21 n22 n23 n24 n25 n26 n27 = absurd (n13 refl)
+other_form head.Get x ts p at bound w n0 n1 n2 n3 n4 n5 n6 n7 n8 n9 n10 n11 n12 n13 n14 n15 n16 n17 n18 n19 n20 n21 n22 n23 n24 n25 n26 n27 = absurd (n14 refl)
+other_form head.Set x ts p at bound w n0 n1 n2 n3 n4 n5 n6 n7 n8 n9 n10 n11 n12 n13 n14 n15 n16 n17 n18 n19 n20 n21 n22 n23 n24 n25 n26 n27 = absurd (n15 refl)
+other_form head.PowerProduct x ts p at bound w n0 n1 n2 n3 n4 n5 n6 n7 n8 n9 n10 n11 n12 n13 n14 n15 n16 n17 n18 n19 n20 n21 n22 n23 n24 n25 n26 n27 = absurd (n16 refl)
+other_form head.Uniform x ts p at bound w n0 n1 n2 n3 n4 n5 n6 n7 n8 n9 n10 n11 n12 n13 n14 n15 n16 n17 n18 n19 n20 n21 n22 n23 n24 n25 n26 n27 = absurd (n17 refl)
+other_form head.Weights x ts p at bound w n0 n1 n2 n3 n4 n5 n6 n7 n8 n9 n10 n11 n12 n13 n14 n15 n16 n17 n18 n19 n20 n21 n22 n23 n24 n25 n26 n27 = absurd (n18 refl)
+other_form head.Apply x ts p at bound w n0 n1 n2 n3 n4 n5 n6 n7 n8 n9 n10 n11 n12 n13 n14 n15 n16 n17 n18 n19 n20 n21 n22 n23 n24 n25 n26 n27 = absurd (n19 refl)
+other_form head.Equalities x ts p at bound w n0 n1 n2 n3 n4 n5 n6 n7 n8 n9 n10 n11 n12 n13 n14 n15 n16 n17 n18 n19 n20 n21 n22 n23 n24 n25 n26 n27 = absurd (n20 refl)
+other_form head.Quantified x ts p at bound w n0 n1 n2 n3 n4 n5 n6 n7 n8 n9 n10 n11 n12 n13 n14 n15 n16 n17 n18 n19 n20 n21 n22 n23 n24 n25 n26 n27 = absurd (n21 refl)
+other_form head.Equiv x ts p at bound w n0 n1 n2 n3 n4 n5 n6 n7 n8 n9 n10 n11 n12 n13 n14 n15 n16 n17 n18 n19 n20 n21 n22 n23 n24 n25 n26 n27 = absurd (n22 refl)
+other_form head.Hoare x ts p at bound w n0 n1 n2 n3 n4 n5 n6 n7 n8 n9 n10 n11 n12 n13 n14 n15 n16 n17 n18 n19 n20 n21 n22 n23 n24 n25 n26 n27 = absurd (n23 refl)
+other_form head.Phoare x ts p at bound w n0 n1 n2 n3 n4 n5 n6 n7 n8 n9 n10 n11 n12 n13 n14 n15 n16 n17 n18 n19 n20 n21 n22 n23 n24 n25 n26 n27 = absurd (n24 refl)
+other_form head.Bounded x ts p at bound w n0 n1 n2 n3 n4 n5 n6 n7 n8 n9 n10 n11 n12 n13 n14 n15 n16 n17 n18 n19 n20 n21 n22 n23 n24 n25 n26 n27 = absurd (n25 refl)
+other_form head.Lossless x ts p at bound w n0 n1 n2 n3 n4 n5 n6 n7 n8 n9 n10 n11 n12 n13 n14 n15 n16 n17 n18 n19 n20 n21 n22 n23 n24 n25 n26 n27 = absurd (n26 refl)
+other_form head.Probability x ts p at bound w n0 n1 n2 n3 n4 n5 n6 n7 n8 n9 n10 n11 n12 n13 n14 n15 n16 n17 n18 n19 n20 n21 n22 n23 n24 n25 n26 n27 = absurd (n27 refl)
+other_form _ x ts p at bound w n0 n1 n2 n3 n4 n5 n6 n7 n8 n9 n10 n11 n12 n13 n14 n15 n16 n17 n18 n19 n20 n21 n22 n23 n24 n25 n26 n27 = refl

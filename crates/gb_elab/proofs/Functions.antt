@@ -3,7 +3,7 @@ use Rattle.std.proofs.Common.{◌≡◌, List, Option, refl, ap}
 use Rattle.gb_core.specs.declared.place.Place.{Place}
 use Rattle.gb_core.specs.declared.refusal.Why.TheVariants.{TypeMismatch}
 use Rattle.gb_core.specs.declared.ty.Ty.{Ty}
-use Rattle.gb_terms.specs.declared.decl.TypedName.{TypedName}
+use Rattle.gb_names.specs.declared.bindings.Binding.{Binding}
 use Rattle.gb_terms.specs.declared.term.Term.{Term}
 use Rattle.gb_script.specs.declared.head.Head.{Head}
 use Rattle.gb_script.specs.declared.head.Head.TheVariants as head
@@ -14,7 +14,7 @@ use Rattle.gb_names.specs.Environment.{Environment}
 use Rattle.gb_operators.specs.declared.domain.Domain.{Domain}
 use Rattle.gb_elab.specs.Forms.{Part, bracketed_function, function_typing, plain_function, typed_function, with_meanings}
 
-module _ (h : Head) (ts : List Node) (p : Place) (d : Domain) (at : Environment) (bound : List TypedName) (w : Option Ty) where
+module _ (h : Head) (ts : List Node) (p : Place) (d : Domain) (at : Environment) (bound : List Binding) (w : Option Ty) where
   abbrev pub meaning : Answer Term
   meaning = function_typing h (with_meanings ts) p d at bound w
 
@@ -34,7 +34,7 @@ module _ (h : Head) (ts : List Node) (p : Place) (d : Domain) (at : Environment)
   typed_is e = at_head head.TypedFunction e
 
 -- a form of another head is no function
-pub other_form : (k : Head) (ts : List Part) (p : Place) (d : Domain) (at : Environment) (bound : List TypedName) (w : Option Ty)
+pub other_form : (k : Head) (ts : List Part) (p : Place) (d : Domain) (at : Environment) (bound : List Binding) (w : Option Ty)
     → (k ≡ head.Bracketed → ⊥) → (k ≡ head.Function → ⊥) → (k ≡ head.TypedFunction → ⊥) → function_typing k ts p d at bound w ≡ refused TypeMismatch p
 unfolding function_typing
 other_form head.Bracketed ts p d at bound w a b c = absurd (a refl)

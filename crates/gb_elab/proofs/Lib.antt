@@ -1,5 +1,6 @@
 pub mod Elaborated
 pub mod Arms
+pub mod Called
 pub mod Functions
 pub mod OfWantedType
 pub mod Operands

@@ -11,15 +11,19 @@ use Rattle.gb_core.specs.declared.value.Value.TheVariants.{Num}
 use Rattle.gb_limits.specs.Numbers.{number_of}
 use Rattle.gb_same.proofs.Decided.{ty_eq-Decides}
 use Rattle.gb_same.specs.Types.{ty_eq}
-use Rattle.gb_terms.specs.declared.decl.TypedName.{TypedName}
+use Rattle.gb_names.specs.declared.bindings.Binding.{Binding}
+use Rattle.gb_names.specs.Bindings.{value}
+use Rattle.gb_names.specs.declared.bindings.Kind.{Kind}
+use Rattle.gb_names.specs.declared.bindings.Kind.TheVariants.{Value, Memory}
 use Rattle.gb_terms.specs.declared.op.Op.{Op}
 use Rattle.gb_terms.specs.declared.op.Op.TheVariants as op
 use Rattle.gb_terms.specs.declared.op.Rel.{Rel}
 use Rattle.gb_terms.specs.declared.op.Rel.TheVariants as rel
+use Rattle.gb_terms.specs.declared.op.Side.{Side}
 use Rattle.gb_terms.specs.declared.op.Side.TheVariants as side
 use Rattle.gb_terms.specs.declared.term.Term.{Term}
 use Rattle.gb_terms.specs.declared.term.Head.{Head as TermHead}
-use Rattle.gb_terms.specs.declared.term.Head.TheVariants.{Lit, User, Whole, Builtin, All, Some as Exist, Equiv, Hoare, Phoare, Proc as procedure}
+use Rattle.gb_terms.specs.declared.term.Head.TheVariants.{Lit, User, Whole, Builtin, All, Some as Exist, AllMemory, SomeMemory, Equiv, Hoare, Phoare, Pr, Proc as procedure}
 use Rattle.gb_terms.specs.declared.term.Head.TheViews.{out-roll-Term}
 use Rattle.gb_terms.specs.Make.{node, applied, truth_literal}
 use Rattle.gb_script.specs.declared.head.Head.{Head}
@@ -38,7 +42,7 @@ use Rattle.gb_names.specs.Allowed.{coin, distribution_here, formula, has_judgmen
 use Rattle.gb_names.specs.Binders.{bound_by, over, over_all, quantifier_of}
 use Rattle.gb_names.specs.Environment.{Environment, on_side}
 use Rattle.gb_names.specs.Judgments.{Named, both_procedures, one_procedure, before, after, equivalent}
-use Rattle.gb_names.specs.Names.{constant_at, known_at, operator_at, named, path, sided, unit}
+use Rattle.gb_names.specs.Names.{constant_at, known_at, memory_at, operator_at, named, path, sided, unit}
 use Rattle.gb_names.specs.Types.{type_of, type_or_number}
 use Rattle.gb_names.specs.Wanted.{HasType, fits, truth, type_of_term, wanted}
 use Rattle.gb_names.proofs.Nodes.{said, Known as Told, parts, by_parts}
@@ -56,9 +60,10 @@ use Rattle.gb_operators.specs.Operators.{operator_of, part_wanted}
 use Rattle.gb_operators.specs.Rules.{asked, made, rule_for, rule_of, user_made}
 use Rattle.gb_weights.specs.Weights.{outcomes, stated, weighed_all, weights}
 use Rattle.gb_elab.specs.declared.contract.Contract.{Contract}
-use Rattle.gb_elab.specs.OneProcedure.{always, around, ends, lossless, one, relation, with_chance}
+use Rattle.gb_elab.specs.OneProcedure.{after_one, always, around, ends, lossless, one, relation, with_chance}
+use Rattle.gb_elab.specs.Probability.{before_call, called, chance, chance_here}
 use Rattle.gb_elab.specs.Equalities.{equalities, equality, equation, equation_of, joined, with_equalities}
-use Rattle.gb_elab.specs.Forms.{Meaning, Part, Typing, annotated, applied as applied_name, applied_form, application, bare, bounded, bracketed, bracketed_function, by_rule, call, contract, declared, equivalence, function_typing, hoare, meaning, meant, only, operand, operands, operation, operator_alone, plain_function, projection, quantified, read, simple, summed, typed_function, typing, under, user_call, value_of, with_side}
+use Rattle.gb_elab.specs.Forms.{Meaning, Part, Typing, annotated, applied as applied_name, applied_form, application, bare, bounded, bracketed, bracketed_function, by_rule, call, contract, declared, equivalence, function_typing, hoare, meaning, meant, only, operand, operands, operation, operator_alone, plain_function, probability, projection, quantified, read, simple, summed, typed_function, typing, under, user_call, value_of, with_side}
 
 refused_not : {A : Type 0} (w : Why) (p : Place) (y : A) → refused w p ≡ given y → (C : Type 0) → C
 refused_not w p y h C = cc
@@ -106,7 +111,7 @@ node_type h ts ty = ap (λ z. z.ty) (out-roll-Term (record { head = h; args = ts
 given_node : (h : TermHead) (ts : List Term) (ty : Ty) (u : Term) → given (node h ts ty) ≡ given u → type_of_term u ≡ ty
 given_node h ts ty u e = ap type_of_term (sym (given_is (node h ts ty) u e)) ∙ node_type h ts ty
 
-equality_type : (at : Environment) (bound : List TypedName) (x : List ℕ) (p : Place) (u : Term) → equality at bound x p ≡ given u → type_of_term u ≡ bool_ty
+equality_type : (at : Environment) (bound : List Binding) (x : List ℕ) (p : Place) (u : Term) → equality at bound x p ≡ given u → type_of_term u ≡ bool_ty
 unfolding equality
 equality_type at bound x p u h =
     let same = λ (l r : Term). if ty_eq (type_of_term r) (type_of_term l) then given (applied op.Equal (l ∷ r ∷ []) bool_ty) else refused TypeMismatch p in
@@ -115,39 +120,41 @@ equality_type at bound x p u h =
     let q = if_given (ty_eq (type_of_term r.0) (type_of_term l.0)) (applied op.Equal (l.0 ∷ r.0 ∷ []) bool_ty) TypeMismatch p u r.2 in
     ap type_of_term (sym q.1) ∙ node_type (Builtin op.Equal) (l.0 ∷ r.0 ∷ []) bool_ty
 
-equation_type : (at : Environment) (bound : List TypedName) (h : Head) (x : List ℕ) (ts : List Node) (p : Place) (u : Term) → equation at bound h x ts p ≡ given u → type_of_term u ≡ bool_ty
+equation_type : (at : Environment) (bound : List Binding) (h : Head) (x : List ℕ) (ts : List Node) (p : Place) (u : Term) → equation at bound h x ts p ≡ given u → type_of_term u ≡ bool_ty
 equation_type at bound head.Name x ts p u h = equality_type at bound x p u h
 equation_type at bound head.Path x ts p u h = equality_type at bound (path ts) p u h
 equation_type at bound head.EquatedGlob x (m ∷ ts) p u h = refused_not Syntax (place_of m) u h _
 equation_type at bound _ x ts p u h = refused_not Syntax p u h _
 
-with_equalities_type : (at : Environment) (bound : List TypedName) (f : Term) (xs : List Node) (u : Term) → type_of_term f ≡ bool_ty → with_equalities at bound f xs ≡ given u → type_of_term u ≡ bool_ty
+with_equalities_type : (at : Environment) (bound : List Binding) (f : Term) (xs : List Node) (u : Term) → type_of_term f ≡ bool_ty → with_equalities at bound f xs ≡ given u → type_of_term u ≡ bool_ty
 unfolding with_equalities
 with_equalities_type at bound f [] u e h = ap type_of_term (sym (given_is f u h)) ∙ e
 with_equalities_type at bound f (x ∷ xs) u e h =
     let q = given_bind (equation_of at bound x) (λ g. with_equalities at bound (applied op.And (f ∷ g ∷ []) bool_ty) xs) u h in
     with_equalities_type at bound (applied op.And (f ∷ q.0 ∷ []) bool_ty) xs u (node_type (Builtin op.And) (f ∷ q.0 ∷ []) bool_ty) q.2
 
-joined_type : (at : Environment) (bound : List TypedName) (xs : List Node) (u : Term) → joined at bound xs ≡ given u → type_of_term u ≡ bool_ty
+joined_type : (at : Environment) (bound : List Binding) (xs : List Node) (u : Term) → joined at bound xs ≡ given u → type_of_term u ≡ bool_ty
 unfolding joined
 joined_type at bound [] u h = given_node (Lit (Num 1)) [] bool_ty u h
 joined_type at bound (x ∷ xs) u h =
     let q = given_bind (equation_of at bound x) (λ e. with_equalities at bound e xs) u h in
     with_equalities_type at bound q.0 xs u (equation_type at bound (head_of x) (text_of x) (parts_of x) (place_of x) q.0 q.1) q.2
 
-equalities_type : (at : Environment) (bound : List TypedName) (xs : List Node) (p : Place) (u : Term) → equalities at bound xs p ≡ given u → type_of_term u ≡ bool_ty
+equalities_type : (at : Environment) (bound : List Binding) (xs : List Node) (p : Place) (u : Term) → equalities at bound xs p ≡ given u → type_of_term u ≡ bool_ty
 unfolding equalities
 equalities_type at bound xs p u h = joined_type at bound xs u (if_refused (is_none (on_side at side.Left)) Argument p (joined at bound xs) u h)
 
-over_type : (q : Quantifier) (t : Ty) (f : Term) → type_of_term (over q t f) ≡ bool_ty
-over_type Forall t f = node_type (All t) (f ∷ []) bool_ty
-over_type Exists t f = node_type (Exist t) (f ∷ []) bool_ty
+over_type : (q : Quantifier) (k : Kind) (f : Term) → type_of_term (over q k f) ≡ bool_ty
+over_type Forall (Value t) f = node_type (All t) (f ∷ []) bool_ty
+over_type Exists (Value t) f = node_type (Exist t) (f ∷ []) bool_ty
+over_type Forall Memory f = node_type AllMemory (f ∷ []) bool_ty
+over_type Exists Memory f = node_type SomeMemory (f ∷ []) bool_ty
 
-over_all_type : (q : Quantifier) (vs : List TypedName) (f : Term) → type_of_term f ≡ bool_ty → type_of_term (over_all q vs f) ≡ bool_ty
+over_all_type : (q : Quantifier) (vs : List Binding) (f : Term) → type_of_term f ≡ bool_ty → type_of_term (over_all q vs f) ≡ bool_ty
 over_all_type q [] f e = e
-over_all_type q (v ∷ vs) f e = over_type q v.ty (over_all q vs f)
+over_all_type q (v ∷ vs) f e = over_type q v.kind (over_all q vs f)
 
-quantified_type : (q : Quantifier) (vs : List TypedName) (f u : Term) → given (over_all q vs f) ≡ given u → type_of_term f ≡ bool_ty → type_of_term u ≡ bool_ty
+quantified_type : (q : Quantifier) (vs : List Binding) (f u : Term) → given (over_all q vs f) ≡ given u → type_of_term f ≡ bool_ty → type_of_term u ≡ bool_ty
 quantified_type q vs f u h e = ap type_of_term (sym (given_is (over_all q vs f) u h)) ∙ over_all_type q vs f e
 
 stands_has : (at : Environment) (w : Option Ty) (p : Place) (t : Ty) (x : Unit {0}) (u : Term) → stands at w p t ≡ given x → type_of_term u ≡ t → HasType w u
@@ -197,7 +204,7 @@ uniform_has (s ∷ []) p at w u h =
     stands_has at w p (Distr t.0) q.0 u q.1 (ap type_of_term (sym r.1) ∙ node_type (Builtin op.Uniform) [] (Distr t.0))
 uniform_has _ p at w u h = refused_not Syntax p u h (HasType w u)
 
-weights_has : (xs : List Node) (p : Place) (at : Environment) (bound : List TypedName) (w : Option Ty) (u : Term) → weights xs p at bound w ≡ given u → HasType w u
+weights_has : (xs : List Node) (p : Place) (at : Environment) (bound : List Binding) (w : Option Ty) (u : Term) → weights xs p at bound w ≡ given u → HasType w u
 weights_has xs p at bound w u h =
     let end = λ (t : Ty). weighed_all at bound t [] xs >>= λ ps. wanted w p (stated t ps) in
     let over = λ (v : Option Ty). outcomes at bound v xs p >>= end in
@@ -209,7 +216,7 @@ weights_has xs p at bound w u h =
 
 -- terms that a typing gives have the wanted type
 abbrev pub HasTypes : Typing → Type 0
-HasTypes f = (at : Environment) (bound : List TypedName) (w : Option Ty) (u : Term) → f at bound w ≡ given u → HasType w u
+HasTypes f = (at : Environment) (bound : List Binding) (w : Option Ty) (u : Term) → f at bound w ≡ given u → HasType w u
 
 -- .. and values of functions
 abbrev pub HasTypesOf : Meaning → Type 0
@@ -222,7 +229,7 @@ Given = Told meaning HasTypesOf
 abbrev all : List Given → List Part
 all = parts meaning HasTypesOf
 
-operands_has : (r : Rule) (p : Place) (at : Environment) (bound : List TypedName) (w : Option Ty) (ts : List Term) (bs : List Part) (u : Term) → operands r p at bound w ts bs ≡ given u → HasType w u
+operands_has : (r : Rule) (p : Place) (at : Environment) (bound : List Binding) (w : Option Ty) (ts : List Term) (bs : List Part) (u : Term) → operands r p at bound w ts bs ≡ given u → HasType w u
 unfolding operands
 operands_has r p at bound w ts [] u h = let q = given_bind (made r p ts) (wanted w p) u h in wanted_has w p q.0 u q.2
 operands_has r p at bound w ts (a ∷ bs) u h =
@@ -271,7 +278,7 @@ summed_has (q ∷ f ∷ []) p at bound w u h =
     rule_has (rule.Sum n.0) (f ∷ []) p at bound w u n.2
 summed_has _ p at bound w u h = refused_not TypeMismatch p u h (HasType w u)
 
-ruled_has : (o : Option Rule) (ts : List Part) (p : Place) (at : Environment) (bound : List TypedName) (w : Option Ty) (u : Term)
+ruled_has : (o : Option Rule) (ts : List Part) (p : Place) (at : Environment) (bound : List Binding) (w : Option Ty) (u : Term)
     → (given_or o TypeMismatch p >>= λ r. by_rule r ts p at bound w) ≡ given u → HasType w u
 ruled_has o ts p at bound w u h = let r = given_bind (given_or o TypeMismatch p) (λ r. by_rule r ts p at bound w) u h in rule_has r.0 ts p at bound w u r.2
 
@@ -298,7 +305,7 @@ user_has (Some o) x ts p at bound w u h =
 user_has None x ts p at bound w u h =
     let q = given_bind (simple x p at bound None) (λ _. refused TypeMismatch p) u h in refused_not TypeMismatch p u q.2 (HasType w u)
 
-at_known : (o : Option Known) (a : Answer Term) (ts : List Part) (p : Place) (at : Environment) (bound : List TypedName) (w : Option Ty) (u : Term)
+at_known : (o : Option Known) (a : Answer Term) (ts : List Part) (p : Place) (at : Environment) (bound : List Binding) (w : Option Ty) (u : Term)
     → (a ≡ given u → HasType w u) → option_map_or (λ k. call k ts p at bound w) o a ≡ given u → HasType w u
 at_known None a ts p at bound w u f h = f h
 at_known (Some k) a ts p at bound w u f h = call_has k ts p at bound w u h
@@ -362,18 +369,33 @@ bounded_has x (a ∷ r ∷ []) p at bound w u h =
     judgment_has at w p q.0 u q.1 (chance_type c.0 s.0 b.0 u b.2)
 bounded_has x _ p at bound w u h = refused_not Syntax p u h (HasType w u)
 
-lossless_type : (at : Environment) (bound : List TypedName) (ts : List Node) (p : Place) (u : Term) → lossless at bound ts p ≡ given u → type_of_term u ≡ bool_ty
+lossless_type : (at : Environment) (bound : List Binding) (ts : List Node) (p : Place) (u : Term) → lossless at bound ts p ≡ given u → type_of_term u ≡ bool_ty
 lossless_type at bound (f ∷ []) p u h =
     let m = given_bind (one_procedure at bound f p) (λ m. given (ends m.0)) u h in
     chance_type (record { procedure = m.0.0; pre = truth_literal true; post = truth_literal true }) rel.Equal one u m.2
 lossless_type at bound _ p u h = refused_not Syntax p u h _
 
+probability_has : (ts : List Part) (p : Place) → HasTypes (probability ts p)
+probability_has (c ∷ m ∷ e ∷ []) p at bound w u h =
+    let end = λ (f : Named) (ts : List Term) (i : Side) (b : Term). given (chance f.0 i ts b) in
+    let on_event = λ (f : Named) (ts : List Term) (i : Side). e.1.form (after_one at f.1) bound (Some bool_ty) >>= λ b. end f ts i b in
+    let on_memory = λ (f : Named) (ts : List Term). memory_at at bound (text_of m.0) (place_of m.0) >>= on_event f ts in
+    let on_call = λ (f : Named). c.1.arguments f.1.params (place_of c.0) (before_call at (text_of m.0)) bound >>= on_memory f in
+    let q = given_bind (chance_here at w p) (λ _. called at bound (head_of c.0) (parts_of c.0) (place_of c.0) >>= on_call) u h in
+    let f = given_bind (called at bound (head_of c.0) (parts_of c.0) (place_of c.0)) on_call u q.2 in
+    let ts = given_bind (c.1.arguments f.0.1.params (place_of c.0) (before_call at (text_of m.0)) bound) (on_memory f.0) u f.2 in
+    let i = given_bind (memory_at at bound (text_of m.0) (place_of m.0)) (on_event f.0 ts.0) u ts.2 in
+    let b = given_bind (e.1.form (after_one at f.0.1) bound (Some bool_ty)) (λ b. end f.0 ts.0 i.0 b) u i.2 in
+    let s = if_else_refused (has_judgments at.language) Argument p (stands at w p ty.Real) q.0 q.1 in
+    stands_has at w p ty.Real q.0 u s (given_node (Pr f.0.0 i.0) (ts.0 ++ b.0 ∷ []) ty.Real u b.2)
+probability_has _ p at bound w u h = refused_not Syntax p u h (HasType w u)
+
 quantified_has : (x : List ℕ) (ks : List Given) (p : Place) → HasTypes (quantified x (all ks) p)
 quantified_has x (bs ∷ a ∷ []) p at bound w u h =
     let f = (said meaning a.0).form in
-    let k = given_bind (quantifier_of x p) (λ k. formula at w p >>= λ _. bound_by at.declared [] (parts_of bs.0) >>= λ vs. under k vs bound (f at)) u h in
-    let q = given_bind (formula at w p) (λ _. bound_by at.declared [] (parts_of bs.0) >>= λ vs. under k.0 vs bound (f at)) u k.2 in
-    let vs = given_bind (bound_by at.declared [] (parts_of bs.0)) (λ vs. under k.0 vs bound (f at)) u q.2 in
+    let k = given_bind (quantifier_of x p) (λ k. formula at w p >>= λ _. bound_by at [] (parts_of bs.0) >>= λ vs. under k vs bound (f at)) u h in
+    let q = given_bind (formula at w p) (λ _. bound_by at [] (parts_of bs.0) >>= λ vs. under k.0 vs bound (f at)) u k.2 in
+    let vs = given_bind (bound_by at [] (parts_of bs.0)) (λ vs. under k.0 vs bound (f at)) u q.2 in
     let r = given_bind (f at (reverse vs.0 ++ bound) (Some bool_ty)) (λ t. given (over_all k.0 vs.0 t)) u vs.2 in
     formula_has at w p q.0 u q.1 (quantified_type k.0 vs.0 r.0 u r.2 (a.1.0 at (reverse vs.0 ++ bound) (Some bool_ty) r.0 r.1))
 quantified_has x _ p at bound w u h = refused_not Syntax p u h (HasType w u)
@@ -420,10 +442,11 @@ of_parts head.Bounded x ks p at bound w u h = bounded_has x (all ks) p at bound 
 of_parts head.Lossless x ks p at bound w u h =
     let q = given_bind (judgment at w p) (λ _. lossless at bound (bare (all ks)) p) u h in
     judgment_has at w p q.0 u q.1 (lossless_type at bound (bare (all ks)) p u q.2)
+of_parts head.Probability x ks p at bound w u h = probability_has (all ks) p at bound w u h
 of_parts k x ks p at bound w u h = operation_has (operator_of k x) (all ks) p at bound w u h
 
 value_has : (k : Given) (x : List ℕ) (t : Ty) → HasTypes (value_of x t (k.0, said meaning k.0))
-value_has k x t at bound w u h = k.1.0 at (record { name = x; ty = t } ∷ bound) w u h
+value_has k x t at bound w u h = k.1.0 at (value x t ∷ bound) w u h
 
 in_brackets : (ks : List Given) (p : Place) (d : Domain) → HasTypes (bracketed_function (all ks) p d)
 in_brackets (a ∷ []) p d at bound w u h = a.1.1 d at bound w u h

@@ -3,7 +3,7 @@ use Rattle.std.proofs.Common.{◌≡◌, List, [], ◌∷◌, ◌++◌, Option, 
 use Rattle.gb_core.specs.declared.place.Place.{Place}
 use Rattle.gb_core.specs.declared.refusal.Refused.{Refused}
 use Rattle.gb_core.specs.declared.ty.Ty.{Ty}
-use Rattle.gb_terms.specs.declared.decl.TypedName.{TypedName}
+use Rattle.gb_names.specs.declared.bindings.Binding.{Binding}
 use Rattle.gb_terms.specs.declared.term.Term.{Term}
 use Rattle.gb_script.specs.declared.tree.Node.{Node}
 use Rattle.gb_script.specs.Tree.{place_of}
@@ -20,7 +20,7 @@ in_steps : {A B C : Type 0} (a : Answer A) (f : A → Answer B) (g : B → Answe
 in_steps (given x) f g = refl
 in_steps (refused w p) f g = refl
 
-module _ (r : Rule) (p : Place) (at : Environment) (bound : List TypedName) (w : Option Ty) where
+module _ (r : Rule) (p : Place) (at : Environment) (bound : List Binding) (w : Option Ty) where
   -- what the rule makes of parts behind those that are typed
   abbrev pub behind : List Term → List Node → Answer Term
   behind ts xs = operands r p at bound w ts (with_meanings xs)

@@ -1,5 +1,5 @@
 -- The typing of forms: from left to right, with a type that is wanted, or none.
-use Rattle.std.specs.Prelude.{◌==◌, true, false, if◌then◌else◌, List, [], ◌∷◌, ◌++◌, map, length, reverse, Option, Some, None}
+use Rattle.std.specs.Prelude.{◌-◌, ◌==◌, nat_lt, slice_get, true, false, if◌then◌else◌, List, [], ◌∷◌, ◌++◌, map, length, reverse, Option, Some, None}
 use Rattle.std.specs.Option.{option_map_or}
 use Rattle.gb_core.specs.declared.place.Place.{Place}
 use Rattle.gb_core.specs.declared.refusal.Why.TheVariants.{TypeMismatch, Argument}
@@ -16,14 +16,16 @@ use Rattle.gb_goal.specs.Answers.Answer.{given, refused}
 use Rattle.gb_goal.specs.declared.scope.Constant.{Constant}
 use Rattle.gb_goal.specs.declared.scope.OperatorType.{OperatorType}
 use Rattle.gb_names.specs.declared.binders.Quantifier.{Quantifier}
+use Rattle.gb_names.specs.declared.bindings.Binding.{Binding}
 use Rattle.gb_names.specs.declared.names.Known.{Known}
 use Rattle.gb_names.specs.declared.names.Known.TheVariants as known
 use Rattle.gb_names.specs.Wanted.{wanted, truth}
 use Rattle.gb_names.specs.Allowed.{coin, formula, judgment, stands}
 use Rattle.gb_names.specs.Binders.{bound_by, over_all, quantifier_of}
+use Rattle.gb_names.specs.Bindings.{value}
 use Rattle.gb_names.specs.Environment.{Name, Environment, sampled}
 use Rattle.gb_names.specs.Judgments.{both_procedures, one_procedure, before, after, equivalent}
-use Rattle.gb_names.specs.Names.{beside, constant_at, known_at, named, operator_at, path, unit}
+use Rattle.gb_names.specs.Names.{beside, constant_at, known_at, memory_at, named, operator_at, path, unit}
 use Rattle.gb_names.specs.Types.{type_or_number}
 use Rattle.gb_operators.specs.declared.domain.Domain.{Domain}
 use Rattle.gb_operators.specs.declared.domain.Domain.TheVariants.{Exactly}
@@ -42,22 +44,28 @@ use Rattle.gb_operators.specs.Rules.{asked, made, rule_for, rule_of, user_made}
 use Rattle.gb_weights.specs.Weights.{weights}
 use Rattle.gb_elab.specs.declared.contract.Contract.{Contract}
 use Rattle.gb_elab.specs.OneProcedure.{after_one, always, around, before_one, lossless, relation, with_chance}
+use Rattle.gb_elab.specs.Probability.{before_call, called, chance, chance_here}
 use Rattle.gb_elab.specs.Equalities.{equalities}
 
 -- what a form means, in an environment, under bound names, the innermost first, and with a wanted type, or none
 abbrev pub Typing : Type 0
-Typing = Environment → List TypedName → Option Ty → Answer Term
+Typing = Environment → List Binding → Option Ty → Answer Term
 
 -- what a judgment of one procedure says but for its bound
 abbrev pub Contracting : Type 0
-Contracting = Environment → List TypedName → Answer Contract
+Contracting = Environment → List Binding → Answer Contract
+
+-- what the arguments of a call mean, for these parameters; the call has this place
+abbrev pub Arguing : Type 0
+Arguing = List TypedName → Place → Environment → List Binding → Answer (List Term)
 
 -- What a node means: as a form; as a function of one variable, of which a type is asked, with the type that is wanted of its
--- value; and as a judgment behind which a bound stands.
+-- value; as a judgment behind which a bound stands; and as a call, or the arguments of one.
 pub record Meaning : Type 0 where
   pub form : Typing
   pub function : Domain → Typing
   pub contract : Contracting
+  pub arguments : Arguing
 
 -- a part of a form, with what it means
 abbrev pub Part : Type 0
@@ -84,7 +92,7 @@ abbrev pub simple : Name → Place → Typing
 simple x p at bound w = option_map_or (λ k. constant k w p) (known_at at bound x) (declared (constant_at at bound x) (operator_at at bound x) x p at bound w)
 
 -- a form with a side, which is of a name alone
-abbrev pub read : Environment → List TypedName → Head → Name → List Node → Place → Node → Answer Term
+abbrev pub read : Environment → List Binding → Head → Name → List Node → Place → Node → Answer Term
 read at bound head.Name x ps p s = beside (head_of s) s at bound x p
 read at bound head.Path x ps p s = beside (head_of s) s at bound (path ps) p
 read at bound _ x ps p s = refused Argument p
@@ -101,13 +109,13 @@ bracketed (a ∷ []) p at bound w = a.1.form at bound w
 bracketed _ p at bound w = not_built p
 
 -- what a part means as it is asked for
-abbrev pub operand : Asked → Part → Environment → List TypedName → Answer Term
+abbrev pub operand : Asked → Part → Environment → List Binding → Answer Term
 operand (Form w) a at bound = a.1.form at bound w
 operand (Source w) a at bound = a.1.form (sampled at) bound w
 operand (Function d w) a at bound = a.1.function d at bound w
 
 -- a form that a rule makes of parts in the order in which they are typed, behind those that are typed
-unfoldable pub operands : Rule → Place → Environment → List TypedName → Option Ty → List Term → List Part → Answer Term
+unfoldable pub operands : Rule → Place → Environment → List Binding → Option Ty → List Term → List Part → Answer Term
 operands r p at bound w ts [] = made r p ts >>= wanted w p
 operands r p at bound w ts (a ∷ bs) = do
   k ← asked r at w p (place_of a.0) ts
@@ -181,19 +189,19 @@ abbrev pub applied_form : List Part → Place → Typing
 applied_form (f ∷ bs) p at bound w = application (head_of f.0) (text_of f.0) (parts_of f.0) bs p at bound w
 applied_form [] p at bound w = not_built p
 
--- a form under quantifiers, in which the variables are bound
-abbrev pub under : Quantifier → List TypedName → List TypedName → (List TypedName → Option Ty → Answer Term) → Answer Term
-under q vs bound a = do
-  t ← a (reverse vs ++ bound) (Some ty.Bool)
-  given (over_all q vs t)
+-- a form under quantifiers, in which these things are bound
+abbrev pub under : Quantifier → List Binding → List Binding → (List Binding → Option Ty → Answer Term) → Answer Term
+under q bs bound a = do
+  t ← a (reverse bs ++ bound) (Some ty.Bool)
+  given (over_all q bs t)
 
 -- a quantified form
 abbrev pub quantified : Name → List Part → Place → Typing
 quantified x (bs ∷ a ∷ []) p at bound w = do
   q ← quantifier_of x p
   _ ← formula at w p
-  vs ← bound_by at.declared [] (parts_of bs.0)
-  under q vs bound (a.1.form at)
+  cs ← bound_by at [] (parts_of bs.0)
+  under q cs bound (a.1.form at)
 quantified x _ p at bound w = not_built p
 
 -- an equivalence of two procedures: its precondition reads their parameters, its postcondition their results
@@ -230,6 +238,40 @@ bounded x (a ∷ r ∷ []) p at bound w = do
   b ← r.1.form (around at) bound (Some ty.Real)
   given (with_chance c s b)
 bounded x _ p at bound w = not_built p
+
+-- arguments behind those that are typed, one for each parameter, from left to right
+unfoldable pub arguments : Place → Environment → List Binding → List Term → List TypedName → List Part → Answer (List Term)
+arguments p at bound ts [] [] = given ts
+arguments p at bound ts (v ∷ vs) [] = refused TypeMismatch p
+arguments p at bound ts [] (a ∷ bs) = refused TypeMismatch (place_of a.0)
+arguments p at bound ts (v ∷ vs) (a ∷ bs) = do
+  t ← a.1.form at bound (Some v.ty)
+  arguments p at bound (ts ++ t ∷ []) vs bs
+
+-- There is an argument for each parameter; a call with fewer is refused before them.
+abbrev pub listed : Place → Environment → List Binding → List TypedName → List Part → Answer (List Term)
+listed p at bound vs ps = if nat_lt (length ps) (length vs) then refused TypeMismatch p else arguments p at bound [] vs ps
+
+-- the arguments of a call stand in its last part
+abbrev pub last_arguments : Option Part → Arguing
+last_arguments (Some a) vs p at bound = a.1.arguments vs p at bound
+last_arguments None vs p at bound = not_built p
+
+abbrev pub arguing : Head → List Part → Arguing
+arguing head.Call ps vs p at bound = last_arguments (slice_get ps (length ps - 1)) vs p at bound
+arguing head.List ps vs p at bound = listed p at bound vs ps
+arguing _ ps vs p at bound = not_built p
+
+-- A probability: the arguments read logical variables and its memory, the event reads the result.
+abbrev pub probability : List Part → Place → Typing
+probability (c ∷ m ∷ e ∷ []) p at bound w = do
+  _ ← chance_here at w p
+  f ← called at bound (head_of c.0) (parts_of c.0) (place_of c.0)
+  ts ← c.1.arguments f.1.params (place_of c.0) (before_call at (text_of m.0)) bound
+  i ← memory_at at bound (text_of m.0) (place_of m.0)
+  b ← e.1.form (after_one at f.1) bound (Some ty.Bool)
+  given (chance f.0 i ts b)
+probability _ p at bound w = not_built p
 
 -- The typing of each form from its head, its text, its parts, each with what it means, and its place. Where a form has a type
 -- by its shape alone, that is tested before its parts. What isn't built is the last clause, where no form stands either that
@@ -268,6 +310,7 @@ typing head.Bounded x ps p at bound w = bounded x ps p at bound w
 typing head.Lossless x ps p at bound w = do
   _ ← judgment at w p
   lossless at bound (bare ps) p
+typing head.Probability x ps p at bound w = probability ps p at bound w
 typing h x ps p at bound w = operation (operator_of h x) ps p at bound w
 
 -- the variable of a function, which has one
@@ -277,7 +320,7 @@ only _ p = refused TypeMismatch p
 
 -- the value of a function, with its variable as the innermost bound one
 abbrev pub value_of : Name → Ty → Part → Typing
-value_of x t a at bound w = a.1.form at (record { name = x; ty = t } ∷ bound) w
+value_of x t a at bound w = a.1.form at (value x t ∷ bound) w
 
 abbrev pub bracketed_function : List Part → Place → Domain → Typing
 bracketed_function (a ∷ []) p d at bound w = a.1.function d at bound w
@@ -310,7 +353,7 @@ contracting head.Phoare ps p at bound = contract ps p at bound
 contracting _ ps p at bound = refused TypeMismatch p
 
 abbrev pub meaning : Head → Name → List Part → Place → Meaning
-meaning h x ps p = record { form = typing h x ps p; function = function_typing h ps p; contract = contracting h ps p }
+meaning h x ps p = record { form = typing h x ps p; function = function_typing h ps p; contract = contracting h ps p; arguments = arguing h ps }
 
 -- what a node means
 unfoldable pub meant : Node → Meaning
@@ -327,6 +370,10 @@ function_of t = (meant t).function
 -- what a judgment says but for its bound, or its refusal
 abbrev pub contract_of : Node → Contracting
 contract_of t = (meant t).contract
+
+-- what the arguments of a call mean, or their refusal
+abbrev pub arguments_of : Node → Arguing
+arguments_of t = (meant t).arguments
 
 -- nodes, each with what it means
 abbrev pub with_meanings : List Node → List Part

@@ -1,3 +1,4 @@
 pub mod OneProcedure
+pub mod Probability
 pub mod Equalities
 pub mod Forms

@@ -3,7 +3,6 @@ use Rattle.std.specs.Prelude.{pos, true, if◌then◌else◌, List, [], ◌∷�
 use Rattle.gb_core.specs.declared.place.Place.{Place}
 use Rattle.gb_core.specs.declared.ty.Ty.TheVariants as ty
 use Rattle.gb_terms.specs.declared.decl.Proc.{Proc}
-use Rattle.gb_terms.specs.declared.decl.TypedName.{TypedName}
 use Rattle.gb_terms.specs.declared.module.ProcRef.{ProcRef}
 use Rattle.gb_terms.specs.declared.op.Op.TheVariants as op
 use Rattle.gb_terms.specs.declared.op.Rel.{Rel}
@@ -14,21 +13,23 @@ use Rattle.gb_terms.specs.Make.{applied, node, truth_literal}
 use Rattle.gb_script.specs.declared.tree.Node.{Node}
 use Rattle.gb_goal.specs.Answers.{Answer, ◌>>=◌, not_built}
 use Rattle.gb_goal.specs.Answers.Answer.{given}
-use Rattle.gb_names.specs.Environment.{Name, Environment, ambient, unary}
+use Rattle.gb_names.specs.declared.bindings.Binding.{Binding}
+use Rattle.gb_names.specs.Environment.{Name, Environment, ambient, in_judgments, reading, unary}
+use Rattle.gb_names.specs.Environment.Memories.{none}
 use Rattle.gb_names.specs.Judgments.{one_procedure, result_of}
 use Rattle.gb_elab.specs.declared.contract.Contract.{Contract}
 
 -- what a precondition reads: the parameters of its procedure
 abbrev pub before_one : Environment → Proc → Environment
-before_one at f = unary at.declared at.sequent f.params
+before_one at f = reading (in_judgments at.memories) (unary at.declared at.sequent f.params)
 
 -- what a postcondition reads: the result of its procedure
 abbrev pub after_one : Environment → Proc → Environment
-after_one at f = unary at.declared at.sequent (result_of f)
+after_one at f = reading (in_judgments at.memories) (unary at.declared at.sequent (result_of f))
 
 -- what a bound reads: logical variables alone
 abbrev pub around : Environment → Environment
-around at = ambient at.declared at.sequent
+around at = reading none (ambient at.declared at.sequent)
 
 -- A contract: from each memory in its precondition, its procedure comes to memories in its postcondition.
 abbrev pub always : Contract → Term
@@ -53,7 +54,7 @@ abbrev pub ends : ProcRef → Term
 ends f = with_chance (record { procedure = f; pre = truth_literal true; post = truth_literal true }) rel.Equal one
 
 -- the procedure that ends
-abbrev pub lossless : Environment → List TypedName → List Node → Place → Answer Term
+abbrev pub lossless : Environment → List Binding → List Node → Place → Answer Term
 lossless at bound (f ∷ []) p = do
   m ← one_procedure at bound f p
   given (ends m.0)

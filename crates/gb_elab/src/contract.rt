@@ -15,12 +15,12 @@ use gb_core::place::Place;
 use gb_core::refusal::Refused;
 use gb_core::ty::Ty;
 use gb_names::allowed::judgment;
+use gb_names::bindings::Binding;
 use gb_names::judgment::one_procedure;
 use gb_names::refusals::not_built;
 use gb_names::setting::Setting;
 use gb_script::tree::Node;
 use gb_shared::Shared;
-use gb_terms::decl::TypedName;
 use gb_terms::make;
 use gb_terms::module::ProcRef;
 use gb_terms::op::{Op, Rel};
@@ -136,7 +136,7 @@ fn ends(alloc: Global, procedure: Shared<ProcRef>) -> Result<Form, AllocError>
 pub fn lossless(
     alloc: Global,
     at: &Setting<'_>,
-    bound: &[TypedName],
+    bound: &[Binding],
     parts: &[Node],
     place: Place,
     want: Option<&Ty>,

@@ -16,13 +16,13 @@ use gb_core::place::Place;
 use gb_core::refusal::Refused;
 use gb_core::ty::Ty;
 use gb_names::allowed::truth;
+use gb_names::bindings::Binding;
 use gb_names::names::{path, sided};
 use gb_names::refusals::{argument, mismatch, not_built};
 use gb_names::setting::Setting;
 use gb_same::types::same_types;
 use gb_script::head::Head;
 use gb_script::tree::Node;
-use gb_terms::decl::TypedName;
 use gb_terms::make;
 use gb_terms::op::{Op, Side};
 use gb_terms::term::{Form, Term};
@@ -33,7 +33,7 @@ use std::alloc::Global;
 fn equality(
     alloc: Global,
     at: &Setting<'_>,
-    bound: &[TypedName],
+    bound: &[Binding],
     name: &Name,
     place: Place,
 ) -> Result<Form, Refused>
@@ -56,7 +56,7 @@ fn equated(alloc: Global, left: Term, right: Term, place: Place) -> Result<Form,
 }
 
 /// What `={..}` says of one thing.
-fn equation(alloc: Global, at: &Setting<'_>, bound: &[TypedName], x: &Node) -> Result<Form, Refused>
+fn equation(alloc: Global, at: &Setting<'_>, bound: &[Binding], x: &Node) -> Result<Form, Refused>
     ensures { Answers (equation_of (environment at.now) bound.now x.now) result }
 {
     equation_at(
@@ -74,7 +74,7 @@ fn equation(alloc: Global, at: &Setting<'_>, bound: &[TypedName], x: &Node) -> R
 fn equation_at(
     alloc: Global,
     at: &Setting<'_>,
-    bound: &[TypedName],
+    bound: &[Binding],
     head: Head,
     text: &Name,
     parts: &[Node],
@@ -98,7 +98,7 @@ fn equation_at(
 pub fn equalities(
     alloc: Global,
     at: &Setting<'_>,
-    bound: &[TypedName],
+    bound: &[Binding],
     list: &[Node],
     want: Option<&Ty>,
     place: Place,
@@ -123,7 +123,7 @@ pub fn equalities(
 fn with_equalities(
     alloc: Global,
     at: &Setting<'_>,
-    bound: &[TypedName],
+    bound: &[Binding],
     first: Form,
     list: &[Node],
 ) -> Result<Form, Refused>

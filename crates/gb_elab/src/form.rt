@@ -1,6 +1,6 @@
 // Typing of forms, from left to right.
 
-ghost use Rattle.std.specs.Prelude.{◌≡◌, [], ◌∷◌, drop, Some};
+ghost use Rattle.std.specs.Prelude.{◌≡◌, ◌≤◌, [], ◌∷◌, drop, length, Some};
 ghost use Rattle.std.specs.Option.{option_copied};
 ghost use Rattle.gb_script.specs.Tree.{head_of, text_of, parts_of, place_of};
 ghost use Rattle.gb_goal.specs.Answers.{Answers, Gives, ◌>>=◌ as ◌and_then◌};
@@ -8,14 +8,16 @@ ghost use Rattle.gb_core.specs.declared.refusal.Why.TheVariants.{TypeMismatch};
 ghost use Rattle.gb_goal.specs.Answers.Answer.{given, refused};
 ghost use Rattle.gb_names.specs.Allowed.{judgment};
 ghost use Rattle.gb_elab.specs.OneProcedure.{after_one, around, before_one, lossless, with_chance};
+ghost use Rattle.gb_elab.specs.Probability.{before_call, chance};
 ghost use Rattle.gb_names.specs.Environment.{ambient, environment};
-ghost use Rattle.gb_names.specs.Names.{constant_at, operator_at, path};
+ghost use Rattle.gb_names.specs.Names.{constant_at, memory_at, operator_at, path};
 ghost use Rattle.gb_operators.specs.Rules.{asked};
 ghost use Rattle.gb_names.specs.Judgments.{after, before, equivalent};
-ghost use Rattle.gb_elab.specs.Forms.{annotated, applied, applied_form, application, bounded, bracketed, bracketed_function, by_rule, call, contract, contract_of, declared, elaborated, equivalence, hoare, from_right, function, function_of, function_typing, meant, only, operand, operands, operation, operator_alone, plain_function, projection, quantified, read, simple, summed, typed_function, typing, under, user_call, value_of, with_meanings, with_side};
+ghost use Rattle.gb_elab.specs.Forms.{annotated, applied, applied_form, application, arguments, arguments_of, bounded, bracketed, bracketed_function, by_rule, call, contract, contract_of, declared, elaborated, equivalence, hoare, from_right, function, function_of, function_typing, listed, meant, only, operand, operands, operation, operator_alone, plain_function, probability, projection, quantified, read, simple, summed, typed_function, typing, under, user_call, value_of, with_meanings, with_side};
 
 use crate::contract::{Contract, always, lossless, relation, with_chance};
 use crate::equalities::equalities;
+use crate::probability::{called, chance, chance_here};
 use gb_core::name::Name;
 use gb_core::place::Place;
 use gb_core::refusal::Refused;
@@ -23,11 +25,13 @@ use gb_core::ty::Ty;
 use gb_goal::scope::{OperatorType, Scope};
 use gb_goal::sequent::Sequent;
 use gb_names::allowed::{coin, formula, judgment, stands};
-use gb_names::binders::{Quantifier, bound_by, over_all, quantifier_of, variable, within};
+use gb_names::binders::{Quantifier, bound_by, over_all, quantifier_of};
+use gb_names::bindings::{Binding, Bindings, within};
 use gb_names::judgment::{Both, Named, both_procedures, equiv, one_procedure, result_of};
+use gb_names::memories::memory_at;
 use gb_names::names::{Known, beside, constant_at, known_at, named, operator_at, path, unit};
 use gb_names::refusals::{argument, mismatch, not_built};
-use gb_names::setting::Setting;
+use gb_names::setting::{Memories, Setting};
 use gb_names::types::{type_or_number, wanted};
 use gb_operators::asked::asked;
 use gb_operators::constants::{constant, literal};
@@ -41,14 +45,14 @@ use gb_operators::rules::{Asked, Rule, rule_for, rule_of};
 use gb_script::head::Head;
 use gb_script::tree::Node;
 use gb_shared::Shared;
-use gb_terms::decl::{Typed, TypedName};
+use gb_terms::decl::TypedName;
 use gb_terms::op::Rel;
-use gb_terms::term::{Form, Term, Terms};
+use gb_terms::term::{Form, RealTerm, Term, Terms};
 use gb_weights::weights::weights;
 use sqlite_items::Items;
 use std::alloc::Global;
 
-/// The typed tree of a form that reads no program variable, in the context of a sequent.
+/// The typed tree of a form of a proof step that reads no program variable, in the context of a sequent.
 ///
 /// # Errors
 ///
@@ -77,7 +81,7 @@ pub fn term(
 pub fn typed(
     alloc: Global,
     at: &Setting<'_>,
-    bound: &[TypedName],
+    bound: &[Binding],
     t: &Node,
     want: Option<&Ty>,
 ) -> Result<Term, Refused>
@@ -100,7 +104,7 @@ pub fn typed(
 fn typing(
     alloc: Global,
     at: &Setting<'_>,
-    bound: &[TypedName],
+    bound: &[Binding],
     head: Head,
     text: &Name,
     parts: &[Node],
@@ -143,6 +147,7 @@ fn typing(
         Head::Phoare => without_bound(at, place, want),
         Head::Bounded => bounded(alloc, at, bound, text, parts, place, want),
         Head::Lossless => lossless(alloc, at, bound, parts, place, want),
+        Head::Probability => probability(alloc, at, bound, parts, place, want),
         _ => operation(
             alloc,
             at,
@@ -159,7 +164,7 @@ fn typing(
 fn simple(
     alloc: Global,
     at: &Setting<'_>,
-    bound: &[TypedName],
+    bound: &[Binding],
     name: &Name,
     want: Option<&Ty>,
     place: Place,
@@ -176,7 +181,7 @@ fn simple(
 fn declared(
     alloc: Global,
     at: &Setting<'_>,
-    bound: &[TypedName],
+    bound: &[Binding],
     name: &Name,
     want: Option<&Ty>,
     place: Place,
@@ -211,7 +216,7 @@ fn operator_alone(
 fn at_path(
     alloc: Global,
     at: &Setting<'_>,
-    bound: &[TypedName],
+    bound: &[Binding],
     words: &[Node],
     want: Option<&Ty>,
     place: Place,
@@ -226,7 +231,7 @@ fn at_path(
 fn read(
     alloc: Global,
     at: &Setting<'_>,
-    bound: &[TypedName],
+    bound: &[Binding],
     t: &Node,
     side: &Node,
 ) -> Result<Term, Refused>
@@ -246,7 +251,7 @@ fn read(
 fn with_side(
     alloc: Global,
     at: &Setting<'_>,
-    bound: &[TypedName],
+    bound: &[Binding],
     parts: &[Node],
     place: Place,
     want: Option<&Ty>,
@@ -264,7 +269,7 @@ fn with_side(
 fn bracketed(
     alloc: Global,
     at: &Setting<'_>,
-    bound: &[TypedName],
+    bound: &[Binding],
     parts: &[Node],
     place: Place,
     want: Option<&Ty>,
@@ -282,7 +287,7 @@ fn bracketed(
 fn operand(
     alloc: Global,
     at: &Setting<'_>,
-    bound: &[TypedName],
+    bound: &[Binding],
     asked: &Asked,
     part: &Node,
 ) -> Result<Term, Refused>
@@ -312,7 +317,7 @@ fn inside(ty: &Option<Shared<Ty>>) -> Option<&Ty>
 fn next(
     alloc: Global,
     at: &Setting<'_>,
-    bound: &[TypedName],
+    bound: &[Binding],
     rule: &Rule,
     part: &Node,
     place: Place,
@@ -331,7 +336,7 @@ fn next(
 fn by_rule(
     alloc: Global,
     at: &Setting<'_>,
-    bound: &[TypedName],
+    bound: &[Binding],
     rule: Rule,
     parts: &[Node],
     place: Place,
@@ -352,7 +357,7 @@ fn by_rule(
 fn of_one(
     alloc: Global,
     at: &Setting<'_>,
-    bound: &[TypedName],
+    bound: &[Binding],
     rule: Rule,
     part: &Node,
     place: Place,
@@ -372,7 +377,7 @@ fn of_one(
 fn from_right(
     alloc: Global,
     at: &Setting<'_>,
-    bound: &[TypedName],
+    bound: &[Binding],
     rule: Rule,
     parts: &[Node],
     place: Place,
@@ -398,7 +403,7 @@ fn from_right(
 fn operation(
     alloc: Global,
     at: &Setting<'_>,
-    bound: &[TypedName],
+    bound: &[Binding],
     operator: Option<Operator>,
     parts: &[Node],
     place: Place,
@@ -437,7 +442,7 @@ fn operation(
 fn annotated(
     alloc: Global,
     at: &Setting<'_>,
-    bound: &[TypedName],
+    bound: &[Binding],
     parts: &[Node],
     place: Place,
     want: Option<&Ty>,
@@ -458,7 +463,7 @@ fn annotated(
 fn projection(
     alloc: Global,
     at: &Setting<'_>,
-    bound: &[TypedName],
+    bound: &[Binding],
     parts: &[Node],
     place: Place,
     want: Option<&Ty>,
@@ -479,7 +484,7 @@ fn projection(
 fn summed(
     alloc: Global,
     at: &Setting<'_>,
-    bound: &[TypedName],
+    bound: &[Binding],
     parts: &[Node],
     place: Place,
     want: Option<&Ty>,
@@ -501,7 +506,7 @@ fn summed(
 fn call(
     alloc: Global,
     at: &Setting<'_>,
-    bound: &[TypedName],
+    bound: &[Binding],
     known: Known,
     parts: &[Node],
     place: Place,
@@ -523,7 +528,7 @@ fn call(
 fn applied(
     alloc: Global,
     at: &Setting<'_>,
-    bound: &[TypedName],
+    bound: &[Binding],
     name: &Name,
     parts: &[Node],
     place: Place,
@@ -542,7 +547,7 @@ fn applied(
 fn user_call(
     alloc: Global,
     at: &Setting<'_>,
-    bound: &[TypedName],
+    bound: &[Binding],
     name: &Name,
     parts: &[Node],
     place: Place,
@@ -576,7 +581,7 @@ fn user_call(
 fn with_arguments(
     alloc: Global,
     at: &Setting<'_>,
-    bound: &[TypedName],
+    bound: &[Binding],
     name: &Name,
     parts: &[Node],
     place: Place,
@@ -595,7 +600,7 @@ fn with_arguments(
 fn applied_form(
     alloc: Global,
     at: &Setting<'_>,
-    bound: &[TypedName],
+    bound: &[Binding],
     parts: &[Node],
     place: Place,
     want: Option<&Ty>,
@@ -620,7 +625,7 @@ fn applied_form(
 fn quantified(
     alloc: Global,
     at: &Setting<'_>,
-    bound: &[TypedName],
+    bound: &[Binding],
     text: &Name,
     parts: &[Node],
     place: Place,
@@ -632,27 +637,27 @@ fn quantified(
         [binds, body] => {
             let quantifier = quantifier_of(text, place)?;
             formula(at, want, place)?;
-            let variables = bound_by(alloc, at.scope, binds.parts.as_slice())?;
-            over_body(alloc, at, bound, quantifier, variables, body)
+            let bindings = bound_by(alloc, at, binds.parts.as_slice())?;
+            over_body(alloc, at, bound, quantifier, bindings, body)
         }
         _ => Err(not_built(place)),
     }
 }
 
-/// The quantifiers over these variables, which are bound in the body.
+/// The quantifiers over these things, which are bound in the body.
 #[cycle(form)]
 fn over_body(
     alloc: Global,
     at: &Setting<'_>,
-    bound: &[TypedName],
+    bound: &[Binding],
     quantifier: Quantifier,
-    variables: Typed,
+    bindings: Bindings,
     body: &Node,
 ) -> Result<Form, Refused>
-    ensures { Answers (under quantifier variables bound.now (elaborated body.now (environment at.now))) result }
+    ensures { Answers (under quantifier bindings bound.now (elaborated body.now (environment at.now))) result }
 {
-    let count = variables.len();
-    let inner = within(alloc, variables, bound)?;
+    let count = bindings.len();
+    let inner = within(alloc, bindings, bound)?;
     let body = typed(alloc, at, inner.as_slice(), body, Some(&Ty::Bool))?;
     over_all(alloc, quantifier, &inner.as_slice()[..count], body).map_err(Refused::from)
 }
@@ -662,7 +667,7 @@ fn over_body(
 fn equivalence(
     alloc: Global,
     at: &Setting<'_>,
-    bound: &[TypedName],
+    bound: &[Binding],
     parts: &[Node],
     place: Place,
     want: Option<&Ty>,
@@ -685,7 +690,7 @@ fn equivalence(
 fn precondition(
     alloc: Global,
     at: &Setting<'_>,
-    bound: &[TypedName],
+    bound: &[Binding],
     pre: &Node,
     both: &Both<'_>,
 ) -> Result<Form, Refused>
@@ -693,7 +698,9 @@ fn precondition(
 {
     let left = both.left.procedure.params.as_slice();
     let right = both.right.procedure.params.as_slice();
-    let before = Setting::relational(at.scope, at.sequent, left, right);
+    let before = Setting::relational(at.scope, at.sequent, left, right).reading(
+        at.memories.in_judgments(),
+    );
     typed(alloc, &before, bound, pre, Some(&Ty::Bool))
 }
 
@@ -702,7 +709,7 @@ fn precondition(
 fn postcondition(
     alloc: Global,
     at: &Setting<'_>,
-    bound: &[TypedName],
+    bound: &[Binding],
     post: &Node,
     both: &Both<'_>,
 ) -> Result<Form, Refused>
@@ -710,7 +717,12 @@ fn postcondition(
 {
     let left = result_of(alloc, both.left.procedure)?;
     let right = result_of(alloc, both.right.procedure)?;
-    let after = Setting::relational(at.scope, at.sequent, left.as_slice(), right.as_slice());
+    let after = Setting::relational(
+        at.scope,
+        at.sequent,
+        left.as_slice(),
+        right.as_slice(),
+    ).reading(at.memories.in_judgments());
     typed(alloc, &after, bound, post, Some(&Ty::Bool))
 }
 
@@ -719,7 +731,7 @@ fn postcondition(
 fn with_postcondition(
     alloc: Global,
     at: &Setting<'_>,
-    bound: &[TypedName],
+    bound: &[Binding],
     post: &Node,
     both: &Both<'_>,
     pre: Form,
@@ -735,7 +747,7 @@ fn with_postcondition(
 fn hoare(
     alloc: Global,
     at: &Setting<'_>,
-    bound: &[TypedName],
+    bound: &[Binding],
     parts: &[Node],
     place: Place,
     want: Option<&Ty>,
@@ -760,7 +772,7 @@ fn without_bound(at: &Setting<'_>, place: Place, want: Option<&Ty>) -> Result<Fo
 fn bounded(
     alloc: Global,
     at: &Setting<'_>,
-    bound: &[TypedName],
+    bound: &[Binding],
     sign: &Name,
     parts: &[Node],
     place: Place,
@@ -784,14 +796,14 @@ fn bounded(
 fn bounded_by(
     alloc: Global,
     at: &Setting<'_>,
-    bound: &[TypedName],
+    bound: &[Binding],
     contract: Contract,
     relation: Rel,
     limit: &Node,
 ) -> Result<Form, Refused>
     ensures { Answers (elaborated limit.now (around (environment at.now)) bound.now (Some Ty.Real) and_then λ b. given (with_chance contract relation b)) result }
 {
-    let around = Setting::ambient(at.scope, at.sequent);
+    let around = Setting::ambient(at.scope, at.sequent).reading(Memories::None);
     let limit = typed(alloc, &around, bound, limit, Some(&Ty::Real))?;
     with_chance(alloc, contract, relation, limit).map_err(Refused::from)
 }
@@ -801,7 +813,7 @@ fn bounded_by(
 fn contract_of(
     alloc: Global,
     at: &Setting<'_>,
-    bound: &[TypedName],
+    bound: &[Binding],
     t: &Node,
 ) -> Result<Contract, Refused>
     ensures { Answers (contract_of t.now (environment at.now) bound.now) result }
@@ -817,7 +829,7 @@ fn contract_of(
 fn contract(
     alloc: Global,
     at: &Setting<'_>,
-    bound: &[TypedName],
+    bound: &[Binding],
     parts: &[Node],
     place: Place,
 ) -> Result<Contract, Refused>
@@ -838,13 +850,15 @@ fn contract(
 fn before_one(
     alloc: Global,
     at: &Setting<'_>,
-    bound: &[TypedName],
+    bound: &[Binding],
     pre: &Node,
     named: &Named<'_>,
 ) -> Result<Form, Refused>
     ensures { Answers (elaborated pre.now (before_one (environment at.now) named.now.procedure.now) bound.now (Some Ty.Bool)) result }
 {
-    let before = Setting::unary(at.scope, at.sequent, named.procedure.params.as_slice());
+    let before = Setting::unary(at.scope, at.sequent, named.procedure.params.as_slice()).reading(
+        at.memories.in_judgments(),
+    );
     typed(alloc, &before, bound, pre, Some(&Ty::Bool))
 }
 
@@ -853,14 +867,16 @@ fn before_one(
 fn after_one(
     alloc: Global,
     at: &Setting<'_>,
-    bound: &[TypedName],
+    bound: &[Binding],
     post: &Node,
     named: &Named<'_>,
 ) -> Result<Form, Refused>
     ensures { Answers (elaborated post.now (after_one (environment at.now) named.now.procedure.now) bound.now (Some Ty.Bool)) result }
 {
     let result = result_of(alloc, named.procedure)?;
-    let after = Setting::unary(at.scope, at.sequent, result.as_slice());
+    let after = Setting::unary(at.scope, at.sequent, result.as_slice()).reading(
+        at.memories.in_judgments(),
+    );
     typed(alloc, &after, bound, post, Some(&Ty::Bool))
 }
 
@@ -869,7 +885,7 @@ fn after_one(
 fn with_result(
     alloc: Global,
     at: &Setting<'_>,
-    bound: &[TypedName],
+    bound: &[Binding],
     post: &Node,
     named: &Named<'_>,
     pre: Form,
@@ -883,6 +899,132 @@ fn with_result(
         pre,
         post,
     })
+}
+
+/// A probability: the arguments of its call read logical variables and its memory, its event the result.
+#[cycle(form)]
+fn probability(
+    alloc: Global,
+    at: &Setting<'_>,
+    bound: &[Binding],
+    parts: &[Node],
+    place: Place,
+    want: Option<&Ty>,
+) -> Result<RealTerm, Refused>
+    ensures { Answers (probability (with_meanings parts.now) place (environment at.now) bound.now (option_copied want.entry)) result }
+{
+    match parts {
+        [call, memory, event] => {
+            chance_here(at, want, place)?;
+            let named = called(alloc, at, bound, call)?;
+            let arguments = before_call(alloc, at, bound, call, &named, &memory.text)?;
+            from_memory(alloc, at, bound, &named, arguments, event, memory)
+        }
+        _ => Err(not_built(place)),
+    }
+}
+
+/// The arguments of a call of a procedure, which read logical variables and the memory from which it is made.
+#[cycle(form)]
+fn before_call(
+    alloc: Global,
+    at: &Setting<'_>,
+    bound: &[Binding],
+    call: &Node,
+    named: &Named<'_>,
+    memory: &Name,
+) -> Result<Terms, Refused>
+    ensures { Answers (arguments_of call.now named.now.procedure.now.params (place_of call.now) (before_call (environment at.now) memory.now) bound.now) result }
+{
+    let before = Setting::ambient(at.scope, at.sequent).reading(at.memories.in_arguments(memory));
+    let params = named.procedure.params.as_slice();
+    arguments_of(alloc, &before, bound, params, call, call.place)
+}
+
+/// The probability of an event after a procedure with these arguments.
+#[cycle(form)]
+fn from_memory(
+    alloc: Global,
+    at: &Setting<'_>,
+    bound: &[Binding],
+    named: &Named<'_>,
+    arguments: Terms,
+    event: &Node,
+    memory: &Node,
+) -> Result<RealTerm, Refused>
+    ensures { Answers (memory_at (environment at.now) bound.now (text_of memory.now) (place_of memory.now) and_then λ i. elaborated event.now (after_one (environment at.now) named.now.procedure.now) bound.now (Some Ty.Bool) and_then λ b. given (chance named.now.reference i arguments b)) result }
+{
+    let memory = memory_at(alloc, at, bound, &memory.text, memory.place)?;
+    let event = after_one(alloc, at, bound, event, named)?;
+    let procedure = named.reference.share()?;
+    chance(alloc, procedure, memory, arguments, event).map_err(Refused::from)
+}
+
+/// The arguments that a call, or the list in it, has for these parameters. The call has this place.
+#[cycle(form)]
+fn arguments_of(
+    alloc: Global,
+    at: &Setting<'_>,
+    bound: &[Binding],
+    params: &[TypedName],
+    t: &Node,
+    place: Place,
+) -> Result<Terms, Refused>
+    ensures { Answers (arguments_of t.now params.now place (environment at.now) bound.now) result }
+{
+    match t.head {
+        Head::Call => match t.parts.as_slice().last() {
+            Some(list) => arguments_of(alloc, at, bound, params, list, place),
+            None => Err(not_built(place)),
+        },
+        Head::List => listed(alloc, at, bound, params, t.parts.as_slice(), place),
+        _ => Err(not_built(place)),
+    }
+}
+
+/// Arguments, one for each parameter. A call with fewer is refused before them.
+#[cycle(form)]
+fn listed(
+    alloc: Global,
+    at: &Setting<'_>,
+    bound: &[Binding],
+    params: &[TypedName],
+    parts: &[Node],
+    place: Place,
+) -> Result<Terms, Refused>
+    ensures { Answers (listed place (environment at.now) bound.now params.now (with_meanings parts.now)) result }
+{
+    if parts.len() < params.len() {
+        Err(mismatch(place))
+    } else {
+        arguments(alloc, at, bound, params, parts, place)
+    }
+}
+
+/// Arguments of the types of these parameters, of which there are no more, in the order of the text.
+#[cycle(form)]
+#[tactic(auto, unfolding(crate::specs::Forms::arguments))]
+fn arguments(
+    alloc: Global,
+    at: &Setting<'_>,
+    bound: &[Binding],
+    params: &[TypedName],
+    parts: &[Node],
+    place: Place,
+) -> Result<Terms, Refused>
+    requires { length params.now ≤ length parts.now }
+    ensures { Answers (arguments place (environment at.now) bound.now [] params.now (with_meanings parts.now)) result }
+{
+    let mut done = Items::new(alloc);
+    let mut rest = params;
+    for part in parts {
+        let [param, more @ ..] = rest else {
+            return Err(mismatch(part.place));
+        };
+        done.push(typed(alloc, at, bound, part, Some(param.ty.get()))?)?;
+        rest = more;
+    }
+    Ok(done)
 }
 
 /// The typed tree of a function of one variable from a type to a type, with its variable as the only bound one.
@@ -914,7 +1056,7 @@ pub fn function(
 fn function_of(
     alloc: Global,
     at: &Setting<'_>,
-    bound: &[TypedName],
+    bound: &[Binding],
     t: &Node,
     domain: &Domain,
     want: Option<&Ty>,
@@ -938,7 +1080,7 @@ fn function_of(
 fn function_typing(
     alloc: Global,
     at: &Setting<'_>,
-    bound: &[TypedName],
+    bound: &[Binding],
     head: Head,
     parts: &[Node],
     place: Place,
@@ -960,7 +1102,7 @@ fn function_typing(
 fn bracketed_function(
     alloc: Global,
     at: &Setting<'_>,
-    bound: &[TypedName],
+    bound: &[Binding],
     parts: &[Node],
     place: Place,
     domain: &Domain,
@@ -979,7 +1121,7 @@ fn bracketed_function(
 fn plain_function(
     alloc: Global,
     at: &Setting<'_>,
-    bound: &[TypedName],
+    bound: &[Binding],
     parts: &[Node],
     place: Place,
     domain: &Domain,
@@ -1002,7 +1144,7 @@ fn plain_function(
 fn typed_function(
     alloc: Global,
     at: &Setting<'_>,
-    bound: &[TypedName],
+    bound: &[Binding],
     parts: &[Node],
     place: Place,
     domain: &Domain,
@@ -1035,7 +1177,7 @@ fn only<'t>(names: &'t [Node], place: Place) -> Result<&'t Node, Refused>
 fn value_of(
     alloc: Global,
     at: &Setting<'_>,
-    bound: &[TypedName],
+    bound: &[Binding],
     body: &Node,
     name: &Name,
     ty: &Shared<Ty>,
@@ -1043,8 +1185,8 @@ fn value_of(
 ) -> Result<Term, Refused>
     ensures { Answers (value_of name.now ty.now (body.now, meant body.now) (environment at.now) bound.now (option_copied want.entry)) result }
 {
-    let mut variables = Items::new(alloc);
-    variables.push(variable(alloc, name, ty)?)?;
-    let inner = within(alloc, variables, bound)?;
+    let mut bindings = Items::new(alloc);
+    bindings.push(Binding::value(alloc, name, ty)?)?;
+    let inner = within(alloc, bindings, bound)?;
     typed(alloc, at, inner.as_slice(), body, want)
 }

@@ -5,3 +5,4 @@ pub mod contract;
 pub mod equalities;
 pub mod form;
 pub mod laws;
+pub mod probability;

@@ -21,6 +21,7 @@ use Rattle.gb_typing.specs.Context.{Context}
 use Rattle.gb_typing.proofs.Variables.{variable_finite}
 use Rattle.gb_typing.specs.Scopes.{of_operator as in_operator, IsMeasured, AreMeasured, IsResult, IsDefined, AreVariableTypes}
 use Rattle.gb_names.specs.Binders.{of_type}
+use Rattle.gb_names.specs.Bindings.{bound_value}
 use Rattle.gb_names.specs.Types.{all_given, type_of, type_or_number}
 use Rattle.gb_elab.specs.Forms.{elaborated}
 use Rattle.gb_elab_prog.specs.declared.context.Bound.{Bound}
@@ -83,7 +84,7 @@ form_result (ty.Map' p k q x) h = h
 form_result (ty.Abstract x) h = h
 form_result (ty.Glob x) h = absurd (false≢true h)
 
-body_fits : (ds : scope.Declarations) (c : Context) (vs : List TypedName) → AreDeclared c.operator ds → AreMeasured (types_in vs) → IsFitting (in_operator c (types_in vs)) (of_body ds) (reverse vs)
+body_fits : (ds : scope.Declarations) (c : Context) (vs : List TypedName) → AreDeclared c.operator ds → AreMeasured (types_in vs) → IsFitting (in_operator c (types_in vs)) (of_body ds) (reverse (map bound_value vs))
 body_fits ds c vs names h = record {
   logical = λ i. refl;
   values = tt;
@@ -93,6 +94,8 @@ body_fits ds c vs names h = record {
   around = tt;
   globals = λ e. absurd (false≢true e);
   procedures = λ e p f k. absurd (false≢true e);
+  memories = λ e i k. absurd (false≢true e);
+  frames = λ e i k. absurd (false≢true e);
 }
 
 small_is : (t u : Term) → small t ≡ given u → t ≡ u
@@ -102,8 +105,8 @@ body_typed : (ds : scope.Declarations) (c : Context) (vs : List TypedName) (w : 
     IsDefined c (record { params = types_in vs; body = f })
 unfolding body
 body_typed ds c vs w t f names h i e =
-    let n = given_bind (elaborated t (of_body ds) (reverse vs) w) _ f e in
-    let g = elaborated_typed t (in_operator c (types_in vs)) (of_body ds) (reverse vs) (body_fits ds c vs names h) w i n.0 n.1 in
+    let n = given_bind (elaborated t (of_body ds) (reverse (map bound_value vs)) w) _ f e in
+    let g = elaborated_typed t (in_operator c (types_in vs)) (of_body ds) (reverse (map bound_value vs)) (body_fits ds c vs names h) w i n.0 n.1 in
     subst (λ z. IsDefined c (record { params = types_in vs; body = z })) (small_is n.0 f n.2)
     (record { params = h; result = form_result (type_of_term n.0) g.type; typed = g.typed; plain = g.plain refl; apart = g.apart refl })
 

@@ -1,5 +1,5 @@
 -- The forms that steps on conclusions bring to goals are typed.
-use Rattle.std.proofs.Common.{◌≡◌, Bool, true, false, if◌then◌else◌, ℕ, List, [], ◌∷◌, Some, refl, ap, sym, ◌∙◌, subst}
+use Rattle.std.proofs.Common.{◌≡◌, Bool, true, false, if◌then◌else◌, ℕ, List, [], ◌∷◌, Some, refl, ap, sym, subst}
 use Rattle.std.proofs.lemmas.Bool.{false≢true}
 use Rattle.std.specs.Prelude.{codes, bytes_eq}
 use Rattle.gb_core.specs.declared.place.Place.{Place}
@@ -10,13 +10,18 @@ use Rattle.gb_terms.specs.declared.term.Head.{Head}
 use Rattle.gb_terms.specs.declared.term.Head.TheVariants as head
 use Rattle.gb_goal.specs.Scope as scope
 use Rattle.gb_goal.specs.declared.sequent.Sequent.{Sequent}
+use Rattle.gb_steps.specs.declared.step.Acts.{Acts}
+use Rattle.gb_steps.specs.declared.step.Acts.TheVariants as on
 use Rattle.gb_steps.specs.declared.step.AmbientRule.{AmbientRule}
 use Rattle.gb_steps.specs.declared.step.AmbientRule.TheVariants as conclusion
 use Rattle.gb_steps.specs.declared.step.Rule.{Rule}
 use Rattle.gb_steps.specs.declared.step.Rule.TheVariants as rule
 use Rattle.gb_steps.specs.declared.step.BodyRule.TheVariants as on_bodies
+use Rattle.gb_steps.specs.declared.step.Multiple.{Multiple}
 use Rattle.gb_steps.specs.declared.step.Step.{Step}
 use Rattle.gb_goal.specs.Answers.{Answer, not_built}
+use Rattle.gb_steps.specs.declared.step.UseRule.{UseRule}
+use Rattle.gb_steps.specs.declared.step.UseRule.TheVariants as use_rule
 use Rattle.gb_goal.specs.Goal.{goal_of, judges_bodies}
 use Rattle.gb_goal.specs.Answers.Answer.{given}
 use Rattle.gb_script.specs.declared.head.Head.{Head as Kind}
@@ -34,7 +39,10 @@ use Rattle.gb_typing.specs.Sequents.{IsConclusion, of_sequent, IsTypedSequent}
 use Rattle.gb_typing.specs.Scopes.{context_of, IsTypedScope}
 use Rattle.gb_names.specs.Environment.{ambient}
 use Rattle.gb_elab.specs.Forms.{elaborated}
-use Rattle.gb_elab_mod.specs.Steps.{asked_of, acts, coupling_rule, couplings, cut_of, functions_of, conclusion_rule, new_name, formed, case_of_bodies, case_of_conclusion, of_bodies_rule, on_all, plain_rule, seq_rule, typed_rule, step_given}
+use Rattle.gb_elab_mod.specs.Steps.{asked_of, acts, coupling_rule, couplings, cut_of, functions_of, conclusion_rule, conseq_rule, formed, case_of_bodies, case_of_conclusion, of_bodies_rule, on_all, plain_rule, seq_rule, typed_rule, step_given, chance_rule, judges_chance, symmetry_rule}
+use Rattle.gb_elab_mod.specs.Multiples.{multiples}
+use Rattle.gb_elab_mod.specs.Uses.{used}
+use Rattle.gb_elab_mod.specs.Taken.{new_name}
 use Rattle.gb_elab_prog.specs.Unbuilt.{absent}
 use Rattle.gb_elab_laws.specs.Fitting.{IsFormTypeIf, IsWanted}
 use Rattle.gb_elab_laws.proofs.Shapes.{finite_form}
@@ -43,6 +51,10 @@ use Rattle.gb_elab_laws.proofs.Fits.{goal_fits}
 use Rattle.gb_elab_laws.proofs.Forms.{elaborated_typed}
 use Rattle.gb_amb.specs.Steps.{IsTypedStep, IsWitness}
 use mathlib.Core.Former.{Count}
+use Rattle.gb_elab_laws.proofs.Used.{used_typed}
+use Rattle.gb_use.specs.Instances.{IsInstance}
+use Rattle.gb_use.specs.Uses.{used_by}
+use Rattle.gb_use.specs.Uses as uses
 
 module _ (ds : scope.Declarations) (scoped : IsTypedScope (declared ds)) (q : Sequent) (t : IsTypedSequent (context_of (declared ds)) q) where
   abbrev here : Context
@@ -53,28 +65,66 @@ module _ (ds : scope.Declarations) (scoped : IsTypedScope (declared ds)) (q : Se
       let g = elaborated_typed f here (ambient ds q) [] (goal_fits ds scoped q t) (Some ty.Bool) tt u h in
       record { typed = g.typed; truth = g.wanted }
 
+  -- the forms that a rule brings are typed
   abbrev HasForms : Rule → Type 0
-  HasForms k = (r : AmbientRule) → k ≡ rule.Ambient r → IsTypedStep here q.conclusion r
-
-  abbrev ambient_of : AmbientRule → Rule → AmbientRule
-  ambient_of d (rule.Ambient r) = r
-  ambient_of d _ = d
+  HasForms (rule.Ambient r) = IsTypedStep here q.conclusion r
+  HasForms (rule.Use r) = uses.IsTypedStep q here r
+  HasForms _ = Unit {0}
 
   -- a step that brings this
   brings : (a : AmbientRule) → IsTypedStep here q.conclusion a → (k : Rule) → rule.Ambient a ≡ k → HasForms k
-  brings a w k e = λ r f. subst (IsTypedStep here q.conclusion) (ap (ambient_of a) (e ∙ f)) w
+  brings a w k e = subst HasForms e w
+
+  -- a step that uses a hypothesis
+  by_use : (n : Node) (f : Term) → used ds q n ≡ given f → (r : UseRule) → used_by r ≡ f → (k : Rule) → rule.Use r ≡ k → HasForms k
+  by_use n f u r is k e =
+      let w = used_typed ds scoped q t n f u in
+      subst HasForms e (record { form = subst (IsForm here) (sym is) w.0; known = subst (IsInstance q here) (sym is) w.1 })
 
   abbrev is_ambient : Rule → Bool
   is_ambient (rule.Ambient r) = true
+  is_ambient (rule.Use r) = true
   is_ambient _ = false
 
-  other : (j k : Rule) → is_ambient j ≡ false → j ≡ k → HasForms k
-  other j k n e = λ r f. absurd (false≢true (sym n ∙ ap is_ambient (e ∙ f)))
+  without_forms : (j : Rule) → is_ambient j ≡ false → HasForms j
+  without_forms (rule.Ambient r) n = absurd (false≢true (sym n))
+  without_forms (rule.Use r) n = absurd (false≢true (sym n))
+  without_forms (rule.OnBodies r) n = tt
+  without_forms (rule.Relational r) n = tt
+  without_forms rule.Smt n = tt
+  without_forms (rule.Linear ms) n = tt
+  without_forms (rule.Chance r) n = tt
 
-  no_ambient : (fs : List Node) (us : List Term) → is_ambient (coupling_rule fs us) ≡ false
-  no_ambient [] us = refl
-  no_ambient (f ∷ fs) [] = refl
-  no_ambient (f ∷ fs) (u ∷ us) = refl
+  other : (j k : Rule) → is_ambient j ≡ false → j ≡ k → HasForms k
+  other j k n e = subst HasForms e (without_forms j n)
+
+  -- whether the goal has a probability
+  abbrev with_chance : Bool
+  with_chance = judges_chance (out-Term q.conclusion).head
+
+  no_ambient : (b : Bool) (fs : List Node) (us : List Term) → is_ambient (coupling_rule b fs us) ≡ false
+  no_ambient true [] us = refl
+  no_ambient false [] us = refl
+  no_ambient true (f ∷ fs) [] = refl
+  no_ambient false (f ∷ fs) [] = refl
+  no_ambient true (f ∷ fs) (u ∷ us) = refl
+  no_ambient false (f ∷ fs) (u ∷ us) = refl
+
+  chance_no_ambient : (a : Acts) → is_ambient (chance_rule a) ≡ false
+  chance_no_ambient on.All = refl
+  chance_no_ambient on.Left = refl
+  chance_no_ambient on.Right = refl
+
+  symmetry_no_ambient : (a : Acts) → is_ambient (symmetry_rule a) ≡ false
+  symmetry_no_ambient on.All = refl
+  symmetry_no_ambient on.Left = refl
+  symmetry_no_ambient on.Right = refl
+
+  of_name : (x : List ℕ) (a : Acts) (p : Place) (k : Rule) (b d : Bool) →
+      (if b then given (chance_rule a) else if d then given (symmetry_rule a) else of_bodies_rule (plain_rule x a p)) ≡ given k → HasForms k
+  of_name x a p k true d h = other (chance_rule a) k (chance_no_ambient a) (given_is (chance_rule a) k h)
+  of_name x a p k false true h = other (symmetry_rule a) k (symmetry_no_ambient a) (given_is (symmetry_rule a) k h)
+  of_name x a p k false false h = let y = given_bind (plain_rule x a p) (λ z. given (rule.OnBodies z)) k h in other (rule.OnBodies y.0) k refl (given_is (rule.OnBodies y.0) k y.2)
 
   -- the first of these that is chosen, else none
   abbrev chosen_of : List (Bool × AmbientRule) → Place → Answer AmbientRule
@@ -145,18 +195,28 @@ module _ (ds : scope.Declarations) (scoped : IsTypedScope (declared ds)) (q : Se
       brings (conclusion.Have (text_of n) z.0) (form_typed f z.0 z.1) k (given_is (rule.Ambient (conclusion.Have (text_of n) z.0)) k z.2)
   rule_forms text.Rnd x (b ∷ fs) p k h =
       let o = given_bind (absent (parts_of b) p) _ k h in
-      let y = given_bind (couplings ds q (functions_of fs)) (λ (us : List Term). given (coupling_rule (functions_of fs) us)) k o.2 in
-      other (coupling_rule (functions_of fs) y.0) k (no_ambient (functions_of fs) y.0) (given_is (coupling_rule (functions_of fs) y.0) k y.2)
+      let y = given_bind (couplings ds q (functions_of fs)) (λ (us : List Term). given (coupling_rule with_chance (functions_of fs) us)) k o.2 in
+      other (coupling_rule with_chance (functions_of fs) y.0) k (no_ambient with_chance (functions_of fs) y.0) (given_is (coupling_rule with_chance (functions_of fs) y.0) k y.2)
   rule_forms text.Proc x (b ∷ i ∷ []) p k h =
       let y = given_bind (absent (parts_of i) p) (λ _. given (rule.OnBodies (on_all (acts (parts_of b)) on_bodies.Proc))) k h in
       other (rule.OnBodies (on_all (acts (parts_of b)) on_bodies.Proc)) k refl (given_is (rule.OnBodies (on_all (acts (parts_of b)) on_bodies.Proc)) k y.2)
-  rule_forms text.BodyStep x (b ∷ []) p k h =
-      let y = given_bind (plain_rule x (acts (parts_of b)) p) (λ z. given (rule.OnBodies z)) k h in other (rule.OnBodies y.0) k refl (given_is (rule.OnBodies y.0) k y.2)
+  rule_forms text.BodyStep x (b ∷ []) p k h = of_name x (acts (parts_of b)) p k (bytes_eq x (codes "hoare")) (bytes_eq x (codes "symmetry")) h
   rule_forms text.Seq x (b ∷ n ∷ ns ∷ f ∷ bounds ∷ []) p k h =
       let o = given_bind (absent (parts_of bounds) p) (λ _. of_bodies_rule (seq_rule ds q (acts (parts_of b)) (cut_of n (parts_of ns)) f)) k h in
       let y = given_bind (seq_rule ds q (acts (parts_of b)) (cut_of n (parts_of ns)) f) (λ z. given (rule.OnBodies z)) k o.2 in
       other (rule.OnBodies y.0) k refl (given_is (rule.OnBodies y.0) k y.2)
+  rule_forms text.Conseq x (b ∷ f ∷ g ∷ d ∷ []) p k h =
+      let y = given_bind (conseq_rule ds q (acts (parts_of b)) (parts_of f) (parts_of g) (parts_of d)) (λ z. given (rule.OnBodies z)) k h in other (rule.OnBodies y.0) k refl (given_is (rule.OnBodies y.0) k y.2)
+  rule_forms text.ApplyLemma x (n ∷ []) p k h =
+      let z = given_bind (used ds q n) (λ (f : Term). given (rule.Use (use_rule.Apply f))) k h in
+      by_use n z.0 z.1 (use_rule.Apply z.0) refl k (given_is (rule.Use (use_rule.Apply z.0)) k z.2)
+  rule_forms text.HaveLemma x (m ∷ n ∷ []) p k h =
+      let o = given_bind (new_name q (text_of m) (place_of m)) _ k h in
+      let z = given_bind (used ds q n) (λ (f : Term). given (rule.Use (use_rule.Have (text_of m) f))) k o.2 in
+      by_use n z.0 z.1 (use_rule.Have (text_of m) z.0) refl k (given_is (rule.Use (use_rule.Have (text_of m) z.0)) k z.2)
   rule_forms text.Smt x hints p k h = let o = given_bind (absent hints p) (λ _. given rule.Smt) k h in other rule.Smt k refl (given_is rule.Smt k o.2)
+  rule_forms text.Linear x hs p k h =
+      let o = given_bind (multiples ds q hs) (λ (ms : List Multiple). given (rule.Linear ms)) k h in other (rule.Linear o.0) k refl (given_is (rule.Linear o.0) k o.2)
   rule_forms text.Name x [] p k h = brings (conclusion.Introduce x) tt k (given_is (rule.Ambient (conclusion.Introduce x)) k h)
   rule_forms text.Memory x (n ∷ []) p k h = brings (conclusion.IntroduceMemory (text_of n)) tt k (given_is (rule.Ambient (conclusion.IntroduceMemory (text_of n))) k h)
   rule_forms text.Drop x [] p k h = brings conclusion.Discard tt k (given_is (rule.Ambient conclusion.Discard) k h)
@@ -169,9 +229,14 @@ module _ (ds : scope.Declarations) (scoped : IsTypedScope (declared ds)) (q : Se
   rule_forms text.SmtPattern x [] p k h = other rule.Smt k refl (given_is rule.Smt k h)
   rule_forms _ x _ p k h = cc
 
-pub step_forms : (ds : scope.Declarations) → IsTypedScope (declared ds) → (q : Sequent) (t : IsTypedSequent (context_of (declared ds)) q) →
-    (n : Node) (s : Step) → step_given ds q n ≡ given s → (r : AmbientRule) → s.rule ≡ rule.Ambient r → IsTypedStep (of_sequent (context_of (declared ds)) q t.frames) q.conclusion r
-unfolding step_given
-step_forms ds scoped q t n s h r e =
-    let x = given_bind (typed_rule ds q (head_of n) (text_of n) (parts_of n) (place_of n)) (λ (k : Rule). given (record { rule = k; place = place_of n })) s h in
-    rule_forms ds scoped q t (head_of n) (text_of n) (parts_of n) (place_of n) x.0 x.1 r (ap (λ (z : Step). z.rule) (given_is (record { rule = x.0; place = place_of n }) s x.2) ∙ e)
+  step_forms : (n : Node) (s : Step) → step_given ds q n ≡ given s → HasForms s.rule
+  unfolding step_given
+  step_forms n s h =
+      let x = given_bind (typed_rule ds q (head_of n) (text_of n) (parts_of n) (place_of n)) (λ (k : Rule). given (record { rule = k; place = place_of n })) s h in
+      subst HasForms (ap (λ (z : Step). z.rule) (given_is (record { rule = x.0; place = place_of n }) s x.2)) (rule_forms (head_of n) (text_of n) (parts_of n) (place_of n) x.0 x.1)
+
+  pub steps_typed : (n : Node) (s : Step) → step_given ds q n ≡ given s → (r : AmbientRule) → s.rule ≡ rule.Ambient r → IsTypedStep here q.conclusion r
+  steps_typed n s h r e = subst HasForms e (step_forms n s h)
+
+  pub uses_typed : (n : Node) (s : Step) → step_given ds q n ≡ given s → (r : UseRule) → s.rule ≡ rule.Use r → uses.IsTypedStep q here r
+  uses_typed n s h r e = subst HasForms e (step_forms n s h)

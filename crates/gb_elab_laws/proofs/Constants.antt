@@ -9,7 +9,7 @@ use Rattle.gb_core.specs.declared.ty.Ty.TheVariants as ty
 use Rattle.gb_core.specs.declared.ty.Ty.TheOpen as layer
 use Rattle.gb_core.specs.declared.value.Value.TheVariants.{Num}
 use Rattle.gb_limits.specs.Numbers.{number_of}
-use Rattle.gb_terms.specs.declared.decl.TypedName.{TypedName}
+use Rattle.gb_names.specs.declared.bindings.Binding.{Binding}
 use Rattle.gb_terms.specs.declared.op.Op.TheVariants as op
 use Rattle.gb_terms.specs.declared.term.Term.{Term}
 use Rattle.gb_terms.specs.declared.term.Head.TheVariants.{Builtin, Lit, Whole}
@@ -118,7 +118,7 @@ module _ (c : Context) (at : Environment) where
   pub literal_typed : (k : Constant) → IsVariableType k.ty × IsLiteral k.ty (Num k.number) → Typed c l k.ty (literal k)
   literal_typed k h = leaf c l (Lit (Num k.number)) k.ty (finite_form (has_globs l) k.ty (variable_with (has_globs l) k.ty h.0)) h.1 tt tt (λ e. tt)
 
-  module _ (vs : List TypedName) (fit : IsFitting c at vs) where
+  module _ (vs : List Binding) (fit : IsFitting c at vs) where
     -- a built-in name alone
     pub constant_typed : (k : Known) (w : Option Ty) (p : Place) → IsFormTypeIf (has_globs l) w → (u : Term) → constant k w p ≡ given u → IsGiven c l w u
     constant_typed known.True w p f u e = wanted_given c l w p (truth_literal true) u (ty.Bool, truth_typed c at vs fit true) e

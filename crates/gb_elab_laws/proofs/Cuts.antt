@@ -22,7 +22,9 @@ use Rattle.gb_steps.specs.declared.step.Cut.{Cut}
 use Rattle.gb_steps.specs.declared.step.Cut.TheVariants as cut
 use Rattle.gb_steps.specs.declared.step.Rule.{Rule}
 use Rattle.gb_steps.specs.declared.step.Rule.TheVariants as rule
+use Rattle.gb_steps.specs.declared.step.Multiple.{Multiple}
 use Rattle.gb_steps.specs.declared.step.Step.{Step}
+use Rattle.gb_steps.specs.declared.step.UseRule.TheVariants as use_rule
 use Rattle.gb_script.specs.declared.head.Head.{Head as Kind}
 use Rattle.gb_script.specs.declared.head.Head.TheVariants as text
 use Rattle.gb_script.specs.declared.tree.Node.{Node}
@@ -39,9 +41,13 @@ use Rattle.gb_goal.specs.Answers.Answer.{given}
 use Rattle.gb_names.specs.Environment.{ambient as outside, relational, unary}
 use Rattle.gb_elab.specs.Forms.{elaborated}
 use Rattle.gb_elab_mod.specs.Occurring.{occurring}
-use Rattle.gb_elab_mod.specs.Steps.{acts, case_of_bodies, case_of_conclusion, case_rule, conclusion_rule, coupling_rule, couplings, cut_of, cut_rule, formed, functions_of, new_name, of_bodies_rule, on_all, plain_rule, seq_rule, step_given, typed_rule, asked_of}
+use Rattle.gb_elab_mod.specs.Steps.{acts, case_of_bodies, case_of_conclusion, case_rule, conclusion_rule, conseq_rule, coupling_rule, couplings, cut_of, cut_rule, formed, functions_of, of_bodies_rule, on_all, plain_rule, seq_rule, step_given, typed_rule, asked_of, chance_rule, judges_chance, symmetry_rule}
+use Rattle.gb_elab_mod.specs.Multiples.{multiples}
+use Rattle.gb_elab_mod.specs.Uses.{used}
+use Rattle.gb_elab_mod.specs.Taken.{new_name}
 use Rattle.gb_elab_prog.specs.Unbuilt.{absent}
 use Rattle.gb_bodies.specs.Rows.{IsTypedRule}
+use Rattle.gb_elab_laws.proofs.Anew.{conseq_rule_typed}
 use Rattle.gb_elab_laws.proofs.Given.{given_bind, given_is}
 use Rattle.gb_elab_laws.proofs.Ends.{occurring_in}
 use Rattle.gb_elab_laws.proofs.Fits.{one_fits, two_fit}
@@ -137,10 +143,35 @@ module _ (ds : scope.Declarations) (scoped : IsTypedScope (declared ds)) (q : Se
   abbrev TypedAt : Rule → Type 0
   TypedAt k = IsTypedRule here k ls rs (goal_of q.conclusion)
 
-  coupling_typed : (fs : List Node) (us : List Term) → TypedAt (coupling_rule fs us)
-  coupling_typed [] us = tt
-  coupling_typed (f ∷ fs) [] = tt
-  coupling_typed (f ∷ fs) (u ∷ us) = tt
+  -- whether the goal has a probability
+  abbrev with_chance : Bool
+  with_chance = judges_chance (out-Term q.conclusion).head
+
+  coupling_typed : (b : Bool) (fs : List Node) (us : List Term) → TypedAt (coupling_rule b fs us)
+  coupling_typed true [] us = tt
+  coupling_typed false [] us = tt
+  coupling_typed true (f ∷ fs) [] = tt
+  coupling_typed false (f ∷ fs) [] = tt
+  coupling_typed true (f ∷ fs) (u ∷ us) = tt
+  coupling_typed false (f ∷ fs) (u ∷ us) = tt
+
+  chance_typed : (a : Acts) → TypedAt (chance_rule a)
+  chance_typed on.All = tt
+  chance_typed on.Left = tt
+  chance_typed on.Right = tt
+
+  symmetry_typed : (a : Acts) → TypedAt (symmetry_rule a)
+  symmetry_typed on.All = tt
+  symmetry_typed on.Left = tt
+  symmetry_typed on.Right = tt
+
+  name_typed : (x : List ℕ) (a : Acts) (p : Place) (k : Rule) (b d : Bool) →
+      (if b then given (chance_rule a) else if d then given (symmetry_rule a) else of_bodies_rule (plain_rule x a p)) ≡ given k → TypedAt k
+  name_typed x a p k true d h = subst TypedAt (given_is (chance_rule a) k h) (chance_typed a)
+  name_typed x a p k false true h = subst TypedAt (given_is (symmetry_rule a) k h) (symmetry_typed a)
+  name_typed x a p k false false h =
+      let y = given_bind (plain_rule x a p) (λ z. given (rule.OnBodies z)) k h in
+      subst TypedAt (given_is (rule.OnBodies y.0) k y.2) (plain_typed (goal_of q.conclusion) x a p y.0 y.1)
 
   module _ (w : IsGoalOver here ls rs (goal_of q.conclusion)) where
     case_typed : (f : Node) (k : Rule) → case_rule ds q f ≡ given k → TypedAt k
@@ -157,18 +188,19 @@ module _ (ds : scope.Declarations) (scoped : IsTypedScope (declared ds)) (q : Se
     of_rule : (n : Kind) (x : List ℕ) (xs : List Node) (p : Place) (k : Rule) → typed_rule ds q n x xs p ≡ given k → TypedAt k
     of_rule text.Rnd x (b ∷ fs) p k h =
         let o = given_bind (absent (parts_of b) p) _ k h in
-        let y = given_bind (couplings ds q (functions_of fs)) (λ us. given (coupling_rule (functions_of fs) us)) k o.2 in
-        subst TypedAt (given_is (coupling_rule (functions_of fs) y.0) k y.2) (coupling_typed (functions_of fs) y.0)
+        let y = given_bind (couplings ds q (functions_of fs)) (λ us. given (coupling_rule with_chance (functions_of fs) us)) k o.2 in
+        subst TypedAt (given_is (coupling_rule with_chance (functions_of fs) y.0) k y.2) (coupling_typed with_chance (functions_of fs) y.0)
     of_rule text.Proc x (b ∷ i ∷ []) p k h =
         let y = given_bind (absent (parts_of i) p) (λ _. given (rule.OnBodies (on_all (acts (parts_of b)) on_bodies.Proc))) k h in
         subst TypedAt (given_is (rule.OnBodies (on_all (acts (parts_of b)) on_bodies.Proc)) k y.2) (all_typed (goal_of q.conclusion) (acts (parts_of b)) on_bodies.Proc tt)
-    of_rule text.BodyStep x (b ∷ []) p k h =
-        let y = given_bind (plain_rule x (acts (parts_of b)) p) (λ z. given (rule.OnBodies z)) k h in
-        subst TypedAt (given_is (rule.OnBodies y.0) k y.2) (plain_typed (goal_of q.conclusion) x (acts (parts_of b)) p y.0 y.1)
+    of_rule text.BodyStep x (b ∷ []) p k h = name_typed x (acts (parts_of b)) p k (bytes_eq x (codes "hoare")) (bytes_eq x (codes "symmetry")) h
     of_rule text.Seq x (b ∷ n ∷ ns ∷ f ∷ bounds ∷ []) p k h =
         let o = given_bind (absent (parts_of bounds) p) (λ _. of_bodies_rule (seq_rule ds q (acts (parts_of b)) (cut_of n (parts_of ns)) f)) k h in
         let y = given_bind (seq_rule ds q (acts (parts_of b)) (cut_of n (parts_of ns)) f) (λ z. given (rule.OnBodies z)) k o.2 in
         subst TypedAt (given_is (rule.OnBodies y.0) k y.2) (seq_typed (goal_of q.conclusion) w refl (acts (parts_of b)) (cut_of n (parts_of ns)) f y.0 y.1)
+    of_rule text.Conseq x (b ∷ f ∷ g ∷ d ∷ []) p k h =
+        let y = given_bind (conseq_rule ds q (acts (parts_of b)) (parts_of f) (parts_of g) (parts_of d)) (λ z. given (rule.OnBodies z)) k h in
+        subst TypedAt (given_is (rule.OnBodies y.0) k y.2) (conseq_rule_typed ds scoped q t ls rs (goal_of q.conclusion) w refl (acts (parts_of b)) (parts_of f) (parts_of g) (parts_of d) y.0 y.1)
     of_rule text.PlainStep x [] p k h =
         let o = given_bind (conclusion_rule x p) (λ (a : AmbientRule). given (rule.Ambient a)) k h in subst TypedAt (given_is (rule.Ambient o.0) k o.2) tt
     of_rule text.CaseStep x (b ∷ f ∷ []) p k h =
@@ -177,7 +209,16 @@ module _ (ds : scope.Declarations) (scoped : IsTypedScope (declared ds)) (q : Se
         let o = given_bind (new_name q (text_of n) (place_of n)) _ k h in
         let z = given_bind (formed ds q f) (λ (t : Term). given (rule.Ambient (conclusion.Have (text_of n) t))) k o.2 in
         subst TypedAt (given_is (rule.Ambient (conclusion.Have (text_of n) z.0)) k z.2) tt
+    of_rule text.ApplyLemma x (n ∷ []) p k h =
+        let z = given_bind (used ds q n) (λ (f : Term). given (rule.Use (use_rule.Apply f))) k h in
+        subst TypedAt (given_is (rule.Use (use_rule.Apply z.0)) k z.2) tt
+    of_rule text.HaveLemma x (m ∷ n ∷ []) p k h =
+        let o = given_bind (new_name q (text_of m) (place_of m)) _ k h in
+        let z = given_bind (used ds q n) (λ (f : Term). given (rule.Use (use_rule.Have (text_of m) f))) k o.2 in
+        subst TypedAt (given_is (rule.Use (use_rule.Have (text_of m) z.0)) k z.2) tt
     of_rule text.Smt x hints p k h = let o = given_bind (absent hints p) (λ _. given rule.Smt) k h in subst TypedAt (given_is rule.Smt k o.2) tt
+    of_rule text.Linear x hs p k h =
+        let o = given_bind (multiples ds q hs) (λ (ms : List Multiple). given (rule.Linear ms)) k h in subst TypedAt (given_is (rule.Linear o.0) k o.2) tt
     of_rule text.Name x [] p k h = subst TypedAt (given_is (rule.Ambient (conclusion.Introduce x)) k h) tt
     of_rule text.Memory x (n ∷ []) p k h = subst TypedAt (given_is (rule.Ambient (conclusion.IntroduceMemory (text_of n))) k h) tt
     of_rule text.Drop x [] p k h = subst TypedAt (given_is (rule.Ambient conclusion.Discard) k h) tt

@@ -5,7 +5,7 @@ use Rattle.gb_core.specs.declared.refusal.Why.TheVariants.{TypeMismatch, Argumen
 use Rattle.gb_core.specs.declared.ty.Ty.TheVariants as ty
 use Rattle.gb_same.specs.Types.{ty_eq}
 use Rattle.gb_same.proofs.Decided.{ty_eq-Decides}
-use Rattle.gb_terms.specs.declared.decl.TypedName.{TypedName}
+use Rattle.gb_names.specs.declared.bindings.Binding.{Binding}
 use Rattle.gb_terms.specs.declared.op.Op.TheVariants as op
 use Rattle.gb_terms.specs.declared.op.Side.TheVariants as side
 use Rattle.gb_terms.specs.declared.term.Term.{Term}
@@ -26,7 +26,7 @@ use Rattle.gb_elab_laws.proofs.Types.{no_distribution}
 use Rattle.gb_elab_laws.proofs.Typed.{Typed, combined}
 use Rattle.gb_elab_laws.proofs.Leaves.{IsVariable, sided_typed, truth_typed}
 
-module _ (c : Context) (at : Environment) (vs : List TypedName) (fit : IsFitting c at vs) where
+module _ (c : Context) (at : Environment) (vs : List Binding) (fit : IsFitting c at vs) where
   -- the equality of a variable of two programs
   equality_typed : (x : Name) (p : Place) (u : Term) → equality at vs x p ≡ given u → Typed c at.language ty.Bool u
   unfolding equality

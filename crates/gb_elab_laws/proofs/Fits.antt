@@ -1,5 +1,5 @@
 -- The contexts of statements, programs and functions fit their environments.
-use Rattle.std.proofs.Common.{◌≡◌, Bool, true, false, if◌then◌else◌, List, [], ◌∷◌, ◌++◌, Option, Some, None, bytes_eq, refl, ap, sym, ◌∙◌, subst}
+use Rattle.std.proofs.Common.{◌≡◌, ℕ, zero, suc, ◌<◌, length, map, get_or, arith, Bool, true, false, if◌then◌else◌, List, [], ◌∷◌, ◌++◌, Option, Some, None, bytes_eq, refl, ap, sym, ◌∙◌, subst}
 use Rattle.std.proofs.lemmas.Slice.Eq.{bytes_eq-Decides}
 use Rattle.std.proofs.lemmas.Bool.{false≢true}
 use Rattle.gb_terms.specs.declared.decl.Module.{Module}
@@ -22,7 +22,11 @@ use Rattle.gb_holds.specs.Declared.{Declarations, declaration_of, declared, conc
 use Rattle.gb_holds.specs.Modules.{Procedures, found}
 use Rattle.gb_typing.specs.Modules.{ProcedureType, Interface, of_complete, functor_type, of_functor_type}
 use Rattle.gb_typing.specs.Modules as typing
-use Rattle.gb_typing.specs.Context.{Context, of_program}
+use Rattle.gb_typed.specs.Typing.{binder, IsMemory}
+use Rattle.gb_typed.specs.Typing.Binder.{program as module_binder}
+use Rattle.gb_typing.specs.Context.{Context, erased, frame_of, of_program}
+use Rattle.gb_typing.specs.Typing.{IsFrame}
+use Rattle.gb_terms.specs.declared.op.Side.TheVariants as side
 use Rattle.gb_typing.specs.Programs.{HaveVariableTypes, type_of_procedure}
 use Rattle.gb_typing.specs.Formulas.{with_module}
 use Rattle.gb_typing.specs.Sequents.{one, of_sequent, two, with_modules, AreBinders, IsTypedSequent}
@@ -31,7 +35,9 @@ use Rattle.gb_typing.proofs.Operators.{declared_more, declared_last, other_name}
 use Rattle.gb_typing.proofs.Variables.{variable_finite}
 use Rattle.gb_typing.proofs.Located.{typed_there}
 use Rattle.gb_rules.proofs.Lifted.{sequent_outermost}
-use Rattle.gb_names.specs.Environment.{ambient, of_function, program, relational, unary}
+use Rattle.gb_names.specs.declared.bindings.Binding.{Binding}
+use Rattle.gb_names.specs.Environment.{Environment, Memories, ambient, of_function, program, reading, relational, statement, unary}
+use Rattle.gb_names.specs.Environment.Memories.{outside}
 use Rattle.gb_elab_prog.specs.Contexts.{nothing_around}
 use Rattle.gb_elab_laws.specs.Fitting.{AllFiniteWith, AreBound, AreDeclared, AreIn, HasGlobals, IsTypeOf, IsFitting}
 use Rattle.gb_elab_laws.proofs.Given.{none_some, same_some}
@@ -101,11 +107,11 @@ stands ((k, d) ∷ ds) before c w n m e = step (bytes_eq n k) refl (stands ds (b
     step false i f h = f h
 
 -- the type of a procedure, which is one of values
-abbrev HasType : Option ProcedureType → Proc → Type 0
+abbrev pub HasType : Option ProcedureType → Proc → Type 0
 HasType o f = HaveVariableTypes f.params × IsVariableType f.result × (o ≡ Some (type_of_procedure f))
 
 -- a procedure of a typed module
-typed_among : (c : Context) (m : Module) (earlier : Procedures ProcedureType) (ps : List Proc) → AreProcedures c m earlier ps → (n : Name) (f : Proc) → proc_of ps n ≡ Some f →
+pub typed_among : (c : Context) (m : Module) (earlier : Procedures ProcedureType) (ps : List Proc) → AreProcedures c m earlier ps → (n : Name) (f : Proc) → proc_of ps n ≡ Some f →
     HasType (found (procedure_types ps) n) f
 typed_among c m earlier [] w n f e = none_some f e
 typed_among c m earlier (p ∷ ps) w n f e = step (bytes_eq n p.name) (typed_among c m (earlier ++ (p.name, type_of_procedure p) ∷ []) ps w.2 n f) e
@@ -140,7 +146,7 @@ procedure_named ds w n g f e = of_entry (entry_of ds n) refl e
         }
     of_entry (Some _) i h = none_some f h
 
-declared_procedure : (ds : scope.Declarations) → IsTypedScope (declared ds) → (m : Mexp) (g : Name) (f : Proc) → proc_at ds m g ≡ Some f →
+pub declared_procedure : (ds : scope.Declarations) → IsTypedScope (declared ds) → (m : Mexp) (g : Name) (f : Proc) → proc_at ds m g ≡ Some f →
     IsTypeOf (typing.procedure_type (context_of (declared ds)).modules (record { «module» = m; name = g })) f
 declared_procedure ds w (named n) g f e = procedure_named ds w n g f e
 declared_procedure ds w (Apply' n k args) g f e = none_some f e
@@ -170,10 +176,44 @@ goal_globals ds w q fs n m e = subst (λ f. HasGlobals f n m) (sym (globals_left
 goal_bound : (ds : Declarations) (q : Sequent) (fs : List (List TypedName)) → (of_sequent (context_of ds) q fs).bound ≡ []
 goal_bound ds q fs = ap (λ (c : Context). c.bound) (sequent_outermost ds q fs)
 
+-- .. so no memory is bound around one
+goal_frames : (ds : Declarations) (q : Sequent) (fs : List (List TypedName)) (i : ℕ) → IsMemory (binder (erased (of_sequent (context_of ds) q fs)) i) →
+    IsFrame (frame_of (of_sequent (context_of ds) q fs) (side.Bound i))
+goal_frames ds q fs i h = absurd (no_binder i (subst (λ bs. IsMemory (get_or bs i module_binder)) (goal_bound ds q fs) h))
+  where
+    no_binder : (i : ℕ) → IsMemory (get_or [] i module_binder) → ⊥
+    no_binder zero k = k
+    no_binder (suc i) k = k
+
+-- each memory of a goal stands in its context
+frames_stand : (fs : List (List TypedName)) (i : ℕ) → i < length fs → (i < length (map Some fs)) × IsFrame (get_or (map Some fs) i None)
+frames_stand [] i h = absurd (omega (arith, h))
+frames_stand (f ∷ fs) zero h = (omega arith, tt)
+frames_stand (f ∷ fs) (suc i) h = let k = frames_stand fs i (omega (arith, h)) in let l : i < length (map Some fs) = k.0 in (omega (arith, l), k.1)
+
+goal_memories : (ds : Declarations) (q : Sequent) (fs : List (List TypedName)) → length fs ≡ length q.memories → (i : ℕ) → i < length q.memories →
+    (i < length (of_sequent (context_of ds) q fs).named) × IsFrame (frame_of (of_sequent (context_of ds) q fs) (side.Memory i))
+goal_memories ds q fs many i h = frames_stand fs i (subst (λ n. i < n) (sym many) h)
+
+-- what fits a form fits one that may read other named memories
+pub reading_fits : (m : Memories) (c : Context) (at : Environment) (vs : List Binding) → IsFitting c at vs → IsFitting c (reading m at) vs
+reading_fits m c at vs fit = record {
+  logical = fit.logical;
+  values = fit.values;
+  bound = fit.bound;
+  variables = fit.variables;
+  declared = fit.declared;
+  around = fit.around;
+  globals = fit.globals;
+  procedures = fit.procedures;
+  memories = fit.memories;
+  frames = fit.frames;
+}
+
 -- the context of a goal without modules, whose variables are of types of values
-pub context_fits : (ds : scope.Declarations) (q : Sequent) (fs : List (List TypedName)) → q.modules ≡ [] → AllFiniteWith true q.logical → IsTypedScope (declared ds) →
+pub context_fits : (ds : scope.Declarations) (q : Sequent) (fs : List (List TypedName)) → length fs ≡ length q.memories → q.modules ≡ [] → AllFiniteWith true q.logical → IsTypedScope (declared ds) →
     IsFitting (of_sequent (context_of (declared ds)) q fs) (ambient ds q) []
-context_fits ds q fs none h w = record {
+context_fits ds q fs many none h w = record {
   logical = λ i. refl;
   values = h;
   bound = subst (λ bs. AreBound true bs []) (sym (goal_bound (declared ds) q fs)) tt;
@@ -183,10 +223,13 @@ context_fits ds q fs none h w = record {
   globals = λ e. goal_globals ds w q fs;
   procedures = λ e p f k.
       subst (λ bs. IsTypeOf (typing.procedure_type (with_modules (context_of (declared ds)) bs).modules p) f) (sym none) (declared_procedure ds w p.«module» p.name f k);
+  memories = λ e. goal_memories (declared ds) q fs many;
+  frames = λ e. goal_frames (declared ds) q fs;
 }
 
-pub statement_fits : (ds : scope.Declarations) → IsTypedScope (declared ds) → IsFitting (of_sequent (context_of (declared ds)) nothing_around []) (ambient ds nothing_around) []
-statement_fits ds w = context_fits ds nothing_around [] refl tt w
+pub statement_fits : (ds : scope.Declarations) → IsTypedScope (declared ds) → IsFitting (of_sequent (context_of (declared ds)) nothing_around []) (statement ds nothing_around) []
+statement_fits ds w =
+    reading_fits outside (of_sequent (context_of (declared ds)) nothing_around []) (ambient ds nothing_around) [] (context_fits ds nothing_around [] refl refl tt w)
 
 pub program_fits : (c : Context) (ds : scope.Declarations) (m : Module) (ls : List TypedName) → AreDeclared c.operator ds →
     ((n : Name) (k : Module) → module_of ds n ≡ Some k → HasGlobals c.global n k) → HasGlobals c.global m.name m → HaveFiniteTypes ls →
@@ -200,6 +243,8 @@ program_fits c ds m ls names others own h = record {
   around = own;
   globals = λ e. others;
   procedures = λ e. absurd (false≢true e);
+  memories = λ e. absurd (false≢true e);
+  frames = λ e. absurd (false≢true e);
 }
 
 pub function_fits : (ds : scope.Declarations) → IsTypedScope (declared ds) → (q : Sequent) (t : IsTypedSequent (context_of (declared ds)) q) (ls rs xs ys : List TypedName) → AreIn (Some ls) xs → AreIn (Some rs) ys →
@@ -213,6 +258,8 @@ function_fits ds w q t ls rs xs ys h k = record {
   around = tt;
   globals = λ e. goal_globals ds w q t.frames;
   procedures = λ e. absurd (false≢true e);
+  memories = λ e. goal_memories (declared ds) q t.frames t.memories;
+  frames = λ e. goal_frames (declared ds) q t.frames;
 }
 
 -- a module that is known stays known among the modules of a goal's context
@@ -252,6 +299,8 @@ one_fits ds w q t ls xs h = record {
   around = tt;
   globals = λ e. goal_globals ds w q t.frames;
   procedures = λ e p f k. goal_procedure ds w q t p.«module» p.name f k;
+  memories = λ e. goal_memories (declared ds) q t.frames t.memories;
+  frames = λ e. goal_frames (declared ds) q t.frames;
 }
 
 pub two_fit : (ds : scope.Declarations) → IsTypedScope (declared ds) → (q : Sequent) (t : IsTypedSequent (context_of (declared ds)) q) (ls rs xs ys : List TypedName) → AreIn (Some ls) xs →
@@ -265,6 +314,8 @@ two_fit ds w q t ls rs xs ys h k = record {
   around = tt;
   globals = λ e. goal_globals ds w q t.frames;
   procedures = λ e p f k. goal_procedure ds w q t p.«module» p.name f k;
+  memories = λ e. goal_memories (declared ds) q t.frames t.memories;
+  frames = λ e. goal_frames (declared ds) q t.frames;
 }
 
 -- a goal of a typed scope, around which forms stand that steps bring
@@ -281,4 +332,6 @@ goal_fits ds w q t = record {
   procedures = λ e p f h.
       let d = declared_procedure ds w p.«module» p.name f h in
       record { there = (typed_there ds w q t.modules t.frames p f h).type; params = d.params; result = d.result };
+  memories = λ e. goal_memories (declared ds) q t.frames t.memories;
+  frames = λ e. goal_frames (declared ds) q t.frames;
 }

@@ -1,7 +1,8 @@
 -- What the typing of a form, and of a function, gives is typed.
-use Rattle.std.proofs.Common.{◌≡◌, ℕ, ◌<◌, ◌≤◌, nat_lt, ◌==◌, eqb-true, length, Bool, true, false, if◌then◌else◌, List, [], ◌∷◌, ◌++◌, map, reverse, Option, Some, None, bytes_eq, refl, sym, ◌∙◌, subst, arith}
+use Rattle.std.proofs.Common.{◌≡◌, ℕ, zero, suc, ◌-◌, ◌<◌, ◌≤◌, slice_get, nat_lt, ◌==◌, eqb-true, length, Bool, true, false, if◌then◌else◌, List, [], ◌∷◌, ◌++◌, map, reverse, Option, Some, None, bytes_eq, refl, ap, sym, ◌∙◌, subst, arith}
 use Rattle.std.specs.Prelude.{codes}
-use Rattle.std.specs.Option.{option_map_or}
+use Rattle.std.specs.Option.{option_map, option_map_or}
+use Rattle.std.proofs.lemmas.List.{append_assoc, append-nil}
 use Rattle.std.proofs.lemmas.Bool.{and_parts, ltb-true}
 use Rattle.gb_core.specs.declared.place.Place.{Place}
 use Rattle.gb_core.specs.declared.refusal.Why.TheVariants.{TypeMismatch, Argument}
@@ -10,6 +11,8 @@ use Rattle.gb_core.specs.declared.ty.Ty.TheVariants as ty
 use Rattle.gb_same.specs.Types.{ty_eq}
 use Rattle.gb_same.proofs.Decided.{ty_eq-Decides}
 use Rattle.gb_terms.specs.declared.decl.TypedName.{TypedName}
+use Rattle.gb_names.specs.declared.bindings.Binding.{Binding}
+use Rattle.gb_names.specs.Bindings.{value as value_named}
 use Rattle.gb_terms.specs.declared.term.Term.{Term}
 use Rattle.gb_script.specs.declared.head.Head.{Head}
 use Rattle.gb_script.specs.declared.head.Head.TheVariants as head
@@ -23,6 +26,8 @@ use Rattle.gb_goal.specs.Scope.{Declarations, constant_named, operator_named}
 use Rattle.gb_terms.specs.declared.term.Head.TheVariants.{User}
 use Rattle.gb_terms.specs.Make.{node}
 use Rattle.gb_typed.specs.Finite.{IsFiniteWith}
+use Rattle.gb_typed.specs.Programs.{HaveFiniteTypes}
+use Rattle.gb_typed.specs.Typing.{IsMemory}
 use Rattle.gb_typed.specs.Typing.Binder.{value, index}
 use Rattle.gb_typing.specs.Context.{Context, with_own, within}
 use Rattle.gb_meaning.specs.Written.{type_of as written_type}
@@ -34,7 +39,7 @@ use Rattle.gb_names.specs.Allowed.{formula, has_judgments, is_program, judgment,
 use Rattle.gb_names.specs.Binders.{bound_by, over_all, quantifier_of}
 use Rattle.gb_names.specs.Environment.{Name, Environment, sampled, sampled_in}
 use Rattle.gb_names.specs.Judgments.{both_procedures, one_procedure, before, after, equivalent}
-use Rattle.gb_names.specs.Names.{constant_at, hidden, known_at, named, operator_at, path, unit}
+use Rattle.gb_names.specs.Names.{constant_at, has_memories, hidden, known_at, memory_at, named, operator_at, path, unit}
 use Rattle.gb_names.specs.Types.{type_of, type_or_number}
 use Rattle.gb_names.specs.Wanted.{truth, wanted}
 use Rattle.gb_names.proofs.Nodes.{by_parts}
@@ -56,7 +61,8 @@ use Rattle.gb_operators.specs.Operators.{comparison, operator_of}
 use Rattle.gb_operators.specs.Rules.{asked, made, rule_for, rule_of, user_made}
 use Rattle.gb_elab.specs.declared.contract.Contract.{Contract}
 use Rattle.gb_elab.specs.OneProcedure.{after_one, always, around, before_one, lossless, relation, with_chance}
-use Rattle.gb_elab.specs.Forms.{Contracting, Typing, Meaning, Part, annotated, applied, applied_form, application, bare, bounded, bracketed, by_rule, call, contract, contracting, contract_of, declared, elaborated, equivalence, function, hoare, function_typing, meaning, meant, only, operand, operands, operation, operator_alone, projection, quantified, read, simple, summed, typing, under, user_call, value_of, with_side}
+use Rattle.gb_elab.specs.Probability.{before_call, called, chance, chance_here}
+use Rattle.gb_elab.specs.Forms.{Arguing, Contracting, Typing, Meaning, Part, annotated, applied, applied_form, application, arguing, arguments, arguments_of, bare, bounded, bracketed, by_rule, call, contract, contracting, contract_of, declared, elaborated, equivalence, function, hoare, function_typing, last_arguments, meaning, meant, only, operand, operands, operation, operator_alone, probability, projection, quantified, read, simple, summed, typing, under, user_call, value_of, with_side}
 use Rattle.gb_elab_laws.specs.Fitting.{has_globs, IsFormType, IsFormTypeIf, IsBoundName, IsUsable, AllFiniteWith, AreBound, AreReadable, IsFitting, IsGiven}
 use Rattle.gb_elab_laws.proofs.Given.{given_bind, given_is, if_allowed, if_given, if_none, if_refused, if_some, none_some, not_given, some_given}
 use Rattle.gb_elab_laws.proofs.Types.{no_distribution}
@@ -69,29 +75,36 @@ use Rattle.gb_elab_laws.proofs.Leaves.{named_typed, read_typed, unit_typed}
 use Rattle.gb_elab_laws.proofs.Constants.{coin_typed, constant_typed, literal_typed, numeral_typed, stands_is, uniform_typed}
 use Rattle.gb_elab_laws.proofs.Weighed.{weights_typed}
 use Rattle.gb_elab_laws.proofs.Equations.{equalities_typed}
-use Rattle.gb_elab_laws.proofs.Quantified.{inner_fits, under_all, under_all_fits, binders_typed, variables_with, over_all_typed}
+use Rattle.gb_elab_laws.proofs.Quantified.{inner_fits, under_all, under_all_fits, binders_may, over_all_typed}
 use Rattle.gb_elab_laws.proofs.Judged.{both_are, one_is, before_fits, after_fits, equivalence_typed}
 use Rattle.gb_elab_laws.proofs.OneProcedure.{IsContract, is_there, before_fits as before_one_fits, after_fits as after_one_fits, around_fits, always_typed, with_chance_typed, lossless_typed}
+use Rattle.gb_elab_laws.proofs.Probable.{AreArguments, call_fits, called_is, chance_typed}
+use Rattle.gb_elab_laws.proofs.Remembered.{memory_is, remembering}
 use Rattle.gb_elab_laws.proofs.Asked.{Suits, binder_of, IsDomain, IsRule, IsAskable, IsOperand, AreOperands, behind}
 use Rattle.gb_elab_laws.proofs.Askable.{askable}
 use Rattle.gb_elab_laws.proofs.Rules.{made_typed}
 
 -- a typing gives typed terms, where the wanted type is one that a form may have
 abbrev pub GivesTyped : Typing → Type 0
-GivesTyped f = (c : Context) (at : Environment) (vs : List TypedName) → IsFitting c at vs → (w : Option Ty) → IsFormTypeIf (has_globs at.language) w → (u : Term) → f at vs w ≡ given u →
+GivesTyped f = (c : Context) (at : Environment) (vs : List Binding) → IsFitting c at vs → (w : Option Ty) → IsFormTypeIf (has_globs at.language) w → (u : Term) → f at vs w ≡ given u →
     IsGiven c at.language w u
 
 -- a function gives typed values, under a binder of its variable
 abbrev pub GivesValues : (Domain → Typing) → Type 0
-GivesValues f = (c : Context) (at : Environment) (vs : List TypedName) → IsFitting c at vs → (d : Domain) → IsDomain (has_globs at.language) d → (w : Option Ty) →
+GivesValues f = (c : Context) (at : Environment) (vs : List Binding) → IsFitting c at vs → (d : Domain) → IsDomain (has_globs at.language) d → (w : Option Ty) →
     IsFormTypeIf (has_globs at.language) w → (u : Term) → f d at vs w ≡ given u → IsGiven (within c (binder_of d) None) at.language w u
 
 -- a judgment without its bound gives typed conditions
 abbrev pub GivesContracts : Contracting → Type 0
-GivesContracts f = (c : Context) (at : Environment) (vs : List TypedName) → IsFitting c at vs → has_judgments at.language ≡ true → (k : Contract) → f at vs ≡ given k → IsContract c k
+GivesContracts f = (c : Context) (at : Environment) (vs : List Binding) → IsFitting c at vs → has_judgments at.language ≡ true → (k : Contract) → f at vs ≡ given k → IsContract c k
+
+-- a call gives typed arguments, where its parameters are of types of values
+abbrev pub GivesArguments : Arguing → Type 0
+GivesArguments f = (c : Context) (at : Environment) (vs : List Binding) → IsFitting c at vs → has_globs at.language ≡ true → (xs : List TypedName) → HaveFiniteTypes xs → (p : Place) (ts : List Term) →
+    f xs p at vs ≡ given ts → AreArguments c xs ts
 
 abbrev pub IsTyped : Meaning → Type 0
-IsTyped m = GivesTyped m.form × GivesValues m.function × GivesContracts m.contract
+IsTyped m = GivesTyped m.form × GivesValues m.function × GivesContracts m.contract × GivesArguments m.arguments
 
 -- a form, with what is known of what it means
 abbrev Known : Type 0
@@ -115,7 +128,14 @@ same_judgments Program = refl
 same_judgments Sampled = refl
 same_judgments Operator = refl
 
-sampled_fits : (c : Context) (at : Environment) (vs : List TypedName) → IsFitting c at vs → IsFitting c (sampled at) vs
+same_memories : (l : Language) → has_memories (sampled_in l) ≡ has_memories l
+same_memories Formula = refl
+same_memories Function = refl
+same_memories Program = refl
+same_memories Sampled = refl
+same_memories Operator = refl
+
+sampled_fits : (c : Context) (at : Environment) (vs : List Binding) → IsFitting c at vs → IsFitting c (sampled at) vs
 sampled_fits c at vs fit = record {
   logical = fit.logical;
   values = subst (λ b. AllFiniteWith b at.sequent.logical) (sym (same_globs at.language)) fit.values;
@@ -125,6 +145,8 @@ sampled_fits c at vs fit = record {
   around = fit.around;
   globals = λ e. fit.globals (sym (same_globs at.language) ∙ e);
   procedures = λ e. fit.procedures (sym (same_judgments at.language) ∙ e);
+  memories = λ e. fit.memories (sym (same_memories at.language) ∙ e);
+  frames = λ e. fit.frames (sym (same_memories at.language) ∙ e);
 }
 
 sampled_given : (c : Context) (l : Language) (w : Option Ty) (t : Term) → IsGiven c (sampled_in l) w t → IsGiven c l w t
@@ -137,7 +159,7 @@ sampled_given c l w t g = record {
 }
 
 -- The parts of a form, one after another, and what is made of them.
-module _ (c : Context) (at : Environment) (vs : List TypedName) (fit : IsFitting c at vs) where
+module _ (c : Context) (at : Environment) (vs : List Binding) (fit : IsFitting c at vs) where
   operand_typed : (k : Asked) → IsAskable (has_globs at.language) k → (a : Known) (t : Term) → operand k (a.0, meant a.0) at vs ≡ given t → IsOperand c at k t
   operand_typed (as_asked.Form w) f a t e = a.1.0 c at vs fit w f t e
   operand_typed (as_asked.Source w) f a t e =
@@ -216,7 +238,7 @@ operation_typed (Some o) n (a ∷ b ∷ d ∷ ks) p c at vs fit w f u e = cc
 operation_typed None n ks p c at vs fit w f u e = cc
 
 -- operators of the script that a name is found to mean
-found_operator : (c : Context) (at : Environment) (vs : List TypedName) → IsFitting c at vs → (x : Name) (o : OperatorType) → operator_at at vs x ≡ Some o → IsUsable (c.operator x) o
+found_operator : (c : Context) (at : Environment) (vs : List Binding) → IsFitting c at vs → (x : Name) (o : OperatorType) → operator_at at vs x ≡ Some o → IsUsable (c.operator x) o
 found_operator c at vs fit x o e = let names = fit.declared in names.usable x o (if_none (hidden at vs x) (operator_named at.declared x) o e)
 
 no_arguments : (c : Context) (l : Language) (us : List Ty) → 0 ≡ length us → EachTyped c l us []
@@ -292,17 +314,17 @@ rule_good known.Drestrict n r e c globs = let k = if_some (n == 2) (rule.Drawn R
 rule_good known.Mu1 n r e c globs = let k = if_some (n == 2) rule.Mass r e in subst (IsRule c globs) k.1 tt
 rule_good _ n r e c globs = none_some r e
 
-called : (k : BuiltIn) (ks : List Known) (p : Place) → GivesTyped (λ at vs w. given_or (rule_of k (length (parts ks))) TypeMismatch p >>= λ r. by_rule r (parts ks) p at vs w)
-called k ks p c at vs fit w f u e =
+built_in_typed : (k : BuiltIn) (ks : List Known) (p : Place) → GivesTyped (λ at vs w. given_or (rule_of k (length (parts ks))) TypeMismatch p >>= λ r. by_rule r (parts ks) p at vs w)
+built_in_typed k ks p c at vs fit w f u e =
     let r = given_bind (given_or (rule_of k (length (parts ks))) TypeMismatch p) (λ r. by_rule r (parts ks) p at vs w) u e in
     rule_typed r.0 (rule_good k (length (parts ks)) r.0 (some_given (rule_of k (length (parts ks))) TypeMismatch p r.0 r.1)) ks p c at vs fit w f u r.2
 
 call_typed : (k : BuiltIn) (ks : List Known) (p : Place) → GivesTyped (call k (parts ks) p)
 call_typed known.Sum ks p c at vs fit w f u e = summed_typed ks p c at vs fit w f u e
-call_typed k ks p c at vs fit w f u e = called k ks p c at vs fit w f u e
+call_typed k ks p c at vs fit w f u e = built_in_typed k ks p c at vs fit w f u e
 
 -- an operator of the script at arguments
-user_call_typed : (o : Option OperatorType) (x : Name) (ks : List Known) (p : Place) (c : Context) (at : Environment) (vs : List TypedName) → IsFitting c at vs → operator_at at vs x ≡ o →
+user_call_typed : (o : Option OperatorType) (x : Name) (ks : List Known) (p : Place) (c : Context) (at : Environment) (vs : List Binding) → IsFitting c at vs → operator_at at vs x ≡ o →
     (w : Option Ty) → IsFormTypeIf (has_globs at.language) w → (u : Term) → user_call o x (parts ks) p at vs w ≡ given u → IsGiven c at.language w u
 user_call_typed (Some o) x ks p c at vs fit i w f u e =
     let k = given_bind (stands at w p o.result) _ u e in
@@ -330,11 +352,11 @@ applied_form_typed [] p c at vs fit w f u e = cc
 quantified_typed : (x : Name) (ks : List Known) (p : Place) → GivesTyped (quantified x (parts ks) p)
 quantified_typed x (bs ∷ a ∷ []) p c at vs fit w f u h =
     let q = given_bind (quantifier_of x p) _ u h in
-    let d = given_bind (formula at w p) (λ _. bound_by at.declared [] (parts_of bs.0) >>= λ ws. under q.0 ws vs (elaborated a.0 at)) u q.2 in
+    let d = given_bind (formula at w p) (λ _. bound_by at [] (parts_of bs.0) >>= λ ws. under q.0 ws vs (elaborated a.0 at)) u q.2 in
     let k = if_refused (is_program at.language) Argument p (truth w p) d.0 d.1 in
-    let b = given_bind (bound_by at.declared [] (parts_of bs.0)) (λ ws. under q.0 ws vs (elaborated a.0 at)) u d.2 in
+    let b = given_bind (bound_by at [] (parts_of bs.0)) (λ ws. under q.0 ws vs (elaborated a.0 at)) u d.2 in
     let names = fit.declared in
-    let bound = variables_with (has_globs at.language) b.0 (binders_typed at.declared names.types [] (parts_of bs.0) b.0 tt b.1) in
+    let bound = binders_may at names.types [] (parts_of bs.0) b.0 tt b.1 in
     let ws = reverse b.0 ++ vs in
     let r = given_bind (elaborated a.0 at ws (Some ty.Bool)) (λ t. given (over_all q.0 b.0 t)) u b.2 in
     let inner = under_all c b.0 in
@@ -400,6 +422,24 @@ bounded_typed x (a ∷ r ∷ []) p c at vs fit w f u h =
     (r.1.0 (with_own c None) (around at) vs (around_fits c at vs fit j.0) (Some ty.Real) tt b.0 b.1)))
 bounded_typed x _ p c at vs fit w f u h = cc
 
+probability_typed : (ks : List Known) (p : Place) → GivesTyped (probability (parts ks) p)
+probability_typed (k ∷ m ∷ b ∷ []) p c at vs fit w f u h =
+    let x = given_bind (chance_here at w p) _ u h in
+    let j = if_allowed (has_judgments at.language) (stands at w p ty.Real) Argument p x.0 x.1 in
+    let n = given_bind (called at vs (head_of k.0) (parts_of k.0) (place_of k.0)) _ u x.2 in
+    let ts = given_bind (arguments_of k.0 n.0.1.params (place_of k.0) (before_call at (text_of m.0)) vs) _ u n.2 in
+    let s = given_bind (memory_at at vs (text_of m.0) (place_of m.0)) _ u ts.2 in
+    let e = given_bind (elaborated b.0 (after_one at n.0.1) vs (Some ty.Bool)) (λ (t : Term). given (chance n.0.0 s.0 ts.0 t)) u s.2 in
+    let there = called_is at vs (head_of k.0) (parts_of k.0) (place_of k.0) n.0 n.1 in
+    let known = fit.procedures j.0 n.0.0 n.0.1 there in
+    subst (IsGiven c at.language w) {x = chance n.0.0 s.0 ts.0 e.0} (given_is _ u e.2)
+    (given_from c at.language w ty.Real (chance n.0.0 s.0 ts.0 e.0)
+    (chance_typed c at vs fit j.0 n.0.0 n.0.1 there s.0 (memory_is c at vs fit (remembering at.language j.0) (text_of m.0) (place_of m.0) s.0 s.1) ts.0
+    (k.1.3 c (before_call at (text_of m.0)) vs (call_fits c at vs fit j.0 (text_of m.0)) refl n.0.1.params known.params (place_of k.0) ts.0 ts.1) e.0
+    (b.1.0 _ (after_one at n.0.1) vs (after_one_fits c at vs fit j.0 n.0.0 n.0.1 there) (Some ty.Bool) tt e.0 e.1))
+    (stands_is at w p ty.Real x.0 j.1))
+probability_typed _ p c at vs fit w f u h = cc
+
 -- a form with a side
 with_side_typed : (ns : List Node) (p : Place) → GivesTyped (with_side ns p)
 with_side_typed (a ∷ s ∷ []) p c at vs fit w f u e =
@@ -446,32 +486,37 @@ form_parts head.Bounded x ks p c at vs fit w f u e = bounded_typed x ks p c at v
 form_parts head.Lossless x ks p c at vs fit w f u e =
     let q = given_bind (judgment at w p) _ u e in
     let j = judged c at w p q.0 q.1 in truth_given c at.language w p q.0 u j.1 (lossless_typed c at vs fit j.0 (bare (parts ks)) p u q.2)
+form_parts head.Probability x ks p c at vs fit w f u e = probability_typed ks p c at vs fit w f u e
 form_parts h x ks p c at vs fit w f u e = operation_typed (operator_of h x) (operator_known h x) ks p c at vs fit w f u e
 
 -- the name of a function's variable
-domain_name : (globs : Bool) (d : Domain) → IsDomain globs d → (x : Name) → IsBoundName globs (binder_of d) (record { name = x; ty = type_in d })
+domain_name : (globs : Bool) (d : Domain) → IsDomain globs d → (x : Name) → IsBoundName globs (binder_of d) (value_named x (type_in d))
 domain_name globs (Exactly t) h x = ((no_distribution t (with_globs globs t h), refl), finite_form globs t h)
 domain_name globs (Below n) h x = (omega arith, h)
 
-written_name : (ds : Declarations) (globs : Bool) (d : Domain) → IsDomain globs d → (x : Name) (s : Node) (t : Ty) → written_as ds d s ≡ given t → IsBoundName globs (binder_of d) (record { name = x; ty = t })
+written_name : (ds : Declarations) (globs : Bool) (d : Domain) → IsDomain globs d → (x : Name) (s : Node) (t : Ty) → written_as ds d s ≡ given t → IsBoundName globs (binder_of d) (value_named x t)
 written_name ds globs (Exactly v) h x s t e =
     let k = given_bind (type_of ds s) (λ z. if ty_eq z v then given z else refused TypeMismatch (place_of s)) t e in
     let j = if_given (ty_eq k.0 v) k.0 TypeMismatch (place_of s) t k.2 in
-    subst (λ z. IsBoundName globs (value v) (record { name = x; ty = z })) (sym ((ty_eq-Decides k.0 v).0 j.0) ∙ j.1) (domain_name globs (Exactly v) h x)
+    subst (λ z. IsBoundName globs (value v) (value_named x z)) (sym ((ty_eq-Decides k.0 v).0 j.0) ∙ j.1) (domain_name globs (Exactly v) h x)
 written_name ds globs (Below n) h x s t e =
     let k = given_bind (type_of ds s) (λ z. if counts_to n z then given z else refused Argument (place_of s)) t e in
     let j = if_given (counts_to n k.0) k.0 Argument (place_of s) t k.2 in
     let m = counting n k.0 j.0 in
     let below : n ≤ m.0 = m.1 in
-    subst (λ z. IsBoundName globs (index n) (record { name = x; ty = z })) (sym m.2 ∙ j.1) (below, omega (arith, h, below))
+    subst (λ z. IsBoundName globs (index n) (value_named x z)) (sym m.2 ∙ j.1) (below, omega (arith, h, below))
+
+-- a function binds no memory
+no_memory : (d : Domain) → IsMemory (binder_of d) → ⊥
+no_memory (Exactly t) m = m
+no_memory (Below n) m = m
 
 -- the value of a function, under its variable
-value_typed : (a : Known) (d : Domain) (x : Name) (t : Ty) (c : Context) (at : Environment) (vs : List TypedName) → IsFitting c at vs →
-    IsBoundName (has_globs at.language) (binder_of d) (record { name = x; ty = t }) → (w : Option Ty) → IsFormTypeIf (has_globs at.language) w → (u : Term) →
+value_typed : (a : Known) (d : Domain) (x : Name) (t : Ty) (c : Context) (at : Environment) (vs : List Binding) → IsFitting c at vs →
+    IsBoundName (has_globs at.language) (binder_of d) (value_named x t) → (w : Option Ty) → IsFormTypeIf (has_globs at.language) w → (u : Term) →
     value_of x t (a.0, meant a.0) at vs w ≡ given u → IsGiven (within c (binder_of d) None) at.language w u
 value_typed a d x t c at vs fit h w f u e =
-    let v : TypedName = record { name = x; ty = t } in
-    a.1.0 (within c (binder_of d) None) at (v ∷ vs) (inner_fits at c vs fit (binder_of d) v h) w f u e
+    let v = value_named x t in a.1.0 (within c (binder_of d) None) at (v ∷ vs) (inner_fits at c vs fit (binder_of d) None (no_memory d) v h) w f u e
 
 function_parts : (h : Head) (ks : List Known) (p : Place) → GivesValues (function_typing h (parts ks) p)
 unfolding function_typing
@@ -485,12 +530,45 @@ function_parts head.TypedFunction (xs ∷ s ∷ a ∷ []) p c at vs fit d n w f 
     value_typed a d (text_of x.0) t.0 c at vs fit (written_name at.declared (has_globs at.language) d n (text_of x.0) s.0 t.0 t.1) w f u t.2
 function_parts _ _ p c at vs fit d n w f u e = cc
 
+-- arguments behind those that are typed
+module _ (c : Context) (at : Environment) (vs : List Binding) (fit : IsFitting c at vs) (globs : has_globs at.language ≡ true) (p : Place) where
+  abbrev Behind : List Term → List TypedName → List Term → Type 0
+  Behind ds xs ts = (us : List Term) × (ds ++ us ≡ ts) × AreArguments c xs us
+
+  behind_typed : (ds : List Term) (xs : List TypedName) (ks : List Known) (ts : List Term) → HaveFiniteTypes xs → arguments p at vs ds xs (parts ks) ≡ given ts → Behind ds xs ts
+  unfolding arguments
+  behind_typed ds [] [] ts h e = ([], append-nil ds ∙ given_is ds ts e, tt)
+  behind_typed ds (x ∷ xs) [] ts h e = cc
+  behind_typed ds [] (a ∷ ks) ts h e = cc
+  behind_typed ds (x ∷ xs) (a ∷ ks) ts h e =
+      let t = given_bind (elaborated a.0 at vs (Some x.ty)) (λ t. arguments p at vs (ds ++ t ∷ []) xs (parts ks)) ts e in
+      let g = a.1.0 c at vs fit (Some x.ty) (finite_form (has_globs at.language) x.ty (subst (λ b. IsFiniteWith b x.ty) (sym globs) h.0)) t.0 t.1 in
+      let r = behind_typed (ds ++ t.0 ∷ []) xs ks ts h.1 t.2 in
+      (t.0 ∷ r.0, sym (append_assoc ds (t.0 ∷ []) r.0) ∙ r.1, (record { typed = g.typed; written = g.wanted }, r.2))
+
+last_typed : (o : Option Known) → GivesArguments (last_arguments (option_map (λ k. (k.0, meant k.0)) o))
+last_typed (Some a) c at vs fit globs xs h p ts e = a.1.3 c at vs fit globs xs h p ts e
+last_typed None c at vs fit globs xs h p ts e = cc
+
+argument_parts : (h : Head) (ks : List Known) → GivesArguments (arguing h (parts ks))
+argument_parts head.Call ks c at vs fit globs xs h p ts e =
+    last_typed (slice_get ks (length (parts ks) - 1)) c at vs fit globs xs h p ts (ap (λ o. last_arguments o xs p at vs) (sym (part_at ks (length (parts ks) - 1))) ∙ e)
+  where
+    part_at : (ks : List Known) (i : ℕ) → slice_get (parts ks) i ≡ option_map (λ k. (k.0, meant k.0)) (slice_get ks i)
+    part_at [] i = refl
+    part_at (k ∷ ks) zero = refl
+    part_at (k ∷ ks) (suc i) = part_at ks i
+argument_parts head.List ks c at vs fit globs xs h p ts e =
+    let k = if_refused (nat_lt (length (parts ks)) (length xs)) TypeMismatch p (arguments p at vs [] xs (parts ks)) ts e in
+    let r = behind_typed c at vs fit globs p [] xs ks ts h k.1 in subst (AreArguments c xs) r.1 r.2
+argument_parts _ ks c at vs fit globs xs h p ts e = cc
+
 contract_parts : (h : Head) (ks : List Known) (p : Place) → GivesContracts (contracting h (parts ks) p)
 contract_parts head.Phoare ks p c at vs fit j k e = contract_typed ks p c at vs fit j k e
 contract_parts _ ks p c at vs fit j k e = cc
 
 all_parts : (h : Head) (x : Name) (ks : List Known) (p : Place) → IsTyped (meaning h x (parts ks) p)
-all_parts h x ks p = (form_parts h x ks p, function_parts h ks p, contract_parts h ks p)
+all_parts h x ks p = (form_parts h x ks p, function_parts h ks p, contract_parts h ks p, argument_parts h ks)
 
 pub meant_typed : (t : Node) → IsTyped (meant t)
 unfolding meant

@@ -8,6 +8,8 @@ use Rattle.gb_typed.specs.Typing.{Binder}
 use Rattle.gb_typed.specs.Typing.Binder.{program}
 use Rattle.gb_meaning.specs.Written.{local_type}
 use Rattle.gb_names.specs.Environment.{Name}
+use Rattle.gb_names.specs.declared.bindings.Binding.{Binding}
+use Rattle.gb_names.specs.Bindings.{binders_inside, innermost}
 use Rattle.gb_names.specs.Names.{first_named, number_before}
 use Rattle.gb_typed.specs.Programs.{HaveFiniteTypes}
 use Rattle.gb_typing.proofs.Globals.{name_test}
@@ -22,7 +24,6 @@ all_with (v ∷ vs) h = (h.0, all_with vs h.1)
 -- what a name that is found stands for
 pub record Found (vs : List TypedName) (x : Name) (v : TypedName) : Type 0 where
   pub name : v.name ≡ x
-  pub bound : (globs : Bool) (bs : List Binder) → AreBound globs bs vs → IsBoundName globs (get_or bs (number_before vs x) program) v
   pub item : item (map (λ (l : TypedName). l.ty) vs) (number_before vs x) ≡ Some v.ty
   pub frame : local_type vs x ≡ Some v.ty
   pub finite : HaveFiniteTypes vs → IsFinite v.ty
@@ -35,21 +36,11 @@ found (l ∷ ls) x v e = step (bytes_eq l.name x) refl (found ls x v) e
     number : Bool → ℕ
     number b = if b then 0 else suc (number_before ls x)
 
-    first_bound : (globs : Bool) (bs : List Binder) → AreBound globs bs (l ∷ ls) → IsBoundName globs (get_or bs 0 program) l
-    first_bound globs [] k = absurd k
-    first_bound globs (b ∷ bs) k = k.0
-
-    next_bound : (globs : Bool) (bs : List Binder) → ((cs : List Binder) → AreBound globs cs ls → IsBoundName globs (get_or cs (number_before ls x) program) v) →
-        AreBound globs bs (l ∷ ls) → IsBoundName globs (get_or bs (suc (number_before ls x)) program) v
-    next_bound globs [] f k = absurd k
-    next_bound globs (b ∷ bs) f k = f bs k.1
-
     head : bytes_eq l.name x ≡ true → l ≡ v → Found (l ∷ ls) x v
     head k e =
         let n : number_before (l ∷ ls) x ≡ 0 = ap number k in
         record {
           name = ap (λ (z : TypedName). z.name) (sym e) ∙ (bytes_eq-Decides l.name x).0 k;
-          bound = λ globs bs k. subst (λ i. IsBoundName globs (get_or bs i program) v) (sym n) (subst (IsBoundName globs (get_or bs 0 program)) e (first_bound globs bs k));
           item = ap (item (map (λ (z : TypedName). z.ty) (l ∷ ls))) n ∙ ap (λ (z : TypedName). Some z.ty) e;
           frame = ap (λ (b : Bool). if b then Some l.ty else local_type ls x) (name_test x l.name ∙ k) ∙ ap (λ (z : TypedName). Some z.ty) e;
           finite = λ h. subst (λ (z : TypedName). IsFinite z.ty) e h.0;
@@ -61,7 +52,6 @@ found (l ∷ ls) x v e = step (bytes_eq l.name x) refl (found ls x v) e
         let n : number_before (l ∷ ls) x ≡ suc (number_before ls x) = ap number k in
         record {
           name = f.name;
-          bound = λ globs bs k. subst (λ i. IsBoundName globs (get_or bs i program) v) (sym n) (next_bound globs bs (f.bound globs) k);
           item = ap (item (map (λ (z : TypedName). z.ty) (l ∷ ls))) n ∙ f.item;
           frame = ap (λ (b : Bool). if b then Some l.ty else local_type ls x) (name_test x l.name ∙ k) ∙ f.frame;
           finite = λ h. f.finite h.1;
@@ -71,3 +61,15 @@ found (l ∷ ls) x v e = step (bytes_eq l.name x) refl (found ls x v) e
     step : (b : Bool) → bytes_eq l.name x ≡ b → (first_named ls x ≡ Some v → Found ls x v) → (if b then Some l else first_named ls x) ≡ Some v → Found (l ∷ ls) x v
     step true k f e = head k (same_some l v e)
     step false k f e = tail k (f e)
+
+-- what is bound under a name stands among the binders
+pub found_bound : (globs : Bool) (vs : List Binding) (x : Name) (v : Binding) → innermost vs x ≡ Some v → (bs : List Binder) → AreBound globs bs vs →
+    IsBoundName globs (get_or bs (binders_inside vs x) program) v
+found_bound globs [] x v e bs k = none_some v e
+found_bound globs (w ∷ ws) x v e [] k = absurd k
+found_bound globs (w ∷ ws) x v e (b ∷ bs) k = step (bytes_eq w.name x) (λ i. found_bound globs ws x v i bs k.1) e
+  where
+    step : (t : Bool) → (innermost ws x ≡ Some v → IsBoundName globs (get_or bs (binders_inside ws x) program) v) → (if t then Some w else innermost ws x) ≡ Some v →
+        IsBoundName globs (get_or (b ∷ bs) (if t then 0 else suc (binders_inside ws x)) program) v
+    step true f i = subst (IsBoundName globs b) (same_some w v i) k.0
+    step false f i = f i

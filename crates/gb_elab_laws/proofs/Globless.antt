@@ -1,5 +1,5 @@
 -- In what operators of a typed scope give, no type of a module's globals stands.
-use Rattle.std.proofs.Common.{◌≡◌, ℕ, suc, zero, Bool, true, false, ◌&&◌, List, [], ◌∷◌, ◌++◌, map, reverse, get_or, Option, Some, None, refl, ap, sym, ◌∙◌, subst}
+use Rattle.std.proofs.Common.{◌≡◌, ℕ, suc, zero, Bool, true, false, ◌&&◌, List, [], ◌∷◌, ◌++◌, map, reverse, get_or, Some, None, refl, ap, sym, ◌∙◌, subst}
 use mathlib.Core.Former.{Count}
 use Rattle.std.proofs.lemmas.Bool.{false≢true, and_parts}
 use Rattle.std.proofs.lemmas.List.{reverse-append}
@@ -22,14 +22,13 @@ use Rattle.gb_terms.specs.declared.term.Head.TheVariants as head
 use Rattle.gb_meaning.specs.Drawn.{has_weights}
 use Rattle.gb_meaning.specs.Names.{Name}
 use Rattle.gb_meaning.specs.Operators.{outcome_type}
-use Rattle.gb_meaning.specs.Trees.{distributions}
 use Rattle.gb_meaning.specs.Written.{type_of}
 use Rattle.gb_holds.specs.Globs.{EachGlob, EachGlobIn}
 use Rattle.gb_holds.specs.Naming.{AnyName, EachName}
 use Rattle.gb_later.specs.Naming.{NoName, HeadNames, TermNames, TermsName}
 use Rattle.gb_typed.specs.Finite.{AreFiniteWith, IsFinite, IsVariableType}
 use Rattle.gb_typed.specs.Operators.{IsDistributionType}
-use Rattle.gb_typed.specs.Typing.{Binder, IsLiteral, AreLiterals, IsBoundAt, IsHead, OperatorType, binder, types_of}
+use Rattle.gb_typed.specs.Typing.{Binder, AreLiterals, IsBoundAt, IsHead, OperatorType, binder, types_of}
 use Rattle.gb_typed.specs.Typing.Binder.{value, index, memory, program}
 use Rattle.gb_typing.specs.Context.{Context, erased, within}
 use Rattle.gb_terms.specs.declared.decl.TypedName.{TypedName}

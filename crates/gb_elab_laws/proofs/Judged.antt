@@ -8,6 +8,7 @@ use Rattle.gb_terms.specs.declared.decl.Module.{Module}
 use Rattle.gb_terms.specs.declared.decl.Param.{Param}
 use Rattle.gb_terms.specs.declared.decl.Proc.{Proc}
 use Rattle.gb_terms.specs.declared.decl.TypedName.{TypedName}
+use Rattle.gb_names.specs.declared.bindings.Binding.{Binding}
 use Rattle.gb_terms.specs.declared.module.ProcRef.{ProcRef}
 use Rattle.gb_terms.specs.declared.term.Term.{Term}
 use Rattle.gb_terms.specs.declared.term.Head.TheVariants.{Equiv, Proc as procedure_subject}
@@ -22,7 +23,7 @@ use Rattle.gb_goal.specs.Answers.{given_or}
 use Rattle.gb_goal.specs.Answers.Answer.{given}
 use Rattle.gb_names.specs.declared.setting.Language.{Language}
 use Rattle.gb_names.specs.declared.setting.Language.TheVariants.{Formula, Function, Program, Sampled, Operator}
-use Rattle.gb_names.specs.Environment.{Name, Environment, relational}
+use Rattle.gb_names.specs.Environment.{Name, Environment, in_judgments, reading, relational}
 use Rattle.gb_names.specs.Allowed.{has_judgments}
 use Rattle.gb_names.specs.Judgments.{whole, module_in, named_module, Path, procedure_path, Named, reference, procedure_at, named_procedure, about_procedure, one_procedure, both_procedures, before, after, result_of, equivalent}
 use Rattle.gb_names.specs.Names.{is_variable}
@@ -33,6 +34,7 @@ use Rattle.gb_typing.specs.Typing as typed
 use Rattle.gb_typing.proofs.Made.{made_node}
 use Rattle.gb_elab_laws.specs.Fitting.{has_globs, AllFiniteWith, AreBound, AreIn, IsTypeOf, IsFitting, IsGiven}
 use Rattle.gb_elab_laws.proofs.Given.{given_bind, given_is, if_refused, some_given}
+use Rattle.gb_elab_laws.proofs.Remembered.{remembering}
 use Rattle.gb_elab_laws.proofs.Typed.{Typed}
 
 whole_is : (ps : List Param) (k m : Module) (p : Place) → whole ps k p ≡ given m → (ps ≡ []) × (k ≡ m)
@@ -40,7 +42,7 @@ whole_is [] k m p h = (refl, given_is k m h)
 whole_is (q ∷ qs) k m p h = cc
 
 -- the module of a name has no parameters
-module_is : (o : Option Entry) (x : Name) (p : Place) (m : Module) → module_in o x p ≡ given m → (o ≡ Some (entry.Module m)) × (m.params ≡ [])
+pub module_is : (o : Option Entry) (x : Name) (p : Place) (m : Module) → module_in o x p ≡ given m → (o ≡ Some (entry.Module m)) × (m.params ≡ [])
 module_is (Some (entry.Module k)) x p m h =
     let q = whole_is k.params k m p h in (ap (λ z. Some (entry.Module z)) q.1, subst (λ (z : Module). z.params ≡ []) q.1 q.0)
 module_is (Some _) x p m h = cc
@@ -49,7 +51,7 @@ module_is None x p m h = cc
 without_params : (ps : List Param) (qs : List Proc) (n : Name) (f : Proc) → ps ≡ [] → proc_of qs n ≡ Some f → proc_if_plain ps qs n ≡ Some f
 without_params ps qs n f k h = ap (λ z. proc_if_plain z qs n) k ∙ h
 
-in_module : (o : Option Entry) (m : Module) (n : Name) (f : Proc) → o ≡ Some (entry.Module m) → m.params ≡ [] → proc_of m.procs n ≡ Some f → proc_in (as_module o) n ≡ Some f
+pub in_module : (o : Option Entry) (m : Module) (n : Name) (f : Proc) → o ≡ Some (entry.Module m) → m.params ≡ [] → proc_of m.procs n ≡ Some f → proc_in (as_module o) n ≡ Some f
 in_module o m n f e k h = ap (λ z. proc_in (as_module z) n) e ∙ without_params m.params m.procs n f k h
 
 -- where judgments may stand, types of globals may
@@ -64,7 +66,7 @@ judging Operator h = cc
 abbrev pub IsDeclared : Environment → Named → Type 0
 IsDeclared at n = procedure_of at.declared n.0 ≡ Some n.1
 
-procedure_is : (at : Environment) (vs : List TypedName) (f : Path) (p : Place) (n : Named) → procedure_at at vs f p ≡ given n → IsDeclared at n
+procedure_is : (at : Environment) (vs : List Binding) (f : Path) (p : Place) (n : Named) → procedure_at at vs f p ≡ given n → IsDeclared at n
 unfolding procedure_at named_module
 procedure_is at vs f p n h =
     let x = text_of f.1 in
@@ -75,12 +77,12 @@ procedure_is at vs f p n h =
     subst (IsDeclared at) (given_is (reference f, d.0) n d.2)
     (in_module (entry_of at.declared f.0) m.0 x d.0 e.0 e.1 (some_given (proc_of m.0.procs x) (UnknownName x) (place_of f.1) d.0 d.1))
 
-named_is : (at : Environment) (vs : List TypedName) (k : Head) (xs : List Node) (p : Place) (n : Named) → named_procedure at vs k xs p ≡ given n → IsDeclared at n
+pub named_is : (at : Environment) (vs : List Binding) (k : Head) (xs : List Node) (p : Place) (n : Named) → named_procedure at vs k xs p ≡ given n → IsDeclared at n
 named_is at vs head.ProcedurePath (x ∷ y ∷ ys) p n h = procedure_is at vs (procedure_path (text_of x) y ys) p n h
 named_is at vs _ _ p n h = cc
 
 -- the procedures that a judgment is about are declared
-pub both_are : (at : Environment) (vs : List TypedName) (f g : Node) (p : Place) (n : Named × Named) → both_procedures at vs f g p ≡ given n → IsDeclared at n.0 × IsDeclared at n.1
+pub both_are : (at : Environment) (vs : List Binding) (f g : Node) (p : Place) (n : Named × Named) → both_procedures at vs f g p ≡ given n → IsDeclared at n.0 × IsDeclared at n.1
 both_are at vs f g p n h =
     let a = given_bind (about_procedure (head_of f) p) _ n h in
     let b = given_bind (about_procedure (head_of g) p) _ n a.2 in
@@ -90,7 +92,7 @@ both_are at vs f g p n h =
     (named_is at vs (head_of f) (parts_of f) (place_of f) l.0 l.1, named_is at vs (head_of g) (parts_of g) (place_of g) r.0 r.1)
 
 -- the procedure that a judgment is about is declared
-pub one_is : (at : Environment) (vs : List TypedName) (f : Node) (p : Place) (n : Named) → one_procedure at vs f p ≡ given n → IsDeclared at n
+pub one_is : (at : Environment) (vs : List Binding) (f : Node) (p : Place) (n : Named) → one_procedure at vs f p ≡ given n → IsDeclared at n
 one_is at vs f p n h = let a = given_bind (about_procedure (head_of f) p) _ n h in named_is at vs (head_of f) (parts_of f) (place_of f) n a.2
 
 -- the parameters of a procedure are read before it, and its result after it
@@ -100,9 +102,9 @@ params_in t f w = record { memory = subst (λ z. IsFrame (typed.before z)) (sym 
 pub result_in : (t : Option ProcedureType) (f : Proc) → IsTypeOf t f → AreIn (typed.after t) (result_of f)
 result_in t f w = record { memory = subst (λ z. IsFrame (typed.after z)) (sym w.there) tt; there = λ x u e. subst (λ z. local_in (typed.after z) x ≡ Some u) (sym w.there) e; finite = (w.result, tt) }
 
-module _ (c : Context) (at : Environment) (vs : List TypedName) (fit : IsFitting c at vs) (judges : has_judgments at.language ≡ true) where
+module _ (c : Context) (at : Environment) (vs : List Binding) (fit : IsFitting c at vs) (judges : has_judgments at.language ≡ true) where
   -- conditions on two programs over these variables
-  condition : (F G : Frame) (ls rs : List TypedName) → AreIn F ls → AreIn G rs → IsFitting (with_sides c F G) (relational at.declared at.sequent ls rs) vs
+  pub condition : (F G : Frame) (ls rs : List TypedName) → AreIn F ls → AreIn G rs → IsFitting (with_sides c F G) (reading (in_judgments at.memories) (relational at.declared at.sequent ls rs)) vs
   condition F G ls rs h k = record {
     logical = fit.logical;
     values = subst (λ b. AllFiniteWith b at.sequent.logical) (judging at.language judges) fit.values;
@@ -112,6 +114,8 @@ module _ (c : Context) (at : Environment) (vs : List TypedName) (fit : IsFitting
     around = tt;
     globals = λ e. fit.globals (judging at.language judges);
     procedures = λ e. fit.procedures judges;
+    memories = λ e. fit.memories (remembering at.language judges);
+    frames = λ e. fit.frames (remembering at.language judges);
   }
 
   module _ (f g : ProcRef) (a b : Proc) (ea : procedure_of at.declared f ≡ Some a) (eb : procedure_of at.declared g ≡ Some b) where

@@ -1,7 +1,6 @@
 -- What a name means is typed.
-use Rattle.std.proofs.Common.{◌≡◌, Bool, true, false, if◌then◌else◌, List, [], map, get_or, is_some, Option, Some, None, option_map, bytes_eq, refl, ap, sym, ◌∙◌, subst, arith}
+use Rattle.std.proofs.Common.{◌≡◌, ℕ, Bool, true, false, if◌then◌else◌, List, [], map, get_or, is_some, Option, Some, None, option_map, bytes_eq, refl, ap, sym, ◌∙◌, subst, arith}
 use Rattle.std.specs.Option.{option_map_or}
-use Rattle.std.specs.List.{list_any}
 use Rattle.std.specs.Path.{dot, rsplit_once}
 use Rattle.std.proofs.lemmas.Bool.{false≢true}
 use Rattle.std.proofs.lemmas.Slice.Eq.{bytes_eq-Decides}
@@ -25,27 +24,31 @@ use Rattle.gb_script.specs.declared.tree.Node.{Node}
 use Rattle.gb_script.specs.Tree.{head_of, text_of, place_of}
 use Rattle.gb_typed.specs.Finite.{IsFinite, IsFiniteWith}
 use Rattle.gb_typed.specs.Typing.{binder, IsSide}
-use Rattle.gb_typed.specs.Typing.Binder.{program}
 use Rattle.gb_typed.specs.Operators.{item}
 use Rattle.gb_meaning.specs.Written.{local_type}
 use Rattle.gb_names.specs.declared.setting.Variables.{Variables}
 use Rattle.gb_names.specs.declared.setting.Variables.TheVariants.{Absent, Own, Sides}
-use Rattle.gb_goal.specs.Answers.{Answer, not_built}
+use Rattle.gb_goal.specs.Answers.{Answer}
 use Rattle.gb_goal.specs.Scope.{module_of}
 use Rattle.gb_names.specs.Wanted.{counted}
 use Rattle.gb_goal.specs.Answers.Answer.{given, refused}
-use Rattle.gb_names.specs.Environment.{Name, Environment, own, own_of, on_side, sides_of}
-use Rattle.gb_names.specs.Names.{ModuleVariable, first_named, global_at, global_in, global_variable, has_own, module_if, number_before, own_global, unit, unsided, bound_variable, logical_variable, program_variable, names_other, unbound, named, no_variable, variable_on, sided, in_memory, path}
-use Rattle.gb_names.specs.Names.{beside, has_memories, remembered, side_of}
+use Rattle.gb_names.specs.declared.bindings.Binding.{Binding}
+use Rattle.gb_names.specs.declared.bindings.Kind.{Kind}
+use Rattle.gb_names.specs.declared.bindings.Kind.TheVariants.{Value, Memory}
+use Rattle.gb_names.specs.Bindings.{binders_inside, innermost}
+use Rattle.gb_names.specs.Environment.{Name, Environment, may_read, own, own_of, on_side, sides_of}
+use Rattle.gb_names.specs.Names.{ModuleVariable, first_named, global_at, global_in, global_variable, has_own, module_if, number_before, own_global, unit, unsided, bound_thing, bound_variable, logical_variable, program_variable, names_other, unbound, named, no_variable, variable_on, sided, in_memory, path}
+use Rattle.gb_names.specs.Names.{beside, has_memories, memory_at, remembered, side_of}
 use Rattle.gb_elab.specs.Forms.{read}
 use Rattle.gb_typing.specs.Context.{Frame, Context, erased, frame_of, local_in}
 use Rattle.gb_typing.specs.Typing.{IsFrame}
 use Rattle.gb_typing.proofs.Literals.{bool_literal}
-use Rattle.gb_elab_laws.specs.Fitting.{has_globs, AllFiniteWith, IsBoundName, AreIn, AreReadable, HasGlobals, HasGlobalsIf, IsFitting}
+use Rattle.gb_elab_laws.specs.Fitting.{has_globs, AllFiniteWith, IsBoundTo, AreIn, AreReadable, HasGlobals, HasGlobalsIf, IsFitting}
 use Rattle.gb_elab_laws.proofs.Given.{given_bind, given_is, if_allowed, if_refused, counted_is, none_some, same_some}
 use Rattle.gb_elab_laws.proofs.Literals.{unit_literal}
 use Rattle.gb_elab_laws.proofs.Shapes.{with_globs, finite_form}
-use Rattle.gb_elab_laws.proofs.Found.{Found, found, all_with}
+use Rattle.gb_elab_laws.proofs.Found.{Found, found, found_bound, all_with}
+use Rattle.gb_elab_laws.proofs.Remembered.{memory_is, remembered_globs}
 use Rattle.gb_elab_laws.proofs.Typed.{Typed, IsSome, leaf, whole_leaf}
 
 mapped : {A B : Type 0} (f : A → B) (o : Option A) (y : B) → option_map f o ≡ Some y → (x : A) × (o ≡ Some x) × (f x ≡ y)
@@ -90,7 +93,7 @@ side_there globs c (Sides ls rs) side.Left ms h e = record { memory = record { s
 side_there globs c (Sides ls rs) side.Right ms h e = record { memory = record { side = tt; frame = h.2.memory; whole = h.0 }; read = subst (IsRead globs c.right) (same_some rs ms e) (all_read globs c.right rs h.0 h.2) }
 side_there globs c _ s ms h e = none_some ms e
 
-module _ (c : Context) (at : Environment) (vs : List TypedName) (fit : IsFitting c at vs) where
+module _ (c : Context) (at : Environment) (vs : List Binding) (fit : IsFitting c at vs) where
   -- a typed term of a type of values
   abbrev pub IsVariable : Term → Type 0
   IsVariable t = (a : Ty) × IsFinite a × Typed c at.language a t
@@ -102,13 +105,16 @@ module _ (c : Context) (at : Environment) (vs : List TypedName) (fit : IsFitting
   pub unit_typed : Typed c at.language ty.Unit unit
   unit_typed = leaf c at.language (Lit (Num 0)) ty.Unit tt unit_literal tt tt (λ e. tt)
 
-  bound_typed : (x : Name) (v : TypedName) (u : Term) → Found vs x v → bound_variable (number_before vs x) v ≡ given u → IsSome c at.language u
-  bound_typed x v u f h =
-      let q = given_bind (counted (number_before vs x)) (λ i. given (node (Bound i) [] v.ty)) u h in
+  bound_typed : (n : ℕ) (t : Ty) (u : Term) → IsBoundTo (has_globs at.language) (binder (erased c) n) (Value t) → bound_variable n t ≡ given u → IsSome c at.language u
+  bound_typed n t u b h =
+      let q = given_bind (counted n) (λ i. given (node (Bound i) [] t)) u h in
       let globs = has_globs at.language in
-      let there : IsBoundName globs (binder (erased c) q.0) v =
-      subst (λ i. IsBoundName globs (get_or c.bound i program) v) (counted_is _ q.0 q.1) (f.bound globs c.bound fit.bound) in
-      subst (IsSome c at.language) (given_is _ u q.2) (v.ty, leaf c at.language (Bound q.0) v.ty there.1 there.0 tt tt (λ e. tt))
+      let there : IsBoundTo globs (binder (erased c) q.0) (Value t) = subst (λ i. IsBoundTo globs (binder (erased c) i) (Value t)) (counted_is n q.0 q.1) b in
+      subst (IsSome c at.language) (given_is _ u q.2) (t, leaf c at.language (Bound q.0) t there.1 there.0 tt tt (λ e. tt))
+
+  thing_typed : (n : ℕ) (p : Place) (k : Kind) (u : Term) → IsBoundTo (has_globs at.language) (binder (erased c) n) k → bound_thing n p k ≡ given u → IsSome c at.language u
+  thing_typed n p (Value t) u b h = bound_typed n t u b h
+  thing_typed n p Memory u b h = cc
 
   logical_typed : (x : Name) (v : TypedName) (u : Term) → Found at.sequent.logical x v → logical_variable (number_before at.sequent.logical x) v ≡ given u → IsSome c at.language u
   logical_typed x v u f h =
@@ -197,7 +203,8 @@ module _ (c : Context) (at : Environment) (vs : List TypedName) (fit : IsFitting
   unfolding named
   named_typed x p u h =
       let logicals = at.sequent.logical in
-      chosen (bound_variable (number_before vs x)) (first_named vs x) _ u (λ v e k. bound_typed x v u (found vs x v e) k)
+      chosen (λ b. bound_thing (binders_inside vs x) p b.kind) (innermost vs x) _ u
+      (λ v e k. thing_typed (binders_inside vs x) p v.kind u (found_bound (has_globs at.language) vs x v e c.bound fit.bound) k)
       (chosen (λ v. given (program_variable side.Own v)) (first_named (own at) x) _ u (λ v e k. subst (IsSome c at.language) (given_is _ u k) (own_variable_typed x v (found (own at) x v e)))
       (chosen (logical_variable (number_before logicals x)) (first_named logicals x) _ u (λ v e k. logical_typed x v u (found logicals x v e) k)
       (chosen (unsided at p) (global_at at x) (unbound at x p) u (λ g e k. unsided_typed x p g u e k) (unbound_typed x p u))))
@@ -205,7 +212,7 @@ module _ (c : Context) (at : Environment) (vs : List TypedName) (fit : IsFitting
 
   variable_typed : (x : Name) (s : Side) (p : Place) (ls : List TypedName) (u : Term) → OnSide (has_globs at.language) c s ls → variable_on at vs x s p ls ≡ given u → IsVariable u
   variable_typed x s p ls u o h =
-      local (first_named ls x) refl (if_refused (is_some (first_named vs x)) Argument p _ u h).1
+      local (first_named ls x) refl (if_refused (is_some (innermost vs x)) Argument p _ u h).1
     where
       global : (y : Option ModuleVariable) → global_at at x ≡ y → option_map_or (λ g. given (global_variable s g)) y (refused (no_variable at x) p) ≡ given u → IsVariable u
       global (Some g) e k = subst IsVariable (given_is _ u k) (global_typed s o.memory x g e)
@@ -225,26 +232,29 @@ module _ (c : Context) (at : Environment) (vs : List TypedName) (fit : IsFitting
       step (Some ls) e h = variable_typed x s p ls u (side_there (has_globs at.language) c at.variables s ls fit.variables e) h
       step None e h = cc
 
-  no_memory : (x : Name) (m : Node) (p : Place) (u : Term) → in_memory at x m p ≡ given u → ⊥
+  -- a name in a named memory, of which no local is read
+  in_memory_typed : has_memories at.language ≡ true → (x : Name) (m : Node) (p : Place) (u : Term) → in_memory at vs x m p ≡ given u → IsVariable u
   unfolding in_memory
-  no_memory x m p u h = step (list_any (λ n. bytes_eq n (text_of m)) at.sequent.memories) h
-    where
-      among : (b : Bool) → (if b then not_built p else refused (no_variable at x) p) ≡ given u → ⊥
-      among true h = cc
-      among false h = cc
+  in_memory_typed may x m p u h =
+      let globs = has_globs at.language in
+      let s = given_bind (memory_at at vs (text_of m) (place_of m)) _ u h in
+      let k = if_allowed (may_read at.memories (text_of m)) (variable_on at vs x s.0 p []) Argument p u s.2 in
+      let r = memory_is c at vs fit may (text_of m) (place_of m) s.0 s.1 in
+      variable_typed x s.0 p [] u
+      (record {
+        memory = record { side = r.side; frame = r.frame; whole = remembered_globs at.language may };
+        read = none_read globs (frame_of c s.0);
+      }) k.1
 
-      step : (b : Bool) → (if b then (if is_some (global_at at x) then not_built p else refused (no_variable at x) p) else refused (UnknownName (text_of m)) (place_of m)) ≡ given u → ⊥
-      step true h = among (is_some (global_at at x)) h
-      step false h = cc
-
-  none_remembered : (x : Name) (m : Node) (p : Place) (u : Term) → remembered at x m p ≡ given u → ⊥
-  none_remembered x m p u h = no_memory x m p u (if_allowed (has_memories at.language) (in_memory at x m p) Argument p u h).1
+  remembered_typed : (x : Name) (m : Node) (p : Place) (u : Term) → remembered at vs x m p ≡ given u → IsVariable u
+  remembered_typed x m p u h =
+      let k = if_allowed (has_memories at.language) (in_memory at vs x m p) Argument p u h in in_memory_typed k.0 x m p u k.1
 
   beside_typed : (k : Head) (s : Node) (x : Name) (p : Place) (u : Term) → beside k s at vs x p ≡ given u → IsSome c at.language u
   beside_typed head.Number s x p u h =
       let i = given_bind (side_of (text_of s) p) (λ i. sided at vs x i p) u h in
       let q = sided_typed x i.0 p u i.2 in (q.0, q.2)
-  beside_typed _ m x p u h = absurd (none_remembered x m p u h)
+  beside_typed _ m x p u h = let q = remembered_typed x m p u h in (q.0, q.2)
 
   -- a form with a side
   pub read_typed : (k : Head) (x : Name) (xs : List Node) (p : Place) (s : Node) (u : Term) → read at vs k x xs p s ≡ given u → IsSome c at.language u

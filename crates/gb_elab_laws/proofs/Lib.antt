@@ -9,11 +9,13 @@ pub mod Declared
 pub mod Typed
 pub mod Operators
 pub mod Binding
+pub mod Remembered
 pub mod Leaves
 pub mod Equations
 pub mod Quantified
 pub mod Judged
 pub mod OneProcedure
+pub mod Probable
 pub mod Tested
 pub mod Asked
 pub mod Askable
@@ -26,8 +28,12 @@ pub mod Fits
 pub mod Occurring
 pub mod Ends
 pub mod Sampled
+pub mod Anew
 pub mod Cuts
+pub mod Around
+pub mod Called
 pub mod Stated
+pub mod Used
 mod Brought
 pub mod Programs
 pub mod Members

@@ -9,18 +9,20 @@ use Rattle.gb_core.specs.declared.ty.Ty.{Ty}
 use Rattle.gb_terms.specs.declared.decl.Module.{Module}
 use Rattle.gb_terms.specs.declared.decl.Proc.{Proc}
 use Rattle.gb_terms.specs.declared.decl.TypedName.{TypedName}
-use Rattle.gb_goal.specs.Answers.{Answer, ◌>>=◌, not_built}
+use Rattle.gb_terms.specs.declared.module.Mexp.{Mexp}
+use Rattle.gb_terms.specs.declared.module.Mexp.TheVariants.{Name as named, Apply'}
+use Rattle.gb_terms.specs.declared.module.ProcRef.{ProcRef}
+use Rattle.gb_goal.specs.Answers.{not_built}
 use Rattle.gb_goal.specs.Answers.Answer.{given}
-use Rattle.gb_goal.specs.Scope.{Declarations, as_module, entry_of, module_of}
+use Rattle.gb_goal.specs.Scope.{Declarations, as_module, entry_of, module_of, proc_at, proc_in, proc_of, procedure_of}
 use Rattle.gb_script.specs.declared.head.Head.{Head}
 use Rattle.gb_script.specs.declared.head.Head.TheVariants as head
 use Rattle.gb_script.specs.declared.tree.Node.{Node}
 use Rattle.gb_script.specs.Tree.{head_of, text_of, parts_of, place_of}
 use Rattle.gb_meaning.specs.Names.{Name}
 use Rattle.gb_meaning.specs.Written.{local_type}
-use Rattle.gb_typed.specs.Finite.{IsFinite, IsVariableType}
+use Rattle.gb_typed.specs.Finite.{IsVariableType}
 use Rattle.gb_names.specs.Binders.{of_type}
-use Rattle.gb_names.specs.Names.{first_named}
 use Rattle.gb_names.specs.Types as spelled_as
 use Rattle.gb_elab_prog.specs.Bound.{parameters}
 use Rattle.gb_elab_prog.specs.Contexts.{nothing_around, taken, untaken}
@@ -30,20 +32,21 @@ use Rattle.gb_elab_prog.specs.Procedures.{procedure_by}
 use Rattle.gb_elab_prog.specs.Unbuilt.{absent}
 use Rattle.gb_holds.specs.Declared.{declared as declarations}
 use Rattle.gb_holds.specs.Modules.{Procedures}
-use Rattle.gb_typing.specs.Context.{Context}
+use Rattle.gb_typing.specs.Context.{Context, procedure}
+use Rattle.gb_typing.specs.Modules as interface
 use Rattle.gb_typing.specs.Modules.{ProcedureType}
 use Rattle.gb_typing.specs.Programs.{HaveVariableTypes, type_of_procedure}
-use Rattle.gb_typing.specs.Scopes.{procedure_types, interface_with, in_module, context_of, is_declared, AreProcedures, AreTaken, HaveOwnNames, IsModule, IsTypedScope}
-use Rattle.gb_typing.specs.Scopes.{with_globals as globals_with}
+use Rattle.gb_typing.specs.Scopes.{procedure_types, interface_with, in_module, with_params, context_of, is_declared, AreProcedures, AreTaken, HaveOwnNames, IsModule, IsTypedScope}
 use Rattle.gb_typing.specs.Modules.{with_interface}
 use Rattle.gb_typing.proofs.Globals.{name_test, or_false}
-use Rattle.gb_elab_laws.specs.Fitting.{AreDeclared, HasGlobals}
+use Rattle.gb_typing.proofs.Variables.{variable_finite}
+use Rattle.gb_elab_laws.specs.Fitting.{AreDeclared, HasGlobals, IsTypeOf}
 use Rattle.gb_elab_laws.proofs.Given.{given_bind, given_is, if_refused, none_some, not_given}
 use Rattle.gb_elab_laws.proofs.Declared.{declared_in}
-use Rattle.gb_elab_laws.proofs.Fits.{declared_globals}
+use Rattle.gb_elab_laws.proofs.Fits.{declared_globals, declared_procedure, typed_among}
 use Rattle.gb_elab_laws.proofs.Found.{found}
 use Rattle.gb_elab_laws.proofs.Programs.{have_both, procedure_typed}
-use Rattle.gb_elab_laws.proofs.Stated.{IsAround}
+use Rattle.gb_elab_laws.proofs.Around.{IsAround}
 use Rattle.gb_elab_laws.proofs.Types.{have_finite, spelled_typed}
 
 -- Globals under names of their own.
@@ -180,7 +183,8 @@ made c m e part = record {
 }
 
 module _ (ds : Declarations) (c : Context) (m : Module) (new : entry_of ds m.name ≡ None) (names : AreDeclared c.operator ds)
-    (others : (n : Name) (k : Module) → module_of ds n ≡ Some k → HasGlobals c.global n k) where
+    (others : (n : Name) (k : Module) → module_of ds n ≡ Some k → HasGlobals c.global n k)
+    (callable : (f : ProcRef) (a : Proc) → procedure_of ds f ≡ Some a → IsTypeOf (procedure c f) a) (alone : [] ≡ m.params) where
   -- the module isn't declared yet
   apart : (n : Name) (k : Module) → module_of ds n ≡ Some k → bytes_eq n m.name ≡ false
   apart n k e = step (bytes_eq n m.name) refl
@@ -188,6 +192,39 @@ module _ (ds : Declarations) (c : Context) (m : Module) (new : entry_of ds m.nam
       step : (b : Bool) → bytes_eq n m.name ≡ b → b ≡ false
       step true i = none_some k (sym (ap as_module (ap (entry_of ds) ((bytes_eq-Decides n m.name).0 i) ∙ new)) ∙ e)
       step false i = refl
+
+  -- the procedures of other modules stand as they do without the module
+  elsewhere : (ps : Procedures ProcedureType) (y n : Name) (a : Proc) → proc_at ds (named y) n ≡ Some a → IsTypeOf (procedure (in_module c m ps) (record { «module» = named y; name = n })) a
+  elsewhere ps y n a e = step (module_of ds y) refl e
+    where
+      step : (o : Option Module) → module_of ds y ≡ o → proc_in o n ≡ Some a → IsTypeOf (procedure (in_module c m ps) (record { «module» = named y; name = n })) a
+      step None i h = none_some a h
+      step (Some r) i h =
+          let i0 = Some (interface_with c.modules.types m.params ps) in
+          let same : (in_module c m ps).modules.interfaces y ≡ c.modules.interfaces y =
+          subst (λ qs. (with_params (with_interface c.modules m.name i0) qs).interfaces y ≡ c.modules.interfaces y) alone (ap (λ (b : Bool). if b then i0 else c.modules.interfaces y) (apart y r i)) in
+          subst (λ j. IsTypeOf (interface.procedure_of j n) a) (sym same) (callable (record { «module» = named y; name = n }) a e)
+
+  in_place : (ps : Procedures ProcedureType) (x : Mexp) (n : Name) (a : Proc) → proc_at ds x n ≡ Some a → IsTypeOf (procedure (in_module c m ps) (record { «module» = x; name = n })) a
+  in_place ps (named y) n a e = elsewhere ps y n a e
+  in_place ps (Apply' y k args) n a e = none_some a e
+
+  -- so do those of the module that are typed so far
+  own_interface : (ps : Procedures ProcedureType) → (in_module c m ps).modules.interfaces m.name ≡ Some (record { lacks = []; procedures = ps })
+  own_interface ps =
+      subst (λ qs. (with_params (with_interface c.modules m.name (Some (interface_with c.modules.types qs ps))) qs).interfaces m.name ≡ Some (record { lacks = []; procedures = ps })) alone
+      (ap (λ (b : Bool). if b then Some (interface_with c.modules.types [] ps) else c.modules.interfaces m.name) ((bytes_eq-Decides m.name m.name).1 refl))
+
+  in_own : (k : Module) → IsFront k m → IsPart c m k → (n : Name) (a : Proc) → proc_of k.procs n ≡ Some a →
+      IsTypeOf (procedure (in_module c m (procedure_types k.procs)) (record { «module» = named k.name; name = n })) a
+  in_own k f part n a e =
+      let t = typed_among c m [] k.procs part.procs n a e in
+      let same = ap (in_module c m (procedure_types k.procs)).modules.interfaces f.name ∙ own_interface (procedure_types k.procs) in
+      record {
+        there = ap (λ j. interface.procedure_of j n) same ∙ t.2;
+        params = have_finite a.params t.0;
+        result = variable_finite a.result t.1;
+      }
 
   around : (k : Module) → IsFront k m → IsPart c m k → IsAround ds (in_module c m (procedure_types k.procs)) k
   around k f part = record {
@@ -201,6 +238,8 @@ module _ (ds : Declarations) (c : Context) (m : Module) (new : entry_of ds m.nam
           ap (λ (b : Bool). if b then local_type m.globals v.name else c.global k.name v.name) ((bytes_eq-Decides k.name m.name).1 f.name) ∙ there,
           s.finite (have_finite k.globals part.types),
         );
+    procedures = λ g a e. in_place (procedure_types k.procs) g.«module» g.name a e;
+    own_procedures = in_own k f part;
   }
 
   lines_part : (k n : Module) (xs : List Node) (t : Node) → with_globals ds k xs t ≡ given n → IsPart c m k → IsPart c m n
@@ -270,7 +309,8 @@ plain_typed ds x qs ys ts m h =
     let none = unnamed ds x f.0 f.1 in
     subst (IsNew ds) {x = ms.0} (given_is ms.0 m s.2) (
       λ w. made (context_of (declarations ds)) ms.0 front.params
-          (members_part ds (context_of (declarations ds)) ms.0 (subst (λ n. entry_of ds n ≡ None) front.name none) (declared_in ds w) (declared_globals ds w) (empty_module (text_of x)) ts ms.1 (no_part _ _ _)),
+          (members_part ds (context_of (declarations ds)) ms.0 (subst (λ n. entry_of ds n ≡ None) front.name none) (declared_in ds w) (declared_globals ds w)
+          (λ f a k. declared_procedure ds w f.«module» f.name a k) front.params (empty_module (text_of x)) ts ms.1 (no_part _ _ _)),
       subst (λ n. is_declared (declarations ds) n ≡ false) front.name (free_is ds x f.0 f.1),
     )
 

@@ -5,6 +5,7 @@ use Rattle.gb_core.specs.declared.place.Place.{Place}
 use Rattle.gb_core.specs.declared.ty.Ty.TheVariants as ty
 use Rattle.gb_terms.specs.declared.decl.Proc.{Proc}
 use Rattle.gb_terms.specs.declared.decl.TypedName.{TypedName}
+use Rattle.gb_names.specs.declared.bindings.Binding.{Binding}
 use Rattle.gb_terms.specs.declared.module.ProcRef.{ProcRef}
 use Rattle.gb_terms.specs.declared.op.Op.TheVariants as op
 use Rattle.gb_terms.specs.declared.op.Rel.{Rel}
@@ -17,7 +18,7 @@ use Rattle.gb_goal.specs.Scope.{procedure_of}
 use Rattle.gb_script.specs.declared.tree.Node.{Node}
 use Rattle.gb_names.specs.Allowed.{has_judgments}
 use Rattle.gb_names.specs.declared.setting.Language.TheVariants.{Formula}
-use Rattle.gb_names.specs.Environment.{Environment, unary}
+use Rattle.gb_names.specs.Environment.{Environment, in_judgments, reading, unary}
 use Rattle.gb_names.specs.Judgments.{one_procedure, result_of}
 use Rattle.gb_elab.specs.declared.contract.Contract.{Contract}
 use Rattle.gb_elab.specs.OneProcedure.{after_one, always, around, before_one, ends, lossless, one, with_chance}
@@ -28,6 +29,7 @@ use Rattle.gb_elab_laws.specs.Fitting.{AllFiniteWith, AreBound, AreIn, IsTypeOf,
 use Rattle.gb_elab_laws.proofs.Given.{given_bind, given_is}
 use Rattle.gb_elab_laws.proofs.Judged.{judging, one_is, params_in, result_in}
 use Rattle.gb_elab_laws.proofs.Leaves.{truth_typed}
+use Rattle.gb_elab_laws.proofs.Remembered.{remembering}
 use Rattle.gb_elab_laws.proofs.Typed.{Typed, given_from, leaf, operated}
 
 -- A contract of a procedure that there is, with typed conditions.
@@ -42,9 +44,9 @@ one_typed c =
     operated c Formula op.ToReal ty.Int ty.Real (node (Whole (pos 1)) [] ty.Int) tt (tt, refl)
     (leaf c Formula (Whole (pos 1)) ty.Int tt refl tt tt (λ e. tt))
 
-module _ (c : Context) (at : Environment) (vs : List TypedName) (fit : IsFitting c at vs) (judges : has_judgments at.language ≡ true) where
+module _ (c : Context) (at : Environment) (vs : List Binding) (fit : IsFitting c at vs) (judges : has_judgments at.language ≡ true) where
   -- a condition on one program over these variables
-  condition : (F : Frame) (ls : List TypedName) → AreIn F ls → IsFitting (with_own c F) (unary at.declared at.sequent ls) vs
+  pub condition : (F : Frame) (ls : List TypedName) → AreIn F ls → IsFitting (with_own c F) (reading (in_judgments at.memories) (unary at.declared at.sequent ls)) vs
   condition F ls h = record {
     logical = fit.logical;
     values = subst (λ b. AllFiniteWith b at.sequent.logical) (judging at.language judges) fit.values;
@@ -54,6 +56,8 @@ module _ (c : Context) (at : Environment) (vs : List TypedName) (fit : IsFitting
     around = tt;
     globals = λ e. fit.globals (judging at.language judges);
     procedures = λ e. fit.procedures judges;
+    memories = λ e. fit.memories (remembering at.language judges);
+    frames = λ e. fit.frames (remembering at.language judges);
   }
 
   -- a bound
@@ -67,6 +71,8 @@ module _ (c : Context) (at : Environment) (vs : List TypedName) (fit : IsFitting
     around = tt;
     globals = λ e. fit.globals (judging at.language judges);
     procedures = λ e. fit.procedures judges;
+    memories = λ e. fit.memories (remembering at.language judges);
+    frames = λ e. fit.frames (remembering at.language judges);
   }
 
   pub always_typed : (k : Contract) → IsContract c k → Typed c at.language ty.Bool (always k)

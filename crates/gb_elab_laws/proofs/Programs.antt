@@ -25,7 +25,7 @@ use Rattle.gb_names.specs.Environment.{Environment, program}
 use Rattle.gb_names.specs.Names.{unit}
 use Rattle.gb_names.specs.Types as spelled_as
 use Rattle.gb_elab_prog.specs.Contexts.{nothing_around}
-use Rattle.gb_elab_prog.specs.Statements.{all_stated, with_statings}
+use Rattle.gb_elab_stmt.specs.Statements.{all_stated, with_statings}
 use Rattle.gb_elab_prog.specs.Procedures.{is_member, untaken, result_type, lacks_value, value, undeclared, formal, formals, declared, variables, locals, with_result, result_of, procedure_by}
 use Rattle.gb_typing.specs.Context.{Context, of_program}
 use Rattle.gb_typing.specs.Programs.{HaveVariableTypes, IsProcedure, type_of_procedure}
@@ -40,7 +40,8 @@ use Rattle.gb_elab_laws.proofs.Leaves.{unit_typed}
 use Rattle.gb_elab_laws.proofs.Shapes.{finite_form}
 use Rattle.gb_typing.proofs.Variables.{variable_finite}
 use Rattle.gb_elab_laws.proofs.Forms.{elaborated_typed}
-use Rattle.gb_elab_laws.proofs.Stated.{IsAround, fits, expression, statements_typed}
+use Rattle.gb_elab_laws.proofs.Around.{IsAround, fits, expression}
+use Rattle.gb_elab_laws.proofs.Stated.{statements_typed}
 
 pub have_both : (ls ms : List TypedName) → HaveVariableTypes ls → HaveVariableTypes ms → HaveVariableTypes (ls ++ ms)
 have_both [] ms h k = k

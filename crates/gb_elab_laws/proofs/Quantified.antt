@@ -1,87 +1,111 @@
 -- Typed forms under quantifiers.
-use Rattle.std.proofs.Common.{◌≡◌, Bool, List, [], ◌∷◌, ◌++◌, reverse, None, refl, ap, sym, ◌∙◌, subst}
+use Rattle.std.proofs.Common.{◌≡◌, ℕ, zero, suc, Bool, true, List, [], ◌∷◌, ◌++◌, get_or, reverse, None, Some, refl, ap, sym, ◌∙◌, subst}
 use Rattle.std.proofs.lemmas.List.{append_assoc, reverse-append}
 use Rattle.gb_core.specs.declared.place.Place.{Place}
+use Rattle.gb_core.specs.declared.refusal.Why.TheVariants.{Argument}
 use Rattle.gb_core.specs.declared.ty.Ty.{Ty}
 use Rattle.gb_core.specs.declared.ty.Ty.TheVariants as ty
 use Rattle.gb_terms.specs.declared.decl.TypedName.{TypedName}
 use Rattle.gb_terms.specs.declared.term.Term.{Term}
 use Rattle.gb_names.specs.declared.binders.Quantifier.{Quantifier}
 use Rattle.gb_names.specs.declared.binders.Quantifier.TheVariants.{Forall, Exists}
+use Rattle.gb_names.specs.declared.bindings.Binding.{Binding}
+use Rattle.gb_names.specs.declared.bindings.Kind.{Kind}
+use Rattle.gb_names.specs.declared.bindings.Kind.TheVariants.{Value, Memory}
 use Rattle.gb_script.specs.declared.head.Head.{Head}
 use Rattle.gb_script.specs.declared.head.Head.TheVariants as head
 use Rattle.gb_script.specs.declared.tree.Node.{Node}
-use Rattle.gb_script.specs.Tree.{head_of, parts_of, place_of}
-use Rattle.gb_typed.specs.Finite.{IsFiniteWith, IsVariableType}
+use Rattle.gb_script.specs.Tree.{head_of, parts_of, place_of, text_of}
+use Rattle.gb_typed.specs.Finite.{IsVariableType}
 use Rattle.gb_goal.specs.Answers.Answer.{given}
 use Rattle.gb_names.specs.Environment.{Environment}
-use Rattle.gb_goal.specs.Scope.{Declarations}
-use Rattle.gb_names.specs.Binders.{new_names, of_type, bound_by, bound_in, over, over_all}
+use Rattle.gb_names.specs.Allowed.{has_judgments, memory_here}
+use Rattle.gb_names.specs.Binders.{new_names, values, memory_bound, bound_by, bound_in, over, over_all}
+use Rattle.gb_names.specs.Bindings.{memory as memory_named}
 use Rattle.gb_names.specs.Types.{type_of}
 use Rattle.gb_names.specs.declared.setting.Language.{Language}
 use Rattle.gb_names.specs.declared.setting.Variables.{Variables}
 use Rattle.gb_names.specs.declared.setting.Variables.TheVariants.{Absent, Own, Sides}
-use Rattle.gb_typed.specs.Typing.{Binder}
-use Rattle.gb_typed.specs.Typing.Binder.{value}
-use Rattle.gb_typing.specs.Context.{Context, within}
+use Rattle.gb_typed.specs.Typing.{Binder, binder, IsMemory}
+use Rattle.gb_typed.specs.Typing.Binder.{value, memory}
+use Rattle.gb_typing.specs.Context.{Frame, Context, erased, frame_of, within}
+use Rattle.gb_typing.specs.Typing.{IsFrame}
 use Rattle.gb_typing.specs.Programs.{HaveVariableTypes}
-use Rattle.gb_elab_laws.specs.Fitting.{has_globs, AllFiniteWith, AreTypes, IsBoundName, AreReadable, IsFitting}
-use Rattle.gb_elab_laws.proofs.Given.{given_bind, given_is}
+use Rattle.gb_terms.specs.declared.op.Side.TheVariants as side
+use Rattle.gb_elab_laws.specs.Fitting.{has_globs, AreTypes, IsBoundTo, IsBoundName, AreReadable, IsFitting}
+use Rattle.gb_elab_laws.proofs.Given.{given_bind, given_is, if_allowed}
 use Rattle.gb_elab_laws.proofs.Types.{no_distribution, spelled_typed}
 use Rattle.gb_elab_laws.proofs.Shapes.{with_globs, variable_with, finite_form}
 use Rattle.gb_elab_laws.proofs.Typed.{Typed}
-use Rattle.gb_elab_laws.proofs.Binding.{for_all, for_some}
+use Rattle.gb_elab_laws.proofs.Binding.{for_all, for_some, for_all_memories, for_some_memory}
 
-reversed : (w : TypedName) (ws vs : List TypedName) → reverse (w ∷ ws) ++ vs ≡ reverse ws ++ (w ∷ vs)
+reversed : (w : Binding) (ws vs : List Binding) → reverse (w ∷ ws) ++ vs ≡ reverse ws ++ (w ∷ vs)
 reversed w ws vs = ap (λ z. z ++ vs) (reverse-append (w ∷ []) ws) ∙ append_assoc (reverse ws) (w ∷ []) vs
-
-have_both : (ls ms : List TypedName) → HaveVariableTypes ls → HaveVariableTypes ms → HaveVariableTypes (ls ++ ms)
-have_both [] ms h k = k
-have_both (l ∷ ls) ms h k = (h.0, have_both ls ms h.1 k)
 
 pub have_front : (ls ms : List TypedName) → HaveVariableTypes (ls ++ ms) → HaveVariableTypes ls
 have_front [] ms h = tt
 have_front (l ∷ ls) ms h = (h.0, have_front ls ms h.1)
 
-have_type : (xs : List Node) (t : Ty) → IsVariableType t → HaveVariableTypes (of_type xs t)
-have_type [] t v = tt
-have_type (x ∷ xs) t v = (v, have_type xs t v)
+-- what quantifiers of a language bind: values of types of variables, and memories where judgments may stand
+abbrev pub MayBeBound : Language → Kind → Type 0
+MayBeBound l (Value t) = IsVariableType t
+MayBeBound l Memory = has_judgments l ≡ true
 
--- what is bound has types of variables
-module _ (ds : Declarations) (names : AreTypes ds) where
-  bind_typed : (ws : List TypedName) (k : Head) (xs : List Node) (p : Place) (vs : List TypedName) → bound_in ds ws k xs p ≡ given vs → HaveVariableTypes vs
-  bind_typed ws head.Values (x ∷ xs ∷ t ∷ []) p vs h =
+abbrev pub AllMayBeBound : Language → List Binding → Type 0
+AllMayBeBound l [] = Unit {0}
+AllMayBeBound l (v ∷ vs) = MayBeBound l v.kind × AllMayBeBound l vs
+
+both_may : (l : Language) (us vs : List Binding) → AllMayBeBound l us → AllMayBeBound l vs → AllMayBeBound l (us ++ vs)
+both_may l [] vs h k = k
+both_may l (u ∷ us) vs h k = (h.0, both_may l us vs h.1 k)
+
+values_may : (l : Language) (xs : List Node) (t : Ty) → IsVariableType t → AllMayBeBound l (values xs t)
+values_may l [] t v = tt
+values_may l (x ∷ xs) t v = (v, values_may l xs t v)
+
+module _ (at : Environment) (names : AreTypes at.declared) where
+  memory_may : (ws : List Binding) (x : Node) (p : Place) (vs : List Binding) → memory_bound at ws x p ≡ given vs → AllMayBeBound at.language vs
+  memory_may ws x p vs h =
+      let n = given_bind (memory_here at p) _ vs h in
+      let k = if_allowed (has_judgments at.language) (given tt) Argument p n.0 n.1 in
+      let u = given_bind (new_names ws [] (x ∷ [])) (λ _. given (memory_named (text_of x) ∷ [])) vs n.2 in
+      subst (AllMayBeBound at.language) (given_is (memory_named (text_of x) ∷ []) vs u.2) (k.0, tt)
+
+  bind_may : (ws : List Binding) (k : Head) (xs : List Node) (p : Place) (vs : List Binding) → bound_in at ws k xs p ≡ given vs → AllMayBeBound at.language vs
+  bind_may ws head.Values (x ∷ xs ∷ t ∷ []) p vs h =
       let n = given_bind (new_names ws [] (x ∷ parts_of xs)) _ vs h in
-      let u = given_bind (type_of ds t) (λ u. given (of_type (x ∷ parts_of xs) u)) vs n.2 in
-      subst HaveVariableTypes (given_is (of_type (x ∷ parts_of xs) u.0) vs u.2) (have_type (x ∷ parts_of xs) u.0 (spelled_typed ds names t u.0 u.1))
-  bind_typed ws head.Memory (x ∷ xs) p vs h = cc
-  bind_typed ws head.ModuleBind (x ∷ xs) p vs h = cc
-  bind_typed ws _ _ p vs h = cc
+      let u = given_bind (type_of at.declared t) (λ u. given (values (x ∷ parts_of xs) u)) vs n.2 in
+      subst (AllMayBeBound at.language) (given_is (values (x ∷ parts_of xs) u.0) vs u.2)
+      (values_may at.language (x ∷ parts_of xs) u.0 (spelled_typed at.declared names t u.0 u.1))
+  bind_may ws head.Memory (x ∷ []) p vs h = memory_may ws x p vs h
+  bind_may ws head.ModuleBind (x ∷ xs) p vs h = cc
+  bind_may ws _ _ p vs h = cc
 
-  pub binders_typed : (vs : List TypedName) (bs : List Node) (ws : List TypedName) → HaveVariableTypes vs → bound_by ds vs bs ≡ given ws → HaveVariableTypes ws
+  pub binders_may : (vs : List Binding) (bs : List Node) (ws : List Binding) → AllMayBeBound at.language vs → bound_by at vs bs ≡ given ws → AllMayBeBound at.language ws
   unfolding bound_by
-  binders_typed vs [] ws k h = subst HaveVariableTypes (given_is vs ws h) k
-  binders_typed vs (b ∷ bs) ws k h =
-      let us = given_bind (bound_in ds vs (head_of b) (parts_of b) (place_of b)) (λ us. bound_by ds (vs ++ us) bs) ws h in
-      binders_typed (vs ++ us.0) bs ws (have_both vs us.0 k (bind_typed vs (head_of b) (parts_of b) (place_of b) us.0 us.1)) us.2
+  binders_may vs [] ws k h = subst (AllMayBeBound at.language) (given_is vs ws h) k
+  binders_may vs (b ∷ bs) ws k h =
+      let us = given_bind (bound_in at vs (head_of b) (parts_of b) (place_of b)) (λ us. bound_by at (vs ++ us) bs) ws h in
+      binders_may (vs ++ us.0) bs ws (both_may at.language vs us.0 k (bind_may vs (head_of b) (parts_of b) (place_of b) us.0 us.1)) us.2
 
--- types of variables are types of values
-pub variables_with : (globs : Bool) (vs : List TypedName) → HaveVariableTypes vs → AllFiniteWith globs vs
-variables_with globs [] h = tt
-variables_with globs (v ∷ vs) h = (variable_with globs v.ty h.0, variables_with globs vs h.1)
+-- the context under one thing: of a bound memory no local is read
+abbrev pub under_one : Context → Kind → Context
+under_one c (Value t) = within c (value t) None
+under_one c Memory = within c memory (Some [])
 
--- the context under these binders, the first one outermost
-abbrev pub under_all : Context → List TypedName → Context
+-- the context under all of these, the first one outermost
+abbrev pub under_all : Context → List Binding → Context
 under_all c [] = c
-under_all c (w ∷ ws) = under_all (within c (value w.ty) None) ws
+under_all c (w ∷ ws) = under_all (under_one c w.kind) ws
 
 module _ (at : Environment) where
   abbrev globs : Bool
   globs = has_globs at.language
 
-  -- under one binder more
-  pub inner_fits : (c : Context) (vs : List TypedName) → IsFitting c at vs → (b : Binder) (v : TypedName) → IsBoundName globs b v → IsFitting (within c b None) at (v ∷ vs)
-  inner_fits c vs fit b v h = record {
+  -- under one binder more, which has locals where it binds a memory
+  pub inner_fits : (c : Context) (vs : List Binding) → IsFitting c at vs → (b : Binder) (f : Frame) → (IsMemory b → IsFrame f) → (v : Binding) → IsBoundName globs b v →
+      IsFitting (within c b f) at (v ∷ vs)
+  inner_fits c vs fit b f m v h = record {
     logical = fit.logical;
     values = fit.values;
     bound = (h, fit.bound);
@@ -90,27 +114,42 @@ module _ (at : Environment) where
     around = fit.around;
     globals = fit.globals;
     procedures = fit.procedures;
+    memories = fit.memories;
+    frames = λ e i. framed i (fit.frames e);
   }
     where
-      readable : (vars : Variables) → AreReadable globs c vars → AreReadable globs (within c b None) vars
+      readable : (vars : Variables) → AreReadable globs c vars → AreReadable globs (within c b f) vars
       readable Absent k = tt
       readable (Own ls) k = k
       readable (Sides ls rs) k = k
 
-  pub under_all_fits : (ws vs : List TypedName) (c : Context) → AllFiniteWith globs ws → IsFitting c at vs → IsFitting (under_all c ws) at (reverse ws ++ vs)
+      framed : (i : ℕ) → ((j : ℕ) → IsMemory (binder (erased c) j) → IsFrame (frame_of c (side.Bound j))) → IsMemory (binder (erased (within c b f)) i) →
+          IsFrame (frame_of (within c b f) (side.Bound i))
+      framed zero k = m
+      framed (suc i) k = k i
+
+  one_fits : (c : Context) (vs : List Binding) → IsFitting c at vs → (v : Binding) → MayBeBound at.language v.kind → IsFitting (under_one c v.kind) at (v ∷ vs)
+  one_fits c vs fit v h = step v.kind refl h
+    where
+      step : (k : Kind) → v.kind ≡ k → MayBeBound at.language k → IsFitting (under_one c k) at (v ∷ vs)
+      step (Value t) e h =
+          let finite = variable_with globs t h in
+          inner_fits c vs fit (value t) None (λ m. m) v
+          (subst (IsBoundTo globs (value t)) (sym e) ((no_distribution t (with_globs globs t finite), refl), finite_form globs t finite))
+      step Memory e h = inner_fits c vs fit memory (Some []) (λ m. tt) v (subst (IsBoundTo globs memory) (sym e) tt)
+
+  pub under_all_fits : (ws vs : List Binding) (c : Context) → AllMayBeBound at.language ws → IsFitting c at vs → IsFitting (under_all c ws) at (reverse ws ++ vs)
   under_all_fits [] vs c h fit = fit
   under_all_fits (w ∷ ws) vs c h fit =
-      subst (IsFitting (under_all c (w ∷ ws)) at) (sym (reversed w ws vs))
-      (under_all_fits ws (w ∷ vs) (within c (value w.ty) None) h.1
-      (inner_fits c vs fit (value w.ty) w ((no_distribution w.ty (with_globs globs w.ty h.0), refl), finite_form globs w.ty h.0)))
+      subst (IsFitting (under_all c (w ∷ ws)) at) (sym (reversed w ws vs)) (under_all_fits ws (w ∷ vs) (under_one c w.kind) h.1 (one_fits c vs fit w h.0))
 
 module _ (l : Language) where
-  over_typed : (c : Context) (q : Quantifier) (t : Ty) (f : Term) → IsFiniteWith (has_globs l) t → Typed (within c (value t) None) l ty.Bool f →
-      Typed c l ty.Bool (over q t f)
-  over_typed c Forall t f k m = for_all c l t f k m
-  over_typed c Exists t f k m = for_some c l t f k m
+  over_typed : (c : Context) (q : Quantifier) (k : Kind) (f : Term) → MayBeBound l k → Typed (under_one c k) l ty.Bool f → Typed c l ty.Bool (over q k f)
+  over_typed c Forall (Value t) f h m = for_all c l t f (variable_with (has_globs l) t h) m
+  over_typed c Exists (Value t) f h m = for_some c l t f (variable_with (has_globs l) t h) m
+  over_typed c Forall Memory f h m = for_all_memories c l h [] f m
+  over_typed c Exists Memory f h m = for_some_memory c l h [] f m
 
-  pub over_all_typed : (c : Context) (q : Quantifier) (ws : List TypedName) (f : Term) → AllFiniteWith (has_globs l) ws → Typed (under_all c ws) l ty.Bool f →
-      Typed c l ty.Bool (over_all q ws f)
+  pub over_all_typed : (c : Context) (q : Quantifier) (ws : List Binding) (f : Term) → AllMayBeBound l ws → Typed (under_all c ws) l ty.Bool f → Typed c l ty.Bool (over_all q ws f)
   over_all_typed c q [] f h m = m
-  over_all_typed c q (w ∷ ws) f h m = over_typed c q w.ty (over_all q ws f) h.0 (over_all_typed (within c (value w.ty) None) q ws f h.1 m)
+  over_all_typed c q (w ∷ ws) f h m = over_typed c q w.kind (over_all q ws f) h.0 (over_all_typed (under_one c w.kind) q ws f h.1 m)

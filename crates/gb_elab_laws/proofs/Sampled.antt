@@ -1,6 +1,6 @@
 -- The functions of `rnd` are typed over the locals of the bodies.
 use Rattle.std.proofs.lemmas.Bool.{false≢true}
-use Rattle.std.proofs.Common.{◌≡◌, Bool, true, false, if◌then◌else◌, ℕ, List, [], ◌∷◌, Option, Some, None, option_map, refl, ap, sym, ◌∙◌, subst}
+use Rattle.std.proofs.Common.{◌≡◌, Bool, true, false, if◌then◌else◌, bytes_eq, codes, ℕ, List, [], ◌∷◌, Option, Some, None, option_map, refl, ap, sym, ◌∙◌, subst}
 use Rattle.std.specs.Option.{option_map_or, option_zip}
 use Rattle.gb_core.specs.declared.place.Place.{Place}
 use Rattle.gb_core.specs.declared.refusal.Why.TheVariants.{TypeMismatch}
@@ -26,7 +26,12 @@ use Rattle.gb_steps.specs.declared.step.AmbientRule.{AmbientRule}
 use Rattle.gb_steps.specs.declared.step.AmbientRule.TheVariants as conclusion
 use Rattle.gb_steps.specs.declared.step.BodyRule.TheVariants as on_bodies
 use Rattle.gb_steps.specs.declared.step.RelationalRule.TheVariants as relational_rule
+use Rattle.gb_steps.specs.declared.step.Multiple.{Multiple}
+use Rattle.gb_steps.specs.declared.step.ChanceRule.TheVariants as with_chance_rule
+use Rattle.gb_steps.specs.declared.step.Acts.{Acts}
+use Rattle.gb_steps.specs.declared.step.Acts.TheVariants as on
 use Rattle.gb_steps.specs.declared.step.Step.{Step}
+use Rattle.gb_steps.specs.declared.step.UseRule.TheVariants as use_rule
 use Rattle.gb_script.specs.declared.head.Head.{Head as Kind}
 use Rattle.gb_script.specs.declared.head.Head.TheVariants as text
 use Rattle.gb_script.specs.declared.tree.Node.{Node}
@@ -44,7 +49,10 @@ use Rattle.gb_names.specs.declared.setting.Language.TheVariants.{Function}
 use Rattle.gb_names.specs.Environment.{Environment, ambient, of_function}
 use Rattle.gb_elab.specs.Forms.{elaborated, function}
 use Rattle.gb_elab_mod.specs.Occurring.{occurring}
-use Rattle.gb_elab_mod.specs.Steps.{acts, cut_of, last_sampled, functions, of_bodies_rule, on_all, one_type, plain_rule, conclusion_rule, case_of_bodies, case_of_conclusion, new_name, formed, seq_rule, there_and_back, of_bodies, couplings, coupling_rule, functions_of, typed_rule, step_given, asked_of}
+use Rattle.gb_elab_mod.specs.Steps.{acts, cut_of, last_sampled, functions, of_bodies_rule, on_all, one_type, plain_rule, conclusion_rule, conseq_rule, case_of_bodies, case_of_conclusion, formed, seq_rule, there_and_back, of_bodies, couplings, coupling_rule, functions_of, typed_rule, step_given, asked_of, chance_rule, judges_chance, symmetry_rule}
+use Rattle.gb_elab_mod.specs.Multiples.{multiples}
+use Rattle.gb_elab_mod.specs.Uses.{used}
+use Rattle.gb_elab_mod.specs.Taken.{new_name}
 use Rattle.gb_elab_mod.specs.Steps as steps
 use Rattle.gb_elab_prog.specs.Unbuilt.{absent}
 use Rattle.gb_elab_laws.specs.Fitting.{IsFitting, IsGiven}
@@ -96,6 +104,11 @@ functions_in _ = []
 abbrev is_relational : Rule → Bool
 is_relational (rule.Relational r) = true
 is_relational _ = false
+
+-- a coupling of samplings
+abbrev has_functions : Rule → Bool
+has_functions (rule.Relational (relational_rule.Rnd ts)) = true
+has_functions _ = false
 
 module _ (ds : scope.Declarations) (scoped : IsTypedScope (declared ds)) (q : Sequent) (t : IsTypedSequent (context_of (declared ds)) q) where
   abbrev here : Context
@@ -174,14 +187,25 @@ module _ (ds : scope.Declarations) (scoped : IsTypedScope (declared ds)) (q : Se
       couplings_typed fs us h = of_head fs q.conclusion (out-Term q.conclusion).head (out-Term q.conclusion).args us h w
 
       -- the functions of a rule
-      coupling_is : (fs : List Node) (ts us : List Term) → coupling_rule fs ts ≡ rule.Relational (relational_rule.Rnd us) → ts ≡ us
-      coupling_is [] ts us e = ap functions_in e
-      coupling_is (f ∷ fs) [] us e = absurd (false≢true (ap is_relational e))
-      coupling_is (f ∷ fs) (t ∷ ts) us e = ap functions_in e
+      coupling_is : (b : Bool) (fs : List Node) (ts us : List Term) → coupling_rule b fs ts ≡ rule.Relational (relational_rule.Rnd us) → ts ≡ us
+      coupling_is true [] ts us e = absurd (false≢true (ap is_relational e))
+      coupling_is false [] ts us e = ap functions_in e
+      coupling_is true (f ∷ fs) [] us e = absurd (false≢true (ap is_relational e))
+      coupling_is false (f ∷ fs) [] us e = absurd (false≢true (ap is_relational e))
+      coupling_is true (f ∷ fs) (t ∷ ts) us e = ap functions_in e
+      coupling_is false (f ∷ fs) (t ∷ ts) us e = ap functions_in e
+
+      -- whether the goal has a probability
+      abbrev with_chance : Bool
+      with_chance = judges_chance (out-Term q.conclusion).head
 
       -- a rule of another family
       other : (k j : Rule) (us : List Term) → is_relational k ≡ false → k ≡ j → j ≡ rule.Relational (relational_rule.Rnd us) → Typed us
       other k j us f h r = absurd (false≢true (sym f ∙ ap is_relational (h ∙ r)))
+
+      -- a rule without functions
+      no_functions : (k j : Rule) (us : List Term) → has_functions k ≡ false → k ≡ j → j ≡ rule.Relational (relational_rule.Rnd us) → Typed us
+      no_functions k j us f h r = absurd (false≢true (sym f ∙ ap has_functions (h ∙ r)))
 
       of_case : (f : Node) (k : Rule) (us : List Term) (b : Bool) → (if b then of_bodies_rule (case_of_bodies ds q f (goal_of q.conclusion)) else case_of_conclusion ds q f) ≡ given k →
           k ≡ rule.Relational (relational_rule.Rnd us) → Typed us
@@ -191,18 +215,38 @@ module _ (ds : scope.Declarations) (scoped : IsTypedScope (declared ds)) (q : Se
           let z = given_bind (formed ds q f) (λ (t : Term). given (rule.Ambient (conclusion.Case t))) k h in
           other (rule.Ambient (conclusion.Case z.0)) k us refl (given_is (rule.Ambient (conclusion.Case z.0)) k z.2) r
 
+      of_chance : (a : Acts) (k : Rule) (us : List Term) → chance_rule a ≡ k → k ≡ rule.Relational (relational_rule.Rnd us) → Typed us
+      of_chance on.All k us h r = other (rule.Chance with_chance_rule.Hoare) k us refl h r
+      of_chance on.Left k us h r = other (rule.OnBodies on_bodies.Unfit) k us refl h r
+      of_chance on.Right k us h r = other (rule.OnBodies on_bodies.Unfit) k us refl h r
+
+      of_symmetry : (a : Acts) (k : Rule) (us : List Term) → symmetry_rule a ≡ k → k ≡ rule.Relational (relational_rule.Rnd us) → Typed us
+      of_symmetry on.All k us h r = no_functions (rule.Relational relational_rule.Symmetry) k us refl h r
+      of_symmetry on.Left k us h r = other (rule.OnBodies on_bodies.Unfit) k us refl h r
+      of_symmetry on.Right k us h r = other (rule.OnBodies on_bodies.Unfit) k us refl h r
+
+      of_name : (x : List ℕ) (a : Acts) (p : Place) (k : Rule) (us : List Term) (b d : Bool) →
+          (if b then given (chance_rule a) else if d then given (symmetry_rule a) else of_bodies_rule (plain_rule x a p)) ≡ given k →
+          k ≡ rule.Relational (relational_rule.Rnd us) → Typed us
+      of_name x a p k us true d h r = of_chance a k us (given_is (chance_rule a) k h) r
+      of_name x a p k us false true h r = of_symmetry a k us (given_is (symmetry_rule a) k h) r
+      of_name x a p k us false false h r = let y = given_bind (plain_rule x a p) (λ z. given (rule.OnBodies z)) k h in other (rule.OnBodies y.0) k us refl (given_is (rule.OnBodies y.0) k y.2) r
+
       of_rule : (n : Kind) (x : List ℕ) (xs : List Node) (p : Place) (k : Rule) (us : List Term) → typed_rule ds q n x xs p ≡ given k → k ≡ rule.Relational (relational_rule.Rnd us) → Typed us
       of_rule text.Rnd x (b ∷ fs) p k us h r =
           let o = given_bind (absent (parts_of b) p) _ k h in
-          let y = given_bind (couplings ds q (functions_of fs)) (λ (us : List Term). given (coupling_rule (functions_of fs) us)) k o.2 in
-          subst Typed (coupling_is (functions_of fs) y.0 us (given_is (coupling_rule (functions_of fs) y.0) k y.2 ∙ r)) (couplings_typed (functions_of fs) y.0 y.1)
+          let y = given_bind (couplings ds q (functions_of fs)) (λ (us : List Term). given (coupling_rule with_chance (functions_of fs) us)) k o.2 in
+          subst Typed (coupling_is with_chance (functions_of fs) y.0 us (given_is (coupling_rule with_chance (functions_of fs) y.0) k y.2 ∙ r)) (couplings_typed (functions_of fs) y.0 y.1)
       of_rule text.Proc x (b ∷ i ∷ []) p k us h r =
           let y = given_bind (absent (parts_of i) p) (λ _. given (rule.OnBodies (on_all (acts (parts_of b)) on_bodies.Proc))) k h in
           other (rule.OnBodies (on_all (acts (parts_of b)) on_bodies.Proc)) k us refl (given_is (rule.OnBodies (on_all (acts (parts_of b)) on_bodies.Proc)) k y.2) r
-      of_rule text.BodyStep x (b ∷ []) p k us h r = let y = given_bind (plain_rule x (acts (parts_of b)) p) (λ z. given (rule.OnBodies z)) k h in other (rule.OnBodies y.0) k us refl (given_is (rule.OnBodies y.0) k y.2) r
+      of_rule text.BodyStep x (b ∷ []) p k us h r = of_name x (acts (parts_of b)) p k us (bytes_eq x (codes "hoare")) (bytes_eq x (codes "symmetry")) h r
       of_rule text.Seq x (b ∷ n ∷ ns ∷ f ∷ bounds ∷ []) p k us h r =
           let o = given_bind (absent (parts_of bounds) p) (λ _. of_bodies_rule (seq_rule ds q (acts (parts_of b)) (cut_of n (parts_of ns)) f)) k h in
           let y = given_bind (seq_rule ds q (acts (parts_of b)) (cut_of n (parts_of ns)) f) (λ z. given (rule.OnBodies z)) k o.2 in
+          other (rule.OnBodies y.0) k us refl (given_is (rule.OnBodies y.0) k y.2) r
+      of_rule text.Conseq x (b ∷ f ∷ g ∷ d ∷ []) p k us h r =
+          let y = given_bind (conseq_rule ds q (acts (parts_of b)) (parts_of f) (parts_of g) (parts_of d)) (λ z. given (rule.OnBodies z)) k h in
           other (rule.OnBodies y.0) k us refl (given_is (rule.OnBodies y.0) k y.2) r
       of_rule text.PlainStep x [] p k us h r =
           let o = given_bind (conclusion_rule x p) (λ (a : AmbientRule). given (rule.Ambient a)) k h in other (rule.Ambient o.0) k us refl (given_is (rule.Ambient o.0) k o.2) r
@@ -212,7 +256,16 @@ module _ (ds : scope.Declarations) (scoped : IsTypedScope (declared ds)) (q : Se
           let o = given_bind (new_name q (text_of n) (place_of n)) _ k h in
           let z = given_bind (formed ds q f) (λ (t : Term). given (rule.Ambient (conclusion.Have (text_of n) t))) k o.2 in
           other (rule.Ambient (conclusion.Have (text_of n) z.0)) k us refl (given_is (rule.Ambient (conclusion.Have (text_of n) z.0)) k z.2) r
+      of_rule text.ApplyLemma x (n ∷ []) p k us h r =
+          let z = given_bind (used ds q n) (λ (f : Term). given (rule.Use (use_rule.Apply f))) k h in
+          other (rule.Use (use_rule.Apply z.0)) k us refl (given_is (rule.Use (use_rule.Apply z.0)) k z.2) r
+      of_rule text.HaveLemma x (m ∷ n ∷ []) p k us h r =
+          let o = given_bind (new_name q (text_of m) (place_of m)) _ k h in
+          let z = given_bind (used ds q n) (λ (f : Term). given (rule.Use (use_rule.Have (text_of m) f))) k o.2 in
+          other (rule.Use (use_rule.Have (text_of m) z.0)) k us refl (given_is (rule.Use (use_rule.Have (text_of m) z.0)) k z.2) r
       of_rule text.Smt x hints p k us h r = let o = given_bind (absent hints p) (λ _. given rule.Smt) k h in other rule.Smt k us refl (given_is rule.Smt k o.2) r
+      of_rule text.Linear x hs p k us h r =
+          let o = given_bind (multiples ds q hs) (λ (ms : List Multiple). given (rule.Linear ms)) k h in other (rule.Linear o.0) k us refl (given_is (rule.Linear o.0) k o.2) r
       of_rule text.Name x [] p k us h r = other (rule.Ambient (conclusion.Introduce x)) k us refl (given_is (rule.Ambient (conclusion.Introduce x)) k h) r
       of_rule text.Memory x (n ∷ []) p k us h r = other (rule.Ambient (conclusion.IntroduceMemory (text_of n))) k us refl (given_is (rule.Ambient (conclusion.IntroduceMemory (text_of n))) k h) r
       of_rule text.Drop x [] p k us h r = other (rule.Ambient conclusion.Discard) k us refl (given_is (rule.Ambient conclusion.Discard) k h) r
@@ -240,9 +293,13 @@ module _ (ds : scope.Declarations) (scoped : IsTypedScope (declared ds)) (q : Se
   module _ (ls rs : List TypedName) (w : IsGoalOver (of_sequent (context_of (declared ds)) q t.frames) ls rs (goal_of q.conclusion)) where
     of_step : (r : Rule) → s.rule ≡ r → IsTypedRule (of_sequent (context_of (declared ds)) q t.frames) r ls rs (goal_of q.conclusion)
     of_step (rule.Relational (relational_rule.Rnd fs)) e = step_typed ds scoped q t n s h fs e ls rs w
+    of_step (rule.Relational relational_rule.Symmetry) e = tt
     of_step (rule.OnBodies r) e = tt
+    of_step (rule.Chance r) e = tt
     of_step rule.Smt e = tt
+    of_step (rule.Linear ms) e = tt
     of_step (rule.Ambient r) e = tt
+    of_step (rule.Use r) e = tt
 
 pub rule_typed : (ds : scope.Declarations) → IsTypedScope (declared ds) → (q : Sequent) (t : IsTypedSequent (context_of (declared ds)) q) → (n : Node) (s : Step) → step_given ds q n ≡ given s →
     (ls rs : List TypedName) → IsGoalOver (of_sequent (context_of (declared ds)) q t.frames) ls rs (goal_of q.conclusion) →

@@ -130,7 +130,7 @@ module _ (globs : Bool) where
   entries_finite t u h = let k : IsFormType globs (maps t u) = subst (IsFormType globs) (map_is t u) h in (k.0.0, k.1.0)
 
   -- tuples
-  row_finite : (ts : List Ty) → EachFiniteWith globs ts → AreFiniteWith globs (row ts)
+  pub row_finite : (ts : List Ty) → EachFiniteWith globs ts → AreFiniteWith globs (row ts)
   row_finite [] h = tt
   row_finite (t ∷ ts) h = (h.0, row_finite ts h.1)
 

@@ -1,49 +1,55 @@
 -- What the typing of statements gives is typed.
-use Rattle.std.proofs.Common.{◌≡◌, ℕ, true, List, [], ◌∷◌, ◌++◌, map, Option, Some, None, refl, ap, sym, ◌∙◌, subst}
-use Rattle.std.specs.Option.{option_map_or}
+use Rattle.std.proofs.Common.{◌≡◌, ℕ, true, List, [], ◌∷◌, ◌++◌, map, drop, length, pred, take, Option, Some, refl, ap, sym, ◌∙◌, subst}
 use Rattle.gb_core.specs.declared.place.Place.{Place}
+use Rattle.gb_core.specs.declared.refusal.Why.TheVariants.{TypeMismatch}
+use Rattle.gb_core.specs.declared.ty.Ty.{Ty}
 use Rattle.gb_core.specs.declared.ty.Ty.TheVariants as ty
-use Rattle.gb_core.specs.declared.var.Var.TheVariants.{Local, Global}
+use Rattle.gb_core.specs.declared.var.Var.TheVariants.{Local, Global, Glob}
 use Rattle.gb_terms.specs.declared.decl.Module.{Module}
 use Rattle.gb_terms.specs.declared.decl.TypedName.{TypedName}
+use Rattle.gb_terms.specs.declared.op.Op.TheVariants as op
+use Rattle.gb_terms.specs.declared.op.Read.TheVariants as read_of
+use Rattle.gb_terms.specs.declared.op.Side.TheVariants as side
 use Rattle.gb_terms.specs.declared.term.Term.{Term}
-use Rattle.gb_terms.specs.declared.term.Head.TheVariants.{Assign, Sample, If}
+use Rattle.gb_terms.specs.declared.term.Head.TheVariants.{Assign, Sample, If, Read}
 use Rattle.gb_terms.specs.declared.term.Instr.{Instr}
-use Rattle.gb_goal.specs.Scope.{Declarations, module_of}
+use Rattle.gb_terms.specs.Make.{node, applied}
+use Rattle.gb_goal.specs.Scope.{Declarations}
 use Rattle.gb_script.specs.declared.head.Head.{Head}
 use Rattle.gb_script.specs.declared.head.Head.TheVariants as head
 use Rattle.gb_script.specs.declared.tree.Node.{Node}
+use Rattle.gb_script.specs.Tree.{head_of, parts_of, place_of}
 use Rattle.gb_meaning.specs.Operators.{outcome_type}
-use Rattle.gb_meaning.specs.Written.{type_of, local_type}
-use Rattle.gb_goal.specs.Answers.{◌>>=◌}
-use Rattle.gb_goal.specs.Answers.Answer.{given, refused}
+use Rattle.gb_meaning.specs.Written.{type_of}
+use Rattle.gb_goal.specs.Answers.{◌>>=◌, given_or}
+use Rattle.gb_goal.specs.Answers.Answer.{given}
 use Rattle.gb_meaning.specs.Names.{Name}
 use Rattle.gb_names.specs.declared.setting.Language.TheVariants.{Program}
-use Rattle.gb_names.specs.Environment.{Environment, program}
 use Rattle.gb_elab.specs.Forms.{elaborated}
-use Rattle.gb_names.specs.Names.{ModuleVariable, Target, first_named, global_at, global_target, no_variable, path, target}
+use Rattle.gb_names.specs.Environment.{Environment, program}
+use Rattle.gb_names.specs.Names.{Target, path, target}
 use Rattle.gb_names.proofs.Nodes.{by_parts}
+use Rattle.gb_operators.specs.Kinds.{entries}
+use Rattle.gb_elab_stmt.specs.Calls.{call}
+use Rattle.gb_elab_stmt.specs.Statements.{Stating, all_stated, alone, assignment, branch, called_to, entry_stored, instruction, result_in, result_to, results_in, sampling, stated, stating, stored, stored_term, tuple_assignment, with_statings, words, written, written_to}
+use Rattle.gb_elab_stmt.specs.Targets.{targets, type_of_all, variables_of}
 use Rattle.gb_elab_prog.specs.Contexts.{nothing_around}
-use Rattle.gb_elab_prog.specs.Statements.{Stating, all_stated, alone, assignment, branch, instruction, sampling, stated, stating, with_statings, words, written}
 use Rattle.gb_typed.specs.Finite.{IsFinite}
-use Rattle.gb_typed.specs.Programs.{variable_type}
+use Rattle.gb_typed.specs.Programs.{Take, variable_type}
 use Rattle.gb_typing.specs.Context.{Context, erased, of_program}
 use Rattle.gb_typing.specs.Programs.{IsExpression, IsStatement, EachStatement, HaveVariableTypes}
 use Rattle.gb_rules.proofs.Lists.{hidden_each, typed_append}
-use Rattle.gb_elab_laws.specs.Fitting.{AreDeclared, HasGlobals, IsFitting, IsGiven}
-use Rattle.gb_elab_laws.proofs.Given.{given_bind, given_is}
-use Rattle.gb_elab_laws.proofs.Types.{distributions_over, have_finite}
-use Rattle.gb_elab_laws.proofs.Found.{found}
-use Rattle.gb_elab_laws.proofs.Fits.{program_fits}
-use Rattle.gb_elab_laws.proofs.Leaves.{global_stands}
-use Rattle.gb_elab_laws.proofs.Shapes.{finite_form, drawn_form}
+use Rattle.gb_elab_laws.specs.Fitting.{IsFitting, IsFormType, IsGiven}
+use Rattle.gb_elab_laws.proofs.Around.{IsAround}
+use Rattle.gb_elab_laws.proofs.Around as program_around
+use Rattle.gb_elab_laws.proofs.Called as of_calls
 use Rattle.gb_elab_laws.proofs.Forms.{elaborated_typed}
-
--- A module is typed so far among declarations, whose globals stand in a context, and so do its own.
-pub record IsAround (ds : Declarations) (c : Context) (m : Module) : Type 0 where
-  pub names : AreDeclared c.operator ds
-  pub others : (n : Name) (k : Module) → module_of ds n ≡ Some k → HasGlobals c.global n k
-  pub own : HasGlobals c.global m.name m
+use Rattle.gb_elab_laws.proofs.Given.{given_bind, given_is, none_some, some_given}
+use Rattle.gb_elab_laws.proofs.Operators.{changed}
+use Rattle.gb_elab_laws.proofs.Shapes.{drawn_form, entries_finite, finite_form}
+use Rattle.gb_elab_laws.proofs.Tested.{map_of}
+use Rattle.gb_elab_laws.proofs.Typed.{Typed, given_from, leaf, of_given, whole_leaf}
+use Rattle.gb_elab_laws.proofs.Types.{distributions_over}
 
 module _ (ds : Declarations) (c : Context) (m : Module) (around : IsAround ds c m) (vs : List TypedName) (typed : HaveVariableTypes vs) where
   abbrev here : Environment
@@ -52,30 +58,32 @@ module _ (ds : Declarations) (c : Context) (m : Module) (around : IsAround ds c 
   abbrev inner : Context
   inner = of_program c vs
 
-  pub fits : IsFitting inner here []
-  fits = program_fits c ds m vs around.names around.others around.own (have_finite vs typed)
-
-  -- what is typed in a program is an expression
-  pub expression : (w : _) (e : Term) → IsGiven inner Program w e → IsExpression c vs e
-  expression w e g = record { typed = g.typed; plain = g.plain refl }
-
-  -- what a statement writes is a variable of its type, which is of values
   abbrev IsTarget : Target → Type 0
-  IsTarget v = (variable_type (erased c) vs v.0 ≡ Some v.1) × IsFinite v.1
+  IsTarget = program_around.IsTarget ds c m around vs typed
+
+  abbrev AreTargets : List Target → Type 0
+  AreTargets = program_around.AreTargets ds c m around vs typed
+
+  fits : IsFitting inner here []
+  fits = program_around.fits ds c m around vs typed
+
+  expression : (w : Option Ty) (e : Term) → IsGiven inner Program w e → IsExpression c vs e
+  expression = program_around.expression ds c m around vs typed
 
   target_typed : (x : Name) (p : Place) (v : Target) → target here x p ≡ given v → IsTarget v
-  target_typed x p v h = local (first_named vs x) refl h
-    where
-      global : (o : Option ModuleVariable) → global_at here x ≡ o → option_map_or global_target o (refused (no_variable here x) p) ≡ given v → IsTarget v
-      global (Some g) e k = subst IsTarget (given_is (Global g.0 g.1.name, g.1.ty) v k) (global_stands inner here [] fits refl x g e)
-      global None e k = cc
+  target_typed = program_around.target_typed ds c m around vs typed
 
-      local : (o : Option TypedName) → first_named vs x ≡ o →
-          option_map_or (λ l. given (Local l.name, l.ty)) o (option_map_or global_target (global_at here x) (refused (no_variable here x) p)) ≡ given v → IsTarget v
-      local (Some l) e k =
-          let f = found vs x l e in
-          subst IsTarget {x = (Local l.name, l.ty)} (given_is (Local l.name, l.ty) v k) (ap (local_type vs) f.name ∙ f.frame, f.finite (have_finite vs typed))
-      local None e k = global (global_at here x) refl k
+  targets_typed : (ws us : List Target) (ts : List Node) → AreTargets ws → targets here ws ts ≡ given us → AreTargets us
+  targets_typed = program_around.targets_typed ds c m around vs typed
+
+  all_finite : (ws : List Target) → AreTargets ws → IsFinite (type_of_all ws)
+  all_finite = program_around.all_finite ds c m around vs typed
+
+  all_take : (ws : List Target) (t : Ty) → AreTargets ws → t ≡ type_of_all ws → Take (erased c) vs (variables_of ws) t
+  all_take = program_around.all_take ds c m around vs typed
+
+  call_typed : (ws : List Target) → AreTargets ws → (xs es : List Node) (p : Place) (i : Instr) → call here ws xs es p ≡ given i → IsStatement c vs i
+  call_typed = of_calls.call_typed ds c m around vs typed
 
   sampling_typed : (x : Name) (ds : List Node) (p : Place) (i : Instr) → sampling here x ds p ≡ given i → IsStatement c vs i
   unfolding sampling
@@ -104,9 +112,84 @@ module _ (ds : Declarations) (c : Context) (m : Module) (around : IsAround ds c 
   assignment_typed x [] p i h = cc
   assignment_typed x (d ∷ e ∷ es) p i h = cc
 
+  tuple_typed : (ts es : List Node) (p : Place) (i : Instr) → tuple_assignment here ts es p ≡ given i → IsStatement c vs i
+  unfolding tuple_assignment
+  tuple_typed ts (e ∷ []) p i h =
+      let ws = given_bind (targets here [] ts) _ i h in
+      let u = given_bind (elaborated e here [] (Some (type_of_all ws.0))) (λ (u : Term). given (Assign (variables_of ws.0) u)) i ws.2 in
+      let k = targets_typed [] ws.0 ts tt ws.1 in
+      let g = elaborated_typed e inner here [] fits (Some (type_of_all ws.0)) (finite_form true (type_of_all ws.0) (all_finite ws.0 k)) u.0 u.1 in
+      let finite : IsFinite (type_of u.0) = subst IsFinite (sym g.wanted) (all_finite ws.0 k) in
+      subst (IsStatement c vs) {x = Assign (variables_of ws.0) u.0} (given_is (Assign (variables_of ws.0) u.0) i u.2)
+      (record { expression = expression (Some (type_of_all ws.0)) u.0 g; finite = finite }, all_take ws.0 (type_of u.0) k g.wanted)
+  tuple_typed ts [] p i h = cc
+  tuple_typed ts (d ∷ e ∷ es) p i h = cc
+
+  -- calls whose results variables take
+  result_typed : (ws : List Target) → AreTargets ws → (k : Head) (xs : List Node) (p : Place) (i : Instr) → result_to here ws k xs p ≡ given i → IsStatement c vs i
+  result_typed ws w head.Call xs p i h = call_typed ws w (words xs) (written xs) p i h
+  result_typed ws w _ xs p i h = cc
+
+  called_typed : (ws : List Target) → AreTargets ws → (ks : List Node) (p : Place) (i : Instr) → called_to here ws ks p ≡ given i → IsStatement c vs i
+  called_typed ws w (k ∷ []) p i h = result_typed ws w (head_of k) (parts_of k) (place_of k) i h
+  called_typed ws w [] p i h = cc
+  called_typed ws w (k ∷ l ∷ ks) p i h = cc
+
+  result_in_typed : (x : Name) (ks : List Node) (p : Place) (i : Instr) → result_in here x ks p ≡ given i → IsStatement c vs i
+  unfolding result_in
+  result_in_typed x ks p i h =
+      let v = given_bind (target here x p) (λ (v : Target). called_to here (v ∷ []) ks p) i h in called_typed (v.0 ∷ []) (target_typed x p v.0 v.1, tt) ks p i v.2
+
+  results_in_typed : (ts ks : List Node) (p : Place) (i : Instr) → results_in here ts ks p ≡ given i → IsStatement c vs i
+  unfolding results_in
+  results_in_typed ts ks p i h =
+      let ws = given_bind (targets here [] ts) (λ (ws : List Target). called_to here ws ks p) i h in called_typed ws.0 (targets_typed [] ws.0 ts tt ws.1) ks p i ws.2
+
+  written_typed : (ts : List Node) (k : Head) (es : List Node) (p : Place) (i : Instr) → written_to here ts k es p ≡ given i → IsStatement c vs i
+  written_typed ts head.Assign es p i h = tuple_typed ts es p i h
+  written_typed ts head.AssignCall ks p i h = results_in_typed ts ks p i h
+  written_typed ts _ es p i h = cc
+
+  -- a variable is read in the own memory
+  read_typed : (v : Target) → IsTarget v → Typed inner Program v.1 (node (Read (read_of.Program v.0 side.Own)) [] v.1)
+  read_typed (Local x, t) h = leaf inner Program (Read (read_of.Program (Local x) side.Own)) t (finite_form true t h.1) (tt, h.1) h.0 tt (λ e. (tt, e))
+  read_typed (Global m x, t) h = whole_leaf inner Program refl (Read (read_of.Program (Global m x) side.Own)) t (finite_form true t h.1) (tt, h.1, h.0) (tt, h.0) tt
+  read_typed (Glob a, t) h = none_some t h.0
+
+  entry_typed : (v : Target) → IsTarget v → (t : Ty × Ty) → v.1 ≡ ty.Map t.0 t.1 → (k e : Node) (i : Instr) → entry_stored here v t k e ≡ given i → IsStatement c vs i
+  unfolding entry_stored
+  entry_typed v o t is k e i h =
+      let a = given_bind (elaborated k here [] (Some t.0)) _ i h in
+      let b = given_bind (elaborated e here [] (Some t.1)) (λ (b : Term). given (Assign (v.0 ∷ []) (stored_term v a.0 b))) i a.2 in
+      let parts = entries_finite true t.0 t.1 (subst (IsFormType true) is (finite_form true v.1 o.1)) in
+      let y = elaborated_typed k inner here [] fits (Some t.0) (finite_form true t.0 parts.0) a.0 a.1 in
+      let z = elaborated_typed e inner here [] fits (Some t.1) (finite_form true t.1 parts.1) b.0 b.1 in
+      let made : Typed inner Program v.1 (stored_term v a.0 b.0) =
+      subst (λ u. Typed inner Program u (applied op.Set (node (Read (read_of.Program v.0 side.Own)) [] v.1 ∷ a.0 ∷ b.0 ∷ []) u)) (sym is)
+      (changed inner Program t.0 t.1 _ a.0 b.0 (subst (λ u. Typed inner Program u (node (Read (read_of.Program v.0 side.Own)) [] v.1)) is (read_typed v o)) (of_given inner Program t.0 a.0 y) (of_given inner Program t.1 b.0 z)) in
+      let g = given_from inner Program (Some v.1) v.1 (stored_term v a.0 b.0) made refl in
+      let finite : IsFinite (type_of (stored_term v a.0 b.0)) = subst IsFinite (sym g.wanted) o.1 in
+      subst (IsStatement c vs) {x = Assign (v.0 ∷ []) (stored_term v a.0 b.0)} (given_is (Assign (v.0 ∷ []) (stored_term v a.0 b.0)) i b.2)
+      (record { expression = expression (Some v.1) (stored_term v a.0 b.0) g; finite = finite }, o.0 ∙ ap Some (sym g.wanted))
+
+  stored_typed : (x : Name) (ts : List Node) (p : Place) (i : Instr) → stored here x ts p ≡ given i → IsStatement c vs i
+  unfolding stored
+  stored_typed x (k ∷ e ∷ []) p i h =
+      let v = given_bind (target here x p) _ i h in
+      let t = given_bind (given_or (entries v.0.1) TypeMismatch p) (λ (t : Ty × Ty). entry_stored here v.0 t k e) i v.2 in
+      let is : v.0.1 ≡ ty.Map t.0.0 t.0.1 = map_of v.0.1 t.0 (some_given (entries v.0.1) TypeMismatch p t.0 t.1) in
+      entry_typed v.0 (target_typed x p v.0 v.1) t.0 is k e i t.2
+  stored_typed x [] p i h = cc
+  stored_typed x (k ∷ []) p i h = cc
+  stored_typed x (k ∷ e ∷ d ∷ ds) p i h = cc
+
   instruction_typed : (k : Head) (xs : List Node) (p : Place) (i : Instr) → instruction here k xs p ≡ given i → IsStatement c vs i
   instruction_typed head.Sample xs p i h = sampling_typed (path (words xs)) (written xs) p i h
   instruction_typed head.Assign xs p i h = assignment_typed (path (words xs)) (written xs) p i h
+  instruction_typed head.Store xs p i h = stored_typed (path (take (pred (pred (length xs))) xs)) (drop (pred (pred (length xs))) xs) p i h
+  instruction_typed head.AssignCall xs p i h = result_in_typed (path (words xs)) (written xs) p i h
+  instruction_typed head.Call xs p i h = call_typed [] tt (words xs) (written xs) p i h
+  instruction_typed head.TupleStatement (ts ∷ w ∷ []) p i h = written_typed (parts_of ts) (head_of w) (parts_of w) p i h
   instruction_typed _ xs p i h = cc
 
   -- what gives typed statements

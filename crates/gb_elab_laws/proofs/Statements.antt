@@ -29,7 +29,8 @@ use Rattle.gb_typing.specs.Sequents.{of_sequent, IsTypedSequent}
 use Rattle.gb_typing.specs.Scopes.{context_of, is_declared, IsTypedScope}
 use Rattle.gb_rules.proofs.Conclusions.{goal_conclusion, goal_front}
 use Rattle.gb_goal.specs.Answers.Answer.{given}
-use Rattle.gb_names.specs.Environment.{ambient}
+use Rattle.gb_names.specs.Environment.{ambient, statement}
+use Rattle.gb_names.specs.Environment.Memories.{outside}
 use Rattle.gb_elab.specs.Forms.{elaborated}
 use Rattle.gb_elab_mod.specs.Lemmas.{claimed, lemma_name, name_in, stated, statement_by, statement_given}
 use Rattle.gb_elab_prog.specs.Fresh.{free}
@@ -41,7 +42,7 @@ use Rattle.gb_elab_prog.specs.Contexts.{context_of as around}
 use Rattle.gb_elab_laws.proofs.Given.{given_bind, given_is, if_refused, not_given}
 use Rattle.gb_elab_laws.specs.Fitting.{AreTypes}
 use Rattle.gb_elab_laws.proofs.Declared.{declared_in}
-use Rattle.gb_elab_laws.proofs.Fits.{context_fits}
+use Rattle.gb_elab_laws.proofs.Fits.{context_fits, reading_fits}
 use Rattle.gb_elab_laws.proofs.Forms.{elaborated_typed}
 use Rattle.gb_elab_laws.proofs.Members.{free_is}
 use Rattle.gb_elab_laws.proofs.Types.{spelled_typed}
@@ -114,14 +115,16 @@ stated_typed ds x bs t q h =
     let n = given_bind (free ds x) _ q h in
     let a = given_bind (all_bound ds nothing_bound bs) _ q n.2 in
     let b : Bound = a.0 in
-    let f = given_bind (elaborated t (ambient ds (around b)) [] (Some ty.Bool)) _ q a.2 in
+    let f = given_bind (elaborated t (statement ds (around b)) [] (Some ty.Bool)) _ q a.2 in
     let s = given_bind (small f.0) (λ (y : Term). given (in_context b y)) q f.2 in
     let k = if_refused (nat_lt 65536 (term_nodes f.0)) (TooMany 65536) (record { file = 0; line = 0; col = 0 }) (given f.0) s.0 s.1 in
     let e : in_context b f.0 ≡ q = ap (in_context b) (given_is f.0 s.0 k.1) ∙ given_is (in_context b s.0) q s.2 in
     let finite : IsTypedScope (declared ds) → HaveFiniteTypes b.values = λ w. (let names = declared_in ds w in all_bound_finite ds names.types nothing_bound b bs a.1 tt) in
     let c = of_sequent (context_of (declared ds)) (around b) (no_locals b.memories) in
     let form : IsTypedScope (declared ds) → IsForm c f.0 =
-    λ w. (let g = elaborated_typed t c (ambient ds (around b)) [] (context_fits ds (around b) (no_locals b.memories) refl (all_with b.values (finite w)) w) (Some ty.Bool) tt f.0 f.1 in record { typed = g.typed; truth = g.wanted }) in
+    λ w.
+    (let fits = context_fits ds (around b) (no_locals b.memories) (as_many b.memories) refl (all_with b.values (finite w)) w in
+    let g = elaborated_typed t c (statement ds (around b)) [] (reading_fits outside c (ambient ds (around b)) [] fits) (Some ty.Bool) tt f.0 f.1 in record { typed = g.typed; truth = g.wanted }) in
     subst (IsStated ds (text_of x)) e (record {
       typed = λ w. form_typed (context_of (declared ds)) b f.0 (finite w) (form w);
       truth = λ w. (let k = form w in k.truth);

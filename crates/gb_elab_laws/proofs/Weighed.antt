@@ -9,7 +9,7 @@ use Rattle.gb_core.specs.declared.value.Value.TheVariants.{Num}
 use Rattle.gb_limits.specs.Numbers.{number_of}
 use Rattle.gb_same.specs.Types.{ty_eq}
 use Rattle.gb_same.proofs.Decided.{ty_eq-Decides}
-use Rattle.gb_terms.specs.declared.decl.TypedName.{TypedName}
+use Rattle.gb_names.specs.declared.bindings.Binding.{Binding}
 use Rattle.gb_terms.specs.declared.term.Pair.{Pair}
 use Rattle.gb_terms.specs.declared.term.Term.{Term}
 use Rattle.gb_terms.specs.declared.term.Head.TheVariants.{Weights}
@@ -88,7 +88,7 @@ weight_above ps x p m h =
     let d = if_given (nat_lt (sum_of ps + number_of x) (2 ^ 127)) (number_of x) (Overflow (pos (sum_of ps)) (pos (number_of x))) p m b.1 in
     subst (λ z. nat_lt 0 z ≡ true) d.1 b.0
 
-module _ (c : Context) (at : Environment) (vs : List TypedName) (fit : IsFitting c at vs) where
+module _ (c : Context) (at : Environment) (vs : List Binding) (fit : IsFitting c at vs) where
   constant_is : (x : Name) (p : Place) (k : Constant) → constant_of at vs x p ≡ given k → IsConstant k
   constant_is x p k h = step (constant_at at vs x) refl h
     where

@@ -1,11 +1,12 @@
 -- Contexts that fit environments, and what typing gives in them.
-use Rattle.std.specs.Prelude.{◌≡◌, ℕ, Bool, true, false, List, [], ◌∷◌, map, Option, Some, None}
+use Rattle.std.specs.Prelude.{◌≡◌, ◌<◌, ℕ, length, Bool, true, false, List, [], ◌∷◌, map, Option, Some, None}
 use Rattle.gb_core.specs.declared.ty.Ty.{Ty}
 use Rattle.gb_core.specs.declared.ty.Ty.TheVariants as ty
 use Rattle.gb_terms.specs.declared.decl.Module.{Module}
 use Rattle.gb_terms.specs.declared.decl.Proc.{Proc}
 use Rattle.gb_terms.specs.declared.decl.TypedName.{TypedName}
 use Rattle.gb_terms.specs.declared.module.ProcRef.{ProcRef}
+use Rattle.gb_terms.specs.declared.op.Side.TheVariants as side
 use Rattle.gb_terms.specs.declared.term.Term.{Term}
 use Rattle.gb_core.specs.declared.value.Value.TheVariants.{Num}
 use Rattle.gb_goal.specs.declared.scope.Constant.{Constant}
@@ -19,19 +20,22 @@ use Rattle.gb_later.specs.Naming.{NoName, TermNames}
 use Rattle.gb_typed.specs.Finite.{AreFiniteWith, IsFiniteWith, IsFinite, IsVariableType}
 use Rattle.gb_typed.specs.Operators.{item}
 use Rattle.gb_typed.specs.Programs.{HaveFiniteTypes}
-use Rattle.gb_typed.specs.Typing.{Binder, OperatorType, IsBoundAt, IsLiteral}
+use Rattle.gb_typed.specs.Typing.{Binder, OperatorType, binder, IsBoundAt, IsLiteral, IsMemory}
 use Rattle.gb_typing.specs.Modules.{ProcedureType}
-use Rattle.gb_typing.specs.Context.{Frame, Context, procedure, local_in}
+use Rattle.gb_typing.specs.Context.{Frame, Context, erased, frame_of, procedure, local_in}
 use Rattle.gb_typing.specs.Typing.{IsFrame, IsTyped}
 use Rattle.gb_typing.specs.Programs.{type_of_procedure}
 use Rattle.gb_typing.specs.Scopes.{AreMeasured}
+use Rattle.gb_names.specs.declared.bindings.Binding.{Binding}
+use Rattle.gb_names.specs.declared.bindings.Kind.{Kind}
+use Rattle.gb_names.specs.declared.bindings.Kind.TheVariants.{Value, Memory}
 use Rattle.gb_names.specs.declared.setting.Language.{Language}
 use Rattle.gb_names.specs.declared.setting.Language.TheVariants.{Operator}
 use Rattle.gb_names.specs.declared.setting.Variables.{Variables}
 use Rattle.gb_names.specs.declared.setting.Variables.TheVariants.{Absent, Own, Sides}
 use Rattle.gb_names.specs.Environment.{Environment}
 use Rattle.gb_names.specs.Allowed.{has_judgments}
-use Rattle.gb_names.specs.Names.{first_named}
+use Rattle.gb_names.specs.Names.{first_named, has_memories}
 
 -- whether types of the globals of modules may stand in a form
 abbrev pub has_globs : Language → Bool
@@ -51,12 +55,16 @@ abbrev pub IsFormTypeIf : Bool → Option Ty → Type 0
 IsFormTypeIf globs None = Unit {0}
 IsFormTypeIf globs (Some t) = IsFormType globs t
 
--- what is bound is read at the type of its name: a value, or a number below a bound
-abbrev pub IsBoundName : Bool → Binder → TypedName → Type 0
-IsBoundName globs b v = IsBoundAt b v.ty × IsFormType globs v.ty
+-- A name is bound to a memory, or to what is read at its type: a value, or a number below a bound.
+abbrev pub IsBoundTo : Bool → Binder → Kind → Type 0
+IsBoundTo globs b (Value t) = IsBoundAt b t × IsFormType globs t
+IsBoundTo globs b Memory = IsMemory b
+
+abbrev pub IsBoundName : Bool → Binder → Binding → Type 0
+IsBoundName globs b v = IsBoundTo globs b v.kind
 
 -- one binder for each bound name
-abbrev pub AreBound : Bool → List Binder → List TypedName → Type 0
+abbrev pub AreBound : Bool → List Binder → List Binding → Type 0
 AreBound globs [] [] = Unit {0}
 AreBound globs (b ∷ bs) (v ∷ vs) = IsBoundName globs b v × AreBound globs bs vs
 AreBound globs _ _ = ⊥
@@ -117,8 +125,9 @@ HasGlobalsIf globals (Some m) = HasGlobals globals m.name m
 
 -- A context that fits an environment, under bound names: what the environment gives a name stands there, at types of values; what
 -- is bound, at types of forms; what is declared stands with its types, and so do the globals of the module around; where globals may
--- be read, those of each declared module do; and where judgments may stand, each declared procedure does.
-pub record IsFitting (c : Context) (at : Environment) (vs : List TypedName) : Type 0 where
+-- be read, those of each declared module do; where judgments may stand, each declared procedure does; and where named memories may be
+-- read, each memory of the sequent and each that is bound does.
+pub record IsFitting (c : Context) (at : Environment) (vs : List Binding) : Type 0 where
   pub logical : (i : ℕ) → c.logical i ≡ item (map (λ x. x.ty) at.sequent.logical) i
   pub values : AllFiniteWith (has_globs at.language) at.sequent.logical
   pub bound : AreBound (has_globs at.language) c.bound vs
@@ -127,6 +136,8 @@ pub record IsFitting (c : Context) (at : Environment) (vs : List TypedName) : Ty
   pub around : HasGlobalsIf c.global at.inside
   pub globals : has_globs at.language ≡ true → (n : Name) (m : Module) → module_of at.declared n ≡ Some m → HasGlobals c.global n m
   pub procedures : has_judgments at.language ≡ true → (p : ProcRef) (f : Proc) → procedure_of at.declared p ≡ Some f → IsTypeOf (procedure c p) f
+  pub memories : has_memories at.language ≡ true → (i : ℕ) → i < length at.sequent.memories → (i < length c.named) × IsFrame (frame_of c (side.Memory i))
+  pub frames : has_memories at.language ≡ true → (i : ℕ) → IsMemory (binder (erased c) i) → IsFrame (frame_of c (side.Bound i))
 
 -- of the wanted type, where one is wanted
 abbrev pub IsWanted : Option Ty → Ty → Type 0

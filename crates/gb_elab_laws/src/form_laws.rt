@@ -18,7 +18,8 @@ ghost use Rattle.gb_typed.specs.Typing.Binder.{value};
 ghost use Rattle.gb_typing.specs.Context.{Context, of_program, within};
 ghost use Rattle.gb_typing.specs.Sequents.{of_sequent, two, IsTypedSequent};
 ghost use Rattle.gb_typing.specs.Scopes.{context_of, IsTypedScope};
-ghost use Rattle.gb_names.specs.Environment.{Environment, ambient, of_function, program};
+ghost use Rattle.gb_names.specs.declared.bindings.Binding.{Binding};
+ghost use Rattle.gb_names.specs.Environment.{Environment, of_function, program, statement};
 ghost use Rattle.gb_elab.specs.Forms.{elaborated, function};
 ghost use Rattle.gb_elab_prog.specs.Contexts.{nothing_around};
 ghost use Rattle.gb_elab_laws.specs.Fitting.{has_globs, IsFormType, IsFormTypeIf, AreDeclared, AreIn, HasGlobals, IsFitting, IsGiven};
@@ -26,7 +27,7 @@ ghost use Rattle.gb_elab_laws.specs.Fitting.{has_globs, IsFormType, IsFormTypeIf
 /// In a context that fits the environment, what a form is elaborated to is a well-typed term of the wanted type, where this is one
 /// that a form may have.
 pub fn forms()
-    ensures { (t : Node) (c : Context) (at : Environment) (vs : List TypedName) → IsFitting c at vs → (w : Option Ty) → IsFormTypeIf (has_globs at.language) w →
+    ensures { (t : Node) (c : Context) (at : Environment) (vs : List Binding) → IsFitting c at vs → (w : Option Ty) → IsFormTypeIf (has_globs at.language) w →
         (u : Term) → elaborated t at vs w ≡ given u → IsGiven c at.language w u }
 {}
 
@@ -42,7 +43,7 @@ pub fn functions()
 /// scope stands in its context, with the globals of its modules.
 pub fn environments()
     ensures statement { (ds : scope.Declarations) → IsTypedScope (declared ds) →
-        IsFitting (of_sequent (context_of (declared ds)) nothing_around []) (ambient ds nothing_around) [] }
+        IsFitting (of_sequent (context_of (declared ds)) nothing_around []) (statement ds nothing_around) [] }
     ensures names { (ds : scope.Declarations) → IsTypedScope (declared ds) → AreDeclared (context_of (declared ds)).operator ds }
     ensures globals { (ds : scope.Declarations) → IsTypedScope (declared ds) → (n : Name) (m : Module) → module_of ds n ≡ Some m →
         HasGlobals (context_of (declared ds)).global n m }

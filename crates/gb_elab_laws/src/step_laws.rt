@@ -8,7 +8,8 @@ ghost use Rattle.gb_script.specs.declared.tree.Node.{Node};
 ghost use Rattle.gb_goal.specs.Scope as scope;
 ghost use Rattle.gb_goal.specs.declared.sequent.Sequent.{Sequent};
 ghost use Rattle.gb_steps.specs.declared.step.AmbientRule.{AmbientRule};
-ghost use Rattle.gb_steps.specs.declared.step.Rule.TheVariants.{Ambient};
+ghost use Rattle.gb_steps.specs.declared.step.Rule.TheVariants.{Ambient, Use};
+ghost use Rattle.gb_steps.specs.declared.step.UseRule.{UseRule};
 ghost use Rattle.gb_steps.specs.declared.step.Step.{Step};
 ghost use Rattle.gb_goal.specs.Answers.Answer.{given};
 ghost use Rattle.gb_goal.specs.Goal.{goal_of};
@@ -24,6 +25,7 @@ ghost use Rattle.gb_elab_laws.specs.Reading.{IsOuter, StandIn};
 ghost use Rattle.gb_bodies.specs.Rows as bodies;
 ghost use Rattle.gb_equiv.specs.Rows.{IsTypedRule};
 ghost use Rattle.gb_amb.specs.Steps.{IsTypedStep};
+ghost use Rattle.gb_use.specs.Uses as uses;
 
 /// The locals that a well-typed term reads through the own memory, the left or the right one are locals of this memory.
 pub fn locals_read()
@@ -43,9 +45,13 @@ pub fn typed_rules()
         IsTypedRule (of_sequent (context_of (declared ds)) q t.frames) s.rule ls rs (goal_of q.conclusion) }
 {}
 
-/// The form that a typed step on a conclusion brings to a typed goal of a typed scope is typed in the goal's context.
+/// The form that a typed step on a conclusion brings to a typed goal of a typed scope is typed in the goal's context, and so is the form
+/// that a step uses, which is what a hypothesis of the goal says of typed terms.
 pub fn typed_forms()
-    ensures { (ds : scope.Declarations) → IsTypedScope (declared ds) → (q : Sequent) (t : IsTypedSequent (context_of (declared ds)) q) →
+    ensures conclusions { (ds : scope.Declarations) → IsTypedScope (declared ds) → (q : Sequent) (t : IsTypedSequent (context_of (declared ds)) q) →
         (n : Node) (s : Step) → step_given ds q n ≡ given s → (r : AmbientRule) → s.rule ≡ Ambient r →
         IsTypedStep (of_sequent (context_of (declared ds)) q t.frames) q.conclusion r }
+    ensures uses { (ds : scope.Declarations) → IsTypedScope (declared ds) → (q : Sequent) (t : IsTypedSequent (context_of (declared ds)) q) →
+        (n : Node) (s : Step) → step_given ds q n ≡ given s → (r : UseRule) → s.rule ≡ Use r →
+        uses.IsTypedStep q (of_sequent (context_of (declared ds)) q t.frames) r }
 {}

@@ -10,7 +10,7 @@ use Rattle.gb_script.specs.declared.tree.Node.{Node}
 use Rattle.gb_script.specs.Tree.{head_of, text_of, parts_of, place_of}
 use Rattle.gb_goal.specs.Answers.{Answer, ◌>>=◌, not_built}
 use Rattle.gb_goal.specs.Answers.Answer.{given}
-use Rattle.gb_names.specs.Environment.{ambient}
+use Rattle.gb_names.specs.Environment.{statement}
 use Rattle.gb_elab.specs.Forms.{elaborated}
 use Rattle.gb_elab_prog.specs.declared.context.Bound.{Bound}
 use Rattle.gb_elab_prog.specs.Contexts.{nothing_bound, all_bound, in_context, context_of}
@@ -28,7 +28,7 @@ lemma_name t = name_in (parts_of t)
 -- a form in the context of what is bound
 unfoldable pub claimed : Declarations → Bound → Node → Answer Sequent
 claimed ds b t = do
-  f ← elaborated t (ambient ds (context_of b)) [] (Some bool_ty)
+  f ← elaborated t (statement ds (context_of b)) [] (Some bool_ty)
   g ← small f
   given (in_context b g)
 

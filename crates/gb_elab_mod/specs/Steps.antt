@@ -1,18 +1,20 @@
 -- The typing of proof steps.
-use Rattle.std.specs.Prelude.{ℕ, ◌-◌, ◌^◌, nat_lt, Bool, true, false, ◌||◌, if◌then◌else◌, List, [], ◌∷◌, length, slice_get, Option, Some, None, bytes_eq, codes}
+use Rattle.std.specs.Prelude.{ℕ, ◌-◌, ◌^◌, nat_lt, Bool, true, false, if◌then◌else◌, List, [], ◌∷◌, length, slice_get, Option, Some, None, bytes_eq, codes}
 use Rattle.std.specs.Option.{option_map_or, option_zip}
-use Rattle.std.specs.List.{list_any}
 use Rattle.gb_core.specs.declared.place.Place.{Place}
-use Rattle.gb_core.specs.declared.refusal.Why.TheVariants.{DoubleName, TypeMismatch}
+use Rattle.gb_core.specs.declared.refusal.Why.TheVariants.{TypeMismatch}
 use Rattle.gb_core.specs.declared.ty.Ty.{Ty, out-Ty}
 use Rattle.gb_core.specs.declared.ty.Ty.TheOpen as ty_layer
-use Rattle.gb_core.specs.declared.ty.Ty.TheVariants.{Bool as bool_ty}
+use Rattle.gb_core.specs.declared.ty.Ty.TheVariants.{Bool as bool_ty, Real}
 use Rattle.gb_same.specs.Types.{ty_eq}
+use Rattle.gb_terms.specs.declared.decl.Proc.{Proc}
+use Rattle.gb_terms.specs.declared.decl.TypedName.{TypedName}
+use Rattle.gb_terms.specs.declared.op.Side.{Side}
 use Rattle.gb_terms.specs.declared.op.Side.TheVariants as side
 use Rattle.gb_terms.specs.declared.term.Term.{Term, out-Term}
 use Rattle.gb_terms.specs.declared.term.Head.{Head}
-use Rattle.gb_terms.specs.declared.term.Head.TheVariants.{Equiv, Sample}
 use Rattle.gb_terms.specs.declared.term.Head.TheVariants as head
+use Rattle.gb_terms.specs.declared.term.Head.TheVariants.{Phoare, Equiv, Sample}
 use Rattle.gb_terms.specs.declared.term.Head.TheOpen as layer
 use Rattle.gb_terms.specs.declared.term.Subject.{Subject, out-Subject}
 use Rattle.gb_terms.specs.declared.term.Instr.{Instr}
@@ -24,17 +26,19 @@ use Rattle.gb_steps.specs.declared.step.AmbientRule.{AmbientRule}
 use Rattle.gb_steps.specs.declared.step.AmbientRule.TheVariants as conclusion
 use Rattle.gb_steps.specs.declared.step.BodyRule.{BodyRule}
 use Rattle.gb_steps.specs.declared.step.BodyRule.TheVariants as on_bodies
+use Rattle.gb_steps.specs.declared.step.ChanceRule.TheVariants as with_chance
 use Rattle.gb_steps.specs.declared.step.Acts.{Acts}
 use Rattle.gb_steps.specs.declared.step.Acts.TheVariants as on
 use Rattle.gb_steps.specs.declared.step.Cut.{Cut}
 use Rattle.gb_steps.specs.declared.step.Cut.TheVariants as cut
-use Rattle.gb_goal.specs.Goal.{Goal, goal_of}
-use Rattle.gb_goal.specs.Goal.Code.{body}
+use Rattle.gb_goal.specs.Goal.{Code, Goal, goal_of}
+use Rattle.gb_goal.specs.Goal.Code.{body, procedure}
 use Rattle.gb_goal.specs.Goal.Goal.{hoare, phoare, equiv}
 use Rattle.gb_steps.specs.declared.step.RelationalRule.TheVariants as relational_rule
 use Rattle.gb_steps.specs.declared.step.Step.{Step}
+use Rattle.gb_steps.specs.declared.step.UseRule.TheVariants as use_rule
 use Rattle.gb_goal.specs.Goal.{judges_bodies}
-use Rattle.gb_goal.specs.Scope.{Declarations}
+use Rattle.gb_goal.specs.Scope.{Declarations, procedure_of}
 use Rattle.gb_script.specs.declared.head.Head.{Head as Kind}
 use Rattle.gb_script.specs.declared.head.Head.TheVariants as text
 use Rattle.gb_script.specs.declared.tree.Node.{Node}
@@ -42,9 +46,13 @@ use Rattle.gb_script.specs.Tree.{head_of, text_of, parts_of, place_of}
 use Rattle.gb_goal.specs.Answers.{Answer, ◌>>=◌, not_built}
 use Rattle.gb_goal.specs.Answers.Answer.{given, refused}
 use Rattle.gb_names.specs.Environment.{Environment, ambient, of_function, relational, unary}
+use Rattle.gb_names.specs.Judgments.{result_of}
 use Rattle.gb_elab.specs.Forms.{elaborated, function}
 use Rattle.gb_limits.specs.Numbers.{number_of}
+use Rattle.gb_elab_mod.specs.Multiples.{multiples, position}
 use Rattle.gb_elab_mod.specs.Occurring.{occurring}
+use Rattle.gb_elab_mod.specs.Taken.{new_name}
+use Rattle.gb_elab_mod.specs.Uses.{used}
 use Rattle.gb_elab_prog.specs.Unbuilt.{absent}
 
 abbrev pub of_subjects : layer.Subject-F Head Instr Subject Cmd Term → layer.Subject-F Head Instr Subject Cmd Term → Option (Cmd × Cmd)
@@ -108,10 +116,16 @@ of_bodies ds g fs c = option_map_or (between ds g fs c) (option_zip (last_sample
 unfoldable pub couplings : Declarations → Sequent → List Node → Answer (List Term)
 couplings ds g fs = option_map_or (of_bodies ds g fs) (bodies g.conclusion) (given [])
 
--- `rnd` with its functions; those that have no types at a goal don't fit it
-abbrev pub coupling_rule : List Node → List Term → Rule
-coupling_rule (f ∷ fs) [] = rule.OnBodies on_bodies.Unfit
-coupling_rule fs ts = rule.Relational (relational_rule.Rnd ts)
+-- whether a form with this head is a judgment with a probability
+abbrev pub judges_chance : Head → Bool
+judges_chance (Phoare s r) = true
+judges_chance _ = false
+
+-- `rnd` with its functions, at a judgment with a probability or at another goal; those that have no types at a goal don't fit it
+abbrev pub coupling_rule : Bool → List Node → List Term → Rule
+coupling_rule true [] ts = rule.Chance with_chance.Rnd
+coupling_rule b (f ∷ fs) [] = rule.OnBodies on_bodies.Unfit
+coupling_rule b fs ts = rule.Relational (relational_rule.Rnd ts)
 
 abbrev pub is_apply : Kind → Bool
 is_apply text.Apply = true
@@ -139,10 +153,6 @@ plain_rule x a p =
     else if bytes_eq x (codes "if") then given (on_bodies.If a)
     else if bytes_eq x (codes "wp") then given (on_bodies.Wp a) else not_built p
 
--- A position in a body. No body is as long as the numbers that the reader doesn't let pass.
-abbrev pub position : Node → ℕ
-position n = if nat_lt (number_of (text_of n)) (2 ^ 127) then number_of (text_of n) else 2 ^ 127
-
 -- the positions of a cut, in one body or in two
 abbrev pub cut_of : Node → List Node → Cut
 cut_of n [] = cut.One (position n)
@@ -168,6 +178,22 @@ seq_rule ds s a k r = given on_bodies.Unfit
 abbrev pub of_bodies_rule : Answer BodyRule → Answer Rule
 of_bodies_rule a = a >>= λ r. given (rule.OnBodies r)
 
+-- a rule on judgments with a probability, which speak of one program
+abbrev pub chance_rule : Acts → Rule
+chance_rule on.All = rule.Chance with_chance.Hoare
+chance_rule a = rule.OnBodies on_bodies.Unfit
+
+-- a rule on equivalences, which speak of both programs
+abbrev pub symmetry_rule : Acts → Rule
+symmetry_rule on.All = rule.Relational relational_rule.Symmetry
+symmetry_rule a = rule.OnBodies on_bodies.Unfit
+
+-- a rule on programs, by its name alone
+abbrev pub named_rule : List ℕ → Acts → Place → Answer Rule
+named_rule x a p =
+    if bytes_eq x (codes "hoare") then given (chance_rule a)
+    else if bytes_eq x (codes "symmetry") then given (symmetry_rule a) else of_bodies_rule (plain_rule x a p)
+
 -- the steps on a conclusion that stand alone
 abbrev pub conclusion_rule : List ℕ → Place → Answer AmbientRule
 conclusion_rule x p =
@@ -178,16 +204,6 @@ conclusion_rule x p =
     else if bytes_eq x (codes "trivial") then given conclusion.Trivial
     else if bytes_eq x (codes "//") then given conclusion.Trivial
     else if bytes_eq x (codes "done") then given conclusion.Done else not_built p
-
--- whether the name is that of a variable, a memory, a module or a hypothesis of the goal
-abbrev pub is_taken : Sequent → List ℕ → Bool
-is_taken g n =
-    list_any (λ x. bytes_eq n x.name) g.logical
-    || (list_any (λ m. bytes_eq n m) g.memories || (list_any (λ b. bytes_eq n b.name) g.modules || list_any (λ h. bytes_eq n h.name) g.hyps))
-
--- a new name in the context of a goal
-abbrev pub new_name : Sequent → List ℕ → Place → Answer (Unit {0})
-new_name g n p = if is_taken g n then refused (DoubleName n) p else given tt
 
 -- a form that a step brings to a goal
 abbrev pub formed : Declarations → Sequent → Node → Answer Term
@@ -216,6 +232,56 @@ abbrev pub case_rule : Declarations → Sequent → Node → Answer Rule
 case_rule ds g f =
     if judges_bodies (out-Term g.conclusion).head then of_bodies_rule (case_of_bodies ds g f (goal_of g.conclusion)) else case_of_conclusion ds g f
 
+-- the locals of a memory before what a judgment speaks of, and after it: those that occur in the judgment, where it is a body, or the
+-- parameters of a procedure and its result
+abbrev pub params_if : Option Proc → List TypedName
+params_if None = []
+params_if (Some f) = f.params
+
+abbrev pub result_if : Option Proc → List TypedName
+result_if None = []
+result_if (Some f) = result_of f
+
+abbrev pub locals_before : Declarations → Term → Term → Side → Code → List TypedName
+locals_before ds p q r (body is) = occurring (p ∷ q ∷ []) r is
+locals_before ds p q r (procedure f) = params_if (procedure_of ds f)
+
+abbrev pub locals_after : Declarations → Term → Term → Side → Code → List TypedName
+locals_after ds p q r (body is) = occurring (p ∷ q ∷ []) r is
+locals_after ds p q r (procedure f) = result_if (procedure_of ds f)
+
+-- a term of this type, if one is written
+abbrev pub term_if : Environment → Ty → List Node → Answer (Option Term)
+term_if at t [] = given None
+term_if at t (n ∷ ns) = do
+  f ← elaborated n at [] (Some t)
+  given (Some f)
+
+-- what is written of a precondition, a postcondition and a bound, each where it stands
+abbrev pub said_anew : Environment → Environment → Environment → List Node → List Node → List Node → Answer BodyRule
+said_anew before after around pre post bound = do
+  f ← term_if before bool_ty pre
+  h ← term_if after bool_ty post
+  b ← term_if around Real bound
+  given (on_bodies.Conseq (record { pre = f; post = h; bound = b }))
+
+-- The conditions and the bound of `conseq` at a judgment, which read the locals before and after it; a bound reads none. Other goals
+-- give them no types.
+unfoldable pub conseq_of : Declarations → Sequent → Goal → List Node → List Node → List Node → Answer BodyRule
+conseq_of ds s (hoare a p q) f h b =
+    said_anew (unary ds s (locals_before ds p q side.Own a)) (unary ds s (locals_after ds p q side.Own a)) (ambient ds s) f h b
+conseq_of ds s (phoare a r p q c) f h b =
+    said_anew (unary ds s (locals_before ds p q side.Own a)) (unary ds s (locals_after ds p q side.Own a)) (ambient ds s) f h b
+conseq_of ds s (equiv a c p q) f h b =
+    said_anew (relational ds s (locals_before ds p q side.Left a) (locals_before ds p q side.Right c))
+    (relational ds s (locals_after ds p q side.Left a) (locals_after ds p q side.Right c)) (ambient ds s) f h b
+conseq_of ds s G f h b = given on_bodies.Unfit
+
+-- the same of a step that acts on these programs
+abbrev pub conseq_rule : Declarations → Sequent → Acts → List Node → List Node → List Node → Answer BodyRule
+conseq_rule ds s on.All f h b = conseq_of ds s (goal_of s.conclusion) f h b
+conseq_rule ds s a f h b = given on_bodies.Unfit
+
 -- the type of a value that is said to exist
 abbrev pub asked_of : Head → Option Ty
 asked_of (head.Some u) = Some u
@@ -239,6 +305,17 @@ pattern text.SmtPattern x [] p = given rule.Smt
 pattern text.TrivialPattern x [] p = given (rule.Ambient conclusion.Trivial)
 pattern _ x ps p = not_built p
 
+-- a rule that uses what is known, or a pattern
+abbrev pub used_rule : Declarations → Sequent → Kind → List ℕ → List Node → Place → Answer Rule
+used_rule ds g text.ApplyLemma x (t ∷ []) p = do
+  f ← used ds g t
+  given (rule.Use (use_rule.Apply f))
+used_rule ds g text.HaveLemma x (n ∷ t ∷ []) p = do
+  _ ← new_name g (text_of n) (place_of n)
+  f ← used ds g t
+  given (rule.Use (use_rule.Have (text_of n) f))
+used_rule ds g k x ps p = pattern k x ps p
+
 -- a rule or a pattern
 abbrev pub typed_rule : Declarations → Sequent → Kind → List ℕ → List Node → Place → Answer Rule
 typed_rule ds g text.Proc x (b ∷ invariant ∷ []) p = do
@@ -247,11 +324,13 @@ typed_rule ds g text.Proc x (b ∷ invariant ∷ []) p = do
 typed_rule ds g text.Rnd x (b ∷ fs) p = do
   _ ← absent (parts_of b) p
   ts ← couplings ds g (functions_of fs)
-  given (coupling_rule (functions_of fs) ts)
-typed_rule ds g text.BodyStep x (b ∷ []) p = of_bodies_rule (plain_rule x (acts (parts_of b)) p)
+  given (coupling_rule (judges_chance (out-Term g.conclusion).head) (functions_of fs) ts)
+typed_rule ds g text.BodyStep x (b ∷ []) p = named_rule x (acts (parts_of b)) p
 typed_rule ds g text.Seq x (b ∷ n ∷ ns ∷ r ∷ bounds ∷ []) p = do
   _ ← absent (parts_of bounds) p
   of_bodies_rule (seq_rule ds g (acts (parts_of b)) (cut_of n (parts_of ns)) r)
+typed_rule ds g text.Conseq x (b ∷ pre ∷ post ∷ bound ∷ []) p =
+    of_bodies_rule (conseq_rule ds g (acts (parts_of b)) (parts_of pre) (parts_of post) (parts_of bound))
 typed_rule ds g text.PlainStep x [] p = do
   r ← conclusion_rule x p
   given (rule.Ambient r)
@@ -266,7 +345,10 @@ typed_rule ds g text.Witness x (e ∷ []) p = witness_rule ds g e
 typed_rule ds g text.Smt x hints p = do
   _ ← absent hints p
   given rule.Smt
-typed_rule ds g k x ps p = pattern k x ps p
+typed_rule ds g text.Linear x hs p = do
+  ms ← multiples ds g hs
+  given (rule.Linear ms)
+typed_rule ds g k x ps p = used_rule ds g k x ps p
 
 -- a proof step with its arguments typed
 unfoldable pub step_given : Declarations → Sequent → Node → Answer Step

@@ -6,7 +6,8 @@ ghost use Rattle.std.specs.List.{list_any};
 ghost use Rattle.gb_goal.specs.Answers.{Answers, ◌>>=◌ as ◌and_then◌};
 ghost use Rattle.gb_goal.specs.Answers.Answer.{given};
 ghost use Rattle.gb_script.specs.Tree.{text_of, place_of};
-ghost use Rattle.gb_elab_mod.specs.Steps.{asked_of, case_rule, conclusion_rule, formed, is_taken, new_name, witness_rule};
+ghost use Rattle.gb_elab_mod.specs.Steps.{asked_of, case_rule, conclusion_rule, formed, witness_rule};
+ghost use Rattle.gb_elab_mod.specs.Taken.{is_taken, new_name};
 
 use crate::cut::case_of_bodies;
 use gb_core::name::Name;
@@ -60,7 +61,8 @@ fn is_module(list: &[Bind], name: &Name) -> bool
     list.iter().any(|b| same_name(name, &b.name))
 }
 
-fn is_hypothesis(list: &[Hyp], name: &Name) -> bool
+/// Whether a hypothesis has this name.
+pub fn is_hypothesis(list: &[Hyp], name: &Name) -> bool
     ensures { result ≡ list_any (λ h. bytes_eq name.now h.name) list.now }
 {
     list.iter().any(|h| same_name(name, &h.name))
@@ -77,7 +79,7 @@ pub fn is_taken(goal: &Sequent, name: &Name) -> bool
 }
 
 /// Refuses a name that the context of a goal has already.
-fn check_new(alloc: Global, goal: &Sequent, name: &Name, place: Place) -> Result<(), Refused>
+pub fn check_new(alloc: Global, goal: &Sequent, name: &Name, place: Place) -> Result<(), Refused>
     ensures { Answers (new_name goal.now name.now place) result }
 {
     if !is_taken(goal, name) {

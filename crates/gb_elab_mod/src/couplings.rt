@@ -2,10 +2,11 @@
 
 ghost use Rattle.std.specs.Prelude.{◌≡◌, ◌∷◌};
 ghost use Rattle.std.specs.Option.{option_copied, option_map};
+ghost use Rattle.gb_terms.specs.declared.term.Term.{out-Term};
 ghost use Rattle.gb_goal.specs.Answers.{Answers, ◌>>=◌ as ◌and_then◌};
 ghost use Rattle.gb_goal.specs.Answers.Answer.{given};
 ghost use Rattle.gb_names.specs.Environment.{environment};
-ghost use Rattle.gb_elab_mod.specs.Steps.{bodies, coupling_rule, couplings, functions, functions_of, is_apply, last_sampled, one_type, there_and_back};
+ghost use Rattle.gb_elab_mod.specs.Steps.{bodies, coupling_rule, couplings, functions, functions_of, is_apply, judges_chance, last_sampled, one_type, there_and_back};
 
 use crate::occurring::occurring;
 use gb_core::refusal::Refused;
@@ -19,7 +20,7 @@ use gb_same::types::same_types;
 use gb_script::head;
 use gb_script::tree::Node;
 use gb_shared::Shared;
-use gb_steps::step::{BodyRule, RelationalRule, Rule};
+use gb_steps::step::{BodyRule, ChanceRule, RelationalRule, Rule};
 use gb_terms::op::Side;
 use gb_terms::term::{Cmd, Form, Head, Instr, Subject, Term, Terms};
 use sqlite_items::Items;
@@ -83,10 +84,23 @@ fn refuse_one_way(functions: &[Node], from: &Ty, to: &Ty) -> Result<(), Refused>
     }
 }
 
-/// `rnd` with its functions; those that have no types at a goal don't fit it.
-pub fn coupling_rule(functions: &[Node], typed: Terms) -> Rule
-    ensures { result ≡ coupling_rule functions.now typed }
+/// Whether a form is a judgment with a probability.
+fn judges_chance(conclusion: &Form) -> bool
+    ensures { result ≡ judges_chance (out-Term conclusion.now).head }
 {
+    match conclusion.head.get() {
+        Head::Phoare(..) => true,
+        _ => false,
+    }
+}
+
+/// `rnd` with its functions; those that have no types at a goal don't fit it.
+pub fn coupling_rule(conclusion: &Form, functions: &[Node], typed: Terms) -> Rule
+    ensures { result ≡ coupling_rule (judges_chance (out-Term conclusion.now).head) functions.now typed }
+{
+    if functions.is_empty() && judges_chance(conclusion) {
+        return Rule::Chance(ChanceRule::Rnd);
+    }
     if !functions.is_empty() && typed.is_empty() {
         return Rule::OnBodies(BodyRule::Unfit);
     }

@@ -7,7 +7,8 @@ ghost use Rattle.gb_elab.specs.Forms.{elaborated};
 ghost use Rattle.gb_elab_mod.specs.Occurring.{occurring};
 ghost use Rattle.gb_goal.specs.Answers.{Answers};
 ghost use Rattle.gb_goal.specs.Views.{goal_seen};
-ghost use Rattle.gb_elab_mod.specs.Steps.{case_of_bodies, cut_of, cut_rule, position, seq_rule};
+ghost use Rattle.gb_elab_mod.specs.Multiples.{position};
+ghost use Rattle.gb_elab_mod.specs.Steps.{case_of_bodies, cut_of, cut_rule, seq_rule};
 
 use crate::occurring::occurring_between;
 use gb_core::refusal::Refused;
@@ -24,8 +25,8 @@ use gb_terms::op::Side;
 use gb_terms::term::{Form, Instr};
 use std::alloc::Global;
 
-/// A position in a body. No body is as long as the numbers that the reader doesn't let pass.
-fn position(digits: &Node) -> u128
+/// A number, as a position in a body. No body is as long as the numbers that the reader doesn't let pass.
+pub fn position(digits: &Node) -> u128
     ensures { result ≡ position digits.now }
 {
     match number(digits.text.as_str().as_bytes()) {

@@ -9,13 +9,14 @@ ghost use Rattle.gb_elab_mod.specs.Lemmas.{claimed, lemma_name, name_in, stated,
 use gb_core::place::Place;
 use gb_core::refusal::Refused;
 use gb_core::ty::Ty;
-use gb_elab::form::term;
+use gb_elab::form::typed;
 use gb_elab_prog::context::{Bound, all_bound, context_of};
 use gb_elab_prog::fresh::refuse_declared;
 use gb_elab_prog::sizes::small;
 use gb_goal::scope::Scope;
 use gb_goal::sequent::Sequent;
 use gb_names::refusals::not_built;
+use gb_names::setting::Setting;
 use gb_script::head::Head;
 use gb_script::tree::Node;
 use std::alloc::Global;
@@ -76,6 +77,7 @@ fn claimed(alloc: Global, scope: &Scope, bound: Bound, form: &Node) -> Result<Se
     ensures { Answers (claimed scope.now bound form.now) result }
 {
     let around = context_of(alloc, bound)?;
-    let conclusion = small(term(alloc, scope, &around, form, Some(&Ty::Bool))?)?;
+    let at = Setting::statement(scope, &around);
+    let conclusion = small(typed(alloc, &at, &[], form, Some(&Ty::Bool))?)?;
     around.with_conclusion(conclusion).map_err(Refused::from)
 }

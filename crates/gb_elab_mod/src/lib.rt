@@ -2,8 +2,11 @@
 #![tactic(auto)]
 
 pub mod conclusions;
+pub mod conseq;
 pub mod couplings;
 pub mod cut;
 pub mod lemma;
+pub mod multiples;
 pub mod occurring;
 pub mod step;
+pub mod uses;

@@ -2,11 +2,14 @@
 
 ghost use Rattle.std.specs.Prelude.{◌≡◌};
 ghost use Rattle.gb_goal.specs.Answers.{Answers};
-ghost use Rattle.gb_elab_mod.specs.Steps.{acts, on_all, pattern, plain_rule, step_given, typed_rule};
+ghost use Rattle.gb_elab_mod.specs.Steps.{acts, chance_rule, named_rule, on_all, pattern, plain_rule, step_given, symmetry_rule, typed_rule, used_rule};
 
 use crate::conclusions::{case_rule, conclusion_rule, have_rule, witness_rule};
+use crate::conseq::{Written, conseq_rule};
 use crate::couplings::{coupling_rule, couplings, functions_of};
 use crate::cut::{cut_of, seq_rule};
+use crate::multiples::multiples;
+use crate::uses::{apply_rule, keep_rule};
 use gb_core::name::Name;
 use gb_core::place::Place;
 use gb_core::refusal::Refused;
@@ -16,7 +19,7 @@ use gb_goal::sequent::Sequent;
 use gb_names::refusals::not_built;
 use gb_script::head::Head;
 use gb_script::tree::Node;
-use gb_steps::step::{Acts, AmbientRule, BodyRule, Rule, Step};
+use gb_steps::step::{Acts, AmbientRule, BodyRule, ChanceRule, RelationalRule, Rule, Step};
 use std::alloc::Global;
 
 /// The proof step of a rule with its arguments typed where the goal gives them types. The functions of `rnd` have the
@@ -90,6 +93,40 @@ fn plain_rule(name: &Name, acts: Acts, place: Place) -> Result<BodyRule, Refused
     }
 }
 
+/// A rule on judgments with a probability, which speak of one program.
+fn chance_rule(acts: Acts) -> Rule
+    ensures { result ≡ chance_rule acts }
+{
+    match acts {
+        Acts::All => Rule::Chance(ChanceRule::Hoare),
+        _ => Rule::OnBodies(BodyRule::Unfit),
+    }
+}
+
+/// A rule on equivalences, which speak of both programs.
+fn symmetry_rule(acts: Acts) -> Rule
+    ensures { result ≡ symmetry_rule acts }
+{
+    match acts {
+        Acts::All => Rule::Relational(RelationalRule::Symmetry),
+        _ => Rule::OnBodies(BodyRule::Unfit),
+    }
+}
+
+/// A rule on programs, by its name alone.
+fn named_rule(name: &Name, acts: Acts, place: Place) -> Result<Rule, Refused>
+    ensures { Answers (named_rule name.now acts place) result }
+{
+    if name.as_str() == "hoare" {
+        return Ok(chance_rule(acts));
+    }
+    if name.as_str() == "symmetry" {
+        return Ok(symmetry_rule(acts));
+    }
+    let rule = plain_rule(name, acts, place)?;
+    Ok(Rule::OnBodies(rule))
+}
+
 /// The rule of a pattern, whose own patterns are steps of their own.
 fn pattern(
     alloc: Global,
@@ -115,6 +152,31 @@ fn pattern(
         (Head::SmtPattern, []) => Ok(Rule::Smt),
         (Head::TrivialPattern, []) => Ok(Rule::Ambient(AmbientRule::Trivial)),
         _ => Err(not_built(place)),
+    }
+}
+
+/// The rule of a step that uses what is known, or of a pattern.
+fn used_rule(
+    alloc: Global,
+    scope: &Scope,
+    goal: &Sequent,
+    head: Head,
+    text: &Name,
+    parts: &[Node],
+    place: Place,
+) -> Result<Rule, Refused>
+    ensures { Answers (used_rule scope.now goal.now head text.now parts.now place) result }
+{
+    match head {
+        Head::ApplyLemma => match parts {
+            [lemma] => apply_rule(alloc, scope, goal, lemma),
+            _ => Err(not_built(place)),
+        },
+        Head::HaveLemma => match parts {
+            [name, lemma] => keep_rule(alloc, scope, goal, name, lemma),
+            _ => Err(not_built(place)),
+        },
+        _ => pattern(alloc, head, text, parts, place),
     }
 }
 
@@ -144,15 +206,12 @@ fn typed_rule(
                 refuse_any(bodies.parts.as_slice(), place)?;
                 let functions = functions_of(functions);
                 let typed = couplings(alloc, scope, goal, functions)?;
-                Ok(coupling_rule(functions, typed))
+                Ok(coupling_rule(&goal.conclusion, functions, typed))
             }
             _ => Err(not_built(place)),
         },
         Head::BodyStep => match parts {
-            [bodies] => {
-                let rule = plain_rule(text, acts(bodies.parts.as_slice()), place)?;
-                Ok(Rule::OnBodies(rule))
-            }
+            [bodies] => named_rule(text, acts(bodies.parts.as_slice()), place),
             _ => Err(not_built(place)),
         },
         Head::Seq => match parts {
@@ -161,6 +220,19 @@ fn typed_rule(
                 let acts = acts(bodies.parts.as_slice());
                 let at = cut_of(first, second.parts.as_slice());
                 let rule = seq_rule(alloc, scope, goal, acts, at, between)?;
+                Ok(Rule::OnBodies(rule))
+            }
+            _ => Err(not_built(place)),
+        },
+        Head::Conseq => match parts {
+            [bodies, pre, post, bound] => {
+                let written = Written {
+                    pre: pre.parts.as_slice(),
+                    post: post.parts.as_slice(),
+                    bound: bound.parts.as_slice(),
+                };
+                let acts = acts(bodies.parts.as_slice());
+                let rule = conseq_rule(alloc, scope, goal, acts, &written)?;
                 Ok(Rule::OnBodies(rule))
             }
             _ => Err(not_built(place)),
@@ -188,6 +260,7 @@ fn typed_rule(
             refuse_any(parts, place)?;
             Ok(Rule::Smt)
         }
-        _ => pattern(alloc, head, text, parts, place),
+        Head::Linear => Ok(Rule::Linear(multiples(alloc, scope, goal, parts)?)),
+        _ => used_rule(alloc, scope, goal, head, text, parts, place),
     }
 }

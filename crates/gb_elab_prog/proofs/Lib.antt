@@ -1,4 +1,2 @@
-pub mod Gathered
 pub mod New
 pub mod Constants
-pub mod Stated

@@ -6,6 +6,5 @@ pub mod Contexts
 pub mod Types
 pub mod Operators
 pub mod Entries
-pub mod Statements
 pub mod Procedures
 pub mod Modules

@@ -16,7 +16,7 @@ use Rattle.gb_elab_prog.specs.Contexts.{nothing_around, taken}
 use Rattle.gb_names.specs.Binders.{of_type}
 use Rattle.gb_names.specs.Types.{type_of}
 use Rattle.gb_elab_prog.specs.Procedures.{procedure_by}
-use Rattle.gb_elab_prog.specs.Statements.{places}
+use Rattle.gb_elab_stmt.specs.Statements.{places}
 use Rattle.gb_elab_prog.specs.Bound.{parameters}
 use Rattle.gb_elab_prog.specs.Unbuilt.{absent}
 

@@ -16,6 +16,7 @@ use Rattle.gb_script.specs.Tree.{head_of, parts_of, place_of}
 use Rattle.gb_names.specs.Environment.{Environment, of_operator}
 use Rattle.gb_elab.specs.Forms.{elaborated}
 use Rattle.gb_names.specs.Binders.{of_type}
+use Rattle.gb_names.specs.Bindings.{bound_value}
 use Rattle.gb_names.specs.Types.{type_of, type_or_number, all_given}
 use Rattle.gb_elab_prog.specs.declared.context.Bound.{Bound}
 use Rattle.gb_elab_prog.specs.Contexts.{taken, nothing_bound, nothing_around}
@@ -52,7 +53,7 @@ written ds (t ∷ ts) = do
 -- the body of an operator, in which its parameters are bound, the last one innermost
 unfoldable pub body : Declarations → List TypedName → Option Ty → Node → Answer Term
 body ds vs w t = do
-  f ← elaborated t (of_body ds) (reverse vs) w
+  f ← elaborated t (of_body ds) (reverse (map bound_value vs)) w
   small f
 
 -- an operator with a body

@@ -23,7 +23,7 @@ use Rattle.gb_names.specs.Environment.{Environment, program}
 use Rattle.gb_elab.specs.Forms.{elaborated}
 use Rattle.gb_names.specs.Names.{unit}
 use Rattle.gb_names.specs.Types.{type_of}
-use Rattle.gb_elab_prog.specs.Statements.{all_stated, with_statings}
+use Rattle.gb_elab_stmt.specs.Statements.{all_stated, with_statings}
 
 -- The definitions by head and parts have a last clause for what isn't built. Trees of another shape fall under it too, of
 -- which the reader builds none, since each of its trees is well-sorted.

@@ -8,10 +8,10 @@ ghost use Rattle.gb_elab_prog.specs.Modules.{all_short, module_by, module_given,
 use crate::bound::refuse_parameters;
 use crate::fresh::refuse_declared;
 use crate::members::members;
-use crate::places::places;
 use crate::unbuilt::refuse_any;
 use gb_core::place::Place;
 use gb_core::refusal::{Refused, Why};
+use gb_elab_stmt::places::places;
 use gb_goal::scope::Scope;
 use gb_names::refusals::not_built;
 use gb_script::head::Head;

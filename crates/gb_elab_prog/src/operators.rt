@@ -14,7 +14,8 @@ use gb_core::refusal::Refused;
 use gb_core::ty::Ty;
 use gb_elab::form::typed;
 use gb_goal::scope::{Entry, Operator, OperatorType, Scope};
-use gb_names::binders::{of_type, within};
+use gb_names::binders::of_type;
+use gb_names::bindings::{bound_values, within};
 use gb_names::refusals::not_built;
 use gb_names::setting::Setting;
 use gb_names::types::{type_of, type_or_number};
@@ -175,7 +176,8 @@ fn body_of(
     ensures { Answers (body scope.now bound.values want form.now) result }
 {
     let around = nothing_around(alloc)?;
-    let params = within(alloc, bound.values, &[])?;
+    let params = bound_values(alloc, bound.values.as_slice())?;
+    let params = within(alloc, params, &[])?;
     let at = Setting::operator(scope, &around);
     small(typed(alloc, &at, params.as_slice(), form, inside(&want))?)
 }

@@ -7,12 +7,12 @@ ghost use Rattle.gb_goal.specs.Answers.Answer.{given};
 ghost use Rattle.gb_names.specs.Environment.{environment};
 ghost use Rattle.gb_elab_prog.specs.Procedures.{declared, formal, formals, is_member, lacks_value, locals, procedure_by, result_of, result_type, undeclared, untaken, value, variables, with_result};
 
-use crate::statement::body;
 use gb_core::name::Name;
 use gb_core::place::Place;
 use gb_core::refusal::Refused;
 use gb_core::ty::Ty;
 use gb_elab::form::typed;
+use gb_elab_stmt::statement::body;
 use gb_goal::scope::Scope;
 use gb_goal::sequent::Sequent;
 use gb_names::binders::variable;

@@ -1,4 +1,5 @@
 mod DrawnIsSound
 pub mod Maps
 pub mod RndIsSound
+pub mod SymmetryIsSound
 mod Others

@@ -1,3 +1,4 @@
 pub mod Drawn
 pub mod Rnd
 pub mod Rows
+pub mod Symmetry

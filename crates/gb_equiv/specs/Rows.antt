@@ -4,16 +4,18 @@ use Rattle.gb_core.specs.declared.refusal.Why.TheVariants.{Shape}
 use Rattle.gb_terms.specs.declared.decl.TypedName.{TypedName}
 use Rattle.gb_steps.specs.declared.step.Rule.{Rule}
 use Rattle.gb_steps.specs.declared.step.Rule.TheVariants.{Relational}
-use Rattle.gb_steps.specs.declared.step.RelationalRule.TheVariants.{Rnd}
+use Rattle.gb_steps.specs.declared.step.RelationalRule.TheVariants.{Rnd, Symmetry}
 use Rattle.gb_goal.specs.Goal.{Goal}
 use Rattle.gb_goal.specs.Rows.{Row, refusing}
 use Rattle.gb_typing.specs.Context.{Context}
 use Rattle.gb_rules.specs.Rules.{no_arguments}
 use Rattle.gb_equiv.specs.Rnd.{rnd_row, AreTypedFunctions}
+use Rattle.gb_equiv.specs.Symmetry.{symmetry_row}
 
 -- what a relational rule makes of goals; the other rules are of other crates
 abbrev pub rule_row : Rule → Row
 rule_row (Relational (Rnd fs)) = rnd_row fs
+rule_row (Relational Symmetry) = symmetry_row
 rule_row r = λ G. refusing Shape
 
 -- the arguments of a rule are typed

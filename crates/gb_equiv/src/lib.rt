@@ -6,5 +6,6 @@ mod drawn;
 pub mod laws;
 mod rnd;
 mod rule;
+mod symmetry;
 
 pub use rule::apply;

@@ -5,6 +5,7 @@ ghost use Rattle.gb_goal.specs.Rows.{stepped};
 ghost use Rattle.gb_equiv.specs.Rows.{rule_row};
 
 use crate::rnd::rnd_rule;
+use crate::symmetry::symmetry;
 use gb_core::refusal::{Refused, Why};
 use gb_goal::scope::Scope;
 use gb_goal::sequent::{Sequent, Sequents};
@@ -27,6 +28,7 @@ pub fn apply(
             maps.as_slice(),
             step.place,
         ),
+        Rule::Relational(RelationalRule::Symmetry) => symmetry(alloc, goal, step.place),
         _ => Err(Refused::Script {
             why: Why::Shape,
             place: step.place,

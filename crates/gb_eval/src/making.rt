@@ -10,35 +10,19 @@ ghost use Rattle.gb_eval.specs.Eval.{weighted};
 use crate::answer::{Answer, Stop};
 use crate::total::weights_total;
 use gb_core::value::Value;
+use gb_dist::order;
 use gb_dist::row::{Row, Rows};
 use gb_dist::table::Table;
 use gb_terms::term::Pair;
 use sqlite_items::Items;
 use std::alloc::{AllocError, Global};
 
-/// Rows with an image in the place of each value, given in order.
-fn imaged_rows(alloc: Global, images: &[Value], rows: &[Row]) -> Result<Rows, AllocError>
-    requires { length images.now ≡ length rows.now }
-    ensures { IfOk result (λ out. entries out ≡ imaged images.now (entries rows.now)) }
-{
-    let mut out = Items::new(alloc);
-    for at in 0..rows.len() {
-        let row = &rows[at];
-        let value = images[at].share()?;
-        out.push(Row {
-            value,
-            weight: row.weight,
-        })?;
-    }
-    Ok(out)
-}
-
 /// Each outcome's image in its place, given in order: an image that has several sources stands in several rows.
 pub fn imaged(alloc: Global, table: &Table, images: &[Value]) -> Result<Table, AllocError>
     requires { length images.now ≡ length table.now.rows }
     ensures { IfOk result (λ t. (t.total ≡ table.now.total) × (entries t.rows ≡ imaged images.now (entries table.now.rows))) }
 {
-    let rows = imaged_rows(alloc, images, table.rows.as_slice())?;
+    let rows = order::imaged(alloc, images, table.rows.as_slice())?;
     Ok(Table {
         total: table.total,
         rows,

@@ -7,7 +7,8 @@ ghost use Rattle.gb_eval.specs.Operators.{has_number_keys, is_of_numbers, update
 use crate::answer::{Answer, Stop, value_in};
 use gb_core::ty::Ty;
 use gb_core::value::Value;
-use gb_maps::entries::{entry_set, parts};
+use gb_maps::entries::entry_set;
+use gb_types::index::parts;
 use std::alloc::Global;
 
 /// Whether the values of a type are numbers, each its own place.

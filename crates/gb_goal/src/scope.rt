@@ -100,7 +100,8 @@ impl Model for Scope {
     ghost view = { λ s. map (λ p. (string_bytes p.0, p.1)) s.entries.entries };
 }
 
-fn procedure_named<'a>(procs: &'a [Proc], name: &Name) -> Option<&'a Proc>
+/// The first procedure of this name.
+pub fn procedure_named<'a>(procs: &'a [Proc], name: &Name) -> Option<&'a Proc>
     ensures { option_copied result ≡ proc_of procs.now name.now }
 {
     for p in procs {

@@ -7,28 +7,9 @@ ghost use Rattle.gb_types.specs.Numbering.{key_of, number_of, numbers, parts_of}
 ghost use Rattle.gb_meaning.specs.Operators.{entry_set};
 
 use gb_core::value::{Value, Values};
+use gb_types::index::{number, parts};
 use sqlite_items::Items;
 use std::alloc::{AllocError, Global};
-
-/// The parts of a value, none of a number.
-pub fn parts(v: &Value) -> &[Value]
-    ensures { result.now ≡ parts_of v.now }
-{
-    match v {
-        Value::Num(_) => &[],
-        Value::Many(list) => list.as_slice(),
-    }
-}
-
-/// The number that a value is, 0 for a value of parts.
-fn number(v: &Value) -> u64
-    ensures { result ≡ number_of v.now }
-{
-    match v {
-        Value::Num(n) => *n,
-        Value::Many(_) => 0,
-    }
-}
 
 /// The key of an entry, as a number.
 #[tactic(auto, using(crate::proofs::Keys::first_number))]

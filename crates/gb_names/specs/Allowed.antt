@@ -72,6 +72,10 @@ formula at w p = if is_program at.language then refused Argument p else truth w 
 abbrev pub judgment : Environment → Option Ty → Place → Answer (Unit {0})
 judgment at w p = if has_judgments at.language then truth w p else refused Argument p
 
+-- a memory may be bound here, as judgments may stand
+abbrev pub memory_here : Environment → Place → Answer (Unit {0})
+memory_here at p = if has_judgments at.language then given tt else refused Argument p
+
 -- the fair coin
 abbrev pub coin : Environment → Option Ty → Place → Answer Term
 coin at w p = do

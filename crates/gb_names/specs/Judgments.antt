@@ -21,7 +21,8 @@ use Rattle.gb_script.specs.declared.tree.Node.{Node}
 use Rattle.gb_script.specs.Tree.{head_of, text_of, parts_of, place_of}
 use Rattle.gb_goal.specs.Answers.{Answer, ◌>>=◌, given_or, not_built}
 use Rattle.gb_goal.specs.Answers.Answer.{given, refused}
-use Rattle.gb_names.specs.Environment.{Name, Environment, relational}
+use Rattle.gb_names.specs.declared.bindings.Binding.{Binding}
+use Rattle.gb_names.specs.Environment.{Name, Environment, in_judgments, reading, relational}
 use Rattle.gb_names.specs.Names.{is_variable}
 
 -- a module all of whose parameters are given: it has none
@@ -35,7 +36,7 @@ module_in (Some e) x p = refused Argument p
 module_in None x p = refused (UnknownName x) p
 
 -- the module of this name
-unfoldable pub named_module : Environment → List TypedName → Name → Place → Answer Module
+unfoldable pub named_module : Environment → List Binding → Name → Place → Answer Module
 named_module at bound x p = if is_variable at bound x then refused Argument p else module_in (entry_of at.declared x) x p
 
 -- a procedure as a text names it: by its module and its own word
@@ -56,14 +57,14 @@ abbrev pub reference : Path → ProcRef
 reference f = record { «module» = mexp.Name f.0; name = text_of f.1 }
 
 -- the procedure of a module that stands at a place
-unfoldable pub procedure_at : Environment → List TypedName → Path → Place → Answer Named
+unfoldable pub procedure_at : Environment → List Binding → Path → Place → Answer Named
 procedure_at at bound f p = do
   m ← named_module at bound f.0 p
   d ← given_or (proc_of m.procs (text_of f.1)) (UnknownName (text_of f.1)) (place_of f.1)
   given (reference f, d)
 
 -- the procedure that a judgment names; one of a module with arguments isn't built yet
-abbrev pub named_procedure : Environment → List TypedName → Head → List Node → Place → Answer Named
+abbrev pub named_procedure : Environment → List Binding → Head → List Node → Place → Answer Named
 named_procedure at bound head.ProcedurePath (x ∷ y ∷ ys) p = procedure_at at bound (procedure_path (text_of x) y ys) p
 named_procedure at bound _ ps p = not_built p
 
@@ -73,13 +74,13 @@ about_procedure head.Block p = not_built p
 about_procedure _ p = given tt
 
 -- the procedure that a judgment at this place is about
-abbrev pub one_procedure : Environment → List TypedName → Node → Place → Answer Named
+abbrev pub one_procedure : Environment → List Binding → Node → Place → Answer Named
 one_procedure at bound f p = do
   _ ← about_procedure (head_of f) p
   named_procedure at bound (head_of f) (parts_of f) (place_of f)
 
 -- the two procedures that a judgment at this place is about
-abbrev pub both_procedures : Environment → List TypedName → Node → Node → Place → Answer (Named × Named)
+abbrev pub both_procedures : Environment → List Binding → Node → Node → Place → Answer (Named × Named)
 both_procedures at bound f g p = do
   _ ← about_procedure (head_of f) p
   _ ← about_procedure (head_of g) p
@@ -89,7 +90,7 @@ both_procedures at bound f g p = do
 
 -- what a precondition reads: the parameters of both procedures
 abbrev pub before : Environment → Proc → Proc → Environment
-before at f g = relational at.declared at.sequent f.params g.params
+before at f g = reading (in_judgments at.memories) (relational at.declared at.sequent f.params g.params)
 
 -- the result of a procedure, under the name `res`
 abbrev pub result_of : Proc → List TypedName
@@ -97,7 +98,7 @@ result_of f = record { name = codes "res"; ty = f.result } ∷ []
 
 -- what a postcondition reads: the results of both procedures
 abbrev pub after : Environment → Proc → Proc → Environment
-after at f g = relational at.declared at.sequent (result_of f) (result_of g)
+after at f g = reading (in_judgments at.memories) (relational at.declared at.sequent (result_of f) (result_of g))
 
 -- two procedures are equivalent from a precondition to a postcondition
 abbrev pub equivalent : ProcRef → ProcRef → Term → Term → Term

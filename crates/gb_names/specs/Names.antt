@@ -1,5 +1,5 @@
 -- What a name means where it stands.
-use Rattle.std.specs.Prelude.{ℕ, suc, Bool, true, false, ◌||◌, if◌then◌else◌, List, [], ◌∷◌, ◌++◌, Option, Some, None, is_some, find, codes, bytes_eq}
+use Rattle.std.specs.Prelude.{ℕ, suc, nat_lt, Bool, true, false, ◌||◌, if◌then◌else◌, List, [], ◌∷◌, ◌++◌, length, Option, Some, None, is_some, find, codes, bytes_eq}
 use Rattle.std.specs.Option.{option_map, option_map_or}
 use Rattle.std.specs.List.{list_any}
 use Rattle.std.specs.Path.{dot, rsplit_once}
@@ -33,10 +33,14 @@ use Rattle.gb_names.specs.declared.setting.Variables.{Variables}
 use Rattle.gb_names.specs.declared.setting.Variables.TheVariants.{Own}
 use Rattle.gb_names.specs.declared.names.Known.{Known}
 use Rattle.gb_names.specs.declared.names.Known.TheVariants as known
-use Rattle.gb_goal.specs.Answers.{Answer, ◌>>=◌, given_or, not_built}
+use Rattle.gb_goal.specs.Answers.{Answer, ◌>>=◌, not_built}
 use Rattle.gb_names.specs.Wanted.{counted}
 use Rattle.gb_goal.specs.Answers.Answer.{given, refused}
-use Rattle.gb_names.specs.Environment.{Name, Environment, own, on_side}
+use Rattle.gb_names.specs.declared.bindings.Binding.{Binding}
+use Rattle.gb_names.specs.declared.bindings.Kind.{Kind}
+use Rattle.gb_names.specs.declared.bindings.Kind.TheVariants.{Value, Memory}
+use Rattle.gb_names.specs.Bindings.{binders_inside, innermost}
+use Rattle.gb_names.specs.Environment.{Name, Environment, may_read, own, on_side}
 
 -- a name with further words behind it, a dot before each
 abbrev pub dotted : Name → List Node → Name
@@ -79,10 +83,15 @@ built_in x =
     else if bytes_eq x (codes "sum") then Some known.Sum else None
 
 -- a variable that is bound below so many other binders
-abbrev pub bound_variable : ℕ → TypedName → Answer Term
-bound_variable n v = do
+abbrev pub bound_variable : ℕ → Ty → Answer Term
+bound_variable n t = do
   i ← counted n
-  given (node (Bound i) [] v.ty)
+  given (node (Bound i) [] t)
+
+-- what is bound there as a value, which a memory is none
+abbrev pub bound_thing : ℕ → Place → Kind → Answer Term
+bound_thing n p (Value t) = bound_variable n t
+bound_thing n p Memory = refused Argument p
 
 -- the logical variable at this place of the context
 abbrev pub logical_variable : ℕ → TypedName → Answer Term
@@ -145,37 +154,37 @@ has_own _ = false
 abbrev pub unsided : Environment → Place → ModuleVariable → Answer Term
 unsided at p g = if has_own at.variables then given (global_variable side.Own g) else refused Argument p
 
--- A name without a side is that of a variable that is bound in the form, the innermost first, of a variable of the
+-- A name without a side is that of a thing that is bound in the form, the innermost first, of a variable of the
 -- program around, of a logical variable of the context, or of a global.
-unfoldable pub named : Environment → List TypedName → Name → Place → Answer Term
+unfoldable pub named : Environment → List Binding → Name → Place → Answer Term
 named at bound x p =
-    option_map_or (bound_variable (number_before bound x))
-    (first_named bound x)
+    option_map_or (λ b. bound_thing (binders_inside bound x) p b.kind)
+    (innermost bound x)
     (option_map_or (λ v. given (program_variable side.Own v))
     (first_named (own at) x)
     (option_map_or (logical_variable (number_before at.sequent.logical x))
     (first_named at.sequent.logical x)
     (option_map_or (unsided at p) (global_at at x) (unbound at x p))))
 
--- a logical variable, bound in the form or of the context, has this name
-abbrev pub is_variable : Environment → List TypedName → Name → Bool
-is_variable at bound x = is_some (first_named bound x) || is_some (first_named at.sequent.logical x)
+-- what is bound in the form, or a logical variable of the context, has this name
+abbrev pub is_variable : Environment → List Binding → Name → Bool
+is_variable at bound x = is_some (innermost bound x) || is_some (first_named at.sequent.logical x)
 
 -- a thing that is nearer than the declarations has this name
-abbrev pub hidden : Environment → List TypedName → Name → Bool
+abbrev pub hidden : Environment → List Binding → Name → Bool
 hidden at bound x =
     is_variable at bound x || (is_some (first_named (own at) x) || (names_no_value at.sequent x || is_some (own_global at.inside x)))
 
 -- the built-in thing that a name means, where nothing else has it
-abbrev pub known_at : Environment → List TypedName → Name → Option Known
+abbrev pub known_at : Environment → List Binding → Name → Option Known
 known_at at bound x = if hidden at bound x || is_some (entry_of at.declared x) then None else built_in x
 
 -- the constant of an enumeration that a name means
-abbrev pub constant_at : Environment → List TypedName → Name → Option Constant
+abbrev pub constant_at : Environment → List Binding → Name → Option Constant
 constant_at at bound x = if hidden at bound x then None else constant_named at.declared x
 
 -- the operator of the script that a name means
-abbrev pub operator_at : Environment → List TypedName → Name → Option OperatorType
+abbrev pub operator_at : Environment → List Binding → Name → Option OperatorType
 operator_at at bound x = if hidden at bound x then None else operator_named at.declared x
 
 -- why a name means no variable of a program: another thing has it, or nothing
@@ -197,23 +206,59 @@ target at x p =
     (first_named (own at) x)
     (option_map_or global_target (global_at at x) (refused (no_variable at x) p))
 
--- a variable of one of two programs, or a global; a bound one has no side
-abbrev pub variable_on : Environment → List TypedName → Name → Side → Place → List TypedName → Answer Term
+-- one of these variables in a memory, or a global there; what is bound stands in none
+abbrev pub variable_on : Environment → List Binding → Name → Side → Place → List TypedName → Answer Term
 variable_on at bound x s p vs =
-    if is_some (first_named bound x) then refused Argument p
+    if is_some (innermost bound x) then refused Argument p
     else option_map_or (λ v. given (program_variable s v))
     (first_named vs x)
     (option_map_or (λ g. given (global_variable s g)) (global_at at x) (refused (no_variable at x) p))
 
 -- a name with a side
-unfoldable pub sided : Environment → List TypedName → Name → Side → Place → Answer Term
+unfoldable pub sided : Environment → List Binding → Name → Side → Place → Answer Term
 sided at bound x s p = option_map_or (variable_on at bound x s p) (on_side at s) (refused Argument p)
 
--- a name in a named memory: a local of none is in a goal, and globals aren't built yet
-unfoldable pub in_memory : Environment → Name → Node → Place → Answer Term
-in_memory at x m p =
-    if list_any (λ n. bytes_eq n (text_of m)) at.sequent.memories then (if is_some (global_at at x) then not_built p else refused (no_variable at x) p)
-    else refused (UnknownName (text_of m)) (place_of m)
+-- how many names stand before the first one that is this
+abbrev pub names_before : List Name → Name → ℕ
+names_before [] x = 0
+names_before (m ∷ ms) x = if bytes_eq m x then 0 else suc (names_before ms x)
+
+-- a name that no memory has: another thing has it, or nothing
+abbrev pub no_memory : Environment → List Binding → Name → Place → Answer Side
+no_memory at bound x p =
+    if is_some (known_at at bound x) then refused Argument p
+    else do
+      _ ← named at bound x p
+      refused Argument p
+
+-- the memory of the context at a place
+abbrev pub memory : ℕ → Answer Side
+memory n = do
+  i ← counted n
+  given (side.Memory i)
+
+-- what is bound below so many other binders as a memory, which a value is none
+abbrev pub bound_memory : ℕ → Place → Kind → Answer Side
+bound_memory n p (Value t) = refused Argument p
+bound_memory n p Memory = do
+  i ← counted n
+  given (side.Bound i)
+
+-- the memory of the context that has a name
+abbrev pub context_memory : Environment → List Binding → Name → Place → Answer Side
+context_memory at bound x p =
+    if nat_lt (names_before at.sequent.memories x) (length at.sequent.memories) then memory (names_before at.sequent.memories x)
+    else no_memory at bound x p
+
+-- the memory of a name: what is bound in the form, the innermost first, hides those of the context
+abbrev pub memory_at : Environment → List Binding → Name → Place → Answer Side
+memory_at at bound x p = option_map_or (λ b. bound_memory (binders_inside bound x) p b.kind) (innermost bound x) (context_memory at bound x p)
+
+-- a global in a named memory, of which no local is in scope
+unfoldable pub in_memory : Environment → List Binding → Name → Node → Place → Answer Term
+in_memory at bound x m p = do
+  s ← memory_at at bound (text_of m) (place_of m)
+  if may_read at.memories (text_of m) then variable_on at bound x s p [] else refused Argument p
 
 -- whether named memories may be read
 abbrev pub has_memories : Language → Bool
@@ -221,9 +266,9 @@ has_memories Formula = true
 has_memories Function = true
 has_memories _ = false
 
--- a name in a named memory
-abbrev pub remembered : Environment → Name → Node → Place → Answer Term
-remembered at x m p = if has_memories at.language then in_memory at x m p else refused Argument p
+-- a name in a named memory, which no program has
+abbrev pub remembered : Environment → List Binding → Name → Node → Place → Answer Term
+remembered at bound x m p = if has_memories at.language then in_memory at bound x m p else refused Argument p
 
 -- the side of a number
 abbrev pub side_of : Name → Place → Answer Side
@@ -232,8 +277,8 @@ side_of x p =
     else if bytes_eq x (codes "2") then given side.Right else not_built p
 
 -- a name with what stands behind it in braces: the number of a side, or the name of a memory
-abbrev pub beside : Head → Node → Environment → List TypedName → Name → Place → Answer Term
+abbrev pub beside : Head → Node → Environment → List Binding → Name → Place → Answer Term
 beside head.Number s at bound x p = do
   i ← side_of (text_of s) p
   sided at bound x i p
-beside _ m at bound x p = remembered at x m p
+beside _ m at bound x p = remembered at bound x m p

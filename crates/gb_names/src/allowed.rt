@@ -9,7 +9,7 @@ ghost use Rattle.gb_goal.specs.Answers.{Answers};
 ghost use Rattle.gb_names.specs.Wanted.{truth};
 ghost use Rattle.gb_goal.specs.Answers.Answer.{given};
 ghost use Rattle.gb_names.specs.Environment.{environment};
-ghost use Rattle.gb_names.specs.Allowed.{coin, distribution_here, formula, is_program, judgment, may_be_drawn, may_have, stands, wants_distribution};
+ghost use Rattle.gb_names.specs.Allowed.{coin, distribution_here, formula, is_program, judgment, may_be_drawn, may_have, memory_here, stands, wants_distribution};
 
 use crate::refusals::{argument, mismatch};
 use crate::setting::{Language, Setting};
@@ -61,6 +61,16 @@ pub fn judgment(at: &Setting<'_>, want: Option<&Ty>, place: Place) -> Result<(),
 {
     match at.language {
         Language::Formula => truth(want, place),
+        _ => Err(argument(place)),
+    }
+}
+
+/// Refuses a memory that is bound where no judgment may stand.
+pub fn memory_here(at: &Setting<'_>, place: Place) -> Result<(), Refused>
+    ensures { Answers (memory_here (environment at.now) place) result }
+{
+    match at.language {
+        Language::Formula => Ok(()),
         _ => Err(argument(place)),
     }
 }

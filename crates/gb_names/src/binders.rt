@@ -1,14 +1,19 @@
-// Bound variables and the quantifiers over them.
+// Binders, and the quantifiers over what they bind.
 
-ghost use Rattle.std.specs.Prelude.{◌≡◌, ◌||◌, [], ◌∷◌, ◌++◌, IfOk, bytes_eq, reverse};
+ghost use Rattle.std.specs.Prelude.{◌≡◌, ◌||◌, [], ◌∷◌, IfOk, bytes_eq, reverse};
 ghost use Rattle.std.specs.List.{list_any};
 ghost use Rattle.gb_goal.specs.Answers.{Answers, ◌>>=◌ as ◌and_then◌};
 ghost use Rattle.gb_goal.specs.Answers.Answer.{given};
+ghost use Rattle.gb_names.specs.Environment.{environment};
 ghost use Rattle.gb_names.specs.Types.{type_of};
+ghost use Rattle.gb_names.specs.declared.bindings.Kind.TheVariants.{Memory, Value};
 ghost use Rattle.gb_script.specs.Tree.{head_of, parts_of, place_of, text_of};
-ghost use Rattle.gb_names.specs.Binders.{bound_by, bound_in, new_names, of_type, over, over_all, quantifier_of};
+ghost use Rattle.gb_names.specs.Binders.{bound_by, bound_in, memory_bound, new_names, of_type, over, over_all, quantifier_of, values};
 
+use crate::allowed::memory_here;
+use crate::bindings::{Binding, Bindings, Kind};
 use crate::refusals::{double, not_built};
+use crate::setting::Setting;
 use crate::types::type_of;
 use gb_core::name::Name;
 use gb_core::place::Place;
@@ -20,8 +25,7 @@ use gb_script::tree::Node;
 use gb_shared::Shared;
 use gb_terms::decl::{Typed, TypedName};
 use gb_terms::make;
-use gb_terms::share::copy_typed;
-use gb_terms::term::Form;
+use gb_terms::term::{Form, Head as TermHead};
 use sqlite_items::Items;
 use std::alloc::{AllocError, Global};
 
@@ -66,20 +70,32 @@ pub fn variable(alloc: Global, name: &Name, ty: &Shared<Ty>) -> Result<TypedName
     Ok(TypedName { name, ty })
 }
 
-/// The variables that are bound, in the order of the text.
+/// Values of one type under names.
+fn values(alloc: Global, names: &[Node], ty: &Shared<Ty>) -> Result<Bindings, AllocError>
+    ensures { IfOk result (λ made. made ≡ values names.now ty.now) }
+{
+    let mut all = Items::new(alloc);
+    for x in names {
+        all.push(Binding::value(alloc, &x.text, ty)?)?;
+    }
+    Ok(all)
+}
+
+/// What is bound, in the order of the text.
 ///
 /// # Errors
 ///
-/// `DoubleName` of a name that one of them has already, those of `type_of`, and `Syntax` of a binder that isn't built.
+/// `DoubleName` of a name that one of them has already, those of `type_of`, `Argument` of a memory where none may be bound, and `Syntax`
+/// of a binder that isn't built.
 #[tactic(auto, unfolding(crate::specs::Binders::bound_by))]
-pub fn bound_by(alloc: Global, scope: &Scope, binds: &[Node]) -> Result<Typed, Refused>
-    ensures { Answers (bound_by scope.now [] binds.now) result }
+pub fn bound_by(alloc: Global, at: &Setting<'_>, binds: &[Node]) -> Result<Bindings, Refused>
+    ensures { Answers (bound_by (environment at.now) [] binds.now) result }
 {
     let mut all = Items::new(alloc);
     for bind in binds {
         let more = bound_in(
             alloc,
-            scope,
+            at,
             all.as_slice(),
             bind.head,
             bind.parts.as_slice(),
@@ -90,26 +106,30 @@ pub fn bound_by(alloc: Global, scope: &Scope, binds: &[Node]) -> Result<Typed, R
     Ok(all)
 }
 
-/// The variables of one binder, from its head and its parts, beside others.
+/// What one binder binds, from its head and its parts, beside others.
 fn bound_in(
     alloc: Global,
-    scope: &Scope,
-    beside: &[TypedName],
+    at: &Setting<'_>,
+    beside: &[Binding],
     head: Head,
     parts: &[Node],
     place: Place,
-) -> Result<Typed, Refused>
-    ensures { Answers (bound_in scope.now beside.now head parts.now place) result }
+) -> Result<Bindings, Refused>
+    ensures { Answers (bound_in (environment at.now) beside.now head parts.now place) result }
 {
     match head {
         Head::Values => match parts {
             [first, more, ty] => {
                 new_names(alloc, beside, first, more.parts.as_slice())?;
-                typed_names(alloc, scope, first, more.parts.as_slice(), ty)
+                typed_names(alloc, at.scope, first, more.parts.as_slice(), ty)
             }
             _ => Err(not_built(place)),
         },
-        Head::Memory | Head::ModuleBind => match parts {
+        Head::Memory => match parts {
+            [name] => memory_bound(alloc, at, beside, name, place),
+            _ => Err(not_built(place)),
+        },
+        Head::ModuleBind => match parts {
             [name, ..] => Err(not_built(name.place)),
             _ => Err(not_built(place)),
         },
@@ -117,7 +137,24 @@ fn bound_in(
     }
 }
 
-fn is_name_of(list: &[TypedName], name: &Name) -> bool
+/// A memory beside others, whose binder has this place.
+fn memory_bound(
+    alloc: Global,
+    at: &Setting<'_>,
+    beside: &[Binding],
+    name: &Node,
+    place: Place,
+) -> Result<Bindings, Refused>
+    ensures { Answers (memory_bound (environment at.now) beside.now name.now place) result }
+{
+    memory_here(at, place)?;
+    new_names(alloc, beside, name, &[])?;
+    let mut all = Items::new(alloc);
+    all.push(Binding::memory(alloc, &name.text)?)?;
+    Ok(all)
+}
+
+fn is_name_of(list: &[Binding], name: &Name) -> bool
     ensures { result ≡ list_any (λ v. bytes_eq v.name name.now) list.now }
 {
     for x in list {
@@ -140,7 +177,7 @@ fn is_word_of(list: &[Node], name: &Name) -> bool
 }
 
 /// Whether one of these has this name, or one of these words is it.
-fn is_bound(beside: &[TypedName], first: &Node, before: &[Node], name: &Name) -> bool
+fn is_bound(beside: &[Binding], first: &Node, before: &[Node], name: &Name) -> bool
     ensures { result ≡ (list_any (λ v. bytes_eq v.name name.now) beside.now || (bytes_eq (text_of first.now) name.now || list_any (λ y. bytes_eq (text_of y) name.now) before.now)) }
 {
     is_name_of(beside, name) || (first.text == *name || is_word_of(before, name))
@@ -148,12 +185,7 @@ fn is_bound(beside: &[TypedName], first: &Node, before: &[Node], name: &Name) ->
 
 /// Refuses a name that is bound beside these, or is one of them twice.
 #[tactic(auto, unfolding(crate::specs::Binders::new_names))]
-fn new_names(
-    alloc: Global,
-    beside: &[TypedName],
-    first: &Node,
-    more: &[Node],
-) -> Result<(), Refused>
+fn new_names(alloc: Global, beside: &[Binding], first: &Node, more: &[Node]) -> Result<(), Refused>
     ensures { Answers (new_names beside.now [] (first.now ∷ more.now)) result }
 {
     if is_name_of(beside, &first.text) {
@@ -168,63 +200,71 @@ fn new_names(
     Ok(())
 }
 
-/// Words of the type that the text spells.
+/// Values of the type that the text spells.
 fn typed_names(
     alloc: Global,
     scope: &Scope,
     first: &Node,
     more: &[Node],
     ty: &Node,
-) -> Result<Typed, Refused>
-    ensures { Answers (type_of scope.now ty.now and_then λ t. given (of_type (first.now ∷ more.now) t)) result }
+) -> Result<Bindings, Refused>
+    ensures { Answers (type_of scope.now ty.now and_then λ t. given (values (first.now ∷ more.now) t)) result }
 {
     let ty = type_of(alloc, scope, ty)?;
     let mut all = Items::new(alloc);
-    all.push(variable(alloc, &first.text, &ty)?)?;
-    all.append(of_type(alloc, more, &ty)?)?;
+    all.push(Binding::value(alloc, &first.text, &ty)?)?;
+    all.append(values(alloc, more, &ty)?)?;
     Ok(all)
 }
 
-/// Variables, the last one first, and behind them those that are bound around them.
-pub fn within(alloc: Global, variables: Typed, bound: &[TypedName]) -> Result<Typed, AllocError>
-    ensures { IfOk result (λ made. made ≡ reverse variables ++ bound.now) }
-{
-    let mut rest = variables;
-    let mut all = Items::new(alloc);
-    while let Some(x) = rest.pop() {
-        all.push(x)?;
-    }
-    all.append(copy_typed(alloc, bound)?)?;
-    Ok(all)
-}
-
-/// The quantifiers over these variables, the first one innermost.
+/// The quantifiers over these things, the first one innermost.
 pub fn over_all(
     alloc: Global,
     quantifier: Quantifier,
-    variables: &[TypedName],
+    bindings: &[Binding],
     body: Form,
 ) -> Result<Form, AllocError>
-    ensures { IfOk result (λ made. made ≡ over_all quantifier (reverse variables.now) body) }
+    ensures { IfOk result (λ made. made ≡ over_all quantifier (reverse bindings.now) body) }
 {
     let mut form = body;
-    for x in variables {
-        form = over(alloc, quantifier, &x.ty, form)?;
+    for x in bindings {
+        form = over(alloc, quantifier, &x.kind, form)?;
     }
     Ok(form)
 }
 
-fn over(
+fn over(alloc: Global, quantifier: Quantifier, kind: &Kind, body: Form) -> Result<Form, AllocError>
+    ensures { IfOk result (λ made. made ≡ over quantifier kind.now body) }
+{
+    match kind {
+        Kind::Value(ty) => {
+            let ty = ty.share()?;
+            over_values(alloc, quantifier, ty, body)
+        }
+        Kind::Memory => over_memories(alloc, quantifier, body),
+    }
+}
+
+fn over_values(
     alloc: Global,
     quantifier: Quantifier,
-    ty: &Shared<Ty>,
+    ty: Shared<Ty>,
     body: Form,
 ) -> Result<Form, AllocError>
-    ensures { IfOk result (λ made. made ≡ over quantifier ty.now body) }
+    ensures { IfOk result (λ made. made ≡ over quantifier (Value ty) body) }
 {
-    let ty = ty.share()?;
     match quantifier {
         Quantifier::Forall => make::forall(alloc, ty, body),
         Quantifier::Exists => make::exists(alloc, ty, body),
+    }
+}
+
+fn over_memories(alloc: Global, quantifier: Quantifier, body: Form) -> Result<Form, AllocError>
+    ensures { IfOk result (λ made. made ≡ over quantifier Memory body) }
+{
+    let truth = make::truth_ty(alloc)?;
+    match quantifier {
+        Quantifier::Forall => make::over(alloc, TermHead::AllMemory, body, truth),
+        Quantifier::Exists => make::over(alloc, TermHead::SomeMemory, body, truth),
     }
 }

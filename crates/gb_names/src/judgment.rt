@@ -4,21 +4,20 @@ ghost use Rattle.std.specs.Prelude.{◌≡◌, IfOk};
 ghost use Rattle.std.specs.Option.{option_copied};
 ghost use Rattle.gb_terms.specs.Make.{node};
 ghost use Rattle.gb_terms.specs.declared.term.Head.TheVariants.{Equiv, Proc as procedure};
-ghost use Rattle.gb_goal.specs.Scope.{proc_of};
 ghost use Rattle.gb_script.specs.Tree.{text_of, parts_of, place_of};
 ghost use Rattle.gb_goal.specs.Answers.{Answers, Gives};
 ghost use Rattle.gb_names.specs.Environment.{environment};
 ghost use Rattle.gb_names.specs.Judgments.{about_procedure, both_procedures, equivalent, named_module, named_procedure, one_procedure, procedure_at, procedure_path, reference, result_of};
 
+use crate::bindings::Binding;
 use crate::names::{append, is_variable};
 use crate::refusals::{argument, not_built, unknown};
 use crate::setting::Setting;
 use gb_core::name::Name;
 use gb_core::place::Place;
 use gb_core::refusal::Refused;
-use gb_core::same::same_name;
 use gb_core::ty::Ty;
-use gb_goal::scope::Entry;
+use gb_goal::scope::{Entry, procedure_named};
 use gb_script::head::Head as NodeHead;
 use gb_script::tree::Node;
 use gb_shared::Shared;
@@ -34,7 +33,7 @@ use std::alloc::{AllocError, Global};
 fn named_module<'a>(
     alloc: Global,
     at: &Setting<'a>,
-    bound: &[TypedName],
+    bound: &[Binding],
     name: &Name,
     place: Place,
 ) -> Result<&'a Module, Refused>
@@ -56,19 +55,8 @@ fn named_module<'a>(
     }
 }
 
-fn procedure_of<'a>(m: &'a Module, name: &Name) -> Option<&'a Proc>
-    ensures { option_copied result ≡ proc_of m.now.procs name.now }
-{
-    for p in m.procs.as_slice() {
-        if same_name(name, &p.name) {
-            return Some(p);
-        }
-    }
-    None
-}
-
 /// A procedure as a text names it: its module's name, of all words but the last, and the last word.
-fn procedure_path<'t>(
+pub fn procedure_path<'t>(
     alloc: Global,
     first: &Name,
     second: &'t Node,
@@ -97,7 +85,7 @@ pub struct Named<'a> {
 fn procedure_at<'a>(
     alloc: Global,
     at: &Setting<'a>,
-    bound: &[TypedName],
+    bound: &[Binding],
     module: &Name,
     name: &Node,
     place: Place,
@@ -105,7 +93,7 @@ fn procedure_at<'a>(
     ensures { Gives (λ f. (f.reference, f.procedure.now)) (procedure_at (environment at.now) bound.now («module».now, name.now) place) result }
 {
     let within = named_module(alloc, at, bound, module, place)?;
-    match procedure_of(within, &name.text) {
+    match procedure_named(within.procs.as_slice(), &name.text) {
         Some(procedure) => {
             let reference = reference(alloc, module, &name.text)?;
             Ok(Named {
@@ -118,7 +106,7 @@ fn procedure_at<'a>(
 }
 
 /// A procedure as a term names it.
-fn reference(alloc: Global, module: &Name, name: &Name) -> Result<Shared<ProcRef>, AllocError>
+pub fn reference(alloc: Global, module: &Name, name: &Name) -> Result<Shared<ProcRef>, AllocError>
     ensures { IfOk result (λ made. made ≡ record { «module» = Mexp.Name «module».now; name = name.now }) }
 {
     let name = name.copy(alloc)?;
@@ -132,10 +120,10 @@ fn reference(alloc: Global, module: &Name, name: &Name) -> Result<Shared<ProcRef
 ///
 /// `Syntax` of a module with arguments, `UnknownName` of a module or a procedure of it, `Argument` of a thing that is
 /// no module or lacks arguments.
-fn named_procedure<'a>(
+pub fn named_procedure<'a>(
     alloc: Global,
     at: &Setting<'a>,
-    bound: &[TypedName],
+    bound: &[Binding],
     head: NodeHead,
     parts: &[Node],
     place: Place,
@@ -179,7 +167,7 @@ fn about_procedure(head: NodeHead, place: Place) -> Result<(), Refused>
 pub fn one_procedure<'a>(
     alloc: Global,
     at: &Setting<'a>,
-    bound: &[TypedName],
+    bound: &[Binding],
     f: &Node,
     place: Place,
 ) -> Result<Named<'a>, Refused>
@@ -198,7 +186,7 @@ pub fn one_procedure<'a>(
 pub fn both_procedures<'a>(
     alloc: Global,
     at: &Setting<'a>,
-    bound: &[TypedName],
+    bound: &[Binding],
     f: &Node,
     g: &Node,
     place: Place,

@@ -3,8 +3,10 @@
 
 pub mod allowed;
 pub mod binders;
+pub mod bindings;
 pub mod globals;
 pub mod judgment;
+pub mod memories;
 pub mod names;
 pub mod refusals;
 pub mod setting;

@@ -9,12 +9,13 @@ ghost use Rattle.gb_goal.specs.Answers.{Answers, Fails, Gives, Refuses};
 ghost use Rattle.gb_names.specs.Wanted.{counted};
 ghost use Rattle.gb_goal.specs.Answers.Answer.{given};
 ghost use Rattle.gb_names.specs.Environment.{environment};
-ghost use Rattle.gb_names.specs.Names.{beside, remembered, side_of};
-ghost use Rattle.gb_names.specs.Names.{bound_variable, built_in, constant_at, dotted, first_named, hidden, in_memory, is_variable, known_at, logical_variable, named, names_no_value, names_other, no_variable, number_before, operator_at, target, variable_on, path, program_variable, sided, unbound, unit};
+ghost use Rattle.gb_names.specs.Names.{beside, bound_thing, bound_variable, built_in, constant_at, dotted, first_named, hidden, is_variable, known_at, logical_variable, named, names_no_value, names_other, no_variable, number_before, operator_at, path, program_variable, side_of, sided, target, unbound, unit, variable_on};
 
+use crate::bindings::{Binding, Kind, binders_inside, innermost};
 use crate::globals::{Target, global_at, global_target, global_variable, is_own_global, unsided};
+use crate::memories::remembered;
 use crate::refusals::{argument, not_built, too_many, unknown};
-use crate::setting::{Language, Setting};
+use crate::setting::Setting;
 use gb_core::name::Name;
 use gb_core::place::Place;
 use gb_core::refusal::Refused;
@@ -90,7 +91,7 @@ fn number_before(list: &[TypedName], name: &Name) -> usize
 }
 
 /// A number of things as a term counts them. More are past the nodes of a formula.
-fn counted(n: usize) -> Result<u32, Refused>
+pub fn counted(n: usize) -> Result<u32, Refused>
     ensures { Answers (counted n) result }
 {
     if n < 0x1_0000_0000 {
@@ -101,12 +102,22 @@ fn counted(n: usize) -> Result<u32, Refused>
 }
 
 /// A variable that is bound below so many other binders.
-fn bound_variable(alloc: Global, between: usize, x: &TypedName) -> Result<Term, Refused>
-    ensures { Answers (bound_variable between x.now) result }
+fn bound_variable(alloc: Global, between: usize, ty: &Shared<Ty>) -> Result<Term, Refused>
+    ensures { Answers (bound_variable between ty.now) result }
 {
     let between = counted(between)?;
-    let ty = x.ty.share()?;
+    let ty = ty.share()?;
     make::leaf(alloc, Head::Bound(between), ty).map_err(Refused::from)
+}
+
+/// What is bound there as a value, which a memory is none.
+fn bound_thing(alloc: Global, between: usize, kind: &Kind, place: Place) -> Result<Term, Refused>
+    ensures { Answers (bound_thing between place kind.now) result }
+{
+    match kind {
+        Kind::Value(ty) => bound_variable(alloc, between, ty),
+        Kind::Memory => Err(argument(place)),
+    }
 }
 
 /// The logical variable at this place of the context.
@@ -245,14 +256,14 @@ fn unbound(alloc: Global, at: &Setting<'_>, name: &Name, place: Place) -> Refuse
 pub fn named(
     alloc: Global,
     at: &Setting<'_>,
-    bound: &[TypedName],
+    bound: &[Binding],
     name: &Name,
     place: Place,
 ) -> Result<Term, Refused>
     ensures { Answers (named (environment at.now) bound.now name.now place) result }
 {
-    if let Some(x) = first_named(bound, name) {
-        return bound_variable(alloc, number_before(bound, name), x);
+    if let Some(x) = innermost(bound, name) {
+        return bound_thing(alloc, binders_inside(bound, name), &x.kind, place);
     }
     if let Some(x) = first_named(at.own(), name) {
         return program_variable(alloc, x, Side::Own);
@@ -267,15 +278,15 @@ pub fn named(
     }
 }
 
-/// Whether a logical variable, bound in the form or of the context, has this name.
-pub fn is_variable(at: &Setting<'_>, bound: &[TypedName], name: &Name) -> bool
+/// Whether what is bound in the form, or a logical variable of the context, has this name.
+pub fn is_variable(at: &Setting<'_>, bound: &[Binding], name: &Name) -> bool
     ensures { result ≡ is_variable (environment at.now) bound.now name.now }
 {
-    first_named(bound, name).is_some() || first_named(at.sequent.logical.as_slice(), name).is_some()
+    innermost(bound, name).is_some() || first_named(at.sequent.logical.as_slice(), name).is_some()
 }
 
 /// Whether a thing that is nearer than the declarations has this name.
-fn hidden(at: &Setting<'_>, bound: &[TypedName], name: &Name) -> bool
+fn hidden(at: &Setting<'_>, bound: &[Binding], name: &Name) -> bool
     ensures { result ≡ hidden (environment at.now) bound.now name.now }
 {
     is_variable(at, bound, name)
@@ -285,7 +296,7 @@ fn hidden(at: &Setting<'_>, bound: &[TypedName], name: &Name) -> bool
 }
 
 /// The built-in thing that a name means, where nothing else has it.
-pub fn known_at(at: &Setting<'_>, bound: &[TypedName], name: &Name) -> Option<Known>
+pub fn known_at(at: &Setting<'_>, bound: &[Binding], name: &Name) -> Option<Known>
     ensures { result ≡ known_at (environment at.now) bound.now name.now }
 {
     if hidden(at, bound, name) || at.scope.entry(name).is_some() {
@@ -296,7 +307,7 @@ pub fn known_at(at: &Setting<'_>, bound: &[TypedName], name: &Name) -> Option<Kn
 }
 
 /// The constant of an enumeration that a name means.
-pub fn constant_at<'a>(at: &Setting<'a>, bound: &[TypedName], name: &Name) -> Option<&'a Constant>
+pub fn constant_at<'a>(at: &Setting<'a>, bound: &[Binding], name: &Name) -> Option<&'a Constant>
     ensures { option_copied result ≡ constant_at (environment at.now) bound.now name.now }
 {
     if hidden(at, bound, name) {
@@ -309,7 +320,7 @@ pub fn constant_at<'a>(at: &Setting<'a>, bound: &[TypedName], name: &Name) -> Op
 /// The operator of the script that a name means.
 pub fn operator_at(
     at: &Setting<'_>,
-    bound: &[TypedName],
+    bound: &[Binding],
     name: &Name,
 ) -> Result<Option<OperatorType>, AllocError>
     ensures { IfOk result (λ found. found ≡ operator_at (environment at.now) bound.now name.now) }
@@ -322,7 +333,7 @@ pub fn operator_at(
 }
 
 /// Why a name means no variable of a program: something else has it, or nothing.
-fn no_variable(alloc: Global, at: &Setting<'_>, name: &Name, place: Place) -> Refused
+pub fn no_variable(alloc: Global, at: &Setting<'_>, name: &Name, place: Place) -> Refused
     ensures { Refuses (no_variable (environment at.now) name.now) place result }
 {
     let logical = at.sequent.logical.as_slice();
@@ -372,7 +383,7 @@ fn local_target(alloc: Global, local: &TypedName) -> Result<Target, AllocError>
 pub fn sided(
     alloc: Global,
     at: &Setting<'_>,
-    bound: &[TypedName],
+    bound: &[Binding],
     name: &Name,
     side: Side,
     place: Place,
@@ -385,11 +396,11 @@ pub fn sided(
     }
 }
 
-/// A variable of one of two programs, or a global.
-fn variable_on(
+/// One of these variables in a memory, or a global there.
+pub fn variable_on(
     alloc: Global,
     at: &Setting<'_>,
-    bound: &[TypedName],
+    bound: &[Binding],
     name: &Name,
     side: Side,
     place: Place,
@@ -397,7 +408,7 @@ fn variable_on(
 ) -> Result<Term, Refused>
     ensures { Answers (variable_on (environment at.now) bound.now name.now side place locals.now) result }
 {
-    if first_named(bound, name).is_some() {
+    if innermost(bound, name).is_some() {
         return Err(argument(place));
     }
     if let Some(x) = first_named(locals, name) {
@@ -406,46 +417,6 @@ fn variable_on(
     match global_at(alloc, at, name)? {
         Some(global) => global_variable(alloc, side, global),
         None => Err(no_variable(alloc, at, name, place)),
-    }
-}
-
-/// The refusal of a read through a named memory: no proof step that is built brings a local of one into a goal.
-///
-/// # Errors
-///
-/// `UnknownName` where there is no such memory and where nothing has the name, `Syntax` of a global, `Argument` where another thing has it.
-#[tactic(auto, unfolding(crate::specs::Names::in_memory))]
-fn in_memory(
-    alloc: Global,
-    at: &Setting<'_>,
-    name: &Name,
-    memory: &Node,
-    place: Place,
-) -> Result<Term, Refused>
-    ensures { Answers (in_memory (environment at.now) name.now memory.now place) result }
-{
-    if !is_among(at.sequent.memories.as_slice(), &memory.text) {
-        return Err(unknown(alloc, &memory.text, memory.place));
-    }
-    match global_at(alloc, at, name)? {
-        Some(_) => Err(not_built(place)),
-        None => Err(no_variable(alloc, at, name, place)),
-    }
-}
-
-/// The refusal of a read through a named memory. A program expression has none.
-fn remembered(
-    alloc: Global,
-    at: &Setting<'_>,
-    name: &Name,
-    memory: &Node,
-    place: Place,
-) -> Result<Term, Refused>
-    ensures { Answers (remembered (environment at.now) name.now memory.now place) result }
-{
-    match at.language {
-        Language::Formula | Language::Function => in_memory(alloc, at, name, memory, place),
-        Language::Program | Language::Sampled | Language::Operator => Err(argument(place)),
     }
 }
 
@@ -467,11 +438,11 @@ fn side_of(number: &Name, place: Place) -> Result<Side, Refused>
 ///
 /// # Errors
 ///
-/// Those of `sided`, and `UnknownName` and `Argument` of a memory's name, which no program expression has.
+/// Those of `sided`, and those of `memory_at`; `Argument` where the memory may not be read.
 pub fn beside(
     alloc: Global,
     at: &Setting<'_>,
-    bound: &[TypedName],
+    bound: &[Binding],
     name: &Name,
     behind: &Node,
     place: Place,
@@ -480,6 +451,6 @@ pub fn beside(
 {
     match behind.head {
         NodeHead::Number => sided(alloc, at, bound, name, side_of(&behind.text, place)?, place),
-        _ => remembered(alloc, at, name, behind, place),
+        _ => remembered(alloc, at, bound, name, behind, place),
     }
 }

@@ -2,8 +2,9 @@
 
 ghost use Rattle.std.specs.Prelude.{◌≡◌};
 ghost use Rattle.std.specs.Option.{option_copied};
-ghost use Rattle.gb_names.specs.Environment.{environment, ambient, unary, relational, of_function, of_operator, program, own_of, sampled, sampled_in, sides_of};
+ghost use Rattle.gb_names.specs.Environment.{environment, ambient, in_arguments, in_judgments, may_read, memories_seen, of_function, of_operator, own_of, program, reading, relational, sampled, sampled_in, sides_of, statement, unary};
 
+use gb_core::name::Name;
 use gb_goal::scope::Scope;
 use gb_goal::sequent::Sequent;
 use gb_terms::decl::{Module, TypedName};
@@ -11,14 +12,61 @@ use gb_terms::op::Side;
 use std::marker::Model;
 
 /// What the names of a form mean: the declarations of the script, the module around it as far as it is typed, the context of the
-/// sequent around it (an empty one where there is none), the program variables that it may read, and which language it is written in.
+/// sequent around it (an empty one where there is none), the program variables and the named memories that it may read, and which
+/// language it is written in.
 #[derive(Drop)]
 pub struct Setting<'a> {
     pub scope: &'a Scope,
     pub inside: Option<&'a Module>,
     pub sequent: &'a Sequent,
     pub variables: Variables<'a>,
+    pub memories: Memories<'a>,
     pub language: Language,
+}
+
+/// Of the named memories, those of the context and those that are bound in a form, the ones that it may read.
+#[derive(Clone, Copy)]
+pub enum Memories<'a> {
+    /// All of them.
+    All,
+    /// All of them, but none in the judgments in the form, as in the statement of a lemma.
+    Outside,
+    /// The one of this name, as in the arguments of a probability.
+    Only(&'a Name),
+    None,
+}
+
+impl<'a> Memories<'a> {
+    /// What the judgments in a form may read.
+    pub fn in_judgments(self) -> Memories<'a>
+        ensures { memories_seen result ≡ in_judgments (memories_seen self.entry) }
+    {
+        match self {
+            Memories::All => Memories::All,
+            _ => Memories::None,
+        }
+    }
+
+    /// What the arguments of a probability from the memory of this name may read.
+    pub fn in_arguments(self, name: &'a Name) -> Memories<'a>
+        ensures { memories_seen result ≡ in_arguments name.now (memories_seen self.entry) }
+    {
+        match self {
+            Memories::None => Memories::None,
+            _ => Memories::Only(name),
+        }
+    }
+
+    /// Whether the memory of this name may be read.
+    pub fn may_read(self, name: &Name) -> bool
+        ensures { result ≡ may_read (memories_seen self.entry) name.now }
+    {
+        match self {
+            Memories::All | Memories::Outside => true,
+            Memories::Only(other) => *other == *name,
+            Memories::None => false,
+        }
+    }
 }
 
 /// The program variables that are not globals and that a form may read, with their types.
@@ -106,7 +154,7 @@ impl<'a> Variables<'a> {
 }
 
 impl<'a> Setting<'a> {
-    /// The setting of a form that reads no program variable.
+    /// The setting of a form of a proof step that reads no program variable.
     pub fn ambient(scope: &'a Scope, sequent: &'a Sequent) -> Setting<'a>
         ensures { environment result ≡ ambient scope.now sequent.now }
     {
@@ -115,11 +163,12 @@ impl<'a> Setting<'a> {
             inside: None,
             sequent,
             variables: Variables::Absent,
+            memories: Memories::All,
             language: Language::Formula,
         }
     }
 
-    /// The setting of a form on one program with these variables.
+    /// The setting of a form of a proof step on one program with these variables.
     pub fn unary(scope: &'a Scope, sequent: &'a Sequent, variables: &'a [TypedName]) -> Setting<'a>
         ensures { environment result ≡ unary scope.now sequent.now variables.now }
     {
@@ -128,11 +177,12 @@ impl<'a> Setting<'a> {
             inside: None,
             sequent,
             variables: Variables::Own(Borrowed { list: variables }),
+            memories: Memories::All,
             language: Language::Formula,
         }
     }
 
-    /// The setting of a form on two programs with these variables.
+    /// The setting of a form of a proof step on two programs with these variables.
     pub fn relational(
         scope: &'a Scope,
         sequent: &'a Sequent,
@@ -147,7 +197,37 @@ impl<'a> Setting<'a> {
             inside: None,
             sequent,
             variables: Variables::Sides { left, right },
+            memories: Memories::All,
             language: Language::Formula,
+        }
+    }
+
+    /// The setting of the statement of a lemma.
+    pub fn statement(scope: &'a Scope, sequent: &'a Sequent) -> Setting<'a>
+        ensures { environment result ≡ statement scope.now sequent.now }
+    {
+        Setting::ambient(scope, sequent).reading(Memories::Outside)
+    }
+
+    /// The same setting, of a form that may read these named memories.
+    pub fn reading(self, memories: Memories<'a>) -> Setting<'a>
+        ensures { environment result ≡ reading (memories_seen memories.entry) (environment self.entry) }
+    {
+        let Setting {
+            scope,
+            inside,
+            sequent,
+            variables,
+            memories: _,
+            language,
+        } = self;
+        Setting {
+            scope,
+            inside,
+            sequent,
+            variables,
+            memories,
+            language,
         }
     }
 
@@ -166,6 +246,7 @@ impl<'a> Setting<'a> {
             inside: None,
             sequent,
             variables: Variables::Sides { left, right },
+            memories: Memories::All,
             language: Language::Function,
         }
     }
@@ -179,6 +260,7 @@ impl<'a> Setting<'a> {
             inside: None,
             sequent,
             variables: Variables::Absent,
+            memories: Memories::None,
             language: Language::Operator,
         }
     }
@@ -197,6 +279,7 @@ impl<'a> Setting<'a> {
             inside: Some(module),
             sequent,
             variables: Variables::Own(Borrowed { list: variables }),
+            memories: Memories::None,
             language: Language::Program,
         }
     }
@@ -210,6 +293,7 @@ impl<'a> Setting<'a> {
             inside: self.inside,
             sequent: self.sequent,
             variables: self.variables.borrow(),
+            memories: self.memories,
             language: self.language.sampled(),
         }
     }

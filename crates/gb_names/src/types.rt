@@ -10,6 +10,7 @@ ghost use Rattle.gb_names.specs.Types.{all_spelled, bits_type, bracketed_type, d
 
 use crate::names::path;
 use crate::refusals::{argument, mismatch, not_built, unknown};
+use gb_core::copy::copy_ty;
 use gb_core::name::Name;
 use gb_core::place::Place;
 use gb_core::refusal::Refused;
@@ -159,7 +160,7 @@ fn declared_type(alloc: Global, scope: &Scope, name: &Name, own: Place) -> Resul
     ensures { Answers (declared_type scope.now name.now own) result }
 {
     match scope.type_named(alloc, name)? {
-        Some(ty) => share(alloc, ty.get()).map_err(Refused::from),
+        Some(ty) => copy_ty(alloc, ty.get()).map_err(Refused::from),
         None => Err(no_type(alloc, scope, name, own)),
     }
 }
@@ -303,32 +304,5 @@ pub fn wanted(
         Ok(t)
     } else {
         Err(mismatch(place))
-    }
-}
-
-/// The same type, its parts shared.
-pub fn share(alloc: Global, ty: &Ty) -> Result<Ty, AllocError>
-    ensures { IfOk result (λ made. made ≡ ty.now) }
-{
-    match ty {
-        Ty::Unit => Ok(Ty::Unit),
-        Ty::Bool => Ok(Ty::Bool),
-        Ty::Bits(n) => Ok(Ty::Bits(*n)),
-        Ty::Mod(n) => Ok(Ty::Mod(*n)),
-        Ty::Enumeration { name, size } => {
-            let name = name.copy(alloc)?;
-            Ok(Ty::Enumeration { name, size: *size })
-        }
-        Ty::Tuple(parts) => Ok(Ty::Tuple(parts.share()?)),
-        Ty::Opt(inner) => Ok(Ty::Opt(inner.share()?)),
-        Ty::Map(key, value) => {
-            let key = key.share()?;
-            Ok(Ty::Map(key, value.share()?))
-        }
-        Ty::Abstract(name) => Ok(Ty::Abstract(name.copy(alloc)?)),
-        Ty::Glob(name) => Ok(Ty::Glob(name.copy(alloc)?)),
-        Ty::Distr(inner) => Ok(Ty::Distr(inner.share()?)),
-        Ty::Int => Ok(Ty::Int),
-        Ty::Real => Ok(Ty::Real),
     }
 }

@@ -10,13 +10,13 @@ use crate::drawn::{Drawn, source_wanted, value_wanted};
 use crate::kinds::{components, element, entries, is_of_values, outcome};
 use crate::operators::{Infix, first_wanted, operand_wanted, shaped, takes, wanted_type};
 use crate::rules::{Asked, Rule};
+use gb_core::copy::copy_ty;
 use gb_core::place::Place;
 use gb_core::refusal::Refused;
 use gb_core::ty::Ty;
 use gb_names::allowed::{distribution_here, stands, truth};
 use gb_names::refusals::{argument, mismatch};
 use gb_names::setting::Setting;
-use gb_names::types::share;
 use gb_shared::Shared;
 use gb_terms::term::Term;
 use std::alloc::Global;
@@ -263,7 +263,7 @@ fn product_asked(
         return Ok(Asked::Source(None));
     };
     let (first, second) = factors(ty, place)?;
-    let outcomes = share(alloc, if typed.is_empty() { first } else { second })?;
+    let outcomes = copy_ty(alloc, if typed.is_empty() { first } else { second })?;
     let side = Ty::Distr(Shared::new(alloc, outcomes)?);
     Ok(Asked::Source(Some(Shared::new(alloc, side)?)))
 }

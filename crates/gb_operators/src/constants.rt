@@ -8,6 +8,7 @@ ghost use Rattle.gb_terms.specs.Make.{applied, truth_literal};
 ghost use Rattle.gb_operators.specs.Constants.{constant, literal};
 
 use crate::kinds::{entries, inside_option};
+use gb_core::copy::copy_ty;
 use gb_core::place::Place;
 use gb_core::refusal::Refused;
 use gb_core::ty::Ty;
@@ -15,7 +16,7 @@ use gb_core::value::Value;
 use gb_goal::scope::Constant;
 use gb_names::names::{Known, unit};
 use gb_names::refusals::mismatch;
-use gb_names::types::{share, wanted};
+use gb_names::types::wanted;
 use gb_shared::Shared;
 use gb_terms::make;
 use gb_terms::op::Op;
@@ -62,7 +63,7 @@ fn truth(alloc: Global, value: bool) -> Result<Term, Refused>
 fn open_constant(alloc: Global, op: Op, ty: &Ty) -> Result<Term, Refused>
     ensures { Answers (given (applied op [] ty.now)) result }
 {
-    let ty = share(alloc, ty)?;
+    let ty = copy_ty(alloc, ty)?;
     let ty = Shared::new(alloc, ty)?;
     make::leaf(alloc, Head::Builtin(op), ty).map_err(Refused::from)
 }

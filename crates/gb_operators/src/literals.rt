@@ -10,6 +10,7 @@ ghost use Rattle.gb_goal.specs.Answers.Answer.{given};
 ghost use Rattle.gb_names.specs.Environment.{environment};
 ghost use Rattle.gb_operators.specs.Literals.{as_whole, bound_of, dividing, divisor_in, holds, is_divisor, number_in, numbering, numeral, part_number, with_divisors, with_numbers};
 
+use gb_core::copy::copy_ty;
 use gb_core::name::Name;
 use gb_core::place::Place;
 use gb_core::refusal::Refused;
@@ -19,7 +20,6 @@ use gb_limits::numbers::number;
 use gb_names::allowed::stands;
 use gb_names::refusals::{argument, not_built};
 use gb_names::setting::Setting;
-use gb_names::types::share;
 use gb_script::head::Head as NodeHead;
 use gb_script::tree::Node;
 use gb_shared::Shared;
@@ -65,7 +65,7 @@ fn as_whole(
 fn as_value(alloc: Global, n: u64, ty: &Ty) -> Result<Term, Refused>
     ensures { Answers (given (node (Lit (Num n)) [] ty.now)) result }
 {
-    let ty = share(alloc, ty)?;
+    let ty = copy_ty(alloc, ty)?;
     let ty = Shared::new(alloc, ty)?;
     make::leaf(alloc, Head::Lit(Value::Num(n)), ty).map_err(Refused::from)
 }

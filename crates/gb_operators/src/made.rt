@@ -11,6 +11,7 @@ use crate::drawn::{Drawn, drawn_head, drawn_result, too_large};
 use crate::kinds::{component, components, element, entries, is_small, outcome};
 use crate::operators::{Infix, Prefix, prefix_operator, prefix_result, result_type};
 use crate::rules::Rule;
+use gb_core::copy::copy_ty;
 use gb_core::name::Name;
 use gb_core::place::Place;
 use gb_core::refusal::Refused;
@@ -18,7 +19,6 @@ use gb_core::ty::{Ty, Tys};
 use gb_goal::scope::OperatorType;
 use gb_names::allowed::is_distribution;
 use gb_names::refusals::{argument, mismatch, not_built};
-use gb_names::types::share;
 use gb_same::types::same_types;
 use gb_shared::{Shared, SharedItems};
 use gb_terms::make;
@@ -50,7 +50,7 @@ fn types_of(alloc: Global, terms: &[Term]) -> Result<Tys, AllocError>
 {
     let mut all = Items::new(alloc);
     for t in terms {
-        all.push(share(alloc, t.ty.get())?)?;
+        all.push(copy_ty(alloc, t.ty.get())?)?;
     }
     Ok(all)
 }
@@ -80,7 +80,7 @@ fn part_type(
     };
     match component(parts, number) {
         Some(part) => {
-            let part = share(alloc, part)?;
+            let part = copy_ty(alloc, part)?;
             Shared::new(alloc, part).map_err(Refused::from)
         }
         None => Err(argument(digits)),
@@ -292,8 +292,8 @@ fn product_type(alloc: Global, left: &Ty, right: &Ty, place: Place) -> Result<Ty
         return Err(mismatch(place));
     };
     let mut types = Items::new(alloc);
-    types.push(share(alloc, first.get())?)?;
-    types.push(share(alloc, second.get())?)?;
+    types.push(copy_ty(alloc, first.get())?)?;
+    types.push(copy_ty(alloc, second.get())?)?;
     let pair = Ty::Tuple(SharedItems::new(alloc, types)?);
     if is_small(&pair) {
         Ok(Ty::Distr(Shared::new(alloc, pair)?))

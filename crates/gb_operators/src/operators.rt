@@ -12,6 +12,7 @@ use crate::kinds::{
     inside_option, is_arithmetic, is_of_bits, is_of_numbers, is_of_values, is_ordered, is_signed,
     outcome,
 };
+use gb_core::copy::copy_ty;
 use gb_core::name::Name;
 use gb_core::place::Place;
 use gb_core::refusal::Refused;
@@ -19,7 +20,6 @@ use gb_core::ty::Ty;
 use gb_names::allowed::{distribution_here, is_distribution, is_program, stands, truth};
 use gb_names::refusals::{argument, mismatch};
 use gb_names::setting::Setting;
-use gb_names::types::share;
 use gb_script::head::Head;
 use gb_shared::Shared;
 use gb_terms::op::Op;
@@ -231,7 +231,7 @@ fn option_wanted(
     if !is_of_values(ty) {
         return Err(mismatch(place));
     }
-    let inner = share(alloc, ty)?;
+    let inner = copy_ty(alloc, ty)?;
     let inner = Shared::new(alloc, inner)?;
     Ok(Some(Shared::new(alloc, Ty::Opt(inner))?))
 }
@@ -282,7 +282,7 @@ pub fn wanted_type(alloc: Global, want: Option<&Ty>) -> Result<Option<Shared<Ty>
     match want {
         None => Ok(None),
         Some(ty) => {
-            let ty = share(alloc, ty)?;
+            let ty = copy_ty(alloc, ty)?;
             Ok(Some(Shared::new(alloc, ty)?))
         }
     }

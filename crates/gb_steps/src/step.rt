@@ -2,7 +2,9 @@
 
 use gb_core::name::Name;
 use gb_core::place::Place;
-use gb_terms::term::{Form, Term, Terms};
+use gb_num::Frac;
+use gb_terms::term::{Form, RealTerm, Term, Terms};
+use sqlite_items::Items;
 
 /// A proof step. Its place is its first word, where the refusals of its rule stand.
 #[derive(Drop)]
@@ -16,9 +18,21 @@ pub struct Step {
 pub enum Rule {
     OnBodies(BodyRule),
     Relational(RelationalRule),
+    Chance(ChanceRule),
     Ambient(AmbientRule),
+    Use(UseRule),
     Smt,
+    Linear(Multiples),
 }
+
+/// A hypothesis, by its place in the goal, and the number by which it is multiplied: none where it is no fraction.
+#[derive(Clone, Copy)]
+pub struct Multiple {
+    pub hyp: usize,
+    pub factor: Option<Frac>,
+}
+
+pub type Multiples = Items<Multiple>;
 
 /// The programs of a goal on which a step acts: all of them, or one of two.
 #[derive(Clone, Copy)]
@@ -35,6 +49,14 @@ pub enum Cut {
     Two(u128, u128),
 }
 
+/// What takes the place of the conditions and the bound of a judgment; those stay for which nothing is said.
+#[derive(Drop)]
+pub struct Weakened {
+    pub pre: Option<Form>,
+    pub post: Option<Form>,
+    pub bound: Option<RealTerm>,
+}
+
 /// A rule on programs, for judgments of every kind.
 #[derive(Drop)]
 pub enum BodyRule {
@@ -46,6 +68,8 @@ pub enum BodyRule {
     Wp(Acts),
     /// The goal where a form holds before, and the goal where it doesn't.
     Case(Form),
+    /// The judgment with other conditions, to which the old ones lead and which lead to the old ones.
+    Conseq(Weakened),
     /// A step to which the form of the goal does not fit: its arguments have no types there.
     Unfit,
 }
@@ -56,6 +80,17 @@ pub enum RelationalRule {
     /// A coupling of two samplings by functions: none is the identity, one is its own inverse, two are a function and
     /// its inverse. Each function is a term in which the sampled value is the innermost bound variable.
     Rnd(Terms),
+    /// The programs exchange their places.
+    Symmetry,
+}
+
+/// A rule on judgments with a probability.
+#[derive(Clone, Copy)]
+pub enum ChanceRule {
+    /// A sampling at the end of the body.
+    Rnd,
+    /// From a probability to what always holds.
+    Hoare,
 }
 
 /// A rule on conclusions of every kind and the hypotheses around them.
@@ -89,4 +124,13 @@ pub enum AmbientRule {
     Trivial,
     /// No goals, where the conclusion is closed by its parts and the hypotheses.
     Done,
+}
+
+/// A rule that uses a form that is known at a goal.
+#[derive(Drop)]
+pub enum UseRule {
+    /// The conclusion follows from the form: its premises are shown.
+    Apply(Form),
+    /// The form is a hypothesis of this name.
+    Have(Name, Form),
 }

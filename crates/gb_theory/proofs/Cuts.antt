@@ -14,7 +14,7 @@ either-within : (b : Bool) (at size to end : ℕ) (later : Option ℕ) → 0 < s
 either-within true at size to end later some fits e h = let is : at + size ≡ to = cc in (omega arith, omega arith)
 either-within false at size to end later some fits e h = let more = h e in (omega arith, omega arith)
 
-final_among-within : (text : List ℕ) (n at to end : ℕ) → n ≤ length text → at + length text ≡ end + n → final_among at (pieces_after n text) ≡ Some to → (at < to) × (to ≤ end)
+pub final_among-within : (text : List ℕ) (n at to end : ℕ) → n ≤ length text → at + length text ≡ end + n → final_among at (pieces_after n text) ≡ Some to → (at < to) × (to ≤ end)
 unfolding pieces_after
 final_among-within [] n at to end within e found = absurd (cc)
 final_among-within (b ∷ rest) (suc n) at to end within e found =
@@ -25,7 +25,7 @@ final_among-within (b ∷ rest) zero at to end within e found =
     either-within (is_final (first_piece (b ∷ rest)).what) at (first_piece (b ∷ rest)).size to end _ fits.0 (omega arith) found
     (λ later. final_among-within rest ((first_piece (b ∷ rest)).size - 1) (at + (first_piece (b ∷ rest)).size) to end (omega arith) (omega arith) later)
 
-cut_at-final : (final : Option ℕ) (blank : Bool) (to : ℕ) → cut_at final blank ≡ Command to → final ≡ Some to
+pub cut_at-final : (final : Option ℕ) (blank : Bool) (to : ℕ) → cut_at final blank ≡ Command to → final ≡ Some to
 cut_at-final None true to e = absurd (cc)
 cut_at-final None false to e = absurd (cc)
 cut_at-final (Some end) blank to e = let is : end ≡ to = cc in cc

@@ -7,4 +7,5 @@ pub mod Outcomes
 pub mod Named
 pub mod Passed
 pub mod Read
+pub mod Shared
 pub mod Steps

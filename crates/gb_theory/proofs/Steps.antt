@@ -9,11 +9,13 @@ use Rattle.gb_goal.specs.Scope.{Declarations}
 use Rattle.gb_goal.specs.declared.sequent.Sequent.{Sequent}
 use Rattle.gb_steps.specs.declared.step.Rule.{Rule}
 use Rattle.gb_steps.specs.declared.step.Rule.TheVariants as rule
+use Rattle.gb_steps.specs.declared.step.Multiple.{Multiple}
 use Rattle.gb_steps.specs.declared.step.Step.{Step}
 use Rattle.gb_script.specs.declared.tree.Node.{Node}
 use Rattle.gb_goal.specs.Answers.{Answer, Answers, Gives, Fails, ◌>>=◌}
 use Rattle.gb_goal.specs.Rows.{stepped}
 use Rattle.gb_steps.specs.declared.step.AmbientRule.{AmbientRule}
+use Rattle.gb_steps.specs.declared.step.UseRule.{UseRule}
 use Rattle.gb_steps.specs.declared.step.BodyRule.{BodyRule}
 use Rattle.gb_steps.specs.declared.step.RelationalRule.{RelationalRule}
 use Rattle.gb_bodies.specs.Rows as bodies
@@ -23,6 +25,8 @@ use Rattle.gb_elab_mod.specs.Steps.{step_given}
 use Rattle.gb_smt.specs.Leaves.{leaves_of}
 use Rattle.gb_smt.specs.Apply.{IsResult}
 use Rattle.gb_amb.specs.Steps.{IsAnswer, Returns}
+use Rattle.gb_linear.specs.Closing.{linear_answer}
+use Rattle.gb_use.specs.Uses as uses
 use Rattle.gb_verdict.specs.Session.{Session, OpenProof, with_goals}
 use Rattle.gb_verdict.specs.Tactics.{Stepping, works}
 use Rattle.gb_verdict.specs.Commands.{After, allowed, row_of, Applied, AreRules, RuleAnswers, continued, WorksOn}
@@ -54,6 +58,18 @@ ambient_meets ds r b place q result is h =
     returned (Err ReadFault) h = h
     returned (Err (Script why at)) h = h
 
+-- what a step that uses a form gives is what is applied
+pub use_meets : (ds : Declarations) (r : Rule) (b : UseRule) (place : Place) (q : Sequent) (result : Result (List Sequent) Refused)
+    → r ≡ rule.Use b → Returns (uses.IsAnswer b place q) result → Meets (λ (x : List Sequent). x) (Applied ds r place q) result
+use_meets ds r b place q result is h =
+    subst (λ x. Meets (λ (y : List Sequent). y) (Applied ds x place q) result) (sym is) (returned result h)
+  where
+    returned : (result : Result (List Sequent) Refused) → Returns (uses.IsAnswer b place q) result → Meets (λ (x : List Sequent). x) (uses.IsAnswer b place q) result
+    returned (Ok qs) h = h
+    returned (Err NoMemory) h = h
+    returned (Err ReadFault) h = h
+    returned (Err (Script why at)) h = h
+
 -- what a row gives is what is applied
 pub body_meets : (ds : Declarations) (r : Rule) (b : BodyRule) (place : Place) (q : Sequent) (result : Result (List Sequent) Refused)
     → r ≡ rule.OnBodies b → Answers (stepped (bodies.rule_row ds r) place q) result → Meets (λ (x : List Sequent). x) (Applied ds r place q) result
@@ -66,6 +82,13 @@ pub relational_meets : (ds : Declarations) (r : Rule) (b : RelationalRule) (plac
 relational_meets ds r b place q result is h =
     subst (λ x. Answers (stepped (equiv.rule_row x) place q) result → Meets (λ (y : List Sequent). y) (Applied ds x place q) result) (sym is)
     (λ k. gives_meets (λ (x : List Sequent). x) (Applied ds (rule.Relational b) place q) (stepped (row_of ds (rule.Relational b)) place q) result k (λ x e. e)) h
+
+-- what multiples of hypotheses give is what is applied
+pub linear_meets : (ds : Declarations) (r : Rule) (ms : List Multiple) (place : Place) (q : Sequent) (result : Result (List Sequent) Refused)
+    → r ≡ rule.Linear ms → Answers (linear_answer ms place q) result → Meets (λ (x : List Sequent). x) (Applied ds r place q) result
+linear_meets ds r ms place q result is h =
+    subst (λ x. Meets (λ (y : List Sequent). y) (Applied ds x place q) result) (sym is)
+    (gives_meets (λ (x : List Sequent). x) (Applied ds (rule.Linear ms) place q) (linear_answer ms place q) result h (λ x e. e))
 
 -- what goes on from an answer that is given
 after_given : {X Y : Type 0} (P : X → Answer Y → Type 0) (a : Answer X) (x : X) (r : Answer Y) → a ≡ given x → P x r → After a P r

@@ -1,6 +1,6 @@
 // What a script has built so far.
 
-ghost use Rattle.std.specs.Prelude.{◌≡◌, [], true};
+ghost use Rattle.std.specs.Prelude.{◌≡◌, [], true, take, IfOk};
 ghost use Rattle.gb_theory.specs.Opened.{is_undeclared};
 
 use gb_core::name::{Name, Names};
@@ -8,7 +8,7 @@ use gb_goal::scope::Scope;
 use gb_goal::sequent::Sequent;
 use gb_steps::goals::Goals;
 use sqlite_items::Items;
-use std::alloc::Global;
+use std::alloc::{AllocError, Global};
 
 /// A lemma whose proof is open: what it states, the goals that are left, the first one first, and whether the word
 /// `proof` may still follow.
@@ -18,6 +18,48 @@ pub struct OpenProof {
     pub statement: Sequent,
     pub goals: Goals,
     pub fresh: bool,
+}
+
+/// One owner more of each goal.
+fn shared(alloc: Global, goals: &Goals) -> Result<Goals, AllocError>
+    ensures { IfOk result (λ made. made ≡ goals.now) }
+{
+    let mut made = Goals::new(alloc);
+    let mut at = goals.len();
+    while at > 0 {
+        at -= 1;
+        match goals.get(at) {
+            Some(goal) => made.push(goal.share()?)?,
+            None => {}
+        }
+    }
+    Ok(made)
+}
+
+impl OpenProof {
+    /// One owner more of all that the proof holds.
+    pub fn share(&self, alloc: Global) -> Result<OpenProof, AllocError>
+        ensures { IfOk result (λ proof. proof ≡ self.now) }
+    {
+        let name = self.name.copy(alloc)?;
+        let statement = self.statement.share()?;
+        let goals = shared(alloc, &self.goals)?;
+        Ok(OpenProof {
+            name,
+            statement,
+            goals,
+            fresh: self.fresh,
+        })
+    }
+}
+
+/// Lets go of all but the first few names.
+fn cut_back(names: &mut Names, count: usize)
+    ensures { names.new ≡ take count names.old }
+{
+    while names.len() > count {
+        let _last = names.pop();
+    }
 }
 
 /// The declarations, the open proof, and the names of the lemmas in the order in which they were proved.
@@ -41,5 +83,17 @@ impl State {
             proof: None,
             lemmas: Items::new(alloc),
         }
+    }
+
+    /// Goes back to the first few declarations and lemmas, and to the proof that was open then. It takes no memory.
+    pub fn restore(&mut self, declared: usize, proved: usize, proof: Option<OpenProof>)
+        requires { is_undeclared (take declared self.old.scope) proof ≡ true }
+        ensures scope { self.new.scope ≡ take declared self.old.scope }
+        ensures proof { self.new.proof ≡ proof }
+        ensures lemmas { self.new.lemmas ≡ take proved self.old.lemmas }
+    {
+        self.scope.truncate(declared);
+        self.proof = proof;
+        cut_back(&mut self.lemmas, proved);
     }
 }

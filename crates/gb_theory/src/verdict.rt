@@ -116,7 +116,7 @@ fn run_command(alloc: Global, state: &mut State, text: &[u8], at: Place) -> Resu
 }
 
 /// Reads one command text.
-fn read_command(alloc: Global, text: &[u8], at: Place) -> Result<Node, Refused>
+pub fn read_command(alloc: Global, text: &[u8], at: Place) -> Result<Node, Refused>
     requires size { length text.now < 2 ^ 31 }
     requires line { at.line + length text.now < 2 ^ 32 }
     requires column { at.col + length text.now < 2 ^ 32 }

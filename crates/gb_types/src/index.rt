@@ -32,7 +32,8 @@ fn place(ty: &Ty, v: &Value) -> u64
     }
 }
 
-fn number(v: &Value) -> u64
+/// The number that a value is, 0 for a value of parts.
+pub fn number(v: &Value) -> u64
     ensures { result ≡ number_of v.now }
 {
     match v {
@@ -41,7 +42,8 @@ fn number(v: &Value) -> u64
     }
 }
 
-fn parts(v: &Value) -> &[Value]
+/// The parts of a value, none of a number.
+pub fn parts(v: &Value) -> &[Value]
     ensures { result.now ≡ parts_of v.now }
 {
     match v {

@@ -8,6 +8,7 @@ use Rattle.gb_core.specs.declared.refusal.Why.TheVariants.{Character, NoGoal, Un
 use Rattle.gb_goal.specs.Scope.{Declarations}
 use Rattle.gb_goal.specs.declared.sequent.Sequent.{Sequent}
 use Rattle.gb_steps.specs.declared.step.AmbientRule.{AmbientRule}
+use Rattle.gb_steps.specs.declared.step.UseRule.{UseRule}
 use Rattle.gb_steps.specs.declared.step.Rule.{Rule}
 use Rattle.gb_steps.specs.declared.step.Rule.TheVariants as rule
 use Rattle.gb_lex.specs.Lex.{tokens_of, fault_of, IsCharacterFault, cut_of}
@@ -31,6 +32,8 @@ use Rattle.gb_smt.specs.declared.leaves.Leaf.{Leaf}
 use Rattle.gb_smt.specs.Leaves.{leaves_of}
 use Rattle.gb_smt.specs.Apply.{IsAnswerOf}
 use Rattle.gb_amb.specs.Steps.{IsAnswer}
+use Rattle.gb_linear.specs.Closing.{linear_answer}
+use Rattle.gb_use.specs.Uses as uses
 use Rattle.gb_verdict.specs.Session.{Session, OpenProof, fresh_session}
 use Rattle.gb_verdict.specs.Commands.{After, requires_files, assumes, brings, declares, opens, begun, ended, closed_unless, row_of, Applied, allowed, RuleAnswers, AreRules, continued, WorksOn, InProof, Proves, ComesToOf, ComesTo}
 use Rattle.gb_verdict.specs.Tactics.{Stepping, works}
@@ -51,12 +54,16 @@ in_proof (Some p) place P some = some p
 -- where `smt` finds something of all leaves
 module _
     (an_answer : (leaves : List Leaf) → (a : Option Why) × IsAnswerOf leaves a)
-    (some_answer : (r : AmbientRule) (place : Place) (q : Sequent) → (x : Answer (List Sequent)) × IsAnswer r place q x) where
+    (some_answer : (r : AmbientRule) (place : Place) (q : Sequent) → (x : Answer (List Sequent)) × IsAnswer r place q x)
+    (some_use_answer : (r : UseRule) (place : Place) (q : Sequent) → (x : Answer (List Sequent)) × uses.IsAnswer r place q x) where
   applied : (ds : Declarations) (r : Rule) (place : Place) (q : Sequent) → Some_of (Applied ds r place q)
   applied ds rule.Smt place q = let found = an_answer (leaves_of q) in (closed_unless found.0 place, (found.0, found.1, refl))
   applied ds (rule.OnBodies r) place q = (stepped (row_of ds (rule.OnBodies r)) place q, refl)
   applied ds (rule.Relational r) place q = (stepped (row_of ds (rule.Relational r)) place q, refl)
+  applied ds (rule.Chance r) place q = (stepped (row_of ds (rule.Chance r)) place q, refl)
   applied ds (rule.Ambient r) place q = some_answer r place q
+  applied ds (rule.Linear ms) place q = (linear_answer ms place q, refl)
+  applied ds (rule.Use r) place q = some_use_answer r place q
 
   rule_answers : (ds : Declarations) (t : Node) (q : Sequent) → Some_of (RuleAnswers ds t q)
   rule_answers ds t q =
@@ -94,7 +101,7 @@ module _
   come_of s c head.EndTheory parts = (refused NoGoal (place_of c), refl)
   come_of s c _ _ = (not_built (place_of c), refl)
 
-  command : (s : Session) (c : Node) → Some_of (ComesTo s c)
+  pub command : (s : Session) (c : Node) → Some_of (ComesTo s c)
   command s c =
       let x = come_of s c (head_of c) (parts_of c) in
       (placed_at (place_of c) x.0, (x.0, x.1, refl))
@@ -111,7 +118,7 @@ module _
         (λ (x : (why : Why) × (place : Place) × IsRefusal COMMAND t why place). (refused x.0 x.1, inr (faultless, x.2)))
         (read_or_refused COMMAND t (inl refl))
 
-    read : (piece : List ℕ) (at : Place) → Some_of (IsReadAs piece at)
+    pub read : (piece : List ℕ) (at : Place) → Some_of (IsReadAs piece at)
     read piece at =
         ⊎_elim (λ (faultless : fault_of piece ≡ None). read_text piece at faultless)
         (λ (x : (place : Place) × IsCharacterFault piece at (Script Character place)). (refused Character x.0, inl x.1))

@@ -9,6 +9,7 @@ use Rattle.gb_core.specs.declared.refusal.Why.TheVariants.{Character}
 use Rattle.gb_goal.specs.Scope.{Declarations}
 use Rattle.gb_goal.specs.declared.sequent.Sequent.{Sequent}
 use Rattle.gb_steps.specs.declared.step.AmbientRule.{AmbientRule}
+use Rattle.gb_steps.specs.declared.step.UseRule.{UseRule}
 use Rattle.gb_steps.specs.declared.step.Step.{Step}
 use Rattle.gb_steps.specs.declared.step.Rule.{Rule}
 use Rattle.gb_steps.specs.declared.step.Rule.TheVariants as rule
@@ -32,6 +33,7 @@ use Rattle.gb_smt.specs.declared.leaves.Leaf.{Leaf}
 use Rattle.gb_smt.specs.Leaves.{leaves_of}
 use Rattle.gb_smt.specs.Apply.{IsAnswerOf}
 use Rattle.gb_amb.specs.Steps.{IsAnswer}
+use Rattle.gb_use.specs.Uses as uses
 use Rattle.gb_verdict.specs.Session.{Session, OpenProof, fresh_session}
 use Rattle.gb_verdict.specs.Commands.{After, closed_unless, Applied, allowed, RuleAnswers, AreRules, continued, WorksOn, InProof, Proves, ComesToOf, ComesTo}
 use Rattle.gb_verdict.specs.Tactics.{Stepping, works}
@@ -52,13 +54,17 @@ in_proof_same (Some p) place P one r s h k = one p r s h k
 -- where what `smt` finds is one
 module _
     (one_answer : (leaves : List Leaf) (a b : Option Why) → IsAnswerOf leaves a → IsAnswerOf leaves b → a ≡ b)
-    (one_step_answer : (r : AmbientRule) (place : Place) (q : Sequent) (x y : Answer (List Sequent)) → IsAnswer r place q x → IsAnswer r place q y → x ≡ y) where
+    (one_step_answer : (r : AmbientRule) (place : Place) (q : Sequent) (x y : Answer (List Sequent)) → IsAnswer r place q x → IsAnswer r place q y → x ≡ y)
+    (one_use_answer : (r : UseRule) (place : Place) (q : Sequent) (x y : Answer (List Sequent)) → uses.IsAnswer r place q x → uses.IsAnswer r place q y → x ≡ y) where
   one_applied : (ds : Declarations) (r : Rule) (place : Place) (q : Sequent) (x y : Answer (List Sequent)) → Applied ds r place q x → Applied ds r place q y → x ≡ y
   one_applied ds rule.Smt place q x y h k =
       h.2 ∙ (ap (λ (found : Option Why). closed_unless found place) (one_answer (leaves_of q) h.0 k.0 h.1 k.1) ∙ sym k.2)
   one_applied ds (rule.OnBodies r) place q x y h k = h ∙ sym k
   one_applied ds (rule.Relational r) place q x y h k = h ∙ sym k
+  one_applied ds (rule.Chance r) place q x y h k = h ∙ sym k
   one_applied ds (rule.Ambient r) place q x y h k = one_step_answer r place q x y h k
+  one_applied ds (rule.Linear ms) place q x y h k = h ∙ sym k
+  one_applied ds (rule.Use r) place q x y h k = one_use_answer r place q x y h k
 
   -- the answer of a typed rule, within the limits of a goal
   abbrev Ruled : Declarations → Sequent → Step → Answer (List Sequent) → Type 0
@@ -122,6 +128,7 @@ one_pair v w p q e = ap (λ (x : Why). refused x p) e.0 ∙ ap (λ (x : Place). 
 module _
     (one_answer : (leaves : List Leaf) (a b : Option Why) → IsAnswerOf leaves a → IsAnswerOf leaves b → a ≡ b)
     (one_step_answer : (r : AmbientRule) (place : Place) (q : Sequent) (x y : Answer (List Sequent)) → IsAnswer r place q x → IsAnswer r place q y → x ≡ y)
+    (one_use_answer : (r : UseRule) (place : Place) (q : Sequent) (x y : Answer (List Sequent)) → uses.IsAnswer r place q x → uses.IsAnswer r place q y → x ≡ y)
     (one_spelled : (t : Text) (c d : Node) → SpellsCommand t c → SpellsCommand t d → c ≡ d)
     (one_refusal : (part : ℕ) (t : Text) (v w : Why) (p q : Place) → IsPart part → IsRefusal part t v p → IsRefusal part t w q → (v ≡ w) × (p ≡ q))
     (no_refusal : (part : ℕ) (t : Text) (w : Why) (p : Place) → IsPart part → IsAllowed part t → IsRefusal part t w p → ⊥) where
@@ -152,7 +159,7 @@ module _
   one_turn (cut.Command to) P Q one s at rest r t h k =
       let read : k.0 ≡ h.0 = one_read (take to rest) at k.0 h.0 k.1 h.1 in
       let came : RunsTo s h.0 k.2.0 = subst (λ (x : Answer Node). RunsTo s x k.2.0) read k.2.1 in
-      let next : k.2.0 ≡ h.2.0 = after_same h.0 (ComesTo s) (ComesTo s) (one_command one_answer one_step_answer s) k.2.0 h.2.0 came h.2.1 in
+      let next : k.2.0 ≡ h.2.0 = after_same h.0 (ComesTo s) (ComesTo s) (one_command one_answer one_step_answer one_use_answer s) k.2.0 h.2.0 came h.2.1 in
       after_same h.2.0 (λ (n : Session). P n (place_after at (take to rest)) (drop to rest)) (λ (n : Session). Q n (place_after at (take to rest)) (drop to rest))
       (λ n x y. one n (place_after at (take to rest)) (drop to rest) x y) r t h.2.2
       (subst (λ (y : Answer Session). After y (λ (n : Session). Q n (place_after at (take to rest)) (drop to rest)) t) next k.2.2)

@@ -20,9 +20,12 @@ use Rattle.gb_elab_mod.specs.Steps.{step_given}
 use Rattle.gb_goal.specs.Rows.{Row, refusing, stepped}
 use Rattle.gb_bodies.specs.Rows as bodies
 use Rattle.gb_equiv.specs.Rows as equiv
+use Rattle.gb_phoare.specs.Rows as chances
 use Rattle.gb_smt.specs.Leaves.{leaves_of}
 use Rattle.gb_smt.specs.Apply.{IsAnswerOf}
 use Rattle.gb_amb.specs.Steps as conclusions
+use Rattle.gb_linear.specs.Closing.{linear_answer}
+use Rattle.gb_use.specs.Uses as uses
 use Rattle.gb_verdict.specs.Limits.{declaration_limit, each_limit, all_limit}
 use Rattle.gb_verdict.specs.Tactics.{Stepping, works}
 use Rattle.gb_verdict.specs.Session.{Session, OpenProof, with_entries, with_module, with_lemma, with_goals, with_proved}
@@ -113,13 +116,16 @@ closed_unless (Some why) place = refused why place
 abbrev pub row_of : Declarations → Rule → Row
 row_of ds (rule.OnBodies r) = bodies.rule_row ds (rule.OnBodies r)
 row_of ds (rule.Relational r) = equiv.rule_row (rule.Relational r)
+row_of ds (rule.Chance r) = chances.rule_row ds (rule.Chance r)
 row_of ds _ = λ G. refusing Shape
 
 -- What a rule gives for a goal: its subgoals, or why it refuses the goal. What `smt` finds has one answer, and so has a step on a
--- conclusion.
+-- conclusion, or one that uses a form.
 abbrev pub Applied : Declarations → Rule → Place → Sequent → Answer (List Sequent) → Type 0
 Applied ds rule.Smt place q x = (found : Option Why) × IsAnswerOf (leaves_of q) found × (x ≡ closed_unless found place)
 Applied ds (rule.Ambient r) place q x = conclusions.IsAnswer r place q x
+Applied ds (rule.Linear ms) place q x = x ≡ linear_answer ms place q
+Applied ds (rule.Use r) place q x = uses.IsAnswer r place q x
 Applied ds r place q x = x ≡ stepped (row_of ds r) place q
 
 -- What a rule of a text answers at a goal, with its arguments typed there: its subgoals, each within the limits of a goal.

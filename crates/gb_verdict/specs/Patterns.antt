@@ -9,7 +9,7 @@ use Rattle.gb_goal.specs.declared.sequent.Sequent.{Sequent}
 use Rattle.gb_script.specs.declared.head.Head.{Head}
 use Rattle.gb_script.specs.declared.head.Head.TheVariants as head
 use Rattle.gb_script.specs.declared.tree.Node.{Node, para-Node}
-use Rattle.gb_elab_mod.specs.Steps.{is_taken}
+use Rattle.gb_elab_mod.specs.Taken.{is_taken}
 
 abbrev pub is_pattern : Head → Bool
 is_pattern head.Name = true

@@ -7,8 +7,9 @@ ghost use Rattle.gb_script.specs.declared.tree.Node.{Node};
 ghost use Rattle.gb_goal.specs.Scope.{Declarations};
 ghost use Rattle.gb_goal.specs.declared.sequent.Sequent.{Sequent};
 ghost use Rattle.gb_verdict.specs.Tactics.{Stepping};
-ghost use Rattle.gb_verdict.specs.Commands.{AreRules, RuleAnswers};
-ghost use Rattle.gb_verdict.specs.Verdict.{IsOutcome};
+ghost use Rattle.gb_core.specs.declared.place.Place.{Place};
+ghost use Rattle.gb_verdict.specs.Commands.{AreRules, ComesTo, RuleAnswers};
+ghost use Rattle.gb_verdict.specs.Verdict.{IsOutcome, IsReadAs};
 
 use gb_amb::laws::answers;
 use gb_lex::laws::{commands_have_bytes, each_fault_has_a_place};
@@ -16,6 +17,7 @@ use gb_read_script::laws::{
     commands_are_unique, each_text_is_read_or_refused, refusals_are_unique,
 };
 use gb_smt::laws::{there_is_an_answer, there_is_one_answer};
+use gb_use::laws::answers_of_uses;
 
 /// A script comes to one thing at most: to one session, or to one refusal at one place.
 pub fn one_outcome()
@@ -25,6 +27,7 @@ pub fn one_outcome()
     refusals_are_unique();
     there_is_one_answer();
     answers();
+    answers_of_uses();
 }
 
 /// Each script comes to something: to a session, or to a refusal at a place.
@@ -33,6 +36,20 @@ pub fn each_text_has_an_outcome()
 {
     there_is_an_answer();
     answers();
+    answers_of_uses();
+    each_fault_has_a_place();
+    each_text_is_read_or_refused();
+    commands_have_bytes();
+}
+
+/// Each command comes to something at each session, and the text of a command is read as something.
+pub fn commands_have_answers()
+    ensures runs { (s : Session) (c : Node) → (r : Answer Session) × ComesTo s c r }
+    ensures read { (text : List ℕ) (at : Place) → (r : Answer Node) × IsReadAs text at r }
+{
+    there_is_an_answer();
+    answers();
+    answers_of_uses();
     each_fault_has_a_place();
     each_text_is_read_or_refused();
     commands_have_bytes();
@@ -46,4 +63,5 @@ pub fn rules_have_answers()
     there_is_an_answer();
     there_is_one_answer();
     answers();
+    answers_of_uses();
 }

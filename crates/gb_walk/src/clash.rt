@@ -32,14 +32,14 @@ fn clashes_beside(x: &Var, y: &Var) -> bool
 }
 
 /// The order of variables.
-fn comes_before(x: &Var, y: &Var) -> bool
+pub fn comes_before(x: &Var, y: &Var) -> bool
     ensures { result ≡ comes_before x.now y.now }
 {
     x < y
 }
 
 /// The lesser of a variable and what was found before.
-fn lesser<'a>(found: Option<&'a Var>, var: &'a Var) -> Option<&'a Var>
+pub fn lesser<'a>(found: Option<&'a Var>, var: &'a Var) -> Option<&'a Var>
     ensures { option_copied result ≡ lesser (option_copied found.entry) var.now }
 {
     match found {

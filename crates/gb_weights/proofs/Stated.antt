@@ -2,7 +2,7 @@
 use Rattle.std.proofs.Common.{◌≡◌, List, [], ◌∷◌, ◌++◌, Option, ◌∙◌}
 use Rattle.gb_core.specs.declared.place.Place.{Place}
 use Rattle.gb_core.specs.declared.ty.Ty.{Ty}
-use Rattle.gb_terms.specs.declared.decl.TypedName.{TypedName}
+use Rattle.gb_names.specs.declared.bindings.Binding.{Binding}
 use Rattle.gb_terms.specs.declared.term.Pair.{Pair}
 use Rattle.gb_script.specs.declared.tree.Node.{Node}
 use Rattle.gb_script.specs.Tree.{parts_of, place_of}
@@ -17,12 +17,12 @@ use Rattle.gb_operators.specs.Operators.{part_wanted}
 use Rattle.gb_weights.specs.Weights.{outcomes, stated, weighed, weighed_all, weights}
 
 -- one entry, and those behind it
-pub entry_then : (at : Environment) (bound : List TypedName) (t : Ty) (ps : List Pair) (x : Node) (xs : List Node) (q : Pair) → weighed at bound t ps (parts_of x) (place_of x) ≡ given q
+pub entry_then : (at : Environment) (bound : List Binding) (t : Ty) (ps : List Pair) (x : Node) (xs : List Node) (q : Pair) → weighed at bound t ps (parts_of x) (place_of x) ≡ given q
     → weighed_all at bound t ps (x ∷ xs) ≡ weighed_all at bound t (ps ++ q ∷ []) xs
 unfolding weighed_all
 entry_then at bound t ps x xs q h = leads_on (weighed at bound t ps (parts_of x) (place_of x)) (λ q. weighed_all at bound t (ps ++ q ∷ []) xs) q h
 
-module _ (xs : List Node) (p : Place) (at : Environment) (bound : List TypedName) (w : Option Ty) where
+module _ (xs : List Node) (p : Place) (at : Environment) (bound : List Binding) (w : Option Ty) where
   pub weights_is : (x : Unit {0}) (v : Option Ty) (t : Ty) (ps : List Pair) → distribution_here at w p ≡ given x → part_wanted outcome w p ≡ given v → outcomes at bound v xs p ≡ given t
       → weighed_all at bound t [] xs ≡ given ps → weights xs p at bound w ≡ wanted w p (stated t ps)
   weights_is x v t ps h k l m =

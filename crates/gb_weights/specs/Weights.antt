@@ -11,7 +11,7 @@ use Rattle.gb_core.specs.declared.value.Value.TheOpen as layer
 use Rattle.gb_core.specs.declared.value.Value.TheVariants.{Num}
 use Rattle.gb_same.specs.Types.{ty_eq}
 use Rattle.gb_limits.specs.Numbers.{number_of}
-use Rattle.gb_terms.specs.declared.decl.TypedName.{TypedName}
+use Rattle.gb_names.specs.declared.bindings.Binding.{Binding}
 use Rattle.gb_terms.specs.declared.term.Pair.{Pair}
 use Rattle.gb_terms.specs.declared.term.Term.{Term}
 use Rattle.gb_terms.specs.declared.term.Head.TheVariants.{Weights}
@@ -38,13 +38,13 @@ built_in_constant known.Unit p = given (record { ty = ty.Unit; number = 0 })
 built_in_constant _ p = refused Argument p
 
 -- a name of another thing, or of none
-abbrev pub no_constant : Environment → List TypedName → Name → Place → Answer Constant
+abbrev pub no_constant : Environment → List Binding → Name → Place → Answer Constant
 no_constant at bound x p = do
   _ ← named at bound x p
   refused Argument p
 
 -- the constant that a name means: one of an enumeration, or a built-in one
-abbrev pub constant_of : Environment → List TypedName → Name → Place → Answer Constant
+abbrev pub constant_of : Environment → List Binding → Name → Place → Answer Constant
 constant_of at bound x p =
     option_map_or given (constant_at at bound x)
     (option_map_or (λ k. built_in_constant k p) (known_at at bound x) (no_constant at bound x p))
@@ -58,7 +58,7 @@ abbrev pub is_weighed : ℕ → List Pair → Bool
 is_weighed n ps = list_any (λ p. has_number_layer n (out-Value p.value)) ps
 
 -- a constant of this type that has no weight yet
-abbrev pub new_constant : Environment → List TypedName → Ty → List Pair → Name → Place → Answer Constant
+abbrev pub new_constant : Environment → List Binding → Ty → List Pair → Name → Place → Answer Constant
 new_constant at bound t ps x p = do
   k ← constant_of at bound x p
   if ty_eq k.ty t then (if is_weighed k.number ps then refused (DoubleName x) p else given k) else refused TypeMismatch p
@@ -78,7 +78,7 @@ weight_in ps x p =
     if nat_lt (number_of x) (2 ^ 127) then (if nat_lt 0 (number_of x) then added (sum_of ps) (number_of x) p else refused Argument p) else not_built p
 
 -- a constant and its weight, beside others
-abbrev pub weighed : Environment → List TypedName → Ty → List Pair → List Node → Place → Answer Pair
+abbrev pub weighed : Environment → List Binding → Ty → List Pair → List Node → Place → Answer Pair
 weighed at bound t ps (c ∷ n ∷ []) p = do
   k ← new_constant at bound t ps (text_of c) (place_of c)
   m ← weight_in ps (text_of n) (place_of n)
@@ -86,21 +86,21 @@ weighed at bound t ps (c ∷ n ∷ []) p = do
 weighed at bound t ps _ p = not_built p
 
 -- constants with their weights, behind those that came before
-unfoldable pub weighed_all : Environment → List TypedName → Ty → List Pair → List Node → Answer (List Pair)
+unfoldable pub weighed_all : Environment → List Binding → Ty → List Pair → List Node → Answer (List Pair)
 weighed_all at bound t ps [] = given ps
 weighed_all at bound t ps (x ∷ xs) = do
   q ← weighed at bound t ps (parts_of x) (place_of x)
   weighed_all at bound t (ps ++ q ∷ []) xs
 
 -- the type of the constant that a weight is stated of
-abbrev pub type_of_entry : Environment → List TypedName → List Node → Place → Answer Ty
+abbrev pub type_of_entry : Environment → List Binding → List Node → Place → Answer Ty
 type_of_entry at bound (c ∷ ns) p = do
   k ← constant_of at bound (text_of c) (place_of c)
   given k.ty
 type_of_entry at bound [] p = not_built p
 
 -- the type of the outcomes: the wanted one, or that of the first constant
-abbrev pub outcomes : Environment → List TypedName → Option Ty → List Node → Place → Answer Ty
+abbrev pub outcomes : Environment → List Binding → Option Ty → List Node → Place → Answer Ty
 outcomes at bound w [] p = not_built p
 outcomes at bound (Some t) (x ∷ xs) p = given t
 outcomes at bound None (x ∷ xs) p = type_of_entry at bound (parts_of x) (place_of x)
@@ -110,7 +110,7 @@ abbrev pub stated : Ty → List Pair → Term
 stated t ps = node (Weights ps) [] (ty.Distr t)
 
 -- `weights [A : 1; B : 3]`
-abbrev pub weights : List Node → Place → Environment → List TypedName → Option Ty → Answer Term
+abbrev pub weights : List Node → Place → Environment → List Binding → Option Ty → Answer Term
 weights xs p at bound w = do
   _ ← distribution_here at w p
   v ← part_wanted outcome w p

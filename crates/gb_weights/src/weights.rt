@@ -17,6 +17,7 @@ use gb_core::value::Value;
 use gb_goal::scope::Constant;
 use gb_limits::numbers::number;
 use gb_names::allowed::distribution_here;
+use gb_names::bindings::Binding;
 use gb_names::names::{Known, constant_at, known_at, named};
 use gb_names::refusals::{argument, double, mismatch, not_built};
 use gb_names::setting::Setting;
@@ -25,7 +26,6 @@ use gb_operators::operators::outcome_wanted;
 use gb_same::types::same_types;
 use gb_script::tree::Node;
 use gb_shared::{Shared, SharedItems};
-use gb_terms::decl::TypedName;
 use gb_terms::make;
 use gb_terms::term::{DistTerm, Head, Pair, Pairs, Term};
 use sqlite_items::Items;
@@ -69,7 +69,7 @@ fn shared(constant: &Constant) -> Result<Constant, Refused>
 fn no_constant(
     alloc: Global,
     at: &Setting<'_>,
-    bound: &[TypedName],
+    bound: &[Binding],
     name: &Name,
     place: Place,
 ) -> Refused
@@ -85,7 +85,7 @@ fn no_constant(
 fn constant_of(
     alloc: Global,
     at: &Setting<'_>,
-    bound: &[TypedName],
+    bound: &[Binding],
     name: &Name,
     place: Place,
 ) -> Result<Constant, Refused>
@@ -126,7 +126,7 @@ fn has_number(number: u64, value: &Value) -> bool
 fn new_constant(
     alloc: Global,
     at: &Setting<'_>,
-    bound: &[TypedName],
+    bound: &[Binding],
     ty: &Ty,
     pairs: &[Pair],
     name: &Name,
@@ -182,7 +182,7 @@ fn weight_in(pairs: &[Pair], sum: u128, digits: &Node) -> Result<u128, Refused>
 fn weighed(
     alloc: Global,
     at: &Setting<'_>,
-    bound: &[TypedName],
+    bound: &[Binding],
     ty: &Ty,
     pairs: &[Pair],
     sum: u128,
@@ -212,7 +212,7 @@ fn weighed(
 fn weighed_all(
     alloc: Global,
     at: &Setting<'_>,
-    bound: &[TypedName],
+    bound: &[Binding],
     ty: &Ty,
     entries: &[Node],
 ) -> Result<Pairs, Refused>
@@ -242,7 +242,7 @@ fn weighed_all(
 fn type_of_entry(
     alloc: Global,
     at: &Setting<'_>,
-    bound: &[TypedName],
+    bound: &[Binding],
     parts: &[Node],
     place: Place,
 ) -> Result<Shared<Ty>, Refused>
@@ -258,7 +258,7 @@ fn type_of_entry(
 fn outcomes(
     alloc: Global,
     at: &Setting<'_>,
-    bound: &[TypedName],
+    bound: &[Binding],
     want: Option<Shared<Ty>>,
     entries: &[Node],
     place: Place,
@@ -293,7 +293,7 @@ fn stated(alloc: Global, outcomes: Shared<Ty>, pairs: Pairs) -> Result<DistTerm,
 pub fn weights(
     alloc: Global,
     at: &Setting<'_>,
-    bound: &[TypedName],
+    bound: &[Binding],
     entries: &[Node],
     want: Option<&Ty>,
     place: Place,

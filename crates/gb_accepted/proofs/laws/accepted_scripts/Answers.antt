@@ -12,7 +12,8 @@ returns c =
         free = c.statements.ensures.free;
         lemma_added = c.lemmas.ensures;
         body_rule = c.typed_rules.ensures.bodies;
-        conclusion = c.typed_forms.ensures;
+        conclusion = c.typed_forms.ensures.conclusions;
+        used = c.typed_forms.ensures.uses;
         rule = c.typed_rules.ensures.relational;
       };
       rules = record {
@@ -25,8 +26,12 @@ returns c =
         bodies_refuse = c.other_forms.ensures;
         equiv_refuses = c.other_goals.ensures;
         relational = c.relational_rules.ensures;
+        chances = c.chance_rules.ensures;
+        chances_refuse = c.no_judgments.ensures;
         on_conclusions = c.steps.ensures;
+        on_uses = c.sound_uses.ensures;
         smt = c.sound_smt.ensures;
+        linear = c.linear_is_sound.ensures;
       };
       models = record { model = c.typed_scopes_have_models.ensures.model; coupled = c.equivalences_give_couplings.ensures.coupled };
     })

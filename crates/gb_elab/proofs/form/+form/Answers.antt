@@ -1,8 +1,8 @@
 -- Each head's answer, by the lemma of that head.
-use Rattle.std.proofs.Common.{rules, ◌≡◌, [], ◌∷◌, ◌++◌, ◌+◌, drop, ap, sym, ◌∙◌, arith}
+use Rattle.std.proofs.Common.{rules, ◌≡◌, [], ◌∷◌, ◌++◌, ◌+◌, ◌-◌, drop, length, slice_get, ap, sym, ◌∙◌, arith}
 use Rattle.std.proofs.lemmas.List.{drop_all}
 use Rattle.std.specs.Option.{option_copied}
-use Rattle.gb_core.specs.declared.refusal.Why.TheVariants.{TypeMismatch}
+use Rattle.gb_core.specs.declared.refusal.Why.TheVariants.{Syntax, TypeMismatch}
 use Rattle.gb_script.specs.Tree.{head_of, parts_of, text_of, place_of}
 use Rattle.gb_script.specs.declared.tree.Node.{size-Node}
 use Rattle.gb_goal.specs.Answers.{◌>>=◌}
@@ -14,10 +14,11 @@ use Rattle.gb_names.specs.Wanted.{wanted}
 use Rattle.gb_names.proofs.Answers.{answers_as, fails_as, refuses_as}
 use Rattle.gb_names.proofs.Parts.{four, left, three, two}
 use Rattle.gb_operators.specs.Rules.{made}
-use Rattle.gb_elab.specs.Forms.{applied, bounded, contract, contracting, equivalence, from_right, function_typing, operation, typing, with_meanings}
-use Rattle.gb_elab.proofs.Arms.{name_is, path_is, number_is, unit_is, bracketed_is, sided_is, coin_is, function_is, typed_is, tuple_is, component_is, branches_is, get_is, set_is, product_is, uniform_is, weights_is, apply_is, equalities_is, quantified_is, equiv_is, equivalence_is, hoare_is, phoare_is, bounded_is, bounded_is_by, lossless_is, contract_is, other_contract, other_form}
+use Rattle.gb_elab.specs.Forms.{applied, bounded, contract, contracting, equivalence, from_right, function_typing, operation, typing, with_meanings, listed, probability}
+use Rattle.gb_elab.proofs.Arms.{name_is, path_is, number_is, unit_is, bracketed_is, sided_is, coin_is, function_is, typed_is, tuple_is, component_is, branches_is, get_is, set_is, product_is, uniform_is, weights_is, apply_is, equalities_is, quantified_is, equiv_is, equivalence_is, hoare_is, phoare_is, bounded_is, bounded_is_by, lossless_is, contract_is, other_contract, other_form, probability_is}
 use Rattle.gb_elab.proofs.Functions as functions
-use Rattle.gb_elab.proofs.Elaborated.{contract_of_is, elaborated_is, function_of_is}
+use Rattle.gb_elab.proofs.Called.{call_is, list_is, no_list, other_call, probability_is_by}
+use Rattle.gb_elab.proofs.Elaborated.{arguments_of_is, contract_of_is, elaborated_is, function_of_is}
 use Rattle.gb_elab.proofs.Applied.{by_name, by_path, rest_is, rest_most}
 use Rattle.gb_elab.proofs.Operands.{at_end, behind, next_of, of_one, of_two, refuses}
 use Rattle.gb_elab.proofs.form.+form.Goals as goal
@@ -130,11 +131,15 @@ pub typing-returns-in-Lossless : goal.typing-returns-in-Lossless
 typing-returns-in-Lossless t c =
     answers_as _ _ c.lossless.result (lossless_is c.args.head c.args.text.now c.args.parts.now c.args.place (environment c.args.at.now) c.args.bound.now (option_copied c.args.want) c.in-Lossless.is) (c.lossless.ensures)
 
+pub typing-returns-in-Probability : goal.typing-returns-in-Probability
+typing-returns-in-Probability t c =
+    answers_as _ _ c.probability.result (probability_is c.args.head c.args.text.now c.args.parts.now c.args.place (environment c.args.at.now) c.args.bound.now (option_copied c.args.want) c.in-Probability.is) (c.probability.ensures)
+
 pub typing-returns-in_default : goal.typing-returns-in_default
 typing-returns-in_default t c =
     let n = c.in_default in
     answers_as _ _ c.operation.result
-    (other_form c.args.head c.args.text.now (with_meanings c.args.parts.now) c.args.place (environment c.args.at.now) c.args.bound.now (option_copied c.args.want) n.not-Name n.not-Path n.not-Number n.not-Unit n.not-Bracketed n.not-Sided n.not-Coin n.not-Function n.not-TypedFunction n.not-Typed n.not-Tuple n.not-Component n.not-Conditional n.not-Chosen n.not-Get n.not-Set n.not-PowerProduct n.not-Uniform n.not-Weights n.not-Apply n.not-Equalities n.not-Quantified n.not-Equiv n.not-Hoare n.not-Phoare n.not-Bounded n.not-Lossless
+    (other_form c.args.head c.args.text.now (with_meanings c.args.parts.now) c.args.place (environment c.args.at.now) c.args.bound.now (option_copied c.args.want) n.not-Name n.not-Path n.not-Number n.not-Unit n.not-Bracketed n.not-Sided n.not-Coin n.not-Function n.not-TypedFunction n.not-Typed n.not-Tuple n.not-Component n.not-Conditional n.not-Chosen n.not-Get n.not-Set n.not-PowerProduct n.not-Uniform n.not-Weights n.not-Apply n.not-Equalities n.not-Quantified n.not-Equiv n.not-Hoare n.not-Phoare n.not-Bounded n.not-Lossless n.not-Probability
     ∙ ap (λ o. operation o (with_meanings c.args.parts.now) c.args.place (environment c.args.at.now) c.args.bound.now (option_copied c.args.want)) (sym c.operator_of.ensures))
     c.operation.ensures
 
@@ -274,6 +279,51 @@ contract-returns-in_ok-pre-in-len3 t c =
     ∙ contract_is c.f-item.result c.pre-item.result c.post-item.result c.args.place at c.args.bound.now (named.reference, named.procedure.now) c.in_ok-pre-in-len3.pre
     c.in_ok-named-in-len3.ensures c.in_ok-pre-in-len3.ensures)
     c.with_result.ensures
+
+pub probability-returns-in_ok-arguments-in-len3 : goal.probability-returns-in_ok-arguments-in-len3
+probability-returns-in_ok-arguments-in-len3 t c =
+    let at = environment c.args.at.now in
+    let w = option_copied c.args.want in
+    let named = c.in_ok-named-in-len3.named in
+    let e = three c.args.parts.now c.call-item.result c.memory-item.result c.event-item.result c.in-len3.len_at_least c.in-len3.len_below c.call-item.is c.memory-item.is c.event-item.is in
+    answers_as _ _ c.from_memory.result
+    (ap (λ ps. probability (with_meanings ps) c.args.place at c.args.bound.now w) e
+    ∙ probability_is_by c.call-item.result c.memory-item.result c.event-item.result c.args.place at c.args.bound.now w c.in_ok-chance_here-in-len3.field-0 (named.reference, named.procedure.now)
+    c.in_ok-arguments-in-len3.arguments c.in_ok-chance_here-in-len3.ensures c.in_ok-named-in-len3.ensures c.in_ok-arguments-in-len3.ensures)
+    c.from_memory.ensures
+
+pub arguments_of-returns-in-List : goal.arguments_of-returns-in-List
+arguments_of-returns-in-List t c =
+    let at = environment c.args.at.now in
+    answers_as _ _ c.listed.result
+    (list_is c.args.t.now c.args.params.now c.args.place at c.args.bound.now c.in-List.is
+    ∙ ap (λ ps. listed c.args.place at c.args.bound.now c.args.params.now (with_meanings ps)) (sym c.as_slice-in-List.ensures))
+    c.listed.ensures
+
+pub arguments_of-returns-in-Some : goal.arguments_of-returns-in-Some
+arguments_of-returns-in-Some t c =
+    let there =
+    sym (ap (λ ps. slice_get ps (length ps - 1)) c.as_slice.ensures) ∙ (sym c.last.ensures.value ∙ ap option_copied c.in-Some.is) in
+    answers_as _ _ c.arguments_of.result
+    (call_is c.args.t.now c.args.params.now c.args.place (environment c.args.at.now) c.args.bound.now c.in-Some.list.now c.in-Call.is there)
+    c.arguments_of.ensures
+
+pub arguments_of-returns-in-None : goal.arguments_of-returns-in-None
+arguments_of-returns-in-None t c =
+    let there =
+    sym (ap (λ ps. slice_get ps (length ps - 1)) c.as_slice.ensures) ∙ (sym c.last.ensures.value ∙ ap option_copied c.in-None.is) in
+    refuses_as _ c.not_built.result Syntax c.args.place
+    (no_list c.args.t.now c.args.params.now c.args.place (environment c.args.at.now) c.args.bound.now c.in-Call.is there)
+    c.not_built.ensures
+
+pub arguments_of-returns-in_default : goal.arguments_of-returns-in_default
+arguments_of-returns-in_default t c =
+    let at = environment c.args.at.now in
+    let n = c.in_default in
+    refuses_as _ c.not_built-in_default.result Syntax c.args.place
+    (arguments_of_is c.args.t.now c.args.params.now c.args.place at c.args.bound.now
+    ∙ other_call (head_of c.args.t.now) (with_meanings (parts_of c.args.t.now)) c.args.params.now c.args.place at c.args.bound.now n.not-Call n.not-List)
+    c.not_built-in_default.ensures
 
 pub function_of-returns : goal.function_of-returns
 function_of-returns t c =

@@ -1,5 +1,5 @@
-use Rattle.gb_elab_laws.proofs.Brought.{step_forms}
+use Rattle.gb_elab_laws.proofs.Brought.{steps_typed, uses_typed}
 use Rattle.gb_elab_laws.proofs.step_laws.typed_forms.Goals as goal
 
 pub returns : goal.returns
-returns x = step_forms
+returns x = record { conclusions = steps_typed; uses = uses_typed }

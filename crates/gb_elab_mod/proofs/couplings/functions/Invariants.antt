@@ -3,7 +3,7 @@ use Rattle.gb_goal.specs.Answers.{◌>>=◌}
 use Rattle.gb_goal.specs.Answers.Answer.{given}
 use Rattle.gb_names.specs.Environment.{environment}
 use Rattle.gb_elab_mod.specs.Steps.{functions}
-use Rattle.gb_elab_prog.proofs.Gathered.{behind}
+use Rattle.gb_elab_stmt.proofs.Gathered.{behind}
 use Rattle.gb_elab_mod.proofs.couplings.functions.Given as goal
 
 abbrev pub invariant-loop-f : goal.invariant-loop-f

@@ -1,6 +1,6 @@
 use Rattle.std.proofs.Common.{◌≡◌, map, drop}
 use Rattle.gb_names.specs.Types.{all_given, type_of}
-use Rattle.gb_elab_prog.proofs.Gathered.{behind}
+use Rattle.gb_elab_stmt.proofs.Gathered.{behind}
 use Rattle.gb_elab_prog.proofs.operators.all_types.Given as goal
 
 abbrev pub invariant-loop-ty : goal.invariant-loop-ty

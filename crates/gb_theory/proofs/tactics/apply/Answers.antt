@@ -1,4 +1,7 @@
-use Rattle.gb_theory.proofs.Steps.{ambient_meets, smt_meets}
+use Rattle.std.proofs.Common.{subst}
+use Rattle.gb_goal.specs.Answers.{Answers}
+use Rattle.gb_linear.specs.Closing.{linear_answer}
+use Rattle.gb_theory.proofs.Steps.{ambient_meets, linear_meets, smt_meets, use_meets}
 use Rattle.gb_theory.proofs.tactics.apply.Goals as goal
 
 pub returns-in-Smt : goal.returns-in-Smt
@@ -6,3 +9,11 @@ returns-in-Smt c = smt_meets c.args.scope.now c.args.step.now.rule c.args.step.n
 
 pub returns-in-Ambient : goal.returns-in-Ambient
 returns-in-Ambient c = ambient_meets c.args.scope.now c.args.step.now.rule c.in-Ambient.rule c.args.step.now.place c.args.goal.now c.apply-in-Ambient.result c.in-Ambient.is c.apply-in-Ambient.ensures
+
+pub returns-in-Linear : goal.returns-in-Linear
+returns-in-Linear c =
+    linear_meets c.args.scope.now c.args.step.now.rule c.in-Linear.multiples c.args.step.now.place c.args.goal.now c.apply-in-Linear.result c.in-Linear.is
+    (subst (λ ms. Answers (linear_answer ms c.args.step.now.place c.args.goal.now) c.apply-in-Linear.result) c.as_slice.ensures c.apply-in-Linear.ensures)
+
+pub returns-in-Use : goal.returns-in-Use
+returns-in-Use c = use_meets c.args.scope.now c.args.step.now.rule c.in-Use.rule c.args.step.now.place c.args.goal.now c.apply-in-Use.result c.in-Use.is c.apply-in-Use.ensures

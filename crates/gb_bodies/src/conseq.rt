@@ -1,0 +1,215 @@
+//! The rule `conseq`.
+
+ghost use Rattle.std.specs.Prelude.{◌≡◌, map, IfOk};
+ghost use Rattle.gb_goal.specs.Answers.{Answers};
+ghost use Rattle.gb_goal.specs.Goal.{code_of, form_of};
+ghost use Rattle.gb_goal.specs.Goal.Goal.{ambient};
+ghost use Rattle.gb_goal.specs.Rows.{answered, concluding, each_concluding};
+ghost use Rattle.gb_steps.specs.declared.step.Weakened.{Weakened as Conditions};
+ghost use Rattle.gb_typing.specs.Context.{Context};
+ghost use Rattle.gb_rules.specs.Forms.{every as in_every};
+ghost use Rattle.gb_rules.specs.Rules.{IsSoundRule};
+ghost use Rattle.gb_bodies.specs.Conseq.{as_likely, bound_goals, conseq_row, leads, of_chance, of_one, of_two, or_old, pair_leads, IsTypedWeakened};
+ghost use Rattle.gb_bodies.specs.Judged.{goal_judged};
+
+use crate::forms::{every, every_pair, implied};
+use crate::judged::{Judged, equiv_of, hoare_of, judgment, phoare_of};
+use crate::subgoals::{no_shape, one_goal, two_goals};
+use gb_chance::compared::compared;
+use gb_core::refusal::Refused;
+use gb_goal::sequent::{Sequent, Sequents};
+use gb_steps::step::Weakened;
+use gb_terms::make::{binary, truth_ty};
+use gb_terms::op::{Op, Rel, Side};
+use gb_terms::term::{Form, RealTerm, Subject, Term};
+use sqlite_items::Items;
+use std::alloc::{AllocError, Global};
+
+/// A judgment with a probability, but for what it speaks of.
+#[derive(Clone, Copy)]
+pub struct Bounded<'a> {
+    pub rel: Rel,
+    pub pre: &'a Form,
+    pub post: &'a Form,
+    pub bound: &'a RealTerm,
+}
+
+/// What is said anew, or else what stood there.
+fn or_old(new: &Option<Term>, old: &Term) -> Result<Term, AllocError>
+    ensures { IfOk result (λ made. made ≡ or_old new.now old.now) }
+{
+    match new {
+        Some(new) => new.share(),
+        None => old.share(),
+    }
+}
+
+/// One form leads to the other in every memory.
+fn leads(alloc: Global, pre: &Form, post: &Form) -> Result<Form, AllocError>
+    ensures { IfOk result (λ made. made ≡ form_of (leads pre.now post.now)) }
+{
+    let form = implied(alloc, pre, post)?;
+    every(alloc, Side::Own, form)
+}
+
+/// One form leads to the other on every two memories.
+fn pair_leads(alloc: Global, pre: &Form, post: &Form) -> Result<Form, AllocError>
+    ensures { IfOk result (λ made. made ≡ form_of (pair_leads pre.now post.now)) }
+{
+    let form = implied(alloc, pre, post)?;
+    every_pair(alloc, form)
+}
+
+/// The old postcondition and the new one, so that one is as likely as the relation to the bound asks.
+fn likely(alloc: Global, rel: Rel, old: &Form, new: &Form) -> Result<Form, AllocError>
+    ensures { IfOk result (λ made. made ≡ as_likely rel old.now new.now) }
+{
+    match rel {
+        Rel::AtMost => implied(alloc, old, new),
+        Rel::AtLeast => implied(alloc, new, old),
+        Rel::Equal => {
+            let ty = truth_ty(alloc)?;
+            let old = old.share()?;
+            binary(alloc, Op::Iff, old, new.share()?, ty)
+        }
+    }
+}
+
+/// The same in every memory.
+fn as_likely(alloc: Global, rel: Rel, old: &Form, new: &Form) -> Result<Form, AllocError>
+    ensures { IfOk result (λ made. made ≡ form_of (ambient (in_every Side.Own (as_likely rel old.now new.now)))) }
+{
+    let form = likely(alloc, rel, old, new)?;
+    every(alloc, Side::Own, form)
+}
+
+/// The goals of a judgment that a postcondition always holds.
+fn of_one(
+    alloc: Global,
+    goal: &Sequent,
+    new: &Weakened,
+    subject: &Subject,
+    pre: &Form,
+    post: &Form,
+) -> Result<Sequents, AllocError>
+    ensures { IfOk result (λ goals. goals ≡ map (concluding goal.now) (of_one new.now (code_of subject.now) pre.now post.now)) }
+{
+    let before = or_old(&new.pre, pre)?;
+    let after = or_old(&new.post, post)?;
+    let first = leads(alloc, pre, &before)?;
+    let second = leads(alloc, &after, post)?;
+    let mut goals = two_goals(alloc, goal, first, second)?;
+    let last = hoare_of(alloc, subject, before, after)?;
+    goals.push(goal.with_conclusion(last)?)?;
+    Ok(goals)
+}
+
+/// The goals of an equivalence.
+fn of_two(
+    alloc: Global,
+    goal: &Sequent,
+    new: &Weakened,
+    left: &Subject,
+    right: &Subject,
+    pre: &Form,
+    post: &Form,
+) -> Result<Sequents, AllocError>
+    ensures { IfOk result (λ goals. goals ≡ map (concluding goal.now) (of_two new.now (code_of left.now) (code_of right.now) pre.now post.now)) }
+{
+    let before = or_old(&new.pre, pre)?;
+    let after = or_old(&new.post, post)?;
+    let first = pair_leads(alloc, pre, &before)?;
+    let second = pair_leads(alloc, &after, post)?;
+    let mut goals = two_goals(alloc, goal, first, second)?;
+    let last = equiv_of(alloc, left, right, before, after)?;
+    goals.push(goal.with_conclusion(last)?)?;
+    Ok(goals)
+}
+
+/// The goal that a new bound stands so to the old one.
+fn bound_goals(
+    alloc: Global,
+    goal: &Sequent,
+    rel: Rel,
+    new: &Option<RealTerm>,
+    old: &RealTerm,
+) -> Result<Sequents, AllocError>
+    ensures { IfOk result (λ goals. goals ≡ map (concluding goal.now) (bound_goals rel new.now old.now)) }
+{
+    match new {
+        Some(new) => {
+            let new = new.share()?;
+            let form = compared(alloc, rel, new, old.share()?)?;
+            one_goal(alloc, goal, form)
+        }
+        None => Ok(Items::new(alloc)),
+    }
+}
+
+/// The goals of a judgment with a probability.
+#[tactic(auto, using(crate::proofs::ConseqSteps::behind_bound))]
+fn of_chance(
+    alloc: Global,
+    goal: &Sequent,
+    new: &Weakened,
+    subject: &Subject,
+    old: &Bounded<'_>,
+) -> Result<Sequents, AllocError>
+    ensures { IfOk result (λ goals. goals ≡ map (concluding goal.now)
+        (of_chance new.now (code_of subject.now) old.now.rel old.now.pre.now old.now.post.now old.now.bound.now)) }
+{
+    let before = or_old(&new.pre, old.pre)?;
+    let after = or_old(&new.post, old.post)?;
+    let mut goals = bound_goals(alloc, goal, old.rel, &new.bound, old.bound)?;
+    let first = leads(alloc, old.pre, &before)?;
+    goals.push(goal.with_conclusion(first)?)?;
+    let second = as_likely(alloc, old.rel, old.post, &after)?;
+    goals.push(goal.with_conclusion(second)?)?;
+    let bound = or_old(&new.bound, old.bound)?;
+    let last = phoare_of(alloc, subject, old.rel, before, after, bound)?;
+    goals.push(goal.with_conclusion(last)?)?;
+    Ok(goals)
+}
+
+/// The subgoals of a judgment.
+fn subgoals(
+    alloc: Global,
+    goal: &Sequent,
+    new: &Weakened,
+    old: Judged<'_>,
+) -> Result<Sequents, Refused>
+    ensures { Answers (each_concluding goal.now (conseq_row new.now (goal_judged old.entry))) result }
+{
+    match (old, &new.bound) {
+        (Judged::Hoare(subject, pre, post), None) => {
+            Ok(of_one(alloc, goal, new, subject, pre, post)?)
+        }
+        (Judged::Phoare(subject, rel, pre, post, bound), _) => {
+            let old = Bounded {
+                rel,
+                pre,
+                post,
+                bound,
+            };
+            Ok(of_chance(alloc, goal, new, subject, &old)?)
+        }
+        (Judged::Equiv(left, right, pre, post), None) => {
+            Ok(of_two(alloc, goal, new, left, right, pre, post)?)
+        }
+        _ => Err(no_shape()),
+    }
+}
+
+/// The subgoals of `conseq`: the old precondition leads to the new one, the new postcondition to the old one, and the judgment has the
+/// new ones. With a probability the postconditions stand to each other as its relation to the bound asks, and a new bound stands so to
+/// the old one. Refused with `Shape` where the goal is no judgment, and where a bound is said of one without a probability.
+pub fn conseq(alloc: Global, goal: &Sequent, new: &Weakened) -> Result<Sequents, Refused>
+    ensures { Answers (answered (conseq_row new.now) goal.now) result }
+{
+    subgoals(alloc, goal, new, judgment(&goal.conclusion))
+}
+
+/// `conseq` is sound.
+pub fn conseq_is_sound()
+    ensures { (c : Context) (w : Conditions) → IsSoundRule c (conseq_row w) (IsTypedWeakened c w) }
+{}

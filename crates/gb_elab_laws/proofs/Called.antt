@@ -1,0 +1,123 @@
+-- What the typing of calls gives is typed.
+use Rattle.std.proofs.Common.{◌≡◌, ◌≤◌, true, false, if◌then◌else◌, nat_lt, bytes_eq, List, [], ◌∷◌, length, Some, refl, ap, sym, ◌∙◌, subst, arith}
+use Rattle.std.proofs.lemmas.Bool.{ltb-false}
+use Rattle.std.proofs.lemmas.Slice.Eq.{bytes_eq-Decides}
+use Rattle.gb_core.specs.declared.place.Place.{Place}
+use Rattle.gb_core.specs.declared.refusal.Why.TheVariants.{Argument, TypeMismatch, UnknownName}
+use Rattle.gb_core.specs.declared.ty.Ty.{Ty}
+use Rattle.gb_same.specs.Types.{ty_eq}
+use Rattle.gb_same.proofs.Decided.{ty_eq-Decides}
+use Rattle.gb_terms.specs.declared.decl.Module.{Module}
+use Rattle.gb_terms.specs.declared.decl.Proc.{Proc}
+use Rattle.gb_terms.specs.declared.decl.TypedName.{TypedName}
+use Rattle.gb_terms.specs.declared.term.Term.{Term, Row_of-Term, end_of-Term, more_of-Term, items-the_row-Term, items_hidden-the_row-Term-0}
+use Rattle.gb_terms.specs.declared.term.Head.TheVariants.{Call}
+use Rattle.gb_terms.specs.declared.term.Head.TheBlock as B
+use Rattle.gb_terms.specs.declared.term.Instr.{Instr}
+use Rattle.gb_goal.specs.Answers.{given_or}
+use Rattle.gb_goal.specs.Answers.Answer.{given}
+use Rattle.gb_goal.specs.Scope.{Declarations, entry_of, proc_of}
+use Rattle.gb_script.specs.declared.tree.Node.{Node}
+use Rattle.gb_script.specs.Tree.{text_of, parts_of, place_of}
+use Rattle.gb_meaning.specs.Commands.{terms_in}
+use Rattle.gb_meaning.specs.Names.{Name}
+use Rattle.gb_names.specs.Environment.{Environment, program}
+use Rattle.gb_names.specs.Judgments.{Named, Path, module_in, procedure_path, reference}
+use Rattle.gb_names.specs.Names.{Target}
+use Rattle.gb_elab.specs.Forms.{elaborated}
+use Rattle.gb_elab_prog.specs.Contexts.{nothing_around}
+use Rattle.gb_elab_stmt.specs.Calls.{arguments, call, call_of, called, declared_procedures, enough, is_hidden, or_own, procedures_in, takes}
+use Rattle.gb_elab_stmt.specs.Targets.{type_of_all, variables_of}
+use Rattle.gb_typed.specs.Finite.{IsFinite}
+use Rattle.gb_typed.specs.Programs.{HaveFiniteTypes, Take}
+use Rattle.gb_typing.specs.Context.{Context, erased, of_program, procedure}
+use Rattle.gb_typing.specs.Programs.{AreArguments, IsCall, IsStatement, HaveVariableTypes}
+use Rattle.gb_elab_laws.specs.Fitting.{IsTypeOf}
+use Rattle.gb_elab_laws.proofs.Around.{IsAround}
+use Rattle.gb_elab_laws.proofs.Around as program_around
+use Rattle.gb_elab_laws.proofs.Forms.{elaborated_typed}
+use Rattle.gb_elab_laws.proofs.Given.{given_bind, given_is, if_given, if_refused, some_given}
+use Rattle.gb_elab_laws.proofs.Judged.{in_module, module_is}
+use Rattle.gb_elab_laws.proofs.Shapes.{finite_form}
+use mathlib.Core.Former.{Count}
+
+module _ (ds : Declarations) (c : Context) (m : Module) (around : IsAround ds c m) (vs : List TypedName) (typed : HaveVariableTypes vs) where
+  abbrev here : Environment
+  here = program ds m nothing_around vs
+
+  -- a procedure that is there, of which the parameters are values
+  abbrev IsThere : Named → Type 0
+  IsThere n = IsTypeOf (procedure c n.0) n.1
+
+  declared_there : (f : Path) (p : Place) (ps : List Proc) (a : Proc) → declared_procedures here f.0 p ≡ given ps → proc_of ps (text_of f.1) ≡ Some a → IsThere (reference f, a)
+  declared_there f p ps a h e =
+      let k = given_bind (module_in (entry_of ds f.0) f.0 p) (λ (k : Module). given k.procs) ps h in
+      let same : k.0.procs ≡ ps = given_is k.0.procs ps k.2 in
+      let is = module_is (entry_of ds f.0) f.0 p k.0 k.1 in
+      around.procedures (reference f) a (in_module (entry_of ds f.0) k.0 (text_of f.1) a is.0 is.1 (ap (λ qs. proc_of qs (text_of f.1)) same ∙ e))
+
+  own_there : (f : Path) (p : Place) (ps : List Proc) (a : Proc) → or_own (Some m) here f.0 p ≡ given ps → proc_of ps (text_of f.1) ≡ Some a → IsThere (reference f, a)
+  own_there f p ps a h e = step (bytes_eq f.0 m.name) refl h
+    where
+      step : (b : _) → bytes_eq f.0 m.name ≡ b → (if b then given m.procs else declared_procedures here f.0 p) ≡ given ps → IsThere (reference f, a)
+      step true i h =
+          subst (λ (n : Name). IsThere (reference (n, f.1), a)) (sym ((bytes_eq-Decides f.0 m.name).0 i))
+          (around.own_procedures (text_of f.1) a (ap (λ qs. proc_of qs (text_of f.1)) (given_is m.procs ps h) ∙ e))
+      step false i h = declared_there f p ps a h e
+
+  called_there : (f : Path) (p : Place) (n : Named) → called here f p ≡ given n → IsThere n
+  unfolding called procedures_in
+  called_there f p n h =
+      let ps = given_bind (procedures_in here f.0 p) _ n h in
+      let d = given_bind (given_or (proc_of ps.0 (text_of f.1)) (UnknownName (text_of f.1)) (place_of f.1)) (λ (d : Proc). given (reference f, d)) n ps.2 in
+      let k = if_refused (is_hidden here f.0) Argument p (or_own (Some m) here f.0 p) ps.0 ps.1 in
+      subst IsThere (given_is (reference f, d.0) n d.2)
+      (own_there f p ps.0 d.0 k.1 (some_given (proc_of ps.0 (text_of f.1)) (UnknownName (text_of f.1)) (place_of f.1) d.0 d.1))
+
+  -- arguments of the types of parameters, of which there are no more
+  arguments_typed : (qs : List TypedName) (es : List Node) (us : List Term) → HaveFiniteTypes qs → length qs ≤ length es → arguments here qs es ≡ given us → AreArguments c vs us qs
+  unfolding arguments
+  arguments_typed [] [] us f n h = subst (λ us. AreArguments c vs us []) (given_is [] us h) tt
+  arguments_typed (q ∷ qs) [] us f n h = absurd (omega (arith, n))
+  arguments_typed [] (e ∷ es) us f n h = cc
+  arguments_typed (q ∷ qs) (e ∷ es) us f n h =
+      let u = given_bind (elaborated e here [] (Some q.ty)) _ us h in
+      let ws = given_bind (arguments here qs es) (λ (ws : List Term). given (u.0 ∷ ws)) us u.2 in
+      let fit = program_around.fits ds c m around vs typed in
+      let g = elaborated_typed e (of_program c vs) here [] fit (Some q.ty) (finite_form true q.ty f.0) u.0 u.1 in
+      subst (λ us. AreArguments c vs us (q ∷ qs)) (given_is (u.0 ∷ ws.0) us ws.2) (
+        (record { expression = program_around.expression ds c m around vs typed (Some q.ty) u.0 g; finite = subst IsFinite (sym g.wanted) f.0 }, g.wanted),
+        arguments_typed qs es ws.0 f.1 (omega (arith, n)) ws.1,
+      )
+
+  -- what is written takes the result
+  results_taken : (ws : List Target) → program_around.AreTargets ds c m around vs typed ws → (t : Ty) (p : Place) (x : _) → takes ws t p ≡ given x → Take (erased c) vs (variables_of ws) t
+  results_taken [] w t p x h = tt
+  results_taken (v ∷ ws) w t p x h =
+      let k = if_given (ty_eq t (type_of_all (v ∷ ws))) tt TypeMismatch p x h in
+      program_around.all_take ds c m around vs typed (v ∷ ws) t w ((ty_eq-Decides t (type_of_all (v ∷ ws))).0 k.0)
+
+  row_terms : {n : Count} (r : Row_of-Term n) → terms_in r ≡ items-the_row-Term _ r
+  row_terms end_of-Term = refl
+  row_terms (more_of-Term t r) = ap (λ us. t ∷ us) (row_terms r)
+
+  statement_is : (ws : List Target) (n : Named) (us : List Term) → IsThere n → AreArguments c vs us n.1.params → Take (erased c) vs (variables_of ws) n.1.result → IsStatement c vs (Call (variables_of ws) n.0 us)
+  statement_is ws n us t k w =
+      subst (λ (es : List Term). IsCall c vs (variables_of ws) (procedure c n.0) es) (sym (row_terms (B.hidden-the_row-Term-0 us) ∙ items_hidden-the_row-Term-0 us))
+      (subst (λ o. IsCall c vs (variables_of ws) o us) (sym t.there) (k, w))
+
+  of_path : (ws : List Target) → program_around.AreTargets ds c m around vs typed ws → (f : Path) (es : List Node) (p : Place) (i : Instr) → call_of here ws f es p ≡ given i → IsStatement c vs i
+  unfolding call_of
+  of_path ws w f es p i h =
+      let n = given_bind (called here f p) _ i h in
+      let o = given_bind (enough n.0.1.params es p) _ i n.2 in
+      let t = given_bind (takes ws n.0.1.result p) _ i o.2 in
+      let us = given_bind (arguments here n.0.1.params es) (λ (us : List Term). given (Call (variables_of ws) n.0.0 us)) i t.2 in
+      let there = called_there f p n.0 n.1 in
+      let many = if_refused (nat_lt (length es) (length n.0.1.params)) TypeMismatch p (given tt) o.0 o.1 in
+      subst (IsStatement c vs) (given_is (Call (variables_of ws) n.0.0 us.0) i us.2)
+      (statement_is ws n.0 us.0 there (arguments_typed n.0.1.params es us.0 there.params (ltb-false (length es) (length n.0.1.params) many.0) us.1) (results_taken ws w n.0.1.result p t.0 t.1))
+
+  pub call_typed : (ws : List Target) → program_around.AreTargets ds c m around vs typed ws → (xs es : List Node) (p : Place) (i : Instr) → call here ws xs es p ≡ given i → IsStatement c vs i
+  call_typed ws w (x ∷ y ∷ ys) (es ∷ []) p i h = of_path ws w (procedure_path (text_of x) y ys) (parts_of es) p i h
+  call_typed ws w _ _ p i h = cc

@@ -1,0 +1,386 @@
+// Statements.
+
+ghost use Rattle.std.specs.Prelude.{◌≡◌, [], ◌∷◌, Some, IfOk};
+ghost use Rattle.gb_core.specs.declared.ty.Ty.TheVariants.{Distr};
+ghost use Rattle.gb_terms.specs.declared.term.Head.TheVariants.{If};
+ghost use Rattle.gb_goal.specs.Answers.{Answers, Gives};
+ghost use Rattle.gb_names.specs.Environment.{environment};
+ghost use Rattle.gb_elab.specs.Forms.{elaborated};
+ghost use Rattle.gb_elab_stmt.specs.Targets.{pairs};
+ghost use Rattle.gb_elab_stmt.specs.Statements.{all_stated, alone, assignment, called_to, entry_stored, instruction, result_in, result_to, results_in, sampling, stated, stating, stored, stored_term, tuple_assignment, with_statings, written_to};
+
+use crate::calls::call;
+use crate::targets::{targets, type_of_all, variables_of};
+use gb_core::copy::copy_var;
+use gb_core::name::Name;
+use gb_core::place::Place;
+use gb_core::refusal::Refused;
+use gb_core::ty::Ty;
+use gb_core::var::Var;
+use gb_elab::form::typed;
+use gb_names::globals::Target;
+use gb_names::names::{path, target};
+use gb_names::refusals::{mismatch, not_built};
+use gb_names::setting::Setting;
+use gb_operators::kinds::entries;
+use gb_script::head::Head;
+use gb_script::tree::Node;
+use gb_shared::{Shared, SharedItems};
+use gb_terms::make;
+use gb_terms::op::{Op, Side};
+use gb_terms::term::{Cmd, Head as TermHead, Instr, Instrs, Term};
+use sqlite_items::Items;
+use std::alloc::{AllocError, Global};
+
+/// A sampling: the target is a variable of the procedure or a global, the source a distribution on its type.
+#[tactic(auto, unfolding(crate::specs::Statements::sampling))]
+fn sampling(
+    alloc: Global,
+    at: &Setting<'_>,
+    name: &Name,
+    from: &[Node],
+    place: Place,
+) -> Result<Instr, Refused>
+    ensures { Answers (sampling (environment at.now) name.now from.now place) result }
+{
+    match from {
+        [from] => {
+            let Target { var, ty } = target(alloc, at, name, place)?;
+            let from = source(alloc, at, from, &ty)?;
+            Ok(Instr::Sample(var, from))
+        }
+        _ => Err(not_built(place)),
+    }
+}
+
+/// The typed tree of a distribution on a type.
+fn source(
+    alloc: Global,
+    at: &Setting<'_>,
+    from: &Node,
+    outcomes: &Shared<Ty>,
+) -> Result<Term, Refused>
+    ensures { Answers (elaborated from.now (environment at.now) [] (Some (Distr outcomes.now))) result }
+{
+    let outcomes = outcomes.share()?;
+    typed(alloc, at, &[], from, Some(&Ty::Distr(outcomes)))
+}
+
+/// One variable, as what is assigned to.
+fn alone_target(alloc: Global, var: Var) -> Result<SharedItems<Var>, AllocError>
+    ensures { IfOk result (λ made. made ≡ var ∷ []) }
+{
+    let mut targets = Items::new(alloc);
+    targets.push(var)?;
+    SharedItems::new(alloc, targets)
+}
+
+/// An assignment: the target is a variable of the procedure or a global, the value of its type.
+#[tactic(auto, unfolding(crate::specs::Statements::assignment))]
+fn assignment(
+    alloc: Global,
+    at: &Setting<'_>,
+    name: &Name,
+    value: &[Node],
+    place: Place,
+) -> Result<Instr, Refused>
+    ensures { Answers (assignment (environment at.now) name.now value.now place) result }
+{
+    match value {
+        [value] => {
+            let Target { var, ty } = target(alloc, at, name, place)?;
+            let targets = alone_target(alloc, var)?;
+            let value = typed(alloc, at, &[], value, Some(ty.get()))?;
+            Ok(Instr::Assign(targets, value))
+        }
+        _ => Err(not_built(place)),
+    }
+}
+
+/// An assignment to several variables at once: the value is a tuple of their types.
+#[tactic(auto, unfolding(crate::specs::Statements::tuple_assignment))]
+fn tuple_assignment(
+    alloc: Global,
+    at: &Setting<'_>,
+    paths: &[Node],
+    value: &[Node],
+    place: Place,
+) -> Result<Instr, Refused>
+    ensures { Answers (tuple_assignment (environment at.now) paths.now value.now place) result }
+{
+    match value {
+        [value] => {
+            let targets = targets(alloc, at, paths)?;
+            let ty = type_of_all(alloc, targets.as_slice())?;
+            let value = typed(alloc, at, &[], value, Some(ty.get()))?;
+            let vars = variables_of(alloc, targets.as_slice())?;
+            Ok(Instr::Assign(vars, value))
+        }
+        _ => Err(not_built(place)),
+    }
+}
+
+/// A call whose result these variables take.
+fn result_to(
+    alloc: Global,
+    at: &Setting<'_>,
+    targets: &[Target],
+    head: Head,
+    parts: &[Node],
+    place: Place,
+) -> Result<Instr, Refused>
+    ensures { Answers (result_to (environment at.now) (pairs targets.now) head parts.now place) result }
+{
+    match head {
+        Head::Call => {
+            let last = parts.len().saturating_sub(1);
+            call(alloc, at, targets, &parts[..last], &parts[last..], place)
+        }
+        _ => Err(not_built(place)),
+    }
+}
+
+/// .. of which the call is the last part.
+fn called_to(
+    alloc: Global,
+    at: &Setting<'_>,
+    targets: &[Target],
+    calls: &[Node],
+    place: Place,
+) -> Result<Instr, Refused>
+    ensures { Answers (called_to (environment at.now) (pairs targets.now) calls.now place) result }
+{
+    match calls {
+        [c] => result_to(alloc, at, targets, c.head, c.parts.as_slice(), c.place),
+        _ => Err(not_built(place)),
+    }
+}
+
+/// The result of a call is written to a variable of the procedure or a global.
+#[tactic(auto, unfolding(crate::specs::Statements::result_in))]
+fn result_in(
+    alloc: Global,
+    at: &Setting<'_>,
+    name: &Name,
+    calls: &[Node],
+    place: Place,
+) -> Result<Instr, Refused>
+    ensures { Answers (result_in (environment at.now) name.now calls.now place) result }
+{
+    let mut targets = Items::new(alloc);
+    targets.push(target(alloc, at, name, place)?)?;
+    called_to(alloc, at, targets.as_slice(), calls, place)
+}
+
+/// .. to several variables at once.
+#[tactic(auto, unfolding(crate::specs::Statements::results_in))]
+fn results_in(
+    alloc: Global,
+    at: &Setting<'_>,
+    paths: &[Node],
+    calls: &[Node],
+    place: Place,
+) -> Result<Instr, Refused>
+    ensures { Answers (results_in (environment at.now) paths.now calls.now place) result }
+{
+    let targets = targets(alloc, at, paths)?;
+    called_to(alloc, at, targets.as_slice(), calls, place)
+}
+
+/// What is written to several variables.
+fn written_to(
+    alloc: Global,
+    at: &Setting<'_>,
+    paths: &[Node],
+    head: Head,
+    parts: &[Node],
+    place: Place,
+) -> Result<Instr, Refused>
+    ensures { Answers (written_to (environment at.now) paths.now head parts.now place) result }
+{
+    match head {
+        Head::Assign => tuple_assignment(alloc, at, paths, parts, place),
+        Head::AssignCall => results_in(alloc, at, paths, parts, place),
+        _ => Err(not_built(place)),
+    }
+}
+
+/// A map as a variable has it, with another value at a key.
+fn stored_term(alloc: Global, target: &Target, key: Term, value: Term) -> Result<Term, AllocError>
+    ensures { IfOk result (λ made. made ≡ stored_term (target.now.var, target.now.ty) key value) }
+{
+    let var = copy_var(alloc, &target.var)?;
+    let map = make::variable(alloc, var, Side::Own, target.ty.share()?)?;
+    let mut args = Items::new(alloc);
+    args.push(map)?;
+    args.push(key)?;
+    args.push(value)?;
+    make::term(alloc, TermHead::Builtin(Op::Set), args, target.ty.share()?)
+}
+
+/// The entry at a key is written, of a map with these types of keys and values.
+#[tactic(auto, unfolding(crate::specs::Statements::entry_stored))]
+fn entry_stored(
+    alloc: Global,
+    at: &Setting<'_>,
+    target: &Target,
+    of_key: &Ty,
+    of_value: &Ty,
+    key: &Node,
+    value: &Node,
+) -> Result<Instr, Refused>
+    ensures { Answers (entry_stored (environment at.now) (target.now.var, target.now.ty) (of_key.now, of_value.now) key.now value.now) result }
+{
+    let key = typed(alloc, at, &[], key, Some(of_key))?;
+    let value = typed(alloc, at, &[], value, Some(of_value))?;
+    let made = stored_term(alloc, target, key, value)?;
+    let var = copy_var(alloc, &target.var)?;
+    Ok(Instr::Assign(alone_target(alloc, var)?, made))
+}
+
+/// An entry of a map is written: the map becomes the one with this value at this key.
+#[tactic(auto, unfolding(crate::specs::Statements::stored))]
+fn stored(
+    alloc: Global,
+    at: &Setting<'_>,
+    name: &Name,
+    written: &[Node],
+    place: Place,
+) -> Result<Instr, Refused>
+    ensures { Answers (stored (environment at.now) name.now written.now place) result }
+{
+    match written {
+        [key, value] => {
+            let target = target(alloc, at, name, place)?;
+            let Some((of_key, of_value)) = entries(target.ty.get()) else {
+                return Err(mismatch(place));
+            };
+            let (of_key, of_value) = (of_key.get(), of_value.get());
+            entry_stored(alloc, at, &target, of_key, of_value, key, value)
+        }
+        _ => Err(not_built(place)),
+    }
+}
+
+/// A statement without others in it, which begins with its target, or with the procedure that it calls.
+fn instruction(
+    alloc: Global,
+    at: &Setting<'_>,
+    head: Head,
+    parts: &[Node],
+    place: Place,
+) -> Result<Instr, Refused>
+    ensures { Answers (instruction (environment at.now) head parts.now place) result }
+{
+    let last = parts.len().saturating_sub(1);
+    let (words, written) = (&parts[..last], &parts[last..]);
+    match head {
+        Head::Sample => sampling(alloc, at, &path(alloc, words)?, written, place),
+        Head::Assign => assignment(alloc, at, &path(alloc, words)?, written, place),
+        Head::Store => {
+            let second = last.saturating_sub(1);
+            let map = path(alloc, &parts[..second])?;
+            stored(alloc, at, &map, &parts[second..], place)
+        }
+        Head::AssignCall => result_in(alloc, at, &path(alloc, words)?, written, place),
+        Head::Call => call(alloc, at, &[], words, written, place),
+        Head::TupleStatement => match parts {
+            [paths, what] => {
+                let (paths, parts) = (paths.parts.as_slice(), what.parts.as_slice());
+                written_to(alloc, at, paths, what.head, parts, place)
+            }
+            _ => Err(not_built(place)),
+        },
+        _ => Err(not_built(place)),
+    }
+}
+
+/// One statement alone.
+fn alone(
+    alloc: Global,
+    at: &Setting<'_>,
+    head: Head,
+    parts: &[Node],
+    place: Place,
+) -> Result<Instrs, Refused>
+    ensures { Answers (alone (instruction (environment at.now) head parts.now place)) result }
+{
+    let i = instruction(alloc, at, head, parts, place)?;
+    let mut list = Items::new(alloc);
+    list.push(i)?;
+    Ok(list)
+}
+
+/// The branch on a test, with both of its sides.
+fn branched(alloc: Global, test: Term, yes: Instrs, no: Instrs) -> Result<Instrs, AllocError>
+    ensures { IfOk result (λ made. made ≡ If test (record { list = yes }) (record { list = no }) ∷ []) }
+{
+    let yes = SharedItems::new(alloc, yes)?;
+    let no = SharedItems::new(alloc, no)?;
+    let mut list = Items::new(alloc);
+    list.push(Instr::If(test, Cmd { list: yes }, Cmd { list: no }))?;
+    Ok(list)
+}
+
+/// The typed trees of a statement, or of those of a block.
+#[cycle(statements)]
+#[tactic(auto, using(crate::proofs::Stated::stated_is))]
+fn stated(alloc: Global, at: &Setting<'_>, tree: &Node) -> Result<Instrs, Refused>
+    ensures { Answers (stated tree.now (environment at.now)) result }
+{
+    stating(alloc, at, tree.head, tree.parts.as_slice(), tree.place)
+}
+
+/// .. from its head, its parts and its place.
+#[cycle(statements)]
+#[tactic(auto, using(crate::proofs::Stated::bare_is))]
+fn stating(
+    alloc: Global,
+    at: &Setting<'_>,
+    head: Head,
+    parts: &[Node],
+    place: Place,
+) -> Result<Instrs, Refused>
+    ensures { Answers (stating head (with_statings parts.now) place (environment at.now)) result }
+{
+    match head {
+        Head::If => match parts {
+            [test, yes, no] => {
+                let test = typed(alloc, at, &[], test, Some(&Ty::Bool))?;
+                let yes = stated(alloc, at, yes)?;
+                let no = stated(alloc, at, no)?;
+                Ok(branched(alloc, test, yes, no)?)
+            }
+            _ => Err(not_built(place)),
+        },
+        Head::List => all_stated(alloc, at, parts),
+        _ => alone(alloc, at, head, parts, place),
+    }
+}
+
+/// The typed trees of statements one after another.
+#[cycle(statements)]
+fn all_stated(alloc: Global, at: &Setting<'_>, trees: &[Node]) -> Result<Instrs, Refused>
+    ensures { Answers (all_stated (with_statings trees.now) (environment at.now)) result }
+{
+    let mut list = Items::new(alloc);
+    for tree in trees {
+        let more = stated(alloc, at, tree)?;
+        list.append(more)?;
+    }
+    Ok(list)
+}
+
+/// The typed tree of a body.
+///
+/// # Errors
+///
+/// Of the first statement that has one: `UnknownName` and `Argument` of a target that is no variable of the procedure, those of its
+/// forms, and `Syntax` where it isn't built.
+pub fn body(alloc: Global, at: &Setting<'_>, statements: &[Node]) -> Result<Cmd, Refused>
+    ensures { Gives (λ c. c.list) (all_stated (with_statings statements.now) (environment at.now)) result }
+{
+    let list = all_stated(alloc, at, statements)?;
+    let list = SharedItems::new(alloc, list)?;
+    Ok(Cmd { list })
+}

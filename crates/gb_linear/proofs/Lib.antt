@@ -1,0 +1,5 @@
+pub mod Same
+pub mod Gathered
+pub mod Passed
+pub mod Places
+pub mod Taken

@@ -1,0 +1,10 @@
+pub mod Numbers
+pub mod Fractions
+pub mod Found
+pub mod Forms
+pub mod Meanings
+pub mod Positive
+pub mod Meant
+pub mod Order
+pub mod Compared
+pub mod Closed

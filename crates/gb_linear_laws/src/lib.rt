@@ -1,0 +1,4 @@
+//! What the rule `linear` closes holds.
+#![tactic(auto)]
+
+pub mod laws;

@@ -1,0 +1,4 @@
+pub mod HoareIsSound
+pub mod RndIsSound
+pub mod RndSteps
+pub mod RulesAreSound

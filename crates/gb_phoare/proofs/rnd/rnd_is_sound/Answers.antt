@@ -1,0 +1,5 @@
+use Rattle.gb_phoare.proofs.RndIsSound.{sound}
+use Rattle.gb_phoare.proofs.rnd.rnd_is_sound.Goals as goal
+
+pub returns : goal.returns
+returns x = sound

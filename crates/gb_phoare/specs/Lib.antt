@@ -1,0 +1,3 @@
+pub mod Hoare
+pub mod Rnd
+pub mod Rows

@@ -1,0 +1,162 @@
+//! The rule `rnd` on a judgment with a probability.
+
+ghost use Rattle.std.specs.Prelude.{◌≡◌, IfOk};
+ghost use Rattle.gb_goal.specs.Answers.{Answers};
+ghost use Rattle.gb_goal.specs.Goal.{Goal as TypedGoal, form_of};
+ghost use Rattle.gb_goal.specs.Rows.{answered, each_concluding};
+ghost use Rattle.gb_goal.specs.Views.{goal_seen};
+ghost use Rattle.gb_typing.specs.Context.{Context};
+ghost use Rattle.gb_rules.specs.Rules.{IsSoundRule, no_arguments};
+ghost use Rattle.gb_rules.specs.Samplings.{sampling_of, last_sampling};
+ghost use Rattle.gb_chance.specs.Loss.{loss_seen};
+ghost use Rattle.gb_equiv.specs.Drawn.{with_value};
+ghost use Rattle.gb_phoare.specs.Rnd.{by_end, measured, of_rest, rnd_row, without_sampling};
+
+use gb_bodies::subgoals::{no_shape, one_goal, refusal, two_goals};
+use gb_chance::compared::{compared, number_compared};
+use gb_chance::loss::{Loss, first_loss};
+use gb_core::copy::copy_var;
+use gb_core::refusal::{Refused, Why};
+use gb_core::ty::Ty;
+use gb_goal::goal::{Code, Goal, goal_of, hoare};
+use gb_goal::sequent::{Sequent, Sequents};
+use gb_rules::samplings::{Last, last_sampling, rest_of};
+use gb_rules::supports::nearest;
+use gb_shared::Shared;
+use gb_terms::make::term;
+use gb_terms::op::{Read, Rel, Side};
+use gb_terms::term::{Form, Head, Instr, RealTerm, Term};
+use gb_walk::change::Change;
+use gb_walk::clash::first_clash;
+use gb_walk::walk::changed;
+use sqlite_items::Items;
+use std::alloc::{AllocError, Global};
+
+/// A judgment with a probability, of a body.
+#[derive(Clone, Copy)]
+pub struct Judged<'a> {
+    pub rel: Rel,
+    pub pre: &'a Form,
+    pub post: &'a Form,
+    pub bound: &'a RealTerm,
+}
+
+/// The postcondition of the sampled value.
+fn with_value(alloc: Global, sampling: &Last<'_>, post: &Form) -> Result<Form, AllocError>
+    ensures { IfOk result (λ made. made ≡ with_value (sampling_of sampling.now) post.now) }
+{
+    let value = nearest(alloc, sampling.ty)?;
+    let var = copy_var(alloc, sampling.target)?;
+    let side = Side::Own;
+    changed(
+        alloc,
+        post,
+        &[Change::ToTerm(Read::Program { var, side }, value)],
+    )
+}
+
+/// How likely the postcondition is of a sampled value.
+fn measured(alloc: Global, sampling: &Last<'_>, post: &Form) -> Result<RealTerm, AllocError>
+    ensures { IfOk result (λ made. made ≡ measured (sampling_of sampling.now) post.now) }
+{
+    let event = with_value(alloc, sampling, post)?;
+    let mut args = Items::new(alloc);
+    args.push(sampling.from.share()?)?;
+    args.push(event)?;
+    let real = Shared::new(alloc, Ty::Real)?;
+    term(alloc, Head::Mu, args, real)
+}
+
+/// The judgment that the probability that is left stands so to the bound wherever the rest of the body ends.
+fn without_sampling(
+    alloc: Global,
+    sampling: &Last<'_>,
+    judged: &Judged<'_>,
+) -> Result<Form, AllocError>
+    ensures { IfOk result (λ made. made ≡ form_of (without_sampling (sampling_of sampling.now) judged.now.rel judged.now.pre.now judged.now.post.now judged.now.bound.now)) }
+{
+    let chance = measured(alloc, sampling, judged.post)?;
+    let bound = judged.bound.share()?;
+    let post = compared(alloc, judged.rel, chance, bound)?;
+    let pre = judged.pre.share()?;
+    let rest = rest_of(alloc, sampling)?;
+    hoare(alloc, rest, pre, post)
+}
+
+/// The goals of a judgment of what stands before a sampling. Weight that is lost there makes a probability less: the bound isn't
+/// below 0 then, or the rule is refused, with `NotLossless` at a variable, and with `Shape` at a call.
+fn of_rest(
+    alloc: Global,
+    goal: &Sequent,
+    lost: Loss<'_>,
+    judged: &Judged<'_>,
+    conclusion: Form,
+) -> Result<Sequents, Refused>
+    ensures { (G : TypedGoal) → conclusion ≡ form_of G → Answers (each_concluding goal.now (of_rest (loss_seen lost.entry) judged.now.rel judged.now.bound.now G)) result }
+{
+    match (lost, judged.rel) {
+        (Loss::Nowhere, _) => Ok(one_goal(alloc, goal, conclusion)?),
+        (_, Rel::AtMost) => {
+            let least = number_compared(alloc, Rel::AtMost, 0, judged.bound)?;
+            Ok(two_goals(alloc, goal, conclusion, least)?)
+        }
+        (Loss::Sampled(var), _) => {
+            let var = copy_var(alloc, var)?;
+            Err(refusal(Why::NotLossless(var)))
+        }
+        (Loss::Called, _) => Err(no_shape()),
+    }
+}
+
+/// The goals without the sampling that ends the body.
+fn by_end(
+    alloc: Global,
+    goal: &Sequent,
+    body: &[Instr],
+    judged: &Judged<'_>,
+) -> Result<Sequents, Refused>
+    ensures { Answers (each_concluding goal.now (by_end judged.now.rel judged.now.pre.now judged.now.post.now judged.now.bound.now (last_sampling body.now))) result }
+{
+    let Some(sampling) = last_sampling(body) else {
+        return Err(no_shape());
+    };
+    if first_clash(&Side::Own, sampling.target, judged.post).is_some() {
+        let target = copy_var(alloc, sampling.target)?;
+        return Err(refusal(Why::SideCondition(target)));
+    }
+    let conclusion = without_sampling(alloc, &sampling, judged)?;
+    of_rest(alloc, goal, first_loss(sampling.before), judged, conclusion)
+}
+
+/// The subgoals of a goal that is seen so.
+fn drawn(alloc: Global, goal: &Sequent, seen: Goal) -> Result<Sequents, Refused>
+    ensures { Answers (each_concluding goal.now (rnd_row (goal_seen seen.entry))) result }
+{
+    match seen {
+        Goal::Phoare(Code::Body(body), rel, pre, post, bound) => {
+            let judged = Judged {
+                rel,
+                pre,
+                post,
+                bound,
+            };
+            by_end(alloc, goal, body, &judged)
+        }
+        _ => Err(no_shape()),
+    }
+}
+
+/// The subgoals of `rnd` on a judgment with a probability of a body that ends with a sampling: the sampling leaves, and the measure of
+/// the postcondition stands so to the bound wherever the rest ends. Where the rest may lose weight, the bound of `<=` isn't below 0, and
+/// the other relations are refused with `NotLossless`. Refused with `Shape` at any other goal, and with `SideCondition` where the
+/// postcondition reads a variable that clashes with the target.
+pub fn rnd_rule(alloc: Global, goal: &Sequent) -> Result<Sequents, Refused>
+    ensures { Answers (answered rnd_row goal.now) result }
+{
+    drawn(alloc, goal, goal_of(&goal.conclusion))
+}
+
+/// `rnd` is sound on a judgment with a probability.
+pub fn rnd_is_sound()
+    ensures { (c : Context) → IsSoundRule c rnd_row no_arguments }
+{}

@@ -1,0 +1,5 @@
+pub mod Foralls
+pub mod Instances
+pub mod Premises
+pub mod Shapes
+pub mod Sound

@@ -1,0 +1,37 @@
+-- What hypotheses say of terms.
+use Rattle.std.specs.Prelude.{◌≡◌, List, [], ◌∷◌}
+use Rattle.gb_core.specs.declared.ty.Ty.{Ty}
+use Rattle.gb_terms.specs.declared.term.Term.{Term}
+use Rattle.gb_terms.specs.declared.term.Head.TheVariants.{All}
+use Rattle.gb_terms.specs.Make.{node}
+use Rattle.gb_walk.specs.declared.change.Change.TheVariants.{OfBound}
+use Rattle.gb_walk.specs.Change.{term_changed}
+use Rattle.gb_goal.specs.declared.sequent.Sequent.{Sequent}
+use Rattle.gb_meaning.specs.Written.{type_of}
+use Rattle.gb_changes.specs.Plain.{IsPlain}
+use Rattle.gb_typing.specs.Context.{Context}
+use Rattle.gb_typing.specs.Typing.{IsTyped, IsForm}
+use Rattle.gb_amb.specs.Closed.{IsAmong}
+
+-- a term that stands for a value of a type, and speaks of no program
+pub record IsArgument (c : Context) (u : Ty) (a : Term) : Type 0 where
+  pub typed : IsTyped c a
+  pub type : type_of a ≡ u
+  pub plain : IsPlain a
+
+-- what the body of a `forall` says of a term
+abbrev pub at_argument : Term → Term → Term
+at_argument f a = term_changed f (OfBound 0 a ∷ [])
+
+-- what a form says of terms, one after another
+abbrev pub Says : Context → Term → List Term → Term → Type 0
+Says c f [] g = f ≡ g
+Says c f (a ∷ es) g = (u : Ty) × (b : Term) × (r : Ty) × (f ≡ node (All u) (b ∷ []) r) × IsArgument c u a × Says c (at_argument b a) es g
+
+-- A form that a hypothesis of a goal says of terms.
+pub record IsInstance (q : Sequent) (c : Context) (f : Term) : Type 0 where
+  pub known : Term
+  pub among : IsAmong q.hyps known
+  pub form : IsForm c known
+  pub terms : List Term
+  pub says : Says c known terms f
