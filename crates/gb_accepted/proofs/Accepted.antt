@@ -6,8 +6,8 @@ use Rattle.gb_holds.specs.Declared.{declared}
 use Rattle.gb_holds.specs.Holds.{Holds}
 use Rattle.gb_typing.specs.Sequents.{IsTypedSequent}
 use Rattle.gb_typing.specs.Scopes.{context_of}
-use Rattle.gb_verdict.specs.Session.{Session}
-use Rattle.gb_verdict.specs.Verdict.{IsOutcome}
+use Rattle.gb_theory.specs.Built.{Session}
+use Rattle.gb_theory.specs.Outcome.{IsOutcome}
 use Rattle.gb_accepted.specs.Holding.{Lemma, IsProved, IsPromise, lemmas_in, IsPromised}
 use Rattle.gb_accepted.proofs.Grounds.{Grounds}
 use Rattle.gb_accepted.proofs.Runs.{outcome_is_good}

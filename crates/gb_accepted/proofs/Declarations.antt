@@ -16,20 +16,24 @@ use Rattle.gb_elab_mod.specs.Lemmas.{lemma_name, statement_given}
 use Rattle.gb_elab_prog.specs.Modules.{module_given}
 use Rattle.gb_typing.specs.Scopes.{is_declared, IsTypedScope}
 use Rattle.gb_elab_laws.proofs.Given.{given_bind, given_is, if_given}
-use Rattle.gb_verdict.specs.Session.{Session, OpenProof, with_entries, with_goals, with_proved}
-use Rattle.gb_verdict.specs.Limits.{declaration_limit, each_limit}
-use Rattle.gb_verdict.specs.Commands.{within, outside, brought, requires_files, assumes, brings, declares, opens, begun, ended}
+use Rattle.gb_theory.specs.Built.{Session, OpenProof, with_entries, with_goals, with_proved}
+use Rattle.gb_theory.specs.Limits.{declaration_limit, each_limit}
+use Rattle.gb_theory.specs.Commands.{within, outside, brought, requires_files, assumes, brings, declares, opens, begun, ended}
 use Rattle.gb_accepted.proofs.Given.{nothing_given, given_outside}
 use Rattle.gb_accepted.proofs.Grounds.{Grounds}
-use Rattle.gb_accepted.proofs.Good.{IsGoodProof, IsGoodIfOpen, IsGood}
-use Rattle.gb_accepted.proofs.Later.{names_stay, proved_later, name_added, proved_with}
+use Rattle.gb_later.specs.Naming.{NoName}
+use Rattle.gb_models.specs.Speaking.{ScopeSpeaks}
+use Rattle.gb_accepted.proofs.Good.{IsGoodProof, IsGoodIfOpen, IsGood, StatesProcedures}
+use Rattle.gb_accepted.proofs.Later.{each_later, each_with, names_stay, proved_later, name_added, proved_with}
 
 -- a session in which more is declared, none of which is a lemma
-with_more : (s : Session) (added : Declarations) → s.proof ≡ None → IsGood s → IsTypedScope (declared (s.scope ++ added)) → AreNoLemmas added → IsGood (with_entries s added)
-with_more s added none g typed others = record {
+with_more : Grounds → (s : Session) (added : Declarations) → s.proof ≡ None → IsGood s → IsTypedScope (declared (s.scope ++ added)) → AreNoLemmas added → ScopeSpeaks NoName (declared added) → IsGood (with_entries s added)
+with_more o s added none g typed others speaks = record {
   typed = typed;
   sound = gained_others s.scope added others g.sound;
   lemmas = record { names = names_stay s.scope added others ∙ g.lemmas.names; proved = proved_later s.scope added others g.lemmas.proved };
+  speaks = (o.models.parts s.scope added).1 (g.speaks, speaks);
+  statements = each_later s.scope added others StatesProcedures g.statements;
   proof = subst (IsGoodIfOpen _) (sym none) tt;
 }
 
@@ -39,7 +43,7 @@ brings_keeps o s t place next g e =
     let b = given_bind (entries_given s.scope t) _ next a.2 in
     let c = given_bind (within (declaration_limit (declarations_in s.scope)) place) _ next b.2 in
     subst IsGood (given_is _ _ c.2)
-    (with_more s b.0 (given_outside s.proof place a.0 a.1) g (o.typing.entries_added s.scope g.typed t b.0 b.1) (o.typing.others s.scope t b.0 b.1))
+    (with_more o s b.0 (given_outside s.proof place a.0 a.1) g (o.typing.entries_added s.scope g.typed t b.0 b.1) (o.typing.others s.scope t b.0 b.1) (o.typing.entries_speak s.scope g.typed t b.0 b.1))
 
 pub requires_keeps : (s : Session) (names : List Node) (place : Place) (next : Session) → IsGood s → requires_files s names place ≡ given next → IsGood next
 requires_keeps s names place next g e =
@@ -56,7 +60,7 @@ declares_keeps o s t place next g e =
     let b = given_bind (module_given s.scope t) _ next a.2 in
     let c = given_bind (within (declaration_limit (declarations_in s.scope)) place) _ next b.2 in
     subst IsGood (given_is _ _ c.2)
-    (with_more s ((b.0.name, entry.Module b.0) ∷ []) (given_outside s.proof place a.0 a.1) g (o.typing.module_added s.scope g.typed t b.0 b.1) (refl, tt))
+    (with_more o s ((b.0.name, entry.Module b.0) ∷ []) (given_outside s.proof place a.0 a.1) g (o.typing.module_added s.scope g.typed t b.0 b.1) (refl, tt) (o.typing.module_speaks s.scope g.typed t b.0 b.1, tt))
 
 pub opens_keeps : Grounds → (s : Session) (t : Node) (name : List ℕ) (place : Place) (next : Session) → IsGood s → lemma_name t ≡ name →
     opens s t name place ≡ given next → IsGood next
@@ -70,11 +74,14 @@ opens_keeps o s t name place next g named e =
       typed = g.typed;
       sound = g.sound;
       lemmas = record { names = g.lemmas.names; proved = g.lemmas.proved };
+      speaks = g.speaks;
+      statements = g.statements;
       proof = record {
         free = subst (λ n. is_declared (declared s.scope) n ≡ false) named (o.typing.free s.scope t b.0 b.1);
         statement = typed;
         goals = (typed, tt);
         leads = λ hs. hs.0;
+        procedures = o.typing.procedures s.scope g.typed t b.0 b.1;
       };
     })
 
@@ -84,7 +91,9 @@ begun_keeps s p place next g h e =
       typed = g.typed;
       sound = g.sound;
       lemmas = record { names = g.lemmas.names; proved = g.lemmas.proved };
-      proof = record { free = h.free; statement = h.statement; goals = h.goals; leads = h.leads };
+      speaks = g.speaks;
+      statements = g.statements;
+      proof = record { free = h.free; statement = h.statement; goals = h.goals; leads = h.leads; procedures = h.procedures };
     })
 
 -- the lemma of an open proof holds, and is declared
@@ -96,6 +105,8 @@ proved_is_good o s p g h holds = record {
     names = name_added s.scope p.name p.statement ∙ ap (λ ns. ns ++ p.name ∷ []) g.lemmas.names;
     proved = proved_with s.scope p.name p.statement g.lemmas.proved g.typed h.statement holds;
   };
+  speaks = (o.models.parts s.scope ((p.name, entry.Lemma p.statement) ∷ [])).1 (g.speaks, (tt, tt));
+  statements = each_with s.scope p.name p.statement StatesProcedures g.statements h.procedures;
   proof = tt;
 }
 

@@ -4,8 +4,8 @@ use Rattle.gb_core.specs.declared.place.Place.{Place}
 use Rattle.gb_core.specs.declared.refusal.Why.{Why}
 use Rattle.gb_goal.specs.Answers.{Answer, placed_at}
 use Rattle.gb_goal.specs.Answers.Answer.{given, refused}
-use Rattle.gb_verdict.specs.Session.{OpenProof}
-use Rattle.gb_verdict.specs.Commands.{After, outside}
+use Rattle.gb_theory.specs.Built.{OpenProof}
+use Rattle.gb_theory.specs.Commands.{After, outside}
 
 -- a refusal gives nothing
 pub nothing_given : {A B : Type 0} (w : Why) (p : Place) (x : A) → refused w p ≡ given x → B

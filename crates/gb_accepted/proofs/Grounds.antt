@@ -1,5 +1,5 @@
 -- What the crates below promise: of typing, of rules and of models.
-use Rattle.std.specs.Prelude.{◌≡◌, true, false, List, [], ◌∷◌, ◌++◌}
+use Rattle.std.specs.Prelude.{◌≡◌, ◌↔◌, true, false, List, [], ◌∷◌, ◌++◌}
 use Rattle.std.specs.List.{All, AllByRecursion}
 use Rattle.gb_core.specs.declared.ty.Ty.TheVariants as ty
 use Rattle.gb_core.specs.declared.place.Place.{Place}
@@ -21,25 +21,34 @@ use Rattle.gb_steps.specs.declared.step.AmbientRule.{AmbientRule}
 use Rattle.gb_steps.specs.declared.step.Rule.{Rule}
 use Rattle.gb_steps.specs.declared.step.Rule.TheVariants.{Ambient, Use}
 use Rattle.gb_steps.specs.declared.step.Multiple.{Multiple}
+use Rattle.gb_steps.specs.declared.step.RewriteRule.{RewriteRule}
 use Rattle.gb_steps.specs.declared.step.UseRule.{UseRule}
+use Rattle.gb_steps.specs.Told.{told}
 use Rattle.gb_steps.specs.declared.step.Step.{Step}
 use Rattle.gb_meaning.specs.Names.{Name}
 use Rattle.gb_meaning.specs.Written.{type_of}
-use Rattle.gb_holds.specs.Declared.{Declarations, declared}
+use Rattle.gb_holds.specs.Declared.{Declarations, concrete_module, declared}
+use Rattle.gb_later.specs.Naming.{NoName}
 use Rattle.gb_holds.specs.Holds.{Holds}
 use Rattle.gb_holds.specs.Truth.{has_module}
 use Rattle.gb_typing.specs.Context.{Context}
+use Rattle.gb_typing.specs.Typing.{IsForm}
 use Rattle.gb_typing.specs.Sequents.{IsConclusion, of_sequent, IsTypedSequent}
 use Rattle.gb_typing.specs.Scopes.{context_of, is_declared, IsTypedScope}
-use Rattle.gb_rules.specs.Typing.{IsGoalOver, IsTypedGoal}
-use Rattle.gb_rules.specs.Rules.{no_arguments, outermost, IsSoundAt, IsSoundIn, IsSoundRule, IsSoundRuleIn}
+use Rattle.gb_typing.specs.Goals.{IsGoalOver, IsTypedGoal}
+use Rattle.gb_typing.specs.Rules.{no_arguments, outermost, IsSoundAt, IsSoundIn, IsSoundRule, IsSoundRuleIn}
 use Rattle.gb_bodies.specs.Rows as bodies
 use Rattle.gb_equiv.specs.Rows as equiv
 use Rattle.gb_equiv.specs.Rows.{IsTypedRule}
 use Rattle.gb_phoare.specs.Rows as chance_rows
+use Rattle.gb_call.specs.Rows as call_rows
 use Rattle.gb_amb.specs.Steps.{IsAnswer, IsTypedStep, LeadTo}
 use Rattle.gb_linear.specs.Closing.{linear_answer}
+use Rattle.gb_use.specs.Lemmas.{IsKnown, LemmasHold}
 use Rattle.gb_use.specs.Uses as uses
+use Rattle.gb_rewrite.specs.Rewriting.{IsUsable, rewrite_answer}
+use Rattle.gb_elab_laws.specs.Procedures.{AreStated, IsOfProcedures}
+use Rattle.gb_models.specs.Speaking.{DeclarationSpeaks, GoalSpeaks, ScopeSpeaks}
 use Rattle.gb_smt.specs.Leaves.{leaves_of}
 use Rattle.gb_smt.specs.Apply.{IsClosed}
 use Rattle.gb_elab_prog.specs.Entries.{entries_given}
@@ -62,6 +71,9 @@ around ds q t = of_sequent (context_of (declared ds)) q t.frames
 pub record OfTyping : Type 0 where
   pub entries_added : (ds : scope.Declarations) → IsTyped ds → (t : Node) (added : scope.Declarations) → entries_given ds t ≡ given added → IsTyped (ds ++ added)
   pub others : (ds : scope.Declarations) (t : Node) (added : scope.Declarations) → entries_given ds t ≡ given added → AreNoLemmas added
+  pub entries_speak : (ds : scope.Declarations) → IsTyped ds → (t : Node) (added : scope.Declarations) → entries_given ds t ≡ given added → ScopeSpeaks NoName (declared added)
+  pub module_speaks : (ds : scope.Declarations) → IsTyped ds → (t : Node) (m : Module) → module_given ds t ≡ given m → DeclarationSpeaks NoName (concrete_module m)
+  pub procedures : (ds : scope.Declarations) → IsTyped ds → (t : Node) (q : Sequent) → statement_given ds t ≡ given q → IsOfProcedures q
   pub module_added : (ds : scope.Declarations) → IsTyped ds → (t : Node) (m : Module) → module_given ds t ≡ given m → IsTyped (ds ++ (m.name, entry.Module m) ∷ [])
   pub statement : (ds : scope.Declarations) → IsTyped ds → (t : Node) (q : Sequent) → statement_given ds t ≡ given q → IsTypedGoalOf ds q
   pub free : (ds : scope.Declarations) (t : Node) (q : Sequent) → statement_given ds t ≡ given q → is_declared (declared ds) (lemma_name t) ≡ false
@@ -69,12 +81,16 @@ pub record OfTyping : Type 0 where
       IsTyped (ds ++ (n, entry.Lemma q) ∷ [])
   pub body_rule : (ds : scope.Declarations) → IsTyped ds → (q : Sequent) (t : IsTypedGoalOf ds q) (n : Node) (s : Step) → step_given ds q n ≡ given s →
       (ls rs : List TypedName) → IsGoalOver (around ds q t) ls rs (goal_of q.conclusion) → bodies.IsTypedRule (around ds q t) s.rule ls rs (goal_of q.conclusion)
+  pub hints : (ds : scope.Declarations) → IsTyped ds → AreStated ds → (q : Sequent) (t : IsTypedGoalOf ds q) (n : Node) (s : Step) → step_given ds q n ≡ given s →
+      AllByRecursion (λ f. IsForm (around ds q t) f × IsKnown (declared ds) q (around ds q t) f) (told s.rule)
   pub conclusion : (ds : scope.Declarations) → IsTyped ds → (q : Sequent) (t : IsTypedGoalOf ds q) (n : Node) (s : Step) → step_given ds q n ≡ given s →
       (r : AmbientRule) → s.rule ≡ Ambient r → IsTypedStep (around ds q t) q.conclusion r
-  pub used : (ds : scope.Declarations) → IsTyped ds → (q : Sequent) (t : IsTypedGoalOf ds q) (n : Node) (s : Step) → step_given ds q n ≡ given s →
-      (r : UseRule) → s.rule ≡ Use r → uses.IsTypedStep q (around ds q t) r
+  pub used : (ds : scope.Declarations) → IsTyped ds → AreStated ds → (q : Sequent) (t : IsTypedGoalOf ds q) (n : Node) (s : Step) → step_given ds q n ≡ given s →
+      (r : UseRule) → s.rule ≡ Use r → uses.IsTypedStep (declared ds) q (around ds q t) r
   pub rule : (ds : scope.Declarations) → IsTyped ds → (q : Sequent) (t : IsTypedGoalOf ds q) (n : Node) (s : Step) → step_given ds q n ≡ given s →
       (ls rs : List TypedName) → IsGoalOver (around ds q t) ls rs (goal_of q.conclusion) → IsTypedRule (around ds q t) s.rule ls rs (goal_of q.conclusion)
+  pub call_rule : (ds : scope.Declarations) → IsTyped ds → (q : Sequent) (t : IsTypedGoalOf ds q) (n : Node) (s : Step) → step_given ds q n ≡ given s →
+      (ls rs : List TypedName) → IsGoalOver (around ds q t) ls rs (goal_of q.conclusion) → call_rows.IsTypedRule (around ds q t) s.rule ls rs (goal_of q.conclusion)
 
 -- Rules are sound.
 pub record OfRules : Type 0 where
@@ -94,19 +110,30 @@ pub record OfRules : Type 0 where
   pub chances : (ds : scope.Declarations) → IsTyped ds → (q : Sequent) (t : IsTypedGoalOf ds q) (r : Rule) →
       IsSoundRuleIn (declared ds) (around ds q t) (chance_rows.rule_row ds r) no_arguments
   pub chances_refuse : (ds : scope.Declarations) (r : Rule) (f : Term) → chance_rows.rule_row ds r (ambient f) ≡ refusing Shape
+  pub calls : (ds : scope.Declarations) → IsTyped ds → (q : Sequent) (t : IsTypedGoalOf ds q) (r : Rule) →
+      IsSoundRuleIn (declared ds) (around ds q t) (call_rows.rule_row ds r) (call_rows.IsTypedRule (around ds q t) r)
+  pub calls_refuse : (ds : scope.Declarations) (r : Rule) (f : Term) → call_rows.rule_row ds r (ambient f) ≡ refusing Shape
   pub on_conclusions : (ds : Declarations) → IsTypedScope ds → (q : Sequent) (t : IsTypedSequent (context_of ds) q) → (r : AmbientRule) →
       IsTypedStep (of_sequent (context_of ds) q t.frames) q.conclusion r → (place : Place) (qs : List Sequent) → IsAnswer r place q (given qs) → LeadTo ds q qs
-  pub on_uses : (ds : Declarations) → IsTypedScope ds → (q : Sequent) (t : IsTypedSequent (context_of ds) q) → (r : UseRule) →
-      uses.IsTypedStep q (of_sequent (context_of ds) q t.frames) r → (place : Place) (qs : List Sequent) → uses.IsAnswer r place q (given qs) → LeadTo ds q qs
-  pub smt : (ds : Declarations) → IsTypedScope ds → (q : Sequent) → IsTypedSequent (context_of ds) q → All IsClosed (leaves_of q) → Holds ds q
+  pub on_uses : (ds : Declarations) → IsTypedScope ds → LemmasHold ds → (q : Sequent) (t : IsTypedSequent (context_of ds) q) → (r : UseRule) →
+      uses.IsTypedStep ds q (of_sequent (context_of ds) q t.frames) r → (place : Place) (qs : List Sequent) → uses.IsAnswer r place q (given qs) → LeadTo ds q qs
+  pub on_equals : (ds : Declarations) → IsTypedScope ds → (q : Sequent) (t : IsTypedSequent (context_of ds) q) → (r : RewriteRule) →
+      IsUsable ds q (of_sequent (context_of ds) q t.frames) r → (place : Place) (qs : List Sequent) → given qs ≡ rewrite_answer r place q → LeadTo ds q qs
+  pub smt : (ds : scope.Declarations) → IsTyped ds → (q : Sequent) (t : IsTypedGoalOf ds q) → (known : List Term) → AllByRecursion (IsForm (around ds q t)) known →
+      All (IsClosed ds) (leaves_of known q) → AllByRecursion (λ f. Holds (declared ds) (record q { conclusion = f })) known → Holds (declared ds) q
+  pub instances : (ds : Declarations) → IsTypedScope ds → LemmasHold ds → (q : Sequent) (t : IsTypedSequent (context_of ds) q) → (f : Term) →
+      IsForm (of_sequent (context_of ds) q t.frames) f → IsKnown ds q (of_sequent (context_of ds) q t.frames) f → Holds ds (record q { conclusion = f })
   pub linear : (ds : Declarations) → IsTypedScope ds → (q : Sequent) → IsTypedSequent (context_of ds) q → (ms : List Multiple) (place : Place) (qs : List Sequent) →
       linear_answer ms place q ≡ given qs → AllByRecursion (IsTypedSequent (context_of ds)) qs × (AllByRecursion (Holds ds) qs → Holds ds q)
 
--- Typed scopes have models, and equivalences give couplings.
+-- Typed scopes have models, equivalences give couplings, and what holds goes on to hold.
 pub record OfModels : Type 0 where
   pub model : (ds : scope.Declarations) → IsTyped ds → HasModel ds
   pub coupled : (ds : scope.Declarations) → IsTyped ds → (xs : List TypedName) (ms : List Name) (f h : ProcRef) (P Q : Term) → IsTypedGoalOf ds (stated xs ms (equivalence f h P Q)) →
       Holds (declared ds) (stated xs ms (equivalence f h P Q)) → AreCoupledInEachModel ds xs f h P Q
+  pub stay : (ds es : scope.Declarations) → IsTyped (ds ++ es) → (q : Sequent) → IsTypedGoalOf ds q → ScopeSpeaks NoName (declared (ds ++ es)) → GoalSpeaks NoName q → Holds (declared ds) q → Holds (declared (ds ++ es)) q
+  pub stay_typed : (ds es : scope.Declarations) → IsTyped (ds ++ es) → (q : Sequent) → IsTypedGoalOf ds q → IsTypedGoalOf (ds ++ es) q
+  pub parts : (ds es : scope.Declarations) → ScopeSpeaks NoName (declared (ds ++ es)) ↔ (ScopeSpeaks NoName (declared ds) × ScopeSpeaks NoName (declared es))
 
 pub record Grounds : Type 0 where
   pub typing : OfTyping

@@ -53,12 +53,15 @@ module _ (ds added : Declarations) (others : AreNoLemmas added) where
   pub names_stay : names_of (lemmas_in [] (ds ++ added)) ≡ names_of (lemmas_in [] ds)
   names_stay = ap names_of same_lemmas
 
+  pub each_later : (P : Lemma → Type 0) → AllByRecursion P (lemmas_in [] ds) → AllByRecursion P (lemmas_in [] (ds ++ added))
+  each_later P h = subst (AllByRecursion P) (sym same_lemmas) h
+
   pub proved_later : AllByRecursion IsProved (lemmas_in [] ds) → AllByRecursion IsProved (lemmas_in [] (ds ++ added))
-  proved_later h = subst (AllByRecursion IsProved) (sym same_lemmas) h
+  proved_later h = each_later IsProved h
 
 -- a lemma is added behind the others
 module _ (ds : Declarations) (n : Name) (q : Sequent) where
-  abbrev last : Lemma
+  abbrev pub last : Lemma
   last = record { name = n; before = ds; statement = q }
 
   one_more : lemmas_in [] (ds ++ (n, entry.Lemma q) ∷ []) ≡ lemmas_in [] ds ++ last ∷ []
@@ -67,7 +70,9 @@ module _ (ds : Declarations) (n : Name) (q : Sequent) where
   pub name_added : names_of (lemmas_in [] (ds ++ (n, entry.Lemma q) ∷ [])) ≡ names_of (lemmas_in [] ds) ++ n ∷ []
   name_added = ap names_of one_more ∙ map-append (λ (l : Lemma). l.name) (lemmas_in [] ds) (last ∷ [])
 
+  pub each_with : (P : Lemma → Type 0) → AllByRecursion P (lemmas_in [] ds) → P last → AllByRecursion P (lemmas_in [] (ds ++ (n, entry.Lemma q) ∷ []))
+  each_with P h k = subst (AllByRecursion P) (sym one_more) (each_together P (lemmas_in [] ds) (last ∷ []) h (k, tt))
+
   pub proved_with : AllByRecursion IsProved (lemmas_in [] ds) → IsTypedScope (declared ds) → IsTypedSequent (context_of (declared ds)) q → Holds (declared ds) q → AllByRecursion IsProved (lemmas_in [] (ds ++ (n, entry.Lemma q) ∷ []))
   proved_with h s t k =
-      let new : IsProved last = record { scope = s; typed = t; holds = k } in
-      subst (AllByRecursion IsProved) (sym one_more) (each_together IsProved (lemmas_in [] ds) (last ∷ []) h (new, tt))
+      let new : IsProved last = record { scope = s; typed = t; holds = k } in each_with IsProved h new

@@ -2,6 +2,7 @@ mod Grounds
 mod Given
 mod Good
 mod Later
+mod Kept
 mod Subgoals
 mod Tactics
 mod Declarations

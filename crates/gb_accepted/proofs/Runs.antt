@@ -13,9 +13,9 @@ use Rattle.gb_goal.specs.Answers.{Answer}
 use Rattle.gb_goal.specs.Answers.Answer.{given}
 use Rattle.gb_elab_mod.specs.Lemmas.{name_in}
 use Rattle.gb_elab_laws.proofs.Given.{given_is}
-use Rattle.gb_verdict.specs.Session.{Session, OpenProof, fresh_session}
-use Rattle.gb_verdict.specs.Commands.{InProof, Proves, ComesToOf, ComesTo}
-use Rattle.gb_verdict.specs.Verdict.{RunsTo, IsEnd, Ends, Goes, RunsIn, start, IsOutcome}
+use Rattle.gb_theory.specs.Built.{Session, OpenProof, fresh_session}
+use Rattle.gb_theory.specs.Commands.{InProof, Proves, ComesToOf, ComesTo}
+use Rattle.gb_theory.specs.Outcome.{RunsTo, IsEnd, Ends, Goes, RunsIn, start, IsOutcome}
 use Rattle.gb_accepted.proofs.Given.{nothing_given, given_after, given_placed}
 use Rattle.gb_accepted.proofs.Grounds.{Grounds}
 use Rattle.gb_accepted.proofs.Good.{IsGoodProof, IsGoodIfOpen, IsGood, fresh_is_good}

@@ -14,7 +14,7 @@ use Rattle.gb_holds.specs.Holds.{Holds, IsSound}
 use Rattle.gb_typing.specs.Sequents.{IsTypedSequent}
 use Rattle.gb_typing.specs.Scopes.{context_of, IsTypedScope}
 use Rattle.gb_models.specs.Promised.{HasModel, equivalence, stated, AreCoupledInEachModel}
-use Rattle.gb_verdict.specs.Session.{Session}
+use Rattle.gb_theory.specs.Built.{Session}
 
 -- A lemma: its name, the declarations before it, and its statement.
 pub record Lemma : Type 0 where

@@ -2,17 +2,18 @@
 
 ghost use Rattle.std.specs.Prelude.{ℕ, List};
 ghost use Rattle.gb_goal.specs.Answers.Answer.{given};
-ghost use Rattle.gb_verdict.specs.Session.{Session};
-ghost use Rattle.gb_verdict.specs.Verdict.{IsOutcome};
+ghost use Rattle.gb_theory.specs.Built.{Session};
+ghost use Rattle.gb_theory.specs.Outcome.{IsOutcome};
 ghost use Rattle.gb_accepted.specs.Holding.{IsPromised};
 
 use gb_elab_laws::declaration_laws::{entries, lemmas, modules, statements};
 use gb_elab_laws::step_laws::{typed_forms, typed_rules};
 use gb_linear_laws::laws::linear_is_sound;
 use gb_models::promise_laws::{equivalences_give_couplings, typed_scopes_have_models};
-use gb_rules::goal_laws::{fronts, typing};
-use gb_rules::rule_laws::{contexts, declared_settings, sequents};
-use gb_smt_laws::smt_laws::sound_smt;
+use gb_models::stay_laws::{goals_stay, goals_stay_typed, parts_of_scopes};
+use gb_smt_sound::laws::sound_smt;
+use gb_typing::goal_laws::{fronts, typing};
+use gb_typing::rule_laws::{contexts, declared_settings, sequents};
 
 /// Where a script comes to a session, and to no refusal, the scope of the session is typed, so that each name is
 /// declared once; it is sound; and the lemmas that the session names are those of the scope, in their order, each of
@@ -38,10 +39,17 @@ pub fn accepted_scripts()
     gb_equiv::laws::other_goals();
     gb_phoare::laws::chance_rules();
     gb_phoare::laws::no_judgments();
+    gb_call::laws::call_rules();
+    gb_call::laws::other_conclusions();
     gb_amb::laws::steps();
     gb_use::laws::sound_uses();
+    gb_use::laws::instances_hold();
+    gb_rewrite::laws::sound_rewriting();
     sound_smt();
     linear_is_sound();
     typed_scopes_have_models();
     equivalences_give_couplings();
+    goals_stay();
+    goals_stay_typed();
+    parts_of_scopes();
 }

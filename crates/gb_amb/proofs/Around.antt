@@ -17,7 +17,7 @@ use Rattle.gb_typing.specs.Sequents.{IsConclusion, AreFormulas, of_sequent, IsTy
 use Rattle.gb_typing.specs.Scopes.{context_of, IsTypedScope}
 use Rattle.gb_typing.proofs.Models.{each_setting}
 use Rattle.gb_amb.specs.Steps.{LeadTo}
-use Rattle.gb_rules.proofs.Lifted.{InEachSequent, each, joined, state_fits}
+use Rattle.gb_typing.proofs.Lifted.{InEachSequent, each, joined, state_fits}
 
 -- what a goal of a context says: its hypotheses and its conclusion
 pub record Part : Type 0 where
@@ -56,14 +56,26 @@ module _ (ds : Declarations) (scope : IsTypedScope ds) (q : Sequent) (t : IsType
     typed_parts ps w.1,
   )
 
+  -- a fact for each interpretation of the context, beside its setting
+  abbrev Beside : (Interpretation → Type 0) → Interpretation → Type 0
+  Beside F k = F k × IsSettingOf here (setting ds k)
+
+  -- what is typed and implies the goal, where a fact is known, in each fitting setting and for all values and memories
+  pub parts_lead_by : (F : Interpretation → Type 0) → InEachSequent ds q F → (ps : List Part) → AllByRecursion IsTypedPart ps →
+      ((k : Interpretation) → F k → IsSettingOf here (setting ds k) → (vs : List Value) (ms : List Memory) → IsStateOf here (setting ds k) (context vs ms) → AllByRecursion (IsTruePart k (context vs ms)) ps →
+      IsTruePart k (context vs ms) (record { hyps = q.hyps; conclusion = q.conclusion })) → LeadTo ds q (map placed ps)
+  parts_lead_by F known ps w f = record {
+    typed = typed_parts ps w;
+    leads = λ h. joined ds q (Beside F) (AreTrueParts ps)
+        (λ k. (vs : List Value) → AreValues (types_of ds k) (map (λ x. x.ty) q.logical) vs → (ms : List Memory) → IsTruePart k (context vs ms) (record { hyps = q.hyps; conclusion = q.conclusion }))
+        (λ k y x vs v ms. f k y.0 y.1 vs ms (state_fits ds q t.frames k vs ms v) (x vs v ms))
+        (joined ds q F (λ k. IsSettingOf here (setting ds k)) (Beside F) (λ k x y. (x, y)) known (each_setting ds scope q t.modules t.frames)) (gathered ps h);
+  }
+
   -- what is typed and implies the goal in each fitting setting and state
   pub parts_lead : (ps : List Part) → AllByRecursion IsTypedPart ps →
       ((k : Interpretation) → IsSettingOf here (setting ds k) → (s : State) → IsStateOf here (setting ds k) s → AllByRecursion (IsTruePart k s) ps →
       IsTruePart k s (record { hyps = q.hyps; conclusion = q.conclusion })) → LeadTo ds q (map placed ps)
-  parts_lead ps w f = record {
-    typed = typed_parts ps w;
-    leads = λ h. joined ds q (λ k. IsSettingOf here (setting ds k)) (AreTrueParts ps)
-        (λ k. (vs : List Value) → AreValues (types_of ds k) (map (λ x. x.ty) q.logical) vs → (ms : List Memory) → IsTruePart k (context vs ms) (record { hyps = q.hyps; conclusion = q.conclusion }))
-        (λ k fits x vs v ms. f k fits (context vs ms) (state_fits ds q t.frames k vs ms v) (x vs v ms))
-        (each_setting ds scope q t.modules t.frames) (gathered ps h);
-  }
+  parts_lead ps w f =
+      parts_lead_by (λ k. Unit {0}) (λ w size table m. each ds (declared_modules ds) (interpretation w size table) _ (λ i. each ds q.modules i (λ k. Unit {0}) (λ k. tt))) ps w
+      (λ k x fits vs ms fit y. f k fits (context vs ms) fit y)

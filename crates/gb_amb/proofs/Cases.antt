@@ -30,9 +30,9 @@ use Rattle.gb_typing.specs.Typing.{IsForm}
 use Rattle.gb_typing.specs.Formulas.{IsFormula}
 use Rattle.gb_typing.specs.Sequents.{IsConclusion}
 use Rattle.gb_typing.proofs.Conclusions.{formula_form}
-use Rattle.gb_rules.specs.Forms.{implies_form, not_form}
-use Rattle.gb_rules.proofs.Conclusions.{no_module}
-use Rattle.gb_rules.proofs.Forms.{implies_typed, implies_use, not_make}
+use Rattle.gb_typing.specs.Forms.{implies_form, not_form}
+use Rattle.gb_typing.proofs.TypedGoals.{no_module}
+use Rattle.gb_typing.proofs.Forms.{implies_typed, implies_use, not_make}
 use Rattle.gb_goal.specs.Goal.{is_body_at, judges_bodies}
 use mathlib.Core.Former.{Count}
 

@@ -43,8 +43,8 @@ use Rattle.gb_typing.proofs.Conclusions.{formula_form}
 use Rattle.gb_typing.proofs.Made.{IsNode, parts_typed}
 use Rattle.gb_typing.proofs.Models.{each_setting}
 use Rattle.gb_goal.specs.Goal.Goal.{ambient}
-use Rattle.gb_rules.proofs.Conclusions.{goal_conclusion, no_module as front_of}
-use Rattle.gb_rules.proofs.Lifted.{InEachSequent, joined, sequent_outermost}
+use Rattle.gb_typing.proofs.TypedGoals.{goal_conclusion, no_module as front_of}
+use Rattle.gb_typing.proofs.Lifted.{InEachSequent, joined, sequent_outermost}
 use Rattle.gb_amb.specs.Quantified.{quantifies_modules, goal_quantifies_modules}
 use Rattle.gb_amb.specs.Introduced.{with_variable, with_memory}
 use Rattle.gb_amb.specs.Steps.{LeadTo}

@@ -1,6 +1,7 @@
--- An equation or an equivalence of a typed term with itself is true.
-use Rattle.std.proofs.Common.{◌≡◌, ℕ, zero, suc, pred, ◌<◌, Bool, true, false, List, [], ◌∷◌, Option, Some, None, refl, ap, ◌∙◌, arith}
+-- An equation or an equivalence of a typed term with itself is true, and typed terms mean values of their types.
+use Rattle.std.proofs.Common.{◌≡◌, ℕ, zero, suc, pred, ◌<◌, Bool, true, false, List, [], ◌∷◌, Option, Some, None, refl, ap, sym, ◌∙◌, subst, arith}
 use Rattle.std.proofs.Math.Path.{fun_ext}
+use Rattle.std.proofs.lemmas.Bool.{false≢true}
 use Rattle.std.proofs.lemmas.Bool.Decides.{Decides-int_eq}
 use Rattle.gb_core.specs.declared.ty.Ty.{Ty}
 use Rattle.gb_core.specs.declared.ty.Ty.TheVariants as ty
@@ -94,6 +95,12 @@ same_itself ts t (weights d) w n = none t w.0 n
     none (ty.Distr' p x) w n = absurd n
     none _ w n = absurd w
 
+fraction_of : (ts : Types) (x : Meaning) → IsOf ts ty.Real x → (a : Fraction) × (x ≡ fraction a)
+fraction_of ts (finite v) w = absurd (false≢true w)
+fraction_of ts (whole n) w = absurd w
+fraction_of ts (fraction a) w = (a, refl)
+fraction_of ts (weights d) w = absurd w.0
+
 alike_itself : (b : Bool) → alike b b ≡ true
 alike_itself true = refl
 alike_itself false = refl
@@ -122,3 +129,13 @@ module _ (c : Context) (g : Setting) (fits : IsSettingOf c g) (j : Judge) (s : S
         e ∙ typed_value (erased c) g fits.types (said g j) (said_fractional g j) a k n s fit,
         typed_has (erased c) g fits.types (said g j) (said_fractional g j) a k n s fit,
       )
+
+  -- a typed term means something of its type
+  pub meaning_is_of : IsTyped c a → IsOf g.types (type_of a) (val g (speaking g j) a s)
+  meaning_is_of w =
+      subst (IsOf g.types (type_of a)) (sym (val_said g j a (sound_form g c (procedures_sound c g fits) a w) s))
+      (typed_meaning (erased c) g fits.types (said g j) (said_fractional g j) a (erased_typed c a w) s fit)
+
+  -- a real means a fraction
+  pub real_value : IsTyped c a → type_of a ≡ ty.Real → (x : Fraction) × (val g (speaking g j) a s ≡ fraction x)
+  real_value w n = fraction_of g.types (val g (speaking g j) a s) (subst (λ t. IsOf g.types t (val g (speaking g j) a s)) n (meaning_is_of w))

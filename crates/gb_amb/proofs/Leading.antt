@@ -13,7 +13,7 @@ use Rattle.gb_goal.specs.Answers.{nowhere}
 use Rattle.gb_laws.proofs.Nodes.{each_is_node}
 use Rattle.gb_typing.specs.Formulas.{IsFormula}
 use Rattle.gb_typing.specs.Sequents.{with_modules}
-use Rattle.gb_rules.proofs.Lifted.{sequent_outermost}
+use Rattle.gb_typing.proofs.Lifted.{sequent_outermost}
 use Rattle.gb_amb.specs.Quantified.{goal_quantifies_modules}
 use Rattle.gb_amb.specs.Introduced.{unless_modules, with_premise}
 use Rattle.gb_amb.proofs.Premises.{Follows, premise_follows}
@@ -36,11 +36,11 @@ use Rattle.gb_typing.specs.Typing.{IsForm}
 use Rattle.gb_typing.specs.Sequents.{IsConclusion, AreFormulas, IsTypedSequent}
 use Rattle.gb_typing.specs.Scopes.{context_of, IsTypedScope}
 use Rattle.gb_typing.proofs.Sound.{procedures_sound, sound_form}
-use Rattle.gb_rules.specs.Forms.{implies_form, not_form}
+use Rattle.gb_typing.specs.Forms.{implies_form, not_form}
 use Rattle.gb_goal.specs.Goal.Goal.{ambient}
-use Rattle.gb_rules.proofs.Conclusions.{goal_conclusion, goal_front}
-use Rattle.gb_rules.proofs.Forms.{not_typed}
-use Rattle.gb_rules.proofs.Given.{refused_at, same_given}
+use Rattle.gb_typing.proofs.TypedGoals.{goal_conclusion, goal_front}
+use Rattle.gb_typing.proofs.Forms.{not_typed}
+use Rattle.gb_typing.proofs.Given.{refused_at, same_given}
 use Rattle.gb_goal.specs.Goal.{judges_bodies}
 use Rattle.gb_amb.specs.Parts.{concluding, each_concluding, by_shape, parts_of, by_parts}
 use Rattle.gb_amb.specs.Closed.{IsAmong}
@@ -111,7 +111,7 @@ module _ (ds : Declarations) (scope : IsTypedScope ds) (q : Sequent) (t : IsType
       subst (LeadTo ds q) (same_goals fs)
       (parts_lead ds scope q t (map part_of fs) (typed_forms fs k.from.typed)
       (λ i fits s fit x h. (without_modules ds q.conclusion i s (form_front c q.conclusion k.form)).1
-      (λ j fair. k.from.implied (setting ds i) j s (true_forms i s fs k.from.typed x h j fair))))
+      (λ j fair. k.from.implied (setting ds i) j s fits fit (true_forms i s fs k.from.typed x h j fair))))
 
   -- the parts by a premise
   pub here_small : c ≡ small (with_modules (context_of ds) q.modules) (map (λ x. x.ty) q.logical) (map (λ l. Some l) t.frames)

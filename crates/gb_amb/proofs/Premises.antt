@@ -45,11 +45,11 @@ use Rattle.gb_typing.proofs.Formed.{formed}
 use Rattle.gb_typing.proofs.Made.{made_node, parts_typed}
 use Rattle.gb_typing.proofs.Sound.{procedures_sound, sound_form}
 use Rattle.gb_typing.proofs.Uses.{uses_of, uses_typed}
-use Rattle.gb_rules.specs.Forms.{implies_form}
+use Rattle.gb_typing.specs.Forms.{implies_form}
 use Rattle.gb_goal.specs.Goal.Goal.{ambient}
-use Rattle.gb_rules.proofs.Conclusions.{goal_conclusion, no_module as front_of}
-use Rattle.gb_rules.proofs.Forms.{and_use, form_made, implies_typed, implies_use, made_form}
-use Rattle.gb_rules.proofs.Given.{refused_at, same_given}
+use Rattle.gb_typing.proofs.TypedGoals.{goal_conclusion, no_module as front_of}
+use Rattle.gb_typing.proofs.Forms.{and_use, form_made, implies_typed, implies_use, made_form}
+use Rattle.gb_typing.proofs.Given.{refused_at, same_given}
 use Rattle.gb_amb.specs.Parts.{by_premise, unless_module}
 use Rattle.gb_amb.specs.Quantified.{quantifies_modules}
 use Rattle.gb_amb.proofs.Cases.{implication_formula, implication_made, implication_typed, implication_used}

@@ -29,7 +29,7 @@ use Rattle.gb_holds.specs.Truth.{has_module}
 use Rattle.gb_typing.specs.Typing.{IsTyped, IsForm}
 use Rattle.gb_typing.specs.Sequents.{IsTypedSequent}
 use Rattle.gb_typing.specs.Scopes.{context_of, IsTypedScope}
-use Rattle.gb_rules.proofs.Given.{refused_at, same_given}
+use Rattle.gb_typing.proofs.Given.{refused_at, same_given}
 use Rattle.gb_goal.specs.Goal.{judges_bodies}
 use Rattle.gb_amb.specs.Parts.{concluding, by_parts}
 use Rattle.gb_amb.specs.Closed.{IsAmong, IsClosed}

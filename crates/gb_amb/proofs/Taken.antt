@@ -1,5 +1,5 @@
 -- The parts of a conclusion are typed, and imply it.
-use Rattle.std.proofs.Common.{◌≡◌, ◌⊎◌, inl, inr, Bool, true, false, ◌||◌, List, [], ◌∷◌, refl, ap, sym, ◌∙◌, subst}
+use Rattle.std.proofs.Common.{◌≡◌, ◌⊎◌, inl, inr, Bool, true, false, ◌||◌, pos, negsuc, List, [], ◌∷◌, refl, ap, sym, ◌∙◌, subst}
 use Rattle.std.specs.List.{AllByRecursion}
 use Rattle.std.proofs.lemmas.Bool.{false≢true}
 use Rattle.gb_core.specs.declared.place.Place.{Place}
@@ -10,36 +10,44 @@ use Rattle.gb_terms.specs.declared.op.Op.TheVariants as op
 use Rattle.gb_terms.specs.declared.term.Term.{Term, Term', Row_of-Term, end_of-Term, more_of-Term, end_of-Head, more_of-Head, out-Term}
 use Rattle.gb_terms.specs.declared.term.Head.{Head}
 use Rattle.gb_terms.specs.declared.term.Head.TheVariants as head
-use Rattle.gb_terms.specs.Make.{node}
+use Rattle.gb_terms.specs.Make.{applied, node}
 use Rattle.gb_goal.specs.Answers.Answer.{given, refused}
 use Rattle.gb_steps.specs.declared.step.AmbientRule.{AmbientRule}
 use Rattle.gb_steps.specs.declared.step.AmbientRule.TheVariants.{Split, Left, Right, Discard}
 use Rattle.gb_meaning.specs.Commands.{terms_in}
-use Rattle.gb_meaning.specs.Operators.{alike}
-use Rattle.gb_meaning.specs.Setting.{Setting}
+use Rattle.gb_meaning.specs.Fractions.{Fraction, absolute, opposite}
+use Rattle.gb_meaning.specs.Meanings.{fraction_in, truth}
+use Rattle.gb_meaning.specs.Operators.{alike, at_most, negated}
+use Rattle.gb_meaning.specs.Setting.{Meaning, Setting}
+use Rattle.gb_meaning.specs.Setting.Meaning.{fraction}
+use Rattle.gb_meaning.specs.Terms.{val}
 use Rattle.gb_meaning.specs.State.{State}
 use Rattle.gb_meaning.specs.Written.{type_of}
-use Rattle.gb_meaning.specs.Judgments.{Judge, den, IsTrueUnder}
-use Rattle.gb_laws.proofs.Nodes.{each_is_node}
-use Rattle.gb_judge.proofs.Truths.{true_or, true_iff}
+use Rattle.gb_meaning.specs.Judgments.{Judge, den, IsTrueUnder, speaking}
+use Rattle.gb_laws.proofs.Nodes.{each_is_node, val_node}
+use Rattle.gb_judge.proofs.Truths.{true_or, true_iff, truth_of}
 use Rattle.gb_changes.proofs.Trees.{out_is}
 use Rattle.gb_holds.specs.Truth.{Choice, has_module, last_has_module}
 use Rattle.gb_typed.specs.Typing.{types_of, IsHead}
+use Rattle.gb_typed.proofs.Nodes.{type_of_node}
 use Rattle.gb_typing.specs.Context.{Context, erased}
-use Rattle.gb_typing.specs.Typing.{AreTyped, IsForm}
+use Rattle.gb_typing.specs.Typing.{AreTyped, IsForm, IsTyped}
+use Rattle.gb_typing.specs.Fits.{IsSettingOf, IsStateOf}
+use Rattle.gb_typing.proofs.Made.{made_node, parts_typed}
 use Rattle.gb_typing.specs.Formulas.{IsFirstForm, IsFormula, IsLastFormula}
 use Rattle.gb_typing.specs.Sequents.{IsConclusion}
-use Rattle.gb_rules.specs.Forms.{implies_form}
-use Rattle.gb_rules.proofs.Forms.{implies_typed, implies_use, and_make}
-use Rattle.gb_rules.proofs.Given.{refused_at, same_given}
-use Rattle.gb_amb.specs.Parts.{by_premise, by_shape, parts_at, parts_of}
+use Rattle.gb_typing.specs.Forms.{implies_form}
+use Rattle.gb_typing.proofs.Forms.{form_made, implies_typed, implies_use, and_make}
+use Rattle.gb_typing.proofs.Given.{refused_at, same_given}
+use Rattle.gb_amb.specs.Parts.{at_most_form, bounded_at, by_premise, by_shape, parts_at, parts_of}
 use Rattle.gb_amb.proofs.Cases.{form_formula}
+use Rattle.gb_amb.proofs.Itself.{real_value}
 use mathlib.Core.Former.{Count}
 
--- a form, and typed forms that imply it under each judge
+-- a form, and typed forms that imply it under each judge, in the settings and states of their context
 pub record ComesFrom (c : Context) (f : Term) (fs : List Term) : Type 0 where
   pub typed : AllByRecursion (IsForm c) fs
-  pub implied : (g : Setting) (j : Judge) (s : State) → AllByRecursion (λ a. IsTrueUnder g j a s) fs → IsTrueUnder g j f s
+  pub implied : (g : Setting) (j : Judge) (s : State) → IsSettingOf c g → IsStateOf c g s → AllByRecursion (λ a. IsTrueUnder g j a s) fs → IsTrueUnder g j f s
 
 alike_made : (a b : Bool) → (a ≡ true → b ≡ true) → (b ≡ true → a ≡ true) → alike a b ≡ true
 alike_made true true f h = refl
@@ -55,6 +63,47 @@ right_true : (a b : Bool) → b ≡ true → (a || b) ≡ true
 right_true true b e = refl
 right_true false b e = e
 
+-- bounds on reals
+
+abbrev opposite_of : Term → Term
+opposite_of x = applied op.Negate (x ∷ []) ty.Real
+
+module _ (c : Context) where
+  at_most_typed : (a b : Term) → IsTyped c a → IsTyped c b → type_of a ≡ ty.Real → type_of b ≡ ty.Real → IsForm c (at_most_form a b)
+  at_most_typed a b v w x y =
+      form_made c (at_most_form a b)
+      (made_node c (head.Builtin op.AtMost) (ty.Real ∷ ty.Real ∷ []) (a ∷ b ∷ []) ty.Bool (tt, refl, refl) tt []
+      (record { typed = v; written = x }, record { typed = w; written = y }))
+
+  opposite_typed : (a : Term) → IsTyped c a → type_of a ≡ ty.Real → IsTyped c (opposite_of a)
+  opposite_typed a v x =
+      let m = made_node c (head.Builtin op.Negate) (ty.Real ∷ []) (a ∷ []) ty.Real (tt, refl) tt [] (record { typed = v; written = x }) in
+      m.typed
+
+absolute_below : (x : Fraction) (y : Meaning) → at_most (fraction x) y ≡ true → at_most (fraction (opposite x)) y ≡ true → at_most (fraction (absolute x)) y ≡ true
+absolute_below (pos n, d) y h k = h
+absolute_below (negsuc n, d) y h k = k
+
+module _ (c : Context) (g : Setting) (j : Judge) (s : State) (fits : IsSettingOf c g) (fit : IsStateOf c g s) where
+  abbrev M : Term → Meaning
+  M t = val g (speaking g j) t s
+
+  compared : (a b : Term) → den g j (at_most_form a b) s ≡ at_most (M a) (M b)
+  compared a b = ap truth (val_node g (speaking g j) (head.Builtin op.AtMost) (a ∷ b ∷ []) ty.Bool s) ∙ truth_of (at_most (M a) (M b))
+
+  -- an absolute value is at most what a real and its opposite are at most
+  absolute_true : (x b : Term) (u : Ty) → IsTyped c x → type_of x ≡ ty.Real → IsTrueUnder g j (at_most_form x b) s → IsTrueUnder g j (at_most_form (opposite_of x) b) s →
+      IsTrueUnder g j (at_most_form (node (head.Builtin op.Abs) (x ∷ []) u) b) s
+  absolute_true x b u w is h k =
+      let v = real_value c g fits j s fit x w is in
+      let direct = subst (λ m. at_most m (M b) ≡ true) v.1 (sym (compared x b) ∙ h) in
+      let opposed = subst (λ m. at_most (negated m) (M b) ≡ true) v.1
+      (subst (λ m. at_most m (M b) ≡ true) (val_node g (speaking g j) (head.Builtin op.Negate) (x ∷ []) ty.Real s) (sym (compared (opposite_of x) b) ∙ k)) in
+      compared (node (head.Builtin op.Abs) (x ∷ []) u) b
+      ∙ ap (λ m. at_most m (M b)) (val_node g (speaking g j) (head.Builtin op.Abs) (x ∷ []) u s)
+      ∙ ap (λ m. at_most (fraction (absolute (fraction_in m))) (M b)) v.1
+      ∙ absolute_below v.0 (M b) direct opposed
+
 module _ (c : Context) (r : AmbientRule) (place : Place) where
   abbrev at_node : Head → List Term → Ty → List Term → Type 0
   at_node h ts t fs = ComesFrom c (node h ts t) fs
@@ -64,7 +113,7 @@ module _ (c : Context) (r : AmbientRule) (place : Place) where
   of_and (more_of-Term a (more_of-Term b end_of-Term)) t k w fs e =
       subst (at_node (head.Builtin op.And) (a ∷ b ∷ []) t) (same_given (a ∷ b ∷ []) fs e) (record {
         typed = (record { typed = w.0; truth = k.0 }, (record { typed = w.1; truth = k.1.0 }, tt));
-        implied = λ g j s h. subst (λ t. IsTrueUnder g j (node (head.Builtin op.And) (a ∷ b ∷ []) t) s) (sym k.1.1.0) (and_make g j a b s h.0 h.1.0);
+        implied = λ g j s fits fit h. subst (λ t. IsTrueUnder g j (node (head.Builtin op.And) (a ∷ b ∷ []) t) s) (sym k.1.1.0) (and_make g j a b s h.0 h.1.0);
       })
   of_and end_of-Term t k w fs e = refused_at Shape place fs e
   of_and (more_of-Term a end_of-Term) t k w fs e = refused_at Shape place fs e
@@ -77,7 +126,7 @@ module _ (c : Context) (r : AmbientRule) (place : Place) where
       let y : IsForm c b = record { typed = w.1; truth = k.1.0 } in
       subst (at_node (head.Builtin op.Iff) (a ∷ b ∷ []) t) (same_given (implies_form a b ∷ implies_form b a ∷ []) fs e) (record {
         typed = (implies_typed c a b x y, (implies_typed c b a y x, tt));
-        implied = λ g j s h. subst (λ t. IsTrueUnder g j (node (head.Builtin op.Iff) (a ∷ b ∷ []) t) s) (sym k.1.1.0)
+        implied = λ g j s fits fit h. subst (λ t. IsTrueUnder g j (node (head.Builtin op.Iff) (a ∷ b ∷ []) t) s) (sym k.1.1.0)
             (true_iff g j a b s ∙ alike_made (den g j a s) (den g j b s) (implies_use g j a b s h.0) (implies_use g j b a s h.1.0));
       })
   of_iff end_of-Term t k w fs e = refused_at Shape place fs e
@@ -89,7 +138,7 @@ module _ (c : Context) (r : AmbientRule) (place : Place) where
   of_left (more_of-Term a (more_of-Term b end_of-Term)) t k w fs e =
       subst (at_node (head.Builtin op.Or) (a ∷ b ∷ []) t) (same_given (a ∷ []) fs e) (record {
         typed = (record { typed = w.0; truth = k.0 }, tt);
-        implied = λ g j s h. subst (λ t. IsTrueUnder g j (node (head.Builtin op.Or) (a ∷ b ∷ []) t) s) (sym k.1.1.0)
+        implied = λ g j s fits fit h. subst (λ t. IsTrueUnder g j (node (head.Builtin op.Or) (a ∷ b ∷ []) t) s) (sym k.1.1.0)
             (true_or g j a b s ∙ left_true (den g j a s) (den g j b s) h.0);
       })
   of_left end_of-Term t k w fs e = refused_at Shape place fs e
@@ -101,12 +150,34 @@ module _ (c : Context) (r : AmbientRule) (place : Place) where
   of_right (more_of-Term a (more_of-Term b end_of-Term)) t k w fs e =
       subst (at_node (head.Builtin op.Or) (a ∷ b ∷ []) t) (same_given (b ∷ []) fs e) (record {
         typed = (record { typed = w.1; truth = k.1.0 }, tt);
-        implied = λ g j s h. subst (λ t. IsTrueUnder g j (node (head.Builtin op.Or) (a ∷ b ∷ []) t) s) (sym k.1.1.0)
+        implied = λ g j s fits fit h. subst (λ t. IsTrueUnder g j (node (head.Builtin op.Or) (a ∷ b ∷ []) t) s) (sym k.1.1.0)
             (true_or g j a b s ∙ right_true (den g j a s) (den g j b s) h.0);
       })
   of_right end_of-Term t k w fs e = refused_at Shape place fs e
   of_right (more_of-Term a end_of-Term) t k w fs e = refused_at Shape place fs e
   of_right (more_of-Term a (more_of-Term b (more_of-Term d ts))) t k w fs e = refused_at Shape place fs e
+
+  -- a bound on an absolute value
+  bounded_by : (a b : Term) (t : Ty) → IsTyped c a → IsTyped c b → type_of a ≡ type_of b → t ≡ ty.Bool → (fs : List Term) → (h : Head) (ts : List Term) (u : Ty) → a ≡ node h ts u →
+      bounded_at place h ts b ≡ given fs → at_node (head.Builtin op.AtMost) (a ∷ b ∷ []) t fs
+  bounded_by a b t v w same is fs (head.Builtin op.Abs) (x ∷ []) u e k =
+      let n = parts_typed c (head.Builtin op.Abs) (x ∷ []) u (subst (IsTyped c) e v) in
+      let real = sym same ∙ ap type_of e ∙ type_of_node (head.Builtin op.Abs) (x ∷ []) u ∙ n.0.1.0 in
+      subst (at_node (head.Builtin op.AtMost) (a ∷ b ∷ []) t) (same_given _ fs k) (record {
+        typed = (at_most_typed c x b n.3 w n.0.0 real, (at_most_typed c (opposite_of x) b (opposite_typed c x n.3 n.0.0) w (type_of_node (head.Builtin op.Negate) (x ∷ []) ty.Real) real, tt));
+        implied = λ g j s fits fit h. subst (λ t. IsTrueUnder g j (node (head.Builtin op.AtMost) (a ∷ b ∷ []) t) s) (sym is)
+            (subst (λ a. IsTrueUnder g j (at_most_form a b) s) (sym e)
+            (absolute_true c g j s fits fit x b u n.3 n.0.0 h.0 h.1.0));
+      })
+  bounded_by a b t v w same is fs h ts u e k = refused_at Shape place fs k
+
+  of_bound : {n : Count} (ts : Row_of-Term n) (t : Ty) → IsHead (erased c) (head.Builtin op.AtMost) (types_of ts) t → AreTyped c c c ts → (fs : List Term) →
+      parts_at Split place (head.Builtin op.AtMost) (terms_in ts) ≡ given fs → at_node (head.Builtin op.AtMost) (terms_in ts) t fs
+  of_bound (more_of-Term a (more_of-Term b end_of-Term)) t k w fs e =
+      bounded_by a b t w.0 w.1 k.1 k.2 fs (out-Term a).head (out-Term a).args (out-Term a).ty (each_is_node a) e
+  of_bound end_of-Term t k w fs e = refused_at Shape place fs e
+  of_bound (more_of-Term a end_of-Term) t k w fs e = refused_at Shape place fs e
+  of_bound (more_of-Term a (more_of-Term b (more_of-Term d ts))) t k w fs e = refused_at Shape place fs e
 
 -- a conclusion that has parts is a form
 pub record IsTaken (c : Context) (f : Term) (fs : List Term) : Type 0 where
@@ -194,6 +265,8 @@ module _ (c : Context) (place : Place) where
       taken Split (head.Builtin op.And) n ts t fs w (of_and c Split place ts t w.typed.0 w.typed.3 fs (by_layer Split (head.Builtin op.And) n ts t fs e))
   parts_taken Split (Term' tt (more_of-Head (head.Builtin op.Iff) end_of-Head) n ts t) w fs e =
       taken Split (head.Builtin op.Iff) n ts t fs w (of_iff c Split place ts t w.typed.0 w.typed.3 fs (by_layer Split (head.Builtin op.Iff) n ts t fs e))
+  parts_taken Split (Term' tt (more_of-Head (head.Builtin op.AtMost) end_of-Head) n ts t) w fs e =
+      taken Split (head.Builtin op.AtMost) n ts t fs w (of_bound c Split place ts t w.typed.0 w.typed.3 fs (by_layer Split (head.Builtin op.AtMost) n ts t fs e))
   parts_taken Left (Term' tt (more_of-Head (head.Builtin op.Or) end_of-Head) n ts t) w fs e =
       taken Left (head.Builtin op.Or) n ts t fs w (of_left c Left place ts t w.typed.0 w.typed.3 fs (by_layer Left (head.Builtin op.Or) n ts t fs e))
   parts_taken Right (Term' tt (more_of-Head (head.Builtin op.Or) end_of-Head) n ts t) w fs e =

@@ -25,8 +25,8 @@ use Rattle.gb_typing.specs.Typing.{IsFrame, IsPlace, IsForm}
 use Rattle.gb_typing.specs.Changes.{binder, IsLeaf, Becomes, Leads, Made, Stays, no_read}
 use Rattle.gb_typing.proofs.Changed.{changed}
 use Rattle.gb_typing.proofs.Made.{made_node}
-use Rattle.gb_rules.specs.Rules.{outermost}
-use Rattle.gb_rules.proofs.Every.{leaf_moved, side_of}
+use Rattle.gb_typing.specs.Rules.{outermost}
+use Rattle.gb_typing.proofs.Every.{leaf_moved, side_of}
 use Rattle.gb_amb.proofs.Idle.{unchanged}
 
 module _ (b : Context) where

@@ -53,8 +53,8 @@ use Rattle.gb_typing.proofs.Sound.{procedures_sound, sound_form}
 use Rattle.gb_typing.proofs.Substituted.{finite_no_distribution}
 use Rattle.gb_typing.proofs.Uses.{uses_of, uses_typed}
 use Rattle.gb_goal.specs.Goal.Goal.{ambient}
-use Rattle.gb_rules.proofs.Conclusions.{goal_conclusion, no_module as front_of}
-use Rattle.gb_rules.proofs.Every.{leaf_moved, side_of}
+use Rattle.gb_typing.proofs.TypedGoals.{goal_conclusion, no_module as front_of}
+use Rattle.gb_typing.proofs.Every.{leaf_moved, side_of}
 use Rattle.gb_amb.proofs.Idle.{unchanged}
 use Rattle.gb_amb.proofs.Itself.{finite_value}
 use Rattle.gb_amb.proofs.Premises.{Follows}

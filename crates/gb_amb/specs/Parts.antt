@@ -2,18 +2,18 @@
 use Rattle.std.specs.Prelude.{List, [], ◌∷◌, map, if◌then◌else◌}
 use Rattle.gb_core.specs.declared.place.Place.{Place}
 use Rattle.gb_core.specs.declared.refusal.Why.TheVariants.{Shape}
-use Rattle.gb_core.specs.declared.ty.Ty.TheVariants.{Bool as bool_ty}
-use Rattle.gb_terms.specs.declared.op.Op.TheVariants.{And, Or, Iff, Implies}
+use Rattle.gb_core.specs.declared.ty.Ty.TheVariants.{Bool as bool_ty, Real as real_ty}
+use Rattle.gb_terms.specs.declared.op.Op.TheVariants.{Abs, And, AtMost, Iff, Implies, Negate, Or}
 use Rattle.gb_terms.specs.declared.term.Term.{Term, out-Term}
 use Rattle.gb_terms.specs.declared.term.Head.{Head}
 use Rattle.gb_terms.specs.declared.term.Head.TheVariants.{Builtin, All, Some, AllMemory, SomeMemory}
-use Rattle.gb_terms.specs.Make.{node}
+use Rattle.gb_terms.specs.Make.{applied, node}
 use Rattle.gb_goal.specs.Answers.{Answer}
 use Rattle.gb_goal.specs.Answers.Answer.{given, refused}
 use Rattle.gb_goal.specs.declared.sequent.Sequent.{Sequent}
 use Rattle.gb_steps.specs.declared.step.AmbientRule.{AmbientRule}
 use Rattle.gb_steps.specs.declared.step.AmbientRule.TheVariants.{Split, Left, Right, Discard, Unpack, Branch}
-use Rattle.gb_rules.specs.Forms.{implies_form}
+use Rattle.gb_typing.specs.Forms.{implies_form}
 use Rattle.gb_amb.specs.Quantified.{quantifies_modules}
 
 -- a form with c behind a quantifier; with a quantifier over modules in c this isn't built
@@ -31,11 +31,20 @@ by_premise Unpack place SomeMemory (a ∷ []) c = unless_module place c (node Al
 by_premise Branch place (Builtin Or) (a ∷ b ∷ []) c = given (implies_form a c ∷ implies_form b c ∷ [])
 by_premise r place h ts c = refused Shape place
 
--- the parts of a conclusion with this head and these arguments: those of a conjunction or of an equivalence, or one side of a
--- disjunction
+abbrev pub at_most_form : Term → Term → Term
+at_most_form a b = applied AtMost (a ∷ b ∷ []) bool_ty
+
+-- That a term with this head and these arguments is at most a bound: an absolute value is where the real is, and its opposite.
+abbrev pub bounded_at : Place → Head → List Term → Term → Answer (List Term)
+bounded_at place (Builtin Abs) (r ∷ []) b = given (at_most_form r b ∷ at_most_form (applied Negate (r ∷ []) real_ty) b ∷ [])
+bounded_at place h ts b = refused Shape place
+
+-- the parts of a conclusion with this head and these arguments: those of a conjunction, of an equivalence or of a bound on an absolute
+-- value, or one side of a disjunction
 abbrev pub parts_at : AmbientRule → Place → Head → List Term → Answer (List Term)
 parts_at Split place (Builtin And) (a ∷ b ∷ []) = given (a ∷ b ∷ [])
 parts_at Split place (Builtin Iff) (a ∷ b ∷ []) = given (implies_form a b ∷ implies_form b a ∷ [])
+parts_at Split place (Builtin AtMost) (a ∷ b ∷ []) = bounded_at place (out-Term a).head (out-Term a).args b
 parts_at Left place (Builtin Or) (a ∷ b ∷ []) = given (a ∷ [])
 parts_at Right place (Builtin Or) (a ∷ b ∷ []) = given (b ∷ [])
 parts_at r place h ts = refused Shape place

@@ -21,7 +21,7 @@ use Rattle.gb_typing.specs.Context.{Context}
 use Rattle.gb_typing.specs.Typing.{IsTyped, IsForm}
 use Rattle.gb_typing.specs.Sequents.{IsTypedSequent}
 use Rattle.gb_typing.specs.Scopes.{context_of}
-use Rattle.gb_rules.specs.Forms.{implies_form, not_form}
+use Rattle.gb_typing.specs.Forms.{implies_form, not_form}
 use Rattle.gb_amb.specs.Closed.{IsAmong, IsClosed}
 use Rattle.gb_amb.specs.Introduced.{introduced}
 use Rattle.gb_amb.specs.Parts.{concluding, by_parts}

@@ -4,7 +4,7 @@ ghost use Rattle.std.specs.Prelude.{◌≡◌, [], ◌∷◌, IfOk};
 ghost use Rattle.gb_goal.specs.Answers.Answer.{given, refused};
 ghost use Rattle.gb_core.specs.declared.refusal.Why.TheVariants.{Shape};
 ghost use Rattle.gb_goal.specs.Answers.{Answers};
-ghost use Rattle.gb_rules.specs.Forms.{implies_form, not_form};
+ghost use Rattle.gb_typing.specs.Forms.{implies_form, not_form};
 ghost use Rattle.gb_amb.specs.Parts.{concluding};
 ghost use Rattle.gb_amb.specs.Steps.{assuming, by_cases, Decides, IsAnswer, Returns};
 ghost use Rattle.gb_amb.specs.Closed.{IsAmong};

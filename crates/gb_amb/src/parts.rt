@@ -2,11 +2,12 @@
 
 ghost use Rattle.std.specs.Prelude.{◌≡◌, [], ◌∷◌, IfOk};
 ghost use Rattle.gb_goal.specs.Answers.{Answers};
-ghost use Rattle.gb_rules.specs.Forms.{implies_form};
-ghost use Rattle.gb_core.specs.declared.ty.Ty.TheVariants.{Bool as bool_ty};
+ghost use Rattle.gb_typing.specs.Forms.{implies_form};
+ghost use Rattle.gb_core.specs.declared.ty.Ty.TheVariants.{Bool as bool_ty, Real as real_ty};
+ghost use Rattle.gb_terms.specs.declared.op.Op.TheVariants.{Negate};
 ghost use Rattle.gb_terms.specs.declared.term.Head.TheVariants.{All, AllMemory};
-ghost use Rattle.gb_terms.specs.Make.{node};
-ghost use Rattle.gb_amb.specs.Parts.{by_parts, by_premise, by_shape, each_concluding, parts_at};
+ghost use Rattle.gb_terms.specs.Make.{applied, node};
+ghost use Rattle.gb_amb.specs.Parts.{at_most_form, bounded_at, by_parts, by_premise, by_shape, each_concluding, parts_at};
 
 use crate::goals::{no_shape, one, two};
 use crate::quantified::refuse_modules;
@@ -16,7 +17,7 @@ use gb_core::ty::Ty;
 use gb_goal::sequent::{Sequent, Sequents};
 use gb_shared::Shared;
 use gb_steps::step::AmbientRule;
-use gb_terms::make::{forall, implication, over, truth_ty};
+use gb_terms::make::{binary, forall, implication, over, truth_ty, unary};
 use gb_terms::op::Op;
 use gb_terms::term::{Form, Head, Term};
 use std::alloc::{AllocError, Global};
@@ -144,6 +145,54 @@ fn by_premise(
     }
 }
 
+fn at_most(alloc: Global, a: Term, bound: &Term) -> Result<Form, AllocError>
+    ensures { IfOk result (λ made. made ≡ at_most_form a bound.now) }
+{
+    let bound = bound.share()?;
+    let truth = truth_ty(alloc)?;
+    binary(alloc, Op::AtMost, a, bound, truth)
+}
+
+fn opposite(alloc: Global, real: &Term) -> Result<Term, AllocError>
+    ensures { IfOk result (λ made. made ≡ applied Negate (real.now ∷ []) real_ty) }
+{
+    let real = real.share()?;
+    let ty = Shared::new(alloc, Ty::Real)?;
+    unary(alloc, Op::Negate, real, ty)
+}
+
+/// A real and its opposite are at most a bound.
+fn both_signs(
+    alloc: Global,
+    goal: &Sequent,
+    real: &Term,
+    bound: &Term,
+) -> Result<Sequents, AllocError>
+    ensures { IfOk result (λ goals. goals ≡ record goal.now { conclusion = at_most_form real.now bound.now }
+        ∷ record goal.now { conclusion = at_most_form (applied Negate (real.now ∷ []) real_ty) bound.now } ∷ []) }
+{
+    let first = at_most(alloc, real.share()?, bound)?;
+    let second = at_most(alloc, opposite(alloc, real)?, bound)?;
+    two(alloc, goal, first, second)
+}
+
+/// The goals of a bound on a term of this head and these arguments.
+fn bounded(
+    alloc: Global,
+    place: Place,
+    goal: &Sequent,
+    head: &Head,
+    args: &[Term],
+    bound: &Term,
+) -> Result<Sequents, Refused>
+    ensures { Answers (each_concluding goal.now (bounded_at place head.now args.now bound.now)) result }
+{
+    match (head, args) {
+        (Head::Builtin(Op::Abs), [real]) => Ok(both_signs(alloc, goal, real, bound)?),
+        _ => Err(no_shape(place)),
+    }
+}
+
 fn by_head(
     alloc: Global,
     rule: &AmbientRule,
@@ -157,6 +206,9 @@ fn by_head(
     match (rule, head, args) {
         (AmbientRule::Split, Head::Builtin(Op::And), [a, b]) => Ok(both(alloc, goal, a, b)?),
         (AmbientRule::Split, Head::Builtin(Op::Iff), [a, b]) => Ok(both_ways(alloc, goal, a, b)?),
+        (AmbientRule::Split, Head::Builtin(Op::AtMost), [a, b]) => {
+            bounded(alloc, place, goal, a.head.get(), a.args.as_slice(), b)
+        }
         (AmbientRule::Left, Head::Builtin(Op::Or), [a, _]) => Ok(alone(alloc, goal, a)?),
         (AmbientRule::Right, Head::Builtin(Op::Or), [_, b]) => Ok(alone(alloc, goal, b)?),
         _ => Err(no_shape(place)),

@@ -2,3 +2,12 @@ pub mod Written
 pub mod Digits
 pub mod Answered
 pub mod Checked
+pub mod Stable
+pub mod Lines
+pub mod Fronts
+pub mod Answering
+pub mod Ends
+pub mod Turns
+pub mod Asked
+pub mod Sizes
+pub mod Numbered

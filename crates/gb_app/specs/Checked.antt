@@ -6,8 +6,8 @@ use Rattle.gb_outside.specs.Whole.{whole_of}
 use Rattle.gb_outside.specs.declared.whole.ReadRefused.{ReadRefused}
 use Rattle.gb_outside.specs.declared.whole.ReadRefused.TheVariants as read
 use Rattle.gb_goal.specs.Answers.Answer.{given}
-use Rattle.gb_verdict.specs.Session.{Session}
-use Rattle.gb_verdict.specs.Verdict.{start, IsOutcome}
+use Rattle.gb_theory.specs.Built.{Session}
+use Rattle.gb_theory.specs.Outcome.{start, IsOutcome}
 use Rattle.gb_accepted.specs.Holding.{IsPromised}
 use Rattle.gb_theory.specs.declared.verdict.Verdict.{Verdict}
 use Rattle.gb_theory.specs.declared.verdict.Verdict.TheVariants.{Accepted, Refused}

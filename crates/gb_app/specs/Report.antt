@@ -34,6 +34,11 @@ abbrev pub lines_of : List ℕ → Verdict → List (List ℕ)
 lines_of file (Accepted lemmas) = accepted_lines lemmas
 lines_of file (Refused why place) = refused_line file (code_of why) place ∷ []
 
+-- the last one of them
+abbrev pub last_line : List ℕ → Verdict → List ℕ
+last_line file (Accepted lemmas) = accepted_line (length lemmas)
+last_line file (Refused why place) = refused_line file (code_of why) place
+
 -- the bytes of the report
 abbrev pub report_of : List ℕ → Verdict → List ℕ
 report_of file verdict = concat (lines_of file verdict)

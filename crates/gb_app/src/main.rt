@@ -1,9 +1,11 @@
 //! The program `gb`: it checks scripts of game-based proofs.
 #![tactic(auto)]
 
+mod generated;
 mod report;
 mod run;
 mod status;
+mod step;
 #[cfg(test)]
 mod tests;
 mod words;

@@ -6,7 +6,8 @@ ghost use Rattle.std.specs.List.{concat};
 ghost use Rattle.gb_core.specs.Refusal.{code_of};
 ghost use Rattle.gb_outside.specs.Appended.{AppendsFront};
 ghost use Rattle.gb_outside.specs.Counts.{HasRisen};
-ghost use Rattle.gb_app.specs.Report.{lemma_line, accepted_line, accepted_lines, refused_line, lines_of};
+ghost use Rattle.gb_app.specs.Report.{lemma_line, accepted_line, accepted_lines, refused_line, lines_of, last_line};
+ghost use Rattle.gb_app.specs.Screens.{kept_line};
 
 use gb_core::name::{Name, Names};
 use gb_core::place::Place;
@@ -30,13 +31,24 @@ fn accepted_line(alloc: Global, count: usize) -> Result<String, AllocError>
     format!(in alloc; "accepted {count}\n")
 }
 
-fn refused_line(alloc: Global, file: &str, why: &Why, place: Place) -> Result<String, AllocError>
+pub fn refused_line(
+    alloc: Global,
+    file: &str,
+    why: &Why,
+    place: Place,
+) -> Result<String, AllocError>
     ensures { IfOk result (λ line. string_bytes line ≡ refused_line file.now (code_of why.now) place) }
 {
     let code = code(why);
     let line = place.line;
     let col = place.col;
     format!(in alloc; "refused E{code:02} {file} {line} {col}\n")
+}
+
+pub fn kept_line(alloc: Global, count: usize) -> Result<String, AllocError>
+    ensures { IfOk result (λ line. string_bytes line ≡ kept_line count) }
+{
+    format!(in alloc; "kept {count}\n")
 }
 
 fn accepted(alloc: Global, lemmas: &Names) -> Result<Report, AllocError>
@@ -65,6 +77,16 @@ pub fn report(alloc: Global, file: &str, verdict: &Verdict) -> Result<Report, Al
     match verdict {
         Verdict::Accepted(lemmas) => accepted(alloc, lemmas),
         Verdict::Refused { why, place } => refused(alloc, file, why, *place),
+    }
+}
+
+/// The last line of the report on a verdict.
+pub fn last_line(alloc: Global, file: &str, verdict: &Verdict) -> Result<String, AllocError>
+    ensures { IfOk result (λ line. string_bytes line ≡ last_line file.now verdict.now) }
+{
+    match verdict {
+        Verdict::Accepted(lemmas) => accepted_line(alloc, lemmas.len()),
+        Verdict::Refused { why, place } => refused_line(alloc, file, why, *place),
     }
 }
 

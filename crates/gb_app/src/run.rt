@@ -1,40 +1,49 @@
 // The top call.
 
-ghost use Rattle.std.specs.Prelude.{◌≡◌, ◌⊎◌, ℕ, List, true, None, Some, IfSome, IfOk, Err, is_err, IfErr, map, string_bytes};
-ghost use Rattle.std.specs.Io.KnownBytes.{Appends};
+ghost use Rattle.std.specs.Prelude.{◌≡◌, ◌⊎◌, ℕ, List, true, false, None, Some, IfSome, IfOk, Err, is_err, IfErr, map, string_bytes};
+ghost use Rattle.std.specs.Io.KnownBytes.{Appends, Consumes};
 ghost use Rattle.gb_outside.specs.Appended.{AppendsFront};
 ghost use Rattle.gb_outside.specs.Counts.{HasRisen};
 ghost use Rattle.gb_outside.specs.HeldBytes.{bytes_of};
 ghost use Rattle.gb_theory.specs.declared.verdict.Verdict.{Verdict};
-ghost use Rattle.gb_app.specs.Words.{file_of};
+ghost use Rattle.gb_app.specs.Words.{file_of, asks_for_session, number_asked};
 ghost use Rattle.gb_app.specs.Status.{status_of, EndsBy};
 ghost use Rattle.gb_app.specs.Report.{report_of};
 ghost use Rattle.gb_app.specs.Checked.{IsVerdictFor, IsAccepted};
 ghost use Rattle.gb_app.specs.Reply.{usage_line, IsReport, IsReply};
+ghost use Rattle.gb_app.specs.Typing.{Ended};
+ghost use Rattle.gb_app.specs.Generated.{Summarised};
 
+use crate::generated::check_generated;
 use crate::report::{report, write};
 use crate::status::{Status, status_of};
-use crate::words::file_to_check;
+use crate::step::step;
+use crate::words::{asks_for_session, file_to_check, number_asked};
 use gb_accepted::laws::accepted_scripts;
 use gb_outside::{Files, ReadRefused, Sink, Source, read_whole, write_all};
-use gb_theory::verdict::{Verdict, too_long, verdict_on};
-use gb_verdict::laws::one_outcome;
+use gb_session::script::verdict_on;
+use gb_theory::outcome_laws::one_outcome;
+use gb_theory::verdict::{Verdict, too_long};
 use std::alloc::Global;
 
 const USAGE: &[u8] = b"usage: gb check FILE | gb step | gb selftest N\n";
 
 /// Does what the words after the program's name ask for. `check FILE` checks the script FILE and writes the report on
-/// it; any other list of words is answered by the usage line.
+/// it; `step` answers the lines of standard input one after another; `selftest N` checks script N, which is made from the number;
+/// any other list of words is answered by the usage line.
 pub fn run<F: Files, I: Source, K: Sink>(
     alloc: Global,
     words: &[String],
     files: &mut F,
-    _input: &mut I,
+    input: &mut I,
     out: &mut K,
 ) -> Status
     // Words that ask for nothing are answered by the usage line, which takes no memory.
-    ensures usage { file_of (map string_bytes words.now) ≡ None → (result ≡ Status.Usage) ⊎ (result ≡ Status.WriteFault) }
-    ensures usage_only { result ≡ Status.Usage → file_of (map string_bytes words.now) ≡ None }
+    ensures usage { file_of (map string_bytes words.now) ≡ None → asks_for_session (map string_bytes words.now) ≡ false →
+        number_asked (map string_bytes words.now) ≡ None → (result ≡ Status.Usage) ⊎ (result ≡ Status.WriteFault) }
+    ensures usage_only { result ≡ Status.Usage →
+        (file_of (map string_bytes words.now) ≡ None) × (asks_for_session (map string_bytes words.now) ≡ false)
+        × (number_asked (map string_bytes words.now) ≡ None) }
     ensures usage_line { result ≡ Status.Usage → Appends (K.written out.old) (K.written out.new) usage_line }
 
     // The verdict on the file is answered by its report. There is one such verdict, and nothing else is answered, but
@@ -56,22 +65,42 @@ pub fn run<F: Files, I: Source, K: Sink>(
     ensures not_held { IfSome (F.held files.old) (λ held. IfSome (file_of (map string_bytes words.now)) (λ file.
         bytes_of file held ≡ None → (result ≡ Status.Missing) ⊎ (result ≡ Status.ReadFault) ⊎ (result ≡ Status.NoMemory))) }
 
+    // A session writes the screens of what it reads, or a front of them. It is accepted where its input was read to the
+    // end, and refused where its input is too long.
+    ensures session { asks_for_session (map string_bytes words.now) ≡ true → (text : List ℕ)
+        × Consumes (I.left input.old) (I.left input.new) text
+        × Ended result text (I.left input.new) (K.written out.old) (K.written out.new) }
+
+    // The check of a script that is made from a number writes the number, the size, and the last line of the report.
+    ensures summary { IfSome (number_asked (map string_bytes words.now))
+        (λ n. Summarised n result (K.written out.old) (K.written out.new)) }
+
     // Faults come from outside.
-    ensures read_fault { result ≡ Status.ReadFault → HasRisen (F.faults files.old) (F.faults files.new) }
+    ensures read_fault { result ≡ Status.ReadFault → asks_for_session (map string_bytes words.now) ≡ false →
+        HasRisen (F.faults files.old) (F.faults files.new) }
+    ensures input_fault { result ≡ Status.ReadFault → asks_for_session (map string_bytes words.now) ≡ true →
+        HasRisen (I.faults input.old) (I.faults input.new) }
     ensures write_fault { result ≡ Status.WriteFault → HasRisen (K.faults out.old) (K.faults out.new) }
 
     // After a fault of writing a front of the text was written; where nothing is known, nothing.
-    ensures front { result ≡ Status.WriteFault → (text : List ℕ)
+    ensures front { result ≡ Status.WriteFault → asks_for_session (map string_bytes words.now) ≡ false →
+        number_asked (map string_bytes words.now) ≡ None → (text : List ℕ)
         × IsReply (F.held files.old) (file_of (map string_bytes words.now)) text
         × AppendsFront (K.written out.old) (K.written out.new) text }
     ensures silent { (result ≡ Status.Missing) ⊎ (result ≡ Status.ReadFault) ⊎ (result ≡ Status.NoMemory) →
-        K.written out.new ≡ K.written out.old }
+        asks_for_session (map string_bytes words.now) ≡ false → K.written out.new ≡ K.written out.old }
     ensures unchanged { F.held files.new ≡ F.held files.old }
-    // Standard input is left alone.
-    ensures input { _input.new ≡ _input.old }
+    // Standard input is left alone where no session is asked for.
+    ensures input { asks_for_session (map string_bytes words.now) ≡ false → input.new ≡ input.old }
 {
     // Each lemma of an accepted script holds (clause `accepted`).
     accepted_scripts();
+    if asks_for_session(words) {
+        return step(alloc, input, out);
+    }
+    if let Some(count) = number_asked(words) {
+        return check_generated(alloc, count, out);
+    }
     match file_to_check(words) {
         None => match write_all(out, USAGE) {
             Ok(()) => Status::Usage,
@@ -122,7 +151,7 @@ fn file_verdict<F: Files>(alloc: Global, file: &str, files: &mut F) -> Result<Ve
         Err(ReadRefused::Missing) => Err(Status::Missing),
         Err(ReadRefused::ReadFault) => Err(Status::ReadFault),
         Err(ReadRefused::Length) => Ok(too_long()),
-        Ok(text) => match verdict_on(alloc, text.as_slice()) {
+        Ok(text) => match verdict_on(alloc, file, text.as_slice()) {
             Ok(verdict) => Ok(verdict),
             Err(_) => Err(Status::NoMemory),
         },

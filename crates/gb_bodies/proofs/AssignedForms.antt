@@ -41,10 +41,10 @@ use Rattle.gb_typing.proofs.Clashes.{left_of_no_clash}
 use Rattle.gb_typing.proofs.Fitting.{fits_reframed}
 use Rattle.gb_typing.proofs.Puts.{substituted_typed}
 use Rattle.gb_typing.proofs.Substituted.{reads_any, substituted}
-use Rattle.gb_rules.specs.Forms.{IsAlone, located}
-use Rattle.gb_rules.proofs.Assigned.{located_put}
-use Rattle.gb_rules.proofs.ClashFree.{one_clear}
-use Rattle.gb_rules.proofs.Located.{located_value}
+use Rattle.gb_typing.specs.Forms.{IsAlone, located}
+use Rattle.gb_typing.proofs.Assigned.{located_put}
+use Rattle.gb_typing.proofs.ClashFree.{one_clear}
+use Rattle.gb_typing.proofs.InMemory.{located_value}
 use Rattle.gb_bodies.specs.Assigned.{assigned_form, clashing, is_clashing, parts, put_in, taken}
 use Rattle.gb_bodies.proofs.Parts.{AreTaken, parts_taken, parts_values}
 
@@ -64,7 +64,7 @@ put_read s side.Right i m = refl
 put_read s (side.Memory k) i m = absurd i
 put_read s (side.Bound k) i m = absurd i
 
-put_itself : (s : State) (r : Side) → with_side s r (memory_of s r) ≡ s
+pub put_itself : (s : State) (r : Side) → with_side s r (memory_of s r) ≡ s
 put_itself s side.Own = refl
 put_itself s side.Left = refl
 put_itself s side.Right = refl
@@ -73,24 +73,24 @@ put_itself s (side.Bound k) = refl
 
 -- Writes one after another.
 
-all_behind : {A : Type 0} (P : A → Type 0) (us : List A) (w : A) → AllByRecursion P us → P w → AllByRecursion P (us ++ w ∷ [])
+pub all_behind : {A : Type 0} (P : A → Type 0) (us : List A) (w : A) → AllByRecursion P us → P w → AllByRecursion P (us ++ w ∷ [])
 all_behind P [] w h k = (k, tt)
 all_behind P (u ∷ us) w h k = (h.0, all_behind P us w h.1 k)
 
-written_behind : (g : Setting) (s : State) (us : List Written) (w : Written) → all_written g s (us ++ w ∷ []) ≡ all_written g (all_written g s (w ∷ [])) us
+pub written_behind : (g : Setting) (s : State) (us : List Written) (w : Written) → all_written g s (us ++ w ∷ []) ≡ all_written g (all_written g s (w ∷ [])) us
 written_behind g s [] w = refl
 written_behind g s (u ∷ us) w = ap (λ q. with_side q u.side (write g.types (memory_of q u.side) u.variable u.value)) (written_behind g s us w)
 
-abbrev write_of : Side → Var → Term → Value → Written
+abbrev pub write_of : Side → Var → Term → Value → Written
 write_of r x e v = record { variable = x; side = r; term = located r e; value = v }
 
 -- the writes of an assignment, the last one first
-abbrev writes : Side → (Term → Value) → List Var → List Term → List Written
+abbrev pub writes : Side → (Term → Value) → List Var → List Term → List Written
 writes r v [] es = []
 writes r v (x ∷ xs) [] = []
 writes r v (x ∷ xs) (e ∷ es) = writes r v xs es ++ write_of r x e (v e) ∷ []
 
-changes_are : (r : Side) (v : Term → Value) (xs : List Var) (es : List Term) → written_changes (writes r v xs es) ≡ put_in r xs es
+pub changes_are : (r : Side) (v : Term → Value) (xs : List Var) (es : List Term) → written_changes (writes r v xs es) ≡ put_in r xs es
 changes_are r v [] es = refl
 changes_are r v (x ∷ xs) [] = refl
 changes_are r v (x ∷ xs) (e ∷ es) =
@@ -99,7 +99,7 @@ changes_are r v (x ∷ xs) (e ∷ es) =
 
 -- No clash.
 
-abbrev NoClash : Side → Term → List Var → Type 0
+abbrev pub NoClash : Side → Term → List Var → Type 0
 NoClash r f [] = Unit {0}
 NoClash r f (x ∷ xs) = (first_clash r x f ≡ None) × NoClash r f xs
 
@@ -116,15 +116,15 @@ none_found r f (x ∷ xs) e = at (none_found r f xs) (first_clash r x f) refl e
     at rest None k e = (k, rest e)
     at rest (Some y) k e = found_some x (filter (is_clashing r f) xs) e
 
-abbrev EachAlone : Setting → (Var → Bool) → List Var → Type 0
+abbrev pub EachAlone : Setting → (Var → Bool) → List Var → Type 0
 EachAlone g P [] = Unit {0}
 EachAlone g P (x ∷ xs) = IsAlone g x P × EachAlone g P xs
 
-fewer : (g : Setting) (P Q : Var → Bool) → ((y : Var) → P y ≡ true → Q y ≡ true) → (xs : List Var) → EachAlone g Q xs → EachAlone g P xs
+pub fewer : (g : Setting) (P Q : Var → Bool) → ((y : Var) → P y ≡ true → Q y ≡ true) → (xs : List Var) → EachAlone g Q xs → EachAlone g P xs
 fewer g P Q h [] k = tt
 fewer g P Q h (x ∷ xs) k = ((λ y p n. k.0 y (h y p) n), fewer g P Q h xs k.1)
 
-in_both : (P Q : Readable) (u : Use) → both (reading P) (reading Q) u ≡ reading (λ s y. P s y && Q s y) u
+pub in_both : (P Q : Readable) (u : Use) → both (reading P) (reading Q) u ≡ reading (λ s y. P s y && Q s y) u
 in_both P Q (read (Logical i) ty) = refl
 in_both P Q (read (Program z s) ty) = refl
 in_both P Q (bound i) = refl
@@ -134,7 +134,7 @@ in_both P Q binds_own = refl
 in_both P Q binds_sides = refl
 
 -- the form reads variables alone among which none clashes with one of these, but itself
-all_clear : (c : Context) (f : Term) → IsTyped c f → (r : Side) → IsSide r → (xs : List Var) → NoClash r f xs →
+pub all_clear : (c : Context) (f : Term) → IsTyped c f → (r : Side) → IsSide r → (xs : List Var) → NoClash r f xs →
     (P : Readable) × IsWithin (reading P) f × ((g : Setting) → EachAlone g (P r) xs)
 all_clear c f w r i [] n = (every_variable, reads_any c f w, λ g. tt)
 all_clear c f w r i (x ∷ xs) n =

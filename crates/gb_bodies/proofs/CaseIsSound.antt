@@ -9,10 +9,10 @@ use Rattle.gb_typing.specs.Context.{Context}
 use Rattle.gb_typing.specs.Sequents.{one, two}
 use Rattle.gb_goal.specs.Goal.Code.{body, procedure}
 use Rattle.gb_goal.specs.Goal.Goal.{hoare, phoare, equiv, ambient}
-use Rattle.gb_rules.specs.Forms.{and_form, not_form}
-use Rattle.gb_rules.specs.Rules.{IsSoundRule}
-use Rattle.gb_rules.proofs.Forms.{and_typed, not_typed, and_make, not_make}
-use Rattle.gb_rules.proofs.Given.{refused_given, sound_given}
+use Rattle.gb_typing.specs.Forms.{and_form, not_form}
+use Rattle.gb_typing.specs.Rules.{IsSoundRule}
+use Rattle.gb_typing.proofs.Forms.{and_typed, not_typed, and_make, not_make}
+use Rattle.gb_typing.proofs.Given.{refused_given, sound_given}
 use Rattle.gb_bodies.specs.Case.{case_row, IsTypedCase}
 
 -- a form is true or not

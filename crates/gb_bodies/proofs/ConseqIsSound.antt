@@ -39,13 +39,13 @@ use Rattle.gb_goal.specs.Goal.{Code, Goal}
 use Rattle.gb_goal.specs.Goal.Code.{body, procedure as of_procedure}
 use Rattle.gb_goal.specs.Goal.Goal.{hoare, phoare, equiv, ambient}
 use Rattle.gb_goal.specs.Answers.Answer.{given}
-use Rattle.gb_rules.specs.Forms.{every, every_pair, implies_form}
-use Rattle.gb_rules.specs.Meaning.{Stands, run_of, denominator_of}
-use Rattle.gb_rules.specs.Rules.{Implies, IsSoundRule, outermost}
-use Rattle.gb_rules.specs.Typing.{IsCode, IsGoalOver, IsTypedGoal, frame_before, frame_after}
-use Rattle.gb_rules.proofs.Ambient.{one_typed, one_meaning, pair_typed, pair_meaning}
-use Rattle.gb_rules.proofs.Forms.{made_form, form_made, implies_typed, implies_use}
-use Rattle.gb_rules.proofs.Given.{AreSound, refused_given, sound_given}
+use Rattle.gb_typing.specs.Forms.{every, every_pair, implies_form}
+use Rattle.gb_typing.specs.Meaning.{Stands, run_of, denominator_of}
+use Rattle.gb_typing.specs.Rules.{Implies, IsSoundRule, outermost}
+use Rattle.gb_typing.specs.Goals.{IsCode, IsGoalOver, IsTypedGoal, frame_before, frame_after}
+use Rattle.gb_typing.proofs.Ambient.{one_typed, one_meaning, pair_typed, pair_meaning}
+use Rattle.gb_typing.proofs.Forms.{made_form, form_made, implies_typed, implies_use}
+use Rattle.gb_typing.proofs.Given.{AreSound, refused_given, sound_given}
 use Rattle.gb_chance.specs.Compared.{compared}
 use Rattle.gb_chance.proofs.Bound.{bound_value, bound_above}
 use Rattle.gb_chance.proofs.Comparing.{real_made, compared_typed, compared_is}

@@ -42,20 +42,20 @@ use Rattle.gb_typing.proofs.Drawing.{body_sound}
 use Rattle.gb_goal.specs.Goal.{Goal}
 use Rattle.gb_goal.specs.Goal.Code.{body, procedure}
 use Rattle.gb_goal.specs.Goal.Goal.{hoare, phoare, equiv, ambient}
-use Rattle.gb_rules.specs.Forms.{and_form, equal_form, implies_form, not_form, located, every_pair}
-use Rattle.gb_rules.specs.Meaning.{run, denominator, Stands}
-use Rattle.gb_rules.specs.Rules.{IsSoundRule, no_arguments, outermost}
+use Rattle.gb_typing.specs.Forms.{and_form, equal_form, implies_form, not_form, located, every_pair}
+use Rattle.gb_typing.specs.Meaning.{run, denominator, Stands}
+use Rattle.gb_typing.specs.Rules.{IsSoundRule, no_arguments, outermost}
 use Rattle.gb_steps.specs.declared.step.Acts.{Acts}
 use Rattle.gb_steps.specs.declared.step.Acts.TheVariants as on
 use Rattle.gb_goal.specs.Answers.Answer.{given}
-use Rattle.gb_rules.specs.Typing.{IsTypedGoal}
-use Rattle.gb_rules.proofs.Ambient.{pair_typed, pair_meaning}
-use Rattle.gb_rules.proofs.Branches.{branch_good}
-use Rattle.gb_rules.proofs.Chances.{chance_scaled}
-use Rattle.gb_rules.proofs.Forms.{and_typed, equal_typed, implies_typed, not_typed, and_make, implies_use, not_make}
-use Rattle.gb_rules.proofs.Given.{AreSound, refused_given, sound_given}
-use Rattle.gb_rules.proofs.Lists.{if_shape, typed_if, typed_append}
-use Rattle.gb_rules.proofs.Located.{test_typed, located_value, expression_value}
+use Rattle.gb_typing.specs.Goals.{IsTypedGoal}
+use Rattle.gb_typing.proofs.Ambient.{pair_typed, pair_meaning}
+use Rattle.gb_typing.proofs.Branches.{branch_good}
+use Rattle.gb_typing.proofs.Chances.{chance_scaled}
+use Rattle.gb_typing.proofs.Forms.{and_typed, equal_typed, implies_typed, not_typed, and_make, implies_use, not_make}
+use Rattle.gb_typing.proofs.Given.{AreSound, refused_given, sound_given}
+use Rattle.gb_typing.proofs.Lists.{if_shape, typed_if, typed_append}
+use Rattle.gb_typing.proofs.InMemory.{test_typed, located_value, expression_value}
 use Rattle.gb_bodies.specs.If.{Branch, branch_at, first_branch, where_true, where_false, of_one, of_both, if_row}
 
 none_some : {P : Type 0} (b : Branch) → None ≡ Some b → P

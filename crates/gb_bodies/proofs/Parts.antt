@@ -71,13 +71,13 @@ module _ (c : Context) (ls : List TypedName) where
   AreTaken (x ∷ xs) [] = ⊥
   AreTaken (x ∷ xs) (e ∷ es) = (IsValued c ls e × (variable_type (erased c) ls x ≡ Some (type_of e))) × AreTaken xs es
 
-  same_length : (xs : List Var) (ts : List Ty) → HaveTypes (erased c) ls xs ts → length ts ≡ length xs
+  pub same_length : (xs : List Var) (ts : List Ty) → HaveTypes (erased c) ls xs ts → length ts ≡ length xs
   same_length [] [] h = refl
   same_length [] (t ∷ ts) h = absurd h
   same_length (x ∷ xs) [] h = absurd h
   same_length (x ∷ xs) (t ∷ ts) h = ap suc (same_length xs ts h.1)
 
-  part_types_are : (t : Ty) (x : Var) (xs : List Var) → HaveTypes (erased c) ls (x ∷ xs) (parts_in t) → length (x ∷ xs) < 9 → part_types t ≡ parts_in t
+  pub part_types_are : (t : Ty) (x : Var) (xs : List Var) → HaveTypes (erased c) ls (x ∷ xs) (parts_in t) → length (x ∷ xs) < 9 → part_types t ≡ parts_in t
   part_types_are (ty.Tuple' n r) x xs h l =
       let e : length (items r) ≡ length (x ∷ xs) = same_length (x ∷ xs) (items r) h in
       ap part_types_layer (out_tuple n r) ∙ take_all 8 (items r) (subst (λ k. k ≤ 8) (sym e) (omega (arith, l)))
@@ -223,7 +223,7 @@ module _ (g : Setting) (s : State) (m : Memory) where
   tuple_length (more_of-Ty u r) [] h = absurd (false≢true h)
   tuple_length (more_of-Ty u r) (v ∷ vs) h = ap suc (tuple_length r vs (and_parts (has g.types u v) (is_tuple (rows r) vs) h).1)
 
-  as_many : (c : Context) (ls : List TypedName) (t : Ty) (x : Var) (xs : List Var) (v : Value) → HaveTypes (erased c) ls (x ∷ xs) (parts_in t) → has g.types t v ≡ true →
+  pub as_many : (c : Context) (ls : List TypedName) (t : Ty) (x : Var) (xs : List Var) (v : Value) → HaveTypes (erased c) ls (x ∷ xs) (parts_in t) → has g.types t v ≡ true →
       length (parts_of v) ≡ length (parts_in t)
   as_many c ls (ty.Tuple' n r) x xs v k h = tuple_length r (parts_of v) (parts_have (is_tuple (rows r)) v h)
   as_many c ls _ x xs v k h = absurd k

@@ -38,14 +38,14 @@ use Rattle.gb_typing.specs.Sequents.{of_sequent, IsTypedSequent}
 use Rattle.gb_typing.specs.Typing.{before, after, IsTyped, IsForm}
 use Rattle.gb_typing.proofs.Located.{IsTypedThere, typed_there}
 use Rattle.gb_typing.proofs.LinkedProcedures.{linked_there}
-use Rattle.gb_rules.specs.Calls.{start, ended, result_of, returned}
-use Rattle.gb_rules.specs.Meaning.{run, run_of, denominator, denominator_of}
-use Rattle.gb_rules.specs.Rules.{IsSettingOver, ImpliesIn, IsSoundRuleIn, no_arguments, outermost}
-use Rattle.gb_rules.specs.Typing.{IsTypedGoal}
-use Rattle.gb_rules.proofs.Called.{called_run, called_denominator}
-use Rattle.gb_rules.proofs.Given.{refused_given, sound_given_in}
-use Rattle.gb_rules.proofs.Parameters.{one_start_typed, one_start, two_starts_typed, two_starts}
-use Rattle.gb_rules.proofs.Returned.{one_result_typed, one_result, two_results_typed, two_results}
+use Rattle.gb_typing.specs.Calls.{start, ended, result_of, returned}
+use Rattle.gb_typing.specs.Meaning.{run, run_of, denominator, denominator_of}
+use Rattle.gb_typing.specs.Rules.{IsSettingOver, ImpliesIn, IsSoundRuleIn, no_arguments, outermost}
+use Rattle.gb_typing.specs.Goals.{IsTypedGoal}
+use Rattle.gb_typing.proofs.Called.{called_run, called_denominator}
+use Rattle.gb_typing.proofs.Given.{refused_given, sound_given_in}
+use Rattle.gb_typing.proofs.Parameters.{one_start_typed, one_start, two_starts_typed, two_starts}
+use Rattle.gb_typing.proofs.Returned.{one_result_typed, one_result, two_results_typed, two_results}
 use Rattle.gb_bodies.specs.Proc.{of_result, of_one, of_chance, of_two, proc_row}
 
 module _ (ds : Declarations) (scoped : IsTypedScope (declared ds)) (q : Sequent) (t : IsTypedSequent (context_of (declared ds)) q) where

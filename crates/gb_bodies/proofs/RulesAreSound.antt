@@ -3,7 +3,7 @@ use Rattle.gb_core.specs.declared.refusal.Why.TheVariants.{Shape}
 use Rattle.gb_goal.specs.declared.sequent.Sequent.{Sequent}
 use Rattle.gb_steps.specs.declared.step.BodyRule.TheVariants as on_bodies
 use Rattle.gb_steps.specs.declared.step.Rule.{Rule}
-use Rattle.gb_steps.specs.declared.step.Rule.TheVariants.{OnBodies, Relational, Ambient, Smt, Linear, Chance, Use}
+use Rattle.gb_steps.specs.declared.step.Rule.TheVariants.{OnBodies, Relational, Ambient, Smt, Linear, Chance, Call, Rewrite, Use}
 use Rattle.gb_goal.specs.Scope.{Declarations}
 use Rattle.gb_holds.specs.Declared.{declared}
 use Rattle.gb_typing.specs.Scopes.{context_of, IsTypedScope}
@@ -12,8 +12,8 @@ use Rattle.gb_typing.specs.Context.{Context}
 use Rattle.gb_goal.specs.Goal.{Goal}
 use Rattle.gb_goal.specs.Rows.{Row}
 use Rattle.gb_holds.specs.Declared as holds
-use Rattle.gb_rules.specs.Rules.{IsSoundAt, IsSoundIn, IsSoundRuleIn}
-use Rattle.gb_rules.proofs.Given.{refused_given}
+use Rattle.gb_typing.specs.Rules.{IsSoundAt, IsSoundIn, IsSoundRuleIn}
+use Rattle.gb_typing.proofs.Given.{refused_given}
 use Rattle.gb_bodies.specs.Case.{case_row}
 use Rattle.gb_bodies.specs.Conseq.{conseq_row}
 use Rattle.gb_bodies.specs.If.{if_row}
@@ -47,8 +47,10 @@ module _ (ds : Declarations) (scoped : IsTypedScope (declared ds)) (q : Sequent)
   each_sound (OnBodies (on_bodies.Conseq n)) outer ls rs G w y Gs e = anywhere (declared ds) c (conseq_row n) G (of_conseq.sound c n outer ls rs G w y) Gs e
   each_sound (OnBodies on_bodies.Unfit) outer ls rs G w y Gs e = refused_given Shape Gs e
   each_sound (Relational r) outer ls rs G w y Gs e = refused_given Shape Gs e
-  each_sound Smt outer ls rs G w y Gs e = refused_given Shape Gs e
+  each_sound (Smt fs) outer ls rs G w y Gs e = refused_given Shape Gs e
   each_sound (Linear ms) outer ls rs G w y Gs e = refused_given Shape Gs e
   each_sound (Ambient r) outer ls rs G w y Gs e = refused_given Shape Gs e
   each_sound (Chance r) outer ls rs G w y Gs e = refused_given Shape Gs e
+  each_sound (Call s) outer ls rs G w y Gs e = refused_given Shape Gs e
+  each_sound (Rewrite r) outer ls rs G w y Gs e = refused_given Shape Gs e
   each_sound (Use r) outer ls rs G w y Gs e = refused_given Shape Gs e

@@ -15,11 +15,11 @@ use Rattle.gb_meaning.specs.Judgments.{IsTrueUnder}
 use Rattle.gb_typing.specs.Context.{Context}
 use Rattle.gb_goal.specs.Goal.Code.{body, procedure}
 use Rattle.gb_goal.specs.Goal.Goal.{hoare, phoare, equiv, ambient}
-use Rattle.gb_rules.specs.Meaning.{run, denominator}
-use Rattle.gb_rules.specs.Rules.{Implies, IsSoundRule}
-use Rattle.gb_rules.proofs.Given.{refused_given, sound_given_if}
-use Rattle.gb_rules.proofs.Lists.{first_part, rest_part}
-use Rattle.gb_rules.proofs.Runs.{run_cut, denominator_cut}
+use Rattle.gb_typing.specs.Meaning.{run, denominator}
+use Rattle.gb_typing.specs.Rules.{Implies, IsSoundRule}
+use Rattle.gb_typing.proofs.Given.{refused_given, sound_given_if}
+use Rattle.gb_typing.proofs.Lists.{first_part, rest_part}
+use Rattle.gb_typing.proofs.Runs.{run_cut, denominator_cut}
 use Rattle.gb_steps.specs.declared.step.Cut.{Cut}
 use Rattle.gb_steps.specs.declared.step.Cut.TheVariants.{One, Two}
 use Rattle.gb_bodies.specs.Seq.{seq_row, IsTypedCut}

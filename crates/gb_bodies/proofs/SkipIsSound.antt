@@ -10,11 +10,11 @@ use Rattle.gb_typing.specs.Context.{Context}
 use Rattle.gb_typing.specs.Sequents.{one, two}
 use Rattle.gb_goal.specs.Goal.Code.{body, procedure}
 use Rattle.gb_goal.specs.Goal.Goal.{hoare, phoare, equiv, ambient}
-use Rattle.gb_rules.specs.Forms.{implies_form}
-use Rattle.gb_rules.specs.Rules.{IsSoundRule, no_arguments}
-use Rattle.gb_rules.proofs.Ambient.{one_typed, one_meaning, pair_typed, pair_meaning}
-use Rattle.gb_rules.proofs.Forms.{implies_typed, implies_use}
-use Rattle.gb_rules.proofs.Given.{refused_given, sound_given}
+use Rattle.gb_typing.specs.Forms.{implies_form}
+use Rattle.gb_typing.specs.Rules.{IsSoundRule, no_arguments}
+use Rattle.gb_typing.proofs.Ambient.{one_typed, one_meaning, pair_typed, pair_meaning}
+use Rattle.gb_typing.proofs.Forms.{implies_typed, implies_use}
+use Rattle.gb_typing.proofs.Given.{refused_given, sound_given}
 use Rattle.gb_chance.specs.Compared.{certain_or_not}
 use Rattle.gb_chance.proofs.Bound.{bound_made, met}
 use Rattle.gb_chance.proofs.Comparing.{certain_typed}

@@ -43,15 +43,15 @@ use Rattle.gb_typing.specs.Context.{Context, Frame, frame_of, reframed}
 use Rattle.gb_typing.specs.Typing.{IsForm}
 use Rattle.gb_typing.specs.Programs.{IsExpression, IsStatement, AreStatements, EachStatement}
 use Rattle.gb_typing.specs.Fits.{IsSettingOf, IsStateOf}
-use Rattle.gb_rules.specs.Forms.{located, implies_form, and_form, not_form}
-use Rattle.gb_rules.specs.Meaning.{run, denominator, Stands}
-use Rattle.gb_rules.specs.Rules.{Implies, IsSoundRule, no_arguments}
-use Rattle.gb_rules.specs.Typing.{IsTypedGoal}
-use Rattle.gb_rules.proofs.Forms.{and_typed, implies_typed, not_typed}
-use Rattle.gb_rules.proofs.Given.{AreSound, refused_at, refused_given, same_given, sound_given}
-use Rattle.gb_rules.proofs.Lists.{first_part, typed_drop}
-use Rattle.gb_rules.proofs.Located.{test_typed as form_typed, located_value}
-use Rattle.gb_rules.proofs.Runs.{run_cut, denominator_cut}
+use Rattle.gb_typing.specs.Forms.{located, implies_form, and_form, not_form}
+use Rattle.gb_typing.specs.Meaning.{run, denominator, Stands}
+use Rattle.gb_typing.specs.Rules.{Implies, IsSoundRule, no_arguments}
+use Rattle.gb_typing.specs.Goals.{IsTypedGoal}
+use Rattle.gb_typing.proofs.Forms.{and_typed, implies_typed, not_typed}
+use Rattle.gb_typing.proofs.Given.{AreSound, refused_at, refused_given, same_given, sound_given}
+use Rattle.gb_typing.proofs.Lists.{first_part, typed_drop}
+use Rattle.gb_typing.proofs.InMemory.{test_typed as form_typed, located_value}
+use Rattle.gb_typing.proofs.Runs.{run_cut, denominator_cut}
 use Rattle.gb_prog.specs.Straight.{IsStraight, RowIsStraight, AreStraight, ended, after}
 use Rattle.gb_prog.proofs.Straight.{ended_then, straight_run, straight_denominator}
 use Rattle.gb_bodies.specs.Assigned.{assigned_form, clashing}

@@ -10,7 +10,7 @@ use Rattle.gb_terms.specs.declared.term.Head.TheBlock as B
 use Rattle.gb_terms.specs.declared.term.Head.TheVariants.{If}
 use Rattle.gb_goal.specs.Answers.{Answer, ◌>>=◌}
 use Rattle.gb_goal.specs.Answers.Answer.{given, refused}
-use Rattle.gb_rules.specs.Forms.{located}
+use Rattle.gb_typing.specs.Forms.{located}
 use Rattle.gb_bodies.specs.Wp.{is_straight, row_is_straight, are_straight, by_test, before, before_row, before_all, with_front, staying}
 use mathlib.Core.Former.{Count}
 

@@ -13,7 +13,7 @@ use Rattle.gb_terms.specs.Make.{applied}
 use Rattle.gb_walk.specs.declared.change.Change.TheVariants.{ToTerm}
 use Rattle.gb_walk.specs.Change.{Changes, term_changed}
 use Rattle.gb_walk.specs.Clash.{first_clash, least}
-use Rattle.gb_rules.specs.Forms.{located}
+use Rattle.gb_typing.specs.Forms.{located}
 
 -- the part of a tuple with this number, of this type
 abbrev pub part : Term → ℕ → Ty → Term

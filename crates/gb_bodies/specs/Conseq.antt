@@ -18,8 +18,8 @@ use Rattle.gb_goal.specs.Goal.Goal.{hoare, phoare, equiv, ambient}
 use Rattle.gb_goal.specs.Rows.{Row, refusing}
 use Rattle.gb_typing.specs.Context.{Context, with_own, with_sides}
 use Rattle.gb_typing.specs.Typing.{IsTyped, IsForm}
-use Rattle.gb_rules.specs.Forms.{every, every_pair, implies_form}
-use Rattle.gb_rules.specs.Typing.{frame_before, frame_after}
+use Rattle.gb_typing.specs.Forms.{every, every_pair, implies_form}
+use Rattle.gb_typing.specs.Goals.{frame_before, frame_after}
 use Rattle.gb_chance.specs.Compared.{compared}
 
 -- what is said anew, or else what stood there

@@ -13,7 +13,7 @@ use Rattle.gb_terms.specs.declared.term.Cmd.{Cmd}
 use Rattle.gb_goal.specs.Goal.{Goal}
 use Rattle.gb_goal.specs.Goal.Code.{body}
 use Rattle.gb_goal.specs.Goal.Goal.{equiv, ambient}
-use Rattle.gb_rules.specs.Forms.{and_form, not_form, implies_form, equal_form, located, every_pair}
+use Rattle.gb_typing.specs.Forms.{and_form, not_form, implies_form, equal_form, located, every_pair}
 use Rattle.gb_goal.specs.Answers.{Answer}
 use Rattle.gb_goal.specs.Rows.{Row, refusing}
 use Rattle.gb_steps.specs.declared.step.Acts.{Acts}

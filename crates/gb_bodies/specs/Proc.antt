@@ -14,7 +14,7 @@ use Rattle.gb_goal.specs.Goal.Goal.{hoare, phoare, equiv}
 use Rattle.gb_goal.specs.Answers.{Answer}
 use Rattle.gb_goal.specs.Answers.Answer.{given}
 use Rattle.gb_goal.specs.Rows.{Row, refusing}
-use Rattle.gb_rules.specs.Calls.{returned}
+use Rattle.gb_typing.specs.Calls.{returned}
 
 -- what is said of the result of a procedure, of the term that it returns
 abbrev pub of_result : Proc → Term → Term

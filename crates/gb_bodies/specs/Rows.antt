@@ -10,7 +10,7 @@ use Rattle.gb_steps.specs.declared.step.Rule.TheVariants.{OnBodies}
 use Rattle.gb_goal.specs.Goal.{Goal}
 use Rattle.gb_goal.specs.Scope.{Declarations}
 use Rattle.gb_goal.specs.Rows.{Row, refusing}
-use Rattle.gb_rules.specs.Rules.{no_arguments}
+use Rattle.gb_typing.specs.Rules.{no_arguments}
 use Rattle.gb_bodies.specs.Case.{case_row, IsTypedCase}
 use Rattle.gb_bodies.specs.Conseq.{conseq_row, IsTypedWeakened}
 use Rattle.gb_bodies.specs.If.{if_row}

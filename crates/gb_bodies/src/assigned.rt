@@ -69,7 +69,7 @@ fn parts(alloc: Global, value: &Term) -> Result<Terms, AllocError>
 }
 
 /// What a term that is assigned gives to each of these variables.
-fn taken(alloc: Global, targets: &[Var], value: &Term) -> Result<Terms, AllocError>
+pub fn taken(alloc: Global, targets: &[Var], value: &Term) -> Result<Terms, AllocError>
     ensures { IfOk result (λ made. made ≡ taken targets.now value.now) }
 {
     match targets {
@@ -83,7 +83,7 @@ fn taken(alloc: Global, targets: &[Var], value: &Term) -> Result<Terms, AllocErr
 }
 
 /// Terms in the places of variables of a memory.
-fn put_in(
+pub fn put_in(
     alloc: Global,
     side: Side,
     targets: &[Var],

@@ -10,8 +10,8 @@ ghost use Rattle.gb_goal.specs.Goal.Goal.{equiv};
 ghost use Rattle.gb_goal.specs.Rows.{answered, each_concluding};
 ghost use Rattle.gb_goal.specs.Views.{goal_seen};
 ghost use Rattle.gb_typing.specs.Context.{Context};
-ghost use Rattle.gb_rules.specs.Forms.{and_form, equal_form, every_pair, implies_form, located, not_form};
-ghost use Rattle.gb_rules.specs.Rules.{IsSoundRule, no_arguments};
+ghost use Rattle.gb_typing.specs.Forms.{and_form, equal_form, every_pair, implies_form, located, not_form};
+ghost use Rattle.gb_typing.specs.Rules.{IsSoundRule, no_arguments};
 ghost use Rattle.gb_bodies.specs.If.{branch_seen, first_branch, if_both, if_row, of_both, of_one, where_false, where_true};
 ghost use Rattle.gb_bodies.specs.OneBody.{filled, side_of};
 

@@ -6,8 +6,8 @@ ghost use Rattle.gb_typing.specs.Context.{Context};
 ghost use Rattle.gb_goal.specs.Answers.{Answers};
 ghost use Rattle.gb_goal.specs.Goal.{form_of};
 ghost use Rattle.gb_goal.specs.Rows.{answered, each_concluding};
-ghost use Rattle.gb_rules.specs.Forms.{and_form, not_form};
-ghost use Rattle.gb_rules.specs.Rules.{IsSoundRule};
+ghost use Rattle.gb_typing.specs.Forms.{and_form, not_form};
+ghost use Rattle.gb_typing.specs.Rules.{IsSoundRule};
 ghost use Rattle.gb_bodies.specs.Case.{case_one, case_row, IsTypedCase};
 ghost use Rattle.gb_bodies.specs.OneBody.{filled, one_seen};
 

@@ -7,8 +7,8 @@ ghost use Rattle.gb_goal.specs.Goal.Goal.{ambient};
 ghost use Rattle.gb_goal.specs.Rows.{answered, concluding, each_concluding};
 ghost use Rattle.gb_steps.specs.declared.step.Weakened.{Weakened as Conditions};
 ghost use Rattle.gb_typing.specs.Context.{Context};
-ghost use Rattle.gb_rules.specs.Forms.{every as in_every};
-ghost use Rattle.gb_rules.specs.Rules.{IsSoundRule};
+ghost use Rattle.gb_typing.specs.Forms.{every as in_every};
+ghost use Rattle.gb_typing.specs.Rules.{IsSoundRule};
 ghost use Rattle.gb_bodies.specs.Conseq.{as_likely, bound_goals, conseq_row, leads, of_chance, of_one, of_two, or_old, pair_leads, IsTypedWeakened};
 ghost use Rattle.gb_bodies.specs.Judged.{goal_judged};
 

@@ -1,7 +1,7 @@
 //! Forms that rules make.
 
 ghost use Rattle.std.specs.Prelude.{◌≡◌, IfOk};
-ghost use Rattle.gb_rules.specs.Forms.{located, every, every_pair, implies_form};
+ghost use Rattle.gb_typing.specs.Forms.{located, every, every_pair, implies_form};
 
 use gb_terms::make::{implication, over, truth_ty};
 use gb_terms::op::Side;

@@ -35,7 +35,7 @@ pub fn judgment(form: &Form) -> Judged<'_>
 }
 
 /// The judgment that the postcondition always holds.
-#[tactic(auto, using(gb_rules::proofs::Shapes::subject_back))]
+#[tactic(auto, using(gb_typing::proofs::Shapes::subject_back))]
 pub fn hoare_of(alloc: Global, subject: &Subject, pre: Form, post: Form) -> Result<Form, AllocError>
     ensures { IfOk result (λ made. made ≡ form_of (hoare (code_of subject.now) pre post)) }
 {
@@ -48,7 +48,7 @@ pub fn hoare_of(alloc: Global, subject: &Subject, pre: Form, post: Form) -> Resu
 }
 
 /// The judgment of how likely the postcondition is.
-#[tactic(auto, using(gb_rules::proofs::Shapes::subject_back))]
+#[tactic(auto, using(gb_typing::proofs::Shapes::subject_back))]
 pub fn phoare_of(
     alloc: Global,
     subject: &Subject,
@@ -69,7 +69,7 @@ pub fn phoare_of(
 }
 
 /// The equivalence of two programs.
-#[tactic(auto, using(gb_rules::proofs::Shapes::subject_back))]
+#[tactic(auto, using(gb_typing::proofs::Shapes::subject_back))]
 pub fn equiv_of(
     alloc: Global,
     left: &Subject,

@@ -11,7 +11,7 @@ ghost use Rattle.gb_goal.specs.Scope.{Declarations};
 ghost use Rattle.gb_holds.specs.Declared.{declared};
 ghost use Rattle.gb_typing.specs.Scopes.{context_of, IsTypedScope};
 ghost use Rattle.gb_typing.specs.Sequents.{of_sequent, IsTypedSequent};
-ghost use Rattle.gb_rules.specs.Rules.{IsSoundRuleIn};
+ghost use Rattle.gb_typing.specs.Rules.{IsSoundRuleIn};
 ghost use Rattle.gb_bodies.specs.Rows.{rule_row, IsTypedRule};
 
 /// Each rule with typed arguments is sound over each typed scope, at the goal of each typed sequent: what it gives is typed, and

@@ -13,8 +13,8 @@ ghost use Rattle.gb_goal.specs.Rows.{answered, each_concluding};
 ghost use Rattle.gb_goal.specs.Scope.{Declarations};
 ghost use Rattle.gb_goal.specs.Views.{goal_seen};
 ghost use Rattle.gb_walk.specs.Change.{term_changed};
-ghost use Rattle.gb_rules.specs.Rules.{IsSoundRuleIn, no_arguments};
-ghost use Rattle.gb_rules.specs.Calls.{returned};
+ghost use Rattle.gb_typing.specs.Rules.{IsSoundRuleIn, no_arguments};
+ghost use Rattle.gb_typing.specs.Calls.{returned};
 ghost use Rattle.gb_bodies.specs.Proc.{of_result, proc_row};
 
 use crate::forms::located;

@@ -10,7 +10,7 @@ ghost use Rattle.gb_goal.specs.Goal.{form_of};
 ghost use Rattle.gb_goal.specs.Rows.{answered, each_concluding};
 ghost use Rattle.gb_goal.specs.Views.{goal_seen};
 ghost use Rattle.gb_typing.specs.Context.{Context};
-ghost use Rattle.gb_rules.specs.Rules.{IsSoundRule};
+ghost use Rattle.gb_typing.specs.Rules.{IsSoundRule};
 ghost use Rattle.gb_bodies.specs.Seq.{seq_row, IsTypedCut};
 
 use crate::subgoals::{no_shape, refusal, shared_body, two_goals};

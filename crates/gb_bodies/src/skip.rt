@@ -4,7 +4,7 @@ ghost use Rattle.gb_typing.specs.Context.{Context};
 ghost use Rattle.gb_goal.specs.Answers.{Answers};
 ghost use Rattle.gb_goal.specs.Rows.{answered, each_concluding};
 ghost use Rattle.gb_goal.specs.Views.{goal_seen};
-ghost use Rattle.gb_rules.specs.Rules.{IsSoundRule, no_arguments};
+ghost use Rattle.gb_typing.specs.Rules.{IsSoundRule, no_arguments};
 ghost use Rattle.gb_bodies.specs.Skip.{skip_row};
 
 use crate::forms::{every, every_pair, implied};

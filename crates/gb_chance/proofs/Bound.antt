@@ -35,9 +35,9 @@ use Rattle.gb_typing.proofs.Formed.{formed}
 use Rattle.gb_typing.proofs.Sound.{procedures_sound, sound_form}
 use Rattle.gb_typing.proofs.Made.{parts_typed}
 use Rattle.gb_typing.proofs.Uses.{term_within, admits_besides_own}
-use Rattle.gb_rules.specs.Forms.{implies_form, not_form}
-use Rattle.gb_rules.proofs.Forms.{and_use, implies_use, not_make}
-use Rattle.gb_rules.proofs.Widened.{Widens, same_frame, widened}
+use Rattle.gb_typing.specs.Forms.{implies_form, not_form}
+use Rattle.gb_typing.proofs.Forms.{and_use, implies_use, not_make}
+use Rattle.gb_typing.proofs.Widened.{Widens, same_frame, widened}
 use Rattle.gb_chance.specs.Compared.{one, zero, compared, certain_or_not}
 use Rattle.gb_chance.proofs.Chances.{after_nothing}
 use Rattle.gb_chance.proofs.Comparing.{number_made, real_made, compared_typed, number_is, compared_is}

@@ -26,8 +26,8 @@ use Rattle.gb_typing.specs.Context.{Context}
 use Rattle.gb_typing.specs.Typing.{IsTyped, IsForm}
 use Rattle.gb_typing.specs.Changes.{Made}
 use Rattle.gb_typing.proofs.Made.{made_node}
-use Rattle.gb_rules.specs.Forms.{and_form, implies_form, not_form, equal_form}
-use Rattle.gb_rules.proofs.Forms.{form_made, and_typed, implies_typed, not_typed}
+use Rattle.gb_typing.specs.Forms.{and_form, implies_form, not_form, equal_form}
+use Rattle.gb_typing.proofs.Forms.{form_made, and_typed, implies_typed, not_typed}
 use Rattle.gb_chance.specs.Compared.{number, one, zero, at_most_form, compared, certain_or_not, whole_at, literal_at, literal}
 use mathlib.Core.Former.{Count}
 

@@ -34,7 +34,7 @@ use Rattle.gb_typing.specs.Fits.{IsSettingOf}
 use Rattle.gb_typing.specs.Programs.{IsExpression, IsBody, AreStatements, EachStatement}
 use Rattle.gb_typing.proofs.Erased.{erased_typed}
 use Rattle.gb_typing.proofs.Fitting.{fits_program}
-use Rattle.gb_rules.specs.Meaning.{run, denominator}
+use Rattle.gb_typing.specs.Meaning.{run, denominator}
 use Rattle.gb_chance.specs.Loss.{gives_weights, at_head, at_term, may_lose, head_may_lose, Loss, nowhere, sampled, called, or_after, statement_loss, row_loss, first_loss}
 use Rattle.gb_chance.proofs.LossSteps.{may_lose_out}
 use Rattle.sqlite_items.specs.formers.items.Items.{the_former}

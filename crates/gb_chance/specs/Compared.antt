@@ -8,7 +8,7 @@ use Rattle.gb_terms.specs.declared.term.Term.{Term, out-Term}
 use Rattle.gb_terms.specs.declared.term.Head.{Head}
 use Rattle.gb_terms.specs.declared.term.Head.TheVariants.{Whole, Builtin}
 use Rattle.gb_terms.specs.Make.{node, applied}
-use Rattle.gb_rules.specs.Forms.{and_form, implies_form, not_form, equal_form}
+use Rattle.gb_typing.specs.Forms.{and_form, implies_form, not_form, equal_form}
 
 -- `n%r`
 abbrev pub number : ℤ → Term

@@ -14,7 +14,7 @@ ghost use Rattle.gb_meaning.specs.Judgments.{compares, chance};
 ghost use Rattle.gb_typing.specs.Context.{Context};
 ghost use Rattle.gb_typing.specs.Fits.{IsSettingOf};
 ghost use Rattle.gb_typing.specs.Programs.{IsBody};
-ghost use Rattle.gb_rules.specs.Meaning.{run, denominator};
+ghost use Rattle.gb_typing.specs.Meaning.{run, denominator};
 ghost use Rattle.gb_chance.specs.Loss.{nowhere, first_loss};
 
 /// The run of a body that loses no weight has the whole weight.

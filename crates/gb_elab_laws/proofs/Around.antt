@@ -1,5 +1,5 @@
 -- What stands around the statements of a procedure, and the variables that they write.
-use Rattle.std.proofs.Common.{◌≡◌, true, List, [], ◌∷◌, ◌++◌, map, Option, Some, None, refl, ap, sym, ◌∙◌, subst}
+use Rattle.std.proofs.Common.{◌≡◌, true, List, [], ◌∷◌, ◌++◌, map, Option, Some, None, refl, ap, sym, ◌∙◌, subst, false}
 use Rattle.std.specs.Option.{option_map_or}
 use Rattle.gb_core.specs.declared.place.Place.{Place}
 use Rattle.gb_core.specs.declared.ty.Ty.{Ty}
@@ -11,6 +11,7 @@ use Rattle.gb_terms.specs.declared.decl.TypedName.{TypedName}
 use Rattle.gb_terms.specs.declared.module.Mexp.TheVariants.{Name as named}
 use Rattle.gb_terms.specs.declared.module.ProcRef.{ProcRef}
 use Rattle.gb_terms.specs.declared.term.Term.{Term}
+use Rattle.gb_terms.specs.declared.term.Instr.{Instr}
 use Rattle.gb_goal.specs.Answers.Answer.{given, refused}
 use Rattle.gb_goal.specs.Scope.{Declarations, module_of, proc_of, procedure_of}
 use Rattle.gb_script.specs.declared.tree.Node.{Node}
@@ -22,15 +23,18 @@ use Rattle.gb_names.specs.Environment.{Environment, program}
 use Rattle.gb_names.specs.Names.{ModuleVariable, Target, first_named, global_at, global_target, no_variable, target}
 use Rattle.gb_elab_stmt.specs.Targets.{next_target, once, roomy, spelled_by, targets, type_of_all, variables_of}
 use Rattle.gb_elab_prog.specs.Contexts.{nothing_around}
-use Rattle.gb_typed.specs.Finite.{IsFinite}
+use Rattle.gb_typed.specs.Finite.{IsFinite, IsVariableType}
+use Rattle.gb_typing.proofs.Variables.{variable_finite}
 use Rattle.gb_typed.specs.Operators.{parts_in}
 use Rattle.gb_typed.specs.Programs.{HaveTypes, Take, variable_type}
 use Rattle.gb_typed.proofs.Constructors.{tuple_is}
 use Rattle.gb_typing.specs.Context.{Context, erased, of_program, procedure}
-use Rattle.gb_typing.specs.Programs.{IsExpression, HaveVariableTypes}
+use Rattle.gb_later.specs.Naming.{NoName}
+use Rattle.gb_models.specs.Speaking.{StatementSpeaks, BodySpeaks}
+use Rattle.gb_typing.specs.Programs.{IsExpression, IsStatement, EachStatement, HaveVariableTypes}
 use Rattle.gb_elab_laws.specs.Fitting.{AreDeclared, HasGlobals, IsFitting, IsGiven, IsTypeOf}
 use Rattle.gb_elab_laws.proofs.Given.{given_bind, given_is}
-use Rattle.gb_elab_laws.proofs.Types.{have_finite}
+use Rattle.gb_elab_laws.proofs.Quantified.{variables_with}
 use Rattle.gb_elab_laws.proofs.Found.{found}
 use Rattle.gb_elab_laws.proofs.Fits.{program_fits}
 use Rattle.gb_elab_laws.proofs.Leaves.{global_stands}
@@ -51,16 +55,23 @@ module _ (ds : Declarations) (c : Context) (m : Module) (around : IsAround ds c 
   abbrev pub inner : Context
   inner = of_program c vs
 
-  pub fits : IsFitting inner here []
-  fits = program_fits c ds m vs around.names around.others around.own (have_finite vs typed)
+  pub fits : IsFitting false inner here []
+  fits = program_fits c ds m vs around.names around.others around.own typed
+
+  -- a typed statement that speaks of no module's globals together, and several
+  abbrev pub IsMade : Instr → Type 0
+  IsMade i = IsStatement c vs i × StatementSpeaks NoName i
+
+  abbrev pub AreMade : List Instr → Type 0
+  AreMade is = EachStatement c vs is × BodySpeaks NoName is
 
   -- what is typed in a program is an expression
-  pub expression : (w : _) (e : Term) → IsGiven inner Program w e → IsExpression c vs e
+  pub expression : (w : _) (e : Term) → IsGiven false inner Program w e → IsExpression c vs e
   expression w e g = record { typed = g.typed; plain = g.plain refl }
 
-  -- what a statement writes is a variable of its type, which is of values
+  -- what a statement writes is a variable of its type
   abbrev pub IsTarget : Target → Type 0
-  IsTarget v = (variable_type (erased c) vs v.0 ≡ Some v.1) × IsFinite v.1
+  IsTarget v = (variable_type (erased c) vs v.0 ≡ Some v.1) × IsVariableType v.1
 
   pub target_typed : (x : Name) (p : Place) (v : Target) → target here x p ≡ given v → IsTarget v
   target_typed x p v h = local (first_named vs x) refl h
@@ -73,7 +84,7 @@ module _ (ds : Declarations) (c : Context) (m : Module) (around : IsAround ds c 
           option_map_or (λ l. given (Local l.name, l.ty)) o (option_map_or global_target (global_at here x) (refused (no_variable here x) p)) ≡ given v → IsTarget v
       local (Some l) e k =
           let f = found vs x l e in
-          subst IsTarget {x = (Local l.name, l.ty)} (given_is (Local l.name, l.ty) v k) (ap (local_type vs) f.name ∙ f.frame, f.finite (have_finite vs typed))
+          subst IsTarget {x = (Local l.name, l.ty)} (given_is (Local l.name, l.ty) v k) (ap (local_type vs) f.name ∙ f.frame, f.finite_with false (variables_with false vs typed))
       local None e k = global (global_at here x) refl k
 
   -- several variables
@@ -108,16 +119,28 @@ module _ (ds : Declarations) (c : Context) (m : Module) (around : IsAround ds c 
 
   pub each_finite : (ws : List Target) → AreTargets ws → EachFiniteWith true (types ws)
   each_finite [] h = tt
-  each_finite (w ∷ ws) h = (h.0.1, each_finite ws h.1)
+  each_finite (w ∷ ws) h = (variable_finite w.1 h.0.1, each_finite ws h.1)
 
   many_finite : (ts : List Ty) → EachFiniteWith true ts → IsFinite (ty.Tuple ts)
   many_finite ts h = subst IsFinite (sym (tuple_is ts)) (row_finite true ts h)
 
   -- what they take together is a value, and they take it
   pub all_finite : (ws : List Target) → AreTargets ws → IsFinite (type_of_all ws)
-  all_finite (w ∷ []) h = h.0.1
+  all_finite (w ∷ []) h = variable_finite w.1 h.0.1
   all_finite [] h = many_finite [] tt
   all_finite (w ∷ v ∷ ws) h = many_finite (types (w ∷ v ∷ ws)) (each_finite (w ∷ v ∷ ws) h)
+
+  many_variable : (ts : List Ty) → EachFiniteWith false ts → IsVariableType (ty.Tuple ts)
+  many_variable ts h = subst IsVariableType (sym (tuple_is ts)) (row_finite false ts h)
+
+  each_variable : (ws : List Target) → AreTargets ws → EachFiniteWith false (types ws)
+  each_variable [] h = tt
+  each_variable (w ∷ ws) h = (h.0.1, each_variable ws h.1)
+
+  pub all_variable : (ws : List Target) → AreTargets ws → IsVariableType (type_of_all ws)
+  all_variable (w ∷ []) h = h.0.1
+  all_variable [] h = many_variable [] tt
+  all_variable (w ∷ v ∷ ws) h = many_variable (types (w ∷ v ∷ ws)) (each_variable (w ∷ v ∷ ws) h)
 
   pub all_take : (ws : List Target) (t : Ty) → AreTargets ws → t ≡ type_of_all ws → Take (erased c) vs (variables_of ws) t
   all_take [] t h e = tt

@@ -33,7 +33,7 @@ use Rattle.gb_operators.specs.Drawn.{outcome_wanted, source_wanted, value_wanted
 use Rattle.gb_operators.specs.Kinds.{components, inside_option, is_of_values, outcome}
 use Rattle.gb_operators.specs.Operators.{first_wanted, operand_wanted, option_wanted, part_wanted}
 use Rattle.gb_operators.specs.Rules.{asked, factor_wanted, factors, pair, parts_wanted}
-use Rattle.gb_elab_laws.specs.Fitting.{has_globs, IsFormType, IsFormTypeIf, IsUsable, IsGiven}
+use Rattle.gb_elab_laws.specs.Fitting.{IsFormType, IsFormTypeIf, IsUsable, IsGiven}
 use Rattle.gb_elab_laws.proofs.Given.{given_bind, given_is, if_allowed, if_given, if_refused, none_some, out_type, same_some, some_given}
 use Rattle.gb_elab_laws.proofs.Shapes.{EachFiniteWith, finite_form, drawn_form, option_form, outcome_finite, some_finite, parts_finite}
 use Rattle.gb_elab_laws.proofs.Tested.{of_values, option_of, distribution_of, tuple_of}
@@ -78,12 +78,12 @@ IsAskable globs (Form w) = IsFormTypeIf globs w
 IsAskable globs (Source w) = IsFormTypeIf globs w
 IsAskable globs (Function d w) = IsDomain globs d × IsFormTypeIf globs w
 
-module _ (c : Context) (at : Environment) where
+module _ (globs : Bool) (c : Context) (at : Environment) where
   -- a typed part, as it is asked for
   abbrev pub IsOperand : Asked → Term → Type 0
-  IsOperand (Form w) t = IsGiven c at.language w t
-  IsOperand (Source w) t = IsGiven c at.language w t
-  IsOperand (Function d w) t = IsGiven (within c (binder_of d) None) at.language w t
+  IsOperand (Form w) t = IsGiven globs c at.language w t
+  IsOperand (Source w) t = IsGiven globs c at.language w t
+  IsOperand (Function d w) t = IsGiven globs (within c (binder_of d) None) at.language w t
 
   module _ (r : Rule) (w : Option Ty) (p : Place) where
     -- a part that is typed as it is asked for behind others
@@ -99,21 +99,21 @@ module _ (c : Context) (at : Environment) where
     behind before (u ∷ ts) t h s = (h.0, behind (before ++ u ∷ []) ts t h.1 (subst (λ z. IsNext z t) (sym (append_assoc before (u ∷ []) ts)) s))
 
   -- what is asked for as a form of a type
-  pub as_form : (k : Asked) (x : Option Ty) (t : Term) → given (Form x) ≡ given k → IsOperand k t → IsGiven c at.language x t
+  pub as_form : (k : Asked) (x : Option Ty) (t : Term) → given (Form x) ≡ given k → IsOperand k t → IsGiven globs c at.language x t
   as_form k x t e h = subst (λ z. IsOperand z t) (sym (given_is (Form x) k e)) h
 
-  pub as_source : (k : Asked) (x : Option Ty) (t : Term) → given (Source x) ≡ given k → IsOperand k t → IsGiven c at.language x t
+  pub as_source : (k : Asked) (x : Option Ty) (t : Term) → given (Source x) ≡ given k → IsOperand k t → IsGiven globs c at.language x t
   as_source k x t e h = subst (λ z. IsOperand z t) (sym (given_is (Source x) k e)) h
 
-  pub as_function : (k : Asked) (d : Domain) (x : Option Ty) (t : Term) → given (Function d x) ≡ given k → IsOperand k t → IsGiven (within c (binder_of d) None) at.language x t
+  pub as_function : (k : Asked) (d : Domain) (x : Option Ty) (t : Term) → given (Function d x) ≡ given k → IsOperand k t → IsGiven globs (within c (binder_of d) None) at.language x t
   as_function k d x t e h = subst (λ z. IsOperand z t) (sym (given_is (Function d x) k e)) h
 
   -- a typed part, with its own type
-  pub typed_part : (x : Option Ty) (t : Term) → IsGiven c at.language x t → Typed c at.language (type_of_term t) t
-  typed_part x t g = subst (λ z. Typed c at.language z t) (sym (out_type t)) (of_any c at.language x t g)
+  pub typed_part : (x : Option Ty) (t : Term) → IsGiven globs c at.language x t → Typed globs c at.language (type_of_term t) t
+  typed_part x t g = subst (λ z. Typed globs c at.language z t) (sym (out_type t)) (of_any c at.language x t g)
 
-  pub own_type : (x : Option Ty) (t : Term) → IsGiven c at.language x t → IsFormType (has_globs at.language) (type_of_term t)
-  own_type x t g = subst (IsFormType (has_globs at.language)) (sym (out_type t)) g.type
+  pub own_type : (x : Option Ty) (t : Term) → IsGiven globs c at.language x t → IsFormType globs (type_of_term t)
+  own_type x t g = subst (IsFormType globs) (sym (out_type t)) g.type
 
 pub one_of_both : {A : Type 0} (P : A → Type 0) (b : Bool) (x y : A) → P x → P y → P (if b then x else y)
 one_of_both P true x y h k = h

@@ -15,19 +15,15 @@ use Rattle.gb_typing.specs.Context.{Context, within}
 use Rattle.gb_typing.proofs.Made.{made_node}
 use Rattle.gb_names.specs.declared.setting.Language.{Language}
 use Rattle.gb_names.specs.Allowed.{has_judgments}
-use Rattle.gb_elab_laws.specs.Fitting.{has_globs}
 use Rattle.gb_elab_laws.proofs.Shapes.{with_globs, finite_form, outcome_finite, is_drawn, drawn_form}
 use Rattle.gb_elab_laws.proofs.Typed.{Typed, apart_node, no_globs, plain_node}
 
-module _ (c : Context) (l : Language) where
-  abbrev globs : Bool
-  globs = has_globs l
-
-  drawn_by : (a : Ty) (d : Term) → Typed c l (ty.Distr a) d → Typed c l (distributions a) d
-  drawn_by a d m = subst (λ z. Typed c l z d) (distribution_is a) m
+module _ {globs : Bool} (c : Context) (l : Language) where
+  drawn_by : (a : Ty) (d : Term) → Typed globs c l (ty.Distr a) d → Typed globs c l (distributions a) d
+  drawn_by a d m = subst (λ z. Typed globs c l z d) (distribution_is a) m
 
   -- a measure, and a sum over the numbers below a bound
-  pub measured : (a : Ty) (d f : Term) → Typed c l (ty.Distr a) d → Typed (within c (value a) None) l ty.Bool f → Typed c l ty.Real (node head.Mu (d ∷ f ∷ []) ty.Real)
+  pub measured : (a : Ty) (d f : Term) → Typed globs c l (ty.Distr a) d → Typed globs (within c (value a) None) l ty.Bool f → Typed globs c l ty.Real (node head.Mu (d ∷ f ∷ []) ty.Real)
   measured a d f m n = record {
     made = made_node c head.Mu (distributions a ∷ ty.Bool ∷ []) (d ∷ f ∷ []) ty.Real (with_globs globs a (outcome_finite globs a m.type), refl, refl) tt [] ((drawn_by a d m).made, n.made);
     type = tt;
@@ -35,7 +31,7 @@ module _ (c : Context) (l : Language) where
     apart = λ p. apart_node head.Mu (d ∷ f ∷ []) ty.Real tt (m.apart p, (n.apart p, tt));
   }
 
-  pub summed : (q : ℕ) (r : Term) → 0 < q → Typed (within c (index q) None) l ty.Real r → Typed c l ty.Real (node (head.Sum q) (r ∷ []) ty.Real)
+  pub summed : (q : ℕ) (r : Term) → 0 < q → Typed globs (within c (index q) None) l ty.Real r → Typed globs c l ty.Real (node (head.Sum q) (r ∷ []) ty.Real)
   summed q r h m = record {
     made = made_node c (head.Sum q) (ty.Real ∷ []) (r ∷ []) ty.Real (h, (refl, (refl, tt))) tt [] m.made;
     type = tt;
@@ -44,8 +40,8 @@ module _ (c : Context) (l : Language) where
   }
 
   -- images and restrictions of a distribution
-  pub imaged : (a b : Ty) (d f : Term) → Typed c l (ty.Distr a) d → IsFiniteWith globs b → Typed (within c (value a) None) l b f →
-      Typed c l (ty.Distr b) (node head.Map (d ∷ f ∷ []) (ty.Distr b))
+  pub imaged : (a b : Ty) (d f : Term) → Typed globs c l (ty.Distr a) d → IsFiniteWith globs b → Typed globs (within c (value a) None) l b f →
+      Typed globs c l (ty.Distr b) (node head.Map (d ∷ f ∷ []) (ty.Distr b))
   imaged a b d f m h n = record {
     made = made_node c head.Map (distributions a ∷ b ∷ []) (d ∷ f ∷ []) (ty.Distr b) (with_globs globs a (outcome_finite globs a m.type), with_globs globs b h, distribution_is b) tt [] ((drawn_by a d m).made, n.made);
     type = drawn_form globs b h;
@@ -53,8 +49,8 @@ module _ (c : Context) (l : Language) where
     apart = λ p. apart_node head.Map (d ∷ f ∷ []) (ty.Distr b) tt (m.apart p, (n.apart p, tt));
   }
 
-  pub restricted : (a : Ty) (d f : Term) → Typed c l (ty.Distr a) d → Typed (within c (value a) None) l ty.Bool f →
-      Typed c l (ty.Distr a) (node head.Restrict (d ∷ f ∷ []) (ty.Distr a))
+  pub restricted : (a : Ty) (d f : Term) → Typed globs c l (ty.Distr a) d → Typed globs (within c (value a) None) l ty.Bool f →
+      Typed globs c l (ty.Distr a) (node head.Restrict (d ∷ f ∷ []) (ty.Distr a))
   restricted a d f m n = record {
     made =
         made_node c head.Restrict (distributions a ∷ ty.Bool ∷ []) (d ∷ f ∷ []) (ty.Distr a)
@@ -65,25 +61,25 @@ module _ (c : Context) (l : Language) where
   }
 
   -- quantifiers over values
-  pub for_all : (a : Ty) (f : Term) → IsFiniteWith globs a → Typed (within c (value a) None) l ty.Bool f → Typed c l ty.Bool (node (head.All a) (f ∷ []) ty.Bool)
+  pub for_all : (a : Ty) (f : Term) → IsFiniteWith globs a → Typed globs (within c (value a) None) l ty.Bool f → Typed globs c l ty.Bool (node (head.All a) (f ∷ []) ty.Bool)
   for_all a f h m = record {
     made = made_node c (head.All a) (ty.Bool ∷ []) (f ∷ []) ty.Bool (with_globs globs a h, (refl, (refl, tt))) tt [] m.made;
     type = tt;
     plain = λ p. plain_node (head.All a) (f ∷ []) ty.Bool tt (m.plain p, tt);
-    apart = λ p. apart_node (head.All a) (f ∷ []) ty.Bool (no_globs l a (finite_form globs a h) p) (m.apart p, tt);
+    apart = λ p. apart_node (head.All a) (f ∷ []) ty.Bool (no_globs globs a (finite_form globs a h) p) (m.apart p, tt);
   }
 
-  pub for_some : (a : Ty) (f : Term) → IsFiniteWith globs a → Typed (within c (value a) None) l ty.Bool f → Typed c l ty.Bool (node (head.Some a) (f ∷ []) ty.Bool)
+  pub for_some : (a : Ty) (f : Term) → IsFiniteWith globs a → Typed globs (within c (value a) None) l ty.Bool f → Typed globs c l ty.Bool (node (head.Some a) (f ∷ []) ty.Bool)
   for_some a f h m = record {
     made = made_node c (head.Some a) (ty.Bool ∷ []) (f ∷ []) ty.Bool (with_globs globs a h, (refl, (refl, tt))) tt [] m.made;
     type = tt;
     plain = λ p. plain_node (head.Some a) (f ∷ []) ty.Bool tt (m.plain p, tt);
-    apart = λ p. apart_node (head.Some a) (f ∷ []) ty.Bool (no_globs l a (finite_form globs a h) p) (m.apart p, tt);
+    apart = λ p. apart_node (head.Some a) (f ∷ []) ty.Bool (no_globs globs a (finite_form globs a h) p) (m.apart p, tt);
   }
 
 -- Quantifiers over memories, which have locals; they stand where judgments may stand.
-module _ (c : Context) (l : Language) (judges : has_judgments l ≡ true) (ls : List TypedName) where
-  pub for_all_memories : (f : Term) → Typed (within c memory (Some ls)) l ty.Bool f → Typed c l ty.Bool (node head.AllMemory (f ∷ []) ty.Bool)
+module _ {globs : Bool} (c : Context) (l : Language) (judges : has_judgments l ≡ true) (ls : List TypedName) where
+  pub for_all_memories : (f : Term) → Typed globs (within c memory (Some ls)) l ty.Bool f → Typed globs c l ty.Bool (node head.AllMemory (f ∷ []) ty.Bool)
   for_all_memories f m = record {
     made = made_node c head.AllMemory (ty.Bool ∷ []) (f ∷ []) ty.Bool (refl, (refl, tt)) tt ls m.made;
     type = tt;
@@ -91,7 +87,7 @@ module _ (c : Context) (l : Language) (judges : has_judgments l ≡ true) (ls : 
     apart = λ p. apart_node head.AllMemory (f ∷ []) ty.Bool tt (m.apart p, tt);
   }
 
-  pub for_some_memory : (f : Term) → Typed (within c memory (Some ls)) l ty.Bool f → Typed c l ty.Bool (node head.SomeMemory (f ∷ []) ty.Bool)
+  pub for_some_memory : (f : Term) → Typed globs (within c memory (Some ls)) l ty.Bool f → Typed globs c l ty.Bool (node head.SomeMemory (f ∷ []) ty.Bool)
   for_some_memory f m = record {
     made = made_node c head.SomeMemory (ty.Bool ∷ []) (f ∷ []) ty.Bool (refl, (refl, tt)) tt ls m.made;
     type = tt;

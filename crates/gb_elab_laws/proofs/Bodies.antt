@@ -84,7 +84,7 @@ form_result (ty.Map' p k q x) h = h
 form_result (ty.Abstract x) h = h
 form_result (ty.Glob x) h = absurd (false≢true h)
 
-body_fits : (ds : scope.Declarations) (c : Context) (vs : List TypedName) → AreDeclared c.operator ds → AreMeasured (types_in vs) → IsFitting (in_operator c (types_in vs)) (of_body ds) (reverse (map bound_value vs))
+body_fits : (ds : scope.Declarations) (c : Context) (vs : List TypedName) → AreDeclared c.operator ds → AreMeasured (types_in vs) → IsFitting false (in_operator c (types_in vs)) (of_body ds) (reverse (map bound_value vs))
 body_fits ds c vs names h = record {
   logical = λ i. refl;
   values = tt;

@@ -2,6 +2,7 @@
 use Rattle.std.proofs.Common.{◌≡◌, Bool, true, false, if◌then◌else◌, ℕ, List, [], ◌∷◌, Some, refl, ap, sym, subst}
 use Rattle.std.proofs.lemmas.Bool.{false≢true}
 use Rattle.std.specs.Prelude.{codes, bytes_eq}
+use Rattle.std.specs.List.{AllByRecursion}
 use Rattle.gb_core.specs.declared.place.Place.{Place}
 use Rattle.gb_core.specs.declared.ty.Ty.{Ty}
 use Rattle.gb_core.specs.declared.ty.Ty.TheVariants as ty
@@ -20,6 +21,8 @@ use Rattle.gb_steps.specs.declared.step.BodyRule.TheVariants as on_bodies
 use Rattle.gb_steps.specs.declared.step.Multiple.{Multiple}
 use Rattle.gb_steps.specs.declared.step.Step.{Step}
 use Rattle.gb_goal.specs.Answers.{Answer, not_built}
+use Rattle.gb_steps.specs.declared.step.RewriteRule.TheVariants as rewrite_rule
+use Rattle.gb_steps.specs.Told.{told}
 use Rattle.gb_steps.specs.declared.step.UseRule.{UseRule}
 use Rattle.gb_steps.specs.declared.step.UseRule.TheVariants as use_rule
 use Rattle.gb_goal.specs.Goal.{goal_of, judges_bodies}
@@ -40,19 +43,21 @@ use Rattle.gb_typing.specs.Scopes.{context_of, IsTypedScope}
 use Rattle.gb_names.specs.Environment.{ambient}
 use Rattle.gb_elab.specs.Forms.{elaborated}
 use Rattle.gb_elab_mod.specs.Steps.{asked_of, acts, coupling_rule, couplings, cut_of, functions_of, conclusion_rule, conseq_rule, formed, case_of_bodies, case_of_conclusion, of_bodies_rule, on_all, plain_rule, seq_rule, typed_rule, step_given, chance_rule, judges_chance, symmetry_rule}
-use Rattle.gb_elab_mod.specs.Multiples.{multiples}
-use Rattle.gb_elab_mod.specs.Uses.{used}
+use Rattle.gb_elab_mod.specs.Multiples.{hypothesis_at, multiples}
+use Rattle.gb_elab_mod.specs.Uses.{all_hinted, hypothesis, used}
 use Rattle.gb_elab_mod.specs.Taken.{new_name}
 use Rattle.gb_elab_prog.specs.Unbuilt.{absent}
 use Rattle.gb_elab_laws.specs.Fitting.{IsFormTypeIf, IsWanted}
+use Rattle.gb_elab_laws.proofs.Contracts.{of_call}
 use Rattle.gb_elab_laws.proofs.Shapes.{finite_form}
 use Rattle.gb_elab_laws.proofs.Given.{given_bind, given_is}
 use Rattle.gb_elab_laws.proofs.Fits.{goal_fits}
 use Rattle.gb_elab_laws.proofs.Forms.{elaborated_typed}
 use Rattle.gb_amb.specs.Steps.{IsTypedStep, IsWitness}
 use mathlib.Core.Former.{Count}
-use Rattle.gb_elab_laws.proofs.Used.{used_typed}
-use Rattle.gb_use.specs.Instances.{IsInstance}
+use Rattle.gb_elab_laws.proofs.Used.{all_hinted_typed, hypothesis_typed, used_typed}
+use Rattle.gb_use.specs.Lemmas.{IsKnown}
+use Rattle.gb_elab_laws.specs.Procedures.{AreStated}
 use Rattle.gb_use.specs.Uses.{used_by}
 use Rattle.gb_use.specs.Uses as uses
 
@@ -65,10 +70,16 @@ module _ (ds : scope.Declarations) (scoped : IsTypedScope (declared ds)) (q : Se
       let g = elaborated_typed f here (ambient ds q) [] (goal_fits ds scoped q t) (Some ty.Bool) tt u h in
       record { typed = g.typed; truth = g.wanted }
 
+  -- typed forms that are known
+  abbrev AreKnown : List Term → Type 0
+  AreKnown fs = AllByRecursion (λ f. IsForm here f × IsKnown (declared ds) q here f) fs
+
   -- the forms that a rule brings are typed
   abbrev HasForms : Rule → Type 0
   HasForms (rule.Ambient r) = IsTypedStep here q.conclusion r
-  HasForms (rule.Use r) = uses.IsTypedStep q here r
+  HasForms (rule.Use r) = AreStated ds → uses.IsTypedStep (declared ds) q here r
+  HasForms (rule.Smt fs) = AreStated ds → AreKnown fs
+  HasForms (rule.Rewrite r) = AreStated ds → AreKnown (told (rule.Rewrite r))
   HasForms _ = Unit {0}
 
   -- a step that brings this
@@ -78,12 +89,14 @@ module _ (ds : scope.Declarations) (scoped : IsTypedScope (declared ds)) (q : Se
   -- a step that uses a hypothesis
   by_use : (n : Node) (f : Term) → used ds q n ≡ given f → (r : UseRule) → used_by r ≡ f → (k : Rule) → rule.Use r ≡ k → HasForms k
   by_use n f u r is k e =
-      let w = used_typed ds scoped q t n f u in
-      subst HasForms e (record { form = subst (IsForm here) (sym is) w.0; known = subst (IsInstance q here) (sym is) w.1 })
+      subst HasForms e
+      (λ lemmas. (let w = used_typed ds scoped q t lemmas n f u in record { form = subst (IsForm here) (sym is) w.0; known = subst (IsKnown (declared ds) q here) (sym is) w.1 }))
 
   abbrev is_ambient : Rule → Bool
   is_ambient (rule.Ambient r) = true
   is_ambient (rule.Use r) = true
+  is_ambient (rule.Smt fs) = true
+  is_ambient (rule.Rewrite r) = true
   is_ambient _ = false
 
   without_forms : (j : Rule) → is_ambient j ≡ false → HasForms j
@@ -91,9 +104,11 @@ module _ (ds : scope.Declarations) (scoped : IsTypedScope (declared ds)) (q : Se
   without_forms (rule.Use r) n = absurd (false≢true (sym n))
   without_forms (rule.OnBodies r) n = tt
   without_forms (rule.Relational r) n = tt
-  without_forms rule.Smt n = tt
+  without_forms (rule.Smt fs) n = absurd (false≢true (sym n))
+  without_forms (rule.Rewrite r) n = absurd (false≢true (sym n))
   without_forms (rule.Linear ms) n = tt
   without_forms (rule.Chance r) n = tt
+  without_forms (rule.Call s) n = tt
 
   other : (j k : Rule) → is_ambient j ≡ false → j ≡ k → HasForms k
   other j k n e = subst HasForms e (without_forms j n)
@@ -187,6 +202,7 @@ module _ (ds : scope.Declarations) (scoped : IsTypedScope (declared ds)) (q : Se
   rule_forms : (n : Kind) (x : List ℕ) (xs : List Node) (p : Place) (k : Rule) → typed_rule ds q n x xs p ≡ given k → HasForms k
   rule_forms text.PlainStep x [] p k h =
       let o = given_bind (conclusion_rule x p) (λ (a : AmbientRule). given (rule.Ambient a)) k h in brings o.0 (plain_typed x p o.0 o.1) k (given_is (rule.Ambient o.0) k o.2)
+  rule_forms text.CallStep x (b ∷ n ∷ []) p k h = of_call ds q HasForms (λ s. tt) tt (acts (parts_of b)) (head_of n) (parts_of n) p k h
   rule_forms text.CaseStep x (b ∷ f ∷ []) p k h =
       let o = given_bind (absent (parts_of b) p) _ k h in of_case f k (judges_bodies (out-Term q.conclusion).head) o.2
   rule_forms text.HaveForm x (n ∷ f ∷ []) p k h =
@@ -214,7 +230,21 @@ module _ (ds : scope.Declarations) (scoped : IsTypedScope (declared ds)) (q : Se
       let o = given_bind (new_name q (text_of m) (place_of m)) _ k h in
       let z = given_bind (used ds q n) (λ (f : Term). given (rule.Use (use_rule.Have (text_of m) f))) k o.2 in
       by_use n z.0 z.1 (use_rule.Have (text_of m) z.0) refl k (given_is (rule.Use (use_rule.Have (text_of m) z.0)) k z.2)
-  rule_forms text.Smt x hints p k h = let o = given_bind (absent hints p) (λ _. given rule.Smt) k h in other rule.Smt k refl (given_is rule.Smt k o.2)
+  rule_forms text.RewriteLemma x (n ∷ []) p k h =
+      let z = given_bind (used ds q n) (λ (f : Term). given (rule.Rewrite (rewrite_rule.Forward f))) k h in
+      subst HasForms (given_is (rule.Rewrite (rewrite_rule.Forward z.0)) k z.2) (λ lemmas. (used_typed ds scoped q t lemmas n z.0 z.1, tt))
+  rule_forms text.RewriteBack x (n ∷ []) p k h =
+      let z = given_bind (used ds q n) (λ (f : Term). given (rule.Rewrite (rewrite_rule.Back f))) k h in
+      subst HasForms (given_is (rule.Rewrite (rewrite_rule.Back z.0)) k z.2) (λ lemmas. (used_typed ds scoped q t lemmas n z.0 z.1, tt))
+  rule_forms text.RewriteHypothesis x (n ∷ []) p k h =
+      let z = given_bind (hypothesis ds q (text_of n) (place_of n)) (λ (f : Term). given (rule.Rewrite (rewrite_rule.Forward f))) k h in
+      subst HasForms (given_is (rule.Rewrite (rewrite_rule.Forward z.0)) k z.2) (λ lemmas. (hypothesis_typed ds scoped q t lemmas (text_of n) (place_of n) z.0 z.1, tt))
+  rule_forms text.Subst x (n ∷ []) p k h =
+      let z = given_bind (hypothesis_at ds q (text_of n) (place_of n)) (λ (i : ℕ). given (rule.Rewrite (rewrite_rule.Subst i))) k h in
+      subst HasForms (given_is (rule.Rewrite (rewrite_rule.Subst z.0)) k z.2) (λ lemmas. tt)
+  rule_forms text.Smt x hints p k h =
+      let z = given_bind (all_hinted ds q hints) (λ (fs : List Term). given (rule.Smt fs)) k h in
+      subst HasForms (given_is (rule.Smt z.0) k z.2) (λ lemmas. all_hinted_typed ds scoped q t lemmas hints z.0 z.1)
   rule_forms text.Linear x hs p k h =
       let o = given_bind (multiples ds q hs) (λ (ms : List Multiple). given (rule.Linear ms)) k h in other (rule.Linear o.0) k refl (given_is (rule.Linear o.0) k o.2)
   rule_forms text.Name x [] p k h = brings (conclusion.Introduce x) tt k (given_is (rule.Ambient (conclusion.Introduce x)) k h)
@@ -226,7 +256,7 @@ module _ (ds : scope.Declarations) (scoped : IsTypedScope (declared ds)) (q : Se
       let o = given_bind (elaborated n (ambient ds q) [] (asked_of (out-Term q.conclusion).head)) (λ (u : Term). given (rule.Ambient (conclusion.Witness u))) k h in
       brings (conclusion.Witness o.0) (of_witness n o.0 o.1) k (given_is (rule.Ambient (conclusion.Witness o.0)) k o.2)
   rule_forms text.TrivialPattern x [] p k h = brings conclusion.Trivial tt k (given_is (rule.Ambient conclusion.Trivial) k h)
-  rule_forms text.SmtPattern x [] p k h = other rule.Smt k refl (given_is rule.Smt k h)
+  rule_forms text.SmtPattern x [] p k h = subst HasForms (given_is (rule.Smt []) k h) (λ lemmas. tt)
   rule_forms _ x _ p k h = cc
 
   step_forms : (n : Node) (s : Step) → step_given ds q n ≡ given s → HasForms s.rule
@@ -238,5 +268,13 @@ module _ (ds : scope.Declarations) (scoped : IsTypedScope (declared ds)) (q : Se
   pub steps_typed : (n : Node) (s : Step) → step_given ds q n ≡ given s → (r : AmbientRule) → s.rule ≡ rule.Ambient r → IsTypedStep here q.conclusion r
   steps_typed n s h r e = subst HasForms e (step_forms n s h)
 
-  pub uses_typed : (n : Node) (s : Step) → step_given ds q n ≡ given s → (r : UseRule) → s.rule ≡ rule.Use r → uses.IsTypedStep q here r
-  uses_typed n s h r e = subst HasForms e (step_forms n s h)
+  pub uses_typed : AreStated ds → (n : Node) (s : Step) → step_given ds q n ≡ given s → (r : UseRule) → s.rule ≡ rule.Use r → uses.IsTypedStep (declared ds) q here r
+  uses_typed lemmas n s h r e = subst HasForms e (step_forms n s h) lemmas
+
+  told_typed : (r : Rule) → HasForms r → AreStated ds → AreKnown (told r)
+  told_typed (rule.Smt fs) w lemmas = w lemmas
+  told_typed (rule.Rewrite r) w lemmas = w lemmas
+  told_typed _ w lemmas = tt
+
+  pub hints_typed : AreStated ds → (n : Node) (s : Step) → step_given ds q n ≡ given s → AreKnown (told s.rule)
+  hints_typed lemmas n s h = told_typed s.rule (step_forms n s h) lemmas

@@ -28,10 +28,14 @@ use Rattle.gb_elab.specs.Forms.{elaborated}
 use Rattle.gb_elab_prog.specs.Contexts.{nothing_around}
 use Rattle.gb_elab_stmt.specs.Calls.{arguments, call, call_of, called, declared_procedures, enough, is_hidden, or_own, procedures_in, takes}
 use Rattle.gb_elab_stmt.specs.Targets.{type_of_all, variables_of}
+use Rattle.gb_meaning.specs.Written.{type_of}
 use Rattle.gb_typed.specs.Finite.{IsFinite}
-use Rattle.gb_typed.specs.Programs.{HaveFiniteTypes, Take}
+use Rattle.gb_typing.proofs.Variables.{variable_finite}
+use Rattle.gb_holds.specs.Naming.{AnyName}
+use Rattle.gb_later.specs.Naming.{NoName, EachTermNames}
+use Rattle.gb_typed.specs.Programs.{Take}
 use Rattle.gb_typing.specs.Context.{Context, erased, of_program, procedure}
-use Rattle.gb_typing.specs.Programs.{AreArguments, IsCall, IsStatement, HaveVariableTypes}
+use Rattle.gb_typing.specs.Programs.{AreArguments, IsCall, HaveVariableTypes}
 use Rattle.gb_elab_laws.specs.Fitting.{IsTypeOf}
 use Rattle.gb_elab_laws.proofs.Around.{IsAround}
 use Rattle.gb_elab_laws.proofs.Around as program_around
@@ -39,6 +43,7 @@ use Rattle.gb_elab_laws.proofs.Forms.{elaborated_typed}
 use Rattle.gb_elab_laws.proofs.Given.{given_bind, given_is, if_given, if_refused, some_given}
 use Rattle.gb_elab_laws.proofs.Judged.{in_module, module_is}
 use Rattle.gb_elab_laws.proofs.Shapes.{finite_form}
+use Rattle.gb_elab_laws.proofs.Spoken.{hidden_named}
 use mathlib.Core.Former.{Count}
 
 module _ (ds : Declarations) (c : Context) (m : Module) (around : IsAround ds c m) (vs : List TypedName) (typed : HaveVariableTypes vs) where
@@ -74,21 +79,28 @@ module _ (ds : Declarations) (c : Context) (m : Module) (around : IsAround ds c 
       subst IsThere (given_is (reference f, d.0) n d.2)
       (own_there f p ps.0 d.0 k.1 (some_given (proc_of ps.0 (text_of f.1)) (UnknownName (text_of f.1)) (place_of f.1) d.0 d.1))
 
+  abbrev IsMade : Instr → Type 0
+  IsMade = program_around.IsMade ds c m around vs typed
+
+  -- arguments of the types of these parameters, which speak of no module's globals together
+  abbrev ArePassed : List Term → List TypedName → Type 0
+  ArePassed us qs = AreArguments c vs us qs × EachTermNames NoName AnyName us
+
   -- arguments of the types of parameters, of which there are no more
-  arguments_typed : (qs : List TypedName) (es : List Node) (us : List Term) → HaveFiniteTypes qs → length qs ≤ length es → arguments here qs es ≡ given us → AreArguments c vs us qs
+  arguments_typed : (qs : List TypedName) (es : List Node) (us : List Term) → HaveVariableTypes qs → length qs ≤ length es → arguments here qs es ≡ given us → ArePassed us qs
   unfolding arguments
-  arguments_typed [] [] us f n h = subst (λ us. AreArguments c vs us []) (given_is [] us h) tt
+  arguments_typed [] [] us f n h = subst (λ us. ArePassed us []) (given_is [] us h) (tt, tt)
   arguments_typed (q ∷ qs) [] us f n h = absurd (omega (arith, n))
   arguments_typed [] (e ∷ es) us f n h = cc
   arguments_typed (q ∷ qs) (e ∷ es) us f n h =
       let u = given_bind (elaborated e here [] (Some q.ty)) _ us h in
       let ws = given_bind (arguments here qs es) (λ (ws : List Term). given (u.0 ∷ ws)) us u.2 in
       let fit = program_around.fits ds c m around vs typed in
-      let g = elaborated_typed e (of_program c vs) here [] fit (Some q.ty) (finite_form true q.ty f.0) u.0 u.1 in
-      subst (λ us. AreArguments c vs us (q ∷ qs)) (given_is (u.0 ∷ ws.0) us ws.2) (
-        (record { expression = program_around.expression ds c m around vs typed (Some q.ty) u.0 g; finite = subst IsFinite (sym g.wanted) f.0 }, g.wanted),
-        arguments_typed qs es ws.0 f.1 (omega (arith, n)) ws.1,
-      )
+      let g = elaborated_typed e (of_program c vs) here [] fit (Some q.ty) (finite_form false q.ty f.0) u.0 u.1 in
+      let k = arguments_typed qs es ws.0 f.1 (omega (arith, n)) ws.1 in
+      let finite : IsFinite (type_of u.0) = subst IsFinite (sym g.wanted) (variable_finite q.ty f.0) in
+      subst (λ us. ArePassed us (q ∷ qs)) (given_is (u.0 ∷ ws.0) us ws.2)
+      (((record { expression = program_around.expression ds c m around vs typed (Some q.ty) u.0 g; finite = finite }, g.wanted), k.0), (g.apart refl, k.1))
 
   -- what is written takes the result
   results_taken : (ws : List Target) → program_around.AreTargets ds c m around vs typed ws → (t : Ty) (p : Place) (x : _) → takes ws t p ≡ given x → Take (erased c) vs (variables_of ws) t
@@ -101,12 +113,14 @@ module _ (ds : Declarations) (c : Context) (m : Module) (around : IsAround ds c 
   row_terms end_of-Term = refl
   row_terms (more_of-Term t r) = ap (λ us. t ∷ us) (row_terms r)
 
-  statement_is : (ws : List Target) (n : Named) (us : List Term) → IsThere n → AreArguments c vs us n.1.params → Take (erased c) vs (variables_of ws) n.1.result → IsStatement c vs (Call (variables_of ws) n.0 us)
-  statement_is ws n us t k w =
-      subst (λ (es : List Term). IsCall c vs (variables_of ws) (procedure c n.0) es) (sym (row_terms (B.hidden-the_row-Term-0 us) ∙ items_hidden-the_row-Term-0 us))
-      (subst (λ o. IsCall c vs (variables_of ws) o us) (sym t.there) (k, w))
+  statement_is : (ws : List Target) (n : Named) (us : List Term) → IsThere n → ArePassed us n.1.params → Take (erased c) vs (variables_of ws) n.1.result → IsMade (Call (variables_of ws) n.0 us)
+  statement_is ws n us t k w = (
+    subst (λ (es : List Term). IsCall c vs (variables_of ws) (procedure c n.0) es) (sym (row_terms (B.hidden-the_row-Term-0 us) ∙ items_hidden-the_row-Term-0 us))
+        (subst (λ o. IsCall c vs (variables_of ws) o us) (sym t.there) (k.0, w)),
+    hidden_named NoName us k.1,
+  )
 
-  of_path : (ws : List Target) → program_around.AreTargets ds c m around vs typed ws → (f : Path) (es : List Node) (p : Place) (i : Instr) → call_of here ws f es p ≡ given i → IsStatement c vs i
+  of_path : (ws : List Target) → program_around.AreTargets ds c m around vs typed ws → (f : Path) (es : List Node) (p : Place) (i : Instr) → call_of here ws f es p ≡ given i → IsMade i
   unfolding call_of
   of_path ws w f es p i h =
       let n = given_bind (called here f p) _ i h in
@@ -115,9 +129,9 @@ module _ (ds : Declarations) (c : Context) (m : Module) (around : IsAround ds c 
       let us = given_bind (arguments here n.0.1.params es) (λ (us : List Term). given (Call (variables_of ws) n.0.0 us)) i t.2 in
       let there = called_there f p n.0 n.1 in
       let many = if_refused (nat_lt (length es) (length n.0.1.params)) TypeMismatch p (given tt) o.0 o.1 in
-      subst (IsStatement c vs) (given_is (Call (variables_of ws) n.0.0 us.0) i us.2)
+      subst (IsMade) (given_is (Call (variables_of ws) n.0.0 us.0) i us.2)
       (statement_is ws n.0 us.0 there (arguments_typed n.0.1.params es us.0 there.params (ltb-false (length es) (length n.0.1.params) many.0) us.1) (results_taken ws w n.0.1.result p t.0 t.1))
 
-  pub call_typed : (ws : List Target) → program_around.AreTargets ds c m around vs typed ws → (xs es : List Node) (p : Place) (i : Instr) → call here ws xs es p ≡ given i → IsStatement c vs i
+  pub call_typed : (ws : List Target) → program_around.AreTargets ds c m around vs typed ws → (xs es : List Node) (p : Place) (i : Instr) → call here ws xs es p ≡ given i → IsMade i
   call_typed ws w (x ∷ y ∷ ys) (es ∷ []) p i h = of_path ws w (procedure_path (text_of x) y ys) (parts_of es) p i h
   call_typed ws w _ _ p i h = cc

@@ -33,7 +33,7 @@ use Rattle.gb_operators.specs.Constants.{constant, literal}
 use Rattle.gb_operators.specs.Drawn.{uniform}
 use Rattle.gb_operators.specs.Kinds.{entries, inside_option, is_small}
 use Rattle.gb_operators.specs.Literals.{as_whole, holds, holds_layer, number, numeral}
-use Rattle.gb_elab_laws.specs.Fitting.{has_globs, IsFormType, IsFormTypeIf, AreTypes, IsFitting, IsWanted, IsGiven}
+use Rattle.gb_elab_laws.specs.Fitting.{IsFormType, IsFormTypeIf, AreTypes, IsFitting, IsWanted, IsGiven}
 use Rattle.gb_elab_laws.proofs.Given.{given_bind, given_is, if_allowed, if_given, fits_is}
 use Rattle.gb_elab_laws.proofs.Types.{spelled_typed}
 use Rattle.gb_elab_laws.proofs.Shapes.{made_of, finite_form, variable_with, drawn_form, entries_finite, some_finite}
@@ -55,72 +55,72 @@ some_is : {A : Type 0} (o : Option A) → is_some o ≡ true → (x : A) × (o �
 some_is (Some x) e = (x, refl)
 some_is None e = absurd (false≢true e)
 
-module _ (c : Context) (at : Environment) where
+module _ (globs : Bool) (c : Context) (at : Environment) where
   abbrev l : Language
   l = at.language
 
-  whole_typed : (n : ℕ) → Typed c l ty.Int (node (Whole (pos n)) [] ty.Int)
+  whole_typed : (n : ℕ) → Typed globs c l ty.Int (node (Whole (pos n)) [] ty.Int)
   whole_typed n = leaf c l (Whole (pos n)) ty.Int tt refl tt tt (λ e. tt)
 
-  as_whole_typed : (n : ℕ) (w : Option Ty) (p : Place) (u : Term) → as_whole at n w p ≡ given u → IsGiven c l w u
+  as_whole_typed : (n : ℕ) (w : Option Ty) (p : Place) (u : Term) → as_whole at n w p ≡ given u → IsGiven globs c l w u
   as_whole_typed n w p u e =
       let k = given_bind (stands at w p ty.Int) (λ _. given (node (Whole (pos n)) [] ty.Int)) u e in
-      subst (IsGiven c l w) (given_is _ u k.2) (given_from c l w ty.Int (node (Whole (pos n)) [] ty.Int) (whole_typed n) (stands_is at w p ty.Int k.0 k.1))
+      subst (IsGiven globs c l w) (given_is _ u k.2) (given_from c l w ty.Int (node (Whole (pos n)) [] ty.Int) (whole_typed n) (stands_is at w p ty.Int k.0 k.1))
 
   -- a number of a type that holds it
-  held_typed : (n : ℕ) (t : Ty) → holds n t ≡ true → Typed c l t (node (Lit (Num n)) [] t)
+  held_typed : (n : ℕ) (t : Ty) → holds n t ≡ true → Typed globs c l t (node (Lit (Num n)) [] t)
   held_typed n t e = step (out-Ty t) (made_of t (out-Ty t) refl) e
     where
-      step : (x : layer.Ty-F Ty) → t ≡ roll-Ty x → holds_layer n x ≡ true → Typed c l t (node (Lit (Num n)) [] t)
+      step : (x : layer.Ty-F Ty) → t ≡ roll-Ty x → holds_layer n x ≡ true → Typed globs c l t (node (Lit (Num n)) [] t)
       step (layer.Mod m) s h =
           let k = ltb-true n m h in
-          subst (λ z. Typed c l z (node (Lit (Num n)) [] z)) (sym (s ∙ ty.rolls-Mod m)) (leaf c l (Lit (Num n)) (ty.Mod m) (omega (arith, k)) (mod_literal m n k) tt tt (λ e. tt))
+          subst (λ z. Typed globs c l z (node (Lit (Num n)) [] z)) (sym (s ∙ ty.rolls-Mod m)) (leaf c l (Lit (Num n)) (ty.Mod m) (omega (arith, k)) (mod_literal m n k) tt tt (λ e. tt))
       step (layer.Bits m) s h =
           let k = ltb-true n (min (2 ^ m) (2 ^ 63)) h in
           let j = min-le_left (2 ^ m) (2 ^ 63) in
-          subst (λ z. Typed c l z (node (Lit (Num n)) [] z)) (sym (s ∙ ty.rolls-Bits m)) (leaf c l (Lit (Num n)) (ty.Bits m) tt (bits_literal m n (omega (arith, k, j))) tt tt (λ e. tt))
+          subst (λ z. Typed globs c l z (node (Lit (Num n)) [] z)) (sym (s ∙ ty.rolls-Bits m)) (leaf c l (Lit (Num n)) (ty.Bits m) tt (bits_literal m n (omega (arith, k, j))) tt tt (λ e. tt))
       step _ s h = absurd (false≢true h)
 
-  number_typed : (n : ℕ) (w : Option Ty) (p : Place) (u : Term) → number at n w p ≡ given u → IsGiven c l w u
+  number_typed : (n : ℕ) (w : Option Ty) (p : Place) (u : Term) → number at n w p ≡ given u → IsGiven globs c l w u
   number_typed n None p u e = as_whole_typed n None p u e
   number_typed n (Some t) p u e = step (nat_lt n (2 ^ 63) && holds n t) refl e
     where
-      step : (b : Bool) → (nat_lt n (2 ^ 63) && holds n t) ≡ b → (if b then given (node (Lit (Num n)) [] t) else as_whole at n (Some t) p) ≡ given u → IsGiven c l (Some t) u
-      step true h k = subst (IsGiven c l (Some t)) (given_is _ u k) (given_from c l (Some t) t (node (Lit (Num n)) [] t) (held_typed n t (and_parts (nat_lt n (2 ^ 63)) (holds n t) h).1) refl)
+      step : (b : Bool) → (nat_lt n (2 ^ 63) && holds n t) ≡ b → (if b then given (node (Lit (Num n)) [] t) else as_whole at n (Some t) p) ≡ given u → IsGiven globs c l (Some t) u
+      step true h k = subst (IsGiven globs c l (Some t)) (given_is _ u k) (given_from c l (Some t) t (node (Lit (Num n)) [] t) (held_typed n t (and_parts (nat_lt n (2 ^ 63)) (holds n t) h).1) refl)
       step false h k = as_whole_typed n (Some t) p u k
 
-  pub numeral_typed : (x : Name) (w : Option Ty) (p : Place) (u : Term) → numeral at x w p ≡ given u → IsGiven c l w u
+  pub numeral_typed : (x : Name) (w : Option Ty) (p : Place) (u : Term) → numeral at x w p ≡ given u → IsGiven globs c l w u
   numeral_typed x w p u e = step (nat_lt (number_of x) (2 ^ 127)) e
     where
-      step : (b : Bool) → (if b then number at (number_of x) w p else refused Syntax p) ≡ given u → IsGiven c l w u
+      step : (b : Bool) → (if b then number at (number_of x) w p else refused Syntax p) ≡ given u → IsGiven globs c l w u
       step true k = number_typed (number_of x) w p u k
       step false k = cc
 
   -- the fair coin, and a uniform distribution
-  pub coin_typed : (w : Option Ty) (p : Place) (u : Term) → coin at w p ≡ given u → IsGiven c l w u
+  pub coin_typed : (w : Option Ty) (p : Place) (u : Term) → coin at w p ≡ given u → IsGiven globs c l w u
   coin_typed w p u e =
       let d = node (Builtin op.Coin) [] (ty.Distr ty.Bool) in
       let k = given_bind (distribution_here at w p) (λ _. wanted w p d) u e in
-      wanted_given c l w p d u (ty.Distr ty.Bool, leaf c l (Builtin op.Coin) (ty.Distr ty.Bool) (drawn_form (has_globs l) ty.Bool tt) (distribution_is ty.Bool) tt tt (λ e. e)) k.2
+      wanted_given c l w p d u (ty.Distr ty.Bool, leaf c l (Builtin op.Coin) (ty.Distr ty.Bool) (drawn_form globs ty.Bool tt) (distribution_is ty.Bool) tt tt (λ e. e)) k.2
 
-  pub uniform_typed : AreTypes at.declared → (ts : List Node) (w : Option Ty) (p : Place) (u : Term) → uniform ts p at w ≡ given u → IsGiven c l w u
+  pub uniform_typed : AreTypes at.declared → (ts : List Node) (w : Option Ty) (p : Place) (u : Term) → uniform ts p at w ≡ given u → IsGiven globs c l w u
   uniform_typed names (s ∷ []) w p u e =
       let t = given_bind (type_of at.declared s) _ u e in
       let d = node (Builtin op.Uniform) [] (ty.Distr t.0) in
       let k = given_bind (stands at w p (ty.Distr t.0)) (λ _. if is_small t.0 then given d else refused TypeTooLarge p) u t.2 in
       let j = if_given (is_small t.0) d TypeTooLarge p u k.2 in
-      subst (IsGiven c l w) j.1
-      (given_from c l w (ty.Distr t.0) d (operators.uniform c l t.0 (variable_with (has_globs l) t.0 (spelled_typed at.declared names s t.0 t.1))) (stands_is at w p (ty.Distr t.0) k.0 k.1))
+      subst (IsGiven globs c l w) j.1
+      (given_from c l w (ty.Distr t.0) d (operators.uniform c l t.0 (variable_with globs t.0 (spelled_typed at.declared names s t.0 t.1))) (stands_is at w p (ty.Distr t.0) k.0 k.1))
   uniform_typed names [] w p u e = cc
   uniform_typed names (s ∷ x ∷ ts) w p u e = cc
 
   -- a constant of an enumeration
-  pub literal_typed : (k : Constant) → IsVariableType k.ty × IsLiteral k.ty (Num k.number) → Typed c l k.ty (literal k)
-  literal_typed k h = leaf c l (Lit (Num k.number)) k.ty (finite_form (has_globs l) k.ty (variable_with (has_globs l) k.ty h.0)) h.1 tt tt (λ e. tt)
+  pub literal_typed : (k : Constant) → IsVariableType k.ty × IsLiteral k.ty (Num k.number) → Typed globs c l k.ty (literal k)
+  literal_typed k h = leaf c l (Lit (Num k.number)) k.ty (finite_form globs k.ty (variable_with globs k.ty h.0)) h.1 tt tt (λ e. tt)
 
-  module _ (vs : List Binding) (fit : IsFitting c at vs) where
+  module _ (vs : List Binding) (fit : IsFitting globs c at vs) where
     -- a built-in name alone
-    pub constant_typed : (k : Known) (w : Option Ty) (p : Place) → IsFormTypeIf (has_globs l) w → (u : Term) → constant k w p ≡ given u → IsGiven c l w u
+    pub constant_typed : (k : Known) (w : Option Ty) (p : Place) → IsFormTypeIf globs w → (u : Term) → constant k w p ≡ given u → IsGiven globs c l w u
     constant_typed known.True w p f u e = wanted_given c l w p (truth_literal true) u (ty.Bool, truth_typed c at vs fit true) e
     constant_typed known.False w p f u e = wanted_given c l w p (truth_literal false) u (ty.Bool, truth_typed c at vs fit false) e
     constant_typed known.Unit w p f u e = wanted_given c l w p unit u (ty.Unit, unit_typed c at vs fit) e
@@ -129,15 +129,15 @@ module _ (c : Context) (at : Environment) where
         let k = if_given (is_some (inside_option t)) (applied op.None [] t) TypeMismatch p u e in
         let o = some_is (inside_option t) k.0 in
         let same = option_of t o.0 o.1 in
-        subst (IsGiven c l (Some t)) k.1
+        subst (IsGiven globs c l (Some t)) k.1
         (given_from c l (Some t) t (applied op.None [] t)
-        (subst (λ z. Typed c l z (applied op.None [] z)) (sym same) (none c l o.0 (some_finite (has_globs l) o.0 (subst (IsFormType (has_globs l)) same f)))) refl)
+        (subst (λ z. Typed globs c l z (applied op.None [] z)) (sym same) (none c l o.0 (some_finite globs o.0 (subst (IsFormType globs) same f)))) refl)
     constant_typed known.Empty None p f u e = cc
     constant_typed known.Empty (Some t) p f u e =
         let k = if_given (is_some (entries t)) (applied op.Empty [] t) TypeMismatch p u e in
         let o = some_is (entries t) k.0 in
         let same = map_of t o.0 o.1 in
-        let n = entries_finite (has_globs l) o.0.0 o.0.1 (subst (IsFormType (has_globs l)) same f) in
-        subst (IsGiven c l (Some t)) k.1
-        (given_from c l (Some t) t (applied op.Empty [] t) (subst (λ z. Typed c l z (applied op.Empty [] z)) (sym same) (empty c l o.0.0 o.0.1 n.0 n.1)) refl)
+        let n = entries_finite globs o.0.0 o.0.1 (subst (IsFormType globs) same f) in
+        subst (IsGiven globs c l (Some t)) k.1
+        (given_from c l (Some t) t (applied op.Empty [] t) (subst (λ z. Typed globs c l z (applied op.Empty [] z)) (sym same) (empty c l o.0.0 o.0.1 n.0 n.1)) refl)
     constant_typed _ w p f u e = cc

@@ -24,6 +24,7 @@ use Rattle.gb_steps.specs.declared.step.Rule.{Rule}
 use Rattle.gb_steps.specs.declared.step.Rule.TheVariants as rule
 use Rattle.gb_steps.specs.declared.step.Multiple.{Multiple}
 use Rattle.gb_steps.specs.declared.step.Step.{Step}
+use Rattle.gb_steps.specs.declared.step.RewriteRule.TheVariants as rewrite_rule
 use Rattle.gb_steps.specs.declared.step.UseRule.TheVariants as use_rule
 use Rattle.gb_script.specs.declared.head.Head.{Head as Kind}
 use Rattle.gb_script.specs.declared.head.Head.TheVariants as text
@@ -35,19 +36,20 @@ use Rattle.gb_typing.specs.Programs.{IsBody}
 use Rattle.gb_typing.specs.Typing.{IsForm}
 use Rattle.gb_typing.specs.Sequents.{one, two, of_sequent, IsTypedSequent}
 use Rattle.gb_typing.specs.Scopes.{context_of, IsTypedScope}
-use Rattle.gb_rules.specs.Typing.{IsGoalOver}
+use Rattle.gb_typing.specs.Goals.{IsGoalOver}
 use Rattle.gb_goal.specs.Answers.{not_built}
 use Rattle.gb_goal.specs.Answers.Answer.{given}
 use Rattle.gb_names.specs.Environment.{ambient as outside, relational, unary}
 use Rattle.gb_elab.specs.Forms.{elaborated}
 use Rattle.gb_elab_mod.specs.Occurring.{occurring}
 use Rattle.gb_elab_mod.specs.Steps.{acts, case_of_bodies, case_of_conclusion, case_rule, conclusion_rule, conseq_rule, coupling_rule, couplings, cut_of, cut_rule, formed, functions_of, of_bodies_rule, on_all, plain_rule, seq_rule, step_given, typed_rule, asked_of, chance_rule, judges_chance, symmetry_rule}
-use Rattle.gb_elab_mod.specs.Multiples.{multiples}
-use Rattle.gb_elab_mod.specs.Uses.{used}
+use Rattle.gb_elab_mod.specs.Multiples.{hypothesis_at, multiples}
+use Rattle.gb_elab_mod.specs.Uses.{all_hinted, hypothesis, used}
 use Rattle.gb_elab_mod.specs.Taken.{new_name}
 use Rattle.gb_elab_prog.specs.Unbuilt.{absent}
 use Rattle.gb_bodies.specs.Rows.{IsTypedRule}
 use Rattle.gb_elab_laws.proofs.Anew.{conseq_rule_typed}
+use Rattle.gb_elab_laws.proofs.Contracts.{of_call}
 use Rattle.gb_elab_laws.proofs.Given.{given_bind, given_is}
 use Rattle.gb_elab_laws.proofs.Ends.{occurring_in}
 use Rattle.gb_elab_laws.proofs.Fits.{one_fits, two_fit}
@@ -201,6 +203,7 @@ module _ (ds : scope.Declarations) (scoped : IsTypedScope (declared ds)) (q : Se
     of_rule text.Conseq x (b ∷ f ∷ g ∷ d ∷ []) p k h =
         let y = given_bind (conseq_rule ds q (acts (parts_of b)) (parts_of f) (parts_of g) (parts_of d)) (λ z. given (rule.OnBodies z)) k h in
         subst TypedAt (given_is (rule.OnBodies y.0) k y.2) (conseq_rule_typed ds scoped q t ls rs (goal_of q.conclusion) w refl (acts (parts_of b)) (parts_of f) (parts_of g) (parts_of d) y.0 y.1)
+    of_rule text.CallStep x (b ∷ n ∷ []) p k h = of_call ds q TypedAt (λ s. tt) tt (acts (parts_of b)) (head_of n) (parts_of n) p k h
     of_rule text.PlainStep x [] p k h =
         let o = given_bind (conclusion_rule x p) (λ (a : AmbientRule). given (rule.Ambient a)) k h in subst TypedAt (given_is (rule.Ambient o.0) k o.2) tt
     of_rule text.CaseStep x (b ∷ f ∷ []) p k h =
@@ -216,7 +219,20 @@ module _ (ds : scope.Declarations) (scoped : IsTypedScope (declared ds)) (q : Se
         let o = given_bind (new_name q (text_of m) (place_of m)) _ k h in
         let z = given_bind (used ds q n) (λ (f : Term). given (rule.Use (use_rule.Have (text_of m) f))) k o.2 in
         subst TypedAt (given_is (rule.Use (use_rule.Have (text_of m) z.0)) k z.2) tt
-    of_rule text.Smt x hints p k h = let o = given_bind (absent hints p) (λ _. given rule.Smt) k h in subst TypedAt (given_is rule.Smt k o.2) tt
+    of_rule text.RewriteLemma x (n ∷ []) p k h =
+        let z = given_bind (used ds q n) (λ (f : Term). given (rule.Rewrite (rewrite_rule.Forward f))) k h in
+        subst TypedAt (given_is (rule.Rewrite (rewrite_rule.Forward z.0)) k z.2) tt
+    of_rule text.RewriteBack x (n ∷ []) p k h =
+        let z = given_bind (used ds q n) (λ (f : Term). given (rule.Rewrite (rewrite_rule.Back f))) k h in
+        subst TypedAt (given_is (rule.Rewrite (rewrite_rule.Back z.0)) k z.2) tt
+    of_rule text.RewriteHypothesis x (n ∷ []) p k h =
+        let z = given_bind (hypothesis ds q (text_of n) (place_of n)) (λ (f : Term). given (rule.Rewrite (rewrite_rule.Forward f))) k h in
+        subst TypedAt (given_is (rule.Rewrite (rewrite_rule.Forward z.0)) k z.2) tt
+    of_rule text.Subst x (n ∷ []) p k h =
+        let z = given_bind (hypothesis_at ds q (text_of n) (place_of n)) (λ (i : ℕ). given (rule.Rewrite (rewrite_rule.Subst i))) k h in
+        subst TypedAt (given_is (rule.Rewrite (rewrite_rule.Subst z.0)) k z.2) tt
+    of_rule text.Smt x hints p k h =
+        let o = given_bind (all_hinted ds q hints) (λ (fs : List Term). given (rule.Smt fs)) k h in subst TypedAt (given_is (rule.Smt o.0) k o.2) tt
     of_rule text.Linear x hs p k h =
         let o = given_bind (multiples ds q hs) (λ (ms : List Multiple). given (rule.Linear ms)) k h in subst TypedAt (given_is (rule.Linear o.0) k o.2) tt
     of_rule text.Name x [] p k h = subst TypedAt (given_is (rule.Ambient (conclusion.Introduce x)) k h) tt
@@ -228,7 +244,7 @@ module _ (ds : scope.Declarations) (scoped : IsTypedScope (declared ds)) (q : Se
         let o = given_bind (elaborated e (outside ds q) [] (asked_of (out-Term q.conclusion).head)) (λ (u : Term). given (rule.Ambient (conclusion.Witness u))) k h in
         subst TypedAt (given_is (rule.Ambient (conclusion.Witness o.0)) k o.2) tt
     of_rule text.TrivialPattern x [] p k h = subst TypedAt (given_is (rule.Ambient conclusion.Trivial) k h) tt
-    of_rule text.SmtPattern x [] p k h = subst TypedAt (given_is (rule.Smt) k h) tt
+    of_rule text.SmtPattern x [] p k h = subst TypedAt (given_is (rule.Smt []) k h) tt
     of_rule _ x _ p k h = cc
 
 -- The arguments of a typed step of a rule on programs are typed.

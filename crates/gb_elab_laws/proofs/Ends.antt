@@ -27,8 +27,9 @@ use mathlib.Core.Former.{Count}
 use Rattle.gb_elab_mod.specs.Occurring.{local, assigned, outcome_local, read_locals, row_locals, row_read, sampled as sampled_local, statement_locals, occurring}
 use Rattle.gb_elab_mod.specs.Steps.{outcomes, sampled, last_sampled}
 use Rattle.gb_elab_laws.specs.Fitting.{AreIn}
+use Rattle.gb_elab_laws.proofs.Found.{all_with}
 use Rattle.gb_elab_laws.specs.Reading.{StandIn}
-use Rattle.gb_rules.specs.Samplings.{Sampling, behind, last_sampling, of_statement, of_type}
+use Rattle.gb_typing.specs.Samplings.{Sampling, behind, last_sampling, of_statement, of_type}
 use Rattle.gb_elab_laws.proofs.Given.{none_some, same_some, out_type}
 use Rattle.gb_elab_laws.proofs.Types.{distribution_layer, have_finite}
 use Rattle.gb_elab_laws.proofs.Occurring.{reads_stand, stand_both, all_stand}
@@ -167,7 +168,7 @@ module _ (ls : List TypedName) where
 
   -- what occurs in a goal is read in the memory of a body
   pub occurring_in : (c : Context) (s : Side) (p q : Term) (is : List Instr) → StandIn (Some ls) (read_locals p s) → StandIn (Some ls) (read_locals q s) → IsBody c ls is →
-      AreIn (Some ls) (occurring (p ∷ q ∷ []) s is)
+      AreIn true (Some ls) (occurring (p ∷ q ∷ []) s is)
   occurring_in c s p q is hp hq b =
       let k : StandIn (Some ls) (occurring (p ∷ q ∷ []) s is) = occurring_stand c ls s p q is hp hq b.statements in
-      record { memory = tt; there = standing_name _ k; finite = standing_finite (have_finite ls b.locals) _ k }
+      record { memory = tt; there = standing_name _ k; finite = all_with _ (standing_finite (have_finite ls b.locals) _ k) }

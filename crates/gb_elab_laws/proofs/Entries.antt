@@ -30,6 +30,8 @@ use Rattle.gb_elab_laws.proofs.Literals.{enumeration_literal}
 use Rattle.gb_elab_laws.proofs.Scopes.{typed_after}
 use Rattle.gb_elab_laws.proofs.Types.{spelled_typed}
 use Rattle.gb_elab_laws.proofs.Declared.{declared_in}
+use Rattle.gb_later.specs.Naming.{NoName}
+use Rattle.gb_models.specs.Speaking.{ScopeSpeaks}
 use Rattle.gb_elab_laws.specs.Fitting.{AreTypes}
 
 -- an abstract type, a name of a type of values, or a constant
@@ -42,6 +44,17 @@ IsGood _ = ⊥
 abbrev pub AreGood : scope.Declarations → Type 0
 AreGood [] = Unit {0}
 AreGood (d ∷ ds) = IsGood d.1 × AreGood ds
+
+-- no module is among them
+good_speaks : (ds : scope.Declarations) → AreGood ds → ScopeSpeaks NoName (declared ds)
+good_speaks [] g = tt
+good_speaks ((k, entry.AbstractType) ∷ ds) g = (tt, good_speaks ds g.1)
+good_speaks ((k, entry.Type t) ∷ ds) g = (tt, good_speaks ds g.1)
+good_speaks ((k, entry.Constant a) ∷ ds) g = (tt, good_speaks ds g.1)
+good_speaks ((k, entry.Module m) ∷ ds) g = absurd g.0
+good_speaks ((k, entry.Lemma q) ∷ ds) g = absurd g.0
+good_speaks ((k, entry.Operator o) ∷ ds) g = absurd g.0
+good_speaks ((k, entry.AbstractOperator o) ∷ ds) g = absurd g.0
 
 good_behind : (ds : scope.Declarations) (n : Name) (e : Entry) → AreGood ds → IsGood e → AreGood (ds ++ (n, e) ∷ [])
 good_behind [] n e h k = (k, tt)
@@ -139,6 +152,15 @@ operator_added ds x (entry.Type t) f w = absurd w
 operator_added ds x entry.AbstractType f w = absurd w
 operator_added ds x (entry.Constant a) f w = absurd w
 
+operator_speaks : (c : Context) (x : Node) (e : Entry) → IsOperatorIn c e → ScopeSpeaks NoName (declared (only x e))
+operator_speaks c x (entry.Operator o) w = (tt, tt)
+operator_speaks c x (entry.AbstractOperator o) w = (tt, tt)
+operator_speaks c x (entry.Module m) w = absurd w
+operator_speaks c x (entry.Lemma q) w = absurd w
+operator_speaks c x (entry.Type t) w = absurd w
+operator_speaks c x entry.AbstractType w = absurd w
+operator_speaks c x (entry.Constant a) w = absurd w
+
 -- what stands for an operator is no lemma
 defined_other : (ds : scope.Declarations) (gs r : List Node) (t : Node) (e : Entry) → defined ds gs r t ≡ given e → as_lemma (Some e) ≡ None
 unfolding defined
@@ -183,6 +205,22 @@ pub entries_typed : (ds : scope.Declarations) → IsTypedScope (declared ds) →
 entries_typed ds s t all e =
     subst IsTypedScope (sym (declared-append ds all))
     (typed_after nothing [] (declared ds) (declared all) s (by_head ds s (head_of t) (parts_of t) (place_of t) all e (entries_new ds t all e)))
+
+-- it speaks of no module's globals together
+speaks_by_head : (ds : scope.Declarations) → IsTypedScope (declared ds) → (h : Head) (ps : List Node) (p : Place) (all : scope.Declarations) → entries_by ds h ps p ≡ given all → ScopeSpeaks NoName (declared all)
+speaks_by_head ds s head.TypeDeclaration (x ∷ d ∷ []) p all e =
+    let a = given_bind (free ds x) _ all e in
+    let names = declared_in ds s in
+    good_speaks all (types_good ds names.types x (head_of d) (parts_of d) (place_of d) all a.2)
+speaks_by_head ds s head.OperatorDeclaration (x ∷ d ∷ []) p all e =
+    let a = given_bind (free ds x) _ all e in
+    let b = given_bind (operator_entry ds (head_of d) (parts_of d) (place_of d)) _ all a.2 in
+    subst (λ z. ScopeSpeaks NoName (declared z)) (given_is (only x b.0) all b.2)
+    (operator_speaks (context_of (declared ds)) x b.0 (operator_typed ds (context_of (declared ds)) (declared_in ds s) (head_of d) (parts_of d) (place_of d) b.0 b.1))
+speaks_by_head ds s _ ps p all e = cc
+
+pub entries_speak : (ds : scope.Declarations) → IsTypedScope (declared ds) → (t : Node) (all : scope.Declarations) → entries_given ds t ≡ given all → ScopeSpeaks NoName (declared all)
+entries_speak ds s t all e = speaks_by_head ds s (head_of t) (parts_of t) (place_of t) all e
 
 -- and no lemma
 others_by_head : (ds : scope.Declarations) (h : Head) (ps : List Node) (p : Place) (all : scope.Declarations) → entries_by ds h ps p ≡ given all → AreNoLemmas all

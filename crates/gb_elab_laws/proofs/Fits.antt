@@ -16,8 +16,7 @@ use Rattle.gb_goal.specs.declared.scope.Entry.TheVariants as entry
 use Rattle.gb_goal.specs.declared.sequent.Sequent.{Sequent}
 use Rattle.gb_meaning.specs.Names.{Name}
 use Rattle.gb_meaning.specs.Written.{local_type}
-use Rattle.gb_typed.specs.Finite.{IsFinite, IsVariableType}
-use Rattle.gb_typed.specs.Programs.{HaveFiniteTypes}
+use Rattle.gb_typed.specs.Finite.{IsVariableType}
 use Rattle.gb_holds.specs.Declared.{Declarations, declaration_of, declared, concrete_module, lemma}
 use Rattle.gb_holds.specs.Modules.{Procedures, found}
 use Rattle.gb_typing.specs.Modules.{ProcedureType, Interface, of_complete, functor_type, of_functor_type}
@@ -32,9 +31,8 @@ use Rattle.gb_typing.specs.Formulas.{with_module}
 use Rattle.gb_typing.specs.Sequents.{one, of_sequent, two, with_modules, AreBinders, IsTypedSequent}
 use Rattle.gb_typing.specs.Scopes.{interface_with, procedure_types, nothing, with_declared, with_each, context_of, is_declared, AreProcedures, AreTypedAfter, IsTypedScope}
 use Rattle.gb_typing.proofs.Operators.{declared_more, declared_last, other_name}
-use Rattle.gb_typing.proofs.Variables.{variable_finite}
 use Rattle.gb_typing.proofs.Located.{typed_there}
-use Rattle.gb_rules.proofs.Lifted.{sequent_outermost}
+use Rattle.gb_typing.proofs.Lifted.{sequent_outermost}
 use Rattle.gb_names.specs.declared.bindings.Binding.{Binding}
 use Rattle.gb_names.specs.Environment.{Environment, Memories, ambient, of_function, program, reading, relational, statement, unary}
 use Rattle.gb_names.specs.Environment.Memories.{outside}
@@ -42,8 +40,7 @@ use Rattle.gb_elab_prog.specs.Contexts.{nothing_around}
 use Rattle.gb_elab_laws.specs.Fitting.{AllFiniteWith, AreBound, AreDeclared, AreIn, HasGlobals, IsTypeOf, IsFitting}
 use Rattle.gb_elab_laws.proofs.Given.{none_some, same_some}
 use Rattle.gb_elab_laws.proofs.Declared.{goal_declared}
-use Rattle.gb_elab_laws.proofs.Types.{have_finite}
-use Rattle.gb_elab_laws.proofs.Quantified.{have_front}
+use Rattle.gb_elab_laws.proofs.Quantified.{have_front, variables_with}
 use Rattle.gb_elab_laws.proofs.Found.{all_with, found as found_name}
 
 -- a module is known as before, and so are its globals
@@ -141,8 +138,8 @@ procedure_named ds w n g f e = of_entry (entry_of ds n) refl e
         let t = typed_among s.context m [] m.procs s.procedures g f p.1 in
         record {
           there = ap (λ o. typing.procedure_of o g) (s.there p.0) ∙ t.2;
-          params = have_finite f.params t.0;
-          result = variable_finite f.result t.1;
+          params = t.0;
+          result = t.1;
         }
     of_entry (Some _) i h = none_some f h
 
@@ -155,11 +152,11 @@ declared_procedure ds w (Apply' n k args) g f e = none_some f e
 pub declared_globals : (ds : scope.Declarations) → IsTypedScope (declared ds) → (n : Name) (m : Module) → module_of ds n ≡ Some m → HasGlobals (context_of (declared ds)).global n m
 declared_globals ds w n m e x v f = step (entry_of ds n) refl e
   where
-    step : (o : Option Entry) → entry_of ds n ≡ o → as_module o ≡ Some m → ((context_of (declared ds)).global n v.name ≡ Some v.ty) × IsFinite v.ty
+    step : (o : Option Entry) → entry_of ds n ≡ o → as_module o ≡ Some m → ((context_of (declared ds)).global n v.name ≡ Some v.ty) × IsVariableType v.ty
     step (Some (entry.Module r)) i h =
         let s = stands ds [] nothing w n m (i ∙ ap (λ z. Some (entry.Module z)) (same_some r m h)) in
         let k = found_name m.globals x v f in
-        (s.globals v.name ∙ ap (local_type m.globals) k.name ∙ k.frame, k.finite (have_finite m.globals s.types))
+        (s.globals v.name ∙ ap (local_type m.globals) k.name ∙ k.frame, k.finite_with false (variables_with false m.globals s.types))
     step _ i h = none_some m h
 
 -- abstract modules leave globals
@@ -196,7 +193,7 @@ goal_memories : (ds : Declarations) (q : Sequent) (fs : List (List TypedName)) �
 goal_memories ds q fs many i h = frames_stand fs i (subst (λ n. i < n) (sym many) h)
 
 -- what fits a form fits one that may read other named memories
-pub reading_fits : (m : Memories) (c : Context) (at : Environment) (vs : List Binding) → IsFitting c at vs → IsFitting c (reading m at) vs
+pub reading_fits : {globs : Bool} (m : Memories) (c : Context) (at : Environment) (vs : List Binding) → IsFitting globs c at vs → IsFitting globs c (reading m at) vs
 reading_fits m c at vs fit = record {
   logical = fit.logical;
   values = fit.values;
@@ -211,12 +208,12 @@ reading_fits m c at vs fit = record {
 }
 
 -- the context of a goal without modules, whose variables are of types of values
-pub context_fits : (ds : scope.Declarations) (q : Sequent) (fs : List (List TypedName)) → length fs ≡ length q.memories → q.modules ≡ [] → AllFiniteWith true q.logical → IsTypedScope (declared ds) →
-    IsFitting (of_sequent (context_of (declared ds)) q fs) (ambient ds q) []
-context_fits ds q fs many none h w = record {
+pub context_fits : (globs : Bool) (ds : scope.Declarations) (q : Sequent) (fs : List (List TypedName)) → length fs ≡ length q.memories → q.modules ≡ [] → AllFiniteWith globs q.logical → IsTypedScope (declared ds) →
+    IsFitting globs (of_sequent (context_of (declared ds)) q fs) (ambient ds q) []
+context_fits globs ds q fs many none h w = record {
   logical = λ i. refl;
   values = h;
-  bound = subst (λ bs. AreBound true bs []) (sym (goal_bound (declared ds) q fs)) tt;
+  bound = subst (λ bs. AreBound globs bs []) (sym (goal_bound (declared ds) q fs)) tt;
   variables = tt;
   declared = goal_declared ds w q fs;
   around = tt;
@@ -227,18 +224,18 @@ context_fits ds q fs many none h w = record {
   frames = λ e. goal_frames (declared ds) q fs;
 }
 
-pub statement_fits : (ds : scope.Declarations) → IsTypedScope (declared ds) → IsFitting (of_sequent (context_of (declared ds)) nothing_around []) (statement ds nothing_around) []
+pub statement_fits : (ds : scope.Declarations) → IsTypedScope (declared ds) → IsFitting false (of_sequent (context_of (declared ds)) nothing_around []) (statement ds nothing_around) []
 statement_fits ds w =
-    reading_fits outside (of_sequent (context_of (declared ds)) nothing_around []) (ambient ds nothing_around) [] (context_fits ds nothing_around [] refl refl tt w)
+    reading_fits outside (of_sequent (context_of (declared ds)) nothing_around []) (ambient ds nothing_around) [] (context_fits false ds nothing_around [] refl refl tt w)
 
 pub program_fits : (c : Context) (ds : scope.Declarations) (m : Module) (ls : List TypedName) → AreDeclared c.operator ds →
-    ((n : Name) (k : Module) → module_of ds n ≡ Some k → HasGlobals c.global n k) → HasGlobals c.global m.name m → HaveFiniteTypes ls →
-    IsFitting (of_program c ls) (program ds m nothing_around ls) []
+    ((n : Name) (k : Module) → module_of ds n ≡ Some k → HasGlobals c.global n k) → HasGlobals c.global m.name m → HaveVariableTypes ls →
+    IsFitting false (of_program c ls) (program ds m nothing_around ls) []
 program_fits c ds m ls names others own h = record {
   logical = λ i. refl;
   values = tt;
   bound = tt;
-  variables = (refl, record { memory = tt; there = λ x t e. e; finite = h });
+  variables = (refl, record { memory = tt; there = λ x t e. e; finite = variables_with false ls h });
   declared = names;
   around = own;
   globals = λ e. others;
@@ -247,8 +244,8 @@ program_fits c ds m ls names others own h = record {
   frames = λ e. absurd (false≢true e);
 }
 
-pub function_fits : (ds : scope.Declarations) → IsTypedScope (declared ds) → (q : Sequent) (t : IsTypedSequent (context_of (declared ds)) q) (ls rs xs ys : List TypedName) → AreIn (Some ls) xs → AreIn (Some rs) ys →
-    IsFitting (two (of_sequent (context_of (declared ds)) q t.frames) ls rs) (of_function ds q xs ys) []
+pub function_fits : (ds : scope.Declarations) → IsTypedScope (declared ds) → (q : Sequent) (t : IsTypedSequent (context_of (declared ds)) q) (ls rs xs ys : List TypedName) → AreIn true (Some ls) xs → AreIn true (Some rs) ys →
+    IsFitting true (two (of_sequent (context_of (declared ds)) q t.frames) ls rs) (of_function ds q xs ys) []
 function_fits ds w q t ls rs xs ys h k = record {
   logical = λ i. refl;
   values = all_with q.logical t.logical;
@@ -288,8 +285,8 @@ goal_procedure ds w q t (named n) g f e =
 goal_procedure ds w q t (Apply' n k args) g f e = none_some f e
 
 -- forms of a proof step on one program, and on two, over some of the locals of the goal
-pub one_fits : (ds : scope.Declarations) → IsTypedScope (declared ds) → (q : Sequent) (t : IsTypedSequent (context_of (declared ds)) q) (ls xs : List TypedName) → AreIn (Some ls) xs →
-    IsFitting (one (of_sequent (context_of (declared ds)) q t.frames) ls) (unary ds q xs) []
+pub one_fits : (ds : scope.Declarations) → IsTypedScope (declared ds) → (q : Sequent) (t : IsTypedSequent (context_of (declared ds)) q) (ls xs : List TypedName) → AreIn true (Some ls) xs →
+    IsFitting true (one (of_sequent (context_of (declared ds)) q t.frames) ls) (unary ds q xs) []
 one_fits ds w q t ls xs h = record {
   logical = λ i. refl;
   values = all_with q.logical t.logical;
@@ -303,8 +300,8 @@ one_fits ds w q t ls xs h = record {
   frames = λ e. goal_frames (declared ds) q t.frames;
 }
 
-pub two_fit : (ds : scope.Declarations) → IsTypedScope (declared ds) → (q : Sequent) (t : IsTypedSequent (context_of (declared ds)) q) (ls rs xs ys : List TypedName) → AreIn (Some ls) xs →
-    AreIn (Some rs) ys → IsFitting (two (of_sequent (context_of (declared ds)) q t.frames) ls rs) (relational ds q xs ys) []
+pub two_fit : (ds : scope.Declarations) → IsTypedScope (declared ds) → (q : Sequent) (t : IsTypedSequent (context_of (declared ds)) q) (ls rs xs ys : List TypedName) → AreIn true (Some ls) xs →
+    AreIn true (Some rs) ys → IsFitting true (two (of_sequent (context_of (declared ds)) q t.frames) ls rs) (relational ds q xs ys) []
 two_fit ds w q t ls rs xs ys h k = record {
   logical = λ i. refl;
   values = all_with q.logical t.logical;
@@ -320,7 +317,7 @@ two_fit ds w q t ls rs xs ys h k = record {
 
 -- a goal of a typed scope, around which forms stand that steps bring
 pub goal_fits : (ds : scope.Declarations) → IsTypedScope (declared ds) → (q : Sequent) (t : IsTypedSequent (context_of (declared ds)) q) →
-    IsFitting (of_sequent (context_of (declared ds)) q t.frames) (ambient ds q) []
+    IsFitting true (of_sequent (context_of (declared ds)) q t.frames) (ambient ds q) []
 goal_fits ds w q t = record {
   logical = λ i. refl;
   values = all_with q.logical t.logical;

@@ -1,6 +1,6 @@
 -- Judgments of declared procedures are typed.
 use Rattle.std.proofs.lemmas.Bool.{false≢true}
-use Rattle.std.proofs.Common.{◌≡◌, true, List, [], ◌∷◌, Option, Some, None, refl, ap, sym, ◌∙◌, subst}
+use Rattle.std.proofs.Common.{◌≡◌, true, List, [], ◌∷◌, Option, Some, None, refl, ap, sym, ◌∙◌, subst, Bool}
 use Rattle.gb_core.specs.declared.place.Place.{Place}
 use Rattle.gb_core.specs.declared.refusal.Why.TheVariants.{UnknownName, Argument}
 use Rattle.gb_core.specs.declared.ty.Ty.TheVariants as ty
@@ -32,10 +32,12 @@ use Rattle.gb_typing.specs.Context.{Frame, Context, local_in, procedure, with_si
 use Rattle.gb_typing.specs.Typing.{IsFrame, IsThere}
 use Rattle.gb_typing.specs.Typing as typed
 use Rattle.gb_typing.proofs.Made.{made_node}
-use Rattle.gb_elab_laws.specs.Fitting.{has_globs, AllFiniteWith, AreBound, AreIn, IsTypeOf, IsFitting, IsGiven}
+use Rattle.gb_elab_laws.specs.Fitting.{reads_globals, AreIn, IsTypeOf, IsFitting, IsGiven}
 use Rattle.gb_elab_laws.proofs.Given.{given_bind, given_is, if_refused, some_given}
+use Rattle.gb_elab_laws.proofs.Quantified.{variables_with}
+use Rattle.gb_elab_laws.proofs.Shapes.{variable_with}
 use Rattle.gb_elab_laws.proofs.Remembered.{remembering}
-use Rattle.gb_elab_laws.proofs.Typed.{Typed}
+use Rattle.gb_elab_laws.proofs.Typed.{Typed, apart_node}
 
 whole_is : (ps : List Param) (k m : Module) (p : Place) → whole ps k p ≡ given m → (ps ≡ []) × (k ≡ m)
 whole_is [] k m p h = (refl, given_is k m h)
@@ -54,8 +56,8 @@ without_params ps qs n f k h = ap (λ z. proc_if_plain z qs n) k ∙ h
 pub in_module : (o : Option Entry) (m : Module) (n : Name) (f : Proc) → o ≡ Some (entry.Module m) → m.params ≡ [] → proc_of m.procs n ≡ Some f → proc_in (as_module o) n ≡ Some f
 in_module o m n f e k h = ap (λ z. proc_in (as_module z) n) e ∙ without_params m.params m.procs n f k h
 
--- where judgments may stand, types of globals may
-pub judging : (l : Language) → has_judgments l ≡ true → has_globs l ≡ true
+-- where judgments may stand, globals may be read
+pub judging : (l : Language) → has_judgments l ≡ true → reads_globals l ≡ true
 judging Formula h = refl
 judging Function h = refl
 judging Program h = refl
@@ -96,19 +98,19 @@ pub one_is : (at : Environment) (vs : List Binding) (f : Node) (p : Place) (n : 
 one_is at vs f p n h = let a = given_bind (about_procedure (head_of f) p) _ n h in named_is at vs (head_of f) (parts_of f) (place_of f) n a.2
 
 -- the parameters of a procedure are read before it, and its result after it
-pub params_in : (t : Option ProcedureType) (f : Proc) → IsTypeOf t f → AreIn (typed.before t) f.params
-params_in t f w = record { memory = subst (λ z. IsFrame (typed.before z)) (sym w.there) tt; there = λ x u e. subst (λ z. local_in (typed.before z) x ≡ Some u) (sym w.there) e; finite = w.params }
+pub params_in : {globs : Bool} (t : Option ProcedureType) (f : Proc) → IsTypeOf t f → AreIn globs (typed.before t) f.params
+params_in {globs} t f w = record { memory = subst (λ z. IsFrame (typed.before z)) (sym w.there) tt; there = λ x u e. subst (λ z. local_in (typed.before z) x ≡ Some u) (sym w.there) e; finite = variables_with globs f.params w.params }
 
-pub result_in : (t : Option ProcedureType) (f : Proc) → IsTypeOf t f → AreIn (typed.after t) (result_of f)
-result_in t f w = record { memory = subst (λ z. IsFrame (typed.after z)) (sym w.there) tt; there = λ x u e. subst (λ z. local_in (typed.after z) x ≡ Some u) (sym w.there) e; finite = (w.result, tt) }
+pub result_in : {globs : Bool} (t : Option ProcedureType) (f : Proc) → IsTypeOf t f → AreIn globs (typed.after t) (result_of f)
+result_in {globs} t f w = record { memory = subst (λ z. IsFrame (typed.after z)) (sym w.there) tt; there = λ x u e. subst (λ z. local_in (typed.after z) x ≡ Some u) (sym w.there) e; finite = (variable_with globs f.result w.result, tt) }
 
-module _ (c : Context) (at : Environment) (vs : List Binding) (fit : IsFitting c at vs) (judges : has_judgments at.language ≡ true) where
+module _ {globs : Bool} (c : Context) (at : Environment) (vs : List Binding) (fit : IsFitting globs c at vs) (judges : has_judgments at.language ≡ true) where
   -- conditions on two programs over these variables
-  pub condition : (F G : Frame) (ls rs : List TypedName) → AreIn F ls → AreIn G rs → IsFitting (with_sides c F G) (reading (in_judgments at.memories) (relational at.declared at.sequent ls rs)) vs
+  pub condition : (F G : Frame) (ls rs : List TypedName) → AreIn globs F ls → AreIn globs G rs → IsFitting globs (with_sides c F G) (reading (in_judgments at.memories) (relational at.declared at.sequent ls rs)) vs
   condition F G ls rs h k = record {
     logical = fit.logical;
-    values = subst (λ b. AllFiniteWith b at.sequent.logical) (judging at.language judges) fit.values;
-    bound = subst (λ b. AreBound b c.bound vs) (judging at.language judges) fit.bound;
+    values = fit.values;
+    bound = fit.bound;
     variables = (refl, h, k);
     declared = fit.declared;
     around = tt;
@@ -126,22 +128,22 @@ module _ (c : Context) (at : Environment) (vs : List Binding) (fit : IsFitting c
     right = fit.procedures judges g b eb
 
     -- the environments of the conditions fit
-    pub before_fits : IsFitting (with_sides c (typed.before (procedure c f)) (typed.before (procedure c g))) (before at a b) vs
+    pub before_fits : IsFitting globs (with_sides c (typed.before (procedure c f)) (typed.before (procedure c g))) (before at a b) vs
     before_fits = condition _ _ a.params b.params (params_in _ a left) (params_in _ b right)
 
-    pub after_fits : IsFitting (with_sides c (typed.after (procedure c f)) (typed.after (procedure c g))) (after at a b) vs
+    pub after_fits : IsFitting globs (with_sides c (typed.after (procedure c f)) (typed.after (procedure c g))) (after at a b) vs
     after_fits = condition _ _ (result_of a) (result_of b) (result_in _ a left) (result_in _ b right)
 
     pub equivalence_typed : (p q : Term) →
-        IsGiven (with_sides c (typed.before (procedure c f)) (typed.before (procedure c g))) Formula (Some ty.Bool) p →
-        IsGiven (with_sides c (typed.after (procedure c f)) (typed.after (procedure c g))) Formula (Some ty.Bool) q →
-        Typed c at.language ty.Bool (equivalent f g p q)
+        IsGiven globs (with_sides c (typed.before (procedure c f)) (typed.before (procedure c g))) Formula (Some ty.Bool) p →
+        IsGiven globs (with_sides c (typed.after (procedure c f)) (typed.after (procedure c g))) Formula (Some ty.Bool) q →
+        Typed globs c at.language ty.Bool (equivalent f g p q)
     equivalence_typed p q x y = record {
       made =
           made_node c (Equiv (procedure_subject f) (procedure_subject g)) (ty.Bool ∷ ty.Bool ∷ []) (p ∷ q ∷ []) ty.Bool (refl, (refl, (refl, tt)))
           (subst IsThere (sym left.there) tt, subst IsThere (sym right.there) tt) []
           (record { typed = x.typed; written = x.wanted }, record { typed = y.typed; written = y.wanted });
       type = tt;
-      apart = λ k. absurd (false≢true (sym k ∙ judging at.language judges));
+      apart = λ k. apart_node (Equiv (procedure_subject f) (procedure_subject g)) (p ∷ q ∷ []) ty.Bool tt (x.apart k, (y.apart k, tt));
       plain = λ k. absurd (false≢true (sym k ∙ judges));
     }

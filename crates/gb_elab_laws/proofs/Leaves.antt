@@ -22,7 +22,7 @@ use Rattle.gb_script.specs.declared.head.Head.{Head}
 use Rattle.gb_script.specs.declared.head.Head.TheVariants as head
 use Rattle.gb_script.specs.declared.tree.Node.{Node}
 use Rattle.gb_script.specs.Tree.{head_of, text_of, place_of}
-use Rattle.gb_typed.specs.Finite.{IsFinite, IsFiniteWith}
+use Rattle.gb_typed.specs.Finite.{IsFinite, IsVariableType}
 use Rattle.gb_typed.specs.Typing.{binder, IsSide}
 use Rattle.gb_typed.specs.Operators.{item}
 use Rattle.gb_meaning.specs.Written.{local_type}
@@ -43,19 +43,20 @@ use Rattle.gb_elab.specs.Forms.{read}
 use Rattle.gb_typing.specs.Context.{Frame, Context, erased, frame_of, local_in}
 use Rattle.gb_typing.specs.Typing.{IsFrame}
 use Rattle.gb_typing.proofs.Literals.{bool_literal}
-use Rattle.gb_elab_laws.specs.Fitting.{has_globs, AllFiniteWith, IsBoundTo, AreIn, AreReadable, HasGlobals, HasGlobalsIf, IsFitting}
+use Rattle.gb_typing.proofs.Variables.{variable_finite}
+use Rattle.gb_elab_laws.specs.Fitting.{reads_globals, AllFiniteWith, IsBoundTo, AreIn, AreReadable, HasGlobals, HasGlobalsIf, IsFitting}
 use Rattle.gb_elab_laws.proofs.Given.{given_bind, given_is, if_allowed, if_refused, counted_is, none_some, same_some}
 use Rattle.gb_elab_laws.proofs.Literals.{unit_literal}
-use Rattle.gb_elab_laws.proofs.Shapes.{with_globs, finite_form}
-use Rattle.gb_elab_laws.proofs.Found.{Found, found, found_bound, all_with}
-use Rattle.gb_elab_laws.proofs.Remembered.{memory_is, remembered_globs}
-use Rattle.gb_elab_laws.proofs.Typed.{Typed, IsSome, leaf, whole_leaf}
+use Rattle.gb_elab_laws.proofs.Shapes.{with_globs, finite_form, variable_with}
+use Rattle.gb_elab_laws.proofs.Found.{Found, found, found_bound}
+use Rattle.gb_elab_laws.proofs.Remembered.{memory_is, remembered_globals}
+use Rattle.gb_elab_laws.proofs.Typed.{Typed, IsSome, leaf}
 
 mapped : {A B : Type 0} (f : A → B) (o : Option A) (y : B) → option_map f o ≡ Some y → (x : A) × (o ≡ Some x) × (f x ≡ y)
 mapped f (Some x) y e = (x, refl, same_some (f x) y e)
 mapped f None y e = none_some y e
 
--- variables are read in a memory of these locals; where types of globals may not stand, there are none
+-- variables are read in a memory of these locals
 record IsRead (globs : Bool) (f : Frame) (vs : List TypedName) : Type 0 where
   there : (x : Name) (t : Ty) → local_type vs x ≡ Some t → local_in f x ≡ Some t
   values : AllFiniteWith globs vs
@@ -63,94 +64,91 @@ record IsRead (globs : Bool) (f : Frame) (vs : List TypedName) : Type 0 where
 none_read : (globs : Bool) (f : Frame) → IsRead globs f []
 none_read globs f = record { there = λ x t e. none_some t e; values = tt }
 
-all_read : (globs : Bool) (f : Frame) (vs : List TypedName) → globs ≡ true → AreIn f vs → IsRead globs f vs
-all_read globs f vs g h = record { there = h.there; values = subst (λ b. AllFiniteWith b vs) (sym g) (all_with vs h.finite) }
+all_read : (globs : Bool) (f : Frame) (vs : List TypedName) → AreIn globs f vs → IsRead globs f vs
+all_read globs f vs h = record { there = h.there; values = h.finite }
 
 -- the variables of the program around are read in the own memory
-own_there : (globs : Bool) (c : Context) (vars : Variables) → AreReadable globs c vars → IsRead globs c.own (own_of vars)
-own_there globs c Absent h = none_read globs c.own
-own_there globs c (Own ls) h = all_read globs c.own ls h.0 h.1
-own_there globs c (Sides ls rs) h = none_read globs c.own
+own_there : (globs reads : Bool) (c : Context) (vars : Variables) → AreReadable globs reads c vars → IsRead globs c.own (own_of vars)
+own_there globs reads c Absent h = none_read globs c.own
+own_there globs reads c (Own ls) h = all_read globs c.own ls h.1
+own_there globs reads c (Sides ls rs) h = none_read globs c.own
 
--- a memory is there, and types of globals may stand
-record HasMemory (globs : Bool) (c : Context) (s : Side) : Type 0 where
+-- a memory is there, and globals may be read
+record HasMemory (reads : Bool) (c : Context) (s : Side) : Type 0 where
   side : IsSide (erased c) s
   frame : IsFrame (frame_of c s)
-  whole : globs ≡ true
+  whole : reads ≡ true
 
-own_memory : (globs : Bool) (c : Context) (vars : Variables) → has_own vars ≡ true → AreReadable globs c vars → HasMemory globs c side.Own
-own_memory globs c (Own ls) e h = record { side = tt; frame = h.1.memory; whole = h.0 }
-own_memory globs c Absent e h = absurd (false≢true e)
-own_memory globs c (Sides ls rs) e h = absurd (false≢true e)
+own_memory : (globs reads : Bool) (c : Context) (vars : Variables) → has_own vars ≡ true → AreReadable globs reads c vars → HasMemory reads c side.Own
+own_memory globs reads c (Own ls) e h = record { side = tt; frame = h.1.memory; whole = h.0 }
+own_memory globs reads c Absent e h = absurd (false≢true e)
+own_memory globs reads c (Sides ls rs) e h = absurd (false≢true e)
 
 -- the variables of a side are read in its memory
-record OnSide (globs : Bool) (c : Context) (s : Side) (ls : List TypedName) : Type 0 where
-  memory : HasMemory globs c s
+record OnSide (globs reads : Bool) (c : Context) (s : Side) (ls : List TypedName) : Type 0 where
+  memory : HasMemory reads c s
   read : IsRead globs (frame_of c s) ls
 
-side_there : (globs : Bool) (c : Context) (vars : Variables) (s : Side) (ls : List TypedName) → AreReadable globs c vars → sides_of vars s ≡ Some ls → OnSide globs c s ls
-side_there globs c (Sides ls rs) side.Left ms h e = record { memory = record { side = tt; frame = h.1.memory; whole = h.0 }; read = subst (IsRead globs c.left) (same_some ls ms e) (all_read globs c.left ls h.0 h.1) }
-side_there globs c (Sides ls rs) side.Right ms h e = record { memory = record { side = tt; frame = h.2.memory; whole = h.0 }; read = subst (IsRead globs c.right) (same_some rs ms e) (all_read globs c.right rs h.0 h.2) }
-side_there globs c _ s ms h e = none_some ms e
+side_there : (globs reads : Bool) (c : Context) (vars : Variables) (s : Side) (ls : List TypedName) → AreReadable globs reads c vars → sides_of vars s ≡ Some ls → OnSide globs reads c s ls
+side_there globs reads c (Sides ls rs) side.Left ms h e = record { memory = record { side = tt; frame = h.1.memory; whole = h.0 }; read = subst (IsRead globs c.left) (same_some ls ms e) (all_read globs c.left ls h.1) }
+side_there globs reads c (Sides ls rs) side.Right ms h e = record { memory = record { side = tt; frame = h.2.memory; whole = h.0 }; read = subst (IsRead globs c.right) (same_some rs ms e) (all_read globs c.right rs h.2) }
+side_there globs reads c _ s ms h e = none_some ms e
 
-module _ (c : Context) (at : Environment) (vs : List Binding) (fit : IsFitting c at vs) where
+module _ {globs : Bool} (c : Context) (at : Environment) (vs : List Binding) (fit : IsFitting globs c at vs) where
   -- a typed term of a type of values
   abbrev pub IsVariable : Term → Type 0
-  IsVariable t = (a : Ty) × IsFinite a × Typed c at.language a t
+  IsVariable t = (a : Ty) × IsFinite a × Typed globs c at.language a t
 
-  pub truth_typed : (b : Bool) → Typed c at.language ty.Bool (truth_literal b)
+  pub truth_typed : (b : Bool) → Typed globs c at.language ty.Bool (truth_literal b)
   truth_typed true = leaf c at.language (Lit (Num 1)) ty.Bool tt (bool_literal 1 (omega arith)) tt tt (λ e. tt)
   truth_typed false = leaf c at.language (Lit (Num 0)) ty.Bool tt (bool_literal 0 (omega arith)) tt tt (λ e. tt)
 
-  pub unit_typed : Typed c at.language ty.Unit unit
+  pub unit_typed : Typed globs c at.language ty.Unit unit
   unit_typed = leaf c at.language (Lit (Num 0)) ty.Unit tt unit_literal tt tt (λ e. tt)
 
-  bound_typed : (n : ℕ) (t : Ty) (u : Term) → IsBoundTo (has_globs at.language) (binder (erased c) n) (Value t) → bound_variable n t ≡ given u → IsSome c at.language u
+  bound_typed : (n : ℕ) (t : Ty) (u : Term) → IsBoundTo globs (binder (erased c) n) (Value t) → bound_variable n t ≡ given u → IsSome globs c at.language u
   bound_typed n t u b h =
       let q = given_bind (counted n) (λ i. given (node (Bound i) [] t)) u h in
-      let globs = has_globs at.language in
       let there : IsBoundTo globs (binder (erased c) q.0) (Value t) = subst (λ i. IsBoundTo globs (binder (erased c) i) (Value t)) (counted_is n q.0 q.1) b in
-      subst (IsSome c at.language) (given_is _ u q.2) (t, leaf c at.language (Bound q.0) t there.1 there.0 tt tt (λ e. tt))
+      subst (IsSome globs c at.language) (given_is _ u q.2) (t, leaf c at.language (Bound q.0) t there.1 there.0 tt tt (λ e. tt))
 
-  thing_typed : (n : ℕ) (p : Place) (k : Kind) (u : Term) → IsBoundTo (has_globs at.language) (binder (erased c) n) k → bound_thing n p k ≡ given u → IsSome c at.language u
+  thing_typed : (n : ℕ) (p : Place) (k : Kind) (u : Term) → IsBoundTo globs (binder (erased c) n) k → bound_thing n p k ≡ given u → IsSome globs c at.language u
   thing_typed n p (Value t) u b h = bound_typed n t u b h
   thing_typed n p Memory u b h = cc
 
-  logical_typed : (x : Name) (v : TypedName) (u : Term) → Found at.sequent.logical x v → logical_variable (number_before at.sequent.logical x) v ≡ given u → IsSome c at.language u
+  logical_typed : (x : Name) (v : TypedName) (u : Term) → Found at.sequent.logical x v → logical_variable (number_before at.sequent.logical x) v ≡ given u → IsSome globs c at.language u
   logical_typed x v u f h =
       let q = given_bind (counted (number_before at.sequent.logical x)) (λ i. given (node (Read (read_of.Logical i)) [] v.ty)) u h in
       let there : c.logical q.0 ≡ Some v.ty =
       fit.logical q.0 ∙ ap (item (map (λ (l : TypedName). l.ty) at.sequent.logical)) (sym (counted_is _ q.0 q.1)) ∙ f.item in
-      let globs = has_globs at.language in
       let finite = f.finite_with globs fit.values in
-      subst (IsSome c at.language) (given_is _ u q.2)
+      subst (IsSome globs c at.language) (given_is _ u q.2)
       (v.ty, leaf c at.language (Read (read_of.Logical q.0)) v.ty (finite_form globs v.ty finite) (with_globs globs v.ty finite, there) tt tt (λ e. tt))
 
   -- a read of a local
-  local_typed : (s : Side) (ls : List TypedName) → IsSide (erased c) s → IsRead (has_globs at.language) (frame_of c s) ls → (x : Name) (v : TypedName) → Found ls x v →
+  local_typed : (s : Side) (ls : List TypedName) → IsSide (erased c) s → IsRead globs (frame_of c s) ls → (x : Name) (v : TypedName) → Found ls x v →
       IsVariable (program_variable s v)
   local_typed s ls i r x v f =
-      let globs = has_globs at.language in
       let there : local_type ls v.name ≡ Some v.ty = ap (local_type ls) f.name ∙ f.frame in
       let finite = f.finite_with globs r.values in
       let value = with_globs globs v.ty finite in
       (v.ty, value, leaf c at.language (Read (read_of.Program (Local v.name) s)) v.ty (finite_form globs v.ty finite) (i, value) (r.there v.name v.ty there) tt (λ e. (tt, e)))
 
-  own_variable_typed : (x : Name) (v : TypedName) → Found (own at) x v → IsSome c at.language (program_variable side.Own v)
+  own_variable_typed : (x : Name) (v : TypedName) → Found (own at) x v → IsSome globs c at.language (program_variable side.Own v)
   own_variable_typed x v f =
-      let t = local_typed side.Own (own at) tt (own_there (has_globs at.language) c at.variables fit.variables) x v f in
+      let t = local_typed side.Own (own at) tt (own_there globs (reads_globals at.language) c at.variables fit.variables) x v f in
       (t.0, t.2)
 
-  unbound_typed : (x : Name) (p : Place) (u : Term) → unbound at x p ≡ given u → IsSome c at.language u
+  unbound_typed : (x : Name) (p : Place) (u : Term) → unbound at x p ≡ given u → IsSome globs c at.language u
   unbound_typed x p u h = step (names_other at x) h
     where
-      step : (b : Bool) → (if b then refused Argument p else refused (UnknownName x) p) ≡ given u → IsSome c at.language u
+      step : (b : Bool) → (if b then refused Argument p else refused (UnknownName x) p) ≡ given u → IsSome globs c at.language u
       step true e = cc
       step false e = cc
 
-  -- a global stands with its type, which is of values
+  -- a global stands with its type, which is of variables
   abbrev pub Stands : ModuleVariable → Type 0
-  Stands g = (c.global g.0 g.1.name ≡ Some g.1.ty) × IsFinite g.1.ty
+  Stands g = (c.global g.0 g.1.name ≡ Some g.1.ty) × IsVariableType g.1.ty
 
   in_stands : (n : Name) (o : Option Module) (x : Name) (g : ModuleVariable) → ((m : Module) → o ≡ Some m → HasGlobals c.global n m) → global_in n o x ≡ Some g → Stands g
   in_stands n None x g h e = none_some g e
@@ -160,7 +158,7 @@ module _ (c : Context) (at : Environment) (vs : List Binding) (fit : IsFitting c
   own_stands None x g h e = none_some g e
   own_stands (Some m) x g h e = in_stands m.name (Some m) x g (λ k i. subst (HasGlobals c.global m.name) (same_some m k i) h) e
 
-  module_stands : has_globs at.language ≡ true → (o : Option Module) (n : Name) (m : Module) → HasGlobalsIf c.global o → module_if o at.declared n ≡ Some m → HasGlobals c.global n m
+  module_stands : reads_globals at.language ≡ true → (o : Option Module) (n : Name) (m : Module) → HasGlobalsIf c.global o → module_if o at.declared n ≡ Some m → HasGlobals c.global n m
   module_stands w None n m h e = fit.globals w n m e
   module_stands w (Some k) n m h e = step (bytes_eq n k.name) refl e
     where
@@ -168,7 +166,7 @@ module _ (c : Context) (at : Environment) (vs : List Binding) (fit : IsFitting c
       step true i f = subst (HasGlobals c.global n) (same_some k m f) (subst (λ z. HasGlobals c.global z k) (sym ((bytes_eq-Decides n k.name).0 i)) h)
       step false i f = fit.globals w n m f
 
-  pub global_stands : has_globs at.language ≡ true → (x : Name) (g : ModuleVariable) → global_at at x ≡ Some g → Stands g
+  pub global_stands : reads_globals at.language ≡ true → (x : Name) (g : ModuleVariable) → global_at at x ≡ Some g → Stands g
   unfolding global_at
   global_stands w x g e = step (rsplit_once dot x) e
     where
@@ -177,40 +175,38 @@ module _ (c : Context) (at : Environment) (vs : List Binding) (fit : IsFitting c
       step None f = own_stands at.inside x g fit.around f
 
   -- a read of a global
-  global_typed : (s : Side) → HasMemory (has_globs at.language) c s → (x : Name) (g : ModuleVariable) → global_at at x ≡ Some g → IsVariable (global_variable s g)
+  global_typed : (s : Side) → HasMemory (reads_globals at.language) c s → (x : Name) (g : ModuleVariable) → global_at at x ≡ Some g → IsVariable (global_variable s g)
   global_typed s h x g e =
       let k = global_stands h.whole x g e in
-      let finite = subst (λ b. IsFiniteWith b g.1.ty) (sym h.whole) k.1 in (
-        g.1.ty,
-        k.1,
-        whole_leaf c at.language h.whole (Read (read_of.Program (Global g.0 g.1.name) s)) g.1.ty (finite_form (has_globs at.language) g.1.ty finite) (h.side, k.1, k.0) (h.frame, k.0) tt,
-      )
+      let finite = variable_with globs g.1.ty k.1 in
+      let value = variable_finite g.1.ty k.1 in
+      (g.1.ty, value, leaf c at.language (Read (read_of.Program (Global g.0 g.1.name) s)) g.1.ty (finite_form globs g.1.ty finite) (h.side, value, k.0) (h.frame, k.0) tt (λ e. (tt, e)))
 
-  unsided_typed : (x : Name) (p : Place) (g : ModuleVariable) (u : Term) → global_at at x ≡ Some g → unsided at p g ≡ given u → IsSome c at.language u
+  unsided_typed : (x : Name) (p : Place) (g : ModuleVariable) (u : Term) → global_at at x ≡ Some g → unsided at p g ≡ given u → IsSome globs c at.language u
   unsided_typed x p g u e h =
       let k = if_allowed (has_own at.variables) (given (global_variable side.Own g)) Argument p u h in
-      let t = global_typed side.Own (own_memory (has_globs at.language) c at.variables k.0 fit.variables) x g e in
-      subst (IsSome c at.language) (given_is _ u k.1) (t.0, t.2)
+      let t = global_typed side.Own (own_memory globs (reads_globals at.language) c at.variables k.0 fit.variables) x g e in
+      subst (IsSome globs c at.language) (given_is _ u k.1) (t.0, t.2)
 
   -- a choice between what a name may mean
-  chosen : {A : Type 0} (f : A → Answer Term) (o : Option A) (d : Answer Term) (u : Term) → ((v : A) → o ≡ Some v → f v ≡ given u → IsSome c at.language u) →
-      (d ≡ given u → IsSome c at.language u) → option_map_or f o d ≡ given u → IsSome c at.language u
+  chosen : {A : Type 0} (f : A → Answer Term) (o : Option A) (d : Answer Term) (u : Term) → ((v : A) → o ≡ Some v → f v ≡ given u → IsSome globs c at.language u) →
+      (d ≡ given u → IsSome globs c at.language u) → option_map_or f o d ≡ given u → IsSome globs c at.language u
   chosen f (Some v) d u k l h = k v refl h
   chosen f None d u k l h = l h
 
   -- a name without a side
-  pub named_typed : (x : Name) (p : Place) (u : Term) → named at vs x p ≡ given u → IsSome c at.language u
+  pub named_typed : (x : Name) (p : Place) (u : Term) → named at vs x p ≡ given u → IsSome globs c at.language u
   unfolding named
   named_typed x p u h =
       let logicals = at.sequent.logical in
       chosen (λ b. bound_thing (binders_inside vs x) p b.kind) (innermost vs x) _ u
-      (λ v e k. thing_typed (binders_inside vs x) p v.kind u (found_bound (has_globs at.language) vs x v e c.bound fit.bound) k)
-      (chosen (λ v. given (program_variable side.Own v)) (first_named (own at) x) _ u (λ v e k. subst (IsSome c at.language) (given_is _ u k) (own_variable_typed x v (found (own at) x v e)))
+      (λ v e k. thing_typed (binders_inside vs x) p v.kind u (found_bound globs vs x v e c.bound fit.bound) k)
+      (chosen (λ v. given (program_variable side.Own v)) (first_named (own at) x) _ u (λ v e k. subst (IsSome globs c at.language) (given_is _ u k) (own_variable_typed x v (found (own at) x v e)))
       (chosen (logical_variable (number_before logicals x)) (first_named logicals x) _ u (λ v e k. logical_typed x v u (found logicals x v e) k)
       (chosen (unsided at p) (global_at at x) (unbound at x p) u (λ g e k. unsided_typed x p g u e k) (unbound_typed x p u))))
       h
 
-  variable_typed : (x : Name) (s : Side) (p : Place) (ls : List TypedName) (u : Term) → OnSide (has_globs at.language) c s ls → variable_on at vs x s p ls ≡ given u → IsVariable u
+  variable_typed : (x : Name) (s : Side) (p : Place) (ls : List TypedName) (u : Term) → OnSide globs (reads_globals at.language) c s ls → variable_on at vs x s p ls ≡ given u → IsVariable u
   variable_typed x s p ls u o h =
       local (first_named ls x) refl (if_refused (is_some (innermost vs x)) Argument p _ u h).1
     where
@@ -229,20 +225,19 @@ module _ (c : Context) (at : Environment) (vs : List Binding) (fit : IsFitting c
   sided_typed x s p u h = step (on_side at s) refl h
     where
       step : (o : Option (List TypedName)) → on_side at s ≡ o → option_map_or (variable_on at vs x s p) o (refused Argument p) ≡ given u → IsVariable u
-      step (Some ls) e h = variable_typed x s p ls u (side_there (has_globs at.language) c at.variables s ls fit.variables e) h
+      step (Some ls) e h = variable_typed x s p ls u (side_there globs (reads_globals at.language) c at.variables s ls fit.variables e) h
       step None e h = cc
 
   -- a name in a named memory, of which no local is read
   in_memory_typed : has_memories at.language ≡ true → (x : Name) (m : Node) (p : Place) (u : Term) → in_memory at vs x m p ≡ given u → IsVariable u
   unfolding in_memory
   in_memory_typed may x m p u h =
-      let globs = has_globs at.language in
       let s = given_bind (memory_at at vs (text_of m) (place_of m)) _ u h in
       let k = if_allowed (may_read at.memories (text_of m)) (variable_on at vs x s.0 p []) Argument p u s.2 in
       let r = memory_is c at vs fit may (text_of m) (place_of m) s.0 s.1 in
       variable_typed x s.0 p [] u
       (record {
-        memory = record { side = r.side; frame = r.frame; whole = remembered_globs at.language may };
+        memory = record { side = r.side; frame = r.frame; whole = remembered_globals at.language may };
         read = none_read globs (frame_of c s.0);
       }) k.1
 
@@ -250,14 +245,14 @@ module _ (c : Context) (at : Environment) (vs : List Binding) (fit : IsFitting c
   remembered_typed x m p u h =
       let k = if_allowed (has_memories at.language) (in_memory at vs x m p) Argument p u h in in_memory_typed k.0 x m p u k.1
 
-  beside_typed : (k : Head) (s : Node) (x : Name) (p : Place) (u : Term) → beside k s at vs x p ≡ given u → IsSome c at.language u
+  beside_typed : (k : Head) (s : Node) (x : Name) (p : Place) (u : Term) → beside k s at vs x p ≡ given u → IsSome globs c at.language u
   beside_typed head.Number s x p u h =
       let i = given_bind (side_of (text_of s) p) (λ i. sided at vs x i p) u h in
       let q = sided_typed x i.0 p u i.2 in (q.0, q.2)
   beside_typed _ m x p u h = let q = remembered_typed x m p u h in (q.0, q.2)
 
   -- a form with a side
-  pub read_typed : (k : Head) (x : Name) (xs : List Node) (p : Place) (s : Node) (u : Term) → read at vs k x xs p s ≡ given u → IsSome c at.language u
+  pub read_typed : (k : Head) (x : Name) (xs : List Node) (p : Place) (s : Node) (u : Term) → read at vs k x xs p s ≡ given u → IsSome globs c at.language u
   read_typed head.Name x xs p s u h = beside_typed (head_of s) s x p u h
   read_typed head.Path x xs p s u h = beside_typed (head_of s) s (path xs) p u h
   read_typed _ x xs p s u h = cc

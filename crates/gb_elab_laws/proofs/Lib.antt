@@ -30,6 +30,7 @@ pub mod Ends
 pub mod Sampled
 pub mod Anew
 pub mod Cuts
+pub mod Spoken
 pub mod Around
 pub mod Called
 pub mod Stated
@@ -37,7 +38,10 @@ pub mod Used
 mod Brought
 pub mod Programs
 pub mod Members
+pub mod Procedures
 pub mod Statements
 pub mod Scopes
 pub mod Bodies
 pub mod Entries
+pub mod Contracts
+pub mod Contracted

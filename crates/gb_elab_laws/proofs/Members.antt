@@ -39,7 +39,8 @@ use Rattle.gb_typing.specs.Programs.{HaveVariableTypes, type_of_procedure}
 use Rattle.gb_typing.specs.Scopes.{procedure_types, interface_with, in_module, with_params, context_of, is_declared, AreProcedures, AreTaken, HaveOwnNames, IsModule, IsTypedScope}
 use Rattle.gb_typing.specs.Modules.{with_interface}
 use Rattle.gb_typing.proofs.Globals.{name_test, or_false}
-use Rattle.gb_typing.proofs.Variables.{variable_finite}
+use Rattle.gb_later.specs.Naming.{NoName}
+use Rattle.gb_models.specs.Speaking.{ProceduresSpeak}
 use Rattle.gb_elab_laws.specs.Fitting.{AreDeclared, HasGlobals, IsTypeOf}
 use Rattle.gb_elab_laws.proofs.Given.{given_bind, given_is, if_refused, none_some, not_given}
 use Rattle.gb_elab_laws.proofs.Declared.{declared_in}
@@ -47,7 +48,9 @@ use Rattle.gb_elab_laws.proofs.Fits.{declared_globals, declared_procedure, typed
 use Rattle.gb_elab_laws.proofs.Found.{found}
 use Rattle.gb_elab_laws.proofs.Programs.{have_both, procedure_typed}
 use Rattle.gb_elab_laws.proofs.Around.{IsAround}
-use Rattle.gb_elab_laws.proofs.Types.{have_finite, spelled_typed}
+use Rattle.gb_elab_laws.proofs.Quantified.{variables_with}
+use Rattle.gb_elab_laws.proofs.Spoken.{procedures_behind}
+use Rattle.gb_elab_laws.proofs.Types.{spelled_typed}
 
 -- Globals under names of their own.
 
@@ -169,9 +172,10 @@ record IsPart (c : Context) (m k : Module) : Type 0 where
   types : HaveVariableTypes k.globals
   names : HaveOwnNames k.globals
   procs : AreProcedures c m [] k.procs
+  speaks : ProceduresSpeak NoName k.procs
 
 no_part : (c : Context) (m : Module) (n : Name) → IsPart c m (empty_module n)
-no_part c m n = record { types = tt; names = tt; procs = tt }
+no_part c m n = record { types = tt; names = tt; procs = tt; speaks = tt }
 
 made : (c : Context) (m : Module) → [] ≡ m.params → IsPart c m m → IsModule c m.name m
 made c m e part = record {
@@ -222,8 +226,8 @@ module _ (ds : Declarations) (c : Context) (m : Module) (new : entry_of ds m.nam
       let same = ap (in_module c m (procedure_types k.procs)).modules.interfaces f.name ∙ own_interface (procedure_types k.procs) in
       record {
         there = ap (λ j. interface.procedure_of j n) same ∙ t.2;
-        params = have_finite a.params t.0;
-        result = variable_finite a.result t.1;
+        params = t.0;
+        result = t.1;
       }
 
   around : (k : Module) → IsFront k m → IsPart c m k → IsAround ds (in_module c m (procedure_types k.procs)) k
@@ -236,7 +240,7 @@ module _ (ds : Declarations) (c : Context) (m : Module) (new : entry_of ds m.nam
         let there : local_type m.globals v.name ≡ Some v.ty =
         ap (λ ls. local_type ls v.name) (sym f.globals) ∙ front_local k.globals f.more v.name v.ty (ap (local_type k.globals) s.name ∙ s.frame) in (
           ap (λ (b : Bool). if b then local_type m.globals v.name else c.global k.name v.name) ((bytes_eq-Decides k.name m.name).1 f.name) ∙ there,
-          s.finite (have_finite k.globals part.types),
+          s.finite_with false (variables_with false k.globals part.types),
         );
     procedures = λ g a e. in_place (procedure_types k.procs) g.«module» g.name a e;
     own_procedures = in_own k f part;
@@ -250,6 +254,7 @@ module _ (ds : Declarations) (c : Context) (m : Module) (new : entry_of ds m.nam
         types = have_both k.globals (of_type xs u.0) part.types (lines_variable xs u.0 (spelled_typed ds names.types t u.0 u.1));
         names = lines_own (member_names k) o.0 k.globals xs u.0 (covers_front k.globals (map (λ (p : Proc). p.name) k.procs)) part.names o.1;
         procs = part.procs;
+        speaks = part.speaks;
       })
 
   procedure_part : (k n : Module) (h : Head) (ps : List Node) (p : Place) → with_procedure ds nothing_around k h ps p ≡ given n → IsFront k m → IsPart c m k → IsPart c m n
@@ -257,7 +262,12 @@ module _ (ds : Declarations) (c : Context) (m : Module) (new : entry_of ds m.nam
       let q = given_bind (procedure_by ds nothing_around k h ps p) (λ q. given (record k { procs = k.procs ++ q ∷ [] })) n e in
       let b = procedure_typed ds (in_module c m (procedure_types k.procs)) k (around k f part) h ps p q.0 q.1 in
       subst (IsPart c m) (given_is _ n q.2)
-      (record { types = part.types; names = part.names; procs = procedures_both c m [] k.procs (q.0 ∷ []) part.procs (b.0, b.1, tt) })
+      (record {
+        types = part.types;
+        names = part.names;
+        procs = procedures_both c m [] k.procs (q.0 ∷ []) part.procs (b.0, b.1, tt);
+        speaks = procedures_behind NoName k.procs (q.0 ∷ []) part.speaks (b.2, tt);
+      })
 
   member_part : (k n : Module) (h : Head) (ps : List Node) (p : Place) → with_member ds nothing_around k h ps p ≡ given n → IsFront k m → IsPart c m k → IsPart c m n
   member_part k n head.Globals (xs ∷ t ∷ []) p e f part = lines_part k n (parts_of xs) t e part
@@ -293,9 +303,9 @@ undeclared_is (d ∷ ds) n e = step (bytes_eq n d.0) (undeclared_is ds n) e
 pub free_is : (ds : Declarations) (x : Node) (y : Unit {0}) → free ds x ≡ given y → is_declared (declarations ds) (text_of x) ≡ false
 free_is ds x y h = undeclared_is ds (text_of x) (if_refused (is_some (entry_of ds (text_of x))) (DoubleName (text_of x)) (place_of x) (given tt) y h).0
 
--- a module under a free name
+-- a module under a free name, which speaks of no module's globals together
 abbrev IsNew : Declarations → Module → Type 0
-IsNew ds m = (IsTypedScope (declarations ds) → IsModule (context_of (declarations ds)) m.name m) × (is_declared (declarations ds) m.name ≡ false)
+IsNew ds m = (IsTypedScope (declarations ds) → IsModule (context_of (declarations ds)) m.name m × ProceduresSpeak NoName m.procs) × (is_declared (declarations ds) m.name ≡ false)
 
 plain_typed : (ds : Declarations) (x : Node) (qs ys ts : List Node) (m : Module) → plain ds x qs ys ts ≡ given m → IsNew ds m
 unfolding plain
@@ -308,9 +318,11 @@ plain_typed ds x qs ys ts m h =
     let front = members_front ds (empty_module (text_of x)) ms.0 ts ms.1 in
     let none = unnamed ds x f.0 f.1 in
     subst (IsNew ds) {x = ms.0} (given_is ms.0 m s.2) (
-      λ w. made (context_of (declarations ds)) ms.0 front.params
-          (members_part ds (context_of (declarations ds)) ms.0 (subst (λ n. entry_of ds n ≡ None) front.name none) (declared_in ds w) (declared_globals ds w)
-          (λ f a k. declared_procedure ds w f.«module» f.name a k) front.params (empty_module (text_of x)) ts ms.1 (no_part _ _ _)),
+      λ w.
+          let part =
+          members_part ds (context_of (declarations ds)) ms.0 (subst (λ n. entry_of ds n ≡ None) front.name none) (declared_in ds w) (declared_globals ds w)
+          (λ f a k. declared_procedure ds w f.«module» f.name a k) front.params (empty_module (text_of x)) ts ms.1 (no_part _ _ _) in
+          (made (context_of (declarations ds)) ms.0 front.params part, part.speaks),
       subst (λ n. is_declared (declarations ds) n ≡ false) front.name (free_is ds x f.0 f.1),
     )
 
@@ -320,7 +332,10 @@ of_module_parts ds head.AscribedModule (x ∷ xs) p m h = let f = given_bind (fr
 of_module_parts ds _ _ p m h = cc
 
 pub module_typed : (ds : Declarations) → IsTypedScope (declarations ds) → (t : Node) (m : Module) → module_given ds t ≡ given m → IsModule (context_of (declarations ds)) m.name m
-module_typed ds w t m h = (of_module_parts ds (head_of t) (parts_of t) (place_of t) m h).0 w
+module_typed ds w t m h = ((of_module_parts ds (head_of t) (parts_of t) (place_of t) m h).0 w).0
+
+pub module_speaks : (ds : Declarations) → IsTypedScope (declarations ds) → (t : Node) (m : Module) → module_given ds t ≡ given m → ProceduresSpeak NoName m.procs
+module_speaks ds w t m h = ((of_module_parts ds (head_of t) (parts_of t) (place_of t) m h).0 w).1
 
 pub module_free : (ds : Declarations) (t : Node) (m : Module) → module_given ds t ≡ given m → is_declared (declarations ds) m.name ≡ false
 module_free ds t m h = (of_module_parts ds (head_of t) (parts_of t) (place_of t) m h).1

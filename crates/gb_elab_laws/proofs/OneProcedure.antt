@@ -1,6 +1,6 @@
 -- Judgments of one declared procedure are typed.
 use Rattle.std.proofs.lemmas.Bool.{false≢true}
-use Rattle.std.proofs.Common.{◌≡◌, pos, true, List, [], ◌∷◌, Some, None, refl, sym, ◌∙◌, subst}
+use Rattle.std.proofs.Common.{◌≡◌, pos, true, List, [], ◌∷◌, Some, None, refl, sym, ◌∙◌, subst, Bool}
 use Rattle.gb_core.specs.declared.place.Place.{Place}
 use Rattle.gb_core.specs.declared.ty.Ty.TheVariants as ty
 use Rattle.gb_terms.specs.declared.decl.Proc.{Proc}
@@ -25,32 +25,32 @@ use Rattle.gb_elab.specs.OneProcedure.{after_one, always, around, before_one, en
 use Rattle.gb_typing.specs.Context.{Frame, Context, procedure, with_own}
 use Rattle.gb_typing.specs.Typing.{IsThere, before, after}
 use Rattle.gb_typing.proofs.Made.{made_node}
-use Rattle.gb_elab_laws.specs.Fitting.{AllFiniteWith, AreBound, AreIn, IsTypeOf, IsFitting, IsGiven}
+use Rattle.gb_elab_laws.specs.Fitting.{AreIn, IsTypeOf, IsFitting, IsGiven}
 use Rattle.gb_elab_laws.proofs.Given.{given_bind, given_is}
 use Rattle.gb_elab_laws.proofs.Judged.{judging, one_is, params_in, result_in}
 use Rattle.gb_elab_laws.proofs.Leaves.{truth_typed}
 use Rattle.gb_elab_laws.proofs.Remembered.{remembering}
-use Rattle.gb_elab_laws.proofs.Typed.{Typed, given_from, leaf, operated}
+use Rattle.gb_elab_laws.proofs.Typed.{apart_node, Typed, given_from, leaf, operated}
 
 -- A contract of a procedure that there is, with typed conditions.
-pub record IsContract (c : Context) (k : Contract) : Type 0 where
+pub record IsContract (globs : Bool) (c : Context) (k : Contract) : Type 0 where
   pub there : IsThere (procedure c k.procedure)
-  pub pre : IsGiven (with_own c (before (procedure c k.procedure))) Formula (Some ty.Bool) k.pre
-  pub post : IsGiven (with_own c (after (procedure c k.procedure))) Formula (Some ty.Bool) k.post
+  pub pre : IsGiven globs (with_own c (before (procedure c k.procedure))) Formula (Some ty.Bool) k.pre
+  pub post : IsGiven globs (with_own c (after (procedure c k.procedure))) Formula (Some ty.Bool) k.post
 
 -- `1%r`
-one_typed : (c : Context) → Typed c Formula ty.Real one
+one_typed : {globs : Bool} (c : Context) → Typed globs c Formula ty.Real one
 one_typed c =
     operated c Formula op.ToReal ty.Int ty.Real (node (Whole (pos 1)) [] ty.Int) tt (tt, refl)
     (leaf c Formula (Whole (pos 1)) ty.Int tt refl tt tt (λ e. tt))
 
-module _ (c : Context) (at : Environment) (vs : List Binding) (fit : IsFitting c at vs) (judges : has_judgments at.language ≡ true) where
+module _ {globs : Bool} (c : Context) (at : Environment) (vs : List Binding) (fit : IsFitting globs c at vs) (judges : has_judgments at.language ≡ true) where
   -- a condition on one program over these variables
-  pub condition : (F : Frame) (ls : List TypedName) → AreIn F ls → IsFitting (with_own c F) (reading (in_judgments at.memories) (unary at.declared at.sequent ls)) vs
+  pub condition : (F : Frame) (ls : List TypedName) → AreIn globs F ls → IsFitting globs (with_own c F) (reading (in_judgments at.memories) (unary at.declared at.sequent ls)) vs
   condition F ls h = record {
     logical = fit.logical;
-    values = subst (λ b. AllFiniteWith b at.sequent.logical) (judging at.language judges) fit.values;
-    bound = subst (λ b. AreBound b c.bound vs) (judging at.language judges) fit.bound;
+    values = fit.values;
+    bound = fit.bound;
     variables = (refl, h);
     declared = fit.declared;
     around = tt;
@@ -61,11 +61,11 @@ module _ (c : Context) (at : Environment) (vs : List Binding) (fit : IsFitting c
   }
 
   -- a bound
-  pub around_fits : IsFitting (with_own c None) (around at) vs
+  pub around_fits : IsFitting globs (with_own c None) (around at) vs
   around_fits = record {
     logical = fit.logical;
-    values = subst (λ b. AllFiniteWith b at.sequent.logical) (judging at.language judges) fit.values;
-    bound = subst (λ b. AreBound b c.bound vs) (judging at.language judges) fit.bound;
+    values = fit.values;
+    bound = fit.bound;
     variables = tt;
     declared = fit.declared;
     around = tt;
@@ -75,23 +75,23 @@ module _ (c : Context) (at : Environment) (vs : List Binding) (fit : IsFitting c
     frames = λ e. fit.frames (remembering at.language judges);
   }
 
-  pub always_typed : (k : Contract) → IsContract c k → Typed c at.language ty.Bool (always k)
+  pub always_typed : (k : Contract) → IsContract globs c k → Typed globs c at.language ty.Bool (always k)
   always_typed k h = record {
     made =
         made_node c (Hoare (procedure_subject k.procedure)) (ty.Bool ∷ ty.Bool ∷ []) (k.pre ∷ k.post ∷ []) ty.Bool (refl, (refl, (refl, tt))) h.there []
         (record { typed = h.pre.typed; written = h.pre.wanted }, record { typed = h.post.typed; written = h.post.wanted });
     type = tt;
-    apart = λ e. absurd (false≢true (sym e ∙ judging at.language judges));
+    apart = λ e. apart_node (Hoare (procedure_subject k.procedure)) (k.pre ∷ k.post ∷ []) ty.Bool tt (h.pre.apart e, (h.post.apart e, tt));
     plain = λ e. absurd (false≢true (sym e ∙ judges));
   }
 
-  pub with_chance_typed : (k : Contract) (r : Rel) (b : Term) → IsContract c k → IsGiven (with_own c None) Formula (Some ty.Real) b → Typed c at.language ty.Bool (with_chance k r b)
+  pub with_chance_typed : (k : Contract) (r : Rel) (b : Term) → IsContract globs c k → IsGiven globs (with_own c None) Formula (Some ty.Real) b → Typed globs c at.language ty.Bool (with_chance k r b)
   with_chance_typed k r b h g = record {
     made =
         made_node c (Phoare (procedure_subject k.procedure) r) (ty.Bool ∷ ty.Bool ∷ ty.Real ∷ []) (k.pre ∷ k.post ∷ b ∷ []) ty.Bool ((refl, (refl, (refl, tt))), refl) h.there []
         (record { typed = h.pre.typed; written = h.pre.wanted }, (record { typed = h.post.typed; written = h.post.wanted }, record { typed = g.typed; written = g.wanted }));
     type = tt;
-    apart = λ e. absurd (false≢true (sym e ∙ judging at.language judges));
+    apart = λ e. apart_node (Phoare (procedure_subject k.procedure) r) (k.pre ∷ k.post ∷ b ∷ []) ty.Bool tt (h.pre.apart e, (h.post.apart e, (g.apart e, tt)));
     plain = λ e. absurd (false≢true (sym e ∙ judges));
   }
 
@@ -103,17 +103,17 @@ module _ (c : Context) (at : Environment) (vs : List Binding) (fit : IsFitting c
     is_there = subst IsThere (sym known.there) tt
 
     -- the environments of the conditions fit
-    pub before_fits : IsFitting (with_own c (before (procedure c f))) (before_one at a) vs
+    pub before_fits : IsFitting globs (with_own c (before (procedure c f))) (before_one at a) vs
     before_fits = condition _ a.params (params_in _ a known)
 
-    pub after_fits : IsFitting (with_own c (after (procedure c f))) (after_one at a) vs
+    pub after_fits : IsFitting globs (with_own c (after (procedure c f))) (after_one at a) vs
     after_fits = condition _ (result_of a) (result_in _ a known)
 
-    ends_typed : Typed c at.language ty.Bool (ends f)
+    ends_typed : Typed globs c at.language ty.Bool (ends f)
     ends_typed =
         let d = with_own c (before (procedure c f)) in
         let g = with_own c (after (procedure c f)) in
-        let contract : IsContract c (record { procedure = f; pre = truth_literal true; post = truth_literal true }) =
+        let contract : IsContract globs c (record { procedure = f; pre = truth_literal true; post = truth_literal true }) =
         record {
           there = is_there;
           pre = given_from d Formula (Some ty.Bool) ty.Bool (truth_literal true) (truth_typed d (before_one at a) vs before_fits true) refl;
@@ -122,8 +122,8 @@ module _ (c : Context) (at : Environment) (vs : List Binding) (fit : IsFitting c
         with_chance_typed (record { procedure = f; pre = truth_literal true; post = truth_literal true }) rel.Equal one contract
         (given_from (with_own c None) Formula (Some ty.Real) ty.Real one (one_typed (with_own c None)) refl)
 
-  pub lossless_typed : (ns : List Node) (p : Place) (u : Term) → lossless at vs ns p ≡ given u → Typed c at.language ty.Bool u
+  pub lossless_typed : (ns : List Node) (p : Place) (u : Term) → lossless at vs ns p ≡ given u → Typed globs c at.language ty.Bool u
   lossless_typed (f ∷ []) p u h =
       let m = given_bind (one_procedure at vs f p) (λ m. given (ends m.0)) u h in
-      subst (Typed c at.language ty.Bool) {x = ends m.0.0} (given_is (ends m.0.0) u m.2) (ends_typed m.0.0 m.0.1 (one_is at vs f p m.0 m.1))
+      subst (Typed globs c at.language ty.Bool) {x = ends m.0.0} (given_is (ends m.0.0) u m.2) (ends_typed m.0.0 m.0.1 (one_is at vs f p m.0 m.1))
   lossless_typed _ p u h = cc

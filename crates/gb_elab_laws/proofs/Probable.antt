@@ -1,5 +1,5 @@
 -- Probabilities are typed.
-use Rattle.std.proofs.Common.{◌≡◌, ℕ, suc, true, List, [], ◌∷◌, ◌++◌, map, length, Option, Some, None, is_some, refl, ap, sym, ◌∙◌, subst}
+use Rattle.std.proofs.Common.{◌≡◌, ℕ, suc, Bool, true, false, List, [], ◌∷◌, ◌++◌, map, length, Option, Some, None, is_some, refl, ap, sym, ◌∙◌, subst}
 use Rattle.std.proofs.lemmas.Bool.{false≢true}
 use Rattle.gb_core.specs.declared.place.Place.{Place}
 use Rattle.gb_core.specs.declared.refusal.Why.TheVariants.{Argument}
@@ -22,16 +22,19 @@ use Rattle.std.specs.Option.{option_map}
 use Rattle.gb_typing.specs.Typing.{IsFrame, IsThere, after}
 use Rattle.gb_typing.proofs.Made.{EachMade, made_node}
 use Rattle.gb_typed.specs.Typing.{IsProbability}
+use Rattle.gb_meaning.specs.Trees.{row}
+use Rattle.gb_holds.specs.Naming.{AnyName}
+use Rattle.gb_later.specs.Naming.{NoName, TermNames, TermsName}
 use Rattle.gb_names.specs.declared.setting.Language.TheVariants.{Formula}
 use Rattle.gb_names.specs.Allowed.{has_judgments}
 use Rattle.gb_names.specs.Environment.{Name, Environment}
 use Rattle.gb_names.specs.Judgments.{Named, named_procedure}
 use Rattle.gb_names.specs.declared.bindings.Binding.{Binding}
 use Rattle.gb_elab.specs.Probability.{before_call, called, chance, words_of}
-use Rattle.gb_elab_laws.specs.Fitting.{AllFiniteWith, AreBound, IsTypeOf, IsFitting, IsGiven}
+use Rattle.gb_elab_laws.specs.Fitting.{IsTypeOf, IsFitting, IsGiven}
 use Rattle.gb_elab_laws.proofs.Judged.{IsDeclared, judging, named_is}
 use Rattle.gb_elab_laws.proofs.Remembered.{IsNamedMemory, remembering}
-use Rattle.gb_elab_laws.proofs.Typed.{Typed}
+use Rattle.gb_elab_laws.proofs.Typed.{Typed, apart_node}
 
 -- the procedure that a call names is declared
 pub called_is : (at : Environment) (vs : List Binding) (k : Head) (ps : List Node) (p : Place) (n : Named) → called at vs k ps p ≡ given n → IsDeclared at n
@@ -39,29 +42,35 @@ called_is at vs head.Call ps p n h = named_is at vs head.ProcedurePath (words_of
 called_is at vs _ ps p n h = cc
 
 -- arguments of the types of these parameters
-abbrev pub AreArguments : Context → List TypedName → List Term → Type 0
-AreArguments c [] [] = Unit {0}
-AreArguments c (v ∷ vs) (t ∷ ts) = Made c v.ty t × AreArguments c vs ts
-AreArguments c _ _ = ⊥
+abbrev pub AreArguments : Bool → Context → List TypedName → List Term → Type 0
+AreArguments globs c [] [] = Unit {0}
+AreArguments globs c (v ∷ vs) (t ∷ ts) = (Made c v.ty t × (globs ≡ false → TermNames NoName AnyName t)) × AreArguments globs c vs ts
+AreArguments globs c _ _ = ⊥
 
 -- arguments, and an event
-with_event : (c d : Context) (vs : List TypedName) (ts : List Term) (e : Term) → AreArguments c vs ts → Made d ty.Bool e →
+with_event : (globs : Bool) (c d : Context) (vs : List TypedName) (ts : List Term) (e : Term) → AreArguments globs c vs ts → Made d ty.Bool e →
     EachMade c c d (map (λ (v : TypedName). v.ty) vs ++ ty.Bool ∷ []) (ts ++ e ∷ [])
-with_event c d [] [] e h k = k
-with_event c d [] (t ∷ ts) e h k = absurd h
-with_event c d (v ∷ vs) [] e h k = absurd h
-with_event c d (v ∷ []) (t ∷ []) e h k = (h.0, k)
-with_event c d (v ∷ []) (t ∷ u ∷ ts) e h k = absurd h.1
-with_event c d (v ∷ w ∷ vs) (t ∷ []) e h k = absurd h.1
-with_event c d (v ∷ w ∷ vs) (t ∷ u ∷ ts) e h k = (h.0, with_event c d (w ∷ vs) (u ∷ ts) e h.1 k)
+with_event globs c d [] [] e h k = k
+with_event globs c d [] (t ∷ ts) e h k = absurd h
+with_event globs c d (v ∷ vs) [] e h k = absurd h
+with_event globs c d (v ∷ []) (t ∷ []) e h k = (h.0.0, k)
+with_event globs c d (v ∷ []) (t ∷ u ∷ ts) e h k = absurd h.1
+with_event globs c d (v ∷ w ∷ vs) (t ∷ []) e h k = absurd h.1
+with_event globs c d (v ∷ w ∷ vs) (t ∷ u ∷ ts) e h k = (h.0.0, with_event globs c d (w ∷ vs) (u ∷ ts) e h.1 k)
 
-module _ (c : Context) (at : Environment) (vs : List Binding) (fit : IsFitting c at vs) (judges : has_judgments at.language ≡ true) where
+event_apart : (globs : Bool) (c : Context) (vs : List TypedName) (ts : List Term) (e : Term) → AreArguments globs c vs ts → globs ≡ false → TermNames NoName AnyName e → TermsName NoName AnyName (row (ts ++ e ∷ []))
+event_apart globs c [] [] e h p k = (k, tt)
+event_apart globs c [] (t ∷ ts) e h p k = absurd h
+event_apart globs c (v ∷ vs) [] e h p k = absurd h
+event_apart globs c (v ∷ vs) (t ∷ ts) e h p k = (h.0.1 p, event_apart globs c vs ts e h.1 p k)
+
+module _ {globs : Bool} (c : Context) (at : Environment) (vs : List Binding) (fit : IsFitting globs c at vs) (judges : has_judgments at.language ≡ true) where
   -- arguments of a call from the memory of a name, beside other forms
-  pub call_fits : (x : Name) → IsFitting c (before_call at x) vs
+  pub call_fits : (x : Name) → IsFitting globs c (before_call at x) vs
   call_fits x = record {
     logical = fit.logical;
-    values = subst (λ b. AllFiniteWith b at.sequent.logical) (judging at.language judges) fit.values;
-    bound = subst (λ b. AreBound b c.bound vs) (judging at.language judges) fit.bound;
+    values = fit.values;
+    bound = fit.bound;
     variables = tt;
     declared = fit.declared;
     around = tt;
@@ -75,15 +84,15 @@ module _ (c : Context) (at : Environment) (vs : List Binding) (fit : IsFitting c
     known : IsTypeOf (procedure c f) a
     known = fit.procedures judges f a e
 
-    pub chance_typed : (s : Side) → IsNamedMemory c s → (ts : List Term) → AreArguments c a.params ts → (b : Term) → IsGiven (with_own c (after (procedure c f))) Formula (Some ty.Bool) b →
-        Typed c at.language ty.Real (chance f s ts b)
+    pub chance_typed : (s : Side) → IsNamedMemory c s → (ts : List Term) → AreArguments globs c a.params ts → (b : Term) → IsGiven globs (with_own c (after (procedure c f))) Formula (Some ty.Bool) b →
+        Typed globs c at.language ty.Real (chance f s ts b)
     chance_typed s m ts h b g = record {
       made =
           made_node c (Pr f s) (map (λ (v : TypedName). v.ty) a.params ++ ty.Bool ∷ []) (ts ++ b ∷ []) ty.Real
           (subst (λ (o : _). IsProbability (option_map (λ t. map (λ (x : TypedName). x.ty) t.params) o) (map (λ (v : TypedName). v.ty) a.params ++ ty.Bool ∷ [])) (sym known.there) refl, m.side, refl)
           (m.frame, m.place, subst IsThere (sym known.there) tt) []
-          (with_event c (with_own c (after (procedure c f))) a.params ts b h (record { typed = g.typed; written = g.wanted }));
+          (with_event globs c (with_own c (after (procedure c f))) a.params ts b h (record { typed = g.typed; written = g.wanted }));
       type = tt;
-      apart = λ k. absurd (false≢true (sym k ∙ judging at.language judges));
+      apart = λ k. apart_node (Pr f s) (ts ++ b ∷ []) ty.Real tt (event_apart globs c a.params ts b h k (g.apart k));
       plain = λ k. absurd (false≢true (sym k ∙ judges));
     }

@@ -38,7 +38,9 @@ use Rattle.gb_typing.proofs.Globals.{name_test, or_false}
 use Rattle.gb_elab_laws.proofs.Typed.{given_from}
 use Rattle.gb_elab_laws.proofs.Leaves.{unit_typed}
 use Rattle.gb_elab_laws.proofs.Shapes.{finite_form}
-use Rattle.gb_typing.proofs.Variables.{variable_finite}
+use Rattle.gb_holds.specs.Naming.{AnyName}
+use Rattle.gb_later.specs.Naming.{NoName, TermNames}
+use Rattle.gb_models.specs.Speaking.{BodySpeaks}
 use Rattle.gb_elab_laws.proofs.Forms.{elaborated_typed}
 use Rattle.gb_elab_laws.proofs.Around.{IsAround, fits, expression}
 use Rattle.gb_elab_laws.proofs.Stated.{statements_typed}
@@ -102,19 +104,23 @@ module _ (ds : Declarations) (c : Context) (m : Module) (beside : IsAround ds c 
     abbrev around : Context
     around = of_program c vs
 
-    value_typed : (ts : List Node) (r : Ty) (u : Term) → IsVariableType r → lacks_value ts r ≡ false → value at ts r ≡ given u → IsGiven around Program (Some r) u
-    value_typed (t ∷ ts) r u k l h = elaborated_typed t around at [] (fits ds c m beside vs typed) (Some r) (finite_form true r (variable_finite r k)) u h
+    value_typed : (ts : List Node) (r : Ty) (u : Term) → IsVariableType r → lacks_value ts r ≡ false → value at ts r ≡ given u → IsGiven false around Program (Some r) u
+    value_typed (t ∷ ts) r u k l h = elaborated_typed t around at [] (fits ds c m beside vs typed) (Some r) (finite_form false r k) u h
     value_typed [] r u k l h =
         let e : r ≡ ty.Unit = is_unit (ty_eq r ty.Unit) refl l in
-        subst (IsGiven around Program (Some r)) (given_is unit u h) (given_from around Program (Some r) ty.Unit unit (unit_typed around at [] (fits ds c m beside vs typed)) (sym e))
+        subst (IsGiven false around Program (Some r)) (given_is unit u h) (given_from around Program (Some r) ty.Unit unit (unit_typed around at [] (fits ds c m beside vs typed)) (sym e))
       where
         is_unit : (b : Bool) → ty_eq r ty.Unit ≡ b → not b ≡ false → r ≡ ty.Unit
         is_unit true e k = (ty_eq-Decides r ty.Unit).0 e
         is_unit false e k = cc
 
+  -- what a procedure says of no module's globals together
+  abbrev IsSpoken : Proc → Type 0
+  IsSpoken p = BodySpeaks NoName p.body.list × TermNames NoName AnyName p.value
+
   -- a procedure of this name
   abbrev IsOf : Name → Proc → Type 0
-  IsOf n p = (p.name ≡ n) × IsProcedure c p
+  IsOf n p = (p.name ≡ n) × IsProcedure c p × IsSpoken p
 
   with_result_typed : (x : Node) (ps : List TypedName) (ls ss v : List Node) (r : Ty) (p : Proc) → HaveVariableTypes ps → IsVariableType r → lacks_value v r ≡ false →
       with_result ds nothing_around m x ps ls ss v r ≡ given p → IsOf (text_of x) p
@@ -125,14 +131,16 @@ module _ (ds : Declarations) (c : Context) (m : Module) (beside : IsAround ds c 
       let u = given_bind (value (program ds m nothing_around (ps ++ vs.0)) v r) _ p is.2 in
       let typed = have_both ps vs.0 n (locals_typed ds beside.names.types ps [] ls vs.0 tt vs.1) in
       let g = value_typed (ps ++ vs.0) typed v r u.0 k l u.1 in
+      let y = statements_typed ds c m beside (ps ++ vs.0) typed ss is.0 is.1 in
       subst (IsOf (text_of x)) (given_is _ p u.2) (
         refl,
         record {
-          body = record { locals = typed; statements = statements_typed ds c m beside (ps ++ vs.0) typed ss is.0 is.1 };
+          body = record { locals = typed; statements = y.0 };
           value = expression ds c m beside (ps ++ vs.0) typed (Some r) u.0 g;
           returned = g.wanted;
           result = k;
         },
+        (y.1, g.apart refl),
       )
 
   free_name : (ps : List Proc) (n : Name) → list_any (λ p. bytes_eq p.name n) ps ≡ false → named (procedure_types ps) n ≡ None
@@ -147,7 +155,7 @@ module _ (ds : Declarations) (c : Context) (m : Module) (beside : IsAround ds c 
 
   -- a procedure beside others, under a name of its own
   abbrev pub IsBeside : List Proc → Proc → Type 0
-  IsBeside ps p = (named (procedure_types ps) p.name ≡ None) × IsProcedure c p
+  IsBeside ps p = (named (procedure_types ps) p.name ≡ None) × IsProcedure c p × IsSpoken p
 
   pub procedure_typed : (k : Head) (xs : List Node) (q : Place) (p : Proc) → procedure_by ds nothing_around m k xs q ≡ given p → IsBeside m.procs p
   procedure_typed head.Procedure (x ∷ fs ∷ r ∷ ls ∷ ss ∷ v ∷ []) q p h =
@@ -158,5 +166,5 @@ module _ (ds : Declarations) (c : Context) (m : Module) (beside : IsAround ds c 
       let w = with_result_typed x f.0 (parts_of ls) (parts_of ss) (parts_of v) t.0 p (formals_typed ds beside.names.types [] (parts_of fs) f.0 tt f.1) k.0 k.1 t.2 in
       let u = if_refused (is_member m (text_of x)) (DoubleName (text_of x)) (place_of x) (given tt) n.0 n.1 in
       let o = or_false (list_any (λ (l : TypedName). bytes_eq l.name (text_of x)) m.globals) (list_any (λ (q : Proc). bytes_eq q.name (text_of x)) m.procs) u.0 in
-      (ap (named (procedure_types m.procs)) w.0 ∙ free_name m.procs (text_of x) o.1, w.1)
+      (ap (named (procedure_types m.procs)) w.0 ∙ free_name m.procs (text_of x) o.1, w.1, w.2)
   procedure_typed _ _ q p h = cc

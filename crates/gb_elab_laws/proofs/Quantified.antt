@@ -32,7 +32,7 @@ use Rattle.gb_typing.specs.Context.{Frame, Context, erased, frame_of, within}
 use Rattle.gb_typing.specs.Typing.{IsFrame}
 use Rattle.gb_typing.specs.Programs.{HaveVariableTypes}
 use Rattle.gb_terms.specs.declared.op.Side.TheVariants as side
-use Rattle.gb_elab_laws.specs.Fitting.{has_globs, AreTypes, IsBoundTo, IsBoundName, AreReadable, IsFitting}
+use Rattle.gb_elab_laws.specs.Fitting.{reads_globals, AllFiniteWith, AreTypes, IsBoundTo, IsBoundName, AreReadable, IsFitting}
 use Rattle.gb_elab_laws.proofs.Given.{given_bind, given_is, if_allowed}
 use Rattle.gb_elab_laws.proofs.Types.{no_distribution, spelled_typed}
 use Rattle.gb_elab_laws.proofs.Shapes.{with_globs, variable_with, finite_form}
@@ -45,6 +45,11 @@ reversed w ws vs = ap (λ z. z ++ vs) (reverse-append (w ∷ []) ws) ∙ append_
 pub have_front : (ls ms : List TypedName) → HaveVariableTypes (ls ++ ms) → HaveVariableTypes ls
 have_front [] ms h = tt
 have_front (l ∷ ls) ms h = (h.0, have_front ls ms h.1)
+
+-- types of variables are of forms
+pub variables_with : (globs : Bool) (vs : List TypedName) → HaveVariableTypes vs → AllFiniteWith globs vs
+variables_with globs [] h = tt
+variables_with globs (v ∷ vs) h = (variable_with globs v.ty h.0, variables_with globs vs h.1)
 
 -- what quantifiers of a language bind: values of types of variables, and memories where judgments may stand
 abbrev pub MayBeBound : Language → Kind → Type 0
@@ -98,13 +103,10 @@ abbrev pub under_all : Context → List Binding → Context
 under_all c [] = c
 under_all c (w ∷ ws) = under_all (under_one c w.kind) ws
 
-module _ (at : Environment) where
-  abbrev globs : Bool
-  globs = has_globs at.language
-
+module _ {globs : Bool} (at : Environment) where
   -- under one binder more, which has locals where it binds a memory
-  pub inner_fits : (c : Context) (vs : List Binding) → IsFitting c at vs → (b : Binder) (f : Frame) → (IsMemory b → IsFrame f) → (v : Binding) → IsBoundName globs b v →
-      IsFitting (within c b f) at (v ∷ vs)
+  pub inner_fits : (c : Context) (vs : List Binding) → IsFitting globs c at vs → (b : Binder) (f : Frame) → (IsMemory b → IsFrame f) → (v : Binding) → IsBoundName globs b v →
+      IsFitting globs (within c b f) at (v ∷ vs)
   inner_fits c vs fit b f m v h = record {
     logical = fit.logical;
     values = fit.values;
@@ -118,7 +120,7 @@ module _ (at : Environment) where
     frames = λ e i. framed i (fit.frames e);
   }
     where
-      readable : (vars : Variables) → AreReadable globs c vars → AreReadable globs (within c b f) vars
+      readable : (vars : Variables) → AreReadable globs (reads_globals at.language) c vars → AreReadable globs (reads_globals at.language) (within c b f) vars
       readable Absent k = tt
       readable (Own ls) k = k
       readable (Sides ls rs) k = k
@@ -128,28 +130,28 @@ module _ (at : Environment) where
       framed zero k = m
       framed (suc i) k = k i
 
-  one_fits : (c : Context) (vs : List Binding) → IsFitting c at vs → (v : Binding) → MayBeBound at.language v.kind → IsFitting (under_one c v.kind) at (v ∷ vs)
+  one_fits : (c : Context) (vs : List Binding) → IsFitting globs c at vs → (v : Binding) → MayBeBound at.language v.kind → IsFitting globs (under_one c v.kind) at (v ∷ vs)
   one_fits c vs fit v h = step v.kind refl h
     where
-      step : (k : Kind) → v.kind ≡ k → MayBeBound at.language k → IsFitting (under_one c k) at (v ∷ vs)
+      step : (k : Kind) → v.kind ≡ k → MayBeBound at.language k → IsFitting globs (under_one c k) at (v ∷ vs)
       step (Value t) e h =
           let finite = variable_with globs t h in
           inner_fits c vs fit (value t) None (λ m. m) v
           (subst (IsBoundTo globs (value t)) (sym e) ((no_distribution t (with_globs globs t finite), refl), finite_form globs t finite))
       step Memory e h = inner_fits c vs fit memory (Some []) (λ m. tt) v (subst (IsBoundTo globs memory) (sym e) tt)
 
-  pub under_all_fits : (ws vs : List Binding) (c : Context) → AllMayBeBound at.language ws → IsFitting c at vs → IsFitting (under_all c ws) at (reverse ws ++ vs)
+  pub under_all_fits : (ws vs : List Binding) (c : Context) → AllMayBeBound at.language ws → IsFitting globs c at vs → IsFitting globs (under_all c ws) at (reverse ws ++ vs)
   under_all_fits [] vs c h fit = fit
   under_all_fits (w ∷ ws) vs c h fit =
-      subst (IsFitting (under_all c (w ∷ ws)) at) (sym (reversed w ws vs)) (under_all_fits ws (w ∷ vs) (under_one c w.kind) h.1 (one_fits c vs fit w h.0))
+      subst (IsFitting globs (under_all c (w ∷ ws)) at) (sym (reversed w ws vs)) (under_all_fits ws (w ∷ vs) (under_one c w.kind) h.1 (one_fits c vs fit w h.0))
 
-module _ (l : Language) where
-  over_typed : (c : Context) (q : Quantifier) (k : Kind) (f : Term) → MayBeBound l k → Typed (under_one c k) l ty.Bool f → Typed c l ty.Bool (over q k f)
-  over_typed c Forall (Value t) f h m = for_all c l t f (variable_with (has_globs l) t h) m
-  over_typed c Exists (Value t) f h m = for_some c l t f (variable_with (has_globs l) t h) m
+module _ {globs : Bool} (l : Language) where
+  over_typed : (c : Context) (q : Quantifier) (k : Kind) (f : Term) → MayBeBound l k → Typed globs (under_one c k) l ty.Bool f → Typed globs c l ty.Bool (over q k f)
+  over_typed c Forall (Value t) f h m = for_all c l t f (variable_with globs t h) m
+  over_typed c Exists (Value t) f h m = for_some c l t f (variable_with globs t h) m
   over_typed c Forall Memory f h m = for_all_memories c l h [] f m
   over_typed c Exists Memory f h m = for_some_memory c l h [] f m
 
-  pub over_all_typed : (c : Context) (q : Quantifier) (ws : List Binding) (f : Term) → AllMayBeBound l ws → Typed (under_all c ws) l ty.Bool f → Typed c l ty.Bool (over_all q ws f)
+  pub over_all_typed : (c : Context) (q : Quantifier) (ws : List Binding) (f : Term) → AllMayBeBound l ws → Typed globs (under_all c ws) l ty.Bool f → Typed globs c l ty.Bool (over_all q ws f)
   over_all_typed c q [] f h m = m
   over_all_typed c q (w ∷ ws) f h m = over_typed c q w.kind (over_all q ws f) h.0 (over_all_typed (under_one c w.kind) q ws f h.1 m)

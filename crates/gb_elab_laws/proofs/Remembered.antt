@@ -22,17 +22,17 @@ use Rattle.gb_typed.specs.Typing.{binder, IsMemory, IsSide}
 use Rattle.gb_typed.specs.Typing.Binder.{program}
 use Rattle.gb_typing.specs.Context.{Context, erased, frame_of}
 use Rattle.gb_typing.specs.Typing.{IsFrame, IsPlace}
-use Rattle.gb_elab_laws.specs.Fitting.{has_globs, IsBoundTo, IsBoundName, IsFitting}
+use Rattle.gb_elab_laws.specs.Fitting.{reads_globals, IsBoundTo, IsBoundName, IsFitting}
 use Rattle.gb_elab_laws.proofs.Found.{found_bound}
 use Rattle.gb_elab_laws.proofs.Given.{counted_is, given_bind, given_is, if_refused, not_given}
 
--- where named memories may be read, types of globals may stand
-pub remembered_globs : (l : Language) → has_memories l ≡ true → has_globs l ≡ true
-remembered_globs Formula h = refl
-remembered_globs Function h = refl
-remembered_globs Program h = refl
-remembered_globs Sampled h = refl
-remembered_globs Operator h = cc
+-- where named memories may be read, so may globals
+pub remembered_globals : (l : Language) → has_memories l ≡ true → reads_globals l ≡ true
+remembered_globals Formula h = refl
+remembered_globals Function h = refl
+remembered_globals Program h = refl
+remembered_globals Sampled h = refl
+remembered_globals Operator h = cc
 
 -- where judgments may stand, named memories may be read
 pub remembering : (l : Language) → has_judgments l ≡ true → has_memories l ≡ true
@@ -48,7 +48,7 @@ pub record IsNamedMemory (c : Context) (s : Side) : Type 0 where
   pub frame : IsFrame (frame_of c s)
   pub place : IsPlace s
 
-module _ (c : Context) (at : Environment) (vs : List Binding) (fit : IsFitting c at vs) (may : has_memories at.language ≡ true) where
+module _ {globs : Bool} (c : Context) (at : Environment) (vs : List Binding) (fit : IsFitting globs c at vs) (may : has_memories at.language ≡ true) where
   counted_memory : (n : ℕ) → n < length at.sequent.memories → (s : Side) → memory n ≡ given s → IsNamedMemory c s
   counted_memory n h s e =
       let i = given_bind (counted n) (λ i. given (side.Memory i)) s e in
@@ -67,7 +67,7 @@ module _ (c : Context) (at : Environment) (vs : List Binding) (fit : IsFitting c
       step n true i h = counted_memory n (ltb-true n (length at.sequent.memories) i) s h
       step n false i h = absurd (no_memory_is x p s h)
 
-  bound_memory_is : (n : ℕ) (p : Place) (k : Kind) (s : Side) → IsBoundTo (has_globs at.language) (binder (erased c) n) k → bound_memory n p k ≡ given s → IsNamedMemory c s
+  bound_memory_is : (n : ℕ) (p : Place) (k : Kind) (s : Side) → IsBoundTo globs (binder (erased c) n) k → bound_memory n p k ≡ given s → IsNamedMemory c s
   bound_memory_is n p (Value t) s b e = cc
   bound_memory_is n p Memory s b e =
       let i = given_bind (counted n) (λ i. given (side.Bound i)) s e in
@@ -79,5 +79,5 @@ module _ (c : Context) (at : Environment) (vs : List Binding) (fit : IsFitting c
   memory_is x p s e = step (innermost vs x) refl e
     where
       step : (o : Option Binding) → innermost vs x ≡ o → option_map_or (λ b. bound_memory (binders_inside vs x) p b.kind) o (context_memory at vs x p) ≡ given s → IsNamedMemory c s
-      step (Some v) i h = bound_memory_is (binders_inside vs x) p v.kind s (found_bound (has_globs at.language) vs x v i c.bound fit.bound) h
+      step (Some v) i h = bound_memory_is (binders_inside vs x) p v.kind s (found_bound globs vs x v i c.bound fit.bound) h
       step None i h = context_memory_is x p s h

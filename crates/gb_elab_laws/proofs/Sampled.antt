@@ -31,6 +31,7 @@ use Rattle.gb_steps.specs.declared.step.ChanceRule.TheVariants as with_chance_ru
 use Rattle.gb_steps.specs.declared.step.Acts.{Acts}
 use Rattle.gb_steps.specs.declared.step.Acts.TheVariants as on
 use Rattle.gb_steps.specs.declared.step.Step.{Step}
+use Rattle.gb_steps.specs.declared.step.RewriteRule.TheVariants as rewrite_rule
 use Rattle.gb_steps.specs.declared.step.UseRule.TheVariants as use_rule
 use Rattle.gb_script.specs.declared.head.Head.{Head as Kind}
 use Rattle.gb_script.specs.declared.head.Head.TheVariants as text
@@ -42,7 +43,7 @@ use Rattle.gb_typed.specs.Typing.Binder.{value}
 use Rattle.gb_typing.specs.Context.{Context, within}
 use Rattle.gb_typing.specs.Sequents.{two, of_sequent, IsTypedSequent}
 use Rattle.gb_typing.specs.Scopes.{context_of, IsTypedScope}
-use Rattle.gb_rules.specs.Typing.{IsGoalOver}
+use Rattle.gb_typing.specs.Goals.{IsGoalOver}
 use Rattle.gb_goal.specs.Answers.{Answer, ◌>>=◌}
 use Rattle.gb_goal.specs.Answers.Answer.{given}
 use Rattle.gb_names.specs.declared.setting.Language.TheVariants.{Function}
@@ -50,15 +51,16 @@ use Rattle.gb_names.specs.Environment.{Environment, ambient, of_function}
 use Rattle.gb_elab.specs.Forms.{elaborated, function}
 use Rattle.gb_elab_mod.specs.Occurring.{occurring}
 use Rattle.gb_elab_mod.specs.Steps.{acts, cut_of, last_sampled, functions, of_bodies_rule, on_all, one_type, plain_rule, conclusion_rule, conseq_rule, case_of_bodies, case_of_conclusion, formed, seq_rule, there_and_back, of_bodies, couplings, coupling_rule, functions_of, typed_rule, step_given, asked_of, chance_rule, judges_chance, symmetry_rule}
-use Rattle.gb_elab_mod.specs.Multiples.{multiples}
-use Rattle.gb_elab_mod.specs.Uses.{used}
+use Rattle.gb_elab_mod.specs.Multiples.{hypothesis_at, multiples}
+use Rattle.gb_elab_mod.specs.Uses.{all_hinted, hypothesis, used}
 use Rattle.gb_elab_mod.specs.Taken.{new_name}
 use Rattle.gb_elab_mod.specs.Steps as steps
 use Rattle.gb_elab_prog.specs.Unbuilt.{absent}
 use Rattle.gb_elab_laws.specs.Fitting.{IsFitting, IsGiven}
 use Rattle.gb_equiv.specs.Rows.{IsTypedRule}
-use Rattle.gb_rules.specs.Samplings.{Sampling, last_sampling}
+use Rattle.gb_typing.specs.Samplings.{Sampling, last_sampling}
 use Rattle.gb_equiv.specs.Rnd.{IsFunction, AreFunctions, AreBetween, AreTypedFunctions}
+use Rattle.gb_elab_laws.proofs.Contracts.{of_call}
 use Rattle.gb_elab_laws.proofs.Given.{given_bind, given_is, if_given}
 use Rattle.gb_elab_laws.proofs.Ends.{ends_agree, last_finite, occurring_in}
 use Rattle.gb_elab_laws.proofs.Fits.{function_fits}
@@ -67,13 +69,13 @@ use Rattle.gb_elab_laws.proofs.Forms.{function_typed}
 use Rattle.gb_elab_laws.proofs.Occurring.{reads_stand}
 
 -- Functions of a coupling, in a context that fits.
-module _ (c : Context) (ds : scope.Declarations) (q : Sequent) (xs ys : List TypedName) (fit : IsFitting c (of_function ds q xs ys) []) where
+module _ (c : Context) (ds : scope.Declarations) (q : Sequent) (xs ys : List TypedName) (fit : IsFitting true c (of_function ds q xs ys) []) where
   abbrev at : Environment
   at = of_function ds q xs ys
 
   one_typed : (f : Node) (a b : Ty) → IsFinite a → IsFinite b → (t : Term) → function f at a b ≡ given t → IsFunction c a b t
   one_typed f a b v w t h =
-      let g : IsGiven (within c (value a) None) Function (Some b) t = function_typed f c at fit a b v (finite_form true b w) t h in
+      let g : IsGiven true (within c (value a) None) Function (Some b) t = function_typed f c at fit a b v (finite_form true b w) t h in
       record { typed = g.typed; plain = g.plain refl; result = g.wanted }
 
   -- functions there and back; one alone is given only where both types are one
@@ -128,7 +130,7 @@ module _ (ds : scope.Declarations) (scoped : IsTypedScope (declared ds)) (q : Se
       abbrev conditions : List Term
       conditions = p ∷ k ∷ []
 
-      fits : IsFitting (two here ls rs) (of_function ds q (occurring conditions side.Left l.list) (occurring conditions side.Right r.list)) []
+      fits : IsFitting true (two here ls rs) (of_function ds q (occurring conditions side.Left l.list) (occurring conditions side.Right r.list)) []
       fits =
           function_fits ds scoped q t ls rs _ _
           (occurring_in ls here side.Left p k l.list (reads_stand (two here ls rs) p w.3.typed side.Left tt) (reads_stand (two here ls rs) k w.4.typed side.Left tt) w.1)
@@ -248,6 +250,8 @@ module _ (ds : scope.Declarations) (scoped : IsTypedScope (declared ds)) (q : Se
       of_rule text.Conseq x (b ∷ f ∷ g ∷ d ∷ []) p k us h r =
           let y = given_bind (conseq_rule ds q (acts (parts_of b)) (parts_of f) (parts_of g) (parts_of d)) (λ z. given (rule.OnBodies z)) k h in
           other (rule.OnBodies y.0) k us refl (given_is (rule.OnBodies y.0) k y.2) r
+      of_rule text.CallStep x (b ∷ n ∷ []) p k us h r =
+          of_call ds q (λ j. j ≡ rule.Relational (relational_rule.Rnd us) → Typed us) (λ s e. absurd (false≢true (ap is_relational e))) (λ e. absurd (false≢true (ap is_relational e))) (acts (parts_of b)) (head_of n) (parts_of n) p k h r
       of_rule text.PlainStep x [] p k us h r =
           let o = given_bind (conclusion_rule x p) (λ (a : AmbientRule). given (rule.Ambient a)) k h in other (rule.Ambient o.0) k us refl (given_is (rule.Ambient o.0) k o.2) r
       of_rule text.CaseStep x (b ∷ f ∷ []) p k us h r =
@@ -263,7 +267,20 @@ module _ (ds : scope.Declarations) (scoped : IsTypedScope (declared ds)) (q : Se
           let o = given_bind (new_name q (text_of m) (place_of m)) _ k h in
           let z = given_bind (used ds q n) (λ (f : Term). given (rule.Use (use_rule.Have (text_of m) f))) k o.2 in
           other (rule.Use (use_rule.Have (text_of m) z.0)) k us refl (given_is (rule.Use (use_rule.Have (text_of m) z.0)) k z.2) r
-      of_rule text.Smt x hints p k us h r = let o = given_bind (absent hints p) (λ _. given rule.Smt) k h in other rule.Smt k us refl (given_is rule.Smt k o.2) r
+      of_rule text.RewriteLemma x (n ∷ []) p k us h r =
+          let z = given_bind (used ds q n) (λ (f : Term). given (rule.Rewrite (rewrite_rule.Forward f))) k h in
+          other (rule.Rewrite (rewrite_rule.Forward z.0)) k us refl (given_is (rule.Rewrite (rewrite_rule.Forward z.0)) k z.2) r
+      of_rule text.RewriteBack x (n ∷ []) p k us h r =
+          let z = given_bind (used ds q n) (λ (f : Term). given (rule.Rewrite (rewrite_rule.Back f))) k h in
+          other (rule.Rewrite (rewrite_rule.Back z.0)) k us refl (given_is (rule.Rewrite (rewrite_rule.Back z.0)) k z.2) r
+      of_rule text.RewriteHypothesis x (n ∷ []) p k us h r =
+          let z = given_bind (hypothesis ds q (text_of n) (place_of n)) (λ (f : Term). given (rule.Rewrite (rewrite_rule.Forward f))) k h in
+          other (rule.Rewrite (rewrite_rule.Forward z.0)) k us refl (given_is (rule.Rewrite (rewrite_rule.Forward z.0)) k z.2) r
+      of_rule text.Subst x (n ∷ []) p k us h r =
+          let z = given_bind (hypothesis_at ds q (text_of n) (place_of n)) (λ (i : ℕ). given (rule.Rewrite (rewrite_rule.Subst i))) k h in
+          other (rule.Rewrite (rewrite_rule.Subst z.0)) k us refl (given_is (rule.Rewrite (rewrite_rule.Subst z.0)) k z.2) r
+      of_rule text.Smt x hints p k us h r =
+          let o = given_bind (all_hinted ds q hints) (λ (fs : List Term). given (rule.Smt fs)) k h in other (rule.Smt o.0) k us refl (given_is (rule.Smt o.0) k o.2) r
       of_rule text.Linear x hs p k us h r =
           let o = given_bind (multiples ds q hs) (λ (ms : List Multiple). given (rule.Linear ms)) k h in other (rule.Linear o.0) k us refl (given_is (rule.Linear o.0) k o.2) r
       of_rule text.Name x [] p k us h r = other (rule.Ambient (conclusion.Introduce x)) k us refl (given_is (rule.Ambient (conclusion.Introduce x)) k h) r
@@ -275,7 +292,7 @@ module _ (ds : scope.Declarations) (scoped : IsTypedScope (declared ds)) (q : Se
           let o = given_bind (elaborated e (ambient ds q) [] (asked_of (out-Term q.conclusion).head)) (λ (u : Term). given (rule.Ambient (conclusion.Witness u))) k h in
           other (rule.Ambient (conclusion.Witness o.0)) k us refl (given_is (rule.Ambient (conclusion.Witness o.0)) k o.2) r
       of_rule text.TrivialPattern x [] p k us h r = other (rule.Ambient conclusion.Trivial) k us refl (given_is (rule.Ambient conclusion.Trivial) k h) r
-      of_rule text.SmtPattern x [] p k us h r = other (rule.Smt) k us refl (given_is (rule.Smt) k h) r
+      of_rule text.SmtPattern x [] p k us h r = other (rule.Smt []) k us refl (given_is (rule.Smt []) k h) r
       of_rule _ x _ p k us h r = cc
 
 -- The functions of a typed step `rnd` are typed over the locals of the bodies.
@@ -296,10 +313,12 @@ module _ (ds : scope.Declarations) (scoped : IsTypedScope (declared ds)) (q : Se
     of_step (rule.Relational relational_rule.Symmetry) e = tt
     of_step (rule.OnBodies r) e = tt
     of_step (rule.Chance r) e = tt
-    of_step rule.Smt e = tt
+    of_step (rule.Call s) e = tt
+    of_step (rule.Smt fs) e = tt
     of_step (rule.Linear ms) e = tt
     of_step (rule.Ambient r) e = tt
     of_step (rule.Use r) e = tt
+    of_step (rule.Rewrite r) e = tt
 
 pub rule_typed : (ds : scope.Declarations) → IsTypedScope (declared ds) → (q : Sequent) (t : IsTypedSequent (context_of (declared ds)) q) → (n : Node) (s : Step) → step_given ds q n ≡ given s →
     (ls rs : List TypedName) → IsGoalOver (of_sequent (context_of (declared ds)) q t.frames) ls rs (goal_of q.conclusion) →

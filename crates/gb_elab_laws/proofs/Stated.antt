@@ -1,5 +1,5 @@
 -- What the typing of statements gives is typed.
-use Rattle.std.proofs.Common.{◌≡◌, ℕ, true, List, [], ◌∷◌, ◌++◌, map, drop, length, pred, take, Option, Some, refl, ap, sym, ◌∙◌, subst}
+use Rattle.std.proofs.Common.{◌≡◌, ℕ, true, List, [], ◌∷◌, ◌++◌, map, drop, length, pred, take, Option, Some, refl, ap, sym, ◌∙◌, subst, false}
 use Rattle.gb_core.specs.declared.place.Place.{Place}
 use Rattle.gb_core.specs.declared.refusal.Why.TheVariants.{TypeMismatch}
 use Rattle.gb_core.specs.declared.ty.Ty.{Ty}
@@ -34,11 +34,13 @@ use Rattle.gb_elab_stmt.specs.Calls.{call}
 use Rattle.gb_elab_stmt.specs.Statements.{Stating, all_stated, alone, assignment, branch, called_to, entry_stored, instruction, result_in, result_to, results_in, sampling, stated, stating, stored, stored_term, tuple_assignment, with_statings, words, written, written_to}
 use Rattle.gb_elab_stmt.specs.Targets.{targets, type_of_all, variables_of}
 use Rattle.gb_elab_prog.specs.Contexts.{nothing_around}
-use Rattle.gb_typed.specs.Finite.{IsFinite}
+use Rattle.gb_typed.specs.Finite.{IsFinite, IsVariableType}
+use Rattle.gb_typing.proofs.Variables.{variable_finite}
+use Rattle.gb_later.specs.Naming.{NoName}
 use Rattle.gb_typed.specs.Programs.{Take, variable_type}
 use Rattle.gb_typing.specs.Context.{Context, erased, of_program}
-use Rattle.gb_typing.specs.Programs.{IsExpression, IsStatement, EachStatement, HaveVariableTypes}
-use Rattle.gb_rules.proofs.Lists.{hidden_each, typed_append}
+use Rattle.gb_typing.specs.Programs.{IsExpression, HaveVariableTypes}
+use Rattle.gb_typing.proofs.Lists.{hidden_each, typed_append}
 use Rattle.gb_elab_laws.specs.Fitting.{IsFitting, IsFormType, IsGiven}
 use Rattle.gb_elab_laws.proofs.Around.{IsAround}
 use Rattle.gb_elab_laws.proofs.Around as program_around
@@ -46,9 +48,10 @@ use Rattle.gb_elab_laws.proofs.Called as of_calls
 use Rattle.gb_elab_laws.proofs.Forms.{elaborated_typed}
 use Rattle.gb_elab_laws.proofs.Given.{given_bind, given_is, none_some, some_given}
 use Rattle.gb_elab_laws.proofs.Operators.{changed}
+use Rattle.gb_elab_laws.proofs.Spoken.{hidden_speaks, speak_append}
 use Rattle.gb_elab_laws.proofs.Shapes.{drawn_form, entries_finite, finite_form}
 use Rattle.gb_elab_laws.proofs.Tested.{map_of}
-use Rattle.gb_elab_laws.proofs.Typed.{Typed, given_from, leaf, of_given, whole_leaf}
+use Rattle.gb_elab_laws.proofs.Typed.{Typed, given_from, leaf, of_given}
 use Rattle.gb_elab_laws.proofs.Types.{distributions_over}
 
 module _ (ds : Declarations) (c : Context) (m : Module) (around : IsAround ds c m) (vs : List TypedName) (typed : HaveVariableTypes vs) where
@@ -64,11 +67,17 @@ module _ (ds : Declarations) (c : Context) (m : Module) (around : IsAround ds c 
   abbrev AreTargets : List Target → Type 0
   AreTargets = program_around.AreTargets ds c m around vs typed
 
-  fits : IsFitting inner here []
+  fits : IsFitting false inner here []
   fits = program_around.fits ds c m around vs typed
 
-  expression : (w : Option Ty) (e : Term) → IsGiven inner Program w e → IsExpression c vs e
+  expression : (w : Option Ty) (e : Term) → IsGiven false inner Program w e → IsExpression c vs e
   expression = program_around.expression ds c m around vs typed
+
+  abbrev IsMade : Instr → Type 0
+  IsMade = program_around.IsMade ds c m around vs typed
+
+  abbrev AreMade : List Instr → Type 0
+  AreMade = program_around.AreMade ds c m around vs typed
 
   target_typed : (x : Name) (p : Place) (v : Target) → target here x p ≡ given v → IsTarget v
   target_typed = program_around.target_typed ds c m around vs typed
@@ -79,100 +88,103 @@ module _ (ds : Declarations) (c : Context) (m : Module) (around : IsAround ds c 
   all_finite : (ws : List Target) → AreTargets ws → IsFinite (type_of_all ws)
   all_finite = program_around.all_finite ds c m around vs typed
 
+  all_variable : (ws : List Target) → AreTargets ws → IsVariableType (type_of_all ws)
+  all_variable = program_around.all_variable ds c m around vs typed
+
   all_take : (ws : List Target) (t : Ty) → AreTargets ws → t ≡ type_of_all ws → Take (erased c) vs (variables_of ws) t
   all_take = program_around.all_take ds c m around vs typed
 
-  call_typed : (ws : List Target) → AreTargets ws → (xs es : List Node) (p : Place) (i : Instr) → call here ws xs es p ≡ given i → IsStatement c vs i
+  call_typed : (ws : List Target) → AreTargets ws → (xs es : List Node) (p : Place) (i : Instr) → call here ws xs es p ≡ given i → IsMade i
   call_typed = of_calls.call_typed ds c m around vs typed
 
-  sampling_typed : (x : Name) (ds : List Node) (p : Place) (i : Instr) → sampling here x ds p ≡ given i → IsStatement c vs i
+  sampling_typed : (x : Name) (ds : List Node) (p : Place) (i : Instr) → sampling here x ds p ≡ given i → IsMade i
   unfolding sampling
   sampling_typed x (d ∷ []) p i h =
       let v = given_bind (target here x p) _ i h in
       let from = given_bind (elaborated d here [] (Some (ty.Distr v.0.1))) (λ (e : Term). given (Sample v.0.0 e)) i v.2 in
       let t = target_typed x p v.0 v.1 in
-      let g = elaborated_typed d inner here [] fits (Some (ty.Distr v.0.1)) (drawn_form true v.0.1 t.1) from.0 from.1 in
-      let k = distributions_over v.0.1 (type_of from.0) t.1 g.wanted in
+      let g = elaborated_typed d inner here [] fits (Some (ty.Distr v.0.1)) (drawn_form false v.0.1 t.1) from.0 from.1 in
+      let k = distributions_over v.0.1 (type_of from.0) (variable_finite v.0.1 t.1) g.wanted in
       let made : variable_type (erased c) vs v.0.0 ≡ Some (outcome_type (type_of from.0)) = t.0 ∙ ap Some (sym k.1) in
-      subst (IsStatement c vs) {x = Sample v.0.0 from.0} (given_is (Sample v.0.0 from.0) i from.2) (expression (Some (ty.Distr v.0.1)) from.0 g, k.0, made)
+      subst (IsMade) {x = Sample v.0.0 from.0} (given_is (Sample v.0.0 from.0) i from.2) ((expression (Some (ty.Distr v.0.1)) from.0 g, k.0, made), g.apart refl)
   sampling_typed x [] p i h = cc
   sampling_typed x (d ∷ e ∷ es) p i h = cc
 
-  assignment_typed : (x : Name) (es : List Node) (p : Place) (i : Instr) → assignment here x es p ≡ given i → IsStatement c vs i
+  assignment_typed : (x : Name) (es : List Node) (p : Place) (i : Instr) → assignment here x es p ≡ given i → IsMade i
   unfolding assignment
   assignment_typed x (e ∷ []) p i h =
       let v = given_bind (target here x p) _ i h in
       let u = given_bind (elaborated e here [] (Some v.0.1)) (λ (u : Term). given (Assign (v.0.0 ∷ []) u)) i v.2 in
       let t = target_typed x p v.0 v.1 in
-      let g = elaborated_typed e inner here [] fits (Some v.0.1) (finite_form true v.0.1 t.1) u.0 u.1 in
+      let g = elaborated_typed e inner here [] fits (Some v.0.1) (finite_form false v.0.1 t.1) u.0 u.1 in
       let made : variable_type (erased c) vs v.0.0 ≡ Some (type_of u.0) = t.0 ∙ ap Some (sym g.wanted) in
-      let finite : IsFinite (type_of u.0) = subst IsFinite (sym g.wanted) t.1 in
-      subst (IsStatement c vs) {x = Assign (v.0.0 ∷ []) u.0} (given_is (Assign (v.0.0 ∷ []) u.0) i u.2)
-      (record { expression = expression (Some v.0.1) u.0 g; finite = finite }, made)
+      let finite : IsFinite (type_of u.0) = subst IsFinite (sym g.wanted) (variable_finite v.0.1 t.1) in
+      subst (IsMade) {x = Assign (v.0.0 ∷ []) u.0} (given_is (Assign (v.0.0 ∷ []) u.0) i u.2)
+      ((record { expression = expression (Some v.0.1) u.0 g; finite = finite }, made), g.apart refl)
   assignment_typed x [] p i h = cc
   assignment_typed x (d ∷ e ∷ es) p i h = cc
 
-  tuple_typed : (ts es : List Node) (p : Place) (i : Instr) → tuple_assignment here ts es p ≡ given i → IsStatement c vs i
+  tuple_typed : (ts es : List Node) (p : Place) (i : Instr) → tuple_assignment here ts es p ≡ given i → IsMade i
   unfolding tuple_assignment
   tuple_typed ts (e ∷ []) p i h =
       let ws = given_bind (targets here [] ts) _ i h in
       let u = given_bind (elaborated e here [] (Some (type_of_all ws.0))) (λ (u : Term). given (Assign (variables_of ws.0) u)) i ws.2 in
       let k = targets_typed [] ws.0 ts tt ws.1 in
-      let g = elaborated_typed e inner here [] fits (Some (type_of_all ws.0)) (finite_form true (type_of_all ws.0) (all_finite ws.0 k)) u.0 u.1 in
+      let g = elaborated_typed e inner here [] fits (Some (type_of_all ws.0)) (finite_form false (type_of_all ws.0) (all_variable ws.0 k)) u.0 u.1 in
       let finite : IsFinite (type_of u.0) = subst IsFinite (sym g.wanted) (all_finite ws.0 k) in
-      subst (IsStatement c vs) {x = Assign (variables_of ws.0) u.0} (given_is (Assign (variables_of ws.0) u.0) i u.2)
-      (record { expression = expression (Some (type_of_all ws.0)) u.0 g; finite = finite }, all_take ws.0 (type_of u.0) k g.wanted)
+      subst (IsMade) {x = Assign (variables_of ws.0) u.0} (given_is (Assign (variables_of ws.0) u.0) i u.2)
+      ((record { expression = expression (Some (type_of_all ws.0)) u.0 g; finite = finite }, all_take ws.0 (type_of u.0) k g.wanted), g.apart refl)
   tuple_typed ts [] p i h = cc
   tuple_typed ts (d ∷ e ∷ es) p i h = cc
 
   -- calls whose results variables take
-  result_typed : (ws : List Target) → AreTargets ws → (k : Head) (xs : List Node) (p : Place) (i : Instr) → result_to here ws k xs p ≡ given i → IsStatement c vs i
+  result_typed : (ws : List Target) → AreTargets ws → (k : Head) (xs : List Node) (p : Place) (i : Instr) → result_to here ws k xs p ≡ given i → IsMade i
   result_typed ws w head.Call xs p i h = call_typed ws w (words xs) (written xs) p i h
   result_typed ws w _ xs p i h = cc
 
-  called_typed : (ws : List Target) → AreTargets ws → (ks : List Node) (p : Place) (i : Instr) → called_to here ws ks p ≡ given i → IsStatement c vs i
+  called_typed : (ws : List Target) → AreTargets ws → (ks : List Node) (p : Place) (i : Instr) → called_to here ws ks p ≡ given i → IsMade i
   called_typed ws w (k ∷ []) p i h = result_typed ws w (head_of k) (parts_of k) (place_of k) i h
   called_typed ws w [] p i h = cc
   called_typed ws w (k ∷ l ∷ ks) p i h = cc
 
-  result_in_typed : (x : Name) (ks : List Node) (p : Place) (i : Instr) → result_in here x ks p ≡ given i → IsStatement c vs i
+  result_in_typed : (x : Name) (ks : List Node) (p : Place) (i : Instr) → result_in here x ks p ≡ given i → IsMade i
   unfolding result_in
   result_in_typed x ks p i h =
       let v = given_bind (target here x p) (λ (v : Target). called_to here (v ∷ []) ks p) i h in called_typed (v.0 ∷ []) (target_typed x p v.0 v.1, tt) ks p i v.2
 
-  results_in_typed : (ts ks : List Node) (p : Place) (i : Instr) → results_in here ts ks p ≡ given i → IsStatement c vs i
+  results_in_typed : (ts ks : List Node) (p : Place) (i : Instr) → results_in here ts ks p ≡ given i → IsMade i
   unfolding results_in
   results_in_typed ts ks p i h =
       let ws = given_bind (targets here [] ts) (λ (ws : List Target). called_to here ws ks p) i h in called_typed ws.0 (targets_typed [] ws.0 ts tt ws.1) ks p i ws.2
 
-  written_typed : (ts : List Node) (k : Head) (es : List Node) (p : Place) (i : Instr) → written_to here ts k es p ≡ given i → IsStatement c vs i
+  written_typed : (ts : List Node) (k : Head) (es : List Node) (p : Place) (i : Instr) → written_to here ts k es p ≡ given i → IsMade i
   written_typed ts head.Assign es p i h = tuple_typed ts es p i h
   written_typed ts head.AssignCall ks p i h = results_in_typed ts ks p i h
   written_typed ts _ es p i h = cc
 
   -- a variable is read in the own memory
-  read_typed : (v : Target) → IsTarget v → Typed inner Program v.1 (node (Read (read_of.Program v.0 side.Own)) [] v.1)
-  read_typed (Local x, t) h = leaf inner Program (Read (read_of.Program (Local x) side.Own)) t (finite_form true t h.1) (tt, h.1) h.0 tt (λ e. (tt, e))
-  read_typed (Global m x, t) h = whole_leaf inner Program refl (Read (read_of.Program (Global m x) side.Own)) t (finite_form true t h.1) (tt, h.1, h.0) (tt, h.0) tt
+  read_typed : (v : Target) → IsTarget v → Typed false inner Program v.1 (node (Read (read_of.Program v.0 side.Own)) [] v.1)
+  read_typed (Local x, t) h = leaf inner Program (Read (read_of.Program (Local x) side.Own)) t (finite_form false t h.1) (tt, variable_finite t h.1) h.0 tt (λ e. (tt, e))
+  read_typed (Global m x, t) h = leaf inner Program (Read (read_of.Program (Global m x) side.Own)) t (finite_form false t h.1) (tt, variable_finite t h.1, h.0) (tt, h.0) tt (λ e. (tt, e))
   read_typed (Glob a, t) h = none_some t h.0
 
-  entry_typed : (v : Target) → IsTarget v → (t : Ty × Ty) → v.1 ≡ ty.Map t.0 t.1 → (k e : Node) (i : Instr) → entry_stored here v t k e ≡ given i → IsStatement c vs i
+  entry_typed : (v : Target) → IsTarget v → (t : Ty × Ty) → v.1 ≡ ty.Map t.0 t.1 → (k e : Node) (i : Instr) → entry_stored here v t k e ≡ given i → IsMade i
   unfolding entry_stored
   entry_typed v o t is k e i h =
       let a = given_bind (elaborated k here [] (Some t.0)) _ i h in
       let b = given_bind (elaborated e here [] (Some t.1)) (λ (b : Term). given (Assign (v.0 ∷ []) (stored_term v a.0 b))) i a.2 in
-      let parts = entries_finite true t.0 t.1 (subst (IsFormType true) is (finite_form true v.1 o.1)) in
-      let y = elaborated_typed k inner here [] fits (Some t.0) (finite_form true t.0 parts.0) a.0 a.1 in
-      let z = elaborated_typed e inner here [] fits (Some t.1) (finite_form true t.1 parts.1) b.0 b.1 in
-      let made : Typed inner Program v.1 (stored_term v a.0 b.0) =
-      subst (λ u. Typed inner Program u (applied op.Set (node (Read (read_of.Program v.0 side.Own)) [] v.1 ∷ a.0 ∷ b.0 ∷ []) u)) (sym is)
-      (changed inner Program t.0 t.1 _ a.0 b.0 (subst (λ u. Typed inner Program u (node (Read (read_of.Program v.0 side.Own)) [] v.1)) is (read_typed v o)) (of_given inner Program t.0 a.0 y) (of_given inner Program t.1 b.0 z)) in
+      let parts = entries_finite false t.0 t.1 (subst (IsFormType false) is (finite_form false v.1 o.1)) in
+      let y = elaborated_typed k inner here [] fits (Some t.0) (finite_form false t.0 parts.0) a.0 a.1 in
+      let z = elaborated_typed e inner here [] fits (Some t.1) (finite_form false t.1 parts.1) b.0 b.1 in
+      let made : Typed false inner Program v.1 (stored_term v a.0 b.0) =
+      subst (λ u. Typed false inner Program u (applied op.Set (node (Read (read_of.Program v.0 side.Own)) [] v.1 ∷ a.0 ∷ b.0 ∷ []) u)) (sym is)
+      (changed inner Program t.0 t.1 _ a.0 b.0 (subst (λ u. Typed false inner Program u (node (Read (read_of.Program v.0 side.Own)) [] v.1)) is (read_typed v o)) (of_given inner Program t.0 a.0 y) (of_given inner Program t.1 b.0 z)) in
       let g = given_from inner Program (Some v.1) v.1 (stored_term v a.0 b.0) made refl in
-      let finite : IsFinite (type_of (stored_term v a.0 b.0)) = subst IsFinite (sym g.wanted) o.1 in
-      subst (IsStatement c vs) {x = Assign (v.0 ∷ []) (stored_term v a.0 b.0)} (given_is (Assign (v.0 ∷ []) (stored_term v a.0 b.0)) i b.2)
-      (record { expression = expression (Some v.1) (stored_term v a.0 b.0) g; finite = finite }, o.0 ∙ ap Some (sym g.wanted))
+      let finite : IsFinite (type_of (stored_term v a.0 b.0)) = subst IsFinite (sym g.wanted) (variable_finite v.1 o.1) in
+      subst (IsMade) {x = Assign (v.0 ∷ []) (stored_term v a.0 b.0)} (given_is (Assign (v.0 ∷ []) (stored_term v a.0 b.0)) i b.2)
+      ((record { expression = expression (Some v.1) (stored_term v a.0 b.0) g; finite = finite }, o.0 ∙ ap Some (sym g.wanted)), g.apart refl)
 
-  stored_typed : (x : Name) (ts : List Node) (p : Place) (i : Instr) → stored here x ts p ≡ given i → IsStatement c vs i
+  stored_typed : (x : Name) (ts : List Node) (p : Place) (i : Instr) → stored here x ts p ≡ given i → IsMade i
   unfolding stored
   stored_typed x (k ∷ e ∷ []) p i h =
       let v = given_bind (target here x p) _ i h in
@@ -183,7 +195,7 @@ module _ (ds : Declarations) (c : Context) (m : Module) (around : IsAround ds c 
   stored_typed x (k ∷ []) p i h = cc
   stored_typed x (k ∷ e ∷ d ∷ ds) p i h = cc
 
-  instruction_typed : (k : Head) (xs : List Node) (p : Place) (i : Instr) → instruction here k xs p ≡ given i → IsStatement c vs i
+  instruction_typed : (k : Head) (xs : List Node) (p : Place) (i : Instr) → instruction here k xs p ≡ given i → IsMade i
   instruction_typed head.Sample xs p i h = sampling_typed (path (words xs)) (written xs) p i h
   instruction_typed head.Assign xs p i h = assignment_typed (path (words xs)) (written xs) p i h
   instruction_typed head.Store xs p i h = stored_typed (path (take (pred (pred (length xs))) xs)) (drop (pred (pred (length xs))) xs) p i h
@@ -192,9 +204,12 @@ module _ (ds : Declarations) (c : Context) (m : Module) (around : IsAround ds c 
   instruction_typed head.TupleStatement (ts ∷ w ∷ []) p i h = written_typed (parts_of ts) (head_of w) (parts_of w) p i h
   instruction_typed _ xs p i h = cc
 
+  both_made : (is js : List Instr) → AreMade is → AreMade js → AreMade (is ++ js)
+  both_made is js h k = (typed_append c vs is js h.0 k.0, speak_append NoName is js h.1 k.1)
+
   -- what gives typed statements
   abbrev Gives : Stating → Type 0
-  Gives f = (is : List Instr) → f here ≡ given is → EachStatement c vs is
+  Gives f = (is : List Instr) → f here ≡ given is → AreMade is
 
   abbrev Known : Type 0
   Known = (n : Node) × Gives (stated n)
@@ -202,26 +217,28 @@ module _ (ds : Declarations) (c : Context) (m : Module) (around : IsAround ds c 
   abbrev parts : List Known → List (Node × Stating)
   parts ks = map (λ k. (k.0, stated k.0)) ks
 
-  alone_typed : (k : Head) (xs : List Node) (p : Place) (is : List Instr) → alone (instruction here k xs p) ≡ given is → EachStatement c vs is
+  alone_typed : (k : Head) (xs : List Node) (p : Place) (is : List Instr) → alone (instruction here k xs p) ≡ given is → AreMade is
   alone_typed k xs p is h =
       let i = given_bind (instruction here k xs p) (λ i. given (i ∷ [])) is h in
-      subst (EachStatement c vs) {x = i.0 ∷ []} (given_is (i.0 ∷ []) is i.2) (instruction_typed k xs p i.0 i.1, tt)
+      subst (AreMade) {x = i.0 ∷ []} (given_is (i.0 ∷ []) is i.2) ((let w = instruction_typed k xs p i.0 i.1 in (w.0, tt)), (let w = instruction_typed k xs p i.0 i.1 in (w.1, tt)))
 
-  branch_typed : (e : Node) (a b : Stating) → Gives a → Gives b → (is : List Instr) → branch here e a b ≡ given is → EachStatement c vs is
+  branch_typed : (e : Node) (a b : Stating) → Gives a → Gives b → (is : List Instr) → branch here e a b ≡ given is → AreMade is
   branch_typed e a b f g is h =
       let t = given_bind (elaborated e here [] (Some ty.Bool)) _ is h in
       let y = given_bind (a here) _ is t.2 in
       let n = given_bind (b here) (λ js. given (If t.0 (record { list = y.0 }) (record { list = js }) ∷ [])) is y.2 in
       let k = elaborated_typed e inner here [] fits (Some ty.Bool) tt t.0 t.1 in
-      subst (EachStatement c vs) (given_is (If t.0 (record { list = y.0 }) (record { list = n.0 }) ∷ []) is n.2)
-      (((expression (Some ty.Bool) t.0 k, k.wanted), hidden_each c vs y.0 (f y.0 y.1), hidden_each c vs n.0 (g n.0 n.1)), tt)
+      subst (AreMade) (given_is (If t.0 (record { list = y.0 }) (record { list = n.0 }) ∷ []) is n.2)
+      (let l = f y.0 y.1 in
+      let r = g n.0 n.1 in
+      ((((expression (Some ty.Bool) t.0 k, k.wanted), hidden_each c vs y.0 l.0, hidden_each c vs n.0 r.0), tt), ((k.apart refl, hidden_speaks NoName y.0 l.1, hidden_speaks NoName n.0 r.1), tt)))
 
-  list_typed : (ks : List Known) (is : List Instr) → all_stated (parts ks) here ≡ given is → EachStatement c vs is
-  list_typed [] is h = subst (EachStatement c vs) (given_is [] is h) tt
+  list_typed : (ks : List Known) (is : List Instr) → all_stated (parts ks) here ≡ given is → AreMade is
+  list_typed [] is h = subst (AreMade) (given_is [] is h) (tt, tt)
   list_typed (k ∷ ks) is h =
       let i = given_bind (stated k.0 here) (λ i. all_stated (parts ks) here >>= λ js. given (i ++ js)) is h in
       let js = given_bind (all_stated (parts ks) here) (λ js. given (i.0 ++ js)) is i.2 in
-      subst (EachStatement c vs) (given_is (i.0 ++ js.0) is js.2) (typed_append c vs i.0 js.0 (k.1 i.0 i.1) (list_typed ks js.0 js.1))
+      subst (AreMade) (given_is (i.0 ++ js.0) is js.2) (both_made i.0 js.0 (k.1 i.0 i.1) (list_typed ks js.0 js.1))
 
   of_parts : (k : Head) (x : List ℕ) (ks : List Known) (p : Place) → Gives (stating k (parts ks) p)
   of_parts head.If x (e ∷ a ∷ b ∷ []) p is h = branch_typed e.0 (stated a.0) (stated b.0) a.1 b.1 is h
@@ -234,9 +251,9 @@ module _ (ds : Declarations) (c : Context) (m : Module) (around : IsAround ds c 
   statement_typed = by_parts (λ h x ps p. stating h ps p) Gives of_parts
 
   -- statements of a text
-  pub statements_typed : (ss : List Node) (is : List Instr) → all_stated (with_statings ss) here ≡ given is → EachStatement c vs is
-  statements_typed [] is h = subst (EachStatement c vs) (given_is [] is h) tt
+  pub statements_typed : (ss : List Node) (is : List Instr) → all_stated (with_statings ss) here ≡ given is → AreMade is
+  statements_typed [] is h = subst (AreMade) (given_is [] is h) (tt, tt)
   statements_typed (s ∷ ss) is h =
       let i = given_bind (stated s here) (λ i. all_stated (with_statings ss) here >>= λ js. given (i ++ js)) is h in
       let js = given_bind (all_stated (with_statings ss) here) (λ js. given (i.0 ++ js)) is i.2 in
-      subst (EachStatement c vs) (given_is (i.0 ++ js.0) is js.2) (typed_append c vs i.0 js.0 (statement_typed s i.0 i.1) (statements_typed ss js.0 js.1))
+      subst (AreMade) (given_is (i.0 ++ js.0) is js.2) (both_made i.0 js.0 (statement_typed s i.0 i.1) (statements_typed ss js.0 js.1))

@@ -1,6 +1,5 @@
 -- Typed terms in contexts that fit.
-use Rattle.std.proofs.Common.{◌≡◌, true, false, List, [], ◌∷◌, Option, Some, refl, sym, ◌∙◌, subst}
-use Rattle.std.proofs.lemmas.Bool.{false≢true}
+use Rattle.std.proofs.Common.{◌≡◌, true, false, List, [], ◌∷◌, Option, Some, refl, sym, ◌∙◌, subst, Bool}
 use Rattle.gb_core.specs.declared.place.Place.{Place}
 use Rattle.gb_core.specs.declared.ty.Ty.{Ty}
 use Rattle.gb_core.specs.declared.ty.Ty.TheVariants.{Bool as bool_ty}
@@ -27,7 +26,7 @@ use Rattle.gb_names.specs.Wanted.{truth, wanted}
 use Rattle.gb_goal.specs.Answers.Answer.{given}
 use Rattle.gb_names.specs.declared.setting.Language.{Language}
 use Rattle.gb_names.specs.Allowed.{has_judgments}
-use Rattle.gb_elab_laws.specs.Fitting.{has_globs, IsFormType, IsWanted, IsGiven}
+use Rattle.gb_elab_laws.specs.Fitting.{IsFormType, IsWanted, IsGiven}
 use Rattle.gb_elab_laws.proofs.Given.{wanted_is, truth_is}
 use Rattle.gb_elab_laws.proofs.Shapes.{globless}
 
@@ -38,105 +37,96 @@ pub apart_node : (h : Head) (ts : List Term) (ty : Ty) → HeadNames NoName AnyN
 apart_node h ts ty k p = subst (TermNames NoName AnyName) (term_is_node h ts ty) (k, p)
 
 -- a well-typed term, written with a type that a form may have
-pub record Typed (c : Context) (l : Language) (ty : Ty) (t : Term) : Type 0 where
+pub record Typed (globs : Bool) (c : Context) (l : Language) (ty : Ty) (t : Term) : Type 0 where
   pub made : Made c ty t
-  pub type : IsFormType (has_globs l) ty
+  pub type : IsFormType globs ty
   pub plain : has_judgments l ≡ false → IsPlain t
-  pub apart : has_globs l ≡ false → TermNames NoName AnyName t
+  pub apart : globs ≡ false → TermNames NoName AnyName t
 
--- the types of a language without types of globals speak of no module
-pub no_globs : (l : Language) (ty : Ty) → IsFormType (has_globs l) ty → has_globs l ≡ false → EachGlob NoName ty
-no_globs l ty f p = globless ty (subst (λ b. IsFormType b ty) p f)
+-- types without types of globals speak of no module
+pub no_globs : (globs : Bool) (ty : Ty) → IsFormType globs ty → globs ≡ false → EachGlob NoName ty
+no_globs globs ty f p = globless ty (subst (λ b. IsFormType b ty) p f)
 
-module _ (c : Context) (l : Language) where
-  -- the same, of some type
-  abbrev pub IsSome : Term → Type 0
-  IsSome t = (ty : Ty) × Typed c l ty t
+-- the same, of some type
+abbrev pub IsSome : Bool → Context → Language → Term → Type 0
+IsSome globs c l t = (ty : Ty) × Typed globs c l ty t
 
-  pub given_from : (w : Option Ty) (ty : Ty) (t : Term) → Typed c l ty t → IsWanted w ty → IsGiven c l w t
+module _ {globs : Bool} (c : Context) (l : Language) where
+  pub given_from : (w : Option Ty) (ty : Ty) (t : Term) → Typed globs c l ty t → IsWanted w ty → IsGiven globs c l w t
   given_from w ty t m h = record {
     typed = m.made.typed;
-    type = subst (IsFormType (has_globs l)) (sym m.made.written) m.type;
+    type = subst (IsFormType globs) (sym m.made.written) m.type;
     wanted = subst (IsWanted w) (sym m.made.written) h;
     plain = m.plain;
     apart = m.apart;
   }
 
-  pub of_given : (ty : Ty) (t : Term) → IsGiven c l (Some ty) t → Typed c l ty t
+  pub of_given : (ty : Ty) (t : Term) → IsGiven globs c l (Some ty) t → Typed globs c l ty t
   of_given ty t g = record {
     made = record { typed = g.typed; written = g.wanted };
-    type = subst (IsFormType (has_globs l)) g.wanted g.type;
+    type = subst (IsFormType globs) g.wanted g.type;
     plain = g.plain;
     apart = g.apart;
   }
 
-  pub of_any : (w : Option Ty) (t : Term) → IsGiven c l w t → Typed c l (type_of t) t
+  pub of_any : (w : Option Ty) (t : Term) → IsGiven globs c l w t → Typed globs c l (type_of t) t
   of_any w t g = record { made = record { typed = g.typed; written = refl }; type = g.type; plain = g.plain; apart = g.apart }
 
   -- a term, where a type is wanted
-  pub wanted_given : (w : Option Ty) (p : Place) (t u : Term) → IsSome t → wanted w p t ≡ given u → IsGiven c l w u
+  pub wanted_given : (w : Option Ty) (p : Place) (t u : Term) → IsSome globs c l t → wanted w p t ≡ given u → IsGiven globs c l w u
   wanted_given w p t u m h =
       let q = wanted_is w p t u h in
-      subst (IsGiven c l w) q.1 (given_from w m.0 t m.1 (subst (IsWanted w) m.1.made.written q.0))
+      subst (IsGiven globs c l w) q.1 (given_from w m.0 t m.1 (subst (IsWanted w) m.1.made.written q.0))
 
   -- a form, where a type is wanted that a truth may have
-  pub truth_given : (w : Option Ty) (p : Place) (x : Unit {0}) (t : Term) → truth w p ≡ given x → Typed c l bool_ty t → IsGiven c l w t
+  pub truth_given : (w : Option Ty) (p : Place) (x : Unit {0}) (t : Term) → truth w p ≡ given x → Typed globs c l bool_ty t → IsGiven globs c l w t
   truth_given w p x t h m = given_from w bool_ty t m (truth_is w p x h)
 
-  -- a term without arguments, where types of globals may stand
-  pub whole_leaf : has_globs l ≡ true → (h : Head) (ty : Ty) → IsFormType (has_globs l) ty → IsHead (erased c) h [] ty → IsNamed c h ty → HeadIsPlain h → Typed c l ty (node h [] ty)
-  whole_leaf w h ty f k s p = record {
-    made = made_node c h [] [] ty k s [] tt;
-    type = f;
-    plain = λ _. plain_node h [] ty p tt;
-    apart = λ q. absurd (false≢true (sym q ∙ w));
-  }
-
   -- a term without arguments
-  pub leaf : (h : Head) (ty : Ty) → IsFormType (has_globs l) ty → IsHead (erased c) h [] ty → IsNamed c h ty → HeadIsPlain h →
-      (EachGlob NoName ty → HeadNames NoName AnyName h ty) → Typed c l ty (node h [] ty)
+  pub leaf : (h : Head) (ty : Ty) → IsFormType globs ty → IsHead (erased c) h [] ty → IsNamed c h ty → HeadIsPlain h →
+      (EachGlob NoName ty → HeadNames NoName AnyName h ty) → Typed globs c l ty (node h [] ty)
   leaf h ty f k s p n = record {
     made = made_node c h [] [] ty k s [] tt;
     type = f;
     plain = λ _. plain_node h [] ty p tt;
-    apart = λ q. apart_node h [] ty (n (no_globs l ty f q)) tt;
+    apart = λ q. apart_node h [] ty (n (no_globs globs ty f q)) tt;
   }
 
   -- an operator of one argument, of two, and of three
-  pub operated : (o : Op) (a ty : Ty) (x : Term) → IsFormType (has_globs l) ty → IsOperator o (a ∷ []) ty → Typed c l a x → Typed c l ty (applied o (x ∷ []) ty)
+  pub operated : (o : Op) (a ty : Ty) (x : Term) → IsFormType globs ty → IsOperator o (a ∷ []) ty → Typed globs c l a x → Typed globs c l ty (applied o (x ∷ []) ty)
   operated o a ty x f k m = record {
     made = made_node c (Builtin o) (a ∷ []) (x ∷ []) ty k tt [] m.made;
     type = f;
     plain = λ p. plain_node (Builtin o) (x ∷ []) ty tt (m.plain p, tt);
-    apart = λ p. apart_node (Builtin o) (x ∷ []) ty (no_globs l ty f p) (m.apart p, tt);
+    apart = λ p. apart_node (Builtin o) (x ∷ []) ty (no_globs globs ty f p) (m.apart p, tt);
   }
 
-  pub combined : (o : Op) (a b ty : Ty) (x y : Term) → IsFormType (has_globs l) ty → IsOperator o (a ∷ b ∷ []) ty → Typed c l a x → Typed c l b y →
-      Typed c l ty (applied o (x ∷ y ∷ []) ty)
+  pub combined : (o : Op) (a b ty : Ty) (x y : Term) → IsFormType globs ty → IsOperator o (a ∷ b ∷ []) ty → Typed globs c l a x → Typed globs c l b y →
+      Typed globs c l ty (applied o (x ∷ y ∷ []) ty)
   combined o a b ty x y f k m n = record {
     made = made_node c (Builtin o) (a ∷ b ∷ []) (x ∷ y ∷ []) ty k tt [] (m.made, n.made);
     type = f;
     plain = λ p. plain_node (Builtin o) (x ∷ y ∷ []) ty tt (m.plain p, (n.plain p, tt));
-    apart = λ p. apart_node (Builtin o) (x ∷ y ∷ []) ty (no_globs l ty f p) (m.apart p, (n.apart p, tt));
+    apart = λ p. apart_node (Builtin o) (x ∷ y ∷ []) ty (no_globs globs ty f p) (m.apart p, (n.apart p, tt));
   }
 
-  pub of_three : (o : Op) (a b d ty : Ty) (x y z : Term) → IsFormType (has_globs l) ty → IsOperator o (a ∷ b ∷ d ∷ []) ty → Typed c l a x → Typed c l b y → Typed c l d z →
-      Typed c l ty (applied o (x ∷ y ∷ z ∷ []) ty)
+  pub of_three : (o : Op) (a b d ty : Ty) (x y z : Term) → IsFormType globs ty → IsOperator o (a ∷ b ∷ d ∷ []) ty → Typed globs c l a x → Typed globs c l b y → Typed globs c l d z →
+      Typed globs c l ty (applied o (x ∷ y ∷ z ∷ []) ty)
   of_three o a b d ty x y z f k m n r = record {
     made = made_node c (Builtin o) (a ∷ b ∷ d ∷ []) (x ∷ y ∷ z ∷ []) ty k tt [] (m.made, (n.made, r.made));
     type = f;
     plain = λ p. plain_node (Builtin o) (x ∷ y ∷ z ∷ []) ty tt (m.plain p, (n.plain p, (r.plain p, tt)));
-    apart = λ p. apart_node (Builtin o) (x ∷ y ∷ z ∷ []) ty (no_globs l ty f p) (m.apart p, (n.apart p, (r.apart p, tt)));
+    apart = λ p. apart_node (Builtin o) (x ∷ y ∷ z ∷ []) ty (no_globs globs ty f p) (m.apart p, (n.apart p, (r.apart p, tt)));
   }
 
 -- terms of these types
-abbrev pub EachTyped : Context → Language → List Ty → List Term → Type 0
-EachTyped c l [] [] = Unit {0}
-EachTyped c l (u ∷ us) (t ∷ ts) = Typed c l u t × EachTyped c l us ts
-EachTyped c l _ _ = ⊥
+abbrev pub EachTyped : Bool → Context → Language → List Ty → List Term → Type 0
+EachTyped globs c l [] [] = Unit {0}
+EachTyped globs c l (u ∷ us) (t ∷ ts) = Typed globs c l u t × EachTyped globs c l us ts
+EachTyped globs c l _ _ = ⊥
 
-module _ (c : Context) (l : Language) where
-  each_made : (us : List Ty) (ts : List Term) → EachTyped c l us ts → EachMade c c c us ts
+module _ (globs : Bool) (c : Context) (l : Language) where
+  each_made : (us : List Ty) (ts : List Term) → EachTyped globs c l us ts → EachMade c c c us ts
   each_made [] [] m = tt
   each_made [] (t ∷ ts) m = absurd m
   each_made (u ∷ us) [] m = absurd m
@@ -145,29 +135,29 @@ module _ (c : Context) (l : Language) where
   each_made (u ∷ v ∷ us) (t ∷ []) m = absurd m.1
   each_made (u ∷ v ∷ us) (t ∷ s ∷ ts) m = (m.0.made, each_made (v ∷ us) (s ∷ ts) m.1)
 
-  each_plain : (us : List Ty) (ts : List Term) → EachTyped c l us ts → has_judgments l ≡ false → AllPlain (row ts)
+  each_plain : (us : List Ty) (ts : List Term) → EachTyped globs c l us ts → has_judgments l ≡ false → AllPlain (row ts)
   each_plain [] [] m p = tt
   each_plain [] (t ∷ ts) m p = absurd m
   each_plain (u ∷ us) [] m p = absurd m
   each_plain (u ∷ us) (t ∷ ts) m p = (m.0.plain p, each_plain us ts m.1 p)
 
-  each_apart : (us : List Ty) (ts : List Term) → EachTyped c l us ts → has_globs l ≡ false → TermsName NoName AnyName (row ts)
+  each_apart : (us : List Ty) (ts : List Term) → EachTyped globs c l us ts → globs ≡ false → TermsName NoName AnyName (row ts)
   each_apart [] [] m p = tt
   each_apart [] (t ∷ ts) m p = absurd m
   each_apart (u ∷ us) [] m p = absurd m
   each_apart (u ∷ us) (t ∷ ts) m p = (m.0.apart p, each_apart us ts m.1 p)
 
   -- an operator of any number of arguments, a built-in one and one of the script
-  pub of_many : (o : Op) (us : List Ty) (ty : Ty) (ts : List Term) → IsFormType (has_globs l) ty → IsOperator o us ty → EachTyped c l us ts → Typed c l ty (applied o ts ty)
+  pub of_many : (o : Op) (us : List Ty) (ty : Ty) (ts : List Term) → IsFormType globs ty → IsOperator o us ty → EachTyped globs c l us ts → Typed globs c l ty (applied o ts ty)
   of_many o us ty ts f k m = record {
     made = made_node c (Builtin o) us ts ty k tt [] (each_made us ts m);
     type = f;
     plain = λ p. plain_node (Builtin o) ts ty tt (each_plain us ts m p);
-    apart = λ p. apart_node (Builtin o) ts ty (no_globs l ty f p) (each_apart us ts m p);
+    apart = λ p. apart_node (Builtin o) ts ty (no_globs globs ty f p) (each_apart us ts m p);
   }
 
-  pub of_script : (n : Name) (us : List Ty) (ty : Ty) (ts : List Term) → IsFormType (has_globs l) ty → c.operator n ≡ Some (record { params = us; result = ty }) → EachTyped c l us ts →
-      Typed c l ty (node (User n) ts ty)
+  pub of_script : (n : Name) (us : List Ty) (ty : Ty) (ts : List Term) → IsFormType globs ty → c.operator n ≡ Some (record { params = us; result = ty }) → EachTyped globs c l us ts →
+      Typed globs c l ty (node (User n) ts ty)
   of_script n us ty ts f k m = record {
     made = made_node c (User n) us ts ty k tt [] (each_made us ts m);
     type = f;

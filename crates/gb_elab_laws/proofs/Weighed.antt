@@ -1,5 +1,5 @@
 -- Distributions of stated weights are typed.
-use Rattle.std.proofs.Common.{◌≡◌, ℕ, ◌+◌, ◌^◌, pos, nat_lt, ◌&&◌, true, if◌then◌else◌, List, [], ◌∷◌, ◌++◌, Option, Some, None, refl, ap, sym, ◌∙◌, subst, arith}
+use Rattle.std.proofs.Common.{◌≡◌, ℕ, ◌+◌, ◌^◌, pos, nat_lt, ◌&&◌, true, if◌then◌else◌, List, [], ◌∷◌, ◌++◌, Option, Some, None, refl, ap, sym, ◌∙◌, subst, arith, Bool}
 use Rattle.std.specs.Option.{option_map_or}
 use Rattle.gb_core.specs.declared.place.Place.{Place}
 use Rattle.gb_core.specs.declared.refusal.Why.TheVariants.{Argument, DoubleName, Overflow, Syntax, TypeMismatch}
@@ -33,7 +33,7 @@ use Rattle.gb_names.specs.Wanted.{wanted}
 use Rattle.gb_operators.specs.Kinds.{outcome}
 use Rattle.gb_operators.specs.Operators.{part_wanted}
 use Rattle.gb_weights.specs.Weights.{added, built_in_constant, constant_of, is_weighed, new_constant, no_constant, outcomes, stated, sum_of, weighed, weighed_all, weight_in, weights}
-use Rattle.gb_elab_laws.specs.Fitting.{has_globs, IsFitting, IsGiven}
+use Rattle.gb_elab_laws.specs.Fitting.{IsFitting, IsGiven}
 use Rattle.gb_elab_laws.proofs.Given.{given_bind, given_is, if_allowed, if_given, if_none, if_refused, not_given}
 use Rattle.gb_elab_laws.proofs.Literals.{unit_literal}
 use Rattle.gb_elab_laws.proofs.Shapes.{drawn_form, is_drawn, outcome_is, variable_with, with_globs}
@@ -88,7 +88,7 @@ weight_above ps x p m h =
     let d = if_given (nat_lt (sum_of ps + number_of x) (2 ^ 127)) (number_of x) (Overflow (pos (sum_of ps)) (pos (number_of x))) p m b.1 in
     subst (λ z. nat_lt 0 z ≡ true) d.1 b.0
 
-module _ (c : Context) (at : Environment) (vs : List Binding) (fit : IsFitting c at vs) where
+module _ {globs : Bool} (c : Context) (at : Environment) (vs : List Binding) (fit : IsFitting globs c at vs) where
   constant_is : (x : Name) (p : Place) (k : Constant) → constant_of at vs x p ≡ given k → IsConstant k
   constant_is x p k h = step (constant_at at vs x) refl h
     where
@@ -139,14 +139,14 @@ module _ (c : Context) (at : Environment) (vs : List Binding) (fit : IsFitting c
       let all = all_weighed t (q.0 ∷ []) xs qs tt (one.1, tt) q.2 in
       (one.0, all.0, all.1)
 
-  stated_typed : (t : Ty) (qs : List Pair) → IsVariableType t → AreSome qs → AreWeighed t qs → Typed c at.language (ty.Distr t) (stated t qs)
+  stated_typed : (t : Ty) (qs : List Pair) → IsVariableType t → AreSome qs → AreWeighed t qs → Typed globs c at.language (ty.Distr t) (stated t qs)
   stated_typed t qs v s h =
-      let finite = variable_with (has_globs at.language) t v in
-      leaf c at.language (Weights qs) (ty.Distr t) (drawn_form (has_globs at.language) t finite)
-      (is_drawn t (with_globs (has_globs at.language) t finite), subst (λ z. AreLiterals z qs) (sym (outcome_is t)) (literals t qs h), have_weights t qs s h)
+      let finite = variable_with globs t v in
+      leaf c at.language (Weights qs) (ty.Distr t) (drawn_form globs t finite)
+      (is_drawn t (with_globs globs t finite), subst (λ z. AreLiterals z qs) (sym (outcome_is t)) (literals t qs h), have_weights t qs s h)
       tt tt (λ e. tt)
 
-  pub weights_typed : (xs : List Node) (p : Place) (w : Option Ty) (u : Term) → weights xs p at vs w ≡ given u → IsGiven c at.language w u
+  pub weights_typed : (xs : List Node) (p : Place) (w : Option Ty) (u : Term) → weights xs p at vs w ≡ given u → IsGiven globs c at.language w u
   weights_typed xs p w u h =
       let end = λ (t : Ty). weighed_all at vs t [] xs >>= λ ps. wanted w p (stated t ps) in
       let over = λ (v : Option Ty). outcomes at vs v xs p >>= end in

@@ -17,14 +17,13 @@ use Rattle.gb_meaning.specs.Written.{type_of, local_type}
 use Rattle.gb_changes.specs.Plain.{IsPlain}
 use Rattle.gb_holds.specs.Naming.{AnyName}
 use Rattle.gb_later.specs.Naming.{NoName, TermNames}
-use Rattle.gb_typed.specs.Finite.{AreFiniteWith, IsFiniteWith, IsFinite, IsVariableType}
+use Rattle.gb_typed.specs.Finite.{AreFiniteWith, IsFiniteWith, IsVariableType}
 use Rattle.gb_typed.specs.Operators.{item}
-use Rattle.gb_typed.specs.Programs.{HaveFiniteTypes}
 use Rattle.gb_typed.specs.Typing.{Binder, OperatorType, binder, IsBoundAt, IsLiteral, IsMemory}
 use Rattle.gb_typing.specs.Modules.{ProcedureType}
 use Rattle.gb_typing.specs.Context.{Frame, Context, erased, frame_of, procedure, local_in}
 use Rattle.gb_typing.specs.Typing.{IsFrame, IsTyped}
-use Rattle.gb_typing.specs.Programs.{type_of_procedure}
+use Rattle.gb_typing.specs.Programs.{HaveVariableTypes, type_of_procedure}
 use Rattle.gb_typing.specs.Scopes.{AreMeasured}
 use Rattle.gb_names.specs.declared.bindings.Binding.{Binding}
 use Rattle.gb_names.specs.declared.bindings.Kind.{Kind}
@@ -37,10 +36,10 @@ use Rattle.gb_names.specs.Environment.{Environment}
 use Rattle.gb_names.specs.Allowed.{has_judgments}
 use Rattle.gb_names.specs.Names.{first_named, has_memories}
 
--- whether types of the globals of modules may stand in a form
-abbrev pub has_globs : Language → Bool
-has_globs Operator = false
-has_globs _ = true
+-- whether the globals of modules may be read in a form
+abbrev pub reads_globals : Language → Bool
+reads_globals Operator = false
+reads_globals _ = true
 
 -- A type that a form may have: of values, of numbers, or of distributions over values. It is told whether types of the globals of
 -- modules may stand in it.
@@ -75,23 +74,22 @@ AllFiniteWith globs [] = Unit {0}
 AllFiniteWith globs (v ∷ vs) = IsFiniteWith globs v.ty × AllFiniteWith globs vs
 
 -- Variables that are read in a memory: there each name is a local of the same type, and all types are of values.
-pub record AreIn (f : Frame) (vs : List TypedName) : Type 0 where
+pub record AreIn (globs : Bool) (f : Frame) (vs : List TypedName) : Type 0 where
   pub memory : IsFrame f
   pub there : (x : Name) (t : Ty) → local_type vs x ≡ Some t → local_in f x ≡ Some t
-  pub finite : HaveFiniteTypes vs
+  pub finite : AllFiniteWith globs vs
 
--- The program variables of an environment are read in the memories of a context. Where no types of globals may stand there are
--- none.
-abbrev pub AreReadable : Bool → Context → Variables → Type 0
-AreReadable globs c Absent = Unit {0}
-AreReadable globs c (Own vs) = (globs ≡ true) × AreIn c.own vs
-AreReadable globs c (Sides ls rs) = (globs ≡ true) × AreIn c.left ls × AreIn c.right rs
+-- The program variables of an environment are read in the memories of a context. Where globals aren't read there are none.
+abbrev pub AreReadable : Bool → Bool → Context → Variables → Type 0
+AreReadable globs reads c Absent = Unit {0}
+AreReadable globs reads c (Own vs) = (reads ≡ true) × AreIn globs c.own vs
+AreReadable globs reads c (Sides ls rs) = (reads ≡ true) × AreIn globs c.left ls × AreIn globs c.right rs
 
--- the type of a declared procedure, whose parameters and result are values
+-- the type of a declared procedure, whose parameters and result are of types of variables
 pub record IsTypeOf (t : Option ProcedureType) (f : Proc) : Type 0 where
   pub there : t ≡ Some (type_of_procedure f)
-  pub params : HaveFiniteTypes f.params
-  pub result : IsFinite f.result
+  pub params : HaveVariableTypes f.params
+  pub result : IsVariableType f.result
 
 -- the names of types stand for types of values
 abbrev pub AreTypes : Declarations → Type 0
@@ -114,9 +112,9 @@ pub record AreDeclared (operators : Name → Option OperatorType) (ds : Declarat
   pub constants : AreConstants ds
   pub usable : (n : Name) (o : DeclaredOperator) → operator_named ds n ≡ Some o → IsUsable (operators n) o
 
--- the globals of a module stand under its name with their types, which are of values
+-- the globals of a module stand under its name with their types, which are of variables
 abbrev pub HasGlobals : (Name → Name → Option Ty) → Name → Module → Type 0
-HasGlobals globals n m = (x : Name) (v : TypedName) → first_named m.globals x ≡ Some v → (globals n v.name ≡ Some v.ty) × IsFinite v.ty
+HasGlobals globals n m = (x : Name) (v : TypedName) → first_named m.globals x ≡ Some v → (globals n v.name ≡ Some v.ty) × IsVariableType v.ty
 
 -- so do those of the module around
 abbrev pub HasGlobalsIf : (Name → Name → Option Ty) → Option Module → Type 0
@@ -126,15 +124,15 @@ HasGlobalsIf globals (Some m) = HasGlobals globals m.name m
 -- A context that fits an environment, under bound names: what the environment gives a name stands there, at types of values; what
 -- is bound, at types of forms; what is declared stands with its types, and so do the globals of the module around; where globals may
 -- be read, those of each declared module do; where judgments may stand, each declared procedure does; and where named memories may be
--- read, each memory of the sequent and each that is bound does.
-pub record IsFitting (c : Context) (at : Environment) (vs : List Binding) : Type 0 where
+-- read, each memory of the sequent and each that is bound does. It is told whether types of the globals of modules may stand.
+pub record IsFitting (globs : Bool) (c : Context) (at : Environment) (vs : List Binding) : Type 0 where
   pub logical : (i : ℕ) → c.logical i ≡ item (map (λ x. x.ty) at.sequent.logical) i
-  pub values : AllFiniteWith (has_globs at.language) at.sequent.logical
-  pub bound : AreBound (has_globs at.language) c.bound vs
-  pub variables : AreReadable (has_globs at.language) c at.variables
+  pub values : AllFiniteWith globs at.sequent.logical
+  pub bound : AreBound globs c.bound vs
+  pub variables : AreReadable globs (reads_globals at.language) c at.variables
   pub declared : AreDeclared c.operator at.declared
   pub around : HasGlobalsIf c.global at.inside
-  pub globals : has_globs at.language ≡ true → (n : Name) (m : Module) → module_of at.declared n ≡ Some m → HasGlobals c.global n m
+  pub globals : reads_globals at.language ≡ true → (n : Name) (m : Module) → module_of at.declared n ≡ Some m → HasGlobals c.global n m
   pub procedures : has_judgments at.language ≡ true → (p : ProcRef) (f : Proc) → procedure_of at.declared p ≡ Some f → IsTypeOf (procedure c p) f
   pub memories : has_memories at.language ≡ true → (i : ℕ) → i < length at.sequent.memories → (i < length c.named) × IsFrame (frame_of c (side.Memory i))
   pub frames : has_memories at.language ≡ true → (i : ℕ) → IsMemory (binder (erased c) i) → IsFrame (frame_of c (side.Bound i))
@@ -145,10 +143,10 @@ IsWanted None t = Unit {0}
 IsWanted (Some w) t = t ≡ w
 
 -- A well-typed term of a type that a form may have, which is the wanted one. Where the language has no judgments, it speaks of
--- no procedure, and where it has no types of globals, of no module.
-pub record IsGiven (c : Context) (l : Language) (w : Option Ty) (t : Term) : Type 0 where
+-- no procedure, and where types of globals may not stand, of no module.
+pub record IsGiven (globs : Bool) (c : Context) (l : Language) (w : Option Ty) (t : Term) : Type 0 where
   pub typed : IsTyped c t
-  pub type : IsFormType (has_globs l) (type_of t)
+  pub type : IsFormType globs (type_of t)
   pub wanted : IsWanted w (type_of t)
   pub plain : has_judgments l ≡ false → IsPlain t
-  pub apart : has_globs l ≡ false → TermNames NoName AnyName t
+  pub apart : globs ≡ false → TermNames NoName AnyName t

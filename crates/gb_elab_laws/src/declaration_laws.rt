@@ -11,7 +11,10 @@ ghost use Rattle.gb_goal.specs.declared.sequent.Sequent.{Sequent};
 ghost use Rattle.gb_goal.specs.Answers.Answer.{given};
 ghost use Rattle.gb_meaning.specs.Names.{Name};
 ghost use Rattle.gb_meaning.specs.Written.{type_of};
-ghost use Rattle.gb_holds.specs.Declared.{declared};
+ghost use Rattle.gb_holds.specs.Declared.{concrete_module, declared};
+ghost use Rattle.gb_later.specs.Naming.{NoName};
+ghost use Rattle.gb_models.specs.Speaking.{DeclarationSpeaks, ScopeSpeaks};
+ghost use Rattle.gb_elab_laws.specs.Procedures.{IsOfProcedures};
 ghost use Rattle.gb_holds.specs.Truth.{has_module};
 ghost use Rattle.gb_typing.specs.Sequents.{IsTypedSequent};
 ghost use Rattle.gb_typing.specs.Scopes.{context_of, is_declared, IsModule, IsTypedScope};
@@ -19,23 +22,28 @@ ghost use Rattle.gb_elab_prog.specs.Entries.{entries_given};
 ghost use Rattle.gb_elab_mod.specs.Lemmas.{lemma_name, statement_given};
 ghost use Rattle.gb_elab_prog.specs.Modules.{module_given};
 
-/// A typed scope stays typed with what a command `type` or `op` declares, none of which is a lemma.
+/// A typed scope stays typed with what a command `type` or `op` declares, none of which is a lemma. It speaks of no module's
+/// globals together.
 pub fn entries()
     ensures added { (ds : scope.Declarations) → IsTypedScope (declared ds) → (t : Node) (added : scope.Declarations) → entries_given ds t ≡ given added →
         IsTypedScope (declared (ds ++ added)) }
     ensures others { (ds : scope.Declarations) → (t : Node) (added : scope.Declarations) → entries_given ds t ≡ given added → AreNoLemmas added }
+    ensures speaks { (ds : scope.Declarations) → IsTypedScope (declared ds) → (t : Node) (added : scope.Declarations) → entries_given ds t ≡ given added →
+        ScopeSpeaks NoName (declared added) }
 {}
 
 /// What a module is typed to in a typed scope is a well-typed module under a free name, with which the scope stays typed.
+/// It speaks of no module's globals together.
 pub fn modules()
     ensures typed { (ds : scope.Declarations) → IsTypedScope (declared ds) → (t : Node) (m : Module) → module_given ds t ≡ given m → IsModule (context_of (declared ds)) m.name m }
     ensures free { (ds : scope.Declarations) → (t : Node) (m : Module) → module_given ds t ≡ given m → is_declared (declared ds) m.name ≡ false }
+    ensures speaks { (ds : scope.Declarations) → IsTypedScope (declared ds) → (t : Node) (m : Module) → module_given ds t ≡ given m → DeclarationSpeaks NoName (concrete_module m) }
     ensures added { (ds : scope.Declarations) → IsTypedScope (declared ds) → (t : Node) (m : Module) → module_given ds t ≡ given m →
         IsTypedScope (declared (ds ++ (m.name, entry.Module m) ∷ [])) }
 {}
 
 /// In a typed scope, the goal that a lemma states is a typed goal, its conclusion is a truth in front of which no module is
-/// quantified, and the lemma's name is free.
+/// quantified, and the lemma's name is free. The goal has no hypotheses, judges no bodies, and speaks of no module's globals together.
 pub fn statements()
     ensures typed { (ds : scope.Declarations) → IsTypedScope (declared ds) → (t : Node) (q : Sequent) → statement_given ds t ≡ given q →
         IsTypedSequent (context_of (declared ds)) q }
@@ -45,6 +53,8 @@ pub fn statements()
         has_module q.conclusion ≡ false }
     ensures free { (ds : scope.Declarations) → (t : Node) (q : Sequent) → statement_given ds t ≡ given q →
         is_declared (declared ds) (lemma_name t) ≡ false }
+    ensures procedures { (ds : scope.Declarations) → IsTypedScope (declared ds) → (t : Node) (q : Sequent) → statement_given ds t ≡ given q →
+        IsOfProcedures q }
 {}
 
 /// A typed scope stays typed with a lemma of a typed goal, under a free name.

@@ -1,6 +1,6 @@
 //! What the typing of forms gives.
 
-ghost use Rattle.std.specs.Prelude.{◌≡◌, List, [], None, Option, Some};
+ghost use Rattle.std.specs.Prelude.{◌≡◌, Bool, true, false, List, [], None, Option, Some};
 ghost use Rattle.gb_core.specs.declared.ty.Ty.{Ty};
 ghost use Rattle.gb_terms.specs.declared.decl.Module.{Module};
 ghost use Rattle.gb_terms.specs.declared.decl.TypedName.{TypedName};
@@ -13,7 +13,7 @@ ghost use Rattle.gb_meaning.specs.Names.{Name};
 ghost use Rattle.gb_goal.specs.Answers.Answer.{given};
 ghost use Rattle.gb_holds.specs.Declared.{declared};
 ghost use Rattle.gb_typed.specs.Finite.{IsFiniteWith};
-ghost use Rattle.gb_typed.specs.Programs.{HaveFiniteTypes};
+ghost use Rattle.gb_typing.specs.Programs.{HaveVariableTypes};
 ghost use Rattle.gb_typed.specs.Typing.Binder.{value};
 ghost use Rattle.gb_typing.specs.Context.{Context, of_program, within};
 ghost use Rattle.gb_typing.specs.Sequents.{of_sequent, two, IsTypedSequent};
@@ -22,20 +22,20 @@ ghost use Rattle.gb_names.specs.declared.bindings.Binding.{Binding};
 ghost use Rattle.gb_names.specs.Environment.{Environment, of_function, program, statement};
 ghost use Rattle.gb_elab.specs.Forms.{elaborated, function};
 ghost use Rattle.gb_elab_prog.specs.Contexts.{nothing_around};
-ghost use Rattle.gb_elab_laws.specs.Fitting.{has_globs, IsFormType, IsFormTypeIf, AreDeclared, AreIn, HasGlobals, IsFitting, IsGiven};
+ghost use Rattle.gb_elab_laws.specs.Fitting.{IsFormType, IsFormTypeIf, AreDeclared, AreIn, HasGlobals, IsFitting, IsGiven};
 
 /// In a context that fits the environment, what a form is elaborated to is a well-typed term of the wanted type, where this is one
 /// that a form may have.
 pub fn forms()
-    ensures { (t : Node) (c : Context) (at : Environment) (vs : List Binding) → IsFitting c at vs → (w : Option Ty) → IsFormTypeIf (has_globs at.language) w →
-        (u : Term) → elaborated t at vs w ≡ given u → IsGiven c at.language w u }
+    ensures { (globs : Bool) (t : Node) (c : Context) (at : Environment) (vs : List Binding) → IsFitting globs c at vs → (w : Option Ty) → IsFormTypeIf globs w →
+        (u : Term) → elaborated t at vs w ≡ given u → IsGiven globs c at.language w u }
 {}
 
 /// What a function from a type of values to another type is elaborated to is a well-typed term of the other type, under a binder
 /// of its argument.
 pub fn functions()
-    ensures { (t : Node) (c : Context) (at : Environment) → IsFitting c at [] → (a b : Ty) → IsFiniteWith (has_globs at.language) a → IsFormType (has_globs at.language) b → (u : Term) →
-        function t at a b ≡ given u → IsGiven (within c (value a) None) at.language (Some b) u }
+    ensures { (globs : Bool) (t : Node) (c : Context) (at : Environment) → IsFitting globs c at [] → (a b : Ty) → IsFiniteWith globs a → IsFormType globs b → (u : Term) →
+        function t at a b ≡ given u → IsGiven globs (within c (value a) None) at.language (Some b) u }
 {}
 
 /// The contexts that fit the environments in which forms stand: that of a statement, those of programs, where what is declared
@@ -43,14 +43,14 @@ pub fn functions()
 /// scope stands in its context, with the globals of its modules.
 pub fn environments()
     ensures statement { (ds : scope.Declarations) → IsTypedScope (declared ds) →
-        IsFitting (of_sequent (context_of (declared ds)) nothing_around []) (statement ds nothing_around) [] }
+        IsFitting false (of_sequent (context_of (declared ds)) nothing_around []) (statement ds nothing_around) [] }
     ensures names { (ds : scope.Declarations) → IsTypedScope (declared ds) → AreDeclared (context_of (declared ds)).operator ds }
     ensures globals { (ds : scope.Declarations) → IsTypedScope (declared ds) → (n : Name) (m : Module) → module_of ds n ≡ Some m →
         HasGlobals (context_of (declared ds)).global n m }
     ensures program { (c : Context) (ds : scope.Declarations) (m : Module) (ls : List TypedName) → AreDeclared c.operator ds →
-        ((n : Name) (k : Module) → module_of ds n ≡ Some k → HasGlobals c.global n k) → HasGlobals c.global m.name m → HaveFiniteTypes ls →
-        IsFitting (of_program c ls) (program ds m nothing_around ls) [] }
+        ((n : Name) (k : Module) → module_of ds n ≡ Some k → HasGlobals c.global n k) → HasGlobals c.global m.name m → HaveVariableTypes ls →
+        IsFitting false (of_program c ls) (program ds m nothing_around ls) [] }
     ensures function { (ds : scope.Declarations) → IsTypedScope (declared ds) → (q : Sequent) (t : IsTypedSequent (context_of (declared ds)) q) →
-        (ls rs xs ys : List TypedName) → AreIn (Some ls) xs → AreIn (Some rs) ys →
-        IsFitting (two (of_sequent (context_of (declared ds)) q t.frames) ls rs) (of_function ds q xs ys) [] }
+        (ls rs xs ys : List TypedName) → AreIn true (Some ls) xs → AreIn true (Some rs) ys →
+        IsFitting true (two (of_sequent (context_of (declared ds)) q t.frames) ls rs) (of_function ds q xs ys) [] }
 {}

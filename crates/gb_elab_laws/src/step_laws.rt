@@ -1,6 +1,7 @@
 //! What the typing of a proof step gives.
 
 ghost use Rattle.std.specs.Prelude.{◌≡◌, List};
+ghost use Rattle.std.specs.List.{AllByRecursion};
 ghost use Rattle.gb_terms.specs.declared.decl.TypedName.{TypedName};
 ghost use Rattle.gb_terms.specs.declared.op.Side.{Side};
 ghost use Rattle.gb_terms.specs.declared.term.Term.{Term};
@@ -10,21 +11,25 @@ ghost use Rattle.gb_goal.specs.declared.sequent.Sequent.{Sequent};
 ghost use Rattle.gb_steps.specs.declared.step.AmbientRule.{AmbientRule};
 ghost use Rattle.gb_steps.specs.declared.step.Rule.TheVariants.{Ambient, Use};
 ghost use Rattle.gb_steps.specs.declared.step.UseRule.{UseRule};
+ghost use Rattle.gb_steps.specs.Told.{told};
 ghost use Rattle.gb_steps.specs.declared.step.Step.{Step};
 ghost use Rattle.gb_goal.specs.Answers.Answer.{given};
 ghost use Rattle.gb_goal.specs.Goal.{goal_of};
 ghost use Rattle.gb_holds.specs.Declared.{declared};
 ghost use Rattle.gb_typing.specs.Context.{Context, frame_of};
-ghost use Rattle.gb_typing.specs.Typing.{IsTyped};
+ghost use Rattle.gb_typing.specs.Typing.{IsForm, IsTyped};
 ghost use Rattle.gb_typing.specs.Sequents.{of_sequent, IsTypedSequent};
 ghost use Rattle.gb_typing.specs.Scopes.{context_of, IsTypedScope};
-ghost use Rattle.gb_rules.specs.Typing.{IsGoalOver};
+ghost use Rattle.gb_typing.specs.Goals.{IsGoalOver};
 ghost use Rattle.gb_elab_mod.specs.Occurring.{read_locals};
 ghost use Rattle.gb_elab_mod.specs.Steps.{step_given};
+ghost use Rattle.gb_elab_laws.specs.Procedures.{AreStated};
 ghost use Rattle.gb_elab_laws.specs.Reading.{IsOuter, StandIn};
 ghost use Rattle.gb_bodies.specs.Rows as bodies;
 ghost use Rattle.gb_equiv.specs.Rows.{IsTypedRule};
+ghost use Rattle.gb_call.specs.Rows as calls;
 ghost use Rattle.gb_amb.specs.Steps.{IsTypedStep};
+ghost use Rattle.gb_use.specs.Lemmas.{IsKnown};
 ghost use Rattle.gb_use.specs.Uses as uses;
 
 /// The locals that a well-typed term reads through the own memory, the left or the right one are locals of this memory.
@@ -33,7 +38,7 @@ pub fn locals_read()
 {}
 
 /// The arguments of a typed step at a typed goal are typed over the locals of the bodies: the functions of `rnd` between the values of
-/// the samplings that end both bodies, and the form of `seq`, in a typed scope.
+/// the samplings that end both bodies, the forms of `seq`, `case` and `conseq`, and what a called procedure is said to do, in a typed scope.
 pub fn typed_rules()
     ensures bodies { (ds : scope.Declarations) → IsTypedScope (declared ds) → (q : Sequent) (t : IsTypedSequent (context_of (declared ds)) q) →
         (n : Node) (s : Step) → step_given ds q n ≡ given s →
@@ -43,15 +48,23 @@ pub fn typed_rules()
         (n : Node) (s : Step) → step_given ds q n ≡ given s →
         (ls rs : List TypedName) → IsGoalOver (of_sequent (context_of (declared ds)) q t.frames) ls rs (goal_of q.conclusion) →
         IsTypedRule (of_sequent (context_of (declared ds)) q t.frames) s.rule ls rs (goal_of q.conclusion) }
+    ensures calls { (ds : scope.Declarations) → IsTypedScope (declared ds) → (q : Sequent) (t : IsTypedSequent (context_of (declared ds)) q) →
+        (n : Node) (s : Step) → step_given ds q n ≡ given s →
+        (ls rs : List TypedName) → IsGoalOver (of_sequent (context_of (declared ds)) q t.frames) ls rs (goal_of q.conclusion) →
+        calls.IsTypedRule (of_sequent (context_of (declared ds)) q t.frames) s.rule ls rs (goal_of q.conclusion) }
 {}
 
 /// The form that a typed step on a conclusion brings to a typed goal of a typed scope is typed in the goal's context, and so is the form
-/// that a step uses, which is what a hypothesis of the goal says of typed terms.
+/// that a step uses, which is what a hypothesis of the goal says of typed terms, or a lemma, where lemmas state typed goals about procedures;
+/// so are the forms that `smt` is told to use, and those by which equals are put for equals.
 pub fn typed_forms()
     ensures conclusions { (ds : scope.Declarations) → IsTypedScope (declared ds) → (q : Sequent) (t : IsTypedSequent (context_of (declared ds)) q) →
         (n : Node) (s : Step) → step_given ds q n ≡ given s → (r : AmbientRule) → s.rule ≡ Ambient r →
         IsTypedStep (of_sequent (context_of (declared ds)) q t.frames) q.conclusion r }
-    ensures uses { (ds : scope.Declarations) → IsTypedScope (declared ds) → (q : Sequent) (t : IsTypedSequent (context_of (declared ds)) q) →
+    ensures uses { (ds : scope.Declarations) → IsTypedScope (declared ds) → AreStated ds → (q : Sequent) (t : IsTypedSequent (context_of (declared ds)) q) →
         (n : Node) (s : Step) → step_given ds q n ≡ given s → (r : UseRule) → s.rule ≡ Use r →
-        uses.IsTypedStep q (of_sequent (context_of (declared ds)) q t.frames) r }
+        uses.IsTypedStep (declared ds) q (of_sequent (context_of (declared ds)) q t.frames) r }
+    ensures hints { (ds : scope.Declarations) → IsTypedScope (declared ds) → AreStated ds → (q : Sequent) (t : IsTypedSequent (context_of (declared ds)) q) →
+        (n : Node) (s : Step) → step_given ds q n ≡ given s →
+        AllByRecursion (λ f. IsForm (of_sequent (context_of (declared ds)) q t.frames) f × IsKnown (declared ds) q (of_sequent (context_of (declared ds)) q t.frames) f) (told s.rule) }
 {}

@@ -14,7 +14,8 @@ use Rattle.gb_terms.specs.declared.op.Side.TheVariants as side
 use Rattle.gb_terms.specs.declared.term.Term.{Term, out-Term}
 use Rattle.gb_terms.specs.declared.term.Head.{Head}
 use Rattle.gb_terms.specs.declared.term.Head.TheVariants as head
-use Rattle.gb_terms.specs.declared.term.Head.TheVariants.{Phoare, Equiv, Sample}
+use Rattle.gb_terms.specs.declared.module.ProcRef.{ProcRef}
+use Rattle.gb_terms.specs.declared.term.Head.TheVariants.{Phoare, Equiv, Sample, Call'}
 use Rattle.gb_terms.specs.declared.term.Head.TheOpen as layer
 use Rattle.gb_terms.specs.declared.term.Subject.{Subject, out-Subject}
 use Rattle.gb_terms.specs.declared.term.Instr.{Instr}
@@ -36,6 +37,7 @@ use Rattle.gb_goal.specs.Goal.Code.{body, procedure}
 use Rattle.gb_goal.specs.Goal.Goal.{hoare, phoare, equiv}
 use Rattle.gb_steps.specs.declared.step.RelationalRule.TheVariants as relational_rule
 use Rattle.gb_steps.specs.declared.step.Step.{Step}
+use Rattle.gb_steps.specs.declared.step.RewriteRule.TheVariants as rewrite_rule
 use Rattle.gb_steps.specs.declared.step.UseRule.TheVariants as use_rule
 use Rattle.gb_goal.specs.Goal.{judges_bodies}
 use Rattle.gb_goal.specs.Scope.{Declarations, procedure_of}
@@ -49,10 +51,10 @@ use Rattle.gb_names.specs.Environment.{Environment, ambient, of_function, relati
 use Rattle.gb_names.specs.Judgments.{result_of}
 use Rattle.gb_elab.specs.Forms.{elaborated, function}
 use Rattle.gb_limits.specs.Numbers.{number_of}
-use Rattle.gb_elab_mod.specs.Multiples.{multiples, position}
+use Rattle.gb_elab_mod.specs.Multiples.{hypothesis_at, multiples, position}
 use Rattle.gb_elab_mod.specs.Occurring.{occurring}
 use Rattle.gb_elab_mod.specs.Taken.{new_name}
-use Rattle.gb_elab_mod.specs.Uses.{used}
+use Rattle.gb_elab_mod.specs.Uses.{all_hinted, hypothesis, used}
 use Rattle.gb_elab_prog.specs.Unbuilt.{absent}
 
 abbrev pub of_subjects : layer.Subject-F Head Instr Subject Cmd Term → layer.Subject-F Head Instr Subject Cmd Term → Option (Cmd × Cmd)
@@ -282,6 +284,34 @@ abbrev pub conseq_rule : Declarations → Sequent → Acts → List Node → Lis
 conseq_rule ds s on.All f h b = conseq_of ds s (goal_of s.conclusion) f h b
 conseq_rule ds s a f h b = given on_bodies.Unfit
 
+-- the procedure that the last statement of a body calls
+abbrev pub procedure_called : Instr → Option ProcRef
+procedure_called (Call' xs p n es) = Some p
+procedure_called i = None
+
+abbrev pub last_procedure : List Instr → Option ProcRef
+last_procedure [] = None
+last_procedure (i ∷ []) = procedure_called i
+last_procedure (i ∷ j ∷ is) = last_procedure (j ∷ is)
+
+-- what a called procedure is said to do: a precondition reads its parameters, and a postcondition its result
+unfoldable pub contract_of : Declarations → Sequent → Acts → Node → Node → Option ProcRef → Answer Rule
+contract_of ds s a pre post None = given (rule.OnBodies on_bodies.Unfit)
+contract_of ds s a pre post (Some r) = do
+  f ← elaborated pre (unary ds s (params_if (procedure_of ds r))) [] (Some bool_ty)
+  h ← elaborated post (unary ds s (result_if (procedure_of ds r))) [] (Some bool_ty)
+  given (rule.Call (record { acts = a; pre = f; post = h }))
+
+-- the same at a judgment on a body that ends with a call; other goals give the forms no types
+abbrev pub contract_at : Declarations → Sequent → Acts → Node → Node → Goal → Answer Rule
+contract_at ds s a pre post (hoare (body is) p q) = contract_of ds s a pre post (last_procedure is)
+contract_at ds s a pre post G = given (rule.OnBodies on_bodies.Unfit)
+
+-- Of the rules on calls that by what the procedure is said to do is built.
+abbrev pub call_rule : Declarations → Sequent → Acts → Kind → List Node → Place → Answer Rule
+call_rule ds s a text.CallContract (pre ∷ post ∷ []) p = contract_at ds s a pre post (goal_of s.conclusion)
+call_rule ds s a k ns p = not_built p
+
 -- the type of a value that is said to exist
 abbrev pub asked_of : Head → Option Ty
 asked_of (head.Some u) = Some u
@@ -301,11 +331,27 @@ pattern text.Memory x (n ∷ []) p = given (rule.Ambient (conclusion.IntroduceMe
 pattern text.Drop x [] p = given (rule.Ambient conclusion.Discard)
 pattern text.BothPatterns x ps p = given (rule.Ambient conclusion.Unpack)
 pattern text.EitherPattern x ps p = given (rule.Ambient conclusion.Branch)
-pattern text.SmtPattern x [] p = given rule.Smt
+pattern text.SmtPattern x [] p = given (rule.Smt [])
 pattern text.TrivialPattern x [] p = given (rule.Ambient conclusion.Trivial)
 pattern _ x ps p = not_built p
 
--- a rule that uses what is known, or a pattern
+-- a rule that puts equals for equals, or a pattern
+abbrev pub equals_rule : Declarations → Sequent → Kind → List ℕ → List Node → Place → Answer Rule
+equals_rule ds g text.RewriteLemma x (t ∷ []) p = do
+  f ← used ds g t
+  given (rule.Rewrite (rewrite_rule.Forward f))
+equals_rule ds g text.RewriteBack x (t ∷ []) p = do
+  f ← used ds g t
+  given (rule.Rewrite (rewrite_rule.Back f))
+equals_rule ds g text.RewriteHypothesis x (n ∷ []) p = do
+  f ← hypothesis ds g (text_of n) (place_of n)
+  given (rule.Rewrite (rewrite_rule.Forward f))
+equals_rule ds g text.Subst x (n ∷ []) p = do
+  i ← hypothesis_at ds g (text_of n) (place_of n)
+  given (rule.Rewrite (rewrite_rule.Subst i))
+equals_rule ds g k x ps p = pattern k x ps p
+
+-- a rule that uses what is known, one that puts equals for equals, or a pattern
 abbrev pub used_rule : Declarations → Sequent → Kind → List ℕ → List Node → Place → Answer Rule
 used_rule ds g text.ApplyLemma x (t ∷ []) p = do
   f ← used ds g t
@@ -314,7 +360,7 @@ used_rule ds g text.HaveLemma x (n ∷ t ∷ []) p = do
   _ ← new_name g (text_of n) (place_of n)
   f ← used ds g t
   given (rule.Use (use_rule.Have (text_of n) f))
-used_rule ds g k x ps p = pattern k x ps p
+used_rule ds g k x ps p = equals_rule ds g k x ps p
 
 -- a rule or a pattern
 abbrev pub typed_rule : Declarations → Sequent → Kind → List ℕ → List Node → Place → Answer Rule
@@ -331,6 +377,7 @@ typed_rule ds g text.Seq x (b ∷ n ∷ ns ∷ r ∷ bounds ∷ []) p = do
   of_bodies_rule (seq_rule ds g (acts (parts_of b)) (cut_of n (parts_of ns)) r)
 typed_rule ds g text.Conseq x (b ∷ pre ∷ post ∷ bound ∷ []) p =
     of_bodies_rule (conseq_rule ds g (acts (parts_of b)) (parts_of pre) (parts_of post) (parts_of bound))
+typed_rule ds g text.CallStep x (b ∷ n ∷ []) p = call_rule ds g (acts (parts_of b)) (head_of n) (parts_of n) p
 typed_rule ds g text.PlainStep x [] p = do
   r ← conclusion_rule x p
   given (rule.Ambient r)
@@ -343,8 +390,8 @@ typed_rule ds g text.HaveForm x (n ∷ f ∷ []) p = do
   given (rule.Ambient (conclusion.Have (text_of n) t))
 typed_rule ds g text.Witness x (e ∷ []) p = witness_rule ds g e
 typed_rule ds g text.Smt x hints p = do
-  _ ← absent hints p
-  given rule.Smt
+  fs ← all_hinted ds g hints
+  given (rule.Smt fs)
 typed_rule ds g text.Linear x hs p = do
   ms ← multiples ds g hs
   given (rule.Linear ms)

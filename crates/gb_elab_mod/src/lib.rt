@@ -3,8 +3,10 @@
 
 pub mod conclusions;
 pub mod conseq;
+pub mod contract;
 pub mod couplings;
 pub mod cut;
+pub mod equals;
 pub mod lemma;
 pub mod multiples;
 pub mod occurring;

@@ -43,7 +43,7 @@ pub fn names_thing(scope: &Scope, goal: &Sequent, name: &Name) -> bool
 }
 
 /// The place of a hypothesis in a goal.
-fn hypothesis_at(
+pub fn hypothesis_at(
     alloc: Global,
     scope: &Scope,
     goal: &Sequent,

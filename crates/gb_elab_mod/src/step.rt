@@ -2,14 +2,16 @@
 
 ghost use Rattle.std.specs.Prelude.{◌≡◌};
 ghost use Rattle.gb_goal.specs.Answers.{Answers};
-ghost use Rattle.gb_elab_mod.specs.Steps.{acts, chance_rule, named_rule, on_all, pattern, plain_rule, step_given, symmetry_rule, typed_rule, used_rule};
+ghost use Rattle.gb_elab_mod.specs.Steps.{acts, chance_rule, equals_rule, named_rule, on_all, pattern, plain_rule, step_given, symmetry_rule, typed_rule, used_rule};
 
 use crate::conclusions::{case_rule, conclusion_rule, have_rule, witness_rule};
 use crate::conseq::{Written, conseq_rule};
+use crate::contract::call_rule;
 use crate::couplings::{coupling_rule, couplings, functions_of};
 use crate::cut::{cut_of, seq_rule};
+use crate::equals::{rewriting, rewriting_back, rewriting_by_name, substitution};
 use crate::multiples::multiples;
-use crate::uses::{apply_rule, keep_rule};
+use crate::uses::{all_hinted, apply_rule, keep_rule};
 use gb_core::name::Name;
 use gb_core::place::Place;
 use gb_core::refusal::Refused;
@@ -20,6 +22,7 @@ use gb_names::refusals::not_built;
 use gb_script::head::Head;
 use gb_script::tree::Node;
 use gb_steps::step::{Acts, AmbientRule, BodyRule, ChanceRule, RelationalRule, Rule, Step};
+use sqlite_items::Items;
 use std::alloc::Global;
 
 /// The proof step of a rule with its arguments typed where the goal gives them types. The functions of `rnd` have the
@@ -149,13 +152,46 @@ fn pattern(
         (Head::Drop, []) => Ok(Rule::Ambient(AmbientRule::Discard)),
         (Head::BothPatterns, _) => Ok(Rule::Ambient(AmbientRule::Unpack)),
         (Head::EitherPattern, _) => Ok(Rule::Ambient(AmbientRule::Branch)),
-        (Head::SmtPattern, []) => Ok(Rule::Smt),
+        (Head::SmtPattern, []) => Ok(Rule::Smt(Items::new(alloc))),
         (Head::TrivialPattern, []) => Ok(Rule::Ambient(AmbientRule::Trivial)),
         _ => Err(not_built(place)),
     }
 }
 
-/// The rule of a step that uses what is known, or of a pattern.
+/// The rule of a step that puts equals for equals, or of a pattern.
+fn equals_rule(
+    alloc: Global,
+    scope: &Scope,
+    goal: &Sequent,
+    head: Head,
+    text: &Name,
+    parts: &[Node],
+    place: Place,
+) -> Result<Rule, Refused>
+    ensures { Answers (equals_rule scope.now goal.now head text.now parts.now place) result }
+{
+    match head {
+        Head::RewriteLemma => match parts {
+            [known] => rewriting(alloc, scope, goal, known),
+            _ => Err(not_built(place)),
+        },
+        Head::RewriteBack => match parts {
+            [known] => rewriting_back(alloc, scope, goal, known),
+            _ => Err(not_built(place)),
+        },
+        Head::RewriteHypothesis => match parts {
+            [name] => rewriting_by_name(alloc, scope, goal, name),
+            _ => Err(not_built(place)),
+        },
+        Head::Subst => match parts {
+            [name] => substitution(alloc, scope, goal, name),
+            _ => Err(not_built(place)),
+        },
+        _ => pattern(alloc, head, text, parts, place),
+    }
+}
+
+/// The rule of a step that uses what is known or puts equals for equals, or of a pattern.
 fn used_rule(
     alloc: Global,
     scope: &Scope,
@@ -176,7 +212,7 @@ fn used_rule(
             [name, lemma] => keep_rule(alloc, scope, goal, name, lemma),
             _ => Err(not_built(place)),
         },
-        _ => pattern(alloc, head, text, parts, place),
+        _ => equals_rule(alloc, scope, goal, head, text, parts, place),
     }
 }
 
@@ -237,6 +273,21 @@ fn typed_rule(
             }
             _ => Err(not_built(place)),
         },
+        Head::CallStep => match parts {
+            [bodies, said] => {
+                let acts = acts(bodies.parts.as_slice());
+                call_rule(
+                    alloc,
+                    scope,
+                    goal,
+                    acts,
+                    said.head,
+                    said.parts.as_slice(),
+                    place,
+                )
+            }
+            _ => Err(not_built(place)),
+        },
         Head::PlainStep => match parts {
             [] => Ok(Rule::Ambient(conclusion_rule(text, place)?)),
             _ => Err(not_built(place)),
@@ -256,10 +307,7 @@ fn typed_rule(
             [witness] => witness_rule(alloc, scope, goal, witness),
             _ => Err(not_built(place)),
         },
-        Head::Smt => {
-            refuse_any(parts, place)?;
-            Ok(Rule::Smt)
-        }
+        Head::Smt => Ok(Rule::Smt(all_hinted(alloc, scope, goal, parts)?)),
         Head::Linear => Ok(Rule::Linear(multiples(alloc, scope, goal, parts)?)),
         _ => used_rule(alloc, scope, goal, head, text, parts, place),
     }

@@ -1,6 +1,6 @@
-// The typing of hypotheses that steps use, with their arguments.
+// The typing of hypotheses and lemmas that steps use, with their arguments.
 
-ghost use Rattle.std.specs.Prelude.{◌≡◌, [], ◌∷◌, Some, IfOk};
+ghost use Rattle.std.specs.Prelude.{◌≡◌, [], ◌∷◌, length, IfOk};
 ghost use Rattle.std.specs.Option.{option_copied};
 ghost use Rattle.gb_terms.specs.declared.term.Term.{out-Term};
 ghost use Rattle.gb_walk.specs.declared.change.Change.TheVariants.{OfBound};
@@ -8,9 +8,8 @@ ghost use Rattle.gb_walk.specs.Change.{term_changed};
 ghost use Rattle.gb_goal.specs.Answers.{Answers, Fails, ◌>>=◌ as ◌and_then◌};
 ghost use Rattle.gb_goal.specs.Answers.Answer.{given};
 ghost use Rattle.gb_script.specs.Tree.{head_of, text_of, parts_of, place_of};
-ghost use Rattle.gb_elab.specs.Forms.{elaborated};
 ghost use Rattle.gb_elab_mod.specs.Taken.{new_name};
-ghost use Rattle.gb_elab_mod.specs.Uses.{hypothesis_named, is_memory, known_form, name_of, names_lemma, no_hypothesis, of_argument, said_of, said_of_all, used, used_of};
+ghost use Rattle.gb_elab_mod.specs.Uses.{all_hinted, hinted, hypothesis_named, hypothesis, is_memory, lemma_named, name_of, no_known, said_by, said_of, said_of_all, said_on, used, used_named, used_of, value_of, values_from};
 
 use crate::conclusions::{check_new, is_taken};
 use crate::multiples::names_thing;
@@ -28,8 +27,10 @@ use gb_names::setting::{Language, Setting};
 use gb_script::head::Head as NodeHead;
 use gb_script::tree::Node;
 use gb_steps::step::{Rule, UseRule};
-use gb_terms::term::{Form, Head, Term};
-use gb_walk::change::Change;
+use gb_terms::decl::TypedName;
+use gb_terms::op::Read;
+use gb_terms::term::{Form, Head, Term, Terms};
+use gb_walk::change::{Change, Changes};
 use gb_walk::walk::changed;
 use sqlite_items::Items;
 use std::alloc::{AllocError, Global};
@@ -46,49 +47,13 @@ fn hypothesis_named<'a>(hyps: &'a [Hyp], name: &Name) -> Option<&'a Form>
     None
 }
 
-/// Whether a lemma has the name, and nothing of the context.
-fn names_lemma(scope: &Scope, goal: &Sequent, name: &Name) -> bool
-    ensures { result ≡ names_lemma scope.now goal.now name.now }
-{
-    !is_taken(goal, name) && scope.lemma(name).is_some()
-}
-
-/// The refusal of a name that no hypothesis has.
-fn no_hypothesis(alloc: Global, scope: &Scope, goal: &Sequent, name: &Name, place: Place) -> Refused
-    ensures { Fails (no_hypothesis scope.now goal.now name.now place) result }
-{
-    if names_lemma(scope, goal, name) {
-        not_built(place)
-    } else if names_thing(scope, goal, name) {
-        argument(place)
-    } else {
-        unknown(alloc, name, place)
-    }
-}
-
-/// The form of the hypothesis of this name.
-fn known_form(
-    alloc: Global,
-    scope: &Scope,
-    goal: &Sequent,
-    name: &Name,
-    place: Place,
-) -> Result<Form, Refused>
-    ensures { Answers (known_form scope.now goal.now name.now place) result }
-{
-    match hypothesis_named(goal.hyps.as_slice(), name) {
-        Some(form) => Ok(form.share()?),
-        None => Err(no_hypothesis(alloc, scope, goal, name, place)),
-    }
-}
-
 fn is_memory(head: NodeHead) -> bool
     ensures { result ≡ is_memory head }
 {
     matches!(head, NodeHead::Memory)
 }
 
-/// The term of an argument of this type, which speaks of no program.
+/// The term of an argument for a value of this type, which speaks of no program.
 fn value_of(
     alloc: Global,
     scope: &Scope,
@@ -96,8 +61,11 @@ fn value_of(
     ty: &Ty,
     tree: &Node,
 ) -> Result<Term, Refused>
-    ensures { Answers (elaborated tree.now (of_argument scope.now goal.now) [] (Some ty.now)) result }
+    ensures { Answers (value_of scope.now goal.now ty.now tree.now) result }
 {
+    if is_memory(tree.head) {
+        return Err(argument(tree.place));
+    }
     let formula = Setting::ambient(scope, goal);
     let at = Setting {
         language: Language::Function,
@@ -127,9 +95,6 @@ fn said_of(
 {
     match (form.head.get(), form.args.as_slice()) {
         (Head::All(ty), [body]) => {
-            if is_memory(tree.head) {
-                return Err(argument(tree.place));
-            }
             let term = value_of(alloc, scope, goal, ty.get(), tree)?;
             Ok(at_term(alloc, body, term)?)
         }
@@ -166,7 +131,116 @@ fn name_of(alloc: Global, tree: &Node) -> Result<Name, AllocError>
     }
 }
 
-/// A hypothesis and its arguments.
+/// A number as the place of a variable. A list that is longer doesn't fit in memory, and so counts as a want of it.
+fn variable_at(number: usize) -> Result<Read, AllocError>
+    ensures { IfOk result (λ read. read ≡ Read.Logical number) }
+{
+    Ok(Read::Logical(u32::try_from(number).or(Err(AllocError))?))
+}
+
+/// Terms in the places of as many variables, one for each argument.
+#[tactic(auto, unfolding(crate::specs::Uses::values_from))]
+fn values_in_place(
+    alloc: Global,
+    scope: &Scope,
+    goal: &Sequent,
+    variables: &[TypedName],
+    arguments: &[Node],
+) -> Result<Changes, Refused>
+    requires { length variables.now ≡ length arguments.now }
+    ensures { Answers (values_from scope.now goal.now 0 variables.now arguments.now) result }
+{
+    let mut changes = Items::new(alloc);
+    for i in 0..variables.len() {
+        let term = value_of(alloc, scope, goal, variables[i].ty.get(), &arguments[i])?;
+        changes.push(Change::ToTerm(variable_at(i)?, term))?;
+    }
+    Ok(changes)
+}
+
+/// What a form on variables says of arguments: of one for each of them, and of further ones, which the form takes.
+fn said_on(
+    alloc: Global,
+    scope: &Scope,
+    goal: &Sequent,
+    lemma: &Sequent,
+    arguments: &[Node],
+    place: Place,
+) -> Result<Form, Refused>
+    ensures { Answers (said_on scope.now goal.now lemma.now.logical lemma.now.conclusion arguments.now place) result }
+{
+    let variables = lemma.logical.as_slice();
+    if arguments.len() < variables.len() {
+        return Err(argument(place));
+    }
+    let (first, further) = arguments.split_at(variables.len());
+    let changes = values_in_place(alloc, scope, goal, variables, first)?;
+    let form = changed(alloc, &lemma.conclusion, changes.as_slice())?;
+    said_of_all(alloc, scope, goal, form, further)
+}
+
+/// What a statement says of arguments. Memories and modules in it aren't built yet.
+fn said_by(
+    alloc: Global,
+    scope: &Scope,
+    goal: &Sequent,
+    lemma: &Sequent,
+    arguments: &[Node],
+    place: Place,
+) -> Result<Form, Refused>
+    ensures { Answers (said_by scope.now goal.now lemma.now arguments.now place) result }
+{
+    match (lemma.memories.as_slice(), lemma.modules.as_slice()) {
+        ([], []) => said_on(alloc, scope, goal, lemma, arguments, place),
+        _ => Err(not_built(place)),
+    }
+}
+
+/// The lemma of a name that nothing of the context has.
+fn lemma_named<'a>(scope: &'a Scope, goal: &Sequent, name: &Name) -> Option<&'a Sequent>
+    ensures { option_copied result ≡ lemma_named scope.now goal.now name.now }
+{
+    if is_taken(goal, name) {
+        None
+    } else {
+        scope.lemma(name)
+    }
+}
+
+/// The refusal of a name that neither a hypothesis has nor a lemma.
+fn no_known(alloc: Global, scope: &Scope, goal: &Sequent, name: &Name, place: Place) -> Refused
+    ensures { Fails (no_known scope.now goal.now name.now place) result }
+{
+    if names_thing(scope, goal, name) {
+        argument(place)
+    } else {
+        unknown(alloc, name, place)
+    }
+}
+
+/// The hypothesis or the lemma of a name, and its arguments.
+#[tactic(auto, unfolding(crate::specs::Uses::used_named))]
+fn used_named(
+    alloc: Global,
+    scope: &Scope,
+    goal: &Sequent,
+    name: &Name,
+    arguments: &[Node],
+    place: Place,
+) -> Result<Form, Refused>
+    ensures { Answers (used_named scope.now goal.now name.now arguments.now place) result }
+{
+    if let Some(form) = hypothesis_named(goal.hyps.as_slice(), name) {
+        let form = form.share()?;
+        return said_of_all(alloc, scope, goal, form, arguments);
+    }
+    match lemma_named(scope, goal, name) {
+        Some(lemma) => said_by(alloc, scope, goal, lemma, arguments, place),
+        None => Err(no_known(alloc, scope, goal, name, place)),
+    }
+}
+
+/// A hypothesis or a lemma, and its arguments.
 fn used_of(
     alloc: Global,
     scope: &Scope,
@@ -177,12 +251,11 @@ fn used_of(
     ensures { Answers (used_of scope.now goal.now tree.now arguments.now) result }
 {
     let name = name_of(alloc, tree)?;
-    let form = known_form(alloc, scope, goal, &name, tree.place)?;
-    said_of_all(alloc, scope, goal, form, arguments)
+    used_named(alloc, scope, goal, &name, arguments, tree.place)
 }
 
-/// What a hypothesis with its arguments says.
-fn used(alloc: Global, scope: &Scope, goal: &Sequent, tree: &Node) -> Result<Form, Refused>
+/// What a hypothesis or a lemma with its arguments says.
+pub fn used(alloc: Global, scope: &Scope, goal: &Sequent, tree: &Node) -> Result<Form, Refused>
     ensures { Answers (used scope.now goal.now tree.now) result }
 {
     match (tree.head, tree.parts.as_slice()) {
@@ -193,7 +266,49 @@ fn used(alloc: Global, scope: &Scope, goal: &Sequent, tree: &Node) -> Result<For
     }
 }
 
-/// The rule that shows the premises under which a hypothesis says the conclusion.
+/// The hypothesis of a name.
+pub fn hypothesis(
+    alloc: Global,
+    scope: &Scope,
+    goal: &Sequent,
+    name: &Name,
+    place: Place,
+) -> Result<Form, Refused>
+    ensures { Answers (hypothesis scope.now goal.now name.now place) result }
+{
+    match hypothesis_named(goal.hyps.as_slice(), name) {
+        Some(form) => Ok(form.share()?),
+        None => Err(no_known(alloc, scope, goal, name, place)),
+    }
+}
+
+/// What `smt` is told to use: a hypothesis, or in brackets what a hypothesis or a lemma says of arguments.
+fn hinted(alloc: Global, scope: &Scope, goal: &Sequent, tree: &Node) -> Result<Form, Refused>
+    ensures { Answers (hinted scope.now goal.now tree.now) result }
+{
+    match (tree.head, tree.parts.as_slice()) {
+        (NodeHead::LemmaHint, [lemma]) => used(alloc, scope, goal, lemma),
+        _ => hypothesis(alloc, scope, goal, &tree.text, tree.place),
+    }
+}
+
+/// All that `smt` is told to use.
+pub fn all_hinted(
+    alloc: Global,
+    scope: &Scope,
+    goal: &Sequent,
+    trees: &[Node],
+) -> Result<Terms, Refused>
+    ensures { Answers (all_hinted scope.now goal.now trees.now) result }
+{
+    let mut out = Items::new(alloc);
+    for tree in trees {
+        out.push(hinted(alloc, scope, goal, tree)?)?;
+    }
+    Ok(out)
+}
+
+/// The rule that shows the premises under which a hypothesis or a lemma says the conclusion.
 pub fn apply_rule(
     alloc: Global,
     scope: &Scope,
@@ -206,7 +321,7 @@ pub fn apply_rule(
     Ok(Rule::Use(UseRule::Apply(form)))
 }
 
-/// The rule by which what a hypothesis says is a hypothesis of a new name.
+/// The rule by which what a hypothesis or a lemma says is a hypothesis of a new name.
 pub fn keep_rule(
     alloc: Global,
     scope: &Scope,

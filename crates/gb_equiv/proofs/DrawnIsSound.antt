@@ -43,18 +43,18 @@ use Rattle.gb_goal.specs.Goal.{Goal}
 use Rattle.gb_goal.specs.Goal.Code.{body}
 use Rattle.gb_goal.specs.Goal.Goal.{hoare}
 use Rattle.gb_walk.specs.Clash.{first_clash}
-use Rattle.gb_rules.specs.Forms.{IsAlone}
-use Rattle.gb_rules.specs.Meaning.{run}
-use Rattle.gb_rules.specs.Rules.{outermost, Implies}
-use Rattle.gb_rules.specs.Samplings.{Sampling, last_sampling}
-use Rattle.gb_rules.specs.Supports.{nearest}
-use Rattle.gb_rules.specs.Typing.{IsGoalOver}
-use Rattle.gb_rules.proofs.ClashFree.{one_clear}
-use Rattle.gb_rules.proofs.Given.{AreSound, refused_given, same_given}
-use Rattle.gb_rules.proofs.Quantified.{inner_typed, inner_meaning}
-use Rattle.gb_rules.proofs.Runs.{run_append}
-use Rattle.gb_rules.proofs.LastSampling.{IsDrawn, drawn, last_one}
-use Rattle.gb_rules.proofs.Supported.{nearest_made, for_support_made, for_support_use, draws, drawn_typed, run_sampling, from_made, target_put, from_weights}
+use Rattle.gb_typing.specs.Forms.{IsAlone}
+use Rattle.gb_typing.specs.Meaning.{run}
+use Rattle.gb_typing.specs.Rules.{outermost, Implies}
+use Rattle.gb_typing.specs.Samplings.{Sampling, last_sampling}
+use Rattle.gb_typing.specs.Supports.{nearest}
+use Rattle.gb_typing.specs.Goals.{IsGoalOver}
+use Rattle.gb_typing.proofs.ClashFree.{one_clear}
+use Rattle.gb_typing.proofs.Given.{AreSound, refused_given, same_given}
+use Rattle.gb_typing.proofs.Quantified.{inner_typed, inner_meaning}
+use Rattle.gb_typing.proofs.Runs.{run_append}
+use Rattle.gb_typing.proofs.LastSampling.{IsDrawn, drawn, last_one}
+use Rattle.gb_typing.proofs.Supported.{nearest_made, for_support_made, for_support_use, draws, drawn_typed, run_sampling, from_made, target_put, from_weights}
 use Rattle.gb_equiv.specs.Drawn.{unless_clash, with_value, each_drawn, without_sampling, by_end}
 
 module _ (b : Context) (ls : List TypedName) where

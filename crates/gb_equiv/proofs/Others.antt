@@ -4,7 +4,7 @@ use Rattle.gb_core.specs.declared.refusal.Why.TheVariants.{Shape}
 use Rattle.gb_terms.specs.declared.term.Term.{Term}
 use Rattle.gb_steps.specs.declared.step.RelationalRule.TheVariants.{Rnd, Symmetry}
 use Rattle.gb_steps.specs.declared.step.Rule.{Rule}
-use Rattle.gb_steps.specs.declared.step.Rule.TheVariants.{OnBodies, Relational, Ambient, Smt, Linear, Chance, Use}
+use Rattle.gb_steps.specs.declared.step.Rule.TheVariants.{OnBodies, Relational, Ambient, Smt, Linear, Chance, Call, Rewrite, Use}
 use Rattle.gb_goal.specs.Goal.Goal.{ambient}
 use Rattle.gb_goal.specs.Rows.{refusing}
 use Rattle.gb_equiv.specs.Rows.{rule_row}
@@ -13,8 +13,10 @@ pub others_refused : (r : Rule) (f : Term) → rule_row r (ambient f) ≡ refusi
 others_refused (Relational (Rnd fs)) f = refl
 others_refused (Relational Symmetry) f = refl
 others_refused (OnBodies r) f = refl
-others_refused Smt f = refl
+others_refused (Smt fs) f = refl
 others_refused (Linear ms) f = refl
 others_refused (Ambient r) f = refl
 others_refused (Chance r) f = refl
+others_refused (Call s) f = refl
+others_refused (Rewrite r) f = refl
 others_refused (Use r) f = refl

@@ -51,20 +51,20 @@ use Rattle.gb_goal.specs.Goal.{Goal}
 use Rattle.gb_goal.specs.Goal.Code.{body, procedure}
 use Rattle.gb_goal.specs.Goal.Goal.{hoare, phoare, equiv, ambient}
 use Rattle.gb_walk.specs.Clash.{first_clash}
-use Rattle.gb_rules.specs.Forms.{IsAlone, and_form, equal_form}
-use Rattle.gb_rules.specs.Meaning.{run, denominator as run_denominator}
-use Rattle.gb_rules.specs.Rules.{outermost, Implies, IsSoundRule}
-use Rattle.gb_rules.specs.Samplings.{Sampling, last_sampling}
-use Rattle.gb_rules.specs.Supports.{nearest, in_support, weight}
-use Rattle.gb_rules.specs.Typing.{IsGoalOver}
-use Rattle.gb_rules.proofs.ClashFree.{two_clear}
-use Rattle.gb_rules.proofs.Composed.{composed_made, composed_value, image_value, image_typed, any_own}
-use Rattle.gb_rules.proofs.Forms.{and_typed, and_use}
-use Rattle.gb_rules.proofs.Given.{AreSound, refused_given, same_given}
-use Rattle.gb_rules.proofs.Quantified.{inner_typed, inner_meaning}
-use Rattle.gb_rules.proofs.Runs.{coupled_in_turn}
-use Rattle.gb_rules.proofs.LastSampling.{IsDrawn, drawn, last_one}
-use Rattle.gb_rules.proofs.Supported.{equal_values, equal_reals, weight_made, support_made, nearest_made, for_support_made, weight_of_is, supported, same_weights, for_support_use, draws, drawn_typed, located_denominator, run_sampling, sampling_denominator, from_made, target_put, from_weights}
+use Rattle.gb_typing.specs.Forms.{IsAlone, and_form, equal_form}
+use Rattle.gb_typing.specs.Meaning.{run, denominator as run_denominator}
+use Rattle.gb_typing.specs.Rules.{outermost, Implies, IsSoundRule}
+use Rattle.gb_typing.specs.Samplings.{Sampling, last_sampling}
+use Rattle.gb_typing.specs.Supports.{nearest, in_support, weight}
+use Rattle.gb_typing.specs.Goals.{IsGoalOver}
+use Rattle.gb_typing.proofs.ClashFree.{two_clear}
+use Rattle.gb_typing.proofs.Composed.{composed_made, composed_value, image_value, image_typed, any_own}
+use Rattle.gb_typing.proofs.Forms.{and_typed, and_use}
+use Rattle.gb_typing.proofs.Given.{AreSound, refused_given, same_given}
+use Rattle.gb_typing.proofs.Quantified.{inner_typed, inner_meaning}
+use Rattle.gb_typing.proofs.Runs.{coupled_in_turn}
+use Rattle.gb_typing.proofs.LastSampling.{IsDrawn, drawn, last_one}
+use Rattle.gb_typing.proofs.Supported.{equal_values, equal_reals, weight_made, support_made, nearest_made, for_support_made, weight_of_is, supported, same_weights, for_support_use, draws, drawn_typed, located_denominator, run_sampling, sampling_denominator, from_made, target_put, from_weights}
 use Rattle.gb_equiv.proofs.DrawnIsSound.{sound as drawn_sound}
 use Rattle.gb_equiv.specs.declared.coupled.Coupled.{Coupled}
 use Rattle.gb_equiv.specs.declared.coupled.Maps.{Maps}

@@ -8,10 +8,10 @@ use Rattle.gb_goal.specs.Goal.{Code}
 use Rattle.gb_goal.specs.Goal.Code.{body, procedure}
 use Rattle.gb_goal.specs.Goal.Goal.{hoare, phoare, equiv, ambient}
 use Rattle.gb_typing.specs.Context.{Context}
-use Rattle.gb_rules.specs.Meaning.{run_of, denominator_of}
-use Rattle.gb_rules.specs.Rules.{IsSoundRule, no_arguments}
-use Rattle.gb_rules.specs.Typing.{AreAlike, frame_before, frame_after}
-use Rattle.gb_rules.proofs.Given.{refused_given, sound_given}
+use Rattle.gb_typing.specs.Meaning.{run_of, denominator_of}
+use Rattle.gb_typing.specs.Rules.{IsSoundRule, no_arguments}
+use Rattle.gb_typing.specs.Goals.{AreAlike, frame_before, frame_after}
+use Rattle.gb_typing.proofs.Given.{refused_given, sound_given}
 use Rattle.gb_prog.specs.Exchanged.{exchanged}
 use Rattle.gb_prog.proofs.Exchanged.{exchanged_typed, exchanged_meaning}
 use Rattle.gb_equiv.specs.Symmetry.{symmetry_row}

@@ -16,8 +16,8 @@ use Rattle.gb_goal.specs.Goal.{Goal}
 use Rattle.gb_goal.specs.Goal.Code.{body}
 use Rattle.gb_goal.specs.Goal.Goal.{hoare}
 use Rattle.gb_goal.specs.Rows.{refusing}
-use Rattle.gb_rules.specs.Samplings.{Sampling}
-use Rattle.gb_rules.specs.Supports.{nearest, for_support}
+use Rattle.gb_typing.specs.Samplings.{Sampling}
+use Rattle.gb_typing.specs.Supports.{nearest, for_support}
 
 -- the variable, where the form reads another one beside it that clashes with it
 abbrev pub clashing : Side → Var → Term → Option Var

@@ -22,9 +22,9 @@ use Rattle.gb_goal.specs.Goal.{Goal}
 use Rattle.gb_goal.specs.Goal.Code.{body}
 use Rattle.gb_goal.specs.Goal.Goal.{hoare, equiv}
 use Rattle.gb_goal.specs.Rows.{Row, refusing}
-use Rattle.gb_rules.specs.Forms.{and_form, equal_form, located}
-use Rattle.gb_rules.specs.Samplings.{Sampling, last_sampling}
-use Rattle.gb_rules.specs.Supports.{nearest, in_support, weight, for_support}
+use Rattle.gb_typing.specs.Forms.{and_form, equal_form, located}
+use Rattle.gb_typing.specs.Samplings.{Sampling, last_sampling}
+use Rattle.gb_typing.specs.Supports.{nearest, in_support, weight, for_support}
 use Rattle.gb_equiv.specs.Drawn.{clashing, unless_clash, by_end}
 use Rattle.gb_equiv.specs.declared.coupled.Maps.{Maps}
 use Rattle.gb_equiv.specs.declared.coupled.Coupled.{Coupled}

@@ -8,7 +8,7 @@ use Rattle.gb_steps.specs.declared.step.RelationalRule.TheVariants.{Rnd, Symmetr
 use Rattle.gb_goal.specs.Goal.{Goal}
 use Rattle.gb_goal.specs.Rows.{Row, refusing}
 use Rattle.gb_typing.specs.Context.{Context}
-use Rattle.gb_rules.specs.Rules.{no_arguments}
+use Rattle.gb_typing.specs.Rules.{no_arguments}
 use Rattle.gb_equiv.specs.Rnd.{rnd_row, AreTypedFunctions}
 use Rattle.gb_equiv.specs.Symmetry.{symmetry_row}
 

@@ -4,10 +4,10 @@ ghost use Rattle.std.specs.Prelude.{◌≡◌, IfOk};
 ghost use Rattle.gb_equiv.specs.Rnd.{composed, keeps_weights, couples, coupled_post};
 
 use gb_core::ty::Ty;
-use gb_rules::supports::{for_support, in_support, nearest, weight};
 use gb_shared::Shared;
 use gb_terms::make::{conjunction, equality};
 use gb_terms::term::{Form, Term};
+use gb_typing::supports::{for_support, in_support, nearest, weight};
 use gb_walk::change::Change;
 use gb_walk::walk::changed;
 use std::alloc::{AllocError, Global};

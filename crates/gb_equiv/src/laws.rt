@@ -7,7 +7,7 @@ ghost use Rattle.gb_goal.specs.Rows.{refusing};
 ghost use Rattle.gb_steps.specs.declared.step.Rule.{Rule};
 ghost use Rattle.gb_terms.specs.declared.term.Term.{Term};
 ghost use Rattle.gb_typing.specs.Context.{Context};
-ghost use Rattle.gb_rules.specs.Rules.{IsSoundRule};
+ghost use Rattle.gb_typing.specs.Rules.{IsSoundRule};
 ghost use Rattle.gb_equiv.specs.Rnd.{rnd_row, AreTypedFunctions};
 ghost use Rattle.gb_equiv.specs.Rows.{rule_row, IsTypedRule};
 

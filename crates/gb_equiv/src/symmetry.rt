@@ -7,7 +7,7 @@ ghost use Rattle.gb_terms.specs.Make.{node};
 ghost use Rattle.gb_terms.specs.declared.term.Head.TheVariants.{Equiv};
 ghost use Rattle.gb_typing.specs.Context.{Context};
 ghost use Rattle.gb_prog.specs.Exchanged.{exchanged};
-ghost use Rattle.gb_rules.specs.Rules.{IsSoundRule, no_arguments};
+ghost use Rattle.gb_typing.specs.Rules.{IsSoundRule, no_arguments};
 ghost use Rattle.gb_equiv.specs.Symmetry.{symmetry_row};
 
 use crate::drawn::{alone, no_such_shape};

@@ -7,9 +7,10 @@ use Rattle.gb_terms.specs.declared.term.Pair.{Pair}
 use Rattle.gb_terms.specs.declared.term.Head.TheViews.{out-Term, outs-struct-Term}
 use Rattle.gb_core.specs.declared.ty.Ty.{Ty}
 use Rattle.gb_core.specs.declared.value.Value.{Value}
-use Rattle.gb_eval.specs.declared.env.ReadValue.{ReadValue}
-use Rattle.gb_eval.specs.Findings.{Comes}
-use Rattle.gb_eval.specs.Eval.{part_of, eval, eval_all, at_head}
+use Rattle.gb_meaning.specs.Names.{Name}
+use Rattle.gb_eval.specs.declared.env.Bound.{Bound}
+use Rattle.gb_eval.specs.Findings.{Comes, Operators}
+use Rattle.gb_eval.specs.Eval.{Environment, part_of, eval, eval_all, at_head}
 use Rattle.gb_core.specs.declared.ty.Ty.TheVariants as ty
 use Rattle.gb_types.specs.Types.{card_of, is_finite}
 use Rattle.gb_terms.specs.declared.op.Op.{Op}
@@ -25,9 +26,9 @@ use Rattle.gb_eval.specs.Operators.{nullary, uniform_over}
 use Rattle.gb_eval.specs.Totals.{total_of, totals_of, head_total, of_first, operator_total, number_of_outcomes}
 use Rattle.gb_eval.specs.Known.{is_known, all_known, has_finite_outcomes, is_head_known, are_true}
 
-known_row : (n : _) (r : Row_of-Term n) → all_known r ≡ map is_known (items-the_row-Term n r)
-known_row n end_of-Term = refl
-known_row n (more_of-Term t r) = ap (λ l. is_known t ∷ l) (known_row _ r)
+known_row : (ks : Name → Bool) (n : _) (r : Row_of-Term n) → all_known ks r ≡ map (is_known ks) (items-the_row-Term n r)
+known_row ks n end_of-Term = refl
+known_row ks n (more_of-Term t r) = ap (λ l. is_known ks t ∷ l) (known_row ks _ r)
 
 types_row : (n : _) (r : Row_of-Term n) → types_of r ≡ map type_of (items-the_row-Term n r)
 types_row n end_of-Term = refl
@@ -43,74 +44,76 @@ unfolding Rattle.gb_terms.specs.declared.term.Head.TheBlock.shown-the_row-Head-2
 type_is (Term' p (more_of-Head h end_of-Head) n r ty) = sym (ap (λ z. z.ty) (outs-struct-Term p (more_of-Head h end_of-Head) n r ty))
 
 -- whether evaluation knows a term, by its head and its arguments
-pub known_out : (t : Term) → is_known t ≡ (is_head_known (out-Term t).head (map type_of (out-Term t).args) && list_all is_known (out-Term t).args)
+pub known_out : (ks : Name → Bool) (t : Term) → is_known ks t ≡ (is_head_known ks (out-Term t).head (map type_of (out-Term t).args) && list_all (is_known ks) (out-Term t).args)
 unfolding Rattle.gb_terms.specs.declared.term.Head.TheBlock.shown-the_row-Head-2 denote.Hole.Carrier.shown
-known_out (Term' p (more_of-Head h end_of-Head) n r ty) =
-    (λ i. is_head_known h (types_row _ r i) && are_true (known_row _ r i))
-    ∙ ap (λ b. is_head_known h (map type_of (items-the_row-Term _ r)) && b) (all_of is_known (items-the_row-Term _ r))
-    ∙ ap (λ l. is_head_known h (map type_of l) && list_all is_known l) (sym (items_shown-the_row-Term-0 n r))
-    ∙ sym (ap (λ z. is_head_known z.head (map type_of z.args) && list_all is_known z.args) (outs-struct-Term p (more_of-Head h end_of-Head) n r ty))
+known_out ks (Term' p (more_of-Head h end_of-Head) n r ty) =
+    (λ i. is_head_known ks h (types_row _ r i) && are_true (known_row ks _ r i))
+    ∙ ap (λ b. is_head_known ks h (map type_of (items-the_row-Term _ r)) && b) (all_of (is_known ks) (items-the_row-Term _ r))
+    ∙ ap (λ l. is_head_known ks h (map type_of l) && list_all (is_known ks) l) (sym (items_shown-the_row-Term-0 n r))
+    ∙ sym (ap (λ z. is_head_known ks z.head (map type_of z.args) && list_all (is_known ks) z.args) (outs-struct-Term p (more_of-Head h end_of-Head) n r ty))
 
-eval_row : (reads : List ReadValue) (n : _) (r : Row_of-Term n) → eval_all reads r ≡ map (part_of reads) (items-the_row-Term n r)
-eval_row reads n end_of-Term = refl
-eval_row reads n (more_of-Term t r) = ap (λ l. part_of reads t ∷ l) (eval_row reads _ r)
+eval_row : (env : Environment) (n : _) (r : Row_of-Term n) → eval_all env r ≡ map (part_of env) (items-the_row-Term n r)
+eval_row env n end_of-Term = refl
+eval_row env n (more_of-Term t r) = ap (λ l. part_of env t ∷ l) (eval_row env _ r)
 
 -- what a term comes to, by its head and its arguments
-pub eval_out : (reads : List ReadValue) (t : Term) (bound : List Value) → eval reads t bound ≡ at_head reads (out-Term t).head (out-Term t).ty (map (part_of reads) (out-Term t).args) bound
+pub eval_out : (env : Environment) (t : Term) (bound : List Bound) → eval env t bound ≡ at_head env (out-Term t).head (out-Term t).ty (map (part_of env) (out-Term t).args) bound
 unfolding Rattle.gb_terms.specs.declared.term.Head.TheBlock.shown-the_row-Head-2 denote.Hole.Carrier.shown
-eval_out reads (Term' p (more_of-Head h end_of-Head) n r ty) bound =
-    ap (λ l. at_head reads h ty l bound) (eval_row reads _ r ∙ sym (ap (map (part_of reads)) (items_shown-the_row-Term-0 n r)))
-    ∙ sym (ap (λ z. at_head reads z.head z.ty (map (part_of reads) z.args) bound) (outs-struct-Term p (more_of-Head h end_of-Head) n r ty))
+eval_out env (Term' p (more_of-Head h end_of-Head) n r ty) bound =
+    ap (λ l. at_head env h ty l bound) (eval_row env _ r ∙ sym (ap (map (part_of env)) (items_shown-the_row-Term-0 n r)))
+    ∙ sym (ap (λ z. at_head env z.head z.ty (map (part_of env) z.args) bound) (outs-struct-Term p (more_of-Head h end_of-Head) n r ty))
 
-module _ (reads : List ReadValue) (t : Term) (h : Head) (xs : List Term) (ty : Ty) (bound : List Value) (p : h ≡ (out-Term t).head) (q : xs ≡ (out-Term t).args) (r : ty ≡ (out-Term t).ty) where
-  pub eval_at : (g : Head) → h ≡ g → eval reads t bound ≡ at_head reads g ty (map (part_of reads) xs) bound
-  eval_at g e = eval_out reads t bound ∙ (λ i. at_head reads ((sym p ∙ e) i) (sym r i) (map (part_of reads) (sym q i)) bound)
+module _ (env : Environment) (t : Term) (h : Head) (xs : List Term) (ty : Ty) (bound : List Bound) (p : h ≡ (out-Term t).head) (q : xs ≡ (out-Term t).args) (r : ty ≡ (out-Term t).ty) where
+  pub eval_at : (g : Head) → h ≡ g → eval env t bound ≡ at_head env g ty (map (part_of env) xs) bound
+  eval_at g e = eval_out env t bound ∙ (λ i. at_head env ((sym p ∙ e) i) (sym r i) (map (part_of env) (sym q i)) bound)
 
-  pub eval_other : ((v : Value) → h ≡ head.Lit v → ⊥) → ((n : ℤ) → h ≡ head.Whole n → ⊥) → ((r : Read) → h ≡ head.Read r → ⊥) → ((i : ℕ) → h ≡ head.Bound i → ⊥) → ((o : Op) → h ≡ head.Builtin o → ⊥) → ((u : Ty) → h ≡ head.All u → ⊥) → ((u : Ty) → h ≡ head.Some u → ⊥) → (h ≡ head.Mu → ⊥) → ((n : ℕ) → h ≡ head.Sum n → ⊥) → (h ≡ head.Restrict → ⊥) → (h ≡ head.Map → ⊥) → ((ps : List Pair) → h ≡ head.Weights ps → ⊥) → eval reads t bound ≡ unknown
-  eval_other l w r b o a s m n c d u = eval_at h refl ∙ none h l w r b o a s m n c d u
+  pub eval_other : ((v : Value) → h ≡ head.Lit v → ⊥) → ((n : ℤ) → h ≡ head.Whole n → ⊥) → ((r : Read) → h ≡ head.Read r → ⊥) → ((i : ℕ) → h ≡ head.Bound i → ⊥) → ((o : Op) → h ≡ head.Builtin o → ⊥) → ((m : Name) → h ≡ head.User m → ⊥) → ((u : Ty) → h ≡ head.All u → ⊥) → ((u : Ty) → h ≡ head.Some u → ⊥) → (h ≡ head.Mu → ⊥) → ((n : ℕ) → h ≡ head.Sum n → ⊥) → (h ≡ head.Restrict → ⊥) → (h ≡ head.Map → ⊥) → ((ps : List Pair) → h ≡ head.Weights ps → ⊥) → eval env t bound ≡ unknown
+  eval_other l w r b o k a s m n c d u = eval_at h refl ∙ none h l w r b o k a s m n c d u
     where
-      none : (g : Head) → ((v : Value) → g ≡ head.Lit v → ⊥) → ((n : ℤ) → g ≡ head.Whole n → ⊥) → ((r : Read) → g ≡ head.Read r → ⊥) → ((i : ℕ) → g ≡ head.Bound i → ⊥) → ((o : Op) → g ≡ head.Builtin o → ⊥) → ((u : Ty) → g ≡ head.All u → ⊥) → ((u : Ty) → g ≡ head.Some u → ⊥) → (g ≡ head.Mu → ⊥) → ((n : ℕ) → g ≡ head.Sum n → ⊥) → (g ≡ head.Restrict → ⊥) → (g ≡ head.Map → ⊥) → ((ps : List Pair) → g ≡ head.Weights ps → ⊥) → at_head reads g ty (map (part_of reads) xs) bound ≡ unknown
-      none (head.Lit v) l w r b o a s m n c d z = absurd (l v refl)
-      none (head.Whole k) l w r b o a s m n c d z = absurd (w k refl)
-      none (head.Read x) l w r b o a s m n c d z = absurd (r x refl)
-      none (head.Bound i) l w r b o a s m n c d z = absurd (b i refl)
-      none (head.Builtin x) l w r b o a s m n c d z = absurd (o x refl)
-      none (head.All u) l w r b o a s m n c d z = absurd (a u refl)
-      none (head.Some u) l w r b o a s m n c d z = absurd (s u refl)
-      none head.Mu l w r b o a s m n c d z = absurd (m refl)
-      none (head.Sum k) l w r b o a s m n c d z = absurd (n k refl)
-      none head.Restrict l w r b o a s m n c d z = absurd (c refl)
-      none head.Map l w r b o a s m n c d z = absurd (d refl)
-      none (head.Weights ps) l w r b o a s m n c d z = absurd (z ps refl)
-      none _ l w r b o a s m n c d z = refl
+      none : (g : Head) → ((v : Value) → g ≡ head.Lit v → ⊥) → ((n : ℤ) → g ≡ head.Whole n → ⊥) → ((r : Read) → g ≡ head.Read r → ⊥) → ((i : ℕ) → g ≡ head.Bound i → ⊥) → ((o : Op) → g ≡ head.Builtin o → ⊥) → ((m : Name) → g ≡ head.User m → ⊥) → ((u : Ty) → g ≡ head.All u → ⊥) → ((u : Ty) → g ≡ head.Some u → ⊥) → (g ≡ head.Mu → ⊥) → ((n : ℕ) → g ≡ head.Sum n → ⊥) → (g ≡ head.Restrict → ⊥) → (g ≡ head.Map → ⊥) → ((ps : List Pair) → g ≡ head.Weights ps → ⊥) → at_head env g ty (map (part_of env) xs) bound ≡ unknown
+      none (head.Lit v) l w r b o k a s m n c d z = absurd (l v refl)
+      none (head.Whole y) l w r b o k a s m n c d z = absurd (w y refl)
+      none (head.Read x) l w r b o k a s m n c d z = absurd (r x refl)
+      none (head.Bound i) l w r b o k a s m n c d z = absurd (b i refl)
+      none (head.Builtin x) l w r b o k a s m n c d z = absurd (o x refl)
+      none (head.User y) l w r b o k a s m n c d z = absurd (k y refl)
+      none (head.All u) l w r b o k a s m n c d z = absurd (a u refl)
+      none (head.Some u) l w r b o k a s m n c d z = absurd (s u refl)
+      none head.Mu l w r b o k a s m n c d z = absurd (m refl)
+      none (head.Sum y) l w r b o k a s m n c d z = absurd (n y refl)
+      none head.Restrict l w r b o k a s m n c d z = absurd (c refl)
+      none head.Map l w r b o k a s m n c d z = absurd (d refl)
+      none (head.Weights ps) l w r b o k a s m n c d z = absurd (z ps refl)
+      none _ l w r b o k a s m n c d z = refl
 
-total_row : (n : _) (r : Row_of-Term n) → totals_of r ≡ map total_of (items-the_row-Term n r)
-total_row n end_of-Term = refl
-total_row n (more_of-Term t r) = ap (λ l. total_of t ∷ l) (total_row _ r)
+total_row : (ops : Operators) (n : _) (r : Row_of-Term n) → totals_of ops r ≡ map (total_of ops) (items-the_row-Term n r)
+total_row ops n end_of-Term = refl
+total_row ops n (more_of-Term t r) = ap (λ l. total_of ops t ∷ l) (total_row ops _ r)
 
 -- the denominator of a term, by its head and its arguments
-pub total_out : (t : Term) → total_of t ≡ head_total (out-Term t).head (out-Term t).ty (map total_of (out-Term t).args)
+pub total_out : (ops : Operators) (t : Term) → total_of ops t ≡ head_total ops (out-Term t).head (out-Term t).ty (map (total_of ops) (out-Term t).args)
 unfolding Rattle.gb_terms.specs.declared.term.Head.TheBlock.shown-the_row-Head-2 denote.Hole.Carrier.shown
-total_out (Term' p (more_of-Head h end_of-Head) n r ty) =
-    ap (head_total h ty) (total_row _ r ∙ sym (ap (map total_of) (items_shown-the_row-Term-0 n r)))
-    ∙ sym (ap (λ z. head_total z.head z.ty (map total_of z.args)) (outs-struct-Term p (more_of-Head h end_of-Head) n r ty))
+total_out ops (Term' p (more_of-Head h end_of-Head) n r ty) =
+    ap (head_total ops h ty) (total_row ops _ r ∙ sym (ap (map (total_of ops)) (items_shown-the_row-Term-0 n r)))
+    ∙ sym (ap (λ z. head_total ops z.head z.ty (map (total_of ops) z.args)) (outs-struct-Term p (more_of-Head h end_of-Head) n r ty))
 
-module _ (t : Term) (h : Head) (xs : List Term) (ty : Ty) (p : h ≡ (out-Term t).head) (q : xs ≡ (out-Term t).args) (r : ty ≡ (out-Term t).ty) where
-  pub total_at : (g : Head) → h ≡ g → total_of t ≡ head_total g ty (map total_of xs)
-  total_at g e = total_out t ∙ (λ i. head_total ((sym p ∙ e) i) (sym r i) (map total_of (sym q i)))
+module _ (ops : Operators) (t : Term) (h : Head) (xs : List Term) (ty : Ty) (p : h ≡ (out-Term t).head) (q : xs ≡ (out-Term t).args) (r : ty ≡ (out-Term t).ty) where
+  pub total_at : (g : Head) → h ≡ g → total_of ops t ≡ head_total ops g ty (map (total_of ops) xs)
+  total_at g e = total_out ops t ∙ (λ i. head_total ops ((sym p ∙ e) i) (sym r i) (map (total_of ops) (sym q i)))
 
-  pub total_other : ((o : Op) → h ≡ head.Builtin o → ⊥) → (h ≡ head.Restrict → ⊥) → (h ≡ head.Map → ⊥) → ((ps : List Pair) → h ≡ head.Weights ps → ⊥) → total_of t ≡ unknown
-  total_other b s m w = total_at h refl ∙ none h b s m w
+  pub total_other : ((o : Op) → h ≡ head.Builtin o → ⊥) → ((m : Name) → h ≡ head.User m → ⊥) → (h ≡ head.Restrict → ⊥) → (h ≡ head.Map → ⊥) → ((ps : List Pair) → h ≡ head.Weights ps → ⊥) → total_of ops t ≡ unknown
+  total_other b u s m w = total_at h refl ∙ none h b u s m w
     where
-      none : (g : Head) → ((o : Op) → g ≡ head.Builtin o → ⊥) → (g ≡ head.Restrict → ⊥) → (g ≡ head.Map → ⊥) → ((ps : List Pair) → g ≡ head.Weights ps → ⊥) → head_total g ty (map total_of xs) ≡ unknown
-      none (head.Builtin o) b s m w = absurd (b o refl)
-      none head.Restrict b s m w = absurd (s refl)
-      none head.Map b s m w = absurd (m refl)
-      none (head.Weights ps) b s m w = absurd (w ps refl)
-      none _ b s m w = refl
+      none : (g : Head) → ((o : Op) → g ≡ head.Builtin o → ⊥) → ((m : Name) → g ≡ head.User m → ⊥) → (g ≡ head.Restrict → ⊥) → (g ≡ head.Map → ⊥) → ((ps : List Pair) → g ≡ head.Weights ps → ⊥) → head_total ops g ty (map (total_of ops) xs) ≡ unknown
+      none (head.Builtin o) b u s m w = absurd (b o refl)
+      none (head.User n) b u s m w = absurd (u n refl)
+      none head.Restrict b u s m w = absurd (s refl)
+      none head.Map b u s m w = absurd (m refl)
+      none (head.Weights ps) b u s m w = absurd (w ps refl)
+      none _ b u s m w = refl
 
   -- that of an image or a part is that of its source
-  pub total_first : (h ≡ head.Map) ⊎ (h ≡ head.Restrict) → total_of t ≡ of_first (map total_of xs)
+  pub total_first : (h ≡ head.Map) ⊎ (h ≡ head.Restrict) → total_of ops t ≡ of_first (map (total_of ops) xs)
   total_first (inl e) = total_at head.Map e
   total_first (inr e) = total_at head.Restrict e
 

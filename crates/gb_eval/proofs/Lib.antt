@@ -1,7 +1,11 @@
 pub mod AtFindings
 pub mod Entries
+pub mod Environments
 pub mod Fractions
+pub mod Fuel
 pub mod Layers
+pub mod Opened
+pub mod Operated
 pub mod Places
 pub mod Sound
 pub mod Stops

@@ -5,7 +5,9 @@ use Rattle.std.proofs.lemmas.List.{length-reverse, get_or-reverse}
 use Rattle.gb_core.specs.declared.value.Value.{Value}
 use Rattle.gb_meaning.specs.Values.{value_eq}
 use Rattle.gb_laws.proofs.Values.{value_eq-true, value_discrete}
-use Rattle.gb_eval.specs.Findings.{Comes, ◌>>=◌, over}
+use Rattle.gb_eval.specs.declared.env.Bound.{Bound}
+use Rattle.gb_eval.specs.declared.env.Bound.TheVariants as to
+use Rattle.gb_eval.specs.Findings.{Finding, Comes, ◌>>=◌, finding_of, over}
 use Rattle.gb_eval.specs.Findings.Finding.{value, fraction}
 use Rattle.gb_eval.specs.Findings.Comes.{found, unknown, overflow}
 use Rattle.std.proofs.lemmas.List.{length-append, length-map}
@@ -44,25 +46,25 @@ value_test false v w h = not_true (value_eq v w) (λ e. false≢true (h.1 ((valu
     not_true true k = absurd (k refl)
     not_true false k = refl
 
-found_bound : (vs : List Value) (i : ℕ) (d : Value) → i < length vs → value_bound vs i ≡ found (value (get_or vs i d))
+found_bound : (bs : List Bound) (i : ℕ) (d : Bound) → i < length bs → value_bound bs i ≡ found (finding_of (get_or bs i d))
 found_bound [] i d h = absurd (omega arith)
-found_bound (v ∷ vs) zero d h = refl
-found_bound (v ∷ vs) (suc i) d h = found_bound vs i d (omega arith)
+found_bound (b ∷ bs) zero d h = refl
+found_bound (b ∷ bs) (suc i) d h = found_bound bs i d (omega arith)
 
-not_found : (vs : List Value) (i : ℕ) → (i < length vs → ⊥) → value_bound vs i ≡ unknown
+not_found : (bs : List Bound) (i : ℕ) → (i < length bs → ⊥) → value_bound bs i ≡ unknown
 not_found [] i h = refl
-not_found (v ∷ vs) zero h = absurd (h (omega arith))
-not_found (v ∷ vs) (suc i) h = not_found vs i (λ k. h (omega arith))
+not_found (b ∷ bs) zero h = absurd (h (omega arith))
+not_found (b ∷ bs) (suc i) h = not_found bs i (λ k. h (omega arith))
 
--- the values of bound variables, the innermost last
+-- what bound variables stand for, the innermost last
 
-pub bound_within : (vs : List Value) (i : ℕ) (v : Value) → i < length vs → v ≡ get_or vs (length vs - 1 - i) v → value_bound (reverse vs) i ≡ found (value v)
-bound_within vs i v h e =
-    let n : i < length (reverse vs) = omega (arith, h, length-reverse vs) in
-    found_bound (reverse vs) i v n ∙ ap (λ w. found (value w)) (get_or-reverse vs i v h ∙ sym e)
+pub bound_within : (bs : List Bound) (i : ℕ) (b : Bound) (f : Finding) → i < length bs → b ≡ get_or bs (length bs - 1 - i) b → f ≡ finding_of b → value_bound (reverse bs) i ≡ found f
+bound_within bs i b f h e k =
+    let n : i < length (reverse bs) = omega (arith, h, length-reverse bs) in
+    found_bound (reverse bs) i b n ∙ ap (λ w. found (finding_of w)) (get_or-reverse bs i b h ∙ sym e) ∙ ap found (sym k)
 
-pub bound_outside : (vs : List Value) (i : ℕ) → (i < length vs → ⊥) → value_bound (reverse vs) i ≡ unknown
-bound_outside vs i h = not_found (reverse vs) i (λ k. h (omega (arith, k, length-reverse vs)))
+pub bound_outside : (bs : List Bound) (i : ℕ) → (i < length bs → ⊥) → value_bound (reverse bs) i ≡ unknown
+bound_outside bs i h = not_found (reverse bs) i (λ k. h (omega (arith, k, length-reverse bs)))
 
 -- whether two values that are found are the same
 pub same_values : (b : Bool) (v w : Value) (x y : Answer) → IsTrue b ↔ (v ≡ w) → x ≡ answer.Value v → y ≡ answer.Value w → same (shown x) (shown y) ≡ found b
@@ -140,18 +142,18 @@ collected_length out (unknown ∷ cs) bs e = absurd (cc)
 collected_length out (overflow o ∷ cs) bs e = absurd (cc)
 collected_length out (found a ∷ cs) bs e = let q = collected_length (out ++ a ∷ []) cs bs e in omega (arith, q, length-append out (a ∷ []))
 
-pub event_length : (x : Part) (rs : List Row) (bound : List Value) (bs : List Bool) → event x (entries rs) bound ≡ found bs → length bs ≡ length rs
+pub event_length : (x : Part) (rs : List Row) (bound : List Bound) (bs : List Bool) → event x (entries rs) bound ≡ found bs → length bs ≡ length rs
 event_length x rs bound bs e =
-    let q = collected_length [] (map (λ v. truth_under x (v ∷ bound)) (outcomes (entries rs))) bs e in
-    omega (arith, q, length-map (outcomes (entries rs)) (λ v. truth_under x (v ∷ bound)), length-map (entries rs) (λ (e : Value × ℕ). e.0), length-map {B = Value × ℕ} rs (λ (r : Row). (r.value, r.weight)))
+    let q = collected_length [] (map (λ v. truth_under x (to.Value v ∷ bound)) (outcomes (entries rs))) bs e in
+    omega (arith, q, length-map (outcomes (entries rs)) (λ v. truth_under x (to.Value v ∷ bound)), length-map (entries rs) (λ (e : Value × ℕ). e.0), length-map {B = Value × ℕ} rs (λ (r : Row). (r.value, r.weight)))
 
-pub images_length : (x : Part) (rs : List Row) (bound : List Value) (vs : List Value) → images x (entries rs) bound ≡ found vs → length vs ≡ length rs
+pub images_length : (x : Part) (rs : List Row) (bound : List Bound) (vs : List Value) → images x (entries rs) bound ≡ found vs → length vs ≡ length rs
 images_length x rs bound vs e =
-    let q = collected_length [] (map (λ v. x.comes (v ∷ bound) >>= value_in) (outcomes (entries rs))) vs e in
-    omega (arith, q, length-map (outcomes (entries rs)) (λ v. x.comes (v ∷ bound) >>= value_in), length-map (entries rs) (λ (e : Value × ℕ). e.0), length-map {B = Value × ℕ} rs (λ (r : Row). (r.value, r.weight)))
+    let q = collected_length [] (map (λ v. x.comes (to.Value v ∷ bound) >>= value_in) (outcomes (entries rs))) vs e in
+    omega (arith, q, length-map (outcomes (entries rs)) (λ v. x.comes (to.Value v ∷ bound) >>= value_in), length-map (entries rs) (λ (e : Value × ℕ). e.0), length-map {B = Value × ℕ} rs (λ (r : Row). (r.value, r.weight)))
 
 -- operators at more than three arguments
-pub operated_many : {X : Type 0} (o : Op) (t : Ty) (f : X → Part) (xs : List X) (bound : List Value) (b : Bool) → b ≡ is_tuple o → b ≡ false → 4 ≤ length xs → operated o t (map f xs) bound ≡ unknown
+pub operated_many : {X : Type 0} (o : Op) (t : Ty) (f : X → Part) (xs : List X) (bound : List Bound) (b : Bool) → b ≡ is_tuple o → b ≡ false → 4 ≤ length xs → operated o t (map f xs) bound ≡ unknown
 operated_many o t f [] bound b e g h = absurd (omega arith)
 operated_many o t f (a ∷ []) bound b e g h = absurd (omega arith)
 operated_many o t f (a ∷ c ∷ []) bound b e g h = absurd (omega arith)
@@ -159,7 +161,7 @@ operated_many o t f (a ∷ c ∷ d ∷ []) bound b e g h = absurd (omega arith)
 operated_many o t f (a ∷ c ∷ d ∷ i ∷ xs) bound b e g h = ap (λ z. if z then tuple (map f (a ∷ c ∷ d ∷ i ∷ xs)) bound else unknown) (sym e ∙ g)
 
 -- and at three
-pub operated_three : {X : Type 0} (o : Op) (t : Ty) (f : X → Part) (xs : List X) (bound : List Value) (b : Bool) → b ≡ is_tuple o → b ≡ false → 3 ≤ length xs → length xs < 4 → operated o t (map f xs) bound ≡ at_three o t (map f xs) bound
+pub operated_three : {X : Type 0} (o : Op) (t : Ty) (f : X → Part) (xs : List X) (bound : List Bound) (b : Bool) → b ≡ is_tuple o → b ≡ false → 3 ≤ length xs → length xs < 4 → operated o t (map f xs) bound ≡ at_three o t (map f xs) bound
 operated_three o t f [] bound b e g h k = absurd (omega arith)
 operated_three o t f (a ∷ []) bound b e g h k = absurd (omega arith)
 operated_three o t f (a ∷ c ∷ []) bound b e g h k = absurd (omega arith)
@@ -168,7 +170,7 @@ operated_three o t f (a ∷ c ∷ d ∷ i ∷ xs) bound b e g h k = absurd (omeg
 
 -- distributions and events
 
-module _ {X : Type 0} (f : X → Part) (xs : List X) (a b : X) (bound : List Value) (d : ℕ × WeightedList Value) (h : 2 ≤ length xs) (k : length xs < 3) (p : a ≡ get_or xs 0 a) (q : b ≡ get_or xs 1 b) (e : table_under (f a) bound ≡ found d) where
+module _ {X : Type 0} (f : X → Part) (xs : List X) (a b : X) (bound : List Bound) (d : ℕ × WeightedList Value) (h : 2 ≤ length xs) (k : length xs < 3) (p : a ≡ get_or xs 0 a) (q : b ≡ get_or xs 1 b) (e : table_under (f a) bound ≡ found d) where
   pub measured_by : measured (map f xs) bound ≡ weighed (f b) d bound
   measured_by = ap (λ l. measured (map f l) bound) (two_of xs a b h k p q) ∙ leads_on (table_under (f a) bound) (λ r. weighed (f b) r bound) d e
 
@@ -202,12 +204,12 @@ beq_same false true h = absurd (false≢true h)
 beq_same false false h = refl
 
 -- the places of a quantifier, where those before one don't decide
-module _ (d : Bool) (ty : Ty) (n at : ℕ) (x : Part) (xs : List Part) (bound : List Value) (e : xs ≡ x ∷ []) (c : card_of ty ≡ Exact n) where
+module _ (d : Bool) (ty : Ty) (n at : ℕ) (x : Part) (xs : List Part) (bound : List Bound) (e : xs ≡ x ∷ []) (c : card_of ty ≡ Exact n) where
   abbrev at_place : ℕ → Comes Bool
-  at_place i = truth_under x (value_at ty i ∷ bound)
+  at_place i = truth_under x (to.Value (value_at ty i) ∷ bound)
 
   quantified_is : quantified d ty xs bound ≡ (over (next_truth d at_place) (not d) n >>= λ a. found (of_truth a))
-  quantified_is = ap (λ ys. quantified d ty ys bound) e ∙ ap (λ k. over_values d k ty (λ v. truth_under x (v ∷ bound)) >>= λ a. found (of_truth a)) c
+  quantified_is = ap (λ ys. quantified d ty ys bound) e ∙ ap (λ k. over_values d k ty (λ v. truth_under x (to.Value v ∷ bound)) >>= λ a. found (of_truth a)) c
 
   pub quantified_stops : (s : Stop) → over (next_truth d at_place) (not d) at ≡ found (not d) → Stops (at_place at) s → at < n → Stops (quantified d ty xs bound) s
   quantified_stops s h w l =
@@ -219,9 +221,9 @@ module _ (d : Bool) (ty : Ty) (n at : ℕ) (x : Part) (xs : List Part) (bound : 
       quantified_is ∙ ap (λ y. y >>= λ a. found (of_truth a)) (over_decided (next_truth d at_place) (not d) (found d) at n (not d) (decision_stands d at_place) h (next_decides d at_place at ∙ w) l)
 
 -- the numbers of a sum
-module _ (q at : ℕ) (x : Part) (xs : List Part) (bound : List Value) (e : xs ≡ x ∷ []) (few : q ≤ 2 ^ 32) where
+module _ (q at : ℕ) (x : Part) (xs : List Part) (bound : List Bound) (e : xs ≡ x ∷ []) (few : q ≤ 2 ^ 32) where
   abbrev at_number : ℕ → Comes Fraction
-  at_number i = x.comes (Num i ∷ bound) >>= fraction_in
+  at_number i = x.comes (to.Value (Num i) ∷ bound) >>= fraction_in
 
   summed_is : summed q xs bound ≡ (over (next_sum at_number) zero_fraction q >>= λ a. found (fraction a))
   summed_is =

@@ -2,6 +2,7 @@
 use Rattle.std.proofs.Common.{◌≡◌, ℕ, zero, suc, ◌*◌, ◌<◌, ◌^◌, Bool, true, false, nat_le, if◌then◌else◌, pos, List, [], ◌∷◌, ◌++◌, map, get_or, refl, sym, ap, ◌∙◌, subst, arith}
 use Rattle.std.proofs.Math.Nat.{mul_comm}
 use Rattle.std.proofs.lemmas.Bool.{false≢true}
+use Rattle.std.proofs.lemmas.List.{append-nil, append_assoc}
 use Rattle.gb_core.specs.declared.ty.Ty.{Ty}
 use Rattle.gb_core.specs.declared.value.Value.{Value}
 use Rattle.gb_core.specs.declared.value.Value.TheVariants.{Num, Many}
@@ -30,14 +31,16 @@ use Rattle.gb_meaning.specs.Fractions as mf
 use Rattle.gb_meaning.specs.Meanings as m
 use Rattle.gb_meaning.specs.Distributions as distributions
 use Rattle.gb_meaning.specs.Operators as o
-use Rattle.gb_meaning.specs.Operators.{Argument, denominator_at, outcome_type}
+use Rattle.gb_meaning.specs.Operators.{Argument, denominator_at, denominator_over, is_distribution, outcome_type}
 use Rattle.gb_meaning.specs.State.{State, Binding, meaning_in}
 use Rattle.gb_meaning.specs.State as st
 use Rattle.gb_meaning.specs.State.{Binding as binding}
 use Rattle.gb_meaning.specs.Terms as mt
 use Rattle.gb_meaning.specs.Terms.{Speaks, val, parts, argument, at_value, last_of, first_of, each_value, some_value, each_below, some_below, sum_below, read_at, denominator, denominators, denominator_of}
-use Rattle.gb_eval.specs.declared.env.ReadValue.{ReadValue}
-use Rattle.gb_eval.specs.Findings.{Finding, Comes, ◌>>=◌, of_truth, value_in, fraction_in, collected, over, table_in}
+use Rattle.gb_meaning.specs.Names.{Name}
+use Rattle.gb_eval.specs.declared.env.Bound.{Bound}
+use Rattle.gb_eval.specs.declared.env.Bound.TheVariants as to
+use Rattle.gb_eval.specs.Findings.{Finding, Comes, ◌>>=◌, argument_of, finding_of, of_truth, value_in, fraction_in, collected, over, table_in}
 use Rattle.gb_eval.specs.Findings.Finding.{value, whole, fraction, table}
 use Rattle.gb_eval.specs.Findings.Comes.{found, unknown, overflow}
 use Rattle.gb_eval.specs.Operators as e
@@ -45,8 +48,9 @@ use Rattle.gb_eval.specs.Operators.{connective, is_connective, zero_fraction, ch
 use Rattle.gb_eval.specs.Totals.{total_of, totals_of, head_total, operator_total, multiplied}
 use Rattle.gb_eval.specs.Known.{is_tuple}
 use Rattle.gb_eval.specs.Eval as ev
-use Rattle.gb_eval.specs.Eval.{Part, eval, eval_all, value_of, value_bound, over_values, event, images}
-use Rattle.gb_eval.specs.Meant.{IsFraction, IsTable, IsFound, Means, Binds, is_given_at, AreGiven, AllGiven}
+use Rattle.gb_eval.specs.Meant as given
+use Rattle.gb_eval.specs.Eval.{Environment, Part, eval, eval_all, value_of, value_bound, over_values, event, images}
+use Rattle.gb_eval.specs.Meant.{IsFraction, IsTable, IsFound, Means, Binds, AreOperators, is_given_at, AreGiven, AllGiven}
 use Rattle.gb_eval.proofs.Truths.{Finds, IsTruth, then_finds, after_finds, if_finds, means_finds, finds_means, comes_truth, answer_meant, and_meant, or_meant, implies_meant, iff_meant, each_meant, some_meant}
 use Rattle.gb_eval.proofs.Tables.{behind_none, one_collected, chance_meant, restricted_mass, each_collected, imaged_is, image_same, exact, IsTotal, outcomes_total, stated_total, stated_meant}
 use Rattle.gb_eval.proofs.Fractions.{above_product, same_plus, reduced_meant}
@@ -92,14 +96,29 @@ multiplied_total c d j k h l =
     then_finds (IsTotal k) (IsTotal (j * k)) d _ l (λ n w r.
     after_finds (IsTotal (j * k)) (product_of (pos m) (pos n) ∷ []) (m * n) (record { is = λ i. q.is i * r.is i; above = above_product m n q.above r.above })))
 
-module _ (g : Setting) (j : Speaks) (s : State) (reads : List ReadValue) where
+-- one argument more
+one_more : (bs : List Bound) (ms : List Meaning) (b : Bound) (m : Meaning) → given.AreMeant bs ms → IsFound (finding_of b) m 1 → given.AreMeant (bs ++ b ∷ []) (ms ++ m ∷ [])
+one_more [] [] b m w h = (h, tt)
+one_more [] (x ∷ ms) b m w h = absurd w
+one_more (a ∷ bs) [] b m w h = absurd w
+one_more (a ∷ bs) (x ∷ ms) b m w h = (w.0, one_more bs ms b m w.1 h)
+
+argument_collected : (c : Comes Bound) (m : Meaning) (rest : List (Comes Bound)) (done : List Bound) (ms ns : List Meaning) → Finds (λ a. IsFound (finding_of a) m 1) c → given.AreMeant done ms →
+    ((gs : List Bound) (ls : List Meaning) → given.AreMeant gs ls → Finds (λ ws. given.AreMeant ws (ls ++ ns)) (collected gs rest)) →
+    Finds (λ ws. given.AreMeant ws (ms ++ m ∷ ns)) (collected done (c ∷ rest))
+argument_collected (found a) m rest done ms ns k w f =
+    subst (λ l. Finds (λ ws. given.AreMeant ws l) (collected (done ++ a ∷ []) rest)) (append_assoc ms (m ∷ []) ns) (f (done ++ a ∷ []) (ms ++ m ∷ []) (one_more done ms a m w k))
+argument_collected unknown m rest done ms ns k w f = tt
+argument_collected (overflow o) m rest done ms ns k w f = tt
+
+module _ (g : Setting) (j : Speaks) (s : State) (env : Environment) (ops : AreOperators g env.operators) where
   -- the state inside of binders
   abbrev inner : List Binding → State
   inner bs = record s { bound = bs }
 
   -- a part means what its term comes to, inside of binders too
   record IsMeant (x : Part) (p : mt.Part) : Type 0 where
-    means : (bs : List Binding) (vs : List Value) → Binds bs vs → Means (x.comes vs) (p.meaning (inner bs)) p.denominator
+    means : (bs : List Binding) (vs : List Bound) → Binds bs vs → Means (x.comes vs) (p.meaning (inner bs)) p.denominator
     total : Finds (IsTotal p.denominator) x.total
 
   abbrev AreMeant : List Part → List mt.Part → Type 0
@@ -107,14 +126,16 @@ module _ (g : Setting) (j : Speaks) (s : State) (reads : List ReadValue) where
   AreMeant (x ∷ xs) (p ∷ ps) = IsMeant x p × AreMeant xs ps
   AreMeant _ _ = ⊥
 
-  bound_meant : (bs : List Binding) (vs : List Value) (i : ℕ) → Binds bs vs → Means (value_bound vs i) (meaning_in (get_or bs i binding.program)) 1
+  bound_meant : (bs : List Binding) (vs : List Bound) (i : ℕ) → Binds bs vs → Means (value_bound vs i) (meaning_in (get_or bs i binding.program)) 1
   bound_meant bs [] i h = tt
   bound_meant [] (v ∷ vs) i h = absurd h
-  bound_meant (b ∷ bs) (v ∷ vs) zero h = ap meaning_in h.0
+  bound_meant (binding.value m ∷ bs) (v ∷ vs) zero h = h.0
+  bound_meant (binding.memory m ∷ bs) (v ∷ vs) zero h = absurd h.0
+  bound_meant (binding.program ∷ bs) (v ∷ vs) zero h = absurd h.0
   bound_meant (b ∷ bs) (v ∷ vs) (suc i) h = bound_meant bs vs i h.1
 
   -- a read of a memory that no binder binds is the same inside of binders
-  read_meant : (r : Read) (ty : Ty) (bs : List Binding) → Means (value_of reads r) (read_at g r ty s) 1 → Means (value_of reads r) (read_at g r ty (inner bs)) 1
+  read_meant : (r : Read) (ty : Ty) (bs : List Binding) → Means (value_of env.reads r) (read_at g r ty s) 1 → Means (value_of env.reads r) (read_at g r ty (inner bs)) 1
   read_meant (Logical i) ty bs h = h
   read_meant (Program x side.Own) ty bs h = h
   read_meant (Program x side.Left) ty bs h = h
@@ -123,10 +144,10 @@ module _ (g : Setting) (j : Speaks) (s : State) (reads : List ReadValue) where
   read_meant (Program x (side.Bound i)) ty bs h = tt
 
   -- the truth of a part where a binder binds a value
-  body_meant : (x : Part) (p : mt.Part) → IsMeant x p → (bs : List Binding) (vs : List Value) → Binds bs vs → (v : Value) → IsTruth (ev.truth_under x (v ∷ vs)) (m.truth (at_value p (inner bs) v))
-  body_meant x p h bs vs b v = comes_truth (x.comes (v ∷ vs)) _ p.denominator (h.means (binding.value (meaning.finite v) ∷ bs) (v ∷ vs) (refl, b))
+  body_meant : (x : Part) (p : mt.Part) → IsMeant x p → (bs : List Binding) (vs : List Bound) → Binds bs vs → (v : Value) → IsTruth (ev.truth_under x (to.Value v ∷ vs)) (m.truth (at_value p (inner bs) v))
+  body_meant x p h bs vs b v = comes_truth (x.comes (to.Value v ∷ vs)) _ p.denominator (h.means (binding.value (meaning.finite v) ∷ bs) (to.Value v ∷ vs) (refl, b))
 
-  truth_meant : (x : Part) (p : mt.Part) → IsMeant x p → (bs : List Binding) (vs : List Value) → Binds bs vs → IsTruth (ev.truth_under x vs) (m.truth (p.meaning (inner bs)))
+  truth_meant : (x : Part) (p : mt.Part) → IsMeant x p → (bs : List Binding) (vs : List Bound) → Binds bs vs → IsTruth (ev.truth_under x vs) (m.truth (p.meaning (inner bs)))
   truth_meant x p h bs vs b = comes_truth (x.comes vs) _ p.denominator (h.means bs vs b)
 
   -- quantifiers
@@ -145,14 +166,14 @@ module _ (g : Setting) (j : Speaks) (s : State) (reads : List ReadValue) where
       (subst (λ i. IsTruth (over_values true (Exact n) u f) (some_below i (λ i. h (value_at u i)))) (exact g.types u n c).1
       (some_meant n (λ i. f (value_at u i)) (λ i. h (value_at u i)) (λ i. k (value_at u i))))
 
-  forall_meant : (u : Ty) (xs : List Part) (ps : List mt.Part) (bs : List Binding) (vs : List Value) → AreMeant xs ps → Binds bs vs → Means (ev.quantified false u xs vs) (m.of_truth (each_value (values g.types u) (λ v. m.truth (at_value (last_of ps) (inner bs) v)))) 1
+  forall_meant : (u : Ty) (xs : List Part) (ps : List mt.Part) (bs : List Binding) (vs : List Bound) → AreMeant xs ps → Binds bs vs → Means (ev.quantified false u xs vs) (m.of_truth (each_value (values g.types u) (λ v. m.truth (at_value (last_of ps) (inner bs) v)))) 1
   forall_meant u [] ps bs vs h b = tt
   forall_meant u (x ∷ []) (p ∷ []) bs vs h b = answer_meant _ _ 1 (all_values_meant u (card_of u) _ _ refl (body_meant x p h.0 bs vs b))
   forall_meant u (x ∷ []) [] bs vs h b = absurd h
   forall_meant u (x ∷ []) (p ∷ q ∷ ps) bs vs h b = absurd h.1
   forall_meant u (x ∷ y ∷ xs) ps bs vs h b = tt
 
-  exists_meant : (u : Ty) (xs : List Part) (ps : List mt.Part) (bs : List Binding) (vs : List Value) → AreMeant xs ps → Binds bs vs → Means (ev.quantified true u xs vs) (m.of_truth (some_value (values g.types u) (λ v. m.truth (at_value (last_of ps) (inner bs) v)))) 1
+  exists_meant : (u : Ty) (xs : List Part) (ps : List mt.Part) (bs : List Binding) (vs : List Bound) → AreMeant xs ps → Binds bs vs → Means (ev.quantified true u xs vs) (m.of_truth (some_value (values g.types u) (λ v. m.truth (at_value (last_of ps) (inner bs) v)))) 1
   exists_meant u [] ps bs vs h b = tt
   exists_meant u (x ∷ []) (p ∷ []) bs vs h b = answer_meant _ _ 1 (some_value_meant u (card_of u) _ _ refl (body_meant x p h.0 bs vs b))
   exists_meant u (x ∷ []) [] bs vs h b = absurd h
@@ -161,12 +182,12 @@ module _ (g : Setting) (j : Speaks) (s : State) (reads : List ReadValue) where
 
   -- distributions and events
 
-  event_at : (x : Part) (p : mt.Part) → IsMeant x p → (bs : List Binding) (vs : List Value) → Binds bs vs → (l : WeightedList Value) →
+  event_at : (x : Part) (p : mt.Part) → IsMeant x p → (bs : List Binding) (vs : List Bound) → Binds bs vs → (l : WeightedList Value) →
       Finds (λ ts. ts ≡ map (λ v. m.truth (at_value p (inner bs) v)) (outcomes l)) (event x l vs)
-  event_at x p h bs vs b l = each_collected (λ v. ev.truth_under x (v ∷ vs)) (λ v. m.truth (at_value p (inner bs) v)) (body_meant x p h bs vs b) l []
+  event_at x p h bs vs b l = each_collected (λ v. ev.truth_under x (to.Value v ∷ vs)) (λ v. m.truth (at_value p (inner bs) v)) (body_meant x p h bs vs b) l []
 
   -- a distribution that is found
-  table_meant : (x : Part) (p : mt.Part) → IsMeant x p → (bs : List Binding) (vs : List Value) → Binds bs vs → Finds (λ d. IsTable d.0 d.1 (p.meaning (inner bs)) p.denominator) (ev.table_under x vs)
+  table_meant : (x : Part) (p : mt.Part) → IsMeant x p → (bs : List Binding) (vs : List Bound) → Binds bs vs → Finds (λ d. IsTable d.0 d.1 (p.meaning (inner bs)) p.denominator) (ev.table_under x vs)
   table_meant x p h bs vs b =
       then_finds (λ f. IsFound f (p.meaning (inner bs)) p.denominator) (λ d. IsTable d.0 d.1 (p.meaning (inner bs)) p.denominator) (x.comes vs) table_in (means_finds _ _ _ (h.means bs vs b)) (λ f e i. step f i)
     where
@@ -176,7 +197,7 @@ module _ (g : Setting) (j : Speaks) (s : State) (reads : List ReadValue) where
       step (fraction v) i = tt
       step (table n l) i = i
 
-  measured_meant : (x y : Part) (p q : mt.Part) (bs : List Binding) (vs : List Value) → IsMeant x p → IsMeant y q → Binds bs vs →
+  measured_meant : (x y : Part) (p q : mt.Part) (bs : List Binding) (vs : List Bound) → IsMeant x p → IsMeant y q → Binds bs vs →
       Means (ev.measured (x ∷ y ∷ []) vs) (meaning.fraction (pos (weight (m.weights_in (p.meaning (inner bs))) (λ v. m.truth (at_value q (inner bs) v))), p.denominator)) 1
   measured_meant x y p q bs vs h k b =
       finds_means _ _ 1 (then_finds (λ d. IsTable d.0 d.1 (p.meaning (inner bs)) p.denominator) (λ f. IsFound f (meaning.fraction (pos (weight (m.weights_in (p.meaning (inner bs))) test), p.denominator)) 1) (ev.table_under x vs) (λ d. ev.weighed y d vs) (table_meant x p h bs vs b)
@@ -187,7 +208,7 @@ module _ (g : Setting) (j : Speaks) (s : State) (reads : List ReadValue) where
       test : Value → Bool
       test v = m.truth (at_value q (inner bs) v)
 
-  restricted_meant : (x y : Part) (p q : mt.Part) (bs : List Binding) (vs : List Value) → IsMeant x p → IsMeant y q → Binds bs vs →
+  restricted_meant : (x y : Part) (p q : mt.Part) (bs : List Binding) (vs : List Bound) → IsMeant x p → IsMeant y q → Binds bs vs →
       Means (ev.restricted (x ∷ y ∷ []) vs) (meaning.weights (distributions.restricted (m.weights_in (p.meaning (inner bs))) (λ v. m.truth (at_value q (inner bs) v)))) p.denominator
   restricted_meant x y p q bs vs h k b =
       finds_means _ _ p.denominator (then_finds (λ d. IsTable d.0 d.1 (p.meaning (inner bs)) p.denominator) (λ f. IsFound f (meaning.weights (distributions.restricted (m.weights_in (p.meaning (inner bs))) test)) p.denominator) (ev.table_under x vs) (λ d. ev.narrowed y d vs) (table_meant x p h bs vs b)
@@ -232,17 +253,17 @@ module _ (g : Setting) (j : Speaks) (s : State) (reads : List ReadValue) where
       after_finds (λ a. IsSum a (sum_below (suc n) h)) (plus_steps a b) _
       (of_fraction _ _ (reduced_meant (plus a b) (mf.plus (sum_below n h) (h n)) (above_product _ _ i.above c.above) (above_product _ _ i.meant_above c.meant_above) (same_plus a (sum_below n h) b (h n) i.same c.same)))))
 
-  summed_meant : (q : ℕ) (x : Part) (p : mt.Part) (bs : List Binding) (vs : List Value) → IsMeant x p → Binds bs vs →
+  summed_meant : (q : ℕ) (x : Part) (p : mt.Part) (bs : List Binding) (vs : List Bound) → IsMeant x p → Binds bs vs →
       Means (ev.summed q (x ∷ []) vs) (meaning.fraction (sum_below q (λ i. m.fraction_in (p.meaning (st.under (inner bs) (binding.value (m.of_number i))))))) 1
   summed_meant q x p bs vs h b =
       finds_means _ _ 1
       (if_finds (λ f. IsFound f _ 1) (nat_le q (2 ^ 32)) _ (λ e.
       then_finds (λ a. IsSum a (sum_below q value)) (λ f. IsFound f (meaning.fraction (sum_below q value)) 1) (over (ev.next_sum body) zero_fraction q) _
-      (sum_meant body value (λ i. fraction_found (x.comes (Num i ∷ vs)) _ p.denominator (h.means (binding.value (m.of_number i) ∷ bs) (Num i ∷ vs) (refl, b))) q)
+      (sum_meant body value (λ i. fraction_found (x.comes (to.Value (Num i) ∷ vs)) _ p.denominator (h.means (binding.value (m.of_number i) ∷ bs) (to.Value (Num i) ∷ vs) (refl, b))) q)
       (λ a w r. record { meant = sum_below q value; is = refl; above = r.meant_above; found_above = r.above; same = r.same })))
     where
       body : ℕ → Comes Fraction
-      body i = x.comes (Num i ∷ vs) >>= fraction_in
+      body i = x.comes (to.Value (Num i) ∷ vs) >>= fraction_in
 
       value : ℕ → Fraction
       value i = m.fraction_in (p.meaning (st.under (inner bs) (binding.value (m.of_number i))))
@@ -257,7 +278,7 @@ module _ (g : Setting) (j : Speaks) (s : State) (reads : List ReadValue) where
   value_found unknown x k h = tt
   value_found (overflow v) x k h = tt
 
-  tuple_meant : (xs : List Part) (ps : List mt.Part) (bs : List Binding) (vs : List Value) → AreMeant xs ps → Binds bs vs → (out : List Value) →
+  tuple_meant : (xs : List Part) (ps : List mt.Part) (bs : List Binding) (vs : List Bound) → AreMeant xs ps → Binds bs vs → (out : List Value) →
       Finds (λ ws. ws ≡ out ++ map (λ p. m.value_in (p.meaning (inner bs))) ps) (collected out (map (λ x. x.comes vs >>= value_in) xs))
   tuple_meant [] [] bs vs h b out = behind_none out
   tuple_meant [] (p ∷ ps) bs vs h b out = absurd h
@@ -272,13 +293,13 @@ module _ (g : Setting) (j : Speaks) (s : State) (reads : List ReadValue) where
 
   -- images
 
-  images_at : (x : Part) (p : mt.Part) → IsMeant x p → (bs : List Binding) (vs : List Value) → Binds bs vs → (l : WeightedList Value) →
+  images_at : (x : Part) (p : mt.Part) → IsMeant x p → (bs : List Binding) (vs : List Bound) → Binds bs vs → (l : WeightedList Value) →
       Finds (λ ws. ws ≡ map (λ v. m.value_in (at_value p (inner bs) v)) (outcomes l)) (images x l vs)
   images_at x p h bs vs b l =
-      each_collected (λ v. x.comes (v ∷ vs) >>= value_in) (λ v. m.value_in (at_value p (inner bs) v))
-      (λ v. value_found (x.comes (v ∷ vs)) (at_value p (inner bs) v) p.denominator (h.means (binding.value (meaning.finite v) ∷ bs) (v ∷ vs) (refl, b))) l []
+      each_collected (λ v. x.comes (to.Value v ∷ vs) >>= value_in) (λ v. m.value_in (at_value p (inner bs) v))
+      (λ v. value_found (x.comes (to.Value v ∷ vs)) (at_value p (inner bs) v) p.denominator (h.means (binding.value (meaning.finite v) ∷ bs) (to.Value v ∷ vs) (refl, b))) l []
 
-  mapped_meant : (x y : Part) (p q : mt.Part) (bs : List Binding) (vs : List Value) → IsMeant x p → IsMeant y q → Binds bs vs →
+  mapped_meant : (x y : Part) (p q : mt.Part) (bs : List Binding) (vs : List Bound) → IsMeant x p → IsMeant y q → Binds bs vs →
       Means (ev.mapped (x ∷ y ∷ []) vs) (meaning.weights (dmap (λ v. m.value_in (at_value q (inner bs) v)) (m.weights_in (p.meaning (inner bs))))) p.denominator
   mapped_meant x y p q bs vs h k b =
       finds_means _ _ p.denominator (then_finds (λ d. IsTable d.0 d.1 (p.meaning (inner bs)) p.denominator) P (ev.table_under x vs) (λ d. ev.image_of y d vs) (table_meant x p h bs vs b)
@@ -297,7 +318,7 @@ module _ (g : Setting) (j : Speaks) (s : State) (reads : List ReadValue) where
       P f = IsFound f (meaning.weights (dmap image (m.weights_in (p.meaning (inner bs))))) p.denominator
 
   -- operators at their numbers of arguments, but those of tuples
-  module _ (ty : Ty) (bs : List Binding) (vs : List Value) (b : Binds bs vs) where
+  module _ (ty : Ty) (bs : List Binding) (vs : List Bound) (b : Binds bs vs) where
     one_meant : (p : Op) (x : Part) (q : mt.Part) → IsMeant x q → Means (x.comes vs >>= λ a. e.unary p ty a) (o.unary g.types p ty (q.meaning (inner bs))) (denominator_at g.types p ty (q.denominator ∷ []))
     one_meant p x q h =
         finds_means _ _ _ (then_finds (λ f. IsFound f (q.meaning (inner bs)) q.denominator) _ (x.comes vs) _ (means_finds _ _ _ (h.means bs vs b))
@@ -372,16 +393,50 @@ module _ (g : Setting) (j : Speaks) (s : State) (reads : List ReadValue) where
         (λ ws w q. ap (λ l. meaning.finite (Many l)) (same_parts ps bs ∙ sym q)))
     operated_meant _ xs ps h true e = absurd (false≢true e)
 
+  -- operators of the script
+
+  argument_meant : (c : Comes Finding) (x : Meaning) (k : ℕ) → Means c x k → Finds (λ a. IsFound (finding_of a) x 1) (c >>= argument_of)
+  argument_meant (found (value v)) x k h = h
+  argument_meant (found (whole v)) x k h = h
+  argument_meant (found (fraction v)) x k h = record { meant = h.meant; is = h.is; above = h.above; found_above = h.found_above; same = h.same }
+  argument_meant (found (table n l)) x k h = tt
+  argument_meant unknown x k h = tt
+  argument_meant (overflow v) x k h = tt
+
+  arguments_meant : (xs : List Part) (ps : List mt.Part) (bs : List Binding) (vs : List Bound) → AreMeant xs ps → Binds bs vs → (done : List Bound) (ms : List Meaning) → given.AreMeant done ms →
+      Finds (λ ws. given.AreMeant ws (ms ++ map (λ p. p.meaning (inner bs)) ps)) (collected done (map (λ x. x.comes vs >>= argument_of) xs))
+  arguments_meant [] [] bs vs h b done ms w = subst (given.AreMeant done) (sym (append-nil ms)) w
+  arguments_meant [] (p ∷ ps) bs vs h b done ms w = absurd h
+  arguments_meant (x ∷ xs) [] bs vs h b done ms w = absurd h
+  arguments_meant (x ∷ xs) (p ∷ ps) bs vs h b done ms w =
+      argument_collected (x.comes vs >>= argument_of) (p.meaning (inner bs)) (map (λ x. x.comes vs >>= argument_of) xs) done ms (map (λ p. p.meaning (inner bs)) ps)
+      (argument_meant (x.comes vs) (p.meaning (inner bs)) p.denominator (h.0.means bs vs b)) w (arguments_meant xs ps bs vs h.1 b)
+
+  result_meant : (f : Finding) (x : Meaning) (k : ℕ) (ty : Ty) (b : Bool) → ev.may_have ty f ≡ b → IsFound f x k → Finds (λ f. IsFound f x (denominator_over ty k)) (if b then found f else unknown)
+  result_meant f x k ty false q h = tt
+  result_meant (value v) x k ty true q h = h
+  result_meant (whole v) x k ty true q h = h
+  result_meant (fraction v) x k ty true q h = record { meant = h.meant; is = h.is; above = h.above; found_above = h.found_above; same = h.same }
+  result_meant (table n l) x k ty true q h = record { meant = h.meant; is = h.is; same = h.same; total = h.total ∙ ap (λ b. if b then k else 1) (sym q) }
+
+  called_meant : (n : Name) (ty : Ty) (xs : List Part) (ps : List mt.Part) (bs : List Binding) (vs : List Bound) → AreMeant xs ps → Binds bs vs →
+      Means (ev.called (env.operators n) ty xs vs) (g.operator n (map (λ p. p.meaning (inner bs)) ps)) (denominator_over ty (g.denominator n))
+  called_meant n ty xs ps bs vs h b =
+      finds_means _ _ _ (then_finds (λ ws. given.AreMeant ws (map (λ p. p.meaning (inner bs)) ps)) _ (ev.arguments xs vs) _ (arguments_meant xs ps bs vs h b [] [] tt)
+      (λ ws w q. then_finds (λ f. IsFound f (g.operator n (map (λ p. p.meaning (inner bs)) ps)) (g.denominator n)) _ ((env.operators n).comes ws) _ (means_finds _ _ _ ((ops n).results ws (map (λ p. p.meaning (inner bs)) ps) q))
+      (λ f w2 k. result_meant f _ (g.denominator n) ty (ev.may_have ty f) refl k)))
+
   part_denominators : {n : _} (r : Row_of-Term n) → denominators g r ≡ map (λ p. p.denominator) (parts g j r)
   part_denominators end_of-Term = refl
   part_denominators (more_of-Term t r) = ap (λ l. denominator g t ∷ l) (part_denominators r)
 
-  head_meant : (t : Term) (h : Head) (xs : List Part) (ps : List mt.Part) (ty : Ty) → AreMeant xs ps → is_given_at g s reads h ty → (bs : List Binding) (vs : List Value) → Binds bs vs → Means (ev.at_head reads h ty xs vs) (mt.at_head g j t h ps ty (inner bs)) (denominator_of g h (map (λ p. p.denominator) ps) ty)
+  head_meant : (t : Term) (h : Head) (xs : List Part) (ps : List mt.Part) (ty : Ty) → AreMeant xs ps → is_given_at g s env.reads h ty → (bs : List Binding) (vs : List Bound) → Binds bs vs → Means (ev.at_head env h ty xs vs) (mt.at_head g j t h ps ty (inner bs)) (denominator_of g h (map (λ p. p.denominator) ps) ty)
   head_meant t (head.Lit v) xs ps ty h w bs vs b = refl
   head_meant t (head.Whole n) xs ps ty h w bs vs b = refl
   head_meant t (head.Bound i) xs ps ty h w bs vs b = bound_meant bs vs i b
   head_meant t (head.Read r) xs ps ty h w bs vs b = read_meant r ty bs w
   head_meant t (head.Builtin o) xs ps ty h w bs vs b = operated_meant ty bs vs b o xs ps h (is_tuple o) refl
+  head_meant t (head.User n) xs ps ty h w bs vs b = called_meant n ty xs ps bs vs h b
   head_meant t (head.All u) xs ps ty h w bs vs b = forall_meant u xs ps bs vs h b
   head_meant t (head.Some u) xs ps ty h w bs vs b = exists_meant u xs ps bs vs h b
   head_meant t head.Mu (x ∷ y ∷ []) (p ∷ q ∷ []) ty h w bs vs b = measured_meant x y p q bs vs h.0 h.1.0 b
@@ -424,8 +479,18 @@ module _ (g : Setting) (j : Speaks) (s : State) (reads : List ReadValue) where
   operator_total_meant op.If (x ∷ y ∷ z ∷ w ∷ xs) ps ty h = tt
   operator_total_meant _ xs ps ty h = tt
 
-  head_total_meant : (h : Head) (xs : List Part) (ps : List mt.Part) (ty : Ty) → AreMeant xs ps → Finds (IsTotal (denominator_of g h (map (λ p. p.denominator) ps) ty)) (head_total h ty (map (λ x. x.total) xs))
+  denominator_found : (c : Comes ℕ) (k : ℕ) → given.IsDenominator c k → Finds (IsTotal k) c
+  denominator_found (found n) k h = record { is = h.0; above = h.1 }
+  denominator_found unknown k h = tt
+  denominator_found (overflow o) k h = tt
+
+  user_total_meant : (n : Name) (ty : Ty) (b : Bool) → Finds (IsTotal (if b then g.denominator n else 1)) (if b then (env.operators n).total else unknown)
+  user_total_meant n ty true = denominator_found (env.operators n).total (g.denominator n) (ops n).total
+  user_total_meant n ty false = tt
+
+  head_total_meant : (h : Head) (xs : List Part) (ps : List mt.Part) (ty : Ty) → AreMeant xs ps → Finds (IsTotal (denominator_of g h (map (λ p. p.denominator) ps) ty)) (head_total env.operators h ty (map (λ x. x.total) xs))
   head_total_meant (head.Builtin o) xs ps ty h = operator_total_meant o xs ps ty h
+  head_total_meant (head.User n) xs ps ty h = user_total_meant n ty (is_distribution ty)
   head_total_meant (head.Weights qs) xs ps ty h = stated_total qs
   head_total_meant head.Map [] ps ty h = tt
   head_total_meant head.Map (x ∷ []) ps ty h = tt
@@ -443,29 +508,37 @@ module _ (g : Setting) (j : Speaks) (s : State) (reads : List ReadValue) where
   head_total_meant head.Restrict (x ∷ y ∷ []) [] ty h = absurd h
   head_total_meant _ xs ps ty h = tt
 
-  part_totals : {n : _} (r : Row_of-Term n) → totals_of r ≡ map (λ x. x.total) (eval_all reads r)
+  part_totals : {n : _} (r : Row_of-Term n) → totals_of env.operators r ≡ map (λ x. x.total) (eval_all env r)
   part_totals end_of-Term = refl
-  part_totals (more_of-Term t r) = ap (λ l. total_of t ∷ l) (part_totals r)
+  part_totals (more_of-Term t r) = ap (λ l. total_of env.operators t ∷ l) (part_totals r)
 
   mutual
-    term_meant : (t : Term) → AreGiven g s reads t → IsMeant (ev.part_of reads t) (mt.part_of g j t)
+    term_meant : (t : Term) → AreGiven g s env.reads t → IsMeant (ev.part_of env t) (mt.part_of g j t)
     term_meant (Term' p (more_of-Head h end_of-Head) n ts ty) w =
         let inside = row_meant ts w.1 in
         record {
           means = λ bs vs b.
-              subst (λ ks. Means (ev.at_head reads h ty (eval_all reads ts) vs) (mt.at_head g j (Term' p (more_of-Head h end_of-Head) n ts ty) h (parts g j ts) ty (inner bs)) (denominator_of g h ks ty)) (sym (part_denominators ts))
-              (head_meant (Term' p (more_of-Head h end_of-Head) n ts ty) h (eval_all reads ts) (parts g j ts) ty inside w.0 bs vs b);
-          total = subst (λ ks. Finds (IsTotal (denominator_of g h ks ty)) (head_total h ty (totals_of ts))) (sym (part_denominators ts))
-              (subst (λ us. Finds (IsTotal (denominator_of g h (map (λ p. p.denominator) (parts g j ts)) ty)) (head_total h ty us)) (sym (part_totals ts))
-              (head_total_meant h (eval_all reads ts) (parts g j ts) ty inside));
+              subst (λ ks. Means (ev.at_head env h ty (eval_all env ts) vs) (mt.at_head g j (Term' p (more_of-Head h end_of-Head) n ts ty) h (parts g j ts) ty (inner bs)) (denominator_of g h ks ty)) (sym (part_denominators ts))
+              (head_meant (Term' p (more_of-Head h end_of-Head) n ts ty) h (eval_all env ts) (parts g j ts) ty inside w.0 bs vs b);
+          total = subst (λ ks. Finds (IsTotal (denominator_of g h ks ty)) (head_total env.operators h ty (totals_of env.operators ts))) (sym (part_denominators ts))
+              (subst (λ us. Finds (IsTotal (denominator_of g h (map (λ p. p.denominator) (parts g j ts)) ty)) (head_total env.operators h ty us)) (sym (part_totals ts))
+              (head_total_meant h (eval_all env ts) (parts g j ts) ty inside));
         }
 
-    row_meant : {n : _} (r : Row_of-Term n) → AllGiven g s reads r → AreMeant (eval_all reads r) (parts g j r)
+    row_meant : {n : _} (r : Row_of-Term n) → AllGiven g s env.reads r → AreMeant (eval_all env r) (parts g j r)
     row_meant end_of-Term w = tt
     row_meant (more_of-Term t r) w = (term_meant t w.0, row_meant r w.1)
 
-pub answer_sound : (g : Setting) (j : Speaks) (s : State) (reads : List ReadValue) (t : Term) (bound : List Value) → AreGiven g s reads t → Binds s.bound bound → Means (eval reads t bound) (val g j t s) (denominator g t)
-answer_sound g j s reads t bound w b = (term_meant g j s reads t w).means s.bound bound b
+pub answer_sound : (g : Setting) (j : Speaks) (s : State) (env : Environment) (t : Term) (bound : List Bound) → AreOperators g env.operators → AreGiven g s env.reads t → Binds s.bound bound → Means (eval env t bound) (val g j t s) (denominator g t)
+answer_sound g j s env t bound o w b = (term_meant g j s env o t w).means s.bound bound b
 
-pub truth_sound : (g : Setting) (j : Speaks) (s : State) (reads : List ReadValue) (t : Term) (b : Bool) → AreGiven g s reads t → ev.truth_at reads t [] ≡ found b → m.truth (val g j t s) ≡ b
-truth_sound g j s reads t b w h = subst (λ c. IsTruth c (m.truth (val g j t s))) h (comes_truth (eval reads t []) (val g j t s) (denominator g t) (answer_sound g j s reads t [] w tt))
+pub truth_sound : (g : Setting) (j : Speaks) (s : State) (env : Environment) (t : Term) (b : Bool) → AreOperators g env.operators → AreGiven g s env.reads t → ev.truth_at env t [] ≡ found b → m.truth (val g j t s) ≡ b
+truth_sound g j s env t b o w h = subst (λ c. IsTruth c (m.truth (val g j t s))) h (comes_truth (eval env t []) (val g j t s) (denominator g t) (answer_sound g j s env t [] o w tt))
+
+pub total_sound : (g : Setting) (s : State) (env : Environment) (t : Term) → AreOperators g env.operators → AreGiven g s env.reads t → given.IsDenominator (total_of env.operators t) (denominator g t)
+total_sound g s env t o w = step (total_of env.operators t) (term_meant g mt.quiet s env o t w).total
+  where
+    step : (c : Comes ℕ) → Finds (IsTotal (denominator g t)) c → given.IsDenominator c (denominator g t)
+    step (found n) h = (h.is, h.above)
+    step unknown h = tt
+    step (overflow v) h = tt

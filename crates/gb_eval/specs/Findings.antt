@@ -9,12 +9,15 @@ use Rattle.gb_coupling.specs.WeightedList.{WeightedList}
 use Rattle.gb_num.specs.declared.whole.Overflow.{Overflow}
 use Rattle.gb_num.specs.Fractions.{Fraction}
 use Rattle.gb_num.specs.Operations.{Operation, first_overflow}
+use Rattle.gb_meaning.specs.Names.{Name}
 use Rattle.gb_dist.specs.declared.table.Table.{Table}
 use Rattle.gb_dist.specs.Rows.{entries}
 use Rattle.gb_eval.specs.declared.answer.Answer.{Answer}
 use Rattle.gb_eval.specs.declared.answer.Answer.TheVariants as answer
 use Rattle.gb_eval.specs.declared.answer.Stop.{Stop}
 use Rattle.gb_eval.specs.declared.answer.Stop.TheVariants as stop
+use Rattle.gb_eval.specs.declared.env.Bound.{Bound}
+use Rattle.gb_eval.specs.declared.env.Bound.TheVariants as to
 
 -- What is found of a term: a value of a finite type, a whole number, a fraction in lowest terms, or a distribution by its
 -- denominator and its weights.
@@ -90,6 +93,31 @@ fraction_in _ = unknown
 abbrev pub table_in : Finding → Comes (ℕ × WeightedList Value)
 table_in (table n l) = found (n, l)
 table_in _ = unknown
+
+-- what a variable stands for
+abbrev pub finding_of : Bound → Finding
+finding_of (to.Value v) = value v
+finding_of (to.Whole n) = whole n
+finding_of (to.Fraction a) = fraction a
+
+-- what a parameter stands for where the argument is this finding; it is no distribution
+abbrev pub argument_of : Finding → Comes Bound
+argument_of (value v) = found (to.Value v)
+argument_of (whole n) = found (to.Whole n)
+argument_of (fraction a) = found (to.Fraction a)
+argument_of (table n l) = unknown
+
+-- An operator of a script: what it comes to at its arguments, in order, and the denominator of what it gives.
+pub record Function : Type 0 where
+  pub comes : List Bound → Comes Finding
+  pub total : Comes ℕ
+
+-- the operators of a script, by name
+abbrev pub Operators : Type 0
+Operators = Name → Function
+
+abbrev pub no_operator : Function
+no_operator = record { comes = λ vs. unknown; total = unknown }
 
 -- what is made of the table that is found
 abbrev pub with_table : {A : Type 0} → Finding → (ℕ → WeightedList Value → Comes A) → Comes A

@@ -12,8 +12,12 @@ use Rattle.gb_terms.specs.declared.op.Read.TheVariants.{Logical, Program}
 use Rattle.gb_terms.specs.declared.term.Term.{Term, Term', Row_of-Term, end_of-Term, more_of-Term, end_of-Head, more_of-Head}
 use Rattle.gb_terms.specs.declared.term.Head.{Head}
 use Rattle.gb_terms.specs.declared.term.Head.TheVariants as head
+use Rattle.gb_goal.specs.Scope.{Declarations}
+use Rattle.gb_meaning.specs.Names.{Name}
 use Rattle.gb_meaning.specs.Operators.{is_distribution, outcome_type}
 use Rattle.gb_typed.specs.Typing.{types_of}
+use Rattle.gb_eval.specs.declared.script.Script.{Script}
+use Rattle.gb_eval.specs.Script.{opened}
 
 -- The number of arguments at which evaluation knows an operator. A tuple may have any.
 abbrev pub arity : Op → Option ℕ
@@ -63,30 +67,41 @@ abbrev pub are_of_outcomes : List Ty → Bool
 are_of_outcomes (d ∷ a ∷ []) = has_finite_outcomes d
 are_of_outcomes _ = false
 
--- whether evaluation knows a head at arguments of these types
-abbrev pub is_head_known : Head → List Ty → Bool
-is_head_known (head.Lit v) us = length us == 0
-is_head_known (head.Whole k) us = length us == 0
-is_head_known (head.Bound i) us = length us == 0
-is_head_known (head.Read r) us = (length us == 0) && is_read_known r
-is_head_known (head.Builtin o) us = takes o (length us)
-is_head_known (head.All ty) us = (length us == 1) && is_finite ty
-is_head_known (head.Some ty) us = (length us == 1) && is_finite ty
-is_head_known (head.Sum q) us = length us == 1
-is_head_known (head.Weights ps) us = length us == 0
-is_head_known head.Mu us = are_of_outcomes us
-is_head_known head.Map us = are_of_outcomes us
-is_head_known head.Restrict us = are_of_outcomes us
-is_head_known _ us = false
+-- whether evaluation knows a head at arguments of these types, by whether it knows the operators of the script
+abbrev pub is_head_known : (Name → Bool) → Head → List Ty → Bool
+is_head_known ks (head.Lit v) us = length us == 0
+is_head_known ks (head.Whole k) us = length us == 0
+is_head_known ks (head.Bound i) us = length us == 0
+is_head_known ks (head.Read r) us = (length us == 0) && is_read_known r
+is_head_known ks (head.Builtin o) us = takes o (length us)
+is_head_known ks (head.User n) us = ks n
+is_head_known ks (head.All ty) us = (length us == 1) && is_finite ty
+is_head_known ks (head.Some ty) us = (length us == 1) && is_finite ty
+is_head_known ks (head.Sum q) us = length us == 1
+is_head_known ks (head.Weights ps) us = length us == 0
+is_head_known ks head.Mu us = are_of_outcomes us
+is_head_known ks head.Map us = are_of_outcomes us
+is_head_known ks head.Restrict us = are_of_outcomes us
+is_head_known ks _ us = false
 
 abbrev pub are_true : List Bool → Bool
 are_true bs = list_all (λ b. b) bs
 
 -- evaluation knows each part of the term
 abbrev mutual
-  pub is_known : Term → Bool
-  is_known (Term' p (more_of-Head h end_of-Head) n ts ty) = is_head_known h (types_of ts) && are_true (all_known ts)
+  pub is_known : (Name → Bool) → Term → Bool
+  is_known ks (Term' p (more_of-Head h end_of-Head) n ts ty) = is_head_known ks h (types_of ts) && are_true (all_known ks ts)
 
-  pub all_known : {n : _} → Row_of-Term n → List Bool
-  all_known end_of-Term = []
-  all_known (more_of-Term t ts) = is_known t ∷ all_known ts
+  pub all_known : {n : _} → (Name → Bool) → Row_of-Term n → List Bool
+  all_known ks end_of-Term = []
+  all_known ks (more_of-Term t ts) = is_known ks t ∷ all_known ks ts
+
+-- the operators of a script that evaluation knows, as far as they are opened: those with bodies that it knows
+abbrev pub known_at : Declarations → ℕ → Name → Bool
+known_at = opened false is_known
+
+abbrev pub known_of : Declarations → Name → Bool
+known_of ds = known_at ds (length ds)
+
+abbrev pub known_in : Script → Name → Bool
+known_in s = known_at s.scope.now s.depth

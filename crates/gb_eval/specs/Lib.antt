@@ -1,3 +1,4 @@
+pub mod Script
 pub mod Findings
 pub mod Operators
 pub mod Totals

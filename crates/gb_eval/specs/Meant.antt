@@ -1,5 +1,5 @@
 -- When what a term comes to is what it means.
-use Rattle.std.specs.Prelude.{◌≡◌, ℕ, ◌<◌, List, [], ◌∷◌}
+use Rattle.std.specs.Prelude.{◌≡◌, ℕ, ◌<◌, List, [], ◌∷◌, map, reverse, Some}
 use Rattle.gb_core.specs.declared.ty.Ty.{Ty}
 use Rattle.gb_core.specs.declared.value.Value.{Value}
 use Rattle.gb_terms.specs.declared.term.Term.{Term, Term', Row_of-Term, end_of-Term, more_of-Term, end_of-Head, more_of-Head}
@@ -9,13 +9,17 @@ use Rattle.gb_coupling.specs.WeightedList.{WeightedList, mass}
 use Rattle.gb_num.specs.Fractions.{Fraction, IsSame}
 use Rattle.gb_meaning.specs.Setting.{Meaning, Setting}
 use Rattle.gb_meaning.specs.Setting.Meaning.{finite, whole, fraction, weights}
-use Rattle.gb_meaning.specs.State.{State, Binding}
+use Rattle.gb_meaning.specs.State.{State, Binding, closed}
 use Rattle.gb_meaning.specs.State.Binding.{value}
-use Rattle.gb_meaning.specs.Terms.{read_at}
+use Rattle.gb_meaning.specs.Terms.{denominator, quiet, read_at, val}
 use Rattle.gb_eval.specs.declared.env.ReadValue.{ReadValue}
-use Rattle.gb_eval.specs.Findings.{Finding, Finding as finding, Comes}
+use Rattle.gb_meaning.specs.Names.{Name}
+use Rattle.gb_eval.specs.declared.env.Bound.{Bound}
+use Rattle.gb_eval.specs.Findings.{Finding, Finding as finding, Function, Operators, Comes, finding_of}
 use Rattle.gb_eval.specs.Findings.Comes.{found, unknown, overflow}
+use Rattle.gb_eval.specs.Script.{body_named}
 use Rattle.gb_eval.specs.Eval.{value_of}
+use Rattle.gb_goal.specs.Scope.{Declarations}
 
 -- a fraction that is the same by cross products
 pub record IsFraction (a : Fraction) (m : Meaning) : Type 0 where
@@ -45,11 +49,36 @@ Means (found x) m k = IsFound x m k
 Means unknown m k = Unit {0}
 Means (overflow o) m k = Unit {0}
 
--- the innermost binders bind these values
-abbrev pub Binds : List Binding → List Value → Type 0
-Binds bs [] = Unit {0}
-Binds [] (v ∷ vs) = ⊥
-Binds (b ∷ bs) (v ∷ vs) = (b ≡ value (finite v)) × Binds bs vs
+-- the binder binds what the variable stands for
+abbrev pub BindsOne : Binding → Bound → Type 0
+BindsOne (value m) b = IsFound (finding_of b) m 1
+BindsOne _ b = ⊥
+
+-- and so do the innermost ones of these
+abbrev pub Binds : List Binding → List Bound → Type 0
+Binds xs [] = Unit {0}
+Binds [] (b ∷ bs) = ⊥
+Binds (x ∷ xs) (b ∷ bs) = BindsOne x b × Binds xs bs
+
+-- arguments stand for these meanings
+abbrev pub AreMeant : List Bound → List Meaning → Type 0
+AreMeant [] [] = Unit {0}
+AreMeant (b ∷ bs) (m ∷ ms) = IsFound (finding_of b) m 1 × AreMeant bs ms
+AreMeant _ _ = ⊥
+
+-- a denominator that is found is this one, above 0
+abbrev pub IsDenominator : Comes ℕ → ℕ → Type 0
+IsDenominator (found n) k = (n ≡ k) × (0 < n)
+IsDenominator _ k = Unit {0}
+
+-- What an operator comes to at arguments is its result at what they stand for, over its denominator.
+pub record IsOperator (f : Function) (result : List Meaning → Meaning) (k : ℕ) : Type 0 where
+  pub results : (bs : List Bound) (ms : List Meaning) → AreMeant bs ms → Means (f.comes bs) (result ms) k
+  pub total : IsDenominator f.total k
+
+-- each operator of the script is that of the setting
+abbrev pub AreOperators : Setting → Operators → Type 0
+AreOperators g ops = (n : Name) → IsOperator (ops n) (g.operator n) (g.denominator n)
 
 -- a read means what is given for it
 abbrev pub is_given_at : Setting → State → List ReadValue → Head → Ty → Type 0
@@ -64,3 +93,12 @@ abbrev mutual
   pub AllGiven : {n : _} → Setting → State → List ReadValue → Row_of-Term n → Type 0
   AllGiven g s reads end_of-Term = Unit {0}
   AllGiven g s reads (more_of-Term t ts) = AreGiven g s reads t × AllGiven g s reads ts
+
+-- An operator means its body, in which its parameters are bound, the last one innermost.
+pub record IsBody (g : Setting) (n : Name) (t : Term) : Type 0 where
+  pub result : (ms : List Meaning) → g.operator n ms ≡ val g quiet t (record closed { bound = reverse (map value ms) })
+  pub total : g.denominator n ≡ denominator g t
+
+-- the operators with bodies mean these
+abbrev pub AreBodies : Setting → Declarations → Type 0
+AreBodies g ds = (n : Name) (t : Term) → body_named ds n ≡ Some t → IsBody g n t

@@ -18,6 +18,7 @@ use Rattle.gb_num.specs.Fractions as fractions
 use Rattle.gb_num.specs.Operations.{is_small, product_of, sum_of, difference_of, crossings, plus_steps, minus_steps, times_steps, over_steps}
 use Rattle.gb_dist.specs.Lists.{coin, uniform, product}
 use Rattle.gb_dist.specs.Rows.{product_steps}
+use Rattle.gb_maps.specs.Keys.{are_keys, is_key}
 use Rattle.gb_meaning.specs.Values.{value_eq}
 use Rattle.gb_meaning.specs.Operators.{outcome_type, key_type, entry_of, entry_set, is_none}
 use Rattle.gb_eval.specs.Findings.{Finding, Comes, ◌>>=◌, after, of_number, of_truth, number_in, truth_in, value_in, with_table}
@@ -159,26 +160,14 @@ looked_up x y = value_in x >>= λ m. value_in y >>= λ k. found (value (Many (en
 abbrev pub in_map : Finding → Finding → Comes Bool
 in_map x y = value_in x >>= λ k. value_in y >>= λ m. found (not (is_none (entry_of (parts_of m) k)))
 
--- types whose values are numbers, each its own place
-abbrev pub is_of_numbers : Ty → Bool
-is_of_numbers ty.Unit = true
-is_of_numbers ty.Bool = true
-is_of_numbers (ty.Bits n) = true
-is_of_numbers (ty.Mod n) = true
-is_of_numbers (ty.Enumeration name n) = true
-is_of_numbers _ = false
-
 abbrev pub is_map : Ty → Bool
 is_map (ty.Map' p k q x) = true
 is_map _ = false
 
--- a type of maps whose keys are numbers
-abbrev pub has_number_keys : Ty → Bool
-has_number_keys t = is_map t && is_of_numbers (key_type t)
-
--- a map with a value for a key, where keys are numbers
+-- a map with a value for a key, in the order of the values of the type of its keys, where each key has a place in that
 abbrev pub with_entry : Ty → List Value → Value → Value → Comes Finding
-with_entry t ps k v = if has_number_keys t then found (value (Many (entry_set (numbering (key_type t)) ps k v))) else unknown
+with_entry t ps k v =
+    if is_map t && is_key (key_type t) k && are_keys (key_type t) ps then found (value (Many (entry_set (numbering (key_type t)) ps k v))) else unknown
 
 abbrev pub updated : Ty → Finding → Finding → Finding → Comes Finding
 updated t x y z = value_in x >>= λ m. value_in y >>= λ k. value_in z >>= λ v. with_entry t (parts_of m) k v

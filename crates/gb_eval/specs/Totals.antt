@@ -15,8 +15,8 @@ use Rattle.gb_core.specs.declared.value.Value.{Value}
 use Rattle.gb_coupling.specs.WeightedList.{WeightedList, total}
 use Rattle.gb_dist.specs.Rows.{adding_steps}
 use Rattle.gb_meaning.specs.Distributions.{stated}
-use Rattle.gb_meaning.specs.Operators.{outcome_type}
-use Rattle.gb_eval.specs.Findings.{Comes, ◌>>=◌, after}
+use Rattle.gb_meaning.specs.Operators.{is_distribution, outcome_type}
+use Rattle.gb_eval.specs.Findings.{Comes, Operators, ◌>>=◌, after}
 use Rattle.gb_eval.specs.Findings.Comes.{found, unknown}
 
 abbrev pub number_of_outcomes : Card → Comes ℕ
@@ -53,18 +53,23 @@ abbrev pub weights_total : WeightedList Value → Comes ℕ
 weights_total [] = unknown
 weights_total (e ∷ l) = if are_weights (e ∷ l) then after (adding_steps 0 (e ∷ l)) (total (e ∷ l)) else unknown
 
-abbrev pub head_total : Head → Ty → List (Comes ℕ) → Comes ℕ
-head_total (head.Builtin o) ty ks = operator_total o ty ks
-head_total (head.Weights ps) ty ks = weights_total (stated ps)
-head_total head.Map ty ks = of_first ks
-head_total head.Restrict ty ks = of_first ks
-head_total _ ty ks = unknown
+-- that of an operator of the script, where its type is a distribution
+abbrev pub total_over : Ty → Comes ℕ → Comes ℕ
+total_over ty k = if is_distribution ty then k else unknown
+
+abbrev pub head_total : Operators → Head → Ty → List (Comes ℕ) → Comes ℕ
+head_total ops (head.Builtin o) ty ks = operator_total o ty ks
+head_total ops (head.User n) ty ks = total_over ty (ops n).total
+head_total ops (head.Weights ps) ty ks = weights_total (stated ps)
+head_total ops head.Map ty ks = of_first ks
+head_total ops head.Restrict ty ks = of_first ks
+head_total ops _ ty ks = unknown
 
 abbrev mutual
   -- the denominator of a distribution
-  pub total_of : Term → Comes ℕ
-  total_of (Term' p (more_of-Head h end_of-Head) n ts ty) = head_total h ty (totals_of ts)
+  pub total_of : Operators → Term → Comes ℕ
+  total_of ops (Term' p (more_of-Head h end_of-Head) n ts ty) = head_total ops h ty (totals_of ops ts)
 
-  pub totals_of : {n : _} → Row_of-Term n → List (Comes ℕ)
-  totals_of end_of-Term = []
-  totals_of (more_of-Term t ts) = total_of t ∷ totals_of ts
+  pub totals_of : {n : _} → Operators → Row_of-Term n → List (Comes ℕ)
+  totals_of ops end_of-Term = []
+  totals_of ops (more_of-Term t ts) = total_of ops t ∷ totals_of ops ts

@@ -1,22 +1,25 @@
 // What a closed term comes to.
 
-ghost use Rattle.std.specs.Prelude.{◌≡◌, reverse, map, [], ◌∷◌, OnOk};
+ghost use Rattle.std.specs.Prelude.{◌≡◌, ◌<◌, ◌^◌, reverse, map, [], ◌∷◌, IfOk, OnOk};
 ghost use Rattle.gb_types.specs.Types.{IsPlaceBelow, card_of, value_at};
 ghost use Rattle.gb_dist.specs.Rows.{entries};
 ghost use Rattle.gb_core.specs.declared.value.Value.TheVariants.{Num};
+ghost use Rattle.gb_eval.specs.declared.env.Bound.TheVariants as to;
 ghost use Rattle.gb_eval.specs.Findings.{Finds, Gives, ◌>>=◌ as ◌and_then◌, fraction_in, shown, shown_table};
 ghost use Rattle.gb_eval.specs.Findings.Finding.{whole};
 ghost use Rattle.gb_eval.specs.Totals.{total_of};
-ghost use Rattle.gb_eval.specs.Eval.{at_three, conditional, connected, eval, event, image_of, images, map_update, mapped, measured, narrowed, next_sum, operated, part_of, quantified, restricted, scaled, summed, table_under, truth_at, tuple, weighed};
+ghost use Rattle.gb_eval.specs.Eval.{arguments, at_three, called, conditional, connected, environment, eval, event, image_of, images, map_update, mapped, may_have, measured, narrowed, next_sum, operated, part_of, quantified, restricted, result_at, scaled, summed, table_under, truth_at, tuple, weighed};
 
 use crate::answer::{Answer, Stop, fraction_in, of_truth, truth_in, value_in};
-use crate::env::{ReadValue, value_bound, value_of};
+use crate::env::{Bound, Bounds, Env, argument_of, value_bound, value_of};
 use crate::known::is_tuple;
 use crate::making::{imaged, weighted};
 use crate::maps::updated;
 use crate::numbers::chance;
 use crate::operators::{binary, is_connective, left_decides, nullary, right_decides, unary};
-use crate::total::total;
+use crate::script::{body_of, inside};
+use crate::total::{is_distribution, total};
+use gb_core::name::Name;
 use gb_core::ty::Ty;
 use gb_core::value::{Card, Value, Values};
 use gb_dist::parts::{choose, mass, restrict};
@@ -30,43 +33,34 @@ use gb_types::nth::nth;
 use sqlite_items::Items;
 use std::alloc::Global;
 
-/// The truth of a form where reads have these values. Operands come to something from left to right; a connective and a
+/// The truth of a form in an environment. Operands come to something from left to right; a connective and a
 /// conditional leave out what the left side decides; a quantifier tries the values of its type in order and stops at the first
 /// that decides.
 ///
 /// # Errors
 /// `Unknown` at the first part that is opaque; `Overflow` with the operands of the first operation on whole numbers whose
 /// result is out of range.
-pub fn truth(alloc: Global, t: &Form, reads: &[ReadValue]) -> Result<bool, Stop>
-    ensures { Finds (truth_at reads.now t.now []) result }
+pub fn truth(alloc: Global, t: &Form, env: &Env<'_>) -> Result<bool, Stop>
+    ensures { Finds (truth_at (environment env.now) t.now []) result }
 {
     let mut bound = Items::new(alloc);
-    truth_under(alloc, t, reads, &mut bound)
+    truth_under(alloc, t, env, &mut bound)
 }
 
 #[cycle(eval)]
-fn truth_under(
-    alloc: Global,
-    t: &Term,
-    reads: &[ReadValue],
-    bound: &mut Values,
-) -> Result<bool, Stop>
-    ensures found { Finds (truth_at reads.now t.now (reverse bound.old)) result }
+fn truth_under(alloc: Global, t: &Term, env: &Env<'_>, bound: &mut Bounds) -> Result<bool, Stop>
+    ensures found { Finds (truth_at (environment env.now) t.now (reverse bound.old)) result }
     ensures bound { OnOk result (bound.new ≡ bound.old) }
 {
-    let found = eval(alloc, t, reads, bound)?;
+    let found = eval(alloc, t, env, bound)?;
     truth_in(&found)
 }
 
-/// What a term comes to, under the values of the variables bound around it, the innermost last.
+/// What a term comes to, under what the variables bound around it stand for, the innermost last. The arguments of an operator of
+/// the script come to something before its body does.
 #[cycle(eval)]
-pub fn eval(
-    alloc: Global,
-    t: &Term,
-    reads: &[ReadValue],
-    bound: &mut Values,
-) -> Result<Answer, Stop>
-    ensures found { Gives shown (eval reads.now t.now (reverse bound.old)) result }
+pub fn eval(alloc: Global, t: &Term, env: &Env<'_>, bound: &mut Bounds) -> Result<Answer, Stop>
+    ensures found { Gives shown (eval (environment env.now) t.now (reverse bound.old)) result }
     ensures bound { OnOk result (bound.new ≡ bound.old) }
 {
     let args = t.args.as_slice();
@@ -76,18 +70,94 @@ pub fn eval(
             Ok(Answer::Value(value))
         }
         Head::Whole(n) => Ok(whole(n)),
-        Head::Read(r) => value_of(reads, r),
+        Head::Read(r) => value_of(env.reads, r),
         Head::Bound(index) => value_bound(bound.as_slice(), *index),
-        Head::Builtin(op) => operator(alloc, args, *op, t.ty.get(), reads, bound),
-        Head::All(ty) => quantifier(alloc, args, ty.get(), false, reads, bound),
-        Head::Some(ty) => quantifier(alloc, args, ty.get(), true, reads, bound),
-        Head::Mu => measure(alloc, args, reads, bound),
-        Head::Restrict => restriction(alloc, args, reads, bound),
-        Head::Map => image(alloc, args, reads, bound),
+        Head::Builtin(op) => operator(alloc, args, *op, t.ty.get(), env, bound),
+        Head::User(name) => called(alloc, args, name, t.ty.get(), env, bound),
+        Head::All(ty) => quantifier(alloc, args, ty.get(), false, env, bound),
+        Head::Some(ty) => quantifier(alloc, args, ty.get(), true, env, bound),
+        Head::Mu => measure(alloc, args, env, bound),
+        Head::Restrict => restriction(alloc, args, env, bound),
+        Head::Map => image(alloc, args, env, bound),
         Head::Weights(pairs) => weighted(alloc, pairs.as_slice()),
-        Head::Sum(count) => sum(alloc, args, *count, reads, bound),
+        Head::Sum(count) => sum(alloc, args, *count, env, bound),
         _ => Err(Stop::Unknown),
     }
+}
+
+/// The arguments of an operator of the script.
+#[cycle(eval)]
+fn arguments(
+    alloc: Global,
+    args: &[Term],
+    env: &Env<'_>,
+    bound: &mut Bounds,
+) -> Result<Bounds, Stop>
+    ensures found { Finds (arguments (map (part_of (environment env.now)) args.now) (reverse bound.old)) result }
+    ensures bound { OnOk result (bound.new ≡ bound.old) }
+{
+    let mut out = Items::new(alloc);
+    for arg in args {
+        let answer = eval(alloc, arg, env, bound)?;
+        out.push(argument_of(answer)?)?;
+    }
+    Ok(out)
+}
+
+/// Whether a type may be that of an answer: a distribution is of a type of distributions.
+fn may_have(ty: &Ty, answer: &Answer) -> bool
+    ensures { result ≡ may_have ty.now (shown answer.now) }
+{
+    match answer {
+        Answer::Table(_) => is_distribution(ty),
+        _ => true,
+    }
+}
+
+/// A result of an operator of the script at its type.
+fn result_at(ty: &Ty, answer: Answer) -> Result<Answer, Stop>
+    ensures { Gives shown (result_at ty.now (shown answer)) result }
+{
+    if may_have(ty, &answer) {
+        Ok(answer)
+    } else {
+        Err(Stop::Unknown)
+    }
+}
+
+/// What an operator of the script comes to at arguments: what its body does, in which they are bound.
+#[cycle(eval)]
+fn applied(alloc: Global, name: &Name, env: &Env<'_>, args: &mut Bounds) -> Result<Answer, Stop>
+    ensures { Gives shown (((environment env.now).operators name.now).comes args.old) result }
+{
+    match body_of(&env.script, name) {
+        Some(body) => {
+            let inner = Env {
+                script: inside(&env.script),
+                reads: &[],
+            };
+            eval(alloc, body, &inner, args)
+        }
+        None => Err(Stop::Unknown),
+    }
+}
+
+/// An operator of the script at its arguments.
+#[cycle(eval)]
+fn called(
+    alloc: Global,
+    args: &[Term],
+    name: &Name,
+    ty: &Ty,
+    env: &Env<'_>,
+    bound: &mut Bounds,
+) -> Result<Answer, Stop>
+    ensures found { Gives shown (called ((environment env.now).operators name.now) ty.now (map (part_of (environment env.now)) args.now) (reverse bound.old)) result }
+    ensures bound { OnOk result (bound.new ≡ bound.old) }
+{
+    let mut given = arguments(alloc, args, env, bound)?;
+    let answer = applied(alloc, name, env, &mut given)?;
+    result_at(ty, answer)
 }
 
 /// The answer that is a whole number.
@@ -105,45 +175,40 @@ fn operator(
     args: &[Term],
     op: Op,
     ty: &Ty,
-    reads: &[ReadValue],
-    bound: &mut Values,
+    env: &Env<'_>,
+    bound: &mut Bounds,
 ) -> Result<Answer, Stop>
-    ensures found { Gives shown (operated op ty.now (map (part_of reads.now) args.now) (reverse bound.old)) result }
+    ensures found { Gives shown (operated op ty.now (map (part_of (environment env.now)) args.now) (reverse bound.old)) result }
     ensures bound { OnOk result (bound.new ≡ bound.old) }
 {
     if is_tuple(op) {
-        return tuple(alloc, args, reads, bound);
+        return tuple(alloc, args, env, bound);
     }
     match args {
         [] => nullary(alloc, op, ty),
         [a] => {
-            let a = eval(alloc, a, reads, bound)?;
+            let a = eval(alloc, a, env, bound)?;
             unary(alloc, op, ty, a)
         }
-        [_, _] if is_connective(op) => connective(alloc, op, args, reads, bound),
+        [_, _] if is_connective(op) => connective(alloc, op, args, env, bound),
         [a, b] => {
-            let a = eval(alloc, a, reads, bound)?;
-            let b = eval(alloc, b, reads, bound)?;
+            let a = eval(alloc, a, env, bound)?;
+            let b = eval(alloc, b, env, bound)?;
             binary(alloc, op, ty, a, b)
         }
-        [_, _, _] => ternary(alloc, args, op, ty, reads, bound),
+        [_, _, _] => ternary(alloc, args, op, ty, env, bound),
         _ => Err(Stop::Unknown),
     }
 }
 
 #[cycle(eval)]
-fn tuple(
-    alloc: Global,
-    args: &[Term],
-    reads: &[ReadValue],
-    bound: &mut Values,
-) -> Result<Answer, Stop>
-    ensures found { Gives shown (tuple (map (part_of reads.now) args.now) (reverse bound.old)) result }
+fn tuple(alloc: Global, args: &[Term], env: &Env<'_>, bound: &mut Bounds) -> Result<Answer, Stop>
+    ensures found { Gives shown (tuple (map (part_of (environment env.now)) args.now) (reverse bound.old)) result }
     ensures bound { OnOk result (bound.new ≡ bound.old) }
 {
     let mut parts = Items::new(alloc);
     for arg in args {
-        let part = eval(alloc, arg, reads, bound)?;
+        let part = eval(alloc, arg, env, bound)?;
         parts.push(value_in(part)?)?;
     }
     let value = Value::of_parts(alloc, parts)?;
@@ -156,20 +221,20 @@ fn connective(
     alloc: Global,
     op: Op,
     args: &[Term],
-    reads: &[ReadValue],
-    bound: &mut Values,
+    env: &Env<'_>,
+    bound: &mut Bounds,
 ) -> Result<Answer, Stop>
-    ensures found { Gives shown (connected op (map (part_of reads.now) args.now) (reverse bound.old)) result }
+    ensures found { Gives shown (connected op (map (part_of (environment env.now)) args.now) (reverse bound.old)) result }
     ensures bound { OnOk result (bound.new ≡ bound.old) }
 {
     let [a, b] = args else {
         return Err(Stop::Unknown);
     };
-    let left = truth_under(alloc, a, reads, bound)?;
+    let left = truth_under(alloc, a, env, bound)?;
     if let Some(decided) = left_decides(op, left) {
         return Ok(of_truth(decided));
     }
-    let right = truth_under(alloc, b, reads, bound)?;
+    let right = truth_under(alloc, b, env, bound)?;
     Ok(of_truth(right_decides(op, left, right)))
 }
 
@@ -180,15 +245,15 @@ fn ternary(
     args: &[Term],
     op: Op,
     ty: &Ty,
-    reads: &[ReadValue],
-    bound: &mut Values,
+    env: &Env<'_>,
+    bound: &mut Bounds,
 ) -> Result<Answer, Stop>
-    ensures found { Gives shown (at_three op ty.now (map (part_of reads.now) args.now) (reverse bound.old)) result }
+    ensures found { Gives shown (at_three op ty.now (map (part_of (environment env.now)) args.now) (reverse bound.old)) result }
     ensures bound { OnOk result (bound.new ≡ bound.old) }
 {
     match op {
-        Op::If => conditional(alloc, args, reads, bound),
-        Op::Set => update(alloc, args, ty, reads, bound),
+        Op::If => conditional(alloc, args, env, bound),
+        Op::Set => update(alloc, args, ty, env, bound),
         _ => Err(Stop::Unknown),
     }
 }
@@ -198,21 +263,21 @@ fn ternary(
 fn conditional(
     alloc: Global,
     args: &[Term],
-    reads: &[ReadValue],
-    bound: &mut Values,
+    env: &Env<'_>,
+    bound: &mut Bounds,
 ) -> Result<Answer, Stop>
-    ensures found { Gives shown (conditional (map (part_of reads.now) args.now) (reverse bound.old)) result }
+    ensures found { Gives shown (conditional (map (part_of (environment env.now)) args.now) (reverse bound.old)) result }
     ensures bound { OnOk result (bound.new ≡ bound.old) }
 {
     let [test, a, b] = args else {
         return Err(Stop::Unknown);
     };
-    if truth_under(alloc, test, reads, bound)? {
-        let side = eval(alloc, a, reads, bound)?;
-        scaled(alloc, side, b)
+    if truth_under(alloc, test, env, bound)? {
+        let side = eval(alloc, a, env, bound)?;
+        scaled(alloc, side, b, env)
     } else {
-        let side = eval(alloc, b, reads, bound)?;
-        scaled(alloc, side, a)
+        let side = eval(alloc, b, env, bound)?;
+        scaled(alloc, side, a, env)
     }
 }
 
@@ -222,28 +287,37 @@ fn update(
     alloc: Global,
     args: &[Term],
     ty: &Ty,
-    reads: &[ReadValue],
-    bound: &mut Values,
+    env: &Env<'_>,
+    bound: &mut Bounds,
 ) -> Result<Answer, Stop>
-    ensures found { Gives shown (map_update ty.now (map (part_of reads.now) args.now) (reverse bound.old)) result }
+    ensures found { Gives shown (map_update ty.now (map (part_of (environment env.now)) args.now) (reverse bound.old)) result }
     ensures bound { OnOk result (bound.new ≡ bound.old) }
 {
     let [map, key, v] = args else {
         return Err(Stop::Unknown);
     };
-    let map = eval(alloc, map, reads, bound)?;
-    let key = eval(alloc, key, reads, bound)?;
-    let v = eval(alloc, v, reads, bound)?;
+    let map = eval(alloc, map, env, bound)?;
+    let key = eval(alloc, key, env, bound)?;
+    let v = eval(alloc, v, env, bound)?;
     updated(alloc, ty, map, key, v)
 }
 
+/// The denominator of a distribution.
+fn total_in(t: &Term, env: &Env<'_>) -> Result<u128, Stop>
+    ensures value { Finds (total_of (environment env.now).operators t.now) result }
+    ensures above { IfOk result (λ n. 0 < n) }
+    ensures small { IfOk result (λ n. n < 2 ^ 127) }
+{
+    total(t, &env.script)
+}
+
 /// A chosen side: of a distribution its weights and its denominator times the denominator of the other side.
-fn scaled(alloc: Global, side: Answer, other: &Term) -> Result<Answer, Stop>
-    ensures { Gives shown (scaled (total_of other.now) (shown side)) result }
+fn scaled(alloc: Global, side: Answer, other: &Term, env: &Env<'_>) -> Result<Answer, Stop>
+    ensures { Gives shown (scaled (total_of (environment env.now).operators other.now) (shown side)) result }
 {
     match side {
         Answer::Table(table) => {
-            let total = total(other)?;
+            let total = total_in(other, env)?;
             Ok(Answer::Table(choose(alloc, &table, total)?))
         }
         answer => Ok(answer),
@@ -257,10 +331,10 @@ fn quantifier(
     args: &[Term],
     ty: &Ty,
     deciding: bool,
-    reads: &[ReadValue],
-    bound: &mut Values,
+    env: &Env<'_>,
+    bound: &mut Bounds,
 ) -> Result<Answer, Stop>
-    ensures found { Gives shown (quantified deciding ty.now (map (part_of reads.now) args.now) (reverse bound.old)) result }
+    ensures found { Gives shown (quantified deciding ty.now (map (part_of (environment env.now)) args.now) (reverse bound.old)) result }
     ensures bound { OnOk result (bound.new ≡ bound.old) }
 {
     let [body] = args else {
@@ -272,7 +346,7 @@ fn quantifier(
     };
     for at in 0..count {
         let value = nth(alloc, ty, at)?;
-        if truth_with(alloc, body, value, reads, bound)? == deciding {
+        if truth_with(alloc, body, value, env, bound)? == deciding {
             return Ok(of_truth(deciding));
         }
     }
@@ -285,14 +359,14 @@ fn eval_with(
     alloc: Global,
     body: &Term,
     value: Value,
-    reads: &[ReadValue],
-    bound: &mut Values,
+    env: &Env<'_>,
+    bound: &mut Bounds,
 ) -> Result<Answer, Stop>
-    ensures found { Gives shown (eval reads.now body.now (value ∷ reverse bound.old)) result }
+    ensures found { Gives shown (eval (environment env.now) body.now (to.Value value ∷ reverse bound.old)) result }
     ensures bound { OnOk result (bound.new ≡ bound.old) }
 {
-    bound.push(value)?;
-    let found = eval(alloc, body, reads, bound)?;
+    bound.push(Bound::Value(value))?;
+    let found = eval(alloc, body, env, bound)?;
     let _inner = bound.pop();
     Ok(found)
 }
@@ -302,13 +376,13 @@ fn truth_with(
     alloc: Global,
     body: &Term,
     value: Value,
-    reads: &[ReadValue],
-    bound: &mut Values,
+    env: &Env<'_>,
+    bound: &mut Bounds,
 ) -> Result<bool, Stop>
-    ensures found { Finds (truth_at reads.now body.now (value ∷ reverse bound.old)) result }
+    ensures found { Finds (truth_at (environment env.now) body.now (to.Value value ∷ reverse bound.old)) result }
     ensures bound { OnOk result (bound.new ≡ bound.old) }
 {
-    let found = eval_with(alloc, body, value, reads, bound)?;
+    let found = eval_with(alloc, body, value, env, bound)?;
     truth_in(&found)
 }
 
@@ -318,27 +392,27 @@ fn event(
     alloc: Global,
     body: &Term,
     rows: &[Row],
-    reads: &[ReadValue],
-    bound: &mut Values,
+    env: &Env<'_>,
+    bound: &mut Bounds,
 ) -> Result<Vec<bool>, Stop>
-    ensures found { Gives (λ bs. bs.items) (event (part_of reads.now body.now) (entries rows.now) (reverse bound.old)) result }
+    ensures found { Gives (λ bs. bs.items) (event (part_of (environment env.now) body.now) (entries rows.now) (reverse bound.old)) result }
     ensures bound { OnOk result (bound.new ≡ bound.old) }
 {
     let mut out = Vec::new(alloc);
     for row in rows {
         let value = row.value.share()?;
-        out.push(truth_with(alloc, body, value, reads, bound)?)?;
+        out.push(truth_with(alloc, body, value, env, bound)?)?;
     }
     Ok(out)
 }
 
 /// The distribution that a term comes to.
 #[cycle(eval)]
-fn table(alloc: Global, t: &Term, reads: &[ReadValue], bound: &mut Values) -> Result<Table, Stop>
-    ensures found { Gives shown_table (table_under (part_of reads.now t.now) (reverse bound.old)) result }
+fn table(alloc: Global, t: &Term, env: &Env<'_>, bound: &mut Bounds) -> Result<Table, Stop>
+    ensures found { Gives shown_table (table_under (part_of (environment env.now) t.now) (reverse bound.old)) result }
     ensures bound { OnOk result (bound.new ≡ bound.old) }
 {
-    match eval(alloc, t, reads, bound)? {
+    match eval(alloc, t, env, bound)? {
         Answer::Table(table) => Ok(table),
         _ => Err(Stop::Unknown),
     }
@@ -351,13 +425,13 @@ fn weighed(
     alloc: Global,
     body: &Term,
     table: &Table,
-    reads: &[ReadValue],
-    bound: &mut Values,
+    env: &Env<'_>,
+    bound: &mut Bounds,
 ) -> Result<Answer, Stop>
-    ensures found { Gives shown (weighed (part_of reads.now body.now) (shown_table table.now) (reverse bound.old)) result }
+    ensures found { Gives shown (weighed (part_of (environment env.now) body.now) (shown_table table.now) (reverse bound.old)) result }
     ensures bound { OnOk result (bound.new ≡ bound.old) }
 {
-    let event = event(alloc, body, table.rows.as_slice(), reads, bound)?;
+    let event = event(alloc, body, table.rows.as_slice(), env, bound)?;
     chance(mass(table, event.as_slice()), table.total)
 }
 
@@ -368,32 +442,27 @@ fn narrowed(
     alloc: Global,
     body: &Term,
     table: &Table,
-    reads: &[ReadValue],
-    bound: &mut Values,
+    env: &Env<'_>,
+    bound: &mut Bounds,
 ) -> Result<Answer, Stop>
-    ensures found { Gives shown (narrowed (part_of reads.now body.now) (shown_table table.now) (reverse bound.old)) result }
+    ensures found { Gives shown (narrowed (part_of (environment env.now) body.now) (shown_table table.now) (reverse bound.old)) result }
     ensures bound { OnOk result (bound.new ≡ bound.old) }
 {
-    let event = event(alloc, body, table.rows.as_slice(), reads, bound)?;
+    let event = event(alloc, body, table.rows.as_slice(), env, bound)?;
     Ok(Answer::Table(restrict(alloc, table, event.as_slice())?))
 }
 
 /// The measure of an event.
 #[cycle(eval)]
-fn measure(
-    alloc: Global,
-    args: &[Term],
-    reads: &[ReadValue],
-    bound: &mut Values,
-) -> Result<Answer, Stop>
-    ensures found { Gives shown (measured (map (part_of reads.now) args.now) (reverse bound.old)) result }
+fn measure(alloc: Global, args: &[Term], env: &Env<'_>, bound: &mut Bounds) -> Result<Answer, Stop>
+    ensures found { Gives shown (measured (map (part_of (environment env.now)) args.now) (reverse bound.old)) result }
     ensures bound { OnOk result (bound.new ≡ bound.old) }
 {
     let [d, body] = args else {
         return Err(Stop::Unknown);
     };
-    let table = table(alloc, d, reads, bound)?;
-    weighed(alloc, body, &table, reads, bound)
+    let table = table(alloc, d, env, bound)?;
+    weighed(alloc, body, &table, env, bound)
 }
 
 /// The part of a distribution on which a test holds.
@@ -401,17 +470,17 @@ fn measure(
 fn restriction(
     alloc: Global,
     args: &[Term],
-    reads: &[ReadValue],
-    bound: &mut Values,
+    env: &Env<'_>,
+    bound: &mut Bounds,
 ) -> Result<Answer, Stop>
-    ensures found { Gives shown (restricted (map (part_of reads.now) args.now) (reverse bound.old)) result }
+    ensures found { Gives shown (restricted (map (part_of (environment env.now)) args.now) (reverse bound.old)) result }
     ensures bound { OnOk result (bound.new ≡ bound.old) }
 {
     let [d, body] = args else {
         return Err(Stop::Unknown);
     };
-    let table = table(alloc, d, reads, bound)?;
-    narrowed(alloc, body, &table, reads, bound)
+    let table = table(alloc, d, env, bound)?;
+    narrowed(alloc, body, &table, env, bound)
 }
 
 /// The image of each outcome of a table.
@@ -420,16 +489,16 @@ fn images(
     alloc: Global,
     body: &Term,
     rows: &[Row],
-    reads: &[ReadValue],
-    bound: &mut Values,
+    env: &Env<'_>,
+    bound: &mut Bounds,
 ) -> Result<Values, Stop>
-    ensures found { Finds (images (part_of reads.now body.now) (entries rows.now) (reverse bound.old)) result }
+    ensures found { Finds (images (part_of (environment env.now) body.now) (entries rows.now) (reverse bound.old)) result }
     ensures bound { OnOk result (bound.new ≡ bound.old) }
 {
     let mut out = Items::new(alloc);
     for row in rows {
         let value = row.value.share()?;
-        let image = eval_with(alloc, body, value, reads, bound)?;
+        let image = eval_with(alloc, body, value, env, bound)?;
         out.push(value_in(image)?)?;
     }
     Ok(out)
@@ -442,32 +511,27 @@ fn image_of(
     alloc: Global,
     body: &Term,
     table: &Table,
-    reads: &[ReadValue],
-    bound: &mut Values,
+    env: &Env<'_>,
+    bound: &mut Bounds,
 ) -> Result<Answer, Stop>
-    ensures found { Gives shown (image_of (part_of reads.now body.now) (shown_table table.now) (reverse bound.old)) result }
+    ensures found { Gives shown (image_of (part_of (environment env.now) body.now) (shown_table table.now) (reverse bound.old)) result }
     ensures bound { OnOk result (bound.new ≡ bound.old) }
 {
-    let images = images(alloc, body, table.rows.as_slice(), reads, bound)?;
+    let images = images(alloc, body, table.rows.as_slice(), env, bound)?;
     Ok(Answer::Table(imaged(alloc, table, images.as_slice())?))
 }
 
 /// The distribution of the image of an outcome.
 #[cycle(eval)]
-fn image(
-    alloc: Global,
-    args: &[Term],
-    reads: &[ReadValue],
-    bound: &mut Values,
-) -> Result<Answer, Stop>
-    ensures found { Gives shown (mapped (map (part_of reads.now) args.now) (reverse bound.old)) result }
+fn image(alloc: Global, args: &[Term], env: &Env<'_>, bound: &mut Bounds) -> Result<Answer, Stop>
+    ensures found { Gives shown (mapped (map (part_of (environment env.now)) args.now) (reverse bound.old)) result }
     ensures bound { OnOk result (bound.new ≡ bound.old) }
 {
     let [d, body] = args else {
         return Err(Stop::Unknown);
     };
-    let table = table(alloc, d, reads, bound)?;
-    image_of(alloc, body, &table, reads, bound)
+    let table = table(alloc, d, env, bound)?;
+    image_of(alloc, body, &table, env, bound)
 }
 
 /// The fraction that a body comes to where its binder binds a number.
@@ -476,13 +540,13 @@ fn fraction_with(
     alloc: Global,
     body: &Term,
     at: u64,
-    reads: &[ReadValue],
-    bound: &mut Values,
+    env: &Env<'_>,
+    bound: &mut Bounds,
 ) -> Result<Frac, Stop>
-    ensures found { Finds (eval reads.now body.now (Num at ∷ reverse bound.old) and_then fraction_in) result }
+    ensures found { Finds (eval (environment env.now) body.now (to.Value (Num at) ∷ reverse bound.old) and_then fraction_in) result }
     ensures bound { OnOk result (bound.new ≡ bound.old) }
 {
-    let found = eval_with(alloc, body, Value::Num(at), reads, bound)?;
+    let found = eval_with(alloc, body, Value::Num(at), env, bound)?;
     fraction_in(&found)
 }
 
@@ -493,13 +557,13 @@ fn next_sum(
     body: &Term,
     at: u64,
     all: Frac,
-    reads: &[ReadValue],
-    bound: &mut Values,
+    env: &Env<'_>,
+    bound: &mut Bounds,
 ) -> Result<Frac, Stop>
-    ensures found { Finds (next_sum (λ i. eval reads.now body.now (Num i ∷ reverse bound.old) and_then fraction_in) all at) result }
+    ensures found { Finds (next_sum (λ i. eval (environment env.now) body.now (to.Value (Num i) ∷ reverse bound.old) and_then fraction_in) all at) result }
     ensures bound { OnOk result (bound.new ≡ bound.old) }
 {
-    let next = fraction_with(alloc, body, at, reads, bound)?;
+    let next = fraction_with(alloc, body, at, env, bound)?;
     Ok(add(all, next)?)
 }
 
@@ -509,10 +573,10 @@ fn sum(
     alloc: Global,
     args: &[Term],
     count: u128,
-    reads: &[ReadValue],
-    bound: &mut Values,
+    env: &Env<'_>,
+    bound: &mut Bounds,
 ) -> Result<Answer, Stop>
-    ensures found { Gives shown (summed count (map (part_of reads.now) args.now) (reverse bound.old)) result }
+    ensures found { Gives shown (summed count (map (part_of (environment env.now)) args.now) (reverse bound.old)) result }
     ensures bound { OnOk result (bound.new ≡ bound.old) }
 {
     let [body] = args else {
@@ -523,7 +587,7 @@ fn sum(
     }
     let mut all = Frac::of_whole(0);
     for at in 0..count as u64 {
-        all = next_sum(alloc, body, at, all, reads, bound)?;
+        all = next_sum(alloc, body, at, all, env, bound)?;
     }
     Ok(Answer::Fraction(all))
 }

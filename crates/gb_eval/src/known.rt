@@ -3,8 +3,10 @@
 ghost use Rattle.std.specs.Prelude.{◌≡◌, map};
 ghost use Rattle.std.specs.List.{list_all};
 ghost use Rattle.gb_meaning.specs.Written.{type_of};
-ghost use Rattle.gb_eval.specs.Known.{are_of_outcomes, has_finite_outcomes, arity, is_tuple, takes, is_read_known, is_head_known, is_known};
+ghost use Rattle.gb_eval.specs.Known.{are_of_outcomes, has_finite_outcomes, arity, is_tuple, takes, is_read_known, is_head_known, is_known, known_in};
 
+use crate::script::{Script, body_of, inside};
+use gb_core::name::Name;
 use gb_core::ty::Ty;
 use gb_terms::op::{Op, Read, Side};
 use gb_terms::term::{Head, Term};
@@ -73,11 +75,24 @@ fn are_of_outcomes(args: &[Term]) -> bool
     }
 }
 
+/// Whether evaluation knows an operator of the script: its body, where it is opened.
+#[cycle(known)]
+fn is_operator_known(name: &Name, script: &Script<'_>) -> bool
+    ensures { result ≡ known_in script.now name.now }
+{
+    match body_of(script, name) {
+        Some(body) => is_known(body, &inside(script)),
+        None => false,
+    }
+}
+
 /// Whether evaluation knows a head at its arguments.
-fn is_head_known(head: &Head, args: &[Term]) -> bool
-    ensures { result ≡ is_head_known head.now (map type_of args.now) }
+#[cycle(known)]
+fn is_head_known(head: &Head, args: &[Term], script: &Script<'_>) -> bool
+    ensures { result ≡ is_head_known (known_in script.now) head.now (map type_of args.now) }
 {
     match head {
+        Head::User(name) => is_operator_known(name, script),
         Head::Lit(_) | Head::Whole(_) | Head::Bound(_) | Head::Weights(_) => args.is_empty(),
         Head::Read(read) => args.is_empty() && is_read_known(read),
         Head::Builtin(op) => takes(*op, args.len()),
@@ -89,23 +104,24 @@ fn is_head_known(head: &Head, args: &[Term]) -> bool
 }
 
 /// Whether evaluation knows each part of a term: literals, variables, reads of memories that no binder binds, the built-in
-/// operators, quantifiers over finite types, sums, stated weights, and measures, images and parts of distributions over finite types.
+/// operators and those of the script with bodies that it knows, quantifiers over finite types, sums, stated weights, and measures,
+/// images and parts of distributions over finite types.
 #[cycle(known)]
 #[tactic(auto, using(crate::proofs::Layers::known_out))]
-pub fn is_known(t: &Term) -> bool
-    ensures { result ≡ is_known t.now }
+pub fn is_known(t: &Term, script: &Script<'_>) -> bool
+    ensures { result ≡ is_known (known_in script.now) t.now }
 {
     let args = t.args.as_slice();
-    is_head_known(t.head.get(), args) && are_known(args)
+    is_head_known(t.head.get(), args, script) && are_known(args, script)
 }
 
 #[cycle(known)]
 #[tactic(auto, using(crate::proofs::Layers::known_out))]
-pub fn are_known(list: &[Term]) -> bool
-    ensures { result ≡ list_all is_known list.now }
+pub fn are_known(list: &[Term], script: &Script<'_>) -> bool
+    ensures { result ≡ list_all (is_known (known_in script.now)) list.now }
 {
     for t in list {
-        if !is_known(t) {
+        if !is_known(t, script) {
             return false;
         }
     }

@@ -10,4 +10,5 @@ mod making;
 mod maps;
 mod numbers;
 mod operators;
+pub mod script;
 mod total;

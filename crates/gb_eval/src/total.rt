@@ -7,15 +7,26 @@ ghost use Rattle.gb_dist.specs.Lists.{is_positive};
 ghost use Rattle.gb_dist.specs.Rows.{adding_steps};
 ghost use Rattle.gb_meaning.specs.Distributions.{stated};
 ghost use Rattle.gb_eval.specs.Findings.{Finds, after};
-ghost use Rattle.gb_eval.specs.Totals.{are_weights, is_weight, multiplied, number_of_outcomes, of_first, operator_total, total_of, weights_total};
+ghost use Rattle.gb_meaning.specs.Operators.{is_distribution};
+ghost use Rattle.gb_eval.specs.Totals.{are_weights, is_weight, multiplied, number_of_outcomes, of_first, operator_total, total_over, total_of, weights_total};
+ghost use Rattle.gb_eval.specs.Eval.{operators_in};
 
 use crate::answer::Stop;
+use crate::script::{Script, body_of, inside};
+use gb_core::name::Name;
 use gb_core::ty::Ty;
 use gb_core::value::Card;
 use gb_dist::number::{plus, times};
 use gb_terms::op::Op;
 use gb_terms::term::{Head, Pair, Term};
 use gb_types::card::card;
+
+/// Whether a type is one of distributions.
+pub fn is_distribution(ty: &Ty) -> bool
+    ensures { result ≡ is_distribution ty.now }
+{
+    matches!(ty, Ty::Distr(_))
+}
 
 /// How many outcomes the uniform distribution over a type has.
 fn number_of_outcomes(ty: &Ty) -> Result<u128, Stop>
@@ -77,36 +88,53 @@ pub fn weights_total(pairs: &[Pair]) -> Result<u128, Stop>
 
 /// The denominator of a distribution, read from its tree alone.
 #[cycle(total)]
-pub fn total(t: &Term) -> Result<u128, Stop>
-    ensures value { Finds (total_of t.now) result }
+pub fn total(t: &Term, script: &Script<'_>) -> Result<u128, Stop>
+    ensures value { Finds (total_of (operators_in script.now) t.now) result }
     ensures above { IfOk result (λ n. 0 < n) }
     ensures small { IfOk result (λ n. n < 2 ^ 127) }
 {
     let args = t.args.as_slice();
     match t.head.get() {
-        Head::Builtin(op) => operator_total(args, *op, t.ty.get()),
-        Head::Map | Head::Restrict => of_first(args),
+        Head::Builtin(op) => operator_total(args, *op, t.ty.get(), script),
+        Head::User(name) => named_total(t.ty.get(), name, script),
+        Head::Map | Head::Restrict => of_first(args, script),
         Head::Weights(pairs) => weights_total(pairs.as_slice()),
         _ => Err(Stop::Unknown),
     }
 }
 
+/// The denominator of what an operator of the script gives.
+#[cycle(total)]
+fn named_total(ty: &Ty, name: &Name, script: &Script<'_>) -> Result<u128, Stop>
+    ensures value { Finds (total_over ty.now (operators_in script.now name.now).total) result }
+    ensures above { IfOk result (λ n. 0 < n) }
+    ensures small { IfOk result (λ n. n < 2 ^ 127) }
+{
+    if !is_distribution(ty) {
+        return Err(Stop::Unknown);
+    }
+    match body_of(script, name) {
+        Some(body) => total(body, &inside(script)),
+        None => Err(Stop::Unknown),
+    }
+}
+
 /// The denominator of the first of two arguments.
 #[cycle(total)]
-fn of_first(args: &[Term]) -> Result<u128, Stop>
-    ensures value { Finds (of_first (map total_of args.now)) result }
+fn of_first(args: &[Term], script: &Script<'_>) -> Result<u128, Stop>
+    ensures value { Finds (of_first (map (total_of (operators_in script.now)) args.now)) result }
     ensures above { IfOk result (λ n. 0 < n) }
     ensures small { IfOk result (λ n. n < 2 ^ 127) }
 {
     match args {
-        [first, _] => total(first),
+        [first, _] => total(first, script),
         _ => Err(Stop::Unknown),
     }
 }
 
 #[cycle(total)]
-fn operator_total(args: &[Term], op: Op, ty: &Ty) -> Result<u128, Stop>
-    ensures value { Finds (operator_total op ty.now (map total_of args.now)) result }
+fn operator_total(args: &[Term], op: Op, ty: &Ty, script: &Script<'_>) -> Result<u128, Stop>
+    ensures value { Finds (operator_total op ty.now (map (total_of (operators_in script.now)) args.now)) result }
     ensures above { IfOk result (λ n. 0 < n) }
     ensures small { IfOk result (λ n. n < 2 ^ 127) }
 {
@@ -117,9 +145,9 @@ fn operator_total(args: &[Term], op: Op, ty: &Ty) -> Result<u128, Stop>
             _ => Ok(1),
         },
         Op::Dunit => Ok(1),
-        Op::Product => multiplied(args),
+        Op::Product => multiplied(args, script),
         Op::If => match args {
-            [_, sides @ ..] => multiplied(sides),
+            [_, sides @ ..] => multiplied(sides, script),
             _ => Err(Stop::Unknown),
         },
         _ => Err(Stop::Unknown),
@@ -128,16 +156,16 @@ fn operator_total(args: &[Term], op: Op, ty: &Ty) -> Result<u128, Stop>
 
 /// The product of the denominators of two distributions.
 #[cycle(total)]
-fn multiplied(args: &[Term]) -> Result<u128, Stop>
-    ensures value { Finds (multiplied (map total_of args.now)) result }
+fn multiplied(args: &[Term], script: &Script<'_>) -> Result<u128, Stop>
+    ensures value { Finds (multiplied (map (total_of (operators_in script.now)) args.now)) result }
     ensures above { IfOk result (λ n. 0 < n) }
     ensures small { IfOk result (λ n. n < 2 ^ 127) }
 {
     let [a, b] = args else {
         return Err(Stop::Unknown);
     };
-    let left = total(a)?;
-    let right = total(b)?;
+    let left = total(a, script)?;
+    let right = total(b, script)?;
     let product = times(left, right)?;
     Ok(product)
 }

@@ -1,50 +1,44 @@
 // Entries of a map, in the order of their keys.
 
-ghost use Rattle.std.specs.Prelude.{◌≡◌, ◌≤◌, ◌<◌, ◌++◌, ◌∷◌, [], length, take, drop, get_or, OnOk, IfOk};
+ghost use Rattle.std.specs.Prelude.{◌≡◌, ◌≤◌, ◌<◌, ◌++◌, ◌∷◌, [], true, length, take, drop, get_or, OnOk, IfOk};
 ghost use Rattle.gb_core.specs.declared.value.Value.{Value};
 ghost use Rattle.gb_core.specs.declared.value.Value.TheVariants.{Many};
-ghost use Rattle.gb_types.specs.Numbering.{key_of, number_of, numbers, parts_of};
+ghost use Rattle.gb_types.specs.Numbering.{key_of};
+ghost use Rattle.gb_types.specs.Types.{numbering, place_of};
 ghost use Rattle.gb_meaning.specs.Operators.{entry_set};
+ghost use Rattle.gb_maps.specs.Keys.{are_keys, is_key};
 
+use crate::keys::{entry_place, key_place};
+use gb_core::ty::Ty;
 use gb_core::value::{Value, Values};
-use gb_types::index::{number, parts};
 use sqlite_items::Items;
 use std::alloc::{AllocError, Global};
 
-/// The key of an entry, as a number.
-#[tactic(auto, using(crate::proofs::Keys::first_number))]
-fn key_number(entry: &Value) -> u64
-    ensures { result ≡ number_of (key_of entry.now) }
-{
-    match parts(entry) {
-        [] => 0,
-        [key, ..] => number(key),
-    }
-}
-
 /// How many entries stand before a key.
-fn before(entries: &[Value], key: u64) -> usize
+fn before(entries: &[Value], ty: &Ty, place: u64) -> usize
+    requires { are_keys ty.now entries.now ≡ true }
     ensures within { result ≤ length entries.now }
-    ensures passed { (k v : Value) → number_of k ≡ key →
-        entry_set (numbers 0) entries.now k v ≡ take result entries.now ++ entry_set (numbers 0) (drop result entries.now) k v }
-    ensures stopped { (p : Value) → result < length entries.now → key ≤ number_of (key_of (get_or entries.now result p)) }
+    ensures passed { (k v : Value) → place_of ty.now k ≡ place →
+        entry_set (numbering ty.now) entries.now k v ≡ take result entries.now ++ entry_set (numbering ty.now) (drop result entries.now) k v }
+    ensures stopped { (p : Value) → result < length entries.now → place ≤ place_of ty.now (key_of (get_or entries.now result p)) }
 {
     let mut at = 0;
-    while at < entries.len() && key_number(&entries[at]) < key {
+    while at < entries.len() && entry_place(ty, &entries[at]) < place {
         at += 1;
     }
     at
 }
 
 /// How many entries stand before those behind a key, of which so many stand before it.
-fn behind(entries: &[Value], at: usize, key: u64) -> usize
+fn behind(entries: &[Value], ty: &Ty, at: usize, place: u64) -> usize
+    requires keys { are_keys ty.now entries.now ≡ true }
     requires within { at ≤ length entries.now }
-    requires stopped { (p : Value) → at < length entries.now → key ≤ number_of (key_of (get_or entries.now at p)) }
+    requires stopped { (p : Value) → at < length entries.now → place ≤ place_of ty.now (key_of (get_or entries.now at p)) }
     ensures within { result ≤ length entries.now }
-    ensures set { (k v : Value) → number_of k ≡ key →
-        entry_set (numbers 0) (drop at entries.now) k v ≡ Many (k ∷ v ∷ []) ∷ drop result entries.now }
+    ensures set { (k v : Value) → place_of ty.now k ≡ place →
+        entry_set (numbering ty.now) (drop at entries.now) k v ≡ Many (k ∷ v ∷ []) ∷ drop result entries.now }
 {
-    if at < entries.len() && key_number(&entries[at]) == key {
+    if at < entries.len() && entry_place(ty, &entries[at]) == place {
         at + 1
     } else {
         at
@@ -69,18 +63,21 @@ fn entry(alloc: Global, key: Value, v: Value) -> Result<Value, AllocError>
     Value::of_parts(alloc, parts)
 }
 
-/// The entries of a map with a value for a key that is a number.
+/// The entries of a map, whose keys are of this type, with a value for a key, in the order of the type's values.
 pub fn entry_set(
     alloc: Global,
+    ty: &Ty,
     entries: &[Value],
     key: Value,
     v: Value,
 ) -> Result<Values, AllocError>
-    ensures { IfOk result (λ out. out ≡ entry_set (numbers 0) entries.now key v) }
+    requires key { is_key ty.now key ≡ true }
+    requires entries { are_keys ty.now entries.now ≡ true }
+    ensures { IfOk result (λ out. out ≡ entry_set (numbering ty.now) entries.now key v) }
 {
-    let number = number(&key);
-    let before = before(entries, number);
-    let behind = behind(entries, before, number);
+    let place = key_place(ty, &key);
+    let before = before(entries, ty, place);
+    let behind = behind(entries, ty, before, place);
     let mut out = Items::new(alloc);
     push_all(&mut out, &entries[..before])?;
     out.push(entry(alloc, key, v)?)?;

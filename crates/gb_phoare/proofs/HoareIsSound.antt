@@ -42,14 +42,14 @@ use Rattle.gb_typing.specs.Typing.{IsTyped}
 use Rattle.gb_typing.proofs.Drawing.{body_sound}
 use Rattle.gb_typing.proofs.LinkedProcedures.{linked_there}
 use Rattle.gb_typing.proofs.Located.{IsTypedThere, typed_there}
-use Rattle.gb_rules.specs.Calls.{start, ended}
-use Rattle.gb_rules.specs.Forms.{not_form}
-use Rattle.gb_rules.specs.Meaning.{run, run_of, denominator_of}
-use Rattle.gb_rules.specs.Rules.{IsSettingOver, ImpliesIn, IsSoundRuleIn, no_arguments, outermost}
-use Rattle.gb_rules.specs.Typing.{IsCode, IsGoalOver, IsTypedGoal, frame_after}
-use Rattle.gb_rules.proofs.Called.{called_run, called_denominator}
-use Rattle.gb_rules.proofs.Forms.{not_typed}
-use Rattle.gb_rules.proofs.Given.{refused_given, sound_given_in}
+use Rattle.gb_typing.specs.Calls.{start, ended}
+use Rattle.gb_typing.specs.Forms.{not_form}
+use Rattle.gb_typing.specs.Meaning.{run, run_of, denominator_of}
+use Rattle.gb_typing.specs.Rules.{IsSettingOver, ImpliesIn, IsSoundRuleIn, no_arguments, outermost}
+use Rattle.gb_typing.specs.Goals.{IsCode, IsGoalOver, IsTypedGoal, frame_after}
+use Rattle.gb_typing.proofs.Called.{called_run, called_denominator}
+use Rattle.gb_typing.proofs.Forms.{not_typed}
+use Rattle.gb_typing.proofs.Given.{refused_given, sound_given_in}
 use Rattle.gb_chance.specs.Compared.{literal}
 use Rattle.gb_chance.specs.Compared as real
 use Rattle.gb_chance.specs.Loss.{Loss, nowhere, sampled, called, code_loss, procedure_loss}

@@ -53,19 +53,19 @@ use Rattle.gb_goal.specs.Goal.{Goal}
 use Rattle.gb_goal.specs.Goal.Code.{body, procedure}
 use Rattle.gb_goal.specs.Goal.Goal.{hoare, phoare, equiv, ambient}
 use Rattle.gb_walk.specs.Clash.{first_clash}
-use Rattle.gb_rules.specs.Forms.{IsAlone}
-use Rattle.gb_rules.specs.Meaning.{run, denominator}
-use Rattle.gb_rules.specs.Rules.{outermost, Implies, IsSoundRule, no_arguments}
-use Rattle.gb_rules.specs.Samplings.{Sampling, last_sampling}
-use Rattle.gb_rules.specs.Supports.{nearest}
-use Rattle.gb_rules.specs.Typing.{IsGoalOver, IsTypedGoal}
-use Rattle.gb_rules.proofs.ClashFree.{one_clear}
-use Rattle.gb_rules.proofs.Given.{AreSound, refused_given, same_given}
-use Rattle.gb_rules.proofs.Located.{located_typed, located_value}
-use Rattle.gb_rules.proofs.Quantified.{inner_typed, inner_meaning}
-use Rattle.gb_rules.proofs.Runs.{run_append, denominator_append}
-use Rattle.gb_rules.proofs.LastSampling.{IsDrawn, drawn, last_one}
-use Rattle.gb_rules.proofs.Supported.{nearest_made, draws, drawn_typed, run_sampling, sampling_denominator, target_put}
+use Rattle.gb_typing.specs.Forms.{IsAlone}
+use Rattle.gb_typing.specs.Meaning.{run, denominator}
+use Rattle.gb_typing.specs.Rules.{outermost, Implies, IsSoundRule, no_arguments}
+use Rattle.gb_typing.specs.Samplings.{Sampling, last_sampling}
+use Rattle.gb_typing.specs.Supports.{nearest}
+use Rattle.gb_typing.specs.Goals.{IsGoalOver, IsTypedGoal}
+use Rattle.gb_typing.proofs.ClashFree.{one_clear}
+use Rattle.gb_typing.proofs.Given.{AreSound, refused_given, same_given}
+use Rattle.gb_typing.proofs.InMemory.{located_typed, located_value}
+use Rattle.gb_typing.proofs.Quantified.{inner_typed, inner_meaning}
+use Rattle.gb_typing.proofs.Runs.{run_append, denominator_append}
+use Rattle.gb_typing.proofs.LastSampling.{IsDrawn, drawn, last_one}
+use Rattle.gb_typing.proofs.Supported.{nearest_made, draws, drawn_typed, run_sampling, sampling_denominator, target_put}
 use Rattle.gb_equiv.specs.Drawn.{with_value}
 use Rattle.gb_chance.specs.Compared.{compared, zero}
 use Rattle.gb_chance.specs.Loss.{Loss, nowhere, sampled, called, first_loss}

@@ -7,7 +7,7 @@ use Rattle.gb_terms.specs.declared.op.Rel.{Rel}
 use Rattle.gb_terms.specs.declared.op.Side.TheVariants.{Own}
 use Rattle.gb_terms.specs.declared.term.Term.{Term}
 use Rattle.gb_walk.specs.Clash.{first_clash}
-use Rattle.gb_rules.specs.Samplings.{Sampling}
+use Rattle.gb_typing.specs.Samplings.{Sampling}
 use Rattle.gb_chance.specs.Loss.{Loss, first_loss}
 use Rattle.gb_phoare.specs.Rnd.{by_end, of_rest, unless_clash, without_sampling}
 

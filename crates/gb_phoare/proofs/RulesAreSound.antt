@@ -7,13 +7,13 @@ use Rattle.gb_goal.specs.Goal.Goal.{ambient}
 use Rattle.gb_goal.specs.Rows.{refusing}
 use Rattle.gb_goal.specs.Scope.{Declarations}
 use Rattle.gb_steps.specs.declared.step.Rule.{Rule}
-use Rattle.gb_steps.specs.declared.step.Rule.TheVariants.{OnBodies, Relational, Chance, Ambient, Smt, Linear, Use}
+use Rattle.gb_steps.specs.declared.step.Rule.TheVariants.{OnBodies, Relational, Chance, Ambient, Smt, Linear, Call, Rewrite, Use}
 use Rattle.gb_steps.specs.declared.step.ChanceRule.TheVariants.{Rnd, Hoare}
 use Rattle.gb_holds.specs.Declared.{declared}
 use Rattle.gb_typing.specs.Scopes.{context_of, IsTypedScope}
 use Rattle.gb_typing.specs.Sequents.{of_sequent, IsTypedSequent}
-use Rattle.gb_rules.specs.Rules.{IsSoundRuleIn, no_arguments}
-use Rattle.gb_rules.proofs.Given.{refused_given}
+use Rattle.gb_typing.specs.Rules.{IsSoundRuleIn, no_arguments}
+use Rattle.gb_typing.proofs.Given.{refused_given}
 use Rattle.gb_phoare.specs.Rows.{rule_row}
 use Rattle.gb_phoare.proofs.HoareIsSound.{sound}
 use Rattle.gb_phoare.proofs.RndIsSound.{sound as rnd_sound}
@@ -24,8 +24,10 @@ module _ (ds : Declarations) (scoped : IsTypedScope (declared ds)) (q : Sequent)
   each_sound (Chance Hoare) outer ls rs G w y Gs e = sound ds scoped q t outer ls rs G w y Gs e
   each_sound (OnBodies r) outer ls rs G w y Gs e = refused_given Shape Gs e
   each_sound (Relational r) outer ls rs G w y Gs e = refused_given Shape Gs e
-  each_sound Smt outer ls rs G w y Gs e = refused_given Shape Gs e
+  each_sound (Smt fs) outer ls rs G w y Gs e = refused_given Shape Gs e
   each_sound (Linear ms) outer ls rs G w y Gs e = refused_given Shape Gs e
+  each_sound (Call s) outer ls rs G w y Gs e = refused_given Shape Gs e
+  each_sound (Rewrite r) outer ls rs G w y Gs e = refused_given Shape Gs e
   each_sound (Ambient r) outer ls rs G w y Gs e = refused_given Shape Gs e
   each_sound (Use r) outer ls rs G w y Gs e = refused_given Shape Gs e
 
@@ -34,7 +36,9 @@ others_refused ds (Chance Rnd) f = refl
 others_refused ds (Chance Hoare) f = refl
 others_refused ds (OnBodies r) f = refl
 others_refused ds (Relational r) f = refl
-others_refused ds Smt f = refl
+others_refused ds (Smt fs) f = refl
 others_refused ds (Linear ms) f = refl
+others_refused ds (Call s) f = refl
+others_refused ds (Rewrite r) f = refl
 others_refused ds (Ambient r) f = refl
 others_refused ds (Use r) f = refl

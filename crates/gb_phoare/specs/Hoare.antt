@@ -9,7 +9,7 @@ use Rattle.gb_goal.specs.Goal.{Code, Goal}
 use Rattle.gb_goal.specs.Goal.Goal.{hoare, phoare, ambient}
 use Rattle.gb_goal.specs.Rows.{Row, refusing}
 use Rattle.gb_goal.specs.Scope.{Declarations}
-use Rattle.gb_rules.specs.Forms.{not_form}
+use Rattle.gb_typing.specs.Forms.{not_form}
 use Rattle.gb_chance.specs.Compared.{at_most_form, literal}
 use Rattle.gb_chance.specs.Compared as real
 use Rattle.gb_chance.specs.Loss.{Loss, nowhere, sampled, called, code_loss}

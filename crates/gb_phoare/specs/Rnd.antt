@@ -15,7 +15,7 @@ use Rattle.gb_goal.specs.Goal.{Goal}
 use Rattle.gb_goal.specs.Goal.Code.{body}
 use Rattle.gb_goal.specs.Goal.Goal.{hoare, phoare, ambient}
 use Rattle.gb_goal.specs.Rows.{Row, refusing}
-use Rattle.gb_rules.specs.Samplings.{Sampling, last_sampling}
+use Rattle.gb_typing.specs.Samplings.{Sampling, last_sampling}
 use Rattle.gb_chance.specs.Compared.{compared, zero}
 use Rattle.gb_chance.specs.Loss.{Loss, nowhere, sampled, called, first_loss}
 use Rattle.gb_equiv.specs.Drawn.{clashing, with_value}

@@ -10,7 +10,7 @@ ghost use Rattle.gb_goal.specs.declared.sequent.Sequent.{Sequent as TypedSequent
 ghost use Rattle.gb_holds.specs.Declared.{declared};
 ghost use Rattle.gb_typing.specs.Scopes.{context_of, IsTypedScope};
 ghost use Rattle.gb_typing.specs.Sequents.{of_sequent, IsTypedSequent};
-ghost use Rattle.gb_rules.specs.Rules.{IsSoundRuleIn, no_arguments};
+ghost use Rattle.gb_typing.specs.Rules.{IsSoundRuleIn, no_arguments};
 ghost use Rattle.gb_chance.specs.Compared.{literal};
 ghost use Rattle.gb_chance.specs.Loss.{code_loss, loss_seen};
 ghost use Rattle.gb_phoare.specs.Hoare.{at_least_goals, at_most_goals, exactly, full, hoare_row, never};
@@ -38,7 +38,7 @@ pub struct Judged<'a> {
 }
 
 /// The judgment that a postcondition always holds.
-#[tactic(auto, using(gb_rules::proofs::Shapes::subject_back))]
+#[tactic(auto, using(gb_typing::proofs::Shapes::subject_back))]
 fn always(alloc: Global, judged: &Judged<'_>, post: Form) -> Result<Form, AllocError>
     ensures { IfOk result (λ made. made ≡ form_of (hoare (code_of judged.now.subject.now) judged.now.pre.now post)) }
 {

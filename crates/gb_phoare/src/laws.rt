@@ -11,7 +11,7 @@ ghost use Rattle.gb_steps.specs.declared.step.Rule.{Rule};
 ghost use Rattle.gb_holds.specs.Declared.{declared};
 ghost use Rattle.gb_typing.specs.Scopes.{context_of, IsTypedScope};
 ghost use Rattle.gb_typing.specs.Sequents.{of_sequent, IsTypedSequent};
-ghost use Rattle.gb_rules.specs.Rules.{IsSoundRuleIn, no_arguments};
+ghost use Rattle.gb_typing.specs.Rules.{IsSoundRuleIn, no_arguments};
 ghost use Rattle.gb_phoare.specs.Rows.{rule_row};
 
 /// Each rule is sound over each typed scope, at the goal of each typed sequent: what it gives is typed, and implies the goal.

@@ -28,7 +28,7 @@ use Rattle.gb_meaning.specs.Commands.{statements}
 use Rattle.gb_coupling.specs.WeightedList.{Every}
 use Rattle.gb_coupling.proofs.Entries.{Every-weaken}
 use Rattle.gb_terms.specs.declared.term.Instr.{Instr}
-use Rattle.gb_rules.specs.Meaning.{run}
+use Rattle.gb_typing.specs.Meaning.{run}
 use Rattle.gb_laws.proofs.Nodes.{val_node, term_is_node}
 use Rattle.gb_judge.proofs.Truths.{true_all}
 use Rattle.gb_changes.specs.Plain.{IsPlain}
@@ -48,50 +48,50 @@ use Rattle.gb_typing.proofs.Clashes.{left_of_no_clash}
 use Rattle.gb_typing.proofs.Fitting.{fits_reframed}
 use Rattle.gb_typing.proofs.Made.{made_node}
 use Rattle.gb_typing.proofs.Substituted.{finite_no_distribution}
-use Rattle.gb_rules.specs.Forms.{IsAlone}
-use Rattle.gb_rules.specs.Rules.{outermost}
-use Rattle.gb_rules.proofs.Forms.{made_form, form_made}
-use Rattle.gb_rules.proofs.Quantified.{inside_all, typed_inside, meaning_inside}
+use Rattle.gb_typing.specs.Forms.{IsAlone}
+use Rattle.gb_typing.specs.Rules.{outermost}
+use Rattle.gb_typing.proofs.Forms.{made_form, form_made}
+use Rattle.gb_typing.proofs.Quantified.{inside_all, typed_inside, meaning_inside}
 use Rattle.gb_prog.specs.Writes.{WritesWithin, DifferIn, TypedVariable, overwritten, AreIn, Covers}
 use Rattle.gb_prog.specs.AllValues.{Located, in_memory, for_all, to_bound_values, all_values, AreLocated, AreAlone}
 use Rattle.gb_prog.proofs.Writes.{run_differs}
 use Rattle.gb_prog.proofs.Frames.{read_has, whole_type, frame_form, placed}
 
 -- What stands for variables, put in front of a list one after another.
-abbrev pushed : {A : Type 0} → (Located → A) → List Located → List A → List A
+abbrev pub pushed : {A : Type 0} → (Located → A) → List Located → List A → List A
 pushed f [] xs = xs
 pushed f (w ∷ W) xs = pushed f W (f w ∷ xs)
 
-pushed_at : {A : Type 0} (f : Located → A) (W : List Located) (xs : List A) (i : ℕ) (z : A) → get_or (pushed f W xs) (length W + i) z ≡ get_or xs i z
+pub pushed_at : {A : Type 0} (f : Located → A) (W : List Located) (xs : List A) (i : ℕ) (z : A) → get_or (pushed f W xs) (length W + i) z ≡ get_or xs i z
 pushed_at f [] xs i z = ap (λ (i : ℕ). get_or xs i z) (let e : 0 + i ≡ i = omega arith in e)
 pushed_at f (w ∷ W) xs i z = ap (λ (i : ℕ). get_or (pushed f W (f w ∷ xs)) i z) (let e : suc (length W) + i ≡ length W + suc i = omega arith in e) ∙ pushed_at f W (f w ∷ xs) (suc i) z
 
-pushed_here : {A : Type 0} (f : Located → A) (w : Located) (W : List Located) (xs : List A) (z : A) → get_or (pushed f (w ∷ W) xs) (length W) z ≡ f w
+pub pushed_here : {A : Type 0} (f : Located → A) (w : Located) (W : List Located) (xs : List A) (z : A) → get_or (pushed f (w ∷ W) xs) (length W) z ≡ f w
 pushed_here f w W xs z = ap (λ (i : ℕ). get_or (pushed f W (f w ∷ xs)) i z) (let e : length W ≡ length W + 0 = omega arith in e) ∙ pushed_at f W (f w ∷ xs) 0 z
 
-abbrev binder_of : Located → Binder
+abbrev pub binder_of : Located → Binder
 binder_of w = value w.1.ty
 
-abbrev no_frame : Located → Frame
+abbrev pub no_frame : Located → Frame
 no_frame w = None
 
 -- a bound value for each variable
-abbrev binding_of : (Located → Value) → Located → Binding
+abbrev pub binding_of : (Located → Value) → Located → Binding
 binding_of v w = value_bound (finite (v w))
 
 -- the value that is bound for a variable
-abbrev bound_term : ℕ → Ty → Term
+abbrev pub bound_term : ℕ → Ty → Term
 bound_term i u = node (head.Bound i) [] u
 
-bound_plain : (i : ℕ) (u : Ty) → IsPlain (bound_term i u)
+pub bound_plain : (i : ℕ) (u : Ty) → IsPlain (bound_term i u)
 bound_plain i u = subst IsPlain (term_is_node (head.Bound i) [] u) (tt, tt)
 
 -- the changes as writes
-abbrev bound_writes : (Located → Value) → List Located → List Written
+abbrev pub bound_writes : (Located → Value) → List Located → List Written
 bound_writes v [] = []
 bound_writes v (w ∷ W) = record { variable = w.1.variable; side = w.0; term = bound_term (length W) w.1.ty; value = v w } ∷ bound_writes v W
 
-writes_are : (v : Located → Value) (W : List Located) → written_changes (bound_writes v W) ≡ to_bound_values W
+pub writes_are : (v : Located → Value) (W : List Located) → written_changes (bound_writes v W) ≡ to_bound_values W
 writes_are v [] = refl
 writes_are v (w ∷ W) = ap (λ (cs : Changes). ToTerm (Program w.1.variable w.0) (bound_term (length W) w.1.ty) ∷ cs) (writes_are v W)
 
@@ -130,16 +130,16 @@ module _ (b : Context) (F L K : Frame) where
   abbrev inner : List Located → Context
   inner W = inside_all b F L K (pushed binder_of W []) (pushed no_frame W [])
 
-  for_all_typed : (W : List Located) (bs : List Binder) (fs : List Frame) → AreLocated d W → (f : Term) →
+  pub for_all_typed : (W : List Located) (bs : List Binder) (fs : List Frame) → AllByRecursion (λ w. IsFinite w.1.ty) W → (f : Term) →
       IsForm (inside_all b F L K (pushed binder_of W bs) (pushed no_frame W fs)) f → IsForm (inside_all b F L K bs fs) (for_all W f)
   for_all_typed [] bs fs h f w = w
   for_all_typed (x ∷ W) bs fs h f w =
       form_made (inside_all b F L K bs fs) (for_all (x ∷ W) f)
-      (made_node (inside_all b F L K bs fs) (head.All x.1.ty) (ty.Bool ∷ []) (for_all W f ∷ []) ty.Bool (h.0.2, (refl, (refl, tt))) tt []
+      (made_node (inside_all b F L K bs fs) (head.All x.1.ty) (ty.Bool ∷ []) (for_all W f ∷ []) ty.Bool (h.0, (refl, (refl, tt))) tt []
       (made_form (inside_all b F L K (value x.1.ty ∷ bs) (None ∷ fs)) (for_all W f) (for_all_typed W (value x.1.ty ∷ bs) (None ∷ fs) h.1 f w)))
 
   module _ (X : List Binder) (fs : List Frame) where
-    one_put : (w : Located) (k : ℕ) → IsSide w.0 × IsIn d (frame_of d w.0) w.1.variable w.1.ty × IsFinite w.1.ty → get_or X k module_binder ≡ value w.1.ty →
+    pub one_put : (w : Located) (k : ℕ) → IsSide w.0 × IsIn d (frame_of d w.0) w.1.variable w.1.ty × IsFinite w.1.ty → get_or X k module_binder ≡ value w.1.ty →
         IsPutFor (inside_all b F L K X fs) w.1.variable w.0 (bound_term k w.1.ty)
     one_put w k h e = record {
       side = h.0;
@@ -153,17 +153,21 @@ module _ (b : Context) (F L K : Frame) where
           m.typed;
     }
 
-    all_puts : (v : Located → Value) (W : List Located) (bs : List Binder) → X ≡ pushed binder_of W bs → AreLocated d W → AllByRecursion (IsTypedPut (inside_all b F L K X fs)) (bound_writes v W)
+    pub all_puts : (v : Located → Value) (W : List Located) (bs : List Binder) → X ≡ pushed binder_of W bs → AreLocated d W → AllByRecursion (IsTypedPut (inside_all b F L K X fs)) (bound_writes v W)
     all_puts v [] bs e h = tt
     all_puts v (w ∷ W) bs e h = (
       one_put w (length W) h.0 (ap (λ (l : List Binder). get_or l (length W) module_binder) e ∙ pushed_here binder_of w W bs module_binder),
       all_puts v W (value w.1.ty ∷ bs) e h.1,
     )
 
+  finite_types : (W : List Located) → AreLocated d W → AllByRecursion (λ w. IsFinite w.1.ty) W
+  finite_types [] h = tt
+  finite_types (w ∷ W) h = (h.0.2, finite_types W h.1)
+
   -- the form for all values is typed where the form is
   all_typed : (W : List Located) → AreLocated d W → (f : Term) → IsForm d f → IsForm d (all_values W f)
   all_typed W h f w =
-      for_all_typed W [] [] h (term_changed f (to_bound_values W))
+      for_all_typed W [] [] (finite_types W h) (term_changed f (to_bound_values W))
       (subst (λ cs. IsForm (inner W) (term_changed f cs)) (writes_are no_value W)
       (let m = typed_inside b F L K (pushed binder_of W []) (pushed no_frame W []) f w.typed (bound_writes no_value W) (all_puts (pushed binder_of W []) (pushed no_frame W []) no_value W [] refl h) in
       record { typed = m.typed; truth = m.written ∙ w.truth }))
@@ -173,14 +177,14 @@ module _ (b : Context) (F L K : Frame) where
 
   module _ (g : Setting) (fits : IsSettingOf d g) (j : Judge) (fair : IsFair g j) where
     -- values of the types of variables
-    abbrev AreOf : (Located → Value) → List Located → Type 0
+    abbrev pub AreOf : (Located → Value) → List Located → Type 0
     AreOf v W = AllByRecursion (λ w. has g.types w.1.ty (v w) ≡ true) W
 
-    fit_pushed : (v : Located → Value) (W : List Located) (bs : List Binder) (xs : List Binding) → AreOf v W → FitBinders g.types bs xs → FitBinders g.types (pushed binder_of W bs) (pushed (binding_of v) W xs)
+    pub fit_pushed : (v : Located → Value) (W : List Located) (bs : List Binder) (xs : List Binding) → AreOf v W → FitBinders g.types bs xs → FitBinders g.types (pushed binder_of W bs) (pushed (binding_of v) W xs)
     fit_pushed v [] bs xs h k = k
     fit_pushed v (w ∷ W) bs xs h k = fit_pushed v W (value w.1.ty ∷ bs) (value_bound (finite (v w)) ∷ xs) h.1 (h.0, k)
 
-    all_true : (v : Located → Value) (W : List Located) (xs : List Binding) → AreOf v W → (f : Term) (s : State) →
+    pub all_true : (v : Located → Value) (W : List Located) (xs : List Binding) → AreOf v W → (f : Term) (s : State) →
         den g j (for_all W f) (record s { bound = xs }) ≡ true → den g j f (record s { bound = pushed (binding_of v) W xs }) ≡ true
     all_true v [] xs h f s t = t
     all_true v (w ∷ W) xs h f s t = all_true v W (value_bound (finite (v w)) ∷ xs) h.1 f s ((true_all g j w.1.ty (for_all W f) (record s { bound = xs })).0 t (v w) h.0)
@@ -195,7 +199,7 @@ module _ (b : Context) (F L K : Frame) where
         value = sym (ap value_in (val_node g quiet (head.Bound k) [] w.1.ty (record s { bound = xs }) ∙ ap meaning_in x));
       }
 
-      all_writes : (W : List Located) (bs : List Binder) (ys : List Binding) → X ≡ pushed binder_of W bs → xs ≡ pushed (binding_of v) W ys → AreLocated d W → AreAlone g P W →
+      pub all_writes : (W : List Located) (bs : List Binder) (ys : List Binding) → X ≡ pushed binder_of W bs → xs ≡ pushed (binding_of v) W ys → AreLocated d W → AreAlone g P W →
           AllByRecursion (IsTypedWrite P (inside_all b F L K X fs) g (record s { bound = xs })) (bound_writes v W)
       all_writes [] bs ys e x h a = tt
       all_writes (w ∷ W) bs ys e x h a = (
@@ -216,10 +220,10 @@ module _ (b : Context) (F L K : Frame) where
         ∙ all_true v W s.bound o (term_changed f (to_bound_values W)) s t
 
     -- the values that variables have in a state
-    abbrev values_at : State → Located → Value
+    abbrev pub values_at : State → Located → Value
     values_at q w = read g.types (memory_of q w.0) w.1.variable w.1.ty
 
-    have_types : (q : State) (W : List Located) → AreLocated d W → AreOf (values_at q) W
+    pub have_types : (q : State) (W : List Located) → AreLocated d W → AreOf (values_at q) W
     have_types q [] h = tt
     have_types q (w ∷ W) h = (read_has d g fits w.1.variable w.1.ty (whole_type d w.1.variable (frame_of d w.0) w.1.ty h.0.1) h.0.2 (memory_of q w.0), have_types q W h.1)
 
@@ -228,7 +232,7 @@ module _ (b : Context) (F L K : Frame) where
     written_append q [] W s = refl
     written_append q (w ∷ V) W s = ap (λ o. with_side o w.0 (write g.types (memory_of o w.0) w.1.variable (values_at q w))) (written_append q V W s)
 
-    written_in : (q : State) (r : Side) → IsSide r → (W : List TypedVariable) (s : State) →
+    pub written_in : (q : State) (r : Side) → IsSide r → (W : List TypedVariable) (s : State) →
         all_written g s (bound_writes (values_at q) (in_memory r W)) ≡ with_side s r (overwritten g.types W (memory_of q r) (memory_of s r))
     written_in q r i [] s = sym (with_side_itself s r)
     written_in q r i (w ∷ W) s =

@@ -35,8 +35,8 @@ use Rattle.gb_typing.specs.Programs.{IsExpression, AreArguments, IsCall, AreStat
 use Rattle.gb_typing.proofs.Erased.{erased_typed}
 use Rattle.gb_typing.proofs.Expressions.{same_program}
 use Rattle.gb_typing.proofs.Formed.{formed}
-use Rattle.gb_rules.specs.Meaning.{run}
-use Rattle.gb_rules.proofs.Lists.{hidden_each}
+use Rattle.gb_typing.specs.Meaning.{run}
+use Rattle.gb_typing.proofs.Lists.{hidden_each}
 use mathlib.Core.Former.{Count}
 
 -- all uses but logical variables

@@ -33,7 +33,7 @@ use Rattle.gb_typing.specs.Fits.{IsSettingOf}
 use Rattle.gb_typing.specs.Programs.{AreArguments}
 use Rattle.gb_typing.proofs.Fitting.{fits_program, state_inside}
 use Rattle.gb_typing.proofs.Substituted.{term_has}
-use Rattle.gb_rules.specs.Meaning.{run, denominator}
+use Rattle.gb_typing.specs.Meaning.{run, denominator}
 use Rattle.gb_prog.specs.Calls.{called_from}
 
 module _ (g : Setting) (xs : List Var) (p : ProcRef) (es : List Term) (r : Routine) (there : g.procedure p ≡ Some r) where

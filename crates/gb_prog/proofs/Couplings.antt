@@ -26,9 +26,9 @@ use Rattle.gb_meaning.specs.State.{State}
 use Rattle.gb_laws.proofs.Runs.{run_positive, run_entries}
 use Rattle.gb_laws.proofs.Totals.{run_total}
 use Rattle.gb_judge.proofs.Fair.{memory_discrete}
-use Rattle.gb_rules.specs.Meaning.{run, denominator}
-use Rattle.gb_rules.proofs.Chances.{chance_scaled}
-use Rattle.gb_rules.proofs.Runs.{run_append, denominator_append}
+use Rattle.gb_typing.specs.Meaning.{run, denominator}
+use Rattle.gb_typing.proofs.Chances.{chance_scaled}
+use Rattle.gb_typing.proofs.Runs.{run_append, denominator_append}
 use Rattle.gb_prog.specs.Loops.{RunAlike}
 use Rattle.gb_prog.proofs.Loops.{weightless}
 

@@ -30,8 +30,8 @@ use Rattle.gb_typing.proofs.Formed.{formed}
 use Rattle.gb_typing.proofs.Changed.{changed}
 use Rattle.gb_typing.proofs.Sound.{procedures_sound, sound_form}
 use Rattle.gb_typing.proofs.Uses.{reads_in, uses_of, uses_typed}
-use Rattle.gb_rules.specs.Rules.{outermost}
-use Rattle.gb_rules.proofs.Every.{leaf_moved, side_of}
+use Rattle.gb_typing.specs.Rules.{outermost}
+use Rattle.gb_typing.proofs.Every.{leaf_moved, side_of}
 use Rattle.gb_prog.specs.Exchanged.{exchanging, exchanged}
 
 stays_exchanging : Stays exchanging

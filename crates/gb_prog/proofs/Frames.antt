@@ -36,7 +36,7 @@ use Rattle.gb_typing.proofs.Formed.{formed}
 use Rattle.gb_typing.proofs.Globals.{IsWholeAt, read_back}
 use Rattle.gb_typing.proofs.Sound.{procedures_sound, sound_form}
 use Rattle.gb_typing.proofs.Uses.{is_frame, is_place, reads_found, reads_in, uses_of, uses_typed}
-use Rattle.gb_rules.specs.Forms.{IsAlone}
+use Rattle.gb_typing.specs.Forms.{IsAlone}
 use Rattle.gb_prog.specs.Writes.{DifferIn, IsApart, TypedVariable, variables, overwritten, AreIn, IsOneOf, Covers, read_among}
 use Rattle.gb_prog.proofs.Writes.{apart_read}
 
@@ -143,7 +143,7 @@ module _ (c : Context) (g : Setting) (fits : IsSettingOf c g) where
 
   module _ (f : Frame) (P : Var → Bool) (n : Memory) (y : Var) (t : Ty) (i : IsIn c f y t) (p : P y ≡ true) where
     -- after the writes of values that n has, y reads as in n
-    reads_as : (W : List TypedVariable) → AreAlone g P W → AreIn c f W → (m : Memory) → (read g.types m y t ≡ read g.types n y t) ⊎ IsOneOf y W →
+    pub reads_as : (W : List TypedVariable) → AreAlone g P W → AreIn c f W → (m : Memory) → (read g.types m y t ≡ read g.types n y t) ⊎ IsOneOf y W →
         read g.types (overwritten g.types W n m) y t ≡ read g.types n y t
     reads_as [] a k m (inl e) = e
     reads_as [] a k m (inr h) = absurd h

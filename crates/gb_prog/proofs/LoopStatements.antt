@@ -18,8 +18,8 @@ use Rattle.gb_meaning.specs.Sound.{IsSound}
 use Rattle.gb_meaning.specs.State.{State}
 use Rattle.gb_laws.proofs.Bodies.{statement_if, statement_while}
 use Rattle.gb_laws.proofs.Runs.{run_positive}
-use Rattle.gb_rules.specs.Meaning.{run, denominator}
-use Rattle.gb_rules.proofs.Runs.{statements_followed}
+use Rattle.gb_typing.specs.Meaning.{run, denominator}
+use Rattle.gb_typing.proofs.Runs.{statements_followed}
 use Rattle.gb_prog.specs.Loops.{unrolled, unrolled_statement, RunAlike}
 use Rattle.gb_prog.proofs.Loops.{unrolls_before, loop_invariant, loop_certain, loop_beside, loops_coupled}
 

@@ -18,7 +18,7 @@ use Rattle.gb_meaning.specs.State.{State, closed}
 use Rattle.gb_laws.proofs.Bodies.{statement_if, statement_while}
 use Rattle.gb_typing.specs.Context.{Context}
 use Rattle.gb_typing.specs.Programs.{IsExpression, EachStatement}
-use Rattle.gb_rules.proofs.Runs.{statements_followed}
+use Rattle.gb_typing.proofs.Runs.{statements_followed}
 use Rattle.gb_prog.specs.Loops.{EachLoopIsGood}
 use Rattle.gb_prog.proofs.Blind.{blind_value, blind_each}
 

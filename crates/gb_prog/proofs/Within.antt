@@ -19,7 +19,7 @@ use Rattle.gb_laws.proofs.Bodies.{statement_if, statement_while}
 use Rattle.gb_local.specs.Cells.{Key}
 use Rattle.gb_local.specs.Cells.Key.{global, local}
 use Rattle.gb_local.specs.Writes.{keys_of, IsNone, Spares, IfGlobal, UnwrittenBy}
-use Rattle.gb_rules.proofs.Runs.{statements_followed}
+use Rattle.gb_typing.proofs.Runs.{statements_followed}
 use Rattle.gb_prog.specs.Writes.{written_by, WritesWithin, RoutineWritesWithin, AreWithin}
 use Rattle.gb_prog.proofs.Calls.{call_is}
 use Rattle.gb_prog.proofs.Writes.{by_place}

@@ -15,7 +15,7 @@ use Rattle.gb_typed.specs.Finite.{IsFinite}
 use Rattle.gb_typing.specs.Context.{Context, frame_of}
 use Rattle.gb_typing.specs.Puts.{Readable}
 use Rattle.gb_typing.specs.Typing.{IsIn}
-use Rattle.gb_rules.specs.Forms.{IsAlone}
+use Rattle.gb_typing.specs.Forms.{IsAlone}
 use Rattle.gb_prog.specs.Writes.{TypedVariable}
 
 -- variables, each in a memory

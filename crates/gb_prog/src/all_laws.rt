@@ -18,8 +18,8 @@ ghost use Rattle.gb_typing.specs.Context.{Context, Frame, reframed};
 ghost use Rattle.gb_typing.specs.Typing.{IsForm};
 ghost use Rattle.gb_typing.specs.Fits.{IsSettingOf, IsStateOf};
 ghost use Rattle.gb_typing.specs.Puts.{Readable, reading};
-ghost use Rattle.gb_rules.specs.Rules.{outermost};
-ghost use Rattle.gb_rules.specs.Meaning.{run};
+ghost use Rattle.gb_typing.specs.Rules.{outermost};
+ghost use Rattle.gb_typing.specs.Meaning.{run};
 ghost use Rattle.gb_prog.specs.Writes.{WritesWithin, DifferIn, TypedVariable, Covers};
 ghost use Rattle.gb_prog.specs.AllValues.{Located, in_memory, all_values, AreLocated, AreAlone};
 

@@ -23,7 +23,7 @@ ghost use Rattle.gb_typed.specs.Programs.{AreValuesOf};
 ghost use Rattle.gb_typing.specs.Context.{Context};
 ghost use Rattle.gb_typing.specs.Fits.{IsSettingOf};
 ghost use Rattle.gb_typing.specs.Programs.{AreArguments};
-ghost use Rattle.gb_rules.specs.Meaning.{run, denominator};
+ghost use Rattle.gb_typing.specs.Meaning.{run, denominator};
 ghost use Rattle.gb_prog.specs.Calls.{called_from};
 
 /// A call runs the outcomes of its procedure, in a frame of its own, from the values of its arguments, and returns to the caller.

@@ -18,8 +18,8 @@ ghost use Rattle.gb_meaning.specs.State.{State, between};
 ghost use Rattle.gb_typing.specs.Context.{Context, Frame, with_sides};
 ghost use Rattle.gb_typing.specs.Typing.{IsForm};
 ghost use Rattle.gb_typing.specs.Fits.{IsSettingOf};
-ghost use Rattle.gb_rules.specs.Meaning.{run, denominator};
-ghost use Rattle.gb_rules.specs.Rules.{outermost};
+ghost use Rattle.gb_typing.specs.Meaning.{run, denominator};
+ghost use Rattle.gb_typing.specs.Rules.{outermost};
 ghost use Rattle.gb_prog.specs.Exchanged.{exchanged};
 ghost use Rattle.gb_prog.specs.Loops.{RunAlike};
 

@@ -19,7 +19,7 @@ ghost use Rattle.gb_meaning.specs.Sound.{IsSound};
 ghost use Rattle.gb_meaning.specs.State.{State, closed};
 ghost use Rattle.gb_typing.specs.Context.{Context};
 ghost use Rattle.gb_typing.specs.Programs.{IsExpression, EachStatement, IsBody};
-ghost use Rattle.gb_rules.specs.Meaning.{run, denominator};
+ghost use Rattle.gb_typing.specs.Meaning.{run, denominator};
 ghost use Rattle.gb_prog.specs.Loops.{EachLoopIsGood, unrolled, unrolled_statement, RunAlike};
 
 /// A good loop runs as one turn where its guard is true, and the loop again.

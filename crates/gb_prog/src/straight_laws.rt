@@ -10,7 +10,7 @@ ghost use Rattle.gb_meaning.specs.Memory.{Memory};
 ghost use Rattle.gb_meaning.specs.Runs.{is_true};
 ghost use Rattle.gb_meaning.specs.Setting.{Setting};
 ghost use Rattle.gb_meaning.specs.State.{State};
-ghost use Rattle.gb_rules.specs.Meaning.{run, denominator};
+ghost use Rattle.gb_typing.specs.Meaning.{run, denominator};
 ghost use Rattle.gb_prog.specs.Straight.{AreStraight, after};
 
 /// Statements without chance end in one memory, over the denominator 1: a branch in that of its chosen side, a list of statements

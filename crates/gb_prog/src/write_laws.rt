@@ -26,7 +26,7 @@ ghost use Rattle.gb_typing.specs.Context.{Context, Frame, frame_of, reframed};
 ghost use Rattle.gb_typing.specs.Typing.{IsForm};
 ghost use Rattle.gb_typing.specs.Fits.{IsSettingOf};
 ghost use Rattle.gb_typing.specs.Puts.{Readable, reading};
-ghost use Rattle.gb_rules.specs.Forms.{IsAlone};
+ghost use Rattle.gb_typing.specs.Forms.{IsAlone};
 ghost use Rattle.gb_prog.specs.Writes.{written, written_by, WritesWithin, RoutineWritesWithin, AreWithin, DifferIn, IsApart};
 ghost use Rattle.gb_prog.specs.Writes.{TypedVariable, variables, overwritten, AreIn, Covers, read_among};
 

@@ -6,16 +6,20 @@
 #![tactic(auto)]
 
 use gb_core::refusal::code;
-use gb_theory::verdict::{Verdict, too_long, verdict_on};
+use gb_session::script::verdict_on;
+use gb_theory::verdict::{Verdict, too_long};
 use std::alloc::{AllocError, Global};
 use std::{env, fs, io};
+
+/// The name of each script.
+const NAME: &str = "script";
 
 /// A text of this many bytes is too long to be read.
 const LIMIT: usize = 1_048_577;
 
 fn verdict_of(alloc: Global, text: &[u8]) -> Result<Verdict, AllocError> {
     if text.len() < LIMIT {
-        verdict_on(alloc, text)
+        verdict_on(alloc, NAME, text)
     } else {
         Ok(too_long())
     }

@@ -1,6 +1,7 @@
 -- A claim closes its leaf exactly where it is found true, and there is one answer to leaves.
-use Rattle.std.proofs.Common.{◌≡◌, ℕ, ℤ, pos, ◌↔◌, true, false, Bool, cond, Option, Some, None, List, [], ◌∷◌, ◌++◌, refl, sym, ap, ◌∙◌, subst, arith}
+use Rattle.std.proofs.Common.{◌≡◌, ℕ, ℤ, pos, ◌⊎◌, inl, inr, ◌↔◌, Result, Ok, Err, IfOk, true, false, Bool, cond, Option, Some, None, List, [], ◌∷◌, ◌++◌, refl, sym, ap, ◌∙◌, subst, arith}
 use Rattle.std.specs.List.{list_any, All, Any}
+use Rattle.std.specs.declared.alloc.AllocError.{AllocError}
 use Rattle.std.proofs.lemmas.Bool.{false≢true}
 use Rattle.std.proofs.lemmas.List.Elements.{All-head, All-tail}
 use Rattle.std.proofs.lemmas.List.Folds.{Any-from_list_any, list_any-from_Any}
@@ -9,6 +10,7 @@ use Rattle.gb_core.specs.declared.value.Card.{Card}
 use Rattle.gb_core.specs.declared.refusal.Why.{Why}
 use Rattle.gb_core.specs.declared.refusal.Why.TheVariants as why
 use Rattle.gb_terms.specs.declared.term.Term.{Term}
+use Rattle.gb_goal.specs.Scope.{Declarations}
 use Rattle.gb_smt.specs.declared.leaves.Leaf.{Leaf}
 use Rattle.gb_smt.specs.declared.claims.Claim.{Claim}
 use Rattle.gb_smt.specs.declared.assign.Found.{Found}
@@ -21,10 +23,10 @@ use Rattle.gb_smt.specs.Equations.{used_up}
 use Rattle.gb_smt.specs.Claims.{claims_of}
 use Rattle.gb_smt.specs.Width.{width_of, is_tried}
 use Rattle.gb_smt.specs.Assign.{found_of}
-use Rattle.gb_smt.specs.Atoms.{IsCount}
-use Rattle.gb_smt.specs.Apply.{trial_at, trial_of, is_true, is_found_true, shown_by, out_of_range_or, refuted_by, left_open, open_outcome, outcome_of, Closes, IsClosed, IsReason, IsOpen, IsFirstOpen, IsAnswerOf}
+use Rattle.gb_smt.specs.ByEquality.{ClosesByEquality}
+use Rattle.gb_smt.specs.Apply.{trial_at, trial_of, is_true, is_found_true, shown_by, out_of_range_or, refuted_by, left_open, open_outcome, outcome_of, Closes, IsClosed, IsReason, IsTriedAnswer, IsOpen, IsFirstOpen, IsAnswer, IsAnswerOf}
 use Rattle.gb_smt.proofs.Findings.{found_exactly}
-use Rattle.gb_smt.proofs.Different.{no_more}
+use Rattle.gb_smt.proofs.ByEquality.{count_once}
 use Rattle.gb_smt.proofs.Trials.{trial_by, outcome_open, outcome_true}
 
 -- claims that close
@@ -39,143 +41,144 @@ true_by : (b : Bool) (w : Card) (f : Found) → is_true (trial_by b w f).found �
 true_by true w f e = (refl, true_only w f e)
 true_by false w f e = absurd (false≢true e)
 
-closes_if : (c : Claim) → is_found_true c ≡ true → Closes c
-closes_if c e =
-    let p = true_by (is_tried (width_of c)) (width_of c) (found_of c) e in
-    (p.0, (found_exactly c True).0 p.1)
+module _ (ds : Declarations) where
+  closes_if : (c : Claim) → is_found_true ds c ≡ true → Closes ds c
+  closes_if c e =
+      let p = true_by (is_tried (width_of ds c)) (width_of ds c) (found_of ds c) e in
+      (p.0, (found_exactly ds c True).0 p.1)
 
-closes_only : (c : Claim) → Closes c → is_found_true c ≡ true
-closes_only c h =
-    ap (λ b. is_true (trial_by b (width_of c) (found_of c)).found) h.0
-    ∙ ap (λ f. is_true (trial_at (width_of c) f).found) ((found_exactly c True).1 h.1)
+  closes_only : (c : Claim) → Closes ds c → is_found_true ds c ≡ true
+  closes_only c h =
+      ap (λ b. is_true (trial_by b (width_of ds c) (found_of ds c)).found) h.0
+      ∙ ap (λ f. is_true (trial_at (width_of ds c) f).found) ((found_exactly ds c True).1 h.1)
 
-any_mapped : (P Q : Claim → Type 0) → ((c : Claim) → P c → Q c) → (cs : List Claim) → Any P cs → Any Q cs
-any_mapped P Q f cs a = (a.0, a.1, a.2, a.3, f a.1 a.4)
+  any_mapped : (P Q : Claim → Type 0) → ((c : Claim) → P c → Q c) → (cs : List Claim) → Any P cs → Any Q cs
+  any_mapped P Q f cs a = (a.0, a.1, a.2, a.3, f a.1 a.4)
 
-not_closed_by : (f : Found) (w : Card) → refuted_by f w ≡ Closed → ⊥
-not_closed_by True w e = cc
-not_closed_by Unknown w e = cc
-not_closed_by (Overflow o) w e = cc
-not_closed_by (False values) w e = by_width (is_tried w) e
-  where
-    by_width : (b : Bool) → cond b (Refuted values) (Undecided w) ≡ Closed → ⊥
-    by_width true e = cc
-    by_width false e = cc
+  not_closed_by : (f : Found) (w : Card) → refuted_by f w ≡ Closed → ⊥
+  not_closed_by True w e = cc
+  not_closed_by Unknown w e = cc
+  not_closed_by (Overflow o) w e = cc
+  not_closed_by (False values) w e = by_width (is_tried w) e
+    where
+      by_width : (b : Bool) → cond b (Refuted values) (Undecided w) ≡ Closed → ⊥
+      by_width true e = cc
+      by_width false e = cc
 
-not_closed_at : (f : Found) (o : Open) → left_open f o ≡ Closed → ⊥
-not_closed_at f o e = by_overflow o.overflow e
-  where
-    by_overflow : (x : Option number.Overflow) → out_of_range_or x (refuted_by f o.widest) ≡ Closed → ⊥
-    by_overflow (Some y) e = cc
-    by_overflow None e = not_closed_by f o.widest e
+  not_closed_at : (f : Found) (o : Open) → left_open f o ≡ Closed → ⊥
+  not_closed_at f o e = by_overflow o.overflow e
+    where
+      by_overflow : (x : Option number.Overflow) → out_of_range_or x (refuted_by f o.widest) ≡ Closed → ⊥
+      by_overflow (Some y) e = cc
+      by_overflow None e = not_closed_by f o.widest e
 
-not_closed : (cs : List Claim) → open_outcome cs ≡ Closed → ⊥
-not_closed [] e = cc
-not_closed (c ∷ cs) e = not_closed_at (trial_of c).found (shown_by (c ∷ cs)) e
+  not_closed : (cs : List Claim) → open_outcome ds cs ≡ Closed → ⊥
+  not_closed [] e = cc
+  not_closed (c ∷ cs) e = not_closed_at (trial_of ds c).found (shown_by ds (c ∷ cs)) e
 
-closed_by_test : (cs : List Claim) (b : Bool) → list_any is_found_true cs ≡ b → outcome_of cs ≡ Closed → Any Closes cs
-closed_by_test cs true h e = any_mapped (λ c. is_found_true c ≡ true) Closes closes_if cs (Any-from_list_any is_found_true cs h)
-closed_by_test cs false h e = absurd (not_closed cs (sym (outcome_open cs h) ∙ e))
+  closed_by_test : (cs : List Claim) (b : Bool) → list_any (is_found_true ds) cs ≡ b → outcome_of ds cs ≡ Closed → Any (Closes ds) cs
+  closed_by_test cs true h e = any_mapped (λ c. is_found_true ds c ≡ true) (Closes ds) closes_if cs (Any-from_list_any (is_found_true ds) cs h)
+  closed_by_test cs false h e = absurd (not_closed cs (sym (outcome_open ds cs h) ∙ e))
 
-closed_if : (cs : List Claim) → outcome_of cs ≡ Closed → Any Closes cs
-closed_if cs e = closed_by_test cs (list_any is_found_true cs) refl e
+  closed_if : (cs : List Claim) → outcome_of ds cs ≡ Closed → Any (Closes ds) cs
+  closed_if cs e = closed_by_test cs (list_any (is_found_true ds) cs) refl e
 
-closed_only : (cs : List Claim) → Any Closes cs → outcome_of cs ≡ Closed
-closed_only cs a = outcome_true cs (list_any-from_Any is_found_true cs (any_mapped Closes (λ c. is_found_true c ≡ true) closes_only cs a))
+  closed_only : (cs : List Claim) → Any (Closes ds) cs → outcome_of ds cs ≡ Closed
+  closed_only cs a = outcome_true ds cs (list_any-from_Any (is_found_true ds) cs (any_mapped (Closes ds) (λ c. is_found_true ds c ≡ true) closes_only cs a))
 
-pub closed_exactly : (cs : List Claim) → outcome_of cs ≡ Closed ↔ Any Closes cs
-closed_exactly cs = (closed_if cs, closed_only cs)
+  pub closed_exactly : (cs : List Claim) → outcome_of ds cs ≡ Closed ↔ Any (Closes ds) cs
+  closed_exactly cs = (closed_if cs, closed_only cs)
 
--- the answer to a leaf, from what trying the claims of the leaf without its equations comes to
-module _ (l whole : Leaf) (t : Tried) (p : t ≡ outcome_of (claims_of l)) (q : l ≡ used_up whole) where
-  outcome : t ≡ outcome_of (claims_of (used_up whole))
-  outcome = p ∙ ap (λ x. outcome_of (claims_of x)) q
+  -- the answer to a leaf without equations, from what trying its claims comes to
+  pub tried_closed : (l : Leaf) (t : Tried) → t ≡ outcome_of ds (claims_of l) → t ≡ Closed → Any (Closes ds) (claims_of l)
+  tried_closed l t p e = closed_if (claims_of l) (sym p ∙ e)
 
-  pub answer_closed : t ≡ Closed → IsClosed whole
-  answer_closed e = closed_if (claims_of (used_up whole)) (sym outcome ∙ e)
+  -- the answer to a leaf, from that to it without its equations
+  module _ (l whole : Leaf) (q : l ≡ used_up whole) where
+    pub tried_answer : (r : Result (Option Why) AllocError) → (ClosesByEquality whole → ⊥) → IfOk r (IsTriedAnswer ds l) → IfOk r (IsAnswer ds whole)
+    tried_answer (Ok None) n a = inr (subst (λ x. Any (Closes ds) (claims_of x)) q a)
+    tried_answer (Ok (Some w)) n a = (n, subst (λ x. IsReason ds x w) q a)
+    tried_answer (Err e) n a = tt
 
--- the number of different terms
-count_once : (ts : List Term) (m n : ℕ) → IsCount ts m → IsCount ts n → m ≡ n
-count_once ts m n a b =
-    let p = no_more a.once b.once a.distinct (λ t h. b.within t (a.from t h)) in
-    let q = no_more b.once a.once b.distinct (λ t h. a.within t (b.from t h)) in
-    omega (arith, p, q, a.number, b.number)
+  -- one answer
 
--- one answer
+  tried_or_open : (l : Leaf) (w : Why) → Any (Closes ds) (claims_of (used_up l)) → IsReason ds (used_up l) w → ⊥
+  tried_or_open l (why.False values) c r = let e = closed_only (claims_of (used_up l)) c in cc
+  tried_or_open l (why.Undecided width atoms) c r = let e = closed_only (claims_of (used_up l)) c in let q = r.0 in cc
+  tried_or_open l (why.Overflow left right) c r = let e = closed_only (claims_of (used_up l)) c in cc
+  tried_or_open l _ c r = r
 
-closed_or_open : (l : Leaf) (w : Why) → IsClosed l → IsOpen l w → ⊥
-closed_or_open l (why.False values) c r = let e = closed_only (claims_of (used_up l)) c in cc
-closed_or_open l (why.Undecided width atoms) c r = let e = closed_only (claims_of (used_up l)) c in let q = r.0 in cc
-closed_or_open l (why.Overflow left right) c r = let e = closed_only (claims_of (used_up l)) c in cc
-closed_or_open l _ c r = r
+  closed_or_open : (l : Leaf) (w : Why) → IsClosed ds l → IsOpen ds l w → ⊥
+  closed_or_open l w (inl c) r = r.0 c
+  closed_or_open l w (inr c) r = tried_or_open l w c r.1
 
-undecided_once : (l : Leaf) (width w : Card) (m n : ℕ) → IsReason l (why.Undecided width m) → IsReason l (why.Undecided w n) → why.Undecided width m ≡ why.Undecided w n
-undecided_once l width w m n a b =
-    let e : width ≡ w = (let p = a.0 in let q = b.0 in cc) in
-    ap (λ x. why.Undecided x m) e ∙ ap (why.Undecided w) (count_once _ m n a.1 b.1)
+  undecided_once : (l : Leaf) (width w : Card) (m n : ℕ) → IsReason ds l (why.Undecided width m) → IsReason ds l (why.Undecided w n) → why.Undecided width m ≡ why.Undecided w n
+  undecided_once l width w m n a b =
+      let e : width ≡ w = (let p = a.0 in let q = b.0 in cc) in
+      ap (λ x. why.Undecided x m) e ∙ ap (why.Undecided w) (count_once _ m n a.1 b.1)
 
-false_once : (l : Leaf) (values : List Value) (w : Why) → IsReason l (why.False values) → IsReason l w → why.False values ≡ w
-false_once l values (why.False vs) a b = let e : values ≡ vs = cc in ap why.False e
-false_once l values (why.Undecided width n) a b = let q = b.0 in absurd (cc)
-false_once l values (why.Overflow left right) a b = absurd (cc)
-false_once l values _ a b = absurd b
+  false_once : (l : Leaf) (values : List Value) (w : Why) → IsReason ds l (why.False values) → IsReason ds l w → why.False values ≡ w
+  false_once l values (why.False vs) a b = let e : values ≡ vs = cc in ap why.False e
+  false_once l values (why.Undecided width n) a b = let q = b.0 in absurd (cc)
+  false_once l values (why.Overflow left right) a b = absurd (cc)
+  false_once l values _ a b = absurd b
 
-undecided_or : (l : Leaf) (width : Card) (n : ℕ) (w : Why) → IsReason l (why.Undecided width n) → IsReason l w → why.Undecided width n ≡ w
-undecided_or l width n (why.False values) a b = let q = a.0 in absurd (cc)
-undecided_or l width n (why.Undecided v m) a b = undecided_once l width v n m a b
-undecided_or l width n (why.Overflow left right) a b = let q = a.0 in absurd (cc)
-undecided_or l width n _ a b = absurd b
+  undecided_or : (l : Leaf) (width : Card) (n : ℕ) (w : Why) → IsReason ds l (why.Undecided width n) → IsReason ds l w → why.Undecided width n ≡ w
+  undecided_or l width n (why.False values) a b = let q = a.0 in absurd (cc)
+  undecided_or l width n (why.Undecided v m) a b = undecided_once l width v n m a b
+  undecided_or l width n (why.Overflow left right) a b = let q = a.0 in absurd (cc)
+  undecided_or l width n _ a b = absurd b
 
-operands_same : (a b c d : ℤ) → OutOfRange (record { left = a; right = b }) ≡ OutOfRange (record { left = c; right = d }) → why.Overflow a b ≡ why.Overflow c d
-operands_same a b c d e = λ i. why.Overflow (left_of (e i)) (right_of (e i))
-  where
-    left_of : Tried → ℤ
-    left_of (OutOfRange o) = o.left
-    left_of _ = pos 0
+  operands_same : (a b c d : ℤ) → OutOfRange (record { left = a; right = b }) ≡ OutOfRange (record { left = c; right = d }) → why.Overflow a b ≡ why.Overflow c d
+  operands_same a b c d e = λ i. why.Overflow (left_of (e i)) (right_of (e i))
+    where
+      left_of : Tried → ℤ
+      left_of (OutOfRange o) = o.left
+      left_of _ = pos 0
 
-    right_of : Tried → ℤ
-    right_of (OutOfRange o) = o.right
-    right_of _ = pos 0
+      right_of : Tried → ℤ
+      right_of (OutOfRange o) = o.right
+      right_of _ = pos 0
 
-overflow_once : (l : Leaf) (left right : ℤ) (w : Why) → IsReason l (why.Overflow left right) → IsReason l w → why.Overflow left right ≡ w
-overflow_once l left right (why.False values) a b = absurd (cc)
-overflow_once l left right (why.Undecided width n) a b = let q = b.0 in absurd (cc)
-overflow_once l left right (why.Overflow x y) a b = operands_same left right x y (sym a ∙ b)
-overflow_once l left right _ a b = absurd b
+  overflow_once : (l : Leaf) (left right : ℤ) (w : Why) → IsReason ds l (why.Overflow left right) → IsReason ds l w → why.Overflow left right ≡ w
+  overflow_once l left right (why.False values) a b = absurd (cc)
+  overflow_once l left right (why.Undecided width n) a b = let q = b.0 in absurd (cc)
+  overflow_once l left right (why.Overflow x y) a b = operands_same left right x y (sym a ∙ b)
+  overflow_once l left right _ a b = absurd b
 
-one_reason : (l : Leaf) (v w : Why) → IsReason l v → IsReason l w → v ≡ w
-one_reason l (why.False values) w a b = false_once l values w a b
-one_reason l (why.Undecided width n) w a b = undecided_or l width n w a b
-one_reason l (why.Overflow left right) w a b = overflow_once l left right w a b
-one_reason l _ w a b = absurd a
+  one_reason : (l : Leaf) (v w : Why) → IsReason ds l v → IsReason ds l w → v ≡ w
+  one_reason l (why.False values) w a b = false_once l values w a b
+  one_reason l (why.Undecided width n) w a b = undecided_or l width n w a b
+  one_reason l (why.Overflow left right) w a b = overflow_once l left right w a b
+  one_reason l _ w a b = absurd a
 
-head_same : (a b : Leaf) (us vs : List Leaf) → a ∷ us ≡ b ∷ vs → a ≡ b
-head_same a b us vs e = cc
+  head_same : (a b : Leaf) (us vs : List Leaf) → a ∷ us ≡ b ∷ vs → a ≡ b
+  head_same a b us vs e = cc
 
-tail_same : (a b : Leaf) (us vs : List Leaf) → a ∷ us ≡ b ∷ vs → us ≡ vs
-tail_same a b us vs e = cc
+  tail_same : (a b : Leaf) (us vs : List Leaf) → a ∷ us ≡ b ∷ vs → us ≡ vs
+  tail_same a b us vs e = cc
 
-first_once : (xs ys : List Leaf) (a b : Leaf) (us vs : List Leaf) (v w : Why) → xs ++ a ∷ us ≡ ys ++ b ∷ vs → All IsClosed xs → All IsClosed ys → IsOpen a v → IsOpen b w → v ≡ w
-first_once [] [] a b us vs v w e c d i j = one_reason (used_up a) v w i (subst (λ l. IsOpen l w) (sym (head_same a b us vs e)) j)
-first_once [] (y ∷ ys) a b us vs v w e c d i j =
-    absurd (closed_or_open y v (All-head IsClosed y ys d) (subst (λ l. IsOpen l v) (head_same a y us (ys ++ b ∷ vs) e) i))
-first_once (x ∷ xs) [] a b us vs v w e c d i j =
-    absurd (closed_or_open x w (All-head IsClosed x xs c) (subst (λ l. IsOpen l w) (sym (head_same x b (xs ++ a ∷ us) vs e)) j))
-first_once (x ∷ xs) (y ∷ ys) a b us vs v w e c d i j =
-    first_once xs ys a b us vs v w (tail_same x y (xs ++ a ∷ us) (ys ++ b ∷ vs) e) (All-tail IsClosed x xs c) (All-tail IsClosed y ys d) i j
+  first_once : (xs ys : List Leaf) (a b : Leaf) (us vs : List Leaf) (v w : Why) → xs ++ a ∷ us ≡ ys ++ b ∷ vs → All (IsClosed ds) xs → All (IsClosed ds) ys → IsOpen ds a v → IsOpen ds b w → v ≡ w
+  first_once [] [] a b us vs v w e c d i j = one_reason (used_up a) v w i.1 (subst (λ l. IsOpen ds l w) (sym (head_same a b us vs e)) j).1
+  first_once [] (y ∷ ys) a b us vs v w e c d i j =
+      absurd (closed_or_open y v (All-head (IsClosed ds) y ys d) (subst (λ l. IsOpen ds l v) (head_same a y us (ys ++ b ∷ vs) e) i))
+  first_once (x ∷ xs) [] a b us vs v w e c d i j =
+      absurd (closed_or_open x w (All-head (IsClosed ds) x xs c) (subst (λ l. IsOpen ds l w) (sym (head_same x b (xs ++ a ∷ us) vs e)) j))
+  first_once (x ∷ xs) (y ∷ ys) a b us vs v w e c d i j =
+      first_once xs ys a b us vs v w (tail_same x y (xs ++ a ∷ us) (ys ++ b ∷ vs) e) (All-tail (IsClosed ds) x xs c) (All-tail (IsClosed ds) y ys d) i j
 
-closed_within : (xs us : List Leaf) (a : Leaf) → All IsClosed (xs ++ a ∷ us) → IsClosed a
-closed_within [] us a h = All-head IsClosed a us h
-closed_within (x ∷ xs) us a h = closed_within xs us a (All-tail IsClosed x (xs ++ a ∷ us) h)
+  closed_within : (xs us : List Leaf) (a : Leaf) → All (IsClosed ds) (xs ++ a ∷ us) → IsClosed ds a
+  closed_within [] us a h = All-head (IsClosed ds) a us h
+  closed_within (x ∷ xs) us a h = closed_within xs us a (All-tail (IsClosed ds) x (xs ++ a ∷ us) h)
 
-all_closed_or_open : (ls : List Leaf) (w : Why) → All IsClosed ls → IsFirstOpen ls w → ⊥
-all_closed_or_open ls w c f = closed_or_open f.leaf w (closed_within f.closed f.others f.leaf (subst (All IsClosed) f.order c)) f.reason
+  all_closed_or_open : (ls : List Leaf) (w : Why) → All (IsClosed ds) ls → IsFirstOpen ds ls w → ⊥
+  all_closed_or_open ls w c f = closed_or_open f.leaf w (closed_within f.closed f.others f.leaf (subst (All (IsClosed ds)) f.order c)) f.reason
 
-first_open_once : (ls : List Leaf) (v w : Why) → IsFirstOpen ls v → IsFirstOpen ls w → v ≡ w
-first_open_once ls v w a b = first_once a.closed b.closed a.leaf b.leaf a.others b.others v w (sym a.order ∙ b.order) a.before b.before a.reason b.reason
+  first_open_once : (ls : List Leaf) (v w : Why) → IsFirstOpen ds ls v → IsFirstOpen ds ls w → v ≡ w
+  first_open_once ls v w a b = first_once a.closed b.closed a.leaf b.leaf a.others b.others v w (sym a.order ∙ b.order) a.before b.before a.reason b.reason
 
-pub one_answer : (ls : List Leaf) (a b : Option Why) → IsAnswerOf ls a → IsAnswerOf ls b → a ≡ b
-one_answer ls None None i j = refl
-one_answer ls None (Some w) i j = absurd (all_closed_or_open ls w i j)
-one_answer ls (Some v) None i j = absurd (all_closed_or_open ls v j i)
-one_answer ls (Some v) (Some w) i j = ap Some (first_open_once ls v w i j)
+  pub one_answer : (ls : List Leaf) (a b : Option Why) → IsAnswerOf ds ls a → IsAnswerOf ds ls b → a ≡ b
+  one_answer ls None None i j = refl
+  one_answer ls None (Some w) i j = absurd (all_closed_or_open ls w i j)
+  one_answer ls (Some v) None i j = absurd (all_closed_or_open ls v j i)
+  one_answer ls (Some v) (Some w) i j = ap Some (first_open_once ls v w i j)

@@ -6,6 +6,7 @@ use Rattle.gb_terms.specs.declared.term.Term.{Term, Term', Row_of-Term, end_of-T
 use Rattle.gb_terms.specs.declared.term.Head.TheViews.{out-Term, outs-struct-Term}
 use Rattle.gb_terms.specs.declared.term.Head.TheFolds.{fold_out-Term}
 use Rattle.gb_meaning.specs.Written.{type_of}
+use Rattle.gb_meaning.specs.Names.{Name}
 use Rattle.gb_typed.specs.Typing.{types_of}
 use Rattle.gb_smt.specs.Leaves as leaves
 use Rattle.gb_smt.specs.Variables as vars
@@ -33,13 +34,13 @@ types_row : (n : _) (r : Row_of-Term n) → types_of r ≡ map type_of (items-th
 types_row n end_of-Term = refl
 types_row n (more_of-Term t r) = ap (λ l. type_of t ∷ l) (types_row _ r)
 
-bound_row : (n : _) (r : Row_of-Term n) → width.all_bound r ≡ flat_map width.bound_types (items-the_row-Term n r)
-bound_row n end_of-Term = refl
-bound_row n (more_of-Term t r) = ap (λ l. width.bound_types t ++ l) (bound_row _ r)
+bound_row : (bs : Name → width.Tys) (n : _) (r : Row_of-Term n) → width.all_bound bs r ≡ flat_map (width.bound_types bs) (items-the_row-Term n r)
+bound_row bs n end_of-Term = refl
+bound_row bs n (more_of-Term t r) = ap (λ l. width.bound_types bs t ++ l) (bound_row bs _ r)
 
-pub bound_out : (t : Term) → width.bound_types t ≡ width.bound_by (out-Term t).head (map type_of (out-Term t).args) ++ flat_map width.bound_types (out-Term t).args
+pub bound_out : (bs : Name → width.Tys) (t : Term) → width.bound_types bs t ≡ width.bound_by bs (out-Term t).head (map type_of (out-Term t).args) ++ flat_map (width.bound_types bs) (out-Term t).args
 unfolding Rattle.gb_terms.specs.declared.term.Head.TheBlock.shown-the_row-Head-2 denote.Hole.Carrier.shown
-bound_out (Term' p (more_of-Head h end_of-Head) n r ty) =
-    (λ i. width.bound_by h (types_row _ r i) ++ bound_row _ r i)
-    ∙ ap (λ l. width.bound_by h (map type_of l) ++ flat_map width.bound_types l) (sym (items_shown-the_row-Term-0 n r))
-    ∙ sym (ap (λ z. width.bound_by z.head (map type_of z.args) ++ flat_map width.bound_types z.args) (outs-struct-Term p (more_of-Head h end_of-Head) n r ty))
+bound_out bs (Term' p (more_of-Head h end_of-Head) n r ty) =
+    (λ i. width.bound_by bs h (types_row _ r i) ++ bound_row bs _ r i)
+    ∙ ap (λ l. width.bound_by bs h (map type_of l) ++ flat_map (width.bound_types bs) l) (sym (items_shown-the_row-Term-0 n r))
+    ∙ sym (ap (λ z. width.bound_by bs z.head (map type_of z.args) ++ flat_map (width.bound_types bs) z.args) (outs-struct-Term p (more_of-Head h end_of-Head) n r ty))

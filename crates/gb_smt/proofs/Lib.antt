@@ -3,6 +3,7 @@ pub mod Layers
 pub mod Uses
 pub mod Noted
 pub mod Sizes
+mod Scripts
 pub mod Marks
 pub mod Parts
 pub mod Findings
@@ -13,3 +14,5 @@ mod Answered
 mod Values
 pub mod Meant
 mod Outcomes
+pub mod ByEquality
+pub mod Fronts

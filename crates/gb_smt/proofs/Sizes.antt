@@ -1,5 +1,5 @@
 -- The number of assignments to variables, and to those that are bound in terms.
-use Rattle.std.proofs.Common.{◌≡◌, ℕ, ◌+◌, ◌*◌, ◌^◌, ◌<◌, Bool, true, false, ◌&&◌, cond, nat_lt, min, List, [], ◌∷◌, ◌++◌, length, get_or, map, take, refl, sym, ap, ◌∙◌, subst, append-nil, mul_assoc, arith}
+use Rattle.std.proofs.Common.{◌≡◌, ℕ, zero, suc, Option, Some, None, ◌+◌, ◌*◌, ◌^◌, ◌<◌, Bool, true, false, ◌&&◌, cond, nat_lt, min, List, [], ◌∷◌, ◌++◌, length, get_or, map, take, refl, sym, ap, ◌∙◌, subst, append-nil, mul_assoc, arith}
 use Rattle.std.specs.List.{flat_map, list_all}
 use Rattle.std.proofs.Math.Nat.{min-eq_left}
 use Rattle.std.proofs.lemmas.Bool.{false≢true, and_parts, ltb-true, lt-ltb}
@@ -24,11 +24,14 @@ use Rattle.gb_meaning.specs.Operators.{outcome_type}
 use Rattle.gb_meaning.specs.Written.{type_of}
 use Rattle.gb_typed.specs.Typing.{types_of}
 use Rattle.gb_typed.proofs.Constructors.{distribution_is}
-use Rattle.gb_eval.specs.Known.{is_known, all_known, is_head_known, are_true}
+use Rattle.gb_goal.specs.Scope.{Declarations}
+use Rattle.gb_meaning.specs.Names.{Name}
+use Rattle.gb_eval.specs.Script.{body_named, made_of}
+use Rattle.gb_eval.specs.Known.{is_known, all_known, is_head_known, known_at, known_of, are_true}
 use Rattle.gb_smt.specs.declared.claims.Claim.{Claim}
 use Rattle.gb_smt.specs.declared.variables.Variable.{Variable}
 use Rattle.gb_smt.specs.Variables.{Vars}
-use Rattle.gb_smt.specs.Width.{bound_by, bound_types, all_bound, types_in, assignments_of, is_known_claim}
+use Rattle.gb_smt.specs.Width.{Tys, bound_at, bound_by, bound_of, bound_types, all_bound, types_in, assignments_of, is_known_claim}
 use Rattle.gb_smt.proofs.Layers.{bound_out}
 use mathlib.Core.Former.{Count}
 
@@ -55,19 +58,20 @@ product_more vs i v x y z l e p q r =
     ∙ ap (λ w. min (product (map (λ w. w.ty) (take i vs) ++ w.ty ∷ [])) (2 ^ 63)) e
     ∙ ap (λ ts. min (product ts) (2 ^ 63)) (sym (map_more (λ w. w.ty) vs i v l))
 
-pub product_bound_more : (ts : List Term) (i : ℕ) (t : Term) (x y z : ℕ) → i < length ts → t ≡ get_or ts i t → x ≡ min (product (flat_map bound_types (take i ts))) (2 ^ 63) → y ≡ min (product (bound_types t)) (2 ^ 63) → z ≡ min (x * y) (2 ^ 63) → z ≡ min (product (flat_map bound_types (take (i + 1) ts))) (2 ^ 63)
-product_bound_more ts i t x y z l e p q r =
-    product_both (flat_map bound_types (take i ts)) (bound_types t) x y z p q r
-    ∙ ap (λ us. min (product (flat_map bound_types (take i ts) ++ us)) (2 ^ 63)) (sym (append-nil (bound_types t)))
-    ∙ ap (λ us. min (product us) (2 ^ 63)) (sym (flat_map-append bound_types (take i ts) (t ∷ [])))
-    ∙ ap (λ u. min (product (flat_map bound_types (take i ts ++ u ∷ []))) (2 ^ 63)) e
-    ∙ ap (λ us. min (product (flat_map bound_types us)) (2 ^ 63)) (sym (take_more ts i t l))
+module _ (bs : Name → Tys) where
+  pub product_bound_more : (ts : List Term) (i : ℕ) (t : Term) (x y z : ℕ) → i < length ts → t ≡ get_or ts i t → x ≡ min (product (flat_map (bound_types bs) (take i ts))) (2 ^ 63) → y ≡ min (product (bound_types bs t)) (2 ^ 63) → z ≡ min (x * y) (2 ^ 63) → z ≡ min (product (flat_map (bound_types bs) (take (i + 1) ts))) (2 ^ 63)
+  product_bound_more ts i t x y z l e p q r =
+      product_both (flat_map (bound_types bs) (take i ts)) (bound_types bs t) x y z p q r
+      ∙ ap (λ us. min (product (flat_map (bound_types bs) (take i ts) ++ us)) (2 ^ 63)) (sym (append-nil (bound_types bs t)))
+      ∙ ap (λ us. min (product us) (2 ^ 63)) (sym (flat_map-append (bound_types bs) (take i ts) (t ∷ [])))
+      ∙ ap (λ u. min (product (flat_map (bound_types bs) (take i ts ++ u ∷ []))) (2 ^ 63)) e
+      ∙ ap (λ us. min (product (flat_map (bound_types bs) us)) (2 ^ 63)) (sym (take_more ts i t l))
 
-pub product_bound : (t : Term) (h : Head) (args : List Term) (x y z : ℕ) → h ≡ (out-Term t).head → args ≡ (out-Term t).args → x ≡ min (product (bound_by h (map type_of args))) (2 ^ 63) → y ≡ min (product (flat_map bound_types args)) (2 ^ 63) → z ≡ min (x * y) (2 ^ 63) → z ≡ min (product (bound_types t)) (2 ^ 63)
-product_bound t h args x y z p q a b r =
-    product_both (bound_by h (map type_of args)) (flat_map bound_types args) x y z a b r
-    ∙ (λ i. min (product (bound_by (p i) (map type_of (q i)) ++ flat_map bound_types (q i))) (2 ^ 63))
-    ∙ ap (λ us. min (product us) (2 ^ 63)) (sym (bound_out t))
+  pub product_bound : (t : Term) (h : Head) (args : List Term) (x y z : ℕ) → h ≡ (out-Term t).head → args ≡ (out-Term t).args → x ≡ min (product (bound_by bs h (map type_of args))) (2 ^ 63) → y ≡ min (product (flat_map (bound_types bs) args)) (2 ^ 63) → z ≡ min (x * y) (2 ^ 63) → z ≡ min (product (bound_types bs t)) (2 ^ 63)
+  product_bound t h args x y z p q a b r =
+      product_both (bound_by bs h (map type_of args)) (flat_map (bound_types bs) args) x y z a b r
+      ∙ (λ i. min (product (bound_by bs (p i) (map type_of (q i)) ++ flat_map (bound_types bs) (q i))) (2 ^ 63))
+      ∙ ap (λ us. min (product us) (2 ^ 63)) (sym (bound_out bs t))
 
 -- the number of the values of a tuple, from what its types are
 
@@ -142,46 +146,59 @@ one_finite n ty h = ap (λ b. b && true) (and_parts n (is_finite ty) h).1
 finite-Mod : (q : ℕ) → are_finite (Mod q ∷ []) ≡ true
 finite-Mod q = ap (λ b. b && true) (ap is_finite (sym (rolls-Mod q)) ∙ fold-roll-Ty Bool finite_step (t.Mod q))
 
-head_finite : (h : Head) (us : List Ty) → is_head_known h us ≡ true → are_finite (bound_by h us) ≡ true
-head_finite (head.All ty) us k = one_finite _ ty k
-head_finite (head.Some ty) us k = one_finite _ ty k
-head_finite (head.Sum q) us k = finite-Mod q
-head_finite head.Mu (d ∷ a ∷ []) k = one_finite _ (outcome_type d) k
-head_finite head.Map (d ∷ a ∷ []) k = one_finite _ (outcome_type d) k
-head_finite head.Restrict (d ∷ a ∷ []) k = one_finite _ (outcome_type d) k
-head_finite head.Mu us k = absurd (false≢true k)
-head_finite head.Restrict us k = absurd (false≢true k)
-head_finite head.Map us k = absurd (false≢true k)
-head_finite _ us k = refl
+module _ (ks : Name → Bool) (bs : Name → Tys) (fit : (n : Name) → ks n ≡ true → are_finite (bs n) ≡ true) where
+  head_finite : (h : Head) (us : List Ty) → is_head_known ks h us ≡ true → are_finite (bound_by bs h us) ≡ true
+  head_finite (head.User n) us k = fit n k
+  head_finite (head.All ty) us k = one_finite _ ty k
+  head_finite (head.Some ty) us k = one_finite _ ty k
+  head_finite (head.Sum q) us k = finite-Mod q
+  head_finite head.Mu (d ∷ a ∷ []) k = one_finite _ (outcome_type d) k
+  head_finite head.Map (d ∷ a ∷ []) k = one_finite _ (outcome_type d) k
+  head_finite head.Restrict (d ∷ a ∷ []) k = one_finite _ (outcome_type d) k
+  head_finite head.Mu us k = absurd (false≢true k)
+  head_finite head.Restrict us k = absurd (false≢true k)
+  head_finite head.Map us k = absurd (false≢true k)
+  head_finite _ us k = refl
 
-mutual
-  term_finite : (t : Term) → is_known t ≡ true → are_finite (bound_types t) ≡ true
-  term_finite (Term' p (more_of-Head h end_of-Head) n r ty) k =
-      let q = and_parts (is_head_known h (types_of r)) (are_true (all_known r)) k in
-      finite_both (bound_by h (types_of r)) (all_bound r) (head_finite h (types_of r) q.0) (row_finite r q.1)
+  mutual
+    term_finite : (t : Term) → is_known ks t ≡ true → are_finite (bound_types bs t) ≡ true
+    term_finite (Term' p (more_of-Head h end_of-Head) n r ty) k =
+        let q = and_parts (is_head_known ks h (types_of r)) (are_true (all_known ks r)) k in
+        finite_both (bound_by bs h (types_of r)) (all_bound bs r) (head_finite h (types_of r) q.0) (row_finite r q.1)
 
-  row_finite : {n : Count} (r : Row_of-Term n) → are_true (all_known r) ≡ true → are_finite (all_bound r) ≡ true
-  row_finite end_of-Term k = refl
-  row_finite (more_of-Term t r) k =
-      let q = and_parts (is_known t) (are_true (all_known r)) k in
-      finite_both (bound_types t) (all_bound r) (term_finite t q.0) (row_finite r q.1)
+    row_finite : {n : Count} (r : Row_of-Term n) → are_true (all_known ks r) ≡ true → are_finite (all_bound bs r) ≡ true
+    row_finite end_of-Term k = refl
+    row_finite (more_of-Term t r) k =
+        let q = and_parts (is_known ks t) (are_true (all_known ks r)) k in
+        finite_both (bound_types bs t) (all_bound bs r) (term_finite t q.0) (row_finite r q.1)
 
-terms_finite : (ts : List Term) → list_all is_known ts ≡ true → are_finite (flat_map bound_types ts) ≡ true
-terms_finite [] k = refl
-terms_finite (t ∷ ts) k =
-    let q = and_parts (is_known t) (list_all is_known ts) k in
-    finite_both (bound_types t) (flat_map bound_types ts) (term_finite t q.0) (terms_finite ts q.1)
+  terms_finite : (ts : List Term) → list_all (is_known ks) ts ≡ true → are_finite (flat_map (bound_types bs) ts) ≡ true
+  terms_finite [] k = refl
+  terms_finite (t ∷ ts) k =
+      let q = and_parts (is_known ks t) (list_all (is_known ks) ts) k in
+      finite_both (bound_types bs t) (flat_map (bound_types bs) ts) (term_finite t q.0) (terms_finite ts q.1)
+
+opened_finite : (ds : Declarations) (k : ℕ) → ((n : Name) → known_at ds k n ≡ true → are_finite (bound_at ds k n) ≡ true) →
+    (o : Option Term) → made_of false (is_known (known_at ds k)) o ≡ true → are_finite (made_of [] (bound_types (bound_at ds k)) o) ≡ true
+opened_finite ds k fit None h = absurd (false≢true h)
+opened_finite ds k fit (Some t) h = term_finite (known_at ds k) (bound_at ds k) fit t h
+
+names_finite : (ds : Declarations) (k : ℕ) (n : Name) → known_at ds k n ≡ true → are_finite (bound_at ds k n) ≡ true
+names_finite ds zero n h = absurd (false≢true h)
+names_finite ds (suc k) n h = opened_finite ds k (names_finite ds k) (body_named ds n) h
 
 -- the number of assignments to the variables of a claim that evaluation knows, and to those bound in it
-pub card_of_claim : (c : Claim) (hyps : List Term) (b : Bool) (v h u m n : ℕ) → is_known_claim c ≡ true → hyps ≡ c.hyps → b ≡ are_finite (map (λ w. w.ty) c.variables) → v ≡ min (product (map (λ w. w.ty) c.variables)) (2 ^ 63) → h ≡ min (product (flat_map bound_types hyps)) (2 ^ 63) → u ≡ min (product (bound_types c.conclusion)) (2 ^ 63) → m ≡ min (h * u) (2 ^ 63) → n ≡ min (v * m) (2 ^ 63) → card_by b n ≡ assignments_of c
-card_of_claim c hyps b v h u m n k e f p q r s z =
-    let known = and_parts (list_all is_known c.hyps) (is_known c.conclusion) k in
-    let bound = flat_map bound_types c.hyps ++ bound_types c.conclusion in
-    let bound_finite : are_finite bound ≡ true = finite_both (flat_map bound_types c.hyps) (bound_types c.conclusion) (terms_finite c.hyps known.0) (term_finite c.conclusion known.1) in
-    let finite : b ≡ are_finite (types_in c) =
+pub card_of_claim : (ds : Declarations) (c : Claim) (hyps : List Term) (b : Bool) (v h u m n : ℕ) → is_known_claim ds c ≡ true → hyps ≡ c.hyps → b ≡ are_finite (map (λ w. w.ty) c.variables) → v ≡ min (product (map (λ w. w.ty) c.variables)) (2 ^ 63) → h ≡ min (product (flat_map (bound_types (bound_of ds)) hyps)) (2 ^ 63) → u ≡ min (product (bound_types (bound_of ds) c.conclusion)) (2 ^ 63) → m ≡ min (h * u) (2 ^ 63) → n ≡ min (v * m) (2 ^ 63) → card_by b n ≡ assignments_of ds c
+card_of_claim ds c hyps b v h u m n k e f p q r s z =
+    let known = and_parts (list_all (is_known (known_of ds)) c.hyps) (is_known (known_of ds) c.conclusion) k in
+    let one = bound_types (bound_of ds) in
+    let bound = flat_map one c.hyps ++ one c.conclusion in
+    let bound_finite : are_finite bound ≡ true =
+    finite_both (flat_map one c.hyps) (one c.conclusion) (terms_finite (known_of ds) (bound_of ds) (names_finite ds (length ds)) c.hyps known.0) (term_finite (known_of ds) (bound_of ds) (names_finite ds (length ds)) c.conclusion known.1) in
+    let finite : b ≡ are_finite (types_in ds c) =
     f ∙ sym (and_true (are_finite (map (λ w. w.ty) c.variables))) ∙ sym (ap (λ x. are_finite (map (λ w. w.ty) c.variables) && x) bound_finite) ∙ sym (finite-append (map (λ w. w.ty) c.variables) bound) in
-    card_of_types (types_in c) b n finite
-    (product_both (map (λ w. w.ty) c.variables) bound v m n p (product_both (flat_map bound_types c.hyps) (bound_types c.conclusion) h u m (q ∙ ap (λ l. min (product (flat_map bound_types l)) (2 ^ 63)) e) r s) z)
+    card_of_types (types_in ds c) b n finite
+    (product_both (map (λ w. w.ty) c.variables) bound v m n p (product_both (flat_map one c.hyps) (one c.conclusion) h u m (q ∙ ap (λ l. min (product (flat_map one l)) (2 ^ 63)) e) r s) z)
   where
     and_true : (x : Bool) → (x && true) ≡ x
     and_true true = refl

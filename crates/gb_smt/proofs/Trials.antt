@@ -6,6 +6,7 @@ use Rattle.std.proofs.lemmas.List.Elements.{All-more}
 use Rattle.gb_core.specs.declared.value.Card.{Card}
 use Rattle.gb_core.specs.declared.value.Card.TheVariants.{Exact, Above}
 use Rattle.gb_core.specs.declared.refusal.Why.{Why}
+use Rattle.gb_goal.specs.Scope.{Declarations}
 use Rattle.gb_smt.specs.declared.leaves.Leaf.{Leaf}
 use Rattle.gb_smt.specs.declared.claims.Claim.{Claim}
 use Rattle.gb_smt.specs.declared.assign.Found.{Found}
@@ -23,45 +24,46 @@ use Rattle.gb_smt.specs.Apply.{trial_at, trial_of, is_true, is_found_true, open_
 abbrev pub trial_by : Bool → Card → Found → Trial
 trial_by b w f = cond b (trial_at w f) (record { width = w; found = Unknown })
 
-pub not_tried : (c : Claim) (w : Card) → w ≡ width_of c → is_tried w ≡ false → record { width = w; found = Unknown } ≡ trial_of c
-not_tried c w e h =
-    sym (ap (λ b. trial_by b w (found_of c)) h) ∙ ap (λ v. trial_by (is_tried v) v (found_of c)) e
+module _ (ds : Declarations) where
+  pub not_tried : (c : Claim) (w : Card) → w ≡ width_of ds c → is_tried w ≡ false → record { width = w; found = Unknown } ≡ trial_of ds c
+  not_tried c w e h =
+      sym (ap (λ b. trial_by b w (found_of ds c)) h) ∙ ap (λ v. trial_by (is_tried v) v (found_of ds c)) e
 
-pub tried : (c : Claim) (w : Card) (f : Found) → w ≡ width_of c → is_tried w ≡ true → f ≡ found_of c → trial_at w f ≡ trial_of c
-tried c w f e h q =
-    ap (trial_at w) q ∙ sym (ap (λ b. trial_by b w (found_of c)) h) ∙ ap (λ v. trial_by (is_tried v) v (found_of c)) e
+  pub tried : (c : Claim) (w : Card) (f : Found) → w ≡ width_of ds c → is_tried w ≡ true → f ≡ found_of ds c → trial_at w f ≡ trial_of ds c
+  tried c w f e h q =
+      ap (trial_at w) q ∙ sym (ap (λ b. trial_by b w (found_of ds c)) h) ∙ ap (λ v. trial_by (is_tried v) v (found_of ds c)) e
 
--- what claims come to
+  -- what claims come to
 
-pub outcome_open : (xs : List Claim) → list_any is_found_true xs ≡ false → outcome_of xs ≡ open_outcome xs
-outcome_open xs h = ap (λ b. cond b Closed (open_outcome xs)) h
+  pub outcome_open : (xs : List Claim) → list_any (is_found_true ds) xs ≡ false → outcome_of ds xs ≡ open_outcome ds xs
+  outcome_open xs h = ap (λ b. cond b Closed (open_outcome ds xs)) h
 
-pub outcome_true : (xs : List Claim) → list_any is_found_true xs ≡ true → outcome_of xs ≡ Closed
-outcome_true xs h = ap (λ b. cond b Closed (open_outcome xs)) h
+  pub outcome_true : (xs : List Claim) → list_any (is_found_true ds) xs ≡ true → outcome_of ds xs ≡ Closed
+  outcome_true xs h = ap (λ b. cond b Closed (open_outcome ds xs)) h
 
--- what claims show none of which is found true, one claim further
+  -- what claims show none of which is found true, one claim further
 
-module _ (cs : List Claim) (i : ℕ) (c : Claim) (t : Trial) (o : Open) (l : i < length cs) (e : c ≡ get_or cs i c) (p : t ≡ trial_of c) where
-  one_open : open_after o (drop i cs) ≡ cond (is_true t.found) None (open_after (and_then o (open_at t)) (drop (i + 1) cs))
-  one_open =
-      at_drop_more (open_after o) cs i c l
-      ∙ ap (λ d. open_after o (d ∷ drop (i + 1) cs)) (sym e)
-      ∙ sym (ap (λ u. cond (is_true u.found) None (open_after (and_then o (open_at u)) (drop (i + 1) cs))) p)
+  module _ (cs : List Claim) (i : ℕ) (c : Claim) (t : Trial) (o : Open) (l : i < length cs) (e : c ≡ get_or cs i c) (p : t ≡ trial_of ds c) where
+    one_open : open_after ds o (drop i cs) ≡ cond (is_true t.found) None (open_after ds (and_then o (open_at t)) (drop (i + 1) cs))
+    one_open =
+        at_drop_more (open_after ds o) cs i c l
+        ∙ ap (λ d. open_after ds o (d ∷ drop (i + 1) cs)) (sym e)
+        ∙ sym (ap (λ u. cond (is_true u.found) None (open_after ds (and_then o (open_at u)) (drop (i + 1) cs))) p)
 
-  pub open_stop : is_true t.found ≡ true → open_after o (drop i cs) ≡ None
-  open_stop h = one_open ∙ ap (λ b. cond b None (open_after (and_then o (open_at t)) (drop (i + 1) cs))) h
+    pub open_stop : is_true t.found ≡ true → open_after ds o (drop i cs) ≡ None
+    open_stop h = one_open ∙ ap (λ b. cond b None (open_after ds (and_then o (open_at t)) (drop (i + 1) cs))) h
 
-  pub open_next : is_true t.found ≡ false → open_after (and_then o (open_at t)) (drop (i + 1) cs) ≡ open_after o (drop i cs)
-  open_next h = sym (one_open ∙ ap (λ b. cond b None (open_after (and_then o (open_at t)) (drop (i + 1) cs))) h)
+    pub open_next : is_true t.found ≡ false → open_after ds (and_then o (open_at t)) (drop (i + 1) cs) ≡ open_after ds o (drop i cs)
+    open_next h = sym (one_open ∙ ap (λ b. cond b None (open_after ds (and_then o (open_at t)) (drop (i + 1) cs))) h)
 
-open_is : (o : Open) (cs : List Claim) → open_after o cs ≡ cond (list_any is_found_true cs) None (Some (fold and_then o (map (λ c. open_at (trial_of c)) cs)))
-open_is o [] = refl
-open_is o (c ∷ cs) = by_first (is_found_true c) (open_is (and_then o (open_at (trial_of c))) cs)
-  where
-    by_first : (b : Bool) → open_after (and_then o (open_at (trial_of c))) cs ≡ cond (list_any is_found_true cs) None (Some (fold and_then (and_then o (open_at (trial_of c))) (map (λ d. open_at (trial_of d)) cs)))
-        → cond b None (open_after (and_then o (open_at (trial_of c))) cs) ≡ cond (b || list_any is_found_true cs) None (Some (fold and_then (and_then o (open_at (trial_of c))) (map (λ d. open_at (trial_of d)) cs)))
-    by_first true h = refl
-    by_first false h = h
+  open_is : (o : Open) (cs : List Claim) → open_after ds o cs ≡ cond (list_any (is_found_true ds) cs) None (Some (fold and_then o (map (λ c. open_at (trial_of ds c)) cs)))
+  open_is o [] = refl
+  open_is o (c ∷ cs) = by_first (is_found_true ds c) (open_is (and_then o (open_at (trial_of ds c))) cs)
+    where
+      by_first : (b : Bool) → open_after ds (and_then o (open_at (trial_of ds c))) cs ≡ cond (list_any (is_found_true ds) cs) None (Some (fold and_then (and_then o (open_at (trial_of ds c))) (map (λ d. open_at (trial_of ds d)) cs)))
+          → cond b None (open_after ds (and_then o (open_at (trial_of ds c))) cs) ≡ cond (b || list_any (is_found_true ds) cs) None (Some (fold and_then (and_then o (open_at (trial_of ds c))) (map (λ d. open_at (trial_of ds d)) cs)))
+      by_first true h = refl
+      by_first false h = h
 
 least : (w : Card) → greater (Exact 0) w ≡ w
 least (Exact n) = ap Exact (omega arith)
@@ -74,67 +76,68 @@ pub first_and_others : (xs : List Claim) (c : Claim) → 1 ≤ length xs → c �
 first_and_others [] c l e = absurd (omega arith)
 first_and_others (x ∷ xs) c l e = (λ i. sym e i ∷ sym (take_all (length (x ∷ xs) - 1) xs (omega arith)) i)
 
--- what claims come to, by the first one and the widths of the others
-module _ (xs cs : List Claim) (c : Claim) (t : Trial) (e : xs ≡ c ∷ cs) (p : t ≡ trial_of c) where
-  first_is : is_true t.found ≡ is_found_true c
-  first_is = ap (λ u. is_true u.found) p
+module _ (ds : Declarations) where
+  -- what claims come to, by the first one and the widths of the others
+  module _ (xs cs : List Claim) (c : Claim) (t : Trial) (e : xs ≡ c ∷ cs) (p : t ≡ trial_of ds c) where
+    first_is : is_true t.found ≡ is_found_true ds c
+    first_is = ap (λ u. is_true u.found) p
 
-  pub first_true : is_true t.found ≡ true → Closed ≡ outcome_of xs
-  first_true h = sym (ap outcome_of e ∙ outcome_true (c ∷ cs) (ap (λ b. b || list_any is_found_true cs) (sym first_is ∙ h)))
+    pub first_true : is_true t.found ≡ true → Closed ≡ outcome_of ds xs
+    first_true h = sym (ap (outcome_of ds) e ∙ outcome_true ds (c ∷ cs) (ap (λ b. b || list_any (is_found_true ds) cs) (sym first_is ∙ h)))
 
-  open_by : (b : Bool) → list_any is_found_true cs ≡ b → open_after (open_at t) cs ≡ cond b None (Some (shown_by (c ∷ cs)))
-  open_by b h =
-      open_is (open_at t) cs
-      ∙ ap (λ x. cond x None (Some (fold and_then (open_at t) (map (λ d. open_at (trial_of d)) cs)))) h
-      ∙ ap (λ o. cond b None (Some (fold and_then o (map (λ d. open_at (trial_of d)) cs)))) (ap open_at p ∙ sym (first_open_one (open_at (trial_of c))))
+    open_by : (b : Bool) → list_any (is_found_true ds) cs ≡ b → open_after ds (open_at t) cs ≡ cond b None (Some (shown_by ds (c ∷ cs)))
+    open_by b h =
+        open_is ds (open_at t) cs
+        ∙ ap (λ x. cond x None (Some (fold and_then (open_at t) (map (λ d. open_at (trial_of ds d)) cs)))) h
+        ∙ ap (λ o. cond b None (Some (fold and_then o (map (λ d. open_at (trial_of ds d)) cs)))) (ap open_at p ∙ sym (first_open_one (open_at (trial_of ds c))))
 
-  pub other_true : (o : Option Open) → o ≡ open_after (open_at t) cs → o ≡ None → Closed ≡ outcome_of xs
-  other_true o q n = by_others (list_any is_found_true cs) refl
-    where
-      by_others : (b : Bool) → list_any is_found_true cs ≡ b → Closed ≡ outcome_of xs
-      by_others true h = sym (ap outcome_of e ∙ outcome_true (c ∷ cs) (ap (λ b. is_found_true c || b) h ∙ or_true (is_found_true c)))
-        where
-          or_true : (b : Bool) → (b || true) ≡ true
-          or_true true = refl
-          or_true false = refl
-      by_others false h = let f = sym n ∙ q ∙ open_by false h in absurd (cc)
+    pub other_true : (o : Option Open) → o ≡ open_after ds (open_at t) cs → o ≡ None → Closed ≡ outcome_of ds xs
+    other_true o q n = by_others (list_any (is_found_true ds) cs) refl
+      where
+        by_others : (b : Bool) → list_any (is_found_true ds) cs ≡ b → Closed ≡ outcome_of ds xs
+        by_others true h = sym (ap (outcome_of ds) e ∙ outcome_true ds (c ∷ cs) (ap (λ b. is_found_true ds c || b) h ∙ or_true (is_found_true ds c)))
+          where
+            or_true : (b : Bool) → (b || true) ≡ true
+            or_true true = refl
+            or_true false = refl
+        by_others false h = let f = sym n ∙ q ∙ open_by false h in absurd (cc)
 
-  pub none_true : (o : Option Open) (w : Open) (r : Tried) → is_true t.found ≡ false → o ≡ open_after (open_at t) cs → o ≡ Some w → r ≡ left_open t.found w → r ≡ outcome_of xs
-  none_true o w r d q n k = by_others (list_any is_found_true cs) refl
-    where
-      by_others : (b : Bool) → list_any is_found_true cs ≡ b → r ≡ outcome_of xs
-      by_others true h = let f = sym n ∙ q ∙ open_by true h in absurd (cc)
-      by_others false h =
-          let f : Some w ≡ Some (shown_by (c ∷ cs)) = sym n ∙ q ∙ open_by false h in
-          let g : w ≡ shown_by (c ∷ cs) = cc in
-          k
-          ∙ (λ i. left_open (p i).found (g i))
-          ∙ sym (ap outcome_of e ∙ outcome_open (c ∷ cs) (λ i. (sym first_is ∙ d) i || h i))
+    pub none_true : (o : Option Open) (w : Open) (r : Tried) → is_true t.found ≡ false → o ≡ open_after ds (open_at t) cs → o ≡ Some w → r ≡ left_open t.found w → r ≡ outcome_of ds xs
+    none_true o w r d q n k = by_others (list_any (is_found_true ds) cs) refl
+      where
+        by_others : (b : Bool) → list_any (is_found_true ds) cs ≡ b → r ≡ outcome_of ds xs
+        by_others true h = let f = sym n ∙ q ∙ open_by true h in absurd (cc)
+        by_others false h =
+            let f : Some w ≡ Some (shown_by ds (c ∷ cs)) = sym n ∙ q ∙ open_by false h in
+            let g : w ≡ shown_by ds (c ∷ cs) = cc in
+            k
+            ∙ (λ i. left_open (p i).found (g i))
+            ∙ sym (ap (outcome_of ds) e ∙ outcome_open ds (c ∷ cs) (λ i. (sym first_is ∙ d) i || h i))
 
--- leaves one after another
+  -- leaves one after another
 
-pub closed_if_none : (l : Leaf) (o : Option Why) → IsAnswer l o → ((w : Why) → o ≡ Some w → ⊥) → IsClosed l
-closed_if_none l None a h = a
-closed_if_none l (Some w) a h = absurd (h w refl)
+  pub closed_if_none : (l : Leaf) (o : Option Why) → IsAnswer ds l o → ((w : Why) → o ≡ Some w → ⊥) → IsClosed ds l
+  closed_if_none l None a h = a
+  closed_if_none l (Some w) a h = absurd (h w refl)
 
-pub closed_more : (xs : List Leaf) (i : ℕ) (l : Leaf) (o : Option Why) → i < length xs → l ≡ get_or xs i l → All IsClosed (take i xs) → IsAnswer l o → ((w : Why) → o ≡ Some w → ⊥) → All IsClosed (take (i + 1) xs)
-closed_more xs i l o h e a k n = All-more IsClosed xs i l h a (subst IsClosed e (closed_if_none l o k n))
+  pub closed_more : (xs : List Leaf) (i : ℕ) (l : Leaf) (o : Option Why) → i < length xs → l ≡ get_or xs i l → All (IsClosed ds) (take i xs) → IsAnswer ds l o → ((w : Why) → o ≡ Some w → ⊥) → All (IsClosed ds) (take (i + 1) xs)
+  closed_more xs i l o h e a k n = All-more (IsClosed ds) xs i l h a (subst (IsClosed ds) e (closed_if_none l o k n))
 
-pub all_closed : (xs ys : List Leaf) (i : ℕ) → length xs ≤ i → xs ≡ ys → All IsClosed (take i xs) → All IsClosed ys
-all_closed xs ys i h e a = subst (All IsClosed) (take_all i xs h ∙ e) a
+  pub all_closed : (xs ys : List Leaf) (i : ℕ) → length xs ≤ i → xs ≡ ys → All (IsClosed ds) (take i xs) → All (IsClosed ds) ys
+  all_closed xs ys i h e a = subst (All (IsClosed ds)) (take_all i xs h ∙ e) a
 
-parted : (xs : List Leaf) (i : ℕ) (l : Leaf) → i < length xs → l ≡ get_or xs i l → xs ≡ take i xs ++ l ∷ drop (i + 1) xs
-parted xs i l h e =
-    sym (take-append-drop i xs)
-    ∙ at_drop_more (λ ys. take i xs ++ ys) xs i l h
-    ∙ ap (λ x. take i xs ++ x ∷ drop (i + 1) xs) (sym e)
+  parted : (xs : List Leaf) (i : ℕ) (l : Leaf) → i < length xs → l ≡ get_or xs i l → xs ≡ take i xs ++ l ∷ drop (i + 1) xs
+  parted xs i l h e =
+      sym (take-append-drop i xs)
+      ∙ at_drop_more (λ ys. take i xs ++ ys) xs i l h
+      ∙ ap (λ x. take i xs ++ x ∷ drop (i + 1) xs) (sym e)
 
-pub first_open : (xs ls : List Leaf) (i : ℕ) (l : Leaf) (o : Option Why) (w : Why) → xs ≡ ls → i < length xs → l ≡ get_or xs i l → All IsClosed (take i xs) → IsAnswer l o → o ≡ Some w → IsFirstOpen ls w
-first_open xs ls i l o w q h e c a s = record {
-  closed = take i xs;
-  leaf = l;
-  others = drop (i + 1) xs;
-  order = sym q ∙ parted xs i l h e;
-  before = c;
-  reason = subst (IsAnswer l) s a;
-}
+  pub first_open : (xs ls : List Leaf) (i : ℕ) (l : Leaf) (o : Option Why) (w : Why) → xs ≡ ls → i < length xs → l ≡ get_or xs i l → All (IsClosed ds) (take i xs) → IsAnswer ds l o → o ≡ Some w → IsFirstOpen ds ls w
+  first_open xs ls i l o w q h e c a s = record {
+    closed = take i xs;
+    leaf = l;
+    others = drop (i + 1) xs;
+    order = sym q ∙ parted xs i l h e;
+    before = c;
+    reason = subst (IsAnswer ds l) s a;
+  }

@@ -15,7 +15,8 @@ use Rattle.gb_smt.specs.declared.claims.Claim.{Claim}
 use Rattle.gb_smt.specs.declared.variables.Variable.{Variable}
 use Rattle.gb_smt.specs.Variables.{Vars}
 use Rattle.gb_smt.specs.declared.assign.Found.TheVariants.{False}
-use Rattle.gb_smt.specs.Assign.{assignment, with_values, implied, truth_under, truth_at, found_under}
+use Rattle.gb_goal.specs.Scope.{Declarations}
+use Rattle.gb_smt.specs.Assign.{environment_of, assignment, with_values, implied, truth_under, truth_at, found_under}
 use Rattle.gb_smt.proofs.Sizes.{product, are_finite, place_below}
 
 -- the number of assignments to variables, and the values of the one at a place
@@ -66,16 +67,17 @@ pub values_back : (vs : Vars) (i : ℕ) → map (λ r. r.value) (with_values vs 
 values_back [] i = refl
 values_back (v ∷ vs) i = ap (λ l. value_at v.ty (i / count vs) ∷ l) (values_back vs (i % count vs))
 
--- what is found where a claim is false under the assignment at a place
-pub false_at : (c : Claim) (i : ℕ) (vs : Vars) (reads : List ReadValue) (values : List Value) → vs ≡ c.variables → reads ≡ with_values vs (values_at vs i) → implied reads c.hyps c.conclusion ≡ found false → values ≡ map (λ r. r.value) reads → False values ≡ found_under (truth_at c i) (assignment c i)
-false_at c i vs reads values e p f v =
-    let all : reads ≡ with_values c.variables (values_at c.variables i) = p ∙ ap (λ us. with_values us (values_at us i)) e in
-    let w : values ≡ assignment c i = v ∙ ap (map (λ r. r.value)) all ∙ values_back c.variables i ∙ sym (assignment_at c i) in
-    let u : truth_at c i ≡ found false = ap (truth_under c) (assignment_at c i) ∙ sym (ap (λ l. implied l c.hyps c.conclusion) all) ∙ f in
-    ap False w ∙ sym (ap (λ o. found_under o (assignment c i)) u)
+module _ (ds : Declarations) where
+  -- what is found where a claim is false under the assignment at a place
+  pub false_at : (c : Claim) (i : ℕ) (vs : Vars) (reads : List ReadValue) (values : List Value) → vs ≡ c.variables → reads ≡ with_values vs (values_at vs i) → implied (environment_of ds reads) c.hyps c.conclusion ≡ found false → values ≡ map (λ r. r.value) reads → False values ≡ found_under (truth_at ds c i) (assignment c i)
+  false_at c i vs reads values e p f v =
+      let all : reads ≡ with_values c.variables (values_at c.variables i) = p ∙ ap (λ us. with_values us (values_at us i)) e in
+      let w : values ≡ assignment c i = v ∙ ap (map (λ r. r.value)) all ∙ values_back c.variables i ∙ sym (assignment_at c i) in
+      let u : truth_at ds c i ≡ found false = ap (truth_under ds c) (assignment_at c i) ∙ sym (ap (λ l. implied (environment_of ds l) c.hyps c.conclusion) all) ∙ f in
+      ap False w ∙ sym (ap (λ o. found_under o (assignment c i)) u)
 
--- what is found there, whatever the truth of the claim
-pub found_there : (c : Claim) (i : ℕ) (vs : Vars) (reads : List ReadValue) (t : Comes Bool) → vs ≡ c.variables → reads ≡ with_values vs (values_at vs i) → implied reads c.hyps c.conclusion ≡ t → truth_at c i ≡ t
-found_there c i vs reads t e p f =
-    let all : reads ≡ with_values c.variables (values_at c.variables i) = p ∙ ap (λ us. with_values us (values_at us i)) e in
-    ap (truth_under c) (assignment_at c i) ∙ sym (ap (λ l. implied l c.hyps c.conclusion) all) ∙ f
+  -- what is found there, whatever the truth of the claim
+  pub found_there : (c : Claim) (i : ℕ) (vs : Vars) (reads : List ReadValue) (t : Comes Bool) → vs ≡ c.variables → reads ≡ with_values vs (values_at vs i) → implied (environment_of ds reads) c.hyps c.conclusion ≡ t → truth_at ds c i ≡ t
+  found_there c i vs reads t e p f =
+      let all : reads ≡ with_values c.variables (values_at c.variables i) = p ∙ ap (λ us. with_values us (values_at us i)) e in
+      ap (truth_under ds c) (assignment_at c i) ∙ sym (ap (λ l. implied (environment_of ds l) c.hyps c.conclusion) all) ∙ f

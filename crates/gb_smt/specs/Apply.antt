@@ -1,5 +1,5 @@
 -- What `smt` answers.
-use Rattle.std.specs.Prelude.{◌≡◌, Bool, true, false, IsTrue, if◌then◌else◌, Option, Some, None, Result, Ok, Err, List, [], ◌∷◌, ◌++◌, map, fold}
+use Rattle.std.specs.Prelude.{◌≡◌, ◌⊎◌, Bool, true, false, IsTrue, if◌then◌else◌, Option, Some, None, Result, Ok, Err, List, [], ◌∷◌, ◌++◌, map, fold}
 use Rattle.std.specs.List.{list_any, All, Any}
 use Rattle.std.specs.Option.{option_or}
 use Rattle.gb_core.specs.declared.place.Place.{Place}
@@ -10,6 +10,7 @@ use Rattle.gb_core.specs.declared.refusal.Why.TheVariants as why
 use Rattle.gb_core.specs.declared.refusal.Refused.{Refused}
 use Rattle.gb_core.specs.declared.refusal.Refused.TheVariants.{NoMemory, ReadFault, Script}
 use Rattle.gb_goal.specs.declared.sequent.Sequent.{Sequent}
+use Rattle.gb_goal.specs.Scope.{Declarations}
 use Rattle.gb_smt.specs.declared.leaves.Leaf.{Leaf}
 use Rattle.gb_smt.specs.declared.claims.Claim.{Claim}
 use Rattle.gb_smt.specs.declared.assign.Found.{Found}
@@ -24,22 +25,16 @@ use Rattle.gb_smt.specs.Claims.{claims_of}
 use Rattle.gb_smt.specs.Width.{width_of, is_tried, greater}
 use Rattle.gb_smt.specs.Assign.{IsTrueEverywhere, found_of}
 use Rattle.gb_smt.specs.Atoms.{atoms_of, IsCount}
+use Rattle.gb_smt.specs.ByEquality.{ClosesByEquality}
 
 -- what trying a claim of this width comes to; the width counts as above where evaluation doesn't know a part of it
 abbrev pub trial_at : Card → Found → Trial
 trial_at width Unknown = record { width = Above; found = Unknown }
 trial_at width found = record { width = width; found = found }
 
--- what trying a claim comes to, unless it is too wide
-abbrev pub trial_of : Claim → Trial
-trial_of c = if is_tried (width_of c) then trial_at (width_of c) (found_of c) else record { width = width_of c; found = Unknown }
-
 abbrev pub is_true : Found → Bool
 is_true True = true
 is_true _ = false
-
-abbrev pub is_found_true : Claim → Bool
-is_found_true c = is_true (trial_of c).found
 
 -- What claims that aren't found true have shown: their greatest width, and the first overflow.
 
@@ -56,9 +51,6 @@ and_then a b = record { widest = greater a.widest b.widest; overflow = option_or
 abbrev pub nothing_open : Open
 nothing_open = record { widest = Exact 0; overflow = None }
 
-abbrev pub shown_by : List Claim → Open
-shown_by claims = fold and_then nothing_open (map (λ c. open_at (trial_of c)) claims)
-
 -- refuted as the first claim is, where none is too wide
 abbrev pub refuted_by : Found → Card → Tried
 refuted_by (False values) widest = if is_tried widest then Refuted values else Undecided widest
@@ -72,64 +64,84 @@ out_of_range_or None t = t
 abbrev pub left_open : Found → Open → Tried
 left_open first o = out_of_range_or o.overflow (refuted_by first o.widest)
 
--- what trying claims comes to where none is found true
-abbrev pub open_outcome : List Claim → Tried
-open_outcome [] = Undecided (Exact 0)
-open_outcome (c ∷ cs) = left_open (trial_of c).found (shown_by (c ∷ cs))
+module _ (ds : Declarations) where
+  -- what trying a claim comes to, unless it is too wide
+  abbrev pub trial_of : Claim → Trial
+  trial_of c = if is_tried (width_of ds c) then trial_at (width_of ds c) (found_of ds c) else record { width = width_of ds c; found = Unknown }
 
--- what some claims have shown, and the claims behind them, where none is found true
-abbrev pub open_after : Open → List Claim → Option Open
-open_after o [] = Some o
-open_after o (c ∷ cs) = if is_found_true c then None else open_after (and_then o (open_at (trial_of c))) cs
+  abbrev pub is_found_true : Claim → Bool
+  is_found_true c = is_true (trial_of c).found
 
--- what trying claims comes to
-abbrev pub outcome_of : List Claim → Tried
-outcome_of claims = if list_any is_found_true claims then Closed else open_outcome claims
+  abbrev pub shown_by : List Claim → Open
+  shown_by claims = fold and_then nothing_open (map (λ c. open_at (trial_of c)) claims)
 
--- a claim that closes its leaf: it isn't too wide, and is true under every assignment
-abbrev pub Closes : Claim → Type 0
-Closes c = IsTrue (is_tried (width_of c)) × IsTrueEverywhere c
+  -- what trying claims comes to where none is found true
+  abbrev pub open_outcome : List Claim → Tried
+  open_outcome [] = Undecided (Exact 0)
+  open_outcome (c ∷ cs) = left_open (trial_of c).found (shown_by (c ∷ cs))
 
--- a leaf is closed by a claim of it
-abbrev pub IsClosed : Leaf → Type 0
-IsClosed l = Any Closes (claims_of (used_up l))
+  -- what some claims have shown, and the claims behind them, where none is found true
+  abbrev pub open_after : Open → List Claim → Option Open
+  open_after o [] = Some o
+  open_after o (c ∷ cs) = if is_found_true c then None else open_after (and_then o (open_at (trial_of c))) cs
 
--- Why a leaf without equations isn't closed: out of range, by the first of its claims, in order, whose evaluation goes out of
--- range before it is false; else false under the first assignment under which its first claim is, where all its claims are tried;
--- else undecided, with the greatest width and the number of its atoms.
-abbrev pub IsReason : Leaf → Why → Type 0
-IsReason l (why.Overflow left right) = outcome_of (claims_of l) ≡ OutOfRange (record { left = left; right = right })
-IsReason l (why.False values) = outcome_of (claims_of l) ≡ Refuted values
-IsReason l (why.Undecided width atoms) = (outcome_of (claims_of l) ≡ Undecided width) × IsCount (atoms_of l) atoms
-IsReason l _ = ⊥
+  -- what trying claims comes to
+  abbrev pub outcome_of : List Claim → Tried
+  outcome_of claims = if list_any is_found_true claims then Closed else open_outcome claims
 
--- why a leaf isn't closed
-abbrev pub IsOpen : Leaf → Why → Type 0
-IsOpen l why = IsReason (used_up l) why
+  -- a claim that closes its leaf: it isn't too wide, and is true under every assignment
+  abbrev pub Closes : Claim → Type 0
+  Closes c = IsTrue (is_tried (width_of ds c)) × IsTrueEverywhere ds c
 
--- what comes of a leaf: it is closed, or why it isn't
-abbrev pub IsAnswer : Leaf → Option Why → Type 0
-IsAnswer l None = IsClosed l
-IsAnswer l (Some why) = IsOpen l why
+  -- a leaf that a claim of it closes, its equations used up
+  abbrev pub ClosesByClaim : Leaf → Type 0
+  ClosesByClaim l = Any Closes (claims_of (used_up l))
 
--- why the first of the leaves that aren't closed isn't
-pub record IsFirstOpen (leaves : List Leaf) (why : Why) : Type 0 where
-  pub closed : List Leaf
-  pub leaf : Leaf
-  pub others : List Leaf
-  pub order : leaves ≡ closed ++ leaf ∷ others
-  pub before : All IsClosed closed
-  pub reason : IsOpen leaf why
+  -- a leaf is closed by equality alone, or by a claim of it
+  abbrev pub IsClosed : Leaf → Type 0
+  IsClosed l = ClosesByEquality l ⊎ ClosesByClaim l
 
--- what comes of leaves: each is closed, or why the first one that isn't isn't
-abbrev pub IsAnswerOf : List Leaf → Option Why → Type 0
-IsAnswerOf leaves None = All IsClosed leaves
-IsAnswerOf leaves (Some why) = IsFirstOpen leaves why
+  -- Why a leaf without equations isn't closed by its claims: out of range, by the first of them, in order, whose evaluation goes out
+  -- of range before it is false; else false under the first assignment under which its first claim is, where all its claims are tried;
+  -- else undecided, with the greatest width and the number of its atoms.
+  abbrev pub IsReason : Leaf → Why → Type 0
+  IsReason l (why.Overflow left right) = outcome_of (claims_of l) ≡ OutOfRange (record { left = left; right = right })
+  IsReason l (why.False values) = outcome_of (claims_of l) ≡ Refuted values
+  IsReason l (why.Undecided width atoms) = (outcome_of (claims_of l) ≡ Undecided width) × IsCount (atoms_of l) atoms
+  IsReason l _ = ⊥
 
--- What the rule gives at the place of the step: no subgoals, where each leaf is closed, and else why the first one that
--- isn't closed isn't. The other refusal is want of memory.
-abbrev pub IsResult : List Leaf → Place → Result (List Sequent) Refused → Type 0
-IsResult leaves place (Ok subgoals) = record { none : subgoals ≡ []; answer : IsAnswerOf leaves None }
-IsResult leaves place (Err NoMemory) = Unit {0}
-IsResult leaves place (Err ReadFault) = ⊥
-IsResult leaves place (Err (Script why at)) = record { answer : IsAnswerOf leaves (Some why); at_step : at ≡ place }
+  -- what comes of the claims of a leaf without equations: one of them closes it, or why none does
+  abbrev pub IsTriedAnswer : Leaf → Option Why → Type 0
+  IsTriedAnswer l None = Any Closes (claims_of l)
+  IsTriedAnswer l (Some why) = IsReason l why
+
+  -- why a leaf isn't closed: not by equality alone, and not by a claim
+  abbrev pub IsOpen : Leaf → Why → Type 0
+  IsOpen l why = (ClosesByEquality l → ⊥) × IsReason (used_up l) why
+
+  -- what comes of a leaf: it is closed, or why it isn't
+  abbrev pub IsAnswer : Leaf → Option Why → Type 0
+  IsAnswer l None = IsClosed l
+  IsAnswer l (Some why) = IsOpen l why
+
+  -- why the first of the leaves that aren't closed isn't
+  pub record IsFirstOpen (leaves : List Leaf) (why : Why) : Type 0 where
+    pub closed : List Leaf
+    pub leaf : Leaf
+    pub others : List Leaf
+    pub order : leaves ≡ closed ++ leaf ∷ others
+    pub before : All IsClosed closed
+    pub reason : IsOpen leaf why
+
+  -- what comes of leaves: each is closed, or why the first one that isn't isn't
+  abbrev pub IsAnswerOf : List Leaf → Option Why → Type 0
+  IsAnswerOf leaves None = All IsClosed leaves
+  IsAnswerOf leaves (Some why) = IsFirstOpen leaves why
+
+  -- What the rule gives at the place of the step: no subgoals, where each leaf is closed, and else why the first one that
+  -- isn't closed isn't. The other refusal is want of memory.
+  abbrev pub IsResult : List Leaf → Place → Result (List Sequent) Refused → Type 0
+  IsResult leaves place (Ok subgoals) = record { none : subgoals ≡ []; answer : IsAnswerOf leaves None }
+  IsResult leaves place (Err NoMemory) = Unit {0}
+  IsResult leaves place (Err ReadFault) = ⊥
+  IsResult leaves place (Err (Script why at)) = record { answer : IsAnswerOf leaves (Some why); at_step : at ≡ place }

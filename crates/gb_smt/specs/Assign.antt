@@ -8,9 +8,11 @@ use Rattle.gb_core.specs.declared.value.Card.TheVariants.{Exact, Above}
 use Rattle.gb_types.specs.Numbering.{parts_of}
 use Rattle.gb_types.specs.Types.{card_of, value_at}
 use Rattle.gb_terms.specs.declared.term.Term.{Term}
+use Rattle.gb_goal.specs.Scope.{Declarations}
 use Rattle.gb_eval.specs.declared.env.ReadValue.{ReadValue}
 use Rattle.gb_eval.specs.Findings.{Comes, ◌>>=◌}
 use Rattle.gb_eval.specs.Findings.Comes.{found, unknown, overflow}
+use Rattle.gb_eval.specs.Eval.{Environment, operators_of}
 use Rattle.gb_eval.specs.Eval as eval
 use Rattle.gb_smt.specs.declared.claims.Claim.{Claim}
 use Rattle.gb_smt.specs.declared.assign.Found.{Found}
@@ -31,49 +33,54 @@ with_values (v ∷ vs) (x ∷ xs) = record { read = v.read; value = x } ∷ with
 with_values _ _ = []
 
 -- whether hypotheses, one after another, imply a form
-abbrev pub implied : List ReadValue → List Term → Term → Comes Bool
-implied reads [] t = eval.truth_at reads t []
-implied reads (h ∷ hs) t = eval.truth_at reads h [] >>= λ a. if a then implied reads hs t else found true
+abbrev pub implied : Environment → List Term → Term → Comes Bool
+implied env [] t = eval.truth_at env t []
+implied env (h ∷ hs) t = eval.truth_at env h [] >>= λ a. if a then implied env hs t else found true
 
--- the truth of a claim where its variables have these values, if evaluation knows it
-abbrev pub truth_under : Claim → List Value → Comes Bool
-truth_under c values = implied (with_values c.variables values) c.hyps c.conclusion
+-- the environment of all operators of a script, and these values
+abbrev pub environment_of : Declarations → List ReadValue → Environment
+environment_of ds reads = record { operators = operators_of ds; reads = reads }
 
--- the truth of a claim under the assignment at a place
-abbrev pub truth_at : Claim → ℕ → Comes Bool
-truth_at c i = truth_under c (assignment c i)
+module _ (ds : Declarations) where
+  -- the truth of a claim where its variables have these values, if evaluation knows it
+  abbrev pub truth_under : Claim → List Value → Comes Bool
+  truth_under c values = implied (environment_of ds (with_values c.variables values)) c.hyps c.conclusion
 
--- the claim is true under every assignment before a place
-abbrev pub TrueBefore : ℕ → Claim → Type 0
-TrueBefore n c = (i : ℕ) → i < n → truth_at c i ≡ found true
+  -- the truth of a claim under the assignment at a place
+  abbrev pub truth_at : Claim → ℕ → Comes Bool
+  truth_at c i = truth_under c (assignment c i)
 
--- there are so many assignments, and the claim is true under each of them
-pub record IsTrueEverywhere (c : Claim) : Type 0 where
-  pub count : ℕ
-  pub exact : card_of (assignments c) ≡ Exact count
-  pub each : TrueBefore count c
+  -- the claim is true under every assignment before a place
+  abbrev pub TrueBefore : ℕ → Claim → Type 0
+  TrueBefore n c = (i : ℕ) → i < n → truth_at c i ≡ found true
 
--- The values are the first assignment under which the claim isn't true, and its truth under it is this one.
-pub record IsFirst (c : Claim) (values : List Value) (truth : Comes Bool) : Type 0 where
-  pub count : ℕ
-  pub exact : card_of (assignments c) ≡ Exact count
-  pub place : ℕ
-  pub below : place < count
-  pub before : TrueBefore place c
-  pub values_at : values ≡ assignment c place
-  pub there : truth_under c values ≡ truth
+  -- there are so many assignments, and the claim is true under each of them
+  pub record IsTrueEverywhere (c : Claim) : Type 0 where
+    pub count : ℕ
+    pub exact : card_of (assignments c) ≡ Exact count
+    pub each : TrueBefore count c
 
--- Either there are too many assignments, or evaluation doesn't know the truth of the claim under the first one under
--- which it isn't true.
-abbrev pub IsUnknown : Claim → Type 0
-IsUnknown c = (card_of (assignments c) ≡ Above) ⊎ ((values : List Value) × IsFirst c values unknown)
+  -- The values are the first assignment under which the claim isn't true, and its truth under it is this one.
+  pub record IsFirst (c : Claim) (values : List Value) (truth : Comes Bool) : Type 0 where
+    pub count : ℕ
+    pub exact : card_of (assignments c) ≡ Exact count
+    pub place : ℕ
+    pub below : place < count
+    pub before : TrueBefore place c
+    pub values_at : values ≡ assignment c place
+    pub there : truth_under c values ≡ truth
 
--- what is found of a claim, in words of all assignments
-abbrev pub IsOf : Claim → Found → Type 0
-IsOf c True = IsTrueEverywhere c
-IsOf c (False values) = IsFirst c values (found false)
-IsOf c Unknown = IsUnknown c
-IsOf c (Overflow o) = (values : List Value) × IsFirst c values (overflow o)
+  -- Either there are too many assignments, or evaluation doesn't know the truth of the claim under the first one under
+  -- which it isn't true.
+  abbrev pub IsUnknown : Claim → Type 0
+  IsUnknown c = (card_of (assignments c) ≡ Above) ⊎ ((values : List Value) × IsFirst c values unknown)
+
+  -- what is found of a claim, in words of all assignments
+  abbrev pub IsOf : Claim → Found → Type 0
+  IsOf c True = IsTrueEverywhere c
+  IsOf c (False values) = IsFirst c values (found false)
+  IsOf c Unknown = IsUnknown c
+  IsOf c (Overflow o) = (values : List Value) × IsFirst c values (overflow o)
 
 -- what is found under one assignment
 abbrev pub found_under : Comes Bool → List Value → Found
@@ -87,15 +94,16 @@ abbrev pub then_next : Found → Found → Found
 then_next True next = next
 then_next decided next = decided
 
--- what is found under the assignments before a place: the first under which the claim isn't true decides
-abbrev pub found_before : ℕ → Claim → Found
-found_before zero c = True
-found_before (suc n) c = then_next (found_before n c) (found_under (truth_at c n) (assignment c n))
+module _ (ds : Declarations) where
+  -- what is found under the assignments before a place: the first under which the claim isn't true decides
+  abbrev pub found_before : ℕ → Claim → Found
+  found_before zero c = True
+  found_before (suc n) c = then_next (found_before n c) (found_under (truth_at ds c n) (assignment c n))
 
-abbrev pub found_among : Card → Claim → Found
-found_among (Exact n) c = found_before n c
-found_among Above c = Unknown
+  abbrev pub found_among : Card → Claim → Found
+  found_among (Exact n) c = found_before n c
+  found_among Above c = Unknown
 
--- what trying the assignments in order finds
-abbrev pub found_of : Claim → Found
-found_of c = found_among (card_of (assignments c)) c
+  -- what trying the assignments in order finds
+  abbrev pub found_of : Claim → Found
+  found_of c = found_among (card_of (assignments c)) c

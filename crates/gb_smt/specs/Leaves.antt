@@ -138,5 +138,10 @@ assumed_of h = if speaks_of_programs h.form then [] else assumed h.form
 abbrev pub context_of : Sequent → Context
 context_of goal = record { logical = length goal.logical; memories = length goal.memories; changes = [] }
 
-abbrev pub leaves_of : Sequent → List Leaf
-leaves_of goal = split goal.conclusion (context_of goal) (flat_map assumed_of goal.hyps)
+-- the hypotheses of a goal, and behind them forms that are known besides
+abbrev pub hyps_with : List Term → Sequent → List Term
+hyps_with known goal = flat_map assumed_of goal.hyps ++ flat_map assumed known
+
+-- the leaves of a goal where these forms are known besides its hypotheses
+abbrev pub leaves_of : List Term → Sequent → List Leaf
+leaves_of known goal = split goal.conclusion (context_of goal) (hyps_with known goal)

@@ -6,5 +6,6 @@ pub mod Claims
 pub mod Width
 pub mod Assign
 pub mod Atoms
+pub mod ByEquality
 pub mod Apply
 pub mod Meant

@@ -1,5 +1,5 @@
 -- How many assignments there are to the variables of a claim and to those bound in it.
-use Rattle.std.specs.Prelude.{◌^◌, Bool, false, ◌&&◌, if◌then◌else◌, nat_le, max, List, [], ◌∷◌, ◌++◌, map}
+use Rattle.std.specs.Prelude.{ℕ, ◌^◌, Bool, false, ◌&&◌, if◌then◌else◌, nat_le, max, List, [], ◌∷◌, ◌++◌, length, map}
 use Rattle.std.specs.List.{list_all, flat_map}
 use Rattle.gb_core.specs.declared.ty.Ty.{Ty}
 use Rattle.gb_core.specs.declared.ty.Ty.TheVariants.{Mod, Tuple}
@@ -11,7 +11,11 @@ use Rattle.gb_terms.specs.declared.term.Head.{Head}
 use Rattle.gb_terms.specs.declared.term.Head.TheVariants as head
 use Rattle.gb_meaning.specs.Operators.{outcome_type}
 use Rattle.gb_typed.specs.Typing.{types_of}
-use Rattle.gb_eval.specs.Known.{is_known}
+use Rattle.gb_goal.specs.Scope.{Declarations}
+use Rattle.gb_meaning.specs.Names.{Name}
+use Rattle.gb_eval.specs.declared.script.Script.{Script}
+use Rattle.gb_eval.specs.Script.{opened}
+use Rattle.gb_eval.specs.Known.{is_known, known_of}
 use Rattle.gb_smt.specs.declared.claims.Claim.{Claim}
 
 abbrev pub Tys : Type 0
@@ -23,40 +27,52 @@ of_outcomes [] = []
 of_outcomes (d ∷ us) = outcome_type d ∷ []
 
 -- The type of the variable that a head binds, where its arguments have these types. The variable of a sum is a number below
--- its bound.
-abbrev pub bound_by : Head → Tys → Tys
-bound_by (head.All ty) us = ty ∷ []
-bound_by (head.Some ty) us = ty ∷ []
-bound_by (head.Sum q) us = Mod q ∷ []
-bound_by head.Mu us = of_outcomes us
-bound_by head.Map us = of_outcomes us
-bound_by head.Restrict us = of_outcomes us
-bound_by _ us = []
+-- its bound. An operator of the script stands for its body.
+abbrev pub bound_by : (Name → Tys) → Head → Tys → Tys
+bound_by bs (head.User n) us = bs n
+bound_by bs (head.All ty) us = ty ∷ []
+bound_by bs (head.Some ty) us = ty ∷ []
+bound_by bs (head.Sum q) us = Mod q ∷ []
+bound_by bs head.Mu us = of_outcomes us
+bound_by bs head.Map us = of_outcomes us
+bound_by bs head.Restrict us = of_outcomes us
+bound_by bs _ us = []
 
 abbrev mutual
   -- the types of the variables that are bound in a term
-  pub bound_types : Term → Tys
-  bound_types (Term' p (more_of-Head h end_of-Head) n ts ty) = bound_by h (types_of ts) ++ all_bound ts
+  pub bound_types : (Name → Tys) → Term → Tys
+  bound_types bs (Term' p (more_of-Head h end_of-Head) n ts ty) = bound_by bs h (types_of ts) ++ all_bound bs ts
 
-  pub all_bound : {n : _} → Row_of-Term n → Tys
-  all_bound end_of-Term = []
-  all_bound (more_of-Term t ts) = bound_types t ++ all_bound ts
+  pub all_bound : {n : _} → (Name → Tys) → Row_of-Term n → Tys
+  all_bound bs end_of-Term = []
+  all_bound bs (more_of-Term t ts) = bound_types bs t ++ all_bound bs ts
 
--- the types of the variables of a claim, and of those bound in it
-abbrev pub types_in : Claim → Tys
-types_in c = map (λ v. v.ty) c.variables ++ (flat_map bound_types c.hyps ++ bound_types c.conclusion)
+-- those in the bodies of the operators of a script, as far as these are opened
+abbrev pub bound_at : Declarations → ℕ → Name → Tys
+bound_at = opened [] bound_types
 
--- the product of their sizes
-abbrev pub assignments_of : Claim → Card
-assignments_of c = card_of (Tuple (types_in c))
+abbrev pub bound_of : Declarations → Name → Tys
+bound_of ds = bound_at ds (length ds)
 
--- evaluation knows each part of the claim
-abbrev pub is_known_claim : Claim → Bool
-is_known_claim c = list_all is_known c.hyps && is_known c.conclusion
+abbrev pub bound_in : Script → Name → Tys
+bound_in s = bound_at s.scope.now s.depth
 
--- the width of a claim: above, where a part of it is opaque to evaluation
-abbrev pub width_of : Claim → Card
-width_of c = if is_known_claim c then assignments_of c else Above
+module _ (ds : Declarations) where
+  -- the types of the variables of a claim, and of those bound in it
+  abbrev pub types_in : Claim → Tys
+  types_in c = map (λ v. v.ty) c.variables ++ (flat_map (bound_types (bound_of ds)) c.hyps ++ bound_types (bound_of ds) c.conclusion)
+
+  -- the product of their sizes
+  abbrev pub assignments_of : Claim → Card
+  assignments_of c = card_of (Tuple (types_in c))
+
+  -- evaluation knows each part of the claim
+  abbrev pub is_known_claim : Claim → Bool
+  is_known_claim c = list_all (is_known (known_of ds)) c.hyps && is_known (known_of ds) c.conclusion
+
+  -- the width of a claim: above, where a part of it is opaque to evaluation
+  abbrev pub width_of : Claim → Card
+  width_of c = if is_known_claim c then assignments_of c else Above
 
 -- a claim of this width is tried
 abbrev pub is_tried : Card → Bool

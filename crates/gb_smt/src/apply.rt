@@ -4,23 +4,24 @@ ghost use Rattle.std.specs.Prelude.{◌≡◌, IfOk};
 ghost use Rattle.std.specs.List.{All};
 ghost use Rattle.gb_smt.specs.declared.leaves.Leaf.{Leaf};
 ghost use Rattle.gb_smt.specs.Leaves.{leaves_of};
-ghost use Rattle.gb_smt.specs.Equations.{used_up};
 ghost use Rattle.gb_smt.specs.Claims.{claims_of};
-ghost use Rattle.gb_smt.specs.Apply.{trial_of, is_true, open_after, open_at, and_then, left_open, outcome_of, IsAnswer, IsAnswerOf, IsClosed, IsResult};
+ghost use Rattle.gb_smt.specs.Apply.{trial_of, is_true, open_after, open_at, and_then, left_open, outcome_of, IsAnswer, IsAnswerOf, IsClosed, IsResult, IsTriedAnswer};
 
 use crate::assign::{Found, try_all};
 use crate::atoms::number_of_atoms;
+use crate::by_equality::closes_by_equality;
 use crate::claims::{Claim, claims};
 use crate::equations::used_up;
 use crate::leaves::{Leaf, leaves};
 use crate::width::{greater, is_tried, width};
+use gb_core::place::Place;
 use gb_core::refusal::{Refused, Why};
 use gb_core::value::{Card, Values};
 use gb_goal::scope::Scope;
 use gb_goal::sequent::{Sequent, Sequents};
 use gb_num::Overflow;
 use gb_shared::Shared;
-use gb_steps::step::Step;
+use gb_terms::term::Term;
 use sqlite_items::Items;
 use std::alloc::{AllocError, Global};
 
@@ -32,17 +33,17 @@ struct Trial {
 }
 
 /// Tries a claim, unless it is too wide.
-fn try_claim(alloc: Global, claim: &Claim) -> Result<Trial, AllocError>
-    ensures { IfOk result (λ trial. trial ≡ trial_of claim.now) }
+fn try_claim(alloc: Global, claim: &Claim, scope: &Scope) -> Result<Trial, AllocError>
+    ensures { IfOk result (λ trial. trial ≡ trial_of scope.now claim.now) }
 {
-    let width = width(claim);
+    let width = width(claim, scope);
     if !is_tried(width) {
         return Ok(Trial {
             width,
             found: Found::Unknown,
         });
     }
-    let found = try_all(alloc, claim)?;
+    let found = try_all(alloc, claim, scope)?;
     let width = match found {
         Found::Unknown => Card::Above,
         _ => width,
@@ -104,12 +105,17 @@ fn and_then(first: Open, others: Open) -> Open
 }
 
 /// What some claims have shown, and claims behind them, where none of these is found true.
-fn open_after(alloc: Global, list: &[Claim], from: Open) -> Result<Option<Open>, AllocError>
-    ensures { IfOk result (λ found. found ≡ open_after from list.now) }
+fn open_after(
+    alloc: Global,
+    list: &[Claim],
+    from: Open,
+    scope: &Scope,
+) -> Result<Option<Open>, AllocError>
+    ensures { IfOk result (λ found. found ≡ open_after scope.now from list.now) }
 {
     let mut shown = from;
     for claim in list {
-        let trial = try_claim(alloc, claim)?;
+        let trial = try_claim(alloc, claim, scope)?;
         if is_true(&trial.found) {
             return Ok(None);
         }
@@ -130,36 +136,36 @@ fn left_open(first: Found, shown: Open) -> Tried
 }
 
 /// Tries the claims of a leaf in order, those that aren't too wide.
-fn try_claims(alloc: Global, list: &[Claim]) -> Result<Tried, AllocError>
-    ensures { IfOk result (λ tried. tried ≡ outcome_of list.now) }
+fn try_claims(alloc: Global, list: &[Claim], scope: &Scope) -> Result<Tried, AllocError>
+    ensures { IfOk result (λ tried. tried ≡ outcome_of scope.now list.now) }
 {
     let [claim, others @ ..] = list else {
         return Ok(Tried::Undecided(Card::Exact(0)));
     };
-    let trial = try_claim(alloc, claim)?;
+    let trial = try_claim(alloc, claim, scope)?;
     if is_true(&trial.found) {
         return Ok(Tried::Closed);
     }
     let first = open_at(&trial);
-    match open_after(alloc, others, first)? {
+    match open_after(alloc, others, first, scope)? {
         Some(shown) => Ok(left_open(trial.found, shown)),
         None => Ok(Tried::Closed),
     }
 }
 
 /// What trying the claims of a leaf comes to.
-fn try_leaf(alloc: Global, leaf: &Leaf) -> Result<Tried, AllocError>
-    ensures { IfOk result (λ tried. tried ≡ outcome_of (claims_of leaf.now)) }
+fn try_leaf(alloc: Global, leaf: &Leaf, scope: &Scope) -> Result<Tried, AllocError>
+    ensures { IfOk result (λ tried. tried ≡ outcome_of scope.now (claims_of leaf.now)) }
 {
     let list = claims(alloc, leaf)?;
-    try_claims(alloc, list.as_slice())
+    try_claims(alloc, list.as_slice(), scope)
 }
 
-/// Why a leaf whose equations are used up isn't closed.
-fn reason(alloc: Global, leaf: &Leaf) -> Result<Option<Why>, AllocError>
-    ensures { IfOk result (λ why. (whole : Leaf) → leaf.now ≡ used_up whole → IsAnswer whole why) }
+/// Why a leaf without equations isn't closed by its claims.
+fn reason(alloc: Global, leaf: &Leaf, scope: &Scope) -> Result<Option<Why>, AllocError>
+    ensures { IfOk result (IsTriedAnswer scope.now leaf.now) }
 {
-    match try_leaf(alloc, leaf)? {
+    match try_leaf(alloc, leaf, scope)? {
         Tried::Closed => Ok(None),
         Tried::Refuted(values) => Ok(Some(Why::False(values))),
         Tried::OutOfRange(Overflow { left, right }) => Ok(Some(Why::Overflow { left, right })),
@@ -171,48 +177,56 @@ fn reason(alloc: Global, leaf: &Leaf) -> Result<Option<Why>, AllocError>
 }
 
 /// Why a leaf isn't closed.
-fn close(alloc: Global, leaf: &Shared<Leaf>) -> Result<Option<Why>, AllocError>
-    ensures { IfOk result (IsAnswer leaf.now) }
+fn close(alloc: Global, leaf: &Shared<Leaf>, scope: &Scope) -> Result<Option<Why>, AllocError>
+    ensures { IfOk result (IsAnswer scope.now leaf.now) }
 {
-    let leaf = used_up(alloc, leaf)?;
-    reason(alloc, leaf.get())
+    let rest = used_up(alloc, leaf)?;
+    if closes_by_equality(alloc, leaf.get(), rest.get())? {
+        return Ok(None);
+    }
+    reason(alloc, rest.get(), scope)
 }
 
 /// Why a goal isn't closed, by its first leaf that isn't.
-fn close_goal(alloc: Global, goal: &Sequent) -> Result<Option<Why>, AllocError>
-    ensures { IfOk result (IsAnswerOf (leaves_of goal.now)) }
+fn close_goal(
+    alloc: Global,
+    goal: &Sequent,
+    known: &[Term],
+    scope: &Scope,
+) -> Result<Option<Why>, AllocError>
+    ensures { IfOk result (IsAnswerOf scope.now (leaves_of known.now goal.now)) }
 {
-    let list = leaves(alloc, goal)?;
+    let list = leaves(alloc, goal, known)?;
     for leaf in list.as_slice() {
-        if let Some(why) = close(alloc, leaf)? {
+        if let Some(why) = close(alloc, leaf, scope)? {
             return Ok(Some(why));
         }
     }
     Ok(None)
 }
 
-/// Closes a goal, with no subgoals. Quantifiers in front of the conclusion go to the context, the left sides of
-/// implications to the hypotheses, and conjunctions are split; then equations between a variable and a term are used
-/// up. Each such leaf closes when one of its claims, of a width of at most 2^20, is true under every assignment.
+/// Closes a goal, with no subgoals, by its hypotheses and forms that are known besides. Quantifiers in front of the
+/// conclusion go to the context, the left sides of implications to the hypotheses, and conjunctions are split; then
+/// equations between a variable and a term are used up. Each such leaf closes when it has at most 20 atoms and is valid by
+/// equality, where it consists of forms, or when one of its claims, of a width of at most 2^20, is true under every assignment. To evaluation operators of
+/// the script that have bodies are what their bodies are; the others are opaque.
 ///
 /// The first leaf that doesn't close decides the refusal, at the place of the step: the operands of an operation out of range,
 /// where evaluation of a claim comes to one before it is false; else false, with the first assignment under which its first
 /// claim is false, where all its claims could be tried; else undecided, with the greatest width and the number of atoms.
 pub fn apply(
     alloc: Global,
-    step: &Step,
+    known: &[Term],
+    place: Place,
     goal: &Sequent,
-    _scope: &Scope,
+    scope: &Scope,
 ) -> Result<Sequents, Refused>
-    ensures answer { IsResult (leaves_of goal.now) step.now.place result }
-    ensures closed { IfOk result (λ subgoals. All IsClosed (leaves_of goal.now)) }
+    ensures answer { IsResult scope.now (leaves_of known.now goal.now) place result }
+    ensures closed { IfOk result (λ subgoals. All (IsClosed scope.now) (leaves_of known.now goal.now)) }
 {
-    match close_goal(alloc, goal) {
+    match close_goal(alloc, goal, known, scope) {
         Ok(None) => Ok(Items::new(alloc)),
-        Ok(Some(why)) => Err(Refused::Script {
-            why,
-            place: step.place,
-        }),
+        Ok(Some(why)) => Err(Refused::Script { why, place }),
         Err(AllocError) => Err(Refused::NoMemory),
     }
 }

@@ -5,15 +5,18 @@ ghost use Rattle.gb_core.specs.declared.ty.Ty.TheVariants.{Tuple};
 ghost use Rattle.gb_types.specs.Numbering.{tuple_at};
 ghost use Rattle.gb_eval.specs.Findings.{Finds};
 ghost use Rattle.gb_types.specs.Types.{IsPlaceBelow, card_of, numbering, value_at};
-ghost use Rattle.gb_smt.specs.Assign.{assignments, assignment, with_values, implied, truth_at, found_under, found_of};
+ghost use Rattle.gb_eval.specs.Eval.{environment};
+ghost use Rattle.gb_smt.specs.Assign.{assignments, assignment, environment_of, with_values, implied, truth_at, found_under, found_of};
 
 use crate::claims::Claim;
 use crate::variables::Variable;
 use crate::width::{number_of_values, size_of_variables};
 use gb_core::value::{Card, Value, Values};
 use gb_eval::answer::Stop;
-use gb_eval::env::{ReadValue, ReadValues};
+use gb_eval::env::{Env, ReadValue, ReadValues};
 use gb_eval::eval::truth;
+use gb_eval::script::script_of;
+use gb_goal::scope::Scope;
 use gb_num::Overflow;
 use gb_terms::term::Term;
 use gb_types::nth::nth;
@@ -78,20 +81,31 @@ fn values_of(alloc: Global, reads: &[ReadValue]) -> Result<Values, AllocError>
 }
 
 /// Whether hypotheses imply a conclusion.
-fn implied(
-    alloc: Global,
-    reads: &[ReadValue],
-    hyps: &[Term],
-    conclusion: &Term,
-) -> Result<bool, Stop>
-    ensures { Finds (implied reads.now hyps.now conclusion.now) result }
+fn implied(alloc: Global, env: &Env<'_>, hyps: &[Term], conclusion: &Term) -> Result<bool, Stop>
+    ensures { Finds (implied (environment env.now) hyps.now conclusion.now) result }
 {
     for hyp in hyps {
-        if !truth(alloc, hyp, reads)? {
+        if !truth(alloc, hyp, env)? {
             return Ok(true);
         }
     }
-    truth(alloc, conclusion, reads)
+    truth(alloc, conclusion, env)
+}
+
+/// Whether the hypotheses of a claim imply its conclusion where its variables have values.
+fn is_true_under(
+    alloc: Global,
+    claim: &Claim,
+    reads: &[ReadValue],
+    scope: &Scope,
+) -> Result<bool, Stop>
+    ensures { Finds (implied (environment_of scope.now reads.now) claim.now.hyps claim.now.conclusion) result }
+{
+    let env = Env {
+        script: script_of(scope),
+        reads,
+    };
+    implied(alloc, &env, claim.hyps.as_slice(), &claim.conclusion)
 }
 
 /// What trying all assignments comes to.
@@ -113,19 +127,15 @@ fn found_at(
     claim: &Claim,
     at: u64,
     reads: &mut ReadValues,
+    scope: &Scope,
 ) -> Result<Found, AllocError>
     requires below { IsPlaceBelow at (card_of (assignments claim.now)) }
     requires each { length reads.old ≡ length claim.now.variables }
-    ensures found { IfOk result (λ found. found ≡ found_under (truth_at claim.now at) (assignment claim.now at)) }
+    ensures found { IfOk result (λ found. found ≡ found_under (truth_at scope.now claim.now at) (assignment claim.now at)) }
     ensures each { OnOk result (length reads.new ≡ length claim.now.variables) }
 {
     assign(alloc, claim.variables.as_slice(), at, reads)?;
-    match implied(
-        alloc,
-        reads.as_slice(),
-        claim.hyps.as_slice(),
-        &claim.conclusion,
-    ) {
+    match is_true_under(alloc, claim, reads.as_slice(), scope) {
         Ok(true) => Ok(Found::True),
         Ok(false) => {
             let values = values_of(alloc, reads.as_slice())?;
@@ -139,8 +149,8 @@ fn found_at(
 
 /// Tries the assignments to the variables of a claim, in order. These are the values of the tuples of their types, so the
 /// first variable is the slowest.
-pub fn try_all(alloc: Global, claim: &Claim) -> Result<Found, AllocError>
-    ensures { IfOk result (λ found. found ≡ found_of claim.now) }
+pub fn try_all(alloc: Global, claim: &Claim, scope: &Scope) -> Result<Found, AllocError>
+    ensures { IfOk result (λ found. found ≡ found_of scope.now claim.now) }
 {
     let count = match number_of_values(claim.variables.as_slice()) {
         Card::Exact(n) => n,
@@ -148,7 +158,7 @@ pub fn try_all(alloc: Global, claim: &Claim) -> Result<Found, AllocError>
     };
     let mut reads = unassigned(alloc, claim.variables.as_slice())?;
     for at in 0..count {
-        match found_at(alloc, claim, at, &mut reads)? {
+        match found_at(alloc, claim, at, &mut reads, scope)? {
             Found::True => {}
             decided => return Ok(decided),
         }

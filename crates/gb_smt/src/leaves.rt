@@ -3,7 +3,7 @@
 ghost use Rattle.std.specs.Prelude.{◌≡◌, ◌+◌, ◌++◌, ◌∷◌, [], map, IfOk, OnOk};
 ghost use Rattle.std.specs.List.{list_any, flat_map};
 ghost use Rattle.gb_walk.specs.Change.{term_changed};
-ghost use Rattle.gb_smt.specs.Leaves.{connective, with_variable, with_memory, context_of, is_true, unless_true, assumed, assumed_of, split, speaks_of_programs, head_speaks_of_programs, leaves_of};
+ghost use Rattle.gb_smt.specs.Leaves.{connective, with_variable, with_memory, context_of, is_true, unless_true, assumed, assumed_of, split, speaks_of_programs, head_speaks_of_programs, hyps_with, leaves_of};
 
 use gb_core::ty::Ty;
 use gb_core::value::Value;
@@ -30,7 +30,7 @@ pub type Leaves = Items<Shared<Leaf>>;
 /// The context of a part of the conclusion: how many logical variables and memories there are, and what became of the
 /// quantifiers around the part.
 #[derive(Drop)]
-struct Context {
+pub struct Context {
     logical: u32,
     memories: u32,
     changes: Changes,
@@ -221,7 +221,7 @@ fn split(
 }
 
 /// The hypotheses of a goal without those that hold a judgment or a probability.
-fn hyps_of(alloc: Global, list: &[Hyp]) -> Result<SharedItems<Term>, AllocError>
+fn hyps_of(alloc: Global, list: &[Hyp]) -> Result<Terms, AllocError>
     ensures { IfOk result (λ made. made ≡ flat_map assumed_of list.now) }
 {
     let mut hyps = Items::new(alloc);
@@ -230,25 +230,50 @@ fn hyps_of(alloc: Global, list: &[Hyp]) -> Result<SharedItems<Term>, AllocError>
             assume(alloc, &hyp.form, &mut hyps)?;
         }
     }
+    Ok(hyps)
+}
+
+/// Adds forms that are known besides.
+fn assume_all(alloc: Global, known: &[Term], hyps: &mut Terms) -> Result<(), AllocError>
+    ensures { OnOk result (hyps.new ≡ hyps.old ++ flat_map assumed known.now) }
+{
+    for form in known {
+        assume(alloc, form, hyps)?;
+    }
+    Ok(())
+}
+
+/// The hypotheses of a goal, and behind them forms that are known besides.
+fn all_hyps(alloc: Global, goal: &Sequent, known: &[Term]) -> Result<SharedItems<Term>, AllocError>
+    ensures { IfOk result (λ made. made ≡ hyps_with known.now goal.now) }
+{
+    let mut hyps = hyps_of(alloc, goal.hyps.as_slice())?;
+    assume_all(alloc, known, &mut hyps)?;
     SharedItems::new(alloc, hyps)
 }
 
 /// The leaves of a goal whose context this is.
-fn leaves_in(alloc: Global, goal: &Sequent, context: &Context) -> Result<Leaves, AllocError>
-    ensures { IfOk result (λ made. made ≡ split goal.now.conclusion context.now (flat_map assumed_of goal.now.hyps)) }
+fn leaves_in(
+    alloc: Global,
+    goal: &Sequent,
+    known: &[Term],
+    context: &Context,
+) -> Result<Leaves, AllocError>
+    ensures { IfOk result (λ made. made ≡ split goal.now.conclusion context.now (hyps_with known.now goal.now)) }
 {
-    let hyps = hyps_of(alloc, goal.hyps.as_slice())?;
+    let hyps = all_hyps(alloc, goal, known)?;
     let mut out = Items::new(alloc);
     split(alloc, &goal.conclusion, context, &hyps, &mut out)?;
     Ok(out)
 }
 
-/// The leaves of a goal, in order. Hypotheses that hold a judgment or a probability are left out.
-pub fn leaves(alloc: Global, goal: &Sequent) -> Result<Leaves, AllocError>
-    ensures { IfOk result (λ made. made ≡ leaves_of goal.now) }
+/// The leaves of a goal, in order, where some forms are known besides its hypotheses. Hypotheses that hold a judgment or a
+/// probability are left out.
+pub fn leaves(alloc: Global, goal: &Sequent, known: &[Term]) -> Result<Leaves, AllocError>
+    ensures { IfOk result (λ made. made ≡ leaves_of known.now goal.now) }
 {
     let context = Context::of(alloc, goal)?;
-    leaves_in(alloc, goal, &context)
+    leaves_in(alloc, goal, known, &context)
 }
 
 /// Whether a judgment or a probability stands in a term.

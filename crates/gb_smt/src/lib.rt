@@ -4,6 +4,7 @@
 pub mod apply;
 mod assign;
 mod atoms;
+mod by_equality;
 mod claims;
 mod components;
 mod equations;

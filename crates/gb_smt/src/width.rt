@@ -8,13 +8,16 @@ ghost use Rattle.gb_types.specs.Numbering.{tuples};
 ghost use Rattle.gb_types.specs.Types.{all_true, is_finite, numbering, size_of, card_of};
 ghost use Rattle.gb_meaning.specs.Operators.{outcome_type};
 ghost use Rattle.gb_meaning.specs.Written.{type_of};
-ghost use Rattle.gb_smt.specs.Width.{bound_by, bound_types, is_known_claim, assignments_of, width_of, is_tried, greater};
+ghost use Rattle.gb_smt.specs.Width.{bound_by, bound_in, bound_types, is_known_claim, assignments_of, width_of, is_tried, greater};
 
 use crate::claims::Claim;
 use crate::variables::Variable;
+use gb_core::name::Name;
 use gb_core::ty::Ty;
 use gb_core::value::Card;
 use gb_eval::known::{are_known, is_known};
+use gb_eval::script::{Script, body_of, inside, script_of};
+use gb_goal::scope::Scope;
 use gb_terms::term::{Head, Term};
 use gb_types::size::{MANY, is_finite, size};
 
@@ -40,11 +43,25 @@ fn size_of_outcomes(ty: &Ty) -> u64
     }
 }
 
-/// The size of the type of the variable that a head binds, up to `MANY`, and 1 where it binds none.
-fn bound_size_of_head(head: &Head, args: &[Term]) -> u64
-    ensures { result ≡ min (tuples (map numbering (bound_by head.now (map type_of args.now)))) (2 ^ 63) }
+/// The product of the sizes of the types of the variables that are bound in the body of an operator of the script, up to `MANY`.
+#[cycle(bound_size)]
+fn bound_size_of_operator(name: &Name, script: &Script<'_>) -> u64
+    ensures { result ≡ min (tuples (map numbering (bound_in script.now name.now))) (2 ^ 63) }
+{
+    match body_of(script, name) {
+        Some(body) => bound_size(body, &inside(script)),
+        None => 1,
+    }
+}
+
+/// The size of the type of the variable that a head binds, up to `MANY`, and 1 where it binds none. An operator of the script
+/// stands for its body.
+#[cycle(bound_size)]
+fn bound_size_of_head(head: &Head, args: &[Term], script: &Script<'_>) -> u64
+    ensures { result ≡ min (tuples (map numbering (bound_by (bound_in script.now) head.now (map type_of args.now)))) (2 ^ 63) }
 {
     match head {
+        Head::User(name) => bound_size_of_operator(name, script),
         Head::All(ty) | Head::Some(ty) => size(ty.get()),
         Head::Sum(count) => (*count).min(u128::from(MANY)) as u64,
         Head::Mu | Head::Map | Head::Restrict => match args {
@@ -57,23 +74,23 @@ fn bound_size_of_head(head: &Head, args: &[Term]) -> u64
 
 /// The product of the sizes of the types of the variables that are bound in a term, up to `MANY`.
 #[cycle(bound_size)]
-fn bound_size(t: &Term) -> u64
-    ensures { result ≡ min (tuples (map numbering (bound_types t.now))) (2 ^ 63) }
+fn bound_size(t: &Term, script: &Script<'_>) -> u64
+    ensures { result ≡ min (tuples (map numbering (bound_types (bound_in script.now) t.now))) (2 ^ 63) }
 {
     let args = t.args.as_slice();
     times(
-        bound_size_of_head(t.head.get(), args),
-        bound_size_of_all(args),
+        bound_size_of_head(t.head.get(), args, script),
+        bound_size_of_all(args, script),
     )
 }
 
 #[cycle(bound_size)]
-fn bound_size_of_all(list: &[Term]) -> u64
-    ensures { result ≡ min (tuples (map numbering (flat_map bound_types list.now))) (2 ^ 63) }
+fn bound_size_of_all(list: &[Term], script: &Script<'_>) -> u64
+    ensures { result ≡ min (tuples (map numbering (flat_map (bound_types (bound_in script.now)) list.now))) (2 ^ 63) }
 {
     let mut all = 1;
     for t in list {
-        all = times(all, bound_size(t));
+        all = times(all, bound_size(t, script));
     }
     all
 }
@@ -120,14 +137,15 @@ pub fn number_of_values(variables: &[Variable]) -> Card
 }
 
 /// The number of assignments to the variables of a claim and to those bound in it, whose types are finite.
-fn number_of_assignments(claim: &Claim) -> Card
-    requires { is_known_claim claim.now ≡ true }
-    ensures { result ≡ assignments_of claim.now }
+fn number_of_assignments(claim: &Claim, scope: &Scope) -> Card
+    requires { is_known_claim scope.now claim.now ≡ true }
+    ensures { result ≡ assignments_of scope.now claim.now }
 {
+    let script = script_of(scope);
     let variables = claim.variables.as_slice();
     let bound = times(
-        bound_size_of_all(claim.hyps.as_slice()),
-        bound_size(&claim.conclusion),
+        bound_size_of_all(claim.hyps.as_slice(), &script),
+        bound_size(&claim.conclusion, &script),
     );
     card_at(
         are_finite(variables),
@@ -135,13 +153,21 @@ fn number_of_assignments(claim: &Claim) -> Card
     )
 }
 
-/// The width of a claim, the product of the sizes of its variables and of those bound in it: above, where a part of it
-/// is opaque to evaluation.
-pub fn width(claim: &Claim) -> Card
-    ensures { result ≡ width_of claim.now }
+/// Whether evaluation knows each part of a claim.
+fn is_known_claim(claim: &Claim, scope: &Scope) -> bool
+    ensures { result ≡ is_known_claim scope.now claim.now }
 {
-    if are_known(claim.hyps.as_slice()) && is_known(&claim.conclusion) {
-        number_of_assignments(claim)
+    let script = script_of(scope);
+    are_known(claim.hyps.as_slice(), &script) && is_known(&claim.conclusion, &script)
+}
+
+/// The width of a claim, the product of the sizes of its variables and of those bound in it and in the bodies of the operators that
+/// stand in it: above, where a part of it is opaque to evaluation.
+pub fn width(claim: &Claim, scope: &Scope) -> Card
+    ensures { result ≡ width_of scope.now claim.now }
+{
+    if is_known_claim(claim, scope) {
+        number_of_assignments(claim, scope)
     } else {
         Card::Above
     }

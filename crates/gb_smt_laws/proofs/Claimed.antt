@@ -22,12 +22,15 @@ use Rattle.gb_meaning.specs.Terms.{Speaks, val}
 use Rattle.gb_laws.proofs.Types.{values_finite}
 use Rattle.gb_laws.proofs.Numberings.{lawful}
 use Rattle.gb_eval.specs.Findings.Comes.{found}
-use Rattle.gb_eval.specs.Known.{is_known}
+use Rattle.gb_goal.specs.Scope.{Declarations}
+use Rattle.gb_eval.specs.Known.{is_known, known_of}
+use Rattle.gb_eval.specs.Eval.{operators_of}
+use Rattle.gb_eval.specs.Meant.{AreOperators}
 use Rattle.gb_smt.specs.declared.claims.Claim.{Claim}
 use Rattle.gb_smt.specs.Variables.{Vars, variables_in}
 use Rattle.gb_smt.specs.Claims.{claim_of}
 use Rattle.gb_smt.specs.Width.{assignments_of, width_of, is_tried, is_known_claim}
-use Rattle.gb_smt.specs.Assign.{assignment, with_values, truth_under, IsTrueEverywhere}
+use Rattle.gb_smt.specs.Assign.{assignment, environment_of, with_values, truth_under, IsTrueEverywhere}
 use Rattle.gb_smt.specs.Apply.{Closes}
 use Rattle.gb_smt.specs.Meant.{AreTrue}
 use Rattle.gb_smt_laws.specs.Reading.{Reading, IsReadingOf}
@@ -62,7 +65,7 @@ card_exact ty n e = step (is_finite ty) refl (nat_lt (size_of ty) (2 ^ 63)) e
     step true f false e = absurd (above_exact n e)
     step false f c e = absurd (above_exact n e)
 
-module _ (g : Setting) (j : Speaks) (s : State) (W : Reading) (valid : IsReadingOf g W s) where
+module _ (ds : Declarations) (g : Setting) (ops : AreOperators g (operators_of ds)) (j : Speaks) (s : State) (W : Reading) (valid : IsReadingOf g W s) where
   have_values : (vs : Vars) → AreRead W vs → all_true (map is_finite (map (λ v. v.ty) vs)) ≡ true → is_tuple (map numbering (map (λ v. v.ty) vs)) (values_of g s vs) ≡ true
   have_values [] a f = refl
   have_values (v ∷ vs) a f =
@@ -70,7 +73,7 @@ module _ (g : Setting) (j : Speaks) (s : State) (W : Reading) (valid : IsReading
       let w = valid v.read v.ty a.0 in
       and_from _ _ ((λ i. (sym (values_finite g.types v.ty finite.0) i).has (value_in (w.1 i))) ∙ w.2) (have_values vs a.1 finite.1)
 
-  module _ (hs : List Term) (t : Term) (known : AreKnown g W hs) (k : is_known t ≡ true) (w : Fits g W t) (everywhere : IsTrueEverywhere (claim_of hs t)) where
+  module _ (hs : List Term) (t : Term) (known : AreKnown (known_of ds) g W hs) (k : is_known (known_of ds) t ≡ true) (w : Fits g W t) (everywhere : IsTrueEverywhere ds (claim_of hs t)) where
     abbrev vs : Vars
     vs = variables_in hs t
 
@@ -81,7 +84,7 @@ module _ (g : Setting) (j : Speaks) (s : State) (W : Reading) (valid : IsReading
     tuple = Many (values_of g s vs)
 
     reads : AreRead W vs
-    reads = variables_read g W hs t known k w
+    reads = variables_read (known_of ds) g W hs t known k w
 
     counted : (is_finite row ≡ true) × (size_of row ≡ everywhere.count)
     counted = card_exact row everywhere.count everywhere.exact
@@ -98,35 +101,35 @@ module _ (g : Setting) (j : Speaks) (s : State) (W : Reading) (valid : IsReading
     tried : assignment (claim_of hs t) (place_of row tuple) ≡ values_of g s vs
     tried = ap (λ v. parts_of v) (order.at_place tuple is_assignment) ∙ ap parts_in (out-Many (values_of g s vs))
 
-    true_there : truth_under (claim_of hs t) (values_of g s vs) ≡ found true
+    true_there : truth_under ds (claim_of hs t) (values_of g s vs) ≡ found true
     true_there =
-        ap (truth_under (claim_of hs t)) (sym tried)
+        ap (truth_under ds (claim_of hs t)) (sym tried)
         ∙ everywhere.each (place_of row tuple) (subst (λ n. place_of row tuple < n) counted.1 (order.below tuple is_assignment))
 
     pub claim_true : AreTrue g j s hs → truth (val g j t s) ≡ true
     claim_true a =
-        implied.conclusion_true g j s (with_values vs (values_of g s vs)) hs t
-        (each_given g s W valid vs reads hs known) (given g s W valid vs reads t W (itself W) k w) true_there a
+        implied.conclusion_true g j s (environment_of ds (with_values vs (values_of g s vs))) ops hs t
+        (each_given g s W valid (known_of ds) vs reads hs known) (given g s W valid (known_of ds) vs reads t W (itself W) k w) true_there a
 
-  known_if_tried : (c : Claim) → is_tried (width_of c) ≡ true → is_known_claim c ≡ true
-  known_if_tried c e = step (is_known_claim c) e
+  known_if_tried : (c : Claim) → is_tried (width_of ds c) ≡ true → is_known_claim ds c ≡ true
+  known_if_tried c e = step (is_known_claim ds c) e
     where
-      step : (b : Bool) → is_tried (if b then assignments_of c else Above) ≡ true → b ≡ true
+      step : (b : Bool) → is_tried (if b then assignments_of ds c else Above) ≡ true → b ≡ true
       step true e = refl
       step false e = absurd (false≢true e)
 
-  all_known : (hs : List Term) → list_all is_known hs ≡ true → AreAssumed g j W s hs → AreKnown g W hs × AreTrue g j s hs
+  all_known : (hs : List Term) → list_all (is_known (known_of ds)) hs ≡ true → AreAssumed g j W s hs → AreKnown (known_of ds) g W hs × AreTrue g j s hs
   all_known [] k a = (tt, tt)
   all_known (h ∷ hs) k a =
-      let known = and_parts (is_known h) (list_all is_known hs) k in
-      let one = a.0 (known_simple h known.0) in
+      let known = and_parts (is_known (known_of ds) h) (list_all (is_known (known_of ds)) hs) k in
+      let one = a.0 (known_simple (known_of ds) h known.0) in
       let rest = all_known hs known.1 a.1 in
       (((known.0, one.0), rest.0), (one.1, rest.1))
 
   -- a claim that closes is true
-  pub closed_claim : (hs : List Term) (t : Term) → Closes (claim_of hs t) → AreAssumed g j W s hs → FitsIfSimple g W t → IsConcluded g j s t
+  pub closed_claim : (hs : List Term) (t : Term) → Closes ds (claim_of hs t) → AreAssumed g j W s hs → FitsIfSimple g W t → IsConcluded g j s t
   closed_claim hs t c a f =
-      let known = and_parts (list_all is_known hs) (is_known t) (known_if_tried (claim_of hs t) c.0) in
+      let known = and_parts (list_all (is_known (known_of ds)) hs) (is_known (known_of ds) t) (known_if_tried (claim_of hs t) c.0) in
       let each = all_known hs known.0 a in
-      let simple = known_simple t known.1 in
+      let simple = known_simple (known_of ds) t known.1 in
       (simple, claim_true hs t each.0 known.1 (f simple) c.1 each.1)

@@ -13,6 +13,9 @@ use Rattle.gb_meaning.specs.State.{State}
 use Rattle.gb_meaning.specs.Terms.{Speaks}
 use Rattle.gb_laws.proofs.Nodes.{val_node}
 use Rattle.gb_judge.proofs.Truths.{truth_of}
+use Rattle.gb_goal.specs.Scope.{Declarations}
+use Rattle.gb_eval.specs.Eval.{operators_of}
+use Rattle.gb_eval.specs.Meant.{AreOperators}
 use Rattle.gb_smt.specs.declared.leaves.Leaf.{Leaf}
 use Rattle.gb_smt.specs.Variables.{Vars, variables}
 use Rattle.gb_smt.specs.Components.{is_joined, inside, outside}
@@ -38,38 +41,38 @@ each_kept P f (x ∷ xs) a = step (f x) (each_kept P f xs a.1)
     step true r = (a.0, r)
     step false r = r
 
-module _ (g : Setting) (j : Speaks) (s : State) (W : Reading) (valid : IsReadingOf g W s) where
+module _ (ds : Declarations) (g : Setting) (ops : AreOperators g (operators_of ds)) (j : Speaks) (s : State) (W : Reading) (valid : IsReadingOf g W s) where
   -- hypotheses that can't all hold
-  contradicted : (hs : List Term) → Closes (contradiction hs) → AreAssumed g j W s hs → ⊥
+  contradicted : (hs : List Term) → Closes ds (contradiction hs) → AreAssumed g j W s hs → ⊥
   contradicted hs c a =
-      let r = closed_claim g j s W valid hs (truth_literal false) c a (λ b. literal_fits g W (Num 0) [] bool_ty) in
+      let r = closed_claim ds g ops j s W valid hs (truth_literal false) c a (λ b. literal_fits g W (Num 0) [] bool_ty) in
       false≢true (sym (ap truth (val_node g j (Lit (Num 0)) [] bool_ty s) ∙ truth_of false) ∙ r.1)
 
-  none_left : (hs : List Term) → Any Closes (contradictions hs) → AreAssumed g j W s hs → ⊥
-  none_left [] c a = any_none Closes c
-  none_left (h ∷ hs) c a = step (any_cases Closes (contradiction (h ∷ hs)) [] c)
+  none_left : (hs : List Term) → Any (Closes ds) (contradictions hs) → AreAssumed g j W s hs → ⊥
+  none_left [] c a = any_none (Closes ds) c
+  none_left (h ∷ hs) c a = step (any_cases (Closes ds) (contradiction (h ∷ hs)) [] c)
     where
-      step : Closes (contradiction (h ∷ hs)) ⊎ Any Closes [] → ⊥
+      step : Closes ds (contradiction (h ∷ hs)) ⊎ Any (Closes ds) [] → ⊥
       step (inl x) = contradicted (h ∷ hs) x a
-      step (inr x) = any_none Closes x
+      step (inr x) = any_none (Closes ds) x
 
-  no_component : (n : ℕ) (hs : List Term) → Any Closes (components n hs) → AreAssumed g j W s hs → ⊥
+  no_component : (n : ℕ) (hs : List Term) → Any (Closes ds) (components n hs) → AreAssumed g j W s hs → ⊥
   no_component zero hs c a = none_left hs c a
   no_component (suc n) hs c a = step (λ vs x. no_component n (outside hs vs) x (each_kept (IsAssumed g j W s) (λ h. not (is_joined hs vs h)) hs a)) (first_variables hs) c
     where
-      apart : (vs : Vars) → (Any Closes (components n (outside hs vs)) → ⊥) → Closes (contradiction (inside hs vs)) ⊎ Any Closes (components n (outside hs vs)) → ⊥
+      apart : (vs : Vars) → (Any (Closes ds) (components n (outside hs vs)) → ⊥) → Closes ds (contradiction (inside hs vs)) ⊎ Any (Closes ds) (components n (outside hs vs)) → ⊥
       apart vs f (inl x) = contradicted (inside hs vs) x (each_kept (IsAssumed g j W s) (is_joined hs vs) hs a)
       apart vs f (inr x) = f x
 
-      step : ((vs : Vars) → Any Closes (components n (outside hs vs)) → ⊥) → (o : Option Vars) → Any Closes (component_and o hs (components n)) → ⊥
+      step : ((vs : Vars) → Any (Closes ds) (components n (outside hs vs)) → ⊥) → (o : Option Vars) → Any (Closes ds) (component_and o hs (components n)) → ⊥
       step f None d = none_left hs d a
-      step f (Some vs) d = apart vs (f vs) (any_cases Closes (contradiction (inside hs vs)) (components n (outside hs vs)) d)
+      step f (Some vs) d = apart vs (f vs) (any_cases (Closes ds) (contradiction (inside hs vs)) (components n (outside hs vs)) d)
 
-pub claims_close : (g : Setting) (j : Speaks) (l : Leaf) → Any Closes (claims_of l) → LeafHolds g j l
-claims_close g j l c W s valid a f = step (any_cases Closes (claim_of (inside l.hyps (variables l.conclusion)) l.conclusion) (components_of (outside l.hyps (variables l.conclusion))) c)
+pub claims_close : (ds : Declarations) (g : Setting) → AreOperators g (operators_of ds) → (j : Speaks) (l : Leaf) → Any (Closes ds) (claims_of l) → LeafHolds g j l
+claims_close ds g ops j l c W s valid a f = step (any_cases (Closes ds) (claim_of (inside l.hyps (variables l.conclusion)) l.conclusion) (components_of (outside l.hyps (variables l.conclusion))) c)
   where
-    step : Closes (claim_of (inside l.hyps (variables l.conclusion)) l.conclusion) ⊎ Any Closes (components_of (outside l.hyps (variables l.conclusion))) → IsConcluded g j s l.conclusion
-    step (inl x) = closed_claim g j s W valid (inside l.hyps (variables l.conclusion)) l.conclusion x (each_kept (IsAssumed g j W s) (is_joined l.hyps (variables l.conclusion)) l.hyps a) f
+    step : Closes ds (claim_of (inside l.hyps (variables l.conclusion)) l.conclusion) ⊎ Any (Closes ds) (components_of (outside l.hyps (variables l.conclusion))) → IsConcluded g j s l.conclusion
+    step (inl x) = closed_claim ds g ops j s W valid (inside l.hyps (variables l.conclusion)) l.conclusion x (each_kept (IsAssumed g j W s) (is_joined l.hyps (variables l.conclusion)) l.hyps a) f
     step (inr x) =
-        absurd (no_component g j s W valid (length (outside l.hyps (variables l.conclusion))) (outside l.hyps (variables l.conclusion)) x
+        absurd (no_component ds g ops j s W valid (length (outside l.hyps (variables l.conclusion))) (outside l.hyps (variables l.conclusion)) x
         (each_kept (IsAssumed g j W s) (λ h. not (is_joined l.hyps (variables l.conclusion) h)) l.hyps a))

@@ -21,6 +21,7 @@ use Rattle.gb_eval.specs.Findings.{Finding as finding}
 use Rattle.gb_eval.specs.Findings.Comes.{found, unknown}
 use Rattle.gb_eval.specs.Eval.{value_of, value_among}
 use Rattle.gb_typed.specs.Typing.{types_of}
+use Rattle.gb_meaning.specs.Names.{Name}
 use Rattle.gb_eval.specs.Known.{is_known, all_known, are_of_outcomes, are_true, is_read_known}
 use Rattle.gb_eval.specs.Meant.{Means, AreGiven, AllGiven}
 use Rattle.gb_smt.specs.declared.variables.Variable.{Variable}
@@ -39,69 +40,73 @@ no_terms (more_of-Term t ts) e = some_is_none (length (types_of ts)) _ e
 none_read : {n : Count} (W : Reading) (ts : Row_of-Term n) → (length (types_of ts) == 0) ≡ true → AreRead W (flat_map term_variables (terms_in ts))
 none_read W ts e = subst (λ l. AreRead W (flat_map term_variables l)) (sym (no_terms ts e)) tt
 
--- the variables of a term that is known and fits are read at their types
-mutual
-  pub term_reads : (g : Setting) (t : Term) (V W : Reading) → Sees V W → is_known t ≡ true → Fits g V t → AreRead W (term_variables t)
-  term_reads g (Term' p (more_of-Head (head.Read r) end_of-Head) n ts ty) V W f k w =
-      let known = known_parts (head.Read r) ts k in
-      subst (AreRead W) (sym (variables_are (head.Read r) n ts ty)) (f r ty (and_parts (length (types_of ts) == 0) (is_read_known r) known.0).1 w, tt)
-  term_reads g (Term' p (more_of-Head (head.Lit v) end_of-Head) n ts ty) V W f k w =
-      let known = known_parts (head.Lit v) ts k in
-      subst (AreRead W) (sym (variables_are (head.Lit v) n ts ty)) (none_read W ts known.0)
-  term_reads g (Term' p (more_of-Head (head.Whole v) end_of-Head) n ts ty) V W f k w =
-      let known = known_parts (head.Whole v) ts k in
-      subst (AreRead W) (sym (variables_are (head.Whole v) n ts ty)) (none_read W ts known.0)
-  term_reads g (Term' p (more_of-Head (head.Bound i) end_of-Head) n ts ty) V W f k w =
-      let known = known_parts (head.Bound i) ts k in
-      subst (AreRead W) (sym (variables_are (head.Bound i) n ts ty)) (none_read W ts known.0)
-  term_reads g (Term' p (more_of-Head (head.Builtin o) end_of-Head) n ts ty) V W f k w =
-      let known = known_parts (head.Builtin o) ts k in
-      subst (AreRead W) (sym (variables_are (head.Builtin o) n ts ty)) (row_reads g ts V W f known.1 w.1)
-  term_reads g (Term' p (more_of-Head (head.All u) end_of-Head) n ts ty) V W f k w =
-      let known = known_parts (head.All u) ts k in
-      subst (AreRead W) (sym (variables_are (head.All u) n ts ty))
-      (only_reads g ts V W f (one_argument ts u known.0) known.1 w)
-  term_reads g (Term' p (more_of-Head (head.Some u) end_of-Head) n ts ty) V W f k w =
-      let known = known_parts (head.Some u) ts k in
-      subst (AreRead W) (sym (variables_are (head.Some u) n ts ty))
-      (only_reads g ts V W f (one_argument ts u known.0) known.1 w)
-  term_reads g (Term' p (more_of-Head (head.Sum q) end_of-Head) n ts ty) V W f k w =
-      let known = known_parts (head.Sum q) ts k in
-      subst (AreRead W) (sym (variables_are (head.Sum q) n ts ty)) (only_reads g ts V W f known.0 known.1 w)
-  term_reads g (Term' p (more_of-Head head.Mu end_of-Head) n ts ty) V W f k w =
-      let known = known_parts head.Mu ts k in
-      subst (AreRead W) (sym (variables_are head.Mu n ts ty)) (both_read g ts V W f known.0 known.1 w)
-  term_reads g (Term' p (more_of-Head (head.Weights ps) end_of-Head) n ts ty) V W f k w =
-      let known = known_parts (head.Weights ps) ts k in
-      subst (AreRead W) (sym (variables_are (head.Weights ps) n ts ty)) (none_read W ts known.0)
-  term_reads g (Term' p (more_of-Head head.Map end_of-Head) n ts ty) V W f k w =
-      let known = known_parts head.Map ts k in
-      subst (AreRead W) (sym (variables_are head.Map n ts ty)) (both_read g ts V W f known.0 known.1 w)
-  term_reads g (Term' p (more_of-Head head.Restrict end_of-Head) n ts ty) V W f k w =
-      let known = known_parts head.Restrict ts k in
-      subst (AreRead W) (sym (variables_are head.Restrict n ts ty)) (both_read g ts V W f known.0 known.1 w)
-  term_reads g (Term' p (more_of-Head h end_of-Head) n ts ty) V W f k w = absurd (false≢true k)
+module _ (ks : Name → Bool) where
+  -- the variables of a term that is known and fits are read at their types
+  mutual
+    pub term_reads : (g : Setting) (t : Term) (V W : Reading) → Sees V W → is_known ks t ≡ true → Fits g V t → AreRead W (term_variables t)
+    term_reads g (Term' p (more_of-Head (head.Read r) end_of-Head) n ts ty) V W f k w =
+        let known = known_parts ks (head.Read r) ts k in
+        subst (AreRead W) (sym (variables_are (head.Read r) n ts ty)) (f r ty (and_parts (length (types_of ts) == 0) (is_read_known r) known.0).1 w, tt)
+    term_reads g (Term' p (more_of-Head (head.Lit v) end_of-Head) n ts ty) V W f k w =
+        let known = known_parts ks (head.Lit v) ts k in
+        subst (AreRead W) (sym (variables_are (head.Lit v) n ts ty)) (none_read W ts known.0)
+    term_reads g (Term' p (more_of-Head (head.Whole v) end_of-Head) n ts ty) V W f k w =
+        let known = known_parts ks (head.Whole v) ts k in
+        subst (AreRead W) (sym (variables_are (head.Whole v) n ts ty)) (none_read W ts known.0)
+    term_reads g (Term' p (more_of-Head (head.Bound i) end_of-Head) n ts ty) V W f k w =
+        let known = known_parts ks (head.Bound i) ts k in
+        subst (AreRead W) (sym (variables_are (head.Bound i) n ts ty)) (none_read W ts known.0)
+    term_reads g (Term' p (more_of-Head (head.Builtin o) end_of-Head) n ts ty) V W f k w =
+        let known = known_parts ks (head.Builtin o) ts k in
+        subst (AreRead W) (sym (variables_are (head.Builtin o) n ts ty)) (row_reads g ts V W f known.1 w.1)
+    term_reads g (Term' p (more_of-Head (head.User v) end_of-Head) n ts ty) V W f k w =
+        let known = known_parts ks (head.User v) ts k in
+        subst (AreRead W) (sym (variables_are (head.User v) n ts ty)) (row_reads g ts V W f known.1 w)
+    term_reads g (Term' p (more_of-Head (head.All u) end_of-Head) n ts ty) V W f k w =
+        let known = known_parts ks (head.All u) ts k in
+        subst (AreRead W) (sym (variables_are (head.All u) n ts ty))
+        (only_reads g ts V W f (one_argument ts u known.0) known.1 w)
+    term_reads g (Term' p (more_of-Head (head.Some u) end_of-Head) n ts ty) V W f k w =
+        let known = known_parts ks (head.Some u) ts k in
+        subst (AreRead W) (sym (variables_are (head.Some u) n ts ty))
+        (only_reads g ts V W f (one_argument ts u known.0) known.1 w)
+    term_reads g (Term' p (more_of-Head (head.Sum q) end_of-Head) n ts ty) V W f k w =
+        let known = known_parts ks (head.Sum q) ts k in
+        subst (AreRead W) (sym (variables_are (head.Sum q) n ts ty)) (only_reads g ts V W f known.0 known.1 w)
+    term_reads g (Term' p (more_of-Head head.Mu end_of-Head) n ts ty) V W f k w =
+        let known = known_parts ks head.Mu ts k in
+        subst (AreRead W) (sym (variables_are head.Mu n ts ty)) (both_read g ts V W f known.0 known.1 w)
+    term_reads g (Term' p (more_of-Head (head.Weights ps) end_of-Head) n ts ty) V W f k w =
+        let known = known_parts ks (head.Weights ps) ts k in
+        subst (AreRead W) (sym (variables_are (head.Weights ps) n ts ty)) (none_read W ts known.0)
+    term_reads g (Term' p (more_of-Head head.Map end_of-Head) n ts ty) V W f k w =
+        let known = known_parts ks head.Map ts k in
+        subst (AreRead W) (sym (variables_are head.Map n ts ty)) (both_read g ts V W f known.0 known.1 w)
+    term_reads g (Term' p (more_of-Head head.Restrict end_of-Head) n ts ty) V W f k w =
+        let known = known_parts ks head.Restrict ts k in
+        subst (AreRead W) (sym (variables_are head.Restrict n ts ty)) (both_read g ts V W f known.0 known.1 w)
+    term_reads g (Term' p (more_of-Head h end_of-Head) n ts ty) V W f k w = absurd (false≢true k)
 
-  row_reads : {n : Count} (g : Setting) (ts : Row_of-Term n) (V W : Reading) → Sees V W → are_true (all_known ts) ≡ true → AllFit g V ts → AreRead W (flat_map term_variables (terms_in ts))
-  row_reads g end_of-Term V W f k w = tt
-  row_reads g (more_of-Term t ts) V W f k w =
-      let known = and_parts (is_known t) (are_true (all_known ts)) k in
-      read_together W (term_variables t) (flat_map term_variables (terms_in ts)) (term_reads g t V W f known.0 w.0) (row_reads g ts V W f known.1 w.1)
+    row_reads : {n : Count} (g : Setting) (ts : Row_of-Term n) (V W : Reading) → Sees V W → are_true (all_known ks ts) ≡ true → AllFit g V ts → AreRead W (flat_map term_variables (terms_in ts))
+    row_reads g end_of-Term V W f k w = tt
+    row_reads g (more_of-Term t ts) V W f k w =
+        let known = and_parts (is_known ks t) (are_true (all_known ks ts)) k in
+        read_together W (term_variables t) (flat_map term_variables (terms_in ts)) (term_reads g t V W f known.0 w.0) (row_reads g ts V W f known.1 w.1)
 
-  only_reads : {n : Count} (g : Setting) (ts : Row_of-Term n) (V W : Reading) → Sees V W → (length (types_of ts) == 1) ≡ true → are_true (all_known ts) ≡ true → OnlyFits g (inner no_variables V) ts → AreRead W (flat_map term_variables (terms_in ts))
-  only_reads g end_of-Term V W f e k w = none_is_one _ e
-  only_reads g (more_of-Term t end_of-Term) V W f e k w =
-      read_together W (term_variables t) [] (term_reads g t (inner no_variables V) W (sees_beneath V W f) (and_parts (is_known t) true k).0 w) tt
-  only_reads g (more_of-Term t (more_of-Term v ts)) V W f e k w = two_is_one (length (types_of ts)) _ e
+    only_reads : {n : Count} (g : Setting) (ts : Row_of-Term n) (V W : Reading) → Sees V W → (length (types_of ts) == 1) ≡ true → are_true (all_known ks ts) ≡ true → OnlyFits g (inner no_variables V) ts → AreRead W (flat_map term_variables (terms_in ts))
+    only_reads g end_of-Term V W f e k w = none_is_one _ e
+    only_reads g (more_of-Term t end_of-Term) V W f e k w =
+        read_together W (term_variables t) [] (term_reads g t (inner no_variables V) W (sees_beneath V W f) (and_parts (is_known ks t) true k).0 w) tt
+    only_reads g (more_of-Term t (more_of-Term v ts)) V W f e k w = two_is_one (length (types_of ts)) _ e
 
-  both_read : {n : Count} (g : Setting) (ts : Row_of-Term n) (V W : Reading) → Sees V W → are_of_outcomes (types_of ts) ≡ true → are_true (all_known ts) ≡ true → BothFit g V ts → AreRead W (flat_map term_variables (terms_in ts))
-  both_read g end_of-Term V W f e k w = tt
-  both_read g (more_of-Term t end_of-Term) V W f e k w = absurd (false≢true e)
-  both_read g (more_of-Term t (more_of-Term v end_of-Term)) V W f e k w =
-      let first = and_parts (is_known t) (is_known v && true) k in
-      read_together W (term_variables t) (term_variables v ++ []) (term_reads g t V W f first.0 w.0)
-      (read_together W (term_variables v) [] (term_reads g v (inner no_variables V) W (sees_beneath V W f) (and_parts (is_known v) true first.1).0 w.1) tt)
-  both_read g (more_of-Term t (more_of-Term v (more_of-Term u ts))) V W f e k w = absurd (false≢true e)
+    both_read : {n : Count} (g : Setting) (ts : Row_of-Term n) (V W : Reading) → Sees V W → are_of_outcomes (types_of ts) ≡ true → are_true (all_known ks ts) ≡ true → BothFit g V ts → AreRead W (flat_map term_variables (terms_in ts))
+    both_read g end_of-Term V W f e k w = tt
+    both_read g (more_of-Term t end_of-Term) V W f e k w = absurd (false≢true e)
+    both_read g (more_of-Term t (more_of-Term v end_of-Term)) V W f e k w =
+        let first = and_parts (is_known ks t) (is_known ks v && true) k in
+        read_together W (term_variables t) (term_variables v ++ []) (term_reads g t V W f first.0 w.0)
+        (read_together W (term_variables v) [] (term_reads g v (inner no_variables V) W (sees_beneath V W f) (and_parts (is_known ks v) true first.1).0 w.1) tt)
+    both_read g (more_of-Term t (more_of-Term v (more_of-Term u ts))) V W f e k w = absurd (false≢true e)
 
 new_read : (W : Reading) (vs : Vars) (v : Variable) → AreRead W vs → IsReadAt W v.read v.ty → AreRead W (with_new vs v)
 new_read W vs v a k = step (is_among vs v.read)
@@ -114,21 +119,22 @@ noted_read : (W : Reading) (vs ws : Vars) → AreRead W vs → AreRead W ws → 
 noted_read W vs [] a b = a
 noted_read W vs (w ∷ ws) a b = noted_read W (with_new vs w) ws (new_read W vs w a b.0) b.1
 
--- each of the forms is known and fits
-abbrev pub AreKnown : Setting → Reading → List Term → Type 0
-AreKnown g W hs = AllByRecursion (λ h. (is_known h ≡ true) × Fits g W h) hs
-
 pub itself : (W : Reading) → Sees W W
 itself W r ty k e = e
 
-each_read : (g : Setting) (W : Reading) (hs : List Term) → AreKnown g W hs → AreRead W (flat_map term_variables hs)
-each_read g W [] a = tt
-each_read g W (h ∷ hs) a = read_together W (term_variables h) (flat_map term_variables hs) (term_reads g h W W (itself W) a.0.0 a.0.1) (each_read g W hs a.1)
+module _ (ks : Name → Bool) where
+  -- each of the forms is known and fits
+  abbrev pub AreKnown : Setting → Reading → List Term → Type 0
+  AreKnown g W hs = AllByRecursion (λ h. (is_known ks h ≡ true) × Fits g W h) hs
 
--- the variables of a claim are read at their types
-pub variables_read : (g : Setting) (W : Reading) (hs : List Term) (t : Term) → AreKnown g W hs → is_known t ≡ true → Fits g W t → AreRead W (variables_in hs t)
-variables_read g W hs t a k w =
-    noted_read W (noted [] (flat_map term_variables hs)) (term_variables t) (noted_read W [] (flat_map term_variables hs) tt (each_read g W hs a)) (term_reads g t W W (itself W) k w)
+  each_read : (g : Setting) (W : Reading) (hs : List Term) → AreKnown g W hs → AreRead W (flat_map term_variables hs)
+  each_read g W [] a = tt
+  each_read g W (h ∷ hs) a = read_together W (term_variables h) (flat_map term_variables hs) (term_reads ks g h W W (itself W) a.0.0 a.0.1) (each_read g W hs a.1)
+
+  -- the variables of a claim are read at their types
+  pub variables_read : (g : Setting) (W : Reading) (hs : List Term) (t : Term) → AreKnown g W hs → is_known ks t ≡ true → Fits g W t → AreRead W (variables_in hs t)
+  variables_read g W hs t a k w =
+      noted_read W (noted [] (flat_map term_variables hs)) (term_variables t) (noted_read W [] (flat_map term_variables hs) tt (each_read g W hs a)) (term_reads ks g t W W (itself W) k w)
 
 some_same : (a b : Ty) → Some a ≡ Some b → a ≡ b
 some_same a b e = cc
@@ -168,7 +174,7 @@ module _ (g : Setting) (s : State) where
         by true = value_there vs r ty a k
         by false = tt
 
-    module _ (vs : Vars) (a : AreRead W vs) where
+    module _ (ks : Name → Bool) (vs : Vars) (a : AreRead W vs) where
       abbrev reads : List ReadValue
       reads = with_values vs (values_of vs)
 
@@ -177,55 +183,56 @@ module _ (g : Setting) (s : State) where
       none_given (more_of-Term t ts) e = some_is_none (length (types_of ts)) _ e
 
       mutual
-        pub given : (t : Term) (V : Reading) → Sees V W → is_known t ≡ true → Fits g V t → AreGiven g s reads t
+        pub given : (t : Term) (V : Reading) → Sees V W → is_known ks t ≡ true → Fits g V t → AreGiven g s reads t
         given (Term' p (more_of-Head (head.Read r) end_of-Head) n ts ty) V f k w =
-            let known = known_parts (head.Read r) ts k in
+            let known = known_parts ks (head.Read r) ts k in
             let both = and_parts (length (types_of ts) == 0) (is_read_known r) known.0 in
             (value_given vs r ty a (f r ty both.1 w), none_given ts both.0)
-        given (Term' p (more_of-Head (head.Lit v) end_of-Head) n ts ty) V f k w = (tt, none_given ts (known_parts (head.Lit v) ts k).0)
-        given (Term' p (more_of-Head (head.Whole v) end_of-Head) n ts ty) V f k w = (tt, none_given ts (known_parts (head.Whole v) ts k).0)
-        given (Term' p (more_of-Head (head.Bound i) end_of-Head) n ts ty) V f k w = (tt, none_given ts (known_parts (head.Bound i) ts k).0)
-        given (Term' p (more_of-Head (head.Builtin o) end_of-Head) n ts ty) V f k w = (tt, row_given ts V f (known_parts (head.Builtin o) ts k).1 w.1)
+        given (Term' p (more_of-Head (head.Lit v) end_of-Head) n ts ty) V f k w = (tt, none_given ts (known_parts ks (head.Lit v) ts k).0)
+        given (Term' p (more_of-Head (head.Whole v) end_of-Head) n ts ty) V f k w = (tt, none_given ts (known_parts ks (head.Whole v) ts k).0)
+        given (Term' p (more_of-Head (head.Bound i) end_of-Head) n ts ty) V f k w = (tt, none_given ts (known_parts ks (head.Bound i) ts k).0)
+        given (Term' p (more_of-Head (head.Builtin o) end_of-Head) n ts ty) V f k w = (tt, row_given ts V f (known_parts ks (head.Builtin o) ts k).1 w.1)
+        given (Term' p (more_of-Head (head.User v) end_of-Head) n ts ty) V f k w = (tt, row_given ts V f (known_parts ks (head.User v) ts k).1 w)
         given (Term' p (more_of-Head (head.All u) end_of-Head) n ts ty) V f k w =
-            let known = known_parts (head.All u) ts k in
+            let known = known_parts ks (head.All u) ts k in
             (tt, only_given ts V f (one_argument ts u known.0) known.1 w)
         given (Term' p (more_of-Head (head.Some u) end_of-Head) n ts ty) V f k w =
-            let known = known_parts (head.Some u) ts k in
+            let known = known_parts ks (head.Some u) ts k in
             (tt, only_given ts V f (one_argument ts u known.0) known.1 w)
         given (Term' p (more_of-Head (head.Sum q) end_of-Head) n ts ty) V f k w =
-            let known = known_parts (head.Sum q) ts k in
+            let known = known_parts ks (head.Sum q) ts k in
             (tt, only_given ts V f known.0 known.1 w)
         given (Term' p (more_of-Head head.Mu end_of-Head) n ts ty) V f k w =
-            let known = known_parts head.Mu ts k in
+            let known = known_parts ks head.Mu ts k in
             (tt, both_given ts V f known.0 known.1 w)
-        given (Term' p (more_of-Head (head.Weights ps) end_of-Head) n ts ty) V f k w = (tt, none_given ts (known_parts (head.Weights ps) ts k).0)
+        given (Term' p (more_of-Head (head.Weights ps) end_of-Head) n ts ty) V f k w = (tt, none_given ts (known_parts ks (head.Weights ps) ts k).0)
         given (Term' p (more_of-Head head.Map end_of-Head) n ts ty) V f k w =
-            let known = known_parts head.Map ts k in
+            let known = known_parts ks head.Map ts k in
             (tt, both_given ts V f known.0 known.1 w)
         given (Term' p (more_of-Head head.Restrict end_of-Head) n ts ty) V f k w =
-            let known = known_parts head.Restrict ts k in
+            let known = known_parts ks head.Restrict ts k in
             (tt, both_given ts V f known.0 known.1 w)
         given (Term' p (more_of-Head h end_of-Head) n ts ty) V f k w = absurd (false≢true k)
 
-        row_given : {n : Count} (ts : Row_of-Term n) (V : Reading) → Sees V W → are_true (all_known ts) ≡ true → AllFit g V ts → AllGiven g s reads ts
+        row_given : {n : Count} (ts : Row_of-Term n) (V : Reading) → Sees V W → are_true (all_known ks ts) ≡ true → AllFit g V ts → AllGiven g s reads ts
         row_given end_of-Term V f k w = tt
         row_given (more_of-Term t ts) V f k w =
-            let known = and_parts (is_known t) (are_true (all_known ts)) k in
+            let known = and_parts (is_known ks t) (are_true (all_known ks ts)) k in
             (given t V f known.0 w.0, row_given ts V f known.1 w.1)
 
-        only_given : {n : Count} (ts : Row_of-Term n) (V : Reading) → Sees V W → (length (types_of ts) == 1) ≡ true → are_true (all_known ts) ≡ true → OnlyFits g (inner no_variables V) ts → AllGiven g s reads ts
+        only_given : {n : Count} (ts : Row_of-Term n) (V : Reading) → Sees V W → (length (types_of ts) == 1) ≡ true → are_true (all_known ks ts) ≡ true → OnlyFits g (inner no_variables V) ts → AllGiven g s reads ts
         only_given end_of-Term V f e k w = tt
-        only_given (more_of-Term t end_of-Term) V f e k w = (given t (inner no_variables V) (sees_beneath V W f) (and_parts (is_known t) true k).0 w, tt)
+        only_given (more_of-Term t end_of-Term) V f e k w = (given t (inner no_variables V) (sees_beneath V W f) (and_parts (is_known ks t) true k).0 w, tt)
         only_given (more_of-Term t (more_of-Term v ts)) V f e k w = two_is_one (length (types_of ts)) _ e
 
-        both_given : {n : Count} (ts : Row_of-Term n) (V : Reading) → Sees V W → are_of_outcomes (types_of ts) ≡ true → are_true (all_known ts) ≡ true → BothFit g V ts → AllGiven g s reads ts
+        both_given : {n : Count} (ts : Row_of-Term n) (V : Reading) → Sees V W → are_of_outcomes (types_of ts) ≡ true → are_true (all_known ks ts) ≡ true → BothFit g V ts → AllGiven g s reads ts
         both_given end_of-Term V f e k w = tt
         both_given (more_of-Term t end_of-Term) V f e k w = absurd (false≢true e)
         both_given (more_of-Term t (more_of-Term v end_of-Term)) V f e k w =
-            let first = and_parts (is_known t) (is_known v && true) k in
-            (given t V f first.0 w.0, (given v (inner no_variables V) (sees_beneath V W f) (and_parts (is_known v) true first.1).0 w.1, tt))
+            let first = and_parts (is_known ks t) (is_known ks v && true) k in
+            (given t V f first.0 w.0, (given v (inner no_variables V) (sees_beneath V W f) (and_parts (is_known ks v) true first.1).0 w.1, tt))
         both_given (more_of-Term t (more_of-Term v (more_of-Term u ts))) V f e k w = absurd (false≢true e)
 
-      pub each_given : (hs : List Term) → AreKnown g W hs → EachGiven g s reads hs
+      pub each_given : (hs : List Term) → AreKnown ks g W hs → EachGiven g s reads hs
       each_given [] k = tt
       each_given (h ∷ hs) k = (given h W (itself W) k.0.0 k.0.1, each_given hs k.1)

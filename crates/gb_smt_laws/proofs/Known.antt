@@ -1,5 +1,5 @@
 -- What evaluation knows is simple, and reads no memory that a binder binds.
-use Rattle.std.proofs.Common.{◌≡◌, suc, true, ◌&&◌, ◌==◌, Option, Some, None, List, [], ◌∷◌, ◌++◌, length, refl, ap, ◌∙◌, arith}
+use Rattle.std.proofs.Common.{◌≡◌, suc, Bool, true, ◌&&◌, ◌==◌, Option, Some, None, List, [], ◌∷◌, ◌++◌, length, refl, ap, ◌∙◌, arith}
 use Rattle.std.specs.List.{list_all, flat_map, AllByRecursion}
 use Rattle.std.proofs.lemmas.Bool.{false≢true, and_parts, and_from}
 use Rattle.std.proofs.lemmas.Bool.Decides.{Decides-eqb}
@@ -18,6 +18,7 @@ use Rattle.gb_meaning.specs.Commands.{terms_in}
 use Rattle.sqlite_items.specs.formers.items.Items.{the_former}
 use Rattle.gb_changes.proofs.Trees.{out_is, HeadLayer}
 use Rattle.gb_typed.specs.Typing.{types_of}
+use Rattle.gb_meaning.specs.Names.{Name}
 use Rattle.gb_eval.specs.Known.{is_known, all_known, is_head_known, are_of_outcomes, are_true, is_read_known}
 use Rattle.gb_smt.specs.Variables.{Vars, at_head, at_instr, at_subject, at_cmd, at_term, of_read, term_variables, head_read}
 use Rattle.gb_smt.proofs.Layers.{variables_out}
@@ -34,61 +35,64 @@ none_is_one A h = let e = (Decides-eqb 0 1).0 h in absurd (omega (arith, e))
 pub some_is_none : (n : _) (A : Type 0) → (suc n == 0) ≡ true → A
 some_is_none n A h = let e = (Decides-eqb (suc n) 0).0 h in absurd (omega (arith, e))
 
--- a node that is known: its head is, and each argument
-pub known_parts : {n : Count} (h : Head) (ts : Row_of-Term n) → (is_head_known h (types_of ts) && are_true (all_known ts)) ≡ true →
-    (is_head_known h (types_of ts) ≡ true) × (are_true (all_known ts) ≡ true)
-known_parts h ts k = and_parts (is_head_known h (types_of ts)) (are_true (all_known ts)) k
-
 -- a quantifier that is known has one argument
 pub one_argument : {n : Count} (ts : Row_of-Term n) (u : Ty) → ((length (types_of ts) == 1) && is_finite u) ≡ true → (length (types_of ts) == 1) ≡ true
 one_argument ts u k = (and_parts (length (types_of ts) == 1) (is_finite u) k).0
 
-mutual
-  pub known_simple : (t : Term) → is_known t ≡ true → is_simple t ≡ true
-  known_simple (Term' p (more_of-Head (head.Lit v) end_of-Head) n ts ty) k = refl
-  known_simple (Term' p (more_of-Head (head.Whole v) end_of-Head) n ts ty) k = refl
-  known_simple (Term' p (more_of-Head (head.Read r) end_of-Head) n ts ty) k = refl
-  known_simple (Term' p (more_of-Head (head.Bound i) end_of-Head) n ts ty) k = refl
-  known_simple (Term' p (more_of-Head (head.Builtin o) end_of-Head) n ts ty) k = row_simple ts (known_parts (head.Builtin o) ts k).1
-  known_simple (Term' p (more_of-Head (head.All u) end_of-Head) n ts ty) k =
-      let both = known_parts (head.All u) ts k in
-      only_simple ts (one_argument ts u both.0) both.1
-  known_simple (Term' p (more_of-Head (head.Some u) end_of-Head) n ts ty) k =
-      let both = known_parts (head.Some u) ts k in
-      only_simple ts (one_argument ts u both.0) both.1
-  known_simple (Term' p (more_of-Head (head.Sum q) end_of-Head) n ts ty) k =
-      let both = known_parts (head.Sum q) ts k in
-      only_simple ts both.0 both.1
-  known_simple (Term' p (more_of-Head head.Mu end_of-Head) n ts ty) k =
-      let both = known_parts head.Mu ts k in
-      both_simple ts both.0 both.1
-  known_simple (Term' p (more_of-Head (head.Weights ps) end_of-Head) n ts ty) k = row_simple ts (known_parts (head.Weights ps) ts k).1
-  known_simple (Term' p (more_of-Head head.Map end_of-Head) n ts ty) k =
-      let both = known_parts head.Map ts k in
-      both_simple ts both.0 both.1
-  known_simple (Term' p (more_of-Head head.Restrict end_of-Head) n ts ty) k =
-      let both = known_parts head.Restrict ts k in
-      both_simple ts both.0 both.1
-  known_simple (Term' p (more_of-Head h end_of-Head) n ts ty) k = absurd (false≢true k)
+-- by whether evaluation knows the operators of the script
+module _ (ks : Name → Bool) where
+  -- a node that is known: its head is, and each argument
+  pub known_parts : {n : Count} (h : Head) (ts : Row_of-Term n) → (is_head_known ks h (types_of ts) && are_true (all_known ks ts)) ≡ true →
+      (is_head_known ks h (types_of ts) ≡ true) × (are_true (all_known ks ts) ≡ true)
+  known_parts h ts k = and_parts (is_head_known ks h (types_of ts)) (are_true (all_known ks ts)) k
 
-  row_simple : {n : Count} (ts : Row_of-Term n) → are_true (all_known ts) ≡ true → list_all (λ b. b) (all_simple ts) ≡ true
-  row_simple end_of-Term l = refl
-  row_simple (more_of-Term t ts) l =
-      let both = and_parts (is_known t) (are_true (all_known ts)) l in
-      and_from (is_simple t) (list_all (λ b. b) (all_simple ts)) (known_simple t both.0) (row_simple ts both.1)
+  mutual
+    pub known_simple : (t : Term) → is_known ks t ≡ true → is_simple t ≡ true
+    known_simple (Term' p (more_of-Head (head.Lit v) end_of-Head) n ts ty) k = refl
+    known_simple (Term' p (more_of-Head (head.Whole v) end_of-Head) n ts ty) k = refl
+    known_simple (Term' p (more_of-Head (head.Read r) end_of-Head) n ts ty) k = refl
+    known_simple (Term' p (more_of-Head (head.Bound i) end_of-Head) n ts ty) k = refl
+    known_simple (Term' p (more_of-Head (head.Builtin o) end_of-Head) n ts ty) k = row_simple ts (known_parts (head.Builtin o) ts k).1
+    known_simple (Term' p (more_of-Head (head.User v) end_of-Head) n ts ty) k = row_simple ts (known_parts (head.User v) ts k).1
+    known_simple (Term' p (more_of-Head (head.All u) end_of-Head) n ts ty) k =
+        let both = known_parts (head.All u) ts k in
+        only_simple ts (one_argument ts u both.0) both.1
+    known_simple (Term' p (more_of-Head (head.Some u) end_of-Head) n ts ty) k =
+        let both = known_parts (head.Some u) ts k in
+        only_simple ts (one_argument ts u both.0) both.1
+    known_simple (Term' p (more_of-Head (head.Sum q) end_of-Head) n ts ty) k =
+        let both = known_parts (head.Sum q) ts k in
+        only_simple ts both.0 both.1
+    known_simple (Term' p (more_of-Head head.Mu end_of-Head) n ts ty) k =
+        let both = known_parts head.Mu ts k in
+        both_simple ts both.0 both.1
+    known_simple (Term' p (more_of-Head (head.Weights ps) end_of-Head) n ts ty) k = row_simple ts (known_parts (head.Weights ps) ts k).1
+    known_simple (Term' p (more_of-Head head.Map end_of-Head) n ts ty) k =
+        let both = known_parts head.Map ts k in
+        both_simple ts both.0 both.1
+    known_simple (Term' p (more_of-Head head.Restrict end_of-Head) n ts ty) k =
+        let both = known_parts head.Restrict ts k in
+        both_simple ts both.0 both.1
+    known_simple (Term' p (more_of-Head h end_of-Head) n ts ty) k = absurd (false≢true k)
 
-  only_simple : {n : Count} (ts : Row_of-Term n) → (length (types_of ts) == 1) ≡ true → are_true (all_known ts) ≡ true → only (all_simple ts) ≡ true
-  only_simple end_of-Term e l = none_is_one _ e
-  only_simple (more_of-Term t end_of-Term) e l = known_simple t (and_parts (is_known t) true l).0
-  only_simple (more_of-Term t (more_of-Term v ts)) e l = two_is_one (length (types_of ts)) _ e
+    row_simple : {n : Count} (ts : Row_of-Term n) → are_true (all_known ks ts) ≡ true → list_all (λ b. b) (all_simple ts) ≡ true
+    row_simple end_of-Term l = refl
+    row_simple (more_of-Term t ts) l =
+        let both = and_parts (is_known ks t) (are_true (all_known ks ts)) l in
+        and_from (is_simple t) (list_all (λ b. b) (all_simple ts)) (known_simple t both.0) (row_simple ts both.1)
 
-  both_simple : {n : Count} (ts : Row_of-Term n) → are_of_outcomes (types_of ts) ≡ true → are_true (all_known ts) ≡ true → both (all_simple ts) ≡ true
-  both_simple end_of-Term e l = absurd (false≢true e)
-  both_simple (more_of-Term t end_of-Term) e l = absurd (false≢true e)
-  both_simple (more_of-Term t (more_of-Term v end_of-Term)) e l =
-      let first = and_parts (is_known t) (is_known v && true) l in
-      and_from (is_simple t) (is_simple v) (known_simple t first.0) (known_simple v (and_parts (is_known v) true first.1).0)
-  both_simple (more_of-Term t (more_of-Term v (more_of-Term w ts))) e l = absurd (false≢true e)
+    only_simple : {n : Count} (ts : Row_of-Term n) → (length (types_of ts) == 1) ≡ true → are_true (all_known ks ts) ≡ true → only (all_simple ts) ≡ true
+    only_simple end_of-Term e l = none_is_one _ e
+    only_simple (more_of-Term t end_of-Term) e l = known_simple t (and_parts (is_known ks t) true l).0
+    only_simple (more_of-Term t (more_of-Term v ts)) e l = two_is_one (length (types_of ts)) _ e
+
+    both_simple : {n : Count} (ts : Row_of-Term n) → are_of_outcomes (types_of ts) ≡ true → are_true (all_known ks ts) ≡ true → both (all_simple ts) ≡ true
+    both_simple end_of-Term e l = absurd (false≢true e)
+    both_simple (more_of-Term t end_of-Term) e l = absurd (false≢true e)
+    both_simple (more_of-Term t (more_of-Term v end_of-Term)) e l =
+        let first = and_parts (is_known ks t) (is_known ks v && true) l in
+        and_from (is_simple t) (is_simple v) (known_simple t first.0) (known_simple v (and_parts (is_known ks v) true first.1).0)
+    both_simple (more_of-Term t (more_of-Term v (more_of-Term w ts))) e l = absurd (false≢true e)
 
 -- the variables of a term, by its constructors
 

@@ -17,6 +17,8 @@ pub mod Kept
 pub mod Premises
 pub mod Split
 pub mod Start
+pub mod Bodies
+mod Opened
 pub mod Modules
 pub mod Rule
 pub mod Fitting

@@ -1,4 +1,4 @@
--- The rule `smt` is sound.
+-- The rule `smt` is sound where a claim closes each leaf.
 use Rattle.std.proofs.Common.{◌≡◌, Bool, true, false, if◌then◌else◌, List, [], ◌∷◌, ◌++◌, map, length, refl, sym, subst}
 use Rattle.std.specs.List.{All, AllByRecursion, flat_map}
 use Rattle.std.proofs.lemmas.Bool.{false≢true}
@@ -27,10 +27,16 @@ use Rattle.gb_holds.specs.Truth.{Choice, has_module, last_has_module, IsFirstTru
 use Rattle.gb_holds.specs.Holds.{EachProgram, AreValues, AreTrue, context, Holds, declared_modules, interpretation, InEachSetting}
 use Rattle.gb_holds.proofs.Fronts.{without_modules}
 use Rattle.gb_holds.proofs.SettingTypes.{setting-types}
+use Rattle.gb_typing.proofs.Lifted.{InEachSequent, each, joined}
+use Rattle.gb_goal.specs.Scope as scope
+use Rattle.gb_eval.specs.Eval.{operators_of}
+use Rattle.gb_eval.specs.Meant.{AreOperators}
+use Rattle.gb_eval.proofs.Environments.{of_is}
+use Rattle.gb_eval.proofs.Operated.{operators_sound}
 use Rattle.gb_smt.specs.declared.leaves.Leaf.{Leaf}
 use Rattle.gb_smt.specs.Leaves as leaves
-use Rattle.gb_smt.specs.Leaves.{whole, with_variable, with_memory, assumed, assumed_of, split, context_of, speaks_of_programs, leaves_of}
-use Rattle.gb_smt.specs.Apply.{IsClosed}
+use Rattle.gb_smt.specs.Leaves.{whole, with_variable, with_memory, assumed, assumed_of, split, context_of, hyps_with, speaks_of_programs, leaves_of}
+use Rattle.gb_smt.specs.Apply.{ClosesByClaim}
 use Rattle.gb_smt_laws.specs.Reading.{Variables, AreHeld, Reading, no_variables, inner}
 use Rattle.gb_smt_laws.specs.Fits.{Fits, AllFit, OnlyFits}
 use Rattle.gb_smt_laws.specs.Closing.{IsAssumed, AreAssumed, LeafHolds}
@@ -43,6 +49,10 @@ use Rattle.gb_smt_laws.proofs.Split.{IsContext, context_with_variable, context_w
 use mathlib.Core.Former.{Count}
 use Rattle.gb_smt_laws.proofs.Closed.{each_closed_holds}
 use Rattle.gb_smt_laws.proofs.Start.{start_valid, start_opens, start_keeps}
+
+-- each of the forms is true
+abbrev pub AreTrueForms : Declarations → List Term → Interpretation → State → Type 0
+AreTrueForms ds fs k s = AllByRecursion (λ f. Truth ds f k s) fs
 
 chosen : (b : Bool) (A B : Type 0) → b ≡ true → A → Choice b A B
 chosen true A B e a = a
@@ -109,7 +119,7 @@ module _ (ds : Declarations) (k : Interpretation) where
           split_modules z m c (hs ++ assumed (term_changed y c.changes)) a T W s q w.1.0 (context_with_premise g j c.logical c.memories c.changes T W s q hs x y w.0 (e i fair))
       modules_of_premise (more_of-Term y (more_of-Term z (more_of-Term o ts))) m t c hs a T W s q w x f = absurd (f a)
 
-  module _ (q : Sequent) (ready : SmtIsReady g q) (vs : List Value) (typed : AreValues (types_of ds k) (map (λ x. x.ty) q.logical) vs) (ms : List Memory) where
+  module _ (es : scope.Declarations) (known : List Term) (q : Sequent) (ready : SmtIsReady es g known q) (vs : List Value) (typed : AreValues (types_of ds k) (map (λ x. x.ty) q.logical) vs) (ms : List Memory) where
     abbrev T : Reading
     T = reading_of q ready.variables
 
@@ -121,46 +131,72 @@ module _ (ds : Declarations) (k : Interpretation) where
       speaks = speaking g i
 
       module _ (V : Reading) (z : State) (l : Later (length q.logical) (length q.memories) T s V z) where
+        form_true : (f : Term) → Fits g T f → Truth ds f k s → AreAssumed g speaks V z (assumed f)
+        form_true f w t = by_front (has_module f) refl
+          where
+            by_front : (b : Bool) → has_module f ≡ b → AreAssumed g speaks V z (assumed f)
+            by_front false m = form_assumed g speaks T V s z (start_keeps g q ready.variables vs ms V z l) f w ((without_modules ds f k s m).0 t i fair)
+            by_front true m = whole_assumed g speaks V z f (module_whole f m) (λ b. absurd (not_simple f m b))
+
         hyp_assumed : (h : Hyp) → (speaks_of_programs h.form ≡ false → Fits g T h.form) → Truth ds h.form k s → AreAssumed g speaks V z (assumed_of h)
         hyp_assumed h w t = step (speaks_of_programs h.form) refl
           where
-            used : Fits g T h.form → (b : Bool) → has_module h.form ≡ b → AreAssumed g speaks V z (assumed h.form)
-            used f false m = form_assumed g speaks T V s z (start_keeps g q ready.variables vs ms V z l) h.form f ((without_modules ds h.form k s m).0 t i fair)
-            used f true m = whole_assumed g speaks V z h.form (module_whole h.form m) (λ b. absurd (not_simple h.form m b))
-
             step : (b : Bool) → speaks_of_programs h.form ≡ b → AreAssumed g speaks V z (if b then [] else assumed h.form)
             step true e = tt
-            step false e = used (w e) (has_module h.form) refl
+            step false e = form_true h.form (w e) t
 
         hyps_assumed : (hs : List Hyp) → UsedFit g T hs → AreTrue ds hs k s → AreAssumed g speaks V z (flat_map assumed_of hs)
         hyps_assumed [] w t = tt
         hyps_assumed (h ∷ hs) w t = each_together (IsAssumed g speaks V z) (assumed_of h) (flat_map assumed_of hs) (hyp_assumed h w.0 t.0) (hyps_assumed hs w.1 t.1)
 
-      start_context : AreTrue ds q.hyps k s → IsContext g speaks (length q.logical) (length q.memories) [] T T s s (flat_map assumed_of q.hyps)
-      start_context t = record {
+        known_assumed : (fs : List Term) → AllByRecursion (Fits g T) fs → AreTrueForms ds fs k s → AreAssumed g speaks V z (flat_map assumed fs)
+        known_assumed [] w t = tt
+        known_assumed (f ∷ fs) w t = each_together (IsAssumed g speaks V z) (assumed f) (flat_map assumed fs) (form_true f w.0 t.0) (known_assumed fs w.1 t.1)
+
+      start_context : AreTrue ds q.hyps k s → AreTrueForms ds known k s → IsContext g speaks (length q.logical) (length q.memories) [] T T s s (hyps_with known q)
+      start_context t u = record {
         opens = start_opens g q ready.variables vs ms;
         outside = refl;
         valid = start_valid g q ready.variables vs ms ready.held (subst (λ ts. AreValues ts (map (λ x. x.ty) q.logical) vs) (sym (setting-types ds k)) typed);
-        assumed = λ V z l. hyps_assumed V z l q.hyps ready.hyps t;
+        assumed = λ V z l. each_together (IsAssumed g speaks V z) (flat_map assumed_of q.hyps) (flat_map assumed known) (hyps_assumed V z l q.hyps ready.hyps t) (known_assumed V z l known ready.known_forms u);
       }
 
-    pub conclusion_true : ((j : Speaks) → AllByRecursion (LeafHolds g j) (leaves_of q)) → AreTrue ds q.hyps k s → Truth ds q.conclusion k s
-    conclusion_true held t = step (has_module q.conclusion) refl
+    pub conclusion_true : ((j : Speaks) → AllByRecursion (LeafHolds g j) (leaves_of known q)) → AreTrue ds q.hyps k s → AreTrueForms ds known k s → Truth ds q.conclusion k s
+    conclusion_true held t u = step (has_module q.conclusion) refl
       where
         step : (b : Bool) → has_module q.conclusion ≡ b → Truth ds q.conclusion k s
         step false m =
             (without_modules ds q.conclusion k s m).1
-            (λ i fair. split_true g i fair q.conclusion (context_of q) (flat_map assumed_of q.hyps) (held (speaking g i)) T T s s ready.conclusion (start_context i fair t))
+            (λ i fair. split_true g i fair q.conclusion (context_of q) (hyps_with known q) (held (speaking g i)) T T s s ready.conclusion (start_context i fair t u))
         step true m =
             let i : Judge = trying g in
-            split_modules i (is_fair g) q.conclusion m (context_of q) (flat_map assumed_of q.hyps) (held (speaking g i)) T T s s ready.conclusion (start_context i (is_fair g) t)
+            split_modules i (is_fair g) q.conclusion m (context_of q) (hyps_with known q) (held (speaking g i)) T T s s ready.conclusion (start_context i (is_fair g) t u)
 
 -- what is known for all programs gives something else for them
 pub each_program : (ds : Declarations) (bs : List Bind) (i : Interpretation) (P Q : Interpretation → Type 0) → ((k : Interpretation) → P k → Q k) → EachProgram ds bs i P → EachProgram ds bs i Q
 each_program ds [] i P Q f x = f i x
 each_program ds (b ∷ bs) i P Q f x = λ a w. each_program ds bs (with_program i b a) P Q f (x a w)
 
-pub smt_sound : (ds : Declarations) (q : Sequent) → InEachSetting ds q (λ g. SmtIsReady g q) → All IsClosed (leaves_of q) → Holds ds q
-smt_sound ds q ready closed w size table model =
-    each_program ds (declared_modules ds) (interpretation w size table) _ _
-    (λ i x. each_program ds q.modules i _ _ (λ k r vs typed ms t. conclusion_true ds k q r vs typed ms (λ j. each_closed_holds (setting ds k) j (leaves_of q) closed) t) x) (ready w size table model)
+-- what is said of forms under the hypotheses of a sequent
+abbrev pub AreKnown : Declarations → Sequent → List Term → Interpretation → Type 0
+AreKnown ds q fs k =
+    (vs : List Value) → AreValues (types_of ds k) (map (λ x. x.ty) q.logical) vs → (ms : List Memory) → AreTrue ds q.hyps k (context vs ms) → AreTrueForms ds fs k (context vs ms)
+
+abbrev pub IsConcluded : Declarations → Sequent → Term → Interpretation → Type 0
+IsConcluded ds q f k =
+    (vs : List Value) → AreValues (types_of ds k) (map (λ x. x.ty) q.logical) vs → (ms : List Memory) → AreTrue ds q.hyps k (context vs ms) → Truth ds f k (context vs ms)
+
+pub all_known : (ds : Declarations) (q : Sequent) (fs : List Term) → AllByRecursion (λ f. Holds ds (record q { conclusion = f })) fs → InEachSequent ds q (AreKnown ds q fs)
+all_known ds q [] h = λ w size table m. each ds (declared_modules ds) (interpretation w size table) _ (λ i. each ds q.modules i (AreKnown ds q []) (λ k vs v ms t. tt))
+all_known ds q (f ∷ fs) h =
+    joined ds q (IsConcluded ds q f) (AreKnown ds q fs) (AreKnown ds q (f ∷ fs)) (λ k x y vs v ms t. (x vs v ms t, y vs v ms t)) h.0 (all_known ds q fs h.1)
+
+module _ (es : scope.Declarations) (ds : Declarations) (known : List Term) (q : Sequent) where
+  pub operators_meant : (k : Interpretation) → SmtIsReady es (setting ds k) known q → AreOperators (setting ds k) (operators_of es)
+  operators_meant k r = subst (AreOperators (setting ds k)) (sym (of_is es)) (operators_sound (setting ds k) es r.operators (length es))
+
+  pub smt_sound : InEachSetting ds q (λ g. SmtIsReady es g known q) → All (ClosesByClaim es) (leaves_of known q) → AllByRecursion (λ f. Holds ds (record q { conclusion = f })) known → Holds ds q
+  smt_sound ready closed held =
+      joined ds q (λ k. SmtIsReady es (setting ds k) known q) (AreKnown ds q known) (IsConcluded ds q q.conclusion)
+      (λ k r x vs typed ms t. conclusion_true ds k es known q r vs typed ms (λ j. each_closed_holds es (setting ds k) (operators_meant k r) j (leaves_of known q) closed) t (x vs typed ms t))
+      ready (all_known ds q known held)

@@ -1,33 +1,38 @@
 -- Typed goals in typed scopes meet what `smt` asks.
 use Rattle.std.proofs.Common.{◌≡◌, ℕ, zero, suc, ◌<◌, Bool, if◌then◌else◌, List, [], ◌∷◌, map, length, get_or, Some, None, refl, ap, ◌∙◌, subst}
-use Rattle.std.specs.List.{All}
+use Rattle.std.specs.List.{All, AllByRecursion}
 use Rattle.std.proofs.lemmas.Bool.{lt-ltb}
 use Rattle.gb_core.specs.declared.ty.Ty.{Ty}
 use Rattle.gb_core.specs.declared.var.Var.{Var}
 use Rattle.gb_terms.specs.declared.decl.TypedName.{TypedName}
 use Rattle.gb_terms.specs.declared.op.Side.{Side}
 use Rattle.gb_terms.specs.declared.op.Side.TheVariants as side
+use Rattle.gb_terms.specs.declared.term.Term.{Term}
 use Rattle.gb_goal.specs.declared.sequent.Hyp.{Hyp}
 use Rattle.gb_goal.specs.declared.sequent.Sequent.{Sequent}
 use Rattle.gb_meaning.specs.Setting.{Setting}
-use Rattle.gb_holds.specs.Declared.{Declarations}
+use Rattle.gb_goal.specs.Scope as scope
+use Rattle.gb_holds.specs.Declared.{Declarations, declared}
+use Rattle.gb_eval.specs.Meant.{AreBodies}
+use Rattle.gb_smt_laws.proofs.Bodies.{scope_bodies}
 use Rattle.gb_holds.specs.Holds.{declared_modules, interpretation, Holds, InEachSetting}
 use Rattle.gb_typed.specs.Finite.{IsFinite, IsInhabited}
 use Rattle.gb_typed.specs.Operators.{item}
 use Rattle.gb_typing.specs.Context.{Frame, Context, frame_of}
-use Rattle.gb_typing.specs.Typing.{IsIn}
+use Rattle.gb_typing.specs.Typing.{IsIn, IsForm}
 use Rattle.gb_typing.specs.Scopes.{context_of, IsTypedScope}
 use Rattle.gb_typing.specs.Sequents.{AreFormulas, of_sequent, IsTypedSequent}
 use Rattle.gb_typing.proofs.Models.{each_setting}
-use Rattle.gb_rules.proofs.Lifted.{sequent_outermost}
+use Rattle.gb_typing.proofs.Lifted.{sequent_outermost}
 use Rattle.gb_smt.specs.Leaves.{leaves_of}
-use Rattle.gb_smt.specs.Apply.{IsClosed}
+use Rattle.gb_smt.specs.Apply.{ClosesByClaim}
 use Rattle.gb_smt_laws.specs.Reading.{no_variables, Reading}
 use Rattle.gb_smt_laws.specs.Ready.{reading_of, UsedFit, SmtIsReady}
+use Rattle.gb_smt_laws.specs.Fits.{Fits}
 use Rattle.gb_smt_laws.proofs.Equations.{none_some}
 use Rattle.gb_smt_laws.proofs.Start.{place_below}
 use Rattle.gb_smt_laws.proofs.Rule.{each_program, smt_sound}
-use Rattle.gb_smt_laws.proofs.Fitting.{variables_in, in_type, held, in_frame, Agrees, formula_fits, conclusion_fits}
+use Rattle.gb_smt_laws.proofs.Fitting.{variables_in, in_type, held, in_frame, Agrees, fits, formula_fits, conclusion_fits}
 
 -- a logical variable is read at its type
 logical_read : (xs : List TypedName) (i : ℕ) (u : Ty) → item (map (λ x. x.ty) xs) i ≡ Some u → get_or (map (λ x. Some x.ty) xs) i None ≡ Some u
@@ -70,21 +75,28 @@ module _ (ds : Declarations) (g : Setting) (inhabited : IsInhabited g.types) (q 
   hypotheses_fit [] k = tt
   hypotheses_fit (h ∷ hs) k = (λ e. formula_fits g inhabited c T agrees h.form k.0, hypotheses_fit hs k.1)
 
-  goal_ready : SmtIsReady g q
-  goal_ready = record {
+  forms_fit : (fs : List Term) → AllByRecursion (IsForm c) fs → AllByRecursion (Fits g T) fs
+  forms_fit [] w = tt
+  forms_fit (f ∷ fs) w = (fits g inhabited c T agrees f w.0.typed, forms_fit fs w.1)
+
+  pub goal_ready : (es : scope.Declarations) → AreBodies g es → (known : List Term) → AllByRecursion (IsForm c) known → SmtIsReady es g known q
+  goal_ready es bodies known w = record {
+    operators = bodies;
     variables = λ i. variables_in g c (frame_of c (side.Memory i));
     held = λ i. held g inhabited c (frame_of c (side.Memory i));
     hyps = hypotheses_fit q.hyps t.hyps;
+    known_forms = forms_fit known w;
     conclusion = conclusion_fits g inhabited c T agrees q.conclusion t.conclusion;
   }
 
-module _ (ds : Declarations) (scope : IsTypedScope ds) (q : Sequent) (t : IsTypedSequent (context_of ds) q) where
+module _ (es : scope.Declarations) (typed : IsTypedScope (declared es)) (q : Sequent) (t : IsTypedSequent (context_of (declared es)) q) (known : List Term)
+    (forms : AllByRecursion (IsForm (of_sequent (context_of (declared es)) q t.frames)) known) where
   -- A typed goal in a typed scope meets what `smt` asks, in each setting.
-  pub smt_is_ready : InEachSetting ds q (λ g. SmtIsReady g q)
+  pub smt_is_ready : InEachSetting (declared es) q (λ g. SmtIsReady es g known q)
   smt_is_ready w size table model =
-      each_program ds (declared_modules ds) (interpretation w size table) _ _
-      (λ i x. each_program ds q.modules i _ _ (λ k fit. goal_ready ds _ fit.types.inhabited q t) x) (each_setting ds scope q t.modules t.frames w size table model)
+      each_program (declared es) (declared_modules (declared es)) (interpretation w size table) _ _
+      (λ i x. each_program (declared es) q.modules i _ _ (λ k fit. goal_ready (declared es) _ fit.types.inhabited q t es (scope_bodies es k typed) known forms) x) (each_setting (declared es) typed q t.modules t.frames w size table model)
 
-  -- It holds where its leaves are closed.
-  pub closed_holds : All IsClosed (leaves_of q) → Holds ds q
-  closed_holds closed = smt_sound ds q smt_is_ready closed
+  -- It holds where a claim closes each of its leaves, and the forms that are known besides follow.
+  pub closed_holds : All (ClosesByClaim es) (leaves_of known q) → AllByRecursion (λ f. Holds (declared es) (record q { conclusion = f })) known → Holds (declared es) q
+  closed_holds closed held = smt_sound es (declared es) known q smt_is_ready closed held

@@ -3,4 +3,3 @@ pub mod Reading
 pub mod Fits
 pub mod Closing
 pub mod Ready
-pub mod Step

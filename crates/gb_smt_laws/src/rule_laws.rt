@@ -3,7 +3,9 @@
 ghost use Rattle.std.specs.Prelude.{List, map};
 ghost use Rattle.std.specs.List.{All, AllByRecursion};
 ghost use Rattle.gb_core.specs.declared.value.Value.{Value};
+ghost use Rattle.gb_terms.specs.declared.term.Term.{Term};
 ghost use Rattle.gb_goal.specs.declared.sequent.Sequent.{Sequent};
+ghost use Rattle.gb_goal.specs.Scope as scope;
 ghost use Rattle.gb_meaning.specs.Memory.{Memory};
 ghost use Rattle.gb_meaning.specs.Terms.{Speaks};
 ghost use Rattle.gb_holds.specs.Declared.{Declarations};
@@ -11,22 +13,24 @@ ghost use Rattle.gb_holds.specs.Settings.{Interpretation, types_of, setting};
 ghost use Rattle.gb_holds.specs.Truth.{Truth};
 ghost use Rattle.gb_holds.specs.Holds.{AreValues, AreTrue, context, Holds, InEachSetting};
 ghost use Rattle.gb_smt.specs.Leaves.{leaves_of};
-ghost use Rattle.gb_smt.specs.Apply.{IsClosed};
+ghost use Rattle.gb_smt.specs.Apply.{ClosesByClaim};
 ghost use Rattle.gb_smt_laws.specs.Closing.{LeafHolds};
 ghost use Rattle.gb_smt_laws.specs.Ready.{SmtIsReady};
 
-/// Where each leaf of a goal holds, the goal is true: in each state of its context in which its hypotheses are true.
+/// Where each leaf of a goal holds, the goal is true: in each state of its context in which its hypotheses are true, and forms that are
+/// known besides.
 /// Quantifiers in front of the conclusion give the context a variable or a memory more, premises are hypotheses, and both
 /// sides of a conjunction are to be shown; hypotheses that speak of programs aren't needed.
 pub fn splitting()
-    ensures { (ds : Declarations) (k : Interpretation) (q : Sequent) → SmtIsReady (setting ds k) q →
-        ((j : Speaks) → AllByRecursion (LeafHolds (setting ds k) j) (leaves_of q)) →
+    ensures { (ds : Declarations) (k : Interpretation) (es : scope.Declarations) (known : List Term) (q : Sequent) → SmtIsReady es (setting ds k) known q →
+        ((j : Speaks) → AllByRecursion (LeafHolds (setting ds k) j) (leaves_of known q)) →
         (vs : List Value) → AreValues (types_of ds k) (map (λ x. x.ty) q.logical) vs → (ms : List Memory) →
-        AreTrue ds q.hyps k (context vs ms) → Truth ds q.conclusion k (context vs ms) }
+        AreTrue ds q.hyps k (context vs ms) → AllByRecursion (λ f. Truth ds f k (context vs ms)) known → Truth ds q.conclusion k (context vs ms) }
 {}
 
-/// `smt`: a goal whose leaves are all closed holds, where its forms read each variable at one type, of which each memory
-/// gives it a value.
+/// `smt`: a goal of which a claim closes each leaf holds, where operators mean their bodies, the forms that are known besides follow from its
+/// hypotheses, and its forms and these read each variable at one type, of which each memory gives it a value.
 pub fn smt()
-    ensures { (ds : Declarations) (q : Sequent) → InEachSetting ds q (λ g. SmtIsReady g q) → All IsClosed (leaves_of q) → Holds ds q }
+    ensures { (es : scope.Declarations) (ds : Declarations) (known : List Term) (q : Sequent) → InEachSetting ds q (λ g. SmtIsReady es g known q) →
+        All (ClosesByClaim es) (leaves_of known q) → AllByRecursion (λ f. Holds ds (record q { conclusion = f })) known → Holds ds q }
 {}

@@ -1,34 +1,46 @@
 //! `smt` is sound for typed goals.
 
-ghost use Rattle.std.specs.Prelude.{List};
+ghost use Rattle.std.specs.Prelude.{◌≡◌, List, Some};
 ghost use Rattle.std.specs.List.{All, AllByRecursion};
-ghost use Rattle.gb_core.specs.declared.place.Place.{Place};
-ghost use Rattle.gb_goal.specs.Answers.Answer.{given};
+ghost use Rattle.gb_terms.specs.declared.term.Term.{Term};
 ghost use Rattle.gb_goal.specs.declared.sequent.Sequent.{Sequent};
-ghost use Rattle.gb_holds.specs.Declared.{Declarations};
+ghost use Rattle.gb_goal.specs.Scope.{Declarations};
+ghost use Rattle.gb_meaning.specs.Names.{Name};
+ghost use Rattle.gb_eval.specs.Script.{body_named};
+ghost use Rattle.gb_eval.specs.Known.{is_known, known_of};
+ghost use Rattle.gb_eval.specs.Eval.{function_of, operators_of};
+ghost use Rattle.gb_smt.specs.Width.{bound_of, bound_types};
+ghost use Rattle.gb_holds.specs.Declared.{declared};
 ghost use Rattle.gb_holds.specs.Holds.{Holds, InEachSetting};
-ghost use Rattle.gb_typing.specs.Sequents.{IsTypedSequent};
+ghost use Rattle.gb_typing.specs.Sequents.{of_sequent, IsTypedSequent};
+ghost use Rattle.gb_typing.specs.Typing.{IsForm};
 ghost use Rattle.gb_typing.specs.Scopes.{context_of, IsTypedScope};
 ghost use Rattle.gb_smt.specs.Leaves.{leaves_of};
-ghost use Rattle.gb_smt.specs.Apply.{IsClosed};
+ghost use Rattle.gb_smt.specs.Apply.{ClosesByClaim};
 ghost use Rattle.gb_smt_laws.specs.Ready.{SmtIsReady};
-ghost use Rattle.gb_smt_laws.specs.Step.{IsSmtAnswer};
 
-/// A typed goal in a typed scope meets what `smt` asks, in each setting: globals, `glob A`, locals of named and of bound memories
-/// are read at the types that the context gives them.
+/// A typed goal in a typed scope meets what `smt` asks, in each setting: operators mean their bodies, and globals, `glob A`, locals of
+/// named and of bound memories are read at the types that the context gives them.
 pub fn smt_readiness()
-    ensures { (ds : Declarations) → IsTypedScope ds → (q : Sequent) → IsTypedSequent (context_of ds) q → InEachSetting ds q (λ g. SmtIsReady g q) }
+    ensures { (ds : Declarations) → IsTypedScope (declared ds) → (q : Sequent) (t : IsTypedSequent (context_of (declared ds)) q) → (known : List Term) →
+        AllByRecursion (IsForm (of_sequent (context_of (declared ds)) q t.frames)) known → InEachSetting (declared ds) q (λ g. SmtIsReady ds g known q) }
 {}
 
-/// In a typed scope a typed goal whose leaves are all closed holds.
-pub fn sound_smt()
-    ensures { (ds : Declarations) → IsTypedScope ds → (q : Sequent) → IsTypedSequent (context_of ds) q → All IsClosed (leaves_of q) → Holds ds q }
+/// In a typed scope a typed goal of which a claim closes each leaf holds, where the typed forms that are known besides follow from its
+/// hypotheses.
+pub fn sound_claims()
+    ensures { (ds : Declarations) → IsTypedScope (declared ds) → (q : Sequent) (t : IsTypedSequent (context_of (declared ds)) q) → (known : List Term) →
+        AllByRecursion (IsForm (of_sequent (context_of (declared ds)) q t.frames)) known → All (ClosesByClaim ds) (leaves_of known q) →
+        AllByRecursion (λ f. Holds (declared ds) (record q { conclusion = f })) known → Holds (declared ds) q }
 {}
 
-/// `smt` as a step at the sequent of a typed scope: the sequents that it gives are typed, and if each of them holds, the sequent
-/// holds. It gives none.
-pub fn smt_is_sound()
-    ensures { (ds : Declarations) → IsTypedScope ds → (q : Sequent) → IsTypedSequent (context_of ds) q →
-        (place : Place) (qs : List Sequent) → IsSmtAnswer place q (given qs) →
-        AllByRecursion (IsTypedSequent (context_of ds)) qs × (AllByRecursion (Holds ds) qs → Holds ds q) }
+/// In a typed scope nothing is lost where `smt` opens operators as often as there are names: an operator with a body comes to what
+/// its body does among all operators, evaluation knows it where it knows its body, and its bound variables are those of its body.
+pub fn operators_are_opened()
+    ensures comes { (ds : Declarations) → IsTypedScope (declared ds) → (n : Name) (t : Term) → body_named ds n ≡ Some t →
+        operators_of ds n ≡ function_of (operators_of ds) t }
+    ensures known { (ds : Declarations) → IsTypedScope (declared ds) → (n : Name) (t : Term) → body_named ds n ≡ Some t →
+        known_of ds n ≡ is_known (known_of ds) t }
+    ensures bound { (ds : Declarations) → IsTypedScope (declared ds) → (n : Name) (t : Term) → body_named ds n ≡ Some t →
+        bound_of ds n ≡ bound_types (bound_of ds) t }
 {}

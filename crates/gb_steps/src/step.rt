@@ -19,9 +19,12 @@ pub enum Rule {
     OnBodies(BodyRule),
     Relational(RelationalRule),
     Chance(ChanceRule),
+    Call(Contract),
     Ambient(AmbientRule),
     Use(UseRule),
-    Smt,
+    Rewrite(RewriteRule),
+    /// The forms are known at the goal, besides its hypotheses.
+    Smt(Terms),
     Linear(Multiples),
 }
 
@@ -93,6 +96,14 @@ pub enum ChanceRule {
     Hoare,
 }
 
+/// What is said of the procedure that the programs call last on which a step acts.
+#[derive(Drop)]
+pub struct Contract {
+    pub acts: Acts,
+    pub pre: Form,
+    pub post: Form,
+}
+
 /// A rule on conclusions of every kind and the hypotheses around them.
 #[derive(Drop)]
 pub enum AmbientRule {
@@ -133,4 +144,15 @@ pub enum UseRule {
     Apply(Form),
     /// The form is a hypothesis of this name.
     Have(Name, Form),
+}
+
+/// A rule that puts equals for equals.
+#[derive(Drop)]
+pub enum RewriteRule {
+    /// The right side of an equation or an equivalence that is known takes the place of its left side.
+    Forward(Form),
+    /// The left side takes the place of the right side.
+    Back(Form),
+    /// An equation among the hypotheses, by its place in the goal, is used up for a variable.
+    Subst(usize),
 }

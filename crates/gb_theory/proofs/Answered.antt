@@ -6,8 +6,8 @@ use Rattle.gb_core.specs.declared.refusal.Refused.{Refused}
 use Rattle.gb_core.specs.declared.refusal.Refused.TheVariants.{NoMemory, ReadFault, Script}
 use Rattle.gb_goal.specs.Answers.{Answer, ◌>>=◌, Fails, Gives}
 use Rattle.gb_goal.specs.Answers.Answer.{given}
-use Rattle.gb_verdict.specs.Limits.{limited}
-use Rattle.gb_verdict.specs.Commands.{within}
+use Rattle.gb_theory.specs.Limits.{limited}
+use Rattle.gb_theory.specs.Commands.{within}
 use Rattle.gb_theory.specs.Sessions.{IsDue, Meets}
 
 -- what follows from what is given

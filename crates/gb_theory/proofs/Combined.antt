@@ -16,8 +16,8 @@ use Rattle.gb_script.specs.Tree.{node, head_of, text_of, parts_of, place_of}
 use Rattle.gb_limits.specs.Numbers.{number_of}
 use Rattle.gb_names.proofs.Answers.{fails_as, leads_on, passes}
 use Rattle.gb_names.proofs.Nodes.{said_is}
-use Rattle.gb_verdict.specs.Patterns.{all_new, is_pattern}
-use Rattle.gb_verdict.specs.Tactics.{Stepping, done_at, gathered_behind, in_turn, introduced, on_each, patterned, repeated, ruled, spread, stepped_by, times, Working, worked, works}
+use Rattle.gb_theory.specs.Patterns.{all_new, is_pattern}
+use Rattle.gb_theory.specs.Combinators.{Stepping, done_at, gathered_behind, in_turn, introduced, on_each, patterned, repeated, ruled, spread, stepped_by, times, Working, worked, works}
 use Rattle.gb_theory.specs.Tactics.{with_works, each_works, fits, inner, times_allowed}
 
 placed_behind : (place : Place) (a : Answer (List Sequent)) (k : List Sequent → Answer (List Sequent)) →

@@ -11,9 +11,9 @@ use Rattle.gb_script.specs.declared.tree.Node.{Node}
 use Rattle.gb_goal.specs.Answers.{Answer, ◌>>=◌, Fails}
 use Rattle.gb_goal.specs.Answers.Answer.{given}
 use Rattle.gb_elab_mod.specs.Lemmas.{statement_given}
-use Rattle.gb_verdict.specs.Limits.{declaration_limit, goal_limit, each_limit, limited}
-use Rattle.gb_verdict.specs.Session.{Session, with_lemma}
-use Rattle.gb_verdict.specs.Commands.{within, outside, opens}
+use Rattle.gb_theory.specs.Limits.{declaration_limit, goal_limit, each_limit, limited}
+use Rattle.gb_theory.specs.Built.{Session, with_lemma}
+use Rattle.gb_theory.specs.Commands.{within, outside, opens}
 use Rattle.gb_theory.proofs.Answered.{then_given, within_given}
 
 -- a statement is typed, and its proof is opened

@@ -6,9 +6,9 @@ use Rattle.gb_script.specs.declared.tree.Node.{Node}
 use Rattle.gb_core.specs.declared.place.Place.{Place}
 use Rattle.gb_goal.specs.Answers.{Answer}
 use Rattle.gb_goal.specs.Answers.Answer.{given}
-use Rattle.gb_verdict.specs.Session.{Session, with_goals}
-use Rattle.gb_verdict.specs.Session.{OpenProof as Opened}
-use Rattle.gb_verdict.specs.Commands.{InProof, WorksOn}
+use Rattle.gb_theory.specs.Built.{Session, with_goals}
+use Rattle.gb_theory.specs.Built.{OpenProof as Opened}
+use Rattle.gb_theory.specs.Commands.{InProof, WorksOn}
 use Rattle.gb_theory.specs.declared.state.OpenProof.{OpenProof}
 use Rattle.gb_theory.specs.declared.state.State.{State}
 use Rattle.gb_theory.specs.Sessions.{session_of, open_of, IsDue}

@@ -11,7 +11,7 @@ use Rattle.gb_script.specs.declared.tree.Node.{Node}
 use Rattle.gb_script.specs.Tree.{head_of, text_of, parts_of, place_of}
 use Rattle.gb_names.proofs.Answers.{fails_as, leads_on, passes}
 use Rattle.gb_names.proofs.Nodes.{said_is}
-use Rattle.gb_verdict.specs.Patterns.{added, added_by, all_added, all_new}
+use Rattle.gb_theory.specs.Patterns.{added, added_by, all_added, all_new}
 use Rattle.gb_theory.specs.Tactics.{each_adds, with_added}
 
 module _ (q : Sequent) where

@@ -5,7 +5,7 @@ use Rattle.std.specs.Option.{option_or}
 use Rattle.gb_core.specs.declared.place.Place.{Place}
 use Rattle.gb_core.specs.declared.refusal.Refused.{Refused}
 use Rattle.gb_goal.specs.declared.sequent.Sequent.{Sequent}
-use Rattle.gb_verdict.specs.Limits.{goal_limit, each_limit, limited}
+use Rattle.gb_theory.specs.Limits.{goal_limit, each_limit, limited}
 
 pub each_limit-at : (goals : List Sequent) (i : ℕ) (goal : Sequent) → i < length goals → goal ≡ get_or goals i goal → each_limit (drop i goals) ≡ option_or (goal_limit goal) (each_limit (drop (suc i) goals))
 each_limit-at [] i goal h e = absurd (omega (arith, h))

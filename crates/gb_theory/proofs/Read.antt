@@ -11,7 +11,7 @@ use Rattle.gb_script.specs.declared.tree.Node.{Node}
 use Rattle.gb_language.specs.declared.rows.TheConstants.{COMMAND}
 use Rattle.gb_limits.specs.Lexeme.{text_at}
 use Rattle.gb_read_script.specs.Reading.{SpellsCommand, IsRefusal, IsAllowed}
-use Rattle.gb_verdict.specs.Verdict.{IsReadAs}
+use Rattle.gb_theory.specs.Outcome.{IsReadAs}
 use Rattle.gb_theory.specs.Sessions.{IsDue, Meets}
 
 of_memory : (text : List ℕ) (at : Place) (e : Refused) → e ≡ NoMemory → IsDue (IsReadAs text at) e

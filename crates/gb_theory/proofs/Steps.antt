@@ -5,6 +5,7 @@ use Rattle.std.specs.Prelude.{Result, Ok, Err}
 use Rattle.gb_core.specs.declared.place.Place.{Place}
 use Rattle.gb_core.specs.declared.refusal.Refused.{Refused}
 use Rattle.gb_core.specs.declared.refusal.Refused.TheVariants.{NoMemory, ReadFault, Script}
+use Rattle.gb_terms.specs.declared.term.Term.{Term}
 use Rattle.gb_goal.specs.Scope.{Declarations}
 use Rattle.gb_goal.specs.declared.sequent.Sequent.{Sequent}
 use Rattle.gb_steps.specs.declared.step.Rule.{Rule}
@@ -15,6 +16,7 @@ use Rattle.gb_script.specs.declared.tree.Node.{Node}
 use Rattle.gb_goal.specs.Answers.{Answer, Answers, Gives, Fails, ◌>>=◌}
 use Rattle.gb_goal.specs.Rows.{stepped}
 use Rattle.gb_steps.specs.declared.step.AmbientRule.{AmbientRule}
+use Rattle.gb_steps.specs.declared.step.RewriteRule.{RewriteRule}
 use Rattle.gb_steps.specs.declared.step.UseRule.{UseRule}
 use Rattle.gb_steps.specs.declared.step.BodyRule.{BodyRule}
 use Rattle.gb_steps.specs.declared.step.RelationalRule.{RelationalRule}
@@ -27,24 +29,25 @@ use Rattle.gb_smt.specs.Apply.{IsResult}
 use Rattle.gb_amb.specs.Steps.{IsAnswer, Returns}
 use Rattle.gb_linear.specs.Closing.{linear_answer}
 use Rattle.gb_use.specs.Uses as uses
-use Rattle.gb_verdict.specs.Session.{Session, OpenProof, with_goals}
-use Rattle.gb_verdict.specs.Tactics.{Stepping, works}
-use Rattle.gb_verdict.specs.Commands.{After, allowed, row_of, Applied, AreRules, RuleAnswers, continued, WorksOn}
+use Rattle.gb_rewrite.specs.Rewriting.{rewrite_answer}
+use Rattle.gb_theory.specs.Built.{Session, OpenProof, with_goals}
+use Rattle.gb_theory.specs.Combinators.{Stepping, works}
+use Rattle.gb_theory.specs.Commands.{After, allowed, row_of, Applied, AreRules, RuleAnswers, continued, WorksOn}
 use Rattle.gb_theory.specs.Sessions.{Meets, IsDue}
 use Rattle.gb_theory.proofs.Answered.{gives_meets}
 
-of_smt : (ds : Declarations) (place : Place) (q : Sequent) (result : Result (List Sequent) Refused)
-    → IsResult (leaves_of q) place result → Meets (λ (x : List Sequent). x) (Applied ds rule.Smt place q) result
-of_smt ds place q (Ok qs) h = (None, h.answer, ap given h.none)
-of_smt ds place q (Err NoMemory) h = tt
-of_smt ds place q (Err ReadFault) h = h
-of_smt ds place q (Err (Script why at)) h = (Some why, h.answer, ap (refused why) h.at_step)
+of_smt : (ds : Declarations) (known : List Term) (place : Place) (q : Sequent) (result : Result (List Sequent) Refused)
+    → IsResult ds (leaves_of known q) place result → Meets (λ (x : List Sequent). x) (Applied ds (rule.Smt known) place q) result
+of_smt ds known place q (Ok qs) h = (None, h.answer, ap given h.none)
+of_smt ds known place q (Err NoMemory) h = tt
+of_smt ds known place q (Err ReadFault) h = h
+of_smt ds known place q (Err (Script why at)) h = (Some why, h.answer, ap (refused why) h.at_step)
 
 -- what `smt` gives is what is applied
-pub smt_meets : (ds : Declarations) (r : Rule) (place : Place) (q : Sequent) (result : Result (List Sequent) Refused)
-    → r ≡ rule.Smt → IsResult (leaves_of q) place result → Meets (λ (x : List Sequent). x) (Applied ds r place q) result
-smt_meets ds r place q result is h =
-    subst (λ x. Meets (λ (y : List Sequent). y) (Applied ds x place q) result) (sym is) (of_smt ds place q result h)
+pub smt_meets : (ds : Declarations) (r : Rule) (known : List Term) (place : Place) (q : Sequent) (result : Result (List Sequent) Refused)
+    → r ≡ rule.Smt known → IsResult ds (leaves_of known q) place result → Meets (λ (x : List Sequent). x) (Applied ds r place q) result
+smt_meets ds r known place q result is h =
+    subst (λ x. Meets (λ (y : List Sequent). y) (Applied ds x place q) result) (sym is) (of_smt ds known place q result h)
 
 -- what a step on a conclusion gives is what is applied
 pub ambient_meets : (ds : Declarations) (r : Rule) (b : AmbientRule) (place : Place) (q : Sequent) (result : Result (List Sequent) Refused)
@@ -89,6 +92,13 @@ pub linear_meets : (ds : Declarations) (r : Rule) (ms : List Multiple) (place : 
 linear_meets ds r ms place q result is h =
     subst (λ x. Meets (λ (y : List Sequent). y) (Applied ds x place q) result) (sym is)
     (gives_meets (λ (x : List Sequent). x) (Applied ds (rule.Linear ms) place q) (linear_answer ms place q) result h (λ x e. e))
+
+-- what a rule that puts equals for equals gives is what is applied
+pub rewrite_meets : (ds : Declarations) (r : Rule) (b : RewriteRule) (place : Place) (q : Sequent) (result : Result (List Sequent) Refused)
+    → r ≡ rule.Rewrite b → Answers (rewrite_answer b place q) result → Meets (λ (x : List Sequent). x) (Applied ds r place q) result
+rewrite_meets ds r b place q result is h =
+    subst (λ x. Meets (λ (y : List Sequent). y) (Applied ds x place q) result) (sym is)
+    (gives_meets (λ (x : List Sequent). x) (Applied ds (rule.Rewrite b) place q) (rewrite_answer b place q) result h (λ x e. e))
 
 -- what goes on from an answer that is given
 after_given : {X Y : Type 0} (P : X → Answer Y → Type 0) (a : Answer X) (x : X) (r : Answer Y) → a ≡ given x → P x r → After a P r

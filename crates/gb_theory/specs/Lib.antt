@@ -1,3 +1,9 @@
+pub mod Limits
+pub mod Built
+pub mod Patterns
+pub mod Combinators
+pub mod Commands
+pub mod Outcome
 pub mod Opened
 pub mod Placed
 pub mod Sessions

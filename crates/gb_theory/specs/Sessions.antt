@@ -6,8 +6,8 @@ use Rattle.gb_core.specs.declared.refusal.Refused.TheVariants.{NoMemory, ReadFau
 use Rattle.gb_core.specs.declared.refusal.Why.{Why}
 use Rattle.gb_goal.specs.Answers.{Answer}
 use Rattle.gb_goal.specs.Answers.Answer.{given, refused}
-use Rattle.gb_verdict.specs.Session.{Session}
-use Rattle.gb_verdict.specs.Session as session
+use Rattle.gb_theory.specs.Built.{Session}
+use Rattle.gb_theory.specs.Built as session
 use Rattle.gb_theory.specs.declared.state.OpenProof.{OpenProof}
 use Rattle.gb_theory.specs.declared.state.State.{State}
 

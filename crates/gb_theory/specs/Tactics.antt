@@ -4,8 +4,8 @@ use Rattle.gb_script.specs.declared.tree.Node.{Node}
 use Rattle.gb_script.specs.Tree.{head_of, parts_of, place_of}
 use Rattle.gb_goal.specs.Answers.{◌>>=◌}
 use Rattle.gb_goal.specs.declared.sequent.Sequent.{Sequent}
-use Rattle.gb_verdict.specs.Patterns.{Naming, added}
-use Rattle.gb_verdict.specs.Tactics.{Stepping, Working, fitted, inside, worked, works}
+use Rattle.gb_theory.specs.Patterns.{Naming, added}
+use Rattle.gb_theory.specs.Combinators.{Stepping, Working, fitted, inside, worked, works}
 
 abbrev pub with_works : (Node → Stepping) → List Node → List (Node × Working)
 with_works f ts = map (λ t. (t, works f t)) ts

@@ -2,10 +2,10 @@
 use Rattle.std.specs.Prelude.{◌≡◌, ℕ, List}
 use Rattle.gb_goal.specs.Answers.{Answer}
 use Rattle.gb_goal.specs.Answers.Answer.{given, refused}
-use Rattle.gb_verdict.specs.Session.{Session}
+use Rattle.gb_theory.specs.Built.{Session}
 use Rattle.gb_core.specs.declared.place.Place.{Place}
 use Rattle.gb_script.specs.declared.tree.Node.{Node}
-use Rattle.gb_verdict.specs.Verdict.{IsReadAs, RunsTo, IsOutcome}
+use Rattle.gb_theory.specs.Outcome.{IsReadAs, RunsTo, IsOutcome}
 use Rattle.gb_theory.specs.declared.verdict.Verdict.{Verdict}
 use Rattle.gb_theory.specs.declared.verdict.Verdict.TheVariants.{Accepted, Refused}
 

@@ -6,12 +6,13 @@ ghost use Rattle.gb_goal.specs.Scope.{entry_of};
 ghost use Rattle.gb_script.specs.Tree.{head_of, parts_of, place_of};
 ghost use Rattle.gb_goal.specs.Answers.{Gives};
 ghost use Rattle.gb_elab_mod.specs.Lemmas.{lemma_name};
-ghost use Rattle.gb_verdict.specs.Session.{Session, OpenProof as Opened, with_goals};
-ghost use Rattle.gb_verdict.specs.Commands.{assumes, brings, declares, is_built_in, opens, requires_files, begun, ended, continued, InProof, Proves, WorksOn, ComesToOf, ComesTo};
+ghost use Rattle.gb_theory.specs.Built.{Session, OpenProof as Opened, with_goals};
+ghost use Rattle.gb_theory.specs.Commands.{assumes, brings, declares, is_built_in, opens, requires_files, begun, ended, continued, InProof, Proves, WorksOn, ComesToOf, ComesTo};
 ghost use Rattle.gb_theory.specs.Placed.{placed};
 ghost use Rattle.gb_theory.specs.Sessions.{session_of, Meets, Leads, IsKept};
 
 use crate::limits::{check_all, check_declarations, check_goal};
+use crate::outcome_laws::rules_have_answers;
 use crate::state::{OpenProof, State};
 use crate::tactics::work_on_one;
 use gb_core::name::{Name, Names};
@@ -22,7 +23,6 @@ use gb_goal::sequent::{Sequent, Sequents};
 use gb_script::head::Head;
 use gb_script::tree::Node;
 use gb_steps::goals::Goals;
-use gb_verdict::laws::rules_have_answers;
 use std::alloc::{AllocError, Global};
 
 fn refused(why: Why, place: Place) -> Refused

@@ -4,7 +4,7 @@ ghost use Rattle.std.specs.Prelude.{◌≡◌, ℕ, List};
 ghost use Rattle.gb_theory.specs.declared.verdict.Verdict.{Verdict};
 ghost use Rattle.gb_theory.specs.Verdicts.{IsVerdict};
 
-use gb_verdict::laws::{each_text_has_an_outcome, one_outcome};
+use crate::outcome_laws::{each_text_has_an_outcome, one_outcome};
 
 /// Exactly one verdict is due on each script.
 pub fn one_verdict()

@@ -1,10 +1,12 @@
-//! The verdict on a script: its commands in their order, up to the first refusal.
+//! What a script comes to, as a definition, and that this is one thing; and its commands: each is read and run, or refused.
 #![tactic(auto)]
 
+pub mod examples;
 pub mod fold;
 pub mod laws;
 mod limits;
 mod names;
+pub mod outcome_laws;
 pub mod state;
 mod tactics;
 pub mod verdict;

@@ -5,7 +5,7 @@ ghost use Rattle.std.specs.List.{list_any};
 ghost use Rattle.gb_terms.specs.Nodes.{saturated};
 ghost use Rattle.gb_goal.specs.Nodes.{sequent_nodes};
 ghost use Rattle.gb_goal.specs.Scope.{declarations_in};
-ghost use Rattle.gb_verdict.specs.Limits.{declaration_limit, is_large, has_large_form, goal_limit, each_limit, all_limit, limited};
+ghost use Rattle.gb_theory.specs.Limits.{declaration_limit, is_large, has_large_form, goal_limit, each_limit, all_limit, limited};
 
 use gb_core::place::Place;
 use gb_core::refusal::{Refused, Why};

@@ -4,7 +4,7 @@ ghost use Rattle.std.specs.Prelude.{◌≡◌, ◌∷◌, [], ◌++◌, map, IfO
 ghost use Rattle.std.specs.List.{list_any};
 ghost use Rattle.std.specs.Prelude.{bytes_eq};
 ghost use Rattle.gb_goal.specs.Answers.{Answers};
-ghost use Rattle.gb_verdict.specs.Patterns.{added, added_by, all_added, all_new};
+ghost use Rattle.gb_theory.specs.Patterns.{added, added_by, all_added, all_new};
 ghost use Rattle.gb_theory.specs.Tactics.{each_adds, with_added};
 
 use gb_core::copy::copy_names;

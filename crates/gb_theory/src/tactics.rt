@@ -7,14 +7,15 @@ ghost use Rattle.gb_goal.specs.declared.sequent.Sequent.{Sequent as Goal};
 ghost use Rattle.gb_limits.specs.Numbers.{number_of};
 ghost use Rattle.gb_script.specs.declared.tree.Node.{Node as Tree};
 ghost use Rattle.gb_script.specs.Tree.{head_of, parts_of, text_of, place_of};
-ghost use Rattle.gb_verdict.specs.Commands.{AreRules, RuleAnswers, Applied, allowed};
-ghost use Rattle.gb_verdict.specs.Patterns.{is_pattern};
-ghost use Rattle.gb_verdict.specs.Tactics.{Stepping, done_at, fitted, inside, introduced, on_each, in_turn, ruled, spread, or_left, times, stepped_by, worked, works};
+ghost use Rattle.gb_theory.specs.Commands.{AreRules, RuleAnswers, Applied, allowed};
+ghost use Rattle.gb_theory.specs.Patterns.{is_pattern};
+ghost use Rattle.gb_theory.specs.Combinators.{Stepping, done_at, fitted, inside, introduced, on_each, in_turn, ruled, spread, or_left, times, stepped_by, worked, works};
 ghost use Rattle.gb_theory.specs.Sessions.{Meets};
 ghost use Rattle.gb_theory.specs.Tactics.{with_works, each_works, fits, times_allowed};
 
 use crate::limits::check_each;
 use crate::names::check_new;
+use crate::outcome_laws::rules_have_answers;
 use gb_bodies::subgoals::{placed, refusal};
 use gb_core::name::Name;
 use gb_core::place::Place;
@@ -26,7 +27,6 @@ use gb_names::refusals::{argument, not_built};
 use gb_script::head::Head;
 use gb_script::tree::Node;
 use gb_steps::step::{Rule, Step};
-use gb_verdict::laws::rules_have_answers;
 use sqlite_items::Items;
 use std::alloc::{AllocError, Global};
 
@@ -38,9 +38,11 @@ fn apply(alloc: Global, step: &Step, goal: &Sequent, scope: &Scope) -> Result<Se
         Rule::OnBodies(_) => gb_bodies::apply::apply(alloc, step, goal, scope),
         Rule::Relational(_) => gb_equiv::apply(alloc, step, goal, scope),
         Rule::Chance(_) => gb_phoare::apply::apply(alloc, step, goal, scope),
+        Rule::Call(_) => gb_call::apply::apply(alloc, step, goal, scope),
         Rule::Ambient(rule) => gb_amb::apply::apply(alloc, rule, step.place, goal),
         Rule::Use(rule) => gb_use::apply::apply(alloc, rule, step.place, goal),
-        Rule::Smt => gb_smt::apply::apply(alloc, step, goal, scope),
+        Rule::Rewrite(rule) => gb_rewrite::goals::apply(alloc, rule, step.place, goal),
+        Rule::Smt(known) => gb_smt::apply::apply(alloc, known.as_slice(), step.place, goal, scope),
         Rule::Linear(multiples) => {
             gb_linear::apply::apply(alloc, multiples.as_slice(), step.place, goal)
         }

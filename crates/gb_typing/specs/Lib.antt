@@ -10,3 +10,10 @@ pub mod Sequents
 pub mod Scopes
 pub mod Chosen
 pub mod Examples
+pub mod Calls
+pub mod Goals
+pub mod Meaning
+pub mod Rules
+pub mod Forms
+pub mod Supports
+pub mod Samplings

@@ -26,8 +26,8 @@ use Rattle.gb_apart.proofs.SameTerms.{same_terms}
 use Rattle.gb_typing.specs.Context.{Context}
 use Rattle.gb_typing.specs.Typing.{IsForm}
 use Rattle.gb_typing.proofs.Made.{parts_typed}
-use Rattle.gb_rules.specs.Forms.{implies_form}
-use Rattle.gb_rules.proofs.Forms.{implies_use}
+use Rattle.gb_typing.specs.Forms.{implies_form}
+use Rattle.gb_typing.proofs.Forms.{implies_use}
 use Rattle.gb_amb.specs.Parts.{concluding}
 use Rattle.gb_amb.specs.Steps.{Returns}
 use Rattle.gb_use.specs.Uses.{implication_at, implication_of, ArePremises, IsByPremises}

@@ -15,27 +15,33 @@ use Rattle.gb_steps.specs.declared.step.UseRule.TheVariants.{Apply, Have}
 use Rattle.gb_meaning.specs.State.{State}
 use Rattle.gb_meaning.specs.Judgments.{Judge, IsFair, IsTrueIn, den}
 use Rattle.gb_holds.specs.Declared.{Declarations}
-use Rattle.gb_holds.specs.Settings.{Interpretation, setting}
+use Rattle.gb_holds.specs.Settings.{Interpretation, setting, types_of}
+use Rattle.gb_core.specs.declared.value.Value.{Value}
+use Rattle.gb_meaning.specs.Memory.{Memory}
+use Rattle.gb_terms.specs.declared.decl.TypedName.{TypedName}
 use Rattle.gb_holds.specs.Truth.{has_module, Truth}
-use Rattle.gb_holds.specs.Holds.{AreTrue}
+use Rattle.gb_holds.specs.Holds.{AreTrue, AreValues, context, declared_modules, interpretation, EachProgram, InEachModel, Holds}
+use Rattle.gb_holds.proofs.SettingTypes.{setting-types}
 use Rattle.gb_holds.proofs.Fronts.{without_modules}
 use Rattle.gb_typing.specs.Context.{Context, Frame}
 use Rattle.gb_typing.specs.Typing.{IsForm}
 use Rattle.gb_typing.specs.Fits.{IsSettingOf, IsStateOf}
-use Rattle.gb_typing.specs.Sequents.{IsConclusion, AreFormulas, with_modules, IsTypedSequent}
+use Rattle.gb_typing.specs.Sequents.{IsConclusion, AreFormulas, of_sequent, with_modules, IsTypedSequent}
 use Rattle.gb_typing.specs.Scopes.{context_of, IsTypedScope}
-use Rattle.gb_rules.proofs.Conclusions.{goal_conclusion, goal_front}
-use Rattle.gb_rules.proofs.Given.{refused_at, same_given}
-use Rattle.gb_rules.proofs.Lifted.{sequent_outermost}
+use Rattle.gb_typing.proofs.TypedGoals.{goal_conclusion, goal_front}
+use Rattle.gb_typing.proofs.Given.{refused_at, same_given}
+use Rattle.gb_typing.proofs.Lifted.{InEachSequent, each, joined, sequent_outermost}
 use Rattle.gb_amb.specs.Parts.{concluding}
 use Rattle.gb_amb.specs.Closed.{IsAmong}
 use Rattle.gb_amb.specs.Steps.{assuming, LeadTo}
-use Rattle.gb_amb.proofs.Around.{Part, here, placed, IsTypedPart, IsTruePart, parts_lead}
+use Rattle.gb_amb.proofs.Around.{Part, here, placed, IsTypedPart, IsTruePart, parts_lead_by}
 use Rattle.gb_amb.proofs.Cases.{form_formula}
 use Rattle.gb_amb.proofs.Wider.{small}
 use Rattle.gb_use.specs.Instances.{IsInstance, Says}
+use Rattle.gb_use.specs.Lemmas.{AreArguments, IsKnown, IsLemmaInstance, IsOfValues, LemmasHold, said_by}
 use Rattle.gb_use.specs.Uses.{ArePremises, IsByPremises, IsAnswer, IsTypedStep}
 use Rattle.gb_use.proofs.Instances.{says_true}
+use Rattle.gb_use.proofs.Lemmas.{said_true, said_typed, values, values_stand}
 use Rattle.gb_use.proofs.Premises.{premises_typed, premises_used, some_by_premises, one_by_premises}
 
 form_conclusion : (c : Context) (f : Term) → IsForm c f → IsConclusion c f
@@ -77,13 +83,81 @@ module _ (ds : Declarations) (scope : IsTypedScope ds) (q : Sequent) (t : IsType
   abbrev part_of : Term → Part
   part_of f = record { hyps = q.hyps; conclusion = f }
 
+  -- A form that is known of each interpretation of the goal's context: where a fact stands that each has, it is true in the states
+  -- in which the hypotheses are.
+  record Known (f : Term) : Type 1 where
+    Fact : Interpretation → Type 0
+    always : InEachSequent ds q Fact
+    true_in : (k : Interpretation) → Fact k → IsSettingOf c (setting ds k) → (vs : List Value) (ms : List Memory) → IsStateOf c (setting ds k) (context vs ms) → AreTrue ds q.hyps k (context vs ms) →
+        IsTrueIn (setting ds k) f (context vs ms)
+
+  anyhow : InEachSequent ds q (λ k. Unit {0})
+  anyhow w size table m = each ds (declared_modules ds) (interpretation w size table) _ (λ i. each ds q.modules i (λ k. Unit {0}) (λ k. tt))
+
   -- what hypotheses say of terms is true where they are
-  instance_true : (f : Term) → IsInstance q c f → (k : Interpretation) → IsSettingOf c (setting ds k) → (s : State) → IsStateOf c (setting ds k) s → AreTrue ds q.hyps k s → IsTrueIn (setting ds k) f s
-  instance_true f x k fits s fit h j fair =
-      subst (λ d. Says d x.known x.terms f → IsForm d x.known → IsSettingOf d (setting ds k) → IsStateOf d (setting ds k) s → den (setting ds k) j f s ≡ true) (sym here_small)
-      (λ says form fits fit. says_true base us ns (setting ds k) fits j fair s fit x.terms x.known f says form
-      ((without_modules ds x.known k s (form_front c x.known x.form)).0 (hypothesis_true ds k s q.hyps x.known x.among h) j fair))
-      x.says x.form fits fit
+  instance_known : (f : Term) → IsInstance q c f → Known f
+  instance_known f x = record {
+    Fact = λ k. Unit {0};
+    always = anyhow;
+    true_in = λ k y fits vs ms fit h j fair.
+        let g = setting ds k in
+        subst (λ d. Says d x.known x.terms f → IsForm d x.known → IsSettingOf d g → IsStateOf d g (context vs ms) → den g j f (context vs ms) ≡ true) (sym here_small)
+        (λ says form fits fit. says_true base us ns g fits j fair (context vs ms) fit x.terms x.known f says form
+        ((without_modules ds x.known k (context vs ms) (form_front c x.known x.form)).0 (hypothesis_true ds k (context vs ms) q.hyps x.known x.among h) j fair))
+        x.says x.form fits fit;
+  }
+
+  -- a lemma about values says so for all values
+  abbrev OfLemma : Sequent → Interpretation → Type 0
+  OfLemma s k = (vs : List Value) → AreValues (types_of ds k) (map (λ x. x.ty) s.logical) vs → (ms : List Memory) → Truth ds s.conclusion k (context vs ms)
+
+  lemma_always : (s : Sequent) → IsOfValues ds s → q.modules ≡ [] → Holds ds s → InEachSequent ds q (OfLemma s)
+  lemma_always s o alone h =
+      subst (λ bs. InEachModel ds (λ i. EachProgram ds bs i (OfLemma s))) (o.modules ∙ sym alone)
+      (joined ds s (λ k. (vs : List Value) → AreValues (types_of ds k) (map (λ x. x.ty) s.logical) vs → (ms : List Memory) → AreTrue ds s.hyps k (context vs ms) → Truth ds s.conclusion k (context vs ms))
+      (λ k. Unit {0}) (OfLemma s) (λ k f x vs v ms. f vs v ms (subst (λ hs. AreTrue ds hs k (context vs ms)) (sym o.hyps) tt)) h
+      (λ w size table m. each ds (declared_modules ds) (interpretation w size table) _ (λ i. each ds s.modules i (λ k. Unit {0}) (λ k. tt))))
+
+  -- where it is stated, and where it is used
+  there_small : (s : Sequent) → IsOfValues ds s → q.modules ≡ [] → of_sequent (context_of ds) s [] ≡ small base (map (λ x. x.ty) s.logical) []
+  there_small s o alone = sequent_outermost ds s [] ∙ ap (λ bs. small (with_modules (context_of ds) bs) (map (λ x. x.ty) s.logical) []) (o.modules ∙ sym alone)
+
+  -- what a lemma says of terms is true
+  lemma_known : LemmasHold ds → (f : Term) → IsLemmaInstance ds q c f → Known f
+  lemma_known holds f x =
+      let s = x.lemma in
+      let o = x.stated in
+      let xs = map (λ (v : TypedName). v.ty) s.logical in
+      let stated : IsForm (small base xs []) s.conclusion = subst (λ d. IsForm d s.conclusion) (there_small s o x.alone) o.conclusion in
+      record {
+        Fact = OfLemma s;
+        always = lemma_always s o x.alone (holds s x.among);
+        true_in = λ k y fits vs ms fit h j fair.
+            let g = setting ds k in
+            subst (λ d. AreArguments d xs x.terms → Says d (said_by s x.terms) x.more f → IsSettingOf d g → IsStateOf d g (context vs ms) → den g j f (context vs ms) ≡ true) (sym here_small)
+            (λ w says fits fit.
+            let form = said_typed base us ns xs x.terms w s.conclusion stated in
+            let meant = values base us ns xs x.terms w o.values g fits j fair vs ms fit in
+            let stand = values_stand base us ns xs x.terms w o.values g fits j fair vs ms fit in
+            says_true base us ns g fits j fair (context vs ms) fit x.more (said_by s x.terms) f says form
+            (said_true base us ns xs x.terms w o.values g fits j fair vs ms fit s.conclusion stated
+            ((without_modules ds s.conclusion k (context meant ms) (form_front (small base xs []) s.conclusion stated)).0
+            (y meant (subst (λ t. AreValues t xs meant) (setting-types ds k) stand) ms) j fair)))
+            x.arguments x.says fits fit;
+      }
+
+  known_by : LemmasHold ds → (f : Term) → IsKnown ds q c f → Known f
+  known_by holds f (inl x) = instance_known f x
+  known_by holds f (inr x) = lemma_known holds f x
+
+  -- a goal in the context of another one, with this form as its conclusion
+  abbrev concluded : (f : Term) → IsForm c f → IsTypedSequent (context_of ds) (record q { conclusion = f })
+  concluded f w = record { modules = t.modules; logical = t.logical; frames = t.frames; memories = t.memories; hyps = t.hyps; conclusion = form_conclusion c f w }
+
+  form_holds : (f : Term) → IsForm c f → Known f → Holds ds (record q { conclusion = f })
+  form_holds f w x =
+      (parts_lead_by ds scope (record q { conclusion = f }) (concluded f w) x.Fact x.always [] tt
+      (λ k y fits vs ms fit z h. (without_modules ds f k (context vs ms) (form_front c f w)).1 (x.true_in k y fits vs ms fit h))).leads tt
 
   typed_parts : (fs : List Term) → AllByRecursion (IsForm c) fs → AllByRecursion (IsTypedPart ds scope q t) (map part_of fs)
   typed_parts [] w = tt
@@ -98,27 +172,35 @@ module _ (ds : Declarations) (scope : IsTypedScope ds) (q : Sequent) (t : IsType
   same_goals [] = refl
   same_goals (f ∷ fs) = ap (λ qs. concluding q f ∷ qs) (same_goals fs)
 
-  by_premises : (f : Term) → IsForm c f → IsInstance q c f → (hs : List Term) → ArePremises hs f q.conclusion → LeadTo ds q (map (concluding q) hs)
+  by_premises : (f : Term) → IsForm c f → Known f → (hs : List Term) → ArePremises hs f q.conclusion → LeadTo ds q (map (concluding q) hs)
   by_premises f w x hs p =
       let v = premises_typed c hs f q.conclusion p w in
       subst (LeadTo ds q) (same_goals hs)
-      (parts_lead ds scope q t (map part_of hs) (typed_parts hs v.0)
-      (λ k fits s fit y h. (without_modules ds q.conclusion k s (form_front c q.conclusion v.1)).1
-      (λ j fair. premises_used c (setting ds k) j s hs f q.conclusion p w (instance_true f x k fits s fit h j fair) (true_parts k s hs v.0 y h j fair))))
+      (parts_lead_by ds scope q t x.Fact x.always (map part_of hs) (typed_parts hs v.0)
+      (λ k y fits vs ms fit z h. (without_modules ds q.conclusion k (context vs ms) (form_front c q.conclusion v.1)).1
+      (λ j fair. premises_used c (setting ds k) j (context vs ms) hs f q.conclusion p w (x.true_in k y fits vs ms fit h j fair) (true_parts k (context vs ms) hs v.0 z h j fair))))
 
-  of_premises : (f : Term) → IsForm c f → IsInstance q c f → (place : Place) (qs : List Sequent) → IsByPremises [] f place q (given qs) → LeadTo ds q qs
+  of_premises : (f : Term) → IsForm c f → Known f → (place : Place) (qs : List Sequent) → IsByPremises [] f place q (given qs) → LeadTo ds q qs
   of_premises f w x place qs (inl (hs, p, e)) = subst (LeadTo ds q) (sym (same_given qs (map (concluding q) hs) e)) (by_premises f w x hs p)
   of_premises f w x place qs (inr (n, e)) = refused_at Shape place qs (sym e)
 
-  by_hypothesis : (name : List ℕ) (f : Term) → IsForm c f → IsInstance q c f → LeadTo ds q (assuming q name f ∷ [])
+  by_hypothesis : (name : List ℕ) (f : Term) → IsForm c f → Known f → LeadTo ds q (assuming q name f ∷ [])
   by_hypothesis name f w x =
-      parts_lead ds scope q t (record { hyps = q.hyps ++ record { name = name; form = f } ∷ []; conclusion = q.conclusion } ∷ [])
+      parts_lead_by ds scope q t x.Fact x.always (record { hyps = q.hyps ++ record { name = name; form = f } ∷ []; conclusion = q.conclusion } ∷ [])
       ((formulas_with c q.hyps name f t.hyps w, t.conclusion), tt)
-      (λ k fits s fit y h. y.0 (all_true ds k s q.hyps name f h ((without_modules ds f k s (form_front c f w)).1 (instance_true f x k fits s fit h))))
+      (λ k y fits vs ms fit z h. z.0 (all_true ds k (context vs ms) q.hyps name f h ((without_modules ds f k (context vs ms) (form_front c f w)).1 (x.true_in k y fits vs ms fit h))))
 
-  pub steps_sound : (r : UseRule) → IsTypedStep q c r → (place : Place) (qs : List Sequent) → IsAnswer r place q (given qs) → LeadTo ds q qs
-  steps_sound (Apply f) w place qs a = of_premises f w.form w.known place qs a
-  steps_sound (Have name f) w place qs e = subst (LeadTo ds q) (sym (same_given qs (assuming q name f ∷ []) e)) (by_hypothesis name f w.form w.known)
+  of_step : LemmasHold ds → (r : UseRule) → IsTypedStep ds q c r → (place : Place) (qs : List Sequent) → IsAnswer r place q (given qs) → LeadTo ds q qs
+  of_step holds (Apply f) w place qs a = of_premises f w.form (known_by holds f w.known) place qs a
+  of_step holds (Have name f) w place qs e = subst (LeadTo ds q) (sym (same_given qs (assuming q name f ∷ []) e)) (by_hypothesis name f w.form (known_by holds f w.known))
+
+pub instance_holds : (ds : Declarations) → IsTypedScope ds → LemmasHold ds → (q : Sequent) (t : IsTypedSequent (context_of ds) q) → (f : Term) →
+    IsForm (of_sequent (context_of ds) q t.frames) f → IsKnown ds q (of_sequent (context_of ds) q t.frames) f → Holds ds (record q { conclusion = f })
+instance_holds ds scope holds q t f w x = form_holds ds scope q t f w (known_by ds scope q t holds f x)
+
+pub steps_sound : (ds : Declarations) → IsTypedScope ds → LemmasHold ds → (q : Sequent) (t : IsTypedSequent (context_of ds) q) → (r : UseRule) →
+    IsTypedStep ds q (of_sequent (context_of ds) q t.frames) r → (place : Place) (qs : List Sequent) → IsAnswer r place q (given qs) → LeadTo ds q qs
+steps_sound ds scope holds q t r w place qs a = of_step ds scope q t holds r w place qs a
 
 -- Answers.
 

@@ -1,2 +1,3 @@
 pub mod Instances
+pub mod Lemmas
 pub mod Uses

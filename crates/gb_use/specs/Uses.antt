@@ -15,7 +15,8 @@ use Rattle.gb_typing.specs.Context.{Context}
 use Rattle.gb_typing.specs.Typing.{IsForm}
 use Rattle.gb_amb.specs.Parts.{concluding}
 use Rattle.gb_amb.specs.Steps.{assuming}
-use Rattle.gb_use.specs.Instances.{IsInstance}
+use Rattle.gb_holds.specs.Declared.{Declarations}
+use Rattle.gb_use.specs.Lemmas.{IsKnown}
 
 abbrev pub is_implication : Head → Bool
 is_implication (Builtin Implies) = true
@@ -51,7 +52,7 @@ abbrev pub used_by : UseRule → Term
 used_by (Apply f) = f
 used_by (Have x f) = f
 
--- the form that a step uses is typed, and is what a hypothesis says of terms
-pub record IsTypedStep (q : Sequent) (c : Context) (r : UseRule) : Type 0 where
+-- the form that a step uses is typed, and is what a hypothesis or a lemma says of terms
+pub record IsTypedStep (ds : Declarations) (q : Sequent) (c : Context) (r : UseRule) : Type 0 where
   pub form : IsForm c (used_by r)
-  pub known : IsInstance q c (used_by r)
+  pub known : IsKnown ds q c (used_by r)

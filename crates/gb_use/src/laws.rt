@@ -6,18 +6,30 @@ ghost use Rattle.gb_goal.specs.Answers.{Answer};
 ghost use Rattle.gb_goal.specs.Answers.Answer.{given};
 ghost use Rattle.gb_goal.specs.declared.sequent.Sequent.{Sequent};
 ghost use Rattle.gb_steps.specs.declared.step.UseRule.{UseRule};
+ghost use Rattle.gb_terms.specs.declared.term.Term.{Term};
 ghost use Rattle.gb_holds.specs.Declared.{Declarations};
+ghost use Rattle.gb_holds.specs.Holds.{Holds};
+ghost use Rattle.gb_typing.specs.Typing.{IsForm};
 ghost use Rattle.gb_typing.specs.Sequents.{of_sequent, IsTypedSequent};
 ghost use Rattle.gb_typing.specs.Scopes.{context_of, IsTypedScope};
 ghost use Rattle.gb_amb.specs.Steps.{LeadTo};
+ghost use Rattle.gb_use.specs.Lemmas.{IsKnown, LemmasHold};
 ghost use Rattle.gb_use.specs.Uses.{IsAnswer, IsTypedStep};
 
-/// A step at the goal of a typed scope, by a form that hypotheses of the goal say, gives typed goals, and if each of them holds, the
-/// goal holds.
+/// A step at the goal of a typed scope, by a form that a hypothesis of the goal or a lemma says, gives typed goals, and if each of them
+/// holds, the goal holds, where the lemmas of the scope do.
 pub fn sound_uses()
-    ensures { (ds : Declarations) → IsTypedScope ds → (q : Sequent) (t : IsTypedSequent (context_of ds) q) → (r : UseRule) →
-        IsTypedStep q (of_sequent (context_of ds) q t.frames) r → (place : Place) (qs : List Sequent) → IsAnswer r place q (given qs) →
+    ensures { (ds : Declarations) → IsTypedScope ds → LemmasHold ds → (q : Sequent) (t : IsTypedSequent (context_of ds) q) → (r : UseRule) →
+        IsTypedStep ds q (of_sequent (context_of ds) q t.frames) r → (place : Place) (qs : List Sequent) → IsAnswer r place q (given qs) →
         LeadTo ds q qs }
+{}
+
+/// A typed form that a hypothesis of a typed goal or a lemma says of terms holds where it is concluded from the goal's hypotheses, where
+/// the lemmas of the scope do.
+pub fn instances_hold()
+    ensures { (ds : Declarations) → IsTypedScope ds → LemmasHold ds → (q : Sequent) (t : IsTypedSequent (context_of ds) q) → (f : Term) →
+        IsForm (of_sequent (context_of ds) q t.frames) f → IsKnown ds q (of_sequent (context_of ds) q t.frames) f →
+        Holds ds (record q { conclusion = f }) }
 {}
 
 /// Each step has an answer at each goal, and one alone.

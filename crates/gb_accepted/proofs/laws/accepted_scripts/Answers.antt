@@ -7,6 +7,9 @@ returns c =
       typing = record {
         entries_added = c.entries.ensures.added;
         others = c.entries.ensures.others;
+        entries_speak = c.entries.ensures.speaks;
+        module_speaks = c.modules.ensures.speaks;
+        procedures = c.statements.ensures.procedures;
         module_added = c.modules.ensures.added;
         statement = c.statements.ensures.typed;
         free = c.statements.ensures.free;
@@ -14,7 +17,9 @@ returns c =
         body_rule = c.typed_rules.ensures.bodies;
         conclusion = c.typed_forms.ensures.conclusions;
         used = c.typed_forms.ensures.uses;
+        hints = c.typed_forms.ensures.hints;
         rule = c.typed_rules.ensures.relational;
+        call_rule = c.typed_rules.ensures.calls;
       };
       rules = record {
         goal = c.typing.ensures.goal;
@@ -28,10 +33,20 @@ returns c =
         relational = c.relational_rules.ensures;
         chances = c.chance_rules.ensures;
         chances_refuse = c.no_judgments.ensures;
+        calls = c.call_rules.ensures;
+        calls_refuse = c.other_conclusions.ensures;
         on_conclusions = c.steps.ensures;
         on_uses = c.sound_uses.ensures;
+        on_equals = c.sound_rewriting.ensures;
         smt = c.sound_smt.ensures;
+        instances = c.instances_hold.ensures;
         linear = c.linear_is_sound.ensures;
       };
-      models = record { model = c.typed_scopes_have_models.ensures.model; coupled = c.equivalences_give_couplings.ensures.coupled };
+      models = record {
+        model = c.typed_scopes_have_models.ensures.model;
+        coupled = c.equivalences_give_couplings.ensures.coupled;
+        stay = c.goals_stay.ensures.scripts;
+        stay_typed = c.goals_stay_typed.ensures;
+        parts = c.parts_of_scopes.ensures;
+      };
     })

@@ -7,11 +7,11 @@ use Rattle.gb_script.specs.declared.head.Head.{Head as Kind}
 use Rattle.gb_script.specs.declared.head.Head.TheVariants as text
 use Rattle.gb_script.specs.declared.tree.Node.{Node}
 use Rattle.gb_names.proofs.Parts.{two}
-use Rattle.gb_elab_mod.specs.Steps.{pattern, used_rule}
+use Rattle.gb_elab_mod.specs.Steps.{equals_rule, used_rule}
 use Rattle.gb_elab_mod.proofs.step.used_rule.Goals as goal
 
--- what neither applies nor keeps what is known is a pattern
-other : (ds : Declarations) (q : Sequent) (k : Kind) (x : List ℕ) (ps : List Node) (p : Place) → (k ≡ text.ApplyLemma → ⊥) → (k ≡ text.HaveLemma → ⊥) → used_rule ds q k x ps p ≡ pattern k x ps p
+-- what neither applies nor keeps what is known puts equals for equals, or is a pattern
+other : (ds : Declarations) (q : Sequent) (k : Kind) (x : List ℕ) (ps : List Node) (p : Place) → (k ≡ text.ApplyLemma → ⊥) → (k ≡ text.HaveLemma → ⊥) → used_rule ds q k x ps p ≡ equals_rule ds q k x ps p
 other ds q text.ApplyLemma x ps p a h = absurd (a refl)
 other ds q text.HaveLemma x ps p a h = absurd (h refl)
 other ds q _ x ps p a h = refl
@@ -26,5 +26,5 @@ returns-in-len2 c =
 
 pub returns-in_default : goal.returns-in_default
 returns-in_default c =
-    subst (λ r. Answers r c.pattern.result)
-    (sym (other c.args.scope.now c.args.goal.now c.args.head c.args.text.now c.args.parts.now c.args.place c.in_default.not-ApplyLemma c.in_default.not-HaveLemma)) c.pattern.ensures
+    subst (λ r. Answers r c.equals_rule.result)
+    (sym (other c.args.scope.now c.args.goal.now c.args.head c.args.text.now c.args.parts.now c.args.place c.in_default.not-ApplyLemma c.in_default.not-HaveLemma)) c.equals_rule.ensures

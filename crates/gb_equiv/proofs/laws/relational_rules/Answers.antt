@@ -1,10 +1,10 @@
 use Rattle.gb_core.specs.declared.refusal.Why.TheVariants.{Shape}
 use Rattle.gb_steps.specs.declared.step.Rule.{Rule}
-use Rattle.gb_steps.specs.declared.step.Rule.TheVariants.{Relational, OnBodies, Ambient, Smt, Linear, Chance, Use}
+use Rattle.gb_steps.specs.declared.step.Rule.TheVariants.{Relational, OnBodies, Ambient, Smt, Linear, Chance, Call, Rewrite, Use}
 use Rattle.gb_steps.specs.declared.step.RelationalRule.TheVariants.{Rnd, Symmetry}
 use Rattle.gb_typing.specs.Context.{Context}
-use Rattle.gb_rules.specs.Rules.{IsSoundRule}
-use Rattle.gb_rules.proofs.Given.{refused_given}
+use Rattle.gb_typing.specs.Rules.{IsSoundRule}
+use Rattle.gb_typing.proofs.Given.{refused_given}
 use Rattle.gb_equiv.specs.Rows.{rule_row, IsTypedRule}
 use Rattle.gb_equiv.proofs.RndIsSound.{sound}
 use Rattle.gb_equiv.proofs.SymmetryIsSound as symmetry
@@ -14,10 +14,12 @@ rule_sound : (c : Context) (r : Rule) → IsSoundRule c (rule_row r) (IsTypedRul
 rule_sound c (Relational (Rnd fs)) outer ls rs G w k Gs e = sound c fs outer ls rs G w k Gs e
 rule_sound c (Relational Symmetry) outer ls rs G w k Gs e = symmetry.sound c outer ls rs G w k Gs e
 rule_sound c (OnBodies r) outer ls rs G w k Gs e = refused_given Shape Gs e
-rule_sound c Smt outer ls rs G w k Gs e = refused_given Shape Gs e
+rule_sound c (Smt fs) outer ls rs G w k Gs e = refused_given Shape Gs e
 rule_sound c (Linear ms) outer ls rs G w k Gs e = refused_given Shape Gs e
 rule_sound c (Ambient r) outer ls rs G w k Gs e = refused_given Shape Gs e
 rule_sound c (Chance r) outer ls rs G w k Gs e = refused_given Shape Gs e
+rule_sound c (Call s) outer ls rs G w k Gs e = refused_given Shape Gs e
+rule_sound c (Rewrite r) outer ls rs G w k Gs e = refused_given Shape Gs e
 rule_sound c (Use r) outer ls rs G w k Gs e = refused_given Shape Gs e
 
 pub returns : goal.returns

@@ -1,159 +1,187 @@
 use Rattle.std.proofs.Common.{true, false, ◌∷◌, map, reverse, refl, sym, ap, ◌∙◌, arith, rules}
+use Rattle.gb_eval.proofs.Fuel.{opens}
 use Rattle.gb_terms.specs.declared.term.Head.TheVariants as head
 use Rattle.gb_core.specs.declared.value.Value.TheVariants.{Num}
 use Rattle.gb_meaning.specs.Distributions.{stated}
 use Rattle.gb_eval.specs.Findings.{◌>>=◌, fraction_in, shown, shown_table, Stops}
 use Rattle.gb_eval.specs.Findings.Finding.{value}
 use Rattle.gb_eval.specs.Findings.Comes.{found}
-use Rattle.gb_eval.specs.Eval.{eval, image_of, narrowed, next_sum, part_of, quantified, summed, truth_at, value_bound, weighed, weighted}
+use Rattle.gb_eval.specs.declared.env.Bound.TheVariants as to
+use Rattle.gb_eval.specs.Eval.{environment, eval, image_of, narrowed, next_sum, part_of, quantified, summed, truth_at, value_bound, value_of, weighed, weighted}
 use Rattle.gb_eval.proofs.Layers.{eval_at, eval_other}
+use Rattle.gb_eval.proofs.Environments.{environment_is}
+use Rattle.gb_eval.proofs.Opened.{open_comes, closed_comes}
 use Rattle.gb_eval.proofs.Stops.{gives_as, stops_as}
 use Rattle.gb_eval.proofs.Places.{beq_same, mapped_by, measured_by, operated_many, operated_three, quantified_decided, quantified_stops, restricted_by, summed_stops, summed_whole}
 use Rattle.gb_eval.proofs.eval.+eval.Goals as goal
 
 pub eval-returns-in_ok-value-in-Lit-clause-found : goal.eval-returns-in_ok-value-in-Lit-clause-found
 eval-returns-in_ok-value-in-Lit-clause-found t c =
-    eval_at c.args.reads.now c.args.t.now c.get.result.now c.as_slice-args.result.now _ (reverse c.args.bound.now) c.get.ensures c.as_slice-args.ensures refl (head.Lit c.in-Lit.v) c.in-Lit.is
+    eval_at (environment c.args.env.now) c.args.t.now c.get.result.now c.as_slice-args.result.now _ (reverse c.args.bound.now) c.get.ensures c.as_slice-args.ensures refl (head.Lit c.in-Lit.v) c.in-Lit.is
     ∙ ap (λ v. found (value v)) (sym c.in_ok-value-in-Lit.ensures)
 
 pub eval-returns-in-Whole-clause-found : goal.eval-returns-in-Whole-clause-found
 eval-returns-in-Whole-clause-found t c =
-    eval_at c.args.reads.now c.args.t.now c.get.result.now c.as_slice-args.result.now _ (reverse c.args.bound.now) c.get.ensures c.as_slice-args.ensures refl (head.Whole c.in-Whole.n) c.in-Whole.is
+    eval_at (environment c.args.env.now) c.args.t.now c.get.result.now c.as_slice-args.result.now _ (reverse c.args.bound.now) c.get.ensures c.as_slice-args.ensures refl (head.Whole c.in-Whole.n) c.in-Whole.is
     ∙ ap found (sym c.whole.ensures)
 
 pub eval-returns-in-Read-clause-found : goal.eval-returns-in-Read-clause-found
 eval-returns-in-Read-clause-found t c =
     gives_as shown _ _ c.value_of.result
-    (eval_at c.args.reads.now c.args.t.now c.get.result.now c.as_slice-args.result.now _ (reverse c.args.bound.now) c.get.ensures c.as_slice-args.ensures refl (head.Read c.in-Read.r) c.in-Read.is)
+    (eval_at (environment c.args.env.now) c.args.t.now c.get.result.now c.as_slice-args.result.now _ (reverse c.args.bound.now) c.get.ensures c.as_slice-args.ensures refl (head.Read c.in-Read.r) c.in-Read.is
+    ∙ ap (λ e. value_of e.reads c.in-Read.r) (environment_is c.args.env.now))
     c.value_of.ensures
 
 pub eval-returns-in-Bound-clause-found : goal.eval-returns-in-Bound-clause-found
 eval-returns-in-Bound-clause-found t c =
     gives_as shown _ _ c.value_bound.result
-    (eval_at c.args.reads.now c.args.t.now c.get.result.now c.as_slice-args.result.now _ (reverse c.args.bound.now) c.get.ensures c.as_slice-args.ensures refl (head.Bound c.in-Bound.index) c.in-Bound.is
+    (eval_at (environment c.args.env.now) c.args.t.now c.get.result.now c.as_slice-args.result.now _ (reverse c.args.bound.now) c.get.ensures c.as_slice-args.ensures refl (head.Bound c.in-Bound.index) c.in-Bound.is
     ∙ ap (λ vs. value_bound (reverse vs) c.in-Bound.index) (sym c.as_slice.ensures))
     c.value_bound.ensures
 
 pub eval-returns-in-Builtin-clause-found : goal.eval-returns-in-Builtin-clause-found
 eval-returns-in-Builtin-clause-found t c =
     gives_as shown _ _ c.operator.result
-    (eval_at c.args.reads.now c.args.t.now c.get.result.now c.as_slice-args.result.now c.get-in-Builtin.result.now (reverse c.args.bound.now) c.get.ensures c.as_slice-args.ensures c.get-in-Builtin.ensures (head.Builtin c.in-Builtin.op) c.in-Builtin.is)
+    (eval_at (environment c.args.env.now) c.args.t.now c.get.result.now c.as_slice-args.result.now c.get-in-Builtin.result.now (reverse c.args.bound.now) c.get.ensures c.as_slice-args.ensures c.get-in-Builtin.ensures (head.Builtin c.in-Builtin.op) c.in-Builtin.is)
     c.operator.ensures.found
+
+pub eval-returns-in-User-clause-found : goal.eval-returns-in-User-clause-found
+eval-returns-in-User-clause-found t c =
+    gives_as shown _ _ c.called.result
+    (eval_at (environment c.args.env.now) c.args.t.now c.get.result.now c.as_slice-args.result.now c.get-in-User.result.now (reverse c.args.bound.now) c.get.ensures c.as_slice-args.ensures c.get-in-User.ensures (head.User c.in-User.name) c.in-User.is)
+    c.called.ensures.found
 
 pub eval-returns-in-All-clause-found : goal.eval-returns-in-All-clause-found
 eval-returns-in-All-clause-found t c =
     gives_as shown _ _ c.quantifier.result
-    (eval_at c.args.reads.now c.args.t.now c.get.result.now c.as_slice-args.result.now _ (reverse c.args.bound.now) c.get.ensures c.as_slice-args.ensures refl (head.All c.in-All.ty) c.in-All.is
-    ∙ ap (λ u. quantified false u (map (part_of c.args.reads.now) c.as_slice-args.result.now) (reverse c.args.bound.now)) (sym c.get-in-All.ensures))
+    (eval_at (environment c.args.env.now) c.args.t.now c.get.result.now c.as_slice-args.result.now _ (reverse c.args.bound.now) c.get.ensures c.as_slice-args.ensures refl (head.All c.in-All.ty) c.in-All.is
+    ∙ ap (λ u. quantified false u (map (part_of (environment c.args.env.now)) c.as_slice-args.result.now) (reverse c.args.bound.now)) (sym c.get-in-All.ensures))
     c.quantifier.ensures.found
 
 pub eval-returns-in-Some-clause-found : goal.eval-returns-in-Some-clause-found
 eval-returns-in-Some-clause-found t c =
     gives_as shown _ _ c.quantifier-in-Some.result
-    (eval_at c.args.reads.now c.args.t.now c.get.result.now c.as_slice-args.result.now _ (reverse c.args.bound.now) c.get.ensures c.as_slice-args.ensures refl (head.Some c.in-Some.ty) c.in-Some.is
-    ∙ ap (λ u. quantified true u (map (part_of c.args.reads.now) c.as_slice-args.result.now) (reverse c.args.bound.now)) (sym c.get-in-Some.ensures))
+    (eval_at (environment c.args.env.now) c.args.t.now c.get.result.now c.as_slice-args.result.now _ (reverse c.args.bound.now) c.get.ensures c.as_slice-args.ensures refl (head.Some c.in-Some.ty) c.in-Some.is
+    ∙ ap (λ u. quantified true u (map (part_of (environment c.args.env.now)) c.as_slice-args.result.now) (reverse c.args.bound.now)) (sym c.get-in-Some.ensures))
     c.quantifier-in-Some.ensures.found
 
 pub eval-returns-in-Mu-clause-found : goal.eval-returns-in-Mu-clause-found
 eval-returns-in-Mu-clause-found t c =
     gives_as shown _ _ c.measure.result
-    (eval_at c.args.reads.now c.args.t.now c.get.result.now c.as_slice-args.result.now _ (reverse c.args.bound.now) c.get.ensures c.as_slice-args.ensures refl head.Mu c.in-Mu.is)
+    (eval_at (environment c.args.env.now) c.args.t.now c.get.result.now c.as_slice-args.result.now _ (reverse c.args.bound.now) c.get.ensures c.as_slice-args.ensures refl head.Mu c.in-Mu.is)
     c.measure.ensures.found
 
 pub eval-returns-in-Restrict-clause-found : goal.eval-returns-in-Restrict-clause-found
 eval-returns-in-Restrict-clause-found t c =
     gives_as shown _ _ c.restriction.result
-    (eval_at c.args.reads.now c.args.t.now c.get.result.now c.as_slice-args.result.now _ (reverse c.args.bound.now) c.get.ensures c.as_slice-args.ensures refl head.Restrict c.in-Restrict.is)
+    (eval_at (environment c.args.env.now) c.args.t.now c.get.result.now c.as_slice-args.result.now _ (reverse c.args.bound.now) c.get.ensures c.as_slice-args.ensures refl head.Restrict c.in-Restrict.is)
     c.restriction.ensures.found
 
 pub eval-returns-in-Map-clause-found : goal.eval-returns-in-Map-clause-found
 eval-returns-in-Map-clause-found t c =
     gives_as shown _ _ c.image.result
-    (eval_at c.args.reads.now c.args.t.now c.get.result.now c.as_slice-args.result.now _ (reverse c.args.bound.now) c.get.ensures c.as_slice-args.ensures refl head.Map c.in-Map.is)
+    (eval_at (environment c.args.env.now) c.args.t.now c.get.result.now c.as_slice-args.result.now _ (reverse c.args.bound.now) c.get.ensures c.as_slice-args.ensures refl head.Map c.in-Map.is)
     c.image.ensures.found
 
 pub eval-returns-in-Weights-clause-found : goal.eval-returns-in-Weights-clause-found
 eval-returns-in-Weights-clause-found t c =
     gives_as shown _ _ c.weighted.result
-    (eval_at c.args.reads.now c.args.t.now c.get.result.now c.as_slice-args.result.now _ (reverse c.args.bound.now) c.get.ensures c.as_slice-args.ensures refl (head.Weights c.in-Weights.pairs) c.in-Weights.is
+    (eval_at (environment c.args.env.now) c.args.t.now c.get.result.now c.as_slice-args.result.now _ (reverse c.args.bound.now) c.get.ensures c.as_slice-args.ensures refl (head.Weights c.in-Weights.pairs) c.in-Weights.is
     ∙ ap (λ ps. weighted (stated ps)) (sym c.as_slice-in-Weights.ensures))
     c.weighted.ensures
 
 pub eval-returns-in-Sum-clause-found : goal.eval-returns-in-Sum-clause-found
 eval-returns-in-Sum-clause-found t c =
     gives_as shown _ _ c.sum.result
-    (eval_at c.args.reads.now c.args.t.now c.get.result.now c.as_slice-args.result.now _ (reverse c.args.bound.now) c.get.ensures c.as_slice-args.ensures refl (head.Sum c.in-Sum.count) c.in-Sum.is)
+    (eval_at (environment c.args.env.now) c.args.t.now c.get.result.now c.as_slice-args.result.now _ (reverse c.args.bound.now) c.get.ensures c.as_slice-args.ensures refl (head.Sum c.in-Sum.count) c.in-Sum.is)
     c.sum.ensures.found
 
 pub eval-returns-in_default : goal.eval-returns-in_default
 eval-returns-in_default t c =
     record {
-      found = eval_other c.args.reads.now c.args.t.now c.get.result.now c.as_slice-args.result.now _ (reverse c.args.bound.now) c.get.ensures c.as_slice-args.ensures refl c.in_default.not-Lit c.in_default.not-Whole c.in_default.not-Read c.in_default.not-Bound c.in_default.not-Builtin c.in_default.not-All c.in_default.not-Some c.in_default.not-Mu c.in_default.not-Sum c.in_default.not-Restrict c.in_default.not-Map c.in_default.not-Weights;
+      found = eval_other (environment c.args.env.now) c.args.t.now c.get.result.now c.as_slice-args.result.now _ (reverse c.args.bound.now) c.get.ensures c.as_slice-args.ensures refl c.in_default.not-Lit c.in_default.not-Whole c.in_default.not-Read c.in_default.not-Bound c.in_default.not-Builtin c.in_default.not-User c.in_default.not-All c.in_default.not-Some c.in_default.not-Mu c.in_default.not-Sum c.in_default.not-Restrict c.in_default.not-Map c.in_default.not-Weights;
       bound = tt;
     }
 
 pub operator-returns-in_default-clause-found : goal.operator-returns-in_default-clause-found
 operator-returns-in_default-clause-found t c =
-    operated_many c.args.op c.args.ty.now (part_of c.args.reads.now) c.args.args.now (reverse c.args.bound.now) c.is_tuple.result c.is_tuple.ensures c.if-is_tuple.false (omega (arith, c.in_default.len_at_least))
+    operated_many c.args.op c.args.ty.now (part_of (environment c.args.env.now)) c.args.args.now (reverse c.args.bound.now) c.is_tuple.result c.is_tuple.ensures c.if-is_tuple.false (omega (arith, c.in_default.len_at_least))
 
 pub quantifier-returns-in_err-truth_with-clause-found : goal.quantifier-returns-in_err-truth_with-clause-found
 quantifier-returns-in_err-truth_with-clause-found t c =
     let v = c.loop-at.invariant in
-    let h : Stops (quantified c.args.deciding c.args.ty.now (map (part_of c.args.reads.now) c.args.args.now) (reverse c.args.bound.now)) c.in_err-truth_with.field-0.0 =
-    quantified_stops c.args.deciding c.args.ty.now c.in-Exact.n c.loop-at.at (part_of c.args.reads.now c.body-item.result) (map (part_of c.args.reads.now) c.args.args.now) (reverse c.args.bound.now)
-    (ap (map (part_of c.args.reads.now)) v.body) v.count c.in_err-truth_with.field-0.0 v.truths
-    (stops_as _ _ c.in_err-truth_with.field-0.0 (λ i. truth_at c.args.reads.now c.body-item.result (sym c.in_ok-value.ensures i ∷ reverse (sym v.bound i))) c.in_err-truth_with.ensures.found)
+    let h : Stops (quantified c.args.deciding c.args.ty.now (map (part_of (environment c.args.env.now)) c.args.args.now) (reverse c.args.bound.now)) c.in_err-truth_with.field-0.0 =
+    quantified_stops c.args.deciding c.args.ty.now c.in-Exact.n c.loop-at.at (part_of (environment c.args.env.now) c.body-item.result) (map (part_of (environment c.args.env.now)) c.args.args.now) (reverse c.args.bound.now)
+    (ap (map (part_of (environment c.args.env.now))) v.body) v.count c.in_err-truth_with.field-0.0 v.truths
+    (stops_as _ _ c.in_err-truth_with.field-0.0 (λ i. truth_at (environment c.args.env.now) c.body-item.result (to.Value (sym c.in_ok-value.ensures i) ∷ reverse (sym v.bound i))) c.in_err-truth_with.ensures.found)
     c.loop-at-test.true in
     search (rules, h)
 
 pub quantifier-returns-then-branch-deciding-clause-found : goal.quantifier-returns-then-branch-deciding-clause-found
 quantifier-returns-then-branch-deciding-clause-found t c =
     let v = c.loop-at.invariant in
-    quantified_decided c.args.deciding c.args.ty.now c.in-Exact.n c.loop-at.at (part_of c.args.reads.now c.body-item.result) (map (part_of c.args.reads.now) c.args.args.now) (reverse c.args.bound.now)
-    (ap (map (part_of c.args.reads.now)) v.body) v.count v.truths
-    ((λ i. truth_at c.args.reads.now c.body-item.result (sym c.in_ok-value.ensures i ∷ reverse (sym v.bound i))) ∙ c.in_ok-truth_with.ensures.found ∙ ap found (beq_same _ _ c.if-branch-deciding.true))
+    quantified_decided c.args.deciding c.args.ty.now c.in-Exact.n c.loop-at.at (part_of (environment c.args.env.now) c.body-item.result) (map (part_of (environment c.args.env.now)) c.args.args.now) (reverse c.args.bound.now)
+    (ap (map (part_of (environment c.args.env.now))) v.body) v.count v.truths
+    ((λ i. truth_at (environment c.args.env.now) c.body-item.result (to.Value (sym c.in_ok-value.ensures i) ∷ reverse (sym v.bound i))) ∙ c.in_ok-truth_with.ensures.found ∙ ap found (beq_same _ _ c.if-branch-deciding.true))
     c.loop-at-test.true
     ∙ ap found (sym c.of_truth.ensures)
 
 pub sum-returns-in_err-all-clause-found : goal.sum-returns-in_err-all-clause-found
 sum-returns-in_err-all-clause-found t c =
     let v = c.loop-at.invariant in
-    let h : Stops (summed c.args.count (map (part_of c.args.reads.now) c.args.args.now) (reverse c.args.bound.now)) c.in_err-all.field-0.0 =
-    summed_stops c.args.count c.loop-at.at (part_of c.args.reads.now c.body-item.result) (map (part_of c.args.reads.now) c.args.args.now) (reverse c.args.bound.now)
-    (ap (map (part_of c.args.reads.now)) v.body) v.few c.in_err-all.field-0.0 c.loop-at.all v.sum
-    (stops_as _ _ c.in_err-all.field-0.0 (λ i. next_sum (λ k. eval c.args.reads.now c.body-item.result (Num k ∷ reverse (sym v.bound i)) >>= fraction_in) c.loop-at.all c.loop-at.at) c.in_err-all.ensures.found)
+    let h : Stops (summed c.args.count (map (part_of (environment c.args.env.now)) c.args.args.now) (reverse c.args.bound.now)) c.in_err-all.field-0.0 =
+    summed_stops c.args.count c.loop-at.at (part_of (environment c.args.env.now) c.body-item.result) (map (part_of (environment c.args.env.now)) c.args.args.now) (reverse c.args.bound.now)
+    (ap (map (part_of (environment c.args.env.now))) v.body) v.few c.in_err-all.field-0.0 c.loop-at.all v.sum
+    (stops_as _ _ c.in_err-all.field-0.0 (λ i. next_sum (λ k. eval (environment c.args.env.now) c.body-item.result (to.Value (Num k) ∷ reverse (sym v.bound i)) >>= fraction_in) c.loop-at.all c.loop-at.at) c.in_err-all.ensures.found)
     (omega arith) in
     search (rules, h)
 
 pub sum-returns-clause-found : goal.sum-returns-clause-found
 sum-returns-clause-found t c =
     let v = c.loop-at.invariant in
-    summed_whole c.args.count c.loop-at.at (part_of c.args.reads.now c.body-item.result) (map (part_of c.args.reads.now) c.args.args.now) (reverse c.args.bound.now)
-    (ap (map (part_of c.args.reads.now)) v.body) v.few c.loop-at.all v.sum (omega arith)
+    summed_whole c.args.count c.loop-at.at (part_of (environment c.args.env.now) c.body-item.result) (map (part_of (environment c.args.env.now)) c.args.args.now) (reverse c.args.bound.now)
+    (ap (map (part_of (environment c.args.env.now))) v.body) v.few c.loop-at.all v.sum (omega arith)
 
 pub measure-returns-clause-found : goal.measure-returns-clause-found
 measure-returns-clause-found t c =
     gives_as shown _ _ c.weighed.result
-    (measured_by (part_of c.args.reads.now) c.args.args.now c.d-item.result c.body-item.result (reverse c.args.bound.now) (shown_table c.in_ok-table.table) c.in-len2.len_at_least c.in-len2.len_below c.d-item.is c.body-item.is c.in_ok-table.ensures.found
-    ∙ ap (λ vs. weighed (part_of c.args.reads.now c.body-item.result) (shown_table c.in_ok-table.table) (reverse vs)) (sym c.in_ok-table.ensures.bound))
+    (measured_by (part_of (environment c.args.env.now)) c.args.args.now c.d-item.result c.body-item.result (reverse c.args.bound.now) (shown_table c.in_ok-table.table) c.in-len2.len_at_least c.in-len2.len_below c.d-item.is c.body-item.is c.in_ok-table.ensures.found
+    ∙ ap (λ vs. weighed (part_of (environment c.args.env.now) c.body-item.result) (shown_table c.in_ok-table.table) (reverse vs)) (sym c.in_ok-table.ensures.bound))
     c.weighed.ensures.found
 
 pub restriction-returns-clause-found : goal.restriction-returns-clause-found
 restriction-returns-clause-found t c =
     gives_as shown _ _ c.narrowed.result
-    (restricted_by (part_of c.args.reads.now) c.args.args.now c.d-item.result c.body-item.result (reverse c.args.bound.now) (shown_table c.in_ok-table.table) c.in-len2.len_at_least c.in-len2.len_below c.d-item.is c.body-item.is c.in_ok-table.ensures.found
-    ∙ ap (λ vs. narrowed (part_of c.args.reads.now c.body-item.result) (shown_table c.in_ok-table.table) (reverse vs)) (sym c.in_ok-table.ensures.bound))
+    (restricted_by (part_of (environment c.args.env.now)) c.args.args.now c.d-item.result c.body-item.result (reverse c.args.bound.now) (shown_table c.in_ok-table.table) c.in-len2.len_at_least c.in-len2.len_below c.d-item.is c.body-item.is c.in_ok-table.ensures.found
+    ∙ ap (λ vs. narrowed (part_of (environment c.args.env.now) c.body-item.result) (shown_table c.in_ok-table.table) (reverse vs)) (sym c.in_ok-table.ensures.bound))
     c.narrowed.ensures.found
 
 pub image-returns-clause-found : goal.image-returns-clause-found
 image-returns-clause-found t c =
     gives_as shown _ _ c.image_of.result
-    (mapped_by (part_of c.args.reads.now) c.args.args.now c.d-item.result c.body-item.result (reverse c.args.bound.now) (shown_table c.in_ok-table.table) c.in-len2.len_at_least c.in-len2.len_below c.d-item.is c.body-item.is c.in_ok-table.ensures.found
-    ∙ ap (λ vs. image_of (part_of c.args.reads.now c.body-item.result) (shown_table c.in_ok-table.table) (reverse vs)) (sym c.in_ok-table.ensures.bound))
+    (mapped_by (part_of (environment c.args.env.now)) c.args.args.now c.d-item.result c.body-item.result (reverse c.args.bound.now) (shown_table c.in_ok-table.table) c.in-len2.len_at_least c.in-len2.len_below c.d-item.is c.body-item.is c.in_ok-table.ensures.found
+    ∙ ap (λ vs. image_of (part_of (environment c.args.env.now) c.body-item.result) (shown_table c.in_ok-table.table) (reverse vs)) (sym c.in_ok-table.ensures.bound))
     c.image_of.ensures.found
 
 pub operator-returns-in-len3-clause-found : goal.operator-returns-in-len3-clause-found
 operator-returns-in-len3-clause-found t c =
     gives_as shown _ _ c.ternary.result
-    (operated_three c.args.op c.args.ty.now (part_of c.args.reads.now) c.args.args.now (reverse c.args.bound.now) c.is_tuple.result c.is_tuple.ensures c.if-is_tuple.false c.in-len3.len_at_least c.in-len3.len_below)
+    (operated_three c.args.op c.args.ty.now (part_of (environment c.args.env.now)) c.args.args.now (reverse c.args.bound.now) c.is_tuple.result c.is_tuple.ensures c.if-is_tuple.false c.in-len3.len_at_least c.in-len3.len_below)
     c.ternary.ensures.found
+
+pub applied-returns-in-Some : goal.applied-returns-in-Some
+applied-returns-in-Some t c =
+    gives_as shown _ _ c.eval.result
+    (ap (λ e. (e.operators c.args.name.now).comes c.args.args.now) (environment_is c.args.env.now)
+    ∙ open_comes c.args.env.now.script c.args.name.now c.inside.result c.in-Some.body.now c.in-Some.ensures c.inside.ensures.scope c.inside.ensures.depth c.args.args.now
+    ∙ ap (λ e. eval e c.in-Some.body.now (reverse c.args.args.now)) (sym (environment_is _)))
+    c.eval.ensures.found
+
+pub applied-returns-in-None : goal.applied-returns-in-None
+applied-returns-in-None t c =
+    ap (λ e. (e.operators c.args.name.now).comes c.args.args.now) (environment_is c.args.env.now)
+    ∙ closed_comes c.args.env.now.script c.args.name.now c.in-None.ensures c.args.args.now
+
+pub applied-eval-requires : goal.applied-eval-requires
+applied-eval-requires t c =
+    ((let f = opens c.args.env.now.script c.inside.result c.args.name.now c.in-Some.body.now c.in-Some.ensures c.inside.ensures.scope c.inside.ensures.depth in omega arith), tt)

@@ -1,7 +1,7 @@
 use Rattle.std.proofs.Common.{sym, ◌∙◌, subst}
 use Rattle.gb_goal.specs.Answers.{Answers}
 use Rattle.gb_goal.specs.Rows.{each_concluding}
-use Rattle.gb_rules.specs.Samplings.{sampling_of, last_sampling}
+use Rattle.gb_typing.specs.Samplings.{sampling_of, last_sampling}
 use Rattle.gb_chance.specs.Loss.{loss_seen}
 use Rattle.gb_phoare.specs.Rnd.{without_sampling}
 use Rattle.gb_phoare.proofs.RndSteps.{without_clash, none_copied}

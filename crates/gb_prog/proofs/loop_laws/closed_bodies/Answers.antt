@@ -1,6 +1,6 @@
 use Rattle.std.proofs.Common.{ap}
 use Rattle.gb_meaning.specs.Meanings.{truth}
-use Rattle.gb_rules.proofs.Lists.{each_hidden}
+use Rattle.gb_typing.proofs.Lists.{each_hidden}
 use Rattle.gb_prog.proofs.Blind.{blind_value, blind_run}
 use Rattle.gb_prog.proofs.Reached.{good_anywhere}
 use Rattle.gb_prog.proofs.loop_laws.closed_bodies.Goals as goal

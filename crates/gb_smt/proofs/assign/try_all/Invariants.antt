@@ -9,5 +9,5 @@ abbrev pub invariant-loop-at : goal.invariant-loop-at
 invariant-loop-at l = record {
   exact : card_of (assignments l.claim) ≡ Exact l.count;
   each : length l.reads ≡ length l.claim.variables;
-  before : found_before l.at l.claim ≡ True;
+  before : found_before l.scope l.at l.claim ≡ True;
 }

@@ -2,4 +2,4 @@ use Rattle.gb_smt_laws.proofs.Components.{claims_close}
 use Rattle.gb_smt_laws.proofs.leaf_laws.components.Goals as goal
 
 pub returns : goal.returns
-returns c = λ g j l k. claims_close g j l k
+returns c = claims_close

@@ -4,8 +4,8 @@ use Rattle.std.specs.Prelude.{Err}
 use Rattle.std.proofs.lemmas.Result.{err_from_is_err_and}
 use Rattle.gb_goal.specs.Answers.{Gives}
 use Rattle.gb_goal.specs.Answers.Answer.{given}
-use Rattle.gb_verdict.specs.Session.{Session}
-use Rattle.gb_verdict.specs.Commands.{opens}
+use Rattle.gb_theory.specs.Built.{Session}
+use Rattle.gb_theory.specs.Commands.{opens}
 use Rattle.gb_theory.specs.declared.state.OpenProof.{OpenProof}
 use Rattle.gb_theory.specs.Sessions.{open_of, session_of}
 use Rattle.gb_theory.proofs.Declared.{opens_done, opens_fails}

@@ -1,8 +1,8 @@
 -- What becomes of the goals becomes of the open proof.
 use Rattle.std.proofs.Common.{◌++◌, drop, Some, refl, subst, sym}
 use Rattle.gb_goal.specs.Answers.Answer.{given}
-use Rattle.gb_verdict.specs.Session.{Session, OpenProof as Opened}
-use Rattle.gb_verdict.specs.Commands.{InProof, WorksOn}
+use Rattle.gb_theory.specs.Built.{Session, OpenProof as Opened}
+use Rattle.gb_theory.specs.Commands.{InProof, WorksOn}
 use Rattle.gb_theory.specs.Sessions.{session_of, open_of}
 use Rattle.gb_theory.specs.declared.state.OpenProof.{OpenProof}
 use Rattle.gb_theory.proofs.InProofs.{works_or_fails, works}

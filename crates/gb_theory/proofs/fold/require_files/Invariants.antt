@@ -1,5 +1,5 @@
 use Rattle.std.proofs.Common.{◌≡◌, drop}
-use Rattle.gb_verdict.specs.Commands.{brought}
+use Rattle.gb_theory.specs.Commands.{brought}
 use Rattle.gb_theory.proofs.fold.require_files.Given as goal
 
 abbrev pub invariant-loop-name : goal.invariant-loop-name

@@ -2,8 +2,8 @@
 use Rattle.std.proofs.Common.{◌++◌, drop, ap, sym, ◌∙◌, subst}
 use Rattle.std.proofs.lemmas.Result.{err_from_is_err_and}
 use Rattle.std.specs.Prelude.{Err}
-use Rattle.gb_verdict.specs.Session.{with_goals}
-use Rattle.gb_verdict.specs.Commands.{WorksOn}
+use Rattle.gb_theory.specs.Built.{with_goals}
+use Rattle.gb_theory.specs.Commands.{WorksOn}
 use Rattle.gb_theory.specs.Sessions.{Meets}
 use Rattle.gb_theory.proofs.Steps.{next_meets, next_fails}
 use Rattle.gb_theory.proofs.fold.subgoals.Goals as goal

@@ -2,7 +2,7 @@
 use Rattle.std.proofs.Common.{◌∙◌, sym, ap, arith}
 use Rattle.std.specs.Prelude.{Err}
 use Rattle.std.proofs.lemmas.Result.{err_from_is_err_and}
-use Rattle.gb_verdict.specs.Limits.{limited}
+use Rattle.gb_theory.specs.Limits.{limited}
 use Rattle.gb_theory.proofs.Passed.{each_limit-at, limited-first}
 use Rattle.gb_theory.proofs.limits.check_each.Goals as goal
 

@@ -1,5 +1,5 @@
 use Rattle.std.proofs.Common.{◌≡◌, drop}
-use Rattle.gb_verdict.specs.Limits.{each_limit}
+use Rattle.gb_theory.specs.Limits.{each_limit}
 use Rattle.gb_theory.proofs.limits.check_each.Given as goal
 
 -- no goal so far passes a limit

@@ -7,7 +7,7 @@ use Rattle.gb_goal.specs.Answers.Answer.{given}
 use Rattle.gb_script.specs.Tree.{head_of, text_of, place_of}
 use Rattle.gb_names.proofs.Answers.{answers_as, fails_as}
 use Rattle.gb_names.proofs.Parts.{left}
-use Rattle.gb_verdict.specs.Patterns.{added, added_by, all_added}
+use Rattle.gb_theory.specs.Patterns.{added, added_by, all_added}
 use Rattle.gb_theory.specs.Tactics.{each_adds, with_added}
 use Rattle.gb_theory.proofs.Named.{added_is, plain_is, next_added, next_is_refused}
 use Rattle.gb_theory.proofs.names.+names.Goals as goal

@@ -1,6 +1,6 @@
 -- What the patterns that are left add to the names comes to what all of them add.
 use Rattle.std.proofs.Common.{◌≡◌, [], drop}
-use Rattle.gb_verdict.specs.Patterns.{all_added}
+use Rattle.gb_theory.specs.Patterns.{all_added}
 use Rattle.gb_theory.specs.Tactics.{each_adds}
 use Rattle.gb_theory.proofs.names.+names.Given as goal
 

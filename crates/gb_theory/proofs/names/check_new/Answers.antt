@@ -4,7 +4,7 @@ use Rattle.std.specs.Prelude.{Err}
 use Rattle.gb_goal.specs.Answers.{Answers}
 use Rattle.gb_goal.specs.Answers.Answer.{given}
 use Rattle.gb_names.proofs.Answers.{fails_as, leads_on, passes}
-use Rattle.gb_verdict.specs.Patterns.{all_added, all_new}
+use Rattle.gb_theory.specs.Patterns.{all_added, all_new}
 use Rattle.gb_theory.specs.Tactics.{each_adds}
 use Rattle.gb_theory.proofs.Named.{all_is}
 use Rattle.gb_theory.proofs.names.check_new.Goals as goal

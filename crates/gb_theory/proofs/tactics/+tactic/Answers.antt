@@ -9,7 +9,7 @@ use Rattle.gb_script.specs.declared.head.Head.TheVariants as head
 use Rattle.gb_script.specs.Tree.{head_of, text_of, place_of}
 use Rattle.gb_names.proofs.Answers.{answers_as, fails_as, leads_on, passes}
 use Rattle.gb_names.proofs.Parts.{left, two}
-use Rattle.gb_verdict.specs.Tactics.{done_at, fitted, gathered_behind, in_turn, inside, introduced, on_each, ruled, spread, stepped_by, times, worked, works}
+use Rattle.gb_theory.specs.Combinators.{done_at, fitted, gathered_behind, in_turn, inside, introduced, on_each, ruled, spread, stepped_by, times, worked, works}
 use Rattle.gb_theory.specs.Tactics.{each_works, with_works, fits, inner}
 use Rattle.gb_theory.proofs.Combined.{pattern_is, no_pattern_is, rules_alone, tactic_is, both_is, either_is, repeat_is, rule_is, introduced_is, introduced_fails, branches_is, step_is, next_given, next_fails, one_each, pair_given, pair_fails, spread_is, spread_ends, round_given, round_fails, times_is}
 use Rattle.gb_theory.proofs.tactics.+tactic.Goals as goal

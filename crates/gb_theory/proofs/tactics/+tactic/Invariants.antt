@@ -2,8 +2,8 @@
 use Rattle.std.proofs.Common.{◌≡◌, ◌-◌, [], ◌∷◌, drop, length, map}
 use Rattle.std.specs.List.{zip}
 use Rattle.gb_script.specs.declared.tree.Node.{Node as Tree}
-use Rattle.gb_verdict.specs.Commands.{AreRules}
-use Rattle.gb_verdict.specs.Tactics.{Stepping, gathered_behind, in_turn, repeated, stepped_by, works}
+use Rattle.gb_theory.specs.Commands.{AreRules}
+use Rattle.gb_theory.specs.Combinators.{Stepping, gathered_behind, in_turn, repeated, stepped_by, works}
 use Rattle.gb_theory.specs.Tactics.{with_works, each_works, fits}
 use Rattle.gb_theory.proofs.tactics.+tactic.Given as goal
 

@@ -1,11 +1,15 @@
 use Rattle.std.proofs.Common.{subst}
 use Rattle.gb_goal.specs.Answers.{Answers}
 use Rattle.gb_linear.specs.Closing.{linear_answer}
-use Rattle.gb_theory.proofs.Steps.{ambient_meets, linear_meets, smt_meets, use_meets}
+use Rattle.gb_smt.specs.Leaves.{leaves_of}
+use Rattle.gb_smt.specs.Apply.{IsResult}
+use Rattle.gb_theory.proofs.Steps.{ambient_meets, linear_meets, rewrite_meets, smt_meets, use_meets}
 use Rattle.gb_theory.proofs.tactics.apply.Goals as goal
 
 pub returns-in-Smt : goal.returns-in-Smt
-returns-in-Smt c = smt_meets c.args.scope.now c.args.step.now.rule c.args.step.now.place c.args.goal.now c.apply-in-Smt.result c.in-Smt.is c.apply-in-Smt.ensures.answer
+returns-in-Smt c =
+    smt_meets c.args.scope.now c.args.step.now.rule c.in-Smt.known c.args.step.now.place c.args.goal.now c.apply-in-Smt.result c.in-Smt.is
+    (subst (λ known. IsResult c.args.scope.now (leaves_of known c.args.goal.now) c.args.step.now.place c.apply-in-Smt.result) c.as_slice.ensures c.apply-in-Smt.ensures.answer)
 
 pub returns-in-Ambient : goal.returns-in-Ambient
 returns-in-Ambient c = ambient_meets c.args.scope.now c.args.step.now.rule c.in-Ambient.rule c.args.step.now.place c.args.goal.now c.apply-in-Ambient.result c.in-Ambient.is c.apply-in-Ambient.ensures
@@ -13,7 +17,11 @@ returns-in-Ambient c = ambient_meets c.args.scope.now c.args.step.now.rule c.in-
 pub returns-in-Linear : goal.returns-in-Linear
 returns-in-Linear c =
     linear_meets c.args.scope.now c.args.step.now.rule c.in-Linear.multiples c.args.step.now.place c.args.goal.now c.apply-in-Linear.result c.in-Linear.is
-    (subst (λ ms. Answers (linear_answer ms c.args.step.now.place c.args.goal.now) c.apply-in-Linear.result) c.as_slice.ensures c.apply-in-Linear.ensures)
+    (subst (λ ms. Answers (linear_answer ms c.args.step.now.place c.args.goal.now) c.apply-in-Linear.result) c.as_slice-in-Linear.ensures c.apply-in-Linear.ensures)
 
 pub returns-in-Use : goal.returns-in-Use
 returns-in-Use c = use_meets c.args.scope.now c.args.step.now.rule c.in-Use.rule c.args.step.now.place c.args.goal.now c.apply-in-Use.result c.in-Use.is c.apply-in-Use.ensures
+
+pub returns-in-Rewrite : goal.returns-in-Rewrite
+returns-in-Rewrite c =
+    rewrite_meets c.args.scope.now c.args.step.now.rule c.in-Rewrite.rule c.args.step.now.place c.args.goal.now c.apply-in-Rewrite.result c.in-Rewrite.is c.apply-in-Rewrite.ensures

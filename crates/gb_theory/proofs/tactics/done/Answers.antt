@@ -1,6 +1,6 @@
 use Rattle.std.proofs.Common.{subst}
 use Rattle.gb_goal.specs.Answers.{Answers}
-use Rattle.gb_verdict.specs.Tactics.{on_each}
+use Rattle.gb_theory.specs.Combinators.{on_each}
 use Rattle.gb_theory.proofs.tactics.done.Goals as goal
 
 pub returns : goal.returns

@@ -1,4 +1,4 @@
-use Rattle.gb_verdict.specs.Commands.{RuleAnswers}
+use Rattle.gb_theory.specs.Commands.{RuleAnswers}
 use Rattle.gb_theory.proofs.Steps.{one_is_met}
 use Rattle.gb_theory.proofs.tactics.rule.Goals as goal
 

@@ -4,7 +4,7 @@ use Rattle.std.specs.Prelude.{Err}
 use Rattle.gb_goal.specs.Answers.{Answers}
 use Rattle.gb_names.proofs.Answers.{fails_as}
 use Rattle.gb_names.proofs.Parts.{left}
-use Rattle.gb_verdict.specs.Tactics.{gathered_behind, on_each}
+use Rattle.gb_theory.specs.Combinators.{gathered_behind, on_each}
 use Rattle.gb_theory.proofs.Combined.{next_given, next_fails}
 use Rattle.gb_theory.proofs.tactics.rule_on_each.Goals as goal
 

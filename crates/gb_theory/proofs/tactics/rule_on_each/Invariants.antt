@@ -1,7 +1,7 @@
 use Rattle.std.proofs.Common.{◌≡◌, [], drop, map}
 use Rattle.gb_script.specs.declared.tree.Node.{Node as Tree}
-use Rattle.gb_verdict.specs.Commands.{AreRules}
-use Rattle.gb_verdict.specs.Tactics.{Stepping, gathered_behind}
+use Rattle.gb_theory.specs.Commands.{AreRules}
+use Rattle.gb_theory.specs.Combinators.{Stepping, gathered_behind}
 use Rattle.gb_theory.proofs.tactics.rule_on_each.Given as goal
 
 abbrev pub invariant-loop-goal : goal.invariant-loop-goal

@@ -3,7 +3,7 @@ use Rattle.std.proofs.Common.{subst, sym, ap, ◌∙◌}
 use Rattle.std.specs.Prelude.{Err}
 use Rattle.std.proofs.lemmas.Result.{err_from_is_err_and}
 use Rattle.gb_script.specs.declared.tree.Node.{Node}
-use Rattle.gb_verdict.specs.Verdict.{IsReadAs}
+use Rattle.gb_theory.specs.Outcome.{IsReadAs}
 use Rattle.gb_theory.specs.Sessions.{Meets}
 use Rattle.gb_theory.proofs.Read.{character_due, read_due}
 use Rattle.gb_theory.proofs.verdict.read_command.Goals as goal

@@ -1,0 +1,12 @@
+-- The line is its pieces one behind the other.
+use Rattle.std.proofs.Common.{◌≡◌, ◌∙◌, refl}
+use Rattle.std.specs.Fmt.{decimal}
+use Rattle.std.proofs.lemmas.Result.{IfOk-weaker}
+use Rattle.gb_app.specs.Generated.{lemma_pieces}
+use Rattle.gb_app.proofs.generated.lemma_line.Goals as goal
+
+pub returns : goal.returns
+unfolding lemma_pieces
+returns c =
+    let number : c.as_str-number.result.now ≡ decimal c.args.i = c.as_str-number.ensures.value ∙ c.in_ok-number.ensures in
+    IfOk-weaker c.concat.result _ _ (λ s h. h ∙ rw number refl) c.concat.ensures.ok

@@ -1,0 +1,15 @@
+pub mod After
+pub mod AfterMeans
+pub mod Arguments
+pub mod CallIsSound
+pub mod Conditions
+pub mod Globals
+pub mod LastCalls
+pub mod LeftSides
+pub mod Others
+pub mod OutcomeSteps
+pub mod ReadSteps
+pub mod Replaced
+pub mod RulesAreSound
+pub mod WrittenSteps
+pub mod WrittenWithin

@@ -1,0 +1,45 @@
+-- What typing makes of `call`, by what a procedure is said to do.
+use Rattle.std.proofs.Common.{◌≡◌, List, [], ◌∷◌, Option, Some, None, subst}
+use Rattle.gb_core.specs.declared.place.Place.{Place}
+use Rattle.gb_core.specs.declared.ty.Ty.TheVariants as ty
+use Rattle.gb_terms.specs.declared.module.ProcRef.{ProcRef}
+use Rattle.gb_terms.specs.declared.term.Term.{Term}
+use Rattle.gb_goal.specs.Scope.{Declarations, procedure_of}
+use Rattle.gb_goal.specs.Goal.{Goal, goal_of}
+use Rattle.gb_goal.specs.Goal.Code.{body, procedure}
+use Rattle.gb_goal.specs.Goal.Goal.{hoare, phoare, equiv, ambient}
+use Rattle.gb_goal.specs.declared.sequent.Sequent.{Sequent}
+use Rattle.gb_goal.specs.Answers.Answer.{given}
+use Rattle.gb_steps.specs.declared.step.Acts.{Acts}
+use Rattle.gb_steps.specs.declared.step.BodyRule.TheVariants as on_bodies
+use Rattle.gb_steps.specs.declared.step.Contract.{Contract}
+use Rattle.gb_steps.specs.declared.step.Rule.{Rule}
+use Rattle.gb_steps.specs.declared.step.Rule.TheVariants as rule
+use Rattle.gb_script.specs.declared.head.Head.{Head as Kind}
+use Rattle.gb_script.specs.declared.head.Head.TheVariants as text
+use Rattle.gb_script.specs.declared.tree.Node.{Node}
+use Rattle.gb_names.specs.Environment.{unary}
+use Rattle.gb_elab.specs.Forms.{elaborated}
+use Rattle.gb_elab_mod.specs.Steps.{call_rule, contract_at, contract_of, last_procedure, params_if, result_if}
+use Rattle.gb_elab_laws.proofs.Given.{given_bind, given_is}
+
+-- It is a step of `call`, or one that fits no goal.
+module _ (ds : Declarations) (q : Sequent) (P : Rule → Type 0) (called : (s : Contract) → P (rule.Call s)) (unfit : P (rule.OnBodies on_bodies.Unfit)) where
+  of_contract : (a : Acts) (m n : Node) (o : Option ProcRef) (k : Rule) → contract_of ds q a m n o ≡ given k → P k
+  unfolding contract_of
+  of_contract a m n None k h = subst P (given_is (rule.OnBodies on_bodies.Unfit) k h) unfit
+  of_contract a m n (Some r) k h =
+      let x = given_bind (elaborated m (unary ds q (params_if (procedure_of ds r))) [] (Some ty.Bool)) _ k h in
+      let y = given_bind (elaborated n (unary ds q (result_if (procedure_of ds r))) [] (Some ty.Bool)) (λ (f : Term). given (rule.Call (record { acts = a; pre = x.0; post = f }))) k x.2 in
+      subst P (given_is (rule.Call (record { acts = a; pre = x.0; post = y.0 })) k y.2) (called (record { acts = a; pre = x.0; post = y.0 }))
+
+  at_goal : (a : Acts) (m n : Node) (G : Goal) (k : Rule) → contract_at ds q a m n G ≡ given k → P k
+  at_goal a m n (hoare (body is) p f) k h = of_contract a m n (last_procedure is) k h
+  at_goal a m n (hoare (procedure r) p f) k h = subst P (given_is (rule.OnBodies on_bodies.Unfit) k h) unfit
+  at_goal a m n (phoare c r p f b) k h = subst P (given_is (rule.OnBodies on_bodies.Unfit) k h) unfit
+  at_goal a m n (equiv c d p f) k h = subst P (given_is (rule.OnBodies on_bodies.Unfit) k h) unfit
+  at_goal a m n (ambient f) k h = subst P (given_is (rule.OnBodies on_bodies.Unfit) k h) unfit
+
+  pub of_call : (a : Acts) (n : Kind) (ns : List Node) (p : Place) (k : Rule) → call_rule ds q a n ns p ≡ given k → P k
+  of_call a text.CallContract (m ∷ n ∷ []) p k h = at_goal a m n (goal_of q.conclusion) k h
+  of_call a _ _ p k h = cc

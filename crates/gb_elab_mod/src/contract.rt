@@ -1,0 +1,146 @@
+// The typing of `call`, by what a procedure is said to do.
+
+ghost use Rattle.std.specs.Prelude.{◌≡◌, [], IfOk};
+ghost use Rattle.std.specs.Option.{option_copied};
+ghost use Rattle.gb_goal.specs.Answers.{Answers};
+ghost use Rattle.gb_goal.specs.Views.{goal_seen};
+ghost use Rattle.gb_names.specs.Environment.{environment};
+ghost use Rattle.gb_elab_mod.specs.Steps.{call_rule, contract_at, contract_of, last_procedure, params_if, procedure_called, result_if};
+
+use gb_core::place::Place;
+use gb_core::refusal::Refused;
+use gb_core::ty::Ty;
+use gb_elab::form::typed;
+use gb_goal::goal::{Code, Goal, goal_of};
+use gb_goal::scope::Scope;
+use gb_goal::sequent::Sequent;
+use gb_names::judgment::result_of;
+use gb_names::refusals::not_built;
+use gb_names::setting::Setting;
+use gb_script::head::Head;
+use gb_script::tree::Node;
+use gb_steps::step::{Acts, BodyRule, Contract, Rule};
+use gb_terms::decl::{Proc, Typed};
+use gb_terms::module::ProcRef;
+use gb_terms::share::copy_typed;
+use gb_terms::term::Instr;
+use sqlite_items::Items;
+use std::alloc::{AllocError, Global};
+
+/// The procedure that a statement calls itself.
+fn procedure_called(statement: &Instr) -> Option<&ProcRef>
+    ensures { option_copied result ≡ procedure_called statement.now }
+{
+    match statement {
+        Instr::Call(_, procedure, _) => Some(procedure.get()),
+        _ => None,
+    }
+}
+
+/// The procedure that the last statement of a body calls.
+#[tactic(auto, using(crate::proofs::LastProcedures::last_statement, crate::proofs::LastProcedures::no_statement))]
+fn last_procedure(body: &[Instr]) -> Option<&ProcRef>
+    ensures { option_copied result ≡ last_procedure body.now }
+{
+    match body.split_last() {
+        Some((last, _)) => procedure_called(last),
+        None => None,
+    }
+}
+
+/// The parameters of a procedure that may be declared.
+fn params_if(alloc: Global, declared: Option<&Proc>) -> Result<Typed, AllocError>
+    ensures { IfOk result (λ made. made ≡ params_if (option_copied declared.entry)) }
+{
+    match declared {
+        Some(procedure) => copy_typed(alloc, procedure.params.as_slice()),
+        None => Ok(Items::new(alloc)),
+    }
+}
+
+/// Its result.
+fn result_if(alloc: Global, declared: Option<&Proc>) -> Result<Typed, AllocError>
+    ensures { IfOk result (λ made. made ≡ result_if (option_copied declared.entry)) }
+{
+    match declared {
+        Some(procedure) => result_of(alloc, procedure),
+        None => Ok(Items::new(alloc)),
+    }
+}
+
+/// What a called procedure is said to do: a precondition reads its parameters, and a postcondition its result.
+#[tactic(auto, unfolding(crate::specs::Steps::contract_of))]
+fn contract_of(
+    alloc: Global,
+    scope: &Scope,
+    goal: &Sequent,
+    acts: Acts,
+    pre: &Node,
+    post: &Node,
+    called: Option<&ProcRef>,
+) -> Result<Rule, Refused>
+    ensures { Answers (contract_of scope.now goal.now acts pre.now post.now (option_copied called.entry)) result }
+{
+    let Some(called) = called else {
+        return Ok(Rule::OnBodies(BodyRule::Unfit));
+    };
+    let params = params_if(alloc, scope.procedure(called))?;
+    let result = result_if(alloc, scope.procedure(called))?;
+    let before = Setting::unary(scope, goal, params.as_slice());
+    let pre = typed(alloc, &before, &[], pre, Some(&Ty::Bool))?;
+    let after = Setting::unary(scope, goal, result.as_slice());
+    let post = typed(alloc, &after, &[], post, Some(&Ty::Bool))?;
+    Ok(Rule::Call(Contract { acts, pre, post }))
+}
+
+/// The same at a goal that is seen so.
+fn contract_at(
+    alloc: Global,
+    scope: &Scope,
+    goal: &Sequent,
+    acts: Acts,
+    pre: &Node,
+    post: &Node,
+    seen: Goal<'_>,
+) -> Result<Rule, Refused>
+    ensures { Answers (contract_at scope.now goal.now acts pre.now post.now (goal_seen seen.entry)) result }
+{
+    match seen {
+        Goal::Hoare(Code::Body(list), _, _) => {
+            contract_of(alloc, scope, goal, acts, pre, post, last_procedure(list))
+        }
+        _ => Ok(Rule::OnBodies(BodyRule::Unfit)),
+    }
+}
+
+/// The typed step of `call`.
+///
+/// # Errors
+///
+/// `Syntax` of one that isn't built, and those of typing.
+pub fn call_rule(
+    alloc: Global,
+    scope: &Scope,
+    goal: &Sequent,
+    acts: Acts,
+    head: Head,
+    parts: &[Node],
+    place: Place,
+) -> Result<Rule, Refused>
+    ensures { Answers (call_rule scope.now goal.now acts head parts.now place) result }
+{
+    match (head, parts) {
+        (Head::CallContract, [pre, post]) => {
+            contract_at(
+                alloc,
+                scope,
+                goal,
+                acts,
+                pre,
+                post,
+                goal_of(&goal.conclusion),
+            )
+        }
+        _ => Err(not_built(place)),
+    }
+}

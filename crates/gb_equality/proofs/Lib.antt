@@ -1,0 +1,16 @@
+pub mod Tables
+mod Equations
+mod Implied
+pub mod Places
+mod Once
+pub mod Forms
+pub mod Rows
+mod Reading
+mod Narrowed
+mod Settled
+mod Searching
+mod Answering
+mod Assuming
+pub mod Among
+mod Decisions
+pub mod Deciding

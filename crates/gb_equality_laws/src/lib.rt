@@ -1,0 +1,4 @@
+//! Leaves that are valid by equality hold.
+#![tactic(auto)]
+
+pub mod laws;

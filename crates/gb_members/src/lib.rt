@@ -1,0 +1,4 @@
+//! Values of finite types.
+#![tactic(auto)]
+
+pub mod members;

@@ -1,0 +1,278 @@
+-- What is printed of a goal is read back.
+use Rattle.std.specs.Prelude.{ℕ, suc, ◌≡◌, ◌<◌, true, List, [], ◌∷◌, ◌++◌, length, map, codes}
+use Rattle.std.specs.List.{All, AllZip, prefix_len}
+use Rattle.std.proofs.Common.{refl, ap, ap₂, sym, ◌∙◌, subst, arith, inl, inr}
+use Rattle.std.proofs.lemmas.List.Elements.{All-cons}
+use Rattle.gb_core.specs.declared.place.Place.{Place as TextPlace}
+use Rattle.gb_grammar.specs.declared.table.Symbol.{Symbol}
+use Rattle.gb_grammar.specs.declared.table.Symbol.TheVariants.{Token, Part}
+use Rattle.gb_grammar.specs.Grammar.{Grammar}
+use Rattle.gb_grammar.specs.Reading.{IsKind, Spells, IsTextOrFault}
+use Rattle.gb_language.specs.declared.rows.TheConstants.{ENTRY, HYPOTHESIS}
+use Rattle.gb_language.specs.Language.{goal_language, IsLineTree}
+use Rattle.gb_language.proofs.Language.{line_or_fault, line_spells}
+use Rattle.gb_limits.specs.Kinds.{kind_of}
+use Rattle.gb_limits.specs.Lexeme.{kinds_of}
+use Rattle.gb_read_script.specs.declared.line.Line.{Line}
+use Rattle.gb_read_script.specs.declared.goal_lines.LineSort.TheVariants as sort
+use Rattle.gb_read_script.specs.declared.goal_lines.ReadLine.{ReadLine}
+use Rattle.gb_read_script.specs.declared.goal_lines.ReadGoal.{ReadGoal}
+use Rattle.gb_read_script.specs.declared.goal_tree.SequentTree.{SequentTree}
+use Rattle.gb_read_script.specs.Line.{text_of, lines_before}
+use Rattle.gb_read_script.specs.GoalLines.{is_dash, is_minus, texts, IsEntry, IsRuler, IsGoal}
+use Rattle.gb_read_script.specs.Goal.{IsTreeOf as IsLineTreeOf, AreTreesOf, SpellsGoal, goal_lines, beginning}
+use Rattle.gb_script.specs.declared.action.Rule.{Rule}
+use Rattle.gb_script.specs.declared.terminal.Terminal.{Terminal}
+use Rattle.gb_script.specs.declared.terminal.Terminal.TheVariants as terminal
+use Rattle.gb_script.specs.declared.text.Lexeme.{Lexeme}
+use Rattle.gb_script.specs.declared.text.Text.{Text}
+use Rattle.gb_script.specs.declared.tree.Node.{Node}
+use Rattle.gb_script.specs.declared.value.Value.{Value}
+use Rattle.gb_script.specs.declared.value.Value.TheVariants.{Tree}
+use Rattle.gb_script.specs.Build.{IsTree}
+use Rattle.gb_lex.specs.Piece.{pieces_after}
+use Rattle.gb_lex.specs.PlaceAfter.{place_after}
+use Rattle.gb_terms.specs.declared.module.Bind.{Bind}
+use Rattle.gb_goal.specs.declared.sequent.Sequent.{Sequent}
+use Rattle.gb_script.proofs.Stacks.{append_nil}
+use Rattle.gb_print_names.specs.Text.{Writing, each}
+use Rattle.gb_print_names.specs.Names.{Place}
+use Rattle.gb_print.specs.Goals as print_goals
+use Rattle.gb_readback.specs.Nodes.{placeless}
+use Rattle.gb_readback.specs.Types.{abstract_module}
+use Rattle.gb_readback.specs.Goals.{Entry, binder, hypothesis, IsEntryTree, IsTreeOf, IsWrittenGoal}
+use Rattle.gb_readback.proofs.Reading.{lexeme_kind, lexeme_kinds, Reads, done, token}
+use Rattle.gb_readback.proofs.Sound.{bare_lexeme, bare_lexemes, spelled}
+use Rattle.gb_readback.proofs.Lexed.{lexed}
+use Rattle.gb_readback.proofs.LexemesAre.{behind_are}
+use Rattle.gb_readback.proofs.Shorter.{shorter}
+use Rattle.gb_readback.proofs.Taking.{takes, takes_some, avoided, entry_avoids, hypothesis_avoids, entry_takes, hypothesis_takes, form_takes}
+use Rattle.gb_readback.proofs.Cut.{Cut}
+use Rattle.gb_readback.proofs.LinesAre.{lexemes_behind, line_lexemes, parted_at, part_line}
+use Rattle.gb_readback.proofs.Levels.{Spelt}
+use Rattle.gb_readback.proofs.Productions.{grammar}
+use Rattle.gb_readback.proofs.FormsBack.{goals}
+use Rattle.gb_readback.proofs.Pieces.{Shows, both_written, empty_written, literal}
+use Rattle.gb_readback.proofs.PartsShown.{part_form}
+use Rattle.gb_readback.proofs.TermsShown.{term_shown}
+use Rattle.gb_readback.proofs.EntriesShown.{ContextLine, part_of, tree_of, lines_text, ruler, conclusion_reads, ShowsLines, variables_shown, memories_shown, hyps_shown, more_lines}
+
+bare_together : (xs ys : List Lexeme) → bare_lexemes (xs ++ ys) ≡ bare_lexemes xs ++ bare_lexemes ys
+bare_together [] ys = refl
+bare_together (x ∷ xs) ys = ap (λ l. bare_lexeme x ∷ l) (bare_together xs ys)
+
+bare_length : (xs : List Lexeme) → length (bare_lexemes xs) ≡ length xs
+bare_length [] = refl
+bare_length (x ∷ xs) = ap suc (bare_length xs)
+
+is_kind : (x : Terminal) → IsKind (kind_of x)
+unfolding kind_of
+is_kind x = grind arith
+
+bare_kinds : (ls : List Lexeme) → lexeme_kinds (bare_lexemes ls) ≡ map lexeme_kind ls
+bare_kinds [] = refl
+bare_kinds (l ∷ ls) = ap (λ ks. lexeme_kind l ∷ ks) (bare_kinds ls)
+
+dash_kinds : {ls : List Lexeme} {vs : List Value} → Reads (grammar 1) (Token 99 ∷ Token 99 ∷ Token 99 ∷ []) ls [] vs → lexeme_kinds ls ≡ 99 ∷ 99 ∷ 99 ∷ []
+dash_kinds (token a (token b (token c done))) = ap₂ (λ x l. x ∷ l) a (ap₂ (λ x l. x ∷ l) b (ap (λ x. x ∷ []) c))
+
+minus_of : (t : Terminal) → kind_of t ≡ 99 → is_minus t ≡ true
+unfolding kind_of is_minus
+minus_of terminal.Minus h = refl
+minus_of _ h = absurd (omega arith)
+
+three_dashes : (ls : List Lexeme) → map lexeme_kind ls ≡ 99 ∷ 99 ∷ 99 ∷ [] → (prefix_len is_dash ls ≡ 3) × (length ls ≡ 3)
+three_dashes [] e = absurd cc
+three_dashes (a ∷ []) e = absurd cc
+three_dashes (a ∷ b ∷ []) e = absurd cc
+three_dashes (a ∷ b ∷ c ∷ []) e =
+    let x = minus_of a.terminal cc in
+    let y = minus_of b.terminal cc in
+    let z = minus_of c.terminal cc in
+    (rw (x, y, z) refl, refl)
+three_dashes (a ∷ b ∷ c ∷ d ∷ ls) e = absurd cc
+
+module _ (start end : TextPlace) (kinds : (t : Text) → All IsKind (kinds_of t)) where
+  -- the tokens of a line, and those of what follows
+  line_bare : (front : List ℕ) {i j : List ℕ} (c : Cut i j) → lexed i ≡ bare_lexemes (line_lexemes start front c) ++ lexed j
+  line_bare front {i} {j} c =
+      sym (behind_are start front i)
+      ∙ ap bare_lexemes (parted_at start front c)
+      ∙ bare_together (line_lexemes start front c) (lexemes_behind start (front ++ c.front) j)
+      ∙ ap (λ l. bare_lexemes (line_lexemes start front c) ++ l) (behind_are start (front ++ c.front) j)
+
+  -- what a line reads, alone
+  line_reads : (front : List ℕ) {i j : List ℕ} {ss : List Symbol} {vs : List Value} (d : Spelt 1 ss i j vs) → Reads (grammar 1) ss (bare_lexemes (line_lexemes start front d.cut)) [] vs
+  line_reads front {j = j} d = shorter (grammar 1) (lexed j) d.reads (bare_lexemes (line_lexemes start front d.cut)) [] (line_bare front d.cut) refl
+
+  line_some : (front : List ℕ) {i j : List ℕ} {ss : List Symbol} {vs : List Value} (d : Spelt 1 ss i j vs) (f : ℕ) → takes f (grammar 1) ss ≡ true → 0 < length (line_lexemes start front d.cut)
+  line_some front d f h = subst (λ n. 0 < n) (bare_length (line_lexemes start front d.cut)) (takes_some (grammar 1) (line_reads front d) f h)
+
+  -- the tree of a line with these tokens
+  line_tree : (part : ℕ) (x : Node) (line : Line) (ls : List Lexeme) → line.tokens ≡ ls → Reads (grammar 1) (Part part ∷ []) (bare_lexemes ls) [] (Tree x ∷ [])
+      → (y : Node) × IsLineTree part (kinds_of (text_of line)) (text_of line) y × (placeless y ≡ x)
+  line_tree part x line ls e d =
+      let own : Reads (grammar 1) (Part part ∷ []) (bare_lexemes line.tokens) [] (Tree x ∷ []) = subst (λ l. Reads (grammar 1) (Part part ∷ []) (bare_lexemes l) [] (Tree x ∷ [])) (sym e) d in
+      subst (λ (g : Grammar Rule). (y : Node) × IsTree g part (kinds_of (text_of line)) (text_of line) y × (placeless y ≡ x)) goals (spelled (grammar 1) (text_of line) part x own)
+
+  -- Entries.
+
+  record Read (e : Entry) (t : Text) : Type 0 where
+    read : ReadLine
+    text : read.text ≡ t
+    is_entry : IsEntry read
+    tree : Node
+    spelled : IsLineTreeOf read tree
+    entry : IsEntryTree e tree
+
+  hypothesis_by : (x : Node) (t : Text) → (y : Node) × IsLineTree HYPOTHESIS (kinds_of t) t y × (placeless y ≡ x) → IsTextOrFault goal_language ENTRY (kinds_of t) → Read (hypothesis x) t
+  hypothesis_by x t h (inl d) =
+      let z = line_spells ENTRY (kinds_of t) t d.0 (inl refl) d.1 in
+      record {
+        read = record { sort = sort.Binder; text = t; steps = d.0 };
+        text = refl;
+        is_entry = (d.1, tt);
+        tree = z.0;
+        spelled = z.1;
+        entry = inr (record { line = t; spelled = h; variable = z.1 });
+      }
+  hypothesis_by x t h (inr f) =
+      record {
+        read = record { sort = sort.Hypothesis; text = t; steps = h.1.0 };
+        text = refl;
+        is_entry = (h.1.1, f.2.no_text);
+        tree = h.0;
+        spelled = h.1;
+        entry = inl h.2;
+      }
+
+  read_entry : (e : Entry) (t : Text) → (y : Node) × IsLineTree (part_of e) (kinds_of t) t y × (placeless y ≡ tree_of e) → Read e t
+  read_entry (binder x) t h =
+      record {
+        read = record { sort = sort.Binder; text = t; steps = h.1.0 };
+        text = refl;
+        is_entry = (h.1.1, tt);
+        tree = h.0;
+        spelled = h.1;
+        entry = h.2;
+      }
+  read_entry (hypothesis x) t h = hypothesis_by x t h (line_or_fault ENTRY (kinds_of t) (inl refl) (kinds t))
+
+  entry_some : (e : Entry) → takes 6 (grammar 1) (Part (part_of e) ∷ []) ≡ true
+  entry_some (binder x) = entry_takes
+  entry_some (hypothesis x) = hypothesis_takes
+
+  -- the lines of a context, and what is behind them
+  record Contexts (front : List ℕ) (ls : List ContextLine) (r : List ℕ) : Type 0 where
+    lines : List Line
+    behind : List ℕ
+    parted : lines_before end (lexemes_behind start front (lines_text ls r)) [] ≡ lines ++ lines_before end (lexemes_behind start behind r) []
+    read : List ReadLine
+    texts_are : map text_of lines ≡ texts read
+    entries_are : All IsEntry read
+    trees : List Node
+    spelled : AllZip IsLineTreeOf read trees
+    are : AllZip IsEntryTree (map (λ (l : ContextLine). l.entry) ls) trees
+
+  contexts : (front : List ℕ) (ls : List ContextLine) (r : List ℕ) → Contexts front ls r
+  contexts front [] r = record { lines = []; behind = front; parted = refl; read = []; texts_are = refl; entries_are = λ k d h. absurd (omega arith); trees = []; spelled = tt; are = tt }
+  contexts front (l ∷ ls) r =
+      let rest = lines_text ls r in
+      let d = l.reads rest in
+      let first = part_line start end front d.cut (line_some front d 6 (entry_some l.entry)) in
+      let tree = line_tree (part_of l.entry) (tree_of l.entry) first.line (line_lexemes start front d.cut) first.tokens (line_reads front d) in
+      let one = read_entry l.entry (text_of first.line) tree in
+      let more = contexts ((front ++ d.cut.front) ++ 10 ∷ []) ls r in
+      record {
+        lines = first.line ∷ more.lines;
+        behind = more.behind;
+        parted = first.parted_lines ∙ ap (λ x. first.line ∷ x) more.parted;
+        read = one.read ∷ more.read;
+        texts_are = ap₂ (λ t ts. t ∷ ts) (sym one.text) more.texts_are;
+        entries_are = All-cons IsEntry one.read more.read one.is_entry more.entries_are;
+        trees = one.tree ∷ more.trees;
+        spelled = (one.spelled, more.spelled);
+        are = (one.entry, more.are);
+      }
+
+  -- A line that reads as `---` is no entry.
+
+  ruler_kinds : (ls : List Lexeme) (vs : List Value) → Reads (grammar 1) (Token 99 ∷ Token 99 ∷ Token 99 ∷ []) (bare_lexemes ls) [] vs → map lexeme_kind ls ≡ 99 ∷ 99 ∷ 99 ∷ []
+  ruler_kinds ls vs d = sym (bare_kinds ls) ∙ dash_kinds d
+
+  ruler_line : (front : List ℕ) (r : List ℕ) (line : Line) → line.tokens ≡ line_lexemes start front (ruler r).cut → IsRuler (text_of line)
+  ruler_line front r line e =
+      let ks : map lexeme_kind line.tokens ≡ 99 ∷ 99 ∷ 99 ∷ [] = ap (λ l. map lexeme_kind l) e ∙ ruler_kinds (line_lexemes start front (ruler r).cut) [] (line_reads front (ruler r)) in
+      let counts = three_dashes line.tokens ks in (
+        counts.0,
+        counts.1,
+        (
+          λ steps d. avoided goal_language 4 (subst (λ (w : List ℕ). Spells goal_language ENTRY w steps) ks d) entry_avoids,
+          λ steps d. avoided goal_language 4 (subst (λ (w : List ℕ). Spells goal_language HYPOTHESIS w steps) ks d) hypothesis_avoids,
+        ),
+      )
+
+  nothing_behind : (front : List ℕ) → lines_before end (lexemes_behind start front []) [] ≡ []
+  unfolding pieces_after
+  nothing_behind front = refl
+
+  mapped_lines : (xs ys : List Line) → map text_of (xs ++ ys) ≡ map text_of xs ++ map text_of ys
+  mapped_lines [] ys = refl
+  mapped_lines (x ∷ xs) ys = ap (λ l. text_of x ∷ l) (mapped_lines xs ys)
+
+  -- a goal of these lines and this conclusion
+  pub record ReadGoalOf (ls : List ContextLine) (x : Node) (bytes : List ℕ) : Type 0 where
+    pub goal : ReadGoal
+    pub is_goal : IsGoal (map text_of (lines_before end (lexemes_behind start [] bytes) [])) goal
+    pub tree : SequentTree
+    pub spelled : AreTreesOf goal tree
+    pub entries : AllZip IsEntryTree (map (λ (l : ContextLine). l.entry) ls) tree.context
+    pub conclusion : placeless tree.conclusion ≡ x
+
+  pub read_goal : {w : Writing} (ls : List ContextLine) {x : Node} (s : Shows 1 w x) → ReadGoalOf ls x (lines_text ls (codes "---" ++ (10 ∷ s.text (10 ∷ []))))
+  read_goal ls {x} s =
+      let last = s.text (10 ∷ []) in
+      let rest = codes "---" ++ (10 ∷ last) in
+      let context = contexts [] ls rest in
+      let dashes = ruler last in
+      let middle = part_line start end context.behind dashes.cut (line_some context.behind dashes 6 refl) in
+      let next = (context.behind ++ dashes.cut.front) ++ 10 ∷ [] in
+      let d = conclusion_reads s [] in
+      let final = part_line start end next d.cut (line_some next d 20 form_takes) in
+      let tree = line_tree 120 x final.line (line_lexemes start next d.cut) final.tokens (line_reads next d) in
+      let lines : lines_before end (lexemes_behind start [] (lines_text ls rest)) [] ≡ context.lines ++ middle.line ∷ final.line ∷ [] =
+      context.parted ∙ ap (λ l. context.lines ++ l) (middle.parted_lines ∙ ap (λ l. middle.line ∷ l) (final.parted_lines ∙ ap (λ l. final.line ∷ l) (nothing_behind ((next ++ d.cut.front) ++ 10 ∷ [])))) in
+      let conclusion : ReadLine = record { sort = sort.Conclusion; text = text_of final.line; steps = tree.1.0 } in
+      record {
+        goal = record { context = context.read; conclusion = conclusion };
+        is_goal = (
+          record {
+            ruler = text_of middle.line;
+            whole = ap (λ l. map text_of l) lines ∙ mapped_lines context.lines (middle.line ∷ final.line ∷ []) ∙ ap (λ ts. ts ++ text_of middle.line ∷ text_of final.line ∷ []) context.texts_are;
+            each = context.entries_are;
+            dashes = ruler_line context.behind last middle.line middle.tokens;
+          },
+          (refl, tree.1.1),
+        );
+        tree = record { context = context.trees; conclusion = tree.0 };
+        spelled = (context.spelled, tree.1);
+        entries = context.are;
+        conclusion = tree.2;
+      }
+
+no_modules : (at : Place) (bs : List Bind) → bs ≡ [] → ShowsLines (each (print_goals.module_line at.bound) bs) (map (λ (b : Bind). binder (abstract_module at.bound b.name b)) bs)
+no_modules at [] e = record { lines = []; writes = empty_written; entries = refl }
+no_modules at (b ∷ bs) e = absurd cc
+
+pub goal_back : ((t : Text) → All IsKind (kinds_of t)) → (at : Place) (s : Sequent) → IsWrittenGoal at s → (t : SequentTree) × SpellsGoal (print_goals.goal_text at s []) t × IsTreeOf at s t
+goal_back kinds at s d =
+    let context = more_lines (more_lines (more_lines (variables_shown at d.variables) (memories_shown d.memories)) (no_modules at s.modules d.modules)) (hyps_shown at d.hyps) in
+    let conclusion = part_form (term_shown 1 d.conclusion) true in
+    let bytes = print_goals.goal_text at s [] in
+    let shown = lines_text context.lines (codes "---" ++ (10 ∷ conclusion.text (10 ∷ []))) in
+    let same : bytes ≡ shown =
+    sym (append_nil bytes)
+    ∙ (both_written (both_written (both_written context.writes (literal (codes "---\n"))) conclusion.writes) (literal (codes "\n"))).same [] [] in
+    let read = read_goal beginning (place_after beginning bytes) kinds context.lines conclusion in
+    let is_goal : IsGoal (goal_lines bytes) read.goal = subst (λ b. IsGoal (map text_of (lines_before (place_after beginning bytes) (lexemes_behind beginning [] b) [])) read.goal) (sym same) read.is_goal in
+    (read.tree, (read.goal, is_goal, read.spelled), (subst (λ es. AllZip IsEntryTree es read.tree.context) context.entries read.entries, read.conclusion))

@@ -1,0 +1,192 @@
+-- Operands, their suffixes and arguments, and forms made of them.
+use Rattle.std.specs.Prelude.{ℕ, ◌≡◌, Bool, true, false, nat_le, List, [], ◌∷◌, ◌++◌, codes}
+use Rattle.std.specs.List.{list_all}
+use Rattle.std.proofs.Common.{refl, ap, sym, ◌∙◌, subst, append_assoc}
+use Rattle.gb_core.specs.declared.place.Place.{Place}
+use Rattle.gb_goal.specs.Answers.{nowhere}
+use Rattle.gb_grammar.specs.declared.table.Symbol.TheVariants.{Token, Part}
+use Rattle.gb_grammar.specs.Grammar.{Production, IsProduction}
+use Rattle.gb_script.specs.declared.action.Rule.{Rule}
+use Rattle.gb_script.specs.declared.head.Head.{Head}
+use Rattle.gb_script.specs.declared.head.Head.TheVariants as head
+use Rattle.gb_script.specs.declared.tree.Node.{Node, Node-F, out-roll-Node}
+use Rattle.gb_script.specs.declared.value.Value.{Value}
+use Rattle.gb_script.specs.declared.value.Value.TheVariants.{Tree, Trees}
+use Rattle.gb_script.specs.Build.{parts, grown}
+use Rattle.gb_script.specs.Value.{trees_of}
+use Rattle.gb_script.specs.Head.{looseness, hold, is_joiner}
+use Rattle.gb_script.specs.Tree.{node, attach, attached}
+use Rattle.gb_script.proofs.Stacks.{append_nil}
+use Rattle.gb_readback.proofs.Reading.{first_name, ruled}
+use Rattle.gb_readback.proofs.Lexed.{lexed}
+use Rattle.gb_readback.proofs.Tokens.{Next, open_round, close_round}
+use Rattle.gb_readback.proofs.Attaching.{Plain, plain_node, behind_plain, is_tight, tight_node, tight_append, attached_append, operated}
+use Rattle.gb_readback.proofs.Levels.{is_free, Before, Starts, Fits, Spelt, end, tok, row, followed, no_run, form_of_sum, sum_of}
+use Rattle.gb_readback.proofs.Productions as p
+
+-- Bytes that read as a form, and may stand in front of what fits.
+pub record IsForm (stage : ℕ) (φ : Before) (bar : Bool) (x : Node) : Type 0 where
+  pub starts : (mid : List ℕ) → Starts (φ mid)
+  pub reads : (mid : List ℕ) → Fits bar mid → Spelt stage (Part 120 ∷ []) (φ mid) mid (Tree x ∷ [])
+
+-- A form that is an atom with suffixes: in front of operators, suffixes and arguments, or as an argument itself.
+pub record IsOperand (stage : ℕ) (φ : Before) (bar : Bool) (x : Node) : Type 0 where
+  pub starts : (mid : List ℕ) → Starts (φ mid)
+  pub root : Node
+  pub suffixes : List Node
+  pub whole : attached root suffixes ≡ x
+  pub tight : list_all is_tight suffixes ≡ true
+  pub plain : Plain x
+  pub first : (mid j : List ℕ) (its : List Node) → Fits bar mid → Spelt stage (Part 135 ∷ []) mid j (Trees its ∷ [])
+      → Spelt stage (Part 140 ∷ Part 135 ∷ []) (φ mid) j (Tree root ∷ Trees (suffixes ++ its) ∷ [])
+  pub argument : (mid j : List ℕ) (its : List Node) → Fits bar mid → Spelt stage (Part 135 ∷ []) mid j (Trees its ∷ [])
+      → Spelt stage (Part 136 ∷ []) (φ mid) j (Trees (node head.Apply [] (root ∷ []) nowhere ∷ (suffixes ++ its)) ∷ [])
+
+-- A form that may be the last operand of an operator.
+pub record IsSummand (stage : ℕ) (φ : Before) (bar : Bool) (x : Node) : Type 0 where
+  pub starts : (mid : List ℕ) → Starts (φ mid)
+  pub root : Node
+  pub suffixes : List Node
+  pub whole : attached root suffixes ≡ x
+  pub tight : list_all is_tight suffixes ≡ true
+  pub plain : Plain x
+  pub tail : Value
+  pub tail_is : trees_of tail ≡ suffixes
+  pub reads : (mid : List ℕ) → Fits bar mid → Spelt stage (Part 134 ∷ []) (φ mid) mid (Tree root ∷ tail ∷ [])
+
+-- A node that begins with more parts.
+pub grown_node : (front : List Value) (h : Head) (t : List ℕ) (ps : List Node) (q : Place) → grown nowhere front (node h t ps q) ≡ node h t (parts nowhere front ++ ps) nowhere
+grown_node front h t ps q = ap (λ (l : Node-F Node). node l.head l.text (parts nowhere front ++ l.parts) nowhere) (out-roll-Node (record { head = h; text = t; parts = ps; place = q }))
+
+pub tight_one : (h : Head) (ps : List Node) → looseness h ≡ 1 → list_all is_tight (node h [] ps nowhere ∷ []) ≡ true
+tight_one h ps t = let e = tight_node h [] ps t in rw e refl
+
+pub fits_close : (bar : Bool) (mid : List ℕ) → Fits bar (41 ∷ mid)
+fits_close bar mid = record { word = refl; bars = λ e. refl }
+
+pub fits_space : (bar : Bool) (mid : List ℕ) → Fits bar (32 ∷ mid)
+fits_space bar mid = record { word = refl; bars = λ e. refl }
+
+-- a bracket in front of a form
+pub opens : {i : List ℕ} → Starts i → Next (40 ∷ i) 82 (codes "(") i
+opens {i = i} s = subst (λ l. Next (40 ∷ l) 82 (codes "(") l) (sym s.is) (open_round s.byte s.more s.begins)
+
+module _ {stage : ℕ} where
+  pub summand_of : {φ : Before} {bar : Bool} {x : Node} → IsOperand stage φ bar x → IsSummand stage φ bar x
+  summand_of {φ = φ} o = record {
+    starts = o.starts;
+    root = o.root;
+    suffixes = o.suffixes;
+    whole = o.whole;
+    tight = o.tight;
+    plain = o.plain;
+    tail = Trees o.suffixes;
+    tail_is = refl;
+    reads = λ mid f. subst (λ its. Spelt stage (Part 134 ∷ []) (φ mid) mid (Tree o.root ∷ Trees its ∷ [])) (append_nil o.suffixes)
+        (row p.operand_head (p.is_operand_head stage) refl refl refl (o.first mid mid [] f no_run) end);
+  }
+
+  pub sum_reads : {φ : Before} {bar : Bool} {x : Node} → IsSummand stage φ bar x → (mid : List ℕ) → Fits bar mid → Spelt stage (Part 133 ∷ []) (φ mid) mid (Tree x ∷ [])
+  sum_reads {φ = φ} s mid f = subst (λ z. Spelt stage (Part 133 ∷ []) (φ mid) mid (Tree z ∷ [])) (ap (λ l. attached s.root l) s.tail_is ∙ s.whole) (sum_of (s.reads mid f))
+
+  pub form_of_summand : {φ : Before} {bar : Bool} {x : Node} → IsSummand stage φ bar x → IsForm stage φ bar x
+  form_of_summand s = record { starts = s.starts; reads = λ mid f. form_of_sum (sum_reads s mid f) }
+
+  pub form_of_operand : {φ : Before} {bar : Bool} {x : Node} → IsOperand stage φ bar x → IsForm stage φ bar x
+  form_of_operand o = form_of_summand (summand_of o)
+
+  -- Atoms.
+
+  abbrev pub of_atom : {φ : Before} {bar : Bool} {x : Node} → ((mid : List ℕ) → Starts (φ mid)) → Plain x
+      → ((mid : List ℕ) → Fits bar mid → Spelt stage (Part 147 ∷ []) (φ mid) mid (Tree x ∷ [])) → IsOperand stage φ bar x
+  of_atom {x = x} s plain reads = record {
+    starts = s;
+    root = x;
+    suffixes = [];
+    whole = refl;
+    tight = refl;
+    plain = plain;
+    first = λ mid j its f more. row p.head_atom (p.is_head_atom stage) refl refl refl (reads mid f) more;
+    argument = λ mid j its f more. row p.run_more_atom (p.is_run_more_atom stage) refl refl
+        (ap (λ l. Trees (node head.Apply [] (x ∷ []) nowhere ∷ l) ∷ []) (append_nil its)) (followed (reads mid f) more) end;
+  }
+
+  -- a further suffix, in what stands behind an operand
+  pub suffixed : {φ ψ : Before} {bar : Bool} {a : Node} (h : Head) (ps : List Node) → IsOperand stage φ bar a → hold h ≡ 0 → is_joiner h ≡ false → looseness h ≡ 1
+      → ((mid : List ℕ) → Fits bar (ψ mid))
+      → ((mid j : List ℕ) (its : List Node) → Fits false mid → Spelt stage (Part 135 ∷ []) mid j (Trees its ∷ []) → Spelt stage (Part 136 ∷ []) (ψ mid) j (Trees (node h [] ps nowhere ∷ its) ∷ []))
+      → IsOperand stage (λ mid. φ (ψ mid)) false (node h [] (a ∷ ps) nowhere)
+  suffixed {φ = φ} {ψ = ψ} {a = a} h ps o l n t fits reads =
+      let item = node h [] ps nowhere in
+      let run : (mid j : List ℕ) (its : List Node) → Fits false mid → Spelt stage (Part 135 ∷ []) mid j (Trees its ∷ []) → Spelt stage (Part 135 ∷ []) (ψ mid) j (Trees (item ∷ its) ∷ []) =
+      λ mid j its f more. row p.run_run_more (p.is_run_run_more stage) refl refl refl (reads mid j its f more) end in
+      record {
+        starts = λ mid. o.starts (ψ mid);
+        root = o.root;
+        suffixes = o.suffixes ++ item ∷ [];
+        whole = attached_append o.root o.suffixes (item ∷ []) ∙ ap (λ z. attach z item) o.whole ∙ behind_plain a o.plain h [] ps (ap (λ k. nat_le k 0) t);
+        tight = tight_append o.suffixes (item ∷ []) o.tight (tight_one h ps t);
+        plain = plain_node h [] (a ∷ ps) l n;
+        first = λ mid j its f more. subst (λ l. Spelt stage (Part 140 ∷ Part 135 ∷ []) (φ (ψ mid)) j (Tree o.root ∷ Trees l ∷ [])) (sym (append_assoc o.suffixes (item ∷ []) its))
+            (o.first (ψ mid) j (item ∷ its) (fits mid) (run mid j its f more));
+        argument = λ mid j its f more. subst (λ l. Spelt stage (Part 136 ∷ []) (φ (ψ mid)) j (Trees (node head.Apply [] (o.root ∷ []) nowhere ∷ l) ∷ []))
+            (sym (append_assoc o.suffixes (item ∷ []) its)) (o.argument (ψ mid) j (item ∷ its) (fits mid) (run mid j its f more));
+      }
+
+  -- Sums and products.
+
+  pub added : {φ ψ : Before} {c d : Bool} {a b : Node} {n : List ℕ} (h : Head) (k : ℕ) (r : Production Rule) → IsProduction (p.grammar stage) 136 r → is_free r ≡ true → r.body ≡ Token k ∷ Part 134 ∷ [] → nat_le r.rule.takes 2 ≡ true
+      → ((m : List ℕ) (y : Node) (v : Value) → ruled r.rule m (Tree y ∷ v ∷ []) ≡ Trees (node h [] (y ∷ []) nowhere ∷ (trees_of v ++ [])) ∷ [])
+      → nat_le (looseness h) 0 ≡ false → nat_le 1 (hold h) ≡ true
+      → IsOperand stage φ c a → IsSummand stage ψ d b → (w : List ℕ) → ((mid : List ℕ) → Next (w ++ mid) k n mid) → ((mid : List ℕ) → Fits c (w ++ mid))
+      → (mid : List ℕ) → Fits d mid → Spelt stage (Part 133 ∷ []) (φ (w ++ ψ mid)) mid (Tree (node h [] (a ∷ b ∷ []) nowhere) ∷ [])
+  added {φ = φ} {ψ = ψ} {a = a} {b = b} h k r is z body takes made loose holds o s w next fits mid f =
+      let here = w ++ ψ mid in
+      let item : Spelt stage (Part 136 ∷ []) here mid (Trees (node h [] (s.root ∷ []) nowhere ∷ s.suffixes) ∷ []) =
+      row r is z takes
+      (append_nil (ruled r.rule (first_name (lexed here)) (Tree s.root ∷ s.tail ∷ [])) ∙ made (first_name (lexed here)) s.root s.tail
+      ∙ ap (λ l. Trees (node h [] (s.root ∷ []) nowhere ∷ l) ∷ []) (append_nil (trees_of s.tail) ∙ s.tail_is))
+      (subst (λ ss. Spelt stage ss here mid (Tree s.root ∷ s.tail ∷ [])) (sym body) (tok (next (ψ mid)) (s.reads mid f))) end in
+      let run : Spelt stage (Part 135 ∷ []) here mid (Trees (node h [] (s.root ∷ []) nowhere ∷ s.suffixes) ∷ []) = row p.run_run_more (p.is_run_run_more stage) refl refl refl item end in
+      subst (λ z. Spelt stage (Part 133 ∷ []) (φ here) mid (Tree z ∷ []))
+      (operated h o.root a s.root o.suffixes s.suffixes o.plain o.whole loose holds s.tight ∙ ap (λ y. node h [] (a ∷ y ∷ []) nowhere) s.whole)
+      (sum_of (row p.operand_head (p.is_operand_head stage) refl refl refl (o.first here mid (node h [] (s.root ∷ []) nowhere ∷ s.suffixes) (fits (ψ mid)) run) end))
+
+  pub plus : {φ ψ : Before} {c d : Bool} {a b : Node} {n : List ℕ} → IsOperand stage φ c a → IsSummand stage ψ d b → (w : List ℕ) → ((mid : List ℕ) → Next (w ++ mid) 98 n mid) → ((mid : List ℕ) → Fits c (w ++ mid))
+      → (mid : List ℕ) → Fits d mid → Spelt stage (Part 133 ∷ []) (φ (w ++ ψ mid)) mid (Tree (node head.Sum [] (a ∷ b ∷ []) nowhere) ∷ [])
+  plus = added head.Sum 98 p.run_more_plus (p.is_run_more_plus stage) refl refl refl (λ m y its. refl) refl refl
+
+  pub minus : {φ ψ : Before} {c d : Bool} {a b : Node} {n : List ℕ} → IsOperand stage φ c a → IsSummand stage ψ d b → (w : List ℕ) → ((mid : List ℕ) → Next (w ++ mid) 99 n mid) → ((mid : List ℕ) → Fits c (w ++ mid))
+      → (mid : List ℕ) → Fits d mid → Spelt stage (Part 133 ∷ []) (φ (w ++ ψ mid)) mid (Tree (node head.Difference [] (a ∷ b ∷ []) nowhere) ∷ [])
+  minus = added head.Difference 99 p.run_more_minus (p.is_run_more_minus stage) refl refl refl (λ m y its. refl) refl refl
+
+  pub times : {φ ψ : Before} {c d : Bool} {a b : Node} {n : List ℕ} → IsOperand stage φ c a → IsSummand stage ψ d b → (w : List ℕ) → ((mid : List ℕ) → Next (w ++ mid) 97 n mid) → ((mid : List ℕ) → Fits c (w ++ mid))
+      → (mid : List ℕ) → Fits d mid → Spelt stage (Part 133 ∷ []) (φ (w ++ ψ mid)) mid (Tree (node head.Product [] (a ∷ b ∷ []) nowhere) ∷ [])
+  times = added head.Product 97 p.run_more_times (p.is_run_more_times stage) refl refl refl (λ m y its. refl) refl refl
+
+  pub divided : {φ ψ : Before} {c d : Bool} {a b : Node} {n : List ℕ} → IsOperand stage φ c a → IsSummand stage ψ d b → (w : List ℕ) → ((mid : List ℕ) → Next (w ++ mid) 100 n mid) → ((mid : List ℕ) → Fits c (w ++ mid))
+      → (mid : List ℕ) → Fits d mid → Spelt stage (Part 133 ∷ []) (φ (w ++ ψ mid)) mid (Tree (node head.Quotient [] (a ∷ b ∷ []) nowhere) ∷ [])
+  divided = added head.Quotient 100 p.run_more_slash (p.is_run_more_slash stage) refl refl refl (λ m y its. refl) refl refl
+
+  pub paired : {φ ψ : Before} {c d : Bool} {a b : Node} {n : List ℕ} → IsOperand stage φ c a → IsSummand stage ψ d b → (w : List ℕ) → ((mid : List ℕ) → Next (w ++ mid) 101 n mid) → ((mid : List ℕ) → Fits c (w ++ mid))
+      → (mid : List ℕ) → Fits d mid → Spelt stage (Part 133 ∷ []) (φ (w ++ ψ mid)) mid (Tree (node head.PowerProduct [] (a ∷ b ∷ []) nowhere) ∷ [])
+  paired = added head.PowerProduct 101 p.run_more_power_times (p.is_run_more_power_times stage) refl refl refl (λ m y its. refl) refl refl
+
+  pub summed_bits : {φ ψ : Before} {c d : Bool} {a b : Node} {n : List ℕ} → IsOperand stage φ c a → IsSummand stage ψ d b → (w : List ℕ) → ((mid : List ℕ) → Next (w ++ mid) 110 n mid) → ((mid : List ℕ) → Fits c (w ++ mid))
+      → (mid : List ℕ) → Fits d mid → Spelt stage (Part 133 ∷ []) (φ (w ++ ψ mid)) mid (Tree (node head.Xor [] (a ∷ b ∷ []) nowhere) ∷ [])
+  summed_bits = added head.Xor 110 p.run_more_xor (p.is_run_more_xor stage) refl refl refl (λ m y its. refl) refl refl
+
+  -- Brackets.
+
+  -- what a bracket of a form becomes, whatever closes it
+  pub round : {i mid j : List ℕ} (h : Head) (ps : List Node) → Next i 82 (codes "(") mid → Spelt stage (Part 149 ∷ []) mid j (Tree (node h [] ps nowhere) ∷ []) → Spelt stage (Part 147 ∷ []) i j (Tree (node h [] ps nowhere) ∷ [])
+  round h ps n d = row p.atom_open_round (p.is_atom_open_round stage) refl refl (ap (λ z. Tree z ∷ []) (grown_node [] h [] ps nowhere)) (tok n d) end
+
+  pub opened : {i mid j : List ℕ} {x : Node} (h : Head) (ps : List Node) → Spelt stage (Part 120 ∷ []) i mid (Tree x ∷ []) → Spelt stage (Part 150 ∷ []) mid j (Tree (node h [] ps nowhere) ∷ []) → Spelt stage (Part 149 ∷ []) i j (Tree (node h [] (x ∷ ps) nowhere) ∷ [])
+  opened {x = x} h ps d e = row p.bracket_form (p.is_bracket_form stage) refl refl (ap (λ z. Tree z ∷ []) (grown_node (Tree x ∷ []) h [] ps nowhere)) (followed d e) end
+
+  pub in_round : {φ : Before} {bar : Bool} {x : Node} → IsForm stage φ bar x → IsOperand stage (λ mid. 40 ∷ φ (41 ∷ mid)) false (node head.Bracketed [] (x ∷ []) nowhere)
+  in_round {φ = φ} {bar = bar} {x = x} o =
+      of_atom (λ mid. record { byte = 40; more = φ (41 ∷ mid); is = refl; begins = refl }) (plain_node head.Bracketed [] (x ∷ []) refl refl)
+      (λ mid f. round head.Bracketed (x ∷ []) (opens (o.starts (41 ∷ mid)))
+      (opened head.Bracketed [] (o.reads (41 ∷ mid) (fits_close bar mid)) (row p.bracket_end_close_round (p.is_bracket_end_close_round stage) refl refl refl (tok (close_round mid) end) end)))

@@ -1,0 +1,12 @@
+pub mod Same
+pub mod Parts
+pub mod Inside
+pub mod Kept
+pub mod Means
+pub mod Values
+pub mod Sides
+pub mod Reals
+pub mod Placed
+pub mod Moved
+pub mod Others
+pub mod Sound

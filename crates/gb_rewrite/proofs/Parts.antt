@@ -1,0 +1,47 @@
+-- Terms with one term in place of another one, layer by layer.
+use Rattle.std.proofs.Common.{◌≡◌, Bool, true, false, ◌||◌, if◌then◌else◌, ◌∷◌, refl, ap, sym, ◌∙◌}
+use Rattle.gb_terms.specs.declared.term.Term.{Term, Term', Row_of-Term, end_of-Term, more_of-Term, end_of-Head, more_of-Head, out-Term}
+use Rattle.gb_terms.specs.Make.{node}
+use Rattle.gb_meaning.specs.Commands.{terms_in}
+use Rattle.gb_changes.proofs.Trees.{out_is}
+use Rattle.gb_rewrite.specs.Rewritten.{is_same, is_builtin, is_quotient, rewritten, parts_rewritten, list_rewritten, stands, stands_in_parts, stands_in_list, stands_deep, deep_in_parts, deep_in_list}
+use mathlib.Core.Former.{Count}
+
+module _ (a b : Term) where
+  parts_are : {n : Count} (d : Bool) (ts : Row_of-Term n) → parts_rewritten a b d ts ≡ list_rewritten a b d (terms_in ts)
+  parts_are true end_of-Term = refl
+  parts_are false end_of-Term = refl
+  parts_are true (more_of-Term t ts) = refl
+  parts_are false (more_of-Term t ts) = ap (λ us. rewritten a b t ∷ us) (parts_are false ts)
+
+  pub rewritten_out : (t : Term) → rewritten a b t
+      ≡ (if is_same t a then b else node (out-Term t).head (list_rewritten a b (is_quotient (out-Term t).head) (out-Term t).args) (out-Term t).ty)
+  rewritten_out (Term' tt (more_of-Head h end_of-Head) n ts ty) =
+      ap (λ us. if is_same (Term' tt (more_of-Head h end_of-Head) n ts ty) a then b else node h us ty) (parts_are (is_quotient h) ts)
+      ∙ ap (λ x. if is_same (Term' tt (more_of-Head h end_of-Head) n ts ty) a then b else node x.head (list_rewritten a b (is_quotient x.head) x.args) x.ty)
+      (sym (out_is h n ts ty))
+
+module _ (a : Term) where
+  parts_stand : {n : Count} (d : Bool) (ts : Row_of-Term n) → stands_in_parts a d ts ≡ stands_in_list a d (terms_in ts)
+  parts_stand true end_of-Term = refl
+  parts_stand false end_of-Term = refl
+  parts_stand true (more_of-Term t ts) = refl
+  parts_stand false (more_of-Term t ts) = ap (λ z. stands a t || z) (parts_stand false ts)
+
+  pub stands_out : (t : Term) → stands a t ≡ (is_same t a || stands_in_list a (is_quotient (out-Term t).head) (out-Term t).args)
+  stands_out (Term' tt (more_of-Head h end_of-Head) n ts ty) =
+      ap (λ z. is_same (Term' tt (more_of-Head h end_of-Head) n ts ty) a || z) (parts_stand (is_quotient h) ts)
+      ∙ ap (λ x. is_same (Term' tt (more_of-Head h end_of-Head) n ts ty) a || stands_in_list a (is_quotient x.head) x.args) (sym (out_is h n ts ty))
+
+  parts_deep : {n : Count} (d : Bool) (ts : Row_of-Term n) → deep_in_parts a d ts ≡ deep_in_list a d (terms_in ts)
+  parts_deep true end_of-Term = refl
+  parts_deep false end_of-Term = refl
+  parts_deep true (more_of-Term t ts) = refl
+  parts_deep false (more_of-Term t ts) = ap (λ z. stands_deep a t || z) (parts_deep false ts)
+
+  pub deep_out : (t : Term) → stands_deep a t
+      ≡ (if is_same t a then false else if is_builtin (out-Term t).head then deep_in_list a (is_quotient (out-Term t).head) (out-Term t).args else stands a t)
+  deep_out (Term' tt (more_of-Head h end_of-Head) n ts ty) =
+      ap (λ z. if is_same (Term' tt (more_of-Head h end_of-Head) n ts ty) a then false else if is_builtin h then z else stands a (Term' tt (more_of-Head h end_of-Head) n ts ty)) (parts_deep (is_quotient h) ts)
+      ∙ ap (λ x. if is_same (Term' tt (more_of-Head h end_of-Head) n ts ty) a then false
+      else if is_builtin x.head then deep_in_list a (is_quotient x.head) x.args else stands a (Term' tt (more_of-Head h end_of-Head) n ts ty)) (sym (out_is h n ts ty))

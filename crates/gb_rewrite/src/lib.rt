@@ -1,0 +1,7 @@
+//! Rules that put equals for equals.
+#![tactic(auto)]
+
+pub mod equations;
+pub mod goals;
+pub mod laws;
+pub mod rewritten;

@@ -1,5 +1,0 @@
-use Rattle.gb_rules.proofs.Returned.{one_result_typed, one_result, two_results_typed, two_results}
-use Rattle.gb_rules.proofs.call_laws.results.Goals as goal
-
-pub returns : goal.returns
-returns x = record { one_typed = one_result_typed; one = one_result; pair_typed = two_results_typed; pair = two_results }

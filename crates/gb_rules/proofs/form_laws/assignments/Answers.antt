@@ -1,5 +1,0 @@
-use Rattle.gb_rules.proofs.Assigned.{replaced_typed, replaced_meaning}
-use Rattle.gb_rules.proofs.form_laws.assignments.Goals as goal
-
-pub returns : goal.returns
-returns x = record { typed = replaced_typed; meaning = replaced_meaning }

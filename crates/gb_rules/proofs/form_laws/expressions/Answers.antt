@@ -1,5 +1,0 @@
-use Rattle.gb_rules.proofs.Located.{located_typed, located_value}
-use Rattle.gb_rules.proofs.form_laws.expressions.Goals as goal
-
-pub returns : goal.returns
-returns x = record { typed = located_typed; value = located_value }

@@ -1,5 +1,0 @@
-use Rattle.gb_rules.proofs.Fronts.{front_ambient}
-use Rattle.gb_rules.proofs.goal_laws.fronts.Goals as goal
-
-pub returns : goal.returns
-returns x = front_ambient

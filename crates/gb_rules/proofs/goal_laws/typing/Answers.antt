@@ -1,5 +1,0 @@
-use Rattle.gb_rules.proofs.Conclusions.{conclusion_goal, goal_conclusion, goal_front}
-use Rattle.gb_rules.proofs.goal_laws.typing.Goals as goal
-
-pub returns : goal.returns
-returns x = record { goal = conclusion_goal; conclusion = goal_conclusion; front = goal_front }

@@ -1,5 +1,0 @@
-use Rattle.gb_rules.proofs.Chances.{chance_scaled}
-use Rattle.gb_rules.proofs.run_laws.chances.Goals as goal
-
-pub returns : goal.returns
-returns x = chance_scaled

@@ -1,0 +1,5 @@
+pub mod History
+pub mod Kept
+pub mod Commands
+pub mod Screen
+pub mod Listed

@@ -1,0 +1,9 @@
+//! Commands one after another: an interactive session, in which each can be taken back, and a script.
+#![tactic(auto)]
+
+mod enumerations;
+mod kept;
+pub mod laws;
+pub mod screen;
+pub mod script;
+pub mod session;

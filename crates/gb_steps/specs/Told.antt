@@ -1,0 +1,18 @@
+-- The forms that rules are told to use.
+use Rattle.std.specs.Prelude.{List, [], ◌∷◌}
+use Rattle.gb_terms.specs.declared.term.Term.{Term}
+use Rattle.gb_steps.specs.declared.step.Rule.{Rule}
+use Rattle.gb_steps.specs.declared.step.Rule.TheVariants.{Smt, Rewrite}
+use Rattle.gb_steps.specs.declared.step.RewriteRule.{RewriteRule}
+use Rattle.gb_steps.specs.declared.step.RewriteRule.TheVariants.{Forward, Back, Subst}
+
+abbrev pub rewrites_by : RewriteRule → List Term
+rewrites_by (Forward f) = f ∷ []
+rewrites_by (Back f) = f ∷ []
+rewrites_by (Subst i) = []
+
+-- what is known at a goal, besides its hypotheses
+abbrev pub told : Rule → List Term
+told (Smt fs) = fs
+told (Rewrite r) = rewrites_by r
+told r = []

@@ -1,3 +1,0 @@
-mod Exists
-pub mod Refused
-mod Unique

@@ -1,0 +1,44 @@
+(* Calls. What a procedure does that calls others is shown by what is said of these: `call (_ : P ==> Q)` takes off the call that ends
+   a body. First it is to be shown that the called procedure leads from P to Q. Then, before the call, P has to hold of the arguments, and Q
+   has to lead to what is wanted behind it, for all results and for all values of the globals that the procedure writes. *)
+
+module Counter = {
+  var count : bits 2
+  var locked : bool
+  proc add(n : bits 2) : bits 2 = { count <- count +^ n; return count; }
+}.
+
+module User = {
+  proc twice(n : bits 2) : bits 2 = {
+    var x, y : bits 2;
+    x <@ Counter.add(n);
+    y <@ Counter.add(n);
+    return x;
+  }
+}.
+
+(* To flip the same bits twice changes nothing. *)
+lemma flipped_back (k m : bits 2) (b : bool) :
+  hoare [User.twice : n = m /\ Counter.count = k /\ Counter.locked = b ==> Counter.count = k /\ Counter.locked = b].
+proof.
+proc.
+(* In P stands the parameter of `add`, here also an n. Behind a call there are no parameters, so Q has the m of the lemma. *)
+call (_ : n = m /\ Counter.count = k +^ m ==> Counter.count = k).
+proc. wp. skip. smt().
+(* Of `locked` nothing is said, and nothing has to be: `add` doesn't write it, so it stays as it is. *)
+call (_ : n = m /\ Counter.count = k ==> Counter.count = k +^ m).
+proc. wp. skip. smt().
+skip. smt().
+qed.
+
+(* Nor does the second call write `x`, the local in which the result of the first one stands. In Q the result is `res`. *)
+lemma first_result (k m : bits 2) :
+  hoare [User.twice : n = m /\ Counter.count = k ==> res = k +^ m].
+proof.
+proc.
+call (_ : true ==> true).
+proc. wp. skip. smt().
+call (_ : n = m /\ Counter.count = k ==> res = k +^ m).
+proc. wp. skip. smt().
+skip. smt().
+qed.
