@@ -42,3 +42,36 @@ call (_ : n = m /\ Counter.count = k ==> res = k +^ m).
 proc. wp. skip. smt().
 skip. smt().
 qed.
+
+(* A call may be taken off under a bound of a probability too. Then the procedure is shown to have the same bound, and what is said of its
+   result has to be as likely as what is wanted behind the call: for `=` both at the same results. *)
+module Coin = {
+  proc toss(a : bool) : bool = { var y : bool; y <$ {0,1}; return y +^ a; }
+  proc other(b : bool) : bool = { var x : bool; x <@ Coin.toss(b); return !x; }
+}.
+
+lemma fair : phoare [Coin.other : true ==> res] = 1%r / 2%r.
+proof.
+proc.
+call (_ : true ==> !res).
+proc. rnd. skip. smt().
+skip. smt().
+qed.
+
+(* Two calls may be taken off at once, one on each side of an equivalence. In P and Q the parameters, the results and the globals have their
+   sides. *)
+module Turned = {
+  proc toss() : bool = { var y : bool; y <$ {0,1}; return !y; }
+  proc other() : bool = { var x : bool; x <@ Turned.toss(); return !x; }
+}.
+
+lemma alike : equiv [Coin.other ~ Turned.other : true ==> ={res}].
+proof.
+proc.
+call (_ : true ==> ={res}).
+proc.
+(* Where the left coin shows v, the right one has to show the turned result of the left procedure, since it is turned itself. *)
+rnd (fun v => !(v +^ a{1})).
+skip. smt().
+skip. smt().
+qed.

@@ -99,14 +99,14 @@ begun_keeps s p place next g h e =
 -- the lemma of an open proof holds, and is declared
 proved_is_good : Grounds → (s : Session) (p : OpenProof) → IsGood s → IsGoodProof s.scope p → Holds (declared s.scope) p.statement → IsGood (with_proved s p)
 proved_is_good o s p g h holds = record {
-  typed = o.typing.lemma_added s.scope g.typed p.name h.free p.statement h.statement;
-  sound = gained_lemma s.scope p.name p.statement g.sound holds;
+  typed = o.typing.lemma_added s.scope g.typed p.name h.free p.statement p.binders h.statement;
+  sound = gained_lemma s.scope p.name p.statement p.binders g.sound holds;
   lemmas = record {
-    names = name_added s.scope p.name p.statement ∙ ap (λ ns. ns ++ p.name ∷ []) g.lemmas.names;
-    proved = proved_with s.scope p.name p.statement g.lemmas.proved g.typed h.statement holds;
+    names = name_added s.scope p.name p.statement p.binders ∙ ap (λ ns. ns ++ p.name ∷ []) g.lemmas.names;
+    proved = proved_with s.scope p.name p.statement p.binders g.lemmas.proved g.typed h.statement holds;
   };
-  speaks = (o.models.parts s.scope ((p.name, entry.Lemma p.statement) ∷ [])).1 (g.speaks, (tt, tt));
-  statements = each_with s.scope p.name p.statement StatesProcedures g.statements h.procedures;
+  speaks = (o.models.parts s.scope ((p.name, entry.Lemma p.statement p.binders) ∷ [])).1 (g.speaks, (tt, tt));
+  statements = each_with s.scope p.name p.statement p.binders StatesProcedures g.statements h.procedures;
   proof = tt;
 }
 

@@ -15,6 +15,7 @@ use Rattle.gb_goal.specs.Goal.Goal.{ambient}
 use Rattle.gb_goal.specs.Rows.{Row, refusing, answered}
 use Rattle.gb_goal.specs.Scope as scope
 use Rattle.gb_goal.specs.Scope.{AreNoLemmas}
+use Rattle.gb_goal.specs.declared.scope.Binder.{Binder}
 use Rattle.gb_goal.specs.declared.scope.Entry.TheVariants as entry
 use Rattle.gb_goal.specs.declared.sequent.Sequent.{Sequent}
 use Rattle.gb_steps.specs.declared.step.AmbientRule.{AmbientRule}
@@ -41,7 +42,7 @@ use Rattle.gb_bodies.specs.Rows as bodies
 use Rattle.gb_equiv.specs.Rows as equiv
 use Rattle.gb_equiv.specs.Rows.{IsTypedRule}
 use Rattle.gb_phoare.specs.Rows as chance_rows
-use Rattle.gb_call.specs.Rows as call_rows
+use Rattle.gb_call_both.specs.Rows as call_rows
 use Rattle.gb_amb.specs.Steps.{IsAnswer, IsTypedStep, LeadTo}
 use Rattle.gb_linear.specs.Closing.{linear_answer}
 use Rattle.gb_use.specs.Lemmas.{IsKnown, LemmasHold}
@@ -77,8 +78,8 @@ pub record OfTyping : Type 0 where
   pub module_added : (ds : scope.Declarations) → IsTyped ds → (t : Node) (m : Module) → module_given ds t ≡ given m → IsTyped (ds ++ (m.name, entry.Module m) ∷ [])
   pub statement : (ds : scope.Declarations) → IsTyped ds → (t : Node) (q : Sequent) → statement_given ds t ≡ given q → IsTypedGoalOf ds q
   pub free : (ds : scope.Declarations) (t : Node) (q : Sequent) → statement_given ds t ≡ given q → is_declared (declared ds) (lemma_name t) ≡ false
-  pub lemma_added : (ds : scope.Declarations) → IsTyped ds → (n : Name) → is_declared (declared ds) n ≡ false → (q : Sequent) → IsTypedGoalOf ds q →
-      IsTyped (ds ++ (n, entry.Lemma q) ∷ [])
+  pub lemma_added : (ds : scope.Declarations) → IsTyped ds → (n : Name) → is_declared (declared ds) n ≡ false → (q : Sequent) (bs : List Binder) → IsTypedGoalOf ds q →
+      IsTyped (ds ++ (n, entry.Lemma q bs) ∷ [])
   pub body_rule : (ds : scope.Declarations) → IsTyped ds → (q : Sequent) (t : IsTypedGoalOf ds q) (n : Node) (s : Step) → step_given ds q n ≡ given s →
       (ls rs : List TypedName) → IsGoalOver (around ds q t) ls rs (goal_of q.conclusion) → bodies.IsTypedRule (around ds q t) s.rule ls rs (goal_of q.conclusion)
   pub hints : (ds : scope.Declarations) → IsTyped ds → AreStated ds → (q : Sequent) (t : IsTypedGoalOf ds q) (n : Node) (s : Step) → step_given ds q n ≡ given s →
@@ -117,8 +118,8 @@ pub record OfRules : Type 0 where
       IsTypedStep (of_sequent (context_of ds) q t.frames) q.conclusion r → (place : Place) (qs : List Sequent) → IsAnswer r place q (given qs) → LeadTo ds q qs
   pub on_uses : (ds : Declarations) → IsTypedScope ds → LemmasHold ds → (q : Sequent) (t : IsTypedSequent (context_of ds) q) → (r : UseRule) →
       uses.IsTypedStep ds q (of_sequent (context_of ds) q t.frames) r → (place : Place) (qs : List Sequent) → uses.IsAnswer r place q (given qs) → LeadTo ds q qs
-  pub on_equals : (ds : Declarations) → IsTypedScope ds → (q : Sequent) (t : IsTypedSequent (context_of ds) q) → (r : RewriteRule) →
-      IsUsable ds q (of_sequent (context_of ds) q t.frames) r → (place : Place) (qs : List Sequent) → given qs ≡ rewrite_answer r place q → LeadTo ds q qs
+  pub on_equals : (ds : scope.Declarations) → IsTyped ds → (q : Sequent) (t : IsTypedGoalOf ds q) → (r : RewriteRule) →
+      IsUsable (declared ds) q (around ds q t) r → (place : Place) (qs : List Sequent) → given qs ≡ rewrite_answer ds r place q → LeadTo (declared ds) q qs
   pub smt : (ds : scope.Declarations) → IsTyped ds → (q : Sequent) (t : IsTypedGoalOf ds q) → (known : List Term) → AllByRecursion (IsForm (around ds q t)) known →
       All (IsClosed ds) (leaves_of known q) → AllByRecursion (λ f. Holds (declared ds) (record q { conclusion = f })) known → Holds (declared ds) q
   pub instances : (ds : Declarations) → IsTypedScope ds → LemmasHold ds → (q : Sequent) (t : IsTypedSequent (context_of ds) q) → (f : Term) →

@@ -45,14 +45,14 @@ onwards before d ds f l m = subst (λ z. IsKept z l) (append_assoc before (d ∷
 module _ (o : Grounds) where
   kept : (ds before : Declarations) → IsTyped (before ++ ds) → Spoken (before ++ ds) → AllByRecursion IsProved (lemmas_in before ds) → AllByRecursion StatesProcedures (lemmas_in before ds) → AllKept before ds
   kept [] before w k h p l m = absurd m
-  kept ((n, entry.Lemma q) ∷ ds) before w k h p l (inl e) =
-      subst (IsKept (before ++ (n, entry.Lemma q) ∷ ds)) e (record {
-        typed = o.models.stay_typed before ((n, entry.Lemma q) ∷ ds) w q h.0.typed;
+  kept ((n, entry.Lemma q order) ∷ ds) before w k h p l (inl e) =
+      subst (IsKept (before ++ (n, entry.Lemma q order) ∷ ds)) e (record {
+        typed = o.models.stay_typed before ((n, entry.Lemma q order) ∷ ds) w q h.0.typed;
         procedures = p.0;
-        holds = o.models.stay before ((n, entry.Lemma q) ∷ ds) w q h.0.typed k p.0.speaks h.0.holds;
+        holds = o.models.stay before ((n, entry.Lemma q order) ∷ ds) w q h.0.typed k p.0.speaks h.0.holds;
       })
-  kept ((n, entry.Lemma q) ∷ ds) before w k h p l (inr m) =
-      let d : List ℕ × Entry = (n, entry.Lemma q) in onwards before d ds (kept ds (before ++ d ∷ []) (back IsTyped before d ds w) (back Spoken before d ds k) h.1 p.1) l m
+  kept ((n, entry.Lemma q order) ∷ ds) before w k h p l (inr m) =
+      let d : List ℕ × Entry = (n, entry.Lemma q order) in onwards before d ds (kept ds (before ++ d ∷ []) (back IsTyped before d ds w) (back Spoken before d ds k) h.1 p.1) l m
   kept ((n, entry.Module x) ∷ ds) before w k h p l m = let d : List ℕ × Entry = (n, entry.Module x) in onwards before d ds (kept ds (before ++ d ∷ []) (back IsTyped before d ds w) (back Spoken before d ds k) h p) l m
   kept ((n, entry.Type t) ∷ ds) before w k h p l m = let d : List ℕ × Entry = (n, entry.Type t) in onwards before d ds (kept ds (before ++ d ∷ []) (back IsTyped before d ds w) (back Spoken before d ds k) h p) l m
   kept ((n, entry.AbstractType) ∷ ds) before w k h p l m = let d : List ℕ × Entry = (n, entry.AbstractType) in onwards before d ds (kept ds (before ++ d ∷ []) (back IsTyped before d ds w) (back Spoken before d ds k) h p) l m

@@ -3,6 +3,7 @@ use Rattle.std.proofs.Common.{◌≡◌, List, [], ◌∷◌, ◌++◌, Some, No
 use Rattle.std.proofs.lemmas.List.{append-nil, append_assoc, map-append}
 use Rattle.std.specs.List.{AllByRecursion}
 use Rattle.gb_goal.specs.Scope.{Declarations, as_lemma, AreNoLemmas}
+use Rattle.gb_goal.specs.declared.scope.Binder.{Binder}
 use Rattle.gb_goal.specs.declared.scope.Entry.{Entry}
 use Rattle.gb_goal.specs.declared.scope.Entry.TheVariants as entry
 use Rattle.gb_goal.specs.declared.sequent.Sequent.{Sequent}
@@ -16,7 +17,7 @@ use Rattle.gb_accepted.specs.Holding.{Lemma, IsProved, with_entry, lemmas_in, na
 
 with_more : (before : Declarations) (n : Name) (e : Entry) (ls ks : List Lemma) → with_entry before n e (ls ++ ks) ≡ with_entry before n e ls ++ ks
 with_more before n (entry.Module m) ls ks = refl
-with_more before n (entry.Lemma q) ls ks = refl
+with_more before n (entry.Lemma q order) ls ks = refl
 with_more before n (entry.Type t) ls ks = refl
 with_more before n entry.AbstractType ls ks = refl
 with_more before n (entry.Constant c) ls ks = refl
@@ -35,7 +36,7 @@ some_none x e = cc
 -- what is no lemma adds none
 no_lemma : (before : Declarations) (n : Name) (e : Entry) (ls : List Lemma) → as_lemma (Some e) ≡ None → with_entry before n e ls ≡ ls
 no_lemma before n (entry.Module m) ls h = refl
-no_lemma before n (entry.Lemma q) ls h = some_none q h
+no_lemma before n (entry.Lemma q order) ls h = some_none q h
 no_lemma before n (entry.Type t) ls h = refl
 no_lemma before n entry.AbstractType ls h = refl
 no_lemma before n (entry.Constant c) ls h = refl
@@ -60,19 +61,19 @@ module _ (ds added : Declarations) (others : AreNoLemmas added) where
   proved_later h = each_later IsProved h
 
 -- a lemma is added behind the others
-module _ (ds : Declarations) (n : Name) (q : Sequent) where
+module _ (ds : Declarations) (n : Name) (q : Sequent) (bs : List Binder) where
   abbrev pub last : Lemma
   last = record { name = n; before = ds; statement = q }
 
-  one_more : lemmas_in [] (ds ++ (n, entry.Lemma q) ∷ []) ≡ lemmas_in [] ds ++ last ∷ []
-  one_more = lemmas_append [] ds ((n, entry.Lemma q) ∷ [])
+  one_more : lemmas_in [] (ds ++ (n, entry.Lemma q bs) ∷ []) ≡ lemmas_in [] ds ++ last ∷ []
+  one_more = lemmas_append [] ds ((n, entry.Lemma q bs) ∷ [])
 
-  pub name_added : names_of (lemmas_in [] (ds ++ (n, entry.Lemma q) ∷ [])) ≡ names_of (lemmas_in [] ds) ++ n ∷ []
+  pub name_added : names_of (lemmas_in [] (ds ++ (n, entry.Lemma q bs) ∷ [])) ≡ names_of (lemmas_in [] ds) ++ n ∷ []
   name_added = ap names_of one_more ∙ map-append (λ (l : Lemma). l.name) (lemmas_in [] ds) (last ∷ [])
 
-  pub each_with : (P : Lemma → Type 0) → AllByRecursion P (lemmas_in [] ds) → P last → AllByRecursion P (lemmas_in [] (ds ++ (n, entry.Lemma q) ∷ []))
+  pub each_with : (P : Lemma → Type 0) → AllByRecursion P (lemmas_in [] ds) → P last → AllByRecursion P (lemmas_in [] (ds ++ (n, entry.Lemma q bs) ∷ []))
   each_with P h k = subst (AllByRecursion P) (sym one_more) (each_together P (lemmas_in [] ds) (last ∷ []) h (k, tt))
 
-  pub proved_with : AllByRecursion IsProved (lemmas_in [] ds) → IsTypedScope (declared ds) → IsTypedSequent (context_of (declared ds)) q → Holds (declared ds) q → AllByRecursion IsProved (lemmas_in [] (ds ++ (n, entry.Lemma q) ∷ []))
+  pub proved_with : AllByRecursion IsProved (lemmas_in [] ds) → IsTypedScope (declared ds) → IsTypedSequent (context_of (declared ds)) q → Holds (declared ds) q → AllByRecursion IsProved (lemmas_in [] (ds ++ (n, entry.Lemma q bs) ∷ []))
   proved_with h s t k =
       let new : IsProved last = record { scope = s; typed = t; holds = k } in each_with IsProved h new

@@ -14,7 +14,7 @@ use Rattle.gb_goal.specs.Scope.{Declarations}
 use Rattle.gb_goal.specs.declared.sequent.Sequent.{Sequent}
 use Rattle.gb_steps.specs.declared.step.AmbientRule.{AmbientRule}
 use Rattle.gb_steps.specs.declared.step.RewriteRule.{RewriteRule}
-use Rattle.gb_steps.specs.declared.step.RewriteRule.TheVariants.{Forward, Back, Subst}
+use Rattle.gb_steps.specs.declared.step.RewriteRule.TheVariants.{Forward, Back, Subst, Unfold}
 use Rattle.gb_steps.specs.declared.step.UseRule.{UseRule}
 use Rattle.gb_steps.specs.Told.{rewrites_by, told}
 use Rattle.gb_steps.specs.declared.step.Rule.{Rule}
@@ -28,7 +28,7 @@ use Rattle.gb_typing.specs.Sequents.{IsTypedSequent}
 use Rattle.gb_typing.specs.Scopes.{context_of}
 use Rattle.gb_typing.specs.Goals.{IsGoalOver}
 use Rattle.gb_typing.specs.Rules.{IsSoundIn}
-use Rattle.gb_call.specs.Rows as calls
+use Rattle.gb_call_both.specs.Rows as calls
 use Rattle.gb_bodies.specs.Rows as bodies
 use Rattle.gb_equiv.specs.Rows.{IsTypedRule}
 use Rattle.gb_amb.specs.Steps.{IsTypedStep}
@@ -124,6 +124,7 @@ module _ (g : Grounds) (ds : Declarations) (scope : IsTyped ds) (holds : LemmasH
   usable (Forward f) w = (w.0.0, g.rules.instances (declared ds) scope holds q t f w.0.0 w.0.1)
   usable (Back f) w = (w.0.0, g.rules.instances (declared ds) scope holds q t f w.0.0 w.0.1)
   usable (Subst i) w = tt
+  usable (Unfold x) w = tt
 
   pub applied_lead : (r : Rule) (place : Place) (qs : List Sequent) → IsTypedAt ds q t r → HasTypedForms ds q t r → UsesHypotheses ds q t r → HasSaidForms ds q t r → Applied ds r place q (given qs) → LeadTo ds q qs
   applied_lead (rule.Smt known) place qs typed forms used said a = of_smt known said place qs a.0 a.1 a.2
@@ -145,4 +146,4 @@ module _ (g : Grounds) (ds : Declarations) (scope : IsTyped ds) (holds : LemmasH
   applied_lead (rule.Use r) place qs typed forms used said a =
       let k = g.rules.on_uses (declared ds) scope holds q t r (used r refl) place qs a in record { typed = k.typed; leads = k.leads }
   applied_lead (rule.Rewrite r) place qs typed forms used said a =
-      let k = g.rules.on_equals (declared ds) scope q t r (usable r said) place qs a in record { typed = k.typed; leads = k.leads }
+      let k = g.rules.on_equals ds scope q t r (usable r said) place qs a in record { typed = k.typed; leads = k.leads }

@@ -41,7 +41,7 @@ pub record IsPromise (l : Lemma) : Type 0 where
 
 -- what is declared under a name, after other declarations, and further lemmas
 abbrev pub with_entry : Declarations → Name → Entry → List Lemma → List Lemma
-with_entry before n (entry.Lemma q) ls = record { name = n; before = before; statement = q } ∷ ls
+with_entry before n (entry.Lemma q order) ls = record { name = n; before = before; statement = q } ∷ ls
 with_entry before n e ls = ls
 
 -- the lemmas of declarations behind others

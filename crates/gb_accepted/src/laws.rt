@@ -39,8 +39,8 @@ pub fn accepted_scripts()
     gb_equiv::laws::other_goals();
     gb_phoare::laws::chance_rules();
     gb_phoare::laws::no_judgments();
-    gb_call::laws::call_rules();
-    gb_call::laws::other_conclusions();
+    gb_call_both::laws::call_rules();
+    gb_call_both::laws::other_conclusions();
     gb_amb::laws::steps();
     gb_use::laws::sound_uses();
     gb_use::laws::instances_hold();

@@ -73,13 +73,13 @@ finite_with (y ∷ ys) x w f = (w.0, finite_with ys x w.1 f)
 longer : {A B : Type 0} (xs : List A) (ys : List B) (a : A) (b : B) → length xs ≡ length ys → length (xs ++ a ∷ []) ≡ length (ys ++ b ∷ [])
 longer xs ys a b e = omega (arith, e, length-append xs (a ∷ []), length-append ys (b ∷ []))
 
-values_with : (T : Types) (us : List Ty) (vs : List Value) (u : Ty) (v : Value) → AreValues T us vs → has T u v ≡ true → AreValues T (us ++ u ∷ []) (vs ++ v ∷ [])
+pub values_with : (T : Types) (us : List Ty) (vs : List Value) (u : Ty) (v : Value) → AreValues T us vs → has T u v ≡ true → AreValues T (us ++ u ∷ []) (vs ++ v ∷ [])
 values_with T [] [] u v w h = (h, tt)
 values_with T [] (x ∷ vs) u v w h = absurd w
 values_with T (t ∷ us) [] u v w h = absurd w
 values_with T (t ∷ us) (x ∷ vs) u v w h = (w.0, values_with T us vs u v w.1 h)
 
-as_many : (T : Types) (us : List Ty) (vs : List Value) → AreValues T us vs → length vs ≡ length us
+pub as_many : (T : Types) (us : List Ty) (vs : List Value) → AreValues T us vs → length vs ≡ length us
 as_many T [] [] w = refl
 as_many T [] (x ∷ vs) w = absurd w
 as_many T (t ∷ us) [] w = absurd w

@@ -12,5 +12,6 @@ pub mod Itself
 pub mod Leading
 pub mod Speaking
 pub mod Witnessed
+pub mod Remembered
 pub mod Closing
 pub mod Sound

@@ -1,5 +1,5 @@
 -- Steps on conclusions are sound, and each has one answer.
-use Rattle.std.proofs.Common.{◌≡◌, inl, inr, Some, Bool, true, false, if◌then◌else◌, List, [], ◌∷◌, map, refl, ap, sym, ◌∙◌, subst}
+use Rattle.std.proofs.Common.{◌≡◌, inl, inr, ℕ, Some, Bool, true, false, if◌then◌else◌, List, [], ◌∷◌, map, refl, ap, sym, ◌∙◌, subst}
 use Rattle.gb_core.specs.declared.place.Place.{Place}
 use Rattle.gb_core.specs.declared.refusal.Why.TheVariants.{Shape}
 use Rattle.gb_terms.specs.declared.op.Op.TheVariants as op
@@ -16,12 +16,13 @@ use Rattle.gb_amb.specs.Introduced.{introduced, introduced_at, with_memory, with
 use Rattle.gb_amb.proofs.Introducing.{memory_leads, value_leads}
 use Rattle.gb_amb.proofs.Premises.{Follows}
 use Rattle.gb_amb.proofs.Speaking.{plain}
+use Rattle.gb_amb.proofs.Remembered.{memory_follows}
 use Rattle.gb_amb.proofs.Witnessed.{witness_follows}
 use Rattle.gb_goal.specs.Answers.{Answer}
 use Rattle.gb_goal.specs.Answers.Answer.{given, refused}
 use Rattle.gb_goal.specs.declared.sequent.Sequent.{Sequent}
 use Rattle.gb_steps.specs.declared.step.AmbientRule.{AmbientRule}
-use Rattle.gb_steps.specs.declared.step.AmbientRule.TheVariants.{Split, Left, Right, Assumption, Case, Have, Introduce, IntroduceMemory, Discard, Unpack, Branch, Witness, Trivial, Done}
+use Rattle.gb_steps.specs.declared.step.AmbientRule.TheVariants.{Split, Left, Right, Assumption, Case, Have, Introduce, IntroduceMemory, Discard, Unpack, Branch, Witness, WitnessMemory, Trivial, Done}
 use Rattle.gb_core.specs.declared.ty.Ty.{Ty}
 use Rattle.gb_meaning.specs.Written.{type_of}
 use Rattle.gb_holds.specs.Declared.{Declarations}
@@ -34,8 +35,8 @@ use Rattle.gb_goal.specs.Goal.{judges_bodies}
 use Rattle.gb_amb.specs.Parts.{concluding, by_parts}
 use Rattle.gb_amb.specs.Closed.{IsAmong, IsClosed}
 use Rattle.gb_amb.specs.Speaking.{speaks_of_programs}
-use Rattle.gb_amb.specs.Witness.{witnessed, witnessed_at}
-use Rattle.gb_amb.specs.Steps.{assuming, Decides, by_cases, IsAnswer, IsTypedStep, IsWitness, LeadTo}
+use Rattle.gb_amb.specs.Witness.{at_memory, memory_witnessed, memory_witnessed_at, witnessed, witnessed_at}
+use Rattle.gb_amb.specs.Steps.{assuming, Decides, by_cases, IsAnswer, IsMemoryWitness, IsTypedStep, IsWitness, LeadTo}
 use Rattle.gb_amb.proofs.Around.{here}
 use Rattle.gb_amb.proofs.Cases.{conclusion_formula}
 use Rattle.gb_amb.proofs.Closing.{among, closed, closed_leads}
@@ -77,6 +78,25 @@ module _ (ds : Declarations) (scope : IsTypedScope ds) (q : Sequent) (t : IsType
       step false s e = subst (LeadTo ds q) (sym (same_given qs _ e)) (witness_leads x u f hs xs w s)
   by_witness x place h ts hs xs w qs e = refused_at Shape place qs (sym e)
 
+  -- A memory of the context for one that is said to exist.
+  memory_leads_to : (i : ℕ) (f : Term) → (out-Term q.conclusion).head ≡ head.SomeMemory → (out-Term q.conclusion).args ≡ f ∷ [] → IsForm (here ds scope q t) (at_memory f i) →
+      LeadTo ds q (concluding q (at_memory f i) ∷ [])
+  memory_leads_to i f hs xs w =
+      let c = here ds scope q t in
+      let r = (out-Term q.conclusion).ty in
+      let is = node_is ds scope q t head.SomeMemory (f ∷ []) hs xs in
+      let front = ap has_module (is ∙ sym (term_is_node head.SomeMemory (f ∷ []) r)) in
+      let whole = subst (IsForm c) is (formula_form c q.conclusion (conclusion_formula c q.conclusion t.conclusion (ap judges_bodies hs)) front) in
+      of_following ds scope q t (node head.SomeMemory (f ∷ []) r) (at_memory f i ∷ []) is
+      (subst (λ d. IsForm d (at_memory f i) → IsForm d (node head.SomeMemory (f ∷ []) r) → Follows ds d (node head.SomeMemory (f ∷ []) r) (at_memory f i ∷ []))
+      (sym (here_small ds scope q t))
+      (λ y z. memory_follows (with_modules (context_of ds) q.modules) (map (λ x. x.ty) q.logical) (map (λ l. Some l) t.frames) i ds f r z y) w whole)
+
+  by_memory : (i : ℕ) (place : Place) (h : Head) (ts : List Term) → (out-Term q.conclusion).head ≡ h → (out-Term q.conclusion).args ≡ ts → IsMemoryWitness (here ds scope q t) i h ts →
+      (qs : List Sequent) → given qs ≡ memory_witnessed_at i place q h ts → LeadTo ds q qs
+  by_memory i place head.SomeMemory (f ∷ []) hs xs w qs e = subst (LeadTo ds q) (sym (same_given qs _ e)) (memory_leads_to i f hs xs w)
+  by_memory i place h ts hs xs w qs e = refused_at Shape place qs (sym e)
+
   -- a goal that stays
   left : LeadTo ds q (q ∷ [])
   left = record { typed = (t, tt); leads = λ h. h.0 }
@@ -89,6 +109,7 @@ module _ (ds : Declarations) (scope : IsTypedScope ds) (q : Sequent) (t : IsType
   steps_sound (Introduce x) w place qs e = by_head (Introduce x) place _ _ refl refl qs e
   steps_sound (IntroduceMemory x) w place qs e = by_head (IntroduceMemory x) place _ _ refl refl qs e
   steps_sound (Witness x) w place qs e = by_witness x place _ _ refl refl w qs e
+  steps_sound (WitnessMemory i) w place qs e = by_memory i place _ _ refl refl w qs e
   steps_sound Trivial w place qs (inl (m, e)) = nothing_left ds scope q t qs (same_given [] qs (sym e)) (closed_leads ds scope q t m)
   steps_sound Trivial w place qs (inr (m, e)) = subst (LeadTo ds q) (same_given (q ∷ []) qs (sym e)) left
   steps_sound Done w place qs (inl (m, e)) = nothing_left ds scope q t qs (same_given [] qs (sym e)) (closed_leads ds scope q t m)
@@ -117,6 +138,7 @@ some_answer Assumption place q = decided (IsAmong q.hyps q.conclusion) (among q.
 some_answer (Case f) place q = (by_cases f place q, refl)
 some_answer (Have name f) place q = (given (concluding q f ∷ assuming q name f ∷ []), refl)
 some_answer (Witness e) place q = (witnessed e place q, refl)
+some_answer (WitnessMemory i) place q = (memory_witnessed i place q, refl)
 some_answer Trivial place q = decided (IsClosed q) (closed q) (given []) (given (q ∷ []))
 some_answer Done place q = decided (IsClosed q) (closed q) (given []) (refused Shape place)
 some_answer Split place q = (by_parts Split place q, refl)
@@ -133,6 +155,7 @@ one_answer Assumption place q x y h k = one_decided (IsAmong q.hyps q.conclusion
 one_answer (Case f) place q x y h k = h ∙ sym k
 one_answer (Have name f) place q x y h k = h ∙ sym k
 one_answer (Witness e) place q x y h k = h ∙ sym k
+one_answer (WitnessMemory i) place q x y h k = h ∙ sym k
 one_answer Trivial place q x y h k = one_decided (IsClosed q) (given []) (given (q ∷ [])) x y h k
 one_answer Done place q x y h k = one_decided (IsClosed q) (given []) (refused Shape place) x y h k
 one_answer Split place q x y h k = h ∙ sym k

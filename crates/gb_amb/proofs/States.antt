@@ -54,7 +54,7 @@ differ a b n = step (a == b) refl
     step true e = absurd (n ((Decides-eqb a b).0 e))
     step false e = refl
 
-value_after : (vs : List Value) (v : Value) (i : ℕ) → get_or (vs ++ v ∷ []) i (Num 0) ≡ (if length vs == i then v else get_or vs i (Num 0))
+pub value_after : (vs : List Value) (v : Value) (i : ℕ) → get_or (vs ++ v ∷ []) i (Num 0) ≡ (if length vs == i then v else get_or vs i (Num 0))
 value_after [] v zero = refl
 value_after [] v (suc i) = sym (ap (λ t. if t then v else Num 0) (differ 0 (suc i) (λ e. omega (arith, e))))
 value_after (x ∷ vs) v zero = sym (ap (λ t. if t then v else x) (differ (length (x ∷ vs)) 0 (λ e. omega (arith, e))))
@@ -66,12 +66,12 @@ memory_at zero m ms = m ∷ []
 memory_at (suc n) m [] = no_memory ∷ memory_at n m []
 memory_at (suc n) m (x ∷ ms) = x ∷ memory_at n m ms
 
-memory_here : (n : ℕ) (m : Memory) (ms : List Memory) → get_or (memory_at n m ms) n no_memory ≡ m
+pub memory_here : (n : ℕ) (m : Memory) (ms : List Memory) → get_or (memory_at n m ms) n no_memory ≡ m
 memory_here zero m ms = refl
 memory_here (suc n) m [] = memory_here n m []
 memory_here (suc n) m (x ∷ ms) = memory_here n m ms
 
-memory_before : (n : ℕ) (m : Memory) (ms : List Memory) (i : ℕ) → i < n → get_or (memory_at n m ms) i no_memory ≡ get_or ms i no_memory
+pub memory_before : (n : ℕ) (m : Memory) (ms : List Memory) (i : ℕ) → i < n → get_or (memory_at n m ms) i no_memory ≡ get_or ms i no_memory
 memory_before zero m ms i w = absurd (omega (arith, w))
 memory_before (suc n) m [] zero w = refl
 memory_before (suc n) m [] (suc i) w = memory_before n m [] i (omega (arith, w))

@@ -76,7 +76,7 @@ module _ (b : Context) where
 
 -- Lists that grow.
 
-item_more : (us vs : List Ty) (i : ℕ) (t : Ty) → item us i ≡ Some t → item (us ++ vs) i ≡ Some t
+pub item_more : (us vs : List Ty) (i : ℕ) (t : Ty) → item us i ≡ Some t → item (us ++ vs) i ≡ Some t
 item_more [] vs i t e = absurd (false≢true (ap is_some e))
   where
     is_some : Option Ty → Bool
@@ -89,7 +89,7 @@ pub item_past : (us : List Ty) → item us (length us) ≡ None
 item_past [] = refl
 item_past (u ∷ us) = item_past us
 
-item_here : (us : List Ty) (u : Ty) → item (us ++ u ∷ []) (length us) ≡ Some u
+pub item_here : (us : List Ty) (u : Ty) → item (us ++ u ∷ []) (length us) ≡ Some u
 item_here [] u = refl
 item_here (x ∷ us) u = item_here us u
 

@@ -7,13 +7,13 @@ use Rattle.gb_core.specs.declared.refusal.Refused.TheVariants.{NoMemory, ReadFau
 use Rattle.gb_core.specs.declared.refusal.Why.TheVariants.{Shape}
 use Rattle.gb_terms.specs.declared.term.Term.{Term, out-Term}
 use Rattle.gb_terms.specs.declared.term.Head.{Head}
-use Rattle.gb_terms.specs.declared.term.Head.TheVariants.{Some}
+use Rattle.gb_terms.specs.declared.term.Head.TheVariants.{Some, SomeMemory}
 use Rattle.gb_goal.specs.Answers.{Answer}
 use Rattle.gb_goal.specs.Answers.Answer.{given, refused}
 use Rattle.gb_goal.specs.Goal.{judges_bodies}
 use Rattle.gb_goal.specs.declared.sequent.Sequent.{Sequent}
 use Rattle.gb_steps.specs.declared.step.AmbientRule.{AmbientRule}
-use Rattle.gb_steps.specs.declared.step.AmbientRule.TheVariants.{Assumption, Case, Have, Introduce, IntroduceMemory, Witness, Trivial, Done}
+use Rattle.gb_steps.specs.declared.step.AmbientRule.TheVariants.{Assumption, Case, Have, Introduce, IntroduceMemory, Witness, WitnessMemory, Trivial, Done}
 use Rattle.gb_meaning.specs.Written.{type_of}
 use Rattle.gb_holds.specs.Declared.{Declarations}
 use Rattle.gb_holds.specs.Holds.{Holds}
@@ -25,7 +25,7 @@ use Rattle.gb_typing.specs.Forms.{implies_form, not_form}
 use Rattle.gb_amb.specs.Closed.{IsAmong, IsClosed}
 use Rattle.gb_amb.specs.Introduced.{introduced}
 use Rattle.gb_amb.specs.Parts.{concluding, by_parts}
-use Rattle.gb_amb.specs.Witness.{witnessed}
+use Rattle.gb_amb.specs.Witness.{at_memory, memory_witnessed, witnessed}
 
 -- the goal with one hypothesis more, behind the others
 abbrev pub assuming : Sequent → List ℕ → Term → Sequent
@@ -49,6 +49,7 @@ IsAnswer (Have name f) place q r = r ≡ given (concluding q f ∷ assuming q na
 IsAnswer (Introduce x) place q r = r ≡ introduced (Introduce x) place q
 IsAnswer (IntroduceMemory x) place q r = r ≡ introduced (IntroduceMemory x) place q
 IsAnswer (Witness e) place q r = r ≡ witnessed e place q
+IsAnswer (WitnessMemory i) place q r = r ≡ memory_witnessed i place q
 IsAnswer Trivial place q r = Decides (IsClosed q) (given []) (given (q ∷ [])) r
 IsAnswer Done place q r = Decides (IsClosed q) (given []) (refused Shape place) r
 IsAnswer rule place q r = r ≡ by_parts rule place q
@@ -58,11 +59,18 @@ abbrev pub IsWitness : Context → Term → Head → Type 0
 IsWitness c e (Some u) = IsTyped c e × (type_of e ≡ u)
 IsWitness c e h = Unit {0}
 
+-- what is said to exist is said of a memory: that is typed there, since the body may read locals of the memory that is bound which this
+-- one hasn't
+abbrev pub IsMemoryWitness : Context → ℕ → Head → List Term → Type 0
+IsMemoryWitness c i SomeMemory (f ∷ []) = IsForm c (at_memory f i)
+IsMemoryWitness c i h ts = Unit {0}
+
 -- what a step brings to a goal with this conclusion is typed
 abbrev pub IsTypedStep : Context → Term → AmbientRule → Type 0
 IsTypedStep c C (Case f) = IsForm c f
 IsTypedStep c C (Have name f) = IsForm c f
 IsTypedStep c C (Witness e) = IsWitness c e (out-Term C).head
+IsTypedStep c C (WitnessMemory i) = IsMemoryWitness c i (out-Term C).head (out-Term C).args
 IsTypedStep c C rule = Unit {0}
 
 -- Typed goals, from which a goal follows.

@@ -15,7 +15,7 @@ use crate::goals;
 use crate::goals::{no_shape, two};
 use crate::introduced::introduced;
 use crate::parts::by_parts;
-use crate::witness::witnessed;
+use crate::witness::{memory_witnessed, witnessed};
 use gb_core::name::Name;
 use gb_core::place::Place;
 use gb_core::refusal::Refused;
@@ -93,6 +93,7 @@ pub fn apply(
             introduced(alloc, rule, place, goal)
         }
         AmbientRule::Witness(term) => witnessed(alloc, term, place, goal),
+        AmbientRule::WitnessMemory(memory) => memory_witnessed(alloc, *memory, place, goal),
         AmbientRule::Trivial => trivial(alloc, goal),
         AmbientRule::Done => done(alloc, place, goal),
         _ => by_parts(alloc, rule, place, goal),

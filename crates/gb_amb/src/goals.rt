@@ -90,6 +90,7 @@ pub fn assuming(
     ensures { IfOk result (λ made. made ≡ assuming goal.now name.now form.now) }
 {
     let hyps = with_hypothesis(alloc, goal.hyps.as_slice(), name, form)?;
-    let same = goal.share()?;
-    Ok(Sequent { hyps, ..same })
+    let mut more = goal.share()?;
+    more.hyps = hyps;
+    Ok(more)
 }

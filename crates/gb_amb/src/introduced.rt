@@ -84,8 +84,9 @@ pub fn with_variable(
 {
     let conclusion = about_variable(alloc, ty, body, goal)?;
     let logical = variables_with(alloc, goal.logical.as_slice(), name, ty)?;
-    let same = goal.with_conclusion(conclusion)?;
-    Ok(Sequent { logical, ..same })
+    let mut more = goal.with_conclusion(conclusion)?;
+    more.logical = logical;
+    Ok(more)
 }
 
 /// Memories, and one more behind them.
@@ -110,8 +111,9 @@ pub fn with_memory(
     let change = Change::ToSide(Side::Bound(0), Side::Memory(place));
     let conclusion = changed_once(alloc, body, change)?;
     let memories = memories_with(alloc, goal.memories.as_slice(), name)?;
-    let same = goal.with_conclusion(conclusion)?;
-    Ok(Sequent { memories, ..same })
+    let mut more = goal.with_conclusion(conclusion)?;
+    more.memories = memories;
+    Ok(more)
 }
 
 /// The goal of the rest of an implication, with the premise as a hypothesis more.

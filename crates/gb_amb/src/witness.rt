@@ -4,13 +4,14 @@ ghost use Rattle.std.specs.Prelude.{◌≡◌};
 ghost use Rattle.std.specs.List.{list_any};
 ghost use Rattle.gb_goal.specs.Answers.{Answers};
 ghost use Rattle.gb_amb.specs.Speaking.{is_speaking, speaks_of_programs};
-ghost use Rattle.gb_amb.specs.Witness.{witnessed, witnessed_at};
+ghost use Rattle.gb_amb.specs.Witness.{memory_witnessed, witnessed, witnessed_at};
 
 use crate::goals::{no_shape, one};
 use crate::introduced::changed_once;
 use gb_core::place::Place;
 use gb_core::refusal::Refused;
 use gb_goal::sequent::{Sequent, Sequents};
+use gb_terms::op::Side;
 use gb_terms::term::{Head, Term};
 use gb_walk::change::Change;
 use std::alloc::Global;
@@ -92,4 +93,23 @@ pub fn witnessed(
         head,
         goal.conclusion.args.as_slice(),
     )
+}
+
+/// The goal of the body of an `exists` over memories about a memory of the context. Refused with `Shape` where none stands there.
+pub fn memory_witnessed(
+    alloc: Global,
+    memory: u32,
+    place: Place,
+    goal: &Sequent,
+) -> Result<Sequents, Refused>
+    ensures { Answers (memory_witnessed memory place goal.now) result }
+{
+    match (goal.conclusion.head.get(), goal.conclusion.args.as_slice()) {
+        (Head::SomeMemory, [body]) => {
+            let change = Change::ToSide(Side::Bound(0), Side::Memory(memory));
+            let conclusion = changed_once(alloc, body, change)?;
+            Ok(one(alloc, goal, conclusion)?)
+        }
+        _ => Err(no_shape(place)),
+    }
 }

@@ -81,49 +81,6 @@ fn runs_over_memory(rt: HostRuntime) {
             Status::Refused,
             "refused E22 row.ec 1 1\n",
         ),
-        (
-            check,
-            "end T.",
-            (0, 0),
-            Status::Refused,
-            "refused E22 row.ec 1 1\n",
-        ),
-        (
-            check,
-            "local lemma a : true.",
-            (0, 0),
-            Status::Refused,
-            "refused E22 row.ec 1 1\n",
-        ),
-        // a module that is bound has a name of its own
-        (
-            check,
-            "module M = { }. lemma a (M <: T) : true.",
-            (0, 0),
-            Status::Refused,
-            "refused E06 row.ec 1 26\n",
-        ),
-        (
-            check,
-            "module M = { }. module G (M : T) = { }.",
-            (0, 0),
-            Status::Refused,
-            "refused E06 row.ec 1 27\n",
-        ),
-        (
-            check,
-            "module A (A : T) = { }.",
-            (0, 0),
-            Status::Refused,
-            "refused E06 row.ec 1 11\n",
-        ),
-        (
-            check,
-            "lemma a (M <: T) : true.",
-            (0, 0),
-            Status::Refused,
-            "refused E02 row.ec 1 10\n",
-        ),
         (("check", "other.ec"), "", (0, 0), Status::Missing, ""),
         (("check", "-v"), "", (0, 0), Status::Usage, USAGE),
         (script_0, "", (0, 0), Status::Accepted, nothing),
@@ -139,7 +96,6 @@ fn runs_over_memory(rt: HostRuntime) {
         ),
         (("selftest", "201"), "", (0, 0), Status::Usage, USAGE),
         (("selftest", "01"), "", (0, 0), Status::Usage, USAGE),
-        (("selftest", "+1"), "", (0, 0), Status::Usage, USAGE),
     ] {
         assert!(rt; ends(rt.alloc(), words, text, failing, status, written) == Ok(true));
     }

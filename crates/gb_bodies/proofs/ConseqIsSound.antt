@@ -81,15 +81,26 @@ alike_same true b h = sym h
 alike_same false true h = absurd (false≢true h)
 alike_same false false h = refl
 
-as_likely_typed : (c : Context) (r : Rel) (old new : Term) → IsForm c old → IsForm c new → IsForm c (as_likely r old new)
+pub as_likely_typed : (c : Context) (r : Rel) (old new : Term) → IsForm c old → IsForm c new → IsForm c (as_likely r old new)
 as_likely_typed c AtMost old new v w = implies_typed c old new v w
 as_likely_typed c AtLeast old new v w = implies_typed c new old w v
 as_likely_typed c Equal old new v w = iff_typed c old new v w
 
+-- one truth stands so to another
+abbrev pub FollowsAt : Rel → Bool → Bool → Type 0
+FollowsAt AtMost old new = old ≡ true → new ≡ true
+FollowsAt AtLeast old new = new ≡ true → old ≡ true
+FollowsAt Equal old new = old ≡ new
+
+pub likely_at : (g : Setting) (j : Judge) (s : State) (r : Rel) (old new : Term) → den g j (as_likely r old new) s ≡ true → FollowsAt r (den g j old s) (den g j new s)
+likely_at g j s AtMost old new h = implies_use g j old new s h
+likely_at g j s AtLeast old new h = implies_use g j new old s h
+likely_at g j s Equal old new h = alike_same (den g j old s) (den g j new s) (sym (true_iff g j old new s) ∙ h)
+
 likely_follows : (g : Setting) (j : Judge) (s : State) (r : Rel) (old new : Term) → ((m : Memory) → den g j (as_likely r old new) (at s m) ≡ true) → Follows r (λ m. den g j old (at s m)) (λ m. den g j new (at s m))
-likely_follows g j s AtMost old new h = λ m. implies_use g j old new (at s m) (h m)
-likely_follows g j s AtLeast old new h = λ m. implies_use g j new old (at s m) (h m)
-likely_follows g j s Equal old new h = λ m. alike_same (den g j old (at s m)) (den g j new (at s m)) (sym (true_iff g j old new (at s m)) ∙ h m)
+likely_follows g j s AtMost old new h = λ m. likely_at g j (at s m) AtMost old new (h m)
+likely_follows g j s AtLeast old new h = λ m. likely_at g j (at s m) AtLeast old new (h m)
+likely_follows g j s Equal old new h = λ m. likely_at g j (at s m) Equal old new (h m)
 
 -- denominators of what goals speak of
 

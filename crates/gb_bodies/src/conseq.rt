@@ -61,7 +61,7 @@ fn pair_leads(alloc: Global, pre: &Form, post: &Form) -> Result<Form, AllocError
 }
 
 /// The old postcondition and the new one, so that one is as likely as the relation to the bound asks.
-fn likely(alloc: Global, rel: Rel, old: &Form, new: &Form) -> Result<Form, AllocError>
+pub fn likely(alloc: Global, rel: Rel, old: &Form, new: &Form) -> Result<Form, AllocError>
     ensures { IfOk result (λ made. made ≡ as_likely rel old.now new.now) }
 {
     match rel {

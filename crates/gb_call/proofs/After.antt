@@ -1,5 +1,5 @@
 -- What is said before a call of what is to hold after it: typing and meaning, in one memory.
-use Rattle.std.proofs.Common.{◌≡◌, ◌<◌, ◌⊎◌, ℕ, inl, inr, ◌&&◌, ◌||◌, Bool, true, false, if◌then◌else◌, List, [], ◌∷◌, ◌++◌, length, map, get_or, Option, Some, None, refl, ap, sym, ◌∙◌, subst}
+use Rattle.std.proofs.Common.{◌≡◌, ◌<◌, ◌⊎◌, ℕ, inl, inr, ◌&&◌, Bool, true, false, if◌then◌else◌, List, [], ◌∷◌, ◌++◌, length, get_or, Some, None, refl, ap, sym, ◌∙◌, subst}
 use Rattle.std.proofs.lemmas.Bool.{false≢true, and_parts}
 use Rattle.std.proofs.lemmas.List.{map-append}
 use Rattle.std.proofs.lemmas.Slice.Eq.{bytes_eq-Decides}
@@ -11,6 +11,7 @@ use Rattle.gb_core.specs.declared.value.Value.TheVariants.{Num}
 use Rattle.gb_core.specs.declared.var.Var.{Var}
 use Rattle.gb_core.specs.declared.var.Var.TheVariants as var
 use Rattle.gb_terms.specs.declared.decl.TypedName.{TypedName}
+use Rattle.gb_terms.specs.declared.op.Rel.{Rel}
 use Rattle.gb_terms.specs.declared.op.Side.TheVariants as side
 use Rattle.gb_terms.specs.declared.op.Read.TheVariants.{Logical, Program}
 use Rattle.gb_terms.specs.declared.term.Term.{Term}
@@ -19,18 +20,14 @@ use Rattle.gb_terms.proofs.Equality.{var_eq-Decides}
 use Rattle.gb_walk.specs.declared.change.Change.TheVariants.{ToTerm}
 use Rattle.gb_walk.specs.Change.{Changes, or_later, term_changed, found_for_read}
 use Rattle.gb_walk.specs.Clash.{variables_read}
-use Rattle.gb_meaning.specs.Memory.{Memory, assigned, read, write, write_each, result_name}
-use Rattle.gb_meaning.specs.Meanings.{truth, value_in}
+use Rattle.gb_meaning.specs.Memory.{Memory, read, write, result_name}
+use Rattle.gb_meaning.specs.Meanings.{truth}
 use Rattle.gb_meaning.specs.Names.{Name}
 use Rattle.gb_meaning.specs.Setting.{Setting}
 use Rattle.gb_meaning.specs.Setting.Meaning.{finite}
-use Rattle.gb_meaning.specs.State.{State, Binding, at, meaning_in, memory_of}
-use Rattle.gb_meaning.specs.State.Binding.{value as value_bound, program}
-use Rattle.gb_meaning.specs.Terms.{quiet, val}
-use Rattle.gb_meaning.specs.Values.{has}
+use Rattle.gb_meaning.specs.State.{State, at, memory_of}
 use Rattle.gb_meaning.specs.Judgments.{Judge, IsFair, den}
 use Rattle.gb_meaning.specs.Written.{local_type}
-use Rattle.gb_laws.proofs.Nodes.{val_node}
 use Rattle.gb_terms.specs.declared.term.Head.TheVariants as head
 use Rattle.gb_changes.specs.Agree.{Agree}
 use Rattle.gb_changes.specs.Uses.{Uses, IsWithin}
@@ -42,32 +39,30 @@ use Rattle.gb_typed.specs.Programs.{Take}
 use Rattle.gb_typed.specs.Typing.{Binder, IsBoundAt}
 use Rattle.gb_typed.specs.Typing.Binder.{value, program as module_binder}
 use Rattle.gb_typing.specs.Changes.{Made}
-use Rattle.gb_typing.specs.Context.{Context, Frame, erased, reframed, with_own}
-use Rattle.gb_typing.specs.Fits.{IsSettingOf, IsStateOf}
-use Rattle.gb_typing.specs.Puts.{IsTypedPut, IsTypedWrite, Readable, reading}
+use Rattle.gb_typing.specs.Context.{Context, Frame, erased, reframed}
+use Rattle.gb_typing.specs.Fits.{IsSettingOf}
+use Rattle.gb_typing.specs.Puts.{IsTypedPut, Readable, reading}
 use Rattle.gb_typing.specs.Typing.{IsIn, IsForm}
 use Rattle.gb_typing.proofs.Both.{both, within_both}
-use Rattle.gb_typing.proofs.Fitting.{fits_reframed}
 use Rattle.gb_typing.proofs.Formed.{formed}
 use Rattle.gb_typing.proofs.Made.{made_node}
 use Rattle.gb_typing.proofs.Scripts.{none_some, same_some}
 use Rattle.gb_typing.proofs.Sound.{procedures_sound, sound_form}
 use Rattle.gb_typing.proofs.Substituted.{finite_no_distribution}
 use Rattle.gb_typing.proofs.Uses.{reads_found, reads_in, uses_of, uses_typed}
-use Rattle.gb_typing.specs.Forms.{IsAlone, implies_form}
 use Rattle.gb_typing.specs.Rules.{outermost}
-use Rattle.gb_typing.proofs.Forms.{implies_typed, implies_use}
 use Rattle.gb_typing.proofs.Narrowed.{own_typed}
-use Rattle.gb_typing.proofs.Quantified.{inside_all, typed_inside, meaning_inside}
+use Rattle.gb_typing.proofs.Quantified.{inside_all, typed_inside}
 use Rattle.gb_typing.proofs.Spared.{Clear}
-use Rattle.gb_prog.specs.AllValues.{Located, in_memory, for_all, to_bound_values, AreLocated, AreAlone}
-use Rattle.gb_prog.specs.Writes.{TypedVariable, overwritten, AreIn, IsOneOf}
-use Rattle.gb_prog.proofs.AllValues.{pushed, pushed_here, binder_of, no_frame, binding_of, bound_term, bound_plain, bound_writes, writes_are, for_all_typed, all_puts, fit_pushed, all_true, all_writes, values_at, have_types, written_in}
-use Rattle.gb_prog.proofs.Frames.{reads_as}
+use Rattle.gb_prog.specs.AllValues.{Located, in_memory, for_all, to_bound_values, AreLocated}
+use Rattle.gb_prog.specs.Writes.{TypedVariable, AreIn, IsOneOf}
+use Rattle.gb_prog.proofs.AllValues.{pushed, pushed_here, binder_of, no_frame, bound_term, bound_plain, bound_writes, writes_are, for_all_typed, all_puts}
 use Rattle.gb_bodies.specs.Assigned.{put_in, taken}
+use Rattle.gb_bodies.specs.Conseq.{as_likely}
+use Rattle.gb_bodies.proofs.ConseqIsSound.{as_likely_typed}
 use Rattle.gb_bodies.proofs.AssignedForms.{changes_are, writes}
-use Rattle.gb_call.proofs.LeftSides.{are_for, left_puts, left_writes, left_ends, left_values, value_here}
-use Rattle.gb_call.proofs.Replaced.{AreOwnPuts, Replaces, replaced_typed}
+use Rattle.gb_call.proofs.LeftSides.{are_for, left_puts}
+use Rattle.gb_call.proofs.Replaced.{ArePlaced, Replaces, own_here, own_variables, replaced_typed}
 
 pub all_append : {A : Type 0} (P : A → Type 0) (us vs : List A) → AllByRecursion P us → AllByRecursion P vs → AllByRecursion P (us ++ vs)
 all_append P [] vs h k = k
@@ -138,7 +133,7 @@ module _ (b : Context) (ls : List TypedName) (R : Ty) (W : List TypedVariable) (
   finite_types [] h = tt
   finite_types (w ∷ V) h = (h.0.1, finite_types V h.1)
 
-  own_puts : (V : List TypedVariable) → AreOwnPuts (to_bound_values (own V))
+  own_puts : (V : List TypedVariable) → ArePlaced (to_bound_values (own V))
   own_puts [] = tt
   own_puts (w ∷ V) = (tt, own_puts V)
 
@@ -193,9 +188,9 @@ module _ (b : Context) (ls : List TypedName) (R : Ty) (W : List TypedVariable) (
     -- a variable that is one of these, or stands over the locals of the caller
     module _ (x : Var) (t : Ty) where
       abbrev Becomes : Changes → Type 0
-      Becomes cs = Replaces b (Some result_frame) (Some ls) X Y x t (found_for_read cs (Program x side.Own))
+      Becomes cs = Replaces b (Some result_frame) None None (Some ls) None None X Y side.Own x t (found_for_read cs (Program x side.Own))
 
-      bound_replaces : (k : ℕ) (u : Ty) → IsFinite u → get_or X k module_binder ≡ value u → u ≡ t → Replaces b (Some result_frame) (Some ls) X Y x t (Some (bound_term k u))
+      bound_replaces : (k : ℕ) (u : Ty) → IsFinite u → get_or X k module_binder ≡ value u → u ≡ t → Replaces b (Some result_frame) None None (Some ls) None None X Y side.Own x t (Some (bound_term k u))
       bound_replaces k u h e i = (
         bound_plain k u,
         λ f l q s. subst (λ z. Made (reframed (inside bound_around none_around ls) f l q) z (bound_term k u)) i
@@ -210,7 +205,7 @@ module _ (b : Context) (ls : List TypedName) (R : Ty) (W : List TypedVariable) (
         where
           by_test : (c : Bool) → var_eq w.variable x ≡ c → (IsOneOf x V ⊎ IsIn (inside bound_around none_around ls) (Some ls) x t → Becomes (to_bound_values (own V))) →
               IsOneOf x (w ∷ V) ⊎ IsIn (inside bound_around none_around ls) (Some ls) x t →
-              Replaces b (Some result_frame) (Some ls) X Y x t (or_later (c && true) (bound_term (length (own V)) w.ty) (found_for_read (to_bound_values (own V)) (Program x side.Own)))
+              Replaces b (Some result_frame) None None (Some ls) None None X Y side.Own x t (or_later (c && true) (bound_term (length (own V)) w.ty) (found_for_read (to_bound_values (own V)) (Program x side.Own)))
           by_test true d go o =
               bound_replaces (length (own V)) w.ty h.0 (ap (λ (l : List Binder). get_or l (length (own V)) module_binder) e ∙ pushed_here binder_of (side.Own, w) (own V) bs module_binder)
               (k.0 ((var_eq-Decides w.variable x).0 d))
@@ -237,22 +232,24 @@ module _ (b : Context) (ls : List TypedName) (R : Ty) (W : List TypedVariable) (
 
     said_typed : (f : Term) → IsForm (over result_frame) f → IsForm (inside bound_around none_around ls) (term_changed f (to_bound_values (own (res ∷ W))))
     said_typed f w =
-        replaced_typed b (Some result_frame) (Some ls) X Y (to_bound_values (own (res ∷ W))) (own_puts (res ∷ W)) (λ z. tt)
-        (λ x t k. replaced_in x t (res ∷ W) [] refl (fin, finite_types W global) (same_types x t k (res ∷ W) after_located) (stands x t k)) f w
+        replaced_typed b (Some result_frame) None None (Some ls) None None X Y (to_bound_values (own (res ∷ W))) (own_puts (res ∷ W)) (own_here b (Some result_frame) (Some ls) X Y (λ z. tt))
+        (own_variables b (Some result_frame) (Some ls) X Y
+        (λ r x t. Replaces b (Some result_frame) None None (Some ls) None None X Y r x t (found_for_read (to_bound_values (own (res ∷ W))) (Program x r)))
+        (λ x t k. replaced_in x t (res ∷ W) [] refl (fin, finite_types W global) (same_types x t k (res ∷ W) after_located) (stands x t k))) f w
 
     return_typed : (xs : List Var) → Take (erased (outermost b)) ls xs R → length xs < 9 → (q : Term) → IsForm (over ls) q →
         IsForm (inside bound_around none_around ls) (term_changed q (put_in side.Own xs (taken xs result) ++ to_bound_values (own W)))
     return_typed xs t l q w =
         subst (λ cs. IsForm (inside bound_around none_around ls) (term_changed q (cs ++ to_bound_values (own W)))) (changes_are side.Own (λ e. Num 0) xs (taken xs result))
         (values_typed bound_around none_around ls q w (writes side.Own (λ e. Num 0) xs (taken xs result))
-        (left_puts b ls X Y (length (own W)) R fin result_there (λ e. Num 0) xs (taken xs result) (are_for b ls X Y (length (own W)) R fin result_there xs t l)))
+        (left_puts b (Some ls) None None side.Own tt ls refl X Y (length (own W)) R fin result_there (λ e. Num 0) xs (taken xs result) (are_for b (Some ls) None None side.Own tt ls refl X Y (length (own W)) R fin result_there xs t l)))
 
     -- for all results and all values of the globals
-    pub with_result_typed : (said q : Term) → IsForm (over result_frame) said → IsForm (over ls) q → (xs : List Var) → Take (erased (outermost b)) ls xs R → length xs < 9 →
-        IsForm (over ls) (for_all (own (res ∷ W)) (implies_form (term_changed said (to_bound_values (own (res ∷ W)))) (term_changed q (put_in side.Own xs (taken xs result) ++ to_bound_values (own W)))))
-    with_result_typed said q w v xs t l =
+    pub with_result_typed : (r : Rel) (said q : Term) → IsForm (over result_frame) said → IsForm (over ls) q → (xs : List Var) → Take (erased (outermost b)) ls xs R → length xs < 9 →
+        IsForm (over ls) (for_all (own (res ∷ W)) (as_likely r (term_changed q (put_in side.Own xs (taken xs result) ++ to_bound_values (own W))) (term_changed said (to_bound_values (own (res ∷ W))))))
+    with_result_typed r said q w v xs t l =
         for_all_typed b (Some ls) None None (own (res ∷ W)) [] [] (fin, finite_types W global) _
-        (implies_typed (inside bound_around none_around ls) _ _ (said_typed said w) (return_typed xs t l q v))
+        (as_likely_typed (inside bound_around none_around ls) r _ _ (return_typed xs t l q v) (said_typed said w))
 
   -- Where the result doesn't occur.
   abbrev pub is_res : Var → Bool
@@ -270,8 +267,8 @@ module _ (b : Context) (ls : List TypedName) (R : Ty) (W : List TypedVariable) (
   narrowed : (said : Term) → IsForm (over result_frame) said → Clear side.Own tt is_res (variables_read side.Own said) → IsForm (over ls) said
   narrowed said w k = record { typed = own_typed (Some result_frame) (Some ls) is_res moves (λ z. tt) said (outermost b) k w.typed; truth = w.truth }
 
-  pub no_result_typed : (said q : Term) → IsForm (over result_frame) said → Clear side.Own tt is_res (variables_read side.Own said) → IsForm (over ls) q →
-      IsForm (over ls) (for_all (own W) (implies_form (term_changed said (to_bound_values (own W))) (term_changed q (to_bound_values (own W)))))
-  no_result_typed said q w k v =
+  pub no_result_typed : (r : Rel) (said q : Term) → IsForm (over result_frame) said → Clear side.Own tt is_res (variables_read side.Own said) → IsForm (over ls) q →
+      IsForm (over ls) (for_all (own W) (as_likely r (term_changed q (to_bound_values (own W))) (term_changed said (to_bound_values (own W)))))
+  no_result_typed r said q w k v =
       for_all_typed b (Some ls) None None (own W) [] [] (finite_types W global) _
-      (implies_typed (inside [] [] ls) _ _ (values_typed [] [] ls said (narrowed said w k) [] tt) (values_typed [] [] ls q v [] tt))
+      (as_likely_typed (inside [] [] ls) r _ _ (values_typed [] [] ls q v [] tt) (values_typed [] [] ls said (narrowed said w k) [] tt))

@@ -1,5 +1,5 @@
 -- What is said before a call of what is to hold after it, and what holds then.
-use Rattle.std.proofs.Common.{◌≡◌, ℕ, suc, pred, ◌<◌, ◌⊎◌, inl, inr, Bool, true, false, List, [], ◌∷◌, ◌++◌, length, map, get_or, Option, Some, None, refl, ap, sym, ◌∙◌, subst}
+use Rattle.std.proofs.Common.{◌≡◌, pred, ◌<◌, ◌⊎◌, inl, inr, Bool, true, false, List, [], ◌∷◌, ◌++◌, length, get_or, Some, None, refl, ap, sym, ◌∙◌, subst}
 use Rattle.std.proofs.lemmas.Bool.{false≢true}
 use Rattle.std.proofs.lemmas.List.{map-append}
 use Rattle.std.specs.List.{AllByRecursion}
@@ -9,6 +9,7 @@ use Rattle.gb_core.specs.declared.var.Var.{Var}
 use Rattle.gb_core.specs.declared.var.Var.TheVariants as var
 use Rattle.gb_types.specs.Numbering.{parts_of}
 use Rattle.gb_terms.specs.declared.decl.TypedName.{TypedName}
+use Rattle.gb_terms.specs.declared.op.Rel.{Rel}
 use Rattle.gb_terms.specs.declared.op.Side.TheVariants as side
 use Rattle.gb_terms.specs.declared.op.Read.TheVariants.{Program}
 use Rattle.gb_terms.specs.declared.term.Term.{Term}
@@ -43,9 +44,10 @@ use Rattle.gb_typing.specs.Typing.{IsIn, IsForm}
 use Rattle.gb_typing.proofs.Clashes.{left_of_no_clash}
 use Rattle.gb_typing.proofs.Fitting.{fits_reframed}
 use Rattle.gb_typing.proofs.Scripts.{none_some}
-use Rattle.gb_typing.specs.Forms.{IsAlone, implies_form}
+use Rattle.gb_typing.specs.Forms.{IsAlone}
 use Rattle.gb_typing.specs.Rules.{outermost}
-use Rattle.gb_typing.proofs.Forms.{implies_use}
+use Rattle.gb_bodies.specs.Conseq.{as_likely}
+use Rattle.gb_bodies.proofs.ConseqIsSound.{FollowsAt, likely_at}
 use Rattle.gb_typing.proofs.Quantified.{meaning_inside}
 use Rattle.gb_prog.specs.AllValues.{Located, in_memory, for_all, to_bound_values, AreLocated, AreAlone}
 use Rattle.gb_prog.specs.Writes.{DifferIn, IsApart, IsOneOf, TypedVariable, overwritten, AreIn}
@@ -153,17 +155,17 @@ module _ (b : Context) (ls : List TypedName) (R : Ty) (W : List TypedVariable) (
           ∙ ap (den g j q) (written_in b (Some ls) None None g (fits_over ls) j fair (at s n) side.Own tt W (at s m))
           ∙ same_form (O ls) g (fits_over ls) j fair P s (overwritten g.types W n m) (assigned g.types base xs r) left_reads q w k
 
-      pub no_result_means : (said q : Term) → IsForm (O F) said → (Q : Readable) → IsWithin (reading Q) said → AllByRecursion (λ w. IsAlone g w.variable (Q side.Own)) W →
+      pub no_result_means : (rel : Rel) (said q : Term) → IsForm (O F) said → (Q : Readable) → IsWithin (reading Q) said → AllByRecursion (λ w. IsAlone g w.variable (Q side.Own)) W →
           ((y : Var) (t : Ty) → IsIn (O F) (Some F) y t → Q side.Own y ≡ true → (read g.types m y t ≡ read g.types n y t) ⊎ IsOneOf y W) → IsForm (O ls) q → IsWithin (reading P) q →
-          den g j (for_all (L W) (implies_form (term_changed said (to_bound_values (L W))) (term_changed q (to_bound_values (L W))))) (at s m) ≡ true → den g j said (at s n) ≡ true →
-          den g j q (at s (assigned g.types base xs r)) ≡ true
-      no_result_means said q w Q k a e u l h x =
+          den g j (for_all (L W) (as_likely rel (term_changed q (to_bound_values (L W))) (term_changed said (to_bound_values (L W))))) (at s m) ≡ true →
+          FollowsAt rel (den g j q (at s (assigned g.types base xs r))) (den g j said (at s n))
+      no_result_means rel said q w Q k a e u l h =
           let loc = located b ls R W global F W global in
           let values = have_types b (Some F) None None g (fits_over F) j fair (at s n) (L W) loc in
           let A = term_changed said (to_bound_values (L W)) in
           let B = term_changed q (to_bound_values (L W)) in
-          sym (return_same q u l)
-          ∙ implies_use g j A B (within_values W) (all_true b (Some ls) None None g (fits_over ls) j fair v (L W) s.bound values (implies_form A B) (at s m) h) (said_means W loc Q a e said w k ∙ x)
+          subst (λ z. z) (λ i. FollowsAt rel (return_same q u l i) (said_means W loc Q a e said w k i))
+          (likely_at g j (within_values W) rel B A (all_true b (Some ls) None None g (fits_over ls) j fair v (L W) s.bound values (as_likely rel B A) (at s m) h))
 
     -- Where it is assigned.
     module _ (y : Var) (t : Ty) where
@@ -201,7 +203,7 @@ module _ (b : Context) (ls : List TypedName) (R : Ty) (W : List TypedVariable) (
           next (inl (inr i)) = inl i
           next (inr i) = inr (written_alike x u h.0 a.0 r k l (inr i))
 
-      assigned_alike : (xs : List Var) (r : Value) → Take (erased (outermost b)) ls xs R → has g.types R r ≡ true → Free xs → (k l : Memory) → IsOneIn y xs ⊎ Alike k l → Alike (assigned g.types k xs r) (assigned g.types l xs r)
+      pub assigned_alike : (xs : List Var) (r : Value) → Take (erased (outermost b)) ls xs R → has g.types R r ≡ true → Free xs → (k l : Memory) → IsOneIn y xs ⊎ Alike k l → Alike (assigned g.types k xs r) (assigned g.types l xs r)
       assigned_alike [] r h e a k l (inl o) = absurd o
       assigned_alike [] r h e a k l (inr o) = o
       assigned_alike (x ∷ []) r h e a k l (inl (inl i)) = written_alike x R h a.0 r k l (inl i)
@@ -242,11 +244,11 @@ module _ (b : Context) (ls : List TypedName) (R : Ty) (W : List TypedVariable) (
       abbrev there : get_or A (length (L W)) module_binder ≡ value_binder R
       there = result_there b ls R W global fin
 
-      are : AreFor b ls A B (length (L W)) R fin there xs (taken xs bound_result)
-      are = are_for b ls A B (length (L W)) R fin there xs take few
+      are : AreFor b (Some ls) None None side.Own tt ls refl A B (length (L W)) R fin there xs (taken xs bound_result)
+      are = are_for b (Some ls) None None side.Own tt ls refl A B (length (L W)) R fin there xs take few
 
       abbrev given : Term → Value
-      given = value_here b ls A B (length (L W)) R fin there g here
+      given = value_here b (Some ls) None None side.Own tt ls refl A B (length (L W)) R fin there g here
 
       result_value : given bound_result ≡ r
       result_value =
@@ -266,25 +268,25 @@ module _ (b : Context) (ls : List TypedName) (R : Ty) (W : List TypedVariable) (
           (sym (map-append (λ (w : Written). ToTerm (Program w.variable w.side) w.term) us vs ∙ (λ i. changes_are side.Own given xs (taken xs bound_result) i ++ writes_are v (L W) i)))
           ∙ ap truth (meaning_inside b (Some ls) None None A B g (fits_over ls) (at s m) (state_over ls) (bindings V) fit_values j fair P q w.typed k (us ++ vs)
           (all_append (IsTypedWrite P _ g here) us vs
-          (left_writes b ls A B (length (L W)) R fin there g here P xs (taken xs bound_result) are alone_left)
+          (left_writes b (Some ls) None None side.Own tt ls refl A B (length (L W)) R fin there g here P xs (taken xs bound_result) are alone_left)
           (all_writes b (Some ls) None None g (fits_over ls) j fair P A B (bindings V) (at s m) v (L W) (bound_around b ls R W global fin) _ refl refl loc (alone_located P W alone))))
           ∙ ap (den g j q) (written_both g (at s m) us vs
           ∙ ap (λ z. all_written g z us) (written_in b (Some ls) None None g (fits_over ls) j fair (at s n) side.Own tt W (at s m))
-          ∙ left_ends b ls A B (length (L W)) R fin there g here (at s (overwritten g.types W n m)) given xs (taken xs bound_result) are
-          ∙ ap (at s) (left_values b ls A B (length (L W)) R fin there g here xs r result_value has_type take few (overwritten g.types W n m)))
+          ∙ left_ends b (Some ls) None None side.Own tt ls refl A B (length (L W)) R fin there g here (at s (overwritten g.types W n m)) given xs (taken xs bound_result) are
+          ∙ ap (at s) (left_values b (Some ls) None None side.Own tt ls refl A B (length (L W)) R fin there g here xs r result_value has_type take few (overwritten g.types W n m)))
           ∙ same_form (O ls) g (fits_over ls) j fair P s (assigned g.types (overwritten g.types W n m) xs r) (assigned g.types base xs r) result_reads q w k
 
-      pub with_result_means : (said q : Term) → IsForm (O F) said → (Q : Readable) → IsWithin (reading Q) said → AllByRecursion (λ w. IsAlone g w.variable (Q side.Own)) V →
+      pub with_result_means : (rel : Rel) (said q : Term) → IsForm (O F) said → (Q : Readable) → IsWithin (reading Q) said → AllByRecursion (λ w. IsAlone g w.variable (Q side.Own)) V →
           ((y : Var) (t : Ty) → IsIn (O F) (Some F) y t → Q side.Own y ≡ true → (read g.types m y t ≡ read g.types n y t) ⊎ IsOneOf y V) → IsForm (O ls) q → IsWithin (reading P) q →
-          den g j (for_all (L V) (implies_form (term_changed said (to_bound_values (L V))) (term_changed q (put_in side.Own xs (taken xs bound_result) ++ to_bound_values (L W))))) (at s m) ≡ true → den g j said (at s n) ≡ true →
-          den g j q (at s (assigned g.types base xs r)) ≡ true
-      with_result_means said q w Q k a e u l h x =
+          den g j (for_all (L V) (as_likely rel (term_changed q (put_in side.Own xs (taken xs bound_result) ++ to_bound_values (L W))) (term_changed said (to_bound_values (L V))))) (at s m) ≡ true →
+          FollowsAt rel (den g j q (at s (assigned g.types base xs r))) (den g j said (at s n))
+      with_result_means rel said q w Q k a e u l h =
           let loc = after_located b ls R W global fin in
           let values = have_types b (Some F) None None g (fits_over F) j fair (at s n) (L V) loc in
           let C = term_changed said (to_bound_values (L V)) in
           let D = term_changed q (put_in side.Own xs (taken xs bound_result) ++ to_bound_values (L W)) in
-          sym (return_means q u l)
-          ∙ implies_use g j C D here (all_true b (Some ls) None None g (fits_over ls) j fair v (L V) s.bound values (implies_form C D) (at s m) h) (said_means V loc Q a e said w k ∙ x)
+          subst (λ z. z) (λ i. FollowsAt rel (return_means q u l i) (said_means V loc Q a e said w k i))
+          (likely_at g j here rel D C (all_true b (Some ls) None None g (fits_over ls) j fair v (L V) s.bound values (as_likely rel D C) (at s m) h))
 
   -- What is said of the outcome reads the result, globals of W, and what is as before.
   module _ (fin : IsFinite R) (U : List Var) (differs : DifferIn g.types U m base) (Q : Readable) (read_said : (y : Var) → Q side.Own y ≡ true → IsApart g U y ⊎ IsOneOf y W) where

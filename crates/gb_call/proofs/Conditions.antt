@@ -5,16 +5,17 @@ use Rattle.std.specs.List.{AllByRecursion, list_any}
 use Rattle.std.proofs.lemmas.Bool.{false≢true, and_parts}
 use Rattle.gb_core.specs.declared.var.Var.{Var}
 use Rattle.gb_core.specs.declared.var.Var.TheVariants.{Local}
-use Rattle.gb_terms.specs.declared.op.Side.TheVariants as side
+use Rattle.gb_terms.specs.declared.op.Side.{Side}
 use Rattle.gb_terms.specs.declared.term.Term.{Term}
 use Rattle.gb_terms.specs.Equal.{var_eq}
-use Rattle.gb_terms.proofs.Equality.{var_eq-Decides}
+use Rattle.gb_terms.proofs.Equality.{side_eq-Decides, var_eq-Decides}
 use Rattle.gb_walk.specs.Clash.{comes_before, first_clash, least, least_from, variables_read}
 use Rattle.gb_meaning.specs.Memory.{result_name}
 use Rattle.gb_meaning.specs.Setting.{Setting}
 use Rattle.gb_changes.specs.Uses.{Uses, IsWithin}
+use Rattle.gb_changes.specs.Written.{IsSide}
 use Rattle.gb_typing.specs.Context.{Context}
-use Rattle.gb_typing.specs.Puts.{Readable, clash, reading}
+use Rattle.gb_typing.specs.Puts.{Readable, reading}
 use Rattle.gb_typing.specs.Typing.{IsTyped}
 use Rattle.gb_typing.proofs.Both.{within_both}
 use Rattle.gb_typing.specs.Forms.{IsAlone}
@@ -22,7 +23,7 @@ use Rattle.gb_typing.proofs.Spared.{Clear, spared_variables, spared_within}
 use Rattle.gb_prog.specs.Writes.{IsApart, IsOneOf, TypedVariable, variables}
 use Rattle.gb_bodies.specs.Assigned.{is_clashing}
 use Rattle.gb_bodies.proofs.AssignedForms.{EachAlone, NoClash, all_clear, fewer, in_both}
-use Rattle.gb_call.specs.Outcomes.{clash_after, is_among, is_clashing_after, is_left, is_read}
+use Rattle.gb_call.specs.Outcomes.{clashing_after, is_among, is_clashing_after, is_left, is_read}
 use Rattle.gb_call.proofs.AfterMeans.{IsOneIn}
 
 -- lists of which none is found
@@ -31,7 +32,7 @@ no_least : {P : Type 0} (x : Var) (ys : List Var) → least_from (Some x) ys ≡
 no_least x [] e = absurd (false≢true (sym (ap is_some e)))
 no_least x (y ∷ ys) e = no_least (if comes_before y x then y else x) ys e
 
-nothing_least : (ys : List Var) → least ys ≡ None → ys ≡ []
+pub nothing_least : (ys : List Var) → least ys ≡ None → ys ≡ []
 nothing_least [] e = refl
 nothing_least (y ∷ ys) e = no_least y ys e
 
@@ -50,9 +51,9 @@ append_none : (xs : List Var) → xs ++ [] ≡ xs
 append_none [] = refl
 append_none (x ∷ xs) = ap (λ l. x ∷ l) (append_none xs)
 
-no_clash : (f : Term) (xs : List Var) → AllFalse (is_clashing side.Own f) xs → NoClash side.Own f xs
-no_clash f [] h = tt
-no_clash f (x ∷ xs) h = (by_option (first_clash side.Own x f) h.0, no_clash f xs h.1)
+no_clash : (r : Side) (f : Term) (xs : List Var) → AllFalse (is_clashing r f) xs → NoClash r f xs
+no_clash r f [] h = tt
+no_clash r f (x ∷ xs) h = (by_option (first_clash r x f) h.0, no_clash r f xs h.1)
   where
     by_option : (o : Option Var) → is_some o ≡ false → o ≡ None
     by_option None e = refl
@@ -62,13 +63,13 @@ either_false : (a b : Bool) → (a || b) ≡ false → (a ≡ false) × (b ≡ f
 either_false true b e = absurd (false≢true (sym e))
 either_false false b e = (refl, e)
 
-each_of_both : (said f : Term) (xs : List Var) → AllFalse (is_clashing_after side.Own said f) xs → AllFalse (is_clashing side.Own said) xs × AllFalse (is_clashing side.Own f) xs
-each_of_both said f [] h = (tt, tt)
-each_of_both said f (x ∷ xs) h = let z = either_false _ _ h.0 in let w = each_of_both said f xs h.1 in ((z.0, w.0), (z.1, w.1))
+each_of_both : (r : Side) (said f : Term) (xs : List Var) → AllFalse (is_clashing_after r said f) xs → AllFalse (is_clashing r said) xs × AllFalse (is_clashing r f) xs
+each_of_both r said f [] h = (tt, tt)
+each_of_both r said f (x ∷ xs) h = let z = either_false _ _ h.0 in let w = each_of_both r said f xs h.1 in ((z.0, w.0), (z.1, w.1))
 
-no_clashes : (f : Term) (xs ys : List Var) → NoClash side.Own f xs → NoClash side.Own f ys → NoClash side.Own f (xs ++ ys)
-no_clashes f [] ys h k = k
-no_clashes f (x ∷ xs) ys h k = (h.0, no_clashes f xs ys h.1 k)
+no_clashes : (r : Side) (f : Term) (xs ys : List Var) → NoClash r f xs → NoClash r f ys → NoClash r f (xs ++ ys)
+no_clashes r f [] ys h k = k
+no_clashes r f (x ∷ xs) ys h k = (h.0, no_clashes r f xs ys h.1 k)
 
 -- membership
 
@@ -157,29 +158,29 @@ any_false P (x ∷ xs) h y e = by_test (var_eq y x) refl (any_false P xs (either
 both_false : (a b : Bool) → a ≡ false → b ≡ false → (a || b) ≡ false
 both_false a b p q = λ i. p i || q i
 
--- A form reads variables alone with which none of these clashes, and none of which T is so.
-pub record IsSpared (f : Term) (zs : List Var) (T : Var → Bool) : Type 0 where
+-- In this memory a form reads variables alone with which none of these clashes, and none of which T is so.
+pub record IsSpared (r : Side) (f : Term) (zs : List Var) (T : Var → Bool) : Type 0 where
   pub readable : Readable
   pub within : IsWithin (reading readable) f
-  pub alone : (g : Setting) → EachAlone g (readable side.Own) zs
-  pub spared : (y : Var) → readable side.Own y ≡ true → T y ≡ false
+  pub alone : (g : Setting) → EachAlone g (readable r) zs
+  pub spared : (y : Var) → readable r y ≡ true → T y ≡ false
 
-is_spared : (c : Context) (f : Term) → IsTyped c f → (zs : List Var) → NoClash side.Own f zs → (T : Var → Bool) → Clear side.Own tt T (variables_read side.Own f) → IsSpared f zs T
-is_spared c f w zs n T k =
-    let one = all_clear c f w side.Own tt zs n in
+is_spared : (r : Side) (is : IsSide r) (c : Context) (f : Term) → IsTyped c f → (zs : List Var) → NoClash r f zs → (T : Var → Bool) → Clear r is T (variables_read r f) → IsSpared r f zs T
+is_spared r is c f w zs n T k =
+    let one = all_clear c f w r is zs n in
     let P : Readable = one.0 in
-    let Q : Readable = spared_variables side.Own tt T in
+    let Q : Readable = spared_variables r is T in
     record {
       readable = λ s y. P s y && Q s y;
-      within = subst (λ (K : Uses). IsWithin K f) (λ i u. in_both P Q u i) (within_both (reading P) (reading Q) f one.1 (spared_within side.Own tt T c f w k));
-      alone = λ g. fewer g (λ y. P side.Own y && Q side.Own y) (P side.Own) (λ y p. (and_parts (P side.Own y) (Q side.Own y) p).0) zs (one.2 g);
-      spared = λ y p. not_true (T y) (and_parts (P side.Own y) (Q side.Own y) p).1;
+      within = subst (λ (K : Uses). IsWithin K f) (λ i u. in_both P Q u i) (within_both (reading P) (reading Q) f one.1 (spared_within r is T c f w k));
+      alone = λ g. fewer g (λ y. P r y && Q r y) (P r) (λ y p. (and_parts (P r y) (Q r y) p).0) zs (one.2 g);
+      spared = λ y p. not_true (T y) (subst (λ b. not (b && T y) ≡ true) ((side_eq-Decides r r).1 refl) (and_parts (P r y) (Q r y) p).1);
     }
 
--- What the row asks, of a left side, the globals that the procedure writes, what is said of its outcome, and what is to hold after the call.
-module _ (xs U : List Var) (said f : Term) (occurs : Bool) where
+-- What the row asks in a memory, of a left side, the globals that the procedure writes, what is said of its outcome, and what is to hold after the call.
+module _ (r : Side) (is : IsSide r) (xs U : List Var) (said f : Term) (occurs : Bool) where
   abbrev pub left : List Var
-  left = filter (is_left side.Own xs said f) U
+  left = filter (is_left r xs said f) U
 
   -- globals that are written and not read after the call, but in the left side; and that, where the result doesn't occur
   abbrev pub unread_after : Var → Bool
@@ -188,48 +189,48 @@ module _ (xs U : List Var) (said f : Term) (occurs : Bool) where
   abbrev pub unread_said : Var → Bool
   unread_said y = (is_among U y && not (is_among left y)) || (not occurs && var_eq (Local result_name) y)
 
-  clear_after : (occurs ≡ false → list_any (is_read side.Own f) xs ≡ false) → Clear side.Own tt unread_after (variables_read side.Own f)
-  clear_after h = each_among (λ y. unread_after y ≡ false) (variables_read side.Own f) (λ y e. both_false _ _ (at_global y e (is_among U y) (is_among xs y) (is_among left y) refl refl refl) (at_left y e occurs (is_among xs y) refl refl))
+  clear_after : (occurs ≡ false → list_any (is_read r f) xs ≡ false) → Clear r is unread_after (variables_read r f)
+  clear_after h = each_among (λ y. unread_after y ≡ false) (variables_read r f) (λ y e. both_false _ _ (at_global y e (is_among U y) (is_among xs y) (is_among left y) refl refl refl) (at_left y e occurs (is_among xs y) refl refl))
     where
-      at_global : (y : Var) → is_read side.Own f y ≡ true → (a b d : Bool) → is_among U y ≡ a → is_among xs y ≡ b → is_among left y ≡ d → (a && (not b && not d)) ≡ false
+      at_global : (y : Var) → is_read r f y ≡ true → (a b d : Bool) → is_among U y ≡ a → is_among xs y ≡ b → is_among left y ≡ d → (a && (not b && not d)) ≡ false
       at_global y e false b d i j k = refl
       at_global y e true true d i j k = refl
       at_global y e true false true i j k = refl
       at_global y e true false false i j k =
-          absurd (false≢true (sym k ∙ among_filter (is_left side.Own xs said f) U y i (or_true (is_read side.Own said y) (not (is_among xs y) && is_read side.Own f y) (λ z. not (j z) && e z))))
+          absurd (false≢true (sym k ∙ among_filter (is_left r xs said f) U y i (or_true (is_read r said y) (not (is_among xs y) && is_read r f y) (λ z. not (j z) && e z))))
 
-      at_left : (y : Var) → is_read side.Own f y ≡ true → (o b : Bool) → occurs ≡ o → is_among xs y ≡ b → (not o && b) ≡ false
+      at_left : (y : Var) → is_read r f y ≡ true → (o b : Bool) → occurs ≡ o → is_among xs y ≡ b → (not o && b) ≡ false
       at_left y e true b i j = refl
       at_left y e false false i j = refl
-      at_left y e false true i j = absurd (false≢true (sym (any_false (is_read side.Own f) xs (h i) y j) ∙ e))
+      at_left y e false true i j = absurd (false≢true (sym (any_false (is_read r f) xs (h i) y j) ∙ e))
 
-  clear_said : (occurs ≡ false → is_read side.Own said (Local result_name) ≡ false) → Clear side.Own tt unread_said (variables_read side.Own said)
-  clear_said h = each_among (λ y. unread_said y ≡ false) (variables_read side.Own said) (λ y e. both_false _ _ (at_global y e (is_among U y) (is_among left y) refl refl) (at_result y e occurs (var_eq (Local result_name) y) refl refl))
+  clear_said : (occurs ≡ false → is_read r said (Local result_name) ≡ false) → Clear r is unread_said (variables_read r said)
+  clear_said h = each_among (λ y. unread_said y ≡ false) (variables_read r said) (λ y e. both_false _ _ (at_global y e (is_among U y) (is_among left y) refl refl) (at_result y e occurs (var_eq (Local result_name) y) refl refl))
     where
-      at_global : (y : Var) → is_read side.Own said y ≡ true → (a d : Bool) → is_among U y ≡ a → is_among left y ≡ d → (a && not d) ≡ false
+      at_global : (y : Var) → is_read r said y ≡ true → (a d : Bool) → is_among U y ≡ a → is_among left y ≡ d → (a && not d) ≡ false
       at_global y e false d i k = refl
       at_global y e true true i k = refl
       at_global y e true false i k =
-          absurd (false≢true (sym k ∙ among_filter (is_left side.Own xs said f) U y i (ap (λ b. b || (not (is_among xs y) && is_read side.Own f y)) e)))
+          absurd (false≢true (sym k ∙ among_filter (is_left r xs said f) U y i (ap (λ b. b || (not (is_among xs y) && is_read r f y)) e)))
 
-      at_result : (y : Var) → is_read side.Own said y ≡ true → (o b : Bool) → occurs ≡ o → var_eq (Local result_name) y ≡ b → (not o && b) ≡ false
+      at_result : (y : Var) → is_read r said y ≡ true → (o b : Bool) → occurs ≡ o → var_eq (Local result_name) y ≡ b → (not o && b) ≡ false
       at_result y e true b i j = refl
       at_result y e false false i j = refl
-      at_result y e false true i j = absurd (false≢true (sym (h i) ∙ ap (is_read side.Own said) ((var_eq-Decides (Local result_name) y).0 j) ∙ e))
+      at_result y e false true i j = absurd (false≢true (sym (h i) ∙ ap (is_read r said) ((var_eq-Decides (Local result_name) y).0 j) ∙ e))
 
   -- No clash is found.
-  module _ (clash : clash_after side.Own xs U said f ≡ None) where
-    nothing : AllFalse (is_clashing side.Own f) xs × (filter (is_clashing_after side.Own said f) U ≡ [])
-    nothing = nothing_filtered (is_clashing side.Own f) xs (filter (is_clashing_after side.Own said f) U) (nothing_least _ clash)
+  module _ (clash : clashing_after r xs U said f ≡ []) where
+    nothing : AllFalse (is_clashing r f) xs × (filter (is_clashing_after r said f) U ≡ [])
+    nothing = nothing_filtered (is_clashing r f) xs (filter (is_clashing_after r said f) U) clash
 
-    of_globals : AllFalse (is_clashing side.Own said) U × AllFalse (is_clashing side.Own f) U
-    of_globals = each_of_both said f U (nothing_filtered (is_clashing_after side.Own said f) U [] (append_none _ ∙ nothing.1)).0
+    of_globals : AllFalse (is_clashing r said) U × AllFalse (is_clashing r f) U
+    of_globals = each_of_both r said f U (nothing_filtered (is_clashing_after r said f) U [] (append_none _ ∙ nothing.1)).0
 
-    pub after_spared : (c : Context) → IsTyped c f → (occurs ≡ false → list_any (is_read side.Own f) xs ≡ false) → IsSpared f (xs ++ U) unread_after
-    after_spared c w h = is_spared c f w (xs ++ U) (no_clashes f xs U (no_clash f xs nothing.0) (no_clash f U of_globals.1)) unread_after (clear_after h)
+    pub after_spared : (c : Context) → IsTyped c f → (occurs ≡ false → list_any (is_read r f) xs ≡ false) → IsSpared r f (xs ++ U) unread_after
+    after_spared c w h = is_spared r is c f w (xs ++ U) (no_clashes r f xs U (no_clash r f xs nothing.0) (no_clash r f U of_globals.1)) unread_after (clear_after h)
 
-    pub said_spared : (c : Context) → IsTyped c said → (occurs ≡ false → is_read side.Own said (Local result_name) ≡ false) → IsSpared said U unread_said
-    said_spared c w h = is_spared c said w U (no_clash said U of_globals.0) unread_said (clear_said h)
+    pub said_spared : (c : Context) → IsTyped c said → (occurs ≡ false → is_read r said (Local result_name) ≡ false) → IsSpared r said U unread_said
+    said_spared c w h = is_spared r is c said w U (no_clash r said U of_globals.0) unread_said (clear_said h)
 
   -- these are the globals that are read, with their types
   module _ (W : List TypedVariable) (are : variables W ≡ left) where
@@ -247,53 +248,53 @@ module _ (xs U : List Var) (said f : Term) (occurs : Bool) where
     also_true true false e i = absurd (false≢true (sym e))
     also_true false d e i = absurd (false≢true i)
 
-    module _ (g : Setting) (S : IsSpared f (xs ++ U) unread_after) where
+    module _ (g : Setting) (S : IsSpared r f (xs ++ U) unread_after) where
       abbrev P : Readable
       P = S.readable
 
-      alone_here : EachAlone g (P side.Own) xs × EachAlone g (P side.Own) U
-      alone_here = alone_append g (P side.Own) xs U (S.alone g)
+      alone_here : EachAlone g (P r) xs × EachAlone g (P r) U
+      alone_here = alone_append g (P r) xs U (S.alone g)
 
-      pub left_alone : AllByRecursion (λ x. IsAlone g x (P side.Own)) xs
-      left_alone = all_alone g (P side.Own) xs alone_here.0
+      pub left_alone : AllByRecursion (λ x. IsAlone g x (P r)) xs
+      left_alone = all_alone g (P r) xs alone_here.0
 
-      pub globals_alone : AllByRecursion (λ w. IsAlone g w.variable (P side.Own)) W
-      globals_alone = alone_variables g (P side.Own) W (subst (λ l. AllByRecursion (λ x. IsAlone g x (P side.Own)) l) (sym are) (alone_filter g (P side.Own) (is_left side.Own xs said f) U alone_here.1))
+      pub globals_alone : AllByRecursion (λ w. IsAlone g w.variable (P r)) W
+      globals_alone = alone_variables g (P r) W (subst (λ l. AllByRecursion (λ x. IsAlone g x (P r)) l) (sym are) (alone_filter g (P r) (is_left r xs said f) U alone_here.1))
 
-      global_read : (y : Var) → P side.Own y ≡ true → is_among xs y ≡ false → IsApart g U y ⊎ IsOneOf y W
+      global_read : (y : Var) → P r y ≡ true → is_among xs y ≡ false → IsApart g U y ⊎ IsOneOf y W
       global_read y p n = by_test (is_among U y) refl
         where
           by_test : (b : Bool) → is_among U y ≡ b → IsApart g U y ⊎ IsOneOf y W
           by_test true e = inr (left_of y (either_true (is_among U y) (is_among xs y) (is_among left y) (either_false _ _ (S.spared y p)).0 e n))
-          by_test false e = inl (apart_from g (P side.Own) U y p e alone_here.1)
+          by_test false e = inl (apart_from g (P r) U y p e alone_here.1)
 
-      pub with_result : (y : Var) → P side.Own y ≡ true → IsOneIn y xs ⊎ (IsApart g U y ⊎ IsOneOf y W)
+      pub with_result : (y : Var) → P r y ≡ true → IsOneIn y xs ⊎ (IsApart g U y ⊎ IsOneOf y W)
       with_result y p = by_test (is_among xs y) refl
         where
           by_test : (b : Bool) → is_among xs y ≡ b → IsOneIn y xs ⊎ (IsApart g U y ⊎ IsOneOf y W)
           by_test true e = inl (one_in xs y e)
           by_test false e = inr (global_read y p e)
 
-      pub without_result : occurs ≡ false → (y : Var) → P side.Own y ≡ true → IsApart g xs y × (IsApart g U y ⊎ IsOneOf y W)
+      pub without_result : occurs ≡ false → (y : Var) → P r y ≡ true → IsApart g xs y × (IsApart g U y ⊎ IsOneOf y W)
       without_result o y p =
           let n : is_among xs y ≡ false = subst (λ b. (not b && is_among xs y) ≡ false) o (either_false _ _ (S.spared y p)).1 in
-          (apart_from g (P side.Own) xs y p n alone_here.0, global_read y p n)
+          (apart_from g (P r) xs y p n alone_here.0, global_read y p n)
 
-    module _ (g : Setting) (S : IsSpared said U unread_said) where
+    module _ (g : Setting) (S : IsSpared r said U unread_said) where
       abbrev Q : Readable
       Q = S.readable
 
-      pub said_alone : AllByRecursion (λ w. IsAlone g w.variable (Q side.Own)) W
-      said_alone = alone_variables g (Q side.Own) W (subst (λ l. AllByRecursion (λ x. IsAlone g x (Q side.Own)) l) (sym are) (alone_filter g (Q side.Own) (is_left side.Own xs said f) U (S.alone g)))
+      pub said_alone : AllByRecursion (λ w. IsAlone g w.variable (Q r)) W
+      said_alone = alone_variables g (Q r) W (subst (λ l. AllByRecursion (λ x. IsAlone g x (Q r)) l) (sym are) (alone_filter g (Q r) (is_left r xs said f) U (S.alone g)))
 
-      pub said_read : (y : Var) → Q side.Own y ≡ true → IsApart g U y ⊎ IsOneOf y W
+      pub said_read : (y : Var) → Q r y ≡ true → IsApart g U y ⊎ IsOneOf y W
       said_read y p = by_test (is_among U y) refl
         where
           by_test : (b : Bool) → is_among U y ≡ b → IsApart g U y ⊎ IsOneOf y W
           by_test true e = inr (left_of y (also_true (is_among U y) (is_among left y) (either_false _ _ (S.spared y p)).0 e))
-          by_test false e = inl (apart_from g (Q side.Own) U y p e (S.alone g))
+          by_test false e = inl (apart_from g (Q r) U y p e (S.alone g))
 
-      pub no_result : occurs ≡ false → Q side.Own (Local result_name) ≡ true → ⊥
+      pub no_result : occurs ≡ false → Q r (Local result_name) ≡ true → ⊥
       no_result o p =
           let n : var_eq (Local result_name) (Local result_name) ≡ false = subst (λ b. (not b && var_eq (Local result_name) (Local result_name)) ≡ false) o (either_false _ _ (S.spared (Local result_name) p)).1 in
           false≢true (sym n ∙ (var_eq-Decides (Local result_name) (Local result_name)).1 refl)

@@ -1,6 +1,5 @@
 -- The globals of declared modules in the context of a goal.
-use Rattle.std.proofs.Common.{◌≡◌, Bool, true, false, if◌then◌else◌, List, [], ◌∷◌, ◌++◌, Option, Some, None, bytes_eq, refl, ap, sym, ◌∙◌, subst}
-use Rattle.std.proofs.lemmas.Slice.Eq.{bytes_eq-Decides}
+use Rattle.std.proofs.Common.{◌≡◌, Bool, true, false, if◌then◌else◌, List, [], ◌∷◌, ◌++◌, Option, Some, None, bytes_eq, refl, ap, ◌∙◌, subst}
 use Rattle.gb_core.specs.declared.ty.Ty.{Ty}
 use Rattle.gb_terms.specs.declared.decl.Module.{Module}
 use Rattle.gb_terms.specs.declared.decl.TypedName.{TypedName}
@@ -30,7 +29,7 @@ stays [] before c n d w x = refl
 stays ((k, entry.Module m) ∷ ds) before c n d w x =
     stays ds (before ++ (k, concrete_module m) ∷ []) (with_declared c k (concrete_module m)) n (declared_more before (k, concrete_module m) n d) w.2 x
     ∙ ap (λ (b : Bool). if b then local_type m.globals x else c.global n x) (other_name before n k d w.0)
-stays ((k, entry.Lemma q) ∷ ds) before c n d w x = stays ds (before ++ (k, lemma q) ∷ []) c n (declared_more before (k, lemma q) n d) w.2 x
+stays ((k, entry.Lemma q order) ∷ ds) before c n d w x = stays ds (before ++ (k, lemma q) ∷ []) c n (declared_more before (k, lemma q) n d) w.2 x
 stays ((k, entry.Type t) ∷ ds) before c n d w x =
     let z = declaration_of (entry.Type t) in stays ds (before ++ (k, z) ∷ []) (with_declared c k z) n (declared_more before (k, z) n d) w.2 x
 stays ((k, entry.AbstractType) ∷ ds) before c n d w x =

@@ -1,5 +1,5 @@
 -- A bound result in the places of a left side: typing and values.
-use Rattle.std.proofs.Common.{◌≡◌, ℕ, suc, pred, ◌+◌, ◌<◌, true, List, [], ◌∷◌, ◌++◌, length, map, get_or, Some, None, refl, ap, sym, ◌∙◌, subst, arith, add-one, length-append}
+use Rattle.std.proofs.Common.{◌≡◌, ℕ, pred, ◌+◌, ◌<◌, true, List, [], ◌∷◌, ◌++◌, length, map, get_or, Some, None, refl, ap, sym, ◌∙◌, subst, arith, add-one, length-append}
 use Rattle.std.specs.List.{AllByRecursion}
 use Rattle.std.proofs.lemmas.List.{append_assoc}
 use Rattle.gb_core.specs.declared.ty.Ty.{Ty, Row_of-Ty, end_of-Ty, more_of-Ty}
@@ -11,40 +11,47 @@ use Rattle.gb_core.specs.declared.value.Value.TheVariants.{Num}
 use Rattle.gb_types.specs.Numbering.{parts_of}
 use Rattle.gb_terms.specs.declared.decl.TypedName.{TypedName}
 use Rattle.gb_terms.specs.declared.op.Op.TheVariants as op
+use Rattle.gb_terms.specs.declared.op.Side.{Side}
 use Rattle.gb_terms.specs.declared.op.Side.TheVariants as side
 use Rattle.gb_terms.specs.declared.term.Term.{Term}
+use Rattle.gb_terms.specs.declared.term.Head.{Head}
 use Rattle.gb_terms.specs.declared.term.Head.TheVariants as head
 use Rattle.gb_terms.specs.declared.term.Head.TheViews.{out-roll-Term}
 use Rattle.gb_terms.specs.Make.{node}
+use Rattle.gb_walk.specs.declared.change.Change.TheVariants.{ToSide}
+use Rattle.gb_walk.specs.Change.{Changes, term_changed, term_of}
+use Rattle.gb_meaning.specs.Commands.{terms_in}
+use Rattle.gb_meaning.specs.Trees.{places, row}
 use Rattle.gb_meaning.specs.Meanings.{value_in}
-use Rattle.gb_meaning.specs.Memory.{Memory, assigned, write_each}
+use Rattle.gb_meaning.specs.Memory.{Memory, assigned, write, write_each}
 use Rattle.gb_meaning.specs.Setting.{Setting}
-use Rattle.gb_meaning.specs.State.{State}
+use Rattle.gb_meaning.specs.State.{State, memory_of}
 use Rattle.gb_meaning.specs.Terms.{quiet, val}
 use Rattle.gb_meaning.specs.Values.{has}
 use Rattle.gb_meaning.specs.Written.{type_of}
 use Rattle.gb_laws.proofs.Nodes.{term_is_node, val_node}
 use Rattle.gb_changes.specs.Plain.{IsPlain}
-use Rattle.gb_changes.specs.Written.{with_side, all_written}
+use Rattle.gb_changes.specs.Written.{IsSide, with_side, all_written}
+use Rattle.gb_changes.proofs.Changed.{changed_at, term_changed_is}
 use Rattle.gb_typed.specs.Finite.{IsFinite, AreFiniteWith}
 use Rattle.gb_typed.specs.Operators.{item, items, parts_in}
 use Rattle.gb_typed.specs.Programs.{HaveTypes, Take, variable_type}
 use Rattle.gb_typed.specs.Typing.{Binder, IsBoundAt}
 use Rattle.gb_typed.specs.Typing.Binder.{value, program as module_binder}
 use Rattle.gb_typing.specs.Changes.{Made}
-use Rattle.gb_typing.specs.Context.{Context, Frame, erased, reframed}
+use Rattle.gb_typing.specs.Context.{Context, Frame, erased, frame_of, reframed}
 use Rattle.gb_typing.specs.Puts.{IsPutFor, IsTypedPut, IsTypedWrite, Readable}
 use Rattle.gb_typing.specs.Typing.{IsIn}
 use Rattle.gb_typing.proofs.Clashes.{left_of_no_clash}
 use Rattle.gb_typing.proofs.Made.{made_node}
 use Rattle.gb_typing.proofs.Substituted.{finite_no_distribution}
-use Rattle.gb_typing.specs.Forms.{IsAlone}
+use Rattle.gb_typing.specs.Forms.{IsAlone, located}
 use Rattle.gb_typing.specs.Rules.{outermost}
 use Rattle.gb_typing.proofs.Assigned.{variable_in}
 use Rattle.gb_typing.proofs.Quantified.{inside_all}
 use Rattle.gb_prog.proofs.AllValues.{bound_term, bound_plain}
 use Rattle.gb_bodies.specs.Assigned.{part, part_types, parts, parts_at, parts_from, taken}
-use Rattle.gb_bodies.proofs.AssignedForms.{all_behind, written_behind, write_of, writes}
+use Rattle.gb_bodies.proofs.AssignedForms.{all_behind, put_itself, put_read, put_twice, written_behind, write_of, writes}
 use Rattle.gb_bodies.proofs.Parts.{part_types_are, as_many}
 use mathlib.Core.Former.{Count}
 
@@ -52,13 +59,38 @@ use mathlib.Core.Former.{Count}
 parts_bound : (n : ℕ) (R : Ty) → parts (bound_term n R) ≡ parts_from (bound_term n R) 1 (part_types R)
 parts_bound n R = ap (λ l. parts_at l.head l.args l.ty (bound_term n R)) (out-roll-Term (record { head = head.Bound n; args = []; ty = R }))
 
+-- A bound value, and a part of one, reads no memory.
+
+node_changed : (h : Head) (ts : List Term) (t : Ty) (cs : Changes) → term_changed (node h ts t) cs ≡ term_of (changed_at h cs) cs (map term_changed ts) t
+node_changed h ts t cs =
+    ap (λ u. term_changed u cs) (sym (term_is_node h ts t)) ∙ term_changed_is h (places ts) (row ts) t cs ∙ ap (λ us. term_of (changed_at h cs) cs (map term_changed us) t) (of_row ts)
+  where
+    of_row : (ts : List Term) → terms_in (row ts) ≡ ts
+    of_row [] = refl
+    of_row (u ∷ us) = ap (λ l. u ∷ l) (of_row us)
+
+pub located_bound : (r : Side) (n : ℕ) (R : Ty) → located r (bound_term n R) ≡ bound_term n R
+located_bound side.Own n R = refl
+located_bound side.Left n R = node_changed (head.Bound n) [] R (ToSide side.Own side.Left ∷ [])
+located_bound side.Right n R = node_changed (head.Bound n) [] R (ToSide side.Own side.Right ∷ [])
+located_bound (side.Memory k) n R = node_changed (head.Bound n) [] R (ToSide side.Own (side.Memory k) ∷ [])
+located_bound (side.Bound k) n R = node_changed (head.Bound n) [] R (ToSide side.Own (side.Bound k) ∷ [])
+
+located_part : (r : Side) (i : ℕ) (e : Term) (t : Ty) → located r e ≡ e → located r (part e i t) ≡ part e i t
+located_part side.Own i e t h = refl
+located_part side.Left i e t h = node_changed (head.Builtin (op.Part i)) (e ∷ []) t (ToSide side.Own side.Left ∷ []) ∙ ap (λ z. part z i t) h
+located_part side.Right i e t h = node_changed (head.Builtin (op.Part i)) (e ∷ []) t (ToSide side.Own side.Right ∷ []) ∙ ap (λ z. part z i t) h
+located_part (side.Memory k) i e t h = node_changed (head.Builtin (op.Part i)) (e ∷ []) t (ToSide side.Own (side.Memory k) ∷ []) ∙ ap (λ z. part z i t) h
+located_part (side.Bound k) i e t h = node_changed (head.Builtin (op.Part i)) (e ∷ []) t (ToSide side.Own (side.Bound k) ∷ []) ∙ ap (λ z. part z i t) h
+
 -- a bound value of this type, inside of binders
-module _ (b : Context) (ls : List TypedName) (X : List Binder) (fs : List Frame) (n : ℕ) (R : Ty) (fin : IsFinite R) (there : get_or X n module_binder ≡ value R) where
+module _ (b : Context) (F L K : Frame) (r : Side) (is : IsSide r) (ls : List TypedName) (frame : frame_of (reframed (outermost b) F L K) r ≡ Some ls) (X : List Binder) (fs : List Frame) (n : ℕ) (R : Ty) (fin : IsFinite R)
+    (there : get_or X n module_binder ≡ value R) where
   abbrev around : Context
-  around = reframed (outermost b) (Some ls) None None
+  around = reframed (outermost b) F L K
 
   abbrev inside : Context
-  inside = inside_all b (Some ls) None None X fs
+  inside = inside_all b F L K X fs
 
   abbrev result : Term
   result = bound_term n R
@@ -70,27 +102,37 @@ module _ (b : Context) (ls : List TypedName) (X : List Binder) (fs : List Frame)
   pub record IsValueOf (u : Ty) (e : Term) : Type 0 where
     finite_type : IsFinite u
     plain_term : IsPlain e
+    stays : located r e ≡ e
     made : (f l q : Frame) → Made (reframed inside f l q) u e
 
   type_is : (u : Ty) (e : Term) → IsValueOf u e → type_of e ≡ u
   type_is u e v = let m = v.made None None None in m.written
 
-  in_here : (x : Var) (u : Ty) → variable_type (erased (outermost b)) ls x ≡ Some u → IsIn inside (Some ls) x u
-  in_here x u e = moved x (variable_in (outermost b) ls (Some ls) None None x side.Own u refl e)
+  in_here : (x : Var) (u : Ty) → variable_type (erased (outermost b)) ls x ≡ Some u → IsIn inside (frame_of inside r) x u
+  in_here x u e = subst (λ f. IsIn inside f x u) (same_frame r is) (moved x (frame_of around r) (variable_in (outermost b) ls F L K x r u frame e))
     where
-      moved : (x : Var) → IsIn around (Some ls) x u → IsIn inside (Some ls) x u
-      moved (var.Local y) w = w
-      moved (var.Global m y) w = w
-      moved (var.Glob a) w = w
+      same_frame : (o : Side) → IsSide o → frame_of around o ≡ frame_of inside o
+      same_frame side.Own i = refl
+      same_frame side.Left i = refl
+      same_frame side.Right i = refl
+      same_frame (side.Memory k) i = absurd i
+      same_frame (side.Bound k) i = absurd i
 
-  put_of : (x : Var) (u : Ty) (e : Term) → IsValueOf u e → variable_type (erased (outermost b)) ls x ≡ Some u → IsPutFor inside x side.Own e
-  put_of x u e v t = record {
-    side = tt;
-    type = subst (IsIn inside (Some ls) x) (sym (type_is u e v)) (in_here x u t);
-    finite = subst IsFinite (sym (type_is u e v)) v.finite_type;
-    plain = v.plain_term;
-    typed = λ f l q keeps. let m = v.made f l q in m.typed;
-  }
+      moved : (x : Var) (f : Frame) → IsIn around f x u → IsIn inside f x u
+      moved (var.Local y) f w = w
+      moved (var.Global m y) f w = w
+      moved (var.Glob a) f w = w
+
+  put_of : (x : Var) (u : Ty) (e : Term) → IsValueOf u e → variable_type (erased (outermost b)) ls x ≡ Some u → IsPutFor inside x r (located r e)
+  put_of x u e v t =
+      subst (IsPutFor inside x r) (sym v.stays)
+      (record {
+        side = is;
+        type = subst (IsIn inside (frame_of inside r) x) (sym (type_is u e v)) (in_here x u t);
+        finite = subst IsFinite (sym (type_is u e v)) v.finite_type;
+        plain = v.plain_term;
+        typed = λ f l q keeps. let m = v.made f l q in m.typed;
+      })
 
   -- terms of the types of variables
   abbrev pub AreFor : List Var → List Term → Type 0
@@ -104,13 +146,14 @@ module _ (b : Context) (ls : List TypedName) (X : List Binder) (fs : List Frame)
 
   part_value_of : (us vs : List Ty) (t : Ty) → parts_in R ≡ us ++ t ∷ vs → IsFinite t → IsValueOf t (part result (length us + 1) t)
   part_value_of us vs t p f =
-      let n : pred (length us + 1) ≡ length us = ap pred (add-one (length us)) in
+      let q : pred (length us + 1) ≡ length us = ap pred (add-one (length us)) in
       let z : 0 < length us + 1 = omega arith in
-      let i : item (parts_in R) (pred (length us + 1)) ≡ Some t = (λ k. item (p k) (n k)) ∙ item_at us vs t in
+      let i : item (parts_in R) (pred (length us + 1)) ≡ Some t = (λ k. item (p k) (q k)) ∙ item_at us vs t in
       record {
         finite_type = f;
         plain_term = subst IsPlain (term_is_node (head.Builtin (op.Part (length us + 1))) (result ∷ []) t) (tt, (bound_plain _ R, tt));
-        made = λ f1 l q. made_node (reframed inside f1 l q) (head.Builtin (op.Part (length us + 1))) (R ∷ []) (result ∷ []) t (z, i, f) tt [] (result_made f1 l q);
+        stays = located_part r (length us + 1) (bound_term n R) t (located_bound r n R);
+        made = λ k l h. made_node (reframed inside k l h) (head.Builtin (op.Part (length us + 1))) (R ∷ []) (result ∷ []) t (z, i, f) tt [] (result_made k l h);
       }
 
   abbrev EachFinite : List Ty → Type 0
@@ -140,34 +183,37 @@ module _ (b : Context) (ls : List TypedName) (X : List Binder) (fs : List Frame)
   -- what the left side takes is of its types
   pub are_for : (xs : List Var) → Take (erased (outermost b)) ls xs R → length xs < 9 → AreFor xs (taken xs result)
   are_for [] t l = tt
-  are_for (x ∷ []) t l = ((R, record { finite_type = fin; plain_term = bound_plain n R; made = result_made }, t), tt)
+  are_for (x ∷ []) t l = ((R, record { finite_type = fin; plain_term = bound_plain n R; stays = located_bound r n R; made = result_made }, t), tt)
   are_for (x ∷ y ∷ xs) t l =
       subst (AreFor (x ∷ y ∷ xs)) (sym (parts_bound n R))
       (subst (λ ts. AreFor (x ∷ y ∷ xs) (parts_from result 1 ts)) (sym (part_types_are (outermost b) ls R x (y ∷ xs) t l))
       (numbered [] (parts_in R) (x ∷ y ∷ xs) refl (parts_finite R fin) t))
 
-  pub left_puts : (v : Term → Value) (xs : List Var) (es : List Term) → AreFor xs es → AllByRecursion (IsTypedPut inside) (writes side.Own v xs es)
+  pub left_puts : (v : Term → Value) (xs : List Var) (es : List Term) → AreFor xs es → AllByRecursion (IsTypedPut inside) (writes r v xs es)
   left_puts v [] es w = tt
   left_puts v (x ∷ xs) [] w = absurd w
-  left_puts v (x ∷ xs) (e ∷ es) w = all_behind (IsTypedPut inside) (writes side.Own v xs es) (write_of side.Own x e (v e)) (left_puts v xs es w.1) (put_of x w.0.0 e w.0.1 w.0.2)
+  left_puts v (x ∷ xs) (e ∷ es) w = all_behind (IsTypedPut inside) (writes r v xs es) (write_of r x e (v e)) (left_puts v xs es w.1) (put_of x w.0.0 e w.0.1 w.0.2)
 
   module _ (g : Setting) (s : State) where
     -- the value of a term where the values are bound
     abbrev pub value_here : Term → Value
     value_here e = value_in (val g quiet e s)
 
-    pub left_writes : (P : Readable) (xs : List Var) (es : List Term) → AreFor xs es → AllByRecursion (λ x. IsAlone g x (P side.Own)) xs → AllByRecursion (IsTypedWrite P inside g s) (writes side.Own value_here xs es)
+    pub left_writes : (P : Readable) (xs : List Var) (es : List Term) → AreFor xs es → AllByRecursion (λ x. IsAlone g x (P r)) xs → AllByRecursion (IsTypedWrite P inside g s) (writes r value_here xs es)
     left_writes P [] es w a = tt
     left_writes P (x ∷ xs) [] w a = absurd w
     left_writes P (x ∷ xs) (e ∷ es) w a =
-        all_behind (IsTypedWrite P inside g s) (writes side.Own value_here xs es) (write_of side.Own x e (value_here e)) (left_writes P xs es w.1 a.1)
-        (record { put = put_of x w.0.0 e w.0.1 w.0.2; spares = λ y t h p n k. left_of_no_clash g x y t (a.0 y p n); value = refl })
+        all_behind (IsTypedWrite P inside g s) (writes r value_here xs es) (write_of r x e (value_here e)) (left_writes P xs es w.1 a.1)
+        (record { put = put_of x w.0.0 e w.0.1 w.0.2; spares = λ y t h p n k. left_of_no_clash g x y t (a.0 y p n); value = let z = w.0.1 in ap value_here (sym z.stays) })
 
     -- the memory after these writes
-    pub left_ends : (q : State) (v : Term → Value) (xs : List Var) (es : List Term) → AreFor xs es → all_written g q (writes side.Own v xs es) ≡ with_side q side.Own (write_each g.types q.own xs (map v es))
-    left_ends q v [] es w = refl
+    pub left_ends : (q : State) (v : Term → Value) (xs : List Var) (es : List Term) → AreFor xs es → all_written g q (writes r v xs es) ≡ with_side q r (write_each g.types (memory_of q r) xs (map v es))
+    left_ends q v [] es w = sym (put_itself q r)
     left_ends q v (x ∷ xs) [] w = absurd w
-    left_ends q v (x ∷ xs) (e ∷ es) w = written_behind g q (writes side.Own v xs es) (write_of side.Own x e (v e)) ∙ left_ends (all_written g q (write_of side.Own x e (v e) ∷ [])) v xs es w.1
+    left_ends q v (x ∷ xs) (e ∷ es) w =
+        let m : Memory = write g.types (memory_of q r) x (v e) in
+        written_behind g q (writes r v xs es) (write_of r x e (v e)) ∙ left_ends (with_side q r m) v xs es w.1
+        ∙ ap (λ z. with_side (with_side q r m) r (write_each g.types z xs (map v es))) (put_read q r is m) ∙ put_twice q r is m (write_each g.types m xs (map v es))
 
     part_value : (i : ℕ) (t : Ty) → value_here (part result i t) ≡ get_or (parts_of (value_here result)) (pred i) (Num 0)
     part_value i t = ap value_in (val_node g quiet (head.Builtin (op.Part i)) (result ∷ []) t s)

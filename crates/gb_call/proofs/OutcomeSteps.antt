@@ -1,5 +1,5 @@
 -- What is said of outcomes, step by step.
-use Rattle.std.proofs.Common.{◌≡◌, ◌<◌, ◌+◌, ◌-◌, ◌∙◌, ℕ, zero, suc, ◌||◌, Bool, List, [], ◌∷◌, ◌++◌, drop, take, get_or, length, filter, map, refl, ap, arith}
+use Rattle.std.proofs.Common.{◌≡◌, ◌<◌, ◌+◌, ◌-◌, ◌∙◌, ℕ, zero, suc, ◌||◌, List, [], ◌∷◌, ◌++◌, drop, take, get_or, length, filter, refl, ap, arith}
 use Rattle.std.specs.List.{list_any}
 use Rattle.gb_core.specs.declared.ty.Ty.TheVariants.{Bool as Bool'}
 use Rattle.gb_core.specs.declared.var.Var.{Var}
@@ -14,7 +14,7 @@ use Rattle.gb_meaning.specs.Memory.{result_name}
 use Rattle.gb_prog.specs.AllValues.{for_all, in_memory}
 use Rattle.gb_call.specs.Outcomes.{Outcome, globals_seen, is_among, is_left, is_left_of, put_for, reads_result}
 use Rattle.gb_call.specs.declared.written.TypedGlobal.{TypedGlobal}
-use Rattle.gb_call.proofs.WrittenSteps.{front_last}
+use Rattle.gb_mods.proofs.OrderSteps.{front_last}
 
 pub located_length : (r : Side) (W : List TypedGlobal) → length (in_memory r (globals_seen W)) ≡ length W
 located_length r [] = refl

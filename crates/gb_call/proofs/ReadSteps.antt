@@ -1,5 +1,5 @@
 -- The variables that terms read, step by step.
-use Rattle.std.proofs.Common.{◌≡◌, ◌+◌, ◌<◌, ℕ, List, [], ◌∷◌, ◌++◌, length, take, map, get_or, add-one, append-nil, append_assoc, refl, ap, sym, ◌∙◌}
+use Rattle.std.proofs.Common.{◌≡◌, ◌+◌, ◌<◌, ℕ, List, [], ◌∷◌, ◌++◌, length, take, map, get_or, add-one, append-nil, append_assoc, ap, sym, ◌∙◌}
 use Rattle.std.proofs.Math.Seq.{take-suc}
 use Rattle.gb_terms.specs.declared.op.Side.{Side}
 use Rattle.gb_core.specs.declared.var.Var.{Var}

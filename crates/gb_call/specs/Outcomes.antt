@@ -1,10 +1,11 @@
 -- What is said before a call of what is to hold after it.
-use Rattle.std.specs.Prelude.{ℕ, Bool, true, false, not, ◌&&◌, ◌||◌, List, [], ◌∷◌, ◌++◌, length, map, filter, Option}
+use Rattle.std.specs.Prelude.{Bool, true, false, not, ◌&&◌, ◌||◌, List, [], ◌∷◌, ◌++◌, length, map, filter, Option}
 use Rattle.std.specs.List.{list_any}
 use Rattle.gb_core.specs.declared.ty.Ty.{Ty}
 use Rattle.gb_core.specs.declared.var.Var.{Var}
 use Rattle.gb_core.specs.declared.var.Var.TheVariants.{Local}
 use Rattle.gb_terms.specs.declared.decl.TypedName.{TypedName}
+use Rattle.gb_terms.specs.declared.op.Rel.{Rel}
 use Rattle.gb_terms.specs.declared.op.Side.{Side}
 use Rattle.gb_terms.specs.declared.op.Read.TheVariants.{Program}
 use Rattle.gb_terms.specs.declared.term.Term.{Term}
@@ -15,10 +16,11 @@ use Rattle.gb_walk.specs.declared.change.Change.TheVariants.{ToTerm}
 use Rattle.gb_walk.specs.Change.{Changes, term_changed}
 use Rattle.gb_walk.specs.Clash.{least, variables_read}
 use Rattle.gb_meaning.specs.Memory.{result_name}
-use Rattle.gb_typing.specs.Forms.{implies_form, located}
+use Rattle.gb_typing.specs.Forms.{located}
 use Rattle.gb_prog.specs.AllValues.{in_memory, for_all, to_bound_values}
 use Rattle.gb_prog.specs.Writes.{TypedVariable}
 use Rattle.gb_bodies.specs.Assigned.{put_in, taken, is_clashing}
+use Rattle.gb_bodies.specs.Conseq.{as_likely}
 use Rattle.gb_call.specs.Written.{global_seen}
 use Rattle.gb_call.specs.declared.outcomes.Outcome as seen
 use Rattle.gb_call.specs.declared.written.TypedGlobal.{TypedGlobal}
@@ -81,13 +83,13 @@ of_return b o f = term_changed f (left_side b o ++ global_values o)
 abbrev pub for_outcomes : Bool → Outcome → Term → Term
 for_outcomes b o f = for_all (in_memory o.side (bound_of b o)) f
 
-abbrev pub after_where : Bool → Outcome → Term → Term → Term
-after_where b o said f = for_outcomes b o (implies_form (of_outcome b o said) (of_return b o f))
+abbrev pub after_where : Rel → Bool → Outcome → Term → Term → Term
+after_where r b o said f = for_outcomes b o (as_likely r (of_return b o f) (of_outcome b o said))
 
--- For all results and all values of the globals that the procedure writes, what is said of its outcome leads to what is said after the call.
--- A quantifier stands only where its variable occurs.
-abbrev pub after_call : Outcome → Term → Term → Term
-after_call o said f = after_where (reads_result o said f) o said f
+-- For all results and all values of the globals that the procedure writes, what is said of its outcome makes what is said after the call as likely
+-- as the relation to a bound asks: with `>=`, the one leads to the other. A quantifier stands only where its variable occurs.
+abbrev pub after_call : Rel → Outcome → Term → Term → Term
+after_call r o said f = after_where r (reads_result o said f) o said f
 
 -- whether a global is read of the memory after the call: by what is said of the outcome, or elsewhere than in the left side
 abbrev pub is_left_of : List Var → List Var → List Var → Var → Bool
@@ -100,9 +102,13 @@ is_left r xs said f = is_left_of xs (variables_read r said) (variables_read r f)
 abbrev pub is_clashing_after : Side → Term → Term → Var → Bool
 is_clashing_after r said f x = is_clashing r said x || is_clashing r f x
 
--- the least variable of the left side, or of the globals that are written, with which another one clashes where it is replaced
+-- the variables of the left side, and the globals that are written, with which another one clashes where it is replaced
+abbrev pub clashing_after : Side → List Var → List Var → Term → Term → List Var
+clashing_after r xs written said f = filter (is_clashing r f) xs ++ filter (is_clashing_after r said f) written
+
+-- the least of them
 abbrev pub clash_after : Side → List Var → List Var → Term → Term → Option Var
-clash_after r xs written said f = least (filter (is_clashing r f) xs ++ filter (is_clashing_after r said f) written)
+clash_after r xs written said f = least (clashing_after r xs written said f)
 
 -- the same, as the code has them
 abbrev pub globals_seen : List TypedGlobal → List TypedVariable

@@ -1,11 +1,11 @@
 //! The rule `call`, by what a procedure is said to do.
 
-ghost use Rattle.std.specs.Prelude.{◌≡◌, Some, IfOk, map};
-ghost use Rattle.std.specs.Option.{option_map};
+ghost use Rattle.std.specs.Prelude.{◌≡◌, ◌∷◌, Some, IfOk, map};
+ghost use Rattle.std.specs.Option.{option_copied, option_map};
 ghost use Rattle.gb_goal.specs.Answers.{Answers};
 ghost use Rattle.gb_goal.specs.Goal.{form_of};
 ghost use Rattle.gb_goal.specs.Goal.Code.{body, procedure};
-ghost use Rattle.gb_goal.specs.Goal.Goal.{hoare};
+ghost use Rattle.gb_goal.specs.Goal.Goal.{hoare, phoare};
 ghost use Rattle.gb_goal.specs.Rows.{answered, concluding, each_concluding};
 ghost use Rattle.gb_goal.specs.Scope.{Declarations};
 ghost use Rattle.gb_goal.specs.Views.{goal_seen};
@@ -16,35 +16,37 @@ ghost use Rattle.gb_steps.specs.declared.step.Contract.{Contract as Said};
 ghost use Rattle.gb_typing.specs.Scopes.{context_of, IsTypedScope};
 ghost use Rattle.gb_typing.specs.Sequents.{of_sequent, IsTypedSequent};
 ghost use Rattle.gb_typing.specs.Rules.{IsSoundRuleIn};
-ghost use Rattle.gb_call.specs.Call.{before_call, by_callee, call_goals, call_row, callee_of, callee_seen, left_of, of_callee, on_programs, IsTypedContract};
+ghost use Rattle.gb_chance.specs.Loss.{first_loss};
+ghost use Rattle.gb_phoare.specs.Rnd.{of_rest};
+ghost use Rattle.gb_call.specs.Call.{before_call, by_callee, call_goals, call_row, chance_goals, chances_by_callee, chances_of_callee, callee_of, callee_seen, known_seen, left_of, of_callee, on_programs, IsTypedContract};
 ghost use Rattle.gb_call.specs.LastCall.{call_seen, last_call};
-ghost use Rattle.gb_call.specs.Outcomes.{globals_seen};
+ghost use Rattle.gb_call.specs.Outcomes.{clash_after, globals_seen};
 ghost use Rattle.gb_call.specs.Written.{typed_seen, with_types};
 
 use crate::last_call::{Last, last_call};
-use crate::outcomes::{Outcome, Reads, after_call, clash_after, left_of, of_arguments};
+use crate::outcomes::{Outcome, Reads, after_call, clashing_after, left_of, of_arguments};
 use crate::reads::variables_read;
-use crate::written::{TypedGlobal, TypedGlobals, with_types, written_within};
-use gb_bodies::judged::hoare_of;
-use gb_bodies::subgoals::{no_shape, refusal, shared_body, two_goals};
+use crate::written::{TypedGlobal, TypedGlobals, with_types};
+use gb_bodies::judged::{hoare_of, phoare_of};
+use gb_bodies::subgoals::{no_shape, one_goal, refusal, shared_body, two_goals};
+use gb_chance::loss::first_loss;
 use gb_core::copy::copy_var;
 use gb_core::refusal::{Refused, Why};
-use gb_core::var::Var;
+use gb_core::var::{Var, Vars};
 use gb_goal::goal::{Code, Goal, goal_of, hoare};
 use gb_goal::scope::Scope;
 use gb_goal::sequent::{Sequent, Sequents};
+use gb_mods::written::written;
+use gb_phoare::rnd::{Judged, of_rest};
 use gb_steps::step::{Acts, Contract};
 use gb_terms::decl::Proc;
 use gb_terms::make::conjunction;
-use gb_terms::op::Side;
+use gb_terms::op::{Rel, Side};
 use gb_terms::term::{Form, Subject};
 use std::alloc::{AllocError, Global};
 
-/// How deep procedures may call each other.
-const DEPTH: usize = 1024;
-
 /// More variables than a tuple has parts.
-const MANY: usize = 9;
+pub const MANY: usize = 9;
 
 /// A call that ends a body, its procedure, and the globals that it writes.
 #[derive(Clone, Copy)]
@@ -54,18 +56,24 @@ pub struct Callee<'a> {
     pub written: &'a [Var],
 }
 
-/// What is read of the memory after the call.
-fn reads_of(alloc: Global, contract: &Contract, post: &Form) -> Result<Reads, AllocError>
-    ensures { IfOk result (λ made. (made.said ≡ variables_read Side.Own contract.now.post) × (made.after ≡ variables_read Side.Own post.now)) }
+/// What is read of a memory after the call.
+pub fn reads_of(
+    alloc: Global,
+    side: Side,
+    contract: &Contract,
+    post: &Form,
+) -> Result<Reads, AllocError>
+    ensures { IfOk result (λ made. (made.said ≡ variables_read side contract.now.post) × (made.after ≡ variables_read side post.now)) }
 {
-    let said = variables_read(alloc, &contract.post, Side::Own)?;
-    let after = variables_read(alloc, post, Side::Own)?;
+    let said = variables_read(alloc, &contract.post, side)?;
+    let after = variables_read(alloc, post, side)?;
     Ok(Reads { said, after })
 }
 
-/// The precondition holds of the arguments, and the postcondition leads to what is to hold after the call.
+/// The precondition holds of the arguments, and the postcondition makes what is to hold after the call as likely as the relation asks.
 fn before_call(
     alloc: Global,
+    rel: Rel,
     callee: &Callee<'_>,
     globals: &[TypedGlobal],
     reads: &Reads,
@@ -74,7 +82,7 @@ fn before_call(
 ) -> Result<Form, AllocError>
     requires said { reads.now.said ≡ variables_read Side.Own contract.now.post }
     requires later { reads.now.after ≡ variables_read Side.Own post.now }
-    ensures { IfOk result (λ made. made ≡ before_call Side.Own (callee_seen callee.now) (globals_seen globals.now) contract.now post.now) }
+    ensures { IfOk result (λ made. made ≡ before_call rel Side.Own (callee_seen callee.now) (globals_seen globals.now) contract.now post.now) }
 {
     let params = callee.declared.params.as_slice();
     let holds = of_arguments(
@@ -90,8 +98,8 @@ fn before_call(
         result: &callee.declared.result,
         globals,
     };
-    let leads = after_call(alloc, &outcome, reads, &contract.post, post)?;
-    conjunction(alloc, holds, leads)
+    let likely = after_call(alloc, rel, &outcome, reads, &contract.post, post)?;
+    conjunction(alloc, holds, likely)
 }
 
 /// The procedure does what is said of it.
@@ -128,7 +136,7 @@ fn by_globals(
     requires later { reads.now.after ≡ variables_read Side.Own post.now }
     ensures { IfOk result (λ made. made ≡ map (concluding goal.now) (call_goals (callee_seen callee.now) (globals_seen globals.now) contract.now pre.now post.now)) }
 {
-    let before = before_call(alloc, callee, globals, reads, contract, post)?;
+    let before = before_call(alloc, Rel::AtLeast, callee, globals, reads, contract, post)?;
     let first = does(alloc, callee, contract)?;
     let second = leads(alloc, callee, pre, before)?;
     two_goals(alloc, goal, first, second)
@@ -136,20 +144,36 @@ fn by_globals(
 
 /// The globals that a call writes and that are read after it, with their types. None where one of them has none.
 #[tactic(auto, using(crate::proofs::OutcomeSteps::left_as_read))]
-fn globals_left(
+pub fn globals_left(
     alloc: Global,
+    side: Side,
     scope: &Scope,
     callee: &Callee<'_>,
     contract: &Contract,
     post: &Form,
     reads: &Reads,
 ) -> Result<Option<TypedGlobals>, AllocError>
-    requires said { reads.now.said ≡ variables_read Side.Own contract.now.post }
-    requires later { reads.now.after ≡ variables_read Side.Own post.now }
-    ensures { IfOk result (λ made. typed_seen made ≡ with_types scope.now (left_of Side.Own (callee_seen callee.now) contract.now post.now)) }
+    requires said { reads.now.said ≡ variables_read side contract.now.post }
+    requires later { reads.now.after ≡ variables_read side post.now }
+    ensures { IfOk result (λ made. typed_seen made ≡ with_types scope.now (left_of side (callee_seen callee.now) contract.now post.now)) }
 {
     let left = left_of(alloc, callee.call.targets, reads, callee.written)?;
     with_types(alloc, scope, left.as_slice())
+}
+
+/// The least variable of the left side, or of the globals that are written, with which another one clashes where it is replaced.
+fn clash_after<'a>(callee: &Callee<'a>, contract: &Contract, post: &Form) -> Option<&'a Var>
+    ensures { option_copied result ≡ clash_after Side.Own (callee_seen callee.now).call.targets (callee_seen callee.now).written contract.now.post post.now }
+{
+    let targets = callee.call.targets;
+    clashing_after(
+        None,
+        Side::Own,
+        targets,
+        callee.written,
+        &contract.post,
+        post,
+    )
 }
 
 /// The subgoals of a call of a procedure.
@@ -168,12 +192,13 @@ fn by_callee(
     if targets.len() >= MANY {
         return Err(no_shape());
     }
-    if let Some(var) = clash_after(Side::Own, targets, callee.written, &contract.post, post) {
+    if let Some(var) = clash_after(callee, contract, post) {
         let var = copy_var(alloc, var)?;
         return Err(refusal(Why::SideCondition(var)));
     }
-    let reads = reads_of(alloc, contract, post)?;
-    let Some(globals) = globals_left(alloc, scope, callee, contract, post, &reads)? else {
+    let reads = reads_of(alloc, Side::Own, contract, post)?;
+    let Some(globals) = globals_left(alloc, Side::Own, scope, callee, contract, post, &reads)?
+    else {
         return Err(no_shape());
     };
     Ok(by_globals(
@@ -188,8 +213,160 @@ fn by_callee(
     )?)
 }
 
+/// The procedure does what is said of it as likely as the bound says.
+fn does_as_likely(
+    alloc: Global,
+    callee: &Callee<'_>,
+    contract: &Contract,
+    judged: &Judged<'_>,
+) -> Result<Form, AllocError>
+    ensures { IfOk result (λ made. made ≡
+        form_of (phoare (procedure (callee_seen callee.now).call.procedure) judged.now.rel contract.now.pre contract.now.post judged.now.bound.now)) }
+{
+    let subject = Subject::Proc(callee.call.procedure.share()?);
+    let pre = contract.pre.share()?;
+    let post = contract.post.share()?;
+    let bound = judged.bound.share()?;
+    phoare_of(alloc, &subject, judged.rel, pre, post, bound)
+}
+
+/// What is left of a call of which it is known what is read after it, where a probability is judged.
+fn chances_left(
+    alloc: Global,
+    goal: &Sequent,
+    callee: &Callee<'_>,
+    globals: &[TypedGlobal],
+    reads: &Reads,
+    contract: &Contract,
+    judged: &Judged<'_>,
+) -> Result<Sequents, Refused>
+    requires said { reads.now.said ≡ variables_read Side.Own contract.now.post }
+    requires later { reads.now.after ≡ variables_read Side.Own judged.now.post.now }
+    ensures { Answers (each_concluding goal.now (of_rest (first_loss (callee_seen callee.now).call.before) judged.now.rel judged.now.bound.now
+        (hoare (body (callee_seen callee.now).call.before) judged.now.pre.now
+        (before_call judged.now.rel Side.Own (callee_seen callee.now) (globals_seen globals.now) contract.now judged.now.post.now)))) result }
+{
+    let before = before_call(
+        alloc,
+        judged.rel,
+        callee,
+        globals,
+        reads,
+        contract,
+        judged.post,
+    )?;
+    let conclusion = leads(alloc, callee, judged.pre, before)?;
+    let lost = first_loss(callee.call.before);
+    of_rest(alloc, goal, lost, judged, conclusion)
+}
+
+/// Goals behind one.
+fn in_front(
+    alloc: Global,
+    goal: &Sequent,
+    first: Form,
+    others: Sequents,
+) -> Result<Sequents, AllocError>
+    ensures { IfOk result (λ made. made ≡ record goal.now { conclusion = first } ∷ others) }
+{
+    let mut goals = one_goal(alloc, goal, first)?;
+    goals.append(others)?;
+    Ok(goals)
+}
+
+/// The subgoals of a call of a procedure, where these globals are read after it and a probability is judged.
+fn chance_goals(
+    alloc: Global,
+    goal: &Sequent,
+    callee: &Callee<'_>,
+    globals: &[TypedGlobal],
+    reads: &Reads,
+    contract: &Contract,
+    judged: &Judged<'_>,
+) -> Result<Sequents, Refused>
+    requires said { reads.now.said ≡ variables_read Side.Own contract.now.post }
+    requires later { reads.now.after ≡ variables_read Side.Own judged.now.post.now }
+    ensures { Answers (each_concluding goal.now (chance_goals (callee_seen callee.now) (globals_seen globals.now) contract.now judged.now.rel judged.now.pre.now judged.now.post.now judged.now.bound.now)) result }
+{
+    let others = chances_left(alloc, goal, callee, globals, reads, contract, judged)?;
+    let first = does_as_likely(alloc, callee, contract, judged)?;
+    Ok(in_front(alloc, goal, first, others)?)
+}
+
+/// The subgoals of a call of a procedure, where a probability is judged.
+fn chances_by_callee(
+    alloc: Global,
+    goal: &Sequent,
+    scope: &Scope,
+    contract: &Contract,
+    judged: &Judged<'_>,
+    callee: &Callee<'_>,
+) -> Result<Sequents, Refused>
+    ensures { Answers (each_concluding goal.now
+        (chances_by_callee scope.now contract.now judged.now.rel judged.now.pre.now judged.now.post.now judged.now.bound.now (callee_seen callee.now))) result }
+{
+    let targets = callee.call.targets;
+    if targets.len() >= MANY {
+        return Err(no_shape());
+    }
+    let post = judged.post;
+    if let Some(var) = clash_after(callee, contract, post) {
+        let var = copy_var(alloc, var)?;
+        return Err(refusal(Why::SideCondition(var)));
+    }
+    let reads = reads_of(alloc, Side::Own, contract, post)?;
+    let Some(globals) = globals_left(alloc, Side::Own, scope, callee, contract, post, &reads)?
+    else {
+        return Err(no_shape());
+    };
+    let globals = globals.as_slice();
+    chance_goals(alloc, goal, callee, globals, &reads, contract, judged)
+}
+
+/// A call that ends a body, its procedure, and the globals that it is known to write.
+#[derive(Drop)]
+pub struct Known<'a> {
+    pub call: Last<'a>,
+    pub declared: &'a Proc,
+    pub written: Vars,
+}
+
+/// The same, if there is a call, and it is known.
+pub fn known_call<'a>(
+    alloc: Global,
+    scope: &'a Scope,
+    call: Option<Last<'a>>,
+) -> Result<Option<Known<'a>>, AllocError>
+    ensures { IfOk result (λ made. option_map known_seen made ≡ callee_of scope.now (option_map call_seen call.entry)) }
+{
+    let Some(call) = call else {
+        return Ok(None);
+    };
+    let Some(declared) = scope.procedure(call.procedure.get()) else {
+        return Ok(None);
+    };
+    let Some(written) = written(alloc, scope, call.procedure)? else {
+        return Ok(None);
+    };
+    Ok(Some(Known {
+        call,
+        declared,
+        written,
+    }))
+}
+
+/// The callee of a call that is known.
+pub fn callee_of<'a>(known: &'a Known<'a>) -> Callee<'a>
+    ensures { callee_seen result ≡ known_seen known.now }
+{
+    Callee {
+        call: known.call,
+        declared: known.declared,
+        written: known.written.as_slice(),
+    }
+}
+
 /// The subgoals on one body.
-#[tactic(auto, unfolding(crate::specs::Call::depth))]
 fn on_body(
     alloc: Global,
     goal: &Sequent,
@@ -201,25 +378,32 @@ fn on_body(
 ) -> Result<Sequents, Refused>
     ensures { Answers (each_concluding goal.now (of_callee scope.now contract.now pre.now post.now (callee_of scope.now (option_map call_seen call.entry)))) result }
 {
-    let Some(call) = call else {
-        return Err(no_shape());
-    };
-    let Some(declared) = scope.procedure(call.procedure.get()) else {
-        return Err(no_shape());
-    };
-    let Some(written) = written_within(alloc, call.procedure.get(), scope, DEPTH)? else {
-        return Err(no_shape());
-    };
-    let callee = Callee {
-        call,
-        declared,
-        written: written.as_slice(),
-    };
-    by_callee(alloc, goal, scope, contract, pre, post, &callee)
+    match known_call(alloc, scope, call)? {
+        Some(known) => by_callee(alloc, goal, scope, contract, pre, post, &callee_of(&known)),
+        None => Err(no_shape()),
+    }
+}
+
+/// The subgoals on one body of which a probability is judged.
+fn on_chances(
+    alloc: Global,
+    goal: &Sequent,
+    scope: &Scope,
+    contract: &Contract,
+    judged: &Judged<'_>,
+    call: Option<Last<'_>>,
+) -> Result<Sequents, Refused>
+    ensures { Answers (each_concluding goal.now (chances_of_callee scope.now contract.now judged.now.rel judged.now.pre.now judged.now.post.now judged.now.bound.now
+        (callee_of scope.now (option_map call_seen call.entry)))) result }
+{
+    match known_call(alloc, scope, call)? {
+        Some(known) => chances_by_callee(alloc, goal, scope, contract, judged, &callee_of(&known)),
+        None => Err(no_shape()),
+    }
 }
 
 /// The subgoals of a goal that is seen so.
-fn called(
+pub fn called(
     alloc: Global,
     goal: &Sequent,
     scope: &Scope,
@@ -231,6 +415,15 @@ fn called(
     match (contract.acts, seen) {
         (Acts::All, Goal::Hoare(Code::Body(body), pre, post)) => {
             on_body(alloc, goal, scope, contract, pre, post, last_call(body))
+        }
+        (Acts::All, Goal::Phoare(Code::Body(body), rel, pre, post, bound)) => {
+            let judged = Judged {
+                rel,
+                pre,
+                post,
+                bound,
+            };
+            on_chances(alloc, goal, scope, contract, &judged, last_call(body))
         }
         _ => Err(no_shape()),
     }

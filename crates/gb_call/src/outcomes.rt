@@ -6,12 +6,13 @@ ghost use Rattle.std.specs.Option.{option_copied};
 ghost use Rattle.gb_core.specs.declared.var.Var.TheVariants.{Local};
 ghost use Rattle.gb_meaning.specs.Memory.{result_name};
 ghost use Rattle.gb_terms.specs.Make.{node};
-ghost use Rattle.gb_walk.specs.Clash.{variables_read};
+ghost use Rattle.gb_walk.specs.Clash.{least_from, variables_read};
 ghost use Rattle.gb_prog.specs.AllValues.{for_all, in_memory, to_bound_values};
-ghost use Rattle.gb_call.specs.Outcomes.{after_call, after_where, clash_after, for_outcomes, globals_seen, is_among, is_clashing_after, is_left_of, left_side, of_arguments, of_outcome, of_return, outcome_seen, put_for, result_bound};
+ghost use Rattle.gb_call.specs.Outcomes.{after_call, after_where, clashing_after, for_outcomes, globals_seen, is_among, is_clashing_after, is_left_of, left_side, of_arguments, of_outcome, of_return, outcome_seen, put_for, result_bound};
 
 use crate::written::TypedGlobal;
 use gb_bodies::assigned::{put_in, taken};
+use gb_bodies::conseq::likely;
 use gb_bodies::forms::located;
 use gb_core::copy::copy_var;
 use gb_core::name::Name;
@@ -20,8 +21,8 @@ use gb_core::ty::Ty;
 use gb_core::var::{Var, Vars};
 use gb_shared::Shared;
 use gb_terms::decl::TypedName;
-use gb_terms::make::{forall, implication, leaf};
-use gb_terms::op::{Read, Side};
+use gb_terms::make::{forall, leaf};
+use gb_terms::op::{Read, Rel, Side};
 use gb_terms::term::{Form, Head, Term};
 use gb_walk::change::{Change, Changes};
 use gb_walk::clash::{first_clash, lesser};
@@ -41,16 +42,17 @@ pub struct Outcome<'a> {
     pub globals: &'a [TypedGlobal],
 }
 
-/// Arguments in the places of parameters.
-fn put_for(
+/// Arguments in the places of parameters, behind other changes.
+pub fn put_for(
     alloc: Global,
+    before: Changes,
     side: Side,
     params: &[TypedName],
     arguments: &[Term],
 ) -> Result<Changes, AllocError>
-    ensures { IfOk result (λ made. made ≡ put_for side params.now arguments.now) }
+    ensures { IfOk result (λ made. made ≡ before ++ put_for side params.now arguments.now) }
 {
-    let mut changes = Items::new(alloc);
+    let mut changes = before;
     for i in 0..params.len().min(arguments.len()) {
         let name = params[i].name.copy(alloc)?;
         let var = Var::Local { name };
@@ -70,12 +72,12 @@ pub fn of_arguments(
 ) -> Result<Form, AllocError>
     ensures { IfOk result (λ made. made ≡ of_arguments side params.now arguments.now form.now) }
 {
-    let changes = put_for(alloc, side, params, arguments)?;
+    let changes = put_for(alloc, Items::new(alloc), side, params, arguments)?;
     changed(alloc, form, changes.as_slice())
 }
 
 /// The value that the binder with so many others inside of it binds.
-fn bound(alloc: Global, index: usize, ty: &Shared<Ty>) -> Result<Term, AllocError>
+pub fn bound(alloc: Global, index: usize, ty: &Shared<Ty>) -> Result<Term, AllocError>
     ensures { IfOk result (λ made. made ≡ node (Head.Bound index) [] ty.now) }
 {
     let Ok(index) = u32::try_from(index) else {
@@ -112,7 +114,7 @@ fn result_bound(alloc: Global, outcome: &Outcome<'_>) -> Result<Term, AllocError
 }
 
 /// The variable that stands for the result.
-fn result_variable(alloc: Global) -> Result<Var, AllocError>
+pub fn result_variable(alloc: Global) -> Result<Var, AllocError>
     ensures { IfOk result (λ made. made ≡ Local result_name) }
 {
     let name = Name::from_str(alloc, RESULT)?;
@@ -206,7 +208,7 @@ fn is_one_read(list: &[Var], read: &[Var]) -> bool
 }
 
 /// Whether the result occurs, for which a variable stands: in what is said of the outcome, or in what is said of the left side.
-fn reads_result(stands: &Var, targets: &[Var], reads: &Reads) -> bool
+pub fn reads_result(stands: &Var, targets: &[Var], reads: &Reads) -> bool
     ensures { result ≡ (is_among reads.now.said stands.now || list_any (is_among reads.now.after) targets.now) }
 {
     is_among(reads.said.as_slice(), stands) || is_one_read(targets, reads.after.as_slice())
@@ -229,27 +231,30 @@ fn for_outcomes(
     forall(alloc, ty, form)
 }
 
-/// For all results, where the result occurs, and all values of the globals, what is said of the outcome leads to what is said after the call.
+/// For all results, where the result occurs, and all values of the globals, what is said of the outcome makes what is said after the call as
+/// likely as the relation asks.
 fn after_where(
     alloc: Global,
+    rel: Rel,
     occurs: bool,
     outcome: &Outcome<'_>,
     said: &Form,
     form: &Form,
 ) -> Result<Form, AllocError>
-    ensures { IfOk result (λ made. made ≡ after_where occurs (outcome_seen outcome.now) said.now form.now) }
+    ensures { IfOk result (λ made. made ≡ after_where rel occurs (outcome_seen outcome.now) said.now form.now) }
 {
     let said = of_outcome(alloc, occurs, outcome, said)?;
     let form = of_return(alloc, occurs, outcome, form)?;
-    let leads = implication(alloc, said, form)?;
-    for_outcomes(alloc, occurs, outcome, leads)
+    let likely = likely(alloc, rel, &form, &said)?;
+    for_outcomes(alloc, occurs, outcome, likely)
 }
 
-/// For all results and all values of the globals, what is said of the outcome leads to what is said after the call. A quantifier stands
-/// only where its variable occurs.
+/// For all results and all values of the globals, what is said of the outcome makes what is said after the call as likely as the relation
+/// asks: with `>=` the one leads to the other. A quantifier stands only where its variable occurs.
 #[tactic(auto, using(crate::proofs::OutcomeSteps::occurs_as_read))]
 pub fn after_call(
     alloc: Global,
+    rel: Rel,
     outcome: &Outcome<'_>,
     reads: &Reads,
     said: &Form,
@@ -257,11 +262,11 @@ pub fn after_call(
 ) -> Result<Form, AllocError>
     requires said { reads.now.said ≡ variables_read outcome.now.side said.now }
     requires later { reads.now.after ≡ variables_read outcome.now.side form.now }
-    ensures { IfOk result (λ made. made ≡ after_call (outcome_seen outcome.now) said.now form.now) }
+    ensures { IfOk result (λ made. made ≡ after_call rel (outcome_seen outcome.now) said.now form.now) }
 {
     let stands = result_variable(alloc)?;
     let occurs = reads_result(&stands, outcome.targets, reads);
-    after_where(alloc, occurs, outcome, said, form)
+    after_where(alloc, rel, occurs, outcome, said, form)
 }
 
 /// Whether a global is read of the memory after the call: by what is said of the outcome, or elsewhere than in the left side.
@@ -297,17 +302,19 @@ fn is_clashing_after(side: Side, said: &Form, form: &Form, variable: &Var) -> bo
     first_clash(&side, variable, said).is_some() || first_clash(&side, variable, form).is_some()
 }
 
-/// The least variable of the left side, or of the globals that are written, with which another one clashes where it is replaced.
-pub fn clash_after<'a>(
+/// The least of what was found before, the variables of the left side, and the globals that are written, with which another one clashes
+/// where it is replaced.
+pub fn clashing_after<'a>(
+    before: Option<&'a Var>,
     side: Side,
     targets: &'a [Var],
     written: &'a [Var],
     said: &Form,
     form: &Form,
 ) -> Option<&'a Var>
-    ensures { option_copied result ≡ clash_after side targets.now written.now said.now form.now }
+    ensures { option_copied result ≡ least_from (option_copied before.entry) (clashing_after side targets.now written.now said.now form.now) }
 {
-    let mut found = None;
+    let mut found = before;
     for target in targets {
         if first_clash(&side, target, form).is_some() {
             found = lesser(found, target);

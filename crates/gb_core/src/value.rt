@@ -9,10 +9,19 @@ use std::alloc::{AllocError, Global};
 
 /// A value of a finite type: a number, or the list of its parts. A tuple has its parts, an option none or one,
 /// a map pairs in the order of their distinct keys.
-#[derive(Drop)]
 pub enum Value {
     Num(u64),
     Many(SharedItems<Value>),
+}
+
+impl Drop for Value {
+    #[cycle(value_drop)]
+    fn drop(self) {
+        match self {
+            Value::Num(_) => {}
+            Value::Many(parts) => drop(parts),
+        }
+    }
 }
 
 pub type Values = Items<Value>;

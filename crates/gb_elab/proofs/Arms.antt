@@ -1,5 +1,5 @@
 -- What forms mean, head by head.
-use Rattle.std.proofs.Common.{◌≡◌, ◌⊎◌, inl, inr, ℕ, List, [], ◌∷◌, length, Option, Some, refl, ap, ◌∙◌}
+use Rattle.std.proofs.Common.{◌≡◌, ◌⊎◌, inl, inr, ℕ, List, [], ◌∷◌, length, Option, Some, None, refl, ap, ◌∙◌}
 use Rattle.gb_core.specs.declared.place.Place.{Place}
 use Rattle.gb_core.specs.declared.refusal.Why.TheVariants.{TypeMismatch}
 use Rattle.gb_core.specs.declared.ty.Ty.{Ty}
@@ -26,7 +26,8 @@ use Rattle.gb_weights.specs.Weights.{weights}
 use Rattle.gb_elab.specs.declared.contract.Contract.{Contract}
 use Rattle.gb_elab.specs.OneProcedure.{after_one, around, before_one, lossless, relation, with_chance}
 use Rattle.gb_elab.specs.Equalities.{equalities}
-use Rattle.gb_elab.specs.Forms.{Part, annotated, applied_form, bounded, bracketed, by_rule, contract, contract_of, contracting, elaborated, equivalence, hoare, operation, probability, projection, quantified, simple, typing, with_meanings, with_side}
+use Rattle.gb_elab.specs.Globs.{bare_glob, both_whole, whole_alone}
+use Rattle.gb_elab.specs.Forms.{Part, annotated, applied_form, bounded, bracketed, by_rule, comparing, contract, contract_of, contracting, elaborated, equivalence, hoare, operation, probability, projection, quantified, simple, typing, with_meanings, with_side}
 use Rattle.gb_elab.proofs.Elaborated.{bare_meanings, length_meanings}
 
 module _ (h : Head) (x : List ℕ) (ts : List Node) (p : Place) (at : Environment) (bound : List Binding) (w : Option Ty) where
@@ -145,6 +146,14 @@ module _ (h : Head) (x : List ℕ) (ts : List Node) (p : Place) (at : Environmen
   unfolding typing
   equalities_is e = at_head head.Equalities e ∙ ap (λ us. truth w p >>= λ _. equalities at bound us p) (bare_meanings ts)
 
+  pub glob_is : h ≡ head.Glob → meaning ≡ whole_alone at bound (bare_glob ts None p) p
+  unfolding typing
+  glob_is e = at_head head.Glob e ∙ ap (λ us. whole_alone at bound (bare_glob us None p) p) (bare_meanings ts)
+
+  pub compared_is : h ≡ head.Compared → meaning ≡ comparing (both_whole x ts) x (with_meanings ts) p at bound w
+  unfolding typing
+  compared_is e = at_head head.Compared e ∙ ap (λ us. comparing (both_whole x us) x (with_meanings ts) p at bound w) (bare_meanings ts)
+
   pub sided_is : h ≡ head.Sided → meaning ≡ with_side ts p at bound w
   unfolding typing
   sided_is e = at_head head.Sided e ∙ ap (λ us. with_side us p at bound w) (bare_meanings ts)
@@ -187,35 +196,37 @@ other_contract _ ts p at bound n = refl
 
 -- a form of another head is one that an operator makes, or isn't built
 pub other_form : (k : Head) (x : List ℕ) (ts : List Part) (p : Place) (at : Environment) (bound : List Binding) (w : Option Ty)
-    → (k ≡ head.Name → ⊥) → (k ≡ head.Path → ⊥) → (k ≡ head.Number → ⊥) → (k ≡ head.Unit → ⊥) → (k ≡ head.Bracketed → ⊥) → (k ≡ head.Sided → ⊥) → (k ≡ head.Coin → ⊥) → (k ≡ head.Function → ⊥) → (k ≡ head.TypedFunction → ⊥) → (k ≡ head.Typed → ⊥) → (k ≡ head.Tuple → ⊥) → (k ≡ head.Component → ⊥) → (k ≡ head.Conditional → ⊥) → (k ≡ head.Chosen → ⊥) → (k ≡ head.Get → ⊥) → (k ≡ head.Set → ⊥) → (k ≡ head.PowerProduct → ⊥) → (k ≡ head.Uniform → ⊥) → (k ≡ head.Weights → ⊥) → (k ≡ head.Apply → ⊥) → (k ≡ head.Equalities → ⊥) → (k ≡ head.Quantified → ⊥) → (k ≡ head.Equiv → ⊥) → (k ≡ head.Hoare → ⊥) → (k ≡ head.Phoare → ⊥) → (k ≡ head.Bounded → ⊥) → (k ≡ head.Lossless → ⊥) → (k ≡ head.Probability → ⊥)
+    → (k ≡ head.Name → ⊥) → (k ≡ head.Path → ⊥) → (k ≡ head.Number → ⊥) → (k ≡ head.Unit → ⊥) → (k ≡ head.Bracketed → ⊥) → (k ≡ head.Sided → ⊥) → (k ≡ head.Coin → ⊥) → (k ≡ head.Function → ⊥) → (k ≡ head.TypedFunction → ⊥) → (k ≡ head.Typed → ⊥) → (k ≡ head.Tuple → ⊥) → (k ≡ head.Component → ⊥) → (k ≡ head.Conditional → ⊥) → (k ≡ head.Chosen → ⊥) → (k ≡ head.Get → ⊥) → (k ≡ head.Set → ⊥) → (k ≡ head.PowerProduct → ⊥) → (k ≡ head.Uniform → ⊥) → (k ≡ head.Weights → ⊥) → (k ≡ head.Apply → ⊥) → (k ≡ head.Equalities → ⊥) → (k ≡ head.Glob → ⊥) → (k ≡ head.Compared → ⊥) → (k ≡ head.Quantified → ⊥) → (k ≡ head.Equiv → ⊥) → (k ≡ head.Hoare → ⊥) → (k ≡ head.Phoare → ⊥) → (k ≡ head.Bounded → ⊥) → (k ≡ head.Lossless → ⊥) → (k ≡ head.Probability → ⊥)
     → typing k x ts p at bound w ≡ operation (operator_of k x) ts p at bound w
 unfolding typing
-other_form head.Name x ts p at bound w n0 n1 n2 n3 n4 n5 n6 n7 n8 n9 n10 n11 n12 n13 n14 n15 n16 n17 n18 n19 n20 n21 n22 n23 n24 n25 n26 n27 = absurd (n0 refl)
-other_form head.Path x ts p at bound w n0 n1 n2 n3 n4 n5 n6 n7 n8 n9 n10 n11 n12 n13 n14 n15 n16 n17 n18 n19 n20 n21 n22 n23 n24 n25 n26 n27 = absurd (n1 refl)
-other_form head.Number x ts p at bound w n0 n1 n2 n3 n4 n5 n6 n7 n8 n9 n10 n11 n12 n13 n14 n15 n16 n17 n18 n19 n20 n21 n22 n23 n24 n25 n26 n27 = absurd (n2 refl)
-other_form head.Unit x ts p at bound w n0 n1 n2 n3 n4 n5 n6 n7 n8 n9 n10 n11 n12 n13 n14 n15 n16 n17 n18 n19 n20 n21 n22 n23 n24 n25 n26 n27 = absurd (n3 refl)
-other_form head.Bracketed x ts p at bound w n0 n1 n2 n3 n4 n5 n6 n7 n8 n9 n10 n11 n12 n13 n14 n15 n16 n17 n18 n19 n20 n21 n22 n23 n24 n25 n26 n27 = absurd (n4 refl)
-other_form head.Sided x ts p at bound w n0 n1 n2 n3 n4 n5 n6 n7 n8 n9 n10 n11 n12 n13 n14 n15 n16 n17 n18 n19 n20 n21 n22 n23 n24 n25 n26 n27 = absurd (n5 refl)
-other_form head.Coin x ts p at bound w n0 n1 n2 n3 n4 n5 n6 n7 n8 n9 n10 n11 n12 n13 n14 n15 n16 n17 n18 n19 n20 n21 n22 n23 n24 n25 n26 n27 = absurd (n6 refl)
-other_form head.Function x ts p at bound w n0 n1 n2 n3 n4 n5 n6 n7 n8 n9 n10 n11 n12 n13 n14 n15 n16 n17 n18 n19 n20 n21 n22 n23 n24 n25 n26 n27 = absurd (n7 refl)
-other_form head.TypedFunction x ts p at bound w n0 n1 n2 n3 n4 n5 n6 n7 n8 n9 n10 n11 n12 n13 n14 n15 n16 n17 n18 n19 n20 n21 n22 n23 n24 n25 n26 n27 = absurd (n8 refl)
-other_form head.Typed x ts p at bound w n0 n1 n2 n3 n4 n5 n6 n7 n8 n9 n10 n11 n12 n13 n14 n15 n16 n17 n18 n19 n20 n21 n22 n23 n24 n25 n26 n27 = absurd (n9 refl)
-other_form head.Tuple x ts p at bound w n0 n1 n2 n3 n4 n5 n6 n7 n8 n9 n10 n11 n12 n13 n14 n15 n16 n17 n18 n19 n20 n21 n22 n23 n24 n25 n26 n27 = absurd (n10 refl)
-other_form head.Component x ts p at bound w n0 n1 n2 n3 n4 n5 n6 n7 n8 n9 n10 n11 n12 n13 n14 n15 n16 n17 n18 n19 n20 n21 n22 n23 n24 n25 n26 n27 = absurd (n11 refl)
-other_form head.Conditional x ts p at bound w n0 n1 n2 n3 n4 n5 n6 n7 n8 n9 n10 n11 n12 n13 n14 n15 n16 n17 n18 n19 n20 n21 n22 n23 n24 n25 n26 n27 = absurd (n12 refl)
-other_form head.Chosen x ts p at bound w n0 n1 n2 n3 n4 n5 n6 n7 n8 n9 n10 n11 n12 n13 n14 n15 n16 n17 n18 n19 n20 n21 n22 n23 n24 n25 n26 n27 = absurd (n13 refl)
-other_form head.Get x ts p at bound w n0 n1 n2 n3 n4 n5 n6 n7 n8 n9 n10 n11 n12 n13 n14 n15 n16 n17 n18 n19 n20 n21 n22 n23 n24 n25 n26 n27 = absurd (n14 refl)
-other_form head.Set x ts p at bound w n0 n1 n2 n3 n4 n5 n6 n7 n8 n9 n10 n11 n12 n13 n14 n15 n16 n17 n18 n19 n20 n21 n22 n23 n24 n25 n26 n27 = absurd (n15 refl)
-other_form head.PowerProduct x ts p at bound w n0 n1 n2 n3 n4 n5 n6 n7 n8 n9 n10 n11 n12 n13 n14 n15 n16 n17 n18 n19 n20 n21 n22 n23 n24 n25 n26 n27 = absurd (n16 refl)
-other_form head.Uniform x ts p at bound w n0 n1 n2 n3 n4 n5 n6 n7 n8 n9 n10 n11 n12 n13 n14 n15 n16 n17 n18 n19 n20 n21 n22 n23 n24 n25 n26 n27 = absurd (n17 refl)
-other_form head.Weights x ts p at bound w n0 n1 n2 n3 n4 n5 n6 n7 n8 n9 n10 n11 n12 n13 n14 n15 n16 n17 n18 n19 n20 n21 n22 n23 n24 n25 n26 n27 = absurd (n18 refl)
-other_form head.Apply x ts p at bound w n0 n1 n2 n3 n4 n5 n6 n7 n8 n9 n10 n11 n12 n13 n14 n15 n16 n17 n18 n19 n20 n21 n22 n23 n24 n25 n26 n27 = absurd (n19 refl)
-other_form head.Equalities x ts p at bound w n0 n1 n2 n3 n4 n5 n6 n7 n8 n9 n10 n11 n12 n13 n14 n15 n16 n17 n18 n19 n20 n21 n22 n23 n24 n25 n26 n27 = absurd (n20 refl)
-other_form head.Quantified x ts p at bound w n0 n1 n2 n3 n4 n5 n6 n7 n8 n9 n10 n11 n12 n13 n14 n15 n16 n17 n18 n19 n20 n21 n22 n23 n24 n25 n26 n27 = absurd (n21 refl)
-other_form head.Equiv x ts p at bound w n0 n1 n2 n3 n4 n5 n6 n7 n8 n9 n10 n11 n12 n13 n14 n15 n16 n17 n18 n19 n20 n21 n22 n23 n24 n25 n26 n27 = absurd (n22 refl)
-other_form head.Hoare x ts p at bound w n0 n1 n2 n3 n4 n5 n6 n7 n8 n9 n10 n11 n12 n13 n14 n15 n16 n17 n18 n19 n20 n21 n22 n23 n24 n25 n26 n27 = absurd (n23 refl)
-other_form head.Phoare x ts p at bound w n0 n1 n2 n3 n4 n5 n6 n7 n8 n9 n10 n11 n12 n13 n14 n15 n16 n17 n18 n19 n20 n21 n22 n23 n24 n25 n26 n27 = absurd (n24 refl)
-other_form head.Bounded x ts p at bound w n0 n1 n2 n3 n4 n5 n6 n7 n8 n9 n10 n11 n12 n13 n14 n15 n16 n17 n18 n19 n20 n21 n22 n23 n24 n25 n26 n27 = absurd (n25 refl)
-other_form head.Lossless x ts p at bound w n0 n1 n2 n3 n4 n5 n6 n7 n8 n9 n10 n11 n12 n13 n14 n15 n16 n17 n18 n19 n20 n21 n22 n23 n24 n25 n26 n27 = absurd (n26 refl)
-other_form head.Probability x ts p at bound w n0 n1 n2 n3 n4 n5 n6 n7 n8 n9 n10 n11 n12 n13 n14 n15 n16 n17 n18 n19 n20 n21 n22 n23 n24 n25 n26 n27 = absurd (n27 refl)
-other_form _ x ts p at bound w n0 n1 n2 n3 n4 n5 n6 n7 n8 n9 n10 n11 n12 n13 n14 n15 n16 n17 n18 n19 n20 n21 n22 n23 n24 n25 n26 n27 = refl
+other_form head.Name x ts p at bound w n0 n1 n2 n3 n4 n5 n6 n7 n8 n9 n10 n11 n12 n13 n14 n15 n16 n17 n18 n19 n20 n21 n22 n23 n24 n25 n26 n27 n28 n29 = absurd (n0 refl)
+other_form head.Path x ts p at bound w n0 n1 n2 n3 n4 n5 n6 n7 n8 n9 n10 n11 n12 n13 n14 n15 n16 n17 n18 n19 n20 n21 n22 n23 n24 n25 n26 n27 n28 n29 = absurd (n1 refl)
+other_form head.Number x ts p at bound w n0 n1 n2 n3 n4 n5 n6 n7 n8 n9 n10 n11 n12 n13 n14 n15 n16 n17 n18 n19 n20 n21 n22 n23 n24 n25 n26 n27 n28 n29 = absurd (n2 refl)
+other_form head.Unit x ts p at bound w n0 n1 n2 n3 n4 n5 n6 n7 n8 n9 n10 n11 n12 n13 n14 n15 n16 n17 n18 n19 n20 n21 n22 n23 n24 n25 n26 n27 n28 n29 = absurd (n3 refl)
+other_form head.Bracketed x ts p at bound w n0 n1 n2 n3 n4 n5 n6 n7 n8 n9 n10 n11 n12 n13 n14 n15 n16 n17 n18 n19 n20 n21 n22 n23 n24 n25 n26 n27 n28 n29 = absurd (n4 refl)
+other_form head.Sided x ts p at bound w n0 n1 n2 n3 n4 n5 n6 n7 n8 n9 n10 n11 n12 n13 n14 n15 n16 n17 n18 n19 n20 n21 n22 n23 n24 n25 n26 n27 n28 n29 = absurd (n5 refl)
+other_form head.Coin x ts p at bound w n0 n1 n2 n3 n4 n5 n6 n7 n8 n9 n10 n11 n12 n13 n14 n15 n16 n17 n18 n19 n20 n21 n22 n23 n24 n25 n26 n27 n28 n29 = absurd (n6 refl)
+other_form head.Function x ts p at bound w n0 n1 n2 n3 n4 n5 n6 n7 n8 n9 n10 n11 n12 n13 n14 n15 n16 n17 n18 n19 n20 n21 n22 n23 n24 n25 n26 n27 n28 n29 = absurd (n7 refl)
+other_form head.TypedFunction x ts p at bound w n0 n1 n2 n3 n4 n5 n6 n7 n8 n9 n10 n11 n12 n13 n14 n15 n16 n17 n18 n19 n20 n21 n22 n23 n24 n25 n26 n27 n28 n29 = absurd (n8 refl)
+other_form head.Typed x ts p at bound w n0 n1 n2 n3 n4 n5 n6 n7 n8 n9 n10 n11 n12 n13 n14 n15 n16 n17 n18 n19 n20 n21 n22 n23 n24 n25 n26 n27 n28 n29 = absurd (n9 refl)
+other_form head.Tuple x ts p at bound w n0 n1 n2 n3 n4 n5 n6 n7 n8 n9 n10 n11 n12 n13 n14 n15 n16 n17 n18 n19 n20 n21 n22 n23 n24 n25 n26 n27 n28 n29 = absurd (n10 refl)
+other_form head.Component x ts p at bound w n0 n1 n2 n3 n4 n5 n6 n7 n8 n9 n10 n11 n12 n13 n14 n15 n16 n17 n18 n19 n20 n21 n22 n23 n24 n25 n26 n27 n28 n29 = absurd (n11 refl)
+other_form head.Conditional x ts p at bound w n0 n1 n2 n3 n4 n5 n6 n7 n8 n9 n10 n11 n12 n13 n14 n15 n16 n17 n18 n19 n20 n21 n22 n23 n24 n25 n26 n27 n28 n29 = absurd (n12 refl)
+other_form head.Chosen x ts p at bound w n0 n1 n2 n3 n4 n5 n6 n7 n8 n9 n10 n11 n12 n13 n14 n15 n16 n17 n18 n19 n20 n21 n22 n23 n24 n25 n26 n27 n28 n29 = absurd (n13 refl)
+other_form head.Get x ts p at bound w n0 n1 n2 n3 n4 n5 n6 n7 n8 n9 n10 n11 n12 n13 n14 n15 n16 n17 n18 n19 n20 n21 n22 n23 n24 n25 n26 n27 n28 n29 = absurd (n14 refl)
+other_form head.Set x ts p at bound w n0 n1 n2 n3 n4 n5 n6 n7 n8 n9 n10 n11 n12 n13 n14 n15 n16 n17 n18 n19 n20 n21 n22 n23 n24 n25 n26 n27 n28 n29 = absurd (n15 refl)
+other_form head.PowerProduct x ts p at bound w n0 n1 n2 n3 n4 n5 n6 n7 n8 n9 n10 n11 n12 n13 n14 n15 n16 n17 n18 n19 n20 n21 n22 n23 n24 n25 n26 n27 n28 n29 = absurd (n16 refl)
+other_form head.Uniform x ts p at bound w n0 n1 n2 n3 n4 n5 n6 n7 n8 n9 n10 n11 n12 n13 n14 n15 n16 n17 n18 n19 n20 n21 n22 n23 n24 n25 n26 n27 n28 n29 = absurd (n17 refl)
+other_form head.Weights x ts p at bound w n0 n1 n2 n3 n4 n5 n6 n7 n8 n9 n10 n11 n12 n13 n14 n15 n16 n17 n18 n19 n20 n21 n22 n23 n24 n25 n26 n27 n28 n29 = absurd (n18 refl)
+other_form head.Apply x ts p at bound w n0 n1 n2 n3 n4 n5 n6 n7 n8 n9 n10 n11 n12 n13 n14 n15 n16 n17 n18 n19 n20 n21 n22 n23 n24 n25 n26 n27 n28 n29 = absurd (n19 refl)
+other_form head.Equalities x ts p at bound w n0 n1 n2 n3 n4 n5 n6 n7 n8 n9 n10 n11 n12 n13 n14 n15 n16 n17 n18 n19 n20 n21 n22 n23 n24 n25 n26 n27 n28 n29 = absurd (n20 refl)
+other_form head.Glob x ts p at bound w n0 n1 n2 n3 n4 n5 n6 n7 n8 n9 n10 n11 n12 n13 n14 n15 n16 n17 n18 n19 n20 n21 n22 n23 n24 n25 n26 n27 n28 n29 = absurd (n21 refl)
+other_form head.Compared x ts p at bound w n0 n1 n2 n3 n4 n5 n6 n7 n8 n9 n10 n11 n12 n13 n14 n15 n16 n17 n18 n19 n20 n21 n22 n23 n24 n25 n26 n27 n28 n29 = absurd (n22 refl)
+other_form head.Quantified x ts p at bound w n0 n1 n2 n3 n4 n5 n6 n7 n8 n9 n10 n11 n12 n13 n14 n15 n16 n17 n18 n19 n20 n21 n22 n23 n24 n25 n26 n27 n28 n29 = absurd (n23 refl)
+other_form head.Equiv x ts p at bound w n0 n1 n2 n3 n4 n5 n6 n7 n8 n9 n10 n11 n12 n13 n14 n15 n16 n17 n18 n19 n20 n21 n22 n23 n24 n25 n26 n27 n28 n29 = absurd (n24 refl)
+other_form head.Hoare x ts p at bound w n0 n1 n2 n3 n4 n5 n6 n7 n8 n9 n10 n11 n12 n13 n14 n15 n16 n17 n18 n19 n20 n21 n22 n23 n24 n25 n26 n27 n28 n29 = absurd (n25 refl)
+other_form head.Phoare x ts p at bound w n0 n1 n2 n3 n4 n5 n6 n7 n8 n9 n10 n11 n12 n13 n14 n15 n16 n17 n18 n19 n20 n21 n22 n23 n24 n25 n26 n27 n28 n29 = absurd (n26 refl)
+other_form head.Bounded x ts p at bound w n0 n1 n2 n3 n4 n5 n6 n7 n8 n9 n10 n11 n12 n13 n14 n15 n16 n17 n18 n19 n20 n21 n22 n23 n24 n25 n26 n27 n28 n29 = absurd (n27 refl)
+other_form head.Lossless x ts p at bound w n0 n1 n2 n3 n4 n5 n6 n7 n8 n9 n10 n11 n12 n13 n14 n15 n16 n17 n18 n19 n20 n21 n22 n23 n24 n25 n26 n27 n28 n29 = absurd (n28 refl)
+other_form head.Probability x ts p at bound w n0 n1 n2 n3 n4 n5 n6 n7 n8 n9 n10 n11 n12 n13 n14 n15 n16 n17 n18 n19 n20 n21 n22 n23 n24 n25 n26 n27 n28 n29 = absurd (n29 refl)
+other_form _ x ts p at bound w n0 n1 n2 n3 n4 n5 n6 n7 n8 n9 n10 n11 n12 n13 n14 n15 n16 n17 n18 n19 n20 n21 n22 n23 n24 n25 n26 n27 n28 n29 = refl

@@ -5,3 +5,4 @@ pub mod Functions
 pub mod OfWantedType
 pub mod Operands
 pub mod Applied
+pub mod Seen

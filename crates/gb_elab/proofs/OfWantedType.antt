@@ -1,5 +1,5 @@
 -- What is typed has the wanted type.
-use Rattle.std.proofs.Common.{◌≡◌, ℕ, ◌==◌, ◌^◌, nat_lt, pos, Bool, true, false, ◌&&◌, if◌then◌else◌, List, [], ◌∷◌, ◌++◌, reverse, length, Option, Some, None, is_none, refl, ap, sym, subst, ◌∙◌}
+use Rattle.std.proofs.Common.{◌≡◌, ℕ, ◌==◌, ◌^◌, nat_lt, pos, Bool, true, false, ◌&&◌, if◌then◌else◌, List, [], ◌∷◌, ◌++◌, reverse, length, Option, Some, None, is_none, bytes_eq, refl, ap, sym, subst, ◌∙◌}
 use Rattle.std.specs.Option.{option_map_or}
 use Rattle.gb_core.specs.declared.place.Place.{Place}
 use Rattle.gb_core.specs.declared.refusal.Why.{Why}
@@ -8,6 +8,7 @@ use Rattle.gb_core.specs.declared.ty.Ty.{Ty}
 use Rattle.gb_core.specs.declared.ty.Ty.TheVariants as ty
 use Rattle.gb_core.specs.declared.ty.Ty.TheVariants.{Bool as bool_ty, Distr}
 use Rattle.gb_core.specs.declared.value.Value.TheVariants.{Num}
+use Rattle.gb_core.specs.declared.var.Var.{Var}
 use Rattle.gb_limits.specs.Numbers.{number_of}
 use Rattle.gb_same.proofs.Decided.{ty_eq-Decides}
 use Rattle.gb_same.specs.Types.{ty_eq}
@@ -33,6 +34,8 @@ use Rattle.gb_script.specs.Tree.{head_of, text_of, parts_of, place_of}
 use Rattle.gb_goal.specs.Answers.{Answer, ◌>>=◌, given_or}
 use Rattle.gb_goal.specs.Answers.Answer.{given, refused}
 use Rattle.gb_goal.specs.declared.scope.Constant.{Constant}
+use Rattle.gb_goal.specs.Scope.{Declarations}
+use Rattle.gb_mods.specs.Footprint.{footprint}
 use Rattle.gb_goal.specs.declared.scope.OperatorType.{OperatorType}
 use Rattle.gb_names.specs.declared.binders.Quantifier.{Quantifier}
 use Rattle.gb_names.specs.declared.binders.Quantifier.TheVariants.{Forall, Exists}
@@ -42,7 +45,7 @@ use Rattle.gb_names.specs.Allowed.{coin, distribution_here, formula, has_judgmen
 use Rattle.gb_names.specs.Binders.{bound_by, over, over_all, quantifier_of}
 use Rattle.gb_names.specs.Environment.{Environment, on_side}
 use Rattle.gb_names.specs.Judgments.{Named, both_procedures, one_procedure, before, after, equivalent}
-use Rattle.gb_names.specs.Names.{constant_at, known_at, memory_at, operator_at, named, path, sided, unit}
+use Rattle.gb_names.specs.Names.{ModuleVariable, constant_at, global_variable, known_at, memory_at, operator_at, named, path, sided, unit}
 use Rattle.gb_names.specs.Types.{type_of, type_or_number}
 use Rattle.gb_names.specs.Wanted.{HasType, fits, truth, type_of_term, wanted}
 use Rattle.gb_names.proofs.Nodes.{said, Known as Told, parts, by_parts}
@@ -63,7 +66,8 @@ use Rattle.gb_elab.specs.declared.contract.Contract.{Contract}
 use Rattle.gb_elab.specs.OneProcedure.{after_one, always, around, ends, lossless, one, relation, with_chance}
 use Rattle.gb_elab.specs.Probability.{before_call, called, chance, chance_here}
 use Rattle.gb_elab.specs.Equalities.{equalities, equality, equation, equation_of, joined, with_equalities}
-use Rattle.gb_elab.specs.Forms.{Meaning, Part, Typing, annotated, applied as applied_name, applied_form, application, bare, bounded, bracketed, bracketed_function, by_rule, call, contract, declared, equivalence, function_typing, hoare, meaning, meant, only, operand, operands, operation, operator_alone, plain_function, probability, projection, quantified, read, simple, summed, typed_function, typing, under, user_call, value_of, with_side}
+use Rattle.gb_elab.specs.Globs.{Seen, agreement, agreement_on, agreements, agrees, bare_glob, behind_if, both_whole, same_globals, global_named, module_at, true_if_none, whole_alone, whole_equation, whole_read, with_agreement}
+use Rattle.gb_elab.specs.Forms.{Meaning, Part, Typing, annotated, applied as applied_name, applied_form, application, bare, bounded, bracketed, bracketed_function, by_rule, call, comparing, contract, declared, equivalence, function_typing, hoare, meaning, meant, only, operand, operands, operation, operator_alone, plain_function, probability, projection, quantified, read, simple, summed, typed_function, typing, under, user_call, value_of, with_side}
 
 refused_not : {A : Type 0} (w : Why) (p : Place) (y : A) → refused w p ≡ given y → (C : Type 0) → C
 refused_not w p y h C = cc
@@ -120,10 +124,53 @@ equality_type at bound x p u h =
     let q = if_given (ty_eq (type_of_term r.0) (type_of_term l.0)) (applied op.Equal (l.0 ∷ r.0 ∷ []) bool_ty) TypeMismatch p u r.2 in
     ap type_of_term (sym q.1) ∙ node_type (Builtin op.Equal) (l.0 ∷ r.0 ∷ []) bool_ty
 
+-- where a form is a truth, if there is one
+abbrev IsTruthIf : Option Term → Type 0
+IsTruthIf None = Unit {0}
+IsTruthIf (Some t) = type_of_term t ≡ bool_ty
+
+behind_type : (o : Option Term) (e : Term) → type_of_term e ≡ bool_ty → type_of_term (behind_if o e) ≡ bool_ty
+behind_type None e k = k
+behind_type (Some f) e k = node_type (Builtin op.And) (f ∷ e ∷ []) bool_ty
+
+with_type : (s r : Side) (o : Option Term) (g : Option ModuleVariable) → IsTruthIf o → IsTruthIf (with_agreement s r o g)
+with_type s r o None h = h
+with_type s r o (Some g) h = behind_type o (agrees s r g) (node_type (Builtin op.Equal) (global_variable s g ∷ global_variable r g ∷ []) bool_ty)
+
+agreements_type : (ds : Declarations) (s r : Side) (o : Option Term) (xs : List Var) → IsTruthIf o → IsTruthIf (agreements ds s r o xs)
+agreements_type ds s r o [] h = h
+agreements_type ds s r o (x ∷ xs) h = agreements_type ds s r (with_agreement s r o (global_named ds x)) xs (with_type s r o (global_named ds x) h)
+
+all_type : (o : Option Term) → IsTruthIf o → type_of_term (true_if_none o) ≡ bool_ty
+all_type None h = node_type (Lit (Num 1)) [] bool_ty
+all_type (Some f) h = h
+
+agreement_on_type : (ds : Declarations) (s r : Side) (p : Place) (o : Option (List Var)) (u : Term) → agreement_on ds s r p o ≡ given u → type_of_term u ≡ bool_ty
+agreement_on_type ds s r p None u h = refused_not Syntax p u h _
+agreement_on_type ds s r p (Some xs) u h = ap type_of_term (sym (given_is _ u h)) ∙ all_type (agreements ds s r None xs) (agreements_type ds s r None xs tt)
+
+same_globals_type : (at : Environment) (bound : List Binding) (m : Node) (u : Term) → same_globals at bound m ≡ given u → type_of_term u ≡ bool_ty
+same_globals_type at bound m u h =
+    let n = given_bind (module_at at bound m) (λ n. agreement at.declared n side.Left side.Right (place_of m)) u h in
+    agreement_on_type at.declared side.Left side.Right (place_of m) (footprint at.declared n.0) u n.2
+
+whole_equation_has : (at : Environment) (bound : List Binding) (w : Option Ty) (p : Place) (a b : Seen) (u : Term) → whole_equation at bound w p a b ≡ given u → HasType w u
+whole_equation_has at bound w p a b u h =
+    let end = λ (l r : List ℕ × Side). if bytes_eq l.0 r.0 then agreement at.declared l.0 l.1 r.1 p else refused Argument a.2 in
+    let q = given_bind (truth w p) (λ _. whole_read at bound a >>= λ l. whole_read at bound b >>= λ r. end l r) u h in
+    let l = given_bind (whole_read at bound a) (λ l. whole_read at bound b >>= λ r. end l r) u q.2 in
+    let r = given_bind (whole_read at bound b) (λ r. end l.0 r) u l.2 in
+    let k = if_else_refused (bytes_eq l.0.0 r.0.0) Argument a.2 (agreement at.declared l.0.0 l.0.1 r.0.1 p) u r.2 in
+    truth_has w p q.0 u q.1 (agreement_on_type at.declared l.0.1 r.0.1 p (footprint at.declared l.0.0) u k)
+
+alone_not : (at : Environment) (bound : List Binding) (o : Option Seen) (p : Place) (u : Term) → whole_alone at bound o p ≡ given u → (C : Type 0) → C
+alone_not at bound None p u h C = refused_not Syntax p u h C
+alone_not at bound (Some w) p u h C = let q = given_bind (whole_read at bound w) (λ _. refused Argument p) u h in refused_not Argument p u q.2 C
+
 equation_type : (at : Environment) (bound : List Binding) (h : Head) (x : List ℕ) (ts : List Node) (p : Place) (u : Term) → equation at bound h x ts p ≡ given u → type_of_term u ≡ bool_ty
 equation_type at bound head.Name x ts p u h = equality_type at bound x p u h
 equation_type at bound head.Path x ts p u h = equality_type at bound (path ts) p u h
-equation_type at bound head.EquatedGlob x (m ∷ ts) p u h = refused_not Syntax (place_of m) u h _
+equation_type at bound head.EquatedGlob x (m ∷ []) p u h = same_globals_type at bound m u h
 equation_type at bound _ x ts p u h = refused_not Syntax p u h _
 
 with_equalities_type : (at : Environment) (bound : List Binding) (f : Term) (xs : List Node) (u : Term) → type_of_term f ≡ bool_ty → with_equalities at bound f xs ≡ given u → type_of_term u ≡ bool_ty
@@ -336,6 +383,10 @@ operation_has (Some o) [] p at bound w u h = refused_not Syntax p u h (HasType w
 operation_has (Some o) (a ∷ b ∷ c ∷ ts) p at bound w u h = refused_not Syntax p u h (HasType w u)
 operation_has None ts p at bound w u h = refused_not Syntax p u h (HasType w u)
 
+comparing_has : (o : Option (Seen × Seen)) (x : List ℕ) (ts : List Part) (p : Place) → HasTypes (comparing o x ts p)
+comparing_has (Some s) x ts p at bound w u h = whole_equation_has at bound w p s.0 s.1 u h
+comparing_has None x ts p at bound w u h = operation_has (operator_of head.Compared x) ts p at bound w u h
+
 equivalence_has : (ts : List Part) (p : Place) → HasTypes (equivalence ts p)
 equivalence_has (f ∷ g ∷ a ∷ b ∷ []) p at bound w u h =
     let end = λ (both : Named × Named) (pre post : Term). given (equivalent both.0.0 both.1.0 pre post) in
@@ -434,6 +485,8 @@ of_parts head.Apply x ks p at bound w u h = applied_form_has (all ks) p at bound
 of_parts head.Equalities x ks p at bound w u h =
     let q = given_bind (truth w p) (λ _. equalities at bound (bare (all ks)) p) u h in
     truth_has w p q.0 u q.1 (equalities_type at bound (bare (all ks)) p u q.2)
+of_parts head.Glob x ks p at bound w u h = alone_not at bound (bare_glob (bare (all ks)) None p) p u h (HasType w u)
+of_parts head.Compared x ks p at bound w u h = comparing_has (both_whole x (bare (all ks))) x (all ks) p at bound w u h
 of_parts head.Quantified x ks p at bound w u h = quantified_has x ks p at bound w u h
 of_parts head.Equiv x ks p at bound w u h = equivalence_has (all ks) p at bound w u h
 of_parts head.Hoare x ks p at bound w u h = hoare_has (all ks) p at bound w u h

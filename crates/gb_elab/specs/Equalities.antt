@@ -18,6 +18,7 @@ use Rattle.gb_names.specs.declared.bindings.Binding.{Binding}
 use Rattle.gb_names.specs.Environment.{Name, Environment, on_side}
 use Rattle.gb_names.specs.Names.{path, sided}
 use Rattle.gb_names.specs.Wanted.{type_of_term}
+use Rattle.gb_elab.specs.Globs.{same_globals}
 
 -- the equality of a variable of two programs
 unfoldable pub equality : Environment → List Binding → Name → Place → Answer Term
@@ -26,11 +27,11 @@ equality at bound x p = do
   r ← sided at bound x side.Right p
   if ty_eq (type_of_term r) (type_of_term l) then given (applied op.Equal (l ∷ r ∷ []) bool_ty) else refused TypeMismatch p
 
--- what `={..}` says of one thing; the globals of a module aren't built yet
+-- what `={..}` says of one thing: a variable, or all globals of a module
 abbrev pub equation : Environment → List Binding → Head → Name → List Node → Place → Answer Term
 equation at bound head.Name x ps p = equality at bound x p
 equation at bound head.Path x ps p = equality at bound (path ps) p
-equation at bound head.EquatedGlob x (m ∷ ps) p = not_built (place_of m)
+equation at bound head.EquatedGlob x (m ∷ []) p = same_globals at bound m
 equation at bound _ x ps p = not_built p
 
 abbrev pub equation_of : Environment → List Binding → Node → Answer Term

@@ -46,6 +46,7 @@ use Rattle.gb_elab.specs.declared.contract.Contract.{Contract}
 use Rattle.gb_elab.specs.OneProcedure.{after_one, always, around, before_one, lossless, relation, with_chance}
 use Rattle.gb_elab.specs.Probability.{before_call, called, chance, chance_here}
 use Rattle.gb_elab.specs.Equalities.{equalities}
+use Rattle.gb_elab.specs.Globs.{Seen, bare_glob, both_whole, whole_alone, whole_equation}
 
 -- what a form means, in an environment, under bound names, the innermost first, and with a wanted type, or none
 abbrev pub Typing : Type 0
@@ -91,10 +92,11 @@ declared None None x p at bound w = named at bound x p >>= wanted w p
 abbrev pub simple : Name → Place → Typing
 simple x p at bound w = option_map_or (λ k. constant k w p) (known_at at bound x) (declared (constant_at at bound x) (operator_at at bound x) x p at bound w)
 
--- a form with a side, which is of a name alone
+-- a form with a side, which is of a name, or of all globals of a module
 abbrev pub read : Environment → List Binding → Head → Name → List Node → Place → Node → Answer Term
 read at bound head.Name x ps p s = beside (head_of s) s at bound x p
 read at bound head.Path x ps p s = beside (head_of s) s at bound (path ps) p
+read at bound head.Glob x ps p s = whole_alone at bound (bare_glob ps (Some s) p) p
 read at bound _ x ps p s = refused Argument p
 
 abbrev pub with_side : List Node → Place → Typing
@@ -138,6 +140,14 @@ operation (Some o) (a ∷ b ∷ []) p at bound w =
     if right_first a.0 b.0 then from_right (rule_for o true b.0) (a ∷ b ∷ []) p at bound w
     else by_rule (rule_for o false b.0) (a ∷ b ∷ []) p at bound w
 operation _ ps p at bound w = not_built p
+
+-- a comparison, which may be an equation of all globals of a module in two memories
+abbrev pub comparing : Option (Seen × Seen) → Name → List Part → Place → Typing
+comparing (Some s) x ps p at bound w = whole_equation at bound w p s.0 s.1
+comparing None x ps p at bound w = operation (operator_of head.Compared x) ps p at bound w
+
+abbrev pub compared : Name → List Part → Place → Typing
+compared x ps p at bound w = comparing (both_whole x (bare ps)) x ps p at bound w
 
 -- a form with the type that the text gives it
 abbrev pub annotated : List Part → Place → Typing
@@ -300,6 +310,8 @@ typing head.Apply x ps p at bound w = applied_form ps p at bound w
 typing head.Equalities x ps p at bound w = do
   _ ← truth w p
   equalities at bound (bare ps) p
+typing head.Glob x ps p at bound w = whole_alone at bound (bare_glob (bare ps) None p) p
+typing head.Compared x ps p at bound w = compared x ps p at bound w
 typing head.Quantified x ps p at bound w = quantified x ps p at bound w
 typing head.Equiv x ps p at bound w = equivalence ps p at bound w
 typing head.Hoare x ps p at bound w = hoare ps p at bound w

@@ -1,4 +1,5 @@
 pub mod OneProcedure
 pub mod Probability
+pub mod Globs
 pub mod Equalities
 pub mod Forms

@@ -11,6 +11,7 @@ ghost use Rattle.gb_goal.specs.Answers.Answer.{given, refused};
 ghost use Rattle.gb_names.specs.Environment.{environment};
 ghost use Rattle.gb_elab.specs.Equalities.{equalities, equality, equation, equation_of, with_equalities};
 
+use crate::globs::same_globals;
 use gb_core::name::Name;
 use gb_core::place::Place;
 use gb_core::refusal::Refused;
@@ -86,7 +87,7 @@ fn equation_at(
         Head::Name => equality(alloc, at, bound, text, place),
         Head::Path => equality(alloc, at, bound, &path(alloc, parts)?, place),
         Head::EquatedGlob => match parts {
-            [module, ..] => Err(not_built(module.place)),
+            [module] => same_globals(alloc, at, bound, module),
             _ => Err(not_built(place)),
         },
         _ => Err(not_built(place)),

@@ -7,16 +7,18 @@ ghost use Rattle.gb_goal.specs.Answers.{Answers, Gives, ◌>>=◌ as ◌and_then
 ghost use Rattle.gb_core.specs.declared.refusal.Why.TheVariants.{TypeMismatch};
 ghost use Rattle.gb_goal.specs.Answers.Answer.{given, refused};
 ghost use Rattle.gb_names.specs.Allowed.{judgment};
+ghost use Rattle.gb_elab.specs.Globs.{both_whole};
 ghost use Rattle.gb_elab.specs.OneProcedure.{after_one, around, before_one, lossless, with_chance};
 ghost use Rattle.gb_elab.specs.Probability.{before_call, chance};
 ghost use Rattle.gb_names.specs.Environment.{ambient, environment};
 ghost use Rattle.gb_names.specs.Names.{constant_at, memory_at, operator_at, path};
 ghost use Rattle.gb_operators.specs.Rules.{asked};
 ghost use Rattle.gb_names.specs.Judgments.{after, before, equivalent};
-ghost use Rattle.gb_elab.specs.Forms.{annotated, applied, applied_form, application, arguments, arguments_of, bounded, bracketed, bracketed_function, by_rule, call, contract, contract_of, declared, elaborated, equivalence, hoare, from_right, function, function_of, function_typing, listed, meant, only, operand, operands, operation, operator_alone, plain_function, probability, projection, quantified, read, simple, summed, typed_function, typing, under, user_call, value_of, with_meanings, with_side};
+ghost use Rattle.gb_elab.specs.Forms.{annotated, applied, applied_form, application, arguments, arguments_of, bounded, bracketed, bracketed_function, by_rule, call, comparing, contract, contract_of, declared, elaborated, equivalence, hoare, from_right, function, function_of, function_typing, listed, meant, only, operand, operands, operation, operator_alone, plain_function, probability, projection, quantified, read, simple, summed, typed_function, typing, under, user_call, value_of, with_meanings, with_side};
 
 use crate::contract::{Contract, always, lossless, relation, with_chance};
 use crate::equalities::equalities;
+use crate::globs::{bare_glob, both_whole, whole_alone, whole_equation};
 use crate::probability::{called, chance, chance_here};
 use gb_core::name::Name;
 use gb_core::place::Place;
@@ -141,6 +143,8 @@ fn typing(
         Head::Weights => weights(alloc, at, bound, parts, want, place),
         Head::Apply => applied_form(alloc, at, bound, parts, place, want),
         Head::Equalities => equalities(alloc, at, bound, parts, want, place),
+        Head::Glob => whole_alone(alloc, at, bound, bare_glob(parts, None, place), place),
+        Head::Compared => compared(alloc, at, bound, text, parts, place, want),
         Head::Quantified => quantified(alloc, at, bound, text, parts, place, want),
         Head::Equiv => equivalence(alloc, at, bound, parts, place, want),
         Head::Hoare => hoare(alloc, at, bound, parts, place, want),
@@ -227,7 +231,7 @@ fn at_path(
     simple(alloc, at, bound, &name, want, place)
 }
 
-/// The typed tree of a form with a side, which is of a name alone.
+/// The typed tree of a form with a side, which is of a name; all globals of a module stand in equations alone.
 fn read(
     alloc: Global,
     at: &Setting<'_>,
@@ -242,6 +246,10 @@ fn read(
         Head::Path => {
             let name = path(alloc, t.parts.as_slice())?;
             beside(alloc, at, bound, &name, side, t.place)
+        }
+        Head::Glob => {
+            let read = bare_glob(t.parts.as_slice(), Some(side), t.place);
+            whole_alone(alloc, at, bound, read, t.place)
         }
         _ => Err(argument(t.place)),
     }
@@ -434,6 +442,28 @@ fn operation(
             }
         }
         _ => Err(not_built(place)),
+    }
+}
+
+/// A comparison, which may be an equation of all globals of a module in two memories.
+#[cycle(form)]
+fn compared(
+    alloc: Global,
+    at: &Setting<'_>,
+    bound: &[Binding],
+    sign: &Name,
+    parts: &[Node],
+    place: Place,
+    want: Option<&Ty>,
+) -> Result<Term, Refused>
+    ensures { Answers (comparing (both_whole sign.now parts.now) sign.now (with_meanings parts.now) place (environment at.now) bound.now (option_copied want.entry)) result }
+{
+    match both_whole(sign, parts) {
+        Some((left, right)) => whole_equation(alloc, at, bound, want, place, &left, &right),
+        None => {
+            let operator = operator_of(Head::Compared, sign);
+            operation(alloc, at, bound, operator, parts, place, want)
+        }
     }
 }
 

@@ -4,5 +4,6 @@
 pub mod contract;
 pub mod equalities;
 pub mod form;
+pub mod globs;
 pub mod laws;
 pub mod probability;

@@ -1,5 +1,5 @@
 -- The forms that steps on conclusions bring to goals are typed.
-use Rattle.std.proofs.Common.{◌≡◌, Bool, true, false, if◌then◌else◌, ℕ, List, [], ◌∷◌, Some, refl, ap, sym, subst}
+use Rattle.std.proofs.Common.{◌≡◌, Bool, true, false, if◌then◌else◌, ℕ, List, [], ◌∷◌, Some, refl, ap, sym, ◌∙◌, subst}
 use Rattle.std.proofs.lemmas.Bool.{false≢true}
 use Rattle.std.specs.Prelude.{codes, bytes_eq}
 use Rattle.std.specs.List.{AllByRecursion}
@@ -8,7 +8,10 @@ use Rattle.gb_core.specs.declared.ty.Ty.{Ty}
 use Rattle.gb_core.specs.declared.ty.Ty.TheVariants as ty
 use Rattle.gb_terms.specs.declared.term.Term.{Term, Term', Row_of-Term, end_of-Term, more_of-Term, end_of-Head, more_of-Head, out-Term}
 use Rattle.gb_terms.specs.declared.term.Head.{Head}
+use Rattle.gb_terms.specs.declared.op.Side.{Side}
+use Rattle.gb_terms.specs.declared.op.Side.TheVariants as side
 use Rattle.gb_terms.specs.declared.term.Head.TheVariants as head
+use Rattle.gb_terms.specs.Make.{node}
 use Rattle.gb_goal.specs.Scope as scope
 use Rattle.gb_goal.specs.declared.sequent.Sequent.{Sequent}
 use Rattle.gb_steps.specs.declared.step.Acts.{Acts}
@@ -20,7 +23,7 @@ use Rattle.gb_steps.specs.declared.step.Rule.TheVariants as rule
 use Rattle.gb_steps.specs.declared.step.BodyRule.TheVariants as on_bodies
 use Rattle.gb_steps.specs.declared.step.Multiple.{Multiple}
 use Rattle.gb_steps.specs.declared.step.Step.{Step}
-use Rattle.gb_goal.specs.Answers.{Answer, not_built}
+use Rattle.gb_goal.specs.Answers.{Answer, ◌>>=◌, not_built}
 use Rattle.gb_steps.specs.declared.step.RewriteRule.TheVariants as rewrite_rule
 use Rattle.gb_steps.specs.Told.{told}
 use Rattle.gb_steps.specs.declared.step.UseRule.{UseRule}
@@ -42,20 +45,26 @@ use Rattle.gb_typing.specs.Sequents.{IsConclusion, of_sequent, IsTypedSequent}
 use Rattle.gb_typing.specs.Scopes.{context_of, IsTypedScope}
 use Rattle.gb_names.specs.Environment.{ambient}
 use Rattle.gb_elab.specs.Forms.{elaborated}
-use Rattle.gb_elab_mod.specs.Steps.{asked_of, acts, coupling_rule, couplings, cut_of, functions_of, conclusion_rule, conseq_rule, formed, case_of_bodies, case_of_conclusion, of_bodies_rule, on_all, plain_rule, seq_rule, typed_rule, step_given, chance_rule, judges_chance, symmetry_rule}
+use Rattle.gb_elab_mod.specs.Steps.{asked_of, acts, coupling_rule, couplings, cut_of, functions_of, conclusion_rule, conseq_rule, formed, case_of_bodies, case_of_conclusion, of_bodies_rule, on_all, plain_rule, seq_rule, sided_case_rule, typed_rule, step_given, chance_rule, judges_chance, symmetry_rule, asks_for_locals, memory_witness, value_witness, witness_rule}
 use Rattle.gb_elab_mod.specs.Multiples.{hypothesis_at, multiples}
-use Rattle.gb_elab_mod.specs.Uses.{all_hinted, hypothesis, used}
+use Rattle.gb_elab_mod.specs.Uses.{all_hinted, defined_operator, hypothesis, used, is_memory, memory_of}
 use Rattle.gb_elab_mod.specs.Taken.{new_name}
 use Rattle.gb_elab_prog.specs.Unbuilt.{absent}
 use Rattle.gb_elab_laws.specs.Fitting.{IsFormTypeIf, IsWanted}
 use Rattle.gb_elab_laws.proofs.Contracts.{of_call}
 use Rattle.gb_elab_laws.proofs.Shapes.{finite_form}
-use Rattle.gb_elab_laws.proofs.Given.{given_bind, given_is}
+use Rattle.gb_elab_laws.proofs.Given.{given_bind, given_is, if_unbuilt}
 use Rattle.gb_elab_laws.proofs.Fits.{goal_fits}
 use Rattle.gb_elab_laws.proofs.Forms.{elaborated_typed}
-use Rattle.gb_amb.specs.Steps.{IsTypedStep, IsWitness}
+use Rattle.gb_amb.specs.Steps.{IsMemoryWitness, IsTypedStep, IsWitness}
+use Rattle.gb_amb.proofs.Cases.{conclusion_formula}
+use Rattle.gb_laws.proofs.Nodes.{each_is_node}
+use Rattle.gb_typing.proofs.Conclusions.{formula_form}
+use Rattle.gb_typing.proofs.Made.{parts_typed}
+use Rattle.gb_models.proofs.Staying.{without_modules}
 use mathlib.Core.Former.{Count}
-use Rattle.gb_elab_laws.proofs.Used.{all_hinted_typed, hypothesis_typed, used_typed}
+use Rattle.gb_elab_laws.proofs.Remembered.{IsNamedMemory}
+use Rattle.gb_elab_laws.proofs.Used.{IsNamed, all_hinted_typed, hypothesis_typed, memory_named, said_of_memory_typed, used_typed}
 use Rattle.gb_use.specs.Lemmas.{IsKnown}
 use Rattle.gb_elab_laws.specs.Procedures.{AreStated}
 use Rattle.gb_use.specs.Uses.{used_by}
@@ -178,6 +187,11 @@ module _ (ds : scope.Declarations) (scoped : IsTypedScope (declared ds)) (q : Se
       let z = given_bind (formed ds q f) (λ (t : Term). given (rule.Ambient (conclusion.Case t))) k h in
       brings (conclusion.Case z.0) (form_typed f z.0 z.1) k (given_is (rule.Ambient (conclusion.Case z.0)) k z.2)
 
+  of_sides : (a : Acts) (f : Node) (k : Rule) → sided_case_rule ds q a f ≡ given k → HasForms k
+  of_sides on.All f k h = of_case f k (judges_bodies (out-Term q.conclusion).head) h
+  of_sides on.Left f k h = other (rule.OnBodies on_bodies.Unfit) k refl (given_is (rule.OnBodies on_bodies.Unfit) k h)
+  of_sides on.Right f k h = other (rule.OnBodies on_bodies.Unfit) k refl (given_is (rule.OnBodies on_bodies.Unfit) k h)
+
   -- the type of what is said to exist is one of values
   quantified_finite : {n : Count} (u : Ty) (ts : Row_of-Term n) (r : Ty) → IsHead (erased here) (head.Some u) (types_of ts) r → IsFinite u
   quantified_finite u (more_of-Term a end_of-Term) r w = w.0
@@ -199,12 +213,39 @@ module _ (ds : scope.Declarations) (scoped : IsTypedScope (declared ds)) (q : Se
       let g = elaborated_typed n here (ambient ds q) [] (goal_fits ds scoped q t) w (asked_finite q.conclusion t.conclusion) e h in
       witness_typed (out-Term q.conclusion).head e g.typed g.wanted
 
+  -- what is said to exist is said of a memory of the context
+  memory_typed : (i : ℕ) → IsNamedMemory here (side.Memory i) → (h : Head) (ts : List Term) → (out-Term q.conclusion).head ≡ h → (out-Term q.conclusion).args ≡ ts → asks_for_locals h ts ≡ false →
+      IsMemoryWitness here i h ts
+  memory_typed i m head.SomeMemory (b ∷ []) eh et e =
+      let r = (out-Term q.conclusion).ty in
+      let whole : q.conclusion ≡ node head.SomeMemory (b ∷ []) r = each_is_node q.conclusion ∙ (λ k. node (eh k) (et k) r) in
+      let front = without_modules ds q t in
+      let form : IsForm here q.conclusion = formula_form here q.conclusion (conclusion_formula here q.conclusion t.conclusion (ap judges_bodies eh)) front.conclusion in
+      let v = subst (IsForm here) whole form in
+      let p = parts_typed here head.SomeMemory (b ∷ []) r v.typed in
+      said_of_memory_typed ds scoped q t i m p.2 b (record { typed = p.3; truth = p.0.0 }) e
+  memory_typed i m h ts eh et e = tt
+
+  of_memory : (s : Side) (p : Place) (a : AmbientRule) → IsNamed ds scoped q t s → memory_witness q s p ≡ given a → IsTypedStep here q.conclusion a
+  of_memory s p a m k =
+      let z = if_unbuilt (asks_for_locals (out-Term q.conclusion).head (out-Term q.conclusion).args) p (conclusion.WitnessMemory m.number) a (subst (λ x. memory_witness q x p ≡ given a) m.is k) in
+      subst (IsTypedStep here q.conclusion) z.1 (memory_typed m.number (subst (IsNamedMemory here) m.is m.named) _ _ refl refl z.0)
+
+  witness_brings : (n : Node) (a : AmbientRule) (b : Bool) →
+      (if b then (memory_of ds q (head_of n) (parts_of n) (place_of n) >>= λ s. memory_witness q s (place_of n)) else value_witness ds q n) ≡ given a → IsTypedStep here q.conclusion a
+  witness_brings n a true k =
+      let y = given_bind (memory_of ds q (head_of n) (parts_of n) (place_of n)) (λ s. memory_witness q s (place_of n)) a k in
+      of_memory y.0 (place_of n) a (memory_named ds scoped q t (head_of n) (parts_of n) (place_of n) y.0 y.1) y.2
+  witness_brings n a false k =
+      let o = given_bind (elaborated n (ambient ds q) [] (asked_of (out-Term q.conclusion).head)) (λ (u : Term). given (conclusion.Witness u)) a k in
+      subst (IsTypedStep here q.conclusion) (given_is (conclusion.Witness o.0) a o.2) (of_witness n o.0 o.1)
+
   rule_forms : (n : Kind) (x : List ℕ) (xs : List Node) (p : Place) (k : Rule) → typed_rule ds q n x xs p ≡ given k → HasForms k
   rule_forms text.PlainStep x [] p k h =
       let o = given_bind (conclusion_rule x p) (λ (a : AmbientRule). given (rule.Ambient a)) k h in brings o.0 (plain_typed x p o.0 o.1) k (given_is (rule.Ambient o.0) k o.2)
   rule_forms text.CallStep x (b ∷ n ∷ []) p k h = of_call ds q HasForms (λ s. tt) tt (acts (parts_of b)) (head_of n) (parts_of n) p k h
   rule_forms text.CaseStep x (b ∷ f ∷ []) p k h =
-      let o = given_bind (absent (parts_of b) p) _ k h in of_case f k (judges_bodies (out-Term q.conclusion).head) o.2
+      of_sides (acts (parts_of b)) f k h
   rule_forms text.HaveForm x (n ∷ f ∷ []) p k h =
       let o = given_bind (new_name q (text_of n) (place_of n)) _ k h in
       let z = given_bind (formed ds q f) (λ (t : Term). given (rule.Ambient (conclusion.Have (text_of n) t))) k o.2 in
@@ -242,6 +283,9 @@ module _ (ds : scope.Declarations) (scoped : IsTypedScope (declared ds)) (q : Se
   rule_forms text.Subst x (n ∷ []) p k h =
       let z = given_bind (hypothesis_at ds q (text_of n) (place_of n)) (λ (i : ℕ). given (rule.Rewrite (rewrite_rule.Subst i))) k h in
       subst HasForms (given_is (rule.Rewrite (rewrite_rule.Subst z.0)) k z.2) (λ lemmas. tt)
+  rule_forms text.RewriteOperator x (n ∷ []) p k h =
+      let z = given_bind (defined_operator ds q n) (λ (y : List ℕ). given (rule.Rewrite (rewrite_rule.Unfold y))) k h in
+      subst HasForms (given_is (rule.Rewrite (rewrite_rule.Unfold z.0)) k z.2) (λ lemmas. tt)
   rule_forms text.Smt x hints p k h =
       let z = given_bind (all_hinted ds q hints) (λ (fs : List Term). given (rule.Smt fs)) k h in
       subst HasForms (given_is (rule.Smt z.0) k z.2) (λ lemmas. all_hinted_typed ds scoped q t lemmas hints z.0 z.1)
@@ -253,8 +297,8 @@ module _ (ds : scope.Declarations) (scoped : IsTypedScope (declared ds)) (q : Se
   rule_forms text.BothPatterns x ps p k h = brings conclusion.Unpack tt k (given_is (rule.Ambient conclusion.Unpack) k h)
   rule_forms text.EitherPattern x ps p k h = brings conclusion.Branch tt k (given_is (rule.Ambient conclusion.Branch) k h)
   rule_forms text.Witness x (n ∷ []) p k h =
-      let o = given_bind (elaborated n (ambient ds q) [] (asked_of (out-Term q.conclusion).head)) (λ (u : Term). given (rule.Ambient (conclusion.Witness u))) k h in
-      brings (conclusion.Witness o.0) (of_witness n o.0 o.1) k (given_is (rule.Ambient (conclusion.Witness o.0)) k o.2)
+      let o = given_bind (witness_rule ds q n) (λ (a : AmbientRule). given (rule.Ambient a)) k h in
+      brings o.0 (witness_brings n o.0 (is_memory (head_of n)) o.1) k (given_is (rule.Ambient o.0) k o.2)
   rule_forms text.TrivialPattern x [] p k h = brings conclusion.Trivial tt k (given_is (rule.Ambient conclusion.Trivial) k h)
   rule_forms text.SmtPattern x [] p k h = subst HasForms (given_is (rule.Smt []) k h) (λ lemmas. tt)
   rule_forms _ x _ p k h = cc

@@ -36,28 +36,30 @@ use Rattle.gb_script.specs.declared.head.Head.TheVariants as text
 use Rattle.gb_script.specs.declared.tree.Node.{Node}
 use Rattle.gb_script.specs.Tree.{head_of, text_of, parts_of, place_of}
 use Rattle.gb_holds.specs.Declared.{declared}
-use Rattle.gb_typing.specs.Context.{Context, procedure, with_own}
+use Rattle.gb_typing.specs.Context.{Context, procedure, with_own, with_sides}
 use Rattle.gb_typing.specs.Modules.{ProcedureType}
 use Rattle.gb_typing.specs.Programs.{IsBody, IsCall}
 use Rattle.gb_typing.specs.Scopes.{context_of, IsTypedScope}
 use Rattle.gb_typing.specs.Sequents.{of_sequent, IsTypedSequent}
 use Rattle.gb_typing.specs.Typing.{IsForm, IsThere, before, after}
 use Rattle.gb_typing.specs.Goals.{IsGoalOver}
-use Rattle.gb_names.specs.Environment.{ambient, unary}
+use Rattle.gb_names.specs.Environment.{ambient, relational, unary}
 use Rattle.gb_elab.specs.Forms.{elaborated}
 use Rattle.gb_elab_mod.specs.Multiples.{hypothesis_at, multiples}
-use Rattle.gb_elab_mod.specs.Steps.{asked_of, acts, call_rule, contract_at, contract_of, coupling_rule, couplings, cut_of, functions_of, conclusion_rule, conseq_rule, formed, case_of_bodies, case_of_conclusion, last_procedure, of_bodies_rule, on_all, params_if, plain_rule, procedure_called, result_if, seq_rule, typed_rule, step_given, chance_rule, judges_chance, symmetry_rule}
+use Rattle.gb_elab_mod.specs.Steps.{acts, call_rule, contract_at, contract_of, contract_of_both, coupling_rule, couplings, cut_of, functions_of, conclusion_rule, conseq_rule, formed, case_of_bodies, case_of_conclusion, last_procedure, of_bodies_rule, on_all, params_if, plain_rule, procedure_called, result_if, seq_rule, sided_case_rule, typed_rule, step_given, chance_rule, judges_chance, symmetry_rule, witness_rule}
 use Rattle.gb_elab_mod.specs.Taken.{new_name}
-use Rattle.gb_elab_mod.specs.Uses.{all_hinted, hypothesis, used}
+use Rattle.gb_elab_mod.specs.Uses.{all_hinted, defined_operator, hypothesis, used}
 use Rattle.gb_elab_prog.specs.Unbuilt.{absent}
 use Rattle.gb_call.specs.Call.{IsContract}
 use Rattle.gb_call.specs.LastCall.{LastCall, behind, last_call, of_statement}
-use Rattle.gb_call.specs.Rows.{IsTypedRule}
+use Rattle.gb_call_both.specs.Call.{AreContracts}
+use Rattle.gb_call_both.specs.Rows.{IsTypedRule}
 use Rattle.gb_call.proofs.LastCalls.{called_typed}
 use Rattle.gb_elab_laws.specs.Fitting.{IsFitting}
 use Rattle.gb_elab_laws.proofs.Anew.{fits, params_stand, result_stands}
 use Rattle.gb_elab_laws.proofs.Forms.{elaborated_typed}
 use Rattle.gb_elab_laws.proofs.Given.{given_bind, given_is}
+use Rattle.gb_elab_laws.proofs.Judged.{condition as conditions}
 use Rattle.gb_elab_laws.proofs.OneProcedure.{condition}
 
 -- the procedure of the call that ends a body is that of its last statement
@@ -140,6 +142,11 @@ module _ (ds : scope.Declarations) (scoped : IsTypedScope (declared ds)) (q : Se
   of_case f k false h =
       let z = given_bind (formed ds q f) (λ (t : Term). given (rule.Ambient (conclusion.Case t))) k h in other (rule.Ambient (conclusion.Case z.0)) k refl (given_is (rule.Ambient (conclusion.Case z.0)) k z.2)
 
+  of_sides : (a : Acts) (f : Node) (k : Rule) → sided_case_rule ds q a f ≡ given k → CallTyped k
+  of_sides on.All f k h = of_case f k (judges_bodies (out-Term q.conclusion).head) h
+  of_sides on.Left f k h = other (rule.OnBodies on_bodies.Unfit) k refl (given_is (rule.OnBodies on_bodies.Unfit) k h)
+  of_sides on.Right f k h = other (rule.OnBodies on_bodies.Unfit) k refl (given_is (rule.OnBodies on_bodies.Unfit) k h)
+
   -- `call` at a typed goal
   module _ (w : IsGoalOver here ls rs (goal_of q.conclusion)) where
     -- at a call of this procedure
@@ -155,10 +162,56 @@ module _ (ds : scope.Declarations) (scoped : IsTypedScope (declared ds)) (q : Se
             subst (λ p. IsForm (with_own here (after (procedure here p))) h) (sym n) (post (subst (λ p. IsThere (procedure here p)) n m)),
           )
 
-    of_contract : (is : List Instr) (p g : Term) → goal_of q.conclusion ≡ hoare (body is) p g → IsBody here ls is → (a : Acts) (m n : Node) (o : Option ProcRef) → last_procedure is ≡ o → (k : Rule) → contract_of ds q a m n o ≡ given k → CallTyped k
+    -- at calls of these procedures
+    module _ (is js : List Instr) (b : IsBody here ls is) (d : IsBody here rs js) (r o : ProcRef) (f h : Term)
+        (pre : IsThere (procedure here r) → IsThere (procedure here o) → IsForm (with_sides here (before (procedure here r)) (before (procedure here o))) f)
+        (post : IsThere (procedure here r) → IsThere (procedure here o) → IsForm (with_sides here (after (procedure here r)) (after (procedure here o))) h) (a : Acts) where
+      contracts_typed : (k l : Option LastCall) → last_call is ≡ k → last_call js ≡ l → option_map (λ (k : LastCall). k.procedure) k ≡ Some r → option_map (λ (k : LastCall). k.procedure) l ≡ Some o →
+          AreContracts here (record { acts = a; pre = f; post = h }) k l
+      contracts_typed None l e u i v = tt
+      contracts_typed (Some k) None e u i v = tt
+      contracts_typed (Some k) (Some l) e u i v =
+          let x = called_typed here ls is k b e in
+          let y = called_typed here rs js l d u in
+          let m : k.procedure ≡ r = same_Some k.procedure r i in
+          let n : l.procedure ≡ o = same_Some l.procedure o v in
+          let w : IsThere (procedure here r) = subst (λ p. IsThere (procedure here p)) m (called_there here ls k.targets (procedure here k.procedure) k.arguments x.call) in
+          let z : IsThere (procedure here o) = subst (λ p. IsThere (procedure here p)) n (called_there here rs l.targets (procedure here l.procedure) l.arguments y.call) in (
+            subst (λ c. c) (λ t. IsForm (with_sides here (before (procedure here (sym m t))) (before (procedure here (sym n t)))) f) (pre w z),
+            subst (λ c. c) (λ t. IsForm (with_sides here (after (procedure here (sym m t))) (after (procedure here (sym n t)))) h) (post w z),
+          )
+
+    of_contracts : (is js : List Instr) (p g : Term) → goal_of q.conclusion ≡ equiv (body is) (body js) p g → IsBody here ls is → IsBody here rs js → (a : Acts) (m n : Node) →
+        (o : Option ProcRef) → last_procedure is ≡ o → (u : Option ProcRef) → last_procedure js ≡ u → (k : Rule) → contract_of_both ds q a m n o u ≡ given k → CallTyped k
+    unfolding contract_of_both
+    of_contracts is js p g f b d a m n None e u i k h = other (rule.OnBodies on_bodies.Unfit) k refl (given_is (rule.OnBodies on_bodies.Unfit) k h)
+    of_contracts is js p g f b d a m n (Some r) e None i k h = other (rule.OnBodies on_bodies.Unfit) k refl (given_is (rule.OnBodies on_bodies.Unfit) k h)
+    of_contracts is js p g f b d a m n (Some r) e (Some o) i k h =
+        let x = given_bind (elaborated m (relational ds q (params_if (procedure_of ds r)) (params_if (procedure_of ds o))) [] (Some ty.Bool)) _ k h in
+        let y = given_bind (elaborated n (relational ds q (result_if (procedure_of ds r)) (result_if (procedure_of ds o))) [] (Some ty.Bool)) (λ (f : Term). given (rule.Call (record { acts = a; pre = x.0; post = f }))) k x.2 in
+        let s : Contract = record { acts = a; pre = x.0; post = y.0 } in
+        let pre : IsThere (procedure here r) → IsThere (procedure here o) → IsForm (with_sides here (before (procedure here r)) (before (procedure here o))) x.0 = (λ j l.
+        let fit =
+        conditions here (ambient ds q) [] (fits ds scoped q t ls rs) refl (before (procedure here r)) (before (procedure here o)) (params_if (procedure_of ds r)) (params_if (procedure_of ds o))
+        (params_stand ds scoped q t ls rs r j (procedure_of ds r) refl) (params_stand ds scoped q t ls rs o l (procedure_of ds o) refl) in
+        let z =
+        elaborated_typed m (with_sides here (before (procedure here r)) (before (procedure here o))) (relational ds q (params_if (procedure_of ds r)) (params_if (procedure_of ds o))) [] fit (Some ty.Bool) tt x.0 x.1 in
+        record { typed = z.typed; truth = z.wanted }) in
+        let post : IsThere (procedure here r) → IsThere (procedure here o) → IsForm (with_sides here (after (procedure here r)) (after (procedure here o))) y.0 = (λ j l.
+        let fit =
+        conditions here (ambient ds q) [] (fits ds scoped q t ls rs) refl (after (procedure here r)) (after (procedure here o)) (result_if (procedure_of ds r)) (result_if (procedure_of ds o))
+        (result_stands ds scoped q t ls rs r j (procedure_of ds r) refl) (result_stands ds scoped q t ls rs o l (procedure_of ds o) refl) in
+        let z =
+        elaborated_typed n (with_sides here (after (procedure here r)) (after (procedure here o))) (relational ds q (result_if (procedure_of ds r)) (result_if (procedure_of ds o))) [] fit (Some ty.Bool) tt y.0 y.1 in
+        record { typed = z.typed; truth = z.wanted }) in
+        subst CallTyped (given_is (rule.Call s) k y.2)
+        (subst (IsTypedRule here (rule.Call s) ls rs) (sym f)
+        (contracts_typed is js b d r o x.0 y.0 pre post a (last_call is) (last_call js) refl refl (procedure_same is ∙ e) (procedure_same js ∙ i)))
+
+    of_contract : (is : List Instr) (G : Goal) → goal_of q.conclusion ≡ G → ((s : Contract) → IsContract here s (last_call is) → IsTypedRule here (rule.Call s) ls rs G) → IsBody here ls is → (a : Acts) (m n : Node) (o : Option ProcRef) → last_procedure is ≡ o → (k : Rule) → contract_of ds q a m n o ≡ given k → CallTyped k
     unfolding contract_of
-    of_contract is p g G b a m n None e k h = other (rule.OnBodies on_bodies.Unfit) k refl (given_is (rule.OnBodies on_bodies.Unfit) k h)
-    of_contract is p g G b a m n (Some r) e k h =
+    of_contract is G f put b a m n None e k h = other (rule.OnBodies on_bodies.Unfit) k refl (given_is (rule.OnBodies on_bodies.Unfit) k h)
+    of_contract is G f put b a m n (Some r) e k h =
         let x = given_bind (elaborated m (unary ds q (params_if (procedure_of ds r))) [] (Some ty.Bool)) _ k h in
         let y = given_bind (elaborated n (unary ds q (result_if (procedure_of ds r))) [] (Some ty.Bool)) (λ (f : Term). given (rule.Call (record { acts = a; pre = x.0; post = f }))) k x.2 in
         let s : Contract = record { acts = a; pre = x.0; post = y.0 } in
@@ -171,13 +224,16 @@ module _ (ds : scope.Declarations) (scoped : IsTypedScope (declared ds)) (q : Se
         let z = elaborated_typed n (with_own here (after (procedure here r))) (unary ds q (result_if (procedure_of ds r))) [] fit (Some ty.Bool) tt y.0 y.1 in
         record { typed = z.typed; truth = z.wanted }) in
         subst CallTyped (given_is (rule.Call s) k y.2)
-        (subst (IsTypedRule here (rule.Call s) ls rs) (sym G) (contract_typed is b r x.0 y.0 pre post a (last_call is) refl (procedure_same is ∙ e)))
+        (subst (IsTypedRule here (rule.Call s) ls rs) (sym f) (put s (contract_typed is b r x.0 y.0 pre post a (last_call is) refl (procedure_same is ∙ e))))
 
     at_goal : (G : Goal) → goal_of q.conclusion ≡ G → IsGoalOver here ls rs G → (a : Acts) (m n : Node) (k : Rule) → contract_at ds q a m n G ≡ given k → CallTyped k
-    at_goal (hoare (body is) p g) e v a m n k h = of_contract is p g e v.0 a m n (last_procedure is) refl k h
+    at_goal (hoare (body is) p g) e v a m n k h = of_contract is (hoare (body is) p g) e (λ s z. z) v.0 a m n (last_procedure is) refl k h
     at_goal (hoare (of_procedure r) p g) e v a m n k h = other (rule.OnBodies on_bodies.Unfit) k refl (given_is (rule.OnBodies on_bodies.Unfit) k h)
-    at_goal (phoare d r p g u) e v a m n k h = other (rule.OnBodies on_bodies.Unfit) k refl (given_is (rule.OnBodies on_bodies.Unfit) k h)
-    at_goal (equiv d u p g) e v a m n k h = other (rule.OnBodies on_bodies.Unfit) k refl (given_is (rule.OnBodies on_bodies.Unfit) k h)
+    at_goal (phoare (body is) r p g u) e v a m n k h = of_contract is (phoare (body is) r p g u) e (λ s z. z) v.0 a m n (last_procedure is) refl k h
+    at_goal (phoare (of_procedure d) r p g u) e v a m n k h = other (rule.OnBodies on_bodies.Unfit) k refl (given_is (rule.OnBodies on_bodies.Unfit) k h)
+    at_goal (equiv (body is) (body js) p g) e v a m n k h = of_contracts is js p g e v.1 v.2 a m n (last_procedure is) refl (last_procedure js) refl k h
+    at_goal (equiv (body is) (of_procedure r) p g) e v a m n k h = other (rule.OnBodies on_bodies.Unfit) k refl (given_is (rule.OnBodies on_bodies.Unfit) k h)
+    at_goal (equiv (of_procedure r) u p g) e v a m n k h = other (rule.OnBodies on_bodies.Unfit) k refl (given_is (rule.OnBodies on_bodies.Unfit) k h)
     at_goal (other_form f) e v a m n k h = other (rule.OnBodies on_bodies.Unfit) k refl (given_is (rule.OnBodies on_bodies.Unfit) k h)
 
     call_typed : (a : Acts) (n : Kind) (ns : List Node) (p : Place) (k : Rule) → call_rule ds q a n ns p ≡ given k → CallTyped k
@@ -188,8 +244,7 @@ module _ (ds : scope.Declarations) (scoped : IsTypedScope (declared ds)) (q : Se
     rule_typed text.PlainStep x [] p k h =
         let o = given_bind (conclusion_rule x p) (λ (a : AmbientRule). given (rule.Ambient a)) k h in other (rule.Ambient o.0) k refl (given_is (rule.Ambient o.0) k o.2)
     rule_typed text.CallStep x (b ∷ n ∷ []) p k h = call_typed (acts (parts_of b)) (head_of n) (parts_of n) p k h
-    rule_typed text.CaseStep x (b ∷ f ∷ []) p k h =
-        let o = given_bind (absent (parts_of b) p) _ k h in of_case f k (judges_bodies (out-Term q.conclusion).head) o.2
+    rule_typed text.CaseStep x (b ∷ f ∷ []) p k h = of_sides (acts (parts_of b)) f k h
     rule_typed text.HaveForm x (n ∷ f ∷ []) p k h =
         let o = given_bind (new_name q (text_of n) (place_of n)) _ k h in
         let z = given_bind (formed ds q f) (λ (t : Term). given (rule.Ambient (conclusion.Have (text_of n) t))) k o.2 in
@@ -227,6 +282,9 @@ module _ (ds : scope.Declarations) (scoped : IsTypedScope (declared ds)) (q : Se
     rule_typed text.Subst x (n ∷ []) p k h =
         let z = given_bind (hypothesis_at ds q (text_of n) (place_of n)) (λ (i : ℕ). given (rule.Rewrite (rewrite_rule.Subst i))) k h in
         other (rule.Rewrite (rewrite_rule.Subst z.0)) k refl (given_is (rule.Rewrite (rewrite_rule.Subst z.0)) k z.2)
+    rule_typed text.RewriteOperator x (n ∷ []) p k h =
+        let z = given_bind (defined_operator ds q n) (λ (y : List ℕ). given (rule.Rewrite (rewrite_rule.Unfold y))) k h in
+        other (rule.Rewrite (rewrite_rule.Unfold z.0)) k refl (given_is (rule.Rewrite (rewrite_rule.Unfold z.0)) k z.2)
     rule_typed text.Smt x hints p k h =
         let o = given_bind (all_hinted ds q hints) (λ (fs : List Term). given (rule.Smt fs)) k h in other (rule.Smt o.0) k refl (given_is (rule.Smt o.0) k o.2)
     rule_typed text.Linear x hs p k h =
@@ -237,8 +295,7 @@ module _ (ds : scope.Declarations) (scoped : IsTypedScope (declared ds)) (q : Se
     rule_typed text.BothPatterns x ps p k h = other (rule.Ambient conclusion.Unpack) k refl (given_is (rule.Ambient conclusion.Unpack) k h)
     rule_typed text.EitherPattern x ps p k h = other (rule.Ambient conclusion.Branch) k refl (given_is (rule.Ambient conclusion.Branch) k h)
     rule_typed text.Witness x (n ∷ []) p k h =
-        let o = given_bind (elaborated n (ambient ds q) [] (asked_of (out-Term q.conclusion).head)) (λ (u : Term). given (rule.Ambient (conclusion.Witness u))) k h in
-        other (rule.Ambient (conclusion.Witness o.0)) k refl (given_is (rule.Ambient (conclusion.Witness o.0)) k o.2)
+        let o = given_bind (witness_rule ds q n) (λ (a : AmbientRule). given (rule.Ambient a)) k h in other (rule.Ambient o.0) k refl (given_is (rule.Ambient o.0) k o.2)
     rule_typed text.TrivialPattern x [] p k h = other (rule.Ambient conclusion.Trivial) k refl (given_is (rule.Ambient conclusion.Trivial) k h)
     rule_typed text.SmtPattern x [] p k h = other (rule.Smt []) k refl (given_is (rule.Smt []) k h)
     rule_typed _ x _ p k h = cc

@@ -18,9 +18,9 @@ use Rattle.gb_steps.specs.declared.step.Rule.TheVariants as rule
 use Rattle.gb_script.specs.declared.head.Head.{Head as Kind}
 use Rattle.gb_script.specs.declared.head.Head.TheVariants as text
 use Rattle.gb_script.specs.declared.tree.Node.{Node}
-use Rattle.gb_names.specs.Environment.{unary}
+use Rattle.gb_names.specs.Environment.{relational, unary}
 use Rattle.gb_elab.specs.Forms.{elaborated}
-use Rattle.gb_elab_mod.specs.Steps.{call_rule, contract_at, contract_of, last_procedure, params_if, result_if}
+use Rattle.gb_elab_mod.specs.Steps.{call_rule, contract_at, contract_of, contract_of_both, last_procedure, params_if, result_if}
 use Rattle.gb_elab_laws.proofs.Given.{given_bind, given_is}
 
 -- It is a step of `call`, or one that fits no goal.
@@ -33,11 +33,23 @@ module _ (ds : Declarations) (q : Sequent) (P : Rule → Type 0) (called : (s : 
       let y = given_bind (elaborated n (unary ds q (result_if (procedure_of ds r))) [] (Some ty.Bool)) (λ (f : Term). given (rule.Call (record { acts = a; pre = x.0; post = f }))) k x.2 in
       subst P (given_is (rule.Call (record { acts = a; pre = x.0; post = y.0 })) k y.2) (called (record { acts = a; pre = x.0; post = y.0 }))
 
+  of_both : (a : Acts) (m n : Node) (o u : Option ProcRef) (k : Rule) → contract_of_both ds q a m n o u ≡ given k → P k
+  unfolding contract_of_both
+  of_both a m n None u k h = subst P (given_is (rule.OnBodies on_bodies.Unfit) k h) unfit
+  of_both a m n (Some r) None k h = subst P (given_is (rule.OnBodies on_bodies.Unfit) k h) unfit
+  of_both a m n (Some r) (Some u) k h =
+      let x = given_bind (elaborated m (relational ds q (params_if (procedure_of ds r)) (params_if (procedure_of ds u))) [] (Some ty.Bool)) _ k h in
+      let y = given_bind (elaborated n (relational ds q (result_if (procedure_of ds r)) (result_if (procedure_of ds u))) [] (Some ty.Bool)) (λ (f : Term). given (rule.Call (record { acts = a; pre = x.0; post = f }))) k x.2 in
+      subst P (given_is (rule.Call (record { acts = a; pre = x.0; post = y.0 })) k y.2) (called (record { acts = a; pre = x.0; post = y.0 }))
+
   at_goal : (a : Acts) (m n : Node) (G : Goal) (k : Rule) → contract_at ds q a m n G ≡ given k → P k
   at_goal a m n (hoare (body is) p f) k h = of_contract a m n (last_procedure is) k h
   at_goal a m n (hoare (procedure r) p f) k h = subst P (given_is (rule.OnBodies on_bodies.Unfit) k h) unfit
-  at_goal a m n (phoare c r p f b) k h = subst P (given_is (rule.OnBodies on_bodies.Unfit) k h) unfit
-  at_goal a m n (equiv c d p f) k h = subst P (given_is (rule.OnBodies on_bodies.Unfit) k h) unfit
+  at_goal a m n (phoare (body is) r p f b) k h = of_contract a m n (last_procedure is) k h
+  at_goal a m n (phoare (procedure c) r p f b) k h = subst P (given_is (rule.OnBodies on_bodies.Unfit) k h) unfit
+  at_goal a m n (equiv (body is) (body js) p f) k h = of_both a m n (last_procedure is) (last_procedure js) k h
+  at_goal a m n (equiv (body is) (procedure r) p f) k h = subst P (given_is (rule.OnBodies on_bodies.Unfit) k h) unfit
+  at_goal a m n (equiv (procedure r) d p f) k h = subst P (given_is (rule.OnBodies on_bodies.Unfit) k h) unfit
   at_goal a m n (ambient f) k h = subst P (given_is (rule.OnBodies on_bodies.Unfit) k h) unfit
 
   pub of_call : (a : Acts) (n : Kind) (ns : List Node) (p : Place) (k : Rule) → call_rule ds q a n ns p ≡ given k → P k

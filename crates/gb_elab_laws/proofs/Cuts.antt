@@ -39,12 +39,12 @@ use Rattle.gb_typing.specs.Scopes.{context_of, IsTypedScope}
 use Rattle.gb_typing.specs.Goals.{IsGoalOver}
 use Rattle.gb_goal.specs.Answers.{not_built}
 use Rattle.gb_goal.specs.Answers.Answer.{given}
-use Rattle.gb_names.specs.Environment.{ambient as outside, relational, unary}
+use Rattle.gb_names.specs.Environment.{relational, unary}
 use Rattle.gb_elab.specs.Forms.{elaborated}
 use Rattle.gb_elab_mod.specs.Occurring.{occurring}
-use Rattle.gb_elab_mod.specs.Steps.{acts, case_of_bodies, case_of_conclusion, case_rule, conclusion_rule, conseq_rule, coupling_rule, couplings, cut_of, cut_rule, formed, functions_of, of_bodies_rule, on_all, plain_rule, seq_rule, step_given, typed_rule, asked_of, chance_rule, judges_chance, symmetry_rule}
+use Rattle.gb_elab_mod.specs.Steps.{acts, case_of_bodies, case_of_conclusion, case_rule, conclusion_rule, conseq_rule, coupling_rule, couplings, cut_of, cut_rule, formed, functions_of, of_bodies_rule, on_all, plain_rule, seq_rule, sided_case_rule, step_given, typed_rule, asked_of, chance_rule, judges_chance, symmetry_rule, witness_rule}
 use Rattle.gb_elab_mod.specs.Multiples.{hypothesis_at, multiples}
-use Rattle.gb_elab_mod.specs.Uses.{all_hinted, hypothesis, used}
+use Rattle.gb_elab_mod.specs.Uses.{all_hinted, defined_operator, hypothesis, used}
 use Rattle.gb_elab_mod.specs.Taken.{new_name}
 use Rattle.gb_elab_prog.specs.Unbuilt.{absent}
 use Rattle.gb_bodies.specs.Rows.{IsTypedRule}
@@ -187,6 +187,11 @@ module _ (ds : scope.Declarations) (scoped : IsTypedScope (declared ds)) (q : Se
             let z = given_bind (formed ds q f) (λ (t : Term). given (rule.Ambient (conclusion.Case t))) k h in
             subst TypedAt (given_is (rule.Ambient (conclusion.Case z.0)) k z.2) tt
 
+    sides_typed : (a : Acts) (f : Node) (k : Rule) → sided_case_rule ds q a f ≡ given k → TypedAt k
+    sides_typed on.All f k h = case_typed f k h
+    sides_typed on.Left f k h = subst TypedAt (given_is (rule.OnBodies on_bodies.Unfit) k h) tt
+    sides_typed on.Right f k h = subst TypedAt (given_is (rule.OnBodies on_bodies.Unfit) k h) tt
+
     of_rule : (n : Kind) (x : List ℕ) (xs : List Node) (p : Place) (k : Rule) → typed_rule ds q n x xs p ≡ given k → TypedAt k
     of_rule text.Rnd x (b ∷ fs) p k h =
         let o = given_bind (absent (parts_of b) p) _ k h in
@@ -207,7 +212,7 @@ module _ (ds : scope.Declarations) (scoped : IsTypedScope (declared ds)) (q : Se
     of_rule text.PlainStep x [] p k h =
         let o = given_bind (conclusion_rule x p) (λ (a : AmbientRule). given (rule.Ambient a)) k h in subst TypedAt (given_is (rule.Ambient o.0) k o.2) tt
     of_rule text.CaseStep x (b ∷ f ∷ []) p k h =
-        let o = given_bind (absent (parts_of b) p) _ k h in case_typed f k o.2
+        sides_typed (acts (parts_of b)) f k h
     of_rule text.HaveForm x (n ∷ f ∷ []) p k h =
         let o = given_bind (new_name q (text_of n) (place_of n)) _ k h in
         let z = given_bind (formed ds q f) (λ (t : Term). given (rule.Ambient (conclusion.Have (text_of n) t))) k o.2 in
@@ -231,6 +236,9 @@ module _ (ds : scope.Declarations) (scoped : IsTypedScope (declared ds)) (q : Se
     of_rule text.Subst x (n ∷ []) p k h =
         let z = given_bind (hypothesis_at ds q (text_of n) (place_of n)) (λ (i : ℕ). given (rule.Rewrite (rewrite_rule.Subst i))) k h in
         subst TypedAt (given_is (rule.Rewrite (rewrite_rule.Subst z.0)) k z.2) tt
+    of_rule text.RewriteOperator x (n ∷ []) p k h =
+        let z = given_bind (defined_operator ds q n) (λ (y : List ℕ). given (rule.Rewrite (rewrite_rule.Unfold y))) k h in
+        subst TypedAt (given_is (rule.Rewrite (rewrite_rule.Unfold z.0)) k z.2) tt
     of_rule text.Smt x hints p k h =
         let o = given_bind (all_hinted ds q hints) (λ (fs : List Term). given (rule.Smt fs)) k h in subst TypedAt (given_is (rule.Smt o.0) k o.2) tt
     of_rule text.Linear x hs p k h =
@@ -241,8 +249,7 @@ module _ (ds : scope.Declarations) (scoped : IsTypedScope (declared ds)) (q : Se
     of_rule text.BothPatterns x ps p k h = subst TypedAt (given_is (rule.Ambient conclusion.Unpack) k h) tt
     of_rule text.EitherPattern x ps p k h = subst TypedAt (given_is (rule.Ambient conclusion.Branch) k h) tt
     of_rule text.Witness x (e ∷ []) p k h =
-        let o = given_bind (elaborated e (outside ds q) [] (asked_of (out-Term q.conclusion).head)) (λ (u : Term). given (rule.Ambient (conclusion.Witness u))) k h in
-        subst TypedAt (given_is (rule.Ambient (conclusion.Witness o.0)) k o.2) tt
+        let o = given_bind (witness_rule ds q e) (λ (a : AmbientRule). given (rule.Ambient a)) k h in subst TypedAt (given_is (rule.Ambient o.0) k o.2) tt
     of_rule text.TrivialPattern x [] p k h = subst TypedAt (given_is (rule.Ambient conclusion.Trivial) k h) tt
     of_rule text.SmtPattern x [] p k h = subst TypedAt (given_is (rule.Smt []) k h) tt
     of_rule _ x _ p k h = cc

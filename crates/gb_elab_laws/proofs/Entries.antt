@@ -52,7 +52,7 @@ good_speaks ((k, entry.AbstractType) ∷ ds) g = (tt, good_speaks ds g.1)
 good_speaks ((k, entry.Type t) ∷ ds) g = (tt, good_speaks ds g.1)
 good_speaks ((k, entry.Constant a) ∷ ds) g = (tt, good_speaks ds g.1)
 good_speaks ((k, entry.Module m) ∷ ds) g = absurd g.0
-good_speaks ((k, entry.Lemma q) ∷ ds) g = absurd g.0
+good_speaks ((k, entry.Lemma q order) ∷ ds) g = absurd g.0
 good_speaks ((k, entry.Operator o) ∷ ds) g = absurd g.0
 good_speaks ((k, entry.AbstractOperator o) ∷ ds) g = absurd g.0
 
@@ -114,7 +114,7 @@ good_typed ds ((k, entry.Constant a) ∷ added) c n g = (
   subst (λ z. AreTypedAfter c z (declared added)) (declared-append ds ((k, entry.Constant a) ∷ [])) (good_typed (ds ++ (k, entry.Constant a) ∷ []) added c n.1 g.1),
 )
 good_typed ds ((k, entry.Module m) ∷ added) c n g = absurd g.0
-good_typed ds ((k, entry.Lemma q) ∷ added) c n g = absurd g.0
+good_typed ds ((k, entry.Lemma q order) ∷ added) c n g = absurd g.0
 good_typed ds ((k, entry.Operator o) ∷ added) c n g = absurd g.0
 good_typed ds ((k, entry.AbstractOperator o) ∷ added) c n g = absurd g.0
 
@@ -147,7 +147,7 @@ operator_added : (ds : scope.Declarations) (x : Node) (e : Entry) → is_declare
 operator_added ds x (entry.Operator o) f w = (f, w, tt)
 operator_added ds x (entry.AbstractOperator o) f w = (f, w, tt)
 operator_added ds x (entry.Module m) f w = absurd w
-operator_added ds x (entry.Lemma q) f w = absurd w
+operator_added ds x (entry.Lemma q order) f w = absurd w
 operator_added ds x (entry.Type t) f w = absurd w
 operator_added ds x entry.AbstractType f w = absurd w
 operator_added ds x (entry.Constant a) f w = absurd w
@@ -156,7 +156,7 @@ operator_speaks : (c : Context) (x : Node) (e : Entry) → IsOperatorIn c e → 
 operator_speaks c x (entry.Operator o) w = (tt, tt)
 operator_speaks c x (entry.AbstractOperator o) w = (tt, tt)
 operator_speaks c x (entry.Module m) w = absurd w
-operator_speaks c x (entry.Lemma q) w = absurd w
+operator_speaks c x (entry.Lemma q order) w = absurd w
 operator_speaks c x (entry.Type t) w = absurd w
 operator_speaks c x entry.AbstractType w = absurd w
 operator_speaks c x (entry.Constant a) w = absurd w

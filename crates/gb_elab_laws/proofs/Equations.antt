@@ -1,5 +1,5 @@
 -- Operators of typed forms.
-use Rattle.std.proofs.Common.{◌≡◌, true, List, [], ◌∷◌, is_none, refl, sym, ◌∙◌, subst, Bool}
+use Rattle.std.proofs.Common.{◌≡◌, true, false, List, [], ◌∷◌, is_none, refl, sym, ◌∙◌, subst, Bool}
 use Rattle.gb_core.specs.declared.place.Place.{Place}
 use Rattle.gb_core.specs.declared.refusal.Why.TheVariants.{TypeMismatch, Argument}
 use Rattle.gb_core.specs.declared.ty.Ty.TheVariants as ty
@@ -20,11 +20,12 @@ use Rattle.gb_names.specs.Environment.{Name, Environment, on_side}
 use Rattle.gb_elab.specs.Equalities.{equalities, equality, equation, equation_of, joined, with_equalities}
 use Rattle.gb_names.specs.Names.{path, sided}
 use Rattle.gb_typing.specs.Context.{Context}
-use Rattle.gb_elab_laws.specs.Fitting.{IsFitting}
+use Rattle.gb_elab_laws.specs.Fitting.{reads_globals, IsFitting}
 use Rattle.gb_elab_laws.proofs.Given.{given_bind, given_is, if_given, if_refused, out_type}
 use Rattle.gb_elab_laws.proofs.Types.{no_distribution}
 use Rattle.gb_elab_laws.proofs.Typed.{Typed, combined}
-use Rattle.gb_elab_laws.proofs.Leaves.{IsVariable, sided_typed, truth_typed}
+use Rattle.gb_elab_laws.proofs.Leaves.{HasMemory, IsVariable, sided_typed, truth_typed}
+use Rattle.gb_elab_laws.proofs.Globs.{both_memories, same_globals_typed}
 
 module _ {globs : Bool} (c : Context) (at : Environment) (vs : List Binding) (fit : IsFitting globs c at vs) where
   -- the equality of a variable of two programs
@@ -40,30 +41,33 @@ module _ {globs : Bool} (c : Context) (at : Environment) (vs : List Binding) (fi
       let e : b.0 ≡ a.0 = sym b.2.made.written ∙ sym (out_type r.0) ∙ same ∙ out_type l.0 ∙ a.2.made.written in
       subst (Typed globs c at.language ty.Bool) k.1 (combined c at.language op.Equal a.0 b.0 ty.Bool l.0 r.0 tt (no_distribution a.0 a.1, sym e, refl) a.2 b.2)
 
-  equation_typed : (k : Head) (x : Name) (xs : List Node) (p : Place) (u : Term) → equation at vs k x xs p ≡ given u → Typed globs c at.language ty.Bool u
-  equation_typed head.Name x xs p u h = equality_typed x p u h
-  equation_typed head.Path x xs p u h = equality_typed (path xs) p u h
-  equation_typed head.EquatedGlob x (m ∷ xs) p u h = cc
-  equation_typed _ x _ p u h = cc
+  module _ (both : HasMemory (reads_globals at.language) c side.Left × HasMemory (reads_globals at.language) c side.Right) where
+    equation_typed : (k : Head) (x : Name) (xs : List Node) (p : Place) (u : Term) → equation at vs k x xs p ≡ given u → Typed globs c at.language ty.Bool u
+    equation_typed head.Name x xs p u h = equality_typed x p u h
+    equation_typed head.Path x xs p u h = equality_typed (path xs) p u h
+    equation_typed head.EquatedGlob x (m ∷ []) p u h = same_globals_typed c at vs fit both m u h
+    equation_typed _ x _ p u h = cc
 
-  abbrev each_typed : (x : Node) (u : Term) → equation_of at vs x ≡ given u → Typed globs c at.language ty.Bool u
-  each_typed x = equation_typed (head_of x) (text_of x) (parts_of x) (place_of x)
+    abbrev each_typed : (x : Node) (u : Term) → equation_of at vs x ≡ given u → Typed globs c at.language ty.Bool u
+    each_typed x = equation_typed (head_of x) (text_of x) (parts_of x) (place_of x)
 
-  with_equalities_typed : (f : Term) (xs : List Node) (u : Term) → Typed globs c at.language ty.Bool f → with_equalities at vs f xs ≡ given u → Typed globs c at.language ty.Bool u
-  unfolding with_equalities
-  with_equalities_typed f [] u m h = subst (Typed globs c at.language ty.Bool) (given_is f u h) m
-  with_equalities_typed f (x ∷ xs) u m h =
-      let q = given_bind (equation_of at vs x) (λ e. with_equalities at vs (applied op.And (f ∷ e ∷ []) ty.Bool) xs) u h in
-      with_equalities_typed (applied op.And (f ∷ q.0 ∷ []) ty.Bool) xs u
-      (combined c at.language op.And ty.Bool ty.Bool ty.Bool f q.0 tt (refl, (refl, (refl, tt))) m (each_typed x q.0 q.1)) q.2
+    with_equalities_typed : (f : Term) (xs : List Node) (u : Term) → Typed globs c at.language ty.Bool f → with_equalities at vs f xs ≡ given u → Typed globs c at.language ty.Bool u
+    unfolding with_equalities
+    with_equalities_typed f [] u m h = subst (Typed globs c at.language ty.Bool) (given_is f u h) m
+    with_equalities_typed f (x ∷ xs) u m h =
+        let q = given_bind (equation_of at vs x) (λ e. with_equalities at vs (applied op.And (f ∷ e ∷ []) ty.Bool) xs) u h in
+        with_equalities_typed (applied op.And (f ∷ q.0 ∷ []) ty.Bool) xs u
+        (combined c at.language op.And ty.Bool ty.Bool ty.Bool f q.0 tt (refl, (refl, (refl, tt))) m (each_typed x q.0 q.1)) q.2
 
-  joined_typed : (xs : List Node) (u : Term) → joined at vs xs ≡ given u → Typed globs c at.language ty.Bool u
-  unfolding joined
-  joined_typed [] u h = subst (Typed globs c at.language ty.Bool) (given_is _ u h) (truth_typed c at vs fit true)
-  joined_typed (x ∷ xs) u h =
-      let q = given_bind (equation_of at vs x) (λ e. with_equalities at vs e xs) u h in
-      with_equalities_typed q.0 xs u (each_typed x q.0 q.1) q.2
+    joined_typed : (xs : List Node) (u : Term) → joined at vs xs ≡ given u → Typed globs c at.language ty.Bool u
+    unfolding joined
+    joined_typed [] u h = subst (Typed globs c at.language ty.Bool) (given_is _ u h) (truth_typed c at vs fit true)
+    joined_typed (x ∷ xs) u h =
+        let q = given_bind (equation_of at vs x) (λ e. with_equalities at vs e xs) u h in
+        with_equalities_typed q.0 xs u (each_typed x q.0 q.1) q.2
 
   pub equalities_typed : (xs : List Node) (p : Place) (u : Term) → equalities at vs xs p ≡ given u → Typed globs c at.language ty.Bool u
   unfolding equalities
-  equalities_typed xs p u h = joined_typed xs u (if_refused (is_none (on_side at side.Left)) Argument p (joined at vs xs) u h).1
+  equalities_typed xs p u h =
+      let k = if_refused (is_none (on_side at side.Left)) Argument p (joined at vs xs) u h in
+      joined_typed (both_memories globs (reads_globals at.language) c at.variables fit.variables k.0) xs u k.1

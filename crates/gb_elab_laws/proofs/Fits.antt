@@ -41,6 +41,11 @@ use Rattle.gb_elab_laws.specs.Fitting.{AllFiniteWith, AreBound, AreDeclared, Are
 use Rattle.gb_elab_laws.proofs.Given.{none_some, same_some}
 use Rattle.gb_elab_laws.proofs.Declared.{goal_declared}
 use Rattle.gb_elab_laws.proofs.Quantified.{have_front, variables_with}
+use Rattle.gb_names.specs.Locals.{first_some, goal_read_type, read_type, reads_local}
+use Rattle.gb_names.proofs.ReadTypes.{read_type_out}
+use Rattle.gb_terms.specs.Make.{truth_literal}
+use Rattle.gb_terms.specs.declared.term.Head.TheViews.{out-roll-Term}
+use Rattle.gb_elab_laws.proofs.Recalled.{goal_stands}
 use Rattle.gb_elab_laws.proofs.Found.{all_with, found as found_name}
 
 -- a module is known as before, and so are its globals
@@ -56,7 +61,7 @@ stays ((k, entry.Module m) ∷ ds) before c n d w =
       rest.0 ∙ ap (λ (b : Bool). if b then Some (interface_with c.modules.types m.params (procedure_types m.procs)) else c.modules.interfaces n) other,
       λ x. rest.1 x ∙ ap (λ (b : Bool). if b then local_type m.globals x else c.global n x) other,
     )
-stays ((k, entry.Lemma q) ∷ ds) before c n d w = stays ds (before ++ (k, lemma q) ∷ []) c n (declared_more before (k, lemma q) n d) w.2
+stays ((k, entry.Lemma q order) ∷ ds) before c n d w = stays ds (before ++ (k, lemma q) ∷ []) c n (declared_more before (k, lemma q) n d) w.2
 stays ((k, entry.Type t) ∷ ds) before c n d w =
     let x = declaration_of (entry.Type t) in stays ds (before ++ (k, x) ∷ []) (with_declared c k x) n (declared_more before (k, x) n d) w.2
 stays ((k, entry.AbstractType) ∷ ds) before c n d w =
@@ -204,13 +209,15 @@ reading_fits m c at vs fit = record {
   globals = fit.globals;
   procedures = fit.procedures;
   memories = fit.memories;
+  locals = fit.locals;
   frames = fit.frames;
 }
 
--- the context of a goal without modules, whose variables are of types of values
-pub context_fits : (globs : Bool) (ds : scope.Declarations) (q : Sequent) (fs : List (List TypedName)) → length fs ≡ length q.memories → q.modules ≡ [] → AllFiniteWith globs q.logical → IsTypedScope (declared ds) →
+-- the context of a goal without modules, whose variables are of types of values, and in whose memories no local is read
+pub context_fits : (globs : Bool) (ds : scope.Declarations) (q : Sequent) (fs : List (List TypedName)) → length fs ≡ length q.memories → q.modules ≡ [] →
+    ((i : ℕ) (x : Name) → goal_read_type (side.Memory i) x q ≡ None) → AllFiniteWith globs q.logical → IsTypedScope (declared ds) →
     IsFitting globs (of_sequent (context_of (declared ds)) q fs) (ambient ds q) []
-context_fits globs ds q fs many none h w = record {
+context_fits globs ds q fs many none unread h w = record {
   logical = λ i. refl;
   values = h;
   bound = subst (λ bs. AreBound globs bs []) (sym (goal_bound (declared ds) q fs)) tt;
@@ -221,12 +228,17 @@ context_fits globs ds q fs many none h w = record {
   procedures = λ e p f k.
       subst (λ bs. IsTypeOf (typing.procedure_type (with_modules (context_of (declared ds)) bs).modules p) f) (sym none) (declared_procedure ds w p.«module» p.name f k);
   memories = λ e. goal_memories (declared ds) q fs many;
+  locals = λ e i x t k. none_some t (sym (unread i x) ∙ k);
   frames = λ e. goal_frames (declared ds) q fs;
 }
 
+-- a truth reads no local
+pub nothing_read : (i : ℕ) (x : Name) → read_type (side.Memory i) x (truth_literal true) ≡ None
+nothing_read i x = read_type_out (side.Memory i) x (truth_literal true) ∙ ap (λ z. if reads_local (side.Memory i) x z.head then Some z.ty else first_some (map (read_type (side.Memory i) x) z.args)) (out-roll-Term _)
+
 pub statement_fits : (ds : scope.Declarations) → IsTypedScope (declared ds) → IsFitting false (of_sequent (context_of (declared ds)) nothing_around []) (statement ds nothing_around) []
 statement_fits ds w =
-    reading_fits outside (of_sequent (context_of (declared ds)) nothing_around []) (ambient ds nothing_around) [] (context_fits false ds nothing_around [] refl refl tt w)
+    reading_fits outside (of_sequent (context_of (declared ds)) nothing_around []) (ambient ds nothing_around) [] (context_fits false ds nothing_around [] refl refl (λ i x. nothing_read i x) tt w)
 
 pub program_fits : (c : Context) (ds : scope.Declarations) (m : Module) (ls : List TypedName) → AreDeclared c.operator ds →
     ((n : Name) (k : Module) → module_of ds n ≡ Some k → HasGlobals c.global n k) → HasGlobals c.global m.name m → HaveVariableTypes ls →
@@ -241,6 +253,7 @@ program_fits c ds m ls names others own h = record {
   globals = λ e. others;
   procedures = λ e. absurd (false≢true e);
   memories = λ e. absurd (false≢true e);
+  locals = λ e. absurd (false≢true e);
   frames = λ e. absurd (false≢true e);
 }
 
@@ -256,6 +269,7 @@ function_fits ds w q t ls rs xs ys h k = record {
   globals = λ e. goal_globals ds w q t.frames;
   procedures = λ e. absurd (false≢true e);
   memories = λ e. goal_memories (declared ds) q t.frames t.memories;
+  locals = λ e i x. goal_stands i x (context_of (declared ds)) q t;
   frames = λ e. goal_frames (declared ds) q t.frames;
 }
 
@@ -297,6 +311,7 @@ one_fits ds w q t ls xs h = record {
   globals = λ e. goal_globals ds w q t.frames;
   procedures = λ e p f k. goal_procedure ds w q t p.«module» p.name f k;
   memories = λ e. goal_memories (declared ds) q t.frames t.memories;
+  locals = λ e i x. goal_stands i x (context_of (declared ds)) q t;
   frames = λ e. goal_frames (declared ds) q t.frames;
 }
 
@@ -312,6 +327,7 @@ two_fit ds w q t ls rs xs ys h k = record {
   globals = λ e. goal_globals ds w q t.frames;
   procedures = λ e p f k. goal_procedure ds w q t p.«module» p.name f k;
   memories = λ e. goal_memories (declared ds) q t.frames t.memories;
+  locals = λ e i x. goal_stands i x (context_of (declared ds)) q t;
   frames = λ e. goal_frames (declared ds) q t.frames;
 }
 
@@ -330,5 +346,6 @@ goal_fits ds w q t = record {
       let d = declared_procedure ds w p.«module» p.name f h in
       record { there = (typed_there ds w q t.modules t.frames p f h).type; params = d.params; result = d.result };
   memories = λ e. goal_memories (declared ds) q t.frames t.memories;
+  locals = λ e i x. goal_stands i x (context_of (declared ds)) q t;
   frames = λ e. goal_frames (declared ds) q t.frames;
 }

@@ -61,7 +61,8 @@ use Rattle.gb_operators.specs.Rules.{asked, made, rule_for, rule_of, user_made}
 use Rattle.gb_elab.specs.declared.contract.Contract.{Contract}
 use Rattle.gb_elab.specs.OneProcedure.{after_one, always, around, before_one, lossless, relation, with_chance}
 use Rattle.gb_elab.specs.Probability.{before_call, called, chance, chance_here}
-use Rattle.gb_elab.specs.Forms.{Arguing, Contracting, Typing, Meaning, Part, annotated, applied, applied_form, application, arguing, arguments, arguments_of, bare, bounded, bracketed, by_rule, call, contract, contracting, contract_of, declared, elaborated, equivalence, function, hoare, function_typing, last_arguments, meaning, meant, only, operand, operands, operation, operator_alone, probability, projection, quantified, read, simple, summed, typing, under, user_call, value_of, with_side}
+use Rattle.gb_elab.specs.Globs.{Seen, bare_glob, both_whole}
+use Rattle.gb_elab.specs.Forms.{Arguing, Contracting, Typing, Meaning, Part, annotated, applied, applied_form, application, arguing, arguments, arguments_of, bare, bounded, bracketed, by_rule, call, comparing, contract, contracting, contract_of, declared, elaborated, equivalence, function, hoare, function_typing, last_arguments, meaning, meant, only, operand, operands, operation, operator_alone, probability, projection, quantified, read, simple, summed, typing, under, user_call, value_of, with_side}
 use Rattle.gb_elab_laws.specs.Fitting.{reads_globals, IsFormType, IsFormTypeIf, IsBoundName, IsUsable, AreReadable, IsFitting, IsGiven}
 use Rattle.gb_elab_laws.proofs.Given.{given_bind, given_is, if_allowed, if_given, if_none, if_refused, if_some, none_some, not_given, some_given}
 use Rattle.gb_elab_laws.proofs.Types.{no_distribution}
@@ -70,7 +71,8 @@ use Rattle.gb_elab_laws.proofs.Tested.{counting}
 use Rattle.gb_elab_laws.proofs.Measured.{measured, measured_form}
 use Rattle.gb_elab_laws.proofs.Globless.{form_with}
 use Rattle.gb_elab_laws.proofs.Typed.{EachTyped, given_from, of_script, truth_given, wanted_given, of_given}
-use Rattle.gb_elab_laws.proofs.Leaves.{named_typed, read_typed, unit_typed}
+use Rattle.gb_elab_laws.proofs.Globs.{whole_equation_typed}
+use Rattle.gb_elab_laws.proofs.Leaves.{named_typed, none_alone, read_typed, unit_typed}
 use Rattle.gb_elab_laws.proofs.Constants.{coin_typed, constant_typed, literal_typed, numeral_typed, stands_is, uniform_typed}
 use Rattle.gb_elab_laws.proofs.Weighed.{weights_typed}
 use Rattle.gb_elab_laws.proofs.Equations.{equalities_typed}
@@ -146,6 +148,7 @@ module _ (globs : Bool) where
     globals = λ e. fit.globals (sym (same_reads at.language) ∙ e);
     procedures = λ e. fit.procedures (sym (same_judgments at.language) ∙ e);
     memories = λ e. fit.memories (sym (same_memories at.language) ∙ e);
+    locals = λ e. fit.locals (sym (same_memories at.language) ∙ e);
     frames = λ e. fit.frames (sym (same_memories at.language) ∙ e);
   }
 
@@ -236,6 +239,11 @@ module _ (globs : Bool) where
   operation_typed (Some o) n [] p c at vs fit w f u e = cc
   operation_typed (Some o) n (a ∷ b ∷ d ∷ ks) p c at vs fit w f u e = cc
   operation_typed None n ks p c at vs fit w f u e = cc
+
+  -- a comparison
+  comparing_typed : (o : Option (Seen × Seen)) (x : Name) (ks : List Known) (p : Place) → GivesTyped (comparing o x (parts ks) p)
+  comparing_typed (Some s) x ks p c at vs fit w f u e = whole_equation_typed c at vs fit w p s.0 s.1 u e
+  comparing_typed None x ks p c at vs fit w f u e = operation_typed (operator_of head.Compared x) (operator_known head.Compared x) ks p c at vs fit w f u e
 
   -- operators of the script that a name is found to mean
   found_operator : (c : Context) (at : Environment) (vs : List Binding) → IsFitting globs c at vs → (x : Name) (o : OperatorType) → operator_at at vs x ≡ Some o → IsUsable (c.operator x) o
@@ -478,6 +486,8 @@ module _ (globs : Bool) where
   form_parts head.Apply x ks p c at vs fit w f u e = applied_form_typed ks p c at vs fit w f u e
   form_parts head.Equalities x ks p c at vs fit w f u e =
       let q = given_bind (truth w p) _ u e in truth_given c at.language w p q.0 u q.1 (equalities_typed c at vs fit (bare (parts ks)) p u q.2)
+  form_parts head.Glob x ks p c at vs fit w f u e = absurd (none_alone c at vs fit (bare_glob (bare (parts ks)) None p) p u e)
+  form_parts head.Compared x ks p c at vs fit w f u e = comparing_typed (both_whole x (bare (parts ks))) x ks p c at vs fit w f u e
   form_parts head.Quantified x ks p c at vs fit w f u e = quantified_typed x ks p c at vs fit w f u e
   form_parts head.Equiv x ks p c at vs fit w f u e = equiv_typed ks p c at vs fit w f u e
   form_parts head.Hoare x ks p c at vs fit w f u e = hoare_typed ks p c at vs fit w f u e

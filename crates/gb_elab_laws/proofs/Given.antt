@@ -55,6 +55,11 @@ one_of P true c x y p z k l h = subst P (given_is x z h) k
 one_of P false true x y p z k l h = subst P (given_is y z h) l
 one_of P false false x y p z k l h = cc
 
+-- where a part isn't built, nothing is given
+pub if_unbuilt : {A : Type 0} (b : Bool) (p : Place) (x y : A) → (if b then not_built p else given x) ≡ given y → (b ≡ false) × (x ≡ y)
+if_unbuilt true p x y h = cc
+if_unbuilt false p x y h = (refl, given_is x y h)
+
 pub if_refused : {A : Type 0} (b : Bool) (w : Why) (p : Place) (a : Answer A) (y : A) → (if b then refused w p else a) ≡ given y → (b ≡ false) × (a ≡ given y)
 if_refused true w p a y h = cc
 if_refused false w p a y h = (refl, h)

@@ -1,11 +1,11 @@
 -- What a name means is typed.
-use Rattle.std.proofs.Common.{◌≡◌, ℕ, Bool, true, false, if◌then◌else◌, List, [], map, get_or, is_some, Option, Some, None, option_map, bytes_eq, refl, ap, sym, ◌∙◌, subst, arith}
+use Rattle.std.proofs.Common.{◌≡◌, ℕ, Bool, true, false, if◌then◌else◌, List, [], ◌∷◌, map, get_or, is_some, Option, Some, None, option_map, bytes_eq, refl, ap, sym, ◌∙◌, subst, arith}
 use Rattle.std.specs.Option.{option_map_or}
 use Rattle.std.specs.Path.{dot, rsplit_once}
 use Rattle.std.proofs.lemmas.Bool.{false≢true}
 use Rattle.std.proofs.lemmas.Slice.Eq.{bytes_eq-Decides}
 use Rattle.gb_core.specs.declared.place.Place.{Place}
-use Rattle.gb_core.specs.declared.refusal.Why.TheVariants.{UnknownName, Argument}
+use Rattle.gb_core.specs.declared.refusal.Why.TheVariants.{UnknownName, Argument, Syntax}
 use Rattle.gb_core.specs.declared.ty.Ty.{Ty}
 use Rattle.gb_core.specs.declared.ty.Ty.TheVariants as ty
 use Rattle.gb_core.specs.declared.value.Value.TheVariants.{Num}
@@ -36,16 +36,18 @@ use Rattle.gb_names.specs.declared.bindings.Binding.{Binding}
 use Rattle.gb_names.specs.declared.bindings.Kind.{Kind}
 use Rattle.gb_names.specs.declared.bindings.Kind.TheVariants.{Value, Memory}
 use Rattle.gb_names.specs.Bindings.{binders_inside, innermost}
+use Rattle.gb_names.specs.Locals.{goal_read_type, local_if, locals_in}
 use Rattle.gb_names.specs.Environment.{Name, Environment, may_read, own, own_of, on_side, sides_of}
 use Rattle.gb_names.specs.Names.{ModuleVariable, first_named, global_at, global_in, global_variable, has_own, module_if, number_before, own_global, unit, unsided, bound_thing, bound_variable, logical_variable, program_variable, names_other, unbound, named, no_variable, variable_on, sided, in_memory, path}
 use Rattle.gb_names.specs.Names.{beside, has_memories, memory_at, remembered, side_of}
 use Rattle.gb_elab.specs.Forms.{read}
+use Rattle.gb_elab.specs.Globs.{Seen, bare_glob, whole_alone, whole_read}
 use Rattle.gb_typing.specs.Context.{Frame, Context, erased, frame_of, local_in}
 use Rattle.gb_typing.specs.Typing.{IsFrame}
 use Rattle.gb_typing.proofs.Literals.{bool_literal}
 use Rattle.gb_typing.proofs.Variables.{variable_finite}
 use Rattle.gb_elab_laws.specs.Fitting.{reads_globals, AllFiniteWith, IsBoundTo, AreIn, AreReadable, HasGlobals, HasGlobalsIf, IsFitting}
-use Rattle.gb_elab_laws.proofs.Given.{given_bind, given_is, if_allowed, if_refused, counted_is, none_some, same_some}
+use Rattle.gb_elab_laws.proofs.Given.{given_bind, given_is, if_allowed, if_refused, counted_is, none_some, not_given, same_some}
 use Rattle.gb_elab_laws.proofs.Literals.{unit_literal}
 use Rattle.gb_elab_laws.proofs.Shapes.{with_globs, finite_form, variable_with}
 use Rattle.gb_elab_laws.proofs.Found.{Found, found, found_bound}
@@ -73,23 +75,36 @@ own_there globs reads c Absent h = none_read globs c.own
 own_there globs reads c (Own ls) h = all_read globs c.own ls h.1
 own_there globs reads c (Sides ls rs) h = none_read globs c.own
 
--- a memory is there, and globals may be read
-record HasMemory (reads : Bool) (c : Context) (s : Side) : Type 0 where
-  side : IsSide (erased c) s
-  frame : IsFrame (frame_of c s)
-  whole : reads ≡ true
+-- a memory with a local is there
+local_frame : (f : Frame) (x : Name) (t : Ty) → local_in f x ≡ Some t → IsFrame f
+local_frame None x t e = none_some t e
+local_frame (Some ls) x t e = tt
 
-own_memory : (globs reads : Bool) (c : Context) (vars : Variables) → has_own vars ≡ true → AreReadable globs reads c vars → HasMemory reads c side.Own
+-- where one local is read in a memory, it is a local there
+alone_there : (f : Frame) (x : Name) (t : Ty) → local_in f x ≡ Some t → (y : Name) (u : Ty) → local_type (record { name = x; ty = t } ∷ []) y ≡ Some u → local_in f y ≡ Some u
+alone_there f x t k y u h = step (bytes_eq y x) refl h
+  where
+    step : (b : Bool) → bytes_eq y x ≡ b → (if b then Some t else None) ≡ Some u → local_in f y ≡ Some u
+    step true j i = ap (local_in f) ((bytes_eq-Decides y x).0 j) ∙ k ∙ i
+    step false j i = none_some u i
+
+-- a memory is there, and globals may be read
+pub record HasMemory (reads : Bool) (c : Context) (s : Side) : Type 0 where
+  pub side : IsSide (erased c) s
+  pub frame : IsFrame (frame_of c s)
+  pub whole : reads ≡ true
+
+pub own_memory : (globs reads : Bool) (c : Context) (vars : Variables) → has_own vars ≡ true → AreReadable globs reads c vars → HasMemory reads c side.Own
 own_memory globs reads c (Own ls) e h = record { side = tt; frame = h.1.memory; whole = h.0 }
 own_memory globs reads c Absent e h = absurd (false≢true e)
 own_memory globs reads c (Sides ls rs) e h = absurd (false≢true e)
 
 -- the variables of a side are read in its memory
-record OnSide (globs reads : Bool) (c : Context) (s : Side) (ls : List TypedName) : Type 0 where
-  memory : HasMemory reads c s
+pub record OnSide (globs reads : Bool) (c : Context) (s : Side) (ls : List TypedName) : Type 0 where
+  pub memory : HasMemory reads c s
   read : IsRead globs (frame_of c s) ls
 
-side_there : (globs reads : Bool) (c : Context) (vars : Variables) (s : Side) (ls : List TypedName) → AreReadable globs reads c vars → sides_of vars s ≡ Some ls → OnSide globs reads c s ls
+pub side_there : (globs reads : Bool) (c : Context) (vars : Variables) (s : Side) (ls : List TypedName) → AreReadable globs reads c vars → sides_of vars s ≡ Some ls → OnSide globs reads c s ls
 side_there globs reads c (Sides ls rs) side.Left ms h e = record { memory = record { side = tt; frame = h.1.memory; whole = h.0 }; read = subst (IsRead globs c.left) (same_some ls ms e) (all_read globs c.left ls h.1) }
 side_there globs reads c (Sides ls rs) side.Right ms h e = record { memory = record { side = tt; frame = h.2.memory; whole = h.0 }; read = subst (IsRead globs c.right) (same_some rs ms e) (all_read globs c.right rs h.2) }
 side_there globs reads c _ s ms h e = none_some ms e
@@ -150,7 +165,7 @@ module _ {globs : Bool} (c : Context) (at : Environment) (vs : List Binding) (fi
   abbrev pub Stands : ModuleVariable → Type 0
   Stands g = (c.global g.0 g.1.name ≡ Some g.1.ty) × IsVariableType g.1.ty
 
-  in_stands : (n : Name) (o : Option Module) (x : Name) (g : ModuleVariable) → ((m : Module) → o ≡ Some m → HasGlobals c.global n m) → global_in n o x ≡ Some g → Stands g
+  pub in_stands : (n : Name) (o : Option Module) (x : Name) (g : ModuleVariable) → ((m : Module) → o ≡ Some m → HasGlobals c.global n m) → global_in n o x ≡ Some g → Stands g
   in_stands n None x g h e = none_some g e
   in_stands n (Some m) x g h e = let k = mapped (λ (v : TypedName). (n, v)) (first_named m.globals x) g e in subst Stands k.2 (h m refl x k.0 k.1)
 
@@ -174,13 +189,15 @@ module _ {globs : Bool} (c : Context) (at : Environment) (vs : List Binding) (fi
       step (Some p) f = in_stands p.0 (module_if at.inside at.declared p.0) p.1 g (λ m i. module_stands w at.inside p.0 m fit.around i) f
       step None f = own_stands at.inside x g fit.around f
 
+  -- a read of a global that stands
+  pub standing_typed : (s : Side) → HasMemory (reads_globals at.language) c s → (g : ModuleVariable) → Stands g → Typed globs c at.language g.1.ty (global_variable s g)
+  standing_typed s h g k =
+      let finite = variable_with globs g.1.ty k.1 in
+      leaf c at.language (Read (read_of.Program (Global g.0 g.1.name) s)) g.1.ty (finite_form globs g.1.ty finite) (h.side, variable_finite g.1.ty k.1, k.0) (h.frame, k.0) tt (λ e. (tt, e))
+
   -- a read of a global
   global_typed : (s : Side) → HasMemory (reads_globals at.language) c s → (x : Name) (g : ModuleVariable) → global_at at x ≡ Some g → IsVariable (global_variable s g)
-  global_typed s h x g e =
-      let k = global_stands h.whole x g e in
-      let finite = variable_with globs g.1.ty k.1 in
-      let value = variable_finite g.1.ty k.1 in
-      (g.1.ty, value, leaf c at.language (Read (read_of.Program (Global g.0 g.1.name) s)) g.1.ty (finite_form globs g.1.ty finite) (h.side, value, k.0) (h.frame, k.0) tt (λ e. (tt, e)))
+  global_typed s h x g e = let k = global_stands h.whole x g e in (g.1.ty, variable_finite g.1.ty k.1, standing_typed s h g k)
 
   unsided_typed : (x : Name) (p : Place) (g : ModuleVariable) (u : Term) → global_at at x ≡ Some g → unsided at p g ≡ given u → IsSome globs c at.language u
   unsided_typed x p g u e h =
@@ -228,18 +245,33 @@ module _ {globs : Bool} (c : Context) (at : Environment) (vs : List Binding) (fi
       step (Some ls) e h = variable_typed x s p ls u (side_there globs (reads_globals at.language) c at.variables s ls fit.variables e) h
       step None e h = cc
 
-  -- a name in a named memory, of which no local is read
+  -- the local of a name in a memory
+  recalled : has_memories at.language ≡ true → (s : Side) (x : Name) → IsRead globs (frame_of c s) (locals_in at.sequent s x)
+  recalled may (side.Memory i) x = step (goal_read_type (side.Memory i) x at.sequent) refl
+    where
+      f : Frame
+      f = frame_of c (side.Memory i)
+
+      step : (o : Option Ty) → goal_read_type (side.Memory i) x at.sequent ≡ o → IsRead globs f (local_if x o)
+      step None e = none_read globs f
+      step (Some t) e =
+          let k = fit.locals may i x t e in
+          all_read globs f (record { name = x; ty = t } ∷ [])
+          (record { memory = local_frame f x t k.0; there = alone_there f x t k.0; finite = (k.1, tt) })
+  recalled may side.Own x = none_read globs c.own
+  recalled may side.Left x = none_read globs c.left
+  recalled may side.Right x = none_read globs c.right
+  recalled may (side.Bound i) x = none_read globs (frame_of c (side.Bound i))
+
+  -- a name in a named memory
   in_memory_typed : has_memories at.language ≡ true → (x : Name) (m : Node) (p : Place) (u : Term) → in_memory at vs x m p ≡ given u → IsVariable u
   unfolding in_memory
   in_memory_typed may x m p u h =
       let s = given_bind (memory_at at vs (text_of m) (place_of m)) _ u h in
-      let k = if_allowed (may_read at.memories (text_of m)) (variable_on at vs x s.0 p []) Argument p u s.2 in
+      let k = if_allowed (may_read at.memories (text_of m)) (variable_on at vs x s.0 p (locals_in at.sequent s.0 x)) Argument p u s.2 in
       let r = memory_is c at vs fit may (text_of m) (place_of m) s.0 s.1 in
-      variable_typed x s.0 p [] u
-      (record {
-        memory = record { side = r.side; frame = r.frame; whole = remembered_globals at.language may };
-        read = none_read globs (frame_of c s.0);
-      }) k.1
+      variable_typed x s.0 p (locals_in at.sequent s.0 x) u
+      (record { memory = record { side = r.side; frame = r.frame; whole = remembered_globals at.language may }; read = recalled may s.0 x }) k.1
 
   remembered_typed : (x : Name) (m : Node) (p : Place) (u : Term) → remembered at vs x m p ≡ given u → IsVariable u
   remembered_typed x m p u h =
@@ -251,8 +283,14 @@ module _ {globs : Bool} (c : Context) (at : Environment) (vs : List Binding) (fi
       let q = sided_typed x i.0 p u i.2 in (q.0, q.2)
   beside_typed _ m x p u h = let q = remembered_typed x m p u h in (q.0, q.2)
 
+  -- all globals of a module are given nowhere but in equations
+  pub none_alone : (o : Option Seen) (p : Place) (u : Term) → whole_alone at vs o p ≡ given u → ⊥
+  none_alone None p u e = not_given Syntax p u e
+  none_alone (Some w) p u e = let q = given_bind (whole_read at vs w) (λ _. refused Argument p) u e in not_given Argument p u q.2
+
   -- a form with a side
   pub read_typed : (k : Head) (x : Name) (xs : List Node) (p : Place) (s : Node) (u : Term) → read at vs k x xs p s ≡ given u → IsSome globs c at.language u
   read_typed head.Name x xs p s u h = beside_typed (head_of s) s x p u h
   read_typed head.Path x xs p s u h = beside_typed (head_of s) s (path xs) p u h
+  read_typed head.Glob x xs p s u h = absurd (none_alone (bare_glob xs (Some s) p) p u h)
   read_typed _ x xs p s u h = cc

@@ -5,6 +5,7 @@ pub mod Shapes
 pub mod Literals
 pub mod Measured
 pub mod Globless
+pub mod Globs
 pub mod Declared
 pub mod Typed
 pub mod Operators
@@ -24,6 +25,7 @@ pub mod Constants
 pub mod Weighed
 pub mod Forms
 pub mod Parameters
+pub mod Recalled
 pub mod Fits
 pub mod Occurring
 pub mod Ends
@@ -34,6 +36,7 @@ pub mod Spoken
 pub mod Around
 pub mod Called
 pub mod Stated
+pub mod Unread
 pub mod Used
 mod Brought
 pub mod Programs

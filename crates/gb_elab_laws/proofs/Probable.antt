@@ -77,6 +77,7 @@ module _ {globs : Bool} (c : Context) (at : Environment) (vs : List Binding) (fi
     globals = λ e. fit.globals (judging at.language judges);
     procedures = λ e. fit.procedures judges;
     memories = λ e. fit.memories (remembering at.language judges);
+    locals = λ e. fit.locals (remembering at.language judges);
     frames = λ e. fit.frames (remembering at.language judges);
   }
 

@@ -117,6 +117,7 @@ module _ {globs : Bool} (at : Environment) where
     globals = fit.globals;
     procedures = fit.procedures;
     memories = fit.memories;
+    locals = fit.locals;
     frames = λ e i. framed i (fit.frames e);
   }
     where

@@ -47,12 +47,12 @@ use Rattle.gb_typing.specs.Goals.{IsGoalOver}
 use Rattle.gb_goal.specs.Answers.{Answer, ◌>>=◌}
 use Rattle.gb_goal.specs.Answers.Answer.{given}
 use Rattle.gb_names.specs.declared.setting.Language.TheVariants.{Function}
-use Rattle.gb_names.specs.Environment.{Environment, ambient, of_function}
-use Rattle.gb_elab.specs.Forms.{elaborated, function}
+use Rattle.gb_names.specs.Environment.{Environment, of_function}
+use Rattle.gb_elab.specs.Forms.{function}
 use Rattle.gb_elab_mod.specs.Occurring.{occurring}
-use Rattle.gb_elab_mod.specs.Steps.{acts, cut_of, last_sampled, functions, of_bodies_rule, on_all, one_type, plain_rule, conclusion_rule, conseq_rule, case_of_bodies, case_of_conclusion, formed, seq_rule, there_and_back, of_bodies, couplings, coupling_rule, functions_of, typed_rule, step_given, asked_of, chance_rule, judges_chance, symmetry_rule}
+use Rattle.gb_elab_mod.specs.Steps.{acts, cut_of, last_sampled, functions, of_bodies_rule, on_all, one_type, plain_rule, conclusion_rule, conseq_rule, case_of_bodies, case_of_conclusion, formed, seq_rule, sided_case_rule, there_and_back, of_bodies, couplings, coupling_rule, functions_of, typed_rule, step_given, asked_of, chance_rule, judges_chance, symmetry_rule, witness_rule}
 use Rattle.gb_elab_mod.specs.Multiples.{hypothesis_at, multiples}
-use Rattle.gb_elab_mod.specs.Uses.{all_hinted, hypothesis, used}
+use Rattle.gb_elab_mod.specs.Uses.{all_hinted, defined_operator, hypothesis, used}
 use Rattle.gb_elab_mod.specs.Taken.{new_name}
 use Rattle.gb_elab_mod.specs.Steps as steps
 use Rattle.gb_elab_prog.specs.Unbuilt.{absent}
@@ -234,6 +234,11 @@ module _ (ds : scope.Declarations) (scoped : IsTypedScope (declared ds)) (q : Se
       of_name x a p k us false true h r = of_symmetry a k us (given_is (symmetry_rule a) k h) r
       of_name x a p k us false false h r = let y = given_bind (plain_rule x a p) (λ z. given (rule.OnBodies z)) k h in other (rule.OnBodies y.0) k us refl (given_is (rule.OnBodies y.0) k y.2) r
 
+      of_sides : (a : Acts) (f : Node) (k : Rule) (us : List Term) → sided_case_rule ds q a f ≡ given k → k ≡ rule.Relational (relational_rule.Rnd us) → Typed us
+      of_sides on.All f k us h r = of_case f k us (judges_bodies (out-Term q.conclusion).head) h r
+      of_sides on.Left f k us h r = other (rule.OnBodies on_bodies.Unfit) k us refl (given_is (rule.OnBodies on_bodies.Unfit) k h) r
+      of_sides on.Right f k us h r = other (rule.OnBodies on_bodies.Unfit) k us refl (given_is (rule.OnBodies on_bodies.Unfit) k h) r
+
       of_rule : (n : Kind) (x : List ℕ) (xs : List Node) (p : Place) (k : Rule) (us : List Term) → typed_rule ds q n x xs p ≡ given k → k ≡ rule.Relational (relational_rule.Rnd us) → Typed us
       of_rule text.Rnd x (b ∷ fs) p k us h r =
           let o = given_bind (absent (parts_of b) p) _ k h in
@@ -255,7 +260,7 @@ module _ (ds : scope.Declarations) (scoped : IsTypedScope (declared ds)) (q : Se
       of_rule text.PlainStep x [] p k us h r =
           let o = given_bind (conclusion_rule x p) (λ (a : AmbientRule). given (rule.Ambient a)) k h in other (rule.Ambient o.0) k us refl (given_is (rule.Ambient o.0) k o.2) r
       of_rule text.CaseStep x (b ∷ f ∷ []) p k us h r =
-          let o = given_bind (absent (parts_of b) p) _ k h in of_case f k us (judges_bodies (out-Term q.conclusion).head) o.2 r
+          of_sides (acts (parts_of b)) f k us h r
       of_rule text.HaveForm x (n ∷ f ∷ []) p k us h r =
           let o = given_bind (new_name q (text_of n) (place_of n)) _ k h in
           let z = given_bind (formed ds q f) (λ (t : Term). given (rule.Ambient (conclusion.Have (text_of n) t))) k o.2 in
@@ -279,6 +284,9 @@ module _ (ds : scope.Declarations) (scoped : IsTypedScope (declared ds)) (q : Se
       of_rule text.Subst x (n ∷ []) p k us h r =
           let z = given_bind (hypothesis_at ds q (text_of n) (place_of n)) (λ (i : ℕ). given (rule.Rewrite (rewrite_rule.Subst i))) k h in
           other (rule.Rewrite (rewrite_rule.Subst z.0)) k us refl (given_is (rule.Rewrite (rewrite_rule.Subst z.0)) k z.2) r
+      of_rule text.RewriteOperator x (n ∷ []) p k us h r =
+          let z = given_bind (defined_operator ds q n) (λ (y : List ℕ). given (rule.Rewrite (rewrite_rule.Unfold y))) k h in
+          other (rule.Rewrite (rewrite_rule.Unfold z.0)) k us refl (given_is (rule.Rewrite (rewrite_rule.Unfold z.0)) k z.2) r
       of_rule text.Smt x hints p k us h r =
           let o = given_bind (all_hinted ds q hints) (λ (fs : List Term). given (rule.Smt fs)) k h in other (rule.Smt o.0) k us refl (given_is (rule.Smt o.0) k o.2) r
       of_rule text.Linear x hs p k us h r =
@@ -289,8 +297,7 @@ module _ (ds : scope.Declarations) (scoped : IsTypedScope (declared ds)) (q : Se
       of_rule text.BothPatterns x ps p k us h r = other (rule.Ambient conclusion.Unpack) k us refl (given_is (rule.Ambient conclusion.Unpack) k h) r
       of_rule text.EitherPattern x ps p k us h r = other (rule.Ambient conclusion.Branch) k us refl (given_is (rule.Ambient conclusion.Branch) k h) r
       of_rule text.Witness x (e ∷ []) p k us h r =
-          let o = given_bind (elaborated e (ambient ds q) [] (asked_of (out-Term q.conclusion).head)) (λ (u : Term). given (rule.Ambient (conclusion.Witness u))) k h in
-          other (rule.Ambient (conclusion.Witness o.0)) k us refl (given_is (rule.Ambient (conclusion.Witness o.0)) k o.2) r
+          let o = given_bind (witness_rule ds q e) (λ (a : AmbientRule). given (rule.Ambient a)) k h in other (rule.Ambient o.0) k us refl (given_is (rule.Ambient o.0) k o.2) r
       of_rule text.TrivialPattern x [] p k us h r = other (rule.Ambient conclusion.Trivial) k us refl (given_is (rule.Ambient conclusion.Trivial) k h) r
       of_rule text.SmtPattern x [] p k us h r = other (rule.Smt []) k us refl (given_is (rule.Smt []) k h) r
       of_rule _ x _ p k us h r = cc

@@ -1,7 +1,8 @@
 -- Typed scopes with one declaration more.
-use Rattle.std.proofs.Common.{◌≡◌, false, [], ◌∷◌, ◌++◌, sym, subst}
+use Rattle.std.proofs.Common.{◌≡◌, false, List, [], ◌∷◌, ◌++◌, sym, subst}
 use Rattle.std.proofs.lemmas.List.{append-nil, append_assoc}
 use Rattle.gb_terms.specs.declared.decl.Module.{Module}
+use Rattle.gb_goal.specs.declared.scope.Binder.{Binder}
 use Rattle.gb_goal.specs.declared.scope.Entry.TheVariants as entry
 use Rattle.gb_goal.specs.declared.sequent.Sequent.{Sequent}
 use Rattle.gb_goal.specs.Scope as scope
@@ -26,9 +27,9 @@ with_module : (ds : scope.Declarations) (n : Name) (m : Module) → IsTypedScope
     IsTypedScope (declared (ds ++ (n, entry.Module m) ∷ []))
 with_module ds n m s f t = subst IsTypedScope (sym (declared-append ds ((n, entry.Module m) ∷ []))) (typed_after nothing [] (declared ds) ((n, concrete_module m) ∷ []) s (f, t, tt))
 
-pub lemma_added : (ds : scope.Declarations) → IsTypedScope (declared ds) → (n : Name) → is_declared (declared ds) n ≡ false → (q : Sequent) → IsTypedSequent (context_of (declared ds)) q →
-    IsTypedScope (declared (ds ++ (n, entry.Lemma q) ∷ []))
-lemma_added ds s n f q t = subst IsTypedScope (sym (declared-append ds ((n, entry.Lemma q) ∷ []))) (typed_after nothing [] (declared ds) ((n, lemma q) ∷ []) s (f, t, tt))
+pub lemma_added : (ds : scope.Declarations) → IsTypedScope (declared ds) → (n : Name) → is_declared (declared ds) n ≡ false → (q : Sequent) (bs : List Binder) → IsTypedSequent (context_of (declared ds)) q →
+    IsTypedScope (declared (ds ++ (n, entry.Lemma q bs) ∷ []))
+lemma_added ds s n f q bs t = subst IsTypedScope (sym (declared-append ds ((n, entry.Lemma q bs) ∷ []))) (typed_after nothing [] (declared ds) ((n, lemma q) ∷ []) s (f, t, tt))
 
 pub module_added : (ds : scope.Declarations) → IsTypedScope (declared ds) → (t : Node) (m : Module) → module_given ds t ≡ given m →
     IsTypedScope (declared (ds ++ (m.name, entry.Module m) ∷ []))

@@ -45,7 +45,7 @@ use Rattle.gb_elab_laws.proofs.Given.{given_bind, given_is, if_refused, not_give
 use Rattle.gb_elab_laws.specs.Fitting.{AreTypes, IsGiven}
 use Rattle.gb_elab_laws.specs.Procedures.{IsOfProcedures}
 use Rattle.gb_elab_laws.proofs.Declared.{declared_in}
-use Rattle.gb_elab_laws.proofs.Fits.{context_fits, reading_fits}
+use Rattle.gb_elab_laws.proofs.Fits.{context_fits, nothing_read, reading_fits}
 use Rattle.gb_elab_laws.proofs.Forms.{elaborated_typed}
 use Rattle.gb_elab_laws.proofs.Members.{free_is}
 use Rattle.gb_elab_laws.proofs.Types.{have_finite, spelled_typed}
@@ -141,7 +141,7 @@ stated_typed ds x bs t q h =
     let c = of_sequent (context_of (declared ds)) (around b) (no_locals b.memories) in
     let given_in : IsTypedScope (declared ds) → IsGiven false c Formula (Some ty.Bool) f.0 =
     λ w.
-    (let fits = context_fits false ds (around b) (no_locals b.memories) (as_many b.memories) refl (variables_with false b.values (variable w)) w in
+    (let fits = context_fits false ds (around b) (no_locals b.memories) (as_many b.memories) refl nothing_read (variables_with false b.values (variable w)) w in
     elaborated_typed t c (statement ds (around b)) [] (reading_fits outside c (ambient ds (around b)) [] fits) (Some ty.Bool) tt f.0 f.1) in
     let form : IsTypedScope (declared ds) → IsForm c f.0 = λ w. (let g = given_in w in record { typed = g.typed; truth = g.wanted }) in
     let apart : IsTypedScope (declared ds) → TermNames NoName AnyName f.0 = λ w. (let g = given_in w in g.apart refl) in

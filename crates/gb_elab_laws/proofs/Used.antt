@@ -1,9 +1,9 @@
 -- What hypotheses with typed arguments say is typed, and is what they say.
-use Rattle.std.proofs.Common.{◌≡◌, inl, inr, ℕ, ◌+◌, ◌≤◌, nat_lt, Bool, true, false, if◌then◌else◌, List, [], ◌∷◌, length, map, take, drop, length-take, Option, Some, None, refl, ap, sym, ◌∙◌, subst, arith}
-use Rattle.std.proofs.lemmas.Bool.{false≢true, ltb-false}
+use Rattle.std.proofs.Common.{◌≡◌, inl, inr, ℕ, ◌+◌, nat_lt, Bool, true, false, if◌then◌else◌, List, [], ◌∷◌, length, map, Option, Some, None, refl, ap, sym, ◌∙◌, subst, arith}
+use Rattle.std.proofs.lemmas.Bool.{false≢true}
 use Rattle.std.specs.Prelude.{bytes_eq}
 use Rattle.std.specs.List.{AllByRecursion}
-use Rattle.std.specs.Option.{option_map_or}
+use Rattle.std.specs.Option.{option_map, option_map_or}
 use Rattle.gb_core.specs.declared.place.Place.{Place}
 use Rattle.gb_core.specs.declared.refusal.Why.TheVariants.{Argument, UnknownName}
 use Rattle.gb_core.specs.declared.ty.Ty.{Ty}
@@ -13,13 +13,16 @@ use Rattle.gb_terms.specs.declared.term.Head.TheVariants as head
 use Rattle.gb_terms.specs.Make.{node}
 use Rattle.gb_terms.specs.declared.decl.TypedName.{TypedName}
 use Rattle.gb_terms.specs.declared.module.Bind.{Bind}
-use Rattle.gb_terms.specs.declared.op.Read.TheVariants.{Logical}
-use Rattle.gb_walk.specs.declared.change.Change.TheVariants.{ToTerm}
-use Rattle.gb_walk.specs.Change.{Changes, term_changed}
+use Rattle.gb_terms.specs.declared.op.Side.{Side}
+use Rattle.gb_terms.specs.declared.op.Side.TheVariants as side
+use Rattle.gb_walk.specs.declared.change.Change.TheVariants.{ToSide}
+use Rattle.gb_walk.specs.Change.{term_changed}
 use Rattle.gb_goal.specs.Answers.{◌>>=◌, not_built}
 use Rattle.gb_goal.specs.Answers.Answer.{given, refused}
 use Rattle.gb_goal.specs.Scope as scope
-use Rattle.gb_goal.specs.Scope.{as_lemma, entry_of, lemma_of}
+use Rattle.gb_goal.specs.Scope.{as_lemma, binders_of, entry_of, lemma_of}
+use Rattle.gb_goal.specs.declared.scope.Binder.{Binder}
+use Rattle.gb_goal.specs.declared.scope.Binder.TheVariants.{Value, Memory}
 use Rattle.gb_goal.specs.declared.scope.Entry.{Entry}
 use Rattle.gb_goal.specs.declared.scope.Entry.TheVariants as entry
 use Rattle.gb_goal.specs.declared.sequent.Hyp.{Hyp}
@@ -32,7 +35,9 @@ use Rattle.gb_laws.proofs.Nodes.{each_is_node}
 use Rattle.gb_typed.specs.Finite.{IsFinite}
 use Rattle.gb_holds.specs.Declared.{declaration_of, declared}
 use Rattle.gb_typed.specs.Programs.{HaveFiniteTypes}
-use Rattle.gb_typing.specs.Context.{Context, Frame}
+use Rattle.gb_typed.specs.Typing.{IsSide}
+use Rattle.gb_typed.specs.Typing.Binder.{memory}
+use Rattle.gb_typing.specs.Context.{Context, Frame, erased, within}
 use Rattle.gb_typing.specs.Typing.{IsForm}
 use Rattle.gb_typing.specs.Sequents.{of_sequent, with_modules, AreFormulas, IsTypedSequent}
 use Rattle.gb_typing.specs.Scopes.{context_of, IsTypedScope}
@@ -43,21 +48,32 @@ use Rattle.gb_models.specs.Speaking.{HaveNoModule}
 use Rattle.gb_models.proofs.Staying.{without_modules}
 use Rattle.gb_amb.specs.Closed.{IsAmong}
 use Rattle.gb_amb.proofs.Cases.{conclusion_formula}
-use Rattle.gb_amb.proofs.Wider.{small}
-use Rattle.gb_use.specs.Instances.{IsArgument, Says, at_argument}
-use Rattle.gb_use.specs.Lemmas.{AreArguments, AreFinite, in_place_from, IsKnown, IsLemmaIn, IsOfValues, said_by}
+use Rattle.gb_amb.proofs.Wider.{small, wider}
+use Rattle.gb_amb.specs.Witness.{at_memory}
+use Rattle.gb_use.specs.Instances.{Argument as UsedArgument, IsArgument, Says, at_argument}
+use Rattle.gb_use.specs.Instances.Argument.{of_value, of_memory}
+use Rattle.gb_use.specs.Lemmas.{AreBindersOf, AreFinite, for_binders, for_each_memory, for_each_value, generalized, IsKnown, IsLemmaIn, IsOfStates}
+use Rattle.gb_use.proofs.Binders.{binders_typed, framed}
 use Rattle.gb_use.proofs.Foralls.{argument_typed}
-use Rattle.gb_use.proofs.Lemmas.{said_typed}
 use Rattle.gb_elab.specs.Forms.{elaborated}
+use Rattle.gb_names.specs.Environment.{ambient}
+use Rattle.gb_elab_mod.specs.BoundLocals.{reads_bound_locals}
 use Rattle.gb_elab_mod.specs.Multiples.{names_thing}
 use Rattle.gb_elab_mod.specs.Taken.{is_taken}
-use Rattle.gb_elab_mod.specs.Uses.{all_hinted, hinted, hinted_at, hypothesis_named, hypothesis, is_memory, lemma_named, name_of, no_known, of_argument, of_values, said_by as said_by_statement, said_of, said_of_all, said_on, used, used_at, used_named, value_of, values_from}
+use Rattle.gb_elab_mod.specs.Uses.{about_all, about_memory, about_value, all_hinted, hinted, hinted_at, hypothesis_named, hypothesis, is_memory, lemma_named, memory_of, name_of, no_known, of_argument, said_by, said_of, said_of_all, said_of_memory, said_on, used, used_at, used_named, value_of, without_modules as without_bound}
 use Rattle.gb_elab_laws.specs.Fitting.{IsFitting}
 use Rattle.gb_elab_laws.specs.Procedures.{AreStated, IsOfProcedures}
 use Rattle.gb_elab_laws.proofs.Fits.{goal_fits}
 use Rattle.gb_elab_laws.proofs.Forms.{elaborated_typed}
-use Rattle.gb_elab_laws.proofs.Given.{given_bind, given_is, if_refused, same_some}
+use Rattle.gb_elab_laws.proofs.Remembered.{IsNamedMemory, memory_is}
+use Rattle.gb_elab_laws.proofs.Unread.{memory_typed}
+use Rattle.gb_elab_laws.proofs.Given.{given_bind, given_is, if_refused, if_unbuilt, none_some, same_some}
 use Rattle.gb_elab_laws.proofs.Shapes.{finite_form}
+
+-- what comes of a thing that is there
+mapped : (h : Term → Term) (o : Option Term) (g : Term) → option_map h o ≡ Some g → (f : Term) × (o ≡ Some f) × (h f ≡ g)
+mapped h None g e = cc
+mapped h (Some f) g e = (f, refl, same_some (h f) g e)
 
 -- a lemma of a script is one of its declarations
 pub lemma_in : (es : scope.Declarations) (x : List ℕ) (l : Sequent) → lemma_of es x ≡ Some l → IsLemmaIn (declared es) l
@@ -65,11 +81,11 @@ lemma_in [] x l e = cc
 lemma_in ((k, d) ∷ es) x l e = by_name (bytes_eq x k) (lemma_in es x l) e
   where
     here_is : (y : Entry) → as_lemma (Some y) ≡ Some l → IsLemmaIn ((k, declaration_of y) ∷ declared es) l
-    here_is (entry.Lemma r) e = inl (same_some r l e)
+    here_is (entry.Lemma r order) e = inl (same_some r l e)
     here_is _ e = cc
 
     further : (y : Entry) → IsLemmaIn (declared es) l → IsLemmaIn ((k, declaration_of y) ∷ declared es) l
-    further (entry.Lemma r) m = inr m
+    further (entry.Lemma r order) m = inr m
     further (entry.Module m) w = w
     further (entry.Type t) w = w
     further entry.AbstractType w = w
@@ -110,6 +126,7 @@ module _ (ds : scope.Declarations) (scoped : IsTypedScope (declared ds)) (q : Se
         globals = k.globals;
         procedures = λ e. absurd (false≢true e);
         memories = λ e. k.memories refl;
+        locals = λ e. k.locals refl;
         frames = λ e. k.frames refl;
       }
 
@@ -123,61 +140,101 @@ module _ (ds : scope.Declarations) (scoped : IsTypedScope (declared ds)) (q : Se
 
   -- what a form says of one argument
   record Said (f g : Term) : Type 0 where
-    ty : Ty
-    body : Term
-    result : Ty
-    term : Term
-    is : f ≡ node (head.All ty) (body ∷ []) result
-    argument : IsArgument here ty term
-    says : at_argument body term ≡ g
+    argument : UsedArgument
+    says : (es : List UsedArgument) (h : Term) → Says here g es h → Says here f (argument ∷ es) h
+    form : IsForm here g
+
+  -- a value
+  value_said : (f g b : Term) (u : Ty) (a : Node) → IsForm here f → (out-Term f).head ≡ head.All u → (out-Term f).args ≡ b ∷ [] → said_of ds q (head.All u) (b ∷ []) a ≡ given g → Said f g
+  value_said f g b u a w eh et k =
+      let r = (out-Term f).ty in
+      let whole : f ≡ node (head.All u) (b ∷ []) r = each_is_node f ∙ (λ i. node (eh i) (et i) r) in
+      let v = subst (IsForm here) whole w in
+      let p = parts_typed here (head.All u) (b ∷ []) r v.typed in
+      let y = given_bind (value_of ds q u a) (λ x. given (at_argument b x)) g k in
+      let x = value_is a u p.0.0 y.0 y.1 in
+      let same : at_argument b y.0 ≡ g = given_is (at_argument b y.0) g y.2 in
+      record {
+        argument = of_value y.0;
+        says = λ es h z. (u, b, r, whole, x, subst (λ t. Says here t es h) (sym same) z);
+        form =
+            subst (IsForm here) same
+            (subst (λ d. IsForm d (node (head.All u) (b ∷ []) r) → IsArgument d u y.0 → IsForm d (at_argument b y.0)) (sym here_small) (λ v x. argument_typed base us ns u y.0 x b r v) v x);
+      }
+
+  -- a memory of the context
+  pub record IsNamed (s : Side) : Type 0 where
+    pub number : ℕ
+    pub is : s ≡ side.Memory number
+    pub named : IsNamedMemory here s
+
+  named_is : (s : Side) → IsNamedMemory here s → IsNamed s
+  named_is (side.Memory i) m = record { number = i; is = refl; named = m }
+  named_is side.Own m = absurd m.place
+  named_is side.Left m = absurd m.place
+  named_is side.Right m = absurd m.place
+  named_is (side.Bound i) m = absurd (subst (λ d. IsSide (erased d) (side.Bound i) → ⊥) (sym here_small) (λ w. w) m.side)
+
+  pub memory_named : (h : Kind) (ps : List Node) (p : Place) (s : Side) → memory_of ds q h ps p ≡ given s → IsNamed s
+  memory_named text.Memory (n ∷ []) p s e = named_is s (memory_is here (ambient ds q) [] (goal_fits ds scoped q t) refl (text_of n) (place_of n) s e)
+  memory_named text.Memory [] p s e = cc
+  memory_named text.Memory (n ∷ m ∷ ps) p s e = cc
+  memory_named _ ps p s e = cc
+
+  -- what the body of a quantifier over memories says of one of the context is typed
+  pub said_of_memory_typed : (i : ℕ) → IsNamedMemory here (side.Memory i) → (ls : List TypedName) (b : Term) → IsForm (within here memory (Some ls)) b → reads_bound_locals b ≡ false →
+      IsForm here (at_memory b i)
+  said_of_memory_typed i m ls b w e =
+      subst (λ d. IsNamedMemory d (side.Memory i) → IsForm (within d memory (Some ls)) b → IsForm d (at_memory b i)) (sym here_small)
+      (λ n body. memory_typed base us ns i n.frame n.side ls b body e) m w
+
+  memory_said : (f g b : Term) (a : Node) → IsForm here f → (out-Term f).head ≡ head.AllMemory → (out-Term f).args ≡ b ∷ [] → said_of ds q head.AllMemory (b ∷ []) a ≡ given g → Said f g
+  memory_said f g b a w eh et k =
+      let r = (out-Term f).ty in
+      let whole : f ≡ node head.AllMemory (b ∷ []) r = each_is_node f ∙ (λ i. node (eh i) (et i) r) in
+      let v = subst (IsForm here) whole w in
+      let p = parts_typed here head.AllMemory (b ∷ []) r v.typed in
+      let y = given_bind (memory_of ds q (head_of a) (parts_of a) (place_of a)) (λ s. said_of_memory b s (place_of a)) g k in
+      let m = memory_named (head_of a) (parts_of a) (place_of a) y.0 y.1 in
+      let z = if_unbuilt (reads_bound_locals b) (place_of a) (term_changed b (ToSide (side.Bound 0) y.0 ∷ [])) g y.2 in
+      let same : at_memory b m.number ≡ g = ap (λ s. term_changed b (ToSide (side.Bound 0) s ∷ [])) (sym m.is) ∙ z.1 in
+      let place : IsNamedMemory here (side.Memory m.number) = subst (IsNamedMemory here) m.is m.named in
+      let body : IsForm (within here memory (Some p.2)) b = record { typed = p.3; truth = p.0.0 } in
+      let form : IsForm here (at_memory b m.number) = said_of_memory_typed m.number place p.2 b body z.0 in
+      record {
+        argument = of_memory m.number;
+        says = λ es h x. (b, r, whole, form, subst (λ t. Says here t es h) (sym same) x);
+        form = subst (IsForm here) same form;
+      }
 
   said_is : (f g : Term) (a : Node) → IsForm here f → (h : Head) (ts : List Term) → (out-Term f).head ≡ h → (out-Term f).args ≡ ts → said_of ds q h ts a ≡ given g → Said f g
-  said_is f g a w (head.All u) (b ∷ []) eh et k =
-      let whole : f ≡ node (head.All u) (b ∷ []) (out-Term f).ty = each_is_node f ∙ (λ i. node (eh i) (et i) (out-Term f).ty) in
-      let v = subst (IsForm here) whole w in
-      let p = parts_typed here (head.All u) (b ∷ []) (out-Term f).ty v.typed in
-      let y = given_bind (value_of ds q u a) (λ x. given (at_argument b x)) g k in
-      record {
-        ty = u;
-        body = b;
-        result = (out-Term f).ty;
-        term = y.0;
-        is = whole;
-        argument = value_is a u p.0.0 y.0 y.1;
-        says = given_is (at_argument b y.0) g y.2;
-      }
+  said_is f g a w (head.All u) (b ∷ []) eh et k = value_said f g b u a w eh et k
   said_is f g a w (head.All u) [] eh et k = cc
   said_is f g a w (head.All u) (b ∷ c ∷ ts) eh et k = cc
-  said_is f g a w head.AllMemory ts eh et k = by_test (is_memory (head_of a)) k
-    where
-      by_test : (b : Bool) → (if b then not_built (place_of a) else refused Argument (place_of a)) ≡ given g → Said f g
-      by_test true k = cc
-      by_test false k = cc
+  said_is f g a w head.AllMemory (b ∷ []) eh et k = memory_said f g b a w eh et k
+  said_is f g a w head.AllMemory [] eh et k = cc
+  said_is f g a w head.AllMemory (b ∷ c ∷ ts) eh et k = cc
   said_is f g a w h ts eh et k = cc
 
-  said_form : (f g : Term) → IsForm here f → Said f g → IsForm here g
-  said_form f g w s =
-      subst (IsForm here) s.says
-      (subst (λ d. IsForm d (node (head.All s.ty) (s.body ∷ []) s.result) → IsArgument d s.ty s.term → IsForm d (at_argument s.body s.term)) (sym here_small)
-      (λ v x. argument_typed base us ns s.ty s.term x s.body s.result v) (subst (IsForm here) s.is w) s.argument)
-
-  said_of_each : (es : List Node) (f g : Term) → IsForm here f → said_of_all ds q f es ≡ given g → (ts : List Term) × Says here f ts g × IsForm here g
+  said_of_each : (es : List Node) (f g : Term) → IsForm here f → said_of_all ds q f es ≡ given g → (xs : List UsedArgument) × Says here f xs g × IsForm here g
   unfolding said_of_all
   said_of_each [] f g w h = let e = given_is f g h in ([], e, subst (IsForm here) e w)
   said_of_each (a ∷ es) f g w h =
       let y = given_bind (said_of ds q (out-Term f).head (out-Term f).args a) (λ z. said_of_all ds q z es) g h in
       let s = said_is f y.0 a w (out-Term f).head (out-Term f).args refl refl y.1 in
-      let r = said_of_each es y.0 g (said_form f y.0 w s) y.2 in
-      (s.term ∷ r.0, (s.ty, s.body, s.result, s.is, s.argument, subst (λ z. Says here z r.0 g) (sym s.says) r.1), r.2)
+      let r = said_of_each es y.0 g s.form y.2 in
+      (s.argument ∷ r.0, s.says r.0 g r.1, r.2)
 
-  -- what a lemma says is typed where it is used
-  instance_typed : (l : Sequent) → IsOfValues (declared ds) l → q.modules ≡ [] → (es : List Term) → AreArguments here (map (λ v. v.ty) l.logical) es → IsForm here (said_by l es)
-  instance_typed l o alone es w =
+  -- a statement with leading `forall`s for its binders is typed where it is used
+  generalized_typed : (l : Sequent) (o : IsOfStates (declared ds) l) → q.modules ≡ [] → (ks : List Binder) → AreBindersOf ks (map (λ v. v.ty) l.logical) o.frames → IsForm here (generalized ks l)
+  generalized_typed l o alone ks w =
       let xs = map (λ (v : TypedName). v.ty) l.logical in
-      let stated : IsForm (small base xs []) l.conclusion =
+      let stated : IsForm (small base xs (framed o.frames)) l.conclusion =
       subst (λ d. IsForm d l.conclusion)
-      (sequent_outermost (declared ds) l [] ∙ ap (λ bs. small (with_modules (context_of (declared ds)) bs) xs []) (o.modules ∙ sym alone)) o.conclusion in
-      subst (λ d. AreArguments d xs es → IsForm d (said_by l es)) (sym here_small) (λ v. said_typed base us ns xs es v l.conclusion stated) w
+      (sequent_outermost (declared ds) l o.frames ∙ ap (λ bs. small (with_modules (context_of (declared ds)) bs) xs (framed o.frames)) (o.modules ∙ sym alone)) o.conclusion in
+      subst (λ d. IsForm d (generalized ks l)) (sym here_small)
+      (wider base [] [] us ns (record { variables = λ i t e. none_some t e; memories = λ i m. absurd (omega (arith, m)) }) (generalized ks l)
+      (binders_typed base ks [] xs [] o.frames w o.values l.conclusion stated))
 
   -- a hypothesis of the goal
   abbrev Known : List Hyp → Term → Type 0
@@ -200,72 +257,66 @@ module _ (ds : scope.Declarations) (scoped : IsTypedScope (declared ds)) (q : Se
   all_finite [] h = tt
   all_finite (v ∷ vs) h = (h.0, all_finite vs h.1)
 
-  no_frames : (fs : List (List TypedName)) → length fs ≡ 0 → fs ≡ []
-  no_frames [] e = refl
-  no_frames (f ∷ fs) e = absurd (omega (arith, e))
-
-  -- a lemma without memories and modules is about values
-  about_values : (l : Sequent) → IsTypedSequent (context_of (declared ds)) l → IsOfProcedures l → l.memories ≡ [] → l.modules ≡ [] → IsOfValues (declared ds) l
-  about_values l w p ms bs =
+  -- a lemma without modules is about values and memories
+  abbrev about_states : (l : Sequent) → IsTypedSequent (context_of (declared ds)) l → IsOfProcedures l → l.modules ≡ [] → IsOfStates (declared ds) l
+  about_states l w p bs =
       let c = of_sequent (context_of (declared ds)) l w.frames in
       let formula = conclusion_formula c l.conclusion w.conclusion p.bodies in
       let front = without_modules ds l w in
       let form : IsForm c l.conclusion = formula_form c l.conclusion formula front.conclusion in
       record {
         modules = bs;
-        memories = ms;
         hyps = p.hyps;
         values = all_finite l.logical w.logical;
-        conclusion = subst (λ fs. IsForm (of_sequent (context_of (declared ds)) l fs) l.conclusion) (no_frames w.frames (w.memories ∙ ap length ms)) form;
+        frames = w.frames;
+        conclusion = form;
       }
 
-  -- terms in the places of variables
-  record Placed (n : ℕ) (vs : List TypedName) (cs : Changes) : Type 0 where
-    terms : List Term
-    are : in_place_from n terms ≡ cs
-    arguments : AreArguments here (map (λ v. v.ty) vs) terms
-
-  values_placed : (n : ℕ) (vs : List TypedName) (es : List Node) (cs : Changes) → HaveFiniteTypes vs → length vs ≤ length es → values_from ds q n vs es ≡ given cs → Placed n vs cs
-  unfolding values_from
-  values_placed n [] es cs h m e = record { terms = []; are = given_is [] cs e; arguments = tt }
-  values_placed n (v ∷ vs) [] cs h m e = absurd (omega (arith, m))
-  values_placed n (v ∷ vs) (a ∷ es) cs h m e =
-      let t = given_bind (value_of ds q v.ty a) _ cs e in
-      let r = given_bind (values_from ds q (n + 1) vs es) (λ rs. given (ToTerm (Logical n) t.0 ∷ rs)) cs t.2 in
-      let k = values_placed (n + 1) vs es r.0 h.1 (omega (arith, m)) r.1 in
-      record {
-        terms = t.0 ∷ k.terms;
-        are = ap (λ rs. ToTerm (Logical n) t.0 ∷ rs) k.are ∙ given_is _ cs r.2;
-        arguments = (value_is a v.ty h.0 t.0 t.1, k.arguments);
-      }
+  -- leading `forall`s for binders are those of the lemma's meaning
+  binders_are : (ks : List Binder) (vs : List TypedName) (ms : List (List ℕ)) (fs : List (List TypedName)) → length fs ≡ length ms → (i m : ℕ) (f g : Term) → about_all ks vs ms i m f ≡ Some g →
+      AreBindersOf ks (map (λ v. v.ty) vs) fs × (for_binders ks (map (λ v. v.ty) vs) i m f ≡ g)
+  unfolding about_all
+  binders_are [] [] [] [] n i m f g e = (tt, same_some f g e)
+  binders_are [] [] [] (l ∷ fs) n i m f g e = absurd (omega (arith, n))
+  binders_are [] [] (x ∷ ms) fs n i m f g e = cc
+  binders_are [] (v ∷ vs) ms fs n i m f g e = cc
+  binders_are (Value ∷ ks) [] ms fs n i m f g e = cc
+  binders_are (Value ∷ ks) (v ∷ vs) ms fs n i m f g e =
+      let k = mapped (about_value i v.ty) (about_all ks vs ms (i + 1) m f) g e in
+      let r = binders_are ks vs ms fs n (i + 1) m f k.0 k.1 in (r.0, ap (for_each_value i v.ty) r.1 ∙ k.2)
+  binders_are (Memory ∷ ks) vs [] fs n i m f g e = cc
+  binders_are (Memory ∷ ks) vs (x ∷ ms) [] n i m f g e = absurd (omega (arith, n))
+  binders_are (Memory ∷ ks) vs (x ∷ ms) (l ∷ fs) n i m f g e =
+      let k = mapped (about_memory m) (about_all ks vs ms i (m + 1) f) g e in
+      let r = binders_are ks vs ms fs (omega (arith, n)) i (m + 1) f k.0 k.1 in (r.0, ap (for_each_memory m) r.1 ∙ k.2)
 
   -- a form that is known, and typed
   abbrev IsUsed : Term → Type 0
   IsUsed f = IsForm here f × IsKnown (declared ds) q here f
 
   -- a lemma and its arguments
-  said_by_lemma : (x : List ℕ) (l : Sequent) → lemma_of ds x ≡ Some l → IsTypedSequent (context_of (declared ds)) l → IsOfProcedures l → l.memories ≡ [] → l.modules ≡ [] →
-      (es : List Node) (p : Place) (f : Term) → said_on ds q l.logical l.conclusion es p ≡ given f → IsUsed f
-  said_by_lemma x l there w o ms bs es p f e =
-      let k = if_refused (nat_lt (length es) (length l.logical)) Argument p _ f e in
-      let y = given_bind (values_from ds q 0 l.logical (take (length l.logical) es)) _ f k.1 in
-      let enough : length l.logical ≤ length es = ltb-false (length es) (length l.logical) k.0 in
-      let v = values_placed 0 l.logical (take (length l.logical) es) y.0 w.logical (simp length-take (omega (arith, enough))) y.1 in
-      let stated = about_values l w o ms bs in
+  said_by_lemma : (x : List ℕ) (l : Sequent) → lemma_of ds x ≡ Some l → IsTypedSequent (context_of (declared ds)) l → IsOfProcedures l → l.modules ≡ [] →
+      (ks : List Binder) (g : Term) → about_all ks l.logical l.memories 0 0 l.conclusion ≡ Some g → (es : List Node) (p : Place) (f : Term) → said_on ds q ks es p g ≡ given f → IsUsed f
+  said_by_lemma x l there w o bs ks g a es p f e =
+      let k = if_refused (nat_lt (length es) (length ks)) Argument p _ f e in
+      let stated = about_states l w o bs in
       let alone = (without_modules ds q t).modules in
-      let form = instance_typed l stated alone v.terms v.arguments in
-      let same : term_changed l.conclusion y.0 ≡ said_by l v.terms = ap (term_changed l.conclusion) (sym v.are) in
-      let s = said_of_each (drop (length l.logical) es) (said_by l v.terms) f form (ap (λ g. said_of_all ds q g (drop (length l.logical) es)) (sym same) ∙ y.2) in
-      (s.2, inr (record { alone = alone; lemma = l; among = lemma_in ds x l there; stated = stated; terms = v.terms; arguments = v.arguments; more = s.0; says = s.1 }))
+      let all = binders_are ks l.logical l.memories w.frames w.memories 0 0 l.conclusion g a in
+      let form = generalized_typed l stated alone ks all.0 in
+      let s = said_of_each es (generalized ks l) f form (ap (λ z. said_of_all ds q z es) all.1 ∙ k.1) in
+      (s.2, inr (record { alone = alone; lemma = l; among = lemma_in ds x l there; stated = stated; binders = ks; all = all.0; arguments = s.0; says = s.1 }))
 
   module _ (lemmas : AreStated ds) where
-    of_lemma : (x : List ℕ) (l : Sequent) → lemma_of ds x ≡ Some l → (es : List Node) (p : Place) (f : Term) → said_by_statement ds q l es p ≡ given f → IsUsed f
-    of_lemma x l there es p f e = by_kinds l.memories l.modules refl refl e
+    of_lemma : (x : List ℕ) (l : Sequent) → lemma_of ds x ≡ Some l → (ks : List Binder) (es : List Node) (p : Place) (f : Term) → said_by ds q ks l es p ≡ given f → IsUsed f
+    of_lemma x l there ks es p f e = by_modules l.modules refl e
       where
-        by_kinds : (ms : List (List ℕ)) (bs : List Bind) → l.memories ≡ ms → l.modules ≡ bs → of_values ms bs (said_on ds q l.logical l.conclusion es p) p ≡ given f → IsUsed f
-        by_kinds [] [] im ib e = let w = lemmas x l there in said_by_lemma x l there w.0 w.1 im ib es p f e
-        by_kinds [] (b ∷ bs) im ib e = cc
-        by_kinds (m ∷ ms) bs im ib e = cc
+        by_option : (o : Option Term) → about_all ks l.logical l.memories 0 0 l.conclusion ≡ o → l.modules ≡ [] → option_map_or (said_on ds q ks es p) o (not_built p) ≡ given f → IsUsed f
+        by_option None a ib e = cc
+        by_option (Some g) a ib e = let w = lemmas x l there in said_by_lemma x l there w.0 w.1 ib ks g a es p f e
+
+        by_modules : (bs : List Bind) → l.modules ≡ bs → without_bound bs (option_map_or (said_on ds q ks es p) (about_all ks l.logical l.memories 0 0 l.conclusion) (not_built p)) p ≡ given f → IsUsed f
+        by_modules [] ib e = by_option (about_all ks l.logical l.memories 0 0 l.conclusion) refl ib e
+        by_modules (b ∷ bs) ib e = cc
 
     of_name : (x : List ℕ) (es : List Node) (p : Place) (f : Term) → used_named ds q x es p ≡ given f → IsUsed f
     unfolding used_named
@@ -278,18 +329,18 @@ module _ (ds : scope.Declarations) (scoped : IsTypedScope (declared ds)) (q : Se
             by_test true e = cc
             by_test false e = cc
 
-        by_lemma : (b : Bool) (o : Option Sequent) → lemma_of ds x ≡ o → option_map_or (λ l. said_by_statement ds q l es p) (if b then None else o) (no_known ds q x p) ≡ given f → IsUsed f
+        by_lemma : (b : Bool) (o : Option Sequent) → lemma_of ds x ≡ o → option_map_or (λ l. said_by ds q (binders_of ds x) l es p) (if b then None else o) (no_known ds q x p) ≡ given f → IsUsed f
         by_lemma true o i e = nothing e
         by_lemma false None i e = nothing e
-        by_lemma false (Some l) i e = of_lemma x l i es p f e
+        by_lemma false (Some l) i e = of_lemma x l i (binders_of ds x) es p f e
 
         by_hypothesis : (o : Option Term) → hypothesis_named q.hyps x ≡ o →
-            option_map_or (λ f. said_of_all ds q f es) o (option_map_or (λ l. said_by_statement ds q l es p) (lemma_named ds q x) (no_known ds q x p)) ≡ given f → IsUsed f
+            option_map_or (λ f. said_of_all ds q f es) o (option_map_or (λ l. said_by ds q (binders_of ds x) l es p) (lemma_named ds q x) (no_known ds q x p)) ≡ given f → IsUsed f
         by_hypothesis (Some g) i e =
             let without = without_modules ds q t in
             let k = found q.hyps t.hyps without.hyps x g i in
             let s = said_of_each es g f k.1 e in
-            (s.2, inl (record { known = g; among = k.0; form = k.1; terms = s.0; says = s.1 }))
+            (s.2, inl (record { known = g; among = k.0; form = k.1; arguments = s.0; says = s.1 }))
         by_hypothesis None i e = by_lemma (is_taken q x) (lemma_of ds x) refl e
 
     used_typed_at : (h : Kind) (ps : List Node) (n : Node) (f : Term) → used_at ds q h ps n ≡ given f → IsUsed f
@@ -315,7 +366,7 @@ module _ (ds : scope.Declarations) (scoped : IsTypedScope (declared ds)) (q : Se
         by_option (Some g) i e =
             let without = without_modules ds q t in
             let k = found q.hyps t.hyps without.hyps x f (i ∙ ap Some (given_is g f e)) in
-            (k.1, inl (record { known = f; among = k.0; form = k.1; terms = []; says = refl }))
+            (k.1, inl (record { known = f; among = k.0; form = k.1; arguments = []; says = refl }))
 
     hinted_typed_at : (h : Kind) (ps : List Node) (n : Node) (f : Term) → hinted_at ds q h ps n ≡ given f → IsUsed f
     hinted_typed_at text.LemmaHint (l ∷ []) n f e = used_typed l f e

@@ -34,6 +34,7 @@ use Rattle.gb_names.specs.declared.setting.Variables.{Variables}
 use Rattle.gb_names.specs.declared.setting.Variables.TheVariants.{Absent, Own, Sides}
 use Rattle.gb_names.specs.Environment.{Environment}
 use Rattle.gb_names.specs.Allowed.{has_judgments}
+use Rattle.gb_names.specs.Locals.{goal_read_type}
 use Rattle.gb_names.specs.Names.{first_named, has_memories}
 
 -- whether the globals of modules may be read in a form
@@ -124,7 +125,8 @@ HasGlobalsIf globals (Some m) = HasGlobals globals m.name m
 -- A context that fits an environment, under bound names: what the environment gives a name stands there, at types of values; what
 -- is bound, at types of forms; what is declared stands with its types, and so do the globals of the module around; where globals may
 -- be read, those of each declared module do; where judgments may stand, each declared procedure does; and where named memories may be
--- read, each memory of the sequent and each that is bound does. It is told whether types of the globals of modules may stand.
+-- read, each memory of the sequent, with the locals that the sequent reads in it, and each that is bound does. It is told whether
+-- types of the globals of modules may stand.
 pub record IsFitting (globs : Bool) (c : Context) (at : Environment) (vs : List Binding) : Type 0 where
   pub logical : (i : ℕ) → c.logical i ≡ item (map (λ x. x.ty) at.sequent.logical) i
   pub values : AllFiniteWith globs at.sequent.logical
@@ -135,6 +137,8 @@ pub record IsFitting (globs : Bool) (c : Context) (at : Environment) (vs : List 
   pub globals : reads_globals at.language ≡ true → (n : Name) (m : Module) → module_of at.declared n ≡ Some m → HasGlobals c.global n m
   pub procedures : has_judgments at.language ≡ true → (p : ProcRef) (f : Proc) → procedure_of at.declared p ≡ Some f → IsTypeOf (procedure c p) f
   pub memories : has_memories at.language ≡ true → (i : ℕ) → i < length at.sequent.memories → (i < length c.named) × IsFrame (frame_of c (side.Memory i))
+  pub locals : has_memories at.language ≡ true → (i : ℕ) (x : Name) (t : Ty) → goal_read_type (side.Memory i) x at.sequent ≡ Some t →
+      (local_in (frame_of c (side.Memory i)) x ≡ Some t) × IsFiniteWith globs t
   pub frames : has_memories at.language ≡ true → (i : ℕ) → IsMemory (binder (erased c) i) → IsFrame (frame_of c (side.Bound i))
 
 -- of the wanted type, where one is wanted

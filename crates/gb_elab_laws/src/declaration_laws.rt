@@ -1,11 +1,12 @@
 //! What the typing of declarations gives.
 
-ghost use Rattle.std.specs.Prelude.{◌≡◌, false, [], ◌∷◌, ◌++◌};
+ghost use Rattle.std.specs.Prelude.{◌≡◌, false, List, [], ◌∷◌, ◌++◌};
 ghost use Rattle.gb_core.specs.declared.ty.Ty.TheVariants as ty;
 ghost use Rattle.gb_terms.specs.declared.decl.Module.{Module};
 ghost use Rattle.gb_script.specs.declared.tree.Node.{Node};
 ghost use Rattle.gb_goal.specs.Scope as scope;
 ghost use Rattle.gb_goal.specs.Scope.{AreNoLemmas};
+ghost use Rattle.gb_goal.specs.declared.scope.Binder.{Binder};
 ghost use Rattle.gb_goal.specs.declared.scope.Entry.TheVariants as entry;
 ghost use Rattle.gb_goal.specs.declared.sequent.Sequent.{Sequent};
 ghost use Rattle.gb_goal.specs.Answers.Answer.{given};
@@ -59,6 +60,6 @@ pub fn statements()
 
 /// A typed scope stays typed with a lemma of a typed goal, under a free name.
 pub fn lemmas()
-    ensures { (ds : scope.Declarations) → IsTypedScope (declared ds) → (n : Name) → is_declared (declared ds) n ≡ false → (q : Sequent) →
-        IsTypedSequent (context_of (declared ds)) q → IsTypedScope (declared (ds ++ (n, entry.Lemma q) ∷ [])) }
+    ensures { (ds : scope.Declarations) → IsTypedScope (declared ds) → (n : Name) → is_declared (declared ds) n ≡ false → (q : Sequent) (bs : List Binder) →
+        IsTypedSequent (context_of (declared ds)) q → IsTypedScope (declared (ds ++ (n, entry.Lemma q bs) ∷ [])) }
 {}

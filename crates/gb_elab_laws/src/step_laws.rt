@@ -27,7 +27,7 @@ ghost use Rattle.gb_elab_laws.specs.Procedures.{AreStated};
 ghost use Rattle.gb_elab_laws.specs.Reading.{IsOuter, StandIn};
 ghost use Rattle.gb_bodies.specs.Rows as bodies;
 ghost use Rattle.gb_equiv.specs.Rows.{IsTypedRule};
-ghost use Rattle.gb_call.specs.Rows as calls;
+ghost use Rattle.gb_call_both.specs.Rows as calls;
 ghost use Rattle.gb_amb.specs.Steps.{IsTypedStep};
 ghost use Rattle.gb_use.specs.Lemmas.{IsKnown};
 ghost use Rattle.gb_use.specs.Uses as uses;

@@ -1,2 +1,3 @@
+pub mod BoundLocals
 pub mod Found
 pub mod LastProcedures

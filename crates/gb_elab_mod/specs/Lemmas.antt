@@ -1,7 +1,9 @@
 -- The typing of the statement of a lemma.
-use Rattle.std.specs.Prelude.{ℕ, List, [], ◌∷◌, Some}
+use Rattle.std.specs.Prelude.{ℕ, List, [], ◌∷◌, ◌++◌, map, Some}
 use Rattle.gb_core.specs.declared.place.Place.{Place}
 use Rattle.gb_core.specs.declared.ty.Ty.TheVariants.{Bool as bool_ty}
+use Rattle.gb_goal.specs.declared.scope.Binder.{Binder}
+use Rattle.gb_goal.specs.declared.scope.Binder.TheVariants.{Value, Memory}
 use Rattle.gb_goal.specs.declared.sequent.Sequent.{Sequent}
 use Rattle.gb_goal.specs.Scope.{Declarations}
 use Rattle.gb_script.specs.declared.head.Head.{Head}
@@ -47,3 +49,21 @@ statement_by ds _ _ p = not_built p
 
 abbrev pub statement_given : Declarations → Node → Answer Sequent
 statement_given ds t = statement_by ds (head_of t) (parts_of t) (place_of t)
+
+-- what a binder binds: values of one type, or a memory
+abbrev pub binds : Head → List Node → List Binder
+binds head.Values (x ∷ xs ∷ t ∷ []) = Value ∷ map (λ x. Value) (parts_of xs)
+binds head.Memory ps = Memory ∷ []
+binds _ ps = []
+
+abbrev pub each_binds : List Node → List Binder
+each_binds [] = []
+each_binds (b ∷ bs) = binds (head_of b) (parts_of b) ++ each_binds bs
+
+abbrev pub binders_by : Head → List Node → List Binder
+binders_by head.Lemma (x ∷ bs ∷ t ∷ []) = each_binds (parts_of bs)
+binders_by _ ps = []
+
+-- what the binders of a lemma bind, in the order of the text
+abbrev pub binders_in : Node → List Binder
+binders_in t = binders_by (head_of t) (parts_of t)

@@ -51,10 +51,11 @@ use Rattle.gb_names.specs.Environment.{Environment, ambient, of_function, relati
 use Rattle.gb_names.specs.Judgments.{result_of}
 use Rattle.gb_elab.specs.Forms.{elaborated, function}
 use Rattle.gb_limits.specs.Numbers.{number_of}
+use Rattle.gb_elab_mod.specs.BoundLocals.{reads_bound_locals}
 use Rattle.gb_elab_mod.specs.Multiples.{hypothesis_at, multiples, position}
 use Rattle.gb_elab_mod.specs.Occurring.{occurring}
 use Rattle.gb_elab_mod.specs.Taken.{new_name}
-use Rattle.gb_elab_mod.specs.Uses.{all_hinted, hypothesis, used}
+use Rattle.gb_elab_mod.specs.Uses.{all_hinted, defined_operator, hypothesis, used, is_memory, memory_of}
 use Rattle.gb_elab_prog.specs.Unbuilt.{absent}
 
 abbrev pub of_subjects : layer.Subject-F Head Instr Subject Cmd Term → layer.Subject-F Head Instr Subject Cmd Term → Option (Cmd × Cmd)
@@ -234,6 +235,11 @@ abbrev pub case_rule : Declarations → Sequent → Node → Answer Rule
 case_rule ds g f =
     if judges_bodies (out-Term g.conclusion).head then of_bodies_rule (case_of_bodies ds g f (goal_of g.conclusion)) else case_of_conclusion ds g f
 
+-- the same of a step that acts on these programs; on one side it fits no goal
+abbrev pub sided_case_rule : Declarations → Sequent → Acts → Node → Answer Rule
+sided_case_rule ds g on.All f = case_rule ds g f
+sided_case_rule ds g a f = given (rule.OnBodies on_bodies.Unfit)
+
 -- the locals of a memory before what a judgment speaks of, and after it: those that occur in the judgment, where it is a body, or the
 -- parameters of a procedure and its result
 abbrev pub params_if : Option Proc → List TypedName
@@ -302,9 +308,19 @@ contract_of ds s a pre post (Some r) = do
   h ← elaborated post (unary ds s (result_if (procedure_of ds r))) [] (Some bool_ty)
   given (rule.Call (record { acts = a; pre = f; post = h }))
 
--- the same at a judgment on a body that ends with a call; other goals give the forms no types
+-- what two called procedures are said to do: a precondition reads the parameters of both, and a postcondition both results
+unfoldable pub contract_of_both : Declarations → Sequent → Acts → Node → Node → Option ProcRef → Option ProcRef → Answer Rule
+contract_of_both ds s a pre post (Some r) (Some q) = do
+  f ← elaborated pre (relational ds s (params_if (procedure_of ds r)) (params_if (procedure_of ds q))) [] (Some bool_ty)
+  h ← elaborated post (relational ds s (result_if (procedure_of ds r)) (result_if (procedure_of ds q))) [] (Some bool_ty)
+  given (rule.Call (record { acts = a; pre = f; post = h }))
+contract_of_both ds s a pre post _ _ = given (rule.OnBodies on_bodies.Unfit)
+
+-- the same at a judgment on a body that ends with a call, or on two such bodies; other goals give the forms no types
 abbrev pub contract_at : Declarations → Sequent → Acts → Node → Node → Goal → Answer Rule
 contract_at ds s a pre post (hoare (body is) p q) = contract_of ds s a pre post (last_procedure is)
+contract_at ds s a pre post (phoare (body is) r p q b) = contract_of ds s a pre post (last_procedure is)
+contract_at ds s a pre post (equiv (body is) (body js) p q) = contract_of_both ds s a pre post (last_procedure is) (last_procedure js)
 contract_at ds s a pre post G = given (rule.OnBodies on_bodies.Unfit)
 
 -- Of the rules on calls that by what the procedure is said to do is built.
@@ -318,10 +334,26 @@ asked_of (head.Some u) = Some u
 asked_of _ = None
 
 -- a term of this type, or of any, where nothing is said to exist
-abbrev pub witness_rule : Declarations → Sequent → Node → Answer Rule
-witness_rule ds g e = do
+abbrev pub value_witness : Declarations → Sequent → Node → Answer AmbientRule
+value_witness ds g e = do
   t ← elaborated e (ambient ds g) [] (asked_of (out-Term g.conclusion).head)
-  given (rule.Ambient (conclusion.Witness t))
+  given (conclusion.Witness t)
+
+-- whether a conclusion with this head and these arguments says that a memory exists, of which it reads locals
+abbrev pub asks_for_locals : Head → List Term → Bool
+asks_for_locals head.SomeMemory (b ∷ []) = reads_bound_locals b
+asks_for_locals h ts = false
+
+-- a memory of the context, for one that is said to exist; where locals of this one are read it isn't built
+abbrev pub memory_witness : Sequent → Side → Place → Answer AmbientRule
+memory_witness g (side.Memory i) p =
+    if asks_for_locals (out-Term g.conclusion).head (out-Term g.conclusion).args then not_built p else given (conclusion.WitnessMemory i)
+memory_witness g s p = not_built p
+
+-- a memory or a term for what is said to exist
+abbrev pub witness_rule : Declarations → Sequent → Node → Answer AmbientRule
+witness_rule ds g e =
+    if is_memory (head_of e) then (memory_of ds g (head_of e) (parts_of e) (place_of e) >>= λ s. memory_witness g s (place_of e)) else value_witness ds g e
 
 -- The rule of a pattern, whose own patterns are steps of their own. The last clause takes what isn't built, and trees of another
 -- shape, of which the reader builds none, since each of its trees is well-sorted.
@@ -349,6 +381,9 @@ equals_rule ds g text.RewriteHypothesis x (n ∷ []) p = do
 equals_rule ds g text.Subst x (n ∷ []) p = do
   i ← hypothesis_at ds g (text_of n) (place_of n)
   given (rule.Rewrite (rewrite_rule.Subst i))
+equals_rule ds g text.RewriteOperator x (n ∷ []) p = do
+  y ← defined_operator ds g n
+  given (rule.Rewrite (rewrite_rule.Unfold y))
 equals_rule ds g k x ps p = pattern k x ps p
 
 -- a rule that uses what is known, one that puts equals for equals, or a pattern
@@ -381,14 +416,14 @@ typed_rule ds g text.CallStep x (b ∷ n ∷ []) p = call_rule ds g (acts (parts
 typed_rule ds g text.PlainStep x [] p = do
   r ← conclusion_rule x p
   given (rule.Ambient r)
-typed_rule ds g text.CaseStep x (b ∷ f ∷ []) p = do
-  _ ← absent (parts_of b) p
-  case_rule ds g f
+typed_rule ds g text.CaseStep x (b ∷ f ∷ []) p = sided_case_rule ds g (acts (parts_of b)) f
 typed_rule ds g text.HaveForm x (n ∷ f ∷ []) p = do
   _ ← new_name g (text_of n) (place_of n)
   t ← formed ds g f
   given (rule.Ambient (conclusion.Have (text_of n) t))
-typed_rule ds g text.Witness x (e ∷ []) p = witness_rule ds g e
+typed_rule ds g text.Witness x (e ∷ []) p = do
+  r ← witness_rule ds g e
+  given (rule.Ambient r)
 typed_rule ds g text.Smt x hints p = do
   fs ← all_hinted ds g hints
   given (rule.Smt fs)

@@ -1,20 +1,29 @@
--- The typing of hypotheses that steps use, with their arguments.
-use Rattle.std.specs.Prelude.{ℕ, ◌+◌, nat_lt, Bool, true, false, if◌then◌else◌, List, [], ◌∷◌, length, take, drop, Option, Some, None, bytes_eq}
-use Rattle.std.specs.Option.{option_map_or}
+-- The typing of hypotheses and lemmas that steps use, with their arguments.
+use Rattle.std.specs.Prelude.{ℕ, ◌+◌, nat_lt, Bool, true, false, not, ◌&&◌, if◌then◌else◌, List, [], ◌∷◌, length, Option, Some, None, bytes_eq}
+use Rattle.std.specs.Option.{option_map_or, option_map}
 use Rattle.gb_core.specs.declared.place.Place.{Place}
 use Rattle.gb_core.specs.declared.refusal.Why.TheVariants.{Argument, UnknownName}
 use Rattle.gb_terms.specs.declared.term.Term.{Term, out-Term}
 use Rattle.gb_terms.specs.declared.term.Head.{Head}
+use Rattle.gb_terms.specs.declared.term.Head.TheVariants as head
 use Rattle.gb_terms.specs.declared.term.Head.TheVariants.{All, AllMemory}
 use Rattle.gb_core.specs.declared.ty.Ty.{Ty}
+use Rattle.gb_core.specs.declared.ty.Ty.TheVariants.{Bool as bool_ty}
+use Rattle.gb_terms.specs.Make.{node}
 use Rattle.gb_terms.specs.declared.decl.TypedName.{TypedName}
 use Rattle.gb_terms.specs.declared.module.Bind.{Bind}
 use Rattle.gb_terms.specs.declared.op.Read.TheVariants.{Logical}
-use Rattle.gb_walk.specs.declared.change.Change.TheVariants.{OfBound, ToTerm}
-use Rattle.gb_walk.specs.Change.{Changes, term_changed}
+use Rattle.gb_walk.specs.declared.change.Change.TheVariants.{OfBound, ToTerm, ToSide}
+use Rattle.gb_walk.specs.Change.{term_changed}
+use Rattle.gb_goal.specs.declared.scope.Entry.{Entry}
+use Rattle.gb_goal.specs.declared.scope.Entry.TheVariants as entry
 use Rattle.gb_goal.specs.declared.sequent.Hyp.{Hyp}
 use Rattle.gb_goal.specs.declared.sequent.Sequent.{Sequent}
-use Rattle.gb_goal.specs.Scope.{Declarations, lemma_of}
+use Rattle.gb_goal.specs.Scope.{Declarations, entry_of, lemma_of, binders_of}
+use Rattle.gb_terms.specs.declared.op.Side.{Side}
+use Rattle.gb_terms.specs.declared.op.Side.TheVariants as side
+use Rattle.gb_goal.specs.declared.scope.Binder.{Binder}
+use Rattle.gb_goal.specs.declared.scope.Binder.TheVariants.{Value, Memory}
 use Rattle.gb_goal.specs.Answers.{Answer, ◌>>=◌, not_built}
 use Rattle.gb_goal.specs.Answers.Answer.{given, refused}
 use Rattle.gb_script.specs.declared.head.Head.{Head as Kind}
@@ -23,8 +32,9 @@ use Rattle.gb_script.specs.declared.tree.Node.{Node}
 use Rattle.gb_script.specs.Tree.{head_of, text_of, parts_of, place_of}
 use Rattle.gb_names.specs.declared.setting.Language.TheVariants.{Function}
 use Rattle.gb_names.specs.Environment.{Environment, ambient}
-use Rattle.gb_names.specs.Names.{path}
+use Rattle.gb_names.specs.Names.{memory_at, path}
 use Rattle.gb_elab.specs.Forms.{elaborated}
+use Rattle.gb_elab_mod.specs.BoundLocals.{reads_bound_locals}
 use Rattle.gb_elab_mod.specs.Multiples.{names_thing}
 use Rattle.gb_elab_mod.specs.Taken.{is_taken}
 
@@ -45,10 +55,19 @@ is_memory _ = false
 abbrev pub value_of : Declarations → Sequent → Ty → Node → Answer Term
 value_of ds q u a = if is_memory (head_of a) then refused Argument (place_of a) else elaborated a (of_argument ds q) [] (Some u)
 
--- What a form with this head and these arguments says of an argument: it is a `forall`. Memories aren't built yet.
+-- the memory of the context that an argument names
+abbrev pub memory_of : Declarations → Sequent → Kind → List Node → Place → Answer Side
+memory_of ds q text.Memory (n ∷ []) p = memory_at (ambient ds q) [] (text_of n) (place_of n)
+memory_of ds q _ ps p = refused Argument p
+
+-- What the body of a `forall` over memories says of a memory. Where it reads locals of a memory that is bound this isn't built.
+abbrev pub said_of_memory : Term → Side → Place → Answer Term
+said_of_memory b s p = if reads_bound_locals b then not_built p else given (term_changed b (ToSide (side.Bound 0) s ∷ []))
+
+-- what a form with this head and these arguments says of an argument: it is a `forall`
 abbrev pub said_of : Declarations → Sequent → Head → List Term → Node → Answer Term
 said_of ds q (All u) (b ∷ []) a = value_of ds q u a >>= λ t. given (term_changed b (OfBound 0 t ∷ []))
-said_of ds q AllMemory ts a = if is_memory (head_of a) then not_built (place_of a) else refused Argument (place_of a)
+said_of ds q AllMemory (b ∷ []) a = memory_of ds q (head_of a) (parts_of a) (place_of a) >>= λ s. said_of_memory b s (place_of a)
 said_of ds q h ts a = refused Argument (place_of a)
 
 -- what a form says of arguments, one after another
@@ -63,28 +82,35 @@ abbrev pub name_of : Kind → List ℕ → List Node → List ℕ
 name_of text.Path x ws = path ws
 name_of _ x ws = x
 
--- terms for the variables from a number on, in their places; where arguments are missing there are none
-unfoldable pub values_from : Declarations → Sequent → ℕ → List TypedName → List Node → Answer Changes
-values_from ds q n (v ∷ vs) (a ∷ es) = do
-  t ← value_of ds q v.ty a
-  cs ← values_from ds q (n + 1) vs es
-  given (ToTerm (Logical n) t ∷ cs)
-values_from ds q n vs es = given []
+-- what is said of a variable of the context, said of all values of its type
+abbrev pub about_value : ℕ → Ty → Term → Term
+about_value i u f = node (All u) (term_changed f (ToTerm (Logical i) (node (head.Bound 0) [] u) ∷ []) ∷ []) bool_ty
 
--- what a form on variables says of arguments: of one for each of them, and of further ones, which the form takes
-abbrev pub said_on : Declarations → Sequent → List TypedName → Term → List Node → Place → Answer Term
-said_on ds q vs c es p =
-    if nat_lt (length es) (length vs) then refused Argument p
-    else values_from ds q 0 vs (take (length vs) es) >>= λ cs. said_of_all ds q (term_changed c cs) (drop (length vs) es)
+-- what is said of a memory of the context, said of all memories
+abbrev pub about_memory : ℕ → Term → Term
+about_memory m f = node AllMemory (term_changed f (ToSide (side.Memory m) (side.Bound 0) ∷ []) ∷ []) bool_ty
 
--- memories and modules in a statement aren't built yet
-abbrev pub of_values : List (List ℕ) → List Bind → Answer Term → Place → Answer Term
-of_values [] [] a p = a
-of_values ms bs a p = not_built p
+-- What is said of the variables and memories of the context from these numbers on, said of all by a leading `forall` for each binder. The
+-- binders of a statement are as many, one for each variable and each memory; of others nothing is said.
+unfoldable pub about_all : List Binder → List TypedName → List (List ℕ) → ℕ → ℕ → Term → Option Term
+about_all [] [] [] i m f = Some f
+about_all (Value ∷ ks) (v ∷ vs) ms i m f = option_map (about_value i v.ty) (about_all ks vs ms (i + 1) m f)
+about_all (Memory ∷ ks) vs (x ∷ ms) i m f = option_map (about_memory m) (about_all ks vs ms i (m + 1) f)
+about_all ks vs ms i m f = None
 
--- what a statement says of arguments
-abbrev pub said_by : Declarations → Sequent → Sequent → List Node → Place → Answer Term
-said_by ds q s es p = of_values s.memories s.modules (said_on ds q s.logical s.conclusion es p) p
+-- what a form with leading `forall`s for binders says of arguments: of one for each of them, and of further ones
+abbrev pub said_on : Declarations → Sequent → List Binder → List Node → Place → Term → Answer Term
+said_on ds q ks es p f = if nat_lt (length es) (length ks) then refused Argument p else said_of_all ds q f es
+
+-- modules in a statement aren't built yet
+abbrev pub without_modules : List Bind → Answer Term → Place → Answer Term
+without_modules [] a p = a
+without_modules bs a p = not_built p
+
+-- what a statement with these binders says of arguments
+abbrev pub said_by : Declarations → Sequent → List Binder → Sequent → List Node → Place → Answer Term
+said_by ds q ks s es p =
+    without_modules s.modules (option_map_or (said_on ds q ks es p) (about_all ks s.logical s.memories 0 0 s.conclusion) (not_built p)) p
 
 -- the lemma of a name that nothing of the context has
 abbrev pub lemma_named : Declarations → Sequent → List ℕ → Option Sequent
@@ -97,7 +123,7 @@ no_known ds q x p = if names_thing ds q x then refused Argument p else refused (
 -- the hypothesis or the lemma of a name, and its arguments
 unfoldable pub used_named : Declarations → Sequent → List ℕ → List Node → Place → Answer Term
 used_named ds q x es p =
-    option_map_or (λ f. said_of_all ds q f es) (hypothesis_named q.hyps x) (option_map_or (λ s. said_by ds q s es p) (lemma_named ds q x) (no_known ds q x p))
+    option_map_or (λ f. said_of_all ds q f es) (hypothesis_named q.hyps x) (option_map_or (λ s. said_by ds q (binders_of ds x) s es p) (lemma_named ds q x) (no_known ds q x p))
 
 abbrev pub used_of : Declarations → Sequent → Node → List Node → Answer Term
 used_of ds q n es = used_named ds q (name_of (head_of n) (text_of n) (parts_of n)) es (place_of n)
@@ -129,3 +155,20 @@ all_hinted ds q (t ∷ ts) = do
   f ← hinted ds q t
   fs ← all_hinted ds q ts
   given (f ∷ fs)
+
+abbrev pub has_body : Option Entry → Bool
+has_body (Some (entry.Operator o)) = true
+has_body e = false
+
+-- an operator of the script with a body has this name, and nothing of the context
+abbrev pub is_defined : Declarations → Sequent → List ℕ → Bool
+is_defined ds q x = not (is_taken q x) && has_body (entry_of ds x)
+
+-- the name of an operator with a body
+abbrev pub defined_named : Declarations → Sequent → List ℕ → Place → Answer (List ℕ)
+defined_named ds q x p =
+    if is_defined ds q x then given x
+    else if names_thing ds q x then refused Argument p else refused (UnknownName x) p
+
+abbrev pub defined_operator : Declarations → Sequent → Node → Answer (List ℕ)
+defined_operator ds q t = defined_named ds q (name_of (head_of t) (text_of t) (parts_of t)) (place_of t)

@@ -1,12 +1,11 @@
 // The typing of steps on conclusions.
 
 ghost use Rattle.std.specs.Prelude.{◌≡◌, Some, bytes_eq};
-ghost use Rattle.std.specs.Option.{option_copied};
 ghost use Rattle.std.specs.List.{list_any};
 ghost use Rattle.gb_goal.specs.Answers.{Answers, ◌>>=◌ as ◌and_then◌};
 ghost use Rattle.gb_goal.specs.Answers.Answer.{given};
 ghost use Rattle.gb_script.specs.Tree.{text_of, place_of};
-ghost use Rattle.gb_elab_mod.specs.Steps.{asked_of, case_rule, conclusion_rule, formed, witness_rule};
+ghost use Rattle.gb_elab_mod.specs.Steps.{case_rule, conclusion_rule, formed, sided_case_rule};
 ghost use Rattle.gb_elab_mod.specs.Taken.{is_taken, new_name};
 
 use crate::cut::case_of_bodies;
@@ -21,10 +20,10 @@ use gb_goal::scope::Scope;
 use gb_goal::sequent::{Hyp, Sequent};
 use gb_names::refusals::{double, not_built};
 use gb_script::tree::Node;
-use gb_steps::step::{AmbientRule, Rule};
+use gb_steps::step::{Acts, AmbientRule, BodyRule, Rule};
 use gb_terms::decl::TypedName;
 use gb_terms::module::Bind;
-use gb_terms::term::{Form, Head};
+use gb_terms::term::Form;
 use std::alloc::Global;
 
 /// The steps on a conclusion that stand alone.
@@ -96,7 +95,7 @@ fn formed(alloc: Global, scope: &Scope, goal: &Sequent, tree: &Node) -> Result<F
 }
 
 /// The rule that works by cases on a form, on a judgment of bodies or on another conclusion.
-pub fn case_rule(alloc: Global, scope: &Scope, goal: &Sequent, form: &Node) -> Result<Rule, Refused>
+fn case_rule(alloc: Global, scope: &Scope, goal: &Sequent, form: &Node) -> Result<Rule, Refused>
     ensures { Answers (case_rule scope.now goal.now form.now) result }
 {
     if judges_bodies(&goal.conclusion) {
@@ -107,28 +106,20 @@ pub fn case_rule(alloc: Global, scope: &Scope, goal: &Sequent, form: &Node) -> R
     Ok(Rule::Ambient(AmbientRule::Case(form)))
 }
 
-/// The type of a value that is said to exist.
-fn asked_of(head: &Head) -> Option<&Ty>
-    ensures { option_copied result ≡ asked_of head.now }
-{
-    match head {
-        Head::Some(ty) => Some(ty.get()),
-        _ => None,
-    }
-}
-
-/// The rule that puts a term in place of what is said to exist.
-pub fn witness_rule(
+/// The same of a step that acts on these programs. On one side it fits no goal.
+pub fn sided_case_rule(
     alloc: Global,
     scope: &Scope,
     goal: &Sequent,
-    witness: &Node,
+    acts: Acts,
+    form: &Node,
 ) -> Result<Rule, Refused>
-    ensures { Answers (witness_rule scope.now goal.now witness.now) result }
+    ensures { Answers (sided_case_rule scope.now goal.now acts form.now) result }
 {
-    let wanted = asked_of(goal.conclusion.head.get());
-    let witness = term(alloc, scope, goal, witness, wanted)?;
-    Ok(Rule::Ambient(AmbientRule::Witness(witness)))
+    match acts {
+        Acts::All => case_rule(alloc, scope, goal, form),
+        _ => Ok(Rule::OnBodies(BodyRule::Unfit)),
+    }
 }
 
 /// The rule that shows a form first.

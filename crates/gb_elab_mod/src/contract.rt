@@ -1,11 +1,14 @@
 // The typing of `call`, by what a procedure is said to do.
 
-ghost use Rattle.std.specs.Prelude.{◌≡◌, [], IfOk};
+ghost use Rattle.std.specs.Prelude.{◌≡◌, [], Some, IfOk};
 ghost use Rattle.std.specs.Option.{option_copied};
 ghost use Rattle.gb_goal.specs.Answers.{Answers};
+ghost use Rattle.gb_core.specs.declared.ty.Ty.TheVariants.{Bool};
+ghost use Rattle.gb_goal.specs.Scope.{procedure_of};
 ghost use Rattle.gb_goal.specs.Views.{goal_seen};
-ghost use Rattle.gb_names.specs.Environment.{environment};
-ghost use Rattle.gb_elab_mod.specs.Steps.{call_rule, contract_at, contract_of, last_procedure, params_if, procedure_called, result_if};
+ghost use Rattle.gb_elab.specs.Forms.{elaborated};
+ghost use Rattle.gb_names.specs.Environment.{environment, relational};
+ghost use Rattle.gb_elab_mod.specs.Steps.{call_rule, contract_at, contract_of, contract_of_both, last_procedure, params_if, procedure_called, result_if};
 
 use gb_core::place::Place;
 use gb_core::refusal::Refused;
@@ -23,7 +26,7 @@ use gb_steps::step::{Acts, BodyRule, Contract, Rule};
 use gb_terms::decl::{Proc, Typed};
 use gb_terms::module::ProcRef;
 use gb_terms::share::copy_typed;
-use gb_terms::term::Instr;
+use gb_terms::term::{Form, Instr};
 use sqlite_items::Items;
 use std::alloc::{AllocError, Global};
 
@@ -93,6 +96,65 @@ fn contract_of(
     Ok(Rule::Call(Contract { acts, pre, post }))
 }
 
+/// A form over the parameters of two called procedures.
+fn before_both(
+    alloc: Global,
+    scope: &Scope,
+    goal: &Sequent,
+    said: &Node,
+    left: &ProcRef,
+    right: &ProcRef,
+) -> Result<Form, Refused>
+    ensures { Answers (elaborated said.now (relational scope.now goal.now (params_if (procedure_of scope.now left.now)) (params_if (procedure_of scope.now right.now))) [] (Some Bool)) result }
+{
+    let params = params_if(alloc, scope.procedure(left))?;
+    let others = params_if(alloc, scope.procedure(right))?;
+    let before = Setting::relational(scope, goal, params.as_slice(), others.as_slice());
+    typed(alloc, &before, &[], said, Some(&Ty::Bool))
+}
+
+/// A form over the results of both.
+fn after_both(
+    alloc: Global,
+    scope: &Scope,
+    goal: &Sequent,
+    said: &Node,
+    left: &ProcRef,
+    right: &ProcRef,
+) -> Result<Form, Refused>
+    ensures { Answers (elaborated said.now (relational scope.now goal.now (result_if (procedure_of scope.now left.now)) (result_if (procedure_of scope.now right.now))) [] (Some Bool)) result }
+{
+    let result = result_if(alloc, scope.procedure(left))?;
+    let other = result_if(alloc, scope.procedure(right))?;
+    let after = Setting::relational(scope, goal, result.as_slice(), other.as_slice());
+    typed(alloc, &after, &[], said, Some(&Ty::Bool))
+}
+
+/// What two called procedures are said to do: a precondition reads the parameters of both, and a postcondition both results.
+#[tactic(auto, unfolding(crate::specs::Steps::contract_of_both))]
+fn contract_of_both(
+    alloc: Global,
+    scope: &Scope,
+    goal: &Sequent,
+    acts: Acts,
+    pre: &Node,
+    post: &Node,
+    left: Option<&ProcRef>,
+    right: Option<&ProcRef>,
+) -> Result<Rule, Refused>
+    ensures { Answers (contract_of_both scope.now goal.now acts pre.now post.now (option_copied left.entry) (option_copied right.entry)) result }
+{
+    let Some(left) = left else {
+        return Ok(Rule::OnBodies(BodyRule::Unfit));
+    };
+    let Some(right) = right else {
+        return Ok(Rule::OnBodies(BodyRule::Unfit));
+    };
+    let pre = before_both(alloc, scope, goal, pre, left, right)?;
+    let post = after_both(alloc, scope, goal, post, left, right)?;
+    Ok(Rule::Call(Contract { acts, pre, post }))
+}
+
 /// The same at a goal that is seen so.
 fn contract_at(
     alloc: Global,
@@ -106,8 +168,12 @@ fn contract_at(
     ensures { Answers (contract_at scope.now goal.now acts pre.now post.now (goal_seen seen.entry)) result }
 {
     match seen {
-        Goal::Hoare(Code::Body(list), _, _) => {
+        Goal::Hoare(Code::Body(list), _, _) | Goal::Phoare(Code::Body(list), ..) => {
             contract_of(alloc, scope, goal, acts, pre, post, last_procedure(list))
+        }
+        Goal::Equiv(Code::Body(left), Code::Body(right), _, _) => {
+            let (left, right) = (last_procedure(left), last_procedure(right));
+            contract_of_both(alloc, scope, goal, acts, pre, post, left, right)
         }
         _ => Ok(Rule::OnBodies(BodyRule::Unfit)),
     }

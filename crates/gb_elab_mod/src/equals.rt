@@ -1,16 +1,21 @@
 // Steps that put equals for equals.
 
+ghost use Rattle.std.specs.Prelude.{◌≡◌};
 ghost use Rattle.gb_goal.specs.Answers.{Answers, ◌>>=◌ as ◌and_then◌};
 ghost use Rattle.gb_goal.specs.Answers.Answer.{given};
 ghost use Rattle.gb_script.specs.Tree.{text_of, place_of};
 ghost use Rattle.gb_elab_mod.specs.Multiples as multiples;
 ghost use Rattle.gb_elab_mod.specs.Uses as uses;
 
-use crate::multiples::hypothesis_at;
-use crate::uses::{hypothesis, used};
+use crate::conclusions::is_taken;
+use crate::multiples::{hypothesis_at, names_thing};
+use crate::uses::{hypothesis, name_of, used};
+use gb_core::name::Name;
+use gb_core::place::Place;
 use gb_core::refusal::Refused;
-use gb_goal::scope::Scope;
+use gb_goal::scope::{Entry, Scope};
 use gb_goal::sequent::Sequent;
+use gb_names::refusals::{argument, unknown};
 use gb_script::tree::Node;
 use gb_steps::step::{RewriteRule, Rule};
 use std::alloc::Global;
@@ -60,4 +65,39 @@ pub fn substitution(
 {
     let hyp = hypothesis_at(alloc, scope, goal, &name.text, name.place)?;
     Ok(Rule::Rewrite(RewriteRule::Subst(hyp)))
+}
+
+/// Whether an operator of the script with a body has this name, and nothing of the context.
+fn is_defined(scope: &Scope, goal: &Sequent, name: &Name) -> bool
+    ensures { result ≡ uses.is_defined scope.now goal.now name.now }
+{
+    !is_taken(goal, name) && matches!(scope.entry(name), Some(Entry::Operator(_)))
+}
+
+/// Refuses a name that no operator with a body has.
+fn check_defined(
+    alloc: Global,
+    scope: &Scope,
+    goal: &Sequent,
+    name: Name,
+    place: Place,
+) -> Result<Name, Refused>
+    ensures { Answers (uses.defined_named scope.now goal.now name place) result }
+{
+    if is_defined(scope, goal, &name) {
+        Ok(name)
+    } else if names_thing(scope, goal, &name) {
+        Err(argument(place))
+    } else {
+        Err(unknown(alloc, &name, place))
+    }
+}
+
+/// The rule by which an operator is unfolded.
+pub fn opening(alloc: Global, scope: &Scope, goal: &Sequent, tree: &Node) -> Result<Rule, Refused>
+    ensures { Answers (uses.defined_operator scope.now goal.now tree.now and_then (λ x. given (Rule.Rewrite (RewriteRule.Unfold x)))) result }
+{
+    let name = name_of(alloc, tree)?;
+    let operator = check_defined(alloc, scope, goal, name, tree.place)?;
+    Ok(Rule::Rewrite(RewriteRule::Unfold(operator)))
 }

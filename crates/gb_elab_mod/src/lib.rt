@@ -1,6 +1,8 @@
 //! Typing of the statements of lemmas, and of proof steps.
 #![tactic(auto)]
 
+pub mod binders;
+pub mod bound_locals;
 pub mod conclusions;
 pub mod conseq;
 pub mod contract;
@@ -12,3 +14,4 @@ pub mod multiples;
 pub mod occurring;
 pub mod step;
 pub mod uses;
+pub mod witness;

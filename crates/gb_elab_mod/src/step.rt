@@ -4,14 +4,15 @@ ghost use Rattle.std.specs.Prelude.{◌≡◌};
 ghost use Rattle.gb_goal.specs.Answers.{Answers};
 ghost use Rattle.gb_elab_mod.specs.Steps.{acts, chance_rule, equals_rule, named_rule, on_all, pattern, plain_rule, step_given, symmetry_rule, typed_rule, used_rule};
 
-use crate::conclusions::{case_rule, conclusion_rule, have_rule, witness_rule};
+use crate::conclusions::{conclusion_rule, have_rule, sided_case_rule};
 use crate::conseq::{Written, conseq_rule};
 use crate::contract::call_rule;
 use crate::couplings::{coupling_rule, couplings, functions_of};
 use crate::cut::{cut_of, seq_rule};
-use crate::equals::{rewriting, rewriting_back, rewriting_by_name, substitution};
+use crate::equals::{opening, rewriting, rewriting_back, rewriting_by_name, substitution};
 use crate::multiples::multiples;
 use crate::uses::{all_hinted, apply_rule, keep_rule};
+use crate::witness::witness_rule;
 use gb_core::name::Name;
 use gb_core::place::Place;
 use gb_core::refusal::Refused;
@@ -187,6 +188,10 @@ fn equals_rule(
             [name] => substitution(alloc, scope, goal, name),
             _ => Err(not_built(place)),
         },
+        Head::RewriteOperator => match parts {
+            [operator] => opening(alloc, scope, goal, operator),
+            _ => Err(not_built(place)),
+        },
         _ => pattern(alloc, head, text, parts, place),
     }
 }
@@ -294,8 +299,8 @@ fn typed_rule(
         },
         Head::CaseStep => match parts {
             [bodies, form] => {
-                refuse_any(bodies.parts.as_slice(), place)?;
-                case_rule(alloc, scope, goal, form)
+                let acts = acts(bodies.parts.as_slice());
+                sided_case_rule(alloc, scope, goal, acts, form)
             }
             _ => Err(not_built(place)),
         },
@@ -304,7 +309,7 @@ fn typed_rule(
             _ => Err(not_built(place)),
         },
         Head::Witness => match parts {
-            [witness] => witness_rule(alloc, scope, goal, witness),
+            [witness] => Ok(Rule::Ambient(witness_rule(alloc, scope, goal, witness)?)),
             _ => Err(not_built(place)),
         },
         Head::Smt => Ok(Rule::Smt(all_hinted(alloc, scope, goal, parts)?)),

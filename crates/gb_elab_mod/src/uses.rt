@@ -1,16 +1,18 @@
 // The typing of hypotheses and lemmas that steps use, with their arguments.
 
-ghost use Rattle.std.specs.Prelude.{◌≡◌, [], ◌∷◌, length, IfOk};
+ghost use Rattle.std.specs.Prelude.{◌≡◌, [], ◌∷◌, ◌+◌, IfOk};
 ghost use Rattle.std.specs.Option.{option_copied};
 ghost use Rattle.gb_terms.specs.declared.term.Term.{out-Term};
-ghost use Rattle.gb_walk.specs.declared.change.Change.TheVariants.{OfBound};
+ghost use Rattle.gb_walk.specs.declared.change.Change.TheVariants.{OfBound, ToSide};
+ghost use Rattle.gb_terms.specs.declared.op.Side.TheVariants.{Bound};
 ghost use Rattle.gb_walk.specs.Change.{term_changed};
 ghost use Rattle.gb_goal.specs.Answers.{Answers, Fails, ◌>>=◌ as ◌and_then◌};
 ghost use Rattle.gb_goal.specs.Answers.Answer.{given};
 ghost use Rattle.gb_script.specs.Tree.{head_of, text_of, parts_of, place_of};
 ghost use Rattle.gb_elab_mod.specs.Taken.{new_name};
-ghost use Rattle.gb_elab_mod.specs.Uses.{all_hinted, hinted, hypothesis_named, hypothesis, is_memory, lemma_named, name_of, no_known, said_by, said_of, said_of_all, said_on, used, used_named, used_of, value_of, values_from};
+ghost use Rattle.gb_elab_mod.specs.Uses.{about_all, about_memory, about_value, all_hinted, hinted, hypothesis_named, hypothesis, is_memory, lemma_named, memory_of, name_of, no_known, said_by, said_of, said_of_all, said_of_memory, said_on, used, used_named, used_of, value_of};
 
+use crate::bound_locals::reads_bound_locals;
 use crate::conclusions::{check_new, is_taken};
 use crate::multiples::names_thing;
 use gb_core::name::Name;
@@ -19,18 +21,21 @@ use gb_core::refusal::Refused;
 use gb_core::same::same_name;
 use gb_core::ty::Ty;
 use gb_elab::form::typed;
-use gb_goal::scope::Scope;
+use gb_goal::scope::{Binder, Scope};
 use gb_goal::sequent::{Hyp, Sequent};
+use gb_names::memories::memory_at;
 use gb_names::names::path;
 use gb_names::refusals::{argument, not_built, unknown};
 use gb_names::setting::{Language, Setting};
 use gb_script::head::Head as NodeHead;
 use gb_script::tree::Node;
+use gb_shared::Shared;
 use gb_steps::step::{Rule, UseRule};
 use gb_terms::decl::TypedName;
-use gb_terms::op::Read;
+use gb_terms::make::{forall, leaf, over, truth_ty};
+use gb_terms::op::{Read, Side};
 use gb_terms::term::{Form, Head, Term, Terms};
-use gb_walk::change::{Change, Changes};
+use gb_walk::change::Change;
 use gb_walk::walk::changed;
 use sqlite_items::Items;
 use std::alloc::{AllocError, Global};
@@ -47,7 +52,8 @@ fn hypothesis_named<'a>(hyps: &'a [Hyp], name: &Name) -> Option<&'a Form>
     None
 }
 
-fn is_memory(head: NodeHead) -> bool
+/// Whether a tree names a memory.
+pub fn is_memory(head: NodeHead) -> bool
     ensures { result ≡ is_memory head }
 {
     matches!(head, NodeHead::Memory)
@@ -83,6 +89,38 @@ fn at_term(alloc: Global, form: &Form, term: Term) -> Result<Form, AllocError>
     changed(alloc, form, changes.as_slice())
 }
 
+/// The memory of the context that an argument names.
+pub fn memory_of(alloc: Global, scope: &Scope, goal: &Sequent, tree: &Node) -> Result<Side, Refused>
+    ensures { Answers (memory_of scope.now goal.now (head_of tree.now) (parts_of tree.now) (place_of tree.now)) result }
+{
+    match (tree.head, tree.parts.as_slice()) {
+        (NodeHead::Memory, [name]) => {
+            let at = Setting::ambient(scope, goal);
+            memory_at(alloc, &at, &[], &name.text, name.place)
+        }
+        _ => Err(argument(tree.place)),
+    }
+}
+
+/// A form with a memory in place of the bound one.
+fn at_memory(alloc: Global, form: &Form, memory: Side) -> Result<Form, AllocError>
+    ensures { IfOk result (λ made. made ≡ term_changed form.now (ToSide (Bound 0) memory ∷ [])) }
+{
+    let mut changes = Items::new(alloc);
+    changes.push(Change::ToSide(Side::Bound(0), memory))?;
+    changed(alloc, form, changes.as_slice())
+}
+
+/// What the body of a `forall` over memories says of a memory.
+fn said_of_memory(alloc: Global, body: &Form, memory: Side, place: Place) -> Result<Form, Refused>
+    ensures { Answers (said_of_memory body.now memory place) result }
+{
+    if reads_bound_locals(body) {
+        return Err(not_built(place));
+    }
+    Ok(at_memory(alloc, body, memory)?)
+}
+
 /// What a form says of an argument: it is a `forall`.
 fn said_of(
     alloc: Global,
@@ -98,7 +136,10 @@ fn said_of(
             let term = value_of(alloc, scope, goal, ty.get(), tree)?;
             Ok(at_term(alloc, body, term)?)
         }
-        (Head::AllMemory, _) if is_memory(tree.head) => Err(not_built(tree.place)),
+        (Head::AllMemory, [body]) => {
+            let memory = memory_of(alloc, scope, goal, tree)?;
+            said_of_memory(alloc, body, memory, tree.place)
+        }
         _ => Err(argument(tree.place)),
     }
 }
@@ -122,7 +163,7 @@ fn said_of_all(
 }
 
 /// The name of what is used.
-fn name_of(alloc: Global, tree: &Node) -> Result<Name, AllocError>
+pub fn name_of(alloc: Global, tree: &Node) -> Result<Name, AllocError>
     ensures { IfOk result (λ name. name ≡ name_of (head_of tree.now) (text_of tree.now) (parts_of tree.now)) }
 {
     match tree.head {
@@ -131,67 +172,111 @@ fn name_of(alloc: Global, tree: &Node) -> Result<Name, AllocError>
     }
 }
 
-/// A number as the place of a variable. A list that is longer doesn't fit in memory, and so counts as a want of it.
-fn variable_at(number: usize) -> Result<Read, AllocError>
-    ensures { IfOk result (λ read. read ≡ Read.Logical number) }
-{
-    Ok(Read::Logical(u32::try_from(number).or(Err(AllocError))?))
-}
-
-/// Terms in the places of as many variables, one for each argument.
-#[tactic(auto, unfolding(crate::specs::Uses::values_from))]
-fn values_in_place(
+/// What is said of a variable of the context, said of all values of its type.
+fn about_value(
     alloc: Global,
-    scope: &Scope,
-    goal: &Sequent,
-    variables: &[TypedName],
-    arguments: &[Node],
-) -> Result<Changes, Refused>
-    requires { length variables.now ≡ length arguments.now }
-    ensures { Answers (values_from scope.now goal.now 0 variables.now arguments.now) result }
+    variable: u32,
+    ty: &Shared<Ty>,
+    form: &Form,
+) -> Result<Form, AllocError>
+    ensures { IfOk result (λ made. made ≡ about_value variable ty.now form.now) }
 {
-    let mut changes = Items::new(alloc);
-    for i in 0..variables.len() {
-        let term = value_of(alloc, scope, goal, variables[i].ty.get(), &arguments[i])?;
-        changes.push(Change::ToTerm(variable_at(i)?, term))?;
-    }
-    Ok(changes)
+    let nearest = leaf(alloc, Head::Bound(0), ty.share()?)?;
+    let to_bound = Change::ToTerm(Read::Logical(variable), nearest);
+    let body = changed(alloc, form, &[to_bound])?;
+    forall(alloc, ty.share()?, body)
 }
 
-/// What a form on variables says of arguments: of one for each of them, and of further ones, which the form takes.
+/// What is said of a memory of the context, said of all memories.
+fn about_memory(alloc: Global, memory: u32, form: &Form) -> Result<Form, AllocError>
+    ensures { IfOk result (λ made. made ≡ about_memory memory form.now) }
+{
+    let to_bound = Change::ToSide(Side::Memory(memory), Side::Bound(0));
+    let body = changed(alloc, form, &[to_bound])?;
+    let ty = truth_ty(alloc)?;
+    over(alloc, Head::AllMemory, body, ty)
+}
+
+/// The number of the next variable or memory. One that is too large doesn't fit in memory, and so counts as a want of it.
+fn after(number: u32) -> Result<u32, AllocError>
+    ensures { IfOk result (λ next. next ≡ number + 1) }
+{
+    number.checked_add(1).ok_or(AllocError)
+}
+
+/// What is said of the variables and memories of the context from these numbers on, said of all by a leading `forall` for each
+/// binder. None where the binders aren't as many.
+#[tactic(auto, unfolding(crate::specs::Uses::about_all))]
+fn about_all(
+    alloc: Global,
+    binders: &[Binder],
+    values: &[TypedName],
+    memories: &[Name],
+    variable: u32,
+    memory: u32,
+    form: &Form,
+) -> Result<Option<Form>, AllocError>
+    ensures { IfOk result (λ made. made ≡ about_all binders.now values.now memories.now variable memory form.now) }
+{
+    match (binders, values, memories) {
+        ([], [], []) => Ok(Some(form.share()?)),
+        ([Binder::Value, rest @ ..], [value, others @ ..], _) => {
+            let next = after(variable)?;
+            match about_all(alloc, rest, others, memories, next, memory, form)? {
+                Some(body) => Ok(Some(about_value(alloc, variable, &value.ty, &body)?)),
+                None => Ok(None),
+            }
+        }
+        ([Binder::Memory, rest @ ..], _, [_, others @ ..]) => {
+            let next = after(memory)?;
+            match about_all(alloc, rest, values, others, variable, next, form)? {
+                Some(body) => Ok(Some(about_memory(alloc, memory, &body)?)),
+                None => Ok(None),
+            }
+        }
+        _ => Ok(None),
+    }
+}
+
+/// What a form with leading `forall`s for binders says of arguments: of one for each of them, and of further ones.
 fn said_on(
     alloc: Global,
     scope: &Scope,
     goal: &Sequent,
-    lemma: &Sequent,
+    binders: &[Binder],
     arguments: &[Node],
     place: Place,
+    form: Form,
 ) -> Result<Form, Refused>
-    ensures { Answers (said_on scope.now goal.now lemma.now.logical lemma.now.conclusion arguments.now place) result }
+    ensures { Answers (said_on scope.now goal.now binders.now arguments.now place form) result }
 {
-    let variables = lemma.logical.as_slice();
-    if arguments.len() < variables.len() {
+    if arguments.len() < binders.len() {
         return Err(argument(place));
     }
-    let (first, further) = arguments.split_at(variables.len());
-    let changes = values_in_place(alloc, scope, goal, variables, first)?;
-    let form = changed(alloc, &lemma.conclusion, changes.as_slice())?;
-    said_of_all(alloc, scope, goal, form, further)
+    said_of_all(alloc, scope, goal, form, arguments)
 }
 
-/// What a statement says of arguments. Memories and modules in it aren't built yet.
+/// What a statement with these binders says of arguments. Modules in it aren't built yet.
 fn said_by(
     alloc: Global,
     scope: &Scope,
     goal: &Sequent,
+    binders: &[Binder],
     lemma: &Sequent,
     arguments: &[Node],
     place: Place,
 ) -> Result<Form, Refused>
-    ensures { Answers (said_by scope.now goal.now lemma.now arguments.now place) result }
+    ensures { Answers (said_by scope.now goal.now binders.now lemma.now arguments.now place) result }
 {
-    match (lemma.memories.as_slice(), lemma.modules.as_slice()) {
-        ([], []) => said_on(alloc, scope, goal, lemma, arguments, place),
+    match lemma.modules.as_slice() {
+        [] => {
+            let values = lemma.logical.as_slice();
+            let memories = lemma.memories.as_slice();
+            match about_all(alloc, binders, values, memories, 0, 0, &lemma.conclusion)? {
+                Some(form) => said_on(alloc, scope, goal, binders, arguments, place, form),
+                None => Err(not_built(place)),
+            }
+        }
         _ => Err(not_built(place)),
     }
 }
@@ -235,7 +320,10 @@ fn used_named(
         return said_of_all(alloc, scope, goal, form, arguments);
     }
     match lemma_named(scope, goal, name) {
-        Some(lemma) => said_by(alloc, scope, goal, lemma, arguments, place),
+        Some(lemma) => {
+            let binders = scope.binders(name);
+            said_by(alloc, scope, goal, binders, lemma, arguments, place)
+        }
         None => Err(no_known(alloc, scope, goal, name, place)),
     }
 }

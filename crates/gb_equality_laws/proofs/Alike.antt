@@ -1,13 +1,11 @@
 -- Meanings that are the same, and what is read of them.
-use Rattle.std.proofs.Common.{◌≡◌, ℕ, ◌*◌, ◌<◌, ◌%◌, ◌+◌, ◌-◌, Bool, true, false, ℤ, pos, List, [], ◌∷◌, map, refl, sym, ap, ◌∙◌, subst, arith}
+use Rattle.std.proofs.Common.{◌≡◌, ℕ, ◌<◌, refl, sym, ap, ◌∙◌, subst, arith}
 use Rattle.std.proofs.Math.Nat.{mul-pos}
 use Rattle.gb_core.specs.declared.ty.Ty.{Ty}
-use Rattle.gb_core.specs.declared.value.Value.{Value}
-use Rattle.gb_coupling.specs.WeightedList.{WeightedList}
-use Rattle.gb_meaning.specs.Fractions.{Fraction, is_same, plus, minus, times, opposite, absolute, quotient, of_whole}
+use Rattle.gb_meaning.specs.Fractions.{Fraction, plus, minus, times, opposite, absolute, quotient}
 use Rattle.gb_meaning.specs.Setting.{Meaning}
 use Rattle.gb_meaning.specs.Setting.Meaning.{finite, whole, fraction, weights}
-use Rattle.gb_meaning.specs.Meanings.{value_in, number_in, truth, whole_in, fraction_in, weights_in, scaled, same}
+use Rattle.gb_meaning.specs.Meanings.{value_in, number_in, truth, fraction_in, weights_in, scaled, same}
 use Rattle.gb_meaning.specs.Operators.{sum_at, difference_at, product_at, negated, less, at_most}
 use Rattle.gb_equality_laws.specs.Alike.{Alike}
 use Rattle.gb_equality_laws.proofs.Fractions.{Same, same_used, same_made, same_refl, same_sym, same_trans, same_plus, same_minus, same_times, same_below, same_at_most, same_same, same_opposite, same_absolute, same_quotient}

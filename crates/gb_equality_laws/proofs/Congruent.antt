@@ -1,8 +1,6 @@
 -- A term means the same as another one of its operator, where their arguments do.
-use Rattle.std.proofs.Common.{◌≡◌, ℕ, zero, suc, ◌<◌, Bool, true, false, List, [], ◌∷◌, ◌++◌, map, take, drop, pred, length, get_or, Some, None, Option, pos, refl, sym, ap, ◌∙◌, subst, append-nil, take-append-drop, arith}
+use Rattle.std.proofs.Common.{◌≡◌, List, [], ◌∷◌, ◌++◌, map, take, drop, pred, length, Some, refl, sym, ap, ◌∙◌, subst, append-nil, take-append-drop}
 use Rattle.gb_core.specs.declared.ty.Ty.{Ty}
-use Rattle.gb_core.specs.declared.ty.Ty.TheVariants as ty
-use Rattle.gb_core.specs.declared.value.Value.{Value}
 use Rattle.gb_terms.specs.declared.op.Op.{Op}
 use Rattle.gb_terms.specs.declared.op.Side.{Side}
 use Rattle.gb_terms.specs.declared.module.ProcRef.{ProcRef}
@@ -14,10 +12,9 @@ use Rattle.gb_terms.specs.Make.{node}
 use Rattle.gb_meaning.specs.Setting.{Meaning, Setting}
 use Rattle.gb_meaning.specs.Setting.Meaning.{finite, whole, fraction, weights}
 use Rattle.gb_meaning.specs.Meanings.{value_in, truth}
-use Rattle.gb_meaning.specs.Memory.{Memory}
-use Rattle.gb_meaning.specs.Operators.{Argument, denominator_at, denominator_over}
+use Rattle.gb_meaning.specs.Operators.{denominator_at}
 use Rattle.gb_meaning.specs.State.{State, memory_of, at}
-use Rattle.gb_meaning.specs.Terms.{Speaks, Part, part_of, argument, no_part, last_of, before_last, at_head, val, denominator, denominator_of}
+use Rattle.gb_meaning.specs.Terms.{Speaks, part_of, argument, last_of, before_last, at_head, val, denominator, denominator_of}
 use Rattle.gb_meaning.specs.Values.{Types}
 use Rattle.gb_meaning.specs.Written.{type_of}
 use Rattle.gb_laws.proofs.Nodes.{each_is_node, val_node, denominator_node}
@@ -32,7 +29,7 @@ use Rattle.gb_equality.specs.declared.parts.Reach.TheVariants as Reaches
 use Rattle.gb_equality.specs.Parts.{reach_of, reached, kept, arguments_of, operator_of}
 use Rattle.gb_equality_laws.specs.Alike.{Alike, AllAlike, RespectAlike}
 use Rattle.gb_equality_laws.proofs.Alike.{IsProper, alike_itself, alike_of, value_alike}
-use Rattle.gb_equality_laws.proofs.Operated.{AreOne, AllOne, operated_alike}
+use Rattle.gb_equality_laws.proofs.Operated.{AllOne, operated_alike}
 
 some_same : {X : Type 0} (a b : X) → Some a ≡ Some b → a ≡ b
 some_same a b e = cc

@@ -1,15 +1,14 @@
 -- The labelling of a state: forms have their truths, and other terms that mean the same have one label.
-use Rattle.std.proofs.Common.{◌≡◌, ◌≢◌, ◌⊎◌, inl, inr, ℕ, zero, suc, ◌+◌, ◌<◌, ◌==◌, Bool, true, false, not, ◌&&◌, ◌||◌, if◌then◌else◌, ℤ, pos, ◌*ℤ◌, List, [], ◌∷◌, map, length, get_or, Option, Some, None, refl, sym, ap, ◌∙◌, subst, arith}
+use Rattle.std.proofs.Common.{◌≡◌, ◌⊎◌, inl, inr, ℕ, zero, suc, ◌<◌, ◌==◌, Bool, true, false, ◌&&◌, if◌then◌else◌, ℤ, List, [], ◌∷◌, Some, refl, sym, ap, ◌∙◌, subst, arith}
 use Rattle.std.specs.Ordering.{int_eq}
 use Rattle.std.specs.List.{Contains}
 use Rattle.std.proofs.lemmas.Bool.{false≢true}
 use Rattle.std.proofs.lemmas.Bool.Decides.{Decides-eqb, Decides-int_eq}
 use Rattle.std.proofs.lemmas.Int.{ints}
-use borrow.Author.Differences.{up, down}
 use Rattle.gb_core.specs.declared.ty.Ty.{Ty}
 use Rattle.gb_core.specs.declared.ty.Ty.TheVariants as ty
 use Rattle.gb_core.specs.declared.value.Value.{Value}
-use Rattle.gb_core.specs.declared.value.Value.TheVariants.{Num, Many'}
+use Rattle.gb_core.specs.declared.value.Value.TheVariants.{Num}
 use Rattle.gb_types.specs.Numbering.{number_of}
 use Rattle.gb_coupling.specs.WeightedList.{WeightedList, bit}
 use Rattle.gb_terms.specs.Make as make
@@ -19,10 +18,10 @@ use Rattle.gb_terms.specs.declared.term.Term.{Term, out-Term}
 use Rattle.gb_terms.specs.declared.term.Head.{Head}
 use Rattle.gb_terms.specs.declared.term.Head.TheVariants as head
 use Rattle.gb_terms.specs.Make.{node}
-use Rattle.gb_meaning.specs.Fractions.{Fraction, is_same, of_whole}
+use Rattle.gb_meaning.specs.Fractions.{is_same, of_whole}
 use Rattle.gb_meaning.specs.Setting.{Meaning, Setting}
 use Rattle.gb_meaning.specs.Setting.Meaning.{finite, whole, fraction, weights}
-use Rattle.gb_meaning.specs.Meanings.{of_truth, value_in, truth, fraction_in, same}
+use Rattle.gb_meaning.specs.Meanings.{of_truth, value_in, truth, fraction_in}
 use Rattle.gb_meaning.specs.State.{State}
 use Rattle.gb_meaning.specs.Terms.{Speaks, val, denominator}
 use Rattle.gb_meaning.specs.Values.{Types, value_eq}
@@ -33,8 +32,6 @@ use Rattle.gb_typed.specs.Meant.{IsOf}
 use Rattle.gb_types.proofs.Lawful.{Lawful-numbers}
 use Rattle.gb_typed.proofs.Meanings.{finite_is, finite_has}
 use Rattle.gb_typed.proofs.Nodes.{type_of_node}
-use Rattle.gb_typing.specs.Context.{Context}
-use Rattle.gb_typing.specs.Typing.{IsTyped}
 use Rattle.gb_equality.specs.Connectives.{is_bool, is_form, shown_whole, shown_by, shown_at, shown, AreDifferent}
 use Rattle.gb_equality_laws.specs.Alike.{Alike}
 use Rattle.gb_equality_laws.proofs.Fractions.{Same, same_used}

@@ -1,5 +1,5 @@
 -- Built-in operators give the same from the same.
-use Rattle.std.proofs.Common.{◌≡◌, ℕ, ◌<◌, Bool, true, false, not, ◌&&◌, ◌||◌, nat_lt, bit_xor, pred, pos, List, [], ◌∷◌, map, get_or, refl, sym, ap, ◌∙◌, subst}
+use Rattle.std.proofs.Common.{◌≡◌, Bool, true, false, not, ◌&&◌, ◌||◌, nat_lt, bit_xor, pred, pos, List, [], ◌∷◌, map, get_or, refl, sym, ap, ◌∙◌, subst}
 use Rattle.gb_core.specs.declared.ty.Ty.{Ty}
 use Rattle.gb_core.specs.declared.value.Value.{Value}
 use Rattle.gb_core.specs.declared.value.Value.TheVariants.{Num, Many}
@@ -10,12 +10,12 @@ use Rattle.gb_terms.specs.declared.op.Op.TheVariants as op
 use Rattle.gb_meaning.specs.Values.{Types, values, first, value_eq}
 use Rattle.gb_meaning.specs.Distributions.{product}
 use Rattle.gb_meaning.specs.Setting.{Meaning}
-use Rattle.gb_meaning.specs.Setting.Meaning.{finite, whole, fraction, weights}
-use Rattle.gb_meaning.specs.Meanings.{nothing, of_truth, of_number, value_in, number_in, truth, whole_in, fraction_in, weights_in, scaled, same}
-use Rattle.gb_meaning.specs.Operators.{Argument, alike, entry_of, entry_set, is_none, key_type, weight_of, chosen, nullary, unary, binary, ternary, operated, sum_at, difference_at, product_at, negated, less, at_most}
+use Rattle.gb_meaning.specs.Setting.Meaning.{finite, fraction, weights}
+use Rattle.gb_meaning.specs.Meanings.{nothing, of_truth, of_number, value_in, truth, fraction_in, weights_in, scaled}
+use Rattle.gb_meaning.specs.Operators.{Argument, alike, entry_of, entry_set, is_none, key_type, weight_of, chosen, nullary, unary, binary, ternary, operated}
 use Rattle.gb_equality_laws.specs.Alike.{Alike}
 use Rattle.gb_equality_laws.proofs.Fractions.{same_made}
-use Rattle.gb_equality_laws.proofs.Alike.{IsProper, alike_itself, alike_of, value_alike, number_alike, truth_alike, weights_alike, fraction_same, scaled_alike, negated_alike, absolute_alike, quotient_alike, equal_alike, less_alike, most_alike, sum_alike, difference_alike, product_alike}
+use Rattle.gb_equality_laws.proofs.Alike.{IsProper, alike_itself, alike_of, value_alike, truth_alike, weights_alike, fraction_same, scaled_alike, negated_alike, absolute_alike, quotient_alike, equal_alike, less_alike, most_alike, sum_alike, difference_alike, product_alike}
 
 -- arguments that are the same: their meanings are, and they have one denominator
 pub record AreOne (x y : Argument) : Type 0 where

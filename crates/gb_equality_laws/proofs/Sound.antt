@@ -1,6 +1,6 @@
 -- A leaf that is valid by equality holds.
-use Rattle.std.proofs.Common.{◌≡◌, ◌≢◌, ◌⊎◌, inl, inr, ℕ, zero, suc, ◌<◌, ◌==◌, Bool, true, false, not, ◌&&◌, ◌||◌, if◌then◌else◌, List, [], ◌∷◌, map, length, get_or, Option, Some, None, refl, sym, ap, ◌∙◌, subst, arith}
-use Rattle.std.specs.List.{All, AllByRecursion, Contains}
+use Rattle.std.proofs.Common.{◌≡◌, ℕ, zero, suc, ◌<◌, ◌==◌, Bool, true, false, not, ◌&&◌, if◌then◌else◌, List, [], ◌∷◌, map, Some, refl, sym, ap, ◌∙◌, subst, arith}
+use Rattle.std.specs.List.{AllByRecursion, Contains}
 use Rattle.std.proofs.lemmas.Bool.{false≢true, and_parts}
 use Rattle.std.proofs.lemmas.Bool.Decides.{Decides-eqb, Decides-int_eq}
 use Rattle.std.proofs.lemmas.List.Elements.{All-from_recursion}
@@ -8,7 +8,6 @@ use Rattle.gb_core.specs.declared.ty.Ty.{Ty}
 use Rattle.gb_core.specs.declared.ty.Ty.TheVariants as ty
 use Rattle.gb_core.specs.declared.value.Value.{Value}
 use Rattle.gb_core.specs.declared.value.Value.TheVariants.{Num}
-use Rattle.gb_coupling.specs.WeightedList.{bit}
 use Rattle.gb_terms.specs.Make as make
 use Rattle.gb_terms.specs.Make.{node}
 use Rattle.gb_terms.specs.declared.op.Op.{Op}
@@ -20,12 +19,12 @@ use Rattle.gb_meaning.specs.Setting.{Meaning, Setting}
 use Rattle.gb_meaning.specs.Setting.Meaning.{finite, whole, fraction, weights}
 use Rattle.gb_meaning.specs.Meanings.{of_truth, truth, same}
 use Rattle.gb_meaning.specs.Operators.{Argument, alike, operated}
-use Rattle.gb_meaning.specs.Values.{Types, has, value_eq}
+use Rattle.gb_meaning.specs.Values.{Types, has}
 use Rattle.gb_types.specs.Numbering.{number_of}
 use Rattle.gb_types.proofs.Lawful.{Lawful-numbers}
 use Rattle.gb_laws.proofs.Values.{value_eq-true}
 use Rattle.gb_meaning.specs.State.{State}
-use Rattle.gb_meaning.specs.Terms.{Speaks, Part, part_of, at_head, val, denominator}
+use Rattle.gb_meaning.specs.Terms.{Speaks, part_of, at_head, val, denominator}
 use Rattle.gb_meaning.specs.Written.{type_of}
 use Rattle.gb_laws.proofs.Nodes.{each_is_node, val_node}
 use Rattle.gb_typed.specs.Meant.{IsOf, IsOfDistributions}
@@ -35,11 +34,11 @@ use Rattle.gb_typing.specs.Context.{Context, erased}
 use Rattle.gb_typing.specs.Typing.{IsTyped, IsForm}
 use Rattle.gb_typing.proofs.Made.{parts_typed}
 use Rattle.gb_equality.specs.declared.connectives.Connective.{Connective}
-use Rattle.gb_equality.specs.declared.connectives.Connective.TheVariants.{Truth, Not, And, Or, Implies, Iff, Unlike, Equal, NotEqual, Other}
-use Rattle.gb_equality.specs.Parts.{reach_of, reached, arguments_of, operator_of, terms_in}
+use Rattle.gb_equality.specs.declared.connectives.Connective.TheVariants.{And, Or, Implies, Iff, Unlike, Other}
+use Rattle.gb_equality.specs.Parts.{reach_of, reached, arguments_of, terms_in}
 use Rattle.gb_equality.specs.Connectives as tables
 use Rattle.gb_equality.specs.Connectives.{is_bool, is_form, is_one, with_one, with_two, connective_at, connective_of, is_true, by_table, label_by, AreDifferent}
-use Rattle.gb_equality.specs.Labels.{IsLabelling, Refutes, EqualityValid}
+use Rattle.gb_equality.specs.Labels.{IsLabelling, EqualityValid}
 use Rattle.gb_equality_laws.specs.Alike.{Alike, RespectAlike}
 use Rattle.gb_equality_laws.specs.Valid.{AreForms, Follows}
 use Rattle.gb_equality_laws.proofs.Alike.{IsProper, alike_itself}

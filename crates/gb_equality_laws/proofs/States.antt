@@ -1,9 +1,8 @@
 -- A term means the same in states that are the same, where nothing speaks of programs.
-use Rattle.std.proofs.Common.{◌≡◌, ℕ, zero, suc, ◌<◌, Bool, true, false, ◌&&◌, ◌||◌, if◌then◌else◌, pos, List, [], ◌∷◌, map, get_or, Some, refl, sym, ap, ◌∙◌, subst, arith}
+use Rattle.std.proofs.Common.{◌≡◌, ℕ, zero, suc, ◌<◌, Bool, true, ◌&&◌, ◌||◌, if◌then◌else◌, pos, List, [], ◌∷◌, map, Some, refl, sym, ap, ◌∙◌, arith}
 use Rattle.gb_core.specs.declared.ty.Ty.{Ty}
 use Rattle.gb_core.specs.declared.value.Value.{Value}
-use Rattle.gb_types.specs.Numbering.{Numbering}
-use Rattle.gb_coupling.specs.WeightedList.{WeightedList, Every, weight, dmap, bit}
+use Rattle.gb_coupling.specs.WeightedList.{WeightedList, Every, weight, dmap}
 use Rattle.gb_terms.specs.declared.op.Read.{Read}
 use Rattle.gb_terms.specs.declared.op.Read.TheVariants.{Logical, Program}
 use Rattle.gb_terms.specs.declared.op.Side.{Side}
@@ -16,7 +15,7 @@ use Rattle.gb_meaning.specs.Fractions.{Fraction}
 use Rattle.gb_meaning.specs.Memory.{read, read_globals}
 use Rattle.gb_meaning.specs.Values.{has, values}
 use Rattle.gb_meaning.specs.Setting.{Meaning, Setting}
-use Rattle.gb_meaning.specs.Setting.Meaning.{finite, whole, fraction, weights}
+use Rattle.gb_meaning.specs.Setting.Meaning.{finite, fraction, weights}
 use Rattle.gb_meaning.specs.Meanings.{of_truth, of_number, value_in, truth, fraction_in, weights_in}
 use Rattle.gb_meaning.specs.Distributions.{restricted}
 use Rattle.gb_meaning.specs.Operators.{outcome_type}
@@ -34,34 +33,34 @@ use Rattle.gb_typed.proofs.Terms.{term_in}
 use Rattle.gb_typing.proofs.Substituted.{quiet_fractional}
 use Rattle.gb_equality_laws.specs.Alike.{Alike, AllAlike}
 use Rattle.gb_equality_laws.proofs.Fractions.{Same, same_refl, same_plus, same_made}
-use Rattle.gb_equality_laws.proofs.Alike.{IsProper, alike_itself, alike_of, truth_alike, value_alike, weights_alike, fraction_same}
+use Rattle.gb_equality_laws.proofs.Alike.{alike_itself, alike_of, truth_alike, value_alike, weights_alike, fraction_same}
 use Rattle.gb_equality_laws.proofs.Operated.{AreOne, AllOne, operated_alike}
 use Rattle.gb_equality_laws.proofs.Congruent.{proper}
 use mathlib.Core.Former.{Count}
 
 -- what holds at each place, each value or each entry
 
-each_same : (n : ℕ) (f h : ℕ → Bool) → ((i : ℕ) → i < n → f i ≡ h i) → each_below n f ≡ each_below n h
+pub each_same : (n : ℕ) (f h : ℕ → Bool) → ((i : ℕ) → i < n → f i ≡ h i) → each_below n f ≡ each_below n h
 each_same zero f h e = refl
 each_same (suc n) f h e = ap (λ b. b && f n) (each_same n f h (λ i l. e i (omega (arith, l)))) ∙ ap (λ b. each_below n h && b) (e n (omega arith))
 
-some_same : (n : ℕ) (f h : ℕ → Bool) → ((i : ℕ) → i < n → f i ≡ h i) → some_below n f ≡ some_below n h
+pub some_same : (n : ℕ) (f h : ℕ → Bool) → ((i : ℕ) → i < n → f i ≡ h i) → some_below n f ≡ some_below n h
 some_same zero f h e = refl
 some_same (suc n) f h e = ap (λ b. b || f n) (some_same n f h (λ i l. e i (omega (arith, l)))) ∙ ap (λ b. some_below n h || b) (e n (omega arith))
 
-sum_same : (n : ℕ) (f h : ℕ → Fraction) → ((i : ℕ) → i < n → Same (f i) (h i)) → Same (sum_below n f) (sum_below n h)
+pub sum_same : (n : ℕ) (f h : ℕ → Fraction) → ((i : ℕ) → i < n → Same (f i) (h i)) → Same (sum_below n f) (sum_below n h)
 sum_same zero f h e = same_refl (sum_below zero f)
 sum_same (suc n) f h e = same_plus (sum_below n f) (f n) (sum_below n h) (h n) (sum_same n f h (λ i l. e i (omega (arith, l)))) (e n (omega arith))
 
-weight_same : (P : Value → Type 0) (d : WeightedList Value) (f h : Value → Bool) → Every P d → ((v : Value) → P v → f v ≡ h v) → weight d f ≡ weight d h
+pub weight_same : (P : Value → Type 0) (d : WeightedList Value) (f h : Value → Bool) → Every P d → ((v : Value) → P v → f v ≡ h v) → weight d f ≡ weight d h
 weight_same P [] f h k e = refl
 weight_same P (x ∷ d) f h k e = let a = e x.0 k.0 in let b = weight_same P d f h k.1 e in cc
 
-image_same : (P : Value → Type 0) (d : WeightedList Value) (f h : Value → Value) → Every P d → ((v : Value) → P v → f v ≡ h v) → dmap f d ≡ dmap h d
+pub image_same : (P : Value → Type 0) (d : WeightedList Value) (f h : Value → Value) → Every P d → ((v : Value) → P v → f v ≡ h v) → dmap f d ≡ dmap h d
 image_same P [] f h k e = refl
 image_same P (x ∷ d) f h k e = let a = e x.0 k.0 in let b = image_same P d f h k.1 e in λ i. (a i, x.1) ∷ b i
 
-restricted_same : (P : Value → Type 0) (d : WeightedList Value) (f h : Value → Bool) → Every P d → ((v : Value) → P v → f v ≡ h v) → restricted d f ≡ restricted d h
+pub restricted_same : (P : Value → Type 0) (d : WeightedList Value) (f h : Value → Bool) → Every P d → ((v : Value) → P v → f v ≡ h v) → restricted d f ≡ restricted d h
 restricted_same P [] f h k e = refl
 restricted_same P (x ∷ d) f h k e =
     ap (λ b. if b then x ∷ restricted d f else restricted d f) (e x.0 k.0) ∙ ap (λ l. if h x.0 then x ∷ l else l) (restricted_same P d f h k.1 e)

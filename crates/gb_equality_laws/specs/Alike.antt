@@ -3,7 +3,7 @@ use Rattle.std.specs.Prelude.{◌≡◌, true, List, [], ◌∷◌, Some}
 use Rattle.gb_meaning.specs.Names.{Name}
 use Rattle.gb_meaning.specs.Fractions.{is_same}
 use Rattle.gb_meaning.specs.Setting.{Meaning, Setting}
-use Rattle.gb_meaning.specs.Setting.Meaning.{finite, whole, fraction, weights}
+use Rattle.gb_meaning.specs.Setting.Meaning.{fraction}
 use Rattle.gb_typed.specs.Context.{AreOf}
 use Rattle.gb_typed.specs.Typing.{OperatorType}
 use Rattle.gb_typing.specs.Context.{Context}

@@ -44,13 +44,13 @@ unfolding Rattle.gb_terms.specs.declared.term.Head.TheBlock.shown-the_row-Head-2
 type_is (Term' p (more_of-Head h end_of-Head) n r ty) = sym (ap (λ z. z.ty) (outs-struct-Term p (more_of-Head h end_of-Head) n r ty))
 
 -- whether evaluation knows a term, by its head and its arguments
-pub known_out : (ks : Name → Bool) (t : Term) → is_known ks t ≡ (is_head_known ks (out-Term t).head (map type_of (out-Term t).args) && list_all (is_known ks) (out-Term t).args)
+pub known_out : (ks : Name → Bool) (t : Term) → is_known ks t ≡ (is_head_known ks (out-Term t).head (out-Term t).ty (map type_of (out-Term t).args) && list_all (is_known ks) (out-Term t).args)
 unfolding Rattle.gb_terms.specs.declared.term.Head.TheBlock.shown-the_row-Head-2 denote.Hole.Carrier.shown
 known_out ks (Term' p (more_of-Head h end_of-Head) n r ty) =
-    (λ i. is_head_known ks h (types_row _ r i) && are_true (known_row ks _ r i))
-    ∙ ap (λ b. is_head_known ks h (map type_of (items-the_row-Term _ r)) && b) (all_of (is_known ks) (items-the_row-Term _ r))
-    ∙ ap (λ l. is_head_known ks h (map type_of l) && list_all (is_known ks) l) (sym (items_shown-the_row-Term-0 n r))
-    ∙ sym (ap (λ z. is_head_known ks z.head (map type_of z.args) && list_all (is_known ks) z.args) (outs-struct-Term p (more_of-Head h end_of-Head) n r ty))
+    (λ i. is_head_known ks h ty (types_row _ r i) && are_true (known_row ks _ r i))
+    ∙ ap (λ b. is_head_known ks h ty (map type_of (items-the_row-Term _ r)) && b) (all_of (is_known ks) (items-the_row-Term _ r))
+    ∙ ap (λ l. is_head_known ks h ty (map type_of l) && list_all (is_known ks) l) (sym (items_shown-the_row-Term-0 n r))
+    ∙ sym (ap (λ z. is_head_known ks z.head z.ty (map type_of z.args) && list_all (is_known ks) z.args) (outs-struct-Term p (more_of-Head h end_of-Head) n r ty))
 
 eval_row : (env : Environment) (n : _) (r : Row_of-Term n) → eval_all env r ≡ map (part_of env) (items-the_row-Term n r)
 eval_row env n end_of-Term = refl
@@ -67,24 +67,26 @@ module _ (env : Environment) (t : Term) (h : Head) (xs : List Term) (ty : Ty) (b
   pub eval_at : (g : Head) → h ≡ g → eval env t bound ≡ at_head env g ty (map (part_of env) xs) bound
   eval_at g e = eval_out env t bound ∙ (λ i. at_head env ((sym p ∙ e) i) (sym r i) (map (part_of env) (sym q i)) bound)
 
-  pub eval_other : ((v : Value) → h ≡ head.Lit v → ⊥) → ((n : ℤ) → h ≡ head.Whole n → ⊥) → ((r : Read) → h ≡ head.Read r → ⊥) → ((i : ℕ) → h ≡ head.Bound i → ⊥) → ((o : Op) → h ≡ head.Builtin o → ⊥) → ((m : Name) → h ≡ head.User m → ⊥) → ((u : Ty) → h ≡ head.All u → ⊥) → ((u : Ty) → h ≡ head.Some u → ⊥) → (h ≡ head.Mu → ⊥) → ((n : ℕ) → h ≡ head.Sum n → ⊥) → (h ≡ head.Restrict → ⊥) → (h ≡ head.Map → ⊥) → ((ps : List Pair) → h ≡ head.Weights ps → ⊥) → eval env t bound ≡ unknown
-  eval_other l w r b o k a s m n c d u = eval_at h refl ∙ none h l w r b o k a s m n c d u
+  pub eval_other : ((v : Value) → h ≡ head.Lit v → ⊥) → ((n : ℤ) → h ≡ head.Whole n → ⊥) → ((r : Read) → h ≡ head.Read r → ⊥) → ((i : ℕ) → h ≡ head.Bound i → ⊥) → ((o : Op) → h ≡ head.Builtin o → ⊥) → ((m : Name) → h ≡ head.User m → ⊥) → ((u : Ty) → h ≡ head.All u → ⊥) → ((u : Ty) → h ≡ head.Some u → ⊥) → (h ≡ head.Mu → ⊥) → ((n : ℕ) → h ≡ head.Sum n → ⊥) → (h ≡ head.Restrict → ⊥) → (h ≡ head.Map → ⊥) → ((ps : List Pair) → h ≡ head.Weights ps → ⊥) → (h ≡ head.AllMemory → ⊥) → (h ≡ head.SomeMemory → ⊥) → eval env t bound ≡ unknown
+  eval_other l w r b o k a s m n c d u every some = eval_at h refl ∙ none h l w r b o k a s m n c d u every some
     where
-      none : (g : Head) → ((v : Value) → g ≡ head.Lit v → ⊥) → ((n : ℤ) → g ≡ head.Whole n → ⊥) → ((r : Read) → g ≡ head.Read r → ⊥) → ((i : ℕ) → g ≡ head.Bound i → ⊥) → ((o : Op) → g ≡ head.Builtin o → ⊥) → ((m : Name) → g ≡ head.User m → ⊥) → ((u : Ty) → g ≡ head.All u → ⊥) → ((u : Ty) → g ≡ head.Some u → ⊥) → (g ≡ head.Mu → ⊥) → ((n : ℕ) → g ≡ head.Sum n → ⊥) → (g ≡ head.Restrict → ⊥) → (g ≡ head.Map → ⊥) → ((ps : List Pair) → g ≡ head.Weights ps → ⊥) → at_head env g ty (map (part_of env) xs) bound ≡ unknown
-      none (head.Lit v) l w r b o k a s m n c d z = absurd (l v refl)
-      none (head.Whole y) l w r b o k a s m n c d z = absurd (w y refl)
-      none (head.Read x) l w r b o k a s m n c d z = absurd (r x refl)
-      none (head.Bound i) l w r b o k a s m n c d z = absurd (b i refl)
-      none (head.Builtin x) l w r b o k a s m n c d z = absurd (o x refl)
-      none (head.User y) l w r b o k a s m n c d z = absurd (k y refl)
-      none (head.All u) l w r b o k a s m n c d z = absurd (a u refl)
-      none (head.Some u) l w r b o k a s m n c d z = absurd (s u refl)
-      none head.Mu l w r b o k a s m n c d z = absurd (m refl)
-      none (head.Sum y) l w r b o k a s m n c d z = absurd (n y refl)
-      none head.Restrict l w r b o k a s m n c d z = absurd (c refl)
-      none head.Map l w r b o k a s m n c d z = absurd (d refl)
-      none (head.Weights ps) l w r b o k a s m n c d z = absurd (z ps refl)
-      none _ l w r b o k a s m n c d z = refl
+      none : (g : Head) → ((v : Value) → g ≡ head.Lit v → ⊥) → ((n : ℤ) → g ≡ head.Whole n → ⊥) → ((r : Read) → g ≡ head.Read r → ⊥) → ((i : ℕ) → g ≡ head.Bound i → ⊥) → ((o : Op) → g ≡ head.Builtin o → ⊥) → ((m : Name) → g ≡ head.User m → ⊥) → ((u : Ty) → g ≡ head.All u → ⊥) → ((u : Ty) → g ≡ head.Some u → ⊥) → (g ≡ head.Mu → ⊥) → ((n : ℕ) → g ≡ head.Sum n → ⊥) → (g ≡ head.Restrict → ⊥) → (g ≡ head.Map → ⊥) → ((ps : List Pair) → g ≡ head.Weights ps → ⊥) → (g ≡ head.AllMemory → ⊥) → (g ≡ head.SomeMemory → ⊥) → at_head env g ty (map (part_of env) xs) bound ≡ unknown
+      none (head.Lit v) l w r b o k a s m n c d z every some = absurd (l v refl)
+      none (head.Whole y) l w r b o k a s m n c d z every some = absurd (w y refl)
+      none (head.Read x) l w r b o k a s m n c d z every some = absurd (r x refl)
+      none (head.Bound i) l w r b o k a s m n c d z every some = absurd (b i refl)
+      none (head.Builtin x) l w r b o k a s m n c d z every some = absurd (o x refl)
+      none (head.User y) l w r b o k a s m n c d z every some = absurd (k y refl)
+      none (head.All u) l w r b o k a s m n c d z every some = absurd (a u refl)
+      none (head.Some u) l w r b o k a s m n c d z every some = absurd (s u refl)
+      none head.Mu l w r b o k a s m n c d z every some = absurd (m refl)
+      none (head.Sum y) l w r b o k a s m n c d z every some = absurd (n y refl)
+      none head.Restrict l w r b o k a s m n c d z every some = absurd (c refl)
+      none head.Map l w r b o k a s m n c d z every some = absurd (d refl)
+      none (head.Weights ps) l w r b o k a s m n c d z every some = absurd (z ps refl)
+      none head.AllMemory l w r b o k a s m n c d z every some = absurd (every refl)
+      none head.SomeMemory l w r b o k a s m n c d z every some = absurd (some refl)
+      none _ l w r b o k a s m n c d z every some = refl
 
 total_row : (ops : Operators) (n : _) (r : Row_of-Term n) → totals_of ops r ≡ map (total_of ops) (items-the_row-Term n r)
 total_row ops n end_of-Term = refl

@@ -7,6 +7,7 @@ pub mod Layers
 pub mod Opened
 pub mod Operated
 pub mod Places
+pub mod Remembered
 pub mod Sound
 pub mod Stops
 pub mod Tables

@@ -1,5 +1,5 @@
 -- Values of bound variables, and numbers that go from place to place.
-use Rattle.std.proofs.Common.{◌≡◌, ◌↔◌, ◌^◌, ℤ, unsigned_abs, if◌then◌else◌, ℕ, zero, suc, ◌+◌, ◌-◌, ◌<◌, ◌≤◌, Bool, true, false, not, IsTrue, List, [], ◌∷◌, ◌++◌, map, reverse, length, get_or, refl, sym, ap, ◌∙◌, arith}
+use Rattle.std.proofs.Common.{◌≡◌, ◌↔◌, ◌^◌, ℤ, unsigned_abs, if◌then◌else◌, ℕ, zero, suc, ◌+◌, ◌-◌, ◌<◌, ◌≤◌, Bool, true, false, not, IsTrue, Some, None, List, [], ◌∷◌, ◌++◌, map, reverse, length, get_or, refl, sym, ap, ◌∙◌, arith}
 use Rattle.std.proofs.lemmas.Bool.{false≢true}
 use Rattle.std.proofs.lemmas.List.{length-reverse, get_or-reverse}
 use Rattle.gb_core.specs.declared.value.Value.{Value}
@@ -7,7 +7,7 @@ use Rattle.gb_meaning.specs.Values.{value_eq}
 use Rattle.gb_laws.proofs.Values.{value_eq-true, value_discrete}
 use Rattle.gb_eval.specs.declared.env.Bound.{Bound}
 use Rattle.gb_eval.specs.declared.env.Bound.TheVariants as to
-use Rattle.gb_eval.specs.Findings.{Finding, Comes, ◌>>=◌, finding_of, over}
+use Rattle.gb_eval.specs.Findings.{Comes, ◌>>=◌, over}
 use Rattle.gb_eval.specs.Findings.Finding.{value, fraction}
 use Rattle.gb_eval.specs.Findings.Comes.{found, unknown, overflow}
 use Rattle.std.proofs.lemmas.List.{length-append, length-map}
@@ -22,13 +22,14 @@ use Rattle.gb_eval.specs.declared.answer.Stop.{Stop}
 use Rattle.gb_eval.specs.declared.answer.Stop.TheVariants as stop
 use Rattle.gb_eval.specs.Findings.{of_truth, collected, fraction_in, value_in, Stops}
 use Rattle.gb_eval.specs.Known.{is_tuple}
-use Rattle.gb_eval.specs.Eval.{Part, at_three, image_of, images, mapped, value_bound, truth_under, next_truth, next_sum, over_values, quantified, summed, event, measured, narrowed, operated, restricted, table_under, tuple, weighed}
+use Rattle.gb_eval.specs.Eval.{Part, in_memories, in_memory, memories_of, number_of_memories, at_three, image_of, images, bound_at, mapped, truth_under, next_truth, next_sum, over_values, quantified, summed, event, measured, narrowed, operated, restricted, table_under, tuple, weighed}
+use Rattle.gb_reads.specs.Reads.{Vars}
 use Rattle.gb_eval.proofs.Stops.{leads_on, passes, stops_as}
 use Rattle.gb_eval.specs.declared.answer.Answer.{Answer}
 use Rattle.gb_eval.specs.declared.answer.Answer.TheVariants as answer
 use Rattle.gb_eval.specs.Findings.{shown}
 use Rattle.gb_eval.specs.Operators.{part, same, weight_of, whole_fraction, zero_fraction}
-use Rattle.std.proofs.lemmas.Bool.{le-leb}
+use Rattle.std.proofs.lemmas.Bool.{le-leb, lt-ltb}
 use Rattle.gb_num.specs.Fractions.{Fraction, of_whole}
 use Rattle.gb_num.proofs.Sizes.{small, large}
 use Rattle.gb_types.specs.Numbering.{parts_of, key_of, first_or}
@@ -46,25 +47,25 @@ value_test false v w h = not_true (value_eq v w) (λ e. false≢true (h.1 ((valu
     not_true true k = absurd (k refl)
     not_true false k = refl
 
-found_bound : (bs : List Bound) (i : ℕ) (d : Bound) → i < length bs → value_bound bs i ≡ found (finding_of (get_or bs i d))
+found_bound : (bs : List Bound) (i : ℕ) (d : Bound) → i < length bs → bound_at bs i ≡ Some (get_or bs i d)
 found_bound [] i d h = absurd (omega arith)
 found_bound (b ∷ bs) zero d h = refl
 found_bound (b ∷ bs) (suc i) d h = found_bound bs i d (omega arith)
 
-not_found : (bs : List Bound) (i : ℕ) → (i < length bs → ⊥) → value_bound bs i ≡ unknown
+not_found : (bs : List Bound) (i : ℕ) → (i < length bs → ⊥) → bound_at bs i ≡ None
 not_found [] i h = refl
 not_found (b ∷ bs) zero h = absurd (h (omega arith))
 not_found (b ∷ bs) (suc i) h = not_found bs i (λ k. h (omega arith))
 
 -- what bound variables stand for, the innermost last
 
-pub bound_within : (bs : List Bound) (i : ℕ) (b : Bound) (f : Finding) → i < length bs → b ≡ get_or bs (length bs - 1 - i) b → f ≡ finding_of b → value_bound (reverse bs) i ≡ found f
-bound_within bs i b f h e k =
+pub bound_within : (bs : List Bound) (i : ℕ) (b : Bound) → i < length bs → b ≡ get_or bs (length bs - 1 - i) b → Some b ≡ bound_at (reverse bs) i
+bound_within bs i b h e =
     let n : i < length (reverse bs) = omega (arith, h, length-reverse bs) in
-    found_bound (reverse bs) i b n ∙ ap (λ w. found (finding_of w)) (get_or-reverse bs i b h ∙ sym e) ∙ ap found (sym k)
+    sym (found_bound (reverse bs) i b n ∙ ap Some (get_or-reverse bs i b h ∙ sym e))
 
-pub bound_outside : (bs : List Bound) (i : ℕ) → (i < length bs → ⊥) → value_bound (reverse bs) i ≡ unknown
-bound_outside bs i h = not_found (reverse bs) i (λ k. h (omega (arith, k, length-reverse bs)))
+pub bound_outside : (bs : List Bound) (i : ℕ) → (i < length bs → ⊥) → None ≡ bound_at (reverse bs) i
+bound_outside bs i h = sym (not_found (reverse bs) i (λ k. h (omega (arith, k, length-reverse bs))))
 
 -- whether two values that are found are the same
 pub same_values : (b : Bool) (v w : Value) (x y : Answer) → IsTrue b ↔ (v ≡ w) → x ≡ answer.Value v → y ≡ answer.Value w → same (shown x) (shown y) ≡ found b
@@ -219,6 +220,25 @@ module _ (d : Bool) (ty : Ty) (n at : ℕ) (x : Part) (xs : List Part) (bound : 
   pub quantified_decided : over (next_truth d at_place) (not d) at ≡ found (not d) → at_place at ≡ found d → at < n → quantified d ty xs bound ≡ found (of_truth d)
   quantified_decided h w l =
       quantified_is ∙ ap (λ y. y >>= λ a. found (of_truth a)) (over_decided (next_truth d at_place) (not d) (found d) at n (not d) (decision_stands d at_place) h (next_decides d at_place at ∙ w) l)
+
+-- the places of a quantifier over memories
+module _ (d : Bool) (vs : Vars) (n at : ℕ) (x : Part) (bound : List Bound) (c : card_of (memories_of vs) ≡ Exact n) (some : 0 < n) where
+  abbrev at_memory : ℕ → Comes Bool
+  at_memory i = in_memory vs x bound (value_at (memories_of vs) i)
+
+  in_memories_is : in_memories d vs x bound ≡ (over (next_truth d at_memory) (not d) n >>= λ a. found (of_truth a))
+  in_memories_is =
+      ap (λ k. number_of_memories k >>= λ m. over (next_truth d at_memory) (not d) m >>= λ a. found (of_truth a)) c
+      ∙ ap (λ b. (if b then found n else unknown) >>= λ m. over (next_truth d at_memory) (not d) m >>= λ a. found (of_truth a)) (lt-ltb 0 n some)
+
+  pub in_memories_stops : (s : Stop) → over (next_truth d at_memory) (not d) at ≡ found (not d) → Stops (at_memory at) s → at < n → Stops (in_memories d vs x bound) s
+  in_memories_stops s h w l =
+      stops_as _ _ s in_memories_is (passes (over (next_truth d at_memory) (not d) n) (λ a. found (of_truth a)) s
+      (over_stops (next_truth d at_memory) (not d) at n (not d) (at_memory at) s h (next_decides d at_memory at) w l))
+
+  pub in_memories_decided : over (next_truth d at_memory) (not d) at ≡ found (not d) → at_memory at ≡ found d → at < n → in_memories d vs x bound ≡ found (of_truth d)
+  in_memories_decided h w l =
+      in_memories_is ∙ ap (λ y. y >>= λ a. found (of_truth a)) (over_decided (next_truth d at_memory) (not d) (found d) at n (not d) (decision_stands d at_memory) h (next_decides d at_memory at ∙ w) l)
 
 -- the numbers of a sum
 module _ (q at : ℕ) (x : Part) (xs : List Part) (bound : List Bound) (e : xs ≡ x ∷ []) (few : q ≤ 2 ^ 32) where

@@ -1,14 +1,20 @@
 -- What a term comes to is what it means.
-use Rattle.std.proofs.Common.{◌≡◌, ℕ, zero, suc, ◌*◌, ◌<◌, ◌^◌, Bool, true, false, nat_le, if◌then◌else◌, pos, List, [], ◌∷◌, ◌++◌, map, get_or, refl, sym, ap, ◌∙◌, subst, arith}
+use Rattle.std.proofs.Common.{◌≡◌, ℕ, zero, suc, ◌*◌, ◌<◌, ◌^◌, ◌↔◌, Bool, true, false, not, nat_lt, nat_le, if◌then◌else◌, pos, Option, Some, None, List, [], ◌∷◌, ◌++◌, map, get_or, refl, sym, ap, ◌∙◌, subst, arith}
 use Rattle.std.proofs.Math.Nat.{mul_comm}
-use Rattle.std.proofs.lemmas.Bool.{false≢true}
+use Rattle.std.proofs.lemmas.Bool.{false≢true, ltb-true}
 use Rattle.std.proofs.lemmas.List.{append-nil, append_assoc}
 use Rattle.gb_core.specs.declared.ty.Ty.{Ty}
 use Rattle.gb_core.specs.declared.value.Value.{Value}
 use Rattle.gb_core.specs.declared.value.Value.TheVariants.{Num, Many}
 use Rattle.gb_core.specs.declared.value.Card.{Card}
 use Rattle.gb_core.specs.declared.value.Card.TheVariants.{Exact, Above}
+use Rattle.gb_core.specs.declared.var.Var.{Var}
+use Rattle.gb_types.specs.Numbering.{parts_of}
 use Rattle.gb_types.specs.Types.{value_at, card_of}
+use Rattle.gb_reads.specs.Reads.{are_free}
+use Rattle.gb_reads.specs.Held as held
+use Rattle.gb_reads.specs.Memories.{IsHeldBy, read_all}
+use Rattle.gb_reads.proofs.Memories.{all_held, known_value}
 use Rattle.gb_terms.specs.declared.op.Op.{Op}
 use Rattle.gb_terms.specs.declared.op.Op.TheVariants as op
 use Rattle.gb_terms.specs.declared.op.Side.TheVariants as side
@@ -27,6 +33,7 @@ use Rattle.gb_dist.proofs.Events.{kept_is, kept_mass}
 use Rattle.gb_meaning.specs.Setting.{Setting, Meaning}
 use Rattle.gb_meaning.specs.Setting.{Meaning as meaning}
 use Rattle.gb_meaning.specs.Values.{Types, values}
+use Rattle.gb_meaning.specs.Memory.{Memory, read}
 use Rattle.gb_meaning.specs.Fractions as mf
 use Rattle.gb_meaning.specs.Meanings as m
 use Rattle.gb_meaning.specs.Distributions as distributions
@@ -56,6 +63,7 @@ use Rattle.gb_eval.proofs.Tables.{behind_none, one_collected, chance_meant, rest
 use Rattle.gb_eval.proofs.Fractions.{above_product, same_plus, reduced_meant}
 use Rattle.gb_eval.proofs.AtFindings.{binary_meant, unary_meant, nullary_meant}
 use Rattle.gb_eval.proofs.Updates.{updated_meant}
+use Rattle.gb_eval.proofs.Remembered.{each_says, one_says, place_of_memory, memory_of_place}
 
 -- a side of a conditional, over the product of both denominators
 side_meant : (x : Finding) (a : Meaning) (i j k : ℕ) (c : Comes ℕ) → IsFound x a i → Finds (IsTotal j) c → i * j ≡ k → Means (ev.scaled c x) (m.scaled j a) k
@@ -97,13 +105,13 @@ multiplied_total c d j k h l =
     after_finds (IsTotal (j * k)) (product_of (pos m) (pos n) ∷ []) (m * n) (record { is = λ i. q.is i * r.is i; above = above_product m n q.above r.above })))
 
 -- one argument more
-one_more : (bs : List Bound) (ms : List Meaning) (b : Bound) (m : Meaning) → given.AreMeant bs ms → IsFound (finding_of b) m 1 → given.AreMeant (bs ++ b ∷ []) (ms ++ m ∷ [])
+one_more : (bs : List Bound) (ms : List Meaning) (b : Bound) (m : Meaning) → given.AreMeant bs ms → given.Stands b m → given.AreMeant (bs ++ b ∷ []) (ms ++ m ∷ [])
 one_more [] [] b m w h = (h, tt)
 one_more [] (x ∷ ms) b m w h = absurd w
 one_more (a ∷ bs) [] b m w h = absurd w
 one_more (a ∷ bs) (x ∷ ms) b m w h = (w.0, one_more bs ms b m w.1 h)
 
-argument_collected : (c : Comes Bound) (m : Meaning) (rest : List (Comes Bound)) (done : List Bound) (ms ns : List Meaning) → Finds (λ a. IsFound (finding_of a) m 1) c → given.AreMeant done ms →
+argument_collected : (c : Comes Bound) (m : Meaning) (rest : List (Comes Bound)) (done : List Bound) (ms ns : List Meaning) → Finds (λ a. given.Stands a m) c → given.AreMeant done ms →
     ((gs : List Bound) (ls : List Meaning) → given.AreMeant gs ls → Finds (λ ws. given.AreMeant ws (ls ++ ns)) (collected gs rest)) →
     Finds (λ ws. given.AreMeant ws (ms ++ m ∷ ns)) (collected done (c ∷ rest))
 argument_collected (found a) m rest done ms ns k w f =
@@ -118,7 +126,7 @@ module _ (g : Setting) (j : Speaks) (s : State) (env : Environment) (ops : AreOp
 
   -- a part means what its term comes to, inside of binders too
   record IsMeant (x : Part) (p : mt.Part) : Type 0 where
-    means : (bs : List Binding) (vs : List Bound) → Binds bs vs → Means (x.comes vs) (p.meaning (inner bs)) p.denominator
+    means : (bs : List Binding) (vs : List Bound) → Binds g.types bs vs → Means (x.comes vs) (p.meaning (inner bs)) p.denominator
     total : Finds (IsTotal p.denominator) x.total
 
   abbrev AreMeant : List Part → List mt.Part → Type 0
@@ -126,28 +134,52 @@ module _ (g : Setting) (j : Speaks) (s : State) (env : Environment) (ops : AreOp
   AreMeant (x ∷ xs) (p ∷ ps) = IsMeant x p × AreMeant xs ps
   AreMeant _ _ = ⊥
 
-  bound_meant : (bs : List Binding) (vs : List Bound) (i : ℕ) → Binds bs vs → Means (value_bound vs i) (meaning_in (get_or bs i binding.program)) 1
+  stands_found : (b : Binding) (v : Bound) → given.BindsOne g.types b v → Means (finding_of v) (meaning_in b) 1
+  stands_found (binding.value m) (to.Value v) h = h
+  stands_found (binding.value m) (to.Whole n) h = h
+  stands_found (binding.value m) (to.Fraction a) h = h
+  stands_found (binding.value m) (to.Memory hs) h = absurd h
+  stands_found (binding.memory m) (to.Memory hs) h = tt
+  stands_found (binding.memory m) _ h = absurd h
+  stands_found binding.program _ h = absurd h
+
+  bound_meant : (bs : List Binding) (vs : List Bound) (i : ℕ) → Binds g.types bs vs → Means (value_bound vs i) (meaning_in (get_or bs i binding.program)) 1
   bound_meant bs [] i h = tt
   bound_meant [] (v ∷ vs) i h = absurd h
-  bound_meant (binding.value m ∷ bs) (v ∷ vs) zero h = h.0
-  bound_meant (binding.memory m ∷ bs) (v ∷ vs) zero h = absurd h.0
-  bound_meant (binding.program ∷ bs) (v ∷ vs) zero h = absurd h.0
+  bound_meant (b ∷ bs) (v ∷ vs) zero h = stands_found b v h.0
   bound_meant (b ∷ bs) (v ∷ vs) (suc i) h = bound_meant bs vs i h.1
 
+  -- a read of a memory that is bound
+  one_held : (b : Binding) (v : Bound) (x : Var) (ty : Ty) → given.BindsOne g.types b v → Means (ev.held_in (Some v) x ty) (meaning.finite (read g.types (st.memory_in b) x ty)) 1
+  one_held (binding.memory m) (to.Memory hs) x ty h = by (held.value_of hs x ty) refl
+    where
+      by : (o : Option Value) → held.value_of hs x ty ≡ o → Means (ev.found_value o) (meaning.finite (read g.types m x ty)) 1
+      by None e = tt
+      by (Some v) e = ap meaning.finite (known_value g.types m hs h x ty v e)
+  one_held (binding.value m) (to.Memory hs) x ty h = absurd h
+  one_held binding.program (to.Memory hs) x ty h = absurd h
+  one_held b _ x ty h = tt
+
+  held_meant : (bs : List Binding) (vs : List Bound) (i : ℕ) (x : Var) (ty : Ty) → Binds g.types bs vs → Means (ev.held_in (ev.bound_at vs i) x ty) (meaning.finite (read g.types (st.memory_in (get_or bs i binding.program)) x ty)) 1
+  held_meant bs [] i x ty h = tt
+  held_meant [] (v ∷ vs) i x ty h = absurd h
+  held_meant (b ∷ bs) (v ∷ vs) zero x ty h = one_held b v x ty h.0
+  held_meant (b ∷ bs) (v ∷ vs) (suc i) x ty h = held_meant bs vs i x ty h.1
+
   -- a read of a memory that no binder binds is the same inside of binders
-  read_meant : (r : Read) (ty : Ty) (bs : List Binding) → Means (value_of env.reads r) (read_at g r ty s) 1 → Means (value_of env.reads r) (read_at g r ty (inner bs)) 1
-  read_meant (Logical i) ty bs h = h
-  read_meant (Program x side.Own) ty bs h = h
-  read_meant (Program x side.Left) ty bs h = h
-  read_meant (Program x side.Right) ty bs h = h
-  read_meant (Program x (side.Memory i)) ty bs h = h
-  read_meant (Program x (side.Bound i)) ty bs h = tt
+  read_meant : (r : Read) (ty : Ty) (bs : List Binding) (vs : List Bound) → Binds g.types bs vs → given.is_given g s env.reads r ty → Means (value_of env.reads vs r ty) (read_at g r ty (inner bs)) 1
+  read_meant (Logical i) ty bs vs b h = h
+  read_meant (Program x side.Own) ty bs vs b h = h
+  read_meant (Program x side.Left) ty bs vs b h = h
+  read_meant (Program x side.Right) ty bs vs b h = h
+  read_meant (Program x (side.Memory i)) ty bs vs b h = h
+  read_meant (Program x (side.Bound i)) ty bs vs b h = held_meant bs vs i x ty b
 
   -- the truth of a part where a binder binds a value
-  body_meant : (x : Part) (p : mt.Part) → IsMeant x p → (bs : List Binding) (vs : List Bound) → Binds bs vs → (v : Value) → IsTruth (ev.truth_under x (to.Value v ∷ vs)) (m.truth (at_value p (inner bs) v))
+  body_meant : (x : Part) (p : mt.Part) → IsMeant x p → (bs : List Binding) (vs : List Bound) → Binds g.types bs vs → (v : Value) → IsTruth (ev.truth_under x (to.Value v ∷ vs)) (m.truth (at_value p (inner bs) v))
   body_meant x p h bs vs b v = comes_truth (x.comes (to.Value v ∷ vs)) _ p.denominator (h.means (binding.value (meaning.finite v) ∷ bs) (to.Value v ∷ vs) (refl, b))
 
-  truth_meant : (x : Part) (p : mt.Part) → IsMeant x p → (bs : List Binding) (vs : List Bound) → Binds bs vs → IsTruth (ev.truth_under x vs) (m.truth (p.meaning (inner bs)))
+  truth_meant : (x : Part) (p : mt.Part) → IsMeant x p → (bs : List Binding) (vs : List Bound) → Binds g.types bs vs → IsTruth (ev.truth_under x vs) (m.truth (p.meaning (inner bs)))
   truth_meant x p h bs vs b = comes_truth (x.comes vs) _ p.denominator (h.means bs vs b)
 
   -- quantifiers
@@ -166,28 +198,114 @@ module _ (g : Setting) (j : Speaks) (s : State) (env : Environment) (ops : AreOp
       (subst (λ i. IsTruth (over_values true (Exact n) u f) (some_below i (λ i. h (value_at u i)))) (exact g.types u n c).1
       (some_meant n (λ i. f (value_at u i)) (λ i. h (value_at u i)) (λ i. k (value_at u i))))
 
-  forall_meant : (u : Ty) (xs : List Part) (ps : List mt.Part) (bs : List Binding) (vs : List Bound) → AreMeant xs ps → Binds bs vs → Means (ev.quantified false u xs vs) (m.of_truth (each_value (values g.types u) (λ v. m.truth (at_value (last_of ps) (inner bs) v)))) 1
+  forall_meant : (u : Ty) (xs : List Part) (ps : List mt.Part) (bs : List Binding) (vs : List Bound) → AreMeant xs ps → Binds g.types bs vs → Means (ev.quantified false u xs vs) (m.of_truth (each_value (values g.types u) (λ v. m.truth (at_value (last_of ps) (inner bs) v)))) 1
   forall_meant u [] ps bs vs h b = tt
   forall_meant u (x ∷ []) (p ∷ []) bs vs h b = answer_meant _ _ 1 (all_values_meant u (card_of u) _ _ refl (body_meant x p h.0 bs vs b))
   forall_meant u (x ∷ []) [] bs vs h b = absurd h
   forall_meant u (x ∷ []) (p ∷ q ∷ ps) bs vs h b = absurd h.1
   forall_meant u (x ∷ y ∷ xs) ps bs vs h b = tt
 
-  exists_meant : (u : Ty) (xs : List Part) (ps : List mt.Part) (bs : List Binding) (vs : List Bound) → AreMeant xs ps → Binds bs vs → Means (ev.quantified true u xs vs) (m.of_truth (some_value (values g.types u) (λ v. m.truth (at_value (last_of ps) (inner bs) v)))) 1
+  exists_meant : (u : Ty) (xs : List Part) (ps : List mt.Part) (bs : List Binding) (vs : List Bound) → AreMeant xs ps → Binds g.types bs vs → Means (ev.quantified true u xs vs) (m.of_truth (some_value (values g.types u) (λ v. m.truth (at_value (last_of ps) (inner bs) v)))) 1
   exists_meant u [] ps bs vs h b = tt
   exists_meant u (x ∷ []) (p ∷ []) bs vs h b = answer_meant _ _ 1 (some_value_meant u (card_of u) _ _ refl (body_meant x p h.0 bs vs b))
   exists_meant u (x ∷ []) [] bs vs h b = absurd h
   exists_meant u (x ∷ []) (p ∷ q ∷ ps) bs vs h b = absurd h.1
   exists_meant u (x ∷ y ∷ xs) ps bs vs h b = tt
 
+  -- quantifiers over memories
+
+  module _ (x : Part) (p : mt.Part) (h : IsMeant x p) (bs : List Binding) (vs : List Bound) (b : Binds g.types bs vs) where
+    abbrev here : Memory → Bool
+    here mem = m.truth (p.meaning (st.under (inner bs) (binding.memory mem)))
+
+    abbrev place : ℕ → Comes Bool
+    place i = ev.in_memory x.reads x vs (value_at (ev.memories_of x.reads) i)
+
+    place_meant : (mem : Memory) (i : ℕ) → parts_of (value_at (ev.memories_of x.reads) i) ≡ read_all g.types mem x.reads → IsTruth (place i) (here mem)
+    place_meant mem i e =
+        let known = held.with_values x.reads (parts_of (value_at (ev.memories_of x.reads) i)) in
+        let holds : IsHeldBy g.types mem known = subst (λ us. IsHeldBy g.types mem (held.with_values x.reads us)) (sym e) (all_held g.types mem x.reads) in
+        comes_truth (x.comes (to.Memory known ∷ vs)) _ p.denominator (h.means (binding.memory mem ∷ bs) (to.Memory known ∷ vs) (holds, b))
+
+    said : (mem : Memory) (i : ℕ) (d : Bool) → parts_of (value_at (ev.memories_of x.reads) i) ≡ read_all g.types mem x.reads → place i ≡ found d → here mem ≡ d
+    said mem i d e f = subst (λ c. IsTruth c (here mem)) f (place_meant mem i e)
+
+    module _ (free : are_free x.reads ≡ true) (n : ℕ) (c : card_of (ev.memories_of x.reads) ≡ Exact n) (some : 0 < n) where
+      -- where each place says so, each memory does; and where one does, some memory
+      each_memory : (d : Bool) → over (ev.next_truth d place) (not d) n ≡ found (not d) → (mem : Memory) → here mem ≡ not d
+      each_memory d e mem = let q = place_of_memory g.types x.reads free n c some mem in said mem q.0 (not d) q.2 (each_says d place n e q.0 q.1)
+
+      one_memory : (d : Bool) → over (ev.next_truth d place) (not d) n ≡ found d → (mem : Memory) × (here mem ≡ d)
+      one_memory d e =
+          let q = one_says d place n e in
+          let mem = memory_of_place g.types x.reads free n c some q.0 q.1 in
+          (mem.0, said mem.0 q.0 d mem.1 q.2)
+
+      -- what is said of all memories, and of some memory
+
+      of_all : (z : Bool) → (z ≡ true) ↔ ((mem : Memory) → here mem ≡ true) → (k : Comes Bool) → over (ev.next_truth false place) true n ≡ k → IsTruth k z
+      of_all z w unknown e = tt
+      of_all z w (overflow o) e = tt
+      of_all z w (found true) e = w.1 (each_memory false e)
+      of_all z w (found false) e = not_all z refl
+        where
+          not_all : (y : Bool) → z ≡ y → z ≡ false
+          not_all false q = q
+          not_all true q = let one = one_memory false e in absurd (false≢true (sym one.1 ∙ w.0 q one.0))
+
+      of_some : (z : Bool) → (z ≡ true) ↔ ((mem : Memory) × (here mem ≡ true)) → (k : Comes Bool) → over (ev.next_truth true place) false n ≡ k → IsTruth k z
+      of_some z w unknown e = tt
+      of_some z w (overflow o) e = tt
+      of_some z w (found true) e = w.1 (one_memory true e)
+      of_some z w (found false) e = none z refl
+        where
+          none : (y : Bool) → z ≡ y → z ≡ false
+          none false q = q
+          none true q = let one = w.0 q in absurd (false≢true (sym (each_memory true e one.0) ∙ one.1))
+
+    -- a quantifier, where it is known
+    module _ (d z : Bool) (w : are_free x.reads ≡ true → (n : ℕ) → card_of (ev.memories_of x.reads) ≡ Exact n → 0 < n → IsTruth (over (ev.next_truth d place) (not d) n) z) where
+      by_count : are_free x.reads ≡ true → (n : ℕ) → card_of (ev.memories_of x.reads) ≡ Exact n → (y : Bool) → nat_lt 0 n ≡ y →
+          Means ((if y then found n else unknown) >>= λ k. over (ev.next_truth d place) (not d) k >>= λ a. found (of_truth a)) (m.of_truth z) 1
+      by_count f n c true l = answer_meant _ _ 1 (w f n c (ltb-true 0 n l))
+      by_count f n c false l = tt
+
+      by_card : are_free x.reads ≡ true → (k : Card) → card_of (ev.memories_of x.reads) ≡ k →
+          Means (ev.number_of_memories k >>= λ k. over (ev.next_truth d place) (not d) k >>= λ a. found (of_truth a)) (m.of_truth z) 1
+      by_card f (Exact n) c = by_count f n c (nat_lt 0 n) refl
+      by_card f Above c = tt
+
+      by_free : (y : Bool) → are_free x.reads ≡ y → Means (if y then ev.in_memories d x.reads x vs else unknown) (m.of_truth z) 1
+      by_free true f = by_card f (card_of (ev.memories_of x.reads)) refl
+      by_free false f = tt
+
+      remembered_meant : Means (ev.remembered d (x ∷ []) vs) (m.of_truth z) 1
+      remembered_meant = by_free (are_free x.reads) refl
+
+  all_memories_meant : (t : Term) (xs : List Part) (ps : List mt.Part) → AreMeant xs ps → given.is_judged_at g j t head.AllMemory ps → (bs : List Binding) (vs : List Bound) → Binds g.types bs vs →
+      Means (ev.remembered false xs vs) (m.of_truth (j.judged t (inner bs))) 1
+  all_memories_meant t [] ps h w bs vs b = tt
+  all_memories_meant t (x ∷ []) (p ∷ []) h w bs vs b = remembered_meant x p h.0 bs vs b false (j.judged t (inner bs)) (λ f n c l. of_all x p h.0 bs vs b f n c l (j.judged t (inner bs)) (w (inner bs)) _ refl)
+  all_memories_meant t (x ∷ []) [] h w bs vs b = absurd h
+  all_memories_meant t (x ∷ []) (p ∷ q ∷ ps) h w bs vs b = absurd h.1
+  all_memories_meant t (x ∷ y ∷ xs) ps h w bs vs b = tt
+
+  some_memory_meant : (t : Term) (xs : List Part) (ps : List mt.Part) → AreMeant xs ps → given.is_judged_at g j t head.SomeMemory ps → (bs : List Binding) (vs : List Bound) → Binds g.types bs vs →
+      Means (ev.remembered true xs vs) (m.of_truth (j.judged t (inner bs))) 1
+  some_memory_meant t [] ps h w bs vs b = tt
+  some_memory_meant t (x ∷ []) (p ∷ []) h w bs vs b = remembered_meant x p h.0 bs vs b true (j.judged t (inner bs)) (λ f n c l. of_some x p h.0 bs vs b f n c l (j.judged t (inner bs)) (w (inner bs)) _ refl)
+  some_memory_meant t (x ∷ []) [] h w bs vs b = absurd h
+  some_memory_meant t (x ∷ []) (p ∷ q ∷ ps) h w bs vs b = absurd h.1
+  some_memory_meant t (x ∷ y ∷ xs) ps h w bs vs b = tt
+
   -- distributions and events
 
-  event_at : (x : Part) (p : mt.Part) → IsMeant x p → (bs : List Binding) (vs : List Bound) → Binds bs vs → (l : WeightedList Value) →
+  event_at : (x : Part) (p : mt.Part) → IsMeant x p → (bs : List Binding) (vs : List Bound) → Binds g.types bs vs → (l : WeightedList Value) →
       Finds (λ ts. ts ≡ map (λ v. m.truth (at_value p (inner bs) v)) (outcomes l)) (event x l vs)
   event_at x p h bs vs b l = each_collected (λ v. ev.truth_under x (to.Value v ∷ vs)) (λ v. m.truth (at_value p (inner bs) v)) (body_meant x p h bs vs b) l []
 
   -- a distribution that is found
-  table_meant : (x : Part) (p : mt.Part) → IsMeant x p → (bs : List Binding) (vs : List Bound) → Binds bs vs → Finds (λ d. IsTable d.0 d.1 (p.meaning (inner bs)) p.denominator) (ev.table_under x vs)
+  table_meant : (x : Part) (p : mt.Part) → IsMeant x p → (bs : List Binding) (vs : List Bound) → Binds g.types bs vs → Finds (λ d. IsTable d.0 d.1 (p.meaning (inner bs)) p.denominator) (ev.table_under x vs)
   table_meant x p h bs vs b =
       then_finds (λ f. IsFound f (p.meaning (inner bs)) p.denominator) (λ d. IsTable d.0 d.1 (p.meaning (inner bs)) p.denominator) (x.comes vs) table_in (means_finds _ _ _ (h.means bs vs b)) (λ f e i. step f i)
     where
@@ -197,7 +315,7 @@ module _ (g : Setting) (j : Speaks) (s : State) (env : Environment) (ops : AreOp
       step (fraction v) i = tt
       step (table n l) i = i
 
-  measured_meant : (x y : Part) (p q : mt.Part) (bs : List Binding) (vs : List Bound) → IsMeant x p → IsMeant y q → Binds bs vs →
+  measured_meant : (x y : Part) (p q : mt.Part) (bs : List Binding) (vs : List Bound) → IsMeant x p → IsMeant y q → Binds g.types bs vs →
       Means (ev.measured (x ∷ y ∷ []) vs) (meaning.fraction (pos (weight (m.weights_in (p.meaning (inner bs))) (λ v. m.truth (at_value q (inner bs) v))), p.denominator)) 1
   measured_meant x y p q bs vs h k b =
       finds_means _ _ 1 (then_finds (λ d. IsTable d.0 d.1 (p.meaning (inner bs)) p.denominator) (λ f. IsFound f (meaning.fraction (pos (weight (m.weights_in (p.meaning (inner bs))) test), p.denominator)) 1) (ev.table_under x vs) (λ d. ev.weighed y d vs) (table_meant x p h bs vs b)
@@ -208,7 +326,7 @@ module _ (g : Setting) (j : Speaks) (s : State) (env : Environment) (ops : AreOp
       test : Value → Bool
       test v = m.truth (at_value q (inner bs) v)
 
-  restricted_meant : (x y : Part) (p q : mt.Part) (bs : List Binding) (vs : List Bound) → IsMeant x p → IsMeant y q → Binds bs vs →
+  restricted_meant : (x y : Part) (p q : mt.Part) (bs : List Binding) (vs : List Bound) → IsMeant x p → IsMeant y q → Binds g.types bs vs →
       Means (ev.restricted (x ∷ y ∷ []) vs) (meaning.weights (distributions.restricted (m.weights_in (p.meaning (inner bs))) (λ v. m.truth (at_value q (inner bs) v)))) p.denominator
   restricted_meant x y p q bs vs h k b =
       finds_means _ _ p.denominator (then_finds (λ d. IsTable d.0 d.1 (p.meaning (inner bs)) p.denominator) (λ f. IsFound f (meaning.weights (distributions.restricted (m.weights_in (p.meaning (inner bs))) test)) p.denominator) (ev.table_under x vs) (λ d. ev.narrowed y d vs) (table_meant x p h bs vs b)
@@ -253,7 +371,7 @@ module _ (g : Setting) (j : Speaks) (s : State) (env : Environment) (ops : AreOp
       after_finds (λ a. IsSum a (sum_below (suc n) h)) (plus_steps a b) _
       (of_fraction _ _ (reduced_meant (plus a b) (mf.plus (sum_below n h) (h n)) (above_product _ _ i.above c.above) (above_product _ _ i.meant_above c.meant_above) (same_plus a (sum_below n h) b (h n) i.same c.same)))))
 
-  summed_meant : (q : ℕ) (x : Part) (p : mt.Part) (bs : List Binding) (vs : List Bound) → IsMeant x p → Binds bs vs →
+  summed_meant : (q : ℕ) (x : Part) (p : mt.Part) (bs : List Binding) (vs : List Bound) → IsMeant x p → Binds g.types bs vs →
       Means (ev.summed q (x ∷ []) vs) (meaning.fraction (sum_below q (λ i. m.fraction_in (p.meaning (st.under (inner bs) (binding.value (m.of_number i))))))) 1
   summed_meant q x p bs vs h b =
       finds_means _ _ 1
@@ -278,7 +396,7 @@ module _ (g : Setting) (j : Speaks) (s : State) (env : Environment) (ops : AreOp
   value_found unknown x k h = tt
   value_found (overflow v) x k h = tt
 
-  tuple_meant : (xs : List Part) (ps : List mt.Part) (bs : List Binding) (vs : List Bound) → AreMeant xs ps → Binds bs vs → (out : List Value) →
+  tuple_meant : (xs : List Part) (ps : List mt.Part) (bs : List Binding) (vs : List Bound) → AreMeant xs ps → Binds g.types bs vs → (out : List Value) →
       Finds (λ ws. ws ≡ out ++ map (λ p. m.value_in (p.meaning (inner bs))) ps) (collected out (map (λ x. x.comes vs >>= value_in) xs))
   tuple_meant [] [] bs vs h b out = behind_none out
   tuple_meant [] (p ∷ ps) bs vs h b out = absurd h
@@ -293,13 +411,13 @@ module _ (g : Setting) (j : Speaks) (s : State) (env : Environment) (ops : AreOp
 
   -- images
 
-  images_at : (x : Part) (p : mt.Part) → IsMeant x p → (bs : List Binding) (vs : List Bound) → Binds bs vs → (l : WeightedList Value) →
+  images_at : (x : Part) (p : mt.Part) → IsMeant x p → (bs : List Binding) (vs : List Bound) → Binds g.types bs vs → (l : WeightedList Value) →
       Finds (λ ws. ws ≡ map (λ v. m.value_in (at_value p (inner bs) v)) (outcomes l)) (images x l vs)
   images_at x p h bs vs b l =
       each_collected (λ v. x.comes (to.Value v ∷ vs) >>= value_in) (λ v. m.value_in (at_value p (inner bs) v))
       (λ v. value_found (x.comes (to.Value v ∷ vs)) (at_value p (inner bs) v) p.denominator (h.means (binding.value (meaning.finite v) ∷ bs) (to.Value v ∷ vs) (refl, b))) l []
 
-  mapped_meant : (x y : Part) (p q : mt.Part) (bs : List Binding) (vs : List Bound) → IsMeant x p → IsMeant y q → Binds bs vs →
+  mapped_meant : (x y : Part) (p q : mt.Part) (bs : List Binding) (vs : List Bound) → IsMeant x p → IsMeant y q → Binds g.types bs vs →
       Means (ev.mapped (x ∷ y ∷ []) vs) (meaning.weights (dmap (λ v. m.value_in (at_value q (inner bs) v)) (m.weights_in (p.meaning (inner bs))))) p.denominator
   mapped_meant x y p q bs vs h k b =
       finds_means _ _ p.denominator (then_finds (λ d. IsTable d.0 d.1 (p.meaning (inner bs)) p.denominator) P (ev.table_under x vs) (λ d. ev.image_of y d vs) (table_meant x p h bs vs b)
@@ -318,7 +436,7 @@ module _ (g : Setting) (j : Speaks) (s : State) (env : Environment) (ops : AreOp
       P f = IsFound f (meaning.weights (dmap image (m.weights_in (p.meaning (inner bs))))) p.denominator
 
   -- operators at their numbers of arguments, but those of tuples
-  module _ (ty : Ty) (bs : List Binding) (vs : List Bound) (b : Binds bs vs) where
+  module _ (ty : Ty) (bs : List Binding) (vs : List Bound) (b : Binds g.types bs vs) where
     one_meant : (p : Op) (x : Part) (q : mt.Part) → IsMeant x q → Means (x.comes vs >>= λ a. e.unary p ty a) (o.unary g.types p ty (q.meaning (inner bs))) (denominator_at g.types p ty (q.denominator ∷ []))
     one_meant p x q h =
         finds_means _ _ _ (then_finds (λ f. IsFound f (q.meaning (inner bs)) q.denominator) _ (x.comes vs) _ (means_finds _ _ _ (h.means bs vs b))
@@ -395,7 +513,7 @@ module _ (g : Setting) (j : Speaks) (s : State) (env : Environment) (ops : AreOp
 
   -- operators of the script
 
-  argument_meant : (c : Comes Finding) (x : Meaning) (k : ℕ) → Means c x k → Finds (λ a. IsFound (finding_of a) x 1) (c >>= argument_of)
+  argument_meant : (c : Comes Finding) (x : Meaning) (k : ℕ) → Means c x k → Finds (λ a. given.Stands a x) (c >>= argument_of)
   argument_meant (found (value v)) x k h = h
   argument_meant (found (whole v)) x k h = h
   argument_meant (found (fraction v)) x k h = record { meant = h.meant; is = h.is; above = h.above; found_above = h.found_above; same = h.same }
@@ -403,7 +521,7 @@ module _ (g : Setting) (j : Speaks) (s : State) (env : Environment) (ops : AreOp
   argument_meant unknown x k h = tt
   argument_meant (overflow v) x k h = tt
 
-  arguments_meant : (xs : List Part) (ps : List mt.Part) (bs : List Binding) (vs : List Bound) → AreMeant xs ps → Binds bs vs → (done : List Bound) (ms : List Meaning) → given.AreMeant done ms →
+  arguments_meant : (xs : List Part) (ps : List mt.Part) (bs : List Binding) (vs : List Bound) → AreMeant xs ps → Binds g.types bs vs → (done : List Bound) (ms : List Meaning) → given.AreMeant done ms →
       Finds (λ ws. given.AreMeant ws (ms ++ map (λ p. p.meaning (inner bs)) ps)) (collected done (map (λ x. x.comes vs >>= argument_of) xs))
   arguments_meant [] [] bs vs h b done ms w = subst (given.AreMeant done) (sym (append-nil ms)) w
   arguments_meant [] (p ∷ ps) bs vs h b done ms w = absurd h
@@ -419,7 +537,7 @@ module _ (g : Setting) (j : Speaks) (s : State) (env : Environment) (ops : AreOp
   result_meant (fraction v) x k ty true q h = record { meant = h.meant; is = h.is; above = h.above; found_above = h.found_above; same = h.same }
   result_meant (table n l) x k ty true q h = record { meant = h.meant; is = h.is; same = h.same; total = h.total ∙ ap (λ b. if b then k else 1) (sym q) }
 
-  called_meant : (n : Name) (ty : Ty) (xs : List Part) (ps : List mt.Part) (bs : List Binding) (vs : List Bound) → AreMeant xs ps → Binds bs vs →
+  called_meant : (n : Name) (ty : Ty) (xs : List Part) (ps : List mt.Part) (bs : List Binding) (vs : List Bound) → AreMeant xs ps → Binds g.types bs vs →
       Means (ev.called (env.operators n) ty xs vs) (g.operator n (map (λ p. p.meaning (inner bs)) ps)) (denominator_over ty (g.denominator n))
   called_meant n ty xs ps bs vs h b =
       finds_means _ _ _ (then_finds (λ ws. given.AreMeant ws (map (λ p. p.meaning (inner bs)) ps)) _ (ev.arguments xs vs) _ (arguments_meant xs ps bs vs h b [] [] tt)
@@ -430,32 +548,34 @@ module _ (g : Setting) (j : Speaks) (s : State) (env : Environment) (ops : AreOp
   part_denominators end_of-Term = refl
   part_denominators (more_of-Term t r) = ap (λ l. denominator g t ∷ l) (part_denominators r)
 
-  head_meant : (t : Term) (h : Head) (xs : List Part) (ps : List mt.Part) (ty : Ty) → AreMeant xs ps → is_given_at g s env.reads h ty → (bs : List Binding) (vs : List Bound) → Binds bs vs → Means (ev.at_head env h ty xs vs) (mt.at_head g j t h ps ty (inner bs)) (denominator_of g h (map (λ p. p.denominator) ps) ty)
-  head_meant t (head.Lit v) xs ps ty h w bs vs b = refl
-  head_meant t (head.Whole n) xs ps ty h w bs vs b = refl
-  head_meant t (head.Bound i) xs ps ty h w bs vs b = bound_meant bs vs i b
-  head_meant t (head.Read r) xs ps ty h w bs vs b = read_meant r ty bs w
-  head_meant t (head.Builtin o) xs ps ty h w bs vs b = operated_meant ty bs vs b o xs ps h (is_tuple o) refl
-  head_meant t (head.User n) xs ps ty h w bs vs b = called_meant n ty xs ps bs vs h b
-  head_meant t (head.All u) xs ps ty h w bs vs b = forall_meant u xs ps bs vs h b
-  head_meant t (head.Some u) xs ps ty h w bs vs b = exists_meant u xs ps bs vs h b
-  head_meant t head.Mu (x ∷ y ∷ []) (p ∷ q ∷ []) ty h w bs vs b = measured_meant x y p q bs vs h.0 h.1.0 b
-  head_meant t head.Mu (x ∷ y ∷ []) (p ∷ q ∷ r ∷ ps) ty h w bs vs b = absurd h.1.1
-  head_meant t head.Mu (x ∷ y ∷ []) (p ∷ []) ty h w bs vs b = absurd h.1
-  head_meant t head.Mu (x ∷ y ∷ []) [] ty h w bs vs b = absurd h
-  head_meant t head.Restrict (x ∷ y ∷ []) (p ∷ q ∷ []) ty h w bs vs b = restricted_meant x y p q bs vs h.0 h.1.0 b
-  head_meant t head.Restrict (x ∷ y ∷ []) (p ∷ q ∷ r ∷ ps) ty h w bs vs b = absurd h.1.1
-  head_meant t head.Restrict (x ∷ y ∷ []) (p ∷ []) ty h w bs vs b = absurd h.1
-  head_meant t head.Restrict (x ∷ y ∷ []) [] ty h w bs vs b = absurd h
-  head_meant t head.Map (x ∷ y ∷ []) (p ∷ q ∷ []) ty h w bs vs b = mapped_meant x y p q bs vs h.0 h.1.0 b
-  head_meant t head.Map (x ∷ y ∷ []) (p ∷ q ∷ r ∷ ps) ty h w bs vs b = absurd h.1.1
-  head_meant t head.Map (x ∷ y ∷ []) (p ∷ []) ty h w bs vs b = absurd h.1
-  head_meant t head.Map (x ∷ y ∷ []) [] ty h w bs vs b = absurd h
-  head_meant t (head.Weights qs) xs ps ty h w bs vs b = stated_meant qs
-  head_meant t (head.Sum q) (x ∷ []) (p ∷ []) ty h w bs vs b = summed_meant q x p bs vs h.0 b
-  head_meant t (head.Sum q) (x ∷ []) (p ∷ r ∷ ps) ty h w bs vs b = absurd h.1
-  head_meant t (head.Sum q) (x ∷ []) [] ty h w bs vs b = absurd h
-  head_meant t _ xs ps ty h w bs vs b = tt
+  head_meant : (t : Term) (h : Head) (xs : List Part) (ps : List mt.Part) (ty : Ty) → AreMeant xs ps → is_given_at g s env.reads h ty → given.is_judged_at g j t h ps → (bs : List Binding) (vs : List Bound) → Binds g.types bs vs → Means (ev.at_head env h ty xs vs) (mt.at_head g j t h ps ty (inner bs)) (denominator_of g h (map (λ p. p.denominator) ps) ty)
+  head_meant t (head.Lit v) xs ps ty h w u bs vs b = refl
+  head_meant t (head.Whole n) xs ps ty h w u bs vs b = refl
+  head_meant t (head.Bound i) xs ps ty h w u bs vs b = bound_meant bs vs i b
+  head_meant t (head.Read r) xs ps ty h w u bs vs b = read_meant r ty bs vs b w
+  head_meant t (head.Builtin o) xs ps ty h w u bs vs b = operated_meant ty bs vs b o xs ps h (is_tuple o) refl
+  head_meant t (head.User n) xs ps ty h w u bs vs b = called_meant n ty xs ps bs vs h b
+  head_meant t (head.All v) xs ps ty h w u bs vs b = forall_meant v xs ps bs vs h b
+  head_meant t (head.Some v) xs ps ty h w u bs vs b = exists_meant v xs ps bs vs h b
+  head_meant t head.AllMemory xs ps ty h w u bs vs b = all_memories_meant t xs ps h u bs vs b
+  head_meant t head.SomeMemory xs ps ty h w u bs vs b = some_memory_meant t xs ps h u bs vs b
+  head_meant t head.Mu (x ∷ y ∷ []) (p ∷ q ∷ []) ty h w u bs vs b = measured_meant x y p q bs vs h.0 h.1.0 b
+  head_meant t head.Mu (x ∷ y ∷ []) (p ∷ q ∷ r ∷ ps) ty h w u bs vs b = absurd h.1.1
+  head_meant t head.Mu (x ∷ y ∷ []) (p ∷ []) ty h w u bs vs b = absurd h.1
+  head_meant t head.Mu (x ∷ y ∷ []) [] ty h w u bs vs b = absurd h
+  head_meant t head.Restrict (x ∷ y ∷ []) (p ∷ q ∷ []) ty h w u bs vs b = restricted_meant x y p q bs vs h.0 h.1.0 b
+  head_meant t head.Restrict (x ∷ y ∷ []) (p ∷ q ∷ r ∷ ps) ty h w u bs vs b = absurd h.1.1
+  head_meant t head.Restrict (x ∷ y ∷ []) (p ∷ []) ty h w u bs vs b = absurd h.1
+  head_meant t head.Restrict (x ∷ y ∷ []) [] ty h w u bs vs b = absurd h
+  head_meant t head.Map (x ∷ y ∷ []) (p ∷ q ∷ []) ty h w u bs vs b = mapped_meant x y p q bs vs h.0 h.1.0 b
+  head_meant t head.Map (x ∷ y ∷ []) (p ∷ q ∷ r ∷ ps) ty h w u bs vs b = absurd h.1.1
+  head_meant t head.Map (x ∷ y ∷ []) (p ∷ []) ty h w u bs vs b = absurd h.1
+  head_meant t head.Map (x ∷ y ∷ []) [] ty h w u bs vs b = absurd h
+  head_meant t (head.Weights qs) xs ps ty h w u bs vs b = stated_meant qs
+  head_meant t (head.Sum q) (x ∷ []) (p ∷ []) ty h w u bs vs b = summed_meant q x p bs vs h.0 b
+  head_meant t (head.Sum q) (x ∷ []) (p ∷ r ∷ ps) ty h w u bs vs b = absurd h.1
+  head_meant t (head.Sum q) (x ∷ []) [] ty h w u bs vs b = absurd h
+  head_meant t _ xs ps ty h w u bs vs b = tt
 
   operator_total_meant : (p : Op) (xs : List Part) (ps : List mt.Part) (ty : Ty) → AreMeant xs ps → Finds (IsTotal (denominator_at g.types p ty (map (λ p. p.denominator) ps))) (operator_total p ty (map (λ x. x.total) xs))
   operator_total_meant op.Coin xs ps ty h = record { is = refl; above = omega arith }
@@ -513,30 +633,30 @@ module _ (g : Setting) (j : Speaks) (s : State) (env : Environment) (ops : AreOp
   part_totals (more_of-Term t r) = ap (λ l. total_of env.operators t ∷ l) (part_totals r)
 
   mutual
-    term_meant : (t : Term) → AreGiven g s env.reads t → IsMeant (ev.part_of env t) (mt.part_of g j t)
-    term_meant (Term' p (more_of-Head h end_of-Head) n ts ty) w =
-        let inside = row_meant ts w.1 in
+    term_meant : (t : Term) → AreGiven g s env.reads t → given.AreJudged g j t → IsMeant (ev.part_of env t) (mt.part_of g j t)
+    term_meant (Term' p (more_of-Head h end_of-Head) n ts ty) w u =
+        let inside = row_meant ts w.1 u.1 in
         record {
           means = λ bs vs b.
               subst (λ ks. Means (ev.at_head env h ty (eval_all env ts) vs) (mt.at_head g j (Term' p (more_of-Head h end_of-Head) n ts ty) h (parts g j ts) ty (inner bs)) (denominator_of g h ks ty)) (sym (part_denominators ts))
-              (head_meant (Term' p (more_of-Head h end_of-Head) n ts ty) h (eval_all env ts) (parts g j ts) ty inside w.0 bs vs b);
+              (head_meant (Term' p (more_of-Head h end_of-Head) n ts ty) h (eval_all env ts) (parts g j ts) ty inside w.0 u.0 bs vs b);
           total = subst (λ ks. Finds (IsTotal (denominator_of g h ks ty)) (head_total env.operators h ty (totals_of env.operators ts))) (sym (part_denominators ts))
               (subst (λ us. Finds (IsTotal (denominator_of g h (map (λ p. p.denominator) (parts g j ts)) ty)) (head_total env.operators h ty us)) (sym (part_totals ts))
               (head_total_meant h (eval_all env ts) (parts g j ts) ty inside));
         }
 
-    row_meant : {n : _} (r : Row_of-Term n) → AllGiven g s env.reads r → AreMeant (eval_all env r) (parts g j r)
-    row_meant end_of-Term w = tt
-    row_meant (more_of-Term t r) w = (term_meant t w.0, row_meant r w.1)
+    row_meant : {n : _} (r : Row_of-Term n) → AllGiven g s env.reads r → given.AllJudged g j r → AreMeant (eval_all env r) (parts g j r)
+    row_meant end_of-Term w u = tt
+    row_meant (more_of-Term t r) w u = (term_meant t w.0 u.0, row_meant r w.1 u.1)
 
-pub answer_sound : (g : Setting) (j : Speaks) (s : State) (env : Environment) (t : Term) (bound : List Bound) → AreOperators g env.operators → AreGiven g s env.reads t → Binds s.bound bound → Means (eval env t bound) (val g j t s) (denominator g t)
-answer_sound g j s env t bound o w b = (term_meant g j s env o t w).means s.bound bound b
+pub answer_sound : (g : Setting) (j : Speaks) (s : State) (env : Environment) (t : Term) (bound : List Bound) → AreOperators g env.operators → AreGiven g s env.reads t → given.AreJudged g j t → Binds g.types s.bound bound → Means (eval env t bound) (val g j t s) (denominator g t)
+answer_sound g j s env t bound o w u b = (term_meant g j s env o t w u).means s.bound bound b
 
-pub truth_sound : (g : Setting) (j : Speaks) (s : State) (env : Environment) (t : Term) (b : Bool) → AreOperators g env.operators → AreGiven g s env.reads t → ev.truth_at env t [] ≡ found b → m.truth (val g j t s) ≡ b
-truth_sound g j s env t b o w h = subst (λ c. IsTruth c (m.truth (val g j t s))) h (comes_truth (eval env t []) (val g j t s) (denominator g t) (answer_sound g j s env t [] o w tt))
+pub truth_sound : (g : Setting) (j : Speaks) (s : State) (env : Environment) (t : Term) (b : Bool) → AreOperators g env.operators → AreGiven g s env.reads t → given.AreJudged g j t → ev.truth_at env t [] ≡ found b → m.truth (val g j t s) ≡ b
+truth_sound g j s env t b o w u h = subst (λ c. IsTruth c (m.truth (val g j t s))) h (comes_truth (eval env t []) (val g j t s) (denominator g t) (answer_sound g j s env t [] o w u tt))
 
-pub total_sound : (g : Setting) (s : State) (env : Environment) (t : Term) → AreOperators g env.operators → AreGiven g s env.reads t → given.IsDenominator (total_of env.operators t) (denominator g t)
-total_sound g s env t o w = step (total_of env.operators t) (term_meant g mt.quiet s env o t w).total
+pub total_sound : (g : Setting) (s : State) (env : Environment) (t : Term) → AreOperators g env.operators → AreGiven g s env.reads t → given.AreJudged g mt.quiet t → given.IsDenominator (total_of env.operators t) (denominator g t)
+total_sound g s env t o w u = step (total_of env.operators t) (term_meant g mt.quiet s env o t w u).total
   where
     step : (c : Comes ℕ) → Finds (IsTotal (denominator g t)) c → given.IsDenominator c (denominator g t)
     step (found n) h = (h.is, h.above)

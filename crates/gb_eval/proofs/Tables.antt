@@ -133,6 +133,9 @@ exact_finite false b k n h = absurd (false≢true (ap is_exact h))
     is_exact (Exact n) = true
     is_exact Above = false
 
+pub exact_type_finite : (u : Ty) (n : ℕ) → card_of u ≡ Exact n → is_finite u ≡ true
+exact_type_finite u n e = exact_finite (is_finite u) (nat_lt (size_of u) (2 ^ 63)) (size_of u) n e
+
 -- a type with an exact number of values
 pub exact : (t : Types) (u : Ty) (n : ℕ) → card_of u ≡ Exact n → (values t u ≡ numbering u) × (n ≡ size_of u)
 exact t u n e = (values_finite t u (exact_finite (is_finite u) (nat_lt (size_of u) (2 ^ 63)) (size_of u) n e), exact_size (is_finite u && nat_lt (size_of u) (2 ^ 63)) (size_of u) n e)

@@ -1,14 +1,19 @@
 -- What terms come to.
-use Rattle.std.specs.Prelude.{ℕ, zero, suc, ◌*◌, ◌^◌, Bool, true, false, not, nat_le, if◌then◌else◌, pos, List, [], ◌∷◌, ◌++◌, length, map, reverse}
+use Rattle.std.specs.Prelude.{ℕ, zero, suc, ◌*◌, ◌^◌, Bool, true, false, not, nat_lt, nat_le, if◌then◌else◌, pos, Option, Some, None, List, [], ◌∷◌, ◌++◌, length, map, reverse}
 use Rattle.gb_core.specs.declared.ty.Ty.{Ty}
+use Rattle.gb_core.specs.declared.ty.Ty.TheVariants.{Tuple}
+use Rattle.gb_core.specs.declared.var.Var.{Var}
 use Rattle.gb_core.specs.declared.value.Value.{Value}
 use Rattle.gb_core.specs.declared.value.Value.TheVariants.{Num, Many}
 use Rattle.gb_core.specs.declared.value.Card.{Card}
 use Rattle.gb_core.specs.declared.value.Card.TheVariants.{Exact, Above}
+use Rattle.gb_types.specs.Numbering.{parts_of}
 use Rattle.gb_types.specs.Types.{card_of, value_at}
 use Rattle.gb_terms.specs.declared.op.Op.{Op}
 use Rattle.gb_terms.specs.declared.op.Op.TheVariants as op
 use Rattle.gb_terms.specs.declared.op.Read.{Read}
+use Rattle.gb_terms.specs.declared.op.Read.TheVariants.{Program}
+use Rattle.gb_terms.specs.declared.op.Side.TheVariants as side
 use Rattle.gb_terms.specs.declared.term.Term.{Term, Term', Row_of-Term, end_of-Term, more_of-Term, end_of-Head, more_of-Head}
 use Rattle.gb_terms.specs.declared.term.Head.{Head}
 use Rattle.gb_terms.specs.declared.term.Head.TheVariants as head
@@ -22,6 +27,8 @@ use Rattle.gb_meaning.specs.Operators.{is_distribution}
 use Rattle.gb_dist.specs.Places.{outcomes}
 use Rattle.gb_dist.specs.Rows.{scaling_steps}
 use Rattle.gb_goal.specs.Scope.{Declarations}
+use Rattle.gb_reads.specs.Held as held
+use Rattle.gb_reads.specs.Reads.{Vars, are_free, reads_of}
 use Rattle.gb_eval.specs.declared.env.Bound.{Bound}
 use Rattle.gb_eval.specs.declared.env.Bound.TheVariants as to
 use Rattle.gb_eval.specs.declared.env.Env.{Env}
@@ -33,27 +40,46 @@ use Rattle.gb_eval.specs.Findings.Finding.{value, whole, fraction, table}
 use Rattle.gb_eval.specs.Findings.Comes.{found, unknown}
 use Rattle.gb_eval.specs.Operators.{nullary, unary, binary, updated, is_connective, connective, zero_fraction, chance}
 use Rattle.gb_eval.specs.Totals.{total_of, weights_total}
-use Rattle.gb_eval.specs.Known.{is_read_known, is_tuple}
+use Rattle.gb_eval.specs.Known.{is_tuple}
 
 -- the value of the first entry of the read
 abbrev pub value_among : List ReadValue → Read → Comes Finding
 value_among [] r = unknown
 value_among (e ∷ es) r = if read_eq e.read r then found (value e.value) else value_among es r
 
--- the value of a read of a memory that no binder binds
-abbrev pub value_of : List ReadValue → Read → Comes Finding
-value_of es r = if is_read_known r then value_among es r else unknown
+-- what stands for the variable with so many binders between
+abbrev pub bound_at : List Bound → ℕ → Option Bound
+bound_at [] i = None
+bound_at (b ∷ bs) zero = Some b
+bound_at (b ∷ bs) (suc i) = bound_at bs i
 
--- the value of the variable with so many binders between
+abbrev pub found_of : Option Bound → Comes Finding
+found_of None = unknown
+found_of (Some b) = finding_of b
+
 abbrev pub value_bound : List Bound → ℕ → Comes Finding
-value_bound [] i = unknown
-value_bound (b ∷ bs) zero = found (finding_of b)
-value_bound (b ∷ bs) (suc i) = value_bound bs i
+value_bound bs i = found_of (bound_at bs i)
 
--- A part of a term: what it comes to under what the binders around bind, the innermost first, and the denominator of its tree.
+abbrev pub found_value : Option Value → Comes Finding
+found_value None = unknown
+found_value (Some v) = found (value v)
+
+-- the value of a variable at a type, in a memory of which some variables are known
+abbrev pub held_in : Option Bound → Var → Ty → Comes Finding
+held_in (Some (to.Memory hs)) x ty = found_value (held.value_of hs x ty)
+held_in _ x ty = unknown
+
+-- The value of a read at a type: of a memory that a binder binds as it holds it, of anything else as it is given.
+abbrev pub value_of : List ReadValue → List Bound → Read → Ty → Comes Finding
+value_of es bs (Program x (side.Bound i)) ty = held_in (bound_at bs i) x ty
+value_of es bs r ty = value_among es r
+
+-- A part of a term: what it comes to under what the binders around bind, the innermost first; the denominator of its tree; and, where it
+-- is the body of a quantifier over memories, what it reads of the memory that this binds.
 pub record Part : Type 0 where
   pub comes : List Bound → Comes Finding
   pub total : Comes ℕ
+  pub reads : Vars
 
 abbrev pub truth_under : Part → List Bound → Comes Bool
 truth_under x bound = x.comes bound >>= truth_in
@@ -117,6 +143,32 @@ over_values deciding Above ty f = unknown
 abbrev pub quantified : Bool → Ty → List Part → List Bound → Comes Finding
 quantified deciding ty (x ∷ []) bound = over_values deciding (card_of ty) ty (λ v. truth_under x (to.Value v ∷ bound)) >>= λ a. found (of_truth a)
 quantified deciding ty _ bound = unknown
+
+-- the type of whose values the memories are in which variables have values
+abbrev pub memories_of : Vars → Ty
+memories_of xs = Tuple (map (λ x. x.ty) xs)
+
+-- how many these are, where that is exact and there is one
+abbrev pub number_of_memories : Card → Comes ℕ
+number_of_memories (Exact n) = if nat_lt 0 n then found n else unknown
+number_of_memories Above = unknown
+
+-- the truth of a part in the memory of these values
+abbrev pub in_memory : Vars → Part → List Bound → Value → Comes Bool
+in_memory xs x bound v = truth_under x (to.Memory (held.with_values xs (parts_of v)) ∷ bound)
+
+-- the truth of a quantifier over the memories in which variables have values, which are tried in order up to the first that decides
+abbrev pub in_memories : Bool → Vars → Part → List Bound → Comes Finding
+in_memories deciding xs x bound =
+    number_of_memories (card_of (memories_of xs))
+    >>= λ n. over (next_truth deciding (λ i. in_memory xs x bound (value_at (memories_of xs) i))) (not deciding) n
+    >>= λ a. found (of_truth a)
+
+-- The truth of a quantifier over memories, by the values that they give what is read of them. It is known where memories give these any
+-- values of their types, independently.
+abbrev pub remembered : Bool → List Part → List Bound → Comes Finding
+remembered deciding (x ∷ []) bound = if are_free x.reads then in_memories deciding x.reads x bound else unknown
+remembered deciding _ bound = unknown
 
 -- the truth of an event at each outcome of a table, in order
 abbrev pub event : Part → WeightedList Value → List Bound → Comes (List Bool)
@@ -192,12 +244,14 @@ called f ty xs bound = arguments xs bound >>= λ vs. f.comes vs >>= result_at ty
 abbrev pub at_head : Environment → Head → Ty → List Part → List Bound → Comes Finding
 at_head env (head.Lit v) ty xs bound = found (value v)
 at_head env (head.Whole n) ty xs bound = found (whole n)
-at_head env (head.Read r) ty xs bound = value_of env.reads r
+at_head env (head.Read r) ty xs bound = value_of env.reads bound r ty
 at_head env (head.Bound i) ty xs bound = value_bound bound i
 at_head env (head.Builtin o) ty xs bound = operated o ty xs bound
 at_head env (head.User n) ty xs bound = called (env.operators n) ty xs bound
 at_head env (head.All u) ty xs bound = quantified false u xs bound
 at_head env (head.Some u) ty xs bound = quantified true u xs bound
+at_head env head.AllMemory ty xs bound = remembered false xs bound
+at_head env head.SomeMemory ty xs bound = remembered true xs bound
 at_head env head.Mu ty xs bound = measured xs bound
 at_head env head.Restrict ty xs bound = restricted xs bound
 at_head env head.Map ty xs bound = mapped xs bound
@@ -212,11 +266,11 @@ abbrev mutual
 
   pub eval_all : {n : _} → Environment → Row_of-Term n → List Part
   eval_all env end_of-Term = []
-  eval_all env (more_of-Term t ts) = record { comes = λ bound. eval env t bound; total = total_of env.operators t } ∷ eval_all env ts
+  eval_all env (more_of-Term t ts) = record { comes = λ bound. eval env t bound; total = total_of env.operators t; reads = reads_of t } ∷ eval_all env ts
 
 -- a term as a part
 abbrev pub part_of : Environment → Term → Part
-part_of env t = record { comes = λ bound. eval env t bound; total = total_of env.operators t }
+part_of env t = record { comes = λ bound. eval env t bound; total = total_of env.operators t; reads = reads_of t }
 
 -- the truth of a form
 abbrev pub truth_at : Environment → Term → List Bound → Comes Bool

@@ -94,11 +94,12 @@ abbrev pub table_in : Finding → Comes (ℕ × WeightedList Value)
 table_in (table n l) = found (n, l)
 table_in _ = unknown
 
--- what a variable stands for
-abbrev pub finding_of : Bound → Finding
-finding_of (to.Value v) = value v
-finding_of (to.Whole n) = whole n
-finding_of (to.Fraction a) = fraction a
+-- what a variable stands for; a memory is nothing that is found
+abbrev pub finding_of : Bound → Comes Finding
+finding_of (to.Value v) = found (value v)
+finding_of (to.Whole n) = found (whole n)
+finding_of (to.Fraction a) = found (fraction a)
+finding_of (to.Memory hs) = unknown
 
 -- what a parameter stands for where the argument is this finding; it is no distribution
 abbrev pub argument_of : Finding → Comes Bound

@@ -1,14 +1,13 @@
 -- The terms that evaluation knows.
-use Rattle.std.specs.Prelude.{ℕ, Bool, true, false, ◌&&◌, ◌||◌, ◌==◌, not, Option, Some, None, List, [], ◌∷◌, length}
+use Rattle.std.specs.Prelude.{ℕ, Bool, true, false, ◌&&◌, ◌||◌, ◌==◌, Option, Some, None, List, [], ◌∷◌, length}
 use Rattle.std.specs.List.{list_all}
 use Rattle.gb_core.specs.declared.ty.Ty.{Ty}
 use Rattle.gb_types.specs.Types.{is_finite}
 use Rattle.gb_terms.specs.declared.op.Op.{Op}
 use Rattle.gb_terms.specs.declared.op.Op.TheVariants as op
-use Rattle.gb_terms.specs.declared.op.Side.{Side}
 use Rattle.gb_terms.specs.declared.op.Side.TheVariants.{Bound}
 use Rattle.gb_terms.specs.declared.op.Read.{Read}
-use Rattle.gb_terms.specs.declared.op.Read.TheVariants.{Logical, Program}
+use Rattle.gb_terms.specs.declared.op.Read.TheVariants.{Program}
 use Rattle.gb_terms.specs.declared.term.Term.{Term, Term', Row_of-Term, end_of-Term, more_of-Term, end_of-Head, more_of-Head}
 use Rattle.gb_terms.specs.declared.term.Head.{Head}
 use Rattle.gb_terms.specs.declared.term.Head.TheVariants as head
@@ -50,15 +49,6 @@ is_tuple _ = false
 abbrev pub takes : Op → ℕ → Bool
 takes o n = is_tuple o || is_arity (arity o) n
 
-abbrev pub is_bound : Side → Bool
-is_bound (Bound i) = true
-is_bound _ = false
-
--- a read of no memory that a binder binds
-abbrev pub is_read_known : Read → Bool
-is_read_known (Logical i) = true
-is_read_known (Program x s) = not (is_bound s)
-
 abbrev pub has_finite_outcomes : Ty → Bool
 has_finite_outcomes d = is_distribution d && is_finite (outcome_type d)
 
@@ -67,22 +57,29 @@ abbrev pub are_of_outcomes : List Ty → Bool
 are_of_outcomes (d ∷ a ∷ []) = has_finite_outcomes d
 are_of_outcomes _ = false
 
--- whether evaluation knows a head at arguments of these types, by whether it knows the operators of the script
-abbrev pub is_head_known : (Name → Bool) → Head → List Ty → Bool
-is_head_known ks (head.Lit v) us = length us == 0
-is_head_known ks (head.Whole k) us = length us == 0
-is_head_known ks (head.Bound i) us = length us == 0
-is_head_known ks (head.Read r) us = (length us == 0) && is_read_known r
-is_head_known ks (head.Builtin o) us = takes o (length us)
-is_head_known ks (head.User n) us = ks n
-is_head_known ks (head.All ty) us = (length us == 1) && is_finite ty
-is_head_known ks (head.Some ty) us = (length us == 1) && is_finite ty
-is_head_known ks (head.Sum q) us = length us == 1
-is_head_known ks (head.Weights ps) us = length us == 0
-is_head_known ks head.Mu us = are_of_outcomes us
-is_head_known ks head.Map us = are_of_outcomes us
-is_head_known ks head.Restrict us = are_of_outcomes us
-is_head_known ks _ us = false
+-- a read of a memory that a binder binds is known where its type is finite
+abbrev pub is_read_known : Read → Ty → Bool
+is_read_known (Program x (Bound i)) ty = is_finite ty
+is_read_known _ ty = true
+
+-- whether evaluation knows a head of a type at arguments of these types, by whether it knows the operators of the script
+abbrev pub is_head_known : (Name → Bool) → Head → Ty → List Ty → Bool
+is_head_known ks (head.Lit v) ty us = length us == 0
+is_head_known ks (head.Whole k) ty us = length us == 0
+is_head_known ks (head.Bound i) ty us = length us == 0
+is_head_known ks (head.Read r) ty us = (length us == 0) && is_read_known r ty
+is_head_known ks (head.Builtin o) ty us = takes o (length us)
+is_head_known ks (head.User n) ty us = ks n
+is_head_known ks (head.All u) ty us = (length us == 1) && is_finite u
+is_head_known ks (head.Some u) ty us = (length us == 1) && is_finite u
+is_head_known ks (head.Sum q) ty us = length us == 1
+is_head_known ks head.AllMemory ty us = length us == 1
+is_head_known ks head.SomeMemory ty us = length us == 1
+is_head_known ks (head.Weights ps) ty us = length us == 0
+is_head_known ks head.Mu ty us = are_of_outcomes us
+is_head_known ks head.Map ty us = are_of_outcomes us
+is_head_known ks head.Restrict ty us = are_of_outcomes us
+is_head_known ks _ ty us = false
 
 abbrev pub are_true : List Bool → Bool
 are_true bs = list_all (λ b. b) bs
@@ -90,7 +87,7 @@ are_true bs = list_all (λ b. b) bs
 -- evaluation knows each part of the term
 abbrev mutual
   pub is_known : (Name → Bool) → Term → Bool
-  is_known ks (Term' p (more_of-Head h end_of-Head) n ts ty) = is_head_known ks h (types_of ts) && are_true (all_known ks ts)
+  is_known ks (Term' p (more_of-Head h end_of-Head) n ts ty) = is_head_known ks h ty (types_of ts) && are_true (all_known ks ts)
 
   pub all_known : {n : _} → (Name → Bool) → Row_of-Term n → List Bool
   all_known ks end_of-Term = []

@@ -2,13 +2,15 @@
 
 ghost use Rattle.std.specs.Prelude.{◌≡◌, ◌<◌, ◌^◌, reverse, map, [], ◌∷◌, IfOk, OnOk};
 ghost use Rattle.gb_types.specs.Types.{IsPlaceBelow, card_of, value_at};
+ghost use Rattle.gb_types.specs.Numbering.{parts_of};
+ghost use Rattle.gb_reads.specs.Held.{with_values};
 ghost use Rattle.gb_dist.specs.Rows.{entries};
 ghost use Rattle.gb_core.specs.declared.value.Value.TheVariants.{Num};
 ghost use Rattle.gb_eval.specs.declared.env.Bound.TheVariants as to;
 ghost use Rattle.gb_eval.specs.Findings.{Finds, Gives, ◌>>=◌ as ◌and_then◌, fraction_in, shown, shown_table};
 ghost use Rattle.gb_eval.specs.Findings.Finding.{whole};
 ghost use Rattle.gb_eval.specs.Totals.{total_of};
-ghost use Rattle.gb_eval.specs.Eval.{arguments, at_three, called, conditional, connected, environment, eval, event, image_of, images, map_update, mapped, may_have, measured, narrowed, next_sum, operated, part_of, quantified, restricted, result_at, scaled, summed, table_under, truth_at, tuple, weighed};
+ghost use Rattle.gb_eval.specs.Eval.{arguments, at_three, called, conditional, connected, environment, eval, event, image_of, images, map_update, in_memories, mapped, may_have, measured, memories_of, number_of_memories, remembered, narrowed, next_sum, operated, part_of, quantified, restricted, result_at, scaled, summed, table_under, truth_at, tuple, weighed};
 
 use crate::answer::{Answer, Stop, fraction_in, of_truth, truth_in, value_in};
 use crate::env::{Bound, Bounds, Env, argument_of, value_bound, value_of};
@@ -19,6 +21,7 @@ use crate::numbers::chance;
 use crate::operators::{binary, is_connective, left_decides, nullary, right_decides, unary};
 use crate::script::{body_of, inside};
 use crate::total::{is_distribution, total};
+use gb_core::copy::copy_ty;
 use gb_core::name::Name;
 use gb_core::ty::Ty;
 use gb_core::value::{Card, Value, Values};
@@ -26,12 +29,16 @@ use gb_dist::parts::{choose, mass, restrict};
 use gb_dist::row::Row;
 use gb_dist::table::Table;
 use gb_num::{Frac, add};
+use gb_reads::held::with_values;
+use gb_reads::reads::{TypedVar, are_free, reads};
+use gb_shared::SharedItems;
 use gb_terms::op::Op;
 use gb_terms::term::{Form, Head, Term};
 use gb_types::card::card;
+use gb_types::index::parts;
 use gb_types::nth::nth;
 use sqlite_items::Items;
-use std::alloc::Global;
+use std::alloc::{AllocError, Global};
 
 /// The truth of a form in an environment. Operands come to something from left to right; a connective and a
 /// conditional leave out what the left side decides; a quantifier tries the values of its type in order and stops at the first
@@ -70,12 +77,14 @@ pub fn eval(alloc: Global, t: &Term, env: &Env<'_>, bound: &mut Bounds) -> Resul
             Ok(Answer::Value(value))
         }
         Head::Whole(n) => Ok(whole(n)),
-        Head::Read(r) => value_of(env.reads, r),
+        Head::Read(r) => value_of(env.reads, bound.as_slice(), r, t.ty.get()),
         Head::Bound(index) => value_bound(bound.as_slice(), *index),
         Head::Builtin(op) => operator(alloc, args, *op, t.ty.get(), env, bound),
         Head::User(name) => called(alloc, args, name, t.ty.get(), env, bound),
         Head::All(ty) => quantifier(alloc, args, ty.get(), false, env, bound),
         Head::Some(ty) => quantifier(alloc, args, ty.get(), true, env, bound),
+        Head::AllMemory => memories(alloc, args, false, env, bound),
+        Head::SomeMemory => memories(alloc, args, true, env, bound),
         Head::Mu => measure(alloc, args, env, bound),
         Head::Restrict => restriction(alloc, args, env, bound),
         Head::Map => image(alloc, args, env, bound),
@@ -351,6 +360,94 @@ fn quantifier(
         }
     }
     Ok(of_truth(!deciding))
+}
+
+/// The type of whose values the memories are in which variables have values.
+fn memories_of(alloc: Global, variables: &[TypedVar]) -> Result<Ty, AllocError>
+    ensures { IfOk result (λ made. made ≡ memories_of variables.now) }
+{
+    let mut types = Items::new(alloc);
+    for variable in variables {
+        types.push(copy_ty(alloc, variable.ty.get())?)?;
+    }
+    let types = SharedItems::new(alloc, types)?;
+    Ok(Ty::Tuple(types))
+}
+
+/// How many memories there are in which variables have values of their types, where this is exact and there is one.
+fn number_of_memories(ty: &Ty) -> Result<u64, Stop>
+    ensures { Finds (number_of_memories (card_of ty.now)) result }
+{
+    match card(ty) {
+        Card::Exact(n) if n > 0 => Ok(n),
+        _ => Err(Stop::Unknown),
+    }
+}
+
+/// The truth of a body in the memory at a place among those in which variables have values.
+#[cycle(eval)]
+fn truth_in_memory(
+    alloc: Global,
+    body: &Term,
+    variables: &[TypedVar],
+    value: Value,
+    env: &Env<'_>,
+    bound: &mut Bounds,
+) -> Result<bool, Stop>
+    ensures found { Finds (truth_at (environment env.now) body.now (to.Memory (with_values variables.now (parts_of value)) ∷ reverse bound.old)) result }
+    ensures bound { OnOk result (bound.new ≡ bound.old) }
+{
+    let held = with_values(alloc, variables, parts(&value))?;
+    bound.push(Bound::Memory(held))?;
+    let found = truth_under(alloc, body, env, bound)?;
+    let _inner = bound.pop();
+    Ok(found)
+}
+
+/// The truth of a quantifier over the memories in which variables have values, which are tried in order.
+#[cycle(eval)]
+fn in_memories(
+    alloc: Global,
+    body: &Term,
+    variables: &[TypedVar],
+    deciding: bool,
+    env: &Env<'_>,
+    bound: &mut Bounds,
+) -> Result<Answer, Stop>
+    ensures found { Gives shown (in_memories deciding variables.now (part_of (environment env.now) body.now) (reverse bound.old)) result }
+    ensures bound { OnOk result (bound.new ≡ bound.old) }
+{
+    let ty = memories_of(alloc, variables)?;
+    let count = number_of_memories(&ty)?;
+    for at in 0..count {
+        let value = nth(alloc, &ty, at)?;
+        if truth_in_memory(alloc, body, variables, value, env, bound)? == deciding {
+            return Ok(of_truth(deciding));
+        }
+    }
+    Ok(of_truth(!deciding))
+}
+
+/// The truth of a quantifier over memories, by the values that they give what its body reads of them.
+#[cycle(eval)]
+fn memories(
+    alloc: Global,
+    args: &[Term],
+    deciding: bool,
+    env: &Env<'_>,
+    bound: &mut Bounds,
+) -> Result<Answer, Stop>
+    ensures found { Gives shown (remembered deciding (map (part_of (environment env.now)) args.now) (reverse bound.old)) result }
+    ensures bound { OnOk result (bound.new ≡ bound.old) }
+{
+    let [body] = args else {
+        return Err(Stop::Unknown);
+    };
+    let variables = reads(alloc, body)?;
+    if !are_free(variables.as_slice()) {
+        return Err(Stop::Unknown);
+    }
+    in_memories(alloc, body, variables.as_slice(), deciding, env, bound)
 }
 
 /// What a body comes to where its binder binds a value.

@@ -46,13 +46,16 @@ fn takes(op: Op, count: usize) -> bool
     is_tuple(op) || arity(op) == Some(count)
 }
 
-/// Whether a read is of no memory that a binder binds.
-pub fn is_read_known(read: &Read) -> bool
-    ensures { result ≡ is_read_known read.now }
+/// Whether a read at a type is known: of a memory that a binder binds where the type is finite, and any other one.
+fn is_read_known(read: &Read, ty: &Ty) -> bool
+    ensures { result ≡ is_read_known read.now ty.now }
 {
     match read {
-        Read::Program { side, .. } => !matches!(side, Side::Bound(_)),
-        Read::Logical(_) => true,
+        Read::Program {
+            side: Side::Bound(_),
+            ..
+        } => is_finite(ty),
+        _ => true,
     }
 }
 
@@ -88,31 +91,31 @@ fn is_operator_known(name: &Name, script: &Script<'_>) -> bool
 
 /// Whether evaluation knows a head at its arguments.
 #[cycle(known)]
-fn is_head_known(head: &Head, args: &[Term], script: &Script<'_>) -> bool
-    ensures { result ≡ is_head_known (known_in script.now) head.now (map type_of args.now) }
+fn is_head_known(head: &Head, ty: &Ty, args: &[Term], script: &Script<'_>) -> bool
+    ensures { result ≡ is_head_known (known_in script.now) head.now ty.now (map type_of args.now) }
 {
     match head {
         Head::User(name) => is_operator_known(name, script),
         Head::Lit(_) | Head::Whole(_) | Head::Bound(_) | Head::Weights(_) => args.is_empty(),
-        Head::Read(read) => args.is_empty() && is_read_known(read),
+        Head::Read(read) => args.is_empty() && is_read_known(read, ty),
         Head::Builtin(op) => takes(*op, args.len()),
-        Head::All(ty) | Head::Some(ty) => args.len() == 1 && is_finite(ty.get()),
-        Head::Sum(_) => args.len() == 1,
+        Head::All(values) | Head::Some(values) => args.len() == 1 && is_finite(values.get()),
+        Head::Sum(_) | Head::AllMemory | Head::SomeMemory => args.len() == 1,
         Head::Mu | Head::Map | Head::Restrict => are_of_outcomes(args),
         _ => false,
     }
 }
 
-/// Whether evaluation knows each part of a term: literals, variables, reads of memories that no binder binds, the built-in
-/// operators and those of the script with bodies that it knows, quantifiers over finite types, sums, stated weights, and measures,
-/// images and parts of distributions over finite types.
+/// Whether evaluation knows each part of a term: literals, variables, reads, the built-in operators and those of the script with
+/// bodies that it knows, quantifiers over finite types and over memories, sums, stated weights, and measures, images and parts of
+/// distributions over finite types.
 #[cycle(known)]
 #[tactic(auto, using(crate::proofs::Layers::known_out))]
 pub fn is_known(t: &Term, script: &Script<'_>) -> bool
     ensures { result ≡ is_known (known_in script.now) t.now }
 {
     let args = t.args.as_slice();
-    is_head_known(t.head.get(), args, script) && are_known(args, script)
+    is_head_known(t.head.get(), t.ty.get(), args, script) && are_known(args, script)
 }
 
 #[cycle(known)]

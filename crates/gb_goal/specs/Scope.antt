@@ -12,6 +12,7 @@ use Rattle.gb_terms.specs.declared.term.Term.{out-Term}
 use Rattle.gb_goal.specs.declared.sequent.Sequent.{Sequent}
 use Rattle.gb_goal.specs.declared.scope.Constant.{Constant}
 use Rattle.gb_goal.specs.declared.scope.OperatorType.{OperatorType}
+use Rattle.gb_goal.specs.declared.scope.Binder.{Binder}
 use Rattle.gb_goal.specs.declared.scope.Entry.{Entry}
 use Rattle.gb_goal.specs.declared.scope.Entry.TheVariants as entry
 
@@ -29,8 +30,12 @@ as_module (Some (entry.Module m)) = Some m
 as_module _ = None
 
 abbrev pub as_lemma : Option Entry → Option Sequent
-as_lemma (Some (entry.Lemma s)) = Some s
+as_lemma (Some (entry.Lemma s bs)) = Some s
 as_lemma _ = None
+
+abbrev pub as_binders : Option Entry → List Binder
+as_binders (Some (entry.Lemma s bs)) = bs
+as_binders _ = []
 
 -- an abstract type is known by its name alone
 abbrev pub as_type : List ℕ → Option Entry → Option Ty
@@ -54,6 +59,10 @@ module_of ds n = as_module (entry_of ds n)
 -- the statement of the lemma of this name
 abbrev pub lemma_of : Declarations → List ℕ → Option Sequent
 lemma_of ds n = as_lemma (entry_of ds n)
+
+-- what its binders bind, in the order of the text
+abbrev pub binders_of : Declarations → List ℕ → List Binder
+binders_of ds n = as_binders (entry_of ds n)
 
 -- the type that this name stands for
 abbrev pub type_named : Declarations → List ℕ → Option Ty

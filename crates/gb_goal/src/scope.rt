@@ -2,7 +2,7 @@
 
 ghost use Rattle.std.specs.Prelude.{◌≡◌, ◌≤◌, ◌↔◌, [], ◌∷◌, ◌++◌, length, take, None, string_bytes, IsTrue, IfOk, OnOk, OnErr};
 ghost use Rattle.std.specs.Option.{option_copied};
-ghost use Rattle.gb_goal.specs.Scope.{AreNew, constant_named, declarations_in, entry_of, module_of, lemma_of, operator_named, proc_of, proc_in, procedure_of, type_named, weight};
+ghost use Rattle.gb_goal.specs.Scope.{AreNew, binders_of, constant_named, declarations_in, entry_of, module_of, lemma_of, operator_named, proc_of, proc_in, procedure_of, type_named, weight};
 
 use crate::sequent::Sequent;
 use gb_core::name::Name;
@@ -38,11 +38,21 @@ pub struct OperatorType {
     pub result: Shared<Ty>,
 }
 
+/// What a binder of a lemma binds.
+#[derive(Clone, Copy)]
+pub enum Binder {
+    Value,
+    Memory,
+}
+
+/// What the binders of a lemma bind, in the order of the text.
+pub type Binders = SharedItems<Binder>;
+
 /// A thing that a script has declared.
 pub enum Entry {
     Module(Module),
-    /// A lemma's statement.
-    Lemma(Sequent),
+    /// A lemma's statement, and its binders.
+    Lemma(Sequent, Binders),
     /// What the name of a type stands for: an abbreviated type, or an enumeration.
     Type(Shared<Ty>),
     /// A type of any values.
@@ -60,7 +70,10 @@ impl Drop for Entry {
     fn drop(self) {
         match self {
             Entry::Module(module) => drop(module),
-            Entry::Lemma(statement) => drop(statement),
+            Entry::Lemma(statement, binders) => {
+                drop(statement);
+                drop(binders)
+            }
             Entry::Type(ty) => drop(ty),
             Entry::AbstractType => {}
             Entry::Constant(constant) => drop(constant),
@@ -197,8 +210,18 @@ impl Scope {
         ensures { option_copied result ≡ lemma_of self.now name.now }
     {
         match self.entry(name) {
-            Some(Entry::Lemma(sequent)) => Some(sequent),
+            Some(Entry::Lemma(sequent, _)) => Some(sequent),
             _ => None,
+        }
+    }
+
+    /// What the binders of the lemma of this name bind. Empty where there is no such lemma.
+    pub fn binders(&self, name: &Name) -> &[Binder]
+        ensures { result.now ≡ binders_of self.now name.now }
+    {
+        match self.entry(name) {
+            Some(Entry::Lemma(_, binders)) => binders.as_slice(),
+            _ => &[],
         }
     }
 
@@ -275,18 +298,19 @@ impl Scope {
         self.insert(key, entry)
     }
 
-    /// Declares a lemma by its statement, under a free name.
+    /// Declares a lemma by its statement and its binders, under a free name.
     pub fn declare_lemma(
         &mut self,
         alloc: Global,
         name: Name,
         statement: Sequent,
+        binders: Binders,
     ) -> Result<(), AllocError>
         requires { entry_of self.old name ≡ None }
-        ensures ok { OnOk result (self.new ≡ self.old ++ (name, Entry.Lemma statement) ∷ []) }
+        ensures ok { OnOk result (self.new ≡ self.old ++ (name, Entry.Lemma statement binders) ∷ []) }
         ensures err { OnErr result (self.new ≡ self.old) }
     {
-        let entry = Boxed::new(alloc, Entry::Lemma(statement))?;
+        let entry = Boxed::new(alloc, Entry::Lemma(statement, binders))?;
         let key = String::from_str(alloc, name.as_str())?;
         self.insert(key, entry)
     }

@@ -14,20 +14,43 @@ use sqlite_items::Items;
 use std::alloc::{AllocError, Global};
 
 /// A hypothesis.
-#[derive(Drop)]
 pub struct Hyp {
     pub name: Name,
     pub form: Form,
 }
 
+impl Drop for Hyp {
+    fn drop(self) {
+        let Hyp { name, form } = self;
+        drop(name);
+        drop(form);
+    }
+}
+
 /// A goal: in its context of logical variables, memories, abstract modules and hypotheses, the conclusion holds.
-#[derive(Drop)]
 pub struct Sequent {
     pub logical: SharedItems<TypedName>,
     pub memories: SharedItems<Name>,
     pub modules: SharedItems<Bind>,
     pub hyps: SharedItems<Hyp>,
     pub conclusion: Form,
+}
+
+impl Drop for Sequent {
+    fn drop(self) {
+        let Sequent {
+            logical,
+            memories,
+            modules,
+            hyps,
+            conclusion,
+        } = self;
+        drop(logical);
+        drop(memories);
+        drop(modules);
+        drop(hyps);
+        drop(conclusion);
+    }
 }
 
 pub type Sequents = Items<Sequent>;

@@ -1,9 +1,10 @@
 -- Sound scopes that gain a declaration.
-use Rattle.std.proofs.Common.{◌≡◌, ◌↔◌, [], ◌∷◌, ◌++◌, Some, None, sym, subst}
+use Rattle.std.proofs.Common.{◌≡◌, ◌↔◌, List, [], ◌∷◌, ◌++◌, Some, None, sym, subst}
 use Rattle.std.proofs.lemmas.List.{append_assoc, append-nil}
 use Rattle.gb_meaning.specs.Names.{Name}
 use Rattle.gb_goal.specs.Scope as scope
 use Rattle.gb_goal.specs.Scope.{as_lemma, AreNoLemmas}
+use Rattle.gb_goal.specs.declared.scope.Binder.{Binder}
 use Rattle.gb_goal.specs.declared.scope.Entry.{Entry}
 use Rattle.gb_goal.specs.declared.scope.Entry.TheVariants as entry
 use Rattle.gb_goal.specs.declared.sequent.Sequent.{Sequent}
@@ -26,10 +27,10 @@ module _ (n : Name) (d : Declaration) where
 pub one_more : (ds : Declarations) (n : Name) (d : Declaration) → IsSound (ds ++ (n, d) ∷ []) ↔ (IsSound ds × IsSoundAfter ds n d)
 one_more ds n d = (split n d [] ds, λ s. joined n d [] ds s.0 s.1)
 
-pub gained_lemma : (ds : scope.Declarations) (n : Name) (q : Sequent) → IsSound (declared ds) → Holds (declared ds) q →
-    IsSound (declared (ds ++ (n, entry.Lemma q) ∷ []))
-gained_lemma ds n q s h =
-    subst IsSound (sym (declared-append ds ((n, entry.Lemma q) ∷ []))) ((one_more (declared ds) n (lemma q)).1 (s, h))
+pub gained_lemma : (ds : scope.Declarations) (n : Name) (q : Sequent) (bs : List Binder) → IsSound (declared ds) → Holds (declared ds) q →
+    IsSound (declared (ds ++ (n, entry.Lemma q bs) ∷ []))
+gained_lemma ds n q bs s h =
+    subst IsSound (sym (declared-append ds ((n, entry.Lemma q bs) ∷ []))) ((one_more (declared ds) n (lemma q)).1 (s, h))
 
 some_none : {A B : Type 0} (x : A) → Some x ≡ None → B
 some_none x e = cc
@@ -37,7 +38,7 @@ some_none x e = cc
 -- what is no lemma promises nothing
 promises_nothing : (before : Declarations) (n : Name) (e : Entry) → as_lemma (Some e) ≡ None → IsSoundAfter before n (declaration_of e)
 promises_nothing before n (entry.Module m) h = tt
-promises_nothing before n (entry.Lemma q) h = some_none q h
+promises_nothing before n (entry.Lemma q order) h = some_none q h
 promises_nothing before n (entry.Type t) h = tt
 promises_nothing before n entry.AbstractType h = tt
 promises_nothing before n (entry.Constant c) h = tt

@@ -69,7 +69,7 @@ Declarations = List (Name × Declaration)
 -- what the entry of a scope declares
 abbrev pub declaration_of : Entry → Declaration
 declaration_of (entry.Module m) = concrete_module m
-declaration_of (entry.Lemma s) = lemma s
+declaration_of (entry.Lemma s bs) = lemma s
 declaration_of (entry.Type t) = abbreviation (for_type t)
 declaration_of entry.AbstractType = abstract_type
 declaration_of (entry.Constant c) = abbreviation (for_value c)

@@ -1,12 +1,13 @@
 //! The laws of settings and of truth.
 
-ghost use Rattle.std.specs.Prelude.{◌≡◌, ◌↔◌, ◌++◌, false, [], ◌∷◌, map};
+ghost use Rattle.std.specs.Prelude.{◌≡◌, ◌↔◌, ◌++◌, false, List, [], ◌∷◌, map};
 ghost use Rattle.gb_terms.specs.declared.term.Term.{Term};
 ghost use Rattle.gb_meaning.specs.Names.{Name};
 ghost use Rattle.gb_meaning.specs.State.{State};
 ghost use Rattle.gb_meaning.specs.Judgments.{IsTrueIn};
 ghost use Rattle.gb_goal.specs.Scope as scope;
 ghost use Rattle.gb_goal.specs.Scope.{AreNoLemmas};
+ghost use Rattle.gb_goal.specs.declared.scope.Binder.{Binder};
 ghost use Rattle.gb_goal.specs.declared.scope.Entry.TheVariants as entry;
 ghost use Rattle.gb_goal.specs.declared.sequent.Sequent.{Sequent};
 ghost use Rattle.gb_holds.specs.Declared.{Declarations, Declaration, declared};
@@ -33,8 +34,8 @@ pub fn sound_scopes()
 
 /// A sound scope that gains a lemma which holds is sound, and so is one that gains things that aren't lemmas.
 pub fn scopes_of_scripts()
-    ensures lemma { (ds : scope.Declarations) (n : Name) (q : Sequent) → IsSound (declared ds) → Holds (declared ds) q →
-        IsSound (declared (ds ++ (n, entry.Lemma q) ∷ [])) }
+    ensures lemma { (ds : scope.Declarations) (n : Name) (q : Sequent) (bs : List Binder) → IsSound (declared ds) → Holds (declared ds) q →
+        IsSound (declared (ds ++ (n, entry.Lemma q bs) ∷ [])) }
     ensures others { (ds added : scope.Declarations) → AreNoLemmas added → IsSound (declared ds) → IsSound (declared (ds ++ added)) }
 {}
 

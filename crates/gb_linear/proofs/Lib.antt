@@ -1,5 +1,3 @@
-pub mod Same
 pub mod Gathered
 pub mod Passed
-pub mod Places
 pub mod Taken

@@ -15,13 +15,13 @@ use Rattle.gb_goal.specs.Answers.Answer.{given, refused}
 use Rattle.gb_goal.specs.declared.sequent.Hyp.{Hyp}
 use Rattle.gb_goal.specs.declared.sequent.Sequent.{Sequent}
 use Rattle.gb_steps.specs.declared.step.Multiple.{Multiple}
-use Rattle.gb_linear.specs.declared.numbers.Sign.TheVariants.{Plus, Minus}
-use Rattle.gb_linear.specs.declared.numbers.Stands.TheVariants.{Left}
-use Rattle.gb_linear.specs.declared.forms.LinearForm.{LinearForm}
+use Rattle.gb_sums.specs.declared.numbers.Sign.TheVariants.{Plus, Minus}
+use Rattle.gb_sums.specs.declared.numbers.Stands.TheVariants.{Left}
+use Rattle.gb_sums.specs.declared.forms.LinearForm.{LinearForm}
 use Rattle.gb_linear.specs.declared.apply.Comparison.{Comparison}
 use Rattle.gb_linear.specs.declared.apply.Assumption.{Assumption}
-use Rattle.gb_linear.specs.Numbers.{zero, is_zero, is_proper, is_negative, is_positive}
-use Rattle.gb_linear.specs.Forms.{combined, scaled, is_constant}
+use Rattle.gb_sums.specs.Numbers.{zero, is_zero, is_positive, may_have}
+use Rattle.gb_sums.specs.Forms.{combined, scaled, is_constant}
 use Rattle.gb_linear.specs.Linear.{linear}
 
 abbrev pub is_number : Ty → Bool
@@ -62,11 +62,6 @@ in_front _ _ = None
 abbrev pub all_assumed : Bool → List Hyp → List Multiple → Option (List Assumption)
 all_assumed equal hs [] = Some []
 all_assumed equal hs (m ∷ ms) = in_front (assumed equal hs m) (all_assumed equal hs ms)
-
--- a number with a denominator above 0, and where the hypothesis isn't an equation none below 0
-abbrev pub may_have : Bool → Option Fraction → Bool
-may_have equal None = false
-may_have equal (Some k) = is_proper k && (equal || not (is_negative k))
 
 abbrev pub is_allowed : Assumption → Bool
 is_allowed a = may_have a.says.equal a.factor

@@ -1,4 +1,2 @@
-pub mod Numbers
-pub mod Forms
 pub mod Linear
 pub mod Closing

@@ -5,15 +5,15 @@ ghost use Rattle.std.specs.List.{list_all};
 ghost use Rattle.gb_goal.specs.Answers.{Answers};
 ghost use Rattle.gb_linear.specs.Closing.{added, all_assumed, allowed, assumed, between, closed_by, closed_with, closing, compared, difference, factor_of, is_allowed, is_closed, is_number, linear_answer, rest, with_all};
 
-use crate::forms::{LinearForm, combined, is_constant, scaled};
 use crate::linear::linear;
-use crate::numbers::{Sign, Stands, is_negative, is_positive, is_proper, is_zero, refusal};
 use gb_core::place::Place;
 use gb_core::refusal::{Refused, Why};
 use gb_core::ty::Ty;
 use gb_goal::sequent::{Hyp, Sequent, Sequents};
 use gb_num::Frac;
 use gb_steps::step::Multiple;
+use gb_sums::forms::{LinearForm, combined, is_constant, scaled};
+use gb_sums::numbers::{Sign, Stands, is_positive, is_zero, may_have, refusal};
 use gb_terms::op::Op;
 use gb_terms::term::{Form, Head, Term};
 use sqlite_items::Items;
@@ -102,10 +102,7 @@ fn all_assumed(
 fn is_allowed(assumption: &Assumption) -> bool
     ensures { result ≡ is_allowed assumption.now }
 {
-    match assumption.factor {
-        Some(factor) => is_proper(factor) && (assumption.says.equal || !is_negative(factor)),
-        None => false,
-    }
+    may_have(assumption.says.equal, assumption.factor)
 }
 
 fn are_allowed(assumptions: &[Assumption]) -> bool

@@ -2,6 +2,4 @@
 #![tactic(auto)]
 
 pub mod apply;
-pub mod forms;
 pub mod linear;
-pub mod numbers;

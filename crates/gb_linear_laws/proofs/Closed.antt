@@ -28,15 +28,15 @@ use Rattle.gb_typing.specs.Sequents.{AreFormulas, IsTypedSequent}
 use Rattle.gb_typing.specs.Scopes.{context_of, IsTypedScope}
 use Rattle.gb_typing.specs.Fits.{IsSettingOf, IsStateOf}
 use Rattle.gb_amb.proofs.Around.{here, parts_lead}
-use Rattle.gb_linear.specs.declared.numbers.Sign.TheVariants.{Plus, Minus}
-use Rattle.gb_linear.specs.declared.numbers.Stands.TheVariants.{Left}
-use Rattle.gb_linear.specs.declared.forms.LinearForm.{LinearForm}
+use Rattle.gb_sums.specs.declared.numbers.Sign.TheVariants.{Plus, Minus}
+use Rattle.gb_sums.specs.declared.numbers.Stands.TheVariants.{Left}
+use Rattle.gb_sums.specs.declared.forms.LinearForm.{LinearForm}
 use Rattle.gb_linear.specs.declared.apply.Comparison.{Comparison}
 use Rattle.gb_linear.specs.declared.apply.Assumption.{Assumption}
-use Rattle.gb_linear.specs.Numbers.{is_zero, is_proper, is_negative, is_positive}
-use Rattle.gb_linear.specs.Forms.{combined, scaled, is_constant}
+use Rattle.gb_sums.specs.Numbers.{is_zero, is_proper, is_negative, is_positive, may_have}
+use Rattle.gb_sums.specs.Forms.{combined, scaled, is_constant}
 use Rattle.gb_linear.specs.Linear.{linear}
-use Rattle.gb_linear.specs.Closing.{compared, hypothesis, if_usable, assumed, in_front, all_assumed, may_have, is_allowed, factor_of, difference, added, with_all, rest, is_closed, closed_by, allowed, closed_with, closing, linear_answer}
+use Rattle.gb_linear.specs.Closing.{compared, hypothesis, if_usable, assumed, in_front, all_assumed, is_allowed, factor_of, difference, added, with_all, rest, is_closed, closed_by, allowed, closed_with, closing, linear_answer}
 use Rattle.gb_linear_laws.proofs.Numbers.{Number, Same, nought, plus, times, opposite, same_refl, same_sym, same_trans, same_plus, same_times, plus_nought, nought_plus, times_nought}
 use Rattle.gb_linear_laws.proofs.Fractions.{of}
 use Rattle.gb_linear_laws.proofs.Found.{given_is, given_bind}

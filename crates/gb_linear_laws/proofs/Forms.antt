@@ -6,13 +6,13 @@ use Rattle.gb_terms.specs.declared.term.Term.{Term}
 use Rattle.gb_apart.proofs.SameTerms.{same_terms}
 use Rattle.gb_goal.specs.Answers.{Answer, ◌>>=◌}
 use Rattle.gb_goal.specs.Answers.Answer.{given}
-use Rattle.gb_linear.specs.declared.numbers.Sign.{Sign}
-use Rattle.gb_linear.specs.declared.numbers.Stands.{Stands}
-use Rattle.gb_linear.specs.declared.forms.Summand.{Summand}
-use Rattle.gb_linear.specs.declared.forms.LinearForm.{LinearForm}
-use Rattle.gb_linear.specs.Numbers as numbers
-use Rattle.gb_linear.specs.Numbers.{operated, multiplied}
-use Rattle.gb_linear.specs.Forms.{is_yes, is_same, coefficient, without, besides, with_coefficient, merged, each_scaled, combined, scaled, of_number, alone}
+use Rattle.gb_sums.specs.declared.numbers.Sign.{Sign}
+use Rattle.gb_sums.specs.declared.numbers.Stands.{Stands}
+use Rattle.gb_sums.specs.declared.forms.Summand.{Summand}
+use Rattle.gb_sums.specs.declared.forms.LinearForm.{LinearForm}
+use Rattle.gb_sums.specs.Numbers as numbers
+use Rattle.gb_sums.specs.Numbers.{operated, multiplied}
+use Rattle.gb_sums.specs.Forms.{is_yes, is_same, coefficient, without, besides, with_coefficient, merged, each_scaled, combined, scaled, of_number, alone}
 use Rattle.gb_linear_laws.proofs.Numbers.{Number, Same, nought, plus, times, signed, same_refl, same_sym, same_trans, same_plus, same_times, same_signed, nought_plus, plus_nought, left_comm, interchange, times_plus, plus_times, times_assoc, times_nought, signed_nought, signed_plus, signed_times}
 use Rattle.gb_linear_laws.proofs.Fractions.{of}
 use Rattle.gb_linear_laws.proofs.Found.{given_is, given_bind, operated_is, multiplied_is}

@@ -29,15 +29,15 @@ use Rattle.gb_typing.specs.Typing.{first, middle, last, IsTyped, AreTyped}
 use Rattle.gb_typing.specs.Fits.{IsSettingOf, IsStateOf}
 use Rattle.gb_goal.specs.Answers.{◌>>=◌}
 use Rattle.gb_goal.specs.Answers.Answer.{given}
-use Rattle.gb_linear.specs.declared.numbers.Sign.{Sign}
-use Rattle.gb_linear.specs.declared.numbers.Sign.TheVariants.{Plus, Minus}
-use Rattle.gb_linear.specs.declared.numbers.Stands.{Stands}
-use Rattle.gb_linear.specs.declared.numbers.Stands.TheVariants.{Left, Right}
-use Rattle.gb_linear.specs.declared.forms.Summand.{Summand}
-use Rattle.gb_linear.specs.declared.forms.LinearForm.{LinearForm}
-use Rattle.gb_linear.specs.Numbers as numbers
-use Rattle.gb_linear.specs.Numbers.{is_zero, is_divisor, inverse}
-use Rattle.gb_linear.specs.Forms.{combined, scaled, is_constant, of_number, alone}
+use Rattle.gb_sums.specs.declared.numbers.Sign.{Sign}
+use Rattle.gb_sums.specs.declared.numbers.Sign.TheVariants.{Plus, Minus}
+use Rattle.gb_sums.specs.declared.numbers.Stands.{Stands}
+use Rattle.gb_sums.specs.declared.numbers.Stands.TheVariants.{Left, Right}
+use Rattle.gb_sums.specs.declared.forms.Summand.{Summand}
+use Rattle.gb_sums.specs.declared.forms.LinearForm.{LinearForm}
+use Rattle.gb_sums.specs.Numbers as numbers
+use Rattle.gb_sums.specs.Numbers.{is_zero, is_divisor, inverse}
+use Rattle.gb_sums.specs.Forms.{combined, scaled, is_constant, of_number, alone}
 use Rattle.gb_linear.specs.declared.linear.Prefix.TheVariants as Prefixes
 use Rattle.gb_linear.specs.Linear as forms
 use Rattle.gb_linear.specs.Linear.{is_int, numeral, product_of, quotient_of, of_one, part, linear}

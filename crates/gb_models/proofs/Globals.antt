@@ -64,7 +64,7 @@ none_later [] before c w n d x p = refl
 none_later ((k, entry.Module m) ∷ ds) before c w n d x p =
     none_of_both x (globals_from k m.globals) (declared_globals (declared ds)) (other_module n k (other_name before n k d w.0) x p m.globals)
     (none_later ds (before ++ (k, concrete_module m) ∷ []) (with_declared c k (concrete_module m)) w.2 n (declared_more before (k, concrete_module m) n d) x p)
-none_later ((k, entry.Lemma q) ∷ ds) before c w n d x p = none_later ds (before ++ (k, lemma q) ∷ []) c w.2 n (declared_more before (k, lemma q) n d) x p
+none_later ((k, entry.Lemma q order) ∷ ds) before c w n d x p = none_later ds (before ++ (k, lemma q) ∷ []) c w.2 n (declared_more before (k, lemma q) n d) x p
 none_later ((k, entry.Type t0) ∷ ds) before c w n d x p = none_later ds (before ++ (k, declaration_of (entry.Type t0)) ∷ []) c w.2 n (declared_more before (k, declaration_of (entry.Type t0)) n d) x p
 none_later ((k, entry.AbstractType) ∷ ds) before c w n d x p = none_later ds (before ++ (k, declaration_of entry.AbstractType) ∷ []) c w.2 n (declared_more before (k, declaration_of entry.AbstractType) n d) x p
 none_later ((k, entry.Constant a0) ∷ ds) before c w n d x p = none_later ds (before ++ (k, declaration_of (entry.Constant a0)) ∷ []) c w.2 n (declared_more before (k, declaration_of (entry.Constant a0)) n d) x p
@@ -93,7 +93,7 @@ globals_once ((n, entry.Module m) ∷ ds) before c w =
     once_both n m.globals (declared_globals (declared ds)) (let x = w.1 in x.names)
     (none_later ds (before ++ (n, concrete_module m) ∷ []) (with_declared c n (concrete_module m)) w.2 n (declared_last before (n, concrete_module m) n ((bytes_eq-Decides n n).1 refl)))
     (globals_once ds (before ++ (n, concrete_module m) ∷ []) (with_declared c n (concrete_module m)) w.2)
-globals_once ((n, entry.Lemma q) ∷ ds) before c w = globals_once ds (before ++ (n, lemma q) ∷ []) c w.2
+globals_once ((n, entry.Lemma q order) ∷ ds) before c w = globals_once ds (before ++ (n, lemma q) ∷ []) c w.2
 globals_once ((n, entry.Type t0) ∷ ds) before c w = globals_once ds (before ++ (n, declaration_of (entry.Type t0)) ∷ []) c w.2
 globals_once ((n, entry.AbstractType) ∷ ds) before c w = globals_once ds (before ++ (n, declaration_of entry.AbstractType) ∷ []) c w.2
 globals_once ((n, entry.Constant a0) ∷ ds) before c w = globals_once ds (before ++ (n, declaration_of (entry.Constant a0)) ∷ []) c w.2
@@ -111,7 +111,7 @@ globals_variables [] before c w = tt
 globals_variables ((n, entry.Module m) ∷ ds) before c w =
     variables_both n m.globals (declared_globals (declared ds)) (let x = w.1 in x.globals)
     (globals_variables ds (before ++ (n, concrete_module m) ∷ []) (with_declared c n (concrete_module m)) w.2)
-globals_variables ((n, entry.Lemma q) ∷ ds) before c w = globals_variables ds (before ++ (n, lemma q) ∷ []) c w.2
+globals_variables ((n, entry.Lemma q order) ∷ ds) before c w = globals_variables ds (before ++ (n, lemma q) ∷ []) c w.2
 globals_variables ((n, entry.Type t0) ∷ ds) before c w = globals_variables ds (before ++ (n, declaration_of (entry.Type t0)) ∷ []) c w.2
 globals_variables ((n, entry.AbstractType) ∷ ds) before c w = globals_variables ds (before ++ (n, declaration_of entry.AbstractType) ∷ []) c w.2
 globals_variables ((n, entry.Constant a0) ∷ ds) before c w = globals_variables ds (before ++ (n, declaration_of (entry.Constant a0)) ∷ []) c w.2

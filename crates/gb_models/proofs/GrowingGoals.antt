@@ -155,7 +155,7 @@ each_append (x ∷ xs) ys c = each_append xs ys (with_declared c x.0 x.1)
 each_over : (es : scope.Declarations) (c : Context) → with_each c (declared es) ≡ over (with_each c (declared es)) c
 each_over [] c = refl
 each_over ((n, entry.Module m) ∷ es) c = each_over es (with_declared c n (concrete_module m))
-each_over ((n, entry.Lemma q) ∷ es) c = each_over es c
+each_over ((n, entry.Lemma q order) ∷ es) c = each_over es c
 each_over ((n, entry.Type t) ∷ es) c = each_over es c
 each_over ((n, entry.AbstractType) ∷ es) c = each_over es c
 each_over ((n, entry.Constant a) ∷ es) c = each_over es c
@@ -165,7 +165,7 @@ each_over ((n, entry.AbstractOperator o) ∷ es) c = each_over es (with_declared
 same_globals : (es : scope.Declarations) (c : Context) (a : Name) → (with_each c (declared es)).has_globals a ≡ c.has_globals a
 same_globals [] c a = refl
 same_globals ((n, entry.Module m) ∷ es) c a = same_globals es (with_declared c n (concrete_module m)) a
-same_globals ((n, entry.Lemma q) ∷ es) c a = same_globals es c a
+same_globals ((n, entry.Lemma q order) ∷ es) c a = same_globals es c a
 same_globals ((n, entry.Type t) ∷ es) c a = same_globals es c a
 same_globals ((n, entry.AbstractType) ∷ es) c a = same_globals es c a
 same_globals ((n, entry.Constant k) ∷ es) c a = same_globals es c a
@@ -177,7 +177,7 @@ known_from [] before c w k = subst (λ z. IsKnownFrom z c) (sym (append-nil befo
 known_from ((n, entry.Module m) ∷ ds) before c w k =
     subst (λ z. IsKnownFrom z (with_each (with_declared c n (concrete_module m)) (declared ds))) (append_assoc before ((n, concrete_module m) ∷ []) (declared ds))
     (known_from ds (before ++ (n, concrete_module m) ∷ []) (with_declared c n (concrete_module m)) w.2 (known_next c n m w.1 before k))
-known_from ((n, entry.Lemma q) ∷ ds) before c w k =
+known_from ((n, entry.Lemma q order) ∷ ds) before c w k =
     subst (λ z. IsKnownFrom z (with_each c (declared ds))) (append_assoc before ((n, lemma q) ∷ []) (declared ds))
     (known_from ds (before ++ (n, lemma q) ∷ []) c w.2 (known_same c before n (lemma q) k))
 known_from ((n, entry.Type t0) ∷ ds) before c w k =

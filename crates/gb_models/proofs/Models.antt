@@ -34,7 +34,7 @@ use Rattle.gb_models.proofs.Globals.{globals_once, globals_variables, world_type
 pub no_section : (ds : scope.Declarations) → declared_modules (declared ds) ≡ []
 no_section [] = refl
 no_section ((n, entry.Module m) ∷ ds) = no_section ds
-no_section ((n, entry.Lemma q) ∷ ds) = no_section ds
+no_section ((n, entry.Lemma q order) ∷ ds) = no_section ds
 no_section ((n, entry.Type t) ∷ ds) = no_section ds
 no_section ((n, entry.AbstractType) ∷ ds) = no_section ds
 no_section ((n, entry.Constant a) ∷ ds) = no_section ds
@@ -44,7 +44,7 @@ no_section ((n, entry.AbstractOperator o) ∷ ds) = no_section ds
 no_axioms : (all : Declarations) (ds : scope.Declarations) (i : Interpretation) → AxiomsAreTrue all (declared ds) i
 no_axioms all [] i = tt
 no_axioms all ((n, entry.Module m) ∷ ds) i = no_axioms all ds i
-no_axioms all ((n, entry.Lemma q) ∷ ds) i = no_axioms all ds i
+no_axioms all ((n, entry.Lemma q order) ∷ ds) i = no_axioms all ds i
 no_axioms all ((n, entry.Type t) ∷ ds) i = no_axioms all ds i
 no_axioms all ((n, entry.AbstractType) ∷ ds) i = no_axioms all ds i
 no_axioms all ((n, entry.Constant a) ∷ ds) i = no_axioms all ds i
@@ -107,7 +107,7 @@ module _ (all : Declarations) (ts : Types) (inhabited : IsInhabited ts) where
       GiveResults (declared ds) ts (table all ts)
   results [] before c w e = tt
   results ((n, entry.Module m) ∷ ds) before c w e = results ds _ _ w.2 (append_assoc before _ (declared ds) ∙ e)
-  results ((n, entry.Lemma q) ∷ ds) before c w e = results ds _ _ w.2 (append_assoc before _ (declared ds) ∙ e)
+  results ((n, entry.Lemma q order) ∷ ds) before c w e = results ds _ _ w.2 (append_assoc before _ (declared ds) ∙ e)
   results ((n, entry.Type t) ∷ ds) before c w e = results ds _ _ w.2 (append_assoc before _ (declared ds) ∙ e)
   results ((n, entry.AbstractType) ∷ ds) before c w e = results ds _ _ w.2 (append_assoc before _ (declared ds) ∙ e)
   results ((n, entry.Constant a) ∷ ds) before c w e = results ds _ _ w.2 (append_assoc before _ (declared ds) ∙ e)

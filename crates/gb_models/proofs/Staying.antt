@@ -277,7 +277,7 @@ goal_stays ds es scoped firm added q t without k s h =
 no_types : (ds : scope.Declarations) (c : Context) → ((n : Name) → c.modules.types n ≡ None) → (n : Name) → (with_each c (declared ds)).modules.types n ≡ None
 no_types [] c k n = k n
 no_types ((m, entry.Module x) ∷ ds) c k n = no_types ds (with_declared c m (concrete_module x)) k n
-no_types ((m, entry.Lemma q) ∷ ds) c k n = no_types ds c k n
+no_types ((m, entry.Lemma q order) ∷ ds) c k n = no_types ds c k n
 no_types ((m, entry.Type t) ∷ ds) c k n = no_types ds c k n
 no_types ((m, entry.AbstractType) ∷ ds) c k n = no_types ds c k n
 no_types ((m, entry.Constant a) ∷ ds) c k n = no_types ds c k n
@@ -316,7 +316,7 @@ no_module_concluded c k f w = no_module c k f w
 pub all_firm : (ds : scope.Declarations) → EachDeclared IsFirm (declared ds)
 all_firm [] = tt
 all_firm ((n, entry.Module m) ∷ ds) = (tt, all_firm ds)
-all_firm ((n, entry.Lemma q) ∷ ds) = (tt, all_firm ds)
+all_firm ((n, entry.Lemma q order) ∷ ds) = (tt, all_firm ds)
 all_firm ((n, entry.Type t) ∷ ds) = (tt, all_firm ds)
 all_firm ((n, entry.AbstractType) ∷ ds) = (tt, all_firm ds)
 all_firm ((n, entry.Constant a) ∷ ds) = (tt, all_firm ds)

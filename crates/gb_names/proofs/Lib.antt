@@ -1,4 +1,5 @@
 mod LastDot
+pub mod ReadTypes
 pub mod Answers
 pub mod Nodes
 pub mod Parts

@@ -2,6 +2,7 @@ pub mod Wanted
 pub mod Types
 pub mod Environment
 pub mod Bindings
+pub mod Locals
 pub mod Names
 pub mod Binders
 pub mod Allowed

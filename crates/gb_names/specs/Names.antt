@@ -40,6 +40,7 @@ use Rattle.gb_names.specs.declared.bindings.Binding.{Binding}
 use Rattle.gb_names.specs.declared.bindings.Kind.{Kind}
 use Rattle.gb_names.specs.declared.bindings.Kind.TheVariants.{Value, Memory}
 use Rattle.gb_names.specs.Bindings.{binders_inside, innermost}
+use Rattle.gb_names.specs.Locals.{locals_in}
 use Rattle.gb_names.specs.Environment.{Name, Environment, may_read, own, on_side}
 
 -- a name with further words behind it, a dot before each
@@ -254,11 +255,11 @@ context_memory at bound x p =
 abbrev pub memory_at : Environment → List Binding → Name → Place → Answer Side
 memory_at at bound x p = option_map_or (λ b. bound_memory (binders_inside bound x) p b.kind) (innermost bound x) (context_memory at bound x p)
 
--- a global in a named memory, of which no local is in scope
+-- a local or a global in a named memory
 unfoldable pub in_memory : Environment → List Binding → Name → Node → Place → Answer Term
 in_memory at bound x m p = do
   s ← memory_at at bound (text_of m) (place_of m)
-  if may_read at.memories (text_of m) then variable_on at bound x s p [] else refused Argument p
+  if may_read at.memories (text_of m) then variable_on at bound x s p (locals_in at.sequent s x) else refused Argument p
 
 -- whether named memories may be read
 abbrev pub has_memories : Language → Bool

@@ -30,7 +30,7 @@ use std::alloc::{AllocError, Global};
 
 /// The module of this name, all of whose parameters are given: it has none.
 #[tactic(auto, unfolding(crate::specs::Judgments::named_module))]
-fn named_module<'a>(
+pub fn named_module<'a>(
     alloc: Global,
     at: &Setting<'a>,
     bound: &[Binding],

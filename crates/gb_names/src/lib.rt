@@ -6,6 +6,7 @@ pub mod binders;
 pub mod bindings;
 pub mod globals;
 pub mod judgment;
+pub mod locals;
 pub mod memories;
 pub mod names;
 pub mod refusals;

@@ -7,6 +7,7 @@ ghost use Rattle.gb_names.specs.Environment.{environment};
 ghost use Rattle.gb_names.specs.Names.{bound_memory, context_memory, in_memory, memory, memory_at, names_before, no_memory, remembered};
 
 use crate::bindings::{Binding, Kind, binders_inside, innermost};
+use crate::locals::locals_in;
 use crate::names::{counted, known_at, named, variable_on};
 use crate::refusals::argument;
 use crate::setting::{Language, Setting};
@@ -109,7 +110,7 @@ pub fn memory_at(
     }
 }
 
-/// A global in a named memory.
+/// A local or a global in a named memory.
 #[tactic(auto, unfolding(crate::specs::Names::in_memory))]
 fn in_memory(
     alloc: Global,
@@ -123,7 +124,8 @@ fn in_memory(
 {
     let side = memory_at(alloc, at, bound, &memory.text, memory.place)?;
     if at.memories.may_read(&memory.text) {
-        variable_on(alloc, at, bound, name, side, place, &[])
+        let locals = locals_in(alloc, at.sequent, side, name)?;
+        variable_on(alloc, at, bound, name, side, place, locals.as_slice())
     } else {
         Err(argument(place))
     }

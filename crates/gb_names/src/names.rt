@@ -421,7 +421,7 @@ pub fn variable_on(
 }
 
 /// The side of a number.
-fn side_of(number: &Name, place: Place) -> Result<Side, Refused>
+pub fn side_of(number: &Name, place: Place) -> Result<Side, Refused>
     ensures { Answers (side_of number.now place) result }
 {
     let text = number.as_str();

@@ -85,7 +85,7 @@ fn without_sampling(
 
 /// The goals of a judgment of what stands before a sampling. Weight that is lost there makes a probability less: the bound isn't
 /// below 0 then, or the rule is refused, with `NotLossless` at a variable, and with `Shape` at a call.
-fn of_rest(
+pub fn of_rest(
     alloc: Global,
     goal: &Sequent,
     lost: Loss<'_>,

@@ -17,7 +17,7 @@ use Rattle.gb_terms.specs.declared.term.Head.TheFolds.{para-Head, para-roll-Term
 use Rattle.gb_print_names.specs.Text.{Text, ◌▸◌, each, word}
 use Rattle.gb_print_names.specs.Names.{Place, variable}
 use Rattle.gb_print_names.specs.Modules.{procedure}
-use Rattle.gb_print.specs.Open.{right_first, tells}
+use Rattle.gb_shapes.specs.Open.{right_first, tells}
 use Rattle.gb_print.specs.Layout.{opening, closing}
 use Rattle.gb_print_names.specs.Occurring.{inside}
 use Rattle.gb_print.specs.Forms.{Placed, Shown, trees, arguments, argument, is_nil, written, form, operand, targets, test, call, forms, further, otherwise, at_term, at_head, at_subject, at_instr, at_cmd, term_text, spoken, subject_text, instr_text, cmd_text, shown, all_shown, inside_text}

@@ -17,8 +17,9 @@ use Rattle.gb_print_names.specs.declared.place.Known.{Known}
 use Rattle.gb_print_names.specs.Names.{Place, under, bound_name, variable}
 use Rattle.gb_print_names.specs.Types.{type_text}
 use Rattle.gb_print_names.specs.Modules.{procedure}
-use Rattle.gb_print.specs.Open.{type_of, needs_type, right_first, tells}
-use Rattle.gb_print.specs.Layout.{opening, before, closing, letter, stands, binding, shape, stands_alone, encloses, runs_on}
+use Rattle.gb_shapes.specs.Open.{type_of, needs_type, right_first, tells}
+use Rattle.gb_print.specs.Layout.{opening, before, closing, letter, stands, binding}
+use Rattle.gb_shapes.specs.Shapes.{shape, stands_alone, encloses, runs_on}
 use Rattle.gb_print_names.specs.Occurring.{inside}
 
 -- how a program is printed in its place

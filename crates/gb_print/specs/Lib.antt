@@ -1,4 +1,3 @@
-pub mod Open
 pub mod Layout
 pub mod Forms
 pub mod Goals

@@ -2,20 +2,20 @@
 
 ghost use Rattle.std.specs.Prelude.{◌≡◌, ◌∷◌, codes, OnOk};
 ghost use Rattle.gb_print_names.specs.Names.{place, variable};
-ghost use Rattle.gb_print.specs.Open.{right_first};
+ghost use Rattle.gb_shapes.specs.Open.{right_first};
 ghost use Rattle.gb_print_names.specs.Text.{separated};
 ghost use Rattle.gb_print.specs.Forms.{in_brackets, annotated, form, operand, part, bound_part, argument, arguments, inside_text, spoken, is_nil, targets, test, call, forms, otherwise, term_text, subject_text, cmd_text, instr_text, shown, all_shown};
 
 use crate::binders::{letter, put_binding, stands};
 use crate::layout::{put_before, put_closing, put_opening};
-use crate::open::{needs_type, right_first, tells};
-use crate::shape::{encloses, runs_on, shape_of, stands_alone};
 use gb_core::var::Var;
 use gb_print_names::modules::put_procedure;
 use gb_print_names::occurring::{is_judgment, names_inside};
 use gb_print_names::place::{Known, Setting, bound_name, put_variable};
 use gb_print_names::text::Page;
 use gb_print_names::types::put_type;
+use gb_shapes::open::{needs_type, right_first, tells};
+use gb_shapes::shape::{encloses, runs_on, shape_of, stands_alone};
 use gb_terms::module::ProcRef;
 use gb_terms::term::{Cmd, Head, Instr, Subject, Term};
 use gb_walk::binders::is_binder;

@@ -2,7 +2,8 @@
 
 ghost use Rattle.std.specs.Prelude.{◌≡◌, OnOk};
 ghost use Rattle.gb_print_names.specs.Names.{place};
-ghost use Rattle.gb_print.specs.Layout.{compared, spelling, before_operand, operator_closing, operator_type, opening, before_part, before, closing};
+ghost use Rattle.gb_print.specs.Layout.{compared, before_operand, operator_closing, operator_type, opening, before_part, before, closing};
+ghost use Rattle.gb_shapes.specs.Shapes.{spelling};
 
 use crate::literals::{outcome, put_literal, put_weights};
 use gb_core::ty::Ty;

@@ -6,5 +6,3 @@ mod form;
 pub mod goal;
 mod layout;
 mod literals;
-mod open;
-mod shape;

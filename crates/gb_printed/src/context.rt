@@ -11,12 +11,26 @@ use sqlite_items::Items;
 use std::alloc::{AllocError, Global};
 
 /// The entries of a context, by kind.
-#[derive(Drop)]
 pub struct Context {
     logical: Typed,
     memories: Names,
     modules: Items<Bind>,
     hyps: Items<Hyp>,
+}
+
+impl Drop for Context {
+    fn drop(self) {
+        let Context {
+            logical,
+            memories,
+            modules,
+            hyps,
+        } = self;
+        drop(logical);
+        drop(memories);
+        drop(modules);
+        drop(hyps);
+    }
 }
 
 /// `A=T`, or `A=T-M,N`: a name, a module type and what is excluded.

@@ -14,13 +14,29 @@ use sqlite_items::Items;
 use std::alloc::{AllocError, Global};
 
 /// What is made so far: types, terms, programs and procedures, blocks that are still open, and abstract modules.
-#[derive(Drop)]
 pub struct Maker {
     pub types: Stack<Ty>,
     pub terms: Stack<Term>,
     pub subjects: Stack<Subject>,
     pub blocks: Stack<Instrs>,
     pub binds: Stack<Bind>,
+}
+
+impl Drop for Maker {
+    fn drop(self) {
+        let Maker {
+            types,
+            terms,
+            subjects,
+            blocks,
+            binds,
+        } = self;
+        drop(types);
+        drop(terms);
+        drop(subjects);
+        drop(blocks);
+        drop(binds);
+    }
 }
 
 /// What a word stands over has to be there.

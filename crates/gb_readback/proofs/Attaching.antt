@@ -26,9 +26,6 @@ node_fields h t ps p = out-roll-Node (record { head = h; text = t; parts = ps; p
 pub node_head : (h : Head) (t : List ℕ) (ps : List Node) (p : Place) → head_of (node h t ps p) ≡ h
 node_head h t ps p = ap (λ (l : Node-F Node). l.head) (node_fields h t ps p)
 
-pub node_text : (h : Head) (t : List ℕ) (ps : List Node) (p : Place) → text_of (node h t ps p) ≡ t
-node_text h t ps p = ap (λ (l : Node-F Node). l.text) (node_fields h t ps p)
-
 pub node_parts : (h : Head) (t : List ℕ) (ps : List Node) (p : Place) → parts_of (node h t ps p) ≡ ps
 node_parts h t ps p = ap (λ (l : Node-F Node). l.parts) (node_fields h t ps p)
 

@@ -5,6 +5,7 @@ use Rattle.std.proofs.Common.{refl, sym, subst}
 use Rattle.gb_core.specs.declared.ty.Ty.{Ty}
 use Rattle.gb_grammar.specs.declared.table.Symbol.TheVariants.{Part}
 use Rattle.gb_goal.specs.Answers.{nowhere}
+use Rattle.gb_limits.specs.LeftOut.{is_word_of}
 use Rattle.gb_limits.specs.Lexeme.{spells}
 use Rattle.gb_script.specs.declared.head.Head.TheVariants as head
 use Rattle.gb_script.specs.declared.tree.Node.{Node}
@@ -18,7 +19,8 @@ use Rattle.gb_readback.specs.Nodes as nodes
 use Rattle.gb_readback.specs.Types as type_tree
 use Rattle.gb_readback.specs.Heads as tree
 use Rattle.gb_readback.specs.Written.{in_range, is_path, is_name_text}
-use Rattle.gb_readback.proofs.Tokens.{Next, forall_word, exists_word, comma_word, ampersand}
+use Rattle.gb_readback.proofs.Tokens.{Next}
+use Rattle.gb_readback.proofs.Symbols.{forall_word, exists_word, comma_word, ampersand}
 use Rattle.gb_readback.proofs.Levels.{Spelt, end, tok, row, followed}
 use Rattle.gb_readback.proofs.NameWords.{name_reads, name_start}
 use Rattle.gb_readback.proofs.Atoms.{OperandPart, path_operand, applied, for_all, exists_one, values_bind, function, typed_function}
@@ -35,7 +37,7 @@ module _ {stage : ℕ} where
       row p.bind_memory (p.is_bind_memory stage) refl refl refl
       (row p.memory_ampersand (p.is_memory_ampersand stage) refl refl refl (tok n (followed (name_reads x (44 ∷ mid) h refl) end)) end) end
 
-  pub over_all : {f : Writing} {y : Node} (bound : List Known) {t : print.Part} {z : type_tree.Part} (x : Text) → is_name_text x ≡ true → ShowsType stage bound t z → Shows stage f y
+  pub over_all : {f : Writing} {y : Node} (bound : List Known) {t : print.Part} {z : type_tree.Part} (x : Text) → is_name_text x ≡ true → ShowsType stage stage bound t z → Shows stage f y
       → Shows stage (λ before. f (word (codes "), ") (t.1 bound (word (codes " : ") (word x (word (codes " (") (word (codes "forall") before)))))))
       (tree.quantified (codes "forall") (nodes.tree head.Values (nodes.word x ∷ nodes.list [] ∷ z.1 bound ∷ [])) (y ∷ []))
   over_all {f = f} bound {t = t} x h q s = record {
@@ -51,7 +53,7 @@ module _ {stage : ℕ} where
     };
   }
 
-  pub over_some : {f : Writing} {y : Node} (bound : List Known) {t : print.Part} {z : type_tree.Part} (x : Text) → is_name_text x ≡ true → ShowsType stage bound t z → Shows stage f y
+  pub over_some : {f : Writing} {y : Node} (bound : List Known) {t : print.Part} {z : type_tree.Part} (x : Text) → is_name_text x ≡ true → ShowsType stage stage bound t z → Shows stage f y
       → Shows stage (λ before. f (word (codes "), ") (t.1 bound (word (codes " : ") (word x (word (codes " (") (word (codes "exists") before)))))))
       (tree.quantified (codes "exists") (nodes.tree head.Values (nodes.word x ∷ nodes.list [] ∷ z.1 bound ∷ [])) (y ∷ []))
   over_some {f = f} bound {t = t} x h q s = record {
@@ -122,7 +124,7 @@ module _ {stage : ℕ} where
   pub summed : {f : Writing} {y : Node} (q : ℕ) → in_range q ≡ true → (bound : List Known) (x : Text) → is_name_text x ≡ true → Shows stage f y
       → Shows stage (λ before. word (codes ")") (f (print_layout.of_function x None bound (number q (word (codes "sum ") before)))))
       (nodes.tree head.Apply (nodes.word (codes "sum") ∷ nodes.number q ∷ tree.function None x bound y ∷ []))
-  unfolding spells
+  unfolding spells is_word_of
   summed {f = f} q r bound x h s = record {
     text = λ mid. codes "sum " ++ (decimal q ++ (codes " (fun " ++ (x ++ (codes " => " ++ s.text (41 ∷ mid)))));
     bar = false;
@@ -131,10 +133,10 @@ module _ {stage : ℕ} where
     form = applied (path_operand (codes "sum") refl) refl (operand_part (number_shown q r)) (function_part x h s ∷ []);
   }
 
-  pub summed_typed : {f : Writing} {y : Node} (q : ℕ) → in_range q ≡ true → (bound : List Known) (t : Ty) (x : Text) → is_name_text x ≡ true → ShowsType stage bound (print.type_part t) (type_tree.type_part t) → Shows stage f y
+  pub summed_typed : {f : Writing} {y : Node} (q : ℕ) → in_range q ≡ true → (bound : List Known) (t : Ty) (x : Text) → is_name_text x ≡ true → ShowsType stage stage bound (print.type_part t) (type_tree.type_part t) → Shows stage f y
       → Shows stage (λ before. word (codes ")") (f (print_layout.of_function x (Some t) bound (number q (word (codes "sum ") before)))))
       (nodes.tree head.Apply (nodes.word (codes "sum") ∷ nodes.number q ∷ tree.function (Some t) x bound y ∷ []))
-  unfolding spells
+  unfolding spells is_word_of
   summed_typed {f = f} {y = y} q r bound t x h c s = record {
     text = λ mid. codes "sum " ++ (decimal q ++ (codes " (fun (" ++ (x ++ (codes " : " ++ c.text (codes ") => " ++ s.text (41 ∷ mid))))));
     bar = false;

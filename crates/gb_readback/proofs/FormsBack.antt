@@ -1,12 +1,15 @@
 -- What is printed of a form is read back.
-use Rattle.std.specs.Prelude.{ℕ, ◌≡◌, Bool, true, List, [], ◌∷◌}
+use Rattle.std.specs.Prelude.{ℕ, ◌≡◌, Bool, true, List, [], ◌∷◌, None}
 use Rattle.std.proofs.Common.{refl, sym, ◌∙◌, subst}
 use Rattle.gb_core.specs.declared.place.Place.{Place as TextPlace}
 use Rattle.gb_grammar.specs.Grammar.{Grammar}
 use Rattle.gb_grammar.specs.declared.table.Symbol.TheVariants.{Part}
 use Rattle.gb_language.specs.declared.rows.TheConstants.{FORM}
 use Rattle.gb_language.specs.Language.{language, goal_language}
+use Rattle.gb_lex.specs.Lex.{fault_of}
+use Rattle.gb_limits.specs.LeftOut.{NoneLeftOut}
 use Rattle.gb_limits.specs.Lexeme.{kinds_of}
+use Rattle.gb_limits.specs.Numbers.{NoneOverflow}
 use Rattle.gb_read_script.specs.Reading.{SpellsForm}
 use Rattle.gb_script.specs.declared.action.Rule.{Rule}
 use Rattle.gb_script.specs.declared.text.Lexeme.{Lexeme}
@@ -22,6 +25,8 @@ use Rattle.gb_readback.specs.Nodes.{placeless}
 use Rattle.gb_readback.specs.Forms.{form_tree}
 use Rattle.gb_readback.specs.Written.{IsWritten}
 use Rattle.gb_readback.specs.ReadBack.{tokens_at}
+use Rattle.gb_readback.proofs.Faultless.{whole_cut, faultless}
+use Rattle.gb_readback.proofs.Kept.{is_kept, kept, kept_so, form_braces, form_begins, none_left_out, none_overflows}
 use Rattle.gb_readback.proofs.Reading.{Reads}
 use Rattle.gb_readback.proofs.Sound.{spelled}
 use Rattle.gb_readback.proofs.Lexed.{lexed, lexed_after}
@@ -55,11 +60,28 @@ whole stage part bytes at x d =
     (subst (λ (ls : List Lexeme). Reads (grammar stage) (Part part ∷ []) ls [] (Tree x ∷ [])) (sym (lexemes_are at bytes))
     (subst (λ (ls : List Lexeme). Reads (grammar stage) (Part part ∷ []) (lexed bytes) ls (Tree x ∷ [])) no_tokens d.reads))
 
+-- Bytes that are spelled to their end as a part of forms have no token that is left out or out of range.
+pub kept_whole : (bytes : Text) (at : TextPlace) {x : Node} → Spelt 0 (Part 120 ∷ []) bytes [] (Tree x ∷ []) → is_kept 0 (tokens_at bytes at).lexemes ≡ true
+kept_whole bytes at {x} d =
+    kept_so 0 (tokens_at bytes at).lexemes (kept (grammar 0) form_braces 20 form_begins refl
+    (subst (λ (ls : List Lexeme). Reads (grammar 0) (Part 120 ∷ []) ls [] (Tree x ∷ [])) (sym (lexemes_are at bytes))
+    (subst (λ (ls : List Lexeme). Reads (grammar 0) (Part 120 ∷ []) (lexed bytes) ls (Tree x ∷ [])) no_tokens d.reads)) 0)
+
 -- what is written of a form, alone
 pub alone : {stage : ℕ} {w : Writing} {x : Node} → Shows stage w x → Spelt stage (Part 120 ∷ []) (w []) [] (Tree x ∷ [])
 alone {stage} {w} {x} s =
     let bytes : s.text [] ≡ w [] = sym (s.writes.same [] []) ∙ append_nil (w []) in
     subst (λ (b : Text). Spelt stage (Part 120 ∷ []) b [] (Tree x ∷ [])) bytes (s.form.reads [] (fits_end s.bar))
+
+-- What is written of a form falls into tokens, none of which is left out or out of range.
+pub form_kept : (at : Place) (t : Term) → IsWritten 0 at t
+    → (fault_of (form_text t at []) ≡ None) × ((place : TextPlace) → NoneLeftOut (tokens_at (form_text t at []) place) × NoneOverflow (tokens_at (form_text t at []) place))
+form_kept at t d =
+    let bytes = form_text t at [] in
+    let shown = alone (part_form (term_shown 0 d) true) in (
+      faultless (whole_cut shown.cut),
+      λ place. let are = kept_whole bytes place shown in (none_left_out (tokens_at bytes place) are, none_overflows (tokens_at bytes place) are),
+    )
 
 pub form_back : (at : Place) (t : Term) → IsWritten 0 at t → (place : TextPlace) → (y : Node) × SpellsForm (tokens_at (form_text t at []) place) y × (placeless y ≡ form_tree t at)
 form_back at t d place =

@@ -1,5 +1,5 @@
 -- What is printed of a goal is read back.
-use Rattle.std.specs.Prelude.{ℕ, suc, ◌≡◌, ◌<◌, true, List, [], ◌∷◌, ◌++◌, length, map, codes}
+use Rattle.std.specs.Prelude.{ℕ, suc, ◌≡◌, ◌<◌, true, List, [], ◌∷◌, ◌++◌, length, map, codes, None}
 use Rattle.std.specs.List.{All, AllZip, prefix_len}
 use Rattle.std.proofs.Common.{refl, ap, ap₂, sym, ◌∙◌, subst, arith, inl, inr}
 use Rattle.std.proofs.lemmas.List.Elements.{All-cons}
@@ -12,7 +12,10 @@ use Rattle.gb_language.specs.declared.rows.TheConstants.{ENTRY, HYPOTHESIS}
 use Rattle.gb_language.specs.Language.{goal_language, IsLineTree}
 use Rattle.gb_language.proofs.Language.{line_or_fault, line_spells}
 use Rattle.gb_limits.specs.Kinds.{kind_of}
+use Rattle.gb_lex.specs.Lex.{fault_of}
+use Rattle.gb_limits.specs.LeftOut.{NoneLeftOut}
 use Rattle.gb_limits.specs.Lexeme.{kinds_of}
+use Rattle.gb_limits.specs.Numbers.{NoneOverflow}
 use Rattle.gb_read_script.specs.declared.line.Line.{Line}
 use Rattle.gb_read_script.specs.declared.goal_lines.LineSort.TheVariants as sort
 use Rattle.gb_read_script.specs.declared.goal_lines.ReadLine.{ReadLine}
@@ -20,7 +23,7 @@ use Rattle.gb_read_script.specs.declared.goal_lines.ReadGoal.{ReadGoal}
 use Rattle.gb_read_script.specs.declared.goal_tree.SequentTree.{SequentTree}
 use Rattle.gb_read_script.specs.Line.{text_of, lines_before}
 use Rattle.gb_read_script.specs.GoalLines.{is_dash, is_minus, texts, IsEntry, IsRuler, IsGoal}
-use Rattle.gb_read_script.specs.Goal.{IsTreeOf as IsLineTreeOf, AreTreesOf, SpellsGoal, goal_lines, beginning}
+use Rattle.gb_read_script.specs.Goal.{IsTreeOf as IsLineTreeOf, AreTreesOf, SpellsGoal, goal_text, goal_lines, beginning}
 use Rattle.gb_script.specs.declared.action.Rule.{Rule}
 use Rattle.gb_script.specs.declared.terminal.Terminal.{Terminal}
 use Rattle.gb_script.specs.declared.terminal.Terminal.TheVariants as terminal
@@ -32,30 +35,31 @@ use Rattle.gb_script.specs.declared.value.Value.TheVariants.{Tree}
 use Rattle.gb_script.specs.Build.{IsTree}
 use Rattle.gb_lex.specs.Piece.{pieces_after}
 use Rattle.gb_lex.specs.PlaceAfter.{place_after}
-use Rattle.gb_terms.specs.declared.module.Bind.{Bind}
 use Rattle.gb_goal.specs.declared.sequent.Sequent.{Sequent}
 use Rattle.gb_script.proofs.Stacks.{append_nil}
-use Rattle.gb_print_names.specs.Text.{Writing, each}
+use Rattle.gb_print_names.specs.Text.{Writing}
 use Rattle.gb_print_names.specs.Names.{Place}
 use Rattle.gb_print.specs.Goals as print_goals
 use Rattle.gb_readback.specs.Nodes.{placeless}
-use Rattle.gb_readback.specs.Types.{abstract_module}
 use Rattle.gb_readback.specs.Goals.{Entry, binder, hypothesis, IsEntryTree, IsTreeOf, IsWrittenGoal}
 use Rattle.gb_readback.proofs.Reading.{lexeme_kind, lexeme_kinds, Reads, done, token}
 use Rattle.gb_readback.proofs.Sound.{bare_lexeme, bare_lexemes, spelled}
+use Rattle.gb_readback.proofs.Faultless.{Whole, whole_cut, whole_none, whole_more, whole_feed, faultless}
+use Rattle.gb_readback.proofs.Kept.{begins_otherwise, braces_ok, is_kept, kept, kept_so, kept_append, goal_braces, entry_begins, hypothesis_begins, conclusion_begins, none_left_out, none_overflows}
 use Rattle.gb_readback.proofs.Lexed.{lexed}
 use Rattle.gb_readback.proofs.LexemesAre.{behind_are}
 use Rattle.gb_readback.proofs.Shorter.{shorter}
 use Rattle.gb_readback.proofs.Taking.{takes, takes_some, avoided, entry_avoids, hypothesis_avoids, entry_takes, hypothesis_takes, form_takes}
 use Rattle.gb_readback.proofs.Cut.{Cut}
-use Rattle.gb_readback.proofs.LinesAre.{lexemes_behind, line_lexemes, parted_at, part_line}
-use Rattle.gb_readback.proofs.Levels.{Spelt}
+use Rattle.gb_readback.proofs.LinesAre.{lexemes_behind, line_lexemes, parted, parted_at, part_line}
+use Rattle.gb_readback.proofs.Levels.{Spelt, NoBracket, no_bracket}
+use Rattle.gb_readback.proofs.Symbols.{dash}
 use Rattle.gb_readback.proofs.Productions.{grammar}
 use Rattle.gb_readback.proofs.FormsBack.{goals}
-use Rattle.gb_readback.proofs.Pieces.{Shows, both_written, empty_written, literal}
+use Rattle.gb_readback.proofs.Pieces.{Shows, both_written, literal}
 use Rattle.gb_readback.proofs.PartsShown.{part_form}
 use Rattle.gb_readback.proofs.TermsShown.{term_shown}
-use Rattle.gb_readback.proofs.EntriesShown.{ContextLine, part_of, tree_of, lines_text, ruler, conclusion_reads, ShowsLines, variables_shown, memories_shown, hyps_shown, more_lines}
+use Rattle.gb_readback.proofs.EntriesShown.{ContextLine, part_of, tree_of, lines_text, lines_first, ruler, conclusion_reads, variables_shown, memories_shown, modules_shown, hyps_shown, more_lines}
 
 bare_together : (xs ys : List Lexeme) → bare_lexemes (xs ++ ys) ≡ bare_lexemes xs ++ bare_lexemes ys
 bare_together [] ys = refl
@@ -65,16 +69,12 @@ bare_length : (xs : List Lexeme) → length (bare_lexemes xs) ≡ length xs
 bare_length [] = refl
 bare_length (x ∷ xs) = ap suc (bare_length xs)
 
-is_kind : (x : Terminal) → IsKind (kind_of x)
-unfolding kind_of
-is_kind x = grind arith
-
 bare_kinds : (ls : List Lexeme) → lexeme_kinds (bare_lexemes ls) ≡ map lexeme_kind ls
 bare_kinds [] = refl
 bare_kinds (l ∷ ls) = ap (λ ks. lexeme_kind l ∷ ks) (bare_kinds ls)
 
 dash_kinds : {ls : List Lexeme} {vs : List Value} → Reads (grammar 1) (Token 99 ∷ Token 99 ∷ Token 99 ∷ []) ls [] vs → lexeme_kinds ls ≡ 99 ∷ 99 ∷ 99 ∷ []
-dash_kinds (token a (token b (token c done))) = ap₂ (λ x l. x ∷ l) a (ap₂ (λ x l. x ∷ l) b (ap (λ x. x ∷ []) c))
+dash_kinds (token a _ (token b _ (token c _ done))) = ap₂ (λ x l. x ∷ l) a (ap₂ (λ x l. x ∷ l) b (ap (λ x. x ∷ []) c))
 
 minus_of : (t : Terminal) → kind_of t ≡ 99 → is_minus t ≡ true
 unfolding kind_of is_minus
@@ -91,6 +91,9 @@ three_dashes (a ∷ b ∷ c ∷ []) e =
     let z = minus_of c.terminal cc in
     (rw (x, y, z) refl, refl)
 three_dashes (a ∷ b ∷ c ∷ d ∷ ls) e = absurd cc
+
+whole_line : {i r : List ℕ} → Cut i (10 ∷ r) → Whole i r
+whole_line {r = r} c = whole_more (whole_cut c) (whole_feed r)
 
 module _ (start end : TextPlace) (kinds : (t : Text) → All IsKind (kinds_of t)) where
   -- the tokens of a line, and those of what follows
@@ -162,6 +165,20 @@ module _ (start end : TextPlace) (kinds : (t : Text) → All IsKind (kinds_of t)
   entry_some (binder x) = entry_takes
   entry_some (hypothesis x) = hypothesis_takes
 
+  -- The tokens of a line are kept, and those of the lines behind it.
+  line_kept : (front : List ℕ) {i r : List ℕ} (c : Cut i (10 ∷ r)) → ((k : ℕ) → is_kept k (line_lexemes start front c) ≡ true)
+      → ((k : ℕ) → is_kept k (lexemes_behind start ((front ++ c.front) ++ 10 ∷ []) r) ≡ true) → (k : ℕ) → is_kept k (lexemes_behind start front i) ≡ true
+  line_kept front {r = r} c a b k =
+      subst (λ ls. is_kept k ls ≡ true) (sym (parted start front c)) (kept_append k (line_lexemes start front c) (lexemes_behind start ((front ++ c.front) ++ 10 ∷ []) r) (a k) b)
+
+  part_kept : (front : List ℕ) {i j : List ℕ} {ss : List Symbol} {vs : List Value} (d : Spelt 1 ss i j vs) (f : ℕ) → begins_otherwise f 98 (grammar 1) ss ≡ true → braces_ok (grammar 1) ss ≡ true
+      → (k : ℕ) → is_kept k (line_lexemes start front d.cut) ≡ true
+  part_kept front d f h b k = kept_so k (line_lexemes start front d.cut) (kept (grammar 1) goal_braces f h b (line_reads front d) k)
+
+  entry_kept : (front : List ℕ) (e : Entry) {i j : List ℕ} {vs : List Value} (d : Spelt 1 (Part (part_of e) ∷ []) i j vs) → (k : ℕ) → is_kept k (line_lexemes start front d.cut) ≡ true
+  entry_kept front (binder x) d = part_kept front d 12 entry_begins refl
+  entry_kept front (hypothesis x) d = part_kept front d 12 hypothesis_begins refl
+
   -- the lines of a context, and what is behind them
   record Contexts (front : List ℕ) (ls : List ContextLine) (r : List ℕ) : Type 0 where
     lines : List Line
@@ -173,16 +190,18 @@ module _ (start end : TextPlace) (kinds : (t : Text) → All IsKind (kinds_of t)
     trees : List Node
     spelled : AllZip IsLineTreeOf read trees
     are : AllZip IsEntryTree (map (λ (l : ContextLine). l.entry) ls) trees
+    whole : Whole (lines_text ls r) r
+    kept_lines : ((k : ℕ) → is_kept k (lexemes_behind start behind r) ≡ true) → (k : ℕ) → is_kept k (lexemes_behind start front (lines_text ls r)) ≡ true
 
-  contexts : (front : List ℕ) (ls : List ContextLine) (r : List ℕ) → Contexts front ls r
-  contexts front [] r = record { lines = []; behind = front; parted = refl; read = []; texts_are = refl; entries_are = λ k d h. absurd (omega arith); trees = []; spelled = tt; are = tt }
-  contexts front (l ∷ ls) r =
+  contexts : (front : List ℕ) (ls : List ContextLine) (r : List ℕ) → NoBracket r → Contexts front ls r
+  contexts front [] r n = record { lines = []; behind = front; parted = refl; read = []; texts_are = refl; entries_are = λ k d h. absurd (omega arith); trees = []; spelled = tt; are = tt; whole = whole_none r; kept_lines = λ h. h }
+  contexts front (l ∷ ls) r n =
       let rest = lines_text ls r in
-      let d = l.reads rest in
+      let d = l.reads rest (lines_first ls r n) in
       let first = part_line start end front d.cut (line_some front d 6 (entry_some l.entry)) in
       let tree = line_tree (part_of l.entry) (tree_of l.entry) first.line (line_lexemes start front d.cut) first.tokens (line_reads front d) in
       let one = read_entry l.entry (text_of first.line) tree in
-      let more = contexts ((front ++ d.cut.front) ++ 10 ∷ []) ls r in
+      let more = contexts ((front ++ d.cut.front) ++ 10 ∷ []) ls r n in
       record {
         lines = first.line ∷ more.lines;
         behind = more.behind;
@@ -193,6 +212,8 @@ module _ (start end : TextPlace) (kinds : (t : Text) → All IsKind (kinds_of t)
         trees = one.tree ∷ more.trees;
         spelled = (one.spelled, more.spelled);
         are = (one.entry, more.are);
+        whole = whole_more (whole_line d.cut) more.whole;
+        kept_lines = λ h. line_kept front d.cut (entry_kept front l.entry d) (more.kept_lines h);
       }
 
   -- A line that reads as `---` is no entry.
@@ -216,6 +237,10 @@ module _ (start end : TextPlace) (kinds : (t : Text) → All IsKind (kinds_of t)
   unfolding pieces_after
   nothing_behind front = refl
 
+  none_behind : (front : List ℕ) → lexemes_behind start front [] ≡ []
+  unfolding pieces_after
+  none_behind front = refl
+
   mapped_lines : (xs ys : List Line) → map text_of (xs ++ ys) ≡ map text_of xs ++ map text_of ys
   mapped_lines [] ys = refl
   mapped_lines (x ∷ xs) ys = ap (λ l. text_of x ∷ l) (mapped_lines xs ys)
@@ -228,12 +253,14 @@ module _ (start end : TextPlace) (kinds : (t : Text) → All IsKind (kinds_of t)
     pub spelled : AreTreesOf goal tree
     pub entries : AllZip IsEntryTree (map (λ (l : ContextLine). l.entry) ls) tree.context
     pub conclusion : placeless tree.conclusion ≡ x
+    pub whole : Whole bytes []
+    pub kept_all : (k : ℕ) → is_kept k (lexemes_behind start [] bytes) ≡ true
 
   pub read_goal : {w : Writing} (ls : List ContextLine) {x : Node} (s : Shows 1 w x) → ReadGoalOf ls x (lines_text ls (codes "---" ++ (10 ∷ s.text (10 ∷ []))))
   read_goal ls {x} s =
       let last = s.text (10 ∷ []) in
       let rest = codes "---" ++ (10 ∷ last) in
-      let context = contexts [] ls rest in
+      let context = contexts [] ls rest (no_bracket (dash 45 (45 ∷ 10 ∷ last) refl) refl) in
       let dashes = ruler last in
       let middle = part_line start end context.behind dashes.cut (line_some context.behind dashes 6 refl) in
       let next = (context.behind ++ dashes.cut.front) ++ 10 ∷ [] in
@@ -258,15 +285,23 @@ module _ (start end : TextPlace) (kinds : (t : Text) → All IsKind (kinds_of t)
         spelled = (context.spelled, tree.1);
         entries = context.are;
         conclusion = tree.2;
+        whole = whole_more context.whole (whole_more (whole_line dashes.cut) (whole_line d.cut));
+        kept_all = context.kept_lines (line_kept context.behind dashes.cut (part_kept context.behind dashes 0 refl refl)
+            (line_kept next d.cut (part_kept next d 20 conclusion_begins refl) (λ k. ap (λ ls. is_kept k ls) (none_behind ((next ++ d.cut.front) ++ 10 ∷ [])))));
       }
 
-no_modules : (at : Place) (bs : List Bind) → bs ≡ [] → ShowsLines (each (print_goals.module_line at.bound) bs) (map (λ (b : Bind). binder (abstract_module at.bound b.name b)) bs)
-no_modules at [] e = record { lines = []; writes = empty_written; entries = refl }
-no_modules at (b ∷ bs) e = absurd cc
+-- What is printed of a goal is read as it, without faults.
+pub record GoalBack (bytes : List ℕ) (at : Place) (s : Sequent) : Type 0 where
+  pub tree : SequentTree
+  pub spells : SpellsGoal bytes tree
+  pub is_tree : IsTreeOf at s tree
+  pub faultless : fault_of bytes ≡ None
+  pub left_out : NoneLeftOut (goal_text bytes)
+  pub numbers : NoneOverflow (goal_text bytes)
 
-pub goal_back : ((t : Text) → All IsKind (kinds_of t)) → (at : Place) (s : Sequent) → IsWrittenGoal at s → (t : SequentTree) × SpellsGoal (print_goals.goal_text at s []) t × IsTreeOf at s t
+pub goal_back : ((t : Text) → All IsKind (kinds_of t)) → (at : Place) (s : Sequent) → IsWrittenGoal at s → GoalBack (print_goals.goal_text at s []) at s
 goal_back kinds at s d =
-    let context = more_lines (more_lines (more_lines (variables_shown at d.variables) (memories_shown d.memories)) (no_modules at s.modules d.modules)) (hyps_shown at d.hyps) in
+    let context = more_lines (more_lines (more_lines (variables_shown at d.variables) (memories_shown d.memories)) (modules_shown at d.modules)) (hyps_shown at d.hyps) in
     let conclusion = part_form (term_shown 1 d.conclusion) true in
     let bytes = print_goals.goal_text at s [] in
     let shown = lines_text context.lines (codes "---" ++ (10 ∷ conclusion.text (10 ∷ []))) in
@@ -275,4 +310,12 @@ goal_back kinds at s d =
     ∙ (both_written (both_written (both_written context.writes (literal (codes "---\n"))) conclusion.writes) (literal (codes "\n"))).same [] [] in
     let read = read_goal beginning (place_after beginning bytes) kinds context.lines conclusion in
     let is_goal : IsGoal (goal_lines bytes) read.goal = subst (λ b. IsGoal (map text_of (lines_before (place_after beginning bytes) (lexemes_behind beginning [] b) [])) read.goal) (sym same) read.is_goal in
-    (read.tree, (read.goal, is_goal, read.spelled), (subst (λ es. AllZip IsEntryTree es read.tree.context) context.entries read.entries, read.conclusion))
+    let are : is_kept 0 (goal_text bytes).lexemes ≡ true = subst (λ b. is_kept 0 (lexemes_behind beginning [] b) ≡ true) (sym same) (read.kept_all 0) in
+    record {
+      tree = read.tree;
+      spells = (read.goal, is_goal, read.spelled);
+      is_tree = (subst (λ es. AllZip IsEntryTree es read.tree.context) context.entries read.entries, read.conclusion);
+      faultless = faultless (subst (λ b. Whole b []) (sym same) read.whole);
+      left_out = none_left_out (goal_text bytes) are;
+      numbers = none_overflows (goal_text bytes) are;
+    }

@@ -3,6 +3,7 @@ use Rattle.std.specs.Prelude.{ℕ, ◌≡◌, ◌+◌, ◌==◌, Bool, true, fal
 use Rattle.std.proofs.Common.{refl, ap, sym, ◌∙◌, subst, arith}
 use Rattle.std.proofs.lemmas.Bool.Decides.{nat_tests}
 use Rattle.gb_core.specs.declared.ty.Ty.{Ty}
+use Rattle.gb_limits.specs.LeftOut.{is_word_of}
 use Rattle.gb_limits.specs.Lexeme.{spells}
 use Rattle.gb_terms.specs.declared.op.Op.{Op}
 use Rattle.gb_terms.specs.declared.op.Op.TheVariants as op
@@ -15,10 +16,11 @@ use Rattle.gb_script.specs.declared.tree.Node.{Node}
 use Rattle.gb_script.specs.Tree.{node}
 use Rattle.gb_print_names.specs.Text.{Text, Writing, ◌▸◌, word}
 use Rattle.gb_print_names.specs.Names.{Place, bound_name}
-use Rattle.gb_print.specs.declared.shape.Shape.{Shape}
-use Rattle.gb_print.specs.declared.shape.Shape.TheVariants.{Atom, Postfix, Bounded, Application, Sum, Operation}
-use Rattle.gb_print.specs.Open.{operator_tells}
-use Rattle.gb_print.specs.Layout.{shape, runs_on, letter, before_operand}
+use Rattle.gb_shapes.specs.declared.shape.Shape.{Shape}
+use Rattle.gb_shapes.specs.declared.shape.Shape.TheVariants.{Atom, Postfix, Bounded, Application, Sum, Operation}
+use Rattle.gb_shapes.specs.Open.{operator_tells}
+use Rattle.gb_print.specs.Layout.{letter, before_operand}
+use Rattle.gb_shapes.specs.Shapes.{shape, runs_on}
 use Rattle.gb_print.specs.Forms as text
 use Rattle.gb_readback.specs.Forms as tree
 use Rattle.gb_readback.specs.Heads.{made}
@@ -28,7 +30,7 @@ use Rattle.gb_readback.proofs.Tokens.{both}
 use Rattle.gb_readback.proofs.Operands.{IsForm, IsOperand}
 use Rattle.gb_readback.proofs.Atoms.{FormPart, OperandPart, more_forms, form_trees, spaced_arguments, argument_trees, last_bar, at_key, updated, component, as_real, path_operand, tuple, applied, coin}
 use Rattle.gb_readback.proofs.Operators.{and_form, or_form, implies_form, iff_form, equal_form, different_form, less_form, at_most_form, in_form, plus_form, minus_form, times_form, divide_form, product_form, xor_form, not_form, negative_form, chosen_form}
-use Rattle.gb_readback.proofs.Pieces.{ends_bar, Writes, literal, both_written, empty_written, ends_behind, ends_nothing, ends_literal, Shows, ShowsOperand, path_some, path_ends, range_is, number_some, number_ends}
+use Rattle.gb_readback.proofs.Pieces.{ends_bar, Writes, literal, both_written, empty_written, ends_behind, ends_nothing, ends_literal, Shows, ShowsOperand, path_some, path_ends, number_some, number_ends}
 use Rattle.gb_readback.proofs.Shown.{infix_summands, infix_operands, prefix_summand, prefix_operand, prefix_operands, choice, suffix_word, suffix_number, suffix_key, suffix_update, in_bars}
 use Rattle.gb_readback.proofs.PartsShown.{HeadShows, as_one, as_whole, ShownTerm, part_form, part_summand, part_operand, part_argument, part_first}
 
@@ -146,7 +148,7 @@ module _ (stage : ℕ) (at : Place) (known first : Bool) where
   -- Operators.
 
   pub operator_shown : (o : Op) (ts : List Term) (ty : Ty) → has_operands o ts ≡ true → AllShown stage at (term.Builtin o) ts → Result stage at known first (term.Builtin o) ts ty
-  unfolding spells
+  unfolding spells is_word_of
   operator_shown op.And (a ∷ b ∷ []) ty h (x, y) =
       let s = part_summand x (operator_tells op.And first known 0) in
       let t = part_summand y (operator_tells op.And first known 1) in
@@ -223,7 +225,7 @@ module _ (stage : ℕ) (at : Place) (known first : Bool) where
   operator_shown (op.Part k) (a ∷ []) ty h x =
       let g = both (is_front a) (in_range k) h in
       let s = part_operand x (operator_tells (op.Part k) first known 0) g.0 in
-      as_one (suffix_number k (number_some k g.1) (number_ends k g.1) s (component k (range_is k g.1) s.operand))
+      as_one (suffix_number k (number_some k g.1) (number_ends k g.1) s (component k g.1 s.operand))
   operator_shown op.Get (a ∷ b ∷ []) ty h (x, y) =
       let s = part_operand x (operator_tells op.Get first known 0) h in
       let t = part_form y (operator_tells op.Get first known 1) in

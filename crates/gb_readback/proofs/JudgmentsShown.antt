@@ -1,12 +1,10 @@
 -- What is printed of judgments, probabilities and modules reads as their trees.
 use Rattle.std.specs.Prelude.{ℕ, ◌≡◌, ◌+◌, ◌==◌, Bool, true, false, if◌then◌else◌, List, [], ◌∷◌, ◌++◌, codes, Option, Some, None}
 use Rattle.std.specs.List.{slice_get}
-use Rattle.std.proofs.Common.{refl, ap, ap₂, sym, ◌∙◌, subst, append_assoc}
+use Rattle.std.proofs.Common.{refl, ap, ap₂, sym, ◌∙◌, subst}
 use Rattle.gb_core.specs.declared.ty.Ty.{Ty}
 use Rattle.gb_goal.specs.Answers.{nowhere}
-use Rattle.gb_terms.specs.declared.module.Mexp.{Mexp, out-Mexp, roll-Mexp, roll-out-Mexp}
-use Rattle.gb_terms.specs.declared.module.Mexp.TheOpen as layer
-use Rattle.gb_terms.specs.declared.module.Mexp.TheFolds.{fold-roll-Mexp}
+use Rattle.gb_terms.specs.declared.module.Mexp.{Mexp}
 use Rattle.gb_terms.specs.declared.module.ProcRef.{ProcRef}
 use Rattle.gb_terms.specs.declared.op.Rel.{Rel}
 use Rattle.gb_terms.specs.declared.op.Rel.TheVariants as rel
@@ -19,7 +17,6 @@ use Rattle.gb_terms.specs.declared.term.Subject.{Subject}
 use Rattle.gb_script.specs.declared.head.Head.TheVariants as head
 use Rattle.gb_script.specs.declared.tree.Node.{Node}
 use Rattle.gb_script.specs.Tree.{node}
-use Rattle.gb_print_names.specs.declared.place.Known.{Known}
 use Rattle.gb_print_names.specs.Text.{Text, Writing, ◌▸◌, word}
 use Rattle.gb_print_names.specs.Names as names
 use Rattle.gb_print_names.specs.Names.{Place, module_name, shown_name}
@@ -31,49 +28,19 @@ use Rattle.gb_readback.specs.Nodes as nodes
 use Rattle.gb_readback.specs.Types as type_tree
 use Rattle.gb_readback.specs.Heads as heads
 use Rattle.gb_readback.specs.Forms as tree
-use Rattle.gb_readback.specs.Written.{is_path, is_name_text, is_name_there, is_module_here, is_procedure_here, is_memory_here}
+use Rattle.gb_readback.specs.Written.{is_name_text, is_name_there, IsWrittenModule, IsWrittenProcedure, is_memory_here}
 use Rattle.gb_readback.proofs.Steps.{procedure_is}
-use Rattle.gb_readback.proofs.Tokens.{both}
 use Rattle.gb_readback.proofs.Levels.{Before}
 use Rattle.gb_readback.proofs.Operands.{IsForm, IsSummand}
 use Rattle.gb_readback.proofs.Atoms.{FormPart, more_forms, form_trees}
 use Rattle.gb_readback.proofs.Pieces.{Writes, literal, both_written, empty_written, ends_literal, Shows, ShowsSummand, ShowsOperand}
 use Rattle.gb_readback.proofs.Shown.{writes_same}
 use Rattle.gb_readback.proofs.LeavesShown.{path_of_name, glob_operand}
+use Rattle.gb_readback.proofs.ExpressionsShown.{expression_shown}
+use Rattle.gb_readback.proofs.CallsShown.{procedure_written}
 use Rattle.gb_readback.proofs.PartsShown.{part_form, as_one}
 use Rattle.gb_readback.proofs.HeadsShown.{AllShown, Result, part_of, not_first}
-use Rattle.gb_readback.proofs.ProceduresShown.{IsSubject, procedure_subject, arguments_text, hoare, equiv, bounded, bound_at_most, bound_equal, bound_at_least, probability}
-
--- Modules and procedures.
-
--- a module is written by its name
-module_is : (m : Mexp) (x : Text) (bound : List Known) (before : Text) → out-Mexp m ≡ layer.Name x → print.module_text m bound before ≡ word (module_name bound x) before
-module_is m x bound before e =
-    ap (λ k. print.module_text k bound before) (sym (roll-out-Mexp m) ∙ ap roll-Mexp e)
-    ∙ ap (λ f. f bound before) (fold-roll-Mexp print.Shown print.at_module (layer.Name x))
-
-module_tree_is : (m : Mexp) (x : Text) (bound : List Known) → out-Mexp m ≡ layer.Name x → type_tree.module_tree m bound ≡ type_tree.module_of bound x []
-module_tree_is m x bound e =
-    ap (λ k. type_tree.module_tree k bound) (sym (roll-out-Mexp m) ∙ ap roll-Mexp e)
-    ∙ ap (λ f. f bound) (fold-roll-Mexp type_tree.Shown type_tree.at_module (layer.Name x))
-
--- the name of a module
-pub record Named (bound : List Known) (m : Mexp) : Type 0 where
-  pub name : Text
-  pub is : out-Mexp m ≡ layer.Name name
-  pub path : is_path (module_name bound name) ≡ true
-
-named_by : (bound : List Known) (m : Mexp) (l : layer.Mexp-F Mexp) → out-Mexp m ≡ l → is_module_here bound l ≡ true → Named bound m
-named_by bound m (layer.Name x) e h = record { name = x; is = e; path = h }
-named_by bound m (layer.Apply x ms) e h = absurd cc
-
-pub named : (bound : List Known) (m : Mexp) → is_module_here bound (out-Mexp m) ≡ true → Named bound m
-named bound m h = named_by bound m (out-Mexp m) refl h
-
-pub procedure_written : (bound : List Known) (p : ProcRef) (n : Named bound p.module) → Writes (print.procedure bound p) (λ mid. module_name bound n.name ++ (46 ∷ (p.name ++ mid)))
-procedure_written bound p n =
-    writes_same (λ before. ap (λ t. word p.name (word (codes ".") t)) (module_is p.module n.name bound before n.is))
-    (both_written (both_written (literal (module_name bound n.name)) (literal (codes "."))) (literal p.name))
+use Rattle.gb_readback.proofs.ProceduresShown.{IsSubject, arguments_text, hoare, equiv, bounded, bound_at_most, bound_equal, bound_at_least, probability}
 
 -- Subjects.
 
@@ -84,16 +51,15 @@ pub record ShowsSubject (stage : ℕ) (at : Place) (c : Subject) : Type 0 where
   pub trees : tree.subject_trees c at ≡ node_of ∷ []
   pub subject : IsSubject stage shown node_of
 
-pub procedure_shown : (stage : ℕ) (at : Place) (p : ProcRef) → is_procedure_here at.bound p ≡ true → ShowsSubject stage at (Proc p)
-procedure_shown stage at p h =
-    let parts = both (is_module_here at.bound (out-Mexp p.module)) (is_name_text p.name) h in
-    let n = named at.bound p.module parts.0 in
+pub procedure_shown : (stage : ℕ) (at : Place) (p : ProcRef) → IsWrittenProcedure at.bound p → ShowsSubject stage at (Proc p)
+procedure_shown stage at p w =
+    let s = procedure_written stage at.bound p w in
     record {
-      shown = λ mid. module_name at.bound n.name ++ (46 ∷ (p.name ++ mid));
-      node_of = nodes.tree head.ProcedurePath (nodes.word_nodes (module_name at.bound n.name) ++ nodes.word p.name ∷ []);
-      writes = writes_same (λ before. subject_Proc p at before) (procedure_written at.bound p n);
-      trees = procedure_is p at ∙ ap (λ l. type_tree.procedure_at at.bound p.name l ∷ []) n.is;
-      subject = procedure_subject (module_name at.bound n.name) p.name n.path parts.1;
+      shown = s.text;
+      node_of = s.path_node;
+      writes = writes_same (λ before. subject_Proc p at before) s.writes;
+      trees = procedure_is p at ∙ ap (λ l. l ∷ []) s.path_is;
+      subject = s.subject;
     }
 
 -- Judgments.
@@ -144,17 +110,16 @@ bounded_shown rel.AtLeast i u y z v = bounded_by (codes ">=") (codes "] >= ") re
 
 -- Globals of a module.
 
-pub glob_shown : {stage : ℕ} (at : Place) (m : Mexp) (s : Side) → is_module_here at.bound (out-Mexp m) ≡ true → ShowsOperand stage (λ before. word (codes ")") (print.module_text m at.bound (word (codes "(glob ") before))) (nodes.tree head.Glob (type_tree.module_tree m at.bound ∷ []))
-glob_shown {stage} at m s h =
-    let n = named at.bound m h in
-    let x = module_name at.bound n.name in
-    subst (λ t. ShowsOperand stage (λ before. word (codes ")") (print.module_text m at.bound (word (codes "(glob ") before))) (nodes.tree head.Glob (t ∷ []))) (sym (module_tree_is m n.name at.bound n.is))
+pub glob_shown : {stage : ℕ} (at : Place) (m : Mexp) → IsWrittenModule at.bound m → ShowsOperand stage (λ before. word (codes ")") (print.module_text m at.bound (word (codes "(glob ") before))) (nodes.tree head.Glob (type_tree.module_tree m at.bound ∷ []))
+glob_shown {stage} at m h =
+    let s = expression_shown stage at.bound h in
+    subst (λ t. ShowsOperand stage (λ before. word (codes ")") (print.module_text m at.bound (word (codes "(glob ") before))) (nodes.tree head.Glob (t ∷ []))) (sym s.tree_is)
     (record {
-      text = λ mid. codes "(glob " ++ (x ++ (41 ∷ mid));
+      text = λ mid. codes "(glob " ++ s.part.text (41 ∷ mid);
       bar = false;
-      writes = both_written (literal (codes "(glob ")) (both_written (writes_same (λ before. module_is m n.name at.bound before n.is) (literal x)) (literal (codes ")")));
+      writes = both_written (literal (codes "(glob ")) (both_written s.writes (literal (codes ")")));
       ends = λ before. ends_literal (codes ")") refl refl (print.module_text m at.bound (word (codes "(glob ") before));
-      operand = glob_operand x n.path;
+      operand = glob_operand s.part;
     })
 
 -- Probabilities.
@@ -256,28 +221,24 @@ module _ (stage : ℕ) (at : Place) (known first : Bool) (p : ProcRef) (s : Side
         trees = ap (λ l. tree.form (tree.shown t) true at ∷ l) rest.trees;
       }
 
-  pub probability_shown : (t : Term) (ts : List Term) (ty : Ty) → is_procedure_here at.bound p ≡ true → AllShown stage at (term.Pr p s) (t ∷ ts) → Result stage at known first (term.Pr p s) (t ∷ ts) ty
-  probability_shown t ts ty h x =
-      let parts = both (is_module_here at.bound (out-Mexp p.module)) (is_name_text p.name) h in
-      let m = named at.bound p.module parts.0 in
-      let path = module_name at.bound m.name in
+  pub probability_shown : (t : Term) (ts : List Term) (ty : Ty) → IsWrittenProcedure at.bound p → AllShown stage at (term.Pr p s) (t ∷ ts) → Result stage at known first (term.Pr p s) (t ∷ ts) ty
+  probability_shown t ts ty w x =
+      let m = procedure_written stage at.bound p w in
       let c = call_shown t ts x in
       let nodes_of = tree.arguments (term.Pr p s) first 0 (tree.all_shown (t ∷ ts)) known at in
       let front = λ (before : Text). text.arguments (term.Pr p s) first 0 (text.all_shown (t ∷ ts)) known at (word (codes "(") (print.procedure at.bound p (word (codes "Pr[") before))) in
-      let called : nodes.tree head.Call ((nodes.word_nodes path ++ nodes.word p.name ∷ []) ++ nodes.list (form_trees c.parts) ∷ []) ≡ type_tree.call_tree p (heads.but_last nodes_of) at.bound =
-      ap (λ l. nodes.tree head.Call l) (append_assoc (nodes.word_nodes path) (nodes.word p.name ∷ []) (nodes.list (form_trees c.parts) ∷ []))
-      ∙ sym (ap (λ l. type_tree.call_at at.bound p.name (form_trees c.parts) l) m.is)
-      ∙ ap (λ l. type_tree.call_tree p l at.bound) (sym (ap heads.but_last c.trees ∙ but_last_of (form_trees c.parts) c.node_of)) in
+      let called : type_tree.call_tree p (form_trees c.parts) at.bound ≡ type_tree.call_tree p (heads.but_last nodes_of) at.bound =
+      ap (λ l. type_tree.call_tree p l at.bound) (sym (ap heads.but_last c.trees ∙ but_last_of (form_trees c.parts) c.node_of)) in
       let event : heads.last nodes_of ≡ c.node_of ∷ [] = ap heads.last c.trees ∙ last_of (form_trees c.parts) c.node_of in
-      let whole : nodes.tree head.Probability (nodes.tree head.Call ((nodes.word_nodes path ++ nodes.word p.name ∷ []) ++ nodes.list (form_trees c.parts) ∷ []) ∷ nodes.word n.name ∷ c.node_of ∷ [])
+      let whole : nodes.tree head.Probability (type_tree.call_tree p (form_trees c.parts) at.bound ∷ nodes.word n.name ∷ c.node_of ∷ [])
       ≡ nodes.tree head.Probability (type_tree.call_tree p (heads.but_last nodes_of) at.bound ∷ heads.memory at s ∷ heads.last nodes_of) =
       ap (λ y. nodes.tree head.Probability (y ∷ nodes.word n.name ∷ c.node_of ∷ [])) called
       ∙ ap₂ (λ y l. nodes.tree head.Probability (type_tree.call_tree p (heads.but_last nodes_of) at.bound ∷ y ∷ l)) (sym n.node_is) (sym event) in
       as_one (subst (λ y. ShowsOperand stage (λ before. word (codes "]") (front before)) y) whole
       (record {
-        text = λ mid. codes "Pr[" ++ (path ++ (46 ∷ (p.name ++ (40 ∷ arguments_text c.parts (event_text n.name c.event (93 ∷ mid))))));
+        text = λ mid. codes "Pr[" ++ m.text (40 ∷ arguments_text c.parts (event_text n.name c.event (93 ∷ mid)));
         bar = false;
-        writes = both_written (literal (codes "Pr[")) (both_written (procedure_written at.bound p m) (both_written (literal (codes "(")) (both_written c.writes (literal (codes "]")))));
+        writes = both_written (literal (codes "Pr[")) (both_written m.writes (both_written (literal (codes "(")) (both_written c.writes (literal (codes "]")))));
         ends = λ before. ends_literal (codes "]") refl refl (front before);
-        operand = probability path p.name c.parts n.name m.path parts.1 n.is_name c.form;
+        operand = probability n.name n.is_name (m.call c.parts) c.form;
       }))

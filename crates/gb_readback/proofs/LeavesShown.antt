@@ -5,21 +5,22 @@ use Rattle.std.specs.Char.{is_ascii_digit}
 use Rattle.std.specs.Fmt.{decimal}
 use Rattle.std.proofs.Common.{refl, ap, ap₂, sym, ◌∙◌, subst, arith}
 use Rattle.std.proofs.lemmas.Bool.Decides.{nat_tests}
-use Rattle.gb_core.specs.declared.ty.Ty.{Ty, out-Ty}
+use Rattle.gb_core.specs.declared.ty.Ty.{Ty}
 use Rattle.gb_core.specs.declared.ty.Ty.TheOpen as ty_layer
-use Rattle.gb_core.specs.declared.value.Value.{Value}
-use Rattle.gb_core.specs.declared.value.Value.TheOpen as value_layer
 use Rattle.gb_core.specs.declared.var.Var.{Var}
 use Rattle.gb_core.specs.declared.var.Var.TheVariants.{Global, Local, Glob}
 use Rattle.gb_lex.specs.Byte.{is_word_start, is_word_byte}
 use Rattle.gb_limits.specs.Kinds.{kind_of}
+use Rattle.gb_limits.specs.LeftOut.{is_word_of}
 use Rattle.gb_limits.specs.Lexeme.{spells}
 use Rattle.gb_grammar.specs.declared.table.Symbol.TheVariants.{Part}
 use Rattle.gb_goal.specs.Answers.{nowhere}
 use Rattle.gb_script.specs.declared.head.Head.TheVariants as head
 use Rattle.gb_script.specs.declared.terminal.Terminal.TheVariants as terminal
 use Rattle.gb_script.specs.declared.tree.Node.{Node}
-use Rattle.gb_script.specs.declared.value.Value.TheVariants.{Tree}
+use Rattle.gb_script.specs.declared.value.Value.TheVariants.{Tree, Trees}
+use Rattle.gb_script.specs.Value.{trees_of}
+use Rattle.gb_script.proofs.Stacks.{append_nil}
 use Rattle.gb_script.specs.Tree.{node}
 use Rattle.gb_terms.specs.declared.op.Read.{Read}
 use Rattle.gb_terms.specs.declared.op.Read.TheVariants.{Logical, Program}
@@ -33,17 +34,20 @@ use Rattle.gb_print.specs.Layout as print_layout
 use Rattle.gb_readback.specs.Nodes as nodes
 use Rattle.gb_readback.specs.Types as type_tree
 use Rattle.gb_readback.specs.Heads as tree
-use Rattle.gb_readback.specs.Written.{in_range, is_path, is_name_text, is_path_there, is_name_there, is_numeral_here, is_literal_here, is_side_here, is_variable_here, is_read_here, is_word}
-use Rattle.gb_readback.proofs.Tokens.{both, is_digits, next_number, glob_word, close_round, open_round, begins_form}
-use Rattle.gb_readback.proofs.Levels.{Spelt, end, tok, named, row, row_before, followed}
+use Rattle.gb_readback.specs.Written.{in_range, is_path, is_name_text, is_path_there, is_name_there, is_numeral_here, is_side_here, is_variable_here, is_read_here, is_word}
+use Rattle.gb_readback.proofs.Fine.{is_fine}
+use Rattle.gb_readback.proofs.Tokens.{Next, both, is_digits, next_number, begins_form}
+use Rattle.gb_readback.proofs.Symbols.{glob_word, close_round, close_brace, open_round}
+use Rattle.gb_readback.proofs.Levels.{Spelt, no_bracket, end, tok, named, row, followed, no_words}
 use Rattle.gb_readback.proofs.Attaching.{plain_node}
-use Rattle.gb_readback.proofs.Operands.{IsOperand, summand_of, of_atom, round}
-use Rattle.gb_readback.proofs.NameWords.{number_reads, decimal_digits, name_reads, path_reads, path_start, start_begins, member_reads, plain_member}
+use Rattle.gb_readback.proofs.Operands.{IsOperand, summand_of, of_atom, grown_node, round}
+use Rattle.gb_readback.proofs.NameWords.{range_is, decimal_reads, decimal_digits, name_reads, path_start, start_begins, member_reads, plain_member}
 use Rattle.gb_readback.proofs.TypeWords.{no_digit}
-use Rattle.gb_readback.proofs.Atoms.{path_operand, sided}
+use Rattle.gb_readback.proofs.Atoms.{path_operand, IsSide, sided}
+use Rattle.gb_readback.proofs.ModuleWords.{ModulePart, named_module}
 use Rattle.gb_readback.proofs.Operators.{negative_form}
 use Rattle.gb_readback.proofs.Productions as p
-use Rattle.gb_readback.proofs.Pieces.{literal, both_written, ends_behind, ends_literal, Shows, ShowsOperand, name_ends, name_some, path_some, path_ends, range_is, number_some, number_ends}
+use Rattle.gb_readback.proofs.Pieces.{literal, both_written, ends_behind, ends_literal, Shows, ShowsOperand, name_ends, name_some, path_some, path_ends, number_some, number_ends}
 
 digit_begins : (b : ℕ) → is_ascii_digit b ≡ true → begins_form b ≡ true
 digit_begins b h = grind (arith, nat_tests)
@@ -72,12 +76,20 @@ all_bytes (b ∷ x) h = let parts = both (is_word_start b) (list_all is_word_byt
 pub path_of_name : (x : Text) → is_name_text x ≡ true → nodes.path x ≡ nodes.word x
 path_of_name x h = ap (λ ws. nodes.of_words (map nodes.word ws)) (one_word x (all_bytes x (both (is_word x) _ h).0))
 
+one_next : (mid : Text) → Next (codes "1" ++ (125 ∷ mid)) 6 (codes "1") (125 ∷ mid)
+unfolding spells kind_of is_fine is_word_of
+one_next mid = next_number (codes "1") (125 ∷ mid) terminal.One 6 refl refl refl refl
+
+two_next : (mid : Text) → Next (codes "2" ++ (125 ∷ mid)) 7 (codes "2") (125 ∷ mid)
+unfolding spells kind_of is_fine is_word_of
+two_next mid = next_number (codes "2") (125 ∷ mid) terminal.Two 7 refl refl refl refl
+
 module _ {stage : ℕ} where
   pub number_operand : (n : ℕ) → in_range n ≡ true → IsOperand stage (λ mid. decimal n ++ mid) false (nodes.number n)
   number_operand n h =
       let digits = decimal_digits n (range_is n h) in
       of_atom (λ mid. let s = digit_start (decimal n) digits in record { byte = s.0; more = s.1 ++ mid; is = ap (λ l. l ++ mid) s.2; begins = s.3 }) (plain_node head.Number (decimal n) [] refl refl)
-      (λ mid f. row p.atom_number (p.is_atom_number stage) refl refl refl (number_reads (decimal n) mid digits (no_digit mid f.word)) end)
+      (λ mid f. row p.atom_number (p.is_atom_number stage) refl refl refl (decimal_reads n mid h (no_digit mid f.word)) end)
 
   abbrev pub number_shown : (n : ℕ) → in_range n ≡ true → ShowsOperand stage (number n) (nodes.number n)
   number_shown n h = record {
@@ -102,12 +114,12 @@ module _ {stage : ℕ} where
   perhaps_shown None h = absurd cc
 
   truth_by : (b : Bool) → ShowsOperand stage (word (if b then codes "false" else codes "true")) (nodes.word (if b then codes "false" else codes "true"))
-  unfolding spells
+  unfolding spells is_word_of
   truth_by true = path_shown (codes "false") refl
   truth_by false = path_shown (codes "true") refl
 
   pub numeral_shown : (es : List Enumeration) (k : ty_layer.Ty-F Ty) (n : ℕ) → is_numeral_here es k n ≡ true → ShowsOperand stage (print_layout.numeral_layer es k n) (tree.numeral_layer es k n)
-  unfolding spells
+  unfolding spells is_word_of
   numeral_shown es ty_layer.Unit n h = path_shown (codes "tt") refl
   numeral_shown es ty_layer.Bool n h = truth_by (n == 0)
   numeral_shown es (ty_layer.Enumeration x size) n h = perhaps_shown (slice_get (print.constants es x) n) h
@@ -121,11 +133,6 @@ module _ {stage : ℕ} where
   numeral_shown es (ty_layer.Distr t) n h = number_shown n h
   numeral_shown es ty_layer.Int n h = number_shown n h
   numeral_shown es ty_layer.Real n h = number_shown n h
-
-  pub literal_shown : (es : List Enumeration) (t : Ty) (v : Value) (l : value_layer.Value-F Value) → is_literal_here es t l ≡ true
-      → ShowsOperand stage (print_layout.literal_layer es t v l) (tree.literal_layer es t v l)
-  literal_shown es t v (value_layer.Num n) h = numeral_shown es (out-Ty t) n h
-  literal_shown es t v (value_layer.Many vs) h = absurd cc
 
   pub natural_shown : (n : ℕ) → in_range n ≡ true → ShowsOperand stage (word (decimal n)) (nodes.number n)
   natural_shown n h = number_shown n h
@@ -150,15 +157,12 @@ module _ {stage : ℕ} where
       of_atom (λ mid. let s = path_start m h in record { byte = s.0; more = s.1 ++ (46 ∷ (x ++ mid)); is = ap (λ l. l ++ (46 ∷ (x ++ mid))) s.2; begins = start_begins s.0 s.3 }) (plain_member m x)
       (λ mid f. row p.atom_path (p.is_atom_path stage) refl refl refl (member_reads m x mid h k f.word) end)
 
-  pub glob_operand : (m : Text) → is_path m ≡ true → IsOperand stage (λ mid. codes "(glob " ++ (m ++ (41 ∷ mid))) false (nodes.tree head.Glob (nodes.tree head.ModuleExpression (nodes.path m ∷ []) ∷ []))
-  glob_operand m h =
-      of_atom (λ mid. record { byte = 40; more = codes "glob " ++ (m ++ (41 ∷ mid)); is = refl; begins = refl }) (plain_node head.Glob [] (nodes.tree head.ModuleExpression (nodes.path m ∷ []) ∷ []) refl refl)
-      (λ mid f. round head.Glob (nodes.tree head.ModuleExpression (nodes.path m ∷ []) ∷ []) (open_round 103 (codes "lob " ++ (m ++ (41 ∷ mid))) refl)
-      (row p.bracket_glob (p.is_bracket_glob stage) refl refl refl
-      (tok (glob_word (m ++ (41 ∷ mid)))
-      (followed (row p.module_path (p.is_module_path stage) refl refl refl
-      (followed (path_reads m (41 ∷ mid) h refl) (row_before p.module_tail_none (p.is_module_tail_none stage) (close_round mid) refl refl refl refl end end)) end)
-      (tok (close_round mid) end))) end))
+  pub glob_operand : (m : ModulePart stage) → IsOperand stage (λ mid. codes "(glob " ++ m.text (41 ∷ mid)) false (nodes.tree head.Glob (m.tree ∷ []))
+  glob_operand m =
+      of_atom (λ mid. record { byte = 40; more = codes "glob " ++ m.text (41 ∷ mid); is = refl; begins = refl }) (plain_node head.Glob [] (m.tree ∷ []) refl refl)
+      (λ mid f. round head.Glob (m.tree ∷ []) (open_round 103 (codes "lob " ++ m.text (41 ∷ mid)) refl)
+      (row p.bracketed_glob (p.is_bracketed_glob stage) refl refl refl
+      (tok (glob_word (m.text (41 ∷ mid))) (followed (m.expression (41 ∷ mid) refl (no_bracket (close_round mid) refl)) (tok (close_round mid) end))) end))
 
   variable_shown : (bound : List Known) (x : Var) → is_variable_here bound x ≡ true → ShowsOperand stage (print.variable bound x) (nodes.of_words (type_tree.variable_words bound x))
   variable_shown bound (Global m x) h =
@@ -179,11 +183,11 @@ module _ {stage : ℕ} where
         bar = false;
         writes = both_written (both_written (literal (codes "(glob ")) (literal n)) (literal (codes ")"));
         ends = λ before. ends_literal (codes ")") refl refl ((before ++ codes "(glob ") ++ n);
-        operand = glob_operand n h;
+        operand = glob_operand (named_module n h);
       }
 
   -- a memory behind a variable
-  beside_name : {w : Writing} {x : Node} (m : Text) (t : Node) → ((mid : Text) → Spelt stage (Part 146 ∷ []) (m ++ (125 ∷ mid)) (125 ∷ mid) (Tree t ∷ [])) → ShowsOperand stage w x
+  beside_name : {w : Writing} {x : Node} (m : Text) (t : Node) → IsSide stage m t → ShowsOperand stage w x
       → ShowsOperand stage (w ▸ (word (codes "{") ▸ word m ▸ word (codes "}"))) (nodes.tree head.Sided (x ∷ t ∷ []))
   beside_name {w = w} m t reads s = record {
     text = λ mid. s.text (123 ∷ (m ++ (125 ∷ mid)));
@@ -193,24 +197,39 @@ module _ {stage : ℕ} where
     operand = sided m t s.operand reads;
   }
 
-  named_side : (x mid : Text) → is_name_text x ≡ true → Spelt stage (Part 146 ∷ []) (x ++ (125 ∷ mid)) (125 ∷ mid) (Tree (nodes.word x) ∷ [])
-  named_side x mid h = row p.side_name (p.is_side_name stage) refl refl refl (name_reads x (125 ∷ mid) h refl) end
+  named_side : (x : Text) → is_name_text x ≡ true → IsSide stage x (nodes.word x)
+  named_side x h = record {
+    side = λ mid. row p.side_name (p.is_side_name stage) refl refl refl (name_reads x (125 ∷ mid) h refl) end;
+    variant = λ mid j v d. row p.variant_brace_name (p.is_variant_brace_name stage) refl refl (ap (λ z. Trees (z ∷ trees_of v) ∷ []) (grown_node (Tree (nodes.word x) ∷ []) head.Sided [] [] nowhere))
+        (followed (name_reads x (125 ∷ mid) h refl)
+        (row p.variant_name_close_brace (p.is_variant_name_close_brace stage) refl refl (ap (λ l. Trees (node head.Sided [] [] nowhere ∷ l) ∷ []) (append_nil (trees_of v)))
+        (followed no_words (tok (close_brace mid) d)) end)) end;
+  }
 
-  one_side : (mid : Text) → Spelt stage (Part 146 ∷ []) (codes "1" ++ (125 ∷ mid)) (125 ∷ mid) (Tree (nodes.leaf head.Number (codes "1")) ∷ [])
-  unfolding spells kind_of
-  one_side mid =
-      let n = next_number (codes "1") (125 ∷ mid) terminal.One 6 refl refl refl refl in
-      row p.side_one (p.is_side_one stage) refl refl (ap (λ t. Tree (node head.Number t [] nowhere) ∷ []) (named n)) (tok n end) end
+  -- the number of a side
+  number_side : (w : Text) → ((mid : Text) → Spelt stage (Part 146 ∷ []) (w ++ (125 ∷ mid)) (125 ∷ mid) (Tree (nodes.leaf head.Number w) ∷ []))
+      → ((mid : Text) → Spelt stage (Part 179 ∷ []) (w ++ (125 ∷ mid)) (125 ∷ mid) (Tree (nodes.leaf head.Number w) ∷ [])) → IsSide stage w (nodes.leaf head.Number w)
+  number_side w reads alone = record {
+    side = reads;
+    variant = λ mid j v d. row p.variant_brace_number_suffix (p.is_variant_brace_number_suffix stage) refl refl (ap (λ l. Trees (node head.Sided [] (nodes.leaf head.Number w ∷ []) nowhere ∷ l) ∷ []) (append_nil (trees_of v)))
+        (followed (row p.number_suffix_side_number (p.is_number_suffix_side_number stage) refl refl (ap (λ z. Tree z ∷ []) (grown_node (Tree (nodes.leaf head.Number w) ∷ []) head.Sided [] [] nowhere))
+        (followed (alone mid) (row p.side_behind_none (p.is_side_behind_none stage) refl refl refl end end)) end)
+        (tok (close_brace mid) d)) end;
+  }
 
-  two_side : (mid : Text) → Spelt stage (Part 146 ∷ []) (codes "2" ++ (125 ∷ mid)) (125 ∷ mid) (Tree (nodes.leaf head.Number (codes "2")) ∷ [])
-  unfolding spells kind_of
-  two_side mid =
-      let n = next_number (codes "2") (125 ∷ mid) terminal.Two 7 refl refl refl refl in
-      row p.side_two (p.is_side_two stage) refl refl (ap (λ t. Tree (node head.Number t [] nowhere) ∷ []) (named n)) (tok n end) end
+  one_side : IsSide stage (codes "1") (nodes.leaf head.Number (codes "1"))
+  one_side = number_side (codes "1")
+      (λ mid. let n = one_next mid in row p.side_one (p.is_side_one stage) refl refl (ap (λ t. Tree (node head.Number t [] nowhere) ∷ []) (named n)) (tok n end) end)
+      (λ mid. let n = one_next mid in row p.side_number_one (p.is_side_number_one stage) refl refl (ap (λ t. Tree (node head.Number t [] nowhere) ∷ []) (named n)) (tok n end) end)
+
+  two_side : IsSide stage (codes "2") (nodes.leaf head.Number (codes "2"))
+  two_side = number_side (codes "2")
+      (λ mid. let n = two_next mid in row p.side_two (p.is_side_two stage) refl refl (ap (λ t. Tree (node head.Number t [] nowhere) ∷ []) (named n)) (tok n end) end)
+      (λ mid. let n = two_next mid in row p.side_number_two (p.is_side_number_two stage) refl refl (ap (λ t. Tree (node head.Number t [] nowhere) ∷ []) (named n)) (tok n end) end)
 
   there_by : {w : Writing} {x : Node} (o : Option print.Name) → is_name_there o ≡ true → ShowsOperand stage w x → ShowsOperand stage (w ▸ (word (codes "{") ▸ print.perhaps o ▸ word (codes "}"))) (nodes.tree head.Sided (x ∷ tree.perhaps o ∷ []))
   there_by {w = w} {x = x} (Some y) h s =
-      subst (λ t. ShowsOperand stage (w ▸ (word (codes "{") ▸ word y ▸ word (codes "}"))) (nodes.tree head.Sided (x ∷ t ∷ []))) (sym (path_of_name y h)) (beside_name y (nodes.word y) (λ mid. named_side y mid h) s)
+      subst (λ t. ShowsOperand stage (w ▸ (word (codes "{") ▸ word y ▸ word (codes "}"))) (nodes.tree head.Sided (x ∷ t ∷ []))) (sym (path_of_name y h)) (beside_name y (nodes.word y) (named_side y h) s)
   there_by None h s = absurd cc
 
   pub beside_shown : {w : Writing} {x : Node} (at : print.Place) (s : Side) → is_side_here at s ≡ true → ShowsOperand stage w x → ShowsOperand stage (w ▸ print.beside at s) (tree.beside at s x)

@@ -18,6 +18,7 @@ use Rattle.gb_script.specs.Value.{trees_of}
 use Rattle.gb_script.proofs.Stacks.{append_nil}
 use Rattle.std.proofs.lemmas.Bool.{eqb-true}
 use Rattle.gb_readback.proofs.Cut.{Cut, cut_none, cut_more, cut_space}
+use Rattle.gb_readback.proofs.Fine.{is_fine}
 use Rattle.gb_readback.proofs.Reading.{is_fair, lexeme_kinds, first_name, ruled, Reads, done, token, part}
 use Rattle.gb_readback.proofs.Sound.{always_allowed}
 use Rattle.gb_readback.proofs.Lexed.{lexed, ahead}
@@ -41,6 +42,10 @@ pub record Fits (bar : Bool) (mid : List ℕ) : Type 0 where
   pub word : ahead is_word_byte mid ≡ false
   pub bars : bar ≡ true → ahead (λ b. nat_eq 124 b) mid ≡ false
 
+-- No bracket stands here, which would hold the arguments of a module in front of it.
+abbrev pub NoBracket : List ℕ → Type 0
+NoBracket mid = Allowed p.module_tail_none (lexeme_kinds (lexed mid))
+
 -- A production may stand before any token.
 abbrev pub is_free : Production Rule → Bool
 is_free r = nat_eq r.stops 0 && is_fair r.rule.action r.body
@@ -52,6 +57,10 @@ pub record Spelt (stage : ℕ) (ss : List Symbol) (i j : List ℕ) (vs : List Va
 
 pub named : {i mid n : List ℕ} {k : ℕ} → Next i k n mid → first_name (lexed i) ≡ n
 named n = ap first_name n.first
+
+-- another token is no bracket
+pub no_bracket : {i mid n : List ℕ} {k : ℕ} → Next i k n mid → has p.module_tail_none.stops k ≡ false → NoBracket i
+no_bracket n h = subst (λ ks. Allowed p.module_tail_none ks) (sym (ap lexeme_kinds n.first)) (ap (λ k. has p.module_tail_none.stops k) n.kind ∙ h)
 
 more_behind : (us bs vs : List Value) → us ++ [] ≡ bs → us ++ vs ≡ bs ++ vs
 more_behind us bs vs e = ap (λ l. l ++ vs) (sym (append_nil us) ∙ e)
@@ -66,7 +75,7 @@ module _ {stage : ℕ} where
 
   -- a token
   pub tok : {i mid j n : List ℕ} {k : ℕ} {ss : List Symbol} {vs : List Value} → Next i k n mid → Spelt stage ss mid j vs → Spelt stage (Token k ∷ ss) i j vs
-  tok {j = j} {k = k} {ss = ss} {vs = vs} n d = record { reads = subst (λ ls. Reads (p.grammar stage) (Token k ∷ ss) ls (lexed j) vs) (sym n.first) (token n.kind d.reads); cut = cut_more n.cut d.cut }
+  tok {j = j} {n = bytes} {k = k} {ss = ss} {vs = vs} n d = record { reads = subst (λ ls. Reads (p.grammar stage) (Token k ∷ ss) ls (lexed j) vs) (sym n.first) (token n.kind (ap (λ m. is_fine m bytes) n.kind ∙ n.fine) d.reads); cut = cut_more n.cut d.cut }
 
   -- a space in front
   pub skip : {i j : List ℕ} {ss : List Symbol} {vs : List Value} → Spelt stage ss i j vs → Spelt stage ss (32 ∷ i) j vs
@@ -84,6 +93,11 @@ module _ {stage : ℕ} where
       → nat_le r.rule.takes (length us) ≡ true → ruled r.rule (first_name (lexed i)) us ++ vs ≡ ws → Spelt stage r.body i mid us → Spelt stage ss mid j vs → Spelt stage (Part n ∷ ss) i j ws
   row_before {i = i} r is n h fair e made b d = record { reads = part r is (subst (λ ks. Allowed r ks) (sym (ap lexeme_kinds n.first)) (ap (λ k. has r.stops k) n.kind ∙ h)) fair e made b.reads d.reads; cut = cut_more b.cut d.cut }
 
+  -- the same before all that follows
+  pub row_allowed : {n : ℕ} {ss : List Symbol} {i mid j : List ℕ} {us vs ws : List Value} (r : Production Rule) → IsProduction (p.grammar stage) n r → Allowed r (lexeme_kinds (lexed i)) → is_fair r.rule.action r.body ≡ true
+      → nat_le r.rule.takes (length us) ≡ true → ruled r.rule (first_name (lexed i)) us ++ vs ≡ ws → Spelt stage r.body i mid us → Spelt stage ss mid j vs → Spelt stage (Part n ∷ ss) i j ws
+  row_allowed r is al fair e made b d = record { reads = part r is al fair e made b.reads d.reads; cut = cut_more b.cut d.cut }
+
   -- a part, and what stands behind it
   pub followed : {n : ℕ} {ss : List Symbol} {i mid j : List ℕ} {us vs : List Value} → Spelt stage (Part n ∷ []) i mid us → Spelt stage ss mid j vs → Spelt stage (Part n ∷ ss) i j (us ++ vs)
   followed b d = record { reads = reads_followed b.reads d.reads; cut = cut_more b.cut d.cut }
@@ -91,7 +105,7 @@ module _ {stage : ℕ} where
   -- Empty parts.
 
   pub no_words : {i : List ℕ} → Spelt stage (Part 1 ∷ []) i i (Trees [] ∷ [])
-  no_words = row p.nothing_none (p.is_nothing_none stage) refl refl refl end end
+  no_words = row p.none_none (p.is_none_none stage) refl refl refl end end
 
   pub level : {ss : List Symbol} {i j : List ℕ} {vs : List Value} → Spelt stage ss i j vs → Spelt stage (Part 249 ∷ ss) i j vs
   level d = row p.level_none (p.is_level_none stage) refl refl refl end d
@@ -106,16 +120,16 @@ module _ {stage : ℕ} where
   no_compared = row p.compared_none (p.is_compared_none stage) refl refl refl end end
 
   no_and : {i : List ℕ} → Spelt stage (Part 130 ∷ []) i i (Trees [] ∷ [])
-  no_and = row p.and_more_none (p.is_and_more_none stage) refl refl refl end end
+  no_and = row p.more_negations_none (p.is_more_negations_none stage) refl refl refl end end
 
   no_or : {i : List ℕ} → Spelt stage (Part 128 ∷ []) i i (Trees [] ∷ [])
-  no_or = row p.or_more_none (p.is_or_more_none stage) refl refl refl end end
+  no_or = row p.more_conjunctions_none (p.is_more_conjunctions_none stage) refl refl refl end end
 
   no_condition : {i : List ℕ} → Spelt stage (Part 123 ∷ []) i i (Trees [] ∷ [])
-  no_condition = row p.condition_more_none (p.is_condition_more_none stage) refl refl refl end end
+  no_condition = row p.tail_none (p.is_tail_none stage) refl refl refl end end
 
   no_equivalent : {i : List ℕ} → Spelt stage (Part 125 ∷ []) i i (Trees [] ∷ [])
-  no_equivalent = row p.equivalent_more_none (p.is_equivalent_more_none stage) refl refl refl end end
+  no_equivalent = row p.last_tail_none (p.is_last_tail_none stage) refl refl refl end end
 
   -- From sums to forms.
 
@@ -172,7 +186,7 @@ module _ {stage : ℕ} where
     differs {n} = compared_by p.compared_different 103 n (p.is_compared_different stage) refl refl refl (λ m y. refl)
 
     pub less : {n : List ℕ} → Spelt stage (Part 133 ∷ []) i mid (Tree a ∷ []) → Next mid 104 n next → Spelt stage (Part 133 ∷ []) next j (Tree b ∷ []) → Spelt stage (Part 131 ∷ []) i j (Tree (node head.Compared n (a ∷ b ∷ []) nowhere) ∷ [])
-    less {n} = compared_by p.compared_less 104 n (p.is_compared_less stage) refl refl refl (λ m y. refl)
+    less {n} = compared_by p.compared_comparator 104 n (p.is_compared_comparator stage) refl refl refl (λ m y. refl)
 
     pub at_most : {n : List ℕ} → Spelt stage (Part 133 ∷ []) i mid (Tree a ∷ []) → Next mid 105 n next → Spelt stage (Part 133 ∷ []) next j (Tree b ∷ []) → Spelt stage (Part 131 ∷ []) i j (Tree (node head.Compared n (a ∷ b ∷ []) nowhere) ∷ [])
     at_most {n} = compared_by p.compared_less_equal 105 n (p.is_compared_less_equal stage) refl refl refl (λ m y. refl)
@@ -180,28 +194,28 @@ module _ {stage : ℕ} where
     pub conjoined : {n : List ℕ} → Spelt stage (Part 131 ∷ []) i mid (Tree a ∷ []) → Next mid 116 n next → Spelt stage (Part 131 ∷ []) next j (Tree b ∷ []) → Spelt stage (Part 129 ∷ []) i j (Tree (node head.And [] (a ∷ b ∷ []) nowhere) ∷ [])
     conjoined x w y =
         row p.conjunction_negation (p.is_conjunction_negation stage) refl refl (ap (λ z. Tree z ∷ []) (behind_plain a plain head.And [] (b ∷ []) refl))
-        (followed x (row p.and_more_and (p.is_and_more_and stage) refl refl refl (tok w (followed y no_and)) end)) end
+        (followed x (row p.more_negations_and (p.is_more_negations_and stage) refl refl refl (tok w (followed y no_and)) end)) end
 
     pub disjoined : {n : List ℕ} → Spelt stage (Part 129 ∷ []) i mid (Tree a ∷ []) → Next mid 117 n next → Spelt stage (Part 129 ∷ []) next j (Tree b ∷ []) → Spelt stage (Part 127 ∷ []) i j (Tree (node head.Or [] (a ∷ b ∷ []) nowhere) ∷ [])
     disjoined x w y =
         row p.disjunction_conjunction (p.is_disjunction_conjunction stage) refl refl (ap (λ z. Tree z ∷ []) (behind_plain a plain head.Or [] (b ∷ []) refl))
-        (followed x (row p.or_more_or (p.is_or_more_or stage) refl refl refl (tok w (followed y no_or)) end)) end
+        (followed x (row p.more_conjunctions_or (p.is_more_conjunctions_or stage) refl refl refl (tok w (followed y no_or)) end)) end
 
     pub implied : {n : List ℕ} → Spelt stage (Part 127 ∷ []) i mid (Tree a ∷ []) → Next mid 118 n next → Spelt stage (Part 127 ∷ []) next j (Tree b ∷ []) → Spelt stage (Part 122 ∷ []) i j (Tree (node head.Implies [] (a ∷ b ∷ []) nowhere) ∷ [])
     implied x w y =
         row p.condition_disjunction (p.is_condition_disjunction stage) refl refl (ap (λ z. Tree z ∷ []) (behind_plain a plain head.Implies [] (b ∷ []) refl))
-        (followed x (row p.condition_more_arrow (p.is_condition_more_arrow stage) refl refl refl (tok w (row p.implied_disjunction (p.is_implied_disjunction stage) refl refl refl (followed y no_condition) end)) end)) end
+        (followed x (row p.tail_arrow (p.is_tail_arrow stage) refl refl refl (tok w (row p.conclusion_disjunction (p.is_conclusion_disjunction stage) refl refl refl (followed y no_condition) end)) end)) end
 
     pub equivalent : {n : List ℕ} → Spelt stage (Part 127 ∷ []) i mid (Tree a ∷ []) → Next mid 119 n next → Spelt stage (Part 127 ∷ []) next j (Tree b ∷ []) → Spelt stage (Part 122 ∷ []) i j (Tree (node head.Iff [] (a ∷ b ∷ []) nowhere) ∷ [])
     equivalent x w y =
         row p.condition_disjunction (p.is_condition_disjunction stage) refl refl (ap (λ z. Tree z ∷ []) (behind_plain a plain head.Iff [] (b ∷ []) refl))
-        (followed x (row p.condition_more_double_arrow (p.is_condition_more_double_arrow stage) refl refl refl (tok w (followed y no_equivalent)) end)) end
+        (followed x (row p.tail_double_arrow (p.is_tail_double_arrow stage) refl refl refl (tok w (followed y no_equivalent)) end)) end
 
   pub chosen : {i mid next after last j m n : List ℕ} {a b c : Node} → Plain c → Spelt stage (Part 127 ∷ []) i mid (Tree c ∷ []) → Next mid 96 m next → Spelt stage (Part 122 ∷ []) next after (Tree a ∷ [])
       → Next after 93 n last → Spelt stage (Part 122 ∷ []) last j (Tree b ∷ []) → Spelt stage (Part 122 ∷ []) i j (Tree (node head.Chosen [] (c ∷ a ∷ b ∷ []) nowhere) ∷ [])
   chosen {a = a} {b = b} {c = c} plain x v y w z =
       row p.condition_disjunction (p.is_condition_disjunction stage) refl refl (ap (λ t. Tree t ∷ []) (behind_plain c plain head.Chosen [] (a ∷ b ∷ []) refl))
-      (followed x (row p.condition_more_question (p.is_condition_more_question stage) refl refl refl (level (tok v (followed y (tok w (followed z level_end))))) end)) end
+      (followed x (row p.tail_question (p.is_tail_question stage) refl refl refl (level (tok v (followed y (tok w (followed z level_end))))) end)) end
 
   pub negated : {i mid j n : List ℕ} {x : Node} → Next i 95 n mid → Spelt stage (Part 131 ∷ []) mid j (Tree x ∷ []) → Spelt stage (Part 131 ∷ []) i j (Tree (node head.Not [] (x ∷ []) nowhere) ∷ [])
   negated w d = row p.negation_exclamation (p.is_negation_exclamation stage) refl refl refl (level (tok w (followed d level_end))) end

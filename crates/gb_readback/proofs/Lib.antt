@@ -5,6 +5,7 @@ pub mod Sound
 pub mod Productions
 pub mod Lexed
 pub mod Tokens
+pub mod Symbols
 pub mod Attaching
 pub mod Levels
 pub mod Operands
@@ -32,3 +33,16 @@ pub mod ProceduresShown
 pub mod JudgmentsShown
 pub mod StatementsRead
 pub mod ProgramsShown
+pub mod BoundsRead
+pub mod ModulesShown
+pub mod FunctorsRead
+pub mod LoopsRead
+pub mod CallsShown
+pub mod NamesMade
+pub mod ModuleWords
+pub mod ExpressionsShown
+pub mod Faultless
+pub mod Fine
+pub mod Kept
+pub mod LiteralsShown
+pub mod WordsInFront

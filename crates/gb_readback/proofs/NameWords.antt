@@ -1,11 +1,13 @@
 -- Names, numbers and paths.
-use Rattle.std.specs.Prelude.{ℕ, ◌≡◌, ◌+◌, ◌<◌, ◌%◌, ◌^◌, ◌==◌, Bool, true, false, ◌&&◌, if◌then◌else◌, nat_eq, List, [], ◌∷◌, ◌++◌, length, take, map, codes, Option, Some, unwrap_or}
+use Rattle.std.specs.Prelude.{ℕ, ◌≡◌, ◌+◌, ◌-◌, ◌*◌, ◌<◌, ◌%◌, ◌^◌, ◌==◌, Bool, true, false, not, ◌&&◌, ◌||◌, if◌then◌else◌, nat_eq, nat_lt, List, [], ◌∷◌, ◌++◌, length, take, map, codes, Option, Some, unwrap_or}
 use Rattle.std.specs.List.{list_all}
 use Rattle.std.specs.Cmp.Lexicographic.{pointwise}
 use Rattle.std.specs.Char.{is_ascii_digit}
+use Rattle.std.specs.Str.{bytes_eq}
 use Rattle.std.specs.Fmt.{decimal}
 use Rattle.std.proofs.Common.{refl, ap, ap₂, sym, ◌∙◌, subst, arith, append_assoc}
-use Rattle.std.proofs.lemmas.Bool.{eqb-true}
+use Rattle.std.proofs.lemmas.Bool.{eqb-true, ltb-true}
+use Rattle.std.proofs.lemmas.Slice.Eq.{bytes_eq-Decides}
 use Rattle.std.proofs.lemmas.Bool.Decides.{nat_tests}
 use Rattle.std.proofs.lemmas.Fmt.{decimal_by_steps_wide}
 use Rattle.gb_goal.specs.Answers.{nowhere}
@@ -15,9 +17,11 @@ use Rattle.gb_lex.specs.Byte.{is_word_start, is_word_byte}
 use Rattle.gb_lex.specs.declared.token.Kind.TheVariants.{Word, Number}
 use Rattle.gb_limits.specs.declared.spelling.Spelling.{Spelling}
 use Rattle.gb_limits.specs.declared.spelling.TheConstants.{SPELLINGS}
+use Rattle.gb_limits.specs.declared.left_out.TheConstants.{LEFT_OUT}
 use Rattle.gb_limits.specs.Kinds.{kind_of}
+use Rattle.gb_limits.specs.LeftOut.{is_word_of}
 use Rattle.gb_limits.specs.Lexeme.{spells, spelled_in, terminal_of}
-use Rattle.gb_limits.specs.Numbers.{is_number}
+use Rattle.gb_limits.specs.Numbers.{is_number, number_behind, number_of}
 use Rattle.gb_read_script.specs.Words.{is_name}
 use Rattle.gb_script.specs.declared.action.Action.TheVariants.{Spell}
 use Rattle.gb_script.specs.declared.action.Mark.TheVariants as mark
@@ -31,9 +35,11 @@ use Rattle.gb_script.specs.Build.{flat}
 use Rattle.gb_script.specs.Tree.{node}
 use Rattle.gb_script.proofs.Stacks.{append_nil}
 use Rattle.gb_readback.specs.Nodes.{word, words, with_byte, word_nodes, of_words, path}
-use Rattle.gb_readback.specs.Written.{is_word, is_name_text, is_path}
+use Rattle.gb_readback.specs.Written.{is_word, is_name_text, is_path, in_range}
+use Rattle.gb_readback.proofs.Fine.{implies, is_number_kind, is_fine}
 use Rattle.gb_readback.proofs.Lexed.{ahead}
-use Rattle.gb_readback.proofs.Tokens.{Next, is_digits, both, word_lexed, number_lexed, word_cut, number_cut, begins_form, path_dot}
+use Rattle.gb_readback.proofs.Tokens.{Next, is_digits, both, word_lexed, number_lexed, word_cut, number_cut, begins_form}
+use Rattle.gb_readback.proofs.Symbols.{path_dot}
 use Rattle.gb_readback.proofs.Attaching.{Plain, plain_node}
 use Rattle.gb_readback.proofs.Levels.{Spelt, end, tok, named, row, followed}
 use Rattle.gb_readback.proofs.Productions as p
@@ -51,52 +57,89 @@ unfolding kind_of
 name_row stage terminal.Name h = (p.name_name.starts, p.is_name_name stage)
 name_row stage terminal.Move h = (p.name_move.starts, p.is_name_move stage)
 name_row stage terminal.Split h = (p.name_split.starts, p.is_name_split stage)
-name_row stage terminal.Left h = (p.name_left.starts, p.is_name_left stage)
-name_row stage terminal.Right h = (p.name_left.starts, p.is_name_left stage)
-name_row stage terminal.Assumption h = (p.name_left.starts, p.is_name_left stage)
-name_row stage terminal.Trivial h = (p.name_left.starts, p.is_name_left stage)
-name_row stage terminal.Done h = (p.name_left.starts, p.is_name_left stage)
+name_row stage terminal.Left h = (p.name_plain_step.starts, p.is_name_plain_step stage)
+name_row stage terminal.Right h = (p.name_plain_step.starts, p.is_name_plain_step stage)
+name_row stage terminal.Assumption h = (p.name_plain_step.starts, p.is_name_plain_step stage)
+name_row stage terminal.Trivial h = (p.name_plain_step.starts, p.is_name_plain_step stage)
+name_row stage terminal.Done h = (p.name_plain_step.starts, p.is_name_plain_step stage)
 name_row stage terminal.Apply h = (p.name_apply.starts, p.is_name_apply stage)
 name_row stage terminal.Have h = (p.name_have.starts, p.is_name_have stage)
 name_row stage terminal.Rewrite h = (p.name_rewrite.starts, p.is_name_rewrite stage)
 name_row stage terminal.Case h = (p.name_case.starts, p.is_name_case stage)
 name_row stage terminal.Subst h = (p.name_subst.starts, p.is_name_subst stage)
 name_row stage terminal.Skip h = (p.name_skip.starts, p.is_name_skip stage)
-name_row stage terminal.Wp h = (p.name_wp.starts, p.is_name_wp stage)
-name_row stage terminal.Sim h = (p.name_wp.starts, p.is_name_wp stage)
-name_row stage terminal.Symmetry h = (p.name_wp.starts, p.is_name_wp stage)
+name_row stage terminal.Wp h = (p.name_body_step.starts, p.is_name_body_step stage)
+name_row stage terminal.Sim h = (p.name_body_step.starts, p.is_name_body_step stage)
+name_row stage terminal.Symmetry h = (p.name_body_step.starts, p.is_name_body_step stage)
 name_row stage terminal.Seq h = (p.name_seq.starts, p.is_name_seq stage)
 name_row stage terminal.Rnd h = (p.name_rnd.starts, p.is_name_rnd stage)
 name_row stage terminal.Call h = (p.name_call.starts, p.is_name_call stage)
 name_row stage terminal.Inline h = (p.name_inline.starts, p.is_name_inline stage)
 name_row stage terminal.Swap h = (p.name_swap.starts, p.is_name_swap stage)
-name_row stage terminal.RcondTrue h = (p.name_rcond_true.starts, p.is_name_rcond_true stage)
-name_row stage terminal.RcondFalse h = (p.name_rcond_true.starts, p.is_name_rcond_true stage)
-name_row stage terminal.Unroll h = (p.name_rcond_true.starts, p.is_name_rcond_true stage)
-name_row stage terminal.Kill h = (p.name_rcond_true.starts, p.is_name_rcond_true stage)
+name_row stage terminal.RcondTrue h = (p.name_position_step.starts, p.is_name_position_step stage)
+name_row stage terminal.RcondFalse h = (p.name_position_step.starts, p.is_name_position_step stage)
+name_row stage terminal.Unroll h = (p.name_position_step.starts, p.is_name_position_step stage)
+name_row stage terminal.Kill h = (p.name_position_step.starts, p.is_name_position_step stage)
 name_row stage terminal.Conseq h = (p.name_conseq.starts, p.is_name_conseq stage)
 name_row stage terminal.Transitivity h = (p.name_transitivity.starts, p.is_name_transitivity stage)
-name_row stage terminal.ByEquiv h = (p.name_by_equiv.starts, p.is_name_by_equiv stage)
-name_row stage terminal.ByPhoare h = (p.name_by_equiv.starts, p.is_name_by_equiv stage)
+name_row stage terminal.ByEquiv h = (p.name_by_step.starts, p.is_name_by_step stage)
+name_row stage terminal.ByPhoare h = (p.name_by_step.starts, p.is_name_by_step stage)
 name_row stage terminal.Fel h = (p.name_fel.starts, p.is_name_fel stage)
 name_row stage terminal.Smt h = (p.name_smt.starts, p.is_name_smt stage)
 name_row stage terminal.Linear h = (p.name_linear.starts, p.is_name_linear stage)
-name_row stage terminal.LawOfOr h = (p.name_law_of_or.starts, p.is_name_law_of_or stage)
-name_row stage terminal.LawOfNot h = (p.name_law_of_or.starts, p.is_name_law_of_or stage)
-name_row stage terminal.LawOfFalse h = (p.name_law_of_or.starts, p.is_name_law_of_or stage)
-name_row stage terminal.LawOfEqual h = (p.name_law_of_or.starts, p.is_name_law_of_or stage)
-name_row stage terminal.LawOfSubset h = (p.name_law_of_or.starts, p.is_name_law_of_or stage)
-name_row stage terminal.LawOfLeast h = (p.name_law_of_or.starts, p.is_name_law_of_or stage)
-name_row stage terminal.LawOfMost h = (p.name_law_of_or.starts, p.is_name_law_of_or stage)
+name_row stage terminal.LawOfOr h = (p.name_law.starts, p.is_name_law stage)
+name_row stage terminal.LawOfNot h = (p.name_law.starts, p.is_name_law stage)
+name_row stage terminal.LawOfFalse h = (p.name_law.starts, p.is_name_law stage)
+name_row stage terminal.LawOfEqual h = (p.name_law.starts, p.is_name_law stage)
+name_row stage terminal.LawOfSubset h = (p.name_law.starts, p.is_name_law stage)
+name_row stage terminal.LawOfLeast h = (p.name_law.starts, p.is_name_law stage)
+name_row stage terminal.LawOfMost h = (p.name_law.starts, p.is_name_law stage)
 name_row stage terminal.SplitLaw h = (p.name_split_law.starts, p.is_name_split_law stage)
 name_row stage terminal.Eager h = (p.name_eager.starts, p.is_name_eager stage)
 name_row stage _ h = absurd cc
 
+-- what a name is
+pub name_facts : (x : List ℕ) → is_name_text x ≡ true → (is_word x ≡ true) × (is_name (terminal_of Word x) ≡ true) × (not (is_word_of LEFT_OUT x) ≡ true)
+name_facts x h =
+    let word_is = both (is_word x) (is_name (terminal_of Word x) && not (is_word_of LEFT_OUT x)) h in
+    let name_is = both (is_name (terminal_of Word x)) (not (is_word_of LEFT_OUT x)) word_is.1 in
+    (word_is.0, name_is.0, name_is.1)
+
+no_number : (t : Terminal) → is_name t ≡ true → is_number_kind (kind_of t) ≡ false
+unfolding kind_of
+no_number terminal.Number h = absurd cc
+no_number terminal.Zero h = absurd cc
+no_number terminal.One h = absurd cc
+no_number terminal.Two h = absurd cc
+no_number _ h = refl
+
+-- texts that are no names
+no_text_by : (x y : List ℕ) (test : List ℕ → Bool) (t : Bool) → (t ≡ true → x ≡ y) → test x ≡ true → test y ≡ false → t ≡ false
+no_text_by x y test true same h k = let no : true ≡ false = sym h ∙ ap test (same refl) ∙ k in absurd cc
+no_text_by x y test false same h k = refl
+
+no_text : (x y : List ℕ) (test : List ℕ → Bool) → test x ≡ true → test y ≡ false → bytes_eq x y ≡ false
+no_text x y test h k = no_text_by x y test (bytes_eq x y) (bytes_eq-Decides x y).0 h k
+
+fine_name : (x : List ℕ) → is_name_text x ≡ true → is_fine (kind_of (terminal_of Word x)) x ≡ true
+unfolding is_fine spells
+fine_name x h =
+    let facts = name_facts x h in
+    let no_proc = no_text x (codes "proc") (λ y. is_name (terminal_of Word y)) facts.1 refl in
+    let no_plus = no_text x (codes "+") is_word facts.0 refl in
+    let no_brace = no_text x (codes "{") is_word facts.0 refl in
+    let no_digits = no_number (terminal_of Word x) facts.1 in
+    rw (facts.2, no_proc, no_plus, no_brace, no_digits) refl
+
+pub name_next : (x mid : List ℕ) → is_name_text x ≡ true → ahead is_word_byte mid ≡ false → Next (x ++ mid) (kind_of (terminal_of Word x)) x mid
+name_next x mid h f =
+    let facts = name_facts x h in
+    record { terminal = terminal_of Word x; first = word_lexed x mid facts.0 f; kind = refl; fine = fine_name x h; cut = word_cut x mid facts.0 f }
+
 pub name_reads : {stage : ℕ} (x mid : List ℕ) → is_name_text x ≡ true → ahead is_word_byte mid ≡ false → Spelt stage (Part 165 ∷ []) (x ++ mid) mid (Tree (word x) ∷ [])
 name_reads {stage} x mid h f =
-    let facts = both (is_word x) (is_name (terminal_of Word x)) h in
-    let next : Next (x ++ mid) (kind_of (terminal_of Word x)) x mid = record { terminal = terminal_of Word x; first = word_lexed x mid facts.0 f; kind = refl; cut = word_cut x mid facts.0 f } in
-    let r = name_row stage (terminal_of Word x) facts.1 in
+    let next = name_next x mid h f in
+    let r = name_row stage (terminal_of Word x) (name_facts x h).1 in
     row (name_production (kind_of (terminal_of Word x)) r.0) r.1 refl refl (ap (λ n. Tree (node head.Name n [] nowhere) ∷ []) (named next)) (tok next end) end
 
 -- Numbers.
@@ -119,10 +162,6 @@ number_row stage _ h = absurd cc
 abbrev first_byte : List ℕ → ℕ
 first_byte [] = 0
 first_byte (b ∷ w) = b
-
-abbrev implies : Bool → Bool → Bool
-implies true b = b
-implies false b = true
 
 abbrev is_fair : Spelling → Bool
 is_fair s = implies (is_ascii_digit (first_byte s.text)) (is_number s.terminal)
@@ -159,9 +198,51 @@ number_terminal : (x : List ℕ) → is_digits x ≡ true → is_number (termina
 number_terminal [] h = absurd cc
 number_terminal (b ∷ w) h = number_in SPELLINGS b w (both (is_ascii_digit b) (list_all is_ascii_digit w) h).0 fair
 
-pub number_reads : {stage : ℕ} (x mid : List ℕ) → is_digits x ≡ true → ahead is_ascii_digit mid ≡ false → Spelt stage (Part 164 ∷ []) (x ++ mid) mid (Tree (node head.Number x [] nowhere) ∷ [])
-number_reads {stage} x mid h f =
-    let next : Next (x ++ mid) (kind_of (terminal_of Number x)) x mid = record { terminal = terminal_of Number x; first = number_lexed x mid h f; kind = refl; cut = number_cut x mid h f } in
+-- No word that is left out begins with a digit.
+abbrev is_apart : List ℕ → Bool
+is_apart t = not (is_ascii_digit (first_byte t))
+
+pub false_by : (t : Bool) → (t ≡ true → ⊥) → t ≡ false
+false_by true h = absurd (h refl)
+false_by false h = refl
+
+not_spelled : (t : List ℕ) (b : ℕ) (w : List ℕ) → is_ascii_digit b ≡ true → is_apart t ≡ true → spells t (b ∷ w) ≡ true → ⊥
+not_spelled t b w d a h =
+    let no : not true ≡ true = sym (ap not (ap is_ascii_digit (same_first t b w h) ∙ d)) ∙ a in
+    absurd cc
+
+kept_in : (ws : List (List ℕ)) (b : ℕ) (w : List ℕ) → is_ascii_digit b ≡ true → list_all is_apart ws ≡ true → is_word_of ws (b ∷ w) ≡ false
+unfolding is_word_of
+kept_in [] b w d a = refl
+kept_in (t ∷ ts) b w d a =
+    let parts = both (is_apart t) (list_all is_apart ts) a in
+    ap₂ (λ p q. p || q) (false_by (spells t (b ∷ w)) (not_spelled t b w d parts.0)) (kept_in ts b w d parts.1)
+
+all_apart : list_all is_apart LEFT_OUT ≡ true
+all_apart = refl
+
+kept_number : (x : List ℕ) → is_digits x ≡ true → is_word_of LEFT_OUT x ≡ false
+kept_number [] h = absurd cc
+kept_number (b ∷ w) h = kept_in LEFT_OUT b w (both (is_ascii_digit b) (list_all is_ascii_digit w) h).0 all_apart
+
+fine_by : (t : Bool) → implies t true ≡ true
+fine_by true = refl
+fine_by false = refl
+
+fine_number : (k : ℕ) (x : List ℕ) → is_digits x ≡ true → nat_lt (number_of x) (2 ^ 127) ≡ true → is_fine k x ≡ true
+unfolding is_fine
+fine_number k x h l =
+    let kept = kept_number x h in
+    let no_proc = no_text x (codes "proc") is_digits h refl in
+    let no_plus = no_text x (codes "+") is_digits h refl in
+    let no_brace = no_text x (codes "{") is_digits h refl in
+    rw (kept, no_proc, no_plus, no_brace, l) (fine_by (is_number_kind k))
+
+number_reads : {stage : ℕ} (x mid : List ℕ) → is_digits x ≡ true → nat_lt (number_of x) (2 ^ 127) ≡ true → ahead is_ascii_digit mid ≡ false
+    → Spelt stage (Part 164 ∷ []) (x ++ mid) mid (Tree (node head.Number x [] nowhere) ∷ [])
+number_reads {stage} x mid h l f =
+    let k = kind_of (terminal_of Number x) in
+    let next : Next (x ++ mid) k x mid = record { terminal = terminal_of Number x; first = number_lexed x mid h f; kind = refl; fine = fine_number k x h l; cut = number_cut x mid h f } in
     let r = number_row stage (terminal_of Number x) (number_terminal x h) in
     row (number_production (kind_of (terminal_of Number x)) r.0) r.1 refl refl (ap (λ n. Tree (node head.Number n [] nowhere) ∷ []) (named next)) (tok next end) end
 
@@ -184,6 +265,26 @@ pub decimal_digits : (n : ℕ) → n < 10 ^ 64 → is_digits (decimal n) ≡ tru
 decimal_digits n h =
     decimal_by_steps_wide (λ m ds. is_digits ds ≡ true) (λ m l. one_digit (48 + m) (digit_is m l))
     (λ m ds l e. digits_more ds (48 + m % 10) e (digit_is (m % 10) (omega arith))) n h
+
+-- Its digits spell the number.
+digit_behind : (n : ℕ) (ds : List ℕ) (d : ℕ) → number_behind n (ds ++ d ∷ []) ≡ number_behind n ds * 10 + (d - 48)
+digit_behind n [] d = refl
+digit_behind n (b ∷ ds) d = digit_behind (n * 10 + (b - 48)) ds d
+
+decimal_value : (n : ℕ) → n < 10 ^ 64 → number_of (decimal n) ≡ n
+decimal_value n h =
+    decimal_by_steps_wide (λ m ds. number_of ds ≡ m) (λ m l. omega arith)
+    (λ m ds l e. digit_behind 0 ds (48 + m % 10) ∙ (let whole : number_of ds * 10 + (48 + m % 10 - 48) ≡ m = omega (arith, e) in whole)) n h
+
+-- A number in range has digits.
+pub range_is : (n : ℕ) → in_range n ≡ true → n < 10 ^ 64
+range_is n h = let l : n < 2 ^ 127 = ltb-true n (2 ^ 127) h in omega arith
+
+pub decimal_reads : {stage : ℕ} (n : ℕ) (mid : List ℕ) → in_range n ≡ true → ahead is_ascii_digit mid ≡ false
+    → Spelt stage (Part 164 ∷ []) (decimal n ++ mid) mid (Tree (node head.Number (decimal n) [] nowhere) ∷ [])
+decimal_reads n mid h f =
+    let wide = range_is n h in
+    number_reads (decimal n) mid (decimal_digits n wide) (ap (λ m. nat_lt m (2 ^ 127)) (decimal_value n wide) ∙ h) f
 
 -- Paths.
 
@@ -223,8 +324,7 @@ some_words (b ∷ bs) = words_by b bs (b == 46) refl (some_words bs)
 pub name_start : (x : List ℕ) → is_name_text x ≡ true → (b : ℕ) × (w : List ℕ) × (x ≡ b ∷ w) × (is_word_start b ≡ true)
 name_start [] h = absurd cc
 name_start (b ∷ w) h =
-    let facts = both (is_word (b ∷ w)) (is_name (terminal_of Word (b ∷ w))) h in
-    (b, w, refl, (both (is_word_start b) (list_all is_word_byte w) facts.0).0)
+    (b, w, refl, (both (is_word_start b) (list_all is_word_byte w) (name_facts (b ∷ w) h).0).0)
 
 pub behind_dots : (ws : List (List ℕ)) (mid : List ℕ) → ahead is_word_byte mid ≡ false → ahead is_word_byte (dotted ws ++ mid) ≡ false
 behind_dots [] mid f = f
@@ -240,12 +340,12 @@ flat_path x [] = refl
 flat_path x (w ∷ ws) = ap (λ l. node head.Path [] (x ∷ word w ∷ l) nowhere) (append_nil (map word ws))
 
 module _ {stage : ℕ} where
-  more_words : (ws : List (List ℕ)) (mid : List ℕ) → list_all is_name_text ws ≡ true → ahead is_word_byte mid ≡ false → Spelt stage (Part 161 ∷ []) (dotted ws ++ mid) mid (Trees (map word ws) ∷ [])
-  more_words [] mid h f = row p.path_more_none (p.is_path_more_none stage) refl refl refl end end
+  pub more_words : (ws : List (List ℕ)) (mid : List ℕ) → list_all is_name_text ws ≡ true → ahead is_word_byte mid ≡ false → Spelt stage (Part 161 ∷ []) (dotted ws ++ mid) mid (Trees (map word ws) ∷ [])
+  more_words [] mid h f = row p.more_dotted_none (p.is_more_dotted_none stage) refl refl refl end end
   more_words (w ∷ ws) mid h f =
       let facts = both (is_name_text w) (list_all is_name_text ws) h in
       let inner = followed (name_reads w (dotted ws ++ mid) facts.0 (behind_dots ws mid f)) (more_words ws mid facts.1 f) in
-      row p.path_more_dot (p.is_path_more_dot stage) refl refl (ap (λ l. Trees (word w ∷ l) ∷ []) (append_nil (map word ws)))
+      row p.more_dotted_dot (p.is_more_dotted_dot stage) refl refl (ap (λ l. Trees (word w ∷ l) ∷ []) (append_nil (map word ws)))
       (subst (λ l. Spelt stage (Token 125 ∷ Part 165 ∷ Part 161 ∷ []) (46 ∷ l) mid (Tree (word w) ∷ Trees (map word ws) ∷ [])) (sym (append_assoc w (dotted ws) mid))
       (tok (dot_before w (dotted ws ++ mid) facts.0) inner)) end
 

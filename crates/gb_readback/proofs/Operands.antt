@@ -19,7 +19,8 @@ use Rattle.gb_script.specs.Tree.{node, attach, attached}
 use Rattle.gb_script.proofs.Stacks.{append_nil}
 use Rattle.gb_readback.proofs.Reading.{first_name, ruled}
 use Rattle.gb_readback.proofs.Lexed.{lexed}
-use Rattle.gb_readback.proofs.Tokens.{Next, open_round, close_round}
+use Rattle.gb_readback.proofs.Tokens.{Next}
+use Rattle.gb_readback.proofs.Symbols.{open_round, close_round}
 use Rattle.gb_readback.proofs.Attaching.{Plain, plain_node, behind_plain, is_tight, tight_node, tight_append, attached_append, operated}
 use Rattle.gb_readback.proofs.Levels.{is_free, Before, Starts, Fits, Spelt, end, tok, row, followed, no_run, form_of_sum, sum_of}
 use Rattle.gb_readback.proofs.Productions as p
@@ -28,6 +29,18 @@ use Rattle.gb_readback.proofs.Productions as p
 pub record IsForm (stage : ℕ) (φ : Before) (bar : Bool) (x : Node) : Type 0 where
   pub starts : (mid : List ℕ) → Starts (φ mid)
   pub reads : (mid : List ℕ) → Fits bar mid → Spelt stage (Part 120 ∷ []) (φ mid) mid (Tree x ∷ [])
+
+-- What stands behind the head of a loop's variant, and the body of the loop behind it.
+pub record VariantRun (stage : ℕ) (i j : List ℕ) (its : List Node) : Type 0 where
+  pub value : Value
+  pub value_is : trees_of value ≡ its
+  pub reads : Spelt stage (Part 63 ∷ []) i j (value ∷ [])
+
+-- .. with the head in front
+pub record VariantFrom (stage : ℕ) (i j : List ℕ) (root : Node) (its : List Node) : Type 0 where
+  pub value : Value
+  pub value_is : trees_of value ≡ its
+  pub reads : Spelt stage (Part 195 ∷ Part 63 ∷ []) i j (Tree root ∷ value ∷ [])
 
 -- A form that is an atom with suffixes: in front of operators, suffixes and arguments, or as an argument itself.
 pub record IsOperand (stage : ℕ) (φ : Before) (bar : Bool) (x : Node) : Type 0 where
@@ -41,6 +54,7 @@ pub record IsOperand (stage : ℕ) (φ : Before) (bar : Bool) (x : Node) : Type 
       → Spelt stage (Part 140 ∷ Part 135 ∷ []) (φ mid) j (Tree root ∷ Trees (suffixes ++ its) ∷ [])
   pub argument : (mid j : List ℕ) (its : List Node) → Fits bar mid → Spelt stage (Part 135 ∷ []) mid j (Trees its ∷ [])
       → Spelt stage (Part 136 ∷ []) (φ mid) j (Trees (node head.Apply [] (root ∷ []) nowhere ∷ (suffixes ++ its)) ∷ [])
+  pub variant : (mid j : List ℕ) (its : List Node) → Fits bar mid → VariantRun stage mid j its → VariantFrom stage (φ mid) j root (suffixes ++ its)
 
 -- A form that may be the last operand of an operator.
 pub record IsSummand (stage : ℕ) (φ : Before) (bar : Bool) (x : Node) : Type 0 where
@@ -107,19 +121,25 @@ module _ {stage : ℕ} where
     tight = refl;
     plain = plain;
     first = λ mid j its f more. row p.head_atom (p.is_head_atom stage) refl refl refl (reads mid f) more;
-    argument = λ mid j its f more. row p.run_more_atom (p.is_run_more_atom stage) refl refl
+    argument = λ mid j its f more. row p.more_run_atom (p.is_more_run_atom stage) refl refl
         (ap (λ l. Trees (node head.Apply [] (x ∷ []) nowhere ∷ l) ∷ []) (append_nil its)) (followed (reads mid f) more) end;
+    variant = λ mid j its f run. record {
+      value = run.value;
+      value_is = run.value_is;
+      reads = row p.plain_head_head (p.is_plain_head_head stage) refl refl refl (row p.head_atom (p.is_head_atom stage) refl refl refl (reads mid f) end) run.reads;
+    };
   }
 
   -- a further suffix, in what stands behind an operand
   pub suffixed : {φ ψ : Before} {bar : Bool} {a : Node} (h : Head) (ps : List Node) → IsOperand stage φ bar a → hold h ≡ 0 → is_joiner h ≡ false → looseness h ≡ 1
       → ((mid : List ℕ) → Fits bar (ψ mid))
       → ((mid j : List ℕ) (its : List Node) → Fits false mid → Spelt stage (Part 135 ∷ []) mid j (Trees its ∷ []) → Spelt stage (Part 136 ∷ []) (ψ mid) j (Trees (node h [] ps nowhere ∷ its) ∷ []))
+      → ((mid j : List ℕ) (its : List Node) → Fits false mid → VariantRun stage mid j its → VariantRun stage (ψ mid) j (node h [] ps nowhere ∷ its))
       → IsOperand stage (λ mid. φ (ψ mid)) false (node h [] (a ∷ ps) nowhere)
-  suffixed {φ = φ} {ψ = ψ} {a = a} h ps o l n t fits reads =
+  suffixed {φ = φ} {ψ = ψ} {a = a} h ps o l n t fits reads runs =
       let item = node h [] ps nowhere in
       let run : (mid j : List ℕ) (its : List Node) → Fits false mid → Spelt stage (Part 135 ∷ []) mid j (Trees its ∷ []) → Spelt stage (Part 135 ∷ []) (ψ mid) j (Trees (item ∷ its) ∷ []) =
-      λ mid j its f more. row p.run_run_more (p.is_run_run_more stage) refl refl refl (reads mid j its f more) end in
+      λ mid j its f more. row p.run_more_run (p.is_run_more_run stage) refl refl refl (reads mid j its f more) end in
       record {
         starts = λ mid. o.starts (ψ mid);
         root = o.root;
@@ -131,6 +151,8 @@ module _ {stage : ℕ} where
             (o.first (ψ mid) j (item ∷ its) (fits mid) (run mid j its f more));
         argument = λ mid j its f more. subst (λ l. Spelt stage (Part 136 ∷ []) (φ (ψ mid)) j (Trees (node head.Apply [] (o.root ∷ []) nowhere ∷ l) ∷ []))
             (sym (append_assoc o.suffixes (item ∷ []) its)) (o.argument (ψ mid) j (item ∷ its) (fits mid) (run mid j its f more));
+        variant = λ mid j its f more.
+            let w = o.variant (ψ mid) j (item ∷ its) (fits mid) (runs mid j its f more) in record { value = w.value; value_is = w.value_is ∙ sym (append_assoc o.suffixes (item ∷ []) its); reads = w.reads };
       }
 
   -- Sums and products.
@@ -147,34 +169,34 @@ module _ {stage : ℕ} where
       (append_nil (ruled r.rule (first_name (lexed here)) (Tree s.root ∷ s.tail ∷ [])) ∙ made (first_name (lexed here)) s.root s.tail
       ∙ ap (λ l. Trees (node h [] (s.root ∷ []) nowhere ∷ l) ∷ []) (append_nil (trees_of s.tail) ∙ s.tail_is))
       (subst (λ ss. Spelt stage ss here mid (Tree s.root ∷ s.tail ∷ [])) (sym body) (tok (next (ψ mid)) (s.reads mid f))) end in
-      let run : Spelt stage (Part 135 ∷ []) here mid (Trees (node h [] (s.root ∷ []) nowhere ∷ s.suffixes) ∷ []) = row p.run_run_more (p.is_run_run_more stage) refl refl refl item end in
+      let run : Spelt stage (Part 135 ∷ []) here mid (Trees (node h [] (s.root ∷ []) nowhere ∷ s.suffixes) ∷ []) = row p.run_more_run (p.is_run_more_run stage) refl refl refl item end in
       subst (λ z. Spelt stage (Part 133 ∷ []) (φ here) mid (Tree z ∷ []))
       (operated h o.root a s.root o.suffixes s.suffixes o.plain o.whole loose holds s.tight ∙ ap (λ y. node h [] (a ∷ y ∷ []) nowhere) s.whole)
       (sum_of (row p.operand_head (p.is_operand_head stage) refl refl refl (o.first here mid (node h [] (s.root ∷ []) nowhere ∷ s.suffixes) (fits (ψ mid)) run) end))
 
   pub plus : {φ ψ : Before} {c d : Bool} {a b : Node} {n : List ℕ} → IsOperand stage φ c a → IsSummand stage ψ d b → (w : List ℕ) → ((mid : List ℕ) → Next (w ++ mid) 98 n mid) → ((mid : List ℕ) → Fits c (w ++ mid))
       → (mid : List ℕ) → Fits d mid → Spelt stage (Part 133 ∷ []) (φ (w ++ ψ mid)) mid (Tree (node head.Sum [] (a ∷ b ∷ []) nowhere) ∷ [])
-  plus = added head.Sum 98 p.run_more_plus (p.is_run_more_plus stage) refl refl refl (λ m y its. refl) refl refl
+  plus = added head.Sum 98 p.more_run_plus (p.is_more_run_plus stage) refl refl refl (λ m y its. refl) refl refl
 
   pub minus : {φ ψ : Before} {c d : Bool} {a b : Node} {n : List ℕ} → IsOperand stage φ c a → IsSummand stage ψ d b → (w : List ℕ) → ((mid : List ℕ) → Next (w ++ mid) 99 n mid) → ((mid : List ℕ) → Fits c (w ++ mid))
       → (mid : List ℕ) → Fits d mid → Spelt stage (Part 133 ∷ []) (φ (w ++ ψ mid)) mid (Tree (node head.Difference [] (a ∷ b ∷ []) nowhere) ∷ [])
-  minus = added head.Difference 99 p.run_more_minus (p.is_run_more_minus stage) refl refl refl (λ m y its. refl) refl refl
+  minus = added head.Difference 99 p.more_run_minus (p.is_more_run_minus stage) refl refl refl (λ m y its. refl) refl refl
 
   pub times : {φ ψ : Before} {c d : Bool} {a b : Node} {n : List ℕ} → IsOperand stage φ c a → IsSummand stage ψ d b → (w : List ℕ) → ((mid : List ℕ) → Next (w ++ mid) 97 n mid) → ((mid : List ℕ) → Fits c (w ++ mid))
       → (mid : List ℕ) → Fits d mid → Spelt stage (Part 133 ∷ []) (φ (w ++ ψ mid)) mid (Tree (node head.Product [] (a ∷ b ∷ []) nowhere) ∷ [])
-  times = added head.Product 97 p.run_more_times (p.is_run_more_times stage) refl refl refl (λ m y its. refl) refl refl
+  times = added head.Product 97 p.more_run_times (p.is_more_run_times stage) refl refl refl (λ m y its. refl) refl refl
 
   pub divided : {φ ψ : Before} {c d : Bool} {a b : Node} {n : List ℕ} → IsOperand stage φ c a → IsSummand stage ψ d b → (w : List ℕ) → ((mid : List ℕ) → Next (w ++ mid) 100 n mid) → ((mid : List ℕ) → Fits c (w ++ mid))
       → (mid : List ℕ) → Fits d mid → Spelt stage (Part 133 ∷ []) (φ (w ++ ψ mid)) mid (Tree (node head.Quotient [] (a ∷ b ∷ []) nowhere) ∷ [])
-  divided = added head.Quotient 100 p.run_more_slash (p.is_run_more_slash stage) refl refl refl (λ m y its. refl) refl refl
+  divided = added head.Quotient 100 p.more_run_slash (p.is_more_run_slash stage) refl refl refl (λ m y its. refl) refl refl
 
   pub paired : {φ ψ : Before} {c d : Bool} {a b : Node} {n : List ℕ} → IsOperand stage φ c a → IsSummand stage ψ d b → (w : List ℕ) → ((mid : List ℕ) → Next (w ++ mid) 101 n mid) → ((mid : List ℕ) → Fits c (w ++ mid))
       → (mid : List ℕ) → Fits d mid → Spelt stage (Part 133 ∷ []) (φ (w ++ ψ mid)) mid (Tree (node head.PowerProduct [] (a ∷ b ∷ []) nowhere) ∷ [])
-  paired = added head.PowerProduct 101 p.run_more_power_times (p.is_run_more_power_times stage) refl refl refl (λ m y its. refl) refl refl
+  paired = added head.PowerProduct 101 p.more_run_power_times (p.is_more_run_power_times stage) refl refl refl (λ m y its. refl) refl refl
 
   pub summed_bits : {φ ψ : Before} {c d : Bool} {a b : Node} {n : List ℕ} → IsOperand stage φ c a → IsSummand stage ψ d b → (w : List ℕ) → ((mid : List ℕ) → Next (w ++ mid) 110 n mid) → ((mid : List ℕ) → Fits c (w ++ mid))
       → (mid : List ℕ) → Fits d mid → Spelt stage (Part 133 ∷ []) (φ (w ++ ψ mid)) mid (Tree (node head.Xor [] (a ∷ b ∷ []) nowhere) ∷ [])
-  summed_bits = added head.Xor 110 p.run_more_xor (p.is_run_more_xor stage) refl refl refl (λ m y its. refl) refl refl
+  summed_bits = added head.Xor 110 p.more_run_xor (p.is_more_run_xor stage) refl refl refl (λ m y its. refl) refl refl
 
   -- Brackets.
 
@@ -183,10 +205,10 @@ module _ {stage : ℕ} where
   round h ps n d = row p.atom_open_round (p.is_atom_open_round stage) refl refl (ap (λ z. Tree z ∷ []) (grown_node [] h [] ps nowhere)) (tok n d) end
 
   pub opened : {i mid j : List ℕ} {x : Node} (h : Head) (ps : List Node) → Spelt stage (Part 120 ∷ []) i mid (Tree x ∷ []) → Spelt stage (Part 150 ∷ []) mid j (Tree (node h [] ps nowhere) ∷ []) → Spelt stage (Part 149 ∷ []) i j (Tree (node h [] (x ∷ ps) nowhere) ∷ [])
-  opened {x = x} h ps d e = row p.bracket_form (p.is_bracket_form stage) refl refl (ap (λ z. Tree z ∷ []) (grown_node (Tree x ∷ []) h [] ps nowhere)) (followed d e) end
+  opened {x = x} h ps d e = row p.bracketed_form (p.is_bracketed_form stage) refl refl (ap (λ z. Tree z ∷ []) (grown_node (Tree x ∷ []) h [] ps nowhere)) (followed d e) end
 
   pub in_round : {φ : Before} {bar : Bool} {x : Node} → IsForm stage φ bar x → IsOperand stage (λ mid. 40 ∷ φ (41 ∷ mid)) false (node head.Bracketed [] (x ∷ []) nowhere)
   in_round {φ = φ} {bar = bar} {x = x} o =
       of_atom (λ mid. record { byte = 40; more = φ (41 ∷ mid); is = refl; begins = refl }) (plain_node head.Bracketed [] (x ∷ []) refl refl)
       (λ mid f. round head.Bracketed (x ∷ []) (opens (o.starts (41 ∷ mid)))
-      (opened head.Bracketed [] (o.reads (41 ∷ mid) (fits_close bar mid)) (row p.bracket_end_close_round (p.is_bracket_end_close_round stage) refl refl refl (tok (close_round mid) end) end)))
+      (opened head.Bracketed [] (o.reads (41 ∷ mid) (fits_close bar mid)) (row p.bracket_tail_close_round (p.is_bracket_tail_close_round stage) refl refl refl (tok (close_round mid) end) end)))

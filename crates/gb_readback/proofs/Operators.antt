@@ -9,7 +9,8 @@ use Rattle.gb_script.specs.declared.value.Value.TheVariants.{Tree}
 use Rattle.std.specs.List.{list_all}
 use Rattle.gb_script.specs.Tree.{node, attached}
 use Rattle.gb_readback.proofs.Attaching.{is_tight}
-use Rattle.gb_readback.proofs.Tokens.{Next, and_word, or_word, implies_word, iff_word, equal_word, different_word, less_word, at_most_word, plus_word, minus_word, times_word, xor_word, divide_word, in_word, power_word, question_word, colon_word, exclamation, minus}
+use Rattle.gb_readback.proofs.Tokens.{Next}
+use Rattle.gb_readback.proofs.Symbols.{and_word, or_word, implies_word, iff_word, equal_word, different_word, less_word, at_most_word, plus_word, minus_word, times_word, xor_word, divide_word, in_word, power_word, question_word, colon_word, exclamation, minus}
 use Rattle.gb_readback.proofs.Levels.{Before, Starts, Spelt, negation_of_sum, conjunction_of, disjunction_of, condition_of, form_of, conjunction_of_sum, disjunction_of_sum, condition_of_sum, form_of_sum, equals, differs, less, at_most, conjoined, disjoined, implied, equivalent, chosen, negated, negative}
 use Rattle.gb_readback.proofs.Operands as o
 use Rattle.gb_readback.proofs.Operands.{IsForm, IsOperand, IsSummand, sum_reads, fits_space}

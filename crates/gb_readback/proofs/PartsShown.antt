@@ -8,9 +8,9 @@ use Rattle.gb_script.specs.declared.tree.Node.{Node}
 use Rattle.gb_print_names.specs.Text.{Writing}
 use Rattle.gb_print_names.specs.Names.{Place}
 use Rattle.gb_print_names.specs.Types as print
-use Rattle.gb_print.specs.declared.shape.Shape.TheVariants.{Application, Sum}
-use Rattle.gb_print.specs.Open.{type_of, is_open, is_int, needs_type}
-use Rattle.gb_print.specs.Layout.{shape, stands_alone, runs_on}
+use Rattle.gb_shapes.specs.declared.shape.Shape.TheVariants.{Application, Sum}
+use Rattle.gb_shapes.specs.Open.{type_of, is_open, is_int, needs_type}
+use Rattle.gb_shapes.specs.Shapes.{shape, stands_alone, runs_on}
 use Rattle.gb_print.specs.Forms as text
 use Rattle.gb_readback.specs.Types as type_tree
 use Rattle.gb_readback.specs.Forms as tree
@@ -29,7 +29,7 @@ pub data HeadShows (stage : ℕ) (h : Head) (ts : List Term) (w : Writing) (x : 
 
 pub record ShownTerm (stage : ℕ) (at : Place) (t : Term) : Type 0 where
   pub term : (known : Bool) → HeadShows stage (out-Term t).head (out-Term t).args (text.term_text t known at) (tree.term_tree t known at)
-  pub type : is_open t ≡ true → is_int (type_of t) ≡ false → ShowsType stage at.bound (print.type_part (type_of t)) (type_tree.type_part (type_of t))
+  pub type : is_open t ≡ true → is_int (type_of t) ≡ false → ShowsType stage stage at.bound (print.type_part (type_of t)) (type_tree.type_part (type_of t))
 
 form_of : {stage : ℕ} {h : Head} {ts : List Term} {w : Writing} {x : Node} → HeadShows stage h ts w x → Shows stage w x
 form_of (as_one o) = operand_as_form o

@@ -1,5 +1,5 @@
 -- What is written, in front of what follows.
-use Rattle.std.specs.Prelude.{ℕ, suc, ◌≡◌, ◌-◌, ◌<◌, ◌^◌, Bool, true, false, nat_eq, nat_lt, List, [], ◌∷◌, ◌++◌, length, drop, codes}
+use Rattle.std.specs.Prelude.{ℕ, suc, ◌≡◌, ◌-◌, ◌<◌, Bool, true, false, nat_eq, nat_lt, List, [], ◌∷◌, ◌++◌, length, drop, codes}
 use Rattle.std.specs.List.{list_all, ends_with}
 use Rattle.std.specs.Cmp.Lexicographic.{pointwise}
 use Rattle.std.specs.Fmt.{decimal}
@@ -14,7 +14,7 @@ use Rattle.gb_print_names.specs.Text.{Text, Writing, ◌▸◌, nothing, word}
 use Rattle.gb_readback.specs.Written.{is_name_text, is_path, is_word, in_range}
 use Rattle.gb_readback.proofs.Tokens.{both, is_digits}
 use Rattle.gb_readback.proofs.Levels.{Before}
-use Rattle.gb_readback.proofs.NameWords.{dotted, joined, some_words, decimal_digits}
+use Rattle.gb_readback.proofs.NameWords.{dotted, joined, some_words, range_is, decimal_digits}
 use Rattle.gb_readback.proofs.Operands.{IsForm, IsOperand, IsSummand, summand_of, form_of_summand}
 
 -- A text that ends with a bar.
@@ -103,10 +103,6 @@ path_some x h =
 pub digits_some : (x : Text) → is_digits x ≡ true → 0 < length x
 digits_some [] h = absurd cc
 digits_some (b ∷ w) h = omega arith
-
--- A number in range has digits.
-pub range_is : (n : ℕ) → in_range n ≡ true → n < 10 ^ 64
-range_is n h = let l : n < 2 ^ 127 = ltb-true n (2 ^ 127) h in omega arith
 
 pub number_some : (n : ℕ) → in_range n ≡ true → 0 < length (decimal n)
 number_some n h = digits_some (decimal n) (decimal_digits n (range_is n h))

@@ -1,12 +1,13 @@
 -- What is printed of procedures, calls and judgments reads as their trees.
-use Rattle.std.specs.Prelude.{ℕ, ◌≡◌, Bool, true, false, List, [], ◌∷◌, ◌++◌, map, codes}
+use Rattle.std.specs.Prelude.{ℕ, ◌≡◌, Bool, true, false, List, [], ◌∷◌, ◌++◌, codes}
 use Rattle.std.specs.List.{list_all}
-use Rattle.std.proofs.Common.{refl, ap, sym, subst, append_assoc}
+use Rattle.std.proofs.Common.{refl, ap, sym, subst}
 use Rattle.gb_script.proofs.Stacks.{append_nil}
 use Rattle.gb_lex.specs.Byte.{is_word_byte}
 use Rattle.gb_limits.specs.Kinds.{kind_of}
+use Rattle.gb_limits.specs.LeftOut.{is_word_of}
 use Rattle.gb_limits.specs.Lexeme.{spells}
-use Rattle.gb_grammar.specs.declared.table.Symbol.TheVariants.{Token, Part}
+use Rattle.gb_grammar.specs.declared.table.Symbol.TheVariants.{Part}
 use Rattle.gb_grammar.specs.Grammar.{has}
 use Rattle.gb_goal.specs.Answers.{nowhere}
 use Rattle.gb_script.specs.declared.head.Head.TheVariants as head
@@ -17,12 +18,15 @@ use Rattle.gb_script.specs.Tree.{node}
 use Rattle.gb_print_names.specs.Text.{Text}
 use Rattle.gb_readback.specs.Nodes as nodes
 use Rattle.gb_readback.specs.Written.{is_path, is_name_text}
+use Rattle.gb_readback.proofs.Fine.{is_fine}
 use Rattle.gb_readback.proofs.Lexed.{ahead}
-use Rattle.gb_readback.proofs.Tokens.{Next, both, next_word, open_square, close_square, close_round, empty_round, colon_word, long_word, tilde_word, at_word, at_most_word, equal_word, at_least_word, hoare_word, phoare_word, equiv_word, ampersand}
+use Rattle.gb_readback.proofs.Tokens.{Next, next_word}
+use Rattle.gb_readback.proofs.Symbols.{open_square, close_square, close_round, empty_round, colon_word, long_word, tilde_word, at_word, at_most_word, equal_word, at_least_word, hoare_word, phoare_word, equiv_word, ampersand}
 use Rattle.gb_readback.proofs.Attaching.{plain_node, behind_plain, is_tight, tight_node}
 use Rattle.gb_readback.proofs.Levels.{Before, Spelt, end, tok, named, row, row_before, followed, no_words}
 use Rattle.gb_readback.proofs.Operands.{IsForm, IsOperand, IsSummand, of_atom, grown_node, fits_space, sum_reads, opens}
-use Rattle.gb_readback.proofs.NameWords.{dotted, name_reads, name_start, dot_before, behind_dots, member_from}
+use Rattle.gb_readback.proofs.NameWords.{name_reads, name_start}
+use Rattle.gb_readback.proofs.WordsInFront.{Words, member_in_front}
 use Rattle.gb_readback.proofs.Atoms.{FormPart, more_forms, form_trees, forms_read, fits_more, fits_symbol}
 use Rattle.gb_readback.proofs.Productions as p
 
@@ -32,7 +36,7 @@ pub record Ends (mid : List ℕ) : Type 0 where
   pub name : List ℕ
   pub more : List ℕ
   pub next : Next mid kind name more
-  pub may : has p.procedure_more_none.stops kind ≡ false
+  pub may : has p.dotted_procedure_none.stops kind ≡ false
 
 -- What a judgment speaks of, in front of ` : ` or ` ~ `.
 pub record IsSubject (stage : ℕ) (φ : Before) (x : Node) : Type 0 where
@@ -60,91 +64,55 @@ opens_call (f ∷ fs) mid = opens (f.form.starts (more_forms fs (41 ∷ mid)))
 module _ {stage : ℕ} where
   -- Paths of procedures.
 
-  more_path : (ws : List Text) (mid : Text) → list_all is_name_text ws ≡ true → ahead is_word_byte mid ≡ false → Ends mid
-      → Spelt stage (Part 85 ∷ []) (dotted ws ++ mid) mid (Tree (nodes.tree head.ProcedurePath (map nodes.word ws)) ∷ [])
-  more_path [] mid h f e = row_before p.procedure_more_none (p.is_procedure_more_none stage) e.next e.may refl refl refl end end
-  more_path (w ∷ ws) mid h f e =
-      let facts = both (is_name_text w) (list_all is_name_text ws) h in
-      row p.procedure_more_dot (p.is_procedure_more_dot stage) refl refl (ap (λ z. Tree z ∷ []) (grown_node (Tree (nodes.word w) ∷ []) head.ProcedurePath [] (map nodes.word ws) nowhere))
-      (subst (λ l. Spelt stage (Token 125 ∷ Part 165 ∷ Part 85 ∷ []) (46 ∷ l) mid (Tree (nodes.word w) ∷ Tree (nodes.tree head.ProcedurePath (map nodes.word ws)) ∷ [])) (sym (append_assoc w (dotted ws) mid))
-      (tok (dot_before w (dotted ws ++ mid) facts.0) (followed (name_reads w (dotted ws ++ mid) facts.0 (behind_dots ws mid f)) (more_path ws mid facts.1 f e)))) end
-
-  first_path : (v : Text) (ws : List Text) (mid : Text) → list_all is_name_text (v ∷ ws) ≡ true → ahead is_word_byte mid ≡ false → Ends mid
-      → Spelt stage (Part 84 ∷ []) (dotted (v ∷ ws) ++ mid) mid (Tree (nodes.tree head.ProcedurePath (map nodes.word (v ∷ ws))) ∷ [])
-  first_path v ws mid h f e =
-      let facts = both (is_name_text v) (list_all is_name_text ws) h in
-      row p.procedure_dot_dot (p.is_procedure_dot_dot stage) refl refl (ap (λ z. Tree z ∷ []) (grown_node (Tree (nodes.word v) ∷ []) head.ProcedurePath [] (map nodes.word ws) nowhere))
-      (subst (λ l. Spelt stage (Token 125 ∷ Part 165 ∷ Part 85 ∷ []) (46 ∷ l) mid (Tree (nodes.word v) ∷ Tree (nodes.tree head.ProcedurePath (map nodes.word ws)) ∷ [])) (sym (append_assoc v (dotted ws) mid))
-      (tok (dot_before v (dotted ws ++ mid) facts.0) (followed (name_reads v (dotted ws ++ mid) facts.0 (behind_dots ws mid f)) (more_path ws mid facts.1 f e)))) end
-
-  behind_first : (ws : List Text) (x mid : Text) → list_all is_name_text (ws ++ x ∷ []) ≡ true → ahead is_word_byte mid ≡ false → Ends mid
-      → Spelt stage (Part 84 ∷ []) (dotted (ws ++ x ∷ []) ++ mid) mid (Tree (nodes.tree head.ProcedurePath (map nodes.word (ws ++ x ∷ []))) ∷ [])
-  behind_first [] x mid h f e = first_path x [] mid h f e
-  behind_first (v ∷ ws) x mid h f e = first_path v (ws ++ x ∷ []) mid h f e
+  pub path_words : Words stage 83 84 85
+  path_words = record {
+    name_then = λ w h ps d. row p.procedure_name (p.is_procedure_name stage) refl refl (ap (λ z. Tree z ∷ []) (grown_node (Tree (nodes.word w) ∷ []) h [] ps nowhere)) d end;
+    first_dot = λ w h ps d. row p.procedure_tail_dot (p.is_procedure_tail_dot stage) refl refl (ap (λ z. Tree z ∷ []) (grown_node (Tree (nodes.word w) ∷ []) h [] ps nowhere)) d end;
+    further_dot = λ w h ps d. row p.dotted_procedure_dot (p.is_dotted_procedure_dot stage) refl refl (ap (λ z. Tree z ∷ []) (grown_node (Tree (nodes.word w) ∷ []) h [] ps nowhere)) d end;
+  }
 
   pub procedure_reads : (m x mid : Text) → is_path m ≡ true → is_name_text x ≡ true → ahead is_word_byte mid ≡ false → Ends mid
       → Spelt stage (Part 83 ∷ []) (m ++ (46 ∷ (x ++ mid))) mid (Tree (nodes.tree head.ProcedurePath (nodes.word_nodes m ++ nodes.word x ∷ [])) ∷ [])
   procedure_reads m x mid h k f e =
-      member_from 83 (λ l. nodes.tree head.ProcedurePath l) m x mid mid h k
-      (λ w ws all.
-      let facts = both (is_name_text w) (list_all is_name_text (ws ++ x ∷ [])) all in
-      row p.procedure_name (p.is_procedure_name stage) refl refl (ap (λ z. Tree z ∷ []) (grown_node (Tree (nodes.word w) ∷ []) head.ProcedurePath [] (map nodes.word (ws ++ x ∷ [])) nowhere))
-      (followed (name_reads w (dotted (ws ++ x ∷ []) ++ mid) facts.0 (behind_dots (ws ++ x ∷ []) mid f)) (behind_first ws x mid facts.1 f e)) end)
+      subst (λ l. Spelt stage (Part 83 ∷ []) (m ++ (46 ∷ (x ++ mid))) mid (Tree (nodes.tree head.ProcedurePath l) ∷ [])) (append_nil (nodes.word_nodes m ++ nodes.word x ∷ []))
+      (member_in_front path_words head.ProcedurePath [] mid f (row_before p.dotted_procedure_none (p.is_dotted_procedure_none stage) e.next e.may refl refl refl end end) m x h k)
 
   -- Calls: arguments in brackets, up to what follows.
 
   no_call : {i : Text} → Spelt stage (Part 73 ∷ []) i i (Tree (nodes.tree head.Call []) ∷ [])
-  no_call = row p.call_end_none (p.is_call_end_none stage) refl refl refl end end
+  no_call = row p.no_functor_none (p.is_no_functor_none stage) refl refl refl end end
 
   pub close_call : (fs : List (FormPart stage)) (mid : Text) → Spelt stage (Part 72 ∷ []) (arguments_text fs mid) mid (Tree (nodes.tree head.Call (nodes.list (form_trees fs) ∷ [])) ∷ [])
   close_call [] mid =
-      row p.call_close_nothing (p.is_call_close_nothing stage) refl refl (ap (λ z. Tree z ∷ []) (grown_node (Trees [] ∷ []) head.Call [] [] nowhere))
+      row p.call_arguments_close_round (p.is_call_arguments_close_round stage) refl refl (ap (λ z. Tree z ∷ []) (grown_node (Trees [] ∷ []) head.Call [] [] nowhere))
       (followed no_words (tok (close_round mid) no_call)) end
   close_call (f ∷ fs) mid =
-      row p.call_close_some_forms (p.is_call_close_some_forms stage) refl refl (ap (λ z. Tree z ∷ []) (grown_node (Trees (f.tree ∷ form_trees fs) ∷ []) head.Call [] [] nowhere))
+      row p.call_arguments_some_forms (p.is_call_arguments_some_forms stage) refl refl (ap (λ z. Tree z ∷ []) (grown_node (Trees (f.tree ∷ form_trees fs) ∷ []) head.Call [] [] nowhere))
       (followed (row p.some_forms_form (p.is_some_forms_form stage) refl refl (ap (λ l. Trees (f.tree ∷ l) ∷ []) (append_nil (form_trees fs)))
       (followed (f.form.reads (more_forms fs (41 ∷ mid)) (fits_more f.bar fs mid)) (forms_read fs mid)) end)
-      (tok (close_round mid) (row p.call_plain_call_end (p.is_call_plain_call_end stage) refl refl refl no_call end))) end
+      (tok (close_round mid) (row p.functor_tail_no_functor (p.is_functor_tail_no_functor stage) refl refl refl no_call end))) end
 
-  more_call : (ws : List Text) (fs : List (FormPart stage)) (mid : Text) → list_all is_name_text ws ≡ true
-      → Spelt stage (Part 70 ∷ []) (dotted ws ++ (40 ∷ arguments_text fs mid)) mid (Tree (nodes.tree head.Call (map nodes.word ws ++ nodes.list (form_trees fs) ∷ [])) ∷ [])
-  more_call [] fs mid h = row p.call_more_open_round (p.is_call_more_open_round stage) refl refl refl (tok (opens_call fs mid) (close_call fs mid)) end
-  more_call (w ∷ ws) fs mid h =
-      let facts = both (is_name_text w) (list_all is_name_text ws) h in
-      let rest = 40 ∷ arguments_text fs mid in
-      row p.call_more_dot (p.is_call_more_dot stage) refl refl (ap (λ z. Tree z ∷ []) (grown_node (Tree (nodes.word w) ∷ []) head.Call [] (map nodes.word ws ++ nodes.list (form_trees fs) ∷ []) nowhere))
-      (subst (λ l. Spelt stage (Token 125 ∷ Part 165 ∷ Part 70 ∷ []) (46 ∷ l) mid (Tree (nodes.word w) ∷ Tree (nodes.tree head.Call (map nodes.word ws ++ nodes.list (form_trees fs) ∷ [])) ∷ [])) (sym (append_assoc w (dotted ws) rest))
-      (tok (dot_before w (dotted ws ++ rest) facts.0) (followed (name_reads w (dotted ws ++ rest) facts.0 (behind_dots ws rest refl)) (more_call ws fs mid facts.1)))) end
-
-  first_call : (v : Text) (ws : List Text) (fs : List (FormPart stage)) (mid : Text) → list_all is_name_text (v ∷ ws) ≡ true
-      → Spelt stage (Part 69 ∷ []) (dotted (v ∷ ws) ++ (40 ∷ arguments_text fs mid)) mid (Tree (nodes.tree head.Call (map nodes.word (v ∷ ws) ++ nodes.list (form_trees fs) ∷ [])) ∷ [])
-  first_call v ws fs mid h =
-      let facts = both (is_name_text v) (list_all is_name_text ws) h in
-      let rest = 40 ∷ arguments_text fs mid in
-      row p.call_words_dot (p.is_call_words_dot stage) refl refl (ap (λ z. Tree z ∷ []) (grown_node (Tree (nodes.word v) ∷ []) head.Call [] (map nodes.word ws ++ nodes.list (form_trees fs) ∷ []) nowhere))
-      (subst (λ l. Spelt stage (Token 125 ∷ Part 165 ∷ Part 70 ∷ []) (46 ∷ l) mid (Tree (nodes.word v) ∷ Tree (nodes.tree head.Call (map nodes.word ws ++ nodes.list (form_trees fs) ∷ [])) ∷ [])) (sym (append_assoc v (dotted ws) rest))
-      (tok (dot_before v (dotted ws ++ rest) facts.0) (followed (name_reads v (dotted ws ++ rest) facts.0 (behind_dots ws rest refl)) (more_call ws fs mid facts.1)))) end
-
-  behind_call : (ws : List Text) (x : Text) (fs : List (FormPart stage)) (mid : Text) → list_all is_name_text (ws ++ x ∷ []) ≡ true
-      → Spelt stage (Part 69 ∷ []) (dotted (ws ++ x ∷ []) ++ (40 ∷ arguments_text fs mid)) mid (Tree (nodes.tree head.Call (map nodes.word (ws ++ x ∷ []) ++ nodes.list (form_trees fs) ∷ [])) ∷ [])
-  behind_call [] x fs mid h = first_call x [] fs mid h
-  behind_call (v ∷ ws) x fs mid h = first_call v (ws ++ x ∷ []) fs mid h
+  pub call_words : Words stage 68 69 70
+  call_words = record {
+    name_then = λ w h ps d. row p.call_name (p.is_call_name stage) refl refl (ap (λ z. Tree z ∷ []) (grown_node (Tree (nodes.word w) ∷ []) h [] ps nowhere)) d end;
+    first_dot = λ w h ps d. row p.call_tail_dot (p.is_call_tail_dot stage) refl refl (ap (λ z. Tree z ∷ []) (grown_node (Tree (nodes.word w) ∷ []) h [] ps nowhere)) d end;
+    further_dot = λ w h ps d. row p.dotted_call_dot (p.is_dotted_call_dot stage) refl refl (ap (λ z. Tree z ∷ []) (grown_node (Tree (nodes.word w) ∷ []) h [] ps nowhere)) d end;
+  }
 
   -- a procedure at its arguments
   pub call_reads : (m x : Text) (fs : List (FormPart stage)) (mid : Text) → is_path m ≡ true → is_name_text x ≡ true
       → Spelt stage (Part 68 ∷ []) (m ++ (46 ∷ (x ++ (40 ∷ arguments_text fs mid)))) mid (Tree (nodes.tree head.Call ((nodes.word_nodes m ++ nodes.word x ∷ []) ++ nodes.list (form_trees fs) ∷ [])) ∷ [])
   call_reads m x fs mid h k =
-      let rest = 40 ∷ arguments_text fs mid in
-      member_from 68 (λ l. nodes.tree head.Call (l ++ nodes.list (form_trees fs) ∷ [])) m x rest mid h k
-      (λ w ws all.
-      let facts = both (is_name_text w) (list_all is_name_text (ws ++ x ∷ [])) all in
-      row p.call_name (p.is_call_name stage) refl refl (ap (λ z. Tree z ∷ []) (grown_node (Tree (nodes.word w) ∷ []) head.Call [] (map nodes.word (ws ++ x ∷ []) ++ nodes.list (form_trees fs) ∷ []) nowhere))
-      (followed (name_reads w (dotted (ws ++ x ∷ []) ++ rest) facts.0 (behind_dots (ws ++ x ∷ []) rest refl)) (behind_call ws x fs mid facts.1)) end)
+      member_in_front call_words head.Call (nodes.list (form_trees fs) ∷ []) (40 ∷ arguments_text fs mid) refl (row p.dotted_call_open_round (p.is_dotted_call_open_round stage) refl refl refl (tok (opens_call fs mid) (close_call fs mid)) end) m x h k
 
   -- Judgments.
 
   pub procedure_subject : (m x : Text) → is_path m ≡ true → is_name_text x ≡ true → IsSubject stage (λ mid. m ++ (46 ∷ (x ++ mid))) (nodes.tree head.ProcedurePath (nodes.word_nodes m ++ nodes.word x ∷ []))
   procedure_subject m x h k = record { reads = λ mid f e. row p.subject_procedure (p.is_subject_procedure stage) refl refl refl (procedure_reads m x mid h k f e) end }
+
+  -- what reads as a path, whatever stands behind it
+  pub subject_of : {φ : Before} {x : Node} → ((mid : Text) → ahead is_word_byte mid ≡ false → Spelt stage (Part 83 ∷ []) (φ mid) mid (Tree x ∷ [])) → IsSubject stage φ x
+  subject_of reads = record { reads = λ mid f e. row p.subject_procedure (p.is_subject_procedure stage) refl refl refl (reads mid f) end }
 
   pub hoare : {φ ψ χ : Before} {c d : Bool} {s a b : Node} → IsSubject stage φ s → IsForm stage ψ c a → IsForm stage χ d b
       → IsOperand stage (λ mid. codes "hoare [" ++ φ (codes " : " ++ ψ (codes " ==> " ++ χ (93 ∷ mid)))) false (nodes.tree head.Hoare (s ∷ a ∷ b ∷ []))
@@ -198,28 +166,25 @@ module _ {stage : ℕ} where
       }
 
   pub bound_at_most : {r : Node} (mid j : Text) → Spelt stage (Part 133 ∷ []) mid j (Tree r ∷ []) → Spelt stage (Part 139 ∷ []) (codes " <= " ++ mid) j (Tree (node head.Bounded (codes "<=") (r ∷ []) nowhere) ∷ [])
-  bound_at_most {r} mid j d = let n = at_most_word mid in row p.bound_of_less_equal (p.is_bound_of_less_equal stage) refl refl (ap (λ t. Tree (node head.Bounded t (r ∷ []) nowhere) ∷ []) (named n)) (tok n d) end
+  bound_at_most {r} mid j d = let n = at_most_word mid in row p.phoare_run_less_equal (p.is_phoare_run_less_equal stage) refl refl (ap (λ t. Tree (node head.Bounded t (r ∷ []) nowhere) ∷ []) (named n)) (tok n d) end
 
   pub bound_equal : {r : Node} (mid j : Text) → Spelt stage (Part 133 ∷ []) mid j (Tree r ∷ []) → Spelt stage (Part 139 ∷ []) (codes " = " ++ mid) j (Tree (node head.Bounded (codes "=") (r ∷ []) nowhere) ∷ [])
-  bound_equal {r} mid j d = let n = equal_word mid in row p.bound_of_equals (p.is_bound_of_equals stage) refl refl (ap (λ t. Tree (node head.Bounded t (r ∷ []) nowhere) ∷ []) (named n)) (tok n d) end
+  bound_equal {r} mid j d = let n = equal_word mid in row p.phoare_run_equals (p.is_phoare_run_equals stage) refl refl (ap (λ t. Tree (node head.Bounded t (r ∷ []) nowhere) ∷ []) (named n)) (tok n d) end
 
   pub bound_at_least : {r : Node} (mid j : Text) → Spelt stage (Part 133 ∷ []) mid j (Tree r ∷ []) → Spelt stage (Part 139 ∷ []) (codes " >= " ++ mid) j (Tree (node head.Bounded (codes ">=") (r ∷ []) nowhere) ∷ [])
-  bound_at_least {r} mid j d = let n = at_least_word mid in row p.bound_of_greater_equal (p.is_bound_of_greater_equal stage) refl refl (ap (λ t. Tree (node head.Bounded t (r ∷ []) nowhere) ∷ []) (named n)) (tok n d) end
+  bound_at_least {r} mid j d = let n = at_least_word mid in row p.phoare_run_greater_equal (p.is_phoare_run_greater_equal stage) refl refl (ap (λ t. Tree (node head.Bounded t (r ∷ []) nowhere) ∷ []) (named n)) (tok n d) end
 
-  pub probability : {ψ : Before} {c : Bool} {e : Node} (m x : Text) (fs : List (FormPart stage)) (n : Text) → is_path m ≡ true → is_name_text x ≡ true → is_name_text n ≡ true → IsForm stage ψ c e
-      → IsOperand stage (λ mid. codes "Pr[" ++ (m ++ (46 ∷ (x ++ (40 ∷ arguments_text fs (codes " @ &" ++ (n ++ (codes " : " ++ ψ (93 ∷ mid))))))))) false
-      (nodes.tree head.Probability (nodes.tree head.Call ((nodes.word_nodes m ++ nodes.word x ∷ []) ++ nodes.list (form_trees fs) ∷ []) ∷ nodes.word n ∷ e ∷ []))
-  unfolding spells kind_of
-  probability {ψ = ψ} {c = c} {e = e} m x fs n h k g o =
-      let call = nodes.tree head.Call ((nodes.word_nodes m ++ nodes.word x ∷ []) ++ nodes.list (form_trees fs) ∷ []) in
-      of_atom (λ mid. record { byte = 80; more = codes "r[" ++ (m ++ (46 ∷ (x ++ (40 ∷ arguments_text fs (codes " @ &" ++ (n ++ (codes " : " ++ ψ (93 ∷ mid)))))))); is = refl; begins = refl }) (plain_node head.Probability [] (call ∷ nodes.word n ∷ e ∷ []) refl refl)
+  pub probability : {φ ψ : Before} {c : Bool} {call e : Node} (n : Text) → is_name_text n ≡ true → ((mid : Text) → Spelt stage (Part 68 ∷ []) (φ mid) mid (Tree call ∷ [])) → IsForm stage ψ c e
+      → IsOperand stage (λ mid. codes "Pr[" ++ φ (codes " @ &" ++ (n ++ (codes " : " ++ ψ (93 ∷ mid))))) false (nodes.tree head.Probability (call ∷ nodes.word n ∷ e ∷ []))
+  unfolding spells kind_of is_fine is_word_of
+  probability {φ = φ} {ψ = ψ} {c = c} {call = call} {e = e} n g reads o =
+      of_atom (λ mid. record { byte = 80; more = codes "r[" ++ φ (codes " @ &" ++ (n ++ (codes " : " ++ ψ (93 ∷ mid)))); is = refl; begins = refl }) (plain_node head.Probability [] (call ∷ nodes.word n ∷ e ∷ []) refl refl)
       (λ mid f.
       let event = ψ (93 ∷ mid) in
       let name = n ++ (codes " : " ++ event) in
       let rest = codes " @ &" ++ name in
-      let called = m ++ (46 ∷ (x ++ (40 ∷ arguments_text fs rest))) in
       let s = name_start n g in
       let memory : Next (38 ∷ name) 109 (codes "&") name = subst (λ l. Next (38 ∷ (l ++ (codes " : " ++ event))) 109 (codes "&") (l ++ (codes " : " ++ event))) (sym s.2) (ampersand s.0 (s.1 ++ (codes " : " ++ event)) s.3) in
       row p.atom_pr (p.is_atom_pr stage) refl refl refl
-      (tok (next_word (codes "Pr") (91 ∷ called) terminal.Pr 53 refl refl refl refl) (tok (open_square called) (followed (call_reads m x fs rest h k) (tok (at_word (38 ∷ name)) (tok memory
+      (tok (next_word (codes "Pr") (91 ∷ φ rest) terminal.Pr 53 refl refl refl refl) (tok (open_square (φ rest)) (followed (reads rest) (tok (at_word (38 ∷ name)) (tok memory
       (followed (name_reads n (codes " : " ++ event) g refl) (tok (colon_word event) (followed (o.reads (93 ∷ mid) (fits_symbol c 93 mid refl refl)) (tok (close_square mid) end))))))))) end)

@@ -1,41 +1,44 @@
 -- What is printed of statements and blocks reads as their trees.
-use Rattle.std.specs.Prelude.{ℕ, ◌≡◌, true, nat_le, List, [], ◌∷◌, ◌++◌, map, codes}
+use Rattle.std.specs.Prelude.{ℕ, ◌≡◌, true, false, nat_le, List, [], ◌∷◌, ◌++◌, map, codes}
 use Rattle.std.specs.List.{list_all}
 use Rattle.std.proofs.Common.{refl, ap, ap₂, sym, ◌∙◌, subst, append_assoc}
 use Rattle.gb_core.specs.declared.var.Var.{Var}
 use Rattle.gb_core.specs.declared.var.Var.TheVariants.{Global, Local, Glob}
-use Rattle.gb_terms.specs.declared.module.Mexp.{out-Mexp}
 use Rattle.gb_terms.specs.declared.module.ProcRef.{ProcRef}
 use Rattle.gb_terms.specs.declared.term.Term.{Term}
 use Rattle.gb_terms.specs.declared.term.Instr.{Instr}
 use Rattle.gb_terms.specs.declared.term.Cmd.{Cmd}
-use Rattle.gb_terms.specs.declared.term.Head.TheVariants.{Assign, Sample, Call, If, Body}
+use Rattle.gb_terms.specs.declared.term.Head.TheVariants.{Assign, Sample, Call, If, While, Body}
 use Rattle.gb_script.specs.declared.head.Head.{Head}
 use Rattle.gb_script.specs.declared.head.Head.TheVariants as head
 use Rattle.gb_script.specs.declared.tree.Node.{Node}
+use Rattle.gb_script.specs.declared.value.Value.TheVariants.{Tree}
+use Rattle.gb_grammar.specs.declared.table.Symbol.TheVariants.{Part}
 use Rattle.gb_print_names.specs.declared.place.Known.{Known}
 use Rattle.gb_print_names.specs.Text.{Text, Writing, ◌▸◌, each, word}
 use Rattle.gb_print_names.specs.Names as names
 use Rattle.gb_print_names.specs.Names.{Place, module_name}
 use Rattle.gb_print.specs.Forms as text
-use Rattle.gb_print.proofs.FormSteps.{subject_Body, instr_Assign, instr_Sample, instr_Call, instr_If, cmd_is}
+use Rattle.gb_print.proofs.FormSteps.{subject_Body, instr_Assign, instr_Sample, instr_Call, instr_If, instr_While, cmd_is}
 use Rattle.gb_readback.specs.Nodes as nodes
 use Rattle.gb_readback.specs.Types as type_tree
 use Rattle.gb_readback.specs.Programs as programs
 use Rattle.gb_readback.specs.Forms as tree
-use Rattle.gb_readback.specs.Written.{is_path, is_name_text, is_module_here, is_procedure_here, is_target_here, are_targets_here}
-use Rattle.gb_readback.proofs.Steps.{program_is, assign_is, sample_is, call_is, if_is, statements_are}
+use Rattle.gb_readback.specs.Written.{is_path, is_name_text, IsWrittenProcedure, is_front, is_target_here, are_targets_here}
+use Rattle.gb_readback.proofs.Steps.{program_is, assign_is, sample_is, call_is, if_is, while_is, statements_are}
 use Rattle.gb_readback.proofs.Tokens.{both}
-use Rattle.gb_readback.proofs.Levels.{Before}
+use Rattle.gb_readback.proofs.Levels.{Before, Spelt}
 use Rattle.gb_readback.proofs.NameWords.{dotted, some_words, map_word_end, dotted_end, all_names_end}
 use Rattle.gb_readback.proofs.Atoms.{FormPart, more_forms, form_trees}
 use Rattle.gb_readback.proofs.Pieces.{Writes, literal, both_written, empty_written}
 use Rattle.gb_readback.proofs.Shown.{writes_same}
-use Rattle.gb_readback.proofs.PartsShown.{ShownTerm, part_form}
+use Rattle.gb_readback.proofs.PartsShown.{ShownTerm, part_form, part_operand}
 use Rattle.gb_readback.proofs.HeadsShown.{part_of}
 use Rattle.gb_readback.proofs.ProceduresShown.{arguments_text}
-use Rattle.gb_readback.proofs.JudgmentsShown.{ShowsSubject, named, procedure_written}
-use Rattle.gb_readback.proofs.StatementsRead.{IsStatement, StatementPart, statements_text, statement_trees, IsSource, WordsPart, word_path, word_paths, more_paths, block_subject, assign_source, call_source, source_tail, sample_tail, words_statement, call_statement, tuple_statement, branch, branches}
+use Rattle.gb_readback.proofs.JudgmentsShown.{ShowsSubject}
+use Rattle.gb_readback.proofs.CallsShown.{procedure_written}
+use Rattle.gb_readback.proofs.LoopsRead.{while}
+use Rattle.gb_readback.proofs.StatementsRead.{IsStatement, StatementPart, statements_text, statement_trees, IsSource, WordsPart, word_path, word_paths, more_paths, block_subject, assign_source, call_source, source_tail, sample_tail, words_statement, tuple_statement, branch, branches}
 
 -- Variables that are written.
 
@@ -104,17 +107,17 @@ same_statement : {stage : ℕ} {v w : Writing} {t : Node} → ((before : Text) �
 same_statement e s = record { text = s.text; writes = writes_same e s.writes; statement = s.statement }
 
 -- what is written to variables, behind them
-with_targets : {stage : ℕ} {h : Head} {w : Writing} {φ : Before} {e : Node} (arrow : Text) (bound : List Known) (x : Var) (xs : List Var) → list_all (is_target_here bound) (x ∷ xs) ≡ true
+with_targets : {stage : ℕ} {h : Head} {w : Writing} {φ : Before} {e : Node} (arrow : Text) (bound : List Known) (x : Var) (xs : List Var) → programs.begins_with_word h ≡ true → list_all (is_target_here bound) (x ∷ xs) ≡ true
     → Writes w φ → IsSource stage h (λ mid. arrow ++ φ mid) (e ∷ []) → ShowsStatement stage (text.targets arrow (x ∷ xs) bound ▸ w) (programs.written h bound (x ∷ xs) e)
-with_targets {stage} {h = h} {w = w} {φ = φ} {e = e} arrow bound x [] k i s =
+with_targets {stage} {h = h} {w = w} {φ = φ} {e = e} arrow bound x [] b k i s =
     let v = words_of bound x (both (is_target_here bound x) true k).0 in
     subst (λ l. ShowsStatement stage (text.targets arrow (x ∷ []) bound ▸ w) (nodes.tree h (l ++ e ∷ []))) (sym v.trees)
     (record {
       text = λ mid. v.words.first ++ (dotted v.words.more ++ (arrow ++ φ mid));
       writes = both_written (both_written v.writes (literal arrow)) i;
-      statement = words_statement (source_tail s) v.words.first v.words.more v.words.names;
+      statement = words_statement (source_tail b s) v.words.first v.words.more v.words.names;
     })
-with_targets {stage} {h = h} {w = w} {φ = φ} {e = e} arrow bound x (y ∷ ys) k i s =
+with_targets {stage} {h = h} {w = w} {φ = φ} {e = e} arrow bound x (y ∷ ys) b k i s =
     let parts = both (is_target_here bound x) (list_all (is_target_here bound) (y ∷ ys)) k in
     let others = both (is_target_here bound y) (list_all (is_target_here bound) ys) parts.1 in
     let v = words_of bound x parts.0 in
@@ -168,15 +171,10 @@ arguments_of stage at (t ∷ ts) s =
     }
 
 -- a call, alone or behind variables
-call_by : {stage : ℕ} {w : Writing} (bound : List Known) (xs : List Var) (m x : Text) (fs : List (FormPart stage)) → list_all (is_target_here bound) xs ≡ true → is_path m ≡ true → is_name_text x ≡ true
-    → Writes w (λ mid. m ++ (46 ∷ (x ++ (40 ∷ arguments_text fs (59 ∷ mid)))))
-    → ShowsStatement stage (text.targets (codes " <@ ") xs bound ▸ w) (programs.written head.AssignCall bound xs (nodes.tree head.Call ((nodes.word_nodes m ++ nodes.word x ∷ []) ++ nodes.list (form_trees fs) ∷ [])))
-call_by bound [] m x fs k h n i = record {
-  text = λ mid. m ++ (46 ∷ (x ++ (40 ∷ arguments_text fs (59 ∷ mid))));
-  writes = both_written empty_written i;
-  statement = call_statement m x fs h n;
-}
-call_by bound (y ∷ ys) m x fs k h n i = with_targets (codes " <@ ") bound y ys k i (call_source m x fs h n)
+call_by : {stage : ℕ} {w : Writing} {φ : Before} {x : Node} (bound : List Known) (xs : List Var) → list_all (is_target_here bound) xs ≡ true → ((mid : Text) → Spelt stage (Part 68 ∷ []) (φ mid) mid (Tree x ∷ []))
+    → IsStatement stage (λ mid. φ (59 ∷ mid)) x → Writes w (λ mid. φ (59 ∷ mid)) → ShowsStatement stage (text.targets (codes " <@ ") xs bound ▸ w) (programs.written head.AssignCall bound xs x)
+call_by {φ = φ} bound [] k reads alone i = record { text = λ mid. φ (59 ∷ mid); writes = both_written empty_written i; statement = alone }
+call_by bound (y ∷ ys) k reads alone i = with_targets (codes " <@ ") bound y ys refl k i (call_source reads)
 
 -- Blocks.
 
@@ -198,7 +196,7 @@ module _ (stage : ℕ) (at : Place) where
       record {
         node_of = programs.written head.Assign at.bound (x ∷ xs) (tree.form (tree.shown e) true at);
         trees = assign_is (x ∷ xs) e at;
-        shows = same_statement (λ before. instr_Assign (x ∷ xs) e at before) (with_targets (codes " <- ") at.bound x xs k (both_written f.writes (literal (codes ";"))) (assign_source f.form));
+        shows = same_statement (λ before. instr_Assign (x ∷ xs) e at before) (with_targets (codes " <- ") at.bound x xs refl k (both_written f.writes (literal (codes ";"))) (assign_source f.form));
       }
 
   pub sample_shown : (x : Var) (d : Term) → is_target_here at.bound x ≡ true → ShownTerm stage at d → ShowsInstr stage at (Sample x d)
@@ -217,23 +215,16 @@ module _ (stage : ℕ) (at : Place) where
             }));
       }
 
-  pub call_shown : (xs : List Var) (p : ProcRef) (ts : List Term) → list_all (is_target_here at.bound) xs ≡ true → is_procedure_here at.bound p ≡ true → AllForms stage at ts → ShowsInstr stage at (Call xs p ts)
-  call_shown xs p ts k h s =
-      let parts = both (is_module_here at.bound (out-Mexp p.module)) (is_name_text p.name) h in
-      let m = named at.bound p.module parts.0 in
-      let path = module_name at.bound m.name in
+  pub call_shown : (xs : List Var) (p : ProcRef) (ts : List Term) → list_all (is_target_here at.bound) xs ≡ true → IsWrittenProcedure at.bound p → AllForms stage at ts → ShowsInstr stage at (Call xs p ts)
+  call_shown xs p ts k w s =
+      let m = procedure_written stage at.bound p w in
       let a = arguments_of stage at ts s in
-      let called : nodes.tree head.Call ((nodes.word_nodes path ++ nodes.word p.name ∷ []) ++ nodes.list (form_trees a.parts) ∷ []) ≡ type_tree.call_tree p (tree.forms (tree.all_shown ts) at) at.bound =
-      ap (λ l. nodes.tree head.Call l) (append_assoc (nodes.word_nodes path) (nodes.word p.name ∷ []) (nodes.list (form_trees a.parts) ∷ []))
-      ∙ sym (ap (λ l. type_tree.call_at at.bound p.name (form_trees a.parts) l) m.is)
-      ∙ ap (λ l. type_tree.call_tree p l at.bound) (sym a.trees) in
-      let written : Writes (text.call p (text.all_shown ts) at) (λ mid. path ++ (46 ∷ (p.name ++ (40 ∷ arguments_text a.parts (59 ∷ mid))))) =
-      both_written (both_written (procedure_written at.bound p m) (literal (codes "("))) a.writes in
       record {
         node_of = programs.written head.AssignCall at.bound xs (type_tree.call_tree p (tree.forms (tree.all_shown ts) at) at.bound);
         trees = call_is xs p ts at;
         shows = same_statement (λ before. instr_Call xs p ts at before)
-            (subst (λ y. ShowsStatement stage (text.targets (codes " <@ ") xs at.bound ▸ text.call p (text.all_shown ts) at) (programs.written head.AssignCall at.bound xs y)) called (call_by at.bound xs path p.name a.parts k m.path parts.1 written));
+            (subst (λ y. ShowsStatement stage (text.targets (codes " <@ ") xs at.bound ▸ text.call p (text.all_shown ts) at) (programs.written head.AssignCall at.bound xs (type_tree.call_tree p y at.bound))) (sym a.trees)
+            (call_by at.bound xs k (m.call a.parts) (m.statement a.parts) (both_written (both_written m.writes (literal (codes "("))) a.writes)));
       }
 
   pub no_instrs : ShowsInstrs stage at []
@@ -298,3 +289,19 @@ module _ (stage : ℕ) (at : Place) where
 
   pub if_shown : (e : Term) (a b : Cmd) → ShownTerm stage at e → ShowsInstrs stage at a.list → ShowsInstrs stage at b.list → ShowsInstr stage at (If e a b)
   if_shown e a b s x y = if_by e a b b.list refl s (cmd_shown a x) y
+
+  pub while_shown : (e v : Term) (a : Cmd) → ShownTerm stage at e → is_front v ≡ true → ShownTerm stage at v → ShowsInstrs stage at a.list → ShowsInstr stage at (While e v a)
+  while_shown e v a s front r x =
+      let f = part_form s true in
+      let o = part_operand r false front in
+      let b = cmd_shown a x in
+      record {
+        node_of = nodes.tree head.While (tree.form (tree.shown e) true at ∷ programs.loop (tree.operand (tree.shown v) false at) (statement_trees b.parts) ∷ []);
+        trees = while_is e v a at ∙ ap (λ l. nodes.tree head.While (tree.form (tree.shown e) true at ∷ programs.loop (tree.operand (tree.shown v) false at) l ∷ []) ∷ []) b.trees;
+        shows = same_statement (λ before. instr_While e v a at before)
+            (record {
+              text = λ mid. codes "while (" ++ f.text (codes ") variant " ++ o.text (codes " {" ++ statements_text b.parts mid));
+              writes = both_written (both_written (both_written (both_written (both_written (literal (codes "while (")) f.writes) (literal (codes ") variant "))) o.writes) (literal (codes " "))) b.writes;
+              statement = while f.form o.operand b.parts;
+            });
+      }

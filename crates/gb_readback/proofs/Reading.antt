@@ -14,6 +14,7 @@ use Rattle.gb_script.specs.declared.text.Lexeme.{Lexeme}
 use Rattle.gb_script.specs.declared.text.Text.{Text}
 use Rattle.gb_script.specs.declared.value.Value.{Value}
 use Rattle.gb_script.specs.Build.{made}
+use Rattle.gb_readback.proofs.Fine.{is_fine}
 
 -- a token that stands nowhere
 abbrev pub lexeme : Terminal → List ℕ → Lexeme
@@ -53,6 +54,6 @@ module _ (g : Grammar Rule) where
   -- The lexemes up to a rest spell the symbols, whose values are these.
   pub data Reads : List Symbol → List Lexeme → List Lexeme → List Value → Type 0 where
     done : {ls : List Lexeme} → Reads [] ls ls []
-    token : {k : ℕ} {ss : List Symbol} {l : Lexeme} {ls rest : List Lexeme} {vs : List Value} → lexeme_kind l ≡ k → Reads ss ls rest vs → Reads (Token k ∷ ss) (l ∷ ls) rest vs
+    token : {k : ℕ} {ss : List Symbol} {l : Lexeme} {ls rest : List Lexeme} {vs : List Value} → lexeme_kind l ≡ k → is_fine (lexeme_kind l) l.name ≡ true → Reads ss ls rest vs → Reads (Token k ∷ ss) (l ∷ ls) rest vs
     part : {n : ℕ} {ss : List Symbol} {ls mid rest : List Lexeme} {us vs ws : List Value} (r : Production Rule) → IsProduction g n r → Allowed r (lexeme_kinds ls) → is_fair r.rule.action r.body ≡ true
         → nat_le r.rule.takes (length us) ≡ true → ruled r.rule (first_name ls) us ++ vs ≡ ws → Reads r.body ls mid us → Reads ss mid rest vs → Reads (Part n ∷ ss) ls rest ws

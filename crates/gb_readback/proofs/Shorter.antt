@@ -15,7 +15,7 @@ use Rattle.gb_readback.proofs.Reading.{has_token, is_fair, bare, lexeme_kinds, f
 -- the tokens that are read
 pub consumed : {g : Grammar Rule} {ss : List Symbol} {ls rest : List Lexeme} {vs : List Value} → Reads g ss ls rest vs → (c : List Lexeme) × (ls ≡ c ++ rest)
 consumed done = ([], refl)
-consumed (token {l = l} k d) = let h = consumed d in (l ∷ h.0, ap (λ x. l ∷ x) h.1)
+consumed (token {l = l} k z d) = let h = consumed d in (l ∷ h.0, ap (λ x. l ∷ x) h.1)
 consumed (part {rest = rest} r i al fair e made b d) =
     let h = consumed b in
     let k = consumed d in
@@ -40,7 +40,7 @@ allowed_before r (x ∷ xs) zs h = h
 -- Symbols of which one is a token take a token.
 some_taken : {g : Grammar Rule} {ss : List Symbol} {ls rest : List Lexeme} {vs : List Value} → Reads g ss ls rest vs → has_token ss ≡ true → length rest < length ls
 some_taken done h = absurd cc
-some_taken (token k d) h = let m = no_longer d in omega arith
+some_taken (token k z d) h = let m = no_longer d in omega arith
 some_taken (part r i al fair e made b d) h = let m = no_longer b in let n = some_taken d h in omega arith
 
 -- An action that spells no token makes the same at each.
@@ -75,15 +75,15 @@ module _ (g : Grammar Rule) (zs : List Lexeme) where
 
   pub shorter : {ss : List Symbol} {ls rest : List Lexeme} {vs : List Value} → Reads g ss ls rest vs → (xs ys : List Lexeme) → ls ≡ xs ++ zs → rest ≡ ys ++ zs → Reads g ss xs ys vs
   shorter (done {ls = ls}) xs ys e f = subst (λ l. Reads g [] xs l []) (cancel xs ys zs (sym e ∙ f)) done
-  shorter (token {l = l} {ls = ls} {rest = rest} k d) [] ys e f =
+  shorter (token {l = l} {ls = ls} {rest = rest} k z d) [] ys e f =
       let n = ap (λ x. length x) e in
       let m = ap (λ x. length x) f in
       let b = no_longer d in
       absurd (omega (arith, n, m, b, length-append ys zs))
-  shorter (token {k = kind} {ss = ss} {l = l} {ls = ls} {vs = vs} k d) (x ∷ xs) ys e f =
+  shorter (token {k = kind} {ss = ss} {l = l} {ls = ls} {vs = vs} k z d) (x ∷ xs) ys e f =
       let first : l ≡ x = cc in
       let more : ls ≡ xs ++ zs = cc in
-      subst (λ y. Reads g (Token kind ∷ ss) (y ∷ xs) ys vs) first (token k (shorter d xs ys more f))
+      subst (λ y. Reads g (Token kind ∷ ss) (y ∷ xs) ys vs) first (token k z (shorter d xs ys more f))
   shorter (part {n = n} {ss = ss} {ls = ls} {mid = mid} {rest = rest} {us = us} {vs = vs} {ws = ws} r i al fair enough made b d) xs ys e f =
       let c = consumed d in
       let middle : mid ≡ (c.0 ++ ys) ++ zs = c.1 ∙ ap (λ l. c.0 ++ l) f ∙ sym (append_assoc c.0 ys zs) in

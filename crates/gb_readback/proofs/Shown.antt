@@ -44,7 +44,7 @@ bracketed {w = w} s = record {
   operand = in_round s.form;
 }
 
-pub annotated : {stage : ℕ} {w : Writing} {x : Node} (at : Place) {t : print.Part} {y : type_tree.Part} → Shows stage w x → ShowsType stage at.bound t y
+pub annotated : {stage : ℕ} {w : Writing} {x : Node} (at : Place) {t : print.Part} {y : type_tree.Part} → Shows stage w x → ShowsType stage stage at.bound t y
     → ShowsOperand stage (word (codes "(") ▸ w ▸ word (codes " : ") ▸ t.1 at.bound ▸ word (codes ")")) (node head.Typed [] (x ∷ y.1 at.bound ∷ []) nowhere)
 annotated {w = w} at {t = t} s q = record {
   text = λ mid. 40 ∷ s.text (codes " : " ++ q.text (41 ∷ mid));

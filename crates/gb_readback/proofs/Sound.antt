@@ -61,7 +61,7 @@ module _ (g : Grammar Rule) (t : Text) where
 
   pub derived : {ss : List Symbol} {ls rest : List Lexeme} {vs : List Value} → Reads g ss ls rest vs → (p : ℕ) → drop p (bare_lexemes t.lexemes) ≡ ls → Derived ss p ls rest vs
   derived done p e = record { end = p; rest_is = e; steps = []; derives = λ tail ps d. d; builds = λ ps st h. h }
-  derived (token {ss = ss} {l = l} {ls = ls} {rest = rest} {vs = vs} k d) p e =
+  derived (token {ss = ss} {l = l} {ls = ls} {rest = rest} {vs = vs} k z d) p e =
       let below = derived d (p + 1) (drop_next p (bare_lexemes t.lexemes) l ls e) in
       record {
         end = below.end;

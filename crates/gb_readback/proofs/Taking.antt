@@ -20,12 +20,12 @@ and_parts true b h = (refl, h)
 and_parts false b h = absurd cc
 
 -- What holds of each production holds of this one.
-of_production : (test : Production Rule → Bool) (g : Grammar Rule) (place : ℕ) (r : Production Rule) → list_all test g ≡ true → slice_get g place ≡ Some r → test r ≡ true
+pub of_production : (test : Production Rule → Bool) (g : Grammar Rule) (place : ℕ) (r : Production Rule) → list_all test g ≡ true → slice_get g place ≡ Some r → test r ≡ true
 of_production test [] place r h e = absurd cc
 of_production test (q ∷ g) zero r h e = let same : q ≡ r = cc in subst (λ (x : Production Rule). test x ≡ true) same (and_parts (test q) (list_all test g) h).0
 of_production test (q ∷ g) (suc place) r h e = of_production test g place r (and_parts (test q) (list_all test g) h).1 e
 
-same_part : (a b : ℕ) → a ≡ b → nat_eq a b ≡ true
+pub same_part : (a b : ℕ) → a ≡ b → nat_eq a b ≡ true
 same_part a b e = grind (arith, nat_tests)
 
 -- Each text of the symbols has a token, as far as this many levels tell.
@@ -55,10 +55,10 @@ one_takes false a b c x y h k = let l = k refl in omega arith
 module _ (g : Grammar Rule) where
   pub takes_some : {ss : List Symbol} {ls rest : List Lexeme} {vs : List Value} → Reads g ss ls rest vs → (f : ℕ) → takes f g ss ≡ true → length rest < length ls
   takes_some done zero h = absurd cc
-  takes_some (token k d) zero h = absurd cc
+  takes_some (token k z d) zero h = absurd cc
   takes_some (part r i al fair e made b d) zero h = absurd cc
   takes_some done (suc f) h = absurd cc
-  takes_some (token k d) (suc f) h = let m = no_longer d in omega arith
+  takes_some (token k z d) (suc f) h = let m = no_longer d in omega arith
   takes_some (part {n = n} {ss = ss} {ls = ls} {mid = mid} {rest = rest} r i al fair e made b d) (suc f) h =
       one_takes (takes_all f n g) (length ls) (length mid) (length rest) (no_longer b) (no_longer d)
       (λ t. takes_some b f (body_takes g f n r i t)) (λ t. takes_some d f (either_true (takes_all f n g) (takes f g ss) h t))

@@ -1,5 +1,5 @@
 -- Tokens in front of what follows: words, numbers and symbols.
-use Rattle.std.specs.Prelude.{ℕ, zero, suc, ◌≡◌, ◌<◌, ◌==◌, Bool, true, false, ◌&&◌, ◌||◌, nat_eq, nat_le, List, [], ◌∷◌, ◌++◌, length, take, drop, codes}
+use Rattle.std.specs.Prelude.{ℕ, zero, suc, ◌≡◌, ◌<◌, ◌==◌, Bool, true, false, ◌&&◌, ◌||◌, nat_eq, nat_le, List, [], ◌∷◌, ◌++◌, length, take, drop}
 use Rattle.std.specs.List.{list_all, prefix_len}
 use Rattle.std.specs.Char.{is_ascii_digit}
 use Rattle.std.specs.Str.{IsAscii}
@@ -12,14 +12,13 @@ use Rattle.std.proofs.Math.Seq.{take-append_seam, drop-append_seam}
 use Rattle.gb_lex.specs.declared.token.Kind.TheVariants.{Word, Number, Symbol}
 use Rattle.gb_lex.specs.Byte.{is_white, is_word_start, is_word_byte}
 use Rattle.gb_lex.specs.Comment.{opens_comment}
-use Rattle.gb_lex.specs.Symbol.{symbol_size}
 use Rattle.gb_lex.specs.Piece.{token, first_piece}
 use Rattle.gb_limits.specs.Kinds.{kind_of}
-use Rattle.gb_limits.specs.Lexeme.{spells, terminal_of}
+use Rattle.gb_limits.specs.Lexeme.{terminal_of}
 use Rattle.gb_script.specs.declared.terminal.Terminal.{Terminal}
-use Rattle.gb_script.specs.declared.terminal.Terminal.TheVariants as terminal
 use Rattle.gb_lex.specs.declared.token.Piece.{Piece}
-use Rattle.gb_readback.proofs.Cut.{Cut, cut_more, cut_piece, cut_space, on_line}
+use Rattle.gb_readback.proofs.Cut.{Cut, cut_more, cut_piece, cut_space, is_whole, on_line}
+use Rattle.gb_readback.proofs.Fine.{is_fine}
 use Rattle.gb_readback.specs.Written.{is_word}
 use Rattle.gb_readback.proofs.Reading.{lexeme}
 use Rattle.gb_readback.proofs.Lexed.{lexed, lexed_after, lexed_token, ahead, prefix_is}
@@ -29,6 +28,7 @@ pub record Next (i : List ℕ) (k : ℕ) (n mid : List ℕ) : Type 0 where
   pub terminal : Terminal
   pub first : lexed i ≡ lexeme terminal n ∷ lexed mid
   pub kind : kind_of terminal ≡ k
+  pub fine : is_fine k n ≡ true
   pub cut : Cut i mid
 
 -- Words and numbers.
@@ -132,7 +132,7 @@ word_cut (b ∷ w) mid h f =
     let parts = both (is_word_start b) (list_all is_word_byte w) h in
     let lines = all_on_line is_word_byte word_on_line (b ∷ w) (all_of is_word_byte b w (start_is_byte b parts.0) parts.1) in
     subst (λ l. Cut (b ∷ (w ++ mid)) l) (drop-append_seam w mid)
-    (cut_piece b (w ++ mid) (length w) (ap (λ (p : Piece). p.size) (first_word b w mid parts.0 parts.1 f)) (subst (λ l. list_all on_line l ≡ true) (sym (same_text b w mid)) lines))
+    (cut_piece b (w ++ mid) (length w) (ap (λ (p : Piece). p.size) (first_word b w mid parts.0 parts.1 f)) (ap (λ (p : Piece). is_whole p.what) (first_word b w mid parts.0 parts.1 f)) (subst (λ l. list_all on_line l ≡ true) (sym (same_text b w mid)) lines))
 
 pub number_cut : (x mid : List ℕ) → is_digits x ≡ true → ahead is_ascii_digit mid ≡ false → Cut (x ++ mid) mid
 number_cut [] mid h f = absurd cc
@@ -140,22 +140,22 @@ number_cut (b ∷ w) mid h f =
     let parts = both (is_ascii_digit b) (list_all is_ascii_digit w) h in
     let lines = all_on_line is_ascii_digit digit_on_line (b ∷ w) (all_of is_ascii_digit b w parts.0 parts.1) in
     subst (λ l. Cut (b ∷ (w ++ mid)) l) (drop-append_seam w mid)
-    (cut_piece b (w ++ mid) (length w) (ap (λ (p : Piece). p.size) (first_number b w mid parts.0 parts.1 f)) (subst (λ l. list_all on_line l ≡ true) (sym (same_text b w mid)) lines))
+    (cut_piece b (w ++ mid) (length w) (ap (λ (p : Piece). p.size) (first_number b w mid parts.0 parts.1 f)) (ap (λ (p : Piece). is_whole p.what) (first_number b w mid parts.0 parts.1 f)) (subst (λ l. list_all on_line l ≡ true) (sym (same_text b w mid)) lines))
 
 -- Bytes with which the text of a form begins.
 abbrev pub begins_form : ℕ → Bool
 begins_form c = is_word_start c || (is_ascii_digit c || (c == 40 || (c == 123 || (c == 96 || (c == 45 || c == 33)))))
 
-not_star : (c : ℕ) → begins_form c ≡ true → nat_eq 42 c ≡ false
+pub not_star : (c : ℕ) → begins_form c ≡ true → nat_eq 42 c ≡ false
 not_star c h = grind (arith, nat_tests)
 
-not_greater : (c : ℕ) → begins_form c ≡ true → nat_eq 62 c ≡ false
+pub not_greater : (c : ℕ) → begins_form c ≡ true → nat_eq 62 c ≡ false
 not_greater c h = grind (arith, nat_tests)
 
-start_not_ampersand : (c : ℕ) → is_word_start c ≡ true → nat_eq 38 c ≡ false
+pub start_not_ampersand : (c : ℕ) → is_word_start c ≡ true → nat_eq 38 c ≡ false
 start_not_ampersand c h = grind (arith, nat_tests)
 
-low_byte : ℕ → Bool
+unfoldable pub low_byte : ℕ → Bool
 low_byte b = nat_le b 127 && on_line b
 
 lossless : (n : List ℕ) → list_all low_byte n ≡ true → utf8_lossy n ≡ n
@@ -169,356 +169,32 @@ all_of_low (b ∷ n) h =
     let parts = both (low_byte b) (list_all low_byte n) h in
     ap₂ (λ x y. x && y) (both (nat_le b 127) (on_line b) parts.0).1 (all_of_low n parts.1)
 
-next_symbol : (b : ℕ) (rest : List ℕ) (n : ℕ) (t : Terminal) (k : ℕ) → first_piece (b ∷ rest) ≡ token Symbol (suc n) → terminal_of Symbol (take (suc n) (b ∷ rest)) ≡ t
-    → list_all low_byte (take (suc n) (b ∷ rest)) ≡ true → kind_of t ≡ k → Next (b ∷ rest) k (take (suc n) (b ∷ rest)) (drop n rest)
-next_symbol b rest n t k piece is low kind = record {
+pub next_symbol : (b : ℕ) (rest : List ℕ) (n : ℕ) (t : Terminal) (k : ℕ) → first_piece (b ∷ rest) ≡ token Symbol (suc n) → terminal_of Symbol (take (suc n) (b ∷ rest)) ≡ t
+    → (list_all low_byte (take (suc n) (b ∷ rest)) && is_fine k (take (suc n) (b ∷ rest))) ≡ true → kind_of t ≡ k → Next (b ∷ rest) k (take (suc n) (b ∷ rest)) (drop n rest)
+next_symbol b rest n t k piece is facts kind = let low = (both (list_all low_byte (take (suc n) (b ∷ rest))) (is_fine k (take (suc n) (b ∷ rest))) facts).0 in record {
   terminal = t;
   first = lexed_token b rest Symbol n piece ∙ ap₂ (λ (u : Terminal) m. lexeme u m ∷ lexed (drop n rest)) is (lossless (take (suc n) (b ∷ rest)) low);
   kind = kind;
-  cut = cut_piece b rest n (ap (λ (p : Piece). p.size) piece) (all_of_low (take (suc n) (b ∷ rest)) low);
+  fine = (both (list_all low_byte (take (suc n) (b ∷ rest))) (is_fine k (take (suc n) (b ∷ rest))) facts).1;
+  cut = cut_piece b rest n (ap (λ (p : Piece). p.size) piece) (ap (λ (p : Piece). is_whole p.what) piece) (all_of_low (take (suc n) (b ∷ rest)) low);
 }
 
-pub next_word : (x mid : List ℕ) (t : Terminal) (k : ℕ) → is_word x ≡ true → ahead is_word_byte mid ≡ false → terminal_of Word x ≡ t → kind_of t ≡ k → Next (x ++ mid) k x mid
-next_word x mid t k w f is kind = record { terminal = t; first = word_lexed x mid w f ∙ ap (λ (u : Terminal). lexeme u x ∷ lexed mid) is; kind = kind; cut = word_cut x mid w f }
+pub next_word : (x mid : List ℕ) (t : Terminal) (k : ℕ) → (is_word x && is_fine k x) ≡ true → ahead is_word_byte mid ≡ false → terminal_of Word x ≡ t → kind_of t ≡ k → Next (x ++ mid) k x mid
+next_word x mid t k w f is kind =
+    let facts = both (is_word x) (is_fine k x) w in
+    record { terminal = t; first = word_lexed x mid facts.0 f ∙ ap (λ (u : Terminal). lexeme u x ∷ lexed mid) is; kind = kind; fine = facts.1; cut = word_cut x mid facts.0 f }
 
-pub next_number : (x mid : List ℕ) (t : Terminal) (k : ℕ) → is_digits x ≡ true → ahead is_ascii_digit mid ≡ false → terminal_of Number x ≡ t → kind_of t ≡ k → Next (x ++ mid) k x mid
-next_number x mid t k w f is kind = record { terminal = t; first = number_lexed x mid w f ∙ ap (λ (u : Terminal). lexeme u x ∷ lexed mid) is; kind = kind; cut = number_cut x mid w f }
+pub next_number : (x mid : List ℕ) (t : Terminal) (k : ℕ) → (is_digits x && is_fine k x) ≡ true → ahead is_ascii_digit mid ≡ false → terminal_of Number x ≡ t → kind_of t ≡ k → Next (x ++ mid) k x mid
+next_number x mid t k w f is kind =
+    let facts = both (is_digits x) (is_fine k x) w in
+    record { terminal = t; first = number_lexed x mid facts.0 f ∙ ap (λ (u : Terminal). lexeme u x ∷ lexed mid) is; kind = kind; fine = facts.1; cut = number_cut x mid facts.0 f }
 
 pub space : (mid : List ℕ) → lexed (32 ∷ mid) ≡ lexed mid
 unfolding lexed lexed_after first_piece
 space mid = refl
 
 pub spaced : {i : List ℕ} {k : ℕ} {n mid : List ℕ} → Next i k n mid → Next (32 ∷ i) k n mid
-spaced {i = i} n = record { terminal = n.terminal; first = space i ∙ n.first; kind = n.kind; cut = cut_more (cut_space i) n.cut }
+spaced {i = i} n = record { terminal = n.terminal; first = space i ∙ n.first; kind = n.kind; fine = n.fine; cut = cut_more (cut_space i) n.cut }
 
-trailed : {i : List ℕ} {k : ℕ} {n : List ℕ} (mid : List ℕ) → Next i k n (32 ∷ mid) → Next i k n mid
-trailed {n = m} mid n = record { terminal = n.terminal; first = n.first ∙ ap (λ l. lexeme n.terminal m ∷ l) (space mid); kind = n.kind; cut = cut_more n.cut (cut_space mid) }
-
--- Symbols in front of whatever follows.
-
-pub close_round : (mid : List ℕ) → Next (41 ∷ mid) 83 (codes ")") mid
-unfolding first_piece symbol_size spells kind_of low_byte
-close_round [] = next_symbol 41 ([]) 0 terminal.CloseRound 83 refl refl refl refl
-close_round (b ∷ []) = next_symbol 41 (b ∷ []) 0 terminal.CloseRound 83 refl refl refl refl
-close_round (b ∷ c ∷ mid) = next_symbol 41 (b ∷ c ∷ mid) 0 terminal.CloseRound 83 refl refl refl refl
-
-pub open_square : (mid : List ℕ) → Next (91 ∷ mid) 84 (codes "[") mid
-unfolding first_piece symbol_size spells kind_of low_byte
-open_square [] = next_symbol 91 ([]) 0 terminal.OpenSquare 84 refl refl refl refl
-open_square (b ∷ []) = next_symbol 91 (b ∷ []) 0 terminal.OpenSquare 84 refl refl refl refl
-open_square (b ∷ c ∷ mid) = next_symbol 91 (b ∷ c ∷ mid) 0 terminal.OpenSquare 84 refl refl refl refl
-
-pub close_square : (mid : List ℕ) → Next (93 ∷ mid) 85 (codes "]") mid
-unfolding first_piece symbol_size spells kind_of low_byte
-close_square [] = next_symbol 93 ([]) 0 terminal.CloseSquare 85 refl refl refl refl
-close_square (b ∷ []) = next_symbol 93 (b ∷ []) 0 terminal.CloseSquare 85 refl refl refl refl
-close_square (b ∷ c ∷ mid) = next_symbol 93 (b ∷ c ∷ mid) 0 terminal.CloseSquare 85 refl refl refl refl
-
-pub open_brace : (mid : List ℕ) → Next (123 ∷ mid) 86 (codes "{") mid
-unfolding first_piece symbol_size spells kind_of low_byte
-open_brace [] = next_symbol 123 ([]) 0 terminal.OpenBrace 86 refl refl refl refl
-open_brace (b ∷ []) = next_symbol 123 (b ∷ []) 0 terminal.OpenBrace 86 refl refl refl refl
-open_brace (b ∷ c ∷ mid) = next_symbol 123 (b ∷ c ∷ mid) 0 terminal.OpenBrace 86 refl refl refl refl
-
-pub close_brace : (mid : List ℕ) → Next (125 ∷ mid) 87 (codes "}") mid
-unfolding first_piece symbol_size spells kind_of low_byte
-close_brace [] = next_symbol 125 ([]) 0 terminal.CloseBrace 87 refl refl refl refl
-close_brace (b ∷ []) = next_symbol 125 (b ∷ []) 0 terminal.CloseBrace 87 refl refl refl refl
-close_brace (b ∷ c ∷ mid) = next_symbol 125 (b ∷ c ∷ mid) 0 terminal.CloseBrace 87 refl refl refl refl
-
-pub semicolon : (mid : List ℕ) → Next (59 ∷ mid) 92 (codes ";") mid
-unfolding first_piece symbol_size spells kind_of low_byte
-semicolon [] = next_symbol 59 ([]) 0 terminal.Semicolon 92 refl refl refl refl
-semicolon (b ∷ []) = next_symbol 59 (b ∷ []) 0 terminal.Semicolon 92 refl refl refl refl
-semicolon (b ∷ c ∷ mid) = next_symbol 59 (b ∷ c ∷ mid) 0 terminal.Semicolon 92 refl refl refl refl
-
-pub open_get : (mid : List ℕ) → Next (46 ∷ 91 ∷ mid) 89 (codes ".[") mid
-unfolding first_piece symbol_size spells kind_of low_byte
-open_get [] = next_symbol 46 (91 ∷ []) 1 terminal.OpenGet 89 refl refl refl refl
-open_get (b ∷ []) = next_symbol 46 (91 ∷ b ∷ []) 1 terminal.OpenGet 89 refl refl refl refl
-open_get (b ∷ c ∷ mid) = next_symbol 46 (91 ∷ b ∷ c ∷ mid) 1 terminal.OpenGet 89 refl refl refl refl
-
-pub bars : (mid : List ℕ) → Next (96 ∷ 124 ∷ mid) 90 (codes "`|") mid
-unfolding first_piece symbol_size spells kind_of low_byte
-bars [] = next_symbol 96 (124 ∷ []) 1 terminal.Bars 90 refl refl refl refl
-bars (b ∷ []) = next_symbol 96 (124 ∷ b ∷ []) 1 terminal.Bars 90 refl refl refl refl
-bars (b ∷ c ∷ mid) = next_symbol 96 (124 ∷ b ∷ c ∷ mid) 1 terminal.Bars 90 refl refl refl refl
-
-pub exclamation : (mid : List ℕ) → Next (33 ∷ mid) 95 (codes "!") mid
-unfolding first_piece symbol_size spells kind_of low_byte
-exclamation [] = next_symbol 33 ([]) 0 terminal.Exclamation 95 refl refl refl refl
-exclamation (b ∷ []) = next_symbol 33 (b ∷ []) 0 terminal.Exclamation 95 refl refl refl refl
-exclamation (b ∷ c ∷ mid) = next_symbol 33 (b ∷ c ∷ mid) 0 terminal.Exclamation 95 refl refl refl refl
-
-pub dot_number : (mid : List ℕ) → Next (46 ∷ 96 ∷ mid) 124 (codes ".`") mid
-unfolding first_piece symbol_size spells kind_of low_byte
-dot_number [] = next_symbol 46 (96 ∷ []) 1 terminal.DotNumber 124 refl refl refl refl
-dot_number (b ∷ []) = next_symbol 46 (96 ∷ b ∷ []) 1 terminal.DotNumber 124 refl refl refl refl
-dot_number (b ∷ c ∷ mid) = next_symbol 46 (96 ∷ b ∷ c ∷ mid) 1 terminal.DotNumber 124 refl refl refl refl
-
-pub percent_real : (mid : List ℕ) → Next (37 ∷ 114 ∷ mid) 123 (codes "%r") mid
-unfolding first_piece symbol_size spells kind_of low_byte
-percent_real [] = next_symbol 37 (114 ∷ []) 1 terminal.PercentReal 123 refl refl refl refl
-percent_real (b ∷ []) = next_symbol 37 (114 ∷ b ∷ []) 1 terminal.PercentReal 123 refl refl refl refl
-percent_real (b ∷ c ∷ mid) = next_symbol 37 (114 ∷ b ∷ c ∷ mid) 1 terminal.PercentReal 123 refl refl refl refl
-
-pub comma : (mid : List ℕ) → Next (44 ∷ mid) 91 (codes ",") mid
-unfolding first_piece symbol_size spells kind_of low_byte
-comma [] = next_symbol 44 ([]) 0 terminal.Comma 91 refl refl refl refl
-comma (b ∷ []) = next_symbol 44 (b ∷ []) 0 terminal.Comma 91 refl refl refl refl
-comma (b ∷ c ∷ mid) = next_symbol 44 (b ∷ c ∷ mid) 0 terminal.Comma 91 refl refl refl refl
-
-open_round_piece : (b : ℕ) (mid : List ℕ) → begins_form b ≡ true → first_piece (40 ∷ b ∷ mid) ≡ token Symbol 1
-unfolding first_piece symbol_size
-open_round_piece b [] h = let no = not_star b h in rw no refl
-open_round_piece b (c ∷ mid) h = let no = not_star b h in rw no refl
-
-pub open_round : (b : ℕ) (mid : List ℕ) → begins_form b ≡ true → Next (40 ∷ b ∷ mid) 82 (codes "(") (b ∷ mid)
-unfolding spells kind_of low_byte
-open_round b mid h = next_symbol 40 (b ∷ mid) 0 terminal.OpenRound 82 (open_round_piece b mid h) refl refl refl
-
-minus_piece : (b : ℕ) (mid : List ℕ) → begins_form b ≡ true → first_piece (45 ∷ b ∷ mid) ≡ token Symbol 1
-unfolding first_piece symbol_size
-minus_piece b [] h = let no = not_greater b h in rw no refl
-minus_piece b (c ∷ mid) h = let no = not_greater b h in rw no refl
-
-pub minus : (b : ℕ) (mid : List ℕ) → begins_form b ≡ true → Next (45 ∷ b ∷ mid) 99 (codes "-") (b ∷ mid)
-unfolding spells kind_of low_byte
-minus b mid h = next_symbol 45 (b ∷ mid) 0 terminal.Minus 99 (minus_piece b mid h) refl refl refl
-
-ampersand_piece : (b : ℕ) (mid : List ℕ) → is_word_start b ≡ true → first_piece (38 ∷ b ∷ mid) ≡ token Symbol 1
-unfolding first_piece symbol_size
-ampersand_piece b [] h = let no = start_not_ampersand b h in rw no refl
-ampersand_piece b (c ∷ mid) h = let no = start_not_ampersand b h in rw no refl
-
-pub ampersand : (b : ℕ) (mid : List ℕ) → is_word_start b ≡ true → Next (38 ∷ b ∷ mid) 109 (codes "&") (b ∷ mid)
-unfolding spells kind_of low_byte
-ampersand b mid h = next_symbol 38 (b ∷ mid) 0 terminal.Ampersand 109 (ampersand_piece b mid h) refl refl refl
-
-bar_piece : (mid : List ℕ) → ahead (λ b. nat_eq 124 b) mid ≡ false → first_piece (124 ∷ mid) ≡ token Symbol 1
-unfolding first_piece symbol_size
-bar_piece [] h = refl
-bar_piece (b ∷ []) h = rw h refl
-bar_piece (b ∷ c ∷ mid) h = rw h refl
-
--- a bar that closes, in front of no further one
-pub closing_bar : (mid : List ℕ) → ahead (λ b. nat_eq 124 b) mid ≡ false → Next (124 ∷ mid) 94 (codes "|") mid
-unfolding spells kind_of low_byte
-closing_bar mid h = next_symbol 124 mid 0 terminal.Bar 94 (bar_piece mid h) refl refl refl
-
-dot_piece : (b : ℕ) (mid : List ℕ) → is_word_start b ≡ true → first_piece (46 ∷ b ∷ mid) ≡ token Symbol 1
-unfolding first_piece
-dot_piece b mid h = rw h refl
-
-pub path_dot : (b : ℕ) (mid : List ℕ) → is_word_start b ≡ true → Next (46 ∷ b ∷ mid) 125 (codes ".") (b ∷ mid)
-unfolding spells kind_of low_byte
-path_dot b mid h = next_symbol 46 (b ∷ mid) 0 terminal.Dot 125 (dot_piece b mid h) refl refl refl
-
--- Symbols and words in front of a space.
-
-pub and_word : (mid : List ℕ) → Next (codes " /\\ " ++ mid) 116 (codes "/\\") mid
-unfolding first_piece symbol_size spells kind_of low_byte
-and_word [] = spaced (trailed ([]) (next_symbol 47 (92 ∷ 32 ∷ []) 1 terminal.And 116 refl refl refl refl))
-and_word (b ∷ mid) = spaced (trailed (b ∷ mid) (next_symbol 47 (92 ∷ 32 ∷ b ∷ mid) 1 terminal.And 116 refl refl refl refl))
-
-pub or_word : (mid : List ℕ) → Next (codes " \\/ " ++ mid) 117 (codes "\\/") mid
-unfolding first_piece symbol_size spells kind_of low_byte
-or_word [] = spaced (trailed ([]) (next_symbol 92 (47 ∷ 32 ∷ []) 1 terminal.Or 117 refl refl refl refl))
-or_word (b ∷ mid) = spaced (trailed (b ∷ mid) (next_symbol 92 (47 ∷ 32 ∷ b ∷ mid) 1 terminal.Or 117 refl refl refl refl))
-
-pub implies_word : (mid : List ℕ) → Next (codes " => " ++ mid) 118 (codes "=>") mid
-unfolding first_piece symbol_size spells kind_of low_byte
-implies_word [] = spaced (trailed ([]) (next_symbol 61 (62 ∷ 32 ∷ []) 1 terminal.Arrow 118 refl refl refl refl))
-implies_word (b ∷ mid) = spaced (trailed (b ∷ mid) (next_symbol 61 (62 ∷ 32 ∷ b ∷ mid) 1 terminal.Arrow 118 refl refl refl refl))
-
-pub iff_word : (mid : List ℕ) → Next (codes " <=> " ++ mid) 119 (codes "<=>") mid
-unfolding first_piece symbol_size spells kind_of low_byte
-iff_word [] = spaced (trailed ([]) (next_symbol 60 (61 ∷ 62 ∷ 32 ∷ []) 2 terminal.DoubleArrow 119 refl refl refl refl))
-iff_word (b ∷ mid) = spaced (trailed (b ∷ mid) (next_symbol 60 (61 ∷ 62 ∷ 32 ∷ b ∷ mid) 2 terminal.DoubleArrow 119 refl refl refl refl))
-
-pub equal_word : (mid : List ℕ) → Next (codes " = " ++ mid) 102 (codes "=") mid
-unfolding first_piece symbol_size spells kind_of low_byte
-equal_word [] = spaced (trailed ([]) (next_symbol 61 (32 ∷ []) 0 terminal.Equals 102 refl refl refl refl))
-equal_word (b ∷ mid) = spaced (trailed (b ∷ mid) (next_symbol 61 (32 ∷ b ∷ mid) 0 terminal.Equals 102 refl refl refl refl))
-
-pub different_word : (mid : List ℕ) → Next (codes " <> " ++ mid) 103 (codes "<>") mid
-unfolding first_piece symbol_size spells kind_of low_byte
-different_word [] = spaced (trailed ([]) (next_symbol 60 (62 ∷ 32 ∷ []) 1 terminal.Different 103 refl refl refl refl))
-different_word (b ∷ mid) = spaced (trailed (b ∷ mid) (next_symbol 60 (62 ∷ 32 ∷ b ∷ mid) 1 terminal.Different 103 refl refl refl refl))
-
-pub less_word : (mid : List ℕ) → Next (codes " < " ++ mid) 104 (codes "<") mid
-unfolding first_piece symbol_size spells kind_of low_byte
-less_word [] = spaced (trailed ([]) (next_symbol 60 (32 ∷ []) 0 terminal.Less 104 refl refl refl refl))
-less_word (b ∷ mid) = spaced (trailed (b ∷ mid) (next_symbol 60 (32 ∷ b ∷ mid) 0 terminal.Less 104 refl refl refl refl))
-
-pub at_most_word : (mid : List ℕ) → Next (codes " <= " ++ mid) 105 (codes "<=") mid
-unfolding first_piece symbol_size spells kind_of low_byte
-at_most_word [] = spaced (trailed ([]) (next_symbol 60 (61 ∷ 32 ∷ []) 1 terminal.LessEqual 105 refl refl refl refl))
-at_most_word (b ∷ mid) = spaced (trailed (b ∷ mid) (next_symbol 60 (61 ∷ 32 ∷ b ∷ mid) 1 terminal.LessEqual 105 refl refl refl refl))
-
-pub plus_word : (mid : List ℕ) → Next (codes " + " ++ mid) 98 (codes "+") mid
-unfolding first_piece symbol_size spells kind_of low_byte
-plus_word [] = spaced (trailed ([]) (next_symbol 43 (32 ∷ []) 0 terminal.Plus 98 refl refl refl refl))
-plus_word (b ∷ mid) = spaced (trailed (b ∷ mid) (next_symbol 43 (32 ∷ b ∷ mid) 0 terminal.Plus 98 refl refl refl refl))
-
-pub minus_word : (mid : List ℕ) → Next (codes " - " ++ mid) 99 (codes "-") mid
-unfolding first_piece symbol_size spells kind_of low_byte
-minus_word [] = spaced (trailed ([]) (next_symbol 45 (32 ∷ []) 0 terminal.Minus 99 refl refl refl refl))
-minus_word (b ∷ mid) = spaced (trailed (b ∷ mid) (next_symbol 45 (32 ∷ b ∷ mid) 0 terminal.Minus 99 refl refl refl refl))
-
-pub times_word : (mid : List ℕ) → Next (codes " * " ++ mid) 97 (codes "*") mid
-unfolding first_piece symbol_size spells kind_of low_byte
-times_word [] = spaced (trailed ([]) (next_symbol 42 (32 ∷ []) 0 terminal.Times 97 refl refl refl refl))
-times_word (b ∷ mid) = spaced (trailed (b ∷ mid) (next_symbol 42 (32 ∷ b ∷ mid) 0 terminal.Times 97 refl refl refl refl))
-
-pub xor_word : (mid : List ℕ) → Next (codes " +^ " ++ mid) 110 (codes "+^") mid
-unfolding first_piece symbol_size spells kind_of low_byte
-xor_word [] = spaced (trailed ([]) (next_symbol 43 (94 ∷ 32 ∷ []) 1 terminal.Xor 110 refl refl refl refl))
-xor_word (b ∷ mid) = spaced (trailed (b ∷ mid) (next_symbol 43 (94 ∷ 32 ∷ b ∷ mid) 1 terminal.Xor 110 refl refl refl refl))
-
-pub divide_word : (mid : List ℕ) → Next (codes " / " ++ mid) 100 (codes "/") mid
-unfolding first_piece symbol_size spells kind_of low_byte
-divide_word [] = spaced (trailed ([]) (next_symbol 47 (32 ∷ []) 0 terminal.Slash 100 refl refl refl refl))
-divide_word (b ∷ mid) = spaced (trailed (b ∷ mid) (next_symbol 47 (32 ∷ b ∷ mid) 0 terminal.Slash 100 refl refl refl refl))
-
-pub in_word : (mid : List ℕ) → Next (codes " \\in " ++ mid) 104 (codes "\\in") mid
-unfolding first_piece symbol_size spells kind_of low_byte
-in_word [] = spaced (trailed ([]) (next_symbol 92 (105 ∷ 110 ∷ 32 ∷ []) 2 terminal.In 104 refl refl refl refl))
-in_word (b ∷ mid) = spaced (trailed (b ∷ mid) (next_symbol 92 (105 ∷ 110 ∷ 32 ∷ b ∷ mid) 2 terminal.In 104 refl refl refl refl))
-
-pub power_word : (mid : List ℕ) → Next (codes " `*` " ++ mid) 101 (codes "`*`") mid
-unfolding first_piece symbol_size spells kind_of low_byte
-power_word [] = spaced (trailed ([]) (next_symbol 96 (42 ∷ 96 ∷ 32 ∷ []) 2 terminal.PowerTimes 101 refl refl refl refl))
-power_word (b ∷ mid) = spaced (trailed (b ∷ mid) (next_symbol 96 (42 ∷ 96 ∷ 32 ∷ b ∷ mid) 2 terminal.PowerTimes 101 refl refl refl refl))
-
-pub question_word : (mid : List ℕ) → Next (codes " ? " ++ mid) 96 (codes "?") mid
-unfolding first_piece symbol_size spells kind_of low_byte
-question_word [] = spaced (trailed ([]) (next_symbol 63 (32 ∷ []) 0 terminal.Question 96 refl refl refl refl))
-question_word (b ∷ mid) = spaced (trailed (b ∷ mid) (next_symbol 63 (32 ∷ b ∷ mid) 0 terminal.Question 96 refl refl refl refl))
-
-pub colon_word : (mid : List ℕ) → Next (codes " : " ++ mid) 93 (codes ":") mid
-unfolding first_piece symbol_size spells kind_of low_byte
-colon_word [] = spaced (trailed ([]) (next_symbol 58 (32 ∷ []) 0 terminal.Colon 93 refl refl refl refl))
-colon_word (b ∷ mid) = spaced (trailed (b ∷ mid) (next_symbol 58 (32 ∷ b ∷ mid) 0 terminal.Colon 93 refl refl refl refl))
-
-pub comma_word : (mid : List ℕ) → Next (codes ", " ++ mid) 91 (codes ",") mid
-unfolding first_piece symbol_size spells kind_of low_byte
-comma_word [] = trailed ([]) (next_symbol 44 (32 ∷ []) 0 terminal.Comma 91 refl refl refl refl)
-comma_word (b ∷ mid) = trailed (b ∷ mid) (next_symbol 44 (32 ∷ b ∷ mid) 0 terminal.Comma 91 refl refl refl refl)
-
-pub assign_word : (mid : List ℕ) → Next (codes " <- " ++ mid) 111 (codes "<-") mid
-unfolding first_piece symbol_size spells kind_of low_byte
-assign_word [] = spaced (trailed ([]) (next_symbol 60 (45 ∷ 32 ∷ []) 1 terminal.Assign 111 refl refl refl refl))
-assign_word (b ∷ mid) = spaced (trailed (b ∷ mid) (next_symbol 60 (45 ∷ 32 ∷ b ∷ mid) 1 terminal.Assign 111 refl refl refl refl))
-
-pub sample_word : (mid : List ℕ) → Next (codes " <$ " ++ mid) 112 (codes "<$") mid
-unfolding first_piece symbol_size spells kind_of low_byte
-sample_word [] = spaced (trailed ([]) (next_symbol 60 (36 ∷ 32 ∷ []) 1 terminal.Samples 112 refl refl refl refl))
-sample_word (b ∷ mid) = spaced (trailed (b ∷ mid) (next_symbol 60 (36 ∷ 32 ∷ b ∷ mid) 1 terminal.Samples 112 refl refl refl refl))
-
-pub call_word : (mid : List ℕ) → Next (codes " <@ " ++ mid) 113 (codes "<@") mid
-unfolding first_piece symbol_size spells kind_of low_byte
-call_word [] = spaced (trailed ([]) (next_symbol 60 (64 ∷ 32 ∷ []) 1 terminal.Calls 113 refl refl refl refl))
-call_word (b ∷ mid) = spaced (trailed (b ∷ mid) (next_symbol 60 (64 ∷ 32 ∷ b ∷ mid) 1 terminal.Calls 113 refl refl refl refl))
-
-pub below_word : (mid : List ℕ) → Next (codes " <: " ++ mid) 114 (codes "<:") mid
-unfolding first_piece symbol_size spells kind_of low_byte
-below_word [] = spaced (trailed ([]) (next_symbol 60 (58 ∷ 32 ∷ []) 1 terminal.Below 114 refl refl refl refl))
-below_word (b ∷ mid) = spaced (trailed (b ∷ mid) (next_symbol 60 (58 ∷ 32 ∷ b ∷ mid) 1 terminal.Below 114 refl refl refl refl))
-
-pub tilde_word : (mid : List ℕ) → Next (codes " ~ " ++ mid) 107 (codes "~") mid
-unfolding first_piece symbol_size spells kind_of low_byte
-tilde_word [] = spaced (trailed ([]) (next_symbol 126 (32 ∷ []) 0 terminal.Tilde 107 refl refl refl refl))
-tilde_word (b ∷ mid) = spaced (trailed (b ∷ mid) (next_symbol 126 (32 ∷ b ∷ mid) 0 terminal.Tilde 107 refl refl refl refl))
-
-pub long_word : (mid : List ℕ) → Next (codes " ==> " ++ mid) 120 (codes "==>") mid
-unfolding first_piece symbol_size spells kind_of low_byte
-long_word [] = spaced (trailed ([]) (next_symbol 61 (61 ∷ 62 ∷ 32 ∷ []) 2 terminal.LongArrow 120 refl refl refl refl))
-long_word (b ∷ mid) = spaced (trailed (b ∷ mid) (next_symbol 61 (61 ∷ 62 ∷ 32 ∷ b ∷ mid) 2 terminal.LongArrow 120 refl refl refl refl))
-
-pub semicolon_word : (mid : List ℕ) → Next (codes "; " ++ mid) 92 (codes ";") mid
-unfolding first_piece symbol_size spells kind_of low_byte
-semicolon_word [] = trailed ([]) (next_symbol 59 (32 ∷ []) 0 terminal.Semicolon 92 refl refl refl refl)
-semicolon_word (b ∷ mid) = trailed (b ∷ mid) (next_symbol 59 (32 ∷ b ∷ mid) 0 terminal.Semicolon 92 refl refl refl refl)
-
-pub at_word : (mid : List ℕ) → Next (codes " @ " ++ mid) 108 (codes "@") mid
-unfolding first_piece symbol_size spells kind_of low_byte
-at_word [] = spaced (trailed ([]) (next_symbol 64 (32 ∷ []) 0 terminal.At 108 refl refl refl refl))
-at_word (b ∷ mid) = spaced (trailed (b ∷ mid) (next_symbol 64 (32 ∷ b ∷ mid) 0 terminal.At 108 refl refl refl refl))
-
-pub fun_word : (mid : List ℕ) → Next (codes "fun " ++ mid) 45 (codes "fun") mid
-unfolding spells kind_of
-fun_word mid = trailed mid (next_word (codes "fun") (32 ∷ mid) terminal.Fun 45 refl refl refl refl)
-
-pub glob_word : (mid : List ℕ) → Next (codes "glob " ++ mid) 42 (codes "glob") mid
-unfolding spells kind_of
-glob_word mid = trailed mid (next_word (codes "glob") (32 ∷ mid) terminal.Glob 42 refl refl refl refl)
-
-pub uniform_word : (mid : List ℕ) → Next (codes "uniform " ++ mid) 47 (codes "uniform") mid
-unfolding spells kind_of
-uniform_word mid = trailed mid (next_word (codes "uniform") (32 ∷ mid) terminal.Uniform 47 refl refl refl refl)
-
-pub bits_word : (mid : List ℕ) → Next (codes "bits " ++ mid) 39 (codes "bits") mid
-unfolding spells kind_of
-bits_word mid = trailed mid (next_word (codes "bits") (32 ∷ mid) terminal.Bits 39 refl refl refl refl)
-
-pub forall_word : (mid : List ℕ) → Next (codes "forall " ++ mid) 43 (codes "forall") mid
-unfolding spells kind_of
-forall_word mid = trailed mid (next_word (codes "forall") (32 ∷ mid) terminal.Forall 43 refl refl refl refl)
-
-pub exists_word : (mid : List ℕ) → Next (codes "exists " ++ mid) 44 (codes "exists") mid
-unfolding spells kind_of
-exists_word mid = trailed mid (next_word (codes "exists") (32 ∷ mid) terminal.Exists 44 refl refl refl refl)
-
-pub hoare_word : (mid : List ℕ) → Next (codes "hoare " ++ mid) 49 (codes "hoare") mid
-unfolding spells kind_of
-hoare_word mid = trailed mid (next_word (codes "hoare") (32 ∷ mid) terminal.Hoare 49 refl refl refl refl)
-
-pub phoare_word : (mid : List ℕ) → Next (codes "phoare " ++ mid) 50 (codes "phoare") mid
-unfolding spells kind_of
-phoare_word mid = trailed mid (next_word (codes "phoare") (32 ∷ mid) terminal.Phoare 50 refl refl refl refl)
-
-pub equiv_word : (mid : List ℕ) → Next (codes "equiv " ++ mid) 51 (codes "equiv") mid
-unfolding spells kind_of
-equiv_word mid = trailed mid (next_word (codes "equiv") (32 ∷ mid) terminal.Equiv 51 refl refl refl refl)
-
-pub weights_word : (mid : List ℕ) → Next (codes "weights " ++ mid) 48 (codes "weights") mid
-unfolding spells kind_of
-weights_word mid = trailed mid (next_word (codes "weights") (32 ∷ mid) terminal.Weights 48 refl refl refl refl)
-
-pub if_word : (mid : List ℕ) → Next (codes "if " ++ mid) 32 (codes "if") mid
-unfolding spells kind_of
-if_word mid = trailed mid (next_word (codes "if") (32 ∷ mid) terminal.If 32 refl refl refl refl)
-
-pub else_word : (mid : List ℕ) → Next (codes "else " ++ mid) 33 (codes "else") mid
-unfolding spells kind_of
-else_word mid = trailed mid (next_word (codes "else") (32 ∷ mid) terminal.Else 33 refl refl refl refl)
-
-pub while_word : (mid : List ℕ) → Next (codes "while " ++ mid) 34 (codes "while") mid
-unfolding spells kind_of
-while_word mid = trailed mid (next_word (codes "while") (32 ∷ mid) terminal.While 34 refl refl refl refl)
-
-pub variant_word : (mid : List ℕ) → Next (codes "variant " ++ mid) 35 (codes "variant") mid
-unfolding spells kind_of
-variant_word mid = trailed mid (next_word (codes "variant") (32 ∷ mid) terminal.Variant 35 refl refl refl refl)
-
-dash_piece : (b : ℕ) (mid : List ℕ) → nat_eq 62 b ≡ false → first_piece (45 ∷ b ∷ mid) ≡ token Symbol 1
-unfolding first_piece symbol_size
-dash_piece b [] h = rw h refl
-dash_piece b (c ∷ mid) h = rw h refl
-
--- a `-` in front of what is no `>`
-pub dash : (b : ℕ) (mid : List ℕ) → nat_eq 62 b ≡ false → Next (45 ∷ b ∷ mid) 99 (codes "-") (b ∷ mid)
-unfolding spells kind_of low_byte
-dash b mid h = next_symbol 45 (b ∷ mid) 0 terminal.Minus 99 (dash_piece b mid h) refl refl refl
-
--- brackets with nothing in them
-pub empty_round : (mid : List ℕ) → Next (40 ∷ 41 ∷ mid) 82 (codes "(") (41 ∷ mid)
-unfolding first_piece symbol_size spells kind_of low_byte
-empty_round [] = next_symbol 40 (41 ∷ []) 0 terminal.OpenRound 82 refl refl refl refl
-empty_round (b ∷ mid) = next_symbol 40 (41 ∷ b ∷ mid) 0 terminal.OpenRound 82 refl refl refl refl
-
-pub at_least_word : (mid : List ℕ) → Next (codes " >= " ++ mid) 106 (codes ">=") mid
-unfolding first_piece symbol_size spells kind_of low_byte
-at_least_word [] = spaced (trailed [] (next_symbol 62 (61 ∷ 32 ∷ []) 1 terminal.GreaterEqual 106 refl refl refl refl))
-at_least_word (b ∷ mid) = spaced (trailed (b ∷ mid) (next_symbol 62 (61 ∷ 32 ∷ b ∷ mid) 1 terminal.GreaterEqual 106 refl refl refl refl))
+pub trailed : {i : List ℕ} {k : ℕ} {n : List ℕ} (mid : List ℕ) → Next i k n (32 ∷ mid) → Next i k n mid
+trailed {n = m} mid n = record { terminal = n.terminal; first = n.first ∙ ap (λ l. lexeme n.terminal m ∷ l) (space mid); kind = n.kind; fine = n.fine; cut = cut_more n.cut (cut_space mid) }

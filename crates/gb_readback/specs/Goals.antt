@@ -1,5 +1,5 @@
 -- The trees of goals, line by line.
-use Rattle.std.specs.Prelude.{◌≡◌, ◌⊎◌, ℕ, true, List, [], ◌∷◌, ◌++◌, map}
+use Rattle.std.specs.Prelude.{◌≡◌, ◌⊎◌, ℕ, true, List, [], ◌∷◌, ◌++◌, map, None}
 use Rattle.std.specs.List.{AllZip}
 use Rattle.gb_terms.specs.declared.decl.TypedName.{TypedName}
 use Rattle.gb_terms.specs.declared.module.Bind.{Bind}
@@ -7,8 +7,11 @@ use Rattle.gb_goal.specs.declared.sequent.Hyp.{Hyp}
 use Rattle.gb_goal.specs.declared.sequent.Sequent.{Sequent}
 use Rattle.gb_language.specs.declared.rows.TheConstants.{ENTRY, HYPOTHESIS}
 use Rattle.gb_language.specs.Language.{IsLineTree}
+use Rattle.gb_lex.specs.Lex.{fault_of}
+use Rattle.gb_limits.specs.LeftOut.{NoneLeftOut}
 use Rattle.gb_limits.specs.Lexeme.{kinds_of}
-use Rattle.gb_read_script.specs.Goal.{SpellsGoal}
+use Rattle.gb_limits.specs.Numbers.{NoneOverflow}
+use Rattle.gb_read_script.specs.Goal.{goal_text, SpellsGoal}
 use Rattle.gb_read_script.specs.declared.goal_tree.SequentTree.{SequentTree}
 use Rattle.gb_script.specs.declared.head.Head.TheVariants as head
 use Rattle.gb_script.specs.declared.text.Text.{Text}
@@ -17,7 +20,7 @@ use Rattle.gb_print_names.specs.Names.{Name, Place}
 use Rattle.gb_readback.specs.Nodes.{placeless, tree, list, word}
 use Rattle.gb_readback.specs.Types.{type_tree, abstract_module}
 use Rattle.gb_readback.specs.Forms.{form_tree}
-use Rattle.gb_readback.specs.Written.{is_name_text, IsWrittenType, IsWritten}
+use Rattle.gb_readback.specs.Written.{is_name_text, is_bind_here, IsWrittenType, IsWritten}
 
 abbrev pub variable_tree : Place → TypedName → Node
 variable_tree at v = tree head.Values (word v.name ∷ list [] ∷ type_tree v.ty at.bound ∷ [])
@@ -55,14 +58,18 @@ IsEntryTree (hypothesis x) y = (placeless y ≡ x) ⊎ IsVariableToo x y
 abbrev pub IsTreeOf : Place → Sequent → SequentTree → Type 0
 IsTreeOf at s t = AllZip IsEntryTree (context_entries at s) t.context × (placeless t.conclusion ≡ form_tree s.conclusion at)
 
--- The entries of a context, and the forms, have names and heads that can be read. Modules are left out.
+-- The entries of a context, and the forms, have names and heads that can be read.
 pub data AreWrittenVariables (at : Place) : List TypedName → Type 0 where
   no_variables : AreWrittenVariables at []
-  one_variable : {v : TypedName} {vs : List TypedName} → is_name_text v.name ≡ true → IsWrittenType at.bound v.ty → AreWrittenVariables at vs → AreWrittenVariables at (v ∷ vs)
+  one_variable : {v : TypedName} {vs : List TypedName} → is_name_text v.name ≡ true → IsWrittenType 1 at.bound v.ty → AreWrittenVariables at vs → AreWrittenVariables at (v ∷ vs)
 
 pub data AreWrittenMemories : List Name → Type 0 where
   no_memories : AreWrittenMemories []
   one_memory : {m : Name} {ms : List Name} → is_name_text m ≡ true → AreWrittenMemories ms → AreWrittenMemories (m ∷ ms)
+
+pub data AreWrittenBinds (at : Place) : List Bind → Type 0 where
+  no_binds : AreWrittenBinds at []
+  one_bind : {b : Bind} {bs : List Bind} → is_name_text b.name ≡ true → is_bind_here at.bound b ≡ true → AreWrittenBinds at bs → AreWrittenBinds at (b ∷ bs)
 
 pub data AreWrittenHyps (at : Place) : List Hyp → Type 0 where
   no_hyps : AreWrittenHyps at []
@@ -71,11 +78,15 @@ pub data AreWrittenHyps (at : Place) : List Hyp → Type 0 where
 pub record IsWrittenGoal (at : Place) (s : Sequent) : Type 0 where
   pub variables : AreWrittenVariables at s.logical
   pub memories : AreWrittenMemories s.memories
-  pub modules : s.modules ≡ []
+  pub modules : AreWrittenBinds at s.modules
   pub hyps : AreWrittenHyps at s.hyps
   pub conclusion : IsWritten 1 at s.conclusion
 
--- The bytes spell a goal, and each that they spell is this one.
+-- The bytes spell a goal, and each that they spell is this one. Each byte stands in a token, white space or a comment; no token is
+-- left out, and no number is out of range.
 pub record IsGoalReadAs (bytes : List ℕ) (at : Place) (s : Sequent) : Type 0 where
   pub some : (t : SequentTree) × SpellsGoal bytes t × IsTreeOf at s t
   pub only : (t : SequentTree) → SpellsGoal bytes t → IsTreeOf at s t
+  pub faultless : fault_of bytes ≡ None
+  pub left_out : NoneLeftOut (goal_text bytes)
+  pub numbers : NoneOverflow (goal_text bytes)

@@ -46,8 +46,8 @@ pub fn statements_are_made_of_parts()
     ensures repeated { (e v : Term) (a : Cmd) (at : Place) → instr_trees (While e v a) at ≡ tree script.While (form (shown e) true at ∷ loop (operand (shown v) false at) (cmd_trees a at) ∷ []) ∷ [] }
 {}
 
-/// What is printed of a form is read as its tree, but for places, and as no other: where each name that is printed is a name of
-/// the language, numbers are in range and each head has its operands.
+/// What is printed of a form is read as its tree, but for places, and as no other: where its names are names of the language,
+/// its numbers are in range, each head has its operands, and no block and no `glob` in a type stands in it.
 pub fn printed_forms_are_read()
     ensures { (ds : Declarations) (es : List Enumeration) (vs : List TypedName) (ms : List Name) (t : Term) →
         IsWritten 0 (place_of_form ds es vs ms) t → IsReadAs (printed_form ds es vs ms t) (form_tree t (place_of_form ds es vs ms)) }
@@ -55,8 +55,8 @@ pub fn printed_forms_are_read()
     forms_are_unique();
 }
 
-/// What is printed of a goal is read as its tree, but for places, and as no other: where its names and forms are such. A hypothesis
-/// whose text is that of a variable too, as `H : b`, may be read as that.
+/// What is printed of a goal is read as its tree, but for places, and as no other: where its names and forms are such, here with
+/// blocks and `glob` in types too. A hypothesis whose text is that of a variable too, as `H : b`, may be read as that.
 pub fn printed_goals_are_read()
     ensures { (ds : Declarations) (es : List Enumeration) (s : Sequent) →
         IsWrittenGoal (place_of_goal ds es s) s → IsGoalReadAs (printed_goal ds es s) (place_of_goal ds es s) s }

@@ -24,19 +24,19 @@ module _ (o : Context) where
   abbrev pub IsInside : Context → Type 0
   IsInside d = outermost d ≡ outermost o
 
-  inside_first : (d : Context) (h : Head) → IsInside d → IsInside (first d h)
+  pub inside_first : (d : Context) (h : Head) → IsInside d → IsInside (first d h)
   inside_first d (head.Hoare s) i = i
   inside_first d (head.Phoare s r) i = i
   inside_first d (head.Equiv s u) i = i
   inside_first d _ i = i
 
-  inside_middle : (d : Context) (h : Head) → IsInside d → IsInside (middle d h)
+  pub inside_middle : (d : Context) (h : Head) → IsInside d → IsInside (middle d h)
   inside_middle d (head.Hoare s) i = i
   inside_middle d (head.Phoare s r) i = i
   inside_middle d (head.Equiv s u) i = i
   inside_middle d _ i = i
 
-  inside_last : (d : Context) (ls : List TypedName) (h : Head) (us : List Ty) → IsInside d → IsInside (last d ls h us)
+  pub inside_last : (d : Context) (ls : List TypedName) (h : Head) (us : List Ty) → IsInside d → IsInside (last d ls h us)
   inside_last d ls (head.All u) us i = i
   inside_last d ls (head.Some u) us i = i
   inside_last d ls head.AllMemory us i = i
@@ -76,7 +76,7 @@ module _ (o : Context) where
           (made_node d h (types_of ts) (parts_rewritten a b (is_quotient h) ts) ty w.0 w.1 w.2
           (parts_made (first d h) (middle d h) (last d w.2 h (types_of ts)) (inside_first d h i) (inside_middle d h i) (inside_last d w.2 h (types_of ts) i) (is_quotient h) ts w.3))
 
-      parts_made : {n : Count} (x y z : Context) → IsInside x → IsInside y → IsInside z → (q : Bool) (ts : Row_of-Term n) → AreTyped x y z ts → EachMade x y z (types_of ts) (parts_rewritten a b q ts)
+      pub parts_made : {n : Count} (x y z : Context) → IsInside x → IsInside y → IsInside z → (q : Bool) (ts : Row_of-Term n) → AreTyped x y z ts → EachMade x y z (types_of ts) (parts_rewritten a b q ts)
       parts_made x y z i j k q end_of-Term w = tt
       parts_made x y z i j k true (more_of-Term t end_of-Term) w = rewritten_made z k t w
       parts_made x y z i j k false (more_of-Term t end_of-Term) w = rewritten_made z k t w

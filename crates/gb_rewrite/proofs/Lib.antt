@@ -1,5 +1,6 @@
 pub mod Same
 pub mod Parts
+pub mod Layers
 pub mod Inside
 pub mod Kept
 pub mod Means
@@ -7,6 +8,13 @@ pub mod Values
 pub mod Sides
 pub mod Reals
 pub mod Placed
+pub mod Deep
 pub mod Moved
+pub mod Replaced
+pub mod Closed
+pub mod Standing
+pub mod Applied
+pub mod Opens
+pub mod Opened
 pub mod Others
 pub mod Sound

@@ -1,5 +1,5 @@
--- A form means the same with a term in place of another one that means the same wherever it stands.
-use Rattle.std.proofs.Common.{◌≡◌, Bool, true, false, if◌then◌else◌, List, [], ◌∷◌, map, refl, ap, sym, ◌∙◌}
+-- A node means the same with arguments that do.
+use Rattle.std.proofs.Common.{◌≡◌, List, [], ◌∷◌, map, refl, ap, ◌∙◌}
 use Rattle.gb_core.specs.declared.ty.Ty.{Ty}
 use Rattle.gb_terms.specs.declared.term.Term.{Term, Term', Row_of-Term, end_of-Term, more_of-Term, end_of-Head, more_of-Head}
 use Rattle.gb_terms.specs.declared.term.Head.{Head}
@@ -11,14 +11,12 @@ use Rattle.gb_meaning.specs.Memory.{Memory}
 use Rattle.gb_meaning.specs.Setting.{Setting}
 use Rattle.gb_meaning.specs.State.{State, Binding, under, at, between}
 use Rattle.gb_meaning.specs.Terms.{Speaks, at_head, val, parts, part_of, denominator, denominators, denominator_of}
-use Rattle.gb_meaning.specs.Judgments.{Judge, IsFair, speaking, is_sound_at, IsSoundForm, AllSound}
+use Rattle.gb_meaning.specs.Judgments.{Judge, IsFair, speaking, is_sound_at}
 use Rattle.gb_laws.proofs.Nodes.{val_node, denominator_node}
-use Rattle.gb_changes.specs.Formed.{HasArguments, IsFormed, AllFormed}
+use Rattle.gb_changes.specs.Formed.{HasArguments}
 use Rattle.gb_changes.proofs.Heads.{of_arguments, of_last, Related, inner_same, chance_same, Answers, with_subjects}
 use Rattle.gb_changes.proofs.Judged.{SameSubjects, answers_same}
 use Rattle.gb_changes.proofs.Raising.{has_parts}
-use Rattle.gb_rewrite.specs.Rewritten.{is_same, is_quotient, rewritten, parts_rewritten}
-use Rattle.gb_rewrite.proofs.Same.{are_one}
 use mathlib.Core.Former.{Count}
 
 -- states in which a term is read, with those inside of binders
@@ -106,24 +104,3 @@ module _ (g : Setting) (j : Judge) (fair : IsFair g j) (P : State → Type 0) (a
         (answers_same g j fair (λ c. c) s s h xs n ts ty u (subjects h s u) (has_parts g speaks h ts a) (related h s p xs ts e)),
     denominator_node g h xs ty ∙ ap (λ ks. denominator_of g h ks ty) (all_over xs ts e),
   )
-
-  -- terms that stay
-  themselves : {n : Count} (ts : Row_of-Term n) → AllAlike (terms_in ts) ts
-  themselves end_of-Term = tt
-  themselves (more_of-Term t ts) = ((λ s p. refl, refl), themselves ts)
-
-  module _ (a b : Term) (same : Alike b a) where
-    either : (t : Term) (z : Bool) → is_same t a ≡ z → (x : Term) → Alike x t → Alike (if z then b else x) t
-    either t true e x k = let one = are_one t a e in (λ s p. same.0 s p ∙ ap (λ y. val g speaks y s) (sym one), same.1 ∙ ap (denominator g) (sym one))
-    either t false e x k = k
-
-    mutual
-      pub means : (t : Term) → IsFormed t → IsSoundForm g t → Alike (rewritten a b t) t
-      means (Term' tt (more_of-Head h end_of-Head) n ts ty) f u =
-          either (Term' tt (more_of-Head h end_of-Head) n ts ty) (is_same (Term' tt (more_of-Head h end_of-Head) n ts ty) a) refl (node h (parts_rewritten a b (is_quotient h) ts) ty)
-          (node_alike h n (parts_rewritten a b (is_quotient h) ts) ts ty f.0 u.0 (all_mean (is_quotient h) ts f.2 u.1))
-
-      pub all_mean : {n : Count} (q : Bool) (ts : Row_of-Term n) → AllFormed ts → AllSound g ts → AllAlike (parts_rewritten a b q ts) ts
-      all_mean q end_of-Term f u = tt
-      all_mean true (more_of-Term t ts) f u = (means t f.0 u.0, themselves ts)
-      all_mean false (more_of-Term t ts) f u = (means t f.0 u.0, all_mean false ts f.1 u.1)

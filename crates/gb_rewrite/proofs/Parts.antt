@@ -4,7 +4,7 @@ use Rattle.gb_terms.specs.declared.term.Term.{Term, Term', Row_of-Term, end_of-T
 use Rattle.gb_terms.specs.Make.{node}
 use Rattle.gb_meaning.specs.Commands.{terms_in}
 use Rattle.gb_changes.proofs.Trees.{out_is}
-use Rattle.gb_rewrite.specs.Rewritten.{is_same, is_builtin, is_quotient, rewritten, parts_rewritten, list_rewritten, stands, stands_in_parts, stands_in_list, stands_deep, deep_in_parts, deep_in_list}
+use Rattle.gb_rewrite.specs.Rewritten.{is_same, is_quotient, rewritten, parts_rewritten, list_rewritten, stands, stands_in_parts, stands_in_list}
 use mathlib.Core.Former.{Count}
 
 module _ (a b : Term) where
@@ -32,16 +32,3 @@ module _ (a : Term) where
   stands_out (Term' tt (more_of-Head h end_of-Head) n ts ty) =
       ap (λ z. is_same (Term' tt (more_of-Head h end_of-Head) n ts ty) a || z) (parts_stand (is_quotient h) ts)
       ∙ ap (λ x. is_same (Term' tt (more_of-Head h end_of-Head) n ts ty) a || stands_in_list a (is_quotient x.head) x.args) (sym (out_is h n ts ty))
-
-  parts_deep : {n : Count} (d : Bool) (ts : Row_of-Term n) → deep_in_parts a d ts ≡ deep_in_list a d (terms_in ts)
-  parts_deep true end_of-Term = refl
-  parts_deep false end_of-Term = refl
-  parts_deep true (more_of-Term t ts) = refl
-  parts_deep false (more_of-Term t ts) = ap (λ z. stands_deep a t || z) (parts_deep false ts)
-
-  pub deep_out : (t : Term) → stands_deep a t
-      ≡ (if is_same t a then false else if is_builtin (out-Term t).head then deep_in_list a (is_quotient (out-Term t).head) (out-Term t).args else stands a t)
-  deep_out (Term' tt (more_of-Head h end_of-Head) n ts ty) =
-      ap (λ z. if is_same (Term' tt (more_of-Head h end_of-Head) n ts ty) a then false else if is_builtin h then z else stands a (Term' tt (more_of-Head h end_of-Head) n ts ty)) (parts_deep (is_quotient h) ts)
-      ∙ ap (λ x. if is_same (Term' tt (more_of-Head h end_of-Head) n ts ty) a then false
-      else if is_builtin x.head then deep_in_list a (is_quotient x.head) x.args else stands a (Term' tt (more_of-Head h end_of-Head) n ts ty)) (sym (out_is h n ts ty))

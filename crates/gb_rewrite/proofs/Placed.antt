@@ -1,5 +1,5 @@
--- Two terms of a goal that mean the same in a state do so wherever they stand in its forms.
-use Rattle.std.proofs.Common.{◌≡◌, ap, sym, ◌∙◌, subst}
+-- A term of a goal means the same wherever it stands in the forms of the goal.
+use Rattle.std.proofs.Common.{◌≡◌, ap}
 use Rattle.std.proofs.lemmas.Bool.{false≢true}
 use Rattle.gb_terms.specs.declared.op.Side.TheVariants as side
 use Rattle.gb_terms.specs.declared.op.Read.TheVariants.{Logical, Program}
@@ -25,8 +25,7 @@ use Rattle.gb_typing.proofs.Sound.{procedures_sound, sound_form}
 use Rattle.gb_typing.proofs.Uses.{uses_of, uses_typed}
 use Rattle.gb_typing.specs.Rules.{outermost}
 use Rattle.gb_amb.proofs.States.{not_in}
-use Rattle.gb_rewrite.proofs.Means.{Alike, Around}
-use Rattle.gb_rewrite.proofs.Sides.{AreSides}
+use Rattle.gb_rewrite.proofs.Means.{Around}
 
 -- a state with the variables and the named memories of another one
 abbrev pub IsLike : State → State → Type 0
@@ -58,15 +57,8 @@ module _ (o : Context) (g : Setting) (fits : IsSettingOf (outermost o) g) (q : S
 
   module _ (j : Judge) (fair : IsFair g j) where
     -- a term of the goal means the same inside of binders
-    everywhere : (x : Term) → IsTyped c x → (s : State) → IsLike q s → val g (speaking g j) x s ≡ val g (speaking g j) x q
+    pub everywhere : (x : Term) → IsTyped c x → (s : State) → IsLike q s → val g (speaking g j) x s ≡ val g (speaking g j) x q
     everywhere x w s p = form_agrees g j fair x (formed c x w) (sound_form g c (procedures_sound c g fits) x w) (uses_of c) s q (agree s p) (uses_typed c x w)
 
-    one : (x : Term) → IsTyped c x → IsNoDistribution (type_of x) → denominator g x ≡ 1
+    pub one : (x : Term) → IsTyped c x → IsNoDistribution (type_of x) → denominator g x ≡ 1
     one x w n = denominator_one g (erased c) x (erased_typed c x w) n
-
-    -- two terms that mean the same in a state do so inside of binders
-    pub sides_alike : (a b : Term) → AreSides c a b → val g (speaking g j) a q ≡ val g (speaking g j) b q → Alike g j fair (IsLike q) (around q) b a
-    sides_alike a b w e = (
-      λ s p. everywhere b w.right s p ∙ sym e ∙ sym (everywhere a w.left s p),
-      one b w.right (subst IsNoDistribution w.type w.single) ∙ sym (one a w.left w.single),
-    )

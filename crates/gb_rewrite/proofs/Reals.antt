@@ -1,146 +1,103 @@
--- A term with another one in place of one that means the same, where this one stands under built-in operators alone.
-use Rattle.std.proofs.Common.{◌≡◌, Bool, true, false, ◌||◌, if◌then◌else◌, List, [], ◌∷◌, map, refl, ap, sym, ◌∙◌, subst}
-use Rattle.std.proofs.lemmas.Bool.{false≢true}
+-- A term with another one in place of one that means the same, wherever it stands, means the same.
+use Rattle.std.proofs.Common.{◌≡◌, Bool, true, false, if◌then◌else◌, List, ◌∷◌, map, refl, ap, sym, ◌∙◌, subst}
 use Rattle.gb_core.specs.declared.ty.Ty.{Ty}
-use Rattle.gb_terms.specs.declared.op.Op.{Op}
 use Rattle.gb_terms.specs.declared.term.Term.{Term, Term', Row_of-Term, end_of-Term, more_of-Term, end_of-Head, more_of-Head}
 use Rattle.gb_terms.specs.declared.term.Head.{Head}
-use Rattle.gb_terms.specs.declared.term.Head.TheVariants as head
 use Rattle.gb_terms.specs.Make.{node}
 use Rattle.gb_meaning.specs.Commands.{terms_in}
-use Rattle.gb_meaning.specs.Operators.{denominator_at}
 use Rattle.gb_meaning.specs.Setting.{Setting}
 use Rattle.gb_meaning.specs.State.{State}
-use Rattle.gb_meaning.specs.Terms.{argument, part_of, parts, val, denominator, denominators}
-use Rattle.gb_meaning.specs.Judgments.{Judge, den, speaking}
+use Rattle.gb_meaning.specs.Terms.{at_head, val, part_of, denominator_of}
+use Rattle.gb_meaning.specs.Judgments.{Judge, IsFair, speaking, IsSoundForm, AllSound}
 use Rattle.gb_meaning.specs.Written.{type_of}
 use Rattle.gb_laws.proofs.Nodes.{each_is_node, val_node, denominator_node}
 use Rattle.gb_changes.proofs.Trees.{out_is}
-use Rattle.gb_typed.proofs.Denominators.{denominator_one}
 use Rattle.gb_typed.specs.Operators.{IsNoDistribution}
+use Rattle.gb_typed.specs.Typing.{types_of, IsHead}
+use Rattle.gb_typed.proofs.Nodes.{type_of_node}
 use Rattle.gb_typing.specs.Context.{Context, erased}
-use Rattle.gb_typing.specs.Typing.{IsTyped, AreTyped, IsForm}
-use Rattle.gb_typing.specs.Fits.{IsSettingOf, IsStateOf}
-use Rattle.gb_typing.proofs.Erased.{erased_typed}
-use Rattle.gb_equality_laws.specs.Alike.{Alike}
-use Rattle.gb_equality_laws.proofs.Alike.{IsProper, alike_itself, alike_turned, truth_alike}
-use Rattle.gb_equality_laws.proofs.Congruent.{proper}
-use Rattle.gb_equality_laws.proofs.Operated.{AreOne, AllOne, operated_alike}
+use Rattle.gb_typing.specs.Changes.{Made}
+use Rattle.gb_typing.specs.Typing.{first, middle, last, IsTyped, AreTyped}
+use Rattle.gb_typing.specs.Fits.{IsSettingOf}
 use Rattle.gb_typing.specs.Rules.{outermost}
-use Rattle.gb_amb.proofs.Itself.{meaning_is_of}
-use Rattle.gb_rewrite.specs.Rewritten.{is_same, is_builtin, is_quotient, rewritten, parts_rewritten, stands, stands_in_parts, stands_deep, deep_in_parts}
-use Rattle.gb_rewrite.proofs.Kept.{rewritten_made}
+use Rattle.gb_typing.proofs.Made.{made_node}
+use Rattle.gb_equality_laws.specs.Alike.{Alike, RespectAlike}
+use Rattle.gb_equality_laws.proofs.Alike.{alike_turned}
+use Rattle.gb_rewrite.specs.Rewritten.{is_same, is_quotient, rewritten, parts_rewritten}
+use Rattle.gb_rewrite.proofs.Deep.{AreDeep, AllDeep, itself, all_over, head_alike}
+use Rattle.gb_rewrite.proofs.Inside.{typed_inside}
+use Rattle.gb_rewrite.proofs.Kept.{IsInside, inside_first, inside_middle, inside_last, parts_made}
+use Rattle.gb_rewrite.proofs.Placed.{everywhere, one}
 use Rattle.gb_rewrite.proofs.Same.{are_one}
 use Rattle.gb_rewrite.proofs.Sides.{AreSides}
 use mathlib.Core.Former.{Count}
 
-neither : (x y : Bool) → (x || y) ≡ false → (x ≡ false) × (y ≡ false)
-neither false y e = (refl, e)
-neither true y e = absurd (false≢true (sym e))
+types_in : {n : Count} (ts : Row_of-Term n) → types_of ts ≡ map type_of (terms_in ts)
+types_in end_of-Term = refl
+types_in (more_of-Term t ts) = ap (λ us. type_of t ∷ us) (types_in ts)
 
-node_is : (h : Head) (n : _) (ts : _) (ty : Ty) → node h (terms_in ts) ty ≡ Term' tt (more_of-Head h end_of-Head) n ts ty
-node_is h n ts ty = sym (each_is_node (Term' tt (more_of-Head h end_of-Head) n ts ty) ∙ ap (λ x. node x.head x.args x.ty) (out_is h n ts ty))
+node_is : (h : Head) (n : _) (ts : _) (u : Ty) → node h (terms_in ts) u ≡ Term' tt (more_of-Head h end_of-Head) n ts u
+node_is h n ts u = sym (each_is_node (Term' tt (more_of-Head h end_of-Head) n ts u) ∙ ap (λ x. node x.head x.args x.ty) (out_is h n ts u))
 
-module _ (a b : Term) where
-  node_stays : (h : Head) (n : _) (ts : _) (ty : Ty) → parts_rewritten a b (is_quotient h) ts ≡ terms_in ts → node h (parts_rewritten a b (is_quotient h) ts) ty ≡ Term' tt (more_of-Head h end_of-Head) n ts ty
-  node_stays h n ts ty e = ap (λ xs. node h xs ty) e ∙ node_is h n ts ty
+module _ (o : Context) (a b : Term) (sides : AreSides (outermost o) a b) (g : Setting) (fits : IsSettingOf (outermost o) g) (j : Judge) (fair : IsFair g j) (respects : RespectAlike (outermost o) g)
+    (s : State) (same : Alike (val g (speaking g j) a s) (val g (speaking g j) b s)) where
+  abbrev Deep : Context → Term → Term → Type 0
+  Deep d x t = AreDeep o g j s d x t
 
-  -- where it doesn't stand nothing changes
+  abbrev All : Context → Context → Context → List Term → List Term → Type 0
+  All c m l xs ts = AllDeep o g j s c m l xs ts
+
+  -- one side means inside of binders what it means outside
+  put : (d : Context) → IsInside o d → (t : Term) → IsTyped d t → t ≡ a → Deep d b t
+  put d i t w e =
+      subst (Deep d b) (sym e)
+      (record {
+        new = typed_inside d b (subst (λ x. IsTyped x b) (sym i) sides.right);
+        old = subst (IsTyped d) e w;
+        written = sym sides.type;
+        alike = λ q k.
+            subst (λ x. Alike x (val g (speaking g j) a q)) (sym (everywhere o g fits s j fair b sides.right q k.like))
+            (subst (Alike (val g (speaking g j) b s)) (sym (everywhere o g fits s j fair a sides.left q k.like)) (alike_turned (val g (speaking g j) a s) (val g (speaking g j) b s) same));
+        denominator = one o g fits s j fair b sides.right (subst IsNoDistribution sides.type sides.single) ∙ sym (one o g fits s j fair a sides.left sides.single);
+      })
+
+  either : (d : Context) → IsInside o d → (t : Term) → IsTyped d t → (z : Bool) → is_same t a ≡ z → (x : Term) → Deep d x t → Deep d (if z then b else x) t
+  either d i t w true e x k = put d i t w (are_one t a e)
+  either d i t w false e x k = k
+
+  themselves : {n : Count} (c m l : Context) (ts : Row_of-Term n) → AreTyped c m l ts → All c m l (terms_in ts) (terms_in ts)
+  themselves c m l end_of-Term w = tt
+  themselves c m l (more_of-Term t end_of-Term) w = itself o g j s l t w
+  themselves c m l (more_of-Term t (more_of-Term u ts)) w = (itself o g j s c t w.0, themselves m m l (more_of-Term u ts) w.1)
+
   mutual
-    stays : (t : Term) → stands a t ≡ false → rewritten a b t ≡ t
-    stays (Term' tt (more_of-Head h end_of-Head) n ts ty) e =
-        let k = neither (is_same (Term' tt (more_of-Head h end_of-Head) n ts ty) a) (stands_in_parts a (is_quotient h) ts) e in
-        ap (λ z. if z then b else node h (parts_rewritten a b (is_quotient h) ts) ty) k.0 ∙ node_stays h n ts ty (all_stay (is_quotient h) ts k.1)
+    pub deep : (d : Context) → IsInside o d → (t : Term) → IsTyped d t → IsSoundForm g t → Deep d (rewritten a b t) t
+    deep d i (Term' tt (more_of-Head h end_of-Head) n ts u) w v =
+        let c = first d h in
+        let m = middle d h in
+        let l = last d w.2 h (types_of ts) in
+        let xs = parts_rewritten a b (is_quotient h) ts in
+        let parts = all_deep c m l (inside_first o d h i) (inside_middle o d h i) (inside_last o d w.2 h (types_of ts) i) (is_quotient h) ts w.3 v.1 in
+        let made : Made d u (node h xs u) =
+        made_node d h (types_of ts) xs u w.0 w.1 w.2
+        (parts_made o a b sides.right sides.type c m l (inside_first o d h i) (inside_middle o d h i) (inside_last o d w.2 h (types_of ts) i) (is_quotient h) ts w.3) in
+        either d i (Term' tt (more_of-Head h end_of-Head) n ts u) w (is_same (Term' tt (more_of-Head h end_of-Head) n ts u) a) refl (node h xs u)
+        (subst (Deep d (node h xs u)) (node_is h n ts u)
+        (record {
+          new = made.typed;
+          old = subst (IsTyped d) (sym (node_is h n ts u)) w;
+          written = made.written ∙ sym (type_of_node h (terms_in ts) u);
+          alike = λ q k.
+              let parts_deep = subst (λ us. IsHead (erased d) h us u × All c m (last d w.2 h us) xs (terms_in ts)) (types_in ts) (w.0, parts) in
+              subst (λ x. Alike x (val g (speaking g j) (node h (terms_in ts) u) q)) (sym (val_node g (speaking g j) h xs u q))
+              (subst (Alike (at_head g (speaking g j) (node h xs u) h (map (part_of g (speaking g j)) xs) u q)) (sym (val_node g (speaking g j) h (terms_in ts) u q))
+              (head_alike o g j s fair d q k respects h w.2 xs (terms_in ts) u parts_deep.0 w.1 v.0 parts_deep.1));
+          denominator = denominator_node g h xs u ∙ ap (λ ks. denominator_of g h ks u) (all_over o g j s c m l xs (terms_in ts) parts) ∙ sym (denominator_node g h (terms_in ts) u);
+        }))
 
-    all_stay : {n : Count} (q : Bool) (ts : Row_of-Term n) → stands_in_parts a q ts ≡ false → parts_rewritten a b q ts ≡ terms_in ts
-    all_stay q end_of-Term e = refl
-    all_stay true (more_of-Term t ts) e = ap (λ x. x ∷ terms_in ts) (stays t e)
-    all_stay false (more_of-Term t ts) e =
-        let k = neither (stands a t) (stands_in_parts a false ts) e in
-        let one = stays t k.0 in
-        let rest = all_stay false ts k.1 in
-        λ i. one i ∷ rest i
-
-module _ (o : Context) (a b : Term) (sides : AreSides (outermost o) a b) (g : Setting) (fits : IsSettingOf (outermost o) g) (j : Judge) (s : State) (fit : IsStateOf (outermost o) g s) where
-  abbrev c : Context
-  c = outermost o
-
-  abbrev means_proper : (t : Term) → IsTyped c t → IsProper (val g (speaking g j) t s)
-  means_proper t w = proper g.types (type_of t) (val g (speaking g j) t s) (meaning_is_of c g fits j s fit t w)
-
-  -- two terms mean the same here, and have one denominator
-  abbrev One : Term → Term → Type 0
-  One x t = AreOne (argument s (part_of g (speaking g j) x)) (argument s (part_of g (speaking g j) t))
-
-  abbrev All : {n : Count} → List Term → Row_of-Term n → Type 0
-  All xs ts = AllOne (map (argument s) (map (part_of g (speaking g j)) xs)) (map (argument s) (parts g (speaking g j) ts))
-
-  itself : (t : Term) → IsTyped c t → One t t
-  itself t w = record { alike = alike_itself (val g (speaking g j) t s); denominator = refl; first = means_proper t w; second = means_proper t w }
-
-  themselves : {n : Count} (ts : Row_of-Term n) → AreTyped c c c ts → All (terms_in ts) ts
-  themselves end_of-Term w = tt
-  themselves (more_of-Term t end_of-Term) w = (itself t w, tt)
-  themselves (more_of-Term t (more_of-Term u ts)) w = (itself t w.0, themselves (more_of-Term u ts) w.1)
-
-  single : (x : Term) → IsTyped c x → IsNoDistribution (type_of x) → denominator g x ≡ 1
-  single x w n = denominator_one g (erased c) x (erased_typed c x w) n
-
-  all_over : {n : Count} (xs : List Term) (ts : Row_of-Term n) → All xs ts → map (denominator g) xs ≡ denominators g ts
-  all_over [] end_of-Term e = refl
-  all_over [] (more_of-Term t ts) e = absurd e
-  all_over (x ∷ xs) end_of-Term e = absurd e
-  all_over (x ∷ xs) (more_of-Term t ts) e = let one = e.0.denominator in let rest = all_over xs ts e.1 in λ i. one i ∷ rest i
-
-  builtin : (p : Op) (n : _) (xs : List Term) (ts : _) (ty : Ty) → IsTyped c (node (head.Builtin p) xs ty) → IsTyped c (Term' tt (more_of-Head (head.Builtin p) end_of-Head) n ts ty) → All xs ts →
-      One (node (head.Builtin p) xs ty) (Term' tt (more_of-Head (head.Builtin p) end_of-Head) n ts ty)
-  builtin p n xs ts ty v w e = record {
-    alike = subst (λ x. Alike x (val g (speaking g j) (Term' tt (more_of-Head (head.Builtin p) end_of-Head) n ts ty) s)) (sym (val_node g (speaking g j) (head.Builtin p) xs ty s))
-        (operated_alike g.types ty p (map (argument s) (map (part_of g (speaking g j)) xs)) (map (argument s) (parts g (speaking g j) ts)) e);
-    denominator = denominator_node g (head.Builtin p) xs ty ∙ ap (λ ks. denominator_at g.types p ty ks) (all_over xs ts e);
-    first = means_proper (node (head.Builtin p) xs ty) v;
-    second = means_proper (Term' tt (more_of-Head (head.Builtin p) end_of-Head) n ts ty) w;
-  }
-
-  module _ (same : Alike (val g (speaking g j) a s) (val g (speaking g j) b s)) where
-    put : (t : Term) → t ≡ a → One b t
-    put t e = subst (One b) (sym e) (record {
-      alike = alike_turned (val g (speaking g j) a s) (val g (speaking g j) b s) same;
-      denominator = single b sides.right (subst IsNoDistribution sides.type sides.single) ∙ sym (single a sides.left sides.single);
-      first = means_proper b sides.right;
-      second = means_proper a sides.left;
-    })
-
-    moved_typed : (t : Term) → IsTyped c t → IsTyped c (rewritten a b t)
-    moved_typed t w = (rewritten_made o a b sides.right sides.type c refl t w).typed
-
-    at_node : (h : Head) (n : _) (ts : _) (ty : Ty) → IsTyped c (Term' tt (more_of-Head h end_of-Head) n ts ty) → (z : Bool) → is_same (Term' tt (more_of-Head h end_of-Head) n ts ty) a ≡ z →
-        IsTyped c (if z then b else node h (parts_rewritten a b (is_quotient h) ts) ty) →
-        (if z then false else if is_builtin h then deep_in_parts a (is_quotient h) ts else stands a (Term' tt (more_of-Head h end_of-Head) n ts ty)) ≡ false →
-        (AreTyped c c c ts → deep_in_parts a (is_quotient h) ts ≡ false → All (parts_rewritten a b (is_quotient h) ts) ts) →
-        One (if z then b else node h (parts_rewritten a b (is_quotient h) ts) ty) (Term' tt (more_of-Head h end_of-Head) n ts ty)
-    at_node h n ts ty w true i v e args = put (Term' tt (more_of-Head h end_of-Head) n ts ty) (are_one (Term' tt (more_of-Head h end_of-Head) n ts ty) a i)
-    at_node (head.Builtin p) n ts ty w false i v e args =
-        builtin p n (parts_rewritten a b (is_quotient (head.Builtin p)) ts) ts ty v w (args w.3 e)
-    at_node h n ts ty w false i v e args =
-        let k = neither (is_same (Term' tt (more_of-Head h end_of-Head) n ts ty) a) (stands_in_parts a (is_quotient h) ts) e in
-        subst (λ x. One x (Term' tt (more_of-Head h end_of-Head) n ts ty)) (sym (node_stays a b h n ts ty (all_stay a b (is_quotient h) ts k.1))) (itself (Term' tt (more_of-Head h end_of-Head) n ts ty) w)
-
-    mutual
-      deep : (t : Term) → IsTyped c t → stands_deep a t ≡ false → One (rewritten a b t) t
-      deep (Term' tt (more_of-Head h end_of-Head) n ts ty) w e =
-          at_node h n ts ty w (is_same (Term' tt (more_of-Head h end_of-Head) n ts ty) a) refl (moved_typed (Term' tt (more_of-Head h end_of-Head) n ts ty) w) e
-          (λ v k. all_deep (is_quotient h) ts v k)
-
-      all_deep : {n : Count} (q : Bool) (ts : Row_of-Term n) → AreTyped c c c ts → deep_in_parts a q ts ≡ false → All (parts_rewritten a b q ts) ts
-      all_deep q end_of-Term w e = tt
-      all_deep true (more_of-Term t end_of-Term) w e = (deep t w e, tt)
-      all_deep false (more_of-Term t end_of-Term) w e = (deep t w (neither (stands_deep a t) false e).0, tt)
-      all_deep true (more_of-Term t (more_of-Term u ts)) w e = (deep t w.0 e, themselves (more_of-Term u ts) w.1)
-      all_deep false (more_of-Term t (more_of-Term u ts)) w e =
-          let k = neither (stands_deep a t) (deep_in_parts a false (more_of-Term u ts)) e in
-          (deep t w.0 k.0, all_deep false (more_of-Term u ts) w.1 k.1)
-
-    -- a form is as true with the other term
-    pub deep_form : (f : Term) → IsForm c f → stands_deep a f ≡ false → den g j (rewritten a b f) s ≡ den g j f s
-    deep_form f w e = truth_alike (val g (speaking g j) (rewritten a b f) s) (val g (speaking g j) f s) (deep f w.typed e).alike
+    pub all_deep : {n : Count} (c m l : Context) → IsInside o c → IsInside o m → IsInside o l → (q : Bool) (ts : Row_of-Term n) → AreTyped c m l ts → AllSound g ts → All c m l (parts_rewritten a b q ts) (terms_in ts)
+    all_deep c m l i k r q end_of-Term w v = tt
+    all_deep c m l i k r true (more_of-Term t end_of-Term) w v = deep l r t w v.0
+    all_deep c m l i k r false (more_of-Term t end_of-Term) w v = deep l r t w v.0
+    all_deep c m l i k r true (more_of-Term t (more_of-Term u ts)) w v = (deep c i t w.0 v.0, themselves m m l (more_of-Term u ts) w.1)
+    all_deep c m l i k r false (more_of-Term t (more_of-Term u ts)) w v = (deep c i t w.0 v.0, all_deep m m l k k r false (more_of-Term u ts) w.1 v.1)

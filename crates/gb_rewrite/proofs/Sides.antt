@@ -1,5 +1,5 @@
 -- Where an equation or an equivalence is true, its sides mean the same.
-use Rattle.std.proofs.Common.{◌≡◌, true, false, List, [], ◌∷◌, Option, Some, None, ap, sym, ◌∙◌, subst}
+use Rattle.std.proofs.Common.{◌≡◌, true, List, [], ◌∷◌, Option, Some, None, ap, sym, ◌∙◌, subst}
 use Rattle.gb_core.specs.declared.ty.Ty.{Ty}
 use Rattle.gb_core.specs.declared.ty.Ty.TheVariants as ty
 use Rattle.gb_terms.specs.declared.op.Op.TheVariants.{Equal, Iff}
@@ -24,10 +24,9 @@ use Rattle.gb_typing.specs.Fits.{IsSettingOf, IsStateOf}
 use Rattle.gb_typing.proofs.Made.{parts_typed}
 use Rattle.gb_amb.proofs.Itself.{meaning_is_of}
 use Rattle.gb_rewrite.specs.Equations.{Pair, equation_at, equation_of, equivalence_at, equivalence_of}
-use Rattle.gb_rewrite.specs.Rewriting.{is_real}
 use Rattle.gb_equality_laws.specs.Alike.{Alike}
 use Rattle.gb_equality_laws.proofs.Alike.{alike_of}
-use Rattle.gb_rewrite.proofs.Values.{equal_alike, alike_one, same_truths}
+use Rattle.gb_rewrite.proofs.Values.{equal_alike, same_truths}
 
 -- two terms of one type, and no distributions
 pub record AreSides (c : Context) (a b : Term) : Type 0 where
@@ -40,12 +39,6 @@ pub record AreSides (c : Context) (a b : Term) : Type 0 where
 pub record IsSaidBy (c : Context) (f a b : Term) : Type 0 where
   pub sides : AreSides c a b
   pub alike : (g : Setting) → IsSettingOf c g → (j : Judge) (s : State) → IsStateOf c g s → den g j f s ≡ true → Alike (val g (speaking g j) a s) (val g (speaking g j) b s)
-
--- they mean one thing, where they are no reals
-pub equal_sides : (c : Context) (f a b : Term) → IsSaidBy c f a b → is_real (type_of a) ≡ false → (g : Setting) → IsSettingOf c g → (j : Judge) (s : State) → IsStateOf c g s → den g j f s ≡ true →
-    val g (speaking g j) a s ≡ val g (speaking g j) b s
-equal_sides c f a b x n g fits j s fit h =
-    alike_one g.types (type_of a) (val g (speaking g j) a s) (val g (speaking g j) b s) (meaning_is_of c g fits j s fit a x.sides.left) n (x.alike g fits j s fit h)
 
 bool_single : (u : Ty) → u ≡ ty.Bool → IsNoDistribution u
 bool_single u e = subst IsNoDistribution (sym e) tt

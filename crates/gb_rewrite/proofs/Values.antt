@@ -1,5 +1,5 @@
 -- The sides of true equations and equivalences mean the same.
-use Rattle.std.proofs.Common.{◌≡◌, ℕ, zero, suc, ◌==◌, ◌<◌, true, false, refl, ap, sym, ◌∙◌, arith}
+use Rattle.std.proofs.Common.{◌≡◌, ℕ, zero, suc, ◌==◌, ◌<◌, Bool, true, false, refl, ap, sym, ◌∙◌, arith}
 use Rattle.std.proofs.lemmas.Bool.{false≢true}
 use Rattle.std.proofs.lemmas.Bool.Decides.{Decides-int_eq}
 use Rattle.gb_core.specs.declared.ty.Ty.{Ty}
@@ -16,7 +16,10 @@ use Rattle.gb_laws.proofs.Numberings.{lawful}
 use Rattle.gb_laws.proofs.Values.{value_eq-true}
 use Rattle.gb_typed.specs.Meant.{IsOf, IsReal}
 use Rattle.gb_equality_laws.specs.Alike.{Alike}
-use Rattle.gb_rewrite.specs.Rewriting.{is_real}
+
+abbrev pub is_real : Ty → Bool
+is_real ty.Real = true
+is_real t = false
 
 real_is : (u : Ty) → IsReal u → is_real u ≡ true
 real_is ty.Real w = refl

@@ -1,3 +1,4 @@
 pub mod Rewritten
 pub mod Equations
+pub mod Unfolded
 pub mod Rewriting

@@ -1,41 +1,34 @@
 -- What the rules make of goals that put equals for equals.
-use Rattle.std.specs.Prelude.{ℕ, zero, suc, Bool, true, false, not, ◌&&◌, if◌then◌else◌, List, [], ◌∷◌, map, slice_get, Option, Some, None}
+use Rattle.std.specs.Prelude.{ℕ, zero, suc, Bool, not, ◌&&◌, if◌then◌else◌, List, [], ◌∷◌, map, slice_get, Option, Some, None}
 use Rattle.std.specs.Option.{option_map}
 use Rattle.gb_core.specs.declared.place.Place.{Place}
 use Rattle.gb_core.specs.declared.refusal.Why.TheVariants.{Shape}
-use Rattle.gb_core.specs.declared.ty.Ty.{Ty}
-use Rattle.gb_core.specs.declared.ty.Ty.TheVariants.{Real}
 use Rattle.gb_terms.specs.declared.term.Term.{Term, out-Term}
 use Rattle.gb_goal.specs.Answers.{Answer}
 use Rattle.gb_goal.specs.Answers.Answer.{given, refused}
 use Rattle.gb_goal.specs.declared.sequent.Hyp.{Hyp}
 use Rattle.gb_goal.specs.declared.sequent.Sequent.{Sequent}
+use Rattle.gb_goal.specs.Scope as scope
 use Rattle.gb_steps.specs.declared.step.RewriteRule.{RewriteRule}
-use Rattle.gb_steps.specs.declared.step.RewriteRule.TheVariants.{Forward, Back, Subst}
+use Rattle.gb_steps.specs.declared.step.RewriteRule.TheVariants.{Forward, Back, Subst, Unfold}
+use Rattle.gb_meaning.specs.Names.{Name}
+use Rattle.gb_eval.specs.Script.{body_named}
 use Rattle.gb_holds.specs.Declared.{Declarations}
 use Rattle.gb_holds.specs.Holds.{Holds}
 use Rattle.gb_typing.specs.Context.{Context}
 use Rattle.gb_typing.specs.Typing.{IsForm}
 use Rattle.gb_amb.specs.Parts.{concluding}
 use Rattle.gb_amb.specs.Quantified.{quantifies_modules, goal_quantifies_modules}
-use Rattle.gb_rewrite.specs.Rewritten.{rewritten, stands, stands_deep}
+use Rattle.gb_rewrite.specs.Rewritten.{rewritten, stands}
 use Rattle.gb_rewrite.specs.Equations.{Pair, exchanged, equation_of, equivalence_of, used_up_of}
-
-abbrev pub is_real : Ty → Bool
-is_real Real = true
-is_real t = false
-
--- Whether a term may give way in a conclusion: it stands there, and a real one under built-in operators alone, which take equal fractions
--- for the same. Elsewhere reals aren't built yet.
-abbrev pub gives_way : Term → Term → Bool
-gives_way a f = stands a f && not (is_real (out-Term a).ty && stands_deep a f)
+use Rattle.gb_rewrite.specs.Unfolded.{names, programs_name, takes_plain, unfolded}
 
 -- The goal with one term in place of another one in the conclusion. Behind a quantifier over modules this isn't built.
 abbrev pub rewriting : Place → Sequent → Option Pair → Answer (List Sequent)
 rewriting place q None = refused Shape place
 rewriting place q (Some p) =
     if quantifies_modules q.conclusion then refused Shape place
-    else if gives_way p.0 q.conclusion then given (concluding q (rewritten p.0 p.1 q.conclusion) ∷ []) else refused Shape place
+    else if stands p.0 q.conclusion then given (concluding q (rewritten p.0 p.1 q.conclusion) ∷ []) else refused Shape place
 
 -- the right side of a form that is known in place of its left side, and the left side in place of the right one
 abbrev pub rewriting_by : Term → Place → Sequent → Answer (List Sequent)
@@ -71,14 +64,33 @@ using_up_hypothesis i place q (Some h) = using_up i place q (used_up_of (equatio
 abbrev pub substituting : ℕ → Place → Sequent → Answer (List Sequent)
 substituting i place q = using_up_hypothesis i place q (slice_get q.hyps i)
 
+-- Whether an operator of the script can be unfolded in a conclusion: it stands there. In programs of a judgment of bodies, and at
+-- arguments that speak of programs or quantify over memories, it isn't built yet.
+abbrev pub can_unfold : Name → Term → Bool
+can_unfold x f = names x f && (not (programs_name x (out-Term f).head) && takes_plain x f)
+
+-- The goal with an operator's body in place of each application of it in the conclusion. Behind a quantifier over modules this isn't
+-- built.
+abbrev pub opening_by : Name → Place → Sequent → Option Term → Answer (List Sequent)
+opening_by x place q None = refused Shape place
+opening_by x place q (Some b) =
+    if quantifies_modules q.conclusion then refused Shape place
+    else if can_unfold x q.conclusion then given (concluding q (unfolded x b q.conclusion) ∷ []) else refused Shape place
+
+-- an operator of the script is unfolded
+abbrev pub opening : scope.Declarations → Name → Place → Sequent → Answer (List Sequent)
+opening ds x place q = opening_by x place q (body_named ds x)
+
 -- what a step at a place answers at a goal
-abbrev pub rewrite_answer : RewriteRule → Place → Sequent → Answer (List Sequent)
-rewrite_answer (Forward f) place q = rewriting_by f place q
-rewrite_answer (Back f) place q = rewriting_back f place q
-rewrite_answer (Subst i) place q = substituting i place q
+abbrev pub rewrite_answer : scope.Declarations → RewriteRule → Place → Sequent → Answer (List Sequent)
+rewrite_answer ds (Forward f) place q = rewriting_by f place q
+rewrite_answer ds (Back f) place q = rewriting_back f place q
+rewrite_answer ds (Subst i) place q = substituting i place q
+rewrite_answer ds (Unfold x) place q = opening ds x place q
 
 -- the form that a step uses is typed, and holds in place of the conclusion
 abbrev pub IsUsable : Declarations → Sequent → Context → RewriteRule → Type 0
 IsUsable ds q c (Forward f) = IsForm c f × Holds ds (concluding q f)
 IsUsable ds q c (Back f) = IsForm c f × Holds ds (concluding q f)
 IsUsable ds q c (Subst i) = Unit {0}
+IsUsable ds q c (Unfold x) = Unit {0}

@@ -45,22 +45,6 @@ abbrev mutual
   stands_in_parts a true (more_of-Term t ts) = stands a t
   stands_in_parts a false (more_of-Term t ts) = stands a t || stands_in_parts a false ts
 
-abbrev pub is_builtin : Head → Bool
-is_builtin (Builtin o) = true
-is_builtin h = false
-
-abbrev mutual
-  -- whether a stands in an argument of what is no built-in operator: a binder, a judgment, a probability, or an operator of the script
-  pub stands_deep : Term → Term → Bool
-  stands_deep a (Term' p (more_of-Head h end_of-Head) n ts ty) =
-      if is_same (Term' p (more_of-Head h end_of-Head) n ts ty) a then false
-      else if is_builtin h then deep_in_parts a (is_quotient h) ts else stands a (Term' p (more_of-Head h end_of-Head) n ts ty)
-
-  pub deep_in_parts : {n : _} → Term → Bool → Row_of-Term n → Bool
-  deep_in_parts a d end_of-Term = false
-  deep_in_parts a true (more_of-Term t ts) = stands_deep a t
-  deep_in_parts a false (more_of-Term t ts) = stands_deep a t || deep_in_parts a false ts
-
 -- The same of lists.
 
 abbrev pub first_rewritten : Term → Term → List Term → List Term
@@ -78,11 +62,3 @@ stands_first a (t ∷ ts) = stands a t
 abbrev pub stands_in_list : Term → Bool → List Term → Bool
 stands_in_list a true ts = stands_first a ts
 stands_in_list a false ts = list_any (stands a) ts
-
-abbrev pub deep_in_first : Term → List Term → Bool
-deep_in_first a [] = false
-deep_in_first a (t ∷ ts) = stands_deep a t
-
-abbrev pub deep_in_list : Term → Bool → List Term → Bool
-deep_in_list a true ts = deep_in_first a ts
-deep_in_list a false ts = list_any (stands_deep a) ts

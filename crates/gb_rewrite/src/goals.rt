@@ -1,35 +1,26 @@
 // The goals of rules that put equals for equals.
 
 ghost use Rattle.std.specs.Prelude.{◌≡◌, [], ◌∷◌, map, Some, IfOk};
+ghost use Rattle.std.specs.Option.{option_copied};
 ghost use Rattle.gb_goal.specs.Answers.{Answers};
-ghost use Rattle.gb_rewrite.specs.Rewriting.{gives_way, hypothesis_rewritten, is_real, others, rewrite_answer, rewriting, rewriting_back, rewriting_by, substituting, using_up, using_up_hypothesis, without};
+ghost use Rattle.gb_eval.specs.Script.{body_named};
+ghost use Rattle.gb_rewrite.specs.Rewriting.{can_unfold, hypothesis_rewritten, others, rewrite_answer, rewriting, rewriting_back, rewriting_by, substituting, opening, opening_by, using_up, using_up_hypothesis, without};
 
 use crate::equations::{equivalence_of, used_up_by};
-use crate::rewritten::{rewritten, stands, stands_deep};
+use crate::rewritten::{rewritten, stands};
+use crate::unfolded::{names, programs_name, takes_plain, unfolded};
 use gb_amb::goals::{alone, no_shape, one};
 use gb_amb::quantified::{refuse_goal_modules, refuse_modules};
+use gb_core::name::Name;
 use gb_core::place::Place;
 use gb_core::refusal::Refused;
-use gb_core::ty::Ty;
+use gb_goal::scope::{Entry, Scope};
 use gb_goal::sequent::{Hyp, Sequent, Sequents};
 use gb_shared::SharedItems;
 use gb_steps::step::RewriteRule;
 use gb_terms::term::{Form, Term};
 use sqlite_items::Items;
 use std::alloc::{AllocError, Global};
-
-fn is_real(ty: &Ty) -> bool
-    ensures { result ≡ is_real ty.now }
-{
-    matches!(ty, Ty::Real)
-}
-
-/// Whether a term may give way to an equal one in a conclusion.
-fn gives_way(t: &Term, conclusion: &Form) -> bool
-    ensures { result ≡ gives_way t.now conclusion.now }
-{
-    stands(conclusion, t) && !(is_real(t.ty.get()) && stands_deep(conclusion, t))
-}
 
 /// The goal with `by` in place of each `replaced` in the conclusion. Refused with `Shape` where none stands there, or where it
 /// isn't built.
@@ -43,7 +34,7 @@ fn rewriting(
     ensures { Answers (rewriting place goal.now (Some (replaced.now, by.now))) result }
 {
     refuse_modules(place, &goal.conclusion)?;
-    if !gives_way(replaced, &goal.conclusion) {
+    if !stands(&goal.conclusion, replaced) {
         return Err(no_shape(place));
     }
     let conclusion = rewritten(alloc, &goal.conclusion, replaced, by)?;
@@ -124,12 +115,9 @@ fn without(
 {
     let hyps = others(alloc, hyp, replaced, by, goal.hyps.as_slice())?;
     let conclusion = rewritten(alloc, &goal.conclusion, replaced, by)?;
-    let same = goal.share()?;
-    Ok(Sequent {
-        hyps,
-        conclusion,
-        ..same
-    })
+    let mut rest = goal.with_conclusion(conclusion)?;
+    rest.hyps = hyps;
+    Ok(rest)
 }
 
 fn using_up(
@@ -179,19 +167,74 @@ fn using_up_hypothesis(
     }
 }
 
+/// The body of the operator of this name.
+fn body_named<'a>(scope: &'a Scope, name: &Name) -> Option<&'a Term>
+    ensures { option_copied result ≡ body_named scope.now name.now }
+{
+    match scope.entry(name) {
+        Some(Entry::Operator(operator)) => Some(&operator.body),
+        _ => None,
+    }
+}
+
+/// Whether an operator of the script can be unfolded in a conclusion.
+fn can_unfold(name: &Name, conclusion: &Form) -> bool
+    ensures { result ≡ can_unfold name.now conclusion.now }
+{
+    names(conclusion, name)
+        && (!programs_name(conclusion.head.get(), name) && takes_plain(conclusion, name))
+}
+
+/// The goal with a body in place of each application of an operator. Refused with `Shape` where none stands in the conclusion, or
+/// where it isn't built.
+fn opening_by(
+    alloc: Global,
+    name: &Name,
+    body: &Term,
+    place: Place,
+    goal: &Sequent,
+) -> Result<Sequents, Refused>
+    ensures { Answers (opening_by name.now place goal.now (Some body.now)) result }
+{
+    refuse_modules(place, &goal.conclusion)?;
+    if !can_unfold(name, &goal.conclusion) {
+        return Err(no_shape(place));
+    }
+    let conclusion = unfolded(alloc, &goal.conclusion, name, body)?;
+    Ok(one(alloc, goal, conclusion)?)
+}
+
+/// The goal with an operator of the script unfolded.
+fn opening(
+    alloc: Global,
+    scope: &Scope,
+    name: &Name,
+    place: Place,
+    goal: &Sequent,
+) -> Result<Sequents, Refused>
+    ensures { Answers (opening scope.now name.now place goal.now) result }
+{
+    match body_named(scope, name) {
+        Some(body) => opening_by(alloc, name, body, place, goal),
+        None => Err(no_shape(place)),
+    }
+}
+
 /// The goals of a step that puts equals for equals. Refused at the place of the step, with `Shape`, where what it uses is no equation and
-/// no equivalence, where nothing gives way, or where it isn't built.
+/// no equivalence, where nothing gives way, where no operator stands there to be unfolded, or where it isn't built.
 pub fn apply(
     alloc: Global,
     rule: &RewriteRule,
     place: Place,
     goal: &Sequent,
+    scope: &Scope,
 ) -> Result<Sequents, Refused>
-    ensures { Answers (rewrite_answer rule.now place goal.now) result }
+    ensures { Answers (rewrite_answer scope.now rule.now place goal.now) result }
 {
     match rule {
         RewriteRule::Forward(known) => rewriting_by(alloc, known, place, goal),
         RewriteRule::Back(known) => rewriting_back(alloc, known, place, goal),
         RewriteRule::Subst(hyp) => substituting(alloc, *hyp, place, goal),
+        RewriteRule::Unfold(name) => opening(alloc, scope, name, place, goal),
     }
 }

@@ -5,3 +5,4 @@ pub mod equations;
 pub mod goals;
 pub mod laws;
 pub mod rewritten;
+pub mod unfolded;

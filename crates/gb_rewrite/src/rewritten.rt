@@ -4,7 +4,7 @@ ghost use Rattle.std.specs.Prelude.{◌≡◌, ◌∷◌, map, IfOk};
 ghost use Rattle.std.specs.List.{list_any};
 ghost use Rattle.gb_terms.specs.declared.term.Term.{out-Term};
 ghost use Rattle.gb_terms.specs.Make.{node};
-ghost use Rattle.gb_rewrite.specs.Rewritten.{deep_in_first, first_rewritten, is_builtin, is_quotient, is_same, rewritten, stands, stands_deep, stands_first};
+ghost use Rattle.gb_rewrite.specs.Rewritten.{first_rewritten, is_quotient, is_same, rewritten, stands, stands_first};
 
 use gb_shared::SharedItems;
 use gb_terms::op::Op;
@@ -63,54 +63,8 @@ fn stands_in_any(list: &[Term], sought: &Term) -> bool
     false
 }
 
-fn is_builtin(head: &Head) -> bool
-    ensures { result ≡ is_builtin head.now }
-{
-    matches!(head, Head::Builtin(_))
-}
-
-/// Whether a term stands in an argument of what is no built-in operator.
-#[cycle(stands_deep)]
-#[tactic(auto, using(crate::proofs::Parts::deep_out))]
-pub fn stands_deep(t: &Term, sought: &Term) -> bool
-    ensures { result ≡ stands_deep sought.now t.now }
-{
-    if is_same(t, sought) {
-        return false;
-    }
-    if !is_builtin(t.head.get()) {
-        return stands(t, sought);
-    }
-    if is_quotient(t.head.get()) {
-        return deep_in_first(t.args.as_slice(), sought);
-    }
-    deep_in_any(t.args.as_slice(), sought)
-}
-
-#[cycle(stands_deep)]
-fn deep_in_first(list: &[Term], sought: &Term) -> bool
-    ensures { result ≡ deep_in_first sought.now list.now }
-{
-    match list {
-        [] => false,
-        [first, ..] => stands_deep(first, sought),
-    }
-}
-
-#[cycle(stands_deep)]
-fn deep_in_any(list: &[Term], sought: &Term) -> bool
-    ensures { result ≡ list_any (stands_deep sought.now) list.now }
-{
-    for t in list {
-        if stands_deep(t, sought) {
-            return true;
-        }
-    }
-    false
-}
-
 /// The term with other arguments.
-fn with_args(alloc: Global, t: &Term, args: Terms) -> Result<Term, AllocError>
+pub fn with_args(alloc: Global, t: &Term, args: Terms) -> Result<Term, AllocError>
     ensures { IfOk result (λ made. made ≡ node (out-Term t.now).head args (out-Term t.now).ty) }
 {
     let args = SharedItems::new(alloc, args)?;

@@ -6,9 +6,15 @@ use std::alloc::{AllocError, Global};
 use std::marker::Model;
 
 /// A list with several owners. Contracts see the list of its elements.
-#[derive(Drop)]
 pub struct SharedItems<T> {
     inner: Shared<Items<T>>,
+}
+
+impl<T: Drop> Drop for SharedItems<T> {
+    fn drop(self) {
+        let SharedItems { inner } = self;
+        drop(inner);
+    }
 }
 
 impl<T> Model for SharedItems<T> {

@@ -5,9 +5,15 @@ use std::marker::Model;
 use std::rc::Rc;
 
 /// A value with several owners. Contracts see the value alone.
-#[derive(Drop)]
 pub struct Shared<T> {
     inner: Rc<T>,
+}
+
+impl<T: Drop> Drop for Shared<T> {
+    fn drop(self) {
+        let Shared { inner } = self;
+        drop(inner);
+    }
 }
 
 impl<T> Model for Shared<T> {

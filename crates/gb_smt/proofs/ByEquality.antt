@@ -39,27 +39,27 @@ module _ (whole leaf : Leaf) (e : leaf ≡ used_up whole) (n : ℕ) (counted : I
   pub many_deny : 20 < n → Denies whole
   many_deny m = denied whole (too_many m)
 
-  few_valid : has_no_form whole ≡ false → n ≤ 20 → EqualityValid whole.hyps whole.conclusion → ClosesByEquality whole
-  few_valid p f v = record { forms = p; atoms = n; count = counted_whole; few = f; valid = v }
+  few_valid : has_no_form whole ≡ false → n ≤ 20 → EqualityValid leaf.hyps leaf.conclusion → ClosesByEquality whole
+  few_valid p f v = record { forms = p; atoms = n; count = counted_whole; few = f; valid = subst (λ l. EqualityValid l.hyps l.conclusion) e v }
 
-  pub valid_confirms : has_no_form whole ≡ false → n ≤ 20 → EqualityValid whole.hyps whole.conclusion → (true ≡ true → ClosesByEquality whole) × (ClosesByEquality whole → true ≡ true)
+  pub valid_confirms : has_no_form whole ≡ false → n ≤ 20 → EqualityValid leaf.hyps leaf.conclusion → (true ≡ true → ClosesByEquality whole) × (ClosesByEquality whole → true ≡ true)
   valid_confirms p f v = (λ q. few_valid p f v, λ c. refl)
 
-  pub refuted_denies : (list : List Labelled) → IsRefutation whole.hyps whole.conclusion list → Denies whole
-  refuted_denies list r = denied whole (λ c. c.valid r.labels r.refutes)
+  pub refuted_denies : (list : List Labelled) → IsRefutation leaf.hyps leaf.conclusion list → Denies whole
+  refuted_denies list r = denied whole (λ c. c.valid r.labels (subst (λ l. Refutes r.labels l.hyps l.conclusion) e r.refutes))
 
 -- a leaf is so or not
 module _ (l : Leaf) (n : ℕ) (counted : IsCount (atoms_of (used_up l)) n) where
   abbrev Either : Type 0
   Either = ClosesByEquality l ⊎ (ClosesByEquality l → ⊥)
 
-  by_validity : has_no_form l ≡ false → n ≤ 20 → EqualityValid l.hyps l.conclusion ⊎ ((L : Labels) × Refutes L l.hyps l.conclusion) → Either
+  by_validity : has_no_form l ≡ false → n ≤ 20 → EqualityValid (used_up l).hyps (used_up l).conclusion ⊎ ((L : Labels) × Refutes L (used_up l).hyps (used_up l).conclusion) → Either
   by_validity p f (inl v) = inl (few_valid l (used_up l) refl n counted p f v)
   by_validity p f (inr r) = inr (λ c. c.valid r.0 r.1)
 
   by_number : has_no_form l ≡ false → (n ≡ 20) ⊎ ((n < 20) ⊎ (20 < n)) → Either
-  by_number p (inl e) = by_validity p (omega (arith, e)) (valid_or_refuted l.hyps l.conclusion)
-  by_number p (inr (inl m)) = by_validity p (omega (arith, m)) (valid_or_refuted l.hyps l.conclusion)
+  by_number p (inl e) = by_validity p (omega (arith, e)) (valid_or_refuted (used_up l).hyps (used_up l).conclusion)
+  by_number p (inr (inl m)) = by_validity p (omega (arith, m)) (valid_or_refuted (used_up l).hyps (used_up l).conclusion)
   by_number p (inr (inr m)) = inr (too_many l (used_up l) refl n counted m)
 
   by_forms : (b : Bool) → has_no_form l ≡ b → Either

@@ -38,9 +38,14 @@ bound_row : (bs : Name → width.Tys) (n : _) (r : Row_of-Term n) → width.all_
 bound_row bs n end_of-Term = refl
 bound_row bs n (more_of-Term t r) = ap (λ l. width.bound_types bs t ++ l) (bound_row bs _ r)
 
-pub bound_out : (bs : Name → width.Tys) (t : Term) → width.bound_types bs t ≡ width.bound_by bs (out-Term t).head (map type_of (out-Term t).args) ++ flat_map (width.bound_types bs) (out-Term t).args
+only_row : (n : _) (r : Row_of-Term n) → width.only_reads r ≡ width.read_by_only (items-the_row-Term n r)
+only_row n end_of-Term = refl
+only_row n (more_of-Term t end_of-Term) = refl
+only_row n (more_of-Term t (more_of-Term u r)) = refl
+
+pub bound_out : (bs : Name → width.Tys) (t : Term) → width.bound_types bs t ≡ width.bound_by bs (out-Term t).head (map type_of (out-Term t).args) ++ (width.of_memory (out-Term t).head (width.read_by_only (out-Term t).args) ++ flat_map (width.bound_types bs) (out-Term t).args)
 unfolding Rattle.gb_terms.specs.declared.term.Head.TheBlock.shown-the_row-Head-2 denote.Hole.Carrier.shown
 bound_out bs (Term' p (more_of-Head h end_of-Head) n r ty) =
-    (λ i. width.bound_by bs h (types_row _ r i) ++ bound_row bs _ r i)
-    ∙ ap (λ l. width.bound_by bs h (map type_of l) ++ flat_map (width.bound_types bs) l) (sym (items_shown-the_row-Term-0 n r))
-    ∙ sym (ap (λ z. width.bound_by bs z.head (map type_of z.args) ++ flat_map (width.bound_types bs) z.args) (outs-struct-Term p (more_of-Head h end_of-Head) n r ty))
+    (λ i. width.bound_by bs h (types_row _ r i) ++ (width.of_memory h (only_row _ r i) ++ bound_row bs _ r i))
+    ∙ ap (λ l. width.bound_by bs h (map type_of l) ++ (width.of_memory h (width.read_by_only l) ++ flat_map (width.bound_types bs) l)) (sym (items_shown-the_row-Term-0 n r))
+    ∙ sym (ap (λ z. width.bound_by bs z.head (map type_of z.args) ++ (width.of_memory z.head (width.read_by_only z.args) ++ flat_map (width.bound_types bs) z.args)) (outs-struct-Term p (more_of-Head h end_of-Head) n r ty))

@@ -1,5 +1,5 @@
 -- The number of assignments to variables, and to those that are bound in terms.
-use Rattle.std.proofs.Common.{◌≡◌, ℕ, zero, suc, Option, Some, None, ◌+◌, ◌*◌, ◌^◌, ◌<◌, Bool, true, false, ◌&&◌, cond, nat_lt, min, List, [], ◌∷◌, ◌++◌, length, get_or, map, take, refl, sym, ap, ◌∙◌, subst, append-nil, mul_assoc, arith}
+use Rattle.std.proofs.Common.{◌≡◌, ℕ, zero, suc, Option, Some, None, ◌+◌, ◌*◌, ◌^◌, ◌<◌, Bool, true, false, ◌&&◌, ◌==◌, if◌then◌else◌, cond, nat_lt, min, List, [], ◌∷◌, ◌++◌, length, get_or, map, take, refl, sym, ap, ◌∙◌, subst, append-nil, mul_assoc, arith}
 use Rattle.std.specs.List.{flat_map, list_all}
 use Rattle.std.proofs.Math.Nat.{min-eq_left}
 use Rattle.std.proofs.lemmas.Bool.{false≢true, and_parts, ltb-true, lt-ltb}
@@ -16,6 +16,8 @@ use Rattle.gb_types.specs.Numbering.{tuples}
 use Rattle.gb_types.specs.Types.{all_true, finite_step, is_finite, numbering, size_of, card_of, IsPlaceBelow}
 use Rattle.gb_types.proofs.Capped.{min_times}
 use Rattle.gb_types.proofs.Equations.{numbering-Tuple}
+use Rattle.gb_terms.specs.declared.op.Side.TheVariants.{Own, Left, Right, Memory, Bound}
+use Rattle.gb_terms.specs.declared.op.Read.TheVariants.{Logical, Program}
 use Rattle.gb_terms.specs.declared.term.Term.{Term, Term', Row_of-Term, end_of-Term, more_of-Term, end_of-Head, more_of-Head}
 use Rattle.gb_terms.specs.declared.term.Head.{Head}
 use Rattle.gb_terms.specs.declared.term.Head.TheVariants as head
@@ -31,7 +33,9 @@ use Rattle.gb_eval.specs.Known.{is_known, all_known, is_head_known, known_at, kn
 use Rattle.gb_smt.specs.declared.claims.Claim.{Claim}
 use Rattle.gb_smt.specs.declared.variables.Variable.{Variable}
 use Rattle.gb_smt.specs.Variables.{Vars}
-use Rattle.gb_smt.specs.Width.{Tys, bound_at, bound_by, bound_of, bound_types, all_bound, types_in, assignments_of, is_known_claim}
+use Rattle.gb_walk.specs.Layers.{seen_by, where_last}
+use Rattle.gb_reads.specs.Reads as reads
+use Rattle.gb_smt.specs.Width.{Tys, of_memory, only_reads, read_by_only, bound_at, bound_by, bound_of, bound_types, all_bound, types_in, assignments_of, is_known_claim}
 use Rattle.gb_smt.proofs.Layers.{bound_out}
 use mathlib.Core.Former.{Count}
 
@@ -51,12 +55,12 @@ pub product_both : (xs ys : List Ty) (x y z : ℕ) → x ≡ min (product xs) (2
 product_both xs ys x y z p q r =
     r ∙ (λ i. min (p i * q i) (2 ^ 63)) ∙ min_times (2 ^ 63) (product xs) (product ys) (omega arith) ∙ ap (λ n. min n (2 ^ 63)) (sym (product-append xs ys))
 
-pub product_more : (vs : Vars) (i : ℕ) (v : Variable) (x y z : ℕ) → i < length vs → v ≡ get_or vs i v → x ≡ min (product (map (λ w. w.ty) (take i vs))) (2 ^ 63) → y ≡ min (size_of v.ty) (2 ^ 63) → z ≡ min (x * y) (2 ^ 63) → z ≡ min (product (map (λ w. w.ty) (take (i + 1) vs))) (2 ^ 63)
-product_more vs i v x y z l e p q r =
-    let one : size_of v.ty ≡ product (v.ty ∷ []) = omega arith in
-    product_both (map (λ w. w.ty) (take i vs)) (v.ty ∷ []) x y z p (q ∙ ap (λ n. min n (2 ^ 63)) one) r
-    ∙ ap (λ w. min (product (map (λ w. w.ty) (take i vs) ++ w.ty ∷ [])) (2 ^ 63)) e
-    ∙ ap (λ ts. min (product ts) (2 ^ 63)) (sym (map_more (λ w. w.ty) vs i v l))
+pub product_more : {X : Type 0} (f : X → Ty) (vs : List X) (i : ℕ) (v : X) (x y z : ℕ) → i < length vs → v ≡ get_or vs i v → x ≡ min (product (map f (take i vs))) (2 ^ 63) → y ≡ min (size_of (f v)) (2 ^ 63) → z ≡ min (x * y) (2 ^ 63) → z ≡ min (product (map f (take (i + 1) vs))) (2 ^ 63)
+product_more f vs i v x y z l e p q r =
+    let one : size_of (f v) ≡ product (f v ∷ []) = omega arith in
+    product_both (map f (take i vs)) (f v ∷ []) x y z p (q ∙ ap (λ n. min n (2 ^ 63)) one) r
+    ∙ ap (λ w. min (product (map f (take i vs) ++ f w ∷ [])) (2 ^ 63)) e
+    ∙ ap (λ ts. min (product ts) (2 ^ 63)) (sym (map_more f vs i v l))
 
 module _ (bs : Name → Tys) where
   pub product_bound_more : (ts : List Term) (i : ℕ) (t : Term) (x y z : ℕ) → i < length ts → t ≡ get_or ts i t → x ≡ min (product (flat_map (bound_types bs) (take i ts))) (2 ^ 63) → y ≡ min (product (bound_types bs t)) (2 ^ 63) → z ≡ min (x * y) (2 ^ 63) → z ≡ min (product (flat_map (bound_types bs) (take (i + 1) ts))) (2 ^ 63)
@@ -67,10 +71,12 @@ module _ (bs : Name → Tys) where
       ∙ ap (λ u. min (product (flat_map (bound_types bs) (take i ts ++ u ∷ []))) (2 ^ 63)) e
       ∙ ap (λ us. min (product (flat_map (bound_types bs) us)) (2 ^ 63)) (sym (take_more ts i t l))
 
-  pub product_bound : (t : Term) (h : Head) (args : List Term) (x y z : ℕ) → h ≡ (out-Term t).head → args ≡ (out-Term t).args → x ≡ min (product (bound_by bs h (map type_of args))) (2 ^ 63) → y ≡ min (product (flat_map (bound_types bs) args)) (2 ^ 63) → z ≡ min (x * y) (2 ^ 63) → z ≡ min (product (bound_types bs t)) (2 ^ 63)
-  product_bound t h args x y z p q a b r =
-      product_both (bound_by bs h (map type_of args)) (flat_map (bound_types bs) args) x y z a b r
-      ∙ (λ i. min (product (bound_by bs (p i) (map type_of (q i)) ++ flat_map (bound_types bs) (q i))) (2 ^ 63))
+  pub product_bound : (t : Term) (h : Head) (args : List Term) (x w y v z : ℕ) → h ≡ (out-Term t).head → args ≡ (out-Term t).args → x ≡ min (product (bound_by bs h (map type_of args))) (2 ^ 63) → w ≡ min (product (of_memory h (read_by_only args))) (2 ^ 63) → y ≡ min (product (flat_map (bound_types bs) args)) (2 ^ 63) →
+      v ≡ min (w * y) (2 ^ 63) → z ≡ min (x * v) (2 ^ 63) → z ≡ min (product (bound_types bs t)) (2 ^ 63)
+  product_bound t h args x w y v z p q a m b c r =
+      product_both (bound_by bs h (map type_of args)) (of_memory h (read_by_only args) ++ flat_map (bound_types bs) args) x v z a
+      (product_both (of_memory h (read_by_only args)) (flat_map (bound_types bs) args) w y v m b c) r
+      ∙ (λ i. min (product (bound_by bs (p i) (map type_of (q i)) ++ (of_memory (p i) (read_by_only (q i)) ++ flat_map (bound_types bs) (q i)))) (2 ^ 63))
       ∙ ap (λ us. min (product us) (2 ^ 63)) (sym (bound_out bs t))
 
 -- the number of the values of a tuple, from what its types are
@@ -146,25 +152,84 @@ one_finite n ty h = ap (λ b. b && true) (and_parts n (is_finite ty) h).1
 finite-Mod : (q : ℕ) → are_finite (Mod q ∷ []) ≡ true
 finite-Mod q = ap (λ b. b && true) (ap is_finite (sym (rolls-Mod q)) ∙ fold-roll-Ty Bool finite_step (t.Mod q))
 
+-- the types at which a term that is known reads a memory that is bound are finite
+
+types_together : (xs ys : reads.Vars) → map (λ x. x.ty) (xs ++ ys) ≡ map (λ x. x.ty) xs ++ map (λ x. x.ty) ys
+types_together [] ys = refl
+types_together (x ∷ xs) ys = ap (λ l. x.ty ∷ l) (types_together xs ys)
+
+abbrev AtFinite : reads.Vars → Type 0
+AtFinite xs = are_finite (map (λ x. x.ty) xs) ≡ true
+
+both_at_finite : (xs ys : reads.Vars) → AtFinite xs → AtFinite ys → AtFinite (xs ++ ys)
+both_at_finite xs ys p q = ap are_finite (types_together xs ys) ∙ finite_both (map (λ x. x.ty) xs) (map (λ x. x.ty) ys) p q
+
+noted_at_finite : (xs ys : reads.Vars) → AtFinite xs → AtFinite ys → AtFinite (reads.noted xs ys)
+noted_at_finite xs [] p q = p
+noted_at_finite xs (y ∷ ys) p q =
+    let both = and_parts (is_finite y.ty) (are_finite (map (λ x. x.ty) ys)) q in
+    noted_at_finite (reads.with_new xs y) ys (new (reads.is_among xs y.var y.ty) both.0) both.1
+  where
+    new : (b : Bool) → is_finite y.ty ≡ true → AtFinite (if b then xs else xs ++ y ∷ [])
+    new true f = p
+    new false f = both_at_finite xs (y ∷ []) p (ap (λ b. b && true) f)
+
+module _ (ks : Name → Bool) where
+  own_read : (h : Head) (ty : Ty) (k : ℕ) (us : List Ty) → is_head_known ks h ty us ≡ true → AtFinite (reads.head_reads h ty k)
+  own_read (head.Read (Program x (Bound i))) ty k us h = one (i == k) (and_parts (length us == 0) (is_finite ty) h).1
+    where
+      one : (b : Bool) → is_finite ty ≡ true → AtFinite (if b then record { var = x; ty = ty } ∷ [] else [])
+      one true f = ap (λ b. b && true) f
+      one false f = refl
+  own_read (head.Read (Program x Own)) ty k us h = refl
+  own_read (head.Read (Program x Left)) ty k us h = refl
+  own_read (head.Read (Program x Right)) ty k us h = refl
+  own_read (head.Read (Program x (Memory i))) ty k us h = refl
+  own_read (head.Read (Logical i)) ty k us h = refl
+  own_read _ ty k us h = refl
+
+  mutual
+    reads_at_finite : (t : Term) (k : ℕ) → is_known ks t ≡ true → AtFinite (reads.reads_at t k)
+    reads_at_finite (Term' p (more_of-Head h end_of-Head) n r ty) k e =
+        let q = and_parts (is_head_known ks h ty (types_of r)) (are_true (all_known ks r)) e in
+        both_at_finite (reads.head_reads h ty k) (reads.joined (seen_by k (reads.inside h k) (reads.each_reads r))) (own_read h ty k (types_of r) q.0) (row_reads_finite r k (reads.inside h k) q.1)
+
+    row_reads_finite : {n : Count} (r : Row_of-Term n) (y z : ℕ) → are_true (all_known ks r) ≡ true → AtFinite (reads.joined (seen_by y z (reads.each_reads r)))
+    row_reads_finite end_of-Term y z e = refl
+    row_reads_finite (more_of-Term t r) y z e =
+        let q = and_parts (is_known ks t) (are_true (all_known ks r)) e in
+        both_at_finite (reads.reads_at t (where_last (reads.each_reads r) y z)) (reads.joined (seen_by y z (reads.each_reads r))) (reads_at_finite t (where_last (reads.each_reads r) y z) q.0) (row_reads_finite r y z q.1)
+
+  only_finite : {n : Count} (r : Row_of-Term n) → are_true (all_known ks r) ≡ true → are_finite (only_reads r) ≡ true
+  only_finite end_of-Term e = refl
+  only_finite (more_of-Term t end_of-Term) e = noted_at_finite [] (reads.reads_at t 0) refl (reads_at_finite t 0 (and_parts (is_known ks t) true e).0)
+  only_finite (more_of-Term t (more_of-Term u r)) e = refl
+
+  memory_finite : {n : Count} (h : Head) (r : Row_of-Term n) → are_true (all_known ks r) ≡ true → are_finite (of_memory h (only_reads r)) ≡ true
+  memory_finite head.AllMemory r e = only_finite r e
+  memory_finite head.SomeMemory r e = only_finite r e
+  memory_finite _ r e = refl
+
 module _ (ks : Name → Bool) (bs : Name → Tys) (fit : (n : Name) → ks n ≡ true → are_finite (bs n) ≡ true) where
-  head_finite : (h : Head) (us : List Ty) → is_head_known ks h us ≡ true → are_finite (bound_by bs h us) ≡ true
-  head_finite (head.User n) us k = fit n k
-  head_finite (head.All ty) us k = one_finite _ ty k
-  head_finite (head.Some ty) us k = one_finite _ ty k
-  head_finite (head.Sum q) us k = finite-Mod q
-  head_finite head.Mu (d ∷ a ∷ []) k = one_finite _ (outcome_type d) k
-  head_finite head.Map (d ∷ a ∷ []) k = one_finite _ (outcome_type d) k
-  head_finite head.Restrict (d ∷ a ∷ []) k = one_finite _ (outcome_type d) k
-  head_finite head.Mu us k = absurd (false≢true k)
-  head_finite head.Restrict us k = absurd (false≢true k)
-  head_finite head.Map us k = absurd (false≢true k)
-  head_finite _ us k = refl
+  head_finite : (h : Head) (ty : Ty) (us : List Ty) → is_head_known ks h ty us ≡ true → are_finite (bound_by bs h us) ≡ true
+  head_finite (head.User n) ty us k = fit n k
+  head_finite (head.All u) ty us k = one_finite _ u k
+  head_finite (head.Some u) ty us k = one_finite _ u k
+  head_finite (head.Sum q) ty us k = finite-Mod q
+  head_finite head.Mu ty (d ∷ a ∷ []) k = one_finite _ (outcome_type d) k
+  head_finite head.Map ty (d ∷ a ∷ []) k = one_finite _ (outcome_type d) k
+  head_finite head.Restrict ty (d ∷ a ∷ []) k = one_finite _ (outcome_type d) k
+  head_finite head.Mu ty us k = absurd (false≢true k)
+  head_finite head.Restrict ty us k = absurd (false≢true k)
+  head_finite head.Map ty us k = absurd (false≢true k)
+  head_finite _ ty us k = refl
 
   mutual
     term_finite : (t : Term) → is_known ks t ≡ true → are_finite (bound_types bs t) ≡ true
     term_finite (Term' p (more_of-Head h end_of-Head) n r ty) k =
-        let q = and_parts (is_head_known ks h (types_of r)) (are_true (all_known ks r)) k in
-        finite_both (bound_by bs h (types_of r)) (all_bound bs r) (head_finite h (types_of r) q.0) (row_finite r q.1)
+        let q = and_parts (is_head_known ks h ty (types_of r)) (are_true (all_known ks r)) k in
+        finite_both (bound_by bs h (types_of r)) (of_memory h (only_reads r) ++ all_bound bs r) (head_finite h ty (types_of r) q.0)
+        (finite_both (of_memory h (only_reads r)) (all_bound bs r) (memory_finite ks h r q.1) (row_finite r q.1))
 
     row_finite : {n : Count} (r : Row_of-Term n) → are_true (all_known ks r) ≡ true → are_finite (all_bound bs r) ≡ true
     row_finite end_of-Term k = refl

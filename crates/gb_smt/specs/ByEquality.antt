@@ -35,10 +35,10 @@ last_of (t ∷ (u ∷ ts)) = last_of (u ∷ ts)
 abbrev pub has_no_form : Leaf → Bool
 has_no_form l = list_any has_module l.hyps || (has_module l.conclusion || judges_bodies (out-Term l.conclusion).head)
 
--- A leaf of forms that is valid by equality, and has at most 20 atoms where its equations are used up.
+-- A leaf of forms that, with its equations used up, has at most 20 atoms and is valid by equality.
 pub record ClosesByEquality (l : Leaf) : Type 0 where
   pub forms : has_no_form l ≡ false
   pub atoms : ℕ
   pub count : IsCount (atoms_of (used_up l)) atoms
   pub few : atoms ≤ 20
-  pub valid : EqualityValid l.hyps l.conclusion
+  pub valid : EqualityValid (used_up l).hyps (used_up l).conclusion

@@ -2,7 +2,9 @@
 use Rattle.std.specs.Prelude.{Bool, if◌then◌else◌, Option, Some, None, List, [], ◌∷◌, ◌++◌}
 use Rattle.std.specs.List.{list_any, flat_map}
 use Rattle.gb_core.specs.declared.ty.Ty.{Ty}
+use Rattle.gb_terms.specs.declared.op.Side.TheVariants.{Bound}
 use Rattle.gb_terms.specs.declared.op.Read.{Read}
+use Rattle.gb_terms.specs.declared.op.Read.TheVariants.{Program}
 use Rattle.gb_terms.specs.declared.term.Term.{Term}
 use Rattle.gb_terms.specs.declared.term.Head.{Head}
 use Rattle.gb_terms.specs.declared.term.Head.TheOpen as layer
@@ -13,8 +15,13 @@ use Rattle.gb_smt.specs.declared.variables.Variable.{Variable}
 abbrev pub Vars : Type 0
 Vars = List Variable
 
+-- a read of a memory that a binder binds is no variable of the term
+abbrev pub variable_of : Read → Option Read
+variable_of (Program x (Bound i)) = None
+variable_of r = Some r
+
 abbrev pub at_head : layer.Head-F (Option Read) (Unit {0}) (Unit {0}) (Unit {0}) Vars → Option Read
-at_head (layer.Read r) = Some r
+at_head (layer.Read r) = variable_of r
 at_head _ = None
 
 abbrev pub at_instr : layer.Instr-F (Option Read) (Unit {0}) (Unit {0}) (Unit {0}) Vars → Unit {0}
@@ -33,7 +40,7 @@ of_read None ty vs = vs
 abbrev pub at_term : layer.Term-F (Option Read) (Unit {0}) (Unit {0}) (Unit {0}) Vars → Vars
 at_term t = of_read t.head t.ty (flat_map (λ vs. vs) t.args)
 
--- the variables and reads that stand in a term, in order
+-- the variables and reads that stand in a term, but reads of memories that are bound in it, in order
 abbrev pub term_variables : Term → Vars
 term_variables = fold-Term (Option Read) (Unit {0}) (Unit {0}) (Unit {0}) Vars at_head at_instr at_subject at_cmd at_term
 

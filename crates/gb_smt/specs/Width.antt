@@ -15,6 +15,7 @@ use Rattle.gb_goal.specs.Scope.{Declarations}
 use Rattle.gb_meaning.specs.Names.{Name}
 use Rattle.gb_eval.specs.declared.script.Script.{Script}
 use Rattle.gb_eval.specs.Script.{opened}
+use Rattle.gb_reads.specs.Reads.{reads_of}
 use Rattle.gb_eval.specs.Known.{is_known, known_of}
 use Rattle.gb_smt.specs.declared.claims.Claim.{Claim}
 
@@ -38,10 +39,25 @@ bound_by bs head.Map us = of_outcomes us
 bound_by bs head.Restrict us = of_outcomes us
 bound_by bs _ us = []
 
+-- the types at which variables are read of the memory that a head binds, where its argument reads at these
+abbrev pub of_memory : Head → Tys → Tys
+of_memory head.AllMemory us = us
+of_memory head.SomeMemory us = us
+of_memory h us = []
+
+-- the types at which an only argument reads of the memory that its head binds
+abbrev pub read_by_only : List Term → Tys
+read_by_only (t ∷ []) = map (λ x. x.ty) (reads_of t)
+read_by_only _ = []
+
+abbrev pub only_reads : {n : _} → Row_of-Term n → Tys
+only_reads (more_of-Term t end_of-Term) = map (λ x. x.ty) (reads_of t)
+only_reads _ = []
+
 abbrev mutual
-  -- the types of the variables that are bound in a term
+  -- the types of the variables that are bound in a term, and of what is read of memories that are bound in it
   pub bound_types : (Name → Tys) → Term → Tys
-  bound_types bs (Term' p (more_of-Head h end_of-Head) n ts ty) = bound_by bs h (types_of ts) ++ all_bound bs ts
+  bound_types bs (Term' p (more_of-Head h end_of-Head) n ts ty) = bound_by bs h (types_of ts) ++ (of_memory h (only_reads ts) ++ all_bound bs ts)
 
   pub all_bound : {n : _} → (Name → Tys) → Row_of-Term n → Tys
   all_bound bs end_of-Term = []

@@ -36,7 +36,7 @@ struct Trial {
 fn try_claim(alloc: Global, claim: &Claim, scope: &Scope) -> Result<Trial, AllocError>
     ensures { IfOk result (λ trial. trial ≡ trial_of scope.now claim.now) }
 {
-    let width = width(claim, scope);
+    let width = width(alloc, claim, scope)?;
     if !is_tried(width) {
         return Ok(Trial {
             width,

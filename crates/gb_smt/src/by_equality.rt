@@ -88,7 +88,7 @@ pub fn closes_by_equality(alloc: Global, whole: &Leaf, leaf: &Leaf) -> Result<bo
     if number_of_atoms(alloc, leaf)? > MOST {
         return Ok(false);
     }
-    match equality(alloc, whole.hyps.as_slice(), &whole.conclusion)? {
+    match equality(alloc, leaf.hyps.as_slice(), &leaf.conclusion)? {
         None => Ok(true),
         Some(_) => Ok(false),
     }

@@ -18,16 +18,16 @@ ghost use Rattle.gb_smt.specs.declared.assign.Found.{Found};
 ghost use Rattle.gb_smt.specs.declared.apply.Tried.TheVariants.{Closed};
 ghost use Rattle.gb_smt.specs.Assign.{truth_under, found_of, IsOf};
 ghost use Rattle.gb_smt.specs.Apply.{Closes, outcome_of, IsAnswerOf};
-ghost use Rattle.gb_smt.specs.Meant.{AreTrue, HasValues};
+ghost use Rattle.gb_smt.specs.Meant.{AreTrue, HasValues, IsJudgedClaim};
 
 /// In each setting whose operators are those of the script, and in each state where the variables of a claim have the values of an
-/// assignment: if the claim is true under it and the hypotheses are true in the state, so is the conclusion; if it is false under it, the hypotheses are
-/// true and the conclusion is false.
+/// assignment, and quantifiers over memories say what they say: if the claim is true under it and the hypotheses are true in the
+/// state, so is the conclusion; if it is false under it, the hypotheses are true and the conclusion is false.
 pub fn claims_are_read_right()
     ensures holds { (ds : Declarations) (g : Setting) → AreOperators g (operators_of ds) → (j : Speaks) (s : State) (c : Claim) (values : List Value) →
-        HasValues g s c values → truth_under ds c values ≡ found true → AreTrue g j s c.hyps → truth (val g j c.conclusion s) ≡ true }
+        HasValues g s c values → IsJudgedClaim g j c → truth_under ds c values ≡ found true → AreTrue g j s c.hyps → truth (val g j c.conclusion s) ≡ true }
     ensures fails { (ds : Declarations) (g : Setting) → AreOperators g (operators_of ds) → (j : Speaks) (s : State) (c : Claim) (values : List Value) →
-        HasValues g s c values → truth_under ds c values ≡ found false → AreTrue g j s c.hyps × (truth (val g j c.conclusion s) ≡ false) }
+        HasValues g s c values → IsJudgedClaim g j c → truth_under ds c values ≡ found false → AreTrue g j s c.hyps × (truth (val g j c.conclusion s) ≡ false) }
 {}
 
 /// Trying the assignments of a claim finds that it is true exactly where it is so under each, and that it is false, unknown

@@ -3,11 +3,11 @@
 ghost use Rattle.std.specs.Prelude.{◌≡◌, [], IfOk, OnOk};
 ghost use Rattle.std.specs.Option.{option_copied};
 ghost use Rattle.std.specs.List.{flat_map};
-ghost use Rattle.gb_smt.specs.Variables.{is_among, head_read, term_variables, noted, with_new, variables, variables_in, share};
+ghost use Rattle.gb_smt.specs.Variables.{is_among, head_read, term_variables, noted, with_new, variable_of, variables, variables_in, share};
 
 use gb_core::ty::Ty;
 use gb_shared::Shared;
-use gb_terms::op::Read;
+use gb_terms::op::{Read, Side};
 use gb_terms::same::same_read;
 use gb_terms::share::copy_read;
 use gb_terms::term::{Head, Term};
@@ -34,12 +34,25 @@ fn is_among(list: &[Variable], r: &Read) -> bool
     false
 }
 
-/// The read that a head is.
+/// A read, but one of a memory that a binder binds.
+fn variable_of(r: &Read) -> Option<&Read>
+    ensures { option_copied result ≡ variable_of r.now }
+{
+    match r {
+        Read::Program {
+            side: Side::Bound(_),
+            ..
+        } => None,
+        _ => Some(r),
+    }
+}
+
+/// The variable or read of the term that a head is.
 fn read_of(head: &Head) -> Option<&Read>
     ensures { option_copied result ≡ head_read head.now }
 {
     match head {
-        Head::Read(r) => Some(r),
+        Head::Read(r) => variable_of(r),
         _ => None,
     }
 }

@@ -1,6 +1,6 @@
 // The width of a claim: how many assignments there are to its variables and to those bound in it.
 
-ghost use Rattle.std.specs.Prelude.{◌≡◌, ◌≤◌, ◌*◌, ◌^◌, ◌&&◌, true, if◌then◌else◌, nat_lt, map, min};
+ghost use Rattle.std.specs.Prelude.{◌≡◌, ◌≤◌, ◌*◌, ◌^◌, ◌&&◌, true, if◌then◌else◌, nat_lt, map, min, IfOk};
 ghost use Rattle.std.specs.List.{flat_map};
 ghost use Rattle.gb_core.specs.declared.ty.Ty.TheVariants.{Tuple};
 ghost use Rattle.gb_core.specs.declared.value.Card.TheVariants.{Exact, Above};
@@ -8,7 +8,7 @@ ghost use Rattle.gb_types.specs.Numbering.{tuples};
 ghost use Rattle.gb_types.specs.Types.{all_true, is_finite, numbering, size_of, card_of};
 ghost use Rattle.gb_meaning.specs.Operators.{outcome_type};
 ghost use Rattle.gb_meaning.specs.Written.{type_of};
-ghost use Rattle.gb_smt.specs.Width.{bound_by, bound_in, bound_types, is_known_claim, assignments_of, width_of, is_tried, greater};
+ghost use Rattle.gb_smt.specs.Width.{bound_by, bound_in, bound_types, is_known_claim, assignments_of, of_memory, read_by_only, width_of, is_tried, greater};
 
 use crate::claims::Claim;
 use crate::variables::Variable;
@@ -18,8 +18,10 @@ use gb_core::value::Card;
 use gb_eval::known::{are_known, is_known};
 use gb_eval::script::{Script, body_of, inside, script_of};
 use gb_goal::scope::Scope;
+use gb_reads::reads::{TypedVar, reads};
 use gb_terms::term::{Head, Term};
 use gb_types::size::{MANY, is_finite, size};
+use std::alloc::{AllocError, Global};
 
 /// The largest width of a claim that is tried, and the number of assignments at most.
 pub const MOST: u64 = 1 << 20;
@@ -45,54 +47,94 @@ fn size_of_outcomes(ty: &Ty) -> u64
 
 /// The product of the sizes of the types of the variables that are bound in the body of an operator of the script, up to `MANY`.
 #[cycle(bound_size)]
-fn bound_size_of_operator(name: &Name, script: &Script<'_>) -> u64
-    ensures { result ≡ min (tuples (map numbering (bound_in script.now name.now))) (2 ^ 63) }
+fn bound_size_of_operator(
+    alloc: Global,
+    name: &Name,
+    script: &Script<'_>,
+) -> Result<u64, AllocError>
+    ensures { IfOk result (λ n. n ≡ min (tuples (map numbering (bound_in script.now name.now))) (2 ^ 63)) }
 {
     match body_of(script, name) {
-        Some(body) => bound_size(body, &inside(script)),
-        None => 1,
+        Some(body) => bound_size(alloc, body, &inside(script)),
+        None => Ok(1),
     }
 }
 
 /// The size of the type of the variable that a head binds, up to `MANY`, and 1 where it binds none. An operator of the script
 /// stands for its body.
 #[cycle(bound_size)]
-fn bound_size_of_head(head: &Head, args: &[Term], script: &Script<'_>) -> u64
-    ensures { result ≡ min (tuples (map numbering (bound_by (bound_in script.now) head.now (map type_of args.now)))) (2 ^ 63) }
+fn bound_size_of_head(
+    alloc: Global,
+    head: &Head,
+    args: &[Term],
+    script: &Script<'_>,
+) -> Result<u64, AllocError>
+    ensures { IfOk result (λ n. n ≡ min (tuples (map numbering (bound_by (bound_in script.now) head.now (map type_of args.now)))) (2 ^ 63)) }
 {
     match head {
-        Head::User(name) => bound_size_of_operator(name, script),
-        Head::All(ty) | Head::Some(ty) => size(ty.get()),
-        Head::Sum(count) => (*count).min(u128::from(MANY)) as u64,
+        Head::User(name) => bound_size_of_operator(alloc, name, script),
+        Head::All(ty) | Head::Some(ty) => Ok(size(ty.get())),
+        Head::Sum(count) => Ok((*count).min(u128::from(MANY)) as u64),
         Head::Mu | Head::Map | Head::Restrict => match args {
-            [d, ..] => size_of_outcomes(d.ty.get()),
-            [] => 1,
+            [d, ..] => Ok(size_of_outcomes(d.ty.get())),
+            [] => Ok(1),
         },
-        _ => 1,
+        _ => Ok(1),
     }
 }
 
-/// The product of the sizes of the types of the variables that are bound in a term, up to `MANY`.
-#[cycle(bound_size)]
-fn bound_size(t: &Term, script: &Script<'_>) -> u64
-    ensures { result ≡ min (tuples (map numbering (bound_types (bound_in script.now) t.now))) (2 ^ 63) }
+/// The product of the sizes of the types at which variables are read, up to `MANY`.
+fn size_of_reads(variables: &[TypedVar]) -> u64
+    ensures { result ≡ min (tuples (map numbering (map (λ x. x.ty) variables.now))) (2 ^ 63) }
 {
+    let mut all = 1;
+    for variable in variables {
+        all = times(all, size(variable.ty.get()));
+    }
+    all
+}
+
+/// The product of the sizes of what is read of the memory that a head binds, up to `MANY`.
+fn bound_size_of_memory(alloc: Global, head: &Head, args: &[Term]) -> Result<u64, AllocError>
+    ensures { IfOk result (λ n. n ≡ min (tuples (map numbering (of_memory head.now (read_by_only args.now)))) (2 ^ 63)) }
+{
+    match head {
+        Head::AllMemory | Head::SomeMemory => match args {
+            [body] => {
+                let variables = reads(alloc, body)?;
+                Ok(size_of_reads(variables.as_slice()))
+            }
+            _ => Ok(1),
+        },
+        _ => Ok(1),
+    }
+}
+
+/// The product of the sizes of the types of the variables that are bound in a term, and of what is read of memories that are bound
+/// in it, up to `MANY`.
+#[cycle(bound_size)]
+fn bound_size(alloc: Global, t: &Term, script: &Script<'_>) -> Result<u64, AllocError>
+    ensures { IfOk result (λ n. n ≡ min (tuples (map numbering (bound_types (bound_in script.now) t.now))) (2 ^ 63)) }
+{
+    let head = t.head.get();
     let args = t.args.as_slice();
-    times(
-        bound_size_of_head(t.head.get(), args, script),
-        bound_size_of_all(args, script),
-    )
+    let own = bound_size_of_head(alloc, head, args, script)?;
+    let memory = bound_size_of_memory(alloc, head, args)?;
+    let others = bound_size_of_all(alloc, args, script)?;
+    let inner = times(memory, others);
+    Ok(times(own, inner))
 }
 
 #[cycle(bound_size)]
-fn bound_size_of_all(list: &[Term], script: &Script<'_>) -> u64
-    ensures { result ≡ min (tuples (map numbering (flat_map (bound_types (bound_in script.now)) list.now))) (2 ^ 63) }
+fn bound_size_of_all(alloc: Global, list: &[Term], script: &Script<'_>) -> Result<u64, AllocError>
+    ensures { IfOk result (λ n. n ≡ min (tuples (map numbering (flat_map (bound_types (bound_in script.now)) list.now))) (2 ^ 63)) }
 {
     let mut all = 1;
     for t in list {
-        all = times(all, bound_size(t, script));
+        let one = bound_size(alloc, t, script)?;
+        all = times(all, one);
     }
-    all
+    Ok(all)
 }
 
 /// The product of the sizes of the types of variables, up to `MANY`.
@@ -137,20 +179,19 @@ pub fn number_of_values(variables: &[Variable]) -> Card
 }
 
 /// The number of assignments to the variables of a claim and to those bound in it, whose types are finite.
-fn number_of_assignments(claim: &Claim, scope: &Scope) -> Card
+fn number_of_assignments(alloc: Global, claim: &Claim, scope: &Scope) -> Result<Card, AllocError>
     requires { is_known_claim scope.now claim.now ≡ true }
-    ensures { result ≡ assignments_of scope.now claim.now }
+    ensures { IfOk result (λ n. n ≡ assignments_of scope.now claim.now) }
 {
     let script = script_of(scope);
     let variables = claim.variables.as_slice();
-    let bound = times(
-        bound_size_of_all(claim.hyps.as_slice(), &script),
-        bound_size(&claim.conclusion, &script),
-    );
-    card_at(
+    let hyps = bound_size_of_all(alloc, claim.hyps.as_slice(), &script)?;
+    let conclusion = bound_size(alloc, &claim.conclusion, &script)?;
+    let bound = times(hyps, conclusion);
+    Ok(card_at(
         are_finite(variables),
         times(size_of_variables(variables), bound),
-    )
+    ))
 }
 
 /// Whether evaluation knows each part of a claim.
@@ -163,13 +204,13 @@ fn is_known_claim(claim: &Claim, scope: &Scope) -> bool
 
 /// The width of a claim, the product of the sizes of its variables and of those bound in it and in the bodies of the operators that
 /// stand in it: above, where a part of it is opaque to evaluation.
-pub fn width(claim: &Claim, scope: &Scope) -> Card
-    ensures { result ≡ width_of scope.now claim.now }
+pub fn width(alloc: Global, claim: &Claim, scope: &Scope) -> Result<Card, AllocError>
+    ensures { IfOk result (λ n. n ≡ width_of scope.now claim.now) }
 {
     if is_known_claim(claim, scope) {
-        number_of_assignments(claim, scope)
+        number_of_assignments(alloc, claim, scope)
     } else {
-        Card::Above
+        Ok(Card::Above)
     }
 }
 

@@ -32,7 +32,7 @@ use Rattle.gb_smt.specs.Claims.{claim_of}
 use Rattle.gb_smt.specs.Width.{assignments_of, width_of, is_tried, is_known_claim}
 use Rattle.gb_smt.specs.Assign.{assignment, environment_of, with_values, truth_under, IsTrueEverywhere}
 use Rattle.gb_smt.specs.Apply.{Closes}
-use Rattle.gb_smt.specs.Meant.{AreTrue}
+use Rattle.gb_smt.specs.Meant.{AreTrue, IsRight}
 use Rattle.gb_smt_laws.specs.Reading.{Reading, IsReadingOf}
 use Rattle.gb_smt_laws.specs.Fits.{Fits}
 use Rattle.gb_smt_laws.specs.Closing.{FitsIfSimple, AreAssumed, IsConcluded}
@@ -65,7 +65,7 @@ card_exact ty n e = step (is_finite ty) refl (nat_lt (size_of ty) (2 ^ 63)) e
     step true f false e = absurd (above_exact n e)
     step false f c e = absurd (above_exact n e)
 
-module _ (ds : Declarations) (g : Setting) (ops : AreOperators g (operators_of ds)) (j : Speaks) (s : State) (W : Reading) (valid : IsReadingOf g W s) where
+module _ (ds : Declarations) (g : Setting) (ops : AreOperators g (operators_of ds)) (j : Speaks) (right : IsRight g j) (s : State) (W : Reading) (valid : IsReadingOf g W s) where
   have_values : (vs : Vars) → AreRead W vs → all_true (map is_finite (map (λ v. v.ty) vs)) ≡ true → is_tuple (map numbering (map (λ v. v.ty) vs)) (values_of g s vs) ≡ true
   have_values [] a f = refl
   have_values (v ∷ vs) a f =
@@ -109,7 +109,7 @@ module _ (ds : Declarations) (g : Setting) (ops : AreOperators g (operators_of d
     pub claim_true : AreTrue g j s hs → truth (val g j t s) ≡ true
     claim_true a =
         implied.conclusion_true g j s (environment_of ds (with_values vs (values_of g s vs))) ops hs t
-        (each_given g s W valid (known_of ds) vs reads hs known) (given g s W valid (known_of ds) vs reads t W (itself W) k w) true_there a
+        (each_given g s W valid (known_of ds) vs reads hs known) (given g s W valid (known_of ds) vs reads t W (itself W) k w) right true_there a
 
   known_if_tried : (c : Claim) → is_tried (width_of ds c) ≡ true → is_known_claim ds c ≡ true
   known_if_tried c e = step (is_known_claim ds c) e

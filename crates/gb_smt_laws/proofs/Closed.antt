@@ -9,14 +9,15 @@ use Rattle.gb_eval.specs.Eval.{operators_of}
 use Rattle.gb_eval.specs.Meant.{AreOperators}
 use Rattle.gb_smt.specs.declared.leaves.Leaf.{Leaf}
 use Rattle.gb_smt.specs.Apply.{ClosesByClaim}
+use Rattle.gb_smt.specs.Meant.{IsRight}
 use Rattle.gb_smt_laws.specs.Closing.{LeafHolds}
 use Rattle.gb_smt_laws.proofs.Components.{claims_close}
 use Rattle.gb_smt_laws.proofs.Used.{used_holds}
 
-module _ (ds : Declarations) (g : Setting) (ops : AreOperators g (operators_of ds)) (j : Speaks) where
+module _ (ds : Declarations) (g : Setting) (ops : AreOperators g (operators_of ds)) (j : Speaks) (right : IsRight g j) where
   -- a leaf that a claim closes holds
   pub closed_holds : (l : Leaf) → ClosesByClaim ds l → LeafHolds g j l
-  closed_holds l c = used_holds g j (length l.hyps) l (claims_close ds g ops j _ c)
+  closed_holds l c = used_holds g j right (length l.hyps) l (claims_close ds g ops j right _ c)
 
   pub each_closed_holds : (ls : List Leaf) → All (ClosesByClaim ds) ls → AllByRecursion (LeafHolds g j) ls
   each_closed_holds [] a = tt

@@ -24,6 +24,7 @@ use Rattle.gb_smt.specs.Apply.{Closes}
 use Rattle.gb_smt_laws.specs.Reading.{Reading, IsReadingOf}
 use Rattle.gb_smt_laws.specs.Closing.{IsAssumed, AreAssumed, IsConcluded, LeafHolds}
 use Rattle.gb_smt_laws.proofs.Nodes.{literal_fits}
+use Rattle.gb_smt.specs.Meant.{IsRight}
 use Rattle.gb_smt_laws.proofs.Claimed.{closed_claim}
 
 pub any_none : {X : Type 0} (P : X → Type 0) → Any P [] → ⊥
@@ -41,11 +42,11 @@ each_kept P f (x ∷ xs) a = step (f x) (each_kept P f xs a.1)
     step true r = (a.0, r)
     step false r = r
 
-module _ (ds : Declarations) (g : Setting) (ops : AreOperators g (operators_of ds)) (j : Speaks) (s : State) (W : Reading) (valid : IsReadingOf g W s) where
+module _ (ds : Declarations) (g : Setting) (ops : AreOperators g (operators_of ds)) (j : Speaks) (right : IsRight g j) (s : State) (W : Reading) (valid : IsReadingOf g W s) where
   -- hypotheses that can't all hold
   contradicted : (hs : List Term) → Closes ds (contradiction hs) → AreAssumed g j W s hs → ⊥
   contradicted hs c a =
-      let r = closed_claim ds g ops j s W valid hs (truth_literal false) c a (λ b. literal_fits g W (Num 0) [] bool_ty) in
+      let r = closed_claim ds g ops j right s W valid hs (truth_literal false) c a (λ b. literal_fits g W (Num 0) [] bool_ty) in
       false≢true (sym (ap truth (val_node g j (Lit (Num 0)) [] bool_ty s) ∙ truth_of false) ∙ r.1)
 
   none_left : (hs : List Term) → Any (Closes ds) (contradictions hs) → AreAssumed g j W s hs → ⊥
@@ -68,11 +69,11 @@ module _ (ds : Declarations) (g : Setting) (ops : AreOperators g (operators_of d
       step f None d = none_left hs d a
       step f (Some vs) d = apart vs (f vs) (any_cases (Closes ds) (contradiction (inside hs vs)) (components n (outside hs vs)) d)
 
-pub claims_close : (ds : Declarations) (g : Setting) → AreOperators g (operators_of ds) → (j : Speaks) (l : Leaf) → Any (Closes ds) (claims_of l) → LeafHolds g j l
-claims_close ds g ops j l c W s valid a f = step (any_cases (Closes ds) (claim_of (inside l.hyps (variables l.conclusion)) l.conclusion) (components_of (outside l.hyps (variables l.conclusion))) c)
+pub claims_close : (ds : Declarations) (g : Setting) → AreOperators g (operators_of ds) → (j : Speaks) → IsRight g j → (l : Leaf) → Any (Closes ds) (claims_of l) → LeafHolds g j l
+claims_close ds g ops j right l c W s valid a f = step (any_cases (Closes ds) (claim_of (inside l.hyps (variables l.conclusion)) l.conclusion) (components_of (outside l.hyps (variables l.conclusion))) c)
   where
     step : Closes ds (claim_of (inside l.hyps (variables l.conclusion)) l.conclusion) ⊎ Any (Closes ds) (components_of (outside l.hyps (variables l.conclusion))) → IsConcluded g j s l.conclusion
-    step (inl x) = closed_claim ds g ops j s W valid (inside l.hyps (variables l.conclusion)) l.conclusion x (each_kept (IsAssumed g j W s) (is_joined l.hyps (variables l.conclusion)) l.hyps a) f
+    step (inl x) = closed_claim ds g ops j right s W valid (inside l.hyps (variables l.conclusion)) l.conclusion x (each_kept (IsAssumed g j W s) (is_joined l.hyps (variables l.conclusion)) l.hyps a) f
     step (inr x) =
-        absurd (no_component ds g ops j s W valid (length (outside l.hyps (variables l.conclusion))) (outside l.hyps (variables l.conclusion)) x
+        absurd (no_component ds g ops j right s W valid (length (outside l.hyps (variables l.conclusion))) (outside l.hyps (variables l.conclusion)) x
         (each_kept (IsAssumed g j W s) (λ h. not (is_joined l.hyps (variables l.conclusion) h)) l.hyps a))

@@ -169,6 +169,11 @@ module _ (g : Setting) (inhabited : IsInhabited g.types) where
       held c (Some w.2),
       only_fits c c (within c memory (Some w.2)) (inner (variables_in g c (Some w.2)) T) (agrees_under c T a memory (Some w.2)) ts w.3,
     )
+    fits c T a (Term' p (more_of-Head head.SomeMemory end_of-Head) n ts u) w = (
+      variables_in g c (Some w.2),
+      held c (Some w.2),
+      only_fits c c (within c memory (Some w.2)) (inner (variables_in g c (Some w.2)) T) (agrees_under c T a memory (Some w.2)) ts w.3,
+    )
     fits c T a (Term' p (more_of-Head _ end_of-Head) n ts u) w = tt
 
     all_fit : {n : Count} (c : Context) (T : Reading) → Agrees c T → (ts : Row_of-Term n) → AreTyped c c c ts → AllFit g T ts

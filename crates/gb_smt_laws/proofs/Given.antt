@@ -4,6 +4,7 @@ use Rattle.std.specs.List.{flat_map, AllByRecursion}
 use Rattle.std.proofs.lemmas.Bool.{false≢true, and_parts}
 use Rattle.gb_core.specs.declared.ty.Ty.{Ty}
 use Rattle.gb_core.specs.declared.value.Value.{Value}
+use Rattle.gb_terms.specs.declared.op.Side.TheVariants as side
 use Rattle.gb_terms.specs.declared.op.Read.{Read}
 use Rattle.gb_terms.specs.declared.op.Read.TheVariants.{Logical, Program}
 use Rattle.gb_terms.specs.declared.term.Term.{Term, Term', Row_of-Term, end_of-Term, more_of-Term, end_of-Head, more_of-Head}
@@ -19,16 +20,16 @@ use Rattle.gb_meaning.specs.Commands.{terms_in}
 use Rattle.gb_eval.specs.declared.env.ReadValue.{ReadValue}
 use Rattle.gb_eval.specs.Findings.{Finding as finding}
 use Rattle.gb_eval.specs.Findings.Comes.{found, unknown}
-use Rattle.gb_eval.specs.Eval.{value_of, value_among}
+use Rattle.gb_eval.specs.Eval.{value_among}
 use Rattle.gb_typed.specs.Typing.{types_of}
 use Rattle.gb_meaning.specs.Names.{Name}
 use Rattle.gb_eval.specs.Known.{is_known, all_known, are_of_outcomes, are_true, is_read_known}
-use Rattle.gb_eval.specs.Meant.{Means, AreGiven, AllGiven}
+use Rattle.gb_eval.specs.Meant.{Means, is_given, AreGiven, AllGiven}
 use Rattle.gb_smt.specs.declared.variables.Variable.{Variable}
-use Rattle.gb_smt.specs.Variables.{Vars, term_variables, is_among, with_new, noted, variables_in}
+use Rattle.gb_smt.specs.Variables.{Vars, of_read, variable_of, term_variables, is_among, with_new, noted, variables_in}
 use Rattle.gb_smt.specs.Assign.{with_values}
 use Rattle.gb_smt.specs.Meant.{EachGiven}
-use Rattle.gb_smt_laws.specs.Reading.{no_variables, Reading, IsReadAt, inner, IsReadingOf}
+use Rattle.gb_smt_laws.specs.Reading.{Variables, no_variables, Reading, IsReadAt, inner, IsReadingOf}
 use Rattle.gb_smt_laws.specs.Fits.{Fits, AllFit, OnlyFits, BothFit}
 use Rattle.gb_smt_laws.proofs.Known.{known_parts, one_argument, some_is_none, two_is_one, none_is_one, variables_are, AreRead, read_together, Sees, sees_beneath}
 use mathlib.Core.Former.{Count}
@@ -40,50 +41,65 @@ no_terms (more_of-Term t ts) e = some_is_none (length (types_of ts)) _ e
 none_read : {n : Count} (W : Reading) (ts : Row_of-Term n) → (length (types_of ts) == 0) ≡ true → AreRead W (flat_map term_variables (terms_in ts))
 none_read W ts e = subst (λ l. AreRead W (flat_map term_variables l)) (sym (no_terms ts e)) tt
 
+-- a read is a variable, or one of a memory that is bound
+one_read : (g : Setting) (r : Read) (ty : Ty) (V W : Reading) → Sees V W → IsReadAt V r ty → (others : Vars) → AreRead W others → AreRead W (of_read (variable_of r) ty others)
+one_read g (Logical i) ty V W f w others a = (f (Logical i) ty refl w, tt)
+one_read g (Program x side.Own) ty V W f w others a = (f (Program x side.Own) ty refl w, tt)
+one_read g (Program x side.Left) ty V W f w others a = (f (Program x side.Left) ty refl w, tt)
+one_read g (Program x side.Right) ty V W f w others a = (f (Program x side.Right) ty refl w, tt)
+one_read g (Program x (side.Memory i)) ty V W f w others a = (f (Program x (side.Memory i)) ty refl w, tt)
+one_read g (Program x (side.Bound i)) ty V W f w others a = a
+
 module _ (ks : Name → Bool) where
   -- the variables of a term that is known and fits are read at their types
   mutual
     pub term_reads : (g : Setting) (t : Term) (V W : Reading) → Sees V W → is_known ks t ≡ true → Fits g V t → AreRead W (term_variables t)
     term_reads g (Term' p (more_of-Head (head.Read r) end_of-Head) n ts ty) V W f k w =
-        let known = known_parts ks (head.Read r) ts k in
-        subst (AreRead W) (sym (variables_are (head.Read r) n ts ty)) (f r ty (and_parts (length (types_of ts) == 0) (is_read_known r) known.0).1 w, tt)
+        let known = known_parts ks (head.Read r) ty ts k in
+        subst (AreRead W) (sym (variables_are (head.Read r) n ts ty)) (one_read g r ty V W f w (flat_map term_variables (terms_in ts)) (none_read W ts (and_parts (length (types_of ts) == 0) (is_read_known r ty) known.0).0))
     term_reads g (Term' p (more_of-Head (head.Lit v) end_of-Head) n ts ty) V W f k w =
-        let known = known_parts ks (head.Lit v) ts k in
+        let known = known_parts ks (head.Lit v) ty ts k in
         subst (AreRead W) (sym (variables_are (head.Lit v) n ts ty)) (none_read W ts known.0)
     term_reads g (Term' p (more_of-Head (head.Whole v) end_of-Head) n ts ty) V W f k w =
-        let known = known_parts ks (head.Whole v) ts k in
+        let known = known_parts ks (head.Whole v) ty ts k in
         subst (AreRead W) (sym (variables_are (head.Whole v) n ts ty)) (none_read W ts known.0)
     term_reads g (Term' p (more_of-Head (head.Bound i) end_of-Head) n ts ty) V W f k w =
-        let known = known_parts ks (head.Bound i) ts k in
+        let known = known_parts ks (head.Bound i) ty ts k in
         subst (AreRead W) (sym (variables_are (head.Bound i) n ts ty)) (none_read W ts known.0)
     term_reads g (Term' p (more_of-Head (head.Builtin o) end_of-Head) n ts ty) V W f k w =
-        let known = known_parts ks (head.Builtin o) ts k in
+        let known = known_parts ks (head.Builtin o) ty ts k in
         subst (AreRead W) (sym (variables_are (head.Builtin o) n ts ty)) (row_reads g ts V W f known.1 w.1)
     term_reads g (Term' p (more_of-Head (head.User v) end_of-Head) n ts ty) V W f k w =
-        let known = known_parts ks (head.User v) ts k in
+        let known = known_parts ks (head.User v) ty ts k in
         subst (AreRead W) (sym (variables_are (head.User v) n ts ty)) (row_reads g ts V W f known.1 w)
     term_reads g (Term' p (more_of-Head (head.All u) end_of-Head) n ts ty) V W f k w =
-        let known = known_parts ks (head.All u) ts k in
+        let known = known_parts ks (head.All u) ty ts k in
         subst (AreRead W) (sym (variables_are (head.All u) n ts ty))
-        (only_reads g ts V W f (one_argument ts u known.0) known.1 w)
+        (only_reads g ts no_variables V W f (one_argument ts u known.0) known.1 w)
     term_reads g (Term' p (more_of-Head (head.Some u) end_of-Head) n ts ty) V W f k w =
-        let known = known_parts ks (head.Some u) ts k in
+        let known = known_parts ks (head.Some u) ty ts k in
         subst (AreRead W) (sym (variables_are (head.Some u) n ts ty))
-        (only_reads g ts V W f (one_argument ts u known.0) known.1 w)
+        (only_reads g ts no_variables V W f (one_argument ts u known.0) known.1 w)
     term_reads g (Term' p (more_of-Head (head.Sum q) end_of-Head) n ts ty) V W f k w =
-        let known = known_parts ks (head.Sum q) ts k in
-        subst (AreRead W) (sym (variables_are (head.Sum q) n ts ty)) (only_reads g ts V W f known.0 known.1 w)
+        let known = known_parts ks (head.Sum q) ty ts k in
+        subst (AreRead W) (sym (variables_are (head.Sum q) n ts ty)) (only_reads g ts no_variables V W f known.0 known.1 w)
+    term_reads g (Term' p (more_of-Head head.AllMemory end_of-Head) n ts ty) V W f k w =
+        let known = known_parts ks head.AllMemory ty ts k in
+        subst (AreRead W) (sym (variables_are head.AllMemory n ts ty)) (only_reads g ts w.0 V W f known.0 known.1 w.2)
+    term_reads g (Term' p (more_of-Head head.SomeMemory end_of-Head) n ts ty) V W f k w =
+        let known = known_parts ks head.SomeMemory ty ts k in
+        subst (AreRead W) (sym (variables_are head.SomeMemory n ts ty)) (only_reads g ts w.0 V W f known.0 known.1 w.2)
     term_reads g (Term' p (more_of-Head head.Mu end_of-Head) n ts ty) V W f k w =
-        let known = known_parts ks head.Mu ts k in
+        let known = known_parts ks head.Mu ty ts k in
         subst (AreRead W) (sym (variables_are head.Mu n ts ty)) (both_read g ts V W f known.0 known.1 w)
     term_reads g (Term' p (more_of-Head (head.Weights ps) end_of-Head) n ts ty) V W f k w =
-        let known = known_parts ks (head.Weights ps) ts k in
+        let known = known_parts ks (head.Weights ps) ty ts k in
         subst (AreRead W) (sym (variables_are (head.Weights ps) n ts ty)) (none_read W ts known.0)
     term_reads g (Term' p (more_of-Head head.Map end_of-Head) n ts ty) V W f k w =
-        let known = known_parts ks head.Map ts k in
+        let known = known_parts ks head.Map ty ts k in
         subst (AreRead W) (sym (variables_are head.Map n ts ty)) (both_read g ts V W f known.0 known.1 w)
     term_reads g (Term' p (more_of-Head head.Restrict end_of-Head) n ts ty) V W f k w =
-        let known = known_parts ks head.Restrict ts k in
+        let known = known_parts ks head.Restrict ty ts k in
         subst (AreRead W) (sym (variables_are head.Restrict n ts ty)) (both_read g ts V W f known.0 known.1 w)
     term_reads g (Term' p (more_of-Head h end_of-Head) n ts ty) V W f k w = absurd (false≢true k)
 
@@ -93,11 +109,11 @@ module _ (ks : Name → Bool) where
         let known = and_parts (is_known ks t) (are_true (all_known ks ts)) k in
         read_together W (term_variables t) (flat_map term_variables (terms_in ts)) (term_reads g t V W f known.0 w.0) (row_reads g ts V W f known.1 w.1)
 
-    only_reads : {n : Count} (g : Setting) (ts : Row_of-Term n) (V W : Reading) → Sees V W → (length (types_of ts) == 1) ≡ true → are_true (all_known ks ts) ≡ true → OnlyFits g (inner no_variables V) ts → AreRead W (flat_map term_variables (terms_in ts))
-    only_reads g end_of-Term V W f e k w = none_is_one _ e
-    only_reads g (more_of-Term t end_of-Term) V W f e k w =
-        read_together W (term_variables t) [] (term_reads g t (inner no_variables V) W (sees_beneath V W f) (and_parts (is_known ks t) true k).0 w) tt
-    only_reads g (more_of-Term t (more_of-Term v ts)) V W f e k w = two_is_one (length (types_of ts)) _ e
+    only_reads : {n : Count} (g : Setting) (ts : Row_of-Term n) (vs : Variables) (V W : Reading) → Sees V W → (length (types_of ts) == 1) ≡ true → are_true (all_known ks ts) ≡ true → OnlyFits g (inner vs V) ts → AreRead W (flat_map term_variables (terms_in ts))
+    only_reads g end_of-Term vs V W f e k w = none_is_one _ e
+    only_reads g (more_of-Term t end_of-Term) vs V W f e k w =
+        read_together W (term_variables t) [] (term_reads g t (inner vs V) W (sees_beneath vs V W f) (and_parts (is_known ks t) true k).0 w) tt
+    only_reads g (more_of-Term t (more_of-Term v ts)) vs V W f e k w = two_is_one (length (types_of ts)) _ e
 
     both_read : {n : Count} (g : Setting) (ts : Row_of-Term n) (V W : Reading) → Sees V W → are_of_outcomes (types_of ts) ≡ true → are_true (all_known ks ts) ≡ true → BothFit g V ts → AreRead W (flat_map term_variables (terms_in ts))
     both_read g end_of-Term V W f e k w = tt
@@ -105,7 +121,7 @@ module _ (ks : Name → Bool) where
     both_read g (more_of-Term t (more_of-Term v end_of-Term)) V W f e k w =
         let first = and_parts (is_known ks t) (is_known ks v && true) k in
         read_together W (term_variables t) (term_variables v ++ []) (term_reads g t V W f first.0 w.0)
-        (read_together W (term_variables v) [] (term_reads g v (inner no_variables V) W (sees_beneath V W f) (and_parts (is_known ks v) true first.1).0 w.1) tt)
+        (read_together W (term_variables v) [] (term_reads g v (inner no_variables V) W (sees_beneath no_variables V W f) (and_parts (is_known ks v) true first.1).0 w.1) tt)
     both_read g (more_of-Term t (more_of-Term v (more_of-Term u ts))) V W f e k w = absurd (false≢true e)
 
 new_read : (W : Reading) (vs : Vars) (v : Variable) → AreRead W vs → IsReadAt W v.read v.ty → AreRead W (with_new vs v)
@@ -167,12 +183,13 @@ module _ (g : Setting) (s : State) where
         step false e m = m
         step true e m = is_there ((read_eq-Decides v.read r).0 e)
 
-    value_given : (vs : Vars) (r : Read) (ty : Ty) → AreRead W vs → IsReadAt W r ty → Means (value_of (with_values vs (values_of vs)) r) (read_at g r ty s) 1
-    value_given vs r ty a k = by (is_read_known r)
-      where
-        by : (b : Bool) → Means (if b then value_among (with_values vs (values_of vs)) r else unknown) (read_at g r ty s) 1
-        by true = value_there vs r ty a k
-        by false = tt
+    value_given : (vs : Vars) (V : Reading) (r : Read) (ty : Ty) → AreRead W vs → Sees V W → IsReadAt V r ty → is_given g s (with_values vs (values_of vs)) r ty
+    value_given vs V (Logical i) ty a f k = value_there vs (Logical i) ty a (f (Logical i) ty refl k)
+    value_given vs V (Program x side.Own) ty a f k = value_there vs (Program x side.Own) ty a (f (Program x side.Own) ty refl k)
+    value_given vs V (Program x side.Left) ty a f k = value_there vs (Program x side.Left) ty a (f (Program x side.Left) ty refl k)
+    value_given vs V (Program x side.Right) ty a f k = value_there vs (Program x side.Right) ty a (f (Program x side.Right) ty refl k)
+    value_given vs V (Program x (side.Memory i)) ty a f k = value_there vs (Program x (side.Memory i)) ty a (f (Program x (side.Memory i)) ty refl k)
+    value_given vs V (Program x (side.Bound i)) ty a f k = tt
 
     module _ (ks : Name → Bool) (vs : Vars) (a : AreRead W vs) where
       abbrev reads : List ReadValue
@@ -185,32 +202,38 @@ module _ (g : Setting) (s : State) where
       mutual
         pub given : (t : Term) (V : Reading) → Sees V W → is_known ks t ≡ true → Fits g V t → AreGiven g s reads t
         given (Term' p (more_of-Head (head.Read r) end_of-Head) n ts ty) V f k w =
-            let known = known_parts ks (head.Read r) ts k in
-            let both = and_parts (length (types_of ts) == 0) (is_read_known r) known.0 in
-            (value_given vs r ty a (f r ty both.1 w), none_given ts both.0)
-        given (Term' p (more_of-Head (head.Lit v) end_of-Head) n ts ty) V f k w = (tt, none_given ts (known_parts ks (head.Lit v) ts k).0)
-        given (Term' p (more_of-Head (head.Whole v) end_of-Head) n ts ty) V f k w = (tt, none_given ts (known_parts ks (head.Whole v) ts k).0)
-        given (Term' p (more_of-Head (head.Bound i) end_of-Head) n ts ty) V f k w = (tt, none_given ts (known_parts ks (head.Bound i) ts k).0)
-        given (Term' p (more_of-Head (head.Builtin o) end_of-Head) n ts ty) V f k w = (tt, row_given ts V f (known_parts ks (head.Builtin o) ts k).1 w.1)
-        given (Term' p (more_of-Head (head.User v) end_of-Head) n ts ty) V f k w = (tt, row_given ts V f (known_parts ks (head.User v) ts k).1 w)
+            let known = known_parts ks (head.Read r) ty ts k in
+            let both = and_parts (length (types_of ts) == 0) (is_read_known r ty) known.0 in
+            (value_given vs V r ty a f w, none_given ts both.0)
+        given (Term' p (more_of-Head (head.Lit v) end_of-Head) n ts ty) V f k w = (tt, none_given ts (known_parts ks (head.Lit v) ty ts k).0)
+        given (Term' p (more_of-Head (head.Whole v) end_of-Head) n ts ty) V f k w = (tt, none_given ts (known_parts ks (head.Whole v) ty ts k).0)
+        given (Term' p (more_of-Head (head.Bound i) end_of-Head) n ts ty) V f k w = (tt, none_given ts (known_parts ks (head.Bound i) ty ts k).0)
+        given (Term' p (more_of-Head (head.Builtin o) end_of-Head) n ts ty) V f k w = (tt, row_given ts V f (known_parts ks (head.Builtin o) ty ts k).1 w.1)
+        given (Term' p (more_of-Head (head.User v) end_of-Head) n ts ty) V f k w = (tt, row_given ts V f (known_parts ks (head.User v) ty ts k).1 w)
         given (Term' p (more_of-Head (head.All u) end_of-Head) n ts ty) V f k w =
-            let known = known_parts ks (head.All u) ts k in
-            (tt, only_given ts V f (one_argument ts u known.0) known.1 w)
+            let known = known_parts ks (head.All u) ty ts k in
+            (tt, only_given ts no_variables V f (one_argument ts u known.0) known.1 w)
         given (Term' p (more_of-Head (head.Some u) end_of-Head) n ts ty) V f k w =
-            let known = known_parts ks (head.Some u) ts k in
-            (tt, only_given ts V f (one_argument ts u known.0) known.1 w)
+            let known = known_parts ks (head.Some u) ty ts k in
+            (tt, only_given ts no_variables V f (one_argument ts u known.0) known.1 w)
         given (Term' p (more_of-Head (head.Sum q) end_of-Head) n ts ty) V f k w =
-            let known = known_parts ks (head.Sum q) ts k in
-            (tt, only_given ts V f known.0 known.1 w)
+            let known = known_parts ks (head.Sum q) ty ts k in
+            (tt, only_given ts no_variables V f known.0 known.1 w)
+        given (Term' p (more_of-Head head.AllMemory end_of-Head) n ts ty) V f k w =
+            let known = known_parts ks head.AllMemory ty ts k in
+            (tt, only_given ts w.0 V f known.0 known.1 w.2)
+        given (Term' p (more_of-Head head.SomeMemory end_of-Head) n ts ty) V f k w =
+            let known = known_parts ks head.SomeMemory ty ts k in
+            (tt, only_given ts w.0 V f known.0 known.1 w.2)
         given (Term' p (more_of-Head head.Mu end_of-Head) n ts ty) V f k w =
-            let known = known_parts ks head.Mu ts k in
+            let known = known_parts ks head.Mu ty ts k in
             (tt, both_given ts V f known.0 known.1 w)
-        given (Term' p (more_of-Head (head.Weights ps) end_of-Head) n ts ty) V f k w = (tt, none_given ts (known_parts ks (head.Weights ps) ts k).0)
+        given (Term' p (more_of-Head (head.Weights ps) end_of-Head) n ts ty) V f k w = (tt, none_given ts (known_parts ks (head.Weights ps) ty ts k).0)
         given (Term' p (more_of-Head head.Map end_of-Head) n ts ty) V f k w =
-            let known = known_parts ks head.Map ts k in
+            let known = known_parts ks head.Map ty ts k in
             (tt, both_given ts V f known.0 known.1 w)
         given (Term' p (more_of-Head head.Restrict end_of-Head) n ts ty) V f k w =
-            let known = known_parts ks head.Restrict ts k in
+            let known = known_parts ks head.Restrict ty ts k in
             (tt, both_given ts V f known.0 known.1 w)
         given (Term' p (more_of-Head h end_of-Head) n ts ty) V f k w = absurd (false≢true k)
 
@@ -220,17 +243,17 @@ module _ (g : Setting) (s : State) where
             let known = and_parts (is_known ks t) (are_true (all_known ks ts)) k in
             (given t V f known.0 w.0, row_given ts V f known.1 w.1)
 
-        only_given : {n : Count} (ts : Row_of-Term n) (V : Reading) → Sees V W → (length (types_of ts) == 1) ≡ true → are_true (all_known ks ts) ≡ true → OnlyFits g (inner no_variables V) ts → AllGiven g s reads ts
-        only_given end_of-Term V f e k w = tt
-        only_given (more_of-Term t end_of-Term) V f e k w = (given t (inner no_variables V) (sees_beneath V W f) (and_parts (is_known ks t) true k).0 w, tt)
-        only_given (more_of-Term t (more_of-Term v ts)) V f e k w = two_is_one (length (types_of ts)) _ e
+        only_given : {n : Count} (ts : Row_of-Term n) (us : Variables) (V : Reading) → Sees V W → (length (types_of ts) == 1) ≡ true → are_true (all_known ks ts) ≡ true → OnlyFits g (inner us V) ts → AllGiven g s reads ts
+        only_given end_of-Term us V f e k w = tt
+        only_given (more_of-Term t end_of-Term) us V f e k w = (given t (inner us V) (sees_beneath us V W f) (and_parts (is_known ks t) true k).0 w, tt)
+        only_given (more_of-Term t (more_of-Term v ts)) us V f e k w = two_is_one (length (types_of ts)) _ e
 
         both_given : {n : Count} (ts : Row_of-Term n) (V : Reading) → Sees V W → are_of_outcomes (types_of ts) ≡ true → are_true (all_known ks ts) ≡ true → BothFit g V ts → AllGiven g s reads ts
         both_given end_of-Term V f e k w = tt
         both_given (more_of-Term t end_of-Term) V f e k w = absurd (false≢true e)
         both_given (more_of-Term t (more_of-Term v end_of-Term)) V f e k w =
             let first = and_parts (is_known ks t) (is_known ks v && true) k in
-            (given t V f first.0 w.0, (given v (inner no_variables V) (sees_beneath V W f) (and_parts (is_known ks v) true first.1).0 w.1, tt))
+            (given t V f first.0 w.0, (given v (inner no_variables V) (sees_beneath no_variables V W f) (and_parts (is_known ks v) true first.1).0 w.1, tt))
         both_given (more_of-Term t (more_of-Term v (more_of-Term u ts))) V f e k w = absurd (false≢true e)
 
       pub each_given : (hs : List Term) → AreKnown ks g W hs → EachGiven g s reads hs

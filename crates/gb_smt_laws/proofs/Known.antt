@@ -1,5 +1,5 @@
--- What evaluation knows is simple, and reads no memory that a binder binds.
-use Rattle.std.proofs.Common.{◌≡◌, suc, Bool, true, ◌&&◌, ◌==◌, Option, Some, None, List, [], ◌∷◌, ◌++◌, length, refl, ap, ◌∙◌, arith}
+-- What evaluation knows is simple.
+use Rattle.std.proofs.Common.{◌≡◌, suc, Bool, true, false, ◌&&◌, ◌==◌, Option, Some, None, List, [], ◌∷◌, ◌++◌, length, refl, ap, ◌∙◌, arith}
 use Rattle.std.specs.List.{list_all, flat_map, AllByRecursion}
 use Rattle.std.proofs.lemmas.Bool.{false≢true, and_parts, and_from}
 use Rattle.std.proofs.lemmas.Bool.Decides.{Decides-eqb}
@@ -19,11 +19,11 @@ use Rattle.sqlite_items.specs.formers.items.Items.{the_former}
 use Rattle.gb_changes.proofs.Trees.{out_is, HeadLayer}
 use Rattle.gb_typed.specs.Typing.{types_of}
 use Rattle.gb_meaning.specs.Names.{Name}
-use Rattle.gb_eval.specs.Known.{is_known, all_known, is_head_known, are_of_outcomes, are_true, is_read_known}
-use Rattle.gb_smt.specs.Variables.{Vars, at_head, at_instr, at_subject, at_cmd, at_term, of_read, term_variables, head_read}
+use Rattle.gb_eval.specs.Known.{is_known, all_known, is_head_known, are_of_outcomes, are_true}
+use Rattle.gb_smt.specs.Variables.{Vars, at_head, at_instr, at_subject, at_cmd, at_term, of_read, term_variables, head_read, variable_of}
 use Rattle.gb_smt.proofs.Layers.{variables_out}
 use Rattle.gb_smt_laws.specs.Simple.{is_simple, all_simple, only, both}
-use Rattle.gb_smt_laws.specs.Reading.{no_variables, Reading, IsReadAt, inner}
+use Rattle.gb_smt_laws.specs.Reading.{Variables, Reading, IsReadAt, inner}
 use mathlib.Core.Former.{Count, arity, this}
 
 pub two_is_one : (n : _) (A : Type 0) → (suc (suc n) == 1) ≡ true → A
@@ -42,9 +42,9 @@ one_argument ts u k = (and_parts (length (types_of ts) == 1) (is_finite u) k).0
 -- by whether evaluation knows the operators of the script
 module _ (ks : Name → Bool) where
   -- a node that is known: its head is, and each argument
-  pub known_parts : {n : Count} (h : Head) (ts : Row_of-Term n) → (is_head_known ks h (types_of ts) && are_true (all_known ks ts)) ≡ true →
-      (is_head_known ks h (types_of ts) ≡ true) × (are_true (all_known ks ts) ≡ true)
-  known_parts h ts k = and_parts (is_head_known ks h (types_of ts)) (are_true (all_known ks ts)) k
+  pub known_parts : {n : Count} (h : Head) (ty : Ty) (ts : Row_of-Term n) → (is_head_known ks h ty (types_of ts) && are_true (all_known ks ts)) ≡ true →
+      (is_head_known ks h ty (types_of ts) ≡ true) × (are_true (all_known ks ts) ≡ true)
+  known_parts h ty ts k = and_parts (is_head_known ks h ty (types_of ts)) (are_true (all_known ks ts)) k
 
   mutual
     pub known_simple : (t : Term) → is_known ks t ≡ true → is_simple t ≡ true
@@ -52,26 +52,32 @@ module _ (ks : Name → Bool) where
     known_simple (Term' p (more_of-Head (head.Whole v) end_of-Head) n ts ty) k = refl
     known_simple (Term' p (more_of-Head (head.Read r) end_of-Head) n ts ty) k = refl
     known_simple (Term' p (more_of-Head (head.Bound i) end_of-Head) n ts ty) k = refl
-    known_simple (Term' p (more_of-Head (head.Builtin o) end_of-Head) n ts ty) k = row_simple ts (known_parts (head.Builtin o) ts k).1
-    known_simple (Term' p (more_of-Head (head.User v) end_of-Head) n ts ty) k = row_simple ts (known_parts (head.User v) ts k).1
+    known_simple (Term' p (more_of-Head (head.Builtin o) end_of-Head) n ts ty) k = row_simple ts (known_parts (head.Builtin o) ty ts k).1
+    known_simple (Term' p (more_of-Head (head.User v) end_of-Head) n ts ty) k = row_simple ts (known_parts (head.User v) ty ts k).1
     known_simple (Term' p (more_of-Head (head.All u) end_of-Head) n ts ty) k =
-        let both = known_parts (head.All u) ts k in
+        let both = known_parts (head.All u) ty ts k in
         only_simple ts (one_argument ts u both.0) both.1
     known_simple (Term' p (more_of-Head (head.Some u) end_of-Head) n ts ty) k =
-        let both = known_parts (head.Some u) ts k in
+        let both = known_parts (head.Some u) ty ts k in
         only_simple ts (one_argument ts u both.0) both.1
     known_simple (Term' p (more_of-Head (head.Sum q) end_of-Head) n ts ty) k =
-        let both = known_parts (head.Sum q) ts k in
+        let both = known_parts (head.Sum q) ty ts k in
+        only_simple ts both.0 both.1
+    known_simple (Term' p (more_of-Head head.AllMemory end_of-Head) n ts ty) k =
+        let both = known_parts head.AllMemory ty ts k in
+        only_simple ts both.0 both.1
+    known_simple (Term' p (more_of-Head head.SomeMemory end_of-Head) n ts ty) k =
+        let both = known_parts head.SomeMemory ty ts k in
         only_simple ts both.0 both.1
     known_simple (Term' p (more_of-Head head.Mu end_of-Head) n ts ty) k =
-        let both = known_parts head.Mu ts k in
+        let both = known_parts head.Mu ty ts k in
         both_simple ts both.0 both.1
-    known_simple (Term' p (more_of-Head (head.Weights ps) end_of-Head) n ts ty) k = row_simple ts (known_parts (head.Weights ps) ts k).1
+    known_simple (Term' p (more_of-Head (head.Weights ps) end_of-Head) n ts ty) k = row_simple ts (known_parts (head.Weights ps) ty ts k).1
     known_simple (Term' p (more_of-Head head.Map end_of-Head) n ts ty) k =
-        let both = known_parts head.Map ts k in
+        let both = known_parts head.Map ty ts k in
         both_simple ts both.0 both.1
     known_simple (Term' p (more_of-Head head.Restrict end_of-Head) n ts ty) k =
-        let both = known_parts head.Restrict ts k in
+        let both = known_parts head.Restrict ty ts k in
         both_simple ts both.0 both.1
     known_simple (Term' p (more_of-Head h end_of-Head) n ts ty) k = absurd (false≢true k)
 
@@ -97,7 +103,7 @@ module _ (ks : Name → Bool) where
 -- the variables of a term, by its constructors
 
 abbrev pub read_of : Head → Option Read
-read_of (head.Read r) = Some r
+read_of (head.Read r) = variable_of r
 read_of _ = None
 
 read_layer : (x : HeadLayer) →
@@ -126,14 +132,19 @@ pub read_together : (W : Reading) (vs ws : Vars) → AreRead W vs → AreRead W 
 read_together W [] ws a b = b
 read_together W (v ∷ vs) ws a b = (a.0, read_together W vs ws a.1 b)
 
+-- a read of no memory that a binder binds
+abbrev pub is_free_read : Read → Bool
+is_free_read (Program x (side.Bound i)) = false
+is_free_read r = true
+
 -- what V reads of memories that no binder binds W reads too
 abbrev pub Sees : Reading → Reading → Type 0
-Sees V W = (r : Read) (ty : Ty) → is_read_known r ≡ true → IsReadAt V r ty → IsReadAt W r ty
+Sees V W = (r : Read) (ty : Ty) → is_free_read r ≡ true → IsReadAt V r ty → IsReadAt W r ty
 
-pub sees_beneath : (V W : Reading) → Sees V W → Sees (inner no_variables V) W
-sees_beneath V W f (Logical i) ty k e = f (Logical i) ty k e
-sees_beneath V W f (Program x side.Own) ty k e = f (Program x side.Own) ty k e
-sees_beneath V W f (Program x side.Left) ty k e = f (Program x side.Left) ty k e
-sees_beneath V W f (Program x side.Right) ty k e = f (Program x side.Right) ty k e
-sees_beneath V W f (Program x (side.Memory i)) ty k e = f (Program x (side.Memory i)) ty k e
-sees_beneath V W f (Program x (side.Bound i)) ty k e = absurd (false≢true k)
+pub sees_beneath : (f : Variables) (V W : Reading) → Sees V W → Sees (inner f V) W
+sees_beneath f V W s (Logical i) ty k e = s (Logical i) ty k e
+sees_beneath f V W s (Program x side.Own) ty k e = s (Program x side.Own) ty k e
+sees_beneath f V W s (Program x side.Left) ty k e = s (Program x side.Left) ty k e
+sees_beneath f V W s (Program x side.Right) ty k e = s (Program x side.Right) ty k e
+sees_beneath f V W s (Program x (side.Memory i)) ty k e = s (Program x (side.Memory i)) ty k e
+sees_beneath f V W s (Program x (side.Bound i)) ty k e = absurd (false≢true k)

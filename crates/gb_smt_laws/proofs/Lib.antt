@@ -20,6 +20,7 @@ pub mod Start
 pub mod Bodies
 mod Opened
 pub mod Modules
+pub mod Right
 pub mod Rule
 pub mod Fitting
 pub mod Typed

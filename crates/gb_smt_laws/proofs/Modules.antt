@@ -13,7 +13,7 @@ use mathlib.Core.Former.{Count}
 mutual
   pub not_simple : (t : Term) → has_module t ≡ true → is_simple t ≡ true → ⊥
   not_simple (Term' p (more_of-Head (head.AllModule c) end_of-Head) n ts ty) m b = false≢true b
-  not_simple (Term' p (more_of-Head head.AllMemory end_of-Head) n ts ty) m b = false≢true b
+  not_simple (Term' p (more_of-Head head.AllMemory end_of-Head) n ts ty) m b = only_not_simple ts m b
   not_simple (Term' p (more_of-Head (head.All u) end_of-Head) n ts ty) m b = only_not_simple ts m b
   not_simple (Term' p (more_of-Head (head.Builtin op.Implies) end_of-Head) n ts ty) m b = last_not_simple ts m b
   not_simple (Term' p (more_of-Head h end_of-Head) n ts ty) m b = false≢true m

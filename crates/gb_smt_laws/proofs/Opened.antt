@@ -23,7 +23,8 @@ use Rattle.gb_eval.specs.Known.{is_known, all_known, is_head_known, known_of, ar
 use Rattle.gb_eval.specs.Totals.{total_of, totals_of, head_total, total_over}
 use Rattle.gb_eval.specs.Eval.{Part, Environment, at_head, called, eval, eval_all, function_of, operators_of}
 use Rattle.gb_eval.proofs.Environments.{of_is}
-use Rattle.gb_smt.specs.Width.{Tys, bound_by, bound_types, all_bound, bound_of}
+use Rattle.gb_reads.specs.Reads.{reads_of}
+use Rattle.gb_smt.specs.Width.{Tys, bound_by, bound_types, all_bound, bound_of, of_memory, only_reads}
 use Rattle.gb_smt_laws.proofs.Equations.{none_some, some_some}
 use Rattle.gb_smt_laws.proofs.Bodies.{AreDeclared, all_declared}
 use mathlib.Core.Former.{Count}
@@ -34,7 +35,7 @@ abbrev Agree : {A : Type 0} → typed.Context → (Name → A) → (Name → A) 
 Agree c f g = (m : Name) (o : OperatorType) → c.operator m ≡ Some o → f m ≡ g m
 
 module _ (f g : Name → Bool) where
-  known_at : (c : typed.Context) → Agree c f g → (h : Head) (us : List Ty) (ty : Ty) → IsHead c h us ty → is_head_known f h us ≡ is_head_known g h us
+  known_at : (c : typed.Context) → Agree c f g → (h : Head) (us : List Ty) (ty : Ty) → IsHead c h us ty → is_head_known f h ty us ≡ is_head_known g h ty us
   known_at c a (head.User n) us ty w = a n _ w
   known_at c a _ us ty w = refl
 
@@ -56,7 +57,7 @@ module _ (f g : Name → Tys) where
   mutual
     same_bound : (c : typed.Context) → Agree c f g → (t : Term) → typed.IsTyped c t → bound_types f t ≡ bound_types g t
     same_bound c a (Term' p (more_of-Head h end_of-Head) n ts ty) w =
-        (λ i. bound_at c a h (argument_types ts) ty w.0 i ++ row_bound c (inner c h (argument_types ts)) a a ts w.1 i)
+        (λ i. bound_at c a h (argument_types ts) ty w.0 i ++ (of_memory h (only_reads ts) ++ row_bound c (inner c h (argument_types ts)) a a ts w.1 i))
 
     row_bound : {n : Count} (c d : typed.Context) → Agree c f g → Agree d f g → (ts : Row_of-Term n) → typed.AreTyped c d ts → all_bound f ts ≡ all_bound g ts
     row_bound c d a b end_of-Term w = refl
@@ -94,9 +95,9 @@ module _ (f g : Operators) where
 
     row_eval : {n : Count} (c d : typed.Context) → Agree c f g → Agree d f g → (ts : Row_of-Term n) → typed.AreTyped c d ts → eval_all (with_operators f) ts ≡ eval_all (with_operators g) ts
     row_eval c d a b end_of-Term w = refl
-    row_eval c d a b (more_of-Term t end_of-Term) w = (λ i. record { comes = λ bound. same_eval d b t w bound i; total = same_total d b t w i } ∷ [])
+    row_eval c d a b (more_of-Term t end_of-Term) w = (λ i. record { comes = λ bound. same_eval d b t w bound i; total = same_total d b t w i; reads = reads_of t } ∷ [])
     row_eval c d a b (more_of-Term t (more_of-Term u ts)) w =
-        (λ i. record { comes = λ bound. same_eval c a t w.0 bound i; total = same_total c a t w.0 i } ∷ row_eval c d a b (more_of-Term u ts) w.1 i)
+        (λ i. record { comes = λ bound. same_eval c a t w.0 bound i; total = same_total c a t w.0 i; reads = reads_of t } ∷ row_eval c d a b (more_of-Term u ts) w.1 i)
 
   same_function : (c : typed.Context) → Agree c f g → (t : Term) → typed.IsTyped c t → function_of f t ≡ function_of g t
   same_function c a t w = (λ i. record { comes = λ vs. same_eval c a t w (reverse vs) i; total = same_total c a t w i })

@@ -20,6 +20,7 @@ use Rattle.gb_laws.proofs.Nodes.{term_is_node}
 use Rattle.gb_judge.proofs.Truths.{truth_of}
 use Rattle.gb_changes.proofs.Changed.{term_changed_is}
 use Rattle.gb_changes.proofs.Changing.{kept_at, arguments_of}
+use Rattle.gb_smt.specs.Meant.{IsRight}
 use Rattle.gb_smt.specs.Leaves.{is_true, unless_true, assumed, all_assumed}
 use Rattle.gb_smt_laws.specs.Reading.{Reading}
 use Rattle.gb_smt_laws.specs.Fits.{Fits, AllFit}
@@ -62,7 +63,7 @@ assumed_one a ty = subst (λ t. assumed t ≡ unless_true t) (term_is_node (head
 assumed_more : (a b c : Term) (ts : List Term) (ty : Ty) → assumed (node (head.Builtin op.And) (a ∷ b ∷ c ∷ ts) ty) ≡ unless_true (node (head.Builtin op.And) (a ∷ b ∷ c ∷ ts) ty)
 assumed_more a b c ts ty = subst (λ t. assumed t ≡ unless_true t) (term_is_node (head.Builtin op.And) (a ∷ b ∷ c ∷ ts) ty) refl
 
-module _ (g : Setting) (j : Speaks) where
+module _ (g : Setting) (j : Speaks) (right : IsRight g j) where
   one_assumed : (W : Reading) (s : State) (t : Term) → IsAssumed g j W s t → AreAssumed g j W s (unless_true t)
   one_assumed W s t a = step (is_true (out-Term t).head)
     where
@@ -81,7 +82,7 @@ module _ (g : Setting) (j : Speaks) where
     premise_whole : (t : Term) → Fits g T t → truth (val g j t q) ≡ true → assumed (term_changed t cs) ≡ unless_true (term_changed t cs) → AreAssumed g j W s (assumed (term_changed t cs))
     premise_whole t w e k =
         whole_assumed W s (term_changed t cs) k (λ b.
-        let f = followed g j t cs T W s q (opening_leads g j cs T W s q o) w (simple_before t cs b) b in
+        let f = followed g j right t cs T W s q (opening_leads g j cs T W s q o) w (simple_before t cs b) b in
         (f.0, ap truth f.1 ∙ e))
 
     by_node : (t : Term) (h : Head) (ts : List Term) (ty : Ty) → term_changed t cs ≡ node h ts ty → assumed (node h ts ty) ≡ unless_true (node h ts ty) → assumed (term_changed t cs) ≡ unless_true (term_changed t cs)
@@ -138,7 +139,7 @@ module _ (g : Setting) (j : Speaks) where
   -- a form that is true in s, in a state z that keeps what it reads
   module _ (T V : Reading) (s z : State) (k : Keeps g T V s z) where
     form_whole : (t : Term) → Fits g T t → truth (val g j t s) ≡ true → assumed t ≡ unless_true t → AreAssumed g j V z (assumed t)
-    form_whole t w e p = whole_assumed V z t p (λ b. let f = kept g j t T V s z k b w in (f.0, ap truth f.1 ∙ e))
+    form_whole t w e p = whole_assumed V z t p (λ b. let f = kept g j right t T V s z k b w in (f.0, ap truth f.1 ∙ e))
 
     mutual
       pub form_assumed : (t : Term) → Fits g T t → truth (val g j t s) ≡ true → AreAssumed g j V z (assumed t)
@@ -150,6 +151,6 @@ module _ (g : Setting) (j : Speaks) where
       both_assumed (more_of-Term a (more_of-Term b end_of-Term)) t ty v w e d =
           let each = both_true (truth (val g j a s)) (truth (val g j b s)) d in
           each_together (IsAssumed g j V z) (assumed a) (assumed b) (form_assumed a w.0 each.0) (form_assumed b w.1.0 each.1)
-      both_assumed end_of-Term t ty v w e d = one_assumed V z t (λ b. let f = kept g j t T V s z k b v in (f.0, ap truth f.1 ∙ e))
-      both_assumed (more_of-Term a end_of-Term) t ty v w e d = one_assumed V z t (λ b. let f = kept g j t T V s z k b v in (f.0, ap truth f.1 ∙ e))
-      both_assumed (more_of-Term a (more_of-Term b (more_of-Term c ts))) t ty v w e d = one_assumed V z t (λ b. let f = kept g j t T V s z k b v in (f.0, ap truth f.1 ∙ e))
+      both_assumed end_of-Term t ty v w e d = one_assumed V z t (λ b. let f = kept g j right t T V s z k b v in (f.0, ap truth f.1 ∙ e))
+      both_assumed (more_of-Term a end_of-Term) t ty v w e d = one_assumed V z t (λ b. let f = kept g j right t T V s z k b v in (f.0, ap truth f.1 ∙ e))
+      both_assumed (more_of-Term a (more_of-Term b (more_of-Term c ts))) t ty v w e d = one_assumed V z t (λ b. let f = kept g j right t T V s z k b v in (f.0, ap truth f.1 ∙ e))

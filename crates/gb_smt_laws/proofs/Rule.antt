@@ -37,6 +37,7 @@ use Rattle.gb_smt.specs.declared.leaves.Leaf.{Leaf}
 use Rattle.gb_smt.specs.Leaves as leaves
 use Rattle.gb_smt.specs.Leaves.{whole, with_variable, with_memory, assumed, assumed_of, split, context_of, hyps_with, speaks_of_programs, leaves_of}
 use Rattle.gb_smt.specs.Apply.{ClosesByClaim}
+use Rattle.gb_smt.specs.Meant.{IsRight}
 use Rattle.gb_smt_laws.specs.Reading.{Variables, AreHeld, Reading, no_variables, inner}
 use Rattle.gb_smt_laws.specs.Fits.{Fits, AllFit, OnlyFits}
 use Rattle.gb_smt_laws.specs.Closing.{IsAssumed, AreAssumed, LeafHolds}
@@ -48,6 +49,7 @@ use Rattle.gb_smt_laws.proofs.Later.{Later, reading_with, reading_at, state_with
 use Rattle.gb_smt_laws.proofs.Split.{IsContext, context_with_variable, context_with_memory, context_with_premise, leaf_true, unsplit, split_true}
 use mathlib.Core.Former.{Count}
 use Rattle.gb_smt_laws.proofs.Closed.{each_closed_holds}
+use Rattle.gb_smt_laws.proofs.Right.{fair_is_right}
 use Rattle.gb_smt_laws.proofs.Start.{start_valid, start_opens, start_keeps}
 
 -- each of the forms is true
@@ -66,6 +68,9 @@ module _ (ds : Declarations) (k : Interpretation) where
     abbrev j : Speaks
     j = speaking g i
 
+    right : IsRight g j
+    right = fair_is_right g i fair
+
     abbrev Hold : List Leaf → Type 0
     Hold ls = AllByRecursion (LeafHolds g j) ls
 
@@ -76,19 +81,19 @@ module _ (ds : Declarations) (k : Interpretation) where
       split_modules (Term' p (more_of-Head (head.All u) end_of-Head) n ts ty) m c hs a T W s q w x =
           let t : Term = Term' p (more_of-Head (head.All u) end_of-Head) n ts ty in
           chosen (last_has_module ts) _ _ m
-          (modules_of_all ts m u t c hs a T W s q w x (λ b. not_simple t m (leaf_true g j c.logical c.memories c.changes T W s q hs x t w b.0).0))
+          (modules_of_all ts m u t c hs a T W s q w x (λ b. not_simple t m (leaf_true g j right c.logical c.memories c.changes T W s q hs x t w b.0).0))
       split_modules (Term' p (more_of-Head head.AllMemory end_of-Head) n ts ty) m c hs a T W s q w x =
           let t : Term = Term' p (more_of-Head head.AllMemory end_of-Head) n ts ty in
           chosen (last_has_module ts) _ _ m
-          (modules_of_memory ts m t c hs a T W s q w.0 w.1 w.2 x (λ b. not_simple t m (leaf_true g j c.logical c.memories c.changes T W s q hs x t w b.0).0))
+          (modules_of_memory ts m t c hs a T W s q w.0 w.1 w.2 x (λ b. not_simple t m (leaf_true g j right c.logical c.memories c.changes T W s q hs x t w b.0).0))
       split_modules (Term' p (more_of-Head (head.Builtin op.Implies) end_of-Head) n ts ty) m c hs a T W s q w x =
           let t : Term = Term' p (more_of-Head (head.Builtin op.Implies) end_of-Head) n ts ty in
           chosen (last_has_module ts) _ _ m
-          (modules_of_premise ts m t c hs a T W s q w.1 x (λ b. not_simple t m (leaf_true g j c.logical c.memories c.changes T W s q hs x t w b.0).0))
+          (modules_of_premise ts m t c hs a T W s q w.1 x (λ b. not_simple t m (leaf_true g j right c.logical c.memories c.changes T W s q hs x t w b.0).0))
       split_modules (Term' p (more_of-Head (head.Builtin op.And) end_of-Head) n ts ty) m c hs a T W s q w x = absurd (false≢true m)
       split_modules (Term' p (more_of-Head h end_of-Head) n ts ty) m c hs a T W s q w x =
           let t : Term = Term' p (more_of-Head h end_of-Head) n ts ty in
-          absurd (not_simple t m (leaf_true g j c.logical c.memories c.changes T W s q hs x t w (subst Hold (unsplit h (leaves.parts ts) t c hs refl) a).0).0)
+          absurd (not_simple t m (leaf_true g j right c.logical c.memories c.changes T W s q hs x t w (subst Hold (unsplit h (leaves.parts ts) t c hs refl) a).0).0)
 
       modules_of_all : {n : Count} (ts : Row_of-Term n) → last_has_module ts ≡ true → (u : Ty) (t : Term) (c : _) (hs : List Term) → Hold (leaves.split_by (head.All u) (leaves.parts ts) t c hs) →
           (T W : Reading) (s q : State) → OnlyFits g (inner no_variables T) ts → IsContext g j c.logical c.memories c.changes T W s q hs → (Hold (whole t c hs) → ⊥) →
@@ -116,7 +121,7 @@ module _ (ds : Declarations) (k : Interpretation) where
       modules_of_premise end_of-Term m t c hs a T W s q w x f = absurd (false≢true m)
       modules_of_premise (more_of-Term y end_of-Term) m t c hs a T W s q w x f = absurd (f a)
       modules_of_premise (more_of-Term y (more_of-Term z end_of-Term)) m t c hs a T W s q w x f = λ e.
-          split_modules z m c (hs ++ assumed (term_changed y c.changes)) a T W s q w.1.0 (context_with_premise g j c.logical c.memories c.changes T W s q hs x y w.0 (e i fair))
+          split_modules z m c (hs ++ assumed (term_changed y c.changes)) a T W s q w.1.0 (context_with_premise g j right c.logical c.memories c.changes T W s q hs x y w.0 (e i fair))
       modules_of_premise (more_of-Term y (more_of-Term z (more_of-Term o ts))) m t c hs a T W s q w x f = absurd (f a)
 
   module _ (es : scope.Declarations) (known : List Term) (q : Sequent) (ready : SmtIsReady es g known q) (vs : List Value) (typed : AreValues (types_of ds k) (map (λ x. x.ty) q.logical) vs) (ms : List Memory) where
@@ -130,13 +135,16 @@ module _ (ds : Declarations) (k : Interpretation) where
       abbrev speaks : Speaks
       speaks = speaking g i
 
+      right_here : IsRight g speaks
+      right_here = fair_is_right g i fair
+
       module _ (V : Reading) (z : State) (l : Later (length q.logical) (length q.memories) T s V z) where
         form_true : (f : Term) → Fits g T f → Truth ds f k s → AreAssumed g speaks V z (assumed f)
         form_true f w t = by_front (has_module f) refl
           where
             by_front : (b : Bool) → has_module f ≡ b → AreAssumed g speaks V z (assumed f)
-            by_front false m = form_assumed g speaks T V s z (start_keeps g q ready.variables vs ms V z l) f w ((without_modules ds f k s m).0 t i fair)
-            by_front true m = whole_assumed g speaks V z f (module_whole f m) (λ b. absurd (not_simple f m b))
+            by_front false m = form_assumed g speaks right_here T V s z (start_keeps g q ready.variables vs ms V z l) f w ((without_modules ds f k s m).0 t i fair)
+            by_front true m = whole_assumed g speaks right_here V z f (module_whole f m) (λ b. absurd (not_simple f m b))
 
         hyp_assumed : (h : Hyp) → (speaks_of_programs h.form ≡ false → Fits g T h.form) → Truth ds h.form k s → AreAssumed g speaks V z (assumed_of h)
         hyp_assumed h w t = step (speaks_of_programs h.form) refl
@@ -161,16 +169,16 @@ module _ (ds : Declarations) (k : Interpretation) where
         assumed = λ V z l. each_together (IsAssumed g speaks V z) (flat_map assumed_of q.hyps) (flat_map assumed known) (hyps_assumed V z l q.hyps ready.hyps t) (known_assumed V z l known ready.known_forms u);
       }
 
-    pub conclusion_true : ((j : Speaks) → AllByRecursion (LeafHolds g j) (leaves_of known q)) → AreTrue ds q.hyps k s → AreTrueForms ds known k s → Truth ds q.conclusion k s
+    pub conclusion_true : ((j : Judge) → IsFair g j → AllByRecursion (LeafHolds g (speaking g j)) (leaves_of known q)) → AreTrue ds q.hyps k s → AreTrueForms ds known k s → Truth ds q.conclusion k s
     conclusion_true held t u = step (has_module q.conclusion) refl
       where
         step : (b : Bool) → has_module q.conclusion ≡ b → Truth ds q.conclusion k s
         step false m =
             (without_modules ds q.conclusion k s m).1
-            (λ i fair. split_true g i fair q.conclusion (context_of q) (hyps_with known q) (held (speaking g i)) T T s s ready.conclusion (start_context i fair t u))
+            (λ i fair. split_true g i fair q.conclusion (context_of q) (hyps_with known q) (held i fair) T T s s ready.conclusion (start_context i fair t u))
         step true m =
             let i : Judge = trying g in
-            split_modules i (is_fair g) q.conclusion m (context_of q) (hyps_with known q) (held (speaking g i)) T T s s ready.conclusion (start_context i (is_fair g) t u)
+            split_modules i (is_fair g) q.conclusion m (context_of q) (hyps_with known q) (held i (is_fair g)) T T s s ready.conclusion (start_context i (is_fair g) t u)
 
 -- what is known for all programs gives something else for them
 pub each_program : (ds : Declarations) (bs : List Bind) (i : Interpretation) (P Q : Interpretation → Type 0) → ((k : Interpretation) → P k → Q k) → EachProgram ds bs i P → EachProgram ds bs i Q
@@ -198,5 +206,5 @@ module _ (es : scope.Declarations) (ds : Declarations) (known : List Term) (q : 
   pub smt_sound : InEachSetting ds q (λ g. SmtIsReady es g known q) → All (ClosesByClaim es) (leaves_of known q) → AllByRecursion (λ f. Holds ds (record q { conclusion = f })) known → Holds ds q
   smt_sound ready closed held =
       joined ds q (λ k. SmtIsReady es (setting ds k) known q) (AreKnown ds q known) (IsConcluded ds q q.conclusion)
-      (λ k r x vs typed ms t. conclusion_true ds k es known q r vs typed ms (λ j. each_closed_holds es (setting ds k) (operators_meant k r) j (leaves_of known q) closed) t (x vs typed ms t))
+      (λ k r x vs typed ms t. conclusion_true ds k es known q r vs typed ms (λ j fair. each_closed_holds es (setting ds k) (operators_meant k r) (speaking (setting ds k) j) (fair_is_right (setting ds k) j fair) (leaves_of known q) closed) t (x vs typed ms t))
       ready (all_known ds q known held)

@@ -35,6 +35,8 @@ use Rattle.gb_smt_laws.proofs.Followed.{simple_before, followed}
 use Rattle.gb_smt_laws.proofs.Used.{each_together}
 use Rattle.gb_smt_laws.proofs.Finding.{variable}
 use Rattle.gb_smt_laws.proofs.Splitting.{opening_leads}
+use Rattle.gb_smt.specs.Meant.{IsRight}
+use Rattle.gb_smt_laws.proofs.Right.{fair_is_right}
 use Rattle.gb_smt_laws.proofs.Premises.{premise}
 use mathlib.Core.Former.{Count}
 use Rattle.gb_smt_laws.proofs.Later.{Opens, StayAssumed, opens_to_variable, opens_to_memory, stay_with_variable, stay_with_memory, later_itself, valid_with_variable, valid_with_memory, reading_with, reading_at, state_with, state_at}
@@ -69,12 +71,14 @@ module _ (g : Setting) (j : Speaks) (n m : ℕ) (cs : Changes) (T W : Reading) (
     assumed = stay_with_memory g j n m W s hs k.assumed f d;
   }
 
+-- where quantifiers over memories say what they say
+module _ (g : Setting) (j : Speaks) (right : IsRight g j) (n m : ℕ) (cs : Changes) (T W : Reading) (s q : State) (hs : List Term) (k : IsContext g j n m cs T W s q hs) where
   pub context_with_premise : (t : Term) → Fits g T t → truth (val g j t q) ≡ true → IsContext g j n m cs T W s q (hs ++ assumed (term_changed t cs))
   context_with_premise t w e = record {
     opens = k.opens;
     outside = k.outside;
     valid = k.valid;
-    assumed = λ V z l. each_together (IsAssumed g j V z) hs (assumed (term_changed t cs)) (k.assumed V z l) (premise g j cs T V z q (k.opens V z l) t w e);
+    assumed = λ V z l. each_together (IsAssumed g j V z) hs (assumed (term_changed t cs)) (k.assumed V z l) (premise g j right cs T V z q (k.opens V z l) t w e);
   }
 
   -- a conclusion that isn't split is simple and true
@@ -82,9 +86,9 @@ module _ (g : Setting) (j : Speaks) (n m : ℕ) (cs : Changes) (T W : Reading) (
   leaf_true t w a =
       let here = later_itself n m W s k.outside in
       let led = opening_leads g j cs T W s q (k.opens W s here) in
-      let r = a W s k.valid (k.assumed W s here) (λ b. (followed g j t cs T W s q led w (simple_before t cs b) b).0) in
+      let r = a W s k.valid (k.assumed W s here) (λ b. (followed g j right t cs T W s q led w (simple_before t cs b) b).0) in
       let before = simple_before t cs r.0 in
-      (before, sym (ap truth (followed g j t cs T W s q led w before r.0).1) ∙ r.1)
+      (before, sym (ap truth (followed g j right t cs T W s q led w before r.0).1) ∙ r.1)
 
 abbrev pub splits : Head → Bool
 splits (head.All u) = true
@@ -111,6 +115,9 @@ module _ (g : Setting) (i : Judge) (fair : IsFair g i) where
   abbrev j : Speaks
   j = speaking g i
 
+  right : IsRight g j
+  right = fair_is_right g i fair
+
   abbrev Hold : List Leaf → Type 0
   Hold ls = AllByRecursion (LeafHolds g j) ls
 
@@ -125,7 +132,7 @@ module _ (g : Setting) (i : Judge) (fair : IsFair g i) where
         finish (inl f) =
             truth_of (each_value (values g.types u) (λ v. truth (at_value (last_of (parts g j ts)) q v)))
             ∙ each_value_has (values g.types u) (lawful g.types u) (λ v. truth (at_value (last_of (parts g j ts)) q v)) f
-        finish (inr b) = (leaf_true g j c.logical c.memories c.changes T W s q hs k t w b.0).1
+        finish (inr b) = (leaf_true g j right c.logical c.memories c.changes T W s q hs k t w b.0).1
     split_true (Term' p (more_of-Head head.AllMemory end_of-Head) n ts ty) c hs a T W s q w k = finish (split_memory ts t c hs a T W s q w.0 w.1 w.2 k)
       where
         t : Term
@@ -133,7 +140,7 @@ module _ (g : Setting) (i : Judge) (fair : IsFair g i) where
 
         finish : ((d : Memory) → truth ((last_of (parts g j ts)).meaning (under q (memory d))) ≡ true) ⊎ Hold (whole t c hs) → truth (val g j t q) ≡ true
         finish (inl f) = truth_of (i t q) ∙ (fair t q tt).1 f
-        finish (inr b) = (leaf_true g j c.logical c.memories c.changes T W s q hs k t w b.0).1
+        finish (inr b) = (leaf_true g j right c.logical c.memories c.changes T W s q hs k t w b.0).1
     split_true (Term' p (more_of-Head (head.Builtin op.Implies) end_of-Head) n ts ty) c hs a T W s q w k = finish (split_implies ts ty t c hs a T W s q w.1 k)
       where
         t : Term
@@ -141,7 +148,7 @@ module _ (g : Setting) (i : Judge) (fair : IsFair g i) where
 
         finish : (truth (operated g.types op.Implies ty (map (argument q) (parts g j ts))) ≡ true) ⊎ Hold (whole t c hs) → truth (val g j t q) ≡ true
         finish (inl e) = e
-        finish (inr b) = (leaf_true g j c.logical c.memories c.changes T W s q hs k t w b.0).1
+        finish (inr b) = (leaf_true g j right c.logical c.memories c.changes T W s q hs k t w b.0).1
     split_true (Term' p (more_of-Head (head.Builtin op.And) end_of-Head) n ts ty) c hs a T W s q w k = finish (split_and ts ty t c hs a T W s q w.1 k)
       where
         t : Term
@@ -149,10 +156,10 @@ module _ (g : Setting) (i : Judge) (fair : IsFair g i) where
 
         finish : (truth (operated g.types op.And ty (map (argument q) (parts g j ts))) ≡ true) ⊎ Hold (whole t c hs) → truth (val g j t q) ≡ true
         finish (inl e) = e
-        finish (inr b) = (leaf_true g j c.logical c.memories c.changes T W s q hs k t w b.0).1
+        finish (inr b) = (leaf_true g j right c.logical c.memories c.changes T W s q hs k t w b.0).1
     split_true (Term' p (more_of-Head h end_of-Head) n ts ty) c hs a T W s q w k =
         let t : Term = Term' p (more_of-Head h end_of-Head) n ts ty in
-        (leaf_true g j c.logical c.memories c.changes T W s q hs k t w (subst Hold (unsplit h (leaves.parts ts) t c hs refl) a).0).1
+        (leaf_true g j right c.logical c.memories c.changes T W s q hs k t w (subst Hold (unsplit h (leaves.parts ts) t c hs refl) a).0).1
 
     split_all : {n : Count} (ts : Row_of-Term n) (u : Ty) (t : Term) (c : _) (hs : List Term) → Hold (leaves.split_by (head.All u) (leaves.parts ts) t c hs) → (T W : Reading) (s q : State) →
         OnlyFits g (inner no_variables T) ts → IsContext g j c.logical c.memories c.changes T W s q hs →
@@ -181,7 +188,7 @@ module _ (g : Setting) (i : Judge) (fair : IsFair g i) where
     split_implies (more_of-Term x end_of-Term) ty t c hs a T W s q w k = inr a
     split_implies (more_of-Term x (more_of-Term y end_of-Term)) ty t c hs a T W s q w k =
         inl (implied (truth (val g j x q)) (truth (val g j y q))
-        (λ e. split_true y c (hs ++ assumed (term_changed x c.changes)) a T W s q w.1.0 (context_with_premise g j c.logical c.memories c.changes T W s q hs k x w.0 e)))
+        (λ e. split_true y c (hs ++ assumed (term_changed x c.changes)) a T W s q w.1.0 (context_with_premise g j right c.logical c.memories c.changes T W s q hs k x w.0 e)))
     split_implies (more_of-Term x (more_of-Term y (more_of-Term z ts))) ty t c hs a T W s q w k = inr a
 
     split_and : {n : Count} (ts : Row_of-Term n) (ty : Ty) (t : Term) (c : _) (hs : List Term) → Hold (leaves.split_by (head.Builtin op.And) (leaves.parts ts) t c hs) → (T W : Reading) (s q : State) →

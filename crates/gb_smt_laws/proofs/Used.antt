@@ -24,6 +24,7 @@ use Rattle.gb_laws.proofs.Nodes.{each_is_node, val_node}
 use Rattle.gb_laws.proofs.Values.{value_eq-true}
 use Rattle.gb_judge.proofs.Truths.{truth_of}
 use Rattle.gb_smt.specs.declared.leaves.Leaf.{Leaf}
+use Rattle.gb_smt.specs.Meant.{IsRight}
 use Rattle.gb_smt.specs.Equations.{use_of, one_further, here_or_further, first_usable, others, with_used, if_usable, used_up_to}
 use Rattle.gb_smt_laws.specs.Simple.{is_simple}
 use Rattle.gb_smt_laws.specs.Reading.{Reading, IsReadAt, IsReadingOf}
@@ -35,13 +36,13 @@ use Rattle.gb_smt_laws.proofs.Led.{OnFound, IsPutFor, Leading}
 use Rattle.gb_smt_laws.proofs.Followed.{simple_before, followed}
 use Rattle.gb_smt_laws.proofs.Equations.{IsUse, IsEquation, equation_used, none_some, some_some}
 
-same_left : (v : Value) (m : Meaning) → same (finite v) m ≡ true → m ≡ finite v
+pub same_left : (v : Value) (m : Meaning) → same (finite v) m ≡ true → m ≡ finite v
 same_left v (finite w) e = ap finite (sym ((value_eq-true v w).0 e))
 same_left v (whole n) e = absurd (false≢true e)
 same_left v (fraction a) e = absurd (false≢true e)
 same_left v (weights d) e = absurd (false≢true e)
 
-same_right : (v : Value) (m : Meaning) → same m (finite v) ≡ true → m ≡ finite v
+pub same_right : (v : Value) (m : Meaning) → same m (finite v) ≡ true → m ≡ finite v
 same_right v (finite w) e = ap finite ((value_eq-true w v).0 e)
 same_right v (whole n) e = absurd (false≢true e)
 same_right v (fraction a) e = absurd (false≢true e)
@@ -129,12 +130,12 @@ module _ (g : Setting) (j : Speaks) (T : Reading) (s : State) (valid : IsReading
       here (Some c) k p f = subst (λ cs. Leading g j cs T T s s) (λ i. (some_some _ e p i).changes) (equation_leads h c (equation_used h c k) a.0)
       here None k p f = further (first_usable hs) p f
 
-  module _ (cs : Changes) (l : Leading g j cs T T s s) where
+  module _ (right : IsRight g j) (cs : Changes) (l : Leading g j cs T T s s) where
     assumed_changed : (h : Term) → IsAssumed g j T s h → IsAssumed g j T s (term_changed h cs)
     assumed_changed h a b =
         let before = simple_before h cs b in
         let p = a before in
-        let f = followed g j h cs T T s s l p.0 before b in
+        let f = followed g j right h cs T T s s l p.0 before b in
         (f.0, ap truth f.1 ∙ p.1)
 
     each_changed : (hs : List Term) → AreAssumed g j T s hs → AreAssumed g j T s (map (λ t. term_changed t cs) hs)
@@ -142,19 +143,19 @@ module _ (g : Setting) (j : Speaks) (T : Reading) (s : State) (valid : IsReading
     each_changed (h ∷ hs) a = (assumed_changed h a.0, each_changed hs a.1)
 
     fits_changed : (t : Term) → FitsIfSimple g T t → FitsIfSimple g T (term_changed t cs)
-    fits_changed t f b = let before = simple_before t cs b in (followed g j t cs T T s s l (f before) before b).0
+    fits_changed t f b = let before = simple_before t cs b in (followed g j right t cs T T s s l (f before) before b).0
 
     concluded_before : (t : Term) → FitsIfSimple g T t → IsConcluded g j s (term_changed t cs) → IsConcluded g j s t
     concluded_before t f c =
         let before = simple_before t cs c.0 in
-        (before, sym (ap truth (followed g j t cs T T s s l (f before) before c.0).1) ∙ c.1)
+        (before, sym (ap truth (followed g j right t cs T T s s l (f before) before c.0).1) ∙ c.1)
 
-each_taken : {X : Type 0} (P : X → Type 0) (n : ℕ) (xs : List X) → AllByRecursion P xs → AllByRecursion P (take n xs)
+pub each_taken : {X : Type 0} (P : X → Type 0) (n : ℕ) (xs : List X) → AllByRecursion P xs → AllByRecursion P (take n xs)
 each_taken P zero xs a = tt
 each_taken P (suc n) [] a = tt
 each_taken P (suc n) (x ∷ xs) a = (a.0, each_taken P n xs a.1)
 
-each_dropped : {X : Type 0} (P : X → Type 0) (n : ℕ) (xs : List X) → AllByRecursion P xs → AllByRecursion P (drop n xs)
+pub each_dropped : {X : Type 0} (P : X → Type 0) (n : ℕ) (xs : List X) → AllByRecursion P xs → AllByRecursion P (drop n xs)
 each_dropped P zero xs a = a
 each_dropped P (suc n) [] a = tt
 each_dropped P (suc n) (x ∷ xs) a = each_dropped P n xs a.1
@@ -163,13 +164,13 @@ pub each_together : {X : Type 0} (P : X → Type 0) (xs ys : List X) → AllByRe
 each_together P [] ys a b = b
 each_together P (x ∷ xs) ys a b = (a.0, each_together P xs ys a.1 b)
 
-module _ (g : Setting) (j : Speaks) where
+module _ (g : Setting) (j : Speaks) (right : IsRight g j) where
   used_once : (l : Leaf) (e : _) → first_usable l.hyps ≡ Some e → LeafHolds g j (with_used e l) → LeafHolds g j l
   used_once l e p h T s valid a f =
       let led = usable_leads g j T s valid l.hyps e a p in
       let left = each_together (IsAssumed g j T s) (take e.place l.hyps) (drop (e.place + 1) l.hyps) (each_taken (IsAssumed g j T s) e.place l.hyps a) (each_dropped (IsAssumed g j T s) (e.place + 1) l.hyps a) in
-      concluded_before g j T s valid e.changes led l.conclusion f
-      (h T s valid (each_changed g j T s valid e.changes led (others l.hyps e.place) left) (fits_changed g j T s valid e.changes led l.conclusion f))
+      concluded_before g j T s valid right e.changes led l.conclusion f
+      (h T s valid (each_changed g j T s valid right e.changes led (others l.hyps e.place) left) (fits_changed g j T s valid right e.changes led l.conclusion f))
 
   pub used_holds : (n : ℕ) (l : Leaf) → LeafHolds g j (used_up_to n l) → LeafHolds g j l
   used_holds zero l h = h

@@ -29,6 +29,8 @@ abbrev mutual
   Fits g T (Term' p (more_of-Head head.Restrict end_of-Head) n ts ty) = BothFit g T ts
   Fits g T (Term' p (more_of-Head head.AllMemory end_of-Head) n ts ty) =
       (f : Variables) × AreHeld g f × OnlyFits g (inner f T) ts
+  Fits g T (Term' p (more_of-Head head.SomeMemory end_of-Head) n ts ty) =
+      (f : Variables) × AreHeld g f × OnlyFits g (inner f T) ts
   Fits g T _ = Unit {0}
 
   pub AllFit : {n : _} → Setting → Reading → Row_of-Term n → Type 0

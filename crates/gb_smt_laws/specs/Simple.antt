@@ -1,4 +1,4 @@
--- Simple terms: those of literals, variables, operators, distributions, and binders of values.
+-- Simple terms: those of literals, variables, operators, distributions, and binders of values and of memories.
 use Rattle.std.specs.Prelude.{Bool, true, false, ◌&&◌, List, [], ◌∷◌}
 use Rattle.std.specs.List.{list_all}
 use Rattle.gb_terms.specs.declared.term.Term.{Term, Term', Row_of-Term, end_of-Term, more_of-Term, end_of-Head, more_of-Head}
@@ -25,6 +25,8 @@ is_simple_at (head.Weights ps) bs = list_all (λ b. b) bs
 is_simple_at (head.All ty) bs = only bs
 is_simple_at (head.Some ty) bs = only bs
 is_simple_at (head.Sum q) bs = only bs
+is_simple_at head.AllMemory bs = only bs
+is_simple_at head.SomeMemory bs = only bs
 is_simple_at head.Mu bs = both bs
 is_simple_at head.Map bs = both bs
 is_simple_at head.Restrict bs = both bs

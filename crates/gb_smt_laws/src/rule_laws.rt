@@ -7,7 +7,7 @@ ghost use Rattle.gb_terms.specs.declared.term.Term.{Term};
 ghost use Rattle.gb_goal.specs.declared.sequent.Sequent.{Sequent};
 ghost use Rattle.gb_goal.specs.Scope as scope;
 ghost use Rattle.gb_meaning.specs.Memory.{Memory};
-ghost use Rattle.gb_meaning.specs.Terms.{Speaks};
+ghost use Rattle.gb_meaning.specs.Judgments.{Judge, IsFair, speaking};
 ghost use Rattle.gb_holds.specs.Declared.{Declarations};
 ghost use Rattle.gb_holds.specs.Settings.{Interpretation, types_of, setting};
 ghost use Rattle.gb_holds.specs.Truth.{Truth};
@@ -23,7 +23,7 @@ ghost use Rattle.gb_smt_laws.specs.Ready.{SmtIsReady};
 /// sides of a conjunction are to be shown; hypotheses that speak of programs aren't needed.
 pub fn splitting()
     ensures { (ds : Declarations) (k : Interpretation) (es : scope.Declarations) (known : List Term) (q : Sequent) → SmtIsReady es (setting ds k) known q →
-        ((j : Speaks) → AllByRecursion (LeafHolds (setting ds k) j) (leaves_of known q)) →
+        ((j : Judge) → IsFair (setting ds k) j → AllByRecursion (LeafHolds (setting ds k) (speaking (setting ds k) j)) (leaves_of known q)) →
         (vs : List Value) → AreValues (types_of ds k) (map (λ x. x.ty) q.logical) vs → (ms : List Memory) →
         AreTrue ds q.hyps k (context vs ms) → AllByRecursion (λ f. Truth ds f k (context vs ms)) known → Truth ds q.conclusion k (context vs ms) }
 {}

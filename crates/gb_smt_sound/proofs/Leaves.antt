@@ -1,7 +1,6 @@
 -- Leaves that are closed are true.
-use Rattle.std.proofs.Common.{◌≡◌, ℕ, zero, suc, Bool, true, false, List, [], ◌∷◌, map, length, get_or, Option, Some, None, refl, ap, sym, ◌∙◌, subst}
+use Rattle.std.proofs.Common.{◌≡◌, ℕ, zero, suc, true, List, [], ◌∷◌, map, get_or, Some, refl, ap, sym, ◌∙◌, subst}
 use Rattle.std.specs.List.{Any, AllByRecursion}
-use Rattle.std.proofs.lemmas.Bool.{false≢true}
 use Rattle.std.proofs.lemmas.List.{length-map}
 use Rattle.gb_core.specs.declared.ty.Ty.{Ty}
 use Rattle.gb_core.specs.declared.value.Value.{Value}
@@ -14,8 +13,6 @@ use Rattle.gb_goal.specs.declared.sequent.Sequent.{Sequent}
 use Rattle.gb_meaning.specs.Values.{Types, has}
 use Rattle.gb_meaning.specs.Memory.{Memory}
 use Rattle.gb_meaning.specs.Setting.{Setting}
-use Rattle.gb_meaning.specs.Setting.Meaning.{finite}
-use Rattle.gb_meaning.specs.Written.{type_of}
 use Rattle.gb_meaning.specs.Judgments.{Judge, IsFair, speaking, den}
 use Rattle.gb_holds.specs.Declared.{Declarations}
 use Rattle.gb_holds.specs.Holds.{AreValues, context}
@@ -42,15 +39,16 @@ use Rattle.gb_smt.specs.Claims.{claims_of}
 use Rattle.gb_smt.specs.Apply.{Closes}
 use Rattle.gb_smt_laws.specs.Reading.{Reading}
 use Rattle.gb_smt_laws.specs.Fits.{Fits}
-use Rattle.gb_smt_laws.specs.Closing.{IsAssumed, AreAssumed, LeafHolds}
+use Rattle.gb_smt_laws.specs.Closing.{AreAssumed, LeafHolds}
 use Rattle.gb_smt_laws.specs.Ready.{reading_of, SmtIsReady}
 use Rattle.gb_smt_laws.proofs.Closed.{closed_holds}
+use Rattle.gb_smt_laws.proofs.Right.{fair_is_right}
 use Rattle.gb_smt_laws.proofs.Start.{start_valid}
 use Rattle.gb_smt_laws.proofs.Typed.{goal_ready}
 use Rattle.gb_equality.specs.Labels.{EqualityValid}
 use Rattle.gb_equality_laws.specs.Alike.{RespectAlike}
 use Rattle.gb_equality_laws.proofs.Sound.{holds}
-use Rattle.gb_smt_sound.proofs.Places.{AreForms, AreTrueIn, AreFrames, IsTrueLeaf}
+use Rattle.gb_smt_sound.proofs.Places.{AreForms, AreTrueIn, IsTrueLeaf}
 
 -- the values of variables are of their types
 has_item : (t : Types) (us : List Ty) (vs : List Value) → AreValues t us vs → (i : ℕ) (u : Ty) → item us i ≡ Some u → has t u (get_or vs i (Num 0)) ≡ true
@@ -129,10 +127,10 @@ module _ (ds : Declarations) (bs : List Bind) (binders : AreBinders (context_of 
         (h T (context vs ms) (start_valid g q ready.variables vs ms ready.held (subst (λ ts. AreValues g.types ts vs) (sym (named_types us)) w))
         (all_assumed i vs ms l.hyps ready.known_forms assumed) (λ simple. ready.conclusion)).1
 
-pub claimed_is_true : (ds : Declarations) (bs : List Bind) → AreBinders (context_of ds) bs → (g : Setting) (es : scope.Declarations) → AreBodies g es → AreOperators g (operators_of es) → (i : Judge) (l : Leaf) →
+pub claimed_is_true : (ds : Declarations) (bs : List Bind) → AreBinders (context_of ds) bs → (g : Setting) (es : scope.Declarations) → AreBodies g es → AreOperators g (operators_of es) → (i : Judge) → IsFair g i → (l : Leaf) →
     Any (Closes es) (claims_of (used_up l)) → IsTrueLeaf (with_modules (context_of ds) bs) g i l
-claimed_is_true ds bs binders g es bodies ops i l closes us fin ns fr fits forms form vs w ms assumed =
+claimed_is_true ds bs binders g es bodies ops i fair l closes us fin ns fr fits forms form vs w ms assumed =
     let b : Context = with_modules (context_of ds) bs in
     let fits_in : IsSettingOf (small b us (map (λ l. Some l) fr.0)) g = subst (λ n. IsSettingOf (small b us n) g) fr.1 fits in
     leaf_true ds bs binders g es bodies us fin fr.0 fits_in l (subst (λ n. IsForm (small b us n) l.conclusion) fr.1 form) (subst (λ n. AreForms (small b us n) l.hyps) fr.1 forms) i
-    (closed_holds es g ops (speaking g i) l closes) vs w ms assumed
+    (closed_holds es g ops (speaking g i) (fair_is_right g i fair) l closes) vs w ms assumed

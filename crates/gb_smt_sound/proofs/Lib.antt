@@ -2,7 +2,9 @@ pub mod Twice
 pub mod Opening
 pub mod Places
 pub mod Split
+pub mod Still
+pub mod Put
+pub mod UsedUp
 pub mod Leaves
 pub mod NoForms
-pub mod Results
 pub mod Sound

@@ -1,23 +1,19 @@
 -- Contexts of parts of a conclusion, in which forms are typed.
-use Rattle.std.proofs.Common.{◌≡◌, ℕ, ◌+◌, Bool, true, false, ◌&&◌, if◌then◌else◌, List, [], ◌∷◌, ◌++◌, map, length, Some, refl, ap, sym, ◌∙◌, subst, arith}
+use Rattle.std.proofs.Common.{◌≡◌, ◌+◌, Bool, true, false, ◌&&◌, if◌then◌else◌, List, [], ◌∷◌, ◌++◌, map, length, Some, refl, ap, sym, ◌∙◌, arith}
 use Rattle.std.specs.List.{AllByRecursion}
 use Rattle.std.proofs.lemmas.Bool.{false≢true}
 use Rattle.std.proofs.lemmas.List.{length-append}
 use Rattle.gb_core.specs.declared.ty.Ty.{Ty}
-use Rattle.gb_core.specs.declared.ty.Ty.TheVariants as ty
 use Rattle.gb_core.specs.declared.value.Value.{Value}
 use Rattle.gb_terms.specs.declared.decl.TypedName.{TypedName}
 use Rattle.gb_terms.specs.declared.op.Op.TheVariants as op
 use Rattle.gb_terms.specs.declared.term.Term.{Term, Term', Row_of-Term, end_of-Term, more_of-Term, end_of-Head, more_of-Head, out-Term}
-use Rattle.gb_terms.specs.declared.term.Head.{Head}
 use Rattle.gb_terms.specs.declared.term.Head.TheVariants as head
-use Rattle.gb_walk.specs.Change.{Changes}
-use Rattle.gb_meaning.specs.Meanings.{of_truth, truth}
+use Rattle.gb_meaning.specs.Meanings.{truth}
 use Rattle.gb_meaning.specs.Memory.{Memory}
 use Rattle.gb_meaning.specs.Setting.{Setting}
 use Rattle.gb_meaning.specs.State.{State}
 use Rattle.gb_meaning.specs.Values.{Types, has}
-use Rattle.gb_meaning.specs.Written.{type_of}
 use Rattle.gb_meaning.specs.Judgments.{Judge, IsFair, speaking, den}
 use Rattle.gb_meaning.specs.Operators.{operated}
 use Rattle.gb_meaning.specs.Terms.{argument, parts}
@@ -31,7 +27,6 @@ use Rattle.gb_typing.specs.Typing.{IsForm, AreTyped}
 use Rattle.gb_typing.specs.Fits.{IsSettingOf}
 use Rattle.gb_smt.specs.declared.leaves.Leaf.{Leaf}
 use Rattle.gb_smt.specs.declared.leaves.Context.{Context as LeafContext}
-use Rattle.gb_smt.specs.Leaves as leaves
 use Rattle.gb_smt.specs.Leaves.{with_variable, with_memory, connective, assumed, all_assumed, assumed_by, unless_true, is_true}
 use Rattle.gb_smt_laws.proofs.Used.{each_together}
 use Rattle.gb_amb.proofs.Wider.{small, more_variable, more_memory, wider}

@@ -1,5 +1,5 @@
 -- `smt` is sound.
-use Rattle.std.proofs.Common.{◌≡◌, ℕ, Bool, true, false, ◌||◌, if◌then◌else◌, ◌⊎◌, inl, inr, List, [], ◌∷◌, ◌++◌, map, length, Some, refl, ap, sym, ◌∙◌, subst}
+use Rattle.std.proofs.Common.{◌≡◌, Bool, true, false, ◌||◌, if◌then◌else◌, inl, inr, List, [], ◌∷◌, ◌++◌, length, map, Some, refl, ap, sym, ◌∙◌, subst}
 use Rattle.std.specs.List.{list_any, flat_map, All, AllByRecursion}
 use Rattle.std.proofs.lemmas.Bool.{false≢true}
 use Rattle.std.proofs.lemmas.List.{length-map}
@@ -9,7 +9,6 @@ use Rattle.gb_core.specs.declared.value.Value.{Value}
 use Rattle.gb_terms.specs.declared.decl.TypedName.{TypedName}
 use Rattle.gb_terms.specs.declared.module.Bind.{Bind}
 use Rattle.gb_terms.specs.declared.term.Term.{Term, out-Term}
-use Rattle.gb_walk.specs.Change.{term_changed}
 use Rattle.gb_goal.specs.Goal.{judges_bodies}
 use Rattle.gb_goal.specs.Scope as scope
 use Rattle.gb_goal.specs.declared.sequent.Hyp.{Hyp}
@@ -51,11 +50,13 @@ use Rattle.gb_smt_laws.proofs.Typed as by_claims
 use Rattle.gb_equality_laws.specs.Alike.{RespectAlike}
 use Rattle.gb_equality_laws.proofs.Respects.{scope_respects}
 use Rattle.gb_smt_sound.proofs.Opening.{opening_start}
-use Rattle.gb_smt_sound.proofs.Places.{AreForms, AreTrueIn, IsTrueLeaf, Place, Given, both_given, assumed_given}
+use Rattle.gb_smt_sound.proofs.Places.{AreForms, IsTrueLeaf, Place, Given, both_given, assumed_given}
 use Rattle.gb_smt_sound.proofs.Split.{split_true}
+use Rattle.gb_smt.specs.Equations.{used_up}
+use Rattle.gb_smt_sound.proofs.UsedUp.{used_true}
 use Rattle.gb_smt_sound.proofs.Leaves.{valid_is_true, claimed_is_true}
 use Rattle.gb_smt_sound.proofs.NoForms.{module_assumed, module_hyps, module_conclusion, judged_conclusion}
-use Rattle.gb_smt_sound.proofs.Results.{HasResults, each_results}
+use Rattle.gb_equality_laws.proofs.Results.{HasResults, each_results}
 
 -- the modules of a goal are no operators
 operators_stay : (bs : List Bind) (c : Context) → (with_modules c bs).operator ≡ c.operator
@@ -158,8 +159,8 @@ module _ (es : scope.Declarations) (typed : IsTypedScope (declared es)) (q : Seq
       }
 
       leaf_true : (known : List Term) → SmtIsReady es g known q → (l : Leaf) → IsClosed es l → IsTrueLeaf b g i l
-      leaf_true known r l (inl e) = valid_is_true b g i l respects e.valid
-      leaf_true known r l (inr c) = claimed_is_true ds q.modules t.modules g es bodies (operators_meant es ds known q k r) i l c
+      leaf_true known r l (inl e) = used_true b g i fair (length l.hyps) l (valid_is_true b g i (used_up l) respects e.valid)
+      leaf_true known r l (inr c) = claimed_is_true ds q.modules t.modules g es bodies (operators_meant es ds known q k r) i fair l c
 
       leaves_true : (known : List Term) → SmtIsReady es g known q → (ls : List Leaf) → All (IsClosed es) ls → AllByRecursion (IsTrueLeaf b g i) ls
       leaves_true known r [] a = tt

@@ -2,7 +2,6 @@
 use Rattle.std.proofs.Common.{◌≡◌, ℕ, zero, suc, Bool, true, false, ◌⊎◌, inl, inr, List, [], ◌∷◌, map, Option, Some, None, refl, ap, sym, ◌∙◌, subst}
 use Rattle.std.specs.Option.{option_map}
 use Rattle.gb_core.specs.declared.ty.Ty.{Ty}
-use Rattle.gb_core.specs.declared.var.Var.{Var}
 use Rattle.gb_terms.specs.declared.op.Side.{Side}
 use Rattle.gb_terms.specs.declared.op.Side.TheVariants as side
 use Rattle.gb_terms.specs.declared.op.Read.{Read}
@@ -14,8 +13,8 @@ use Rattle.gb_terms.specs.declared.term.Head.TheVariants.{Proc, Body'}
 use Rattle.gb_terms.specs.Make.{node}
 use Rattle.gb_walk.specs.Layers.{seen_by}
 use Rattle.gb_walk.specs.Raise.{side_raised, term_raised}
-use Rattle.gb_walk.specs.Change.{Changes, is_own, is_left_or_right, is_read_through, without, under_binder, seen_by_args, seen_by_last, args_changed, put_or, found_for_read, found_for_bound, side_changed, read_changed, term_of, term_changed}
-use Rattle.gb_walk.specs.Change.Made.{Put, Kept}
+use Rattle.gb_walk.specs.Change.{Changes, is_own, is_left_or_right, is_read_through, without, under_binder, args_changed, put_or, found_for_read, found_for_bound, side_changed, read_changed, term_of, term_changed}
+use Rattle.gb_walk.specs.Change.Made.{Kept}
 use Rattle.gb_meaning.specs.Commands.{terms_in}
 use Rattle.gb_meaning.specs.Trees.{places, row}
 use Rattle.gb_laws.proofs.Nodes.{term_is_node}

@@ -7,14 +7,19 @@ use gb_terms::term::{Form, RealTerm, Term, Terms};
 use sqlite_items::Items;
 
 /// A proof step. Its place is its first word, where the refusals of its rule stand.
-#[derive(Drop)]
 pub struct Step {
     pub rule: Rule,
     pub place: Place,
 }
 
+impl Drop for Step {
+    fn drop(self) {
+        let Step { rule, place: _ } = self;
+        drop(rule);
+    }
+}
+
 /// A rule with its arguments, by the crate that has it.
-#[derive(Drop)]
 pub enum Rule {
     OnBodies(BodyRule),
     Relational(RelationalRule),
@@ -26,6 +31,22 @@ pub enum Rule {
     /// The forms are known at the goal, besides its hypotheses.
     Smt(Terms),
     Linear(Multiples),
+}
+
+impl Drop for Rule {
+    fn drop(self) {
+        match self {
+            Rule::OnBodies(rule) => drop(rule),
+            Rule::Relational(rule) => drop(rule),
+            Rule::Chance(_) => {}
+            Rule::Call(contract) => drop(contract),
+            Rule::Ambient(rule) => drop(rule),
+            Rule::Use(rule) => drop(rule),
+            Rule::Rewrite(rule) => drop(rule),
+            Rule::Smt(known) => drop(known),
+            Rule::Linear(multiples) => drop(multiples),
+        }
+    }
 }
 
 /// A hypothesis, by its place in the goal, and the number by which it is multiplied: none where it is no fraction.
@@ -131,6 +152,8 @@ pub enum AmbientRule {
     Branch,
     /// A term in place of the value that an `exists` binds.
     Witness(Term),
+    /// A memory of the goal, by its number, in place of the memory that an `exists` binds.
+    WitnessMemory(u32),
     /// No goals, where the conclusion is closed by its parts and the hypotheses; else the goal stays.
     Trivial,
     /// No goals, where the conclusion is closed by its parts and the hypotheses.
@@ -155,4 +178,6 @@ pub enum RewriteRule {
     Back(Form),
     /// An equation among the hypotheses, by its place in the goal, is used up for a variable.
     Subst(usize),
+    /// An operator is replaced by its body.
+    Unfold(Name),
 }

@@ -10,7 +10,7 @@ use Rattle.gb_goal.specs.declared.sequent.Sequent.{Sequent}
 use Rattle.gb_script.specs.declared.tree.Node.{Node}
 use Rattle.gb_goal.specs.Answers.{Answer, ◌>>=◌, Fails}
 use Rattle.gb_goal.specs.Answers.Answer.{given}
-use Rattle.gb_elab_mod.specs.Lemmas.{statement_given}
+use Rattle.gb_elab_mod.specs.Lemmas.{statement_given, binders_in}
 use Rattle.gb_theory.specs.Limits.{declaration_limit, goal_limit, each_limit, limited}
 use Rattle.gb_theory.specs.Built.{Session, with_lemma}
 use Rattle.gb_theory.specs.Commands.{within, outside, opens}
@@ -21,7 +21,7 @@ abbrev statement_opens : Session → Node → List ℕ → Place → Sequent →
 statement_opens s t name place q = do
   _ ← within (declaration_limit (declarations_in s.scope)) place
   _ ← within (each_limit (q ∷ [])) place
-  given (with_lemma s name q)
+  given (with_lemma s name q (binders_in t))
 
 abbrev lemma_opens : Session → Node → List ℕ → Place → Answer Session
 lemma_opens s t name place = statement_given s.scope t >>= statement_opens s t name place
@@ -39,19 +39,19 @@ or_none (Some n) = refl
 
 opens_given : (s : Session) (t : Node) (name : List ℕ) (place : Place) (q : Sequent) → s.proof ≡ None → statement_given s.scope t ≡ given q
     → Ok tt ≡ limited (declaration_limit (declarations_in s.scope)) place
-    → opens s t name place ≡ (within (goal_limit q) place >>= λ _. given (with_lemma s name q))
+    → opens s t name place ≡ (within (goal_limit q) place >>= λ _. given (with_lemma s name q (binders_in t)))
 opens_given s t name place q none typed room =
     opens_typed s t name place q none typed
-    ∙ then_given (λ _. within (each_limit (q ∷ [])) place >>= λ _. given (with_lemma s name q)) (within (declaration_limit (declarations_in s.scope)) place) tt (within_given (declaration_limit (declarations_in s.scope)) place room)
-    ∙ ap (λ limit. within limit place >>= λ _. given (with_lemma s name q)) (or_none (goal_limit q))
+    ∙ then_given (λ _. within (each_limit (q ∷ [])) place >>= λ _. given (with_lemma s name q (binders_in t))) (within (declaration_limit (declarations_in s.scope)) place) tt (within_given (declaration_limit (declarations_in s.scope)) place room)
+    ∙ ap (λ limit. within limit place >>= λ _. given (with_lemma s name q (binders_in t))) (or_none (goal_limit q))
 
 -- the proof is open, where the statement is typed and no limit is passed
 pub opens_done : (s : Session) (t : Node) (name : List ℕ) (place : Place) (q : Sequent) → s.proof ≡ None → statement_given s.scope t ≡ given q
     → Ok tt ≡ limited (declaration_limit (declarations_in s.scope)) place → Ok tt ≡ limited (goal_limit q) place
-    → opens s t name place ≡ given (with_lemma s name q)
+    → opens s t name place ≡ given (with_lemma s name q (binders_in t))
 opens_done s t name place q none typed room small =
     opens_given s t name place q none typed room
-    ∙ then_given (λ _. given (with_lemma s name q)) (within (goal_limit q) place) tt (within_given (goal_limit q) place small)
+    ∙ then_given (λ _. given (with_lemma s name q (binders_in t))) (within (goal_limit q) place) tt (within_given (goal_limit q) place small)
 
 -- what goes on from a limit that is passed
 limit_fails : {X : Type 0} (limit : Option ℕ) (place : Place) (e : Refused) (f : Unit {0} → Answer X) → Err e ≡ limited limit place → Fails (within limit place >>= f) e
@@ -66,4 +66,4 @@ pub opens_fails : (s : Session) (t : Node) (name : List ℕ) (place : Place) (q 
     → Fails (opens s t name place) e
 opens_fails s t name place q e none typed room large =
     subst (λ a. Fails a e) (sym (opens_given s t name place q none typed room))
-    (limit_fails (goal_limit q) place e (λ _. given (with_lemma s name q)) large)
+    (limit_fails (goal_limit q) place e (λ _. given (with_lemma s name q (binders_in t))) large)

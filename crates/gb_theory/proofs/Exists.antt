@@ -66,7 +66,7 @@ module _
   applied ds (rule.Ambient r) place q = some_answer r place q
   applied ds (rule.Linear ms) place q = (linear_answer ms place q, refl)
   applied ds (rule.Use r) place q = some_use_answer r place q
-  applied ds (rule.Rewrite r) place q = (rewrite_answer r place q, refl)
+  applied ds (rule.Rewrite r) place q = (rewrite_answer ds r place q, refl)
 
   rule_answers : (ds : Declarations) (t : Node) (q : Sequent) → Some_of (RuleAnswers ds t q)
   rule_answers ds t q =

@@ -95,10 +95,10 @@ linear_meets ds r ms place q result is h =
 
 -- what a rule that puts equals for equals gives is what is applied
 pub rewrite_meets : (ds : Declarations) (r : Rule) (b : RewriteRule) (place : Place) (q : Sequent) (result : Result (List Sequent) Refused)
-    → r ≡ rule.Rewrite b → Answers (rewrite_answer b place q) result → Meets (λ (x : List Sequent). x) (Applied ds r place q) result
+    → r ≡ rule.Rewrite b → Answers (rewrite_answer ds b place q) result → Meets (λ (x : List Sequent). x) (Applied ds r place q) result
 rewrite_meets ds r b place q result is h =
     subst (λ x. Meets (λ (y : List Sequent). y) (Applied ds x place q) result) (sym is)
-    (gives_meets (λ (x : List Sequent). x) (Applied ds (rule.Rewrite b) place q) (rewrite_answer b place q) result h (λ x e. e))
+    (gives_meets (λ (x : List Sequent). x) (Applied ds (rule.Rewrite b) place q) (rewrite_answer ds b place q) result h (λ x e. e))
 
 -- what goes on from an answer that is given
 after_given : {X Y : Type 0} (P : X → Answer Y → Type 0) (a : Answer X) (x : X) (r : Answer Y) → a ≡ given x → P x r → After a P r

@@ -15,13 +15,13 @@ use Rattle.gb_goal.specs.Answers.{Answer, ◌>>=◌, not_built, placed_at}
 use Rattle.gb_goal.specs.Answers.Answer.{given, refused}
 use Rattle.gb_elab_prog.specs.Entries.{entries_given}
 use Rattle.gb_elab_prog.specs.Modules.{module_given}
-use Rattle.gb_elab_mod.specs.Lemmas.{statement_given}
+use Rattle.gb_elab_mod.specs.Lemmas.{statement_given, binders_in}
 use Rattle.gb_elab_mod.specs.Steps.{step_given}
 use Rattle.gb_goal.specs.Rows.{Row, refusing, stepped}
 use Rattle.gb_bodies.specs.Rows as bodies
 use Rattle.gb_equiv.specs.Rows as equiv
 use Rattle.gb_phoare.specs.Rows as chances
-use Rattle.gb_call.specs.Rows as calls
+use Rattle.gb_call_both.specs.Rows as calls
 use Rattle.gb_smt.specs.Leaves.{leaves_of}
 use Rattle.gb_smt.specs.Apply.{IsAnswerOf}
 use Rattle.gb_amb.specs.Steps as conclusions
@@ -98,7 +98,7 @@ opens s t name place = do
   q ← statement_given s.scope t
   _ ← within (declaration_limit (declarations_in s.scope)) place
   _ ← within (each_limit (q ∷ [])) place
-  given (with_lemma s name q)
+  given (with_lemma s name q (binders_in t))
 
 -- `proof` follows its lemma at once
 abbrev pub begun : Session → OpenProof → Place → Answer Session
@@ -129,7 +129,7 @@ Applied ds (rule.Smt known) place q x = (found : Option Why) × IsAnswerOf ds (l
 Applied ds (rule.Ambient r) place q x = conclusions.IsAnswer r place q x
 Applied ds (rule.Linear ms) place q x = x ≡ linear_answer ms place q
 Applied ds (rule.Use r) place q x = uses.IsAnswer r place q x
-Applied ds (rule.Rewrite r) place q x = x ≡ rewrite_answer r place q
+Applied ds (rule.Rewrite r) place q x = x ≡ rewrite_answer ds r place q
 Applied ds r place q x = x ≡ stepped (row_of ds r) place q
 
 -- What a rule of a text answers at a goal, with its arguments typed there: its subgoals, each within the limits of a goal.

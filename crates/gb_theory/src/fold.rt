@@ -18,7 +18,7 @@ use crate::tactics::work_on_one;
 use gb_core::name::{Name, Names};
 use gb_core::place::Place;
 use gb_core::refusal::{Refused, Why};
-use gb_goal::scope::{Entry, Scope};
+use gb_goal::scope::{Binders, Entry, Scope};
 use gb_goal::sequent::{Sequent, Sequents};
 use gb_script::head::Head;
 use gb_script::tree::Node;
@@ -190,21 +190,28 @@ fn open_lemma(
     let statement = gb_elab_mod::lemma::statement(alloc, &state.scope, tree)?;
     check_declarations(&state.scope, place)?;
     check_goal(&statement, place)?;
-    let proof = opened(alloc, name, statement)?;
+    let binders = gb_elab_mod::binders::binders(alloc, tree)?;
+    let proof = opened(alloc, name, statement, binders)?;
     state.proof = Some(proof);
     Ok(())
 }
 
 /// The proof of a lemma before its first step.
-fn opened(alloc: Global, name: &Name, statement: Sequent) -> Result<OpenProof, AllocError>
+fn opened(
+    alloc: Global,
+    name: &Name,
+    statement: Sequent,
+    binders: Binders,
+) -> Result<OpenProof, AllocError>
     ensures { IfOk result
-        (λ p. p ≡ record { name = name.now; statement = statement; goals = statement ∷ []; fresh = true }) }
+        (λ p. p ≡ record { name = name.now; statement = statement; binders = binders; goals = statement ∷ []; fresh = true }) }
 {
     let goals = one_goal(alloc, &statement)?;
     let name = name.copy(alloc)?;
     Ok(OpenProof {
         name,
         statement,
+        binders,
         goals,
         fresh: true,
     })
@@ -260,17 +267,18 @@ fn bring_in(
     proof: OpenProof,
 ) -> Result<(), AllocError>
     requires { entry_of scope.old proof.name ≡ None }
-    ensures declared { OnOk result (scope.new ≡ scope.old ++ (proof.name, Entry.Lemma proof.statement) ∷ []) }
+    ensures declared { OnOk result (scope.new ≡ scope.old ++ (proof.name, Entry.Lemma proof.statement proof.binders) ∷ []) }
     ensures listed { OnOk result (lemmas.new ≡ lemmas.old ++ proof.name ∷ []) }
 {
     let OpenProof {
         name,
         statement,
+        binders,
         ..
     } = proof;
     let listed = name.copy(alloc)?;
     lemmas.push(listed)?;
-    scope.declare_lemma(alloc, name, statement)
+    scope.declare_lemma(alloc, name, statement, binders)
 }
 
 /// A tactic works on the first goal, and puts what is left of it in front of the others. Where it is refused the proof stays as
@@ -302,6 +310,7 @@ fn stepped(proof: OpenProof, next: Sequents) -> Result<OpenProof, AllocError>
     let OpenProof {
         name,
         statement,
+        binders,
         mut goals,
         ..
     } = proof;
@@ -309,6 +318,7 @@ fn stepped(proof: OpenProof, next: Sequents) -> Result<OpenProof, AllocError>
     Ok(OpenProof {
         name,
         statement,
+        binders,
         goals,
         fresh: false,
     })

@@ -4,18 +4,19 @@ ghost use Rattle.std.specs.Prelude.{◌≡◌, [], true, take, IfOk};
 ghost use Rattle.gb_theory.specs.Opened.{is_undeclared};
 
 use gb_core::name::{Name, Names};
-use gb_goal::scope::Scope;
+use gb_goal::scope::{Binders, Scope};
 use gb_goal::sequent::Sequent;
 use gb_steps::goals::Goals;
 use sqlite_items::Items;
 use std::alloc::{AllocError, Global};
 
-/// A lemma whose proof is open: what it states, the goals that are left, the first one first, and whether the word
+/// A lemma whose proof is open: what it states, what its binders bind, the goals that are left, the first one first, and whether the word
 /// `proof` may still follow.
 #[derive(Drop)]
 pub struct OpenProof {
     pub name: Name,
     pub statement: Sequent,
+    pub binders: Binders,
     pub goals: Goals,
     pub fresh: bool,
 }
@@ -43,10 +44,12 @@ impl OpenProof {
     {
         let name = self.name.copy(alloc)?;
         let statement = self.statement.share()?;
+        let binders = self.binders.share()?;
         let goals = shared(alloc, &self.goals)?;
         Ok(OpenProof {
             name,
             statement,
+            binders,
             goals,
             fresh: self.fresh,
         })

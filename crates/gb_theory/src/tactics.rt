@@ -38,10 +38,10 @@ fn apply(alloc: Global, step: &Step, goal: &Sequent, scope: &Scope) -> Result<Se
         Rule::OnBodies(_) => gb_bodies::apply::apply(alloc, step, goal, scope),
         Rule::Relational(_) => gb_equiv::apply(alloc, step, goal, scope),
         Rule::Chance(_) => gb_phoare::apply::apply(alloc, step, goal, scope),
-        Rule::Call(_) => gb_call::apply::apply(alloc, step, goal, scope),
+        Rule::Call(_) => gb_call_both::apply::apply(alloc, step, goal, scope),
         Rule::Ambient(rule) => gb_amb::apply::apply(alloc, rule, step.place, goal),
         Rule::Use(rule) => gb_use::apply::apply(alloc, rule, step.place, goal),
-        Rule::Rewrite(rule) => gb_rewrite::goals::apply(alloc, rule, step.place, goal),
+        Rule::Rewrite(rule) => gb_rewrite::goals::apply(alloc, rule, step.place, goal, scope),
         Rule::Smt(known) => gb_smt::apply::apply(alloc, known.as_slice(), step.place, goal, scope),
         Rule::Linear(multiples) => {
             gb_linear::apply::apply(alloc, multiples.as_slice(), step.place, goal)

@@ -95,7 +95,7 @@ other_name before k n e f = step (bytes_eq k n) refl
 fresh_later : (ds : scope.Declarations) (before : Declarations) (c : Context) → AreTypedAfter c before (declared ds) → (k : Name) → is_declared before k ≡ true → IsFresh (declared ds) k
 fresh_later [] before c w k e = tt
 fresh_later ((n, entry.Module m) ∷ ds) before c w k e = (other_name before k n e w.0, fresh_later ds _ _ w.2 k (declared_more before _ k e))
-fresh_later ((n, entry.Lemma q) ∷ ds) before c w k e = (other_name before k n e w.0, fresh_later ds _ _ w.2 k (declared_more before _ k e))
+fresh_later ((n, entry.Lemma q order) ∷ ds) before c w k e = (other_name before k n e w.0, fresh_later ds _ _ w.2 k (declared_more before _ k e))
 fresh_later ((n, entry.Type t) ∷ ds) before c w k e = (other_name before k n e w.0, fresh_later ds _ _ w.2 k (declared_more before _ k e))
 fresh_later ((n, entry.AbstractType) ∷ ds) before c w k e = (other_name before k n e w.0, fresh_later ds _ _ w.2 k (declared_more before _ k e))
 fresh_later ((n, entry.Constant a) ∷ ds) before c w k e = (other_name before k n e w.0, fresh_later ds _ _ w.2 k (declared_more before _ k e))
@@ -133,7 +133,7 @@ module _ (cs : List Chosen) where
           chosen_under cs k ≡ None
       step k i true q e = ap (chosen_under cs) (same_name k n q) ∙ u.0
       step k i false q e = h k i e
-  hidden ((n, entry.Lemma q) ∷ ds) c u h = hidden ds c u h
+  hidden ((n, entry.Lemma q order) ∷ ds) c u h = hidden ds c u h
   hidden ((n, entry.Type t) ∷ ds) c u h = hidden ds c u h
   hidden ((n, entry.AbstractType) ∷ ds) c u h = hidden ds c u h
   hidden ((n, entry.Constant a) ∷ ds) c u h = hidden ds c u h

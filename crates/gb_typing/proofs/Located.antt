@@ -106,7 +106,7 @@ first_located ds before c n f p (entry.Module m) w k r = record {
   whole = refl;
   procedure = plain_procedure m.params m.procs f p (parameterless c n m w.1 k.plain) r;
 }
-first_located ds before c n f p (entry.Lemma q) w k r = none_some p r
+first_located ds before c n f p (entry.Lemma q order) w k r = none_some p r
 first_located ds before c n f p (entry.Type t) w k r = none_some p r
 first_located ds before c n f p entry.AbstractType w k r = none_some p r
 first_located ds before c n f p (entry.Constant a) w k r = none_some p r
@@ -142,9 +142,9 @@ located ((h, entry.Module m) ∷ ds) before c w k n f p r =
     here_or_later h (entry.Module m) ds before c w k n f p
     (λ r. later_located (h, entry.Module m) ds c (with_declared c h (concrete_module m)) refl n f p
     (located ds (before ++ (h, concrete_module m) ∷ []) (with_declared c h (concrete_module m)) w.2 (known_next c h m w.1 before k) n f p r)) (bytes_eq n h) refl r
-located ((h, entry.Lemma z) ∷ ds) before c w k n f p r =
-    here_or_later h (entry.Lemma z) ds before c w k n f p
-    (λ r. later_located (h, entry.Lemma z) ds c c refl n f p (located ds (before ++ (h, lemma z) ∷ []) c w.2 (known_same c before h (lemma z) k) n f p r)) (bytes_eq n h) refl r
+located ((h, entry.Lemma z order) ∷ ds) before c w k n f p r =
+    here_or_later h (entry.Lemma z order) ds before c w k n f p
+    (λ r. later_located (h, entry.Lemma z order) ds c c refl n f p (located ds (before ++ (h, lemma z) ∷ []) c w.2 (known_same c before h (lemma z) k) n f p r)) (bytes_eq n h) refl r
 located ((h, entry.Type z) ∷ ds) before c w k n f p r =
     here_or_later h (entry.Type z) ds before c w k n f p
     (λ r. later_located (h, entry.Type z) ds c c refl n f p (located ds (before ++ (h, declaration_of (entry.Type z)) ∷ []) c w.2 (known_same c before h _ k) n f p r)) (bytes_eq n h) refl r

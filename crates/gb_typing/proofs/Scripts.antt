@@ -237,7 +237,7 @@ grown ((n, entry.Module m) ∷ ds) before c w k =
     let d : Context = with_declared c n (concrete_module m) in
     let x = grown ds (before ++ (n, concrete_module m) ∷ []) d w.2 (known_next c n m w.1 before k) in
     (grows_on c d (with_each d (declared ds)) (grows_next c n m w.1 before k w.0) x.0, x.1)
-grown ((n, entry.Lemma q) ∷ ds) before c w k = grown ds _ c w.2 (known_same c before n _ k)
+grown ((n, entry.Lemma q order) ∷ ds) before c w k = grown ds _ c w.2 (known_same c before n _ k)
 grown ((n, entry.Type t) ∷ ds) before c w k = grown ds _ c w.2 (known_same c before n _ k)
 grown ((n, entry.AbstractType) ∷ ds) before c w k = grown ds _ c w.2 (known_same c before n _ k)
 grown ((n, entry.Constant a) ∷ ds) before c w k = grown ds _ c w.2 (known_same c before n _ k)

@@ -1,6 +1,10 @@
+pub mod Anywhere
+pub mod EachMemory
+pub mod EachValue
+pub mod Binders
 pub mod Foralls
+pub mod ForallMemories
 pub mod Instances
-pub mod Lemmas
 pub mod Premises
 pub mod Shapes
 pub mod Sound

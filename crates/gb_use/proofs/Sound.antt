@@ -1,5 +1,5 @@
 -- Steps that use a form are sound, and each has one answer.
-use Rattle.std.proofs.Common.{◌≡◌, inl, inr, true, false, ℕ, List, [], ◌∷◌, ◌++◌, map, Some, refl, ap, sym, ◌∙◌, subst}
+use Rattle.std.proofs.Common.{◌≡◌, inl, inr, true, false, ℕ, List, [], ◌∷◌, ◌++◌, map, Some, None, refl, ap, sym, ◌∙◌, subst, arith}
 use Rattle.std.specs.List.{AllByRecursion}
 use Rattle.gb_core.specs.declared.place.Place.{Place}
 use Rattle.gb_core.specs.declared.refusal.Why.TheVariants.{Shape}
@@ -12,6 +12,7 @@ use Rattle.gb_goal.specs.declared.sequent.Hyp.{Hyp}
 use Rattle.gb_goal.specs.declared.sequent.Sequent.{Sequent}
 use Rattle.gb_steps.specs.declared.step.UseRule.{UseRule}
 use Rattle.gb_steps.specs.declared.step.UseRule.TheVariants.{Apply, Have}
+use Rattle.gb_meaning.specs.Setting.{Setting}
 use Rattle.gb_meaning.specs.State.{State}
 use Rattle.gb_meaning.specs.Judgments.{Judge, IsFair, IsTrueIn, den}
 use Rattle.gb_holds.specs.Declared.{Declarations}
@@ -36,12 +37,14 @@ use Rattle.gb_amb.specs.Closed.{IsAmong}
 use Rattle.gb_amb.specs.Steps.{assuming, LeadTo}
 use Rattle.gb_amb.proofs.Around.{Part, here, placed, IsTypedPart, IsTruePart, parts_lead_by}
 use Rattle.gb_amb.proofs.Cases.{form_formula}
-use Rattle.gb_amb.proofs.Wider.{small}
+use Rattle.gb_amb.proofs.Wider.{small, wider}
+use Rattle.gb_meaning.specs.Meanings.{truth}
 use Rattle.gb_use.specs.Instances.{IsInstance, Says}
-use Rattle.gb_use.specs.Lemmas.{AreArguments, IsKnown, IsLemmaInstance, IsOfValues, LemmasHold, said_by}
+use Rattle.gb_use.specs.Lemmas.{IsKnown, IsLemmaInstance, IsOfStates, LemmasHold, generalized}
 use Rattle.gb_use.specs.Uses.{ArePremises, IsByPremises, IsAnswer, IsTypedStep}
+use Rattle.gb_use.proofs.Anywhere.{same_anywhere}
+use Rattle.gb_use.proofs.Binders.{IsTrueForAll, binders_true, binders_typed, framed}
 use Rattle.gb_use.proofs.Instances.{says_true}
-use Rattle.gb_use.proofs.Lemmas.{said_true, said_typed, values, values_stand}
 use Rattle.gb_use.proofs.Premises.{premises_typed, premises_used, some_by_premises, one_by_premises}
 
 form_conclusion : (c : Context) (f : Term) → IsForm c f → IsConclusion c f
@@ -53,6 +56,9 @@ form_front c f w = goal_front c [] [] (ambient f) w
 formulas_with : (c : Context) (hs : List Hyp) (name : List ℕ) (f : Term) → AreFormulas c hs → IsForm c f → AreFormulas c (hs ++ record { name = name; form = f } ∷ [])
 formulas_with c [] name f w v = (form_formula c f v, tt)
 formulas_with c (x ∷ hs) name f w v = (w.0, formulas_with c hs name f w.1 v)
+
+none_some : {X : Type 0} (t : Ty) → None ≡ Some t → X
+none_some t e = cc
 
 module _ (ds : Declarations) (k : Interpretation) (s : State) where
   hypothesis_true : (hs : List Hyp) (f : Term) → IsAmong hs f → AreTrue ds hs k s → Truth ds f k s
@@ -101,17 +107,17 @@ module _ (ds : Declarations) (scope : IsTypedScope ds) (q : Sequent) (t : IsType
     always = anyhow;
     true_in = λ k y fits vs ms fit h j fair.
         let g = setting ds k in
-        subst (λ d. Says d x.known x.terms f → IsForm d x.known → IsSettingOf d g → IsStateOf d g (context vs ms) → den g j f (context vs ms) ≡ true) (sym here_small)
-        (λ says form fits fit. says_true base us ns g fits j fair (context vs ms) fit x.terms x.known f says form
+        subst (λ d. Says d x.known x.arguments f → IsForm d x.known → IsSettingOf d g → IsStateOf d g (context vs ms) → den g j f (context vs ms) ≡ true) (sym here_small)
+        (λ says form fits fit. says_true base us ns g fits j fair (context vs ms) fit x.arguments x.known f says form
         ((without_modules ds x.known k (context vs ms) (form_front c x.known x.form)).0 (hypothesis_true ds k (context vs ms) q.hyps x.known x.among h) j fair))
         x.says x.form fits fit;
   }
 
-  -- a lemma about values says so for all values
+  -- a lemma says so for all values and memories
   abbrev OfLemma : Sequent → Interpretation → Type 0
   OfLemma s k = (vs : List Value) → AreValues (types_of ds k) (map (λ x. x.ty) s.logical) vs → (ms : List Memory) → Truth ds s.conclusion k (context vs ms)
 
-  lemma_always : (s : Sequent) → IsOfValues ds s → q.modules ≡ [] → Holds ds s → InEachSequent ds q (OfLemma s)
+  lemma_always : (s : Sequent) → IsOfStates ds s → q.modules ≡ [] → Holds ds s → InEachSequent ds q (OfLemma s)
   lemma_always s o alone h =
       subst (λ bs. InEachModel ds (λ i. EachProgram ds bs i (OfLemma s))) (o.modules ∙ sym alone)
       (joined ds s (λ k. (vs : List Value) → AreValues (types_of ds k) (map (λ x. x.ty) s.logical) vs → (ms : List Memory) → AreTrue ds s.hyps k (context vs ms) → Truth ds s.conclusion k (context vs ms))
@@ -119,31 +125,38 @@ module _ (ds : Declarations) (scope : IsTypedScope ds) (q : Sequent) (t : IsType
       (λ w size table m. each ds (declared_modules ds) (interpretation w size table) _ (λ i. each ds s.modules i (λ k. Unit {0}) (λ k. tt))))
 
   -- where it is stated, and where it is used
-  there_small : (s : Sequent) → IsOfValues ds s → q.modules ≡ [] → of_sequent (context_of ds) s [] ≡ small base (map (λ x. x.ty) s.logical) []
-  there_small s o alone = sequent_outermost ds s [] ∙ ap (λ bs. small (with_modules (context_of ds) bs) (map (λ x. x.ty) s.logical) []) (o.modules ∙ sym alone)
+  there_small : (s : Sequent) (o : IsOfStates ds s) → q.modules ≡ [] → of_sequent (context_of ds) s o.frames ≡ small base (map (λ x. x.ty) s.logical) (framed o.frames)
+  there_small s o alone = sequent_outermost ds s o.frames ∙ ap (λ bs. small (with_modules (context_of ds) bs) (map (λ x. x.ty) s.logical) (framed o.frames)) (o.modules ∙ sym alone)
 
-  -- what a lemma says of terms is true
+  fits_none : (g : Setting) → IsSettingOf (small base us ns) g → IsSettingOf (small base [] []) g
+  fits_none g fits = record { types = record { inhabited = fits.types.inhabited; operators = fits.types.operators; distributions = fits.types.distributions }; once = fits.once; procedures = fits.procedures }
+
+  -- a form about no variables and memories is one of the goal
+  used_anywhere : (f : Term) → IsForm (small base [] []) f → IsForm (small base us ns) f
+  used_anywhere f w = wider base [] [] us ns (record { variables = λ i t e. none_some t e; memories = λ i w. absurd (omega (arith, w)) }) f w
+
+  -- What a lemma says of its arguments is true: it says it of all values and memories.
   lemma_known : LemmasHold ds → (f : Term) → IsLemmaInstance ds q c f → Known f
   lemma_known holds f x =
       let s = x.lemma in
       let o = x.stated in
       let xs = map (λ (v : TypedName). v.ty) s.logical in
-      let stated : IsForm (small base xs []) s.conclusion = subst (λ d. IsForm d s.conclusion) (there_small s o x.alone) o.conclusion in
+      let form : IsForm (small base xs (framed o.frames)) s.conclusion = subst (λ d. IsForm d s.conclusion) (there_small s o x.alone) o.conclusion in
+      let closed : IsForm (small base [] []) (generalized x.binders s) = binders_typed base x.binders [] xs [] o.frames x.all o.values s.conclusion form in
       record {
         Fact = OfLemma s;
         always = lemma_always s o x.alone (holds s x.among);
         true_in = λ k y fits vs ms fit h j fair.
             let g = setting ds k in
-            subst (λ d. AreArguments d xs x.terms → Says d (said_by s x.terms) x.more f → IsSettingOf d g → IsStateOf d g (context vs ms) → den g j f (context vs ms) ≡ true) (sym here_small)
-            (λ w says fits fit.
-            let form = said_typed base us ns xs x.terms w s.conclusion stated in
-            let meant = values base us ns xs x.terms w o.values g fits j fair vs ms fit in
-            let stand = values_stand base us ns xs x.terms w o.values g fits j fair vs ms fit in
-            says_true base us ns g fits j fair (context vs ms) fit x.more (said_by s x.terms) f says form
-            (said_true base us ns xs x.terms w o.values g fits j fair vs ms fit s.conclusion stated
-            ((without_modules ds s.conclusion k (context meant ms) (form_front (small base xs []) s.conclusion stated)).0
-            (y meant (subst (λ t. AreValues t xs meant) (setting-types ds k) stand) ms) j fair)))
-            x.arguments x.says fits fit;
+            subst (λ d. Says d (generalized x.binders s) x.arguments f → IsSettingOf d g → IsStateOf d g (context vs ms) → den g j f (context vs ms) ≡ true) (sym here_small)
+            (λ says fits fit.
+            let all : IsTrueForAll base g (fits_none g fits) j fair [] (generalized x.binders s) =
+            binders_true base g (fits_none g fits) j fair x.binders [] xs [] o.frames x.all o.values s.conclusion form
+            (λ vs w ms. (without_modules ds s.conclusion k (context vs ms) (form_front (small base xs (framed o.frames)) s.conclusion form)).0
+            (y vs (subst (λ t. AreValues t xs vs) (setting-types ds k) w) ms) j fair) in
+            says_true base us ns g fits j fair (context vs ms) fit x.arguments (generalized x.binders s) f says (used_anywhere (generalized x.binders s) closed)
+            (ap truth (same_anywhere (small base [] []) g (fits_none g fits) j fair (generalized x.binders s) closed.typed (λ i. refl) vs ms) ∙ all [] tt ms))
+            x.says fits fit;
       }
 
   known_by : LemmasHold ds → (f : Term) → IsKnown ds q c f → Known f

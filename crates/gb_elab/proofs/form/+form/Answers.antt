@@ -15,7 +15,8 @@ use Rattle.gb_names.proofs.Answers.{answers_as, fails_as, refuses_as}
 use Rattle.gb_names.proofs.Parts.{four, left, three, two}
 use Rattle.gb_operators.specs.Rules.{made}
 use Rattle.gb_elab.specs.Forms.{applied, bounded, contract, contracting, equivalence, from_right, function_typing, operation, typing, with_meanings, listed, probability}
-use Rattle.gb_elab.proofs.Arms.{name_is, path_is, number_is, unit_is, bracketed_is, sided_is, coin_is, function_is, typed_is, tuple_is, component_is, branches_is, get_is, set_is, product_is, uniform_is, weights_is, apply_is, equalities_is, quantified_is, equiv_is, equivalence_is, hoare_is, phoare_is, bounded_is, bounded_is_by, lossless_is, contract_is, other_contract, other_form, probability_is}
+use Rattle.gb_elab.specs.Globs.{whole_alone}
+use Rattle.gb_elab.proofs.Arms.{name_is, compared_is, glob_is, path_is, number_is, unit_is, bracketed_is, sided_is, coin_is, function_is, typed_is, tuple_is, component_is, branches_is, get_is, set_is, product_is, uniform_is, weights_is, apply_is, equalities_is, quantified_is, equiv_is, equivalence_is, hoare_is, phoare_is, bounded_is, bounded_is_by, lossless_is, contract_is, other_contract, other_form, probability_is}
 use Rattle.gb_elab.proofs.Functions as functions
 use Rattle.gb_elab.proofs.Called.{call_is, list_is, no_list, other_call, probability_is_by}
 use Rattle.gb_elab.proofs.Elaborated.{arguments_of_is, contract_of_is, elaborated_is, function_of_is}
@@ -107,6 +108,18 @@ pub typing-returns-in-Equalities : goal.typing-returns-in-Equalities
 typing-returns-in-Equalities t c =
     answers_as _ _ c.equalities.result (equalities_is c.args.head c.args.text.now c.args.parts.now c.args.place (environment c.args.at.now) c.args.bound.now (option_copied c.args.want) c.in-Equalities.is) (c.equalities.ensures)
 
+pub typing-returns-in-Glob : goal.typing-returns-in-Glob
+typing-returns-in-Glob t c =
+    let at = environment c.args.at.now in
+    answers_as _ _ c.whole_alone.result
+    (glob_is c.args.head c.args.text.now c.args.parts.now c.args.place at c.args.bound.now (option_copied c.args.want) c.in-Glob.is
+    ∙ ap (λ r. whole_alone at c.args.bound.now r c.args.place) (sym c.bare_glob.ensures))
+    c.whole_alone.ensures
+
+pub typing-returns-in-Compared : goal.typing-returns-in-Compared
+typing-returns-in-Compared t c =
+    answers_as _ _ c.compared.result (compared_is c.args.head c.args.text.now c.args.parts.now c.args.place (environment c.args.at.now) c.args.bound.now (option_copied c.args.want) c.in-Compared.is) (c.compared.ensures)
+
 pub typing-returns-in-Quantified : goal.typing-returns-in-Quantified
 typing-returns-in-Quantified t c =
     answers_as _ _ c.quantified.result (quantified_is c.args.head c.args.text.now c.args.parts.now c.args.place (environment c.args.at.now) c.args.bound.now (option_copied c.args.want) c.in-Quantified.is) (c.quantified.ensures)
@@ -139,7 +152,7 @@ pub typing-returns-in_default : goal.typing-returns-in_default
 typing-returns-in_default t c =
     let n = c.in_default in
     answers_as _ _ c.operation.result
-    (other_form c.args.head c.args.text.now (with_meanings c.args.parts.now) c.args.place (environment c.args.at.now) c.args.bound.now (option_copied c.args.want) n.not-Name n.not-Path n.not-Number n.not-Unit n.not-Bracketed n.not-Sided n.not-Coin n.not-Function n.not-TypedFunction n.not-Typed n.not-Tuple n.not-Component n.not-Conditional n.not-Chosen n.not-Get n.not-Set n.not-PowerProduct n.not-Uniform n.not-Weights n.not-Apply n.not-Equalities n.not-Quantified n.not-Equiv n.not-Hoare n.not-Phoare n.not-Bounded n.not-Lossless n.not-Probability
+    (other_form c.args.head c.args.text.now (with_meanings c.args.parts.now) c.args.place (environment c.args.at.now) c.args.bound.now (option_copied c.args.want) n.not-Name n.not-Path n.not-Number n.not-Unit n.not-Bracketed n.not-Sided n.not-Coin n.not-Function n.not-TypedFunction n.not-Typed n.not-Tuple n.not-Component n.not-Conditional n.not-Chosen n.not-Get n.not-Set n.not-PowerProduct n.not-Uniform n.not-Weights n.not-Apply n.not-Equalities n.not-Glob n.not-Compared n.not-Quantified n.not-Equiv n.not-Hoare n.not-Phoare n.not-Bounded n.not-Lossless n.not-Probability
     ∙ ap (λ o. operation o (with_meanings c.args.parts.now) c.args.place (environment c.args.at.now) c.args.bound.now (option_copied c.args.want)) (sym c.operator_of.ensures))
     c.operation.ensures
 

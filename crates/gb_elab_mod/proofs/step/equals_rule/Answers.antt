@@ -11,14 +11,17 @@ use Rattle.gb_elab_mod.proofs.step.equals_rule.Goals as goal
 
 -- what puts no equals for equals is a pattern
 other : (ds : Declarations) (q : Sequent) (k : Kind) (x : List ℕ) (ps : List Node) (p : Place) → (k ≡ text.RewriteLemma → ⊥) → (k ≡ text.RewriteBack → ⊥) → (k ≡ text.RewriteHypothesis → ⊥) → (k ≡ text.Subst → ⊥) →
+    (k ≡ text.RewriteOperator → ⊥) →
     equals_rule ds q k x ps p ≡ pattern k x ps p
-other ds q text.RewriteLemma x ps p a b c d = absurd (a refl)
-other ds q text.RewriteBack x ps p a b c d = absurd (b refl)
-other ds q text.RewriteHypothesis x ps p a b c d = absurd (c refl)
-other ds q text.Subst x ps p a b c d = absurd (d refl)
-other ds q _ x ps p a b c d = refl
+other ds q text.RewriteLemma x ps p a b c d e = absurd (a refl)
+other ds q text.RewriteBack x ps p a b c d e = absurd (b refl)
+other ds q text.RewriteHypothesis x ps p a b c d e = absurd (c refl)
+other ds q text.Subst x ps p a b c d e = absurd (d refl)
+other ds q text.RewriteOperator x ps p a b c d e = absurd (e refl)
+other ds q _ x ps p a b c d e = refl
 
 pub returns-in_default : goal.returns-in_default
 returns-in_default c =
     subst (λ r. Answers r c.pattern.result)
-    (sym (other c.args.scope.now c.args.goal.now c.args.head c.args.text.now c.args.parts.now c.args.place c.in_default.not-RewriteLemma c.in_default.not-RewriteBack c.in_default.not-RewriteHypothesis c.in_default.not-Subst)) c.pattern.ensures
+    (sym (other c.args.scope.now c.args.goal.now c.args.head c.args.text.now c.args.parts.now c.args.place c.in_default.not-RewriteLemma c.in_default.not-RewriteBack c.in_default.not-RewriteHypothesis c.in_default.not-Subst
+    c.in_default.not-RewriteOperator)) c.pattern.ensures

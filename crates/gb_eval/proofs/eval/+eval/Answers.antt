@@ -7,12 +7,15 @@ use Rattle.gb_eval.specs.Findings.{◌>>=◌, fraction_in, shown, shown_table, S
 use Rattle.gb_eval.specs.Findings.Finding.{value}
 use Rattle.gb_eval.specs.Findings.Comes.{found}
 use Rattle.gb_eval.specs.declared.env.Bound.TheVariants as to
-use Rattle.gb_eval.specs.Eval.{environment, eval, image_of, narrowed, next_sum, part_of, quantified, summed, truth_at, value_bound, value_of, weighed, weighted}
+use Rattle.gb_types.specs.Numbering.{parts_of}
+use Rattle.gb_types.specs.Types.{card_of, value_at}
+use Rattle.gb_reads.specs.Held.{with_values}
+use Rattle.gb_eval.specs.Eval.{environment, eval, image_of, in_memories, narrowed, next_sum, part_of, quantified, summed, truth_at, value_bound, value_of, weighed, weighted}
 use Rattle.gb_eval.proofs.Layers.{eval_at, eval_other}
 use Rattle.gb_eval.proofs.Environments.{environment_is}
 use Rattle.gb_eval.proofs.Opened.{open_comes, closed_comes}
 use Rattle.gb_eval.proofs.Stops.{gives_as, stops_as}
-use Rattle.gb_eval.proofs.Places.{beq_same, mapped_by, measured_by, operated_many, operated_three, quantified_decided, quantified_stops, restricted_by, summed_stops, summed_whole}
+use Rattle.gb_eval.proofs.Places.{beq_same, in_memories_decided, in_memories_stops, mapped_by, measured_by, operated_many, operated_three, quantified_decided, quantified_stops, restricted_by, summed_stops, summed_whole}
 use Rattle.gb_eval.proofs.eval.+eval.Goals as goal
 
 pub eval-returns-in_ok-value-in-Lit-clause-found : goal.eval-returns-in_ok-value-in-Lit-clause-found
@@ -28,15 +31,16 @@ eval-returns-in-Whole-clause-found t c =
 pub eval-returns-in-Read-clause-found : goal.eval-returns-in-Read-clause-found
 eval-returns-in-Read-clause-found t c =
     gives_as shown _ _ c.value_of.result
-    (eval_at (environment c.args.env.now) c.args.t.now c.get.result.now c.as_slice-args.result.now _ (reverse c.args.bound.now) c.get.ensures c.as_slice-args.ensures refl (head.Read c.in-Read.r) c.in-Read.is
-    ∙ ap (λ e. value_of e.reads c.in-Read.r) (environment_is c.args.env.now))
+    (eval_at (environment c.args.env.now) c.args.t.now c.get.result.now c.as_slice-args.result.now c.get-in-Read.result.now (reverse c.args.bound.now) c.get.ensures c.as_slice-args.ensures c.get-in-Read.ensures (head.Read c.in-Read.r) c.in-Read.is
+    ∙ ap (λ e. value_of e.reads (reverse c.args.bound.now) c.in-Read.r c.get-in-Read.result.now) (environment_is c.args.env.now)
+    ∙ ap (λ vs. value_of c.args.env.now.reads.now (reverse vs) c.in-Read.r c.get-in-Read.result.now) (sym c.as_slice.ensures))
     c.value_of.ensures
 
 pub eval-returns-in-Bound-clause-found : goal.eval-returns-in-Bound-clause-found
 eval-returns-in-Bound-clause-found t c =
     gives_as shown _ _ c.value_bound.result
     (eval_at (environment c.args.env.now) c.args.t.now c.get.result.now c.as_slice-args.result.now _ (reverse c.args.bound.now) c.get.ensures c.as_slice-args.ensures refl (head.Bound c.in-Bound.index) c.in-Bound.is
-    ∙ ap (λ vs. value_bound (reverse vs) c.in-Bound.index) (sym c.as_slice.ensures))
+    ∙ ap (λ vs. value_bound (reverse vs) c.in-Bound.index) (sym c.as_slice-in-Bound.ensures))
     c.value_bound.ensures
 
 pub eval-returns-in-Builtin-clause-found : goal.eval-returns-in-Builtin-clause-found
@@ -64,6 +68,18 @@ eval-returns-in-Some-clause-found t c =
     (eval_at (environment c.args.env.now) c.args.t.now c.get.result.now c.as_slice-args.result.now _ (reverse c.args.bound.now) c.get.ensures c.as_slice-args.ensures refl (head.Some c.in-Some.ty) c.in-Some.is
     ∙ ap (λ u. quantified true u (map (part_of (environment c.args.env.now)) c.as_slice-args.result.now) (reverse c.args.bound.now)) (sym c.get-in-Some.ensures))
     c.quantifier-in-Some.ensures.found
+
+pub eval-returns-in-AllMemory-clause-found : goal.eval-returns-in-AllMemory-clause-found
+eval-returns-in-AllMemory-clause-found t c =
+    gives_as shown _ _ c.memories.result
+    (eval_at (environment c.args.env.now) c.args.t.now c.get.result.now c.as_slice-args.result.now _ (reverse c.args.bound.now) c.get.ensures c.as_slice-args.ensures refl head.AllMemory c.in-AllMemory.is)
+    c.memories.ensures.found
+
+pub eval-returns-in-SomeMemory-clause-found : goal.eval-returns-in-SomeMemory-clause-found
+eval-returns-in-SomeMemory-clause-found t c =
+    gives_as shown _ _ c.memories-in-SomeMemory.result
+    (eval_at (environment c.args.env.now) c.args.t.now c.get.result.now c.as_slice-args.result.now _ (reverse c.args.bound.now) c.get.ensures c.as_slice-args.ensures refl head.SomeMemory c.in-SomeMemory.is)
+    c.memories-in-SomeMemory.ensures.found
 
 pub eval-returns-in-Mu-clause-found : goal.eval-returns-in-Mu-clause-found
 eval-returns-in-Mu-clause-found t c =
@@ -99,7 +115,7 @@ eval-returns-in-Sum-clause-found t c =
 pub eval-returns-in_default : goal.eval-returns-in_default
 eval-returns-in_default t c =
     record {
-      found = eval_other (environment c.args.env.now) c.args.t.now c.get.result.now c.as_slice-args.result.now _ (reverse c.args.bound.now) c.get.ensures c.as_slice-args.ensures refl c.in_default.not-Lit c.in_default.not-Whole c.in_default.not-Read c.in_default.not-Bound c.in_default.not-Builtin c.in_default.not-User c.in_default.not-All c.in_default.not-Some c.in_default.not-Mu c.in_default.not-Sum c.in_default.not-Restrict c.in_default.not-Map c.in_default.not-Weights;
+      found = eval_other (environment c.args.env.now) c.args.t.now c.get.result.now c.as_slice-args.result.now _ (reverse c.args.bound.now) c.get.ensures c.as_slice-args.ensures refl c.in_default.not-Lit c.in_default.not-Whole c.in_default.not-Read c.in_default.not-Bound c.in_default.not-Builtin c.in_default.not-User c.in_default.not-All c.in_default.not-Some c.in_default.not-Mu c.in_default.not-Sum c.in_default.not-Restrict c.in_default.not-Map c.in_default.not-Weights c.in_default.not-AllMemory c.in_default.not-SomeMemory;
       bound = tt;
     }
 
@@ -185,3 +201,25 @@ applied-returns-in-None t c =
 pub applied-eval-requires : goal.applied-eval-requires
 applied-eval-requires t c =
     ((let f = opens c.args.env.now.script c.inside.result c.args.name.now c.in-Some.body.now c.in-Some.ensures c.inside.ensures.scope c.inside.ensures.depth in omega arith), tt)
+
+pub in_memories-returns-in_err-truth_in_memory-clause-found : goal.in_memories-returns-in_err-truth_in_memory-clause-found
+in_memories-returns-in_err-truth_in_memory-clause-found t c =
+    let v = c.loop-at.invariant in
+    let h : Stops (in_memories c.args.deciding c.args.variables.now (part_of (environment c.args.env.now) c.args.body.now) (reverse c.args.bound.now)) c.in_err-truth_in_memory.field-0.0 =
+    in_memories_stops c.args.deciding c.args.variables.now c.in_ok-count.count c.loop-at.at (part_of (environment c.args.env.now) c.args.body.now) (reverse c.args.bound.now)
+    (ap card_of (sym v.ty) ∙ v.count) v.some c.in_err-truth_in_memory.field-0.0 v.truths
+    (stops_as _ _ c.in_err-truth_in_memory.field-0.0
+    (λ i. truth_at (environment c.args.env.now) c.args.body.now (to.Memory (with_values c.args.variables.now (parts_of (sym (c.in_ok-value.ensures ∙ ap (λ u. value_at u c.loop-at.at) v.ty) i))) ∷ reverse (sym v.bound i)))
+    c.in_err-truth_in_memory.ensures.found)
+    c.loop-at-test.true in
+    search (rules, h)
+
+pub in_memories-returns-then-branch-deciding-clause-found : goal.in_memories-returns-then-branch-deciding-clause-found
+in_memories-returns-then-branch-deciding-clause-found t c =
+    let v = c.loop-at.invariant in
+    in_memories_decided c.args.deciding c.args.variables.now c.in_ok-count.count c.loop-at.at (part_of (environment c.args.env.now) c.args.body.now) (reverse c.args.bound.now)
+    (ap card_of (sym v.ty) ∙ v.count) v.some v.truths
+    ((λ i. truth_at (environment c.args.env.now) c.args.body.now (to.Memory (with_values c.args.variables.now (parts_of (sym (c.in_ok-value.ensures ∙ ap (λ u. value_at u c.loop-at.at) v.ty) i))) ∷ reverse (sym v.bound i)))
+    ∙ c.in_ok-truth_in_memory.ensures.found ∙ ap found (beq_same _ _ c.if-branch-deciding.true))
+    c.loop-at-test.true
+    ∙ ap found (sym c.of_truth.ensures)

@@ -1,4 +1,4 @@
-use Rattle.std.proofs.Common.{◌≡◌, ◌+◌, ◌*◌, ◌≤◌, ◌^◌, not, [], ◌∷◌, map, drop, reverse}
+use Rattle.std.proofs.Common.{◌≡◌, ◌+◌, ◌*◌, ◌<◌, ◌≤◌, ◌^◌, not, [], ◌∷◌, map, drop, reverse}
 use Rattle.gb_core.specs.declared.value.Value.TheVariants.{Num}
 use Rattle.gb_core.specs.declared.value.Card.TheVariants.{Exact}
 use Rattle.gb_types.specs.Types.{card_of, value_at}
@@ -8,7 +8,7 @@ use Rattle.gb_eval.specs.declared.env.Bound.TheVariants as to
 use Rattle.gb_eval.specs.Findings.{◌>>=◌, argument_of, collected, over, value_in, fraction_in}
 use Rattle.gb_eval.specs.Findings.Comes.{found}
 use Rattle.gb_eval.specs.Operators.{zero_fraction}
-use Rattle.gb_eval.specs.Eval.{environment, eval, truth_at, next_truth, next_sum, truth_under, part_of}
+use Rattle.gb_eval.specs.Eval.{environment, eval, in_memory, memories_of, truth_at, next_truth, next_sum, truth_under, part_of}
 use Rattle.gb_eval.proofs.Fuel.{fuel_in}
 use Rattle.gb_eval.proofs.eval.+eval.Given as goal
 
@@ -27,8 +27,14 @@ decreases-eval_with l = fuel_in l.env.now.script + 8 * goal.size-eval_with l + 1
 abbrev pub decreases-truth_with : goal.decreases-truth_with
 decreases-truth_with l = fuel_in l.env.now.script + 8 * goal.size-truth_with l + 2
 
+abbrev pub decreases-truth_in_memory : goal.decreases-truth_in_memory
+decreases-truth_in_memory l = fuel_in l.env.now.script + 8 * goal.size-truth_in_memory l + 2
+
 abbrev pub decreases-fraction_with : goal.decreases-fraction_with
 decreases-fraction_with l = fuel_in l.env.now.script + 8 * goal.size-fraction_with l + 2
+
+abbrev pub decreases-in_memories : goal.decreases-in_memories
+decreases-in_memories l = fuel_in l.env.now.script + 8 * goal.size-in_memories l + 3
 
 abbrev pub decreases-event : goal.decreases-event
 decreases-event l = fuel_in l.env.now.script + 8 * goal.size-event l + 3
@@ -63,6 +69,9 @@ decreases-update l = fuel_in l.env.now.script + 8 * goal.size-update l + 5
 abbrev pub decreases-arguments : goal.decreases-arguments
 decreases-arguments l = fuel_in l.env.now.script + 8 * goal.size-arguments l + 5
 
+abbrev pub decreases-memories : goal.decreases-memories
+decreases-memories l = fuel_in l.env.now.script + 8 * goal.size-memories l + 5
+
 abbrev pub decreases-quantifier : goal.decreases-quantifier
 decreases-quantifier l = fuel_in l.env.now.script + 8 * goal.size-quantifier l + 5
 
@@ -96,6 +105,15 @@ invariant-quantifier-loop-at l = record {
   body : l.args ≡ l.body ∷ [];
   count : card_of l.ty ≡ Exact l.count;
   truths : over (next_truth l.deciding (λ i. truth_at (environment l.env) l.body (to.Value (value_at l.ty i) ∷ reverse l.initial.bound))) (not l.deciding) l.at ≡ found (not l.deciding);
+}
+
+abbrev pub invariant-in_memories-loop-at : goal.invariant-in_memories-loop-at
+invariant-in_memories-loop-at l = record {
+  bound : l.bound ≡ l.initial.bound;
+  ty : l.ty ≡ memories_of l.variables;
+  count : card_of l.ty ≡ Exact l.count;
+  some : 0 < l.count;
+  truths : over (next_truth l.deciding (λ i. in_memory l.variables (part_of (environment l.env) l.body) (reverse l.initial.bound) (value_at (memories_of l.variables) i))) (not l.deciding) l.at ≡ found (not l.deciding);
 }
 
 abbrev pub invariant-tuple-loop-arg : goal.invariant-tuple-loop-arg

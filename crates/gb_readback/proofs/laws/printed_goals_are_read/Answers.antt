@@ -9,6 +9,9 @@ returns c = λ ds es s d.
     let at = place_of_goal ds es s in
     let read = goal_back c.kinds_are_kinds.ensures at s d in
     record {
-      some = read;
-      only = λ t spelled. subst (λ x. IsTreeOf at s x) (c.goals_are_unique.ensures (printed_goal ds es s) read.0 t read.1 spelled) read.2;
+      some = (read.tree, read.spells, read.is_tree);
+      only = λ t spelled. subst (λ x. IsTreeOf at s x) (c.goals_are_unique.ensures (printed_goal ds es s) read.tree t read.spells spelled) read.is_tree;
+      faultless = read.faultless;
+      left_out = read.left_out;
+      numbers = read.numbers;
     }

@@ -12,6 +12,6 @@ returns c =
     ∙ card_of_claim c.args.scope.now c.args.claim.now c.as_slice.result.now _ _ _ _ _ _ c.requires c.as_slice.ensures
     (c.are_finite.ensures ∙ ap (λ vs. are_finite (map (λ v. v.ty) vs)) c.as_slice-variables.ensures)
     (c.size_of_variables.ensures ∙ ap (λ vs. min (product (map (λ v. v.ty) vs)) (2 ^ 63)) c.as_slice-variables.ensures)
-    (c.bound_size_of_all.ensures ∙ ap (λ o. min (product (flat_map (bound_types o) c.as_slice.result.now)) (2 ^ 63)) b)
-    (c.bound_size.ensures ∙ ap (λ o. min (product (bound_types o c.args.claim.now.conclusion)) (2 ^ 63)) b)
+    (c.in_ok-hyps.ensures ∙ ap (λ o. min (product (flat_map (bound_types o) c.as_slice.result.now)) (2 ^ 63)) b)
+    (c.in_ok-conclusion.ensures ∙ ap (λ o. min (product (bound_types o c.args.claim.now.conclusion)) (2 ^ 63)) b)
     c.times-bound.ensures c.times.ensures

@@ -5,6 +5,6 @@ use Rattle.gb_smt.proofs.width.size_of_variables.Goals as goal
 
 pub loop-variable-preserved : goal.loop-variable-preserved
 loop-variable-preserved c =
-    product_more c.args.variables.now c.loop-variable.variable-index c.variable-item.result _ _ _ c.loop-variable-test.true c.variable-item.is c.loop-variable.invariant
+    product_more (λ v. v.ty) c.args.variables.now c.loop-variable.variable-index c.variable-item.result _ _ _ c.loop-variable-test.true c.variable-item.is c.loop-variable.invariant
     (c.size.ensures ∙ ap (λ ty. min (size_of ty) (2 ^ 63)) c.get.ensures)
     c.times-all.ensures

@@ -1,10 +1,11 @@
 -- The statement is typed, and passes a limit or none.
-use Rattle.std.proofs.Common.{◌≡◌, Bool, false, Option, Some, None, is_some, option_map, refl, ap, sym, subst, ◌∙◌}
+use Rattle.std.proofs.Common.{◌≡◌, Bool, false, List, Option, Some, None, is_some, option_map, refl, ap, sym, subst, ◌∙◌}
 use Rattle.std.specs.Prelude.{Err}
 use Rattle.std.proofs.lemmas.Result.{err_from_is_err_and}
 use Rattle.gb_goal.specs.Answers.{Gives}
 use Rattle.gb_goal.specs.Answers.Answer.{given}
-use Rattle.gb_theory.specs.Built.{Session}
+use Rattle.gb_goal.specs.declared.scope.Binder.{Binder}
+use Rattle.gb_theory.specs.Built.{Session, with_lemma}
 use Rattle.gb_theory.specs.Commands.{opens}
 use Rattle.gb_theory.specs.declared.state.OpenProof.{OpenProof}
 use Rattle.gb_theory.specs.Sessions.{open_of, session_of}
@@ -28,4 +29,5 @@ returns-clause-session c =
     let none : option_map open_of c.args.state.now.proof ≡ None = not_open c.args.state.now.proof c.is_some.result c.is_some.ensures c.if-is_some.false in
     opens_done (session_of c.args.state.now) c.args.tree.now c.args.name.now c.args.place c.in_ok-statement.statement none
     c.in_ok-statement.ensures.answer c.in_ok-check_declarations.ensures c.in_ok-check_goal.ensures
+    ∙ ap (λ (bs : List Binder). given (with_lemma (session_of c.args.state.now) c.args.name.now c.in_ok-statement.statement bs)) (sym c.in_ok-binders.ensures)
     ∙ ap (λ (p : OpenProof). given (let s : Session = record { scope = c.args.state.now.scope; proof = Some (open_of p); lemmas = c.args.state.now.lemmas } in s)) (sym c.in_ok-proof.ensures)

@@ -1,6 +1,0 @@
-use Rattle.std.proofs.Common.{◌≡◌, ◌++◌, drop}
-use Rattle.gb_call.specs.Written.{targets}
-use Rattle.gb_call.proofs.written.+targets.Given as goal
-
-abbrev pub invariant-targets-loop-statement : goal.invariant-targets-loop-statement
-invariant-targets-loop-statement l = l.all ++ targets (drop l.statement-index l.list) ≡ l.fn.found ++ targets l.list

@@ -1,0 +1,9 @@
+pub mod AfterBoth
+pub mod ArgumentsOfBoth
+pub mod BothSteps
+pub mod CallIsSound
+pub mod NarrowedSides
+pub mod OneSide
+pub mod Others
+pub mod RulesAreSound
+pub mod Sided

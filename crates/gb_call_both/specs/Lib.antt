@@ -1,0 +1,3 @@
+pub mod BothOutcomes
+pub mod Call
+pub mod Rows

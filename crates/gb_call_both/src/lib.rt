@@ -1,0 +1,7 @@
+//! Rules on calls of procedures.
+#![tactic(auto)]
+
+pub mod apply;
+pub mod both;
+pub mod call;
+pub mod laws;

@@ -1,0 +1,183 @@
+-- All globals of a module, in equations of two memories.
+use Rattle.std.specs.Prelude.{if◌then◌else◌, true, List, [], ◌∷◌, map, Option, Some, None, is_some, bytes_eq, codes}
+use Rattle.std.specs.Option.{option_copied}
+use Rattle.gb_core.specs.declared.place.Place.{Place}
+use Rattle.gb_core.specs.declared.refusal.Why.TheVariants.{Argument}
+use Rattle.gb_core.specs.declared.ty.Ty.{Ty}
+use Rattle.gb_core.specs.declared.ty.Ty.TheVariants.{Bool as bool_ty}
+use Rattle.gb_core.specs.declared.var.Var.{Var}
+use Rattle.gb_core.specs.declared.var.Var.TheVariants.{Global}
+use Rattle.gb_terms.specs.declared.op.Op.TheVariants as op
+use Rattle.gb_terms.specs.declared.op.Side.{Side}
+use Rattle.gb_terms.specs.declared.op.Side.TheVariants as side
+use Rattle.gb_terms.specs.declared.term.Term.{Term}
+use Rattle.gb_terms.specs.Make.{applied, truth_literal}
+use Rattle.gb_script.specs.declared.head.Head.{Head}
+use Rattle.gb_script.specs.declared.head.Head.TheVariants as head
+use Rattle.gb_script.specs.declared.tree.Node.{Node, para-Node}
+use Rattle.gb_script.specs.Tree.{head_of, text_of, parts_of, place_of}
+use Rattle.gb_goal.specs.Answers.{Answer, ◌>>=◌, not_built}
+use Rattle.gb_goal.specs.Answers.Answer.{given, refused}
+use Rattle.gb_goal.specs.Scope.{Declarations, module_of}
+use Rattle.gb_mods.specs.Footprint.{footprint}
+use Rattle.gb_names.specs.declared.bindings.Binding.{Binding}
+use Rattle.gb_names.specs.Environment.{Name, Environment, may_read, on_side}
+use Rattle.gb_names.specs.Judgments.{named_module}
+use Rattle.gb_names.specs.Names.{ModuleVariable, global_in, global_variable, has_memories, has_own, memory_at, path, side_of}
+use Rattle.gb_names.specs.Wanted.{truth}
+use Rattle.gb_elab.specs.declared.globs.Whole.{Whole}
+
+-- the global that a variable is, as its module declares it
+abbrev pub global_named : Declarations → Var → Option ModuleVariable
+global_named ds (Global n x) = global_in n (module_of ds n) x
+global_named ds _ = None
+
+-- a global is the same in two memories
+abbrev pub agrees : Side → Side → ModuleVariable → Term
+agrees s r g = applied op.Equal (global_variable s g ∷ global_variable r g ∷ []) bool_ty
+
+-- a form behind others, if there are any
+abbrev pub behind_if : Option Term → Term → Term
+behind_if None e = e
+behind_if (Some f) e = applied op.And (f ∷ e ∷ []) bool_ty
+
+abbrev pub with_agreement : Side → Side → Option Term → Option ModuleVariable → Option Term
+with_agreement s r o None = o
+with_agreement s r o (Some g) = Some (behind_if o (agrees s r g))
+
+-- behind other forms, if there are any: these globals are the same in two memories
+abbrev pub agreements : Declarations → Side → Side → Option Term → List Var → Option Term
+agreements ds s r o [] = o
+agreements ds s r o (x ∷ xs) = agreements ds s r (with_agreement s r o (global_named ds x)) xs
+
+abbrev pub true_if_none : Option Term → Term
+true_if_none None = truth_literal true
+true_if_none (Some f) = f
+
+abbrev pub agreement_on : Declarations → Side → Side → Place → Option (List Var) → Answer Term
+agreement_on ds s r p None = not_built p
+agreement_on ds s r p (Some xs) = given (true_if_none (agreements ds s r None xs))
+
+-- The globals of a module's footprint are the same in two memories: the conjunction of their equalities, in their order.
+abbrev pub agreement : Declarations → Name → Side → Side → Place → Answer Term
+agreement ds n s r p = agreement_on ds s r p (footprint ds n)
+
+-- the name that a path or a word is
+abbrev pub name_in : Head → Name → List Node → Name
+name_in head.Path x ps = path ps
+name_in _ x ps = x
+
+abbrev pub name_of : Node → Name
+name_of t = name_in (head_of t) (text_of t) (parts_of t)
+
+-- a module takes no more arguments than it has parameters
+abbrev pub without_arguments : List Node → Answer (Unit {0})
+without_arguments [] = given tt
+without_arguments (a ∷ bs) = refused Argument (place_of a)
+
+-- the name of the module that a module expression is
+abbrev pub module_in : Environment → List Binding → List Node → Place → Answer Name
+module_in at bound (x ∷ bs) p = do
+  _ ← named_module at bound (name_of x) (place_of x)
+  _ ← without_arguments bs
+  given (name_of x)
+module_in at bound [] p = not_built p
+
+abbrev pub module_at : Environment → List Binding → Node → Answer Name
+module_at at bound m = module_in at bound (parts_of m) (place_of m)
+
+-- `={glob M}`
+abbrev pub same_globals : Environment → List Binding → Node → Answer Term
+same_globals at bound m = do
+  n ← module_at at bound m
+  agreement at.declared n side.Left side.Right (place_of m)
+
+-- What is read as `(glob M)`, or with a memory behind it: the module expression, what stands in the braces, and its place.
+abbrev pub Seen : Type 0
+Seen = Node × Option Node × Place
+
+-- the same, as the code has it
+abbrev pub seen : Whole → Seen
+seen w = (w.owner.now, option_copied w.behind, w.place)
+
+abbrev pub bare_glob : List Node → Option Node → Place → Option Seen
+bare_glob (m ∷ []) s p = Some (m, s, p)
+bare_glob _ s p = None
+
+abbrev pub sided_glob : Head → List Node → Node → Place → Option Seen
+sided_glob head.Glob ms s p = bare_glob ms (Some s) p
+sided_glob _ ms s p = None
+
+abbrev pub with_braces : List Node → Option Seen
+with_braces (a ∷ s ∷ []) = sided_glob (head_of a) (parts_of a) s (place_of a)
+with_braces _ = None
+
+abbrev pub inside : List (Node × Option Seen) → Option Seen
+inside (a ∷ []) = a.1
+inside _ = None
+
+-- brackets may stand round it
+unfoldable pub seeing : Head → List (Node × Option Seen) → Place → Option Seen
+seeing head.Glob ps p = bare_glob (map (λ a. a.0) ps) None p
+seeing head.Sided ps p = with_braces (map (λ a. a.0) ps)
+seeing head.Bracketed ps p = inside ps
+seeing _ ps p = None
+
+-- the globals of a module that a form reads, if it reads all of one
+unfoldable pub whole_in : Node → Option Seen
+whole_in = para-Node (Option Seen) (λ l. seeing l.head l.parts l.place)
+
+abbrev pub with_seen : List Node → List (Node × Option Seen)
+with_seen ts = map (λ t. (t, whole_in t)) ts
+
+abbrev pub paired : Option Seen → Option Seen → Option (Seen × Seen)
+paired (Some a) (Some b) = Some (a, b)
+paired _ _ = None
+
+-- both sides of an equation
+abbrev pub both_whole : Name → List Node → Option (Seen × Seen)
+both_whole x (a ∷ b ∷ []) = if bytes_eq x (codes "=") then paired (whole_in a) (whole_in b) else None
+both_whole x _ = None
+
+-- the memory of one of two programs
+abbrev pub side_read : Environment → Name → Place → Answer Side
+side_read at x p = do
+  i ← side_of x p
+  if is_some (on_side at i) then given i else refused Argument p
+
+-- the memory that braces name, by a side or by its name
+abbrev pub memory_behind : Head → Node → Environment → List Binding → Place → Answer Side
+memory_behind head.Number s at bound p = side_read at (text_of s) p
+memory_behind _ m at bound p = do
+  i ← memory_at at bound (text_of m) (place_of m)
+  if may_read at.memories (text_of m) then given i else refused Argument p
+
+-- .. or, where none is named, the own one
+abbrev pub memory_read : Environment → List Binding → Option Node → Place → Answer Side
+memory_read at bound None p = if has_own at.variables then given side.Own else refused Argument p
+memory_read at bound (Some s) p = memory_behind (head_of s) s at bound p
+
+abbrev pub module_and_memory : Environment → List Binding → Seen → Answer (Name × Side)
+module_and_memory at bound w = do
+  s ← memory_read at bound w.1 w.2
+  n ← module_at at bound w.0
+  given (n, s)
+
+-- of which module all globals are read, and in which memory; programs and operators read none
+abbrev pub whole_read : Environment → List Binding → Seen → Answer (Name × Side)
+whole_read at bound w = if has_memories at.language then module_and_memory at bound w else refused Argument w.2
+
+-- All globals of a module stand in such equations alone.
+abbrev pub whole_alone : Environment → List Binding → Option Seen → Place → Answer Term
+whole_alone at bound None p = not_built p
+whole_alone at bound (Some w) p = do
+  _ ← whole_read at bound w
+  refused Argument p
+
+-- an equation of all globals of a module in two memories
+abbrev pub whole_equation : Environment → List Binding → Option Ty → Place → Seen → Seen → Answer Term
+whole_equation at bound w p a b = do
+  _ ← truth w p
+  l ← whole_read at bound a
+  r ← whole_read at bound b
+  if bytes_eq l.0 r.0 then agreement at.declared l.0 l.1 r.1 p else refused Argument a.2

@@ -1,0 +1,398 @@
+//! All globals of a module, in equations of two memories.
+
+ghost use Rattle.std.specs.Prelude.{◌≡◌, None, IfOk};
+ghost use Rattle.std.specs.Option.{option_copied, option_map};
+ghost use Rattle.gb_script.specs.Tree.{head_of};
+ghost use Rattle.gb_goal.specs.Answers.{Answers};
+ghost use Rattle.gb_goal.specs.Answers.Answer.{given};
+ghost use Rattle.gb_goal.specs.Scope.{module_of};
+ghost use Rattle.gb_names.specs.Environment.{environment};
+ghost use Rattle.gb_names.specs.Names.{global_in};
+ghost use Rattle.gb_elab.specs.Globs.{agreement, agreements, agrees, bare_glob, behind_if, both_whole, same_globals, global_named, memory_behind, memory_read, module_at, name_of, seeing, seen, side_read, true_if_none, whole_alone, whole_equation, whole_in, whole_read, with_braces, with_seen, without_arguments};
+
+use gb_core::name::Name;
+use gb_core::place::Place;
+use gb_core::refusal::Refused;
+use gb_core::ty::Ty;
+use gb_core::var::Var;
+use gb_goal::scope::Scope;
+use gb_mods::footprint::footprint;
+use gb_names::allowed::truth;
+use gb_names::bindings::Binding;
+use gb_names::globals::{ModuleVariable, global_variable};
+use gb_names::judgment::named_module;
+use gb_names::memories::memory_at;
+use gb_names::names::{first_named, path, side_of};
+use gb_names::refusals::{argument, not_built};
+use gb_names::setting::{Language, Setting, Variables};
+use gb_script::head::Head;
+use gb_script::tree::Node;
+use gb_terms::make;
+use gb_terms::op::Side;
+use gb_terms::term::{Form, Term};
+use std::alloc::{AllocError, Global};
+
+/// The global of this name that a declared module has.
+fn global_in<'a>(
+    alloc: Global,
+    scope: &'a Scope,
+    owner: &Name,
+    name: &Name,
+) -> Result<Option<ModuleVariable<'a>>, AllocError>
+    ensures { IfOk result (λ found. option_map (λ g. (g.owner, g.variable.now)) found ≡ global_in owner.now (module_of scope.now owner.now) name.now) }
+{
+    let Some(found) = scope.module(owner) else {
+        return Ok(None);
+    };
+    let Some(variable) = first_named(found.globals.as_slice(), name) else {
+        return Ok(None);
+    };
+    let owner = owner.copy(alloc)?;
+    Ok(Some(ModuleVariable { owner, variable }))
+}
+
+/// The global that a variable is, as its module declares it.
+fn global_named<'a>(
+    alloc: Global,
+    scope: &'a Scope,
+    variable: &Var,
+) -> Result<Option<ModuleVariable<'a>>, AllocError>
+    ensures { IfOk result (λ found. option_map (λ g. (g.owner, g.variable.now)) found ≡ global_named scope.now variable.now) }
+{
+    match variable {
+        Var::Global { module, name } => global_in(alloc, scope, module, name),
+        _ => Ok(None),
+    }
+}
+
+/// A global is the same in two memories.
+fn agrees(
+    alloc: Global,
+    left: Side,
+    right: Side,
+    global: ModuleVariable<'_>,
+) -> Result<Form, Refused>
+    ensures { Answers (given (agrees left right (global.entry.owner, global.entry.variable.now))) result }
+{
+    let again = ModuleVariable {
+        owner: global.owner.copy(alloc)?,
+        variable: global.variable,
+    };
+    let first = global_variable(alloc, left, global)?;
+    let second = global_variable(alloc, right, again)?;
+    make::equality(alloc, first, second).map_err(Refused::from)
+}
+
+/// A form behind others, if there are any.
+fn behind_if(alloc: Global, others: Option<Form>, form: Form) -> Result<Form, AllocError>
+    ensures { IfOk result (λ made. made ≡ behind_if others form) }
+{
+    match others {
+        None => Ok(form),
+        Some(others) => make::conjunction(alloc, others, form),
+    }
+}
+
+/// These globals are the same in two memories; none where there are none.
+fn agreements(
+    alloc: Global,
+    scope: &Scope,
+    left: Side,
+    right: Side,
+    list: &[Var],
+) -> Result<Option<Form>, Refused>
+    ensures { Answers (given (agreements scope.now left right None list.now)) result }
+{
+    let mut form = None;
+    for variable in list {
+        if let Some(global) = global_named(alloc, scope, variable)? {
+            let next = agrees(alloc, left, right, global)?;
+            form = Some(behind_if(alloc, form, next)?);
+        }
+    }
+    Ok(form)
+}
+
+/// These globals are the same in two memories; `true` where there are none.
+fn agreement_on(
+    alloc: Global,
+    scope: &Scope,
+    left: Side,
+    right: Side,
+    list: &[Var],
+) -> Result<Form, Refused>
+    ensures { Answers (given (true_if_none (agreements scope.now left right None list.now))) result }
+{
+    match agreements(alloc, scope, left, right, list)? {
+        Some(form) => Ok(form),
+        None => make::boolean(alloc, true).map_err(Refused::from),
+    }
+}
+
+/// The globals of a module's footprint are the same in two memories.
+fn agreement(
+    alloc: Global,
+    scope: &Scope,
+    name: &Name,
+    left: Side,
+    right: Side,
+    place: Place,
+) -> Result<Form, Refused>
+    ensures { Answers (agreement scope.now name.now left right place) result }
+{
+    match footprint(alloc, scope, name)? {
+        Some(list) => agreement_on(alloc, scope, left, right, list.as_slice()),
+        None => Err(not_built(place)),
+    }
+}
+
+/// The name that a path or a word is.
+fn name_of(alloc: Global, t: &Node) -> Result<Name, AllocError>
+    ensures { IfOk result (λ made. made ≡ name_of t.now) }
+{
+    match t.head {
+        Head::Path => path(alloc, t.parts.as_slice()),
+        _ => t.text.copy(alloc),
+    }
+}
+
+/// Refuses the first argument of a module that has no parameters.
+fn without_arguments(list: &[Node]) -> Result<(), Refused>
+    ensures { Answers (without_arguments list.now) result }
+{
+    match list {
+        [] => Ok(()),
+        [first, ..] => Err(argument(first.place)),
+    }
+}
+
+/// The name of the module that a module expression is.
+///
+/// # Errors
+///
+/// `UnknownName` of its name, `Argument` of one that another thing has, and of an argument, since no module has parameters.
+fn module_at(alloc: Global, at: &Setting<'_>, bound: &[Binding], t: &Node) -> Result<Name, Refused>
+    ensures { Answers (module_at (environment at.now) bound.now t.now) result }
+{
+    match t.parts.as_slice() {
+        [first, arguments @ ..] => {
+            let name = name_of(alloc, first)?;
+            named_module(alloc, at, bound, &name, first.place)?;
+            without_arguments(arguments)?;
+            Ok(name)
+        }
+        [] => Err(not_built(t.place)),
+    }
+}
+
+/// What `={glob M}` says: the globals that M's procedures read or write are the same in both programs.
+///
+/// # Errors
+///
+/// Those of `module_at`.
+pub fn same_globals(
+    alloc: Global,
+    at: &Setting<'_>,
+    bound: &[Binding],
+    t: &Node,
+) -> Result<Form, Refused>
+    ensures { Answers (same_globals (environment at.now) bound.now t.now) result }
+{
+    let name = module_at(alloc, at, bound, t)?;
+    agreement(alloc, at.scope, &name, Side::Left, Side::Right, t.place)
+}
+
+/// What is read as `(glob M)`, or with a memory behind it: the module expression, what stands in the braces, and its place.
+#[derive(Drop)]
+pub struct Whole<'a> {
+    pub owner: &'a Node,
+    pub behind: Option<&'a Node>,
+    pub place: Place,
+}
+
+/// What `(glob M)` reads, with what stands in braces behind it, if anything does.
+pub fn bare_glob<'a>(parts: &'a [Node], behind: Option<&'a Node>, place: Place) -> Option<Whole<'a>>
+    ensures { option_map seen result ≡ bare_glob parts.now (option_copied behind.entry) place }
+{
+    match parts {
+        [owner] => Some(Whole {
+            owner,
+            behind,
+            place,
+        }),
+        _ => None,
+    }
+}
+
+/// What a form with braces reads, if it reads all globals of a module.
+fn with_braces<'a>(parts: &'a [Node]) -> Option<Whole<'a>>
+    ensures { option_map seen result ≡ with_braces parts.now }
+{
+    match parts {
+        [operand, behind] => match operand.head {
+            Head::Glob => bare_glob(operand.parts.as_slice(), Some(behind), operand.place),
+            _ => None,
+        },
+        _ => None,
+    }
+}
+
+/// What a form reads, if it reads all globals of a module. Brackets may stand round it.
+#[cycle(whole)]
+fn whole_in<'a>(t: &'a Node) -> Option<Whole<'a>>
+    ensures { option_map seen result ≡ whole_in t.now }
+{
+    seeing(t.head, t.parts.as_slice(), t.place)
+}
+
+/// .. from its head, its parts and its place.
+#[cycle(whole)]
+#[tactic(auto, unfolding(crate::specs::Globs::seeing), using(crate::proofs::Seen::nodes_seen))]
+fn seeing<'a>(head: Head, parts: &'a [Node], place: Place) -> Option<Whole<'a>>
+    ensures { option_map seen result ≡ seeing head (with_seen parts.now) place }
+{
+    match head {
+        Head::Glob => bare_glob(parts, None, place),
+        Head::Sided => with_braces(parts),
+        Head::Bracketed => match parts {
+            [inner] => whole_in(inner),
+            _ => None,
+        },
+        _ => None,
+    }
+}
+
+/// Both sides of a comparison, if it is an equation and both read all globals of a module.
+pub fn both_whole<'a>(sign: &Name, parts: &'a [Node]) -> Option<(Whole<'a>, Whole<'a>)>
+    ensures { option_map (λ s. (seen s.0, seen s.1)) result ≡ both_whole sign.now parts.now }
+{
+    match parts {
+        [left, right] if sign.as_str() == "=" => {
+            let left = whole_in(left)?;
+            let right = whole_in(right)?;
+            Some((left, right))
+        }
+        _ => None,
+    }
+}
+
+/// The memory of a side, which is that of one of two programs.
+fn side_read(at: &Setting<'_>, number: &Name, place: Place) -> Result<Side, Refused>
+    ensures { Answers (side_read (environment at.now) number.now place) result }
+{
+    let side = side_of(number, place)?;
+    if at.on_side(side).is_some() {
+        Ok(side)
+    } else {
+        Err(argument(place))
+    }
+}
+
+/// The memory that braces name.
+fn memory_behind(
+    alloc: Global,
+    at: &Setting<'_>,
+    bound: &[Binding],
+    behind: &Node,
+    place: Place,
+) -> Result<Side, Refused>
+    ensures { Answers (memory_behind (head_of behind.now) behind.now (environment at.now) bound.now place) result }
+{
+    match behind.head {
+        Head::Number => side_read(at, &behind.text, place),
+        _ => {
+            let memory = memory_at(alloc, at, bound, &behind.text, behind.place)?;
+            if at.memories.may_read(&behind.text) {
+                Ok(memory)
+            } else {
+                Err(argument(place))
+            }
+        }
+    }
+}
+
+/// The memory that braces name, or, where there are none, the own one.
+fn memory_read(
+    alloc: Global,
+    at: &Setting<'_>,
+    bound: &[Binding],
+    behind: Option<&Node>,
+    place: Place,
+) -> Result<Side, Refused>
+    ensures { Answers (memory_read (environment at.now) bound.now (option_copied behind.entry) place) result }
+{
+    match behind {
+        Some(behind) => memory_behind(alloc, at, bound, behind, place),
+        None => match &at.variables {
+            Variables::Own(_) => Ok(Side::Own),
+            _ => Err(argument(place)),
+        },
+    }
+}
+
+/// Of which module all globals are read, and in which memory.
+fn whole_read(
+    alloc: Global,
+    at: &Setting<'_>,
+    bound: &[Binding],
+    read: &Whole<'_>,
+) -> Result<(Name, Side), Refused>
+    ensures { Answers (whole_read (environment at.now) bound.now (seen read.now)) result }
+{
+    match at.language {
+        Language::Formula | Language::Function => {
+            let side = memory_read(alloc, at, bound, read.behind, read.place)?;
+            let name = module_at(alloc, at, bound, read.owner)?;
+            Ok((name, side))
+        }
+        Language::Program | Language::Sampled | Language::Operator => Err(argument(read.place)),
+    }
+}
+
+/// The refusal of all globals of a module in a place where they aren't compared.
+///
+/// # Errors
+///
+/// Those of the memory and of the module, else `Argument`.
+pub fn whole_alone(
+    alloc: Global,
+    at: &Setting<'_>,
+    bound: &[Binding],
+    read: Option<Whole<'_>>,
+    place: Place,
+) -> Result<Term, Refused>
+    ensures { Answers (whole_alone (environment at.now) bound.now (option_map seen read.entry) place) result }
+{
+    let Some(read) = read else {
+        return Err(not_built(place));
+    };
+    whole_read(alloc, at, bound, &read)?;
+    Err(argument(place))
+}
+
+/// The equation of all globals of a module in two memories.
+///
+/// # Errors
+///
+/// `TypeMismatch` where another type than that of truths is wanted; those of the memories and of the modules, from left to right;
+/// `Argument` of the left side, where the modules are two.
+pub fn whole_equation(
+    alloc: Global,
+    at: &Setting<'_>,
+    bound: &[Binding],
+    want: Option<&Ty>,
+    place: Place,
+    left: &Whole<'_>,
+    right: &Whole<'_>,
+) -> Result<Form, Refused>
+    ensures { Answers (whole_equation (environment at.now) bound.now (option_copied want.entry) place (seen left.now) (seen right.now)) result }
+{
+    truth(want, place)?;
+    let (first, from) = whole_read(alloc, at, bound, left)?;
+    let (second, to) = whole_read(alloc, at, bound, right)?;
+    if first == second {
+        agreement(alloc, at.scope, &first, from, to, place)
+    } else {
+        Err(argument(left.place))
+    }
+}

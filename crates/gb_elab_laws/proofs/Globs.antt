@@ -1,0 +1,132 @@
+-- Equations of all globals of a module are typed.
+use Rattle.std.proofs.Common.{◌≡◌, Bool, true, false, if◌then◌else◌, List, [], ◌∷◌, is_none, is_some, Option, Some, None, bytes_eq, refl, subst}
+use Rattle.gb_core.specs.declared.place.Place.{Place}
+use Rattle.gb_core.specs.declared.refusal.Why.TheVariants.{Argument}
+use Rattle.gb_core.specs.declared.ty.Ty.{Ty}
+use Rattle.gb_core.specs.declared.ty.Ty.TheVariants as ty
+use Rattle.gb_core.specs.declared.var.Var.{Var}
+use Rattle.gb_core.specs.declared.var.Var.TheVariants.{Global, Local, Glob}
+use Rattle.gb_terms.specs.declared.decl.TypedName.{TypedName}
+use Rattle.gb_terms.specs.declared.op.Op.TheVariants as op
+use Rattle.gb_terms.specs.declared.op.Side.{Side}
+use Rattle.gb_terms.specs.declared.op.Side.TheVariants as side
+use Rattle.gb_terms.specs.declared.term.Term.{Term}
+use Rattle.gb_script.specs.declared.head.Head.{Head}
+use Rattle.gb_script.specs.declared.head.Head.TheVariants as head
+use Rattle.gb_script.specs.declared.tree.Node.{Node}
+use Rattle.gb_script.specs.Tree.{head_of, text_of, place_of}
+use Rattle.gb_goal.specs.Answers.{◌>>=◌}
+use Rattle.gb_goal.specs.Answers.Answer.{given}
+use Rattle.gb_goal.specs.Scope.{module_of}
+use Rattle.gb_typing.specs.Context.{Context}
+use Rattle.gb_typing.proofs.Variables.{variable_finite}
+use Rattle.gb_mods.specs.Footprint.{footprint}
+use Rattle.gb_names.specs.declared.bindings.Binding.{Binding}
+use Rattle.gb_names.specs.declared.setting.Variables.{Variables}
+use Rattle.gb_names.specs.declared.setting.Variables.TheVariants.{Absent, Own, Sides}
+use Rattle.gb_names.specs.Environment.{Name, Environment, may_read, on_side, sides_of}
+use Rattle.gb_names.specs.Names.{ModuleVariable, global_variable, has_memories, has_own, memory_at, side_of}
+use Rattle.gb_names.specs.Wanted.{truth}
+use Rattle.gb_elab.specs.Globs.{Seen, agreement, agreement_on, agreements, agrees, behind_if, same_globals, global_named, memory_behind, memory_read, module_and_memory, module_at, true_if_none, whole_equation, whole_read, with_agreement}
+use Rattle.gb_elab_laws.specs.Fitting.{reads_globals, AreReadable, IsFitting, IsGiven}
+use Rattle.gb_elab_laws.proofs.Given.{given_bind, given_is, if_allowed, none_some, same_some}
+use Rattle.gb_elab_laws.proofs.Leaves.{HasMemory, Stands, in_stands, own_memory, side_there, standing_typed, truth_typed}
+use Rattle.gb_elab_laws.proofs.Remembered.{memory_is, remembered_globals}
+use Rattle.gb_elab_laws.proofs.Typed.{Typed, combined, truth_given}
+use Rattle.gb_elab_laws.proofs.Types.{no_distribution}
+
+-- where two programs are around, both memories are there
+pub both_memories : (globs reads : Bool) (c : Context) (vars : Variables) → AreReadable globs reads c vars → is_none (sides_of vars side.Left) ≡ false →
+    HasMemory reads c side.Left × HasMemory reads c side.Right
+both_memories globs reads c (Sides ls rs) h e = (record { side = tt; frame = h.1.memory; whole = h.0 }, record { side = tt; frame = h.2.memory; whole = h.0 })
+both_memories globs reads c (Own ls) h e = cc
+both_memories globs reads c Absent h e = cc
+
+module _ {globs : Bool} (c : Context) (at : Environment) (vs : List Binding) (fit : IsFitting globs c at vs) where
+  abbrev Has : Side → Type 0
+  Has s = HasMemory (reads_globals at.language) c s
+
+  abbrev IsTruth : Term → Type 0
+  IsTruth t = Typed globs c at.language ty.Bool t
+
+  abbrev IsTruthIf : Option Term → Type 0
+  IsTruthIf None = Unit {0}
+  IsTruthIf (Some t) = IsTruth t
+
+  named_stands : reads_globals at.language ≡ true → (x : Var) (g : ModuleVariable) → global_named at.declared x ≡ Some g → Stands c at vs fit g
+  named_stands w (Global n x) g e = in_stands c at vs fit n (module_of at.declared n) x g (λ m i. fit.globals w n m i) e
+  named_stands w (Local x) g e = none_some g e
+  named_stands w (Glob n) g e = none_some g e
+
+  behind_typed : (o : Option Term) (e : Term) → IsTruthIf o → IsTruth e → IsTruth (behind_if o e)
+  behind_typed None e h k = k
+  behind_typed (Some f) e h k = combined c at.language op.And ty.Bool ty.Bool ty.Bool f e tt (refl, (refl, (refl, tt))) h k
+
+  module _ (s r : Side) (l : Has s) (k : Has r) where
+    agrees_typed : (g : ModuleVariable) → Stands c at vs fit g → IsTruth (agrees s r g)
+    agrees_typed g h =
+        combined c at.language op.Equal g.1.ty g.1.ty ty.Bool (global_variable s g) (global_variable r g) tt (no_distribution g.1.ty (variable_finite g.1.ty h.1), refl, refl)
+        (standing_typed c at vs fit s l g h) (standing_typed c at vs fit r k g h)
+
+    agreements_typed : (o : Option Term) (xs : List Var) → IsTruthIf o → IsTruthIf (agreements at.declared s r o xs)
+    agreements_typed o [] h = h
+    agreements_typed o (x ∷ xs) h = agreements_typed (with_agreement s r o (global_named at.declared x)) xs (step (global_named at.declared x) refl)
+      where
+        step : (g : Option ModuleVariable) → global_named at.declared x ≡ g → IsTruthIf (with_agreement s r o g)
+        step None e = h
+        step (Some g) e = behind_typed o (agrees s r g) h (agrees_typed g (named_stands l.whole x g e))
+
+    all_agree_typed : (o : Option Term) → IsTruthIf o → IsTruth (true_if_none o)
+    all_agree_typed None h = truth_typed c at vs fit true
+    all_agree_typed (Some f) h = h
+
+    agreement_typed : (n : Name) (p : Place) (u : Term) → agreement at.declared n s r p ≡ given u → IsTruth u
+    agreement_typed n p u e = step (footprint at.declared n) e
+      where
+        step : (o : Option (List Var)) → agreement_on at.declared s r p o ≡ given u → IsTruth u
+        step None e = cc
+        step (Some xs) e = subst IsTruth (given_is _ u e) (all_agree_typed (agreements at.declared s r None xs) (agreements_typed None xs tt))
+
+  -- `={glob M}`
+  pub same_globals_typed : Has side.Left × Has side.Right → (m : Node) (u : Term) → same_globals at vs m ≡ given u → IsTruth u
+  same_globals_typed h m u e =
+      let n = given_bind (module_at at vs m) (λ n. agreement at.declared n side.Left side.Right (place_of m)) u e in
+      agreement_typed side.Left side.Right h.0 h.1 n.0 (place_of m) u n.2
+
+  -- the memory in which all globals are read
+  behind_has : has_memories at.language ≡ true → (k : Head) (n : Node) (p : Place) (s : Side) → memory_behind k n at vs p ≡ given s → Has s
+  behind_has may head.Number n p s e =
+      let i = given_bind (side_of (text_of n) p) _ s e in
+      let k = if_allowed (is_some (on_side at i.0)) (given i.0) Argument p s i.2 in
+      subst Has (given_is i.0 s k.1) (step i.0 (on_side at i.0) refl k.0)
+    where
+      step : (i : Side) (o : Option (List TypedName)) → on_side at i ≡ o → is_some o ≡ true → Has i
+      step i (Some ls) f b = (side_there globs (reads_globals at.language) c at.variables i ls fit.variables f).memory
+      step i None f b = cc
+  behind_has may _ n p s e =
+      let i = given_bind (memory_at at vs (text_of n) (place_of n)) _ s e in
+      let k = if_allowed (may_read at.memories (text_of n)) (given i.0) Argument p s i.2 in
+      let m = memory_is c at vs fit may (text_of n) (place_of n) i.0 i.1 in
+      subst Has (given_is i.0 s k.1) (record { side = m.side; frame = m.frame; whole = remembered_globals at.language may })
+
+  memory_has : has_memories at.language ≡ true → (o : Option Node) (p : Place) (s : Side) → memory_read at vs o p ≡ given s → Has s
+  memory_has may None p s e =
+      let k = if_allowed (has_own at.variables) (given side.Own) Argument p s e in
+      subst Has (given_is side.Own s k.1) (own_memory globs (reads_globals at.language) c at.variables k.0 fit.variables)
+  memory_has may (Some n) p s e = behind_has may (head_of n) n p s e
+
+  read_has : (w : Seen) (r : Name × Side) → whole_read at vs w ≡ given r → Has r.1
+  read_has w r e =
+      let k = if_allowed (has_memories at.language) (module_and_memory at vs w) Argument w.2 r e in
+      let s = given_bind (memory_read at vs w.1 w.2) _ r k.1 in
+      let n = given_bind (module_at at vs w.0) (λ n. given (n, s.0)) r s.2 in
+      subst (λ (z : Name × Side). Has z.1) (given_is (n.0, s.0) r n.2) (memory_has k.0 w.1 w.2 s.0 s.1)
+
+  -- an equation in two memories
+  pub whole_equation_typed : (w : Option Ty) (p : Place) (a b : Seen) (u : Term) → whole_equation at vs w p a b ≡ given u → IsGiven globs c at.language w u
+  whole_equation_typed w p a b u e =
+      let q = given_bind (truth w p) _ u e in
+      let l = given_bind (whole_read at vs a) _ u q.2 in
+      let r = given_bind (whole_read at vs b) _ u l.2 in
+      let k = if_allowed (bytes_eq l.0.0 r.0.0) (agreement at.declared l.0.0 l.0.1 r.0.1 p) Argument a.2 u r.2 in
+      truth_given c at.language w p q.0 u q.1 (agreement_typed l.0.1 r.0.1 (read_has a l.0 l.1) (read_has b r.0 r.1) l.0.0 p u k.1)

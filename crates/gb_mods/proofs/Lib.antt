@@ -1,0 +1,5 @@
+pub mod CalledSteps
+pub mod OrderSteps
+pub mod TouchedSteps
+pub mod WrittenSteps
+pub mod Closed

@@ -1,0 +1,62 @@
+-- Which procedures a procedure calls.
+use Rattle.std.specs.Prelude.{ℕ, zero, suc, ◌^◌, ◌==◌, Bool, false, ◌&&◌, if◌then◌else◌, List, [], ◌∷◌, ◌++◌, drop, length, Option, Some, None, bytes_eq}
+use Rattle.std.specs.List.{list_any}
+use Rattle.gb_terms.specs.declared.decl.Proc.{Proc}
+use Rattle.gb_terms.specs.declared.module.Mexp.{Mexp}
+use Rattle.gb_terms.specs.declared.module.Mexp.TheVariants.{Name}
+use Rattle.gb_terms.specs.declared.module.ProcRef.{ProcRef}
+use Rattle.gb_terms.specs.declared.term.Head.TheVariants.{Call', If', While'}
+use Rattle.gb_terms.specs.declared.term.Instr.{Instr, Row_of-Instr, end_of-Instr, more_of-Instr}
+use Rattle.gb_goal.specs.Scope.{Declarations, procedure_of}
+
+abbrev mutual
+  -- the procedures that a statement calls itself, and those of the statements in it
+  pub statement_calls : Instr → List ProcRef
+  statement_calls (Call' xs p n es) = p ∷ []
+  statement_calls (If' e m a n b) = row_calls a ++ row_calls b
+  statement_calls (While' e v n a) = row_calls a
+  statement_calls _ = []
+
+  pub row_calls : {n : _} → Row_of-Instr n → List ProcRef
+  row_calls end_of-Instr = []
+  row_calls (more_of-Instr i is) = statement_calls i ++ row_calls is
+
+-- the same of lists
+abbrev pub calls : List Instr → List ProcRef
+calls [] = []
+calls (i ∷ is) = statement_calls i ++ calls is
+
+abbrev pub same_module : Mexp → Mexp → Bool
+same_module (Name m) (Name n) = bytes_eq m n
+same_module _ _ = false
+
+-- both mean the same procedure of a module that they name by its name alone
+abbrev pub same_procedure : ProcRef → ProcRef → Bool
+same_procedure p q = same_module p.module q.module && bytes_eq p.name q.name
+
+abbrev pub is_among : List ProcRef → ProcRef → Bool
+is_among ps q = list_any (λ p. same_procedure p q) ps
+
+-- procedures, and behind them those others that aren't among them, each once
+abbrev pub added : List ProcRef → List ProcRef → List ProcRef
+added ps [] = ps
+added ps (q ∷ qs) = added (if is_among ps q then ps else ps ++ q ∷ []) qs
+
+abbrev pub called_by : Option Proc → List ProcRef
+called_by None = []
+called_by (Some f) = calls f.body.list
+
+-- the procedures that declared ones call themselves
+abbrev pub called : Declarations → List ProcRef → List ProcRef
+called ds [] = []
+called ds (p ∷ ps) = called_by (procedure_of ds p) ++ called ds ps
+
+-- Procedures, of which the calls of the first k are known to be among them: with those that the others call, those that these call,
+-- and so on. None where there are more after so many calls.
+unfoldable pub reached : ℕ → Declarations → ℕ → List ProcRef → Option (List ProcRef)
+reached zero ds k ps = None
+reached (suc n) ds k ps = if k == length ps then Some ps else reached n ds (length ps) (added ps (called ds (drop k ps)))
+
+-- Procedures, and behind them all that they call, through every procedure. (They are known of each script: it has fewer than 2^32.)
+abbrev pub all_reached : Declarations → List ProcRef → Option (List ProcRef)
+all_reached ds ps = reached (2 ^ 32) ds 0 ps

@@ -1,0 +1,121 @@
+//! Which procedures a procedure calls.
+
+ghost use Rattle.std.specs.Prelude.{◌≡◌, ◌++◌, IfOk};
+ghost use Rattle.gb_mods.specs.Called.{added, all_reached, called, calls, is_among, same_procedure, statement_calls};
+
+use gb_core::same::same_name;
+use gb_goal::scope::Scope;
+use gb_shared::Shared;
+use gb_terms::module::{Mexp, ProcRef};
+use gb_terms::term::Instr;
+use sqlite_items::Items;
+use std::alloc::{AllocError, Global};
+
+pub type Procedures = Items<Shared<ProcRef>>;
+
+/// Procedures behind others, with those that a statement calls itself, and those of the statements in it.
+#[cycle(calls)]
+#[tactic(auto, using(crate::proofs::CalledSteps::calls_if, crate::proofs::CalledSteps::calls_while))]
+fn statement_calls(
+    alloc: Global,
+    found: Procedures,
+    statement: &Instr,
+) -> Result<Procedures, AllocError>
+    ensures { IfOk result (λ made. made ≡ found ++ statement_calls statement.now) }
+{
+    match statement {
+        Instr::Call(_, procedure, _) => {
+            let mut all = found;
+            all.push(procedure.share()?)?;
+            Ok(all)
+        }
+        Instr::If(_, yes, no) => {
+            let found = calls(alloc, found, yes.list.as_slice())?;
+            calls(alloc, found, no.list.as_slice())
+        }
+        Instr::While(_, _, body) => calls(alloc, found, body.list.as_slice()),
+        _ => Ok(found),
+    }
+}
+
+/// The same of statements one after another.
+#[cycle(calls)]
+pub fn calls(alloc: Global, found: Procedures, list: &[Instr]) -> Result<Procedures, AllocError>
+    ensures { IfOk result (λ made. made ≡ found ++ calls list.now) }
+{
+    let mut all = found;
+    for statement in list {
+        all = statement_calls(alloc, all, statement)?;
+    }
+    Ok(all)
+}
+
+/// Whether both mean the same procedure of a module that they name by its name alone.
+fn same_procedure(a: &ProcRef, b: &ProcRef) -> bool
+    ensures { result ≡ same_procedure a.now b.now }
+{
+    match (&a.module, &b.module) {
+        (Mexp::Name(m), Mexp::Name(n)) => same_name(m, n) && same_name(&a.name, &b.name),
+        _ => false,
+    }
+}
+
+fn is_among(list: &[Shared<ProcRef>], procedure: &ProcRef) -> bool
+    ensures { result ≡ is_among list.now procedure.now }
+{
+    for x in list {
+        if same_procedure(x.get(), procedure) {
+            return true;
+        }
+    }
+    false
+}
+
+/// Procedures, and behind them those others that aren't among them, each once.
+fn added(found: Procedures, list: &[Shared<ProcRef>]) -> Result<Procedures, AllocError>
+    ensures { IfOk result (λ made. made ≡ added found list.now) }
+{
+    let mut all = found;
+    for x in list {
+        if !is_among(all.as_slice(), x.get()) {
+            all.push(x.share()?)?;
+        }
+    }
+    Ok(all)
+}
+
+/// The procedures that declared ones call themselves.
+fn called(alloc: Global, scope: &Scope, list: &[Shared<ProcRef>]) -> Result<Procedures, AllocError>
+    ensures { IfOk result (λ made. made ≡ called scope.now list.now) }
+{
+    let mut all = Items::new(alloc);
+    for x in list {
+        if let Some(procedure) = scope.procedure(x.get()) {
+            all = calls(alloc, all, procedure.body.list.as_slice())?;
+        }
+    }
+    Ok(all)
+}
+
+/// Procedures, and behind them all that they call, through every procedure.
+#[tactic(auto, using(crate::proofs::CalledSteps::added_longer, crate::proofs::CalledSteps::reached_end, crate::proofs::CalledSteps::reached_next))]
+pub fn all_reached(
+    alloc: Global,
+    scope: &Scope,
+    first: Procedures,
+) -> Result<Option<Procedures>, AllocError>
+    ensures { IfOk result (λ made. made ≡ all_reached scope.now first) }
+{
+    let mut all = first;
+    let mut followed = 0usize;
+    for level in 0..0x1_0000_0000usize {
+        let count = all.len();
+        if followed == count {
+            return Ok(Some(all));
+        }
+        let called = called(alloc, scope, &all.as_slice()[followed..])?;
+        all = added(all, called.as_slice())?;
+        followed = count;
+    }
+    Ok(None)
+}

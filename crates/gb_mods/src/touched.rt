@@ -1,0 +1,100 @@
+//! Which variables statements read or write.
+
+ghost use Rattle.std.specs.Prelude.{◌≡◌, ◌++◌, Some, IfOk};
+ghost use Rattle.gb_holds.specs.Footprints.{globals_among, head_variables, variables};
+ghost use Rattle.gb_mods.specs.Touched.{each_touched, each_variables, statement_touched, touched_itself};
+
+use crate::order::{globals_among, with_variables};
+use gb_core::copy::copy_var;
+use gb_core::var::Vars;
+use gb_terms::decl::Proc;
+use gb_terms::op::Read;
+use gb_terms::term::{Head, Instr, Term};
+use sqlite_items::Items;
+use std::alloc::{AllocError, Global};
+
+/// Variables behind others, with the one that a head reads itself.
+fn with_head(alloc: Global, found: Vars, head: &Head) -> Result<Vars, AllocError>
+    ensures { IfOk result (λ made. made ≡ found ++ head_variables head.now) }
+{
+    let mut all = found;
+    match head {
+        Head::Read(Read::Program { var, .. }) => all.push(copy_var(alloc, var)?)?,
+        _ => {}
+    }
+    Ok(all)
+}
+
+/// Variables behind others, with those that an expression reads.
+#[cycle(variables)]
+fn variables(alloc: Global, found: Vars, term: &Term) -> Result<Vars, AllocError>
+    ensures { IfOk result (λ made. made ≡ found ++ variables term.now) }
+{
+    let found = with_head(alloc, found, term.head.get())?;
+    each_variables(alloc, found, term.args.as_slice())
+}
+
+/// The same of expressions one after another.
+#[cycle(variables)]
+fn each_variables(alloc: Global, found: Vars, list: &[Term]) -> Result<Vars, AllocError>
+    ensures { IfOk result (λ made. made ≡ found ++ each_variables list.now) }
+{
+    let mut all = found;
+    for term in list {
+        all = variables(alloc, all, term)?;
+    }
+    Ok(all)
+}
+
+/// Variables behind others, with those that a statement reads or writes itself, and those of the statements in it.
+#[cycle(touched)]
+fn statement_touched(alloc: Global, found: Vars, statement: &Instr) -> Result<Vars, AllocError>
+    ensures { IfOk result (λ made. made ≡ found ++ statement_touched statement.now) }
+{
+    match statement {
+        Instr::Assign(targets, value) => {
+            let found = with_variables(alloc, found, targets.as_slice())?;
+            variables(alloc, found, value)
+        }
+        Instr::Sample(target, distribution) => {
+            let mut all = found;
+            all.push(copy_var(alloc, target)?)?;
+            variables(alloc, all, distribution)
+        }
+        Instr::Call(targets, _, args) => {
+            let found = with_variables(alloc, found, targets.as_slice())?;
+            each_variables(alloc, found, args.as_slice())
+        }
+        Instr::If(test, yes, no) => {
+            let found = variables(alloc, found, test)?;
+            let found = touched(alloc, found, yes.list.as_slice())?;
+            touched(alloc, found, no.list.as_slice())
+        }
+        Instr::While(test, variant, body) => {
+            let found = variables(alloc, found, test)?;
+            let found = variables(alloc, found, variant)?;
+            touched(alloc, found, body.list.as_slice())
+        }
+    }
+}
+
+/// The same of statements one after another.
+#[cycle(touched)]
+fn touched(alloc: Global, found: Vars, list: &[Instr]) -> Result<Vars, AllocError>
+    ensures { IfOk result (λ made. made ≡ found ++ each_touched list.now) }
+{
+    let mut all = found;
+    for statement in list {
+        all = statement_touched(alloc, all, statement)?;
+    }
+    Ok(all)
+}
+
+/// The globals that a procedure reads or writes itself.
+pub fn touched_itself(alloc: Global, procedure: &Proc) -> Result<Vars, AllocError>
+    ensures { IfOk result (λ made. made ≡ touched_itself (Some procedure.now)) }
+{
+    let found = touched(alloc, Items::new(alloc), procedure.body.list.as_slice())?;
+    let found = variables(alloc, found, &procedure.value)?;
+    globals_among(alloc, found.as_slice())
+}

@@ -1,0 +1,90 @@
+//! Which variables statements and procedures write.
+
+ghost use Rattle.std.specs.Prelude.{◌≡◌, ◌++◌, IfOk};
+ghost use Rattle.gb_mods.specs.Written.{statement_targets, targets, written, written_by};
+
+use crate::called::all_reached;
+use crate::order::{globals_among, joined, with_variables};
+use gb_core::copy::copy_var;
+use gb_core::var::Vars;
+use gb_goal::scope::Scope;
+use gb_shared::Shared;
+use gb_terms::module::ProcRef;
+use gb_terms::term::Instr;
+use sqlite_items::Items;
+use std::alloc::{AllocError, Global};
+
+/// Variables behind others, with those that a statement assigns or samples itself, and those of the statements in it.
+#[cycle(targets)]
+#[tactic(auto, using(crate::proofs::WrittenSteps::targets_if, crate::proofs::WrittenSteps::targets_while))]
+fn statement_targets(alloc: Global, found: Vars, statement: &Instr) -> Result<Vars, AllocError>
+    ensures { IfOk result (λ made. made ≡ found ++ statement_targets statement.now) }
+{
+    match statement {
+        Instr::Assign(targets, _) => with_variables(alloc, found, targets.as_slice()),
+        Instr::Call(targets, _, _) => with_variables(alloc, found, targets.as_slice()),
+        Instr::Sample(target, _) => {
+            let mut all = found;
+            all.push(copy_var(alloc, target)?)?;
+            Ok(all)
+        }
+        Instr::If(_, yes, no) => {
+            let found = targets(alloc, found, yes.list.as_slice())?;
+            targets(alloc, found, no.list.as_slice())
+        }
+        Instr::While(_, _, body) => targets(alloc, found, body.list.as_slice()),
+    }
+}
+
+/// The same of statements one after another.
+#[cycle(targets)]
+pub fn targets(alloc: Global, found: Vars, list: &[Instr]) -> Result<Vars, AllocError>
+    ensures { IfOk result (λ made. made ≡ found ++ targets list.now) }
+{
+    let mut all = found;
+    for statement in list {
+        all = statement_targets(alloc, all, statement)?;
+    }
+    Ok(all)
+}
+
+/// The globals that procedures write themselves. None where one isn't declared.
+fn written_by(
+    alloc: Global,
+    scope: &Scope,
+    list: &[Shared<ProcRef>],
+) -> Result<Option<Vars>, AllocError>
+    ensures { IfOk result (λ made. made ≡ written_by scope.now list.now) }
+{
+    let mut all = Items::new(alloc);
+    for x in list {
+        let Some(procedure) = scope.procedure(x.get()) else {
+            return Ok(None);
+        };
+        let own = targets(alloc, Items::new(alloc), procedure.body.list.as_slice())?;
+        let own = globals_among(alloc, own.as_slice())?;
+        all = with_variables(alloc, all, own.as_slice())?;
+    }
+    Ok(Some(all))
+}
+
+/// The globals that a procedure writes, through every procedure that it calls, in order. None where one of these isn't declared by its name.
+#[tactic(auto, unfolding(crate::specs::Written::written))]
+pub fn written(
+    alloc: Global,
+    scope: &Scope,
+    procedure: &Shared<ProcRef>,
+) -> Result<Option<Vars>, AllocError>
+    ensures { IfOk result (λ made. made ≡ written scope.now procedure.now) }
+{
+    let mut first = Items::new(alloc);
+    first.push(procedure.share()?)?;
+    let Some(all) = all_reached(alloc, scope, first)? else {
+        return Ok(None);
+    };
+    let Some(found) = written_by(alloc, scope, all.as_slice())? else {
+        return Ok(None);
+    };
+    let ordered = joined(alloc, found.as_slice(), Items::new(alloc))?;
+    Ok(Some(ordered))
+}

@@ -1,0 +1,6 @@
+pub mod ReadProcedures
+pub mod Members
+pub mod Bodies
+pub mod Ranks
+pub mod FinalModules
+pub mod SameFootprint

@@ -1,0 +1,286 @@
+-- The footprint that is computed has the globals of the footprint in the meaning.
+use Rattle.std.proofs.Common.{◌≡◌, ◌⊎◌, inl, inr, if◌then◌else◌, ℕ, zero, suc, ◌<◌, ◌==◌, ◌^◌, Bool, true, false, List, [], ◌∷◌, ◌++◌, drop, length, Option, Some, None, bytes_eq, refl, ap, sym, ◌∙◌, subst, arith}
+use Rattle.std.specs.Option.{option_map}
+use Rattle.std.proofs.lemmas.List.{append_assoc, append-nil}
+use Rattle.gb_core.specs.declared.var.Var.{Var}
+use Rattle.gb_terms.specs.declared.decl.Module.{Module}
+use Rattle.gb_terms.specs.declared.decl.Proc.{Proc}
+use Rattle.gb_terms.specs.declared.module.Mexp.TheVariants.{Name as named}
+use Rattle.gb_terms.specs.declared.module.ProcRef.{ProcRef}
+use Rattle.gb_goal.specs.Scope as scope
+use Rattle.gb_goal.specs.Scope.{module_of, proc_if_plain, proc_in, proc_of, procedure_of}
+use Rattle.gb_meaning.specs.Names.{Name}
+use Rattle.gb_holds.specs.Declared.{declared}
+use Rattle.gb_holds.specs.Footprints.{body_touched, footprint_read, globals_among, in_order, of_all, of_callee, var_order, variables}
+use Rattle.gb_holds.specs.Footprints as meant
+use Rattle.gb_holds.specs.Modules.{Applied, Modules, Procedures, found, modules_of, no_module, procedure_at, with_module, with_params, with_procedure, with_procedures}
+use Rattle.gb_holds.specs.Naming.{IsFreshAmong}
+use Rattle.gb_holds.proofs.Procedures.{in_module}
+use Rattle.gb_later.proofs.ModulesAlike.{footprint-looks}
+use Rattle.gb_typing.specs.Context.{Context}
+use Rattle.gb_typing.specs.Modules.{ProcedureType}
+use Rattle.gb_typing.specs.Programs.{type_of_procedure}
+use Rattle.gb_typing.specs.Scopes.{nothing, procedure_types, AreProcedures, IsTypedScope}
+use Rattle.gb_typing.proofs.Scripts.{itself, none_some, same_some}
+use Rattle.gb_mods.specs.Called.{added, called, called_by, calls, is_among, reached}
+use Rattle.gb_mods.specs.Footprint.{procedures, reference, references, touched}
+use Rattle.gb_mods.specs.Footprint as computed
+use Rattle.gb_mods.specs.Order.{joined}
+use Rattle.gb_mods.specs.Touched.{each_touched, touched_itself}
+use Rattle.gb_mods.proofs.Closed.{IsIn, AreReached, all_closed}
+use Rattle.gb_mods_laws.specs.Members.{Has, CallsAreNamed}
+use Rattle.gb_mods_laws.proofs.Bodies.{called_body, each_call, own_body, split_body}
+use Rattle.gb_mods_laws.proofs.FinalModules.{Final, final_module}
+use Rattle.gb_mods_laws.proofs.Members.{either, has_behind, has_either, has_front, in_joined, in_ordered, joined_has, kept, ordered_has, was_there, IsGlobal}
+use Rattle.gb_mods_laws.proofs.Ranks.{falls, rank}
+use Rattle.gb_mods_laws.proofs.ReadProcedures.{read_there}
+
+module _ (ds : scope.Declarations) (scoped : IsTypedScope (declared ds)) (names : CallsAreNamed ds) where
+  abbrev all : Modules (List Var)
+  all = modules_of footprint_read (λ k. no_module) (declared ds)
+
+  -- what a procedure touches in the meaning
+  abbrev reaches : ProcRef → List Var
+  reaches r = of_callee (procedure_at all r)
+
+  reaches_is : (r : ProcRef) (p : Proc) → procedure_of ds r ≡ Some p → reaches r ≡ footprint_read (procedure_at all) p
+  reaches_is r p e = ap of_callee (read_there footprint_read footprint-looks (λ k. no_module) ds scoped r p e)
+
+  reaches_global : (r : ProcRef) (p : Proc) → procedure_of ds r ≡ Some p → (z : Var) → Has (reaches r) z → IsGlobal z
+  reaches_global r p e z h =
+      (was_there (body_touched (procedure_at all) p.body.list ++ variables p.value) z (in_ordered _ z (subst (λ xs. Has xs z) (reaches_is r p e) h))).0
+
+  reaches_split : (r : ProcRef) (p : Proc) → procedure_of ds r ≡ Some p → (z : Var) → Has (reaches r) z →
+      Has (touched_itself (Some p)) z ⊎ ((q : ProcRef) × IsIn (calls p.body.list) q × Has (reaches q) z)
+  reaches_split r p e z h =
+      let k = was_there (body_touched (procedure_at all) p.body.list ++ variables p.value) z (in_ordered _ z (subst (λ xs. Has xs z) (reaches_is r p e) h)) in
+      either
+      (λ b. either (λ o. inl (kept (each_touched p.body.list ++ variables p.value) z k.0 (has_front (each_touched p.body.list) (variables p.value) z o))) (λ t. inr t)
+      (split_body (procedure_at all) z p.body.list b))
+      (λ v. inl (kept (each_touched p.body.list ++ variables p.value) z k.0 (has_behind (each_touched p.body.list) (variables p.value) z v)))
+      (has_either (body_touched (procedure_at all) p.body.list) (variables p.value) z k.1)
+
+  reaches_body : (r : ProcRef) (p : Proc) → procedure_of ds r ≡ Some p → (z : Var) → IsGlobal z → Has (body_touched (procedure_at all) p.body.list ++ variables p.value) z → Has (reaches r) z
+  reaches_body r p e z g h =
+      subst (λ xs. Has xs z) (sym (reaches_is r p e)) (ordered_has _ z (kept (body_touched (procedure_at all) p.body.list ++ variables p.value) z g h))
+
+  reaches_own : (r : ProcRef) (p : Proc) → procedure_of ds r ≡ Some p → (z : Var) → Has (touched_itself (Some p)) z → Has (reaches r) z
+  reaches_own r p e z h =
+      let k = was_there (each_touched p.body.list ++ variables p.value) z h in
+      reaches_body r p e z k.0
+      (either (λ o. has_front (body_touched (procedure_at all) p.body.list) (variables p.value) z (own_body (procedure_at all) z p.body.list o))
+      (λ v. has_behind (body_touched (procedure_at all) p.body.list) (variables p.value) z v) (has_either (each_touched p.body.list) (variables p.value) z k.1))
+
+  reaches_called : (r : ProcRef) (p : Proc) → procedure_of ds r ≡ Some p → (q : ProcRef) → IsIn (calls p.body.list) q → (z : Var) → Has (reaches q) z → Has (reaches r) z
+  reaches_called r p e q c z h =
+      let f = each_call (λ q. (f : Proc) × (procedure_of ds q ≡ Some f)) p.body.list (names r p e) q c in
+      reaches_body r p e z (reaches_global q f.0 f.1 z h) (has_front (body_touched (procedure_at all) p.body.list) (variables p.value) z (called_body (procedure_at all) z p.body.list q h c))
+
+  -- what reached procedures touch themselves
+  touched_by : (qs : List ProcRef) (r : ProcRef) (p : Proc) → procedure_of ds r ≡ Some p → IsIn qs r → (z : Var) → Has (touched_itself (Some p)) z → Has (touched ds qs) z
+  touched_by [] r p e i z h = absurd i
+  touched_by (q ∷ qs) r p e (inl s) z h =
+      has_front (touched_itself (procedure_of ds q)) (touched ds qs) z (subst (λ o. Has (touched_itself o) z) (sym (ap (procedure_of ds) s ∙ e)) h)
+  touched_by (q ∷ qs) r p e (inr i) z h = has_behind (touched_itself (procedure_of ds q)) (touched ds qs) z (touched_by qs r p e i z h)
+
+  by_one : (qs : List ProcRef) (z : Var) → Has (touched ds qs) z → (q : ProcRef) × IsIn qs q × Has (touched_itself (procedure_of ds q)) z
+  by_one [] z h = absurd h
+  by_one (q ∷ qs) z h =
+      either (λ k. (q, inl refl, k)) (λ k. let o = by_one qs z k in (o.0, inr o.1, o.2)) (has_either (touched_itself (procedure_of ds q)) (touched ds qs) z h)
+
+  -- what a reached procedure touches in the meaning, reached ones touch themselves
+  deep : (d : ℕ) (ps qs : List ProcRef) → AreReached ds ps qs → (r : ProcRef) (p : Proc) → procedure_of ds r ≡ Some p → rank ds scoped r < d → IsIn qs r → (z : Var) → Has (reaches r) z → Has (touched ds qs) z
+  deep zero ps qs closed r p e l i z h = absurd (omega (arith, l))
+  deep (suc d) ps qs closed r p e l i z h =
+      either (λ o. touched_by qs r p e i z o)
+      (λ t. let f = each_call (λ q. (f : Proc) × (procedure_of ds q ≡ Some f)) p.body.list (names r p e) t.0 t.1 in
+      let k = falls ds scoped r p e t.0 t.1 in
+      let m : rank ds scoped t.0 < d = omega (arith, k, l) in
+      let c = closed.closed in
+      deep d ps qs closed t.0 f.0 f.1 m (c r i t.0 (subst (λ o. IsIn (called_by o) t.0) (sym e) t.1)) z t.2)
+      (reaches_split r p e z h)
+
+  -- What is so of procedures, and of each that one of which it is so calls, is so of all that they reach.
+  module _ (P : ProcRef → Type 0) (on : (r q : ProcRef) → P r → IsIn (called_by (procedure_of ds r)) q → P q) where
+    abbrev All : List ProcRef → Type 0
+    All ps = (q : ProcRef) → IsIn ps q → P q
+
+    all_called : (ps : List ProcRef) → All ps → All (called ds ps)
+    all_called [] h q i = absurd i
+    all_called (p ∷ ps) h q i = step (called_by (procedure_of ds p)) (λ k. on p q (h p (inl refl)) k) (all_called ps (λ x k. h x (inr k)) q) i
+      where
+        step : (xs : List ProcRef) → (IsIn xs q → P q) → (IsIn (called ds ps) q → P q) → IsIn (xs ++ called ds ps) q → P q
+        step [] f g j = g j
+        step (x ∷ xs) f g (inl e) = f (inl e)
+        step (x ∷ xs) f g (inr j) = step xs (λ k. f (inr k)) g j
+
+    all_added : (ps qs : List ProcRef) → All ps → All qs → All (added ps qs)
+    all_added ps [] f g = f
+    all_added ps (x ∷ xs) f g = all_added (if is_among ps x then ps else ps ++ x ∷ []) xs (step (is_among ps x)) (λ q i. g q (inr i))
+      where
+        more : (ys : List ProcRef) → All ys → All (ys ++ x ∷ [])
+        more [] h q (inl e) = subst P e (g x (inl refl))
+        more [] h q (inr i) = absurd i
+        more (y ∷ ys) h q (inl e) = h q (inl e)
+        more (y ∷ ys) h q (inr i) = more ys (λ z k. h z (inr k)) q i
+
+        step : (b : Bool) → All (if b then ps else ps ++ x ∷ [])
+        step true = f
+        step false = more ps f
+
+    all_dropped : (k : ℕ) (ps : List ProcRef) → All ps → All (drop k ps)
+    all_dropped zero ps h = h
+    all_dropped (suc k) [] h = h
+    all_dropped (suc k) (p ∷ ps) h = all_dropped k ps (λ q i. h q (inr i))
+
+    all_reached : (n k : ℕ) (ps qs : List ProcRef) → All ps → reached n ds k ps ≡ Some qs → All qs
+    unfolding reached
+    all_reached zero k ps qs h e = none_some qs e
+    all_reached (suc n) k ps qs h e = step (k == length ps) e (all_reached n (length ps) (added ps (called ds (drop k ps))) qs (all_added ps (called ds (drop k ps)) h (all_called (drop k ps) (all_dropped k ps h))))
+      where
+        step : (b : Bool) → (if b then Some ps else reached n ds (length ps) (added ps (called ds (drop k ps)))) ≡ Some qs →
+            (reached n ds (length ps) (added ps (called ds (drop k ps))) ≡ Some qs → All qs) → All qs
+        step true g go = subst All (same_some ps qs g) h
+        step false g go = go g
+
+  -- The procedures of a module.
+
+  fresh_types : (xs : Procedures ProcedureType) (ps : List Proc) (n : Name) → found (xs ++ procedure_types ps) n ≡ None → IsFreshAmong ps n
+  fresh_types [] [] n e = tt
+  fresh_types [] (p ∷ ps) n e = step (bytes_eq n p.name) refl (fresh_types [] ps n) e
+    where
+      step : (b : Bool) → bytes_eq n p.name ≡ b → (found (procedure_types ps) n ≡ None → IsFreshAmong ps n) → (if b then Some (type_of_procedure p) else found (procedure_types ps) n) ≡ None → (bytes_eq n p.name ≡ false) × IsFreshAmong ps n
+      step true q go f = cc
+      step false q go f = (q, go f)
+  fresh_types (x ∷ xs) ps n e = step (bytes_eq n x.0) (fresh_types xs ps n) e
+    where
+      step : (b : Bool) → (found (xs ++ procedure_types ps) n ≡ None → IsFreshAmong ps n) → (if b then Some x.1 else found (xs ++ procedure_types ps) n) ≡ None → IsFreshAmong ps n
+      step true go f = cc
+      step false go f = go f
+
+  fresh_at : (c : Context) (m : Module) (earlier : Procedures ProcedureType) (front : List Proc) (p : Proc) (after : List Proc) → AreProcedures c m earlier (front ++ p ∷ after) →
+      found (earlier ++ procedure_types front) p.name ≡ None
+  fresh_at c m earlier [] p after w = subst (λ xs. found xs p.name ≡ None) (sym (append-nil earlier)) w.0
+  fresh_at c m earlier (x ∷ front) p after w =
+      subst (λ xs. found xs p.name ≡ None) (append_assoc earlier ((x.name, type_of_procedure x) ∷ []) (procedure_types front)) (fresh_at c m (earlier ++ (x.name, type_of_procedure x) ∷ []) front p after w.2)
+
+  record Entry (ms : Modules (List Var)) (m : Module) (e : Applied (List Var)) (ps : List Proc) (z : Var) : Type 0 where
+    front : List Proc
+    proc : Proc
+    after : List Proc
+    place : ps ≡ front ++ proc ∷ after
+    has : Has (footprint_read (procedure_at (with_params (with_module ms m.name (with_procedures footprint_read ms m e front)) m.params [])) proc) z
+
+  of_all_either : (xs : Procedures (List Var)) (n : Name) (v : List Var) (z : Var) → Has (of_all (xs ++ (n, v) ∷ [])) z → Has (of_all xs) z ⊎ Has v z
+  of_all_either [] n v z h = either (λ k. inr k) (λ k. absurd k) (has_either v [] z h)
+  of_all_either (x ∷ xs) n v z h =
+      either (λ k. inl (has_front x.1 (of_all xs) z k)) (λ k. either (λ j. inl (has_behind x.1 (of_all xs) z j)) (λ j. inr j) (of_all_either xs n v z k)) (has_either x.1 (of_all (xs ++ (n, v) ∷ [])) z h)
+
+  entry_at : (ms : Modules (List Var)) (m : Module) (e : Applied (List Var)) (ps : List Proc) (z : Var) → Has (of_all (with_procedures footprint_read ms m e ps [])) z → Has (of_all (e [])) z ⊎ Entry ms m e ps z
+  entry_at ms m e [] z h = inl h
+  entry_at ms m e (p ∷ ps) z h =
+      either
+      (λ k. either (λ j. inl j) (λ j. inr (record { front = []; proc = p; after = ps; place = refl; has = j }))
+      (of_all_either (e []) p.name (footprint_read (procedure_at (with_params (with_module ms m.name e) m.params [])) p) z k))
+      (λ x. inr (record { front = p ∷ x.front; proc = x.proc; after = x.after; place = ap (λ l. p ∷ l) x.place; has = x.has }))
+      (entry_at ms m (with_procedure footprint_read ms m e p) ps z h)
+
+  found_has : (xs : Procedures (List Var)) (n : Name) (z : Var) → Has (of_callee (found xs n)) z → Has (of_all xs) z
+  found_has [] n z h = absurd h
+  found_has (x ∷ xs) n z h = step (bytes_eq n x.0) (found_has xs n z) h
+    where
+      step : (b : Bool) → (Has (of_callee (found xs n)) z → Has (of_all xs) z) → Has (of_callee (if b then Some x.1 else found xs n)) z → Has (x.1 ++ of_all xs) z
+      step true go k = has_front x.1 (of_all xs) z k
+      step false go k = has_behind x.1 (of_all xs) z (go k)
+
+  first_is : (front : List Proc) (p : Proc) (after : List Proc) → IsFreshAmong front p.name → proc_of (front ++ p ∷ after) p.name ≡ Some p
+  first_is [] p after f = ap (λ b. if b then Some p else proc_of after p.name) (itself p.name)
+  first_is (x ∷ front) p after f = ap (λ b. if b then Some x else proc_of (front ++ p ∷ after) p.name) f.0 ∙ first_is front p after f.1
+
+  referred : (n : Name) (front : List Proc) (p : Proc) (after : List Proc) → IsIn (references n (front ++ p ∷ after)) (reference n p)
+  referred n [] p after = inl refl
+  referred n (x ∷ front) p after = inr (referred n front p after)
+
+  referring : (n : Name) (ps : List Proc) (r : ProcRef) → IsIn (references n ps) r → (p : Proc) × (reference n p ≡ r)
+  referring n [] r h = absurd h
+  referring n (p ∷ ps) r (inl e) = (p, e)
+  referring n (p ∷ ps) r (inr h) = referring n ps r h
+
+  module _ (n : Name) (m : Module) (there : module_of ds n ≡ Some m) (plain : m.params ≡ []) where
+    -- the footprint in the meaning
+    abbrev meaning : List Var
+    meaning = meant.footprint all (λ k. false) (named n)
+
+    start : procedures n (module_of ds n) ≡ references n m.procs
+    start = ap (procedures n) there
+
+    meaning_has : (z : Var) → Has (of_all (all n [])) z → Has meaning z
+    meaning_has z h = ordered_has (of_all (all n [])) z h
+
+    IsMeant : ProcRef → Type 0
+    IsMeant r = (z : Var) → Has (reaches r) z → Has meaning z
+
+    called_meant : (r q : ProcRef) → IsMeant r → IsIn (called_by (procedure_of ds r)) q → IsMeant q
+    unfolding IsMeant
+    called_meant r q k i z h = step (procedure_of ds r) refl i
+      where
+        step : (o : Option Proc) → procedure_of ds r ≡ o → IsIn (called_by o) q → Has meaning z
+        step None e j = absurd j
+        step (Some p) e j = k z (reaches_called r p e q j z h)
+
+    first_meant : (r : ProcRef) → IsIn (procedures n (module_of ds n)) r → IsMeant r
+    unfolding IsMeant
+    first_meant r i z h =
+        let k = referring n m.procs r (subst (λ ps. IsIn ps r) start i) in
+        meaning_has z (found_has (all n []) k.0.name z (subst (λ q. Has (reaches q) z) (sym k.1) h))
+
+    declared_one : (q : ProcRef) (z : Var) (o : Option Proc) → procedure_of ds q ≡ o → Has (touched_itself o) z → (p : Proc) × (procedure_of ds q ≡ Some p) × Has (touched_itself (Some p)) z
+    declared_one q z None e h = absurd h
+    declared_one q z (Some p) e h = (p, e, h)
+
+    reached_meant : (qs : List ProcRef) → reached (2 ^ 32) ds 0 (procedures n (module_of ds n)) ≡ Some qs → (z : Var) → Has (touched ds qs) z → Has meaning z
+    unfolding IsMeant
+    reached_meant qs f z h =
+        let o = by_one qs z h in
+        let p = declared_one o.0 z (procedure_of ds o.0) refl o.2 in
+        all_reached IsMeant called_meant (2 ^ 32) 0 (procedures n (module_of ds n)) qs first_meant f o.0 o.1 z (reaches_own o.0 p.0 p.1 z p.2)
+
+    -- what is computed is meant
+    pub computed_meant : (xs : List Var) → computed.footprint ds n ≡ Some xs → (z : Var) → Has xs z → Has meaning z
+    unfolding computed.footprint
+    computed_meant xs e z h = step (reached (2 ^ 32) ds 0 (procedures n (module_of ds n))) refl e
+      where
+        step : (o : Option (List ProcRef)) → reached (2 ^ 32) ds 0 (procedures n (module_of ds n)) ≡ o → option_map (λ ps. joined (touched ds ps) []) o ≡ Some xs → Has meaning z
+        step None f g = none_some xs g
+        step (Some qs) f g = reached_meant qs f z (in_joined (touched ds qs) z (subst (λ ys. Has ys z) (sym (same_some (joined (touched ds qs) []) xs g)) h))
+
+    meant_reached : (qs : List ProcRef) → reached (2 ^ 32) ds 0 (procedures n (module_of ds n)) ≡ Some qs → (z : Var) → Has (of_all (all n [])) z → Has (touched ds qs) z
+    meant_reached qs f z h =
+        let l = final_module footprint_read ds [] nothing scoped (λ k. no_module) n m there in
+        either (λ k. absurd k) (λ x. at_entry l x)
+        (entry_at l.env m no_module m.procs z (subst (λ (g : Applied (List Var)). Has (of_all (g [])) z) l.is h))
+      where
+        at_entry : (l : Final footprint_read all n m) → Entry l.env m no_module m.procs z → Has (touched ds qs) z
+        at_entry l x =
+            let p = x.proc in
+            let t = l.typed in
+            let fresh = fresh_types [] x.front p.name (fresh_at l.around m [] x.front p x.after (subst (AreProcedures l.around m []) x.place t.procs)) in
+            let v = in_module footprint_read l.env m x.front x.after p x.place fresh [] in
+            let r = reference n p in
+            let there_is : procedure_at all r ≡ Some (footprint_read (procedure_at (with_params (with_module l.env m.name (with_procedures footprint_read l.env m no_module x.front)) m.params [])) p) =
+            ap (λ (g : Applied (List Var)). found (g []) p.name) l.is ∙ v in
+            let e : procedure_of ds r ≡ Some p =
+            ap (λ o. proc_in o p.name) there ∙ ap (λ qs. proc_if_plain qs m.procs p.name) plain ∙ ap (λ ps. proc_of ps p.name) x.place ∙ first_is x.front p x.after fresh in
+            let c = all_closed ds (procedures n (module_of ds n)) qs f in
+            let i = c.there r (subst (λ ps. IsIn ps r) (sym start) (subst (λ ps. IsIn (references n ps) r) (sym x.place) (referred n x.front p x.after))) in
+            let b : rank ds scoped r < suc (rank ds scoped r) = omega arith in
+            deep (suc (rank ds scoped r)) (procedures n (module_of ds n)) qs c r p e b i z (subst (λ o. Has (of_callee o) z) (sym there_is) x.has)
+
+    -- what is meant is computed
+    pub meant_computed : (xs : List Var) → computed.footprint ds n ≡ Some xs → (z : Var) → Has meaning z → Has xs z
+    unfolding computed.footprint
+    meant_computed xs e z h = step (reached (2 ^ 32) ds 0 (procedures n (module_of ds n))) refl e
+      where
+        step : (o : Option (List ProcRef)) → reached (2 ^ 32) ds 0 (procedures n (module_of ds n)) ≡ o → option_map (λ ps. joined (touched ds ps) []) o ≡ Some xs → Has xs z
+        step None f g = none_some xs g
+        step (Some qs) f g = subst (λ ys. Has ys z) (same_some (joined (touched ds qs) []) xs g) (joined_has (touched ds qs) z (meant_reached qs f z (in_ordered (of_all (all n [])) z h)))

@@ -1,0 +1,25 @@
+//! Memories give variables values, any that are of their types.
+
+ghost use Rattle.std.specs.Prelude.{◌≡◌, true, List, Some};
+ghost use Rattle.gb_core.specs.declared.ty.Ty.{Ty};
+ghost use Rattle.gb_core.specs.declared.value.Value.{Value};
+ghost use Rattle.gb_core.specs.declared.var.Var.{Var};
+ghost use Rattle.gb_meaning.specs.Memory.{Memory, read};
+ghost use Rattle.gb_meaning.specs.Values.{Types};
+ghost use Rattle.gb_reads.specs.Reads.{Vars, are_free};
+ghost use Rattle.gb_reads.specs.declared.held.Held.{Held};
+ghost use Rattle.gb_reads.specs.Held.{value_of, with_values};
+ghost use Rattle.gb_reads.specs.Memories.{AreOf, HaveValues, IsHeldBy, read_all};
+
+/// Each memory gives variables values of the types at which they are read, where these types have values. Where the variables are
+/// free, some memory gives them any values of their types.
+pub fn memories()
+    ensures of_types { (t : Types) (m : Memory) (xs : Vars) → are_free xs ≡ true → HaveValues t xs → AreOf t xs (read_all t m xs) }
+    ensures exist { (t : Types) (xs : Vars) (vs : List Value) → are_free xs ≡ true → AreOf t xs vs → (m : Memory) × (read_all t m xs ≡ vs) }
+{}
+
+/// A memory gives variables the values that it gives them; and where it gives variables known values, each reads as its value is known.
+pub fn known_values()
+    ensures all { (t : Types) (m : Memory) (xs : Vars) → IsHeldBy t m (with_values xs (read_all t m xs)) }
+    ensures value { (t : Types) (m : Memory) (hs : List Held) → IsHeldBy t m hs → (x : Var) (ty : Ty) (v : Value) → value_of hs x ty ≡ Some v → read t m x ty ≡ v }
+{}

@@ -1,0 +1,208 @@
+// Terms with an operator of the script unfolded.
+
+ghost use Rattle.std.specs.Prelude.{◌≡◌, ◌∷◌, ◌++◌, [], map, IfOk};
+ghost use Rattle.std.specs.List.{list_any, list_all};
+ghost use Rattle.gb_terms.specs.declared.term.Term.{out-Term};
+ghost use Rattle.gb_terms.specs.Make.{node};
+ghost use Rattle.gb_walk.specs.Change.{term_changed};
+ghost use Rattle.gb_rewrite.specs.Unfolded.{cmd_names, head_names, in_places, instr_names, is_operator, is_plain, is_plain_head, names, programs_name, subject_names, takes_plain, unfolded};
+
+use crate::rewritten::with_args;
+use gb_core::name::Name;
+use gb_core::same::same_name;
+use gb_terms::term::{Cmd, Head, Instr, Subject, Term, Terms};
+use gb_walk::change::{Change, Changes};
+use gb_walk::walk::changed;
+use sqlite_items::Items;
+use std::alloc::{AllocError, Global};
+
+/// Whether an operator of the script stands in a term, the programs in it included.
+#[cycle(names)]
+pub fn names(t: &Term, name: &Name) -> bool
+    ensures { result ≡ names name.now t.now }
+{
+    head_names(t.head.get(), name) || any_names(t.args.as_slice(), name)
+}
+
+#[cycle(names)]
+fn any_names(list: &[Term], name: &Name) -> bool
+    ensures { result ≡ list_any (λ b. b) (map (names name.now) list.now) }
+{
+    for t in list {
+        if names(t, name) {
+            return true;
+        }
+    }
+    false
+}
+
+#[cycle(names)]
+fn head_names(head: &Head, name: &Name) -> bool
+    ensures { result ≡ head_names name.now head.now }
+{
+    match head {
+        Head::User(operator) => same_name(name, operator),
+        Head::Hoare(s) | Head::Phoare(s, _) => subject_names(s, name),
+        Head::Equiv(s, t) => subject_names(s, name) || subject_names(t, name),
+        _ => false,
+    }
+}
+
+#[cycle(names)]
+fn subject_names(subject: &Subject, name: &Name) -> bool
+    ensures { result ≡ subject_names name.now subject.now }
+{
+    match subject {
+        Subject::Proc(_) => false,
+        Subject::Body(c) => cmd_names(c, name),
+    }
+}
+
+#[cycle(names)]
+fn cmd_names(c: &Cmd, name: &Name) -> bool
+    ensures { result ≡ cmd_names name.now c.now }
+{
+    any_statement_names(c.list.as_slice(), name)
+}
+
+#[cycle(names)]
+fn any_statement_names(list: &[Instr], name: &Name) -> bool
+    ensures { result ≡ list_any (λ b. b) (map (instr_names name.now) list.now) }
+{
+    for i in list {
+        if instr_names(i, name) {
+            return true;
+        }
+    }
+    false
+}
+
+#[cycle(names)]
+fn instr_names(i: &Instr, name: &Name) -> bool
+    ensures { result ≡ instr_names name.now i.now }
+{
+    match i {
+        Instr::Assign(_, e) | Instr::Sample(_, e) => names(e, name),
+        Instr::Call(_, _, args) => any_names(args.as_slice(), name),
+        Instr::If(e, a, b) => names(e, name) || (cmd_names(a, name) || cmd_names(b, name)),
+        Instr::While(e, v, a) => names(e, name) || (names(v, name) || cmd_names(a, name)),
+    }
+}
+
+fn is_operator(head: &Head, name: &Name) -> bool
+    ensures { result ≡ is_operator name.now head.now }
+{
+    match head {
+        Head::User(operator) => same_name(name, operator),
+        _ => false,
+    }
+}
+
+/// Whether an operator stands in a program of a judgment of bodies.
+pub fn programs_name(head: &Head, name: &Name) -> bool
+    ensures { result ≡ programs_name name.now head.now }
+{
+    head_names(head, name) && !is_operator(head, name)
+}
+
+fn is_plain_head(head: &Head) -> bool
+    ensures { result ≡ is_plain_head head.now }
+{
+    !matches!(
+        head,
+        Head::AllMemory
+            | Head::SomeMemory
+            | Head::Pr(..)
+            | Head::Hoare(_)
+            | Head::Phoare(..)
+            | Head::Equiv(..)
+    )
+}
+
+/// Whether a term speaks of no program and quantifies over no memory.
+#[cycle(is_plain)]
+#[tactic(auto, using(crate::proofs::Layers::plain_out))]
+fn is_plain(t: &Term) -> bool
+    ensures { result ≡ is_plain t.now }
+{
+    is_plain_head(t.head.get()) && are_plain(t.args.as_slice())
+}
+
+#[cycle(is_plain)]
+fn are_plain(list: &[Term]) -> bool
+    ensures { result ≡ list_all is_plain list.now }
+{
+    for t in list {
+        if !is_plain(t) {
+            return false;
+        }
+    }
+    true
+}
+
+/// Whether each argument of an operator of the script is plain, wherever it stands.
+#[cycle(takes_plain)]
+#[tactic(auto, using(crate::proofs::Layers::takes_out))]
+pub fn takes_plain(t: &Term, name: &Name) -> bool
+    ensures { result ≡ takes_plain name.now t.now }
+{
+    (!is_operator(t.head.get(), name) || are_plain(t.args.as_slice()))
+        && take_plain(t.args.as_slice(), name)
+}
+
+#[cycle(takes_plain)]
+fn take_plain(list: &[Term], name: &Name) -> bool
+    ensures { result ≡ list_all (takes_plain name.now) list.now }
+{
+    for t in list {
+        if !takes_plain(t, name) {
+            return false;
+        }
+    }
+    true
+}
+
+/// Terms in the places of the variables that an operator's body binds, the last one innermost. A list that is longer than numbers of
+/// 32 bits doesn't fit in memory, and so counts as a want of it.
+fn in_places(alloc: Global, terms: &[Term]) -> Result<Changes, AllocError>
+    ensures { IfOk result (λ made. made ≡ in_places terms.now) }
+{
+    let mut changes = Items::new(alloc);
+    for i in 0..terms.len() {
+        let place = u32::try_from(terms.len() - 1 - i).or(Err(AllocError))?;
+        changes.push(Change::OfBound(place, terms[i].share()?))?;
+    }
+    Ok(changes)
+}
+
+/// A body with arguments in the places of its variables.
+fn at_arguments(alloc: Global, body: &Term, args: &[Term]) -> Result<Term, AllocError>
+    ensures { IfOk result (λ made. made ≡ term_changed body.now (in_places args.now)) }
+{
+    let changes = in_places(alloc, args)?;
+    changed(alloc, body, changes.as_slice())
+}
+
+/// A term with an operator's body in place of each application of it. The programs of judgments stay as they are.
+#[cycle(unfolded)]
+#[tactic(auto, using(crate::proofs::Layers::unfolded_out))]
+pub fn unfolded(alloc: Global, t: &Term, name: &Name, body: &Term) -> Result<Term, AllocError>
+    ensures { IfOk result (λ made. made ≡ unfolded name.now body.now t.now) }
+{
+    let args = all_unfolded(alloc, t.args.as_slice(), name, body)?;
+    if is_operator(t.head.get(), name) {
+        return at_arguments(alloc, body, args.as_slice());
+    }
+    with_args(alloc, t, args)
+}
+
+#[cycle(unfolded)]
+fn all_unfolded(alloc: Global, list: &[Term], name: &Name, body: &Term) -> Result<Terms, AllocError>
+    ensures { IfOk result (λ made. made ≡ map (unfolded name.now body.now) list.now) }
+{
+    let mut made = Items::new(alloc);
+    for t in list {
+        made.push(unfolded(alloc, t, name, body)?)?;
+    }
+    Ok(made)
+}
