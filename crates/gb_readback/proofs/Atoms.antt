@@ -1,7 +1,7 @@
 -- Suffixes, brackets, applications, functions and quantifiers.
 use Rattle.std.specs.Prelude.{ℕ, ◌≡◌, Bool, true, false, if◌then◌else◌, nat_eq, List, [], ◌∷◌, ◌++◌, map, codes}
 use Rattle.std.specs.Fmt.{decimal}
-use Rattle.std.proofs.Common.{refl, ap, ap₂, sym, ◌∙◌, subst}
+use Rattle.std.proofs.Common.{refl, ap, ap₂, sym, ◌∙◌, subst, arith}
 use Rattle.gb_goal.specs.Answers.{nowhere}
 use Rattle.gb_grammar.specs.declared.table.Symbol.TheVariants.{Part}
 use Rattle.gb_lex.specs.Byte.{is_word_byte}
@@ -24,9 +24,12 @@ use Rattle.gb_readback.proofs.Fine.{is_fine}
 use Rattle.gb_readback.proofs.Lexed.{ahead}
 use Rattle.gb_readback.proofs.Tokens.{Next, next_number, spaced}
 use Rattle.gb_readback.proofs.Symbols.{open_get, close_square, assign_word, dot_number, percent_real, open_brace, close_brace, bars, closing_bar, comma_word, close_round, colon_word, fun_word, implies_word, uniform_word, open_round, comma}
-use Rattle.gb_readback.proofs.Attaching.{plain_node, Argument, wholes_of, items_of, applied_to}
-use Rattle.gb_readback.proofs.Levels.{Before, Fits, Spelt, end, tok, skip, named, row, followed, no_run, level, level_end, form_of_sum, sum_of}
-use Rattle.gb_readback.proofs.Operands.{IsForm, IsOperand, VariantRun, grown_node, opens, fits_close, fits_space, of_atom, suffixed, round, opened}
+use Rattle.gb_readback.proofs.Chains.{is_joined, operands_in}
+use Rattle.gb_readback.proofs.Counted.{joined_append, as_many}
+use Rattle.gb_readback.proofs.RunRows.{suffix_row, side_row, coin_row, open_brace_row}
+use Rattle.gb_readback.proofs.Attaching.{plain_node, Argument, wholes_of, items_of, applied_to, items_single}
+use Rattle.gb_readback.proofs.Levels.{Before, Fits, Spelt, end, tok, skip, named, row, row_in, followed, no_run, level, level_end, form_of_sum, sum_of}
+use Rattle.gb_readback.proofs.Operands.{IsForm, IsOperand, VariantRun, grown_node, opens, fits_close, fits_space, of_atom, suffixed, round, opened, headed, more_run}
 use Rattle.gb_readback.proofs.NameWords.{name_reads, name_start, path_reads, plain_path, path_start, start_begins, decimal_reads}
 use Rattle.gb_readback.proofs.TypeWords.{IsType, IsTypeOperand, closes, operand_reads, no_digit}
 use Rattle.gb_readback.proofs.Productions as p
@@ -64,7 +67,7 @@ spaced_arguments [] mid = mid
 spaced_arguments (a ∷ xs) mid = 32 ∷ a.text (spaced_arguments xs mid)
 
 abbrev pub argument_of : {stage : ℕ} → OperandPart stage → Argument
-argument_of a = record { root = a.operand.root; suffixes = a.operand.suffixes; tight = a.operand.tight }
+argument_of a = record { root = a.operand.root; suffixes = a.operand.suffixes; tight = a.operand.tight; single = a.operand.single }
 
 abbrev pub arguments_of : {stage : ℕ} → List (OperandPart stage) → List Argument
 arguments_of [] = []
@@ -99,7 +102,9 @@ module _ {stage : ℕ} where
 
   suffix_run : {i mid j : List ℕ} {its : List Node} (h : Head) (ps : List Node) → Spelt stage (Part 141 ∷ []) i mid (Tree (node h [] ps nowhere) ∷ []) → Spelt stage (Part 135 ∷ []) mid j (Trees its ∷ [])
       → Spelt stage (Part 136 ∷ []) i j (Trees (node h [] ps nowhere ∷ its) ∷ [])
-  suffix_run {its = its} h ps d more = row p.more_run_suffix (p.is_more_run_suffix stage) refl refl (item_more h ps its) (followed d more) end
+  suffix_run {its = its} h ps d more =
+      let n = operands_in (Tree (node h [] ps nowhere) ∷ Trees its ∷ []) in
+      row_in p.more_run_suffix (p.is_more_run_suffix stage) refl refl (item_more h ps its) (suffix_row n n (omega arith)) (omega arith) (followed d more) end
 
   -- the same in the variant of a loop
   suffix_variant : {i mid j : List ℕ} {its : List Node} (h : Head) (ps : List Node) → Spelt stage (Part 141 ∷ []) i mid (Tree (node h [] ps nowhere) ∷ []) → VariantRun stage mid j its
@@ -111,14 +116,14 @@ module _ {stage : ℕ} where
   }
 
   -- a suffix, in both places
-  behind_operand : {φ ψ : Before} {bar : Bool} {a : Node} (h : Head) (ps : List Node) → IsOperand stage φ bar a → hold h ≡ 0 → is_joiner h ≡ false → looseness h ≡ 1 → ((mid : List ℕ) → Fits bar (ψ mid))
+  behind_operand : {φ ψ : Before} {bar : Bool} {a : Node} (h : Head) (ps : List Node) → IsOperand stage φ bar a → hold h ≡ 0 → is_joiner h ≡ false → looseness h ≡ 1 → is_joined h ≡ false → ((mid : List ℕ) → Fits bar (ψ mid))
       → ((mid : List ℕ) → Fits false mid → Spelt stage (Part 141 ∷ []) (ψ mid) mid (Tree (node h [] ps nowhere) ∷ [])) → IsOperand stage (λ mid. φ (ψ mid)) false (node h [] (a ∷ ps) nowhere)
-  behind_operand h ps o l n t fits reads =
-      suffixed h ps o l n t fits (λ mid j its f more. suffix_run h ps (reads mid f) more) (λ mid j its f run. suffix_variant h ps (reads mid f) run)
+  behind_operand h ps o l n t apart fits reads =
+      suffixed h ps o l n t apart fits (λ mid j its f more. suffix_run h ps (reads mid f) more) (λ mid j its f run. suffix_variant h ps (reads mid f) run)
 
   pub at_key : {φ ψ : Before} {c d : Bool} {a k : Node} → IsOperand stage φ c a → IsForm stage ψ d k → IsOperand stage (λ mid. φ (codes ".[" ++ ψ (93 ∷ mid))) false (node head.Get [] (a ∷ k ∷ []) nowhere)
   at_key {ψ = ψ} {c = c} {d = d} {k = k} o f =
-      behind_operand head.Get (k ∷ []) o refl refl refl (λ mid. fits_symbol c 46 (91 ∷ ψ (93 ∷ mid)) refl refl)
+      behind_operand head.Get (k ∷ []) o refl refl refl refl (λ mid. fits_symbol c 46 (91 ∷ ψ (93 ∷ mid)) refl refl)
       (λ mid w. row p.suffix_open_get (p.is_suffix_open_get stage) refl refl (ap (λ z. Tree z ∷ []) (grown_node (Tree k ∷ []) head.Get [] [] nowhere))
       (tok (open_get (ψ (93 ∷ mid))) (followed (f.reads (93 ∷ mid) (fits_symbol d 93 mid refl refl))
       (row p.entry_tail_close_square (p.is_entry_tail_close_square stage) refl refl refl (tok (close_square mid) end) end))) end)
@@ -126,7 +131,7 @@ module _ {stage : ℕ} where
   pub updated : {φ ψ χ : Before} {c d e : Bool} {a k v : Node} → IsOperand stage φ c a → IsForm stage ψ d k → IsForm stage χ e v
       → IsOperand stage (λ mid. φ (codes ".[" ++ ψ (codes " <- " ++ χ (93 ∷ mid)))) false (node head.Set [] (a ∷ k ∷ v ∷ []) nowhere)
   updated {ψ = ψ} {χ = χ} {c = c} {d = d} {e = e} {k = k} {v = v} o f g =
-      behind_operand head.Set (k ∷ v ∷ []) o refl refl refl (λ mid. fits_symbol c 46 (91 ∷ ψ (codes " <- " ++ χ (93 ∷ mid))) refl refl)
+      behind_operand head.Set (k ∷ v ∷ []) o refl refl refl refl (λ mid. fits_symbol c 46 (91 ∷ ψ (codes " <- " ++ χ (93 ∷ mid))) refl refl)
       (λ mid w. row p.suffix_open_get (p.is_suffix_open_get stage) refl refl (ap (λ z. Tree z ∷ []) (grown_node (Tree k ∷ []) head.Set [] (v ∷ []) nowhere))
       (tok (open_get (ψ (codes " <- " ++ χ (93 ∷ mid)))) (followed (f.reads (codes " <- " ++ χ (93 ∷ mid)) (fits_space d (codes "<- " ++ χ (93 ∷ mid))))
       (row p.entry_tail_assign (p.is_entry_tail_assign stage) refl refl refl
@@ -134,25 +139,31 @@ module _ {stage : ℕ} where
 
   pub component : {φ : Before} {c : Bool} {a : Node} (k : ℕ) → in_range k ≡ true → IsOperand stage φ c a → IsOperand stage (λ mid. φ (codes ".`" ++ (decimal k ++ mid))) false (node head.Component [] (a ∷ number k ∷ []) nowhere)
   component {c = c} k l o =
-      behind_operand head.Component (number k ∷ []) o refl refl refl (λ mid. fits_symbol c 46 (96 ∷ (decimal k ++ mid)) refl refl)
+      behind_operand head.Component (number k ∷ []) o refl refl refl refl (λ mid. fits_symbol c 46 (96 ∷ (decimal k ++ mid)) refl refl)
       (λ mid w. row p.suffix_dot_number (p.is_suffix_dot_number stage) refl refl refl
       (tok (dot_number (decimal k ++ mid)) (followed (decimal_reads k mid l (no_digit mid w.word)) end)) end)
 
   pub as_real : {φ : Before} {c : Bool} {a : Node} → IsOperand stage φ c a → IsOperand stage (λ mid. φ (codes "%r" ++ mid)) false (node head.ToReal [] (a ∷ []) nowhere)
   as_real {c = c} o =
-      behind_operand head.ToReal [] o refl refl refl (λ mid. fits_symbol c 37 (114 ∷ mid) refl refl)
+      behind_operand head.ToReal [] o refl refl refl refl (λ mid. fits_symbol c 37 (114 ∷ mid) refl refl)
       (λ mid w. row p.suffix_percent_real (p.is_suffix_percent_real stage) refl refl refl (tok (percent_real mid) end) end)
 
   -- a memory behind an operand
+  pub in_brace : {i mid j n : List ℕ} (its : List Node) → Next i 86 n mid → Spelt stage (Part 137 ∷ []) mid j (Trees its ∷ []) → Spelt stage (Part 136 ∷ []) i j (Trees its ∷ [])
+  in_brace its w d =
+      let n = operands_in (Trees its ∷ []) in
+      row_in p.more_run_open_brace (p.is_more_run_open_brace stage) refl refl refl (open_brace_row n n (omega arith)) (as_many (Trees its ∷ [])) (tok w d) end
+
   pub sided : {φ : Before} {c : Bool} {a : Node} (m : List ℕ) (t : Node) → IsOperand stage φ c a → IsSide stage m t → IsOperand stage (λ mid. φ (123 ∷ (m ++ (125 ∷ mid)))) false (node head.Sided [] (a ∷ t ∷ []) nowhere)
   sided {c = c} m t o s =
-      suffixed head.Sided (t ∷ []) o refl refl refl (λ mid. fits_symbol c 123 (m ++ (125 ∷ mid)) refl refl)
-      (λ mid j its f more. row p.more_run_open_brace (p.is_more_run_open_brace stage) refl refl refl
-      (tok (open_brace (m ++ (125 ∷ mid)))
-      (row p.brace_run_side_suffix (p.is_brace_run_side_suffix stage) refl refl (item_more head.Sided (t ∷ []) its)
+      suffixed head.Sided (t ∷ []) o refl refl refl refl (λ mid. fits_symbol c 123 (m ++ (125 ∷ mid)) refl refl)
+      (λ mid j its f more.
+      let n = operands_in (Tree (node head.Sided [] (t ∷ []) nowhere) ∷ Trees its ∷ []) in
+      in_brace (node head.Sided [] (t ∷ []) nowhere ∷ its) (open_brace (m ++ (125 ∷ mid)))
+      (row_in p.brace_run_side_suffix (p.is_brace_run_side_suffix stage) refl refl (item_more head.Sided (t ∷ []) its) (side_row n n (omega arith)) (omega arith)
       (followed (row p.side_suffix_side (p.is_side_suffix_side stage) refl refl (ap (λ z. Tree z ∷ []) (grown_node (Tree t ∷ []) head.Sided [] [] nowhere))
       (followed (s.side mid) (row p.side_behind_none (p.is_side_behind_none stage) refl refl refl end end)) end)
-      (tok (close_brace mid) more)) end)) end)
+      (tok (close_brace mid) more)) end))
       (λ mid j its f run. record {
         value = Trees (node head.Sided [] (t ∷ []) nowhere ∷ trees_of run.value);
         value_is = ap (λ l. node head.Sided [] (t ∷ []) nowhere ∷ l) run.value_is;
@@ -224,11 +235,14 @@ module _ {stage : ℕ} where
     suffixes = [];
     whole = refl;
     tight = refl;
+    single = refl;
     plain = plain_node head.Coin [] [] refl refl;
     first = λ mid j its f more. row p.head_open_brace (p.is_head_open_brace stage) refl refl refl (tok (open_brace (codes "0,1}" ++ mid)) (followed (coin_reads mid) (tok (close_brace mid) end))) more;
-    argument = λ mid j its f more. row p.more_run_open_brace (p.is_more_run_open_brace stage) refl refl refl
-        (tok (open_brace (codes "0,1}" ++ mid)) (row p.brace_run_coin (p.is_brace_run_coin stage) refl refl (ap (λ l. Trees (node head.Apply [] (node head.Coin [] [] nowhere ∷ []) nowhere ∷ l) ∷ []) (append_nil its))
-        (followed (coin_reads mid) (tok (close_brace mid) more)) end)) end;
+    argument = λ mid j its f more.
+        let n = operands_in (Tree (node head.Coin [] [] nowhere) ∷ Trees its ∷ []) in
+        in_brace (node head.Apply [] (node head.Coin [] [] nowhere ∷ []) nowhere ∷ its) (open_brace (codes "0,1}" ++ mid))
+        (row_in p.brace_run_coin (p.is_brace_run_coin stage) refl refl (ap (λ l. Trees (node head.Apply [] (node head.Coin [] [] nowhere ∷ []) nowhere ∷ l) ∷ []) (append_nil its)) (coin_row n n (omega arith)) (omega arith)
+        (followed (coin_reads mid) (tok (close_brace mid) more)) end);
     variant = λ mid j its f run. record {
       value = run.value;
       value_is = run.value_is;
@@ -275,8 +289,8 @@ module _ {stage : ℕ} where
   run_of : (xs : List (OperandPart stage)) (bar : Bool) (mid : List ℕ) → Fits (last_bar bar xs) mid → Spelt stage (Part 135 ∷ []) (spaced_arguments xs mid) mid (Trees (items_of (arguments_of xs)) ∷ [])
   run_of [] bar mid f = no_run
   run_of (a ∷ xs) bar mid f =
-      skip (row p.run_more_run (p.is_run_more_run stage) refl refl refl
-      (a.operand.argument (spaced_arguments xs mid) mid (items_of (arguments_of xs)) (fits_arguments a.bar xs mid f) (run_of xs a.bar mid f)) end)
+      skip (more_run (items_of (arguments_of (a ∷ xs)))
+      (a.operand.argument (spaced_arguments xs mid) mid (items_of (arguments_of xs)) (fits_arguments a.bar xs mid f) (run_of xs a.bar mid f)))
 
   -- arguments that read as a run behind a function
   applied_run : {φ ψ : Before} {bar : Bool} {f : Node} (o : IsOperand stage φ bar f) → o.suffixes ≡ [] → (a : OperandPart stage) (xs : List (OperandPart stage)) → ((mid : List ℕ) → Fits bar (ψ mid))
@@ -291,7 +305,7 @@ module _ {stage : ℕ} where
             let whole : attached o.root (o.suffixes ++ items) ≡ node head.Apply [] (f ∷ argument_trees (a ∷ xs)) nowhere =
             ap₂ (λ r l. attached r (l ++ items)) root none ∙ applied_to f o.plain (argument_of a) (arguments_of xs) ∙ ap (λ l. node head.Apply [] (f ∷ l) nowhere) (wholes_are (a ∷ xs)) in
             form_of_sum (subst (λ z. Spelt stage (Part 133 ∷ []) (φ (ψ mid)) mid (Tree z ∷ [])) whole
-            (sum_of (row p.operand_head (p.is_operand_head stage) refl refl refl (o.first (ψ mid) mid items (fits mid) (run mid w)) end)));
+            (sum_of (omega (arith, joined_append o.suffixes items, o.single, items_single (arguments_of (a ∷ xs)))) (headed o.root (o.suffixes ++ items) (o.first (ψ mid) mid items (fits mid) (run mid w)))));
       }
 
   pub applied : {φ : Before} {bar : Bool} {f : Node} (o : IsOperand stage φ bar f) → o.suffixes ≡ [] → (a : OperandPart stage) (xs : List (OperandPart stage))
@@ -301,7 +315,7 @@ module _ {stage : ℕ} where
   -- one argument, with no space in front
   pub called : {φ : Before} {bar : Bool} {f : Node} (o : IsOperand stage φ bar f) → o.suffixes ≡ [] → (a : OperandPart stage) → ((mid : List ℕ) → Fits bar (a.text mid))
       → IsForm stage (λ mid. φ (a.text mid)) a.bar (node head.Apply [] (f ∷ a.tree ∷ []) nowhere)
-  called o none a fits = applied_run o none a [] fits (λ mid w. row p.run_more_run (p.is_run_more_run stage) refl refl refl (a.operand.argument mid mid [] w no_run) end)
+  called o none a fits = applied_run o none a [] fits (λ mid w. more_run (items_of (arguments_of (a ∷ []))) (a.operand.argument mid mid [] w no_run))
 
   -- Quantifiers.
 

@@ -1,7 +1,7 @@
 -- Items behind operands.
 use Rattle.std.specs.Prelude.{ℕ, ◌≡◌, Bool, true, false, ◌&&◌, if◌then◌else◌, nat_le, nat_eq, List, [], ◌∷◌, ◌++◌}
 use Rattle.std.specs.List.{list_all}
-use Rattle.std.proofs.Common.{refl, ap, ap₂, sym, ◌∙◌, append_assoc}
+use Rattle.std.proofs.Common.{refl, ap, ap₂, sym, ◌∙◌, append_assoc, arith}
 use Rattle.std.proofs.lemmas.Bool.{eqb-true}
 use Rattle.gb_core.specs.declared.place.Place.{Place}
 use Rattle.gb_goal.specs.Answers.{nowhere}
@@ -12,6 +12,8 @@ use Rattle.gb_script.specs.Head.{looseness, hold, goes_under, is_joiner, joins}
 use Rattle.gb_script.specs.Tree.{node, head_of, text_of, parts_of, place_of, behind, attach, attached}
 use Rattle.gb_script.proofs.Attach.{stays, goes_inside}
 use Rattle.gb_script.proofs.Stacks.{append_nil}
+use Rattle.gb_readback.proofs.Chains.{joined_in}
+use Rattle.gb_readback.proofs.Counted.{joined_node, joined_append}
 use Rattle.gb_readback.proofs.Tokens.{both}
 
 -- Nothing stands inside the last part of the node, which is no application and stands nowhere.
@@ -110,6 +112,7 @@ pub record Argument : Type 0 where
   pub root : Node
   pub suffixes : List Node
   pub tight : list_all is_tight suffixes ≡ true
+  pub single : joined_in suffixes ≡ 0
 
 abbrev pub whole_of : Argument → Node
 whole_of a = attached a.root a.suffixes
@@ -121,6 +124,15 @@ wholes_of (a ∷ xs) = whole_of a ∷ wholes_of xs
 abbrev pub items_of : List Argument → List Node
 items_of [] = []
 items_of (a ∷ xs) = node head.Apply [] (a.root ∷ []) nowhere ∷ (a.suffixes ++ items_of xs)
+
+-- .. none of which an operator joins
+pub items_single : (xs : List Argument) → joined_in (items_of xs) ≡ 0
+items_single [] = refl
+items_single (a ∷ xs) =
+    let n = joined_node head.Apply [] (a.root ∷ []) nowhere in
+    let h = items_single xs in
+    let k = joined_append a.suffixes (items_of xs) in
+    omega (arith, n, h, k, a.single)
 
 more_arguments : (ps : List Node) (xs : List Argument) → attached (node head.Apply [] ps nowhere) (items_of xs) ≡ node head.Apply [] (ps ++ wholes_of xs) nowhere
 more_arguments ps [] = ap (λ l. node head.Apply [] l nowhere) (sym (append_nil ps))

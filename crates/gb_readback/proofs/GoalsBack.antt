@@ -1,8 +1,8 @@
 -- What is printed of a goal is read back.
-use Rattle.std.specs.Prelude.{ℕ, suc, ◌≡◌, ◌<◌, true, List, [], ◌∷◌, ◌++◌, length, map, codes, None}
+use Rattle.std.specs.Prelude.{ℕ, suc, ◌≡◌, ◌<◌, true, List, [], ◌∷◌, ◌++◌, length, map, codes}
 use Rattle.std.specs.List.{All, AllZip, prefix_len}
 use Rattle.std.proofs.Common.{refl, ap, ap₂, sym, ◌∙◌, subst, arith, inl, inr}
-use Rattle.std.proofs.lemmas.List.Elements.{All-cons}
+use Rattle.std.proofs.lemmas.List.Elements.{All-cons, All-append}
 use Rattle.gb_core.specs.declared.place.Place.{Place as TextPlace}
 use Rattle.gb_grammar.specs.declared.table.Symbol.{Symbol}
 use Rattle.gb_grammar.specs.declared.table.Symbol.TheVariants.{Token, Part}
@@ -12,10 +12,8 @@ use Rattle.gb_language.specs.declared.rows.TheConstants.{ENTRY, HYPOTHESIS}
 use Rattle.gb_language.specs.Language.{goal_language, IsLineTree}
 use Rattle.gb_language.proofs.Language.{line_or_fault, line_spells}
 use Rattle.gb_limits.specs.Kinds.{kind_of}
-use Rattle.gb_lex.specs.Lex.{fault_of}
-use Rattle.gb_limits.specs.LeftOut.{NoneLeftOut}
 use Rattle.gb_limits.specs.Lexeme.{kinds_of}
-use Rattle.gb_limits.specs.Numbers.{NoneOverflow}
+use Rattle.gb_limits.specs.Limits.{NoneLong}
 use Rattle.gb_read_script.specs.declared.line.Line.{Line}
 use Rattle.gb_read_script.specs.declared.goal_lines.LineSort.TheVariants as sort
 use Rattle.gb_read_script.specs.declared.goal_lines.ReadLine.{ReadLine}
@@ -23,7 +21,7 @@ use Rattle.gb_read_script.specs.declared.goal_lines.ReadGoal.{ReadGoal}
 use Rattle.gb_read_script.specs.declared.goal_tree.SequentTree.{SequentTree}
 use Rattle.gb_read_script.specs.Line.{text_of, lines_before}
 use Rattle.gb_read_script.specs.GoalLines.{is_dash, is_minus, texts, IsEntry, IsRuler, IsGoal}
-use Rattle.gb_read_script.specs.Goal.{IsTreeOf as IsLineTreeOf, AreTreesOf, SpellsGoal, goal_text, goal_lines, beginning}
+use Rattle.gb_read_script.specs.Goal.{IsTreeOf as IsLineTreeOf, AreTreesOf, SpellsGoal, goal_text, goal_lines, beginning, IsShort, all_lines, IsGoalAllowed}
 use Rattle.gb_script.specs.declared.action.Rule.{Rule}
 use Rattle.gb_script.specs.declared.terminal.Terminal.{Terminal}
 use Rattle.gb_script.specs.declared.terminal.Terminal.TheVariants as terminal
@@ -43,7 +41,11 @@ use Rattle.gb_print.specs.Goals as print_goals
 use Rattle.gb_readback.specs.Nodes.{placeless}
 use Rattle.gb_readback.specs.Goals.{Entry, binder, hypothesis, IsEntryTree, IsTreeOf, IsWrittenGoal}
 use Rattle.gb_readback.proofs.Reading.{lexeme_kind, lexeme_kinds, Reads, done, token}
-use Rattle.gb_readback.proofs.Sound.{bare_lexeme, bare_lexemes, spelled}
+use Rattle.gb_readback.proofs.Sound.{bare_lexeme, bare_lexemes}
+use Rattle.gb_readback.proofs.Chains.{Known, new, low, is_low, Effects, nothing, over_part}
+use Rattle.gb_readback.proofs.ChainRows.{becomes_here}
+use Rattle.gb_readback.proofs.PlainSteps.{entry_short}
+use Rattle.gb_readback.proofs.Walked.{spelled_short}
 use Rattle.gb_readback.proofs.Faultless.{Whole, whole_cut, whole_none, whole_more, whole_feed, faultless}
 use Rattle.gb_readback.proofs.Kept.{begins_otherwise, braces_ok, is_kept, kept, kept_so, kept_append, goal_braces, entry_begins, hypothesis_begins, conclusion_begins, none_left_out, none_overflows}
 use Rattle.gb_readback.proofs.Lexed.{lexed}
@@ -111,12 +113,23 @@ module _ (start end : TextPlace) (kinds : (t : Text) → All IsKind (kinds_of t)
   line_some : (front : List ℕ) {i j : List ℕ} {ss : List Symbol} {vs : List Value} (d : Spelt 1 ss i j vs) (f : ℕ) → takes f (grammar 1) ss ≡ true → 0 < length (line_lexemes start front d.cut)
   line_some front d f h = subst (λ n. 0 < n) (bare_length (line_lexemes start front d.cut)) (takes_some (grammar 1) (line_reads front d) f h)
 
-  -- the tree of a line with these tokens
-  line_tree : (part : ℕ) (x : Node) (line : Line) (ls : List Lexeme) → line.tokens ≡ ls → Reads (grammar 1) (Part part ∷ []) (bare_lexemes ls) [] (Tree x ∷ [])
-      → (y : Node) × IsLineTree part (kinds_of (text_of line)) (text_of line) y × (placeless y ≡ x)
-  line_tree part x line ls e d =
+  -- the tree of a line with these tokens, which has short chains
+  record LineTree (part : ℕ) (x : Node) (t : Text) : Type 0 where
+    tree : Node
+    is_tree : IsLineTree part (kinds_of t) t tree
+    same : placeless tree ≡ x
+    short : NoneLong t is_tree.0
+
+  line_spelled : (part : ℕ) (x : Node) (t : Text) → ((g : Grammar Rule) → grammar 1 ≡ g → (y : Node) × (d : IsTree g part (kinds_of t) t y) × (placeless y ≡ x) × NoneLong t d.0) → LineTree part x t
+  line_spelled part x t h = let s = h goal_language goals in record { tree = s.0; is_tree = s.1; same = s.2; short = s.3 }
+
+  line_tree : (part : ℕ) (x : Node) (bs : List Known) → Effects 0 (Part part ∷ []) (new true ∷ []) bs → (line : Line) (ls : List Lexeme) → line.tokens ≡ ls → Reads (grammar 1) (Part part ∷ []) (bare_lexemes ls) [] (Tree x ∷ [])
+      → LineTree part x (text_of line)
+  line_tree part x bs effects line ls e d =
+      let t = text_of line in
       let own : Reads (grammar 1) (Part part ∷ []) (bare_lexemes line.tokens) [] (Tree x ∷ []) = subst (λ l. Reads (grammar 1) (Part part ∷ []) (bare_lexemes l) [] (Tree x ∷ [])) (sym e) d in
-      subst (λ (g : Grammar Rule). (y : Node) × IsTree g part (kinds_of (text_of line)) (text_of line) y × (placeless y ≡ x)) goals (spelled (grammar 1) (text_of line) part x own)
+      let s = spelled_short (grammar 1) t part x bs effects own in
+      line_spelled part x t (λ g q. subst (λ (g : Grammar Rule). (y : Node) × (d : IsTree g part (kinds_of t) t y) × (placeless y ≡ x) × NoneLong t d.0) q (s.tree, s.is_tree, s.same, s.short))
 
   -- Entries.
 
@@ -124,40 +137,44 @@ module _ (start end : TextPlace) (kinds : (t : Text) → All IsKind (kinds_of t)
     read : ReadLine
     text : read.text ≡ t
     is_entry : IsEntry read
+    short : IsShort read
     tree : Node
     spelled : IsLineTreeOf read tree
     entry : IsEntryTree e tree
 
-  hypothesis_by : (x : Node) (t : Text) → (y : Node) × IsLineTree HYPOTHESIS (kinds_of t) t y × (placeless y ≡ x) → IsTextOrFault goal_language ENTRY (kinds_of t) → Read (hypothesis x) t
+  hypothesis_by : (x : Node) (t : Text) → LineTree HYPOTHESIS x t → IsTextOrFault goal_language ENTRY (kinds_of t) → Read (hypothesis x) t
   hypothesis_by x t h (inl d) =
       let z = line_spells ENTRY (kinds_of t) t d.0 (inl refl) d.1 in
       record {
         read = record { sort = sort.Binder; text = t; steps = d.0 };
         text = refl;
         is_entry = (d.1, tt);
+        short = entry_short t d.1;
         tree = z.0;
         spelled = z.1;
-        entry = inr (record { line = t; spelled = h; variable = z.1 });
+        entry = inr (record { line = t; spelled = (h.tree, h.is_tree, h.same); variable = z.1 });
       }
   hypothesis_by x t h (inr f) =
       record {
-        read = record { sort = sort.Hypothesis; text = t; steps = h.1.0 };
+        read = record { sort = sort.Hypothesis; text = t; steps = h.is_tree.0 };
         text = refl;
-        is_entry = (h.1.1, f.2.no_text);
-        tree = h.0;
-        spelled = h.1;
-        entry = inl h.2;
+        is_entry = (h.is_tree.1, f.2.no_text);
+        short = h.short;
+        tree = h.tree;
+        spelled = h.is_tree;
+        entry = inl h.same;
       }
 
-  read_entry : (e : Entry) (t : Text) → (y : Node) × IsLineTree (part_of e) (kinds_of t) t y × (placeless y ≡ tree_of e) → Read e t
+  read_entry : (e : Entry) (t : Text) → LineTree (part_of e) (tree_of e) t → Read e t
   read_entry (binder x) t h =
       record {
-        read = record { sort = sort.Binder; text = t; steps = h.1.0 };
+        read = record { sort = sort.Binder; text = t; steps = h.is_tree.0 };
         text = refl;
-        is_entry = (h.1.1, tt);
-        tree = h.0;
-        spelled = h.1;
-        entry = h.2;
+        is_entry = (h.is_tree.1, tt);
+        short = h.short;
+        tree = h.tree;
+        spelled = h.is_tree;
+        entry = h.same;
       }
   read_entry (hypothesis x) t h = hypothesis_by x t h (line_or_fault ENTRY (kinds_of t) (inl refl) (kinds t))
 
@@ -179,6 +196,16 @@ module _ (start end : TextPlace) (kinds : (t : Text) → All IsKind (kinds_of t)
   entry_kept front (binder x) d = part_kept front d 12 entry_begins refl
   entry_kept front (hypothesis x) d = part_kept front d 12 hypothesis_begins refl
 
+  -- what the part of an entry does to the level of a line
+  entry_levels : Entry → List Known
+  entry_levels (binder x) = new true ∷ []
+  entry_levels (hypothesis x) = low true ∷ []
+
+  entry_effects : (e : Entry) → Effects 0 (Part (part_of e) ∷ []) (new true ∷ []) (entry_levels e)
+  unfolding entry_levels
+  entry_effects (binder x) = over_part refl nothing
+  entry_effects (hypothesis x) = over_part (becomes_here is_low (λ a. low a.bracket) (new true) [] refl) nothing
+
   -- the lines of a context, and what is behind them
   record Contexts (front : List ℕ) (ls : List ContextLine) (r : List ℕ) : Type 0 where
     lines : List Line
@@ -187,6 +214,7 @@ module _ (start end : TextPlace) (kinds : (t : Text) → All IsKind (kinds_of t)
     read : List ReadLine
     texts_are : map text_of lines ≡ texts read
     entries_are : All IsEntry read
+    short : All IsShort read
     trees : List Node
     spelled : AllZip IsLineTreeOf read trees
     are : AllZip IsEntryTree (map (λ (l : ContextLine). l.entry) ls) trees
@@ -194,12 +222,12 @@ module _ (start end : TextPlace) (kinds : (t : Text) → All IsKind (kinds_of t)
     kept_lines : ((k : ℕ) → is_kept k (lexemes_behind start behind r) ≡ true) → (k : ℕ) → is_kept k (lexemes_behind start front (lines_text ls r)) ≡ true
 
   contexts : (front : List ℕ) (ls : List ContextLine) (r : List ℕ) → NoBracket r → Contexts front ls r
-  contexts front [] r n = record { lines = []; behind = front; parted = refl; read = []; texts_are = refl; entries_are = λ k d h. absurd (omega arith); trees = []; spelled = tt; are = tt; whole = whole_none r; kept_lines = λ h. h }
+  contexts front [] r n = record { lines = []; behind = front; parted = refl; read = []; texts_are = refl; entries_are = λ k d h. absurd (omega arith); short = λ k d h. absurd (omega arith); trees = []; spelled = tt; are = tt; whole = whole_none r; kept_lines = λ h. h }
   contexts front (l ∷ ls) r n =
       let rest = lines_text ls r in
       let d = l.reads rest (lines_first ls r n) in
       let first = part_line start end front d.cut (line_some front d 6 (entry_some l.entry)) in
-      let tree = line_tree (part_of l.entry) (tree_of l.entry) first.line (line_lexemes start front d.cut) first.tokens (line_reads front d) in
+      let tree = line_tree (part_of l.entry) (tree_of l.entry) (entry_levels l.entry) (entry_effects l.entry) first.line (line_lexemes start front d.cut) first.tokens (line_reads front d) in
       let one = read_entry l.entry (text_of first.line) tree in
       let more = contexts ((front ++ d.cut.front) ++ 10 ∷ []) ls r n in
       record {
@@ -209,6 +237,7 @@ module _ (start end : TextPlace) (kinds : (t : Text) → All IsKind (kinds_of t)
         read = one.read ∷ more.read;
         texts_are = ap₂ (λ t ts. t ∷ ts) (sym one.text) more.texts_are;
         entries_are = All-cons IsEntry one.read more.read one.is_entry more.entries_are;
+        short = All-cons IsShort one.read more.read one.short more.short;
         trees = one.tree ∷ more.trees;
         spelled = (one.spelled, more.spelled);
         are = (one.entry, more.are);
@@ -253,6 +282,7 @@ module _ (start end : TextPlace) (kinds : (t : Text) → All IsKind (kinds_of t)
     pub spelled : AreTreesOf goal tree
     pub entries : AllZip IsEntryTree (map (λ (l : ContextLine). l.entry) ls) tree.context
     pub conclusion : placeless tree.conclusion ≡ x
+    pub short : All IsShort (all_lines goal)
     pub whole : Whole bytes []
     pub kept_all : (k : ℕ) → is_kept k (lexemes_behind start [] bytes) ≡ true
 
@@ -266,10 +296,10 @@ module _ (start end : TextPlace) (kinds : (t : Text) → All IsKind (kinds_of t)
       let next = (context.behind ++ dashes.cut.front) ++ 10 ∷ [] in
       let d = conclusion_reads s [] in
       let final = part_line start end next d.cut (line_some next d 20 form_takes) in
-      let tree = line_tree 120 x final.line (line_lexemes start next d.cut) final.tokens (line_reads next d) in
+      let tree = line_tree 120 x (low true ∷ []) (over_part (becomes_here is_low (λ a. low a.bracket) (new true) [] refl) nothing) final.line (line_lexemes start next d.cut) final.tokens (line_reads next d) in
       let lines : lines_before end (lexemes_behind start [] (lines_text ls rest)) [] ≡ context.lines ++ middle.line ∷ final.line ∷ [] =
       context.parted ∙ ap (λ l. context.lines ++ l) (middle.parted_lines ∙ ap (λ l. middle.line ∷ l) (final.parted_lines ∙ ap (λ l. final.line ∷ l) (nothing_behind ((next ++ d.cut.front) ++ 10 ∷ [])))) in
-      let conclusion : ReadLine = record { sort = sort.Conclusion; text = text_of final.line; steps = tree.1.0 } in
+      let conclusion : ReadLine = record { sort = sort.Conclusion; text = text_of final.line; steps = tree.is_tree.0 } in
       record {
         goal = record { context = context.read; conclusion = conclusion };
         is_goal = (
@@ -279,12 +309,13 @@ module _ (start end : TextPlace) (kinds : (t : Text) → All IsKind (kinds_of t)
             each = context.entries_are;
             dashes = ruler_line context.behind last middle.line middle.tokens;
           },
-          (refl, tree.1.1),
+          (refl, tree.is_tree.1),
         );
-        tree = record { context = context.trees; conclusion = tree.0 };
-        spelled = (context.spelled, tree.1);
+        tree = record { context = context.trees; conclusion = tree.tree };
+        spelled = (context.spelled, tree.is_tree);
         entries = context.are;
-        conclusion = tree.2;
+        conclusion = tree.same;
+        short = All-append IsShort context.read (conclusion ∷ []) context.short (All-cons IsShort conclusion [] tree.short (λ k d h. absurd (omega arith)));
         whole = whole_more context.whole (whole_more (whole_line dashes.cut) (whole_line d.cut));
         kept_all = context.kept_lines (line_kept context.behind dashes.cut (part_kept context.behind dashes 0 refl refl)
             (line_kept next d.cut (part_kept next d 20 conclusion_begins refl) (λ k. ap (λ ls. is_kept k ls) (none_behind ((next ++ d.cut.front) ++ 10 ∷ [])))));
@@ -295,9 +326,7 @@ pub record GoalBack (bytes : List ℕ) (at : Place) (s : Sequent) : Type 0 where
   pub tree : SequentTree
   pub spells : SpellsGoal bytes tree
   pub is_tree : IsTreeOf at s tree
-  pub faultless : fault_of bytes ≡ None
-  pub left_out : NoneLeftOut (goal_text bytes)
-  pub numbers : NoneOverflow (goal_text bytes)
+  pub allowed : IsGoalAllowed bytes
 
 pub goal_back : ((t : Text) → All IsKind (kinds_of t)) → (at : Place) (s : Sequent) → IsWrittenGoal at s → GoalBack (print_goals.goal_text at s []) at s
 goal_back kinds at s d =
@@ -315,7 +344,10 @@ goal_back kinds at s d =
       tree = read.tree;
       spells = (read.goal, is_goal, read.spelled);
       is_tree = (subst (λ es. AllZip IsEntryTree es read.tree.context) context.entries read.entries, read.conclusion);
-      faultless = faultless (subst (λ b. Whole b []) (sym same) read.whole);
-      left_out = none_left_out (goal_text bytes) are;
-      numbers = none_overflows (goal_text bytes) are;
+      allowed = record {
+        faultless = faultless (subst (λ b. Whole b []) (sym same) read.whole);
+        left_out = none_left_out (goal_text bytes) are;
+        goal = read.goal;
+        within = record { lines = is_goal; short = read.short; numbers = none_overflows (goal_text bytes) are };
+      };
     }

@@ -219,7 +219,7 @@ module _ (stage : ℕ) (at : Place) (known first : Bool) where
   operator_shown op.Not (a ∷ []) ty h x =
       let s = part_summand x (operator_tells op.Not first known 0) in as_whole refl (prefix_summand (codes "!") s (not_form s.summand))
   operator_shown op.Negate (a ∷ []) ty h x =
-      let s = part_summand x (operator_tells op.Negate first known 0) in as_whole refl (prefix_summand (codes "-") s (negative_form s.summand))
+      let s = part_operand x (operator_tells op.Negate first known 0) h in as_whole refl (prefix_operand (codes "-") s (negative_form s.operand))
   operator_shown op.ToReal (a ∷ []) ty h x =
       let s = part_operand x (operator_tells op.ToReal first known 0) h in as_one (suffix_word (codes "%r") refl refl s (as_real s.operand))
   operator_shown (op.Part k) (a ∷ []) ty h x =

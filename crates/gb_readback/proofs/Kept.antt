@@ -107,7 +107,7 @@ module _ (g : Grammar Rule) (table : list_all (λ (r : Production Rule). braces_
         later = parts.1;
       } in
       ap₂ (λ x y. x && y) z (ap₂ (λ x y. x && y) apart (kept_reads d (lexeme_kind l) tail next more))
-  kept_reads (part {n = n} {ss = ss} r i al fair enough made b d) k tail o more =
+  kept_reads (part {n = n} {ss = ss} r i al fair enough made x y b d) k tail o more =
       kept_reads b k (ss ++ tail) (opened k n (ss ++ tail) r i o) (λ j f. kept_reads d j tail f more)
 
   -- Tokens that read as symbols with which no `+` begins are kept, behind any token.

@@ -40,7 +40,7 @@ use Rattle.gb_readback.proofs.Tokens.{Next, both, is_digits, next_number, begins
 use Rattle.gb_readback.proofs.Symbols.{glob_word, close_round, close_brace, open_round}
 use Rattle.gb_readback.proofs.Levels.{Spelt, no_bracket, end, tok, named, row, followed, no_words}
 use Rattle.gb_readback.proofs.Attaching.{plain_node}
-use Rattle.gb_readback.proofs.Operands.{IsOperand, summand_of, of_atom, grown_node, round}
+use Rattle.gb_readback.proofs.Operands.{IsOperand, of_atom, grown_node, round}
 use Rattle.gb_readback.proofs.NameWords.{range_is, decimal_reads, decimal_digits, name_reads, path_start, start_begins, member_reads, plain_member}
 use Rattle.gb_readback.proofs.TypeWords.{no_digit}
 use Rattle.gb_readback.proofs.Atoms.{path_operand, IsSide, sided}
@@ -147,7 +147,7 @@ module _ {stage : ℕ} where
         bar = false;
         writes = literal (45 ∷ decimal (suc n));
         ends = λ before. ends_behind before (45 ∷ decimal (suc n)) (let s = number_some (suc n) r in omega arith) ∙ ends_behind (45 ∷ []) (decimal (suc n)) (number_some (suc n) r) ∙ number_ends (suc n) r;
-        form = negative_form (summand_of (number_operand (suc n) r));
+        form = negative_form (number_operand (suc n) r);
       })
 
   -- Variables.

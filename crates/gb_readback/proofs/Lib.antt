@@ -43,6 +43,14 @@ pub mod ModuleWords
 pub mod ExpressionsShown
 pub mod Faultless
 pub mod Fine
+pub mod Chains
+pub mod Levelled
+pub mod Counted
+pub mod ChainRows
+pub mod RunRows
+pub mod Walks
+pub mod Walked
+pub mod PlainSteps
 pub mod Kept
 pub mod LiteralsShown
 pub mod WordsInFront

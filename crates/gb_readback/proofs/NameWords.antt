@@ -41,7 +41,7 @@ use Rattle.gb_readback.proofs.Lexed.{ahead}
 use Rattle.gb_readback.proofs.Tokens.{Next, is_digits, both, word_lexed, number_lexed, word_cut, number_cut, begins_form}
 use Rattle.gb_readback.proofs.Symbols.{path_dot}
 use Rattle.gb_readback.proofs.Attaching.{Plain, plain_node}
-use Rattle.gb_readback.proofs.Levels.{Spelt, end, tok, named, row, followed}
+use Rattle.gb_readback.proofs.Levels.{is_quiet, Spelt, end, tok, named, row, followed}
 use Rattle.gb_readback.proofs.Productions as p
 
 -- Names.
@@ -50,52 +50,52 @@ abbrev name_production : ℕ → ℕ → Production Rule
 name_production k starts = record { part = 165; rule = record { takes = 0; action = Spell head.Name; mark = mark.Plain }; starts = starts; stops = 0; body = Token k ∷ [] }
 
 abbrev NameRow : ℕ → Terminal → Type 0
-NameRow stage t = (starts : ℕ) × IsProduction (p.grammar stage) 165 (name_production (kind_of t) starts)
+NameRow stage t = (starts : ℕ) × IsProduction (p.grammar stage) 165 (name_production (kind_of t) starts) × (is_quiet (name_production (kind_of t) starts) ≡ true)
 
 name_row : (stage : ℕ) (t : Terminal) → is_name t ≡ true → NameRow stage t
 unfolding kind_of
-name_row stage terminal.Name h = (p.name_name.starts, p.is_name_name stage)
-name_row stage terminal.Move h = (p.name_move.starts, p.is_name_move stage)
-name_row stage terminal.Split h = (p.name_split.starts, p.is_name_split stage)
-name_row stage terminal.Left h = (p.name_plain_step.starts, p.is_name_plain_step stage)
-name_row stage terminal.Right h = (p.name_plain_step.starts, p.is_name_plain_step stage)
-name_row stage terminal.Assumption h = (p.name_plain_step.starts, p.is_name_plain_step stage)
-name_row stage terminal.Trivial h = (p.name_plain_step.starts, p.is_name_plain_step stage)
-name_row stage terminal.Done h = (p.name_plain_step.starts, p.is_name_plain_step stage)
-name_row stage terminal.Apply h = (p.name_apply.starts, p.is_name_apply stage)
-name_row stage terminal.Have h = (p.name_have.starts, p.is_name_have stage)
-name_row stage terminal.Rewrite h = (p.name_rewrite.starts, p.is_name_rewrite stage)
-name_row stage terminal.Case h = (p.name_case.starts, p.is_name_case stage)
-name_row stage terminal.Subst h = (p.name_subst.starts, p.is_name_subst stage)
-name_row stage terminal.Skip h = (p.name_skip.starts, p.is_name_skip stage)
-name_row stage terminal.Wp h = (p.name_body_step.starts, p.is_name_body_step stage)
-name_row stage terminal.Sim h = (p.name_body_step.starts, p.is_name_body_step stage)
-name_row stage terminal.Symmetry h = (p.name_body_step.starts, p.is_name_body_step stage)
-name_row stage terminal.Seq h = (p.name_seq.starts, p.is_name_seq stage)
-name_row stage terminal.Rnd h = (p.name_rnd.starts, p.is_name_rnd stage)
-name_row stage terminal.Call h = (p.name_call.starts, p.is_name_call stage)
-name_row stage terminal.Inline h = (p.name_inline.starts, p.is_name_inline stage)
-name_row stage terminal.Swap h = (p.name_swap.starts, p.is_name_swap stage)
-name_row stage terminal.RcondTrue h = (p.name_position_step.starts, p.is_name_position_step stage)
-name_row stage terminal.RcondFalse h = (p.name_position_step.starts, p.is_name_position_step stage)
-name_row stage terminal.Unroll h = (p.name_position_step.starts, p.is_name_position_step stage)
-name_row stage terminal.Kill h = (p.name_position_step.starts, p.is_name_position_step stage)
-name_row stage terminal.Conseq h = (p.name_conseq.starts, p.is_name_conseq stage)
-name_row stage terminal.Transitivity h = (p.name_transitivity.starts, p.is_name_transitivity stage)
-name_row stage terminal.ByEquiv h = (p.name_by_step.starts, p.is_name_by_step stage)
-name_row stage terminal.ByPhoare h = (p.name_by_step.starts, p.is_name_by_step stage)
-name_row stage terminal.Fel h = (p.name_fel.starts, p.is_name_fel stage)
-name_row stage terminal.Smt h = (p.name_smt.starts, p.is_name_smt stage)
-name_row stage terminal.Linear h = (p.name_linear.starts, p.is_name_linear stage)
-name_row stage terminal.LawOfOr h = (p.name_law.starts, p.is_name_law stage)
-name_row stage terminal.LawOfNot h = (p.name_law.starts, p.is_name_law stage)
-name_row stage terminal.LawOfFalse h = (p.name_law.starts, p.is_name_law stage)
-name_row stage terminal.LawOfEqual h = (p.name_law.starts, p.is_name_law stage)
-name_row stage terminal.LawOfSubset h = (p.name_law.starts, p.is_name_law stage)
-name_row stage terminal.LawOfLeast h = (p.name_law.starts, p.is_name_law stage)
-name_row stage terminal.LawOfMost h = (p.name_law.starts, p.is_name_law stage)
-name_row stage terminal.SplitLaw h = (p.name_split_law.starts, p.is_name_split_law stage)
-name_row stage terminal.Eager h = (p.name_eager.starts, p.is_name_eager stage)
+name_row stage terminal.Name h = (p.name_name.starts, p.is_name_name stage, refl)
+name_row stage terminal.Move h = (p.name_move.starts, p.is_name_move stage, refl)
+name_row stage terminal.Split h = (p.name_split.starts, p.is_name_split stage, refl)
+name_row stage terminal.Left h = (p.name_plain_step.starts, p.is_name_plain_step stage, refl)
+name_row stage terminal.Right h = (p.name_plain_step.starts, p.is_name_plain_step stage, refl)
+name_row stage terminal.Assumption h = (p.name_plain_step.starts, p.is_name_plain_step stage, refl)
+name_row stage terminal.Trivial h = (p.name_plain_step.starts, p.is_name_plain_step stage, refl)
+name_row stage terminal.Done h = (p.name_plain_step.starts, p.is_name_plain_step stage, refl)
+name_row stage terminal.Apply h = (p.name_apply.starts, p.is_name_apply stage, refl)
+name_row stage terminal.Have h = (p.name_have.starts, p.is_name_have stage, refl)
+name_row stage terminal.Rewrite h = (p.name_rewrite.starts, p.is_name_rewrite stage, refl)
+name_row stage terminal.Case h = (p.name_case.starts, p.is_name_case stage, refl)
+name_row stage terminal.Subst h = (p.name_subst.starts, p.is_name_subst stage, refl)
+name_row stage terminal.Skip h = (p.name_skip.starts, p.is_name_skip stage, refl)
+name_row stage terminal.Wp h = (p.name_body_step.starts, p.is_name_body_step stage, refl)
+name_row stage terminal.Sim h = (p.name_body_step.starts, p.is_name_body_step stage, refl)
+name_row stage terminal.Symmetry h = (p.name_body_step.starts, p.is_name_body_step stage, refl)
+name_row stage terminal.Seq h = (p.name_seq.starts, p.is_name_seq stage, refl)
+name_row stage terminal.Rnd h = (p.name_rnd.starts, p.is_name_rnd stage, refl)
+name_row stage terminal.Call h = (p.name_call.starts, p.is_name_call stage, refl)
+name_row stage terminal.Inline h = (p.name_inline.starts, p.is_name_inline stage, refl)
+name_row stage terminal.Swap h = (p.name_swap.starts, p.is_name_swap stage, refl)
+name_row stage terminal.RcondTrue h = (p.name_position_step.starts, p.is_name_position_step stage, refl)
+name_row stage terminal.RcondFalse h = (p.name_position_step.starts, p.is_name_position_step stage, refl)
+name_row stage terminal.Unroll h = (p.name_position_step.starts, p.is_name_position_step stage, refl)
+name_row stage terminal.Kill h = (p.name_position_step.starts, p.is_name_position_step stage, refl)
+name_row stage terminal.Conseq h = (p.name_conseq.starts, p.is_name_conseq stage, refl)
+name_row stage terminal.Transitivity h = (p.name_transitivity.starts, p.is_name_transitivity stage, refl)
+name_row stage terminal.ByEquiv h = (p.name_by_step.starts, p.is_name_by_step stage, refl)
+name_row stage terminal.ByPhoare h = (p.name_by_step.starts, p.is_name_by_step stage, refl)
+name_row stage terminal.Fel h = (p.name_fel.starts, p.is_name_fel stage, refl)
+name_row stage terminal.Smt h = (p.name_smt.starts, p.is_name_smt stage, refl)
+name_row stage terminal.Linear h = (p.name_linear.starts, p.is_name_linear stage, refl)
+name_row stage terminal.LawOfOr h = (p.name_law.starts, p.is_name_law stage, refl)
+name_row stage terminal.LawOfNot h = (p.name_law.starts, p.is_name_law stage, refl)
+name_row stage terminal.LawOfFalse h = (p.name_law.starts, p.is_name_law stage, refl)
+name_row stage terminal.LawOfEqual h = (p.name_law.starts, p.is_name_law stage, refl)
+name_row stage terminal.LawOfSubset h = (p.name_law.starts, p.is_name_law stage, refl)
+name_row stage terminal.LawOfLeast h = (p.name_law.starts, p.is_name_law stage, refl)
+name_row stage terminal.LawOfMost h = (p.name_law.starts, p.is_name_law stage, refl)
+name_row stage terminal.SplitLaw h = (p.name_split_law.starts, p.is_name_split_law stage, refl)
+name_row stage terminal.Eager h = (p.name_eager.starts, p.is_name_eager stage, refl)
 name_row stage _ h = absurd cc
 
 -- what a name is
@@ -140,7 +140,7 @@ pub name_reads : {stage : ℕ} (x mid : List ℕ) → is_name_text x ≡ true �
 name_reads {stage} x mid h f =
     let next = name_next x mid h f in
     let r = name_row stage (terminal_of Word x) (name_facts x h).1 in
-    row (name_production (kind_of (terminal_of Word x)) r.0) r.1 refl refl (ap (λ n. Tree (node head.Name n [] nowhere) ∷ []) (named next)) (tok next end) end
+    row (name_production (kind_of (terminal_of Word x)) r.0) r.1 r.2 refl (ap (λ n. Tree (node head.Name n [] nowhere) ∷ []) (named next)) (tok next end) end
 
 -- Numbers.
 
@@ -148,14 +148,14 @@ abbrev number_production : ℕ → ℕ → Production Rule
 number_production k starts = record { part = 164; rule = record { takes = 0; action = Spell head.Number; mark = mark.Plain }; starts = starts; stops = 0; body = Token k ∷ [] }
 
 abbrev NumberRow : ℕ → Terminal → Type 0
-NumberRow stage t = (starts : ℕ) × IsProduction (p.grammar stage) 164 (number_production (kind_of t) starts)
+NumberRow stage t = (starts : ℕ) × IsProduction (p.grammar stage) 164 (number_production (kind_of t) starts) × (is_quiet (number_production (kind_of t) starts) ≡ true)
 
 number_row : (stage : ℕ) (t : Terminal) → is_number t ≡ true → NumberRow stage t
 unfolding kind_of
-number_row stage terminal.Number h = (p.number_number.starts, p.is_number_number stage)
-number_row stage terminal.Zero h = (p.number_zero.starts, p.is_number_zero stage)
-number_row stage terminal.One h = (p.number_one.starts, p.is_number_one stage)
-number_row stage terminal.Two h = (p.number_two.starts, p.is_number_two stage)
+number_row stage terminal.Number h = (p.number_number.starts, p.is_number_number stage, refl)
+number_row stage terminal.Zero h = (p.number_zero.starts, p.is_number_zero stage, refl)
+number_row stage terminal.One h = (p.number_one.starts, p.is_number_one stage, refl)
+number_row stage terminal.Two h = (p.number_two.starts, p.is_number_two stage, refl)
 number_row stage _ h = absurd cc
 
 -- Spellings that begin with a digit are of numbers.
@@ -244,7 +244,7 @@ number_reads {stage} x mid h l f =
     let k = kind_of (terminal_of Number x) in
     let next : Next (x ++ mid) k x mid = record { terminal = terminal_of Number x; first = number_lexed x mid h f; kind = refl; fine = fine_number k x h l; cut = number_cut x mid h f } in
     let r = number_row stage (terminal_of Number x) (number_terminal x h) in
-    row (number_production (kind_of (terminal_of Number x)) r.0) r.1 refl refl (ap (λ n. Tree (node head.Number n [] nowhere) ∷ []) (named next)) (tok next end) end
+    row (number_production (kind_of (terminal_of Number x)) r.0) r.1 r.2 refl (ap (λ n. Tree (node head.Number n [] nowhere) ∷ []) (named next)) (tok next end) end
 
 digit_is : (n : ℕ) → n < 10 → is_ascii_digit (48 + n) ≡ true
 digit_is n h = grind (arith, nat_tests)

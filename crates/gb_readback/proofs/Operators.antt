@@ -1,19 +1,17 @@
 -- Forms of operators between operands and in front of them.
 use Rattle.std.specs.Prelude.{ℕ, Bool, List, [], ◌∷◌, ◌++◌, codes}
-use Rattle.std.proofs.Common.{refl, ap, sym, ◌∙◌, subst}
+use Rattle.std.proofs.Common.{refl, sym, subst}
 use Rattle.gb_goal.specs.Answers.{nowhere}
 use Rattle.gb_grammar.specs.declared.table.Symbol.TheVariants.{Part}
 use Rattle.gb_script.specs.declared.head.Head.TheVariants as head
 use Rattle.gb_script.specs.declared.tree.Node.{Node}
 use Rattle.gb_script.specs.declared.value.Value.TheVariants.{Tree}
-use Rattle.std.specs.List.{list_all}
-use Rattle.gb_script.specs.Tree.{node, attached}
-use Rattle.gb_readback.proofs.Attaching.{is_tight}
+use Rattle.gb_script.specs.Tree.{node}
 use Rattle.gb_readback.proofs.Tokens.{Next}
 use Rattle.gb_readback.proofs.Symbols.{and_word, or_word, implies_word, iff_word, equal_word, different_word, less_word, at_most_word, plus_word, minus_word, times_word, xor_word, divide_word, in_word, power_word, question_word, colon_word, exclamation, minus}
 use Rattle.gb_readback.proofs.Levels.{Before, Starts, Spelt, negation_of_sum, conjunction_of, disjunction_of, condition_of, form_of, conjunction_of_sum, disjunction_of_sum, condition_of_sum, form_of_sum, equals, differs, less, at_most, conjoined, disjoined, implied, equivalent, chosen, negated, negative}
 use Rattle.gb_readback.proofs.Operands as o
-use Rattle.gb_readback.proofs.Operands.{IsForm, IsOperand, IsSummand, sum_reads, fits_space}
+use Rattle.gb_readback.proofs.Operands.{IsForm, IsOperand, IsSummand, alone_reads, sum_reads, fits_space}
 
 module _ {stage : ℕ} {φ ψ : Before} {c d : Bool} {a b : Node} where
   pub and_form : IsSummand stage φ c a → IsSummand stage ψ d b → IsForm stage (λ mid. φ (codes " /\\ " ++ ψ mid)) d (node head.And [] (a ∷ b ∷ []) nowhere)
@@ -126,11 +124,11 @@ module _ {stage : ℕ} {φ : Before} {c : Bool} {a : Node} where
     reads = λ mid f. form_of (condition_of (disjunction_of (conjunction_of (negated (exclamation (φ mid)) (negation_of_sum (sum_reads x mid f))))));
   }
 
-  pub negative_form : IsSummand stage φ c a → IsForm stage (λ mid. 45 ∷ φ mid) c (node head.Negative [] (a ∷ []) nowhere)
+  pub negative_form : IsOperand stage φ c a → IsForm stage (λ mid. 45 ∷ φ mid) c (node head.Negative [] (a ∷ []) nowhere)
   negative_form x = record {
     starts = λ mid. record { byte = 45; more = φ mid; is = refl; begins = refl };
-    reads = λ mid f. subst (λ z. Spelt stage (Part 120 ∷ []) (45 ∷ φ mid) mid (Tree (node head.Negative [] (z ∷ []) nowhere) ∷ [])) (ap (λ l. attached x.root l) x.tail_is ∙ x.whole)
-        (form_of_sum (negative (ap (λ l. list_all is_tight l) x.tail_is ∙ x.tight) (opens_minus (x.starts mid)) (x.reads mid f)));
+    reads = λ mid f. subst (λ z. Spelt stage (Part 120 ∷ []) (45 ∷ φ mid) mid (Tree (node head.Negative [] (z ∷ []) nowhere) ∷ [])) x.whole
+        (form_of_sum (negative x.tight x.single (opens_minus (x.starts mid)) (alone_reads x mid f)));
   }
 
 pub chosen_form : {stage : ℕ} {φ ψ χ : Before} {c d e : Bool} {x a b : Node} → IsSummand stage φ c x → IsSummand stage ψ d a → IsSummand stage χ e b

@@ -1,7 +1,7 @@
 -- What is printed of procedures, calls and judgments reads as their trees.
 use Rattle.std.specs.Prelude.{ℕ, ◌≡◌, Bool, true, false, List, [], ◌∷◌, ◌++◌, codes}
 use Rattle.std.specs.List.{list_all}
-use Rattle.std.proofs.Common.{refl, ap, sym, subst}
+use Rattle.std.proofs.Common.{refl, ap, sym, subst, arith}
 use Rattle.gb_script.proofs.Stacks.{append_nil}
 use Rattle.gb_lex.specs.Byte.{is_word_byte}
 use Rattle.gb_limits.specs.Kinds.{kind_of}
@@ -22,8 +22,11 @@ use Rattle.gb_readback.proofs.Fine.{is_fine}
 use Rattle.gb_readback.proofs.Lexed.{ahead}
 use Rattle.gb_readback.proofs.Tokens.{Next, next_word}
 use Rattle.gb_readback.proofs.Symbols.{open_square, close_square, close_round, empty_round, colon_word, long_word, tilde_word, at_word, at_most_word, equal_word, at_least_word, hoare_word, phoare_word, equiv_word, ampersand}
+use Rattle.gb_readback.proofs.Chains.{operands_in}
+use Rattle.gb_readback.proofs.Counted.{joined_node, few_joined, as_many}
+use Rattle.gb_readback.proofs.RunRows.{phoare_row, bound_equal_row, bound_at_most_row, bound_at_least_row}
 use Rattle.gb_readback.proofs.Attaching.{plain_node, behind_plain, is_tight, tight_node}
-use Rattle.gb_readback.proofs.Levels.{Before, Spelt, end, tok, named, row, row_before, followed, no_words}
+use Rattle.gb_readback.proofs.Levels.{Before, Spelt, end, tok, named, row, row_in, row_by, row_before, followed, no_words}
 use Rattle.gb_readback.proofs.Operands.{IsForm, IsOperand, IsSummand, of_atom, grown_node, fits_space, sum_reads, opens}
 use Rattle.gb_readback.proofs.NameWords.{name_reads, name_start}
 use Rattle.gb_readback.proofs.WordsInFront.{Words, member_in_front}
@@ -154,11 +157,14 @@ module _ {stage : ℕ} where
         plain = plain_node head.Bounded sign (judgment ∷ r ∷ []) refl refl;
         tail = Tree item;
         tail_is = refl;
+        few = few_joined (item ∷ []);
         reads = λ mid f.
             let behind = 32 ∷ (sign ++ (32 ∷ ω mid)) in
             let last = χ (93 ∷ behind) in
             let middle = ψ (codes " ==> " ++ last) in
-            row p.operand_phoare (p.is_operand_phoare stage) refl refl refl
+            let n = operands_in (Tree judgment ∷ Tree item ∷ []) in
+            let one = joined_node head.Bounded sign (r ∷ []) nowhere in
+            row_in p.operand_phoare (p.is_operand_phoare stage) refl refl refl (phoare_row n n (omega arith) (omega (arith, one))) (as_many (Tree judgment ∷ Tree item ∷ []))
             (followed (row p.phoare_phoare (p.is_phoare_phoare stage) refl refl refl
             (tok (phoare_word (91 ∷ φ (codes " : " ++ middle))) (tok (open_square (φ (codes " : " ++ middle))) (followed (u.reads (codes " : " ++ middle) refl (ends_colon middle))
             (tok (colon_word middle) (followed (x.reads (codes " ==> " ++ last) (fits_space c (codes "==> " ++ last))) (tok (long_word last) (followed (y.reads (93 ∷ behind) (fits_symbol d 93 behind refl refl)) (tok (close_square behind) end)))))))) end)
@@ -166,13 +172,13 @@ module _ {stage : ℕ} where
       }
 
   pub bound_at_most : {r : Node} (mid j : Text) → Spelt stage (Part 133 ∷ []) mid j (Tree r ∷ []) → Spelt stage (Part 139 ∷ []) (codes " <= " ++ mid) j (Tree (node head.Bounded (codes "<=") (r ∷ []) nowhere) ∷ [])
-  bound_at_most {r} mid j d = let n = at_most_word mid in row p.phoare_run_less_equal (p.is_phoare_run_less_equal stage) refl refl (ap (λ t. Tree (node head.Bounded t (r ∷ []) nowhere) ∷ []) (named n)) (tok n d) end
+  bound_at_most {r} mid j d = let n = at_most_word mid in row_by p.phoare_run_less_equal (p.is_phoare_run_less_equal stage) refl refl (ap (λ t. Tree (node head.Bounded t (r ∷ []) nowhere) ∷ []) (named n)) (bound_at_most_row _) (tok n d) end
 
   pub bound_equal : {r : Node} (mid j : Text) → Spelt stage (Part 133 ∷ []) mid j (Tree r ∷ []) → Spelt stage (Part 139 ∷ []) (codes " = " ++ mid) j (Tree (node head.Bounded (codes "=") (r ∷ []) nowhere) ∷ [])
-  bound_equal {r} mid j d = let n = equal_word mid in row p.phoare_run_equals (p.is_phoare_run_equals stage) refl refl (ap (λ t. Tree (node head.Bounded t (r ∷ []) nowhere) ∷ []) (named n)) (tok n d) end
+  bound_equal {r} mid j d = let n = equal_word mid in row_by p.phoare_run_equals (p.is_phoare_run_equals stage) refl refl (ap (λ t. Tree (node head.Bounded t (r ∷ []) nowhere) ∷ []) (named n)) (bound_equal_row _) (tok n d) end
 
   pub bound_at_least : {r : Node} (mid j : Text) → Spelt stage (Part 133 ∷ []) mid j (Tree r ∷ []) → Spelt stage (Part 139 ∷ []) (codes " >= " ++ mid) j (Tree (node head.Bounded (codes ">=") (r ∷ []) nowhere) ∷ [])
-  bound_at_least {r} mid j d = let n = at_least_word mid in row p.phoare_run_greater_equal (p.is_phoare_run_greater_equal stage) refl refl (ap (λ t. Tree (node head.Bounded t (r ∷ []) nowhere) ∷ []) (named n)) (tok n d) end
+  bound_at_least {r} mid j d = let n = at_least_word mid in row_by p.phoare_run_greater_equal (p.is_phoare_run_greater_equal stage) refl refl (ap (λ t. Tree (node head.Bounded t (r ∷ []) nowhere) ∷ []) (named n)) (bound_at_least_row _) (tok n d) end
 
   pub probability : {φ ψ : Before} {c : Bool} {call e : Node} (n : Text) → is_name_text n ≡ true → ((mid : Text) → Spelt stage (Part 68 ∷ []) (φ mid) mid (Tree call ∷ [])) → IsForm stage ψ c e
       → IsOperand stage (λ mid. codes "Pr[" ++ φ (codes " @ &" ++ (n ++ (codes " : " ++ ψ (93 ∷ mid))))) false (nodes.tree head.Probability (call ∷ nodes.word n ∷ e ∷ []))

@@ -1,5 +1,5 @@
 -- Lexemes that spell symbols, and the values of these, whatever the places of the lexemes.
-use Rattle.std.specs.Prelude.{ℕ, ◌≡◌, Bool, true, false, List, [], ◌∷◌, ◌++◌, length, map, take, drop, nat_le}
+use Rattle.std.specs.Prelude.{ℕ, ◌≡◌, ◌+◌, ◌≤◌, Bool, true, false, List, [], ◌∷◌, ◌++◌, length, map, take, drop, nat_le}
 use Rattle.gb_grammar.specs.declared.table.Symbol.{Symbol}
 use Rattle.gb_grammar.specs.declared.table.Symbol.TheVariants.{Token, Part}
 use Rattle.gb_grammar.specs.Grammar.{Grammar, Production, IsProduction, Allowed}
@@ -15,6 +15,7 @@ use Rattle.gb_script.specs.declared.text.Text.{Text}
 use Rattle.gb_script.specs.declared.value.Value.{Value}
 use Rattle.gb_script.specs.Build.{made}
 use Rattle.gb_readback.proofs.Fine.{is_fine}
+use Rattle.gb_readback.proofs.Chains.{operands_in, Conforms}
 
 -- a token that stands nowhere
 abbrev pub lexeme : Terminal → List ℕ → Lexeme
@@ -55,5 +56,5 @@ module _ (g : Grammar Rule) where
   pub data Reads : List Symbol → List Lexeme → List Lexeme → List Value → Type 0 where
     done : {ls : List Lexeme} → Reads [] ls ls []
     token : {k : ℕ} {ss : List Symbol} {l : Lexeme} {ls rest : List Lexeme} {vs : List Value} → lexeme_kind l ≡ k → is_fine (lexeme_kind l) l.name ≡ true → Reads ss ls rest vs → Reads (Token k ∷ ss) (l ∷ ls) rest vs
-    part : {n : ℕ} {ss : List Symbol} {ls mid rest : List Lexeme} {us vs ws : List Value} (r : Production Rule) → IsProduction g n r → Allowed r (lexeme_kinds ls) → is_fair r.rule.action r.body ≡ true
-        → nat_le r.rule.takes (length us) ≡ true → ruled r.rule (first_name ls) us ++ vs ≡ ws → Reads r.body ls mid us → Reads ss mid rest vs → Reads (Part n ∷ ss) ls rest ws
+    part : {n : ℕ} {ss : List Symbol} {ls mid rest : List Lexeme} {us vs ws : List Value} {m : ℕ} (r : Production Rule) → IsProduction g n r → Allowed r (lexeme_kinds ls) → is_fair r.rule.action r.body ≡ true
+        → nat_le r.rule.takes (length us) ≡ true → ruled r.rule (first_name ls) us ++ vs ≡ ws → Conforms r (operands_in us) m → m + operands_in vs ≤ operands_in ws → Reads r.body ls mid us → Reads ss mid rest vs → Reads (Part n ∷ ss) ls rest ws

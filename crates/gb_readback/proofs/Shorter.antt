@@ -16,7 +16,7 @@ use Rattle.gb_readback.proofs.Reading.{has_token, is_fair, bare, lexeme_kinds, f
 pub consumed : {g : Grammar Rule} {ss : List Symbol} {ls rest : List Lexeme} {vs : List Value} → Reads g ss ls rest vs → (c : List Lexeme) × (ls ≡ c ++ rest)
 consumed done = ([], refl)
 consumed (token {l = l} k z d) = let h = consumed d in (l ∷ h.0, ap (λ x. l ∷ x) h.1)
-consumed (part {rest = rest} r i al fair e made b d) =
+consumed (part {rest = rest} r i al fair e made x y b d) =
     let h = consumed b in
     let k = consumed d in
     (h.0 ++ k.0, h.1 ∙ ap (λ x. h.0 ++ x) k.1 ∙ sym (append_assoc h.0 k.0 rest))
@@ -41,7 +41,7 @@ allowed_before r (x ∷ xs) zs h = h
 some_taken : {g : Grammar Rule} {ss : List Symbol} {ls rest : List Lexeme} {vs : List Value} → Reads g ss ls rest vs → has_token ss ≡ true → length rest < length ls
 some_taken done h = absurd cc
 some_taken (token k z d) h = let m = no_longer d in omega arith
-some_taken (part r i al fair e made b d) h = let m = no_longer b in let n = some_taken d h in omega arith
+some_taken (part r i al fair e made x y b d) h = let m = no_longer b in let n = some_taken d h in omega arith
 
 -- An action that spells no token makes the same at each.
 unspelled : (a : Action) (ss : List Symbol) (k : ℕ) (m n : List ℕ) (us : List Value) → is_fair a ss ≡ true → has_token ss ≡ false
@@ -84,7 +84,7 @@ module _ (g : Grammar Rule) (zs : List Lexeme) where
       let first : l ≡ x = cc in
       let more : ls ≡ xs ++ zs = cc in
       subst (λ y. Reads g (Token kind ∷ ss) (y ∷ xs) ys vs) first (token k z (shorter d xs ys more f))
-  shorter (part {n = n} {ss = ss} {ls = ls} {mid = mid} {rest = rest} {us = us} {vs = vs} {ws = ws} r i al fair enough made b d) xs ys e f =
+  shorter (part {n = n} {ss = ss} {ls = ls} {mid = mid} {rest = rest} {us = us} {vs = vs} {ws = ws} r i al fair enough made conforms fewer b d) xs ys e f =
       let c = consumed d in
       let middle : mid ≡ (c.0 ++ ys) ++ zs = c.1 ∙ ap (λ l. c.0 ++ l) f ∙ sym (append_assoc c.0 ys zs) in
-      part r i (allowed_before r xs zs (subst (λ l. Allowed r (lexeme_kinds l)) e al)) fair enough (name_of r us vs ws xs (c.0 ++ ys) ls mid e middle fair made b) (shorter b xs (c.0 ++ ys) e middle) (shorter d (c.0 ++ ys) ys middle f)
+      part r i (allowed_before r xs zs (subst (λ l. Allowed r (lexeme_kinds l)) e al)) fair enough (name_of r us vs ws xs (c.0 ++ ys) ls mid e middle fair made b) conforms fewer (shorter b xs (c.0 ++ ys) e middle) (shorter d (c.0 ++ ys) ys middle f)

@@ -35,19 +35,19 @@ pub always_allowed : (r : Production Rule) → r.stops ≡ 0 → (w : List ℕ) 
 always_allowed r z [] = tt
 always_allowed r z (t ∷ w) = ap (λ (s : ℕ). has s t) z ∙ nothing_stops t
 
-drop_next : {A : Type 0} (p : ℕ) (xs : List A) (y : A) (ys : List A) → drop p xs ≡ y ∷ ys → drop (p + 1) xs ≡ ys
+pub drop_next : {A : Type 0} (p : ℕ) (xs : List A) (y : A) (ys : List A) → drop p xs ≡ y ∷ ys → drop (p + 1) xs ≡ ys
 drop_next zero xs y ys e = ap (λ l. drop 1 l) e
 drop_next (suc p) [] y ys e = absurd cc
 drop_next (suc p) (x ∷ xs) y ys e = let n : suc p + 1 ≡ suc (p + 1) = omega arith in rw n (drop_next p xs y ys e)
 
 -- the first of the tokens from a position on
-name_here : (p : ℕ) (ls : List Lexeme) → name_or_none (slice_get ls p) ≡ first_name (drop p (bare_lexemes ls))
+pub name_here : (p : ℕ) (ls : List Lexeme) → name_or_none (slice_get ls p) ≡ first_name (drop p (bare_lexemes ls))
 name_here zero [] = refl
 name_here zero (l ∷ ls) = refl
 name_here (suc p) [] = refl
 name_here (suc p) (l ∷ ls) = name_here p ls
 
-ruled_front : (r : Rule) (n : List ℕ) (us st : List Value) → nat_le r.takes (length us) ≡ true → ruled r n (us ++ st) ≡ ruled r n us ++ st
+pub ruled_front : (r : Rule) (n : List ℕ) (us st : List Value) → nat_le r.takes (length us) ≡ true → ruled r n (us ++ st) ≡ ruled r n us ++ st
 ruled_front r n us st h = run_front (bare n) (record { rule = r; at = 0 }) us st (leb-true r.takes (length us) h)
 
 module _ (g : Grammar Rule) (t : Text) where
@@ -59,7 +59,7 @@ module _ (g : Grammar Rule) (t : Text) where
     pub derives : (tail : List Symbol) (ps : List (Step Rule)) → Derives g tail end (lexeme_kinds rest) ps → Derives g (ss ++ tail) p (lexeme_kinds ls) (steps ++ ps)
     pub builds : (ps : List (Step Rule)) (st : List Value) → bare_values (built t ps) ≡ st → bare_values (built t (steps ++ ps)) ≡ vs ++ st
 
-  pub derived : {ss : List Symbol} {ls rest : List Lexeme} {vs : List Value} → Reads g ss ls rest vs → (p : ℕ) → drop p (bare_lexemes t.lexemes) ≡ ls → Derived ss p ls rest vs
+  unfoldable pub derived : {ss : List Symbol} {ls rest : List Lexeme} {vs : List Value} → Reads g ss ls rest vs → (p : ℕ) → drop p (bare_lexemes t.lexemes) ≡ ls → Derived ss p ls rest vs
   derived done p e = record { end = p; rest_is = e; steps = []; derives = λ tail ps d. d; builds = λ ps st h. h }
   derived (token {ss = ss} {l = l} {ls = ls} {rest = rest} {vs = vs} k z d) p e =
       let below = derived d (p + 1) (drop_next p (bare_lexemes t.lexemes) l ls e) in
@@ -70,7 +70,7 @@ module _ (g : Grammar Rule) (t : Text) where
         derives = λ tail ps x. subst (λ (n : ℕ). Derives g (Token n ∷ (ss ++ tail)) p (lexeme_kind l ∷ lexeme_kinds ls) (below.steps ++ ps)) k (derives_token (below.derives tail ps x));
         builds = below.builds;
       }
-  derived (part {n = n} {ss = ss} {ls = ls} {mid = mid} {rest = rest} {us = us} {vs = vs} {ws = ws} r i al fair enough is b d) p e =
+  derived (part {n = n} {ss = ss} {ls = ls} {mid = mid} {rest = rest} {us = us} {vs = vs} {ws = ws} r i al fair enough is x y b d) p e =
       let inner = derived b p e in
       let behind = derived d inner.end inner.rest_is in
       let name : name_at t p ≡ first_name ls = name_here p t.lexemes ∙ ap first_name e in
@@ -90,18 +90,18 @@ module _ (g : Grammar Rule) (t : Text) where
             ∙ ap (λ (l : List Value). l ++ st) is;
       }
 
-  kinds_bare : (ls : List Lexeme) → lexeme_kinds (bare_lexemes ls) ≡ map lexeme_kind ls
+  pub kinds_bare : (ls : List Lexeme) → lexeme_kinds (bare_lexemes ls) ≡ map lexeme_kind ls
   kinds_bare [] = refl
   kinds_bare (l ∷ ls) = ap (λ ks. lexeme_kind l ∷ ks) (kinds_bare ls)
 
-  one_tree : (vs : List Value) (x : Node) → bare_values vs ≡ Tree x ∷ [] → (y : Node) × (vs ≡ Tree y ∷ []) × (placeless y ≡ x)
+  pub one_tree : (vs : List Value) (x : Node) → bare_values vs ≡ Tree x ∷ [] → (y : Node) × (vs ≡ Tree y ∷ []) × (placeless y ≡ x)
   one_tree [] x e = absurd cc
   one_tree (Tree y ∷ []) x e = (y, refl, cc)
   one_tree (Trees ys ∷ []) x e = absurd cc
   one_tree (v ∷ w ∷ vs) x e = absurd cc
 
   -- Tokens that read as a tree spell it, but for its places.
-  pub spelled : (n : ℕ) (x : Node) → Reads g (Part n ∷ []) (bare_lexemes t.lexemes) [] (Tree x ∷ []) → (y : Node) × IsTree g n (kinds_of t) t y × (placeless y ≡ x)
+  unfoldable pub spelled : (n : ℕ) (x : Node) → Reads g (Part n ∷ []) (bare_lexemes t.lexemes) [] (Tree x ∷ []) → (y : Node) × IsTree g n (kinds_of t) t y × (placeless y ≡ x)
   spelled n x d =
       let all = derived d 0 refl in
       let built_so = all.builds [] [] refl in

@@ -56,10 +56,10 @@ module _ (g : Grammar Rule) where
   pub takes_some : {ss : List Symbol} {ls rest : List Lexeme} {vs : List Value} → Reads g ss ls rest vs → (f : ℕ) → takes f g ss ≡ true → length rest < length ls
   takes_some done zero h = absurd cc
   takes_some (token k z d) zero h = absurd cc
-  takes_some (part r i al fair e made b d) zero h = absurd cc
+  takes_some (part r i al fair e made x y b d) zero h = absurd cc
   takes_some done (suc f) h = absurd cc
   takes_some (token k z d) (suc f) h = let m = no_longer d in omega arith
-  takes_some (part {n = n} {ss = ss} {ls = ls} {mid = mid} {rest = rest} r i al fair e made b d) (suc f) h =
+  takes_some (part {n = n} {ss = ss} {ls = ls} {mid = mid} {rest = rest} r i al fair e made x y b d) (suc f) h =
       one_takes (takes_all f n g) (length ls) (length mid) (length rest) (no_longer b) (no_longer d)
       (λ t. takes_some b f (body_takes g f n r i t)) (λ t. takes_some d f (either_true (takes_all f n g) (takes f g ss) h t))
 

@@ -1,5 +1,5 @@
 -- The trees of goals, line by line.
-use Rattle.std.specs.Prelude.{◌≡◌, ◌⊎◌, ℕ, true, List, [], ◌∷◌, ◌++◌, map, None}
+use Rattle.std.specs.Prelude.{◌≡◌, ◌⊎◌, ℕ, true, List, [], ◌∷◌, ◌++◌, map}
 use Rattle.std.specs.List.{AllZip}
 use Rattle.gb_terms.specs.declared.decl.TypedName.{TypedName}
 use Rattle.gb_terms.specs.declared.module.Bind.{Bind}
@@ -7,11 +7,8 @@ use Rattle.gb_goal.specs.declared.sequent.Hyp.{Hyp}
 use Rattle.gb_goal.specs.declared.sequent.Sequent.{Sequent}
 use Rattle.gb_language.specs.declared.rows.TheConstants.{ENTRY, HYPOTHESIS}
 use Rattle.gb_language.specs.Language.{IsLineTree}
-use Rattle.gb_lex.specs.Lex.{fault_of}
-use Rattle.gb_limits.specs.LeftOut.{NoneLeftOut}
 use Rattle.gb_limits.specs.Lexeme.{kinds_of}
-use Rattle.gb_limits.specs.Numbers.{NoneOverflow}
-use Rattle.gb_read_script.specs.Goal.{goal_text, SpellsGoal}
+use Rattle.gb_read_script.specs.Goal.{SpellsGoal, IsGoalAllowed}
 use Rattle.gb_read_script.specs.declared.goal_tree.SequentTree.{SequentTree}
 use Rattle.gb_script.specs.declared.head.Head.TheVariants as head
 use Rattle.gb_script.specs.declared.text.Text.{Text}
@@ -82,11 +79,9 @@ pub record IsWrittenGoal (at : Place) (s : Sequent) : Type 0 where
   pub hyps : AreWrittenHyps at s.hyps
   pub conclusion : IsWritten 1 at s.conclusion
 
--- The bytes spell a goal, and each that they spell is this one. Each byte stands in a token, white space or a comment; no token is
--- left out, and no number is out of range.
+-- The bytes spell a goal, and each that they spell is this one. They pass no limit: what reads them as a goal finds this one, if memory
+-- lasts.
 pub record IsGoalReadAs (bytes : List ℕ) (at : Place) (s : Sequent) : Type 0 where
   pub some : (t : SequentTree) × SpellsGoal bytes t × IsTreeOf at s t
   pub only : (t : SequentTree) → SpellsGoal bytes t → IsTreeOf at s t
-  pub faultless : fault_of bytes ≡ None
-  pub left_out : NoneLeftOut (goal_text bytes)
-  pub numbers : NoneOverflow (goal_text bytes)
+  pub allowed : IsGoalAllowed bytes

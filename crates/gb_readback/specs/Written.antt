@@ -159,7 +159,7 @@ abbrev pub is_phoare : Head → Bool
 is_phoare (head.Phoare c r) = true
 is_phoare _ = false
 
--- a form in front of a suffix, of an operator like `+`, or of the body of a loop: no judgment with a bound
+-- a form in front of a suffix, of an operator like `+`, or of the body of a loop, or behind a prefix `-`: no judgment with a bound
 abbrev pub is_front : Term → Bool
 is_front t = not (is_phoare (out-Term t).head)
 
@@ -177,7 +177,7 @@ has_operands op.AtMost (a ∷ b ∷ []) = true
 has_operands op.Plus (a ∷ b ∷ []) = is_front a
 has_operands op.Minus (a ∷ b ∷ []) = is_front a
 has_operands op.Times (a ∷ b ∷ []) = is_front a
-has_operands op.Negate (a ∷ []) = true
+has_operands op.Negate (a ∷ []) = is_front a
 has_operands op.Xor (a ∷ b ∷ []) = true
 has_operands op.Divide (a ∷ b ∷ []) = is_front a
 has_operands op.ToReal (a ∷ []) = is_front a

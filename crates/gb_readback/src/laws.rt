@@ -46,8 +46,10 @@ pub fn statements_are_made_of_parts()
     ensures repeated { (e v : Term) (a : Cmd) (at : Place) → instr_trees (While e v a) at ≡ tree script.While (form (shown e) true at ∷ loop (operand (shown v) false at) (cmd_trees a at) ∷ []) ∷ [] }
 {}
 
-/// What is printed of a form is read as its tree, but for places, and as no other: where its names are names of the language,
-/// its numbers are in range, each head has its operands, and no block and no `glob` in a type stands in it.
+/// What is printed of a form spells its tree, but for places, and no other; and where it is within 64 levels, it passes no
+/// limit, so that [`gb_read_script::reading::form`] answers this tree, or that memory ran out. All this where the form's
+/// names are names of the language, its numbers are in range, each head has its operands, and no block and no `glob` in a
+/// type stands in it.
 pub fn printed_forms_are_read()
     ensures { (ds : Declarations) (es : List Enumeration) (vs : List TypedName) (ms : List Name) (t : Term) →
         IsWritten 0 (place_of_form ds es vs ms) t → IsReadAs (printed_form ds es vs ms t) (form_tree t (place_of_form ds es vs ms)) }
@@ -55,8 +57,10 @@ pub fn printed_forms_are_read()
     forms_are_unique();
 }
 
-/// What is printed of a goal is read as its tree, but for places, and as no other: where its names and forms are such, here with
-/// blocks and `glob` in types too. A hypothesis whose text is that of a variable too, as `H : b`, may be read as that.
+/// What is printed of a goal spells its tree, but for places, and no other, and passes no limit, so that
+/// [`gb_read_script::goal::goal`] answers this tree, or that memory ran out. All this where its names and forms are such,
+/// here with blocks and `glob` in types too. A hypothesis whose text is that of a variable too, as `H : b`, may be read as
+/// that.
 pub fn printed_goals_are_read()
     ensures { (ds : Declarations) (es : List Enumeration) (s : Sequent) →
         IsWrittenGoal (place_of_goal ds es s) s → IsGoalReadAs (printed_goal ds es s) (place_of_goal ds es s) s }

@@ -11,11 +11,13 @@ returns c = λ ds es vs ms t d.
     let at = place_of_form ds es vs ms in
     let kept = form_kept at t d in
     record {
-      some = λ place. form_back at t d place;
+      some = λ place. let read = form_back at t d place in (read.tree, read.spells, read.same);
       only = λ place y s.
           let read = form_back at t d place in
-          ap placeless (c.forms_are_unique.ensures (tokens_at (printed_form ds es vs ms t) place) y read.0 s read.1) ∙ read.2;
+          ap placeless (c.forms_are_unique.ensures (tokens_at (printed_form ds es vs ms t) place) y read.tree s read.spells) ∙ read.same;
       faultless = kept.0;
-      left_out = λ place. (kept.1 place).0;
-      numbers = λ place. (kept.1 place).1;
+      allowed = λ place shallow.
+          let read = form_back at t d place in
+          let none = kept.1 place in
+          (none.0, record { steps = read.spells.0; text = read.spells.1; deep = shallow read.spells.0 read.spells.1; long = read.short; numbers = none.1 });
     }

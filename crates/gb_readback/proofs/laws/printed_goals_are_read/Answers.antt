@@ -11,7 +11,5 @@ returns c = λ ds es s d.
     record {
       some = (read.tree, read.spells, read.is_tree);
       only = λ t spelled. subst (λ x. IsTreeOf at s x) (c.goals_are_unique.ensures (printed_goal ds es s) read.tree t read.spells spelled) read.is_tree;
-      faultless = read.faultless;
-      left_out = read.left_out;
-      numbers = read.numbers;
+      allowed = read.allowed;
     }
