@@ -67,3 +67,22 @@ assumption.
 assumption.
 done.                           (* true is closed *)
 qed.
+
+op flipped (b : bool) : bool = !b.
+
+module M = {
+  proc f(a : bool) : bool = {
+    var x : bool;
+    x <- flipped a;
+    return x;
+  }
+}.
+
+lemma in_a_program (p : bool) : hoare [M.f : a = p ==> res = (!p)].
+proof.
+proc.
+rewrite /flipped.               (* the program assigns !a *)
+wp.
+skip.
+smt().
+qed.

@@ -39,22 +39,22 @@ module _ (L : Uses) (c : Context) (a : IsClosed L c) where
   bounds_under b zero t w = refl
   bounds_under b (suc i) t w = a.bounds i t w
 
-  closed_under : (b : Binder) → IsClosed (beneath L) (within c b None)
+  pub closed_under : (b : Binder) → IsClosed (beneath L) (within c b None)
   closed_under b = record { logical = a.logical; frames = frames_under b; bounds = bounds_under b }
 
-  closed_first : (h : Head) → HeadIsPlain h → IsClosed (of_arguments L h) (first c h)
+  pub closed_first : (h : Head) → HeadIsPlain h → IsClosed (of_arguments L h) (first c h)
   closed_first (head.Hoare s) x = absurd x
   closed_first (head.Phoare s r) x = absurd x
   closed_first (head.Equiv s u) x = absurd x
   closed_first _ x = a
 
-  closed_middle : (h : Head) → HeadIsPlain h → IsClosed (of_arguments L h) (middle c h)
+  pub closed_middle : (h : Head) → HeadIsPlain h → IsClosed (of_arguments L h) (middle c h)
   closed_middle (head.Hoare s) x = absurd x
   closed_middle (head.Phoare s r) x = absurd x
   closed_middle (head.Equiv s u) x = absurd x
   closed_middle _ x = a
 
-  closed_last : (ls : List TypedName) (h : Head) (us : List Ty) (t : Ty) → HeadIsPlain h → IsHead (erased c) h us t → IsClosed (of_last L h) (last c ls h us)
+  pub closed_last : (ls : List TypedName) (h : Head) (us : List Ty) (t : Ty) → HeadIsPlain h → IsHead (erased c) h us t → IsClosed (of_last L h) (last c ls h us)
   closed_last ls (head.All u) us t x w = closed_under (value u)
   closed_last ls (head.Some u) us t x w = closed_under (value u)
   closed_last ls head.AllMemory us t x w = absurd x
@@ -73,7 +73,7 @@ module _ (L : Uses) (c : Context) (a : IsClosed L c) where
   closed_last ls (head.Equiv s u) us t x w = absurd x
   closed_last ls _ us t x w = a
 
-  head_within : (h : Head) (us : List Ty) (t : Ty) → HeadIsPlain h → IsHead (erased c) h us t → IsNamed c h t → HeadIsWithin L h t
+  pub head_within : (h : Head) (us : List Ty) (t : Ty) → HeadIsPlain h → IsHead (erased c) h us t → IsNamed c h t → HeadIsWithin L h t
   head_within (head.Read (Logical i)) [] t x w s = absurd (a.logical i t w.1)
   head_within (head.Read (Logical i)) (u ∷ us) t x w s = absurd w
   head_within (head.Read (Program y r)) us t x w s = absurd (nothing_in c y t (subst (λ f. IsIn c f y t) (a.frames r) s))

@@ -13,8 +13,14 @@ pub mod Moved
 pub mod Replaced
 pub mod Closed
 pub mod Standing
+pub mod Lifted
+pub mod Steady
+pub mod Filled
 pub mod Applied
 pub mod Opens
 pub mod Opened
+pub mod Programs
+pub mod Statements
+pub mod Everywhere
 pub mod Others
 pub mod Sound

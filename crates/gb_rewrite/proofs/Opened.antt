@@ -1,6 +1,5 @@
 -- An operator that is unfolded keeps types and meanings, where it means its body.
-use Rattle.std.proofs.Common.{◌≡◌, true, false, not, ◌&&◌, ◌||◌, if◌then◌else◌, List, [], ◌∷◌, map, refl, ap, sym, ◌∙◌}
-use Rattle.std.specs.List.{AllByRecursion, list_all}
+use Rattle.std.proofs.Common.{◌≡◌, false, if◌then◌else◌, List, map, refl, ap, ◌∙◌, subst}
 use Rattle.gb_core.specs.declared.ty.Ty.TheVariants as ty
 use Rattle.gb_terms.specs.declared.term.Term.{Term}
 use Rattle.gb_terms.specs.declared.term.Head.{Head}
@@ -15,34 +14,19 @@ use Rattle.gb_meaning.specs.Terms.{val}
 use Rattle.gb_meaning.specs.Judgments.{Judge, speaking}
 use Rattle.gb_typing.specs.Context.{Context}
 use Rattle.gb_typing.proofs.Formed.{formed}
-use Rattle.gb_typing.proofs.Sound.{sound_form}
+use Rattle.gb_typing.proofs.Sound.{Procedures, sound_form}
 use Rattle.gb_typing.specs.Rules.{outermost}
 use Rattle.gb_eval.specs.Meant.{IsBody}
 use Rattle.gb_equality_laws.proofs.Alike.{alike_of}
-use Rattle.gb_rewrite.specs.Unfolded.{is_operator, in_places, unfolded, is_plain, takes_plain}
-use Rattle.gb_rewrite.proofs.Applied.{both, unfolded_made}
-use Rattle.gb_rewrite.proofs.Layers.{takes_out, unfolded_out}
+use Rattle.gb_rewrite.specs.Unfolded.{is_operator, in_places, unfolded}
+use Rattle.gb_rewrite.proofs.Applied.{unfolded_made}
+use Rattle.gb_rewrite.proofs.Layers.{unfolded_out}
 use Rattle.gb_rewrite.proofs.Moved.{IsJudgment, Preserves}
 use Rattle.gb_rewrite.proofs.Opens.{opens}
 use Rattle.gb_rewrite.proofs.Placed.{IsLike, around}
 use Rattle.gb_rewrite.proofs.Standing.{IsStanding}
 
 module _ (x : Name) where
-  -- terms in which the operator has plain arguments
-  abbrev pub TakesPlain : Term → Type 0
-  TakesPlain t = takes_plain x t ≡ true
-
-  each_takes : (ts : List Term) → list_all (takes_plain x) ts ≡ true → AllByRecursion TakesPlain ts
-  each_takes [] e = tt
-  each_takes (t ∷ ts) e = let k = both (takes_plain x t) (list_all (takes_plain x) ts) e in (k.0, each_takes ts k.1)
-
-  parts_take : (h : Head) (ts : List Term) → TakesPlain (node h ts ty.Bool) → AllByRecursion TakesPlain ts
-  parts_take h ts e =
-      each_takes ts
-      (both (not (is_operator x h) || list_all is_plain ts) (list_all (takes_plain x) ts)
-      (sym (takes_out x (node h ts ty.Bool)
-      ∙ ap (λ y. (not (is_operator x y.head) || list_all is_plain y.args) && list_all (takes_plain x) y.args) (out-roll-Term (record { head = h; args = ts; ty = ty.Bool }))) ∙ e)).1
-
   no_operator : (h : Head) → IsJudgment h → is_operator x h ≡ false
   no_operator (head.User n) is = absurd is
   no_operator _ is = refl
@@ -58,12 +42,12 @@ module _ (x : Name) where
   abbrev pub MeansBody : Term → Setting → Judge → State → Type 0
   MeansBody b g j s = IsBody g x b
 
-  pub opened : (o : Context) (b : Term) → IsStanding (outermost o) x b → Preserves o (unfolded x b) TakesPlain (MeansBody b)
+  pub opened : (o : Context) (b : Term) → IsStanding (outermost o) x b → Preserves o (unfolded x b) (MeansBody b)
   opened o b s = record {
-    made = λ d i t fit w. unfolded_made o x b s d i t fit w;
-    deep = λ g fits j fair q e d i k t fit w.
-        let m = unfolded_made o x b s d i t fit w in
-        let a = opens o x b s g e j fair (IsLike q) (around q) d i t fit w (formed d t w) (sound_form g d k t w) in
+    made = λ d i t w. unfolded_made o x b s d i t w;
+    deep = λ g fits j fair q e d i k t w.
+        let m = unfolded_made o x b s d i t w in
+        let a = opens o x b s g (subst (Procedures g) i k) e j fair (IsLike q) (around q) d i t w (formed d t w) (sound_form g d k t w) in
         record {
           new = m.typed;
           old = w;
@@ -72,5 +56,4 @@ module _ (x : Name) where
           denominator = a.1;
         };
     judgment = λ h ts is untyped. judgment_unfolded b h ts is;
-    parts = parts_take;
   }

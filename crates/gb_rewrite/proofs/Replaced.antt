@@ -1,6 +1,5 @@
 -- One term in place of another one that means the same keeps types and meanings.
-use Rattle.std.proofs.Common.{◌≡◌, Bool, true, false, if◌then◌else◌, List, [], ◌∷◌, map, refl, ap, sym, ◌∙◌, subst}
-use Rattle.std.specs.List.{AllByRecursion}
+use Rattle.std.proofs.Common.{◌≡◌, Bool, true, false, if◌then◌else◌, List, map, refl, ap, sym, ◌∙◌, subst}
 use Rattle.gb_core.specs.declared.ty.Ty.TheVariants as ty
 use Rattle.gb_terms.specs.declared.term.Term.{Term}
 use Rattle.gb_terms.specs.declared.term.Head.{Head}
@@ -24,13 +23,6 @@ use Rattle.gb_rewrite.proofs.Reals.{deep}
 use Rattle.gb_rewrite.proofs.Same.{are_one}
 use Rattle.gb_rewrite.proofs.Sides.{AreSides}
 
-abbrev pub EachFits : Term → Type 0
-EachFits t = Unit {0}
-
-each_fits : (ts : List Term) → AllByRecursion EachFits ts
-each_fits [] = tt
-each_fits (t ∷ ts) = (tt, each_fits ts)
-
 -- Settings and states in which two terms mean the same, and operators of the script give the same from the same.
 abbrev pub AreEqual : Context → Term → Term → Setting → Judge → State → Type 0
 AreEqual c a b g j s = RespectAlike c g × Alike (val g (speaking g j) a s) (val g (speaking g j) b s)
@@ -50,10 +42,9 @@ module _ (o : Context) (a b : Term) (sides : AreSides (outermost o) a b) where
       other true e = absurd (untyped (subst (IsTyped (outermost o)) (sym (are_one (node h ts ty.Bool) a e)) sides.left))
       other false e = refl
 
-  pub replaced : Preserves o (rewritten a b) EachFits (AreEqual (outermost o) a b)
+  pub replaced : Preserves o (rewritten a b) (AreEqual (outermost o) a b)
   replaced = record {
-    made = λ d i t fit w. rewritten_made o a b sides.right sides.type d i t w;
-    deep = λ g fits j fair s e d i k t fit w. deep o a b sides g fits j fair e.0 s e.1 d i t w (sound_form g d k t w);
+    made = λ d i t w. rewritten_made o a b sides.right sides.type d i t w;
+    deep = λ g fits j fair s e d i k t w. deep o a b sides g fits j fair e.0 s e.1 d i t w (sound_form g d k t w);
     judgment = judgment_moved;
-    parts = λ h ts fit. each_fits ts;
   }

@@ -1,11 +1,11 @@
 -- Rules that put equals for equals are sound.
-use Rattle.std.proofs.Common.{◌≡◌, ℕ, zero, suc, Bool, true, false, not, ◌&&◌, if◌then◌else◌, List, [], ◌∷◌, map, slice_get, Option, Some, None, refl, ap, sym, ◌∙◌, subst}
+use Rattle.std.proofs.Common.{◌≡◌, ℕ, zero, suc, Bool, true, false, ◌&&◌, if◌then◌else◌, List, [], ◌∷◌, map, slice_get, Option, Some, None, refl, ap, sym, ◌∙◌, subst}
 use Rattle.std.specs.List.{AllByRecursion, list_any}
 use Rattle.std.specs.Option.{option_map}
 use Rattle.std.proofs.lemmas.Bool.{false≢true}
 use Rattle.gb_core.specs.declared.place.Place.{Place}
 use Rattle.gb_core.specs.declared.refusal.Why.TheVariants.{Shape}
-use Rattle.gb_terms.specs.declared.term.Term.{Term, out-Term}
+use Rattle.gb_terms.specs.declared.term.Term.{Term}
 use Rattle.gb_goal.specs.Scope as entries
 use Rattle.gb_goal.specs.Answers.Answer.{given, refused}
 use Rattle.gb_goal.specs.Goal.Goal.{ambient}
@@ -50,12 +50,13 @@ use Rattle.gb_amb.proofs.Cases.{form_formula}
 use Rattle.gb_amb.proofs.Fronts.{first, second, none_in_front}
 use Rattle.gb_rewrite.specs.Rewritten.{rewritten, stands}
 use Rattle.gb_rewrite.specs.Equations.{Pair, exchanged, equation_of, equivalence_of, is_variable_apart, used_up, used_up_of}
-use Rattle.gb_rewrite.specs.Rewriting.{rewriting, rewriting_by, rewriting_back, others, hypothesis_rewritten, without, using_up, using_up_hypothesis, substituting, can_unfold, opening_by, opening, rewrite_answer, IsUsable}
-use Rattle.gb_rewrite.specs.Unfolded.{names, programs_name, takes_plain, unfolded}
+use Rattle.gb_rewrite.specs.Rewriting.{rewriting, rewriting_by, rewriting_back, others, hypothesis_rewritten, without, using_up, using_up_hypothesis, substituting, unfolded_everywhere, opening_by, opening, rewrite_answer, IsUsable}
+use Rattle.gb_rewrite.specs.Unfolded.{names, unfolded}
 use Rattle.gb_rewrite.proofs.Kept.{form_kept}
 use Rattle.gb_rewrite.proofs.Moved.{IsMoved, Preserves, form_moved, conclusion_moved}
-use Rattle.gb_rewrite.proofs.Opened.{TakesPlain, MeansBody, opened}
-use Rattle.gb_rewrite.proofs.Replaced.{EachFits, AreEqual, replaced}
+use Rattle.gb_rewrite.proofs.Everywhere.{programs_moved}
+use Rattle.gb_rewrite.proofs.Opened.{MeansBody, opened}
+use Rattle.gb_rewrite.proofs.Replaced.{AreEqual, replaced}
 use Rattle.gb_rewrite.proofs.Sides.{AreSides, IsSaidBy, said_by, said_by_equation}
 use Rattle.gb_rewrite.proofs.Standing.{IsStanding, body_stands, modules_leave}
 use Rattle.gb_eval.specs.Script.{body_named}
@@ -114,15 +115,15 @@ module _ (ds : Declarations) (scope : IsTypedScope ds) (q : Sequent) (t : IsType
     abbrev Moves : Context → Term → Type 0
     Moves d x = IsMoved d At x (moved x)
 
-    kept : Preserves c moved EachFits At
+    kept : Preserves c moved At
     kept = replaced c a b (subst (λ d. AreSides d a b) outer said.sides)
 
     of_form : (x : Term) → IsForm c x → Moves c x
-    of_form x v = subst (λ d. Moves d x) (sym outer) (form_moved c moved EachFits At kept x tt (subst (λ d. IsForm d x) outer v))
+    of_form x v = subst (λ d. Moves d x) (sym outer) (form_moved c moved At kept x (subst (λ d. IsForm d x) outer v))
 
     of_conclusion : has_module q.conclusion ≡ false → Moves c q.conclusion
     of_conclusion m =
-        subst (λ d. Moves d q.conclusion) (sym outer) (conclusion_moved c moved EachFits At kept q.conclusion tt (subst (λ d. IsConclusion d q.conclusion) outer t.conclusion) m)
+        subst (λ d. Moves d q.conclusion) (sym outer) (conclusion_moved c moved At kept q.conclusion (subst (λ d. IsConclusion d q.conclusion) outer t.conclusion) m)
 
     module _ (k : Interpretation) (results : HasResults ds k) (fits : IsSettingOf c (setting ds k)) (s : State) (fit : IsStateOf c (setting ds k) s) (holds : Truth ds f k s) where
       equal : (j : Judge) → IsFair (setting ds k) j → At (setting ds k) j s
@@ -270,36 +271,41 @@ module _ (es : entries.Declarations) (scope : IsTypedScope (declared es)) (q : S
     at_goal : around_goal ≡ outermost around_goal
     at_goal = sequent_outermost (declared es) q t.frames
 
-    kept_by_body : Preserves around_goal (unfolded x b) (TakesPlain x) (MeansBody x b)
+    kept_by_body : Preserves around_goal (unfolded x b) (MeansBody x b)
     kept_by_body = opened x around_goal b (subst (λ d. IsStanding d x b) at_goal (body_stands es scope q t.frames x b found))
 
-    unfolded_moves : takes_plain x q.conclusion ≡ true → has_module q.conclusion ≡ false → IsMoved around_goal (MeansBody x b) q.conclusion (unfolded x b q.conclusion)
-    unfolded_moves fit o =
+    unfolded_moves : has_module q.conclusion ≡ false → IsMoved around_goal (MeansBody x b) q.conclusion (unfolded x b q.conclusion)
+    unfolded_moves o =
         subst (λ d. IsMoved d (MeansBody x b) q.conclusion (unfolded x b q.conclusion)) (sym at_goal)
-        (conclusion_moved around_goal (unfolded x b) (TakesPlain x) (MeansBody x b) kept_by_body q.conclusion fit (subst (λ d. IsConclusion d q.conclusion) at_goal t.conclusion) o)
+        (conclusion_moved around_goal (unfolded x b) (MeansBody x b) kept_by_body q.conclusion (subst (λ d. IsConclusion d q.conclusion) at_goal t.conclusion) o)
 
-    unfolded_leads : takes_plain x q.conclusion ≡ true → has_module q.conclusion ≡ false → LeadTo (declared es) q (concluding q (unfolded x b q.conclusion) ∷ [])
-    unfolded_leads fit o =
-        let m = unfolded_moves fit o in
-        parts_lead (declared es) scope q t (record { hyps = q.hyps; conclusion = unfolded x b q.conclusion } ∷ []) ((t.hyps, m.typed), tt)
+    everywhere_moves : has_module q.conclusion ≡ false → IsMoved around_goal (MeansBody x b) q.conclusion (unfolded_everywhere x b q.conclusion)
+    everywhere_moves o =
+        let m = unfolded_moves o in
+        let n = programs_moved x b around_goal (body_stands es scope q t.frames x b found) (unfolded x b q.conclusion) m.typed m.front in
+        record { typed = n.typed; front = n.front; same = λ g fits j fair s placed e. n.same g fits j fair s placed e ∙ m.same g fits j fair s placed e }
+
+    unfolded_leads : has_module q.conclusion ≡ false → LeadTo (declared es) q (concluding q (unfolded_everywhere x b q.conclusion) ∷ [])
+    unfolded_leads o =
+        let m = everywhere_moves o in
+        parts_lead (declared es) scope q t (record { hyps = q.hyps; conclusion = unfolded_everywhere x b q.conclusion } ∷ []) ((t.hyps, m.typed), tt)
         (λ k fits s fit y h. (without_modules (declared es) q.conclusion k s o).1
         (λ j fair.
         sym (m.same (setting (declared es) k) fits j fair s fit (scope_bodies es k scope x b found))
-        ∙ (without_modules (declared es) (unfolded x b q.conclusion) k s m.front).0 (y.0 h) j fair))
+        ∙ (without_modules (declared es) (unfolded_everywhere x b q.conclusion) k s m.front).0 (y.0 h) j fair))
 
-    by_tests : (z : Bool) → can_unfold x q.conclusion ≡ z → quantifies_modules q.conclusion ≡ false → (place : Place) (qs : List Sequent) →
-        given qs ≡ (if z then given (concluding q (unfolded x b q.conclusion) ∷ []) else refused Shape place) → LeadTo (declared es) q qs
+    by_tests : (z : Bool) → names x q.conclusion ≡ z → quantifies_modules q.conclusion ≡ false → (place : Place) (qs : List Sequent) →
+        given qs ≡ (if z then given (concluding q (unfolded_everywhere x b q.conclusion) ∷ []) else refused Shape place) → LeadTo (declared es) q qs
     by_tests true u m place qs e =
-        let tests = both_true (names x q.conclusion) (not (programs_name x (out-Term q.conclusion).head) && takes_plain x q.conclusion) u in
         subst (LeadTo (declared es) q) (sym (same_given qs _ e))
-        (unfolded_leads (both_true (not (programs_name x (out-Term q.conclusion).head)) (takes_plain x q.conclusion) tests.1).1 (none_in_front q.conclusion m))
+        (unfolded_leads (none_in_front q.conclusion m))
     by_tests false u m place qs e = refused_at Shape place qs (sym e)
 
     by_modules : (z : Bool) → quantifies_modules q.conclusion ≡ z → (place : Place) (qs : List Sequent) →
-        given qs ≡ (if z then refused Shape place else if can_unfold x q.conclusion then given (concluding q (unfolded x b q.conclusion) ∷ []) else refused Shape place) →
+        given qs ≡ (if z then refused Shape place else if names x q.conclusion then given (concluding q (unfolded_everywhere x b q.conclusion) ∷ []) else refused Shape place) →
         LeadTo (declared es) q qs
     by_modules true m place qs e = refused_at Shape place qs (sym e)
-    by_modules false m place qs e = by_tests (can_unfold x q.conclusion) refl m place qs e
+    by_modules false m place qs e = by_tests (names x q.conclusion) refl m place qs e
 
   opening_sound : (x : Name) (place : Place) (qs : List Sequent) → given qs ≡ opening es x place q → LeadTo (declared es) q qs
   opening_sound x place qs e = step (body_named es x) refl e

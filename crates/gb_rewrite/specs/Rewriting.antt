@@ -1,9 +1,9 @@
 -- What the rules make of goals that put equals for equals.
-use Rattle.std.specs.Prelude.{ℕ, zero, suc, Bool, not, ◌&&◌, if◌then◌else◌, List, [], ◌∷◌, map, slice_get, Option, Some, None}
+use Rattle.std.specs.Prelude.{ℕ, zero, suc, if◌then◌else◌, List, [], ◌∷◌, map, slice_get, Option, Some, None}
 use Rattle.std.specs.Option.{option_map}
 use Rattle.gb_core.specs.declared.place.Place.{Place}
 use Rattle.gb_core.specs.declared.refusal.Why.TheVariants.{Shape}
-use Rattle.gb_terms.specs.declared.term.Term.{Term, out-Term}
+use Rattle.gb_terms.specs.declared.term.Term.{Term}
 use Rattle.gb_goal.specs.Answers.{Answer}
 use Rattle.gb_goal.specs.Answers.Answer.{given, refused}
 use Rattle.gb_goal.specs.declared.sequent.Hyp.{Hyp}
@@ -21,7 +21,7 @@ use Rattle.gb_amb.specs.Parts.{concluding}
 use Rattle.gb_amb.specs.Quantified.{quantifies_modules, goal_quantifies_modules}
 use Rattle.gb_rewrite.specs.Rewritten.{rewritten, stands}
 use Rattle.gb_rewrite.specs.Equations.{Pair, exchanged, equation_of, equivalence_of, used_up_of}
-use Rattle.gb_rewrite.specs.Unfolded.{names, programs_name, takes_plain, unfolded}
+use Rattle.gb_rewrite.specs.Unfolded.{names, unfolded, programs_unfolded}
 
 -- The goal with one term in place of another one in the conclusion. Behind a quantifier over modules this isn't built.
 abbrev pub rewriting : Place → Sequent → Option Pair → Answer (List Sequent)
@@ -64,10 +64,9 @@ using_up_hypothesis i place q (Some h) = using_up i place q (used_up_of (equatio
 abbrev pub substituting : ℕ → Place → Sequent → Answer (List Sequent)
 substituting i place q = using_up_hypothesis i place q (slice_get q.hyps i)
 
--- Whether an operator of the script can be unfolded in a conclusion: it stands there. In programs of a judgment of bodies, and at
--- arguments that speak of programs or quantify over memories, it isn't built yet.
-abbrev pub can_unfold : Name → Term → Bool
-can_unfold x f = names x f && (not (programs_name x (out-Term f).head) && takes_plain x f)
+-- a conclusion with an operator's body in place of each application of it, in its programs too
+abbrev pub unfolded_everywhere : Name → Term → Term → Term
+unfolded_everywhere x b f = programs_unfolded x b (unfolded x b f)
 
 -- The goal with an operator's body in place of each application of it in the conclusion. Behind a quantifier over modules this isn't
 -- built.
@@ -75,7 +74,7 @@ abbrev pub opening_by : Name → Place → Sequent → Option Term → Answer (L
 opening_by x place q None = refused Shape place
 opening_by x place q (Some b) =
     if quantifies_modules q.conclusion then refused Shape place
-    else if can_unfold x q.conclusion then given (concluding q (unfolded x b q.conclusion) ∷ []) else refused Shape place
+    else if names x q.conclusion then given (concluding q (unfolded_everywhere x b q.conclusion) ∷ []) else refused Shape place
 
 -- an operator of the script is unfolded
 abbrev pub opening : scope.Declarations → Name → Place → Sequent → Answer (List Sequent)

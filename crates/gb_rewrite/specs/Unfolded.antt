@@ -1,12 +1,13 @@
 -- Terms with an operator of the script unfolded.
-use Rattle.std.specs.Prelude.{Bool, true, false, not, ◌&&◌, ◌||◌, if◌then◌else◌, List, [], ◌∷◌, length, bytes_eq}
+use Rattle.std.specs.Prelude.{Bool, false, ◌||◌, if◌then◌else◌, List, [], ◌∷◌, length, map, bytes_eq}
 use Rattle.std.specs.List.{list_any}
 use Rattle.gb_terms.specs.declared.term.Cmd.{Cmd}
 use Rattle.gb_terms.specs.declared.term.Head.{Head}
 use Rattle.gb_terms.specs.declared.term.Head.TheFolds.{fold-Term, fold-Head, fold-Instr, fold-Subject, fold-Cmd}
 use Rattle.gb_terms.specs.declared.term.Head.TheOpen as layer
 use Rattle.gb_terms.specs.declared.term.Head.TheVariants as head
-use Rattle.gb_terms.specs.declared.term.Instr.{Instr}
+use Rattle.gb_terms.specs.declared.term.Head.TheVariants.{Proc, Body', Assign, Sample, Call, Call', If, If', While, While'}
+use Rattle.gb_terms.specs.declared.term.Instr.{Instr, Row_of-Instr, end_of-Instr, more_of-Instr}
 use Rattle.gb_terms.specs.declared.term.Subject.{Subject}
 use Rattle.gb_terms.specs.declared.term.Term.{Term, Term', Row_of-Term, end_of-Term, more_of-Term, end_of-Head, more_of-Head}
 use Rattle.gb_terms.specs.Make.{node}
@@ -61,10 +62,6 @@ abbrev pub is_operator : Name → Head → Bool
 is_operator x (head.User n) = bytes_eq x n
 is_operator x h = false
 
--- whether an operator stands in a program of a judgment of bodies
-abbrev pub programs_name : Name → Head → Bool
-programs_name x h = head_names x h && not (is_operator x h)
-
 -- terms in the places of the variables that an operator's body binds, the last one innermost
 abbrev pub in_places : List Term → Changes
 in_places [] = []
@@ -81,30 +78,45 @@ abbrev mutual
   all_unfolded x b end_of-Term = []
   all_unfolded x b (more_of-Term t ts) = unfolded x b t ∷ all_unfolded x b ts
 
--- Whether a term speaks of no program and quantifies over no memory.
+-- The programs of a judgment of bodies with the operator unfolded in their terms.
 
-abbrev pub is_plain_head : Head → Bool
-is_plain_head head.AllMemory = false
-is_plain_head head.SomeMemory = false
-is_plain_head (head.Pr p r) = false
-is_plain_head (head.Hoare c) = false
-is_plain_head (head.Phoare c r) = false
-is_plain_head (head.Equiv c d) = false
-is_plain_head h = true
+abbrev pub row_unfolded : {n : _} → Name → Term → Row_of-Term n → Row_of-Term n
+row_unfolded x b end_of-Term = end_of-Term
+row_unfolded x b (more_of-Term t ts) = more_of-Term (unfolded x b t) (row_unfolded x b ts)
 
 abbrev mutual
-  pub is_plain : Term → Bool
-  is_plain (Term' p (more_of-Head h end_of-Head) n ts ty) = is_plain_head h && are_plain ts
+  pub statement_unfolded : Name → Term → Instr → Instr
+  statement_unfolded x b (Assign xs e) = Assign xs (unfolded x b e)
+  statement_unfolded x b (Sample y d) = Sample y (unfolded x b d)
+  statement_unfolded x b (Call' xs p n es) = Call' xs p n (row_unfolded x b es)
+  statement_unfolded x b (If' e m a n c) = If' (unfolded x b e) m (body_unfolded x b a) n (body_unfolded x b c)
+  statement_unfolded x b (While' e v n a) = While' (unfolded x b e) (unfolded x b v) n (body_unfolded x b a)
 
-  pub are_plain : {n : _} → Row_of-Term n → Bool
-  are_plain end_of-Term = true
-  are_plain (more_of-Term t ts) = is_plain t && are_plain ts
+  pub body_unfolded : {n : _} → Name → Term → Row_of-Instr n → Row_of-Instr n
+  body_unfolded x b end_of-Instr = end_of-Instr
+  body_unfolded x b (more_of-Instr i is) = more_of-Instr (statement_unfolded x b i) (body_unfolded x b is)
 
-abbrev mutual
-  -- whether each argument of an operator of the script is plain, wherever it stands
-  pub takes_plain : Name → Term → Bool
-  takes_plain x (Term' p (more_of-Head h end_of-Head) n ts ty) = (not (is_operator x h) || are_plain ts) && take_plain x ts
+-- the same of a list of statements
+abbrev pub cmd_unfolded : Name → Term → Cmd → Cmd
+cmd_unfolded x b c = record { list = map (statement_unfolded x b) c.list }
 
-  pub take_plain : {n : _} → Name → Row_of-Term n → Bool
-  take_plain x end_of-Term = true
-  take_plain x (more_of-Term t ts) = takes_plain x t && take_plain x ts
+-- the same by the layer of a statement
+abbrev pub statement_at : Name → Term → layer.Instr-F Head Instr Subject Cmd Term → Instr
+statement_at x b (layer.Assign xs e) = Assign xs (unfolded x b e)
+statement_at x b (layer.Sample y d) = Sample y (unfolded x b d)
+statement_at x b (layer.Call xs p es) = Call xs p (map (unfolded x b) es)
+statement_at x b (layer.If e a c) = If (unfolded x b e) (cmd_unfolded x b a) (cmd_unfolded x b c)
+statement_at x b (layer.While e v a) = While (unfolded x b e) (unfolded x b v) (cmd_unfolded x b a)
+
+abbrev pub subject_unfolded : Name → Term → Subject → Subject
+subject_unfolded x b (Proc p) = Proc p
+subject_unfolded x b (Body' n is) = Body' n (body_unfolded x b is)
+
+abbrev pub head_unfolded : Name → Term → Head → Head
+head_unfolded x b (head.Hoare s) = head.Hoare (subject_unfolded x b s)
+head_unfolded x b (head.Phoare s r) = head.Phoare (subject_unfolded x b s) r
+head_unfolded x b (head.Equiv s u) = head.Equiv (subject_unfolded x b s) (subject_unfolded x b u)
+head_unfolded x b h = h
+
+abbrev pub programs_unfolded : Name → Term → Term → Term
+programs_unfolded x b (Term' p (more_of-Head h end_of-Head) n ts ty) = Term' p (more_of-Head (head_unfolded x b h) end_of-Head) n ts ty

@@ -4,11 +4,12 @@ ghost use Rattle.std.specs.Prelude.{◌≡◌, [], ◌∷◌, map, Some, IfOk};
 ghost use Rattle.std.specs.Option.{option_copied};
 ghost use Rattle.gb_goal.specs.Answers.{Answers};
 ghost use Rattle.gb_eval.specs.Script.{body_named};
-ghost use Rattle.gb_rewrite.specs.Rewriting.{can_unfold, hypothesis_rewritten, others, rewrite_answer, rewriting, rewriting_back, rewriting_by, substituting, opening, opening_by, using_up, using_up_hypothesis, without};
+ghost use Rattle.gb_rewrite.specs.Rewriting.{hypothesis_rewritten, others, rewrite_answer, rewriting, rewriting_back, rewriting_by, substituting, opening, opening_by, using_up, using_up_hypothesis, without};
 
+use crate::bodies::unfolded_everywhere;
 use crate::equations::{equivalence_of, used_up_by};
 use crate::rewritten::{rewritten, stands};
-use crate::unfolded::{names, programs_name, takes_plain, unfolded};
+use crate::unfolded::names;
 use gb_amb::goals::{alone, no_shape, one};
 use gb_amb::quantified::{refuse_goal_modules, refuse_modules};
 use gb_core::name::Name;
@@ -177,14 +178,6 @@ fn body_named<'a>(scope: &'a Scope, name: &Name) -> Option<&'a Term>
     }
 }
 
-/// Whether an operator of the script can be unfolded in a conclusion.
-fn can_unfold(name: &Name, conclusion: &Form) -> bool
-    ensures { result ≡ can_unfold name.now conclusion.now }
-{
-    names(conclusion, name)
-        && (!programs_name(conclusion.head.get(), name) && takes_plain(conclusion, name))
-}
-
 /// The goal with a body in place of each application of an operator. Refused with `Shape` where none stands in the conclusion, or
 /// where it isn't built.
 fn opening_by(
@@ -197,10 +190,10 @@ fn opening_by(
     ensures { Answers (opening_by name.now place goal.now (Some body.now)) result }
 {
     refuse_modules(place, &goal.conclusion)?;
-    if !can_unfold(name, &goal.conclusion) {
+    if !names(&goal.conclusion, name) {
         return Err(no_shape(place));
     }
-    let conclusion = unfolded(alloc, &goal.conclusion, name, body)?;
+    let conclusion = unfolded_everywhere(alloc, &goal.conclusion, name, body)?;
     Ok(one(alloc, goal, conclusion)?)
 }
 

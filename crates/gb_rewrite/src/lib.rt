@@ -1,6 +1,7 @@
 //! Rules that put equals for equals.
 #![tactic(auto)]
 
+pub mod bodies;
 pub mod equations;
 pub mod goals;
 pub mod laws;

@@ -1,11 +1,11 @@
 // Terms with an operator of the script unfolded.
 
 ghost use Rattle.std.specs.Prelude.{◌≡◌, ◌∷◌, ◌++◌, [], map, IfOk};
-ghost use Rattle.std.specs.List.{list_any, list_all};
+ghost use Rattle.std.specs.List.{list_any};
 ghost use Rattle.gb_terms.specs.declared.term.Term.{out-Term};
 ghost use Rattle.gb_terms.specs.Make.{node};
 ghost use Rattle.gb_walk.specs.Change.{term_changed};
-ghost use Rattle.gb_rewrite.specs.Unfolded.{cmd_names, head_names, in_places, instr_names, is_operator, is_plain, is_plain_head, names, programs_name, subject_names, takes_plain, unfolded};
+ghost use Rattle.gb_rewrite.specs.Unfolded.{cmd_names, head_names, in_places, instr_names, is_operator, names, subject_names, unfolded};
 
 use crate::rewritten::with_args;
 use gb_core::name::Name;
@@ -98,70 +98,6 @@ fn is_operator(head: &Head, name: &Name) -> bool
     }
 }
 
-/// Whether an operator stands in a program of a judgment of bodies.
-pub fn programs_name(head: &Head, name: &Name) -> bool
-    ensures { result ≡ programs_name name.now head.now }
-{
-    head_names(head, name) && !is_operator(head, name)
-}
-
-fn is_plain_head(head: &Head) -> bool
-    ensures { result ≡ is_plain_head head.now }
-{
-    !matches!(
-        head,
-        Head::AllMemory
-            | Head::SomeMemory
-            | Head::Pr(..)
-            | Head::Hoare(_)
-            | Head::Phoare(..)
-            | Head::Equiv(..)
-    )
-}
-
-/// Whether a term speaks of no program and quantifies over no memory.
-#[cycle(is_plain)]
-#[tactic(auto, using(crate::proofs::Layers::plain_out))]
-fn is_plain(t: &Term) -> bool
-    ensures { result ≡ is_plain t.now }
-{
-    is_plain_head(t.head.get()) && are_plain(t.args.as_slice())
-}
-
-#[cycle(is_plain)]
-fn are_plain(list: &[Term]) -> bool
-    ensures { result ≡ list_all is_plain list.now }
-{
-    for t in list {
-        if !is_plain(t) {
-            return false;
-        }
-    }
-    true
-}
-
-/// Whether each argument of an operator of the script is plain, wherever it stands.
-#[cycle(takes_plain)]
-#[tactic(auto, using(crate::proofs::Layers::takes_out))]
-pub fn takes_plain(t: &Term, name: &Name) -> bool
-    ensures { result ≡ takes_plain name.now t.now }
-{
-    (!is_operator(t.head.get(), name) || are_plain(t.args.as_slice()))
-        && take_plain(t.args.as_slice(), name)
-}
-
-#[cycle(takes_plain)]
-fn take_plain(list: &[Term], name: &Name) -> bool
-    ensures { result ≡ list_all (takes_plain name.now) list.now }
-{
-    for t in list {
-        if !takes_plain(t, name) {
-            return false;
-        }
-    }
-    true
-}
-
 /// Terms in the places of the variables that an operator's body binds, the last one innermost. A list that is longer than numbers of
 /// 32 bits doesn't fit in memory, and so counts as a want of it.
 fn in_places(alloc: Global, terms: &[Term]) -> Result<Changes, AllocError>
@@ -197,7 +133,12 @@ pub fn unfolded(alloc: Global, t: &Term, name: &Name, body: &Term) -> Result<Ter
 }
 
 #[cycle(unfolded)]
-fn all_unfolded(alloc: Global, list: &[Term], name: &Name, body: &Term) -> Result<Terms, AllocError>
+pub fn all_unfolded(
+    alloc: Global,
+    list: &[Term],
+    name: &Name,
+    body: &Term,
+) -> Result<Terms, AllocError>
     ensures { IfOk result (λ made. made ≡ map (unfolded name.now body.now) list.now) }
 {
     let mut made = Items::new(alloc);
