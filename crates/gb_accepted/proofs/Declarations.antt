@@ -1,33 +1,54 @@
 -- Modules, lemmas and the words of a proof keep sessions good.
-use Rattle.std.proofs.Common.{◌≡◌, ℕ, false, List, [], ◌∷◌, ◌++◌, None, refl, ap, sym, ◌∙◌, subst}
-use Rattle.std.specs.List.{AllByRecursion}
+use Rattle.std.proofs.Common.{◌≡◌, ℕ, Bool, true, false, is_some, ◌||◌, if◌then◌else◌, List, [], ◌∷◌, ◌++◌, Some, None, refl, ap, sym, ◌∙◌, subst}
 use Rattle.gb_core.specs.declared.place.Place.{Place}
-use Rattle.gb_core.specs.declared.refusal.Why.TheVariants.{NoGoal}
-use Rattle.gb_goal.specs.Scope.{Declarations, declarations_in, AreNoLemmas}
+use Rattle.gb_core.specs.declared.refusal.Why.{Why}
+use Rattle.gb_core.specs.declared.refusal.Why.TheVariants.{Argument, NoGoal, UnknownName}
+use Rattle.gb_goal.specs.Goal.{goal_of}
+use Rattle.gb_goal.specs.Scope.{Declarations, declarations_in, entry_of, proc_of, procedure_of, ClaimNothing}
 use Rattle.gb_goal.specs.declared.scope.Entry.TheVariants as entry
+use Rattle.gb_goal.specs.declared.scope.ProcName.{ProcName}
 use Rattle.gb_goal.specs.declared.sequent.Sequent.{Sequent}
+use Rattle.gb_script.specs.declared.head.Head.{Head}
+use Rattle.gb_script.specs.declared.head.Head.TheVariants as head
 use Rattle.gb_script.specs.declared.tree.Node.{Node}
+use Rattle.gb_script.specs.Tree.{head_of, text_of, parts_of, place_of}
 use Rattle.gb_holds.specs.Declared.{declared}
-use Rattle.gb_holds.specs.Holds.{Holds}
-use Rattle.gb_holds.proofs.Scopes.{gained_lemma, gained_others}
-use Rattle.gb_goal.specs.Answers.Answer.{given}
+use Rattle.gb_holds.specs.Holds.{declared_modules, interpretation}
+use Rattle.gb_holds.specs.Settings.{setting}
+use Rattle.gb_holds.specs.Truth.{has_module}
+use Rattle.gb_holds.proofs.Scopes.{gained_others}
+use Rattle.gb_goal.specs.Answers.{given_or}
+use Rattle.gb_goal.specs.Answers.Answer.{given, refused}
+use Rattle.gb_names.specs.Judgments.{Path, module_in, procedure_path}
+use Rattle.gb_names.specs.Names.{built_in, unless_unproved}
+use Rattle.gb_ended.specs.Ended.{first_unproved_in}
 use Rattle.gb_elab_prog.specs.Entries.{entries_given}
 use Rattle.gb_elab_mod.specs.Lemmas.{lemma_name, statement_given}
 use Rattle.gb_elab_prog.specs.Modules.{module_given}
+use Rattle.gb_prog.specs.Ends.{LoopsEnd, SequentEnds}
 use Rattle.gb_typing.specs.Scopes.{is_declared, IsTypedScope}
-use Rattle.gb_elab_laws.proofs.Given.{given_bind, given_is, if_given}
-use Rattle.gb_theory.specs.Built.{Session, OpenProof, with_entries, with_goals, with_proved}
-use Rattle.gb_theory.specs.Limits.{declaration_limit, each_limit}
-use Rattle.gb_theory.specs.Commands.{within, outside, brought, requires_files, assumes, brings, declares, opens, begun, ended}
+use Rattle.gb_typing.proofs.Conclusions.{formula_form}
+use Rattle.gb_typing.proofs.Lifted.{each}
+use Rattle.gb_amb.proofs.Cases.{conclusion_formula}
+use Rattle.gb_elab_laws.specs.Procedures.{IsOfProcedures}
+use Rattle.gb_elab_laws.proofs.Given.{given_bind, given_is, if_given, some_given}
+use Rattle.gb_elab_laws.proofs.Judged.{in_module, module_is}
+use Rattle.gb_variants.specs.Operand.{Found, ended_at, operand, operand_by, proc_name, procedure_at}
+use Rattle.gb_variants.specs.Variants.{goals_of}
+use Rattle.gb_theory.specs.Built.{Session, OpenProof, with_entries, with_goals}
+use Rattle.gb_theory.specs.Limits.{declaration_limit, each_limit, all_limit}
+use Rattle.gb_theory.specs.Commands.{within, allowed, all_allowed, outside, brought, requires_files, assumes, brings, declares, loops_opened, opens, opens_loops, begun, ended}
 use Rattle.gb_accepted.proofs.Given.{nothing_given, given_outside}
-use Rattle.gb_accepted.proofs.Grounds.{Grounds}
+use Rattle.gb_accepted.proofs.Grounds.{Grounds, IsTypedGoalOf, around}
 use Rattle.gb_later.specs.Naming.{NoName}
 use Rattle.gb_models.specs.Speaking.{ScopeSpeaks}
-use Rattle.gb_accepted.proofs.Good.{IsGoodProof, IsGoodIfOpen, IsGood, StatesProcedures}
-use Rattle.gb_accepted.proofs.Later.{each_later, each_with, names_stay, proved_later, name_added, proved_with}
+use Rattle.gb_accepted.proofs.Claims.{claim_proved}
+use Rattle.gb_accepted.proofs.Good.{IsGoodClaim, IsGoodIfOpen, IsGoodTermination, IsGood, StatesProcedures}
+use Rattle.gb_accepted.proofs.Later.{each_later, names_stay, proved_later}
+use Rattle.gb_accepted.proofs.LoopProofs.{named, IsGoodLoops, loops_begin}
 
 -- a session in which more is declared, none of which is a lemma
-with_more : Grounds → (s : Session) (added : Declarations) → s.proof ≡ None → IsGood s → IsTypedScope (declared (s.scope ++ added)) → AreNoLemmas added → ScopeSpeaks NoName (declared added) → IsGood (with_entries s added)
+with_more : Grounds → (s : Session) (added : Declarations) → s.proof ≡ None → IsGood s → IsTypedScope (declared (s.scope ++ added)) → ClaimNothing added → ScopeSpeaks NoName (declared added) → IsGood (with_entries s added)
 with_more o s added none g typed others speaks = record {
   typed = typed;
   sound = gained_others s.scope added others g.sound;
@@ -62,9 +83,21 @@ declares_keeps o s t place next g e =
     subst IsGood (given_is _ _ c.2)
     (with_more o s ((b.0.name, entry.Module b.0) ∷ []) (given_outside s.proof place a.0 a.1) g (o.typing.module_added s.scope g.typed t b.0 b.1) (refl, tt) (o.typing.module_speaks s.scope g.typed t b.0 b.1, tt))
 
+-- a statement about procedures has no body
+statement_ends : Grounds → (ds : Declarations) (q : Sequent) → IsTypedGoalOf ds q → IsOfProcedures q → SequentEnds (declared ds) q
+statement_ends o ds q t p = step (has_module q.conclusion) refl
+  where
+    step : (b : Bool) → has_module q.conclusion ≡ b → SequentEnds (declared ds) q
+    step true k = λ w size table m.
+        each (declared ds) (declared_modules (declared ds)) (interpretation w size table) _
+        (λ i. each (declared ds) q.modules i (λ k. LoopsEnd (setting (declared ds) k) (goal_of q.conclusion)) (λ x. subst (LoopsEnd (setting (declared ds) x)) (sym (o.rules.front q.conclusion k)) tt))
+    step false k =
+        let f = formula_form (around ds q t) q.conclusion (conclusion_formula (around ds q t) q.conclusion t.conclusion p.bodies) k in
+        o.loops.forms (declared ds) q (around ds q t) f.typed
+
 pub opens_keeps : Grounds → (s : Session) (t : Node) (name : List ℕ) (place : Place) (next : Session) → IsGood s → lemma_name t ≡ name →
     opens s t name place ≡ given next → IsGood next
-opens_keeps o s t name place next g named e =
+opens_keeps o s t name place next g same e =
     let a = given_bind (outside s.proof place) _ next e in
     let b = given_bind (statement_given s.scope t) _ next a.2 in
     let c = given_bind (within (declaration_limit (declarations_in s.scope)) place) _ next b.2 in
@@ -77,15 +110,61 @@ opens_keeps o s t name place next g named e =
       speaks = g.speaks;
       statements = g.statements;
       proof = record {
-        free = subst (λ n. is_declared (declared s.scope) n ≡ false) named (o.typing.free s.scope t b.0 b.1);
+        free = subst (λ n. is_declared (declared s.scope) n ≡ false) same (o.typing.free s.scope t b.0 b.1);
         statement = typed;
-        goals = (typed, tt);
+        goals = (record { typed = typed; ends = statement_ends o s.scope b.0 typed (o.typing.procedures s.scope g.typed t b.0 b.1) }, tt);
         leads = λ hs. hs.0;
         procedures = o.typing.procedures s.scope g.typed t b.0 b.1;
       };
     })
 
-pub begun_keeps : (s : Session) (p : OpenProof) (place : Place) (next : Session) → IsGood s → IsGoodProof s.scope p → begun s p place ≡ given next → IsGood next
+-- the procedure that is named is declared
+named_there : (ds : Declarations) (f : Path) (p : Place) (x : Found) → procedure_at ds f p ≡ given x → procedure_of ds (named x.0) ≡ Some x.1
+unfolding procedure_at
+named_there ds f p x h =
+    let w = text_of f.1 in
+    let m = given_bind (module_in (entry_of ds f.0) f.0 p) _ x h in
+    let d = given_bind (given_or (proc_of m.0.procs w) (UnknownName w) (place_of f.1)) _ x m.2 in
+    let n = given_bind (ended_at ds (proc_name f) p) (λ (n : ProcName). given (n, d.0)) x d.2 in
+    let u = given_bind (unless_unproved (first_unproved_in ds (proc_name f)) p) (λ _. given (proc_name f)) n.0 n.1 in
+    let e = module_is (entry_of ds f.0) f.0 p m.0 m.1 in
+    subst (λ (z : Found). procedure_of ds (named z.0) ≡ Some z.1) (given_is (n.0, d.0) x n.2)
+    (subst (λ (z : ProcName). procedure_of ds (named z) ≡ Some d.0) (given_is (proc_name f) n.0 u.2)
+    (in_module (entry_of ds f.0) m.0 w d.0 e.0 e.1 (some_given (proc_of m.0.procs w) (UnknownName w) (place_of f.1) d.0 d.1)))
+
+none_named : (b : Bool) (w v : Why) (p : Place) (x : Found) {X : Type 0} → (if b then refused w p else refused v p) ≡ given x → X
+none_named true w v p x e = nothing_given w p x e
+none_named false w v p x e = nothing_given v p x e
+
+operand_there : (ds : Declarations) (h : Head) (y : List ℕ) (ps : List Node) (p : Place) (x : Found) → operand_by ds h y ps p ≡ given x → procedure_of ds (named x.0) ≡ Some x.1
+operand_there ds head.Path y (a ∷ b ∷ bs) p x e = named_there ds (procedure_path (text_of a) b bs) p x e
+operand_there ds head.Name y ps p x e = none_named (is_some (entry_of ds y) || is_some (built_in y)) Argument (UnknownName y) p x e
+operand_there ds _ y ps p x e = cc
+
+pub opens_loops_keeps : Grounds → (s : Session) (t : Node) (place : Place) (next : Session) → IsGood s → opens_loops s t place ≡ given next → IsGood next
+opens_loops_keeps o s t place next g e =
+    let a = given_bind (outside s.proof place) _ next e in
+    let b = given_bind (loops_opened s.scope t place) _ next a.2 in
+    let c = given_bind (operand s.scope t) _ b.0 b.1 in
+    let f = c.0 in
+    let d = given_bind (all_allowed place (goals_of f.1.body.list)) _ b.0 c.2 in
+    let k = given_bind (allowed place (goals_of f.1.body.list)) _ d.0 d.1 in
+    let l = given_bind (within (each_limit (goals_of f.1.body.list)) place) _ k.0 k.1 in
+    let m = given_bind (within (all_limit k.0) place) _ d.0 k.2 in
+    let same : goals_of f.1.body.list ≡ d.0 = given_is _ k.0 l.2 ∙ given_is k.0 d.0 m.2 in
+    let there = operand_there s.scope (head_of t) (text_of t) (parts_of t) (place_of t) f c.1 in
+    let begins : IsGoodTermination s.scope f.0 d.0 =
+    record { procedure = f.1; there = there; loops = subst (IsGoodLoops s.scope f.1) same (loops_begin s.scope f.1) } in
+    subst IsGood (ap (λ p. let x : Session = record s { proof = Some p } in x) (given_is _ b.0 d.2) ∙ given_is _ next b.2) (record {
+      typed = g.typed;
+      sound = g.sound;
+      lemmas = record { names = g.lemmas.names; proved = g.lemmas.proved };
+      speaks = g.speaks;
+      statements = g.statements;
+      proof = begins;
+    })
+
+pub begun_keeps : (s : Session) (p : OpenProof) (place : Place) (next : Session) → IsGood s → IsGoodClaim s.scope p.claim p.goals → begun s p place ≡ given next → IsGood next
 begun_keeps s p place next g h e =
     subst IsGood (if_given p.fresh (with_goals s p p.goals) NoGoal place next e).1 (record {
       typed = g.typed;
@@ -93,24 +172,9 @@ begun_keeps s p place next g h e =
       lemmas = record { names = g.lemmas.names; proved = g.lemmas.proved };
       speaks = g.speaks;
       statements = g.statements;
-      proof = record { free = h.free; statement = h.statement; goals = h.goals; leads = h.leads; procedures = h.procedures };
+      proof = h;
     })
 
--- the lemma of an open proof holds, and is declared
-proved_is_good : Grounds → (s : Session) (p : OpenProof) → IsGood s → IsGoodProof s.scope p → Holds (declared s.scope) p.statement → IsGood (with_proved s p)
-proved_is_good o s p g h holds = record {
-  typed = o.typing.lemma_added s.scope g.typed p.name h.free p.statement p.binders h.statement;
-  sound = gained_lemma s.scope p.name p.statement p.binders g.sound holds;
-  lemmas = record {
-    names = name_added s.scope p.name p.statement p.binders ∙ ap (λ ns. ns ++ p.name ∷ []) g.lemmas.names;
-    proved = proved_with s.scope p.name p.statement p.binders g.lemmas.proved g.typed h.statement holds;
-  };
-  speaks = (o.models.parts s.scope ((p.name, entry.Lemma p.statement p.binders) ∷ [])).1 (g.speaks, (tt, tt));
-  statements = each_with s.scope p.name p.statement p.binders StatesProcedures g.statements h.procedures;
-  proof = tt;
-}
-
-pub ended_keeps : Grounds → (qs : List Sequent) (s : Session) (p : OpenProof) (place : Place) (next : Session) → IsGood s → IsGoodProof s.scope p →
-    (AllByRecursion (Holds (declared s.scope)) qs → Holds (declared s.scope) p.statement) → ended qs s p place ≡ given next → IsGood next
-ended_keeps o [] s p place next g h leads e = subst IsGood (given_is _ _ e) (proved_is_good o s p g h (leads tt))
-ended_keeps o (q ∷ qs) s p place next g h leads e = nothing_given _ _ next e
+pub ended_keeps : Grounds → (qs : List Sequent) (s : Session) (p : OpenProof) (place : Place) (next : Session) → IsGood s → IsGoodClaim s.scope p.claim qs → ended qs s p place ≡ given next → IsGood next
+ended_keeps o [] s p place next g h e = subst IsGood (given_is _ _ e) (claim_proved o s p.claim g h)
+ended_keeps o (q ∷ qs) s p place next g h e = nothing_given _ _ next e

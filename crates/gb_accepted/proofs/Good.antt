@@ -1,7 +1,10 @@
 -- Sessions in which what is declared is typed, what is proved holds, and what is open leads to a lemma that holds.
-use Rattle.std.proofs.Common.{◌≡◌, false, [], Option, Some, None, refl}
+use Rattle.std.proofs.Common.{◌≡◌, ℕ, false, List, [], Option, Some, None, refl}
 use Rattle.std.specs.List.{AllByRecursion}
-use Rattle.gb_goal.specs.Scope.{Declarations}
+use Rattle.gb_terms.specs.declared.decl.Proc.{Proc}
+use Rattle.gb_goal.specs.Scope.{Declarations, procedure_of}
+use Rattle.gb_goal.specs.declared.scope.ProcName.{ProcName}
+use Rattle.gb_goal.specs.declared.sequent.Sequent.{Sequent}
 use Rattle.gb_holds.specs.Declared.{declared}
 use Rattle.gb_holds.specs.Holds.{Holds, IsSound}
 use Rattle.gb_typing.specs.Sequents.{IsTypedSequent}
@@ -10,20 +13,34 @@ use Rattle.gb_theory.specs.Built.{Session, OpenProof, fresh_session}
 use Rattle.gb_later.specs.Naming.{NoName}
 use Rattle.gb_models.specs.Speaking.{ScopeSpeaks}
 use Rattle.gb_elab_laws.specs.Procedures.{IsOfProcedures}
+use Rattle.gb_theory.specs.declared.state.Claim.{Claim}
+use Rattle.gb_theory.specs.declared.state.Claim.TheVariants as claim
 use Rattle.gb_accepted.specs.Holding.{AllHold, Lemma, lemmas_in}
+use Rattle.gb_accepted.proofs.Grounds.{IsGoalThatEnds}
+use Rattle.gb_accepted.proofs.LoopProofs.{named, IsGoodLoops}
 
--- The name of an open lemma is free, its statement, which is about procedures, and its goals are typed, and where its goals hold it
--- does.
-pub record IsGoodProof (ds : Declarations) (p : OpenProof) : Type 0 where
-  pub free : is_declared (declared ds) p.name ≡ false
-  pub statement : IsTypedSequent (context_of (declared ds)) p.statement
-  pub goals : AllByRecursion (IsTypedSequent (context_of (declared ds))) p.goals
-  pub leads : AllByRecursion (Holds (declared ds)) p.goals → Holds (declared ds) p.statement
-  pub procedures : IsOfProcedures p.statement
+-- The name of an open lemma is free, its statement, which is about procedures, is typed, its goals may be worked on, and where they
+-- hold it does.
+pub record IsGoodLemma (ds : Declarations) (n : List ℕ) (q : Sequent) (gs : List Sequent) : Type 0 where
+  pub free : is_declared (declared ds) n ≡ false
+  pub statement : IsTypedSequent (context_of (declared ds)) q
+  pub goals : AllByRecursion (IsGoalThatEnds ds) gs
+  pub leads : AllByRecursion (Holds (declared ds)) gs → Holds (declared ds) q
+  pub procedures : IsOfProcedures q
+
+-- an open proof that the loops of a declared procedure end
+pub record IsGoodTermination (ds : Declarations) (f : ProcName) (gs : List Sequent) : Type 0 where
+  pub procedure : Proc
+  pub there : procedure_of ds (named f) ≡ Some procedure
+  pub loops : IsGoodLoops ds procedure gs
+
+abbrev pub IsGoodClaim : Declarations → Claim → List Sequent → Type 0
+IsGoodClaim ds (claim.Lemma n q bs) gs = IsGoodLemma ds n q gs
+IsGoodClaim ds (claim.Loops f) gs = IsGoodTermination ds f gs
 
 abbrev pub IsGoodIfOpen : Declarations → Option OpenProof → Type 0
 IsGoodIfOpen ds None = Unit {0}
-IsGoodIfOpen ds (Some p) = IsGoodProof ds p
+IsGoodIfOpen ds (Some p) = IsGoodClaim ds p.claim p.goals
 
 -- a lemma states a goal about procedures
 abbrev pub StatesProcedures : Lemma → Type 0

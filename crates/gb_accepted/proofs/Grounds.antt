@@ -1,5 +1,5 @@
 -- What the crates below promise: of typing, of rules and of models.
-use Rattle.std.specs.Prelude.{◌≡◌, ◌↔◌, true, false, List, [], ◌∷◌, ◌++◌}
+use Rattle.std.specs.Prelude.{◌≡◌, ◌↔◌, true, false, List, [], ◌∷◌, ◌++◌, None}
 use Rattle.std.specs.List.{All, AllByRecursion}
 use Rattle.gb_core.specs.declared.ty.Ty.TheVariants as ty
 use Rattle.gb_core.specs.declared.place.Place.{Place}
@@ -14,10 +14,11 @@ use Rattle.gb_goal.specs.Goal.{Goal, goal_of}
 use Rattle.gb_goal.specs.Goal.Goal.{ambient}
 use Rattle.gb_goal.specs.Rows.{Row, refusing, answered}
 use Rattle.gb_goal.specs.Scope as scope
-use Rattle.gb_goal.specs.Scope.{AreNoLemmas}
+use Rattle.gb_goal.specs.Scope.{ClaimNothing}
 use Rattle.gb_goal.specs.declared.scope.Binder.{Binder}
 use Rattle.gb_goal.specs.declared.scope.Entry.TheVariants as entry
 use Rattle.gb_goal.specs.declared.sequent.Sequent.{Sequent}
+use Rattle.gb_steps.specs.declared.step.Acts.{Acts}
 use Rattle.gb_steps.specs.declared.step.AmbientRule.{AmbientRule}
 use Rattle.gb_steps.specs.declared.step.Rule.{Rule}
 use Rattle.gb_steps.specs.declared.step.Rule.TheVariants.{Ambient, Use}
@@ -27,22 +28,29 @@ use Rattle.gb_steps.specs.declared.step.UseRule.{UseRule}
 use Rattle.gb_steps.specs.Told.{told}
 use Rattle.gb_steps.specs.declared.step.Step.{Step}
 use Rattle.gb_meaning.specs.Names.{Name}
+use Rattle.gb_meaning.specs.Setting.{Setting}
 use Rattle.gb_meaning.specs.Written.{type_of}
 use Rattle.gb_holds.specs.Declared.{Declarations, concrete_module, declared}
 use Rattle.gb_later.specs.Naming.{NoName}
-use Rattle.gb_holds.specs.Holds.{Holds}
+use Rattle.gb_holds.specs.Holds.{Holds, InEachSetting, IsSound}
 use Rattle.gb_holds.specs.Truth.{has_module}
 use Rattle.gb_typing.specs.Context.{Context}
 use Rattle.gb_typing.specs.Typing.{IsForm}
+use Rattle.gb_typing.specs.Typing.{IsTyped as IsTypedTerm}
 use Rattle.gb_typing.specs.Sequents.{IsConclusion, of_sequent, IsTypedSequent}
 use Rattle.gb_typing.specs.Scopes.{context_of, is_declared, IsTypedScope}
 use Rattle.gb_typing.specs.Goals.{IsGoalOver, IsTypedGoal}
-use Rattle.gb_typing.specs.Rules.{no_arguments, outermost, IsSoundAt, IsSoundIn, IsSoundRule, IsSoundRuleIn}
+use Rattle.gb_typing.specs.Rules.{no_arguments, outermost, IsSettingOver, IsSoundAt, IsSoundIn, IsSoundRule, IsSoundRuleIn}
 use Rattle.gb_bodies.specs.Rows as bodies
-use Rattle.gb_equiv.specs.Rows as equiv
-use Rattle.gb_equiv.specs.Rows.{IsTypedRule}
+use Rattle.gb_ended.specs.Loops.{unproved_in}
+use Rattle.gb_loops.specs.While.{IsTypedInvariant, while_row}
+use Rattle.gb_prog.specs.Ends.{Entered, IsSoundLoopRule, IsSoundOnLoops, KeepsEnds, LoopsEnd, ProceduresEnd, SequentEnds}
+use Rattle.gb_relational.specs.Rows as equiv
+use Rattle.gb_relational.specs.Rows.{IsTypedRule}
 use Rattle.gb_phoare.specs.Rows as chance_rows
 use Rattle.gb_call_both.specs.Rows as call_rows
+use Rattle.gb_call_known.specs.Known as of_known
+use Rattle.gb_guards.specs.Rows as transformation_rows
 use Rattle.gb_amb.specs.Steps.{IsAnswer, IsTypedStep, LeadTo}
 use Rattle.gb_linear.specs.Closing.{linear_answer}
 use Rattle.gb_use.specs.Lemmas.{IsKnown, LemmasHold}
@@ -68,10 +76,15 @@ IsTypedGoalOf ds q = IsTypedSequent (context_of (declared ds)) q
 abbrev pub around : (ds : scope.Declarations) (q : Sequent) → IsTypedGoalOf ds q → Context
 around ds q t = of_sequent (context_of (declared ds)) q t.frames
 
+-- a typed goal, the loops of whose bodies end
+pub record IsGoalThatEnds (ds : scope.Declarations) (q : Sequent) : Type 0 where
+  pub typed : IsTypedGoalOf ds q
+  pub ends : SequentEnds (declared ds) q
+
 -- What is declared stays typed.
 pub record OfTyping : Type 0 where
   pub entries_added : (ds : scope.Declarations) → IsTyped ds → (t : Node) (added : scope.Declarations) → entries_given ds t ≡ given added → IsTyped (ds ++ added)
-  pub others : (ds : scope.Declarations) (t : Node) (added : scope.Declarations) → entries_given ds t ≡ given added → AreNoLemmas added
+  pub others : (ds : scope.Declarations) (t : Node) (added : scope.Declarations) → entries_given ds t ≡ given added → ClaimNothing added
   pub entries_speak : (ds : scope.Declarations) → IsTyped ds → (t : Node) (added : scope.Declarations) → entries_given ds t ≡ given added → ScopeSpeaks NoName (declared added)
   pub module_speaks : (ds : scope.Declarations) → IsTyped ds → (t : Node) (m : Module) → module_given ds t ≡ given m → DeclarationSpeaks NoName (concrete_module m)
   pub procedures : (ds : scope.Declarations) → IsTyped ds → (t : Node) (q : Sequent) → statement_given ds t ≡ given q → IsOfProcedures q
@@ -114,6 +127,10 @@ pub record OfRules : Type 0 where
   pub calls : (ds : scope.Declarations) → IsTyped ds → (q : Sequent) (t : IsTypedGoalOf ds q) (r : Rule) →
       IsSoundRuleIn (declared ds) (around ds q t) (call_rows.rule_row ds r) (call_rows.IsTypedRule (around ds q t) r)
   pub calls_refuse : (ds : scope.Declarations) (r : Rule) (f : Term) → call_rows.rule_row ds r (ambient f) ≡ refusing Shape
+  pub transformations_refuse : (ds : scope.Declarations) (r : Rule) (f : Term) → transformation_rows.rule_row ds r (ambient f) ≡ refusing Shape
+  pub known_calls : (ds : scope.Declarations) → IsTyped ds → (q : Sequent) (t : IsTypedGoalOf ds q) → (a : Acts) (f : Term) → IsForm (around ds q t) f →
+      Holds (declared ds) (record q { conclusion = f }) → (place : Place) (qs : List Sequent) → of_known.IsAnswer ds a f place q (given qs) →
+      AllByRecursion (IsTypedSequent (context_of (declared ds))) qs × (AllByRecursion (Holds (declared ds)) qs → Holds (declared ds) q)
   pub on_conclusions : (ds : Declarations) → IsTypedScope ds → (q : Sequent) (t : IsTypedSequent (context_of ds) q) → (r : AmbientRule) →
       IsTypedStep (of_sequent (context_of ds) q t.frames) q.conclusion r → (place : Place) (qs : List Sequent) → IsAnswer r place q (given qs) → LeadTo ds q qs
   pub on_uses : (ds : Declarations) → IsTypedScope ds → LemmasHold ds → (q : Sequent) (t : IsTypedSequent (context_of ds) q) → (r : UseRule) →
@@ -127,6 +144,38 @@ pub record OfRules : Type 0 where
   pub linear : (ds : Declarations) → IsTypedScope ds → (q : Sequent) → IsTypedSequent (context_of ds) q → (ms : List Multiple) (place : Place) (qs : List Sequent) →
       linear_answer ms place q ≡ given qs → AllByRecursion (IsTypedSequent (context_of ds)) qs × (AllByRecursion (Holds ds) qs → Holds ds q)
 
+-- Rules lead to no other loops, and rules on loops are sound where loops end.
+pub record OfLoops : Type 0 where
+  pub rows : (ds : scope.Declarations) → IsTyped ds → (q : Sequent) (t : IsTypedGoalOf ds q) → (r : Rule) → InEachSetting (declared ds) q (λ g. Entered ds g r (goal_of q.conclusion)) → (row : Row) →
+      ((Gs : List Goal) → row (goal_of q.conclusion) ≡ given Gs → AllByRecursion (IsTypedGoal (around ds q t)) Gs ×
+      ((g : Setting) → IsSettingOver (declared ds) g → Entered ds g r (goal_of q.conclusion) → LoopsEnd g (goal_of q.conclusion) → AllByRecursion (LoopsEnd g) Gs)) →
+      (qs : List Sequent) → answered row q ≡ given qs → SequentEnds (declared ds) q → AllByRecursion (SequentEnds (declared ds)) qs
+  pub lifted : (ds : Declarations) → IsTypedScope ds → (q : Sequent) (t : IsTypedSequent (context_of ds) q) → type_of q.conclusion ≡ ty.Bool → (ls rs : List TypedName) →
+      IsGoalOver (of_sequent (context_of ds) q t.frames) ls rs (goal_of q.conclusion) → (row : Row) →
+      ((Gs : List Goal) → row (goal_of q.conclusion) ≡ given Gs → IsSoundOnLoops ds (of_sequent (context_of ds) q t.frames) Gs (goal_of q.conclusion)) →
+      (qs : List Sequent) → answered row q ≡ given qs →
+      AllByRecursion (IsTypedSequent (context_of ds)) qs × (SequentEnds ds q → AllByRecursion (SequentEnds ds) qs × (AllByRecursion (Holds ds) qs → Holds ds q))
+  pub bodies : (ds : scope.Declarations) → IsTyped ds → (r : Rule) (G : Goal) (Gs : List Goal) → bodies.rule_row ds r G ≡ given Gs →
+      (g : Setting) → IsSettingOver (declared ds) g → Entered ds g r G → LoopsEnd g G → AllByRecursion (LoopsEnd g) Gs
+  pub entered : (ds : scope.Declarations) → IsTyped ds → IsSound (declared ds) → ScopeSpeaks NoName (declared ds) → (q : Sequent) → IsTypedGoalOf ds q →
+      unproved_in ds (goal_of q.conclusion) ≡ None → InEachSetting (declared ds) q (λ g. ProceduresEnd ds g (goal_of q.conclusion))
+  pub relational : (ds : scope.Declarations) (c : Context) (ls rs : List TypedName) (r : Rule) (G : Goal) → IsGoalOver c ls rs G → (Gs : List Goal) → equiv.rule_row r G ≡ given Gs → KeepsEnds (declared ds) Gs G
+  pub chances : (ds : scope.Declarations) (c : Context) (ls rs : List TypedName) (r : Rule) (G : Goal) → IsGoalOver c ls rs G → (Gs : List Goal) → chance_rows.rule_row ds r G ≡ given Gs → KeepsEnds (declared ds) Gs G
+  pub calls : (ds : scope.Declarations) (c : Context) (ls rs : List TypedName) (r : Rule) (G : Goal) → IsGoalOver c ls rs G → (Gs : List Goal) → call_rows.rule_row ds r G ≡ given Gs → KeepsEnds (declared ds) Gs G
+  pub known_calls : (ds : scope.Declarations) → IsTyped ds → (q : Sequent) (t : IsTypedGoalOf ds q) (a : Acts) (f : Term) → IsForm (around ds q t) f → Holds (declared ds) (record q { conclusion = f }) →
+      (place : Place) (qs : List Sequent) → of_known.IsAnswer ds a f place q (given qs) → SequentEnds (declared ds) q → AllByRecursion (SequentEnds (declared ds)) qs
+  pub conclusions : (ds : Declarations) (q : Sequent) (t : IsTypedSequent (context_of ds) q) (r : AmbientRule) → IsTypedStep (of_sequent (context_of ds) q t.frames) q.conclusion r →
+      (place : Place) (qs : List Sequent) → IsAnswer r place q (given qs) → SequentEnds ds q → AllByRecursion (SequentEnds ds) qs
+  pub uses : (ds : Declarations) (q : Sequent) (c : Context) (r : UseRule) → IsForm c (uses.used_by r) → (place : Place) (qs : List Sequent) → uses.IsAnswer r place q (given qs) →
+      SequentEnds ds q → AllByRecursion (SequentEnds ds) qs
+  pub equals : (ds : scope.Declarations) → IsTyped ds → (q : Sequent) (t : IsTypedGoalOf ds q) (r : RewriteRule) → IsUsable (declared ds) q (around ds q t) r →
+      (place : Place) (qs : List Sequent) → given qs ≡ rewrite_answer ds r place q → SequentEnds (declared ds) q → AllByRecursion (SequentEnds (declared ds)) qs
+  pub forms : (ds : Declarations) (q : Sequent) (c : Context) → IsTypedTerm c q.conclusion → SequentEnds ds q
+  pub while : (ds : scope.Declarations) → IsTyped ds → (q : Sequent) (t : IsTypedGoalOf ds q) (a : Acts) (v : Term) →
+      IsSoundLoopRule (declared ds) (around ds q t) (while_row ds a v) (IsTypedInvariant (around ds q t) v)
+  pub transformations : (ds : scope.Declarations) → IsTyped ds → (q : Sequent) (t : IsTypedGoalOf ds q) (r : Rule) →
+      IsSoundLoopRule (declared ds) (around ds q t) (transformation_rows.rule_row ds r) no_arguments
+
 -- Typed scopes have models, equivalences give couplings, and what holds goes on to hold.
 pub record OfModels : Type 0 where
   pub model : (ds : scope.Declarations) → IsTyped ds → HasModel ds
@@ -139,4 +188,5 @@ pub record OfModels : Type 0 where
 pub record Grounds : Type 0 where
   pub typing : OfTyping
   pub rules : OfRules
+  pub loops : OfLoops
   pub models : OfModels

@@ -59,6 +59,7 @@ module _ (o : Grounds) where
   kept ((n, entry.Constant c) ∷ ds) before w k h p l m = let d : List ℕ × Entry = (n, entry.Constant c) in onwards before d ds (kept ds (before ++ d ∷ []) (back IsTyped before d ds w) (back Spoken before d ds k) h p) l m
   kept ((n, entry.Operator x) ∷ ds) before w k h p l m = let d : List ℕ × Entry = (n, entry.Operator x) in onwards before d ds (kept ds (before ++ d ∷ []) (back IsTyped before d ds w) (back Spoken before d ds k) h p) l m
   kept ((n, entry.AbstractOperator x) ∷ ds) before w k h p l m = let d : List ℕ × Entry = (n, entry.AbstractOperator x) in onwards before d ds (kept ds (before ++ d ∷ []) (back IsTyped before d ds w) (back Spoken before d ds k) h p) l m
+  kept ((n, entry.Terminating c) ∷ ds) before w k h p l m = let d : List ℕ × Entry = (n, entry.Terminating c) in onwards before d ds (kept ds (before ++ d ∷ []) (back IsTyped before d ds w) (back Spoken before d ds k) h p) l m
 
   pub each_kept : (s : Session) → IsGood s → AreKept s.scope
   each_kept s g =

@@ -1,8 +1,8 @@
 -- The lemmas of a scope that grows.
-use Rattle.std.proofs.Common.{◌≡◌, List, [], ◌∷◌, ◌++◌, Some, None, refl, ap, sym, ◌∙◌, subst}
+use Rattle.std.proofs.Common.{◌≡◌, false, List, [], ◌∷◌, ◌++◌, refl, ap, sym, ◌∙◌, subst}
 use Rattle.std.proofs.lemmas.List.{append-nil, append_assoc, map-append}
 use Rattle.std.specs.List.{AllByRecursion}
-use Rattle.gb_goal.specs.Scope.{Declarations, as_lemma, AreNoLemmas}
+use Rattle.gb_goal.specs.Scope.{Declarations, is_claim, ClaimNothing}
 use Rattle.gb_goal.specs.declared.scope.Binder.{Binder}
 use Rattle.gb_goal.specs.declared.scope.Entry.{Entry}
 use Rattle.gb_goal.specs.declared.scope.Entry.TheVariants as entry
@@ -23,31 +23,30 @@ with_more before n entry.AbstractType ls ks = refl
 with_more before n (entry.Constant c) ls ks = refl
 with_more before n (entry.Operator o) ls ks = refl
 with_more before n (entry.AbstractOperator o) ls ks = refl
+with_more before n (entry.Terminating p) ls ks = refl
 
-lemmas_append : (before ds es : Declarations) → lemmas_in before (ds ++ es) ≡ lemmas_in before ds ++ lemmas_in (before ++ ds) es
+pub lemmas_append : (before ds es : Declarations) → lemmas_in before (ds ++ es) ≡ lemmas_in before ds ++ lemmas_in (before ++ ds) es
 lemmas_append before [] es = ap (λ b. lemmas_in b es) (sym (append-nil before))
 lemmas_append before (d ∷ ds) es =
     ap (with_entry before d.0 d.1) (lemmas_append (before ++ d ∷ []) ds es ∙ ap (λ b. lemmas_in (before ++ d ∷ []) ds ++ lemmas_in b es) (append_assoc before (d ∷ []) ds))
     ∙ with_more before d.0 d.1 (lemmas_in (before ++ d ∷ []) ds) (lemmas_in (before ++ d ∷ ds) es)
 
-some_none : {A B : Type 0} (x : A) → Some x ≡ None → B
-some_none x e = cc
-
--- what is no lemma adds none
-no_lemma : (before : Declarations) (n : Name) (e : Entry) (ls : List Lemma) → as_lemma (Some e) ≡ None → with_entry before n e ls ≡ ls
+-- what claims nothing adds none
+no_lemma : (before : Declarations) (n : Name) (e : Entry) (ls : List Lemma) → is_claim e ≡ false → with_entry before n e ls ≡ ls
 no_lemma before n (entry.Module m) ls h = refl
-no_lemma before n (entry.Lemma q order) ls h = some_none q h
+no_lemma before n (entry.Lemma q order) ls h = absurd (cc)
 no_lemma before n (entry.Type t) ls h = refl
 no_lemma before n entry.AbstractType ls h = refl
 no_lemma before n (entry.Constant c) ls h = refl
 no_lemma before n (entry.Operator o) ls h = refl
 no_lemma before n (entry.AbstractOperator o) ls h = refl
+no_lemma before n (entry.Terminating p) ls h = absurd (cc)
 
-none_in : (before added : Declarations) → AreNoLemmas added → lemmas_in before added ≡ []
+none_in : (before added : Declarations) → ClaimNothing added → lemmas_in before added ≡ []
 none_in before [] h = refl
 none_in before (d ∷ added) h = no_lemma before d.0 d.1 _ h.0 ∙ none_in (before ++ d ∷ []) added h.1
 
-module _ (ds added : Declarations) (others : AreNoLemmas added) where
+module _ (ds added : Declarations) (others : ClaimNothing added) where
   same_lemmas : lemmas_in [] (ds ++ added) ≡ lemmas_in [] ds
   same_lemmas = lemmas_append [] ds added ∙ ap (λ ls. lemmas_in [] ds ++ ls) (none_in ds added others) ∙ append-nil (lemmas_in [] ds)
 

@@ -18,19 +18,19 @@ use Rattle.gb_theory.specs.Commands.{InProof, Proves, ComesToOf, ComesTo}
 use Rattle.gb_theory.specs.Outcome.{RunsTo, IsEnd, Ends, Goes, RunsIn, start, IsOutcome}
 use Rattle.gb_accepted.proofs.Given.{nothing_given, given_after, given_placed}
 use Rattle.gb_accepted.proofs.Grounds.{Grounds}
-use Rattle.gb_accepted.proofs.Good.{IsGoodProof, IsGoodIfOpen, IsGood, fresh_is_good}
-use Rattle.gb_accepted.proofs.Declarations.{requires_keeps, brings_keeps, assumes_nothing, declares_keeps, opens_keeps, begun_keeps, ended_keeps}
+use Rattle.gb_accepted.proofs.Good.{IsGoodClaim, IsGoodIfOpen, IsGood, fresh_is_good}
+use Rattle.gb_accepted.proofs.Declarations.{requires_keeps, brings_keeps, assumes_nothing, declares_keeps, opens_keeps, opens_loops_keeps, begun_keeps, ended_keeps}
 use Rattle.gb_accepted.proofs.Steps.{works_keep}
 
 in_proof : (s : Session) (o : Option OpenProof) (place : Place) (P : OpenProof → Answer Session → Type 0) (next : Session) → IsGoodIfOpen s.scope o →
-    InProof o place P (given next) → (p : OpenProof) × IsGoodProof s.scope p × P p (given next)
+    InProof o place P (given next) → (p : OpenProof) × IsGoodClaim s.scope p.claim p.goals × P p (given next)
 in_proof s None place P next h i = nothing_given _ _ next (sym i)
 in_proof s (Some p) place P next h i = (p, h, i)
 
 module _ (o : Grounds) where
   proves_keep : (s : Session) (t : Node) (place : Place) (next : Session) → IsGood s → Proves s t place (given next) → IsGood next
   proves_keep s t place next g e =
-      let i = in_proof s s.proof place _ next g.proof e in works_keep o i.0.goals s i.0 t place next g i.1 refl i.2
+      let i = in_proof s s.proof place _ next g.proof e in works_keep o i.0.goals s i.0 t place next g i.1 i.2
 
   head_keeps : (s : Session) (c : Node) (h : Head) (parts : List Node) (next : Session) → parts_of c ≡ parts → IsGood s →
       ComesToOf s c h parts (given next) → IsGood next
@@ -41,10 +41,11 @@ module _ (o : Grounds) where
   head_keeps s c head.Module parts next are g e = declares_keeps o s c (place_of c) next g (sym e)
   head_keeps s c head.AscribedModule parts next are g e = declares_keeps o s c (place_of c) next g (sym e)
   head_keeps s c head.Lemma (name ∷ parts) next are g e = opens_keeps o s c (text_of name) (place_of c) next g (ap name_in are) (sym e)
+  head_keeps s c head.Termination (path ∷ []) next are g e = opens_loops_keeps o s path (place_of c) next g (sym e)
   head_keeps s c head.Proof parts next are g e =
       let i = in_proof s s.proof (place_of c) _ next g.proof e in begun_keeps s i.0 (place_of c) next g i.1 (sym i.2)
   head_keeps s c head.Qed parts next are g e =
-      let i = in_proof s s.proof (place_of c) _ next g.proof e in ended_keeps o i.0.goals s i.0 (place_of c) next g i.1 i.1.leads (sym i.2)
+      let i = in_proof s s.proof (place_of c) _ next g.proof e in ended_keeps o i.0.goals s i.0 (place_of c) next g i.1 (sym i.2)
   head_keeps s c head.Tactic (step ∷ more) next are g e =
       proves_keep s c (place_of step) next g e
   head_keeps s c _ _ next are g e = nothing_given _ _ next (sym e)

@@ -15,7 +15,7 @@ use Rattle.gb_meaning.specs.State.{State}
 use Rattle.gb_meaning.specs.Judgments.{Judge, IsFair, IsSoundForm, IsTrueIn, den}
 use Rattle.gb_laws.proofs.Nodes.{term_is_node}
 use Rattle.gb_judge.proofs.Exact.{trying}
-use Rattle.gb_judge.proofs.Truths.{true_implies}
+use Rattle.gb_laws.proofs.Truths.{true_implies}
 use Rattle.gb_judge.proofs.Fair.{is_fair}
 use Rattle.gb_judge.proofs.Unique.{true_under_each}
 use Rattle.gb_changes.proofs.Trees.{out_is}

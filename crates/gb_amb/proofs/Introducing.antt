@@ -24,7 +24,7 @@ use Rattle.gb_meaning.specs.State.Binding.{value as value_bound, memory as memor
 use Rattle.gb_meaning.specs.Written.{type_of}
 use Rattle.gb_meaning.specs.Judgments.{Judge, IsFair, IsTrueIn, den}
 use Rattle.gb_meaning.specs.Values.{Types, has}
-use Rattle.gb_judge.proofs.Truths.{true_all, true_all_memory}
+use Rattle.gb_laws.proofs.Truths.{true_all, true_all_memory}
 use Rattle.gb_holds.specs.Declared.{Declarations}
 use Rattle.gb_holds.specs.Settings.{Interpretation, setting, types_of}
 use Rattle.gb_holds.specs.Truth.{has_module, Truth}

@@ -26,7 +26,7 @@ use Rattle.gb_meaning.specs.Values.{Types, has}
 use Rattle.gb_laws.proofs.Nodes.{val_node}
 use Rattle.gb_laws.proofs.Runs.{routine_positive}
 use Rattle.gb_laws.proofs.Values.{value_eq-true}
-use Rattle.gb_judge.proofs.Truths.{truth_of}
+use Rattle.gb_laws.proofs.Truths.{truth_of}
 use Rattle.gb_typed.specs.Context.{IsFractional}
 use Rattle.gb_typed.specs.Finite.{IsFinite}
 use Rattle.gb_typed.specs.Meant.{IsOf, IsOfDistributions}

@@ -10,7 +10,11 @@ pub mod Around
 pub mod Introducing
 pub mod Itself
 pub mod Leading
-pub mod Speaking
+pub mod Puts
+pub mod Lifted
+pub mod Steady
+pub mod Filled
+pub mod Meant
 pub mod Witnessed
 pub mod Remembered
 pub mod Closing

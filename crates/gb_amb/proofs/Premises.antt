@@ -25,7 +25,7 @@ use Rattle.gb_meaning.specs.Judgments.{Judge, IsFair, IsSoundForm, den}
 use Rattle.gb_laws.proofs.Nodes.{each_is_node}
 use Rattle.gb_judge.proofs.Exact.{trying}
 use Rattle.gb_judge.proofs.Fair.{is_fair}
-use Rattle.gb_judge.proofs.Truths.{true_or, true_all, true_some, true_all_memory, true_some_memory}
+use Rattle.gb_laws.proofs.Truths.{true_or, true_all, true_some, true_all_memory, true_some_memory}
 use Rattle.gb_judge.proofs.Unique.{true_under_each}
 use Rattle.gb_changes.specs.Agree.{Agree}
 use Rattle.gb_changes.specs.Uses.Use.{read as reads, bound, globals, starts, binds_own, binds_sides}

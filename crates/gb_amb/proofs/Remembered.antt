@@ -21,7 +21,7 @@ use Rattle.gb_meaning.specs.Written.{type_of}
 use Rattle.gb_changes.specs.Led.{Led}
 use Rattle.gb_changes.specs.Uses.Use.{read as reads, bound, globals, starts, binds_own, binds_sides}
 use Rattle.gb_changes.proofs.Forms.{form_followed}
-use Rattle.gb_judge.proofs.Truths.{true_some_memory}
+use Rattle.gb_laws.proofs.Truths.{true_some_memory}
 use Rattle.gb_holds.specs.Declared.{Declarations}
 use Rattle.gb_holds.specs.Settings.{setting}
 use Rattle.gb_holds.proofs.Fronts.{without_modules}

@@ -15,7 +15,6 @@ use Rattle.gb_typing.specs.Sequents.{with_modules}
 use Rattle.gb_amb.specs.Introduced.{introduced, introduced_at, with_memory, with_premise, with_variable}
 use Rattle.gb_amb.proofs.Introducing.{memory_leads, value_leads}
 use Rattle.gb_amb.proofs.Premises.{Follows}
-use Rattle.gb_amb.proofs.Speaking.{plain}
 use Rattle.gb_amb.proofs.Remembered.{memory_follows}
 use Rattle.gb_amb.proofs.Witnessed.{witness_follows}
 use Rattle.gb_goal.specs.Answers.{Answer}
@@ -34,7 +33,6 @@ use Rattle.gb_typing.proofs.Given.{refused_at, same_given}
 use Rattle.gb_goal.specs.Goal.{judges_bodies}
 use Rattle.gb_amb.specs.Parts.{concluding, by_parts}
 use Rattle.gb_amb.specs.Closed.{IsAmong, IsClosed}
-use Rattle.gb_amb.specs.Speaking.{speaks_of_programs}
 use Rattle.gb_amb.specs.Witness.{at_memory, memory_witnessed, memory_witnessed_at, witnessed, witnessed_at}
 use Rattle.gb_amb.specs.Steps.{assuming, Decides, by_cases, IsAnswer, IsMemoryWitness, IsTypedStep, IsWitness, LeadTo}
 use Rattle.gb_amb.proofs.Around.{here}
@@ -57,8 +55,8 @@ module _ (ds : Declarations) (scope : IsTypedScope ds) (q : Sequent) (t : IsType
 
   -- A term for what is said to exist.
   witness_leads : (x : Term) (u : Ty) (f : Term) → (out-Term q.conclusion).head ≡ head.Some u → (out-Term q.conclusion).args ≡ f ∷ [] → IsTyped (here ds scope q t) x × (type_of x ≡ u) →
-      speaks_of_programs x ≡ false → LeadTo ds q (concluding q (term_changed f (OfBound 0 x ∷ [])) ∷ [])
-  witness_leads x u f hs xs w s =
+      LeadTo ds q (concluding q (term_changed f (OfBound 0 x ∷ [])) ∷ [])
+  witness_leads x u f hs xs w =
       let c = here ds scope q t in
       let r = (out-Term q.conclusion).ty in
       let is = node_is ds scope q t (head.Some u) (f ∷ []) hs xs in
@@ -67,15 +65,11 @@ module _ (ds : Declarations) (scope : IsTypedScope ds) (q : Sequent) (t : IsType
       of_following ds scope q t (node (head.Some u) (f ∷ []) r) (term_changed f (OfBound 0 x ∷ []) ∷ []) is
       (subst (λ d. IsTyped d x → IsForm d (node (head.Some u) (f ∷ []) r) → Follows ds d (node (head.Some u) (f ∷ []) r) (term_changed f (OfBound 0 x ∷ []) ∷ []))
       (sym (here_small ds scope q t))
-      (λ y z. witness_follows (with_modules (context_of ds) q.modules) (map (λ x. x.ty) q.logical) (map (λ l. Some l) t.frames) x y (plain x s) u w.1 ds f r z) w.0 whole)
+      (λ y z. witness_follows (with_modules (context_of ds) q.modules) (map (λ x. x.ty) q.logical) (map (λ l. Some l) t.frames) x y u w.1 ds f r z) w.0 whole)
 
   by_witness : (x : Term) (place : Place) (h : Head) (ts : List Term) → (out-Term q.conclusion).head ≡ h → (out-Term q.conclusion).args ≡ ts → IsWitness (here ds scope q t) x h →
       (qs : List Sequent) → given qs ≡ witnessed_at x place q h ts → LeadTo ds q qs
-  by_witness x place (head.Some u) (f ∷ []) hs xs w qs e = step (speaks_of_programs x) refl e
-    where
-      step : (b : Bool) → speaks_of_programs x ≡ b → given qs ≡ (if b then refused Shape place else given (concluding q (term_changed f (OfBound 0 x ∷ [])) ∷ [])) → LeadTo ds q qs
-      step true s e = refused_at Shape place qs (sym e)
-      step false s e = subst (LeadTo ds q) (sym (same_given qs _ e)) (witness_leads x u f hs xs w s)
+  by_witness x place (head.Some u) (f ∷ []) hs xs w qs e = subst (LeadTo ds q) (sym (same_given qs _ e)) (witness_leads x u f hs xs w)
   by_witness x place h ts hs xs w qs e = refused_at Shape place qs (sym e)
 
   -- A memory of the context for one that is said to exist.

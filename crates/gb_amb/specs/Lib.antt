@@ -2,6 +2,5 @@ pub mod Closed
 pub mod Introduced
 pub mod Parts
 pub mod Quantified
-pub mod Speaking
 pub mod Witness
 pub mod Steps

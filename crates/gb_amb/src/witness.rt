@@ -1,9 +1,6 @@
 // A thing that is said to exist, in place of the one that is bound.
 
-ghost use Rattle.std.specs.Prelude.{◌≡◌};
-ghost use Rattle.std.specs.List.{list_any};
 ghost use Rattle.gb_goal.specs.Answers.{Answers};
-ghost use Rattle.gb_amb.specs.Speaking.{is_speaking, speaks_of_programs};
 ghost use Rattle.gb_amb.specs.Witness.{memory_witnessed, witnessed, witnessed_at};
 
 use crate::goals::{no_shape, one};
@@ -15,42 +12,6 @@ use gb_terms::op::Side;
 use gb_terms::term::{Head, Term};
 use gb_walk::change::Change;
 use std::alloc::Global;
-
-fn is_speaking(head: &Head) -> bool
-    ensures { result ≡ is_speaking head.now }
-{
-    matches!(
-        head,
-        Head::AllMemory
-            | Head::SomeMemory
-            | Head::Pr(_, _)
-            | Head::Hoare(_)
-            | Head::Phoare(_, _)
-            | Head::Equiv(_, _)
-    )
-}
-
-/// Whether a term speaks of programs.
-#[cycle(speaks)]
-#[tactic(auto, using(crate::proofs::Speaking::speaks_out))]
-fn speaks_of_programs(t: &Term) -> bool
-    ensures { result ≡ speaks_of_programs t.now }
-{
-    is_speaking(t.head.get()) || speak_of_programs(t.args.as_slice())
-}
-
-#[cycle(speaks)]
-#[tactic(auto, using(crate::proofs::Speaking::speaks_out))]
-fn speak_of_programs(list: &[Term]) -> bool
-    ensures { result ≡ list_any speaks_of_programs list.now }
-{
-    for t in list {
-        if speaks_of_programs(t) {
-            return true;
-        }
-    }
-    false
-}
 
 fn by_head(
     alloc: Global,
@@ -64,9 +25,6 @@ fn by_head(
 {
     match (head, args) {
         (Head::Some(_), [body]) => {
-            if speaks_of_programs(witness) {
-                return Err(no_shape(place));
-            }
             let change = Change::OfBound(0, witness.share()?);
             let conclusion = changed_once(alloc, body, change)?;
             Ok(one(alloc, goal, conclusion)?)
@@ -75,7 +33,7 @@ fn by_head(
     }
 }
 
-/// The goal of the body of an `exists` about a term. Refused with `Shape` where none stands there, or the term speaks of programs.
+/// The goal of the body of an `exists` about a term. Refused with `Shape` where none stands there.
 pub fn witnessed(
     alloc: Global,
     witness: &Term,

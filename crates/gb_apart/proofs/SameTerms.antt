@@ -101,7 +101,7 @@ by_numbers a b (yes p) (no n) = no (λ e. n (ap op_part e))
 ops : Discrete Op
 ops a b = by_numbers a b (ℕ_discrete (op_place a) (op_place b)) (ℕ_discrete (op_part a) (op_part b))
 
-rels : Discrete Rel
+pub rels : Discrete Rel
 rels rel.AtMost rel.AtMost = yes refl
 rels rel.Equal rel.Equal = yes refl
 rels rel.AtLeast rel.AtLeast = yes refl
@@ -132,7 +132,7 @@ mexp_discrete = ind-Mexp IsApart (λ x y is. rolled roll-Mexp out-Mexp roll-out-
 abbrev proc : Mexp → List ℕ → ProcRef
 proc m n = record { «module» = m; name = n }
 
-procs : Discrete ProcRef
+pub procs : Discrete ProcRef
 procs a b = two proc a.«module» b.«module» a.name b.name (mexp_discrete a.«module» b.«module») (names a.name b.name) (λ e. (ap (λ r. r.«module») e, ap (λ r. r.name) e))
 
 abbrev bound : List (List ℕ) → ProcRef → ℕ → Bound

@@ -1,16 +1,12 @@
 -- `conseq` is sound.
 use Rattle.std.proofs.Common.{◌≡◌, ◌<◌, Bool, true, false, not, List, [], ◌∷◌, ◌++◌, Option, Some, None, refl, ap, sym, ◌∙◌, subst}
 use Rattle.std.specs.List.{AllByRecursion}
-use Rattle.std.proofs.lemmas.Bool.{false≢true}
 use Rattle.gb_core.specs.declared.refusal.Why.TheVariants.{Shape}
-use Rattle.gb_core.specs.declared.ty.Ty.TheVariants as ty
 use Rattle.gb_terms.specs.declared.decl.TypedName.{TypedName}
-use Rattle.gb_terms.specs.declared.op.Op.TheVariants.{Iff}
 use Rattle.gb_terms.specs.declared.op.Rel.{Rel}
 use Rattle.gb_terms.specs.declared.op.Rel.TheVariants.{AtMost, Equal, AtLeast}
 use Rattle.gb_terms.specs.declared.op.Side.TheVariants.{Own}
 use Rattle.gb_terms.specs.declared.term.Term.{Term}
-use Rattle.gb_terms.specs.declared.term.Head.TheVariants as head
 use Rattle.gb_coupling.specs.WeightedList.{weight}
 use Rattle.gb_coupling.proofs.Basic.{coupling_weakening}
 use Rattle.gb_coupling.proofs.Entries.{Every-weaken}
@@ -18,7 +14,6 @@ use Rattle.gb_meaning.specs.Commands.{statements}
 use Rattle.gb_meaning.specs.Fractions.{Fraction}
 use Rattle.gb_meaning.specs.Meanings.{fraction_in}
 use Rattle.gb_meaning.specs.Memory.{Memory}
-use Rattle.gb_meaning.specs.Operators.{alike}
 use Rattle.gb_meaning.specs.Program.{Routine}
 use Rattle.gb_meaning.specs.Setting.{Setting}
 use Rattle.gb_meaning.specs.State.{State, at, between}
@@ -26,14 +21,12 @@ use Rattle.gb_meaning.specs.Terms.{val}
 use Rattle.gb_meaning.specs.Judgments.{Judge, IsFair, IsSoundIfThere, IsTrueUnder, den, speaking, chance, compares, outcome_denominator}
 use Rattle.gb_meaning.specs.Written.{type_of}
 use Rattle.gb_laws.proofs.Runs.{run_positive, routine_positive}
-use Rattle.gb_judge.proofs.Truths.{true_iff}
 use Rattle.gb_steps.specs.declared.step.Weakened.{Weakened}
 use Rattle.gb_typing.specs.Modules.{ProcedureType}
 use Rattle.gb_typing.specs.Context.{Context, Frame, procedure, with_own, with_sides}
 use Rattle.gb_typing.specs.Fits.{IsSettingOf, IsStateOf}
 use Rattle.gb_typing.specs.Typing.{IsTyped, IsForm, IsThere, before, after}
 use Rattle.gb_typing.proofs.Drawing.{body_sound}
-use Rattle.gb_typing.proofs.Made.{made_node}
 use Rattle.gb_typing.proofs.Sound.{procedures_sound}
 use Rattle.gb_goal.specs.Goal.{Code, Goal}
 use Rattle.gb_goal.specs.Goal.Code.{body, procedure as of_procedure}
@@ -44,13 +37,15 @@ use Rattle.gb_typing.specs.Meaning.{Stands, run_of, denominator_of}
 use Rattle.gb_typing.specs.Rules.{Implies, IsSoundRule, outermost}
 use Rattle.gb_typing.specs.Goals.{IsCode, IsGoalOver, IsTypedGoal, frame_before, frame_after}
 use Rattle.gb_typing.proofs.Ambient.{one_typed, one_meaning, pair_typed, pair_meaning}
-use Rattle.gb_typing.proofs.Forms.{made_form, form_made, implies_typed, implies_use}
+use Rattle.gb_typing.proofs.Forms.{implies_typed, implies_use}
 use Rattle.gb_typing.proofs.Given.{AreSound, refused_given, sound_given}
 use Rattle.gb_chance.specs.Compared.{compared}
 use Rattle.gb_chance.proofs.Bound.{bound_value, bound_above}
 use Rattle.gb_chance.proofs.Comparing.{real_made, compared_typed, compared_is}
 use Rattle.gb_chance.proofs.Weaker.{Follows, event_follows, bound_follows}
-use Rattle.gb_bodies.specs.Conseq.{or_old, leads, pair_leads, iff_form, as_likely, bound_goals, of_one, of_two, of_chance, unless_bound, conseq_row, IsCondition, IsBound, IsTypedWeakened}
+use Rattle.gb_parts.specs.Likely.{as_likely}
+use Rattle.gb_parts.proofs.Likely.{as_likely_typed, likely_at}
+use Rattle.gb_bodies.specs.Conseq.{or_old, leads, pair_leads, bound_goals, of_one, of_two, of_chance, unless_bound, conseq_row, IsCondition, IsBound, IsTypedWeakened}
 
 condition_typed : (c : Context) (o : Option Term) (f : Term) → IsCondition c o → IsForm c f → IsForm c (or_old o f)
 condition_typed c (Some h) f k w = k
@@ -68,34 +63,6 @@ memory_of_type None h = absurd h
 memories : (c : Context) (ls : List TypedName) (a : Code) → IsCode c ls a → IsMemory (frame_before c ls a) × IsMemory (frame_after c ls a)
 memories c ls (body is) h = (record { locals = ls; there = refl }, record { locals = ls; there = refl })
 memories c ls (of_procedure p) h = memory_of_type (procedure c p) h
-
--- equivalences of forms
-
-iff_typed : (c : Context) (a b : Term) → IsForm c a → IsForm c b → IsForm c (iff_form a b)
-iff_typed c a b v w =
-    form_made c (iff_form a b)
-    (made_node c (head.Builtin Iff) (ty.Bool ∷ ty.Bool ∷ []) (a ∷ b ∷ []) ty.Bool (refl, (refl, (refl, tt))) tt [] (made_form c a v, made_form c b w))
-
-alike_same : (a b : Bool) → alike a b ≡ true → a ≡ b
-alike_same true b h = sym h
-alike_same false true h = absurd (false≢true h)
-alike_same false false h = refl
-
-pub as_likely_typed : (c : Context) (r : Rel) (old new : Term) → IsForm c old → IsForm c new → IsForm c (as_likely r old new)
-as_likely_typed c AtMost old new v w = implies_typed c old new v w
-as_likely_typed c AtLeast old new v w = implies_typed c new old w v
-as_likely_typed c Equal old new v w = iff_typed c old new v w
-
--- one truth stands so to another
-abbrev pub FollowsAt : Rel → Bool → Bool → Type 0
-FollowsAt AtMost old new = old ≡ true → new ≡ true
-FollowsAt AtLeast old new = new ≡ true → old ≡ true
-FollowsAt Equal old new = old ≡ new
-
-pub likely_at : (g : Setting) (j : Judge) (s : State) (r : Rel) (old new : Term) → den g j (as_likely r old new) s ≡ true → FollowsAt r (den g j old s) (den g j new s)
-likely_at g j s AtMost old new h = implies_use g j old new s h
-likely_at g j s AtLeast old new h = implies_use g j new old s h
-likely_at g j s Equal old new h = alike_same (den g j old s) (den g j new s) (sym (true_iff g j old new s) ∙ h)
 
 likely_follows : (g : Setting) (j : Judge) (s : State) (r : Rel) (old new : Term) → ((m : Memory) → den g j (as_likely r old new) (at s m) ≡ true) → Follows r (λ m. den g j old (at s m)) (λ m. den g j new (at s m))
 likely_follows g j s AtMost old new h = λ m. likely_at g j (at s m) AtMost old new (h m)

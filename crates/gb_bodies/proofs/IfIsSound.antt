@@ -23,7 +23,7 @@ use Rattle.gb_meaning.specs.Memory.{Memory}
 use Rattle.gb_meaning.specs.Setting.{Setting}
 use Rattle.gb_meaning.specs.Setting.Meaning.{finite}
 use Rattle.gb_meaning.specs.Meanings.{truth, value_in, fraction_in}
-use Rattle.gb_judge.proofs.Truths.{true_equal}
+use Rattle.gb_laws.proofs.Truths.{true_equal}
 use Rattle.gb_typed.specs.Finite.{IsFinite}
 use Rattle.gb_meaning.specs.State.{State, at, between, inside, memory_of}
 use Rattle.gb_meaning.specs.Terms.{quiet, val}

@@ -1,9 +1,7 @@
-pub mod AssignedForms
 pub mod CaseIsSound
 pub mod ConseqIsSound
 pub mod ConseqSteps
 pub mod IfIsSound
-pub mod Parts
 pub mod ProcIsSound
 pub mod RulesAreSound
 pub mod SeqIsSound

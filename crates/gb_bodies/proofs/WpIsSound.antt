@@ -37,7 +37,7 @@ use Rattle.gb_meaning.specs.Terms.{quiet, val}
 use Rattle.gb_meaning.specs.Runs.{valued, is_true}
 use Rattle.gb_meaning.specs.Judgments.{Judge, IsFair, IsTrueUnder, speaking, compares, chance, den}
 use Rattle.gb_meaning.specs.Written.{type_of}
-use Rattle.gb_judge.proofs.Truths.{true_and, true_implies, true_not}
+use Rattle.gb_laws.proofs.Truths.{true_and, true_implies, true_not}
 use Rattle.gb_changes.specs.Written.{with_side, IsSide}
 use Rattle.gb_typing.specs.Context.{Context, Frame, frame_of, reframed}
 use Rattle.gb_typing.specs.Typing.{IsForm}
@@ -54,10 +54,10 @@ use Rattle.gb_typing.proofs.InMemory.{test_typed as form_typed, located_value}
 use Rattle.gb_typing.proofs.Runs.{run_cut, denominator_cut}
 use Rattle.gb_prog.specs.Straight.{IsStraight, RowIsStraight, AreStraight, ended, after}
 use Rattle.gb_prog.proofs.Straight.{ended_then, straight_run, straight_denominator}
-use Rattle.gb_bodies.specs.Assigned.{assigned_form, clashing}
-use Rattle.gb_bodies.specs.OneBody.{OneBody}
+use Rattle.gb_parts.specs.Assigned.{assigned_form, clashing}
+use Rattle.gb_parts.specs.OneBody.{OneBody}
 use Rattle.gb_bodies.specs.Wp.{is_straight, row_is_straight, are_straight, by_test, unless_clash, before, before_row, before_all, with_front, staying, front, ending, wp_row}
-use Rattle.gb_bodies.proofs.AssignedForms.{assigned_typed, assigned_meaning, put_read, put_twice}
+use Rattle.gb_parts.proofs.AssignedForms.{assigned_typed, assigned_meaning, put_read, put_twice}
 use mathlib.Core.Former.{Count}
 
 -- what is given after a step is given by the step and what follows

@@ -3,12 +3,9 @@ use Rattle.std.specs.Prelude.{◌≡◌, List, [], ◌∷◌, ◌++◌, Option, 
 use Rattle.gb_core.specs.declared.refusal.Why.TheVariants.{Shape}
 use Rattle.gb_core.specs.declared.ty.Ty.TheVariants as ty
 use Rattle.gb_terms.specs.declared.decl.TypedName.{TypedName}
-use Rattle.gb_terms.specs.declared.op.Op.TheVariants.{Iff}
 use Rattle.gb_terms.specs.declared.op.Rel.{Rel}
-use Rattle.gb_terms.specs.declared.op.Rel.TheVariants.{AtMost, Equal, AtLeast}
 use Rattle.gb_terms.specs.declared.op.Side.TheVariants.{Own}
 use Rattle.gb_terms.specs.declared.term.Term.{Term}
-use Rattle.gb_terms.specs.Make.{applied}
 use Rattle.gb_meaning.specs.Written.{type_of}
 use Rattle.gb_steps.specs.declared.step.Weakened.{Weakened}
 use Rattle.gb_goal.specs.Answers.{Answer}
@@ -21,6 +18,7 @@ use Rattle.gb_typing.specs.Typing.{IsTyped, IsForm}
 use Rattle.gb_typing.specs.Forms.{every, every_pair, implies_form}
 use Rattle.gb_typing.specs.Goals.{frame_before, frame_after}
 use Rattle.gb_chance.specs.Compared.{compared}
+use Rattle.gb_parts.specs.Likely.{as_likely}
 
 -- what is said anew, or else what stood there
 abbrev pub or_old : Option Term → Term → Term
@@ -33,15 +31,6 @@ leads p q = ambient (every Own (implies_form p q))
 
 abbrev pub pair_leads : Term → Term → Goal
 pair_leads p q = ambient (every_pair (implies_form p q))
-
-abbrev pub iff_form : Term → Term → Term
-iff_form a b = applied Iff (a ∷ b ∷ []) ty.Bool
-
--- The old postcondition and the new one, so that the old one's probability stands so to a bound where the new one's does.
-abbrev pub as_likely : Rel → Term → Term → Term
-as_likely AtMost old new = implies_form old new
-as_likely AtLeast old new = implies_form new old
-as_likely Equal old new = iff_form old new
 
 -- a new bound stands so to the old one
 abbrev pub bound_goals : Rel → Option Term → Term → List Goal

@@ -1,11 +1,8 @@
 pub mod Case
 pub mod Conseq
 pub mod If
-pub mod Judged
-pub mod OneBody
 pub mod Proc
 pub mod Rows
 pub mod Seq
 pub mod Skip
-pub mod Assigned
 pub mod Wp

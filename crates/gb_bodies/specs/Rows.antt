@@ -6,7 +6,7 @@ use Rattle.gb_typing.specs.Context.{Context}
 use Rattle.gb_steps.specs.declared.step.BodyRule.{BodyRule}
 use Rattle.gb_steps.specs.declared.step.BodyRule.TheVariants as on_bodies
 use Rattle.gb_steps.specs.declared.step.Rule.{Rule}
-use Rattle.gb_steps.specs.declared.step.Rule.TheVariants.{OnBodies}
+use Rattle.gb_steps.specs.declared.step.Rule.TheVariants.{OnBodies, While}
 use Rattle.gb_goal.specs.Goal.{Goal}
 use Rattle.gb_goal.specs.Scope.{Declarations}
 use Rattle.gb_goal.specs.Rows.{Row, refusing}
@@ -34,9 +34,10 @@ abbrev pub rule_row : Declarations → Rule → Row
 rule_row ds (OnBodies r) = body_row ds r
 rule_row ds r = λ G. refusing Shape
 
--- the arguments of a rule are typed
+-- the arguments of a rule are typed; what a loop keeps is said of the same locals as the form of `case`
 abbrev pub IsTypedRule : Context → Rule → List TypedName → List TypedName → Goal → Type 0
 IsTypedRule c (OnBodies (on_bodies.Seq k r)) = IsTypedCut c k r
 IsTypedRule c (OnBodies (on_bodies.Case f)) = IsTypedCase c f
 IsTypedRule c (OnBodies (on_bodies.Conseq w)) = IsTypedWeakened c w
+IsTypedRule c (While v) = IsTypedCase c v.kept
 IsTypedRule c r = no_arguments

@@ -16,8 +16,8 @@ use Rattle.gb_goal.specs.Goal.Code.{body}
 use Rattle.gb_goal.specs.Goal.Goal.{equiv}
 use Rattle.gb_goal.specs.Rows.{Row, refusing}
 use Rattle.gb_typing.specs.Forms.{and_form, implies_form, not_form, located}
-use Rattle.gb_bodies.specs.Assigned.{assigned_form, clashing}
-use Rattle.gb_bodies.specs.OneBody.{OneBody, one_body, on_one}
+use Rattle.gb_parts.specs.Assigned.{assigned_form, clashing}
+use Rattle.gb_parts.specs.OneBody.{OneBody, one_body, on_one}
 
 abbrev mutual
   -- an assignment to at most 8 variables, or a branch whose sides are made of such statements

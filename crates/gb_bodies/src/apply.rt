@@ -10,11 +10,11 @@ use crate::conseq::conseq;
 use crate::proc::proc;
 use crate::seq::seq;
 use crate::skip::skip;
-use crate::subgoals::{no_shape, placed};
 use crate::wp::wp;
 use gb_core::refusal::Refused;
 use gb_goal::scope::Scope;
 use gb_goal::sequent::{Sequent, Sequents};
+use gb_parts::subgoals::{no_shape, placed};
 use gb_steps::step::{BodyRule, Rule, Step};
 use std::alloc::Global;
 

@@ -13,14 +13,14 @@ ghost use Rattle.gb_typing.specs.Context.{Context};
 ghost use Rattle.gb_typing.specs.Forms.{and_form, equal_form, every_pair, implies_form, located, not_form};
 ghost use Rattle.gb_typing.specs.Rules.{IsSoundRule, no_arguments};
 ghost use Rattle.gb_bodies.specs.If.{branch_seen, first_branch, if_both, if_row, of_both, of_one, where_false, where_true};
-ghost use Rattle.gb_bodies.specs.OneBody.{filled, side_of};
+ghost use Rattle.gb_parts.specs.OneBody.{filled, side_of};
 
-use crate::forms::{every_pair, located};
-use crate::one_body::{Around, OneBody, filled, one_body, side_of};
-use crate::subgoals::{no_shape, one_goal, two_goals};
 use gb_core::refusal::Refused;
 use gb_goal::goal::{Code, Goal, equiv, goal_of};
 use gb_goal::sequent::{Sequent, Sequents};
+use gb_parts::forms::{every_pair, located};
+use gb_parts::one_body::{Around, OneBody, filled, one_body, side_of};
+use gb_parts::subgoals::{no_shape, one_goal, two_goals};
 use gb_shared::SharedItems;
 use gb_steps::step::Acts;
 use gb_terms::make::{conjunction, equality, implication, negation};

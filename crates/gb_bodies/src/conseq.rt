@@ -9,18 +9,18 @@ ghost use Rattle.gb_steps.specs.declared.step.Weakened.{Weakened as Conditions};
 ghost use Rattle.gb_typing.specs.Context.{Context};
 ghost use Rattle.gb_typing.specs.Forms.{every as in_every};
 ghost use Rattle.gb_typing.specs.Rules.{IsSoundRule};
-ghost use Rattle.gb_bodies.specs.Conseq.{as_likely, bound_goals, conseq_row, leads, of_chance, of_one, of_two, or_old, pair_leads, IsTypedWeakened};
-ghost use Rattle.gb_bodies.specs.Judged.{goal_judged};
+ghost use Rattle.gb_bodies.specs.Conseq.{bound_goals, conseq_row, leads, of_chance, of_one, of_two, or_old, pair_leads, IsTypedWeakened};
+ghost use Rattle.gb_parts.specs.Likely.{as_likely};
+ghost use Rattle.gb_parts.specs.Judged.{goal_judged};
 
-use crate::forms::{every, every_pair, implied};
-use crate::judged::{Judged, equiv_of, hoare_of, judgment, phoare_of};
-use crate::subgoals::{no_shape, one_goal, two_goals};
 use gb_chance::compared::compared;
 use gb_core::refusal::Refused;
 use gb_goal::sequent::{Sequent, Sequents};
+use gb_parts::forms::{every, every_pair, implied, likely};
+use gb_parts::judged::{Judged, equiv_of, hoare_of, judgment, phoare_of};
+use gb_parts::subgoals::{no_shape, one_goal, two_goals};
 use gb_steps::step::Weakened;
-use gb_terms::make::{binary, truth_ty};
-use gb_terms::op::{Op, Rel, Side};
+use gb_terms::op::{Rel, Side};
 use gb_terms::term::{Form, RealTerm, Subject, Term};
 use sqlite_items::Items;
 use std::alloc::{AllocError, Global};
@@ -60,22 +60,7 @@ fn pair_leads(alloc: Global, pre: &Form, post: &Form) -> Result<Form, AllocError
     every_pair(alloc, form)
 }
 
-/// The old postcondition and the new one, so that one is as likely as the relation to the bound asks.
-pub fn likely(alloc: Global, rel: Rel, old: &Form, new: &Form) -> Result<Form, AllocError>
-    ensures { IfOk result (λ made. made ≡ as_likely rel old.now new.now) }
-{
-    match rel {
-        Rel::AtMost => implied(alloc, old, new),
-        Rel::AtLeast => implied(alloc, new, old),
-        Rel::Equal => {
-            let ty = truth_ty(alloc)?;
-            let old = old.share()?;
-            binary(alloc, Op::Iff, old, new.share()?, ty)
-        }
-    }
-}
-
-/// The same in every memory.
+/// The old postcondition and the new one, so that one is as likely as the relation to the bound asks, in every memory.
 fn as_likely(alloc: Global, rel: Rel, old: &Form, new: &Form) -> Result<Form, AllocError>
     ensures { IfOk result (λ made. made ≡ form_of (ambient (in_every Side.Own (as_likely rel old.now new.now)))) }
 {

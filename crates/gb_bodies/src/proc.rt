@@ -17,14 +17,14 @@ ghost use Rattle.gb_typing.specs.Rules.{IsSoundRuleIn, no_arguments};
 ghost use Rattle.gb_typing.specs.Calls.{returned};
 ghost use Rattle.gb_bodies.specs.Proc.{of_result, proc_row};
 
-use crate::forms::located;
-use crate::subgoals::{no_shape, one_goal};
 use gb_core::name::Name;
 use gb_core::refusal::Refused;
 use gb_core::var::Var;
 use gb_goal::goal::{Code, Goal, equiv, goal_of, hoare, phoare};
 use gb_goal::scope::Scope;
 use gb_goal::sequent::{Sequent, Sequents};
+use gb_parts::forms::located;
+use gb_parts::subgoals::{no_shape, one_goal};
 use gb_terms::decl::Proc;
 use gb_terms::op::{Read, Rel, Side};
 use gb_terms::term::{Form, RealTerm};

@@ -13,10 +13,10 @@ ghost use Rattle.gb_typing.specs.Context.{Context};
 ghost use Rattle.gb_typing.specs.Rules.{IsSoundRule};
 ghost use Rattle.gb_bodies.specs.Seq.{seq_row, IsTypedCut};
 
-use crate::subgoals::{no_shape, refusal, shared_body, two_goals};
 use gb_core::refusal::{Refused, Why};
 use gb_goal::goal::{Code, Goal, equiv, goal_of, hoare};
 use gb_goal::sequent::{Sequent, Sequents};
+use gb_parts::subgoals::{no_shape, refusal, shared_body, two_goals};
 use gb_steps::step::Cut;
 use gb_terms::term::{Form, Instr};
 use std::alloc::{AllocError, Global};

@@ -7,12 +7,12 @@ ghost use Rattle.gb_goal.specs.Views.{goal_seen};
 ghost use Rattle.gb_typing.specs.Rules.{IsSoundRule, no_arguments};
 ghost use Rattle.gb_bodies.specs.Skip.{skip_row};
 
-use crate::forms::{every, every_pair, implied};
-use crate::subgoals::{no_shape, one_goal};
 use gb_chance::compared::certain_or_not;
 use gb_core::refusal::Refused;
 use gb_goal::goal::{Code, Goal, goal_of};
 use gb_goal::sequent::{Sequent, Sequents};
+use gb_parts::forms::{every, every_pair, implied};
+use gb_parts::subgoals::{no_shape, one_goal};
 use gb_terms::make::implication;
 use gb_terms::op::Side;
 use std::alloc::Global;

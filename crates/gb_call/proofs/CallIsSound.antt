@@ -66,12 +66,12 @@ use Rattle.gb_prog.specs.Calls.{called_from}
 use Rattle.gb_prog.specs.Writes.{DifferIn, TypedVariable, AreIn, variables}
 use Rattle.gb_call.specs.Call.{Callee, before_call, by_globals, chances_by_globals, chances_of_callee, in_front, call_goals, call_row, callee as callee_if, callee_of, left_of, of_callee, on_programs, outcome as outcome_of, unless_clash, IsContract, IsTypedContract}
 use Rattle.gb_chance.specs.Compared.{compared, zero}
-use Rattle.gb_chance.specs.Loss.{Loss, nowhere, sampled, called as lost_in_call, first_loss}
+use Rattle.gb_full.specs.Loss.{Loss, nowhere, sampled, called as lost_in_call, first_loss}
 use Rattle.gb_chance.proofs.Bound.{bound_value}
 use Rattle.gb_chance.proofs.Chances.{after_full, after_less}
 use Rattle.gb_chance.proofs.Comparing.{number_made, real_made, compared_typed, number_is, compared_is}
-use Rattle.gb_chance.proofs.Full.{total_full}
-use Rattle.gb_bodies.proofs.ConseqIsSound.{FollowsAt}
+use Rattle.gb_full.proofs.Full.{total_full}
+use Rattle.gb_parts.proofs.Likely.{FollowsAt}
 use Rattle.gb_phoare.specs.Rnd.{of_rest}
 use Rattle.gb_mods.specs.Written.{written}
 use Rattle.gb_call.specs.LastCall.{LastCall, last_call}
@@ -330,12 +330,12 @@ module _ (ds : Declarations) (scoped : IsTypedScope (declared ds)) (t : Sequent)
             let denominators = sym (ap (denominator g) z.shape ∙ denominator_append g k.before last_one) in
             subst (λ z. z) (λ i. compares l (chance (runs i) (denominators i) event) bound ≡ true) r
 
-        where_full : first_loss k.before ≡ nowhere → compares l (chance (run g v is m) (denominator g is) event) bound ≡ true
+        where_full : first_loss ds k.before ≡ nowhere → compares l (chance (run g v is m) (denominator g is) event) bound ≡ true
         where_full f =
             let z = ends in
-            whole (after_full (run g v k.before m) (λ n. run g v last_one n) event (denominator g k.before) (denominator g last_one) before_positive last_positive (total_full c g fits ls k.before z.rest f v m) l bound each)
+            whole (after_full (run g v k.before m) (λ n. run g v last_one n) event (denominator g k.before) (denominator g last_one) before_positive last_positive (total_full ds scoped t typed g fits over ls k.before z.rest f v m) l bound each)
 
-      full_imply : first_loss k.before ≡ nowhere → ImpliesIn (declared ds) c (first_goal ∷ second_goal ∷ []) goal
+      full_imply : first_loss ds k.before ≡ nowhere → ImpliesIn (declared ds) c (first_goal ∷ second_goal ∷ []) goal
       full_imply f g fits over j fair v fit h m x = where_full g fits over j fair v fit h.0 h.1.0 m x f
 
     -- where weight may be lost before the call, and the bound isn't below 0
@@ -359,7 +359,7 @@ module _ (ds : Declarations) (scoped : IsTypedScope (declared ds)) (t : Sequent)
           ((first_typed rs AtMost p b w, (second_typed rs AtMost p b w, (least_typed rs AtMost p b w, tt))), less_imply) i
 
     -- by what is lost before the call
-    chances_sound : (rs : List TypedName) (l : Rel) (p b : Term) (w : IsGoalOver c ls rs (phoare (body is) l p q b)) (Gs : List Goal) (u : Loss) → first_loss k.before ≡ u →
+    chances_sound : (rs : List TypedName) (l : Rel) (p b : Term) (w : IsGoalOver c ls rs (phoare (body is) l p q b)) (Gs : List Goal) (u : Loss) → first_loss ds k.before ≡ u →
         in_front (first_goal rs l p b w) (of_rest u l b (second_goal rs l p b w)) ≡ given Gs → AllByRecursion (IsTypedGoal c) Gs × ImpliesIn (declared ds) c Gs (phoare (body is) l p q b)
     chances_sound rs l p b w Gs nowhere f i =
         sound_given_in (declared ds) c (phoare (body is) l p q b) (first_goal rs l p b w ∷ second_goal rs l p b w ∷ []) Gs
@@ -412,17 +412,17 @@ module _ (ds : Declarations) (scoped : IsTypedScope (declared ds)) (t : Sequent)
       caller = record { call = k; declared = a; written = U }
 
       chances_left : (many : length k.targets < 9) → clash_after side.Own k.targets U s.post q ≡ None → (r : Option (List TypedVariable)) → with_types ds (left_of side.Own caller s q) ≡ r →
-          chances_by_globals caller s l p q b r ≡ given Gs → Chances
+          chances_by_globals ds caller s l p q b r ≡ given Gs → Chances
       chances_left many clear None z i = refused_given Shape Gs i
-      chances_left many clear (Some W) z i = chances_sound outer ls is q w.0 w.2 k last y a e U u many clear W z rs l p b w Gs (first_loss k.before) refl i
+      chances_left many clear (Some W) z i = chances_sound outer ls is q w.0 w.2 k last y a e U u many clear W z rs l p b w Gs (first_loss ds k.before) refl i
 
       chances_clash : (many : length k.targets < 9) → (r : Option Var) → clash_after side.Own k.targets U s.post q ≡ r →
-          unless_clash r (chances_by_globals caller s l p q b (with_types ds (left_of side.Own caller s q))) ≡ given Gs → Chances
+          unless_clash r (chances_by_globals ds caller s l p q b (with_types ds (left_of side.Own caller s q))) ≡ given Gs → Chances
       chances_clash many (Some x) clear i = refused_given (SideCondition x) Gs i
       chances_clash many None clear i = chances_left many clear (with_types ds (left_of side.Own caller s q)) refl i
 
       chances_many : (f : Bool) → nat_lt (length k.targets) 9 ≡ f →
-          (if f then unless_clash (clash_after side.Own k.targets U s.post q) (chances_by_globals caller s l p q b (with_types ds (left_of side.Own caller s q))) else refusing Shape) ≡ given Gs → Chances
+          (if f then unless_clash (clash_after side.Own k.targets U s.post q) (chances_by_globals ds caller s l p q b (with_types ds (left_of side.Own caller s q))) else refusing Shape) ≡ given Gs → Chances
       chances_many true h i = chances_clash (few k.targets h) (clash_after side.Own k.targets U s.post q) refl i
       chances_many false h i = refused_given Shape Gs i
 

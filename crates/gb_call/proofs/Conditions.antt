@@ -21,14 +21,14 @@ use Rattle.gb_typing.proofs.Both.{within_both}
 use Rattle.gb_typing.specs.Forms.{IsAlone}
 use Rattle.gb_typing.proofs.Spared.{Clear, spared_variables, spared_within}
 use Rattle.gb_prog.specs.Writes.{IsApart, IsOneOf, TypedVariable, variables}
-use Rattle.gb_bodies.specs.Assigned.{is_clashing}
-use Rattle.gb_bodies.proofs.AssignedForms.{EachAlone, NoClash, all_clear, fewer, in_both}
+use Rattle.gb_parts.specs.Assigned.{is_clashing}
+use Rattle.gb_parts.proofs.AssignedForms.{EachAlone, NoClash, all_clear, fewer, in_both}
 use Rattle.gb_call.specs.Outcomes.{clashing_after, is_among, is_clashing_after, is_left, is_read}
 use Rattle.gb_call.proofs.AfterMeans.{IsOneIn}
 
 -- lists of which none is found
 
-no_least : {P : Type 0} (x : Var) (ys : List Var) → least_from (Some x) ys ≡ None → P
+pub no_least : {P : Type 0} (x : Var) (ys : List Var) → least_from (Some x) ys ≡ None → P
 no_least x [] e = absurd (false≢true (sym (ap is_some e)))
 no_least x (y ∷ ys) e = no_least (if comes_before y x then y else x) ys e
 
@@ -36,10 +36,10 @@ pub nothing_least : (ys : List Var) → least ys ≡ None → ys ≡ []
 nothing_least [] e = refl
 nothing_least (y ∷ ys) e = no_least y ys e
 
-abbrev AllFalse : (Var → Bool) → List Var → Type 0
+abbrev pub AllFalse : (Var → Bool) → List Var → Type 0
 AllFalse P xs = AllByRecursion (λ x. P x ≡ false) xs
 
-nothing_filtered : (P : Var → Bool) (xs ys : List Var) → filter P xs ++ ys ≡ [] → AllFalse P xs × (ys ≡ [])
+pub nothing_filtered : (P : Var → Bool) (xs ys : List Var) → filter P xs ++ ys ≡ [] → AllFalse P xs × (ys ≡ [])
 nothing_filtered P [] ys e = (tt, e)
 nothing_filtered P (x ∷ xs) ys e = by_test (P x) refl (nothing_filtered P xs ys) e
   where
@@ -59,7 +59,7 @@ no_clash r f (x ∷ xs) h = (by_option (first_clash r x f) h.0, no_clash r f xs 
     by_option None e = refl
     by_option (Some y) e = absurd (false≢true (sym e))
 
-either_false : (a b : Bool) → (a || b) ≡ false → (a ≡ false) × (b ≡ false)
+pub either_false : (a b : Bool) → (a || b) ≡ false → (a ≡ false) × (b ≡ false)
 either_false true b e = absurd (false≢true (sym e))
 either_false false b e = (refl, e)
 
@@ -84,7 +84,7 @@ among_more : (z x : Var) (ys : List Var) → is_among ys x ≡ true → is_among
 among_more z x ys e = or_true (var_eq x z) (is_among ys x) e
 
 -- each element of a list is among it
-each_among : (P : Var → Type 0) (xs : List Var) → ((x : Var) → is_among xs x ≡ true → P x) → AllByRecursion P xs
+pub each_among : (P : Var → Type 0) (xs : List Var) → ((x : Var) → is_among xs x ≡ true → P x) → AllByRecursion P xs
 each_among P [] h = tt
 each_among P (x ∷ xs) h = (h x (among_itself x xs), each_among P xs (λ y e. h y (among_more x y xs e)))
 
@@ -106,7 +106,7 @@ one_in (x ∷ xs) y e = by_test (var_eq y x) refl e (one_in xs y)
     by_test true d e go = inl (sym ((var_eq-Decides y x).0 d))
     by_test false d e go = inr (go e)
 
-one_of : (W : List TypedVariable) (y : Var) → is_among (variables W) y ≡ true → IsOneOf y W
+pub one_of : (W : List TypedVariable) (y : Var) → is_among (variables W) y ≡ true → IsOneOf y W
 one_of [] y e = absurd (false≢true e)
 one_of (w ∷ W) y e = by_test (var_eq y w.variable) refl e (one_of W y)
   where
@@ -124,7 +124,7 @@ module _ (g : Setting) (P : Var → Bool) where
   all_alone [] h = tt
   all_alone (x ∷ xs) h = (h.0, all_alone xs h.1)
 
-  alone_filter : (Q : Var → Bool) (xs : List Var) → EachAlone g P xs → AllByRecursion (λ x. IsAlone g x P) (filter Q xs)
+  pub alone_filter : (Q : Var → Bool) (xs : List Var) → EachAlone g P xs → AllByRecursion (λ x. IsAlone g x P) (filter Q xs)
   alone_filter Q [] h = tt
   alone_filter Q (x ∷ xs) h = by_test (Q x) (alone_filter Q xs h.1)
     where
@@ -137,7 +137,7 @@ module _ (g : Setting) (P : Var → Bool) where
   alone_variables (w ∷ W) h = (h.0, alone_variables W h.1)
 
   -- one that isn't among them clashes with none of them
-  apart_from : (xs : List Var) (y : Var) → P y ≡ true → is_among xs y ≡ false → EachAlone g P xs → IsApart g xs y
+  pub apart_from : (xs : List Var) (y : Var) → P y ≡ true → is_among xs y ≡ false → EachAlone g P xs → IsApart g xs y
   apart_from [] y p n h = tt
   apart_from (x ∷ xs) y p n h =
       let z = either_false (var_eq y x) (is_among xs y) n in

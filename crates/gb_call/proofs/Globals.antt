@@ -40,6 +40,8 @@ stays ((k, entry.Operator o) ∷ ds) before c n d w x =
     let z = declaration_of (entry.Operator o) in stays ds (before ++ (k, z) ∷ []) (with_declared c k z) n (declared_more before (k, z) n d) w.2 x
 stays ((k, entry.AbstractOperator o) ∷ ds) before c n d w x =
     let z = declaration_of (entry.AbstractOperator o) in stays ds (before ++ (k, z) ∷ []) (with_declared c k z) n (declared_more before (k, z) n d) w.2 x
+stays ((k, entry.Terminating a) ∷ ds) before c n d w x =
+    let z = declaration_of (entry.Terminating a) in stays ds (before ++ (k, z) ∷ []) (with_declared c k z) n (declared_more before (k, z) n d) w.2 x
 
 -- a declared module stands with its globals
 record Stands (d : Context) (n : Name) (m : Module) : Type 0 where
@@ -67,7 +69,7 @@ stands ((k, d) ∷ ds) before c w n m e = step (bytes_eq n k) refl (stands ds (b
     step true i f h = here i d w (same_some d (entry.Module m) h)
     step false i f h = f h
 
-finite_there : (ls : List TypedName) → HaveVariableTypes ls → (x : Name) (t : Ty) → local_type ls x ≡ Some t → IsFinite t
+pub finite_there : (ls : List TypedName) → HaveVariableTypes ls → (x : Name) (t : Ty) → local_type ls x ≡ Some t → IsFinite t
 finite_there [] h x t e = none_some t e
 finite_there (l ∷ ls) h x t e = step (bytes_eq x l.name) (finite_there ls h.1 x t) e
   where
@@ -76,7 +78,7 @@ finite_there (l ∷ ls) h x t e = step (bytes_eq x l.name) (finite_there ls h.1 
     step false rest e = rest e
 
 -- abstract modules leave globals
-globals_left : (c : Context) (bs : List Bind) → (with_modules c bs).global ≡ c.global
+pub globals_left : (c : Context) (bs : List Bind) → (with_modules c bs).global ≡ c.global
 globals_left c [] = refl
 globals_left c (b ∷ bs) = globals_left (with_module c b) bs
 

@@ -34,7 +34,7 @@ use mathlib.Core.Former.{Count}
 
 -- what is spared by several lists of variables
 module _ (t : Types) (k : Key) where
-  spares_append : (xs ys : List Var) → Spares t (xs ++ ys) k → Spares t xs k × Spares t ys k
+  pub spares_append : (xs ys : List Var) → Spares t (xs ++ ys) k → Spares t xs k × Spares t ys k
   spares_append [] ys h = (tt, h)
   spares_append (x ∷ xs) ys h = let z = spares_append xs ys h.1 in ((h.0, z.0), z.1)
 
@@ -48,7 +48,7 @@ module _ (t : Types) (k : Key) where
       by_order false true e go h = (subst (λ z. IsNone k (keys_of t z)) (sym ((var_eq-Decides x y).0 e)) h.0, h)
       by_order false false e go h = let z = go h.1 in (z.0, (h.0, z.1))
 
-  spares_joined : (xs ys : List Var) → Spares t (joined xs ys) k → Spares t xs k × Spares t ys k
+  pub spares_joined : (xs ys : List Var) → Spares t (joined xs ys) k → Spares t xs k × Spares t ys k
   spares_joined [] ys h = (tt, h)
   spares_joined (x ∷ xs) ys h = let z = spares_placed x (joined xs ys) h in let w = spares_joined xs ys z.1 in ((z.0, w.0), w.1)
 
@@ -192,18 +192,22 @@ module _ (g : Setting) (x : Path) where
         routine_good : (r : Routine) → IsGood S r
         routine_good (routine ps ls c v) = from_body (routine ps ls c v) (all_good c)
 
-    -- a procedure leaves what isn't found to be written
-    pub procedure_left : (p : ProcRef) (U : List Var) → written ds p ≡ Some U → Unnamed U → (r : Routine) → g.procedure p ≡ Some r → UnwrittenBy g r k
-    unfolding written
-    procedure_left p U e s r c = by_reach (all_reached ds (p ∷ [])) refl e
+    -- procedures, and what they call, leave what isn't found to be written
+    pub reached_left : (ps : List ProcRef) (U : List Var) → written_if ds (all_reached ds ps) ≡ Some U → Unnamed U → (p : ProcRef) → IsIn ps p → (r : Routine) → g.procedure p ≡ Some r → UnwrittenBy g r k
+    reached_left ps U e s p i r c = by_reach (all_reached ds ps) refl e
       where
-        by_written : (S : List ProcRef) → all_reached ds (p ∷ []) ≡ Some S → (o : Option (List Var)) → written_by ds S ≡ o → option_map (λ xs. joined xs []) o ≡ Some U → UnwrittenBy g r k
+        by_written : (S : List ProcRef) → all_reached ds ps ≡ Some S → (o : Option (List Var)) → written_by ds S ≡ o → option_map (λ xs. joined xs []) o ≡ Some U → UnwrittenBy g r k
         by_written S d None f e = absurd (none-some U e)
         by_written S d (Some xs) f e =
-            let reach = all_closed ds (p ∷ []) S d in
+            let reach = all_closed ds ps S d in
             let spared : Unnamed xs = (spares_joined g.types k xs [] (subst Unnamed (sym (same_Some (joined xs []) U e)) s)).0 in
-            routine_good S reach.closed (λ q i. written_each g.types k ds S xs f spared q i) r p (reach.there p (inl refl)) c
+            routine_good S reach.closed (λ q i. written_each g.types k ds S xs f spared q i) r p (reach.there p i) c
 
-        by_reach : (o : Option (List ProcRef)) → all_reached ds (p ∷ []) ≡ o → written_if ds o ≡ Some U → UnwrittenBy g r k
+        by_reach : (o : Option (List ProcRef)) → all_reached ds ps ≡ o → written_if ds o ≡ Some U → UnwrittenBy g r k
         by_reach None d e = absurd (none-some U e)
         by_reach (Some S) d e = by_written S d (written_by ds S) refl e
+
+    -- a procedure leaves what it isn't found to write
+    pub procedure_left : (p : ProcRef) (U : List Var) → written ds p ≡ Some U → Unnamed U → (r : Routine) → g.procedure p ≡ Some r → UnwrittenBy g r k
+    unfolding written
+    procedure_left p U e s r c = reached_left (p ∷ []) U e s p (inl refl) r c

@@ -24,7 +24,7 @@ use Rattle.gb_typing.specs.Context as context
 use Rattle.gb_typing.specs.Typing.{IsForm, before, after}
 use Rattle.gb_typing.specs.Forms.{and_form}
 use Rattle.gb_prog.specs.Writes.{TypedVariable}
-use Rattle.gb_chance.specs.Loss.{first_loss}
+use Rattle.gb_full.specs.Loss.{first_loss}
 use Rattle.gb_phoare.specs.Rnd.{of_rest}
 use Rattle.gb_call.specs.LastCall.{LastCall, call_seen, last_call}
 use Rattle.gb_call.specs.Outcomes.{Outcome, of_arguments, after_call, is_left, clash_after}
@@ -65,20 +65,20 @@ abbrev pub in_front : Goal → Answer (List Goal) → Answer (List Goal)
 in_front G (given Gs) = given (G ∷ Gs)
 in_front G (refused why place) = refused why place
 
--- The same of a probability: wherever the rest ends, the call makes the event as likely as the relation asks. The rest may lose weight only
--- where a probability that is less still stands so to the bound.
-abbrev pub chance_goals : Callee → List TypedVariable → Contract → Rel → Term → Term → Term → Answer (List Goal)
-chance_goals k W s r p q b =
+-- The same of a probability: wherever the rest ends, the call makes the event as likely as the relation asks. The rest, and what it calls, may lose weight
+-- only where a probability that is less still stands so to the bound.
+abbrev pub chance_goals : Declarations → Callee → List TypedVariable → Contract → Rel → Term → Term → Term → Answer (List Goal)
+chance_goals ds k W s r p q b =
     in_front (phoare (procedure k.call.procedure) r s.pre s.post b)
-    (of_rest (first_loss k.call.before) r b (hoare (body k.call.before) p (before_call r Own k W s q)))
+    (of_rest (first_loss ds k.call.before) r b (hoare (body k.call.before) p (before_call r Own k W s q)))
 
 abbrev pub by_globals : Callee → Contract → Term → Term → Option (List TypedVariable) → Answer (List Goal)
 by_globals k s p q None = refusing Shape
 by_globals k s p q (Some W) = given (call_goals k W s p q)
 
-abbrev pub chances_by_globals : Callee → Contract → Rel → Term → Term → Term → Option (List TypedVariable) → Answer (List Goal)
-chances_by_globals k s r p q b None = refusing Shape
-chances_by_globals k s r p q b (Some W) = chance_goals k W s r p q b
+abbrev pub chances_by_globals : Declarations → Callee → Contract → Rel → Term → Term → Term → Option (List TypedVariable) → Answer (List Goal)
+chances_by_globals ds k s r p q b None = refusing Shape
+chances_by_globals ds k s r p q b (Some W) = chance_goals ds k W s r p q b
 
 abbrev pub unless_clash : Option Var → Answer (List Goal) → Answer (List Goal)
 unless_clash (Some x) a = refusing (SideCondition x)
@@ -98,7 +98,7 @@ by_callee ds s p q k =
 
 abbrev pub chances_by_callee : Declarations → Contract → Rel → Term → Term → Term → Callee → Answer (List Goal)
 chances_by_callee ds s r p q b k =
-    if_few k.call.targets (unless_clash (clash_after Own k.call.targets k.written s.post q) (chances_by_globals k s r p q b (with_types ds (left_of Own k s q))))
+    if_few k.call.targets (unless_clash (clash_after Own k.call.targets k.written s.post q) (chances_by_globals ds k s r p q b (with_types ds (left_of Own k s q))))
 
 abbrev pub callee : LastCall → Option Proc → Option (List Var) → Option Callee
 callee k (Some a) (Some xs) = Some (record { call = k; declared = a; written = xs })

@@ -19,8 +19,8 @@ use Rattle.gb_meaning.specs.Memory.{result_name}
 use Rattle.gb_typing.specs.Forms.{located}
 use Rattle.gb_prog.specs.AllValues.{in_memory, for_all, to_bound_values}
 use Rattle.gb_prog.specs.Writes.{TypedVariable}
-use Rattle.gb_bodies.specs.Assigned.{put_in, taken, is_clashing}
-use Rattle.gb_bodies.specs.Conseq.{as_likely}
+use Rattle.gb_parts.specs.Assigned.{put_in, taken, is_clashing}
+use Rattle.gb_parts.specs.Likely.{as_likely}
 use Rattle.gb_call.specs.Written.{global_seen}
 use Rattle.gb_call.specs.declared.outcomes.Outcome as seen
 use Rattle.gb_call.specs.declared.written.TypedGlobal.{TypedGlobal}

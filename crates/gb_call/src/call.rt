@@ -16,7 +16,7 @@ ghost use Rattle.gb_steps.specs.declared.step.Contract.{Contract as Said};
 ghost use Rattle.gb_typing.specs.Scopes.{context_of, IsTypedScope};
 ghost use Rattle.gb_typing.specs.Sequents.{of_sequent, IsTypedSequent};
 ghost use Rattle.gb_typing.specs.Rules.{IsSoundRuleIn};
-ghost use Rattle.gb_chance.specs.Loss.{first_loss};
+ghost use Rattle.gb_full.specs.Loss.{first_loss};
 ghost use Rattle.gb_phoare.specs.Rnd.{of_rest};
 ghost use Rattle.gb_call.specs.Call.{before_call, by_callee, call_goals, call_row, chance_goals, chances_by_callee, chances_of_callee, callee_of, callee_seen, known_seen, left_of, of_callee, on_programs, IsTypedContract};
 ghost use Rattle.gb_call.specs.LastCall.{call_seen, last_call};
@@ -27,16 +27,16 @@ use crate::last_call::{Last, last_call};
 use crate::outcomes::{Outcome, Reads, after_call, clashing_after, left_of, of_arguments};
 use crate::reads::variables_read;
 use crate::written::{TypedGlobal, TypedGlobals, with_types};
-use gb_bodies::judged::{hoare_of, phoare_of};
-use gb_bodies::subgoals::{no_shape, one_goal, refusal, shared_body, two_goals};
-use gb_chance::loss::first_loss;
 use gb_core::copy::copy_var;
 use gb_core::refusal::{Refused, Why};
 use gb_core::var::{Var, Vars};
+use gb_full::loss::first_loss;
 use gb_goal::goal::{Code, Goal, goal_of, hoare};
 use gb_goal::scope::Scope;
 use gb_goal::sequent::{Sequent, Sequents};
 use gb_mods::written::written;
+use gb_parts::judged::{hoare_of, phoare_of};
+use gb_parts::subgoals::{no_shape, one_goal, refusal, shared_body, two_goals};
 use gb_phoare::rnd::{Judged, of_rest};
 use gb_steps::step::{Acts, Contract};
 use gb_terms::decl::Proc;
@@ -234,6 +234,7 @@ fn does_as_likely(
 fn chances_left(
     alloc: Global,
     goal: &Sequent,
+    scope: &Scope,
     callee: &Callee<'_>,
     globals: &[TypedGlobal],
     reads: &Reads,
@@ -242,7 +243,7 @@ fn chances_left(
 ) -> Result<Sequents, Refused>
     requires said { reads.now.said ≡ variables_read Side.Own contract.now.post }
     requires later { reads.now.after ≡ variables_read Side.Own judged.now.post.now }
-    ensures { Answers (each_concluding goal.now (of_rest (first_loss (callee_seen callee.now).call.before) judged.now.rel judged.now.bound.now
+    ensures { Answers (each_concluding goal.now (of_rest (first_loss scope.now (callee_seen callee.now).call.before) judged.now.rel judged.now.bound.now
         (hoare (body (callee_seen callee.now).call.before) judged.now.pre.now
         (before_call judged.now.rel Side.Own (callee_seen callee.now) (globals_seen globals.now) contract.now judged.now.post.now)))) result }
 {
@@ -256,7 +257,7 @@ fn chances_left(
         judged.post,
     )?;
     let conclusion = leads(alloc, callee, judged.pre, before)?;
-    let lost = first_loss(callee.call.before);
+    let lost = first_loss(alloc, scope, callee.call.before)?;
     of_rest(alloc, goal, lost, judged, conclusion)
 }
 
@@ -278,6 +279,7 @@ fn in_front(
 fn chance_goals(
     alloc: Global,
     goal: &Sequent,
+    scope: &Scope,
     callee: &Callee<'_>,
     globals: &[TypedGlobal],
     reads: &Reads,
@@ -286,9 +288,9 @@ fn chance_goals(
 ) -> Result<Sequents, Refused>
     requires said { reads.now.said ≡ variables_read Side.Own contract.now.post }
     requires later { reads.now.after ≡ variables_read Side.Own judged.now.post.now }
-    ensures { Answers (each_concluding goal.now (chance_goals (callee_seen callee.now) (globals_seen globals.now) contract.now judged.now.rel judged.now.pre.now judged.now.post.now judged.now.bound.now)) result }
+    ensures { Answers (each_concluding goal.now (chance_goals scope.now (callee_seen callee.now) (globals_seen globals.now) contract.now judged.now.rel judged.now.pre.now judged.now.post.now judged.now.bound.now)) result }
 {
-    let others = chances_left(alloc, goal, callee, globals, reads, contract, judged)?;
+    let others = chances_left(alloc, goal, scope, callee, globals, reads, contract, judged)?;
     let first = does_as_likely(alloc, callee, contract, judged)?;
     Ok(in_front(alloc, goal, first, others)?)
 }
@@ -320,7 +322,9 @@ fn chances_by_callee(
         return Err(no_shape());
     };
     let globals = globals.as_slice();
-    chance_goals(alloc, goal, callee, globals, &reads, contract, judged)
+    chance_goals(
+        alloc, goal, scope, callee, globals, &reads, contract, judged,
+    )
 }
 
 /// A call that ends a body, its procedure, and the globals that it is known to write.

@@ -32,7 +32,7 @@ fn with_head(
 }
 
 /// How many of `count` arguments of a head, the first ones, see a memory as the head does.
-fn outside(head: &Head, side: &Side, count: usize) -> usize
+pub fn outside(head: &Head, side: &Side, count: usize) -> usize
     ensures many { result ≡ outside head.now side.now count }
     ensures within { result ≤ count }
 {

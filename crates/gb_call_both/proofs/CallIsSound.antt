@@ -1,33 +1,31 @@
 -- `call` on two bodies is sound, and so it is on one.
-use Rattle.std.proofs.Common.{◌≡◌, ◌<◌, ◌⊎◌, inl, inr, Bool, true, false, ◌&&◌, if◌then◌else◌, List, [], ◌∷◌, ◌++◌, length, map, Option, Some, None, refl, ap, sym, ◌∙◌, subst, nat_lt}
-use Rattle.std.proofs.lemmas.Bool.{false≢true, and_parts, or_parts}
+use Rattle.std.proofs.Common.{◌≡◌, ◌<◌, Bool, true, false, ◌&&◌, if◌then◌else◌, List, [], ◌∷◌, ◌++◌, length, Option, Some, None, refl, sym, ◌∙◌, subst, nat_lt}
+use Rattle.std.proofs.lemmas.Bool.{and_parts, or_parts}
 use Rattle.std.specs.List.{AllByRecursion, list_any}
 use Rattle.gb_core.specs.declared.refusal.Why.TheVariants.{Shape, SideCondition}
 use Rattle.gb_core.specs.declared.ty.Ty.{Ty}
 use Rattle.gb_core.specs.declared.value.Value.{Value}
 use Rattle.gb_core.specs.declared.var.Var.{Var}
 use Rattle.gb_core.specs.declared.var.Var.TheVariants as var
-use Rattle.gb_coupling.specs.WeightedList.{WeightedList, On, Every, dmap}
+use Rattle.gb_coupling.specs.WeightedList.{WeightedList, On}
 use Rattle.gb_coupling.specs.Coupling.{Coupling}
 use Rattle.gb_coupling.proofs.Basic.{coupling_dmap}
 use Rattle.gb_coupling.proofs.Entries.{On_of_Every}
 use Rattle.gb_coupling.proofs.Facts.{coupling_facts}
 use Rattle.gb_terms.specs.declared.decl.Proc.{Proc}
 use Rattle.gb_terms.specs.declared.decl.TypedName.{TypedName}
-use Rattle.gb_terms.specs.declared.module.ProcRef.{ProcRef}
 use Rattle.gb_terms.specs.declared.op.Side.{Side}
 use Rattle.gb_terms.specs.declared.op.Side.TheVariants as side
 use Rattle.gb_terms.specs.declared.term.Instr.{Instr}
 use Rattle.gb_terms.specs.declared.term.Term.{Term}
 use Rattle.gb_terms.specs.Equal.{var_eq}
 use Rattle.gb_walk.specs.Clash.{variables_read}
-use Rattle.gb_meaning.specs.Judgments.{Judge, IsFair, IsTrueUnder, den, from_frame, outcome_denominator}
-use Rattle.gb_meaning.specs.Memory.{Memory, read, result_in, result_name}
+use Rattle.gb_meaning.specs.Judgments.{Judge, IsFair, IsTrueUnder, outcome_denominator}
+use Rattle.gb_meaning.specs.Memory.{Memory, result_in, result_name}
 use Rattle.gb_meaning.specs.Program.{Routine}
 use Rattle.gb_meaning.specs.Runs.{outcomes, returned, routine_denominator}
 use Rattle.gb_meaning.specs.Setting.{Setting}
 use Rattle.gb_meaning.specs.State.{State, between}
-use Rattle.gb_meaning.specs.Values.{has}
 use Rattle.gb_laws.proofs.Runs.{routine_entries, routine_positive}
 use Rattle.gb_judge.proofs.Fair.{memory_discrete}
 use Rattle.gb_changes.specs.Uses.{Uses, IsWithin}
@@ -46,13 +44,12 @@ use Rattle.gb_steps.specs.declared.step.Acts.{Acts}
 use Rattle.gb_steps.specs.declared.step.Acts.TheVariants as on
 use Rattle.gb_steps.specs.declared.step.Contract.{Contract}
 use Rattle.gb_typing.specs.Context.{Context, erased, reframed, with_sides}
-use Rattle.gb_typing.specs.Context as context
 use Rattle.gb_typing.specs.Fits.{IsSettingOf, IsStateOf}
 use Rattle.gb_typing.specs.Programs.{IsCall, type_of_procedure}
 use Rattle.gb_typing.specs.Puts.{Readable, reading}
 use Rattle.gb_typing.specs.Scopes.{context_of, IsTypedScope}
 use Rattle.gb_typing.specs.Sequents.{of_sequent, IsTypedSequent}
-use Rattle.gb_typing.specs.Typing.{before, after, IsForm, IsThere}
+use Rattle.gb_typing.specs.Typing.{before, after, IsForm}
 use Rattle.gb_typing.specs.Goals.{IsGoalOver, IsTypedGoal}
 use Rattle.gb_typing.specs.Meaning.{Stands, denominator, run}
 use Rattle.gb_typing.specs.Forms.{IsAlone}
@@ -60,26 +57,24 @@ use Rattle.gb_typing.specs.Rules.{IsSettingOver, IsSoundIn, IsSoundRuleIn, Impli
 use Rattle.gb_typing.proofs.Both.{within_both}
 use Rattle.gb_typing.proofs.Forms.{and_typed, and_use}
 use Rattle.gb_typing.proofs.Given.{refused_given, sound_given_in}
-use Rattle.gb_typing.proofs.Located.{IsTypedThere}
 use Rattle.gb_typing.proofs.Spared.{Clear}
-use Rattle.gb_prog.specs.AllValues.{Located, in_memory, AreAlone}
+use Rattle.gb_prog.specs.AllValues.{in_memory, AreAlone}
 use Rattle.gb_prog.specs.Calls.{called_from}
-use Rattle.gb_prog.specs.Writes.{DifferIn, IsApart, IsOneOf, TypedVariable, AreIn, variables}
+use Rattle.gb_prog.specs.Writes.{DifferIn, TypedVariable, AreIn, variables}
 use Rattle.gb_prog.proofs.Couplings.{runs_sequence}
-use Rattle.gb_bodies.proofs.AssignedForms.{in_both}
+use Rattle.gb_parts.proofs.AssignedForms.{in_both}
 use Rattle.gb_call.specs.Call.{Callee, callee as callee_if, callee_of, if_few, left_of, outcome as outcome_of, unless_clash}
 use Rattle.gb_mods.specs.Written.{written}
 use Rattle.gb_call.specs.LastCall.{LastCall, last_call}
 use Rattle.gb_call.specs.Outcomes.{Outcome, clashing_after, is_among, is_read, reads_result}
 use Rattle.gb_call.specs.Written.{with_types}
-use Rattle.gb_call.proofs.AfterMeans.{IsOneIn}
 use Rattle.gb_call.proofs.CallIsSound as one
 use Rattle.gb_call.proofs.Callees as callees
 use Rattle.gb_call.proofs.Callees.{IsResult, alone_local, few, there, typed_with}
 use Rattle.gb_call.proofs.Conditions.{IsSpared, nothing_least, after_spared, said_spared, globals_alone, left_alone, said_alone, said_read, unread_after, unread_said, with_result, without_result}
 use Rattle.gb_call.proofs.LastCalls.{IsCalled}
-use Rattle.gb_call_both.specs.BothOutcomes.{after_both, after_both_where, bound_of_both, globals_of, of_both_arguments}
-use Rattle.gb_call_both.specs.Call.{before_both, both_goals, by_both_globals, call_row, clash_after_both, of_callees, on_programs, on_two, AreContracts, IsTypedContract}
+use Rattle.gb_call_both.specs.BothOutcomes.{after_both, bound_of_both, of_both_arguments}
+use Rattle.gb_call_both.specs.Call.{before_both, both_goals, by_both_globals, call_row, clash_after_both, of_callees, on_two, AreContracts, IsTypedContract}
 use Rattle.gb_call_both.proofs.AfterBoth.{Covers, after_both_means, after_typed, hidden}
 use Rattle.gb_call_both.proofs.ArgumentsOfBoth.{arguments_typed, arguments_meaning}
 

@@ -5,10 +5,10 @@ ghost use Rattle.gb_goal.specs.Rows.{answered, stepped};
 ghost use Rattle.gb_call_both.specs.Rows.{rule_row};
 
 use crate::call::call;
-use gb_bodies::subgoals::{no_shape, placed};
 use gb_core::refusal::Refused;
 use gb_goal::scope::Scope;
 use gb_goal::sequent::{Sequent, Sequents};
+use gb_parts::subgoals::{no_shape, placed};
 use gb_steps::step::{Rule, Step};
 use std::alloc::Global;
 

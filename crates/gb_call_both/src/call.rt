@@ -23,8 +23,6 @@ ghost use Rattle.gb_call.specs.Written.{with_types};
 ghost use Rattle.gb_call_both.specs.Call.{before_both, both_goals, by_both_globals, by_callees, call_row, clash_after_both, of_callees, on_programs, on_two, IsTypedContract};
 
 use crate::both::{Passed, after_both, of_both_arguments};
-use gb_bodies::judged::equiv_of;
-use gb_bodies::subgoals::{no_shape, refusal, shared_body, two_goals};
 use gb_call::call::{
     Callee, MANY, called as called_on_one, callee_of, globals_left, known_call, reads_of,
 };
@@ -37,6 +35,8 @@ use gb_core::var::Var;
 use gb_goal::goal::{Code, Goal, equiv, goal_of};
 use gb_goal::scope::Scope;
 use gb_goal::sequent::{Sequent, Sequents};
+use gb_parts::judged::equiv_of;
+use gb_parts::subgoals::{no_shape, refusal, shared_body, two_goals};
 use gb_steps::step::{Acts, Contract};
 use gb_terms::make::conjunction;
 use gb_terms::op::Side;

@@ -21,7 +21,7 @@ use Rattle.gb_meaning.specs.Judgments.{Judge, speaking, den, compares}
 use Rattle.gb_meaning.specs.Written.{type_of}
 use Rattle.gb_changes.proofs.Trees.{out_is}
 use Rattle.gb_laws.proofs.Nodes.{val_node}
-use Rattle.gb_judge.proofs.Truths.{truth_of}
+use Rattle.gb_laws.proofs.Truths.{truth_of}
 use Rattle.gb_typing.specs.Context.{Context}
 use Rattle.gb_typing.specs.Typing.{IsTyped, IsForm}
 use Rattle.gb_typing.specs.Changes.{Made}

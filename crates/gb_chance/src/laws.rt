@@ -1,27 +1,12 @@
 //! What comparisons of probabilities say.
 
-ghost use Rattle.std.specs.Prelude.{◌≡◌, ◌<◌, ◌≤◌, ◌*◌, ℕ, Bool, true, false, pos, List};
-ghost use Rattle.gb_terms.specs.declared.decl.TypedName.{TypedName};
+ghost use Rattle.std.specs.Prelude.{◌≡◌, ◌<◌, ◌≤◌, ◌*◌, ℕ, Bool, true, pos};
 ghost use Rattle.gb_terms.specs.declared.op.Rel.{Rel};
 ghost use Rattle.gb_terms.specs.declared.op.Rel.TheVariants.{AtMost};
-ghost use Rattle.gb_terms.specs.declared.term.Instr.{Instr};
 ghost use Rattle.gb_coupling.specs.WeightedList.{WeightedList, total, bind, Every};
 ghost use Rattle.gb_meaning.specs.Fractions.{Fraction};
 ghost use Rattle.gb_meaning.specs.Memory.{Memory};
-ghost use Rattle.gb_meaning.specs.Setting.{Setting};
-ghost use Rattle.gb_meaning.specs.State.{State};
 ghost use Rattle.gb_meaning.specs.Judgments.{compares, chance};
-ghost use Rattle.gb_typing.specs.Context.{Context};
-ghost use Rattle.gb_typing.specs.Fits.{IsSettingOf};
-ghost use Rattle.gb_typing.specs.Programs.{IsBody};
-ghost use Rattle.gb_typing.specs.Meaning.{run, denominator};
-ghost use Rattle.gb_chance.specs.Loss.{nowhere, first_loss};
-
-/// The run of a body that loses no weight has the whole weight.
-pub fn full_bodies()
-    ensures { (c : Context) (g : Setting) → IsSettingOf c g → (ls : List TypedName) (is : List Instr) → IsBody c ls is → first_loss is ≡ nowhere →
-        (s : State) (m : Memory) → total (run g s is m) ≡ denominator g is }
-{}
 
 /// Where the chance of an event stands so to a bound from wherever a first part ends, it does so after both parts: in each relation where
 /// the first part has the whole weight, and at most, where it has less, for a bound that isn't below 0.

@@ -1,6 +1,5 @@
-//! Comparisons of probabilities as forms, and where programs may lose weight.
+//! Comparisons of probabilities as forms.
 #![tactic(auto)]
 
 pub mod compared;
 pub mod laws;
-pub mod loss;

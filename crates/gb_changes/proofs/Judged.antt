@@ -20,7 +20,7 @@ use Rattle.gb_meaning.specs.State.Binding.{memory}
 use Rattle.gb_meaning.specs.Terms.{Part, no_part, parts, part_of}
 use Rattle.gb_meaning.specs.Judgments.{Judge, IsFair, speaking, part, run_of, subject_denominator, chance, compares, Holds, HoareStands, PhoareStands, EquivStands, stands_at, is_judged_at, is_sound_at, IsSoundSubject}
 use Rattle.gb_laws.proofs.Nodes.{stands_node, judged_node}
-use Rattle.gb_judge.proofs.Bools.{same_truth}
+use Rattle.gb_laws.proofs.Bools.{same_truth}
 use Rattle.gb_changes.specs.Formed.{AreThree, HasArguments}
 use Rattle.gb_changes.proofs.Heads.{Moved, last_moved, Under, At, Between, Here, Related, Answers, with_subjects}
 use Rattle.sqlite_items.specs.formers.items.Items.{the_former}

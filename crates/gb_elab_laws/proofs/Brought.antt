@@ -18,6 +18,7 @@ use Rattle.gb_steps.specs.declared.step.Acts.{Acts}
 use Rattle.gb_steps.specs.declared.step.Acts.TheVariants as on
 use Rattle.gb_steps.specs.declared.step.AmbientRule.{AmbientRule}
 use Rattle.gb_steps.specs.declared.step.AmbientRule.TheVariants as conclusion
+use Rattle.gb_steps.specs.declared.step.RelationalRule.TheVariants as relational_rule
 use Rattle.gb_steps.specs.declared.step.Rule.{Rule}
 use Rattle.gb_steps.specs.declared.step.Rule.TheVariants as rule
 use Rattle.gb_steps.specs.declared.step.BodyRule.TheVariants as on_bodies
@@ -45,13 +46,16 @@ use Rattle.gb_typing.specs.Sequents.{IsConclusion, of_sequent, IsTypedSequent}
 use Rattle.gb_typing.specs.Scopes.{context_of, IsTypedScope}
 use Rattle.gb_names.specs.Environment.{ambient}
 use Rattle.gb_elab.specs.Forms.{elaborated}
-use Rattle.gb_elab_mod.specs.Steps.{asked_of, acts, coupling_rule, couplings, cut_of, functions_of, conclusion_rule, conseq_rule, formed, case_of_bodies, case_of_conclusion, of_bodies_rule, on_all, plain_rule, seq_rule, sided_case_rule, typed_rule, step_given, chance_rule, judges_chance, symmetry_rule, asks_for_locals, memory_witness, value_witness, witness_rule}
-use Rattle.gb_elab_mod.specs.Multiples.{hypothesis_at, multiples}
+use Rattle.gb_elab_mod.specs.Steps.{asked_of, acts, coupling_rule, couplings, drawing_rule, cut_of, functions_of, conclusion_rule, conseq_rule, formed, case_of_bodies, case_of_conclusion, of_bodies_rule, on_all, plain_rule, seq_rule, sided_case_rule, typed_rule, step_given, chance_rule, judges_chance, symmetry_rule, asks_for_locals, memory_witness, value_witness, witness_rule}
+use Rattle.gb_elab_mod.specs.Multiples.{hypothesis_at, multiples, position}
 use Rattle.gb_elab_mod.specs.Uses.{all_hinted, defined_operator, hypothesis, used, is_memory, memory_of}
 use Rattle.gb_elab_mod.specs.Taken.{new_name}
 use Rattle.gb_elab_prog.specs.Unbuilt.{absent}
 use Rattle.gb_elab_laws.specs.Fitting.{IsFormTypeIf, IsWanted}
+use Rattle.gb_elab_laws.proofs.Betweens.{of_transitive}
 use Rattle.gb_elab_laws.proofs.Contracts.{of_call}
+use Rattle.gb_elab_laws.proofs.Transformings.{of_passing, of_placed}
+use Rattle.gb_elab_laws.proofs.Turning.{of_while}
 use Rattle.gb_elab_laws.proofs.Shapes.{finite_form}
 use Rattle.gb_elab_laws.proofs.Given.{given_bind, given_is, if_unbuilt}
 use Rattle.gb_elab_laws.proofs.Fits.{goal_fits}
@@ -89,6 +93,7 @@ module _ (ds : scope.Declarations) (scoped : IsTypedScope (declared ds)) (q : Se
   HasForms (rule.Use r) = AreStated ds → uses.IsTypedStep (declared ds) q here r
   HasForms (rule.Smt fs) = AreStated ds → AreKnown fs
   HasForms (rule.Rewrite r) = AreStated ds → AreKnown (told (rule.Rewrite r))
+  HasForms (rule.CallKnown a f) = AreStated ds → AreKnown (f ∷ [])
   HasForms _ = Unit {0}
 
   -- a step that brings this
@@ -106,6 +111,7 @@ module _ (ds : scope.Declarations) (scoped : IsTypedScope (declared ds)) (q : Se
   is_ambient (rule.Use r) = true
   is_ambient (rule.Smt fs) = true
   is_ambient (rule.Rewrite r) = true
+  is_ambient (rule.CallKnown a f) = true
   is_ambient _ = false
 
   without_forms : (j : Rule) → is_ambient j ≡ false → HasForms j
@@ -118,6 +124,9 @@ module _ (ds : scope.Declarations) (scoped : IsTypedScope (declared ds)) (q : Se
   without_forms (rule.Linear ms) n = tt
   without_forms (rule.Chance r) n = tt
   without_forms (rule.Call s) n = tt
+  without_forms (rule.CallKnown a f) n = absurd (false≢true (sym n))
+  without_forms (rule.While i) n = tt
+  without_forms (rule.Transform a t) n = tt
 
   other : (j k : Rule) → is_ambient j ≡ false → j ≡ k → HasForms k
   other j k n e = subst HasForms e (without_forms j n)
@@ -214,8 +223,8 @@ module _ (ds : scope.Declarations) (scoped : IsTypedScope (declared ds)) (q : Se
       witness_typed (out-Term q.conclusion).head e g.typed g.wanted
 
   -- what is said to exist is said of a memory of the context
-  memory_typed : (i : ℕ) → IsNamedMemory here (side.Memory i) → (h : Head) (ts : List Term) → (out-Term q.conclusion).head ≡ h → (out-Term q.conclusion).args ≡ ts → asks_for_locals h ts ≡ false →
-      IsMemoryWitness here i h ts
+  memory_typed : (i : ℕ) → IsNamedMemory here (side.Memory i) → (h : Head) (ts : List Term) → (out-Term q.conclusion).head ≡ h → (out-Term q.conclusion).args ≡ ts →
+      asks_for_locals q (side.Memory i) h ts ≡ false → IsMemoryWitness here i h ts
   memory_typed i m head.SomeMemory (b ∷ []) eh et e =
       let r = (out-Term q.conclusion).ty in
       let whole : q.conclusion ≡ node head.SomeMemory (b ∷ []) r = each_is_node q.conclusion ∙ (λ k. node (eh k) (et k) r) in
@@ -228,7 +237,7 @@ module _ (ds : scope.Declarations) (scoped : IsTypedScope (declared ds)) (q : Se
 
   of_memory : (s : Side) (p : Place) (a : AmbientRule) → IsNamed ds scoped q t s → memory_witness q s p ≡ given a → IsTypedStep here q.conclusion a
   of_memory s p a m k =
-      let z = if_unbuilt (asks_for_locals (out-Term q.conclusion).head (out-Term q.conclusion).args) p (conclusion.WitnessMemory m.number) a (subst (λ x. memory_witness q x p ≡ given a) m.is k) in
+      let z = if_unbuilt (asks_for_locals q (side.Memory m.number) (out-Term q.conclusion).head (out-Term q.conclusion).args) p (conclusion.WitnessMemory m.number) a (subst (λ x. memory_witness q x p ≡ given a) m.is k) in
       subst (IsTypedStep here q.conclusion) z.1 (memory_typed m.number (subst (IsNamedMemory here) m.is m.named) _ _ refl refl z.0)
 
   witness_brings : (n : Node) (a : AmbientRule) (b : Bool) →
@@ -240,20 +249,29 @@ module _ (ds : scope.Declarations) (scoped : IsTypedScope (declared ds)) (q : Se
       let o = given_bind (elaborated n (ambient ds q) [] (asked_of (out-Term q.conclusion).head)) (λ (u : Term). given (conclusion.Witness u)) a k in
       subst (IsTypedStep here q.conclusion) (given_is (conclusion.Witness o.0) a o.2) (of_witness n o.0 o.1)
 
+  of_drawing : (a : Acts) (fs : List Node) (k : Rule) → drawing_rule ds q a fs ≡ given k → HasForms k
+  unfolding drawing_rule
+  of_drawing on.All fs k h =
+      let y = given_bind (couplings ds q fs) (λ (us : List Term). given (coupling_rule with_chance fs us)) k h in
+      other (coupling_rule with_chance fs y.0) k (no_ambient with_chance fs y.0) (given_is (coupling_rule with_chance fs y.0) k y.2)
+  of_drawing on.Left [] k h = other (rule.Relational (relational_rule.Drawn on.Left)) k refl (given_is (rule.Relational (relational_rule.Drawn on.Left)) k h)
+  of_drawing on.Left (f ∷ fs) k h = other (rule.OnBodies on_bodies.Unfit) k refl (given_is (rule.OnBodies on_bodies.Unfit) k h)
+  of_drawing on.Right [] k h = other (rule.Relational (relational_rule.Drawn on.Right)) k refl (given_is (rule.Relational (relational_rule.Drawn on.Right)) k h)
+  of_drawing on.Right (f ∷ fs) k h = other (rule.OnBodies on_bodies.Unfit) k refl (given_is (rule.OnBodies on_bodies.Unfit) k h)
+
   rule_forms : (n : Kind) (x : List ℕ) (xs : List Node) (p : Place) (k : Rule) → typed_rule ds q n x xs p ≡ given k → HasForms k
   rule_forms text.PlainStep x [] p k h =
       let o = given_bind (conclusion_rule x p) (λ (a : AmbientRule). given (rule.Ambient a)) k h in brings o.0 (plain_typed x p o.0 o.1) k (given_is (rule.Ambient o.0) k o.2)
-  rule_forms text.CallStep x (b ∷ n ∷ []) p k h = of_call ds q HasForms (λ s. tt) tt (acts (parts_of b)) (head_of n) (parts_of n) p k h
+  rule_forms text.CallStep x (b ∷ n ∷ []) p k h = of_call ds q HasForms (λ s. tt) (λ a n f e lemmas. (used_typed ds scoped q t lemmas n f e, tt)) tt (acts (parts_of b)) (head_of n) (parts_of n) p k h
+  rule_forms text.WhileStep x (b ∷ f ∷ []) p k h = of_while ds q HasForms (λ v. tt) tt (acts (parts_of b)) f k h
   rule_forms text.CaseStep x (b ∷ f ∷ []) p k h =
       of_sides (acts (parts_of b)) f k h
   rule_forms text.HaveForm x (n ∷ f ∷ []) p k h =
       let o = given_bind (new_name q (text_of n) (place_of n)) _ k h in
       let z = given_bind (formed ds q f) (λ (t : Term). given (rule.Ambient (conclusion.Have (text_of n) t))) k o.2 in
       brings (conclusion.Have (text_of n) z.0) (form_typed f z.0 z.1) k (given_is (rule.Ambient (conclusion.Have (text_of n) z.0)) k z.2)
-  rule_forms text.Rnd x (b ∷ fs) p k h =
-      let o = given_bind (absent (parts_of b) p) _ k h in
-      let y = given_bind (couplings ds q (functions_of fs)) (λ (us : List Term). given (coupling_rule with_chance (functions_of fs) us)) k o.2 in
-      other (coupling_rule with_chance (functions_of fs) y.0) k (no_ambient with_chance (functions_of fs) y.0) (given_is (coupling_rule with_chance (functions_of fs) y.0) k y.2)
+  rule_forms text.Transitivity x (b ∷ n ∷ []) p k h = of_transitive ds q HasForms (λ u. tt) tt (acts (parts_of b)) (head_of n) (parts_of n) p k h
+  rule_forms text.Rnd x (b ∷ fs) p k h = of_drawing (acts (parts_of b)) (functions_of fs) k h
   rule_forms text.Proc x (b ∷ i ∷ []) p k h =
       let y = given_bind (absent (parts_of i) p) (λ _. given (rule.OnBodies (on_all (acts (parts_of b)) on_bodies.Proc))) k h in
       other (rule.OnBodies (on_all (acts (parts_of b)) on_bodies.Proc)) k refl (given_is (rule.OnBodies (on_all (acts (parts_of b)) on_bodies.Proc)) k y.2)
@@ -301,6 +319,8 @@ module _ (ds : scope.Declarations) (scoped : IsTypedScope (declared ds)) (q : Se
       brings o.0 (witness_brings n o.0 (is_memory (head_of n)) o.1) k (given_is (rule.Ambient o.0) k o.2)
   rule_forms text.TrivialPattern x [] p k h = brings conclusion.Trivial tt k (given_is (rule.Ambient conclusion.Trivial) k h)
   rule_forms text.SmtPattern x [] p k h = subst HasForms (given_is (rule.Smt []) k h) (λ lemmas. tt)
+  rule_forms text.Swap x (b ∷ n ∷ d ∷ []) p k h = of_passing HasForms (λ a t. tt) (acts (parts_of b)) n (head_of d) (parts_of d) p k h
+  rule_forms text.PositionStep x (b ∷ n ∷ []) p k h = of_placed HasForms (λ a t. tt) x (acts (parts_of b)) (position n) p k h
   rule_forms _ x _ p k h = cc
 
   step_forms : (n : Node) (s : Step) → step_given ds q n ≡ given s → HasForms s.rule
@@ -318,6 +338,7 @@ module _ (ds : scope.Declarations) (scoped : IsTypedScope (declared ds)) (q : Se
   told_typed : (r : Rule) → HasForms r → AreStated ds → AreKnown (told r)
   told_typed (rule.Smt fs) w lemmas = w lemmas
   told_typed (rule.Rewrite r) w lemmas = w lemmas
+  told_typed (rule.CallKnown a f) w lemmas = w lemmas
   told_typed _ w lemmas = tt
 
   pub hints_typed : AreStated ds → (n : Node) (s : Step) → step_given ds q n ≡ given s → AreKnown (told s.rule)

@@ -132,6 +132,6 @@ module _ (ds : Declarations) (c : Context) (m : Module) (around : IsAround ds c 
       subst (IsMade) (given_is (Call (variables_of ws) n.0.0 us.0) i us.2)
       (statement_is ws n.0 us.0 there (arguments_typed n.0.1.params es us.0 there.params (ltb-false (length es) (length n.0.1.params) many.0) us.1) (results_taken ws w n.0.1.result p t.0 t.1))
 
-  pub call_typed : (ws : List Target) → program_around.AreTargets ds c m around vs typed ws → (xs es : List Node) (p : Place) (i : Instr) → call here ws xs es p ≡ given i → IsMade i
-  call_typed ws w (x ∷ y ∷ ys) (es ∷ []) p i h = of_path ws w (procedure_path (text_of x) y ys) (parts_of es) p i h
-  call_typed ws w _ _ p i h = cc
+  pub call_typed : (ws : List Target) → program_around.AreTargets ds c m around vs typed ws → (x : Node) (ys es : List Node) (p : Place) (i : Instr) → call here ws x ys es p ≡ given i → IsMade i
+  call_typed ws w x (y ∷ ys) (es ∷ []) p i h = of_path ws w (procedure_path (text_of x) y ys) (parts_of es) p i h
+  call_typed ws w x _ _ p i h = cc

@@ -26,6 +26,7 @@ use Rattle.gb_steps.specs.declared.step.AmbientRule.TheVariants as conclusion
 use Rattle.gb_steps.specs.declared.step.BodyRule.TheVariants as on_bodies
 use Rattle.gb_steps.specs.declared.step.Contract.{Contract}
 use Rattle.gb_steps.specs.declared.step.Multiple.{Multiple}
+use Rattle.gb_steps.specs.declared.step.RelationalRule.TheVariants as relational_rule
 use Rattle.gb_steps.specs.declared.step.Rule.{Rule}
 use Rattle.gb_steps.specs.declared.step.Rule.TheVariants as rule
 use Rattle.gb_steps.specs.declared.step.Step.{Step}
@@ -45,8 +46,8 @@ use Rattle.gb_typing.specs.Typing.{IsForm, IsThere, before, after}
 use Rattle.gb_typing.specs.Goals.{IsGoalOver}
 use Rattle.gb_names.specs.Environment.{ambient, relational, unary}
 use Rattle.gb_elab.specs.Forms.{elaborated}
-use Rattle.gb_elab_mod.specs.Multiples.{hypothesis_at, multiples}
-use Rattle.gb_elab_mod.specs.Steps.{acts, call_rule, contract_at, contract_of, contract_of_both, coupling_rule, couplings, cut_of, functions_of, conclusion_rule, conseq_rule, formed, case_of_bodies, case_of_conclusion, last_procedure, of_bodies_rule, on_all, params_if, plain_rule, procedure_called, result_if, seq_rule, sided_case_rule, typed_rule, step_given, chance_rule, judges_chance, symmetry_rule, witness_rule}
+use Rattle.gb_elab_mod.specs.Multiples.{hypothesis_at, multiples, position}
+use Rattle.gb_elab_mod.specs.Steps.{acts, call_rule, contract_at, contract_of, contract_of_both, coupling_rule, couplings, drawing_rule, cut_of, functions_of, conclusion_rule, conseq_rule, formed, case_of_bodies, case_of_conclusion, last_procedure, of_bodies_rule, on_all, params_if, plain_rule, procedure_called, result_if, seq_rule, sided_case_rule, typed_rule, step_given, chance_rule, judges_chance, symmetry_rule, witness_rule}
 use Rattle.gb_elab_mod.specs.Taken.{new_name}
 use Rattle.gb_elab_mod.specs.Uses.{all_hinted, defined_operator, hypothesis, used}
 use Rattle.gb_elab_prog.specs.Unbuilt.{absent}
@@ -56,6 +57,9 @@ use Rattle.gb_call_both.specs.Call.{AreContracts}
 use Rattle.gb_call_both.specs.Rows.{IsTypedRule}
 use Rattle.gb_call.proofs.LastCalls.{called_typed}
 use Rattle.gb_elab_laws.specs.Fitting.{IsFitting}
+use Rattle.gb_elab_laws.proofs.Transformings.{of_passing, of_placed}
+use Rattle.gb_elab_laws.proofs.Turning.{of_while}
+use Rattle.gb_elab_laws.proofs.Betweens.{of_transitive}
 use Rattle.gb_elab_laws.proofs.Anew.{fits, params_stand, result_stands}
 use Rattle.gb_elab_laws.proofs.Forms.{elaborated_typed}
 use Rattle.gb_elab_laws.proofs.Given.{given_bind, given_is}
@@ -105,6 +109,9 @@ module _ (ds : scope.Declarations) (scoped : IsTypedScope (declared ds)) (q : Se
   untouched (rule.Ambient r) n = tt
   untouched (rule.Use r) n = tt
   untouched (rule.Rewrite r) n = tt
+  untouched (rule.CallKnown a f) n = tt
+  untouched (rule.While i) n = tt
+  untouched (rule.Transform a t) n = tt
 
   other : (j k : Rule) → is_call j ≡ false → j ≡ k → CallTyped k
   other j k n e = subst CallTyped e (untouched j n)
@@ -238,21 +245,33 @@ module _ (ds : scope.Declarations) (scoped : IsTypedScope (declared ds)) (q : Se
 
     call_typed : (a : Acts) (n : Kind) (ns : List Node) (p : Place) (k : Rule) → call_rule ds q a n ns p ≡ given k → CallTyped k
     call_typed a text.CallContract (m ∷ n ∷ []) p k h = at_goal (goal_of q.conclusion) refl w a m n k h
+    call_typed a text.CallLemma (n ∷ []) p k h =
+        let x = given_bind (used ds q n) (λ (f : Term). given (rule.CallKnown a f)) k h in other (rule.CallKnown a x.0) k refl (given_is (rule.CallKnown a x.0) k x.2)
     call_typed a _ _ p k h = cc
+
+    -- `rnd`
+    of_drawing : (a : Acts) (fs : List Node) (k : Rule) → drawing_rule ds q a fs ≡ given k → CallTyped k
+    unfolding drawing_rule
+    of_drawing on.All fs k h =
+        let y = given_bind (couplings ds q fs) (λ (us : List Term). given (coupling_rule with_chance fs us)) k h in
+        other (coupling_rule with_chance fs y.0) k (no_call with_chance fs y.0) (given_is (coupling_rule with_chance fs y.0) k y.2)
+    of_drawing on.Left [] k h = other (rule.Relational (relational_rule.Drawn on.Left)) k refl (given_is (rule.Relational (relational_rule.Drawn on.Left)) k h)
+    of_drawing on.Left (f ∷ fs) k h = other (rule.OnBodies on_bodies.Unfit) k refl (given_is (rule.OnBodies on_bodies.Unfit) k h)
+    of_drawing on.Right [] k h = other (rule.Relational (relational_rule.Drawn on.Right)) k refl (given_is (rule.Relational (relational_rule.Drawn on.Right)) k h)
+    of_drawing on.Right (f ∷ fs) k h = other (rule.OnBodies on_bodies.Unfit) k refl (given_is (rule.OnBodies on_bodies.Unfit) k h)
 
     rule_typed : (n : Kind) (x : List ℕ) (xs : List Node) (p : Place) (k : Rule) → typed_rule ds q n x xs p ≡ given k → CallTyped k
     rule_typed text.PlainStep x [] p k h =
         let o = given_bind (conclusion_rule x p) (λ (a : AmbientRule). given (rule.Ambient a)) k h in other (rule.Ambient o.0) k refl (given_is (rule.Ambient o.0) k o.2)
     rule_typed text.CallStep x (b ∷ n ∷ []) p k h = call_typed (acts (parts_of b)) (head_of n) (parts_of n) p k h
+    rule_typed text.WhileStep x (b ∷ f ∷ []) p k h = of_while ds q CallTyped (λ v. tt) tt (acts (parts_of b)) f k h
     rule_typed text.CaseStep x (b ∷ f ∷ []) p k h = of_sides (acts (parts_of b)) f k h
     rule_typed text.HaveForm x (n ∷ f ∷ []) p k h =
         let o = given_bind (new_name q (text_of n) (place_of n)) _ k h in
         let z = given_bind (formed ds q f) (λ (t : Term). given (rule.Ambient (conclusion.Have (text_of n) t))) k o.2 in
         other (rule.Ambient (conclusion.Have (text_of n) z.0)) k refl (given_is (rule.Ambient (conclusion.Have (text_of n) z.0)) k z.2)
-    rule_typed text.Rnd x (b ∷ fs) p k h =
-        let o = given_bind (absent (parts_of b) p) _ k h in
-        let y = given_bind (couplings ds q (functions_of fs)) (λ (us : List Term). given (coupling_rule with_chance (functions_of fs) us)) k o.2 in
-        other (coupling_rule with_chance (functions_of fs) y.0) k (no_call with_chance (functions_of fs) y.0) (given_is (coupling_rule with_chance (functions_of fs) y.0) k y.2)
+    rule_typed text.Transitivity x (b ∷ n ∷ []) p k h = of_transitive ds q CallTyped (λ u. tt) tt (acts (parts_of b)) (head_of n) (parts_of n) p k h
+    rule_typed text.Rnd x (b ∷ fs) p k h = of_drawing (acts (parts_of b)) (functions_of fs) k h
     rule_typed text.Proc x (b ∷ i ∷ []) p k h =
         let y = given_bind (absent (parts_of i) p) (λ _. given (rule.OnBodies (on_all (acts (parts_of b)) on_bodies.Proc))) k h in
         other (rule.OnBodies (on_all (acts (parts_of b)) on_bodies.Proc)) k refl (given_is (rule.OnBodies (on_all (acts (parts_of b)) on_bodies.Proc)) k y.2)
@@ -298,6 +317,8 @@ module _ (ds : scope.Declarations) (scoped : IsTypedScope (declared ds)) (q : Se
         let o = given_bind (witness_rule ds q n) (λ (a : AmbientRule). given (rule.Ambient a)) k h in other (rule.Ambient o.0) k refl (given_is (rule.Ambient o.0) k o.2)
     rule_typed text.TrivialPattern x [] p k h = other (rule.Ambient conclusion.Trivial) k refl (given_is (rule.Ambient conclusion.Trivial) k h)
     rule_typed text.SmtPattern x [] p k h = other (rule.Smt []) k refl (given_is (rule.Smt []) k h)
+    rule_typed text.Swap x (b ∷ n ∷ d ∷ []) p k h = of_passing CallTyped (λ a t. tt) (acts (parts_of b)) n (head_of d) (parts_of d) p k h
+    rule_typed text.PositionStep x (b ∷ n ∷ []) p k h = of_placed CallTyped (λ a t. tt) x (acts (parts_of b)) (position n) p k h
     rule_typed _ x _ p k h = cc
 
 -- The arguments of a typed step of a rule on calls are typed.

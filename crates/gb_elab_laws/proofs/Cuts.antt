@@ -1,5 +1,5 @@
 -- The form between the parts of bodies that are cut is typed over the locals of the bodies.
-use Rattle.std.proofs.Common.{◌≡◌, ℕ, Bool, true, false, if◌then◌else◌, List, [], ◌∷◌, Some, refl, ap, sym, ◌∙◌, subst}
+use Rattle.std.proofs.Common.{◌≡◌, ℕ, Bool, true, false, if◌then◌else◌, List, [], ◌∷◌, Option, Some, None, refl, ap, sym, ◌∙◌, subst}
 use Rattle.std.specs.Prelude.{bytes_eq, codes}
 use Rattle.gb_core.specs.declared.place.Place.{Place}
 use Rattle.gb_core.specs.declared.ty.Ty.TheVariants as ty
@@ -20,6 +20,7 @@ use Rattle.gb_steps.specs.declared.step.BodyRule.{BodyRule}
 use Rattle.gb_steps.specs.declared.step.BodyRule.TheVariants as on_bodies
 use Rattle.gb_steps.specs.declared.step.Cut.{Cut}
 use Rattle.gb_steps.specs.declared.step.Cut.TheVariants as cut
+use Rattle.gb_steps.specs.declared.step.RelationalRule.TheVariants as relational_rule
 use Rattle.gb_steps.specs.declared.step.Rule.{Rule}
 use Rattle.gb_steps.specs.declared.step.Rule.TheVariants as rule
 use Rattle.gb_steps.specs.declared.step.Multiple.{Multiple}
@@ -42,14 +43,17 @@ use Rattle.gb_goal.specs.Answers.Answer.{given}
 use Rattle.gb_names.specs.Environment.{relational, unary}
 use Rattle.gb_elab.specs.Forms.{elaborated}
 use Rattle.gb_elab_mod.specs.Occurring.{occurring}
-use Rattle.gb_elab_mod.specs.Steps.{acts, case_of_bodies, case_of_conclusion, case_rule, conclusion_rule, conseq_rule, coupling_rule, couplings, cut_of, cut_rule, formed, functions_of, of_bodies_rule, on_all, plain_rule, seq_rule, sided_case_rule, step_given, typed_rule, asked_of, chance_rule, judges_chance, symmetry_rule, witness_rule}
-use Rattle.gb_elab_mod.specs.Multiples.{hypothesis_at, multiples}
+use Rattle.gb_elab_mod.specs.Steps.{acts, case_by, case_of_bodies, case_of_conclusion, case_rule, conclusion_rule, conseq_rule, coupling_rule, couplings, drawing_rule, cut_of, cut_rule, formed, functions_of, of_bodies_rule, on_all, plain_rule, seq_rule, sided_case_rule, step_given, typed_rule, asked_of, chance_rule, judges_chance, kept_by, said_of_bodies, symmetry_rule, while_rule, witness_rule}
+use Rattle.gb_elab_mod.specs.Multiples.{hypothesis_at, multiples, position}
 use Rattle.gb_elab_mod.specs.Uses.{all_hinted, defined_operator, hypothesis, used}
 use Rattle.gb_elab_mod.specs.Taken.{new_name}
 use Rattle.gb_elab_prog.specs.Unbuilt.{absent}
+use Rattle.gb_bodies.specs.Case.{IsTypedCase}
 use Rattle.gb_bodies.specs.Rows.{IsTypedRule}
+use Rattle.gb_elab_laws.proofs.Betweens.{of_transitive}
 use Rattle.gb_elab_laws.proofs.Anew.{conseq_rule_typed}
 use Rattle.gb_elab_laws.proofs.Contracts.{of_call}
+use Rattle.gb_elab_laws.proofs.Transformings.{of_passing, of_placed}
 use Rattle.gb_elab_laws.proofs.Given.{given_bind, given_is}
 use Rattle.gb_elab_laws.proofs.Ends.{occurring_in}
 use Rattle.gb_elab_laws.proofs.Fits.{one_fits, two_fit}
@@ -105,22 +109,36 @@ module _ (ds : scope.Declarations) (scoped : IsTypedScope (declared ds)) (q : Se
   cut_typed (ambient f) w (cut.Two k l) n r h = subst (Typed (ambient f)) (given_is on_bodies.Unfit r h) tt
   cut_typed (equiv (body is) (body js) p g) w (cut.One k) n r h = subst (Typed (equiv (body is) (body js) p g)) (given_is on_bodies.Unfit r h) tt
 
+  -- what is said of the bodies of a judgment is typed over their locals
+  abbrev IsSaid : Goal → Option Term → Type 0
+  IsSaid G (Some f) = IsTypedCase here f ls rs G
+  IsSaid G None = Unit {0}
+
+  said_typed : (G : Goal) → IsGoalOver here ls rs G → (n : Node) (o : Option Term) → said_of_bodies ds q n G ≡ given o → IsSaid G o
+  unfolding said_of_bodies
+  said_typed (hoare (body is) p g) w n o h =
+      let f = given_bind (elaborated n (unary ds q (occurring (p ∷ g ∷ []) side.Own is)) [] (Some ty.Bool)) (λ (f : Term). given (Some f)) o h in
+      subst (IsSaid (hoare (body is) p g)) {x = Some f.0} (given_is (Some f.0) o f.2) (said_of_one is p g w.0 w.1 w.2 n f.0 f.1)
+  said_typed (phoare (body is) r p g b) w n o h =
+      let f = given_bind (elaborated n (unary ds q (occurring (p ∷ g ∷ []) side.Own is)) [] (Some ty.Bool)) (λ (f : Term). given (Some f)) o h in
+      subst (IsSaid (phoare (body is) r p g b)) {x = Some f.0} (given_is (Some f.0) o f.2) (said_of_one is p g w.0 w.1 w.2 n f.0 f.1)
+  said_typed (equiv (body is) (body js) p g) w n o h =
+      let f = given_bind (elaborated n (relational ds q (occurring (p ∷ g ∷ []) side.Left is) (occurring (p ∷ g ∷ []) side.Right js)) [] (Some ty.Bool)) (λ (f : Term). given (Some f)) o h in
+      subst (IsSaid (equiv (body is) (body js) p g)) {x = Some f.0} (given_is (Some f.0) o f.2) (said_of_two is js p g w.1 w.2 w.3 w.4 n f.0 f.1)
+  said_typed (hoare (procedure a) p g) w n o h = subst (IsSaid (hoare (procedure a) p g)) (given_is None o h) tt
+  said_typed (phoare (procedure a) r p g b) w n o h = subst (IsSaid (phoare (procedure a) r p g b)) (given_is None o h) tt
+  said_typed (equiv (procedure a) b p g) w n o h = subst (IsSaid (equiv (procedure a) b p g)) (given_is None o h) tt
+  said_typed (equiv (body is) (procedure b) p g) w n o h = subst (IsSaid (equiv (body is) (procedure b) p g)) (given_is None o h) tt
+  said_typed (ambient f) w n o h = subst (IsSaid (ambient f)) (given_is None o h) tt
+
+  case_made : (G : Goal) (o : Option Term) → IsSaid G o → Typed G (case_by o)
+  case_made G (Some f) w = w
+  case_made G None w = tt
+
   bodies_typed : (G : Goal) → IsGoalOver here ls rs G → (n : Node) (r : BodyRule) → case_of_bodies ds q n G ≡ given r → Typed G r
-  unfolding case_of_bodies
-  bodies_typed (hoare (body is) p g) w n r h =
-      let f = given_bind (elaborated n (unary ds q (occurring (p ∷ g ∷ []) side.Own is)) [] (Some ty.Bool)) (λ f. given (on_bodies.Case f)) r h in
-      subst (Typed (hoare (body is) p g)) {x = on_bodies.Case f.0} (given_is (on_bodies.Case f.0) r f.2) (said_of_one is p g w.0 w.1 w.2 n f.0 f.1)
-  bodies_typed (phoare (body is) o p g b) w n r h =
-      let f = given_bind (elaborated n (unary ds q (occurring (p ∷ g ∷ []) side.Own is)) [] (Some ty.Bool)) (λ f. given (on_bodies.Case f)) r h in
-      subst (Typed (phoare (body is) o p g b)) {x = on_bodies.Case f.0} (given_is (on_bodies.Case f.0) r f.2) (said_of_one is p g w.0 w.1 w.2 n f.0 f.1)
-  bodies_typed (equiv (body is) (body js) p g) w n r h =
-      let f = given_bind (elaborated n (relational ds q (occurring (p ∷ g ∷ []) side.Left is) (occurring (p ∷ g ∷ []) side.Right js)) [] (Some ty.Bool)) (λ f. given (on_bodies.Case f)) r h in
-      subst (Typed (equiv (body is) (body js) p g)) {x = on_bodies.Case f.0} (given_is (on_bodies.Case f.0) r f.2) (said_of_two is js p g w.1 w.2 w.3 w.4 n f.0 f.1)
-  bodies_typed (hoare (procedure a) p g) w n r h = subst (Typed (hoare (procedure a) p g)) (given_is on_bodies.Unfit r h) tt
-  bodies_typed (phoare (procedure a) o p g b) w n r h = subst (Typed (phoare (procedure a) o p g b)) (given_is on_bodies.Unfit r h) tt
-  bodies_typed (equiv (procedure a) b p g) w n r h = subst (Typed (equiv (procedure a) b p g)) (given_is on_bodies.Unfit r h) tt
-  bodies_typed (equiv (body is) (procedure b) p g) w n r h = subst (Typed (equiv (body is) (procedure b) p g)) (given_is on_bodies.Unfit r h) tt
-  bodies_typed (ambient f) w n r h = subst (Typed (ambient f)) (given_is on_bodies.Unfit r h) tt
+  bodies_typed G w n r h =
+      let o = given_bind (said_of_bodies ds q n G) (λ f. given (case_by f)) r h in
+      subst (Typed G) (given_is (case_by o.0) r o.2) (case_made G o.0 (said_typed G w n o.0 o.1))
 
   seq_typed : (G : Goal) → IsGoalOver here ls rs G → goal_of q.conclusion ≡ G → (a : Acts) (k : Cut) (n : Node) (r : BodyRule) → seq_rule ds q a k n ≡ given r → Typed G r
   seq_typed G w e on.All k n r h = cut_typed G w k n r (sym (ap (cut_rule ds q k n) e) ∙ h)
@@ -175,7 +193,16 @@ module _ (ds : scope.Declarations) (scoped : IsTypedScope (declared ds)) (q : Se
       let y = given_bind (plain_rule x a p) (λ z. given (rule.OnBodies z)) k h in
       subst TypedAt (given_is (rule.OnBodies y.0) k y.2) (plain_typed (goal_of q.conclusion) x a p y.0 y.1)
 
+  kept_typed : (a : Acts) (o : Option Term) → IsSaid (goal_of q.conclusion) o → TypedAt (kept_by a o)
+  kept_typed a (Some f) w = w
+  kept_typed a None w = tt
+
   module _ (w : IsGoalOver here ls rs (goal_of q.conclusion)) where
+    while_typed : (a : Acts) (n : Node) (k : Rule) → while_rule ds q a n ≡ given k → TypedAt k
+    while_typed a n k h =
+        let o = given_bind (said_of_bodies ds q n (goal_of q.conclusion)) (λ f. given (kept_by a f)) k h in
+        subst TypedAt (given_is (kept_by a o.0) k o.2) (kept_typed a o.0 (said_typed (goal_of q.conclusion) w n o.0 o.1))
+
     case_typed : (f : Node) (k : Rule) → case_rule ds q f ≡ given k → TypedAt k
     case_typed f k h = step (judges_bodies (out-Term q.conclusion).head) h
       where
@@ -192,11 +219,19 @@ module _ (ds : scope.Declarations) (scoped : IsTypedScope (declared ds)) (q : Se
     sides_typed on.Left f k h = subst TypedAt (given_is (rule.OnBodies on_bodies.Unfit) k h) tt
     sides_typed on.Right f k h = subst TypedAt (given_is (rule.OnBodies on_bodies.Unfit) k h) tt
 
+    of_drawing : (a : Acts) (fs : List Node) (k : Rule) → drawing_rule ds q a fs ≡ given k → TypedAt k
+    unfolding drawing_rule
+    of_drawing on.All fs k h =
+        let y = given_bind (couplings ds q fs) (λ us. given (coupling_rule with_chance fs us)) k h in
+        subst TypedAt (given_is (coupling_rule with_chance fs y.0) k y.2) (coupling_typed with_chance fs y.0)
+    of_drawing on.Left [] k h = subst TypedAt (given_is (rule.Relational (relational_rule.Drawn on.Left)) k h) tt
+    of_drawing on.Left (f ∷ fs) k h = subst TypedAt (given_is (rule.OnBodies on_bodies.Unfit) k h) tt
+    of_drawing on.Right [] k h = subst TypedAt (given_is (rule.Relational (relational_rule.Drawn on.Right)) k h) tt
+    of_drawing on.Right (f ∷ fs) k h = subst TypedAt (given_is (rule.OnBodies on_bodies.Unfit) k h) tt
+
     of_rule : (n : Kind) (x : List ℕ) (xs : List Node) (p : Place) (k : Rule) → typed_rule ds q n x xs p ≡ given k → TypedAt k
-    of_rule text.Rnd x (b ∷ fs) p k h =
-        let o = given_bind (absent (parts_of b) p) _ k h in
-        let y = given_bind (couplings ds q (functions_of fs)) (λ us. given (coupling_rule with_chance (functions_of fs) us)) k o.2 in
-        subst TypedAt (given_is (coupling_rule with_chance (functions_of fs) y.0) k y.2) (coupling_typed with_chance (functions_of fs) y.0)
+    of_rule text.Transitivity x (b ∷ n ∷ []) p k h = of_transitive ds q TypedAt (λ u. tt) tt (acts (parts_of b)) (head_of n) (parts_of n) p k h
+    of_rule text.Rnd x (b ∷ fs) p k h = of_drawing (acts (parts_of b)) (functions_of fs) k h
     of_rule text.Proc x (b ∷ i ∷ []) p k h =
         let y = given_bind (absent (parts_of i) p) (λ _. given (rule.OnBodies (on_all (acts (parts_of b)) on_bodies.Proc))) k h in
         subst TypedAt (given_is (rule.OnBodies (on_all (acts (parts_of b)) on_bodies.Proc)) k y.2) (all_typed (goal_of q.conclusion) (acts (parts_of b)) on_bodies.Proc tt)
@@ -208,9 +243,10 @@ module _ (ds : scope.Declarations) (scoped : IsTypedScope (declared ds)) (q : Se
     of_rule text.Conseq x (b ∷ f ∷ g ∷ d ∷ []) p k h =
         let y = given_bind (conseq_rule ds q (acts (parts_of b)) (parts_of f) (parts_of g) (parts_of d)) (λ z. given (rule.OnBodies z)) k h in
         subst TypedAt (given_is (rule.OnBodies y.0) k y.2) (conseq_rule_typed ds scoped q t ls rs (goal_of q.conclusion) w refl (acts (parts_of b)) (parts_of f) (parts_of g) (parts_of d) y.0 y.1)
-    of_rule text.CallStep x (b ∷ n ∷ []) p k h = of_call ds q TypedAt (λ s. tt) tt (acts (parts_of b)) (head_of n) (parts_of n) p k h
+    of_rule text.CallStep x (b ∷ n ∷ []) p k h = of_call ds q TypedAt (λ s. tt) (λ a n f e. tt) tt (acts (parts_of b)) (head_of n) (parts_of n) p k h
     of_rule text.PlainStep x [] p k h =
         let o = given_bind (conclusion_rule x p) (λ (a : AmbientRule). given (rule.Ambient a)) k h in subst TypedAt (given_is (rule.Ambient o.0) k o.2) tt
+    of_rule text.WhileStep x (b ∷ f ∷ []) p k h = while_typed (acts (parts_of b)) f k h
     of_rule text.CaseStep x (b ∷ f ∷ []) p k h =
         sides_typed (acts (parts_of b)) f k h
     of_rule text.HaveForm x (n ∷ f ∷ []) p k h =
@@ -252,6 +288,8 @@ module _ (ds : scope.Declarations) (scoped : IsTypedScope (declared ds)) (q : Se
         let o = given_bind (witness_rule ds q e) (λ (a : AmbientRule). given (rule.Ambient a)) k h in subst TypedAt (given_is (rule.Ambient o.0) k o.2) tt
     of_rule text.TrivialPattern x [] p k h = subst TypedAt (given_is (rule.Ambient conclusion.Trivial) k h) tt
     of_rule text.SmtPattern x [] p k h = subst TypedAt (given_is (rule.Smt []) k h) tt
+    of_rule text.Swap x (b ∷ n ∷ d ∷ []) p k h = of_passing TypedAt (λ a t. tt) (acts (parts_of b)) n (head_of d) (parts_of d) p k h
+    of_rule text.PositionStep x (b ∷ n ∷ []) p k h = of_placed TypedAt (λ a t. tt) x (acts (parts_of b)) (position n) p k h
     of_rule _ x _ p k h = cc
 
 -- The arguments of a typed step of a rule on programs are typed.

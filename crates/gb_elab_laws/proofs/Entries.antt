@@ -5,7 +5,7 @@ use Rattle.gb_core.specs.declared.place.Place.{Place}
 use Rattle.gb_core.specs.declared.ty.Ty.{Ty}
 use Rattle.gb_goal.specs.Answers.Answer.{given}
 use Rattle.gb_goal.specs.Scope as scope
-use Rattle.gb_goal.specs.Scope.{as_lemma, entry_of, AreNew, AreNoLemmas}
+use Rattle.gb_goal.specs.Scope.{is_claim, entry_of, AreNew, ClaimNothing}
 use Rattle.gb_goal.specs.declared.scope.Entry.{Entry}
 use Rattle.gb_goal.specs.declared.scope.Entry.TheVariants as entry
 use Rattle.gb_script.specs.declared.head.Head.{Head}
@@ -55,6 +55,7 @@ good_speaks ((k, entry.Module m) ∷ ds) g = absurd g.0
 good_speaks ((k, entry.Lemma q order) ∷ ds) g = absurd g.0
 good_speaks ((k, entry.Operator o) ∷ ds) g = absurd g.0
 good_speaks ((k, entry.AbstractOperator o) ∷ ds) g = absurd g.0
+good_speaks ((k, entry.Terminating p) ∷ ds) g = absurd g.0
 
 good_behind : (ds : scope.Declarations) (n : Name) (e : Entry) → AreGood ds → IsGood e → AreGood (ds ++ (n, e) ∷ [])
 good_behind [] n e h k = (k, tt)
@@ -117,27 +118,28 @@ good_typed ds ((k, entry.Module m) ∷ added) c n g = absurd g.0
 good_typed ds ((k, entry.Lemma q order) ∷ added) c n g = absurd g.0
 good_typed ds ((k, entry.Operator o) ∷ added) c n g = absurd g.0
 good_typed ds ((k, entry.AbstractOperator o) ∷ added) c n g = absurd g.0
+good_typed ds ((k, entry.Terminating p) ∷ added) c n g = absurd g.0
 
--- no lemma is among the entries
-other_behind : (ds : scope.Declarations) (n : Name) (e : Entry) → AreNoLemmas ds → as_lemma (Some e) ≡ None → AreNoLemmas (ds ++ (n, e) ∷ [])
+-- the entries claim nothing
+other_behind : (ds : scope.Declarations) (n : Name) (e : Entry) → ClaimNothing ds → is_claim e ≡ false → ClaimNothing (ds ++ (n, e) ∷ [])
 other_behind [] n e h k = (k, tt)
 other_behind (d ∷ ds) n e h k = (h.0, other_behind ds n e h.1 k)
 
-constants_others : (ds : scope.Declarations) (t : Ty) (i : ℕ) (added all : scope.Declarations) (xs : List Node) → AreNoLemmas added → constants ds t i added xs ≡ given all → AreNoLemmas all
-constants_others ds t i added all [] h e = subst AreNoLemmas (given_is added all e) h
+constants_others : (ds : scope.Declarations) (t : Ty) (i : ℕ) (added all : scope.Declarations) (xs : List Node) → ClaimNothing added → constants ds t i added xs ≡ given all → ClaimNothing all
+constants_others ds t i added all [] h e = subst ClaimNothing (given_is added all e) h
 constants_others ds t i added all (y ∷ ys) h e =
     let a = given_bind (new ds added y) _ all e in constants_others ds t (suc i) _ all ys (other_behind added (text_of y) _ h refl) a.2
 
-enumeration_others : (ds : scope.Declarations) (x : Node) (cs more : List Node) (all : scope.Declarations) → enumeration ds x cs more ≡ given all → AreNoLemmas all
+enumeration_others : (ds : scope.Declarations) (x : Node) (cs more : List Node) (all : scope.Declarations) → enumeration ds x cs more ≡ given all → ClaimNothing all
 enumeration_others ds x cs more all e =
     let t : Ty = enumeration_type x (length cs) in
     let a = given_bind (constants ds t 0 (only x (entry.Type t)) cs) (without more) all e in
-    subst AreNoLemmas (without_is more a.0 all a.2) (constants_others ds t 0 (only x (entry.Type t)) a.0 cs (refl, tt) a.1)
+    subst ClaimNothing (without_is more a.0 all a.2) (constants_others ds t 0 (only x (entry.Type t)) a.0 cs (refl, tt) a.1)
 
-types_others : (ds : scope.Declarations) (x : Node) (h : Head) (ps : List Node) (p : Place) (all : scope.Declarations) → type_entries ds x h ps p ≡ given all → AreNoLemmas all
-types_others ds x head.AbstractType ps p all e = subst AreNoLemmas (given_is (only x entry.AbstractType) all e) (refl, tt)
+types_others : (ds : scope.Declarations) (x : Node) (h : Head) (ps : List Node) (p : Place) (all : scope.Declarations) → type_entries ds x h ps p ≡ given all → ClaimNothing all
+types_others ds x head.AbstractType ps p all e = subst ClaimNothing (given_is (only x entry.AbstractType) all e) (refl, tt)
 types_others ds x head.TypeAlias (t ∷ []) p all e =
-    let a = given_bind (type_of ds t) _ all e in subst AreNoLemmas (given_is (only x (entry.Type a.0)) all a.2) (refl, tt)
+    let a = given_bind (type_of ds t) _ all e in subst ClaimNothing (given_is (only x (entry.Type a.0)) all a.2) (refl, tt)
 types_others ds x head.Enumeration (c ∷ cs) p all e = enumeration_others ds x (take 256 (c ∷ cs)) (drop 256 (c ∷ cs)) all e
 types_others ds x _ ps p all e = cc
 
@@ -151,6 +153,7 @@ operator_added ds x (entry.Lemma q order) f w = absurd w
 operator_added ds x (entry.Type t) f w = absurd w
 operator_added ds x entry.AbstractType f w = absurd w
 operator_added ds x (entry.Constant a) f w = absurd w
+operator_added ds x (entry.Terminating a) f w = absurd w
 
 operator_speaks : (c : Context) (x : Node) (e : Entry) → IsOperatorIn c e → ScopeSpeaks NoName (declared (only x e))
 operator_speaks c x (entry.Operator o) w = (tt, tt)
@@ -160,25 +163,26 @@ operator_speaks c x (entry.Lemma q order) w = absurd w
 operator_speaks c x (entry.Type t) w = absurd w
 operator_speaks c x entry.AbstractType w = absurd w
 operator_speaks c x (entry.Constant a) w = absurd w
+operator_speaks c x (entry.Terminating a) w = absurd w
 
--- what stands for an operator is no lemma
-defined_other : (ds : scope.Declarations) (gs r : List Node) (t : Node) (e : Entry) → defined ds gs r t ≡ given e → as_lemma (Some e) ≡ None
+-- what stands for an operator claims nothing
+defined_other : (ds : scope.Declarations) (gs r : List Node) (t : Node) (e : Entry) → defined ds gs r t ≡ given e → is_claim e ≡ false
 unfolding defined
 defined_other ds gs r t e h =
     let b = given_bind (all_parameters ds nothing_bound gs) _ e h in
     let w = given_bind (written ds r) _ e b.2 in
     let f = given_bind (body ds b.0.values w.0 t) _ e w.2 in
-    subst (λ z. as_lemma (Some z) ≡ None) (given_is _ e f.2) refl
+    subst (λ z. is_claim z ≡ false) (given_is _ e f.2) refl
 
-undefined_other : (ds : scope.Declarations) (ts rs : List Node) (p : Place) (e : Entry) → undefined ds ts rs p ≡ given e → as_lemma (Some e) ≡ None
+undefined_other : (ds : scope.Declarations) (ts rs : List Node) (p : Place) (e : Entry) → undefined ds ts rs p ≡ given e → is_claim e ≡ false
 undefined_other ds ts (r ∷ []) p e h =
     let a = given_bind (all_given (map (type_of ds) ts)) _ e h in
     let b = given_bind (type_or_number ds r) _ e a.2 in
-    subst (λ z. as_lemma (Some z) ≡ None) (given_is _ e b.2) refl
+    subst (λ z. is_claim z ≡ false) (given_is _ e b.2) refl
 undefined_other ds ts [] p e h = cc
 undefined_other ds ts (r ∷ s ∷ rs) p e h = cc
 
-operator_other : (ds : scope.Declarations) (h : Head) (ps : List Node) (p : Place) (e : Entry) → operator_entry ds h ps p ≡ given e → as_lemma (Some e) ≡ None
+operator_other : (ds : scope.Declarations) (h : Head) (ps : List Node) (p : Place) (e : Entry) → operator_entry ds h ps p ≡ given e → is_claim e ≡ false
 operator_other ds head.DefinedOperator (gs ∷ r ∷ t ∷ []) p e k = defined_other ds (parts_of gs) (parts_of r) t e k
 operator_other ds head.Constant (t ∷ []) p e k = defined_other ds [] [] t e k
 operator_other ds head.TypedConstant (r ∷ t ∷ []) p e k = defined_other ds [] (r ∷ []) t e k
@@ -223,14 +227,14 @@ pub entries_speak : (ds : scope.Declarations) → IsTypedScope (declared ds) →
 entries_speak ds s t all e = speaks_by_head ds s (head_of t) (parts_of t) (place_of t) all e
 
 -- and no lemma
-others_by_head : (ds : scope.Declarations) (h : Head) (ps : List Node) (p : Place) (all : scope.Declarations) → entries_by ds h ps p ≡ given all → AreNoLemmas all
+others_by_head : (ds : scope.Declarations) (h : Head) (ps : List Node) (p : Place) (all : scope.Declarations) → entries_by ds h ps p ≡ given all → ClaimNothing all
 others_by_head ds head.TypeDeclaration (x ∷ d ∷ []) p all e =
     let a = given_bind (free ds x) _ all e in types_others ds x (head_of d) (parts_of d) (place_of d) all a.2
 others_by_head ds head.OperatorDeclaration (x ∷ d ∷ []) p all e =
     let a = given_bind (free ds x) _ all e in
     let b = given_bind (operator_entry ds (head_of d) (parts_of d) (place_of d)) _ all a.2 in
-    subst AreNoLemmas (given_is (only x b.0) all b.2) (operator_other ds (head_of d) (parts_of d) (place_of d) b.0 b.1, tt)
+    subst ClaimNothing (given_is (only x b.0) all b.2) (operator_other ds (head_of d) (parts_of d) (place_of d) b.0 b.1, tt)
 others_by_head ds _ ps p all e = cc
 
-pub entries_others : (ds : scope.Declarations) (t : Node) (all : scope.Declarations) → entries_given ds t ≡ given all → AreNoLemmas all
+pub entries_others : (ds : scope.Declarations) (t : Node) (all : scope.Declarations) → entries_given ds t ≡ given all → ClaimNothing all
 entries_others ds t all e = others_by_head ds (head_of t) (parts_of t) (place_of t) all e

@@ -72,6 +72,8 @@ stays ((k, entry.Operator o) ∷ ds) before c n d w =
     let x = declaration_of (entry.Operator o) in stays ds (before ++ (k, x) ∷ []) (with_declared c k x) n (declared_more before (k, x) n d) w.2
 stays ((k, entry.AbstractOperator o) ∷ ds) before c n d w =
     let x = declaration_of (entry.AbstractOperator o) in stays ds (before ++ (k, x) ∷ []) (with_declared c k x) n (declared_more before (k, x) n d) w.2
+stays ((k, entry.Terminating a) ∷ ds) before c n d w =
+    let x = declaration_of (entry.Terminating a) in stays ds (before ++ (k, x) ∷ []) (with_declared c k x) n (declared_more before (k, x) n d) w.2
 
 -- A declared module stands under its name with its globals, and its procedures are typed.
 record Stands (d : Context) (n : Name) (m : Module) : Type 0 where

@@ -19,14 +19,14 @@ use Rattle.gb_script.specs.declared.head.Head.{Head}
 use Rattle.gb_script.specs.declared.head.Head.TheVariants as head
 use Rattle.gb_script.specs.declared.tree.Node.{Node}
 use Rattle.gb_script.specs.Tree.{head_of, text_of, parts_of, place_of}
-use Rattle.gb_goal.specs.Answers.{given_or}
+use Rattle.gb_goal.specs.Answers.{◌>>=◌, given_or}
 use Rattle.gb_goal.specs.Answers.Answer.{given}
 use Rattle.gb_names.specs.declared.setting.Language.{Language}
 use Rattle.gb_names.specs.declared.setting.Language.TheVariants.{Formula, Function, Program, Sampled, Operator}
 use Rattle.gb_names.specs.Environment.{Name, Environment, in_judgments, reading, relational}
 use Rattle.gb_names.specs.Allowed.{has_judgments}
-use Rattle.gb_names.specs.Judgments.{whole, module_in, named_module, Path, procedure_path, Named, reference, procedure_at, named_procedure, about_procedure, one_procedure, both_procedures, before, after, result_of, equivalent}
-use Rattle.gb_names.specs.Names.{is_variable}
+use Rattle.gb_names.specs.Judgments.{whole, module_in, known_module, named_module, Path, procedure_path, Named, reference, procedure_at, named_procedure, about_procedure, one_procedure, both_procedures, before, after, result_of, equivalent}
+use Rattle.gb_names.specs.Names.{is_variable, may_name}
 use Rattle.gb_typing.specs.Modules.{ProcedureType}
 use Rattle.gb_typing.specs.Context.{Frame, Context, local_in, procedure, with_sides}
 use Rattle.gb_typing.specs.Typing.{IsFrame, IsThere}
@@ -69,13 +69,16 @@ abbrev pub IsDeclared : Environment → Named → Type 0
 IsDeclared at n = procedure_of at.declared n.0 ≡ Some n.1
 
 procedure_is : (at : Environment) (vs : List Binding) (f : Path) (p : Place) (n : Named) → procedure_at at vs f p ≡ given n → IsDeclared at n
-unfolding procedure_at named_module
+unfolding procedure_at named_module known_module
 procedure_is at vs f p n h =
     let x = text_of f.1 in
     let m = given_bind (named_module at vs f.0 p) _ n h in
     let d = given_bind (given_or (proc_of m.0.procs x) (UnknownName x) (place_of f.1)) (λ (d : Proc). given (reference f, d)) n m.2 in
-    let k = if_refused (is_variable at vs f.0) Argument p (module_in (entry_of at.declared f.0) f.0 p) m.0 m.1 in
-    let e = module_is (entry_of at.declared f.0) f.0 p m.0 k.1 in
+    let a = given_bind (known_module at vs f.0 p) (λ (z : Module). may_name at f.0 p >>= λ _. given z) m.0 m.1 in
+    let b = given_bind (may_name at f.0 p) (λ _. given a.0) m.0 a.2 in
+    let k = if_refused (is_variable at vs f.0) Argument p (module_in (entry_of at.declared f.0) f.0 p) a.0 a.1 in
+    let e = subst (λ (z : Module). (entry_of at.declared f.0 ≡ Some (entry.Module z)) × (z.params ≡ [])) (given_is a.0 m.0 b.2)
+    (module_is (entry_of at.declared f.0) f.0 p a.0 k.1) in
     subst (IsDeclared at) (given_is (reference f, d.0) n d.2)
     (in_module (entry_of at.declared f.0) m.0 x d.0 e.0 e.1 (some_given (proc_of m.0.procs x) (UnknownName x) (place_of f.1) d.0 d.1))
 

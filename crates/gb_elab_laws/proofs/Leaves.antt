@@ -39,7 +39,7 @@ use Rattle.gb_names.specs.Bindings.{binders_inside, innermost}
 use Rattle.gb_names.specs.Locals.{goal_read_type, local_if, locals_in}
 use Rattle.gb_names.specs.Environment.{Name, Environment, may_read, own, own_of, on_side, sides_of}
 use Rattle.gb_names.specs.Names.{ModuleVariable, first_named, global_at, global_in, global_variable, has_own, module_if, number_before, own_global, unit, unsided, bound_thing, bound_variable, logical_variable, program_variable, names_other, unbound, named, no_variable, variable_on, sided, in_memory, path}
-use Rattle.gb_names.specs.Names.{beside, has_memories, memory_at, remembered, side_of}
+use Rattle.gb_names.specs.Names.{beside, has_memories, may_name, memory_at, read_global, remembered, side_of}
 use Rattle.gb_elab.specs.Forms.{read}
 use Rattle.gb_elab.specs.Globs.{Seen, bare_glob, whole_alone, whole_read}
 use Rattle.gb_typing.specs.Context.{Frame, Context, erased, frame_of, local_in}
@@ -201,7 +201,8 @@ module _ {globs : Bool} (c : Context) (at : Environment) (vs : List Binding) (fi
 
   unsided_typed : (x : Name) (p : Place) (g : ModuleVariable) (u : Term) → global_at at x ≡ Some g → unsided at p g ≡ given u → IsSome globs c at.language u
   unsided_typed x p g u e h =
-      let k = if_allowed (has_own at.variables) (given (global_variable side.Own g)) Argument p u h in
+      let a = given_bind (may_name at g.0 p) (λ _. if has_own at.variables then given (global_variable side.Own g) else refused Argument p) u h in
+      let k = if_allowed (has_own at.variables) (given (global_variable side.Own g)) Argument p u a.2 in
       let t = global_typed side.Own (own_memory globs (reads_globals at.language) c at.variables k.0 fit.variables) x g e in
       subst (IsSome globs c at.language) (given_is _ u k.1) (t.0, t.2)
 
@@ -227,12 +228,14 @@ module _ {globs : Bool} (c : Context) (at : Environment) (vs : List Binding) (fi
   variable_typed x s p ls u o h =
       local (first_named ls x) refl (if_refused (is_some (innermost vs x)) Argument p _ u h).1
     where
-      global : (y : Option ModuleVariable) → global_at at x ≡ y → option_map_or (λ g. given (global_variable s g)) y (refused (no_variable at x) p) ≡ given u → IsVariable u
-      global (Some g) e k = subst IsVariable (given_is _ u k) (global_typed s o.memory x g e)
+      global : (y : Option ModuleVariable) → global_at at x ≡ y → option_map_or (read_global at s p) y (refused (no_variable at x) p) ≡ given u → IsVariable u
+      global (Some g) e k =
+          let a = given_bind (may_name at g.0 p) (λ _. given (global_variable s g)) u k in
+          subst IsVariable (given_is _ u a.2) (global_typed s o.memory x g e)
       global None e k = cc
 
       local : (y : Option TypedName) → first_named ls x ≡ y →
-          option_map_or (λ v. given (program_variable s v)) y (option_map_or (λ g. given (global_variable s g)) (global_at at x) (refused (no_variable at x) p)) ≡ given u → IsVariable u
+          option_map_or (λ v. given (program_variable s v)) y (option_map_or (read_global at s p) (global_at at x) (refused (no_variable at x) p)) ≡ given u → IsVariable u
       local (Some v) e k = subst IsVariable (given_is _ u k) (local_typed s ls o.memory.side o.read x v (found ls x v e))
       local None e k = global (global_at at x) refl k
 

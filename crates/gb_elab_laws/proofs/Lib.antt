@@ -36,7 +36,7 @@ pub mod Spoken
 pub mod Around
 pub mod Called
 pub mod Stated
-pub mod Unread
+pub mod AboutNamed
 pub mod Used
 mod Brought
 pub mod Programs
@@ -47,4 +47,7 @@ pub mod Scopes
 pub mod Bodies
 pub mod Entries
 pub mod Contracts
+pub mod Transformings
+pub mod Betweens
 pub mod Contracted
+pub mod Turning

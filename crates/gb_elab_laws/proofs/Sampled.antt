@@ -50,17 +50,20 @@ use Rattle.gb_names.specs.declared.setting.Language.TheVariants.{Function}
 use Rattle.gb_names.specs.Environment.{Environment, of_function}
 use Rattle.gb_elab.specs.Forms.{function}
 use Rattle.gb_elab_mod.specs.Occurring.{occurring}
-use Rattle.gb_elab_mod.specs.Steps.{acts, cut_of, last_sampled, functions, of_bodies_rule, on_all, one_type, plain_rule, conclusion_rule, conseq_rule, case_of_bodies, case_of_conclusion, formed, seq_rule, sided_case_rule, there_and_back, of_bodies, couplings, coupling_rule, functions_of, typed_rule, step_given, asked_of, chance_rule, judges_chance, symmetry_rule, witness_rule}
-use Rattle.gb_elab_mod.specs.Multiples.{hypothesis_at, multiples}
+use Rattle.gb_elab_mod.specs.Steps.{acts, cut_of, last_sampled, functions, of_bodies_rule, on_all, one_type, plain_rule, conclusion_rule, conseq_rule, case_of_bodies, case_of_conclusion, formed, seq_rule, sided_case_rule, there_and_back, of_bodies, couplings, drawing_rule, coupling_rule, functions_of, typed_rule, step_given, asked_of, chance_rule, judges_chance, symmetry_rule, witness_rule}
+use Rattle.gb_elab_mod.specs.Multiples.{hypothesis_at, multiples, position}
 use Rattle.gb_elab_mod.specs.Uses.{all_hinted, defined_operator, hypothesis, used}
 use Rattle.gb_elab_mod.specs.Taken.{new_name}
 use Rattle.gb_elab_mod.specs.Steps as steps
 use Rattle.gb_elab_prog.specs.Unbuilt.{absent}
 use Rattle.gb_elab_laws.specs.Fitting.{IsFitting, IsGiven}
-use Rattle.gb_equiv.specs.Rows.{IsTypedRule}
+use Rattle.gb_relational.specs.Rows.{IsTypedRule}
 use Rattle.gb_typing.specs.Samplings.{Sampling, last_sampling}
 use Rattle.gb_equiv.specs.Rnd.{IsFunction, AreFunctions, AreBetween, AreTypedFunctions}
+use Rattle.gb_elab_laws.proofs.Betweens.{transitive_typed}
 use Rattle.gb_elab_laws.proofs.Contracts.{of_call}
+use Rattle.gb_elab_laws.proofs.Transformings.{of_passing, of_placed}
+use Rattle.gb_elab_laws.proofs.Turning.{of_while}
 use Rattle.gb_elab_laws.proofs.Given.{given_bind, given_is, if_given}
 use Rattle.gb_elab_laws.proofs.Ends.{ends_agree, last_finite, occurring_in}
 use Rattle.gb_elab_laws.proofs.Fits.{function_fits}
@@ -99,18 +102,11 @@ module _ (c : Context) (ds : scope.Declarations) (q : Sequent) (xs ys : List Typ
       pair [] k l = (k, l)
       pair (r ∷ rs) k l = tt
 
-abbrev functions_in : Rule → List Term
-functions_in (rule.Relational (relational_rule.Rnd ts)) = ts
-functions_in _ = []
-
-abbrev is_relational : Rule → Bool
-is_relational (rule.Relational r) = true
-is_relational _ = false
-
--- a coupling of samplings
-abbrev has_functions : Rule → Bool
-has_functions (rule.Relational (relational_rule.Rnd ts)) = true
-has_functions _ = false
+-- a rule on equivalences that has terms or forms
+abbrev has_arguments : Rule → Bool
+has_arguments (rule.Relational (relational_rule.Rnd ts)) = true
+has_arguments (rule.Relational (relational_rule.Transitivity u)) = true
+has_arguments _ = false
 
 module _ (ds : scope.Declarations) (scoped : IsTypedScope (declared ds)) (q : Sequent) (t : IsTypedSequent (context_of (declared ds)) q) where
   abbrev here : Context
@@ -188,146 +184,152 @@ module _ (ds : scope.Declarations) (scoped : IsTypedScope (declared ds)) (q : Se
       unfolding couplings
       couplings_typed fs us h = of_head fs q.conclusion (out-Term q.conclusion).head (out-Term q.conclusion).args us h w
 
-      -- the functions of a rule
-      coupling_is : (b : Bool) (fs : List Node) (ts us : List Term) → coupling_rule b fs ts ≡ rule.Relational (relational_rule.Rnd us) → ts ≡ us
-      coupling_is true [] ts us e = absurd (false≢true (ap is_relational e))
-      coupling_is false [] ts us e = ap functions_in e
-      coupling_is true (f ∷ fs) [] us e = absurd (false≢true (ap is_relational e))
-      coupling_is false (f ∷ fs) [] us e = absurd (false≢true (ap is_relational e))
-      coupling_is true (f ∷ fs) (t ∷ ts) us e = ap functions_in e
-      coupling_is false (f ∷ fs) (t ∷ ts) us e = ap functions_in e
+      -- the rule's arguments are typed
+      abbrev Asked : Rule → Type 0
+      Asked k = IsTypedRule here k ls rs (goal_of q.conclusion)
+
+      coupling_asked : (b : Bool) (fs : List Node) (ts : List Term) → Typed ts → Asked (coupling_rule b fs ts)
+      coupling_asked true [] ts w = tt
+      coupling_asked false [] ts w = w
+      coupling_asked true (f ∷ fs) [] w = tt
+      coupling_asked false (f ∷ fs) [] w = tt
+      coupling_asked true (f ∷ fs) (t ∷ ts) w = w
+      coupling_asked false (f ∷ fs) (t ∷ ts) w = w
 
       -- whether the goal has a probability
       abbrev with_chance : Bool
       with_chance = judges_chance (out-Term q.conclusion).head
 
-      -- a rule of another family
-      other : (k j : Rule) (us : List Term) → is_relational k ≡ false → k ≡ j → j ≡ rule.Relational (relational_rule.Rnd us) → Typed us
-      other k j us f h r = absurd (false≢true (sym f ∙ ap is_relational (h ∙ r)))
+      untouched : (j : Rule) → has_arguments j ≡ false → Asked j
+      untouched (rule.Relational (relational_rule.Rnd us)) n = absurd (false≢true (sym n))
+      untouched (rule.Relational (relational_rule.Transitivity u)) n = absurd (false≢true (sym n))
+      untouched (rule.Relational relational_rule.Symmetry) n = tt
+      untouched (rule.Relational (relational_rule.Drawn a)) n = tt
+      untouched (rule.Relational relational_rule.Sim) n = tt
+      untouched (rule.OnBodies r) n = tt
+      untouched (rule.Chance r) n = tt
+      untouched (rule.Call r) n = tt
+      untouched (rule.Smt fs) n = tt
+      untouched (rule.Linear ms) n = tt
+      untouched (rule.Ambient r) n = tt
+      untouched (rule.Use r) n = tt
+      untouched (rule.Rewrite r) n = tt
+      untouched (rule.CallKnown a f) n = tt
+      untouched (rule.While i) n = tt
+      untouched (rule.Transform a t) n = tt
 
-      -- a rule without functions
-      no_functions : (k j : Rule) (us : List Term) → has_functions k ≡ false → k ≡ j → j ≡ rule.Relational (relational_rule.Rnd us) → Typed us
-      no_functions k j us f h r = absurd (false≢true (sym f ∙ ap has_functions (h ∙ r)))
+      -- a rule without such arguments
+      other : (j k : Rule) → has_arguments j ≡ false → j ≡ k → Asked k
+      other j k n e = subst Asked e (untouched j n)
 
-      of_case : (f : Node) (k : Rule) (us : List Term) (b : Bool) → (if b then of_bodies_rule (case_of_bodies ds q f (goal_of q.conclusion)) else case_of_conclusion ds q f) ≡ given k →
-          k ≡ rule.Relational (relational_rule.Rnd us) → Typed us
-      of_case f k us true h r =
-          let y = given_bind (case_of_bodies ds q f (goal_of q.conclusion)) (λ z. given (rule.OnBodies z)) k h in other (rule.OnBodies y.0) k us refl (given_is (rule.OnBodies y.0) k y.2) r
-      of_case f k us false h r =
+      of_case : (f : Node) (k : Rule) (b : Bool) → (if b then of_bodies_rule (case_of_bodies ds q f (goal_of q.conclusion)) else case_of_conclusion ds q f) ≡ given k → Asked k
+      of_case f k true h =
+          let y = given_bind (case_of_bodies ds q f (goal_of q.conclusion)) (λ z. given (rule.OnBodies z)) k h in other (rule.OnBodies y.0) k refl (given_is (rule.OnBodies y.0) k y.2)
+      of_case f k false h =
           let z = given_bind (formed ds q f) (λ (t : Term). given (rule.Ambient (conclusion.Case t))) k h in
-          other (rule.Ambient (conclusion.Case z.0)) k us refl (given_is (rule.Ambient (conclusion.Case z.0)) k z.2) r
+          other (rule.Ambient (conclusion.Case z.0)) k refl (given_is (rule.Ambient (conclusion.Case z.0)) k z.2)
 
-      of_chance : (a : Acts) (k : Rule) (us : List Term) → chance_rule a ≡ k → k ≡ rule.Relational (relational_rule.Rnd us) → Typed us
-      of_chance on.All k us h r = other (rule.Chance with_chance_rule.Hoare) k us refl h r
-      of_chance on.Left k us h r = other (rule.OnBodies on_bodies.Unfit) k us refl h r
-      of_chance on.Right k us h r = other (rule.OnBodies on_bodies.Unfit) k us refl h r
+      of_chance : (a : Acts) (k : Rule) → chance_rule a ≡ k → Asked k
+      of_chance on.All k h = other (rule.Chance with_chance_rule.Hoare) k refl h
+      of_chance on.Left k h = other (rule.OnBodies on_bodies.Unfit) k refl h
+      of_chance on.Right k h = other (rule.OnBodies on_bodies.Unfit) k refl h
 
-      of_symmetry : (a : Acts) (k : Rule) (us : List Term) → symmetry_rule a ≡ k → k ≡ rule.Relational (relational_rule.Rnd us) → Typed us
-      of_symmetry on.All k us h r = no_functions (rule.Relational relational_rule.Symmetry) k us refl h r
-      of_symmetry on.Left k us h r = other (rule.OnBodies on_bodies.Unfit) k us refl h r
-      of_symmetry on.Right k us h r = other (rule.OnBodies on_bodies.Unfit) k us refl h r
+      of_symmetry : (a : Acts) (k : Rule) → symmetry_rule a ≡ k → Asked k
+      of_symmetry on.All k h = other (rule.Relational relational_rule.Symmetry) k refl h
+      of_symmetry on.Left k h = other (rule.OnBodies on_bodies.Unfit) k refl h
+      of_symmetry on.Right k h = other (rule.OnBodies on_bodies.Unfit) k refl h
 
-      of_name : (x : List ℕ) (a : Acts) (p : Place) (k : Rule) (us : List Term) (b d : Bool) →
-          (if b then given (chance_rule a) else if d then given (symmetry_rule a) else of_bodies_rule (plain_rule x a p)) ≡ given k →
-          k ≡ rule.Relational (relational_rule.Rnd us) → Typed us
-      of_name x a p k us true d h r = of_chance a k us (given_is (chance_rule a) k h) r
-      of_name x a p k us false true h r = of_symmetry a k us (given_is (symmetry_rule a) k h) r
-      of_name x a p k us false false h r = let y = given_bind (plain_rule x a p) (λ z. given (rule.OnBodies z)) k h in other (rule.OnBodies y.0) k us refl (given_is (rule.OnBodies y.0) k y.2) r
+      of_name : (x : List ℕ) (a : Acts) (p : Place) (k : Rule) (b d : Bool) →
+          (if b then given (chance_rule a) else if d then given (symmetry_rule a) else of_bodies_rule (plain_rule x a p)) ≡ given k → Asked k
+      of_name x a p k true d h = of_chance a k (given_is (chance_rule a) k h)
+      of_name x a p k false true h = of_symmetry a k (given_is (symmetry_rule a) k h)
+      of_name x a p k false false h = let y = given_bind (plain_rule x a p) (λ z. given (rule.OnBodies z)) k h in other (rule.OnBodies y.0) k refl (given_is (rule.OnBodies y.0) k y.2)
 
-      of_sides : (a : Acts) (f : Node) (k : Rule) (us : List Term) → sided_case_rule ds q a f ≡ given k → k ≡ rule.Relational (relational_rule.Rnd us) → Typed us
-      of_sides on.All f k us h r = of_case f k us (judges_bodies (out-Term q.conclusion).head) h r
-      of_sides on.Left f k us h r = other (rule.OnBodies on_bodies.Unfit) k us refl (given_is (rule.OnBodies on_bodies.Unfit) k h) r
-      of_sides on.Right f k us h r = other (rule.OnBodies on_bodies.Unfit) k us refl (given_is (rule.OnBodies on_bodies.Unfit) k h) r
+      of_sides : (a : Acts) (f : Node) (k : Rule) → sided_case_rule ds q a f ≡ given k → Asked k
+      of_sides on.All f k h = of_case f k (judges_bodies (out-Term q.conclusion).head) h
+      of_sides on.Left f k h = other (rule.OnBodies on_bodies.Unfit) k refl (given_is (rule.OnBodies on_bodies.Unfit) k h)
+      of_sides on.Right f k h = other (rule.OnBodies on_bodies.Unfit) k refl (given_is (rule.OnBodies on_bodies.Unfit) k h)
 
-      of_rule : (n : Kind) (x : List ℕ) (xs : List Node) (p : Place) (k : Rule) (us : List Term) → typed_rule ds q n x xs p ≡ given k → k ≡ rule.Relational (relational_rule.Rnd us) → Typed us
-      of_rule text.Rnd x (b ∷ fs) p k us h r =
-          let o = given_bind (absent (parts_of b) p) _ k h in
-          let y = given_bind (couplings ds q (functions_of fs)) (λ (us : List Term). given (coupling_rule with_chance (functions_of fs) us)) k o.2 in
-          subst Typed (coupling_is with_chance (functions_of fs) y.0 us (given_is (coupling_rule with_chance (functions_of fs) y.0) k y.2 ∙ r)) (couplings_typed (functions_of fs) y.0 y.1)
-      of_rule text.Proc x (b ∷ i ∷ []) p k us h r =
+      of_drawing : (a : Acts) (fs : List Node) (k : Rule) → drawing_rule ds q a fs ≡ given k → Asked k
+      unfolding drawing_rule
+      of_drawing on.All fs k h =
+          let y = given_bind (couplings ds q fs) (λ (us : List Term). given (coupling_rule with_chance fs us)) k h in
+          subst Asked (given_is (coupling_rule with_chance fs y.0) k y.2) (coupling_asked with_chance fs y.0 (couplings_typed fs y.0 y.1))
+      of_drawing on.Left [] k h = other (rule.Relational (relational_rule.Drawn on.Left)) k refl (given_is (rule.Relational (relational_rule.Drawn on.Left)) k h)
+      of_drawing on.Left (f ∷ fs) k h = other (rule.OnBodies on_bodies.Unfit) k refl (given_is (rule.OnBodies on_bodies.Unfit) k h)
+      of_drawing on.Right [] k h = other (rule.Relational (relational_rule.Drawn on.Right)) k refl (given_is (rule.Relational (relational_rule.Drawn on.Right)) k h)
+      of_drawing on.Right (f ∷ fs) k h = other (rule.OnBodies on_bodies.Unfit) k refl (given_is (rule.OnBodies on_bodies.Unfit) k h)
+
+      of_rule : (n : Kind) (x : List ℕ) (xs : List Node) (p : Place) (k : Rule) → typed_rule ds q n x xs p ≡ given k → Asked k
+      of_rule text.Rnd x (b ∷ fs) p k h = of_drawing (acts (parts_of b)) (functions_of fs) k h
+      of_rule text.Proc x (b ∷ i ∷ []) p k h =
           let y = given_bind (absent (parts_of i) p) (λ _. given (rule.OnBodies (on_all (acts (parts_of b)) on_bodies.Proc))) k h in
-          other (rule.OnBodies (on_all (acts (parts_of b)) on_bodies.Proc)) k us refl (given_is (rule.OnBodies (on_all (acts (parts_of b)) on_bodies.Proc)) k y.2) r
-      of_rule text.BodyStep x (b ∷ []) p k us h r = of_name x (acts (parts_of b)) p k us (bytes_eq x (codes "hoare")) (bytes_eq x (codes "symmetry")) h r
-      of_rule text.Seq x (b ∷ n ∷ ns ∷ f ∷ bounds ∷ []) p k us h r =
+          other (rule.OnBodies (on_all (acts (parts_of b)) on_bodies.Proc)) k refl (given_is (rule.OnBodies (on_all (acts (parts_of b)) on_bodies.Proc)) k y.2)
+      of_rule text.BodyStep x (b ∷ []) p k h = of_name x (acts (parts_of b)) p k (bytes_eq x (codes "hoare")) (bytes_eq x (codes "symmetry")) h
+      of_rule text.Seq x (b ∷ n ∷ ns ∷ f ∷ bounds ∷ []) p k h =
           let o = given_bind (absent (parts_of bounds) p) (λ _. of_bodies_rule (seq_rule ds q (acts (parts_of b)) (cut_of n (parts_of ns)) f)) k h in
           let y = given_bind (seq_rule ds q (acts (parts_of b)) (cut_of n (parts_of ns)) f) (λ z. given (rule.OnBodies z)) k o.2 in
-          other (rule.OnBodies y.0) k us refl (given_is (rule.OnBodies y.0) k y.2) r
-      of_rule text.Conseq x (b ∷ f ∷ g ∷ d ∷ []) p k us h r =
+          other (rule.OnBodies y.0) k refl (given_is (rule.OnBodies y.0) k y.2)
+      of_rule text.Conseq x (b ∷ f ∷ g ∷ d ∷ []) p k h =
           let y = given_bind (conseq_rule ds q (acts (parts_of b)) (parts_of f) (parts_of g) (parts_of d)) (λ z. given (rule.OnBodies z)) k h in
-          other (rule.OnBodies y.0) k us refl (given_is (rule.OnBodies y.0) k y.2) r
-      of_rule text.CallStep x (b ∷ n ∷ []) p k us h r =
-          of_call ds q (λ j. j ≡ rule.Relational (relational_rule.Rnd us) → Typed us) (λ s e. absurd (false≢true (ap is_relational e))) (λ e. absurd (false≢true (ap is_relational e))) (acts (parts_of b)) (head_of n) (parts_of n) p k h r
-      of_rule text.PlainStep x [] p k us h r =
-          let o = given_bind (conclusion_rule x p) (λ (a : AmbientRule). given (rule.Ambient a)) k h in other (rule.Ambient o.0) k us refl (given_is (rule.Ambient o.0) k o.2) r
-      of_rule text.CaseStep x (b ∷ f ∷ []) p k us h r =
-          of_sides (acts (parts_of b)) f k us h r
-      of_rule text.HaveForm x (n ∷ f ∷ []) p k us h r =
+          other (rule.OnBodies y.0) k refl (given_is (rule.OnBodies y.0) k y.2)
+      of_rule text.CallStep x (b ∷ n ∷ []) p k h =
+          of_call ds q Asked (λ s. tt) (λ a n f e. tt) tt (acts (parts_of b)) (head_of n) (parts_of n) p k h
+      of_rule text.Transitivity x (b ∷ n ∷ []) p k h = transitive_typed ds scoped q t ls rs w (acts (parts_of b)) (head_of n) (parts_of n) p k h
+      of_rule text.PlainStep x [] p k h =
+          let o = given_bind (conclusion_rule x p) (λ (a : AmbientRule). given (rule.Ambient a)) k h in other (rule.Ambient o.0) k refl (given_is (rule.Ambient o.0) k o.2)
+      of_rule text.WhileStep x (b ∷ f ∷ []) p k h = of_while ds q Asked (λ v. tt) tt (acts (parts_of b)) f k h
+      of_rule text.CaseStep x (b ∷ f ∷ []) p k h =
+          of_sides (acts (parts_of b)) f k h
+      of_rule text.HaveForm x (n ∷ f ∷ []) p k h =
           let o = given_bind (new_name q (text_of n) (place_of n)) _ k h in
           let z = given_bind (formed ds q f) (λ (t : Term). given (rule.Ambient (conclusion.Have (text_of n) t))) k o.2 in
-          other (rule.Ambient (conclusion.Have (text_of n) z.0)) k us refl (given_is (rule.Ambient (conclusion.Have (text_of n) z.0)) k z.2) r
-      of_rule text.ApplyLemma x (n ∷ []) p k us h r =
+          other (rule.Ambient (conclusion.Have (text_of n) z.0)) k refl (given_is (rule.Ambient (conclusion.Have (text_of n) z.0)) k z.2)
+      of_rule text.ApplyLemma x (n ∷ []) p k h =
           let z = given_bind (used ds q n) (λ (f : Term). given (rule.Use (use_rule.Apply f))) k h in
-          other (rule.Use (use_rule.Apply z.0)) k us refl (given_is (rule.Use (use_rule.Apply z.0)) k z.2) r
-      of_rule text.HaveLemma x (m ∷ n ∷ []) p k us h r =
+          other (rule.Use (use_rule.Apply z.0)) k refl (given_is (rule.Use (use_rule.Apply z.0)) k z.2)
+      of_rule text.HaveLemma x (m ∷ n ∷ []) p k h =
           let o = given_bind (new_name q (text_of m) (place_of m)) _ k h in
           let z = given_bind (used ds q n) (λ (f : Term). given (rule.Use (use_rule.Have (text_of m) f))) k o.2 in
-          other (rule.Use (use_rule.Have (text_of m) z.0)) k us refl (given_is (rule.Use (use_rule.Have (text_of m) z.0)) k z.2) r
-      of_rule text.RewriteLemma x (n ∷ []) p k us h r =
+          other (rule.Use (use_rule.Have (text_of m) z.0)) k refl (given_is (rule.Use (use_rule.Have (text_of m) z.0)) k z.2)
+      of_rule text.RewriteLemma x (n ∷ []) p k h =
           let z = given_bind (used ds q n) (λ (f : Term). given (rule.Rewrite (rewrite_rule.Forward f))) k h in
-          other (rule.Rewrite (rewrite_rule.Forward z.0)) k us refl (given_is (rule.Rewrite (rewrite_rule.Forward z.0)) k z.2) r
-      of_rule text.RewriteBack x (n ∷ []) p k us h r =
+          other (rule.Rewrite (rewrite_rule.Forward z.0)) k refl (given_is (rule.Rewrite (rewrite_rule.Forward z.0)) k z.2)
+      of_rule text.RewriteBack x (n ∷ []) p k h =
           let z = given_bind (used ds q n) (λ (f : Term). given (rule.Rewrite (rewrite_rule.Back f))) k h in
-          other (rule.Rewrite (rewrite_rule.Back z.0)) k us refl (given_is (rule.Rewrite (rewrite_rule.Back z.0)) k z.2) r
-      of_rule text.RewriteHypothesis x (n ∷ []) p k us h r =
+          other (rule.Rewrite (rewrite_rule.Back z.0)) k refl (given_is (rule.Rewrite (rewrite_rule.Back z.0)) k z.2)
+      of_rule text.RewriteHypothesis x (n ∷ []) p k h =
           let z = given_bind (hypothesis ds q (text_of n) (place_of n)) (λ (f : Term). given (rule.Rewrite (rewrite_rule.Forward f))) k h in
-          other (rule.Rewrite (rewrite_rule.Forward z.0)) k us refl (given_is (rule.Rewrite (rewrite_rule.Forward z.0)) k z.2) r
-      of_rule text.Subst x (n ∷ []) p k us h r =
+          other (rule.Rewrite (rewrite_rule.Forward z.0)) k refl (given_is (rule.Rewrite (rewrite_rule.Forward z.0)) k z.2)
+      of_rule text.Subst x (n ∷ []) p k h =
           let z = given_bind (hypothesis_at ds q (text_of n) (place_of n)) (λ (i : ℕ). given (rule.Rewrite (rewrite_rule.Subst i))) k h in
-          other (rule.Rewrite (rewrite_rule.Subst z.0)) k us refl (given_is (rule.Rewrite (rewrite_rule.Subst z.0)) k z.2) r
-      of_rule text.RewriteOperator x (n ∷ []) p k us h r =
+          other (rule.Rewrite (rewrite_rule.Subst z.0)) k refl (given_is (rule.Rewrite (rewrite_rule.Subst z.0)) k z.2)
+      of_rule text.RewriteOperator x (n ∷ []) p k h =
           let z = given_bind (defined_operator ds q n) (λ (y : List ℕ). given (rule.Rewrite (rewrite_rule.Unfold y))) k h in
-          other (rule.Rewrite (rewrite_rule.Unfold z.0)) k us refl (given_is (rule.Rewrite (rewrite_rule.Unfold z.0)) k z.2) r
-      of_rule text.Smt x hints p k us h r =
-          let o = given_bind (all_hinted ds q hints) (λ (fs : List Term). given (rule.Smt fs)) k h in other (rule.Smt o.0) k us refl (given_is (rule.Smt o.0) k o.2) r
-      of_rule text.Linear x hs p k us h r =
-          let o = given_bind (multiples ds q hs) (λ (ms : List Multiple). given (rule.Linear ms)) k h in other (rule.Linear o.0) k us refl (given_is (rule.Linear o.0) k o.2) r
-      of_rule text.Name x [] p k us h r = other (rule.Ambient (conclusion.Introduce x)) k us refl (given_is (rule.Ambient (conclusion.Introduce x)) k h) r
-      of_rule text.Memory x (n ∷ []) p k us h r = other (rule.Ambient (conclusion.IntroduceMemory (text_of n))) k us refl (given_is (rule.Ambient (conclusion.IntroduceMemory (text_of n))) k h) r
-      of_rule text.Drop x [] p k us h r = other (rule.Ambient conclusion.Discard) k us refl (given_is (rule.Ambient conclusion.Discard) k h) r
-      of_rule text.BothPatterns x ps p k us h r = other (rule.Ambient conclusion.Unpack) k us refl (given_is (rule.Ambient conclusion.Unpack) k h) r
-      of_rule text.EitherPattern x ps p k us h r = other (rule.Ambient conclusion.Branch) k us refl (given_is (rule.Ambient conclusion.Branch) k h) r
-      of_rule text.Witness x (e ∷ []) p k us h r =
-          let o = given_bind (witness_rule ds q e) (λ (a : AmbientRule). given (rule.Ambient a)) k h in other (rule.Ambient o.0) k us refl (given_is (rule.Ambient o.0) k o.2) r
-      of_rule text.TrivialPattern x [] p k us h r = other (rule.Ambient conclusion.Trivial) k us refl (given_is (rule.Ambient conclusion.Trivial) k h) r
-      of_rule text.SmtPattern x [] p k us h r = other (rule.Smt []) k us refl (given_is (rule.Smt []) k h) r
-      of_rule _ x _ p k us h r = cc
-
--- The functions of a typed step `rnd` are typed over the locals of the bodies.
-pub step_typed : (ds : scope.Declarations) → IsTypedScope (declared ds) → (q : Sequent) (t : IsTypedSequent (context_of (declared ds)) q) → (n : Node) (s : Step) → step_given ds q n ≡ given s →
-    (fs : List Term) → s.rule ≡ rule.Relational (relational_rule.Rnd fs) → (ls rs : List TypedName) →
-    IsGoalOver (of_sequent (context_of (declared ds)) q t.frames) ls rs (goal_of q.conclusion) →
-    AreTypedFunctions (of_sequent (context_of (declared ds)) q t.frames) fs ls rs (goal_of q.conclusion)
-unfolding step_given
-step_typed ds scoped q t n s h fs r ls rs w =
-    let x = given_bind (typed_rule ds q (head_of n) (text_of n) (parts_of n) (place_of n)) (λ (k : Rule). given (record { rule = k; place = place_of n })) s h in
-    of_rule ds scoped q t ls rs w (head_of n) (text_of n) (parts_of n) (place_of n) x.0 fs x.1 (ap (λ (z : Step). z.rule) (given_is (record { rule = x.0; place = place_of n }) s x.2) ∙ r)
+          other (rule.Rewrite (rewrite_rule.Unfold z.0)) k refl (given_is (rule.Rewrite (rewrite_rule.Unfold z.0)) k z.2)
+      of_rule text.Smt x hints p k h =
+          let o = given_bind (all_hinted ds q hints) (λ (fs : List Term). given (rule.Smt fs)) k h in other (rule.Smt o.0) k refl (given_is (rule.Smt o.0) k o.2)
+      of_rule text.Linear x hs p k h =
+          let o = given_bind (multiples ds q hs) (λ (ms : List Multiple). given (rule.Linear ms)) k h in other (rule.Linear o.0) k refl (given_is (rule.Linear o.0) k o.2)
+      of_rule text.Name x [] p k h = other (rule.Ambient (conclusion.Introduce x)) k refl (given_is (rule.Ambient (conclusion.Introduce x)) k h)
+      of_rule text.Memory x (n ∷ []) p k h = other (rule.Ambient (conclusion.IntroduceMemory (text_of n))) k refl (given_is (rule.Ambient (conclusion.IntroduceMemory (text_of n))) k h)
+      of_rule text.Drop x [] p k h = other (rule.Ambient conclusion.Discard) k refl (given_is (rule.Ambient conclusion.Discard) k h)
+      of_rule text.BothPatterns x ps p k h = other (rule.Ambient conclusion.Unpack) k refl (given_is (rule.Ambient conclusion.Unpack) k h)
+      of_rule text.EitherPattern x ps p k h = other (rule.Ambient conclusion.Branch) k refl (given_is (rule.Ambient conclusion.Branch) k h)
+      of_rule text.Witness x (e ∷ []) p k h =
+          let o = given_bind (witness_rule ds q e) (λ (a : AmbientRule). given (rule.Ambient a)) k h in other (rule.Ambient o.0) k refl (given_is (rule.Ambient o.0) k o.2)
+      of_rule text.TrivialPattern x [] p k h = other (rule.Ambient conclusion.Trivial) k refl (given_is (rule.Ambient conclusion.Trivial) k h)
+      of_rule text.SmtPattern x [] p k h = other (rule.Smt []) k refl (given_is (rule.Smt []) k h)
+      of_rule text.Swap x (b ∷ n ∷ d ∷ []) p k h = of_passing Asked (λ a t. tt) (acts (parts_of b)) n (head_of d) (parts_of d) p k h
+      of_rule text.PositionStep x (b ∷ n ∷ []) p k h = of_placed Asked (λ a t. tt) x (acts (parts_of b)) (position n) p k h
+      of_rule _ x _ p k h = cc
 
 -- The arguments of a typed step are typed.
-module _ (ds : scope.Declarations) (scoped : IsTypedScope (declared ds)) (q : Sequent) (t : IsTypedSequent (context_of (declared ds)) q) (n : Node) (s : Step) (h : step_given ds q n ≡ given s) where
-  module _ (ls rs : List TypedName) (w : IsGoalOver (of_sequent (context_of (declared ds)) q t.frames) ls rs (goal_of q.conclusion)) where
-    of_step : (r : Rule) → s.rule ≡ r → IsTypedRule (of_sequent (context_of (declared ds)) q t.frames) r ls rs (goal_of q.conclusion)
-    of_step (rule.Relational (relational_rule.Rnd fs)) e = step_typed ds scoped q t n s h fs e ls rs w
-    of_step (rule.Relational relational_rule.Symmetry) e = tt
-    of_step (rule.OnBodies r) e = tt
-    of_step (rule.Chance r) e = tt
-    of_step (rule.Call s) e = tt
-    of_step (rule.Smt fs) e = tt
-    of_step (rule.Linear ms) e = tt
-    of_step (rule.Ambient r) e = tt
-    of_step (rule.Use r) e = tt
-    of_step (rule.Rewrite r) e = tt
-
 pub rule_typed : (ds : scope.Declarations) → IsTypedScope (declared ds) → (q : Sequent) (t : IsTypedSequent (context_of (declared ds)) q) → (n : Node) (s : Step) → step_given ds q n ≡ given s →
     (ls rs : List TypedName) → IsGoalOver (of_sequent (context_of (declared ds)) q t.frames) ls rs (goal_of q.conclusion) →
     IsTypedRule (of_sequent (context_of (declared ds)) q t.frames) s.rule ls rs (goal_of q.conclusion)
-rule_typed ds scoped q t n s h ls rs w = of_step ds scoped q t n s h ls rs w s.rule refl
+unfolding step_given
+rule_typed ds scoped q t n s h ls rs w =
+    let x = given_bind (typed_rule ds q (head_of n) (text_of n) (parts_of n) (place_of n)) (λ (k : Rule). given (record { rule = k; place = place_of n })) s h in
+    subst (λ (z : Step). IsTypedRule (of_sequent (context_of (declared ds)) q t.frames) z.rule ls rs (goal_of q.conclusion)) (given_is (record { rule = x.0; place = place_of n }) s x.2)
+    (of_rule ds scoped q t ls rs w (head_of n) (text_of n) (parts_of n) (place_of n) x.0 x.1)

@@ -1,8 +1,9 @@
 -- What the typing of statements gives is typed.
-use Rattle.std.proofs.Common.{◌≡◌, ℕ, true, List, [], ◌∷◌, ◌++◌, map, drop, length, pred, take, Option, Some, refl, ap, sym, ◌∙◌, subst, false}
+use Rattle.std.proofs.Common.{◌≡◌, ℕ, true, List, [], ◌∷◌, ◌++◌, map, drop, length, pred, take, if◌then◌else◌, Option, Some, None, refl, ap, sym, ◌∙◌, subst, false}
+use Rattle.std.proofs.lemmas.Bool.{false≢true}
 use Rattle.gb_core.specs.declared.place.Place.{Place}
 use Rattle.gb_core.specs.declared.refusal.Why.TheVariants.{TypeMismatch}
-use Rattle.gb_core.specs.declared.ty.Ty.{Ty}
+use Rattle.gb_core.specs.declared.ty.Ty.{Ty, out-Ty}
 use Rattle.gb_core.specs.declared.ty.Ty.TheVariants as ty
 use Rattle.gb_core.specs.declared.var.Var.TheVariants.{Local, Global, Glob}
 use Rattle.gb_terms.specs.declared.decl.Module.{Module}
@@ -11,32 +12,33 @@ use Rattle.gb_terms.specs.declared.op.Op.TheVariants as op
 use Rattle.gb_terms.specs.declared.op.Read.TheVariants as read_of
 use Rattle.gb_terms.specs.declared.op.Side.TheVariants as side
 use Rattle.gb_terms.specs.declared.term.Term.{Term}
-use Rattle.gb_terms.specs.declared.term.Head.TheVariants.{Assign, Sample, If, Read}
+use Rattle.gb_terms.specs.declared.term.Head.TheVariants.{Assign, Sample, If, Read, While}
 use Rattle.gb_terms.specs.declared.term.Instr.{Instr}
 use Rattle.gb_terms.specs.Make.{node, applied}
 use Rattle.gb_goal.specs.Scope.{Declarations}
 use Rattle.gb_script.specs.declared.head.Head.{Head}
 use Rattle.gb_script.specs.declared.head.Head.TheVariants as head
 use Rattle.gb_script.specs.declared.tree.Node.{Node}
-use Rattle.gb_script.specs.Tree.{head_of, parts_of, place_of}
+use Rattle.gb_script.specs.Tree.{head_of, text_of, parts_of, place_of}
 use Rattle.gb_meaning.specs.Operators.{outcome_type}
-use Rattle.gb_meaning.specs.Written.{type_of}
+use Rattle.gb_meaning.specs.Written.{type_of, IsModulo}
 use Rattle.gb_goal.specs.Answers.{◌>>=◌, given_or}
-use Rattle.gb_goal.specs.Answers.Answer.{given}
+use Rattle.gb_goal.specs.Answers.Answer.{given, refused}
 use Rattle.gb_meaning.specs.Names.{Name}
 use Rattle.gb_names.specs.declared.setting.Language.TheVariants.{Program}
 use Rattle.gb_elab.specs.Forms.{elaborated}
 use Rattle.gb_names.specs.Environment.{Environment, program}
-use Rattle.gb_names.specs.Names.{Target, path, target}
+use Rattle.gb_names.specs.Names.{Target, dotted, target}
 use Rattle.gb_names.proofs.Nodes.{by_parts}
 use Rattle.gb_operators.specs.Kinds.{entries}
 use Rattle.gb_elab_stmt.specs.Calls.{call}
-use Rattle.gb_elab_stmt.specs.Statements.{Stating, all_stated, alone, assignment, branch, called_to, entry_stored, instruction, result_in, result_to, results_in, sampling, stated, stating, stored, stored_term, tuple_assignment, with_statings, words, written, written_to}
+use Rattle.gb_elab_stmt.specs.Statements.{Stating, all_stated, alone, assignment, begun, branch, called_to, counts_down, entry_stored, instruction, is_modulo_layer, result_in, result_to, results_in, sampling, single, stated, stating, stored, stored_term, tuple_assignment, turning, variant, with_statings, words, written, written_to}
 use Rattle.gb_elab_stmt.specs.Targets.{targets, type_of_all, variables_of}
 use Rattle.gb_elab_prog.specs.Contexts.{nothing_around}
 use Rattle.gb_typed.specs.Finite.{IsFinite, IsVariableType}
 use Rattle.gb_typing.proofs.Variables.{variable_finite}
-use Rattle.gb_later.specs.Naming.{NoName}
+use Rattle.gb_holds.specs.Naming.{AnyName}
+use Rattle.gb_later.specs.Naming.{NoName, TermNames}
 use Rattle.gb_typed.specs.Programs.{Take, variable_type}
 use Rattle.gb_typing.specs.Context.{Context, erased, of_program}
 use Rattle.gb_typing.specs.Programs.{IsExpression, HaveVariableTypes}
@@ -46,13 +48,33 @@ use Rattle.gb_elab_laws.proofs.Around.{IsAround}
 use Rattle.gb_elab_laws.proofs.Around as program_around
 use Rattle.gb_elab_laws.proofs.Called as of_calls
 use Rattle.gb_elab_laws.proofs.Forms.{elaborated_typed}
-use Rattle.gb_elab_laws.proofs.Given.{given_bind, given_is, none_some, some_given}
+use Rattle.gb_elab_laws.proofs.Given.{given_bind, given_is, if_given, none_some, out_type, some_given}
 use Rattle.gb_elab_laws.proofs.Operators.{changed}
 use Rattle.gb_elab_laws.proofs.Spoken.{hidden_speaks, speak_append}
 use Rattle.gb_elab_laws.proofs.Shapes.{drawn_form, entries_finite, finite_form}
 use Rattle.gb_elab_laws.proofs.Tested.{map_of}
 use Rattle.gb_elab_laws.proofs.Typed.{Typed, given_from, leaf, of_given}
 use Rattle.gb_elab_laws.proofs.Types.{distributions_over}
+
+-- a term that passes the test of variants has a type `int[n]`
+of_layer : (t : Ty) → is_modulo_layer (out-Ty t) ≡ true → IsModulo t
+unfolding out-Ty denote.Hole.Carrier.out
+of_layer (ty.Mod n) e = tt
+of_layer ty.Unit e = absurd (false≢true e)
+of_layer ty.Bool e = absurd (false≢true e)
+of_layer (ty.Bits n) e = absurd (false≢true e)
+of_layer ty.Int e = absurd (false≢true e)
+of_layer ty.Real e = absurd (false≢true e)
+of_layer (ty.Enumeration x n) e = absurd (false≢true e)
+of_layer (ty.Tuple' n ts) e = absurd (false≢true e)
+of_layer (ty.Opt' p x) e = absurd (false≢true e)
+of_layer (ty.Map' p k q x) e = absurd (false≢true e)
+of_layer (ty.Distr' p x) e = absurd (false≢true e)
+of_layer (ty.Abstract x) e = absurd (false≢true e)
+of_layer (ty.Glob x) e = absurd (false≢true e)
+
+modulo : (v : Term) → counts_down v ≡ true → IsModulo (type_of v)
+modulo v e = of_layer (type_of v) (subst (λ t. is_modulo_layer (out-Ty t) ≡ true) (out_type v) e)
 
 module _ (ds : Declarations) (c : Context) (m : Module) (around : IsAround ds c m) (vs : List TypedName) (typed : HaveVariableTypes vs) where
   abbrev here : Environment
@@ -94,7 +116,7 @@ module _ (ds : Declarations) (c : Context) (m : Module) (around : IsAround ds c 
   all_take : (ws : List Target) (t : Ty) → AreTargets ws → t ≡ type_of_all ws → Take (erased c) vs (variables_of ws) t
   all_take = program_around.all_take ds c m around vs typed
 
-  call_typed : (ws : List Target) → AreTargets ws → (xs es : List Node) (p : Place) (i : Instr) → call here ws xs es p ≡ given i → IsMade i
+  call_typed : (ws : List Target) → AreTargets ws → (x : Node) (ys es : List Node) (p : Place) (i : Instr) → call here ws x ys es p ≡ given i → IsMade i
   call_typed = of_calls.call_typed ds c m around vs typed
 
   sampling_typed : (x : Name) (ds : List Node) (p : Place) (i : Instr) → sampling here x ds p ≡ given i → IsMade i
@@ -139,7 +161,7 @@ module _ (ds : Declarations) (c : Context) (m : Module) (around : IsAround ds c 
 
   -- calls whose results variables take
   result_typed : (ws : List Target) → AreTargets ws → (k : Head) (xs : List Node) (p : Place) (i : Instr) → result_to here ws k xs p ≡ given i → IsMade i
-  result_typed ws w head.Call xs p i h = call_typed ws w (words xs) (written xs) p i h
+  result_typed ws w head.Call (x ∷ xs) p i h = call_typed ws w x (words xs) (written xs) p i h
   result_typed ws w _ xs p i h = cc
 
   called_typed : (ws : List Target) → AreTargets ws → (ks : List Node) (p : Place) (i : Instr) → called_to here ws ks p ≡ given i → IsMade i
@@ -195,14 +217,14 @@ module _ (ds : Declarations) (c : Context) (m : Module) (around : IsAround ds c 
   stored_typed x (k ∷ []) p i h = cc
   stored_typed x (k ∷ e ∷ d ∷ ds) p i h = cc
 
-  instruction_typed : (k : Head) (xs : List Node) (p : Place) (i : Instr) → instruction here k xs p ≡ given i → IsMade i
-  instruction_typed head.Sample xs p i h = sampling_typed (path (words xs)) (written xs) p i h
-  instruction_typed head.Assign xs p i h = assignment_typed (path (words xs)) (written xs) p i h
-  instruction_typed head.Store xs p i h = stored_typed (path (take (pred (pred (length xs))) xs)) (drop (pred (pred (length xs))) xs) p i h
-  instruction_typed head.AssignCall xs p i h = result_in_typed (path (words xs)) (written xs) p i h
-  instruction_typed head.Call xs p i h = call_typed [] tt (words xs) (written xs) p i h
-  instruction_typed head.TupleStatement (ts ∷ w ∷ []) p i h = written_typed (parts_of ts) (head_of w) (parts_of w) p i h
-  instruction_typed _ xs p i h = cc
+  instruction_typed : (k : Head) (x : Node) (xs : List Node) (p : Place) (i : Instr) → instruction here k x xs p ≡ given i → IsMade i
+  instruction_typed head.Sample x xs p i h = sampling_typed (dotted (text_of x) (words xs)) (written xs) p i h
+  instruction_typed head.Assign x xs p i h = assignment_typed (dotted (text_of x) (words xs)) (written xs) p i h
+  instruction_typed head.Store x xs p i h = stored_typed (dotted (text_of x) (take (pred (pred (length xs))) xs)) (drop (pred (pred (length xs))) xs) p i h
+  instruction_typed head.AssignCall x xs p i h = result_in_typed (dotted (text_of x) (words xs)) (written xs) p i h
+  instruction_typed head.Call x xs p i h = call_typed [] tt x (words xs) (written xs) p i h
+  instruction_typed head.TupleStatement ts (w ∷ []) p i h = written_typed (parts_of ts) (head_of w) (parts_of w) p i h
+  instruction_typed _ x xs p i h = cc
 
   both_made : (is js : List Instr) → AreMade is → AreMade js → AreMade (is ++ js)
   both_made is js h k = (typed_append c vs is js h.0 k.0, speak_append NoName is js h.1 k.1)
@@ -217,10 +239,15 @@ module _ (ds : Declarations) (c : Context) (m : Module) (around : IsAround ds c 
   abbrev parts : List Known → List (Node × Stating)
   parts ks = map (λ k. (k.0, stated k.0)) ks
 
-  alone_typed : (k : Head) (xs : List Node) (p : Place) (is : List Instr) → alone (instruction here k xs p) ≡ given is → AreMade is
-  alone_typed k xs p is h =
-      let i = given_bind (instruction here k xs p) (λ i. given (i ∷ [])) is h in
-      subst (AreMade) {x = i.0 ∷ []} (given_is (i.0 ∷ []) is i.2) ((let w = instruction_typed k xs p i.0 i.1 in (w.0, tt)), (let w = instruction_typed k xs p i.0 i.1 in (w.1, tt)))
+  alone_typed : (k : Head) (x : Node) (xs : List Node) (p : Place) (is : List Instr) → alone (instruction here k x xs p) ≡ given is → AreMade is
+  alone_typed k x xs p is h =
+      let i = given_bind (instruction here k x xs p) (λ i. given (i ∷ [])) is h in
+      let w = instruction_typed k x xs p i.0 i.1 in
+      subst (AreMade) {x = i.0 ∷ []} (given_is (i.0 ∷ []) is i.2) ((w.0, tt), (w.1, tt))
+
+  single_typed : (k : Head) (xs : List Node) (p : Place) (is : List Instr) → single here k xs p ≡ given is → AreMade is
+  single_typed k (x ∷ xs) p is h = alone_typed k x xs p is h
+  single_typed k [] p is h = cc
 
   branch_typed : (e : Node) (a b : Stating) → Gives a → Gives b → (is : List Instr) → branch here e a b ≡ given is → AreMade is
   branch_typed e a b f g is h =
@@ -240,11 +267,46 @@ module _ (ds : Declarations) (c : Context) (m : Module) (around : IsAround ds c 
       let js = given_bind (all_stated (parts ks) here) (λ js. given (i.0 ++ js)) is i.2 in
       subst (AreMade) (given_is (i.0 ++ js.0) is js.2) (both_made i.0 js.0 (k.1 i.0 i.1) (list_typed ks js.0 js.1))
 
+  -- the variant of a loop is an expression of a type `int[n]`
+  abbrev IsVariant : Term → Type 0
+  IsVariant v = (IsExpression c vs v × IsModulo (type_of v)) × TermNames NoName AnyName v
+
+  variant_typed : (ss : List Node) (p : Place) (v : Term) → variant here ss p ≡ given v → IsVariant v
+  unfolding variant
+  variant_typed (s ∷ ss) p v h =
+      let k = given_bind (elaborated s here [] None) (λ k. if counts_down k then given k else refused TypeMismatch (place_of s)) v h in
+      let u = if_given (counts_down k.0) k.0 TypeMismatch (place_of s) v k.2 in
+      let g = elaborated_typed s inner here [] fits None tt k.0 k.1 in
+      subst IsVariant u.1 ((expression None k.0 g, modulo k.0 u.0), g.apart refl)
+  variant_typed [] p v h = cc
+
+  -- a loop, of which the statements behind the variant are typed
+  turning_typed : (e l : Node) (b : Stating) → Gives b → (is : List Instr) → turning here e l b ≡ given is → AreMade is
+  turning_typed e l b f is h =
+      let t = given_bind (elaborated e here [] (Some ty.Bool)) _ is h in
+      let v = given_bind (variant here (parts_of l) (place_of l)) _ is t.2 in
+      let y = given_bind (b here) (λ js. given (While t.0 v.0 (record { list = js }) ∷ [])) is v.2 in
+      let k = elaborated_typed e inner here [] fits (Some ty.Bool) tt t.0 t.1 in
+      let n = variant_typed (parts_of l) (place_of l) v.0 v.1 in
+      let r = f y.0 y.1 in
+      subst (AreMade) (given_is (While t.0 v.0 (record { list = y.0 }) ∷ []) is y.2)
+      ((((expression (Some ty.Bool) t.0 k, k.wanted), n.0, hidden_each c vs y.0 r.0), tt), ((k.apart refl, n.1, hidden_speaks NoName y.0 r.1), tt))
+
+  begun_typed : (x t : Node) (ss : Stating) → Gives ss → (is : List Instr) → begun here x t ss ≡ given is → AreMade is
+  begun_typed x t ss f is h =
+      let i = given_bind (alone (instruction here (head_of t) x (parts_of t) (place_of x))) _ is h in
+      let js = given_bind (ss here) (λ js. given (i.0 ++ js)) is i.2 in
+      subst (AreMade) (given_is (i.0 ++ js.0) is js.2) (both_made i.0 js.0 (alone_typed (head_of t) x (parts_of t) (place_of x) i.0 i.1) (f js.0 js.1))
+
   of_parts : (k : Head) (x : List ℕ) (ks : List Known) (p : Place) → Gives (stating k (parts ks) p)
   of_parts head.If x (e ∷ a ∷ b ∷ []) p is h = branch_typed e.0 (stated a.0) (stated b.0) a.1 b.1 is h
   of_parts head.If x _ p is h = cc
+  of_parts head.While x (e ∷ l ∷ []) p is h = turning_typed e.0 l.0 (stated l.0) l.1 is h
+  of_parts head.While x _ p is h = cc
+  of_parts head.Loop x (v ∷ ks) p is h = list_typed ks is h
+  of_parts head.NamedLoop x (v ∷ y ∷ t ∷ ks) p is h = begun_typed y.0 t.0 (all_stated (parts ks)) (list_typed ks) is h
   of_parts head.List x ks p is h = list_typed ks is h
-  of_parts k x ks p is h = alone_typed k (map (λ s. s.0) (parts ks)) p is h
+  of_parts k x ks p is h = single_typed k (map (λ s. s.0) (parts ks)) p is h
 
   statement_typed : (t : Node) → Gives (stated t)
   unfolding stated

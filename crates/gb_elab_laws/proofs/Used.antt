@@ -1,6 +1,5 @@
 -- What hypotheses with typed arguments say is typed, and is what they say.
-use Rattle.std.proofs.Common.{◌≡◌, inl, inr, ℕ, ◌+◌, nat_lt, Bool, true, false, if◌then◌else◌, List, [], ◌∷◌, length, map, Option, Some, None, refl, ap, sym, ◌∙◌, subst, arith}
-use Rattle.std.proofs.lemmas.Bool.{false≢true}
+use Rattle.std.proofs.Common.{◌≡◌, inl, inr, ℕ, ◌+◌, nat_lt, Bool, true, false, if◌then◌else◌, List, [], ◌∷◌, get_or, length, map, Option, Some, None, refl, ap, sym, ◌∙◌, subst, arith}
 use Rattle.std.specs.Prelude.{bytes_eq}
 use Rattle.std.specs.List.{AllByRecursion}
 use Rattle.std.specs.Option.{option_map, option_map_or}
@@ -15,9 +14,8 @@ use Rattle.gb_terms.specs.declared.decl.TypedName.{TypedName}
 use Rattle.gb_terms.specs.declared.module.Bind.{Bind}
 use Rattle.gb_terms.specs.declared.op.Side.{Side}
 use Rattle.gb_terms.specs.declared.op.Side.TheVariants as side
-use Rattle.gb_walk.specs.declared.change.Change.TheVariants.{ToSide}
-use Rattle.gb_walk.specs.Change.{term_changed}
 use Rattle.gb_goal.specs.Answers.{◌>>=◌, not_built}
+use Rattle.gb_meaning.specs.Names.{Name}
 use Rattle.gb_goal.specs.Answers.Answer.{given, refused}
 use Rattle.gb_goal.specs.Scope as scope
 use Rattle.gb_goal.specs.Scope.{as_lemma, binders_of, entry_of, lemma_of}
@@ -37,7 +35,7 @@ use Rattle.gb_holds.specs.Declared.{declaration_of, declared}
 use Rattle.gb_typed.specs.Programs.{HaveFiniteTypes}
 use Rattle.gb_typed.specs.Typing.{IsSide}
 use Rattle.gb_typed.specs.Typing.Binder.{memory}
-use Rattle.gb_typing.specs.Context.{Context, Frame, erased, within}
+use Rattle.gb_typing.specs.Context.{Context, Frame, erased, local_in, within}
 use Rattle.gb_typing.specs.Typing.{IsForm}
 use Rattle.gb_typing.specs.Sequents.{of_sequent, with_modules, AreFormulas, IsTypedSequent}
 use Rattle.gb_typing.specs.Scopes.{context_of, IsTypedScope}
@@ -57,16 +55,15 @@ use Rattle.gb_use.proofs.Binders.{binders_typed, framed}
 use Rattle.gb_use.proofs.Foralls.{argument_typed}
 use Rattle.gb_elab.specs.Forms.{elaborated}
 use Rattle.gb_names.specs.Environment.{ambient}
-use Rattle.gb_elab_mod.specs.BoundLocals.{reads_bound_locals}
+use Rattle.gb_elab_mod.specs.OtherLocals.{is_local, reads_other_locals}
 use Rattle.gb_elab_mod.specs.Multiples.{names_thing}
 use Rattle.gb_elab_mod.specs.Taken.{is_taken}
-use Rattle.gb_elab_mod.specs.Uses.{about_all, about_memory, about_value, all_hinted, hinted, hinted_at, hypothesis_named, hypothesis, is_memory, lemma_named, memory_of, name_of, no_known, of_argument, said_by, said_of, said_of_all, said_of_memory, said_on, used, used_at, used_named, value_of, without_modules as without_bound}
-use Rattle.gb_elab_laws.specs.Fitting.{IsFitting}
+use Rattle.gb_elab_mod.specs.Uses.{about_all, about_memory, about_named, about_value, all_hinted, hinted, hinted_at, hypothesis_named, hypothesis, is_memory, lemma_named, memory_of, name_of, no_known, said_by, said_of, said_of_all, said_of_memory, said_on, used, used_at, used_named, value_of, without_modules as without_bound}
 use Rattle.gb_elab_laws.specs.Procedures.{AreStated, IsOfProcedures}
 use Rattle.gb_elab_laws.proofs.Fits.{goal_fits}
 use Rattle.gb_elab_laws.proofs.Forms.{elaborated_typed}
 use Rattle.gb_elab_laws.proofs.Remembered.{IsNamedMemory, memory_is}
-use Rattle.gb_elab_laws.proofs.Unread.{memory_typed}
+use Rattle.gb_elab_laws.proofs.AboutNamed.{local_stands, memory_typed}
 use Rattle.gb_elab_laws.proofs.Given.{given_bind, given_is, if_refused, if_unbuilt, none_some, same_some}
 use Rattle.gb_elab_laws.proofs.Shapes.{finite_form}
 
@@ -92,6 +89,7 @@ lemma_in ((k, d) ∷ es) x l e = by_name (bytes_eq x k) (lemma_in es x l) e
     further (entry.Constant c) w = w
     further (entry.Operator o) w = w
     further (entry.AbstractOperator o) w = w
+    further (entry.Terminating p) w = w
 
     by_name : (b : Bool) → (lemma_of es x ≡ Some l → IsLemmaIn (declared es) l) → as_lemma (if b then Some d else entry_of es x) ≡ Some l → IsLemmaIn ((k, declaration_of d) ∷ declared es) l
     by_name true g e = here_is d e
@@ -113,27 +111,10 @@ module _ (ds : scope.Declarations) (scoped : IsTypedScope (declared ds)) (q : Se
   here_small : here ≡ small base us ns
   here_small = sequent_outermost (declared ds) q t.frames
 
-  argument_fits : IsFitting true here (of_argument ds q) []
-  argument_fits =
-      let k = goal_fits ds scoped q t in
-      record {
-        logical = k.logical;
-        values = k.values;
-        bound = k.bound;
-        variables = tt;
-        declared = k.declared;
-        around = tt;
-        globals = k.globals;
-        procedures = λ e. absurd (false≢true e);
-        memories = λ e. k.memories refl;
-        locals = λ e. k.locals refl;
-        frames = λ e. k.frames refl;
-      }
-
-  argument_of : (a : Node) (u : Ty) → IsFinite u → (x : Term) → elaborated a (of_argument ds q) [] (Some u) ≡ given x → IsArgument here u x
+  argument_of : (a : Node) (u : Ty) → IsFinite u → (x : Term) → elaborated a (ambient ds q) [] (Some u) ≡ given x → IsArgument here u x
   argument_of a u f x h =
-      let g = elaborated_typed a here (of_argument ds q) [] argument_fits (Some u) (finite_form true u f) x h in
-      record { typed = g.typed; type = g.wanted; plain = g.plain refl }
+      let g = elaborated_typed a here (ambient ds q) [] (goal_fits ds scoped q t) (Some u) (finite_form true u f) x h in
+      record { typed = g.typed; type = g.wanted }
 
   value_is : (a : Node) (u : Ty) → IsFinite u → (x : Term) → value_of ds q u a ≡ given x → IsArgument here u x
   value_is a u f x h = argument_of a u f x (if_refused (is_memory (head_of a)) Argument (place_of a) _ x h).1
@@ -182,11 +163,12 @@ module _ (ds : scope.Declarations) (scoped : IsTypedScope (declared ds)) (q : Se
   memory_named _ ps p s e = cc
 
   -- what the body of a quantifier over memories says of one of the context is typed
-  pub said_of_memory_typed : (i : ℕ) → IsNamedMemory here (side.Memory i) → (ls : List TypedName) (b : Term) → IsForm (within here memory (Some ls)) b → reads_bound_locals b ≡ false →
-      IsForm here (at_memory b i)
+  pub said_of_memory_typed : (i : ℕ) → IsNamedMemory here (side.Memory i) → (ls : List TypedName) (b : Term) → IsForm (within here memory (Some ls)) b →
+      reads_other_locals q (side.Memory i) (at_memory b i) ≡ false → IsForm here (at_memory b i)
   said_of_memory_typed i m ls b w e =
-      subst (λ d. IsNamedMemory d (side.Memory i) → IsForm (within d memory (Some ls)) b → IsForm d (at_memory b i)) (sym here_small)
-      (λ n body. memory_typed base us ns i n.frame n.side ls b body e) m w
+      subst
+      (λ d. IsNamedMemory d (side.Memory i) → ((x : Name) (u : Ty) → is_local q (side.Memory i) x u ≡ true → local_in (get_or d.named i None) x ≡ Some u) → IsForm (within d memory (Some ls)) b → IsForm d (at_memory b i))
+      (sym here_small) (λ n stands body. memory_typed base us ns i n.frame n.side q stands ls b body e) m (local_stands i (context_of (declared ds)) q t) w
 
   memory_said : (f g b : Term) (a : Node) → IsForm here f → (out-Term f).head ≡ head.AllMemory → (out-Term f).args ≡ b ∷ [] → said_of ds q head.AllMemory (b ∷ []) a ≡ given g → Said f g
   memory_said f g b a w eh et k =
@@ -194,13 +176,14 @@ module _ (ds : scope.Declarations) (scoped : IsTypedScope (declared ds)) (q : Se
       let whole : f ≡ node head.AllMemory (b ∷ []) r = each_is_node f ∙ (λ i. node (eh i) (et i) r) in
       let v = subst (IsForm here) whole w in
       let p = parts_typed here head.AllMemory (b ∷ []) r v.typed in
-      let y = given_bind (memory_of ds q (head_of a) (parts_of a) (place_of a)) (λ s. said_of_memory b s (place_of a)) g k in
+      let y = given_bind (memory_of ds q (head_of a) (parts_of a) (place_of a)) (λ s. said_of_memory q b s (place_of a)) g k in
       let m = memory_named (head_of a) (parts_of a) (place_of a) y.0 y.1 in
-      let z = if_unbuilt (reads_bound_locals b) (place_of a) (term_changed b (ToSide (side.Bound 0) y.0 ∷ [])) g y.2 in
-      let same : at_memory b m.number ≡ g = ap (λ s. term_changed b (ToSide (side.Bound 0) s ∷ [])) (sym m.is) ∙ z.1 in
+      let z = if_unbuilt (reads_other_locals q y.0 (about_named b y.0)) (place_of a) (about_named b y.0) g y.2 in
+      let same : at_memory b m.number ≡ g = ap (about_named b) (sym m.is) ∙ z.1 in
+      let known = subst (λ s. reads_other_locals q s (about_named b s) ≡ false) m.is z.0 in
       let place : IsNamedMemory here (side.Memory m.number) = subst (IsNamedMemory here) m.is m.named in
       let body : IsForm (within here memory (Some p.2)) b = record { typed = p.3; truth = p.0.0 } in
-      let form : IsForm here (at_memory b m.number) = said_of_memory_typed m.number place p.2 b body z.0 in
+      let form : IsForm here (at_memory b m.number) = said_of_memory_typed m.number place p.2 b body known in
       record {
         argument = of_memory m.number;
         says = λ es h x. (b, r, whole, form, subst (λ t. Says here t es h) (sym same) x);

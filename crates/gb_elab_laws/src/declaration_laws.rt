@@ -5,7 +5,7 @@ ghost use Rattle.gb_core.specs.declared.ty.Ty.TheVariants as ty;
 ghost use Rattle.gb_terms.specs.declared.decl.Module.{Module};
 ghost use Rattle.gb_script.specs.declared.tree.Node.{Node};
 ghost use Rattle.gb_goal.specs.Scope as scope;
-ghost use Rattle.gb_goal.specs.Scope.{AreNoLemmas};
+ghost use Rattle.gb_goal.specs.Scope.{ClaimNothing};
 ghost use Rattle.gb_goal.specs.declared.scope.Binder.{Binder};
 ghost use Rattle.gb_goal.specs.declared.scope.Entry.TheVariants as entry;
 ghost use Rattle.gb_goal.specs.declared.sequent.Sequent.{Sequent};
@@ -28,7 +28,7 @@ ghost use Rattle.gb_elab_prog.specs.Modules.{module_given};
 pub fn entries()
     ensures added { (ds : scope.Declarations) → IsTypedScope (declared ds) → (t : Node) (added : scope.Declarations) → entries_given ds t ≡ given added →
         IsTypedScope (declared (ds ++ added)) }
-    ensures others { (ds : scope.Declarations) → (t : Node) (added : scope.Declarations) → entries_given ds t ≡ given added → AreNoLemmas added }
+    ensures others { (ds : scope.Declarations) → (t : Node) (added : scope.Declarations) → entries_given ds t ≡ given added → ClaimNothing added }
     ensures speaks { (ds : scope.Declarations) → IsTypedScope (declared ds) → (t : Node) (added : scope.Declarations) → entries_given ds t ≡ given added →
         ScopeSpeaks NoName (declared added) }
 {}

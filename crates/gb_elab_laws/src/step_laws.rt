@@ -26,7 +26,7 @@ ghost use Rattle.gb_elab_mod.specs.Steps.{step_given};
 ghost use Rattle.gb_elab_laws.specs.Procedures.{AreStated};
 ghost use Rattle.gb_elab_laws.specs.Reading.{IsOuter, StandIn};
 ghost use Rattle.gb_bodies.specs.Rows as bodies;
-ghost use Rattle.gb_equiv.specs.Rows.{IsTypedRule};
+ghost use Rattle.gb_relational.specs.Rows.{IsTypedRule};
 ghost use Rattle.gb_call_both.specs.Rows as calls;
 ghost use Rattle.gb_amb.specs.Steps.{IsTypedStep};
 ghost use Rattle.gb_use.specs.Lemmas.{IsKnown};
@@ -38,7 +38,8 @@ pub fn locals_read()
 {}
 
 /// The arguments of a typed step at a typed goal are typed over the locals of the bodies: the functions of `rnd` between the values of
-/// the samplings that end both bodies, the forms of `seq`, `case` and `conseq`, and what a called procedure is said to do, in a typed scope.
+/// the samplings that end both bodies, the forms of `seq`, `case` and `conseq`, what relates two procedures to the one between, and what a
+/// called procedure is said to do, in a typed scope.
 pub fn typed_rules()
     ensures bodies { (ds : scope.Declarations) → IsTypedScope (declared ds) → (q : Sequent) (t : IsTypedSequent (context_of (declared ds)) q) →
         (n : Node) (s : Step) → step_given ds q n ≡ given s →

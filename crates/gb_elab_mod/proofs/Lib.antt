@@ -1,3 +1,3 @@
-pub mod BoundLocals
+pub mod OtherLocals
 pub mod Found
 pub mod LastProcedures

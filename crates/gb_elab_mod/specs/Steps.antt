@@ -28,6 +28,7 @@ use Rattle.gb_steps.specs.declared.step.AmbientRule.TheVariants as conclusion
 use Rattle.gb_steps.specs.declared.step.BodyRule.{BodyRule}
 use Rattle.gb_steps.specs.declared.step.BodyRule.TheVariants as on_bodies
 use Rattle.gb_steps.specs.declared.step.ChanceRule.TheVariants as with_chance
+use Rattle.gb_steps.specs.declared.step.Transformation.TheVariants as transformation
 use Rattle.gb_steps.specs.declared.step.Acts.{Acts}
 use Rattle.gb_steps.specs.declared.step.Acts.TheVariants as on
 use Rattle.gb_steps.specs.declared.step.Cut.{Cut}
@@ -48,14 +49,14 @@ use Rattle.gb_script.specs.Tree.{head_of, text_of, parts_of, place_of}
 use Rattle.gb_goal.specs.Answers.{Answer, ◌>>=◌, not_built}
 use Rattle.gb_goal.specs.Answers.Answer.{given, refused}
 use Rattle.gb_names.specs.Environment.{Environment, ambient, of_function, relational, unary}
-use Rattle.gb_names.specs.Judgments.{result_of}
+use Rattle.gb_names.specs.Judgments.{named_procedure, result_of}
 use Rattle.gb_elab.specs.Forms.{elaborated, function}
 use Rattle.gb_limits.specs.Numbers.{number_of}
-use Rattle.gb_elab_mod.specs.BoundLocals.{reads_bound_locals}
+use Rattle.gb_elab_mod.specs.OtherLocals.{reads_other_locals}
 use Rattle.gb_elab_mod.specs.Multiples.{hypothesis_at, multiples, position}
 use Rattle.gb_elab_mod.specs.Occurring.{occurring}
 use Rattle.gb_elab_mod.specs.Taken.{new_name}
-use Rattle.gb_elab_mod.specs.Uses.{all_hinted, defined_operator, hypothesis, used, is_memory, memory_of}
+use Rattle.gb_elab_mod.specs.Uses.{about_named, all_hinted, defined_operator, hypothesis, used, is_memory, memory_of}
 use Rattle.gb_elab_prog.specs.Unbuilt.{absent}
 
 abbrev pub of_subjects : layer.Subject-F Head Instr Subject Cmd Term → layer.Subject-F Head Instr Subject Cmd Term → Option (Cmd × Cmd)
@@ -144,6 +145,14 @@ abbrev pub acts : List Node → Acts
 acts [] = on.All
 acts (n ∷ ns) = if bytes_eq (text_of n) (codes "1") then on.Left else on.Right
 
+-- `rnd` on the programs on which a step acts; a function is one between samplings of both, and fits no side
+unfoldable pub drawing_rule : Declarations → Sequent → Acts → List Node → Answer Rule
+drawing_rule ds g on.All fs = do
+  ts ← couplings ds g fs
+  given (coupling_rule (judges_chance (out-Term g.conclusion).head) fs ts)
+drawing_rule ds g a [] = given (rule.Relational (relational_rule.Drawn a))
+drawing_rule ds g a (f ∷ fs) = given (rule.OnBodies on_bodies.Unfit)
+
 -- a rule that acts on all programs of a goal alone
 abbrev pub on_all : Acts → BodyRule → BodyRule
 on_all on.All r = r
@@ -212,18 +221,34 @@ conclusion_rule x p =
 abbrev pub formed : Declarations → Sequent → Node → Answer Term
 formed ds g f = elaborated f (ambient ds g) [] (Some bool_ty)
 
--- The form of `case` at a judgment of bodies, which reads the locals that occur in the goal.
-unfoldable pub case_of_bodies : Declarations → Sequent → Node → Goal → Answer BodyRule
-case_of_bodies ds s r (hoare (body is) p q) = do
+-- A form that a step says of the bodies of a judgment, which reads the locals that occur in the goal. Other goals give it no type.
+unfoldable pub said_of_bodies : Declarations → Sequent → Node → Goal → Answer (Option Term)
+said_of_bodies ds s r (hoare (body is) p q) = do
   f ← elaborated r (unary ds s (occurring (p ∷ q ∷ []) side.Own is)) [] (Some bool_ty)
-  given (on_bodies.Case f)
-case_of_bodies ds s r (phoare (body is) o p q b) = do
+  given (Some f)
+said_of_bodies ds s r (phoare (body is) o p q b) = do
   f ← elaborated r (unary ds s (occurring (p ∷ q ∷ []) side.Own is)) [] (Some bool_ty)
-  given (on_bodies.Case f)
-case_of_bodies ds s r (equiv (body is) (body js) p q) = do
+  given (Some f)
+said_of_bodies ds s r (equiv (body is) (body js) p q) = do
   f ← elaborated r (relational ds s (occurring (p ∷ q ∷ []) side.Left is) (occurring (p ∷ q ∷ []) side.Right js)) [] (Some bool_ty)
-  given (on_bodies.Case f)
-case_of_bodies ds s r G = given on_bodies.Unfit
+  given (Some f)
+said_of_bodies ds s r G = given None
+
+abbrev pub case_by : Option Term → BodyRule
+case_by (Some f) = on_bodies.Case f
+case_by None = on_bodies.Unfit
+
+-- the form of `case` at a judgment of bodies
+abbrev pub case_of_bodies : Declarations → Sequent → Node → Goal → Answer BodyRule
+case_of_bodies ds s r G = said_of_bodies ds s r G >>= λ f. given (case_by f)
+
+abbrev pub kept_by : Acts → Option Term → Rule
+kept_by a (Some f) = rule.While (record { acts = a; kept = f })
+kept_by a None = rule.OnBodies on_bodies.Unfit
+
+-- what each turn keeps of the loops that end the bodies of a judgment
+abbrev pub while_rule : Declarations → Sequent → Acts → Node → Answer Rule
+while_rule ds s a r = said_of_bodies ds s r (goal_of s.conclusion) >>= λ f. given (kept_by a f)
 
 -- the form of `case` at any other conclusion
 abbrev pub case_of_conclusion : Declarations → Sequent → Node → Answer Rule
@@ -323,10 +348,44 @@ contract_at ds s a pre post (phoare (body is) r p q b) = contract_of ds s a pre 
 contract_at ds s a pre post (equiv (body is) (body js) p q) = contract_of_both ds s a pre post (last_procedure is) (last_procedure js)
 contract_at ds s a pre post G = given (rule.OnBodies on_bodies.Unfit)
 
--- Of the rules on calls that by what the procedure is said to do is built.
+-- The rules on calls by what the procedures are said to do, and by a judgment of them that is known, are built.
 abbrev pub call_rule : Declarations → Sequent → Acts → Kind → List Node → Place → Answer Rule
 call_rule ds s a text.CallContract (pre ∷ post ∷ []) p = contract_at ds s a pre post (goal_of s.conclusion)
+call_rule ds s a text.CallLemma (t ∷ []) p = do
+  f ← used ds s t
+  given (rule.CallKnown a f)
 call_rule ds s a k ns p = not_built p
+
+-- what relates two procedures: a form over the parameters of both, and one over both results
+unfoldable pub related : Declarations → Sequent → Node → Node → ProcRef → ProcRef → Answer (Term × Term)
+related ds s pre post r q = do
+  f ← elaborated pre (relational ds s (params_if (procedure_of ds r)) (params_if (procedure_of ds q))) [] (Some bool_ty)
+  h ← elaborated post (relational ds s (result_if (procedure_of ds r)) (result_if (procedure_of ds q))) [] (Some bool_ty)
+  given (f, h)
+
+-- the procedure between two others that these words name, what relates the left one to it, and what relates it to the right one
+unfoldable pub between_of : Declarations → Sequent → List Node → Node → Node → Node → Node → Place → ProcRef → ProcRef → Answer Rule
+between_of ds s words pre post later_pre later_post p r q = do
+  m ← named_procedure (ambient ds s) [] text.ProcedurePath words p
+  l ← related ds s pre post r m.0
+  k ← related ds s later_pre later_post m.0 q
+  given (rule.Relational (relational_rule.Transitivity (record { procedure = m.0; left_pre = l.0; left_post = l.1; right_pre = k.0; right_post = k.1 })))
+
+-- The same at an equivalence of procedures; other goals give the forms no types. A name of more words than two is that of a module of a
+-- theory, and isn't built yet.
+abbrev pub between_by : Declarations → Sequent → Node → Node → Node → Node → List Node → Goal → Place → Answer Rule
+between_by ds s x y pre post (f ∷ h ∷ []) (equiv (procedure r) (procedure q) a b) p = between_of ds s (x ∷ y ∷ []) pre post f h (place_of x) r q
+between_by ds s x y pre post (f ∷ h ∷ []) G p = given (rule.OnBodies on_bodies.Unfit)
+between_by ds s x y pre post fs G p = not_built p
+
+abbrev pub between_at : Declarations → Sequent → Kind → List Node → Place → Answer Rule
+between_at ds s text.PlainTransitivity (x ∷ y ∷ pre ∷ post ∷ n ∷ []) p = between_by ds s x y pre post (parts_of n) (goal_of s.conclusion) p
+between_at ds s k ns p = not_built p
+
+-- `transitivity` acts on both programs
+abbrev pub transitive_rule : Declarations → Sequent → Acts → Kind → List Node → Place → Answer Rule
+transitive_rule ds s on.All k ns p = between_at ds s k ns p
+transitive_rule ds s a k ns p = given (rule.OnBodies on_bodies.Unfit)
 
 -- the type of a value that is said to exist
 abbrev pub asked_of : Head → Option Ty
@@ -339,15 +398,15 @@ value_witness ds g e = do
   t ← elaborated e (ambient ds g) [] (asked_of (out-Term g.conclusion).head)
   given (conclusion.Witness t)
 
--- whether a conclusion with this head and these arguments says that a memory exists, of which it reads locals
-abbrev pub asks_for_locals : Head → List Term → Bool
-asks_for_locals head.SomeMemory (b ∷ []) = reads_bound_locals b
-asks_for_locals h ts = false
+-- whether what a conclusion with this head and these arguments says to exist has locals, in this memory, that the goal doesn't read there
+abbrev pub asks_for_locals : Sequent → Side → Head → List Term → Bool
+asks_for_locals g s head.SomeMemory (b ∷ []) = reads_other_locals g s (about_named b s)
+asks_for_locals g s h ts = false
 
--- a memory of the context, for one that is said to exist; where locals of this one are read it isn't built
+-- a memory of the context, for one that is said to exist; where that has locals which the goal doesn't read in this one it isn't built
 abbrev pub memory_witness : Sequent → Side → Place → Answer AmbientRule
 memory_witness g (side.Memory i) p =
-    if asks_for_locals (out-Term g.conclusion).head (out-Term g.conclusion).args then not_built p else given (conclusion.WitnessMemory i)
+    if asks_for_locals g (side.Memory i) (out-Term g.conclusion).head (out-Term g.conclusion).args then not_built p else given (conclusion.WitnessMemory i)
 memory_witness g s p = not_built p
 
 -- a memory or a term for what is said to exist
@@ -367,7 +426,34 @@ pattern text.SmtPattern x [] p = given (rule.Smt [])
 pattern text.TrivialPattern x [] p = given (rule.Ambient conclusion.Trivial)
 pattern _ x ps p = not_built p
 
--- a rule that puts equals for equals, or a pattern
+-- the statement at a place passes so many others: to the back, or to the front
+abbrev pub passing : Node → Node → Bool → Acts → Rule
+passing n d front a = rule.Transform a (transformation.Swap (record { at = position n; by = position d; front = front }))
+
+abbrev pub passing_rule : Acts → Node → Kind → List Node → Place → Answer Rule
+passing_rule a n text.Forward (d ∷ []) p = given (passing n d false a)
+passing_rule a n text.Backward (d ∷ []) p = given (passing n d true a)
+passing_rule a n k ds p = not_built p
+
+-- A guard at a place that is always true, or false. (On one of two programs it isn't built.)
+abbrev pub decided_rule : Bool → Acts → ℕ → Place → Answer Rule
+decided_rule t on.All i p = given (rule.Transform on.All (transformation.Decided i t))
+decided_rule t a i p = not_built p
+
+-- a rule on the statement at a place
+abbrev pub placed_rule : List ℕ → Acts → ℕ → Place → Answer Rule
+placed_rule x a i p =
+    if bytes_eq x (codes "rcondt") then decided_rule true a i p
+    else if bytes_eq x (codes "rcondf") then decided_rule false a i p
+    else if bytes_eq x (codes "unroll") then given (rule.Transform a (transformation.Unroll i)) else not_built p
+
+-- a rule that puts other statements into a program, or a pattern
+abbrev pub transforming_rule : Kind → List ℕ → List Node → Place → Answer Rule
+transforming_rule text.Swap x (b ∷ n ∷ way ∷ []) p = passing_rule (acts (parts_of b)) n (head_of way) (parts_of way) p
+transforming_rule text.PositionStep x (b ∷ n ∷ []) p = placed_rule x (acts (parts_of b)) (position n) p
+transforming_rule k x ps p = pattern k x ps p
+
+-- a rule that puts equals for equals, a transformation of a program, or a pattern
 abbrev pub equals_rule : Declarations → Sequent → Kind → List ℕ → List Node → Place → Answer Rule
 equals_rule ds g text.RewriteLemma x (t ∷ []) p = do
   f ← used ds g t
@@ -384,9 +470,9 @@ equals_rule ds g text.Subst x (n ∷ []) p = do
 equals_rule ds g text.RewriteOperator x (n ∷ []) p = do
   y ← defined_operator ds g n
   given (rule.Rewrite (rewrite_rule.Unfold y))
-equals_rule ds g k x ps p = pattern k x ps p
+equals_rule ds g k x ps p = transforming_rule k x ps p
 
--- a rule that uses what is known, one that puts equals for equals, or a pattern
+-- a rule that uses what is known, one that puts equals for equals, a transformation of a program, or a pattern
 abbrev pub used_rule : Declarations → Sequent → Kind → List ℕ → List Node → Place → Answer Rule
 used_rule ds g text.ApplyLemma x (t ∷ []) p = do
   f ← used ds g t
@@ -397,15 +483,24 @@ used_rule ds g text.HaveLemma x (n ∷ t ∷ []) p = do
   given (rule.Use (use_rule.Have (text_of n) f))
 used_rule ds g k x ps p = equals_rule ds g k x ps p
 
+-- the rule on loops, one that uses what is known, or another one
+abbrev pub looping_rule : Declarations → Sequent → Kind → List ℕ → List Node → Place → Answer Rule
+looping_rule ds g text.WhileStep x (b ∷ f ∷ []) p = while_rule ds g (acts (parts_of b)) f
+looping_rule ds g k x ps p = used_rule ds g k x ps p
+
+-- a form is shown, and then is a hypothesis under a new name
+abbrev pub have_rule : Declarations → Sequent → Node → Node → Answer Rule
+have_rule ds g n f = do
+  _ ← new_name g (text_of n) (place_of n)
+  t ← formed ds g f
+  given (rule.Ambient (conclusion.Have (text_of n) t))
+
 -- a rule or a pattern
 abbrev pub typed_rule : Declarations → Sequent → Kind → List ℕ → List Node → Place → Answer Rule
 typed_rule ds g text.Proc x (b ∷ invariant ∷ []) p = do
   _ ← absent (parts_of invariant) p
   given (rule.OnBodies (on_all (acts (parts_of b)) on_bodies.Proc))
-typed_rule ds g text.Rnd x (b ∷ fs) p = do
-  _ ← absent (parts_of b) p
-  ts ← couplings ds g (functions_of fs)
-  given (coupling_rule (judges_chance (out-Term g.conclusion).head) (functions_of fs) ts)
+typed_rule ds g text.Rnd x (b ∷ fs) p = drawing_rule ds g (acts (parts_of b)) (functions_of fs)
 typed_rule ds g text.BodyStep x (b ∷ []) p = named_rule x (acts (parts_of b)) p
 typed_rule ds g text.Seq x (b ∷ n ∷ ns ∷ r ∷ bounds ∷ []) p = do
   _ ← absent (parts_of bounds) p
@@ -413,14 +508,12 @@ typed_rule ds g text.Seq x (b ∷ n ∷ ns ∷ r ∷ bounds ∷ []) p = do
 typed_rule ds g text.Conseq x (b ∷ pre ∷ post ∷ bound ∷ []) p =
     of_bodies_rule (conseq_rule ds g (acts (parts_of b)) (parts_of pre) (parts_of post) (parts_of bound))
 typed_rule ds g text.CallStep x (b ∷ n ∷ []) p = call_rule ds g (acts (parts_of b)) (head_of n) (parts_of n) p
+typed_rule ds g text.Transitivity x (b ∷ n ∷ []) p = transitive_rule ds g (acts (parts_of b)) (head_of n) (parts_of n) p
 typed_rule ds g text.PlainStep x [] p = do
   r ← conclusion_rule x p
   given (rule.Ambient r)
 typed_rule ds g text.CaseStep x (b ∷ f ∷ []) p = sided_case_rule ds g (acts (parts_of b)) f
-typed_rule ds g text.HaveForm x (n ∷ f ∷ []) p = do
-  _ ← new_name g (text_of n) (place_of n)
-  t ← formed ds g f
-  given (rule.Ambient (conclusion.Have (text_of n) t))
+typed_rule ds g text.HaveForm x (n ∷ f ∷ []) p = have_rule ds g n f
 typed_rule ds g text.Witness x (e ∷ []) p = do
   r ← witness_rule ds g e
   given (rule.Ambient r)
@@ -430,7 +523,7 @@ typed_rule ds g text.Smt x hints p = do
 typed_rule ds g text.Linear x hs p = do
   ms ← multiples ds g hs
   given (rule.Linear ms)
-typed_rule ds g k x ps p = used_rule ds g k x ps p
+typed_rule ds g k x ps p = looping_rule ds g k x ps p
 
 -- a proof step with its arguments typed
 unfoldable pub step_given : Declarations → Sequent → Node → Answer Step

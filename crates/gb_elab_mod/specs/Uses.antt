@@ -30,11 +30,10 @@ use Rattle.gb_script.specs.declared.head.Head.{Head as Kind}
 use Rattle.gb_script.specs.declared.head.Head.TheVariants as text
 use Rattle.gb_script.specs.declared.tree.Node.{Node}
 use Rattle.gb_script.specs.Tree.{head_of, text_of, parts_of, place_of}
-use Rattle.gb_names.specs.declared.setting.Language.TheVariants.{Function}
-use Rattle.gb_names.specs.Environment.{Environment, ambient}
+use Rattle.gb_names.specs.Environment.{ambient}
 use Rattle.gb_names.specs.Names.{memory_at, path}
 use Rattle.gb_elab.specs.Forms.{elaborated}
-use Rattle.gb_elab_mod.specs.BoundLocals.{reads_bound_locals}
+use Rattle.gb_elab_mod.specs.OtherLocals.{reads_other_locals}
 use Rattle.gb_elab_mod.specs.Multiples.{names_thing}
 use Rattle.gb_elab_mod.specs.Taken.{is_taken}
 
@@ -43,31 +42,31 @@ abbrev pub hypothesis_named : List Hyp → List ℕ → Option Term
 hypothesis_named [] x = None
 hypothesis_named (h ∷ hs) x = if bytes_eq x h.name then Some h.form else hypothesis_named hs x
 
--- an argument speaks of no program
-abbrev pub of_argument : Declarations → Sequent → Environment
-of_argument ds q = record (ambient ds q) { language = Function }
-
 abbrev pub is_memory : Kind → Bool
 is_memory text.Memory = true
 is_memory _ = false
 
 -- the term of an argument for a value of a type
 abbrev pub value_of : Declarations → Sequent → Ty → Node → Answer Term
-value_of ds q u a = if is_memory (head_of a) then refused Argument (place_of a) else elaborated a (of_argument ds q) [] (Some u)
+value_of ds q u a = if is_memory (head_of a) then refused Argument (place_of a) else elaborated a (ambient ds q) [] (Some u)
 
 -- the memory of the context that an argument names
 abbrev pub memory_of : Declarations → Sequent → Kind → List Node → Place → Answer Side
 memory_of ds q text.Memory (n ∷ []) p = memory_at (ambient ds q) [] (text_of n) (place_of n)
 memory_of ds q _ ps p = refused Argument p
 
--- What the body of a `forall` over memories says of a memory. Where it reads locals of a memory that is bound this isn't built.
-abbrev pub said_of_memory : Term → Side → Place → Answer Term
-said_of_memory b s p = if reads_bound_locals b then not_built p else given (term_changed b (ToSide (side.Bound 0) s ∷ []))
+-- what the body of a quantifier over memories says of a memory
+abbrev pub about_named : Term → Side → Term
+about_named b s = term_changed b (ToSide (side.Bound 0) s ∷ [])
+
+-- What the body of a `forall` over memories says of a memory. Where it reads locals there that the goal doesn't, this isn't built.
+abbrev pub said_of_memory : Sequent → Term → Side → Place → Answer Term
+said_of_memory q b s p = if reads_other_locals q s (about_named b s) then not_built p else given (about_named b s)
 
 -- what a form with this head and these arguments says of an argument: it is a `forall`
 abbrev pub said_of : Declarations → Sequent → Head → List Term → Node → Answer Term
 said_of ds q (All u) (b ∷ []) a = value_of ds q u a >>= λ t. given (term_changed b (OfBound 0 t ∷ []))
-said_of ds q AllMemory (b ∷ []) a = memory_of ds q (head_of a) (parts_of a) (place_of a) >>= λ s. said_of_memory b s (place_of a)
+said_of ds q AllMemory (b ∷ []) a = memory_of ds q (head_of a) (parts_of a) (place_of a) >>= λ s. said_of_memory q b s (place_of a)
 said_of ds q h ts a = refused Argument (place_of a)
 
 -- what a form says of arguments, one after another

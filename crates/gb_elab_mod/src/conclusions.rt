@@ -2,10 +2,8 @@
 
 ghost use Rattle.std.specs.Prelude.{◌≡◌, Some, bytes_eq};
 ghost use Rattle.std.specs.List.{list_any};
-ghost use Rattle.gb_goal.specs.Answers.{Answers, ◌>>=◌ as ◌and_then◌};
-ghost use Rattle.gb_goal.specs.Answers.Answer.{given};
-ghost use Rattle.gb_script.specs.Tree.{text_of, place_of};
-ghost use Rattle.gb_elab_mod.specs.Steps.{case_rule, conclusion_rule, formed, sided_case_rule};
+ghost use Rattle.gb_goal.specs.Answers.{Answers};
+ghost use Rattle.gb_elab_mod.specs.Steps.{case_rule, conclusion_rule, formed, have_rule, sided_case_rule};
 ghost use Rattle.gb_elab_mod.specs.Taken.{is_taken, new_name};
 
 use crate::cut::case_of_bodies;
@@ -130,7 +128,7 @@ pub fn have_rule(
     name: &Node,
     form: &Node,
 ) -> Result<Rule, Refused>
-    ensures { Answers (new_name goal.now (text_of name.now) (place_of name.now) and_then (λ _. formed scope.now goal.now form.now and_then (λ t. given (Rule.Ambient (AmbientRule.Have (text_of name.now) t))))) result }
+    ensures { Answers (have_rule scope.now goal.now name.now form.now) result }
 {
     check_new(alloc, goal, &name.text, name.place)?;
     let form = formed(alloc, scope, goal, form)?;

@@ -1,4 +1,4 @@
-// The typing of `call`, by what a procedure is said to do.
+// The typing of `call`, by what a procedure is said to do, and by what is known.
 
 ghost use Rattle.std.specs.Prelude.{◌≡◌, [], Some, IfOk};
 ghost use Rattle.std.specs.Option.{option_copied};
@@ -10,6 +10,7 @@ ghost use Rattle.gb_elab.specs.Forms.{elaborated};
 ghost use Rattle.gb_names.specs.Environment.{environment, relational};
 ghost use Rattle.gb_elab_mod.specs.Steps.{call_rule, contract_at, contract_of, contract_of_both, last_procedure, params_if, procedure_called, result_if};
 
+use crate::uses::used;
 use gb_core::place::Place;
 use gb_core::refusal::Refused;
 use gb_core::ty::Ty;
@@ -97,7 +98,7 @@ fn contract_of(
 }
 
 /// A form over the parameters of two called procedures.
-fn before_both(
+pub fn before_both(
     alloc: Global,
     scope: &Scope,
     goal: &Sequent,
@@ -114,7 +115,7 @@ fn before_both(
 }
 
 /// A form over the results of both.
-fn after_both(
+pub fn after_both(
     alloc: Global,
     scope: &Scope,
     goal: &Sequent,
@@ -207,6 +208,7 @@ pub fn call_rule(
                 goal_of(&goal.conclusion),
             )
         }
+        (Head::CallLemma, [known]) => Ok(Rule::CallKnown(acts, used(alloc, scope, goal, known)?)),
         _ => Err(not_built(place)),
     }
 }

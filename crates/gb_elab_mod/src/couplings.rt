@@ -6,7 +6,7 @@ ghost use Rattle.gb_terms.specs.declared.term.Term.{out-Term};
 ghost use Rattle.gb_goal.specs.Answers.{Answers, ◌>>=◌ as ◌and_then◌};
 ghost use Rattle.gb_goal.specs.Answers.Answer.{given};
 ghost use Rattle.gb_names.specs.Environment.{environment};
-ghost use Rattle.gb_elab_mod.specs.Steps.{bodies, coupling_rule, couplings, functions, functions_of, is_apply, judges_chance, last_sampled, one_type, there_and_back};
+ghost use Rattle.gb_elab_mod.specs.Steps.{bodies, coupling_rule, couplings, drawing_rule, functions, functions_of, is_apply, judges_chance, last_sampled, one_type, there_and_back};
 
 use crate::occurring::occurring;
 use gb_core::refusal::Refused;
@@ -20,7 +20,7 @@ use gb_same::types::same_types;
 use gb_script::head;
 use gb_script::tree::Node;
 use gb_shared::Shared;
-use gb_steps::step::{BodyRule, ChanceRule, RelationalRule, Rule};
+use gb_steps::step::{Acts, BodyRule, ChanceRule, RelationalRule, Rule};
 use gb_terms::op::Side;
 use gb_terms::term::{Cmd, Form, Head, Instr, Subject, Term, Terms};
 use sqlite_items::Items;
@@ -95,7 +95,7 @@ fn judges_chance(conclusion: &Form) -> bool
 }
 
 /// `rnd` with its functions; those that have no types at a goal don't fit it.
-pub fn coupling_rule(conclusion: &Form, functions: &[Node], typed: Terms) -> Rule
+fn coupling_rule(conclusion: &Form, functions: &[Node], typed: Terms) -> Rule
     ensures { result ≡ coupling_rule (judges_chance (out-Term conclusion.now).head) functions.now typed }
 {
     if functions.is_empty() && judges_chance(conclusion) {
@@ -109,7 +109,7 @@ pub fn coupling_rule(conclusion: &Form, functions: &[Node], typed: Terms) -> Rul
 
 /// The typed functions of `rnd`: the first leads from the left outcome to the right one, the second back.
 #[tactic(auto, unfolding(crate::specs::Steps::couplings))]
-pub fn couplings(
+fn couplings(
     alloc: Global,
     scope: &Scope,
     s: &Sequent,
@@ -129,6 +129,27 @@ pub fn couplings(
     let on_right = occurring(alloc, conditions, Side::Right, right.list.as_slice())?;
     let at = Setting::function(scope, s, on_left.as_slice(), on_right.as_slice());
     there_and_back(alloc, &at, functions, from, to)
+}
+
+/// `rnd` on the programs on which a step acts. A function is one between samplings of both, and fits no side.
+#[tactic(auto, unfolding(crate::specs::Steps::drawing_rule))]
+pub fn drawing_rule(
+    alloc: Global,
+    scope: &Scope,
+    goal: &Sequent,
+    acts: Acts,
+    functions: &[Node],
+) -> Result<Rule, Refused>
+    ensures { Answers (drawing_rule scope.now goal.now acts functions.now) result }
+{
+    match (acts, functions) {
+        (Acts::All, _) => {
+            let typed = couplings(alloc, scope, goal, functions)?;
+            Ok(coupling_rule(&goal.conclusion, functions, typed))
+        }
+        (_, []) => Ok(Rule::Relational(RelationalRule::Drawn(acts))),
+        _ => Ok(Rule::OnBodies(BodyRule::Unfit)),
+    }
 }
 
 /// Functions between two types: the first leads there, the others back.

@@ -1,4 +1,4 @@
-// The forms that `seq` and `case` say of bodies.
+// The forms that `seq`, `case` and `while` say of bodies.
 
 ghost use Rattle.std.specs.Prelude.{◌≡◌, [], ◌∷◌, Some};
 ghost use Rattle.gb_terms.specs.declared.op.Side.TheVariants.{Own, Left, Right};
@@ -8,7 +8,7 @@ ghost use Rattle.gb_elab_mod.specs.Occurring.{occurring};
 ghost use Rattle.gb_goal.specs.Answers.{Answers};
 ghost use Rattle.gb_goal.specs.Views.{goal_seen};
 ghost use Rattle.gb_elab_mod.specs.Multiples.{position};
-ghost use Rattle.gb_elab_mod.specs.Steps.{case_of_bodies, cut_of, cut_rule, seq_rule};
+ghost use Rattle.gb_elab_mod.specs.Steps.{case_of_bodies, cut_of, cut_rule, said_of_bodies, seq_rule, while_rule};
 
 use crate::occurring::occurring_between;
 use gb_core::refusal::Refused;
@@ -20,7 +20,7 @@ use gb_goal::sequent::Sequent;
 use gb_limits::numbers::number;
 use gb_names::setting::Setting;
 use gb_script::tree::Node;
-use gb_steps::step::{Acts, BodyRule, Cut};
+use gb_steps::step::{Acts, BodyRule, Cut, Invariant, Rule};
 use gb_terms::op::Side;
 use gb_terms::term::{Form, Instr};
 use std::alloc::Global;
@@ -106,12 +106,36 @@ fn cut_rule(
     }
 }
 
+/// A form that a step says of the bodies of a judgment that is seen so.
+#[tactic(auto, unfolding(crate::specs::Steps::said_of_bodies))]
+fn said_of_bodies(
+    alloc: Global,
+    scope: &Scope,
+    goal: &Sequent,
+    form: &Node,
+    seen: Goal<'_>,
+) -> Result<Option<Form>, Refused>
+    ensures { Answers (said_of_bodies scope.now goal.now form.now (goal_seen seen.entry)) result }
+{
+    match seen {
+        Goal::Hoare(Code::Body(body), pre, post)
+        | Goal::Phoare(Code::Body(body), _, pre, post, _) => {
+            let form = on_one(alloc, scope, goal, body, pre, post, form)?;
+            Ok(Some(form))
+        }
+        Goal::Equiv(Code::Body(left), Code::Body(right), pre, post) => {
+            let form = on_two(alloc, scope, goal, (left, right), pre, post, form)?;
+            Ok(Some(form))
+        }
+        _ => Ok(None),
+    }
+}
+
 /// The typed step of `case`, with its form, at a judgment of bodies that is seen so.
 ///
 /// # Errors
 ///
 /// Those of the form, over the locals that occur in the goal.
-#[tactic(auto, unfolding(crate::specs::Steps::case_of_bodies))]
 pub fn case_of_bodies(
     alloc: Global,
     scope: &Scope,
@@ -121,17 +145,29 @@ pub fn case_of_bodies(
 ) -> Result<BodyRule, Refused>
     ensures { Answers (case_of_bodies scope.now goal.now form.now (goal_seen seen.entry)) result }
 {
-    match seen {
-        Goal::Hoare(Code::Body(body), pre, post)
-        | Goal::Phoare(Code::Body(body), _, pre, post, _) => {
-            let form = on_one(alloc, scope, goal, body, pre, post, form)?;
-            Ok(BodyRule::Case(form))
-        }
-        Goal::Equiv(Code::Body(left), Code::Body(right), pre, post) => {
-            let form = on_two(alloc, scope, goal, (left, right), pre, post, form)?;
-            Ok(BodyRule::Case(form))
-        }
-        _ => Ok(BodyRule::Unfit),
+    match said_of_bodies(alloc, scope, goal, form, seen)? {
+        Some(form) => Ok(BodyRule::Case(form)),
+        None => Ok(BodyRule::Unfit),
+    }
+}
+
+/// The typed step of `while`, with what each turn keeps of the loops that end the bodies.
+///
+/// # Errors
+///
+/// Those of the form, over the locals that occur in the goal.
+pub fn while_rule(
+    alloc: Global,
+    scope: &Scope,
+    goal: &Sequent,
+    acts: Acts,
+    kept: &Node,
+) -> Result<Rule, Refused>
+    ensures { Answers (while_rule scope.now goal.now acts kept.now) result }
+{
+    match said_of_bodies(alloc, scope, goal, kept, goal_of(&goal.conclusion))? {
+        Some(kept) => Ok(Rule::While(Invariant { acts, kept })),
+        None => Ok(Rule::OnBodies(BodyRule::Unfit)),
     }
 }
 

@@ -1,8 +1,8 @@
 //! Typing of the statements of lemmas, and of proof steps.
 #![tactic(auto)]
 
+mod between;
 pub mod binders;
-pub mod bound_locals;
 pub mod conclusions;
 pub mod conseq;
 pub mod contract;
@@ -12,6 +12,8 @@ pub mod equals;
 pub mod lemma;
 pub mod multiples;
 pub mod occurring;
+pub mod other_locals;
 pub mod step;
+mod transforming;
 pub mod uses;
 pub mod witness;

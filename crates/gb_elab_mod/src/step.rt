@@ -2,15 +2,17 @@
 
 ghost use Rattle.std.specs.Prelude.{◌≡◌};
 ghost use Rattle.gb_goal.specs.Answers.{Answers};
-ghost use Rattle.gb_elab_mod.specs.Steps.{acts, chance_rule, equals_rule, named_rule, on_all, pattern, plain_rule, step_given, symmetry_rule, typed_rule, used_rule};
+ghost use Rattle.gb_elab_mod.specs.Steps.{acts, chance_rule, equals_rule, looping_rule, named_rule, on_all, pattern, plain_rule, step_given, symmetry_rule, transforming_rule, typed_rule, used_rule};
 
+use crate::between::transitive_rule;
 use crate::conclusions::{conclusion_rule, have_rule, sided_case_rule};
 use crate::conseq::{Written, conseq_rule};
 use crate::contract::call_rule;
-use crate::couplings::{coupling_rule, couplings, functions_of};
-use crate::cut::{cut_of, seq_rule};
+use crate::couplings::{drawing_rule, functions_of};
+use crate::cut::{cut_of, position, seq_rule, while_rule};
 use crate::equals::{opening, rewriting, rewriting_back, rewriting_by_name, substitution};
 use crate::multiples::multiples;
+use crate::transforming::{passing_rule, placed_rule};
 use crate::uses::{all_hinted, apply_rule, keep_rule};
 use crate::witness::witness_rule;
 use gb_core::name::Name;
@@ -159,7 +161,33 @@ fn pattern(
     }
 }
 
-/// The rule of a step that puts equals for equals, or of a pattern.
+/// The rule of a step that puts other statements into a program, or of a pattern.
+fn transforming_rule(
+    alloc: Global,
+    head: Head,
+    text: &Name,
+    parts: &[Node],
+    place: Place,
+) -> Result<Rule, Refused>
+    ensures { Answers (transforming_rule head text.now parts.now place) result }
+{
+    match head {
+        Head::Swap => match parts {
+            [bodies, at, distance] => {
+                let acts = acts(bodies.parts.as_slice());
+                passing_rule(acts, at, distance.head, distance.parts.as_slice(), place)
+            }
+            _ => Err(not_built(place)),
+        },
+        Head::PositionStep => match parts {
+            [bodies, at] => placed_rule(text, acts(bodies.parts.as_slice()), position(at), place),
+            _ => Err(not_built(place)),
+        },
+        _ => pattern(alloc, head, text, parts, place),
+    }
+}
+
+/// The rule of a step that puts equals for equals, of a transformation of a program, or of a pattern.
 fn equals_rule(
     alloc: Global,
     scope: &Scope,
@@ -192,11 +220,11 @@ fn equals_rule(
             [operator] => opening(alloc, scope, goal, operator),
             _ => Err(not_built(place)),
         },
-        _ => pattern(alloc, head, text, parts, place),
+        _ => transforming_rule(alloc, head, text, parts, place),
     }
 }
 
-/// The rule of a step that uses what is known or puts equals for equals, or of a pattern.
+/// The rule of a step that uses what is known or puts equals for equals, of a transformation of a program, or of a pattern.
 fn used_rule(
     alloc: Global,
     scope: &Scope,
@@ -218,6 +246,30 @@ fn used_rule(
             _ => Err(not_built(place)),
         },
         _ => equals_rule(alloc, scope, goal, head, text, parts, place),
+    }
+}
+
+/// The rule on loops, or the rule of another step, as far as `used_rule` has it.
+fn looping_rule(
+    alloc: Global,
+    scope: &Scope,
+    goal: &Sequent,
+    head: Head,
+    text: &Name,
+    parts: &[Node],
+    place: Place,
+) -> Result<Rule, Refused>
+    ensures { Answers (looping_rule scope.now goal.now head text.now parts.now place) result }
+{
+    match head {
+        Head::WhileStep => match parts {
+            [bodies, kept] => {
+                let acts = acts(bodies.parts.as_slice());
+                while_rule(alloc, scope, goal, acts, kept)
+            }
+            _ => Err(not_built(place)),
+        },
+        _ => used_rule(alloc, scope, goal, head, text, parts, place),
     }
 }
 
@@ -244,10 +296,8 @@ fn typed_rule(
         },
         Head::Rnd => match parts {
             [bodies, functions @ ..] => {
-                refuse_any(bodies.parts.as_slice(), place)?;
-                let functions = functions_of(functions);
-                let typed = couplings(alloc, scope, goal, functions)?;
-                Ok(coupling_rule(&goal.conclusion, functions, typed))
+                let acts = acts(bodies.parts.as_slice());
+                drawing_rule(alloc, scope, goal, acts, functions_of(functions))
             }
             _ => Err(not_built(place)),
         },
@@ -293,6 +343,14 @@ fn typed_rule(
             }
             _ => Err(not_built(place)),
         },
+        Head::Transitivity => match parts {
+            [bodies, between] => {
+                let acts = acts(bodies.parts.as_slice());
+                let parts = between.parts.as_slice();
+                transitive_rule(alloc, scope, goal, acts, between.head, parts, place)
+            }
+            _ => Err(not_built(place)),
+        },
         Head::PlainStep => match parts {
             [] => Ok(Rule::Ambient(conclusion_rule(text, place)?)),
             _ => Err(not_built(place)),
@@ -314,6 +372,6 @@ fn typed_rule(
         },
         Head::Smt => Ok(Rule::Smt(all_hinted(alloc, scope, goal, parts)?)),
         Head::Linear => Ok(Rule::Linear(multiples(alloc, scope, goal, parts)?)),
-        _ => used_rule(alloc, scope, goal, head, text, parts, place),
+        _ => looping_rule(alloc, scope, goal, head, text, parts, place),
     }
 }

@@ -3,18 +3,17 @@
 ghost use Rattle.std.specs.Prelude.{◌≡◌, [], ◌∷◌, ◌+◌, IfOk};
 ghost use Rattle.std.specs.Option.{option_copied};
 ghost use Rattle.gb_terms.specs.declared.term.Term.{out-Term};
-ghost use Rattle.gb_walk.specs.declared.change.Change.TheVariants.{OfBound, ToSide};
-ghost use Rattle.gb_terms.specs.declared.op.Side.TheVariants.{Bound};
+ghost use Rattle.gb_walk.specs.declared.change.Change.TheVariants.{OfBound};
 ghost use Rattle.gb_walk.specs.Change.{term_changed};
 ghost use Rattle.gb_goal.specs.Answers.{Answers, Fails, ◌>>=◌ as ◌and_then◌};
 ghost use Rattle.gb_goal.specs.Answers.Answer.{given};
 ghost use Rattle.gb_script.specs.Tree.{head_of, text_of, parts_of, place_of};
 ghost use Rattle.gb_elab_mod.specs.Taken.{new_name};
-ghost use Rattle.gb_elab_mod.specs.Uses.{about_all, about_memory, about_value, all_hinted, hinted, hypothesis_named, hypothesis, is_memory, lemma_named, memory_of, name_of, no_known, said_by, said_of, said_of_all, said_of_memory, said_on, used, used_named, used_of, value_of};
+ghost use Rattle.gb_elab_mod.specs.Uses.{about_all, about_memory, about_named, about_value, all_hinted, hinted, hypothesis_named, hypothesis, is_memory, lemma_named, memory_of, name_of, no_known, said_by, said_of, said_of_all, said_of_memory, said_on, used, used_named, used_of, value_of};
 
-use crate::bound_locals::reads_bound_locals;
 use crate::conclusions::{check_new, is_taken};
 use crate::multiples::names_thing;
+use crate::other_locals::reads_other_locals;
 use gb_core::name::Name;
 use gb_core::place::Place;
 use gb_core::refusal::Refused;
@@ -26,7 +25,7 @@ use gb_goal::sequent::{Hyp, Sequent};
 use gb_names::memories::memory_at;
 use gb_names::names::path;
 use gb_names::refusals::{argument, not_built, unknown};
-use gb_names::setting::{Language, Setting};
+use gb_names::setting::Setting;
 use gb_script::head::Head as NodeHead;
 use gb_script::tree::Node;
 use gb_shared::Shared;
@@ -59,7 +58,7 @@ pub fn is_memory(head: NodeHead) -> bool
     matches!(head, NodeHead::Memory)
 }
 
-/// The term of an argument for a value of this type, which speaks of no program.
+/// The term of an argument for a value of this type.
 fn value_of(
     alloc: Global,
     scope: &Scope,
@@ -72,11 +71,7 @@ fn value_of(
     if is_memory(tree.head) {
         return Err(argument(tree.place));
     }
-    let formula = Setting::ambient(scope, goal);
-    let at = Setting {
-        language: Language::Function,
-        ..formula
-    };
+    let at = Setting::ambient(scope, goal);
     typed(alloc, &at, &[], tree, Some(ty))
 }
 
@@ -102,23 +97,30 @@ pub fn memory_of(alloc: Global, scope: &Scope, goal: &Sequent, tree: &Node) -> R
     }
 }
 
-/// A form with a memory in place of the bound one.
-fn at_memory(alloc: Global, form: &Form, memory: Side) -> Result<Form, AllocError>
-    ensures { IfOk result (λ made. made ≡ term_changed form.now (ToSide (Bound 0) memory ∷ [])) }
+/// What the body of a quantifier over memories says of a memory.
+pub fn about_named(alloc: Global, form: &Form, memory: Side) -> Result<Form, AllocError>
+    ensures { IfOk result (λ made. made ≡ about_named form.now memory) }
 {
     let mut changes = Items::new(alloc);
     changes.push(Change::ToSide(Side::Bound(0), memory))?;
     changed(alloc, form, changes.as_slice())
 }
 
-/// What the body of a `forall` over memories says of a memory.
-fn said_of_memory(alloc: Global, body: &Form, memory: Side, place: Place) -> Result<Form, Refused>
-    ensures { Answers (said_of_memory body.now memory place) result }
+/// What the body of a `forall` over memories says of a memory. Where it reads locals there that the goal doesn't, this isn't built.
+fn said_of_memory(
+    alloc: Global,
+    goal: &Sequent,
+    body: &Form,
+    memory: Side,
+    place: Place,
+) -> Result<Form, Refused>
+    ensures { Answers (said_of_memory goal.now body.now memory place) result }
 {
-    if reads_bound_locals(body) {
+    let said = about_named(alloc, body, memory)?;
+    if reads_other_locals(&said, alloc, goal, memory)? {
         return Err(not_built(place));
     }
-    Ok(at_memory(alloc, body, memory)?)
+    Ok(said)
 }
 
 /// What a form says of an argument: it is a `forall`.
@@ -138,7 +140,7 @@ fn said_of(
         }
         (Head::AllMemory, [body]) => {
             let memory = memory_of(alloc, scope, goal, tree)?;
-            said_of_memory(alloc, body, memory, tree.place)
+            said_of_memory(alloc, goal, body, memory, tree.place)
         }
         _ => Err(argument(tree.place)),
     }

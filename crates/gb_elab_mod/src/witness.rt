@@ -1,13 +1,13 @@
 // The typing of what a step takes for something that is said to exist.
 
-ghost use Rattle.std.specs.Prelude.{◌≡◌};
+ghost use Rattle.std.specs.Prelude.{◌≡◌, IfOk};
 ghost use Rattle.std.specs.Option.{option_copied};
 ghost use Rattle.gb_terms.specs.declared.term.Term.{out-Term};
 ghost use Rattle.gb_goal.specs.Answers.{Answers};
 ghost use Rattle.gb_elab_mod.specs.Steps.{asked_of, asks_for_locals, memory_witness, witness_rule};
 
-use crate::bound_locals::reads_bound_locals;
-use crate::uses::{is_memory, memory_of};
+use crate::other_locals::reads_other_locals;
+use crate::uses::{about_named, is_memory, memory_of};
 use gb_core::place::Place;
 use gb_core::refusal::Refused;
 use gb_core::ty::Ty;
@@ -18,8 +18,8 @@ use gb_names::refusals::not_built;
 use gb_script::tree::Node;
 use gb_steps::step::AmbientRule;
 use gb_terms::op::Side;
-use gb_terms::term::{Form, Head};
-use std::alloc::Global;
+use gb_terms::term::Head;
+use std::alloc::{AllocError, Global};
 
 /// The type of a value that is said to exist.
 fn asked_of(head: &Head) -> Option<&Ty>
@@ -31,23 +31,32 @@ fn asked_of(head: &Head) -> Option<&Ty>
     }
 }
 
-/// Whether a conclusion says that a memory exists, of which it reads locals.
-fn asks_for_locals(form: &Form) -> bool
-    ensures { result ≡ asks_for_locals (out-Term form.now).head (out-Term form.now).args }
+/// Whether the memory that a conclusion says to exist has locals that the goal doesn't read in this one.
+fn asks_for_locals(alloc: Global, goal: &Sequent, memory: Side) -> Result<bool, AllocError>
+    ensures { IfOk result (λ other. other ≡ asks_for_locals goal.now memory (out-Term goal.now.conclusion).head (out-Term goal.now.conclusion).args) }
 {
+    let form = &goal.conclusion;
     match (form.head.get(), form.args.as_slice()) {
-        (Head::SomeMemory, [body]) => reads_bound_locals(body),
-        _ => false,
+        (Head::SomeMemory, [body]) => {
+            let said = about_named(alloc, body, memory)?;
+            reads_other_locals(&said, alloc, goal, memory)
+        }
+        _ => Ok(false),
     }
 }
 
 /// The rule that takes a memory of the context for one that is said to exist.
-fn memory_witness(goal: &Sequent, memory: Side, place: Place) -> Result<AmbientRule, Refused>
+fn memory_witness(
+    alloc: Global,
+    goal: &Sequent,
+    memory: Side,
+    place: Place,
+) -> Result<AmbientRule, Refused>
     ensures { Answers (memory_witness goal.now memory place) result }
 {
     match memory {
         Side::Memory(number) => {
-            if asks_for_locals(&goal.conclusion) {
+            if asks_for_locals(alloc, goal, memory)? {
                 return Err(not_built(place));
             }
             Ok(AmbientRule::WitnessMemory(number))
@@ -67,7 +76,7 @@ pub fn witness_rule(
 {
     if is_memory(witness.head) {
         let memory = memory_of(alloc, scope, goal, witness)?;
-        return memory_witness(goal, memory, witness.place);
+        return memory_witness(alloc, goal, memory, witness.place);
     }
     let wanted = asked_of(goal.conclusion.head.get());
     let witness = term(alloc, scope, goal, witness, wanted)?;

@@ -71,7 +71,7 @@ call_of at vs f es p = do
   us ← arguments at n.1.params es
   given (Call (variables_of vs) n.0 us)
 
--- .. from the words of the path and the node of the arguments
-abbrev pub call : Environment → List Target → List Node → List Node → Place → Answer Instr
-call at vs (x ∷ y ∷ ys) (es ∷ []) p = call_of at vs (procedure_path (text_of x) y ys) (parts_of es) p
-call at vs xs es p = not_built p
+-- .. from the first word of the path, the others and the node of the arguments
+abbrev pub call : Environment → List Target → Node → List Node → List Node → Place → Answer Instr
+call at vs x (y ∷ ys) (es ∷ []) p = call_of at vs (procedure_path (text_of x) y ys) (parts_of es) p
+call at vs x ys es p = not_built p

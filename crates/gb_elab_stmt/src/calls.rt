@@ -176,7 +176,7 @@ fn call_of(
     Ok(Instr::Call(vars, reference, args))
 }
 
-/// A call, from the words of its path and the node of its arguments.
+/// A call, from the first word of its path, the others and the node of its arguments.
 ///
 /// # Errors
 ///
@@ -187,14 +187,15 @@ pub fn call(
     alloc: Global,
     at: &Setting<'_>,
     targets: &[Target],
+    first: &Node,
     words: &[Node],
     args: &[Node],
     place: Place,
 ) -> Result<Instr, Refused>
-    ensures { Answers (call (environment at.now) (pairs targets.now) words.now args.now place) result }
+    ensures { Answers (call (environment at.now) (pairs targets.now) first.now words.now args.now place) result }
 {
     match words {
-        [first, second, more @ ..] => match args {
+        [second, more @ ..] => match args {
             [args] => {
                 let (module, name) = procedure_path(alloc, &first.text, second, more)?;
                 let args = args.parts.as_slice();

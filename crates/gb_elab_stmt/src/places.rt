@@ -41,6 +41,24 @@ fn add_counted(
                 _ => Ok(()),
             }
         }
+        Head::While => {
+            found.push(place)?;
+            match parts {
+                [_, rest] => add_places(found, rest),
+                _ => Ok(()),
+            }
+        }
+        Head::Loop => match parts {
+            [_, list @ ..] => add_inside(found, list),
+            [] => found.push(place),
+        },
+        Head::NamedLoop => match parts {
+            [_, word, _, list @ ..] => {
+                found.push(word.place)?;
+                add_inside(found, list)
+            }
+            _ => found.push(place),
+        },
         Head::List => add_inside(found, parts),
         _ => found.push(place),
     }

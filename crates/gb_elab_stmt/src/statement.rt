@@ -1,13 +1,15 @@
 // Statements.
 
-ghost use Rattle.std.specs.Prelude.{◌≡◌, [], ◌∷◌, Some, IfOk};
+ghost use Rattle.std.specs.Prelude.{◌≡◌, [], ◌∷◌, ◌++◌, Some, IfOk};
 ghost use Rattle.gb_core.specs.declared.ty.Ty.TheVariants.{Distr};
-ghost use Rattle.gb_terms.specs.declared.term.Head.TheVariants.{If};
+ghost use Rattle.gb_names.specs.Names.{dotted};
+ghost use Rattle.gb_script.specs.Tree.{head_of, parts_of, place_of, text_of};
+ghost use Rattle.gb_terms.specs.declared.term.Head.TheVariants.{If, While};
 ghost use Rattle.gb_goal.specs.Answers.{Answers, Gives};
 ghost use Rattle.gb_names.specs.Environment.{environment};
 ghost use Rattle.gb_elab.specs.Forms.{elaborated};
 ghost use Rattle.gb_elab_stmt.specs.Targets.{pairs};
-ghost use Rattle.gb_elab_stmt.specs.Statements.{all_stated, alone, assignment, called_to, entry_stored, instruction, result_in, result_to, results_in, sampling, stated, stating, stored, stored_term, tuple_assignment, with_statings, written_to};
+ghost use Rattle.gb_elab_stmt.specs.Statements.{all_stated, alone, assignment, branching, called_to, counts_down, entry_stored, instruction, result_in, result_to, results_in, sampling, single, stated, stating, stored, stored_term, tuple_assignment, turning, variant, with_statings, written_to};
 
 use crate::calls::call;
 use crate::targets::{targets, type_of_all, variables_of};
@@ -19,7 +21,7 @@ use gb_core::ty::Ty;
 use gb_core::var::Var;
 use gb_elab::form::typed;
 use gb_names::globals::Target;
-use gb_names::names::{path, target};
+use gb_names::names::{append, path, target};
 use gb_names::refusals::{mismatch, not_built};
 use gb_names::setting::Setting;
 use gb_operators::kinds::entries;
@@ -132,10 +134,14 @@ fn result_to(
     ensures { Answers (result_to (environment at.now) (pairs targets.now) head parts.now place) result }
 {
     match head {
-        Head::Call => {
-            let last = parts.len().saturating_sub(1);
-            call(alloc, at, targets, &parts[..last], &parts[last..], place)
-        }
+        Head::Call => match parts {
+            [first, rest @ ..] => {
+                let last = rest.len().saturating_sub(1);
+                let (words, args) = (&rest[..last], &rest[last..]);
+                call(alloc, at, targets, first, words, args, place)
+            }
+            [] => Err(not_built(place)),
+        },
         _ => Err(not_built(place)),
     }
 }
@@ -262,31 +268,48 @@ fn stored(
     }
 }
 
-/// A statement without others in it, which begins with its target, or with the procedure that it calls.
+/// The name that a first word and others are, joined by dots.
+#[tactic(auto, using(crate::proofs::Stated::dotted_path))]
+fn path_from(alloc: Global, first: &Node, more: &[Node]) -> Result<Name, AllocError>
+    ensures { IfOk result (λ made. made ≡ dotted (text_of first.now) more.now) }
+{
+    let mut text = String::from_str(alloc, first.text.as_str())?;
+    match more {
+        [] => Ok(Name::new(text)),
+        [_, ..] => {
+            append(&mut text, &path(alloc, more)?)?;
+            Ok(Name::new(text))
+        }
+    }
+}
+
+/// A statement without others in it, from its first part, which is the first word of its target or of the procedure that it calls, and the
+/// others.
 fn instruction(
     alloc: Global,
     at: &Setting<'_>,
     head: Head,
-    parts: &[Node],
+    first: &Node,
+    rest: &[Node],
     place: Place,
 ) -> Result<Instr, Refused>
-    ensures { Answers (instruction (environment at.now) head parts.now place) result }
+    ensures { Answers (instruction (environment at.now) head first.now rest.now place) result }
 {
-    let last = parts.len().saturating_sub(1);
-    let (words, written) = (&parts[..last], &parts[last..]);
+    let last = rest.len().saturating_sub(1);
+    let (words, written) = (&rest[..last], &rest[last..]);
     match head {
-        Head::Sample => sampling(alloc, at, &path(alloc, words)?, written, place),
-        Head::Assign => assignment(alloc, at, &path(alloc, words)?, written, place),
+        Head::Sample => sampling(alloc, at, &path_from(alloc, first, words)?, written, place),
+        Head::Assign => assignment(alloc, at, &path_from(alloc, first, words)?, written, place),
         Head::Store => {
             let second = last.saturating_sub(1);
-            let map = path(alloc, &parts[..second])?;
-            stored(alloc, at, &map, &parts[second..], place)
+            let map = path_from(alloc, first, &rest[..second])?;
+            stored(alloc, at, &map, &rest[second..], place)
         }
-        Head::AssignCall => result_in(alloc, at, &path(alloc, words)?, written, place),
-        Head::Call => call(alloc, at, &[], words, written, place),
-        Head::TupleStatement => match parts {
-            [paths, what] => {
-                let (paths, parts) = (paths.parts.as_slice(), what.parts.as_slice());
+        Head::AssignCall => result_in(alloc, at, &path_from(alloc, first, words)?, written, place),
+        Head::Call => call(alloc, at, &[], first, words, written, place),
+        Head::TupleStatement => match rest {
+            [what] => {
+                let (paths, parts) = (first.parts.as_slice(), what.parts.as_slice());
                 written_to(alloc, at, paths, what.head, parts, place)
             }
             _ => Err(not_built(place)),
@@ -300,15 +323,93 @@ fn alone(
     alloc: Global,
     at: &Setting<'_>,
     head: Head,
-    parts: &[Node],
+    first: &Node,
+    rest: &[Node],
     place: Place,
 ) -> Result<Instrs, Refused>
-    ensures { Answers (alone (instruction (environment at.now) head parts.now place)) result }
+    ensures { Answers (alone (instruction (environment at.now) head first.now rest.now place)) result }
 {
-    let i = instruction(alloc, at, head, parts, place)?;
+    let i = instruction(alloc, at, head, first, rest, place)?;
     let mut list = Items::new(alloc);
     list.push(i)?;
     Ok(list)
+}
+
+/// .. from its head and its parts.
+fn single(
+    alloc: Global,
+    at: &Setting<'_>,
+    head: Head,
+    parts: &[Node],
+    place: Place,
+) -> Result<Instrs, Refused>
+    ensures { Answers (single (environment at.now) head parts.now place) result }
+{
+    match parts {
+        [first, rest @ ..] => alone(alloc, at, head, first, rest, place),
+        [] => Err(not_built(place)),
+    }
+}
+
+/// Whether a term has a type `int[n]`.
+fn counts_down(variant: &Term) -> bool
+    ensures { result ≡ counts_down variant.now }
+{
+    match variant.ty.get() {
+        Ty::Mod(_) => true,
+        _ => false,
+    }
+}
+
+/// The variant of a loop, which stands before its statements.
+#[tactic(auto, unfolding(crate::specs::Statements::variant))]
+fn variant(alloc: Global, at: &Setting<'_>, parts: &[Node], place: Place) -> Result<Term, Refused>
+    ensures { Answers (variant (environment at.now) parts.now place) result }
+{
+    match parts {
+        [first, ..] => {
+            let made = typed(alloc, at, &[], first, None)?;
+            if counts_down(&made) {
+                Ok(made)
+            } else {
+                Err(mismatch(first.place))
+            }
+        }
+        [] => Err(not_built(place)),
+    }
+}
+
+/// A loop alone.
+fn looped(alloc: Global, guard: Term, variant: Term, list: Instrs) -> Result<Instrs, AllocError>
+    ensures { IfOk result (λ made. made ≡ While guard variant (record { list = list }) ∷ []) }
+{
+    let list = SharedItems::new(alloc, list)?;
+    let mut made = Items::new(alloc);
+    made.push(Instr::While(guard, variant, Cmd { list }))?;
+    Ok(made)
+}
+
+/// A statement alone of which the first word stands apart from what is behind it.
+fn named(alloc: Global, at: &Setting<'_>, word: &Node, tail: &Node) -> Result<Instrs, Refused>
+    ensures { Answers (alone (instruction (environment at.now) (head_of tail.now) word.now (parts_of tail.now) (place_of word.now))) result }
+{
+    alone(
+        alloc,
+        at,
+        tail.head,
+        word,
+        tail.parts.as_slice(),
+        word.place,
+    )
+}
+
+/// Statements and others behind them.
+fn joined(first: Instrs, more: Instrs) -> Result<Instrs, AllocError>
+    ensures { IfOk result (λ made. made ≡ first ++ more) }
+{
+    let mut all = first;
+    all.append(more)?;
+    Ok(all)
 }
 
 /// The branch on a test, with both of its sides.
@@ -333,7 +434,7 @@ fn stated(alloc: Global, at: &Setting<'_>, tree: &Node) -> Result<Instrs, Refuse
 
 /// .. from its head, its parts and its place.
 #[cycle(statements)]
-#[tactic(auto, using(crate::proofs::Stated::bare_is))]
+#[tactic(auto, using(crate::proofs::Stated::bare_is, crate::proofs::Stated::branching_is))]
 fn stating(
     alloc: Global,
     at: &Setting<'_>,
@@ -345,17 +446,61 @@ fn stating(
 {
     match head {
         Head::If => match parts {
-            [test, yes, no] => {
-                let test = typed(alloc, at, &[], test, Some(&Ty::Bool))?;
-                let yes = stated(alloc, at, yes)?;
-                let no = stated(alloc, at, no)?;
-                Ok(branched(alloc, test, yes, no)?)
+            [test, sides @ ..] => branch(alloc, at, sides, test, place),
+            [] => Err(not_built(place)),
+        },
+        Head::While => match parts {
+            [guard, rest] => turning(alloc, at, rest, guard),
+            _ => Err(not_built(place)),
+        },
+        Head::Loop => match parts {
+            [_, list @ ..] => all_stated(alloc, at, list),
+            [] => Err(not_built(place)),
+        },
+        Head::NamedLoop => match parts {
+            [_, word, tail, list @ ..] => {
+                let first = named(alloc, at, word, tail)?;
+                let more = all_stated(alloc, at, list)?;
+                Ok(joined(first, more)?)
             }
             _ => Err(not_built(place)),
         },
         Head::List => all_stated(alloc, at, parts),
-        _ => alone(alloc, at, head, parts, place),
+        _ => single(alloc, at, head, parts, place),
     }
+}
+
+/// A branch, by the trees of its sides, and its test.
+#[cycle(statements)]
+fn branch(
+    alloc: Global,
+    at: &Setting<'_>,
+    sides: &[Node],
+    test: &Node,
+    place: Place,
+) -> Result<Instrs, Refused>
+    ensures { Answers (branching (environment at.now) test.now (with_statings sides.now) place) result }
+{
+    match sides {
+        [yes, no] => {
+            let test = typed(alloc, at, &[], test, Some(&Ty::Bool))?;
+            let yes = stated(alloc, at, yes)?;
+            let no = stated(alloc, at, no)?;
+            Ok(branched(alloc, test, yes, no)?)
+        }
+        _ => Err(not_built(place)),
+    }
+}
+
+/// A loop, by the tree of its variant and its statements, and its guard.
+#[cycle(statements)]
+fn turning(alloc: Global, at: &Setting<'_>, rest: &Node, guard: &Node) -> Result<Instrs, Refused>
+    ensures { Answers (turning (environment at.now) guard.now rest.now (stated rest.now)) result }
+{
+    let guard = typed(alloc, at, &[], guard, Some(&Ty::Bool))?;
+    let variant = variant(alloc, at, rest.parts.as_slice(), rest.place)?;
+    let list = stated(alloc, at, rest)?;
+    Ok(looped(alloc, guard, variant, list)?)
 }
 
 /// The typed trees of statements one after another.

@@ -2,4 +2,3 @@ mod DrawnIsSound
 pub mod Maps
 pub mod RndIsSound
 pub mod SymmetryIsSound
-mod Others

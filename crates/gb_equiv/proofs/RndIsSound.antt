@@ -31,7 +31,7 @@ use Rattle.gb_meaning.specs.Terms.{quiet, val, denominator, distribution}
 use Rattle.gb_meaning.specs.Judgments.{Judge, IsFair, speaking, IsTrueUnder, den}
 use Rattle.gb_laws.proofs.Nodes.{val_node}
 use Rattle.gb_laws.proofs.Values.{value_discrete}
-use Rattle.gb_judge.proofs.Truths.{true_equal}
+use Rattle.gb_laws.proofs.Truths.{true_equal}
 use Rattle.gb_changes.specs.Uses.{IsWithin}
 use Rattle.gb_changes.specs.Written.{Written}
 use Rattle.gb_changes.proofs.Puts.{plain_node}

@@ -1,4 +1,3 @@
 pub mod Drawn
 pub mod Rnd
-pub mod Rows
 pub mod Symmetry

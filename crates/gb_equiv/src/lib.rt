@@ -4,8 +4,5 @@
 mod coupled;
 mod drawn;
 pub mod laws;
-mod rnd;
-mod rule;
-mod symmetry;
-
-pub use rule::apply;
+pub mod rnd;
+pub mod symmetry;

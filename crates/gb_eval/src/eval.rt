@@ -28,6 +28,7 @@ use gb_core::value::{Card, Value, Values};
 use gb_dist::parts::{choose, mass, restrict};
 use gb_dist::row::Row;
 use gb_dist::table::Table;
+use gb_members::counted::values_tried;
 use gb_num::{Frac, add};
 use gb_reads::held::with_values;
 use gb_reads::reads::{TypedVar, are_free, reads};
@@ -349,7 +350,7 @@ fn quantifier(
     let [body] = args else {
         return Err(Stop::Unknown);
     };
-    let count = match card(ty) {
+    let count = match values_tried(ty) {
         Card::Exact(n) => n,
         Card::Above => return Err(Stop::Unknown),
     };

@@ -13,6 +13,7 @@ use crate::answer::{Answer, Stop, number_in};
 use gb_core::same::same_value;
 use gb_core::ty::Ty;
 use gb_core::value::Value;
+use gb_members::counted::difference as difference_modulo;
 use gb_num::whole::{difference, product, sum};
 use gb_num::{Frac, Overflow, abs, add, cmp, div_lit, mul, sub};
 use gb_terms::op::Op;
@@ -80,7 +81,7 @@ fn at_bound(op: Op, bound: u32, a: u64, b: u64) -> Result<Answer, Stop>
     let right = u128::from(b);
     match op {
         Op::Plus => modulo(bound, left + right),
-        Op::Minus => modulo(bound, left + u128::from(bound).saturating_sub(right)),
+        Op::Minus => modulo(bound, difference_modulo(bound, a, b)),
         Op::Times => modulo(bound, left * right),
         _ => Err(Stop::Unknown),
     }

@@ -2,6 +2,7 @@
 
 ghost use Rattle.std.specs.Prelude.{◌≡◌, IfOk, [], ◌∷◌};
 ghost use Rattle.gb_core.specs.declared.value.Value.TheVariants.{Many};
+ghost use Rattle.gb_terms.specs.declared.op.Op.TheVariants as Op;
 ghost use Rattle.gb_types.specs.Numbering.{key_of, parts_of, value_of};
 ghost use Rattle.gb_types.specs.Types.{card_of};
 ghost use Rattle.gb_meaning.specs.Operators.{entry_of};
@@ -236,18 +237,28 @@ fn is_test(op: Op) -> bool
     )
 }
 
+/// The truth of a comparison of two answers.
+fn compared(op: Op, a: &Answer, b: &Answer) -> Result<bool, Stop>
+    requires { (op ≡ Op.InSupport → ⊥) × (op ≡ Op.InMap → ⊥) }
+    ensures { Finds (tested op (shown a.now) (shown b.now)) result }
+{
+    match op {
+        Op::Equal => same(a, b),
+        Op::NotEqual => Ok(!same(a, b)?),
+        Op::Less => Ok(order(a, b)?.is_lt()),
+        Op::AtMost => Ok(order(a, b)?.is_le()),
+        _ => Err(Stop::Unknown),
+    }
+}
+
 /// The truth of a test of two answers.
 fn tested(alloc: Global, op: Op, a: Answer, b: Answer) -> Result<bool, Stop>
     ensures { Finds (tested op (shown a) (shown b)) result }
 {
     match op {
-        Op::Equal => same(&a, &b),
-        Op::NotEqual => Ok(!same(&a, &b)?),
-        Op::Less => Ok(order(&a, &b)?.is_lt()),
-        Op::AtMost => Ok(order(&a, &b)?.is_le()),
         Op::InSupport => in_support(a, &b),
         Op::InMap => in_map(alloc, a, b),
-        _ => Err(Stop::Unknown),
+        _ => compared(op, &a, &b),
     }
 }
 

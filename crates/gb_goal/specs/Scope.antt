@@ -1,5 +1,7 @@
 -- Look-up in the declarations of a script.
-use Rattle.std.specs.Prelude.{◌≡◌, ℕ, ◌+◌, List, [], ◌∷◌, ◌++◌, Option, Some, None, if◌then◌else◌, bytes_eq}
+use Rattle.std.specs.Prelude.{◌≡◌, ℕ, ◌+◌, List, [], ◌∷◌, ◌++◌, Option, Some, None, Bool, true, false, ◌&&◌, if◌then◌else◌, bytes_eq}
+use Rattle.std.specs.List.{slice_get}
+use Rattle.std.specs.Option.{option_map}
 use Rattle.gb_core.specs.declared.ty.Ty.{Ty}
 use Rattle.gb_core.specs.declared.ty.Ty.TheVariants.{Abstract}
 use Rattle.gb_terms.specs.declared.decl.Module.{Module}
@@ -13,6 +15,7 @@ use Rattle.gb_goal.specs.declared.sequent.Sequent.{Sequent}
 use Rattle.gb_goal.specs.declared.scope.Constant.{Constant}
 use Rattle.gb_goal.specs.declared.scope.OperatorType.{OperatorType}
 use Rattle.gb_goal.specs.declared.scope.Binder.{Binder}
+use Rattle.gb_goal.specs.declared.scope.ProcName.{ProcName}
 use Rattle.gb_goal.specs.declared.scope.Entry.{Entry}
 use Rattle.gb_goal.specs.declared.scope.Entry.TheVariants as entry
 
@@ -24,6 +27,10 @@ Declarations = List (List ℕ × Entry)
 abbrev pub entry_of : Declarations → List ℕ → Option Entry
 entry_of [] n = None
 entry_of (d ∷ ds) n = if bytes_eq n d.0 then Some d.1 else entry_of ds n
+
+-- the thing of this number, from 0
+abbrev pub entry_at : Declarations → ℕ → Option Entry
+entry_at ds i = option_map (λ d. d.1) (slice_get ds i)
 
 abbrev pub as_module : Option Entry → Option Module
 as_module (Some (entry.Module m)) = Some m
@@ -51,6 +58,21 @@ abbrev pub as_operator : Option Entry → Option OperatorType
 as_operator (Some (entry.Operator o)) = Some (record { params = o.params; result = (out-Term o.body).ty })
 as_operator (Some (entry.AbstractOperator t)) = Some t
 as_operator _ = None
+
+-- what a script writes for a procedure of a module: both names, with a dot between
+abbrev pub path_of : ProcName → List ℕ
+path_of p = p.module ++ 46 ∷ p.name
+
+abbrev pub is_the_same : ProcName → ProcName → Bool
+is_the_same p q = bytes_eq p.module q.module && bytes_eq p.name q.name
+
+abbrev pub is_proof_for : ProcName → Option Entry → Bool
+is_proof_for p (Some (entry.Terminating q)) = is_the_same p q
+is_proof_for p _ = false
+
+-- The loops of this procedure are proved.
+abbrev pub is_proved : Declarations → ProcName → Bool
+is_proved ds p = is_proof_for p (entry_of ds (path_of p))
 
 -- the module of this name
 abbrev pub module_of : Declarations → List ℕ → Option Module
@@ -98,9 +120,11 @@ proc_at ds _ n = None
 abbrev pub procedure_of : Declarations → ProcRef → Option Proc
 procedure_of ds p = proc_at ds p.module p.name
 
--- how many declarations a thing counts as: the constants of an enumeration are declared with their type, as one
+-- How many declarations a thing counts as: the constants of an enumeration are declared with their type, as one, and that loops
+-- are proved declares nothing.
 abbrev pub weight : Entry → ℕ
 weight (entry.Constant c) = 0
+weight (entry.Terminating p) = 0
 weight _ = 1
 
 -- how many declarations there are
@@ -113,7 +137,13 @@ abbrev pub AreNew : Declarations → Declarations → Type 0
 AreNew ds [] = Unit {0}
 AreNew ds (d ∷ more) = (entry_of ds d.0 ≡ None) × AreNew (ds ++ d ∷ []) more
 
--- things that aren't lemmas
-abbrev pub AreNoLemmas : Declarations → Type 0
-AreNoLemmas [] = Unit {0}
-AreNoLemmas (d ∷ ds) = (as_lemma (Some d.1) ≡ None) × AreNoLemmas ds
+-- a thing that claims something: that a lemma holds, or that loops are proved
+abbrev pub is_claim : Entry → Bool
+is_claim (entry.Lemma s bs) = true
+is_claim (entry.Terminating p) = true
+is_claim _ = false
+
+-- things that claim nothing
+abbrev pub ClaimNothing : Declarations → Type 0
+ClaimNothing [] = Unit {0}
+ClaimNothing (d ∷ ds) = (is_claim d.1 ≡ false) × ClaimNothing ds

@@ -2,7 +2,7 @@
 
 ghost use Rattle.std.specs.Prelude.{◌≡◌, ◌≤◌, ◌↔◌, [], ◌∷◌, ◌++◌, length, take, None, string_bytes, IsTrue, IfOk, OnOk, OnErr};
 ghost use Rattle.std.specs.Option.{option_copied};
-ghost use Rattle.gb_goal.specs.Scope.{AreNew, binders_of, constant_named, declarations_in, entry_of, module_of, lemma_of, operator_named, proc_of, proc_in, procedure_of, type_named, weight};
+ghost use Rattle.gb_goal.specs.Scope.{AreNew, binders_of, constant_named, declarations_in, entry_at, entry_of, is_proved, is_the_same, module_of, lemma_of, operator_named, path_of, proc_of, proc_in, procedure_of, type_named, weight};
 
 use crate::sequent::Sequent;
 use gb_core::name::Name;
@@ -48,6 +48,31 @@ pub enum Binder {
 /// What the binders of a lemma bind, in the order of the text.
 pub type Binders = SharedItems<Binder>;
 
+/// A procedure of a declared module, by the names of both. A script writes them with a dot between.
+#[derive(Drop)]
+pub struct ProcName {
+    pub module: Name,
+    pub name: Name,
+}
+
+impl ProcName {
+    /// What a script writes for the procedure.
+    pub fn path(&self, alloc: Global) -> Result<Name, AllocError>
+        ensures { IfOk result (λ n. n ≡ path_of self.now) }
+    {
+        let mut text = String::from_str(alloc, self.module.as_str())?;
+        text.push_str(".")?;
+        text.push_str(self.name.as_str())?;
+        Ok(Name::new(text))
+    }
+}
+
+fn is_the_same(a: &ProcName, b: &ProcName) -> bool
+    ensures { result ≡ is_the_same a.now b.now }
+{
+    same_name(&a.module, &b.module) && same_name(&a.name, &b.name)
+}
+
 /// A thing that a script has declared.
 pub enum Entry {
     Module(Module),
@@ -61,6 +86,8 @@ pub enum Entry {
     Operator(Operator),
     /// An operator without a body.
     AbstractOperator(OperatorType),
+    /// That the loops of a procedure are proved. It stands under the path of the procedure.
+    Terminating(ProcName),
 }
 
 /// Things with their names, in order of declaration.
@@ -79,6 +106,7 @@ impl Drop for Entry {
             Entry::Constant(constant) => drop(constant),
             Entry::Operator(operator) => drop(operator),
             Entry::AbstractOperator(ty) => drop(ty),
+            Entry::Terminating(proc) => drop(proc),
         }
     }
 }
@@ -89,7 +117,7 @@ fn weight(entry: &Entry) -> usize
     ensures small { result ≤ 1 }
 {
     match entry {
-        Entry::Constant(_) => 0,
+        Entry::Constant(_) | Entry::Terminating(_) => 0,
         _ => 1,
     }
 }
@@ -145,7 +173,8 @@ impl Scope {
         }
     }
 
-    /// The number of declarations. The constants of an enumeration are declared with their type, as one.
+    /// The number of declarations. The constants of an enumeration are declared with their type, as one, and a proof
+    /// that loops end gives no name to anything.
     pub fn declarations(&self) -> usize
         ensures { result ≡ declarations_in self.now }
     {
@@ -176,6 +205,16 @@ impl Scope {
         ensures { self.new ≡ take count self.old }
     {
         self.entries.truncate(count);
+    }
+
+    /// The thing of this number, from 0, in order of declaration.
+    pub fn entry_at(&self, i: usize) -> Option<&Entry>
+        ensures { option_copied result ≡ entry_at self.now i }
+    {
+        match self.entries.get_index(i) {
+            Some((_, entry)) => Some(entry.get()),
+            None => None,
+        }
     }
 
     /// The thing of this name.
@@ -278,6 +317,17 @@ impl Scope {
         }
     }
 
+    /// Whether the loops of this procedure are proved.
+    pub fn is_proved(&self, alloc: Global, proc: &ProcName) -> Result<bool, AllocError>
+        ensures { IfOk result (λ b. b ≡ is_proved self.now proc.now) }
+    {
+        let path = proc.path(alloc)?;
+        match self.entry(&path) {
+            Some(Entry::Terminating(proved)) => Ok(is_the_same(proc, proved)),
+            _ => Ok(false),
+        }
+    }
+
     fn insert(&mut self, key: String, entry: Boxed<Entry>) -> Result<(), AllocError>
         requires { entry_of self.old (string_bytes key) ≡ None }
         ensures ok { OnOk result (self.new ≡ self.old ++ (string_bytes key, entry) ∷ []) }
@@ -312,6 +362,18 @@ impl Scope {
     {
         let entry = Boxed::new(alloc, Entry::Lemma(statement, binders))?;
         let key = String::from_str(alloc, name.as_str())?;
+        self.insert(key, entry)
+    }
+
+    /// Declares that the loops of a procedure are proved, under its path, which is free.
+    pub fn declare_proved(&mut self, alloc: Global, proc: ProcName) -> Result<(), AllocError>
+        requires { entry_of self.old (path_of proc) ≡ None }
+        ensures ok { OnOk result (self.new ≡ self.old ++ (path_of proc, Entry.Terminating proc) ∷ []) }
+        ensures err { OnErr result (self.new ≡ self.old) }
+    {
+        let path = proc.path(alloc)?;
+        let key = String::from_str(alloc, path.as_str())?;
+        let entry = Boxed::new(alloc, Entry::Terminating(proc))?;
         self.insert(key, entry)
     }
 

@@ -19,6 +19,7 @@ module_in-entry entry.AbstractType = refl
 module_in-entry (entry.Constant c) = refl
 module_in-entry (entry.Operator o) = refl
 module_in-entry (entry.AbstractOperator o) = refl
+module_in-entry (entry.Terminating p) = refl
 
 named-if : (b : Bool) (e : Entry) (x : Option Module) (r : Option Entry) → x ≡ as_module r →
     (if b then module_in (declaration_of e) else x) ≡ as_module (if b then Some e else r)

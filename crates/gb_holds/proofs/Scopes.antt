@@ -1,15 +1,16 @@
 -- Sound scopes that gain a declaration.
-use Rattle.std.proofs.Common.{◌≡◌, ◌↔◌, List, [], ◌∷◌, ◌++◌, Some, None, sym, subst}
+use Rattle.std.proofs.Common.{◌≡◌, ◌↔◌, List, [], ◌∷◌, ◌++◌, false, sym, subst}
 use Rattle.std.proofs.lemmas.List.{append_assoc, append-nil}
 use Rattle.gb_meaning.specs.Names.{Name}
 use Rattle.gb_goal.specs.Scope as scope
-use Rattle.gb_goal.specs.Scope.{as_lemma, AreNoLemmas}
+use Rattle.gb_goal.specs.Scope.{is_claim, ClaimNothing}
 use Rattle.gb_goal.specs.declared.scope.Binder.{Binder}
 use Rattle.gb_goal.specs.declared.scope.Entry.{Entry}
 use Rattle.gb_goal.specs.declared.scope.Entry.TheVariants as entry
+use Rattle.gb_goal.specs.declared.scope.ProcName.{ProcName}
 use Rattle.gb_goal.specs.declared.sequent.Sequent.{Sequent}
-use Rattle.gb_holds.specs.Declared.{Declarations, Declaration, lemma, declaration_of, declared}
-use Rattle.gb_holds.specs.Holds.{Holds, IsSoundAfter, AreSoundAfter, IsSound}
+use Rattle.gb_holds.specs.Declared.{Declarations, Declaration, lemma, terminating, declaration_of, declared}
+use Rattle.gb_holds.specs.Holds.{Holds, IsTerminating, IsSoundAfter, AreSoundAfter, IsSound}
 use Rattle.gb_holds.proofs.Lists.{declared-append}
 
 module _ (n : Name) (d : Declaration) where
@@ -32,20 +33,23 @@ pub gained_lemma : (ds : scope.Declarations) (n : Name) (q : Sequent) (bs : List
 gained_lemma ds n q bs s h =
     subst IsSound (sym (declared-append ds ((n, entry.Lemma q bs) ∷ []))) ((one_more (declared ds) n (lemma q)).1 (s, h))
 
-some_none : {A B : Type 0} (x : A) → Some x ≡ None → B
-some_none x e = cc
+pub gained_proof : (ds : scope.Declarations) (n : Name) (p : ProcName) → IsSound (declared ds) → IsTerminating (declared ds) p.module p.name →
+    IsSound (declared (ds ++ (n, entry.Terminating p) ∷ []))
+gained_proof ds n p s h =
+    subst IsSound (sym (declared-append ds ((n, entry.Terminating p) ∷ []))) ((one_more (declared ds) n (terminating p)).1 (s, h))
 
--- what is no lemma promises nothing
-promises_nothing : (before : Declarations) (n : Name) (e : Entry) → as_lemma (Some e) ≡ None → IsSoundAfter before n (declaration_of e)
+-- of what claims nothing a sound scope promises nothing
+promises_nothing : (before : Declarations) (n : Name) (e : Entry) → is_claim e ≡ false → IsSoundAfter before n (declaration_of e)
 promises_nothing before n (entry.Module m) h = tt
-promises_nothing before n (entry.Lemma q order) h = some_none q h
+promises_nothing before n (entry.Lemma q order) h = absurd (cc)
 promises_nothing before n (entry.Type t) h = tt
 promises_nothing before n entry.AbstractType h = tt
 promises_nothing before n (entry.Constant c) h = tt
 promises_nothing before n (entry.Operator o) h = tt
 promises_nothing before n (entry.AbstractOperator o) h = tt
+promises_nothing before n (entry.Terminating p) h = absurd (cc)
 
-others_sound : (before : Declarations) (added : scope.Declarations) → AreNoLemmas added → AreSoundAfter before (declared added)
+others_sound : (before : Declarations) (added : scope.Declarations) → ClaimNothing added → AreSoundAfter before (declared added)
 others_sound before [] k = tt
 others_sound before (d ∷ added) k = (promises_nothing before d.0 d.1 k.0, others_sound (before ++ (d.0, declaration_of d.1) ∷ []) added k.1)
 
@@ -54,6 +58,6 @@ both_sound before [] es s k = subst (λ z. AreSoundAfter z es) (append-nil befor
 both_sound before (d ∷ ds) es s k =
     (s.0, both_sound (before ++ d ∷ []) ds es s.1 (subst (λ z. AreSoundAfter z es) (sym (append_assoc before (d ∷ []) ds)) k))
 
-pub gained_others : (ds added : scope.Declarations) → AreNoLemmas added → IsSound (declared ds) → IsSound (declared (ds ++ added))
+pub gained_others : (ds added : scope.Declarations) → ClaimNothing added → IsSound (declared ds) → IsSound (declared (ds ++ added))
 gained_others ds added k s =
     subst IsSound (sym (declared-append ds added)) (both_sound [] (declared ds) (declared added) s (others_sound (declared ds) added k))

@@ -9,6 +9,7 @@ use Rattle.gb_terms.specs.declared.term.Term.{Term}
 use Rattle.gb_goal.specs.declared.sequent.Sequent.{Sequent}
 use Rattle.gb_goal.specs.declared.scope.Constant.{Constant}
 use Rattle.gb_goal.specs.declared.scope.Entry.{Entry}
+use Rattle.gb_goal.specs.declared.scope.ProcName.{ProcName}
 use Rattle.gb_goal.specs.declared.scope.Entry.TheVariants as entry
 use Rattle.gb_goal.specs.Scope as scope
 use Rattle.gb_meaning.specs.Names.{Name}
@@ -59,8 +60,8 @@ pub data Declaration : Type 0 where
   abstract_module : Bind → Declaration
   axiom_of : Sequent → Declaration
   lemma : Sequent → Declaration
-  -- the loops of this procedure of the module are proved
-  terminating : Name → Declaration
+  -- the loops of this procedure are proved; the name is what a script writes for the procedure
+  terminating : ProcName → Declaration
 
 -- what is declared, in order, each with its name
 abbrev pub Declarations : Type 0
@@ -75,6 +76,7 @@ declaration_of entry.AbstractType = abstract_type
 declaration_of (entry.Constant c) = abbreviation (for_value c)
 declaration_of (entry.Operator o) = operator (record { params = o.params; body = o.body })
 declaration_of (entry.AbstractOperator o) = abstract_operator (record { params = o.params; result = o.result })
+declaration_of (entry.Terminating p) = terminating p
 
 -- the declarations of a scope
 abbrev pub declared : scope.Declarations → Declarations

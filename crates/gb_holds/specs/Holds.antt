@@ -154,7 +154,7 @@ IsTerminating ds m f = ProcedureOfIsGood ds (module_named ds m) f
 -- what a sound scope promises of a declaration after others: a lemma holds, and loops that are proved are good
 abbrev pub IsSoundAfter : Declarations → Name → Declaration → Type 0
 IsSoundAfter ds n (lemma q) = Holds ds q
-IsSoundAfter ds n (terminating f) = IsTerminating ds n f
+IsSoundAfter ds n (terminating p) = IsTerminating ds p.module p.name
 IsSoundAfter ds n _ = Unit {0}
 
 -- what a sound scope promises of several declarations
@@ -172,7 +172,7 @@ IsSilent abstract_type = Unit {0}
 IsSilent (abbreviation stood) = Unit {0}
 IsSilent (axiom_of q) = Unit {0}
 IsSilent (lemma q) = Unit {0}
-IsSilent (terminating f) = Unit {0}
+IsSilent (terminating p) = Unit {0}
 IsSilent _ = ⊥
 
 -- each declaration is in P

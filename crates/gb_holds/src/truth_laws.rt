@@ -6,9 +6,10 @@ ghost use Rattle.gb_meaning.specs.Names.{Name};
 ghost use Rattle.gb_meaning.specs.State.{State};
 ghost use Rattle.gb_meaning.specs.Judgments.{IsTrueIn};
 ghost use Rattle.gb_goal.specs.Scope as scope;
-ghost use Rattle.gb_goal.specs.Scope.{AreNoLemmas};
+ghost use Rattle.gb_goal.specs.Scope.{ClaimNothing};
 ghost use Rattle.gb_goal.specs.declared.scope.Binder.{Binder};
 ghost use Rattle.gb_goal.specs.declared.scope.Entry.TheVariants as entry;
+ghost use Rattle.gb_goal.specs.declared.scope.ProcName.{ProcName};
 ghost use Rattle.gb_goal.specs.declared.sequent.Sequent.{Sequent};
 ghost use Rattle.gb_holds.specs.Declared.{Declarations, Declaration, declared};
 ghost use Rattle.gb_holds.specs.Settings.{Interpretation, types_of, setting};
@@ -32,11 +33,14 @@ pub fn sound_scopes()
         IsSound (ds ++ (n, d) ∷ []) ↔ (IsSound ds × IsSoundAfter ds n d) }
 {}
 
-/// A sound scope that gains a lemma which holds is sound, and so is one that gains things that aren't lemmas.
+/// A sound scope that gains a lemma which holds is sound, and so is one that gains that good loops are proved, or things
+/// that claim nothing.
 pub fn scopes_of_scripts()
     ensures lemma { (ds : scope.Declarations) (n : Name) (q : Sequent) (bs : List Binder) → IsSound (declared ds) → Holds (declared ds) q →
         IsSound (declared (ds ++ (n, entry.Lemma q bs) ∷ [])) }
-    ensures others { (ds added : scope.Declarations) → AreNoLemmas added → IsSound (declared ds) → IsSound (declared (ds ++ added)) }
+    ensures proof { (ds : scope.Declarations) (n : Name) (p : ProcName) → IsSound (declared ds) →
+        IsTerminating (declared ds) p.module p.name → IsSound (declared (ds ++ (n, entry.Terminating p) ∷ [])) }
+    ensures others { (ds added : scope.Declarations) → ClaimNothing added → IsSound (declared ds) → IsSound (declared (ds ++ added)) }
 {}
 
 /// What holds goes on to hold when types, axioms, lemmas and proved loops are declared: these leave what names mean as it is.

@@ -22,7 +22,7 @@ use Rattle.gb_laws.proofs.Maps.{get-set_same}
 use Rattle.gb_judge.specs.Examples.{flip, alike, flips_are_alike, tossed, shows, CoinCoupling, ArePairsOfCoins}
 use Rattle.gb_judge.proofs.Coins.{flip_sound, outcomes, run_is, denominator_is, reads}
 use Rattle.gb_judge.proofs.Fair.{memory_discrete}
-use Rattle.gb_judge.proofs.Truths.{true_equiv}
+use Rattle.gb_laws.proofs.Truths.{true_equiv}
 
 equal : (v w : Value) → Bool
 equal v w = truth (of_truth (same (finite v) (finite w)))

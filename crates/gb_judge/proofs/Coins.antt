@@ -20,7 +20,7 @@ use Rattle.gb_laws.proofs.Memories.{read-write_local}
 use Rattle.gb_laws.proofs.Bodies.{run_of_body, denominator_of_body, sound_body}
 use Rattle.gb_laws.proofs.Drawn.{program_sound}
 use Rattle.gb_judge.specs.Examples.{flip, opposite, flips_are_opposite}
-use Rattle.gb_judge.proofs.Truths.{true_equiv}
+use Rattle.gb_laws.proofs.Truths.{true_equiv}
 
 plain : Drawing
 plain = record { restricts = false; operators = λ n. false }

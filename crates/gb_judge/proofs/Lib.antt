@@ -4,7 +4,6 @@ pub mod Tests
 pub mod Exact
 pub mod Fair
 pub mod Unique
-pub mod Truths
 pub mod Coins
 pub mod Probabilities
 pub mod AlikeCoins

@@ -21,7 +21,7 @@ use Rattle.gb_meaning.specs.Examples.{number}
 use Rattle.gb_laws.proofs.Nodes.{val_node}
 use Rattle.gb_judge.specs.Examples.{x_in, tossed, each_shows, some_shows}
 use Rattle.gb_judge.proofs.Coins.{reads}
-use Rattle.gb_judge.proofs.Truths.{truth_of, true_all_memory, true_some_memory}
+use Rattle.gb_laws.proofs.Truths.{truth_of, true_all_memory, true_some_memory}
 
 not_true : (b : Bool) → (b ≡ true → ⊥) → b ≡ false
 not_true true h = absurd (h refl)

@@ -8,7 +8,7 @@ use Rattle.gb_meaning.specs.Memory.{Memory}
 use Rattle.gb_meaning.specs.State.{no_memory}
 use Rattle.gb_meaning.specs.Terms.{each_value, some_value}
 use Rattle.gb_laws.proofs.Numberings.{lawful, fit_other}
-use Rattle.gb_judge.proofs.Bools.{or_left, or_right, each_value_use, each_value_make, some_value_make, some_value_use}
+use Rattle.gb_laws.proofs.Bools.{or_left, or_right, each_value_use, each_value_make, some_value_make, some_value_use}
 use Rattle.gb_local.proofs.Cells.{Key, key_discrete, Cell, Cells, In, Agree, get_at, set_at, look, get_at-same, get_at-other}
 use Rattle.gb_local.specs.Cells.Key.{global, local}
 

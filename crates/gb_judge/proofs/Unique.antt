@@ -10,7 +10,7 @@ use Rattle.gb_meaning.specs.Meanings.{of_truth, truth}
 use Rattle.gb_meaning.specs.State.{State}
 use Rattle.gb_meaning.specs.Terms.{Part, at_head, val, parts, denominator}
 use Rattle.gb_meaning.specs.Judgments.{Judge, IsFair, speaking, stands_at, is_judged_at, is_sound_at, IsSoundForm, AllSound, IsTrueUnder, IsTrueIn}
-use Rattle.gb_judge.proofs.Bools.{same_truth}
+use Rattle.gb_laws.proofs.Bools.{same_truth}
 use Rattle.gb_local.proofs.Cells.{Cell, Covers}
 use Rattle.gb_local.proofs.States.{Near}
 use Rattle.gb_judge.proofs.Exact.{form_cells, trying, val_exact, near_exact}

@@ -1,6 +1,7 @@
 -- What holds goes on to hold when declarations are added one after another.
 use Rattle.std.proofs.Common.{ℕ, [], ◌∷◌, ◌++◌, sym, subst}
 use Rattle.std.proofs.lemmas.List.{append_assoc, append-nil}
+use Rattle.gb_goal.specs.declared.scope.ProcName.{ProcName}
 use Rattle.gb_goal.specs.declared.sequent.Sequent.{Sequent}
 use Rattle.gb_meaning.specs.Names.{Name}
 use Rattle.gb_meaning.specs.Values.{World}
@@ -104,6 +105,6 @@ pub lemma-stays : (ds es : Declarations) (n : Name) (q : Sequent) → IsSound (d
     Holds (ds ++ (n, lemma q) ∷ es) q
 lemma-stays ds es n q s a = all-added ds ((n, lemma q) ∷ es) q a (promised n (lemma q) es [] ds s)
 
-pub loops-stay : (ds es : Declarations) (m f : Name) → IsSound (ds ++ (m, terminating f) ∷ es) → AreAddedToLoops ds ((m, terminating f) ∷ es) m f →
-    IsTerminating (ds ++ (m, terminating f) ∷ es) m f
-loops-stay ds es m f s a = loops-added ds ((m, terminating f) ∷ es) m f a (promised m (terminating f) es [] ds s)
+pub loops-stay : (ds es : Declarations) (n : Name) (p : ProcName) → IsSound (ds ++ (n, terminating p) ∷ es) → AreAddedToLoops ds ((n, terminating p) ∷ es) p.module p.name →
+    IsTerminating (ds ++ (n, terminating p) ∷ es) p.module p.name
+loops-stay ds es n p s a = loops-added ds ((n, terminating p) ∷ es) p.module p.name a (promised n (terminating p) es [] ds s)

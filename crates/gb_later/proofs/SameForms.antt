@@ -25,7 +25,7 @@ use Rattle.gb_meaning.specs.Terms.{Part, at_head, val, parts}
 use Rattle.gb_meaning.specs.Runs.{out, outcomes, run_denominator, parameter_values}
 use Rattle.gb_meaning.specs.Commands.{program_of, IsThere, CallsAreThere}
 use Rattle.gb_meaning.specs.Judgments.{Judge, IsFair, speaking, outcomes_of, outcome_denominator, chance, probability, from_frame, run_of, subject_denominator, compares, Holds, part, stands_at, is_judged_at, IsSoundIfThere, IsSoundSubject, is_sound_at, IsSoundForm, AllSound, IsTrueIn}
-use Rattle.gb_judge.proofs.Bools.{same_truth}
+use Rattle.gb_laws.proofs.Bools.{same_truth}
 use Rattle.gb_judge.proofs.Exact.{trying}
 use Rattle.gb_judge.proofs.Fair.{is_fair}
 use Rattle.gb_holds.specs.Naming.{EachCallIn}

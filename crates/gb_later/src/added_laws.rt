@@ -2,6 +2,7 @@
 
 ghost use Rattle.std.specs.Prelude.{◌≡◌, ℕ, ◌↔◌, ◌++◌, [], ◌∷◌, List, Option, Some};
 ghost use Rattle.gb_terms.specs.declared.module.Bind.{Bind};
+ghost use Rattle.gb_goal.specs.declared.scope.ProcName.{ProcName};
 ghost use Rattle.gb_goal.specs.declared.sequent.Sequent.{Sequent};
 ghost use Rattle.gb_meaning.specs.Names.{Name};
 ghost use Rattle.gb_meaning.specs.Values.{Global, World};
@@ -82,6 +83,7 @@ pub fn later_declarations()
 pub fn whole_scopes()
     ensures lemmas { (ds es : Declarations) (n : Name) (q : Sequent) → IsSound (ds ++ (n, lemma q) ∷ es) →
         AreAddedTo ds ((n, lemma q) ∷ es) q → Holds (ds ++ (n, lemma q) ∷ es) q }
-    ensures loops { (ds es : Declarations) (m f : Name) → IsSound (ds ++ (m, terminating f) ∷ es) →
-        AreAddedToLoops ds ((m, terminating f) ∷ es) m f → IsTerminating (ds ++ (m, terminating f) ∷ es) m f }
+    ensures loops { (ds es : Declarations) (n : Name) (p : ProcName) → IsSound (ds ++ (n, terminating p) ∷ es) →
+        AreAddedToLoops ds ((n, terminating p) ∷ es) p.module p.name →
+        IsTerminating (ds ++ (n, terminating p) ∷ es) p.module p.name }
 {}

@@ -10,3 +10,5 @@ pub mod Totals
 pub mod Drawn
 pub mod Sequence
 pub mod Endings
+pub mod Bools
+pub mod Truths

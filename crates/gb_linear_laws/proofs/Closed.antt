@@ -70,6 +70,24 @@ closed equal r qs e = step (is_closed equal r) refl e
     step true k e = (refl, given_is [] qs e)
     step false k e = cc
 
+-- no goal is left
+nothing_left : (x : Comparison) (hs : List Assumption) (qs : List Sequent) → closed_with x hs ≡ given qs → [] ≡ qs
+nothing_left x hs qs e =
+    let a = given_bind (allowed hs) (λ _. rest x hs >>= λ r. closed_by x.equal r) qs e in
+    let b = given_bind (rest x hs) (closed_by x.equal) qs a.2 in
+    (closed x.equal b.0 qs b.2).1
+
+unplaced : {A : Type 0} (place : Place) (a : Answer A) (x : A) → placed_at place a ≡ given x → a ≡ given x
+unplaced place (given y) x e = e
+unplaced place (refused w p) x e = cc
+
+pub closes : (ms : List Multiple) (place : Place) (q : Sequent) (qs : List Sequent) → linear_answer ms place q ≡ given qs → [] ≡ qs
+unfolding closing
+closes ms place q qs e =
+    let a = given_bind (given_or (compared q.conclusion) why.Shape nowhere) (λ x. given_or (all_assumed x.equal q.hyps ms) why.Shape nowhere >>= closed_with x) qs (unplaced place (closing ms q) qs e) in
+    let b = given_bind (given_or (all_assumed (let x = a.0 in x.equal) q.hyps ms) why.Shape nowhere) (closed_with a.0) qs a.2 in
+    nothing_left a.0 b.0 qs b.2
+
 module _ (c : Context) (g : Setting) (fits : IsSettingOf c g) (i : Judge) (s : State) (fit : IsStateOf c g s) where
   abbrev W : Term → Number
   W = V c g fits i s fit
@@ -178,10 +196,6 @@ some_given : {A : Type 0} (o : Option A) (w : Why) (p : Place) (x : A) → given
 some_given (Some y) w p x e = ap Some (given_is y x e)
 some_given None w p x e = cc
 
-unplaced : {A : Type 0} (place : Place) (a : Answer A) (x : A) → placed_at place a ≡ given x → a ≡ given x
-unplaced place (given y) x e = e
-unplaced place (refused w p) x e = cc
-
 module _ (ds : Declarations) (scope : IsTypedScope ds) (q : Sequent) (t : IsTypedSequent (context_of ds) q) where
   abbrev c : Context
   c = here ds scope q t
@@ -248,9 +262,3 @@ module _ (ds : Declarations) (scope : IsTypedScope ds) (q : Sequent) (t : IsType
       (all_used k fits s fit i fair x.equal ms b.0 h (some_given (all_assumed x.equal q.hyps ms) why.Shape nowhere b.0 b.1)) b.2))) in
       let none = nothing_left x b.0 qs b.2 in
       subst (λ z. AllByRecursion (IsTypedSequent (context_of ds)) z × (AllByRecursion (Holds ds) z → Holds ds q)) none (w.typed, w.leads)
-    where
-      nothing_left : (x : Comparison) (hs : List Assumption) (qs : List Sequent) → closed_with x hs ≡ given qs → [] ≡ qs
-      nothing_left x hs qs e =
-          let a = given_bind (allowed hs) (λ _. rest x hs >>= λ r. closed_by x.equal r) qs e in
-          let b = given_bind (rest x hs) (closed_by x.equal) qs a.2 in
-          (closed x.equal b.0 qs b.2).1

@@ -18,7 +18,7 @@ use Rattle.gb_meaning.specs.Terms.{val}
 use Rattle.gb_meaning.specs.Judgments.{Judge, speaking, den}
 use Rattle.gb_meaning.specs.Written.{type_of}
 use Rattle.gb_laws.proofs.Nodes.{each_is_node, term_is_node, val_node}
-use Rattle.gb_judge.proofs.Truths.{truth_of}
+use Rattle.gb_laws.proofs.Truths.{truth_of}
 use Rattle.gb_holds.specs.Truth.{has_module}
 use Rattle.gb_typed.specs.Operators.{IsSigned}
 use Rattle.gb_typing.specs.Context.{Context}

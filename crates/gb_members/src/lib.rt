@@ -1,4 +1,5 @@
-//! Values of finite types.
+//! Values of finite types: which are of a type, how many are tried, and differences of numbers.
 #![tactic(auto)]
 
+pub mod counted;
 pub mod members;

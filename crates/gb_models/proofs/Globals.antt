@@ -70,6 +70,7 @@ none_later ((k, entry.AbstractType) ∷ ds) before c w n d x p = none_later ds (
 none_later ((k, entry.Constant a0) ∷ ds) before c w n d x p = none_later ds (before ++ (k, declaration_of (entry.Constant a0)) ∷ []) c w.2 n (declared_more before (k, declaration_of (entry.Constant a0)) n d) x p
 none_later ((k, entry.Operator o0) ∷ ds) before c w n d x p = none_later ds (before ++ (k, declaration_of (entry.Operator o0)) ∷ []) (with_declared c k (declaration_of (entry.Operator o0))) w.2 n (declared_more before (k, declaration_of (entry.Operator o0)) n d) x p
 none_later ((k, entry.AbstractOperator o0) ∷ ds) before c w n d x p = none_later ds (before ++ (k, declaration_of (entry.AbstractOperator o0)) ∷ []) (with_declared c k (declaration_of (entry.AbstractOperator o0))) w.2 n (declared_more before (k, declaration_of (entry.AbstractOperator o0)) n d) x p
+none_later ((k, entry.Terminating a0) ∷ ds) before c w n d x p = none_later ds (before ++ (k, declaration_of (entry.Terminating a0)) ∷ []) c w.2 n (declared_more before (k, declaration_of (entry.Terminating a0)) n d) x p
 
 own_name : (n : Name) (l : TypedName) (ls : List TypedName) → local_type ls l.name ≡ None → list_any (is_global (record { parent = n; name = l.name; ty = l.ty })) (globals_from n ls) ≡ false
 own_name n l [] e = refl
@@ -99,6 +100,7 @@ globals_once ((n, entry.AbstractType) ∷ ds) before c w = globals_once ds (befo
 globals_once ((n, entry.Constant a0) ∷ ds) before c w = globals_once ds (before ++ (n, declaration_of (entry.Constant a0)) ∷ []) c w.2
 globals_once ((n, entry.Operator o0) ∷ ds) before c w = globals_once ds (before ++ (n, declaration_of (entry.Operator o0)) ∷ []) (with_declared c n (declaration_of (entry.Operator o0))) w.2
 globals_once ((n, entry.AbstractOperator o0) ∷ ds) before c w = globals_once ds (before ++ (n, declaration_of (entry.AbstractOperator o0)) ∷ []) (with_declared c n (declaration_of (entry.AbstractOperator o0))) w.2
+globals_once ((n, entry.Terminating a0) ∷ ds) before c w = globals_once ds (before ++ (n, declaration_of (entry.Terminating a0)) ∷ []) c w.2
 
 -- Their types are those of variables.
 
@@ -117,6 +119,7 @@ globals_variables ((n, entry.AbstractType) ∷ ds) before c w = globals_variable
 globals_variables ((n, entry.Constant a0) ∷ ds) before c w = globals_variables ds (before ++ (n, declaration_of (entry.Constant a0)) ∷ []) c w.2
 globals_variables ((n, entry.Operator o0) ∷ ds) before c w = globals_variables ds (before ++ (n, declaration_of (entry.Operator o0)) ∷ []) (with_declared c n (declaration_of (entry.Operator o0))) w.2
 globals_variables ((n, entry.AbstractOperator o0) ∷ ds) before c w = globals_variables ds (before ++ (n, declaration_of (entry.AbstractOperator o0)) ∷ []) (with_declared c n (declaration_of (entry.AbstractOperator o0))) w.2
+globals_variables ((n, entry.Terminating a0) ∷ ds) before c w = globals_variables ds (before ++ (n, declaration_of (entry.Terminating a0)) ∷ []) c w.2
 
 pub world_types : (ts : Types) → IsInhabited ts → (w : World) → AreVariables w → HaveWorldTypes ts w
 world_types ts i [] h = tt

@@ -161,6 +161,7 @@ each_over ((n, entry.AbstractType) ∷ es) c = each_over es c
 each_over ((n, entry.Constant a) ∷ es) c = each_over es c
 each_over ((n, entry.Operator o) ∷ es) c = each_over es (with_declared c n (declaration_of (entry.Operator o)))
 each_over ((n, entry.AbstractOperator o) ∷ es) c = each_over es (with_declared c n (declaration_of (entry.AbstractOperator o)))
+each_over ((n, entry.Terminating a) ∷ es) c = each_over es c
 
 same_globals : (es : scope.Declarations) (c : Context) (a : Name) → (with_each c (declared es)).has_globals a ≡ c.has_globals a
 same_globals [] c a = refl
@@ -171,6 +172,7 @@ same_globals ((n, entry.AbstractType) ∷ es) c a = same_globals es c a
 same_globals ((n, entry.Constant k) ∷ es) c a = same_globals es c a
 same_globals ((n, entry.Operator o) ∷ es) c a = same_globals es (with_declared c n (declaration_of (entry.Operator o))) a
 same_globals ((n, entry.AbstractOperator o) ∷ es) c a = same_globals es (with_declared c n (declaration_of (entry.AbstractOperator o))) a
+same_globals ((n, entry.Terminating k) ∷ es) c a = same_globals es c a
 
 known_from : (ds : scope.Declarations) (before : Declarations) (c : Context) → AreTypedAfter c before (declared ds) → IsKnownFrom before c → IsKnownFrom (before ++ declared ds) (with_each c (declared ds))
 known_from [] before c w k = subst (λ z. IsKnownFrom z c) (sym (append-nil before)) k
@@ -195,6 +197,9 @@ known_from ((n, entry.Operator o0) ∷ ds) before c w k =
 known_from ((n, entry.AbstractOperator o0) ∷ ds) before c w k =
     subst (λ z. IsKnownFrom z (with_each (with_declared c n (declaration_of (entry.AbstractOperator o0))) (declared ds))) (append_assoc before ((n, declaration_of (entry.AbstractOperator o0)) ∷ []) (declared ds))
     (known_from ds (before ++ (n, declaration_of (entry.AbstractOperator o0)) ∷ []) (with_declared c n (declaration_of (entry.AbstractOperator o0))) w.2 (known_operator c n _ before k _))
+known_from ((n, entry.Terminating a0) ∷ ds) before c w k =
+    subst (λ z. IsKnownFrom z (with_each c (declared ds))) (append_assoc before ((n, declaration_of (entry.Terminating a0)) ∷ []) (declared ds))
+    (known_from ds (before ++ (n, declaration_of (entry.Terminating a0)) ∷ []) c w.2 (known_same c before n _ k))
 
 module _ (ds es : scope.Declarations) (typed : AreTypedAfter nothing [] (declared ds)) (later : AreTypedAfter (context_of (declared ds)) (declared ds) (declared es)) where
   abbrev c : Context

@@ -10,3 +10,5 @@ pub mod Staying
 pub mod Growing
 pub mod GrowingGoals
 pub mod StayingOn
+pub mod StayingLoops
+pub mod ProvedLoops

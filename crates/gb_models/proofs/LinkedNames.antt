@@ -132,7 +132,7 @@ module _ (P : Name → Type 0) where
       row_names (more_of-Instr (If' e m a n b) is) w k = statement_names (If' e m a n b) w.0 k.0 (program_of g is) (row_names is w.1 k.1)
       row_names (more_of-Instr (While' e v n a) is) w k = statement_names (While' e v n a) w.0 k.0 (program_of g is) (row_names is w.1 k.1)
 
-    body_names : (is : List Instr) → EachStatement c ls is → BodySpeaks P is → ProgramNames P AnyName (statements g is)
+    pub body_names : (is : List Instr) → EachStatement c ls is → BodySpeaks P is → ProgramNames P AnyName (statements g is)
     body_names [] w k = tt
     body_names (i ∷ is) w k = statement_names i w.0 k.0 (statements g is) (body_names is w.1 k.1)
 

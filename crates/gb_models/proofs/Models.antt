@@ -40,6 +40,7 @@ no_section ((n, entry.AbstractType) ∷ ds) = no_section ds
 no_section ((n, entry.Constant a) ∷ ds) = no_section ds
 no_section ((n, entry.Operator o) ∷ ds) = no_section ds
 no_section ((n, entry.AbstractOperator o) ∷ ds) = no_section ds
+no_section ((n, entry.Terminating a) ∷ ds) = no_section ds
 
 no_axioms : (all : Declarations) (ds : scope.Declarations) (i : Interpretation) → AxiomsAreTrue all (declared ds) i
 no_axioms all [] i = tt
@@ -50,6 +51,7 @@ no_axioms all ((n, entry.AbstractType) ∷ ds) i = no_axioms all ds i
 no_axioms all ((n, entry.Constant a) ∷ ds) i = no_axioms all ds i
 no_axioms all ((n, entry.Operator o) ∷ ds) i = no_axioms all ds i
 no_axioms all ((n, entry.AbstractOperator o) ∷ ds) i = no_axioms all ds i
+no_axioms all ((n, entry.Terminating a) ∷ ds) i = no_axioms all ds i
 
 -- Operators without a body give first values of their results, or 0.
 
@@ -114,6 +116,7 @@ module _ (all : Declarations) (ts : Types) (inhabited : IsInhabited ts) where
   results ((n, entry.Operator o) ∷ ds) before c w e = results ds _ _ w.2 (append_assoc before _ (declared ds) ∙ e)
   results ((n, entry.AbstractOperator o) ∷ ds) before c w e =
       ((λ vs k. here before n _ (declared ds) e w.0 w.1.1 vs), results ds _ _ w.2 (append_assoc before _ (declared ds) ∙ e))
+  results ((n, entry.Terminating a) ∷ ds) before c w e = results ds _ _ w.2 (append_assoc before _ (declared ds) ∙ e)
 
 -- abstract types of one value
 size : Name → ℕ

@@ -11,17 +11,17 @@ use Rattle.gb_terms.specs.declared.term.Subject.{Subject}
 use Rattle.gb_terms.specs.declared.term.Head.{Head}
 use Rattle.gb_terms.specs.declared.term.Head.TheVariants as head
 use Rattle.gb_terms.specs.declared.term.Head.TheVariants.{Proc, Body', Assign, Sample, Call', If', While'}
-use Rattle.gb_terms.specs.declared.term.Instr.{Row_of-Instr, end_of-Instr, more_of-Instr}
+use Rattle.gb_terms.specs.declared.term.Instr.{Instr, Row_of-Instr, end_of-Instr, more_of-Instr}
 use Rattle.gb_meaning.specs.Commands.{terms_in, program_of}
 use Rattle.gb_meaning.specs.Names.{Name}
 use Rattle.gb_meaning.specs.Setting.{Setting}
-use Rattle.gb_holds.specs.Naming.{AnyName, EachName, EachNameIn, EachCallIn}
+use Rattle.gb_holds.specs.Naming.{AnyName, EachName, EachNameIn, EachCallIn, EachCallOf}
 use Rattle.gb_later.specs.Naming.{TermNames, TermsName, NamesIfThere, ProgramNames, ProcedureNames, SubjectNames, JudgedNames, FormNames, FormsName}
 use Rattle.gb_typed.specs.Typing.{types_of}
 use Rattle.gb_typing.specs.Modules.{ProcedureType, FunctorType, Interface, Modules, fits, left_over, lacking, given, interface_at, interfaces_at, procedure_of}
 use Rattle.gb_typing.specs.Context.{Context, procedure, with_own}
 use Rattle.gb_typing.specs.Formulas.{IsKnown, IsFormula}
-use Rattle.gb_typing.specs.Programs.{IsCall, AreStatements}
+use Rattle.gb_typing.specs.Programs.{IsCall, AreStatements, EachStatement}
 use Rattle.gb_typing.specs.Sequents.{one, two, IsConclusion}
 use Rattle.gb_typing.specs.Typing.{IsThere, procedure_in, IsNamed, first, middle, last, IsTyped, AreTyped, IsForm}
 use Rattle.gb_models.specs.Speaking.{StatementsSpeak, BodiesSpeak}
@@ -147,6 +147,14 @@ module _ (P : Name → Type 0) (g : Setting) where
   calls_known c f ls (more_of-Instr (Call' xs r n es) is) w = (call_known c f ls xs r (terms_in es) (procedure c r) refl w.0, calls_known c f ls is w.1)
   calls_known c f ls (more_of-Instr (If' e m a n b) is) w = ((calls_known c f ls a w.0.1, calls_known c f ls b w.0.2), calls_known c f ls is w.1)
   calls_known c f ls (more_of-Instr (While' e v n a) is) w = (calls_known c f ls a w.0.2, calls_known c f ls is w.1)
+
+  pub each_known : (c : Context) → Procedures c → (ls : _) (is : List Instr) → EachStatement c ls is → EachCallOf (λ r. EachName P r.«module») is
+  each_known c f ls [] w = tt
+  each_known c f ls (Assign xs e ∷ is) w = (tt, each_known c f ls is w.1)
+  each_known c f ls (Sample x d ∷ is) w = (tt, each_known c f ls is w.1)
+  each_known c f ls (Call' xs r n es ∷ is) w = (call_known c f ls xs r (terms_in es) (procedure c r) refl w.0, each_known c f ls is w.1)
+  each_known c f ls (If' e m a n b ∷ is) w = ((calls_known c f ls a w.0.1, calls_known c f ls b w.0.2), each_known c f ls is w.1)
+  each_known c f ls (While' e v n a ∷ is) w = (calls_known c f ls a w.0.2, each_known c f ls is w.1)
 
   module _ (all : (r : ProcRef) → NamesIfThere P AnyName (g.procedure r)) (c : Context) (f : Procedures c) where
     over_names : {n : Count} (ls : _) (is : Row_of-Instr n) → AreStatements c ls is → StatementsSpeak P is →

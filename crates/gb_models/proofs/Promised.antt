@@ -16,7 +16,7 @@ use Rattle.gb_meaning.specs.State.{State, between}
 use Rattle.gb_meaning.specs.Judgments.{IsSoundForm, IsTrueIn}
 use Rattle.gb_judge.proofs.Exact.{trying}
 use Rattle.gb_judge.proofs.Fair.{is_fair}
-use Rattle.gb_judge.proofs.Truths.{true_equiv}
+use Rattle.gb_laws.proofs.Truths.{true_equiv}
 use Rattle.gb_judge.proofs.Unique.{true_under_each}
 use Rattle.gb_coupling.proofs.Pointwise.{pointwise_of_coupling}
 use Rattle.gb_laws.proofs.Nodes.{term_is_node}

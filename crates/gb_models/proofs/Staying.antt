@@ -21,7 +21,6 @@ use Rattle.gb_holds.specs.Holds.{EachProgram, IsModel, interpretation, declared_
 use Rattle.gb_holds.specs.Naming.{AnyName, IsFresh}
 use Rattle.gb_holds.specs.Settings.{Table, Interpretation, setting}
 use Rattle.gb_holds.specs.Truth.{Choice, has_module, last_has_module}
-use Rattle.gb_holds.proofs.Lists.{declared-append}
 use Rattle.gb_later.specs.Added.{IsSequentApartIn}
 use Rattle.gb_later.specs.Formed.{AreFormedBinds, AreAxiomsApart, IsSaidApart, IsApartFormula, AreHypsApart, SaysApart, IsSequentApart, IsScopeApart}
 use Rattle.gb_later.specs.Naming.{NoName, IsKept, NamesIfThere, TermNames, AreModulesOrStatements, OperatorNames, OperatorsName}
@@ -196,6 +195,13 @@ said es ds (Term' p (more_of-Head head.AllMemory end_of-Head) n ts ty) i e k = s
 said es ds (Term' p (more_of-Head (head.Builtin op.Implies) end_of-Head) n ts ty) i e k = second (last_has_module ts) _ _ e k
 said es ds f i e k = k
 
+pub scope_apart : (es ds : Declarations) → IsTypedScope ds → EachDeclared IsFirm ds → IsScopeApart es ds
+scope_apart es ds typed firm = record {
+  operators = operators_apart (IsFresh es) ds [] nothing typed;
+  binders = subst (AreFormedBinds es ds []) (sym (no_section_in ds firm)) tt;
+  axioms = λ w size table h. no_axioms es ds ds (interpretation w size table) firm;
+}
+
 module _ (ds es : Declarations) (typed : IsTypedScope ds) (later : AreTypedAfter (context_of ds) ds es) (firm : EachDeclared IsFirm ds) (added : EachDeclared IsModuleOrLemma es)
     (q : Sequent) (t : IsTypedSequent (context_of ds) q) (without : IsWithoutModules q) (spoken : ScopeSpeaks (IsKept es []) ds) (says : GoalSpeaks (IsKept es []) q) where
   abbrev Kept : Name → Type 0
@@ -203,13 +209,6 @@ module _ (ds es : Declarations) (typed : IsTypedScope ds) (later : AreTypedAfter
 
   abbrev c : Context
   c = of_sequent (context_of ds) q t.frames
-
-  pub scope_apart : IsScopeApart es ds
-  scope_apart = record {
-    operators = operators_apart (IsFresh es) ds [] nothing typed;
-    binders = subst (AreFormedBinds es ds []) (sym (no_section_in ds firm)) tt;
-    axioms = λ w size table h. no_axioms es ds ds (interpretation w size table) firm;
-  }
 
   kept : (n : Name) → IsKnown (c.modules.interfaces n) → Kept n
   kept n k =
@@ -264,7 +263,7 @@ module _ (ds es : Declarations) (typed : IsTypedScope ds) (later : AreTypedAfter
       subst (λ bs. EachProgram ds bs (interpretation w size table) (IsSequentApart es ds q)) (sym (no_section_in ds firm)) (sequent_apart w size table model)
 
   stays : Holds ds q → Holds (ds ++ es) q
-  stays h = holds-along es ds (goes-with ds es (modules_or_statements es added) scope_apart) q apart h
+  stays h = holds-along es ds (goes-with ds es (modules_or_statements es added) (scope_apart es ds typed firm)) q apart h
 
 pub goal_stays : (ds es : Declarations) → IsTypedScope (ds ++ es) → EachDeclared IsFirm ds → EachDeclared IsModuleOrLemma es → (q : Sequent) → IsTypedSequent (context_of ds) q →
     IsWithoutModules q → ScopeSpeaks (IsFresh es) ds → GoalSpeaks (IsFresh es) q → Holds ds q → Holds (ds ++ es) q
@@ -283,6 +282,7 @@ no_types ((m, entry.AbstractType) ∷ ds) c k n = no_types ds c k n
 no_types ((m, entry.Constant a) ∷ ds) c k n = no_types ds c k n
 no_types ((m, entry.Operator o) ∷ ds) c k n = no_types ds (with_declared c m (declaration_of (entry.Operator o))) k n
 no_types ((m, entry.AbstractOperator o) ∷ ds) c k n = no_types ds (with_declared c m (declaration_of (entry.AbstractOperator o))) k n
+no_types ((m, entry.Terminating a) ∷ ds) c k n = no_types ds c k n
 
 -- Without module types there are no binders of modules.
 
@@ -322,6 +322,7 @@ all_firm ((n, entry.AbstractType) ∷ ds) = (tt, all_firm ds)
 all_firm ((n, entry.Constant a) ∷ ds) = (tt, all_firm ds)
 all_firm ((n, entry.Operator o) ∷ ds) = (tt, all_firm ds)
 all_firm ((n, entry.AbstractOperator o) ∷ ds) = (tt, all_firm ds)
+all_firm ((n, entry.Terminating a) ∷ ds) = (tt, all_firm ds)
 
 no_module_in : (c : Context) → ((n : Name) → c.modules.types n ≡ None) → (hs : List Hyp) → AreFormulas c hs → HaveNoModule hs
 no_module_in c k [] w = tt

@@ -39,7 +39,7 @@ use mathlib.Core.Former.{Count}
 
 -- What a context knows is declared.
 
-abbrev Knows : Declarations → Context → Type 0
+abbrev pub Knows : Declarations → Context → Type 0
 Knows before c =
     AllDeclared before c
     × ((m x : Name) (t : Ty) → c.global m x ≡ Some t → is_declared before m ≡ true)
@@ -92,7 +92,7 @@ module _ (ms ks : Modules) (f : (n : Name) → IsKnown (ms.interfaces n) → ks.
   procedure_kept p t e =
       ap (λ o. procedure_of o p.name) (at_kept p.«module» (interface_known ms (interface_at ms p.«module») p.name (subst IsThere (sym e) tt))) ∙ e
 
-grown_one : (before : Declarations) (n : Name) (d : Declaration) (c : Context) → IsFirm d → IsFree before n d → Knows before c → Grown (with_declared c n d) c
+grown_one : (before : Declarations) (n : Name) (d : Declaration) (c : Context) → IsFirm d → IsFree before n → Knows before c → Grown (with_declared c n d) c
 grown_one before n (concrete_module m) c y free k = (
   λ h x t e. ap (λ b. if b then local_type m.globals x else c.global h x) (other_name before h n (k.1 h x t e) free) ∙ e,
   λ j o e. e,
@@ -201,32 +201,33 @@ join [] ys before c w k = subst (λ z. AreTypedAfter c z ys) (append-nil before)
 join (x ∷ xs) ys before c w k =
     (w.0, w.1, join xs ys (before ++ x ∷ []) (with_declared c x.0 x.1) w.2 (subst (λ z. AreTypedAfter (with_each c (x ∷ xs)) z ys) (sym (append_assoc before (x ∷ []) xs)) k))
 
+module _ (ds : Declarations) (typed : IsTypedScope ds) where
+  pub knows : Knows ds (context_of ds)
+  knows = knows_each ds [] nothing typed knows_nothing
+
+  pub new_operator : (n : Name) (d : Declaration) → is_declared ds n ≡ false → IsDeclared (context_of ds) n d → IsNewOperator ds n d
+  new_operator n d free w =
+      let other : (k : Name) → is_declared ds k ≡ true → IsOther n k = λ k e. other_name ds k n e free in (
+        fresh_undeclared ds n free,
+        join_operators (IsOther n) ds ((n, d) ∷ []) (all_others (IsOther n) ds [] nothing typed knows_nothing other)
+            (operator_others (IsOther n) (context_of ds) (λ k o e. other k (knows.2 k o e)) n d w),
+      )
+
 module _ (q : Sequent) (without : IsWithoutModules q) (says : GoalSpeaks NoName q) where
   module _ (ds : Declarations) (typed : IsTypedScope ds) (firm : EachDeclared IsFirm ds) (spoken : ScopeSpeaks NoName ds) (t : IsTypedSequent (context_of ds) q) where
-    knows : Knows ds (context_of ds)
-    knows = knows_each ds [] nothing typed knows_nothing
-
-    new_operator : (n : Name) (d : Declaration) → is_declared ds n ≡ false → IsDeclared (context_of ds) n d → IsNewOperator ds n d
-    new_operator n d free w =
-        let other : (k : Name) → is_declared ds k ≡ true → IsOther n k = λ k e. other_name ds k n e free in (
-          fresh_undeclared ds n free,
-          join_operators (IsOther n) ds ((n, d) ∷ []) (all_others (IsOther n) ds [] nothing typed knows_nothing other)
-              (operator_others (IsOther n) (context_of ds) (λ k o e. other k (knows.2 k o e)) n d w),
-        )
-
-    one_added : (n : Name) (d : Declaration) → IsFirm d → IsFree ds n d → IsDeclared (context_of ds) n d → IsAdded (IsSequentApartIn q) ds n d
-    one_added n (operator o) y free w = new_operator n (operator o) free w
-    one_added n (abstract_operator o) y free w = new_operator n (abstract_operator o) free w
+    one_added : (n : Name) (d : Declaration) → IsFirm d → IsFree ds n → IsDeclared (context_of ds) n d → IsAdded (IsSequentApartIn q) ds n d
+    one_added n (operator o) y free w = new_operator ds typed n (operator o) free w
+    one_added n (abstract_operator o) y free w = new_operator ds typed n (abstract_operator o) free w
     one_added n (concrete_module m) y free w =
         let es : Declarations = (n, concrete_module m) ∷ [] in
         let k = more_scope NoName (IsKept es []) (λ n f. absurd f) ds spoken in
         let g = more_goal NoName (IsKept es []) (λ n f. absurd f) q says in
-        (scope_apart ds es typed (free, w, tt) firm (tt, tt) q t without k g, apart ds es typed (free, w, tt) firm (tt, tt) q t without k g)
+        (scope_apart es ds typed firm, apart ds es typed (free, w, tt) firm (tt, tt) q t without k g)
     one_added n (module_type m) y free w =
         let es : Declarations = (n, module_type m) ∷ [] in
         let k = more_scope NoName (IsKept es []) (λ n f. absurd f) ds spoken in
         let g = more_goal NoName (IsKept es []) (λ n f. absurd f) q says in
-        (scope_apart ds es typed (free, w, tt) firm (tt, tt) q t without k g, apart ds es typed (free, w, tt) firm (tt, tt) q t without k g)
+        (scope_apart es ds typed firm, apart ds es typed (free, w, tt) firm (tt, tt) q t without k g)
     one_added n (abstract_module b) y free w = absurd y
     one_added n (axiom_of p) y free w = absurd y
     one_added n abstract_type y free w = tt
@@ -234,10 +235,10 @@ module _ (q : Sequent) (without : IsWithoutModules q) (says : GoalSpeaks NoName 
     one_added n (lemma p) y free w = tt
     one_added n (terminating f) y free w = tt
 
-    typed_on : (n : Name) (d : Declaration) → IsFirm d → IsFree ds n d → IsTypedSequent (context_of (ds ++ (n, d) ∷ [])) q
+    typed_on : (n : Name) (d : Declaration) → IsFirm d → IsFree ds n → IsTypedSequent (context_of (ds ++ (n, d) ∷ [])) q
     typed_on n d y free =
         subst (λ z. IsTypedSequent z q) (sym (each_append ds ((n, d) ∷ []) nothing))
-        (goal_grown (context_of ds) (with_declared (context_of ds) n d) (grown_one ds n d (context_of ds) y free knows) (over_one n d (context_of ds)) q t without)
+        (goal_grown (context_of ds) (with_declared (context_of ds) n d) (grown_one ds n d (context_of ds) y free (knows ds typed)) (over_one n d (context_of ds)) q t without)
 
   added_to : (es ds : Declarations) → IsTypedScope ds → AreTypedAfter (context_of ds) ds es → EachDeclared IsFirm ds → EachDeclared IsFirm es → ScopeSpeaks NoName ds → ScopeSpeaks NoName es →
       IsTypedSequent (context_of ds) q → AreAddedTo ds es q

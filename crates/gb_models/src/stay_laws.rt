@@ -1,11 +1,17 @@
 //! What holds goes on to hold as a typed scope grows.
 
-ghost use Rattle.std.specs.Prelude.{◌++◌, ◌↔◌};
+ghost use Rattle.std.specs.Prelude.{◌≡◌, ◌++◌, ◌↔◌, true, Some};
+ghost use Rattle.gb_terms.specs.declared.decl.Proc.{Proc};
+ghost use Rattle.gb_goal.specs.declared.scope.ProcName.{ProcName};
 ghost use Rattle.gb_goal.specs.declared.sequent.Sequent.{Sequent};
 ghost use Rattle.gb_goal.specs.Scope as scope;
+ghost use Rattle.gb_goal.specs.Scope.{is_proved, module_of, proc_in};
+ghost use Rattle.gb_meaning.specs.Commands.{statements};
+ghost use Rattle.gb_meaning.specs.Names.{Name};
 ghost use Rattle.gb_holds.specs.Declared.{Declarations, declared};
-ghost use Rattle.gb_holds.specs.Holds.{EachDeclared, Holds};
+ghost use Rattle.gb_holds.specs.Holds.{EachDeclared, Holds, InEachModel, IsSound, IsTerminating, LoopsAreGood};
 ghost use Rattle.gb_holds.specs.Naming.{IsFresh};
+ghost use Rattle.gb_holds.specs.Settings.{setting};
 ghost use Rattle.gb_later.specs.Naming.{NoName};
 ghost use Rattle.gb_typing.specs.Sequents.{IsTypedSequent};
 ghost use Rattle.gb_typing.specs.Scopes.{context_of, IsTypedScope};
@@ -38,4 +44,14 @@ pub fn goals_stay_typed()
 pub fn parts_of_scopes()
     ensures { (ds es : scope.Declarations) →
         ScopeSpeaks NoName (declared (ds ++ es)) ↔ ScopeSpeaks NoName (declared ds) × ScopeSpeaks NoName (declared es) }
+{}
+
+/// The loops of a declared procedure that are good stay good as the scope of a script grows; so those that are proved are good in
+/// each model of all that a sound scope declares.
+pub fn loops_stay_good()
+    ensures stay { (es ds : scope.Declarations) → IsTypedScope (declared (ds ++ es)) → ScopeSpeaks NoName (declared (ds ++ es)) →
+        (n f : Name) (a : Proc) → proc_in (module_of ds n) f ≡ Some a → IsTerminating (declared ds) n f → IsTerminating (declared (ds ++ es)) n f }
+    ensures proved { (ds : scope.Declarations) → IsTypedScope (declared ds) → IsSound (declared ds) → ScopeSpeaks NoName (declared ds) →
+        (p : ProcName) (a : Proc) → proc_in (module_of ds p.module) p.name ≡ Some a → is_proved ds p ≡ true →
+        InEachModel (declared ds) (λ i. LoopsAreGood (setting (declared ds) i) (statements (setting (declared ds) i) a.body.list)) }
 {}

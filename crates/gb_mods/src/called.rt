@@ -60,7 +60,7 @@ fn same_procedure(a: &ProcRef, b: &ProcRef) -> bool
     }
 }
 
-fn is_among(list: &[Shared<ProcRef>], procedure: &ProcRef) -> bool
+pub fn is_among(list: &[Shared<ProcRef>], procedure: &ProcRef) -> bool
     ensures { result ≡ is_among list.now procedure.now }
 {
     for x in list {
@@ -72,7 +72,7 @@ fn is_among(list: &[Shared<ProcRef>], procedure: &ProcRef) -> bool
 }
 
 /// Procedures, and behind them those others that aren't among them, each once.
-fn added(found: Procedures, list: &[Shared<ProcRef>]) -> Result<Procedures, AllocError>
+pub fn added(found: Procedures, list: &[Shared<ProcRef>]) -> Result<Procedures, AllocError>
     ensures { IfOk result (λ made. made ≡ added found list.now) }
 {
     let mut all = found;

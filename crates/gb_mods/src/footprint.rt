@@ -17,7 +17,7 @@ use sqlite_items::Items;
 use std::alloc::{AllocError, Global};
 
 /// The globals that declared procedures read or write themselves.
-fn touched(alloc: Global, scope: &Scope, list: &[Shared<ProcRef>]) -> Result<Vars, AllocError>
+pub fn touched(alloc: Global, scope: &Scope, list: &[Shared<ProcRef>]) -> Result<Vars, AllocError>
     ensures { IfOk result (λ made. made ≡ touched scope.now list.now) }
 {
     let mut all = Items::new(alloc);
@@ -51,7 +51,11 @@ fn references(alloc: Global, module: &Name, list: &[Proc]) -> Result<Procedures,
 }
 
 /// The procedures of a declared module.
-fn procedures(alloc: Global, name: &Name, found: Option<&Module>) -> Result<Procedures, AllocError>
+pub fn procedures(
+    alloc: Global,
+    name: &Name,
+    found: Option<&Module>,
+) -> Result<Procedures, AllocError>
     ensures { IfOk result (λ made. made ≡ procedures name.now (option_copied found.entry)) }
 {
     match found {

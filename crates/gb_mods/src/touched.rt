@@ -80,7 +80,7 @@ fn statement_touched(alloc: Global, found: Vars, statement: &Instr) -> Result<Va
 
 /// The same of statements one after another.
 #[cycle(touched)]
-fn touched(alloc: Global, found: Vars, list: &[Instr]) -> Result<Vars, AllocError>
+pub fn touched(alloc: Global, found: Vars, list: &[Instr]) -> Result<Vars, AllocError>
     ensures { IfOk result (λ made. made ≡ found ++ each_touched list.now) }
 {
     let mut all = found;

@@ -49,7 +49,7 @@ pub fn targets(alloc: Global, found: Vars, list: &[Instr]) -> Result<Vars, Alloc
 }
 
 /// The globals that procedures write themselves. None where one isn't declared.
-fn written_by(
+pub fn written_by(
     alloc: Global,
     scope: &Scope,
     list: &[Shared<ProcRef>],

@@ -59,3 +59,5 @@ module _ {X : Type 0} (read : Reading X) where
       other (bytes_eq n h) (entry.Operator z) ds n m refl r (λ r. final_module ds (before ++ (h, declaration_of (entry.Operator z)) ∷ []) (with_declared c h (declaration_of (entry.Operator z))) w.2 base n m r)
   final_module ((h, entry.AbstractOperator z) ∷ ds) before c w base n m r =
       other (bytes_eq n h) (entry.AbstractOperator z) ds n m refl r (λ r. final_module ds (before ++ (h, declaration_of (entry.AbstractOperator z)) ∷ []) (with_declared c h (declaration_of (entry.AbstractOperator z))) w.2 base n m r)
+  final_module ((h, entry.Terminating z) ∷ ds) before c w base n m r =
+      other (bytes_eq n h) (entry.Terminating z) ds n m refl r (λ r. final_module ds (before ++ (h, declaration_of (entry.Terminating z)) ∷ []) c w.2 base n m r)

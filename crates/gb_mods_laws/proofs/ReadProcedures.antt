@@ -95,6 +95,7 @@ fresh_later ((n, entry.AbstractType) ∷ ds) before c w k e = (other_name before
 fresh_later ((n, entry.Constant a) ∷ ds) before c w k e = (other_name before k n e w.0, fresh_later ds _ _ w.2 k (declared_more before _ k e))
 fresh_later ((n, entry.Operator o) ∷ ds) before c w k e = (other_name before k n e w.0, fresh_later ds _ _ w.2 k (declared_more before _ k e))
 fresh_later ((n, entry.AbstractOperator o) ∷ ds) before c w k e = (other_name before k n e w.0, fresh_later ds _ _ w.2 k (declared_more before _ k e))
+fresh_later ((n, entry.Terminating a) ∷ ds) before c w k e = (other_name before k n e w.0, fresh_later ds _ _ w.2 k (declared_more before _ k e))
 
 listed : (ps : List Proc) (f : Name) (t : ProcedureType) → found (procedure_types ps) f ≡ Some t → list_any (λ q. bytes_eq f q.name) ps ≡ true
 listed [] f t e = none_some t e

@@ -23,7 +23,7 @@ use Rattle.gb_goal.specs.Answers.{Answer, ◌>>=◌, given_or, not_built}
 use Rattle.gb_goal.specs.Answers.Answer.{given, refused}
 use Rattle.gb_names.specs.declared.bindings.Binding.{Binding}
 use Rattle.gb_names.specs.Environment.{Name, Environment, in_judgments, reading, relational}
-use Rattle.gb_names.specs.Names.{is_variable}
+use Rattle.gb_names.specs.Names.{is_variable, may_name}
 
 -- a module all of whose parameters are given: it has none
 abbrev pub whole : List Param → Module → Place → Answer Module
@@ -36,8 +36,15 @@ module_in (Some e) x p = refused Argument p
 module_in None x p = refused (UnknownName x) p
 
 -- the module of this name
+unfoldable pub known_module : Environment → List Binding → Name → Place → Answer Module
+known_module at bound x p = if is_variable at bound x then refused Argument p else module_in (entry_of at.declared x) x p
+
+-- .. whose loops are proved to end, and those of all that it names
 unfoldable pub named_module : Environment → List Binding → Name → Place → Answer Module
-named_module at bound x p = if is_variable at bound x then refused Argument p else module_in (entry_of at.declared x) x p
+named_module at bound x p = do
+  m ← known_module at bound x p
+  _ ← may_name at x p
+  given m
 
 -- a procedure as a text names it: by its module and its own word
 abbrev pub Path : Type 0

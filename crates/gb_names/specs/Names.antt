@@ -5,7 +5,7 @@ use Rattle.std.specs.List.{list_any}
 use Rattle.std.specs.Path.{dot, rsplit_once}
 use Rattle.gb_core.specs.declared.place.Place.{Place}
 use Rattle.gb_core.specs.declared.refusal.Why.{Why}
-use Rattle.gb_core.specs.declared.refusal.Why.TheVariants.{UnknownName, Argument}
+use Rattle.gb_core.specs.declared.refusal.Why.TheVariants.{UnknownName, Argument, UnprovedLoop}
 use Rattle.gb_core.specs.declared.ty.Ty.TheVariants.{Unit as unit_ty}
 use Rattle.gb_core.specs.declared.value.Value.TheVariants.{Num}
 use Rattle.gb_core.specs.declared.ty.Ty.{Ty}
@@ -22,7 +22,9 @@ use Rattle.gb_terms.specs.Make.{node}
 use Rattle.gb_goal.specs.declared.sequent.Sequent.{Sequent}
 use Rattle.gb_goal.specs.declared.scope.Constant.{Constant}
 use Rattle.gb_goal.specs.declared.scope.OperatorType.{OperatorType}
-use Rattle.gb_goal.specs.Scope.{Declarations, constant_named, entry_of, module_of, operator_named}
+use Rattle.gb_goal.specs.Scope.{Declarations, constant_named, entry_of, module_of, operator_named, path_of}
+use Rattle.gb_goal.specs.declared.scope.ProcName.{ProcName}
+use Rattle.gb_ended.specs.Ended.{first_unproved}
 use Rattle.gb_script.specs.declared.head.Head.{Head}
 use Rattle.gb_script.specs.declared.head.Head.TheVariants as head
 use Rattle.gb_script.specs.declared.tree.Node.{Node}
@@ -151,9 +153,32 @@ abbrev pub has_own : Variables → Bool
 has_own (Own vs) = true
 has_own _ = false
 
+-- whether named memories may be read
+abbrev pub has_memories : Language → Bool
+has_memories Formula = true
+has_memories Function = true
+has_memories _ = false
+
+-- the refusal of a procedure whose loops aren't proved
+abbrev pub unless_unproved : Option ProcName → Place → Answer (Unit {0})
+unless_unproved None p = given tt
+unless_unproved (Some f) p = refused (UnprovedLoop (path_of f)) p
+
+-- A form of a proof names only modules that are ended; programs name any.
+unfoldable pub may_name : Environment → Name → Place → Answer (Unit {0})
+may_name at n p = if has_memories at.language then unless_unproved (first_unproved at.declared n) p else given tt
+
+-- a global in a memory
+abbrev pub read_global : Environment → Side → Place → ModuleVariable → Answer Term
+read_global at s p g = do
+  _ ← may_name at g.0 p
+  given (global_variable s g)
+
 -- a global by its name alone, which the memory of the program around has
 abbrev pub unsided : Environment → Place → ModuleVariable → Answer Term
-unsided at p g = if has_own at.variables then given (global_variable side.Own g) else refused Argument p
+unsided at p g = do
+  _ ← may_name at g.0 p
+  if has_own at.variables then given (global_variable side.Own g) else refused Argument p
 
 -- A name without a side is that of a thing that is bound in the form, the innermost first, of a variable of the
 -- program around, of a logical variable of the context, or of a global.
@@ -213,7 +238,7 @@ variable_on at bound x s p vs =
     if is_some (innermost bound x) then refused Argument p
     else option_map_or (λ v. given (program_variable s v))
     (first_named vs x)
-    (option_map_or (λ g. given (global_variable s g)) (global_at at x) (refused (no_variable at x) p))
+    (option_map_or (read_global at s p) (global_at at x) (refused (no_variable at x) p))
 
 -- a name with a side
 unfoldable pub sided : Environment → List Binding → Name → Side → Place → Answer Term
@@ -260,12 +285,6 @@ unfoldable pub in_memory : Environment → List Binding → Name → Node → Pl
 in_memory at bound x m p = do
   s ← memory_at at bound (text_of m) (place_of m)
   if may_read at.memories (text_of m) then variable_on at bound x s p (locals_in at.sequent s x) else refused Argument p
-
--- whether named memories may be read
-abbrev pub has_memories : Language → Bool
-has_memories Formula = true
-has_memories Function = true
-has_memories _ = false
 
 -- a name in a named memory, which no program has
 abbrev pub remembered : Environment → List Binding → Name → Node → Place → Answer Term

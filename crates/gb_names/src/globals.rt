@@ -6,8 +6,9 @@ ghost use Rattle.std.specs.Path.{dot, rsplit_once};
 ghost use Rattle.gb_goal.specs.Answers.{Answers};
 ghost use Rattle.gb_goal.specs.Answers.Answer.{given};
 ghost use Rattle.gb_names.specs.Environment.{environment};
-ghost use Rattle.gb_names.specs.Names.{global_at, global_in, global_target, global_variable, has_own, module_if, own_global, unsided};
+ghost use Rattle.gb_names.specs.Names.{global_at, global_in, global_target, global_variable, has_own, module_if, own_global, read_global, unsided};
 
+use crate::ended::check_ended;
 use crate::names::first_named;
 use crate::refusals::argument;
 use crate::setting::{Setting, Variables};
@@ -127,6 +128,20 @@ pub fn global_variable(
     make::variable(alloc, var, side, ty).map_err(Refused::from)
 }
 
+/// A read of a global through a memory, where its module may be named.
+pub fn read_global(
+    alloc: Global,
+    at: &Setting<'_>,
+    side: Side,
+    place: Place,
+    global: ModuleVariable<'_>,
+) -> Result<Term, Refused>
+    ensures { Answers (read_global (environment at.now) side place (global.entry.owner, global.entry.variable.now)) result }
+{
+    check_ended(alloc, at, &global.owner, place)?;
+    global_variable(alloc, side, global)
+}
+
 /// Whether a program with a memory of its own is around.
 fn has_own(variables: &Variables<'_>) -> bool
     ensures { result ≡ has_own variables.now }
@@ -146,6 +161,7 @@ pub fn unsided(
 ) -> Result<Term, Refused>
     ensures { Answers (unsided (environment at.now) place (global.entry.owner, global.entry.variable.now)) result }
 {
+    check_ended(alloc, at, &global.owner, place)?;
     if has_own(&at.variables) {
         global_variable(alloc, Side::Own, global)
     } else {

@@ -6,10 +6,12 @@ ghost use Rattle.gb_terms.specs.Make.{node};
 ghost use Rattle.gb_terms.specs.declared.term.Head.TheVariants.{Equiv, Proc as procedure};
 ghost use Rattle.gb_script.specs.Tree.{text_of, parts_of, place_of};
 ghost use Rattle.gb_goal.specs.Answers.{Answers, Gives};
+ghost use Rattle.gb_goal.specs.Scope.{entry_of};
 ghost use Rattle.gb_names.specs.Environment.{environment};
-ghost use Rattle.gb_names.specs.Judgments.{about_procedure, both_procedures, equivalent, named_module, named_procedure, one_procedure, procedure_at, procedure_path, reference, result_of};
+ghost use Rattle.gb_names.specs.Judgments.{about_procedure, both_procedures, equivalent, known_module, module_in, named_module, named_procedure, one_procedure, procedure_at, procedure_path, reference, result_of};
 
 use crate::bindings::Binding;
+use crate::ended::check_ended;
 use crate::names::{append, is_variable};
 use crate::refusals::{argument, not_built, unknown};
 use crate::setting::Setting;
@@ -17,7 +19,7 @@ use gb_core::name::Name;
 use gb_core::place::Place;
 use gb_core::refusal::Refused;
 use gb_core::ty::Ty;
-use gb_goal::scope::{Entry, procedure_named};
+use gb_goal::scope::{Entry, Scope, procedure_named};
 use gb_script::head::Head as NodeHead;
 use gb_script::tree::Node;
 use gb_shared::Shared;
@@ -28,21 +30,16 @@ use gb_terms::term::{Form, Head, Subject, Terms};
 use sqlite_items::Items;
 use std::alloc::{AllocError, Global};
 
-/// The module of this name, all of whose parameters are given: it has none.
-#[tactic(auto, unfolding(crate::specs::Judgments::named_module))]
-pub fn named_module<'a>(
+/// The declared module of this name, all of whose parameters are given: it has none.
+pub fn declared_module<'a>(
     alloc: Global,
-    at: &Setting<'a>,
-    bound: &[Binding],
+    scope: &'a Scope,
     name: &Name,
     place: Place,
 ) -> Result<&'a Module, Refused>
-    ensures { Gives (λ m. m.now) (named_module (environment at.now) bound.now name.now place) result }
+    ensures { Gives (λ m. m.now) (module_in (entry_of scope.now name.now) name.now place) result }
 {
-    if is_variable(at, bound, name) {
-        return Err(argument(place));
-    }
-    match at.scope.entry(name) {
+    match scope.entry(name) {
         None => Err(unknown(alloc, name, place)),
         Some(Entry::Module(m)) => {
             if m.params.is_empty() {
@@ -53,6 +50,44 @@ pub fn named_module<'a>(
         }
         Some(_) => Err(argument(place)),
     }
+}
+
+/// The same, where no variable has the name.
+#[tactic(auto, unfolding(crate::specs::Judgments::known_module))]
+fn known_module<'a>(
+    alloc: Global,
+    at: &Setting<'a>,
+    bound: &[Binding],
+    name: &Name,
+    place: Place,
+) -> Result<&'a Module, Refused>
+    ensures { Gives (λ m. m.now) (known_module (environment at.now) bound.now name.now place) result }
+{
+    if is_variable(at, bound, name) {
+        return Err(argument(place));
+    }
+    declared_module(alloc, at.scope, name, place)
+}
+
+/// The module of this name, whose loops are proved to end, and those of all that it names.
+///
+/// # Errors
+///
+/// `UnknownName` of a module, `Argument` of a thing that is no module or lacks arguments, `UnprovedLoop` with the first procedure
+/// whose loops aren't proved.
+#[tactic(auto, unfolding(crate::specs::Judgments::named_module))]
+pub fn named_module<'a>(
+    alloc: Global,
+    at: &Setting<'a>,
+    bound: &[Binding],
+    name: &Name,
+    place: Place,
+) -> Result<&'a Module, Refused>
+    ensures { Gives (λ m. m.now) (named_module (environment at.now) bound.now name.now place) result }
+{
+    let found = known_module(alloc, at, bound, name, place)?;
+    check_ended(alloc, at, name, place)?;
+    Ok(found)
 }
 
 /// A procedure as a text names it: its module's name, of all words but the last, and the last word.

@@ -4,6 +4,7 @@
 pub mod allowed;
 pub mod binders;
 pub mod bindings;
+pub mod ended;
 pub mod globals;
 pub mod judgment;
 pub mod locals;

@@ -12,7 +12,7 @@ ghost use Rattle.gb_names.specs.Environment.{environment};
 ghost use Rattle.gb_names.specs.Names.{beside, bound_thing, bound_variable, built_in, constant_at, dotted, first_named, hidden, is_variable, known_at, logical_variable, named, names_no_value, names_other, no_variable, number_before, operator_at, path, program_variable, side_of, sided, target, unbound, unit, variable_on};
 
 use crate::bindings::{Binding, Kind, binders_inside, innermost};
-use crate::globals::{Target, global_at, global_target, global_variable, is_own_global, unsided};
+use crate::globals::{Target, global_at, global_target, is_own_global, read_global, unsided};
 use crate::memories::remembered;
 use crate::refusals::{argument, not_built, too_many, unknown};
 use crate::setting::Setting;
@@ -158,7 +158,7 @@ pub enum Known {
 
 /// The built-in thing of this name.
 #[tactic(auto, unfolding(crate::specs::Names::built_in))]
-fn built_in(name: &Name) -> Option<Known>
+pub fn built_in(name: &Name) -> Option<Known>
     ensures { result ≡ built_in name.now }
 {
     match name.as_str() {
@@ -415,7 +415,7 @@ pub fn variable_on(
         return program_variable(alloc, x, side);
     }
     match global_at(alloc, at, name)? {
-        Some(global) => global_variable(alloc, side, global),
+        Some(global) => read_global(alloc, at, side, place, global),
         None => Err(no_variable(alloc, at, name, place)),
     }
 }

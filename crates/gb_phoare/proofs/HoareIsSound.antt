@@ -7,7 +7,6 @@ use Rattle.gb_core.specs.declared.ty.Ty.TheVariants as ty
 use Rattle.gb_coupling.specs.WeightedList.{total, Every}
 use Rattle.gb_coupling.proofs.Entries.{Every-weaken}
 use Rattle.gb_coupling.proofs.Masses.{mass-dmap}
-use Rattle.gb_terms.specs.declared.decl.Proc.{Proc}
 use Rattle.gb_terms.specs.declared.decl.TypedName.{TypedName}
 use Rattle.gb_terms.specs.declared.module.ProcRef.{ProcRef}
 use Rattle.gb_terms.specs.declared.op.Rel.TheVariants.{AtMost, Equal, AtLeast}
@@ -24,7 +23,7 @@ use Rattle.gb_meaning.specs.Terms.{val}
 use Rattle.gb_meaning.specs.Judgments.{Judge, IsFair, speaking, IsTrueUnder, den, chance, compares}
 use Rattle.gb_meaning.specs.Written.{type_of}
 use Rattle.gb_laws.proofs.Runs.{run_positive}
-use Rattle.gb_judge.proofs.Truths.{true_not}
+use Rattle.gb_laws.proofs.Truths.{true_not}
 use Rattle.gb_holds.specs.Declared.{declared}
 use Rattle.gb_goal.specs.declared.sequent.Sequent.{Sequent}
 use Rattle.gb_goal.specs.Answers.{◌>>=◌}
@@ -32,7 +31,7 @@ use Rattle.gb_goal.specs.Answers.Answer.{given}
 use Rattle.gb_goal.specs.Goal.{Code, Goal}
 use Rattle.gb_goal.specs.Goal.Code.{body, procedure}
 use Rattle.gb_goal.specs.Goal.Goal.{hoare, phoare, equiv, ambient}
-use Rattle.gb_goal.specs.Scope.{Declarations, procedure_of}
+use Rattle.gb_goal.specs.Scope.{Declarations}
 use Rattle.gb_typing.specs.Context.{Context, with_own}
 use Rattle.gb_typing.specs.Fits.{IsSettingOf, IsStateOf}
 use Rattle.gb_typing.specs.Programs.{locals_of}
@@ -52,20 +51,16 @@ use Rattle.gb_typing.proofs.Forms.{not_typed}
 use Rattle.gb_typing.proofs.Given.{refused_given, sound_given_in}
 use Rattle.gb_chance.specs.Compared.{literal}
 use Rattle.gb_chance.specs.Compared as real
-use Rattle.gb_chance.specs.Loss.{Loss, nowhere, sampled, called, code_loss, procedure_loss}
+use Rattle.gb_full.specs.Loss.{Loss, nowhere, sampled, called, code_loss}
 use Rattle.gb_chance.proofs.Bound.{bound_value}
 use Rattle.gb_chance.proofs.Chances.{certain, impossible, at_least_certain, at_most_impossible}
 use Rattle.gb_chance.proofs.Comparing.{number_made, real_made, compared_typed, number_is, compared_is, literal_value}
-use Rattle.gb_chance.proofs.Full.{total_full}
+use Rattle.gb_full.proofs.Full.{IsWholeProcedure, procedure_whole, total_full}
 use Rattle.gb_phoare.specs.Hoare.{never, full, at_most_goals, at_least_goals, exactly, hoare_row}
 
 not_true : (b : Bool) → not b ≡ true → b ≡ false
 not_true false h = refl
 not_true true h = absurd (false≢true h)
-
-abbrev is_nowhere : Loss → Bool
-is_nowhere nowhere = true
-is_nowhere _ = false
 
 module _ (ds : Declarations) (scoped : IsTypedScope (declared ds)) (q : Sequent) (t : IsTypedSequent (context_of (declared ds)) q) where
   abbrev c : Context
@@ -77,25 +72,25 @@ module _ (ds : Declarations) (scoped : IsTypedScope (declared ds)) (q : Sequent)
       pub positive : 0 < denominator_of g a
       pub total : total (run_of g s a m) ≡ denominator_of g a
 
-    whole_procedure : (s : State) (r : ProcRef) (o : Option Proc) → procedure_of ds r ≡ o → procedure_loss o ≡ nowhere → (m : Memory) → IsWhole s (procedure r) m
-    whole_procedure s r None e k m = absurd (false≢true (ap is_nowhere k))
-    whole_procedure s r (Some a) e k m =
-        let there : IsTypedThere c r a = typed_there ds scoped q t.modules t.frames r a e in
+    whole_procedure : (s : State) (r : ProcRef) (m : Memory) → IsWholeProcedure ds scoped q t g fits over r → IsWhole s (procedure r) m
+    whole_procedure s r m x =
+        let a = x.found in
+        let there : IsTypedThere c r a = typed_there ds scoped q t.modules t.frames r a x.declared in
         let linked : g.procedure r ≡ Some (routine a.params a.locals (statements g a.body.list) a.value) =
         subst (λ h. h.procedure r ≡ Some (routine a.params a.locals (statements h a.body.list) a.value)) (sym over.meant)
-        (linked_there ds scoped over.interpretation (let x = over.chosen in x.unchosen) r a e) in
+        (linked_there ds scoped over.interpretation (let x = over.chosen in x.unchosen) r a x.declared) in
         let typed = there.typed in
         let list = typed.body in
         record {
           positive = subst (λ n. 0 < n) (sym (called_denominator c g r a typed linked)) (run_positive g (statements g a.body.list) (body_sound c g fits (locals_of a) a.body.list list.statements));
           total = ap total (called_run c g r a typed linked s m) ∙ mass-dmap (ended g a) (run g s a.body.list (start g a m)) (λ n. 1)
-              ∙ total_full c g fits (locals_of a) a.body.list list k s (start g a m) ∙ sym (called_denominator c g r a typed linked);
+              ∙ x.total s (start g a m) ∙ sym (called_denominator c g r a typed linked);
         }
 
     whole : (s : State) (ls : List TypedName) (a : Code) → IsCode c ls a → code_loss ds a ≡ nowhere → (m : Memory) → IsWhole s a m
     whole s ls (body is) w k m =
-        record { positive = run_positive g (statements g is) (body_sound c g fits ls is w.statements); total = total_full c g fits ls is w k s m }
-    whole s ls (procedure r) w k m = whole_procedure s r (procedure_of ds r) refl k m
+        record { positive = run_positive g (statements g is) (body_sound c g fits ls is w.statements); total = total_full ds scoped q t g fits over ls is w k s m }
+    whole s ls (procedure r) w k m = whole_procedure s r m (procedure_whole ds scoped q t g fits over r k)
 
   module _ (outer : c ≡ outermost c) (ls rs : List TypedName) (a : Code) (p f b : Term) (w : IsTyped (with_own c None) b) (e : type_of b ≡ ty.Real) where
     in_context : IsTyped c b

@@ -1,5 +1,6 @@
 -- `rnd` is sound on a judgment with a probability.
 use Rattle.std.proofs.Common.{◌≡◌, ◌*◌, ◌<◌, Bool, true, pos, List, [], ◌∷◌, Option, Some, None, refl, ap, sym, ◌∙◌, subst}
+use Rattle.std.specs.List.{AllByRecursion}
 use Rattle.std.specs.Option.{option_map}
 use Rattle.gb_core.specs.declared.refusal.Why.TheVariants.{Shape, NotLossless, SideCondition}
 use Rattle.gb_core.specs.declared.ty.Ty.TheVariants as ty
@@ -13,7 +14,7 @@ use Rattle.gb_terms.specs.declared.op.Side.TheVariants as side
 use Rattle.gb_terms.specs.declared.term.Term.{Term}
 use Rattle.gb_terms.specs.declared.term.Head.TheVariants as head
 use Rattle.gb_terms.specs.declared.term.Instr.{Instr}
-use Rattle.gb_coupling.specs.WeightedList.{WeightedList, Every, IsInSupport, weight, bit, bind}
+use Rattle.gb_coupling.specs.WeightedList.{WeightedList, Every, IsInSupport, total, weight, bit, bind}
 use Rattle.gb_coupling.proofs.Entries.{Every-weaken}
 use Rattle.gb_coupling.proofs.Indicators.{On_of_support}
 use Rattle.gb_coupling.proofs.Masses.{mass-dmap, mass-on}
@@ -39,7 +40,7 @@ use Rattle.gb_changes.proofs.Puts.{plain_node}
 use Rattle.gb_typed.specs.Typing.Binder.{value}
 use Rattle.gb_typed.proofs.Nodes.{type_of_node}
 use Rattle.gb_typing.specs.Context.{Context, with_own, within}
-use Rattle.gb_typing.specs.Sequents.{one}
+use Rattle.gb_typing.specs.Sequents.{one, of_sequent, IsTypedSequent}
 use Rattle.gb_typing.specs.Typing.{IsTyped, IsForm}
 use Rattle.gb_typing.specs.Changes.{Made}
 use Rattle.gb_typing.specs.Fits.{IsSettingOf, IsStateOf}
@@ -50,17 +51,22 @@ use Rattle.gb_typing.proofs.Fitting.{fits_reframed, state_at}
 use Rattle.gb_typing.proofs.Made.{made_node}
 use Rattle.gb_goal.specs.Answers.Answer.{given}
 use Rattle.gb_goal.specs.Goal.{Goal}
+use Rattle.gb_goal.specs.Scope.{Declarations}
+use Rattle.gb_goal.specs.declared.sequent.Sequent.{Sequent}
+use Rattle.gb_holds.specs.Declared.{declared}
 use Rattle.gb_goal.specs.Goal.Code.{body, procedure}
 use Rattle.gb_goal.specs.Goal.Goal.{hoare, phoare, equiv, ambient}
 use Rattle.gb_walk.specs.Clash.{first_clash}
 use Rattle.gb_typing.specs.Forms.{IsAlone}
 use Rattle.gb_typing.specs.Meaning.{run, denominator}
-use Rattle.gb_typing.specs.Rules.{outermost, Implies, IsSoundRule, no_arguments}
+use Rattle.gb_typing.specs.Programs.{IsBody}
+use Rattle.gb_typing.specs.Rules.{outermost, IsSettingOver, ImpliesIn, IsSoundRuleIn, no_arguments}
+use Rattle.gb_typing.specs.Scopes.{context_of, IsTypedScope}
 use Rattle.gb_typing.specs.Samplings.{Sampling, last_sampling}
 use Rattle.gb_typing.specs.Supports.{nearest}
 use Rattle.gb_typing.specs.Goals.{IsGoalOver, IsTypedGoal}
 use Rattle.gb_typing.proofs.ClashFree.{one_clear}
-use Rattle.gb_typing.proofs.Given.{AreSound, refused_given, same_given}
+use Rattle.gb_typing.proofs.Given.{refused_given, same_given}
 use Rattle.gb_typing.proofs.InMemory.{located_typed, located_value}
 use Rattle.gb_typing.proofs.Quantified.{inner_typed, inner_meaning}
 use Rattle.gb_typing.proofs.Runs.{run_append, denominator_append}
@@ -68,14 +74,22 @@ use Rattle.gb_typing.proofs.LastSampling.{IsDrawn, drawn, last_one}
 use Rattle.gb_typing.proofs.Supported.{nearest_made, draws, drawn_typed, run_sampling, sampling_denominator, target_put}
 use Rattle.gb_equiv.specs.Drawn.{with_value}
 use Rattle.gb_chance.specs.Compared.{compared, zero}
-use Rattle.gb_chance.specs.Loss.{Loss, nowhere, sampled, called, first_loss}
+use Rattle.gb_full.specs.Loss.{Loss, nowhere, sampled, called, first_loss}
 use Rattle.gb_chance.proofs.Bound.{bound_made, bound_is, bound_value}
 use Rattle.gb_chance.proofs.Chances.{after_full, after_less}
 use Rattle.gb_chance.proofs.Comparing.{number_made, real_made, compared_typed, number_is, compared_is}
-use Rattle.gb_chance.proofs.Full.{total_full}
+use Rattle.gb_full.proofs.Full.{total_full}
 use Rattle.gb_phoare.specs.Rnd.{measured, without_sampling, of_rest, unless_clash, by_end, rnd_row}
 
-module _ (b : Context) (ls : List TypedName) where
+-- bodies that lose no weight, nor what they call, have the whole weight
+abbrev LosesNone : Declarations → Context → Type 0
+LosesNone ds c = (g : Setting) → IsSettingOf c g → IsSettingOver (declared ds) g → (ls : List TypedName) (is : List Instr) → IsBody c ls is → first_loss ds is ≡ nowhere →
+    (s : State) (m : Memory) → total (run g s is m) ≡ denominator g is
+
+abbrev AreSoundIn : Declarations → Context → Goal → List Goal → Type 0
+AreSoundIn ds c G Gs = AllByRecursion (IsTypedGoal c) Gs × ImpliesIn (declared ds) c Gs G
+
+module _ (ds : Declarations) (b : Context) (ls : List TypedName) (weighs : LosesNone ds (outermost b)) where
   abbrev c : Context
   c = outermost b
 
@@ -161,20 +175,20 @@ module _ (b : Context) (ls : List TypedName) where
             let denominators = sym (ap (denominator g) dx.shape ∙ denominator_append g x.before (last_one x)) in
             subst (λ z. z) (λ i. compares r (chance (runs i) (denominators i) event) bound ≡ true) y
 
-        after_whole : first_loss x.before ≡ nowhere → compares r (chance (run g s is m) (denominator g is) event) bound ≡ true
-        after_whole f =
+        after_whole : IsSettingOver (declared ds) g → first_loss ds x.before ≡ nowhere → compares r (chance (run g s is m) (denominator g is) event) bound ≡ true
+        after_whole over f =
             whole (after_full (run g s x.before m) (λ a. run g s (last_one x) a) event (denominator g x.before) (denominator g (last_one x)) before_positive last_positive
-            (total_full c g fits ls x.before dx.rest f s m) r bound each)
+            (weighs g fits over ls x.before dx.rest f s m) r bound each)
 
     -- the goal before the sampling implies the goal, where no weight is lost
-    implied_full : (r : Rel) (p q t : Term) (w : IsTyped (with_own c None) t) (e : type_of t ≡ ty.Real) → IsForm goal q → first_clash side.Own x.target q ≡ None → first_loss x.before ≡ nowhere →
-        Implies c (without_sampling x r p q t ∷ []) (phoare (body is) r p q t)
-    implied_full r p q t w e form clear f g fits j fair s fit h m z = after_whole g fits j fair s fit r p q t w e form clear h.0 m z f
+    implied_full : (r : Rel) (p q t : Term) (w : IsTyped (with_own c None) t) (e : type_of t ≡ ty.Real) → IsForm goal q → first_clash side.Own x.target q ≡ None → first_loss ds x.before ≡ nowhere →
+        ImpliesIn (declared ds) c (without_sampling x r p q t ∷ []) (phoare (body is) r p q t)
+    implied_full r p q t w e form clear f g fits over j fair s fit h m z = after_whole g fits j fair s fit r p q t w e form clear h.0 m z over f
 
     -- where some may be, and the bound isn't below 0
     implied_less : (p q t : Term) (w : IsTyped (with_own c None) t) (e : type_of t ≡ ty.Real) → IsForm goal q → first_clash side.Own x.target q ≡ None →
-        Implies c (without_sampling x AtMost p q t ∷ ambient (compared AtMost zero t) ∷ []) (phoare (body is) AtMost p q t)
-    implied_less p q t w e form clear g fits j fair s fit h m z =
+        ImpliesIn (declared ds) c (without_sampling x AtMost p q t ∷ ambient (compared AtMost zero t) ∷ []) (phoare (body is) AtMost p q t)
+    implied_less p q t w e form clear g fits over j fair s fit h m z =
         whole g fits j fair s fit AtMost p q t w e form clear h.0 m z
         (after_less (run g s x.before m) (λ a. run g s (last_one x) a) (λ n. den g j q (at s n)) (denominator g x.before) (denominator g (last_one x))
         (before_positive g fits j fair s fit AtMost p q t w e form clear h.0 m z) (last_positive g fits j fair s fit AtMost p q t w e form clear h.0 m z)
@@ -188,17 +202,17 @@ module _ (b : Context) (ls : List TypedName) where
 
   -- where weight may be lost before the sampling
   less : (rs : List TypedName) (is : List Instr) (p q t : Term) (w : IsGoalOver c ls rs (phoare (body is) AtMost p q t)) (Gs : List Goal) (x : Sampling) → IsDrawn c ls is x → first_clash side.Own x.target q ≡ None →
-      given (without_sampling x AtMost p q t ∷ ambient (compared AtMost zero t) ∷ []) ≡ given Gs → AreSound c (phoare (body is) AtMost p q t) Gs
+      given (without_sampling x AtMost p q t ∷ ambient (compared AtMost zero t) ∷ []) ≡ given Gs → AreSoundIn ds c (phoare (body is) AtMost p q t) Gs
   less rs is p q t w Gs x dx clear h =
-      subst (AreSound c (phoare (body is) AtMost p q t)) (same_given (without_sampling x AtMost p q t ∷ ambient (compared AtMost zero t) ∷ []) Gs h) (
+      subst (AreSoundIn ds c (phoare (body is) AtMost p q t)) (same_given (without_sampling x AtMost p q t ∷ ambient (compared AtMost zero t) ∷ []) Gs h) (
         (before_typed rs is AtMost p q t w Gs x dx, ((ls, rs, compared_typed c AtMost zero t (number_made c (pos 0)) (real_made c t w.3 w.4)), tt)),
         implied_less is x dx p q t w.3 w.4 w.2 clear,
       )
 
   rest : (rs : List TypedName) (is : List Instr) (r : Rel) (p q t : Term) (w : IsGoalOver c ls rs (phoare (body is) r p q t)) (Gs : List Goal) (x : Sampling) → IsDrawn c ls is x → first_clash side.Own x.target q ≡ None →
-      (l : Loss) → first_loss x.before ≡ l → of_rest l r t (without_sampling x r p q t) ≡ given Gs → AreSound c (phoare (body is) r p q t) Gs
+      (l : Loss) → first_loss ds x.before ≡ l → of_rest l r t (without_sampling x r p q t) ≡ given Gs → AreSoundIn ds c (phoare (body is) r p q t) Gs
   rest rs is r p q t w Gs x dx clear nowhere f h =
-      subst (AreSound c (phoare (body is) r p q t)) (same_given (without_sampling x r p q t ∷ []) Gs h) ((before_typed rs is r p q t w Gs x dx, tt), implied_full is x dx r p q t w.3 w.4 w.2 clear f)
+      subst (AreSoundIn ds c (phoare (body is) r p q t)) (same_given (without_sampling x r p q t ∷ []) Gs h) ((before_typed rs is r p q t w Gs x dx, tt), implied_full is x dx r p q t w.3 w.4 w.2 clear f)
   rest rs is AtMost p q t w Gs x dx clear (sampled v) f h = less rs is p q t w Gs x dx clear h
   rest rs is AtMost p q t w Gs x dx clear called f h = less rs is p q t w Gs x dx clear h
   rest rs is Equal p q t w Gs x dx clear (sampled v) f h = refused_given (NotLossless v) Gs h
@@ -207,21 +221,28 @@ module _ (b : Context) (ls : List TypedName) where
   rest rs is AtLeast p q t w Gs x dx clear called f h = refused_given Shape Gs h
 
   with_end : (rs : List TypedName) (is : List Instr) (r : Rel) (p q t : Term) (w : IsGoalOver c ls rs (phoare (body is) r p q t)) (Gs : List Goal) → (o : Option Sampling) → last_sampling is ≡ o →
-      by_end r p q t o ≡ given Gs → AreSound c (phoare (body is) r p q t) Gs
+      by_end ds r p q t o ≡ given Gs → AreSoundIn ds c (phoare (body is) r p q t) Gs
   with_end rs is r p q t w Gs None ex h = refused_given Shape Gs h
   with_end rs is r p q t w Gs (Some x) ex h = checked (first_clash side.Own x.target q) refl h
     where
-      checked : (u : Option Var) → first_clash side.Own x.target q ≡ u → unless_clash (option_map (λ z. x.target) u) (of_rest (first_loss x.before) r t (without_sampling x r p q t)) ≡ given Gs →
-          AreSound c (phoare (body is) r p q t) Gs
+      checked : (u : Option Var) → first_clash side.Own x.target q ≡ u → unless_clash (option_map (λ z. x.target) u) (of_rest (first_loss ds x.before) r t (without_sampling x r p q t)) ≡ given Gs →
+          AreSoundIn ds c (phoare (body is) r p q t) Gs
       checked (Some z) e h = refused_given (SideCondition x.target) Gs h
-      checked None e h = rest rs is r p q t w Gs x (drawn c ls is x w.0 ex) e (first_loss x.before) refl h
+      checked None e h = rest rs is r p q t w Gs x (drawn c ls is x w.0 ex) e (first_loss ds x.before) refl h
 
-module _ (c : Context) where
-  pub sound : IsSoundRule c rnd_row no_arguments
-  sound outer ls rs (phoare (body is) r p q t) w k Gs e =
-      let G = phoare (body is) r p q t in
-      subst (λ c. AreSound c G Gs) (sym outer) (with_end c ls rs is r p q t (subst (λ c. IsGoalOver c ls rs G) outer w) Gs (last_sampling is) refl e)
-  sound outer ls rs (phoare (procedure a) r p q t) w k Gs e = refused_given Shape Gs e
-  sound outer ls rs (hoare a p q) w k Gs e = refused_given Shape Gs e
-  sound outer ls rs (equiv a d p q) w k Gs e = refused_given Shape Gs e
+module _ (ds : Declarations) (scoped : IsTypedScope (declared ds)) (q : Sequent) (t : IsTypedSequent (context_of (declared ds)) q) where
+  abbrev over_scope : Context
+  over_scope = of_sequent (context_of (declared ds)) q t.frames
+
+  weighs_all : LosesNone ds over_scope
+  weighs_all g fits over ls is w e s m = total_full ds scoped q t g fits over ls is w e s m
+
+  pub sound : IsSoundRuleIn (declared ds) over_scope (rnd_row ds) no_arguments
+  sound outer ls rs (phoare (body is) r p f b) w k Gs e =
+      let G = phoare (body is) r p f b in
+      subst (λ c. AreSoundIn ds c G Gs) (sym outer)
+      (with_end ds over_scope ls (subst (LosesNone ds) outer weighs_all) rs is r p f b (subst (λ c. IsGoalOver c ls rs G) outer w) Gs (last_sampling is) refl e)
+  sound outer ls rs (phoare (procedure a) r p f b) w k Gs e = refused_given Shape Gs e
+  sound outer ls rs (hoare a p f) w k Gs e = refused_given Shape Gs e
+  sound outer ls rs (equiv a d p f) w k Gs e = refused_given Shape Gs e
   sound outer ls rs (ambient f) w k Gs e = refused_given Shape Gs e

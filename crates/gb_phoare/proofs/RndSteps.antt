@@ -6,17 +6,18 @@ use Rattle.std.specs.Option.{is_some, option_copied, option_map}
 use Rattle.gb_terms.specs.declared.op.Rel.{Rel}
 use Rattle.gb_terms.specs.declared.op.Side.TheVariants.{Own}
 use Rattle.gb_terms.specs.declared.term.Term.{Term}
+use Rattle.gb_goal.specs.Scope.{Declarations}
 use Rattle.gb_walk.specs.Clash.{first_clash}
 use Rattle.gb_typing.specs.Samplings.{Sampling}
-use Rattle.gb_chance.specs.Loss.{Loss, first_loss}
+use Rattle.gb_full.specs.Loss.{Loss, first_loss}
 use Rattle.gb_phoare.specs.Rnd.{by_end, of_rest, unless_clash, without_sampling}
 
-pub without_clash : (r : Rel) (p q b : Term) (x : Sampling) (o : Option Sampling) (l : Loss) → Some x ≡ o → l ≡ first_loss x.before → None ≡ first_clash Own x.target q →
-    of_rest l r b (without_sampling x r p q b) ≡ by_end r p q b o
-without_clash r p q b x o l e f k =
+pub without_clash : (ds : Declarations) (r : Rel) (p q b : Term) (x : Sampling) (o : Option Sampling) (l : Loss) → Some x ≡ o → l ≡ first_loss ds x.before → None ≡ first_clash Own x.target q →
+    of_rest l r b (without_sampling x r p q b) ≡ by_end ds r p q b o
+without_clash ds r p q b x o l e f k =
     ap (λ l. of_rest l r b (without_sampling x r p q b)) f
-    ∙ ap (λ u. unless_clash (option_map (λ z. x.target) u) (of_rest (first_loss x.before) r b (without_sampling x r p q b))) k
-    ∙ ap (by_end r p q b) e
+    ∙ ap (λ u. unless_clash (option_map (λ z. x.target) u) (of_rest (first_loss ds x.before) r b (without_sampling x r p q b))) k
+    ∙ ap (by_end ds r p q b) e
 
 -- nothing is found
 pub none_copied : {A : Type 0} (o : Option (Bor A)) → is_some o ≡ false → None ≡ option_copied o

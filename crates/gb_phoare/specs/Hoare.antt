@@ -12,7 +12,7 @@ use Rattle.gb_goal.specs.Scope.{Declarations}
 use Rattle.gb_typing.specs.Forms.{not_form}
 use Rattle.gb_chance.specs.Compared.{at_most_form, literal}
 use Rattle.gb_chance.specs.Compared as real
-use Rattle.gb_chance.specs.Loss.{Loss, nowhere, sampled, called, code_loss}
+use Rattle.gb_full.specs.Loss.{Loss, nowhere, sampled, called, code_loss}
 
 -- nothing loses weight
 abbrev pub full : Loss → Answer (Unit {0})

@@ -15,9 +15,10 @@ use Rattle.gb_goal.specs.Goal.{Goal}
 use Rattle.gb_goal.specs.Goal.Code.{body}
 use Rattle.gb_goal.specs.Goal.Goal.{hoare, phoare, ambient}
 use Rattle.gb_goal.specs.Rows.{Row, refusing}
+use Rattle.gb_goal.specs.Scope.{Declarations}
 use Rattle.gb_typing.specs.Samplings.{Sampling, last_sampling}
 use Rattle.gb_chance.specs.Compared.{compared, zero}
-use Rattle.gb_chance.specs.Loss.{Loss, nowhere, sampled, called, first_loss}
+use Rattle.gb_full.specs.Loss.{Loss, nowhere, sampled, called, first_loss}
 use Rattle.gb_equiv.specs.Drawn.{clashing, with_value}
 
 -- how likely the postcondition is of a sampled value: `mu d (fun v => Q)`
@@ -40,10 +41,10 @@ unless_clash (Some z) a = refusing (SideCondition z)
 unless_clash None a = a
 
 -- the goals without the sampling that ends the body
-abbrev pub by_end : Rel → Term → Term → Term → Option Sampling → Answer (List Goal)
-by_end r p q b None = refusing Shape
-by_end r p q b (Some x) = unless_clash (clashing Own x.target q) (of_rest (first_loss x.before) r b (without_sampling x r p q b))
+abbrev pub by_end : Declarations → Rel → Term → Term → Term → Option Sampling → Answer (List Goal)
+by_end ds r p q b None = refusing Shape
+by_end ds r p q b (Some x) = unless_clash (clashing Own x.target q) (of_rest (first_loss ds x.before) r b (without_sampling x r p q b))
 
-abbrev pub rnd_row : Row
-rnd_row (phoare (body is) r p q b) = by_end r p q b (last_sampling is)
-rnd_row G = refusing Shape
+abbrev pub rnd_row : Declarations → Row
+rnd_row ds (phoare (body is) r p q b) = by_end ds r p q b (last_sampling is)
+rnd_row ds G = refusing Shape

@@ -10,7 +10,7 @@ use Rattle.gb_phoare.specs.Hoare.{hoare_row}
 use Rattle.gb_phoare.specs.Rnd.{rnd_row}
 
 abbrev pub chance_row : Declarations → ChanceRule → Row
-chance_row ds Rnd = rnd_row
+chance_row ds Rnd = rnd_row ds
 chance_row ds Hoare = hoare_row ds
 
 -- what such a rule makes of goals; the other rules are of other crates

@@ -6,10 +6,10 @@ ghost use Rattle.gb_phoare.specs.Rows.{chance_row, rule_row};
 
 use crate::hoare::hoare_rule;
 use crate::rnd::rnd_rule;
-use gb_bodies::subgoals::{no_shape, placed};
 use gb_core::refusal::Refused;
 use gb_goal::scope::Scope;
 use gb_goal::sequent::{Sequent, Sequents};
+use gb_parts::subgoals::{no_shape, placed};
 use gb_steps::step::{ChanceRule, Rule, Step};
 use std::alloc::Global;
 
@@ -23,7 +23,7 @@ fn subgoals(
     ensures { Answers (answered (chance_row scope.now rule) goal.now) result }
 {
     match rule {
-        ChanceRule::Rnd => rnd_rule(alloc, goal),
+        ChanceRule::Rnd => rnd_rule(alloc, goal, scope),
         ChanceRule::Hoare => hoare_rule(alloc, goal, scope),
     }
 }

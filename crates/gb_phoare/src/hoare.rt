@@ -12,16 +12,16 @@ ghost use Rattle.gb_typing.specs.Scopes.{context_of, IsTypedScope};
 ghost use Rattle.gb_typing.specs.Sequents.{of_sequent, IsTypedSequent};
 ghost use Rattle.gb_typing.specs.Rules.{IsSoundRuleIn, no_arguments};
 ghost use Rattle.gb_chance.specs.Compared.{literal};
-ghost use Rattle.gb_chance.specs.Loss.{code_loss, loss_seen};
+ghost use Rattle.gb_full.specs.Loss.{code_loss, loss_seen};
 ghost use Rattle.gb_phoare.specs.Hoare.{at_least_goals, at_most_goals, exactly, full, hoare_row, never};
 
-use gb_bodies::subgoals::{no_shape, one_goal, refusal, two_goals};
 use gb_chance::compared::{literal, number_compared};
-use gb_chance::loss::{Loss, subject_loss};
 use gb_core::copy::copy_var;
 use gb_core::refusal::{Refused, Why};
+use gb_full::loss::{Loss, subject_loss};
 use gb_goal::scope::Scope;
 use gb_goal::sequent::{Sequent, Sequents};
+use gb_parts::subgoals::{no_shape, one_goal, refusal, two_goals};
 use gb_terms::make::{negation, term, truth_ty};
 use gb_terms::op::Rel;
 use gb_terms::term::{Form, Head, RealTerm, Subject};
@@ -58,8 +58,8 @@ fn never(alloc: Global, judged: &Judged<'_>) -> Result<Form, AllocError>
     always(alloc, judged, post)
 }
 
-/// Why a judgment of what loses weight is refused: `NotLossless` at a variable, and `Shape` at a call.
-fn full(alloc: Global, lost: Loss<'_>) -> Result<(), Refused>
+/// Why a judgment of what loses weight is refused: `NotLossless` at a variable, and `Shape` at a call of what isn't declared by its name.
+pub fn full(alloc: Global, lost: Loss<'_>) -> Result<(), Refused>
     ensures { Answers (full (loss_seen lost.entry)) result }
 {
     match lost {
@@ -88,7 +88,7 @@ fn exactly(
             Ok(one_goal(alloc, goal, conclusion)?)
         }
         Some(1) => {
-            full(alloc, subject_loss(judged.subject, scope))?;
+            full(alloc, subject_loss(alloc, scope, judged.subject)?)?;
             let conclusion = always(alloc, judged, judged.post.share()?)?;
             Ok(one_goal(alloc, goal, conclusion)?)
         }
@@ -127,7 +127,7 @@ fn by_relation(
     match rel {
         Rel::AtMost => Ok(at_most(alloc, goal, judged)?),
         Rel::AtLeast => {
-            full(alloc, subject_loss(judged.subject, scope))?;
+            full(alloc, subject_loss(alloc, scope, judged.subject)?)?;
             Ok(at_least(alloc, goal, judged)?)
         }
         Rel::Equal => exactly(alloc, goal, judged, scope),
@@ -136,7 +136,7 @@ fn by_relation(
 
 /// The subgoals of `hoare` on a judgment with a probability: `<=` follows where the postcondition never holds and the bound isn't below 0,
 /// `>=` where it always holds and the bound isn't above 1, and `=` with the literal `0%r` or `1%r` where it never or always holds. Where it
-/// is to hold always no weight may be lost: else refused with `NotLossless` at the first variable, and with `Shape` at a call. Refused
+/// is to hold always no weight may be lost: else refused with `NotLossless` at the first variable, and with `Shape` at a call of what isn't declared by its name. Refused
 /// with `Shape` at any other goal.
 pub fn hoare_rule(alloc: Global, goal: &Sequent, scope: &Scope) -> Result<Sequents, Refused>
     ensures { Answers (answered (hoare_row scope.now) goal.now) result }

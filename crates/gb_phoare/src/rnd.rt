@@ -5,21 +5,26 @@ ghost use Rattle.gb_goal.specs.Answers.{Answers};
 ghost use Rattle.gb_goal.specs.Goal.{Goal as TypedGoal, form_of};
 ghost use Rattle.gb_goal.specs.Rows.{answered, each_concluding};
 ghost use Rattle.gb_goal.specs.Views.{goal_seen};
-ghost use Rattle.gb_typing.specs.Context.{Context};
-ghost use Rattle.gb_typing.specs.Rules.{IsSoundRule, no_arguments};
+ghost use Rattle.gb_goal.specs.Scope.{Declarations};
+ghost use Rattle.gb_goal.specs.declared.sequent.Sequent.{Sequent as TypedSequent};
+ghost use Rattle.gb_holds.specs.Declared.{declared};
+ghost use Rattle.gb_typing.specs.Rules.{IsSoundRuleIn, no_arguments};
+ghost use Rattle.gb_typing.specs.Scopes.{context_of, IsTypedScope};
+ghost use Rattle.gb_typing.specs.Sequents.{of_sequent, IsTypedSequent};
 ghost use Rattle.gb_typing.specs.Samplings.{sampling_of, last_sampling};
-ghost use Rattle.gb_chance.specs.Loss.{loss_seen};
+ghost use Rattle.gb_full.specs.Loss.{loss_seen};
 ghost use Rattle.gb_equiv.specs.Drawn.{with_value};
 ghost use Rattle.gb_phoare.specs.Rnd.{by_end, measured, of_rest, rnd_row, without_sampling};
 
-use gb_bodies::subgoals::{no_shape, one_goal, refusal, two_goals};
 use gb_chance::compared::{compared, number_compared};
-use gb_chance::loss::{Loss, first_loss};
 use gb_core::copy::copy_var;
 use gb_core::refusal::{Refused, Why};
 use gb_core::ty::Ty;
+use gb_full::loss::{Loss, first_loss};
 use gb_goal::goal::{Code, Goal, goal_of, hoare};
+use gb_goal::scope::Scope;
 use gb_goal::sequent::{Sequent, Sequents};
+use gb_parts::subgoals::{no_shape, one_goal, refusal, two_goals};
 use gb_shared::Shared;
 use gb_terms::make::term;
 use gb_terms::op::{Read, Rel, Side};
@@ -84,7 +89,7 @@ fn without_sampling(
 }
 
 /// The goals of a judgment of what stands before a sampling. Weight that is lost there makes a probability less: the bound isn't
-/// below 0 then, or the rule is refused, with `NotLossless` at a variable, and with `Shape` at a call.
+/// below 0 then, or the rule is refused, with `NotLossless` at a variable, and with `Shape` at a call of what isn't declared by its name.
 pub fn of_rest(
     alloc: Global,
     goal: &Sequent,
@@ -112,10 +117,11 @@ pub fn of_rest(
 fn by_end(
     alloc: Global,
     goal: &Sequent,
+    scope: &Scope,
     body: &[Instr],
     judged: &Judged<'_>,
 ) -> Result<Sequents, Refused>
-    ensures { Answers (each_concluding goal.now (by_end judged.now.rel judged.now.pre.now judged.now.post.now judged.now.bound.now (last_sampling body.now))) result }
+    ensures { Answers (each_concluding goal.now (by_end scope.now judged.now.rel judged.now.pre.now judged.now.post.now judged.now.bound.now (last_sampling body.now))) result }
 {
     let Some(sampling) = last_sampling(body) else {
         return Err(no_shape());
@@ -125,12 +131,13 @@ fn by_end(
         return Err(refusal(Why::SideCondition(target)));
     }
     let conclusion = without_sampling(alloc, &sampling, judged)?;
-    of_rest(alloc, goal, first_loss(sampling.before), judged, conclusion)
+    let lost = first_loss(alloc, scope, sampling.before)?;
+    of_rest(alloc, goal, lost, judged, conclusion)
 }
 
 /// The subgoals of a goal that is seen so.
-fn drawn(alloc: Global, goal: &Sequent, seen: Goal) -> Result<Sequents, Refused>
-    ensures { Answers (each_concluding goal.now (rnd_row (goal_seen seen.entry))) result }
+fn drawn(alloc: Global, goal: &Sequent, scope: &Scope, seen: Goal) -> Result<Sequents, Refused>
+    ensures { Answers (each_concluding goal.now (rnd_row scope.now (goal_seen seen.entry))) result }
 {
     match seen {
         Goal::Phoare(Code::Body(body), rel, pre, post, bound) => {
@@ -140,23 +147,24 @@ fn drawn(alloc: Global, goal: &Sequent, seen: Goal) -> Result<Sequents, Refused>
                 post,
                 bound,
             };
-            by_end(alloc, goal, body, &judged)
+            by_end(alloc, goal, scope, body, &judged)
         }
         _ => Err(no_shape()),
     }
 }
 
 /// The subgoals of `rnd` on a judgment with a probability of a body that ends with a sampling: the sampling leaves, and the measure of
-/// the postcondition stands so to the bound wherever the rest ends. Where the rest may lose weight, the bound of `<=` isn't below 0, and
+/// the postcondition stands so to the bound wherever the rest ends. Where the rest, or what it calls, may lose weight, the bound of `<=` isn't below 0, and
 /// the other relations are refused with `NotLossless`. Refused with `Shape` at any other goal, and with `SideCondition` where the
 /// postcondition reads a variable that clashes with the target.
-pub fn rnd_rule(alloc: Global, goal: &Sequent) -> Result<Sequents, Refused>
-    ensures { Answers (answered rnd_row goal.now) result }
+pub fn rnd_rule(alloc: Global, goal: &Sequent, scope: &Scope) -> Result<Sequents, Refused>
+    ensures { Answers (answered (rnd_row scope.now) goal.now) result }
 {
-    drawn(alloc, goal, goal_of(&goal.conclusion))
+    drawn(alloc, goal, scope, goal_of(&goal.conclusion))
 }
 
-/// `rnd` is sound on a judgment with a probability.
+/// `rnd` is sound on a judgment with a probability, over each typed scope, at the goal of each typed sequent.
 pub fn rnd_is_sound()
-    ensures { (c : Context) → IsSoundRule c rnd_row no_arguments }
+    ensures { (ds : Declarations) → IsTypedScope (declared ds) → (q : TypedSequent) (t : IsTypedSequent (context_of (declared ds)) q) →
+        IsSoundRuleIn (declared ds) (of_sequent (context_of (declared ds)) q t.frames) (rnd_row ds) no_arguments }
 {}

@@ -3,9 +3,12 @@
 ghost use Rattle.std.specs.Prelude.{◌≡◌, [], ◌++◌, map, IfOk, OnOk};
 ghost use Rattle.gb_print_names.specs.Names.{place};
 ghost use Rattle.gb_print_names.specs.Text.{each};
-ghost use Rattle.gb_print.specs.Goals.{typed_names, with_enumerations, context_names, variable_line, memory_line, module_line, hypothesis_line, goal_text, place_of_goal, printed_form, printed_goal};
+ghost use Rattle.gb_print_text.specs.Goals.{typed_names, with_enumerations, context_names, variable_line, memory_line, module_line, hypothesis_line, goal_text, place_of_form, place_of_goal, printed_form, printed_goal};
+ghost use Rattle.gb_readback.specs.Forms.{form_tree};
+ghost use Rattle.gb_readback.specs.Goals.{IsWrittenGoal, IsGoalReadAs};
+ghost use Rattle.gb_readback.specs.ReadBack.{IsReadAs};
+ghost use Rattle.gb_readback.specs.Written.{IsWritten};
 
-use crate::form::put_form;
 use gb_core::name::{Name, Names};
 use gb_goal::scope::Scope;
 use gb_goal::sequent::{Hyp, Sequent};
@@ -14,6 +17,8 @@ use gb_print_names::occurring::note_name;
 use gb_print_names::place::{Enumeration, Setting};
 use gb_print_names::text::{Page, Text};
 use gb_print_names::types::put_type;
+use gb_print_text::form::put_form;
+use gb_readback::laws::{printed_forms_are_read, printed_goals_are_read};
 use gb_shared::Stack;
 use gb_terms::decl::TypedName;
 use gb_terms::module::Bind;
@@ -154,8 +159,7 @@ fn put_goal(alloc: Global, page: &mut Page, at: &Setting<'_>, s: &Sequent) -> Re
     page.text.put("\n")
 }
 
-/// A form as text. The lists name the logical variables and the memories of its context.
-pub fn print_form(
+fn form_bytes(
     alloc: Global,
     scope: &Scope,
     enumerations: &[Enumeration],
@@ -182,8 +186,7 @@ pub fn print_form(
     Ok(text.into_bytes())
 }
 
-/// A goal as text: its context by kind, one entry a line, then `---`, then its conclusion on one line.
-pub fn print_goal(
+fn goal_bytes(
     alloc: Global,
     scope: &Scope,
     enumerations: &[Enumeration],
@@ -204,4 +207,40 @@ pub fn print_goal(
     put_goal(alloc, &mut page, &at, s)?;
     let Page { text, bound: _ } = page;
     Ok(text.into_bytes())
+}
+
+/// A form as text. The lists name the logical variables and the memories of its context. Where it can be written in the
+/// language (`IsWritten`), the text spells the form's tree and no other, and [`gb_read_script::reading::form`] answers it, if
+/// it is within 64 levels.
+pub fn print_form(
+    alloc: Global,
+    scope: &Scope,
+    enumerations: &[Enumeration],
+    t: &Form,
+    logical: &[TypedName],
+    memories: &[Name],
+) -> Result<Vec<u8>, AllocError>
+    ensures text { IfOk result (λ bytes. bytes.items ≡ printed_form scope.now enumerations.now logical.now memories.now t.now) }
+    ensures read { IfOk result (λ bytes. IsWritten 0 (place_of_form scope.now enumerations.now logical.now memories.now) t.now → IsReadAs bytes.items (form_tree t.now (place_of_form scope.now enumerations.now logical.now memories.now))) }
+{
+    printed_forms_are_read();
+    let bytes = form_bytes(alloc, scope, enumerations, t, logical, memories)?;
+    Ok(bytes)
+}
+
+/// A goal as text: its context by kind, one entry a line, then `---`, then its conclusion on one line. Where it can be
+/// written in the language (`IsWrittenGoal`), the text spells the goal's tree and no other, and
+/// [`gb_read_script::goal::goal`] answers it.
+pub fn print_goal(
+    alloc: Global,
+    scope: &Scope,
+    enumerations: &[Enumeration],
+    s: &Sequent,
+) -> Result<Vec<u8>, AllocError>
+    ensures text { IfOk result (λ bytes. bytes.items ≡ printed_goal scope.now enumerations.now s.now) }
+    ensures read { IfOk result (λ bytes. IsWrittenGoal (place_of_goal scope.now enumerations.now s.now) s.now → IsGoalReadAs bytes.items (place_of_goal scope.now enumerations.now s.now) s.now) }
+{
+    printed_goals_are_read();
+    let bytes = goal_bytes(alloc, scope, enumerations, s)?;
+    Ok(bytes)
 }

@@ -1,8 +1,4 @@
-//! Goals as text: what is printed says exactly what a goal is.
+//! Goals and forms as text: what is printed says exactly what a goal is, and is read as that.
 #![tactic(auto)]
 
-mod binders;
-mod form;
 pub mod goal;
-mod layout;
-mod literals;

@@ -30,7 +30,7 @@ use Rattle.gb_coupling.proofs.Entries.{Every-weaken}
 use Rattle.gb_terms.specs.declared.term.Instr.{Instr}
 use Rattle.gb_typing.specs.Meaning.{run}
 use Rattle.gb_laws.proofs.Nodes.{val_node, term_is_node}
-use Rattle.gb_judge.proofs.Truths.{true_all}
+use Rattle.gb_laws.proofs.Truths.{true_all}
 use Rattle.gb_changes.specs.Plain.{IsPlain}
 use Rattle.gb_changes.specs.Uses.{IsWithin}
 use Rattle.gb_changes.specs.Written.{IsSide, Written, with_side, written_changes, all_written}

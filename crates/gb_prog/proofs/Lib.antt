@@ -12,3 +12,4 @@ pub mod AllValues
 pub mod Calls
 pub mod Within
 pub mod Certain
+pub mod Own

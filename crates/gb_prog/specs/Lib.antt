@@ -4,3 +4,4 @@ pub mod Loops
 pub mod Exchanged
 pub mod AllValues
 pub mod Calls
+pub mod Ends

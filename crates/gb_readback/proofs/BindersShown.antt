@@ -14,7 +14,7 @@ use Rattle.gb_script.specs.Tree.{node}
 use Rattle.gb_print_names.specs.declared.place.Known.{Known}
 use Rattle.gb_print_names.specs.Text.{Text, Writing, word, number}
 use Rattle.gb_print_names.specs.Types as print
-use Rattle.gb_print.specs.Layout as print_layout
+use Rattle.gb_print_text.specs.Layout as print_layout
 use Rattle.gb_readback.specs.Nodes as nodes
 use Rattle.gb_readback.specs.Types as type_tree
 use Rattle.gb_readback.specs.Heads as tree

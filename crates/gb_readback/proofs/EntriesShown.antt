@@ -13,7 +13,7 @@ use Rattle.gb_print_names.specs.declared.place.Known.{Known}
 use Rattle.gb_print_names.specs.Text.{Text, Writing, ◌▸◌, each}
 use Rattle.gb_print_names.specs.Types as print
 use Rattle.gb_print_names.specs.Names.{Name, Place}
-use Rattle.gb_print.specs.Goals as print_goals
+use Rattle.gb_print_text.specs.Goals as print_goals
 use Rattle.gb_terms.specs.declared.decl.TypedName.{TypedName}
 use Rattle.gb_terms.specs.declared.module.Bind.{Bind}
 use Rattle.gb_goal.specs.declared.sequent.Hyp.{Hyp}

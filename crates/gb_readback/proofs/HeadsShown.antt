@@ -19,9 +19,9 @@ use Rattle.gb_print_names.specs.Names.{Place, bound_name}
 use Rattle.gb_shapes.specs.declared.shape.Shape.{Shape}
 use Rattle.gb_shapes.specs.declared.shape.Shape.TheVariants.{Atom, Postfix, Bounded, Application, Sum, Operation}
 use Rattle.gb_shapes.specs.Open.{operator_tells}
-use Rattle.gb_print.specs.Layout.{letter, before_operand}
+use Rattle.gb_print_text.specs.Layout.{letter, before_operand}
 use Rattle.gb_shapes.specs.Shapes.{shape, runs_on}
-use Rattle.gb_print.specs.Forms as text
+use Rattle.gb_print_text.specs.Forms as text
 use Rattle.gb_readback.specs.Forms as tree
 use Rattle.gb_readback.specs.Heads.{made}
 use Rattle.gb_readback.specs.Nodes.{path}

@@ -21,9 +21,9 @@ use Rattle.gb_print_names.specs.Text.{Text, Writing, ◌▸◌, word}
 use Rattle.gb_print_names.specs.Names as names
 use Rattle.gb_print_names.specs.Names.{Place, module_name, shown_name}
 use Rattle.gb_print_names.specs.Modules as print
-use Rattle.gb_print.specs.Layout as print_layout
-use Rattle.gb_print.specs.Forms as text
-use Rattle.gb_print.proofs.FormSteps.{subject_Proc}
+use Rattle.gb_print_text.specs.Layout as print_layout
+use Rattle.gb_print_text.specs.Forms as text
+use Rattle.gb_print_text.proofs.FormSteps.{subject_Proc}
 use Rattle.gb_readback.specs.Nodes as nodes
 use Rattle.gb_readback.specs.Types as type_tree
 use Rattle.gb_readback.specs.Heads as heads

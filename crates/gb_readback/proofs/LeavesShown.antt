@@ -30,7 +30,7 @@ use Rattle.gb_print_names.specs.declared.place.Enumeration.{Enumeration}
 use Rattle.gb_print_names.specs.declared.place.Known.{Known}
 use Rattle.gb_print_names.specs.Text.{Text, Writing, ◌▸◌, word, number}
 use Rattle.gb_print_names.specs.Names as print
-use Rattle.gb_print.specs.Layout as print_layout
+use Rattle.gb_print_text.specs.Layout as print_layout
 use Rattle.gb_readback.specs.Nodes as nodes
 use Rattle.gb_readback.specs.Types as type_tree
 use Rattle.gb_readback.specs.Heads as tree
@@ -63,13 +63,13 @@ no_dot b h = grind (arith, nat_tests)
 word_start_byte : (b : ℕ) → is_word_start b ≡ true → is_word_byte b ≡ true
 word_start_byte b h = grind (arith, nat_tests)
 
-one_word : (x : Text) → list_all is_word_byte x ≡ true → nodes.words x ≡ x ∷ []
+pub one_word : (x : Text) → list_all is_word_byte x ≡ true → nodes.words x ≡ x ∷ []
 one_word [] h = refl
 one_word (b ∷ x) h =
     let parts = both (is_word_byte b) (list_all is_word_byte x) h in
     ap (λ (c : Bool). if c then [] ∷ nodes.words x else nodes.with_byte b (nodes.words x)) (no_dot b parts.0) ∙ ap (nodes.with_byte b) (one_word x parts.1)
 
-all_bytes : (x : Text) → is_word x ≡ true → list_all is_word_byte x ≡ true
+pub all_bytes : (x : Text) → is_word x ≡ true → list_all is_word_byte x ≡ true
 all_bytes [] h = absurd cc
 all_bytes (b ∷ x) h = let parts = both (is_word_start b) (list_all is_word_byte x) h in ap₂ (λ c d. c && d) (word_start_byte b parts.0) parts.1
 

@@ -20,7 +20,7 @@ use Rattle.gb_script.proofs.Stacks.{append_nil}
 use Rattle.gb_print_names.specs.declared.place.Enumeration.{Enumeration}
 use Rattle.gb_print_names.specs.Text.{Text, Writing, ◌▸◌, each, word, number, separated}
 use Rattle.gb_print_names.specs.Names as print
-use Rattle.gb_print.specs.Layout as print_layout
+use Rattle.gb_print_text.specs.Layout as print_layout
 use Rattle.gb_readback.specs.Nodes as nodes
 use Rattle.gb_readback.specs.Heads as tree
 use Rattle.gb_readback.specs.Written.{in_range, is_name_text, is_name_there, IsWrittenValue, AreWrittenValues, numeral, parts, no_value, more_value, IsWrittenLiteral, is_word_here, has_word, is_weight_here, are_weights_here}

@@ -11,7 +11,7 @@ use Rattle.gb_print_names.specs.Types as print
 use Rattle.gb_shapes.specs.declared.shape.Shape.TheVariants.{Application, Sum}
 use Rattle.gb_shapes.specs.Open.{type_of, is_open, is_int, needs_type}
 use Rattle.gb_shapes.specs.Shapes.{shape, stands_alone, runs_on}
-use Rattle.gb_print.specs.Forms as text
+use Rattle.gb_print_text.specs.Forms as text
 use Rattle.gb_readback.specs.Types as type_tree
 use Rattle.gb_readback.specs.Forms as tree
 use Rattle.gb_readback.specs.Written.{is_phoare, is_front}

@@ -18,8 +18,8 @@ use Rattle.gb_print_names.specs.declared.place.Known.{Known}
 use Rattle.gb_print_names.specs.Text.{Text, Writing, ◌▸◌, each, word}
 use Rattle.gb_print_names.specs.Names as names
 use Rattle.gb_print_names.specs.Names.{Place, module_name}
-use Rattle.gb_print.specs.Forms as text
-use Rattle.gb_print.proofs.FormSteps.{subject_Body, instr_Assign, instr_Sample, instr_Call, instr_If, instr_While, cmd_is}
+use Rattle.gb_print_text.specs.Forms as text
+use Rattle.gb_print_text.proofs.FormSteps.{subject_Body, instr_Assign, instr_Sample, instr_Call, instr_If, instr_While, cmd_is}
 use Rattle.gb_readback.specs.Nodes as nodes
 use Rattle.gb_readback.specs.Types as type_tree
 use Rattle.gb_readback.specs.Programs as programs

@@ -14,7 +14,7 @@ use Rattle.gb_terms.specs.declared.term.Head.TheViews.{out-Term, roll-out-Term, 
 use Rattle.gb_terms.specs.declared.term.Head.TheFolds.{para-Head, para-roll-Term, para-roll-Head, para-roll-Subject, para-roll-Instr, para-roll-Cmd}
 use Rattle.gb_print_names.specs.Names.{Place, bound_name}
 use Rattle.gb_print_names.specs.Occurring.{inside}
-use Rattle.gb_print.specs.Layout.{letter}
+use Rattle.gb_print_text.specs.Layout.{letter}
 use Rattle.gb_shapes.specs.Open.{right_first}
 use Rattle.gb_readback.specs.Heads.{made}
 use Rattle.gb_readback.specs.Nodes.{tree, list}

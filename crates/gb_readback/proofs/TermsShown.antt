@@ -18,10 +18,10 @@ use Rattle.gb_print_names.specs.Names.{Place, bound_name, shown_name}
 use Rattle.gb_print_names.specs.Types as print
 use Rattle.gb_print_names.specs.Occurring.{inside}
 use Rattle.gb_shapes.specs.Open.{right_first, type_read}
-use Rattle.gb_print.specs.Layout as print_layout
-use Rattle.gb_print.specs.Layout.{letter, outcome, type_needed}
-use Rattle.gb_print.specs.Forms as text
-use Rattle.gb_print.proofs.FormSteps.{term_is}
+use Rattle.gb_print_text.specs.Layout as print_layout
+use Rattle.gb_print_text.specs.Layout.{letter, outcome, type_needed}
+use Rattle.gb_print_text.specs.Forms as text
+use Rattle.gb_print_text.proofs.FormSteps.{term_is}
 use Rattle.gb_readback.specs.Nodes as nodes
 use Rattle.gb_readback.specs.Heads as heads
 use Rattle.gb_readback.specs.Forms as tree

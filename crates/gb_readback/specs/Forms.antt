@@ -15,7 +15,7 @@ use Rattle.gb_script.specs.declared.tree.Node.{Node}
 use Rattle.gb_print_names.specs.Names.{Place, under, bound_name}
 use Rattle.gb_print_names.specs.Occurring.{inside}
 use Rattle.gb_shapes.specs.Open.{type_of, needs_type, right_first, tells}
-use Rattle.gb_print.specs.Layout.{letter, stands}
+use Rattle.gb_print_text.specs.Layout.{letter, stands}
 use Rattle.gb_shapes.specs.Shapes.{shape, stands_alone, encloses, runs_on}
 use Rattle.gb_readback.specs.Nodes.{tree, list}
 use Rattle.gb_readback.specs.Types.{procedure_tree, call_tree, type_tree}

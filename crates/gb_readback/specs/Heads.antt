@@ -24,7 +24,7 @@ use Rattle.gb_print_names.specs.declared.place.Known.{Known}
 use Rattle.gb_print_names.specs.Text.{Text}
 use Rattle.gb_print_names.specs.Names.{Name, Place, shown_name, typed_name, constants}
 use Rattle.gb_shapes.specs.Open.{type_read}
-use Rattle.gb_print.specs.Layout.{outcome, type_needed}
+use Rattle.gb_print_text.specs.Layout.{outcome, type_needed}
 use Rattle.gb_readback.specs.Nodes.{tree, spelled, leaf, list, number, word, of_words, path}
 use Rattle.gb_readback.specs.Types.{module_tree, call_tree, abstract_module, type_tree, type_operand, variable_words}
 

@@ -40,7 +40,7 @@ use Rattle.gb_print_names.specs.declared.place.Known.{Known}
 use Rattle.gb_print_names.specs.Names.{Name, Place, under, module_name, shown_name, typed_name, constants}
 use Rattle.gb_print_names.specs.Occurring.{inside}
 use Rattle.gb_shapes.specs.Open.{type_of, is_open, is_int, type_read}
-use Rattle.gb_print.specs.Layout.{letter, stands, outcome, type_needed}
+use Rattle.gb_print_text.specs.Layout.{letter, stands, outcome, type_needed}
 use Rattle.gb_readback.specs.Nodes.{words}
 
 -- Names and numbers.

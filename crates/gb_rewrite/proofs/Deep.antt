@@ -29,7 +29,7 @@ use Rattle.gb_meaning.specs.Written.{type_of}
 use Rattle.gb_meaning.specs.Trees.{places, row}
 use Rattle.gb_laws.proofs.Nodes.{judged_node, stands_node, term_is_node}
 use Rattle.gb_laws.proofs.Numberings.{lawful}
-use Rattle.gb_judge.proofs.Bools.{same_truth}
+use Rattle.gb_laws.proofs.Bools.{same_truth}
 use Rattle.gb_judge.proofs.Fair.{subject_positive}
 use Rattle.gb_changes.proofs.Heads.{Moved, Here, Under, At, Between}
 use Rattle.gb_changes.proofs.Judged.{answers_same}

@@ -44,8 +44,8 @@ use Rattle.gb_typing.proofs.Made.{EachMade, made_node}
 use Rattle.gb_typing.proofs.Sound.{Procedures, sound_form}
 use Rattle.gb_typing.proofs.Uses.{nothing_in}
 use Rattle.gb_rewrite.proofs.Closed.{IsClosed, closed_first, closed_middle, closed_last, head_within}
-use Rattle.gb_rewrite.proofs.Lifted.{lifts_zero, lifted}
-use Rattle.gb_rewrite.proofs.Steady.{form_steady}
+use Rattle.gb_amb.proofs.Lifted.{lifts_zero, lifted}
+use Rattle.gb_amb.proofs.Steady.{form_steady}
 use mathlib.Core.Former.{Count}
 
 -- nothing is read where nothing is there to read

@@ -13,8 +13,6 @@ pub mod Moved
 pub mod Replaced
 pub mod Closed
 pub mod Standing
-pub mod Lifted
-pub mod Steady
 pub mod Filled
 pub mod Applied
 pub mod Opens

@@ -119,7 +119,7 @@ module _ (x : Name) (b : Term) (c : Context) (st : IsStanding c x b) (ls : List 
     same_denominator (more_of-Instr (While' e v n a) is) w = λ i. same_denominator a w.0.2 i ^ same_turns v w.0.1.0 i * same_denominator is w.1 i
 
     module _ (s : State) where
-      same_value : (e : Term) → IsExpression c ls e → (m : Memory) → val g quiet (M e) (inside s m) ≡ val g quiet e (inside s m)
+      pub same_value : (e : Term) → IsExpression c ls e → (m : Memory) → val g quiet (M e) (inside s m) ≡ val g quiet e (inside s m)
       same_value e w m = (alike e w).0 (inside s m)
 
       values_of : {n : Count} (es : Row_of-Term n) (ps : List TypedName) → AreArguments c ls (terms_in es) ps → (m : Memory) →

@@ -73,7 +73,7 @@ carried c d f x b s = record {
 
 -- Later declarations leave the operators that are declared.
 
-one_stays : (before : Declarations) (c : Context) (k : Name) (y : Entry) → IsFree before k (declaration_of y) → (n : Name) → is_declared before n ≡ true → (with_declared c k (declaration_of y)).operator n ≡ c.operator n
+one_stays : (before : Declarations) (c : Context) (k : Name) (y : Entry) → IsFree before k → (n : Name) → is_declared before n ≡ true → (with_declared c k (declaration_of y)).operator n ≡ c.operator n
 one_stays before c k (entry.Operator o) w n e =
     ap (λ (t : Bool). if t then Some (operator_type (record { params = o.params; body = o.body })) else c.operator n) (other_name before n k e w)
 one_stays before c k (entry.AbstractOperator o) w n e =

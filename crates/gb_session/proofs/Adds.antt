@@ -1,8 +1,9 @@
 -- A command leaves what was declared and proved before it in front of what it adds.
-use Rattle.std.proofs.Common.{◌≡◌, ℕ, List, [], ◌∷◌, ◌++◌, length, take, Option, Some, None, refl, ap, sym, subst}
+use Rattle.std.proofs.Common.{◌≡◌, ℕ, Bool, true, false, is_some, if◌then◌else◌, List, [], ◌∷◌, ◌++◌, length, take, Option, Some, None, refl, ap, sym, subst}
 use Rattle.gb_core.specs.declared.place.Place.{Place}
 use Rattle.gb_core.specs.declared.refusal.Why.TheVariants.{NoGoal}
-use Rattle.gb_goal.specs.Scope.{declarations_in}
+use Rattle.gb_goal.specs.Scope.{declarations_in, entry_of, path_of}
+use Rattle.gb_goal.specs.declared.scope.Entry.TheVariants as entry
 use Rattle.gb_goal.specs.declared.sequent.Sequent.{Sequent}
 use Rattle.gb_goal.specs.Answers.{Answer}
 use Rattle.gb_goal.specs.Answers.Answer.{given}
@@ -14,9 +15,11 @@ use Rattle.gb_elab_prog.specs.Entries.{entries_given}
 use Rattle.gb_elab_mod.specs.Lemmas.{statement_given}
 use Rattle.gb_elab_prog.specs.Modules.{module_given}
 use Rattle.gb_theory.specs.Limits.{declaration_limit, each_limit, all_limit}
-use Rattle.gb_theory.specs.Built.{Session, OpenProof, with_goals}
+use Rattle.gb_theory.specs.declared.state.Claim.{Claim}
+use Rattle.gb_theory.specs.declared.state.Claim.TheVariants as claim
+use Rattle.gb_theory.specs.Built.{Session, OpenProof, with_goals, with_proved}
 use Rattle.gb_theory.specs.Combinators.{works}
-use Rattle.gb_theory.specs.Commands.{within, outside, brought, requires_files, brings, declares, opens, begun, ended, continued, WorksOn, InProof, ComesToOf, ComesTo}
+use Rattle.gb_theory.specs.Commands.{within, outside, brought, requires_files, brings, declares, loops_opened, opens, opens_loops, begun, ended, continued, WorksOn, InProof, ComesToOf, ComesTo}
 use Rattle.gb_session.proofs.Given.{nothing_given, given_is, given_bind, given_placed, if_given}
 
 -- one session has what is declared and proved in another in front
@@ -68,8 +71,22 @@ began : (s : Session) (p : OpenProof) (place : Place) (t : Session) → begun s 
 began s p place t e =
     subst (IsInFront s) (if_given p.fresh (with_goals s p p.goals) NoGoal place t e) (record { scope = whole s.scope; lemmas = whole s.lemmas })
 
+opened_loops : (s : Session) (c : Node) (place : Place) (t : Session) → opens_loops s c place ≡ given t → IsInFront s t
+opened_loops s c place t e =
+    let a = given_bind (outside s.proof place) _ t e in
+    let b = given_bind (loops_opened s.scope c place) _ t a.2 in
+    subst (IsInFront s) (given_is _ t b.2) (record { scope = whole s.scope; lemmas = whole s.lemmas })
+
+proved : (s : Session) (c : Claim) → IsInFront s (with_proved s c)
+proved s (claim.Lemma name q bs) = record { scope = front s.scope _; lemmas = front s.lemmas _ }
+proved s (claim.Loops f) = record { scope = step (is_some (entry_of s.scope (path_of f))); lemmas = whole s.lemmas }
+  where
+    step : (b : Bool) → take (length s.scope) (if b then s.scope else s.scope ++ (path_of f, entry.Terminating f) ∷ []) ≡ s.scope
+    step true = whole s.scope
+    step false = front s.scope _
+
 closed : (qs : List Sequent) (s : Session) (p : OpenProof) (place : Place) (t : Session) → ended qs s p place ≡ given t → IsInFront s t
-closed [] s p place t e = subst (IsInFront s) (given_is _ t e) (record { scope = front s.scope _; lemmas = front s.lemmas _ })
+closed [] s p place t e = subst (IsInFront s) (given_is _ t e) (proved s p.claim)
 closed (q ∷ qs) s p place t e = nothing_given _ _ t e
 
 worked : (qs : List Sequent) (s : Session) (p : OpenProof) (c : Node) (place : Place) (t : Session) → WorksOn qs s p c place (given t) → IsInFront s t
@@ -87,6 +104,7 @@ by_head s c head.Axiom parts t e = let a = given_bind (outside s.proof (place_of
 by_head s c head.Module parts t e = declared s c (place_of c) t (sym e)
 by_head s c head.AscribedModule parts t e = declared s c (place_of c) t (sym e)
 by_head s c head.Lemma (name ∷ parts) t e = opened s c (text_of name) (place_of c) t (sym e)
+by_head s c head.Termination (path ∷ []) t e = opened_loops s path (place_of c) t (sym e)
 by_head s c head.Proof parts t e = let i = in_proof s.proof (place_of c) _ t e in began s i.0 (place_of c) t (sym i.1)
 by_head s c head.Qed parts t e = let i = in_proof s.proof (place_of c) _ t e in closed i.0.goals s i.0 (place_of c) t (sym i.1)
 by_head s c head.Tactic (step ∷ more) t e =

@@ -21,7 +21,8 @@ use Rattle.gb_smt.specs.declared.apply.Open.{Open}
 use Rattle.gb_num.specs.declared.whole.Overflow as number
 use Rattle.gb_smt.specs.Equations.{used_up}
 use Rattle.gb_smt.specs.Claims.{claims_of}
-use Rattle.gb_smt.specs.Width.{width_of, is_tried}
+use Rattle.gb_variables.specs.Sizes.{is_tried}
+use Rattle.gb_smt.specs.Width.{width_of}
 use Rattle.gb_smt.specs.Assign.{found_of}
 use Rattle.gb_smt.specs.ByEquality.{ClosesByEquality}
 use Rattle.gb_smt.specs.Apply.{trial_at, trial_of, is_true, is_found_true, shown_by, out_of_range_or, refuted_by, left_open, open_outcome, outcome_of, Closes, IsClosed, IsReason, IsTriedAnswer, IsOpen, IsFirstOpen, IsAnswer, IsAnswerOf}

@@ -1,10 +1,8 @@
 pub mod Splits
 pub mod Layers
 pub mod Uses
-pub mod Noted
 pub mod Sizes
 mod Scripts
-pub mod Marks
 pub mod Parts
 pub mod Findings
 pub mod Trials

@@ -10,7 +10,8 @@ use Rattle.gb_eval.specs.Known.{known_at, known_in, known_of}
 use Rattle.gb_eval.specs.Eval.{operators_at, operators_in, operators_of}
 use Rattle.gb_eval.proofs.Environments.{in_is, of_is}
 use Rattle.gb_eval.proofs.Opened.{open_is, closed_is}
-use Rattle.gb_smt.specs.Width.{Tys, bound_at, bound_in, bound_of, bound_types}
+use Rattle.gb_variables.specs.Sizes.{Tys}
+use Rattle.gb_smt.specs.Width.{bound_at, bound_in, bound_of, bound_types}
 
 module _ (s : Script) (ds : Declarations) (p : s.scope.now ≡ ds) (q : s.depth ≡ length ds) where
   pub all_known : known_in s ≡ known_of ds

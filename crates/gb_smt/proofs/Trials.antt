@@ -15,7 +15,8 @@ use Rattle.gb_smt.specs.declared.apply.Open.{Open}
 use Rattle.gb_smt.specs.declared.apply.Trial.{Trial}
 use Rattle.gb_smt.specs.declared.apply.Tried.{Tried}
 use Rattle.gb_smt.specs.declared.apply.Tried.TheVariants.{Closed}
-use Rattle.gb_smt.specs.Width.{width_of, is_tried, greater}
+use Rattle.gb_variables.specs.Sizes.{is_tried, greater}
+use Rattle.gb_smt.specs.Width.{width_of}
 use Rattle.gb_smt.specs.Assign.{found_of}
 use Rattle.gb_smt.specs.Apply.{trial_at, trial_of, is_true, is_found_true, open_at, and_then, nothing_open, shown_by, open_after, left_open, open_outcome, outcome_of, IsClosed, IsAnswer, IsFirstOpen}
 

@@ -12,12 +12,12 @@ use Rattle.gb_eval.specs.declared.env.ReadValue.{ReadValue}
 use Rattle.gb_eval.specs.Findings.{Comes}
 use Rattle.gb_eval.specs.Findings.Comes.{found}
 use Rattle.gb_smt.specs.declared.claims.Claim.{Claim}
-use Rattle.gb_smt.specs.declared.variables.Variable.{Variable}
-use Rattle.gb_smt.specs.Variables.{Vars}
+use Rattle.gb_variables.specs.declared.variables.Variable.{Variable}
+use Rattle.gb_variables.specs.Variables.{Vars}
 use Rattle.gb_smt.specs.declared.assign.Found.TheVariants.{False}
 use Rattle.gb_goal.specs.Scope.{Declarations}
 use Rattle.gb_smt.specs.Assign.{environment_of, assignment, with_values, implied, truth_under, truth_at, found_under}
-use Rattle.gb_smt.proofs.Sizes.{product, are_finite, place_below}
+use Rattle.gb_variables.proofs.Products.{product, are_finite, place_below}
 
 -- the number of assignments to variables, and the values of the one at a place
 abbrev pub count : Vars → ℕ

@@ -22,7 +22,8 @@ use Rattle.gb_smt.specs.declared.apply.Open.{Open}
 use Rattle.gb_num.specs.declared.whole.Overflow as number
 use Rattle.gb_smt.specs.Equations.{used_up}
 use Rattle.gb_smt.specs.Claims.{claims_of}
-use Rattle.gb_smt.specs.Width.{width_of, is_tried, greater}
+use Rattle.gb_variables.specs.Sizes.{is_tried, greater}
+use Rattle.gb_smt.specs.Width.{width_of}
 use Rattle.gb_smt.specs.Assign.{IsTrueEverywhere, found_of}
 use Rattle.gb_smt.specs.Atoms.{atoms_of, IsCount}
 use Rattle.gb_smt.specs.ByEquality.{ClosesByEquality}

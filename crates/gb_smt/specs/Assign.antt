@@ -17,7 +17,7 @@ use Rattle.gb_eval.specs.Eval as eval
 use Rattle.gb_smt.specs.declared.claims.Claim.{Claim}
 use Rattle.gb_smt.specs.declared.assign.Found.{Found}
 use Rattle.gb_smt.specs.declared.assign.Found.TheVariants.{True, False, Unknown, Overflow}
-use Rattle.gb_smt.specs.Variables.{Vars}
+use Rattle.gb_variables.specs.Variables.{Vars}
 
 -- the type whose values are the assignments
 abbrev pub assignments : Claim → Ty

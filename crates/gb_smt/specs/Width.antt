@@ -1,10 +1,9 @@
 -- How many assignments there are to the variables of a claim and to those bound in it.
-use Rattle.std.specs.Prelude.{ℕ, ◌^◌, Bool, false, ◌&&◌, if◌then◌else◌, nat_le, max, List, [], ◌∷◌, ◌++◌, length, map}
+use Rattle.std.specs.Prelude.{ℕ, Bool, ◌&&◌, if◌then◌else◌, List, [], ◌∷◌, ◌++◌, length, map}
 use Rattle.std.specs.List.{list_all, flat_map}
-use Rattle.gb_core.specs.declared.ty.Ty.{Ty}
 use Rattle.gb_core.specs.declared.ty.Ty.TheVariants.{Mod, Tuple}
 use Rattle.gb_core.specs.declared.value.Card.{Card}
-use Rattle.gb_core.specs.declared.value.Card.TheVariants.{Exact, Above}
+use Rattle.gb_core.specs.declared.value.Card.TheVariants.{Above}
 use Rattle.gb_types.specs.Types.{card_of}
 use Rattle.gb_terms.specs.declared.term.Term.{Term, Term', Row_of-Term, end_of-Term, more_of-Term, end_of-Head, more_of-Head}
 use Rattle.gb_terms.specs.declared.term.Head.{Head}
@@ -17,10 +16,8 @@ use Rattle.gb_eval.specs.declared.script.Script.{Script}
 use Rattle.gb_eval.specs.Script.{opened}
 use Rattle.gb_reads.specs.Reads.{reads_of}
 use Rattle.gb_eval.specs.Known.{is_known, known_of}
+use Rattle.gb_variables.specs.Sizes.{Tys, of_memory}
 use Rattle.gb_smt.specs.declared.claims.Claim.{Claim}
-
-abbrev pub Tys : Type 0
-Tys = List Ty
 
 -- that of the outcomes of the first of these types, which is of a distribution
 abbrev pub of_outcomes : Tys → Tys
@@ -38,17 +35,6 @@ bound_by bs head.Mu us = of_outcomes us
 bound_by bs head.Map us = of_outcomes us
 bound_by bs head.Restrict us = of_outcomes us
 bound_by bs _ us = []
-
--- the types at which variables are read of the memory that a head binds, where its argument reads at these
-abbrev pub of_memory : Head → Tys → Tys
-of_memory head.AllMemory us = us
-of_memory head.SomeMemory us = us
-of_memory h us = []
-
--- the types at which an only argument reads of the memory that its head binds
-abbrev pub read_by_only : List Term → Tys
-read_by_only (t ∷ []) = map (λ x. x.ty) (reads_of t)
-read_by_only _ = []
 
 abbrev pub only_reads : {n : _} → Row_of-Term n → Tys
 only_reads (more_of-Term t end_of-Term) = map (λ x. x.ty) (reads_of t)
@@ -89,12 +75,3 @@ module _ (ds : Declarations) where
   -- the width of a claim: above, where a part of it is opaque to evaluation
   abbrev pub width_of : Claim → Card
   width_of c = if is_known_claim c then assignments_of c else Above
-
--- a claim of this width is tried
-abbrev pub is_tried : Card → Bool
-is_tried (Exact n) = nat_le n (2 ^ 20)
-is_tried Above = false
-
-abbrev pub greater : Card → Card → Card
-greater (Exact m) (Exact n) = Exact (max m n)
-greater _ _ = Above

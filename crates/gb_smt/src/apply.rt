@@ -13,7 +13,7 @@ use crate::by_equality::closes_by_equality;
 use crate::claims::{Claim, claims};
 use crate::equations::used_up;
 use crate::leaves::{Leaf, leaves};
-use crate::width::{greater, is_tried, width};
+use crate::width::width;
 use gb_core::place::Place;
 use gb_core::refusal::{Refused, Why};
 use gb_core::value::{Card, Values};
@@ -22,6 +22,7 @@ use gb_goal::sequent::{Sequent, Sequents};
 use gb_num::Overflow;
 use gb_shared::Shared;
 use gb_terms::term::Term;
+use gb_variables::sizes::{greater, is_tried};
 use sqlite_items::Items;
 use std::alloc::{AllocError, Global};
 

@@ -9,8 +9,6 @@ ghost use Rattle.gb_eval.specs.Eval.{environment};
 ghost use Rattle.gb_smt.specs.Assign.{assignments, assignment, environment_of, with_values, implied, truth_at, found_under, found_of};
 
 use crate::claims::Claim;
-use crate::variables::Variable;
-use crate::width::{number_of_values, size_of_variables};
 use gb_core::value::{Card, Value, Values};
 use gb_eval::answer::Stop;
 use gb_eval::env::{Env, ReadValue, ReadValues};
@@ -21,6 +19,8 @@ use gb_num::Overflow;
 use gb_terms::term::Term;
 use gb_types::nth::nth;
 use gb_types::size::size;
+use gb_variables::sizes::{number_of_values, size_of_variables};
+use gb_variables::variables::Variable;
 use sqlite_items::Items;
 use std::alloc::{AllocError, Global};
 

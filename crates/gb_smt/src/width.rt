@@ -1,49 +1,24 @@
 // The width of a claim: how many assignments there are to its variables and to those bound in it.
 
-ghost use Rattle.std.specs.Prelude.{◌≡◌, ◌≤◌, ◌*◌, ◌^◌, ◌&&◌, true, if◌then◌else◌, nat_lt, map, min, IfOk};
+ghost use Rattle.std.specs.Prelude.{◌≡◌, ◌^◌, true, map, min, IfOk};
 ghost use Rattle.std.specs.List.{flat_map};
-ghost use Rattle.gb_core.specs.declared.ty.Ty.TheVariants.{Tuple};
-ghost use Rattle.gb_core.specs.declared.value.Card.TheVariants.{Exact, Above};
 ghost use Rattle.gb_types.specs.Numbering.{tuples};
-ghost use Rattle.gb_types.specs.Types.{all_true, is_finite, numbering, size_of, card_of};
-ghost use Rattle.gb_meaning.specs.Operators.{outcome_type};
+ghost use Rattle.gb_types.specs.Types.{numbering};
 ghost use Rattle.gb_meaning.specs.Written.{type_of};
-ghost use Rattle.gb_smt.specs.Width.{bound_by, bound_in, bound_types, is_known_claim, assignments_of, of_memory, read_by_only, width_of, is_tried, greater};
+ghost use Rattle.gb_smt.specs.Width.{bound_by, bound_in, bound_types, is_known_claim, assignments_of, width_of};
 
 use crate::claims::Claim;
-use crate::variables::Variable;
 use gb_core::name::Name;
-use gb_core::ty::Ty;
 use gb_core::value::Card;
 use gb_eval::known::{are_known, is_known};
 use gb_eval::script::{Script, body_of, inside, script_of};
 use gb_goal::scope::Scope;
-use gb_reads::reads::{TypedVar, reads};
 use gb_terms::term::{Head, Term};
-use gb_types::size::{MANY, is_finite, size};
+use gb_types::size::{MANY, size};
+use gb_variables::sizes::{
+    are_finite, bound_size_of_memory, card_at, size_of_outcomes, size_of_variables, times,
+};
 use std::alloc::{AllocError, Global};
-
-/// The largest width of a claim that is tried, and the number of assignments at most.
-pub const MOST: u64 = 1 << 20;
-
-/// The product, up to `MANY`.
-fn times(a: u64, b: u64) -> u64
-    requires left { a ≤ 2 ^ 63 }
-    requires right { b ≤ 2 ^ 63 }
-    ensures { result ≡ min (a * b) (2 ^ 63) }
-{
-    a.saturating_mul(b).min(MANY)
-}
-
-/// The size of the type of the outcomes of a distribution, up to `MANY`.
-fn size_of_outcomes(ty: &Ty) -> u64
-    ensures { result ≡ min (size_of (outcome_type ty.now)) (2 ^ 63) }
-{
-    match ty {
-        Ty::Distr(outcomes) => size(outcomes.get()),
-        _ => 1,
-    }
-}
 
 /// The product of the sizes of the types of the variables that are bound in the body of an operator of the script, up to `MANY`.
 #[cycle(bound_size)]
@@ -83,33 +58,6 @@ fn bound_size_of_head(
     }
 }
 
-/// The product of the sizes of the types at which variables are read, up to `MANY`.
-fn size_of_reads(variables: &[TypedVar]) -> u64
-    ensures { result ≡ min (tuples (map numbering (map (λ x. x.ty) variables.now))) (2 ^ 63) }
-{
-    let mut all = 1;
-    for variable in variables {
-        all = times(all, size(variable.ty.get()));
-    }
-    all
-}
-
-/// The product of the sizes of what is read of the memory that a head binds, up to `MANY`.
-fn bound_size_of_memory(alloc: Global, head: &Head, args: &[Term]) -> Result<u64, AllocError>
-    ensures { IfOk result (λ n. n ≡ min (tuples (map numbering (of_memory head.now (read_by_only args.now)))) (2 ^ 63)) }
-{
-    match head {
-        Head::AllMemory | Head::SomeMemory => match args {
-            [body] => {
-                let variables = reads(alloc, body)?;
-                Ok(size_of_reads(variables.as_slice()))
-            }
-            _ => Ok(1),
-        },
-        _ => Ok(1),
-    }
-}
-
 /// The product of the sizes of the types of the variables that are bound in a term, and of what is read of memories that are bound
 /// in it, up to `MANY`.
 #[cycle(bound_size)]
@@ -135,47 +83,6 @@ fn bound_size_of_all(alloc: Global, list: &[Term], script: &Script<'_>) -> Resul
         all = times(all, one);
     }
     Ok(all)
-}
-
-/// The product of the sizes of the types of variables, up to `MANY`.
-pub fn size_of_variables(variables: &[Variable]) -> u64
-    ensures { result ≡ min (tuples (map numbering (map (λ v. v.ty) variables.now))) (2 ^ 63) }
-{
-    let mut all = 1;
-    for variable in variables {
-        all = times(all, size(variable.ty.get()));
-    }
-    all
-}
-
-/// Whether the types of variables have numbers of values of their own.
-fn are_finite(variables: &[Variable]) -> bool
-    ensures { result ≡ all_true (map is_finite (map (λ v. v.ty) variables.now)) }
-{
-    for variable in variables {
-        if !is_finite(variable.ty.get()) {
-            return false;
-        }
-    }
-    true
-}
-
-/// A number of values, where there is one below `MANY`.
-fn card_at(finite: bool, count: u64) -> Card
-    ensures { result ≡ (if finite && nat_lt count (2 ^ 63) then Exact count else Above) }
-{
-    if finite && count < MANY {
-        Card::Exact(count)
-    } else {
-        Card::Above
-    }
-}
-
-/// The number of assignments to variables.
-pub fn number_of_values(variables: &[Variable]) -> Card
-    ensures { result ≡ card_of (Tuple (map (λ v. v.ty) variables.now)) }
-{
-    card_at(are_finite(variables), size_of_variables(variables))
 }
 
 /// The number of assignments to the variables of a claim and to those bound in it, whose types are finite.
@@ -211,28 +118,5 @@ pub fn width(alloc: Global, claim: &Claim, scope: &Scope) -> Result<Card, AllocE
         number_of_assignments(alloc, claim, scope)
     } else {
         Ok(Card::Above)
-    }
-}
-
-/// Whether a claim of this width is tried.
-pub fn is_tried(width: Card) -> bool
-    ensures { result ≡ is_tried width }
-{
-    match width {
-        Card::Exact(n) => n <= MOST,
-        Card::Above => false,
-    }
-}
-
-/// The greater of two widths.
-pub fn greater(a: Card, b: Card) -> Card
-    ensures { result ≡ greater a b }
-{
-    match a {
-        Card::Exact(m) => match b {
-            Card::Exact(n) => Card::Exact(m.max(n)),
-            Card::Above => Card::Above,
-        },
-        Card::Above => Card::Above,
     }
 }

@@ -114,7 +114,7 @@ module _ (table : Table) where
   types_stay s k (abstract_operator o) = refl
   types_stay s k _ = refl
 
-  one_stays : (before : Declarations) (s : Setting) (k : Name) (d : Declaration) → IsFree before k d → (n : Name) → is_declared before n ≡ true → SameOperator (with_declaration table s k d) s n
+  one_stays : (before : Declarations) (s : Setting) (k : Name) (d : Declaration) → IsFree before k → (n : Name) → is_declared before n ≡ true → SameOperator (with_declaration table s k d) s n
   one_stays before s k (operator o) w n e =
       let q = other_name before n k e w in
       (λ i xs. if q i then val s quiet o.body (at_arguments xs) else s.operator n xs, λ i. if q i then denominator s o.body else s.denominator n)

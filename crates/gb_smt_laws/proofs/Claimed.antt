@@ -27,9 +27,10 @@ use Rattle.gb_eval.specs.Known.{is_known, known_of}
 use Rattle.gb_eval.specs.Eval.{operators_of}
 use Rattle.gb_eval.specs.Meant.{AreOperators}
 use Rattle.gb_smt.specs.declared.claims.Claim.{Claim}
-use Rattle.gb_smt.specs.Variables.{Vars, variables_in}
+use Rattle.gb_variables.specs.Variables.{Vars, variables_in}
 use Rattle.gb_smt.specs.Claims.{claim_of}
-use Rattle.gb_smt.specs.Width.{assignments_of, width_of, is_tried, is_known_claim}
+use Rattle.gb_variables.specs.Sizes.{is_tried}
+use Rattle.gb_smt.specs.Width.{assignments_of, width_of, is_known_claim}
 use Rattle.gb_smt.specs.Assign.{assignment, environment_of, with_values, truth_under, IsTrueEverywhere}
 use Rattle.gb_smt.specs.Apply.{Closes}
 use Rattle.gb_smt.specs.Meant.{AreTrue, IsRight}

@@ -12,13 +12,13 @@ use Rattle.gb_meaning.specs.Meanings.{truth}
 use Rattle.gb_meaning.specs.State.{State}
 use Rattle.gb_meaning.specs.Terms.{Speaks}
 use Rattle.gb_laws.proofs.Nodes.{val_node}
-use Rattle.gb_judge.proofs.Truths.{truth_of}
+use Rattle.gb_laws.proofs.Truths.{truth_of}
 use Rattle.gb_goal.specs.Scope.{Declarations}
 use Rattle.gb_eval.specs.Eval.{operators_of}
 use Rattle.gb_eval.specs.Meant.{AreOperators}
 use Rattle.gb_smt.specs.declared.leaves.Leaf.{Leaf}
-use Rattle.gb_smt.specs.Variables.{Vars, variables}
-use Rattle.gb_smt.specs.Components.{is_joined, inside, outside}
+use Rattle.gb_variables.specs.Variables.{Vars, variables}
+use Rattle.gb_variables.specs.Components.{is_joined, inside, outside}
 use Rattle.gb_smt.specs.Claims.{claim_of, contradiction, contradictions, first_variables, component_and, components, components_of, claims_of}
 use Rattle.gb_smt.specs.Apply.{Closes}
 use Rattle.gb_smt_laws.specs.Reading.{Reading, IsReadingOf}

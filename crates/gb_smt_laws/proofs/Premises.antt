@@ -17,7 +17,7 @@ use Rattle.gb_meaning.specs.Trees.{places, row}
 use Rattle.gb_meaning.specs.Terms.{Speaks, argument, val, parts}
 use Rattle.gb_meaning.specs.Commands.{terms_in}
 use Rattle.gb_laws.proofs.Nodes.{term_is_node}
-use Rattle.gb_judge.proofs.Truths.{truth_of}
+use Rattle.gb_laws.proofs.Truths.{truth_of}
 use Rattle.gb_changes.proofs.Changed.{term_changed_is}
 use Rattle.gb_changes.proofs.Changing.{kept_at, arguments_of}
 use Rattle.gb_smt.specs.Meant.{IsRight}

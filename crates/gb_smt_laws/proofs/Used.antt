@@ -22,7 +22,7 @@ use Rattle.gb_meaning.specs.State.{State}
 use Rattle.gb_meaning.specs.Terms.{Speaks, read_at, val, denominator}
 use Rattle.gb_laws.proofs.Nodes.{each_is_node, val_node}
 use Rattle.gb_laws.proofs.Values.{value_eq-true}
-use Rattle.gb_judge.proofs.Truths.{truth_of}
+use Rattle.gb_laws.proofs.Truths.{truth_of}
 use Rattle.gb_smt.specs.declared.leaves.Leaf.{Leaf}
 use Rattle.gb_smt.specs.Meant.{IsRight}
 use Rattle.gb_smt.specs.Equations.{use_of, one_further, here_or_further, first_usable, others, with_used, if_usable, used_up_to}

@@ -17,7 +17,7 @@ use Rattle.gb_meaning.specs.Values.{Types, has}
 use Rattle.gb_meaning.specs.Judgments.{Judge, IsFair, speaking, den}
 use Rattle.gb_meaning.specs.Operators.{operated}
 use Rattle.gb_meaning.specs.Terms.{argument, parts}
-use Rattle.gb_judge.proofs.Truths.{truth_of}
+use Rattle.gb_laws.proofs.Truths.{truth_of}
 use Rattle.gb_holds.specs.Holds.{AreValues, context}
 use Rattle.gb_typed.specs.Finite.{IsFinite}
 use Rattle.gb_typed.specs.Operators.{IsOperator}

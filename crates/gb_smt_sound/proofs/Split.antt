@@ -19,7 +19,7 @@ use Rattle.gb_meaning.specs.Setting.{Setting}
 use Rattle.gb_meaning.specs.Values.{has}
 use Rattle.gb_meaning.specs.Written.{type_of}
 use Rattle.gb_meaning.specs.Judgments.{Judge, IsFair, den}
-use Rattle.gb_judge.proofs.Truths.{true_and, true_implies, true_all, true_all_memory}
+use Rattle.gb_laws.proofs.Truths.{true_and, true_implies, true_all, true_all_memory}
 use Rattle.gb_changes.proofs.Changed.{term_changed_is}
 use Rattle.gb_holds.specs.Holds.{context}
 use Rattle.gb_typed.specs.Typing.Binder.{value, memory}

@@ -21,7 +21,7 @@ use Rattle.gb_meaning.specs.Terms.{read_at, val}
 use Rattle.gb_meaning.specs.Judgments.{Judge, IsFair, speaking, den}
 use Rattle.gb_meaning.specs.Written.{type_of}
 use Rattle.gb_laws.proofs.Nodes.{each_is_node, val_node}
-use Rattle.gb_judge.proofs.Truths.{truth_of}
+use Rattle.gb_laws.proofs.Truths.{truth_of}
 use Rattle.gb_holds.specs.Holds.{context}
 use Rattle.gb_typed.specs.Operators.{IsNoDistribution}
 use Rattle.gb_typed.specs.Typing.{IsHead}

@@ -2,7 +2,7 @@
 use Rattle.std.specs.Prelude.{List, [], ◌∷◌}
 use Rattle.gb_terms.specs.declared.term.Term.{Term}
 use Rattle.gb_steps.specs.declared.step.Rule.{Rule}
-use Rattle.gb_steps.specs.declared.step.Rule.TheVariants.{Smt, Rewrite}
+use Rattle.gb_steps.specs.declared.step.Rule.TheVariants.{CallKnown, Rewrite, Smt}
 use Rattle.gb_steps.specs.declared.step.RewriteRule.{RewriteRule}
 use Rattle.gb_steps.specs.declared.step.RewriteRule.TheVariants.{Forward, Back, Subst, Unfold}
 
@@ -16,4 +16,5 @@ rewrites_by (Unfold x) = []
 abbrev pub told : Rule → List Term
 told (Smt fs) = fs
 told (Rewrite r) = rewrites_by r
+told (CallKnown a f) = f ∷ []
 told r = []

@@ -3,6 +3,8 @@
 use gb_core::name::Name;
 use gb_core::place::Place;
 use gb_num::Frac;
+use gb_shared::Shared;
+use gb_terms::module::ProcRef;
 use gb_terms::term::{Form, RealTerm, Term, Terms};
 use sqlite_items::Items;
 
@@ -25,6 +27,10 @@ pub enum Rule {
     Relational(RelationalRule),
     Chance(ChanceRule),
     Call(Contract),
+    /// As by `Call`, by a judgment of the procedure that is known.
+    CallKnown(Acts, Form),
+    While(Invariant),
+    Transform(Acts, Transformation),
     Ambient(AmbientRule),
     Use(UseRule),
     Rewrite(RewriteRule),
@@ -40,6 +46,9 @@ impl Drop for Rule {
             Rule::Relational(rule) => drop(rule),
             Rule::Chance(_) => {}
             Rule::Call(contract) => drop(contract),
+            Rule::CallKnown(_, judgment) => drop(judgment),
+            Rule::While(invariant) => drop(invariant),
+            Rule::Transform(_, rule) => drop(rule),
             Rule::Ambient(rule) => drop(rule),
             Rule::Use(rule) => drop(rule),
             Rule::Rewrite(rule) => drop(rule),
@@ -106,6 +115,22 @@ pub enum RelationalRule {
     Rnd(Terms),
     /// The programs exchange their places.
     Symmetry,
+    /// The sampling that ends the program on a side leaves.
+    Drawn(Acts),
+    /// Both procedures by way of a third one.
+    Transitivity(Between),
+    /// Two programs of the same statements, by what they read.
+    Sim,
+}
+
+/// A procedure between two others: what is to hold before and after the left one and it, and before and after it and the right one.
+#[derive(Drop)]
+pub struct Between {
+    pub procedure: Shared<ProcRef>,
+    pub left_pre: Form,
+    pub left_post: Form,
+    pub right_pre: Form,
+    pub right_post: Form,
 }
 
 /// A rule on judgments with a probability.
@@ -123,6 +148,43 @@ pub struct Contract {
     pub acts: Acts,
     pub pre: Form,
     pub post: Form,
+}
+
+/// What each turn keeps of the loops that end the programs on which a step acts.
+#[derive(Drop)]
+pub struct Invariant {
+    pub acts: Acts,
+    pub kept: Form,
+}
+
+/// A rule that puts other statements into a program, of which the place of the first is 1.
+#[derive(Drop)]
+pub enum Transformation {
+    /// A statement passes others.
+    Swap(Passing),
+    /// The statement at a place leaves.
+    Kill(u128),
+    /// An `if` or a loop at a place, whose guard is always true there, or always false.
+    Decided(u128, bool),
+    /// One turn of the loop at a place stands in front of it.
+    Unroll(u128),
+    /// Bodies in place of calls.
+    Inline(Calls),
+}
+
+/// The statement that passes others, by its place, and over how many it goes: to the front, or to the back.
+#[derive(Clone, Copy)]
+pub struct Passing {
+    pub at: u128,
+    pub by: u128,
+    pub front: bool,
+}
+
+/// Calls of a program: those of one procedure, or all.
+#[derive(Drop)]
+pub enum Calls {
+    Of(Shared<ProcRef>),
+    All,
 }
 
 /// A rule on conclusions of every kind and the hypotheses around them.

@@ -81,7 +81,7 @@ fn step(alloc: Global, scope: &Scope, goals: &mut Goals) -> Result<(), Refused> 
         place,
     };
     if let Some(first) = goals.get(0) {
-        let next = gb_equiv::apply(alloc, &step, first, scope)?;
+        let next = gb_relational::apply(alloc, &step, first, scope)?;
         goals.replace_first(next)?;
     }
     Ok(())

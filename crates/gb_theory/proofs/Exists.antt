@@ -34,9 +34,10 @@ use Rattle.gb_smt.specs.Apply.{IsAnswerOf}
 use Rattle.gb_amb.specs.Steps.{IsAnswer}
 use Rattle.gb_linear.specs.Closing.{linear_answer}
 use Rattle.gb_use.specs.Uses as uses
+use Rattle.gb_call_known.proofs.Answered as known_calls
 use Rattle.gb_rewrite.specs.Rewriting.{rewrite_answer}
 use Rattle.gb_theory.specs.Built.{Session, OpenProof, fresh_session}
-use Rattle.gb_theory.specs.Commands.{After, requires_files, assumes, brings, declares, opens, begun, ended, closed_unless, row_of, Applied, allowed, RuleAnswers, AreRules, continued, WorksOn, InProof, Proves, ComesToOf, ComesTo}
+use Rattle.gb_theory.specs.Commands.{After, requires_files, assumes, brings, declares, opens, opens_loops, begun, ended, closed_unless, row_of, Applied, allowed, entered, RuleAnswers, AreRules, continued, WorksOn, InProof, Proves, ComesToOf, ComesTo}
 use Rattle.gb_theory.specs.Combinators.{Stepping, works}
 use Rattle.gb_theory.specs.Outcome.{IsReadAs, IsEnd, Ends, Goes, RunsIn, start, IsOutcome}
 
@@ -59,10 +60,13 @@ module _
     (some_use_answer : (r : UseRule) (place : Place) (q : Sequent) → (x : Answer (List Sequent)) × uses.IsAnswer r place q x) where
   applied : (ds : Declarations) (r : Rule) (place : Place) (q : Sequent) → Some_of (Applied ds r place q)
   applied ds (rule.Smt known) place q = let found = an_answer ds (leaves_of known q) in (closed_unless found.0 place, (found.0, found.1, refl))
-  applied ds (rule.OnBodies r) place q = (stepped (row_of ds (rule.OnBodies r)) place q, refl)
+  applied ds (rule.OnBodies r) place q = (entered ds r place q, refl)
   applied ds (rule.Relational r) place q = (stepped (row_of ds (rule.Relational r)) place q, refl)
   applied ds (rule.Chance r) place q = (stepped (row_of ds (rule.Chance r)) place q, refl)
   applied ds (rule.Call s) place q = (stepped (row_of ds (rule.Call s)) place q, refl)
+  applied ds (rule.CallKnown a f) place q = known_calls.some_answer ds a f place q
+  applied ds (rule.While i) place q = (stepped (row_of ds (rule.While i)) place q, refl)
+  applied ds (rule.Transform a t) place q = (stepped (row_of ds (rule.Transform a t)) place q, refl)
   applied ds (rule.Ambient r) place q = some_answer r place q
   applied ds (rule.Linear ms) place q = (linear_answer ms place q, refl)
   applied ds (rule.Use r) place q = some_use_answer r place q
@@ -95,6 +99,7 @@ module _
   come_of s c head.Module parts = (declares s c (place_of c), refl)
   come_of s c head.AscribedModule parts = (declares s c (place_of c), refl)
   come_of s c head.Lemma (name ∷ parts) = (opens s c (text_of name) (place_of c), refl)
+  come_of s c head.Termination (path ∷ []) = (opens_loops s path (place_of c), refl)
   come_of s c head.Proof parts = in_proof s.proof (place_of c) (λ p x. x ≡ begun s p (place_of c)) (λ p. (begun s p (place_of c), refl))
   come_of s c head.Qed parts = in_proof s.proof (place_of c) (λ p x. x ≡ ended p.goals s p (place_of c)) (λ p. (ended p.goals s p (place_of c), refl))
   come_of s c head.Tactic (step ∷ more) = proved s c (place_of step)

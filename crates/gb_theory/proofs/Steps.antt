@@ -15,13 +15,15 @@ use Rattle.gb_steps.specs.declared.step.Step.{Step}
 use Rattle.gb_script.specs.declared.tree.Node.{Node}
 use Rattle.gb_goal.specs.Answers.{Answer, Answers, Gives, Fails, ◌>>=◌}
 use Rattle.gb_goal.specs.Rows.{stepped}
+use Rattle.gb_steps.specs.declared.step.Acts.{Acts}
 use Rattle.gb_steps.specs.declared.step.AmbientRule.{AmbientRule}
 use Rattle.gb_steps.specs.declared.step.RewriteRule.{RewriteRule}
 use Rattle.gb_steps.specs.declared.step.UseRule.{UseRule}
+use Rattle.gb_loops.specs.While.{while_row}
 use Rattle.gb_steps.specs.declared.step.BodyRule.{BodyRule}
+use Rattle.gb_steps.specs.declared.step.Invariant.{Invariant}
 use Rattle.gb_steps.specs.declared.step.RelationalRule.{RelationalRule}
-use Rattle.gb_bodies.specs.Rows as bodies
-use Rattle.gb_equiv.specs.Rows as equiv
+use Rattle.gb_relational.specs.Rows as equiv
 use Rattle.gb_goal.specs.Answers.Answer.{given, refused}
 use Rattle.gb_elab_mod.specs.Steps.{step_given}
 use Rattle.gb_smt.specs.Leaves.{leaves_of}
@@ -29,10 +31,11 @@ use Rattle.gb_smt.specs.Apply.{IsResult}
 use Rattle.gb_amb.specs.Steps.{IsAnswer, Returns}
 use Rattle.gb_linear.specs.Closing.{linear_answer}
 use Rattle.gb_use.specs.Uses as uses
+use Rattle.gb_call_known.specs.Known as known_calls
 use Rattle.gb_rewrite.specs.Rewriting.{rewrite_answer}
 use Rattle.gb_theory.specs.Built.{Session, OpenProof, with_goals}
 use Rattle.gb_theory.specs.Combinators.{Stepping, works}
-use Rattle.gb_theory.specs.Commands.{After, allowed, row_of, Applied, AreRules, RuleAnswers, continued, WorksOn}
+use Rattle.gb_theory.specs.Commands.{After, allowed, entered, row_of, Applied, AreRules, RuleAnswers, continued, WorksOn}
 use Rattle.gb_theory.specs.Sessions.{Meets, IsDue}
 use Rattle.gb_theory.proofs.Answered.{gives_meets}
 
@@ -49,36 +52,43 @@ pub smt_meets : (ds : Declarations) (r : Rule) (known : List Term) (place : Plac
 smt_meets ds r known place q result is h =
     subst (λ x. Meets (λ (y : List Sequent). y) (Applied ds x place q) result) (sym is) (of_smt ds known place q result h)
 
+-- what is returned as one of the wanted answers
+returned : (P : Answer (List Sequent) → Type 0) (result : Result (List Sequent) Refused) → Returns P result → Meets (λ (x : List Sequent). x) P result
+returned P (Ok qs) h = h
+returned P (Err NoMemory) h = h
+returned P (Err ReadFault) h = h
+returned P (Err (Script why at)) h = h
+
 -- what a step on a conclusion gives is what is applied
 pub ambient_meets : (ds : Declarations) (r : Rule) (b : AmbientRule) (place : Place) (q : Sequent) (result : Result (List Sequent) Refused)
     → r ≡ rule.Ambient b → Returns (IsAnswer b place q) result → Meets (λ (x : List Sequent). x) (Applied ds r place q) result
 ambient_meets ds r b place q result is h =
-    subst (λ x. Meets (λ (y : List Sequent). y) (Applied ds x place q) result) (sym is) (returned result h)
-  where
-    returned : (result : Result (List Sequent) Refused) → Returns (IsAnswer b place q) result → Meets (λ (x : List Sequent). x) (IsAnswer b place q) result
-    returned (Ok qs) h = h
-    returned (Err NoMemory) h = h
-    returned (Err ReadFault) h = h
-    returned (Err (Script why at)) h = h
+    subst (λ x. Meets (λ (y : List Sequent). y) (Applied ds x place q) result) (sym is) (returned (IsAnswer b place q) result h)
 
 -- what a step that uses a form gives is what is applied
 pub use_meets : (ds : Declarations) (r : Rule) (b : UseRule) (place : Place) (q : Sequent) (result : Result (List Sequent) Refused)
     → r ≡ rule.Use b → Returns (uses.IsAnswer b place q) result → Meets (λ (x : List Sequent). x) (Applied ds r place q) result
 use_meets ds r b place q result is h =
-    subst (λ x. Meets (λ (y : List Sequent). y) (Applied ds x place q) result) (sym is) (returned result h)
-  where
-    returned : (result : Result (List Sequent) Refused) → Returns (uses.IsAnswer b place q) result → Meets (λ (x : List Sequent). x) (uses.IsAnswer b place q) result
-    returned (Ok qs) h = h
-    returned (Err NoMemory) h = h
-    returned (Err ReadFault) h = h
-    returned (Err (Script why at)) h = h
+    subst (λ x. Meets (λ (y : List Sequent). y) (Applied ds x place q) result) (sym is) (returned (uses.IsAnswer b place q) result h)
+
+-- what `call` by what is known gives is what is applied
+pub known_meets : (ds : Declarations) (r : Rule) (a : Acts) (f : Term) (place : Place) (q : Sequent) (result : Result (List Sequent) Refused)
+    → r ≡ rule.CallKnown a f → Returns (known_calls.IsAnswer ds a f place q) result → Meets (λ (x : List Sequent). x) (Applied ds r place q) result
+known_meets ds r a f place q result is h =
+    subst (λ x. Meets (λ (y : List Sequent). y) (Applied ds x place q) result) (sym is) (returned (known_calls.IsAnswer ds a f place q) result h)
 
 -- what a row gives is what is applied
 pub body_meets : (ds : Declarations) (r : Rule) (b : BodyRule) (place : Place) (q : Sequent) (result : Result (List Sequent) Refused)
-    → r ≡ rule.OnBodies b → Answers (stepped (bodies.rule_row ds r) place q) result → Meets (λ (x : List Sequent). x) (Applied ds r place q) result
+    → r ≡ rule.OnBodies b → Answers (entered ds b place q) result → Meets (λ (x : List Sequent). x) (Applied ds r place q) result
 body_meets ds r b place q result is h =
-    subst (λ x. Answers (stepped (bodies.rule_row ds x) place q) result → Meets (λ (y : List Sequent). y) (Applied ds x place q) result) (sym is)
-    (λ k. gives_meets (λ (x : List Sequent). x) (Applied ds (rule.OnBodies b) place q) (stepped (row_of ds (rule.OnBodies b)) place q) result k (λ x e. e)) h
+    subst (λ x. Meets (λ (y : List Sequent). y) (Applied ds x place q) result) (sym is)
+    (gives_meets (λ (x : List Sequent). x) (Applied ds (rule.OnBodies b) place q) (entered ds b place q) result h (λ x e. e))
+
+pub while_meets : (ds : Declarations) (r : Rule) (v : Invariant) (place : Place) (q : Sequent) (result : Result (List Sequent) Refused)
+    → r ≡ rule.While v → Answers (stepped (while_row ds v.acts v.kept) place q) result → Meets (λ (x : List Sequent). x) (Applied ds r place q) result
+while_meets ds r v place q result is h =
+    subst (λ x. Meets (λ (y : List Sequent). y) (Applied ds x place q) result) (sym is)
+    (gives_meets (λ (x : List Sequent). x) (Applied ds (rule.While v) place q) (stepped (while_row ds v.acts v.kept) place q) result h (λ x e. e))
 
 pub relational_meets : (ds : Declarations) (r : Rule) (b : RelationalRule) (place : Place) (q : Sequent) (result : Result (List Sequent) Refused)
     → r ≡ rule.Relational b → Answers (stepped (equiv.rule_row r) place q) result → Meets (λ (x : List Sequent). x) (Applied ds r place q) result

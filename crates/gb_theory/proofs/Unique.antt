@@ -34,6 +34,7 @@ use Rattle.gb_smt.specs.Leaves.{leaves_of}
 use Rattle.gb_smt.specs.Apply.{IsAnswerOf}
 use Rattle.gb_amb.specs.Steps.{IsAnswer}
 use Rattle.gb_use.specs.Uses as uses
+use Rattle.gb_call_known.proofs.Answered as known_calls
 use Rattle.gb_theory.specs.Built.{Session, OpenProof, fresh_session}
 use Rattle.gb_theory.specs.Commands.{After, closed_unless, Applied, allowed, RuleAnswers, AreRules, continued, WorksOn, InProof, Proves, ComesToOf, ComesTo}
 use Rattle.gb_theory.specs.Combinators.{Stepping, works}
@@ -63,6 +64,9 @@ module _
   one_applied ds (rule.Relational r) place q x y h k = h ∙ sym k
   one_applied ds (rule.Chance r) place q x y h k = h ∙ sym k
   one_applied ds (rule.Call s) place q x y h k = h ∙ sym k
+  one_applied ds (rule.CallKnown a f) place q x y h k = known_calls.one_answer ds a f place q x y h k
+  one_applied ds (rule.While i) place q x y h k = h ∙ sym k
+  one_applied ds (rule.Transform a t) place q x y h k = h ∙ sym k
   one_applied ds (rule.Ambient r) place q x y h k = one_step_answer r place q x y h k
   one_applied ds (rule.Linear ms) place q x y h k = h ∙ sym k
   one_applied ds (rule.Use r) place q x y h k = one_use_answer r place q x y h k
@@ -93,6 +97,7 @@ module _
   one_of s c head.Module parts r t h k = h ∙ sym k
   one_of s c head.AscribedModule parts r t h k = h ∙ sym k
   one_of s c head.Lemma (name ∷ parts) r t h k = h ∙ sym k
+  one_of s c head.Termination (path ∷ []) r t h k = h ∙ sym k
   one_of s c head.Proof parts r t h k = in_proof_same s.proof (place_of c) _ (λ p x y a b. a ∙ sym b) r t h k
   one_of s c head.Qed parts r t h k = in_proof_same s.proof (place_of c) _ (λ p x y a b. a ∙ sym b) r t h k
   one_of s c head.Tactic (step ∷ more) r t h k = one_proved s c (place_of step) r t h k

@@ -1,17 +1,17 @@
 -- What the commands of a script build.
-use Rattle.std.specs.Prelude.{ℕ, Bool, true, false, List, [], ◌∷◌, ◌++◌, Option, Some, None}
+use Rattle.std.specs.Prelude.{ℕ, Bool, true, false, if◌then◌else◌, is_some, List, [], ◌∷◌, ◌++◌, Option, Some, None}
 use Rattle.gb_terms.specs.declared.decl.Module.{Module}
-use Rattle.gb_goal.specs.Scope.{Declarations}
+use Rattle.gb_goal.specs.Scope.{Declarations, entry_of, path_of}
 use Rattle.gb_goal.specs.declared.scope.Binder.{Binder}
 use Rattle.gb_goal.specs.declared.scope.Entry.TheVariants as entry
+use Rattle.gb_goal.specs.declared.scope.ProcName.{ProcName}
 use Rattle.gb_goal.specs.declared.sequent.Sequent.{Sequent}
+use Rattle.gb_theory.specs.declared.state.Claim.{Claim}
+use Rattle.gb_theory.specs.declared.state.Claim.TheVariants as claim
 
--- A lemma whose proof is open: its name, what it states, what its binders bind, the goals that are left, the first one first, and whether the word
--- `proof` may still follow.
+-- An open proof: what is claimed, a lemma or that the loops of a procedure end, the goals that are left, the first one first, and whether the word `proof` may still follow.
 pub record OpenProof : Type 0 where
-  pub name : List ℕ
-  pub statement : Sequent
-  pub binders : List Binder
+  pub claim : Claim
   pub goals : List Sequent
   pub fresh : Bool
 
@@ -33,18 +33,32 @@ with_entries s added = record s { scope = s.scope ++ added }
 abbrev pub with_module : Session → Module → Session
 with_module s m = record s { scope = s.scope ++ (m.name, entry.Module m) ∷ [] }
 
+-- a proof is open
+abbrev pub with_claim : Session → Claim → List Sequent → Session
+with_claim s c qs = record s { proof = Some (record { claim = c; goals = qs; fresh = true }) }
+
 -- the proof of a lemma is open, with its statement as the one goal
 abbrev pub with_lemma : Session → List ℕ → Sequent → List Binder → Session
-with_lemma s name q bs = record s { proof = Some (record { name = name; statement = q; binders = bs; goals = q ∷ []; fresh = true }) }
+with_lemma s name q bs = with_claim s (claim.Lemma name q bs) (q ∷ [])
 
 -- the proof goes on with these goals
 abbrev pub with_goals : Session → OpenProof → List Sequent → Session
 with_goals s p qs = record s { proof = Some (record p { goals = qs; fresh = false }) }
 
--- the open lemma is proved
-abbrev pub with_proved : Session → OpenProof → Session
-with_proved s p = record {
-  scope = s.scope ++ (p.name, entry.Lemma p.statement p.binders) ∷ [];
-  proof = None;
-  lemmas = s.lemmas ++ p.name ∷ [];
-}
+-- that the loops of a procedure are proved is declared under its path, once
+abbrev pub with_ended : Declarations → ProcName → Declarations
+with_ended ds f = if is_some (entry_of ds (path_of f)) then ds else ds ++ (path_of f, entry.Terminating f) ∷ []
+
+-- what is claimed is declared
+abbrev pub scope_with : Declarations → Claim → Declarations
+scope_with ds (claim.Lemma name q bs) = ds ++ (name, entry.Lemma q bs) ∷ []
+scope_with ds (claim.Loops f) = with_ended ds f
+
+-- a lemma is listed
+abbrev pub lemmas_with : List (List ℕ) → Claim → List (List ℕ)
+lemmas_with ns (claim.Lemma name q bs) = ns ++ name ∷ []
+lemmas_with ns (claim.Loops f) = ns
+
+-- what is claimed is proved
+abbrev pub with_proved : Session → Claim → Session
+with_proved s c = record { scope = scope_with s.scope c; proof = None; lemmas = lemmas_with s.lemmas c }

@@ -1,10 +1,14 @@
 -- What each command comes to: the next session, or its first refusal.
-use Rattle.std.specs.Prelude.{◌≡◌, ◌||◌, ℕ, Bool, List, [], ◌∷◌, ◌++◌, length, Option, Some, None, if◌then◌else◌, codes, bytes_eq}
+use Rattle.std.specs.Prelude.{◌≡◌, ◌||◌, ℕ, Bool, true, List, [], ◌∷◌, ◌++◌, length, Option, Some, None, if◌then◌else◌, codes, bytes_eq}
 use Rattle.gb_core.specs.declared.place.Place.{Place}
 use Rattle.gb_core.specs.declared.refusal.Why.{Why}
-use Rattle.gb_core.specs.declared.refusal.Why.TheVariants.{LeftOut, NoGoal, OpenGoals, Shape, TooMany}
-use Rattle.gb_goal.specs.Scope.{Declarations, declarations_in}
+use Rattle.gb_core.specs.declared.refusal.Why.TheVariants.{LeftOut, NoGoal, OpenGoals, Shape, TooMany, UnprovedLoop}
+use Rattle.gb_goal.specs.Goal.{Goal, goal_of}
+use Rattle.gb_goal.specs.Scope.{Declarations, declarations_in, path_of}
+use Rattle.gb_goal.specs.declared.scope.ProcName.{ProcName}
 use Rattle.gb_goal.specs.declared.sequent.Sequent.{Sequent}
+use Rattle.gb_steps.specs.declared.step.BodyRule.{BodyRule}
+use Rattle.gb_steps.specs.declared.step.BodyRule.TheVariants as on_bodies
 use Rattle.gb_steps.specs.declared.step.Rule.{Rule}
 use Rattle.gb_steps.specs.declared.step.Rule.TheVariants as rule
 use Rattle.gb_script.specs.declared.head.Head.{Head}
@@ -19,9 +23,13 @@ use Rattle.gb_elab_mod.specs.Lemmas.{statement_given, binders_in}
 use Rattle.gb_elab_mod.specs.Steps.{step_given}
 use Rattle.gb_goal.specs.Rows.{Row, refusing, stepped}
 use Rattle.gb_bodies.specs.Rows as bodies
-use Rattle.gb_equiv.specs.Rows as equiv
+use Rattle.gb_ended.specs.Loops.{unproved_in}
+use Rattle.gb_loops.specs.While.{while_row}
+use Rattle.gb_relational.specs.Rows as equiv
 use Rattle.gb_phoare.specs.Rows as chances
 use Rattle.gb_call_both.specs.Rows as calls
+use Rattle.gb_call_known.specs.Known as known_calls
+use Rattle.gb_guards.specs.Rows as transformations
 use Rattle.gb_smt.specs.Leaves.{leaves_of}
 use Rattle.gb_smt.specs.Apply.{IsAnswerOf}
 use Rattle.gb_amb.specs.Steps as conclusions
@@ -30,7 +38,10 @@ use Rattle.gb_use.specs.Uses as uses
 use Rattle.gb_rewrite.specs.Rewriting.{rewrite_answer}
 use Rattle.gb_theory.specs.Limits.{declaration_limit, each_limit, all_limit}
 use Rattle.gb_theory.specs.Combinators.{Stepping, works}
+use Rattle.gb_theory.specs.declared.state.Claim.TheVariants as claim
 use Rattle.gb_theory.specs.Built.{Session, OpenProof, with_entries, with_module, with_lemma, with_goals, with_proved}
+use Rattle.gb_variants.specs.Operand.{operand}
+use Rattle.gb_variants.specs.Variants.{goals_of}
 
 -- an answer that goes on from this one; a refusal stands
 abbrev pub After : {X Y : Type 0} → Answer X → (X → Answer Y → Type 0) → Answer Y → Type 0
@@ -100,13 +111,34 @@ opens s t name place = do
   _ ← within (each_limit (q ∷ [])) place
   given (with_lemma s name q (binders_in t))
 
--- `proof` follows its lemma at once
+-- goals that pass no limit, each and together
+abbrev pub all_allowed : Place → List Sequent → Answer (List Sequent)
+all_allowed place qs = do
+  rs ← allowed place qs
+  _ ← within (all_limit rs) place
+  given rs
+
+-- the proof that the loops of a procedure end: two goals for each loop, inner loops first
+abbrev pub loops_opened : Declarations → Node → Place → Answer OpenProof
+loops_opened ds t place = do
+  f ← operand ds t
+  qs ← all_allowed place (goals_of f.1.body.list)
+  given (record { claim = claim.Loops f.0; goals = qs; fresh = true })
+
+-- `termination` opens it
+abbrev pub opens_loops : Session → Node → Place → Answer Session
+opens_loops s t place = do
+  _ ← outside s.proof place
+  p ← loops_opened s.scope t place
+  given (record s { proof = Some p })
+
+-- `proof` follows what opened it at once
 abbrev pub begun : Session → OpenProof → Place → Answer Session
 begun s p place = if p.fresh then given (with_goals s p p.goals) else refused NoGoal place
 
 -- `qed` stands where no goal is left
 abbrev pub ended : List Sequent → Session → OpenProof → Place → Answer Session
-ended [] s p place = given (with_proved s p)
+ended [] s p place = given (with_proved s p.claim)
 ended (q ∷ qs) s p place = refused (OpenGoals (length (q ∷ qs))) place
 
 -- `smt` closes the goal, or refuses it
@@ -117,10 +149,28 @@ closed_unless (Some why) place = refused why place
 -- the row of a rule, by the family that it is of
 abbrev pub row_of : Declarations → Rule → Row
 row_of ds (rule.OnBodies r) = bodies.rule_row ds (rule.OnBodies r)
+row_of ds (rule.While v) = while_row ds v.acts v.kept
 row_of ds (rule.Relational r) = equiv.rule_row (rule.Relational r)
 row_of ds (rule.Chance r) = chances.rule_row ds (rule.Chance r)
 row_of ds (rule.Call s) = calls.rule_row ds (rule.Call s)
+row_of ds (rule.Transform a t) = transformations.rule_row ds (rule.Transform a t)
 row_of ds _ = λ G. refusing Shape
+
+-- A procedure with a loop of its own that isn't proved is refused.
+abbrev pub unless_unproved : Option ProcName → Place → Answer (Unit {0})
+unless_unproved None place = given tt
+unless_unproved (Some p) place = refused (UnprovedLoop (path_of p)) place
+
+-- `proc` puts bodies in the places of procedures whose own loops are proved alone.
+abbrev pub entering : Declarations → BodyRule → Place → Goal → Answer (Unit {0})
+entering ds on_bodies.Proc place G = unless_unproved (unproved_in ds G) place
+entering ds r place G = given tt
+
+-- what a rule on programs gives
+abbrev pub entered : Declarations → BodyRule → Place → Sequent → Answer (List Sequent)
+entered ds r place q = do
+  _ ← entering ds r place (goal_of q.conclusion)
+  stepped (bodies.rule_row ds (rule.OnBodies r)) place q
 
 -- What a rule gives for a goal: its subgoals, or why it refuses the goal. What `smt` finds has one answer, and so has a step on a
 -- conclusion, or one that uses a form.
@@ -129,7 +179,9 @@ Applied ds (rule.Smt known) place q x = (found : Option Why) × IsAnswerOf ds (l
 Applied ds (rule.Ambient r) place q x = conclusions.IsAnswer r place q x
 Applied ds (rule.Linear ms) place q x = x ≡ linear_answer ms place q
 Applied ds (rule.Use r) place q x = uses.IsAnswer r place q x
+Applied ds (rule.CallKnown a f) place q x = known_calls.IsAnswer ds a f place q x
 Applied ds (rule.Rewrite r) place q x = x ≡ rewrite_answer ds r place q
+Applied ds (rule.OnBodies r) place q x = x ≡ entered ds r place q
 Applied ds r place q x = x ≡ stepped (row_of ds r) place q
 
 -- What a rule of a text answers at a goal, with its arguments typed there: its subgoals, each within the limits of a goal.
@@ -172,6 +224,7 @@ ComesToOf s c head.Axiom parts r = r ≡ assumes s (place_of c)
 ComesToOf s c head.Module parts r = r ≡ declares s c (place_of c)
 ComesToOf s c head.AscribedModule parts r = r ≡ declares s c (place_of c)
 ComesToOf s c head.Lemma (name ∷ parts) r = r ≡ opens s c (text_of name) (place_of c)
+ComesToOf s c head.Termination (path ∷ []) r = r ≡ opens_loops s path (place_of c)
 ComesToOf s c head.Proof parts r = InProof s.proof (place_of c) (λ p x. x ≡ begun s p (place_of c)) r
 ComesToOf s c head.Qed parts r = InProof s.proof (place_of c) (λ p x. x ≡ ended p.goals s p (place_of c)) r
 ComesToOf s c head.Tactic (step ∷ more) r = Proves s c (place_of step) r

@@ -12,7 +12,7 @@ use Rattle.gb_theory.specs.declared.state.OpenProof.{OpenProof}
 use Rattle.gb_theory.specs.declared.state.State.{State}
 
 abbrev pub open_of : OpenProof → session.OpenProof
-open_of p = record { name = p.name; statement = p.statement; binders = p.binders; goals = p.goals; fresh = p.fresh }
+open_of p = record { claim = p.claim; goals = p.goals; fresh = p.fresh }
 
 -- the session that a state stands for
 abbrev pub session_of : State → Session

@@ -1,28 +1,32 @@
 // One command of a script.
 
-ghost use Rattle.std.specs.Prelude.{◌≡◌, [], ◌∷◌, ◌++◌, drop, true, false, None, IfOk, OnOk};
+ghost use Rattle.std.specs.Prelude.{◌≡◌, [], ◌∷◌, ◌++◌, drop, true, false, Some, None, IfOk, OnOk};
 ghost use Rattle.std.specs.Option.{option_copied};
-ghost use Rattle.gb_goal.specs.Scope.{entry_of};
 ghost use Rattle.gb_script.specs.Tree.{head_of, parts_of, place_of};
-ghost use Rattle.gb_goal.specs.Answers.{Gives};
+ghost use Rattle.gb_goal.specs.Answers.{Answers, Gives};
 ghost use Rattle.gb_elab_mod.specs.Lemmas.{lemma_name};
-ghost use Rattle.gb_theory.specs.Built.{Session, OpenProof as Opened, with_goals};
-ghost use Rattle.gb_theory.specs.Commands.{assumes, brings, declares, is_built_in, opens, requires_files, begun, ended, continued, InProof, Proves, WorksOn, ComesToOf, ComesTo};
+ghost use Rattle.gb_theory.specs.Built.{Session, OpenProof as Opened, lemmas_with, scope_with, with_ended, with_goals};
+ghost use Rattle.gb_theory.specs.Commands.{all_allowed, assumes, brings, declares, is_built_in, loops_opened, opens, opens_loops, requires_files, begun, ended, continued, InProof, Proves, WorksOn, ComesToOf, ComesTo};
+ghost use Rattle.gb_theory.specs.Opened.{is_new, is_undeclared};
 ghost use Rattle.gb_theory.specs.Placed.{placed};
-ghost use Rattle.gb_theory.specs.Sessions.{session_of, Meets, Leads, IsKept};
+ghost use Rattle.gb_variants.specs.Variants.{goals_of};
+ghost use Rattle.gb_theory.specs.Sessions.{open_of, session_of, Meets, Leads, IsKept};
 
-use crate::limits::{check_all, check_declarations, check_goal};
+use crate::limits::{check_all, check_declarations, check_each, check_goal};
 use crate::outcome_laws::rules_have_answers;
-use crate::state::{OpenProof, State};
+use crate::state::{Claim, OpenProof, State};
 use crate::tactics::work_on_one;
 use gb_core::name::{Name, Names};
 use gb_core::place::Place;
 use gb_core::refusal::{Refused, Why};
-use gb_goal::scope::{Binders, Entry, Scope};
+use gb_goal::scope::{Binders, ProcName, Scope};
 use gb_goal::sequent::{Sequent, Sequents};
 use gb_script::head::Head;
 use gb_script::tree::Node;
 use gb_steps::goals::Goals;
+use gb_terms::term::Instr;
+use gb_variants::operand::operand;
+use gb_variants::variants::goals_of;
 use std::alloc::{AllocError, Global};
 
 fn refused(why: Why, place: Place) -> Refused
@@ -85,6 +89,10 @@ fn dispatch(
         Head::Lemma => match parts {
             [name, ..] => open_lemma(alloc, state, command, &name.text, command.place),
             [] => Err(refused(Why::Syntax, command.place)),
+        },
+        Head::Termination => match parts {
+            [path] => open_loops(alloc, state, path, command.place),
+            _ => Err(refused(Why::Syntax, command.place)),
         },
         Head::Proof => begin_proof(state, command.place),
         Head::Qed => close_proof(alloc, state, command.place),
@@ -203,15 +211,17 @@ fn opened(
     statement: Sequent,
     binders: Binders,
 ) -> Result<OpenProof, AllocError>
-    ensures { IfOk result
-        (λ p. p ≡ record { name = name.now; statement = statement; binders = binders; goals = statement ∷ []; fresh = true }) }
+    ensures { IfOk result (λ p. p ≡ record { claim = Claim.Lemma name.now statement binders; goals = statement ∷ []; fresh = true }) }
 {
     let goals = one_goal(alloc, &statement)?;
     let name = name.copy(alloc)?;
-    Ok(OpenProof {
+    let claim = Claim::Lemma {
         name,
         statement,
         binders,
+    };
+    Ok(OpenProof {
+        claim,
         goals,
         fresh: true,
     })
@@ -225,7 +235,51 @@ fn one_goal(alloc: Global, goal: &Sequent) -> Result<Goals, AllocError>
     Ok(goals)
 }
 
-/// `proof` follows its lemma at once.
+/// `termination` opens the proof that the loops of a procedure end, with two goals for each of them.
+fn open_loops(alloc: Global, state: &mut State, path: &Node, place: Place) -> Result<(), Refused>
+    ensures session { Gives (λ _. session_of state.new) (opens_loops (session_of state.old) path.now place) result }
+    ensures kept { IsKept (session_of state.old) (session_of state.new) result }
+{
+    if state.proof.is_some() {
+        return Err(refused(Why::NoGoal, place));
+    }
+    let proof = loops_opened(alloc, &state.scope, path, place)?;
+    state.proof = Some(proof);
+    Ok(())
+}
+
+/// The proof that the loops of a procedure end, before its first step.
+fn loops_opened(
+    alloc: Global,
+    scope: &Scope,
+    path: &Node,
+    place: Place,
+) -> Result<OpenProof, Refused>
+    ensures loops { Gives open_of (loops_opened scope.now path.now place) result }
+    ensures undeclared { IfOk result (λ p. is_undeclared scope.now (Some p) ≡ true) }
+{
+    let found = operand(alloc, scope, path)?;
+    let goals = loop_goals(alloc, found.procedure.body.list.as_slice(), place)?;
+    Ok(OpenProof {
+        claim: Claim::Loops(found.name),
+        goals,
+        fresh: true,
+    })
+}
+
+/// The goals of the loops of a program, where they pass no limit.
+fn loop_goals(alloc: Global, list: &[Instr], place: Place) -> Result<Goals, Refused>
+    ensures { Answers (all_allowed place (goals_of list.now)) result }
+{
+    let list = goals_of(alloc, list)?;
+    check_each(list.as_slice(), place)?;
+    let mut goals = Goals::new(alloc);
+    check_all(list.as_slice(), &goals, place)?;
+    goals.replace_first(list)?;
+    Ok(goals)
+}
+
+/// `proof` follows what opened it at once.
 fn begin_proof(state: &mut State, place: Place) -> Result<(), Refused>
     ensures session { Leads (InProof (session_of state.old).proof place (λ p r. r ≡ begun (session_of state.old) p place))
         (session_of state.new) result }
@@ -240,7 +294,7 @@ fn begin_proof(state: &mut State, place: Place) -> Result<(), Refused>
     }
 }
 
-/// `qed` brings the lemma into scope where no goal is left.
+/// `qed` brings what is proved into scope where no goal is left.
 fn close_proof(alloc: Global, state: &mut State, place: Place) -> Result<(), Refused>
     ensures session { Leads
         (InProof (session_of state.old).proof place (λ p r. r ≡ ended p.goals (session_of state.old) p place))
@@ -255,30 +309,45 @@ fn close_proof(alloc: Global, state: &mut State, place: Place) -> Result<(), Ref
         state.proof = Some(proof);
         return Err(refused(Why::OpenGoals(left), place));
     }
-    bring_in(alloc, &mut state.scope, &mut state.lemmas, proof)?;
+    let OpenProof { claim, .. } = proof;
+    bring_in(alloc, &mut state.scope, &mut state.lemmas, claim)?;
     Ok(())
 }
 
-/// Lists a lemma that is proved, and declares it.
+/// Declares what is proved; a lemma is listed too.
 fn bring_in(
     alloc: Global,
     scope: &mut Scope,
     lemmas: &mut Names,
-    proof: OpenProof,
+    claim: Claim,
 ) -> Result<(), AllocError>
-    requires { entry_of scope.old proof.name ≡ None }
-    ensures declared { OnOk result (scope.new ≡ scope.old ++ (proof.name, Entry.Lemma proof.statement proof.binders) ∷ []) }
-    ensures listed { OnOk result (lemmas.new ≡ lemmas.old ++ proof.name ∷ []) }
+    requires { is_new scope.old claim ≡ true }
+    ensures declared { OnOk result (scope.new ≡ scope_with scope.old claim) }
+    ensures listed { OnOk result (lemmas.new ≡ lemmas_with lemmas.old claim) }
 {
-    let OpenProof {
-        name,
-        statement,
-        binders,
-        ..
-    } = proof;
-    let listed = name.copy(alloc)?;
-    lemmas.push(listed)?;
-    scope.declare_lemma(alloc, name, statement, binders)
+    match claim {
+        Claim::Lemma {
+            name,
+            statement,
+            binders,
+        } => {
+            let listed = name.copy(alloc)?;
+            lemmas.push(listed)?;
+            scope.declare_lemma(alloc, name, statement, binders)
+        }
+        Claim::Loops(procedure) => bring_loops(alloc, scope, procedure),
+    }
+}
+
+/// Declares that the loops of a procedure end, unless that is declared.
+fn bring_loops(alloc: Global, scope: &mut Scope, procedure: ProcName) -> Result<(), AllocError>
+    ensures { OnOk result (scope.new ≡ with_ended scope.old procedure) }
+{
+    let path = procedure.path(alloc)?;
+    if !scope.is_free(&path) {
+        return Ok(());
+    }
+    scope.declare_proved(alloc, procedure)
 }
 
 /// A tactic works on the first goal, and puts what is left of it in front of the others. Where it is refused the proof stays as
@@ -308,17 +377,13 @@ fn stepped(proof: OpenProof, next: Sequents) -> Result<OpenProof, AllocError>
     ensures { IfOk result (λ p. p ≡ record proof { goals = next ++ drop 1 proof.goals; fresh = false }) }
 {
     let OpenProof {
-        name,
-        statement,
-        binders,
+        claim,
         mut goals,
         ..
     } = proof;
     goals.replace_first(next)?;
     Ok(OpenProof {
-        name,
-        statement,
-        binders,
+        claim,
         goals,
         fresh: false,
     })

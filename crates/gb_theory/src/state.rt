@@ -4,19 +4,72 @@ ghost use Rattle.std.specs.Prelude.{◌≡◌, [], true, take, IfOk};
 ghost use Rattle.gb_theory.specs.Opened.{is_undeclared};
 
 use gb_core::name::{Name, Names};
-use gb_goal::scope::{Binders, Scope};
+use gb_goal::scope::{Binders, ProcName, Scope};
 use gb_goal::sequent::Sequent;
 use gb_steps::goals::Goals;
 use sqlite_items::Items;
 use std::alloc::{AllocError, Global};
 
-/// A lemma whose proof is open: what it states, what its binders bind, the goals that are left, the first one first, and whether the word
-/// `proof` may still follow.
+/// What is proved.
+#[derive(Drop)]
+pub enum Claim {
+    /// A lemma: its name, what it states, and what its binders bind.
+    Lemma {
+        name: Name,
+        statement: Sequent,
+        binders: Binders,
+    },
+    /// That the loops of a procedure end.
+    Loops(ProcName),
+}
+
+impl Claim {
+    /// One owner more of all that the claim holds.
+    pub fn share(&self, alloc: Global) -> Result<Claim, AllocError>
+        ensures { IfOk result (λ claim. claim ≡ self.now) }
+    {
+        match self {
+            Claim::Lemma {
+                name,
+                statement,
+                binders,
+            } => lemma_claim(alloc, name, statement, binders),
+            Claim::Loops(procedure) => Ok(Claim::Loops(copied(alloc, procedure)?)),
+        }
+    }
+}
+
+/// That a lemma holds.
+pub fn lemma_claim(
+    alloc: Global,
+    name: &Name,
+    statement: &Sequent,
+    binders: &Binders,
+) -> Result<Claim, AllocError>
+    ensures { IfOk result (λ claim. claim ≡ Claim.Lemma name.now statement.now binders.now) }
+{
+    let name = name.copy(alloc)?;
+    let statement = statement.share()?;
+    let binders = binders.share()?;
+    Ok(Claim::Lemma {
+        name,
+        statement,
+        binders,
+    })
+}
+
+fn copied(alloc: Global, procedure: &ProcName) -> Result<ProcName, AllocError>
+    ensures { IfOk result (λ made. made ≡ procedure.now) }
+{
+    let module = procedure.module.copy(alloc)?;
+    let name = procedure.name.copy(alloc)?;
+    Ok(ProcName { module, name })
+}
+
+/// An open proof: what is claimed, the goals that are left, the first one first, and whether the word `proof` may still follow.
 #[derive(Drop)]
 pub struct OpenProof {
-    pub name: Name,
-    pub statement: Sequent,
-    pub binders: Binders,
+    pub claim: Claim,
     pub goals: Goals,
     pub fresh: bool,
 }
@@ -42,14 +95,10 @@ impl OpenProof {
     pub fn share(&self, alloc: Global) -> Result<OpenProof, AllocError>
         ensures { IfOk result (λ proof. proof ≡ self.now) }
     {
-        let name = self.name.copy(alloc)?;
-        let statement = self.statement.share()?;
-        let binders = self.binders.share()?;
+        let claim = self.claim.share(alloc)?;
         let goals = shared(alloc, &self.goals)?;
         Ok(OpenProof {
-            name,
-            statement,
-            binders,
+            claim,
             goals,
             fresh: self.fresh,
         })

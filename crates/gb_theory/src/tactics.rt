@@ -3,11 +3,12 @@
 ghost use Rattle.std.specs.Prelude.{◌≡◌, [], ◌∷◌, IfOk};
 ghost use Rattle.std.specs.Prelude.{List};
 ghost use Rattle.gb_goal.specs.Answers.{Answer, Answers, ◌>>=◌ as ◌and_then◌};
+ghost use Rattle.gb_goal.specs.Goal.{goal_of};
 ghost use Rattle.gb_goal.specs.declared.sequent.Sequent.{Sequent as Goal};
 ghost use Rattle.gb_limits.specs.Numbers.{number_of};
 ghost use Rattle.gb_script.specs.declared.tree.Node.{Node as Tree};
 ghost use Rattle.gb_script.specs.Tree.{head_of, parts_of, text_of, place_of};
-ghost use Rattle.gb_theory.specs.Commands.{AreRules, RuleAnswers, Applied, allowed};
+ghost use Rattle.gb_theory.specs.Commands.{AreRules, RuleAnswers, Applied, allowed, entered, entering, unless_unproved};
 ghost use Rattle.gb_theory.specs.Patterns.{is_pattern};
 ghost use Rattle.gb_theory.specs.Combinators.{Stepping, done_at, fitted, inside, introduced, on_each, in_turn, ruled, spread, or_left, times, stepped_by, worked, works};
 ghost use Rattle.gb_theory.specs.Sessions.{Meets};
@@ -16,29 +17,84 @@ ghost use Rattle.gb_theory.specs.Tactics.{with_works, each_works, fits, times_al
 use crate::limits::check_each;
 use crate::names::check_new;
 use crate::outcome_laws::rules_have_answers;
-use gb_bodies::subgoals::{placed, refusal};
 use gb_core::name::Name;
 use gb_core::place::Place;
-use gb_core::refusal::Refused;
-use gb_goal::scope::Scope;
+use gb_core::refusal::{Refused, Why};
+use gb_ended::loops::unproved_in;
+use gb_goal::goal::goal_of;
+use gb_goal::scope::{ProcName, Scope};
 use gb_goal::sequent::{Sequent, Sequents};
 use gb_limits::numbers::number;
 use gb_names::refusals::{argument, not_built};
+use gb_parts::subgoals::{placed, refusal};
 use gb_script::head::Head;
 use gb_script::tree::Node;
-use gb_steps::step::{Rule, Step};
+use gb_steps::step::{BodyRule, Rule, Step};
 use sqlite_items::Items;
 use std::alloc::{AllocError, Global};
+
+/// Refuses a procedure with a loop of its own that isn't proved.
+fn unless_unproved(alloc: Global, found: Option<ProcName>, place: Place) -> Result<(), Refused>
+    ensures { Answers (unless_unproved found place) result }
+{
+    match found {
+        None => Ok(()),
+        Some(procedure) => {
+            let path = procedure.path(alloc)?;
+            let why = Why::UnprovedLoop(path);
+            Err(Refused::Script { why, place })
+        }
+    }
+}
+
+/// Refuses `proc` at a goal that judges a procedure with a loop of its own that isn't proved.
+fn check_entered(
+    alloc: Global,
+    rule: &BodyRule,
+    place: Place,
+    goal: &Sequent,
+    scope: &Scope,
+) -> Result<(), Refused>
+    ensures { Answers (entering scope.now rule.now place (goal_of goal.now.conclusion)) result }
+{
+    match rule {
+        BodyRule::Proc => {
+            let found = unproved_in(alloc, scope, goal_of(&goal.conclusion))?;
+            unless_unproved(alloc, found, place)
+        }
+        _ => Ok(()),
+    }
+}
+
+/// The subgoals of a rule on programs.
+fn on_bodies(
+    alloc: Global,
+    step: &Step,
+    rule: &BodyRule,
+    goal: &Sequent,
+    scope: &Scope,
+) -> Result<Sequents, Refused>
+    requires { step.now.rule ≡ Rule.OnBodies rule.now }
+    ensures { Answers (entered scope.now rule.now step.now.place goal.now) result }
+{
+    check_entered(alloc, rule, step.place, goal, scope)?;
+    gb_bodies::apply::apply(alloc, step, goal, scope)
+}
 
 /// The subgoals of a rule, by the crate that has its row.
 fn apply(alloc: Global, step: &Step, goal: &Sequent, scope: &Scope) -> Result<Sequents, Refused>
     ensures { Meets (λ x. x) (Applied scope.now step.now.rule step.now.place goal.now) result }
 {
     match &step.rule {
-        Rule::OnBodies(_) => gb_bodies::apply::apply(alloc, step, goal, scope),
-        Rule::Relational(_) => gb_equiv::apply(alloc, step, goal, scope),
+        Rule::OnBodies(rule) => on_bodies(alloc, step, rule, goal, scope),
+        Rule::Relational(_) => gb_relational::apply(alloc, step, goal, scope),
         Rule::Chance(_) => gb_phoare::apply::apply(alloc, step, goal, scope),
         Rule::Call(_) => gb_call_both::apply::apply(alloc, step, goal, scope),
+        Rule::Transform(_, _) => gb_guards::apply::apply(alloc, step, goal, scope),
+        Rule::While(kept) => gb_loops::while_loop::apply(alloc, kept, step.place, goal, scope),
+        Rule::CallKnown(acts, known) => {
+            gb_call_known::apply(alloc, *acts, known, step.place, goal, scope)
+        }
         Rule::Ambient(rule) => gb_amb::apply::apply(alloc, rule, step.place, goal),
         Rule::Use(rule) => gb_use::apply::apply(alloc, rule, step.place, goal),
         Rule::Rewrite(rule) => gb_rewrite::goals::apply(alloc, rule, step.place, goal, scope),

@@ -24,7 +24,7 @@ use Rattle.gb_meaning.specs.State.{State, under, memory_of}
 use Rattle.gb_meaning.specs.State.Binding.{memory as memory_bound}
 use Rattle.gb_meaning.specs.Terms.{Speaks}
 use Rattle.gb_meaning.specs.Judgments.{Judge, IsFair, speaking, den}
-use Rattle.gb_judge.proofs.Truths.{true_all_memory}
+use Rattle.gb_laws.proofs.Truths.{true_all_memory}
 use Rattle.gb_changes.specs.Uses.Use.{read as reads, bound, globals, starts, binds_own, binds_sides}
 use Rattle.gb_changes.specs.Agree.{Agree}
 use Rattle.gb_changes.specs.Led.{Led}

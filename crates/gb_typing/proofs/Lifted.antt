@@ -78,7 +78,7 @@ pub each : (ds : Declarations) (bs : List Bind) (i : Interpretation) (P : Interp
 each ds [] i P f = f i
 each ds (b ∷ bs) i P f = λ a w. each ds bs (with_program i b a) P f
 
-both : (ds : Declarations) (bs : List Bind) (i : Interpretation) (P Q R : Interpretation → Type 0) → ((k : Interpretation) → P k → Q k → R k) →
+pub both : (ds : Declarations) (bs : List Bind) (i : Interpretation) (P Q R : Interpretation → Type 0) → ((k : Interpretation) → P k → Q k → R k) →
     EachProgram ds bs i P → EachProgram ds bs i Q → EachProgram ds bs i R
 both ds [] i P Q R f x y = f i x y
 both ds (b ∷ bs) i P Q R f x y = λ a w. both ds bs (with_program i b a) P Q R f (x a w) (y a w)
@@ -92,10 +92,10 @@ joined ds q P Q R f x y w size table m =
     (λ i u v. both ds q.modules i P Q R f u v) (x w size table m) (y w size table m)
 
 -- what a sequent with this conclusion says of an interpretation
-abbrev Says : Declarations → Sequent → Term → Interpretation → Type 0
+abbrev pub Says : Declarations → Sequent → Term → Interpretation → Type 0
 Says ds q f k = (vs : List Value) → AreValues (types_of ds k) (map (λ x. x.ty) q.logical) vs → (ms : List Memory) → AreTrue ds q.hyps k (context vs ms) → Truth ds f k (context vs ms)
 
-gathered : (ds : Declarations) (q : Sequent) (Gs : List Goal) → AllByRecursion (Holds ds) (map (concluding q) Gs) → InEachSequent ds q (λ k. AllByRecursion (λ G. Says ds q (form_of G) k) Gs)
+pub gathered : (ds : Declarations) (q : Sequent) (Gs : List Goal) → AllByRecursion (Holds ds) (map (concluding q) Gs) → InEachSequent ds q (λ k. AllByRecursion (λ G. Says ds q (form_of G) k) Gs)
 gathered ds q [] h = λ w size table m. each ds (declared_modules ds) (interpretation w size table) _ (λ i. each ds q.modules i (λ k. AllByRecursion (λ G. Says ds q (form_of G) k) []) (λ k. tt))
 gathered ds q (G ∷ Gs) h =
     joined ds q (Says ds q (form_of G)) (λ k. AllByRecursion (λ G. Says ds q (form_of G) k) Gs) (λ k. AllByRecursion (λ G. Says ds q (form_of G) k) (G ∷ Gs)) (λ k x y. (x, y)) h.0 (gathered ds q Gs h.1)
@@ -141,7 +141,7 @@ module _ (ds : Declarations) (q : Sequent) (fs : List (List TypedName)) where
         (without_modules ds (form_of G) k s (goal_front c ls rs G w)).1
         (λ j fair. (exact c (setting ds k) fits j fair s ls rs G w).1 (f (setting ds k) fits (record { interpretation = k; chosen = chosen; meant = refl }) j fair s fit (all_stand j fair Gs ws h)))
 
-  said : (k : Interpretation) (vs : List Value) (ms : List Memory) (Gs : List Goal) → AreValues (types_of ds k) (map (λ x. x.ty) q.logical) vs → AreTrue ds q.hyps k (context vs ms) →
+  pub said : (k : Interpretation) (vs : List Value) (ms : List Memory) (Gs : List Goal) → AreValues (types_of ds k) (map (λ x. x.ty) q.logical) vs → AreTrue ds q.hyps k (context vs ms) →
       AllByRecursion (λ G. Says ds q (form_of G) k) Gs → AllByRecursion (λ G. Truth ds (form_of G) k (context vs ms)) Gs
   said k vs ms [] v t h = tt
   said k vs ms (G ∷ Gs) v t h = (h.0 vs v ms t, said k vs ms Gs v t h.1)
@@ -158,7 +158,7 @@ module _ (ds : Declarations) (q : Sequent) (fs : List (List TypedName)) where
       settings (gathered ds q Gs h)
 
 module _ (ds : Declarations) (q : Sequent) (t : IsTypedSequent (context_of ds) q) where
-  typed_subgoals : (Gs : List Goal) → AllByRecursion (IsTypedGoal (of_sequent (context_of ds) q t.frames)) Gs → AllByRecursion (IsTypedSequent (context_of ds)) (map (concluding q) Gs)
+  pub typed_subgoals : (Gs : List Goal) → AllByRecursion (IsTypedGoal (of_sequent (context_of ds) q t.frames)) Gs → AllByRecursion (IsTypedSequent (context_of ds)) (map (concluding q) Gs)
   typed_subgoals [] w = tt
   typed_subgoals (G ∷ Gs) w = (
     record {

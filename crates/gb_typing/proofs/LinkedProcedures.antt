@@ -101,6 +101,7 @@ fresh_later ((n, entry.AbstractType) ∷ ds) before c w k e = (other_name before
 fresh_later ((n, entry.Constant a) ∷ ds) before c w k e = (other_name before k n e w.0, fresh_later ds _ _ w.2 k (declared_more before _ k e))
 fresh_later ((n, entry.Operator o) ∷ ds) before c w k e = (other_name before k n e w.0, fresh_later ds _ _ w.2 k (declared_more before _ k e))
 fresh_later ((n, entry.AbstractOperator o) ∷ ds) before c w k e = (other_name before k n e w.0, fresh_later ds _ _ w.2 k (declared_more before _ k e))
+fresh_later ((n, entry.Terminating a) ∷ ds) before c w k e = (other_name before k n e w.0, fresh_later ds _ _ w.2 k (declared_more before _ k e))
 
 listed : (ps : List Proc) (f : Name) (t : ProcedureType) → found (procedure_types ps) f ≡ Some t → list_any (λ q. bytes_eq f q.name) ps ≡ true
 listed [] f t e = none_some t e
@@ -139,6 +140,7 @@ module _ (cs : List Chosen) where
   hidden ((n, entry.Constant a) ∷ ds) c u h = hidden ds c u h
   hidden ((n, entry.Operator o) ∷ ds) c u h = hidden ds (with_declared c n (declaration_of (entry.Operator o))) u h
   hidden ((n, entry.AbstractOperator o) ∷ ds) c u h = hidden ds (with_declared c n (declaration_of (entry.AbstractOperator o))) u h
+  hidden ((n, entry.Terminating a) ∷ ds) c u h = hidden ds c u h
 
 module _ (ds : scope.Declarations) (scoped : IsTypedScope (declared ds)) (i : Interpretation) (unchosen : AreUnchosen i.programs (declared ds)) where
   abbrev g : Setting

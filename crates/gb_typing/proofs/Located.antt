@@ -112,6 +112,7 @@ first_located ds before c n f p entry.AbstractType w k r = none_some p r
 first_located ds before c n f p (entry.Constant a) w k r = none_some p r
 first_located ds before c n f p (entry.Operator o) w k r = none_some p r
 first_located ds before c n f p (entry.AbstractOperator o) w k r = none_some p r
+first_located ds before c n f p (entry.Terminating a) w k r = none_some p r
 
 later_located : (d : Name × Entry) (ds : scope.Declarations) (c e : Context) → with_each c (declared (d ∷ ds)) ≡ with_each e (declared ds) → (n f : Name) (p : Proc) → Located ds e n f p → Located (d ∷ ds) c n f p
 later_located d ds c e same n f p l = record {
@@ -162,6 +163,9 @@ located ((h, entry.AbstractOperator z) ∷ ds) before c w k n f p r =
     here_or_later h (entry.AbstractOperator z) ds before c w k n f p
     (λ r. later_located (h, entry.AbstractOperator z) ds c (with_declared c h (declaration_of (entry.AbstractOperator z))) refl n f p
     (located ds (before ++ (h, declaration_of (entry.AbstractOperator z)) ∷ []) (with_declared c h (declaration_of (entry.AbstractOperator z))) w.2 (known_operator c h _ before k _) n f p r)) (bytes_eq n h) refl r
+located ((h, entry.Terminating z) ∷ ds) before c w k n f p r =
+    here_or_later h (entry.Terminating z) ds before c w k n f p
+    (λ r. later_located (h, entry.Terminating z) ds c c refl n f p (located ds (before ++ (h, declaration_of (entry.Terminating z)) ∷ []) c w.2 (known_same c before h _ k) n f p r)) (bytes_eq n h) refl r
 
 -- The context of a procedure is within that of the scope.
 

@@ -249,3 +249,4 @@ grown ((n, entry.AbstractOperator o) ∷ ds) before c w k =
     let d : Context = with_declared c n (declaration_of (entry.AbstractOperator o)) in
     let x = grown ds (before ++ (n, declaration_of (entry.AbstractOperator o)) ∷ []) d w.2 (known_operator c n _ before k _) in
     (grows_on c d (with_each d (declared ds)) (grows_operator c n _ before k w.0) x.0, x.1)
+grown ((n, entry.Terminating a) ∷ ds) before c w k = grown ds _ c w.2 (known_same c before n _ k)

@@ -37,7 +37,7 @@ use Rattle.gb_meaning.specs.Sound.{IsDistribution}
 use Rattle.gb_meaning.specs.Written.{type_of}
 use Rattle.gb_laws.proofs.Nodes.{val_node}
 use Rattle.gb_laws.proofs.Values.{value_eq-true, value_discrete}
-use Rattle.gb_judge.proofs.Truths.{truth_of, true_all}
+use Rattle.gb_laws.proofs.Truths.{truth_of, true_all}
 use Rattle.gb_changes.specs.Plain.{IsPlain}
 use Rattle.gb_changes.specs.Written.{IsSide}
 use Rattle.gb_changes.proofs.Changing.{denominator_changed}

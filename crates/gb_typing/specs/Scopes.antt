@@ -215,20 +215,19 @@ IsDeclared c n (concrete_module m) = IsModule c n m
 IsDeclared c n (abstract_module b) = (b.name ≡ n) × IsBinder c b
 IsDeclared c n (axiom_of q) = IsTypedSequent c q
 IsDeclared c n (lemma q) = IsTypedSequent c q
-IsDeclared c n (terminating f) = HasProcedure (c.modules.interfaces n) f
+IsDeclared c n (terminating p) = HasProcedure (c.modules.interfaces p.module) p.name
 
 abbrev pub is_declared : Declarations → Name → Bool
 is_declared ds n = list_any (λ d. bytes_eq n d.0) ds
 
--- that loops are proved is declared under the name of their module, all else under a free name
-abbrev pub IsFree : Declarations → Name → Declaration → Type 0
-IsFree before n (terminating f) = Unit {0}
-IsFree before n d = is_declared before n ≡ false
+-- no declaration has this name
+abbrev pub IsFree : Declarations → Name → Type 0
+IsFree before n = is_declared before n ≡ false
 
 -- several declarations after others, in the context of those
 abbrev pub AreTypedAfter : Context → Declarations → Declarations → Type 0
 AreTypedAfter c before [] = Unit {0}
-AreTypedAfter c before (d ∷ ds) = IsFree before d.0 d.1 × IsDeclared c d.0 d.1 × AreTypedAfter (with_declared c d.0 d.1) (before ++ d ∷ []) ds
+AreTypedAfter c before (d ∷ ds) = IsFree before d.0 × IsDeclared c d.0 d.1 × AreTypedAfter (with_declared c d.0 d.1) (before ++ d ∷ []) ds
 
 -- A typed scope: each declaration is typed in the context of those before it.
 abbrev pub IsTypedScope : Declarations → Type 0

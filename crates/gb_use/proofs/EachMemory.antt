@@ -27,7 +27,7 @@ use Rattle.gb_meaning.specs.Judgments.{Judge, IsFair, speaking, den}
 use Rattle.gb_changes.specs.Led.{Led}
 use Rattle.gb_changes.specs.Uses.Use.{read as reads, bound, globals, starts, binds_own, binds_sides}
 use Rattle.gb_changes.proofs.Forms.{form_followed}
-use Rattle.gb_judge.proofs.Truths.{true_all_memory}
+use Rattle.gb_laws.proofs.Truths.{true_all_memory}
 use Rattle.gb_holds.specs.Holds.{context}
 use Rattle.gb_typed.specs.Operators.{item}
 use Rattle.gb_typed.specs.Typing as typed

@@ -31,7 +31,7 @@ use Rattle.gb_changes.specs.Led.{IsPut, put, Led}
 use Rattle.gb_changes.specs.Uses.Use.{read as reads, bound, globals, starts, binds_own, binds_sides}
 use Rattle.gb_changes.proofs.Forms.{form_followed}
 use Rattle.gb_changes.proofs.Puts.{plain_node}
-use Rattle.gb_judge.proofs.Truths.{true_all}
+use Rattle.gb_laws.proofs.Truths.{true_all}
 use Rattle.gb_holds.specs.Holds.{context}
 use Rattle.gb_typed.specs.Finite.{IsFinite}
 use Rattle.gb_typed.specs.Operators.{item}

@@ -10,7 +10,7 @@ use Rattle.gb_meaning.specs.State.{State}
 use Rattle.gb_meaning.specs.Values.{has}
 use Rattle.gb_meaning.specs.Judgments.{Judge, IsFair, den}
 use Rattle.gb_meaning.specs.Written.{type_of}
-use Rattle.gb_judge.proofs.Truths.{true_all}
+use Rattle.gb_laws.proofs.Truths.{true_all}
 use Rattle.gb_typed.specs.Finite.{IsFinite}
 use Rattle.gb_typed.specs.Typing.Binder.{value}
 use Rattle.gb_typing.specs.Context.{Context, Frame, within}
@@ -34,12 +34,12 @@ module _ (b : Context) (us : List Ty) (ns : List Frame) (u : Ty) (a : Term) (w :
     body = record { typed = parts.3; truth = parts.0.1.0 }
 
     pub argument_typed : IsForm c (at_argument f a)
-    argument_typed = body_typed b us ns a w.typed w.plain u w.type f body
+    argument_typed = body_typed b us ns a w.typed u w.type f body
 
     module _ (g : Setting) (fits : IsSettingOf c g) (j : Judge) (fair : IsFair g j) (s : State) (fit : IsStateOf c g s) where
       pub argument_true : den g j (node (head.All u) (f ∷ []) r) s ≡ true → den g j (at_argument f a) s ≡ true
       argument_true h =
           let fin : IsFinite (type_of a) = subst IsFinite (sym w.type) parts.0.0 in
           let v = finite_value c g fits j s fit a w.typed fin in
-          ap truth (body_means b us ns a w.typed w.plain u w.type g fits j fair fin s v.0 v.1 f body)
+          ap truth (body_means b us ns a w.typed u w.type g fits j fair fin s v.0 v.1 f body)
           ∙ (true_all g j u f s).0 (subst (λ r. den g j (node (head.All u) (f ∷ []) r) s ≡ true) parts.0.1.1.0 h) v.0 (subst (λ t. has g.types t v.0 ≡ true) w.type v.2)

@@ -8,17 +8,15 @@ use Rattle.gb_walk.specs.declared.change.Change.TheVariants.{OfBound}
 use Rattle.gb_walk.specs.Change.{term_changed}
 use Rattle.gb_goal.specs.declared.sequent.Sequent.{Sequent}
 use Rattle.gb_meaning.specs.Written.{type_of}
-use Rattle.gb_changes.specs.Plain.{IsPlain}
 use Rattle.gb_typing.specs.Context.{Context}
 use Rattle.gb_typing.specs.Typing.{IsTyped, IsForm}
 use Rattle.gb_amb.specs.Closed.{IsAmong}
 use Rattle.gb_amb.specs.Witness.{at_memory}
 
--- a term that stands for a value of a type, and speaks of no program
+-- a term that stands for a value of a type
 pub record IsArgument (c : Context) (u : Ty) (a : Term) : Type 0 where
   pub typed : IsTyped c a
   pub type : type_of a ≡ u
-  pub plain : IsPlain a
 
 -- what a form is told to say something of: the value of a term, or a memory of the context
 pub data Argument : Type 0 where

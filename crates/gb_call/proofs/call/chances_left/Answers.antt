@@ -15,5 +15,5 @@ returns c =
     let judged = c.args.judged.now in
     let k : Callee = callee_seen c.args.callee.now in
     let G : Goal = hoare (body k.call.before) judged.pre.now (before_call judged.rel Own k (globals_seen c.args.globals.now) c.args.contract.now judged.post.now) in
-    subst (λ l. Answers (each_concluding c.args.goal.now (of_rest l judged.rel judged.bound.now G)) c.of_rest.result) c.first_loss-lost.ensures
+    subst (λ l. Answers (each_concluding c.args.goal.now (of_rest l judged.rel judged.bound.now G)) c.of_rest.result) c.in_ok-lost.ensures
     (c.of_rest.ensures G (c.in_ok-conclusion.ensures ∙ ap (λ f. form_of (hoare (body k.call.before) judged.pre.now f)) c.in_ok-before.ensures))

@@ -1,4 +1,4 @@
-use Rattle.gb_judge.proofs.Truths.{true_not, true_and, true_or, true_implies, true_iff, true_equal}
+use Rattle.gb_laws.proofs.Truths.{true_not, true_and, true_or, true_implies, true_iff, true_equal}
 use Rattle.gb_judge.proofs.truth_laws.connectives.Goals as goal
 
 pub returns : goal.returns

@@ -1,4 +1,4 @@
-use Rattle.gb_judge.proofs.Truths.{true_hoare, true_phoare, true_equiv}
+use Rattle.gb_laws.proofs.Truths.{true_hoare, true_phoare, true_equiv}
 use Rattle.gb_judge.proofs.truth_laws.judgments.Goals as goal
 
 pub returns : goal.returns

@@ -1,4 +1,4 @@
-use Rattle.gb_judge.proofs.Truths.{true_all, true_some, true_all_memory, true_some_memory}
+use Rattle.gb_laws.proofs.Truths.{true_all, true_some, true_all_memory, true_some_memory}
 use Rattle.gb_judge.proofs.truth_laws.quantifiers.Goals as goal
 
 pub returns : goal.returns

@@ -2,4 +2,4 @@ use Rattle.gb_later.proofs.Additions.{lemma-stays, loops-stay}
 use Rattle.gb_later.proofs.added_laws.whole_scopes.Goals as goal
 
 pub returns : goal.returns
-returns c = record { lemmas = λ ds es n q s a. lemma-stays ds es n q s a; loops = λ ds es m f s a. loops-stay ds es m f s a }
+returns c = record { lemmas = λ ds es n q s a. lemma-stays ds es n q s a; loops = λ ds es n p s a. loops-stay ds es n p s a }

@@ -1,8 +1,8 @@
 use Rattle.std.proofs.Common.{ap, ◌∙◌}
-use Rattle.gb_print.specs.Goals.{place_of_form}
+use Rattle.gb_print_text.specs.Goals.{place_of_form}
 use Rattle.gb_readback.specs.Nodes.{placeless}
 use Rattle.gb_readback.specs.ReadBack.{tokens_at}
-use Rattle.gb_print.specs.Goals.{printed_form}
+use Rattle.gb_print_text.specs.Goals.{printed_form}
 use Rattle.gb_readback.proofs.FormsBack.{form_back, form_kept}
 use Rattle.gb_readback.proofs.laws.printed_forms_are_read.Goals as goal
 

@@ -1,5 +1,5 @@
 -- The names that a pattern adds are those of its head and its parts.
-use Rattle.std.proofs.Common.{◌≡◌, ◌+◌, [], ◌++◌, drop, ap, sym, ◌∙◌, subst}
+use Rattle.std.proofs.Common.{◌≡◌, ◌+◌, [], drop, ap, sym, ◌∙◌, subst}
 use Rattle.std.proofs.lemmas.Result.{err_from_is_err_and}
 use Rattle.std.specs.Prelude.{Err}
 use Rattle.gb_goal.specs.Answers.{Answers, Fails}

@@ -3,8 +3,19 @@ use Rattle.gb_goal.specs.Answers.{Answers}
 use Rattle.gb_linear.specs.Closing.{linear_answer}
 use Rattle.gb_smt.specs.Leaves.{leaves_of}
 use Rattle.gb_smt.specs.Apply.{IsResult}
-use Rattle.gb_theory.proofs.Steps.{ambient_meets, linear_meets, rewrite_meets, smt_meets, use_meets}
+use Rattle.gb_theory.proofs.Steps.{ambient_meets, body_meets, known_meets, linear_meets, rewrite_meets, smt_meets, use_meets, while_meets}
 use Rattle.gb_theory.proofs.tactics.apply.Goals as goal
+
+pub returns-in-OnBodies : goal.returns-in-OnBodies
+returns-in-OnBodies c = body_meets c.args.scope.now c.args.step.now.rule c.in-OnBodies.rule c.args.step.now.place c.args.goal.now c.on_bodies.result c.in-OnBodies.is c.on_bodies.ensures
+
+pub returns-in-While : goal.returns-in-While
+returns-in-While c = while_meets c.args.scope.now c.args.step.now.rule c.in-While.kept c.args.step.now.place c.args.goal.now c.apply-in-While.result c.in-While.is c.apply-in-While.ensures
+
+pub returns-in-CallKnown : goal.returns-in-CallKnown
+returns-in-CallKnown c =
+    known_meets c.args.scope.now c.args.step.now.rule c.in-CallKnown.acts c.in-CallKnown.known c.args.step.now.place c.args.goal.now c.apply-in-CallKnown.result c.in-CallKnown.is
+    c.apply-in-CallKnown.ensures
 
 pub returns-in-Smt : goal.returns-in-Smt
 returns-in-Smt c =

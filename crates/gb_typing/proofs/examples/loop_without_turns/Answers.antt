@@ -33,4 +33,4 @@ typed_module = record {
 }
 
 pub returns : goal.returns
-returns x = (refl, typed_module, (tt, tt, tt))
+returns x = (refl, typed_module, (refl, tt, tt))

@@ -1,0 +1,147 @@
+-- Claims: the first goal of an open proof may be worked on, and where none is left, what is claimed stands.
+use Rattle.std.proofs.Common.{◌≡◌, ℕ, Bool, true, false, is_some, ◌||◌, bytes_eq, if◌then◌else◌, List, [], ◌∷◌, ◌++◌, append-nil, Option, Some, None, refl, ap, sym, ◌∙◌, subst}
+use Rattle.std.specs.List.{AllByRecursion}
+use Rattle.gb_core.specs.declared.ty.Ty.TheVariants as ty
+use Rattle.gb_terms.specs.declared.decl.Proc.{Proc}
+use Rattle.gb_goal.specs.Scope.{Declarations, entry_of, path_of, proc_of, procedure_of, module_of}
+use Rattle.gb_goal.specs.declared.scope.Binder.{Binder}
+use Rattle.gb_goal.specs.declared.scope.Entry.{Entry}
+use Rattle.gb_goal.specs.declared.scope.Entry.TheVariants as entry
+use Rattle.gb_goal.specs.declared.scope.ProcName.{ProcName}
+use Rattle.gb_goal.specs.declared.sequent.Sequent.{Sequent}
+use Rattle.gb_meaning.specs.Commands.{statements}
+use Rattle.gb_meaning.specs.Names.{Name}
+use Rattle.gb_holds.specs.Declared.{declared, terminating}
+use Rattle.gb_holds.specs.Holds.{EachArgument, Holds, InEachModel, IsTerminating, LoopsAreGood, ProcedureIsGood, ProcedureOfIsGood}
+use Rattle.gb_holds.specs.Settings.{Interpretation, setting}
+use Rattle.gb_holds.proofs.Lists.{declared-append}
+use Rattle.gb_holds.proofs.Scopes.{gained_lemma, gained_proof}
+use Rattle.gb_models.proofs.StayingLoops.{found_named_of, module_there}
+use Rattle.gb_typing.specs.Formulas.{IsKnown}
+use Rattle.gb_typing.specs.Modules.{FunctorType, Interface, ProcedureType, of_complete, procedure_of as procedure_in}
+use Rattle.gb_typing.specs.Scopes.{nothing, context_of, is_declared, HasProcedure, IsTypedScope}
+use Rattle.gb_typing.proofs.Located.{typed_there}
+use Rattle.gb_elab_laws.proofs.Scopes.{typed_after}
+use Rattle.gb_smt_laws.proofs.Split.{each_left}
+use Rattle.gb_smt_laws.proofs.Used.{each_together}
+use Rattle.gb_variants.specs.Variants.{over_none, zero_of}
+use Rattle.gb_variants_laws.proofs.Shown.{each_shown}
+use Rattle.gb_theory.specs.Built.{Session, with_ended, with_proved}
+use Rattle.gb_theory.specs.declared.state.Claim.{Claim}
+use Rattle.gb_theory.specs.declared.state.Claim.TheVariants as claim
+use Rattle.gb_accepted.specs.Holding.{IsProved, lemmas_in, names_of}
+use Rattle.gb_accepted.proofs.Grounds.{IsGoalThatEnds, Grounds, IsTyped}
+use Rattle.gb_accepted.proofs.Good.{IsGoodLemma, IsGoodTermination, IsGoodClaim, IsGood, StatesProcedures}
+use Rattle.gb_accepted.proofs.Later.{each_with, lemmas_append, name_added, proved_with}
+use Rattle.gb_accepted.proofs.LoopProofs.{named, Continues, loops_continue, loops_proved}
+
+-- the first goal may be worked on
+pub claim_continues : Grounds → (ds : Declarations) → IsTyped ds → (c : Claim) (q : Sequent) (rest : List Sequent) → IsGoodClaim ds c (q ∷ rest) → Continues ds (IsGoodClaim ds c) q rest
+claim_continues o ds scoped (claim.Lemma n s bs) q rest h = record {
+  goal = h.goals.0;
+  next = λ qs lead. record {
+    free = h.free;
+    statement = h.statement;
+    goals = each_together (IsGoalThatEnds ds) qs rest lead.typed h.goals.1;
+    leads = λ hs. let r = each_left (Holds (declared ds)) qs rest hs in h.leads ((lead.leads r.0).0, r.1);
+    procedures = h.procedures;
+  };
+}
+claim_continues o ds scoped (claim.Loops f) q rest h =
+    let m = o.models.model ds scoped in
+    let k = loops_continue ds h.procedure (each_shown ds scoped m.0 m.1 m.2 m.3 (named f) h.procedure h.there) q rest h.loops in
+    record { goal = k.goal; next = λ qs lead. record { procedure = h.procedure; there = h.there; loops = k.next qs lead } }
+
+-- Loops that are proved.
+
+undeclared : (ds : Declarations) (n : Name) → entry_of ds n ≡ None → is_declared (declared ds) n ≡ false
+undeclared [] n e = refl
+undeclared (d ∷ ds) n e = step (bytes_eq n d.0) (undeclared ds n) e
+  where
+    step : (b : Bool) → (entry_of ds n ≡ None → is_declared (declared ds) n ≡ false) → (if b then Some d.1 else entry_of ds n) ≡ None → (b || is_declared (declared ds) n) ≡ false
+    step true k e = absurd (cc)
+    step false k e = k e
+
+has_procedure : (o : Option Interface) (f : Name) (t : ProcedureType) → procedure_in o f ≡ Some t → HasProcedure o f
+has_procedure None f t e = absurd (cc)
+has_procedure (Some i) f t e = by_lacks i.lacks e
+  where
+    by_lacks : (ls : List FunctorType) → of_complete ls i.procedures f ≡ Some t → HasProcedure (Some i) f
+    by_lacks [] e = subst IsKnown (sym e) tt
+    by_lacks (l ∷ ls) e = absurd (cc)
+
+module _ (ds : Declarations) (scoped : IsTypedScope (declared ds)) (f : ProcName) (a : Proc) (there : procedure_of ds (named f) ≡ Some a) where
+  abbrev IsGoodAt : Option Proc → Interpretation → Type 0
+  IsGoodAt o k = ProcedureIsGood (setting (declared ds) k) o
+
+  terminates : InEachModel (declared ds) (λ i. LoopsAreGood (setting (declared ds) i) (statements (setting (declared ds) i) a.body.list)) → IsTerminating (declared ds) f.module f.name
+  terminates h =
+      let x = module_there (module_of ds f.module) f.name a there in
+      subst (λ o. ProcedureOfIsGood (declared ds) o f.name) (sym (found_named_of ds f.module x.owner x.there))
+      (subst (λ xs. InEachModel (declared ds) (λ i. EachArgument (declared ds) xs i (IsGoodAt (proc_of x.owner.procs f.name)))) (sym x.plain)
+      (subst (λ o. InEachModel (declared ds) (IsGoodAt o)) (sym x.procedure) h))
+
+  has : HasProcedure ((context_of (declared ds)).modules.interfaces f.module) f.name
+  has =
+      let k = typed_there ds scoped (over_none (zero_of ty.Bool)) tt [] (named f) a there in
+      has_procedure ((context_of (declared ds)).modules.interfaces f.module) f.name _ k.type
+
+  proof_typed : entry_of ds (path_of f) ≡ None → IsTypedScope (declared (ds ++ (path_of f, entry.Terminating f) ∷ []))
+  proof_typed e =
+      subst IsTypedScope (sym (declared-append ds ((path_of f, entry.Terminating f) ∷ [])))
+      (typed_after nothing [] (declared ds) ((path_of f, terminating f) ∷ []) scoped (undeclared ds (path_of f) e, has, tt))
+
+-- no lemma is added
+same_lemmas : (ds : Declarations) (n : Name) (f : ProcName) → lemmas_in [] (ds ++ (n, entry.Terminating f) ∷ []) ≡ lemmas_in [] ds
+same_lemmas ds n f = lemmas_append [] ds ((n, entry.Terminating f) ∷ []) ∙ append-nil (lemmas_in [] ds)
+
+-- the same session without its proof, in which it is declared that loops end
+ended_good : Grounds → (s : Session) (f : ProcName) → IsGood s → IsGoodTermination s.scope f [] → IsGood (with_proved s (claim.Loops f))
+ended_good o s f g h = step (entry_of s.scope (path_of f)) refl
+  where
+    Closed : Declarations → Type 0
+    Closed ds = IsGood (let x : Session = record { scope = ds; proof = None; lemmas = s.lemmas } in x)
+
+    step : (e : Option Entry) → entry_of s.scope (path_of f) ≡ e → Closed (with_ended s.scope f)
+    step (Some e) k = subst Closed (sym (ap (λ x. if is_some x then s.scope else s.scope ++ (path_of f, entry.Terminating f) ∷ []) k)) (record {
+      typed = g.typed;
+      sound = g.sound;
+      lemmas = record { names = g.lemmas.names; proved = g.lemmas.proved };
+      speaks = g.speaks;
+      statements = g.statements;
+      proof = tt;
+    })
+    step None k =
+        let same = same_lemmas s.scope (path_of f) f in
+        subst Closed (sym (ap (λ x. if is_some x then s.scope else s.scope ++ (path_of f, entry.Terminating f) ∷ []) k)) (record {
+          typed = proof_typed s.scope g.typed f h.procedure h.there k;
+          sound = gained_proof s.scope (path_of f) f g.sound (terminates s.scope g.typed f h.procedure h.there (loops_proved s.scope h.procedure h.loops));
+          lemmas = record {
+            names = ap names_of same ∙ g.lemmas.names;
+            proved = subst (AllByRecursion IsProved) (sym same) g.lemmas.proved;
+          };
+          speaks = (o.models.parts s.scope ((path_of f, entry.Terminating f) ∷ [])).1 (g.speaks, (tt, tt));
+          statements = subst (AllByRecursion StatesProcedures) (sym same) g.statements;
+          proof = tt;
+        })
+
+-- a lemma that holds is declared
+lemma_good : Grounds → (s : Session) (n : List ℕ) (q : Sequent) (bs : List Binder) → IsGood s → IsGoodLemma s.scope n q [] → IsGood (with_proved s (claim.Lemma n q bs))
+lemma_good o s n q bs g h =
+    let holds = h.leads tt in
+    record {
+      typed = o.typing.lemma_added s.scope g.typed n h.free q bs h.statement;
+      sound = gained_lemma s.scope n q bs g.sound holds;
+      lemmas = record {
+        names = name_added s.scope n q bs ∙ ap (λ ns. ns ++ n ∷ []) g.lemmas.names;
+        proved = proved_with s.scope n q bs g.lemmas.proved g.typed h.statement holds;
+      };
+      speaks = (o.models.parts s.scope ((n, entry.Lemma q bs) ∷ [])).1 (g.speaks, (tt, tt));
+      statements = each_with s.scope n q bs StatesProcedures g.statements h.procedures;
+      proof = tt;
+    }
+
+-- where no goal is left, what is claimed is proved
+pub claim_proved : Grounds → (s : Session) (c : Claim) → IsGood s → IsGoodClaim s.scope c [] → IsGood (with_proved s c)
+claim_proved o s (claim.Lemma n q bs) g h = lemma_good o s n q bs g h
+claim_proved o s (claim.Loops f) g h = ended_good o s f g h

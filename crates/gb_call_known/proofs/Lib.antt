@@ -1,0 +1,4 @@
+pub mod Answered
+pub mod FirstGoals
+pub mod KnownIsSound
+mod Returned

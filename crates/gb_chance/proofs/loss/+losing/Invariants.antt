@@ -1,7 +1,0 @@
-use Rattle.std.proofs.Common.{◌≡◌, drop}
-use Rattle.std.specs.List.{list_any}
-use Rattle.gb_chance.specs.Loss.{may_lose}
-use Rattle.gb_chance.proofs.loss.+losing.Given as goal
-
-abbrev pub invariant-any_may_lose-loop-term : goal.invariant-any_may_lose-loop-term
-invariant-any_may_lose-loop-term l = list_any may_lose (drop l.term-index l.list) ≡ list_any may_lose l.list

@@ -1,7 +1,0 @@
-use Rattle.std.proofs.Common.{◌≡◌, drop, map}
-use Rattle.std.specs.List.{list_any}
-use Rattle.gb_elab_mod.specs.BoundLocals.{reads_bound_locals}
-use Rattle.gb_elab_mod.proofs.bound_locals.+reads.Given as goal
-
-abbrev pub invariant-one_reads-loop-term : goal.invariant-one_reads-loop-term
-invariant-one_reads-loop-term l = list_any (λ b. b) (map reads_bound_locals (drop l.term-index l.list)) ≡ list_any (λ b. b) (map reads_bound_locals l.list)

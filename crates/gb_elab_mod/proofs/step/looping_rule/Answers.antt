@@ -1,0 +1,19 @@
+use Rattle.std.proofs.Common.{◌≡◌, ℕ, List, refl, sym, subst}
+use Rattle.gb_core.specs.declared.place.Place.{Place}
+use Rattle.gb_goal.specs.Answers.{Answers}
+use Rattle.gb_goal.specs.Scope.{Declarations}
+use Rattle.gb_goal.specs.declared.sequent.Sequent.{Sequent}
+use Rattle.gb_script.specs.declared.head.Head.{Head as Kind}
+use Rattle.gb_script.specs.declared.head.Head.TheVariants as text
+use Rattle.gb_script.specs.declared.tree.Node.{Node}
+use Rattle.gb_elab_mod.specs.Steps.{looping_rule, used_rule}
+use Rattle.gb_elab_mod.proofs.step.looping_rule.Goals as goal
+
+-- other steps use what is known, or are patterns
+other : (ds : Declarations) (q : Sequent) (k : Kind) (x : List ℕ) (ps : List Node) (p : Place) → (k ≡ text.WhileStep → ⊥) → looping_rule ds q k x ps p ≡ used_rule ds q k x ps p
+other ds q text.WhileStep x ps p a = absurd (a refl)
+other ds q _ x ps p a = refl
+
+pub returns-in_default : goal.returns-in_default
+returns-in_default c =
+    subst (λ r. Answers r c.used_rule.result) (sym (other c.args.scope.now c.args.goal.now c.args.head c.args.text.now c.args.parts.now c.args.place c.in_default.not-WhileStep)) c.used_rule.ensures

@@ -1,0 +1,146 @@
+// The typing of `transitivity`.
+
+ghost use Rattle.std.specs.Prelude.{◌≡◌, [], ◌∷◌};
+ghost use Rattle.gb_goal.specs.Answers.{Answers};
+ghost use Rattle.gb_goal.specs.Goal.{goal_of};
+ghost use Rattle.gb_script.specs.declared.tree.Node.{Node as Tree};
+ghost use Rattle.gb_elab_mod.specs.Steps.{between_at, between_by, between_of, related, transitive_rule};
+
+use crate::contract::{after_both, before_both};
+use gb_core::place::Place;
+use gb_core::refusal::Refused;
+use gb_goal::goal::{Code, Goal, goal_of};
+use gb_goal::scope::Scope;
+use gb_goal::sequent::Sequent;
+use gb_names::judgment::named_procedure;
+use gb_names::refusals::not_built;
+use gb_names::setting::Setting;
+use gb_script::head::Head;
+use gb_script::tree::Node;
+use gb_steps::step::{Acts, Between, BodyRule, RelationalRule, Rule};
+use gb_terms::module::ProcRef;
+use gb_terms::term::Form;
+use std::alloc::Global;
+
+/// A precondition and a postcondition as they are written.
+#[derive(Clone, Copy)]
+struct Said<'a> {
+    pre: &'a Node,
+    post: &'a Node,
+}
+
+/// What relates two procedures: a form over the parameters of both, and one over both results.
+#[tactic(auto, unfolding(crate::specs::Steps::related))]
+fn related(
+    alloc: Global,
+    scope: &Scope,
+    goal: &Sequent,
+    said: Said<'_>,
+    left: &ProcRef,
+    right: &ProcRef,
+) -> Result<(Form, Form), Refused>
+    ensures { Answers (related scope.now goal.now said.entry.pre.now said.entry.post.now left.now right.now) result }
+{
+    let pre = before_both(alloc, scope, goal, said.pre, left, right)?;
+    let post = after_both(alloc, scope, goal, said.post, left, right)?;
+    Ok((pre, post))
+}
+
+/// The procedure between two others that these words name, what relates the left one to it, and what relates it to the right one.
+#[tactic(auto, unfolding(crate::specs::Steps::between_of))]
+fn between_of(
+    alloc: Global,
+    scope: &Scope,
+    goal: &Sequent,
+    words: &[Node],
+    first: Said<'_>,
+    second: Said<'_>,
+    place: Place,
+    left: &ProcRef,
+    right: &ProcRef,
+) -> Result<Rule, Refused>
+    ensures { Answers (between_of scope.now goal.now words.now first.entry.pre.now first.entry.post.now second.entry.pre.now second.entry.post.now place left.now right.now) result }
+{
+    let at = Setting::ambient(scope, goal);
+    let named = named_procedure(alloc, &at, &[], Head::ProcedurePath, words, place)?;
+    let procedure = named.reference;
+    let (left_pre, left_post) = related(alloc, scope, goal, first, left, procedure.get())?;
+    let (right_pre, right_post) = related(alloc, scope, goal, second, procedure.get(), right)?;
+    let between = Between {
+        procedure,
+        left_pre,
+        left_post,
+        right_pre,
+        right_post,
+    };
+    Ok(Rule::Relational(RelationalRule::Transitivity(between)))
+}
+
+/// The same at a goal.
+fn between_by(
+    alloc: Global,
+    scope: &Scope,
+    goal: &Sequent,
+    words: &[Node],
+    first: Said<'_>,
+    second: &[Node],
+    place: Place,
+) -> Result<Rule, Refused>
+    ensures { (x y : Tree) → words.now ≡ x ∷ y ∷ [] → Answers (between_by scope.now goal.now x y first.entry.pre.now first.entry.post.now second.now (goal_of goal.now.conclusion) place) result }
+{
+    let [pre, post] = second else {
+        return Err(not_built(place));
+    };
+    match (goal_of(&goal.conclusion), words) {
+        (Goal::Equiv(Code::Procedure(left), Code::Procedure(right), _, _), [word, ..]) => {
+            let second = Said { pre, post };
+            let at = word.place;
+            between_of(alloc, scope, goal, words, first, second, at, left, right)
+        }
+        _ => Ok(Rule::OnBodies(BodyRule::Unfit)),
+    }
+}
+
+/// The same as it is written.
+fn between_at(
+    alloc: Global,
+    scope: &Scope,
+    goal: &Sequent,
+    head: Head,
+    parts: &[Node],
+    place: Place,
+) -> Result<Rule, Refused>
+    ensures { Answers (between_at scope.now goal.now head parts.now place) result }
+{
+    match (head, parts) {
+        (Head::PlainTransitivity, [_, _, pre, post, contract]) => {
+            let (words, _) = parts.split_at(2);
+            let first = Said { pre, post };
+            let second = contract.parts.as_slice();
+            between_by(alloc, scope, goal, words, first, second, place)
+        }
+        _ => Err(not_built(place)),
+    }
+}
+
+/// The typed step of `transitivity`, which acts on both programs.
+///
+/// # Errors
+///
+/// `Syntax` of one that isn't built, `UnknownName` and `Argument` of a name that is that of no procedure, and those of typing.
+pub fn transitive_rule(
+    alloc: Global,
+    scope: &Scope,
+    goal: &Sequent,
+    acts: Acts,
+    head: Head,
+    parts: &[Node],
+    place: Place,
+) -> Result<Rule, Refused>
+    ensures { Answers (transitive_rule scope.now goal.now acts head parts.now place) result }
+{
+    match acts {
+        Acts::All => between_at(alloc, scope, goal, head, parts, place),
+        _ => Ok(Rule::OnBodies(BodyRule::Unfit)),
+    }
+}

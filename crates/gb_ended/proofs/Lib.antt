@@ -1,0 +1,2 @@
+pub mod LoopSteps
+pub mod NamedSteps

@@ -1,0 +1,57 @@
+-- Which modules a module names, through all modules that it names.
+use Rattle.std.specs.Prelude.{ℕ, Bool, false, ◌||◌, if◌then◌else◌, List, [], ◌∷◌, ◌++◌, Option, Some, None, bytes_eq}
+use Rattle.gb_core.specs.declared.var.Var.{Var}
+use Rattle.gb_core.specs.declared.var.Var.TheVariants as var
+use Rattle.gb_terms.specs.declared.decl.Proc.{Proc}
+use Rattle.gb_terms.specs.declared.module.Mexp.{Mexp}
+use Rattle.gb_terms.specs.declared.module.Mexp.TheVariants.{Name, Apply'}
+use Rattle.gb_terms.specs.declared.module.ProcRef.{ProcRef}
+use Rattle.gb_goal.specs.Scope.{Declarations}
+use Rattle.gb_goal.specs.declared.scope.Entry.{Entry}
+use Rattle.gb_goal.specs.declared.scope.Entry.TheVariants as entry
+use Rattle.gb_mods.specs.Called.{calls}
+use Rattle.gb_mods.specs.Touched.{touched_itself}
+
+abbrev pub name_of : Mexp → List ℕ
+name_of (Name m) = m
+name_of (Apply' m n args) = m
+
+-- the modules of procedures
+abbrev pub modules_of : List ProcRef → List (List ℕ)
+modules_of [] = []
+modules_of (p ∷ ps) = name_of p.module ∷ modules_of ps
+
+abbrev pub owner : Var → List (List ℕ)
+owner (var.Global m x) = m ∷ []
+owner (var.Glob a) = a ∷ []
+owner _ = []
+
+-- the owners of globals
+abbrev pub owners : List Var → List (List ℕ)
+owners [] = []
+owners (x ∷ xs) = owner x ++ owners xs
+
+-- the modules that a procedure names itself: those of the procedures that it calls, and the owners of the globals that it reads or writes
+abbrev pub named_by : Proc → List (List ℕ)
+named_by f = modules_of (calls f.body.list) ++ owners (touched_itself (Some f))
+
+-- the same of several procedures
+abbrev pub named_in : List Proc → List (List ℕ)
+named_in [] = []
+named_in (f ∷ fs) = named_by f ++ named_in fs
+
+-- one of these names
+abbrev pub is_one : List (List ℕ) → List ℕ → Bool
+is_one [] n = false
+is_one (m ∷ ms) n = bytes_eq n m || is_one ms n
+
+-- these names, and those that a thing names, where it is a module that has one of these names
+abbrev pub with_named : Option Entry → List (List ℕ) → List (List ℕ)
+with_named (Some (entry.Module m)) ns = if is_one ns m.name then ns ++ named_in m.procs else ns
+with_named _ ns = ns
+
+-- These names, and those of all modules that modules of these names name, through every module. A module names itself and modules
+-- before it alone, so that one way from the last declaration to the first finds them all.
+abbrev pub all_named : Declarations → List (List ℕ) → List (List ℕ)
+all_named [] ns = ns
+all_named (d ∷ ds) ns = with_named (Some d.1) (all_named ds ns)

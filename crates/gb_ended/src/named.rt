@@ -1,0 +1,122 @@
+//! Which modules a module names, through all modules that it names.
+
+ghost use Rattle.std.specs.Prelude.{◌≡◌, ◌++◌, IfOk};
+ghost use Rattle.std.specs.Option.{option_copied};
+ghost use Rattle.gb_ended.specs.Named.{all_named, is_one, modules_of, name_of, named_by, named_in, owner, owners, with_named};
+
+use gb_core::name::{Name, Names};
+use gb_core::same::same_name;
+use gb_core::var::Var;
+use gb_goal::scope::{Entry, Scope};
+use gb_mods::called::calls;
+use gb_mods::touched::touched_itself;
+use gb_shared::Shared;
+use gb_terms::decl::Proc;
+use gb_terms::module::{Mexp, ProcRef};
+use sqlite_items::Items;
+use std::alloc::{AllocError, Global};
+
+fn name_of(module: &Mexp) -> &Name
+    ensures { result.now ≡ name_of «module».now }
+{
+    match module {
+        Mexp::Name(name) => name,
+        Mexp::Apply(name, _) => name,
+    }
+}
+
+/// Names behind others: those of the modules of procedures.
+fn modules_of(alloc: Global, found: Names, list: &[Shared<ProcRef>]) -> Result<Names, AllocError>
+    ensures { IfOk result (λ made. made ≡ found ++ modules_of list.now) }
+{
+    let mut all = found;
+    for x in list {
+        all.push(name_of(&x.get().module).copy(alloc)?)?;
+    }
+    Ok(all)
+}
+
+/// A name behind others: that of the owner of a global.
+fn with_owner(alloc: Global, found: Names, variable: &Var) -> Result<Names, AllocError>
+    ensures { IfOk result (λ made. made ≡ found ++ owner variable.now) }
+{
+    let mut all = found;
+    match variable {
+        Var::Global { module, .. } => all.push(module.copy(alloc)?)?,
+        Var::Glob { module } => all.push(module.copy(alloc)?)?,
+        Var::Local { .. } => {}
+    }
+    Ok(all)
+}
+
+/// Names behind others: those of the owners of globals.
+fn owners(alloc: Global, found: Names, list: &[Var]) -> Result<Names, AllocError>
+    ensures { IfOk result (λ made. made ≡ found ++ owners list.now) }
+{
+    let mut all = found;
+    for variable in list {
+        all = with_owner(alloc, all, variable)?;
+    }
+    Ok(all)
+}
+
+/// Names behind others: those of the modules that a procedure names itself.
+pub fn named_by(alloc: Global, found: Names, procedure: &Proc) -> Result<Names, AllocError>
+    ensures { IfOk result (λ made. made ≡ found ++ named_by procedure.now) }
+{
+    let called = calls(alloc, Items::new(alloc), procedure.body.list.as_slice())?;
+    let touched = touched_itself(alloc, procedure)?;
+    let found = modules_of(alloc, found, called.as_slice())?;
+    owners(alloc, found, touched.as_slice())
+}
+
+/// The same of several procedures.
+fn named_in(alloc: Global, found: Names, list: &[Proc]) -> Result<Names, AllocError>
+    ensures { IfOk result (λ made. made ≡ found ++ named_in list.now) }
+{
+    let mut all = found;
+    for procedure in list {
+        all = named_by(alloc, all, procedure)?;
+    }
+    Ok(all)
+}
+
+/// Whether a name is one of several.
+pub fn is_one(names: &[Name], name: &Name) -> bool
+    ensures { result ≡ is_one names.now name.now }
+{
+    for other in names {
+        if same_name(name, other) {
+            return true;
+        }
+    }
+    false
+}
+
+/// Names, and those that a thing names, where it is a module that has one of them.
+fn with_named(alloc: Global, found: Names, entry: Option<&Entry>) -> Result<Names, AllocError>
+    ensures { IfOk result (λ made. made ≡ with_named (option_copied entry.entry) found) }
+{
+    match entry {
+        Some(Entry::Module(module)) => {
+            if is_one(found.as_slice(), &module.name) {
+                named_in(alloc, found, module.procs.as_slice())
+            } else {
+                Ok(found)
+            }
+        }
+        _ => Ok(found),
+    }
+}
+
+/// Names, and those of all modules that modules of these names name, through every module.
+pub fn all_named(alloc: Global, scope: &Scope, first: Names) -> Result<Names, AllocError>
+    ensures { IfOk result (λ made. made ≡ all_named scope.now first) }
+{
+    let mut all = first;
+    for k in 0..scope.len() {
+        let at = scope.len() - 1 - k;
+        all = with_named(alloc, all, scope.entry_at(at))?;
+    }
+    Ok(all)
+}

@@ -1,0 +1,4 @@
+//! Loops that procedures reach are good where no procedure is unproved.
+#![tactic(auto)]
+
+pub mod laws;

@@ -1,0 +1,12 @@
+pub mod Heads
+pub mod Parts
+pub mod Bodies
+pub mod Relational
+pub mod Chances
+pub mod Calls
+pub mod Conclusions
+pub mod Uses
+pub mod Unfolded
+pub mod Rewrites
+pub mod Lifted
+pub mod Known

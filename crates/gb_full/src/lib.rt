@@ -1,0 +1,5 @@
+//! Where programs may lose weight, in themselves and in all that they call.
+#![tactic(auto)]
+
+pub mod laws;
+pub mod loss;

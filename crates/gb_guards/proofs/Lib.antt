@@ -1,0 +1,6 @@
+mod Deciding
+mod DecidedIsSound
+mod RulesAreSound
+mod Shapes
+mod Turns
+mod UnrollIsSound

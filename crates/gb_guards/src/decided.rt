@@ -1,0 +1,198 @@
+// The rules `rcondt` and `rcondf`.
+
+ghost use Rattle.std.specs.Prelude.{◌≡◌, ◌++◌, IfOk};
+ghost use Rattle.std.specs.Option.{option_map};
+ghost use Rattle.gb_goal.specs.Answers.{Answers};
+ghost use Rattle.gb_goal.specs.Goal.{form_of};
+ghost use Rattle.gb_goal.specs.Goal.Code.{body};
+ghost use Rattle.gb_goal.specs.Goal.Goal.{hoare};
+ghost use Rattle.gb_goal.specs.Rows.{answered, each_concluding};
+ghost use Rattle.gb_terms.specs.declared.term.Instr.{out-Instr};
+ghost use Rattle.gb_parts.specs.OneBody.{one_seen};
+ghost use Rattle.gb_trans.specs.Places.{placed_seen};
+ghost use Rattle.gb_guards.specs.Decided.{decided, decided_row, deciding, decision, decision_goals, decision_seen, left_seen};
+
+use gb_core::refusal::{Refused, Why};
+use gb_goal::goal;
+use gb_goal::goal::goal_of;
+use gb_goal::sequent::{Sequent, Sequents};
+use gb_parts::one_body::{OneBody, filled, one_body};
+use gb_parts::subgoals::{no_shape, refusal, shared_body, two_goals};
+use gb_shared::SharedItems;
+use gb_steps::step::Acts;
+use gb_terms::make::negation;
+use gb_terms::term::{Cmd, Form, Instr, Instrs, Term};
+use gb_trans::places::{Placed, statement_at};
+use gb_trans::swap::with_statements;
+use sqlite_items::Items;
+use std::alloc::{AllocError, Global};
+
+/// A guard, and what its statement comes to where the guard is known.
+#[derive(Clone, Copy)]
+pub struct Guarded<'a> {
+    pub guard: &'a Term,
+    pub left: Left<'a>,
+}
+
+/// What is left of a statement: one side of a branch, a turn of a loop with the loop behind it, or nothing.
+#[derive(Clone, Copy)]
+pub enum Left<'a> {
+    Side(&'a Cmd),
+    Turn(&'a Cmd),
+    Nothing,
+}
+
+/// What a statement comes to where its guard is true, or false. None of a statement without a guard.
+fn decision(holds: bool, statement: &Instr) -> Option<Guarded<'_>>
+    ensures { option_map (decision_seen statement.now) result ≡ decision holds statement.now (out-Instr statement.now) }
+{
+    match statement {
+        Instr::If(guard, yes, no) => {
+            let side = if holds { yes } else { no };
+            let left = Left::Side(side);
+            Some(Guarded { guard, left })
+        }
+        Instr::While(guard, _, body) => {
+            let left = if holds {
+                Left::Turn(body)
+            } else {
+                Left::Nothing
+            };
+            Some(Guarded { guard, left })
+        }
+        _ => None,
+    }
+}
+
+/// What is to hold where the statement stands.
+fn deciding(alloc: Global, holds: bool, guard: &Term) -> Result<Form, AllocError>
+    ensures { IfOk result (λ made. made ≡ deciding holds guard.now) }
+{
+    let guard = guard.share()?;
+    if holds {
+        Ok(guard)
+    } else {
+        negation(alloc, guard)
+    }
+}
+
+/// Statements, and what is left of the one at a place behind them.
+fn with_left(
+    alloc: Global,
+    found: Instrs,
+    statement: &Instr,
+    left: Left<'_>,
+) -> Result<Instrs, AllocError>
+    ensures { IfOk result (λ made. made ≡ found ++ left_seen statement.now left.entry) }
+{
+    match left {
+        Left::Side(side) => with_statements(alloc, found, side.list.as_slice()),
+        Left::Turn(body) => {
+            let mut list = with_statements(alloc, found, body.list.as_slice())?;
+            list.push(statement.share(alloc)?)?;
+            Ok(list)
+        }
+        Left::Nothing => Ok(found),
+    }
+}
+
+/// The body with what is left of a statement in its place.
+fn with_decision(
+    alloc: Global,
+    at: &Placed<'_>,
+    left: Left<'_>,
+) -> Result<SharedItems<Instr>, AllocError>
+    ensures { IfOk result (λ made. made ≡ (let k = placed_seen at.now in k.before ++ (left_seen k.statement left.entry ++ k.rest))) }
+{
+    let list = with_statements(alloc, Items::new(alloc), at.before)?;
+    let list = with_left(alloc, list, at.statement, left)?;
+    let list = with_statements(alloc, list, at.rest)?;
+    SharedItems::new(alloc, list)
+}
+
+/// The judgment that the guard is as it is said after what stands before the statement.
+fn guard_judged(
+    alloc: Global,
+    holds: bool,
+    pre: &Form,
+    before: &[Instr],
+    guard: &Term,
+) -> Result<Form, AllocError>
+    ensures { IfOk result (λ made. made ≡ form_of (hoare (body before.now) pre.now (deciding holds guard.now))) }
+{
+    let said = deciding(alloc, holds, guard)?;
+    let before = shared_body(alloc, before)?;
+    let pre = pre.share()?;
+    goal::hoare(alloc, before, pre, said)
+}
+
+/// The goal with what is left of a statement in its place.
+fn goal_left(
+    alloc: Global,
+    one: &OneBody<'_>,
+    at: &Placed<'_>,
+    left: Left<'_>,
+) -> Result<Form, AllocError>
+    ensures { IfOk result (λ made. made ≡ form_of (let o = one_seen one.now in let k = placed_seen at.now in
+        o.goal (k.before ++ (left_seen k.statement left.entry ++ k.rest)) o.pre o.post)) }
+{
+    let list = with_decision(alloc, at, left)?;
+    let pre = one.pre.share()?;
+    let post = one.post.share()?;
+    filled(alloc, one.around, list, pre, post)
+}
+
+/// The goals where the guard of the statement at a place is as it is said.
+fn decision_goals(
+    alloc: Global,
+    goal: &Sequent,
+    holds: bool,
+    one: &OneBody<'_>,
+    at: &Placed<'_>,
+) -> Result<Sequents, Refused>
+    ensures { Answers (each_concluding goal.now (let k = placed_seen at.now in decision_goals holds (one_seen one.now) k (decision holds k.statement (out-Instr k.statement)))) result }
+{
+    let Some(decided) = decision(holds, at.statement) else {
+        return Err(no_shape());
+    };
+    let first = guard_judged(alloc, holds, one.pre, at.before, decided.guard)?;
+    let second = goal_left(alloc, one, at, decided.left)?;
+    Ok(two_goals(alloc, goal, first, second)?)
+}
+
+/// The same of a place that the body may not have.
+fn decided(
+    alloc: Global,
+    goal: &Sequent,
+    at: u128,
+    holds: bool,
+    one: &OneBody<'_>,
+) -> Result<Sequents, Refused>
+    ensures { Answers (each_concluding goal.now (decided at holds (one_seen one.now))) result }
+{
+    match statement_at(at, one.list) {
+        Some(found) => decision_goals(alloc, goal, holds, one, &found),
+        None => Err(refusal(Why::Argument)),
+    }
+}
+
+/// The subgoals of `rcondt` and `rcondf`: the guard of the statement at a place is always true, or false, where it stands; and the goal with
+/// what is left of the statement. Refused with `Shape` where the goal is no judgment of one body, or where the statement has no guard, and
+/// with `Argument` where it isn't there.
+pub fn decide(
+    alloc: Global,
+    goal: &Sequent,
+    acts: Acts,
+    at: u128,
+    holds: bool,
+) -> Result<Sequents, Refused>
+    ensures { Answers (answered (decided_row at holds acts) goal.now) result }
+{
+    match acts {
+        Acts::All => match one_body(Acts::All, goal_of(&goal.conclusion)) {
+            Some(one) => decided(alloc, goal, at, holds, &one),
+            None => Err(no_shape()),
+        },
+        _ => Err(no_shape()),
+    }
+}

@@ -1,0 +1,7 @@
+//! Rules that put other statements into a program: those that look at the guard of a branch or a loop, beside those of `gb_trans`.
+#![tactic(auto)]
+
+pub mod apply;
+pub mod decided;
+pub mod laws;
+pub mod unrolled;

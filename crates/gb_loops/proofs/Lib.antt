@@ -1,0 +1,11 @@
+pub mod LastLoops
+pub mod ReadSteps
+pub mod BodyWrites
+pub mod BothLoops
+pub mod TypesRead
+pub mod Conditions
+pub mod Finite
+pub mod Likely
+pub mod LoopRuns
+pub mod OneLoop
+pub mod WhileIsSound

@@ -1,0 +1,3 @@
+pub mod LastLoop
+pub mod Read
+pub mod While

@@ -1,0 +1,3 @@
+pub mod AssignedForms
+pub mod Likely
+pub mod Parts

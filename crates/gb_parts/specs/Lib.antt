@@ -1,0 +1,4 @@
+pub mod Judged
+pub mod Likely
+pub mod OneBody
+pub mod Assigned

@@ -1,0 +1,8 @@
+//! What the rules on bodies share: the forms and goals that they make, one of the bodies of a judgment, values that are assigned.
+#![tactic(auto)]
+
+pub mod assigned;
+pub mod forms;
+pub mod judged;
+pub mod one_body;
+pub mod subgoals;

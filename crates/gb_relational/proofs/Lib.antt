@@ -1,0 +1,4 @@
+mod MemoryBetween
+pub mod OneSideIsSound
+mod Others
+pub mod TransitivityIsSound

@@ -1,0 +1,159 @@
+//! The rule `transitivity`.
+
+ghost use Rattle.std.specs.Prelude.{◌≡◌, IfOk, map};
+ghost use Rattle.gb_goal.specs.Answers.{Answers};
+ghost use Rattle.gb_goal.specs.Goal.{code_of, form_of};
+ghost use Rattle.gb_goal.specs.Goal.Code.{procedure};
+ghost use Rattle.gb_goal.specs.Goal.Goal.{equiv};
+ghost use Rattle.gb_goal.specs.Rows.{answered, concluding, stepped};
+ghost use Rattle.gb_typing.specs.Forms.{every_pair, implies_form};
+ghost use Rattle.gb_relational.specs.Transitivity.{every_between, from_left, reads_between, some_between, through, to_right, transitivity_row};
+
+use gb_core::place::Place;
+use gb_core::refusal::Refused;
+use gb_goal::sequent::{Sequent, Sequents};
+use gb_parts::forms::{every_pair, implied};
+use gb_parts::judged::{Judged, equiv_of, judgment};
+use gb_parts::subgoals::{no_shape, placed, two_goals};
+use gb_steps::step::Between;
+use gb_terms::make::{conjunction, implication, over, truth_ty};
+use gb_terms::op::Side;
+use gb_terms::term::{Form, Head, Subject};
+use gb_walk::change::Change;
+use gb_walk::sides::reads_side;
+use gb_walk::walk::changed;
+use std::alloc::{AllocError, Global};
+
+/// A relation of both sides, of the left memory and the nearest bound one.
+fn from_left(alloc: Global, form: &Form) -> Result<Form, AllocError>
+    ensures { IfOk result (λ made. made ≡ from_left form.now) }
+{
+    changed(alloc, form, &[Change::ToSide(Side::Right, Side::Bound(0))])
+}
+
+/// A relation of both sides, of the nearest bound memory and the right one.
+fn to_right(alloc: Global, form: &Form) -> Result<Form, AllocError>
+    ensures { IfOk result (λ made. made ≡ to_right form.now) }
+{
+    changed(alloc, form, &[Change::ToSide(Side::Left, Side::Bound(0))])
+}
+
+/// Whether the memory between two relations is read.
+fn reads_between(left: &Form, right: &Form) -> bool
+    ensures { result ≡ reads_between left.now right.now }
+{
+    reads_side(left, &Side::Right) || reads_side(right, &Side::Left)
+}
+
+/// There is a memory between for which both relations hold.
+fn some_between(alloc: Global, left: &Form, right: &Form) -> Result<Form, AllocError>
+    ensures { IfOk result (λ made. made ≡ some_between left.now right.now) }
+{
+    if !reads_between(left, right) {
+        let left = left.share()?;
+        return conjunction(alloc, left, right.share()?);
+    }
+    let first = from_left(alloc, left)?;
+    let both = conjunction(alloc, first, to_right(alloc, right)?)?;
+    let ty = truth_ty(alloc)?;
+    over(alloc, Head::SomeMemory, both, ty)
+}
+
+/// Whatever the memory between is for which both relations hold, the form holds.
+fn every_between(alloc: Global, left: &Form, right: &Form, form: &Form) -> Result<Form, AllocError>
+    ensures { IfOk result (λ made. made ≡ every_between left.now right.now form.now) }
+{
+    if !reads_between(left, right) {
+        let rest = implied(alloc, right, form)?;
+        return implication(alloc, left.share()?, rest);
+    }
+    let second = to_right(alloc, right)?;
+    let rest = implication(alloc, second, form.share()?)?;
+    let body = implication(alloc, from_left(alloc, left)?, rest)?;
+    let ty = truth_ty(alloc)?;
+    over(alloc, Head::AllMemory, body, ty)
+}
+
+/// From each two related memories there is one between.
+fn leads_through(alloc: Global, pre: &Form, between: &Between) -> Result<Form, AllocError>
+    ensures { IfOk result (λ made. made ≡ every_pair (implies_form pre.now (some_between between.now.left_pre between.now.right_pre))) }
+{
+    let some = some_between(alloc, &between.left_pre, &between.right_pre)?;
+    every_pair(alloc, implied(alloc, pre, &some)?)
+}
+
+/// What is related by way of a memory between is related.
+fn leads_back(alloc: Global, between: &Between, post: &Form) -> Result<Form, AllocError>
+    ensures { IfOk result (λ made. made ≡ every_pair (every_between between.now.left_post between.now.right_post post.now)) }
+{
+    let every = every_between(alloc, &between.left_post, &between.right_post, post)?;
+    every_pair(alloc, every)
+}
+
+/// The left procedure is equivalent to the one between.
+fn left_half(alloc: Global, left: &Subject, between: &Between) -> Result<Form, AllocError>
+    ensures { IfOk result (λ made. made ≡ form_of (equiv (code_of left.now) (procedure between.now.procedure) between.now.left_pre between.now.left_post)) }
+{
+    let there = Subject::Proc(between.procedure.share()?);
+    let pre = between.left_pre.share()?;
+    let post = between.left_post.share()?;
+    equiv_of(alloc, left, &there, pre, post)
+}
+
+/// The procedure between is equivalent to the right one.
+fn right_half(alloc: Global, between: &Between, right: &Subject) -> Result<Form, AllocError>
+    ensures { IfOk result (λ made. made ≡ form_of (equiv (procedure between.now.procedure) (code_of right.now) between.now.right_pre between.now.right_post)) }
+{
+    let here = Subject::Proc(between.procedure.share()?);
+    let pre = between.right_pre.share()?;
+    let post = between.right_post.share()?;
+    equiv_of(alloc, &here, right, pre, post)
+}
+
+/// The goals of two programs by way of a procedure between.
+fn through(
+    alloc: Global,
+    goal: &Sequent,
+    between: &Between,
+    left: &Subject,
+    right: &Subject,
+    pre: &Form,
+    post: &Form,
+) -> Result<Sequents, AllocError>
+    ensures { IfOk result (λ made. made ≡ map (concluding goal.now) (through between.now (code_of left.now) (code_of right.now) pre.now post.now)) }
+{
+    let first = leads_through(alloc, pre, between)?;
+    let second = leads_back(alloc, between, post)?;
+    let mut goals = two_goals(alloc, goal, first, second)?;
+    let here = left_half(alloc, left, between)?;
+    goals.push(goal.with_conclusion(here)?)?;
+    let there = right_half(alloc, between, right)?;
+    goals.push(goal.with_conclusion(there)?)?;
+    Ok(goals)
+}
+
+/// The subgoals, or a refusal that has no place yet.
+fn by_way(alloc: Global, goal: &Sequent, between: &Between) -> Result<Sequents, Refused>
+    ensures { Answers (answered (transitivity_row between.now) goal.now) result }
+{
+    match judgment(&goal.conclusion) {
+        Judged::Equiv(left @ Subject::Proc(_), right @ Subject::Proc(_), pre, post) => {
+            Ok(through(alloc, goal, between, left, right, pre, post)?)
+        }
+        _ => Err(no_shape()),
+    }
+}
+
+/// The subgoals of `transitivity` on an equivalence of procedures: from each two related memories there is one between; what is related by
+/// way of a memory between is related; and the procedures are equivalent to the one between. Refused with `Shape` at any other goal.
+pub fn transitivity(
+    alloc: Global,
+    goal: &Sequent,
+    between: &Between,
+    place: Place,
+) -> Result<Sequents, Refused>
+    ensures { Answers (stepped (transitivity_row between.now) place goal.now) result }
+{
+    let made = by_way(alloc, goal, between);
+    placed(made, place)
+}

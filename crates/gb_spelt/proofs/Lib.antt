@@ -1,0 +1,4 @@
+pub mod Headed
+pub mod Operators
+pub mod Forms
+pub mod Goals

@@ -1,0 +1,150 @@
+-- Parts of which nothing crosses name no places of one another.
+use Rattle.std.proofs.Common.{◌≡◌, ◌≢◌, Bool, true, false, ◌||◌, if◌then◌else◌, List, [], ◌∷◌, map, Option, Some, None, refl, ap, sym, ◌∙◌}
+use Rattle.std.proofs.lemmas.Bool.{false≢true}
+use Rattle.std.proofs.lemmas.Option.{none-some}
+use Rattle.std.specs.List.{AllByRecursion, filter}
+use Rattle.gb_core.specs.declared.var.Var.{Var}
+use Rattle.gb_core.specs.declared.var.Var.TheVariants as var
+use Rattle.gb_terms.proofs.Equality.{var_eq-Decides}
+use Rattle.gb_terms.specs.declared.module.Mexp.TheVariants.{Name as named}
+use Rattle.gb_meaning.specs.Names.{Path}
+use Rattle.gb_meaning.specs.Values.{Global, Types}
+use Rattle.gb_walk.specs.Clash.{clashes, least_from, lesser}
+use Rattle.gb_local.specs.Cells.{Key}
+use Rattle.gb_local.specs.Cells.Key.{global, local}
+use Rattle.gb_local.specs.Writes.{key_of_global, keys_of, IsNone, Spares}
+use Rattle.gb_local.proofs.Cells.{key_discrete}
+use Rattle.gb_trans.specs.declared.effects.Effects.{Effects}
+use Rattle.gb_trans.specs.Effects.{crossing, meets}
+use Rattle.gb_trans.proofs.Named.{EachNamed}
+
+-- whether a place is one of these
+
+abbrev or_else : {A : Type 0} → Dec A → Bool → Bool
+or_else (yes e) b = true
+or_else (no h) b = b
+
+abbrev among : Key → List Key → Bool
+among k [] = false
+among k (q ∷ qs) = or_else (key_discrete k q) (among k qs)
+
+-- whether one of these variables names the place
+abbrev pub naming : Types → List Var → Key → Bool
+naming t [] k = false
+naming t (x ∷ xs) k = among k (keys_of t x) || naming t xs k
+
+none_among : (k : Key) (qs : List Key) → among k qs ≡ false → IsNone k qs
+none_among k [] e = tt
+none_among k (q ∷ qs) e = step (key_discrete k q) e (none_among k qs)
+  where
+    step : (d : Dec (k ≡ q)) → or_else d (among k qs) ≡ false → (among k qs ≡ false → IsNone k qs) → IsNone k (q ∷ qs)
+    step (yes p) e go = cc
+    step (no h) e go = (h, go e)
+
+among_none : (k : Key) (qs : List Key) → IsNone k qs → among k qs ≡ false
+among_none k [] h = refl
+among_none k (q ∷ qs) h = step (key_discrete k q) (among_none k qs h.1)
+  where
+    step : (d : Dec (k ≡ q)) → among k qs ≡ false → or_else d (among k qs) ≡ false
+    step (yes p) e = absurd (h.0 p)
+    step (no n) e = e
+
+either_false : (b c : Bool) → (b || c) ≡ false → (b ≡ false) × (c ≡ false)
+either_false true c e = cc
+either_false false c e = (refl, e)
+
+both_false : (b c : Bool) → b ≡ false → c ≡ false → (b || c) ≡ false
+both_false true c e f = cc
+both_false false c e f = f
+
+-- a place that isn't named is spared
+pub unnamed_spared : (t : Types) (xs : List Var) (k : Key) → naming t xs k ≡ false → Spares t xs k
+unnamed_spared t [] k e = tt
+unnamed_spared t (x ∷ xs) k e =
+    let z = either_false (among k (keys_of t x)) (naming t xs k) e in
+    (none_among k (keys_of t x) z.0, unnamed_spared t xs k z.1)
+
+-- variables that don't clash name no place in common
+
+abbrev as_var : Key → Var
+as_var (global (m ∷ x ∷ ns)) = var.Global m x
+as_var (global ns) = var.Local []
+as_var (local (x ∷ ns)) = var.Local x
+as_var (local []) = var.Local []
+
+abbrev is_local : Key → Bool
+is_local (local y) = true
+is_local (global y) = false
+
+local_none : (p : Path) (fs : List Global) → IsNone (local p) (map key_of_global fs)
+local_none p [] = tt
+local_none p (f ∷ fs) = ((λ e. false≢true (sym (ap is_local e))), local_none p fs)
+
+globals_none : (p : Path) (fs : List Global) → AllByRecursion (λ k. IsNone k (local p ∷ [])) (map key_of_global fs)
+globals_none p [] = tt
+globals_none p (f ∷ fs) = (((λ e. false≢true (ap is_local e)), tt), globals_none p fs)
+
+apart_keys : (t : Types) (x y : Var) → clashes x y ≡ false → AllByRecursion (λ k. IsNone k (keys_of t x)) (keys_of t y)
+apart_keys t (var.Global m x) (var.Global n y) e = (((λ p. false≢true (sym e ∙ (var_eq-Decides (var.Global m x) (var.Global n y)).1 (sym (ap as_var p)))), tt), tt)
+apart_keys t (var.Global m x) (var.Local y) e = (((λ p. false≢true (sym (ap is_local p))), tt), tt)
+apart_keys t (var.Global m x) (var.Glob b) e = cc
+apart_keys t (var.Local x) (var.Global n y) e = (((λ p. false≢true (ap is_local p)), tt), tt)
+apart_keys t (var.Local x) (var.Local y) e = (((λ p. false≢true (sym e ∙ (var_eq-Decides (var.Local x) (var.Local y)).1 (sym (ap as_var p)))), tt), tt)
+apart_keys t (var.Local x) (var.Glob b) e = globals_none (x ∷ []) (t.footprint (named b))
+apart_keys t (var.Glob a) (var.Global n y) e = cc
+apart_keys t (var.Glob a) (var.Local y) e = (local_none (y ∷ []) (t.footprint (named a)), tt)
+apart_keys t (var.Glob a) (var.Glob b) e = cc
+
+-- of each of these variables no one clashes with y
+abbrev pub NoneMeets : List Var → List Var → Type 0
+NoneMeets xs ys = AllByRecursion (λ x. meets ys x ≡ false) xs
+
+module _ (t : Types) where
+  with_keys : (x : Var) (xs : List Var) (ks : List Key) → AllByRecursion (λ k. IsNone k (keys_of t x)) ks → AllByRecursion (λ k. naming t xs k ≡ false) ks →
+      AllByRecursion (λ k. naming t (x ∷ xs) k ≡ false) ks
+  with_keys x xs [] h i = tt
+  with_keys x xs (k ∷ ks) h i = (both_false (among k (keys_of t x)) (naming t xs k) (among_none k (keys_of t x) h.0) i.0, with_keys x xs ks h.1 i.1)
+
+  no_keys : (ks : List Key) → AllByRecursion (λ k. naming t [] k ≡ false) ks
+  no_keys [] = tt
+  no_keys (k ∷ ks) = (refl, no_keys ks)
+
+  unnamed_by : (xs : List Var) (y : Var) → AllByRecursion (λ x. clashes x y ≡ false) xs → AllByRecursion (λ k. naming t xs k ≡ false) (keys_of t y)
+  unnamed_by [] y h = no_keys (keys_of t y)
+  unnamed_by (x ∷ xs) y h = with_keys x xs (keys_of t y) (apart_keys t x y h.0) (unnamed_by xs y h.1)
+
+  first_meets : (xs : List Var) (y : Var) (ys : List Var) → NoneMeets xs (y ∷ ys) → AllByRecursion (λ x. clashes x y ≡ false) xs × NoneMeets xs ys
+  first_meets [] y ys h = (tt, tt)
+  first_meets (x ∷ xs) y ys h =
+      let z = either_false (clashes x y) (meets ys x) h.0 in
+      let w = first_meets xs y ys h.1 in
+      ((z.0, w.0), (z.1, w.1))
+
+  -- the places of variables with which none of others clashes
+  pub unmet_unnamed : (xs ys : List Var) → NoneMeets xs ys → EachNamed t (λ k. naming t xs k ≡ false) ys
+  unmet_unnamed xs [] h = tt
+  unmet_unnamed xs (y ∷ ys) h = let z = first_meets xs y ys h in (unnamed_by xs y z.0, unmet_unnamed xs ys z.1)
+
+-- nothing crosses
+
+some_none : (x : Var) → Some x ≢ None
+some_none x e = none-some x (sym e)
+
+none_least : (o : Option Var) (xs : List Var) → least_from o xs ≡ None → (o ≡ None) × (xs ≡ [])
+none_least o [] e = (e, refl)
+none_least None (x ∷ xs) e = absurd (some_none x (none_least (Some x) xs e).0)
+none_least (Some y) (x ∷ xs) e = absurd (some_none _ (none_least (lesser (Some y) x) xs e).0)
+
+nothing_filtered : (P : Var → Bool) (xs : List Var) → filter P xs ≡ [] → AllByRecursion (λ x. P x ≡ false) xs
+nothing_filtered P [] e = tt
+nothing_filtered P (x ∷ xs) e = by_test (P x) refl e (nothing_filtered P xs)
+  where
+    by_test : (b : Bool) → P x ≡ b → (if b then x ∷ filter P xs else filter P xs) ≡ [] → (filter P xs ≡ [] → AllByRecursion (λ x. P x ≡ false) xs) → AllByRecursion (λ x. P x ≡ false) (x ∷ xs)
+    by_test true d e go = cc
+    by_test false d e go = (d, go e)
+
+pub uncrossed : (a b : Effects) → crossing a b ≡ None → NoneMeets a.written b.touched × NoneMeets b.written a.touched
+uncrossed a b e =
+    let z = none_least (least_from None (filter (meets b.touched) a.written)) (filter (meets a.touched) b.written) e in
+    let y = none_least None (filter (meets b.touched) a.written) z.0 in
+    (nothing_filtered (meets b.touched) a.written y.1, nothing_filtered (meets a.touched) b.written z.1)

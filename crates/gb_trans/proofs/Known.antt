@@ -1,0 +1,155 @@
+-- What statements do to memories whose effects are known.
+use Rattle.std.proofs.Common.{◌≡◌, ◌≢◌, inl, inr, true, false, List, [], ◌∷◌, ◌++◌, Option, Some, None, refl, ap, sym, ◌∙◌, subst}
+use Rattle.std.proofs.lemmas.Bool.{false≢true}
+use Rattle.std.proofs.lemmas.Option.{same_Some, none-some}
+use Rattle.std.specs.Option.{option_map}
+use Rattle.gb_core.specs.declared.var.Var.{Var}
+use Rattle.gb_terms.specs.declared.decl.Proc.{Proc}
+use Rattle.gb_terms.specs.declared.decl.TypedName.{TypedName}
+use Rattle.gb_terms.specs.declared.module.ProcRef.{ProcRef}
+use Rattle.gb_terms.specs.declared.term.Head.TheVariants.{Assign, Sample, Call', If', While'}
+use Rattle.gb_terms.specs.declared.term.Instr.{Instr, Row_of-Instr, end_of-Instr, more_of-Instr}
+use Rattle.gb_meaning.specs.Commands.{statements}
+use Rattle.gb_meaning.specs.Program.Routine.{routine}
+use Rattle.gb_meaning.specs.Setting.{Setting}
+use Rattle.gb_meaning.specs.State.{State}
+use Rattle.gb_local.specs.Cells.{Key}
+use Rattle.gb_local.specs.Writes.{Spares, Unwritten}
+use Rattle.gb_holds.specs.Footprints as own
+use Rattle.gb_holds.specs.Footprints.{globals_among, touched_in, variables, variables_in}
+use Rattle.gb_goal.specs.Scope.{Declarations, procedure_of}
+use Rattle.gb_mods.specs.Called.{all_reached, calls}
+use Rattle.gb_mods.specs.Footprint.{touched}
+use Rattle.gb_mods.specs.Touched.{apart, each_touched, touched_itself}
+use Rattle.gb_mods.specs.Written.{row_targets, statement_targets, targets, with_written, written_by}
+use Rattle.gb_mods.proofs.Closed.{AreFollowed, IsIn, all_closed}
+use Rattle.gb_typing.specs.Context.{Context}
+use Rattle.gb_typing.specs.Programs.{EachStatement, IsProcedure}
+use Rattle.gb_prog.specs.Loops.{RunAlike}
+use Rattle.gb_trans.specs.declared.effects.Effects.{Effects}
+use Rattle.gb_trans.specs.Effects.{crossing, effects_if, effects_of}
+use Rattle.gb_trans.proofs.Apart.{naming, uncrossed, unmet_unnamed, unnamed_spared}
+use Rattle.gb_trans.proofs.Crossing as alike
+use Rattle.gb_trans.proofs.Named.{EachNamed, named_append, named_both, named_spares, named_weaken}
+use Rattle.gb_trans.proofs.Touched.{At, Framed, read_within, with_locals, without_locals}
+use Rattle.gb_trans.proofs.Unwritten.{leave}
+use Rattle.gb_trans.proofs.Within.{ReadsWithin}
+use mathlib.Core.Former.{Count}
+
+-- what is written is touched
+module _ (g : Setting) (P : Key → Type 0) where
+  abbrev Names : List Var → Type 0
+  Names xs = EachNamed g.types P xs
+
+  mutual
+    statement_names : (i : Instr) → Names (own.touched apart i) → Names (statement_targets i)
+    statement_names (Assign xs e) v = (named_append g.types P xs (variables e) v).0
+    statement_names (Sample x d) v = (v.0, tt)
+    statement_names (Call' xs p n es) v = (named_append g.types P xs (variables_in es) (named_append g.types P (xs ++ variables_in es) [] v).0).0
+    statement_names (If' e m a n b) v =
+        let y = named_append g.types P (variables e ++ touched_in apart a) (touched_in apart b) v in
+        named_both g.types P (row_targets a) (row_targets b) (row_names a (named_append g.types P (variables e) (touched_in apart a) y.0).1) (row_names b y.1)
+    statement_names (While' e t n a) v = row_names a (named_append g.types P (variables e ++ variables t) (touched_in apart a) v).1
+
+    row_names : {n : Count} (is : Row_of-Instr n) → Names (touched_in apart is) → Names (row_targets is)
+    row_names end_of-Instr v = tt
+    row_names (more_of-Instr i is) v =
+        let z = named_append g.types P (own.touched apart i) (touched_in apart is) v in
+        named_both g.types P (statement_targets i) (row_targets is) (statement_names i z.0) (row_names is z.1)
+
+  list_names : (is : List Instr) → Names (each_touched is) → Names (targets is)
+  list_names [] v = tt
+  list_names (i ∷ is) v =
+      let z = named_append g.types P (own.touched apart i) (each_touched is) v in
+      named_both g.types P (statement_targets i) (targets is) (statement_names i z.0) (list_names is z.1)
+
+module _ (g : Setting) (ds : Declarations) (G : Key → Type 0) where
+  procedures_name : (ps : List ProcRef) → EachNamed g.types G (touched ds ps) → (xs : List Var) → written_by ds ps ≡ Some xs → EachNamed g.types G xs
+  procedures_name [] v xs e = subst (EachNamed g.types G) (same_Some [] xs e) tt
+  procedures_name (p ∷ ps) v xs e = by_parts (λ u ys c. procedures_name ps u ys c) (procedure_of ds p) refl (written_by ds ps) refl e
+    where
+      by_parts : (EachNamed g.types G (touched ds ps) → (ys : List Var) → written_by ds ps ≡ Some ys → EachNamed g.types G ys) →
+          (o : Option Proc) → procedure_of ds p ≡ o → (r : Option (List Var)) → written_by ds ps ≡ r → with_written o r ≡ Some xs → EachNamed g.types G xs
+      by_parts behind None d r c e = absurd (none-some xs e)
+      by_parts behind (Some a) d None c e = absurd (none-some xs e)
+      by_parts behind (Some a) d (Some ys) c e =
+          let z = named_append g.types G (touched_itself (procedure_of ds p)) (touched ds ps) v in
+          let all = with_locals g G (each_touched a.body.list ++ variables a.value) (subst (λ o. EachNamed g.types G (touched_itself o)) d z.0) in
+          let body = list_names g (Framed G) a.body.list (named_append g.types (Framed G) (each_touched a.body.list) (variables a.value) all).0 in
+          subst (EachNamed g.types G) (same_Some (globals_among (targets a.body.list) ++ ys) xs e)
+          (named_both g.types G (globals_among (targets a.body.list)) ys (without_locals g G (targets a.body.list) body) (behind z.1 ys c))
+
+each_declared : (ds : Declarations) (ps : List ProcRef) (xs : List Var) → written_by ds ps ≡ Some xs → (p : ProcRef) → IsIn ps p → (a : Proc) × (procedure_of ds p ≡ Some a)
+each_declared ds [] xs e p i = absurd i
+each_declared ds (q ∷ ps) xs e p i = by_parts (λ ys c j. each_declared ds ps ys c p j) (procedure_of ds q) refl (written_by ds ps) refl e i
+  where
+    by_parts : ((ys : List Var) → written_by ds ps ≡ Some ys → IsIn ps p → (a : Proc) × (procedure_of ds p ≡ Some a)) →
+        (o : Option Proc) → procedure_of ds q ≡ o → (r : Option (List Var)) → written_by ds ps ≡ r → with_written o r ≡ Some xs → IsIn (q ∷ ps) p → (a : Proc) × (procedure_of ds p ≡ Some a)
+    by_parts behind None d r c e i = absurd (none-some xs e)
+    by_parts behind (Some a) d None c e i = absurd (none-some xs e)
+    by_parts behind (Some a) d (Some ys) c e (inl f) = (a, ap (procedure_of ds) (sym f) ∙ d)
+    by_parts behind (Some a) d (Some ys) c e (inr j) = behind ys c j
+
+-- how effects are known
+record IsKnown (ds : Declarations) (is : List Instr) (e : Effects) : Type 0 where
+  reached : List ProcRef
+  closed : AreFollowed ds reached reached
+  there : (q : ProcRef) → IsIn (calls is) q → IsIn reached q
+  others : List Var
+  found : written_by ds reached ≡ Some others
+  effects : e ≡ record { written = targets is ++ others; touched = each_touched is ++ touched ds reached }
+
+known : (ds : Declarations) (is : List Instr) (e : Effects) → effects_of ds is ≡ Some e → IsKnown ds is e
+unfolding effects_of
+known ds is e f = by_reached (all_reached ds (calls is)) refl f
+  where
+    by_others : (S : List ProcRef) → all_reached ds (calls is) ≡ Some S → (o : Option (List Var)) → written_by ds S ≡ o →
+        option_map (λ xs. record { written = targets is ++ xs; touched = each_touched is ++ touched ds S }) o ≡ Some e → IsKnown ds is e
+    by_others S r None w f = absurd (none-some e f)
+    by_others S r (Some xs) w f =
+        let z = all_closed ds (calls is) S r in
+        record { reached = S; closed = z.closed; there = z.there; others = xs; found = w; effects = sym (same_Some _ e f) }
+
+    by_reached : (o : Option (List ProcRef)) → all_reached ds (calls is) ≡ o → effects_if ds is o ≡ Some e → IsKnown ds is e
+    by_reached None r f = absurd (none-some e f)
+    by_reached (Some S) r f = by_others S r (written_by ds S) refl f
+
+-- declared procedures are typed, and those of the setting
+module _ (g : Setting) (ds : Declarations) (c : Context) (typed : (p : ProcRef) (a : Proc) → procedure_of ds p ≡ Some a → IsProcedure c a)
+    (linked : (p : ProcRef) (a : Proc) → procedure_of ds p ≡ Some a → g.procedure p ≡ Some (routine a.params a.locals (statements g a.body.list) a.value)) where
+  module _ (is : List Instr) (e : Effects) (k : IsKnown ds is e) where
+    writes : (q : Key) → Spares g.types e.written q → Unwritten g (statements g is) q
+    writes q s = leave g ds linked k.reached k.closed is k.there k.others k.found q (subst (λ z. Spares g.types z.written q) k.effects s)
+
+    touches : (G : Key → Type 0) → EachNamed g.types G e.touched → EachNamed g.types G (each_touched is) × EachNamed g.types G (touched ds k.reached)
+    touches G v = named_append g.types G (each_touched is) (touched ds k.reached) (subst (λ z. EachNamed g.types G z.touched) k.effects v)
+
+    reads : (ls : List TypedName) → EachStatement c ls is → (G : Key → Type 0) → EachNamed g.types G e.touched → ReadsWithin g (At G) (statements g is)
+    reads ls w G v =
+        let z = touches G v in
+        read_within g ds c typed linked k.reached k.closed (each_declared ds k.reached k.others k.found) G z.1 ls is w k.there z.0
+
+    untouched : (q : Key) → EachNamed g.types (λ r. q ≢ r) e.touched → Unwritten g (statements g is) q
+    untouched q v =
+        let z = touches (λ r. q ≢ r) v in
+        writes q (subst (λ z. Spares g.types z.written q) (sym k.effects)
+        (named_spares g.types q (targets is ++ k.others)
+        (named_both g.types (λ r. q ≢ r) (targets is) k.others (list_names g (λ r. q ≢ r) is z.0) (procedures_name g ds (λ r. q ≢ r) k.reached z.1 k.others k.found))))
+
+    -- where none of these variables clashes with what they touch
+    outside : (xs : List Var) → EachNamed g.types (λ q. naming g.types xs q ≡ false) e.touched → (q : Key) → naming g.types xs q ≡ true → Unwritten g (statements g is) q
+    outside xs v q t = untouched q (named_weaken g.types (λ q. naming g.types xs q ≡ false) (λ r. q ≢ r) (λ r f p. false≢true (sym f ∙ ap (naming g.types xs) (sym p) ∙ t)) e.touched v)
+
+  -- statements of which nothing crosses run alike in either order
+  pub uncrossed_alike : (ls : List TypedName) (is js : List Instr) → EachStatement c ls is → EachStatement c ls js → (a b : Effects) → effects_of ds is ≡ Some a → effects_of ds js ≡ Some b →
+      crossing a b ≡ None → (s : State) → RunAlike g s (statements g (is ++ js)) (statements g (js ++ is))
+  uncrossed_alike ls is js w v a b x y e s =
+      let k = known ds is a x in
+      let l = known ds js b y in
+      let u = uncrossed a b e in
+      let on_is = unmet_unnamed g.types b.written a.touched u.1 in
+      let on_js = unmet_unnamed g.types a.written b.touched u.0 in
+      alike.crossing g s is js (naming g.types a.written) (naming g.types b.written)
+      (λ q t. writes is a k q (unnamed_spared g.types a.written q t)) (λ q t. writes js b l q (unnamed_spared g.types b.written q t))
+      (reads is a k ls w (λ q. naming g.types b.written q ≡ false) on_is) (reads js b l ls v (λ q. naming g.types a.written q ≡ false) on_js)
+      (outside is a k b.written on_is) (outside js b l a.written on_js)

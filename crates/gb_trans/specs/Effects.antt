@@ -1,0 +1,35 @@
+-- What statements write and touch, through every procedure that they call.
+use Rattle.std.specs.Prelude.{Bool, List, ◌++◌, Option, Some, None}
+use Rattle.std.specs.List.{filter, list_any}
+use Rattle.std.specs.Option.{option_map}
+use Rattle.gb_core.specs.declared.var.Var.{Var}
+use Rattle.gb_terms.specs.declared.module.ProcRef.{ProcRef}
+use Rattle.gb_terms.specs.declared.term.Instr.{Instr}
+use Rattle.gb_walk.specs.Clash.{clashes, least, least_from}
+use Rattle.gb_goal.specs.Scope.{Declarations}
+use Rattle.gb_mods.specs.Called.{all_reached, calls}
+use Rattle.gb_mods.specs.Footprint.{touched}
+use Rattle.gb_mods.specs.Touched.{each_touched}
+use Rattle.gb_mods.specs.Written.{targets, written_by}
+use Rattle.gb_trans.specs.declared.effects.Effects.{Effects}
+
+-- the effects of statements that call these procedures, through all of them
+abbrev pub effects_by : Declarations → List Instr → List ProcRef → Option Effects
+effects_by ds is ps = option_map (λ xs. record { written = targets is ++ xs; touched = each_touched is ++ touched ds ps }) (written_by ds ps)
+
+abbrev pub effects_if : Declarations → List Instr → Option (List ProcRef) → Option Effects
+effects_if ds is None = None
+effects_if ds is (Some ps) = effects_by ds is ps
+
+-- The variables that statements write, and those that they read or write, through every procedure that they call. They aren't known
+-- where one of these isn't declared by its name.
+unfoldable pub effects_of : Declarations → List Instr → Option Effects
+effects_of ds is = effects_if ds is (all_reached ds (calls is))
+
+-- one of these variables clashes with x
+abbrev pub meets : List Var → Var → Bool
+meets ys x = list_any (λ y. clashes x y) ys
+
+-- the least variable that one of two parts writes and with which another one clashes that the other part reads or writes
+abbrev pub crossing : Effects → Effects → Option Var
+crossing a b = least_from (least (filter (meets b.touched) a.written)) (filter (meets a.touched) b.written)

@@ -1,0 +1,5 @@
+pub mod Effects
+pub mod Places
+pub mod Rows
+pub mod Swap
+pub mod Transformed

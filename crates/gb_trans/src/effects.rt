@@ -1,0 +1,111 @@
+//! What statements write and touch, through every procedure that they call.
+
+ghost use Rattle.std.specs.Prelude.{◌≡◌, ◌++◌, IfOk};
+ghost use Rattle.std.specs.Option.{option_copied};
+ghost use Rattle.gb_walk.specs.Clash.{least_from};
+ghost use Rattle.std.specs.List.{filter};
+ghost use Rattle.gb_mods.specs.Footprint as footprint;
+ghost use Rattle.gb_mods.specs.Touched.{each_touched};
+ghost use Rattle.gb_trans.specs.Effects.{crossing, effects_by, effects_of, meets};
+
+use gb_core::var::{Var, Vars};
+use gb_goal::scope::Scope;
+use gb_mods::called::{Procedures, all_reached, calls};
+use gb_mods::order::with_variables;
+use gb_mods::written::{targets, written_by};
+use gb_mods::{footprint, touched};
+use gb_shared::Shared;
+use gb_terms::module::ProcRef;
+use gb_terms::term::Instr;
+use gb_walk::clash::{clashes, lesser};
+use sqlite_items::Items;
+use std::alloc::{AllocError, Global};
+
+/// What statements write, and what they read or write.
+#[derive(Drop)]
+pub struct Effects {
+    pub written: Vars,
+    pub touched: Vars,
+}
+
+/// What statements read or write that call these procedures, through all of them.
+fn touched_by(
+    alloc: Global,
+    scope: &Scope,
+    list: &[Instr],
+    called: &[Shared<ProcRef>],
+) -> Result<Vars, AllocError>
+    ensures { IfOk result (λ made. made ≡ each_touched list.now ++ footprint.touched scope.now called.now) }
+{
+    let own = touched::touched(alloc, Items::new(alloc), list)?;
+    let others = footprint::touched(alloc, scope, called)?;
+    with_variables(alloc, own, others.as_slice())
+}
+
+/// The effects of statements that call these procedures, through all of them.
+fn effects_by(
+    alloc: Global,
+    scope: &Scope,
+    list: &[Instr],
+    called: &[Shared<ProcRef>],
+) -> Result<Option<Effects>, AllocError>
+    ensures { IfOk result (λ made. made ≡ effects_by scope.now list.now called.now) }
+{
+    let Some(others) = written_by(alloc, scope, called)? else {
+        return Ok(None);
+    };
+    let own = targets(alloc, Items::new(alloc), list)?;
+    let written = with_variables(alloc, own, others.as_slice())?;
+    let touched = touched_by(alloc, scope, list, called)?;
+    Ok(Some(Effects { written, touched }))
+}
+
+/// What statements write, and what they read or write, through every procedure that they call. None where one of these isn't declared
+/// by its name.
+#[tactic(auto, unfolding(crate::specs::Effects::effects_of))]
+pub fn effects_of(
+    alloc: Global,
+    scope: &Scope,
+    list: &[Instr],
+) -> Result<Option<Effects>, AllocError>
+    ensures { IfOk result (λ made. made ≡ effects_of scope.now list.now) }
+{
+    let called = calls(alloc, Items::new(alloc), list)?;
+    let Some(all) = all_reached(alloc, scope, called)? else {
+        return Ok(None);
+    };
+    effects_by(alloc, scope, list, all.as_slice())
+}
+
+/// Whether one of these variables clashes with another one.
+fn meets(list: &[Var], x: &Var) -> bool
+    ensures { result ≡ meets list.now x.now }
+{
+    for y in list {
+        if clashes(x, y) {
+            return true;
+        }
+    }
+    false
+}
+
+/// The least of what was found and of the variables of the first list with which one of the second list clashes.
+fn least_met<'a>(found: Option<&'a Var>, list: &'a [Var], others: &[Var]) -> Option<&'a Var>
+    ensures { option_copied result ≡ least_from (option_copied found.entry) (filter (meets others.now) list.now) }
+{
+    let mut least = found;
+    for x in list {
+        if meets(others, x) {
+            least = lesser(least, x);
+        }
+    }
+    least
+}
+
+/// The least variable that one of two parts writes and with which another one clashes that the other part reads or writes.
+pub fn crossing<'a>(first: &'a Effects, second: &'a Effects) -> Option<&'a Var>
+    ensures { option_copied result ≡ crossing first.now second.now }
+{
+    let found = least_met(None, first.written.as_slice(), second.touched.as_slice());
+    least_met(found, second.written.as_slice(), first.touched.as_slice())
+}

@@ -1,0 +1,8 @@
+//! Rules that put another body in the place of one that runs alike.
+#![tactic(auto)]
+
+pub mod apply;
+pub mod effects;
+pub mod laws;
+pub mod places;
+pub mod swap;

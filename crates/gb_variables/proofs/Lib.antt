@@ -1,0 +1,4 @@
+pub mod Layers
+pub mod Noted
+pub mod Marks
+pub mod Products

@@ -1,0 +1,4 @@
+//! Loops whose goals hold are good.
+#![tactic(auto)]
+
+pub mod laws;
