@@ -1,5 +1,5 @@
 -- What the crates below promise: of typing, of rules and of models.
-use Rattle.std.specs.Prelude.{◌≡◌, ◌↔◌, true, false, List, [], ◌∷◌, ◌++◌, None}
+use Rattle.std.specs.Prelude.{◌≡◌, ◌↔◌, ℕ, Bool, true, false, List, [], ◌∷◌, ◌++◌, None}
 use Rattle.std.specs.List.{All, AllByRecursion}
 use Rattle.gb_core.specs.declared.ty.Ty.TheVariants as ty
 use Rattle.gb_core.specs.declared.place.Place.{Place}
@@ -50,7 +50,10 @@ use Rattle.gb_relational.specs.Rows.{IsTypedRule}
 use Rattle.gb_phoare.specs.Rows as chance_rows
 use Rattle.gb_call_both.specs.Rows as call_rows
 use Rattle.gb_call_known.specs.Known as of_known
-use Rattle.gb_guards.specs.Rows as transformation_rows
+use Rattle.gb_inline.specs.Proved.{IsSoundOnProved, IsSoundProvedRule, ProvedEnd}
+use Rattle.gb_beside.specs.Beside.{beside_answer}
+use Rattle.gb_inline.specs.Rows as transformation_rows
+use Rattle.gb_sim.specs.Sim as of_same
 use Rattle.gb_amb.specs.Steps.{IsAnswer, IsTypedStep, LeadTo}
 use Rattle.gb_linear.specs.Closing.{linear_answer}
 use Rattle.gb_use.specs.Lemmas.{IsKnown, LemmasHold}
@@ -98,7 +101,7 @@ pub record OfTyping : Type 0 where
   pub hints : (ds : scope.Declarations) → IsTyped ds → AreStated ds → (q : Sequent) (t : IsTypedGoalOf ds q) (n : Node) (s : Step) → step_given ds q n ≡ given s →
       AllByRecursion (λ f. IsForm (around ds q t) f × IsKnown (declared ds) q (around ds q t) f) (told s.rule)
   pub conclusion : (ds : scope.Declarations) → IsTyped ds → (q : Sequent) (t : IsTypedGoalOf ds q) (n : Node) (s : Step) → step_given ds q n ≡ given s →
-      (r : AmbientRule) → s.rule ≡ Ambient r → IsTypedStep (around ds q t) q.conclusion r
+      (r : AmbientRule) → s.rule ≡ Ambient r → (u : IsTypedGoalOf ds q) × IsTypedStep (around ds q u) q.conclusion r
   pub used : (ds : scope.Declarations) → IsTyped ds → AreStated ds → (q : Sequent) (t : IsTypedGoalOf ds q) (n : Node) (s : Step) → step_given ds q n ≡ given s →
       (r : UseRule) → s.rule ≡ Use r → uses.IsTypedStep (declared ds) q (around ds q t) r
   pub rule : (ds : scope.Declarations) → IsTyped ds → (q : Sequent) (t : IsTypedGoalOf ds q) (n : Node) (s : Step) → step_given ds q n ≡ given s →
@@ -131,6 +134,8 @@ pub record OfRules : Type 0 where
   pub known_calls : (ds : scope.Declarations) → IsTyped ds → (q : Sequent) (t : IsTypedGoalOf ds q) → (a : Acts) (f : Term) → IsForm (around ds q t) f →
       Holds (declared ds) (record q { conclusion = f }) → (place : Place) (qs : List Sequent) → of_known.IsAnswer ds a f place q (given qs) →
       AllByRecursion (IsTypedSequent (context_of (declared ds))) qs × (AllByRecursion (Holds (declared ds)) qs → Holds (declared ds) q)
+  pub same_statements : (ds : scope.Declarations) → IsTyped ds → (q : Sequent) (t : IsTypedGoalOf ds q) → (ls rs : List TypedName) (G : Goal) → of_same.AreSame G → IsGoalOver (around ds q t) ls rs G →
+      IsSoundIn (declared ds) (around ds q t) (of_same.sim_row ds) G
   pub on_conclusions : (ds : Declarations) → IsTypedScope ds → (q : Sequent) (t : IsTypedSequent (context_of ds) q) → (r : AmbientRule) →
       IsTypedStep (of_sequent (context_of ds) q t.frames) q.conclusion r → (place : Place) (qs : List Sequent) → IsAnswer r place q (given qs) → LeadTo ds q qs
   pub on_uses : (ds : Declarations) → IsTypedScope ds → LemmasHold ds → (q : Sequent) (t : IsTypedSequent (context_of ds) q) → (r : UseRule) →
@@ -164,6 +169,7 @@ pub record OfLoops : Type 0 where
   pub calls : (ds : scope.Declarations) (c : Context) (ls rs : List TypedName) (r : Rule) (G : Goal) → IsGoalOver c ls rs G → (Gs : List Goal) → call_rows.rule_row ds r G ≡ given Gs → KeepsEnds (declared ds) Gs G
   pub known_calls : (ds : scope.Declarations) → IsTyped ds → (q : Sequent) (t : IsTypedGoalOf ds q) (a : Acts) (f : Term) → IsForm (around ds q t) f → Holds (declared ds) (record q { conclusion = f }) →
       (place : Place) (qs : List Sequent) → of_known.IsAnswer ds a f place q (given qs) → SequentEnds (declared ds) q → AllByRecursion (SequentEnds (declared ds)) qs
+  pub same_statements : (ds : scope.Declarations) (G : Goal) (Gs : List Goal) → of_same.sim_row ds G ≡ given Gs → (g : Setting) → AllByRecursion (LoopsEnd g) Gs
   pub conclusions : (ds : Declarations) (q : Sequent) (t : IsTypedSequent (context_of ds) q) (r : AmbientRule) → IsTypedStep (of_sequent (context_of ds) q t.frames) q.conclusion r →
       (place : Place) (qs : List Sequent) → IsAnswer r place q (given qs) → SequentEnds ds q → AllByRecursion (SequentEnds ds) qs
   pub uses : (ds : Declarations) (q : Sequent) (c : Context) (r : UseRule) → IsForm c (uses.used_by r) → (place : Place) (qs : List Sequent) → uses.IsAnswer r place q (given qs) →
@@ -174,7 +180,16 @@ pub record OfLoops : Type 0 where
   pub while : (ds : scope.Declarations) → IsTyped ds → (q : Sequent) (t : IsTypedGoalOf ds q) (a : Acts) (v : Term) →
       IsSoundLoopRule (declared ds) (around ds q t) (while_row ds a v) (IsTypedInvariant (around ds q t) v)
   pub transformations : (ds : scope.Declarations) → IsTyped ds → (q : Sequent) (t : IsTypedGoalOf ds q) (r : Rule) →
-      IsSoundLoopRule (declared ds) (around ds q t) (transformation_rows.rule_row ds r) no_arguments
+      IsSoundProvedRule ds (around ds q t) (transformation_rows.rule_row ds r)
+  pub beside : (ds : Declarations) → IsTypedScope ds → (q : Sequent) (t : IsTypedSequent (context_of ds) q) → type_of q.conclusion ≡ ty.Bool → (ls rs : List TypedName) →
+      IsGoalOver (of_sequent (context_of ds) q t.frames) ls rs (goal_of q.conclusion) → (n : ℕ) (u : Bool) (a : Acts) (place : Place) (qs : List Sequent) → beside_answer n u a place q ≡ given qs →
+      AllByRecursion (IsTypedSequent (context_of ds)) qs × (SequentEnds ds q → AllByRecursion (SequentEnds ds) qs × (AllByRecursion (Holds ds) qs → Holds ds q))
+  pub proved : (ds : scope.Declarations) → IsTyped ds → IsSound (declared ds) → ScopeSpeaks NoName (declared ds) → (q : Sequent) → IsTypedGoalOf ds q → InEachSetting (declared ds) q (ProvedEnd ds)
+  pub with_proved : (ds : scope.Declarations) → IsTyped ds → (q : Sequent) (t : IsTypedGoalOf ds q) → type_of q.conclusion ≡ ty.Bool → (ls rs : List TypedName) →
+      IsGoalOver (around ds q t) ls rs (goal_of q.conclusion) → InEachSetting (declared ds) q (ProvedEnd ds) → (row : Row) →
+      ((Gs : List Goal) → row (goal_of q.conclusion) ≡ given Gs → IsSoundOnProved ds (around ds q t) Gs (goal_of q.conclusion)) →
+      (qs : List Sequent) → answered row q ≡ given qs →
+      AllByRecursion (IsTypedSequent (context_of (declared ds))) qs × (SequentEnds (declared ds) q → AllByRecursion (SequentEnds (declared ds)) qs × (AllByRecursion (Holds (declared ds)) qs → Holds (declared ds) q))
 
 -- Typed scopes have models, equivalences give couplings, and what holds goes on to hold.
 pub record OfModels : Type 0 where

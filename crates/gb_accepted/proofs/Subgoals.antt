@@ -1,5 +1,5 @@
 -- What a step gives of a typed goal: typed goals, and where they hold the goal does.
-use Rattle.std.proofs.Common.{◌≡◌, Bool, true, false, List, [], Option, Some, None, refl, ap, sym, ◌∙◌, subst, ◌∷◌}
+use Rattle.std.proofs.Common.{◌≡◌, ℕ, inl, inr, Bool, true, false, if◌then◌else◌, List, [], Option, Some, None, refl, ap, sym, ◌∙◌, subst, ◌∷◌}
 use Rattle.std.specs.List.{AllByRecursion}
 use Rattle.gb_core.specs.declared.place.Place.{Place}
 use Rattle.gb_core.specs.declared.refusal.Why.{Why}
@@ -7,7 +7,9 @@ use Rattle.gb_core.specs.declared.refusal.Why.TheVariants.{Shape}
 use Rattle.gb_core.specs.declared.ty.Ty.TheVariants as ty
 use Rattle.gb_terms.specs.declared.decl.TypedName.{TypedName}
 use Rattle.gb_terms.specs.declared.term.Term.{Term}
-use Rattle.gb_goal.specs.Answers.Answer.{given}
+use Rattle.gb_goal.specs.Answers.{placed_at}
+use Rattle.gb_goal.specs.Answers.Answer.{given, refused}
+use Rattle.gb_amb.specs.Quantified.{goal_quantifies_modules}
 use Rattle.gb_goal.specs.Goal.{Goal, goal_of}
 use Rattle.gb_goal.specs.Goal.Code.{body, procedure}
 use Rattle.gb_goal.specs.Goal.Goal.{hoare, phoare, equiv, ambient}
@@ -22,6 +24,8 @@ use Rattle.gb_steps.specs.declared.step.Acts.TheVariants as on
 use Rattle.gb_steps.specs.declared.step.AmbientRule.{AmbientRule}
 use Rattle.gb_steps.specs.declared.step.BodyRule.{BodyRule}
 use Rattle.gb_steps.specs.declared.step.BodyRule.TheVariants as on_bodies
+use Rattle.gb_steps.specs.declared.step.RelationalRule.{RelationalRule}
+use Rattle.gb_steps.specs.declared.step.RelationalRule.TheVariants as on_both
 use Rattle.gb_steps.specs.declared.step.RewriteRule.{RewriteRule}
 use Rattle.gb_steps.specs.declared.step.RewriteRule.TheVariants.{Forward, Back, Subst, Unfold}
 use Rattle.gb_steps.specs.declared.step.UseRule.{UseRule}
@@ -29,6 +33,9 @@ use Rattle.gb_steps.specs.Told.{rewrites_by, told}
 use Rattle.gb_steps.specs.declared.step.Rule.{Rule}
 use Rattle.gb_steps.specs.declared.step.Rule.TheVariants as rule
 use Rattle.gb_steps.specs.declared.step.Multiple.{Multiple}
+use Rattle.gb_steps.specs.declared.step.Transformation.{Transformation}
+use Rattle.gb_steps.specs.declared.step.Transformation.TheVariants as transformation
+use Rattle.gb_beside.specs.Beside.{beside_answer, on_body, one_of_two}
 use Rattle.gb_holds.specs.Declared as holds
 use Rattle.gb_holds.specs.Declared.{declared}
 use Rattle.gb_holds.specs.Holds.{Holds, InEachSetting, IsSound, declared_modules, interpretation}
@@ -47,9 +54,11 @@ use Rattle.gb_call_both.specs.Rows as calls
 use Rattle.gb_bodies.specs.Case.{IsTypedCase}
 use Rattle.gb_bodies.specs.Rows as bodies
 use Rattle.gb_ended.specs.Loops.{unproved_in}
+use Rattle.gb_inline.specs.Proved.{IsSoundOnProved}
 use Rattle.gb_linear_laws.proofs.Closed.{closes}
 use Rattle.gb_loops.specs.While.{IsTypedInvariant, while_row}
 use Rattle.gb_relational.specs.Rows.{IsTypedRule}
+use Rattle.gb_sim.specs.Sim as same_statements
 use Rattle.gb_amb.specs.Steps.{IsTypedStep}
 use Rattle.gb_linear.specs.Closing.{linear_answer}
 use Rattle.gb_use.specs.Lemmas.{IsKnown, LemmasHold}
@@ -58,7 +67,7 @@ use Rattle.gb_rewrite.specs.Rewriting.{IsUsable}
 use Rattle.gb_smt.specs.Leaves.{leaves_of}
 use Rattle.gb_smt.specs.Apply.{IsAnswerOf}
 use Rattle.gb_elab_laws.proofs.Given.{given_bind, given_is}
-use Rattle.gb_theory.specs.Commands.{closed_unless, entered, entering, row_of, unless_unproved, Applied}
+use Rattle.gb_theory.specs.Commands.{closed_unless, entered, entering, row_of, transformed, unless_unproved, Applied, OnBoth}
 use Rattle.gb_accepted.proofs.Given.{nothing_given, given_placed}
 use Rattle.gb_accepted.proofs.Grounds.{IsTyped, IsTypedGoalOf, around, Grounds}
 
@@ -77,7 +86,7 @@ IsTypedAt ds q t r =
 
 -- a rule on a conclusion that brings typed forms to a goal
 abbrev pub HasTypedForms : (ds : Declarations) (q : Sequent) → IsTypedGoalOf ds q → Rule → Type 0
-HasTypedForms ds q t r = (a : AmbientRule) → r ≡ rule.Ambient a → IsTypedStep (around ds q t) q.conclusion a
+HasTypedForms ds q t r = (a : AmbientRule) → r ≡ rule.Ambient a → (u : IsTypedGoalOf ds q) × IsTypedStep (around ds q u) q.conclusion a
 
 -- a rule that uses what a hypothesis of a goal, or a lemma, says of typed terms
 abbrev pub UsesHypotheses : (ds : Declarations) (q : Sequent) → IsTypedGoalOf ds q → Rule → Type 0
@@ -139,14 +148,14 @@ module _ (g : Grounds) (ds : Declarations) (scope : IsTyped ds) (sound : IsSound
   -- a rule that works on goals alone
   by_row : (r : Rule) (place : Place) (qs : List Sequent) → stepped (row_of ds r) place q ≡ given qs →
       ((ls rs : List TypedName) → IsGoalOver c ls rs G → type_of q.conclusion ≡ ty.Bool → answered (row_of ds r) q ≡ given qs → LeadTo ds q qs) → LeadTo ds q qs
-  by_row r place qs e then = by_front (has_module q.conclusion) refl
+  by_row r place qs e onward = by_front (has_module q.conclusion) refl
     where
       gives : answered (row_of ds r) q ≡ given qs
       gives = given_placed (answered (row_of ds r) q) place qs (sym e)
 
       by_front : (b : Bool) → has_module q.conclusion ≡ b → LeadTo ds q qs
       by_front true h = none_given (row_of ds r) q qs (ambient q.conclusion) (g.rules.front q.conclusion h) (ambient_refused r q.conclusion) gives
-      by_front false h = let w = g.rules.goal c q.conclusion t.conclusion h in then w.0.0 w.0.1 w.0.2 w.1 gives
+      by_front false h = let w = g.rules.goal c q.conclusion t.conclusion h in onward w.0.0 w.0.1 w.0.2 w.1 gives
 
   -- a rule that is sound, and that leads to no other loops where something is known of each setting
   by_law : (r : Rule) → InEachSetting (declared ds) q (λ s. Entered ds s r G) → (place : Place) (qs : List Sequent) →
@@ -171,6 +180,36 @@ module _ (g : Grounds) (ds : Declarations) (scope : IsTyped ds) (sound : IsSound
       (λ ls rs w truth gives.
       let k = g.loops.lifted (declared ds) scope q t truth ls rs w (row_of ds r) (law ls rs w) qs gives in
       record { typed = k.0; ends = λ h. (k.1 h).0; leads = λ h. (k.1 h).1 })
+
+  -- a rule that puts bodies of procedures into goals, whose loops end where they are proved
+  by_proved_law : (r : Rule) (place : Place) (qs : List Sequent) →
+      ((ls rs : List TypedName) → IsGoalOver c ls rs G → (Gs : List Goal) → row_of ds r G ≡ given Gs → IsSoundOnProved ds c Gs G) → stepped (row_of ds r) place q ≡ given qs → LeadTo ds q qs
+  by_proved_law r place qs law e =
+      by_row r place qs e
+      (λ ls rs w truth gives.
+      let k = g.loops.with_proved ds scope q t truth ls rs w (g.loops.proved ds scope sound speaks q t) (row_of ds r) (law ls rs w) qs gives in
+      record { typed = k.0; ends = λ h. (k.1 h).0; leads = λ h. (k.1 h).1 })
+
+  -- the same statements on both sides
+  of_same : (place : Place) (qs : List Sequent) → same_statements.IsAnswer ds place q (given qs) → LeadTo ds q qs
+  of_same place qs (inr x) = nothing_given _ _ qs (sym x.1)
+  of_same place qs (inl x) = by_front (has_module q.conclusion) refl
+    where
+      gives : answered (same_statements.sim_row ds) q ≡ given qs
+      gives = given_placed (answered (same_statements.sim_row ds) q) place qs x.1
+
+      by_front : (b : Bool) → has_module q.conclusion ≡ b → LeadTo ds q qs
+      by_front true h = absurd (subst same_statements.AreSame (g.rules.front q.conclusion h) x.0)
+      by_front false h =
+          let w = g.rules.goal c q.conclusion t.conclusion h in
+          let law = g.rules.same_statements ds scope q t w.0.0 w.0.1 G x.0 w.0.2 in
+          let k = g.rules.lifted (declared ds) scope q t w.1 w.0.0 w.0.1 w.0.2 (same_statements.sim_row ds) law qs gives in
+          record {
+            typed = k.0;
+            ends = g.loops.rows ds scope q t (rule.Relational on_both.Sim) (anywhere (declared ds) q) (same_statements.sim_row ds)
+                (λ Gs y. ((law Gs y).0, λ s over n l. g.loops.same_statements ds G Gs y s)) qs gives;
+            leads = λ h. k.1;
+          }
 
   -- what is known of the procedures of a goal, where a rule goes to their bodies
   entered_ends : (r : BodyRule) (place : Place) (x : Unit {0}) → entering ds r place G ≡ given x → InEachSetting (declared ds) q (λ s. Entered ds s (rule.OnBodies r) G)
@@ -219,14 +258,63 @@ module _ (g : Grounds) (ds : Declarations) (scope : IsTyped ds) (sound : IsSound
   usable (Subst i) w = tt
   usable (Unfold x) w = tt
 
+  by_both_law : (r : RelationalRule) (place : Place) (qs : List Sequent) → IsTypedAt ds q t (rule.Relational r) → given qs ≡ stepped (row_of ds (rule.Relational r)) place q → LeadTo ds q qs
+  by_both_law r place qs typed a =
+      by_law (rule.Relational r) (anywhere (declared ds) q) place qs
+      (λ ls rs w. g.rules.everywhere (declared ds) c (row_of ds (rule.Relational r)) G (g.rules.relational c (rule.Relational r) (g.rules.outer (declared ds) q t.frames) ls rs G w (typed ls rs w).1))
+      (λ ls rs w Gs y s over x. g.loops.relational ds c ls rs (rule.Relational r) G w Gs y s over) (sym a)
+
+  of_both : (r : RelationalRule) (place : Place) (qs : List Sequent) → IsTypedAt ds q t (rule.Relational r) → OnBoth ds r place q (given qs) → LeadTo ds q qs
+  of_both on_both.Sim place qs typed a = of_same place qs a
+  of_both (on_both.Rnd fs) place qs typed a = by_both_law (on_both.Rnd fs) place qs typed a
+  of_both on_both.Symmetry place qs typed a = by_both_law on_both.Symmetry place qs typed a
+  of_both (on_both.Drawn b) place qs typed a = by_both_law (on_both.Drawn b) place qs typed a
+  of_both (on_both.Transitivity b) place qs typed a = by_both_law (on_both.Transitivity b) place qs typed a
+
+  -- a rule that puts other statements into a program
+  of_program : (b : Acts) (k : Transformation) (place : Place) (qs : List Sequent) → stepped (row_of ds (rule.Transform b k)) place q ≡ given qs → LeadTo ds q qs
+  of_program b k place qs e =
+      by_proved_law (rule.Transform b k) place qs (λ ls rs w. g.loops.transformations ds scope q t (rule.Transform b k) (g.rules.outer (declared ds) q t.frames) ls rs G w) e
+
+  none_of_two : (b : Acts) (f : Term) → one_of_two b (ambient f) ≡ None
+  none_of_two on.All f = refl
+  none_of_two on.Left f = refl
+  none_of_two on.Right f = refl
+
+  beside_refused : {X : Type 0} (n : ℕ) (u : Bool) (b : Acts) (place : Place) (qs : List Sequent) → G ≡ ambient q.conclusion → beside_answer n u b place q ≡ given qs → X
+  beside_refused {X} n u b place qs is e = by_test (goal_quantifies_modules q) e
+    where
+      by_test : (m : Bool) → (if m then refused Shape place else placed_at place (on_body n u q (one_of_two b G))) ≡ given qs → X
+      by_test true e = nothing_given _ _ qs e
+      by_test false e =
+          nothing_given _ _ qs
+          (sym (sym (given_placed (on_body n u q (one_of_two b G)) place qs (sym e)) ∙ ap (λ Y. on_body n u q (one_of_two b Y)) is ∙ ap (on_body n u q) (none_of_two b q.conclusion)))
+
+  -- a guard on one of two programs
+  of_guard : (n : ℕ) (u : Bool) (b : Acts) (place : Place) (qs : List Sequent) → beside_answer n u b place q ≡ given qs → LeadTo ds q qs
+  of_guard n u b place qs e = by_front (has_module q.conclusion) refl
+    where
+      by_front : (m : Bool) → has_module q.conclusion ≡ m → LeadTo ds q qs
+      by_front true h = beside_refused n u b place qs (g.rules.front q.conclusion h) e
+      by_front false h =
+          let w = g.rules.goal c q.conclusion t.conclusion h in
+          let k = g.loops.beside (declared ds) scope q t w.1 w.0.0 w.0.1 w.0.2 n u b place qs e in
+          record { typed = k.0; ends = λ h. (k.1 h).0; leads = λ h. (k.1 h).1 }
+
+  of_programs : (b : Acts) (k : Transformation) (place : Place) (qs : List Sequent) → transformed ds b k place q ≡ given qs → LeadTo ds q qs
+  of_programs on.All (transformation.Decided n u) place qs e = of_program on.All (transformation.Decided n u) place qs e
+  of_programs on.Left (transformation.Decided n u) place qs e = of_guard n u on.Left place qs e
+  of_programs on.Right (transformation.Decided n u) place qs e = of_guard n u on.Right place qs e
+  of_programs b (transformation.Swap w) place qs e = of_program b (transformation.Swap w) place qs e
+  of_programs b (transformation.Kill n) place qs e = of_program b (transformation.Kill n) place qs e
+  of_programs b (transformation.Unroll n) place qs e = of_program b (transformation.Unroll n) place qs e
+  of_programs b (transformation.Inline w) place qs e = of_program b (transformation.Inline w) place qs e
+
   pub applied_lead : (r : Rule) (place : Place) (qs : List Sequent) → IsTypedAt ds q t r → HasTypedForms ds q t r → UsesHypotheses ds q t r → HasSaidForms ds q t r → Applied ds r place q (given qs) → LeadTo ds q qs
   applied_lead (rule.Smt known) place qs typed forms used said a = of_smt known said place qs a.0 a.1 a.2
   applied_lead (rule.Linear ms) place qs typed forms used said a = of_linear ms place qs (sym a)
   applied_lead (rule.OnBodies r) place qs typed forms used said a = of_bodies r place qs (λ ls rs w. (typed ls rs w).0) (sym a)
-  applied_lead (rule.Relational r) place qs typed forms used said a =
-      by_law (rule.Relational r) (anywhere (declared ds) q) place qs
-      (λ ls rs w. g.rules.everywhere (declared ds) c (row_of ds (rule.Relational r)) G (g.rules.relational c (rule.Relational r) (g.rules.outer (declared ds) q t.frames) ls rs G w (typed ls rs w).1))
-      (λ ls rs w Gs y s over x. g.loops.relational ds c ls rs (rule.Relational r) G w Gs y s over) (sym a)
+  applied_lead (rule.Relational r) place qs typed forms used said a = of_both r place qs typed a
   applied_lead (rule.Chance r) place qs typed forms used said a =
       by_law (rule.Chance r) (anywhere (declared ds) q) place qs
       (λ ls rs w. g.rules.chances ds scope q t (rule.Chance r) (g.rules.outer (declared ds) q t.frames) ls rs G w tt)
@@ -242,10 +330,11 @@ module _ (g : Grounds) (ds : Declarations) (scope : IsTyped ds) (sound : IsSound
   applied_lead (rule.While v) place qs typed forms used said a =
       by_loop_law (rule.While v) place qs (λ ls rs w. g.loops.while ds scope q t v.acts v.kept (g.rules.outer (declared ds) q t.frames) ls rs G w (invariant_typed c v.kept ls rs G (typed ls rs w).0)) (sym a)
   applied_lead (rule.Transform b k) place qs typed forms used said a =
-      by_loop_law (rule.Transform b k) place qs (λ ls rs w. g.loops.transformations ds scope q t (rule.Transform b k) (g.rules.outer (declared ds) q t.frames) ls rs G w tt) (sym a)
+      of_programs b k place qs (sym a)
   applied_lead (rule.Ambient r) place qs typed forms used said a =
-      let k = g.rules.on_conclusions (declared ds) scope q t r (forms r refl) place qs a in
-      record { typed = k.typed; ends = g.loops.conclusions (declared ds) q t r (forms r refl) place qs a; leads = λ h. k.leads }
+      let f = forms r refl in
+      let k = g.rules.on_conclusions (declared ds) scope q f.0 r f.1 place qs a in
+      record { typed = k.typed; ends = g.loops.conclusions (declared ds) q f.0 r f.1 place qs a; leads = λ h. k.leads }
   applied_lead (rule.Use r) place qs typed forms used said a =
       let k = g.rules.on_uses (declared ds) scope holds q t r (used r refl) place qs a in
       let w = used r refl in

@@ -41,11 +41,14 @@ pub fn accepted_scripts()
     gb_phoare::laws::no_judgments();
     gb_call_both::laws::call_rules();
     gb_call_both::laws::other_conclusions();
-    gb_guards::laws::guarded_rules();
-    gb_guards::laws::unguarded_forms();
+    gb_inline::laws::transforming_rules();
+    gb_inline::laws::untransformed_forms();
+    gb_beside::laws::decided_beside();
     gb_call_known::laws::known_calls();
+    gb_sim::laws::same_statements();
     gb_ends::laws::rows();
     gb_ends::laws::sequents();
+    gb_ends::laws::with_proved_loops();
     gb_ends::laws::bodies();
     gb_ends::laws::relational();
     gb_ends::laws::chances();
@@ -55,6 +58,7 @@ pub fn accepted_scripts()
     gb_ends::laws::equals();
     gb_ends::laws::forms();
     gb_ended_laws::laws::entered();
+    gb_ended_laws::laws::proved_loops();
     gb_loops::while_loop::while_is_sound();
     gb_amb::laws::steps();
     gb_use::laws::sound_uses();

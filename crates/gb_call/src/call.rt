@@ -34,7 +34,7 @@ use gb_full::loss::first_loss;
 use gb_goal::goal::{Code, Goal, goal_of, hoare};
 use gb_goal::scope::Scope;
 use gb_goal::sequent::{Sequent, Sequents};
-use gb_mods::written::written;
+use gb_mods::procedures::proc_writes;
 use gb_parts::judged::{hoare_of, phoare_of};
 use gb_parts::subgoals::{no_shape, one_goal, refusal, shared_body, two_goals};
 use gb_phoare::rnd::{Judged, of_rest};
@@ -71,29 +71,24 @@ pub fn reads_of(
 }
 
 /// The precondition holds of the arguments, and the postcondition makes what is to hold after the call as likely as the relation asks.
-fn before_call(
+pub fn before_call(
     alloc: Global,
     rel: Rel,
+    side: Side,
     callee: &Callee<'_>,
     globals: &[TypedGlobal],
     reads: &Reads,
     contract: &Contract,
     post: &Form,
 ) -> Result<Form, AllocError>
-    requires said { reads.now.said ≡ variables_read Side.Own contract.now.post }
-    requires later { reads.now.after ≡ variables_read Side.Own post.now }
-    ensures { IfOk result (λ made. made ≡ before_call rel Side.Own (callee_seen callee.now) (globals_seen globals.now) contract.now post.now) }
+    requires said { reads.now.said ≡ variables_read side contract.now.post }
+    requires later { reads.now.after ≡ variables_read side post.now }
+    ensures { IfOk result (λ made. made ≡ before_call rel side (callee_seen callee.now) (globals_seen globals.now) contract.now post.now) }
 {
     let params = callee.declared.params.as_slice();
-    let holds = of_arguments(
-        alloc,
-        Side::Own,
-        params,
-        callee.call.arguments,
-        &contract.pre,
-    )?;
+    let holds = of_arguments(alloc, side, params, callee.call.arguments, &contract.pre)?;
     let outcome = Outcome {
-        side: Side::Own,
+        side,
         targets: callee.call.targets,
         result: &callee.declared.result,
         globals,
@@ -136,7 +131,16 @@ fn by_globals(
     requires later { reads.now.after ≡ variables_read Side.Own post.now }
     ensures { IfOk result (λ made. made ≡ map (concluding goal.now) (call_goals (callee_seen callee.now) (globals_seen globals.now) contract.now pre.now post.now)) }
 {
-    let before = before_call(alloc, Rel::AtLeast, callee, globals, reads, contract, post)?;
+    let before = before_call(
+        alloc,
+        Rel::AtLeast,
+        Side::Own,
+        callee,
+        globals,
+        reads,
+        contract,
+        post,
+    )?;
     let first = does(alloc, callee, contract)?;
     let second = leads(alloc, callee, pre, before)?;
     two_goals(alloc, goal, first, second)
@@ -162,18 +166,16 @@ pub fn globals_left(
 }
 
 /// The least variable of the left side, or of the globals that are written, with which another one clashes where it is replaced.
-fn clash_after<'a>(callee: &Callee<'a>, contract: &Contract, post: &Form) -> Option<&'a Var>
-    ensures { option_copied result ≡ clash_after Side.Own (callee_seen callee.now).call.targets (callee_seen callee.now).written contract.now.post post.now }
+pub fn clash_after<'a>(
+    side: Side,
+    callee: &Callee<'a>,
+    contract: &Contract,
+    post: &Form,
+) -> Option<&'a Var>
+    ensures { option_copied result ≡ clash_after side (callee_seen callee.now).call.targets (callee_seen callee.now).written contract.now.post post.now }
 {
     let targets = callee.call.targets;
-    clashing_after(
-        None,
-        Side::Own,
-        targets,
-        callee.written,
-        &contract.post,
-        post,
-    )
+    clashing_after(None, side, targets, callee.written, &contract.post, post)
 }
 
 /// The subgoals of a call of a procedure.
@@ -192,7 +194,7 @@ fn by_callee(
     if targets.len() >= MANY {
         return Err(no_shape());
     }
-    if let Some(var) = clash_after(callee, contract, post) {
+    if let Some(var) = clash_after(Side::Own, callee, contract, post) {
         let var = copy_var(alloc, var)?;
         return Err(refusal(Why::SideCondition(var)));
     }
@@ -250,6 +252,7 @@ fn chances_left(
     let before = before_call(
         alloc,
         judged.rel,
+        Side::Own,
         callee,
         globals,
         reads,
@@ -312,7 +315,7 @@ fn chances_by_callee(
         return Err(no_shape());
     }
     let post = judged.post;
-    if let Some(var) = clash_after(callee, contract, post) {
+    if let Some(var) = clash_after(Side::Own, callee, contract, post) {
         let var = copy_var(alloc, var)?;
         return Err(refusal(Why::SideCondition(var)));
     }
@@ -349,7 +352,7 @@ pub fn known_call<'a>(
     let Some(declared) = scope.procedure(call.procedure.get()) else {
         return Ok(None);
     };
-    let Some(written) = written(alloc, scope, call.procedure)? else {
+    let Some(written) = proc_writes(alloc, scope, call.procedure)? else {
         return Ok(None);
     };
     Ok(Some(Known {

@@ -75,7 +75,7 @@ abbrev pub hidden : Bool → Var → Bool
 hidden true y = false
 hidden false y = var_eq (var.Local result_name) y
 
-moves : (b : Bool) (R : Ty) (c : Context) (x : Var) (t : Ty) → hidden b x ≡ false → IsIn c (Some (result_frame R)) x t → IsIn c (Some (frame_if b R)) x t
+pub moves : (b : Bool) (R : Ty) (c : Context) (x : Var) (t : Ty) → hidden b x ≡ false → IsIn c (Some (result_frame R)) x t → IsIn c (Some (frame_if b R)) x t
 moves true R c x t n w = w
 moves false R c (var.Local x) t n w = absurd (false≢true (sym n ∙ (var_eq-Decides (var.Local result_name) (var.Local x)).1 (is_result R x t w)))
 moves false R c (var.Global m x) t n w = w
@@ -345,15 +345,8 @@ module _ (b : Context) (ls rs : List TypedName) (R S : Ty) (W V : List TypedVari
             ∙ same_form b (Some ls) (Some rs) g fits j fair P s (end l xs left_value z) (end r ys right_value y) (assigned g.types left_base xs left_value) (assigned g.types right_base ys right_value)
             (left_reads l left_covers) (right_reads r right_covers) q w within
 
-  module _ (said q : Term) (said_form : IsForm (reframed (outermost b) None (Some (result_frame R)) (Some (result_frame S))) said) (end_form : IsForm d q) (l r : Bool)
-      (left_clear : Clear side.Left tt (hidden l) (variables_read side.Left said)) (right_clear : Clear side.Right tt (hidden r) (variables_read side.Right said)) where
-    said_narrow : IsForm (said_in l r) said
-    said_narrow = record {
-      typed =
-          sides_typed (Some (result_frame R)) (Some (result_frame S)) (Some (frame_if l R)) (Some (frame_if r S)) (hidden l) (hidden r) (moves l R) (moves r S) (λ z. tt) (λ z. tt) said (outermost b) left_clear right_clear said_form.typed;
-      truth = said_form.truth;
-    }
-
+  -- what is said is said without a result that doesn't occur
+  module _ (said q : Term) (l r : Bool) (said_narrow : IsForm (said_in l r) said) (end_form : IsForm d q) where
     said_typed : IsForm (inside l r) (term_changed said (to_bound_values (bound_of_both l r o p)))
     said_typed =
         sided_typed b (Some (frame_if l R)) (Some (frame_if r S)) (Some ls) (Some rs) (X l r) (Y l r) (bound_of_both l r o p) refl (on_sides l r) (located_here l r) (λ z. tt) (λ z. tt)

@@ -74,48 +74,16 @@ use Rattle.gb_call.proofs.Callees.{IsResult, alone_local, few, there, typed_with
 use Rattle.gb_call.proofs.Conditions.{IsSpared, nothing_least, after_spared, said_spared, globals_alone, left_alone, said_alone, said_read, unread_after, unread_said, with_result, without_result}
 use Rattle.gb_call.proofs.LastCalls.{IsCalled}
 use Rattle.gb_call_both.specs.BothOutcomes.{after_both, bound_of_both, of_both_arguments}
-use Rattle.gb_call_both.specs.Call.{before_both, both_goals, by_both_globals, call_row, clash_after_both, of_callees, on_two, AreContracts, IsTypedContract}
-use Rattle.gb_call_both.proofs.AfterBoth.{Covers, after_both_means, after_typed, hidden}
+use Rattle.gb_call_both.specs.Call.{before_both, both_goals, by_both_globals, call_row, clash_after_both, of_callees, on_two, AreContracts, IsContractOf, IsTypedContract}
+use Rattle.gb_call_both.proofs.AfterBoth.{Covers, after_both_means, after_typed, frame_if, hidden, moves}
+use Rattle.gb_call_both.proofs.Alone.{both_alone, fewer_read, fewer_targets, hidden_clear, results_alone}
 use Rattle.gb_call_both.proofs.ArgumentsOfBoth.{arguments_typed, arguments_meaning}
+use Rattle.gb_call_both.proofs.NarrowedSides.{sides_typed}
+use Rattle.gb_call_both.proofs.OneSideIsSound as side_sound
 
 both_empty : (xs ys : List Var) → xs ++ ys ≡ [] → (xs ≡ []) × (ys ≡ [])
 both_empty [] ys e = (refl, e)
 both_empty (x ∷ xs) ys e = cc
-
--- where fewer variables may be read, one is alone still
-fewer_read : (g : Setting) (P Q : Var → Bool) → ((y : Var) → P y ≡ true → Q y ≡ true) → (W : List TypedVariable) → AllByRecursion (λ w. IsAlone g w.variable Q) W → AllByRecursion (λ w. IsAlone g w.variable P) W
-fewer_read g P Q h [] k = tt
-fewer_read g P Q h (w ∷ W) k = ((λ y p n. k.0 y (h y p) n), fewer_read g P Q h W k.1)
-
-fewer_targets : (g : Setting) (P Q : Var → Bool) → ((y : Var) → P y ≡ true → Q y ≡ true) → (xs : List Var) → AllByRecursion (λ x. IsAlone g x Q) xs → AllByRecursion (λ x. IsAlone g x P) xs
-fewer_targets g P Q h [] k = tt
-fewer_targets g P Q h (x ∷ xs) k = ((λ y p n. k.0 y (h y p) n), fewer_targets g P Q h xs k.1)
-
-both_alone : (g : Setting) (P : Readable) (W V : List TypedVariable) → AllByRecursion (λ w. IsAlone g w.variable (P side.Left)) W → AllByRecursion (λ w. IsAlone g w.variable (P side.Right)) V →
-    AreAlone g P (in_memory side.Left W ++ in_memory side.Right V)
-both_alone g P [] [] h k = tt
-both_alone g P [] (v ∷ V) h k = (k.0, both_alone g P [] V h k.1)
-both_alone g P (w ∷ W) V h k = (h.0, both_alone g P W V h.1 k)
-
-results_alone : (g : Setting) (P : Readable) (l r : Bool) (xs ys : List Var) (R S : Ty) (W V : List TypedVariable) → AreAlone g P (in_memory side.Left W ++ in_memory side.Right V) →
-    AreAlone g P (bound_of_both l r (record { side = side.Left; targets = xs; result = R; globals = W }) (record { side = side.Right; targets = ys; result = S; globals = V }))
-results_alone g P true true xs ys R S W V h = ((λ y p f. alone_local g result_name y f), ((λ y p f. alone_local g result_name y f), h))
-results_alone g P true false xs ys R S W V h = ((λ y p f. alone_local g result_name y f), h)
-results_alone g P false true xs ys R S W V h = ((λ y p f. alone_local g result_name y f), h)
-results_alone g P false false xs ys R S W V h = h
-
--- a result that doesn't occur isn't read
-hidden_clear : (r : Side) (is : IsSide r) (b : Bool) (said : Term) → (b ≡ false → is_read r said (var.Local result_name) ≡ false) → Clear r is (hidden b) (variables_read r said)
-hidden_clear r is true said h = every (variables_read r said)
-  where
-    every : (xs : List Var) → Clear r is (hidden true) xs
-    every [] = tt
-    every (x ∷ xs) = (refl, every xs)
-hidden_clear r is false said h = every (variables_read r said) (h refl)
-  where
-    every : (xs : List Var) → is_among xs (var.Local result_name) ≡ false → Clear r is (hidden false) xs
-    every [] e = tt
-    every (x ∷ xs) e = let f = or_parts (var_eq (var.Local result_name) x) (is_among xs (var.Local result_name)) e in (f.0, every xs f.1)
 
 module _ (ds : Declarations) (scoped : IsTypedScope (declared ds)) (t : Sequent) (typed : IsTypedSequent (context_of (declared ds)) t) (s : Contract) where
   abbrev c : Context
@@ -197,11 +165,19 @@ module _ (ds : Declarations) (scoped : IsTypedScope (declared ds)) (t : Sequent)
       right_hidden : Clear side.Right tt (hidden right_occurs) (variables_read side.Right s.post)
       right_hidden = hidden_clear side.Right tt right_occurs s.post (λ h. (right_unread h).0)
 
+      said_narrow : IsForm (reframed (outermost c) None (Some (frame_if left_occurs a.result)) (Some (frame_if right_occurs e.result))) s.post
+      said_narrow = record {
+        typed =
+            sides_typed (Some left_result) (Some right_result) (Some (frame_if left_occurs a.result)) (Some (frame_if right_occurs e.result)) (hidden left_occurs) (hidden right_occurs)
+            (moves left_occurs a.result) (moves right_occurs e.result) (λ z. tt) (λ z. tt) s.post (outermost c) left_hidden right_hidden said_form.typed;
+        truth = said_form.truth;
+      }
+
       after_form : IsForm (reframed (outermost c) None (Some ls) (Some rs)) (after_both o u s.post q)
       after_form =
           after_typed c ls rs a.result e.result W V left_are.1 right_are.1 (callees.finite_result ds scoped t typed outer ls is w.1 k left_last a left_found T left_known)
           (callees.finite_result ds scoped t typed outer rs js w.2 l right_last e right_found U right_known) k.targets l.targets left_takes right_takes left_few right_few
-          s.post q said_form end_form left_occurs right_occurs left_hidden right_hidden
+          s.post q left_occurs right_occurs said_narrow end_form
 
       abbrev left_call : IsCall c ls k.targets (Some (type_of_procedure a)) k.arguments
       left_call = callees.call_typed ds scoped t typed outer ls is w.1 k left_last a left_found T left_known
@@ -337,7 +313,7 @@ module _ (ds : Declarations) (scoped : IsTypedScope (declared ds)) (t : Sequent)
           ends =
               after_both_means c ls rs a.result e.result W V left_are.1 right_are.1 (callees.finite_result ds scoped t typed outer ls is w.1 k left_last a left_found T left_known)
               (callees.finite_result ds scoped t typed outer rs js w.2 l right_last e right_found U right_known) k.targets l.targets left_takes right_takes left_few right_few
-              s.post q said_form end_form left_occurs right_occurs left_hidden right_hidden
+              s.post q left_occurs right_occurs said_narrow end_form
               g fits_there j fair v state_there m n h i T U left_outcome.1 right_outcome.1 (result_in h) (result_in i) left_outcome.0.0 right_outcome.0.0 left_outcome.0.1 right_outcome.0.1
               Q said_within (results_alone g Q left_occurs right_occurs k.targets l.targets a.result e.result W V (both_alone g Q W V left_said_globals right_said_globals))
               (λ z f. said_read side.Left tt k.targets T s.post q left_occurs W left_are.0 g left_said z (left_said_read z f))
@@ -461,12 +437,12 @@ module _ (ds : Declarations) (scoped : IsTypedScope (declared ds)) (t : Sequent)
         by_procedures k l f h y (procedure_of ds k.procedure) refl (written ds k.procedure) refl (procedure_of ds l.procedure) refl (written ds l.procedure) refl i
 
   on_all : (outer : c ≡ outermost c) (ls rs : List TypedName) (G : Goal) → IsGoalOver c ls rs G → IsTypedContract c s ls rs G → IsSoundIn (declared ds) c (call_row ds s) G
-  on_all outer ls rs (equiv (body is) (body js) p q) w y Gs i = by_acts s.acts i
+  on_all outer ls rs (equiv (body is) (body js) p q) w y Gs i = by_acts s.acts y i
     where
-      by_acts : (x : Acts) → on_two ds s x is js p q ≡ given Gs → Both outer ls rs is js p q w Gs
-      by_acts on.All i = by_calls outer ls rs is js p q w Gs (last_call is) refl (last_call js) refl y i
-      by_acts on.Left i = refused_given Shape Gs i
-      by_acts on.Right i = refused_given Shape Gs i
+      by_acts : (x : Acts) → IsContractOf c s x (last_call is) (last_call js) → on_two ds s x is js p q ≡ given Gs → Both outer ls rs is js p q w Gs
+      by_acts on.All y i = by_calls outer ls rs is js p q w Gs (last_call is) refl (last_call js) refl y i
+      by_acts on.Left y i = side_sound.left_sound ds scoped t typed s outer ls rs is js p q w None tt y Gs i
+      by_acts on.Right y i = side_sound.right_sound ds scoped t typed s outer ls rs is js p q w None tt y Gs i
   on_all outer ls rs (equiv (body is) (procedure r) p q) w y Gs i = one.sound ds scoped t typed s outer ls rs (equiv (body is) (procedure r) p q) w y Gs i
   on_all outer ls rs (equiv (procedure r) d p q) w y Gs i = one.sound ds scoped t typed s outer ls rs (equiv (procedure r) d p q) w y Gs i
   on_all outer ls rs (hoare d p q) w y Gs i = one.sound ds scoped t typed s outer ls rs (hoare d p q) w y Gs i

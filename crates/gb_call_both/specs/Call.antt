@@ -1,5 +1,5 @@
--- `call`: the calls that end two bodies, by what their procedures are said to do.
-use Rattle.std.specs.Prelude.{List, [], ◌∷◌, ◌++◌, Option, Some}
+-- `call`: the calls that end two bodies, or the call that ends one of them, by what their procedures are said to do.
+use Rattle.std.specs.Prelude.{List, [], ◌∷◌, ◌++◌, Option, Some, None}
 use Rattle.gb_core.specs.declared.var.Var.{Var}
 use Rattle.gb_terms.specs.declared.decl.TypedName.{TypedName}
 use Rattle.gb_terms.specs.declared.op.Side.TheVariants.{Left, Right}
@@ -22,12 +22,13 @@ use Rattle.gb_typing.specs.Context as context
 use Rattle.gb_typing.specs.Typing.{IsForm, before, after}
 use Rattle.gb_typing.specs.Forms.{and_form}
 use Rattle.gb_prog.specs.Writes.{TypedVariable}
-use Rattle.gb_call.specs.Call.{Callee, outcome, callee_of, left_of, if_few, unless_clash}
+use Rattle.gb_call.specs.Call.{Callee, IsContract, outcome, callee_of, left_of, if_few, unless_clash}
 use Rattle.gb_call.specs.Call as one
 use Rattle.gb_call.specs.LastCall.{LastCall, last_call}
 use Rattle.gb_call.specs.Outcomes.{clashing_after}
 use Rattle.gb_call.specs.Written.{with_types}
 use Rattle.gb_call_both.specs.BothOutcomes.{of_both_arguments, after_both}
+use Rattle.gb_call_both.specs.OneSide.{on_one_side}
 
 -- The precondition holds of the arguments of both calls, and the postcondition leads to what is to hold after both.
 abbrev pub before_both : Callee → List TypedVariable → Callee → List TypedVariable → Contract → Term → Term
@@ -56,10 +57,10 @@ abbrev pub of_callees : Declarations → Contract → Term → Term → Option C
 of_callees ds s p q (Some k) (Some l) = by_callees ds s p q k l
 of_callees ds s p q _ _ = refusing Shape
 
--- two bodies
+-- two bodies, or one of them
 abbrev pub on_two : Declarations → Contract → Acts → List Instr → List Instr → Term → Term → Answer (List Goal)
 on_two ds s on.All is js p q = of_callees ds s p q (callee_of ds (last_call is)) (callee_of ds (last_call js))
-on_two ds s a is js p q = refusing Shape
+on_two ds s a is js p q = on_one_side ds None s a (equiv (body is) (body js) p q)
 
 -- on two bodies, and on one
 abbrev pub on_programs : Declarations → Contract → Acts → Row
@@ -75,7 +76,13 @@ AreContracts c s (Some k) (Some l) =
     × IsForm (with_sides c (after (context.procedure c k.procedure)) (after (context.procedure c l.procedure))) s.post
 AreContracts c s _ _ = Unit {0}
 
+-- the same of the bodies on which the step acts
+abbrev pub IsContractOf : Context → Contract → Acts → Option LastCall → Option LastCall → Type 0
+IsContractOf c s on.All o u = AreContracts c s o u
+IsContractOf c s on.Left o u = IsContract c s o
+IsContractOf c s on.Right o u = IsContract c s u
+
 -- a typed step: the precondition is said of the parameters of the called procedures, the postcondition of their results
 abbrev pub IsTypedContract : Context → Contract → List TypedName → List TypedName → Goal → Type 0
-IsTypedContract c s ls rs (equiv (body is) (body js) p q) = AreContracts c s (last_call is) (last_call js)
+IsTypedContract c s ls rs (equiv (body is) (body js) p q) = IsContractOf c s s.acts (last_call is) (last_call js)
 IsTypedContract c s ls rs G = one.IsTypedContract c s ls rs G

@@ -1,4 +1,4 @@
-//! The rule `call` on two bodies, by what a procedure on each side is said to do, and on one.
+//! The rule `call` on two bodies, by what a procedure on each side is said to do, on one of them, and on one body.
 
 ghost use Rattle.std.specs.Prelude.{◌≡◌, IfOk, map};
 ghost use Rattle.std.specs.Option.{option_copied, option_map};
@@ -23,6 +23,7 @@ ghost use Rattle.gb_call.specs.Written.{with_types};
 ghost use Rattle.gb_call_both.specs.Call.{before_both, both_goals, by_both_globals, by_callees, call_row, clash_after_both, of_callees, on_programs, on_two, IsTypedContract};
 
 use crate::both::{Passed, after_both, of_both_arguments};
+use crate::one_side::one_side;
 use gb_call::call::{
     Callee, MANY, called as called_on_one, callee_of, globals_left, known_call, reads_of,
 };
@@ -273,7 +274,7 @@ fn of_callees(
     by_callees(alloc, goal, scope, contract, pre, post, &left, &right)
 }
 
-/// The subgoals on two bodies.
+/// The subgoals on two bodies, or on one of them.
 fn on_two(
     alloc: Global,
     goal: &Sequent,
@@ -291,7 +292,10 @@ fn on_two(
             let (left, right) = (last_call(left), last_call(right));
             of_callees(alloc, goal, scope, contract, pre, post, left, right)
         }
-        _ => Err(no_shape()),
+        _ => {
+            let seen = Goal::Equiv(Code::Body(left), Code::Body(right), pre, post);
+            one_side(alloc, goal, scope, contract, None, seen)
+        }
     }
 }
 
@@ -313,11 +317,12 @@ fn called(
     }
 }
 
-/// The subgoals of `call` on a body that ends with a call, or on two such bodies: the procedures do what is said of them, and what stands
+/// The subgoals of `call` on a body that ends with a call, on two such bodies, or on one of two: the procedures do what is said of them, and what stands
 /// before the calls leads to where its precondition holds of the arguments, and its postcondition leads to what is to hold after the calls,
 /// for all results and all values of the globals that the procedures write. Refused with `Shape` at any other goal, and at a procedure of
 /// which it isn't known what it writes; with `SideCondition` where a form reads a variable that clashes with one that is replaced; with
-/// `NotLossless` where a probability is judged and what stands before the call may lose weight, but for `<=`.
+/// `NotLossless` where a probability is judged and what stands before the call may lose weight, but for `<=`, and where the procedure that one
+/// of two bodies calls may lose weight.
 pub fn call(
     alloc: Global,
     goal: &Sequent,

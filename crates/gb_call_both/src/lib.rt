@@ -5,3 +5,4 @@ pub mod apply;
 pub mod both;
 pub mod call;
 pub mod laws;
+pub mod one_side;

@@ -1,5 +1,5 @@
 -- The first goal of `call` says what its procedures do.
-use Rattle.std.proofs.Common.{◌≡◌, Bool, true, false, if◌then◌else◌, List, [], ◌∷◌, length, Option, Some, None, sym, subst, nat_lt}
+use Rattle.std.proofs.Common.{◌≡◌, Bool, true, false, if◌then◌else◌, List, [], ◌∷◌, length, Option, Some, None, ap, sym, ◌∙◌, subst, nat_lt}
 use Rattle.std.specs.Option.{option_map}
 use Rattle.std.proofs.lemmas.Option.{same_Some}
 use Rattle.gb_core.specs.declared.refusal.Why.TheVariants.{Shape, SideCondition}
@@ -9,6 +9,7 @@ use Rattle.gb_terms.specs.declared.module.ProcRef.{ProcRef}
 use Rattle.gb_terms.specs.declared.op.Rel.{Rel}
 use Rattle.gb_terms.specs.declared.op.Rel.TheVariants.{AtLeast}
 use Rattle.gb_terms.specs.declared.op.Side.TheVariants as side
+use Rattle.gb_terms.specs.declared.term.Instr.{Instr}
 use Rattle.gb_terms.specs.declared.term.Term.{Term}
 use Rattle.gb_steps.specs.declared.step.Acts.{Acts}
 use Rattle.gb_steps.specs.declared.step.Acts.TheVariants as on
@@ -23,6 +24,7 @@ use Rattle.gb_goal.specs.Scope.{Declarations, procedure_of}
 use Rattle.gb_mods.specs.Written.{written}
 use Rattle.gb_prog.specs.Writes.{TypedVariable}
 use Rattle.gb_typing.proofs.Given.{refused_given, refused_at, same_given}
+use Rattle.gb_parts.specs.OneBody.{OneBody}
 use Rattle.gb_full.specs.Loss.{first_loss}
 use Rattle.gb_phoare.specs.Rnd.{of_rest}
 use Rattle.gb_call.specs.Call.{Callee, before_call, by_callee, by_globals, callee, callee_of, chances_by_callee, chances_by_globals, chances_of_callee, if_few, in_front, left_of, of_callee, unless_clash}
@@ -30,7 +32,9 @@ use Rattle.gb_call.specs.LastCall.{LastCall, last_call}
 use Rattle.gb_call.specs.Outcomes.{clash_after}
 use Rattle.gb_call.specs.Written.{with_types}
 use Rattle.gb_call_both.specs.Call.{before_both, by_both_globals, by_callees, clash_after_both, of_callees}
-use Rattle.gb_call_known.specs.Known.{IsOfCalls, by_conditions}
+use Rattle.gb_call_both.specs.OneSide.{judged, of_body, on_one_side, on_side}
+use Rattle.gb_call_both.proofs.SideGoals.{callee_given, callee_is}
+use Rattle.gb_call_known.specs.Known.{IsOfCalls, by_conditions, contract}
 
 -- the goals are this one and others behind it
 pub record IsFirst (K : Goal) (Gs : List Goal) : Type 0 where
@@ -144,39 +148,80 @@ module _ (ds : Declarations) (s : Contract) (p q : Term) (Gs : List Goal) where
 
 -- `call` by the conditions of a judgment of the called procedures gives that judgment first
 module _ (ds : Declarations) (Gs : List Goal) where
-  of_hoare : (a : Acts) (f : ProcRef) (h k : Term) (G : Goal) → IsOfCalls (hoare (procedure f) h k) G → by_conditions ds a (hoare (procedure f) h k) G ≡ given Gs → IsFirst (hoare (procedure f) h k) Gs
-  of_hoare on.All f h k (hoare (body is) p q) o e = one_first ds (record { acts = on.All; pre = h; post = k }) p q Gs f (last_call is) o e
-  of_hoare on.Left f h k (hoare (body is) p q) o e = refused_given Shape Gs e
-  of_hoare on.Right f h k (hoare (body is) p q) o e = refused_given Shape Gs e
-  of_hoare a f h k (hoare (procedure g) p q) o e = absurd o
-  of_hoare a f h k (phoare c r p q b) o e = absurd o
-  of_hoare a f h k (equiv c d p q) o e = absurd o
-  of_hoare a f h k (ambient t) o e = absurd o
+  -- on one of two bodies
+  side_first : (b : Option Term) (s : Contract) (o : OneBody) (f : ProcRef) → option_map (λ (k : LastCall). k.procedure) (last_call o.list) ≡ Some f → of_body ds b s o ≡ given Gs → IsFirst (judged b f s) Gs
+  side_first b s o f i e =
+      let x = callee_given ds b s o Gs (callee_of ds (last_call o.list)) e in
+      let k = x.0 in
+      let c = callee_is ds (last_call o.list) k x.1 in
+      let z = x.2 in
+      let same : k.call.procedure ≡ f = same_Some k.call.procedure f (sym (ap (option_map (λ (k : LastCall). k.procedure)) c.last) ∙ i) in
+      subst (λ f. IsFirst (judged b f s) Gs) same
+      (record { rest = o.goal k.call.before o.pre (before_call AtLeast o.side k z.globals (on_side o.side s) o.post) ∷ []; shape = sym z.goals })
 
-  of_phoare : (a : Acts) (f : ProcRef) (l : Rel) (h k d : Term) (G : Goal) → IsOfCalls (phoare (procedure f) l h k d) G → by_conditions ds a (phoare (procedure f) l h k d) G ≡ given Gs →
+  left_first : (b : Option Term) (s : Contract) (f : ProcRef) (is js : List Instr) (p q : Term) → option_map (λ (k : LastCall). k.procedure) (last_call is) ≡ Some f →
+      on_one_side ds b s on.Left (equiv (body is) (body js) p q) ≡ given Gs → IsFirst (judged b f s) Gs
+  left_first b s f is js p q = side_first b s (record { side = side.Left; list = is; pre = p; post = q; goal = λ is p q. equiv (body is) (body js) p q }) f
+
+  right_first : (b : Option Term) (s : Contract) (f : ProcRef) (is js : List Instr) (p q : Term) → option_map (λ (k : LastCall). k.procedure) (last_call js) ≡ Some f →
+      on_one_side ds b s on.Right (equiv (body is) (body js) p q) ≡ given Gs → IsFirst (judged b f s) Gs
+  right_first b s f is js p q = side_first b s (record { side = side.Right; list = js; pre = p; post = q; goal = λ js p q. equiv (body is) (body js) p q }) f
+
+  of_hoare : (a : Acts) (f : ProcRef) (h k : Term) (G : Goal) → IsOfCalls a (hoare (procedure f) h k) G → by_conditions ds a (hoare (procedure f) h k) G ≡ given Gs → IsFirst (hoare (procedure f) h k) Gs
+  of_hoare on.All f h k (hoare (body is) p q) o e = one_first ds (contract on.All h k) p q Gs f (last_call is) o e
+  of_hoare on.Left f h k (equiv (body is) (body js) p q) o e = left_first None (contract on.Left h k) f is js p q o e
+  of_hoare on.Right f h k (equiv (body is) (body js) p q) o e = right_first None (contract on.Right h k) f is js p q o e
+  of_hoare on.All f h k (hoare (procedure g) p q) o e = absurd o
+  of_hoare on.All f h k (phoare c r p q b) o e = absurd o
+  of_hoare on.All f h k (equiv c d p q) o e = absurd o
+  of_hoare on.All f h k (ambient t) o e = absurd o
+  of_hoare on.Left f h k (equiv (body is) (procedure g) p q) o e = absurd o
+  of_hoare on.Left f h k (equiv (procedure g) d p q) o e = absurd o
+  of_hoare on.Left f h k (hoare c p q) o e = absurd o
+  of_hoare on.Left f h k (phoare c r p q b) o e = absurd o
+  of_hoare on.Left f h k (ambient t) o e = absurd o
+  of_hoare on.Right f h k (equiv (body is) (procedure g) p q) o e = absurd o
+  of_hoare on.Right f h k (equiv (procedure g) d p q) o e = absurd o
+  of_hoare on.Right f h k (hoare c p q) o e = absurd o
+  of_hoare on.Right f h k (phoare c r p q b) o e = absurd o
+  of_hoare on.Right f h k (ambient t) o e = absurd o
+
+  of_phoare : (a : Acts) (f : ProcRef) (l : Rel) (h k d : Term) (G : Goal) → IsOfCalls a (phoare (procedure f) l h k d) G → by_conditions ds a (phoare (procedure f) l h k d) G ≡ given Gs →
       IsFirst (phoare (procedure f) l h k d) Gs
   of_phoare on.All f l h k d (phoare (body is) r p q b) o e =
       subst (λ x. IsFirst (phoare (procedure f) x h k d) Gs) (sym o.1)
-      (subst (λ x. IsFirst (phoare (procedure f) r h k x) Gs) (sym o.2) (likely_first ds (record { acts = on.All; pre = h; post = k }) p q Gs r b f (last_call is) o.0 e))
-  of_phoare on.Left f l h k d (phoare (body is) r p q b) o e = refused_given Shape Gs e
-  of_phoare on.Right f l h k d (phoare (body is) r p q b) o e = refused_given Shape Gs e
-  of_phoare a f l h k d (phoare (procedure g) r p q b) o e = absurd o
-  of_phoare a f l h k d (hoare c p q) o e = absurd o
-  of_phoare a f l h k d (equiv c g p q) o e = absurd o
-  of_phoare a f l h k d (ambient t) o e = absurd o
+      (subst (λ x. IsFirst (phoare (procedure f) r h k x) Gs) (sym o.2) (likely_first ds (contract on.All h k) p q Gs r b f (last_call is) o.0 e))
+  of_phoare on.Left f l h k d (equiv (body is) (body js) p q) o e =
+      subst (λ x. IsFirst (phoare (procedure f) x h k d) Gs) (sym o.1.0) (left_first (Some d) (contract on.Left h k) f is js p q o.0 e)
+  of_phoare on.Right f l h k d (equiv (body is) (body js) p q) o e =
+      subst (λ x. IsFirst (phoare (procedure f) x h k d) Gs) (sym o.1.0) (right_first (Some d) (contract on.Right h k) f is js p q o.0 e)
+  of_phoare on.All f l h k d (phoare (procedure g) r p q b) o e = absurd o
+  of_phoare on.All f l h k d (hoare c p q) o e = absurd o
+  of_phoare on.All f l h k d (equiv c g p q) o e = absurd o
+  of_phoare on.All f l h k d (ambient t) o e = absurd o
+  of_phoare on.Left f l h k d (equiv (body is) (procedure g) p q) o e = absurd o
+  of_phoare on.Left f l h k d (equiv (procedure g) c p q) o e = absurd o
+  of_phoare on.Left f l h k d (hoare c p q) o e = absurd o
+  of_phoare on.Left f l h k d (phoare c r p q b) o e = absurd o
+  of_phoare on.Left f l h k d (ambient t) o e = absurd o
+  of_phoare on.Right f l h k d (equiv (body is) (procedure g) p q) o e = absurd o
+  of_phoare on.Right f l h k d (equiv (procedure g) c p q) o e = absurd o
+  of_phoare on.Right f l h k d (hoare c p q) o e = absurd o
+  of_phoare on.Right f l h k d (phoare c r p q b) o e = absurd o
+  of_phoare on.Right f l h k d (ambient t) o e = absurd o
 
-  of_equiv : (a : Acts) (f g : ProcRef) (h k : Term) (G : Goal) → IsOfCalls (equiv (procedure f) (procedure g) h k) G → by_conditions ds a (equiv (procedure f) (procedure g) h k) G ≡ given Gs →
+  of_equiv : (a : Acts) (f g : ProcRef) (h k : Term) (G : Goal) → IsOfCalls a (equiv (procedure f) (procedure g) h k) G → by_conditions ds a (equiv (procedure f) (procedure g) h k) G ≡ given Gs →
       IsFirst (equiv (procedure f) (procedure g) h k) Gs
-  of_equiv on.All f g h k (equiv (body is) (body js) p q) o e = two_first ds (record { acts = on.All; pre = h; post = k }) p q Gs f g (last_call is) (last_call js) o.0 o.1 e
-  of_equiv on.Left f g h k (equiv (body is) (body js) p q) o e = refused_given Shape Gs e
-  of_equiv on.Right f g h k (equiv (body is) (body js) p q) o e = refused_given Shape Gs e
-  of_equiv a f g h k (equiv (body is) (procedure d) p q) o e = absurd o
-  of_equiv a f g h k (equiv (procedure c) d p q) o e = absurd o
-  of_equiv a f g h k (hoare c p q) o e = absurd o
-  of_equiv a f g h k (phoare c r p q b) o e = absurd o
-  of_equiv a f g h k (ambient t) o e = absurd o
+  of_equiv on.All f g h k (equiv (body is) (body js) p q) o e = two_first ds (contract on.All h k) p q Gs f g (last_call is) (last_call js) o.0 o.1 e
+  of_equiv on.All f g h k (equiv (body is) (procedure d) p q) o e = absurd o
+  of_equiv on.All f g h k (equiv (procedure d) c p q) o e = absurd o
+  of_equiv on.All f g h k (hoare c p q) o e = absurd o
+  of_equiv on.All f g h k (phoare c r p q b) o e = absurd o
+  of_equiv on.All f g h k (ambient t) o e = absurd o
+  of_equiv on.Left f g h k G o e = absurd o
+  of_equiv on.Right f g h k G o e = absurd o
 
-  pub known_first : (a : Acts) (K G : Goal) → IsOfCalls K G → by_conditions ds a K G ≡ given Gs → IsFirst K Gs
+  pub known_first : (a : Acts) (K G : Goal) → IsOfCalls a K G → by_conditions ds a K G ≡ given Gs → IsFirst K Gs
   known_first a (hoare (procedure f) h k) G o e = of_hoare a f h k G o e
   known_first a (hoare (body is) h k) G o e = absurd o
   known_first a (phoare (procedure f) l h k d) G o e = of_phoare a f l h k d G o e

@@ -11,6 +11,7 @@ use Rattle.gb_terms.specs.declared.module.ProcRef.{ProcRef}
 use Rattle.gb_terms.specs.declared.op.Rel.{Rel}
 use Rattle.gb_terms.specs.declared.term.Term.{Term}
 use Rattle.gb_steps.specs.declared.step.Acts.{Acts}
+use Rattle.gb_steps.specs.declared.step.Acts.TheVariants as on
 use Rattle.gb_steps.specs.declared.step.Contract.{Contract}
 use Rattle.gb_goal.specs.Answers.{Answer, placed_at}
 use Rattle.gb_goal.specs.Answers.Answer.{given, refused}
@@ -40,7 +41,8 @@ use Rattle.gb_call.specs.Call.{IsContract}
 use Rattle.gb_call.specs.LastCall.{LastCall, last_call}
 use Rattle.gb_call_both.specs.Call.{AreContracts}
 use Rattle.gb_call_both.proofs.CallIsSound as of_call
-use Rattle.gb_call_known.specs.Known.{IsAnswer, IsOfCalls, behind, behind_first, by_conditions}
+use Rattle.gb_call_both.proofs.OneSideIsSound as of_side
+use Rattle.gb_call_known.specs.Known.{IsAnswer, IsOfCalls, behind, behind_first, by_conditions, contract}
 use Rattle.gb_call_known.proofs.FirstGoals.{known_first}
 
 module _ (ds : Declarations) (scoped : IsTypedScope (declared ds)) (q : Sequent) (t : IsTypedSequent (context_of (declared ds)) q) where
@@ -69,58 +71,91 @@ module _ (ds : Declarations) (scoped : IsTypedScope (declared ds)) (q : Sequent)
         subst (λ x. x) (λ j. IsForm (with_sides c (after (procedure c (m j))) (after (procedure c (n j)))) s.post) w,
       )
 
-  module _ (a : Acts) (ls rs us vs : List TypedName) where
-    by_hoare : (f : ProcRef) (h k : Term) (G : Goal) → IsGoalOver c us vs (hoare (of_procedure f) h k) → IsOfCalls (hoare (of_procedure f) h k) G → IsGoalOver c ls rs G →
+  module _ (ls rs us vs : List TypedName) where
+    by_hoare : (a : Acts) (f : ProcRef) (h k : Term) (G : Goal) → IsGoalOver c us vs (hoare (of_procedure f) h k) → IsOfCalls a (hoare (of_procedure f) h k) G → IsGoalOver c ls rs G →
         IsSoundIn (declared ds) c (by_conditions ds a (hoare (of_procedure f) h k)) G
-    by_hoare f h k (hoare (body is) p r) w o v Gs e =
-        let s : Contract = record { acts = a; pre = h; post = k } in
-        of_call.sound ds scoped q t s outer ls rs (hoare (body is) p r) v (one_typed s f w.1 w.2 (last_call is) o) Gs e
-    by_hoare f h k (hoare (of_procedure g) p r) w o v Gs e = absurd o
-    by_hoare f h k (phoare d l p r b) w o v Gs e = absurd o
-    by_hoare f h k (equiv d g p r) w o v Gs e = absurd o
-    by_hoare f h k (ambient g) w o v Gs e = absurd o
+    by_hoare on.All f h k (hoare (body is) p r) w o v Gs e =
+        of_call.sound ds scoped q t (contract on.All h k) outer ls rs (hoare (body is) p r) v (one_typed (contract on.All h k) f w.1 w.2 (last_call is) o) Gs e
+    by_hoare on.Left f h k (equiv (body is) (body js) p r) w o v Gs e =
+        of_call.sound ds scoped q t (contract on.Left h k) outer ls rs (equiv (body is) (body js) p r) v (one_typed (contract on.Left h k) f w.1 w.2 (last_call is) o) Gs e
+    by_hoare on.Right f h k (equiv (body is) (body js) p r) w o v Gs e =
+        of_call.sound ds scoped q t (contract on.Right h k) outer ls rs (equiv (body is) (body js) p r) v (one_typed (contract on.Right h k) f w.1 w.2 (last_call js) o) Gs e
+    by_hoare on.All f h k (hoare (of_procedure n) p r) w o v Gs e = absurd o
+    by_hoare on.All f h k (phoare d m p r z) w o v Gs e = absurd o
+    by_hoare on.All f h k (equiv d n p r) w o v Gs e = absurd o
+    by_hoare on.All f h k (ambient n) w o v Gs e = absurd o
+    by_hoare on.Left f h k (equiv (body is) (of_procedure n) p r) w o v Gs e = absurd o
+    by_hoare on.Left f h k (equiv (of_procedure n) d p r) w o v Gs e = absurd o
+    by_hoare on.Left f h k (hoare d p r) w o v Gs e = absurd o
+    by_hoare on.Left f h k (phoare d m p r z) w o v Gs e = absurd o
+    by_hoare on.Left f h k (ambient n) w o v Gs e = absurd o
+    by_hoare on.Right f h k (equiv (body is) (of_procedure n) p r) w o v Gs e = absurd o
+    by_hoare on.Right f h k (equiv (of_procedure n) d p r) w o v Gs e = absurd o
+    by_hoare on.Right f h k (hoare d p r) w o v Gs e = absurd o
+    by_hoare on.Right f h k (phoare d m p r z) w o v Gs e = absurd o
+    by_hoare on.Right f h k (ambient n) w o v Gs e = absurd o
 
-    by_phoare : (f : ProcRef) (l : Rel) (h k b : Term) (G : Goal) → IsGoalOver c us vs (phoare (of_procedure f) l h k b) → IsOfCalls (phoare (of_procedure f) l h k b) G → IsGoalOver c ls rs G →
+    by_phoare : (a : Acts) (f : ProcRef) (l : Rel) (h k b : Term) (G : Goal) → IsGoalOver c us vs (phoare (of_procedure f) l h k b) → IsOfCalls a (phoare (of_procedure f) l h k b) G → IsGoalOver c ls rs G →
         IsSoundIn (declared ds) c (by_conditions ds a (phoare (of_procedure f) l h k b)) G
-    by_phoare f l h k b (phoare (body is) m p r d) w o v Gs e =
-        let s : Contract = record { acts = a; pre = h; post = k } in
-        of_call.sound ds scoped q t s outer ls rs (phoare (body is) m p r d) v (one_typed s f w.1 w.2 (last_call is) o.0) Gs e
-    by_phoare f l h k b (phoare (of_procedure g) m p r d) w o v Gs e = absurd o
-    by_phoare f l h k b (hoare d p r) w o v Gs e = absurd o
-    by_phoare f l h k b (equiv d g p r) w o v Gs e = absurd o
-    by_phoare f l h k b (ambient g) w o v Gs e = absurd o
+    by_phoare on.All f l h k b (phoare (body is) m p r d) w o v Gs e =
+        of_call.sound ds scoped q t (contract on.All h k) outer ls rs (phoare (body is) m p r d) v (one_typed (contract on.All h k) f w.1 w.2 (last_call is) o.0) Gs e
+    by_phoare on.Left f l h k b (equiv (body is) (body js) p r) w o v Gs e =
+        of_side.left_sound ds scoped q t (contract on.Left h k) outer ls rs is js p r v (Some b) (w.3, w.4, o.1.1) (one_typed (contract on.Left h k) f w.1 w.2 (last_call is) o.0) Gs e
+    by_phoare on.Right f l h k b (equiv (body is) (body js) p r) w o v Gs e =
+        of_side.right_sound ds scoped q t (contract on.Right h k) outer ls rs is js p r v (Some b) (w.3, w.4, o.1.1) (one_typed (contract on.Right h k) f w.1 w.2 (last_call js) o.0) Gs e
+    by_phoare on.All f l h k b (phoare (of_procedure n) m p r d) w o v Gs e = absurd o
+    by_phoare on.All f l h k b (hoare d p r) w o v Gs e = absurd o
+    by_phoare on.All f l h k b (equiv d n p r) w o v Gs e = absurd o
+    by_phoare on.All f l h k b (ambient n) w o v Gs e = absurd o
+    by_phoare on.Left f l h k b (equiv (body is) (of_procedure n) p r) w o v Gs e = absurd o
+    by_phoare on.Left f l h k b (equiv (of_procedure n) d p r) w o v Gs e = absurd o
+    by_phoare on.Left f l h k b (hoare d p r) w o v Gs e = absurd o
+    by_phoare on.Left f l h k b (phoare d m p r z) w o v Gs e = absurd o
+    by_phoare on.Left f l h k b (ambient n) w o v Gs e = absurd o
+    by_phoare on.Right f l h k b (equiv (body is) (of_procedure n) p r) w o v Gs e = absurd o
+    by_phoare on.Right f l h k b (equiv (of_procedure n) d p r) w o v Gs e = absurd o
+    by_phoare on.Right f l h k b (hoare d p r) w o v Gs e = absurd o
+    by_phoare on.Right f l h k b (phoare d m p r z) w o v Gs e = absurd o
+    by_phoare on.Right f l h k b (ambient n) w o v Gs e = absurd o
 
-    by_equiv : (f g : ProcRef) (h k : Term) (G : Goal) → IsGoalOver c us vs (equiv (of_procedure f) (of_procedure g) h k) → IsOfCalls (equiv (of_procedure f) (of_procedure g) h k) G →
+    by_equiv : (a : Acts) (f g : ProcRef) (h k : Term) (G : Goal) → IsGoalOver c us vs (equiv (of_procedure f) (of_procedure g) h k) → IsOfCalls a (equiv (of_procedure f) (of_procedure g) h k) G →
         IsGoalOver c ls rs G → IsSoundIn (declared ds) c (by_conditions ds a (equiv (of_procedure f) (of_procedure g) h k)) G
-    by_equiv f g h k (equiv (body is) (body js) p r) w o v Gs e =
-        let s : Contract = record { acts = a; pre = h; post = k } in
-        of_call.sound ds scoped q t s outer ls rs (equiv (body is) (body js) p r) v (two_typed s f g w.3 w.4 (last_call is) (last_call js) o.0 o.1) Gs e
-    by_equiv f g h k (equiv (body is) (of_procedure d) p r) w o v Gs e = absurd o
-    by_equiv f g h k (equiv (of_procedure d) m p r) w o v Gs e = absurd o
-    by_equiv f g h k (hoare d p r) w o v Gs e = absurd o
-    by_equiv f g h k (phoare d l p r b) w o v Gs e = absurd o
-    by_equiv f g h k (ambient m) w o v Gs e = absurd o
+    by_equiv on.All f g h k (equiv (body is) (body js) p r) w o v Gs e =
+        of_call.sound ds scoped q t (contract on.All h k) outer ls rs (equiv (body is) (body js) p r) v (two_typed (contract on.All h k) f g w.3 w.4 (last_call is) (last_call js) o.0 o.1) Gs e
+    by_equiv on.All f g h k (equiv (body is) (of_procedure n) p r) w o v Gs e = absurd o
+    by_equiv on.All f g h k (equiv (of_procedure n) d p r) w o v Gs e = absurd o
+    by_equiv on.All f g h k (hoare d p r) w o v Gs e = absurd o
+    by_equiv on.All f g h k (phoare d m p r z) w o v Gs e = absurd o
+    by_equiv on.All f g h k (ambient n) w o v Gs e = absurd o
+    by_equiv on.Left f g h k G w o v Gs e = absurd o
+    by_equiv on.Right f g h k G w o v Gs e = absurd o
 
-    conditions_sound : (K G : Goal) → IsGoalOver c us vs K → IsOfCalls K G → IsGoalOver c ls rs G → IsSoundIn (declared ds) c (by_conditions ds a K) G
-    conditions_sound (hoare (of_procedure f) h k) G w o v = by_hoare f h k G w o v
-    conditions_sound (hoare (body is) h k) G w o v = absurd o
-    conditions_sound (phoare (of_procedure f) l h k b) G w o v = by_phoare f l h k b G w o v
-    conditions_sound (phoare (body is) l h k b) G w o v = absurd o
-    conditions_sound (equiv (of_procedure f) (of_procedure g) h k) G w o v = by_equiv f g h k G w o v
-    conditions_sound (equiv (of_procedure f) (body is) h k) G w o v = absurd o
-    conditions_sound (equiv (body is) d h k) G w o v = absurd o
-    conditions_sound (ambient f) G w o v = absurd o
+    conditions_sound : (a : Acts) (K G : Goal) → IsGoalOver c us vs K → IsOfCalls a K G → IsGoalOver c ls rs G → IsSoundIn (declared ds) c (by_conditions ds a K) G
+    conditions_sound a (hoare (of_procedure f) h k) G w o v = by_hoare a f h k G w o v
+    conditions_sound a (hoare (body is) h k) G w o v = absurd o
+    conditions_sound a (phoare (of_procedure f) l h k b) G w o v = by_phoare a f l h k b G w o v
+    conditions_sound a (phoare (body is) l h k b) G w o v = absurd o
+    conditions_sound a (equiv (of_procedure f) (of_procedure g) h k) G w o v = by_equiv a f g h k G w o v
+    conditions_sound a (equiv (of_procedure f) (body is) h k) G w o v = absurd o
+    conditions_sound a (equiv (body is) d h k) G w o v = absurd o
+    conditions_sound a (ambient f) G w o v = absurd o
 
   -- a form that isn't a judgment calls nothing
-  none_called : (K : Goal) (f : Term) → IsOfCalls K (ambient f) → ⊥
-  none_called (hoare (of_procedure f) h k) g o = o
-  none_called (hoare (body is) h k) g o = o
-  none_called (phoare (of_procedure f) l h k b) g o = o
-  none_called (phoare (body is) l h k b) g o = o
-  none_called (equiv (of_procedure f) (of_procedure g) h k) m o = o
-  none_called (equiv (of_procedure f) (body is) h k) g o = o
-  none_called (equiv (body is) d h k) g o = o
-  none_called (ambient f) g o = o
+  none_called : (a : Acts) (K : Goal) (f : Term) → IsOfCalls a K (ambient f) → ⊥
+  none_called on.All (hoare (of_procedure f) h k) g o = o
+  none_called on.Left (hoare (of_procedure f) h k) g o = o
+  none_called on.Right (hoare (of_procedure f) h k) g o = o
+  none_called a (hoare (body is) h k) g o = o
+  none_called on.All (phoare (of_procedure f) l h k b) g o = o
+  none_called on.Left (phoare (of_procedure f) l h k b) g o = o
+  none_called on.Right (phoare (of_procedure f) l h k b) g o = o
+  none_called a (phoare (body is) l h k b) g o = o
+  none_called on.All (equiv (of_procedure f) (of_procedure g) h k) m o = o
+  none_called on.Left (equiv (of_procedure f) (of_procedure g) h k) m o = o
+  none_called on.Right (equiv (of_procedure f) (of_procedure g) h k) m o = o
+  none_called a (equiv (of_procedure f) (body is) h k) g o = o
+  none_called a (equiv (body is) d h k) g o = o
+  none_called a (ambient f) g o = o
 
   module _ (a : Acts) (f : Term) (w : IsForm c f) (known : Holds (declared ds) (record q { conclusion = f })) (place : Place) (qs : List Sequent) where
     abbrev Leads : List Sequent → Type 0
@@ -136,19 +171,19 @@ module _ (ds : Declarations) (scoped : IsTypedScope (declared ds)) (q : Sequent)
     holds_first : Holds (declared ds) (concluding q K)
     holds_first = subst (λ x. Holds (declared ds) (record q { conclusion = x })) (sym (goal_form f typed.1)) known
 
-    module _ (o : IsOfCalls K (goal_of q.conclusion)) where
+    module _ (o : IsOfCalls a K (goal_of q.conclusion)) where
       front : has_module q.conclusion ≡ false
       front = by_test (has_module q.conclusion) refl
         where
           by_test : (b : Bool) → has_module q.conclusion ≡ b → has_module q.conclusion ≡ false
-          by_test true e = absurd (none_called K q.conclusion (subst (IsOfCalls K) (front_ambient q.conclusion e) o))
+          by_test true e = absurd (none_called a K q.conclusion (subst (IsOfCalls a K) (front_ambient q.conclusion e) o))
           by_test false e = e
 
       at_goal : IsTypedGoal c (goal_of q.conclusion) × (type_of q.conclusion ≡ ty.Bool)
       at_goal = conclusion_goal c q.conclusion t.conclusion front
 
       sound : IsSoundIn (declared ds) c (by_conditions ds a K) (goal_of q.conclusion)
-      sound = conditions_sound a at_goal.0.0 at_goal.0.1 typed.0.0 typed.0.1 K (goal_of q.conclusion) typed.0.2 o at_goal.0.2
+      sound = conditions_sound at_goal.0.0 at_goal.0.1 typed.0.0 typed.0.1 a K (goal_of q.conclusion) typed.0.2 o at_goal.0.2
 
       behind_known : (Hs : List Goal) → by_conditions ds a K (goal_of q.conclusion) ≡ given (K ∷ Hs) → Leads (map (concluding q) Hs)
       behind_known Hs e =

@@ -16,12 +16,12 @@ use Rattle.gb_amb.specs.Steps.{Returns}
 use Rattle.gb_call_known.specs.Known.{IsAnswer, IsOfCalls, behind_first, by_conditions}
 
 -- where a judgment seen so is one of the called procedures
-pub returned : (ds : Declarations) (a : Acts) (f : Term) (place : Place) (q : Sequent) (K G : Goal) → K ≡ goal_of f → G ≡ goal_of q.conclusion → IsOfCalls K G →
+pub returned : (ds : Declarations) (a : Acts) (f : Term) (place : Place) (q : Sequent) (K G : Goal) → K ≡ goal_of f → G ≡ goal_of q.conclusion → IsOfCalls a K G →
     (r : Result (List Sequent) Refused) → Answers (behind_first (stepped (by_conditions ds a K) place q)) r → Returns (IsAnswer ds a f place q) r
 returned ds a f place q K G e i o r h = by_result r (subst (λ K. Answers (behind_first (stepped (by_conditions ds a K) place q)) r) e h)
   where
-    there : IsOfCalls (goal_of f) (goal_of q.conclusion)
-    there = subst (λ x. x) (λ j. IsOfCalls (e j) (i j)) o
+    there : IsOfCalls a (goal_of f) (goal_of q.conclusion)
+    there = subst (λ x. x) (λ j. IsOfCalls a (e j) (i j)) o
 
     by_result : (r : Result (List Sequent) Refused) → Answers (behind_first (stepped (by_conditions ds a (goal_of f)) place q)) r → Returns (IsAnswer ds a f place q) r
     by_result (Ok qs) m = inl (there, sym m)

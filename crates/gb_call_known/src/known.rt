@@ -1,15 +1,17 @@
 // The rule `call` by what is known.
 
-ghost use Rattle.std.specs.Prelude.{◌↔◌, IsTrue, List};
+ghost use Rattle.std.specs.Prelude.{◌≡◌, ◌↔◌, IfOk, IsTrue, List};
 ghost use Rattle.gb_goal.specs.Answers.{Answer, Answers};
 ghost use Rattle.gb_goal.specs.Rows.{answered};
 ghost use Rattle.gb_goal.specs.Views.{goal_seen};
 ghost use Rattle.gb_goal.specs.declared.sequent.Sequent.{Sequent as Typed};
 ghost use Rattle.gb_amb.specs.Steps.{Returns};
-ghost use Rattle.gb_call_known.specs.Known.{CallsLast, IsAnswer, IsOfCalls, IsOfEquiv, IsOfHoare, IsOfPhoare, behind_first, by_conditions};
+ghost use Rattle.gb_call_known.specs.Known.{CallsLast, IsAnswer, IsOfCalls, IsOfEquiv, IsOfHoare, IsOfPhoare, IsSure, behind_first, by_chances, by_conditions, contract};
 
 use gb_call::last_call::last_call;
 use gb_call_both::call::call;
+use gb_call_both::one_side::one_side;
+use gb_chance::compared::literal;
 use gb_core::place::Place;
 use gb_core::refusal::{Refused, Why};
 use gb_goal::goal::{Code, Goal, goal_of};
@@ -21,7 +23,7 @@ use gb_terms::module::ProcRef;
 use gb_terms::op::Rel;
 use gb_terms::same::{same, same_proc_ref, same_rel};
 use gb_terms::term::{Form, Instr, RealTerm};
-use std::alloc::Global;
+use std::alloc::{AllocError, Global};
 
 /// Whether a body ends with a call of a procedure.
 fn calls_last(body: &[Instr], procedure: &ProcRef) -> bool
@@ -33,53 +35,106 @@ fn calls_last(body: &[Instr], procedure: &ProcRef) -> bool
     }
 }
 
-/// Whether a judgment `hoare` of a procedure is one of what a goal calls last.
-fn is_of_hoare(procedure: &ProcRef, goal: Goal<'_>) -> bool
-    ensures { IsTrue result ↔ IsOfHoare procedure.now (goal_seen goal.entry) }
+/// Whether a judgment `hoare` of a procedure is one of what a goal calls last, where the rule acts on it.
+fn is_of_hoare(acts: Acts, procedure: &ProcRef, goal: Goal<'_>) -> bool
+    ensures { IsTrue result ↔ IsOfHoare acts procedure.now (goal_seen goal.entry) }
 {
-    match goal {
-        Goal::Hoare(Code::Body(body), _, _) => calls_last(body, procedure),
-        _ => false,
-    }
-}
-
-/// The same of `phoare`, with its relation and its bound.
-fn is_of_phoare(procedure: &ProcRef, rel: Rel, bound: &RealTerm, goal: Goal<'_>) -> bool
-    ensures { IsTrue result ↔ IsOfPhoare procedure.now rel bound.now (goal_seen goal.entry) }
-{
-    match goal {
-        Goal::Phoare(Code::Body(body), other, _, _, asked) => {
-            calls_last(body, procedure) && same_rel(&rel, &other) && same(bound, asked)
+    match (acts, goal) {
+        (Acts::All, Goal::Hoare(Code::Body(body), _, _)) => calls_last(body, procedure),
+        (Acts::Left, Goal::Equiv(Code::Body(left), Code::Body(_), _, _)) => {
+            calls_last(left, procedure)
+        }
+        (Acts::Right, Goal::Equiv(Code::Body(_), Code::Body(right), _, _)) => {
+            calls_last(right, procedure)
         }
         _ => false,
     }
 }
 
-/// The same of `equiv`.
-fn is_of_equiv(left: &ProcRef, right: &ProcRef, goal: Goal<'_>) -> bool
-    ensures { IsTrue result ↔ IsOfEquiv left.now right.now (goal_seen goal.entry) }
+/// Whether a judgment is with probability 1.
+fn is_sure(rel: Rel, bound: &RealTerm) -> bool
+    ensures { IsTrue result ↔ IsSure rel bound.now }
 {
-    match goal {
-        Goal::Equiv(Code::Body(first), Code::Body(second), _, _) => {
+    match (rel, literal(bound)) {
+        (Rel::Equal, Some(number)) => number == 1,
+        _ => false,
+    }
+}
+
+/// The same of `phoare`, with its relation and its bound, or, on one of two bodies, with probability 1.
+fn is_of_phoare(acts: Acts, procedure: &ProcRef, rel: Rel, bound: &RealTerm, goal: Goal<'_>) -> bool
+    ensures { IsTrue result ↔ IsOfPhoare acts procedure.now rel bound.now (goal_seen goal.entry) }
+{
+    match (acts, goal) {
+        (Acts::All, Goal::Phoare(Code::Body(body), other, _, _, asked)) => {
+            calls_last(body, procedure) && same_rel(&rel, &other) && same(bound, asked)
+        }
+        (Acts::Left, Goal::Equiv(Code::Body(left), Code::Body(_), _, _)) => {
+            calls_last(left, procedure) && is_sure(rel, bound)
+        }
+        (Acts::Right, Goal::Equiv(Code::Body(_), Code::Body(right), _, _)) => {
+            calls_last(right, procedure) && is_sure(rel, bound)
+        }
+        _ => false,
+    }
+}
+
+/// The same of `equiv`, where the rule acts on both bodies.
+fn is_of_equiv(acts: Acts, left: &ProcRef, right: &ProcRef, goal: Goal<'_>) -> bool
+    ensures { IsTrue result ↔ IsOfEquiv acts left.now right.now (goal_seen goal.entry) }
+{
+    match (acts, goal) {
+        (Acts::All, Goal::Equiv(Code::Body(first), Code::Body(second), _, _)) => {
             calls_last(first, left) && calls_last(second, right)
         }
         _ => false,
     }
 }
 
-/// Whether a judgment is one of the procedures that the bodies of a goal call last.
-fn is_of_calls(known: Goal<'_>, goal: Goal<'_>) -> bool
-    ensures { IsTrue result ↔ IsOfCalls (goal_seen known.entry) (goal_seen goal.entry) }
+/// Whether a judgment is one of the procedures that the bodies of a goal call last on which the rule acts.
+fn is_of_calls(acts: Acts, known: Goal<'_>, goal: Goal<'_>) -> bool
+    ensures { IsTrue result ↔ IsOfCalls acts (goal_seen known.entry) (goal_seen goal.entry) }
 {
     match known {
-        Goal::Hoare(Code::Procedure(procedure), _, _) => is_of_hoare(procedure, goal),
+        Goal::Hoare(Code::Procedure(procedure), _, _) => is_of_hoare(acts, procedure, goal),
         Goal::Phoare(Code::Procedure(procedure), rel, _, _, bound) => {
-            is_of_phoare(procedure, rel, bound, goal)
+            is_of_phoare(acts, procedure, rel, bound, goal)
         }
         Goal::Equiv(Code::Procedure(left), Code::Procedure(right), _, _) => {
-            is_of_equiv(left, right, goal)
+            is_of_equiv(acts, left, right, goal)
         }
         _ => false,
+    }
+}
+
+/// What a judgment says of a procedure.
+fn contract(acts: Acts, pre: &Form, post: &Form) -> Result<Contract, AllocError>
+    ensures { IfOk result (λ made. made ≡ contract acts pre.now post.now) }
+{
+    let pre = pre.share()?;
+    let post = post.share()?;
+    Ok(Contract { acts, pre, post })
+}
+
+/// The subgoals of `call` by the conditions of a judgment with a probability.
+fn by_chances(
+    alloc: Global,
+    goal: &Sequent,
+    acts: Acts,
+    pre: &Form,
+    post: &Form,
+    bound: &RealTerm,
+    scope: &Scope,
+) -> Result<Sequents, Refused>
+    ensures { Answers (answered (by_chances scope.now acts pre.now post.now bound.now) goal.now) result }
+{
+    let said = contract(acts, pre, post)?;
+    match acts {
+        Acts::All => call(alloc, goal, &said, scope),
+        _ => {
+            let seen = goal_of(&goal.conclusion);
+            one_side(alloc, goal, scope, &said, Some(bound), seen)
+        }
     }
 }
 
@@ -94,13 +149,12 @@ fn by_conditions(
     ensures { Answers (answered (by_conditions scope.now acts (goal_seen known.entry)) goal.now) result }
 {
     match known {
-        Goal::Hoare(_, pre, post)
-        | Goal::Phoare(_, _, pre, post, _)
-        | Goal::Equiv(_, _, pre, post) => {
-            let pre = pre.share()?;
-            let post = post.share()?;
-            let contract = Contract { acts, pre, post };
-            call(alloc, goal, &contract, scope)
+        Goal::Hoare(_, pre, post) | Goal::Equiv(_, _, pre, post) => {
+            let said = contract(acts, pre, post)?;
+            call(alloc, goal, &said, scope)
+        }
+        Goal::Phoare(_, _, pre, post, bound) => {
+            by_chances(alloc, goal, acts, pre, post, bound, scope)
         }
         Goal::Ambient(_) => Err(no_shape()),
     }
@@ -119,7 +173,8 @@ fn behind_first(made: Result<Sequents, Refused>) -> Result<Sequents, Refused>
 
 /// The subgoals of `call` by a judgment of the called procedures that is known, in order: those of `call` by its conditions without the
 /// first one, which is what is known. Refused at the place of the step: with `Shape` where it is no judgment of the procedures that are
-/// called last, with the relation and the bound of the goal, and else as `call` is.
+/// called last where the step acts, with the relation and the bound of the goal, or with probability 1 on one of two bodies, and else as
+/// `call` is.
 pub fn apply(
     alloc: Global,
     acts: Acts,
@@ -131,7 +186,7 @@ pub fn apply(
     ensures { Returns (IsAnswer scope.now acts judgment.now place goal.now) result }
 {
     let known = goal_of(judgment);
-    if !is_of_calls(known, goal_of(&goal.conclusion)) {
+    if !is_of_calls(acts, known, goal_of(&goal.conclusion)) {
         let why = Why::Shape;
         return Err(Refused::Script { why, place });
     }

@@ -93,12 +93,12 @@ module _ (ds : scope.Declarations) (scoped : IsTypedScope (declared ds)) (q : Se
 
   stand_before : (ms : List TypedName) (a : Code) → IsCode here ms a → (p g : Term) (r : Side) → StandIn (frame_before here ms a) (read_locals p r) → StandIn (frame_after here ms a) (read_locals g r) →
       AreIn true (frame_before here ms a) (locals_before ds p g r a)
-  stand_before ms (body is) w p g r k l = occurring_in ms here r p g is k l w
+  stand_before ms (body is) w p g r k l = occurring_in ms here ds (fits.procedures refl) r p g is k l w
   stand_before ms (of_procedure f) w p g r k l = params_stand f w (procedure_of ds f) refl
 
   stand_after : (ms : List TypedName) (a : Code) → IsCode here ms a → (p g : Term) (r : Side) → StandIn (frame_before here ms a) (read_locals p r) → StandIn (frame_after here ms a) (read_locals g r) →
       AreIn true (frame_after here ms a) (locals_after ds p g r a)
-  stand_after ms (body is) w p g r k l = occurring_in ms here r p g is k l w
+  stand_after ms (body is) w p g r k l = occurring_in ms here ds (fits.procedures refl) r p g is k l w
   stand_after ms (of_procedure f) w p g r k l = result_stands f w (procedure_of ds f) refl
 
   abbrev Typed : Goal → BodyRule → Type 0

@@ -1,6 +1,7 @@
 -- The forms that steps on conclusions bring to goals are typed.
-use Rattle.std.proofs.Common.{◌≡◌, Bool, true, false, if◌then◌else◌, ℕ, List, [], ◌∷◌, Some, refl, ap, sym, ◌∙◌, subst}
+use Rattle.std.proofs.Common.{◌≡◌, Bool, true, false, if◌then◌else◌, ℕ, ◌<◌, List, [], ◌∷◌, map, Some, refl, ap, sym, ◌∙◌, subst}
 use Rattle.std.proofs.lemmas.Bool.{false≢true}
+use Rattle.std.proofs.lemmas.List.{length-map}
 use Rattle.std.specs.Prelude.{codes, bytes_eq}
 use Rattle.std.specs.List.{AllByRecursion}
 use Rattle.gb_core.specs.declared.place.Place.{Place}
@@ -18,6 +19,7 @@ use Rattle.gb_steps.specs.declared.step.Acts.{Acts}
 use Rattle.gb_steps.specs.declared.step.Acts.TheVariants as on
 use Rattle.gb_steps.specs.declared.step.AmbientRule.{AmbientRule}
 use Rattle.gb_steps.specs.declared.step.AmbientRule.TheVariants as conclusion
+use Rattle.gb_steps.specs.declared.step.RelationalRule.{RelationalRule}
 use Rattle.gb_steps.specs.declared.step.RelationalRule.TheVariants as relational_rule
 use Rattle.gb_steps.specs.declared.step.Rule.{Rule}
 use Rattle.gb_steps.specs.declared.step.Rule.TheVariants as rule
@@ -36,17 +38,20 @@ use Rattle.gb_script.specs.declared.head.Head.TheVariants as text
 use Rattle.gb_script.specs.declared.tree.Node.{Node}
 use Rattle.gb_script.specs.Tree.{head_of, text_of, parts_of, place_of}
 use Rattle.gb_holds.specs.Declared.{declared}
-use Rattle.gb_typing.specs.Context.{Context, erased}
+use Rattle.gb_typing.specs.Context.{Context, erased, within}
 use Rattle.gb_changes.proofs.Trees.{out_is}
 use Rattle.gb_meaning.specs.Written.{type_of}
 use Rattle.gb_typed.specs.Finite.{IsFinite}
 use Rattle.gb_typed.specs.Typing.{types_of, IsHead}
 use Rattle.gb_typing.specs.Typing.{IsTyped, IsForm}
-use Rattle.gb_typing.specs.Sequents.{IsConclusion, of_sequent, IsTypedSequent}
+use Rattle.gb_typed.specs.Typing.Binder.{memory}
+use Rattle.gb_typing.specs.Sequents.{IsConclusion, of_sequent, with_modules, IsTypedSequent}
+use Rattle.gb_typing.proofs.Lifted.{sequent_outermost}
+use Rattle.gb_amb.specs.Witness.{at_memory}
 use Rattle.gb_typing.specs.Scopes.{context_of, IsTypedScope}
 use Rattle.gb_names.specs.Environment.{ambient}
 use Rattle.gb_elab.specs.Forms.{elaborated}
-use Rattle.gb_elab_mod.specs.Steps.{asked_of, acts, coupling_rule, couplings, drawing_rule, cut_of, functions_of, conclusion_rule, conseq_rule, formed, case_of_bodies, case_of_conclusion, of_bodies_rule, on_all, plain_rule, seq_rule, sided_case_rule, typed_rule, step_given, chance_rule, judges_chance, symmetry_rule, asks_for_locals, memory_witness, value_witness, witness_rule}
+use Rattle.gb_elab_mod.specs.Steps.{asked_of, acts, coupling_rule, couplings, drawing_rule, cut_of, functions_of, conclusion_rule, conseq_rule, formed, case_of_bodies, case_of_conclusion, of_bodies_rule, on_all, plain_rule, seq_rule, sided_case_rule, typed_rule, step_given, both_rule, chance_rule, judges_chance, asks_for_locals, memory_witness, value_witness, witness_rule}
 use Rattle.gb_elab_mod.specs.Multiples.{hypothesis_at, multiples, position}
 use Rattle.gb_elab_mod.specs.Uses.{all_hinted, defined_operator, hypothesis, used, is_memory, memory_of}
 use Rattle.gb_elab_mod.specs.Taken.{new_name}
@@ -54,7 +59,7 @@ use Rattle.gb_elab_prog.specs.Unbuilt.{absent}
 use Rattle.gb_elab_laws.specs.Fitting.{IsFormTypeIf, IsWanted}
 use Rattle.gb_elab_laws.proofs.Betweens.{of_transitive}
 use Rattle.gb_elab_laws.proofs.Contracts.{of_call}
-use Rattle.gb_elab_laws.proofs.Transformings.{of_passing, of_placed}
+use Rattle.gb_elab_laws.proofs.Transformings.{of_inlining, of_passing, of_placed}
 use Rattle.gb_elab_laws.proofs.Turning.{of_while}
 use Rattle.gb_elab_laws.proofs.Shapes.{finite_form}
 use Rattle.gb_elab_laws.proofs.Given.{given_bind, given_is, if_unbuilt}
@@ -68,7 +73,9 @@ use Rattle.gb_typing.proofs.Made.{parts_typed}
 use Rattle.gb_models.proofs.Staying.{without_modules}
 use mathlib.Core.Former.{Count}
 use Rattle.gb_elab_laws.proofs.Remembered.{IsNamedMemory}
-use Rattle.gb_elab_laws.proofs.Used.{IsNamed, all_hinted_typed, hypothesis_typed, memory_named, said_of_memory_typed, used_typed}
+use Rattle.gb_elab_laws.proofs.AboutNamed.{memory_typed as about_memory}
+use Rattle.gb_elab_laws.proofs.Further.{wider_typed, body_grows, further_stands, there, within_range}
+use Rattle.gb_elab_laws.proofs.Used.{IsNamed, all_hinted_typed, hypothesis_typed, memory_named, used_typed}
 use Rattle.gb_use.specs.Lemmas.{IsKnown}
 use Rattle.gb_elab_laws.specs.Procedures.{AreStated}
 use Rattle.gb_use.specs.Uses.{used_by}
@@ -87,9 +94,13 @@ module _ (ds : scope.Declarations) (scoped : IsTypedScope (declared ds)) (q : Se
   abbrev AreKnown : List Term → Type 0
   AreKnown fs = AllByRecursion (λ f. IsForm here f × IsKnown (declared ds) q here f) fs
 
+  -- the step is typed, where memories of the goal may have further locals
+  abbrev IsTypedAnew : AmbientRule → Type 0
+  IsTypedAnew r = (u : IsTypedSequent (context_of (declared ds)) q) × IsTypedStep (of_sequent (context_of (declared ds)) q u.frames) q.conclusion r
+
   -- the forms that a rule brings are typed
   abbrev HasForms : Rule → Type 0
-  HasForms (rule.Ambient r) = IsTypedStep here q.conclusion r
+  HasForms (rule.Ambient r) = IsTypedAnew r
   HasForms (rule.Use r) = AreStated ds → uses.IsTypedStep (declared ds) q here r
   HasForms (rule.Smt fs) = AreStated ds → AreKnown fs
   HasForms (rule.Rewrite r) = AreStated ds → AreKnown (told (rule.Rewrite r))
@@ -98,7 +109,7 @@ module _ (ds : scope.Declarations) (scoped : IsTypedScope (declared ds)) (q : Se
 
   -- a step that brings this
   brings : (a : AmbientRule) → IsTypedStep here q.conclusion a → (k : Rule) → rule.Ambient a ≡ k → HasForms k
-  brings a w k e = subst HasForms e w
+  brings a w k e = subst HasForms e (t, w)
 
   -- a step that uses a hypothesis
   by_use : (n : Node) (f : Term) → used ds q n ≡ given f → (r : UseRule) → used_by r ≡ f → (k : Rule) → rule.Use r ≡ k → HasForms k
@@ -148,16 +159,18 @@ module _ (ds : scope.Declarations) (scoped : IsTypedScope (declared ds)) (q : Se
   chance_no_ambient on.Left = refl
   chance_no_ambient on.Right = refl
 
-  symmetry_no_ambient : (a : Acts) → is_ambient (symmetry_rule a) ≡ false
-  symmetry_no_ambient on.All = refl
-  symmetry_no_ambient on.Left = refl
-  symmetry_no_ambient on.Right = refl
+  both_no_ambient : (r : RelationalRule) (a : Acts) → is_ambient (both_rule r a) ≡ false
+  both_no_ambient r on.All = refl
+  both_no_ambient r on.Left = refl
+  both_no_ambient r on.Right = refl
 
-  of_name : (x : List ℕ) (a : Acts) (p : Place) (k : Rule) (b d : Bool) →
-      (if b then given (chance_rule a) else if d then given (symmetry_rule a) else of_bodies_rule (plain_rule x a p)) ≡ given k → HasForms k
-  of_name x a p k true d h = other (chance_rule a) k (chance_no_ambient a) (given_is (chance_rule a) k h)
-  of_name x a p k false true h = other (symmetry_rule a) k (symmetry_no_ambient a) (given_is (symmetry_rule a) k h)
-  of_name x a p k false false h = let y = given_bind (plain_rule x a p) (λ z. given (rule.OnBodies z)) k h in other (rule.OnBodies y.0) k refl (given_is (rule.OnBodies y.0) k y.2)
+  of_name : (x : List ℕ) (a : Acts) (p : Place) (k : Rule) (b d e : Bool) →
+      (if b then given (chance_rule a) else if d then given (both_rule relational_rule.Symmetry a) else if e then given (both_rule relational_rule.Sim a) else of_bodies_rule (plain_rule x a p)) ≡ given k → HasForms k
+  of_name x a p k true d e h = other (chance_rule a) k (chance_no_ambient a) (given_is (chance_rule a) k h)
+  of_name x a p k false true e h =
+      other (both_rule relational_rule.Symmetry a) k (both_no_ambient relational_rule.Symmetry a) (given_is (both_rule relational_rule.Symmetry a) k h)
+  of_name x a p k false false true h = other (both_rule relational_rule.Sim a) k (both_no_ambient relational_rule.Sim a) (given_is (both_rule relational_rule.Sim a) k h)
+  of_name x a p k false false false h = let y = given_bind (plain_rule x a p) (λ z. given (rule.OnBodies z)) k h in other (rule.OnBodies y.0) k refl (given_is (rule.OnBodies y.0) k y.2)
 
   -- the first of these that is chosen, else none
   abbrev chosen_of : List (Bool × AmbientRule) → Place → Answer AmbientRule
@@ -224,7 +237,7 @@ module _ (ds : scope.Declarations) (scoped : IsTypedScope (declared ds)) (q : Se
 
   -- what is said to exist is said of a memory of the context
   memory_typed : (i : ℕ) → IsNamedMemory here (side.Memory i) → (h : Head) (ts : List Term) → (out-Term q.conclusion).head ≡ h → (out-Term q.conclusion).args ≡ ts →
-      asks_for_locals q (side.Memory i) h ts ≡ false → IsMemoryWitness here i h ts
+      asks_for_locals q (side.Memory i) h ts ≡ false → (u : IsTypedSequent (context_of (declared ds)) q) × IsMemoryWitness (of_sequent (context_of (declared ds)) q u.frames) i h ts
   memory_typed i m head.SomeMemory (b ∷ []) eh et e =
       let r = (out-Term q.conclusion).ty in
       let whole : q.conclusion ≡ node head.SomeMemory (b ∷ []) r = each_is_node q.conclusion ∙ (λ k. node (eh k) (et k) r) in
@@ -232,22 +245,31 @@ module _ (ds : scope.Declarations) (scoped : IsTypedScope (declared ds)) (q : Se
       let form : IsForm here q.conclusion = formula_form here q.conclusion (conclusion_formula here q.conclusion t.conclusion (ap judges_bodies eh)) front.conclusion in
       let v = subst (IsForm here) whole form in
       let p = parts_typed here head.SomeMemory (b ∷ []) r v.typed in
-      said_of_memory_typed ds scoped q t i m p.2 b (record { typed = p.3; truth = p.0.0 }) e
-  memory_typed i m h ts eh et e = tt
+      let c = context_of (declared ds) in
+      let range = subst (λ n. i < n) (length-map t.frames (λ l. Some l)) m.side in
+      let body : IsForm (within here memory (Some p.2)) b = record { typed = p.3; truth = p.0.0 } in
+      let u = wider_typed c q t front.hyps i range p.2 b r whole form body in (
+        u,
+        subst (λ d. IsForm (within d memory (Some p.2)) b → IsForm d (at_memory b i)) (sym (sequent_outermost (declared ds) q u.frames))
+            (λ z. about_memory (with_modules c q.modules) (map (λ x. x.ty) q.logical) (map (λ l. Some l) u.frames) i (there c q t front.hyps i range p.2 b r whole form body)
+            (within_range c q t front.hyps i range p.2 b r whole form body) true q p.2 (further_stands c q t front.hyps i range p.2 b r whole form body) b z e)
+            (body_grows c q t front.hyps i range p.2 b r whole form body),
+      )
+  memory_typed i m h ts eh et e = (t, tt)
 
-  of_memory : (s : Side) (p : Place) (a : AmbientRule) → IsNamed ds scoped q t s → memory_witness q s p ≡ given a → IsTypedStep here q.conclusion a
+  of_memory : (s : Side) (p : Place) (a : AmbientRule) → IsNamed ds scoped q t s → memory_witness q s p ≡ given a → IsTypedAnew a
   of_memory s p a m k =
       let z = if_unbuilt (asks_for_locals q (side.Memory m.number) (out-Term q.conclusion).head (out-Term q.conclusion).args) p (conclusion.WitnessMemory m.number) a (subst (λ x. memory_witness q x p ≡ given a) m.is k) in
-      subst (IsTypedStep here q.conclusion) z.1 (memory_typed m.number (subst (IsNamedMemory here) m.is m.named) _ _ refl refl z.0)
+      subst IsTypedAnew z.1 (memory_typed m.number (subst (IsNamedMemory here) m.is m.named) _ _ refl refl z.0)
 
   witness_brings : (n : Node) (a : AmbientRule) (b : Bool) →
-      (if b then (memory_of ds q (head_of n) (parts_of n) (place_of n) >>= λ s. memory_witness q s (place_of n)) else value_witness ds q n) ≡ given a → IsTypedStep here q.conclusion a
+      (if b then (memory_of ds q (head_of n) (parts_of n) (place_of n) >>= λ s. memory_witness q s (place_of n)) else value_witness ds q n) ≡ given a → IsTypedAnew a
   witness_brings n a true k =
       let y = given_bind (memory_of ds q (head_of n) (parts_of n) (place_of n)) (λ s. memory_witness q s (place_of n)) a k in
       of_memory y.0 (place_of n) a (memory_named ds scoped q t (head_of n) (parts_of n) (place_of n) y.0 y.1) y.2
   witness_brings n a false k =
       let o = given_bind (elaborated n (ambient ds q) [] (asked_of (out-Term q.conclusion).head)) (λ (u : Term). given (conclusion.Witness u)) a k in
-      subst (IsTypedStep here q.conclusion) (given_is (conclusion.Witness o.0) a o.2) (of_witness n o.0 o.1)
+      subst IsTypedAnew (given_is (conclusion.Witness o.0) a o.2) (t, of_witness n o.0 o.1)
 
   of_drawing : (a : Acts) (fs : List Node) (k : Rule) → drawing_rule ds q a fs ≡ given k → HasForms k
   unfolding drawing_rule
@@ -264,6 +286,7 @@ module _ (ds : scope.Declarations) (scoped : IsTypedScope (declared ds)) (q : Se
       let o = given_bind (conclusion_rule x p) (λ (a : AmbientRule). given (rule.Ambient a)) k h in brings o.0 (plain_typed x p o.0 o.1) k (given_is (rule.Ambient o.0) k o.2)
   rule_forms text.CallStep x (b ∷ n ∷ []) p k h = of_call ds q HasForms (λ s. tt) (λ a n f e lemmas. (used_typed ds scoped q t lemmas n f e, tt)) tt (acts (parts_of b)) (head_of n) (parts_of n) p k h
   rule_forms text.WhileStep x (b ∷ f ∷ []) p k h = of_while ds q HasForms (λ v. tt) tt (acts (parts_of b)) f k h
+  rule_forms text.Inline x (b ∷ n ∷ []) p k h = of_inlining HasForms (λ a t. tt) ds q (acts (parts_of b)) (parts_of n) p k h
   rule_forms text.CaseStep x (b ∷ f ∷ []) p k h =
       of_sides (acts (parts_of b)) f k h
   rule_forms text.HaveForm x (n ∷ f ∷ []) p k h =
@@ -275,7 +298,7 @@ module _ (ds : scope.Declarations) (scoped : IsTypedScope (declared ds)) (q : Se
   rule_forms text.Proc x (b ∷ i ∷ []) p k h =
       let y = given_bind (absent (parts_of i) p) (λ _. given (rule.OnBodies (on_all (acts (parts_of b)) on_bodies.Proc))) k h in
       other (rule.OnBodies (on_all (acts (parts_of b)) on_bodies.Proc)) k refl (given_is (rule.OnBodies (on_all (acts (parts_of b)) on_bodies.Proc)) k y.2)
-  rule_forms text.BodyStep x (b ∷ []) p k h = of_name x (acts (parts_of b)) p k (bytes_eq x (codes "hoare")) (bytes_eq x (codes "symmetry")) h
+  rule_forms text.BodyStep x (b ∷ []) p k h = of_name x (acts (parts_of b)) p k (bytes_eq x (codes "hoare")) (bytes_eq x (codes "symmetry")) (bytes_eq x (codes "sim")) h
   rule_forms text.Seq x (b ∷ n ∷ ns ∷ f ∷ bounds ∷ []) p k h =
       let o = given_bind (absent (parts_of bounds) p) (λ _. of_bodies_rule (seq_rule ds q (acts (parts_of b)) (cut_of n (parts_of ns)) f)) k h in
       let y = given_bind (seq_rule ds q (acts (parts_of b)) (cut_of n (parts_of ns)) f) (λ z. given (rule.OnBodies z)) k o.2 in
@@ -316,7 +339,7 @@ module _ (ds : scope.Declarations) (scoped : IsTypedScope (declared ds)) (q : Se
   rule_forms text.EitherPattern x ps p k h = brings conclusion.Branch tt k (given_is (rule.Ambient conclusion.Branch) k h)
   rule_forms text.Witness x (n ∷ []) p k h =
       let o = given_bind (witness_rule ds q n) (λ (a : AmbientRule). given (rule.Ambient a)) k h in
-      brings o.0 (witness_brings n o.0 (is_memory (head_of n)) o.1) k (given_is (rule.Ambient o.0) k o.2)
+      subst HasForms (given_is (rule.Ambient o.0) k o.2) (witness_brings n o.0 (is_memory (head_of n)) o.1)
   rule_forms text.TrivialPattern x [] p k h = brings conclusion.Trivial tt k (given_is (rule.Ambient conclusion.Trivial) k h)
   rule_forms text.SmtPattern x [] p k h = subst HasForms (given_is (rule.Smt []) k h) (λ lemmas. tt)
   rule_forms text.Swap x (b ∷ n ∷ d ∷ []) p k h = of_passing HasForms (λ a t. tt) (acts (parts_of b)) n (head_of d) (parts_of d) p k h
@@ -329,7 +352,7 @@ module _ (ds : scope.Declarations) (scoped : IsTypedScope (declared ds)) (q : Se
       let x = given_bind (typed_rule ds q (head_of n) (text_of n) (parts_of n) (place_of n)) (λ (k : Rule). given (record { rule = k; place = place_of n })) s h in
       subst HasForms (ap (λ (z : Step). z.rule) (given_is (record { rule = x.0; place = place_of n }) s x.2)) (rule_forms (head_of n) (text_of n) (parts_of n) (place_of n) x.0 x.1)
 
-  pub steps_typed : (n : Node) (s : Step) → step_given ds q n ≡ given s → (r : AmbientRule) → s.rule ≡ rule.Ambient r → IsTypedStep here q.conclusion r
+  pub steps_typed : (n : Node) (s : Step) → step_given ds q n ≡ given s → (r : AmbientRule) → s.rule ≡ rule.Ambient r → IsTypedAnew r
   steps_typed n s h r e = subst HasForms e (step_forms n s h)
 
   pub uses_typed : AreStated ds → (n : Node) (s : Step) → step_given ds q n ≡ given s → (r : UseRule) → s.rule ≡ rule.Use r → uses.IsTypedStep (declared ds) q here r

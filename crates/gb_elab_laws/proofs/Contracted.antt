@@ -26,6 +26,7 @@ use Rattle.gb_steps.specs.declared.step.AmbientRule.TheVariants as conclusion
 use Rattle.gb_steps.specs.declared.step.BodyRule.TheVariants as on_bodies
 use Rattle.gb_steps.specs.declared.step.Contract.{Contract}
 use Rattle.gb_steps.specs.declared.step.Multiple.{Multiple}
+use Rattle.gb_steps.specs.declared.step.RelationalRule.{RelationalRule}
 use Rattle.gb_steps.specs.declared.step.RelationalRule.TheVariants as relational_rule
 use Rattle.gb_steps.specs.declared.step.Rule.{Rule}
 use Rattle.gb_steps.specs.declared.step.Rule.TheVariants as rule
@@ -47,7 +48,7 @@ use Rattle.gb_typing.specs.Goals.{IsGoalOver}
 use Rattle.gb_names.specs.Environment.{ambient, relational, unary}
 use Rattle.gb_elab.specs.Forms.{elaborated}
 use Rattle.gb_elab_mod.specs.Multiples.{hypothesis_at, multiples, position}
-use Rattle.gb_elab_mod.specs.Steps.{acts, call_rule, contract_at, contract_of, contract_of_both, coupling_rule, couplings, drawing_rule, cut_of, functions_of, conclusion_rule, conseq_rule, formed, case_of_bodies, case_of_conclusion, last_procedure, of_bodies_rule, on_all, params_if, plain_rule, procedure_called, result_if, seq_rule, sided_case_rule, typed_rule, step_given, chance_rule, judges_chance, symmetry_rule, witness_rule}
+use Rattle.gb_elab_mod.specs.Steps.{acts, call_rule, contract_at, contract_of, contract_of_both, coupling_rule, couplings, drawing_rule, cut_of, functions_of, conclusion_rule, conseq_rule, formed, case_of_bodies, case_of_conclusion, last_procedure, of_bodies_rule, on_all, params_if, plain_rule, procedure_called, result_if, seq_rule, sided_case_rule, typed_rule, step_given, both_rule, chance_rule, judges_chance, witness_rule, contract_on}
 use Rattle.gb_elab_mod.specs.Taken.{new_name}
 use Rattle.gb_elab_mod.specs.Uses.{all_hinted, defined_operator, hypothesis, used}
 use Rattle.gb_elab_prog.specs.Unbuilt.{absent}
@@ -57,7 +58,7 @@ use Rattle.gb_call_both.specs.Call.{AreContracts}
 use Rattle.gb_call_both.specs.Rows.{IsTypedRule}
 use Rattle.gb_call.proofs.LastCalls.{called_typed}
 use Rattle.gb_elab_laws.specs.Fitting.{IsFitting}
-use Rattle.gb_elab_laws.proofs.Transformings.{of_passing, of_placed}
+use Rattle.gb_elab_laws.proofs.Transformings.{of_inlining, of_passing, of_placed}
 use Rattle.gb_elab_laws.proofs.Turning.{of_while}
 use Rattle.gb_elab_laws.proofs.Betweens.{of_transitive}
 use Rattle.gb_elab_laws.proofs.Anew.{fits, params_stand, result_stands}
@@ -132,16 +133,18 @@ module _ (ds : scope.Declarations) (scoped : IsTypedScope (declared ds)) (q : Se
   chance_no_call on.Left = refl
   chance_no_call on.Right = refl
 
-  symmetry_no_call : (a : Acts) → is_call (symmetry_rule a) ≡ false
-  symmetry_no_call on.All = refl
-  symmetry_no_call on.Left = refl
-  symmetry_no_call on.Right = refl
+  both_no_call : (r : RelationalRule) (a : Acts) → is_call (both_rule r a) ≡ false
+  both_no_call r on.All = refl
+  both_no_call r on.Left = refl
+  both_no_call r on.Right = refl
 
-  of_name : (x : List ℕ) (a : Acts) (p : Place) (k : Rule) (b d : Bool) →
-      (if b then given (chance_rule a) else if d then given (symmetry_rule a) else of_bodies_rule (plain_rule x a p)) ≡ given k → CallTyped k
-  of_name x a p k true d h = other (chance_rule a) k (chance_no_call a) (given_is (chance_rule a) k h)
-  of_name x a p k false true h = other (symmetry_rule a) k (symmetry_no_call a) (given_is (symmetry_rule a) k h)
-  of_name x a p k false false h = let y = given_bind (plain_rule x a p) (λ z. given (rule.OnBodies z)) k h in other (rule.OnBodies y.0) k refl (given_is (rule.OnBodies y.0) k y.2)
+  of_name : (x : List ℕ) (a : Acts) (p : Place) (k : Rule) (b d e : Bool) →
+      (if b then given (chance_rule a) else if d then given (both_rule relational_rule.Symmetry a) else if e then given (both_rule relational_rule.Sim a) else of_bodies_rule (plain_rule x a p)) ≡ given k → CallTyped k
+  of_name x a p k true d e h = other (chance_rule a) k (chance_no_call a) (given_is (chance_rule a) k h)
+  of_name x a p k false true e h =
+      other (both_rule relational_rule.Symmetry a) k (both_no_call relational_rule.Symmetry a) (given_is (both_rule relational_rule.Symmetry a) k h)
+  of_name x a p k false false true h = other (both_rule relational_rule.Sim a) k (both_no_call relational_rule.Sim a) (given_is (both_rule relational_rule.Sim a) k h)
+  of_name x a p k false false false h = let y = given_bind (plain_rule x a p) (λ z. given (rule.OnBodies z)) k h in other (rule.OnBodies y.0) k refl (given_is (rule.OnBodies y.0) k y.2)
 
   of_case : (f : Node) (k : Rule) (b : Bool) → (if b then of_bodies_rule (case_of_bodies ds q f (goal_of q.conclusion)) else case_of_conclusion ds q f) ≡ given k → CallTyped k
   of_case f k true h =
@@ -157,13 +160,13 @@ module _ (ds : scope.Declarations) (scoped : IsTypedScope (declared ds)) (q : Se
   -- `call` at a typed goal
   module _ (w : IsGoalOver here ls rs (goal_of q.conclusion)) where
     -- at a call of this procedure
-    module _ (is : List Instr) (b : IsBody here ls is) (r : ProcRef) (f h : Term)
+    module _ (us : List TypedName) (is : List Instr) (b : IsBody here us is) (r : ProcRef) (f h : Term)
         (pre : IsThere (procedure here r) → IsForm (with_own here (before (procedure here r))) f) (post : IsThere (procedure here r) → IsForm (with_own here (after (procedure here r))) h) (a : Acts) where
       contract_typed : (o : Option LastCall) → last_call is ≡ o → option_map (λ (k : LastCall). k.procedure) o ≡ Some r → IsContract here (record { acts = a; pre = f; post = h }) o
       contract_typed None e i = tt
       contract_typed (Some k) e i =
-          let l = called_typed here ls is k b e in
-          let m : IsThere (procedure here k.procedure) = called_there here ls k.targets (procedure here k.procedure) k.arguments l.call in
+          let l = called_typed here us is k b e in
+          let m : IsThere (procedure here k.procedure) = called_there here us k.targets (procedure here k.procedure) k.arguments l.call in
           let n : k.procedure ≡ r = same_Some k.procedure r i in (
             subst (λ p. IsForm (with_own here (before (procedure here p))) f) (sym n) (pre (subst (λ p. IsThere (procedure here p)) n m)),
             subst (λ p. IsForm (with_own here (after (procedure here p))) h) (sym n) (post (subst (λ p. IsThere (procedure here p)) n m)),
@@ -188,15 +191,15 @@ module _ (ds : scope.Declarations) (scoped : IsTypedScope (declared ds)) (q : Se
             subst (λ c. c) (λ t. IsForm (with_sides here (after (procedure here (sym m t))) (after (procedure here (sym n t)))) h) (post w z),
           )
 
-    of_contracts : (is js : List Instr) (p g : Term) → goal_of q.conclusion ≡ equiv (body is) (body js) p g → IsBody here ls is → IsBody here rs js → (a : Acts) (m n : Node) →
-        (o : Option ProcRef) → last_procedure is ≡ o → (u : Option ProcRef) → last_procedure js ≡ u → (k : Rule) → contract_of_both ds q a m n o u ≡ given k → CallTyped k
+    of_contracts : (is js : List Instr) (p g : Term) → goal_of q.conclusion ≡ equiv (body is) (body js) p g → IsBody here ls is → IsBody here rs js → (m n : Node) →
+        (o : Option ProcRef) → last_procedure is ≡ o → (u : Option ProcRef) → last_procedure js ≡ u → (k : Rule) → contract_of_both ds q on.All m n o u ≡ given k → CallTyped k
     unfolding contract_of_both
-    of_contracts is js p g f b d a m n None e u i k h = other (rule.OnBodies on_bodies.Unfit) k refl (given_is (rule.OnBodies on_bodies.Unfit) k h)
-    of_contracts is js p g f b d a m n (Some r) e None i k h = other (rule.OnBodies on_bodies.Unfit) k refl (given_is (rule.OnBodies on_bodies.Unfit) k h)
-    of_contracts is js p g f b d a m n (Some r) e (Some o) i k h =
+    of_contracts is js p g f b d m n None e u i k h = other (rule.OnBodies on_bodies.Unfit) k refl (given_is (rule.OnBodies on_bodies.Unfit) k h)
+    of_contracts is js p g f b d m n (Some r) e None i k h = other (rule.OnBodies on_bodies.Unfit) k refl (given_is (rule.OnBodies on_bodies.Unfit) k h)
+    of_contracts is js p g f b d m n (Some r) e (Some o) i k h =
         let x = given_bind (elaborated m (relational ds q (params_if (procedure_of ds r)) (params_if (procedure_of ds o))) [] (Some ty.Bool)) _ k h in
-        let y = given_bind (elaborated n (relational ds q (result_if (procedure_of ds r)) (result_if (procedure_of ds o))) [] (Some ty.Bool)) (λ (f : Term). given (rule.Call (record { acts = a; pre = x.0; post = f }))) k x.2 in
-        let s : Contract = record { acts = a; pre = x.0; post = y.0 } in
+        let y = given_bind (elaborated n (relational ds q (result_if (procedure_of ds r)) (result_if (procedure_of ds o))) [] (Some ty.Bool)) (λ (f : Term). given (rule.Call (record { acts = on.All; pre = x.0; post = f }))) k x.2 in
+        let s : Contract = record { acts = on.All; pre = x.0; post = y.0 } in
         let pre : IsThere (procedure here r) → IsThere (procedure here o) → IsForm (with_sides here (before (procedure here r)) (before (procedure here o))) x.0 = (λ j l.
         let fit =
         conditions here (ambient ds q) [] (fits ds scoped q t ls rs) refl (before (procedure here r)) (before (procedure here o)) (params_if (procedure_of ds r)) (params_if (procedure_of ds o))
@@ -213,12 +216,13 @@ module _ (ds : scope.Declarations) (scoped : IsTypedScope (declared ds)) (q : Se
         record { typed = z.typed; truth = z.wanted }) in
         subst CallTyped (given_is (rule.Call s) k y.2)
         (subst (IsTypedRule here (rule.Call s) ls rs) (sym f)
-        (contracts_typed is js b d r o x.0 y.0 pre post a (last_call is) (last_call js) refl refl (procedure_same is ∙ e) (procedure_same js ∙ i)))
+        (contracts_typed is js b d r o x.0 y.0 pre post on.All (last_call is) (last_call js) refl refl (procedure_same is ∙ e) (procedure_same js ∙ i)))
 
-    of_contract : (is : List Instr) (G : Goal) → goal_of q.conclusion ≡ G → ((s : Contract) → IsContract here s (last_call is) → IsTypedRule here (rule.Call s) ls rs G) → IsBody here ls is → (a : Acts) (m n : Node) (o : Option ProcRef) → last_procedure is ≡ o → (k : Rule) → contract_of ds q a m n o ≡ given k → CallTyped k
+    of_contract : (us : List TypedName) (is : List Instr) (G : Goal) → goal_of q.conclusion ≡ G → IsBody here us is → (a : Acts) →
+        ((f h : Term) → IsContract here (record { acts = a; pre = f; post = h }) (last_call is) → IsTypedRule here (rule.Call (record { acts = a; pre = f; post = h })) ls rs G) → (m n : Node) (o : Option ProcRef) → last_procedure is ≡ o → (k : Rule) → contract_of ds q a m n o ≡ given k → CallTyped k
     unfolding contract_of
-    of_contract is G f put b a m n None e k h = other (rule.OnBodies on_bodies.Unfit) k refl (given_is (rule.OnBodies on_bodies.Unfit) k h)
-    of_contract is G f put b a m n (Some r) e k h =
+    of_contract us is G f b a put m n None e k h = other (rule.OnBodies on_bodies.Unfit) k refl (given_is (rule.OnBodies on_bodies.Unfit) k h)
+    of_contract us is G f b a put m n (Some r) e k h =
         let x = given_bind (elaborated m (unary ds q (params_if (procedure_of ds r))) [] (Some ty.Bool)) _ k h in
         let y = given_bind (elaborated n (unary ds q (result_if (procedure_of ds r))) [] (Some ty.Bool)) (λ (f : Term). given (rule.Call (record { acts = a; pre = x.0; post = f }))) k x.2 in
         let s : Contract = record { acts = a; pre = x.0; post = y.0 } in
@@ -231,14 +235,20 @@ module _ (ds : scope.Declarations) (scoped : IsTypedScope (declared ds)) (q : Se
         let z = elaborated_typed n (with_own here (after (procedure here r))) (unary ds q (result_if (procedure_of ds r))) [] fit (Some ty.Bool) tt y.0 y.1 in
         record { typed = z.typed; truth = z.wanted }) in
         subst CallTyped (given_is (rule.Call s) k y.2)
-        (subst (IsTypedRule here (rule.Call s) ls rs) (sym f) (put s (contract_typed is b r x.0 y.0 pre post a (last_call is) refl (procedure_same is ∙ e))))
+        (subst (IsTypedRule here (rule.Call s) ls rs) (sym f) (put x.0 y.0 (contract_typed us is b r x.0 y.0 pre post a (last_call is) refl (procedure_same is ∙ e))))
+
+    of_bodies : (is js : List Instr) (p g : Term) → goal_of q.conclusion ≡ equiv (body is) (body js) p g → IsBody here ls is → IsBody here rs js → (a : Acts) (m n : Node) (k : Rule) →
+        contract_on ds q a m n is js ≡ given k → CallTyped k
+    of_bodies is js p g e b d on.All m n k h = of_contracts is js p g e b d m n (last_procedure is) refl (last_procedure js) refl k h
+    of_bodies is js p g e b d on.Left m n k h = of_contract ls is (equiv (body is) (body js) p g) e b on.Left (λ f u z. z) m n (last_procedure is) refl k h
+    of_bodies is js p g e b d on.Right m n k h = of_contract rs js (equiv (body is) (body js) p g) e d on.Right (λ f u z. z) m n (last_procedure js) refl k h
 
     at_goal : (G : Goal) → goal_of q.conclusion ≡ G → IsGoalOver here ls rs G → (a : Acts) (m n : Node) (k : Rule) → contract_at ds q a m n G ≡ given k → CallTyped k
-    at_goal (hoare (body is) p g) e v a m n k h = of_contract is (hoare (body is) p g) e (λ s z. z) v.0 a m n (last_procedure is) refl k h
+    at_goal (hoare (body is) p g) e v a m n k h = of_contract ls is (hoare (body is) p g) e v.0 a (λ f u z. z) m n (last_procedure is) refl k h
     at_goal (hoare (of_procedure r) p g) e v a m n k h = other (rule.OnBodies on_bodies.Unfit) k refl (given_is (rule.OnBodies on_bodies.Unfit) k h)
-    at_goal (phoare (body is) r p g u) e v a m n k h = of_contract is (phoare (body is) r p g u) e (λ s z. z) v.0 a m n (last_procedure is) refl k h
+    at_goal (phoare (body is) r p g u) e v a m n k h = of_contract ls is (phoare (body is) r p g u) e v.0 a (λ f u z. z) m n (last_procedure is) refl k h
     at_goal (phoare (of_procedure d) r p g u) e v a m n k h = other (rule.OnBodies on_bodies.Unfit) k refl (given_is (rule.OnBodies on_bodies.Unfit) k h)
-    at_goal (equiv (body is) (body js) p g) e v a m n k h = of_contracts is js p g e v.1 v.2 a m n (last_procedure is) refl (last_procedure js) refl k h
+    at_goal (equiv (body is) (body js) p g) e v a m n k h = of_bodies is js p g e v.1 v.2 a m n k h
     at_goal (equiv (body is) (of_procedure r) p g) e v a m n k h = other (rule.OnBodies on_bodies.Unfit) k refl (given_is (rule.OnBodies on_bodies.Unfit) k h)
     at_goal (equiv (of_procedure r) u p g) e v a m n k h = other (rule.OnBodies on_bodies.Unfit) k refl (given_is (rule.OnBodies on_bodies.Unfit) k h)
     at_goal (other_form f) e v a m n k h = other (rule.OnBodies on_bodies.Unfit) k refl (given_is (rule.OnBodies on_bodies.Unfit) k h)
@@ -265,6 +275,7 @@ module _ (ds : scope.Declarations) (scoped : IsTypedScope (declared ds)) (q : Se
         let o = given_bind (conclusion_rule x p) (λ (a : AmbientRule). given (rule.Ambient a)) k h in other (rule.Ambient o.0) k refl (given_is (rule.Ambient o.0) k o.2)
     rule_typed text.CallStep x (b ∷ n ∷ []) p k h = call_typed (acts (parts_of b)) (head_of n) (parts_of n) p k h
     rule_typed text.WhileStep x (b ∷ f ∷ []) p k h = of_while ds q CallTyped (λ v. tt) tt (acts (parts_of b)) f k h
+    rule_typed text.Inline x (b ∷ n ∷ []) p k h = of_inlining CallTyped (λ a t. tt) ds q (acts (parts_of b)) (parts_of n) p k h
     rule_typed text.CaseStep x (b ∷ f ∷ []) p k h = of_sides (acts (parts_of b)) f k h
     rule_typed text.HaveForm x (n ∷ f ∷ []) p k h =
         let o = given_bind (new_name q (text_of n) (place_of n)) _ k h in
@@ -275,7 +286,7 @@ module _ (ds : scope.Declarations) (scoped : IsTypedScope (declared ds)) (q : Se
     rule_typed text.Proc x (b ∷ i ∷ []) p k h =
         let y = given_bind (absent (parts_of i) p) (λ _. given (rule.OnBodies (on_all (acts (parts_of b)) on_bodies.Proc))) k h in
         other (rule.OnBodies (on_all (acts (parts_of b)) on_bodies.Proc)) k refl (given_is (rule.OnBodies (on_all (acts (parts_of b)) on_bodies.Proc)) k y.2)
-    rule_typed text.BodyStep x (b ∷ []) p k h = of_name x (acts (parts_of b)) p k (bytes_eq x (codes "hoare")) (bytes_eq x (codes "symmetry")) h
+    rule_typed text.BodyStep x (b ∷ []) p k h = of_name x (acts (parts_of b)) p k (bytes_eq x (codes "hoare")) (bytes_eq x (codes "symmetry")) (bytes_eq x (codes "sim")) h
     rule_typed text.Seq x (b ∷ n ∷ ns ∷ f ∷ bounds ∷ []) p k h =
         let o = given_bind (absent (parts_of bounds) p) (λ _. of_bodies_rule (seq_rule ds q (acts (parts_of b)) (cut_of n (parts_of ns)) f)) k h in
         let y = given_bind (seq_rule ds q (acts (parts_of b)) (cut_of n (parts_of ns)) f) (λ z. given (rule.OnBodies z)) k o.2 in

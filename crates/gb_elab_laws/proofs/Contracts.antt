@@ -3,6 +3,7 @@ use Rattle.std.proofs.Common.{◌≡◌, List, [], ◌∷◌, Option, Some, None
 use Rattle.gb_core.specs.declared.place.Place.{Place}
 use Rattle.gb_core.specs.declared.ty.Ty.TheVariants as ty
 use Rattle.gb_terms.specs.declared.module.ProcRef.{ProcRef}
+use Rattle.gb_terms.specs.declared.term.Instr.{Instr}
 use Rattle.gb_terms.specs.declared.term.Term.{Term}
 use Rattle.gb_goal.specs.Scope.{Declarations, procedure_of}
 use Rattle.gb_goal.specs.Goal.{Goal, goal_of}
@@ -11,6 +12,7 @@ use Rattle.gb_goal.specs.Goal.Goal.{hoare, phoare, equiv, ambient}
 use Rattle.gb_goal.specs.declared.sequent.Sequent.{Sequent}
 use Rattle.gb_goal.specs.Answers.Answer.{given}
 use Rattle.gb_steps.specs.declared.step.Acts.{Acts}
+use Rattle.gb_steps.specs.declared.step.Acts.TheVariants as on
 use Rattle.gb_steps.specs.declared.step.BodyRule.TheVariants as on_bodies
 use Rattle.gb_steps.specs.declared.step.Contract.{Contract}
 use Rattle.gb_steps.specs.declared.step.Rule.{Rule}
@@ -20,7 +22,7 @@ use Rattle.gb_script.specs.declared.head.Head.TheVariants as text
 use Rattle.gb_script.specs.declared.tree.Node.{Node}
 use Rattle.gb_names.specs.Environment.{relational, unary}
 use Rattle.gb_elab.specs.Forms.{elaborated}
-use Rattle.gb_elab_mod.specs.Steps.{call_rule, contract_at, contract_of, contract_of_both, last_procedure, params_if, result_if}
+use Rattle.gb_elab_mod.specs.Steps.{call_rule, contract_at, contract_of, contract_of_both, contract_on, last_procedure, params_if, result_if}
 use Rattle.gb_elab_mod.specs.Uses.{used}
 use Rattle.gb_elab_laws.proofs.Given.{given_bind, given_is}
 
@@ -43,12 +45,17 @@ module _ (ds : Declarations) (q : Sequent) (P : Rule → Type 0) (called : (s : 
       let y = given_bind (elaborated n (relational ds q (result_if (procedure_of ds r)) (result_if (procedure_of ds u))) [] (Some ty.Bool)) (λ (f : Term). given (rule.Call (record { acts = a; pre = x.0; post = f }))) k x.2 in
       subst P (given_is (rule.Call (record { acts = a; pre = x.0; post = y.0 })) k y.2) (called (record { acts = a; pre = x.0; post = y.0 }))
 
+  of_bodies : (a : Acts) (m n : Node) (is js : List Instr) (k : Rule) → contract_on ds q a m n is js ≡ given k → P k
+  of_bodies on.All m n is js k h = of_both on.All m n (last_procedure is) (last_procedure js) k h
+  of_bodies on.Left m n is js k h = of_contract on.Left m n (last_procedure is) k h
+  of_bodies on.Right m n is js k h = of_contract on.Right m n (last_procedure js) k h
+
   at_goal : (a : Acts) (m n : Node) (G : Goal) (k : Rule) → contract_at ds q a m n G ≡ given k → P k
   at_goal a m n (hoare (body is) p f) k h = of_contract a m n (last_procedure is) k h
   at_goal a m n (hoare (procedure r) p f) k h = subst P (given_is (rule.OnBodies on_bodies.Unfit) k h) unfit
   at_goal a m n (phoare (body is) r p f b) k h = of_contract a m n (last_procedure is) k h
   at_goal a m n (phoare (procedure c) r p f b) k h = subst P (given_is (rule.OnBodies on_bodies.Unfit) k h) unfit
-  at_goal a m n (equiv (body is) (body js) p f) k h = of_both a m n (last_procedure is) (last_procedure js) k h
+  at_goal a m n (equiv (body is) (body js) p f) k h = of_bodies a m n is js k h
   at_goal a m n (equiv (body is) (procedure r) p f) k h = subst P (given_is (rule.OnBodies on_bodies.Unfit) k h) unfit
   at_goal a m n (equiv (procedure r) d p f) k h = subst P (given_is (rule.OnBodies on_bodies.Unfit) k h) unfit
   at_goal a m n (ambient f) k h = subst P (given_is (rule.OnBodies on_bodies.Unfit) k h) unfit

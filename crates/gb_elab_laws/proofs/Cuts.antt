@@ -20,6 +20,7 @@ use Rattle.gb_steps.specs.declared.step.BodyRule.{BodyRule}
 use Rattle.gb_steps.specs.declared.step.BodyRule.TheVariants as on_bodies
 use Rattle.gb_steps.specs.declared.step.Cut.{Cut}
 use Rattle.gb_steps.specs.declared.step.Cut.TheVariants as cut
+use Rattle.gb_steps.specs.declared.step.RelationalRule.{RelationalRule}
 use Rattle.gb_steps.specs.declared.step.RelationalRule.TheVariants as relational_rule
 use Rattle.gb_steps.specs.declared.step.Rule.{Rule}
 use Rattle.gb_steps.specs.declared.step.Rule.TheVariants as rule
@@ -43,7 +44,7 @@ use Rattle.gb_goal.specs.Answers.Answer.{given}
 use Rattle.gb_names.specs.Environment.{relational, unary}
 use Rattle.gb_elab.specs.Forms.{elaborated}
 use Rattle.gb_elab_mod.specs.Occurring.{occurring}
-use Rattle.gb_elab_mod.specs.Steps.{acts, case_by, case_of_bodies, case_of_conclusion, case_rule, conclusion_rule, conseq_rule, coupling_rule, couplings, drawing_rule, cut_of, cut_rule, formed, functions_of, of_bodies_rule, on_all, plain_rule, seq_rule, sided_case_rule, step_given, typed_rule, asked_of, chance_rule, judges_chance, kept_by, said_of_bodies, symmetry_rule, while_rule, witness_rule}
+use Rattle.gb_elab_mod.specs.Steps.{acts, case_by, case_of_bodies, case_of_conclusion, case_rule, conclusion_rule, conseq_rule, coupling_rule, couplings, drawing_rule, cut_of, cut_rule, formed, functions_of, of_bodies_rule, on_all, plain_rule, seq_rule, sided_case_rule, step_given, typed_rule, asked_of, both_rule, chance_rule, judges_chance, kept_by, said_of_bodies, while_rule, witness_rule}
 use Rattle.gb_elab_mod.specs.Multiples.{hypothesis_at, multiples, position}
 use Rattle.gb_elab_mod.specs.Uses.{all_hinted, defined_operator, hypothesis, used}
 use Rattle.gb_elab_mod.specs.Taken.{new_name}
@@ -53,10 +54,10 @@ use Rattle.gb_bodies.specs.Rows.{IsTypedRule}
 use Rattle.gb_elab_laws.proofs.Betweens.{of_transitive}
 use Rattle.gb_elab_laws.proofs.Anew.{conseq_rule_typed}
 use Rattle.gb_elab_laws.proofs.Contracts.{of_call}
-use Rattle.gb_elab_laws.proofs.Transformings.{of_passing, of_placed}
+use Rattle.gb_elab_laws.proofs.Transformings.{of_inlining, of_passing, of_placed}
 use Rattle.gb_elab_laws.proofs.Given.{given_bind, given_is}
-use Rattle.gb_elab_laws.proofs.Ends.{occurring_in}
-use Rattle.gb_elab_laws.proofs.Fits.{one_fits, two_fit}
+use Rattle.gb_elab_laws.proofs.Ends.{AreOfTheirTypes, occurring_in}
+use Rattle.gb_elab_laws.proofs.Fits.{goal_fits, one_fits, two_fit}
 use Rattle.gb_elab_laws.proofs.Forms.{elaborated_typed}
 use Rattle.gb_elab_laws.proofs.Occurring.{reads_stand}
 
@@ -67,34 +68,37 @@ module _ (ds : scope.Declarations) (scoped : IsTypedScope (declared ds)) (q : Se
   abbrev Typed : Goal → BodyRule → Type 0
   Typed G r = IsTypedRule here (rule.OnBodies r) ls rs G
 
+  known : AreOfTheirTypes here ds
+  known = (goal_fits ds scoped q t).procedures refl
+
   -- a form over the locals that occur in a judgment of bodies is typed over those of the bodies
   said_of_one : (is : List Instr) (p g : Term) → IsBody here ls is → IsForm (one here ls) p → IsForm (one here ls) g → (n : Node) (f : Term) →
-      elaborated n (unary ds q (occurring (p ∷ g ∷ []) side.Own is)) [] (Some ty.Bool) ≡ given f → IsForm (one here ls) f
+      elaborated n (unary ds q (occurring ds (p ∷ g ∷ []) side.Own is)) [] (Some ty.Bool) ≡ given f → IsForm (one here ls) f
   said_of_one is p g over before after n f h =
-      let xs = occurring (p ∷ g ∷ []) side.Own is in
-      let fits = one_fits ds scoped q t ls xs (occurring_in ls here side.Own p g is (reads_stand (one here ls) p before.typed side.Own tt) (reads_stand (one here ls) g after.typed side.Own tt) over) in
+      let xs = occurring ds (p ∷ g ∷ []) side.Own is in
+      let fits = one_fits ds scoped q t ls xs (occurring_in ls here ds known side.Own p g is (reads_stand (one here ls) p before.typed side.Own tt) (reads_stand (one here ls) g after.typed side.Own tt) over) in
       let e = elaborated_typed n (one here ls) (unary ds q xs) [] fits (Some ty.Bool) tt f h in
       record { typed = e.typed; truth = e.wanted }
 
   said_of_two : (is js : List Instr) (p g : Term) → IsBody here ls is → IsBody here rs js → IsForm (two here ls rs) p → IsForm (two here ls rs) g → (n : Node) (f : Term) →
-      elaborated n (relational ds q (occurring (p ∷ g ∷ []) side.Left is) (occurring (p ∷ g ∷ []) side.Right js)) [] (Some ty.Bool) ≡ given f → IsForm (two here ls rs) f
+      elaborated n (relational ds q (occurring ds (p ∷ g ∷ []) side.Left is) (occurring ds (p ∷ g ∷ []) side.Right js)) [] (Some ty.Bool) ≡ given f → IsForm (two here ls rs) f
   said_of_two is js p g left right before after n f h =
-      let xs = occurring (p ∷ g ∷ []) side.Left is in
-      let ys = occurring (p ∷ g ∷ []) side.Right js in
+      let xs = occurring ds (p ∷ g ∷ []) side.Left is in
+      let ys = occurring ds (p ∷ g ∷ []) side.Right js in
       let fits =
       two_fit ds scoped q t ls rs xs ys
-      (occurring_in ls here side.Left p g is (reads_stand (two here ls rs) p before.typed side.Left tt) (reads_stand (two here ls rs) g after.typed side.Left tt) left)
-      (occurring_in rs here side.Right p g js (reads_stand (two here ls rs) p before.typed side.Right tt) (reads_stand (two here ls rs) g after.typed side.Right tt) right) in
+      (occurring_in ls here ds known side.Left p g is (reads_stand (two here ls rs) p before.typed side.Left tt) (reads_stand (two here ls rs) g after.typed side.Left tt) left)
+      (occurring_in rs here ds known side.Right p g js (reads_stand (two here ls rs) p before.typed side.Right tt) (reads_stand (two here ls rs) g after.typed side.Right tt) right) in
       let e = elaborated_typed n (two here ls rs) (relational ds q xs ys) [] fits (Some ty.Bool) tt f h in
       record { typed = e.typed; truth = e.wanted }
 
   cut_typed : (G : Goal) → IsGoalOver here ls rs G → (k : Cut) (n : Node) (r : BodyRule) → cut_rule ds q k n G ≡ given r → Typed G r
   unfolding cut_rule
   cut_typed (hoare (body is) p g) w (cut.One k) n r h =
-      let f = given_bind (elaborated n (unary ds q (occurring (p ∷ g ∷ []) side.Own is)) [] (Some ty.Bool)) (λ f. given (on_bodies.Seq (cut.One k) f)) r h in
+      let f = given_bind (elaborated n (unary ds q (occurring ds (p ∷ g ∷ []) side.Own is)) [] (Some ty.Bool)) (λ f. given (on_bodies.Seq (cut.One k) f)) r h in
       subst (Typed (hoare (body is) p g)) {x = on_bodies.Seq (cut.One k) f.0} (given_is (on_bodies.Seq (cut.One k) f.0) r f.2) (said_of_one is p g w.0 w.1 w.2 n f.0 f.1)
   cut_typed (equiv (body is) (body js) p g) w (cut.Two k l) n r h =
-      let f = given_bind (elaborated n (relational ds q (occurring (p ∷ g ∷ []) side.Left is) (occurring (p ∷ g ∷ []) side.Right js)) [] (Some ty.Bool)) (λ f. given (on_bodies.Seq (cut.Two k l) f)) r h in
+      let f = given_bind (elaborated n (relational ds q (occurring ds (p ∷ g ∷ []) side.Left is) (occurring ds (p ∷ g ∷ []) side.Right js)) [] (Some ty.Bool)) (λ f. given (on_bodies.Seq (cut.Two k l) f)) r h in
       subst (Typed (equiv (body is) (body js) p g)) {x = on_bodies.Seq (cut.Two k l) f.0} (given_is (on_bodies.Seq (cut.Two k l) f.0) r f.2) (said_of_two is js p g w.1 w.2 w.3 w.4 n f.0 f.1)
   cut_typed (hoare (body is) p g) w (cut.Two k l) n r h = subst (Typed (hoare (body is) p g)) (given_is on_bodies.Unfit r h) tt
   cut_typed (hoare (procedure a) p g) w (cut.One k) n r h = subst (Typed (hoare (procedure a) p g)) (given_is on_bodies.Unfit r h) tt
@@ -117,13 +121,13 @@ module _ (ds : scope.Declarations) (scoped : IsTypedScope (declared ds)) (q : Se
   said_typed : (G : Goal) → IsGoalOver here ls rs G → (n : Node) (o : Option Term) → said_of_bodies ds q n G ≡ given o → IsSaid G o
   unfolding said_of_bodies
   said_typed (hoare (body is) p g) w n o h =
-      let f = given_bind (elaborated n (unary ds q (occurring (p ∷ g ∷ []) side.Own is)) [] (Some ty.Bool)) (λ (f : Term). given (Some f)) o h in
+      let f = given_bind (elaborated n (unary ds q (occurring ds (p ∷ g ∷ []) side.Own is)) [] (Some ty.Bool)) (λ (f : Term). given (Some f)) o h in
       subst (IsSaid (hoare (body is) p g)) {x = Some f.0} (given_is (Some f.0) o f.2) (said_of_one is p g w.0 w.1 w.2 n f.0 f.1)
   said_typed (phoare (body is) r p g b) w n o h =
-      let f = given_bind (elaborated n (unary ds q (occurring (p ∷ g ∷ []) side.Own is)) [] (Some ty.Bool)) (λ (f : Term). given (Some f)) o h in
+      let f = given_bind (elaborated n (unary ds q (occurring ds (p ∷ g ∷ []) side.Own is)) [] (Some ty.Bool)) (λ (f : Term). given (Some f)) o h in
       subst (IsSaid (phoare (body is) r p g b)) {x = Some f.0} (given_is (Some f.0) o f.2) (said_of_one is p g w.0 w.1 w.2 n f.0 f.1)
   said_typed (equiv (body is) (body js) p g) w n o h =
-      let f = given_bind (elaborated n (relational ds q (occurring (p ∷ g ∷ []) side.Left is) (occurring (p ∷ g ∷ []) side.Right js)) [] (Some ty.Bool)) (λ (f : Term). given (Some f)) o h in
+      let f = given_bind (elaborated n (relational ds q (occurring ds (p ∷ g ∷ []) side.Left is) (occurring ds (p ∷ g ∷ []) side.Right js)) [] (Some ty.Bool)) (λ (f : Term). given (Some f)) o h in
       subst (IsSaid (equiv (body is) (body js) p g)) {x = Some f.0} (given_is (Some f.0) o f.2) (said_of_two is js p g w.1 w.2 w.3 w.4 n f.0 f.1)
   said_typed (hoare (procedure a) p g) w n o h = subst (IsSaid (hoare (procedure a) p g)) (given_is None o h) tt
   said_typed (phoare (procedure a) r p g b) w n o h = subst (IsSaid (phoare (procedure a) r p g b)) (given_is None o h) tt
@@ -180,16 +184,17 @@ module _ (ds : scope.Declarations) (scoped : IsTypedScope (declared ds)) (q : Se
   chance_typed on.Left = tt
   chance_typed on.Right = tt
 
-  symmetry_typed : (a : Acts) → TypedAt (symmetry_rule a)
-  symmetry_typed on.All = tt
-  symmetry_typed on.Left = tt
-  symmetry_typed on.Right = tt
+  both_typed : (r : RelationalRule) (a : Acts) → TypedAt (both_rule r a)
+  both_typed r on.All = tt
+  both_typed r on.Left = tt
+  both_typed r on.Right = tt
 
-  name_typed : (x : List ℕ) (a : Acts) (p : Place) (k : Rule) (b d : Bool) →
-      (if b then given (chance_rule a) else if d then given (symmetry_rule a) else of_bodies_rule (plain_rule x a p)) ≡ given k → TypedAt k
-  name_typed x a p k true d h = subst TypedAt (given_is (chance_rule a) k h) (chance_typed a)
-  name_typed x a p k false true h = subst TypedAt (given_is (symmetry_rule a) k h) (symmetry_typed a)
-  name_typed x a p k false false h =
+  name_typed : (x : List ℕ) (a : Acts) (p : Place) (k : Rule) (b d e : Bool) →
+      (if b then given (chance_rule a) else if d then given (both_rule relational_rule.Symmetry a) else if e then given (both_rule relational_rule.Sim a) else of_bodies_rule (plain_rule x a p)) ≡ given k → TypedAt k
+  name_typed x a p k true d e h = subst TypedAt (given_is (chance_rule a) k h) (chance_typed a)
+  name_typed x a p k false true e h = subst TypedAt (given_is (both_rule relational_rule.Symmetry a) k h) (both_typed relational_rule.Symmetry a)
+  name_typed x a p k false false true h = subst TypedAt (given_is (both_rule relational_rule.Sim a) k h) (both_typed relational_rule.Sim a)
+  name_typed x a p k false false false h =
       let y = given_bind (plain_rule x a p) (λ z. given (rule.OnBodies z)) k h in
       subst TypedAt (given_is (rule.OnBodies y.0) k y.2) (plain_typed (goal_of q.conclusion) x a p y.0 y.1)
 
@@ -235,7 +240,7 @@ module _ (ds : scope.Declarations) (scoped : IsTypedScope (declared ds)) (q : Se
     of_rule text.Proc x (b ∷ i ∷ []) p k h =
         let y = given_bind (absent (parts_of i) p) (λ _. given (rule.OnBodies (on_all (acts (parts_of b)) on_bodies.Proc))) k h in
         subst TypedAt (given_is (rule.OnBodies (on_all (acts (parts_of b)) on_bodies.Proc)) k y.2) (all_typed (goal_of q.conclusion) (acts (parts_of b)) on_bodies.Proc tt)
-    of_rule text.BodyStep x (b ∷ []) p k h = name_typed x (acts (parts_of b)) p k (bytes_eq x (codes "hoare")) (bytes_eq x (codes "symmetry")) h
+    of_rule text.BodyStep x (b ∷ []) p k h = name_typed x (acts (parts_of b)) p k (bytes_eq x (codes "hoare")) (bytes_eq x (codes "symmetry")) (bytes_eq x (codes "sim")) h
     of_rule text.Seq x (b ∷ n ∷ ns ∷ f ∷ bounds ∷ []) p k h =
         let o = given_bind (absent (parts_of bounds) p) (λ _. of_bodies_rule (seq_rule ds q (acts (parts_of b)) (cut_of n (parts_of ns)) f)) k h in
         let y = given_bind (seq_rule ds q (acts (parts_of b)) (cut_of n (parts_of ns)) f) (λ z. given (rule.OnBodies z)) k o.2 in
@@ -247,6 +252,7 @@ module _ (ds : scope.Declarations) (scoped : IsTypedScope (declared ds)) (q : Se
     of_rule text.PlainStep x [] p k h =
         let o = given_bind (conclusion_rule x p) (λ (a : AmbientRule). given (rule.Ambient a)) k h in subst TypedAt (given_is (rule.Ambient o.0) k o.2) tt
     of_rule text.WhileStep x (b ∷ f ∷ []) p k h = while_typed (acts (parts_of b)) f k h
+    of_rule text.Inline x (b ∷ n ∷ []) p k h = of_inlining TypedAt (λ a t. tt) ds q (acts (parts_of b)) (parts_of n) p k h
     of_rule text.CaseStep x (b ∷ f ∷ []) p k h =
         sides_typed (acts (parts_of b)) f k h
     of_rule text.HaveForm x (n ∷ f ∷ []) p k h =

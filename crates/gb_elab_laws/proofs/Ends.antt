@@ -1,12 +1,17 @@
 -- The samplings that end a well-typed body, and its locals.
 use Rattle.std.proofs.Common.{◌≡◌, ◌-◌, ℕ, zero, suc, Bool, true, false, if◌then◌else◌, List, [], ◌∷◌, ◌++◌, length, slice_get, flat_map, Option, Some, None, option_map, bytes_eq, refl, ap, sym, ◌∙◌, subst, arith}
 use Rattle.std.proofs.lemmas.Slice.Eq.{bytes_eq-Decides}
-use Rattle.gb_core.specs.declared.ty.Ty.{Ty, out-Ty, end_of-Ty, more_of-Ty}
+use Rattle.gb_core.specs.declared.ty.Ty.{Ty, out-Ty, roll-Ty, end_of-Ty, more_of-Ty}
+use Rattle.gb_core.specs.declared.ty.Ty.TheViews.{roll-out-Ty}
 use Rattle.gb_core.specs.declared.ty.Ty.TheVariants as ty
 use Rattle.gb_core.specs.declared.ty.Ty.TheOpen as ty_layer
 use Rattle.gb_core.specs.declared.var.Var.{Var}
 use Rattle.gb_core.specs.declared.var.Var.TheVariants as var
+use Rattle.gb_terms.specs.declared.decl.Proc.{Proc}
 use Rattle.gb_terms.specs.declared.decl.TypedName.{TypedName}
+use Rattle.gb_terms.specs.declared.module.ProcRef.{ProcRef}
+use Rattle.gb_goal.specs.Scope as scope
+use Rattle.gb_goal.specs.Scope.{procedure_of}
 use Rattle.gb_terms.specs.declared.op.Side.{Side}
 use Rattle.gb_terms.specs.declared.op.Side.TheVariants as side
 use Rattle.gb_terms.specs.declared.term.Cmd.{Cmd}
@@ -17,22 +22,27 @@ use Rattle.gb_meaning.specs.Names.{Name}
 use Rattle.gb_meaning.specs.Operators.{outcome_type}
 use Rattle.gb_meaning.specs.Written.{type_of, local_type}
 use Rattle.gb_typed.specs.Finite.{IsFinite}
-use Rattle.gb_typed.specs.Operators.{IsDistributionType}
+use Rattle.gb_typed.specs.Operators.{parts_in, IsDistributionType}
 use Rattle.gb_meaning.specs.Commands.{terms_in}
-use Rattle.gb_typed.specs.Programs.{variable_type, Take, HaveFiniteTypes}
+use Rattle.gb_typed.specs.Programs.{variable_type, HaveTypes, Take, HaveFiniteTypes}
 use Rattle.gb_typing.specs.Modules.{ProcedureType}
 use Rattle.gb_typing.specs.Context.{Context, erased, of_program, procedure}
-use Rattle.gb_typing.specs.Programs.{IsExpression, AreArguments, IsCall, IsStatement, AreStatements, EachStatement, IsBody}
+use Rattle.gb_typing.specs.Programs.{type_of_procedure, IsExpression, AreArguments, IsCall, IsStatement, AreStatements, EachStatement, IsBody}
 use mathlib.Core.Former.{Count}
-use Rattle.gb_elab_mod.specs.Occurring.{local, assigned, outcome_local, read_locals, row_locals, row_read, sampled as sampled_local, statement_locals, occurring}
+use Rattle.gb_elab_mod.specs.Occurring.{local, each_local, outcome_local, part_locals, read_locals, returned, row_locals, row_read, sampled as sampled_local, statement_locals, taking, occurring}
 use Rattle.gb_elab_mod.specs.Steps.{outcomes, sampled, last_sampled}
-use Rattle.gb_elab_laws.specs.Fitting.{AreIn}
+use Rattle.gb_elab_laws.specs.Fitting.{AreIn, IsTypeOf}
 use Rattle.gb_elab_laws.proofs.Found.{all_with}
 use Rattle.gb_elab_laws.specs.Reading.{StandIn}
 use Rattle.gb_typing.specs.Samplings.{Sampling, behind, last_sampling, of_statement, of_type}
 use Rattle.gb_elab_laws.proofs.Given.{none_some, same_some, out_type}
+use Rattle.gb_elab_laws.proofs.Shapes.{parts_are}
 use Rattle.gb_elab_laws.proofs.Types.{distribution_layer, have_finite}
 use Rattle.gb_elab_laws.proofs.Occurring.{reads_stand, stand_both, all_stand}
+
+-- what is declared of procedures is what a context says of them
+abbrev pub AreOfTheirTypes : Context → scope.Declarations → Type 0
+AreOfTheirTypes c ds = (p : ProcRef) (f : Proc) → procedure_of ds p ≡ Some f → IsTypeOf (procedure c p) f
 
 -- Typing and the rule see the same samplings at the end.
 
@@ -69,6 +79,9 @@ outcome_finite : (u : Ty) → IsDistributionType u → IsFinite (outcome_type u)
 outcome_finite (ty.Distr' p (more_of-Ty t end_of-Ty)) k = k
 outcome_finite _ k = absurd k
 
+parts_of_layer : (t : Ty) (us : List Ty) → out-Ty t ≡ ty_layer.Tuple us → parts_in t ≡ us
+parts_of_layer t us e = ap parts_in (sym (roll-out-Ty t) ∙ ap roll-Ty e ∙ ty.rolls-Tuple us) ∙ parts_are us
+
 module _ (c : Context) (ls : List TypedName) where
   statement_at : (is : List Instr) (i : ℕ) (x : Instr) → EachStatement c ls is → slice_get is i ≡ Some x → IsStatement c ls x
   statement_at [] i x k e = none_some x e
@@ -100,10 +113,28 @@ module _ (c : Context) (ls : List TypedName) where
       let e : sampled_local x d ≡ local x (outcome_type (type_of d)) = ap (λ u. outcome_local x (out-Ty u)) (out_type d) ∙ ap (outcome_local x) (outcome_of (type_of d) s.1) in
       subst (StandIn (Some ls)) (sym e) (target_stands x (outcome_type (type_of d)) s.2)
 
-  targets_stand : (xs : List Var) (e : Term) → Take (erased c) ls xs (type_of e) → StandIn (Some ls) (assigned xs e)
-  targets_stand [] e h = tt
-  targets_stand (x ∷ []) e h = subst (λ t. StandIn (Some ls) (local x t)) (sym (out_type e)) (target_stands x (type_of e) h)
-  targets_stand (x ∷ y ∷ xs) e h = tt
+  -- variables of these types, as far as they are locals
+  each_stands : (xs : List Var) (ts : List Ty) → HaveTypes (erased c) ls xs ts → StandIn (Some ls) (each_local xs ts)
+  each_stands (x ∷ xs) (t ∷ ts) h = stand_both (Some ls) (local x t) (each_local xs ts) (target_stands x t h.0) (each_stands xs ts h.1)
+  each_stands [] ts h = tt
+  each_stands (x ∷ xs) [] h = tt
+
+  parts_stand : (xs : List Var) (t : Ty) (l : ty_layer.Ty-F Ty) → out-Ty t ≡ l → HaveTypes (erased c) ls xs (parts_in t) → StandIn (Some ls) (part_locals xs l)
+  parts_stand xs t (ty_layer.Tuple us) e h = each_stands xs us (subst (HaveTypes (erased c) ls xs) (parts_of_layer t us e) h)
+  parts_stand xs t _ e h = tt
+
+  none_stand : (l : ty_layer.Ty-F Ty) → StandIn (Some ls) (part_locals [] l)
+  none_stand (ty_layer.Tuple ts) = tt
+  none_stand _ = tt
+
+  -- what takes a value of a type
+  taking_stands : (xs : List Var) (t : Ty) → Take (erased c) ls xs t → StandIn (Some ls) (taking xs t)
+  taking_stands [] t h = none_stand (out-Ty t)
+  taking_stands (x ∷ []) t h = target_stands x t h
+  taking_stands (x ∷ y ∷ xs) t h = parts_stand (x ∷ y ∷ xs) t (out-Ty t) refl h
+
+  targets_stand : (xs : List Var) (e : Term) → Take (erased c) ls xs (type_of e) → StandIn (Some ls) (taking xs (out-Term e).ty)
+  targets_stand xs e h = subst (λ t. StandIn (Some ls) (taking xs t)) (sym (out_type e)) (taking_stands xs (type_of e) h)
 
   -- what an expression reads
   read_stands : (e : Term) → IsExpression c ls e → StandIn (Some ls) (read_locals e side.Own)
@@ -114,36 +145,48 @@ module _ (c : Context) (ls : List TypedName) where
   arguments_stand (more_of-Term e es) (p ∷ ps) h = stand_both (Some ls) (read_locals e side.Own) (row_read es) (read_stands e h.0.0.expression) (arguments_stand es ps h.1)
   arguments_stand (more_of-Term e es) [] h = absurd h
 
+  -- what takes the result of a procedure
+  returned_stands : (xs : List Var) (o : Option Proc) (u : Option ProcedureType) (es : List Term) → ((f : Proc) → o ≡ Some f → u ≡ Some (type_of_procedure f)) → IsCall c ls xs u es →
+      StandIn (Some ls) (returned xs o)
+  returned_stands xs None u es k h = tt
+  returned_stands xs (Some f) u es k h = taking_stands xs f.result (subst (λ v. IsCall c ls xs v es) (k f refl) h).1
+
   call_stands : {n : Count} (xs : List Var) (o : Option ProcedureType) (es : Row_of-Term n) → IsCall c ls xs o (terms_in es) → StandIn (Some ls) (row_read es)
   call_stands xs (Some p) es h = arguments_stand es p.params h.0
   call_stands xs None es h = absurd h
 
-  mutual
-    statement_stands : (i : Instr) → IsStatement c ls i → StandIn (Some ls) (statement_locals i)
-    statement_stands (Assign xs e) k = stand_both (Some ls) (assigned xs e) (read_locals e side.Own) (targets_stand xs e k.1) (read_stands e k.0.expression)
-    statement_stands (Sample x d) k = stand_both (Some ls) (sampled_local x d) (read_locals d side.Own) (sampling_stands x d k) (read_stands d k.0)
-    statement_stands (Call' xs p n es) k = call_stands xs (procedure c p) es k
-    statement_stands (If' e m a n b) k =
-        stand_both (Some ls) (read_locals e side.Own) (row_locals a ++ row_locals b) (read_stands e k.0.0) (stand_both (Some ls) (row_locals a) (row_locals b) (row_stands a k.1) (row_stands b k.2))
-    statement_stands (While' e v n a) k =
-        stand_both (Some ls) (read_locals e side.Own) (read_locals v side.Own ++ row_locals a) (read_stands e k.0.0)
-        (stand_both (Some ls) (read_locals v side.Own) (row_locals a) (read_stands v k.1.0) (row_stands a k.2))
+  module _ (ds : scope.Declarations) (known : AreOfTheirTypes c ds) where
+    mutual
+      statement_stands : (i : Instr) → IsStatement c ls i → StandIn (Some ls) (statement_locals ds i)
+      statement_stands (Assign xs e) k =
+          stand_both (Some ls) (taking xs (out-Term e).ty) (read_locals e side.Own) (targets_stand xs e k.1) (read_stands e k.0.expression)
+      statement_stands (Sample x d) k = stand_both (Some ls) (sampled_local x d) (read_locals d side.Own) (sampling_stands x d k) (read_stands d k.0)
+      statement_stands (Call' xs p n es) k =
+          stand_both (Some ls) (returned xs (procedure_of ds p)) (row_read es)
+          (returned_stands xs (procedure_of ds p) (procedure c p) (terms_in es) (λ f e. (known p f e).there) k) (call_stands xs (procedure c p) es k)
+      statement_stands (If' e m a n b) k =
+          stand_both (Some ls) (read_locals e side.Own) (row_locals ds a ++ row_locals ds b) (read_stands e k.0.0)
+          (stand_both (Some ls) (row_locals ds a) (row_locals ds b) (row_stands a k.1) (row_stands b k.2))
+      statement_stands (While' e v n a) k =
+          stand_both (Some ls) (read_locals e side.Own) (read_locals v side.Own ++ row_locals ds a) (read_stands e k.0.0)
+          (stand_both (Some ls) (read_locals v side.Own) (row_locals ds a) (read_stands v k.1.0) (row_stands a k.2))
 
-    row_stands : {n : Count} (is : Row_of-Instr n) → AreStatements c ls is → StandIn (Some ls) (row_locals is)
-    row_stands end_of-Instr k = tt
-    row_stands (more_of-Instr i is) k = stand_both (Some ls) (statement_locals i) (row_locals is) (statement_stands i k.0) (row_stands is k.1)
+      row_stands : {n : Count} (is : Row_of-Instr n) → AreStatements c ls is → StandIn (Some ls) (row_locals ds is)
+      row_stands end_of-Instr k = tt
+      row_stands (more_of-Instr i is) k = stand_both (Some ls) (statement_locals ds i) (row_locals ds is) (statement_stands i k.0) (row_stands is k.1)
 
-  statements_stand : (is : List Instr) → EachStatement c ls is → StandIn (Some ls) (flat_map statement_locals is)
-  statements_stand [] k = tt
-  statements_stand (i ∷ is) k = stand_both (Some ls) (statement_locals i) (flat_map statement_locals is) (statement_stands i k.0) (statements_stand is k.1)
+    statements_stand : (is : List Instr) → EachStatement c ls is → StandIn (Some ls) (flat_map (statement_locals ds) is)
+    statements_stand [] k = tt
+    statements_stand (i ∷ is) k =
+        stand_both (Some ls) (statement_locals ds i) (flat_map (statement_locals ds) is) (statement_stands i k.0) (statements_stand is k.1)
 
-  -- what occurs in two conditions and a body are locals of the body
-  occurring_stand : (s : Side) (p q : Term) (is : List Instr) → StandIn (Some ls) (read_locals p s) → StandIn (Some ls) (read_locals q s) → EachStatement c ls is →
-      StandIn (Some ls) (occurring (p ∷ q ∷ []) s is)
-  occurring_stand s p q is hp hq k =
-      let conditions = stand_both (Some ls) (read_locals p s) (read_locals q s ++ []) hp (stand_both (Some ls) (read_locals q s) [] hq tt) in
-      all_stand (Some ls) [] (flat_map (λ t. read_locals t s) (p ∷ q ∷ []) ++ flat_map statement_locals is) tt
-      (stand_both (Some ls) (flat_map (λ t. read_locals t s) (p ∷ q ∷ [])) (flat_map statement_locals is) conditions (statements_stand is k))
+    -- what occurs in two conditions and a body are locals of the body
+    occurring_stand : (s : Side) (p q : Term) (is : List Instr) → StandIn (Some ls) (read_locals p s) → StandIn (Some ls) (read_locals q s) → EachStatement c ls is →
+        StandIn (Some ls) (occurring ds (p ∷ q ∷ []) s is)
+    occurring_stand s p q is hp hq k =
+        let conditions = stand_both (Some ls) (read_locals p s) (read_locals q s ++ []) hp (stand_both (Some ls) (read_locals q s) [] hq tt) in
+        all_stand (Some ls) [] (flat_map (λ t. read_locals t s) (p ∷ q ∷ []) ++ flat_map (statement_locals ds) is) tt
+        (stand_both (Some ls) (flat_map (λ t. read_locals t s) (p ∷ q ∷ [])) (flat_map (statement_locals ds) is) conditions (statements_stand is k))
 
 local_finite : (ls : List TypedName) (x : Name) (t : Ty) → HaveFiniteTypes ls → local_type ls x ≡ Some t → IsFinite t
 local_finite [] x t h e = none_some t e
@@ -167,8 +210,8 @@ module _ (ls : List TypedName) where
       step false i f e = f e
 
   -- what occurs in a goal is read in the memory of a body
-  pub occurring_in : (c : Context) (s : Side) (p q : Term) (is : List Instr) → StandIn (Some ls) (read_locals p s) → StandIn (Some ls) (read_locals q s) → IsBody c ls is →
-      AreIn true (Some ls) (occurring (p ∷ q ∷ []) s is)
-  occurring_in c s p q is hp hq b =
-      let k : StandIn (Some ls) (occurring (p ∷ q ∷ []) s is) = occurring_stand c ls s p q is hp hq b.statements in
+  pub occurring_in : (c : Context) (ds : scope.Declarations) → AreOfTheirTypes c ds → (s : Side) (p q : Term) (is : List Instr) → StandIn (Some ls) (read_locals p s) →
+      StandIn (Some ls) (read_locals q s) → IsBody c ls is → AreIn true (Some ls) (occurring ds (p ∷ q ∷ []) s is)
+  occurring_in c ds known s p q is hp hq b =
+      let k : StandIn (Some ls) (occurring ds (p ∷ q ∷ []) s is) = occurring_stand c ls ds known s p q is hp hq b.statements in
       record { memory = tt; there = standing_name _ k; finite = all_with _ (standing_finite (have_finite ls b.locals) _ k) }

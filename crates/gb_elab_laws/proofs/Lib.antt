@@ -36,6 +36,8 @@ pub mod Spoken
 pub mod Around
 pub mod Called
 pub mod Stated
+pub mod Widened
+pub mod Further
 pub mod AboutNamed
 pub mod Used
 mod Brought

@@ -37,19 +37,19 @@ use Rattle.sqlite_items.specs.formers.items.Items.{the_former}
 
 -- The arguments of a head have the named memories of the term.
 
-first_named : (c : Context) (h : Head) → (first c h).named ≡ c.named
+pub first_named : (c : Context) (h : Head) → (first c h).named ≡ c.named
 first_named c (head.Hoare j) = refl
 first_named c (head.Phoare j r) = refl
 first_named c (head.Equiv i j) = refl
 first_named c _ = refl
 
-middle_named : (c : Context) (h : Head) → (middle c h).named ≡ c.named
+pub middle_named : (c : Context) (h : Head) → (middle c h).named ≡ c.named
 middle_named c (head.Hoare j) = refl
 middle_named c (head.Phoare j r) = refl
 middle_named c (head.Equiv i j) = refl
 middle_named c _ = refl
 
-last_named : (c : Context) (ls : List TypedName) (h : Head) (us : List Ty) → (last c ls h us).named ≡ c.named
+pub last_named : (c : Context) (ls : List TypedName) (h : Head) (us : List Ty) → (last c ls h us).named ≡ c.named
 last_named c ls (head.All u) us = refl
 last_named c ls (head.Some u) us = refl
 last_named c ls head.AllMemory us = refl
@@ -131,7 +131,7 @@ module _ (i : ℕ) (x : Name) where
   head_stands c _ us t k n e = absurd (false≢true e)
 
   -- where a term reads the local first, by its head and its arguments
-  found_is : (h : Head) (n : List (Unit {0})) (ts : Row_of-Term (arity (the_former (this {0})) n)) (ty : Ty) →
+  pub found_is : (h : Head) (n : List (Unit {0})) (ts : Row_of-Term (arity (the_former (this {0})) n)) (ty : Ty) →
       found (Term' tt (more_of-Head h end_of-Head) n ts ty) ≡ (if reads_local (side.Memory i) x h then Some ty else first_some (map found (terms_in ts)))
   found_is h n ts ty =
       read_type_out (side.Memory i) x (Term' tt (more_of-Head h end_of-Head) n ts ty)

@@ -25,6 +25,7 @@ use Rattle.gb_steps.specs.declared.step.Rule.TheVariants as rule
 use Rattle.gb_steps.specs.declared.step.AmbientRule.{AmbientRule}
 use Rattle.gb_steps.specs.declared.step.AmbientRule.TheVariants as conclusion
 use Rattle.gb_steps.specs.declared.step.BodyRule.TheVariants as on_bodies
+use Rattle.gb_steps.specs.declared.step.RelationalRule.{RelationalRule}
 use Rattle.gb_steps.specs.declared.step.RelationalRule.TheVariants as relational_rule
 use Rattle.gb_steps.specs.declared.step.Multiple.{Multiple}
 use Rattle.gb_steps.specs.declared.step.ChanceRule.TheVariants as with_chance_rule
@@ -50,7 +51,7 @@ use Rattle.gb_names.specs.declared.setting.Language.TheVariants.{Function}
 use Rattle.gb_names.specs.Environment.{Environment, of_function}
 use Rattle.gb_elab.specs.Forms.{function}
 use Rattle.gb_elab_mod.specs.Occurring.{occurring}
-use Rattle.gb_elab_mod.specs.Steps.{acts, cut_of, last_sampled, functions, of_bodies_rule, on_all, one_type, plain_rule, conclusion_rule, conseq_rule, case_of_bodies, case_of_conclusion, formed, seq_rule, sided_case_rule, there_and_back, of_bodies, couplings, drawing_rule, coupling_rule, functions_of, typed_rule, step_given, asked_of, chance_rule, judges_chance, symmetry_rule, witness_rule}
+use Rattle.gb_elab_mod.specs.Steps.{acts, cut_of, last_sampled, functions, of_bodies_rule, on_all, one_type, plain_rule, conclusion_rule, conseq_rule, case_of_bodies, case_of_conclusion, formed, seq_rule, sided_case_rule, there_and_back, of_bodies, couplings, drawing_rule, coupling_rule, functions_of, typed_rule, step_given, asked_of, both_rule, chance_rule, judges_chance, witness_rule}
 use Rattle.gb_elab_mod.specs.Multiples.{hypothesis_at, multiples, position}
 use Rattle.gb_elab_mod.specs.Uses.{all_hinted, defined_operator, hypothesis, used}
 use Rattle.gb_elab_mod.specs.Taken.{new_name}
@@ -62,11 +63,11 @@ use Rattle.gb_typing.specs.Samplings.{Sampling, last_sampling}
 use Rattle.gb_equiv.specs.Rnd.{IsFunction, AreFunctions, AreBetween, AreTypedFunctions}
 use Rattle.gb_elab_laws.proofs.Betweens.{transitive_typed}
 use Rattle.gb_elab_laws.proofs.Contracts.{of_call}
-use Rattle.gb_elab_laws.proofs.Transformings.{of_passing, of_placed}
+use Rattle.gb_elab_laws.proofs.Transformings.{of_inlining, of_passing, of_placed}
 use Rattle.gb_elab_laws.proofs.Turning.{of_while}
 use Rattle.gb_elab_laws.proofs.Given.{given_bind, given_is, if_given}
-use Rattle.gb_elab_laws.proofs.Ends.{ends_agree, last_finite, occurring_in}
-use Rattle.gb_elab_laws.proofs.Fits.{function_fits}
+use Rattle.gb_elab_laws.proofs.Ends.{AreOfTheirTypes, ends_agree, last_finite, occurring_in}
+use Rattle.gb_elab_laws.proofs.Fits.{function_fits, goal_fits}
 use Rattle.gb_elab_laws.proofs.Shapes.{finite_form}
 use Rattle.gb_elab_laws.proofs.Forms.{function_typed}
 use Rattle.gb_elab_laws.proofs.Occurring.{reads_stand}
@@ -112,11 +113,14 @@ module _ (ds : scope.Declarations) (scoped : IsTypedScope (declared ds)) (q : Se
   abbrev here : Context
   here = of_sequent (context_of (declared ds)) q t.frames
 
+  known : AreOfTheirTypes here ds
+  known = (goal_fits ds scoped q t).procedures refl
+
   module _ (ls rs : List TypedName) where
     -- the functions between two types, over the locals that occur in these conditions and the bodies
     abbrev typed_between : List Node → List Term → Cmd × Cmd → Ty × Ty → Answer (List Term)
     typed_between fs conditions d u =
-        one_type fs u.0 u.1 >>= λ _. there_and_back (of_function ds q (occurring conditions side.Left d.0.list) (occurring conditions side.Right d.1.list)) fs u.0 u.1
+        one_type fs u.0 u.1 >>= λ _. there_and_back (of_function ds q (occurring ds conditions side.Left d.0.list) (occurring ds conditions side.Right d.1.list)) fs u.0 u.1
 
     abbrev typed_at_ends : List Node → List Term → Cmd × Cmd → Answer (List Term)
     typed_at_ends fs conditions d = option_map_or (typed_between fs conditions d) (option_zip (last_sampled d.0) (last_sampled d.1)) (given [])
@@ -126,18 +130,18 @@ module _ (ds : scope.Declarations) (scoped : IsTypedScope (declared ds)) (q : Se
       abbrev conditions : List Term
       conditions = p ∷ k ∷ []
 
-      fits : IsFitting true (two here ls rs) (of_function ds q (occurring conditions side.Left l.list) (occurring conditions side.Right r.list)) []
+      fits : IsFitting true (two here ls rs) (of_function ds q (occurring ds conditions side.Left l.list) (occurring ds conditions side.Right r.list)) []
       fits =
           function_fits ds scoped q t ls rs _ _
-          (occurring_in ls here side.Left p k l.list (reads_stand (two here ls rs) p w.3.typed side.Left tt) (reads_stand (two here ls rs) k w.4.typed side.Left tt) w.1)
-          (occurring_in rs here side.Right p k r.list (reads_stand (two here ls rs) p w.3.typed side.Right tt) (reads_stand (two here ls rs) k w.4.typed side.Right tt) w.2)
+          (occurring_in ls here ds known side.Left p k l.list (reads_stand (two here ls rs) p w.3.typed side.Left tt) (reads_stand (two here ls rs) k w.4.typed side.Left tt) w.1)
+          (occurring_in rs here ds known side.Right p k r.list (reads_stand (two here ls rs) p w.3.typed side.Right tt) (reads_stand (two here ls rs) k w.4.typed side.Right tt) w.2)
 
       at_ends : (x y : Option Sampling) (us : List Term) → ((a : Ty) → option_map (λ (z : Sampling). z.ty) x ≡ Some a → IsFinite a) →
           ((a : Ty) → option_map (λ (z : Sampling). z.ty) y ≡ Some a → IsFinite a) →
           option_map_or (typed_between fs conditions (l, r)) (option_zip (option_map (λ (z : Sampling). z.ty) x) (option_map (λ (z : Sampling). z.ty) y)) (given []) ≡ given us →
           AreBetween (two here ls rs) us (option_zip x y)
       at_ends (Some x) (Some y) us f g h =
-          let o = given_bind (one_type fs x.ty y.ty) (λ _. there_and_back (of_function ds q (occurring conditions side.Left l.list) (occurring conditions side.Right r.list)) fs x.ty y.ty) us h in
+          let o = given_bind (one_type fs x.ty y.ty) (λ _. there_and_back (of_function ds q (occurring ds conditions side.Left l.list) (occurring ds conditions side.Right r.list)) fs x.ty y.ty) us h in
           functions_typed (two here ls rs) ds q _ _ fits fs x.ty y.ty (f x.ty refl) (g y.ty refl) o.0 us o.1 o.2
       at_ends (Some x) None us f g h = tt
       at_ends None y us f g h = tt
@@ -234,16 +238,17 @@ module _ (ds : scope.Declarations) (scoped : IsTypedScope (declared ds)) (q : Se
       of_chance on.Left k h = other (rule.OnBodies on_bodies.Unfit) k refl h
       of_chance on.Right k h = other (rule.OnBodies on_bodies.Unfit) k refl h
 
-      of_symmetry : (a : Acts) (k : Rule) → symmetry_rule a ≡ k → Asked k
-      of_symmetry on.All k h = other (rule.Relational relational_rule.Symmetry) k refl h
-      of_symmetry on.Left k h = other (rule.OnBodies on_bodies.Unfit) k refl h
-      of_symmetry on.Right k h = other (rule.OnBodies on_bodies.Unfit) k refl h
+      of_both : (r : RelationalRule) → has_arguments (rule.Relational r) ≡ false → (a : Acts) (k : Rule) → both_rule r a ≡ k → Asked k
+      of_both r n on.All k h = other (rule.Relational r) k n h
+      of_both r n on.Left k h = other (rule.OnBodies on_bodies.Unfit) k refl h
+      of_both r n on.Right k h = other (rule.OnBodies on_bodies.Unfit) k refl h
 
-      of_name : (x : List ℕ) (a : Acts) (p : Place) (k : Rule) (b d : Bool) →
-          (if b then given (chance_rule a) else if d then given (symmetry_rule a) else of_bodies_rule (plain_rule x a p)) ≡ given k → Asked k
-      of_name x a p k true d h = of_chance a k (given_is (chance_rule a) k h)
-      of_name x a p k false true h = of_symmetry a k (given_is (symmetry_rule a) k h)
-      of_name x a p k false false h = let y = given_bind (plain_rule x a p) (λ z. given (rule.OnBodies z)) k h in other (rule.OnBodies y.0) k refl (given_is (rule.OnBodies y.0) k y.2)
+      of_name : (x : List ℕ) (a : Acts) (p : Place) (k : Rule) (b d e : Bool) →
+          (if b then given (chance_rule a) else if d then given (both_rule relational_rule.Symmetry a) else if e then given (both_rule relational_rule.Sim a) else of_bodies_rule (plain_rule x a p)) ≡ given k → Asked k
+      of_name x a p k true d e h = of_chance a k (given_is (chance_rule a) k h)
+      of_name x a p k false true e h = of_both relational_rule.Symmetry refl a k (given_is (both_rule relational_rule.Symmetry a) k h)
+      of_name x a p k false false true h = of_both relational_rule.Sim refl a k (given_is (both_rule relational_rule.Sim a) k h)
+      of_name x a p k false false false h = let y = given_bind (plain_rule x a p) (λ z. given (rule.OnBodies z)) k h in other (rule.OnBodies y.0) k refl (given_is (rule.OnBodies y.0) k y.2)
 
       of_sides : (a : Acts) (f : Node) (k : Rule) → sided_case_rule ds q a f ≡ given k → Asked k
       of_sides on.All f k h = of_case f k (judges_bodies (out-Term q.conclusion).head) h
@@ -265,7 +270,7 @@ module _ (ds : scope.Declarations) (scoped : IsTypedScope (declared ds)) (q : Se
       of_rule text.Proc x (b ∷ i ∷ []) p k h =
           let y = given_bind (absent (parts_of i) p) (λ _. given (rule.OnBodies (on_all (acts (parts_of b)) on_bodies.Proc))) k h in
           other (rule.OnBodies (on_all (acts (parts_of b)) on_bodies.Proc)) k refl (given_is (rule.OnBodies (on_all (acts (parts_of b)) on_bodies.Proc)) k y.2)
-      of_rule text.BodyStep x (b ∷ []) p k h = of_name x (acts (parts_of b)) p k (bytes_eq x (codes "hoare")) (bytes_eq x (codes "symmetry")) h
+      of_rule text.BodyStep x (b ∷ []) p k h = of_name x (acts (parts_of b)) p k (bytes_eq x (codes "hoare")) (bytes_eq x (codes "symmetry")) (bytes_eq x (codes "sim")) h
       of_rule text.Seq x (b ∷ n ∷ ns ∷ f ∷ bounds ∷ []) p k h =
           let o = given_bind (absent (parts_of bounds) p) (λ _. of_bodies_rule (seq_rule ds q (acts (parts_of b)) (cut_of n (parts_of ns)) f)) k h in
           let y = given_bind (seq_rule ds q (acts (parts_of b)) (cut_of n (parts_of ns)) f) (λ z. given (rule.OnBodies z)) k o.2 in
@@ -279,6 +284,7 @@ module _ (ds : scope.Declarations) (scoped : IsTypedScope (declared ds)) (q : Se
       of_rule text.PlainStep x [] p k h =
           let o = given_bind (conclusion_rule x p) (λ (a : AmbientRule). given (rule.Ambient a)) k h in other (rule.Ambient o.0) k refl (given_is (rule.Ambient o.0) k o.2)
       of_rule text.WhileStep x (b ∷ f ∷ []) p k h = of_while ds q Asked (λ v. tt) tt (acts (parts_of b)) f k h
+      of_rule text.Inline x (b ∷ n ∷ []) p k h = of_inlining Asked (λ a t. tt) ds q (acts (parts_of b)) (parts_of n) p k h
       of_rule text.CaseStep x (b ∷ f ∷ []) p k h =
           of_sides (acts (parts_of b)) f k h
       of_rule text.HaveForm x (n ∷ f ∷ []) p k h =

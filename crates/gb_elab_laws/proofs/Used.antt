@@ -163,12 +163,12 @@ module _ (ds : scope.Declarations) (scoped : IsTypedScope (declared ds)) (q : Se
   memory_named _ ps p s e = cc
 
   -- what the body of a quantifier over memories says of one of the context is typed
-  pub said_of_memory_typed : (i : ℕ) → IsNamedMemory here (side.Memory i) → (ls : List TypedName) (b : Term) → IsForm (within here memory (Some ls)) b →
-      reads_other_locals q (side.Memory i) (at_memory b i) ≡ false → IsForm here (at_memory b i)
+  said_of_memory_typed : (i : ℕ) → IsNamedMemory here (side.Memory i) → (ls : List TypedName) (b : Term) → IsForm (within here memory (Some ls)) b →
+      reads_other_locals false q (side.Memory i) (at_memory b i) ≡ false → IsForm here (at_memory b i)
   said_of_memory_typed i m ls b w e =
       subst
-      (λ d. IsNamedMemory d (side.Memory i) → ((x : Name) (u : Ty) → is_local q (side.Memory i) x u ≡ true → local_in (get_or d.named i None) x ≡ Some u) → IsForm (within d memory (Some ls)) b → IsForm d (at_memory b i))
-      (sym here_small) (λ n stands body. memory_typed base us ns i n.frame n.side q stands ls b body e) m (local_stands i (context_of (declared ds)) q t) w
+      (λ d. IsNamedMemory d (side.Memory i) → ((x : Name) (u : Ty) → is_local false q (side.Memory i) x u ≡ true → local_in (get_or d.named i None) x ≡ Some u) → IsForm (within d memory (Some ls)) b → IsForm d (at_memory b i))
+      (sym here_small) (λ n stands body. memory_typed base us ns i n.frame n.side false q ls (λ x u w. stands x u) b body e) m (local_stands i (context_of (declared ds)) q t) w
 
   memory_said : (f g b : Term) (a : Node) → IsForm here f → (out-Term f).head ≡ head.AllMemory → (out-Term f).args ≡ b ∷ [] → said_of ds q head.AllMemory (b ∷ []) a ≡ given g → Said f g
   memory_said f g b a w eh et k =
@@ -178,9 +178,9 @@ module _ (ds : scope.Declarations) (scoped : IsTypedScope (declared ds)) (q : Se
       let p = parts_typed here head.AllMemory (b ∷ []) r v.typed in
       let y = given_bind (memory_of ds q (head_of a) (parts_of a) (place_of a)) (λ s. said_of_memory q b s (place_of a)) g k in
       let m = memory_named (head_of a) (parts_of a) (place_of a) y.0 y.1 in
-      let z = if_unbuilt (reads_other_locals q y.0 (about_named b y.0)) (place_of a) (about_named b y.0) g y.2 in
+      let z = if_unbuilt (reads_other_locals false q y.0 (about_named b y.0)) (place_of a) (about_named b y.0) g y.2 in
       let same : at_memory b m.number ≡ g = ap (about_named b) (sym m.is) ∙ z.1 in
-      let known = subst (λ s. reads_other_locals q s (about_named b s) ≡ false) m.is z.0 in
+      let known = subst (λ s. reads_other_locals false q s (about_named b s) ≡ false) m.is z.0 in
       let place : IsNamedMemory here (side.Memory m.number) = subst (IsNamedMemory here) m.is m.named in
       let body : IsForm (within here memory (Some p.2)) b = record { typed = p.3; truth = p.0.0 } in
       let form : IsForm here (at_memory b m.number) = said_of_memory_typed m.number place p.2 b body known in

@@ -55,13 +55,14 @@ pub fn typed_rules()
         calls.IsTypedRule (of_sequent (context_of (declared ds)) q t.frames) s.rule ls rs (goal_of q.conclusion) }
 {}
 
-/// The form that a typed step on a conclusion brings to a typed goal of a typed scope is typed in the goal's context, and so is the form
-/// that a step uses, which is what a hypothesis of the goal says of typed terms, or a lemma, where lemmas state typed goals about procedures;
-/// so are the forms that `smt` is told to use, and those by which equals are put for equals.
+/// The form that a typed step on a conclusion brings to a typed goal of a typed scope is typed in the goal's context, in which a memory may
+/// then have further locals; and so is, in its context as it is, the form that a step uses, which is what a hypothesis of the goal says of
+/// typed terms, or a lemma, where lemmas state typed goals about procedures; so are the forms that `smt` is told to use, and those by which
+/// equals are put for equals.
 pub fn typed_forms()
     ensures conclusions { (ds : scope.Declarations) → IsTypedScope (declared ds) → (q : Sequent) (t : IsTypedSequent (context_of (declared ds)) q) →
         (n : Node) (s : Step) → step_given ds q n ≡ given s → (r : AmbientRule) → s.rule ≡ Ambient r →
-        IsTypedStep (of_sequent (context_of (declared ds)) q t.frames) q.conclusion r }
+        (u : IsTypedSequent (context_of (declared ds)) q) × IsTypedStep (of_sequent (context_of (declared ds)) q u.frames) q.conclusion r }
     ensures uses { (ds : scope.Declarations) → IsTypedScope (declared ds) → AreStated ds → (q : Sequent) (t : IsTypedSequent (context_of (declared ds)) q) →
         (n : Node) (s : Step) → step_given ds q n ≡ given s → (r : UseRule) → s.rule ≡ Use r →
         uses.IsTypedStep (declared ds) q (of_sequent (context_of (declared ds)) q t.frames) r }

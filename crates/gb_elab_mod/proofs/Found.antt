@@ -23,7 +23,8 @@ use Rattle.gb_terms.specs.declared.term.Head.TheVariants as head
 use Rattle.gb_terms.specs.declared.term.Head.TheViews.{the_lemmas, out-Head, roll-Head, roll-out-Head}
 use Rattle.gb_terms.specs.declared.term.Head.TheFolds.{map-Head, fold-Head, fold_out-Term, fold_out-Head}
 use Rattle.gb_terms.specs.Equal.{side_eq}
-use Rattle.gb_elab_mod.specs.Occurring.{Closed, Locals, added, at_head, at_term, local, or_args, read_locals, row_locals, row_read, statement_locals, with_all}
+use Rattle.gb_goal.specs.Scope.{Declarations, procedure_of}
+use Rattle.gb_elab_mod.specs.Occurring.{Closed, Locals, added, at_head, at_term, local, or_args, read_locals, returned, row_locals, row_read, statement_locals, with_all}
 use mathlib.Core.Former.{Count}
 
 pub with_append : (vs xs ys : List TypedName) → with_all vs (xs ++ ys) ≡ with_all (with_all vs xs) ys
@@ -89,18 +90,21 @@ row_terms : {n : Count} (r : Row_of-Term n) → row_read r ≡ flat_map (λ t. r
 row_terms end_of-Term = refl
 row_terms (more_of-Term t r) = ap (λ xs. read_locals t side.Own ++ xs) (row_terms r)
 
-row_body : {n : Count} (r : Row_of-Instr n) → row_locals r ≡ flat_map statement_locals (items-the_row-Instr _ r)
-row_body end_of-Instr = refl
-row_body (more_of-Instr i r) = ap (λ xs. statement_locals i ++ xs) (row_body r)
+module _ (ds : Declarations) where
+  row_body : {n : Count} (r : Row_of-Instr n) → row_locals ds r ≡ flat_map (statement_locals ds) (items-the_row-Instr _ r)
+  row_body end_of-Instr = refl
+  row_body (more_of-Instr i r) = ap (λ xs. statement_locals ds i ++ xs) (row_body r)
 
-body_locals : (is : List Instr) → row_locals (B.hidden-the_row-Instr-1 is) ≡ flat_map statement_locals is
-body_locals is = row_body (B.hidden-the_row-Instr-1 is) ∙ ap (flat_map statement_locals) (items_hidden-the_row-Instr-1 is)
+  body_locals : (is : List Instr) → row_locals ds (B.hidden-the_row-Instr-1 is) ≡ flat_map (statement_locals ds) is
+  body_locals is = row_body (B.hidden-the_row-Instr-1 is) ∙ ap (flat_map (statement_locals ds)) (items_hidden-the_row-Instr-1 is)
 
-pub call_locals : (xs : List Var) (p : ProcRef) (es : List Term) → statement_locals (Call xs p es) ≡ flat_map (λ t. read_locals t side.Own) es
-call_locals xs p es = row_terms (B.hidden-the_row-Term-0 es) ∙ ap (flat_map (λ t. read_locals t side.Own)) (items_hidden-the_row-Term-0 es)
+  pub call_locals : (xs : List Var) (p : ProcRef) (es : List Term) → statement_locals ds (Call xs p es) ≡ returned xs (procedure_of ds p) ++ flat_map (λ t. read_locals t side.Own) es
+  call_locals xs p es =
+      ap (λ ys. returned xs (procedure_of ds p) ++ ys) (row_terms (B.hidden-the_row-Term-0 es) ∙ ap (flat_map (λ t. read_locals t side.Own)) (items_hidden-the_row-Term-0 es))
 
-pub if_locals : (e : Term) (a b : Cmd) → statement_locals (If e a b) ≡ read_locals e side.Own ++ (flat_map statement_locals a.list ++ flat_map statement_locals b.list)
-if_locals e a b = λ i. read_locals e side.Own ++ (body_locals a.list i ++ body_locals b.list i)
+  pub if_locals : (e : Term) (a b : Cmd) →
+      statement_locals ds (If e a b) ≡ read_locals e side.Own ++ (flat_map (statement_locals ds) a.list ++ flat_map (statement_locals ds) b.list)
+  if_locals e a b = λ i. read_locals e side.Own ++ (body_locals a.list i ++ body_locals b.list i)
 
-pub while_locals : (e v : Term) (a : Cmd) → statement_locals (While e v a) ≡ read_locals e side.Own ++ (read_locals v side.Own ++ flat_map statement_locals a.list)
-while_locals e v a = λ i. read_locals e side.Own ++ (read_locals v side.Own ++ body_locals a.list i)
+  pub while_locals : (e v : Term) (a : Cmd) → statement_locals ds (While e v a) ≡ read_locals e side.Own ++ (read_locals v side.Own ++ flat_map (statement_locals ds) a.list)
+  while_locals e v a = λ i. read_locals e side.Own ++ (read_locals v side.Own ++ body_locals a.list i)

@@ -5,6 +5,7 @@ use Rattle.gb_core.specs.declared.ty.Ty.{Ty, out-Ty}
 use Rattle.gb_core.specs.declared.ty.Ty.TheOpen as ty_layer
 use Rattle.gb_core.specs.declared.var.Var.{Var}
 use Rattle.gb_core.specs.declared.var.Var.TheVariants.{Local}
+use Rattle.gb_terms.specs.declared.decl.Proc.{Proc}
 use Rattle.gb_terms.specs.declared.decl.TypedName.{TypedName}
 use Rattle.gb_terms.specs.declared.op.Side.{Side}
 use Rattle.gb_terms.specs.declared.op.Side.TheVariants as side
@@ -15,6 +16,7 @@ use Rattle.gb_terms.specs.declared.term.Head.TheOpen as layer
 use Rattle.gb_terms.specs.declared.term.Head.TheFolds.{fold-Term}
 use Rattle.gb_terms.specs.declared.term.Instr.{Instr, Row_of-Instr, end_of-Instr, more_of-Instr}
 use Rattle.gb_terms.specs.Equal.{side_eq}
+use Rattle.gb_goal.specs.Scope.{Declarations, procedure_of}
 
 -- the local that a variable of this type is
 abbrev pub local : Var → Ty → List TypedName
@@ -52,13 +54,28 @@ abbrev pub outcome_local : Var → ty_layer.Ty-F Ty → List TypedName
 outcome_local x (ty_layer.Distr t) = local x t
 outcome_local x _ = []
 
--- the locals that a sampling, and that an assignment writes
+-- the local that a sampling writes
 abbrev pub sampled : Var → Term → List TypedName
 sampled x d = outcome_local x (out-Ty (out-Term d).ty)
 
-abbrev pub assigned : List Var → Term → List TypedName
-assigned (x ∷ []) e = local x (out-Term e).ty
-assigned _ e = []
+-- the locals that variables of these types are
+abbrev pub each_local : List Var → List Ty → List TypedName
+each_local (x ∷ xs) (t ∷ ts) = local x t ++ each_local xs ts
+each_local _ _ = []
+
+abbrev pub part_locals : List Var → ty_layer.Ty-F Ty → List TypedName
+part_locals xs (ty_layer.Tuple ts) = each_local xs ts
+part_locals xs _ = []
+
+-- the locals that take a value of a type: one alone takes all of it, several its parts
+abbrev pub taking : List Var → Ty → List TypedName
+taking (x ∷ []) t = local x t
+taking xs t = part_locals xs (out-Ty t)
+
+-- the locals that take the result of a procedure
+abbrev pub returned : List Var → Option Proc → List TypedName
+returned xs None = []
+returned xs (Some f) = taking xs f.result
 
 -- the locals that terms of a program read
 abbrev pub row_read : {n : _} → Row_of-Term n → List TypedName
@@ -67,16 +84,16 @@ row_read (more_of-Term t ts) = read_locals t side.Own ++ row_read ts
 
 abbrev mutual
   -- the locals that a statement writes and reads, with those of the statements in it
-  pub statement_locals : Instr → List TypedName
-  statement_locals (Assign xs e) = assigned xs e ++ read_locals e side.Own
-  statement_locals (Sample x d) = sampled x d ++ read_locals d side.Own
-  statement_locals (Call' xs p n es) = row_read es
-  statement_locals (If' e m a n b) = read_locals e side.Own ++ (row_locals a ++ row_locals b)
-  statement_locals (While' e v n a) = read_locals e side.Own ++ (read_locals v side.Own ++ row_locals a)
+  pub statement_locals : Declarations → Instr → List TypedName
+  statement_locals ds (Assign xs e) = taking xs (out-Term e).ty ++ read_locals e side.Own
+  statement_locals ds (Sample x d) = sampled x d ++ read_locals d side.Own
+  statement_locals ds (Call' xs p n es) = returned xs (procedure_of ds p) ++ row_read es
+  statement_locals ds (If' e m a n b) = read_locals e side.Own ++ (row_locals ds a ++ row_locals ds b)
+  statement_locals ds (While' e v n a) = read_locals e side.Own ++ (read_locals v side.Own ++ row_locals ds a)
 
-  pub row_locals : {n : _} → Row_of-Instr n → List TypedName
-  row_locals end_of-Instr = []
-  row_locals (more_of-Instr i is) = statement_locals i ++ row_locals is
+  pub row_locals : {n : _} → Declarations → Row_of-Instr n → List TypedName
+  row_locals ds end_of-Instr = []
+  row_locals ds (more_of-Instr i is) = statement_locals ds i ++ row_locals ds is
 
 -- a local beside others, where none of them has its name
 abbrev pub added : List TypedName → TypedName → List TypedName
@@ -87,5 +104,5 @@ with_all vs [] = vs
 with_all vs (x ∷ xs) = with_all (added vs x) xs
 
 -- the locals that conditions read through the memory of a side and that the body of this side reads or writes, each once
-abbrev pub occurring : List Term → Side → List Instr → List TypedName
-occurring ts s is = with_all [] (flat_map (λ t. read_locals t s) ts ++ flat_map statement_locals is)
+abbrev pub occurring : Declarations → List Term → Side → List Instr → List TypedName
+occurring ds ts s is = with_all [] (flat_map (λ t. read_locals t s) ts ++ flat_map (statement_locals ds) is)

@@ -17,27 +17,28 @@ use Rattle.gb_goal.specs.declared.sequent.Sequent.{Sequent}
 use Rattle.gb_names.specs.Environment.{Name}
 use Rattle.gb_names.specs.Locals.{locals_in}
 
--- the first of these has this type
-abbrev pub begins_at : List TypedName → Ty → Bool
-begins_at [] t = false
-begins_at (v ∷ vs) t = ty_eq v.ty t
+-- the first of these has this type; where there is none, it is told
+abbrev pub begins_at : Bool → List TypedName → Ty → Bool
+begins_at further [] t = further
+begins_at further (v ∷ vs) t = ty_eq v.ty t
 
--- the goal reads the local of this name in a memory of its context, at this type
-abbrev pub is_local : Sequent → Side → Name → Ty → Bool
-is_local q s x t = begins_at (locals_in q s x) t
+-- The goal reads the local of this name in a memory of its context at this type. It is told whether it may be one that the goal doesn't
+-- read there.
+abbrev pub is_local : Bool → Sequent → Side → Name → Ty → Bool
+is_local further q s x t = begins_at further (locals_in q s x) t
 
-abbrev pub at_head : Sequent → Side → layer.Head-F (Ty → Bool) (Unit {0}) (Unit {0}) (Unit {0}) Bool → Ty → Bool
-at_head q s (layer.Read (Program (Local x) r)) t = side_eq r s && not (is_local q s x t)
-at_head q s _ t = false
+abbrev pub at_head : Bool → Sequent → Side → layer.Head-F (Ty → Bool) (Unit {0}) (Unit {0}) (Unit {0}) Bool → Ty → Bool
+at_head further q s (layer.Read (Program (Local x) r)) t = side_eq r s && not (is_local further q s x t)
+at_head further q s _ t = false
 
 abbrev pub at_term : layer.Term-F (Ty → Bool) (Unit {0}) (Unit {0}) (Unit {0}) Bool → Bool
 at_term t = t.head t.ty || list_any (λ b. b) t.args
 
--- a term reads a local in a memory of the context that the goal doesn't read there at this type
-abbrev pub reads_other_locals : Sequent → Side → Term → Bool
-reads_other_locals q s = fold-Term (Ty → Bool) (Unit {0}) (Unit {0}) (Unit {0}) Bool (at_head q s) (λ i. tt) (λ j. tt) (λ c. tt) at_term
+-- a term reads a local in a memory of the context that the goal doesn't read there, or reads at another type
+abbrev pub reads_other_locals : Bool → Sequent → Side → Term → Bool
+reads_other_locals further q s = fold-Term (Ty → Bool) (Unit {0}) (Unit {0}) (Unit {0}) Bool (at_head further q s) (λ i. tt) (λ j. tt) (λ c. tt) at_term
 
 -- the same of heads, by their constructors
-abbrev pub head_reads : Sequent → Side → Head → Ty → Bool
-head_reads q s (head.Read (Program (Local x) r)) t = side_eq r s && not (is_local q s x t)
-head_reads q s _ t = false
+abbrev pub head_reads : Bool → Sequent → Side → Head → Ty → Bool
+head_reads further q s (head.Read (Program (Local x) r)) t = side_eq r s && not (is_local further q s x t)
+head_reads further q s _ t = false

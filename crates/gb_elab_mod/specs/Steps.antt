@@ -31,11 +31,14 @@ use Rattle.gb_steps.specs.declared.step.ChanceRule.TheVariants as with_chance
 use Rattle.gb_steps.specs.declared.step.Transformation.TheVariants as transformation
 use Rattle.gb_steps.specs.declared.step.Acts.{Acts}
 use Rattle.gb_steps.specs.declared.step.Acts.TheVariants as on
+use Rattle.gb_steps.specs.declared.step.Calls.{Calls}
+use Rattle.gb_steps.specs.declared.step.Calls.TheVariants as calls
 use Rattle.gb_steps.specs.declared.step.Cut.{Cut}
 use Rattle.gb_steps.specs.declared.step.Cut.TheVariants as cut
 use Rattle.gb_goal.specs.Goal.{Code, Goal, goal_of}
 use Rattle.gb_goal.specs.Goal.Code.{body, procedure}
 use Rattle.gb_goal.specs.Goal.Goal.{hoare, phoare, equiv}
+use Rattle.gb_steps.specs.declared.step.RelationalRule.{RelationalRule}
 use Rattle.gb_steps.specs.declared.step.RelationalRule.TheVariants as relational_rule
 use Rattle.gb_steps.specs.declared.step.Step.{Step}
 use Rattle.gb_steps.specs.declared.step.RewriteRule.TheVariants as rewrite_rule
@@ -108,7 +111,7 @@ one_type _ a b = given tt
 abbrev pub between : Declarations → Sequent → List Node → Cmd × Cmd → Ty × Ty → Answer (List Term)
 between ds g fs c t =
     one_type fs t.0 t.1 >>= λ _. there_and_back
-    (of_function ds g (occurring (out-Term g.conclusion).args side.Left c.0.list) (occurring (out-Term g.conclusion).args side.Right c.1.list))
+    (of_function ds g (occurring ds (out-Term g.conclusion).args side.Left c.0.list) (occurring ds (out-Term g.conclusion).args side.Right c.1.list))
     fs
     t.0
     t.1
@@ -174,10 +177,10 @@ cut_of n (m ∷ ms) = cut.Two (position n) (position m)
 -- bodies the form has no type, and the rule refuses the goal.
 unfoldable pub cut_rule : Declarations → Sequent → Cut → Node → Goal → Answer BodyRule
 cut_rule ds s (cut.One k) r (hoare (body is) p q) = do
-  f ← elaborated r (unary ds s (occurring (p ∷ q ∷ []) side.Own is)) [] (Some bool_ty)
+  f ← elaborated r (unary ds s (occurring ds (p ∷ q ∷ []) side.Own is)) [] (Some bool_ty)
   given (on_bodies.Seq (cut.One k) f)
 cut_rule ds s (cut.Two k l) r (equiv (body is) (body js) p q) = do
-  f ← elaborated r (relational ds s (occurring (p ∷ q ∷ []) side.Left is) (occurring (p ∷ q ∷ []) side.Right js)) [] (Some bool_ty)
+  f ← elaborated r (relational ds s (occurring ds (p ∷ q ∷ []) side.Left is) (occurring ds (p ∷ q ∷ []) side.Right js)) [] (Some bool_ty)
   given (on_bodies.Seq (cut.Two k l) f)
 cut_rule ds s k r G = given on_bodies.Unfit
 
@@ -195,16 +198,17 @@ abbrev pub chance_rule : Acts → Rule
 chance_rule on.All = rule.Chance with_chance.Hoare
 chance_rule a = rule.OnBodies on_bodies.Unfit
 
--- a rule on equivalences, which speak of both programs
-abbrev pub symmetry_rule : Acts → Rule
-symmetry_rule on.All = rule.Relational relational_rule.Symmetry
-symmetry_rule a = rule.OnBodies on_bodies.Unfit
+-- a rule on equivalences, which acts on both programs
+abbrev pub both_rule : RelationalRule → Acts → Rule
+both_rule r on.All = rule.Relational r
+both_rule r a = rule.OnBodies on_bodies.Unfit
 
 -- a rule on programs, by its name alone
 abbrev pub named_rule : List ℕ → Acts → Place → Answer Rule
 named_rule x a p =
     if bytes_eq x (codes "hoare") then given (chance_rule a)
-    else if bytes_eq x (codes "symmetry") then given (symmetry_rule a) else of_bodies_rule (plain_rule x a p)
+    else if bytes_eq x (codes "symmetry") then given (both_rule relational_rule.Symmetry a)
+    else if bytes_eq x (codes "sim") then given (both_rule relational_rule.Sim a) else of_bodies_rule (plain_rule x a p)
 
 -- the steps on a conclusion that stand alone
 abbrev pub conclusion_rule : List ℕ → Place → Answer AmbientRule
@@ -224,13 +228,13 @@ formed ds g f = elaborated f (ambient ds g) [] (Some bool_ty)
 -- A form that a step says of the bodies of a judgment, which reads the locals that occur in the goal. Other goals give it no type.
 unfoldable pub said_of_bodies : Declarations → Sequent → Node → Goal → Answer (Option Term)
 said_of_bodies ds s r (hoare (body is) p q) = do
-  f ← elaborated r (unary ds s (occurring (p ∷ q ∷ []) side.Own is)) [] (Some bool_ty)
+  f ← elaborated r (unary ds s (occurring ds (p ∷ q ∷ []) side.Own is)) [] (Some bool_ty)
   given (Some f)
 said_of_bodies ds s r (phoare (body is) o p q b) = do
-  f ← elaborated r (unary ds s (occurring (p ∷ q ∷ []) side.Own is)) [] (Some bool_ty)
+  f ← elaborated r (unary ds s (occurring ds (p ∷ q ∷ []) side.Own is)) [] (Some bool_ty)
   given (Some f)
 said_of_bodies ds s r (equiv (body is) (body js) p q) = do
-  f ← elaborated r (relational ds s (occurring (p ∷ q ∷ []) side.Left is) (occurring (p ∷ q ∷ []) side.Right js)) [] (Some bool_ty)
+  f ← elaborated r (relational ds s (occurring ds (p ∷ q ∷ []) side.Left is) (occurring ds (p ∷ q ∷ []) side.Right js)) [] (Some bool_ty)
   given (Some f)
 said_of_bodies ds s r G = given None
 
@@ -276,11 +280,11 @@ result_if None = []
 result_if (Some f) = result_of f
 
 abbrev pub locals_before : Declarations → Term → Term → Side → Code → List TypedName
-locals_before ds p q r (body is) = occurring (p ∷ q ∷ []) r is
+locals_before ds p q r (body is) = occurring ds (p ∷ q ∷ []) r is
 locals_before ds p q r (procedure f) = params_if (procedure_of ds f)
 
 abbrev pub locals_after : Declarations → Term → Term → Side → Code → List TypedName
-locals_after ds p q r (body is) = occurring (p ∷ q ∷ []) r is
+locals_after ds p q r (body is) = occurring ds (p ∷ q ∷ []) r is
 locals_after ds p q r (procedure f) = result_if (procedure_of ds f)
 
 -- a term of this type, if one is written
@@ -341,11 +345,17 @@ contract_of_both ds s a pre post (Some r) (Some q) = do
   given (rule.Call (record { acts = a; pre = f; post = h }))
 contract_of_both ds s a pre post _ _ = given (rule.OnBodies on_bodies.Unfit)
 
--- the same at a judgment on a body that ends with a call, or on two such bodies; other goals give the forms no types
+-- the same of two bodies, or of the one of them on which the step acts
+abbrev pub contract_on : Declarations → Sequent → Acts → Node → Node → List Instr → List Instr → Answer Rule
+contract_on ds s on.All pre post is js = contract_of_both ds s on.All pre post (last_procedure is) (last_procedure js)
+contract_on ds s on.Left pre post is js = contract_of ds s on.Left pre post (last_procedure is)
+contract_on ds s on.Right pre post is js = contract_of ds s on.Right pre post (last_procedure js)
+
+-- the same at a judgment on a body that ends with a call, or on two bodies; other goals give the forms no types
 abbrev pub contract_at : Declarations → Sequent → Acts → Node → Node → Goal → Answer Rule
 contract_at ds s a pre post (hoare (body is) p q) = contract_of ds s a pre post (last_procedure is)
 contract_at ds s a pre post (phoare (body is) r p q b) = contract_of ds s a pre post (last_procedure is)
-contract_at ds s a pre post (equiv (body is) (body js) p q) = contract_of_both ds s a pre post (last_procedure is) (last_procedure js)
+contract_at ds s a pre post (equiv (body is) (body js) p q) = contract_on ds s a pre post is js
 contract_at ds s a pre post G = given (rule.OnBodies on_bodies.Unfit)
 
 -- The rules on calls by what the procedures are said to do, and by a judgment of them that is known, are built.
@@ -398,12 +408,12 @@ value_witness ds g e = do
   t ← elaborated e (ambient ds g) [] (asked_of (out-Term g.conclusion).head)
   given (conclusion.Witness t)
 
--- whether what a conclusion with this head and these arguments says to exist has locals, in this memory, that the goal doesn't read there
+-- whether what a conclusion with this head and these arguments says to exist has locals that the goal reads in this memory at another type
 abbrev pub asks_for_locals : Sequent → Side → Head → List Term → Bool
-asks_for_locals g s head.SomeMemory (b ∷ []) = reads_other_locals g s (about_named b s)
+asks_for_locals g s head.SomeMemory (b ∷ []) = reads_other_locals true g s (about_named b s)
 asks_for_locals g s h ts = false
 
--- a memory of the context, for one that is said to exist; where that has locals which the goal doesn't read in this one it isn't built
+-- a memory of the context, for one that is said to exist; where that has locals which the goal reads in this one at another type it isn't built
 abbrev pub memory_witness : Sequent → Side → Place → Answer AmbientRule
 memory_witness g (side.Memory i) p =
     if asks_for_locals g (side.Memory i) (out-Term g.conclusion).head (out-Term g.conclusion).args then not_built p else given (conclusion.WitnessMemory i)
@@ -435,17 +445,13 @@ passing_rule a n text.Forward (d ∷ []) p = given (passing n d false a)
 passing_rule a n text.Backward (d ∷ []) p = given (passing n d true a)
 passing_rule a n k ds p = not_built p
 
--- A guard at a place that is always true, or false. (On one of two programs it isn't built.)
-abbrev pub decided_rule : Bool → Acts → ℕ → Place → Answer Rule
-decided_rule t on.All i p = given (rule.Transform on.All (transformation.Decided i t))
-decided_rule t a i p = not_built p
-
 -- a rule on the statement at a place
 abbrev pub placed_rule : List ℕ → Acts → ℕ → Place → Answer Rule
 placed_rule x a i p =
-    if bytes_eq x (codes "rcondt") then decided_rule true a i p
-    else if bytes_eq x (codes "rcondf") then decided_rule false a i p
-    else if bytes_eq x (codes "unroll") then given (rule.Transform a (transformation.Unroll i)) else not_built p
+    if bytes_eq x (codes "rcondt") then given (rule.Transform a (transformation.Decided i true))
+    else if bytes_eq x (codes "rcondf") then given (rule.Transform a (transformation.Decided i false))
+    else if bytes_eq x (codes "unroll") then given (rule.Transform a (transformation.Unroll i))
+    else if bytes_eq x (codes "kill") then given (rule.Transform a (transformation.Kill i)) else not_built p
 
 -- a rule that puts other statements into a program, or a pattern
 abbrev pub transforming_rule : Kind → List ℕ → List Node → Place → Answer Rule
@@ -483,9 +489,23 @@ used_rule ds g text.HaveLemma x (n ∷ t ∷ []) p = do
   given (rule.Use (use_rule.Have (text_of n) f))
 used_rule ds g k x ps p = equals_rule ds g k x ps p
 
--- the rule on loops, one that uses what is known, or another one
+-- the calls that a step inlines: all of them, or those of the procedure that is named
+abbrev pub calls_of : Declarations → Sequent → List Node → Place → Answer Calls
+calls_of ds g [] p = given calls.All
+calls_of ds g (f ∷ []) p = do
+  m ← named_procedure (ambient ds g) [] (head_of f) (parts_of f) (place_of f)
+  given (calls.Of m.0)
+calls_of ds g fs p = not_built p
+
+abbrev pub inlining_rule : Declarations → Sequent → Acts → List Node → Place → Answer Rule
+inlining_rule ds g a fs p = do
+  w ← calls_of ds g fs p
+  given (rule.Transform a (transformation.Inline w))
+
+-- the rule on loops, `inline`, a rule that uses what is known, or another one
 abbrev pub looping_rule : Declarations → Sequent → Kind → List ℕ → List Node → Place → Answer Rule
 looping_rule ds g text.WhileStep x (b ∷ f ∷ []) p = while_rule ds g (acts (parts_of b)) f
+looping_rule ds g text.Inline x (b ∷ n ∷ []) p = inlining_rule ds g (acts (parts_of b)) (parts_of n) p
 looping_rule ds g k x ps p = used_rule ds g k x ps p
 
 -- a form is shown, and then is a hypothesis under a new name

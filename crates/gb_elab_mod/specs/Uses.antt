@@ -61,7 +61,7 @@ about_named b s = term_changed b (ToSide (side.Bound 0) s ∷ [])
 
 -- What the body of a `forall` over memories says of a memory. Where it reads locals there that the goal doesn't, this isn't built.
 abbrev pub said_of_memory : Sequent → Term → Side → Place → Answer Term
-said_of_memory q b s p = if reads_other_locals q s (about_named b s) then not_built p else given (about_named b s)
+said_of_memory q b s p = if reads_other_locals false q s (about_named b s) then not_built p else given (about_named b s)
 
 -- what a form with this head and these arguments says of an argument: it is a `forall`
 abbrev pub said_of : Declarations → Sequent → Head → List Term → Node → Answer Term

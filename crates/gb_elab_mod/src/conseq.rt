@@ -51,7 +51,7 @@ fn locals_before(
 {
     match code {
         Code::Body(list) => {
-            occurring_between(alloc, conditions.pre, conditions.post, side, list)
+            occurring_between(alloc, scope, conditions.pre, conditions.post, side, list)
         }
         Code::Procedure(named) => match scope.procedure(named) {
             Some(procedure) => copy_typed(alloc, procedure.params.as_slice()),
@@ -72,7 +72,7 @@ fn locals_after(
 {
     match code {
         Code::Body(list) => {
-            occurring_between(alloc, conditions.pre, conditions.post, side, list)
+            occurring_between(alloc, scope, conditions.pre, conditions.post, side, list)
         }
         Code::Procedure(named) => match scope.procedure(named) {
             Some(procedure) => result_of(alloc, procedure),

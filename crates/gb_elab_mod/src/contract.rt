@@ -8,7 +8,7 @@ ghost use Rattle.gb_goal.specs.Scope.{procedure_of};
 ghost use Rattle.gb_goal.specs.Views.{goal_seen};
 ghost use Rattle.gb_elab.specs.Forms.{elaborated};
 ghost use Rattle.gb_names.specs.Environment.{environment, relational};
-ghost use Rattle.gb_elab_mod.specs.Steps.{call_rule, contract_at, contract_of, contract_of_both, last_procedure, params_if, procedure_called, result_if};
+ghost use Rattle.gb_elab_mod.specs.Steps.{call_rule, contract_at, contract_of, contract_of_both, contract_on, last_procedure, params_if, procedure_called, result_if};
 
 use crate::uses::used;
 use gb_core::place::Place;
@@ -156,6 +156,27 @@ fn contract_of_both(
     Ok(Rule::Call(Contract { acts, pre, post }))
 }
 
+/// The same of two bodies, or of the one of them on which the step acts.
+fn contract_on(
+    alloc: Global,
+    scope: &Scope,
+    goal: &Sequent,
+    acts: Acts,
+    pre: &Node,
+    post: &Node,
+    left: &[Instr],
+    right: &[Instr],
+) -> Result<Rule, Refused>
+    ensures { Answers (contract_on scope.now goal.now acts pre.now post.now left.now right.now) result }
+{
+    let (first, second) = (last_procedure(left), last_procedure(right));
+    match acts {
+        Acts::All => contract_of_both(alloc, scope, goal, acts, pre, post, first, second),
+        Acts::Left => contract_of(alloc, scope, goal, acts, pre, post, first),
+        Acts::Right => contract_of(alloc, scope, goal, acts, pre, post, second),
+    }
+}
+
 /// The same at a goal that is seen so.
 fn contract_at(
     alloc: Global,
@@ -173,8 +194,7 @@ fn contract_at(
             contract_of(alloc, scope, goal, acts, pre, post, last_procedure(list))
         }
         Goal::Equiv(Code::Body(left), Code::Body(right), _, _) => {
-            let (left, right) = (last_procedure(left), last_procedure(right));
-            contract_of_both(alloc, scope, goal, acts, pre, post, left, right)
+            contract_on(alloc, scope, goal, acts, pre, post, left, right)
         }
         _ => Ok(Rule::OnBodies(BodyRule::Unfit)),
     }

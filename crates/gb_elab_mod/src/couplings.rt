@@ -125,8 +125,8 @@ fn couplings(
     };
     refuse_one_way(functions, from.get(), to.get())?;
     let conditions = s.conclusion.args.as_slice();
-    let on_left = occurring(alloc, conditions, Side::Left, left.list.as_slice())?;
-    let on_right = occurring(alloc, conditions, Side::Right, right.list.as_slice())?;
+    let on_left = occurring(alloc, scope, conditions, Side::Left, left.list.as_slice())?;
+    let on_right = occurring(alloc, scope, conditions, Side::Right, right.list.as_slice())?;
     let at = Setting::function(scope, s, on_left.as_slice(), on_right.as_slice());
     there_and_back(alloc, &at, functions, from, to)
 }

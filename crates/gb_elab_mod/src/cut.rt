@@ -55,9 +55,9 @@ fn on_one(
     post: &Form,
     tree: &Node,
 ) -> Result<Form, Refused>
-    ensures { Answers (elaborated tree.now (unary scope.now goal.now (occurring (pre.now ∷ post.now ∷ []) Own body.now)) [] (Some Ty.Bool)) result }
+    ensures { Answers (elaborated tree.now (unary scope.now goal.now (occurring scope.now (pre.now ∷ post.now ∷ []) Own body.now)) [] (Some Ty.Bool)) result }
 {
-    let locals = occurring_between(alloc, pre, post, Side::Own, body)?;
+    let locals = occurring_between(alloc, scope, pre, post, Side::Own, body)?;
     let setting = Setting::unary(scope, goal, locals.as_slice());
     typed(alloc, &setting, &[], tree, Some(&Ty::Bool))
 }
@@ -72,11 +72,11 @@ fn on_two(
     post: &Form,
     tree: &Node,
 ) -> Result<Form, Refused>
-    ensures { Answers (elaborated tree.now (relational scope.now goal.now (occurring (pre.now ∷ post.now ∷ []) Left bodies.entry.0.now) (occurring (pre.now ∷ post.now ∷ []) Right bodies.entry.1.now)) [] (Some Ty.Bool)) result }
+    ensures { Answers (elaborated tree.now (relational scope.now goal.now (occurring scope.now (pre.now ∷ post.now ∷ []) Left bodies.entry.0.now) (occurring scope.now (pre.now ∷ post.now ∷ []) Right bodies.entry.1.now)) [] (Some Ty.Bool)) result }
 {
     let (left, right) = bodies;
-    let left = occurring_between(alloc, pre, post, Side::Left, left)?;
-    let right = occurring_between(alloc, pre, post, Side::Right, right)?;
+    let left = occurring_between(alloc, scope, pre, post, Side::Left, left)?;
+    let right = occurring_between(alloc, scope, pre, post, Side::Right, right)?;
     let setting = Setting::relational(scope, goal, left.as_slice(), right.as_slice());
     typed(alloc, &setting, &[], tree, Some(&Ty::Bool))
 }

@@ -1,15 +1,19 @@
 // The locals of the bodies of a goal: those that occur in it, each with the type that it has there.
 
 ghost use Rattle.std.specs.Prelude.{◌≡◌, [], ◌∷◌, flat_map, if◌then◌else◌, IfOk, OnOk};
-ghost use Rattle.gb_elab_mod.specs.Occurring.{added, assigned, local, occurring, read_locals, sampled, statement_locals, with_all};
+ghost use Rattle.gb_goal.specs.Scope.{procedure_of};
+ghost use Rattle.gb_elab_mod.specs.Occurring.{added, each_local, local, occurring, read_locals, returned, sampled, statement_locals, taking, with_all};
 
+use gb_core::copy::copy_ty;
 use gb_core::name::Name;
 use gb_core::ty::Ty;
 use gb_core::var::Var;
 use gb_elab_prog::procedure::is_local;
+use gb_goal::scope::Scope;
 use gb_names::binders::variable;
 use gb_shared::Shared;
 use gb_terms::decl::Typed;
+use gb_terms::module::ProcRef;
 use gb_terms::op::{Read, Side};
 use gb_terms::same::same_side;
 use gb_terms::term::{Head, Instr, Term};
@@ -21,15 +25,16 @@ use std::alloc::{AllocError, Global};
 #[tactic(auto, using(crate::proofs::Found::with_append))]
 pub fn occurring(
     alloc: Global,
+    scope: &Scope,
     conditions: &[Term],
     side: Side,
     body: &[Instr],
 ) -> Result<Typed, AllocError>
-    ensures { IfOk result (λ found. found ≡ occurring conditions.now side body.now) }
+    ensures { IfOk result (λ found. found ≡ occurring scope.now conditions.now side body.now) }
 {
     let mut found = Items::new(alloc);
     in_terms(alloc, &mut found, conditions, side)?;
-    in_body(alloc, &mut found, body)?;
+    in_body(alloc, scope, &mut found, body)?;
     Ok(found)
 }
 
@@ -37,17 +42,18 @@ pub fn occurring(
 #[tactic(auto, using(crate::proofs::Found::with_append))]
 pub fn occurring_between(
     alloc: Global,
+    scope: &Scope,
     pre: &Term,
     post: &Term,
     side: Side,
     body: &[Instr],
 ) -> Result<Typed, AllocError>
-    ensures { IfOk result (λ found. found ≡ occurring (pre.now ∷ post.now ∷ []) side body.now) }
+    ensures { IfOk result (λ found. found ≡ occurring scope.now (pre.now ∷ post.now ∷ []) side body.now) }
 {
     let mut found = Items::new(alloc);
     in_term(alloc, &mut found, pre, side)?;
     in_term(alloc, &mut found, post, side)?;
-    in_body(alloc, &mut found, body)?;
+    in_body(alloc, scope, &mut found, body)?;
     Ok(found)
 }
 
@@ -131,57 +137,107 @@ fn in_target(alloc: Global, found: &mut Typed, var: &Var, from: &Term) -> Result
     }
 }
 
-/// Adds the local that an assignment writes.
+/// Adds the locals that variables of these types are.
+#[tactic(auto, using(crate::proofs::Found::with_append))]
+fn in_parts(alloc: Global, found: &mut Typed, vars: &[Var], types: &[Ty]) -> Result<(), AllocError>
+    ensures { OnOk result (found.new ≡ with_all found.old (each_local vars.now types.now)) }
+{
+    match vars {
+        [] => Ok(()),
+        [var, others @ ..] => match types {
+            [] => Ok(()),
+            [ty, rest @ ..] => {
+                let ty = Shared::new(alloc, copy_ty(alloc, ty)?)?;
+                add_variable(alloc, found, var, &ty)?;
+                in_parts(alloc, found, others, rest)
+            }
+        },
+    }
+}
+
+/// Adds the locals that take a value of a type: one alone takes all of it, several its parts.
 fn in_targets(
     alloc: Global,
     found: &mut Typed,
     vars: &[Var],
-    value: &Term,
+    ty: &Shared<Ty>,
 ) -> Result<(), AllocError>
-    ensures { OnOk result (found.new ≡ with_all found.old (assigned vars.now value.now)) }
+    ensures { OnOk result (found.new ≡ with_all found.old (taking vars.now ty.now)) }
 {
     match vars {
-        [var] => add_variable(alloc, found, var, &value.ty),
-        _ => Ok(()),
+        [var] => add_variable(alloc, found, var, ty),
+        _ => match ty.get() {
+            Ty::Tuple(parts) => in_parts(alloc, found, vars, parts.as_slice()),
+            _ => Ok(()),
+        },
+    }
+}
+
+/// Adds the locals that take the result of a procedure.
+fn in_result(
+    alloc: Global,
+    scope: &Scope,
+    found: &mut Typed,
+    vars: &[Var],
+    called: &ProcRef,
+) -> Result<(), AllocError>
+    ensures { OnOk result (found.new ≡ with_all found.old (returned vars.now (procedure_of scope.now called.now))) }
+{
+    match scope.procedure(called) {
+        Some(procedure) => in_targets(alloc, found, vars, &procedure.result),
+        None => Ok(()),
     }
 }
 
 /// Adds the locals that a statement writes and reads, with those of the statements in it.
 #[cycle(statements)]
 #[tactic(auto, using(crate::proofs::Found::with_append, crate::proofs::Found::call_locals, crate::proofs::Found::if_locals, crate::proofs::Found::while_locals))]
-fn in_statement(alloc: Global, found: &mut Typed, i: &Instr) -> Result<(), AllocError>
-    ensures { OnOk result (found.new ≡ with_all found.old (statement_locals i.now)) }
+fn in_statement(
+    alloc: Global,
+    scope: &Scope,
+    found: &mut Typed,
+    i: &Instr,
+) -> Result<(), AllocError>
+    ensures { OnOk result (found.new ≡ with_all found.old (statement_locals scope.now i.now)) }
 {
     match i {
         Instr::Assign(vars, value) => {
-            in_targets(alloc, found, vars.as_slice(), value)?;
+            in_targets(alloc, found, vars.as_slice(), &value.ty)?;
             in_term(alloc, found, value, Side::Own)
         }
         Instr::Sample(var, from) => {
             in_target(alloc, found, var, from)?;
             in_term(alloc, found, from, Side::Own)
         }
-        Instr::Call(_, _, args) => in_terms(alloc, found, args.as_slice(), Side::Own),
+        Instr::Call(vars, called, args) => {
+            in_result(alloc, scope, found, vars.as_slice(), called.get())?;
+            in_terms(alloc, found, args.as_slice(), Side::Own)
+        }
         Instr::If(test, yes, no) => {
             in_term(alloc, found, test, Side::Own)?;
-            in_body(alloc, found, yes.list.as_slice())?;
-            in_body(alloc, found, no.list.as_slice())
+            in_body(alloc, scope, found, yes.list.as_slice())?;
+            in_body(alloc, scope, found, no.list.as_slice())
         }
         Instr::While(guard, variant, body) => {
             in_term(alloc, found, guard, Side::Own)?;
             in_term(alloc, found, variant, Side::Own)?;
-            in_body(alloc, found, body.list.as_slice())
+            in_body(alloc, scope, found, body.list.as_slice())
         }
     }
 }
 
 /// Adds the locals of a body.
 #[cycle(statements)]
-fn in_body(alloc: Global, found: &mut Typed, body: &[Instr]) -> Result<(), AllocError>
-    ensures { OnOk result (found.new ≡ with_all found.old (flat_map statement_locals body.now)) }
+fn in_body(
+    alloc: Global,
+    scope: &Scope,
+    found: &mut Typed,
+    body: &[Instr],
+) -> Result<(), AllocError>
+    ensures { OnOk result (found.new ≡ with_all found.old (flat_map (statement_locals scope.now) body.now)) }
 {
     for i in body {
-        in_statement(alloc, found, i)?;
+        in_statement(alloc, scope, found, i)?;
     }
     Ok(())
 }

@@ -2,7 +2,7 @@
 
 ghost use Rattle.std.specs.Prelude.{◌≡◌};
 ghost use Rattle.gb_goal.specs.Answers.{Answers};
-ghost use Rattle.gb_elab_mod.specs.Steps.{acts, chance_rule, equals_rule, looping_rule, named_rule, on_all, pattern, plain_rule, step_given, symmetry_rule, transforming_rule, typed_rule, used_rule};
+ghost use Rattle.gb_elab_mod.specs.Steps.{acts, both_rule, chance_rule, equals_rule, looping_rule, named_rule, on_all, pattern, plain_rule, step_given, transforming_rule, typed_rule, used_rule};
 
 use crate::between::transitive_rule;
 use crate::conclusions::{conclusion_rule, have_rule, sided_case_rule};
@@ -12,7 +12,7 @@ use crate::couplings::{drawing_rule, functions_of};
 use crate::cut::{cut_of, position, seq_rule, while_rule};
 use crate::equals::{opening, rewriting, rewriting_back, rewriting_by_name, substitution};
 use crate::multiples::multiples;
-use crate::transforming::{passing_rule, placed_rule};
+use crate::transforming::{inlining_rule, passing_rule, placed_rule};
 use crate::uses::{all_hinted, apply_rule, keep_rule};
 use crate::witness::witness_rule;
 use gb_core::name::Name;
@@ -109,12 +109,12 @@ fn chance_rule(acts: Acts) -> Rule
     }
 }
 
-/// A rule on equivalences, which speak of both programs.
-fn symmetry_rule(acts: Acts) -> Rule
-    ensures { result ≡ symmetry_rule acts }
+/// A rule on equivalences, which acts on both programs.
+fn both_rule(rule: RelationalRule, acts: Acts) -> Rule
+    ensures { result ≡ both_rule rule acts }
 {
     match acts {
-        Acts::All => Rule::Relational(RelationalRule::Symmetry),
+        Acts::All => Rule::Relational(rule),
         _ => Rule::OnBodies(BodyRule::Unfit),
     }
 }
@@ -127,7 +127,10 @@ fn named_rule(name: &Name, acts: Acts, place: Place) -> Result<Rule, Refused>
         return Ok(chance_rule(acts));
     }
     if name.as_str() == "symmetry" {
-        return Ok(symmetry_rule(acts));
+        return Ok(both_rule(RelationalRule::Symmetry, acts));
+    }
+    if name.as_str() == "sim" {
+        return Ok(both_rule(RelationalRule::Sim, acts));
     }
     let rule = plain_rule(name, acts, place)?;
     Ok(Rule::OnBodies(rule))
@@ -249,7 +252,7 @@ fn used_rule(
     }
 }
 
-/// The rule on loops, or the rule of another step, as far as `used_rule` has it.
+/// The rule on loops, `inline`, or the rule of another step, as far as `used_rule` has it.
 fn looping_rule(
     alloc: Global,
     scope: &Scope,
@@ -266,6 +269,13 @@ fn looping_rule(
             [bodies, kept] => {
                 let acts = acts(bodies.parts.as_slice());
                 while_rule(alloc, scope, goal, acts, kept)
+            }
+            _ => Err(not_built(place)),
+        },
+        Head::Inline => match parts {
+            [bodies, procedures] => {
+                let acts = acts(bodies.parts.as_slice());
+                inlining_rule(alloc, scope, goal, acts, procedures.parts.as_slice(), place)
             }
             _ => Err(not_built(place)),
         },

@@ -117,7 +117,7 @@ fn said_of_memory(
     ensures { Answers (said_of_memory goal.now body.now memory place) result }
 {
     let said = about_named(alloc, body, memory)?;
-    if reads_other_locals(&said, alloc, goal, memory)? {
+    if reads_other_locals(&said, alloc, false, goal, memory)? {
         return Err(not_built(place));
     }
     Ok(said)

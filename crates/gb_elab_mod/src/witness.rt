@@ -31,7 +31,7 @@ fn asked_of(head: &Head) -> Option<&Ty>
     }
 }
 
-/// Whether the memory that a conclusion says to exist has locals that the goal doesn't read in this one.
+/// Whether the memory that a conclusion says to exist has locals that the goal reads in this one at another type.
 fn asks_for_locals(alloc: Global, goal: &Sequent, memory: Side) -> Result<bool, AllocError>
     ensures { IfOk result (λ other. other ≡ asks_for_locals goal.now memory (out-Term goal.now.conclusion).head (out-Term goal.now.conclusion).args) }
 {
@@ -39,7 +39,7 @@ fn asks_for_locals(alloc: Global, goal: &Sequent, memory: Side) -> Result<bool, 
     match (form.head.get(), form.args.as_slice()) {
         (Head::SomeMemory, [body]) => {
             let said = about_named(alloc, body, memory)?;
-            reads_other_locals(&said, alloc, goal, memory)
+            reads_other_locals(&said, alloc, true, goal, memory)
         }
         _ => Ok(false),
     }

@@ -135,3 +135,14 @@ module _ (ds : Declarations) (scoped : IsTypedScope (declared ds)) (sound : IsSo
       (λ w size table model.
       subst (λ bs. EachProgram (declared ds) bs (interpretation w size table) (λ k. ProceduresEnd ds (setting (declared ds) k) (goal_of q.conclusion)))
       (let x = without_modules ds q t in sym x.modules) (goal_ends (goal_of q.conclusion) e w size table model))
+
+  -- those of each procedure that isn't unproved
+  abbrev AreProved : Setting → Type 0
+  AreProved g = (p : ProcRef) (a : Proc) → procedure_of ds p ≡ Some a → unproved_of ds p ≡ None → LoopsAreGood g (statements g a.body.list)
+
+  pub all_proved : (q : Sequent) → IsTypedSequent (context_of (declared ds)) q → InEachSetting (declared ds) q AreProved
+  all_proved q t =
+      in_each (λ i. EachProgram (declared ds) q.modules i (λ k. AreProved (setting (declared ds) k)))
+      (λ w size table model.
+      subst (λ bs. EachProgram (declared ds) bs (interpretation w size table) (λ k. AreProved (setting (declared ds) k)))
+      (let x = without_modules ds q t in sym x.modules) (λ p a there e. at_model (IsGoodIn a) (own_loops p a there e) w size table model))

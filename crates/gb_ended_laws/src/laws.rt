@@ -37,6 +37,13 @@ pub fn entered()
         InEachSetting (declared ds) q (λ g. ProceduresEnd ds g (goal_of q.conclusion)) }
 {}
 
+/// So are those of each procedure that isn't unproved, in each setting of a typed goal.
+pub fn proved_loops()
+    ensures { (ds : Declarations) → IsTypedScope (declared ds) → IsSound (declared ds) → ScopeSpeaks NoName (declared ds) →
+        (q : Sequent) → IsTypedSequent (context_of (declared ds)) q →
+        InEachSetting (declared ds) q (λ g. (p : ProcRef) (a : Proc) → procedure_of ds p ≡ Some a → unproved_of ds p ≡ None → LoopsAreGood g (statements g a.body.list)) }
+{}
+
 /// Each loop that a procedure of an ended module reaches, through all that it calls, is good in each model of a sound scope whose
 /// procedures call one another by the names of their modules.
 pub fn ended_modules()

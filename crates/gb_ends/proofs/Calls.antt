@@ -6,6 +6,7 @@ use Rattle.gb_core.specs.declared.refusal.Why.TheVariants.{Shape, SideCondition}
 use Rattle.gb_core.specs.declared.var.Var.{Var}
 use Rattle.gb_terms.specs.declared.decl.Proc.{Proc}
 use Rattle.gb_terms.specs.declared.decl.TypedName.{TypedName}
+use Rattle.gb_terms.specs.declared.module.ProcRef.{ProcRef}
 use Rattle.gb_terms.specs.declared.op.Rel.{Rel}
 use Rattle.gb_terms.specs.declared.op.Side.TheVariants.{Own, Left, Right}
 use Rattle.gb_terms.specs.declared.term.Instr.{Instr}
@@ -40,7 +41,9 @@ use Rattle.gb_call.specs.Outcomes.{clash_after}
 use Rattle.gb_call.specs.Written.{with_types}
 use Rattle.gb_call.proofs.LastCalls.{called_typed}
 use Rattle.gb_call_both.specs.Call.{both_goals, by_both_globals, clash_after_both, of_callees, on_programs}
+use Rattle.gb_call_both.specs.OneSide.{judged, on_one_side}
 use Rattle.gb_call_both.specs.Rows.{rule_row}
+use Rattle.gb_call_both.proofs.SideGoals.{callee_given}
 use Rattle.gb_prog.specs.Ends.{KeepsEnds, LoopsEnd}
 use Rattle.gb_ends.proofs.Chances.{rest_ends}
 use Rattle.gb_prog.proofs.Own.{good_append}
@@ -90,6 +93,42 @@ module _ (ds : Declarations) where
     abbrev Leads : List Goal → Type 0 → Type 0
     Leads Gs X = X → AllByRecursion (LoopsEnd g) Gs
 
+    -- on one of two bodies
+    module _ (b : Option Term) (s : Contract) where
+      judged_ends : (f : ProcRef) → LoopsEnd g (judged b f s)
+      judged_ends f = by_bound b
+        where
+          by_bound : (d : Option Term) → LoopsEnd g (judged d f s)
+          by_bound None = tt
+          by_bound (Some d) = tt
+
+      pub left_ends : (ls : List TypedName) (is js : List Instr) (p q : Term) → IsBody c ls is → (Gs : List Goal) → on_one_side ds b s on.Left (equiv (body is) (body js) p q) ≡ given Gs → Leads Gs (Good is × Good js)
+      left_ends ls is js p q w Gs e =
+          let x = callee_given ds b s (record { side = Left; list = is; pre = p; post = q; goal = λ is p q. equiv (body is) (body js) p q }) Gs (callee_of ds (last_call is)) e in
+          let z = x.2 in
+          subst (λ Gs. Leads Gs (Good is × Good js)) z.goals (λ h. (judged_ends x.0.call.procedure, ((called_ends ls is w x.0 x.1 h.0, h.1), tt)))
+
+      pub right_ends : (rs : List TypedName) (is js : List Instr) (p q : Term) → IsBody c rs js → (Gs : List Goal) → on_one_side ds b s on.Right (equiv (body is) (body js) p q) ≡ given Gs → Leads Gs (Good is × Good js)
+      right_ends rs is js p q w Gs e =
+          let x = callee_given ds b s (record { side = Right; list = js; pre = p; post = q; goal = λ js p q. equiv (body is) (body js) p q }) Gs (callee_of ds (last_call js)) e in
+          let z = x.2 in
+          subst (λ Gs. Leads Gs (Good is × Good js)) z.goals (λ h. (judged_ends x.0.call.procedure, ((h.0, called_ends rs js w x.0 x.1 h.1), tt)))
+
+      pub side_ends : (ls rs : List TypedName) (a : Acts) (G : Goal) → IsGoalOver c ls rs G → (Gs : List Goal) → on_one_side ds b s a G ≡ given Gs → Leads Gs (LoopsEnd g G)
+      side_ends ls rs on.Left (equiv (body is) (body js) p q) w Gs e = left_ends ls is js p q w.1 Gs e
+      side_ends ls rs on.Right (equiv (body is) (body js) p q) w Gs e = right_ends rs is js p q w.2 Gs e
+      side_ends ls rs on.All G w Gs e = refused_given Shape Gs e
+      side_ends ls rs on.Left (equiv (body is) (procedure f) p q) w Gs e = refused_given Shape Gs e
+      side_ends ls rs on.Left (equiv (procedure f) d p q) w Gs e = refused_given Shape Gs e
+      side_ends ls rs on.Left (hoare d p q) w Gs e = refused_given Shape Gs e
+      side_ends ls rs on.Left (phoare d r p q z) w Gs e = refused_given Shape Gs e
+      side_ends ls rs on.Left (ambient f) w Gs e = refused_given Shape Gs e
+      side_ends ls rs on.Right (equiv (body is) (procedure f) p q) w Gs e = refused_given Shape Gs e
+      side_ends ls rs on.Right (equiv (procedure f) d p q) w Gs e = refused_given Shape Gs e
+      side_ends ls rs on.Right (hoare d p q) w Gs e = refused_given Shape Gs e
+      side_ends ls rs on.Right (phoare d r p q z) w Gs e = refused_given Shape Gs e
+      side_ends ls rs on.Right (ambient f) w Gs e = refused_given Shape Gs e
+
     module _ (s : Contract) where
       of_globals : (k : Callee) (p q : Term) (Gs : List Goal) (o : Option (List TypedVariable)) → by_globals k s p q o ≡ given Gs → Leads Gs (Good k.call.before)
       of_globals k p q Gs None e = refused_given Shape Gs e
@@ -138,8 +177,8 @@ module _ (ds : Declarations) where
       acts_end ls rs on.All (hoare (body is) p q) w Gs e = by_one ls is p q w.0 Gs (callee_of ds (last_call is)) refl e
       acts_end ls rs on.All (phoare (body is) r p q b) w Gs e = by_chance ls is r p q b w.0 Gs (callee_of ds (last_call is)) refl e
       acts_end ls rs on.All (equiv (body is) (body js) p q) w Gs e = by_two ls rs is js p q w.1 w.2 Gs (callee_of ds (last_call is)) (callee_of ds (last_call js)) refl refl e
-      acts_end ls rs on.Left (equiv (body is) (body js) p q) w Gs e = refused_given Shape Gs e
-      acts_end ls rs on.Right (equiv (body is) (body js) p q) w Gs e = refused_given Shape Gs e
+      acts_end ls rs on.Left (equiv (body is) (body js) p q) w Gs e = left_ends None s ls is js p q w.1 Gs e
+      acts_end ls rs on.Right (equiv (body is) (body js) p q) w Gs e = right_ends None s rs is js p q w.2 Gs e
       acts_end ls rs on.All (hoare (procedure f) p q) w Gs e = refused_given Shape Gs e
       acts_end ls rs on.Left (hoare a p q) w Gs e = refused_given Shape Gs e
       acts_end ls rs on.Right (hoare a p q) w Gs e = refused_given Shape Gs e

@@ -1,5 +1,5 @@
 -- The loops of the goals to which `call` leads by what is known.
-use Rattle.std.proofs.Common.{◌≡◌, List, [], ◌∷◌, map, ap, sym, ◌∙◌, subst}
+use Rattle.std.proofs.Common.{◌≡◌, List, [], ◌∷◌, Some, map, ap, sym, ◌∙◌, subst}
 use Rattle.std.specs.List.{AllByRecursion}
 use Rattle.gb_core.specs.declared.place.Place.{Place}
 use Rattle.gb_core.specs.declared.refusal.Why.TheVariants.{Shape}
@@ -12,6 +12,7 @@ use Rattle.gb_goal.specs.Rows.{concluding, each_concluding}
 use Rattle.gb_goal.specs.Scope.{Declarations}
 use Rattle.gb_goal.specs.declared.sequent.Sequent.{Sequent}
 use Rattle.gb_steps.specs.declared.step.Acts.{Acts}
+use Rattle.gb_steps.specs.declared.step.Acts.TheVariants as on
 use Rattle.gb_steps.specs.declared.step.Rule.TheVariants.{Call}
 use Rattle.gb_holds.specs.Declared.{declared}
 use Rattle.gb_holds.specs.Holds.{Holds, InEachSetting, declared_modules, interpretation}
@@ -23,9 +24,9 @@ use Rattle.gb_typing.specs.Typing.{IsForm}
 use Rattle.gb_typing.proofs.Given.{refused_given, same_given}
 use Rattle.gb_typing.proofs.Lifted.{each}
 use Rattle.gb_prog.specs.Ends.{KeepsEnds, SequentEnds}
-use Rattle.gb_call_known.specs.Known.{IsAnswer, behind, by_conditions}
+use Rattle.gb_call_known.specs.Known.{IsAnswer, behind, by_chances, by_conditions, contract}
 use Rattle.gb_call_known.proofs.KnownIsSound.{behind_goals}
-use Rattle.gb_ends.proofs.Calls.{calls_end}
+use Rattle.gb_ends.proofs.Calls.{calls_end, side_ends}
 use Rattle.gb_ends.proofs.Lifted.{row_ends}
 
 behind_end : (P : Sequent → Type 0) (qs : List Sequent) → AllByRecursion P qs → AllByRecursion P (behind qs)
@@ -34,9 +35,14 @@ behind_end P (q ∷ qs) h = h.1
 
 module _ (ds : Declarations) (c : Context) (ls rs : List TypedName) (a : Acts) where
   conditions_end : (K G : Goal) → IsGoalOver c ls rs G → (Gs : List Goal) → by_conditions ds a K G ≡ given Gs → KeepsEnds (declared ds) Gs G
-  conditions_end (hoare d p q) G w Gs e = calls_end ds c ls rs (Call (record { acts = a; pre = p; post = q })) G w Gs e
-  conditions_end (phoare d r p q b) G w Gs e = calls_end ds c ls rs (Call (record { acts = a; pre = p; post = q })) G w Gs e
-  conditions_end (equiv d b p q) G w Gs e = calls_end ds c ls rs (Call (record { acts = a; pre = p; post = q })) G w Gs e
+  conditions_end (hoare d p q) G w Gs e = calls_end ds c ls rs (Call (contract a p q)) G w Gs e
+  conditions_end (phoare d r p q b) G w Gs e = chances_end a e
+    where
+      chances_end : (x : Acts) → by_chances ds x p q b G ≡ given Gs → KeepsEnds (declared ds) Gs G
+      chances_end on.All e g over = calls_end ds c ls rs (Call (contract on.All p q)) G w Gs e g over
+      chances_end on.Left e g over = side_ends ds g c (Some b) (contract on.Left p q) ls rs on.Left G w Gs e
+      chances_end on.Right e g over = side_ends ds g c (Some b) (contract on.Right p q) ls rs on.Right G w Gs e
+  conditions_end (equiv d b p q) G w Gs e = calls_end ds c ls rs (Call (contract a p q)) G w Gs e
   conditions_end (ambient f) G w Gs e = refused_given Shape Gs e
 
 pub known_end : (ds : Declarations) (scoped : IsTypedScope (declared ds)) (q : Sequent) (t : IsTypedSequent (context_of (declared ds)) q) (a : Acts) (f : Term) (w : IsForm (of_sequent (context_of (declared ds)) q t.frames) f)

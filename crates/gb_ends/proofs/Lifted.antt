@@ -15,7 +15,7 @@ use Rattle.gb_meaning.specs.Setting.{Setting}
 use Rattle.gb_meaning.specs.State.{State}
 use Rattle.gb_meaning.specs.Written.{type_of}
 use Rattle.gb_holds.specs.Declared.{Declarations}
-use Rattle.gb_holds.specs.Holds.{Holds, InEachSetting, context}
+use Rattle.gb_holds.specs.Holds.{Holds, InEachSetting, context, declared_modules, interpretation}
 use Rattle.gb_holds.specs.Settings.{Interpretation, setting}
 use Rattle.gb_holds.specs.Truth.{Truth}
 use Rattle.gb_holds.proofs.Fronts.{without_modules}
@@ -29,12 +29,16 @@ use Rattle.gb_typing.specs.Scopes.{context_of, IsTypedScope}
 use Rattle.gb_typing.specs.Sequents.{of_sequent, IsTypedSequent}
 use Rattle.gb_typing.proofs.Exact.{exact}
 use Rattle.gb_typing.proofs.Given.{refused_at, same_given}
-use Rattle.gb_typing.proofs.Lifted.{InEachSequent, Says, gathered, joined, said, state_fits, typed_subgoals}
+use Rattle.gb_typing.proofs.Lifted.{InEachSequent, Says, each, gathered, joined, said, state_fits, typed_subgoals}
 use Rattle.gb_typing.proofs.Models.{each_chosen, each_setting}
 use Rattle.gb_typing.proofs.Shapes.{form_goal, goal_form}
 use Rattle.gb_typing.proofs.TypedGoals.{goal_front}
 use Rattle.gb_prog.specs.Ends.{ImpliesWhereLoopsEnd, IsSoundOnLoops, LoopsEnd, SequentEnds}
 use Rattle.gb_ends.proofs.Heads.{bare_head, goal_ends, typed_bare}
+
+-- in each setting something always is
+each_setting_is : (ds : Declarations) (q : Sequent) → InEachSetting ds q (λ g. Unit {0})
+each_setting_is ds q = λ w size table m. each ds (declared_modules ds) (interpretation w size table) _ (λ i. each ds q.modules i (λ k. Unit {0}) (λ k. tt))
 
 -- a typed goal as a form
 as_form : (g : Setting) (c : Context) (ls rs : List TypedName) (G : Goal) → IsGoalOver c ls rs G → LoopsEnd g G → LoopsEnd g (goal_of (form_of G))
@@ -107,26 +111,39 @@ module _ (ds : Declarations) (scope : IsTypedScope ds) (q : Sequent) (t : IsType
         by_answer (refused v p) r e = refused_at v p qs e
 
   module _ (truth : type_of q.conclusion ≡ ty.Bool) (ls rs : List TypedName) (w : IsGoalOver c ls rs (goal_of q.conclusion)) where
-    subgoals_hold : (Gs : List Goal) → IsSoundOnLoops ds c Gs (goal_of q.conclusion) → SequentEnds ds q → AllByRecursion (Holds ds) (map (concluding q) Gs) → Holds ds q
-    subgoals_hold Gs x e h =
+    subgoals_hold : (Gs : List Goal) → AllByRecursion (IsTypedGoal c) Gs → ImpliesWhereLoopsEnd ds c Gs (goal_of q.conclusion) → SequentEnds ds q → AllByRecursion (Holds ds) (map (concluding q) Gs) → Holds ds q
+    subgoals_hold Gs typed implies e h =
         joined ds q IsPlace (λ k. AllByRecursion (λ G. Says ds q (form_of G) k) Gs) (λ k. Says ds q q.conclusion k)
         (λ k z says vs v ms u. subst (λ f. Truth ds f k (context vs ms)) (goal_form q.conclusion truth)
-        (concluded k z (context vs ms) ls rs w Gs x.typed x.implies (state_fits ds q t.frames k vs ms v) (said ds q t.frames k vs ms Gs v u says)))
+        (concluded k z (context vs ms) ls rs w Gs typed implies (state_fits ds q t.frames k vs ms v) (said ds q t.frames k vs ms Gs v u says)))
         (places e) (gathered ds q Gs h)
-
-    subgoals_end : (Gs : List Goal) → IsSoundOnLoops ds c Gs (goal_of q.conclusion) → SequentEnds ds q → AllByRecursion (SequentEnds ds) (map (concluding q) Gs)
-    subgoals_end Gs x e =
-        each_end Gs x.typed
-        (joined ds q IsPlace IsPlace (λ k. AllByRecursion (LoopsEnd (setting ds k)) Gs) (λ k z y. x.ends (setting ds k) (record { interpretation = k; chosen = z.chosen; meant = refl }) z.ends) (places e) (places e))
 
     abbrev Leads : List Sequent → Type 0
     Leads qs = AllByRecursion (IsTypedSequent (context_of ds)) qs × (SequentEnds ds q → AllByRecursion (SequentEnds ds) qs × (AllByRecursion (Holds ds) qs → Holds ds q))
 
+    -- Where something is known of each setting of the goal: typed subgoals, which imply the goal where its loops end; and then theirs do.
+    module _ (P : Setting → Type 0) (known : InEachSetting ds q P) where
+      abbrev Law : List Goal → Type 0
+      Law Gs =
+          AllByRecursion (IsTypedGoal c) Gs × ImpliesWhereLoopsEnd ds c Gs (goal_of q.conclusion)
+          × ((g : Setting) → IsSettingOf c g → IsSettingOver ds g → P g → LoopsEnd g (goal_of q.conclusion) → AllByRecursion (LoopsEnd g) Gs)
+
+      subgoals_end : (Gs : List Goal) → Law Gs → SequentEnds ds q → AllByRecursion (SequentEnds ds) (map (concluding q) Gs)
+      subgoals_end Gs x e =
+          each_end Gs x.0
+          (joined ds q (IsKnownPlace P known) (IsKnownPlace P known) (λ k. AllByRecursion (LoopsEnd (setting ds k)) Gs)
+          (λ k z y. (let v = z.place in x.2 (setting ds k) v.fits (record { interpretation = k; chosen = v.chosen; meant = refl }) z.holds v.ends)) (known_places P known e) (known_places P known e))
+
+      pub by_known_rule : (row : Row) → ((Gs : List Goal) → row (goal_of q.conclusion) ≡ given Gs → Law Gs) → (qs : List Sequent) → answered row q ≡ given qs → Leads qs
+      by_known_rule row law qs e = by_answer (row (goal_of q.conclusion)) refl e
+        where
+          by_answer : (a : Answer (List Goal)) → row (goal_of q.conclusion) ≡ a → each_concluding q a ≡ given qs → Leads qs
+          by_answer (given Gs) r e =
+              let x = law Gs r in
+              subst Leads (same_given (map (concluding q) Gs) qs e) (typed_subgoals ds q t Gs x.0, (λ h. (subgoals_end Gs x h, (λ i. subgoals_hold Gs x.0 x.1 h i))))
+          by_answer (refused v p) r e = refused_at v p qs e
+
+    -- the law of a rule on loops
     pub by_loop_rule : (row : Row) → ((Gs : List Goal) → row (goal_of q.conclusion) ≡ given Gs → IsSoundOnLoops ds c Gs (goal_of q.conclusion)) → (qs : List Sequent) → answered row q ≡ given qs → Leads qs
-    by_loop_rule row law qs e = by_answer (row (goal_of q.conclusion)) refl e
-      where
-        by_answer : (a : Answer (List Goal)) → row (goal_of q.conclusion) ≡ a → each_concluding q a ≡ given qs → Leads qs
-        by_answer (given Gs) r e =
-            let x = law Gs r in
-            subst Leads (same_given (map (concluding q) Gs) qs e) (typed_subgoals ds q t Gs x.typed, (λ h. (subgoals_end Gs x h, (λ i. subgoals_hold Gs x h i))))
-        by_answer (refused v p) r e = refused_at v p qs e
+    by_loop_rule row law qs e =
+        by_known_rule (λ g. Unit {0}) (each_setting_is ds q) row (λ Gs r. (let x = law Gs r in (x.typed, x.implies, λ g fits over y h. x.ends g over h))) qs e

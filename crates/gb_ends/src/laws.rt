@@ -34,6 +34,7 @@ ghost use Rattle.gb_phoare.specs.Rows as chance_rows;
 ghost use Rattle.gb_relational.specs.Rows as equivalences;
 ghost use Rattle.gb_rewrite.specs.Rewriting.{IsUsable, rewrite_answer};
 ghost use Rattle.gb_use.specs.Uses as uses;
+ghost use Rattle.gb_inline.specs.Proved.{IsSoundOnProved, ProvedEnd};
 ghost use Rattle.gb_prog.specs.Ends.{Entered, IsSoundOnLoops, KeepsEnds, LoopsEnd, SequentEnds};
 
 /// The rules on programs: what they give is made of statements of the goal; by `proc`, of those of a procedure that the goal names.
@@ -68,6 +69,16 @@ pub fn sequents()
         ((Gs : List Goal) → row (goal_of q.conclusion) ≡ given Gs → IsSoundOnLoops ds (of_sequent (context_of ds) q t.frames) Gs (goal_of q.conclusion)) →
         (qs : List Sequent) → answered row q ≡ given qs →
         AllByRecursion (IsTypedSequent (context_of ds)) qs × (SequentEnds ds q → AllByRecursion (SequentEnds ds) qs × (AllByRecursion (Holds ds) qs → Holds ds q)) }
+{}
+
+/// So is that of a rule that puts bodies of procedures into goals, where those loops are good that are proved.
+pub fn with_proved_loops()
+    ensures { (ds : Declarations) → IsTypedScope (declared ds) → (q : Sequent) (t : IsTypedSequent (context_of (declared ds)) q) → type_of q.conclusion ≡ ty.Bool → (ls rs : List TypedName) →
+        IsGoalOver (of_sequent (context_of (declared ds)) q t.frames) ls rs (goal_of q.conclusion) → InEachSetting (declared ds) q (ProvedEnd ds) → (row : Row) →
+        ((Gs : List Goal) → row (goal_of q.conclusion) ≡ given Gs → IsSoundOnProved ds (of_sequent (context_of (declared ds)) q t.frames) Gs (goal_of q.conclusion)) →
+        (qs : List Sequent) → answered row q ≡ given qs →
+        AllByRecursion (IsTypedSequent (context_of (declared ds))) qs ×
+        (SequentEnds (declared ds) q → AllByRecursion (SequentEnds (declared ds)) qs × (AllByRecursion (Holds (declared ds)) qs → Holds (declared ds) q)) }
 {}
 
 /// Where the loops of the subgoals that a row gives end in each setting in which those of the goal do, and in which is known what has to be

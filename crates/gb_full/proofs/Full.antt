@@ -1,8 +1,8 @@
 -- A body that loses no weight, nor what it calls, draws from full distributions alone.
-use Rattle.std.proofs.Common.{◌≡◌, inl, inr, Bool, true, false, ◌||◌, if◌then◌else◌, List, [], ◌∷◌, ◌++◌, Option, Some, None, refl, ap, sym, ◌∙◌, subst}
+use Rattle.std.proofs.Common.{◌≡◌, ◌⊎◌, inl, inr, Bool, true, false, ◌||◌, if◌then◌else◌, List, [], ◌∷◌, ◌++◌, Option, Some, None, refl, ap, sym, ◌∙◌, subst}
 use Rattle.std.proofs.lemmas.Bool.{false≢true}
 use Rattle.std.proofs.lemmas.Option.{same_Some}
-use Rattle.std.specs.List.{list_any, AllByRecursion}
+use Rattle.std.specs.List.{list_any}
 use Rattle.gb_core.specs.declared.ty.Ty as X
 use Rattle.gb_core.specs.declared.ty.Ty.{Ty, out-Ty}
 use Rattle.gb_core.specs.declared.ty.Ty.TheBlock as B
@@ -49,9 +49,10 @@ use Rattle.gb_typing.specs.Meaning.{run, denominator}
 use Rattle.gb_goal.specs.Scope.{Declarations, procedure_of}
 use Rattle.gb_goal.specs.declared.sequent.Sequent.{Sequent}
 use Rattle.gb_holds.specs.Declared.{declared}
-use Rattle.gb_mods.specs.Called.{all_reached, called_by, row_calls, calls}
-use Rattle.gb_mods.proofs.Closed.{AreFollowed, AreReached, IsIn, all_closed}
-use Rattle.gb_full.specs.Loss.{gives_weights, at_head, at_term, may_lose, head_may_lose, Loss, nowhere, sampled, called, or_after, row_loss, own_loss, procedure_loss, losses, losses_if, reached_loss, first_loss}
+use Rattle.gb_goal.specs.Goal.Code.{procedure}
+use Rattle.gb_mods.specs.Called.{same_procedure}
+use Rattle.gb_mods.proofs.Closed.{procedure_same}
+use Rattle.gb_full.specs.Loss.{gives_weights, at_head, at_term, may_lose, head_may_lose, Loss, nowhere, sampled, called, or_after, Losses, known_of, statement_loss, row_loss, body_loss, procedure_loss, with_procedures, all_procedures, table, first_loss, code_loss}
 use Rattle.gb_full.proofs.LossSteps.{may_lose_out}
 use Rattle.sqlite_items.specs.formers.items.Items.{the_former}
 use mathlib.Core.Former.{Count, arity, this}
@@ -133,21 +134,83 @@ both_nowhere nowhere l e = (refl, e)
 both_nowhere (sampled x) l e = absurd (false≢true (ap is_nowhere e))
 both_nowhere called l e = absurd (false≢true (ap is_nowhere e))
 
--- Procedures of the declarations that lose no weight themselves.
-record IsDeclared (ds : Declarations) (p : ProcRef) : Type 0 where
+joined : {k l : Loss} → k ≡ nowhere → l ≡ nowhere → or_after k l ≡ nowhere
+joined e f = λ i. or_after (e i) (f i)
+
+-- What is known of procedures stays so where more are known.
+
+known_more : (ks ls : Losses) (p : ProcRef) → known_of ks p ≡ nowhere → known_of (ks ++ ls) p ≡ nowhere
+known_more [] ls p e = absurd (false≢true (ap is_nowhere e))
+known_more ((q, l) ∷ ks) ls p e = step (same_procedure q p) e (known_more ks ls p)
+  where
+    step : (b : Bool) → (if b then l else known_of ks p) ≡ nowhere → (known_of ks p ≡ nowhere → known_of (ks ++ ls) p ≡ nowhere) → (if b then l else known_of (ks ++ ls) p) ≡ nowhere
+    step true f go = f
+    step false f go = go f
+
+module _ (ks ls : Losses) where
+  mutual
+    statement_more : (i : Instr) → statement_loss ks i ≡ nowhere → statement_loss (ks ++ ls) i ≡ nowhere
+    statement_more (Assign xs t) e = e
+    statement_more (Sample x d) e = e
+    statement_more (Call' xs p n es) e = known_more ks ls p e
+    statement_more (If' t m a n b) e = let k = both_nowhere (row_loss ks a) (row_loss ks b) e in joined (row_more a k.0) (row_more b k.1)
+    statement_more (While' t v n a) e = row_more a e
+
+    row_more : {n : Count} (is : Row_of-Instr n) → row_loss ks is ≡ nowhere → row_loss (ks ++ ls) is ≡ nowhere
+    row_more end_of-Instr e = e
+    row_more (more_of-Instr i is) e = let k = both_nowhere (statement_loss ks i) (row_loss ks is) e in joined (statement_more i k.0) (row_more is k.1)
+
+  body_more : (is : List Instr) → body_loss ks is ≡ nowhere → body_loss (ks ++ ls) is ≡ nowhere
+  body_more [] e = e
+  body_more (i ∷ is) e = let k = both_nowhere (statement_loss ks i) (body_loss ks is) e in joined (statement_more i k.0) (body_more is k.1)
+
+-- Procedures of the declarations that are known to lose no weight.
+record IsKnown (ds : Declarations) (ks : Losses) (p : ProcRef) : Type 0 where
   found : Proc
   declared : procedure_of ds p ≡ Some found
-  full : own_loss found.body.list ≡ nowhere
+  full : body_loss ks found.body.list ≡ nowhere
 
-each_declared : (ds : Declarations) (ps : List ProcRef) → losses ds ps ≡ nowhere → (p : ProcRef) → IsIn ps p → IsDeclared ds p
-each_declared ds [] e p i = absurd i
-each_declared ds (q ∷ ps) e p i = by_first (procedure_of ds q) refl (both_nowhere (procedure_loss (procedure_of ds q)) (losses ds ps) e) i (each_declared ds ps)
+abbrev AreKnown : Declarations → Losses → Type 0
+AreKnown ds ks = (p : ProcRef) → known_of ks p ≡ nowhere → IsKnown ds ks p
+
+-- one more, by those before it
+known_last : (ks : Losses) (q p : ProcRef) (l : Loss) → known_of (ks ++ (q, l) ∷ []) p ≡ nowhere → (known_of ks p ≡ nowhere) ⊎ ((q ≡ p) × (l ≡ nowhere))
+known_last [] q p l e = step (same_procedure q p) refl e
   where
-    by_first : (o : Option Proc) → procedure_of ds q ≡ o → (procedure_loss o ≡ nowhere) × (losses ds ps ≡ nowhere) → IsIn (q ∷ ps) p →
-        (losses ds ps ≡ nowhere → (p : ProcRef) → IsIn ps p → IsDeclared ds p) → IsDeclared ds p
-    by_first None d k i go = absurd (false≢true (ap is_nowhere k.0))
-    by_first (Some a) d k (inl f) go = subst (IsDeclared ds) f (record { found = a; declared = d; full = k.0 })
-    by_first (Some a) d k (inr f) go = go k.1 p f
+    step : (b : Bool) → same_procedure q p ≡ b → (if b then l else called) ≡ nowhere → (called ≡ nowhere) ⊎ ((q ≡ p) × (l ≡ nowhere))
+    step true f k = inr (procedure_same q p f, k)
+    step false f k = absurd (false≢true (ap is_nowhere k))
+known_last ((r, k) ∷ ks) q p l e = step (same_procedure r p) e (known_last ks q p l)
+  where
+    step : (b : Bool) → (if b then k else known_of (ks ++ (q, l) ∷ []) p) ≡ nowhere →
+        (known_of (ks ++ (q, l) ∷ []) p ≡ nowhere → (known_of ks p ≡ nowhere) ⊎ ((q ≡ p) × (l ≡ nowhere))) → ((if b then k else known_of ks p) ≡ nowhere) ⊎ ((q ≡ p) × (l ≡ nowhere))
+    step true f go = inl f
+    step false f go = go f
+
+more_known : (ds : Declarations) (ks ls : Losses) (p : ProcRef) → IsKnown ds ks p → IsKnown ds (ks ++ ls) p
+more_known ds ks ls p x = record { found = x.found; declared = x.declared; full = body_more ks ls x.found.body.list x.full }
+
+one_known : (ds : Declarations) (ks : Losses) (q : ProcRef) → AreKnown ds ks → AreKnown ds (ks ++ (q, procedure_loss ks (procedure_of ds q)) ∷ [])
+one_known ds ks q h p e = by_place (known_last ks q p (procedure_loss ks (procedure_of ds q)) e)
+  where
+    all : Losses
+    all = ks ++ (q, procedure_loss ks (procedure_of ds q)) ∷ []
+
+    by_found : (o : Option Proc) → procedure_of ds q ≡ o → procedure_loss ks o ≡ nowhere → IsKnown ds all q
+    by_found None d f = absurd (false≢true (ap is_nowhere f))
+    by_found (Some a) d f = more_known ds ks ((q, procedure_loss ks (procedure_of ds q)) ∷ []) q (record { found = a; declared = d; full = f })
+
+    by_place : (known_of ks p ≡ nowhere) ⊎ ((q ≡ p) × (procedure_loss ks (procedure_of ds q) ≡ nowhere)) → IsKnown ds all p
+    by_place (inl f) = more_known ds ks ((q, procedure_loss ks (procedure_of ds q)) ∷ []) p (h p f)
+    by_place (inr f) = subst (IsKnown ds all) f.0 (by_found (procedure_of ds q) refl f.1)
+
+each_known : (ds : Declarations) (ks : Losses) (ps : List ProcRef) → AreKnown ds ks → AreKnown ds (with_procedures ds ks ps)
+each_known ds ks [] h = h
+each_known ds ks (p ∷ ps) h = each_known ds (ks ++ (p, procedure_loss ks (procedure_of ds p)) ∷ []) ps (one_known ds ks p h)
+
+all_known : (ds : Declarations) → AreKnown ds (table ds)
+unfolding table
+all_known ds = each_known ds [] (all_procedures ds) (λ p e. absurd (false≢true (ap is_nowhere e)))
 
 module _ (c : Context) (g : Setting) (fits : IsSettingOf c g) where
   -- a distribution that may lose no weight is full
@@ -160,11 +223,11 @@ module _ (c : Context) (g : Setting) (fits : IsSettingOf c g) where
   sampled_full ls x d true h e = absurd (false≢true (ap is_nowhere e))
   sampled_full ls x d false h e = h
 
-  -- S are procedures, with all that they call.
-  module _ (S : List ProcRef) where
-    -- a routine that stands for one of them loses no weight
+  -- what is known of procedures
+  module _ (ks : Losses) where
+    -- a routine that stands for one that is known to lose no weight loses none
     abbrev IsGood : Routine → Type 0
-    IsGood r = (p : ProcRef) → IsIn S p → g.procedure p ≡ Some r → FullRoutine g r
+    IsGood r = (p : ProcRef) → known_of ks p ≡ nowhere → g.procedure p ≡ Some r → FullRoutine g r
 
     -- nor does any that a program calls
     abbrev CallsGood : Program → Type 0
@@ -176,125 +239,86 @@ module _ (c : Context) (g : Setting) (fits : IsSettingOf c g) where
     CallsGood (call xs r es c) = IsGood r × CallsGood c
     CallsGood (ask xs o es c) = CallsGood c
 
-    abbrev AreThere : List ProcRef → Type 0
-    AreThere ps = AllByRecursion (IsIn S) ps
-
-    there_append : (ps qs : List ProcRef) → AreThere (ps ++ qs) → AreThere ps × AreThere qs
-    there_append [] qs h = (tt, h)
-    there_append (p ∷ ps) qs h = let z = there_append ps qs h.1 in ((h.0, z.0), z.1)
-
-    call_full : (p : ProcRef) → IsIn S p → (xs : List Var) (o : Option Routine) (es : List Term) (k : Program) → g.procedure p ≡ o → CallsGood (called_program xs o es k) →
+    call_full : (p : ProcRef) → known_of ks p ≡ nowhere → (xs : List Var) (o : Option Routine) (es : List Term) (k : Program) → g.procedure p ≡ o → CallsGood (called_program xs o es k) →
         (CallsGood k → Full g k) → Full g (called_program xs o es k)
     call_full p i xs (Some r) es k e h u = (h.0 p i e, u h.1)
     call_full p i xs None es k e h u = u h
 
     module _ (ls : List TypedName) where
       mutual
-        row_full : {n : Count} (is : Row_of-Instr n) → AreStatements c ls is → row_loss is ≡ nowhere → AreThere (row_calls is) → CallsGood (program_of g is) → Full g (program_of g is)
-        row_full end_of-Instr w e h k = tt
-        row_full (more_of-Instr (Assign xs t) is) w e h k = row_full is w.1 e h k
-        row_full (more_of-Instr (Sample x d) is) w e h k =
-            let z = both_nowhere (if may_lose d then sampled x else nowhere) (row_loss is) e in
-            (full_term ls d w.0.0 w.0.1 (sampled_full ls x d (may_lose d) refl z.0), row_full is w.1 z.1 h k)
-        row_full (more_of-Instr (Call' xs p n es) is) w e h k = call_full p h.0 xs (g.procedure p) _ (program_of g is) refl k (λ d. row_full is w.1 e h.1 d)
-        row_full (more_of-Instr (If' t m a n b) is) w e h k =
-            let z = both_nowhere (or_after (row_loss a) (row_loss b)) (row_loss is) e in
-            let l = both_nowhere (row_loss a) (row_loss b) z.0 in
-            let y = there_append (row_calls a ++ row_calls b) (row_calls is) h in
-            let v = there_append (row_calls a) (row_calls b) y.0 in
-            (row_full a w.0.1 l.0 v.0 k.0, row_full b w.0.2 l.1 v.1 k.1, row_full is w.1 z.1 y.1 k.2)
-        row_full (more_of-Instr (While' t v n a) is) w e h k =
-            let z = both_nowhere (row_loss a) (row_loss is) e in
-            let y = there_append (row_calls a) (row_calls is) h in (row_full a w.0.2 z.0 y.0 k.0, row_full is w.1 z.1 y.1 k.1)
+        row_full : {n : Count} (is : Row_of-Instr n) → AreStatements c ls is → row_loss ks is ≡ nowhere → CallsGood (program_of g is) → Full g (program_of g is)
+        row_full end_of-Instr w e k = tt
+        row_full (more_of-Instr (Assign xs t) is) w e k = row_full is w.1 e k
+        row_full (more_of-Instr (Sample x d) is) w e k =
+            let z = both_nowhere (if may_lose d then sampled x else nowhere) (row_loss ks is) e in
+            (full_term ls d w.0.0 w.0.1 (sampled_full ls x d (may_lose d) refl z.0), row_full is w.1 z.1 k)
+        row_full (more_of-Instr (Call' xs p n es) is) w e k =
+            let z = both_nowhere (known_of ks p) (row_loss ks is) e in call_full p z.0 xs (g.procedure p) _ (program_of g is) refl k (λ d. row_full is w.1 z.1 d)
+        row_full (more_of-Instr (If' t m a n b) is) w e k =
+            let z = both_nowhere (or_after (row_loss ks a) (row_loss ks b)) (row_loss ks is) e in
+            let l = both_nowhere (row_loss ks a) (row_loss ks b) z.0 in
+            (row_full a w.0.1 l.0 k.0, row_full b w.0.2 l.1 k.1, row_full is w.1 z.1 k.2)
+        row_full (more_of-Instr (While' t v n a) is) w e k =
+            let z = both_nowhere (row_loss ks a) (row_loss ks is) e in (row_full a w.0.2 z.0 k.0, row_full is w.1 z.1 k.1)
 
-      each_full : (is : List Instr) → EachStatement c ls is → own_loss is ≡ nowhere → AreThere (calls is) → CallsGood (statements g is) → Full g (statements g is)
-      each_full [] w e h k = tt
-      each_full (Assign xs t ∷ is) w e h k = each_full is w.1 e h k
-      each_full (Sample x d ∷ is) w e h k =
-          let z = both_nowhere (if may_lose d then sampled x else nowhere) (own_loss is) e in
-          (full_term ls d w.0.0 w.0.1 (sampled_full ls x d (may_lose d) refl z.0), each_full is w.1 z.1 h k)
-      each_full (Call' xs p n es ∷ is) w e h k = call_full p h.0 xs (g.procedure p) _ (statements g is) refl k (λ d. each_full is w.1 e h.1 d)
-      each_full (If' t m a n b ∷ is) w e h k =
-          let z = both_nowhere (or_after (row_loss a) (row_loss b)) (own_loss is) e in
-          let l = both_nowhere (row_loss a) (row_loss b) z.0 in
-          let y = there_append (row_calls a ++ row_calls b) (calls is) h in
-          let v = there_append (row_calls a) (row_calls b) y.0 in
-          (row_full a w.0.1 l.0 v.0 k.0, row_full b w.0.2 l.1 v.1 k.1, each_full is w.1 z.1 y.1 k.2)
-      each_full (While' t v n a ∷ is) w e h k =
-          let z = both_nowhere (row_loss a) (own_loss is) e in
-          let y = there_append (row_calls a) (calls is) h in (row_full a w.0.2 z.0 y.0 k.0, each_full is w.1 z.1 y.1 k.1)
-
-    each_there : (ps : List ProcRef) → ((p : ProcRef) → IsIn ps p → IsIn S p) → AreThere ps
-    each_there [] h = tt
-    each_there (p ∷ ps) h = (h p (inl refl), each_there ps (λ q i. h q (inr i)))
+      each_full : (is : List Instr) → EachStatement c ls is → body_loss ks is ≡ nowhere → CallsGood (statements g is) → Full g (statements g is)
+      each_full [] w e k = tt
+      each_full (Assign xs t ∷ is) w e k = each_full is w.1 e k
+      each_full (Sample x d ∷ is) w e k =
+          let z = both_nowhere (if may_lose d then sampled x else nowhere) (body_loss ks is) e in
+          (full_term ls d w.0.0 w.0.1 (sampled_full ls x d (may_lose d) refl z.0), each_full is w.1 z.1 k)
+      each_full (Call' xs p n es ∷ is) w e k =
+          let z = both_nowhere (known_of ks p) (body_loss ks is) e in call_full p z.0 xs (g.procedure p) _ (statements g is) refl k (λ d. each_full is w.1 z.1 d)
+      each_full (If' t m a n b ∷ is) w e k =
+          let z = both_nowhere (or_after (row_loss ks a) (row_loss ks b)) (body_loss ks is) e in
+          let l = both_nowhere (row_loss ks a) (row_loss ks b) z.0 in
+          (row_full a w.0.1 l.0 k.0, row_full b w.0.2 l.1 k.1, each_full is w.1 z.1 k.2)
+      each_full (While' t v n a ∷ is) w e k =
+          let z = both_nowhere (row_loss ks a) (body_loss ks is) e in (row_full a w.0.2 z.0 k.0, each_full is w.1 z.1 k.1)
 
   -- declared procedures are typed, and are those of the setting
   module _ (ds : Declarations) (typed : (p : ProcRef) (a : Proc) → procedure_of ds p ≡ Some a → IsBody c (locals_of a) a.body.list)
       (linked : (p : ProcRef) (a : Proc) → procedure_of ds p ≡ Some a → g.procedure p ≡ Some (routine a.params a.locals (statements g a.body.list) a.value)) where
-    module _ (S : List ProcRef) (closed : AreFollowed ds S S) (each : (p : ProcRef) → IsIn S p → IsDeclared ds p) where
-      abbrev body_of : Routine → Program
-      body_of (routine ps ls k v) = k
+    abbrev ks : Losses
+    ks = table ds
 
-      -- the body of each procedure of S, where the procedures lose none that it calls
-      declared_full : (p : ProcRef) → IsIn S p → (x : IsDeclared ds p) → CallsGood S (statements g x.found.body.list) → Full g (statements g x.found.body.list)
-      declared_full p i x k =
-          let w = typed p x.found x.declared in
-          each_full S (locals_of x.found) x.found.body.list w.statements x.full
-          (each_there S (calls x.found.body.list) (λ q j. closed p i q (subst (λ o. IsIn (called_by o) q) (sym x.declared) j))) k
+    abbrev body_of : Routine → Program
+    body_of (routine ps ls k v) = k
 
-      from_body : (r : Routine) → CallsGood S (body_of r) → IsGood S r
-      from_body r k p i e =
-          let x = each p i in
-          let is : routine x.found.params x.found.locals (statements g x.found.body.list) x.found.value ≡ r =
-          same_Some (routine x.found.params x.found.locals (statements g x.found.body.list) x.found.value) r (sym (linked p x.found x.declared) ∙ e) in
-          subst (λ z. FullRoutine g z) is (declared_full p i x (subst (λ z. CallsGood S (body_of z)) (sym is) k))
+    -- the body of a procedure, where the procedures lose none that it calls
+    declared_full : (p : ProcRef) → (x : IsKnown ds ks p) → CallsGood ks (statements g x.found.body.list) → Full g (statements g x.found.body.list)
+    declared_full p x k = let w = typed p x.found x.declared in each_full ks (locals_of x.found) x.found.body.list w.statements x.full k
 
-      mutual
-        all_good : (k : Program) → CallsGood S k
-        all_good done = tt
-        all_good (assign xs e k) = all_good k
-        all_good (sample y d k) = all_good k
-        all_good (branch e a b k) = (all_good a, all_good b, all_good k)
-        all_good (loop e v a k) = (all_good a, all_good k)
-        all_good (call xs r es k) = (routine_good r, all_good k)
-        all_good (ask xs o es k) = all_good k
+    from_body : (r : Routine) → CallsGood ks (body_of r) → IsGood ks r
+    from_body r k p i e =
+        let x = all_known ds p i in
+        let is : routine x.found.params x.found.locals (statements g x.found.body.list) x.found.value ≡ r =
+        same_Some (routine x.found.params x.found.locals (statements g x.found.body.list) x.found.value) r (sym (linked p x.found x.declared) ∙ e) in
+        subst (λ z. FullRoutine g z) is (declared_full p x (subst (λ z. CallsGood ks (body_of z)) (sym is) k))
 
-        routine_good : (r : Routine) → IsGood S r
-        routine_good (routine ps ls k v) = from_body (routine ps ls k v) (all_good k)
+    mutual
+      all_good : (k : Program) → CallsGood ks k
+      all_good done = tt
+      all_good (assign xs e k) = all_good k
+      all_good (sample y d k) = all_good k
+      all_good (branch e a b k) = (all_good a, all_good b, all_good k)
+      all_good (loop e v a k) = (all_good a, all_good k)
+      all_good (call xs r es k) = (routine_good r, all_good k)
+      all_good (ask xs o es k) = all_good k
 
-    -- where procedures, with all that they call, lose no weight
-    record AreFull (ps : List ProcRef) : Type 0 where
-      all : List ProcRef
-      reach : AreReached ds ps all
-      each : (p : ProcRef) → IsIn all p → IsDeclared ds p
-
-    are_full : (ps : List ProcRef) → reached_loss ds ps ≡ nowhere → AreFull ps
-    unfolding reached_loss
-    are_full ps e = by_reach (all_reached ds ps) refl e
-      where
-        by_reach : (o : Option (List ProcRef)) → all_reached ds ps ≡ o → losses_if ds o ≡ nowhere → AreFull ps
-        by_reach None d e = absurd (false≢true (ap is_nowhere e))
-        by_reach (Some S) d e = record { all = S; reach = all_closed ds ps S d; each = each_declared ds S e }
+      routine_good : (r : Routine) → IsGood ks r
+      routine_good (routine ps ls k v) = from_body (routine ps ls k v) (all_good k)
 
     body_full : (ls : List TypedName) (is : List Instr) → IsBody c ls is → first_loss ds is ≡ nowhere → Full g (statements g is)
-    body_full ls is w e =
-        let k = both_nowhere (own_loss is) (reached_loss ds (calls is)) e in
-        let f = are_full (calls is) k.1 in
-        let r = f.reach in
-        each_full f.all ls is w.statements k.0 (each_there f.all (calls is) r.there) (all_good f.all r.closed f.each (statements g is))
+    body_full ls is w e = each_full ks ls is w.statements e (all_good (statements g is))
 
     pub record IsFullProcedure (p : ProcRef) : Type 0 where
       pub found : Proc
       pub declared : procedure_of ds p ≡ Some found
       pub full : Full g (statements g found.body.list)
 
-    procedure_full : (p : ProcRef) → reached_loss ds (p ∷ []) ≡ nowhere → IsFullProcedure p
-    procedure_full p e =
-        let f = are_full (p ∷ []) e in
-        let r = f.reach in
-        let i = r.there p (inl refl) in
-        let x = f.each p i in
-        record { found = x.found; declared = x.declared; full = declared_full f.all r.closed f.each p i x (all_good f.all r.closed f.each (statements g x.found.body.list)) }
+    procedure_full : (p : ProcRef) → known_of ks p ≡ nowhere → IsFullProcedure p
+    procedure_full p e = let x = all_known ds p e in record { found = x.found; declared = x.declared; full = declared_full p x (all_good (statements g x.found.body.list)) }
 
 -- Over a typed scope.
 module _ (ds : Declarations) (scoped : IsTypedScope (declared ds)) (q : Sequent) (t : IsTypedSequent (context_of (declared ds)) q) (g : Setting)
@@ -323,7 +347,7 @@ module _ (ds : Declarations) (scoped : IsTypedScope (declared ds)) (q : Sequent)
     pub declared : procedure_of ds p ≡ Some found
     pub total : (s : State) (m : Memory) → total (run g s found.body.list m) ≡ denominator g found.body.list
 
-  pub procedure_whole : (p : ProcRef) → reached_loss ds (p ∷ []) ≡ nowhere → IsWholeProcedure p
+  pub procedure_whole : (p : ProcRef) → code_loss ds (procedure p) ≡ nowhere → IsWholeProcedure p
   procedure_whole p e =
       let x = procedure_full goal g fits ds typed_body linked p e in
       record { found = x.found; declared = x.declared; total = λ s m. run_total g s (statements g x.found.body.list) x.full m }

@@ -1,5 +1,5 @@
 -- Where a program may lose weight, in itself and in what it calls.
-use Rattle.std.specs.Prelude.{Bool, true, false, ◌||◌, if◌then◌else◌, List, [], ◌∷◌, Option, Some, None}
+use Rattle.std.specs.Prelude.{Bool, true, false, ◌||◌, if◌then◌else◌, List, [], ◌∷◌, ◌++◌, Option, Some, None}
 use Rattle.std.specs.List.{list_any}
 use Rattle.gb_core.specs.declared.ty.Ty.{Ty, out-Ty}
 use Rattle.gb_core.specs.declared.ty.Ty.TheOpen as ty_layer
@@ -15,9 +15,13 @@ use Rattle.gb_terms.specs.declared.term.Instr.{Instr, Row_of-Instr, end_of-Instr
 use Rattle.gb_goal.specs.Goal.{Code}
 use Rattle.gb_goal.specs.Goal.Code.{body, procedure}
 use Rattle.gb_goal.specs.Scope.{Declarations, procedure_of}
-use Rattle.gb_mods.specs.Called.{all_reached, calls}
+use Rattle.gb_goal.specs.declared.scope.Entry.{Entry}
+use Rattle.gb_goal.specs.declared.scope.Entry.TheVariants as entry
+use Rattle.gb_mods.specs.Called.{same_procedure}
+use Rattle.gb_mods.specs.Footprint.{references}
 use Rattle.gb_full.specs.declared.loss.Loss as seen
 use Rattle.gb_full.specs.declared.loss.Loss.TheVariants as of_code
+use Rattle.gb_full.specs.declared.loss.Known.{Known}
 
 -- Terms.
 
@@ -53,52 +57,69 @@ abbrev pub or_after : Loss → Loss → Loss
 or_after nowhere l = l
 or_after k l = k
 
-abbrev mutual
-  -- a statement, but for what it calls
-  pub statement_loss : Instr → Loss
-  statement_loss (Assign xs e) = nowhere
-  statement_loss (Sample x d) = if may_lose d then sampled x else nowhere
-  statement_loss (Call' xs p n es) = nowhere
-  statement_loss (If' e m a n b) = or_after (row_loss a) (row_loss b)
-  statement_loss (While' e v n a) = row_loss a
+-- where procedures may lose weight first, each with what it calls
+abbrev pub Losses : Type 0
+Losses = List (ProcRef × Loss)
 
-  pub row_loss : {n : _} → Row_of-Instr n → Loss
-  row_loss end_of-Instr = nowhere
-  row_loss (more_of-Instr i is) = or_after (statement_loss i) (row_loss is)
+-- what is known of a procedure
+abbrev pub known_of : Losses → ProcRef → Loss
+known_of [] p = called
+known_of ((q, l) ∷ ks) p = if same_procedure q p then l else known_of ks p
+
+abbrev mutual
+  -- A statement, where its procedures are known. What it calls stands at the call.
+  pub statement_loss : Losses → Instr → Loss
+  statement_loss ks (Assign xs e) = nowhere
+  statement_loss ks (Sample x d) = if may_lose d then sampled x else nowhere
+  statement_loss ks (Call' xs p n es) = known_of ks p
+  statement_loss ks (If' e m a n b) = or_after (row_loss ks a) (row_loss ks b)
+  statement_loss ks (While' e v n a) = row_loss ks a
+
+  pub row_loss : {n : _} → Losses → Row_of-Instr n → Loss
+  row_loss ks end_of-Instr = nowhere
+  row_loss ks (more_of-Instr i is) = or_after (statement_loss ks i) (row_loss ks is)
 
 -- the same of a body
-abbrev pub own_loss : List Instr → Loss
-own_loss [] = nowhere
-own_loss (i ∷ is) = or_after (statement_loss i) (own_loss is)
+abbrev pub body_loss : Losses → List Instr → Loss
+body_loss ks [] = nowhere
+body_loss ks (i ∷ is) = or_after (statement_loss ks i) (body_loss ks is)
 
-abbrev pub procedure_loss : Option Proc → Loss
-procedure_loss None = called
-procedure_loss (Some p) = own_loss p.body.list
+abbrev pub procedure_loss : Losses → Option Proc → Loss
+procedure_loss ks None = called
+procedure_loss ks (Some p) = body_loss ks p.body.list
 
--- the first loss of procedures, but for what they call
-abbrev pub losses : Declarations → List ProcRef → Loss
-losses ds [] = nowhere
-losses ds (p ∷ ps) = or_after (procedure_loss (procedure_of ds p)) (losses ds ps)
+-- what is known, with procedures behind, each by those before it
+abbrev pub with_procedures : Declarations → Losses → List ProcRef → Losses
+with_procedures ds ks [] = ks
+with_procedures ds ks (p ∷ ps) = with_procedures ds (ks ++ (p, procedure_loss ks (procedure_of ds p)) ∷ []) ps
 
-abbrev pub losses_if : Declarations → Option (List ProcRef) → Loss
-losses_if ds None = called
-losses_if ds (Some ps) = losses ds ps
+abbrev pub procedures_at : Option Entry → List ProcRef
+procedures_at (Some (entry.Module m)) = references m.name m.procs
+procedures_at _ = []
 
--- the first loss of procedures, and of all that they call
-unfoldable pub reached_loss : Declarations → List ProcRef → Loss
-reached_loss ds ps = losses_if ds (all_reached ds ps)
+-- the procedures of all modules, in order of declaration
+abbrev pub all_procedures : Declarations → List ProcRef
+all_procedures [] = []
+all_procedures (d ∷ ds) = procedures_at (Some d.1) ++ all_procedures ds
 
--- The first loss of a body: in itself, and else in what it calls.
+-- Procedures call those that are declared before them: so each is known by going through them once.
+unfoldable pub table : Declarations → Losses
+table ds = with_procedures ds [] (all_procedures ds)
+
+-- The first loss of a body, in the order of the text, with what it calls at each call.
 abbrev pub first_loss : Declarations → List Instr → Loss
-first_loss ds is = or_after (own_loss is) (reached_loss ds (calls is))
+first_loss ds is = body_loss (table ds) is
 
 -- the same of what a judgment speaks of
 abbrev pub code_loss : Declarations → Code → Loss
 code_loss ds (body is) = first_loss ds is
-code_loss ds (procedure p) = reached_loss ds (p ∷ [])
+code_loss ds (procedure p) = known_of (table ds) p
 
 -- the same, of references
 abbrev pub loss_seen : seen.Loss → Loss
 loss_seen of_code.Nowhere = nowhere
 loss_seen (of_code.Sampled x) = sampled x.now
 loss_seen of_code.Called = called
+
+abbrev pub known_seen : Known → ProcRef × Loss
+known_seen k = (k.procedure, loss_seen k.loss)

@@ -1,16 +1,17 @@
 // Where a program may lose weight, in itself and in what it calls.
 
-ghost use Rattle.std.specs.Prelude.{◌≡◌, IfOk};
+ghost use Rattle.std.specs.Prelude.{◌≡◌, [], map, IfOk};
 ghost use Rattle.std.specs.List.{list_any};
 ghost use Rattle.std.specs.Option.{option_copied};
 ghost use Rattle.gb_core.specs.declared.ty.Ty.{out-Ty};
 ghost use Rattle.gb_goal.specs.Goal.{code_of};
-ghost use Rattle.gb_full.specs.Loss.{code_loss, gives_weights, head_may_lose, first_loss, losses, loss_seen, may_lose, own_loss, procedure_loss, reached_loss, statement_loss};
+ghost use Rattle.gb_full.specs.Loss.{all_procedures, body_loss, code_loss, first_loss, gives_weights, head_may_lose, known_of, known_seen, loss_seen, may_lose, procedure_loss, procedures_at, statement_loss, table, with_procedures};
 
 use gb_core::ty::Ty;
 use gb_core::var::Var;
-use gb_goal::scope::Scope;
-use gb_mods::called::{Procedures, all_reached, calls};
+use gb_goal::scope::{Entry, Scope};
+use gb_mods::called::{Procedures, same_procedure};
+use gb_mods::footprint::references;
 use gb_shared::Shared;
 use gb_terms::decl::Proc;
 use gb_terms::module::ProcRef;
@@ -71,13 +72,32 @@ fn any_may_lose(list: &[Term]) -> bool
     false
 }
 
-/// Where a statement may lose weight, but for what it calls.
+/// A procedure, and where it may lose weight first, with what it calls.
+#[derive(Drop)]
+pub struct Known<'a> {
+    pub procedure: Shared<ProcRef>,
+    pub loss: Loss<'a>,
+}
+
+/// What is known of a procedure.
+fn known_of<'a>(known: &[Known<'a>], procedure: &ProcRef) -> Loss<'a>
+    ensures { loss_seen result ≡ known_of (map known_seen known.now) procedure.now }
+{
+    for x in known {
+        if same_procedure(x.procedure.get(), procedure) {
+            return x.loss;
+        }
+    }
+    Loss::Called
+}
+
+/// Where a statement may lose weight first, with what it calls.
 #[cycle(statements)]
-fn statement_loss(statement: &Instr) -> Loss<'_>
-    ensures { loss_seen result ≡ statement_loss statement.now }
+fn statement_loss<'a>(known: &[Known<'a>], statement: &'a Instr) -> Loss<'a>
+    ensures { loss_seen result ≡ statement_loss (map known_seen known.now) statement.now }
 {
     match statement {
-        Instr::Assign(..) | Instr::Call(..) => Loss::Nowhere,
+        Instr::Assign(..) => Loss::Nowhere,
         Instr::Sample(target, from) => {
             if may_lose(from) {
                 Loss::Sampled(target)
@@ -85,21 +105,22 @@ fn statement_loss(statement: &Instr) -> Loss<'_>
                 Loss::Nowhere
             }
         }
-        Instr::If(_, yes, no) => match own_loss(yes.list.as_slice()) {
-            Loss::Nowhere => own_loss(no.list.as_slice()),
+        Instr::Call(_, procedure, _) => known_of(known, procedure.get()),
+        Instr::If(_, yes, no) => match body_loss(known, yes.list.as_slice()) {
+            Loss::Nowhere => body_loss(known, no.list.as_slice()),
             found => found,
         },
-        Instr::While(_, _, body) => own_loss(body.list.as_slice()),
+        Instr::While(_, _, body) => body_loss(known, body.list.as_slice()),
     }
 }
 
-/// Where a body may lose weight first, but for what it calls.
+/// Where a body may lose weight first, in the order of the text, with what it calls at each call.
 #[cycle(statements)]
-fn own_loss(list: &[Instr]) -> Loss<'_>
-    ensures { loss_seen result ≡ own_loss list.now }
+fn body_loss<'a>(known: &[Known<'a>], list: &'a [Instr]) -> Loss<'a>
+    ensures { loss_seen result ≡ body_loss (map known_seen known.now) list.now }
 {
     for statement in list {
-        match statement_loss(statement) {
+        match statement_loss(known, statement) {
             Loss::Nowhere => {}
             found => return found,
         }
@@ -107,45 +128,64 @@ fn own_loss(list: &[Instr]) -> Loss<'_>
     Loss::Nowhere
 }
 
-/// Where a procedure may lose weight first, but for what it calls.
-fn procedure_loss<'a>(found: Option<&'a Proc>) -> Loss<'a>
-    ensures { loss_seen result ≡ procedure_loss (option_copied found.entry) }
+/// The same of a procedure.
+fn procedure_loss<'a>(known: &[Known<'a>], found: Option<&'a Proc>) -> Loss<'a>
+    ensures { loss_seen result ≡ procedure_loss (map known_seen known.now) (option_copied found.entry) }
 {
     match found {
-        Some(procedure) => own_loss(procedure.body.list.as_slice()),
+        Some(procedure) => body_loss(known, procedure.body.list.as_slice()),
         None => Loss::Called,
     }
 }
 
-/// Where procedures may lose weight first, but for what they call.
-fn losses<'a>(scope: &'a Scope, list: &[Shared<ProcRef>]) -> Loss<'a>
-    ensures { loss_seen result ≡ losses scope.now list.now }
-{
-    for procedure in list {
-        match procedure_loss(scope.procedure(procedure.get())) {
-            Loss::Nowhere => {}
-            found => return found,
-        }
-    }
-    Loss::Nowhere
-}
-
-/// Where procedures, or what they call, may lose weight first.
-#[tactic(auto, unfolding(crate::specs::Loss::reached_loss))]
-fn reached_loss<'a>(
+/// What is known of procedures, each by those before it.
+fn with_procedures<'a>(
     alloc: Global,
     scope: &'a Scope,
-    first: Procedures,
-) -> Result<Loss<'a>, AllocError>
-    ensures { IfOk result (λ lost. loss_seen lost ≡ reached_loss scope.now first) }
+    list: &[Shared<ProcRef>],
+) -> Result<Items<Known<'a>>, AllocError>
+    ensures { IfOk result (λ made. map known_seen made ≡ with_procedures scope.now [] list.now) }
 {
-    match all_reached(alloc, scope, first)? {
-        Some(all) => Ok(losses(scope, all.as_slice())),
-        None => Ok(Loss::Called),
+    let mut known = Items::new(alloc);
+    for x in list {
+        let loss = procedure_loss(known.as_slice(), scope.procedure(x.get()));
+        let procedure = x.share()?;
+        known.push(Known { procedure, loss })?;
+    }
+    Ok(known)
+}
+
+/// The procedures of a declared thing, where it is a module.
+fn procedures_at(alloc: Global, entry: Option<&Entry>) -> Result<Procedures, AllocError>
+    ensures { IfOk result (λ made. made ≡ procedures_at (option_copied entry.entry)) }
+{
+    match entry {
+        Some(Entry::Module(module)) => references(alloc, &module.name, module.procs.as_slice()),
+        _ => Ok(Items::new(alloc)),
     }
 }
 
-/// Where a body may lose weight first: in itself, and else in what it calls.
+/// The procedures of all modules, in order of declaration.
+fn all_procedures(alloc: Global, scope: &Scope) -> Result<Procedures, AllocError>
+    ensures { IfOk result (λ made. made ≡ all_procedures scope.now) }
+{
+    let mut all = Items::new(alloc);
+    for i in 0..scope.len() {
+        all.append(procedures_at(alloc, scope.entry_at(i))?)?;
+    }
+    Ok(all)
+}
+
+/// What is known of all procedures. Each calls those that are declared before it.
+#[tactic(auto, unfolding(crate::specs::Loss::table))]
+fn table<'a>(alloc: Global, scope: &'a Scope) -> Result<Items<Known<'a>>, AllocError>
+    ensures { IfOk result (λ made. map known_seen made ≡ table scope.now) }
+{
+    let all = all_procedures(alloc, scope)?;
+    with_procedures(alloc, scope, all.as_slice())
+}
+
+/// Where a body may lose weight first, in the order of the text, with what it calls at each call.
 pub fn first_loss<'a>(
     alloc: Global,
     scope: &'a Scope,
@@ -153,13 +193,8 @@ pub fn first_loss<'a>(
 ) -> Result<Loss<'a>, AllocError>
     ensures { IfOk result (λ lost. loss_seen lost ≡ first_loss scope.now list.now) }
 {
-    match own_loss(list) {
-        Loss::Nowhere => {
-            let first = calls(alloc, Items::new(alloc), list)?;
-            reached_loss(alloc, scope, first)
-        }
-        found => Ok(found),
-    }
+    let known = table(alloc, scope)?;
+    Ok(body_loss(known.as_slice(), list))
 }
 
 /// The same of what a judgment speaks of.
@@ -170,12 +205,9 @@ pub fn subject_loss<'a>(
 ) -> Result<Loss<'a>, AllocError>
     ensures { IfOk result (λ lost. loss_seen lost ≡ code_loss scope.now (code_of subject.now)) }
 {
+    let known = table(alloc, scope)?;
     match subject {
-        Subject::Body(body) => first_loss(alloc, scope, body.list.as_slice()),
-        Subject::Proc(named) => {
-            let mut first = Items::new(alloc);
-            first.push(named.share()?)?;
-            reached_loss(alloc, scope, first)
-        }
+        Subject::Body(body) => Ok(body_loss(known.as_slice(), body.list.as_slice())),
+        Subject::Proc(named) => Ok(known_of(known.as_slice(), named.get())),
     }
 }

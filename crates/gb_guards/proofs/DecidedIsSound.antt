@@ -82,7 +82,7 @@ module _ (g : Setting) (s : State) (xs is js ls : List Instr) (m : Memory) where
       subst (λ z. z) (λ i. SameDistribution (sym (run_append g s is ls n) i) (sym (denominator_append g is ls) i) (sym (run_append g s js ls n) i) (sym (denominator_append g js ls) i))
       (same_bind (run g s is n) (denominator g is) (run g s js n) (denominator g js) (λ o. run g s ls o) (denominator g ls) (λ o. run g s ls o) (denominator g ls) h (λ o. same_reflexive (run g s ls o) (denominator g ls)))
 
-  behind_alike : Every (λ n. RunAlikeFrom g s n (statements g is) (statements g js)) (run g s xs m) → RunAlikeFrom g s m (statements g (xs ++ (is ++ ls))) (statements g (xs ++ (js ++ ls)))
+  pub behind_alike : Every (λ n. RunAlikeFrom g s n (statements g is) (statements g js)) (run g s xs m) → RunAlikeFrom g s m (statements g (xs ++ (is ++ ls))) (statements g (xs ++ (js ++ ls)))
   behind_alike h f =
       let one : mass (bind (run g s xs m) (λ n. run g s (is ++ ls) n)) f * denominator g (js ++ ls) ≡ mass (run g s xs m) (λ n. denominator g (is ++ ls) * mass (run g s (js ++ ls) n) f) =
       mass-bind_every {P = λ n. RunAlikeFrom g s n (statements g is) (statements g js)} (run g s xs m) (λ n. run g s (is ++ ls) n) f (λ n. denominator g (is ++ ls) * mass (run g s (js ++ ls) n) f)
@@ -102,14 +102,14 @@ module _ (ds : Declarations) (c : Context) (t : Bool) where
     guard_typed : IsForm (with_own c (Some ls)) e
     guard_typed = test_typed c ls e x (Some ls) c.left c.right side.Own tt refl b
 
-    deciding_typed : (u : Bool) → IsForm (with_own c (Some ls)) (deciding u e)
+    pub deciding_typed : (u : Bool) → IsForm (with_own c (Some ls)) (deciding u e)
     deciding_typed true = guard_typed
     deciding_typed false = not_typed (with_own c (Some ls)) e guard_typed
 
     guard_is : (g : Setting) (j : Judge) (s : State) (n : Memory) → den g j e (at s n) ≡ is_true g s e n
     guard_is g j s n = ap truth (located_value c ls e x g (speaking g j) (at s n) side.Own tt)
 
-    decided_is : (u : Bool) (g : Setting) (j : Judge) (s : State) (n : Memory) → den g j (deciding u e) (at s n) ≡ true → is_true g s e n ≡ u
+    pub decided_is : (u : Bool) (g : Setting) (j : Judge) (s : State) (n : Memory) → den g j (deciding u e) (at s n) ≡ true → is_true g s e n ≡ u
     decided_is true g j s n h = sym (guard_is g j s n) ∙ h
     decided_is false g j s n h = sym (guard_is g j s n) ∙ negated (den g j e (at s n)) (sym (true_not g j e (at s n)) ∙ h)
       where

@@ -1,6 +1,6 @@
-mod Deciding
-mod DecidedIsSound
-mod RulesAreSound
-mod Shapes
+pub mod Deciding
+pub mod DecidedIsSound
+pub mod RulesAreSound
+pub mod Shapes
 mod Turns
 mod UnrollIsSound

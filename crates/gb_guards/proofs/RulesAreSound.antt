@@ -28,7 +28,7 @@ module _ (ds : Declarations) (scoped : IsTypedScope (declared ds)) (q : Sequent)
   abbrev c : Context
   c = of_sequent (context_of (declared ds)) q t.frames
 
-  guard_sound : (a : Acts) (k : Transformation) → IsSoundLoopRule (declared ds) c (guard_row ds a k) no_arguments
+  pub guard_sound : (a : Acts) (k : Transformation) → IsSoundLoopRule (declared ds) c (guard_row ds a k) no_arguments
   guard_sound a (Decided n u) outer ls rs G x y Gs e = decided_sound (declared ds) c u n a outer ls rs G x y Gs e
   guard_sound a (Unroll n) outer ls rs G x y Gs e = unroll_sound (declared ds) c n a outer ls rs G x y Gs e
   guard_sound a (Swap w) outer ls rs G x y Gs e = transformation_ends ds scoped q t a (Swap w) outer ls rs G x y Gs e

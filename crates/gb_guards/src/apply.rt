@@ -15,7 +15,7 @@ use gb_trans::apply::transform;
 use std::alloc::Global;
 
 /// The subgoals of a rule that puts other statements into the programs on which it acts.
-fn guarded(
+pub fn guarded(
     alloc: Global,
     acts: Acts,
     rule: &Transformation,

@@ -43,7 +43,7 @@ pub enum Left<'a> {
 }
 
 /// What a statement comes to where its guard is true, or false. None of a statement without a guard.
-fn decision(holds: bool, statement: &Instr) -> Option<Guarded<'_>>
+pub fn decision(holds: bool, statement: &Instr) -> Option<Guarded<'_>>
     ensures { option_map (decision_seen statement.now) result ≡ decision holds statement.now (out-Instr statement.now) }
 {
     match statement {
@@ -111,7 +111,7 @@ fn with_decision(
 }
 
 /// The judgment that the guard is as it is said after what stands before the statement.
-fn guard_judged(
+pub fn guard_judged(
     alloc: Global,
     holds: bool,
     pre: &Form,
@@ -127,7 +127,7 @@ fn guard_judged(
 }
 
 /// The goal with what is left of a statement in its place.
-fn goal_left(
+pub fn goal_left(
     alloc: Global,
     one: &OneBody<'_>,
     at: &Placed<'_>,

@@ -9,6 +9,4 @@ pub mod lexing;
 pub mod piece;
 pub mod places;
 pub mod symbol;
-#[cfg(test)]
-mod tests;
 pub mod token;

@@ -38,7 +38,7 @@ module_same : (m n : Mexp) → same_module m n ≡ true → m ≡ n
 module_same (Name x) (Name y) e = ap Name ((bytes_eq-Decides x y).0 e)
 module_same _ _ e = cc
 
-procedure_same : (p q : ProcRef) → same_procedure p q ≡ true → p ≡ q
+pub procedure_same : (p q : ProcRef) → same_procedure p q ≡ true → p ≡ q
 procedure_same p q e =
     let k = and_parts (same_module p.module q.module) (bytes_eq p.name q.name) e in
     λ i. record { «module» = module_same p.module q.module k.0 i; name = (bytes_eq-Decides p.name q.name).0 k.1 i }

@@ -1,5 +1,6 @@
 pub mod CalledSteps
 pub mod OrderSteps
 pub mod TouchedSteps
+pub mod ReadSteps
 pub mod WrittenSteps
 pub mod Closed

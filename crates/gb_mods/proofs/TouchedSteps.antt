@@ -27,7 +27,7 @@ pub variables_behind : (t : Term) (found : List Var) → (found ++ head_variable
 variables_behind t found =
     append_assoc found (head_variables (out-Term t).head) (each_variables (out-Term t).args) ∙ ap (λ l. found ++ l) (sym (variables_out t))
 
-variables_list : (ts : List Term) → variables_in (B.hidden-the_row-Term-0 ts) ≡ each_variables ts
+pub variables_list : (ts : List Term) → variables_in (B.hidden-the_row-Term-0 ts) ≡ each_variables ts
 variables_list ts = variables_row (B.hidden-the_row-Term-0 ts) ∙ ap each_variables (items_hidden-the_row-Term-0 ts)
 
 touched_row : {n : Count} (r : Row_of-Instr n) → touched_in apart r ≡ each_touched (items-the_row-Instr _ r)

@@ -51,7 +51,7 @@ pub fn calls(alloc: Global, found: Procedures, list: &[Instr]) -> Result<Procedu
 }
 
 /// Whether both mean the same procedure of a module that they name by its name alone.
-fn same_procedure(a: &ProcRef, b: &ProcRef) -> bool
+pub fn same_procedure(a: &ProcRef, b: &ProcRef) -> bool
     ensures { result ≡ same_procedure a.now b.now }
 {
     match (&a.module, &b.module) {

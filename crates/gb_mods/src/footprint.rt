@@ -40,7 +40,7 @@ fn reference(alloc: Global, module: &Name, procedure: &Proc) -> Result<Shared<Pr
 }
 
 /// Procedures of a module of this name.
-fn references(alloc: Global, module: &Name, list: &[Proc]) -> Result<Procedures, AllocError>
+pub fn references(alloc: Global, module: &Name, list: &[Proc]) -> Result<Procedures, AllocError>
     ensures { IfOk result (λ made. made ≡ references «module».now list.now) }
 {
     let mut all = Items::new(alloc);

@@ -1,8 +1,10 @@
-//! What procedures and modules read and write, through all procedures that they call.
+//! What procedures and modules read and write, through all procedures that they call, and what a procedure is linked to.
 #![tactic(auto)]
 
 pub mod called;
 pub mod footprint;
 pub mod order;
+pub mod procedures;
+pub mod read;
 pub mod touched;
 pub mod written;

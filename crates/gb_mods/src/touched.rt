@@ -27,7 +27,7 @@ fn with_head(alloc: Global, found: Vars, head: &Head) -> Result<Vars, AllocError
 
 /// Variables behind others, with those that an expression reads.
 #[cycle(variables)]
-fn variables(alloc: Global, found: Vars, term: &Term) -> Result<Vars, AllocError>
+pub fn variables(alloc: Global, found: Vars, term: &Term) -> Result<Vars, AllocError>
     ensures { IfOk result (λ made. made ≡ found ++ variables term.now) }
 {
     let found = with_head(alloc, found, term.head.get())?;
@@ -36,7 +36,7 @@ fn variables(alloc: Global, found: Vars, term: &Term) -> Result<Vars, AllocError
 
 /// The same of expressions one after another.
 #[cycle(variables)]
-fn each_variables(alloc: Global, found: Vars, list: &[Term]) -> Result<Vars, AllocError>
+pub fn each_variables(alloc: Global, found: Vars, list: &[Term]) -> Result<Vars, AllocError>
     ensures { IfOk result (λ made. made ≡ found ++ each_variables list.now) }
 {
     let mut all = found;

@@ -1,10 +1,9 @@
 //! Which variables statements and procedures write.
 
 ghost use Rattle.std.specs.Prelude.{◌≡◌, ◌++◌, IfOk};
-ghost use Rattle.gb_mods.specs.Written.{statement_targets, targets, written, written_by};
+ghost use Rattle.gb_mods.specs.Written.{statement_targets, targets, written_by};
 
-use crate::called::all_reached;
-use crate::order::{globals_among, joined, with_variables};
+use crate::order::{globals_among, with_variables};
 use gb_core::copy::copy_var;
 use gb_core::var::Vars;
 use gb_goal::scope::Scope;
@@ -66,25 +65,4 @@ pub fn written_by(
         all = with_variables(alloc, all, own.as_slice())?;
     }
     Ok(Some(all))
-}
-
-/// The globals that a procedure writes, through every procedure that it calls, in order. None where one of these isn't declared by its name.
-#[tactic(auto, unfolding(crate::specs::Written::written))]
-pub fn written(
-    alloc: Global,
-    scope: &Scope,
-    procedure: &Shared<ProcRef>,
-) -> Result<Option<Vars>, AllocError>
-    ensures { IfOk result (λ made. made ≡ written scope.now procedure.now) }
-{
-    let mut first = Items::new(alloc);
-    first.push(procedure.share()?)?;
-    let Some(all) = all_reached(alloc, scope, first)? else {
-        return Ok(None);
-    };
-    let Some(found) = written_by(alloc, scope, all.as_slice())? else {
-        return Ok(None);
-    };
-    let ordered = joined(alloc, found.as_slice(), Items::new(alloc))?;
-    Ok(Some(ordered))
 }

@@ -4,3 +4,5 @@ pub mod Bodies
 pub mod Ranks
 pub mod FinalModules
 pub mod SameFootprint
+pub mod Linked
+pub mod ReadGlobals

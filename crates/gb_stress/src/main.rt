@@ -3,11 +3,12 @@
 //! Its words are four numbers. With the first it makes the form with this many negations over one variable twice, compares the
 //! two and lets them go: a form has 65,536 nodes at most, so 65,535 levels are the deepest. With the second it puts `true` in
 //! the place of the variable of such a form. With the third it opens this many goals of two programs that flip coins, and with
-//! the fourth it makes this many steps at the first one.
+//! the fourth it makes this many steps at the first one. In any case it tells what a small procedure reads and writes.
 #![tactic(auto)]
 
 mod deep;
 mod goals;
+mod procedures;
 
 use std::{env, io};
 
@@ -24,5 +25,6 @@ fn main(rt: HostRuntime) -> io::Result<()> {
         deep::forms(&rt, number(levels.as_str()), number(changed.as_str()))?;
         goals::steps(&rt, number(goals.as_str()), number(steps.as_str()))?;
     }
+    procedures::effects(&rt)?;
     Ok(())
 }

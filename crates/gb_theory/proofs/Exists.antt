@@ -9,6 +9,8 @@ use Rattle.gb_goal.specs.Scope.{Declarations}
 use Rattle.gb_goal.specs.declared.sequent.Sequent.{Sequent}
 use Rattle.gb_steps.specs.declared.step.AmbientRule.{AmbientRule}
 use Rattle.gb_steps.specs.declared.step.UseRule.{UseRule}
+use Rattle.gb_steps.specs.declared.step.RelationalRule.{RelationalRule}
+use Rattle.gb_steps.specs.declared.step.RelationalRule.TheVariants as on_both
 use Rattle.gb_steps.specs.declared.step.Rule.{Rule}
 use Rattle.gb_steps.specs.declared.step.Rule.TheVariants as rule
 use Rattle.gb_lex.specs.Lex.{tokens_of, fault_of, IsCharacterFault, cut_of}
@@ -35,9 +37,10 @@ use Rattle.gb_amb.specs.Steps.{IsAnswer}
 use Rattle.gb_linear.specs.Closing.{linear_answer}
 use Rattle.gb_use.specs.Uses as uses
 use Rattle.gb_call_known.proofs.Answered as known_calls
+use Rattle.gb_sim.proofs.Answered as same_statements
 use Rattle.gb_rewrite.specs.Rewriting.{rewrite_answer}
 use Rattle.gb_theory.specs.Built.{Session, OpenProof, fresh_session}
-use Rattle.gb_theory.specs.Commands.{After, requires_files, assumes, brings, declares, opens, opens_loops, begun, ended, closed_unless, row_of, Applied, allowed, entered, RuleAnswers, AreRules, continued, WorksOn, InProof, Proves, ComesToOf, ComesTo}
+use Rattle.gb_theory.specs.Commands.{After, requires_files, assumes, brings, declares, opens, opens_loops, begun, ended, closed_unless, row_of, Applied, allowed, entered, OnBoth, RuleAnswers, AreRules, continued, WorksOn, InProof, Proves, ComesToOf, ComesTo, transformed}
 use Rattle.gb_theory.specs.Combinators.{Stepping, works}
 use Rattle.gb_theory.specs.Outcome.{IsReadAs, IsEnd, Ends, Goes, RunsIn, start, IsOutcome}
 
@@ -58,15 +61,22 @@ module _
     (an_answer : (ds : Declarations) (leaves : List Leaf) → (a : Option Why) × IsAnswerOf ds leaves a)
     (some_answer : (r : AmbientRule) (place : Place) (q : Sequent) → (x : Answer (List Sequent)) × IsAnswer r place q x)
     (some_use_answer : (r : UseRule) (place : Place) (q : Sequent) → (x : Answer (List Sequent)) × uses.IsAnswer r place q x) where
+  on_both_applied : (ds : Declarations) (r : RelationalRule) (place : Place) (q : Sequent) → Some_of (OnBoth ds r place q)
+  on_both_applied ds on_both.Sim place q = same_statements.some_answer ds place q
+  on_both_applied ds (on_both.Rnd fs) place q = (stepped (row_of ds (rule.Relational (on_both.Rnd fs))) place q, refl)
+  on_both_applied ds on_both.Symmetry place q = (stepped (row_of ds (rule.Relational on_both.Symmetry)) place q, refl)
+  on_both_applied ds (on_both.Drawn a) place q = (stepped (row_of ds (rule.Relational (on_both.Drawn a))) place q, refl)
+  on_both_applied ds (on_both.Transitivity t) place q = (stepped (row_of ds (rule.Relational (on_both.Transitivity t))) place q, refl)
+
   applied : (ds : Declarations) (r : Rule) (place : Place) (q : Sequent) → Some_of (Applied ds r place q)
   applied ds (rule.Smt known) place q = let found = an_answer ds (leaves_of known q) in (closed_unless found.0 place, (found.0, found.1, refl))
   applied ds (rule.OnBodies r) place q = (entered ds r place q, refl)
-  applied ds (rule.Relational r) place q = (stepped (row_of ds (rule.Relational r)) place q, refl)
+  applied ds (rule.Relational r) place q = on_both_applied ds r place q
   applied ds (rule.Chance r) place q = (stepped (row_of ds (rule.Chance r)) place q, refl)
   applied ds (rule.Call s) place q = (stepped (row_of ds (rule.Call s)) place q, refl)
   applied ds (rule.CallKnown a f) place q = known_calls.some_answer ds a f place q
   applied ds (rule.While i) place q = (stepped (row_of ds (rule.While i)) place q, refl)
-  applied ds (rule.Transform a t) place q = (stepped (row_of ds (rule.Transform a t)) place q, refl)
+  applied ds (rule.Transform a k) place q = (transformed ds a k place q, refl)
   applied ds (rule.Ambient r) place q = some_answer r place q
   applied ds (rule.Linear ms) place q = (linear_answer ms place q, refl)
   applied ds (rule.Use r) place q = some_use_answer r place q

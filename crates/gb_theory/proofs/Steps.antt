@@ -1,5 +1,5 @@
 -- What rules give, and the goals after a step.
-use Rattle.std.proofs.Common.{◌≡◌, List, [], ◌∷◌, ◌++◌, drop, Some, None, ap, sym, ◌∙◌, subst}
+use Rattle.std.proofs.Common.{◌≡◌, ℕ, Bool, List, [], ◌∷◌, ◌++◌, drop, Some, None, refl, ap, sym, ◌∙◌, subst}
 use Rattle.std.specs.List.{slice_get}
 use Rattle.std.specs.Prelude.{Result, Ok, Err}
 use Rattle.gb_core.specs.declared.place.Place.{Place}
@@ -16,6 +16,11 @@ use Rattle.gb_script.specs.declared.tree.Node.{Node}
 use Rattle.gb_goal.specs.Answers.{Answer, Answers, Gives, Fails, ◌>>=◌}
 use Rattle.gb_goal.specs.Rows.{stepped}
 use Rattle.gb_steps.specs.declared.step.Acts.{Acts}
+use Rattle.gb_steps.specs.declared.step.Acts.TheVariants as acts
+use Rattle.gb_steps.specs.declared.step.Transformation.{Transformation}
+use Rattle.gb_steps.specs.declared.step.Transformation.TheVariants as transformation
+use Rattle.gb_beside.specs.Beside.{beside_answer}
+use Rattle.gb_inline.specs.Rows as transformations
 use Rattle.gb_steps.specs.declared.step.AmbientRule.{AmbientRule}
 use Rattle.gb_steps.specs.declared.step.RewriteRule.{RewriteRule}
 use Rattle.gb_steps.specs.declared.step.UseRule.{UseRule}
@@ -23,6 +28,7 @@ use Rattle.gb_loops.specs.While.{while_row}
 use Rattle.gb_steps.specs.declared.step.BodyRule.{BodyRule}
 use Rattle.gb_steps.specs.declared.step.Invariant.{Invariant}
 use Rattle.gb_steps.specs.declared.step.RelationalRule.{RelationalRule}
+use Rattle.gb_steps.specs.declared.step.RelationalRule.TheVariants as on_both
 use Rattle.gb_relational.specs.Rows as equiv
 use Rattle.gb_goal.specs.Answers.Answer.{given, refused}
 use Rattle.gb_elab_mod.specs.Steps.{step_given}
@@ -32,10 +38,11 @@ use Rattle.gb_amb.specs.Steps.{IsAnswer, Returns}
 use Rattle.gb_linear.specs.Closing.{linear_answer}
 use Rattle.gb_use.specs.Uses as uses
 use Rattle.gb_call_known.specs.Known as known_calls
+use Rattle.gb_sim.specs.Sim as same_statements
 use Rattle.gb_rewrite.specs.Rewriting.{rewrite_answer}
 use Rattle.gb_theory.specs.Built.{Session, OpenProof, with_goals}
 use Rattle.gb_theory.specs.Combinators.{Stepping, works}
-use Rattle.gb_theory.specs.Commands.{After, allowed, entered, row_of, Applied, AreRules, RuleAnswers, continued, WorksOn}
+use Rattle.gb_theory.specs.Commands.{After, allowed, entered, Applied, AreRules, OnBoth, RuleAnswers, continued, on_guard, transformed, WorksOn}
 use Rattle.gb_theory.specs.Sessions.{Meets, IsDue}
 use Rattle.gb_theory.proofs.Answered.{gives_meets}
 
@@ -90,11 +97,65 @@ while_meets ds r v place q result is h =
     subst (λ x. Meets (λ (y : List Sequent). y) (Applied ds x place q) result) (sym is)
     (gives_meets (λ (x : List Sequent). x) (Applied ds (rule.While v) place q) (stepped (while_row ds v.acts v.kept) place q) result h (λ x e. e))
 
-pub relational_meets : (ds : Declarations) (r : Rule) (b : RelationalRule) (place : Place) (q : Sequent) (result : Result (List Sequent) Refused)
-    → r ≡ rule.Relational b → Answers (stepped (equiv.rule_row r) place q) result → Meets (λ (x : List Sequent). x) (Applied ds r place q) result
-relational_meets ds r b place q result is h =
-    subst (λ x. Answers (stepped (equiv.rule_row x) place q) result → Meets (λ (y : List Sequent). y) (Applied ds x place q) result) (sym is)
-    (λ k. gives_meets (λ (x : List Sequent). x) (Applied ds (rule.Relational b) place q) (stepped (row_of ds (rule.Relational b)) place q) result k (λ x e. e)) h
+pub both_meets : (ds : Declarations) (r : Rule) (b : RelationalRule) (place : Place) (q : Sequent) (result : Result (List Sequent) Refused)
+    → r ≡ rule.Relational b → (b ≡ on_both.Sim → ⊥) → Answers (stepped (equiv.rule_row r) place q) result → Meets (λ (x : List Sequent). x) (Applied ds r place q) result
+both_meets ds r b place q result is other h =
+    subst (λ x. Meets (λ (y : List Sequent). y) (Applied ds x place q) result) (sym is)
+    (of_rule b other (subst (λ x. Answers (stepped (equiv.rule_row x) place q) result) is h))
+  where
+    of_rule : (b : RelationalRule) → (b ≡ on_both.Sim → ⊥) → Answers (stepped (equiv.rule_row (rule.Relational b)) place q) result →
+        Meets (λ (y : List Sequent). y) (Applied ds (rule.Relational b) place q) result
+    of_rule on_both.Sim n k = absurd (n refl)
+    of_rule (on_both.Rnd fs) n k =
+        gives_meets (λ (x : List Sequent). x) (OnBoth ds (on_both.Rnd fs) place q) (stepped (equiv.rule_row (rule.Relational (on_both.Rnd fs))) place q) result k (λ x e. e)
+    of_rule on_both.Symmetry n k =
+        gives_meets (λ (x : List Sequent). x) (OnBoth ds on_both.Symmetry place q) (stepped (equiv.rule_row (rule.Relational on_both.Symmetry)) place q) result k (λ x e. e)
+    of_rule (on_both.Drawn a) n k =
+        gives_meets (λ (x : List Sequent). x) (OnBoth ds (on_both.Drawn a) place q) (stepped (equiv.rule_row (rule.Relational (on_both.Drawn a))) place q) result k (λ x e. e)
+    of_rule (on_both.Transitivity t) n k =
+        gives_meets (λ (x : List Sequent). x) (OnBoth ds (on_both.Transitivity t) place q) (stepped (equiv.rule_row (rule.Relational (on_both.Transitivity t))) place q) result k
+        (λ x e. e)
+
+-- what the rule on the same statements gives is what is applied
+pub same_meets : (ds : Declarations) (r : Rule) (b : RelationalRule) (place : Place) (q : Sequent) (result : Result (List Sequent) Refused)
+    → r ≡ rule.Relational b → b ≡ on_both.Sim → Returns (same_statements.IsAnswer ds place q) result → Meets (λ (x : List Sequent). x) (Applied ds r place q) result
+same_meets ds r b place q result is sim h =
+    subst (λ x. Meets (λ (y : List Sequent). y) (Applied ds x place q) result) (sym (is ∙ ap rule.Relational sim)) (returned (same_statements.IsAnswer ds place q) result h)
+
+-- what a rule that puts other statements into a program gives is what is applied
+pub programs_meet : (ds : Declarations) (r : Rule) (a : Acts) (k : Transformation) (place : Place) (q : Sequent) (result : Result (List Sequent) Refused)
+    → r ≡ rule.Transform a k → Answers (transformed ds a k place q) result → Meets (λ (x : List Sequent). x) (Applied ds r place q) result
+programs_meet ds r a k place q result is h =
+    subst (λ x. Meets (λ (y : List Sequent). y) (Applied ds x place q) result) (sym is)
+    (gives_meets (λ (x : List Sequent). x) (Applied ds (rule.Transform a k) place q) (transformed ds a k place q) result h (λ x e. e))
+
+-- a rule on a guard, on one program and on one of two
+pub guard_answers : (ds : Declarations) (r : Rule) (a : Acts) (n : ℕ) (t : Bool) (place : Place) (q : Sequent) (result : Result (List Sequent) Refused)
+    → r ≡ rule.Transform a (transformation.Decided n t) → a ≡ acts.All → Answers (stepped (transformations.rule_row ds r) place q) result → Answers (on_guard ds a n t place q) result
+guard_answers ds r a n t place q result is all h =
+    subst (λ a. Answers (on_guard ds a n t place q) result) (sym all)
+    (subst (λ r. Answers (stepped (transformations.rule_row ds r) place q) result) (is ∙ ap (λ a. rule.Transform a (transformation.Decided n t)) all) h)
+
+pub beside_answers : (ds : Declarations) (a : Acts) (n : ℕ) (t : Bool) (place : Place) (q : Sequent) (result : Result (List Sequent) Refused)
+    → (a ≡ acts.All → ⊥) → Answers (beside_answer n t a place q) result → Answers (on_guard ds a n t place q) result
+beside_answers ds acts.All n t place q result other h = absurd (other refl)
+beside_answers ds acts.Left n t place q result other h = h
+beside_answers ds acts.Right n t place q result other h = h
+
+-- what a transformation of other rows gives
+pub row_answers : (ds : Declarations) (r : Rule) (a : Acts) (k : Transformation) (place : Place) (q : Sequent) (result : Result (List Sequent) Refused)
+    → r ≡ rule.Transform a k → ((n : ℕ) (t : Bool) → k ≡ transformation.Decided n t → ⊥) → Answers (stepped (transformations.rule_row ds r) place q) result
+    → Answers (transformed ds a k place q) result
+row_answers ds r a k place q result is other h =
+    of_rule k other (subst (λ x. Answers (stepped (transformations.rule_row ds x) place q) result) is h)
+  where
+    of_rule : (k : Transformation) → ((n : ℕ) (t : Bool) → k ≡ transformation.Decided n t → ⊥) → Answers (stepped (transformations.rule_row ds (rule.Transform a k)) place q) result →
+        Answers (transformed ds a k place q) result
+    of_rule (transformation.Decided n t) f w = absurd (f n t refl)
+    of_rule (transformation.Swap p) f w = w
+    of_rule (transformation.Kill n) f w = w
+    of_rule (transformation.Unroll n) f w = w
+    of_rule (transformation.Inline x) f w = w
 
 -- what multiples of hypotheses give is what is applied
 pub linear_meets : (ds : Declarations) (r : Rule) (ms : List Multiple) (place : Place) (q : Sequent) (result : Result (List Sequent) Refused)

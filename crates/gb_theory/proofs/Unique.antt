@@ -11,6 +11,8 @@ use Rattle.gb_goal.specs.declared.sequent.Sequent.{Sequent}
 use Rattle.gb_steps.specs.declared.step.AmbientRule.{AmbientRule}
 use Rattle.gb_steps.specs.declared.step.UseRule.{UseRule}
 use Rattle.gb_steps.specs.declared.step.Step.{Step}
+use Rattle.gb_steps.specs.declared.step.RelationalRule.{RelationalRule}
+use Rattle.gb_steps.specs.declared.step.RelationalRule.TheVariants as on_both
 use Rattle.gb_steps.specs.declared.step.Rule.{Rule}
 use Rattle.gb_steps.specs.declared.step.Rule.TheVariants as rule
 use Rattle.gb_lex.specs.Lex.{tokens_of, fault_of, IsCharacterFault, cut_of}
@@ -35,8 +37,9 @@ use Rattle.gb_smt.specs.Apply.{IsAnswerOf}
 use Rattle.gb_amb.specs.Steps.{IsAnswer}
 use Rattle.gb_use.specs.Uses as uses
 use Rattle.gb_call_known.proofs.Answered as known_calls
+use Rattle.gb_sim.proofs.Answered as same_statements
 use Rattle.gb_theory.specs.Built.{Session, OpenProof, fresh_session}
-use Rattle.gb_theory.specs.Commands.{After, closed_unless, Applied, allowed, RuleAnswers, AreRules, continued, WorksOn, InProof, Proves, ComesToOf, ComesTo}
+use Rattle.gb_theory.specs.Commands.{After, closed_unless, Applied, OnBoth, allowed, RuleAnswers, AreRules, continued, WorksOn, InProof, Proves, ComesToOf, ComesTo}
 use Rattle.gb_theory.specs.Combinators.{Stepping, works}
 use Rattle.std.proofs.Math.Path.{fun_ext}
 use Rattle.gb_theory.specs.Outcome.{IsReadAs, IsEnd, Ends, RunsTo, Goes, RunsIn, start, IsOutcome}
@@ -57,11 +60,18 @@ module _
     (one_answer : (ds : Declarations) (leaves : List Leaf) (a b : Option Why) → IsAnswerOf ds leaves a → IsAnswerOf ds leaves b → a ≡ b)
     (one_step_answer : (r : AmbientRule) (place : Place) (q : Sequent) (x y : Answer (List Sequent)) → IsAnswer r place q x → IsAnswer r place q y → x ≡ y)
     (one_use_answer : (r : UseRule) (place : Place) (q : Sequent) (x y : Answer (List Sequent)) → uses.IsAnswer r place q x → uses.IsAnswer r place q y → x ≡ y) where
+  one_on_both : (ds : Declarations) (r : RelationalRule) (place : Place) (q : Sequent) (x y : Answer (List Sequent)) → OnBoth ds r place q x → OnBoth ds r place q y → x ≡ y
+  one_on_both ds on_both.Sim place q x y h k = same_statements.one_answer ds place q x y h k
+  one_on_both ds (on_both.Rnd fs) place q x y h k = h ∙ sym k
+  one_on_both ds on_both.Symmetry place q x y h k = h ∙ sym k
+  one_on_both ds (on_both.Drawn a) place q x y h k = h ∙ sym k
+  one_on_both ds (on_both.Transitivity t) place q x y h k = h ∙ sym k
+
   one_applied : (ds : Declarations) (r : Rule) (place : Place) (q : Sequent) (x y : Answer (List Sequent)) → Applied ds r place q x → Applied ds r place q y → x ≡ y
   one_applied ds (rule.Smt known) place q x y h k =
       h.2 ∙ (ap (λ (found : Option Why). closed_unless found place) (one_answer ds (leaves_of known q) h.0 k.0 h.1 k.1) ∙ sym k.2)
   one_applied ds (rule.OnBodies r) place q x y h k = h ∙ sym k
-  one_applied ds (rule.Relational r) place q x y h k = h ∙ sym k
+  one_applied ds (rule.Relational r) place q x y h k = one_on_both ds r place q x y h k
   one_applied ds (rule.Chance r) place q x y h k = h ∙ sym k
   one_applied ds (rule.Call s) place q x y h k = h ∙ sym k
   one_applied ds (rule.CallKnown a f) place q x y h k = known_calls.one_answer ds a f place q x y h k

@@ -7,10 +7,16 @@ use Rattle.gb_goal.specs.Goal.{Goal, goal_of}
 use Rattle.gb_goal.specs.Scope.{Declarations, declarations_in, path_of}
 use Rattle.gb_goal.specs.declared.scope.ProcName.{ProcName}
 use Rattle.gb_goal.specs.declared.sequent.Sequent.{Sequent}
+use Rattle.gb_steps.specs.declared.step.Acts.{Acts}
+use Rattle.gb_steps.specs.declared.step.Acts.TheVariants as acts
 use Rattle.gb_steps.specs.declared.step.BodyRule.{BodyRule}
 use Rattle.gb_steps.specs.declared.step.BodyRule.TheVariants as on_bodies
+use Rattle.gb_steps.specs.declared.step.RelationalRule.{RelationalRule}
+use Rattle.gb_steps.specs.declared.step.RelationalRule.TheVariants as on_both
 use Rattle.gb_steps.specs.declared.step.Rule.{Rule}
 use Rattle.gb_steps.specs.declared.step.Rule.TheVariants as rule
+use Rattle.gb_steps.specs.declared.step.Transformation.{Transformation}
+use Rattle.gb_steps.specs.declared.step.Transformation.TheVariants as transformation
 use Rattle.gb_script.specs.declared.head.Head.{Head}
 use Rattle.gb_script.specs.declared.head.Head.TheVariants as head
 use Rattle.gb_script.specs.declared.tree.Node.{Node}
@@ -29,7 +35,9 @@ use Rattle.gb_relational.specs.Rows as equiv
 use Rattle.gb_phoare.specs.Rows as chances
 use Rattle.gb_call_both.specs.Rows as calls
 use Rattle.gb_call_known.specs.Known as known_calls
-use Rattle.gb_guards.specs.Rows as transformations
+use Rattle.gb_beside.specs.Beside.{beside_answer}
+use Rattle.gb_inline.specs.Rows as transformations
+use Rattle.gb_sim.specs.Sim as same_statements
 use Rattle.gb_smt.specs.Leaves.{leaves_of}
 use Rattle.gb_smt.specs.Apply.{IsAnswerOf}
 use Rattle.gb_amb.specs.Steps as conclusions
@@ -172,6 +180,21 @@ entered ds r place q = do
   _ ← entering ds r place (goal_of q.conclusion)
   stepped (bodies.rule_row ds (rule.OnBodies r)) place q
 
+-- what a rule on equivalences gives; the rule on the same statements on both sides has one answer
+abbrev pub OnBoth : Declarations → RelationalRule → Place → Sequent → Answer (List Sequent) → Type 0
+OnBoth ds on_both.Sim place q x = same_statements.IsAnswer ds place q x
+OnBoth ds r place q x = x ≡ stepped (row_of ds (rule.Relational r)) place q
+
+-- what a rule on a guard gives: on one of two programs it has a goal in a wider context
+abbrev pub on_guard : Declarations → Acts → ℕ → Bool → Place → Sequent → Answer (List Sequent)
+on_guard ds acts.All n t place q = stepped (row_of ds (rule.Transform acts.All (transformation.Decided n t))) place q
+on_guard ds a n t place q = beside_answer n t a place q
+
+-- what a rule that puts other statements into a program gives
+abbrev pub transformed : Declarations → Acts → Transformation → Place → Sequent → Answer (List Sequent)
+transformed ds a (transformation.Decided n t) place q = on_guard ds a n t place q
+transformed ds a k place q = stepped (row_of ds (rule.Transform a k)) place q
+
 -- What a rule gives for a goal: its subgoals, or why it refuses the goal. What `smt` finds has one answer, and so has a step on a
 -- conclusion, or one that uses a form.
 abbrev pub Applied : Declarations → Rule → Place → Sequent → Answer (List Sequent) → Type 0
@@ -182,6 +205,8 @@ Applied ds (rule.Use r) place q x = uses.IsAnswer r place q x
 Applied ds (rule.CallKnown a f) place q x = known_calls.IsAnswer ds a f place q x
 Applied ds (rule.Rewrite r) place q x = x ≡ rewrite_answer ds r place q
 Applied ds (rule.OnBodies r) place q x = x ≡ entered ds r place q
+Applied ds (rule.Relational r) place q x = OnBoth ds r place q x
+Applied ds (rule.Transform a k) place q x = x ≡ transformed ds a k place q
 Applied ds r place q x = x ≡ stepped (row_of ds r) place q
 
 -- What a rule of a text answers at a goal, with its arguments typed there: its subgoals, each within the limits of a goal.

@@ -8,7 +8,7 @@ ghost use Rattle.gb_goal.specs.declared.sequent.Sequent.{Sequent as Goal};
 ghost use Rattle.gb_limits.specs.Numbers.{number_of};
 ghost use Rattle.gb_script.specs.declared.tree.Node.{Node as Tree};
 ghost use Rattle.gb_script.specs.Tree.{head_of, parts_of, text_of, place_of};
-ghost use Rattle.gb_theory.specs.Commands.{AreRules, RuleAnswers, Applied, allowed, entered, entering, unless_unproved};
+ghost use Rattle.gb_theory.specs.Commands.{AreRules, RuleAnswers, Applied, allowed, entered, entering, on_guard, transformed, unless_unproved};
 ghost use Rattle.gb_theory.specs.Patterns.{is_pattern};
 ghost use Rattle.gb_theory.specs.Combinators.{Stepping, done_at, fitted, inside, introduced, on_each, in_turn, ruled, spread, or_left, times, stepped_by, worked, works};
 ghost use Rattle.gb_theory.specs.Sessions.{Meets};
@@ -29,7 +29,7 @@ use gb_names::refusals::{argument, not_built};
 use gb_parts::subgoals::{placed, refusal};
 use gb_script::head::Head;
 use gb_script::tree::Node;
-use gb_steps::step::{BodyRule, Rule, Step};
+use gb_steps::step::{Acts, BodyRule, RelationalRule, Rule, Step, Transformation};
 use sqlite_items::Items;
 use std::alloc::{AllocError, Global};
 
@@ -81,16 +81,72 @@ fn on_bodies(
     gb_bodies::apply::apply(alloc, step, goal, scope)
 }
 
+/// The subgoals of a rule on equivalences.
+fn on_both(
+    alloc: Global,
+    step: &Step,
+    rule: &RelationalRule,
+    goal: &Sequent,
+    scope: &Scope,
+) -> Result<Sequents, Refused>
+    requires { step.now.rule ≡ Rule.Relational rule.now }
+    ensures { Meets (λ x. x) (Applied scope.now step.now.rule step.now.place goal.now) result }
+{
+    match rule {
+        RelationalRule::Sim => gb_sim::apply(alloc, step.place, goal, scope),
+        _ => gb_relational::apply(alloc, step, goal, scope),
+    }
+}
+
+/// The subgoals of a rule on a guard: on one of two programs it has a goal in a wider context.
+fn on_guard(
+    alloc: Global,
+    step: &Step,
+    acts: Acts,
+    at: u128,
+    holds: bool,
+    goal: &Sequent,
+    scope: &Scope,
+) -> Result<Sequents, Refused>
+    requires { step.now.rule ≡ Rule.Transform acts (Transformation.Decided at holds) }
+    ensures { Answers (on_guard scope.now acts at holds step.now.place goal.now) result }
+{
+    match acts {
+        Acts::All => gb_inline::apply::apply(alloc, step, goal, scope),
+        _ => gb_beside::beside::apply(alloc, acts, at, holds, step.place, goal),
+    }
+}
+
+/// The subgoals of a rule that puts other statements into a program.
+fn on_programs(
+    alloc: Global,
+    step: &Step,
+    acts: Acts,
+    rule: &Transformation,
+    goal: &Sequent,
+    scope: &Scope,
+) -> Result<Sequents, Refused>
+    requires { step.now.rule ≡ Rule.Transform acts rule.now }
+    ensures { Answers (transformed scope.now acts rule.now step.now.place goal.now) result }
+{
+    match rule {
+        Transformation::Decided(at, holds) => {
+            on_guard(alloc, step, acts, *at, *holds, goal, scope)
+        }
+        _ => gb_inline::apply::apply(alloc, step, goal, scope),
+    }
+}
+
 /// The subgoals of a rule, by the crate that has its row.
 fn apply(alloc: Global, step: &Step, goal: &Sequent, scope: &Scope) -> Result<Sequents, Refused>
     ensures { Meets (λ x. x) (Applied scope.now step.now.rule step.now.place goal.now) result }
 {
     match &step.rule {
         Rule::OnBodies(rule) => on_bodies(alloc, step, rule, goal, scope),
-        Rule::Relational(_) => gb_relational::apply(alloc, step, goal, scope),
+        Rule::Relational(rule) => on_both(alloc, step, rule, goal, scope),
         Rule::Chance(_) => gb_phoare::apply::apply(alloc, step, goal, scope),
         Rule::Call(_) => gb_call_both::apply::apply(alloc, step, goal, scope),
-        Rule::Transform(_, _) => gb_guards::apply::apply(alloc, step, goal, scope),
+        Rule::Transform(acts, rule) => on_programs(alloc, step, *acts, rule, goal, scope),
         Rule::While(kept) => gb_loops::while_loop::apply(alloc, kept, step.place, goal, scope),
         Rule::CallKnown(acts, known) => {
             gb_call_known::apply(alloc, *acts, known, step.place, goal, scope)

@@ -36,7 +36,7 @@ use Rattle.gb_prog.specs.Loops.{RunAlike}
 use Rattle.gb_prog.proofs.Couplings.{alike_ends, alike_chances, alike_left, alike_right}
 use Rattle.gb_trans.specs.Transformed.{with_body, transforming}
 
-given_bind : {A B : Type 0} (a : Answer A) (k : A → Answer B) (y : B) → (a >>= k) ≡ given y → (x : A) × (a ≡ given x) × (k x ≡ given y)
+pub given_bind : {A B : Type 0} (a : Answer A) (k : A → Answer B) (y : B) → (a >>= k) ≡ given y → (x : A) × (a ≡ given x) × (k x ≡ given y)
 given_bind (given x) k y e = (x, refl, e)
 given_bind (refused w p) k y e = cc
 

@@ -101,10 +101,10 @@ Outside W c = W c.key ≡ false
 
 module _ (g : Setting) (s : State) where
   -- what a program leaves of a memory
-  abbrev Leaves : Program → Memory → Memory → Type 0
+  abbrev pub Leaves : Program → Memory → Memory → Type 0
   Leaves a m n = (k : Key) → Unwritten g a k → get_at n k ≡ get_at m k
 
-  leaves : (a : Program) (m : Memory) → Every (Leaves a m) (out g s a m)
+  pub leaves : (a : Program) (m : Memory) → Every (Leaves a m) (out g s a m)
   leaves a m = every_place (Unwritten g a) (λ n k. get_at n k ≡ get_at m k) (out g s a m) (λ k u. run_leaves g s a k u m)
 
   -- The run of a program after another one, which writes at these places alone, is its run before it, with what was written.

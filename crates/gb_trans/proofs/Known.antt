@@ -20,6 +20,7 @@ use Rattle.gb_holds.specs.Footprints.{globals_among, touched_in, variables, vari
 use Rattle.gb_goal.specs.Scope.{Declarations, procedure_of}
 use Rattle.gb_mods.specs.Called.{all_reached, calls}
 use Rattle.gb_mods.specs.Footprint.{touched}
+use Rattle.gb_mods.specs.Read.{each_read, row_read, statement_read}
 use Rattle.gb_mods.specs.Touched.{apart, each_touched, touched_itself}
 use Rattle.gb_mods.specs.Written.{row_targets, statement_targets, targets, with_written, written_by}
 use Rattle.gb_mods.proofs.Closed.{AreFollowed, IsIn, all_closed}
@@ -31,12 +32,12 @@ use Rattle.gb_trans.specs.Effects.{crossing, effects_if, effects_of}
 use Rattle.gb_trans.proofs.Apart.{naming, uncrossed, unmet_unnamed, unnamed_spared}
 use Rattle.gb_trans.proofs.Crossing as alike
 use Rattle.gb_trans.proofs.Named.{EachNamed, named_append, named_both, named_spares, named_weaken}
-use Rattle.gb_trans.proofs.Touched.{At, Framed, read_within, with_locals, without_locals}
+use Rattle.gb_trans.proofs.ReadPlaces.{At, Framed, IsRead, read_within, with_locals, without_locals}
 use Rattle.gb_trans.proofs.Unwritten.{leave}
 use Rattle.gb_trans.proofs.Within.{ReadsWithin}
 use mathlib.Core.Former.{Count}
 
--- what is written is touched
+-- what is written is touched, and what is read
 module _ (g : Setting) (P : Key → Type 0) where
   abbrev Names : List Var → Type 0
   Names xs = EachNamed g.types P xs
@@ -63,7 +64,50 @@ module _ (g : Setting) (P : Key → Type 0) where
       let z = named_append g.types P (own.touched apart i) (each_touched is) v in
       named_both g.types P (statement_targets i) (targets is) (statement_names i z.0) (list_names is z.1)
 
+  mutual
+    statement_reads : (i : Instr) → Names (own.touched apart i) → Names (statement_read i)
+    statement_reads (Assign xs e) v = (named_append g.types P xs (variables e) v).1
+    statement_reads (Sample x d) v = v.1
+    statement_reads (Call' xs p n es) v = (named_append g.types P xs (variables_in es) (named_append g.types P (xs ++ variables_in es) [] v).0).1
+    statement_reads (If' e m a n b) v =
+        let y = named_append g.types P (variables e ++ touched_in apart a) (touched_in apart b) v in
+        let x = named_append g.types P (variables e) (touched_in apart a) y.0 in
+        named_both g.types P (variables e ++ row_read a) (row_read b) (named_both g.types P (variables e) (row_read a) x.0 (row_reads a x.1)) (row_reads b y.1)
+    statement_reads (While' e t n a) v =
+        let y = named_append g.types P (variables e ++ variables t) (touched_in apart a) v in
+        named_both g.types P (variables e ++ variables t) (row_read a) y.0 (row_reads a y.1)
+
+    row_reads : {n : Count} (is : Row_of-Instr n) → Names (touched_in apart is) → Names (row_read is)
+    row_reads end_of-Instr v = tt
+    row_reads (more_of-Instr i is) v =
+        let z = named_append g.types P (own.touched apart i) (touched_in apart is) v in
+        named_both g.types P (statement_read i) (row_read is) (statement_reads i z.0) (row_reads is z.1)
+
+  list_reads : (is : List Instr) → Names (each_touched is) → Names (each_read is)
+  list_reads [] v = tt
+  list_reads (i ∷ is) v =
+      let z = named_append g.types P (own.touched apart i) (each_touched is) v in
+      named_both g.types P (statement_read i) (each_read is) (statement_reads i z.0) (list_reads is z.1)
+
 module _ (g : Setting) (ds : Declarations) (G : Key → Type 0) where
+  each_named : (ps : List ProcRef) → EachNamed g.types G (touched ds ps) → (p : ProcRef) → IsIn ps p → EachNamed g.types G (touched_itself (procedure_of ds p))
+  each_named [] v p i = absurd i
+  each_named (q ∷ ps) v p (inl e) = subst (λ z. EachNamed g.types G (touched_itself (procedure_of ds z))) e (named_append g.types G (touched_itself (procedure_of ds q)) (touched ds ps) v).0
+  each_named (q ∷ ps) v p (inr i) = each_named ps (named_append g.types G (touched_itself (procedure_of ds q)) (touched ds ps) v).1 p i
+
+  procedures_read : (ps : List ProcRef) → EachNamed g.types G (touched ds ps) → ((p : ProcRef) → IsIn ps p → (a : Proc) × (procedure_of ds p ≡ Some a)) → (p : ProcRef) → IsIn ps p → IsRead g ds G p
+  procedures_read ps v there p i =
+      let d = there p i in
+      let a = d.0 in
+      let all = with_locals g G (each_touched a.body.list ++ variables a.value) (subst (λ o. EachNamed g.types G (touched_itself o)) d.1 (each_named ps v p i)) in
+      let parts = named_append g.types (Framed G) (each_touched a.body.list) (variables a.value) all in
+      record {
+        found = a;
+        declared = d.1;
+        named_there = without_locals g G (each_read a.body.list ++ variables a.value)
+            (named_both g.types (Framed G) (each_read a.body.list) (variables a.value) (list_reads g (Framed G) a.body.list parts.0) parts.1);
+      }
+
   procedures_name : (ps : List ProcRef) → EachNamed g.types G (touched ds ps) → (xs : List Var) → written_by ds ps ≡ Some xs → EachNamed g.types G xs
   procedures_name [] v xs e = subst (EachNamed g.types G) (same_Some [] xs e) tt
   procedures_name (p ∷ ps) v xs e = by_parts (λ u ys c. procedures_name ps u ys c) (procedure_of ds p) refl (written_by ds ps) refl e
@@ -127,7 +171,7 @@ module _ (g : Setting) (ds : Declarations) (c : Context) (typed : (p : ProcRef) 
     reads : (ls : List TypedName) → EachStatement c ls is → (G : Key → Type 0) → EachNamed g.types G e.touched → ReadsWithin g (At G) (statements g is)
     reads ls w G v =
         let z = touches G v in
-        read_within g ds c typed linked k.reached k.closed (each_declared ds k.reached k.others k.found) G z.1 ls is w k.there z.0
+        read_within g ds c typed linked k.reached k.closed G (procedures_read g ds G k.reached z.1 (each_declared ds k.reached k.others k.found)) ls is w k.there (list_reads g G is z.0)
 
     untouched : (q : Key) → EachNamed g.types (λ r. q ≢ r) e.touched → Unwritten g (statements g is) q
     untouched q v =
@@ -139,6 +183,10 @@ module _ (g : Setting) (ds : Declarations) (c : Context) (typed : (p : ProcRef) 
     -- where none of these variables clashes with what they touch
     outside : (xs : List Var) → EachNamed g.types (λ q. naming g.types xs q ≡ false) e.touched → (q : Key) → naming g.types xs q ≡ true → Unwritten g (statements g is) q
     outside xs v q t = untouched q (named_weaken g.types (λ q. naming g.types xs q ≡ false) (λ r. q ≢ r) (λ r f p. false≢true (sym f ∙ ap (naming g.types xs) (sym p) ∙ t)) e.touched v)
+
+  -- statements leave each place that they aren't found to write
+  pub leave_spared : (is : List Instr) (e : Effects) → effects_of ds is ≡ Some e → (q : Key) → Spares g.types e.written q → Unwritten g (statements g is) q
+  leave_spared is e x = writes is e (known ds is e x)
 
   -- statements of which nothing crosses run alike in either order
   pub uncrossed_alike : (ls : List TypedName) (is js : List Instr) → EachStatement c ls is → EachStatement c ls js → (a b : Effects) → effects_of ds is ≡ Some a → effects_of ds js ≡ Some b →

@@ -2,7 +2,7 @@ pub mod Known
 pub mod SwapIsSound
 pub mod Swapped
 pub mod Apart
-pub mod Touched
+pub mod ReadPlaces
 pub mod Named
 pub mod Unwritten
 pub mod Within

@@ -90,7 +90,7 @@ fn meets(list: &[Var], x: &Var) -> bool
 }
 
 /// The least of what was found and of the variables of the first list with which one of the second list clashes.
-fn least_met<'a>(found: Option<&'a Var>, list: &'a [Var], others: &[Var]) -> Option<&'a Var>
+pub fn least_met<'a>(found: Option<&'a Var>, list: &'a [Var], others: &[Var]) -> Option<&'a Var>
     ensures { option_copied result ≡ least_from (option_copied found.entry) (filter (meets others.now) list.now) }
 {
     let mut least = found;

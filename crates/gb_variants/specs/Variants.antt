@@ -1,5 +1,5 @@
 -- What shows that a loop ends: its variant is above 0 where the guard is true, and each turn makes it less.
-use Rattle.std.specs.Prelude.{is_some, List, [], ◌∷◌, length, flat_map, codes}
+use Rattle.std.specs.Prelude.{List, [], ◌∷◌, length, flat_map, codes}
 use Rattle.gb_core.specs.declared.ty.Ty.{Ty}
 use Rattle.gb_core.specs.declared.ty.Ty.TheVariants.{Bool as bool_ty}
 use Rattle.gb_core.specs.declared.value.Value.TheVariants.{Num}
@@ -16,10 +16,9 @@ use Rattle.gb_goal.specs.Goal.Code.{body}
 use Rattle.gb_goal.specs.Goal.Goal.{hoare}
 use Rattle.gb_goal.specs.declared.sequent.Sequent.{Sequent}
 use Rattle.gb_names.specs.Environment.{Name}
-use Rattle.gb_names.specs.Names.{first_named}
-use Rattle.gb_print_names.specs.Names.{primed}
+use Rattle.gb_print_names.specs.Names.{is_among, primed}
+use Rattle.gb_print_names.specs.Occurring.{judgment_locals}
 use Rattle.gb_typing.specs.Forms.{and_form, equal_form, every, implies_form}
-use Rattle.gb_elab_mod.specs.Occurring.{occurring}
 use Rattle.gb_variants.specs.Loops.{Loop, loops}
 use Rattle.gb_variants.specs.declared.variants.Loop.{Loop as Seen}
 
@@ -49,13 +48,13 @@ turning l = and_form l.guard (equal_form l.variant (value_before (variant_type l
 abbrev pub fallen : Loop → Term
 fallen l = less l.variant (value_before (variant_type l))
 
--- a name, with primes behind it while it is that of one of these variables
-abbrev pub unlike : List TypedName → Name → Name
-unlike vs x = primed (length vs) (λ n. is_some (first_named vs n)) x
+-- a name, with primes behind it while it is one of these
+abbrev pub unlike : List Name → Name → Name
+unlike ns x = primed (length ns) (is_among ns) x
 
 -- the name of the logical variable of a judgment, the locals of which have others
-abbrev pub value_name : Term → Term → List Instr → Name
-value_name p q is = unlike (occurring (p ∷ q ∷ []) Own is) (codes "k")
+abbrev pub value_name : Term → Name
+value_name f = unlike (judgment_locals (out-Term f).head (out-Term f).args []) (codes "k")
 
 -- a goal over no logical variable, and over one
 abbrev pub over_none : Term → Sequent
@@ -65,10 +64,11 @@ abbrev pub over_one : TypedName → Term → Sequent
 over_one x f = record { logical = x ∷ []; memories = []; modules = []; hyps = []; conclusion = f }
 
 -- each turn makes the variant less
+abbrev pub falling : Loop → Term
+falling l = form_of (hoare (body l.body) (turning l) (fallen l))
+
 abbrev pub falling_goal : Loop → Sequent
-falling_goal l =
-    over_one (record { name = value_name (turning l) (fallen l) l.body; ty = variant_type l })
-    (form_of (hoare (body l.body) (turning l) (fallen l)))
+falling_goal l = over_one (record { name = value_name (falling l); ty = variant_type l }) (falling l)
 
 abbrev pub loop_goals : Loop → List Sequent
 loop_goals l = over_none (above_zero l) ∷ falling_goal l ∷ []

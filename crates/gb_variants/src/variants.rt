@@ -2,17 +2,17 @@
 
 ghost use Rattle.std.specs.Prelude.{◌≡◌, [], ◌∷◌, ◌++◌, flat_map, IfOk};
 ghost use Rattle.gb_terms.specs.declared.term.Term.{out-Term};
+ghost use Rattle.gb_print_names.specs.Names.{is_among};
 ghost use Rattle.gb_variants.specs.Loops.{loops, statement_loops};
-ghost use Rattle.gb_variants.specs.Variants.{above_zero, fallen, falling_goal, goals_of, less, loop_goals, loop_seen, over_one, turning, unlike, value_before, value_name, zero_of};
+ghost use Rattle.gb_variants.specs.Variants.{above_zero, fallen, falling, falling_goal, goals_of, less, loop_goals, loop_seen, over_one, turning, unlike, value_before, value_name, zero_of};
 
 use gb_core::name::Name;
 use gb_core::ty::Ty;
 use gb_core::value::Value;
-use gb_elab_mod::occurring::occurring_between;
 use gb_goal::goal::hoare;
 use gb_goal::sequent::{Sequent, Sequents, ambient};
-use gb_names::names::first_named;
 use gb_parts::forms::{every, implied};
+use gb_print_names::occurring::names_inside;
 use gb_shared::{Shared, SharedItems};
 use gb_terms::decl::TypedName;
 use gb_terms::make::{binary, conjunction, equality, leaf, logical, truth_ty};
@@ -78,13 +78,24 @@ fn fallen(alloc: Global, turned: Loop<'_>) -> Result<Form, AllocError>
     less(alloc, turned.variant.share()?, before)
 }
 
-/// A name, with a prime behind it while it is that of one of these variables.
-fn unlike(alloc: Global, taken: &[TypedName], name: Name) -> Result<Name, AllocError>
+fn is_among(names: &[Name], name: &Name) -> bool
+    ensures { result ≡ is_among names.now name.now }
+{
+    for x in names {
+        if *x == *name {
+            return true;
+        }
+    }
+    false
+}
+
+/// A name, with a prime behind it while it is one of these.
+fn unlike(alloc: Global, taken: &[Name], name: Name) -> Result<Name, AllocError>
     ensures { IfOk result (λ made. made ≡ unlike taken.now name) }
 {
     let mut name = name;
     for _tried in 0..taken.len() {
-        if first_named(taken, &name).is_none() {
+        if !is_among(taken, &name) {
             return Ok(name);
         }
         name = Name::new(format!(in alloc; "{name}'")?);
@@ -93,10 +104,11 @@ fn unlike(alloc: Global, taken: &[TypedName], name: Name) -> Result<Name, AllocE
 }
 
 /// The name of what the variant is before a turn: the locals of the judgment have others.
-fn value_name(alloc: Global, pre: &Form, post: &Form, body: &Cmd) -> Result<Name, AllocError>
-    ensures { IfOk result (λ made. made ≡ value_name pre.now post.now body.now.list) }
+fn value_name(alloc: Global, judgment: &Form) -> Result<Name, AllocError>
+    ensures { IfOk result (λ made. made ≡ value_name judgment.now) }
 {
-    let taken = occurring_between(alloc, pre, post, Side::Own, body.list.as_slice())?;
+    let args = judgment.args.as_slice();
+    let taken = names_inside(alloc, judgment.head.get(), args, &[])?;
     let letter = Name::from_str(alloc, "k")?;
     unlike(alloc, taken.as_slice(), letter)
 }
@@ -115,14 +127,20 @@ fn one_variable(
 }
 
 /// Each turn makes the variant less.
-fn falling_goal(alloc: Global, turned: Loop<'_>) -> Result<Sequent, AllocError>
-    ensures { IfOk result (λ made. made ≡ falling_goal (loop_seen turned.entry)) }
+fn falling(alloc: Global, turned: Loop<'_>) -> Result<Form, AllocError>
+    ensures { IfOk result (λ made. made ≡ falling (loop_seen turned.entry)) }
 {
     let pre = turning(alloc, turned)?;
     let post = fallen(alloc, turned)?;
-    let name = value_name(alloc, &pre, &post, turned.body)?;
-    let conclusion = hoare(alloc, turned.body.list.share()?, pre, post)?;
-    with_variable(alloc, name, turned.variant, conclusion)
+    hoare(alloc, turned.body.list.share()?, pre, post)
+}
+
+fn falling_goal(alloc: Global, turned: Loop<'_>) -> Result<Sequent, AllocError>
+    ensures { IfOk result (λ made. made ≡ falling_goal (loop_seen turned.entry)) }
+{
+    let judgment = falling(alloc, turned)?;
+    let name = value_name(alloc, &judgment)?;
+    with_variable(alloc, name, turned.variant, judgment)
 }
 
 /// A goal over one logical variable, of the type of a term.

@@ -1,6 +1,6 @@
-use Rattle.std.proofs.Common.{◌≡◌, drop}
-use Rattle.gb_full.specs.Loss.{own_loss}
+use Rattle.std.proofs.Common.{◌≡◌, drop, map}
+use Rattle.gb_full.specs.Loss.{body_loss, known_seen}
 use Rattle.gb_full.proofs.loss.+statements.Given as goal
 
-abbrev pub invariant-own_loss-loop-statement : goal.invariant-own_loss-loop-statement
-invariant-own_loss-loop-statement l = own_loss (drop l.statement-index l.list) ≡ own_loss l.list
+abbrev pub invariant-body_loss-loop-statement : goal.invariant-body_loss-loop-statement
+invariant-body_loss-loop-statement l = body_loss (map known_seen l.known) (drop l.statement-index l.list) ≡ body_loss (map known_seen l.known) l.list

@@ -3,7 +3,7 @@ use Rattle.gb_goal.specs.Answers.{Answers}
 use Rattle.gb_linear.specs.Closing.{linear_answer}
 use Rattle.gb_smt.specs.Leaves.{leaves_of}
 use Rattle.gb_smt.specs.Apply.{IsResult}
-use Rattle.gb_theory.proofs.Steps.{ambient_meets, body_meets, known_meets, linear_meets, rewrite_meets, smt_meets, use_meets, while_meets}
+use Rattle.gb_theory.proofs.Steps.{ambient_meets, body_meets, known_meets, linear_meets, programs_meet, rewrite_meets, smt_meets, use_meets, while_meets}
 use Rattle.gb_theory.proofs.tactics.apply.Goals as goal
 
 pub returns-in-OnBodies : goal.returns-in-OnBodies
@@ -36,3 +36,7 @@ returns-in-Use c = use_meets c.args.scope.now c.args.step.now.rule c.in-Use.rule
 pub returns-in-Rewrite : goal.returns-in-Rewrite
 returns-in-Rewrite c =
     rewrite_meets c.args.scope.now c.args.step.now.rule c.in-Rewrite.rule c.args.step.now.place c.args.goal.now c.apply-in-Rewrite.result c.in-Rewrite.is c.apply-in-Rewrite.ensures
+
+pub returns-in-Transform : goal.returns-in-Transform
+returns-in-Transform c =
+    programs_meet c.args.scope.now c.args.step.now.rule c.in-Transform.acts c.in-Transform.rule c.args.step.now.place c.args.goal.now c.on_programs.result c.in-Transform.is c.on_programs.ensures

@@ -1,0 +1,2 @@
+mod BesideIsSound
+mod Seats

@@ -1,0 +1,4 @@
+mod AfterSim
+mod Decides
+mod Swaps
+mod Unrolls

@@ -1,0 +1,7 @@
+pub mod Fresh
+pub mod Renamed
+pub mod Expanded
+pub mod Inlined
+pub mod Asking
+pub mod Proved
+pub mod Rows

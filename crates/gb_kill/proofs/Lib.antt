@@ -1,0 +1,7 @@
+mod Coupled
+mod Killed
+mod KillIsSound
+mod Reading
+mod ReadSteps
+pub mod RulesAreSound
+mod Unread

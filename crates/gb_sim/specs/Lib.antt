@@ -1,0 +1,3 @@
+pub mod Need
+pub mod Reads
+pub mod Sim

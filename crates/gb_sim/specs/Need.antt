@@ -1,0 +1,89 @@
+-- What has to be equal before the same statements on both sides, so that variables are equal after them.
+use Rattle.std.specs.Prelude.{Bool, not, ◌&&◌, ◌||◌, if◌then◌else◌, List, [], ◌∷◌, ◌++◌, filter, Option, Some, None}
+use Rattle.std.specs.List.{list_any}
+use Rattle.std.specs.Option.{option_map}
+use Rattle.gb_core.specs.declared.var.Var.{Var}
+use Rattle.gb_same.specs.Types.{ty_eq}
+use Rattle.gb_terms.specs.declared.module.ProcRef.{ProcRef}
+use Rattle.gb_terms.specs.declared.term.Head.TheVariants.{Assign, Sample, Call', If', While'}
+use Rattle.gb_terms.specs.declared.term.Instr.{Instr, Row_of-Instr, end_of-Instr, more_of-Instr}
+use Rattle.gb_terms.specs.declared.term.Term.{Term}
+use Rattle.gb_terms.specs.Equal.{var_eq}
+use Rattle.gb_walk.specs.Clash.{clashes, comes_before}
+use Rattle.gb_goal.specs.Scope.{Declarations}
+use Rattle.gb_mods.specs.Called.{row_calls}
+use Rattle.gb_full.specs.Loss.{may_lose}
+use Rattle.gb_reads.specs.declared.reads.TypedVar.{TypedVar}
+use Rattle.gb_reads.specs.Reads.{Vars}
+use Rattle.gb_sim.specs.Reads.{term_reads, row_reads, body_reads, reached_reads}
+
+-- the same variable at the same type
+abbrev pub is_same : TypedVar → TypedVar → Bool
+is_same x y = var_eq x.var y.var && ty_eq x.ty y.ty
+
+-- a variable in its place among variables in order, each once
+abbrev pub placed : TypedVar → Vars → Vars
+placed x [] = x ∷ []
+placed x (y ∷ ys) = if comes_before x.var y.var then x ∷ y ∷ ys else if is_same x y then y ∷ ys else y ∷ placed x ys
+
+-- variables in their places among variables in order
+abbrev pub joined : Vars → Vars → Vars
+joined [] ys = ys
+joined (x ∷ xs) ys = placed x (joined xs ys)
+
+abbrev pub is_among : List Var → TypedVar → Bool
+is_among xs y = list_any (λ x. var_eq x y.var) xs
+
+-- variables but for these
+abbrev pub without : List Var → Vars → Vars
+without xs V = filter (λ y. not (is_among xs y)) V
+
+-- x is one of the variables, or clashes with one
+abbrev pub concerns : Var → Vars → Bool
+concerns x V = list_any (λ y. clashes x y.var) V
+
+abbrev pub concern : List Var → Vars → Bool
+concern xs V = list_any (λ x. concerns x V) xs
+
+-- before what writes these variables and reads those
+abbrev pub before : List Var → Vars → Vars → Vars
+before xs rs V = joined rs (without xs V)
+
+abbrev pub if_known : {A B : Type 0} → (A → Option B) → Option A → Option B
+if_known f None = None
+if_known f (Some x) = f x
+
+-- before what writes a term's value to variables, where that matters
+abbrev pub written_need : Bool → List Var → Term → Vars → Vars
+written_need b xs e V = if b then before xs (term_reads e) V else V
+
+-- before a call with arguments that read these
+abbrev pub called_need : Declarations → List Var → ProcRef → Vars → Vars → Option Vars
+called_need ds xs p rs V = option_map (λ (os : Vars). before xs (rs ++ os) V) (reached_reads ds (p ∷ []))
+
+-- before a loop that reads these itself and calls those
+abbrev pub loop_need : Declarations → Vars → List ProcRef → Vars → Option Vars
+loop_need ds rs ps V = option_map (λ (os : Vars). joined (rs ++ os) V) (reached_reads ds ps)
+
+abbrev pub of_branches : Vars → Option Vars → Option Vars → Option Vars
+of_branches rs (Some V) (Some W) = Some (joined rs (joined V W))
+of_branches rs _ _ = None
+
+-- Where the variables V are to be equal after a statement: what is assigned or sampled matters where it concerns V. A sampling that may
+-- lose weight matters always, and so does a call. A loop takes as many turns on both sides where all that it reads is equal.
+abbrev mutual
+  pub statement_need : Declarations → Instr → Vars → Option Vars
+  statement_need ds (Assign xs e) V = Some (written_need (concern xs V) xs e V)
+  statement_need ds (Sample x d) V = Some (written_need (may_lose d || concern (x ∷ []) V) (x ∷ []) d V)
+  statement_need ds (Call' xs p n es) V = called_need ds xs p (row_reads es) V
+  statement_need ds (If' e m a n b) V = of_branches (term_reads e) (row_need ds a V) (row_need ds b V)
+  statement_need ds (While' e v n a) V = loop_need ds (term_reads e ++ (term_reads v ++ body_reads a)) (row_calls a) V
+
+  pub row_need : {n : _} → Declarations → Row_of-Instr n → Vars → Option Vars
+  row_need ds end_of-Instr V = Some V
+  row_need ds (more_of-Instr i is) V = if_known (λ W. statement_need ds i W) (row_need ds is V)
+
+-- the same of lists
+abbrev pub need : Declarations → List Instr → Vars → Option Vars
+need ds [] V = Some V
+need ds (i ∷ is) V = if_known (λ W. statement_need ds i W) (need ds is V)
