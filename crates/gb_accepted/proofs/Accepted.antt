@@ -2,14 +2,20 @@
 use Rattle.std.proofs.Common.{ℕ, List, [], ◌∷◌, subst}
 use Rattle.std.specs.List.{AllByRecursion}
 use Rattle.gb_goal.specs.Answers.Answer.{given}
+use Rattle.gb_goal.specs.Scope.{Declarations}
 use Rattle.gb_holds.specs.Declared.{declared}
-use Rattle.gb_holds.specs.Holds.{Holds}
+use Rattle.gb_holds.specs.Holds.{Holds, IsSound}
 use Rattle.gb_typing.specs.Sequents.{IsTypedSequent}
 use Rattle.gb_typing.specs.Scopes.{context_of}
+use Rattle.gb_later.specs.Naming.{NoName}
+use Rattle.gb_models.specs.Speaking.{ScopeSpeaks}
+use Rattle.gb_mods_laws.specs.Members.{CallsAreNamed}
 use Rattle.gb_theory.specs.Built.{Session}
 use Rattle.gb_theory.specs.Outcome.{IsOutcome}
 use Rattle.gb_accepted.specs.Holding.{Lemma, IsProved, IsPromise, lemmas_in, IsPromised}
-use Rattle.gb_accepted.proofs.Grounds.{Grounds}
+use Rattle.gb_accepted.proofs.Calls.{calls_named}
+use Rattle.gb_accepted.specs.Scopes.{EndedLoopsAreGood, FootprintsAreMeant}
+use Rattle.gb_accepted.proofs.Grounds.{Grounds, IsTyped}
 use Rattle.gb_accepted.proofs.Runs.{outcome_is_good}
 
 module _ (o : Grounds) where
@@ -24,6 +30,18 @@ module _ (o : Grounds) where
   each_promised : (ls : List Lemma) → AllByRecursion IsProved ls → AllByRecursion IsPromise ls
   each_promised [] h = tt
   each_promised (l ∷ ls) h = (promised l h.0, each_promised ls h.1)
+
+  -- the procedures of an accepted script call one another by the names of their modules
+  pub scope_named : (text : List ℕ) (s : Session) → IsOutcome text (given s) → CallsAreNamed s.scope
+  scope_named text s outcome = calls_named s.scope (outcome_is_good o text s outcome).calls
+
+  -- so what is known of ended modules, and of footprints, where they do so, is known of its scope
+  pub scope_ended : ((ds : Declarations) → IsTyped ds → IsSound (declared ds) → ScopeSpeaks NoName (declared ds) → CallsAreNamed ds → EndedLoopsAreGood ds) →
+      (text : List ℕ) (s : Session) → IsOutcome text (given s) → EndedLoopsAreGood s.scope
+  scope_ended law text s outcome = let g = outcome_is_good o text s outcome in law s.scope g.typed g.sound g.speaks (scope_named text s outcome)
+
+  pub scope_footprints : ((ds : Declarations) → IsTyped ds → CallsAreNamed ds → FootprintsAreMeant ds) → (text : List ℕ) (s : Session) → IsOutcome text (given s) → FootprintsAreMeant s.scope
+  scope_footprints law text s outcome = let g = outcome_is_good o text s outcome in law s.scope g.typed (scope_named text s outcome)
 
   -- an accepted script keeps what is promised
   pub all_promised : (text : List ℕ) (s : Session) → IsOutcome text (given s) → IsPromised s

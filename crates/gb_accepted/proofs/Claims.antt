@@ -30,6 +30,7 @@ use Rattle.gb_theory.specs.Built.{Session, with_ended, with_proved}
 use Rattle.gb_theory.specs.declared.state.Claim.{Claim}
 use Rattle.gb_theory.specs.declared.state.Claim.TheVariants as claim
 use Rattle.gb_accepted.specs.Holding.{IsProved, lemmas_in, names_of}
+use Rattle.gb_accepted.proofs.Calls.{calls_with}
 use Rattle.gb_accepted.proofs.Grounds.{IsGoalThatEnds, Grounds, IsTyped}
 use Rattle.gb_accepted.proofs.Good.{IsGoodLemma, IsGoodTermination, IsGoodClaim, IsGood, StatesProcedures}
 use Rattle.gb_accepted.proofs.Later.{each_with, lemmas_append, name_added, proved_with}
@@ -108,6 +109,7 @@ ended_good o s f g h = step (entry_of s.scope (path_of f)) refl
       sound = g.sound;
       lemmas = record { names = g.lemmas.names; proved = g.lemmas.proved };
       speaks = g.speaks;
+      calls = g.calls;
       statements = g.statements;
       proof = tt;
     })
@@ -121,6 +123,7 @@ ended_good o s f g h = step (entry_of s.scope (path_of f)) refl
             proved = subst (AllByRecursion IsProved) (sym same) g.lemmas.proved;
           };
           speaks = (o.models.parts s.scope ((path_of f, entry.Terminating f) ∷ [])).1 (g.speaks, (tt, tt));
+          calls = calls_with s.scope ((path_of f, entry.Terminating f) ∷ []) g.calls (tt, tt);
           statements = subst (AllByRecursion StatesProcedures) (sym same) g.statements;
           proof = tt;
         })
@@ -137,6 +140,7 @@ lemma_good o s n q bs g h =
         proved = proved_with s.scope n q bs g.lemmas.proved g.typed h.statement holds;
       };
       speaks = (o.models.parts s.scope ((n, entry.Lemma q bs) ∷ [])).1 (g.speaks, (tt, tt));
+      calls = calls_with s.scope ((n, entry.Lemma q bs) ∷ []) g.calls (tt, tt);
       statements = each_with s.scope n q bs StatesProcedures g.statements h.procedures;
       proof = tt;
     }

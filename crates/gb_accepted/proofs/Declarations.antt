@@ -1,8 +1,7 @@
 -- Modules, lemmas and the words of a proof keep sessions good.
-use Rattle.std.proofs.Common.{◌≡◌, ℕ, Bool, true, false, is_some, ◌||◌, if◌then◌else◌, List, [], ◌∷◌, ◌++◌, Some, None, refl, ap, sym, ◌∙◌, subst}
+use Rattle.std.proofs.Common.{◌≡◌, ℕ, Bool, true, false, List, [], ◌∷◌, ◌++◌, Some, None, refl, ap, sym, ◌∙◌, subst}
 use Rattle.gb_core.specs.declared.place.Place.{Place}
-use Rattle.gb_core.specs.declared.refusal.Why.{Why}
-use Rattle.gb_core.specs.declared.refusal.Why.TheVariants.{Argument, NoGoal, UnknownName}
+use Rattle.gb_core.specs.declared.refusal.Why.TheVariants.{NoGoal}
 use Rattle.gb_goal.specs.Goal.{goal_of}
 use Rattle.gb_goal.specs.Scope.{Declarations, declarations_in, entry_of, proc_of, procedure_of, ClaimNothing}
 use Rattle.gb_goal.specs.declared.scope.Entry.TheVariants as entry
@@ -18,9 +17,9 @@ use Rattle.gb_holds.specs.Settings.{setting}
 use Rattle.gb_holds.specs.Truth.{has_module}
 use Rattle.gb_holds.proofs.Scopes.{gained_others}
 use Rattle.gb_goal.specs.Answers.{given_or}
-use Rattle.gb_goal.specs.Answers.Answer.{given, refused}
-use Rattle.gb_names.specs.Judgments.{Path, module_in, procedure_path}
-use Rattle.gb_names.specs.Names.{built_in, unless_unproved}
+use Rattle.gb_goal.specs.Answers.Answer.{given}
+use Rattle.gb_names.specs.Judgments.{Path, declared_module, procedure_path}
+use Rattle.gb_names.specs.Names.{no_declared, no_procedure, unless_unproved}
 use Rattle.gb_ended.specs.Ended.{first_unproved_in}
 use Rattle.gb_elab_prog.specs.Entries.{entries_given}
 use Rattle.gb_elab_mod.specs.Lemmas.{lemma_name, statement_given}
@@ -38,6 +37,8 @@ use Rattle.gb_variants.specs.Variants.{goals_of}
 use Rattle.gb_theory.specs.Built.{Session, OpenProof, with_entries, with_goals}
 use Rattle.gb_theory.specs.Limits.{declaration_limit, each_limit, all_limit}
 use Rattle.gb_theory.specs.Commands.{within, allowed, all_allowed, outside, brought, requires_files, assumes, brings, declares, loops_opened, opens, opens_loops, begun, ended}
+use Rattle.gb_elab_laws.specs.Calling.{EntriesCall}
+use Rattle.gb_accepted.proofs.Calls.{calls_with}
 use Rattle.gb_accepted.proofs.Given.{nothing_given, given_outside}
 use Rattle.gb_accepted.proofs.Grounds.{Grounds, IsTypedGoalOf, around}
 use Rattle.gb_later.specs.Naming.{NoName}
@@ -48,12 +49,14 @@ use Rattle.gb_accepted.proofs.Later.{each_later, names_stay, proved_later}
 use Rattle.gb_accepted.proofs.LoopProofs.{named, IsGoodLoops, loops_begin}
 
 -- a session in which more is declared, none of which is a lemma
-with_more : Grounds → (s : Session) (added : Declarations) → s.proof ≡ None → IsGood s → IsTypedScope (declared (s.scope ++ added)) → ClaimNothing added → ScopeSpeaks NoName (declared added) → IsGood (with_entries s added)
-with_more o s added none g typed others speaks = record {
+with_more : Grounds → (s : Session) (added : Declarations) → s.proof ≡ None → IsGood s → IsTypedScope (declared (s.scope ++ added)) → ClaimNothing added → ScopeSpeaks NoName (declared added) →
+    EntriesCall (s.scope ++ added) added → IsGood (with_entries s added)
+with_more o s added none g typed others speaks calls = record {
   typed = typed;
   sound = gained_others s.scope added others g.sound;
   lemmas = record { names = names_stay s.scope added others ∙ g.lemmas.names; proved = proved_later s.scope added others g.lemmas.proved };
   speaks = (o.models.parts s.scope added).1 (g.speaks, speaks);
+  calls = calls_with s.scope added g.calls calls;
   statements = each_later s.scope added others StatesProcedures g.statements;
   proof = subst (IsGoodIfOpen _) (sym none) tt;
 }
@@ -64,7 +67,8 @@ brings_keeps o s t place next g e =
     let b = given_bind (entries_given s.scope t) _ next a.2 in
     let c = given_bind (within (declaration_limit (declarations_in s.scope)) place) _ next b.2 in
     subst IsGood (given_is _ _ c.2)
-    (with_more o s b.0 (given_outside s.proof place a.0 a.1) g (o.typing.entries_added s.scope g.typed t b.0 b.1) (o.typing.others s.scope t b.0 b.1) (o.typing.entries_speak s.scope g.typed t b.0 b.1))
+    (with_more o s b.0 (given_outside s.proof place a.0 a.1) g (o.typing.entries_added s.scope g.typed t b.0 b.1) (o.typing.others s.scope t b.0 b.1) (o.typing.entries_speak s.scope g.typed t b.0 b.1)
+    (o.typing.entries_call s.scope g.typed t b.0 b.1))
 
 pub requires_keeps : (s : Session) (names : List Node) (place : Place) (next : Session) → IsGood s → requires_files s names place ≡ given next → IsGood next
 requires_keeps s names place next g e =
@@ -81,7 +85,8 @@ declares_keeps o s t place next g e =
     let b = given_bind (module_given s.scope t) _ next a.2 in
     let c = given_bind (within (declaration_limit (declarations_in s.scope)) place) _ next b.2 in
     subst IsGood (given_is _ _ c.2)
-    (with_more o s ((b.0.name, entry.Module b.0) ∷ []) (given_outside s.proof place a.0 a.1) g (o.typing.module_added s.scope g.typed t b.0 b.1) (refl, tt) (o.typing.module_speaks s.scope g.typed t b.0 b.1, tt))
+    (with_more o s ((b.0.name, entry.Module b.0) ∷ []) (given_outside s.proof place a.0 a.1) g (o.typing.module_added s.scope g.typed t b.0 b.1) (refl, tt) (o.typing.module_speaks s.scope g.typed t b.0 b.1, tt)
+    (o.typing.module_calls s.scope t b.0 b.1, tt))
 
 -- a statement about procedures has no body
 statement_ends : Grounds → (ds : Declarations) (q : Sequent) → IsTypedGoalOf ds q → IsOfProcedures q → SequentEnds (declared ds) q
@@ -108,6 +113,7 @@ opens_keeps o s t name place next g same e =
       sound = g.sound;
       lemmas = record { names = g.lemmas.names; proved = g.lemmas.proved };
       speaks = g.speaks;
+      calls = g.calls;
       statements = g.statements;
       proof = record {
         free = subst (λ n. is_declared (declared s.scope) n ≡ false) same (o.typing.free s.scope t b.0 b.1);
@@ -123,22 +129,18 @@ named_there : (ds : Declarations) (f : Path) (p : Place) (x : Found) → procedu
 unfolding procedure_at
 named_there ds f p x h =
     let w = text_of f.1 in
-    let m = given_bind (module_in (entry_of ds f.0) f.0 p) _ x h in
-    let d = given_bind (given_or (proc_of m.0.procs w) (UnknownName w) (place_of f.1)) _ x m.2 in
+    let m = given_bind (declared_module None ds f.0 p) _ x h in
+    let d = given_bind (given_or (proc_of m.0.procs w) (no_procedure m.0 w) (place_of f.1)) _ x m.2 in
     let n = given_bind (ended_at ds (proc_name f) p) (λ (n : ProcName). given (n, d.0)) x d.2 in
     let u = given_bind (unless_unproved (first_unproved_in ds (proc_name f)) p) (λ _. given (proc_name f)) n.0 n.1 in
-    let e = module_is (entry_of ds f.0) f.0 p m.0 m.1 in
+    let e = module_is (entry_of ds f.0) (no_declared None ds f.0) p m.0 m.1 in
     subst (λ (z : Found). procedure_of ds (named z.0) ≡ Some z.1) (given_is (n.0, d.0) x n.2)
     (subst (λ (z : ProcName). procedure_of ds (named z) ≡ Some d.0) (given_is (proc_name f) n.0 u.2)
-    (in_module (entry_of ds f.0) m.0 w d.0 e.0 e.1 (some_given (proc_of m.0.procs w) (UnknownName w) (place_of f.1) d.0 d.1)))
+    (in_module (entry_of ds f.0) m.0 w d.0 e.0 e.1 (some_given (proc_of m.0.procs w) (no_procedure m.0 w) (place_of f.1) d.0 d.1)))
 
-none_named : (b : Bool) (w v : Why) (p : Place) (x : Found) {X : Type 0} → (if b then refused w p else refused v p) ≡ given x → X
-none_named true w v p x e = nothing_given w p x e
-none_named false w v p x e = nothing_given v p x e
-
-operand_there : (ds : Declarations) (h : Head) (y : List ℕ) (ps : List Node) (p : Place) (x : Found) → operand_by ds h y ps p ≡ given x → procedure_of ds (named x.0) ≡ Some x.1
+pub operand_there : (ds : Declarations) (h : Head) (y : List ℕ) (ps : List Node) (p : Place) (x : Found) → operand_by ds h y ps p ≡ given x → procedure_of ds (named x.0) ≡ Some x.1
 operand_there ds head.Path y (a ∷ b ∷ bs) p x e = named_there ds (procedure_path (text_of a) b bs) p x e
-operand_there ds head.Name y ps p x e = none_named (is_some (entry_of ds y) || is_some (built_in y)) Argument (UnknownName y) p x e
+operand_there ds head.Name y ps p x e = nothing_given (no_declared None ds y) p x e
 operand_there ds _ y ps p x e = cc
 
 pub opens_loops_keeps : Grounds → (s : Session) (t : Node) (place : Place) (next : Session) → IsGood s → opens_loops s t place ≡ given next → IsGood next
@@ -160,6 +162,7 @@ opens_loops_keeps o s t place next g e =
       sound = g.sound;
       lemmas = record { names = g.lemmas.names; proved = g.lemmas.proved };
       speaks = g.speaks;
+      calls = g.calls;
       statements = g.statements;
       proof = begins;
     })
@@ -171,6 +174,7 @@ begun_keeps s p place next g h e =
       sound = g.sound;
       lemmas = record { names = g.lemmas.names; proved = g.lemmas.proved };
       speaks = g.speaks;
+      calls = g.calls;
       statements = g.statements;
       proof = h;
     })

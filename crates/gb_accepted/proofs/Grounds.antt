@@ -40,7 +40,7 @@ use Rattle.gb_typing.specs.Typing.{IsTyped as IsTypedTerm}
 use Rattle.gb_typing.specs.Sequents.{IsConclusion, of_sequent, IsTypedSequent}
 use Rattle.gb_typing.specs.Scopes.{context_of, is_declared, IsTypedScope}
 use Rattle.gb_typing.specs.Goals.{IsGoalOver, IsTypedGoal}
-use Rattle.gb_typing.specs.Rules.{no_arguments, outermost, IsSettingOver, IsSoundAt, IsSoundIn, IsSoundRule, IsSoundRuleIn}
+use Rattle.gb_typing.specs.Rules.{no_arguments, outermost, IsSettingOver, IsSoundIn, IsSoundRuleIn}
 use Rattle.gb_bodies.specs.Rows as bodies
 use Rattle.gb_ended.specs.Loops.{unproved_in}
 use Rattle.gb_loops.specs.While.{IsTypedInvariant, while_row}
@@ -59,6 +59,7 @@ use Rattle.gb_linear.specs.Closing.{linear_answer}
 use Rattle.gb_use.specs.Lemmas.{IsKnown, LemmasHold}
 use Rattle.gb_use.specs.Uses as uses
 use Rattle.gb_rewrite.specs.Rewriting.{IsUsable, rewrite_answer}
+use Rattle.gb_elab_laws.specs.Calling.{EntriesCall, EntryCalls}
 use Rattle.gb_elab_laws.specs.Procedures.{AreStated, IsOfProcedures}
 use Rattle.gb_models.specs.Speaking.{DeclarationSpeaks, GoalSpeaks, ScopeSpeaks}
 use Rattle.gb_smt.specs.Leaves.{leaves_of}
@@ -89,6 +90,8 @@ pub record OfTyping : Type 0 where
   pub entries_added : (ds : scope.Declarations) → IsTyped ds → (t : Node) (added : scope.Declarations) → entries_given ds t ≡ given added → IsTyped (ds ++ added)
   pub others : (ds : scope.Declarations) (t : Node) (added : scope.Declarations) → entries_given ds t ≡ given added → ClaimNothing added
   pub entries_speak : (ds : scope.Declarations) → IsTyped ds → (t : Node) (added : scope.Declarations) → entries_given ds t ≡ given added → ScopeSpeaks NoName (declared added)
+  pub entries_call : (ds : scope.Declarations) → IsTyped ds → (t : Node) (added : scope.Declarations) → entries_given ds t ≡ given added → EntriesCall (ds ++ added) added
+  pub module_calls : (ds : scope.Declarations) (t : Node) (m : Module) → module_given ds t ≡ given m → EntryCalls (ds ++ (m.name, entry.Module m) ∷ []) (entry.Module m)
   pub module_speaks : (ds : scope.Declarations) → IsTyped ds → (t : Node) (m : Module) → module_given ds t ≡ given m → DeclarationSpeaks NoName (concrete_module m)
   pub procedures : (ds : scope.Declarations) → IsTyped ds → (t : Node) (q : Sequent) → statement_given ds t ≡ given q → IsOfProcedures q
   pub module_added : (ds : scope.Declarations) → IsTyped ds → (t : Node) (m : Module) → module_given ds t ≡ given m → IsTyped (ds ++ (m.name, entry.Module m) ∷ [])
@@ -114,7 +117,6 @@ pub record OfRules : Type 0 where
   pub goal : (c : Context) (f : Term) → IsConclusion c f → has_module f ≡ false → IsTypedGoal c (goal_of f) × (type_of f ≡ ty.Bool)
   pub front : (f : Term) → has_module f ≡ true → goal_of f ≡ ambient f
   pub outer : (ds : Declarations) (q : Sequent) (fs : List (List TypedName)) → of_sequent (context_of ds) q fs ≡ outermost (of_sequent (context_of ds) q fs)
-  pub everywhere : (ds : Declarations) (c : Context) (row : Row) (G : Goal) → IsSoundAt c row G → IsSoundIn ds c row G
   pub lifted : (ds : Declarations) → IsTypedScope ds → (q : Sequent) (t : IsTypedSequent (context_of ds) q) → type_of q.conclusion ≡ ty.Bool →
       (ls rs : List TypedName) → IsGoalOver (of_sequent (context_of ds) q t.frames) ls rs (goal_of q.conclusion) →
       (row : Row) → IsSoundIn ds (of_sequent (context_of ds) q t.frames) row (goal_of q.conclusion) →
@@ -122,8 +124,9 @@ pub record OfRules : Type 0 where
   pub on_bodies : (ds : scope.Declarations) → IsTyped ds → (q : Sequent) (t : IsTypedGoalOf ds q) (r : Rule) →
       IsSoundRuleIn (declared ds) (around ds q t) (bodies.rule_row ds r) (bodies.IsTypedRule (around ds q t) r)
   pub bodies_refuse : (ds : scope.Declarations) (r : Rule) (f : Term) → bodies.rule_row ds r (ambient f) ≡ refusing Shape
-  pub equiv_refuses : (r : Rule) (f : Term) → equiv.rule_row r (ambient f) ≡ refusing Shape
-  pub relational : (c : Context) (r : Rule) → IsSoundRule c (equiv.rule_row r) (IsTypedRule c r)
+  pub equiv_refuses : (ds : scope.Declarations) (r : Rule) (f : Term) → equiv.rule_row ds r (ambient f) ≡ refusing Shape
+  pub relational : (ds : scope.Declarations) → IsTyped ds → (q : Sequent) (t : IsTypedGoalOf ds q) (r : Rule) →
+      IsSoundRuleIn (declared ds) (around ds q t) (equiv.rule_row ds r) (IsTypedRule (around ds q t) r)
   pub chances : (ds : scope.Declarations) → IsTyped ds → (q : Sequent) (t : IsTypedGoalOf ds q) (r : Rule) →
       IsSoundRuleIn (declared ds) (around ds q t) (chance_rows.rule_row ds r) no_arguments
   pub chances_refuse : (ds : scope.Declarations) (r : Rule) (f : Term) → chance_rows.rule_row ds r (ambient f) ≡ refusing Shape
@@ -164,7 +167,7 @@ pub record OfLoops : Type 0 where
       (g : Setting) → IsSettingOver (declared ds) g → Entered ds g r G → LoopsEnd g G → AllByRecursion (LoopsEnd g) Gs
   pub entered : (ds : scope.Declarations) → IsTyped ds → IsSound (declared ds) → ScopeSpeaks NoName (declared ds) → (q : Sequent) → IsTypedGoalOf ds q →
       unproved_in ds (goal_of q.conclusion) ≡ None → InEachSetting (declared ds) q (λ g. ProceduresEnd ds g (goal_of q.conclusion))
-  pub relational : (ds : scope.Declarations) (c : Context) (ls rs : List TypedName) (r : Rule) (G : Goal) → IsGoalOver c ls rs G → (Gs : List Goal) → equiv.rule_row r G ≡ given Gs → KeepsEnds (declared ds) Gs G
+  pub relational : (ds : scope.Declarations) (c : Context) (ls rs : List TypedName) (r : Rule) (G : Goal) → IsGoalOver c ls rs G → (Gs : List Goal) → equiv.rule_row ds r G ≡ given Gs → KeepsEnds (declared ds) Gs G
   pub chances : (ds : scope.Declarations) (c : Context) (ls rs : List TypedName) (r : Rule) (G : Goal) → IsGoalOver c ls rs G → (Gs : List Goal) → chance_rows.rule_row ds r G ≡ given Gs → KeepsEnds (declared ds) Gs G
   pub calls : (ds : scope.Declarations) (c : Context) (ls rs : List TypedName) (r : Rule) (G : Goal) → IsGoalOver c ls rs G → (Gs : List Goal) → call_rows.rule_row ds r G ≡ given Gs → KeepsEnds (declared ds) Gs G
   pub known_calls : (ds : scope.Declarations) → IsTyped ds → (q : Sequent) (t : IsTypedGoalOf ds q) (a : Acts) (f : Term) → IsForm (around ds q t) f → Holds (declared ds) (record q { conclusion = f }) →

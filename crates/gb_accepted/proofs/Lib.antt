@@ -1,13 +1,14 @@
-mod Grounds
-mod Given
-mod LoopProofs
-mod Good
-mod Later
-mod Kept
-mod Subgoals
-mod Tactics
-mod Claims
-mod Declarations
-mod Steps
-mod Runs
+pub mod Grounds
+pub mod Given
+pub mod LoopProofs
+pub mod Calls
+pub mod Good
+pub mod Later
+pub mod Kept
+pub mod Subgoals
+pub mod Tactics
+pub mod Claims
+pub mod Declarations
+pub mod Steps
+pub mod Runs
 pub mod Accepted

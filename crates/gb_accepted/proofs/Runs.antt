@@ -50,7 +50,7 @@ module _ (o : Grounds) where
       proves_keep s c (place_of step) next g e
   head_keeps s c _ _ next are g e = nothing_given _ _ next (sym e)
 
-  command_keeps : (s : Session) (c : Node) (next : Session) → IsGood s → ComesTo s c (given next) → IsGood next
+  pub command_keeps : (s : Session) (c : Node) (next : Session) → IsGood s → ComesTo s c (given next) → IsGood next
   command_keeps s c next g e =
       head_keeps s c (head_of c) (parts_of c) next refl g
       (subst (ComesToOf s c (head_of c) (parts_of c)) (given_placed e.0 (place_of c) next e.2) e.1)

@@ -15,7 +15,7 @@ use Rattle.gb_elab_mod.specs.Steps.{step_given}
 use Rattle.gb_elab_laws.proofs.Given.{given_bind, given_is}
 use Rattle.gb_theory.specs.Built.{Session, OpenProof}
 use Rattle.gb_theory.specs.Limits.{each_limit, all_limit}
-use Rattle.gb_theory.specs.Combinators.{works}
+use Rattle.gb_theory.specs.Combinators.{done_at, works}
 use Rattle.gb_theory.specs.Commands.{within, Applied, allowed, RuleAnswers, continued, WorksOn}
 use Rattle.gb_accepted.proofs.Given.{nothing_given, given_after}
 use Rattle.gb_accepted.proofs.Claims.{claim_continues}
@@ -23,7 +23,7 @@ use Rattle.gb_accepted.proofs.Good.{IsGoodClaim, IsGood}
 use Rattle.gb_accepted.proofs.Kept.{AreKept, each_kept}
 use Rattle.gb_accepted.proofs.Grounds.{IsGoalThatEnds, IsTypedGoalOf, Grounds}
 use Rattle.gb_accepted.proofs.Subgoals.{applied_lead}
-use Rattle.gb_accepted.proofs.Tactics.{Lead, tactic_keeps}
+use Rattle.gb_accepted.proofs.Tactics.{Lead, any_node, tactic_keeps}
 
 -- goals that lead to goals over what is declared
 abbrev LeadIn : Declarations → List Sequent → List Sequent → Type 0
@@ -35,7 +35,7 @@ each_ends ds [] w h = tt
 each_ends ds (q ∷ qs) w h = (record { typed = w.0; ends = h.0 }, each_ends ds qs w.1 h.1)
 
 -- A rule of a text leads from a goal to its subgoals.
-rule_leads : Grounds → (s : Session) → IsGood s → AreKept s.scope → (t : Node) (q : Sequent) → IsGoalThatEnds s.scope q → (rs : List Sequent) → RuleAnswers s.scope t q (given rs) → LeadIn s.scope (q ∷ []) rs
+pub rule_leads : Grounds → (s : Session) → IsGood s → AreKept s.scope → (t : Node) (q : Sequent) → IsGoalThatEnds s.scope q → (rs : List Sequent) → RuleAnswers s.scope t q (given rs) → LeadIn s.scope (q ∷ []) rs
 rule_leads o s g kept t q goal rs h =
     let ds = s.scope in
     let typed = goal.typed in
@@ -59,6 +59,7 @@ continued_keeps s p rest qs place next g h e =
       sound = g.sound;
       lemmas = record { names = g.lemmas.names; proved = g.lemmas.proved };
       speaks = g.speaks;
+      calls = g.calls;
       statements = g.statements;
       proof = h;
     })
@@ -70,5 +71,5 @@ works_keep o (q ∷ rest) s p t place next g h w =
     let k = claim_continues o s.scope g.typed p.claim q rest h in
     let b = given_bind (works w.0 t (q ∷ [])) (continued s p rest place) next (sym w.2) in
     let lemmas = each_kept o s g in
-    let lead = tactic_keeps (IsGoalThatEnds s.scope) (Holds (declared s.scope)) w.0 (λ n r rs good e. rule_leads o s g lemmas n r good rs (subst (RuleAnswers s.scope n r) e (w.1 n r))) t (q ∷ []) b.0 (k.goal, tt) b.1 in
+    let lead = tactic_keeps (IsGoalThatEnds s.scope) (Holds (declared s.scope)) (λ n. Unit {0}) w.0 (λ n k r rs good e. rule_leads o s g lemmas n r good rs (subst (RuleAnswers s.scope n r) e (w.1 n r))) (λ place. any_node (done_at place)) t (any_node t) (q ∷ []) b.0 (k.goal, tt) b.1 in
     continued_keeps s p rest b.0 place next g (k.next b.0 lead) b.2

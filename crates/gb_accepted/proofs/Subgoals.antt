@@ -127,7 +127,7 @@ module _ (g : Grounds) (ds : Declarations) (scope : IsTyped ds) (sound : IsSound
   -- no rule on judgments works where a module is quantified in front
   ambient_refused : (r : Rule) (f : Term) → row_of ds r (ambient f) ≡ refusing Shape
   ambient_refused (rule.OnBodies r) f = g.rules.bodies_refuse ds (rule.OnBodies r) f
-  ambient_refused (rule.Relational r) f = g.rules.equiv_refuses (rule.Relational r) f
+  ambient_refused (rule.Relational r) f = g.rules.equiv_refuses ds (rule.Relational r) f
   ambient_refused (rule.Chance r) f = g.rules.chances_refuse ds (rule.Chance r) f
   ambient_refused (rule.Call s) f = g.rules.calls_refuse ds (rule.Call s) f
   ambient_refused (rule.CallKnown a k) f = refl
@@ -261,7 +261,7 @@ module _ (g : Grounds) (ds : Declarations) (scope : IsTyped ds) (sound : IsSound
   by_both_law : (r : RelationalRule) (place : Place) (qs : List Sequent) → IsTypedAt ds q t (rule.Relational r) → given qs ≡ stepped (row_of ds (rule.Relational r)) place q → LeadTo ds q qs
   by_both_law r place qs typed a =
       by_law (rule.Relational r) (anywhere (declared ds) q) place qs
-      (λ ls rs w. g.rules.everywhere (declared ds) c (row_of ds (rule.Relational r)) G (g.rules.relational c (rule.Relational r) (g.rules.outer (declared ds) q t.frames) ls rs G w (typed ls rs w).1))
+      (λ ls rs w. g.rules.relational ds scope q t (rule.Relational r) (g.rules.outer (declared ds) q t.frames) ls rs G w (typed ls rs w).1)
       (λ ls rs w Gs y s over x. g.loops.relational ds c ls rs (rule.Relational r) G w Gs y s over) (sym a)
 
   of_both : (r : RelationalRule) (place : Place) (qs : List Sequent) → IsTypedAt ds q t (rule.Relational r) → OnBoth ds r place q (given qs) → LeadTo ds q qs

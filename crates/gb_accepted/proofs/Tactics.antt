@@ -1,5 +1,5 @@
 -- What is left of goals after a tactic leads to them.
-use Rattle.std.proofs.Common.{◌≡◌, ℕ, zero, suc, ◌==◌, Bool, true, false, ◌&&◌, nat_le, if◌then◌else◌, List, [], ◌∷◌, ◌++◌, length, map, append-nil, refl, sym, subst}
+use Rattle.std.proofs.Common.{◌≡◌, ℕ, zero, suc, ◌==◌, Bool, true, false, ◌&&◌, nat_le, if◌then◌else◌, List, [], ◌∷◌, ◌++◌, length, map, append-nil, refl, ap, sym, ◌∙◌, subst}
 use Rattle.std.proofs.lemmas.Bool.{eqb-true}
 use Rattle.std.specs.List.{AllByRecursion, zip}
 use Rattle.gb_core.specs.declared.place.Place.{Place}
@@ -7,17 +7,21 @@ use Rattle.gb_core.specs.declared.refusal.Why.TheVariants.{Argument, Syntax}
 use Rattle.gb_goal.specs.declared.sequent.Sequent.{Sequent}
 use Rattle.gb_script.specs.declared.head.Head.{Head}
 use Rattle.gb_script.specs.declared.head.Head.TheVariants as head
-use Rattle.gb_script.specs.declared.tree.Node.{Node}
-use Rattle.gb_script.specs.Tree.{node, head_of, text_of, place_of}
+use Rattle.gb_script.specs.declared.tree.Node.{Node, roll-Node, roll-out-Node, out-roll-Node, ind-Node}
+use Rattle.gb_script.specs.Each.{Each, EachOf}
+use Rattle.gb_script.specs.Each.Each.{each}
+use Rattle.gb_script.specs.Each.EachOf.{none, more}
+use Rattle.gb_script.specs.Tree.{node, head_of, text_of, parts_of, place_of}
 use Rattle.gb_limits.specs.Numbers.{number_of}
 use Rattle.gb_goal.specs.Answers.{Answer, ◌>>=◌, nowhere, placed_at}
 use Rattle.gb_goal.specs.Answers.Answer.{given, refused}
 use Rattle.gb_smt_laws.proofs.Split.{each_left}
 use Rattle.gb_smt_laws.proofs.Used.{each_together}
-use Rattle.gb_names.proofs.Nodes.{said, Known, parts, by_parts}
+use Rattle.gb_names.proofs.Nodes.{said, said_is}
 use Rattle.gb_elab_laws.proofs.Given.{given_bind, given_is}
+use Rattle.gb_combinators.specs.Combinators.{or_left}
 use Rattle.gb_theory.specs.Patterns.{all_new, is_pattern}
-use Rattle.gb_theory.specs.Combinators.{Stepping, Working, gathered_behind, on_each, in_turn, spread, or_left, repeated, times, fitted, inside, introduced, ruled, patterned, done_at, stepped_by, worked, works}
+use Rattle.gb_theory.specs.Combinators.{Stepping, Working, gathered_behind, on_each, in_turn, spread, repeated, times, fitted, inside, introduced, ruled, patterned, done_at, stepped_by, worked, works}
 use Rattle.gb_accepted.proofs.Given.{given_placed, nothing_given}
 
 -- goals that are typed, and from which goals follow that hold
@@ -106,21 +110,26 @@ module _ (T H : Sequent → Type 0) where
   inside_keeps head.EitherPattern w k = k
   inside_keeps _ w k = λ qs rs t e. left qs rs t e
 
-  module _ (f : Node → Stepping) (rules : (n : Node) → KeepsEach (f n)) where
+  -- rules work on nodes of this kind, all of whose parts are of this kind
+  module _ (N : Node → Type 0) (f : Node → Stepping) (rules : (n : Node) → Each N n → KeepsEach (f n)) (done : (place : Place) → Each N (done_at place)) where
     abbrev rule : Head → List ℕ → List (Node × Working) → Place → Working
     rule h x ws place = patterned f h (node h x (map (λ w. w.0) ws) place) (worked f h ws place)
 
+    -- a part of this kind, and that what it makes of goals keeps
     abbrev Part : Type 0
-    Part = Known rule Keeps
+    Part = (n : Node) × Each N n × Keeps (said rule n)
+
+    abbrev parts : List Part → List (Node × Working)
+    parts ks = map (λ k. (k.0, said rule k.0)) ks
 
     abbrev all_of : List Part → List Working
-    all_of ks = map (λ x. x.1) (parts rule Keeps ks)
+    all_of ks = map (λ x. x.1) (parts ks)
 
     turn_keeps : (ks : List Part) → Keeps (in_turn (all_of ks))
     turn_keeps [] qs rs t e = left qs rs t e
     turn_keeps (k ∷ ks) qs rs t e =
         let a = given_bind (said rule k.0 qs) (in_turn (all_of ks)) rs e in
-        let x = k.1 qs a.0 t a.1 in
+        let x = k.2 qs a.0 t a.1 in
         after qs a.0 rs x (turn_keeps ks a.0 rs x.typed a.2)
 
     spread_answered : (ks : List Part) (qs : List Sequent) → AllByRecursion T qs → length (all_of ks) ≡ length qs →
@@ -128,7 +137,7 @@ module _ (T H : Sequent → Type 0) where
     spread_answered [] [] t same = tt
     spread_answered [] (q ∷ qs) t same = absurd (cc)
     spread_answered (k ∷ ks) [] t same = absurd (cc)
-    spread_answered (k ∷ ks) (q ∷ qs) t same = ((λ rs e. k.1 (q ∷ []) rs (t.0, tt) e), spread_answered ks qs t.1 (cc))
+    spread_answered (k ∷ ks) (q ∷ qs) t same = ((λ rs e. k.2 (q ∷ []) rs (t.0, tt) e), spread_answered ks qs t.1 (cc))
 
     spread_keeps : (ks : List Part) (place : Place) → Keeps (spread (all_of ks) place)
     spread_keeps ks place qs rs t e = by_length (length (all_of ks) == length qs) refl e
@@ -137,14 +146,14 @@ module _ (T H : Sequent → Type 0) where
         by_length true same e = gathered_keep [] qs (one_each (all_of ks) qs) rs tt (spread_answered ks qs t (eqb-true (length (all_of ks)) (length qs) same)) e
         by_length false same e = nothing_given Argument place rs e
 
-    introduced_keeps : (ks : List Part) → KeepsEach (introduced (parts rule Keeps ks))
+    introduced_keeps : (ks : List Part) → KeepsEach (introduced (parts ks))
     introduced_keeps ks q rs t e =
-        let a = given_bind (all_new q (map (λ x. x.0) (parts rule Keeps ks))) (λ (_ : Unit {0}). in_turn (all_of ks) (q ∷ [])) rs e in
+        let a = given_bind (all_new q (map (λ x. x.0) (parts ks))) (λ (_ : Unit {0}). in_turn (all_of ks) (q ∷ [])) rs e in
         turn_keeps ks (q ∷ []) rs (t, tt) a.2
 
     ruled_keeps : (h : Head) (r : Part) → KeepsEach (ruled f h (r.0, said rule r.0))
-    ruled_keeps head.Move r = one_keeps (said rule r.0) r.1
-    ruled_keeps _ r = rules r.0
+    ruled_keeps head.Move r = one_keeps (said rule r.0) r.2
+    ruled_keeps _ r = rules r.0 r.1
 
     -- a rule, and what stands behind it
     rule_keeps : (r i : Part) (place : Place) → KeepsEach (λ q. placed_at place (ruled f (head_of r.0) (r.0, said rule r.0) q >>= said rule i.0))
@@ -152,18 +161,18 @@ module _ (T H : Sequent → Type 0) where
         let e = given_placed (ruled f (head_of r.0) (r.0, said rule r.0) q >>= said rule i.0) place rs (sym e) in
         let a = given_bind (ruled f (head_of r.0) (r.0, said rule r.0) q) (said rule i.0) rs e in
         let x = ruled_keeps (head_of r.0) r q a.0 t a.1 in
-        after (q ∷ []) a.0 rs x (i.1 a.0 rs x.typed a.2)
+        after (q ∷ []) a.0 rs x (i.2 a.0 rs x.typed a.2)
 
-    step_keeps : (h : Head) (ks : List Part) (place : Place) → KeepsEach (stepped_by f h (parts rule Keeps ks) place)
+    step_keeps : (h : Head) (ks : List Part) (place : Place) → KeepsEach (stepped_by f h (parts ks) place)
     step_keeps head.Tactic ks place = one_keeps (in_turn (all_of ks)) (turn_keeps ks)
-    step_keeps head.Group (k ∷ []) place = one_keeps (said rule k.0) k.1
-    step_keeps head.Try (k ∷ []) place = λ q rs t e. left_or (said rule k.0 (q ∷ [])) q rs t (λ ss h. one_keeps (said rule k.0) k.1 q ss t h) e
+    step_keeps head.Group (k ∷ []) place = one_keeps (said rule k.0) k.2
+    step_keeps head.Try (k ∷ []) place = λ q rs t e. left_or (said rule k.0 (q ∷ [])) q rs t (λ ss h. one_keeps (said rule k.0) k.2 q ss t h) e
     step_keeps head.Repeat (n ∷ k ∷ []) place =
-        one_keeps (times (number_of (text_of n.0)) (place_of n.0) (said rule k.0)) (times_keep (number_of (text_of n.0)) (place_of n.0) (said rule k.0) k.1)
+        one_keeps (times (number_of (text_of n.0)) (place_of n.0) (said rule k.0)) (times_keep (number_of (text_of n.0)) (place_of n.0) (said rule k.0) k.2)
     step_keeps head.By (k ∷ []) place = λ q rs t e.
         let a = given_bind (said rule k.0 (q ∷ [])) (on_each (f (done_at place))) rs e in
-        let x = one_keeps (said rule k.0) k.1 q a.0 t a.1 in
-        after (q ∷ []) a.0 rs x (each_keeps (f (done_at place)) (rules (done_at place)) a.0 rs x.typed a.2)
+        let x = one_keeps (said rule k.0) k.2 q a.0 t a.1 in
+        after (q ∷ []) a.0 rs x (each_keeps (f (done_at place)) (rules (done_at place) (done place)) a.0 rs x.typed a.2)
     step_keeps head.Rule (r ∷ i ∷ []) place = rule_keeps r i place
     step_keeps head.NoIntroduction ks place = λ q rs t e. left (q ∷ []) rs (t, tt) e
     step_keeps head.Introduction ks place = introduced_keeps ks
@@ -171,26 +180,47 @@ module _ (T H : Sequent → Type 0) where
     step_keeps head.BothPatterns ks place = one_keeps (in_turn (all_of ks)) (turn_keeps ks)
     step_keeps _ ks place = λ q rs t e. nothing_given Syntax place rs e
 
-    worked_keeps : (h : Head) (ks : List Part) (place : Place) → Keeps (worked f h (parts rule Keeps ks) place)
-    worked_keeps head.Next (k ∷ []) place = k.1
+    worked_keeps : (h : Head) (ks : List Part) (place : Place) → Keeps (worked f h (parts ks) place)
+    worked_keeps head.Next (k ∷ []) place = k.2
     worked_keeps head.EitherPattern ks place = spread_keeps ks place
     worked_keeps head.Branches ks place = spread_keeps ks place
-    worked_keeps h ks place = each_keeps (stepped_by f h (parts rule Keeps ks) place) (step_keeps h ks place)
+    worked_keeps h ks place = each_keeps (stepped_by f h (parts ks) place) (step_keeps h ks place)
 
-    part_keeps : (h : Head) (x : List ℕ) (ks : List Part) (place : Place) → Keeps (rule h x (parts rule Keeps ks) place)
-    part_keeps h x ks place = by_pattern (is_pattern h)
+    part_keeps : (h : Head) (x : List ℕ) (ks : List Part) (place : Place) → Each N (node h x (map (λ w. w.0) (parts ks)) place) → Keeps (rule h x (parts ks) place)
+    part_keeps h x ks place k = by_pattern (is_pattern h)
       where
         by_pattern : (b : Bool) →
-            Keeps (if b then on_each (λ q. fitted h (f (node h x (map (λ w. w.0) (parts rule Keeps ks)) place) q) >>= inside h (worked f h (parts rule Keeps ks) place)) else worked f h (parts rule Keeps ks) place)
+            Keeps (if b then on_each (λ q. fitted h (f (node h x (map (λ w. w.0) (parts ks)) place) q) >>= inside h (worked f h (parts ks) place)) else worked f h (parts ks) place)
         by_pattern true =
-            let t = node h x (map (λ w. w.0) (parts rule Keeps ks)) place in
-            each_keeps (λ q. fitted h (f t q) >>= inside h (worked f h (parts rule Keeps ks) place))
+            let t = node h x (map (λ w. w.0) (parts ks)) place in
+            each_keeps (λ q. fitted h (f t q) >>= inside h (worked f h (parts ks) place))
             (λ q rs typed e.
-            let a = given_bind (fitted h (f t q)) (inside h (worked f h (parts rule Keeps ks) place)) rs e in
-            let k = rules t q a.0 typed (fitted_given h (f t q) a.0 a.1) in
-            after (q ∷ []) a.0 rs k (inside_keeps h (worked f h (parts rule Keeps ks) place) (worked_keeps h ks place) a.0 rs k.typed a.2))
+            let a = given_bind (fitted h (f t q)) (inside h (worked f h (parts ks) place)) rs e in
+            let y = rules t k q a.0 typed (fitted_given h (f t q) a.0 a.1) in
+            after (q ∷ []) a.0 rs y (inside_keeps h (worked f h (parts ks) place) (worked_keeps h ks place) a.0 rs y.typed a.2))
         by_pattern false = worked_keeps h ks place
 
-    pub tactic_keeps : (n : Node) → Keeps (works f n)
+    mutual
+      node_keeps : {n : Node} → Each N n → Keeps (said rule n)
+      node_keeps (each {x = n} k ks) =
+          let p = known ks in
+          subst Keeps (ap (λ z. rule (head_of n) (text_of n) z (place_of n)) p.1 ∙ sym (said_is rule n))
+          (part_keeps (head_of n) (text_of n) p.0 (place_of n) (subst (Each N) (sym (ap (λ z. node (head_of n) (text_of n) z (place_of n)) p.2 ∙ roll-out-Node n)) (each k ks)))
+
+      -- such nodes as parts
+      known : {ns : List Node} → EachOf N ns → (ks : List Part) × (parts ks ≡ map (λ n. (n, said rule n)) ns) × (map (λ w. w.0) (parts ks) ≡ ns)
+      known none = ([], refl, refl)
+      known (more {x = n} k ks) = let p = known ks in ((n, k, node_keeps k) ∷ p.0, ap (λ z. (n, said rule n) ∷ z) p.1, ap (λ z. n ∷ z) p.2)
+
+    -- a step of such nodes keeps
+    pub tactic_keeps : (n : Node) → Each N n → Keeps (works f n)
     unfolding works
-    tactic_keeps n = by_parts rule Keeps part_keeps n
+    tactic_keeps n k = node_keeps k
+
+-- Each node is one.
+pub any_node : (n : Node) → Each (λ n. Unit {0}) n
+any_node = ind-Node (Each (λ n. Unit {0})) (λ x y is. subst (λ z. Each (λ n. Unit {0}) (roll-Node z)) is (each tt (subst (EachOf (λ n. Unit {0})) (sym (ap (λ z. z.parts) (out-roll-Node _))) (each_of y.parts))))
+  where
+    each_of : (ks : List ((n : Node) × Each (λ n. Unit {0}) n)) → EachOf (λ n. Unit {0}) (map (λ k. k.0) ks)
+    each_of [] = none
+    each_of (k ∷ ks) = more k.1 (each_of ks)

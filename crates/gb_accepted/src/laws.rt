@@ -1,10 +1,12 @@
-//! Each lemma of an accepted script holds.
+//! Each lemma of an accepted script holds, and what else is known of its scope.
 
 ghost use Rattle.std.specs.Prelude.{ℕ, List};
 ghost use Rattle.gb_goal.specs.Answers.Answer.{given};
+ghost use Rattle.gb_mods_laws.specs.Members.{CallsAreNamed};
 ghost use Rattle.gb_theory.specs.Built.{Session};
 ghost use Rattle.gb_theory.specs.Outcome.{IsOutcome};
 ghost use Rattle.gb_accepted.specs.Holding.{IsPromised};
+ghost use Rattle.gb_accepted.specs.Scopes.{EndedLoopsAreGood, FootprintsAreMeant};
 
 use gb_elab_laws::declaration_laws::{entries, lemmas, modules, statements};
 use gb_elab_laws::step_laws::{typed_forms, typed_rules};
@@ -13,14 +15,19 @@ use gb_models::promise_laws::{equivalences_give_couplings, typed_scopes_have_mod
 use gb_models::stay_laws::{goals_stay, goals_stay_typed, parts_of_scopes};
 use gb_smt_sound::laws::sound_smt;
 use gb_typing::goal_laws::{fronts, typing};
-use gb_typing::rule_laws::{contexts, declared_settings, sequents};
+use gb_typing::rule_laws::{contexts, sequents};
 
 /// Where a script comes to a session, and to no refusal, the scope of the session is typed, so that each name is
 /// declared once; it is sound; and the lemmas that the session names are those of the scope, in their order, each of
 /// which is typed and holds over the declarations before it. These have a model; and an equivalence of two procedures gives,
 /// in each model and from each two related memories, a coupling of both outputs, with its marginals compared at each output.
+/// The procedures of the scope call one another by the names of their modules. So each loop that an ended module reaches is good in
+/// each model, and the footprint of a module, as it is computed, is that of the meaning.
 pub fn accepted_scripts()
-    ensures { (text : List ℕ) (s : Session) → IsOutcome text (given s) → IsPromised s }
+    ensures promised { (text : List ℕ) (s : Session) → IsOutcome text (given s) → IsPromised s }
+    ensures named { (text : List ℕ) (s : Session) → IsOutcome text (given s) → CallsAreNamed s.scope }
+    ensures ended { (text : List ℕ) (s : Session) → IsOutcome text (given s) → EndedLoopsAreGood s.scope }
+    ensures footprints { (text : List ℕ) (s : Session) → IsOutcome text (given s) → FootprintsAreMeant s.scope }
 {
     entries();
     modules();
@@ -31,7 +38,6 @@ pub fn accepted_scripts()
     typing();
     fronts();
     contexts();
-    declared_settings();
     sequents();
     gb_bodies::laws::rules();
     gb_bodies::laws::other_forms();
@@ -59,6 +65,8 @@ pub fn accepted_scripts()
     gb_ends::laws::forms();
     gb_ended_laws::laws::entered();
     gb_ended_laws::laws::proved_loops();
+    gb_ended_laws::laws::ended_modules();
+    gb_mods_laws::laws::footprints();
     gb_loops::while_loop::while_is_sound();
     gb_amb::laws::steps();
     gb_use::laws::sound_uses();

@@ -4,7 +4,6 @@ ghost use Rattle.std.specs.Prelude.{◌≡◌, [], ◌∷◌, IfOk};
 ghost use Rattle.gb_goal.specs.Answers.Answer.{given, refused};
 ghost use Rattle.gb_core.specs.declared.refusal.Why.TheVariants.{Shape};
 ghost use Rattle.gb_goal.specs.Answers.{Answers};
-ghost use Rattle.gb_typing.specs.Forms.{implies_form, not_form};
 ghost use Rattle.gb_amb.specs.Parts.{concluding};
 ghost use Rattle.gb_amb.specs.Steps.{assuming, by_cases, Decides, IsAnswer, Returns};
 ghost use Rattle.gb_amb.specs.Closed.{IsAmong};
@@ -12,39 +11,20 @@ ghost use Rattle.gb_amb.specs.Closed.{IsAmong};
 use crate::assumed::is_among;
 use crate::closed::{done, trivial};
 use crate::goals;
-use crate::goals::{no_shape, two};
+use crate::goals::no_shape;
 use crate::introduced::introduced;
 use crate::parts::by_parts;
 use crate::witness::{memory_witnessed, witnessed};
 use gb_core::name::Name;
 use gb_core::place::Place;
 use gb_core::refusal::Refused;
+use gb_forms::cases::cases;
 use gb_goal::goal::judges_bodies;
 use gb_goal::sequent::{Sequent, Sequents};
 use gb_steps::step::AmbientRule;
-use gb_terms::make::{implication, negation};
 use gb_terms::term::Form;
 use sqlite_items::Items;
 use std::alloc::{AllocError, Global};
-
-/// A conclusion under a premise.
-fn under(alloc: Global, premise: Form, goal: &Sequent) -> Result<Form, AllocError>
-    ensures { IfOk result (λ made. made ≡ implies_form premise goal.now.conclusion) }
-{
-    let conclusion = goal.conclusion.share()?;
-    implication(alloc, premise, conclusion)
-}
-
-/// The conclusion where a form is true, and where it isn't.
-fn cases(alloc: Global, form: &Form, goal: &Sequent) -> Result<Sequents, AllocError>
-    ensures { IfOk result (λ goals. goals ≡ concluding goal.now (implies_form form.now goal.now.conclusion)
-        ∷ concluding goal.now (implies_form (not_form form.now) goal.now.conclusion) ∷ []) }
-{
-    let first = under(alloc, form.share()?, goal)?;
-    let other = negation(alloc, form.share()?)?;
-    let second = under(alloc, other, goal)?;
-    two(alloc, goal, first, second)
-}
 
 fn by_cases(alloc: Global, form: &Form, place: Place, goal: &Sequent) -> Result<Sequents, Refused>
     ensures { Answers (by_cases form.now place goal.now) result }

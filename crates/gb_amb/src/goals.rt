@@ -43,15 +43,6 @@ pub fn one(alloc: Global, goal: &Sequent, conclusion: Form) -> Result<Sequents, 
     Ok(goals)
 }
 
-/// The goal with each of two conclusions.
-pub fn two(alloc: Global, goal: &Sequent, first: Form, second: Form) -> Result<Sequents, AllocError>
-    ensures { IfOk result (λ goals. goals ≡ concluding goal.now first ∷ concluding goal.now second ∷ []) }
-{
-    let mut goals = one(alloc, goal, first)?;
-    goals.push(goal.with_conclusion(second)?)?;
-    Ok(goals)
-}
-
 /// A hypothesis with one owner more.
 fn shared(alloc: Global, hyp: &Hyp) -> Result<Hyp, AllocError>
     ensures { IfOk result (λ made. made ≡ hyp.now) }

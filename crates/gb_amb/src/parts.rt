@@ -9,11 +9,12 @@ ghost use Rattle.gb_terms.specs.declared.term.Head.TheVariants.{All, AllMemory};
 ghost use Rattle.gb_terms.specs.Make.{applied, node};
 ghost use Rattle.gb_amb.specs.Parts.{at_most_form, bounded_at, by_parts, by_premise, by_shape, each_concluding, parts_at};
 
-use crate::goals::{no_shape, one, two};
+use crate::goals::{no_shape, one};
 use crate::quantified::refuse_modules;
 use gb_core::place::Place;
 use gb_core::refusal::Refused;
 use gb_core::ty::Ty;
+use gb_forms::cases::two;
 use gb_goal::sequent::{Sequent, Sequents};
 use gb_shared::Shared;
 use gb_steps::step::AmbientRule;

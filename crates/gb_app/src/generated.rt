@@ -3,7 +3,7 @@
 ghost use Rattle.std.specs.Prelude.{◌≡◌, ◌≤◌, length, map, string_bytes, IfOk};
 ghost use Rattle.std.specs.Fmt.{decimal};
 ghost use Rattle.gb_outside.specs.Counts.{HasRisen};
-ghost use Rattle.gb_app.specs.Generated.{module_line, moved, lemma_line, proof_line, part_of, script_of, summary_lines, Summarised};
+ghost use Rattle.gb_app.specs.Generated as scripts;
 
 use crate::report::{Report, last_line, write};
 use crate::status::{Status, status_of};
@@ -24,7 +24,7 @@ fn numeral(alloc: Global, n: usize) -> Result<String, AllocError>
 /// A module whose procedure draws a value, and returns this.
 #[tactic(auto, unfolding(crate::specs::Generated::module_pieces))]
 fn module_line(alloc: Global, letter: &str, i: usize, returned: &str) -> Result<String, AllocError>
-    ensures { IfOk result (λ line. string_bytes line ≡ module_line letter.now i returned.now) }
+    ensures { IfOk result (λ line. string_bytes line ≡ scripts.module_line letter.now i returned.now) }
 {
     let number = numeral(alloc, i)?;
     let number = number.as_str();
@@ -49,7 +49,7 @@ fn module_line(alloc: Global, letter: &str, i: usize, returned: &str) -> Result<
 
 #[tactic(auto, unfolding(crate::specs::Generated::moved_pieces))]
 fn moved(alloc: Global, i: usize) -> Result<String, AllocError>
-    ensures { IfOk result (λ term. string_bytes term ≡ moved i) }
+    ensures { IfOk result (λ term. string_bytes term ≡ scripts.moved i) }
 {
     let added = numeral(alloc, i % 2)?;
     ["x +^ ", added.as_str()].concat(alloc)
@@ -57,7 +57,7 @@ fn moved(alloc: Global, i: usize) -> Result<String, AllocError>
 
 #[tactic(auto, unfolding(crate::specs::Generated::lemma_pieces))]
 fn lemma_line(alloc: Global, i: usize) -> Result<String, AllocError>
-    ensures { IfOk result (λ line. string_bytes line ≡ lemma_line i) }
+    ensures { IfOk result (λ line. string_bytes line ≡ scripts.lemma_line i) }
 {
     let number = numeral(alloc, i)?;
     let number = number.as_str();
@@ -75,7 +75,7 @@ fn lemma_line(alloc: Global, i: usize) -> Result<String, AllocError>
 
 #[tactic(auto, unfolding(crate::specs::Generated::proof_pieces))]
 fn proof_line(alloc: Global, i: usize) -> Result<String, AllocError>
-    ensures { IfOk result (λ line. string_bytes line ≡ proof_line i) }
+    ensures { IfOk result (λ line. string_bytes line ≡ scripts.proof_line i) }
 {
     let added = numeral(alloc, i % 2)?;
     [
@@ -89,7 +89,7 @@ fn proof_line(alloc: Global, i: usize) -> Result<String, AllocError>
 /// Two modules that draw a value, and a lemma that couples them.
 #[tactic(auto, unfolding(crate::specs::Generated::part_of))]
 fn part(alloc: Global, i: usize) -> Result<String, AllocError>
-    ensures { IfOk result (λ text. string_bytes text ≡ part_of i) }
+    ensures { IfOk result (λ text. string_bytes text ≡ scripts.part_of i) }
 {
     let left = module_line(alloc, "M", i, "x")?;
     let moved = moved(alloc, i)?;
@@ -108,7 +108,7 @@ fn part(alloc: Global, i: usize) -> Result<String, AllocError>
 /// The first parts, one behind the other.
 fn script(alloc: Global, count: usize) -> Result<String, AllocError>
     requires { count ≤ 200 }
-    ensures { IfOk result (λ text. string_bytes text ≡ script_of count) }
+    ensures { IfOk result (λ text. string_bytes text ≡ scripts.script_of count) }
 {
     let mut text = String::new(alloc);
     for i in 0..count {
@@ -124,8 +124,8 @@ fn summary(
     bytes: usize,
     verdict: &Verdict,
 ) -> Result<Report, AllocError>
-    requires { bytes ≡ length (script_of count) }
-    ensures { IfOk result (λ lines. map string_bytes lines.items ≡ summary_lines count verdict.now) }
+    requires { bytes ≡ length (scripts.script_of count) }
+    ensures { IfOk result (λ lines. map string_bytes lines.items ≡ scripts.summary_lines count verdict.now) }
 {
     let mut lines = Vec::new(alloc);
     lines.push(format!(in alloc; "selftest {count}\n")?)?;
@@ -137,7 +137,7 @@ fn summary(
 /// Checks the script of this number, and writes its size and the last line of the report on it.
 pub fn check_generated<K: Sink>(alloc: Global, count: usize, out: &mut K) -> Status
     requires { count ≤ 200 }
-    ensures summary { Summarised count result (K.written out.old) (K.written out.new) }
+    ensures summary { scripts.Summarised count result (K.written out.old) (K.written out.new) }
     ensures write_fault { result ≡ Status.WriteFault → HasRisen (K.faults out.old) (K.faults out.new) }
 {
     let Ok(text) = script(alloc, count) else {

@@ -6,8 +6,6 @@ mod report;
 mod run;
 mod status;
 mod step;
-#[cfg(test)]
-mod tests;
 mod words;
 
 use crate::run::run;

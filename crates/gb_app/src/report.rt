@@ -6,7 +6,7 @@ ghost use Rattle.std.specs.List.{concat};
 ghost use Rattle.gb_core.specs.Refusal.{code_of};
 ghost use Rattle.gb_outside.specs.Appended.{AppendsFront};
 ghost use Rattle.gb_outside.specs.Counts.{HasRisen};
-ghost use Rattle.gb_app.specs.Report.{lemma_line, accepted_line, accepted_lines, refused_line, lines_of, last_line};
+ghost use Rattle.gb_app.specs.Report as reports;
 ghost use Rattle.gb_app.specs.Screens.{kept_line};
 
 use gb_core::name::{Name, Names};
@@ -20,13 +20,13 @@ use std::alloc::{AllocError, Global};
 pub type Report = Vec<String>;
 
 fn lemma_line(alloc: Global, name: &Name) -> Result<String, AllocError>
-    ensures { IfOk result (λ line. string_bytes line ≡ lemma_line name.now) }
+    ensures { IfOk result (λ line. string_bytes line ≡ reports.lemma_line name.now) }
 {
     format!(in alloc; "lemma {name}\n")
 }
 
 fn accepted_line(alloc: Global, count: usize) -> Result<String, AllocError>
-    ensures { IfOk result (λ line. string_bytes line ≡ accepted_line count) }
+    ensures { IfOk result (λ line. string_bytes line ≡ reports.accepted_line count) }
 {
     format!(in alloc; "accepted {count}\n")
 }
@@ -37,7 +37,7 @@ pub fn refused_line(
     why: &Why,
     place: Place,
 ) -> Result<String, AllocError>
-    ensures { IfOk result (λ line. string_bytes line ≡ refused_line file.now (code_of why.now) place) }
+    ensures { IfOk result (λ line. string_bytes line ≡ reports.refused_line file.now (code_of why.now) place) }
 {
     let code = code(why);
     let line = place.line;
@@ -52,7 +52,7 @@ pub fn kept_line(alloc: Global, count: usize) -> Result<String, AllocError>
 }
 
 fn accepted(alloc: Global, lemmas: &Names) -> Result<Report, AllocError>
-    ensures { IfOk result (λ report. map string_bytes report.items ≡ accepted_lines lemmas.now) }
+    ensures { IfOk result (λ report. map string_bytes report.items ≡ reports.accepted_lines lemmas.now) }
 {
     let mut report = Vec::new(alloc);
     for name in lemmas.as_slice() {
@@ -63,7 +63,7 @@ fn accepted(alloc: Global, lemmas: &Names) -> Result<Report, AllocError>
 }
 
 fn refused(alloc: Global, file: &str, why: &Why, place: Place) -> Result<Report, AllocError>
-    ensures { IfOk result (λ report. map string_bytes report.items ≡ refused_line file.now (code_of why.now) place ∷ []) }
+    ensures { IfOk result (λ report. map string_bytes report.items ≡ reports.refused_line file.now (code_of why.now) place ∷ []) }
 {
     let mut report = Vec::new(alloc);
     report.push(refused_line(alloc, file, why, place)?)?;
@@ -72,7 +72,7 @@ fn refused(alloc: Global, file: &str, why: &Why, place: Place) -> Result<Report,
 
 /// The report on a verdict: `lemma NAME` for each lemma and then `accepted N`, or `refused CODE FILE LINE COL`.
 pub fn report(alloc: Global, file: &str, verdict: &Verdict) -> Result<Report, AllocError>
-    ensures { IfOk result (λ report. map string_bytes report.items ≡ lines_of file.now verdict.now) }
+    ensures { IfOk result (λ report. map string_bytes report.items ≡ reports.lines_of file.now verdict.now) }
 {
     match verdict {
         Verdict::Accepted(lemmas) => accepted(alloc, lemmas),
@@ -82,7 +82,7 @@ pub fn report(alloc: Global, file: &str, verdict: &Verdict) -> Result<Report, Al
 
 /// The last line of the report on a verdict.
 pub fn last_line(alloc: Global, file: &str, verdict: &Verdict) -> Result<String, AllocError>
-    ensures { IfOk result (λ line. string_bytes line ≡ last_line file.now verdict.now) }
+    ensures { IfOk result (λ line. string_bytes line ≡ reports.last_line file.now verdict.now) }
 {
     match verdict {
         Verdict::Accepted(lemmas) => accepted_line(alloc, lemmas.len()),

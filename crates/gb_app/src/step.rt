@@ -8,8 +8,8 @@ ghost use Rattle.gb_outside.specs.Appended.{AppendsFront};
 ghost use Rattle.gb_outside.specs.Counts.{HasRisen};
 ghost use Rattle.gb_session.specs.History.{History, fresh_history};
 ghost use Rattle.gb_session.specs.Commands.{EntryLeads};
-ghost use Rattle.gb_app.specs.Screens.{input_name, told, behind, line_of, length_line, Closes};
-ghost use Rattle.gb_app.specs.Typing.{typed, line_to, point_behind, IsWithin, IsNoLine, TailOf, LeadsOn, AreFronts, ReadsOn, ReadsLast, Ended};
+ghost use Rattle.gb_app.specs.Screens as screens;
+ghost use Rattle.gb_app.specs.Typing as typing;
 
 use crate::report::{kept_line, refused_line};
 use crate::status::Status;
@@ -54,7 +54,7 @@ pub enum Next {
 /// Runs a session: each line that is read is answered by a screen or by its refusal.
 pub fn step<I: Source, K: Sink>(alloc: Global, input: &mut I, out: &mut K) -> Status
     ensures session { (text : List ℕ) × Consumes (I.left input.old) (I.left input.new) text
-        × Ended result text (I.left input.new) (K.written out.old) (K.written out.new) }
+        × typing.Ended result text (I.left input.new) (K.written out.old) (K.written out.new) }
     ensures read_fault { result ≡ Status.ReadFault → HasRisen (I.faults input.old) (I.faults input.new) }
     ensures write_fault { result ≡ Status.WriteFault → HasRisen (K.faults out.old) (K.faults out.new) }
 {
@@ -73,9 +73,9 @@ fn answer_input<I: Source, K: Sink>(
     input: &mut I,
     out: &mut K,
 ) -> Status
-    requires { session.old ≡ fresh_history input_name true }
+    requires { session.old ≡ fresh_history screens.input_name true }
     ensures session { (text : List ℕ) × Consumes (I.left input.old) (I.left input.new) text
-        × Ended result text (I.left input.new) (K.written out.old) (K.written out.new) }
+        × typing.Ended result text (I.left input.new) (K.written out.old) (K.written out.new) }
     ensures read_fault { result ≡ Status.ReadFault → HasRisen (I.faults input.old) (I.faults input.new) }
     ensures write_fault { result ≡ Status.WriteFault → HasRisen (K.faults out.old) (K.faults out.new) }
 {
@@ -104,7 +104,7 @@ fn read_more<I: Source>(text: &mut Vec<u8>, input: &mut I) -> Result<Next, Statu
     ensures never_falls { I.faults input.old ≤ I.faults input.new }
     ensures read_fault { result ≡ Err Status.ReadFault → HasRisen (I.faults input.old) (I.faults input.new) }
     ensures read { (piece : List ℕ) × Consumes (I.left input.old) (I.left input.new) piece
-        × ReadsOn text.old.items piece text.new.items (I.left input.new) result }
+        × typing.ReadsOn text.old.items piece text.new.items (I.left input.new) result }
 {
     if text.len() < LONGEST {
         read_piece(text, input)
@@ -119,7 +119,7 @@ fn read_piece<I: Source>(text: &mut Vec<u8>, input: &mut I) -> Result<Next, Stat
     ensures never_falls { I.faults input.old ≤ I.faults input.new }
     ensures read_fault { result ≡ Err Status.ReadFault → HasRisen (I.faults input.old) (I.faults input.new) }
     ensures read { (piece : List ℕ) × Consumes (I.left input.old) (I.left input.new) piece
-        × ReadsOn text.old.items piece text.new.items (I.left input.new) result }
+        × typing.ReadsOn text.old.items piece text.new.items (I.left input.new) result }
 {
     let mut piece = [0; PIECE];
     let room = PIECE.min(LONGEST - text.len());
@@ -139,7 +139,7 @@ fn read_last<I: Source>(input: &mut I) -> Result<Next, Status>
     ensures never_falls { I.faults input.old ≤ I.faults input.new }
     ensures read_fault { result ≡ Err Status.ReadFault → HasRisen (I.faults input.old) (I.faults input.new) }
     ensures read { (piece : List ℕ) × Consumes (I.left input.old) (I.left input.new) piece
-        × ReadsLast piece (I.left input.new) result }
+        × typing.ReadsLast piece (I.left input.new) result }
 {
     let mut byte = [0; 1];
     match input.read(&mut byte) {
@@ -158,15 +158,15 @@ fn answer_lines<K: Sink>(
     ended: bool,
     out: &mut K,
 ) -> Result<Point, Status>
-    requires { IsWithin text.now point }
+    requires { typing.IsWithin text.now point }
     ensures kind { IfErr result (λ s. (s ≡ Status.WriteFault) ⊎ (s ≡ Status.NoMemory)) }
     ensures never_falls { K.faults out.old ≤ K.faults out.new }
     ensures write_fault { result ≡ Err Status.WriteFault → HasRisen (K.faults out.old) (K.faults out.new) }
-    ensures within { IfOk result (IsWithin text.now) }
-    ensures done { IfOk result (λ here. IsNoLine (line_of (not ended) (drop here.from text.now))) }
+    ensures within { IfOk result (typing.IsWithin text.now) }
+    ensures done { IfOk result (λ here. typing.IsNoLine (screens.line_of (not ended) (drop here.from text.now))) }
     ensures written { IfOk result (λ here. (w : List ℕ) × Appends (K.written out.old) (K.written out.new) w
-        × LeadsOn ended (typed session.old text.now point) (typed session.new text.now here) w) }
-    ensures front { OnErr result (AreFronts ended (typed session.old text.now point) (K.written out.old) (K.written out.new)) }
+        × typing.LeadsOn ended (typing.typed session.old text.now point) (typing.typed session.new text.now here) w) }
+    ensures front { OnErr result (typing.AreFronts ended (typing.typed session.old text.now point) (K.written out.old) (K.written out.new)) }
 {
     // What was written is a front of what is written for each input (clause `front`).
     each_line_has_an_answer();
@@ -186,8 +186,8 @@ fn answer_lines<K: Sink>(
 fn line_end(text: &[u8], from: usize, ended: bool) -> Option<usize>
     requires size { length text.now ≤ 1048576 }
     requires within { from ≤ length text.now }
-    ensures { MatchOption result (IsNoLine (line_of (not ended) (drop from text.now)))
-        (λ to. (from < to) × (to ≤ length text.now) × (line_of (not ended) (drop from text.now) ≡ Command (to - from))) }
+    ensures { MatchOption result (typing.IsNoLine (screens.line_of (not ended) (drop from text.now)))
+        (λ to. (from < to) × (to ≤ length text.now) × (screens.line_of (not ended) (drop from text.now) ≡ Command (to - from))) }
 {
     match cut(text, from as u32) {
         Cut::Command { to } => {
@@ -210,17 +210,17 @@ fn answer_line<K: Sink>(
     to: usize,
     out: &mut K,
 ) -> Result<Point, Status>
-    requires point { IsWithin text.now point }
+    requires point { typing.IsWithin text.now point }
     requires some { point.from < to }
     requires within { to ≤ length text.now }
     ensures kind { IfErr result (λ s. (s ≡ Status.WriteFault) ⊎ (s ≡ Status.NoMemory)) }
     ensures never_falls { K.faults out.old ≤ K.faults out.new }
     ensures write_fault { result ≡ Err Status.WriteFault → HasRisen (K.faults out.old) (K.faults out.new) }
-    ensures moved { IfOk result (λ next. next ≡ point_behind to text.now point) }
-    ensures written { OnOk result ((r : Answer History) × EntryLeads session.old (line_to to text.now point) point.at r
-        × (session.new ≡ behind session.old r) × Appends (K.written out.old) (K.written out.new) (told r)) }
+    ensures moved { IfOk result (λ next. next ≡ typing.point_behind to text.now point) }
+    ensures written { OnOk result ((r : Answer History) × EntryLeads session.old (typing.line_to to text.now point) point.at r
+        × (session.new ≡ screens.behind session.old r) × Appends (K.written out.old) (K.written out.new) (screens.told r)) }
     ensures front { result ≡ Err Status.WriteFault → (r : Answer History)
-        × EntryLeads session.old (line_to to text.now point) point.at r × AppendsFront (K.written out.old) (K.written out.new) (told r) }
+        × EntryLeads session.old (typing.line_to to text.now point) point.at r × AppendsFront (K.written out.old) (K.written out.new) (screens.told r) }
     ensures silent { result ≡ Err Status.NoMemory → K.written out.new ≡ K.written out.old }
 {
     let line = &text[point.from..to];
@@ -247,7 +247,7 @@ fn answer(
     requires line { at.line + length line.now < 2 ^ 32 }
     requires column { at.col + length line.now < 2 ^ 32 }
     ensures { IfOk result (λ text. (r : Answer History) × EntryLeads session.old line.now at r
-        × (session.new ≡ behind session.old r) × (text.items ≡ told r)) }
+        × (session.new ≡ screens.behind session.old r) × (text.items ≡ screens.told r)) }
 {
     match session.enter(alloc, line, at) {
         Ok(()) => session.screen(alloc),
@@ -267,14 +267,14 @@ fn close<K: Sink>(
     point: Point,
     out: &mut K,
 ) -> Status
-    requires { IsWithin text.now point }
+    requires { typing.IsWithin text.now point }
     ensures kind { (result ≡ Status.Accepted) ⊎ (result ≡ Status.WriteFault) ⊎ (result ≡ Status.NoMemory) }
     ensures write_fault { result ≡ Status.WriteFault → HasRisen (K.faults out.old) (K.faults out.new) }
     ensures written { result ≡ Status.Accepted → (w : List ℕ) × Appends (K.written out.old) (K.written out.new) w
-        × TailOf (typed session.old text.now point) text.now w }
+        × typing.TailOf (typing.typed session.old text.now point) text.now w }
     ensures front { (result ≡ Status.WriteFault) ⊎ (result ≡ Status.NoMemory) →
         (w : List ℕ) × AppendsFront (K.written out.old) (K.written out.new) w
-        × TailOf (typed session.old text.now point) text.now w }
+        × typing.TailOf (typing.typed session.old text.now point) text.now w }
 {
     // Something is written for what is left (clause `front`).
     each_line_has_an_answer();
@@ -297,9 +297,9 @@ fn closing(
     text: &[u8],
     point: Point,
 ) -> Result<Vec<u8>, AllocError>
-    requires within { IsWithin text.now point }
-    requires done { IsNoLine (line_of false (drop point.from text.now)) }
-    ensures { IfOk result (λ lines. Closes false (line_of false (drop point.from text.now)) session.now point.at
+    requires within { typing.IsWithin text.now point }
+    requires done { typing.IsNoLine (screens.line_of false (drop point.from text.now)) }
+    ensures { IfOk result (λ lines. screens.Closes false (screens.line_of false (drop point.from text.now)) session.now point.at
         (drop point.from text.now) lines.items) }
 {
     let count = session.kept();
@@ -320,9 +320,9 @@ fn closing(
 fn refuse_length<K: Sink>(alloc: Global, out: &mut K) -> Status
     ensures kind { (result ≡ Status.Refused) ⊎ (result ≡ Status.WriteFault) ⊎ (result ≡ Status.NoMemory) }
     ensures write_fault { result ≡ Status.WriteFault → HasRisen (K.faults out.old) (K.faults out.new) }
-    ensures written { result ≡ Status.Refused → Appends (K.written out.old) (K.written out.new) length_line }
+    ensures written { result ≡ Status.Refused → Appends (K.written out.old) (K.written out.new) screens.length_line }
     ensures front { (result ≡ Status.WriteFault) ⊎ (result ≡ Status.NoMemory) →
-        AppendsFront (K.written out.old) (K.written out.new) length_line }
+        AppendsFront (K.written out.old) (K.written out.new) screens.length_line }
 {
     let Ok(line) = refused_line(alloc, INPUT, &Why::Length, START) else {
         return Status::NoMemory;

@@ -1,7 +1,7 @@
 // The words after the program's name.
 
 ghost use Rattle.std.specs.Prelude.{◌≡◌, ◌≤◌, None, Some, IfSome, MatchOption, map, string_bytes};
-ghost use Rattle.gb_app.specs.Words.{names_file, file_of, asks_for_session, spells_number, script_number, number_asked};
+ghost use Rattle.gb_app.specs.Words as asking;
 
 use gb_lex::piece::number_size;
 use gb_limits::numbers::number;
@@ -11,7 +11,7 @@ const GREATEST: u128 = 200;
 
 /// Whether a word can name a file: it isn't empty and doesn't begin with `-`.
 fn names_file(word: &str) -> bool
-    ensures { result ≡ names_file word.now }
+    ensures { result ≡ asking.names_file word.now }
 {
     match word.as_bytes() {
         [] => false,
@@ -21,7 +21,7 @@ fn names_file(word: &str) -> bool
 
 /// Whether the words ask for a session.
 pub fn asks_for_session(words: &[String]) -> bool
-    ensures { result ≡ asks_for_session (map string_bytes words.now) }
+    ensures { result ≡ asking.asks_for_session (map string_bytes words.now) }
 {
     match words {
         [verb] => verb.as_str() == "step",
@@ -31,7 +31,7 @@ pub fn asks_for_session(words: &[String]) -> bool
 
 /// The file that the words ask to check, as in `check FILE`; nothing where they ask for anything else.
 pub fn file_to_check(words: &[String]) -> Option<&str>
-    ensures { MatchOption result (file_of (map string_bytes words.now) ≡ None) (λ f. file_of (map string_bytes words.now) ≡ Some f.now) }
+    ensures { MatchOption result (asking.file_of (map string_bytes words.now) ≡ None) (λ f. asking.file_of (map string_bytes words.now) ≡ Some f.now) }
 {
     match words {
         [verb, file] => {
@@ -47,7 +47,7 @@ pub fn file_to_check(words: &[String]) -> Option<&str>
 
 /// Whether a word spells a number: digits, the first of which is 0 only if it is alone.
 fn spells_number(word: &[u8]) -> bool
-    ensures { result ≡ spells_number word.now }
+    ensures { result ≡ asking.spells_number word.now }
 {
     match word {
         [] => false,
@@ -59,7 +59,7 @@ fn spells_number(word: &[u8]) -> bool
 
 /// The number that a word spells, if it is 200 at most.
 fn script_number(word: &str) -> Option<usize>
-    ensures number { result ≡ script_number word.now }
+    ensures number { result ≡ asking.script_number word.now }
     ensures most { IfSome result (λ n. n ≤ 200) }
 {
     let digits = word.as_bytes();
@@ -74,7 +74,7 @@ fn script_number(word: &str) -> Option<usize>
 
 /// The number of the script that the words ask to check, as in `selftest N`; nothing where they ask for anything else.
 pub fn number_asked(words: &[String]) -> Option<usize>
-    ensures number { result ≡ number_asked (map string_bytes words.now) }
+    ensures number { result ≡ asking.number_asked (map string_bytes words.now) }
     ensures most { IfSome result (λ n. n ≤ 200) }
 {
     match words {

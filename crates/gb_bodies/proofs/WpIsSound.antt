@@ -56,7 +56,8 @@ use Rattle.gb_prog.specs.Straight.{IsStraight, RowIsStraight, AreStraight, ended
 use Rattle.gb_prog.proofs.Straight.{ended_then, straight_run, straight_denominator}
 use Rattle.gb_parts.specs.Assigned.{assigned_form, clashing}
 use Rattle.gb_parts.specs.OneBody.{OneBody}
-use Rattle.gb_bodies.specs.Wp.{is_straight, row_is_straight, are_straight, by_test, unless_clash, before, before_row, before_all, with_front, staying, front, ending, wp_row}
+use Rattle.gb_bodies.specs.Wp.{is_straight, row_is_straight, are_straight, unless_clash, before, before_row, before_all, with_front, staying, front, ending, wp_row}
+use Rattle.gb_forms.specs.Branches.{by_test}
 use Rattle.gb_parts.proofs.AssignedForms.{assigned_typed, assigned_meaning, put_read, put_twice}
 use mathlib.Core.Former.{Count}
 

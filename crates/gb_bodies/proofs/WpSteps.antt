@@ -11,7 +11,8 @@ use Rattle.gb_terms.specs.declared.term.Head.TheVariants.{If}
 use Rattle.gb_goal.specs.Answers.{Answer, ◌>>=◌}
 use Rattle.gb_goal.specs.Answers.Answer.{given, refused}
 use Rattle.gb_typing.specs.Forms.{located}
-use Rattle.gb_bodies.specs.Wp.{is_straight, row_is_straight, are_straight, by_test, before, before_row, before_all, with_front, staying}
+use Rattle.gb_bodies.specs.Wp.{is_straight, row_is_straight, are_straight, before, before_row, before_all, with_front, staying}
+use Rattle.gb_forms.specs.Branches.{by_test}
 use mathlib.Core.Former.{Count}
 
 straight_row : {n : Count} (r : Row_of-Instr n) → row_is_straight r ≡ are_straight (items-the_row-Instr _ r)

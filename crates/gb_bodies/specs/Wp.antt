@@ -15,7 +15,8 @@ use Rattle.gb_goal.specs.Goal.{Goal}
 use Rattle.gb_goal.specs.Goal.Code.{body}
 use Rattle.gb_goal.specs.Goal.Goal.{equiv}
 use Rattle.gb_goal.specs.Rows.{Row, refusing}
-use Rattle.gb_typing.specs.Forms.{and_form, implies_form, not_form, located}
+use Rattle.gb_typing.specs.Forms.{located}
+use Rattle.gb_forms.specs.Branches.{by_test}
 use Rattle.gb_parts.specs.Assigned.{assigned_form, clashing}
 use Rattle.gb_parts.specs.OneBody.{OneBody, one_body, on_one}
 
@@ -34,10 +35,6 @@ abbrev mutual
 abbrev pub are_straight : List Instr → Bool
 are_straight [] = true
 are_straight (i ∷ is) = is_straight i && are_straight is
-
--- what is so where a test is true, and what where it is false
-abbrev pub by_test : Term → Term → Term → Term
-by_test e a b = and_form (implies_form e a) (implies_form (not_form e) b)
 
 -- a form, if no variable clashes with another one
 abbrev pub unless_clash : Option Var → Term → Answer Term

@@ -14,6 +14,7 @@ ghost use Rattle.gb_typing.specs.Rules.{IsSoundRule};
 ghost use Rattle.gb_bodies.specs.Seq.{seq_row, IsTypedCut};
 
 use gb_core::refusal::{Refused, Why};
+use gb_forms::cuts::cut_bodies;
 use gb_goal::goal::{Code, Goal, equiv, goal_of, hoare};
 use gb_goal::sequent::{Sequent, Sequents};
 use gb_parts::subgoals::{no_shape, refusal, shared_body, two_goals};
@@ -72,10 +73,9 @@ fn cut(
             if here > left.len() as u128 || there > right.len() as u128 {
                 return Err(refusal(Why::Argument));
             }
-            let (left, left_rest) = left.split_at(here as usize);
-            let (right, right_rest) = right.split_at(there as usize);
-            let first = of_two(alloc, left, right, pre, between)?;
-            let rest = of_two(alloc, left_rest, right_rest, between, post)?;
+            let (first, rest) = cut_bodies(left, right, here as usize, there as usize);
+            let first = of_two(alloc, first.left, first.right, pre, between)?;
+            let rest = of_two(alloc, rest.left, rest.right, between, post)?;
             Ok(two_goals(alloc, goal, first, rest)?)
         }
         _ => Err(no_shape()),

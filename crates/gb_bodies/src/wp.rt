@@ -13,11 +13,12 @@ ghost use Rattle.gb_typing.specs.Forms.{located};
 ghost use Rattle.gb_typing.specs.Rules.{IsSoundRule, no_arguments};
 ghost use Rattle.gb_parts.specs.Assigned.{assigned_form, clashing};
 ghost use Rattle.gb_parts.specs.OneBody.{one_seen};
-ghost use Rattle.gb_bodies.specs.Wp.{are_straight, before, before_all, by_test, front, is_straight, staying, unless_clash, wp_both, wp_one, wp_row};
+ghost use Rattle.gb_bodies.specs.Wp.{are_straight, before, before_all, front, is_straight, staying, unless_clash, wp_both, wp_one, wp_row};
 
 use gb_core::copy::copy_var;
 use gb_core::refusal::{Refused, Why};
 use gb_core::var::Var;
+use gb_forms::branches::by_test;
 use gb_goal::goal::{Code, Goal, equiv, goal_of};
 use gb_goal::sequent::{Sequent, Sequents};
 use gb_parts::assigned::{assigned_form, clashing};
@@ -25,7 +26,6 @@ use gb_parts::forms::located;
 use gb_parts::one_body::{OneBody, filled, one_body, side_of};
 use gb_parts::subgoals::{no_shape, one_goal, refusal, shared_body};
 use gb_steps::step::Acts;
-use gb_terms::make::{conjunction, implication, negation};
 use gb_terms::op::Side;
 use gb_terms::term::{Form, Instr, Term};
 use std::alloc::{AllocError, Global};
@@ -88,17 +88,6 @@ fn before_assign(
         return Err(refusal(Why::SideCondition(target)));
     }
     Ok(assigned_form(alloc, side, targets, value, post)?)
-}
-
-/// What is so where a test is true, and what where it is false.
-fn by_test(alloc: Global, test: Form, yes: Form, no: Form) -> Result<Form, AllocError>
-    ensures { IfOk result (λ made. made ≡ by_test test yes no) }
-{
-    let holds = test.share()?;
-    let yes = implication(alloc, holds, yes)?;
-    let fails = negation(alloc, test)?;
-    let no = implication(alloc, fails, no)?;
-    conjunction(alloc, yes, no)
 }
 
 /// What has to hold before a statement without chance, so that a form holds after it.

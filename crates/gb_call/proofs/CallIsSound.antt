@@ -72,7 +72,7 @@ use Rattle.gb_chance.proofs.Chances.{after_full, after_less}
 use Rattle.gb_chance.proofs.Comparing.{number_made, real_made, compared_typed, number_is, compared_is}
 use Rattle.gb_full.proofs.Full.{total_full}
 use Rattle.gb_parts.proofs.Likely.{FollowsAt}
-use Rattle.gb_phoare.specs.Rnd.{of_rest}
+use Rattle.gb_full.specs.Lossless.{of_rest}
 use Rattle.gb_mods.specs.Written.{written}
 use Rattle.gb_call.specs.LastCall.{LastCall, last_call}
 use Rattle.gb_call.specs.Outcomes.{Outcome, after_call, after_where, clash_after, is_among, is_read, of_arguments, reads_result}

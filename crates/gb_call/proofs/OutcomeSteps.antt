@@ -12,7 +12,8 @@ use Rattle.gb_terms.specs.Make.{node}
 use Rattle.gb_walk.specs.Clash.{variables_read}
 use Rattle.gb_meaning.specs.Memory.{result_name}
 use Rattle.gb_prog.specs.AllValues.{for_all, in_memory}
-use Rattle.gb_call.specs.Outcomes.{Outcome, globals_seen, is_among, is_left, is_left_of, put_for, reads_result}
+use Rattle.gb_forms.specs.Calls.{is_left_of}
+use Rattle.gb_call.specs.Outcomes.{Outcome, globals_seen, is_among, is_left, put_for, reads_result}
 use Rattle.gb_call.specs.declared.written.TypedGlobal.{TypedGlobal}
 use Rattle.gb_mods.proofs.OrderSteps.{front_last}
 

@@ -25,7 +25,7 @@ use Rattle.gb_typing.specs.Typing.{IsForm, before, after}
 use Rattle.gb_typing.specs.Forms.{and_form}
 use Rattle.gb_prog.specs.Writes.{TypedVariable}
 use Rattle.gb_full.specs.Loss.{first_loss}
-use Rattle.gb_phoare.specs.Rnd.{of_rest}
+use Rattle.gb_full.specs.Lossless.{of_rest}
 use Rattle.gb_call.specs.LastCall.{LastCall, call_seen, last_call}
 use Rattle.gb_call.specs.Outcomes.{Outcome, of_arguments, after_call, is_left, clash_after}
 use Rattle.gb_mods.specs.Written.{written}

@@ -1,5 +1,5 @@
 -- What is said before a call of what is to hold after it.
-use Rattle.std.specs.Prelude.{Bool, true, false, not, ◌&&◌, ◌||◌, List, [], ◌∷◌, ◌++◌, length, map, filter, Option}
+use Rattle.std.specs.Prelude.{Bool, true, false, ◌||◌, List, [], ◌∷◌, ◌++◌, length, map, filter, Option}
 use Rattle.std.specs.List.{list_any}
 use Rattle.gb_core.specs.declared.ty.Ty.{Ty}
 use Rattle.gb_core.specs.declared.var.Var.{Var}
@@ -21,6 +21,7 @@ use Rattle.gb_prog.specs.AllValues.{in_memory, for_all, to_bound_values}
 use Rattle.gb_prog.specs.Writes.{TypedVariable}
 use Rattle.gb_parts.specs.Assigned.{put_in, taken, is_clashing}
 use Rattle.gb_parts.specs.Likely.{as_likely}
+use Rattle.gb_forms.specs.Calls.{is_left_of}
 use Rattle.gb_call.specs.Written.{global_seen}
 use Rattle.gb_call.specs.declared.outcomes.Outcome as seen
 use Rattle.gb_call.specs.declared.written.TypedGlobal.{TypedGlobal}
@@ -91,10 +92,7 @@ after_where r b o said f = for_outcomes b o (as_likely r (of_return b o f) (of_o
 abbrev pub after_call : Rel → Outcome → Term → Term → Term
 after_call r o said f = after_where r (reads_result o said f) o said f
 
--- whether a global is read of the memory after the call: by what is said of the outcome, or elsewhere than in the left side
-abbrev pub is_left_of : List Var → List Var → List Var → Var → Bool
-is_left_of xs said after x = is_among said x || (not (is_among xs x) && is_among after x)
-
+-- whether a global is read of the memory after the call
 abbrev pub is_left : Side → List Var → Term → Term → Var → Bool
 is_left r xs said f = is_left_of xs (variables_read r said) (variables_read r f)
 

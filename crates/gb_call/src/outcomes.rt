@@ -1,6 +1,6 @@
 //! What is said before a call of what is to hold after it.
 
-ghost use Rattle.std.specs.Prelude.{◌≡◌, ◌++◌, ◌||◌, [], filter, IfOk};
+ghost use Rattle.std.specs.Prelude.{◌≡◌, ◌++◌, ◌||◌, [], IfOk};
 ghost use Rattle.std.specs.List.{list_any};
 ghost use Rattle.std.specs.Option.{option_copied};
 ghost use Rattle.gb_core.specs.declared.var.Var.TheVariants.{Local};
@@ -8,14 +8,14 @@ ghost use Rattle.gb_meaning.specs.Memory.{result_name};
 ghost use Rattle.gb_terms.specs.Make.{node};
 ghost use Rattle.gb_walk.specs.Clash.{least_from, variables_read};
 ghost use Rattle.gb_prog.specs.AllValues.{for_all, in_memory, to_bound_values};
-ghost use Rattle.gb_call.specs.Outcomes.{after_call, after_where, clashing_after, for_outcomes, globals_seen, is_among, is_clashing_after, is_left_of, left_side, of_arguments, of_outcome, of_return, outcome_seen, put_for, result_bound};
+ghost use Rattle.gb_call.specs.Outcomes.{after_call, after_where, clashing_after, for_outcomes, globals_seen, is_among, is_clashing_after, left_side, of_arguments, of_outcome, of_return, outcome_seen, put_for, result_bound};
 
 use crate::written::TypedGlobal;
 use gb_core::copy::copy_var;
 use gb_core::name::Name;
-use gb_core::same::same_var;
 use gb_core::ty::Ty;
-use gb_core::var::{Var, Vars};
+use gb_core::var::Var;
+use gb_forms::calls::{Reads, is_among};
 use gb_parts::assigned::{put_in, taken};
 use gb_parts::forms::{likely, located};
 use gb_shared::Shared;
@@ -184,21 +184,6 @@ fn for_all(
     Ok(all)
 }
 
-/// Whether one of these variables is this one.
-#[tactic(auto, using(gb_terms::proofs::Equality::var_test))]
-fn is_among(list: &[Var], variable: &Var) -> bool
-    ensures { result ≡ is_among list.now variable.now }
-{
-    list.iter().any(|x| same_var(variable, x))
-}
-
-/// What is read of a memory after a call: by what is said of the outcome, and by what is to hold then.
-#[derive(Drop)]
-pub struct Reads {
-    pub said: Items<Var>,
-    pub after: Items<Var>,
-}
-
 /// Whether one of these variables is read.
 fn is_one_read(list: &[Var], read: &[Var]) -> bool
     ensures { result ≡ list_any (is_among read.now) list.now }
@@ -266,32 +251,6 @@ pub fn after_call(
     let stands = result_variable(alloc)?;
     let occurs = reads_result(&stands, outcome.targets, reads);
     after_where(alloc, rel, occurs, outcome, said, form)
-}
-
-/// Whether a global is read of the memory after the call: by what is said of the outcome, or elsewhere than in the left side.
-fn is_left(targets: &[Var], reads: &Reads, variable: &Var) -> bool
-    ensures { result ≡ is_left_of targets.now reads.now.said reads.now.after variable.now }
-{
-    is_among(reads.said.as_slice(), variable)
-        || (!is_among(targets, variable) && is_among(reads.after.as_slice(), variable))
-}
-
-/// The globals among these that are read of the memory after the call.
-pub fn left_of(
-    alloc: Global,
-    targets: &[Var],
-    reads: &Reads,
-    written: &[Var],
-) -> Result<Vars, AllocError>
-    ensures { IfOk result (λ made. made ≡ filter (is_left_of targets.now reads.now.said reads.now.after) written.now) }
-{
-    let mut left = Items::new(alloc);
-    for variable in written {
-        if is_left(targets, reads, variable) {
-            left.push(copy_var(alloc, variable)?)?;
-        }
-    }
-    Ok(left)
 }
 
 /// Whether another variable clashes with this one in what is said of the outcome, or after the call.

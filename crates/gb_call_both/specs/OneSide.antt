@@ -23,7 +23,7 @@ use Rattle.gb_typing.specs.Forms.{located}
 use Rattle.gb_prog.specs.Writes.{TypedVariable}
 use Rattle.gb_parts.specs.OneBody.{OneBody, one_body, on_one}
 use Rattle.gb_full.specs.Loss.{Loss, nowhere, code_loss}
-use Rattle.gb_phoare.specs.Hoare.{full}
+use Rattle.gb_full.specs.Lossless.{full}
 use Rattle.gb_call.specs.Call.{Callee, before_call, callee_of, if_few, left_of, unless_clash}
 use Rattle.gb_call.specs.LastCall.{last_call}
 use Rattle.gb_call.specs.Outcomes.{clash_after}

@@ -6,11 +6,12 @@ ghost use Rattle.gb_walk.specs.Clash.{variables_read};
 ghost use Rattle.gb_call_both.specs.BothOutcomes.{after_both, after_both_where, bound_of_both, bound_seen, globals_of, left_side_of, left_sides, of_both_arguments, of_both_returns, result_of};
 ghost use Rattle.gb_call.specs.Outcomes.{globals_seen, outcome_seen};
 
-use gb_call::outcomes::{Outcome, Reads, bound, put_for, reads_result, result_variable};
+use gb_call::outcomes::{Outcome, bound, put_for, reads_result, result_variable};
 use gb_call::written::TypedGlobal;
 use gb_core::copy::copy_var;
 use gb_core::ty::Ty;
 use gb_core::var::Var;
+use gb_forms::calls::Reads;
 use gb_parts::assigned::{put_in, taken};
 use gb_shared::Shared;
 use gb_terms::decl::TypedName;

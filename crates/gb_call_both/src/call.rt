@@ -28,11 +28,12 @@ use gb_call::call::{
     Callee, MANY, called as called_on_one, callee_of, globals_left, known_call, reads_of,
 };
 use gb_call::last_call::{Last, last_call};
-use gb_call::outcomes::{Outcome, Reads, clashing_after};
+use gb_call::outcomes::{Outcome, clashing_after};
 use gb_call::written::TypedGlobal;
 use gb_core::copy::copy_var;
 use gb_core::refusal::{Refused, Why};
 use gb_core::var::Var;
+use gb_forms::calls::Reads;
 use gb_goal::goal::{Code, Goal, equiv, goal_of};
 use gb_goal::scope::Scope;
 use gb_goal::sequent::{Sequent, Sequents};

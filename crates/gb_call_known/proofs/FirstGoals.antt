@@ -26,7 +26,7 @@ use Rattle.gb_prog.specs.Writes.{TypedVariable}
 use Rattle.gb_typing.proofs.Given.{refused_given, refused_at, same_given}
 use Rattle.gb_parts.specs.OneBody.{OneBody}
 use Rattle.gb_full.specs.Loss.{first_loss}
-use Rattle.gb_phoare.specs.Rnd.{of_rest}
+use Rattle.gb_full.specs.Lossless.{of_rest}
 use Rattle.gb_call.specs.Call.{Callee, before_call, by_callee, by_globals, callee, callee_of, chances_by_callee, chances_by_globals, chances_of_callee, if_few, in_front, left_of, of_callee, unless_clash}
 use Rattle.gb_call.specs.LastCall.{LastCall, last_call}
 use Rattle.gb_call.specs.Outcomes.{clash_after}

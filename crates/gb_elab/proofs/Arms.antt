@@ -16,7 +16,7 @@ use Rattle.gb_names.specs.Allowed.{coin, judgment}
 use Rattle.gb_names.specs.Environment.{Environment}
 use Rattle.gb_names.specs.Judgments.{Named, both_procedures, one_procedure, before, after, equivalent}
 use Rattle.gb_names.specs.Names.{path, unit}
-use Rattle.gb_names.specs.Wanted.{truth, wanted}
+use Rattle.gb_names.specs.Wanted.{wanted}
 use Rattle.gb_names.proofs.Answers.{leads_on}
 use Rattle.gb_operators.specs.declared.rules.Rule.TheVariants as rule
 use Rattle.gb_operators.specs.Drawn.{uniform}
@@ -142,9 +142,9 @@ module _ (h : Head) (x : List ℕ) (ts : List Node) (p : Place) (at : Environmen
   branches_is (inl e) = conditional_is e
   branches_is (inr e) = chosen_is e
 
-  pub equalities_is : h ≡ head.Equalities → meaning ≡ (truth w p >>= λ _. equalities at bound ts p)
+  pub equalities_is : h ≡ head.Equalities → meaning ≡ equalities at bound ts w p
   unfolding typing
-  equalities_is e = at_head head.Equalities e ∙ ap (λ us. truth w p >>= λ _. equalities at bound us p) (bare_meanings ts)
+  equalities_is e = at_head head.Equalities e ∙ ap (λ us. equalities at bound us w p) (bare_meanings ts)
 
   pub glob_is : h ≡ head.Glob → meaning ≡ whole_alone at bound (bare_glob ts None p) p
   unfolding typing

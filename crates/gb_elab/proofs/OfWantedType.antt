@@ -187,9 +187,12 @@ joined_type at bound (x ∷ xs) u h =
     let q = given_bind (equation_of at bound x) (λ e. with_equalities at bound e xs) u h in
     with_equalities_type at bound q.0 xs u (equation_type at bound (head_of x) (text_of x) (parts_of x) (place_of x) q.0 q.1) q.2
 
-equalities_type : (at : Environment) (bound : List Binding) (xs : List Node) (p : Place) (u : Term) → equalities at bound xs p ≡ given u → type_of_term u ≡ bool_ty
+equalities_has : (at : Environment) (bound : List Binding) (xs : List Node) (w : Option Ty) (p : Place) (u : Term) → equalities at bound xs w p ≡ given u → HasType w u
 unfolding equalities
-equalities_type at bound xs p u h = joined_type at bound xs u (if_refused (is_none (on_side at side.Left)) Argument p (joined at bound xs) u h)
+equalities_has at bound xs w p u h =
+    let k = if_refused (is_none (on_side at side.Left)) Argument p (truth w p >>= λ _. joined at bound xs) u h in
+    let q = given_bind (truth w p) (λ _. joined at bound xs) u k in
+    truth_has w p q.0 u q.1 (joined_type at bound xs u q.2)
 
 over_type : (q : Quantifier) (k : Kind) (f : Term) → type_of_term (over q k f) ≡ bool_ty
 over_type Forall (Value t) f = node_type (All t) (f ∷ []) bool_ty
@@ -206,13 +209,13 @@ quantified_type q vs f u h e = ap type_of_term (sym (given_is (over_all q vs f) 
 
 stands_has : (at : Environment) (w : Option Ty) (p : Place) (t : Ty) (x : Unit {0}) (u : Term) → stands at w p t ≡ given x → type_of_term u ≡ t → HasType w u
 stands_has at w p t x u h e =
-    let q = if_given (fits w t) tt TypeMismatch p x (if_else_refused (may_have at.language w t) Argument p (if fits w t then given tt else refused TypeMismatch p) x h) in
+    let q = if_given (fits w t) tt TypeMismatch p x (if_else_refused (may_have at.language t) Argument p (if fits w t then given tt else refused TypeMismatch p) x h) in
     fits_has w u (ap (fits w) e ∙ q.0)
 
 coin_has : (at : Environment) (w : Option Ty) (p : Place) (u : Term) → coin at w p ≡ given u → HasType w u
 coin_has at w p u h =
     let c = node (Builtin op.Coin) [] (Distr bool_ty) in
-    let q = given_bind (distribution_here at w p) (λ _. wanted w p c) u h in wanted_has w p c u q.2
+    let q = given_bind (distribution_here at p) (λ _. wanted w p c) u h in wanted_has w p c u q.2
 
 open_has : (o : Op) (f : Ty → Bool) (w : Option Ty) (p : Place) (u : Term) → open_constant o f w p ≡ given u → HasType w u
 open_has o f None p u h = tt
@@ -245,7 +248,10 @@ numeral_has at x w p u h = number_has at (number_of x) w p u (if_else_refused (n
 uniform_has : (ts : List Node) (p : Place) (at : Environment) (w : Option Ty) (u : Term) → uniform ts p at w ≡ given u → HasType w u
 uniform_has (s ∷ []) p at w u h =
     let end = λ (t : Ty). if is_small t then given (node (Builtin op.Uniform) [] (Distr t)) else refused TypeTooLarge p in
-    let t = given_bind (type_of at.declared s) (λ t. stands at w p (Distr t) >>= λ _. end t) u h in
+    let over = λ (t : Ty). stands at w p (Distr t) >>= λ _. end t in
+    let d = given_bind (distribution_here at p) (λ _. part_wanted outcome w p >>= λ _. type_of at.declared s >>= over) u h in
+    let v = given_bind (part_wanted outcome w p) (λ _. type_of at.declared s >>= over) u d.2 in
+    let t = given_bind (type_of at.declared s) over u v.2 in
     let q = given_bind (stands at w p (Distr t.0)) (λ _. end t.0) u t.2 in
     let r = if_given (is_small t.0) (node (Builtin op.Uniform) [] (Distr t.0)) TypeTooLarge p u q.2 in
     stands_has at w p (Distr t.0) q.0 u q.1 (ap type_of_term (sym r.1) ∙ node_type (Builtin op.Uniform) [] (Distr t.0))
@@ -255,7 +261,7 @@ weights_has : (xs : List Node) (p : Place) (at : Environment) (bound : List Bind
 weights_has xs p at bound w u h =
     let end = λ (t : Ty). weighed_all at bound t [] xs >>= λ ps. wanted w p (stated t ps) in
     let over = λ (v : Option Ty). outcomes at bound v xs p >>= end in
-    let q = given_bind (distribution_here at w p) (λ _. part_wanted outcome w p >>= over) u h in
+    let q = given_bind (distribution_here at p) (λ _. part_wanted outcome w p >>= over) u h in
     let v = given_bind (part_wanted outcome w p) over u q.2 in
     let t = given_bind (outcomes at bound v.0 xs p) end u v.2 in
     let ps = given_bind (weighed_all at bound t.0 [] xs) (λ ps. wanted w p (stated t.0 ps)) u t.2 in
@@ -482,9 +488,7 @@ of_parts head.PowerProduct x ks p at bound w u h = rule_has rule.Product (all ks
 of_parts head.Uniform x ks p at bound w u h = uniform_has (bare (all ks)) p at w u h
 of_parts head.Weights x ks p at bound w u h = weights_has (bare (all ks)) p at bound w u h
 of_parts head.Apply x ks p at bound w u h = applied_form_has (all ks) p at bound w u h
-of_parts head.Equalities x ks p at bound w u h =
-    let q = given_bind (truth w p) (λ _. equalities at bound (bare (all ks)) p) u h in
-    truth_has w p q.0 u q.1 (equalities_type at bound (bare (all ks)) p u q.2)
+of_parts head.Equalities x ks p at bound w u h = equalities_has at bound (bare (all ks)) w p u h
 of_parts head.Glob x ks p at bound w u h = alone_not at bound (bare_glob (bare (all ks)) None p) p u h (HasType w u)
 of_parts head.Compared x ks p at bound w u h = comparing_has (both_whole x (bare (all ks))) x (all ks) p at bound w u h
 of_parts head.Quantified x ks p at bound w u h = quantified_has x ks p at bound w u h

@@ -1,7 +1,8 @@
 -- Equations of variables of two programs.
-use Rattle.std.specs.Prelude.{true, if◌then◌else◌, List, [], ◌∷◌, is_none}
+use Rattle.std.specs.Prelude.{true, if◌then◌else◌, List, [], ◌∷◌, Option, is_none}
 use Rattle.gb_core.specs.declared.place.Place.{Place}
 use Rattle.gb_core.specs.declared.refusal.Why.TheVariants.{TypeMismatch, Argument}
+use Rattle.gb_core.specs.declared.ty.Ty.{Ty}
 use Rattle.gb_core.specs.declared.ty.Ty.TheVariants.{Bool as bool_ty}
 use Rattle.gb_same.specs.Types.{ty_eq}
 use Rattle.gb_terms.specs.declared.op.Op.TheVariants as op
@@ -17,7 +18,7 @@ use Rattle.gb_goal.specs.Answers.Answer.{given, refused}
 use Rattle.gb_names.specs.declared.bindings.Binding.{Binding}
 use Rattle.gb_names.specs.Environment.{Name, Environment, on_side}
 use Rattle.gb_names.specs.Names.{path, sided}
-use Rattle.gb_names.specs.Wanted.{type_of_term}
+use Rattle.gb_names.specs.Wanted.{truth, type_of_term}
 use Rattle.gb_elab.specs.Globs.{same_globals}
 
 -- the equality of a variable of two programs
@@ -51,6 +52,10 @@ joined at bound (x ∷ xs) = do
   e ← equation_of at bound x
   with_equalities at bound e xs
 
--- equations of two programs
-unfoldable pub equalities : Environment → List Binding → List Node → Place → Answer Term
-equalities at bound xs p = if is_none (on_side at side.Left) then refused Argument p else joined at bound xs
+-- equations of two programs, where there are two
+unfoldable pub equalities : Environment → List Binding → List Node → Option Ty → Place → Answer Term
+equalities at bound xs w p =
+    if is_none (on_side at side.Left) then refused Argument p
+    else do
+      _ ← truth w p
+      joined at bound xs

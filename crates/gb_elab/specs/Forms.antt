@@ -19,11 +19,11 @@ use Rattle.gb_names.specs.declared.binders.Quantifier.{Quantifier}
 use Rattle.gb_names.specs.declared.bindings.Binding.{Binding}
 use Rattle.gb_names.specs.declared.names.Known.{Known}
 use Rattle.gb_names.specs.declared.names.Known.TheVariants as known
-use Rattle.gb_names.specs.Wanted.{wanted, truth}
+use Rattle.gb_names.specs.Wanted.{wanted}
 use Rattle.gb_names.specs.Allowed.{coin, formula, judgment, stands}
 use Rattle.gb_names.specs.Binders.{bound_by, over_all, quantifier_of}
 use Rattle.gb_names.specs.Bindings.{value}
-use Rattle.gb_names.specs.Environment.{Name, Environment, sampled}
+use Rattle.gb_names.specs.Environment.{Name, Environment, sampled, valued}
 use Rattle.gb_names.specs.Judgments.{both_procedures, one_procedure, before, after, equivalent}
 use Rattle.gb_names.specs.Names.{beside, constant_at, known_at, memory_at, named, operator_at, path, unit}
 use Rattle.gb_names.specs.Types.{type_or_number}
@@ -31,7 +31,7 @@ use Rattle.gb_operators.specs.declared.domain.Domain.{Domain}
 use Rattle.gb_operators.specs.declared.domain.Domain.TheVariants.{Exactly}
 use Rattle.gb_operators.specs.declared.operators.Operator.{Operator}
 use Rattle.gb_operators.specs.declared.rules.Asked.{Asked}
-use Rattle.gb_operators.specs.declared.rules.Asked.TheVariants.{Form, Source, Function}
+use Rattle.gb_operators.specs.declared.rules.Asked.TheVariants.{Form, Branch, Source, Function}
 use Rattle.gb_operators.specs.declared.rules.Rule.{Rule}
 use Rattle.gb_operators.specs.declared.rules.Rule.TheVariants as rule
 use Rattle.gb_operators.specs.Constants.{constant, literal}
@@ -112,9 +112,10 @@ bracketed _ p at bound w = not_built p
 
 -- what a part means as it is asked for
 abbrev pub operand : Asked → Part → Environment → List Binding → Answer Term
-operand (Form w) a at bound = a.1.form at bound w
+operand (Form w) a at bound = a.1.form (valued at) bound w
+operand (Branch w) a at bound = a.1.form at bound w
 operand (Source w) a at bound = a.1.form (sampled at) bound w
-operand (Function d w) a at bound = a.1.function d at bound w
+operand (Function d w) a at bound = a.1.function d (valued at) bound w
 
 -- a form that a rule makes of parts in the order in which they are typed, behind those that are typed
 unfoldable pub operands : Rule → Place → Environment → List Binding → Option Ty → List Term → List Part → Answer Term
@@ -307,9 +308,7 @@ typing head.PowerProduct x ps p at bound w = by_rule rule.Product ps p at bound 
 typing head.Uniform x ps p at bound w = uniform (bare ps) p at w
 typing head.Weights x ps p at bound w = weights (bare ps) p at bound w
 typing head.Apply x ps p at bound w = applied_form ps p at bound w
-typing head.Equalities x ps p at bound w = do
-  _ ← truth w p
-  equalities at bound (bare ps) p
+typing head.Equalities x ps p at bound w = equalities at bound (bare ps) w p
 typing head.Glob x ps p at bound w = whole_alone at bound (bare_glob (bare ps) None p) p
 typing head.Compared x ps p at bound w = compared x ps p at bound w
 typing head.Quantified x ps p at bound w = quantified x ps p at bound w

@@ -5,8 +5,8 @@ ghost use Rattle.std.specs.Option.{option_copied};
 ghost use Rattle.gb_core.specs.declared.refusal.Why.TheVariants.{TypeMismatch};
 ghost use Rattle.gb_same.specs.Types.{ty_eq};
 ghost use Rattle.gb_terms.specs.Make.{applied};
-ghost use Rattle.gb_goal.specs.Answers.{Answers, ◌>>=◌ as ◌and_then◌};
-ghost use Rattle.gb_names.specs.Wanted.{truth, type_of_term};
+ghost use Rattle.gb_goal.specs.Answers.{Answers};
+ghost use Rattle.gb_names.specs.Wanted.{type_of_term};
 ghost use Rattle.gb_goal.specs.Answers.Answer.{given, refused};
 ghost use Rattle.gb_names.specs.Environment.{environment};
 ghost use Rattle.gb_elab.specs.Equalities.{equalities, equality, equation, equation_of, with_equalities};
@@ -104,12 +104,12 @@ pub fn equalities(
     want: Option<&Ty>,
     place: Place,
 ) -> Result<Form, Refused>
-    ensures { Answers (truth (option_copied want.entry) place and_then λ _. equalities (environment at.now) bound.now list.now place) result }
+    ensures { Answers (equalities (environment at.now) bound.now list.now (option_copied want.entry) place) result }
 {
-    truth(want, place)?;
     if at.on_side(Side::Left).is_none() {
         return Err(argument(place));
     }
+    truth(want, place)?;
     match list {
         [] => make::boolean(alloc, true).map_err(Refused::from),
         [x, rest @ ..] => {

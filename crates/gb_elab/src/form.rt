@@ -302,10 +302,11 @@ fn operand(
     ensures { Answers (operand asked.now (part.now, meant part.now) (environment at.now) bound.now) result }
 {
     match asked {
-        Asked::Form(want) => typed(alloc, at, bound, part, inside(want)),
+        Asked::Form(want) => typed(alloc, &at.valued(), bound, part, inside(want)),
+        Asked::Branch(want) => typed(alloc, at, bound, part, inside(want)),
         Asked::Source(want) => typed(alloc, &at.sampled(), bound, part, inside(want)),
         Asked::Function(domain, want) => {
-            function_of(alloc, at, bound, part, domain, inside(want))
+            function_of(alloc, &at.valued(), bound, part, domain, inside(want))
         }
     }
 }

@@ -46,7 +46,7 @@ use Rattle.gb_typing.proofs.Shapes.{node_out}
 use Rattle.gb_amb.proofs.Wider.{small}
 use Rattle.gb_amb.specs.Witness.{at_memory}
 use Rattle.gb_names.specs.Locals.{goal_read_type, local_if}
-use Rattle.gb_elab_mod.specs.OtherLocals.{begins_at, is_local, head_reads, reads_other_locals}
+use Rattle.gb_elab_mod.specs.OtherLocals.{has_type, is_local, head_reads, reads_other_locals}
 use Rattle.gb_elab_mod.proofs.OtherLocals.{reads_out}
 use Rattle.gb_elab_laws.proofs.Recalled.{goal_stands}
 use mathlib.Core.Former.{Count}
@@ -64,12 +64,12 @@ not_other false b e f = absurd (false≢true e)
 pub local_stands : (i : ℕ) (c : Context) (q : Sequent) (t : IsTypedSequent c q) (x : Name) (u : Ty) → is_local false q (side.Memory i) x u ≡ true → local_in (get_or (of_sequent c q t.frames).named i None) x ≡ Some u
 local_stands i c q t x u e = by_type (goal_read_type (side.Memory i) x q) refl e
   where
-    by_type : (o : Option Ty) → goal_read_type (side.Memory i) x q ≡ o → begins_at false (local_if x o) u ≡ true → local_in (get_or (of_sequent c q t.frames).named i None) x ≡ Some u
+    by_type : (o : Option Ty) → goal_read_type (side.Memory i) x q ≡ o → has_type false (local_if x o) u ≡ true → local_in (get_or (of_sequent c q t.frames).named i None) x ≡ Some u
     by_type None k e = absurd (false≢true e)
     by_type (Some v) k e = (goal_stands i x c q t u (k ∙ ap Some ((ty_eq-Decides v u).0 e))).0
 
 -- The bound memory of this many binders, with the first locals, becomes one of the context, with the second ones.
-module _ (further : Bool) (q : Sequent) (i : ℕ) (outer f : Frame) (stands : (x : Name) (u : Ty) → local_in outer x ≡ Some u → is_local further q (side.Memory i) x u ≡ true → local_in f x ≡ Some u) where
+module _ (with_unread : Bool) (q : Sequent) (i : ℕ) (outer f : Frame) (stands : (x : Name) (u : Ty) → local_in outer x ≡ Some u → is_local with_unread q (side.Memory i) x u ≡ true → local_in f x ≡ Some u) where
   abbrev to_named : ℕ → Changes
   to_named k = ToSide (side.Bound k) (side.Memory i) ∷ []
 
@@ -130,15 +130,15 @@ module _ (further : Bool) (q : Sequent) (i : ℕ) (outer f : Frame) (stands : (x
       ∙ (λ z. node (led k h) (seen_by (seen_args k (led k h) z) (seen_last k (led k h) z) (map term_changed (terms_in ts))) ty)
 
   abbrev Fine : Term → Type 0
-  Fine t = reads_other_locals further q (side.Memory i) t ≡ false
+  Fine t = reads_other_locals with_unread q (side.Memory i) t ≡ false
 
   abbrev AllFine : List Term → Type 0
-  AllFine ts = list_any (λ b. b) (map (reads_other_locals further q (side.Memory i)) ts) ≡ false
+  AllFine ts = list_any (λ b. b) (map (reads_other_locals with_unread q (side.Memory i)) ts) ≡ false
 
-  fine_parts : (h : Head) (ts : List Term) (ty : Ty) → Fine (node h ts ty) → (head_reads further q (side.Memory i) h ty ≡ false) × AllFine ts
+  fine_parts : (h : Head) (ts : List Term) (ty : Ty) → Fine (node h ts ty) → (head_reads with_unread q (side.Memory i) h ty ≡ false) × AllFine ts
   fine_parts h ts ty e =
-      neither (head_reads further q (side.Memory i) h ty) (list_any (λ b. b) (map (reads_other_locals further q (side.Memory i)) ts))
-      (sym (reads_out further q (side.Memory i) (node h ts ty) ∙ ap (λ x. head_reads further q (side.Memory i) x.head x.ty || list_any (λ b. b) (map (reads_other_locals further q (side.Memory i)) x.args)) (node_out h ts ty)) ∙ e)
+      neither (head_reads with_unread q (side.Memory i) h ty) (list_any (λ b. b) (map (reads_other_locals with_unread q (side.Memory i)) ts))
+      (sym (reads_out with_unread q (side.Memory i) (node h ts ty) ∙ ap (λ x. head_reads with_unread q (side.Memory i) x.head x.ty || list_any (λ b. b) (map (reads_other_locals with_unread q (side.Memory i)) x.args)) (node_out h ts ty)) ∙ e)
 
   -- d is e without the memory that is bound at this place, the outermost one
   record Behind (k : ℕ) (e d : Context) : Type 0 where
@@ -249,17 +249,17 @@ module _ (further : Bool) (q : Sequent) (i : ℕ) (outer f : Frame) (stands : (x
 
     -- what is read in the bound memory is read in the one of the context
     bound_read : (x : Var) (t : Ty) → IsHead (erased e) (head.Read (Program x (side.Bound k))) [] t → IsNamed e (head.Read (Program x (side.Bound k))) t →
-        head_reads further q (side.Memory i) (head.Read (Program x (side.Memory i))) t ≡ false → IsHead (erased d) (head.Read (Program x (side.Memory i))) [] t × IsNamed d (head.Read (Program x (side.Memory i))) t
+        head_reads with_unread q (side.Memory i) (head.Read (Program x (side.Memory i))) t ≡ false → IsHead (erased d) (head.Read (Program x (side.Memory i))) [] t × IsNamed d (head.Read (Program x (side.Memory i))) t
     bound_read (var.Local x) t w n o =
-        ((l.range, w.1), subst (λ g. local_in g x ≡ Some t) (sym l.there) (stands x t (sym (ap (λ g. local_in g x) l.bound) ∙ n) (not_other (side_eq (side.Memory i) (side.Memory i)) (is_local further q (side.Memory i) x t) ((side_eq-Decides (side.Memory i) (side.Memory i)).1 refl) o)))
+        ((l.range, w.1), subst (λ g. local_in g x ≡ Some t) (sym l.there) (stands x t (sym (ap (λ g. local_in g x) l.bound) ∙ n) (not_other (side_eq (side.Memory i) (side.Memory i)) (is_local with_unread q (side.Memory i) x t) ((side_eq-Decides (side.Memory i) (side.Memory i)).1 refl) o)))
     bound_read (var.Global m x) t w n o = ((l.range, w.1, global_there m x t w.2), (subst IsFrame (sym l.there) l.frame, global_there m x t n.1))
     bound_read (var.Glob a) t w n o = ((l.range, w.1), (subst IsFrame (sym l.there) l.frame, globals_there a n.1, n.2))
 
-    read_there : (x : Var) (r : Side) (t : Ty) → IsHead (erased e) (head.Read (Program x r)) [] t → IsNamed e (head.Read (Program x r)) t → head_reads further q (side.Memory i) (head.Read (Program x (led_side k r))) t ≡ false →
+    read_there : (x : Var) (r : Side) (t : Ty) → IsHead (erased e) (head.Read (Program x r)) [] t → IsNamed e (head.Read (Program x r)) t → head_reads with_unread q (side.Memory i) (head.Read (Program x (led_side k r))) t ≡ false →
         IsHead (erased d) (head.Read (Program x (led_side k r))) [] t × IsNamed d (head.Read (Program x (led_side k r))) t
     read_there x r t w n o = by_side (side_eq (side.Bound k) r) refl o
       where
-        by_side : (b : Bool) → side_eq (side.Bound k) r ≡ b → head_reads further q (side.Memory i) (head.Read (Program x (if b then side.Memory i else r))) t ≡ false →
+        by_side : (b : Bool) → side_eq (side.Bound k) r ≡ b → head_reads with_unread q (side.Memory i) (head.Read (Program x (if b then side.Memory i else r))) t ≡ false →
             IsHead (erased d) (head.Read (Program x (if b then side.Memory i else r))) [] t × IsNamed d (head.Read (Program x (if b then side.Memory i else r))) t
         by_side true s o =
             let same = sym ((side_eq-Decides (side.Bound k) r).0 s) in
@@ -275,7 +275,7 @@ module _ (further : Bool) (q : Sequent) (i : ℕ) (outer f : Frame) (stands : (x
         by_side true s = (l.range, subst IsFrame (sym l.there) l.frame, tt)
         by_side false s = let y = kept_side r (λ z. false≢true (sym s ∙ (side_eq-Decides (side.Bound k) r).1 z)) w in (y.0, subst IsFrame y.1 n, p)
 
-    head_there : (h : Head) (us : List Ty) (t : Ty) → IsHead (erased e) h us t → IsNamed e h t → head_reads further q (side.Memory i) (led k h) t ≡ false → IsHead (erased d) (led k h) us t × IsNamed d (led k h) t
+    head_there : (h : Head) (us : List Ty) (t : Ty) → IsHead (erased e) h us t → IsNamed e h t → head_reads with_unread q (side.Memory i) (led k h) t ≡ false → IsHead (erased d) (led k h) us t × IsNamed d (led k h) t
     head_there (head.Read (Logical j)) [] t w n o = ((w.0, ap (λ h. h j) (sym l.logical) ∙ w.1), tt)
     head_there (head.Read (Program x r)) [] t w n o = read_there x r t w n o
     head_there (head.Read r) (u ∷ us) t w n o = absurd w
@@ -343,7 +343,7 @@ module _ (further : Bool) (q : Sequent) (i : ℕ) (outer f : Frame) (stands : (x
     term_led : (k : ℕ) (e d : Context) → Behind k e d → (t : Term) → IsTyped e t → Fine (term_changed t (to_named k)) → Made d (type_of t) (term_changed t (to_named k))
     term_led k e d l (Term' tt (more_of-Head h end_of-Head) n ts ty) w o =
         let is = node_led e k h n ts ty w.1 in
-        let parts = fine_parts (led k h) (args_of k h ts) ty (sym (ap (reads_other_locals further q (side.Memory i)) is) ∙ o) in
+        let parts = fine_parts (led k h) (args_of k h ts) ty (sym (ap (reads_other_locals with_unread q (side.Memory i)) is) ∙ o) in
         let head_is = head_there k e d l h (types_of ts) ty w.0 w.1 parts.0 in
         subst (Made d ty) (sym is)
         (made_node d (led k h) (types_of ts) (args_of k h ts) ty head_is.0 head_is.1 w.2
@@ -355,17 +355,17 @@ module _ (further : Bool) (q : Sequent) (i : ℕ) (outer f : Frame) (stands : (x
     all_led k o c e g d x y l m r end_of-Term w z = tt
     all_led k o c e g d x y l m r (more_of-Term t end_of-Term) w z = term_led o g y r t w (neither _ _ z).0
     all_led k o c e g d x y l m r (more_of-Term t (more_of-Term u ts)) w z =
-        let two = neither (reads_other_locals further q (side.Memory i) (term_changed t (to_named k))) _ z in
+        let two = neither (reads_other_locals with_unread q (side.Memory i) (term_changed t (to_named k))) _ z in
         (term_led k c d l t w.0 two.0, all_led k o e e g x x y m m r (more_of-Term u ts) w.1 two.1)
 
 -- The body of a quantifier over memories, about a memory of the context.
-module _ (b : Context) (us : List Ty) (ns : List Frame) (i : ℕ) (frame : IsFrame (get_or ns i None)) (range : i < length ns) (further : Bool) (q : Sequent)
+module _ (b : Context) (us : List Ty) (ns : List Frame) (i : ℕ) (frame : IsFrame (get_or ns i None)) (range : i < length ns) (with_unread : Bool) (q : Sequent)
     (ls : List TypedName)
-    (stands : (x : Name) (u : Ty) → local_type ls x ≡ Some u → is_local further q (side.Memory i) x u ≡ true → local_in (get_or ns i None) x ≡ Some u) where
+    (stands : (x : Name) (u : Ty) → local_type ls x ≡ Some u → is_local with_unread q (side.Memory i) x u ≡ true → local_in (get_or ns i None) x ≡ Some u) where
   abbrev c : Context
   c = small b us ns
 
-  behind : Behind further q i (Some ls) (get_or ns i None) stands 0 (within c memory (Some ls)) c
+  behind : Behind with_unread q i (Some ls) (get_or ns i None) stands 0 (within c memory (Some ls)) c
   behind = record {
     logical = refl;
     global = refl;
@@ -392,7 +392,7 @@ module _ (b : Context) (us : List Ty) (ns : List Frame) (i : ℕ) (frame : IsFra
       each zero n w = absurd (n refl)
       each (suc j) n w = absurd w
 
-  pub memory_typed : (g : Term) → IsForm (within c memory (Some ls)) g → reads_other_locals further q (side.Memory i) (at_memory g i) ≡ false → IsForm c (at_memory g i)
+  pub memory_typed : (g : Term) → IsForm (within c memory (Some ls)) g → reads_other_locals with_unread q (side.Memory i) (at_memory g i) ≡ false → IsForm c (at_memory g i)
   memory_typed g w o =
-      let m = term_led further q i (Some ls) (get_or ns i None) stands 0 (within c memory (Some ls)) c behind g w.typed o in
+      let m = term_led with_unread q i (Some ls) (get_or ns i None) stands 0 (within c memory (Some ls)) c behind g w.typed o in
       record { typed = m.typed; truth = m.written ∙ w.truth }

@@ -17,7 +17,7 @@ use Rattle.gb_operators.specs.declared.domain.Domain.TheVariants.{Exactly, Below
 use Rattle.gb_operators.specs.declared.drawn.Drawn.{Drawn}
 use Rattle.gb_operators.specs.declared.operators.Infix.{Infix}
 use Rattle.gb_operators.specs.declared.rules.Asked.{Asked}
-use Rattle.gb_operators.specs.declared.rules.Asked.TheVariants.{Form, Source, Function}
+use Rattle.gb_operators.specs.declared.rules.Asked.TheVariants.{Form, Branch, Source, Function}
 use Rattle.gb_operators.specs.declared.rules.Rule.{Rule}
 use Rattle.gb_operators.specs.declared.rules.Rule.TheVariants as rule
 use Rattle.gb_operators.specs.Drawn.{source_wanted, value_wanted}
@@ -29,7 +29,7 @@ use Rattle.gb_elab_laws.proofs.Given.{given_bind, if_allowed, if_refused, some_g
 use Rattle.gb_elab_laws.proofs.Shapes.{finite_form, outcome_finite, entries_finite}
 use Rattle.gb_elab_laws.proofs.Tested.{distribution_of, map_of, element_of, got_form}
 use Rattle.gb_elab_laws.proofs.Measured.{parameter_form}
-use Rattle.gb_elab_laws.proofs.Asked.{IsRule, IsAskable, AreOperands, as_form, as_source, asks, first_known, factor_known, one_of_both, operand_known, own_type, parts_known, source_known, value_known}
+use Rattle.gb_elab_laws.proofs.Asked.{IsRule, IsAskable, AreOperands, as_branch, as_form, as_source, asks, first_known, factor_known, one_of_both, operand_known, own_type, parts_known, source_known, value_known}
 
 module _ (globs : Bool) (c : Context) (at : Environment) (w : Option Ty) (p : Place) (f : IsFormTypeIf globs w) where
   -- the first parts
@@ -61,7 +61,7 @@ module _ (globs : Bool) (c : Context) (at : Environment) (w : Option Ty) (p : Pl
   -- the branch that is typed first
   pub first_branch : (r s : Term) (ts : List Term) → AreOperands globs c at rule.If w p [] (r ∷ s ∷ ts) → IsGiven globs c at.language w s
   unfolding asked
-  first_branch r s ts h = as_form globs c at h.1.0.1 w s h.1.0.2 h.1.0.3
+  first_branch r s ts h = as_branch globs c at h.1.0.1 w s h.1.0.2 h.1.0.3
 
   -- the types of the entries of a typed map, and those of the outcomes of a typed distribution
   pub entries_typed : (v : Option Ty) (s : Term) (e : Ty × Ty) → IsGiven globs c at.language v s → given_or (entries (type_of_term s)) TypeMismatch p ≡ given e →
@@ -90,8 +90,8 @@ module _ (globs : Bool) (c : Context) (at : Environment) (w : Option Ty) (p : Pl
   branches : (ts : List Term) → Asks rule.If ts
   unfolding asked
   branches [] q h k e = asks globs k (Form (Some ty.Bool)) e tt
-  branches (r ∷ []) q h k e = asks globs k (Form w) e f
-  branches (r ∷ s ∷ ts) q h k e = asks globs k (Form (Some (type_of_term s))) e (own_type globs c at w s (first_branch r s ts h))
+  branches (r ∷ []) q h k e = asks globs k (Branch w) e f
+  branches (r ∷ s ∷ ts) q h k e = asks globs k (Branch (Some (type_of_term s))) e (own_type globs c at w s (first_branch r s ts h))
 
   maps : (ts : List Term) → Asks rule.Get ts
   unfolding asked
@@ -168,7 +168,7 @@ module _ (globs : Bool) (c : Context) (at : Environment) (w : Option Ty) (p : Pl
       asks globs k (Form (Some a.0)) a.2
       (parameter_form globs o.params (length ts) a.0 n.params (some_given (slice_get o.params (length ts)) TypeMismatch p a.0 a.1))
   askable rule.Product n ts q h k e =
-      let d = given_bind (distribution_here at w p) _ k e in
+      let d = given_bind (distribution_here at p) _ k e in
       let v = given_bind (factor_wanted w (length ts == 0) p) (λ v. given (Source v)) k d.2 in
       asks globs k (Source v.0) v.2 (factor_known globs w v.0 (length ts == 0) p f v.1)
   askable (rule.Drawn d) n ts q h k e = drawn d ts q h k e

@@ -26,7 +26,7 @@ use Rattle.gb_operators.specs.declared.operators.Operands.TheVariants.{Truths, A
 use Rattle.gb_operators.specs.declared.operators.Prefix.{Prefix}
 use Rattle.gb_operators.specs.declared.operators.Prefix.TheVariants as prefix
 use Rattle.gb_operators.specs.declared.rules.Asked.{Asked}
-use Rattle.gb_operators.specs.declared.rules.Asked.TheVariants.{Form, Source, Function}
+use Rattle.gb_operators.specs.declared.rules.Asked.TheVariants.{Form, Branch, Source, Function}
 use Rattle.gb_operators.specs.declared.rules.Rule.{Rule}
 use Rattle.gb_operators.specs.declared.rules.Rule.TheVariants as rule
 use Rattle.gb_operators.specs.Drawn.{outcome_wanted, source_wanted, value_wanted}
@@ -75,6 +75,7 @@ IsRule c globs _ = Unit {0}
 -- what is asked may be asked
 abbrev pub IsAskable : Bool → Asked → Type 0
 IsAskable globs (Form w) = IsFormTypeIf globs w
+IsAskable globs (Branch w) = IsFormTypeIf globs w
 IsAskable globs (Source w) = IsFormTypeIf globs w
 IsAskable globs (Function d w) = IsDomain globs d × IsFormTypeIf globs w
 
@@ -82,6 +83,7 @@ module _ (globs : Bool) (c : Context) (at : Environment) where
   -- a typed part, as it is asked for
   abbrev pub IsOperand : Asked → Term → Type 0
   IsOperand (Form w) t = IsGiven globs c at.language w t
+  IsOperand (Branch w) t = IsGiven globs c at.language w t
   IsOperand (Source w) t = IsGiven globs c at.language w t
   IsOperand (Function d w) t = IsGiven globs (within c (binder_of d) None) at.language w t
 
@@ -101,6 +103,9 @@ module _ (globs : Bool) (c : Context) (at : Environment) where
   -- what is asked for as a form of a type
   pub as_form : (k : Asked) (x : Option Ty) (t : Term) → given (Form x) ≡ given k → IsOperand k t → IsGiven globs c at.language x t
   as_form k x t e h = subst (λ z. IsOperand z t) (sym (given_is (Form x) k e)) h
+
+  pub as_branch : (k : Asked) (x : Option Ty) (t : Term) → given (Branch x) ≡ given k → IsOperand k t → IsGiven globs c at.language x t
+  as_branch k x t e h = subst (λ z. IsOperand z t) (sym (given_is (Branch x) k e)) h
 
   pub as_source : (k : Asked) (x : Option Ty) (t : Term) → given (Source x) ≡ given k → IsOperand k t → IsGiven globs c at.language x t
   as_source k x t e h = subst (λ z. IsOperand z t) (sym (given_is (Source x) k e)) h
@@ -179,7 +184,7 @@ module _ (globs : Bool) where
   operand_known prefix.Some at w x p f e = inside_known w x p f e
   operand_known prefix.Oget at w x p f e = option_known w x p f e
   operand_known prefix.Dunit at w x p f e =
-      let k = given_bind (distribution_here at w p) (λ _. part_wanted outcome w p) x e in outcome_known w x p f k.2
+      let k = given_bind (distribution_here at p) (λ _. part_wanted outcome w p) x e in outcome_known w x p f k.2
 
   -- what is wanted of the side that is typed first
   pub first_known : (s : Operands) (w : Option Ty) → IsFormTypeIf globs w → IsFormTypeIf globs (first_wanted s w)
@@ -194,10 +199,11 @@ module _ (globs : Bool) where
   source_known Measure at w x p f e =
       let k = given_bind (stands at w p ty.Real) (λ _. given None) x e in subst (IsFormTypeIf globs) (given_is None x k.2) tt
   source_known Image at w x p f e =
-      let k = given_bind (distribution_here at w p) _ x e in
+      let k = given_bind (distribution_here at p) _ x e in
       let v = given_bind (part_wanted outcome w p) (λ _. given None) x k.2 in subst (IsFormTypeIf globs) (given_is None x v.2) tt
   source_known Restriction at w x p f e =
-      let k = given_bind (distribution_here at w p) (λ _. given w) x e in subst (IsFormTypeIf globs) (given_is w x k.2) f
+      let k = given_bind (distribution_here at p) _ x e in
+      let v = given_bind (part_wanted outcome w p) (λ _. given w) x k.2 in subst (IsFormTypeIf globs) (given_is w x v.2) f
 
   -- the sides of a product of distributions
   pair_known : (us : List Ty) (f : Ty × Ty) → EachFiniteWith globs us → pair us ≡ Some f → IsFiniteWith globs f.0 × IsFiniteWith globs f.1

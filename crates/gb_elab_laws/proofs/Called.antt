@@ -1,32 +1,28 @@
 -- What the typing of calls gives is typed.
-use Rattle.std.proofs.Common.{◌≡◌, ◌≤◌, true, false, if◌then◌else◌, nat_lt, bytes_eq, List, [], ◌∷◌, length, Some, refl, ap, sym, ◌∙◌, subst, arith}
+use Rattle.std.proofs.Common.{◌≡◌, ◌≤◌, false, nat_lt, List, [], ◌∷◌, length, Some, refl, ap, sym, ◌∙◌, subst, arith}
 use Rattle.std.proofs.lemmas.Bool.{ltb-false}
-use Rattle.std.proofs.lemmas.Slice.Eq.{bytes_eq-Decides}
 use Rattle.gb_core.specs.declared.place.Place.{Place}
-use Rattle.gb_core.specs.declared.refusal.Why.TheVariants.{Argument, TypeMismatch, UnknownName}
+use Rattle.gb_core.specs.declared.refusal.Why.TheVariants.{TypeMismatch}
 use Rattle.gb_core.specs.declared.ty.Ty.{Ty}
 use Rattle.gb_same.specs.Types.{ty_eq}
 use Rattle.gb_same.proofs.Decided.{ty_eq-Decides}
 use Rattle.gb_terms.specs.declared.decl.Module.{Module}
-use Rattle.gb_terms.specs.declared.decl.Proc.{Proc}
 use Rattle.gb_terms.specs.declared.decl.TypedName.{TypedName}
 use Rattle.gb_terms.specs.declared.term.Term.{Term, Row_of-Term, end_of-Term, more_of-Term, items-the_row-Term, items_hidden-the_row-Term-0}
 use Rattle.gb_terms.specs.declared.term.Head.TheVariants.{Call}
 use Rattle.gb_terms.specs.declared.term.Head.TheBlock as B
 use Rattle.gb_terms.specs.declared.term.Instr.{Instr}
-use Rattle.gb_goal.specs.Answers.{given_or}
 use Rattle.gb_goal.specs.Answers.Answer.{given}
-use Rattle.gb_goal.specs.Scope.{Declarations, entry_of, proc_of}
+use Rattle.gb_goal.specs.Scope.{Declarations}
 use Rattle.gb_script.specs.declared.tree.Node.{Node}
-use Rattle.gb_script.specs.Tree.{text_of, parts_of, place_of}
+use Rattle.gb_script.specs.Tree.{text_of, parts_of}
 use Rattle.gb_meaning.specs.Commands.{terms_in}
-use Rattle.gb_meaning.specs.Names.{Name}
 use Rattle.gb_names.specs.Environment.{Environment, program}
-use Rattle.gb_names.specs.Judgments.{Named, Path, module_in, procedure_path, reference}
+use Rattle.gb_names.specs.Judgments.{Named, Path, procedure_path}
 use Rattle.gb_names.specs.Names.{Target}
 use Rattle.gb_elab.specs.Forms.{elaborated}
 use Rattle.gb_elab_prog.specs.Contexts.{nothing_around}
-use Rattle.gb_elab_stmt.specs.Calls.{arguments, call, call_of, called, declared_procedures, enough, is_hidden, or_own, procedures_in, takes}
+use Rattle.gb_elab_stmt.specs.Calls.{arguments, call, call_of, called, enough, takes}
 use Rattle.gb_elab_stmt.specs.Targets.{type_of_all, variables_of}
 use Rattle.gb_meaning.specs.Written.{type_of}
 use Rattle.gb_typed.specs.Finite.{IsFinite}
@@ -39,9 +35,9 @@ use Rattle.gb_typing.specs.Programs.{AreArguments, IsCall, HaveVariableTypes}
 use Rattle.gb_elab_laws.specs.Fitting.{IsTypeOf}
 use Rattle.gb_elab_laws.proofs.Around.{IsAround}
 use Rattle.gb_elab_laws.proofs.Around as program_around
+use Rattle.gb_elab_laws.proofs.Callees.{callee}
 use Rattle.gb_elab_laws.proofs.Forms.{elaborated_typed}
-use Rattle.gb_elab_laws.proofs.Given.{given_bind, given_is, if_given, if_refused, some_given}
-use Rattle.gb_elab_laws.proofs.Judged.{in_module, module_is}
+use Rattle.gb_elab_laws.proofs.Given.{given_bind, given_is, if_given, if_refused}
 use Rattle.gb_elab_laws.proofs.Shapes.{finite_form}
 use Rattle.gb_elab_laws.proofs.Spoken.{hidden_named}
 use mathlib.Core.Former.{Count}
@@ -54,30 +50,8 @@ module _ (ds : Declarations) (c : Context) (m : Module) (around : IsAround ds c 
   abbrev IsThere : Named → Type 0
   IsThere n = IsTypeOf (procedure c n.0) n.1
 
-  declared_there : (f : Path) (p : Place) (ps : List Proc) (a : Proc) → declared_procedures here f.0 p ≡ given ps → proc_of ps (text_of f.1) ≡ Some a → IsThere (reference f, a)
-  declared_there f p ps a h e =
-      let k = given_bind (module_in (entry_of ds f.0) f.0 p) (λ (k : Module). given k.procs) ps h in
-      let same : k.0.procs ≡ ps = given_is k.0.procs ps k.2 in
-      let is = module_is (entry_of ds f.0) f.0 p k.0 k.1 in
-      around.procedures (reference f) a (in_module (entry_of ds f.0) k.0 (text_of f.1) a is.0 is.1 (ap (λ qs. proc_of qs (text_of f.1)) same ∙ e))
-
-  own_there : (f : Path) (p : Place) (ps : List Proc) (a : Proc) → or_own (Some m) here f.0 p ≡ given ps → proc_of ps (text_of f.1) ≡ Some a → IsThere (reference f, a)
-  own_there f p ps a h e = step (bytes_eq f.0 m.name) refl h
-    where
-      step : (b : _) → bytes_eq f.0 m.name ≡ b → (if b then given m.procs else declared_procedures here f.0 p) ≡ given ps → IsThere (reference f, a)
-      step true i h =
-          subst (λ (n : Name). IsThere (reference (n, f.1), a)) (sym ((bytes_eq-Decides f.0 m.name).0 i))
-          (around.own_procedures (text_of f.1) a (ap (λ qs. proc_of qs (text_of f.1)) (given_is m.procs ps h) ∙ e))
-      step false i h = declared_there f p ps a h e
-
   called_there : (f : Path) (p : Place) (n : Named) → called here f p ≡ given n → IsThere n
-  unfolding called procedures_in
-  called_there f p n h =
-      let ps = given_bind (procedures_in here f.0 p) _ n h in
-      let d = given_bind (given_or (proc_of ps.0 (text_of f.1)) (UnknownName (text_of f.1)) (place_of f.1)) (λ (d : Proc). given (reference f, d)) n ps.2 in
-      let k = if_refused (is_hidden here f.0) Argument p (or_own (Some m) here f.0 p) ps.0 ps.1 in
-      subst IsThere (given_is (reference f, d.0) n d.2)
-      (own_there f p ps.0 d.0 k.1 (some_given (proc_of ps.0 (text_of f.1)) (UnknownName (text_of f.1)) (place_of f.1) d.0 d.1))
+  called_there = callee ds m vs IsThere around.procedures around.own_procedures
 
   abbrev IsMade : Instr → Type 0
   IsMade = program_around.IsMade ds c m around vs typed

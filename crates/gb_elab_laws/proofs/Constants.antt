@@ -31,8 +31,9 @@ use Rattle.gb_names.specs.Types.{type_of}
 use Rattle.gb_names.specs.Wanted.{fits, wanted}
 use Rattle.gb_operators.specs.Constants.{constant, literal}
 use Rattle.gb_operators.specs.Drawn.{uniform}
-use Rattle.gb_operators.specs.Kinds.{entries, inside_option, is_small}
+use Rattle.gb_operators.specs.Kinds.{entries, inside_option, is_small, outcome}
 use Rattle.gb_operators.specs.Literals.{as_whole, holds, holds_layer, number, numeral}
+use Rattle.gb_operators.specs.Operators.{part_wanted}
 use Rattle.gb_elab_laws.specs.Fitting.{IsFormType, IsFormTypeIf, AreTypes, IsFitting, IsWanted, IsGiven}
 use Rattle.gb_elab_laws.proofs.Given.{given_bind, given_is, if_allowed, if_given, fits_is}
 use Rattle.gb_elab_laws.proofs.Types.{spelled_typed}
@@ -48,7 +49,7 @@ use Rattle.gb_typed.proofs.Constructors.{distribution_is}
 -- what stands where a type is wanted has it
 pub stands_is : (at : Environment) (w : Option Ty) (p : Place) (t : Ty) (x : Unit {0}) → stands at w p t ≡ given x → IsWanted w t
 stands_is at w p t x e =
-    let a = if_allowed (may_have at.language w t) (if fits w t then given tt else refused TypeMismatch p) Argument p x e in
+    let a = if_allowed (may_have at.language t) (if fits w t then given tt else refused TypeMismatch p) Argument p x e in
     fits_is w t (if_given (fits w t) tt TypeMismatch p x a.1).0
 
 some_is : {A : Type 0} (o : Option A) → is_some o ≡ true → (x : A) × (o ≡ Some x)
@@ -100,12 +101,14 @@ module _ (globs : Bool) (c : Context) (at : Environment) where
   pub coin_typed : (w : Option Ty) (p : Place) (u : Term) → coin at w p ≡ given u → IsGiven globs c l w u
   coin_typed w p u e =
       let d = node (Builtin op.Coin) [] (ty.Distr ty.Bool) in
-      let k = given_bind (distribution_here at w p) (λ _. wanted w p d) u e in
+      let k = given_bind (distribution_here at p) (λ _. wanted w p d) u e in
       wanted_given c l w p d u (ty.Distr ty.Bool, leaf c l (Builtin op.Coin) (ty.Distr ty.Bool) (drawn_form globs ty.Bool tt) (distribution_is ty.Bool) tt tt (λ e. e)) k.2
 
   pub uniform_typed : AreTypes at.declared → (ts : List Node) (w : Option Ty) (p : Place) (u : Term) → uniform ts p at w ≡ given u → IsGiven globs c l w u
   uniform_typed names (s ∷ []) w p u e =
-      let t = given_bind (type_of at.declared s) _ u e in
+      let h = given_bind (distribution_here at p) _ u e in
+      let v = given_bind (part_wanted outcome w p) _ u h.2 in
+      let t = given_bind (type_of at.declared s) _ u v.2 in
       let d = node (Builtin op.Uniform) [] (ty.Distr t.0) in
       let k = given_bind (stands at w p (ty.Distr t.0)) (λ _. if is_small t.0 then given d else refused TypeTooLarge p) u t.2 in
       let j = if_given (is_small t.0) d TypeTooLarge p u k.2 in

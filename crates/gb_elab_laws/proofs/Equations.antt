@@ -1,7 +1,8 @@
 -- Operators of typed forms.
-use Rattle.std.proofs.Common.{◌≡◌, true, false, List, [], ◌∷◌, is_none, refl, sym, ◌∙◌, subst, Bool}
+use Rattle.std.proofs.Common.{◌≡◌, true, false, List, [], ◌∷◌, is_none, refl, sym, ◌∙◌, subst, Bool, Option}
 use Rattle.gb_core.specs.declared.place.Place.{Place}
 use Rattle.gb_core.specs.declared.refusal.Why.TheVariants.{TypeMismatch, Argument}
+use Rattle.gb_core.specs.declared.ty.Ty.{Ty}
 use Rattle.gb_core.specs.declared.ty.Ty.TheVariants as ty
 use Rattle.gb_same.specs.Types.{ty_eq}
 use Rattle.gb_same.proofs.Decided.{ty_eq-Decides}
@@ -14,16 +15,17 @@ use Rattle.gb_script.specs.declared.head.Head.{Head}
 use Rattle.gb_script.specs.declared.head.Head.TheVariants as head
 use Rattle.gb_script.specs.declared.tree.Node.{Node}
 use Rattle.gb_script.specs.Tree.{head_of, text_of, parts_of, place_of}
-use Rattle.gb_names.specs.Wanted.{type_of_term}
+use Rattle.gb_names.specs.Wanted.{truth, type_of_term}
+use Rattle.gb_goal.specs.Answers.{◌>>=◌}
 use Rattle.gb_goal.specs.Answers.Answer.{given}
 use Rattle.gb_names.specs.Environment.{Name, Environment, on_side}
 use Rattle.gb_elab.specs.Equalities.{equalities, equality, equation, equation_of, joined, with_equalities}
 use Rattle.gb_names.specs.Names.{path, sided}
 use Rattle.gb_typing.specs.Context.{Context}
-use Rattle.gb_elab_laws.specs.Fitting.{reads_globals, IsFitting}
+use Rattle.gb_elab_laws.specs.Fitting.{reads_globals, IsFitting, IsGiven}
 use Rattle.gb_elab_laws.proofs.Given.{given_bind, given_is, if_given, if_refused, out_type}
 use Rattle.gb_elab_laws.proofs.Types.{no_distribution}
-use Rattle.gb_elab_laws.proofs.Typed.{Typed, combined}
+use Rattle.gb_elab_laws.proofs.Typed.{Typed, combined, truth_given}
 use Rattle.gb_elab_laws.proofs.Leaves.{HasMemory, IsVariable, sided_typed, truth_typed}
 use Rattle.gb_elab_laws.proofs.Globs.{both_memories, same_globals_typed}
 
@@ -66,8 +68,9 @@ module _ {globs : Bool} (c : Context) (at : Environment) (vs : List Binding) (fi
         let q = given_bind (equation_of at vs x) (λ e. with_equalities at vs e xs) u h in
         with_equalities_typed q.0 xs u (each_typed x q.0 q.1) q.2
 
-  pub equalities_typed : (xs : List Node) (p : Place) (u : Term) → equalities at vs xs p ≡ given u → Typed globs c at.language ty.Bool u
+  pub equalities_typed : (xs : List Node) (w : Option Ty) (p : Place) (u : Term) → equalities at vs xs w p ≡ given u → IsGiven globs c at.language w u
   unfolding equalities
-  equalities_typed xs p u h =
-      let k = if_refused (is_none (on_side at side.Left)) Argument p (joined at vs xs) u h in
-      joined_typed (both_memories globs (reads_globals at.language) c at.variables fit.variables k.0) xs u k.1
+  equalities_typed xs w p u h =
+      let k = if_refused (is_none (on_side at side.Left)) Argument p (truth w p >>= λ _. joined at vs xs) u h in
+      let q = given_bind (truth w p) (λ _. joined at vs xs) u k.1 in
+      truth_given c at.language w p q.0 u q.1 (joined_typed (both_memories globs (reads_globals at.language) c at.variables fit.variables k.0) xs u q.2)

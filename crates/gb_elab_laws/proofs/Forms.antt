@@ -36,7 +36,7 @@ use Rattle.gb_names.specs.declared.setting.Language.{Language}
 use Rattle.gb_names.specs.declared.setting.Language.TheVariants.{Formula, Function, Program, Sampled, Operator}
 use Rattle.gb_names.specs.Allowed.{formula, has_judgments, is_program, judgment, stands}
 use Rattle.gb_names.specs.Binders.{bound_by, over_all, quantifier_of}
-use Rattle.gb_names.specs.Environment.{Name, Environment, sampled, sampled_in}
+use Rattle.gb_names.specs.Environment.{Name, Environment, sampled, sampled_in, speaking, valued, valued_in}
 use Rattle.gb_names.specs.Judgments.{both_procedures, one_procedure, before, after, equivalent}
 use Rattle.gb_names.specs.Names.{constant_at, has_memories, hidden, known_at, memory_at, named, operator_at, path, unit}
 use Rattle.gb_names.specs.Types.{type_of, type_or_number}
@@ -54,7 +54,7 @@ use Rattle.gb_operators.specs.declared.rules.Rule.{Rule}
 use Rattle.gb_operators.specs.declared.rules.Rule.TheVariants as rule
 use Rattle.gb_operators.specs.Constants.{constant, literal}
 use Rattle.gb_operators.specs.Domain.{counts_to, type_in, written_as}
-use Rattle.gb_operators.specs.Literals.{bound_of, is_bound, number_in, part_number}
+use Rattle.gb_operators.specs.Literals.{bound_of, is_bound, number_in, part_number, place_inside}
 use Rattle.gb_operators.specs.Open.{right_first}
 use Rattle.gb_operators.specs.Operators.{comparison, operator_of}
 use Rattle.gb_operators.specs.Rules.{asked, made, rule_for, rule_of, user_made}
@@ -115,60 +115,62 @@ module _ (globs : Bool) where
   abbrev parts : List Known → List Part
   parts ks = map (λ k. (k.0, meant k.0)) ks
 
-  -- A sampled distribution is of the same language, as far as typing goes.
-  same_reads : (l : Language) → reads_globals (sampled_in l) ≡ reads_globals l
-  same_reads Formula = refl
-  same_reads Function = refl
-  same_reads Program = refl
-  same_reads Sampled = refl
-  same_reads Operator = refl
+  -- languages that differ in their distributions alone
+  abbrev pub AreAlike : Language → Language → Type 0
+  AreAlike l k = (reads_globals l ≡ reads_globals k) × (has_judgments l ≡ has_judgments k) × (has_memories l ≡ has_memories k)
 
-  same_judgments : (l : Language) → has_judgments (sampled_in l) ≡ has_judgments l
-  same_judgments Formula = refl
-  same_judgments Function = refl
-  same_judgments Program = refl
-  same_judgments Sampled = refl
-  same_judgments Operator = refl
+  pub sampled_alike : (l : Language) → AreAlike (sampled_in l) l
+  sampled_alike Formula = (refl, refl, refl)
+  sampled_alike Function = (refl, refl, refl)
+  sampled_alike Program = (refl, refl, refl)
+  sampled_alike Sampled = (refl, refl, refl)
+  sampled_alike Operator = (refl, refl, refl)
 
-  same_memories : (l : Language) → has_memories (sampled_in l) ≡ has_memories l
-  same_memories Formula = refl
-  same_memories Function = refl
-  same_memories Program = refl
-  same_memories Sampled = refl
-  same_memories Operator = refl
+  valued_alike : (l : Language) → AreAlike (valued_in l) l
+  valued_alike Formula = (refl, refl, refl)
+  valued_alike Function = (refl, refl, refl)
+  valued_alike Program = (refl, refl, refl)
+  valued_alike Sampled = (refl, refl, refl)
+  valued_alike Operator = (refl, refl, refl)
 
-  sampled_fits : (c : Context) (at : Environment) (vs : List Binding) → IsFitting globs c at vs → IsFitting globs c (sampled at) vs
-  sampled_fits c at vs fit = record {
+  pub speaking_fits : (c : Context) (at : Environment) (vs : List Binding) (l : Language) → AreAlike l at.language → IsFitting globs c at vs → IsFitting globs c (speaking l at) vs
+  speaking_fits c at vs l same fit = record {
     logical = fit.logical;
     values = fit.values;
     bound = fit.bound;
-    variables = subst (λ b. AreReadable globs b c at.variables) (sym (same_reads at.language)) fit.variables;
+    variables = subst (λ b. AreReadable globs b c at.variables) (sym same.0) fit.variables;
     declared = fit.declared;
     around = fit.around;
-    globals = λ e. fit.globals (sym (same_reads at.language) ∙ e);
-    procedures = λ e. fit.procedures (sym (same_judgments at.language) ∙ e);
-    memories = λ e. fit.memories (sym (same_memories at.language) ∙ e);
-    locals = λ e. fit.locals (sym (same_memories at.language) ∙ e);
-    frames = λ e. fit.frames (sym (same_memories at.language) ∙ e);
+    globals = λ e. fit.globals (sym same.0 ∙ e);
+    procedures = λ e. fit.procedures (sym same.1 ∙ e);
+    memories = λ e. fit.memories (sym same.2 ∙ e);
+    locals = λ e. fit.locals (sym same.2 ∙ e);
+    frames = λ e. fit.frames (sym same.2 ∙ e);
   }
 
-  sampled_given : (c : Context) (l : Language) (w : Option Ty) (t : Term) → IsGiven globs c (sampled_in l) w t → IsGiven globs c l w t
-  sampled_given c l w t g = record {
+  pub given_alike : (c : Context) (l k : Language) → AreAlike l k → (w : Option Ty) (t : Term) → IsGiven globs c l w t → IsGiven globs c k w t
+  given_alike c l k same w t g = record {
     typed = g.typed;
     type = g.type;
     wanted = g.wanted;
-    plain = λ e. g.plain (same_judgments l ∙ e);
+    plain = λ e. g.plain (same.1 ∙ e);
     apart = g.apart;
   }
 
   -- The parts of a form, one after another, and what is made of them.
   module _ (c : Context) (at : Environment) (vs : List Binding) (fit : IsFitting globs c at vs) where
     operand_typed : (k : Asked) → IsAskable globs k → (a : Known) (t : Term) → operand k (a.0, meant a.0) at vs ≡ given t → IsOperand globs c at k t
-    operand_typed (as_asked.Form w) f a t e = a.1.0 c at vs fit w f t e
+    operand_typed (as_asked.Form w) f a t e =
+        let same = valued_alike at.language in
+        given_alike c (valued_in at.language) at.language same w t (a.1.0 c (valued at) vs (speaking_fits c at vs (valued_in at.language) same fit) w f t e)
+    operand_typed (as_asked.Branch w) f a t e = a.1.0 c at vs fit w f t e
     operand_typed (as_asked.Source w) f a t e =
-        sampled_given c at.language w t
-        (a.1.0 c (sampled at) vs (sampled_fits c at vs fit) w f t e)
-    operand_typed (as_asked.Function d w) f a t e = a.1.1 c at vs fit d f.0 w f.1 t e
+        let same = sampled_alike at.language in
+        given_alike c (sampled_in at.language) at.language same w t (a.1.0 c (sampled at) vs (speaking_fits c at vs (sampled_in at.language) same fit) w f t e)
+    operand_typed (as_asked.Function d w) f a t e =
+        let same = valued_alike at.language in
+        given_alike (within c (binder_of d) None) (valued_in at.language) at.language same w t
+        (a.1.1 c (valued at) vs (speaking_fits c at vs (valued_in at.language) same fit) d f.0 w f.1 t e)
 
     module _ (r : Rule) (n : IsRule c globs r) (p : Place) (w : Option Ty) (f : IsFormTypeIf globs w) where
       operands_typed : (ks : List Known) (ts : List Term) → AreOperands globs c at r w p [] ts → (u : Term) → operands r p at vs w ts (parts ks) ≡ given u → IsGiven globs c at.language w u
@@ -296,9 +298,9 @@ module _ (globs : Bool) where
   bound_above : (q : Node) (n : ℕ) → bound_of q ≡ given n → 0 < n
   bound_above q n e = step (number_in q) e
     where
-      step : (o : Option ℕ) → option_map_or (λ m. if is_bound m then given m else refused Argument (place_of q)) o (refused Argument (place_of q)) ≡ given n → 0 < n
+      step : (o : Option ℕ) → option_map_or (λ m. if is_bound m then given m else refused Argument (place_inside q)) o (refused Argument (place_inside q)) ≡ given n → 0 < n
       step (Some m) h =
-          let k = if_given (is_bound m) m Argument (place_of q) n h in
+          let k = if_given (is_bound m) m Argument (place_inside q) n h in
           let j = and_parts (nat_lt 0 m) (nat_lt m 65537) k.0 in subst (λ z. 0 < z) k.1 (ltb-true 0 m j.0)
       step None h = cc
 
@@ -484,8 +486,7 @@ module _ (globs : Bool) where
   form_parts head.Uniform x ks p c at vs fit w f u e = let names = fit.declared in uniform_typed globs c at names.types (bare (parts ks)) w p u e
   form_parts head.Weights x ks p c at vs fit w f u e = weights_typed c at vs fit (bare (parts ks)) p w u e
   form_parts head.Apply x ks p c at vs fit w f u e = applied_form_typed ks p c at vs fit w f u e
-  form_parts head.Equalities x ks p c at vs fit w f u e =
-      let q = given_bind (truth w p) _ u e in truth_given c at.language w p q.0 u q.1 (equalities_typed c at vs fit (bare (parts ks)) p u q.2)
+  form_parts head.Equalities x ks p c at vs fit w f u e = equalities_typed c at vs fit (bare (parts ks)) w p u e
   form_parts head.Glob x ks p c at vs fit w f u e = absurd (none_alone c at vs fit (bare_glob (bare (parts ks)) None p) p u e)
   form_parts head.Compared x ks p c at vs fit w f u e = comparing_typed (both_whole x (bare (parts ks))) x ks p c at vs fit w f u e
   form_parts head.Quantified x ks p c at vs fit w f u e = quantified_typed x ks p c at vs fit w f u e

@@ -27,7 +27,7 @@ use Rattle.gb_names.specs.Locals.{first_some, goal_read_type, hyps_read_type, re
 use Rattle.gb_names.proofs.ReadTypes.{read_type_out}
 use Rattle.gb_same.proofs.Decided.{ty_eq-Decides}
 use Rattle.gb_names.specs.Locals.{local_if}
-use Rattle.gb_elab_mod.specs.OtherLocals.{begins_at, is_local}
+use Rattle.gb_elab_mod.specs.OtherLocals.{has_type, is_local}
 use Rattle.gb_elab_laws.proofs.Recalled.{goal_stands}
 use Rattle.gb_elab_laws.proofs.Widened.{with_named, Stays, Grown, form_grows, unread, read_same, added}
 
@@ -149,7 +149,7 @@ module _ (base : Context) (q : Sequent) (t : IsTypedSequent base q) (none : Have
   pub further_stands : (x : Name) (u : Ty) → local_type ls x ≡ Some u → is_local true q (side.Memory i) x u ≡ true → local_in (get_or (framed wider) i None) x ≡ Some u
   further_stands x u k e = ap (λ g. local_in g x) (put_here i now t.frames range) ∙ by_type (goal_read_type (side.Memory i) x q) refl e
     where
-      by_type : (o : Option Ty) → goal_read_type (side.Memory i) x q ≡ o → begins_at true (local_if x o) u ≡ true → local_type now x ≡ Some u
+      by_type : (o : Option Ty) → goal_read_type (side.Memory i) x q ≡ o → has_type true (local_if x o) u ≡ true → local_type now x ≡ Some u
       by_type None m e = added i q fs ls x u m k
       by_type (Some v) m e =
           let same = m ∙ ap Some ((ty_eq-Decides v u).0 e) in

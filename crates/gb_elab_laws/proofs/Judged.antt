@@ -2,7 +2,8 @@
 use Rattle.std.proofs.lemmas.Bool.{false≢true}
 use Rattle.std.proofs.Common.{◌≡◌, true, List, [], ◌∷◌, Option, Some, None, refl, ap, sym, ◌∙◌, subst, Bool}
 use Rattle.gb_core.specs.declared.place.Place.{Place}
-use Rattle.gb_core.specs.declared.refusal.Why.TheVariants.{UnknownName, Argument}
+use Rattle.gb_core.specs.declared.refusal.Why.{Why}
+use Rattle.gb_core.specs.declared.refusal.Why.TheVariants.{Argument}
 use Rattle.gb_core.specs.declared.ty.Ty.TheVariants as ty
 use Rattle.gb_terms.specs.declared.decl.Module.{Module}
 use Rattle.gb_terms.specs.declared.decl.Param.{Param}
@@ -25,8 +26,8 @@ use Rattle.gb_names.specs.declared.setting.Language.{Language}
 use Rattle.gb_names.specs.declared.setting.Language.TheVariants.{Formula, Function, Program, Sampled, Operator}
 use Rattle.gb_names.specs.Environment.{Name, Environment, in_judgments, reading, relational}
 use Rattle.gb_names.specs.Allowed.{has_judgments}
-use Rattle.gb_names.specs.Judgments.{whole, module_in, known_module, named_module, Path, procedure_path, Named, reference, procedure_at, named_procedure, about_procedure, one_procedure, both_procedures, before, after, result_of, equivalent}
-use Rattle.gb_names.specs.Names.{is_variable, may_name}
+use Rattle.gb_names.specs.Judgments.{whole, module_in, declared_module, known_module, named_module, Path, procedure_path, Named, reference, procedure_at, named_procedure, about_procedure, one_procedure, both_procedures, before, after, result_of, equivalent}
+use Rattle.gb_names.specs.Names.{hidden, may_name, no_declared, no_procedure}
 use Rattle.gb_typing.specs.Modules.{ProcedureType}
 use Rattle.gb_typing.specs.Context.{Frame, Context, local_in, procedure, with_sides}
 use Rattle.gb_typing.specs.Typing.{IsFrame, IsThere}
@@ -44,11 +45,11 @@ whole_is [] k m p h = (refl, given_is k m h)
 whole_is (q ∷ qs) k m p h = cc
 
 -- the module of a name has no parameters
-pub module_is : (o : Option Entry) (x : Name) (p : Place) (m : Module) → module_in o x p ≡ given m → (o ≡ Some (entry.Module m)) × (m.params ≡ [])
-module_is (Some (entry.Module k)) x p m h =
+pub module_is : (o : Option Entry) (w : Why) (p : Place) (m : Module) → module_in o w p ≡ given m → (o ≡ Some (entry.Module m)) × (m.params ≡ [])
+module_is (Some (entry.Module k)) w p m h =
     let q = whole_is k.params k m p h in (ap (λ z. Some (entry.Module z)) q.1, subst (λ (z : Module). z.params ≡ []) q.1 q.0)
-module_is (Some _) x p m h = cc
-module_is None x p m h = cc
+module_is (Some _) w p m h = cc
+module_is None w p m h = cc
 
 without_params : (ps : List Param) (qs : List Proc) (n : Name) (f : Proc) → ps ≡ [] → proc_of qs n ≡ Some f → proc_if_plain ps qs n ≡ Some f
 without_params ps qs n f k h = ap (λ z. proc_if_plain z qs n) k ∙ h
@@ -73,14 +74,14 @@ unfolding procedure_at named_module known_module
 procedure_is at vs f p n h =
     let x = text_of f.1 in
     let m = given_bind (named_module at vs f.0 p) _ n h in
-    let d = given_bind (given_or (proc_of m.0.procs x) (UnknownName x) (place_of f.1)) (λ (d : Proc). given (reference f, d)) n m.2 in
+    let d = given_bind (given_or (proc_of m.0.procs x) (no_procedure m.0 x) (place_of f.1)) (λ (d : Proc). given (reference f, d)) n m.2 in
     let a = given_bind (known_module at vs f.0 p) (λ (z : Module). may_name at f.0 p >>= λ _. given z) m.0 m.1 in
     let b = given_bind (may_name at f.0 p) (λ _. given a.0) m.0 a.2 in
-    let k = if_refused (is_variable at vs f.0) Argument p (module_in (entry_of at.declared f.0) f.0 p) a.0 a.1 in
+    let k = if_refused (hidden at vs f.0) Argument p (declared_module at.inside at.declared f.0 p) a.0 a.1 in
     let e = subst (λ (z : Module). (entry_of at.declared f.0 ≡ Some (entry.Module z)) × (z.params ≡ [])) (given_is a.0 m.0 b.2)
-    (module_is (entry_of at.declared f.0) f.0 p a.0 k.1) in
+    (module_is (entry_of at.declared f.0) (no_declared at.inside at.declared f.0) p a.0 k.1) in
     subst (IsDeclared at) (given_is (reference f, d.0) n d.2)
-    (in_module (entry_of at.declared f.0) m.0 x d.0 e.0 e.1 (some_given (proc_of m.0.procs x) (UnknownName x) (place_of f.1) d.0 d.1))
+    (in_module (entry_of at.declared f.0) m.0 x d.0 e.0 e.1 (some_given (proc_of m.0.procs x) (no_procedure m.0 x) (place_of f.1) d.0 d.1))
 
 pub named_is : (at : Environment) (vs : List Binding) (k : Head) (xs : List Node) (p : Place) (n : Named) → named_procedure at vs k xs p ≡ given n → IsDeclared at n
 named_is at vs head.ProcedurePath (x ∷ y ∷ ys) p n h = procedure_is at vs (procedure_path (text_of x) y ys) p n h

@@ -38,7 +38,7 @@ use Rattle.gb_names.specs.declared.bindings.Kind.TheVariants.{Value, Memory}
 use Rattle.gb_names.specs.Bindings.{binders_inside, innermost}
 use Rattle.gb_names.specs.Locals.{goal_read_type, local_if, locals_in}
 use Rattle.gb_names.specs.Environment.{Name, Environment, may_read, own, own_of, on_side, sides_of}
-use Rattle.gb_names.specs.Names.{ModuleVariable, first_named, global_at, global_in, global_variable, has_own, module_if, number_before, own_global, unit, unsided, bound_thing, bound_variable, logical_variable, program_variable, names_other, unbound, named, no_variable, variable_on, sided, in_memory, path}
+use Rattle.gb_names.specs.Names.{ModuleVariable, first_named, global_at, global_in, global_variable, has_own, module_if, number_before, own_global, unit, unsided, bound_thing, bound_variable, logical_variable, program_variable, names_other, unbound, named, named_around, needs_side, no_variable, variable_on, sided, in_memory, path}
 use Rattle.gb_names.specs.Names.{beside, has_memories, may_name, memory_at, read_global, remembered, side_of}
 use Rattle.gb_elab.specs.Forms.{read}
 use Rattle.gb_elab.specs.Globs.{Seen, bare_glob, whole_alone, whole_read}
@@ -216,13 +216,18 @@ module _ {globs : Bool} (c : Context) (at : Environment) (vs : List Binding) (fi
   pub named_typed : (x : Name) (p : Place) (u : Term) → named at vs x p ≡ given u → IsSome globs c at.language u
   unfolding named
   named_typed x p u h =
-      let logicals = at.sequent.logical in
       chosen (λ b. bound_thing (binders_inside vs x) p b.kind) (innermost vs x) _ u
       (λ v e k. thing_typed (binders_inside vs x) p v.kind u (found_bound globs vs x v e c.bound fit.bound) k)
       (chosen (λ v. given (program_variable side.Own v)) (first_named (own at) x) _ u (λ v e k. subst (IsSome globs c at.language) (given_is _ u k) (own_variable_typed x v (found (own at) x v e)))
-      (chosen (logical_variable (number_before logicals x)) (first_named logicals x) _ u (λ v e k. logical_typed x v u (found logicals x v e) k)
-      (chosen (unsided at p) (global_at at x) (unbound at x p) u (λ g e k. unsided_typed x p g u e k) (unbound_typed x p u))))
+      (λ e. around (if_refused (needs_side at x) (no_variable at x) p (named_around at x p) u e).1))
       h
+    where
+      around : named_around at x p ≡ given u → IsSome globs c at.language u
+      around e =
+          let logicals = at.sequent.logical in
+          chosen (logical_variable (number_before logicals x)) (first_named logicals x) _ u (λ v e k. logical_typed x v u (found logicals x v e) k)
+          (chosen (unsided at p) (global_at at x) (unbound at x p) u (λ g e k. unsided_typed x p g u e k) (unbound_typed x p u))
+          e
 
   variable_typed : (x : Name) (s : Side) (p : Place) (ls : List TypedName) (u : Term) → OnSide globs (reads_globals at.language) c s ls → variable_on at vs x s p ls ≡ given u → IsVariable u
   variable_typed x s p ls u o h =

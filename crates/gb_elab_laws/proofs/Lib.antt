@@ -34,7 +34,9 @@ pub mod Anew
 pub mod Cuts
 pub mod Spoken
 pub mod Around
+pub mod Callees
 pub mod Called
+pub mod StatedCalls
 pub mod Stated
 pub mod Widened
 pub mod Further
@@ -43,6 +45,7 @@ pub mod Used
 mod Brought
 pub mod Programs
 pub mod Members
+pub mod ModuleCalls
 pub mod Procedures
 pub mod Statements
 pub mod Scopes

@@ -127,21 +127,25 @@ procedures_both c m earlier (p ∷ ps) qs h k =
 -- A module that is typed so far.
 
 -- its members are the first ones of another
-record IsFront (k m : Module) : Type 0 where
-  name : k.name ≡ m.name
-  params : k.params ≡ m.params
+pub record IsFront (k m : Module) : Type 0 where
+  pub name : k.name ≡ m.name
+  pub params : k.params ≡ m.params
   more : List TypedName
   globals : k.globals ++ more ≡ m.globals
+  pub added : List Proc
+  pub procs : k.procs ++ added ≡ m.procs
 
 whole_front : (m : Module) → IsFront m m
-whole_front m = record { name = refl; params = refl; more = []; globals = append-nil m.globals }
+whole_front m = record { name = refl; params = refl; more = []; globals = append-nil m.globals; added = []; procs = append-nil m.procs }
 
-front_of : (k n m : Module) → IsFront k n → IsFront n m → IsFront k m
+pub front_of : (k n m : Module) → IsFront k n → IsFront n m → IsFront k m
 front_of k n m f g = record {
   name = f.name ∙ g.name;
   params = f.params ∙ g.params;
   more = f.more ++ g.more;
   globals = sym (append_assoc k.globals f.more g.more) ∙ ap (λ z. z ++ g.more) f.globals ∙ g.globals;
+  added = f.added ++ g.added;
+  procs = sym (append_assoc k.procs f.added g.added) ∙ ap (λ z. z ++ g.added) f.procs ∙ g.procs;
 }
 
 module _ (ds : Declarations) where
@@ -149,18 +153,18 @@ module _ (ds : Declarations) where
   lines_front k n xs t e =
       let o = given_bind (taken (member_names k) xs) _ n e in
       let u = given_bind (spelled_as.type_of ds t) (λ u. given (record k { globals = k.globals ++ of_type xs u })) n o.2 in
-      subst (IsFront k) (given_is _ n u.2) (record { name = refl; params = refl; more = of_type xs u.0; globals = refl })
+      subst (IsFront k) (given_is _ n u.2) (record { name = refl; params = refl; more = of_type xs u.0; globals = refl; added = []; procs = append-nil k.procs })
 
   procedure_front : (k n : Module) (h : Head) (ps : List Node) (p : Place) → with_procedure ds nothing_around k h ps p ≡ given n → IsFront k n
   procedure_front k n h ps p e =
       let q = given_bind (procedure_by ds nothing_around k h ps p) (λ q. given (record k { procs = k.procs ++ q ∷ [] })) n e in
-      subst (IsFront k) (given_is _ n q.2) (record { name = refl; params = refl; more = []; globals = append-nil k.globals })
+      subst (IsFront k) (given_is _ n q.2) (record { name = refl; params = refl; more = []; globals = append-nil k.globals; added = q.0 ∷ []; procs = refl })
 
-  member_front : (k n : Module) (h : Head) (ps : List Node) (p : Place) → with_member ds nothing_around k h ps p ≡ given n → IsFront k n
+  pub member_front : (k n : Module) (h : Head) (ps : List Node) (p : Place) → with_member ds nothing_around k h ps p ≡ given n → IsFront k n
   member_front k n head.Globals (xs ∷ t ∷ []) p e = lines_front k n (parts_of xs) t e
   member_front k n h ps p e = procedure_front k n h ps p e
 
-  members_front : (k m : Module) (ts : List Node) → with_members ds nothing_around k ts ≡ given m → IsFront k m
+  pub members_front : (k m : Module) (ts : List Node) → with_members ds nothing_around k ts ≡ given m → IsFront k m
   unfolding with_members
   members_front k m [] e = subst (IsFront k) (given_is k m e) (whole_front k)
   members_front k m (t ∷ ts) e =
@@ -287,7 +291,7 @@ none_of : {A : Type 0} (o : Option A) → is_some o ≡ false → o ≡ None
 none_of None e = refl
 none_of (Some x) e = cc
 
-unnamed : (ds : Declarations) (x : Node) (y : Unit {0}) → free ds x ≡ given y → entry_of ds (text_of x) ≡ None
+pub unnamed : (ds : Declarations) (x : Node) (y : Unit {0}) → free ds x ≡ given y → entry_of ds (text_of x) ≡ None
 unnamed ds x y h = none_of _ (if_refused (is_some (entry_of ds (text_of x))) (DoubleName (text_of x)) (place_of x) (given tt) y h).0
 
 -- a name that a script hasn't declared is free

@@ -34,7 +34,7 @@ use Rattle.gb_elab_laws.proofs.Given.{none_some, same_some}
 use mathlib.Core.Former.{Count, arity, this}
 
 -- what a head reads through a side, by its constructors
-abbrev head_locals : Head → Closed
+abbrev pub head_locals : Head → Closed
 head_locals (head.Read (Program x through)) s t = Some (if side_eq through s then local x t else [])
 head_locals (head.Pr p m) s t = Some []
 head_locals (head.Hoare j) s t = Some []
@@ -60,7 +60,7 @@ folded_is h s t =
     ∙ layer_locals (out-Head h) s t
     ∙ ap (λ z. head_locals z s t) (roll-out-Head h)
 
-read_is : (h : Head) (n : List (Unit {0})) (ts : Row_of-Term (arity (the_former (this {0})) n)) (ty : Ty) (s : Side) →
+pub read_is : (h : Head) (n : List (Unit {0})) (ts : Row_of-Term (arity (the_former (this {0})) n)) (ty : Ty) (s : Side) →
     read_locals (Term' tt (more_of-Head h end_of-Head) n ts ty) s ≡ or_args (head_locals h s ty) (flat_map (λ (a : Locals). a s) (map read_locals (terms_in ts)))
 read_is h n ts ty s =
     ap (λ f. f s) (fold_out-Term Closed (Unit {0}) (Unit {0}) (Unit {0}) Locals at_head (λ i. tt) (λ j. tt) (λ c. tt) at_term (Term' tt (more_of-Head h end_of-Head) n ts ty))

@@ -31,7 +31,7 @@ use Rattle.gb_operators.specs.declared.operators.Operands.TheVariants.{Truths, A
 use Rattle.gb_operators.specs.declared.operators.Infix.{Infix}
 use Rattle.gb_operators.specs.declared.operators.Prefix.{Prefix}
 use Rattle.gb_operators.specs.declared.operators.Prefix.TheVariants as prefix
-use Rattle.gb_operators.specs.declared.rules.Asked.TheVariants.{Form, Source, Function}
+use Rattle.gb_operators.specs.declared.rules.Asked.TheVariants.{Form, Branch, Source, Function}
 use Rattle.gb_operators.specs.declared.rules.Rule.{Rule}
 use Rattle.gb_operators.specs.declared.rules.Rule.TheVariants as rule
 use Rattle.gb_operators.specs.Drawn.{drawn_head, drawn_result, value_wanted}
@@ -47,7 +47,7 @@ use Rattle.gb_elab_laws.proofs.Globless.{form_with}
 use Rattle.gb_elab_laws.proofs.Typed.{Typed, EachTyped, IsSome, of_given, of_script, operated, combined}
 use Rattle.gb_elab_laws.proofs.Operators.{conditional, tuple, part, some, content, entry, changed, in_map, in_support, weight, certain, product}
 use Rattle.gb_elab_laws.proofs.Binding.{measured, summed, imaged, restricted}
-use Rattle.gb_elab_laws.proofs.Asked.{Suits, IsRule, AreOperands, as_form, as_source, as_function, typed_part}
+use Rattle.gb_elab_laws.proofs.Asked.{Suits, IsRule, AreOperands, as_branch, as_form, as_source, as_function, typed_part}
 use Rattle.gb_elab_laws.proofs.Askable.{first_side, first_map, first_changed, first_member, first_drawn, first_mass, first_branch}
 
 unless : (b : Bool) → not b ≡ true → b ≡ false
@@ -184,7 +184,7 @@ module _ (globs : Bool) (c : Context) (at : Environment) (w : Option Ty) (p : Pl
   branches_typed (r ∷ s ∷ t ∷ []) h u e =
       let a = of_some r ty.Bool (as_form globs c at h.0.1 (Some ty.Bool) r h.0.2 h.0.3) in
       let x = typed_part globs c at w s (first_branch globs c at w p f r s (t ∷ []) h) in
-      let y = of_some t (type_of_term s) (as_form globs c at h.1.1.0.1 (Some (type_of_term s)) t h.1.1.0.2 h.1.1.0.3) in
+      let y = of_some t (type_of_term s) (as_branch globs c at h.1.1.0.1 (Some (type_of_term s)) t h.1.1.0.2 h.1.1.0.3) in
       is_typed (type_of_term s) (applied op.If (r ∷ s ∷ t ∷ []) (type_of_term s)) u (conditional c at.language (type_of_term s) r s t a x y) e
   branches_typed [] h u e = cc
   branches_typed (r ∷ []) h u e = cc
@@ -342,9 +342,9 @@ module _ (globs : Bool) (c : Context) (at : Environment) (w : Option Ty) (p : Pl
       let a = given_bind (given_or (outcome (type_of_term s)) TypeMismatch p) _ k.0 k.1 in
       let b = given_bind (given_or (outcome (type_of_term t)) TypeMismatch p) (λ z. if is_small (ty.Tuple (a.0 ∷ z ∷ [])) then given (ty.Distr (ty.Tuple (a.0 ∷ z ∷ []))) else refused TypeTooLarge p) k.0 a.2 in
       let d = if_given (is_small (ty.Tuple (a.0 ∷ b.0 ∷ []))) (ty.Distr (ty.Tuple (a.0 ∷ b.0 ∷ []))) TypeTooLarge p k.0 b.2 in
-      let i = given_bind (distribution_here at w p) _ h.0.1 h.0.2 in
+      let i = given_bind (distribution_here at p) _ h.0.1 h.0.2 in
       let v = given_bind (factor_wanted w true p) (λ v. given (Source v)) h.0.1 i.2 in
-      let j = given_bind (distribution_here at w p) _ h.1.0.1 h.1.0.2 in
+      let j = given_bind (distribution_here at p) _ h.1.0.1 h.1.0.2 in
       let z = given_bind (factor_wanted w false p) (λ v. given (Source v)) h.1.0.1 j.2 in
       let x = typed_part globs c at v.0 s (as_source globs c at h.0.1 v.0 s v.2 h.0.3) in
       let y = typed_part globs c at z.0 t (as_source globs c at h.1.0.1 z.0 t z.2 h.1.0.3) in

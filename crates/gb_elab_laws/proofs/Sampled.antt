@@ -51,6 +51,7 @@ use Rattle.gb_names.specs.declared.setting.Language.TheVariants.{Function}
 use Rattle.gb_names.specs.Environment.{Environment, of_function}
 use Rattle.gb_elab.specs.Forms.{function}
 use Rattle.gb_elab_mod.specs.Occurring.{occurring}
+use Rattle.gb_operators.specs.Literals.{place_inside}
 use Rattle.gb_elab_mod.specs.Steps.{acts, cut_of, last_sampled, functions, of_bodies_rule, on_all, one_type, plain_rule, conclusion_rule, conseq_rule, case_of_bodies, case_of_conclusion, formed, seq_rule, sided_case_rule, there_and_back, of_bodies, couplings, drawing_rule, coupling_rule, functions_of, typed_rule, step_given, asked_of, both_rule, chance_rule, judges_chance, witness_rule}
 use Rattle.gb_elab_mod.specs.Multiples.{hypothesis_at, multiples, position}
 use Rattle.gb_elab_mod.specs.Uses.{all_hinted, defined_operator, hypothesis, used}
@@ -88,7 +89,7 @@ module _ (c : Context) (ds : scope.Declarations) (q : Sequent) (xs ys : List Typ
   unfolding there_and_back
   functions_typed [] a b v w x ts o h = subst (AreFunctions c a b) (given_is [] ts h) tt
   functions_typed (f ∷ []) a b v w x ts o h =
-      let e : a ≡ b = (ty_eq-Decides a b).0 (if_given (ty_eq a b) tt TypeMismatch (place_of f) x o).0 in
+      let e : a ≡ b = (ty_eq-Decides a b).0 (if_given (ty_eq a b) tt TypeMismatch (place_inside f) x o).0 in
       let t = given_bind (function f at a b) _ ts h in
       subst (AreFunctions c a b) (given_is (t.0 ∷ []) ts t.2) (e, one_typed f a b v w t.0 t.1)
   functions_typed (f ∷ g ∷ fs) a b v w x ts o h =

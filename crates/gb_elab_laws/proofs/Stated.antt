@@ -25,12 +25,13 @@ use Rattle.gb_meaning.specs.Written.{type_of, IsModulo}
 use Rattle.gb_goal.specs.Answers.{◌>>=◌, given_or}
 use Rattle.gb_goal.specs.Answers.Answer.{given, refused}
 use Rattle.gb_meaning.specs.Names.{Name}
-use Rattle.gb_names.specs.declared.setting.Language.TheVariants.{Program}
+use Rattle.gb_names.specs.declared.setting.Language.TheVariants.{Program, Sampled}
 use Rattle.gb_elab.specs.Forms.{elaborated}
-use Rattle.gb_names.specs.Environment.{Environment, program}
+use Rattle.gb_names.specs.Environment.{Environment, program, sampled}
 use Rattle.gb_names.specs.Names.{Target, dotted, target}
 use Rattle.gb_names.proofs.Nodes.{by_parts}
 use Rattle.gb_operators.specs.Kinds.{entries}
+use Rattle.gb_operators.specs.Literals.{place_inside}
 use Rattle.gb_elab_stmt.specs.Calls.{call}
 use Rattle.gb_elab_stmt.specs.Statements.{Stating, all_stated, alone, assignment, begun, branch, called_to, counts_down, entry_stored, instruction, is_modulo_layer, result_in, result_to, results_in, sampling, single, stated, stating, stored, stored_term, tuple_assignment, turning, variant, with_statings, words, written, written_to}
 use Rattle.gb_elab_stmt.specs.Targets.{targets, type_of_all, variables_of}
@@ -47,7 +48,7 @@ use Rattle.gb_elab_laws.specs.Fitting.{IsFitting, IsFormType, IsGiven}
 use Rattle.gb_elab_laws.proofs.Around.{IsAround}
 use Rattle.gb_elab_laws.proofs.Around as program_around
 use Rattle.gb_elab_laws.proofs.Called as of_calls
-use Rattle.gb_elab_laws.proofs.Forms.{elaborated_typed}
+use Rattle.gb_elab_laws.proofs.Forms.{elaborated_typed, given_alike, sampled_alike, speaking_fits}
 use Rattle.gb_elab_laws.proofs.Given.{given_bind, given_is, if_given, none_some, out_type, some_given}
 use Rattle.gb_elab_laws.proofs.Operators.{changed}
 use Rattle.gb_elab_laws.proofs.Spoken.{hidden_speaks, speak_append}
@@ -123,9 +124,12 @@ module _ (ds : Declarations) (c : Context) (m : Module) (around : IsAround ds c 
   unfolding sampling
   sampling_typed x (d ∷ []) p i h =
       let v = given_bind (target here x p) _ i h in
-      let from = given_bind (elaborated d here [] (Some (ty.Distr v.0.1))) (λ (e : Term). given (Sample v.0.0 e)) i v.2 in
+      let from = given_bind (elaborated d (sampled here) [] (Some (ty.Distr v.0.1))) (λ (e : Term). given (Sample v.0.0 e)) i v.2 in
       let t = target_typed x p v.0 v.1 in
-      let g = elaborated_typed d inner here [] fits (Some (ty.Distr v.0.1)) (drawn_form false v.0.1 t.1) from.0 from.1 in
+      let same = sampled_alike false Program in
+      let g =
+      given_alike false inner Sampled Program same (Some (ty.Distr v.0.1)) from.0
+      (elaborated_typed d inner (sampled here) [] (speaking_fits false inner here [] Sampled same fits) (Some (ty.Distr v.0.1)) (drawn_form false v.0.1 t.1) from.0 from.1) in
       let k = distributions_over v.0.1 (type_of from.0) (variable_finite v.0.1 t.1) g.wanted in
       let made : variable_type (erased c) vs v.0.0 ≡ Some (outcome_type (type_of from.0)) = t.0 ∙ ap Some (sym k.1) in
       subst (IsMade) {x = Sample v.0.0 from.0} (given_is (Sample v.0.0 from.0) i from.2) ((expression (Some (ty.Distr v.0.1)) from.0 g, k.0, made), g.apart refl)
@@ -274,8 +278,8 @@ module _ (ds : Declarations) (c : Context) (m : Module) (around : IsAround ds c 
   variant_typed : (ss : List Node) (p : Place) (v : Term) → variant here ss p ≡ given v → IsVariant v
   unfolding variant
   variant_typed (s ∷ ss) p v h =
-      let k = given_bind (elaborated s here [] None) (λ k. if counts_down k then given k else refused TypeMismatch (place_of s)) v h in
-      let u = if_given (counts_down k.0) k.0 TypeMismatch (place_of s) v k.2 in
+      let k = given_bind (elaborated s here [] None) (λ k. if counts_down k then given k else refused TypeMismatch (place_inside s)) v h in
+      let u = if_given (counts_down k.0) k.0 TypeMismatch (place_inside s) v k.2 in
       let g = elaborated_typed s inner here [] fits None tt k.0 k.1 in
       subst IsVariant u.1 ((expression None k.0 g, modulo k.0 u.0), g.apart refl)
   variant_typed [] p v h = cc

@@ -1,5 +1,5 @@
 -- Types that a script spells, and types of distributions.
-use Rattle.std.proofs.Common.{◌≡◌, ℕ, zero, suc, ◌<◌, nat_lt, ◌==◌, ◌||◌, Bool, true, false, if◌then◌else◌, List, [], ◌∷◌, map, take, drop, bytes_eq, refl, ap, sym, ◌∙◌, subst, arith}
+use Rattle.std.proofs.Common.{◌≡◌, ℕ, zero, suc, ◌<◌, nat_lt, ◌==◌, ◌||◌, Bool, true, false, if◌then◌else◌, List, [], ◌∷◌, map, take, drop, None, bytes_eq, refl, ap, sym, ◌∙◌, subst, arith}
 use Rattle.std.specs.Prelude.{codes}
 use Rattle.std.specs.List.{AllByRecursion}
 use Rattle.std.proofs.lemmas.Bool.{false≢true}
@@ -27,8 +27,8 @@ use Rattle.gb_goal.specs.Answers.{Answer, ◌>>=◌}
 use Rattle.gb_goal.specs.Scope.{Declarations, type_named}
 use Rattle.gb_goal.specs.Answers.Answer.{given, refused}
 use Rattle.gb_names.specs.Allowed.{is_distribution, is_distribution_layer}
-use Rattle.gb_names.specs.Names.{path}
-use Rattle.gb_names.specs.Types.{Spelling, plain_type, up_to, bits_type, int_type, option_type, map_type, all_spelled, tuple_of, tuple_type, no_type, declared_type, words, spelling, spelled, type_of}
+use Rattle.gb_names.specs.Names.{no_declared, path}
+use Rattle.gb_names.specs.Types.{Spelling, plain_type, up_to, bits_type, int_type, option_type, map_type, all_spelled, tuple_of, tuple_type, declared_type, words, spelling, spelled, type_of}
 use Rattle.gb_elab_laws.specs.Fitting.{AreTypes}
 use Rattle.gb_elab_laws.proofs.Given.{given_bind, given_is, if_refused, some_given}
 use Rattle.gb_names.proofs.Nodes.{by_parts}
@@ -161,7 +161,7 @@ module _ (ds : Declarations) (names : AreTypes ds) where
 
   -- a name of a type
   named_typed : (x : List ℕ) (q : Place) → GivesVariable (declared_type ds x q)
-  named_typed x q u h = names x u (some_given (type_named ds x) (no_type ds x) q u h)
+  named_typed x q u h = names x u (some_given (type_named ds x) (no_declared None ds x) q u h)
 
 of_parts : (k : Head) (x : List ℕ) (ks : List Known) (q : Place) → IsOfVariables (spelling k x (parts ks) q)
 unfolding spelling

@@ -4,7 +4,7 @@ use Rattle.std.specs.Prelude.{bytes_eq}
 use Rattle.std.specs.List.{AllByRecursion}
 use Rattle.std.specs.Option.{option_map, option_map_or}
 use Rattle.gb_core.specs.declared.place.Place.{Place}
-use Rattle.gb_core.specs.declared.refusal.Why.TheVariants.{Argument, UnknownName}
+use Rattle.gb_core.specs.declared.refusal.Why.TheVariants.{Argument}
 use Rattle.gb_core.specs.declared.ty.Ty.{Ty}
 use Rattle.gb_terms.specs.declared.term.Term.{Term, out-Term}
 use Rattle.gb_terms.specs.declared.term.Head.{Head}
@@ -14,7 +14,7 @@ use Rattle.gb_terms.specs.declared.decl.TypedName.{TypedName}
 use Rattle.gb_terms.specs.declared.module.Bind.{Bind}
 use Rattle.gb_terms.specs.declared.op.Side.{Side}
 use Rattle.gb_terms.specs.declared.op.Side.TheVariants as side
-use Rattle.gb_goal.specs.Answers.{◌>>=◌, not_built}
+use Rattle.gb_goal.specs.Answers.{◌>>=◌, given_or, not_built}
 use Rattle.gb_meaning.specs.Names.{Name}
 use Rattle.gb_goal.specs.Answers.Answer.{given, refused}
 use Rattle.gb_goal.specs.Scope as scope
@@ -56,9 +56,9 @@ use Rattle.gb_use.proofs.Foralls.{argument_typed}
 use Rattle.gb_elab.specs.Forms.{elaborated}
 use Rattle.gb_names.specs.Environment.{ambient}
 use Rattle.gb_elab_mod.specs.OtherLocals.{is_local, reads_other_locals}
-use Rattle.gb_elab_mod.specs.Multiples.{names_thing}
+use Rattle.gb_elab_mod.specs.Multiples.{no_such}
 use Rattle.gb_elab_mod.specs.Taken.{is_taken}
-use Rattle.gb_elab_mod.specs.Uses.{about_all, about_memory, about_named, about_value, all_hinted, hinted, hinted_at, hypothesis_named, hypothesis, is_memory, lemma_named, memory_of, name_of, no_known, said_by, said_of, said_of_all, said_of_memory, said_on, used, used_at, used_named, value_of, without_modules as without_bound}
+use Rattle.gb_elab_mod.specs.Uses.{about_all, about_memory, about_named, about_value, all_hinted, hinted, hinted_at, hypothesis_named, hypothesis, is_memory, lemma_named, memory_of, name_of, said_by, said_of, said_of_all, said_of_memory, said_on, used, used_at, used_named, value_of, without_modules as without_bound}
 use Rattle.gb_elab_laws.specs.Procedures.{AreStated, IsOfProcedures}
 use Rattle.gb_elab_laws.proofs.Fits.{goal_fits}
 use Rattle.gb_elab_laws.proofs.Forms.{elaborated_typed}
@@ -305,20 +305,14 @@ module _ (ds : scope.Declarations) (scoped : IsTypedScope (declared ds)) (q : Se
     unfolding used_named
     of_name x es p f e = by_hypothesis (hypothesis_named q.hyps x) refl e
       where
-        nothing : no_known ds q x p ≡ given f → IsUsed f
-        nothing e = by_test (names_thing ds q x) e
-          where
-            by_test : (b : Bool) → (if b then refused Argument p else refused (UnknownName x) p) ≡ given f → IsUsed f
-            by_test true e = cc
-            by_test false e = cc
-
-        by_lemma : (b : Bool) (o : Option Sequent) → lemma_of ds x ≡ o → option_map_or (λ l. said_by ds q (binders_of ds x) l es p) (if b then None else o) (no_known ds q x p) ≡ given f → IsUsed f
-        by_lemma true o i e = nothing e
-        by_lemma false None i e = nothing e
+        by_lemma : (b : Bool) (o : Option Sequent) → lemma_of ds x ≡ o →
+            option_map_or (λ l. said_by ds q (binders_of ds x) l es p) (if b then None else o) (refused (no_such ds q x) p) ≡ given f → IsUsed f
+        by_lemma true o i e = cc
+        by_lemma false None i e = cc
         by_lemma false (Some l) i e = of_lemma x l i (binders_of ds x) es p f e
 
         by_hypothesis : (o : Option Term) → hypothesis_named q.hyps x ≡ o →
-            option_map_or (λ f. said_of_all ds q f es) o (option_map_or (λ l. said_by ds q (binders_of ds x) l es p) (lemma_named ds q x) (no_known ds q x p)) ≡ given f → IsUsed f
+            option_map_or (λ f. said_of_all ds q f es) o (option_map_or (λ l. said_by ds q (binders_of ds x) l es p) (lemma_named ds q x) (refused (no_such ds q x) p)) ≡ given f → IsUsed f
         by_hypothesis (Some g) i e =
             let without = without_modules ds q t in
             let k = found q.hyps t.hyps without.hyps x g i in
@@ -337,15 +331,8 @@ module _ (ds : scope.Declarations) (scoped : IsTypedScope (declared ds)) (q : Se
     pub hypothesis_typed : (x : List ℕ) (p : Place) (f : Term) → hypothesis ds q x p ≡ given f → IsUsed f
     hypothesis_typed x p f e = by_option (hypothesis_named q.hyps x) refl e
       where
-        nothing : no_known ds q x p ≡ given f → IsUsed f
-        nothing e = by_test (names_thing ds q x) e
-          where
-            by_test : (b : Bool) → (if b then refused Argument p else refused (UnknownName x) p) ≡ given f → IsUsed f
-            by_test true e = cc
-            by_test false e = cc
-
-        by_option : (o : Option Term) → hypothesis_named q.hyps x ≡ o → option_map_or given o (no_known ds q x p) ≡ given f → IsUsed f
-        by_option None i e = nothing e
+        by_option : (o : Option Term) → hypothesis_named q.hyps x ≡ o → given_or o (no_such ds q x) p ≡ given f → IsUsed f
+        by_option None i e = cc
         by_option (Some g) i e =
             let without = without_modules ds q t in
             let k = found q.hyps t.hyps without.hyps x f (i ∙ ap Some (given_is g f e)) in

@@ -150,7 +150,7 @@ module _ {globs : Bool} (c : Context) (at : Environment) (vs : List Binding) (fi
   weights_typed xs p w u h =
       let end = λ (t : Ty). weighed_all at vs t [] xs >>= λ ps. wanted w p (stated t ps) in
       let over = λ (v : Option Ty). outcomes at vs v xs p >>= end in
-      let q = given_bind (distribution_here at w p) (λ _. part_wanted outcome w p >>= over) u h in
+      let q = given_bind (distribution_here at p) (λ _. part_wanted outcome w p >>= over) u h in
       let v = given_bind (part_wanted outcome w p) over u q.2 in
       let t = given_bind (outcomes at vs v.0 xs p) end u v.2 in
       let ps = given_bind (weighed_all at vs t.0 [] xs) (λ ps. wanted w p (stated t.0 ps)) u t.2 in

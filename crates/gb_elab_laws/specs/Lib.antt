@@ -1,3 +1,4 @@
+pub mod Calling
 pub mod Fitting
 pub mod Procedures
 pub mod Reading

@@ -1,23 +1,22 @@
 -- The typing of multiples of hypotheses.
-use Rattle.std.specs.Prelude.{ℕ, suc, ◌^◌, nat_lt, Bool, true, false, ◌||◌, ◌&&◌, if◌then◌else◌, ℤ, pos, neg_ℤ, List, [], ◌∷◌, Option, Some, None, Result, Ok, Err, bytes_eq}
+use Rattle.std.specs.Prelude.{ℕ, suc, ◌^◌, nat_lt, Bool, true, false, ◌&&◌, if◌then◌else◌, ℤ, pos, neg_ℤ, List, [], ◌∷◌, Option, Some, None, Result, Ok, Err, bytes_eq}
 use Rattle.std.specs.List.{list_any}
-use Rattle.std.specs.Option.{is_some}
 use Rattle.gb_core.specs.declared.place.Place.{Place}
-use Rattle.gb_core.specs.declared.refusal.Why.TheVariants.{Argument, UnknownName}
+use Rattle.gb_core.specs.declared.refusal.Why.{Why}
+use Rattle.gb_core.specs.declared.refusal.Why.TheVariants.{Argument}
 use Rattle.gb_num.specs.declared.whole.Overflow.{Overflow}
 use Rattle.gb_num.specs.Fractions.{Fraction, of_whole, over, reduced}
 use Rattle.gb_num.specs.Operations.{outcome, over_steps}
 use Rattle.gb_goal.specs.declared.sequent.Hyp.{Hyp}
 use Rattle.gb_goal.specs.declared.sequent.Sequent.{Sequent}
-use Rattle.gb_goal.specs.Scope.{Declarations, entry_of}
+use Rattle.gb_goal.specs.Scope.{Declarations}
 use Rattle.gb_goal.specs.Answers.{Answer, ◌>>=◌}
 use Rattle.gb_goal.specs.Answers.Answer.{given, refused}
 use Rattle.gb_script.specs.declared.head.Head.{Head as Kind}
 use Rattle.gb_script.specs.declared.head.Head.TheVariants as text
 use Rattle.gb_script.specs.declared.tree.Node.{Node}
 use Rattle.gb_script.specs.Tree.{head_of, text_of, parts_of, place_of}
-use Rattle.gb_names.specs.Environment.{ambient}
-use Rattle.gb_names.specs.Names.{known_at}
+use Rattle.gb_names.specs.Names.{no_declared}
 use Rattle.gb_limits.specs.Numbers.{number_of}
 use Rattle.gb_steps.specs.declared.step.Multiple.{Multiple}
 use Rattle.gb_elab_mod.specs.Taken.{is_taken}
@@ -31,15 +30,15 @@ abbrev pub hyps_before : List Hyp → List ℕ → ℕ
 hyps_before [] x = 0
 hyps_before (h ∷ hs) x = if bytes_eq x h.name then 0 else suc (hyps_before hs x)
 
--- a thing of the context, a declared one or a built-in one has the name
-abbrev pub names_thing : Declarations → Sequent → List ℕ → Bool
-names_thing ds q x = is_taken q x || (is_some (entry_of ds x) || is_some (known_at (ambient ds q) [] x))
+-- why a name means nothing of the kind that is asked for: a thing of the context, a declared one or a built-in one has it, or nothing
+abbrev pub no_such : Declarations → Sequent → List ℕ → Why
+no_such ds q x = if is_taken q x then Argument else no_declared None ds x
 
 -- the place of a hypothesis in a goal
 abbrev pub hypothesis_at : Declarations → Sequent → List ℕ → Place → Answer ℕ
 hypothesis_at ds q x p =
     if list_any (λ h. bytes_eq x h.name) q.hyps then given (hyps_before q.hyps x)
-    else if names_thing ds q x then refused Argument p else refused (UnknownName x) p
+    else refused (no_such ds q x) p
 
 abbrev pub signed : Bool → ℕ → ℤ
 signed true n = neg_ℤ (pos n)

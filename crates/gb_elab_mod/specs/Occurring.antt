@@ -1,4 +1,4 @@
--- The locals that occur in a judgment of two bodies, each with the type that it has there.
+-- The locals that occur in a judgment of bodies, each with the type that it has there.
 use Rattle.std.specs.Prelude.{if◌then◌else◌, List, [], ◌∷◌, ◌++◌, flat_map, Option, Some, None, bytes_eq}
 use Rattle.std.specs.List.{list_any}
 use Rattle.gb_core.specs.declared.ty.Ty.{Ty, out-Ty}

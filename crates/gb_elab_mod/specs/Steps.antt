@@ -1,5 +1,5 @@
 -- The typing of proof steps.
-use Rattle.std.specs.Prelude.{ℕ, ◌-◌, ◌^◌, nat_lt, Bool, true, false, if◌then◌else◌, List, [], ◌∷◌, length, slice_get, Option, Some, None, bytes_eq, codes}
+use Rattle.std.specs.Prelude.{ℕ, ◌-◌, Bool, true, false, if◌then◌else◌, List, [], ◌∷◌, length, slice_get, Option, Some, None, bytes_eq, codes}
 use Rattle.std.specs.Option.{option_map_or, option_zip}
 use Rattle.gb_core.specs.declared.place.Place.{Place}
 use Rattle.gb_core.specs.declared.refusal.Why.TheVariants.{TypeMismatch}
@@ -53,8 +53,8 @@ use Rattle.gb_goal.specs.Answers.{Answer, ◌>>=◌, not_built}
 use Rattle.gb_goal.specs.Answers.Answer.{given, refused}
 use Rattle.gb_names.specs.Environment.{Environment, ambient, of_function, relational, unary}
 use Rattle.gb_names.specs.Judgments.{named_procedure, result_of}
+use Rattle.gb_operators.specs.Literals.{place_inside}
 use Rattle.gb_elab.specs.Forms.{elaborated, function}
-use Rattle.gb_limits.specs.Numbers.{number_of}
 use Rattle.gb_elab_mod.specs.OtherLocals.{reads_other_locals}
 use Rattle.gb_elab_mod.specs.Multiples.{hypothesis_at, multiples, position}
 use Rattle.gb_elab_mod.specs.Occurring.{occurring}
@@ -104,7 +104,7 @@ there_and_back at (f ∷ fs) from to = do
 
 -- One function leads there and back, so its types are one.
 abbrev pub one_type : List Node → Ty → Ty → Answer (Unit {0})
-one_type (f ∷ []) a b = if ty_eq a b then given tt else refused TypeMismatch (place_of f)
+one_type (f ∷ []) a b = if ty_eq a b then given tt else refused TypeMismatch (place_inside f)
 one_type _ a b = given tt
 
 -- the functions of two bodies whose last samplings are of these types; they read the locals that occur in the goal

@@ -2,7 +2,7 @@
 use Rattle.std.specs.Prelude.{ℕ, ◌+◌, nat_lt, Bool, true, false, not, ◌&&◌, if◌then◌else◌, List, [], ◌∷◌, length, Option, Some, None, bytes_eq}
 use Rattle.std.specs.Option.{option_map_or, option_map}
 use Rattle.gb_core.specs.declared.place.Place.{Place}
-use Rattle.gb_core.specs.declared.refusal.Why.TheVariants.{Argument, UnknownName}
+use Rattle.gb_core.specs.declared.refusal.Why.TheVariants.{Argument}
 use Rattle.gb_terms.specs.declared.term.Term.{Term, out-Term}
 use Rattle.gb_terms.specs.declared.term.Head.{Head}
 use Rattle.gb_terms.specs.declared.term.Head.TheVariants as head
@@ -24,7 +24,7 @@ use Rattle.gb_terms.specs.declared.op.Side.{Side}
 use Rattle.gb_terms.specs.declared.op.Side.TheVariants as side
 use Rattle.gb_goal.specs.declared.scope.Binder.{Binder}
 use Rattle.gb_goal.specs.declared.scope.Binder.TheVariants.{Value, Memory}
-use Rattle.gb_goal.specs.Answers.{Answer, ◌>>=◌, not_built}
+use Rattle.gb_goal.specs.Answers.{Answer, ◌>>=◌, given_or, not_built}
 use Rattle.gb_goal.specs.Answers.Answer.{given, refused}
 use Rattle.gb_script.specs.declared.head.Head.{Head as Kind}
 use Rattle.gb_script.specs.declared.head.Head.TheVariants as text
@@ -34,7 +34,7 @@ use Rattle.gb_names.specs.Environment.{ambient}
 use Rattle.gb_names.specs.Names.{memory_at, path}
 use Rattle.gb_elab.specs.Forms.{elaborated}
 use Rattle.gb_elab_mod.specs.OtherLocals.{reads_other_locals}
-use Rattle.gb_elab_mod.specs.Multiples.{names_thing}
+use Rattle.gb_elab_mod.specs.Multiples.{no_such}
 use Rattle.gb_elab_mod.specs.Taken.{is_taken}
 
 -- the form of the hypothesis of this name
@@ -115,14 +115,10 @@ said_by ds q ks s es p =
 abbrev pub lemma_named : Declarations → Sequent → List ℕ → Option Sequent
 lemma_named ds q x = if is_taken q x then None else lemma_of ds x
 
--- a name that neither a hypothesis has nor a lemma: another thing has it, or nothing
-abbrev pub no_known : Declarations → Sequent → List ℕ → Place → Answer Term
-no_known ds q x p = if names_thing ds q x then refused Argument p else refused (UnknownName x) p
-
 -- the hypothesis or the lemma of a name, and its arguments
 unfoldable pub used_named : Declarations → Sequent → List ℕ → List Node → Place → Answer Term
 used_named ds q x es p =
-    option_map_or (λ f. said_of_all ds q f es) (hypothesis_named q.hyps x) (option_map_or (λ s. said_by ds q (binders_of ds x) s es p) (lemma_named ds q x) (no_known ds q x p))
+    option_map_or (λ f. said_of_all ds q f es) (hypothesis_named q.hyps x) (option_map_or (λ s. said_by ds q (binders_of ds x) s es p) (lemma_named ds q x) (refused (no_such ds q x) p))
 
 abbrev pub used_of : Declarations → Sequent → Node → List Node → Answer Term
 used_of ds q n es = used_named ds q (name_of (head_of n) (text_of n) (parts_of n)) es (place_of n)
@@ -137,7 +133,7 @@ used ds q t = used_at ds q (head_of t) (parts_of t) t
 
 -- the hypothesis of a name
 abbrev pub hypothesis : Declarations → Sequent → List ℕ → Place → Answer Term
-hypothesis ds q x p = option_map_or given (hypothesis_named q.hyps x) (no_known ds q x p)
+hypothesis ds q x p = given_or (hypothesis_named q.hyps x) (no_such ds q x) p
 
 -- what `smt` is told to use: a hypothesis, or in brackets what a hypothesis or a lemma says of arguments
 abbrev pub hinted_at : Declarations → Sequent → Kind → List Node → Node → Answer Term
@@ -165,9 +161,7 @@ is_defined ds q x = not (is_taken q x) && has_body (entry_of ds x)
 
 -- the name of an operator with a body
 abbrev pub defined_named : Declarations → Sequent → List ℕ → Place → Answer (List ℕ)
-defined_named ds q x p =
-    if is_defined ds q x then given x
-    else if names_thing ds q x then refused Argument p else refused (UnknownName x) p
+defined_named ds q x p = if is_defined ds q x then given x else refused (no_such ds q x) p
 
 abbrev pub defined_operator : Declarations → Sequent → Node → Answer (List ℕ)
 defined_operator ds q t = defined_named ds q (name_of (head_of t) (text_of t) (parts_of t)) (place_of t)

@@ -7,7 +7,7 @@ ghost use Rattle.gb_core.specs.declared.ty.Ty.TheVariants.{Bool};
 ghost use Rattle.gb_goal.specs.Scope.{procedure_of};
 ghost use Rattle.gb_goal.specs.Views.{goal_seen};
 ghost use Rattle.gb_elab.specs.Forms.{elaborated};
-ghost use Rattle.gb_names.specs.Environment.{environment, relational};
+ghost use Rattle.gb_names.specs.Environment.{relational};
 ghost use Rattle.gb_elab_mod.specs.Steps.{call_rule, contract_at, contract_of, contract_of_both, contract_on, last_procedure, params_if, procedure_called, result_if};
 
 use crate::uses::used;

@@ -16,6 +16,7 @@ use gb_goal::scope::Scope;
 use gb_goal::sequent::Sequent;
 use gb_names::refusals::mismatch;
 use gb_names::setting::Setting;
+use gb_operators::literals::place_inside;
 use gb_same::types::same_types;
 use gb_script::head;
 use gb_script::tree::Node;
@@ -77,7 +78,7 @@ fn refuse_one_way(functions: &[Node], from: &Ty, to: &Ty) -> Result<(), Refused>
             if same_types(from, to) {
                 Ok(())
             } else {
-                Err(mismatch(f.place))
+                Err(mismatch(place_inside(f)))
             }
         }
         _ => Ok(()),

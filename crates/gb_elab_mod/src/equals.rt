@@ -8,14 +8,13 @@ ghost use Rattle.gb_elab_mod.specs.Multiples as multiples;
 ghost use Rattle.gb_elab_mod.specs.Uses as uses;
 
 use crate::conclusions::is_taken;
-use crate::multiples::{hypothesis_at, names_thing};
+use crate::multiples::{hypothesis_at, no_such};
 use crate::uses::{hypothesis, name_of, used};
 use gb_core::name::Name;
 use gb_core::place::Place;
 use gb_core::refusal::Refused;
 use gb_goal::scope::{Entry, Scope};
 use gb_goal::sequent::Sequent;
-use gb_names::refusals::{argument, unknown};
 use gb_script::tree::Node;
 use gb_steps::step::{RewriteRule, Rule};
 use std::alloc::Global;
@@ -86,10 +85,8 @@ fn check_defined(
 {
     if is_defined(scope, goal, &name) {
         Ok(name)
-    } else if names_thing(scope, goal, &name) {
-        Err(argument(place))
     } else {
-        Err(unknown(alloc, &name, place))
+        Err(no_such(alloc, scope, goal, &name, place))
     }
 }
 

@@ -1,8 +1,8 @@
 // The typing of multiples of hypotheses.
 
 ghost use Rattle.std.specs.Prelude.{◌≡◌, ◌<◌, ◌^◌, unsigned_abs};
-ghost use Rattle.gb_goal.specs.Answers.{Answers};
-ghost use Rattle.gb_elab_mod.specs.Multiples.{divisor, hypothesis_at, hyps_before, multiple, multiple_of, multiples, names_thing, ratio, signed};
+ghost use Rattle.gb_goal.specs.Answers.{Answers, Refuses};
+ghost use Rattle.gb_elab_mod.specs.Multiples.{divisor, hypothesis_at, hyps_before, multiple, multiple_of, multiples, no_such, ratio, signed};
 
 use crate::conclusions::{is_hypothesis, is_taken};
 use crate::cut::position;
@@ -11,9 +11,8 @@ use gb_core::place::Place;
 use gb_core::refusal::Refused;
 use gb_goal::scope::Scope;
 use gb_goal::sequent::{Hyp, Sequent};
-use gb_names::names::known_at;
-use gb_names::refusals::{argument, unknown};
-use gb_names::setting::Setting;
+use gb_names::globals::no_declared;
+use gb_names::refusals::argument;
 use gb_num::{Frac, div_lit};
 use gb_script::head::Head;
 use gb_script::tree::Node;
@@ -33,13 +32,15 @@ fn hyps_before(hyps: &[Hyp], name: &Name) -> usize
     hyps.len()
 }
 
-/// Whether a thing of the context, a declared one or a built-in one has the name.
-pub fn names_thing(scope: &Scope, goal: &Sequent, name: &Name) -> bool
-    ensures { result ≡ names_thing scope.now goal.now name.now }
+/// The refusal of a name that means nothing of the kind that is asked for: another thing has it, or nothing.
+pub fn no_such(alloc: Global, scope: &Scope, goal: &Sequent, name: &Name, place: Place) -> Refused
+    ensures { Refuses (no_such scope.now goal.now name.now) place result }
 {
-    is_taken(goal, name)
-        || (scope.entry(name).is_some()
-            || known_at(&Setting::ambient(scope, goal), &[], name).is_some())
+    if is_taken(goal, name) {
+        argument(place)
+    } else {
+        no_declared(alloc, None, scope, name, place)
+    }
 }
 
 /// The place of a hypothesis in a goal.
@@ -55,10 +56,8 @@ pub fn hypothesis_at(
     let hyps = goal.hyps.as_slice();
     if is_hypothesis(hyps, name) {
         Ok(hyps_before(hyps, name))
-    } else if names_thing(scope, goal, name) {
-        Err(argument(place))
     } else {
-        Err(unknown(alloc, name, place))
+        Err(no_such(alloc, scope, goal, name, place))
     }
 }
 

@@ -15,42 +15,44 @@ use gb_terms::same::same_side;
 use gb_terms::term::{Head, Term};
 use std::alloc::{AllocError, Global};
 
-/// Whether the goal reads the local of this name in a memory of its context, at this type; it may be one that the goal doesn't read there, where
-/// that is told.
+/// Whether the goal reads the local of this name in a memory of its context, at this type. Where it is told, one that the goal doesn't
+/// read there counts too.
 fn is_local(
     alloc: Global,
-    further: bool,
+    with_unread: bool,
     goal: &Sequent,
     side: Side,
     name: &Name,
     ty: &Ty,
 ) -> Result<bool, AllocError>
-    ensures { IfOk result (λ known. known ≡ is_local further goal.now side name.now ty.now) }
+    ensures { IfOk result (λ known. known ≡ is_local with_unread goal.now side name.now ty.now) }
 {
     let locals = locals_in(alloc, goal, side, name)?;
     match locals.as_slice() {
         [local, ..] => Ok(same_types(local.ty.get(), ty)),
-        _ => Ok(further),
+        _ => Ok(with_unread),
     }
 }
 
 /// Whether a head of this type reads a local in the memory that the goal doesn't.
 fn head_reads(
     alloc: Global,
-    further: bool,
+    with_unread: bool,
     goal: &Sequent,
     side: Side,
     head: &Head,
     ty: &Ty,
 ) -> Result<bool, AllocError>
-    ensures { IfOk result (λ other. other ≡ head_reads further goal.now side head.now ty.now) }
+    ensures { IfOk result (λ other. other ≡ head_reads with_unread goal.now side head.now ty.now) }
 {
     match head {
         Head::Read(read) => match read {
             Read::Program {
                 var: Var::Local { name },
                 side: through,
-            } => Ok(same_side(through, &side) && !is_local(alloc, further, goal, side, name, ty)?),
+            } => Ok(
+                same_side(through, &side) && !is_local(alloc, with_unread, goal, side, name, ty)?,
+            ),
             _ => Ok(false),
         },
         _ => Ok(false),
@@ -63,16 +65,23 @@ fn head_reads(
 pub fn reads_other_locals(
     term: &Term,
     alloc: Global,
-    further: bool,
+    with_unread: bool,
     goal: &Sequent,
     side: Side,
 ) -> Result<bool, AllocError>
-    ensures { IfOk result (λ other. other ≡ reads_other_locals further goal.now side term.now) }
+    ensures { IfOk result (λ other. other ≡ reads_other_locals with_unread goal.now side term.now) }
 {
-    if head_reads(alloc, further, goal, side, term.head.get(), term.ty.get())? {
+    if head_reads(
+        alloc,
+        with_unread,
+        goal,
+        side,
+        term.head.get(),
+        term.ty.get(),
+    )? {
         return Ok(true);
     }
-    one_reads(term.args.as_slice(), alloc, further, goal, side)
+    one_reads(term.args.as_slice(), alloc, with_unread, goal, side)
 }
 
 /// The same of one of these terms.
@@ -80,14 +89,14 @@ pub fn reads_other_locals(
 fn one_reads(
     list: &[Term],
     alloc: Global,
-    further: bool,
+    with_unread: bool,
     goal: &Sequent,
     side: Side,
 ) -> Result<bool, AllocError>
-    ensures { IfOk result (λ other. other ≡ list_any (λ b. b) (map (reads_other_locals further goal.now side) list.now)) }
+    ensures { IfOk result (λ other. other ≡ list_any (λ b. b) (map (reads_other_locals with_unread goal.now side) list.now)) }
 {
     for term in list {
-        if reads_other_locals(term, alloc, further, goal, side)? {
+        if reads_other_locals(term, alloc, with_unread, goal, side)? {
             return Ok(true);
         }
     }

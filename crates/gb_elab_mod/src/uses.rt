@@ -5,14 +5,14 @@ ghost use Rattle.std.specs.Option.{option_copied};
 ghost use Rattle.gb_terms.specs.declared.term.Term.{out-Term};
 ghost use Rattle.gb_walk.specs.declared.change.Change.TheVariants.{OfBound};
 ghost use Rattle.gb_walk.specs.Change.{term_changed};
-ghost use Rattle.gb_goal.specs.Answers.{Answers, Fails, ◌>>=◌ as ◌and_then◌};
+ghost use Rattle.gb_goal.specs.Answers.{Answers, ◌>>=◌ as ◌and_then◌};
 ghost use Rattle.gb_goal.specs.Answers.Answer.{given};
 ghost use Rattle.gb_script.specs.Tree.{head_of, text_of, parts_of, place_of};
 ghost use Rattle.gb_elab_mod.specs.Taken.{new_name};
-ghost use Rattle.gb_elab_mod.specs.Uses.{about_all, about_memory, about_named, about_value, all_hinted, hinted, hypothesis_named, hypothesis, is_memory, lemma_named, memory_of, name_of, no_known, said_by, said_of, said_of_all, said_of_memory, said_on, used, used_named, used_of, value_of};
+ghost use Rattle.gb_elab_mod.specs.Uses.{about_all, about_memory, about_named, about_value, all_hinted, hinted, hypothesis_named, hypothesis, is_memory, lemma_named, memory_of, name_of, said_by, said_of, said_of_all, said_of_memory, said_on, used, used_named, used_of, value_of};
 
 use crate::conclusions::{check_new, is_taken};
-use crate::multiples::names_thing;
+use crate::multiples::no_such;
 use crate::other_locals::reads_other_locals;
 use gb_core::name::Name;
 use gb_core::place::Place;
@@ -24,7 +24,7 @@ use gb_goal::scope::{Binder, Scope};
 use gb_goal::sequent::{Hyp, Sequent};
 use gb_names::memories::memory_at;
 use gb_names::names::path;
-use gb_names::refusals::{argument, not_built, unknown};
+use gb_names::refusals::{argument, not_built};
 use gb_names::setting::Setting;
 use gb_script::head::Head as NodeHead;
 use gb_script::tree::Node;
@@ -294,17 +294,6 @@ fn lemma_named<'a>(scope: &'a Scope, goal: &Sequent, name: &Name) -> Option<&'a 
     }
 }
 
-/// The refusal of a name that neither a hypothesis has nor a lemma.
-fn no_known(alloc: Global, scope: &Scope, goal: &Sequent, name: &Name, place: Place) -> Refused
-    ensures { Fails (no_known scope.now goal.now name.now place) result }
-{
-    if names_thing(scope, goal, name) {
-        argument(place)
-    } else {
-        unknown(alloc, name, place)
-    }
-}
-
 /// The hypothesis or the lemma of a name, and its arguments.
 #[tactic(auto, unfolding(crate::specs::Uses::used_named))]
 fn used_named(
@@ -326,7 +315,7 @@ fn used_named(
             let binders = scope.binders(name);
             said_by(alloc, scope, goal, binders, lemma, arguments, place)
         }
-        None => Err(no_known(alloc, scope, goal, name, place)),
+        None => Err(no_such(alloc, scope, goal, name, place)),
     }
 }
 
@@ -368,7 +357,7 @@ pub fn hypothesis(
 {
     match hypothesis_named(goal.hyps.as_slice(), name) {
         Some(form) => Ok(form.share()?),
-        None => Err(no_known(alloc, scope, goal, name, place)),
+        None => Err(no_such(alloc, scope, goal, name, place)),
     }
 }
 

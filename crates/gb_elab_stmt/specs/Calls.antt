@@ -1,11 +1,10 @@
 -- The typing of calls.
 use Rattle.std.specs.Prelude.{Bool, ◌||◌, if◌then◌else◌, not, nat_lt, bytes_eq, List, [], ◌∷◌, length, map, Option, Some, None, is_some}
 use Rattle.gb_core.specs.declared.place.Place.{Place}
-use Rattle.gb_core.specs.declared.refusal.Why.TheVariants.{Argument, TypeMismatch, UnknownName}
+use Rattle.gb_core.specs.declared.refusal.Why.TheVariants.{Argument, TypeMismatch}
 use Rattle.gb_core.specs.declared.ty.Ty.{Ty}
 use Rattle.gb_same.specs.Types.{ty_eq}
 use Rattle.gb_terms.specs.declared.decl.Module.{Module}
-use Rattle.gb_terms.specs.declared.decl.Proc.{Proc}
 use Rattle.gb_terms.specs.declared.decl.TypedName.{TypedName}
 use Rattle.gb_terms.specs.declared.term.Term.{Term}
 use Rattle.gb_terms.specs.declared.term.Head.TheVariants.{Call}
@@ -14,10 +13,10 @@ use Rattle.gb_script.specs.declared.tree.Node.{Node}
 use Rattle.gb_script.specs.Tree.{text_of, parts_of, place_of}
 use Rattle.gb_goal.specs.Answers.{Answer, ◌>>=◌, given_or, not_built}
 use Rattle.gb_goal.specs.Answers.Answer.{given, refused}
-use Rattle.gb_goal.specs.Scope.{entry_of, proc_of}
+use Rattle.gb_goal.specs.Scope.{proc_of}
 use Rattle.gb_names.specs.Environment.{Name, Environment, own}
-use Rattle.gb_names.specs.Judgments.{Named, Path, module_in, procedure_path, reference}
-use Rattle.gb_names.specs.Names.{Target, first_named, own_global}
+use Rattle.gb_names.specs.Judgments.{Named, Path, declared_module, procedure_path, reference}
+use Rattle.gb_names.specs.Names.{Target, first_named, no_procedure, own_global}
 use Rattle.gb_elab.specs.Forms.{elaborated}
 use Rattle.gb_elab_stmt.specs.Targets.{type_of_all, variables_of}
 
@@ -25,23 +24,20 @@ use Rattle.gb_elab_stmt.specs.Targets.{type_of_all, variables_of}
 abbrev pub is_hidden : Environment → Name → Bool
 is_hidden at x = is_some (first_named (own at) x) || is_some (own_global at.inside x)
 
-abbrev pub declared_procedures : Environment → Name → Place → Answer (List Proc)
-declared_procedures at x p = module_in (entry_of at.declared x) x p >>= λ m. given m.procs
+-- the module around, which has the procedures before the one that stands here, or a declared one
+abbrev pub or_own : Option Module → Environment → Name → Place → Answer Module
+or_own (Some m) at x p = if bytes_eq x m.name then given m else declared_module (Some m) at.declared x p
+or_own None at x p = declared_module None at.declared x p
 
--- the procedures of the module around are those before the one that stands here
-abbrev pub or_own : Option Module → Environment → Name → Place → Answer (List Proc)
-or_own (Some m) at x p = if bytes_eq x m.name then given m.procs else declared_procedures at x p
-or_own None at x p = declared_procedures at x p
-
--- the procedures of the module of this name that may be called
-unfoldable pub procedures_in : Environment → Name → Place → Answer (List Proc)
-procedures_in at x p = if is_hidden at x then refused Argument p else or_own at.inside at x p
+-- the module of this name, whose procedures may be called
+unfoldable pub module_called : Environment → Name → Place → Answer Module
+module_called at x p = if is_hidden at x then refused Argument p else or_own at.inside at x p
 
 -- the procedure that a call at a place names
 unfoldable pub called : Environment → Path → Place → Answer Named
 called at f p = do
-  ps ← procedures_in at f.0 p
-  d ← given_or (proc_of ps (text_of f.1)) (UnknownName (text_of f.1)) (place_of f.1)
+  m ← module_called at f.0 p
+  d ← given_or (proc_of m.procs (text_of f.1)) (no_procedure m (text_of f.1)) (place_of f.1)
   given (reference f, d)
 
 -- There is an argument for each parameter; a call with fewer is refused at its first word.

@@ -18,8 +18,9 @@ use Rattle.gb_script.specs.declared.tree.Node.{Node, para-Node}
 use Rattle.gb_script.specs.Tree.{head_of, text_of, parts_of, place_of}
 use Rattle.gb_goal.specs.Answers.{Answer, ◌>>=◌, given_or, not_built}
 use Rattle.gb_goal.specs.Answers.Answer.{given, refused}
-use Rattle.gb_names.specs.Environment.{Name, Environment}
+use Rattle.gb_names.specs.Environment.{Name, Environment, sampled}
 use Rattle.gb_operators.specs.Kinds.{entries}
+use Rattle.gb_operators.specs.Literals.{place_inside}
 use Rattle.gb_elab.specs.Forms.{elaborated}
 use Rattle.gb_elab_stmt.specs.Calls.{call}
 use Rattle.gb_elab_stmt.specs.Targets.{targets, type_of_all, variables_of}
@@ -29,7 +30,7 @@ use Rattle.gb_names.specs.Names.{Target, dotted, target}
 unfoldable pub sampling : Environment → Name → List Node → Place → Answer Instr
 sampling at x (d ∷ []) p = do
   v ← target at x p
-  from ← elaborated d at [] (Some (Distr v.1))
+  from ← elaborated d (sampled at) [] (Some (Distr v.1))
   given (Sample v.0 from)
 sampling at x _ p = not_built p
 
@@ -144,11 +145,11 @@ is_modulo_layer _ = false
 abbrev pub counts_down : Term → Bool
 counts_down v = is_modulo_layer (out-Ty (out-Term v).ty)
 
--- The variant of a loop bounds the turns that are left: its type is one of `int[n]`.
+-- The variant of a loop bounds the turns that are left: its type is one of `int[n]`, which brackets round it pass on.
 unfoldable pub variant : Environment → List Node → Place → Answer Term
 variant at (v ∷ ss) p = do
   k ← elaborated v at [] None
-  if counts_down k then given k else refused TypeMismatch (place_of v)
+  if counts_down k then given k else refused TypeMismatch (place_inside v)
 variant at [] p = not_built p
 
 -- a loop, by its guard, and the node of its variant and its statements

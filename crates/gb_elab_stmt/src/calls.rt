@@ -5,7 +5,7 @@ ghost use Rattle.std.specs.Option.{option_copied};
 ghost use Rattle.gb_goal.specs.Answers.{Answers, Gives};
 ghost use Rattle.gb_names.specs.Environment.{environment};
 ghost use Rattle.gb_names.specs.Judgments.{procedure_path, reference};
-ghost use Rattle.gb_elab_stmt.specs.Calls.{arguments, call, call_of, called, declared_procedures, enough, is_hidden, procedures_in, takes};
+ghost use Rattle.gb_elab_stmt.specs.Calls.{arguments, call, call_of, called, enough, is_hidden, module_called, takes};
 ghost use Rattle.gb_elab_stmt.specs.Targets.{pairs};
 
 use crate::targets::{type_of_all, variables_of};
@@ -15,16 +15,16 @@ use gb_core::refusal::Refused;
 use gb_core::same::same_name;
 use gb_core::ty::Ty;
 use gb_elab::form::typed;
-use gb_goal::scope::{Entry, procedure_named};
-use gb_names::globals::{Target, is_own_global};
-use gb_names::judgment::{Named, procedure_path, reference};
+use gb_goal::scope::procedure_named;
+use gb_names::globals::{Target, is_own_global, no_procedure};
+use gb_names::judgment::{Named, declared_module, procedure_path, reference};
 use gb_names::names::first_named;
-use gb_names::refusals::{argument, mismatch, not_built, unknown};
+use gb_names::refusals::{argument, mismatch, not_built};
 use gb_names::setting::Setting;
 use gb_same::types::same_types;
 use gb_script::tree::Node;
 use gb_shared::SharedItems;
-use gb_terms::decl::{Proc, TypedName};
+use gb_terms::decl::{Module, TypedName};
 use gb_terms::term::{Instr, Terms};
 use sqlite_items::Items;
 use std::alloc::{AllocError, Global};
@@ -36,44 +36,22 @@ fn is_hidden(at: &Setting<'_>, name: &Name) -> bool
     first_named(at.own(), name).is_some() || is_own_global(at, name)
 }
 
-/// The procedures of a declared module without parameters.
-fn declared_procedures<'a>(
+/// The module of this name, whose procedures may be called: of the module around those before the one that stands here.
+#[tactic(auto, unfolding(crate::specs::Calls::module_called))]
+fn module_called<'a>(
     alloc: Global,
     at: &Setting<'a>,
     name: &Name,
     place: Place,
-) -> Result<&'a [Proc], Refused>
-    ensures { Gives (λ ps. ps.now) (declared_procedures (environment at.now) name.now place) result }
-{
-    match at.scope.entry(name) {
-        None => Err(unknown(alloc, name, place)),
-        Some(Entry::Module(m)) => {
-            if m.params.is_empty() {
-                Ok(m.procs.as_slice())
-            } else {
-                Err(argument(place))
-            }
-        }
-        Some(_) => Err(argument(place)),
-    }
-}
-
-/// The procedures of the module of this name that may be called.
-#[tactic(auto, unfolding(crate::specs::Calls::procedures_in))]
-fn procedures_in<'a>(
-    alloc: Global,
-    at: &Setting<'a>,
-    name: &Name,
-    place: Place,
-) -> Result<&'a [Proc], Refused>
-    ensures { Gives (λ ps. ps.now) (procedures_in (environment at.now) name.now place) result }
+) -> Result<&'a Module, Refused>
+    ensures { Gives (λ m. m.now) (module_called (environment at.now) name.now place) result }
 {
     if is_hidden(at, name) {
         return Err(argument(place));
     }
     match at.inside {
-        Some(own) if same_name(name, &own.name) => Ok(own.procs.as_slice()),
-        _ => declared_procedures(alloc, at, name, place),
+        Some(own) if same_name(name, &own.name) => Ok(own),
+        inside => declared_module(alloc, inside, at.scope, name, place),
     }
 }
 
@@ -88,8 +66,8 @@ fn called<'a>(
 ) -> Result<Named<'a>, Refused>
     ensures { Gives (λ f. (f.reference, f.procedure.now)) (called (environment at.now) («module».now, name.now) place) result }
 {
-    let procs = procedures_in(alloc, at, module, place)?;
-    match procedure_named(procs, &name.text) {
+    let within = module_called(alloc, at, module, place)?;
+    match procedure_named(within.procs.as_slice(), &name.text) {
         Some(procedure) => {
             let reference = reference(alloc, module, &name.text)?;
             Ok(Named {
@@ -97,7 +75,7 @@ fn called<'a>(
                 procedure,
             })
         }
-        None => Err(unknown(alloc, &name.text, name.place)),
+        None => Err(no_procedure(alloc, within, &name.text, name.place)),
     }
 }
 

@@ -6,7 +6,7 @@ ghost use Rattle.gb_names.specs.Names.{dotted};
 ghost use Rattle.gb_script.specs.Tree.{head_of, parts_of, place_of, text_of};
 ghost use Rattle.gb_terms.specs.declared.term.Head.TheVariants.{If, While};
 ghost use Rattle.gb_goal.specs.Answers.{Answers, Gives};
-ghost use Rattle.gb_names.specs.Environment.{environment};
+ghost use Rattle.gb_names.specs.Environment.{environment, sampled};
 ghost use Rattle.gb_elab.specs.Forms.{elaborated};
 ghost use Rattle.gb_elab_stmt.specs.Targets.{pairs};
 ghost use Rattle.gb_elab_stmt.specs.Statements.{all_stated, alone, assignment, branching, called_to, counts_down, entry_stored, instruction, result_in, result_to, results_in, sampling, single, stated, stating, stored, stored_term, tuple_assignment, turning, variant, with_statings, written_to};
@@ -25,6 +25,7 @@ use gb_names::names::{append, path, target};
 use gb_names::refusals::{mismatch, not_built};
 use gb_names::setting::Setting;
 use gb_operators::kinds::entries;
+use gb_operators::literals::place_inside;
 use gb_script::head::Head;
 use gb_script::tree::Node;
 use gb_shared::{Shared, SharedItems};
@@ -62,10 +63,10 @@ fn source(
     from: &Node,
     outcomes: &Shared<Ty>,
 ) -> Result<Term, Refused>
-    ensures { Answers (elaborated from.now (environment at.now) [] (Some (Distr outcomes.now))) result }
+    ensures { Answers (elaborated from.now (sampled (environment at.now)) [] (Some (Distr outcomes.now))) result }
 {
     let outcomes = outcomes.share()?;
-    typed(alloc, at, &[], from, Some(&Ty::Distr(outcomes)))
+    typed(alloc, &at.sampled(), &[], from, Some(&Ty::Distr(outcomes)))
 }
 
 /// One variable, as what is assigned to.
@@ -372,7 +373,7 @@ fn variant(alloc: Global, at: &Setting<'_>, parts: &[Node], place: Place) -> Res
             if counts_down(&made) {
                 Ok(made)
             } else {
-                Err(mismatch(first.place))
+                Err(mismatch(place_inside(first)))
             }
         }
         [] => Err(not_built(place)),

@@ -34,7 +34,7 @@ use Rattle.gb_typing.specs.Programs.{IsBody}
 use Rattle.gb_typing.proofs.Given.{refused_at, refused_given, same_given}
 use Rattle.gb_prog.specs.Writes.{TypedVariable}
 use Rattle.gb_full.specs.Loss.{first_loss}
-use Rattle.gb_phoare.specs.Rnd.{of_rest}
+use Rattle.gb_full.specs.Lossless.{of_rest}
 use Rattle.gb_call.specs.Call.{Callee, before_call, by_globals, call_goals, callee, callee_of, chances_by_globals, chances_of_callee, if_few, in_front, left_of, of_callee, unless_clash}
 use Rattle.gb_call.specs.LastCall.{LastCall, last_call}
 use Rattle.gb_call.specs.Outcomes.{clash_after}

@@ -35,7 +35,7 @@ use Rattle.gb_parts.specs.OneBody.{OneBody, on_one, one_body}
 use Rattle.gb_equiv.specs.Drawn.{by_end, clashing, unless_clash, without_sampling}
 use Rattle.gb_equiv.specs.Rnd.{by_ends, by_maps, clash_of, maps, rnd_row, without_samplings}
 use Rattle.gb_equiv.specs.Symmetry.{symmetry_row}
-use Rattle.gb_equiv.specs.declared.coupled.Maps.{Maps}
+use Rattle.gb_forms.specs.declared.coupled.Maps.{Maps}
 use Rattle.gb_relational.specs.OneSide as one_side
 use Rattle.gb_relational.specs.OneSide.{drawn_row}
 use Rattle.gb_relational.specs.Rows.{rule_row}
@@ -107,21 +107,21 @@ module _ (g : Setting) where
     body_typed on.Right (ambient f) o e w = absurd (none-some o e)
 
     -- one body, with the loops of the goal around it
-    drawn_from : (ms : List TypedName) (o : OneBody) → IsBody c ms o.list → Around g o → (Gs : List Goal) (x : Option Sampling) → last_sampling o.list ≡ x → one_side.by_end o x ≡ given Gs → AllByRecursion (LoopsEnd g) Gs
-    drawn_from ms o w k Gs None e r = refused_given Shape Gs r
-    drawn_from ms o w k Gs (Some x) e r =
-        let before = one_side.before_drawing o.side x o.post in
+    drawn_from : (ds : Declarations) (ms : List TypedName) (o : OneBody) → IsBody c ms o.list → Around g o → (Gs : List Goal) (x : Option Sampling) → last_sampling o.list ≡ x → one_side.by_end ds o x ≡ given Gs → AllByRecursion (LoopsEnd g) Gs
+    drawn_from ds ms o w k Gs None e r = refused_given Shape Gs r
+    drawn_from ds ms o w k Gs (Some x) e r =
+        let before = one_side.before_drawing ds o.side x o.post in
         by_clash (clashing o.side x.target o.post) (o.goal x.before o.pre before) (o.goal o.list o.pre o.post) Gs r (λ h. k.goal x.before o.pre before (sampled_ends c ms o.list x w e k.list)) (k.goal o.list o.pre o.post k.list)
 
-    on_body : (a : Acts) (G : Goal) → IsGoalOver c ls rs G → (Gs : List Goal) → on_one (λ o. one_side.by_end o (last_sampling o.list)) (one_body a G) (refusing Shape) ≡ given Gs → Leads Gs G
-    on_body a G w Gs e =
-        by_body g (λ o. one_side.by_end o (last_sampling o.list)) (refusing Shape) G Gs a
-        (λ o k r h. (let t = body_typed a G o k w in drawn_from t.0 o t.1 h Gs (last_sampling o.list) refl r)) (λ e. refused_given Shape Gs e) e
+    on_body : (ds : Declarations) (a : Acts) (G : Goal) → IsGoalOver c ls rs G → (Gs : List Goal) → on_one (λ o. one_side.by_end ds o (last_sampling o.list)) (one_body a G) (refusing Shape) ≡ given Gs → Leads Gs G
+    on_body ds a G w Gs e =
+        by_body g (λ o. one_side.by_end ds o (last_sampling o.list)) (refusing Shape) G Gs a
+        (λ o k r h. (let t = body_typed a G o k w in drawn_from ds t.0 o t.1 h Gs (last_sampling o.list) refl r)) (λ e. refused_given Shape Gs e) e
 
-    drawn_ends : (a : Acts) (G : Goal) → IsGoalOver c ls rs G → (Gs : List Goal) → drawn_row a G ≡ given Gs → Leads Gs G
-    drawn_ends on.All G w Gs e = refused_given Shape Gs e
-    drawn_ends on.Left G w Gs e = on_body on.Left G w Gs e
-    drawn_ends on.Right G w Gs e = on_body on.Right G w Gs e
+    drawn_ends : (ds : Declarations) (a : Acts) (G : Goal) → IsGoalOver c ls rs G → (Gs : List Goal) → drawn_row ds a G ≡ given Gs → Leads Gs G
+    drawn_ends ds on.All G w Gs e = refused_given Shape Gs e
+    drawn_ends ds on.Left G w Gs e = on_body ds on.Left G w Gs e
+    drawn_ends ds on.Right G w Gs e = on_body ds on.Right G w Gs e
 
   transitivity_ends : (t : Between) (G : Goal) (Gs : List Goal) → transitivity_row t G ≡ given Gs → Leads Gs G
   transitivity_ends t (equiv (procedure f) (procedure h) p q) Gs e = subst (λ Gs. Leads Gs (equiv (procedure f) (procedure h) p q)) (same_given _ Gs e) (λ k. (tt, (tt, ((tt, tt), ((tt, tt), tt)))))
@@ -137,10 +137,10 @@ module _ (g : Setting) where
   symmetry_ends (phoare a r p q b) Gs e = refused_given Shape Gs e
   symmetry_ends (ambient f) Gs e = refused_given Shape Gs e
 
-pub relational_end : (ds : Declarations) (c : Context) (ls rs : List TypedName) (r : Rule) (G : Goal) → IsGoalOver c ls rs G → (Gs : List Goal) → rule_row r G ≡ given Gs → KeepsEnds (declared ds) Gs G
+pub relational_end : (ds : Declarations) (c : Context) (ls rs : List TypedName) (r : Rule) (G : Goal) → IsGoalOver c ls rs G → (Gs : List Goal) → rule_row ds r G ≡ given Gs → KeepsEnds (declared ds) Gs G
 relational_end ds c ls rs (Relational (Rnd fs)) G w Gs e g over = rnd_ends g c ls rs fs G w Gs e
 relational_end ds c ls rs (Relational Symmetry) G w Gs e g over = symmetry_ends g G Gs e
-relational_end ds c ls rs (Relational (Drawn a)) G w Gs e g over = drawn_ends g c ls rs a G w Gs e
+relational_end ds c ls rs (Relational (Drawn a)) G w Gs e g over = drawn_ends g c ls rs ds a G w Gs e
 relational_end ds c ls rs (Relational (Transitivity t)) G w Gs e g over = transitivity_ends g t G Gs e
 relational_end ds c ls rs (Relational Sim) G w Gs e g over = refused_given Shape Gs e
 relational_end ds c ls rs (OnBodies r) G w Gs e g over = refused_given Shape Gs e

@@ -46,7 +46,7 @@ pub fn bodies()
 /// The rules on equivalences, at typed goals.
 pub fn relational()
     ensures { (ds : Declarations) (c : Context) (ls rs : List TypedName) (r : Rule) (G : Goal) → IsGoalOver c ls rs G → (Gs : List Goal) →
-        equivalences.rule_row r G ≡ given Gs → KeepsEnds (declared ds) Gs G }
+        equivalences.rule_row ds r G ≡ given Gs → KeepsEnds (declared ds) Gs G }
 {}
 
 /// The rules on judgments with a probability, at typed goals.

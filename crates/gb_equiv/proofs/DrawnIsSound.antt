@@ -55,7 +55,8 @@ use Rattle.gb_typing.proofs.Quantified.{inner_typed, inner_meaning}
 use Rattle.gb_typing.proofs.Runs.{run_append}
 use Rattle.gb_typing.proofs.LastSampling.{IsDrawn, drawn, last_one}
 use Rattle.gb_typing.proofs.Supported.{nearest_made, for_support_made, for_support_use, draws, drawn_typed, run_sampling, from_made, target_put, from_weights}
-use Rattle.gb_equiv.specs.Drawn.{unless_clash, with_value, each_drawn, without_sampling, by_end}
+use Rattle.gb_forms.specs.Drawn.{with_value, each_drawn}
+use Rattle.gb_equiv.specs.Drawn.{unless_clash, without_sampling, by_end}
 
 module _ (b : Context) (ls : List TypedName) where
   abbrev c : Context

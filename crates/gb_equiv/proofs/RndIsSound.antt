@@ -66,10 +66,11 @@ use Rattle.gb_typing.proofs.Runs.{coupled_in_turn}
 use Rattle.gb_typing.proofs.LastSampling.{IsDrawn, drawn, last_one}
 use Rattle.gb_typing.proofs.Supported.{equal_values, equal_reals, weight_made, support_made, nearest_made, for_support_made, weight_of_is, supported, same_weights, for_support_use, draws, drawn_typed, located_denominator, run_sampling, sampling_denominator, from_made, target_put, from_weights}
 use Rattle.gb_equiv.proofs.DrawnIsSound.{sound as drawn_sound}
-use Rattle.gb_equiv.specs.declared.coupled.Coupled.{Coupled}
-use Rattle.gb_equiv.specs.declared.coupled.Maps.{Maps}
+use Rattle.gb_forms.specs.declared.coupled.Coupled.{Coupled}
+use Rattle.gb_forms.specs.declared.coupled.Maps.{Maps}
 use Rattle.gb_equiv.specs.Drawn.{unless_clash}
-use Rattle.gb_equiv.specs.Rnd.{composed, keeps_weights, couples, maps, coupling, with_values, post_before, by_maps, by_ends, rnd_row, IsFunction, AreFunctions, AreBetween, AreTypedFunctions}
+use Rattle.gb_forms.specs.Coupled.{composed, keeps_weights, couples}
+use Rattle.gb_equiv.specs.Rnd.{maps, coupling, with_values, post_before, by_maps, by_ends, rnd_row, IsFunction, AreFunctions, AreBetween, AreTypedFunctions}
 
 module _ (b : Context) (ls rs : List TypedName) where
   abbrev c : Context

@@ -5,10 +5,7 @@ use Rattle.gb_core.specs.declared.refusal.Why.TheVariants.{Shape, SideCondition}
 use Rattle.gb_core.specs.declared.var.Var.{Var}
 use Rattle.gb_terms.specs.declared.op.Side.{Side}
 use Rattle.gb_terms.specs.declared.op.Side.TheVariants.{Own}
-use Rattle.gb_terms.specs.declared.op.Read.TheVariants.{Program}
 use Rattle.gb_terms.specs.declared.term.Term.{Term}
-use Rattle.gb_walk.specs.declared.change.Change.TheVariants.{ToTerm}
-use Rattle.gb_walk.specs.Change.{term_changed}
 use Rattle.gb_walk.specs.Clash.{first_clash}
 use Rattle.gb_goal.specs.Answers.{Answer}
 use Rattle.gb_goal.specs.Answers.Answer.{given}
@@ -17,7 +14,7 @@ use Rattle.gb_goal.specs.Goal.Code.{body}
 use Rattle.gb_goal.specs.Goal.Goal.{hoare}
 use Rattle.gb_goal.specs.Rows.{refusing}
 use Rattle.gb_typing.specs.Samplings.{Sampling}
-use Rattle.gb_typing.specs.Supports.{nearest, for_support}
+use Rattle.gb_forms.specs.Drawn.{each_drawn}
 
 -- the variable, where the form reads another one beside it that clashes with it
 abbrev pub clashing : Side → Var → Term → Option Var
@@ -26,14 +23,6 @@ clashing r x q = option_map (λ z. x) (first_clash r x q)
 abbrev pub unless_clash : Option Var → Goal → Answer (List Goal)
 unless_clash (Some z) G = refusing (SideCondition z)
 unless_clash None G = given (G ∷ [])
-
--- the postcondition of the sampled value
-abbrev pub with_value : Sampling → Term → Term
-with_value x q = term_changed q (ToTerm (Program x.target Own) (nearest x.ty) ∷ [])
-
--- The postcondition holds of each value that may be drawn: `forall v, v \in d => Q`.
-abbrev pub each_drawn : Sampling → Term → Term
-each_drawn x q = for_support x.ty x.from (with_value x q)
 
 -- the judgment of what stands before the sampling
 abbrev pub without_sampling : Sampling → Term → Term → Goal

@@ -26,8 +26,9 @@ use Rattle.gb_typing.specs.Forms.{and_form, equal_form, located}
 use Rattle.gb_typing.specs.Samplings.{Sampling, last_sampling}
 use Rattle.gb_typing.specs.Supports.{nearest, in_support, weight, for_support}
 use Rattle.gb_equiv.specs.Drawn.{clashing, unless_clash, by_end}
-use Rattle.gb_equiv.specs.declared.coupled.Maps.{Maps}
-use Rattle.gb_equiv.specs.declared.coupled.Coupled.{Coupled}
+use Rattle.gb_forms.specs.Coupled.{coupled_post}
+use Rattle.gb_forms.specs.declared.coupled.Maps.{Maps}
+use Rattle.gb_forms.specs.declared.coupled.Coupled.{Coupled}
 
 -- the functions forth and back: none is the identity, which needs one type, and one is its own inverse
 abbrev pub maps : List Term → Ty → Ty → Option Maps
@@ -35,29 +36,6 @@ maps [] a b = if ty_eq a b then Some (record { forth = nearest a; back = nearest
 maps (f ∷ []) a b = Some (record { forth = f; back = f })
 maps (f ∷ g ∷ []) a b = Some (record { forth = f; back = g })
 maps _ a b = None
-
--- `f (g v)`
-abbrev pub composed : Term → Term → Term
-composed f g = term_changed f (OfBound 0 g ∷ [])
-
--- Each value on the right is the image of its source on the left, and the two weigh the same:
--- `forall v, v \in d2 => v = f (g v) /\ mu1 d2 v = mu1 d1 (g v)`.
-abbrev pub keeps_weights : Coupled → Term
-keeps_weights c =
-    for_support c.right.ty c.right.from
-    (and_form (equal_form (nearest c.right.ty) (composed c.maps.forth c.maps.back))
-    (equal_form (weight c.right.from (nearest c.right.ty)) (weight c.left.from c.maps.back)))
-
--- Each value on the left has an image on the right, whose source it is, and Q holds of the two:
--- `forall v, v \in d1 => f v \in d2 /\ v = g (f v) /\ Q`.
-abbrev pub couples : Coupled → Term → Term
-couples c q =
-    for_support c.left.ty c.left.from
-    (and_form (and_form (in_support c.maps.forth c.right.from) (equal_form (nearest c.left.ty) (composed c.maps.back c.maps.forth))) q)
-
--- what is to hold before the two samplings, Q being said of their values
-abbrev pub coupled_post : Coupled → Term → Term
-coupled_post c q = and_form (keeps_weights c) (couples c q)
 
 -- two samplings, read on both sides, and functions between their values
 abbrev pub coupling : Sampling → Sampling → Maps → Coupled

@@ -6,24 +6,20 @@ ghost use Rattle.gb_core.specs.declared.refusal.Why.TheVariants.{Shape, SideCond
 ghost use Rattle.gb_goal.specs.Answers.{Answers, Refuses, placed_at};
 ghost use Rattle.gb_goal.specs.Goal.{form_of};
 ghost use Rattle.gb_goal.specs.Rows.{each_concluding};
-ghost use Rattle.gb_terms.specs.declared.op.Read.TheVariants.{Program};
-ghost use Rattle.gb_walk.specs.declared.change.Change.TheVariants.{ToTerm};
 ghost use Rattle.gb_typing.specs.Samplings.{sampling_of, last_sampling};
-ghost use Rattle.gb_equiv.specs.Drawn.{each_drawn, without_sampling, by_end};
+ghost use Rattle.gb_equiv.specs.Drawn.{without_sampling, by_end};
 
 use gb_core::copy::copy_var;
 use gb_core::place::Place;
 use gb_core::refusal::{Refused, Why};
 use gb_core::var::Var;
+use gb_forms::drawn::each_drawn;
 use gb_goal::goal::hoare;
 use gb_goal::sequent::{Sequent, Sequents};
-use gb_terms::op::{Read, Side};
-use gb_terms::term::{Form, Instr, Term};
+use gb_terms::op::Side;
+use gb_terms::term::{Form, Instr};
 use gb_typing::samplings::{Last, last_sampling, rest_of};
-use gb_typing::supports::{for_support, nearest};
-use gb_walk::change::Change;
 use gb_walk::clash::first_clash;
-use gb_walk::walk::changed;
 use sqlite_items::Items;
 use std::alloc::{AllocError, Global};
 
@@ -57,29 +53,6 @@ pub fn alone(alloc: Global, goal: &Sequent, conclusion: Form) -> Result<Sequents
     let mut goals = Items::new(alloc);
     goals.push(goal.with_conclusion(conclusion)?)?;
     Ok(goals)
-}
-
-/// What was sampled on one side becomes a term.
-pub fn target_change(
-    alloc: Global,
-    sampling: &Last<'_>,
-    side: Side,
-    by: Term,
-) -> Result<Change, AllocError>
-    ensures { IfOk result (λ made. made ≡ ToTerm (Program sampling.now.target.now side) by) }
-{
-    let var = copy_var(alloc, sampling.target)?;
-    Ok(Change::ToTerm(Read::Program { var, side }, by))
-}
-
-/// What is to hold before a sampling, so that the postcondition holds of each value that it may draw.
-fn each_drawn(alloc: Global, sampling: &Last<'_>, post: &Form) -> Result<Form, AllocError>
-    ensures { IfOk result (λ made. made ≡ each_drawn (sampling_of sampling.now) post.now) }
-{
-    let value = nearest(alloc, sampling.ty)?;
-    let change = target_change(alloc, sampling, Side::Own, value)?;
-    let post = changed(alloc, post, &[change])?;
-    for_support(alloc, sampling.ty, sampling.from, post)
 }
 
 /// The judgment of what stands before a sampling.

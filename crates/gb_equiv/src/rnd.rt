@@ -11,12 +11,13 @@ ghost use Rattle.gb_walk.specs.Change.{term_changed};
 ghost use Rattle.gb_typing.specs.Samplings.{sampling_of, last_sampling};
 ghost use Rattle.gb_equiv.specs.Rnd.{maps, with_values, post_before, without_samplings, clash_of, by_ends, rnd_row};
 
-use crate::coupled::{Coupled, Maps, Sampled, coupled_post};
-use crate::drawn::{alone, clashing, drawn_rule, no_such_shape, target_change};
+use crate::drawn::{alone, clashing, drawn_rule, no_such_shape};
 use gb_core::place::Place;
 use gb_core::refusal::Refused;
 use gb_core::ty::Ty;
 use gb_core::var::Var;
+use gb_forms::coupled::{Coupled, Maps, Sampled, coupled_post};
+use gb_forms::drawn::target_change;
 use gb_goal::goal::{Code, Goal, equiv, goal_of};
 use gb_goal::sequent::{Sequent, Sequents};
 use gb_same::types::same_types;

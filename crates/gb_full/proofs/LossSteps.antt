@@ -1,41 +1,68 @@
 -- Where a term and a statement may lose weight, by their parts.
-use Rattle.std.proofs.Common.{◌≡◌, ℕ, zero, suc, ◌+◌, Bool, ◌||◌, List, [], ◌∷◌, ◌++◌, drop, map, refl, ap, sym, ◌∙◌, arith}
+use Rattle.std.proofs.Common.{◌≡◌, ℕ, zero, suc, ◌+◌, Bool, ◌||◌, List, [], ◌∷◌, ◌++◌, append_assoc, drop, refl, ap, sym, ◌∙◌, arith}
 use Rattle.std.specs.List.{list_any}
-use Rattle.gb_core.specs.declared.ty.Ty.{out-Ty}
-use Rattle.gb_terms.specs.declared.term.Term.{Term}
+use Rattle.gb_terms.specs.declared.term.Term.{Term, Term', Row_of-Term, end_of-Term, more_of-Term, end_of-Head, more_of-Head, items-the_row-Term, items_shown-the_row-Term-0}
 use Rattle.gb_terms.specs.declared.term.Cmd.{Cmd, items-the_row-Instr, items_hidden-the_row-Instr-1}
 use Rattle.gb_terms.specs.declared.term.Head.TheBlock as B
 use Rattle.gb_terms.specs.declared.term.Head.TheVariants.{If, While}
-use Rattle.gb_terms.specs.declared.term.Head.TheViews.{out-Term}
-use Rattle.gb_terms.specs.declared.term.Head.TheFolds.{fold_out-Term}
+use Rattle.gb_terms.specs.declared.term.Head.TheViews.{out-Term, outs-struct-Term}
 use Rattle.gb_terms.specs.declared.term.Instr.{Instr, Row_of-Instr, end_of-Instr, more_of-Instr}
 use Rattle.gb_goal.specs.Scope.{Declarations, entry_at}
+use Rattle.gb_meaning.specs.Names.{Name}
 use Rattle.gb_full.specs.declared.loss.Loss as seen
 use Rattle.gb_full.specs.declared.loss.Loss.TheVariants as of_code
-use Rattle.gb_full.specs.Loss.{Loss, loss_seen, gives_weights, at_head, at_term, may_lose, head_may_lose, or_after, Losses, statement_loss, row_loss, body_loss, procedures_at, all_procedures}
+use Rattle.gb_full.specs.Loss.{Loss, loss_seen, head_loses, loses_in, any_loses, head_names, named, row_named, each_named, unknown, body_loses, operator_loses, loses_by, with_named, names_at, with_operators, or_after, Losses, statement_loss, row_loss, body_loss, procedures_at, all_procedures}
 use mathlib.Core.Former.{Count}
 
-any_of : (f : Term → Bool) (ts : List Term) → list_any (λ a. a) (map f ts) ≡ list_any f ts
-any_of f [] = refl
-any_of f (t ∷ ts) = ap (λ b. f t || b) (any_of f ts)
+-- Terms.
 
-pub may_lose_out : (t : Term) → may_lose t ≡ (head_may_lose (out-Term t).head (gives_weights (out-Ty (out-Term t).ty)) || list_any may_lose (out-Term t).args)
-may_lose_out t =
-    fold_out-Term (Bool → Bool) (Unit {0}) (Unit {0}) (Unit {0}) Bool at_head (λ i. tt) (λ s. tt) (λ c. tt) at_term t
-    ∙ ap (λ b. head_may_lose (out-Term t).head (gives_weights (out-Ty (out-Term t).ty)) || b) (any_of may_lose (out-Term t).args)
+any_row : (f : Name → Bool) (n : _) (r : Row_of-Term n) → any_loses f r ≡ list_any (loses_in f) (items-the_row-Term n r)
+any_row f n end_of-Term = refl
+any_row f n (more_of-Term t r) = ap (λ b. loses_in f t || b) (any_row f _ r)
 
-loss_row : (ks : Losses) {n : Count} (r : Row_of-Instr n) → row_loss ks r ≡ body_loss ks (items-the_row-Instr _ r)
-loss_row ks end_of-Instr = refl
-loss_row ks (more_of-Instr i r) = ap (or_after (statement_loss ks i)) (loss_row ks r)
+loses_out : (f : Name → Bool) (t : Term) → loses_in f t ≡ (head_loses f (out-Term t).head || list_any (loses_in f) (out-Term t).args)
+unfolding B.shown-the_row-Head-2 denote.Hole.Carrier.shown
+loses_out f (Term' p (more_of-Head h end_of-Head) n r ty) =
+    ap (λ b. head_loses f h || b) (any_row f _ r ∙ sym (ap (list_any (loses_in f)) (items_shown-the_row-Term-0 n r)))
+    ∙ sym (ap (λ z. head_loses f z.head || list_any (loses_in f) z.args) (outs-struct-Term p (more_of-Head h end_of-Head) n r ty))
 
-loss_list : (ks : Losses) (is : List Instr) → row_loss ks (B.hidden-the_row-Instr-1 is) ≡ body_loss ks is
-loss_list ks is = loss_row ks (B.hidden-the_row-Instr-1 is) ∙ ap (body_loss ks) (items_hidden-the_row-Instr-1 is)
+pub body_loses_out : (t : Term) (ns : List Name) → body_loses ns t ≡ (head_loses (unknown ns) (out-Term t).head || list_any (body_loses ns) (out-Term t).args)
+unfolding body_loses
+body_loses_out t ns = loses_out (unknown ns) t
 
-pub loss_if : (ks : Losses) (e : Term) (a b : Cmd) → statement_loss ks (If e a b) ≡ or_after (body_loss ks a.list) (body_loss ks b.list)
-loss_if ks e a b = λ i. or_after (loss_list ks a.list i) (loss_list ks b.list i)
+pub loses_by_out : (t : Term) (ds : Declarations) (ns : List Name) → loses_by ds ns t ≡ (head_loses (operator_loses ds ns) (out-Term t).head || list_any (loses_by ds ns) (out-Term t).args)
+unfolding loses_by
+loses_by_out t ds ns = loses_out (operator_loses ds ns) t
 
-pub loss_while : (ks : Losses) (e v : Term) (a : Cmd) → statement_loss ks (While e v a) ≡ body_loss ks a.list
-loss_while ks e v a = loss_list ks a.list
+named_row : (n : _) (r : Row_of-Term n) → row_named r ≡ each_named (items-the_row-Term n r)
+named_row n end_of-Term = refl
+named_row n (more_of-Term t r) = ap (λ ks. named t ++ ks) (named_row _ r)
+
+named_out : (t : Term) → named t ≡ head_names (out-Term t).head ++ each_named (out-Term t).args
+unfolding B.shown-the_row-Head-2 denote.Hole.Carrier.shown
+named_out (Term' p (more_of-Head h end_of-Head) n r ty) =
+    ap (λ ks. head_names h ++ ks) (named_row _ r ∙ sym (ap each_named (items_shown-the_row-Term-0 n r)))
+    ∙ sym (ap (λ z. head_names z.head ++ each_named z.args) (outs-struct-Term p (more_of-Head h end_of-Head) n r ty))
+
+-- behind others
+pub named_behind : (found : List Name) (t : Term) → found ++ named t ≡ (found ++ head_names (out-Term t).head) ++ each_named (out-Term t).args
+named_behind found t = ap (λ ks. found ++ ks) (named_out t) ∙ sym (append_assoc found (head_names (out-Term t).head) (each_named (out-Term t).args))
+
+-- Statements.
+
+module _ (ds : Declarations) (ns : List Name) (ks : Losses) where
+  loss_row : {n : Count} (r : Row_of-Instr n) → row_loss ds ns ks r ≡ body_loss ds ns ks (items-the_row-Instr _ r)
+  loss_row end_of-Instr = refl
+  loss_row (more_of-Instr i r) = ap (or_after (statement_loss ds ns ks i)) (loss_row r)
+
+  loss_list : (is : List Instr) → row_loss ds ns ks (B.hidden-the_row-Instr-1 is) ≡ body_loss ds ns ks is
+  loss_list is = loss_row (B.hidden-the_row-Instr-1 is) ∙ ap (body_loss ds ns ks) (items_hidden-the_row-Instr-1 is)
+
+  pub loss_if : (e : Term) (a b : Cmd) → statement_loss ds ns ks (If e a b) ≡ or_after (body_loss ds ns ks a.list) (body_loss ds ns ks b.list)
+  loss_if e a b = λ i. or_after (loss_list a.list i) (loss_list b.list i)
+
+  pub loss_while : (e v : Term) (a : Cmd) → statement_loss ds ns ks (While e v a) ≡ body_loss ds ns ks a.list
+  loss_while e v a = loss_list a.list
 
 -- what comes after a loss doesn't matter
 pub first_kept : (l : seen.Loss) (k : Loss) → (l ≡ of_code.Nowhere → ⊥) → or_after (loss_seen l) k ≡ loss_seen l
@@ -55,3 +82,13 @@ next_at (d ∷ ds) (suc i) = next_at ds i
 -- the procedures of one thing further
 pub procedures_next : (ds : Declarations) (i : ℕ) → all_procedures (drop i ds) ≡ procedures_at (entry_at ds i) ++ all_procedures (drop (i + 1) ds)
 procedures_next ds i = next_at ds i ∙ ap (λ k. procedures_at (entry_at ds i) ++ all_procedures (drop k ds)) (sym (next_is i))
+
+operators_at : (ds : Declarations) (ns : List Name) (es : Declarations) (i : ℕ) → with_operators ds ns (drop i es) ≡ with_operators ds (with_named ds ns (names_at (entry_at es i))) (drop (suc i) es)
+operators_at ds ns [] zero = refl
+operators_at ds ns [] (suc i) = refl
+operators_at ds ns (e ∷ es) zero = refl
+operators_at ds ns (e ∷ es) (suc i) = operators_at ds ns es i
+
+-- the operators of one thing further
+pub operators_next : (ds : Declarations) (ns : List Name) (i : ℕ) → with_operators ds ns (drop i ds) ≡ with_operators ds (with_named ds ns (names_at (entry_at ds i))) (drop (i + 1) ds)
+operators_next ds ns i = operators_at ds ns ds i ∙ ap (λ k. with_operators ds (with_named ds ns (names_at (entry_at ds i))) (drop k ds)) (sym (next_is i))

@@ -1,22 +1,20 @@
 -- Where a program may lose weight, in itself and in what it calls.
-use Rattle.std.specs.Prelude.{Bool, true, false, ◌||◌, if◌then◌else◌, List, [], ◌∷◌, ◌++◌, Option, Some, None}
+use Rattle.std.specs.Prelude.{Bool, true, false, not, ◌||◌, if◌then◌else◌, List, [], ◌∷◌, ◌++◌, Option, Some, None, bytes_eq}
 use Rattle.std.specs.List.{list_any}
-use Rattle.gb_core.specs.declared.ty.Ty.{Ty, out-Ty}
-use Rattle.gb_core.specs.declared.ty.Ty.TheOpen as ty_layer
 use Rattle.gb_core.specs.declared.var.Var.{Var}
 use Rattle.gb_terms.specs.declared.decl.Proc.{Proc}
 use Rattle.gb_terms.specs.declared.module.ProcRef.{ProcRef}
-use Rattle.gb_terms.specs.declared.term.Term.{Term}
+use Rattle.gb_terms.specs.declared.term.Term.{Term, Term', Row_of-Term, end_of-Term, more_of-Term, end_of-Head, more_of-Head}
 use Rattle.gb_terms.specs.declared.term.Head.{Head}
-use Rattle.gb_terms.specs.declared.term.Head.TheOpen as layer
-use Rattle.gb_terms.specs.declared.term.Head.TheFolds.{fold-Term, fold-Head}
+use Rattle.gb_terms.specs.declared.term.Head.TheVariants as head
 use Rattle.gb_terms.specs.declared.term.Head.TheVariants.{Assign, Sample, Call', If', While'}
 use Rattle.gb_terms.specs.declared.term.Instr.{Instr, Row_of-Instr, end_of-Instr, more_of-Instr}
 use Rattle.gb_goal.specs.Goal.{Code}
 use Rattle.gb_goal.specs.Goal.Code.{body, procedure}
-use Rattle.gb_goal.specs.Scope.{Declarations, procedure_of}
+use Rattle.gb_goal.specs.Scope.{Declarations, entry_of, procedure_of}
 use Rattle.gb_goal.specs.declared.scope.Entry.{Entry}
 use Rattle.gb_goal.specs.declared.scope.Entry.TheVariants as entry
+use Rattle.gb_meaning.specs.Names.{Name}
 use Rattle.gb_mods.specs.Called.{same_procedure}
 use Rattle.gb_mods.specs.Footprint.{references}
 use Rattle.gb_full.specs.declared.loss.Loss as seen
@@ -25,25 +23,84 @@ use Rattle.gb_full.specs.declared.loss.Known.{Known}
 
 -- Terms.
 
-abbrev pub gives_weights : ty_layer.Ty-F Ty → Bool
-gives_weights (ty_layer.Distr t) = true
-gives_weights _ = false
+abbrev pub head_loses : (Name → Bool) → Head → Bool
+head_loses loses head.Restrict = true
+head_loses loses (head.User n) = loses n
+head_loses loses _ = false
 
--- `drestrict` loses weight, and so may a distribution that an operator of the script gives
-abbrev pub at_head : layer.Head-F (Bool → Bool) (Unit {0}) (Unit {0}) (Unit {0}) Bool → Bool → Bool
-at_head layer.Restrict d = true
-at_head (layer.User n) d = d
-at_head _ d = false
+abbrev mutual
+  -- whether `drestrict`, or an operator of the script that loses weight, stands in a term
+  pub loses_in : (Name → Bool) → Term → Bool
+  loses_in loses (Term' b (more_of-Head h end_of-Head) n ts t) = head_loses loses h || any_loses loses ts
 
-abbrev pub at_term : layer.Term-F (Bool → Bool) (Unit {0}) (Unit {0}) (Unit {0}) Bool → Bool
-at_term t = t.head (gives_weights (out-Ty t.ty)) || list_any (λ a. a) t.args
+  pub any_loses : {n : _} → (Name → Bool) → Row_of-Term n → Bool
+  any_loses loses end_of-Term = false
+  any_loses loses (more_of-Term t ts) = loses_in loses t || any_loses loses ts
 
--- whether a distribution may lose weight
-abbrev pub may_lose : Term → Bool
-may_lose = fold-Term (Bool → Bool) (Unit {0}) (Unit {0}) (Unit {0}) Bool at_head (λ i. tt) (λ s. tt) (λ c. tt) at_term
+abbrev pub head_names : Head → List Name
+head_names (head.User n) = n ∷ []
+head_names _ = []
 
-abbrev pub head_may_lose : Head → Bool → Bool
-head_may_lose = fold-Head (Bool → Bool) (Unit {0}) (Unit {0}) (Unit {0}) Bool at_head (λ i. tt) (λ s. tt) (λ c. tt) at_term
+abbrev mutual
+  -- the operators of the script that stand in a term
+  pub named : Term → List Name
+  named (Term' b (more_of-Head h end_of-Head) n ts t) = head_names h ++ row_named ts
+
+  pub row_named : {n : _} → Row_of-Term n → List Name
+  row_named end_of-Term = []
+  row_named (more_of-Term t ts) = named t ++ row_named ts
+
+-- the same of lists
+abbrev pub each_named : List Term → List Name
+each_named [] = []
+each_named (t ∷ ts) = named t ++ each_named ts
+
+-- Operators. Of some it is known that they are full: `drestrict` doesn't stand in their bodies, with operators unfolded.
+
+abbrev pub is_among : List Name → Name → Bool
+is_among ns n = list_any (bytes_eq n) ns
+
+abbrev pub unknown : List Name → Name → Bool
+unknown ns n = not (is_among ns n)
+
+-- whether a body may lose weight, where these operators are full
+unfoldable pub body_loses : List Name → Term → Bool
+body_loses ns t = loses_in (unknown ns) t
+
+-- An operator without a body gives no distribution.
+abbrev pub entry_loses : List Name → Option Entry → Bool
+entry_loses ns (Some (entry.Operator o)) = body_loses ns o.body
+entry_loses ns (Some (entry.AbstractOperator o)) = false
+entry_loses ns _ = true
+
+abbrev pub operator_loses : Declarations → List Name → Name → Bool
+operator_loses ds ns n = entry_loses ns (entry_of ds n)
+
+-- these operators, and those others of a list that are full
+abbrev pub with_named : Declarations → List Name → List Name → List Name
+with_named ds ns [] = ns
+with_named ds ns (k ∷ ks) = with_named ds (if is_among ns k || operator_loses ds ns k then ns else ns ++ k ∷ []) ks
+
+abbrev pub names_at : Option Entry → List Name
+names_at (Some (entry.Operator o)) = named o.body
+names_at _ = []
+
+abbrev pub with_operators : Declarations → List Name → Declarations → List Name
+with_operators ds ns [] = ns
+with_operators ds ns (d ∷ es) = with_operators ds (with_named ds ns (names_at (Some d.1))) es
+
+-- The full operators that bodies of operators name. A body names what is declared before it: so each is known by going through the
+-- declarations once.
+unfoldable pub full_operators : Declarations → List Name
+full_operators ds = with_operators ds [] ds
+
+-- whether a term may lose weight, where these operators are full that bodies name
+unfoldable pub loses_by : Declarations → List Name → Term → Bool
+loses_by ds ns t = loses_in (operator_loses ds ns) t
+
+-- Whether a distribution may lose weight: `drestrict` stands in it, with operators unfolded.
+abbrev pub may_lose : Declarations → Term → Bool
+may_lose ds t = loses_by ds (full_operators ds) t
 
 -- Bodies.
 
@@ -66,32 +123,34 @@ abbrev pub known_of : Losses → ProcRef → Loss
 known_of [] p = called
 known_of ((q, l) ∷ ks) p = if same_procedure q p then l else known_of ks p
 
-abbrev mutual
-  -- A statement, where its procedures are known. What it calls stands at the call.
-  pub statement_loss : Losses → Instr → Loss
-  statement_loss ks (Assign xs e) = nowhere
-  statement_loss ks (Sample x d) = if may_lose d then sampled x else nowhere
-  statement_loss ks (Call' xs p n es) = known_of ks p
-  statement_loss ks (If' e m a n b) = or_after (row_loss ks a) (row_loss ks b)
-  statement_loss ks (While' e v n a) = row_loss ks a
+-- Statements, where of operators and procedures this is known.
+module _ (ds : Declarations) (ns : List Name) where
+  abbrev mutual
+    -- What a statement calls stands at the call.
+    pub statement_loss : Losses → Instr → Loss
+    statement_loss ks (Assign xs e) = nowhere
+    statement_loss ks (Sample x d) = if loses_by ds ns d then sampled x else nowhere
+    statement_loss ks (Call' xs p n es) = known_of ks p
+    statement_loss ks (If' e m a n b) = or_after (row_loss ks a) (row_loss ks b)
+    statement_loss ks (While' e v n a) = row_loss ks a
 
-  pub row_loss : {n : _} → Losses → Row_of-Instr n → Loss
-  row_loss ks end_of-Instr = nowhere
-  row_loss ks (more_of-Instr i is) = or_after (statement_loss ks i) (row_loss ks is)
+    pub row_loss : {n : _} → Losses → Row_of-Instr n → Loss
+    row_loss ks end_of-Instr = nowhere
+    row_loss ks (more_of-Instr i is) = or_after (statement_loss ks i) (row_loss ks is)
 
--- the same of a body
-abbrev pub body_loss : Losses → List Instr → Loss
-body_loss ks [] = nowhere
-body_loss ks (i ∷ is) = or_after (statement_loss ks i) (body_loss ks is)
+  -- the same of a body
+  abbrev pub body_loss : Losses → List Instr → Loss
+  body_loss ks [] = nowhere
+  body_loss ks (i ∷ is) = or_after (statement_loss ks i) (body_loss ks is)
 
-abbrev pub procedure_loss : Losses → Option Proc → Loss
-procedure_loss ks None = called
-procedure_loss ks (Some p) = body_loss ks p.body.list
+  abbrev pub procedure_loss : Losses → Option Proc → Loss
+  procedure_loss ks None = called
+  procedure_loss ks (Some p) = body_loss ks p.body.list
 
--- what is known, with procedures behind, each by those before it
-abbrev pub with_procedures : Declarations → Losses → List ProcRef → Losses
-with_procedures ds ks [] = ks
-with_procedures ds ks (p ∷ ps) = with_procedures ds (ks ++ (p, procedure_loss ks (procedure_of ds p)) ∷ []) ps
+  -- what is known, with procedures behind, each by those before it
+  abbrev pub with_procedures : Losses → List ProcRef → Losses
+  with_procedures ks [] = ks
+  with_procedures ks (p ∷ ps) = with_procedures (ks ++ (p, procedure_loss ks (procedure_of ds p)) ∷ []) ps
 
 abbrev pub procedures_at : Option Entry → List ProcRef
 procedures_at (Some (entry.Module m)) = references m.name m.procs
@@ -103,17 +162,17 @@ all_procedures [] = []
 all_procedures (d ∷ ds) = procedures_at (Some d.1) ++ all_procedures ds
 
 -- Procedures call those that are declared before them: so each is known by going through them once.
-unfoldable pub table : Declarations → Losses
-table ds = with_procedures ds [] (all_procedures ds)
+unfoldable pub table : Declarations → List Name → Losses
+table ds ns = with_procedures ds ns [] (all_procedures ds)
 
 -- The first loss of a body, in the order of the text, with what it calls at each call.
 abbrev pub first_loss : Declarations → List Instr → Loss
-first_loss ds is = body_loss (table ds) is
+first_loss ds is = body_loss ds (full_operators ds) (table ds (full_operators ds)) is
 
 -- the same of what a judgment speaks of
 abbrev pub code_loss : Declarations → Code → Loss
 code_loss ds (body is) = first_loss ds is
-code_loss ds (procedure p) = known_of (table ds) p
+code_loss ds (procedure p) = known_of (table ds (full_operators ds)) p
 
 -- the same, of references
 abbrev pub loss_seen : seen.Loss → Loss

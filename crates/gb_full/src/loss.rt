@@ -1,13 +1,12 @@
 // Where a program may lose weight, in itself and in what it calls.
 
-ghost use Rattle.std.specs.Prelude.{◌≡◌, [], map, IfOk};
+ghost use Rattle.std.specs.Prelude.{◌≡◌, ◌++◌, [], map, IfOk};
 ghost use Rattle.std.specs.List.{list_any};
 ghost use Rattle.std.specs.Option.{option_copied};
-ghost use Rattle.gb_core.specs.declared.ty.Ty.{out-Ty};
 ghost use Rattle.gb_goal.specs.Goal.{code_of};
-ghost use Rattle.gb_full.specs.Loss.{all_procedures, body_loss, code_loss, first_loss, gives_weights, head_may_lose, known_of, known_seen, loss_seen, may_lose, procedure_loss, procedures_at, statement_loss, table, with_procedures};
+ghost use Rattle.gb_full.specs.Loss.{all_procedures, body_loses, body_loss, code_loss, each_named, entry_loses, first_loss, full_operators, head_loses, head_names, is_among, known_of, known_seen, loses_by, loss_seen, named, names_at, operator_loses, procedure_loss, procedures_at, statement_loss, table, unknown, with_named, with_procedures};
 
-use gb_core::ty::Ty;
+use gb_core::name::{Name, Names};
 use gb_core::var::Var;
 use gb_goal::scope::{Entry, Scope};
 use gb_mods::called::{Procedures, same_procedure};
@@ -29,47 +28,159 @@ pub enum Loss<'a> {
     Called,
 }
 
-/// Whether terms of a type are distributions.
-fn gives_weights(ty: &Ty) -> bool
-    ensures { result ≡ gives_weights (out-Ty ty.now) }
+fn is_among(names: &[Name], name: &Name) -> bool
+    ensures { result ≡ is_among names.now name.now }
 {
-    match ty {
-        Ty::Distr(_) => true,
-        _ => false,
-    }
-}
-
-/// Whether this head may lose weight, on a term that is a distribution or none.
-fn head_may_lose(head: &Head, distribution: bool) -> bool
-    ensures { result ≡ head_may_lose head.now distribution }
-{
-    match head {
-        Head::Restrict => true,
-        Head::User(_) => distribution,
-        _ => false,
-    }
-}
-
-/// Whether a distribution may lose weight.
-#[cycle(losing)]
-#[tactic(auto, using(crate::proofs::LossSteps::may_lose_out))]
-pub fn may_lose(term: &Term) -> bool
-    ensures { result ≡ may_lose term.now }
-{
-    head_may_lose(term.head.get(), gives_weights(term.ty.get()))
-        || any_may_lose(term.args.as_slice())
-}
-
-#[cycle(losing)]
-fn any_may_lose(list: &[Term]) -> bool
-    ensures { result ≡ list_any may_lose list.now }
-{
-    for term in list {
-        if may_lose(term) {
+    for other in names {
+        if *name == *other {
             return true;
         }
     }
     false
+}
+
+/// Whether this head may lose weight in an operator's body, where these operators are full.
+fn body_head_loses(head: &Head, full: &[Name]) -> bool
+    ensures { result ≡ head_loses (unknown full.now) head.now }
+{
+    match head {
+        Head::Restrict => true,
+        Head::User(name) => !is_among(full, name),
+        _ => false,
+    }
+}
+
+/// Whether an operator's body may lose weight, where these operators are full.
+#[cycle(bodies)]
+#[tactic(auto, using(crate::proofs::LossSteps::body_loses_out))]
+fn body_loses(body: &Term, full: &[Name]) -> bool
+    ensures { result ≡ body_loses full.now body.now }
+{
+    body_head_loses(body.head.get(), full) || any_body_loses(body.args.as_slice(), full)
+}
+
+#[cycle(bodies)]
+fn any_body_loses(list: &[Term], full: &[Name]) -> bool
+    ensures { result ≡ list_any (body_loses full.now) list.now }
+{
+    for term in list {
+        if body_loses(term, full) {
+            return true;
+        }
+    }
+    false
+}
+
+/// Whether a declared operator may lose weight, where these are full.
+fn entry_loses(entry: Option<&Entry>, full: &[Name]) -> bool
+    ensures { result ≡ entry_loses full.now (option_copied entry.entry) }
+{
+    match entry {
+        Some(Entry::Operator(operator)) => body_loses(&operator.body, full),
+        Some(Entry::AbstractOperator(_)) => false,
+        _ => true,
+    }
+}
+
+/// Whether a head may lose weight, where these operators are full that bodies of operators name.
+fn head_loses(head: &Head, scope: &Scope, full: &[Name]) -> bool
+    ensures { result ≡ head_loses (operator_loses scope.now full.now) head.now }
+{
+    match head {
+        Head::Restrict => true,
+        Head::User(name) => entry_loses(scope.entry(name), full),
+        _ => false,
+    }
+}
+
+/// Whether a distribution may lose weight: `drestrict` stands in it, with operators unfolded. It is told what `full_operators` gives.
+#[cycle(losing)]
+#[tactic(auto, using(crate::proofs::LossSteps::loses_by_out))]
+pub fn may_lose(term: &Term, scope: &Scope, full: &[Name]) -> bool
+    ensures { result ≡ loses_by scope.now full.now term.now }
+{
+    head_loses(term.head.get(), scope, full) || any_may_lose(term.args.as_slice(), scope, full)
+}
+
+#[cycle(losing)]
+fn any_may_lose(list: &[Term], scope: &Scope, full: &[Name]) -> bool
+    ensures { result ≡ list_any (loses_by scope.now full.now) list.now }
+{
+    for term in list {
+        if may_lose(term, scope, full) {
+            return true;
+        }
+    }
+    false
+}
+
+/// Adds the operator of the script that a head is.
+fn head_named(alloc: Global, head: &Head, found: Names) -> Result<Names, AllocError>
+    ensures { IfOk result (λ made. made ≡ found ++ head_names head.now) }
+{
+    let mut all = found;
+    if let Head::User(name) = head {
+        all.push(name.copy(alloc)?)?;
+    }
+    Ok(all)
+}
+
+/// Adds the operators of the script that stand in a term.
+#[cycle(naming)]
+#[tactic(auto, using(crate::proofs::LossSteps::named_behind))]
+fn named(term: &Term, alloc: Global, found: Names) -> Result<Names, AllocError>
+    ensures { IfOk result (λ made. made ≡ found ++ named term.now) }
+{
+    let own = head_named(alloc, term.head.get(), found)?;
+    each_named(term.args.as_slice(), alloc, own)
+}
+
+#[cycle(naming)]
+fn each_named(list: &[Term], alloc: Global, found: Names) -> Result<Names, AllocError>
+    ensures { IfOk result (λ made. made ≡ found ++ each_named list.now) }
+{
+    let mut all = found;
+    for term in list {
+        all = named(term, alloc, all)?;
+    }
+    Ok(all)
+}
+
+/// The operators that stand in the body of a declared one.
+fn names_at(alloc: Global, entry: Option<&Entry>) -> Result<Names, AllocError>
+    ensures { IfOk result (λ made. made ≡ names_at (option_copied entry.entry)) }
+{
+    let none = Items::new(alloc);
+    match entry {
+        Some(Entry::Operator(operator)) => named(&operator.body, alloc, none),
+        _ => Ok(none),
+    }
+}
+
+/// These operators, and those others of a list that are full.
+fn with_named(alloc: Global, scope: &Scope, full: Names, list: &[Name]) -> Result<Names, AllocError>
+    ensures { IfOk result (λ made. made ≡ with_named scope.now full list.now) }
+{
+    let mut all = full;
+    for name in list {
+        if !is_among(all.as_slice(), name) && !entry_loses(scope.entry(name), all.as_slice()) {
+            all.push(name.copy(alloc)?)?;
+        }
+    }
+    Ok(all)
+}
+
+/// The full operators that bodies of operators name. Each body names what is declared before it.
+#[tactic(auto, unfolding(crate::specs::Loss::full_operators))]
+pub fn full_operators(alloc: Global, scope: &Scope) -> Result<Names, AllocError>
+    ensures { IfOk result (λ made. made ≡ full_operators scope.now) }
+{
+    let mut full = Items::new(alloc);
+    for i in 0..scope.len() {
+        let names = names_at(alloc, scope.entry_at(i))?;
+        full = with_named(alloc, scope, full, names.as_slice())?;
+    }
+    Ok(full)
 }
 
 /// A procedure, and where it may lose weight first, with what it calls.
@@ -91,36 +202,41 @@ fn known_of<'a>(known: &[Known<'a>], procedure: &ProcRef) -> Loss<'a>
     Loss::Called
 }
 
-/// Where a statement may lose weight first, with what it calls.
+/// Where a statement may lose weight first, with what it calls. It is told which operators are full, and what is known of procedures.
 #[cycle(statements)]
-fn statement_loss<'a>(known: &[Known<'a>], statement: &'a Instr) -> Loss<'a>
-    ensures { loss_seen result ≡ statement_loss (map known_seen known.now) statement.now }
+fn statement_loss<'a>(
+    statement: &'a Instr,
+    scope: &Scope,
+    full: &[Name],
+    known: &[Known<'a>],
+) -> Loss<'a>
+    ensures { loss_seen result ≡ statement_loss scope.now full.now (map known_seen known.now) statement.now }
 {
     match statement {
         Instr::Assign(..) => Loss::Nowhere,
         Instr::Sample(target, from) => {
-            if may_lose(from) {
+            if may_lose(from, scope, full) {
                 Loss::Sampled(target)
             } else {
                 Loss::Nowhere
             }
         }
         Instr::Call(_, procedure, _) => known_of(known, procedure.get()),
-        Instr::If(_, yes, no) => match body_loss(known, yes.list.as_slice()) {
-            Loss::Nowhere => body_loss(known, no.list.as_slice()),
+        Instr::If(_, yes, no) => match body_loss(yes.list.as_slice(), scope, full, known) {
+            Loss::Nowhere => body_loss(no.list.as_slice(), scope, full, known),
             found => found,
         },
-        Instr::While(_, _, body) => body_loss(known, body.list.as_slice()),
+        Instr::While(_, _, body) => body_loss(body.list.as_slice(), scope, full, known),
     }
 }
 
 /// Where a body may lose weight first, in the order of the text, with what it calls at each call.
 #[cycle(statements)]
-fn body_loss<'a>(known: &[Known<'a>], list: &'a [Instr]) -> Loss<'a>
-    ensures { loss_seen result ≡ body_loss (map known_seen known.now) list.now }
+fn body_loss<'a>(list: &'a [Instr], scope: &Scope, full: &[Name], known: &[Known<'a>]) -> Loss<'a>
+    ensures { loss_seen result ≡ body_loss scope.now full.now (map known_seen known.now) list.now }
 {
     for statement in list {
-        match statement_loss(known, statement) {
+        match statement_loss(statement, scope, full, known) {
             Loss::Nowhere => {}
             found => return found,
         }
@@ -129,11 +245,16 @@ fn body_loss<'a>(known: &[Known<'a>], list: &'a [Instr]) -> Loss<'a>
 }
 
 /// The same of a procedure.
-fn procedure_loss<'a>(known: &[Known<'a>], found: Option<&'a Proc>) -> Loss<'a>
-    ensures { loss_seen result ≡ procedure_loss (map known_seen known.now) (option_copied found.entry) }
+fn procedure_loss<'a>(
+    found: Option<&'a Proc>,
+    scope: &Scope,
+    full: &[Name],
+    known: &[Known<'a>],
+) -> Loss<'a>
+    ensures { loss_seen result ≡ procedure_loss scope.now full.now (map known_seen known.now) (option_copied found.entry) }
 {
     match found {
-        Some(procedure) => body_loss(known, procedure.body.list.as_slice()),
+        Some(procedure) => body_loss(procedure.body.list.as_slice(), scope, full, known),
         None => Loss::Called,
     }
 }
@@ -142,13 +263,14 @@ fn procedure_loss<'a>(known: &[Known<'a>], found: Option<&'a Proc>) -> Loss<'a>
 fn with_procedures<'a>(
     alloc: Global,
     scope: &'a Scope,
+    full: &[Name],
     list: &[Shared<ProcRef>],
 ) -> Result<Items<Known<'a>>, AllocError>
-    ensures { IfOk result (λ made. map known_seen made ≡ with_procedures scope.now [] list.now) }
+    ensures { IfOk result (λ made. map known_seen made ≡ with_procedures scope.now full.now [] list.now) }
 {
     let mut known = Items::new(alloc);
     for x in list {
-        let loss = procedure_loss(known.as_slice(), scope.procedure(x.get()));
+        let loss = procedure_loss(scope.procedure(x.get()), scope, full, known.as_slice());
         let procedure = x.share()?;
         known.push(Known { procedure, loss })?;
     }
@@ -178,11 +300,11 @@ fn all_procedures(alloc: Global, scope: &Scope) -> Result<Procedures, AllocError
 
 /// What is known of all procedures. Each calls those that are declared before it.
 #[tactic(auto, unfolding(crate::specs::Loss::table))]
-fn table<'a>(alloc: Global, scope: &'a Scope) -> Result<Items<Known<'a>>, AllocError>
-    ensures { IfOk result (λ made. map known_seen made ≡ table scope.now) }
+fn table<'a>(alloc: Global, scope: &'a Scope, full: &[Name]) -> Result<Items<Known<'a>>, AllocError>
+    ensures { IfOk result (λ made. map known_seen made ≡ table scope.now full.now) }
 {
     let all = all_procedures(alloc, scope)?;
-    with_procedures(alloc, scope, all.as_slice())
+    with_procedures(alloc, scope, full, all.as_slice())
 }
 
 /// Where a body may lose weight first, in the order of the text, with what it calls at each call.
@@ -193,8 +315,9 @@ pub fn first_loss<'a>(
 ) -> Result<Loss<'a>, AllocError>
     ensures { IfOk result (λ lost. loss_seen lost ≡ first_loss scope.now list.now) }
 {
-    let known = table(alloc, scope)?;
-    Ok(body_loss(known.as_slice(), list))
+    let full = full_operators(alloc, scope)?;
+    let known = table(alloc, scope, full.as_slice())?;
+    Ok(body_loss(list, scope, full.as_slice(), known.as_slice()))
 }
 
 /// The same of what a judgment speaks of.
@@ -205,9 +328,15 @@ pub fn subject_loss<'a>(
 ) -> Result<Loss<'a>, AllocError>
     ensures { IfOk result (λ lost. loss_seen lost ≡ code_loss scope.now (code_of subject.now)) }
 {
-    let known = table(alloc, scope)?;
+    let full = full_operators(alloc, scope)?;
+    let known = table(alloc, scope, full.as_slice())?;
     match subject {
-        Subject::Body(body) => Ok(body_loss(known.as_slice(), body.list.as_slice())),
+        Subject::Body(body) => Ok(body_loss(
+            body.list.as_slice(),
+            scope,
+            full.as_slice(),
+            known.as_slice(),
+        )),
         Subject::Proc(named) => Ok(known_of(known.as_slice(), named.get())),
     }
 }

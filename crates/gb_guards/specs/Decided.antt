@@ -47,7 +47,7 @@ decision_goals t o k (Some d) =
 abbrev pub decided : ℕ → Bool → OneBody → Answer (List Goal)
 decided n t o = on_place (λ k. decision_goals t o k (decision t k.statement (out-Instr k.statement))) (statement_at n o.list)
 
--- A judgment of one body. (Beside another program it isn't built.)
+-- a judgment of one body; of an equivalence the step has a row of its own
 abbrev pub decided_row : ℕ → Bool → Acts → Row
 decided_row n t on.All G = on_one (decided n t) (one_body on.All G) (refusing Shape)
 decided_row n t a G = refusing Shape

@@ -1,5 +1,5 @@
 -- What stands in place of a call, step by step.
-use Rattle.std.proofs.Common.{◌≡◌, ◌<◌, ◌+◌, ℕ, zero, suc, List, [], ◌∷◌, ◌++◌, drop, length, refl, arith}
+use Rattle.std.proofs.Common.{◌≡◌, ◌<◌, ℕ, zero, suc, List, [], ◌∷◌, drop, length, refl, arith}
 use Rattle.gb_terms.specs.declared.term.Term.{Term}
 use Rattle.gb_inline.specs.Expanded.{each_set}
 use Rattle.gb_inline.specs.Renamed.{Renamings}

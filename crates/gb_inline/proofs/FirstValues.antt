@@ -1,5 +1,5 @@
 -- The terms of first values have these values, and are typed.
-use Rattle.std.proofs.Common.{◌≡◌, ◌<◌, ◌^◌, ℕ, Bool, false, true, List, [], ◌∷◌, refl, ap, sym, ◌∙◌, subst, arith}
+use Rattle.std.proofs.Common.{◌≡◌, ◌<◌, ◌^◌, ℕ, Bool, false, true, List, [], ◌∷◌, ap, sym, ◌∙◌, subst, arith}
 use Rattle.std.proofs.lemmas.Bool.{false≢true}
 use Rattle.gb_core.specs.declared.ty.Ty.{Ty, Row_of-Ty, more_of-Ty, end_of-Ty}
 use Rattle.gb_core.specs.declared.ty.Ty.TheFolds.{fold-roll-Ty}
@@ -37,7 +37,7 @@ use Rattle.gb_typing.specs.Changes.{Made}
 use Rattle.gb_typing.specs.Context.{Context, of_program}
 use Rattle.gb_typing.specs.Programs.{IsValued}
 use Rattle.gb_typing.proofs.Made.{made_node}
-use Rattle.gb_inline.specs.Expanded.{first_of, none_got}
+use Rattle.gb_forms.specs.Firsts.{first_of, none_got}
 use mathlib.Core.Former.{Count}
 
 module _ (g : Setting) (s : State) (m : Memory) where

@@ -1,7 +1,7 @@
 -- A loop is good where one is that it matches.
 use Rattle.std.proofs.Common.{◌≡◌, ℕ, ◌-◌, ◌+◌, ◌*◌, ◌^◌, ◌<◌, ◌≤◌, Bool, false, [], ◌∷◌, refl, ap, sym, ◌∙◌, subst, arith}
 use Rattle.std.proofs.lemmas.Nat.{pow-add}
-use Rattle.gb_coupling.specs.WeightedList.{WeightedList, scale, bind, unit, Every, SameDistribution}
+use Rattle.gb_coupling.specs.WeightedList.{WeightedList, scale, unit, Every, SameDistribution}
 use Rattle.gb_coupling.proofs.Distributions.{same_scale, same_transitive}
 use Rattle.gb_coupling.proofs.Entries.{Every-weaken}
 use Rattle.gb_coupling.proofs.Monad.{bind-unit_right}

@@ -1,5 +1,5 @@
 -- `inline` is sound, and leads to good loops where loops that are proved are good.
-use Rattle.std.proofs.Common.{◌≡◌, ◌^◌, ◌&&◌, ℕ, zero, suc, Bool, true, false, not, pos, List, [], ◌∷◌, ◌++◌, Option, Some, None, refl, ap, sym, ◌∙◌, subst}
+use Rattle.std.proofs.Common.{◌≡◌, ◌^◌, ◌&&◌, ℕ, zero, suc, Bool, true, false, not, pos, List, [], ◌∷◌, ◌++◌, Option, Some, None, refl, ◌∙◌, subst}
 use Rattle.std.proofs.lemmas.Bool.{false≢true}
 use Rattle.std.proofs.lemmas.Option.{none-some, same_Some}
 use Rattle.std.specs.List.{AllByRecursion}
@@ -13,18 +13,16 @@ use Rattle.gb_coupling.specs.WeightedList.{WeightedList, Every}
 use Rattle.gb_coupling.proofs.Basic.{coupling_symmetry}
 use Rattle.gb_terms.specs.declared.op.Rel.{Rel}
 use Rattle.gb_terms.specs.declared.decl.TypedName.{TypedName}
-use Rattle.gb_terms.specs.declared.module.ProcRef.{ProcRef}
 use Rattle.gb_terms.specs.declared.op.Side.{Side}
 use Rattle.gb_terms.specs.declared.op.Side.TheVariants as side
 use Rattle.gb_terms.specs.declared.term.Instr.{Instr}
 use Rattle.gb_terms.specs.declared.term.Term.{Term}
 use Rattle.gb_walk.specs.Clash.{variables_read}
-use Rattle.gb_goal.specs.Answers.{Answer, ◌>>=◌}
+use Rattle.gb_goal.specs.Answers.{◌>>=◌}
 use Rattle.gb_goal.specs.Answers.Answer.{given}
 use Rattle.gb_goal.specs.Goal.{Goal}
 use Rattle.gb_goal.specs.Goal.Code.{body, procedure as of_procedure}
 use Rattle.gb_goal.specs.Goal.Goal.{hoare, phoare, equiv, ambient}
-use Rattle.gb_goal.specs.Rows.{refusing}
 use Rattle.gb_goal.specs.Scope.{Declarations}
 use Rattle.gb_goal.specs.declared.sequent.Sequent.{Sequent}
 use Rattle.gb_holds.specs.Declared.{declared}
@@ -34,21 +32,18 @@ use Rattle.gb_meaning.specs.Commands.{statements}
 use Rattle.gb_meaning.specs.Judgments.{Judge, IsFair, IsTrueUnder, compares, den, speaking}
 use Rattle.gb_meaning.specs.Meanings.{fraction_in}
 use Rattle.gb_meaning.specs.Memory.{Memory, read}
-use Rattle.gb_meaning.specs.Names.{Name}
 use Rattle.gb_meaning.specs.Setting.{Setting}
 use Rattle.gb_meaning.specs.State.{State, at, between}
 use Rattle.gb_meaning.specs.Terms.{val}
-use Rattle.gb_meaning.specs.Written.{local_type}
 use Rattle.gb_mods.specs.Touched.{each_touched}
 use Rattle.gb_steps.specs.declared.step.Acts.{Acts}
 use Rattle.gb_steps.specs.declared.step.Acts.TheVariants as on
 use Rattle.gb_steps.specs.declared.step.Calls.{Calls}
-use Rattle.gb_typing.specs.Context.{Context, Frame, reframed, with_own, with_sides}
+use Rattle.gb_typing.specs.Context.{Context, reframed, with_own, with_sides}
 use Rattle.gb_typing.specs.Fits.{IsSettingOf, IsStateOf}
-use Rattle.gb_typing.specs.Goals.{IsGoalOver, IsTypedGoal}
+use Rattle.gb_typing.specs.Goals.{IsTypedGoal}
 use Rattle.gb_typing.specs.Meaning.{Stands, denominator, run}
 use Rattle.gb_typing.specs.Programs.{IsBody}
-use Rattle.gb_typing.specs.Puts.{Readable}
 use Rattle.gb_typing.specs.Rules.{IsSettingOver, outermost}
 use Rattle.gb_typing.specs.Scopes.{context_of, IsTypedScope}
 use Rattle.gb_typing.specs.Sequents.{of_sequent, IsTypedSequent}
@@ -61,8 +56,6 @@ use Rattle.gb_typing.proofs.Spared.{spared_variables, spared_within}
 use Rattle.gb_prog.specs.Ends.{LoopsEnd}
 use Rattle.gb_prog.proofs.Couplings.{runs_gluing}
 use Rattle.gb_prog.proofs.Own.{Good}
-use Rattle.gb_parts.specs.OneBody.{OneBody}
-use Rattle.gb_trans.specs.Transformed.{with_body}
 use Rattle.gb_call.proofs.After.{same_form as same_own}
 use Rattle.gb_call_both.proofs.NarrowedSides.{sides_typed}
 use Rattle.gb_call_both.proofs.Sided.{same_form as same_sides}

@@ -22,7 +22,7 @@ use Rattle.gb_meaning.specs.Written.{local_type}
 use Rattle.gb_typing.proofs.Scripts.{none_some, same_some}
 use Rattle.gb_inline.specs.declared.fresh.Renaming.{Renaming}
 use Rattle.gb_inline.specs.Fresh.{free_from, free_name, is_taken, numbered, renamed_first, under_name, new_names}
-use Rattle.gb_inline.specs.Renamed.{Renamings, name_renamed, read_renamed, reads_renamed}
+use Rattle.gb_inline.specs.Renamed.{Renamings, name_renamed, reads_renamed}
 
 -- These are names for these locals, with their types.
 abbrev pub AreFor : Renamings → List TypedName → Type 0

@@ -1,5 +1,5 @@
 -- Memories that agree but for locals that no variable in use has: what reads variables in use alone doesn't see a difference.
-use Rattle.std.proofs.Common.{◌≡◌, ◌≢◌, ◌-◌, ◌^◌, ◌&&◌, ◌||◌, Bool, true, false, not, min, ℕ, zero, suc, List, [], ◌∷◌, ◌++◌, if◌then◌else◌, map, take, length, Option, Some, None, refl, ap, sym, ◌∙◌, subst}
+use Rattle.std.proofs.Common.{◌≡◌, ◌&&◌, ◌||◌, Bool, true, false, not, ℕ, zero, suc, List, [], ◌∷◌, ◌++◌, if◌then◌else◌, map, take, length, Some, refl, ap, sym, ◌∙◌}
 use Rattle.std.proofs.lemmas.Bool.{and_parts, false≢true}
 use Rattle.std.specs.List.{AllByRecursion}
 use Rattle.gb_core.specs.declared.ty.Ty.{Ty}

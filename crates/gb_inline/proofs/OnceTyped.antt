@@ -1,5 +1,5 @@
 -- A body in which one call is replaced is typed where further locals are there.
-use Rattle.std.proofs.Common.{◌≡◌, true, false, List, [], ◌∷◌, ◌++◌, Option, Some, None, refl, ap, sym, ◌∙◌, subst}
+use Rattle.std.proofs.Common.{◌≡◌, true, false, List, [], ◌∷◌, ◌++◌, Option, Some, None, refl, sym, ◌∙◌, subst}
 use Rattle.std.proofs.lemmas.Option.{none-some, same_Some}
 use Rattle.std.specs.Option.{option_map}
 use Rattle.gb_core.specs.declared.ty.Ty.{Ty}
@@ -11,7 +11,7 @@ use Rattle.gb_terms.specs.declared.module.ProcRef.{ProcRef}
 use Rattle.gb_terms.specs.declared.term.Cmd.{items-the_row-Instr}
 use Rattle.gb_terms.specs.declared.term.Head.TheBlock as B
 use Rattle.gb_terms.specs.declared.term.Instr.{Instr, Row_of-Instr, end_of-Instr, more_of-Instr}
-use Rattle.gb_terms.specs.declared.term.Head.TheVariants.{Assign, Sample, Call', If, If', While, While'}
+use Rattle.gb_terms.specs.declared.term.Head.TheVariants.{Assign, Sample, Call', If', While, While'}
 use Rattle.gb_terms.specs.declared.term.Term.{Term, Row_of-Term, end_of-Term, more_of-Term}
 use Rattle.gb_holds.specs.Footprints.{touched_in, variables, variables_in}
 use Rattle.gb_meaning.specs.Commands.{terms_in}

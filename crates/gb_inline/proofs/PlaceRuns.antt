@@ -1,13 +1,11 @@
 -- What stands in place of a call runs as the call does, but for new locals.
-use Rattle.std.proofs.Common.{◌≡◌, ◌≢◌, ◌*◌, ℕ, true, false, List, [], ◌∷◌, ◌++◌, map, Option, Some, None, refl, ap, sym, ◌∙◌, subst, arith}
-use Rattle.std.proofs.Math.Path.{fun_ext}
+use Rattle.std.proofs.Common.{◌≡◌, ◌*◌, true, false, List, [], ◌∷◌, ◌++◌, map, Some, refl, ap, sym, ◌∙◌, subst, arith}
 use Rattle.std.proofs.lemmas.Bool.{false≢true}
 use Rattle.std.specs.List.{AllByRecursion}
 use Rattle.gb_core.specs.declared.ty.Ty.{Ty}
 use Rattle.gb_core.specs.declared.value.Value.{Value}
 use Rattle.gb_core.specs.declared.value.Value.TheVariants.{Many}
 use Rattle.gb_core.specs.declared.var.Var.{Var}
-use Rattle.gb_core.specs.declared.var.Var.TheVariants as var
 use Rattle.gb_coupling.specs.WeightedList.{WeightedList, bind, dmap, unit}
 use Rattle.gb_coupling.proofs.Monad.{bind-unit, dmap-dmap, dmap_by_bind}
 use Rattle.gb_terms.specs.declared.decl.Proc.{Proc}
@@ -19,7 +17,7 @@ use Rattle.gb_laws.proofs.Maps.{get-set_other, get-set_same}
 use Rattle.gb_laws.proofs.Sequence.{followed_denominator, followed_run}
 use Rattle.gb_local.proofs.Zips.{Zip, zip-bind, zip-dmap}
 use Rattle.gb_meaning.specs.Commands.{statements}
-use Rattle.gb_meaning.specs.Memory.{Memory, arguments, assigned, first_values, outcome, read_local, result_in, result_name, value_or, write_local}
+use Rattle.gb_meaning.specs.Memory.{Memory, arguments, assigned, first_values, outcome, result_in, result_name, value_or, write_local}
 use Rattle.gb_meaning.specs.Names.{Map, Name, Path, empty, get, set}
 use Rattle.gb_meaning.specs.Program.{Program, followed_by}
 use Rattle.gb_meaning.specs.Program.Program.{call}
@@ -34,11 +32,11 @@ use Rattle.gb_typing.specs.Meaning.{denominator, run}
 use Rattle.gb_typing.specs.Programs.{IsProcedure, locals_of}
 use Rattle.gb_typing.proofs.Runs.{denominator_append, run_append}
 use Rattle.gb_typing.proofs.Scripts.{none_some}
-use Rattle.gb_inline.specs.Expanded.{each_set, in_place, result_set}
+use Rattle.gb_inline.specs.Expanded.{each_set, result_set}
 use Rattle.gb_inline.specs.Fresh.{is_taken}
 use Rattle.gb_inline.specs.Renamed.{Renamings, each_renamed, name_renamed, reads_renamed}
 use Rattle.gb_inline.proofs.Matched.{Matches}
-use Rattle.gb_inline.proofs.Names.{AreApart, AreFor, IsNone, either_name, first_name, later_name, first_type, later_type}
+use Rattle.gb_inline.proofs.Names.{AreApart, AreFor, IsNone, either_name, first_name, later_name, later_type}
 use Rattle.gb_inline.proofs.Off.{Off, off_assigned, off_unused}
 use Rattle.gb_inline.proofs.Renames.{Like, renamed_value}
 use Rattle.gb_inline.proofs.RenamedRuns.{Framed, IsOther, each_matches, framed_keeps, like_keeps, path_apart}

@@ -33,7 +33,7 @@ use Rattle.gb_typed.specs.Finite.{IsFinite, IsVariableType}
 use Rattle.gb_typed.specs.Programs.{Take}
 use Rattle.gb_typing.specs.Context.{Context, erased, procedure}
 use Rattle.gb_typing.specs.Fits.{IsSettingOf}
-use Rattle.gb_typing.specs.Programs.{AreArguments, EachStatement, HaveVariableTypes, IsCall, IsProcedure, IsValued, locals_of, type_of_procedure}
+use Rattle.gb_typing.specs.Programs.{AreArguments, EachStatement, HaveVariableTypes, IsCall, IsProcedure, IsValued, locals_of}
 use Rattle.gb_typing.specs.Rules.{IsSettingOver}
 use Rattle.gb_typing.specs.Scopes.{context_of, IsTypedScope}
 use Rattle.gb_typing.specs.Sequents.{of_sequent, IsTypedSequent}
@@ -41,7 +41,8 @@ use Rattle.gb_typing.proofs.LinkedProcedures.{linked_there}
 use Rattle.gb_typing.proofs.Lists.{typed_append}
 use Rattle.gb_typing.proofs.Located.{IsTypedThere, typed_there}
 use Rattle.gb_prog.proofs.Own.{Good, good_append}
-use Rattle.gb_inline.specs.Expanded.{each_set, expanded, firsts, in_place, result_set}
+use Rattle.gb_forms.specs.Firsts.{firsts}
+use Rattle.gb_inline.specs.Expanded.{each_set, expanded, in_place, result_set}
 use Rattle.gb_inline.specs.Fresh.{is_taken, new_names}
 use Rattle.gb_inline.specs.Inlined.{asked, is_asked, unless_unproved}
 use Rattle.gb_inline.specs.Proved.{ProvedEnd}

@@ -1,5 +1,5 @@
 -- Statements under new names run as they did, and have good loops where they had.
-use Rattle.std.proofs.Common.{◌≡◌, ◌≢◌, ◌-◌, ◌^◌, min, List, [], ◌∷◌, map, Option, Some, None, refl, ap, sym, ◌∙◌, subst}
+use Rattle.std.proofs.Common.{◌≡◌, ◌≢◌, min, List, [], ◌∷◌, map, Option, Some, None, refl, ap, sym, ◌∙◌, subst}
 use Rattle.std.specs.List.{AllByRecursion}
 use Rattle.gb_core.specs.declared.ty.Ty.{Ty}
 use Rattle.gb_core.specs.declared.value.Value.{Value}
@@ -22,7 +22,7 @@ use Rattle.gb_meaning.specs.Meanings.{number_in, truth, weights_in}
 use Rattle.gb_meaning.specs.Memory.{Memory, assigned, read_local, result_in, write, write_each, write_local}
 use Rattle.gb_meaning.specs.Names.{Map, Name, Path, empty, get, set}
 use Rattle.gb_meaning.specs.Program.{Program, Routine}
-use Rattle.gb_meaning.specs.Program.Program.{assign, branch, loop, sample}
+use Rattle.gb_meaning.specs.Program.Program.{branch, loop}
 use Rattle.gb_meaning.specs.Runs.{greatest, is_true, most_turns, turns_at, valued}
 use Rattle.gb_meaning.specs.Setting.{Setting}
 use Rattle.gb_meaning.specs.State.{State, closed}

@@ -1,5 +1,5 @@
 -- Statements under new names are typed where the locals of their new names are there.
-use Rattle.std.proofs.Common.{◌≡◌, List, [], ◌∷◌, ◌++◌, map, Option, Some, None, refl, ap, sym, ◌∙◌, subst}
+use Rattle.std.proofs.Common.{◌≡◌, List, [], ◌∷◌, ◌++◌, map, Option, Some, None, ap, sym, ◌∙◌, subst}
 use Rattle.gb_core.specs.declared.ty.Ty.{Ty}
 use Rattle.gb_core.specs.declared.var.Var.{Var}
 use Rattle.gb_core.specs.declared.var.Var.TheVariants as var
@@ -14,7 +14,6 @@ use Rattle.gb_meaning.specs.Written.{IsModulo, type_of}
 use Rattle.gb_typed.specs.Finite.{IsFinite}
 use Rattle.gb_typed.specs.Operators.{IsDistributionType, parts_in}
 use Rattle.gb_typed.specs.Programs.{HaveTypes, Take, variable_type}
-use Rattle.gb_core.specs.declared.ty.Ty.TheVariants as ty
 use Rattle.gb_typing.specs.Context.{Context, erased, procedure}
 use Rattle.gb_typing.specs.Modules.{ProcedureType}
 use Rattle.gb_typing.specs.Programs.{AreArguments, AreStatements, EachStatement, IsCall, IsStatement, IsValued}

@@ -1,9 +1,7 @@
 -- Expressions under new names: typing and meaning.
-use Rattle.std.proofs.Common.{◌≡◌, ℕ, inl, Bool, true, false, min, List, [], ◌∷◌, ◌++◌, map, Option, Some, None, refl, ap, sym, ◌∙◌, subst}
+use Rattle.std.proofs.Common.{◌≡◌, ℕ, inl, false, List, [], ◌∷◌, ◌++◌, map, Some, None, refl, ap, sym, ◌∙◌, subst}
 use Rattle.std.proofs.lemmas.Bool.{false≢true}
-use Rattle.std.specs.List.{AllByRecursion}
 use Rattle.gb_core.specs.declared.ty.Ty.{Ty}
-use Rattle.gb_core.specs.declared.var.Var.{Var}
 use Rattle.gb_core.specs.declared.var.Var.TheVariants as var
 use Rattle.gb_terms.specs.declared.decl.TypedName.{TypedName}
 use Rattle.gb_terms.specs.declared.op.Side.{Side}
@@ -13,25 +11,23 @@ use Rattle.gb_terms.specs.declared.op.Read.TheVariants.{Logical, Program}
 use Rattle.gb_terms.specs.declared.term.Term.{Term, Term'}
 use Rattle.gb_terms.specs.declared.term.Head.TheVariants as head
 use Rattle.gb_walk.specs.Change.{Changes, found_for_read, found_for_bound, read_changed, side_changed, term_changed}
-use Rattle.gb_meaning.specs.Meanings.{number_in, truth, value_in, weights_in}
+use Rattle.gb_meaning.specs.Meanings.{value_in}
 use Rattle.gb_meaning.specs.Memory.{Memory, read, read_local}
 use Rattle.gb_meaning.specs.Names.{Name}
-use Rattle.gb_meaning.specs.Runs.{greatest, is_true, most_turns, turns_at, valued}
+use Rattle.gb_meaning.specs.Runs.{greatest, most_turns, valued}
 use Rattle.gb_meaning.specs.Setting.{Setting}
 use Rattle.gb_meaning.specs.Setting.Meaning.{finite}
 use Rattle.gb_meaning.specs.State.{State, inside, binding, meaning_in}
-use Rattle.gb_meaning.specs.Terms.{denominator, distribution, quiet, read_at, val}
+use Rattle.gb_meaning.specs.Terms.{denominator, quiet, read_at, val}
 use Rattle.gb_meaning.specs.Written.{local_type, type_of}
 use Rattle.gb_laws.proofs.Nodes.{denominator_node, val_node}
-use Rattle.gb_changes.specs.Led.{ArePut, IsPut, Led, OnPut, put}
-use Rattle.gb_changes.specs.Plain.{IsPlain}
+use Rattle.gb_changes.specs.Led.{ArePut, IsPut, Led, put}
 use Rattle.gb_changes.specs.Uses.Use.{read as reads, bound, globals, starts, binds_own, binds_sides}
 use Rattle.gb_changes.proofs.Changing.{denominator_changed, plain_followed}
 use Rattle.gb_changes.proofs.Puts.{formed_node, plain_node}
 use Rattle.gb_typing.specs.Changes.{Becomes, IsLeaf, IsMemoryIn, Leads, Made}
 use Rattle.gb_typing.specs.Context.{Context, Frame, of_program, reframed}
 use Rattle.gb_typing.specs.Programs.{AreArguments, IsExpression}
-use Rattle.gb_typing.specs.Puts.{Keeps}
 use Rattle.gb_typing.specs.Typing.{IsPlace}
 use Rattle.gb_typing.proofs.Anywhere.{value_anywhere}
 use Rattle.gb_typing.proofs.Changed.{changed}

@@ -28,7 +28,7 @@ use Rattle.gb_steps.specs.declared.step.Acts.{Acts}
 use Rattle.gb_steps.specs.declared.step.Acts.TheVariants as on
 use Rattle.gb_steps.specs.declared.step.Calls.{Calls}
 use Rattle.gb_steps.specs.declared.step.Calls.TheVariants.{Of, All}
-use Rattle.gb_parts.specs.OneBody.{OneBody, on_one, one_body}
+use Rattle.gb_parts.specs.OneBody.{on_one, one_body}
 use Rattle.gb_trans.specs.Transformed.{with_body}
 use Rattle.gb_inline.specs.Expanded.{expanded}
 
@@ -37,7 +37,7 @@ abbrev pub is_asked : Calls → ProcRef → Bool
 is_asked (Of p) q = same_procedure p q
 is_asked All q = true
 
--- a procedure, unless it has loops that aren't proved (goals reach none of these)
+-- a procedure, unless it has loops that aren't proved: inside of a proof that loops end a body may call such a one
 abbrev pub unless_unproved : Option ProcName → Option Proc → Option Proc
 unless_unproved None f = f
 unless_unproved (Some u) f = None

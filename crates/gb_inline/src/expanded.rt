@@ -3,60 +3,22 @@
 ghost use Rattle.std.specs.Prelude.{◌≡◌, ◌++◌, ◌∷◌, [], IfOk};
 ghost use Rattle.std.specs.Option.{option_copied};
 ghost use Rattle.gb_typing.specs.Programs.{locals_of};
-ghost use Rattle.gb_inline.specs.Expanded.{each_set, expanded, first_of, firsts, in_place, none_got, result_set};
+ghost use Rattle.gb_inline.specs.Expanded.{each_set, expanded, in_place, result_set};
 ghost use Rattle.gb_inline.specs.Renamed as renamed;
 ghost use Rattle.gb_walk.specs.Change.{term_changed};
 
 use crate::fresh::{Renaming, new_names};
 use crate::renamed::{reads_renamed, with_renamed};
-use gb_core::ty::Ty;
-use gb_core::value::Value;
 use gb_core::var::Var;
+use gb_forms::firsts::with_firsts;
 use gb_mods::order::with_variables;
-use gb_shared::{Shared, SharedItems};
-use gb_terms::decl::{Proc, Typed, TypedName};
-use gb_terms::make::{leaf, unary};
-use gb_terms::op::Op;
+use gb_shared::SharedItems;
+use gb_terms::decl::{Proc, Typed};
 use gb_terms::share::{copy_typed, share_terms};
-use gb_terms::term::{Head, Instr, Instrs, Term, Terms};
+use gb_terms::term::{Instr, Instrs, Term};
 use gb_walk::walk::changed;
 use sqlite_items::Items;
 use std::alloc::{AllocError, Global};
-
-/// `oget None`, of this type.
-fn none_got(alloc: Global, ty: Shared<Ty>) -> Result<Term, AllocError>
-    ensures { IfOk result (λ made. made ≡ none_got ty) }
-{
-    let option = Shared::new(alloc, Ty::Opt(ty.share()?))?;
-    let none = leaf(alloc, Head::Builtin(Op::None), option)?;
-    unary(alloc, Op::Oget, none, ty)
-}
-
-/// The first value of a type.
-fn first_of(alloc: Global, ty: &Shared<Ty>) -> Result<Term, AllocError>
-    ensures { IfOk result (λ made. made ≡ first_of ty.now) }
-{
-    let shared = ty.share()?;
-    match ty.get() {
-        Ty::Unit | Ty::Bool | Ty::Bits(_) | Ty::Mod(_) | Ty::Enumeration { .. } => {
-            leaf(alloc, Head::Lit(Value::Num(0)), shared)
-        }
-        Ty::Opt(_) => leaf(alloc, Head::Builtin(Op::None), shared),
-        Ty::Map(_, _) => leaf(alloc, Head::Builtin(Op::Empty), shared),
-        _ => none_got(alloc, shared),
-    }
-}
-
-/// Terms, and behind them the first values of the types of locals.
-fn with_firsts(alloc: Global, found: Terms, list: &[TypedName]) -> Result<Terms, AllocError>
-    ensures { IfOk result (λ made. made ≡ found ++ firsts list.now) }
-{
-    let mut all = found;
-    for local in list {
-        all.push(first_of(alloc, &local.ty)?)?;
-    }
-    Ok(all)
-}
 
 /// The assignment of a term to a new local.
 fn set(alloc: Global, renaming: &Renaming, value: &Term) -> Result<Instr, AllocError>

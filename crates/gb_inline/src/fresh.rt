@@ -1,6 +1,6 @@
 //! New names of locals.
 
-ghost use Rattle.std.specs.Prelude.{◌≡◌, ◌++◌, IfOk};
+ghost use Rattle.std.specs.Prelude.{◌≡◌, IfOk};
 ghost use Rattle.std.specs.List.{list_any};
 ghost use Rattle.gb_terms.specs.Equal.{var_eq};
 ghost use Rattle.gb_inline.specs.Fresh as specs;

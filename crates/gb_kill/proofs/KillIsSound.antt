@@ -1,11 +1,11 @@
 -- `kill` is sound: the statement that goes makes no difference to what the postcondition reads.
-use Rattle.std.proofs.Common.{◌≡◌, ℕ, ◌*◌, ◌<◌, Bool, true, false, List, [], ◌∷◌, ◌++◌, Option, Some, None, refl, ap, sym, ◌∙◌, subst}
+use Rattle.std.proofs.Common.{◌≡◌, ℕ, ◌*◌, ◌<◌, Bool, false, List, [], ◌∷◌, ◌++◌, Option, Some, None, refl, sym, ◌∙◌, subst}
 use Rattle.std.proofs.lemmas.Option.{same_Some, none-some}
-use Rattle.std.specs.List.{AllByRecursion, filter}
+use Rattle.std.specs.List.{filter}
 use Rattle.std.specs.Option.{option_map}
 use Rattle.gb_core.specs.declared.refusal.Why.TheVariants.{Shape, NotLossless}
 use Rattle.gb_core.specs.declared.var.Var.{Var}
-use Rattle.gb_coupling.specs.WeightedList.{total, weight}
+use Rattle.gb_coupling.specs.WeightedList.{weight}
 use Rattle.gb_coupling.specs.Coupling.{Coupling}
 use Rattle.gb_coupling.proofs.Basic.{coupling_symmetry}
 use Rattle.gb_coupling.proofs.Events.{coupled_event}
@@ -13,13 +13,12 @@ use Rattle.gb_terms.specs.declared.decl.Proc.{Proc}
 use Rattle.gb_terms.specs.declared.decl.TypedName.{TypedName}
 use Rattle.gb_terms.specs.declared.module.ProcRef.{ProcRef}
 use Rattle.gb_terms.specs.declared.op.Rel.{Rel}
-use Rattle.gb_terms.specs.declared.op.Side.{Side}
 use Rattle.gb_terms.specs.declared.op.Side.TheVariants as side
 use Rattle.gb_terms.specs.declared.term.Instr.{Instr}
 use Rattle.gb_terms.specs.declared.term.Term.{Term}
 use Rattle.gb_walk.specs.Clash.{least, variables_read}
 use Rattle.gb_meaning.specs.Commands.{statements}
-use Rattle.gb_meaning.specs.Judgments.{Judge, IsFair, IsTrueUnder, den, speaking}
+use Rattle.gb_meaning.specs.Judgments.{IsTrueUnder, den, speaking}
 use Rattle.gb_meaning.specs.Meanings.{fraction_in}
 use Rattle.gb_meaning.specs.Memory.{Memory}
 use Rattle.gb_meaning.specs.Program.Routine.{routine}
@@ -30,7 +29,6 @@ use Rattle.gb_meaning.specs.Terms.{val}
 use Rattle.gb_laws.proofs.Runs.{run_positive, run_entries}
 use Rattle.gb_local.specs.Cells.{Key, get_at}
 use Rattle.gb_holds.specs.Declared.{declared}
-use Rattle.gb_goal.specs.Answers.{Answer, ◌>>=◌}
 use Rattle.gb_goal.specs.Answers.Answer.{given}
 use Rattle.gb_goal.specs.Goal.{Goal}
 use Rattle.gb_goal.specs.Goal.Code.{body, procedure}
@@ -47,7 +45,6 @@ use Rattle.gb_typing.specs.Programs.{EachStatement, IsBody, IsProcedure}
 use Rattle.gb_typing.specs.Rules.{IsSettingOver, no_arguments}
 use Rattle.gb_typing.specs.Scopes.{context_of, IsTypedScope}
 use Rattle.gb_typing.specs.Sequents.{of_sequent, IsTypedSequent}
-use Rattle.gb_typing.specs.Typing.{IsForm}
 use Rattle.gb_typing.proofs.Drawing.{body_sound}
 use Rattle.gb_typing.proofs.Fitting.{fits_reframed}
 use Rattle.gb_typing.proofs.Given.{refused_given, same_given}
@@ -57,7 +54,7 @@ use Rattle.gb_typing.proofs.Located.{typed_there}
 use Rattle.gb_full.specs.Loss.{Loss, nowhere, sampled, called, first_loss}
 use Rattle.gb_full.proofs.Full.{total_full}
 use Rattle.gb_parts.specs.OneBody.{OneBody}
-use Rattle.gb_phoare.specs.Hoare.{full}
+use Rattle.gb_full.specs.Lossless.{full}
 use Rattle.gb_prog.specs.Ends.{IsSoundLoopRule, IsSoundOnLoops}
 use Rattle.gb_prog.proofs.Couplings.{runs_gluing}
 use Rattle.gb_prog.proofs.Own.{Good, good_append}

@@ -1,5 +1,5 @@
 -- Statements of which nothing is read behind them: with and without them a body ends alike, but where they write.
-use Rattle.std.proofs.Common.{◌≡◌, inl, inr, Bool, true, false, List, [], ◌∷◌, ◌++◌, ap, sym, ◌∙◌, subst}
+use Rattle.std.proofs.Common.{◌≡◌, inl, inr, Bool, false, List, [], ◌++◌, ap, sym, ◌∙◌, subst}
 use Rattle.gb_terms.specs.declared.term.Instr.{Instr}
 use Rattle.gb_coupling.specs.WeightedList.{total, unit}
 use Rattle.gb_coupling.specs.Coupling.{Coupling}

@@ -20,7 +20,7 @@ use Rattle.gb_typing.specs.Programs.{EachStatement, IsProcedure}
 use Rattle.gb_trans.proofs.Named.{EachNamed, named_append}
 use Rattle.gb_trans.proofs.ReadPlaces.{At, read_each, read_within}
 use Rattle.gb_trans.proofs.Within.{ReadsWithin}
-use Rattle.gb_kill.specs.Kill.{reads_by, reads_if, reads_of}
+use Rattle.gb_kill.specs.Kill.{reads_if, reads_of}
 
 -- how what statements read is known
 record IsKnown (ds : Declarations) (is : List Instr) (xs : List Var) : Type 0 where

@@ -19,7 +19,7 @@ use Rattle.gb_meaning.specs.Meanings.{truth}
 use Rattle.gb_meaning.specs.Memory.{Memory, read, read_global}
 use Rattle.gb_meaning.specs.Setting.{Setting}
 use Rattle.gb_meaning.specs.Setting.Meaning.{finite}
-use Rattle.gb_meaning.specs.State.{State, at, between, binding, meaning_in, memory_of}
+use Rattle.gb_meaning.specs.State.{State, at, between, meaning_in, memory_of}
 use Rattle.gb_meaning.specs.State.Binding.{program}
 use Rattle.gb_meaning.specs.Terms.{read_at}
 use Rattle.gb_meaning.specs.Values.{Global, Types, fit}

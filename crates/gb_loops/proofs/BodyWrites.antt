@@ -23,7 +23,7 @@ use Rattle.gb_mods.specs.Order.{joined}
 use Rattle.gb_mods.specs.Written.{row_targets, statement_targets, targets, written_if}
 use Rattle.gb_mods.proofs.Closed.{IsIn}
 use Rattle.gb_call.proofs.Unwritten.{reached_left, spares_append, spares_joined}
-use Rattle.gb_loops.specs.LastLoop.{written}
+use Rattle.gb_forms.specs.Loops.{written}
 use mathlib.Core.Former.{Count}
 
 -- A place that no statement of a list names.

@@ -55,7 +55,8 @@ use Rattle.gb_parts.proofs.AssignedForms.{in_both}
 use Rattle.gb_call.specs.Call.{unless_clash}
 use Rattle.gb_call.proofs.After.{all_append}
 use Rattle.gb_prog.specs.Ends.{IsSoundOnLoops, LoopsEnd}
-use Rattle.gb_loops.specs.LastLoop.{LastLoop, last_loop, written}
+use Rattle.gb_forms.specs.Loops.{written}
+use Rattle.gb_loops.specs.LastLoop.{LastLoop, last_loop}
 use Rattle.gb_loops.specs.Read.{read_among, read_in}
 use Rattle.gb_loops.specs.While.{at_both_ends, before_both, both_goals, both_written, by_both, clashing_both, in_step, read_both, turning_both}
 use Rattle.gb_loops.proofs.Conditions.{IsCovered, are_alone, covered, covers, none_clashing_both}

@@ -28,7 +28,8 @@ use Rattle.gb_prog.proofs.Reached.{good_anywhere}
 use Rattle.gb_prog.proofs.Within.{within_while}
 use Rattle.gb_prog.proofs.Writes.{run_differs}
 use Rattle.gb_prog.proofs.Own.{good_append, good_while}
-use Rattle.gb_loops.specs.LastLoop.{LastLoop, last_loop, written}
+use Rattle.gb_forms.specs.Loops.{written}
+use Rattle.gb_loops.specs.LastLoop.{LastLoop, last_loop}
 use Rattle.gb_loops.proofs.BodyWrites.{writes_found}
 use Rattle.gb_loops.proofs.LastLoops.{IsTypedLoop, ends_with, statement_of}
 

@@ -52,7 +52,7 @@ use Rattle.gb_chance.specs.Compared.{literal}
 use Rattle.gb_full.specs.Loss.{Loss, nowhere, sampled, called, first_loss}
 use Rattle.gb_chance.proofs.Comparing.{literal_value}
 use Rattle.gb_full.proofs.Full.{total_full}
-use Rattle.gb_phoare.specs.Hoare.{full}
+use Rattle.gb_full.specs.Lossless.{full}
 use Rattle.gb_prog.proofs.Certain.{certain_everywhere}
 use Rattle.gb_prog.proofs.Couplings.{runs_facts}
 use Rattle.gb_prog.proofs.LoopStatements.{statement_certain, statement_invariant, statement_left, statement_right}
@@ -62,7 +62,8 @@ use Rattle.gb_parts.specs.Assigned.{clashing}
 use Rattle.gb_parts.specs.OneBody.{OneBody}
 use Rattle.gb_call.specs.Call.{unless_clash}
 use Rattle.gb_prog.specs.Ends.{IsSoundLoopRule, IsSoundOnLoops, LoopsEnd}
-use Rattle.gb_loops.specs.LastLoop.{LastLoop, last_loop, written}
+use Rattle.gb_forms.specs.Loops.{written}
+use Rattle.gb_loops.specs.LastLoop.{LastLoop, last_loop}
 use Rattle.gb_loops.specs.While.{IsTypedInvariant, at_end, before_loop, by_loop, by_written, is_certain, is_one, kept_weight, loop_goals, turning, where_certain, while_row}
 use Rattle.gb_loops.proofs.BothLoops.{both_sound}
 use Rattle.gb_loops.proofs.Finite.{finite_in}

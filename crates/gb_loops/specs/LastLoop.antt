@@ -1,17 +1,12 @@
--- Loops at the end of bodies, and what they write.
+-- Loops at the end of bodies.
 use Rattle.std.specs.Prelude.{List, [], ◌∷◌, Option, Some, None}
 use Rattle.std.specs.Option.{option_map}
-use Rattle.gb_core.specs.declared.var.Var.{Var}
 use Rattle.gb_terms.specs.declared.term.Term.{Term}
 use Rattle.gb_terms.specs.declared.term.Head.{Head}
 use Rattle.gb_terms.specs.declared.term.Head.TheOpen as layer
 use Rattle.gb_terms.specs.declared.term.Subject.{Subject}
 use Rattle.gb_terms.specs.declared.term.Instr.{Instr, out-Instr}
 use Rattle.gb_terms.specs.declared.term.Cmd.{Cmd}
-use Rattle.gb_goal.specs.Scope.{Declarations}
-use Rattle.gb_mods.specs.Called.{all_reached, calls}
-use Rattle.gb_mods.specs.Order.{joined}
-use Rattle.gb_mods.specs.Written.{targets, written_if}
 use Rattle.gb_loops.specs.declared.last_loop.Last.{Last}
 
 -- a loop at the end of a body, and what stands before it
@@ -37,8 +32,3 @@ abbrev pub last_loop : List Instr → Option LastLoop
 last_loop [] = None
 last_loop (i ∷ []) = loop_at (out-Instr i) []
 last_loop (i ∷ j ∷ is) = option_map (behind i) (last_loop (j ∷ is))
-
--- The variables that statements write, in order, and through all procedures that they call. They aren't known where one of these isn't
--- declared by its name.
-unfoldable pub written : Declarations → List Instr → Option (List Var)
-written ds is = option_map (λ xs. joined (targets is) xs) (written_if ds (all_reached ds (calls is)))

@@ -29,8 +29,9 @@ use Rattle.gb_parts.specs.OneBody.{OneBody, on_one, one_body}
 use Rattle.gb_call.specs.Call.{unless_clash}
 use Rattle.gb_chance.specs.Compared.{literal}
 use Rattle.gb_full.specs.Loss.{first_loss}
-use Rattle.gb_phoare.specs.Hoare.{full}
-use Rattle.gb_loops.specs.LastLoop.{LastLoop, last_loop, written}
+use Rattle.gb_full.specs.Lossless.{full}
+use Rattle.gb_forms.specs.Loops.{turn_goal, written}
+use Rattle.gb_loops.specs.LastLoop.{LastLoop, last_loop}
 use Rattle.gb_loops.specs.Read.{read_in}
 
 -- the invariant and the guard: where a turn begins
@@ -44,12 +45,6 @@ at_end r v k q = implies_form (and_form v (not_form (located r k.guard))) q
 -- The invariant holds, and for all values of the variables that the loop writes, so does what is to hold at its end.
 abbrev pub before_loop : Side → Term → LastLoop → Term → List Var → Term
 before_loop r v k q U = and_form v (all_values (read_in r (at_end r v k q) U) (at_end r v k q))
-
--- what a turn does: it runs in the memory of the loop, beside an empty body where there are two memories
-abbrev pub turn_goal : Side → Term → List Instr → Term → Goal
-turn_goal Left v is p = equiv (body is) (body []) p v
-turn_goal Right v is p = equiv (body []) (body is) p v
-turn_goal r v is p = hoare (body is) p v
 
 -- each turn keeps the invariant, and what stands before the loop leads to where it may begin
 abbrev pub loop_goals : OneBody → Term → LastLoop → List Var → List Goal

@@ -13,11 +13,12 @@ ghost use Rattle.gb_parts.specs.Assigned.{is_clashing};
 ghost use Rattle.gb_loops.specs.LastLoop.{loop_seen};
 ghost use Rattle.gb_loops.specs.While.{at_both_ends, before_both, both_goals, by_both, clashing_both, in_step, turning_both};
 
-use crate::last_loop::{Last, written};
+use crate::last_loop::Last;
 use crate::read::{all_values, read_in};
 use gb_core::copy::copy_var;
 use gb_core::refusal::{Refused, Why};
 use gb_core::var::Var;
+use gb_forms::loops::written;
 use gb_goal::goal::equiv;
 use gb_goal::scope::Scope;
 use gb_goal::sequent::{Sequent, Sequents};

@@ -15,29 +15,30 @@ ghost use Rattle.gb_typing.specs.Sequents.{of_sequent, IsTypedSequent};
 ghost use Rattle.gb_parts.specs.OneBody.{one_seen, side_of};
 ghost use Rattle.gb_prog.specs.Ends.{IsSoundLoopRule};
 ghost use Rattle.gb_loops.specs.LastLoop.{last_loop, loop_seen};
-ghost use Rattle.gb_loops.specs.While.{at_end, before_loop, by_loop, is_certain, kept_weight, loop_goals, turn_goal, turning, while_row, IsTypedInvariant};
+ghost use Rattle.gb_loops.specs.While.{at_end, before_loop, by_loop, is_certain, kept_weight, loop_goals, turning, while_row, IsTypedInvariant};
 
 use crate::both_loops::{Loops, by_both};
-use crate::last_loop::{Last, last_loop, written};
+use crate::last_loop::{Last, last_loop};
 use crate::read::{all_values, read_in};
 use gb_chance::compared::literal;
 use gb_core::copy::copy_var;
 use gb_core::place::Place;
 use gb_core::refusal::{Refused, Why};
 use gb_core::var::Var;
+use gb_forms::loops::{leads_out, turn_goal, written};
 use gb_full::loss::first_loss;
-use gb_goal::goal::{Code, Goal, equiv, goal_of, hoare};
+use gb_full::lossless::full;
+use gb_goal::goal::{Code, Goal, goal_of};
 use gb_goal::scope::Scope;
 use gb_goal::sequent::{Sequent, Sequents};
 use gb_parts::assigned::clashing;
 use gb_parts::forms::located;
 use gb_parts::one_body::{Around, OneBody, filled, side_of};
 use gb_parts::subgoals::{no_shape, placed, refusal, shared_body, two_goals};
-use gb_phoare::hoare::full;
 use gb_steps::step::{Acts, Invariant};
-use gb_terms::make::{conjunction, implication, negation};
+use gb_terms::make::conjunction;
 use gb_terms::op::{Rel, Side};
-use gb_terms::term::{Form, Instr, RealTerm, Term};
+use gb_terms::term::{Form, Instr, RealTerm};
 use sqlite_items::Items;
 use std::alloc::{AllocError, Global};
 
@@ -61,12 +62,7 @@ fn turning(alloc: Global, side: Side, turned: &Loop<'_>) -> Result<Form, AllocEr
 fn at_end(alloc: Global, side: Side, turned: &Loop<'_>, post: &Form) -> Result<Form, AllocError>
     ensures { IfOk result (λ made. made ≡ at_end side turned.now.invariant.now (loop_seen turned.now.last) post.now) }
 {
-    let guard = located(alloc, turned.last.guard, side)?;
-    let guard = negation(alloc, guard)?;
-    let invariant = turned.invariant.share()?;
-    let ended = conjunction(alloc, invariant, guard)?;
-    let post = post.share()?;
-    implication(alloc, ended, post)
+    leads_out(alloc, side, turned.last.guard, turned.invariant, post)
 }
 
 /// The invariant holds, and for all values of the variables that the loop writes, so does what is to hold at its end.
@@ -85,26 +81,6 @@ fn before_loop(
     let all = all_values(alloc, read.as_slice(), ends)?;
     let invariant = turned.invariant.share()?;
     conjunction(alloc, invariant, all)
-}
-
-/// What a turn does, in the memory of the loop.
-fn turn_goal(
-    alloc: Global,
-    side: Side,
-    invariant: &Form,
-    list: &[Instr],
-    pre: Form,
-) -> Result<Form, AllocError>
-    ensures { IfOk result (λ made. made ≡ form_of (turn_goal side invariant.now list.now pre)) }
-{
-    let list = shared_body(alloc, list)?;
-    let empty = shared_body(alloc, &[])?;
-    let post = invariant.share()?;
-    match side {
-        Side::Left => equiv(alloc, list, empty, pre, post),
-        Side::Right => equiv(alloc, empty, list, pre, post),
-        _ => hoare(alloc, list, pre, post),
-    }
 }
 
 /// What stands before the loop leads to where it may begin.

@@ -23,19 +23,15 @@ is_distribution_layer _ = false
 abbrev pub is_distribution : Ty → Bool
 is_distribution t = is_distribution_layer (out-Ty t)
 
-abbrev pub wants_distribution : Option Ty → Bool
-wants_distribution None = false
-wants_distribution (Some t) = is_distribution t
-
 abbrev pub is_program : Language → Bool
 is_program Program = true
 is_program Sampled = true
 is_program _ = false
 
--- a program has a distribution where it samples
-abbrev pub may_be_drawn : Language → Option Ty → Bool
-may_be_drawn Program w = wants_distribution w
-may_be_drawn _ w = true
+-- a program has a distribution where it samples alone
+abbrev pub may_be_drawn : Language → Bool
+may_be_drawn Program = false
+may_be_drawn _ = true
 
 abbrev pub is_number_layer : ty_layer.Ty-F Ty → Bool
 is_number_layer ty_layer.Int = true
@@ -47,17 +43,17 @@ abbrev pub is_number : Ty → Bool
 is_number t = is_number_layer (out-Ty t)
 
 -- a distribution may stand here
-abbrev pub distribution_here : Environment → Option Ty → Place → Answer (Unit {0})
-distribution_here at w p = if may_be_drawn at.language w then given tt else refused Argument p
+abbrev pub distribution_here : Environment → Place → Answer (Unit {0})
+distribution_here at p = if may_be_drawn at.language then given tt else refused Argument p
 
 -- a form of this type may stand here, as far as the language tells
-abbrev pub may_have : Language → Option Ty → Ty → Bool
-may_have l w t = not (is_program l && is_number t) && (not (is_distribution t) || may_be_drawn l w)
+abbrev pub may_have : Language → Ty → Bool
+may_have l t = not (is_program l && is_number t) && (not (is_distribution t) || may_be_drawn l)
 
 -- a form that has this type by its shape may stand where it is wanted
 abbrev pub stands : Environment → Option Ty → Place → Ty → Answer (Unit {0})
 stands at w p t =
-    if may_have at.language w t then (if fits w t then given tt else refused TypeMismatch p) else refused Argument p
+    if may_have at.language t then (if fits w t then given tt else refused TypeMismatch p) else refused Argument p
 
 -- whether judgments may stand in a form
 abbrev pub has_judgments : Language → Bool
@@ -79,5 +75,5 @@ memory_here at p = if has_judgments at.language then given tt else refused Argum
 -- the fair coin
 abbrev pub coin : Environment → Option Ty → Place → Answer Term
 coin at w p = do
-  _ ← distribution_here at w p
+  _ ← distribution_here at p
   wanted w p (node (Builtin op.Coin) [] (Distr bool_ty))

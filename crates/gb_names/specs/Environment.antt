@@ -121,6 +121,18 @@ abbrev pub sampled_in : Language → Language
 sampled_in Program = Sampled
 sampled_in l = l
 
--- .. of a distribution that is sampled where the form is, of whatever type
+abbrev pub valued_in : Language → Language
+valued_in Sampled = Program
+valued_in l = l
+
+-- a form in another language
+abbrev pub speaking : Language → Environment → Environment
+speaking l at = record at { language = l }
+
+-- a distribution that is sampled where the form is, of whatever type
 abbrev pub sampled : Environment → Environment
-sampled at = record at { language = sampled_in at.language }
+sampled at = speaking (sampled_in at.language) at
+
+-- a part that isn't sampled where the form is
+abbrev pub valued : Environment → Environment
+valued at = speaking (valued_in at.language) at

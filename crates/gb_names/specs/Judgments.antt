@@ -1,7 +1,8 @@
 -- The procedures that judgments speak of, and what their conditions read.
 use Rattle.std.specs.Prelude.{List, [], ◌∷◌, ◌++◌, Option, Some, None, if◌then◌else◌, codes}
 use Rattle.gb_core.specs.declared.place.Place.{Place}
-use Rattle.gb_core.specs.declared.refusal.Why.TheVariants.{UnknownName, Argument}
+use Rattle.gb_core.specs.declared.refusal.Why.{Why}
+use Rattle.gb_core.specs.declared.refusal.Why.TheVariants.{Argument}
 use Rattle.gb_core.specs.declared.ty.Ty.TheVariants.{Bool as bool_ty}
 use Rattle.gb_terms.specs.declared.decl.Module.{Module}
 use Rattle.gb_terms.specs.declared.decl.Param.{Param}
@@ -14,7 +15,7 @@ use Rattle.gb_terms.specs.declared.term.Head.TheVariants.{Equiv, Proc as procedu
 use Rattle.gb_terms.specs.Make.{node}
 use Rattle.gb_goal.specs.declared.scope.Entry.{Entry}
 use Rattle.gb_goal.specs.declared.scope.Entry.TheVariants as entry
-use Rattle.gb_goal.specs.Scope.{entry_of, proc_of}
+use Rattle.gb_goal.specs.Scope.{Declarations, entry_of, proc_of}
 use Rattle.gb_script.specs.declared.head.Head.{Head}
 use Rattle.gb_script.specs.declared.head.Head.TheVariants as head
 use Rattle.gb_script.specs.declared.tree.Node.{Node}
@@ -23,21 +24,26 @@ use Rattle.gb_goal.specs.Answers.{Answer, ◌>>=◌, given_or, not_built}
 use Rattle.gb_goal.specs.Answers.Answer.{given, refused}
 use Rattle.gb_names.specs.declared.bindings.Binding.{Binding}
 use Rattle.gb_names.specs.Environment.{Name, Environment, in_judgments, reading, relational}
-use Rattle.gb_names.specs.Names.{is_variable, may_name}
+use Rattle.gb_names.specs.Names.{hidden, may_name, no_declared, no_procedure}
 
 -- a module all of whose parameters are given: it has none
 abbrev pub whole : List Param → Module → Place → Answer Module
 whole [] m p = given m
 whole (q ∷ qs) m p = refused Argument p
 
-abbrev pub module_in : Option Entry → Name → Place → Answer Module
-module_in (Some (entry.Module m)) x p = whole m.params m p
-module_in (Some e) x p = refused Argument p
-module_in None x p = refused (UnknownName x) p
+-- the module that an entry is; no entry is one, for this reason
+abbrev pub module_in : Option Entry → Why → Place → Answer Module
+module_in (Some (entry.Module m)) w p = whole m.params m p
+module_in (Some e) w p = refused Argument p
+module_in None w p = refused w p
 
--- the module of this name
+-- the declared module of a name, or what the name means inside of a module
+abbrev pub declared_module : Option Module → Declarations → Name → Place → Answer Module
+declared_module inside ds x p = module_in (entry_of ds x) (no_declared inside ds x) p
+
+-- the module of this name, where nothing nearer has it; those of the context aren't built yet
 unfoldable pub known_module : Environment → List Binding → Name → Place → Answer Module
-known_module at bound x p = if is_variable at bound x then refused Argument p else module_in (entry_of at.declared x) x p
+known_module at bound x p = if hidden at bound x then refused Argument p else declared_module at.inside at.declared x p
 
 -- .. whose loops are proved to end, and those of all that it names
 unfoldable pub named_module : Environment → List Binding → Name → Place → Answer Module
@@ -67,7 +73,7 @@ reference f = record { «module» = mexp.Name f.0; name = text_of f.1 }
 unfoldable pub procedure_at : Environment → List Binding → Path → Place → Answer Named
 procedure_at at bound f p = do
   m ← named_module at bound f.0 p
-  d ← given_or (proc_of m.procs (text_of f.1)) (UnknownName (text_of f.1)) (place_of f.1)
+  d ← given_or (proc_of m.procs (text_of f.1)) (no_procedure m (text_of f.1)) (place_of f.1)
   given (reference f, d)
 
 -- the procedure that a judgment names; one of a module with arguments isn't built yet

@@ -22,7 +22,7 @@ use Rattle.gb_terms.specs.Make.{node}
 use Rattle.gb_goal.specs.declared.sequent.Sequent.{Sequent}
 use Rattle.gb_goal.specs.declared.scope.Constant.{Constant}
 use Rattle.gb_goal.specs.declared.scope.OperatorType.{OperatorType}
-use Rattle.gb_goal.specs.Scope.{Declarations, constant_named, entry_of, module_of, operator_named, path_of}
+use Rattle.gb_goal.specs.Scope.{Declarations, constant_named, entry_of, module_of, operator_named, path_of, proc_of}
 use Rattle.gb_goal.specs.declared.scope.ProcName.{ProcName}
 use Rattle.gb_ended.specs.Ended.{first_unproved}
 use Rattle.gb_script.specs.declared.head.Head.{Head}
@@ -113,14 +113,6 @@ names_no_value s x =
     || list_any (λ m. bytes_eq m.name x) s.modules
     || list_any (λ h. bytes_eq h.name x) s.hyps
 
--- a thing that is no variable has this name
-abbrev pub names_other : Environment → Name → Bool
-names_other at x = names_no_value at.sequent x || is_some (entry_of at.declared x)
-
--- a name that no variable has
-abbrev pub unbound : Environment → Name → Place → Answer Term
-unbound at x p = if names_other at x then refused Argument p else refused (UnknownName x) p
-
 -- a global: the name of its module, and the variable there
 abbrev pub ModuleVariable : Type 0
 ModuleVariable = Name × TypedName
@@ -143,6 +135,32 @@ own_global (Some m) x = global_in m.name (Some m) x
 -- A global is named by its module's name and its own, with a dot between, and inside of its module by its own name alone.
 unfoldable pub global_at : Environment → Name → Option ModuleVariable
 global_at at x = option_map_or (λ w. global_in w.0 (module_if at.inside at.declared w.0) w.1) (rsplit_once dot x) (own_global at.inside x)
+
+-- a module has a global or a procedure of this name
+abbrev pub has_member : Option Module → Name → Bool
+has_member None x = false
+has_member (Some m) x = is_some (first_named m.globals x) || is_some (proc_of m.procs x)
+
+-- a global or a procedure of the module around, or of a declared one, has this name
+unfoldable pub names_member : Option Module → Declarations → Name → Bool
+names_member inside ds x = option_map_or (λ w. has_member (module_if inside ds w.0) w.1) (rsplit_once dot x) false
+
+-- why a name means nothing that is declared and of the kind that is asked for: another thing has it, or nothing
+abbrev pub no_declared : Option Module → Declarations → Name → Why
+no_declared inside ds x =
+    if is_some (entry_of ds x) || is_some (built_in x) || names_member inside ds x then Argument else UnknownName x
+
+-- why a name is that of no procedure of a module: a global of it has the name, or nothing
+abbrev pub no_procedure : Module → Name → Why
+no_procedure m x = if is_some (first_named m.globals x) then Argument else UnknownName x
+
+-- a thing that is no variable has this name
+abbrev pub names_other : Environment → Name → Bool
+names_other at x = names_no_value at.sequent x || is_some (entry_of at.declared x) || names_member at.inside at.declared x
+
+-- a name that no variable has
+abbrev pub unbound : Environment → Name → Place → Answer Term
+unbound at x p = if names_other at x then refused Argument p else refused (UnknownName x) p
 
 -- a read of a global through a memory
 abbrev pub global_variable : Side → ModuleVariable → Term
@@ -180,6 +198,26 @@ unsided at p g = do
   _ ← may_name at g.0 p
   if has_own at.variables then given (global_variable side.Own g) else refused Argument p
 
+-- why a name means no variable of a program: another thing has it, or nothing
+abbrev pub no_variable : Environment → Name → Why
+no_variable at x =
+    if is_some (first_named at.sequent.logical x) || is_some (built_in x) || names_other at x then Argument else UnknownName x
+
+-- a variable of one of two programs has this name
+abbrev pub is_on_side : Environment → Side → Name → Bool
+is_on_side at s x = option_map_or (λ vs. is_some (first_named vs x)) (on_side at s) false
+
+-- .. of either of them, which is read with its side alone
+abbrev pub needs_side : Environment → Name → Bool
+needs_side at x = is_on_side at side.Left x || is_on_side at side.Right x
+
+-- the name of a logical variable of the context, or of a global
+abbrev pub named_around : Environment → Name → Place → Answer Term
+named_around at x p =
+    option_map_or (logical_variable (number_before at.sequent.logical x))
+    (first_named at.sequent.logical x)
+    (option_map_or (unsided at p) (global_at at x) (unbound at x p))
+
 -- A name without a side is that of a thing that is bound in the form, the innermost first, of a variable of the
 -- program around, of a logical variable of the context, or of a global.
 unfoldable pub named : Environment → List Binding → Name → Place → Answer Term
@@ -188,9 +226,7 @@ named at bound x p =
     (innermost bound x)
     (option_map_or (λ v. given (program_variable side.Own v))
     (first_named (own at) x)
-    (option_map_or (logical_variable (number_before at.sequent.logical x))
-    (first_named at.sequent.logical x)
-    (option_map_or (unsided at p) (global_at at x) (unbound at x p))))
+    (if needs_side at x then refused (no_variable at x) p else named_around at x p))
 
 -- what is bound in the form, or a logical variable of the context, has this name
 abbrev pub is_variable : Environment → List Binding → Name → Bool
@@ -199,7 +235,8 @@ is_variable at bound x = is_some (innermost bound x) || is_some (first_named at.
 -- a thing that is nearer than the declarations has this name
 abbrev pub hidden : Environment → List Binding → Name → Bool
 hidden at bound x =
-    is_variable at bound x || (is_some (first_named (own at) x) || (names_no_value at.sequent x || is_some (own_global at.inside x)))
+    is_variable at bound x
+    || (is_some (first_named (own at) x) || (needs_side at x || (names_no_value at.sequent x || is_some (own_global at.inside x))))
 
 -- the built-in thing that a name means, where nothing else has it
 abbrev pub known_at : Environment → List Binding → Name → Option Known
@@ -212,11 +249,6 @@ constant_at at bound x = if hidden at bound x then None else constant_named at.d
 -- the operator of the script that a name means
 abbrev pub operator_at : Environment → List Binding → Name → Option OperatorType
 operator_at at bound x = if hidden at bound x then None else operator_named at.declared x
-
--- why a name means no variable of a program: another thing has it, or nothing
-abbrev pub no_variable : Environment → Name → Why
-no_variable at x =
-    if is_some (first_named at.sequent.logical x) || names_other at x || is_some (built_in x) then Argument else UnknownName x
 
 -- a variable that a statement writes, with its type
 abbrev pub Target : Type 0

@@ -1,9 +1,8 @@
 -- The types of values that a script spells.
-use Rattle.std.specs.Prelude.{ℕ, ◌==◌, ◌||◌, nat_lt, if◌then◌else◌, List, [], ◌∷◌, map, take, drop, Option, Some, None, is_some, codes, bytes_eq}
+use Rattle.std.specs.Prelude.{ℕ, ◌==◌, ◌||◌, nat_lt, if◌then◌else◌, List, [], ◌∷◌, map, take, drop, Option, Some, None, codes, bytes_eq}
 use Rattle.std.specs.Option.{option_map_or}
 use Rattle.gb_core.specs.declared.place.Place.{Place}
-use Rattle.gb_core.specs.declared.refusal.Why.{Why}
-use Rattle.gb_core.specs.declared.refusal.Why.TheVariants.{Argument, TypeMismatch, UnknownName}
+use Rattle.gb_core.specs.declared.refusal.Why.TheVariants.{Argument, TypeMismatch}
 use Rattle.gb_core.specs.declared.ty.Ty.{Ty}
 use Rattle.gb_core.specs.declared.ty.Ty.TheVariants as ty
 use Rattle.gb_script.specs.declared.head.Head.{Head}
@@ -11,10 +10,10 @@ use Rattle.gb_script.specs.declared.head.Head.TheVariants as head
 use Rattle.gb_script.specs.declared.tree.Node.{Node, para-Node}
 use Rattle.gb_script.specs.Tree.{place_of, text_of}
 use Rattle.gb_limits.specs.Numbers.{number_of}
-use Rattle.gb_goal.specs.Scope.{Declarations, entry_of, type_named}
+use Rattle.gb_goal.specs.Scope.{Declarations, type_named}
 use Rattle.gb_goal.specs.Answers.{Answer, ◌>>=◌, given_or, not_built}
 use Rattle.gb_goal.specs.Answers.Answer.{given, refused}
-use Rattle.gb_names.specs.Names.{path}
+use Rattle.gb_names.specs.Names.{no_declared, path}
 
 -- What a type means in the scope of declarations, where the whole type that is written stands at a place.
 abbrev pub Spelling : Type 0
@@ -89,13 +88,9 @@ tuple_type ps ds p = do
   ts ← all_spelled (take 8 ps) ds p
   tuple_of ts (drop 8 ps)
 
--- why a name stands for no type: another thing has it, or nothing
-abbrev pub no_type : Declarations → List ℕ → Why
-no_type ds x = if is_some (entry_of ds x) then Argument else UnknownName x
-
 -- the type that a name stands for, where the name stands at a place
 abbrev pub declared_type : Declarations → List ℕ → Place → Answer Ty
-declared_type ds x q = given_or (type_named ds x) (no_type ds x) q
+declared_type ds x q = given_or (type_named ds x) (no_declared None ds x) q
 
 -- parts without what they spell
 abbrev pub words : List (Node × Spelling) → List Node

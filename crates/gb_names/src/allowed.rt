@@ -9,7 +9,7 @@ ghost use Rattle.gb_goal.specs.Answers.{Answers};
 ghost use Rattle.gb_names.specs.Wanted.{truth};
 ghost use Rattle.gb_goal.specs.Answers.Answer.{given};
 ghost use Rattle.gb_names.specs.Environment.{environment};
-ghost use Rattle.gb_names.specs.Allowed.{coin, distribution_here, formula, is_program, judgment, may_be_drawn, may_have, memory_here, stands, wants_distribution};
+ghost use Rattle.gb_names.specs.Allowed.{coin, distribution_here, formula, is_distribution, is_program, judgment, may_be_drawn, may_have, memory_here, stands};
 
 use crate::refusals::{argument, mismatch};
 use crate::setting::{Language, Setting};
@@ -75,21 +75,21 @@ pub fn memory_here(at: &Setting<'_>, place: Place) -> Result<(), Refused>
     }
 }
 
-/// Whether a distribution may stand where a type is wanted, or none.
-fn may_be_drawn(language: Language, want: Option<&Ty>) -> bool
-    ensures { result ≡ may_be_drawn language (option_copied want.entry) }
+/// Whether a distribution may stand in a form of this language.
+fn may_be_drawn(language: Language) -> bool
+    ensures { result ≡ may_be_drawn language }
 {
     match language {
-        Language::Program => is_distribution(want),
+        Language::Program => false,
         _ => true,
     }
 }
 
 /// Refuses a distribution in a program that samples nothing there.
-pub fn distribution_here(at: &Setting<'_>, want: Option<&Ty>, place: Place) -> Result<(), Refused>
-    ensures { Answers (distribution_here (environment at.now) (option_copied want.entry) place) result }
+pub fn distribution_here(at: &Setting<'_>, place: Place) -> Result<(), Refused>
+    ensures { Answers (distribution_here (environment at.now) place) result }
 {
-    if may_be_drawn(at.language, want) {
+    if may_be_drawn(at.language) {
         Ok(())
     } else {
         Err(argument(place))
@@ -97,12 +97,12 @@ pub fn distribution_here(at: &Setting<'_>, want: Option<&Ty>, place: Place) -> R
 }
 
 /// Whether a form of this type may stand in a language.
-fn may_have(language: Language, want: Option<&Ty>, ty: &Ty) -> bool
-    ensures { result ≡ may_have language (option_copied want.entry) ty.now }
+fn may_have(language: Language, ty: &Ty) -> bool
+    ensures { result ≡ may_have language ty.now }
 {
     match ty {
         Ty::Int | Ty::Real => !is_program(language),
-        Ty::Distr(_) => may_be_drawn(language, want),
+        Ty::Distr(_) => may_be_drawn(language),
         _ => true,
     }
 }
@@ -112,7 +112,7 @@ fn may_have(language: Language, want: Option<&Ty>, ty: &Ty) -> bool
 pub fn stands(at: &Setting<'_>, want: Option<&Ty>, place: Place, ty: &Ty) -> Result<(), Refused>
     ensures { Answers (stands (environment at.now) (option_copied want.entry) place ty.now) result }
 {
-    if !may_have(at.language, want, ty) {
+    if !may_have(at.language, ty) {
         Err(argument(place))
     } else if fits(ty, want) {
         Ok(())
@@ -130,7 +130,7 @@ pub fn coin(
 ) -> Result<Term, Refused>
     ensures { Answers (coin (environment at.now) (option_copied want.entry) place) result }
 {
-    distribution_here(at, want, place)?;
+    distribution_here(at, place)?;
     wanted(fair_coin(alloc), want, place)
 }
 
@@ -143,12 +143,12 @@ fn fair_coin(alloc: Global) -> Result<Term, Refused>
     make::leaf(alloc, Head::Builtin(Op::Coin), ty).map_err(Refused::from)
 }
 
-/// Whether a distribution is wanted.
-pub fn is_distribution(want: Option<&Ty>) -> bool
-    ensures { result ≡ wants_distribution (option_copied want.entry) }
+/// Whether a type is one of distributions.
+pub fn is_distribution(ty: &Ty) -> bool
+    ensures { result ≡ is_distribution ty.now }
 {
-    match want {
-        Some(Ty::Distr(_)) => true,
+    match ty {
+        Ty::Distr(_) => true,
         _ => false,
     }
 }

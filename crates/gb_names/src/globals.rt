@@ -1,23 +1,23 @@
-// Globals, which forms and statements name by a module and a word.
+// Globals, which forms and statements name by a module and a word, and what else has such a name.
 
 ghost use Rattle.std.specs.Prelude.{◌≡◌, IfOk, is_some};
 ghost use Rattle.std.specs.Option.{option_copied, option_map};
 ghost use Rattle.std.specs.Path.{dot, rsplit_once};
-ghost use Rattle.gb_goal.specs.Answers.{Answers};
+ghost use Rattle.gb_goal.specs.Answers.{Answers, Refuses};
 ghost use Rattle.gb_goal.specs.Answers.Answer.{given};
 ghost use Rattle.gb_names.specs.Environment.{environment};
-ghost use Rattle.gb_names.specs.Names.{global_at, global_in, global_target, global_variable, has_own, module_if, own_global, read_global, unsided};
+ghost use Rattle.gb_names.specs.Names.{global_at, global_in, global_target, global_variable, has_member, has_own, module_if, names_member, no_declared, no_procedure, own_global, read_global, unsided};
 
 use crate::ended::check_ended;
-use crate::names::first_named;
-use crate::refusals::argument;
+use crate::names::{built_in, first_named};
+use crate::refusals::{argument, unknown};
 use crate::setting::{Setting, Variables};
 use gb_core::name::Name;
 use gb_core::place::Place;
 use gb_core::refusal::Refused;
 use gb_core::ty::Ty;
 use gb_core::var::Var;
-use gb_goal::scope::Scope;
+use gb_goal::scope::{Scope, procedure_named};
 use gb_shared::Shared;
 use gb_terms::decl::{Module, TypedName};
 use gb_terms::make;
@@ -101,6 +101,70 @@ pub fn global_at<'a>(
             let module = module_if(at.inside, at.scope, &owner);
             Ok(global_in(owner, module, &own))
         }
+    }
+}
+
+/// Whether a module has a global or a procedure of this name.
+fn has_member(module: Option<&Module>, name: &Name) -> bool
+    ensures { result ≡ has_member (option_copied «module».entry) name.now }
+{
+    match module {
+        None => false,
+        Some(module) => {
+            first_named(module.globals.as_slice(), name).is_some()
+                || procedure_named(module.procs.as_slice(), name).is_some()
+        }
+    }
+}
+
+/// Whether a global or a procedure of the module around, or of a declared one, has this name.
+#[tactic(auto, unfolding(crate::specs::Names::names_member))]
+pub fn names_member(
+    alloc: Global,
+    inside: Option<&Module>,
+    scope: &Scope,
+    name: &Name,
+) -> Result<bool, AllocError>
+    ensures { IfOk result (λ found. found ≡ names_member (option_copied inside.entry) scope.now name.now) }
+{
+    match parts_of(name) {
+        None => Ok(false),
+        Some((owner, own)) => {
+            let owner = Name::from_str(alloc, owner)?;
+            let own = Name::from_str(alloc, own)?;
+            Ok(has_member(module_if(inside, scope, &owner), &own))
+        }
+    }
+}
+
+/// The refusal of a name that means nothing that is declared and of the kind that is asked for: another thing has it, or nothing.
+pub fn no_declared(
+    alloc: Global,
+    inside: Option<&Module>,
+    scope: &Scope,
+    name: &Name,
+    place: Place,
+) -> Refused
+    ensures { Refuses (no_declared (option_copied inside.entry) scope.now name.now) place result }
+{
+    if scope.entry(name).is_some() || built_in(name).is_some() {
+        return argument(place);
+    }
+    match names_member(alloc, inside, scope, name) {
+        Ok(true) => argument(place),
+        Ok(false) => unknown(alloc, name, place),
+        Err(_) => Refused::NoMemory,
+    }
+}
+
+/// The refusal of a name that is that of no procedure of a module: a global of it has the name, or nothing.
+pub fn no_procedure(alloc: Global, module: &Module, name: &Name, place: Place) -> Refused
+    ensures { Refuses (no_procedure «module».now name.now) place result }
+{
+    if first_named(module.globals.as_slice(), name).is_some() {
+        argument(place)
+    } else {
+        unknown(alloc, name, place)
     }
 }
 

@@ -6,14 +6,14 @@ ghost use Rattle.gb_terms.specs.Make.{node};
 ghost use Rattle.gb_terms.specs.declared.term.Head.TheVariants.{Equiv, Proc as procedure};
 ghost use Rattle.gb_script.specs.Tree.{text_of, parts_of, place_of};
 ghost use Rattle.gb_goal.specs.Answers.{Answers, Gives};
-ghost use Rattle.gb_goal.specs.Scope.{entry_of};
 ghost use Rattle.gb_names.specs.Environment.{environment};
-ghost use Rattle.gb_names.specs.Judgments.{about_procedure, both_procedures, equivalent, known_module, module_in, named_module, named_procedure, one_procedure, procedure_at, procedure_path, reference, result_of};
+ghost use Rattle.gb_names.specs.Judgments.{about_procedure, both_procedures, declared_module, equivalent, known_module, named_module, named_procedure, one_procedure, procedure_at, procedure_path, reference, result_of};
 
 use crate::bindings::Binding;
 use crate::ended::check_ended;
-use crate::names::{append, is_variable};
-use crate::refusals::{argument, not_built, unknown};
+use crate::globals::{no_declared, no_procedure};
+use crate::names::{append, hidden};
+use crate::refusals::{argument, not_built};
 use crate::setting::Setting;
 use gb_core::name::Name;
 use gb_core::place::Place;
@@ -31,16 +31,21 @@ use sqlite_items::Items;
 use std::alloc::{AllocError, Global};
 
 /// The declared module of this name, all of whose parameters are given: it has none.
+///
+/// # Errors
+///
+/// `UnknownName` of a name that nothing has, `Argument` of another thing and of a module that lacks arguments.
 pub fn declared_module<'a>(
     alloc: Global,
+    inside: Option<&Module>,
     scope: &'a Scope,
     name: &Name,
     place: Place,
 ) -> Result<&'a Module, Refused>
-    ensures { Gives (λ m. m.now) (module_in (entry_of scope.now name.now) name.now place) result }
+    ensures { Gives (λ m. m.now) (declared_module (option_copied inside.entry) scope.now name.now place) result }
 {
     match scope.entry(name) {
-        None => Err(unknown(alloc, name, place)),
+        None => Err(no_declared(alloc, inside, scope, name, place)),
         Some(Entry::Module(m)) => {
             if m.params.is_empty() {
                 Ok(m)
@@ -52,7 +57,7 @@ pub fn declared_module<'a>(
     }
 }
 
-/// The same, where no variable has the name.
+/// The same, where nothing nearer has the name.
 #[tactic(auto, unfolding(crate::specs::Judgments::known_module))]
 fn known_module<'a>(
     alloc: Global,
@@ -63,10 +68,10 @@ fn known_module<'a>(
 ) -> Result<&'a Module, Refused>
     ensures { Gives (λ m. m.now) (known_module (environment at.now) bound.now name.now place) result }
 {
-    if is_variable(at, bound, name) {
+    if hidden(at, bound, name) {
         return Err(argument(place));
     }
-    declared_module(alloc, at.scope, name, place)
+    declared_module(alloc, at.inside, at.scope, name, place)
 }
 
 /// The module of this name, whose loops are proved to end, and those of all that it names.
@@ -136,7 +141,7 @@ fn procedure_at<'a>(
                 procedure,
             })
         }
-        None => Err(unknown(alloc, &name.text, name.place)),
+        None => Err(no_procedure(alloc, within, &name.text, name.place)),
     }
 }
 

@@ -9,10 +9,12 @@ ghost use Rattle.gb_goal.specs.Answers.{Answers, Fails, Gives, Refuses};
 ghost use Rattle.gb_names.specs.Wanted.{counted};
 ghost use Rattle.gb_goal.specs.Answers.Answer.{given};
 ghost use Rattle.gb_names.specs.Environment.{environment};
-ghost use Rattle.gb_names.specs.Names.{beside, bound_thing, bound_variable, built_in, constant_at, dotted, first_named, hidden, is_variable, known_at, logical_variable, named, names_no_value, names_other, no_variable, number_before, operator_at, path, program_variable, side_of, sided, target, unbound, unit, variable_on};
+ghost use Rattle.gb_names.specs.Names.{beside, bound_thing, bound_variable, built_in, constant_at, dotted, first_named, hidden, is_on_side, is_variable, known_at, logical_variable, named, named_around, names_no_value, names_other, needs_side, no_variable, number_before, operator_at, path, program_variable, side_of, sided, target, unbound, unit, variable_on};
 
 use crate::bindings::{Binding, Kind, binders_inside, innermost};
-use crate::globals::{Target, global_at, global_target, is_own_global, read_global, unsided};
+use crate::globals::{
+    Target, global_at, global_target, is_own_global, names_member, read_global, unsided,
+};
 use crate::memories::remembered;
 use crate::refusals::{argument, not_built, too_many, unknown};
 use crate::setting::Setting;
@@ -230,24 +232,58 @@ fn names_no_value(s: &Sequent, name: &Name) -> bool
 }
 
 /// Whether a thing that is no variable has this name.
-fn names_other(at: &Setting<'_>, name: &Name) -> bool
-    ensures { result ≡ names_other (environment at.now) name.now }
+fn names_other(alloc: Global, at: &Setting<'_>, name: &Name) -> Result<bool, AllocError>
+    ensures { IfOk result (λ found. found ≡ names_other (environment at.now) name.now) }
 {
-    names_no_value(at.sequent, name) || at.scope.entry(name).is_some()
+    if names_no_value(at.sequent, name) || at.scope.entry(name).is_some() {
+        return Ok(true);
+    }
+    names_member(alloc, at.inside, at.scope, name)
 }
 
 /// The refusal of a name that no variable has.
 fn unbound(alloc: Global, at: &Setting<'_>, name: &Name, place: Place) -> Refused
     ensures { Fails (unbound (environment at.now) name.now place) result }
 {
-    if names_other(at, name) {
-        argument(place)
-    } else {
-        unknown(alloc, name, place)
+    match names_other(alloc, at, name) {
+        Ok(true) => argument(place),
+        Ok(false) => unknown(alloc, name, place),
+        Err(_) => Refused::NoMemory,
     }
 }
 
-/// The meaning of a name without a side. Where two programs are around, their variables have none without it.
+/// Whether a variable of one of two programs has this name.
+fn is_on_side(at: &Setting<'_>, side: Side, name: &Name) -> bool
+    ensures { result ≡ is_on_side (environment at.now) side name.now }
+{
+    match at.on_side(side) {
+        Some(locals) => first_named(locals, name).is_some(),
+        None => false,
+    }
+}
+
+/// Whether a variable of either of two programs has this name.
+fn needs_side(at: &Setting<'_>, name: &Name) -> bool
+    ensures { result ≡ needs_side (environment at.now) name.now }
+{
+    is_on_side(at, Side::Left, name) || is_on_side(at, Side::Right, name)
+}
+
+/// The meaning of a name that nothing nearer than the context has.
+fn named_around(alloc: Global, at: &Setting<'_>, name: &Name, place: Place) -> Result<Term, Refused>
+    ensures { Answers (named_around (environment at.now) name.now place) result }
+{
+    let logical = at.sequent.logical.as_slice();
+    if let Some(x) = first_named(logical, name) {
+        return logical_variable(alloc, number_before(logical, name), x);
+    }
+    match global_at(alloc, at, name)? {
+        Some(global) => unsided(alloc, at, place, global),
+        None => Err(unbound(alloc, at, name, place)),
+    }
+}
+
+/// The meaning of a name without a side. Where two programs are around, it is none of their variables', and hidden by them.
 ///
 /// # Errors
 ///
@@ -268,29 +304,27 @@ pub fn named(
     if let Some(x) = first_named(at.own(), name) {
         return program_variable(alloc, x, Side::Own);
     }
-    let logical = at.sequent.logical.as_slice();
-    if let Some(x) = first_named(logical, name) {
-        return logical_variable(alloc, number_before(logical, name), x);
-    }
-    match global_at(alloc, at, name)? {
-        Some(global) => unsided(alloc, at, place, global),
-        None => Err(unbound(alloc, at, name, place)),
+    if needs_side(at, name) {
+        Err(no_variable(alloc, at, name, place))
+    } else {
+        named_around(alloc, at, name, place)
     }
 }
 
 /// Whether what is bound in the form, or a logical variable of the context, has this name.
-pub fn is_variable(at: &Setting<'_>, bound: &[Binding], name: &Name) -> bool
+fn is_variable(at: &Setting<'_>, bound: &[Binding], name: &Name) -> bool
     ensures { result ≡ is_variable (environment at.now) bound.now name.now }
 {
     innermost(bound, name).is_some() || first_named(at.sequent.logical.as_slice(), name).is_some()
 }
 
 /// Whether a thing that is nearer than the declarations has this name.
-fn hidden(at: &Setting<'_>, bound: &[Binding], name: &Name) -> bool
+pub fn hidden(at: &Setting<'_>, bound: &[Binding], name: &Name) -> bool
     ensures { result ≡ hidden (environment at.now) bound.now name.now }
 {
     is_variable(at, bound, name)
         || first_named(at.own(), name).is_some()
+        || needs_side(at, name)
         || names_no_value(at.sequent, name)
         || is_own_global(at, name)
 }
@@ -337,10 +371,13 @@ pub fn no_variable(alloc: Global, at: &Setting<'_>, name: &Name, place: Place) -
     ensures { Refuses (no_variable (environment at.now) name.now) place result }
 {
     let logical = at.sequent.logical.as_slice();
-    if first_named(logical, name).is_some() || names_other(at, name) || built_in(name).is_some() {
-        argument(place)
-    } else {
-        unknown(alloc, name, place)
+    if first_named(logical, name).is_some() || built_in(name).is_some() {
+        return argument(place);
+    }
+    match names_other(alloc, at, name) {
+        Ok(true) => argument(place),
+        Ok(false) => unknown(alloc, name, place),
+        Err(_) => Refused::NoMemory,
     }
 }
 

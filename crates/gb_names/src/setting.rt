@@ -2,7 +2,7 @@
 
 ghost use Rattle.std.specs.Prelude.{◌≡◌};
 ghost use Rattle.std.specs.Option.{option_copied};
-ghost use Rattle.gb_names.specs.Environment.{environment, ambient, in_arguments, in_judgments, may_read, memories_seen, of_function, of_operator, own_of, program, reading, relational, sampled, sampled_in, sides_of, statement, unary};
+ghost use Rattle.gb_names.specs.Environment.{environment, ambient, in_arguments, in_judgments, may_read, memories_seen, of_function, of_operator, own_of, program, reading, relational, sampled, sampled_in, sides_of, speaking, statement, unary, valued, valued_in};
 
 use gb_core::name::Name;
 use gb_goal::scope::Scope;
@@ -133,6 +133,15 @@ impl Language {
     {
         match self {
             Language::Program => Language::Sampled,
+            other => other,
+        }
+    }
+
+    fn valued(self) -> Language
+        ensures { result ≡ valued_in self }
+    {
+        match self {
+            Language::Sampled => Language::Program,
             other => other,
         }
     }
@@ -288,13 +297,27 @@ impl<'a> Setting<'a> {
     pub fn sampled(&self) -> Setting<'a>
         ensures { environment result ≡ sampled (environment self.now) }
     {
+        self.speaking(self.language.sampled())
+    }
+
+    /// The setting of a part that isn't sampled where the form is.
+    pub fn valued(&self) -> Setting<'a>
+        ensures { environment result ≡ valued (environment self.now) }
+    {
+        self.speaking(self.language.valued())
+    }
+
+    /// The same setting, of a form in another language.
+    fn speaking(&self, language: Language) -> Setting<'a>
+        ensures { environment result ≡ speaking language (environment self.now) }
+    {
         Setting {
             scope: self.scope,
             inside: self.inside,
             sequent: self.sequent,
             variables: self.variables.borrow(),
             memories: self.memories,
-            language: self.language.sampled(),
+            language,
         }
     }
 

@@ -3,13 +3,14 @@
 ghost use Rattle.std.specs.Prelude.{◌≡◌, ◌≤◌, IfOk, Some, None, take, codes, bytes_eq, if◌then◌else◌};
 ghost use Rattle.std.specs.Option.{option_copied};
 ghost use Rattle.gb_terms.specs.declared.term.Term.{Term};
-ghost use Rattle.gb_goal.specs.Answers.{Answer, Answers, Refuses, ◌>>=◌ as ◌and_then◌};
+ghost use Rattle.gb_goal.specs.Answers.{Answer, Answers, ◌>>=◌ as ◌and_then◌};
 ghost use Rattle.gb_names.specs.Names.{path};
 ghost use Rattle.gb_names.specs.Wanted.{fits, wanted};
-ghost use Rattle.gb_names.specs.Types.{all_spelled, bits_type, bracketed_type, declared_type, int_type, map_type, no_type, number_type, number_typing, option_type, plain_type, spelled, spelling, tuple_type, type_of, type_or_number, up_to, with_number_types, with_spellings};
+ghost use Rattle.gb_names.specs.Types.{all_spelled, bits_type, bracketed_type, declared_type, int_type, map_type, number_type, number_typing, option_type, plain_type, spelled, spelling, tuple_type, type_of, type_or_number, up_to, with_number_types, with_spellings};
 
+use crate::globals::no_declared;
 use crate::names::path;
-use crate::refusals::{argument, mismatch, not_built, unknown};
+use crate::refusals::{argument, mismatch, not_built};
 use gb_core::copy::copy_ty;
 use gb_core::name::Name;
 use gb_core::place::Place;
@@ -144,24 +145,13 @@ fn tuple_type(alloc: Global, scope: &Scope, parts: &[Node], place: Place) -> Res
     }
 }
 
-/// Why a name stands for no type: another thing has it, or nothing.
-fn no_type(alloc: Global, scope: &Scope, name: &Name, own: Place) -> Refused
-    ensures { Refuses (no_type scope.now name.now) own result }
-{
-    if scope.entry(name).is_some() {
-        argument(own)
-    } else {
-        unknown(alloc, name, own)
-    }
-}
-
 /// The type that a name stands for, where the name stands at a place.
 fn declared_type(alloc: Global, scope: &Scope, name: &Name, own: Place) -> Result<Ty, Refused>
     ensures { Answers (declared_type scope.now name.now own) result }
 {
     match scope.type_named(alloc, name)? {
         Some(ty) => copy_ty(alloc, ty.get()).map_err(Refused::from),
-        None => Err(no_type(alloc, scope, name, own)),
+        None => Err(no_declared(alloc, None, scope, name, own)),
     }
 }
 

@@ -27,11 +27,12 @@ source_wanted Measure at w p = do
   _ ← stands at w p ty.Real
   given None
 source_wanted Image at w p = do
-  _ ← distribution_here at w p
+  _ ← distribution_here at p
   _ ← part_wanted outcome w p
   given None
 source_wanted Restriction at w p = do
-  _ ← distribution_here at w p
+  _ ← distribution_here at p
+  _ ← part_wanted outcome w p
   given w
 
 abbrev pub outcome_wanted : Option Ty → Option Ty
@@ -57,6 +58,8 @@ drawn_head Restriction = head.Restrict
 -- the uniform distribution over the values of a type
 abbrev pub uniform : List Node → Place → Environment → Option Ty → Answer Term
 uniform (s ∷ []) p at w = do
+  _ ← distribution_here at p
+  _ ← part_wanted outcome w p
   t ← type_of at.declared s
   _ ← stands at w p (ty.Distr t)
   if is_small t then given (node (head.Builtin op.Uniform) [] (ty.Distr t)) else refused TypeTooLarge p

@@ -14,7 +14,6 @@ use Rattle.gb_terms.specs.Make.{node}
 use Rattle.gb_script.specs.declared.head.Head.{Head}
 use Rattle.gb_script.specs.declared.head.Head.TheVariants as head
 use Rattle.gb_script.specs.declared.tree.Node.{Node, para-Node}
-use Rattle.gb_script.specs.Tree.{place_of}
 use Rattle.gb_goal.specs.Answers.{Answer, ◌>>=◌, not_built}
 use Rattle.gb_goal.specs.Answers.Answer.{given, refused}
 use Rattle.gb_names.specs.Environment.{Name, Environment}
@@ -60,12 +59,27 @@ number_in = para-Node (Option ℕ) (λ l. numbering l.head l.text l.parts)
 abbrev pub with_numbers : List Node → List (Node × Option ℕ)
 with_numbers ts = map (λ t. (t, number_in t)) ts
 
+abbrev pub inner_place : List (Node × Place) → Place → Place
+inner_place (a ∷ []) p = a.1
+inner_place _ p = p
+
+-- the place of a form; brackets round it are passed over
+unfoldable pub placing : Head → List (Node × Place) → Place → Place
+placing head.Bracketed ps p = inner_place ps p
+placing _ ps p = p
+
+unfoldable pub place_inside : Node → Place
+place_inside = para-Node Place (λ l. placing l.head l.parts l.place)
+
+abbrev pub with_places : List Node → List (Node × Place)
+with_places ts = map (λ t. (t, place_inside t)) ts
+
 -- a number from 1 to 65,536, below which a sum counts
 abbrev pub is_bound : ℕ → Bool
 is_bound n = nat_lt 0 n && nat_lt n 65537
 
 abbrev pub bound_of : Node → Answer ℕ
-bound_of q = option_map_or (λ n. if is_bound n then given n else refused Argument (place_of q)) (number_in q) (refused Argument (place_of q))
+bound_of q = option_map_or (λ n. if is_bound n then given n else refused Argument (place_inside q)) (number_in q) (refused Argument (place_inside q))
 
 abbrev pub divisor : List (Node × Option ℕ) → Option ℕ
 divisor (a ∷ []) = number_in a.0

@@ -112,7 +112,7 @@ operand_wanted prefix.Absolute at w p = do
 operand_wanted prefix.Some at w p = part_wanted inside_option w p
 operand_wanted prefix.Oget at w p = option_wanted w p
 operand_wanted prefix.Dunit at w p = do
-  _ ← distribution_here at w p
+  _ ← distribution_here at p
   part_wanted outcome w p
 
 -- the type of what an operator gives of an operand, if it takes one of its type

@@ -14,7 +14,6 @@ use Rattle.gb_terms.specs.Make.{node, applied}
 use Rattle.gb_goal.specs.Answers.{Answer, ◌>>=◌, given_or, not_built}
 use Rattle.gb_goal.specs.Answers.Answer.{given, refused}
 use Rattle.gb_script.specs.declared.tree.Node.{Node}
-use Rattle.gb_script.specs.Tree.{place_of}
 use Rattle.gb_names.specs.declared.names.Known.{Known}
 use Rattle.gb_names.specs.declared.names.Known.TheVariants as known
 use Rattle.gb_goal.specs.declared.scope.OperatorType.{OperatorType}
@@ -30,12 +29,12 @@ use Rattle.gb_operators.specs.declared.operators.Operator.TheVariants.{One, Two,
 use Rattle.gb_operators.specs.declared.operators.Prefix.{Prefix}
 use Rattle.gb_operators.specs.declared.operators.Prefix.TheVariants as prefix
 use Rattle.gb_operators.specs.declared.rules.Asked.{Asked}
-use Rattle.gb_operators.specs.declared.rules.Asked.TheVariants.{Form, Source, Function}
+use Rattle.gb_operators.specs.declared.rules.Asked.TheVariants.{Form, Branch, Source, Function}
 use Rattle.gb_operators.specs.declared.rules.Rule.{Rule}
 use Rattle.gb_operators.specs.declared.rules.Rule.TheVariants as rule
 use Rattle.gb_operators.specs.Drawn.{drawn_head, drawn_result, source_wanted, value_wanted}
 use Rattle.gb_operators.specs.Kinds.{components, component, element, entries, is_of_values, is_small, outcome}
-use Rattle.gb_operators.specs.Literals.{is_divisor}
+use Rattle.gb_operators.specs.Literals.{is_divisor, place_inside}
 use Rattle.gb_operators.specs.Operators.{first_wanted, operand_wanted, prefix_operator, prefix_result, result_type, shaped, takes}
 
 -- a part that is asked to be of a type
@@ -82,8 +81,8 @@ member_asked false w p (s ∷ ts) = given (Form None)
 
 abbrev pub branches_asked : Option Ty → List Term → Answer Asked
 branches_asked w [] = of_type ty.Bool
-branches_asked w (r ∷ []) = given (Form w)
-branches_asked w (r ∷ s ∷ ts) = of_type (type_of_term s)
+branches_asked w (r ∷ []) = given (Branch w)
+branches_asked w (r ∷ s ∷ ts) = given (Branch (Some (type_of_term s)))
 
 -- the keys and the values of a map
 abbrev pub entry_asked : Option Ty → Place → List Term → Answer Asked
@@ -151,7 +150,7 @@ factor_wanted (Some t) first p = do
 -- the sides of a product of distributions
 abbrev pub product_asked : Environment → Option Ty → Place → List Term → Answer Asked
 product_asked at w p ts = do
-  _ ← distribution_here at w p
+  _ ← distribution_here at p
   v ← factor_wanted w (length ts == 0) p
   given (Source v)
 
@@ -295,7 +294,7 @@ turned b i = record { op = i.op; operands = i.operands; exchanged = if b then no
 
 -- the place of a divisor that isn't a literal above 0
 abbrev pub no_divisor : Node → Option Place
-no_divisor n = if is_divisor n then None else Some (place_of n)
+no_divisor n = if is_divisor n then None else Some (place_inside n)
 
 -- the rule of an operator, with whether its right side is typed first, and that side
 abbrev pub rule_for : Operator → Bool → Node → Rule

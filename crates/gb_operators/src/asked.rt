@@ -153,8 +153,8 @@ fn branches_asked(alloc: Global, want: Option<&Ty>, typed: &[Term]) -> Result<As
 {
     match typed {
         [] => of_new_type(alloc, Ty::Bool),
-        [_] => Ok(Asked::Form(wanted_type(alloc, want)?)),
-        [_, first, ..] => of_type(&first.ty),
+        [_] => Ok(Asked::Branch(wanted_type(alloc, want)?)),
+        [_, first, ..] => Ok(Asked::Branch(Some(first.ty.share()?))),
     }
 }
 
@@ -258,7 +258,7 @@ fn product_asked(
 ) -> Result<Asked, Refused>
     ensures { Answers (product_asked (environment at.now) (option_copied want.entry) place typed.now) result }
 {
-    distribution_here(at, want, place)?;
+    distribution_here(at, place)?;
     let Some(ty) = want else {
         return Ok(Asked::Source(None));
     };

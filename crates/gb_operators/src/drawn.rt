@@ -51,12 +51,13 @@ pub fn source_wanted(
             Ok(None)
         }
         Drawn::Image => {
-            distribution_here(at, want, place)?;
+            distribution_here(at, place)?;
             outcome_wanted(want, place)?;
             Ok(None)
         }
         Drawn::Restriction => {
-            distribution_here(at, want, place)?;
+            distribution_here(at, place)?;
+            outcome_wanted(want, place)?;
             wanted_type(alloc, want)
         }
     }
@@ -127,7 +128,7 @@ pub fn drawn_head(drawn: Drawn) -> Head
 ///
 /// # Errors
 ///
-/// Those of `type_of`; `Argument` where a program samples nothing; `TypeMismatch` where another type is wanted; `TypeTooLarge` of
+/// `Argument` where a program samples nothing; `TypeMismatch` where another type is wanted; those of `type_of`; `TypeTooLarge` of
 /// more than 65,536 values, or of a type whose number of values is open.
 pub fn uniform(
     alloc: Global,
@@ -140,6 +141,8 @@ pub fn uniform(
 {
     match parts {
         [written] => {
+            distribution_here(at, place)?;
+            outcome_wanted(want, place)?;
             let outcomes = type_of(alloc, at.scope, written)?;
             let small = is_small(outcomes.get());
             let ty = Shared::new(alloc, Ty::Distr(outcomes))?;

@@ -8,7 +8,7 @@ ghost use Rattle.gb_terms.specs.Make.{node};
 ghost use Rattle.gb_goal.specs.Answers.{Answers};
 ghost use Rattle.gb_goal.specs.Answers.Answer.{given};
 ghost use Rattle.gb_names.specs.Environment.{environment};
-ghost use Rattle.gb_operators.specs.Literals.{as_whole, bound_of, dividing, divisor_in, holds, is_divisor, number_in, numbering, numeral, part_number, with_divisors, with_numbers};
+ghost use Rattle.gb_operators.specs.Literals.{as_whole, bound_of, dividing, divisor_in, holds, is_divisor, number_in, numbering, numeral, part_number, place_inside, placing, with_divisors, with_numbers, with_places};
 
 use gb_core::copy::copy_ty;
 use gb_core::name::Name;
@@ -157,13 +157,36 @@ pub fn is_divisor(t: &Node) -> bool
     }
 }
 
+/// The place of a form. Brackets round it are passed over.
+#[cycle(places)]
+pub fn place_inside(t: &Node) -> Place
+    ensures { result ≡ place_inside t.now }
+{
+    placing(t.head, t.parts.as_slice(), t.place)
+}
+
+/// .. from its head, its parts and its place.
+#[cycle(places)]
+#[tactic(auto, unfolding(crate::specs::Literals::placing))]
+fn placing(head: NodeHead, parts: &[Node], place: Place) -> Place
+    ensures { result ≡ placing head (with_places parts.now) place }
+{
+    match head {
+        NodeHead::Bracketed => match parts {
+            [inner] => place_inside(inner),
+            _ => place,
+        },
+        _ => place,
+    }
+}
+
 /// The number below which a sum counts, from 1 to 65,536.
 pub fn bound_of(t: &Node) -> Result<u32, Refused>
     ensures { Answers (bound_of t.now) result }
 {
     match number_in(t) {
         Some(n) if n > 0 && n <= BOUND => Ok(n as u32),
-        _ => Err(argument(t.place)),
+        _ => Err(argument(place_inside(t))),
     }
 }
 

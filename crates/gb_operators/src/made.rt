@@ -218,7 +218,7 @@ fn quotient_made(
 fn member(alloc: Global, element: &Term, of: &Term) -> Result<Term, AllocError>
     ensures { IfOk result (λ made. made ≡ member element.now of.now) }
 {
-    let op = if is_distribution(Some(of.ty.get())) {
+    let op = if is_distribution(of.ty.get()) {
         Op::InSupport
     } else {
         Op::InMap

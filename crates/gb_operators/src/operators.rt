@@ -169,7 +169,7 @@ pub fn takes(operands: Operands, ty: &Ty) -> bool
     ensures { result ≡ takes operands ty.now }
 {
     match operands {
-        Operands::Alike => !is_distribution(Some(ty)),
+        Operands::Alike => !is_distribution(ty),
         Operands::Ordered => is_ordered(ty),
         Operands::Numbers => is_arithmetic(ty),
         Operands::Bits => is_of_bits(ty),
@@ -269,7 +269,7 @@ pub fn operand_wanted(
         Prefix::Some => some_wanted(want, place),
         Prefix::Oget => option_wanted(alloc, want, place),
         Prefix::Dunit => {
-            distribution_here(at, want, place)?;
+            distribution_here(at, place)?;
             outcome_wanted(want, place)
         }
     }

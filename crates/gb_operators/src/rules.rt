@@ -5,7 +5,7 @@ ghost use Rattle.gb_operators.specs.Rules.{no_divisor, of_arity, rule_for, rule_
 
 use crate::domain::Domain;
 use crate::drawn::Drawn;
-use crate::literals::is_divisor;
+use crate::literals::{is_divisor, place_inside};
 use crate::operators::{Infix, Operator, Prefix};
 use gb_core::name::Name;
 use gb_core::place::Place;
@@ -50,10 +50,12 @@ pub enum Rule {
     Sum(u32),
 }
 
-/// What is asked of a part: a form, with the type that is wanted, if one is.
+/// What is asked of a part, with the type that is wanted of it, if one is.
 #[derive(Drop)]
 pub enum Asked {
     Form(Option<Shared<Ty>>),
+    /// A form that may stand for the whole one.
+    Branch(Option<Shared<Ty>>),
     /// A distribution that is sampled where the form is.
     Source(Option<Shared<Ty>>),
     /// A function of one variable, with the type that is wanted of its value.
@@ -82,7 +84,7 @@ fn no_divisor(divisor: &Node) -> Option<Place>
     if is_divisor(divisor) {
         None
     } else {
-        Some(divisor.place)
+        Some(place_inside(divisor))
     }
 }
 

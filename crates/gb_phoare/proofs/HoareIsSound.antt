@@ -56,7 +56,8 @@ use Rattle.gb_chance.proofs.Bound.{bound_value}
 use Rattle.gb_chance.proofs.Chances.{certain, impossible, at_least_certain, at_most_impossible}
 use Rattle.gb_chance.proofs.Comparing.{number_made, real_made, compared_typed, number_is, compared_is, literal_value}
 use Rattle.gb_full.proofs.Full.{IsWholeProcedure, procedure_whole, total_full}
-use Rattle.gb_phoare.specs.Hoare.{never, full, at_most_goals, at_least_goals, exactly, hoare_row}
+use Rattle.gb_full.specs.Lossless.{full}
+use Rattle.gb_phoare.specs.Hoare.{never, at_most_goals, at_least_goals, exactly, hoare_row}
 
 not_true : (b : Bool) → not b ≡ true → b ≡ false
 not_true false h = refl

@@ -72,14 +72,15 @@ use Rattle.gb_typing.proofs.Quantified.{inner_typed, inner_meaning}
 use Rattle.gb_typing.proofs.Runs.{run_append, denominator_append}
 use Rattle.gb_typing.proofs.LastSampling.{IsDrawn, drawn, last_one}
 use Rattle.gb_typing.proofs.Supported.{nearest_made, draws, drawn_typed, run_sampling, sampling_denominator, target_put}
-use Rattle.gb_equiv.specs.Drawn.{with_value}
+use Rattle.gb_forms.specs.Drawn.{with_value}
 use Rattle.gb_chance.specs.Compared.{compared, zero}
 use Rattle.gb_full.specs.Loss.{Loss, nowhere, sampled, called, first_loss}
 use Rattle.gb_chance.proofs.Bound.{bound_made, bound_is, bound_value}
 use Rattle.gb_chance.proofs.Chances.{after_full, after_less}
 use Rattle.gb_chance.proofs.Comparing.{number_made, real_made, compared_typed, number_is, compared_is}
 use Rattle.gb_full.proofs.Full.{total_full}
-use Rattle.gb_phoare.specs.Rnd.{measured, without_sampling, of_rest, unless_clash, by_end, rnd_row}
+use Rattle.gb_full.specs.Lossless.{of_rest}
+use Rattle.gb_phoare.specs.Rnd.{measured, without_sampling, unless_clash, by_end, rnd_row}
 
 -- bodies that lose no weight, nor what they call, have the whole weight
 abbrev LosesNone : Declarations → Context → Type 0

@@ -10,7 +10,8 @@ use Rattle.gb_goal.specs.Scope.{Declarations}
 use Rattle.gb_walk.specs.Clash.{first_clash}
 use Rattle.gb_typing.specs.Samplings.{Sampling}
 use Rattle.gb_full.specs.Loss.{Loss, first_loss}
-use Rattle.gb_phoare.specs.Rnd.{by_end, of_rest, unless_clash, without_sampling}
+use Rattle.gb_phoare.specs.Rnd.{by_end, unless_clash, without_sampling}
+use Rattle.gb_full.specs.Lossless.{of_rest}
 
 pub without_clash : (ds : Declarations) (r : Rel) (p q b : Term) (x : Sampling) (o : Option Sampling) (l : Loss) → Some x ≡ o → l ≡ first_loss ds x.before → None ≡ first_clash Own x.target q →
     of_rest l r b (without_sampling x r p q b) ≡ by_end ds r p q b o

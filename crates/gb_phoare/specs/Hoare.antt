@@ -1,6 +1,6 @@
 -- `hoare`: from a probability to what always holds.
 use Rattle.std.specs.Prelude.{zero, suc, ℤ, pos, List, [], ◌∷◌, Option, Some}
-use Rattle.gb_core.specs.declared.refusal.Why.TheVariants.{Shape, NotLossless}
+use Rattle.gb_core.specs.declared.refusal.Why.TheVariants.{Shape}
 use Rattle.gb_terms.specs.declared.op.Rel.TheVariants.{AtMost, Equal, AtLeast}
 use Rattle.gb_terms.specs.declared.term.Term.{Term}
 use Rattle.gb_goal.specs.Answers.{Answer, ◌>>=◌}
@@ -12,13 +12,8 @@ use Rattle.gb_goal.specs.Scope.{Declarations}
 use Rattle.gb_typing.specs.Forms.{not_form}
 use Rattle.gb_chance.specs.Compared.{at_most_form, literal}
 use Rattle.gb_chance.specs.Compared as real
-use Rattle.gb_full.specs.Loss.{Loss, nowhere, sampled, called, code_loss}
-
--- nothing loses weight
-abbrev pub full : Loss → Answer (Unit {0})
-full nowhere = given tt
-full (sampled x) = refusing (NotLossless x)
-full called = refusing Shape
+use Rattle.gb_full.specs.Loss.{Loss, code_loss}
+use Rattle.gb_full.specs.Lossless.{full}
 
 -- the postcondition never holds
 abbrev pub never : Code → Term → Term → Goal

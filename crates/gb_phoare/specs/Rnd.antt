@@ -1,25 +1,25 @@
 -- `rnd` on a judgment with a probability: a sampling at the end of the body.
 use Rattle.std.specs.Prelude.{List, [], ◌∷◌, Option, Some, None}
-use Rattle.gb_core.specs.declared.refusal.Why.TheVariants.{Shape, NotLossless, SideCondition}
+use Rattle.gb_core.specs.declared.refusal.Why.TheVariants.{Shape, SideCondition}
 use Rattle.gb_core.specs.declared.ty.Ty.TheVariants.{Real as real_ty}
 use Rattle.gb_core.specs.declared.var.Var.{Var}
 use Rattle.gb_terms.specs.declared.op.Rel.{Rel}
-use Rattle.gb_terms.specs.declared.op.Rel.TheVariants.{AtMost}
 use Rattle.gb_terms.specs.declared.op.Side.TheVariants.{Own}
 use Rattle.gb_terms.specs.declared.term.Term.{Term}
 use Rattle.gb_terms.specs.declared.term.Head.TheVariants.{Mu}
 use Rattle.gb_terms.specs.Make.{node}
 use Rattle.gb_goal.specs.Answers.{Answer}
-use Rattle.gb_goal.specs.Answers.Answer.{given}
 use Rattle.gb_goal.specs.Goal.{Goal}
 use Rattle.gb_goal.specs.Goal.Code.{body}
-use Rattle.gb_goal.specs.Goal.Goal.{hoare, phoare, ambient}
+use Rattle.gb_goal.specs.Goal.Goal.{hoare, phoare}
 use Rattle.gb_goal.specs.Rows.{Row, refusing}
 use Rattle.gb_goal.specs.Scope.{Declarations}
 use Rattle.gb_typing.specs.Samplings.{Sampling, last_sampling}
-use Rattle.gb_chance.specs.Compared.{compared, zero}
-use Rattle.gb_full.specs.Loss.{Loss, nowhere, sampled, called, first_loss}
-use Rattle.gb_equiv.specs.Drawn.{clashing, with_value}
+use Rattle.gb_chance.specs.Compared.{compared}
+use Rattle.gb_full.specs.Loss.{first_loss}
+use Rattle.gb_full.specs.Lossless.{of_rest}
+use Rattle.gb_forms.specs.Drawn.{with_value}
+use Rattle.gb_equiv.specs.Drawn.{clashing}
 
 -- how likely the postcondition is of a sampled value: `mu d (fun v => Q)`
 abbrev pub measured : Sampling → Term → Term
@@ -28,13 +28,6 @@ measured x q = node Mu (x.from ∷ with_value x q ∷ []) real_ty
 -- the probability that is left stands so to the bound wherever the rest of the body ends
 abbrev pub without_sampling : Sampling → Rel → Term → Term → Term → Goal
 without_sampling x r p q b = hoare (body x.before) p (compared r (measured x q) b)
-
--- Weight that the rest of the body loses makes a probability less, so that only `<=` stays, with a bound that isn't below 0.
-abbrev pub of_rest : Loss → Rel → Term → Goal → Answer (List Goal)
-of_rest nowhere r b G = given (G ∷ [])
-of_rest l AtMost b G = given (G ∷ ambient (compared AtMost zero b) ∷ [])
-of_rest (sampled x) r b G = refusing (NotLossless x)
-of_rest called r b G = refusing Shape
 
 abbrev pub unless_clash : Option Var → Answer (List Goal) → Answer (List Goal)
 unless_clash (Some z) a = refusing (SideCondition z)

@@ -12,16 +12,16 @@ ghost use Rattle.gb_typing.specs.Scopes.{context_of, IsTypedScope};
 ghost use Rattle.gb_typing.specs.Sequents.{of_sequent, IsTypedSequent};
 ghost use Rattle.gb_typing.specs.Rules.{IsSoundRuleIn, no_arguments};
 ghost use Rattle.gb_chance.specs.Compared.{literal};
-ghost use Rattle.gb_full.specs.Loss.{code_loss, loss_seen};
-ghost use Rattle.gb_phoare.specs.Hoare.{at_least_goals, at_most_goals, exactly, full, hoare_row, never};
+ghost use Rattle.gb_full.specs.Loss.{code_loss};
+ghost use Rattle.gb_phoare.specs.Hoare.{at_least_goals, at_most_goals, exactly, hoare_row, never};
 
 use gb_chance::compared::{literal, number_compared};
-use gb_core::copy::copy_var;
-use gb_core::refusal::{Refused, Why};
-use gb_full::loss::{Loss, subject_loss};
+use gb_core::refusal::Refused;
+use gb_full::loss::subject_loss;
+use gb_full::lossless::full;
 use gb_goal::scope::Scope;
 use gb_goal::sequent::{Sequent, Sequents};
-use gb_parts::subgoals::{no_shape, one_goal, refusal, two_goals};
+use gb_parts::subgoals::{no_shape, one_goal, two_goals};
 use gb_terms::make::{negation, term, truth_ty};
 use gb_terms::op::Rel;
 use gb_terms::term::{Form, Head, RealTerm, Subject};
@@ -56,20 +56,6 @@ fn never(alloc: Global, judged: &Judged<'_>) -> Result<Form, AllocError>
 {
     let post = negation(alloc, judged.post.share()?)?;
     always(alloc, judged, post)
-}
-
-/// Why a judgment of what loses weight is refused: `NotLossless` at a variable, and `Shape` at a call of what isn't declared by its name.
-pub fn full(alloc: Global, lost: Loss<'_>) -> Result<(), Refused>
-    ensures { Answers (full (loss_seen lost.entry)) result }
-{
-    match lost {
-        Loss::Nowhere => Ok(()),
-        Loss::Sampled(var) => {
-            let var = copy_var(alloc, var)?;
-            Err(refusal(Why::NotLossless(var)))
-        }
-        Loss::Called => Err(no_shape()),
-    }
 }
 
 /// The postcondition never holds, or always, where the probability is 0, or 1.

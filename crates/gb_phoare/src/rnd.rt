@@ -2,7 +2,7 @@
 
 ghost use Rattle.std.specs.Prelude.{◌≡◌, IfOk};
 ghost use Rattle.gb_goal.specs.Answers.{Answers};
-ghost use Rattle.gb_goal.specs.Goal.{Goal as TypedGoal, form_of};
+ghost use Rattle.gb_goal.specs.Goal.{form_of};
 ghost use Rattle.gb_goal.specs.Rows.{answered, each_concluding};
 ghost use Rattle.gb_goal.specs.Views.{goal_seen};
 ghost use Rattle.gb_goal.specs.Scope.{Declarations};
@@ -12,22 +12,22 @@ ghost use Rattle.gb_typing.specs.Rules.{IsSoundRuleIn, no_arguments};
 ghost use Rattle.gb_typing.specs.Scopes.{context_of, IsTypedScope};
 ghost use Rattle.gb_typing.specs.Sequents.{of_sequent, IsTypedSequent};
 ghost use Rattle.gb_typing.specs.Samplings.{sampling_of, last_sampling};
-ghost use Rattle.gb_full.specs.Loss.{loss_seen};
-ghost use Rattle.gb_equiv.specs.Drawn.{with_value};
-ghost use Rattle.gb_phoare.specs.Rnd.{by_end, measured, of_rest, rnd_row, without_sampling};
+ghost use Rattle.gb_forms.specs.Drawn.{with_value};
+ghost use Rattle.gb_phoare.specs.Rnd.{by_end, measured, rnd_row, without_sampling};
 
-use gb_chance::compared::{compared, number_compared};
+use gb_chance::compared::compared;
 use gb_core::copy::copy_var;
 use gb_core::refusal::{Refused, Why};
 use gb_core::ty::Ty;
-use gb_full::loss::{Loss, first_loss};
+use gb_full::loss::first_loss;
+use gb_full::lossless::{Judged, of_rest};
 use gb_goal::goal::{Code, Goal, goal_of, hoare};
 use gb_goal::scope::Scope;
 use gb_goal::sequent::{Sequent, Sequents};
-use gb_parts::subgoals::{no_shape, one_goal, refusal, two_goals};
+use gb_parts::subgoals::{no_shape, refusal};
 use gb_shared::Shared;
 use gb_terms::make::term;
-use gb_terms::op::{Read, Rel, Side};
+use gb_terms::op::{Read, Side};
 use gb_terms::term::{Form, Head, Instr, RealTerm, Term};
 use gb_typing::samplings::{Last, last_sampling, rest_of};
 use gb_typing::supports::nearest;
@@ -36,15 +36,6 @@ use gb_walk::clash::first_clash;
 use gb_walk::walk::changed;
 use sqlite_items::Items;
 use std::alloc::{AllocError, Global};
-
-/// A judgment with a probability, of a body.
-#[derive(Clone, Copy)]
-pub struct Judged<'a> {
-    pub rel: Rel,
-    pub pre: &'a Form,
-    pub post: &'a Form,
-    pub bound: &'a RealTerm,
-}
 
 /// The postcondition of the sampled value.
 fn with_value(alloc: Global, sampling: &Last<'_>, post: &Form) -> Result<Form, AllocError>
@@ -86,31 +77,6 @@ fn without_sampling(
     let pre = judged.pre.share()?;
     let rest = rest_of(alloc, sampling)?;
     hoare(alloc, rest, pre, post)
-}
-
-/// The goals of a judgment of what stands before a sampling. Weight that is lost there makes a probability less: the bound isn't
-/// below 0 then, or the rule is refused, with `NotLossless` at a variable, and with `Shape` at a call of what isn't declared by its name.
-pub fn of_rest(
-    alloc: Global,
-    goal: &Sequent,
-    lost: Loss<'_>,
-    judged: &Judged<'_>,
-    conclusion: Form,
-) -> Result<Sequents, Refused>
-    ensures { (G : TypedGoal) → conclusion ≡ form_of G → Answers (each_concluding goal.now (of_rest (loss_seen lost.entry) judged.now.rel judged.now.bound.now G)) result }
-{
-    match (lost, judged.rel) {
-        (Loss::Nowhere, _) => Ok(one_goal(alloc, goal, conclusion)?),
-        (_, Rel::AtMost) => {
-            let least = number_compared(alloc, Rel::AtMost, 0, judged.bound)?;
-            Ok(two_goals(alloc, goal, conclusion, least)?)
-        }
-        (Loss::Sampled(var), _) => {
-            let var = copy_var(alloc, var)?;
-            Err(refusal(Why::NotLossless(var)))
-        }
-        (Loss::Called, _) => Err(no_shape()),
-    }
 }
 
 /// The goals without the sampling that ends the body.

@@ -1,5 +1,5 @@
 -- Relations by way of a memory between: typing and meaning.
-use Rattle.std.proofs.Common.{◌≡◌, ℕ, inr, Bool, true, false, ◌||◌, if◌then◌else◌, List, [], ◌∷◌, None, Some, refl, ap, sym, ◌∙◌, subst}
+use Rattle.std.proofs.Common.{◌≡◌, inr, Bool, true, false, ◌||◌, if◌then◌else◌, List, [], ◌∷◌, None, Some, refl, ap, sym, ◌∙◌, subst}
 use Rattle.std.proofs.lemmas.Bool.{false≢true}
 use Rattle.gb_core.specs.declared.ty.Ty.{Ty}
 use Rattle.gb_core.specs.declared.ty.Ty.TheVariants as ty
@@ -33,13 +33,13 @@ use Rattle.gb_typing.specs.Context.{Context, Frame, erased, frame_of, with_sides
 use Rattle.gb_typing.specs.Typing.{IsFrame, IsPlace, IsForm}
 use Rattle.gb_typing.specs.Fits.{IsSettingOf}
 use Rattle.gb_typing.specs.Changes.{IsLeaf, Becomes, Leads, Stays}
-use Rattle.gb_typing.specs.Forms.{and_form, implies_form, to_bound, every}
+use Rattle.gb_typing.specs.Forms.{and_form, implies_form, to_bound}
 use Rattle.gb_typing.specs.Rules.{outermost}
 use Rattle.gb_typing.proofs.Changed.{changed}
 use Rattle.gb_typing.proofs.Every.{leaf_moved, side_of, places_led, stays_bound, every_meaning}
 use Rattle.gb_typing.proofs.Fitting.{fits_reframed}
 use Rattle.gb_typing.proofs.Formed.{formed}
-use Rattle.gb_typing.proofs.Forms.{made_form, form_made, and_typed, and_use, and_make, implies_typed, implies_use}
+use Rattle.gb_typing.proofs.Forms.{made_form, form_made, and_typed, and_use, implies_typed, implies_use}
 use Rattle.gb_typing.proofs.Made.{made_node}
 use Rattle.gb_typing.proofs.Sound.{procedures_sound, sound_form}
 use Rattle.gb_typing.proofs.Unread.{unread_typed}

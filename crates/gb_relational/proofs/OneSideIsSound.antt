@@ -1,5 +1,6 @@
 -- `rnd{1}` and `rnd{2}` are sound.
-use Rattle.std.proofs.Common.{◌≡◌, ◌*◌, ◌*ℤ◌, ℕ, pos, nat_abs, Bool, true, false, if◌then◌else◌, List, [], ◌∷◌, append-nil, Option, Some, None, refl, ap, sym, ◌∙◌, subst, arith}
+use Rattle.std.proofs.Common.{◌≡◌, ◌*ℤ◌, ℕ, pos, nat_abs, Bool, true, false, if◌then◌else◌, List, [], ◌∷◌, append-nil, Option, Some, None, refl, ap, sym, ◌∙◌, subst, arith}
+use Rattle.std.specs.List.{AllByRecursion}
 use Rattle.std.specs.Option.{option_map}
 use Rattle.std.proofs.Math.IntN.{pos-*ℤ-pos}
 use Rattle.std.proofs.lemmas.Bool.Decides.{Decides-int_eq}
@@ -43,10 +44,8 @@ use Rattle.gb_changes.specs.Written.{Written, IsSide, with_side}
 use Rattle.gb_changes.proofs.Puts.{plain_node}
 use Rattle.gb_typed.specs.Typing.Binder.{value}
 use Rattle.gb_typed.proofs.Nodes.{type_of_node}
-use Rattle.gb_typing.specs.Context.{Context, frame_of, reframed, within}
-use Rattle.gb_typing.specs.Sequents.{two}
+use Rattle.gb_typing.specs.Context.{Context, frame_of, within}
 use Rattle.gb_typing.specs.Typing.{IsForm}
-use Rattle.gb_typing.specs.Changes.{Made}
 use Rattle.gb_typing.specs.Fits.{IsSettingOf, IsStateOf}
 use Rattle.gb_typing.specs.Puts.{Readable, reading, IsPutFor}
 use Rattle.gb_typing.proofs.Clashes.{left_of_no_clash}
@@ -60,13 +59,18 @@ use Rattle.gb_steps.specs.declared.step.Acts.{Acts}
 use Rattle.gb_steps.specs.declared.step.Acts.TheVariants as on
 use Rattle.gb_typing.specs.Forms.{IsAlone, and_form, located}
 use Rattle.gb_typing.specs.Meaning.{run, denominator}
-use Rattle.gb_typing.specs.Rules.{outermost, Implies, IsSoundRule, no_arguments}
+use Rattle.gb_goal.specs.Scope.{Declarations}
+use Rattle.gb_goal.specs.declared.sequent.Sequent.{Sequent}
+use Rattle.gb_holds.specs.Declared.{declared}
+use Rattle.gb_typing.specs.Rules.{outermost, ImpliesIn, IsSettingOver, IsSoundRuleIn, no_arguments}
+use Rattle.gb_typing.specs.Scopes.{context_of, IsTypedScope}
+use Rattle.gb_typing.specs.Sequents.{of_sequent, two, IsTypedSequent}
 use Rattle.gb_typing.specs.Samplings.{Sampling, last_sampling}
 use Rattle.gb_typing.specs.Supports.{nearest}
-use Rattle.gb_typing.specs.Goals.{IsGoalOver}
+use Rattle.gb_typing.specs.Goals.{IsGoalOver, IsTypedGoal}
 use Rattle.gb_typing.proofs.ClashFree.{one_clear}
 use Rattle.gb_typing.proofs.Forms.{and_typed, and_use}
-use Rattle.gb_typing.proofs.Given.{AreSound, refused_given, same_given}
+use Rattle.gb_typing.proofs.Given.{refused_given, same_given}
 use Rattle.gb_typing.proofs.InMemory.{located_typed, located_value}
 use Rattle.gb_typing.proofs.Literals.{bool_literal}
 use Rattle.gb_typing.proofs.Made.{made_node}
@@ -79,13 +83,19 @@ use Rattle.gb_chance.specs.Compared.{one}
 use Rattle.gb_full.specs.Loss.{may_lose}
 use Rattle.gb_chance.proofs.Comparing.{number_made, compared_typed, number_is, compared_is}
 use Rattle.gb_full.proofs.Full.{full_term}
+use Rattle.gb_full.proofs.Operators.{AreFullOperators, scope_full}
 use Rattle.gb_equiv.specs.Drawn.{unless_clash}
-use Rattle.gb_relational.specs.OneSide.{with_value, each_drawn, drawing, surely_drawn, before_drawing, by_end, drawn_row}
+use Rattle.gb_forms.specs.Surely.{drawing, surely_drawn}
+use Rattle.gb_relational.specs.OneSide.{with_value, each_drawn, before_drawing, by_end, drawn_row}
 
 literal_says : (g : Setting) (j : Judge) (s : State) → den g j (truth_literal true) s ≡ true
 literal_says g j s = ap truth (val_node g (speaking g j) (head.Lit (Num 1)) [] ty.Bool s) ∙ truth_of true
 
-module _ (b : Context) (ls rs : List TypedName) where
+-- The goals are typed, and imply the goal in the settings of the declarations.
+abbrev AreSoundIn : Declarations → Context → Goal → List Goal → Type 0
+AreSoundIn ds c G Gs = AllByRecursion (IsTypedGoal c) Gs × ImpliesIn (declared ds) c Gs G
+
+module _ (ds : Declarations) (b : Context) (operators : (g : Setting) → IsSettingOf (outermost b) g → IsSettingOver (declared ds) g → AreFullOperators ds g (outermost b)) (ls rs : List TypedName) where
   abbrev c : Context
   c = outermost b
 
@@ -120,14 +130,14 @@ module _ (b : Context) (ls rs : List TypedName) where
         (record { typed = d.typed; written = d.written ∙ dx.over }, made_node inner (head.Lit (Num 1)) [] [] ty.Bool (bool_literal 1 (omega arith)) tt [] tt))
         (number_made goal (pos 1))
 
-    before_typed : (q : Term) → IsForm goal q → IsForm goal (before_drawing r x q)
-    before_typed q w = by_test (may_lose x.from)
+    before_typed : (q : Term) → IsForm goal q → IsForm goal (before_drawing ds r x q)
+    before_typed q w = by_test (may_lose ds x.from)
       where
         by_test : (t : Bool) → IsForm goal (if t then and_form (surely_drawn r x) (each_drawn r x q) else each_drawn r x q)
         by_test true = and_typed goal (surely_drawn r x) (each_drawn r x q) surely_typed (each_typed q w)
         by_test false = each_typed q w
 
-    module _ (g : Setting) (fits : IsSettingOf c g) (j : Judge) (fair : IsFair g j) (s : State) (fit : IsStateOf c g s) (a d : Memory) where
+    module _ (g : Setting) (fits : IsSettingOf c g) (over : IsSettingOver (declared ds) g) (j : Judge) (fair : IsFair g j) (s : State) (fit : IsStateOf c g s) (a d : Memory) where
       abbrev start : State
       start = between s a d
 
@@ -179,88 +189,96 @@ module _ (b : Context) (ls rs : List TypedName) where
       total_after e = ap total (run_sampling g s x.target x.from m) ∙ mass-dmap (write g.types m x.target) values (λ n. 1) ∙ e ∙ sym (sampling_denominator g x.target x.from)
 
       -- a distribution that may lose no weight has the whole weight
-      total_one : may_lose x.from ≡ false → total (run g s (last_one x) m) ≡ denominator g (last_one x)
-      total_one e = run_total g s (statements g (last_one x)) (full_term c g fits ks x.from dx.from dx.distributed e, tt) m
+      total_one : may_lose ds x.from ≡ false → total (run g s (last_one x) m) ≡ denominator g (last_one x)
+      total_one e = run_total g s (statements g (last_one x)) (full_term ds c g fits (operators g fits over) ks x.from dx.from dx.distributed e, tt) m
 
       -- what stands before the sampling says that no weight is lost, and that the postcondition holds of each value
-      both : (q : Term) → den g j (before_drawing r x q) start ≡ true → (total (run g s (last_one x) m) ≡ denominator g (last_one x)) × (den g j (each_drawn r x q) start ≡ true)
-      both q h = by_test (may_lose x.from) refl h
+      both : (q : Term) → den g j (before_drawing ds r x q) start ≡ true → (total (run g s (last_one x) m) ≡ denominator g (last_one x)) × (den g j (each_drawn r x q) start ≡ true)
+      both q h = by_test (may_lose ds x.from) refl h
         where
-          by_test : (t : Bool) → may_lose x.from ≡ t → den g j (if t then and_form (surely_drawn r x) (each_drawn r x q) else each_drawn r x q) start ≡ true →
+          by_test : (t : Bool) → may_lose ds x.from ≡ t → den g j (if t then and_form (surely_drawn r x) (each_drawn r x q) else each_drawn r x q) start ≡ true →
               (total (run g s (last_one x) m) ≡ denominator g (last_one x)) × (den g j (each_drawn r x q) start ≡ true)
           by_test true e h = let k = and_use g j (surely_drawn r x) (each_drawn r x q) start h in (total_after (whole k.0), k.1)
           by_test false e h = (total_one e, h)
 
   -- the left body
   module _ (is js : List Instr) (x : Sampling) (dx : IsDrawn c ls is x) where
-    left_alone : (g : Setting) → IsSettingOf c g → (j : Judge) → IsFair g j → (s : State) → IsStateOf c g s → (a d : Memory) → (q : Term) → IsForm goal q → first_clash side.Left x.target q ≡ None →
-        IsTrueUnder g j (before_drawing side.Left x q) (between s a d) → Coupling (λ m n. IsTrueUnder g j q (between s m n)) (run g s (last_one x) a) (denominator g (last_one x)) (unit d) 1
-    left_alone g fits j fair s fit a d q w e t =
+    left_alone : (g : Setting) → IsSettingOf c g → IsSettingOver (declared ds) g → (j : Judge) → IsFair g j → (s : State) → IsStateOf c g s → (a d : Memory) → (q : Term) → IsForm goal q → first_clash side.Left x.target q ≡ None →
+        IsTrueUnder g j (before_drawing ds side.Left x q) (between s a d) → Coupling (λ m n. IsTrueUnder g j q (between s m n)) (run g s (last_one x) a) (denominator g (last_one x)) (unit d) 1
+    left_alone g fits over j fair s fit a d q w e t =
         let clear = one_clear goal q w.typed side.Left tt x.target e in
-        let k = both side.Left tt ls refl x refl is dx g fits j fair s fit a d q t in
-        let sound : IsSound g (statements g (last_one x)) = sampled_sound side.Left tt ls refl x refl is dx g fits j fair s fit a d in
+        let k = both side.Left tt ls refl x refl is dx g fits over j fair s fit a d q t in
+        let sound : IsSound g (statements g (last_one x)) = sampled_sound side.Left tt ls refl x refl is dx g fits over j fair s fit a d in
         coupling_left_alone (λ m. IsTrueUnder g j q (between s m d)) (λ m n. IsTrueUnder g j q (between s m n)) (run g s (last_one x) a) (denominator g (last_one x)) d
         (run_positive g (statements g (last_one x)) sound) k.0
         (run_entries_in g s (λ m. IsTrueUnder g j q (between s m d)) (statements g (last_one x)) sound a
-        (each_after side.Left tt ls refl x refl is dx g fits j fair s fit a d q w clear.0 clear.1 (clear.2 g) k.1)) (λ m p. p)
+        (each_after side.Left tt ls refl x refl is dx g fits over j fair s fit a d q w clear.0 clear.1 (clear.2 g) k.1)) (λ m p. p)
 
-    left_implied : (p q : Term) → IsForm goal q → first_clash side.Left x.target q ≡ None → Implies c (equiv (body x.before) (body js) p (before_drawing side.Left x q) ∷ []) (equiv (body is) (body js) p q)
-    left_implied p q w e g fits j fair s fit h m n z =
-        coupled_in_turn g s (λ a d. IsTrueUnder g j q (between s a d)) (λ a d. IsTrueUnder g j (before_drawing side.Left x q) (between s a d)) is js x.before (last_one x) js []
-        dx.shape (sym (append-nil js)) m n (h.0 m n z) (λ a d t. left_alone g fits j fair s fit a d q w e t)
+    left_implied : (p q : Term) → IsForm goal q → first_clash side.Left x.target q ≡ None → ImpliesIn (declared ds) c (equiv (body x.before) (body js) p (before_drawing ds side.Left x q) ∷ []) (equiv (body is) (body js) p q)
+    left_implied p q w e g fits over j fair s fit h m n z =
+        coupled_in_turn g s (λ a d. IsTrueUnder g j q (between s a d)) (λ a d. IsTrueUnder g j (before_drawing ds side.Left x q) (between s a d)) is js x.before (last_one x) js []
+        dx.shape (sym (append-nil js)) m n (h.0 m n z) (λ a d t. left_alone g fits over j fair s fit a d q w e t)
 
   -- the right body
   module _ (is js : List Instr) (y : Sampling) (dy : IsDrawn c rs js y) where
-    right_alone : (g : Setting) → IsSettingOf c g → (j : Judge) → IsFair g j → (s : State) → IsStateOf c g s → (a d : Memory) → (q : Term) → IsForm goal q → first_clash side.Right y.target q ≡ None →
-        IsTrueUnder g j (before_drawing side.Right y q) (between s a d) → Coupling (λ m n. IsTrueUnder g j q (between s m n)) (unit a) 1 (run g s (last_one y) d) (denominator g (last_one y))
-    right_alone g fits j fair s fit a d q w e t =
+    right_alone : (g : Setting) → IsSettingOf c g → IsSettingOver (declared ds) g → (j : Judge) → IsFair g j → (s : State) → IsStateOf c g s → (a d : Memory) → (q : Term) → IsForm goal q → first_clash side.Right y.target q ≡ None →
+        IsTrueUnder g j (before_drawing ds side.Right y q) (between s a d) → Coupling (λ m n. IsTrueUnder g j q (between s m n)) (unit a) 1 (run g s (last_one y) d) (denominator g (last_one y))
+    right_alone g fits over j fair s fit a d q w e t =
         let clear = one_clear goal q w.typed side.Right tt y.target e in
-        let k = both side.Right tt rs refl y refl js dy g fits j fair s fit a d q t in
-        let sound : IsSound g (statements g (last_one y)) = sampled_sound side.Right tt rs refl y refl js dy g fits j fair s fit a d in
+        let k = both side.Right tt rs refl y refl js dy g fits over j fair s fit a d q t in
+        let sound : IsSound g (statements g (last_one y)) = sampled_sound side.Right tt rs refl y refl js dy g fits over j fair s fit a d in
         coupling_right_alone (λ n. IsTrueUnder g j q (between s a n)) (λ m n. IsTrueUnder g j q (between s m n)) (run g s (last_one y) d) (denominator g (last_one y)) a
         (run_positive g (statements g (last_one y)) sound) k.0
         (run_entries_in g s (λ n. IsTrueUnder g j q (between s a n)) (statements g (last_one y)) sound d
-        (each_after side.Right tt rs refl y refl js dy g fits j fair s fit a d q w clear.0 clear.1 (clear.2 g) k.1)) (λ n p. p)
+        (each_after side.Right tt rs refl y refl js dy g fits over j fair s fit a d q w clear.0 clear.1 (clear.2 g) k.1)) (λ n p. p)
 
-    right_implied : (p q : Term) → IsForm goal q → first_clash side.Right y.target q ≡ None → Implies c (equiv (body is) (body y.before) p (before_drawing side.Right y q) ∷ []) (equiv (body is) (body js) p q)
-    right_implied p q w e g fits j fair s fit h m n z =
-        coupled_in_turn g s (λ a d. IsTrueUnder g j q (between s a d)) (λ a d. IsTrueUnder g j (before_drawing side.Right y q) (between s a d)) is js is [] y.before (last_one y)
-        (sym (append-nil is)) dy.shape m n (h.0 m n z) (λ a d t. right_alone g fits j fair s fit a d q w e t)
+    right_implied : (p q : Term) → IsForm goal q → first_clash side.Right y.target q ≡ None → ImpliesIn (declared ds) c (equiv (body is) (body y.before) p (before_drawing ds side.Right y q) ∷ []) (equiv (body is) (body js) p q)
+    right_implied p q w e g fits over j fair s fit h m n z =
+        coupled_in_turn g s (λ a d. IsTrueUnder g j q (between s a d)) (λ a d. IsTrueUnder g j (before_drawing ds side.Right y q) (between s a d)) is js is [] y.before (last_one y)
+        (sym (append-nil is)) dy.shape m n (h.0 m n z) (λ a d t. right_alone g fits over j fair s fit a d q w e t)
 
   module _ (is js : List Instr) (p q : Term) (w : IsGoalOver c ls rs (equiv (body is) (body js) p q)) (Gs : List Goal) where
     abbrev Sound : Type 0
-    Sound = AreSound c (equiv (body is) (body js) p q) Gs
+    Sound = AreSoundIn ds c (equiv (body is) (body js) p q) Gs
 
-    left_sound : (o : Option Sampling) → last_sampling is ≡ o → by_end (record { side = side.Left; list = is; pre = p; post = q; goal = λ is p q. equiv (body is) (body js) p q }) o ≡ given Gs → Sound
+    left_sound : (o : Option Sampling) → last_sampling is ≡ o → by_end ds (record { side = side.Left; list = is; pre = p; post = q; goal = λ is p q. equiv (body is) (body js) p q }) o ≡ given Gs → Sound
     left_sound None ex f = refused_given Shape Gs f
     left_sound (Some x) ex f = checked (first_clash side.Left x.target q) refl f
       where
-        checked : (u : Option Var) → first_clash side.Left x.target q ≡ u → unless_clash (option_map (λ z. x.target) u) (equiv (body x.before) (body js) p (before_drawing side.Left x q)) ≡ given Gs → Sound
+        checked : (u : Option Var) → first_clash side.Left x.target q ≡ u → unless_clash (option_map (λ z. x.target) u) (equiv (body x.before) (body js) p (before_drawing ds side.Left x q)) ≡ given Gs → Sound
         checked (Some z) e f = refused_given (SideCondition x.target) Gs f
         checked None e f =
             let dx = drawn c ls is x w.1 ex in
-            subst (AreSound c (equiv (body is) (body js) p q)) (same_given (equiv (body x.before) (body js) p (before_drawing side.Left x q) ∷ []) Gs f)
+            subst (AreSoundIn ds c (equiv (body is) (body js) p q)) (same_given (equiv (body x.before) (body js) p (before_drawing ds side.Left x q) ∷ []) Gs f)
             (((ls, rs, (tt, dx.rest, w.2, w.3, before_typed side.Left tt ls refl x refl is dx q w.4)), tt), left_implied is js x dx p q w.4 e)
 
-    right_sound : (o : Option Sampling) → last_sampling js ≡ o → by_end (record { side = side.Right; list = js; pre = p; post = q; goal = λ js p q. equiv (body is) (body js) p q }) o ≡ given Gs → Sound
+    right_sound : (o : Option Sampling) → last_sampling js ≡ o → by_end ds (record { side = side.Right; list = js; pre = p; post = q; goal = λ js p q. equiv (body is) (body js) p q }) o ≡ given Gs → Sound
     right_sound None ey f = refused_given Shape Gs f
     right_sound (Some y) ey f = checked (first_clash side.Right y.target q) refl f
       where
-        checked : (u : Option Var) → first_clash side.Right y.target q ≡ u → unless_clash (option_map (λ z. y.target) u) (equiv (body is) (body y.before) p (before_drawing side.Right y q)) ≡ given Gs → Sound
+        checked : (u : Option Var) → first_clash side.Right y.target q ≡ u → unless_clash (option_map (λ z. y.target) u) (equiv (body is) (body y.before) p (before_drawing ds side.Right y q)) ≡ given Gs → Sound
         checked (Some z) e f = refused_given (SideCondition y.target) Gs f
         checked None e f =
             let dy = drawn c rs js y w.2 ey in
-            subst (AreSound c (equiv (body is) (body js) p q)) (same_given (equiv (body is) (body y.before) p (before_drawing side.Right y q) ∷ []) Gs f)
+            subst (AreSoundIn ds c (equiv (body is) (body js) p q)) (same_given (equiv (body is) (body y.before) p (before_drawing ds side.Right y q) ∷ []) Gs f)
             (((ls, rs, (tt, w.1, dy.rest, w.3, before_typed side.Right tt rs refl y refl js dy q w.4)), tt), right_implied is js y dy p q w.4 e)
 
-module _ (c : Context) where
-  pub sound : (a : Acts) → IsSoundRule c (drawn_row a) no_arguments
+module _ (ds : Declarations) (scoped : IsTypedScope (declared ds)) (h : Sequent) (t : IsTypedSequent (context_of (declared ds)) h) where
+  abbrev around : Context
+  around = of_sequent (context_of (declared ds)) h t.frames
+
+  operators : around ≡ outermost around → (g : Setting) → IsSettingOf (outermost around) g → IsSettingOver (declared ds) g → AreFullOperators ds g (outermost around)
+  operators outer g fits over =
+      let w : IsSettingOf around g = subst (λ c. IsSettingOf c g) (sym outer) fits in
+      subst (AreFullOperators ds g) outer (scope_full ds scoped h t.frames g w.types over)
+
+  pub sound : (a : Acts) → IsSoundRuleIn (declared ds) around (drawn_row ds a) no_arguments
   sound on.Left outer ls rs (equiv (body is) (body js) p q) w k Gs e =
       let G = equiv (body is) (body js) p q in
-      subst (λ c. AreSound c G Gs) (sym outer) (left_sound c ls rs is js p q (subst (λ c. IsGoalOver c ls rs G) outer w) Gs (last_sampling is) refl e)
+      subst (λ c. AreSoundIn ds c G Gs) (sym outer) (left_sound ds around (operators outer) ls rs is js p q (subst (λ c. IsGoalOver c ls rs G) outer w) Gs (last_sampling is) refl e)
   sound on.Right outer ls rs (equiv (body is) (body js) p q) w k Gs e =
       let G = equiv (body is) (body js) p q in
-      subst (λ c. AreSound c G Gs) (sym outer) (right_sound c ls rs is js p q (subst (λ c. IsGoalOver c ls rs G) outer w) Gs (last_sampling js) refl e)
+      subst (λ c. AreSoundIn ds c G Gs) (sym outer) (right_sound ds around (operators outer) ls rs is js p q (subst (λ c. IsGoalOver c ls rs G) outer w) Gs (last_sampling js) refl e)
   sound on.All outer ls rs G w k Gs e = refused_given Shape Gs e
   sound on.Left outer ls rs (equiv (procedure f) d p q) w k Gs e = refused_given Shape Gs e
   sound on.Left outer ls rs (equiv (body is) (procedure f) p q) w k Gs e = refused_given Shape Gs e

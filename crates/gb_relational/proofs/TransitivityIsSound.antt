@@ -1,5 +1,5 @@
 -- `transitivity` is sound.
-use Rattle.std.proofs.Common.{◌≡◌, List, [], ◌∷◌, Option, Some, None, refl, sym, subst}
+use Rattle.std.proofs.Common.{◌≡◌, List, Option, Some, None, refl, sym, subst}
 use Rattle.gb_core.specs.declared.refusal.Why.TheVariants.{Shape}
 use Rattle.gb_terms.specs.declared.decl.TypedName.{TypedName}
 use Rattle.gb_terms.specs.declared.module.ProcRef.{ProcRef}
@@ -11,7 +11,6 @@ use Rattle.gb_meaning.specs.Memory.{Memory}
 use Rattle.gb_meaning.specs.State.{between}
 use Rattle.gb_meaning.specs.Judgments.{IsTrueUnder}
 use Rattle.gb_judge.proofs.Fair.{memory_discrete, subject_positive}
-use Rattle.gb_goal.specs.Goal.{Goal}
 use Rattle.gb_goal.specs.Goal.Code.{body, procedure}
 use Rattle.gb_goal.specs.Goal.Goal.{hoare, phoare, equiv, ambient}
 use Rattle.gb_typing.specs.Context.{Context, Frame, with_sides}

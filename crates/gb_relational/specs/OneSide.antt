@@ -1,13 +1,9 @@
 -- `rnd{1}`, `rnd{2}`: a sampling at the end of one body of an equivalence.
-use Rattle.std.specs.Prelude.{true, if◌then◌else◌, List, [], ◌∷◌, Option, Some, None}
+use Rattle.std.specs.Prelude.{if◌then◌else◌, List, [], ◌∷◌, Option, Some, None}
 use Rattle.gb_core.specs.declared.refusal.Why.TheVariants.{Shape}
-use Rattle.gb_core.specs.declared.ty.Ty.TheVariants.{Real as real_ty}
-use Rattle.gb_terms.specs.declared.op.Rel.TheVariants.{Equal}
 use Rattle.gb_terms.specs.declared.op.Side.{Side}
 use Rattle.gb_terms.specs.declared.op.Read.TheVariants.{Program}
 use Rattle.gb_terms.specs.declared.term.Term.{Term}
-use Rattle.gb_terms.specs.declared.term.Head.TheVariants.{Mu}
-use Rattle.gb_terms.specs.Make.{node, truth_literal}
 use Rattle.gb_walk.specs.declared.change.Change.TheVariants.{ToTerm}
 use Rattle.gb_walk.specs.Change.{term_changed}
 use Rattle.gb_steps.specs.declared.step.Acts.{Acts}
@@ -15,10 +11,11 @@ use Rattle.gb_steps.specs.declared.step.Acts.TheVariants as on
 use Rattle.gb_goal.specs.Answers.{Answer}
 use Rattle.gb_goal.specs.Goal.{Goal}
 use Rattle.gb_goal.specs.Rows.{Row, refusing}
+use Rattle.gb_goal.specs.Scope.{Declarations}
 use Rattle.gb_typing.specs.Forms.{and_form, located}
 use Rattle.gb_typing.specs.Samplings.{Sampling, last_sampling}
 use Rattle.gb_typing.specs.Supports.{nearest, for_support}
-use Rattle.gb_chance.specs.Compared.{compared, one}
+use Rattle.gb_forms.specs.Surely.{surely_drawn}
 use Rattle.gb_full.specs.Loss.{may_lose}
 use Rattle.gb_parts.specs.OneBody.{OneBody, one_body, on_one}
 use Rattle.gb_equiv.specs.Drawn.{clashing, unless_clash}
@@ -31,24 +28,16 @@ with_value r x q = term_changed q (ToTerm (Program x.target r) (nearest x.ty) �
 abbrev pub each_drawn : Side → Sampling → Term → Term
 each_drawn r x q = for_support x.ty (located r x.from) (with_value r x q)
 
--- how likely any value is drawn at all: `mu d (fun v => true)`
-abbrev pub drawing : Side → Sampling → Term
-drawing r x = node Mu (located r x.from ∷ truth_literal true ∷ []) real_ty
-
--- Some value is drawn: `mu d (fun v => true) = 1%r`.
-abbrev pub surely_drawn : Side → Sampling → Term
-surely_drawn r x = compared Equal (drawing r x) one
-
 -- what is to hold before the sampling; that some value is drawn is asked first where the distribution may lose weight
-abbrev pub before_drawing : Side → Sampling → Term → Term
-before_drawing r x q = if may_lose x.from then and_form (surely_drawn r x) (each_drawn r x q) else each_drawn r x q
+abbrev pub before_drawing : Declarations → Side → Sampling → Term → Term
+before_drawing ds r x q = if may_lose ds x.from then and_form (surely_drawn r x) (each_drawn r x q) else each_drawn r x q
 
 -- the goal without the sampling that ends the body on which the rule acts
-abbrev pub by_end : OneBody → Option Sampling → Answer (List Goal)
-by_end o (Some x) = unless_clash (clashing o.side x.target o.post) (o.goal x.before o.pre (before_drawing o.side x o.post))
-by_end o None = refusing Shape
+abbrev pub by_end : Declarations → OneBody → Option Sampling → Answer (List Goal)
+by_end ds o (Some x) = unless_clash (clashing o.side x.target o.post) (o.goal x.before o.pre (before_drawing ds o.side x o.post))
+by_end ds o None = refusing Shape
 
 -- `rnd` on one of two bodies
-abbrev pub drawn_row : Acts → Row
-drawn_row on.All G = refusing Shape
-drawn_row a G = on_one (λ o. by_end o (last_sampling o.list)) (one_body a G) (refusing Shape)
+abbrev pub drawn_row : Declarations → Acts → Row
+drawn_row ds on.All G = refusing Shape
+drawn_row ds a G = on_one (λ o. by_end ds o (last_sampling o.list)) (one_body a G) (refusing Shape)

@@ -7,6 +7,7 @@ use Rattle.gb_steps.specs.declared.step.Rule.TheVariants.{Relational}
 use Rattle.gb_steps.specs.declared.step.RelationalRule.TheVariants.{Rnd, Symmetry, Drawn, Transitivity}
 use Rattle.gb_goal.specs.Goal.{Goal}
 use Rattle.gb_goal.specs.Rows.{Row, refusing}
+use Rattle.gb_goal.specs.Scope.{Declarations}
 use Rattle.gb_typing.specs.Context.{Context}
 use Rattle.gb_typing.specs.Rules.{no_arguments}
 use Rattle.gb_equiv.specs.Rnd.{rnd_row, AreTypedFunctions}
@@ -15,12 +16,12 @@ use Rattle.gb_relational.specs.OneSide.{drawn_row}
 use Rattle.gb_relational.specs.Transitivity.{transitivity_row, IsTypedBetween}
 
 -- what a relational rule makes of goals; the other rules are of other crates
-abbrev pub rule_row : Rule → Row
-rule_row (Relational (Rnd fs)) = rnd_row fs
-rule_row (Relational Symmetry) = symmetry_row
-rule_row (Relational (Drawn a)) = drawn_row a
-rule_row (Relational (Transitivity t)) = transitivity_row t
-rule_row r = λ G. refusing Shape
+abbrev pub rule_row : Declarations → Rule → Row
+rule_row ds (Relational (Rnd fs)) = rnd_row fs
+rule_row ds (Relational Symmetry) = symmetry_row
+rule_row ds (Relational (Drawn a)) = drawn_row ds a
+rule_row ds (Relational (Transitivity t)) = transitivity_row t
+rule_row ds r = λ G. refusing Shape
 
 -- the arguments of a rule are typed
 abbrev pub IsTypedRule : Context → Rule → List TypedName → List TypedName → Goal → Type 0

@@ -15,13 +15,8 @@ use gb_steps::step::{RelationalRule, Rule, Step};
 use std::alloc::Global;
 
 /// The subgoals of a relational rule at a goal, in order. Refused as the rule says, at the place of the step.
-pub fn apply(
-    alloc: Global,
-    step: &Step,
-    goal: &Sequent,
-    _scope: &Scope,
-) -> Result<Sequents, Refused>
-    ensures { Answers (stepped (rule_row step.now.rule) step.now.place goal.now) result }
+pub fn apply(alloc: Global, step: &Step, goal: &Sequent, scope: &Scope) -> Result<Sequents, Refused>
+    ensures { Answers (stepped (rule_row scope.now step.now.rule) step.now.place goal.now) result }
 {
     match &step.rule {
         Rule::Relational(RelationalRule::Rnd(maps)) => rnd_rule(
@@ -32,7 +27,7 @@ pub fn apply(
         ),
         Rule::Relational(RelationalRule::Symmetry) => symmetry(alloc, goal, step.place),
         Rule::Relational(RelationalRule::Drawn(acts)) => {
-            drawn_rule(alloc, goal, *acts, step.place)
+            drawn_rule(alloc, goal, scope, *acts, step.place)
         }
         Rule::Relational(RelationalRule::Transitivity(between)) => {
             transitivity(alloc, goal, between, step.place)

@@ -29,7 +29,8 @@ use Rattle.gb_typing.specs.Scopes.{of_operator}
 use Rattle.gb_typing.specs.Typing.{first, middle, last, IsTyped, AreTyped}
 use Rattle.gb_typing.proofs.Made.{EachMade, made_node}
 use Rattle.gb_typing.proofs.Plain.{ArePlain, plain_changed}
-use Rattle.gb_rewrite.specs.Unfolded.{is_operator, in_places, unfolded, all_unfolded}
+use Rattle.gb_forms.specs.Arguments.{in_places}
+use Rattle.gb_rewrite.specs.Unfolded.{is_operator, unfolded, all_unfolded}
 use Rattle.gb_rewrite.proofs.Closed.{IsClosed}
 use Rattle.gb_rewrite.proofs.Filled.{Filled, Fills, filled}
 use Rattle.gb_rewrite.proofs.Kept.{IsInside, inside_first, inside_middle, inside_last}

@@ -6,7 +6,8 @@ use Rattle.gb_walk.specs.Change.{term_changed}
 use Rattle.gb_meaning.specs.Commands.{terms_in}
 use Rattle.gb_meaning.specs.Names.{Name}
 use Rattle.gb_changes.proofs.Trees.{out_is}
-use Rattle.gb_rewrite.specs.Unfolded.{is_operator, in_places, unfolded, all_unfolded}
+use Rattle.gb_forms.specs.Arguments.{in_places}
+use Rattle.gb_rewrite.specs.Unfolded.{is_operator, unfolded, all_unfolded}
 use mathlib.Core.Former.{Count}
 
 module _ (x : Name) (b : Term) where

@@ -18,7 +18,8 @@ use Rattle.gb_typing.proofs.Sound.{Procedures, sound_form}
 use Rattle.gb_typing.specs.Rules.{outermost}
 use Rattle.gb_eval.specs.Meant.{IsBody}
 use Rattle.gb_equality_laws.proofs.Alike.{alike_of}
-use Rattle.gb_rewrite.specs.Unfolded.{is_operator, in_places, unfolded}
+use Rattle.gb_forms.specs.Arguments.{in_places}
+use Rattle.gb_rewrite.specs.Unfolded.{is_operator, unfolded}
 use Rattle.gb_rewrite.proofs.Applied.{unfolded_made}
 use Rattle.gb_rewrite.proofs.Layers.{unfolded_out}
 use Rattle.gb_rewrite.proofs.Moved.{IsJudgment, Preserves}

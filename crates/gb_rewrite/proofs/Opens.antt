@@ -34,7 +34,8 @@ use Rattle.gb_typing.proofs.Formed.{formed}
 use Rattle.gb_typing.proofs.Sound.{Procedures}
 use Rattle.gb_typing.proofs.Uses.{is_value}
 use Rattle.gb_eval.specs.Meant.{IsBody}
-use Rattle.gb_rewrite.specs.Unfolded.{is_operator, in_places, unfolded, all_unfolded}
+use Rattle.gb_forms.specs.Arguments.{in_places}
+use Rattle.gb_rewrite.specs.Unfolded.{is_operator, unfolded, all_unfolded}
 use Rattle.gb_rewrite.proofs.Applied.{from_last, ArePlaced, as_many, bound_alone, body_closed, IsApplied, application, parts_made}
 use Rattle.gb_rewrite.proofs.Filled.{AreFit, filled_denominator, means_filled}
 use Rattle.gb_rewrite.proofs.Kept.{IsInside, inside_first, inside_middle, inside_last}

@@ -1,5 +1,5 @@
 -- Terms with an operator of the script unfolded.
-use Rattle.std.specs.Prelude.{Bool, false, ◌||◌, if◌then◌else◌, List, [], ◌∷◌, length, map, bytes_eq}
+use Rattle.std.specs.Prelude.{Bool, false, ◌||◌, if◌then◌else◌, List, [], ◌∷◌, map, bytes_eq}
 use Rattle.std.specs.List.{list_any}
 use Rattle.gb_terms.specs.declared.term.Cmd.{Cmd}
 use Rattle.gb_terms.specs.declared.term.Head.{Head}
@@ -11,8 +11,8 @@ use Rattle.gb_terms.specs.declared.term.Instr.{Instr, Row_of-Instr, end_of-Instr
 use Rattle.gb_terms.specs.declared.term.Subject.{Subject}
 use Rattle.gb_terms.specs.declared.term.Term.{Term, Term', Row_of-Term, end_of-Term, more_of-Term, end_of-Head, more_of-Head}
 use Rattle.gb_terms.specs.Make.{node}
-use Rattle.gb_walk.specs.declared.change.Change.TheVariants.{OfBound}
-use Rattle.gb_walk.specs.Change.{Changes, term_changed}
+use Rattle.gb_walk.specs.Change.{term_changed}
+use Rattle.gb_forms.specs.Arguments.{in_places}
 use Rattle.gb_meaning.specs.Names.{Name}
 
 -- Whether an operator of the script stands in a term, the programs in it included.
@@ -61,11 +61,6 @@ module _ (x : Name) where
 abbrev pub is_operator : Name → Head → Bool
 is_operator x (head.User n) = bytes_eq x n
 is_operator x h = false
-
--- terms in the places of the variables that an operator's body binds, the last one innermost
-abbrev pub in_places : List Term → Changes
-in_places [] = []
-in_places (t ∷ ts) = OfBound (length ts) t ∷ in_places ts
 
 abbrev mutual
   -- A term in which an operator's body takes the place of each application of it, with the arguments in the places of its variables.

@@ -15,6 +15,7 @@ use gb_amb::quantified::{refuse_goal_modules, refuse_modules};
 use gb_core::name::Name;
 use gb_core::place::Place;
 use gb_core::refusal::Refused;
+use gb_forms::hypotheses::with_hypotheses;
 use gb_goal::scope::{Entry, Scope};
 use gb_goal::sequent::{Hyp, Sequent, Sequents};
 use gb_shared::SharedItems;
@@ -116,9 +117,7 @@ fn without(
 {
     let hyps = others(alloc, hyp, replaced, by, goal.hyps.as_slice())?;
     let conclusion = rewritten(alloc, &goal.conclusion, replaced, by)?;
-    let mut rest = goal.with_conclusion(conclusion)?;
-    rest.hyps = hyps;
-    Ok(rest)
+    with_hypotheses(goal, hyps, conclusion)
 }
 
 fn using_up(

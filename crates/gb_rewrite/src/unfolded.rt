@@ -4,15 +4,13 @@ ghost use Rattle.std.specs.Prelude.{◌≡◌, ◌∷◌, ◌++◌, [], map, IfO
 ghost use Rattle.std.specs.List.{list_any};
 ghost use Rattle.gb_terms.specs.declared.term.Term.{out-Term};
 ghost use Rattle.gb_terms.specs.Make.{node};
-ghost use Rattle.gb_walk.specs.Change.{term_changed};
-ghost use Rattle.gb_rewrite.specs.Unfolded.{cmd_names, head_names, in_places, instr_names, is_operator, names, subject_names, unfolded};
+ghost use Rattle.gb_rewrite.specs.Unfolded.{cmd_names, head_names, instr_names, is_operator, names, subject_names, unfolded};
 
 use crate::rewritten::with_args;
 use gb_core::name::Name;
 use gb_core::same::same_name;
+use gb_forms::arguments::at_arguments;
 use gb_terms::term::{Cmd, Head, Instr, Subject, Term, Terms};
-use gb_walk::change::{Change, Changes};
-use gb_walk::walk::changed;
 use sqlite_items::Items;
 use std::alloc::{AllocError, Global};
 
@@ -96,27 +94,6 @@ fn is_operator(head: &Head, name: &Name) -> bool
         Head::User(operator) => same_name(name, operator),
         _ => false,
     }
-}
-
-/// Terms in the places of the variables that an operator's body binds, the last one innermost. A list that is longer than numbers of
-/// 32 bits doesn't fit in memory, and so counts as a want of it.
-fn in_places(alloc: Global, terms: &[Term]) -> Result<Changes, AllocError>
-    ensures { IfOk result (λ made. made ≡ in_places terms.now) }
-{
-    let mut changes = Items::new(alloc);
-    for i in 0..terms.len() {
-        let place = u32::try_from(terms.len() - 1 - i).or(Err(AllocError))?;
-        changes.push(Change::OfBound(place, terms[i].share()?))?;
-    }
-    Ok(changes)
-}
-
-/// A body with arguments in the places of its variables.
-fn at_arguments(alloc: Global, body: &Term, args: &[Term]) -> Result<Term, AllocError>
-    ensures { IfOk result (λ made. made ≡ term_changed body.now (in_places args.now)) }
-{
-    let changes = in_places(alloc, args)?;
-    changed(alloc, body, changes.as_slice())
 }
 
 /// A term with an operator's body in place of each application of it. The programs of judgments stay as they are.

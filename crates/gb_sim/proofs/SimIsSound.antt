@@ -38,6 +38,7 @@ use Rattle.gb_typing.proofs.Lifted.{sequent_outermost}
 use Rattle.gb_typing.proofs.LinkedProcedures.{linked_there}
 use Rattle.gb_typing.proofs.Located.{IsTypedThere, typed_there}
 use Rattle.gb_prog.specs.Ends.{LoopsEnd}
+use Rattle.gb_full.proofs.Operators.{scope_full}
 use Rattle.gb_reads.specs.Reads.{Vars}
 use Rattle.gb_sim.specs.Need.{if_known, need}
 use Rattle.gb_sim.specs.Sim.{AreSame, by_need, equal_in, equal_on, sim_row}
@@ -80,7 +81,7 @@ module _ (ds : Declarations) (scoped : IsTypedScope (declared ds)) (t : Sequent)
         let truth = implies_use g j p (equal_on W) (between s m n) (pair_meaning c outer (Some ls) (Some rs) ls rs refl refl (implies_form p (equal_on W)) form g fits j fair s h.0 m n) x in
         subst (λ ks. Coupling (λ a b. IsTrueUnder g j q (between s a b)) (run g s is m) (denominator g is) (run g s ks n) (denominator g ks)) same
         (coupling_weakening (λ a b r. equal_holds g j s a b q V equal r)
-        (each_coupled ds c g fits there (linked g over) s ls is (let y = w.1 in y.statements) V W needed (body_sound c g fits ls is (let y = w.1 in y.statements)) m n (equal_says g j s m n W truth)))
+        (each_coupled ds c g fits (scope_full ds scoped t typed.frames g fits.types over) there (linked g over) s ls is (let y = w.1 in y.statements) V W needed (body_sound c g fits ls is (let y = w.1 in y.statements)) m n (equal_says g j s m n W truth)))
 
   sound_bodies : (ls rs : List TypedName) (is js : List Instr) → is ≡ js → (p q : Term) → IsGoalOver c ls rs (equiv (body is) (body js) p q) → IsSoundIn (declared ds) c (sim_row ds) (equiv (body is) (body js) p q)
   sound_bodies ls rs is js same p q w Gs e = by_equal (equal_in q) refl e

@@ -54,6 +54,7 @@ use Rattle.gb_mods.specs.Called.{all_reached, row_calls}
 use Rattle.gb_mods.proofs.Closed.{AreFollowed, IsIn, all_closed}
 use Rattle.gb_full.specs.Loss.{may_lose}
 use Rattle.gb_full.proofs.Full.{full_term}
+use Rattle.gb_full.proofs.Operators.{AreFullOperators}
 use Rattle.gb_typing.specs.Context.{Context, of_program, procedure}
 use Rattle.gb_typing.specs.Fits.{IsSettingOf}
 use Rattle.gb_typing.specs.Programs.{AreStatements, EachStatement, IsCall, IsExpression, IsProcedure, IsStatement, locals_of, type_of_procedure}
@@ -152,7 +153,7 @@ are_reached ds ps R e = by_reach (all_reached ds ps) refl e
     by_reach None d e = absurd (none-some R e)
     by_reach (Some S) d e = let k = all_closed ds ps S d in record { all = S; closed = k.closed; there = k.there; found = e }
 
-module _ (ds : Declarations) (c : Context) (g : Setting) (fits : IsSettingOf c g)
+module _ (ds : Declarations) (c : Context) (g : Setting) (fits : IsSettingOf c g) (operators : AreFullOperators ds g c)
     (there : (p : ProcRef) (a : Proc) → procedure_of ds p ≡ Some a → IsTypedThere c p a)
     (linked : (p : ProcRef) (a : Proc) → procedure_of ds p ≡ Some a → g.procedure p ≡ Some (routine a.params a.locals (statements g a.body.list) a.value))
     (s : State) (ls : List TypedName) where
@@ -207,7 +208,7 @@ module _ (ds : Declarations) (c : Context) (g : Setting) (fits : IsSettingOf c g
     abbrev IsDrawn : Memory → Memory → Type 0
     IsDrawn y z = (v : Value) × (z ≡ write g.types y x v)
 
-    drawn_unneeded : may_lose d ≡ false → concern (x ∷ []) V ≡ false → Same V m n → Coupling (Same V) (drawn m) (denominator g d) (drawn n) (denominator g d)
+    drawn_unneeded : may_lose ds d ≡ false → concern (x ∷ []) V ≡ false → Same V m n → Coupling (Same V) (drawn m) (denominator g d) (drawn n) (denominator g d)
     drawn_unneeded f k a =
         let z = sound.0 in
         coupling_product (IsDrawn m) (IsDrawn n) (Same V)
@@ -218,11 +219,11 @@ module _ (ds : Declarations) (c : Context) (g : Setting) (fits : IsSettingOf c g
         each y h = On-dmap {P = λ v. Unit {0}} (IsDrawn y) (write g.types y x) (D y) (λ v u. (v, refl)) (h (inside s y))
 
         whole : (y : Memory) → total (drawn y) ≡ denominator g d
-        whole y = mass-dmap (write g.types y x) (D y) (λ a. 1) ∙ full_term c g fits ls d w.0 w.1 f (inside s y)
+        whole y = mass-dmap (write g.types y x) (D y) (λ a. 1) ∙ full_term ds c g fits operators ls d w.0 w.1 f (inside s y)
 
-    drawn_same : (b : Bool) → (may_lose d || concern (x ∷ []) V) ≡ b → Same (written_need b (x ∷ []) d V) m n → Coupling (Same V) (drawn m) (denominator g d) (drawn n) (denominator g d)
+    drawn_same : (b : Bool) → (may_lose ds d || concern (x ∷ []) V) ≡ b → Same (written_need b (x ∷ []) d V) m n → Coupling (Same V) (drawn m) (denominator g d) (drawn n) (denominator g d)
     drawn_same true k a = drawn_needed a
-    drawn_same false k a = let z = or_parts (may_lose d) (concern (x ∷ []) V) k in drawn_unneeded z.0 z.1 a
+    drawn_same false k a = let z = or_parts (may_lose ds d) (concern (x ∷ []) V) k in drawn_unneeded z.0 z.1 a
 
   -- A loop.
   module _ (e v : Term) {o : Count} (a : Row_of-Instr o) (w : (IsExpression c ls e × (type_of e ≡ ty.Bool)) × (IsExpression c ls v × IsModulo (type_of v)) × AreStatements c ls a) (sound : IsSound g (loop e v (program_of g a) done)) (V R : Vars) (r : AreReached ds (row_calls a) R) (m n : Memory) where
@@ -368,8 +369,8 @@ module _ (ds : Declarations) (c : Context) (g : Setting) (fits : IsSettingOf c g
         (assigned_same xs e w V m n (concern xs V) refl (subst (λ U. Same U m n) (sym (same_Some (written_need (concern xs V) xs e V) W k)) h))
     statement_coupled (Sample x e) w V W k d sound Q next m n h =
         following V d Q next (drawn x e w (sound.0, tt) V m n m) (denominator g e) (drawn x e w (sound.0, tt) V m n n)
-        (drawn_same x e w (sound.0, tt) V m n (may_lose e || concern (x ∷ []) V) refl
-        (subst (λ U. Same U m n) (sym (same_Some (written_need (may_lose e || concern (x ∷ []) V) (x ∷ []) e V) W k)) h))
+        (drawn_same x e w (sound.0, tt) V m n (may_lose ds e || concern (x ∷ []) V) refl
+        (subst (λ U. Same U m n) (sym (same_Some (written_need (may_lose ds e || concern (x ∷ []) V) (x ∷ []) e V) W k)) h))
     statement_coupled (Call' xs p o es) w V W k d sound Q next m n h =
         let z = mapped (λ os. before xs (row_reads es ++ os) V) (reached_reads ds (p ∷ [])) W k in
         let r = are_reached ds (p ∷ []) z.value z.is_known in

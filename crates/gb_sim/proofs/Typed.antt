@@ -246,7 +246,7 @@ module _ (ds : Declarations) (c : Context) (typed : (p : ProcRef) (a : Proc) →
     statement_need_readable (Assign xs e) w V W k h =
         subst R (same_Some (written_need (concern xs V) xs e V) W k) (written_readable (concern xs V) xs e w.0.expression V h)
     statement_need_readable (Sample x d) w V W k h =
-        subst R (same_Some (written_need (may_lose d || concern (x ∷ []) V) (x ∷ []) d V) W k) (written_readable (may_lose d || concern (x ∷ []) V) (x ∷ []) d w.0 V h)
+        subst R (same_Some (written_need (may_lose ds d || concern (x ∷ []) V) (x ∷ []) d V) W k) (written_readable (may_lose ds d || concern (x ∷ []) V) (x ∷ []) d w.0 V h)
     statement_need_readable (Call' xs p n es) w V W k h =
         let z = mapped (λ os. before xs (row_reads es ++ os) V) (reached_reads ds (p ∷ [])) W k in
         subst R z.is

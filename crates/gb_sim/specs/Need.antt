@@ -74,7 +74,7 @@ of_branches rs _ _ = None
 abbrev mutual
   pub statement_need : Declarations → Instr → Vars → Option Vars
   statement_need ds (Assign xs e) V = Some (written_need (concern xs V) xs e V)
-  statement_need ds (Sample x d) V = Some (written_need (may_lose d || concern (x ∷ []) V) (x ∷ []) d V)
+  statement_need ds (Sample x d) V = Some (written_need (may_lose ds d || concern (x ∷ []) V) (x ∷ []) d V)
   statement_need ds (Call' xs p n es) V = called_need ds xs p (row_reads es) V
   statement_need ds (If' e m a n b) V = of_branches (term_reads e) (row_need ds a V) (row_need ds b V)
   statement_need ds (While' e v n a) V = loop_need ds (term_reads e ++ (term_reads v ++ body_reads a)) (row_calls a) V

@@ -1,6 +1,7 @@
 //! What has to be equal before the same statements on both sides, so that variables are equal after them.
 
 ghost use Rattle.std.specs.Prelude.{◌≡◌, ◌++◌, IfOk};
+ghost use Rattle.gb_full.specs.Loss.{full_operators};
 ghost use Rattle.gb_mods.specs.Called.{calls};
 ghost use Rattle.gb_terms.specs.Equal.{var_eq};
 ghost use Rattle.gb_sim.specs.Need.{before, called_need, concern, concerns, is_among, is_same, joined, loop_need, need, of_branches, placed, statement_need, without, written_need};
@@ -9,6 +10,7 @@ ghost use Rattle.gb_sim.specs.Reads.{each_reads, list_reads, term_reads};
 use crate::reads::{
     each_reads, list_reads, reached_reads, shared_variable, term_reads, with_variables,
 };
+use gb_core::name::Name;
 use gb_core::same::same_var;
 use gb_core::var::Var;
 use gb_full::loss::may_lose;
@@ -220,14 +222,16 @@ fn of_branches(
     Ok(Some(joined(alloc, reads.as_slice(), together)?))
 }
 
-/// What is needed before a statement, so that variables are equal after it.
+/// What is needed before a statement, so that variables are equal after it. It is told which operators are full.
 #[cycle(need)]
 fn statement_need(
     alloc: Global,
     statement: &Instr,
     scope: &Scope,
+    full: &[Name],
     after: &[TypedVar],
 ) -> Result<Option<TypedVars>, AllocError>
+    requires { full.now ≡ full_operators scope.now }
     ensures { IfOk result (λ made. made ≡ statement_need scope.now statement.now after.now) }
 {
     match statement {
@@ -238,7 +242,7 @@ fn statement_need(
         }
         Instr::Sample(target, from) => {
             let targets = from_ref(target);
-            let matters = may_lose(from) || concern(targets, after);
+            let matters = may_lose(from, scope, full) || concern(targets, after);
             Ok(Some(written_need(alloc, matters, targets, from, after)?))
         }
         Instr::Call(targets, procedure, args) => {
@@ -252,8 +256,8 @@ fn statement_need(
             )
         }
         Instr::If(test, yes, no) => {
-            let yes = need(alloc, yes.list.as_slice(), scope, after)?;
-            let no = need(alloc, no.list.as_slice(), scope, after)?;
+            let yes = need(alloc, yes.list.as_slice(), scope, full, after)?;
+            let no = need(alloc, no.list.as_slice(), scope, full, after)?;
             of_branches(alloc, test, yes, no)
         }
         Instr::While(test, variant, body) => {
@@ -270,14 +274,16 @@ pub fn need(
     alloc: Global,
     list: &[Instr],
     scope: &Scope,
+    full: &[Name],
     after: &[TypedVar],
 ) -> Result<Option<TypedVars>, AllocError>
+    requires { full.now ≡ full_operators scope.now }
     ensures { IfOk result (λ made. made ≡ need scope.now list.now after.now) }
 {
     let mut known = with_variables(Items::new(alloc), after)?;
     for k in 0..list.len() {
         let at = list.len() - 1 - k;
-        let Some(earlier) = statement_need(alloc, &list[at], scope, known.as_slice())? else {
+        let Some(earlier) = statement_need(alloc, &list[at], scope, full, known.as_slice())? else {
             return Ok(None);
         };
         known = earlier;

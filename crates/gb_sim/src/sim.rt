@@ -4,7 +4,7 @@ ghost use Rattle.std.specs.Prelude.{◌≡◌, map, IfOk};
 ghost use Rattle.gb_amb.specs.Steps.{Returns};
 ghost use Rattle.gb_goal.specs.Answers.{Answers};
 ghost use Rattle.gb_goal.specs.Rows.{each_concluding};
-ghost use Rattle.gb_typing.specs.Forms.{every_pair, implies_form};
+ghost use Rattle.gb_typing.specs.Forms.{every_pair};
 ghost use Rattle.gb_sim.specs.Sim.{IsAnswer, both, by_need, equal_in, equal_on, equality, equated, equated_at, on_statements, read_in, same_variable, variable_in, variable_of, with_equalities};
 
 use crate::need::{is_same, joined, need};
@@ -12,6 +12,7 @@ use gb_core::copy::copy_var;
 use gb_core::place::Place;
 use gb_core::refusal::{Refused, Why};
 use gb_core::ty::Ty;
+use gb_full::loss::full_operators;
 use gb_goal::goal::{Code, Goal, goal_of};
 use gb_goal::scope::Scope;
 use gb_goal::sequent::{Sequent, Sequents};
@@ -208,7 +209,8 @@ fn on_statements(
     let Some(equal) = equal_in(alloc, post)? else {
         return Err(no_shape());
     };
-    let needed = need(alloc, list, scope, equal.as_slice())?;
+    let full = full_operators(alloc, scope)?;
+    let needed = need(alloc, list, scope, full.as_slice(), equal.as_slice())?;
     by_need(alloc, goal, pre, needed)
 }
 

@@ -1,10 +1,9 @@
 // What procedures read and write, and what they are linked to.
 
 use gb_core::name::Name;
-use gb_core::refusal::Refused;
 use gb_core::ty::Ty;
 use gb_core::value::Value;
-use gb_core::var::{Var, Vars};
+use gb_core::var::Var;
 use gb_goal::scope::Scope;
 use gb_mods::procedures::{cmd_reads, cmd_writes, link, proc_reads, proc_writes};
 use gb_shared::{Shared, SharedItems};
@@ -102,54 +101,44 @@ fn names(alloc: Global, list: &[Var]) -> Result<String, AllocError> {
     Ok(text)
 }
 
-fn names_if(alloc: Global, found: Option<Vars>) -> Result<String, AllocError> {
-    match found {
-        Some(list) => names(alloc, list.as_slice()),
-        None => String::from_str(alloc, "?"),
+/// Tells the names of globals.
+fn tell(rt: &HostRuntime, what: &str, list: &[Var]) -> io::Result<()> {
+    let names = names(rt.alloc(), list)?;
+    println!(rt; "M.g {what} {names}")
+}
+
+/// What a procedure reads through all that it calls.
+fn through_reads(rt: &HostRuntime, scope: &Scope, procedure: &Shared<ProcRef>) -> io::Result<()> {
+    match proc_reads(rt.alloc(), scope, procedure)? {
+        Some(list) => tell(rt, "reads", list.as_slice()),
+        None => Ok(()),
     }
 }
 
-/// What a procedure reads and writes, through all that it calls.
-fn through_calls(
-    alloc: Global,
-    scope: &Scope,
-    procedure: &Shared<ProcRef>,
-) -> Result<String, AllocError> {
-    let reads = names_if(alloc, proc_reads(alloc, scope, procedure)?)?;
-    let writes = names_if(alloc, proc_writes(alloc, scope, procedure)?)?;
-    format!(in alloc; "reads {reads}, writes {writes}")
+/// What it writes so.
+fn through_writes(rt: &HostRuntime, scope: &Scope, procedure: &Shared<ProcRef>) -> io::Result<()> {
+    match proc_writes(rt.alloc(), scope, procedure)? {
+        Some(list) => tell(rt, "writes", list.as_slice()),
+        None => Ok(()),
+    }
 }
 
 /// What its own statements read and write.
-fn of_its_own(alloc: Global, body: &Cmd) -> Result<String, AllocError> {
-    let reads = cmd_reads(alloc, body)?;
-    let writes = cmd_writes(alloc, body)?;
-    let reads = names(alloc, reads.as_slice())?;
-    let writes = names(alloc, writes.as_slice())?;
-    format!(in alloc; "of its own {reads} and {writes}")
+fn of_its_own(rt: &HostRuntime, body: &Cmd) -> io::Result<()> {
+    let reads = cmd_reads(rt.alloc(), body)?;
+    tell(rt, "itself reads", reads.as_slice())?;
+    let writes = cmd_writes(rt.alloc(), body)?;
+    tell(rt, "itself writes", writes.as_slice())
 }
 
-/// The same of `M.g`.
-fn told(alloc: Global) -> Result<String, Refused> {
-    let scope = scope(alloc)?;
-    let g = reference(alloc, "g")?;
-    let linked = link(alloc, &scope, g.get())?;
-    let own = of_its_own(alloc, &linked.body)?;
-    let through = through_calls(alloc, &scope, &g)?;
-    let text = format!(in alloc; "{through}, {own}")?;
-    Ok(text)
-}
-
-/// Whether a procedure that isn't declared is linked.
-fn is_linked(alloc: Global, name: &str) -> Result<bool, AllocError> {
-    let scope = scope(alloc)?;
-    Ok(link(alloc, &scope, reference(alloc, name)?.get()).is_ok())
-}
-
+/// Tells what `M.g` reads and writes.
 pub fn effects(rt: &HostRuntime) -> io::Result<()> {
-    let other = is_linked(rt.alloc(), "h")?;
-    match told(rt.alloc()) {
-        Ok(text) => println!(rt; "M.g {text}; M.h is linked: {other}"),
+    let scope = scope(rt.alloc())?;
+    let g = reference(rt.alloc(), "g")?;
+    through_reads(rt, &scope, &g)?;
+    through_writes(rt, &scope, &g)?;
+    match link(rt.alloc(), &scope, g.get()) {
+        Ok(linked) => of_its_own(rt, &linked.body),
         Err(_) => println!(rt; "M.g isn't linked"),
     }
 }

@@ -18,7 +18,8 @@ use Rattle.gb_names.proofs.Answers.{fails_as, leads_on, passes}
 use Rattle.gb_names.proofs.Nodes.{said_is}
 use Rattle.gb_theory.specs.Patterns.{all_new, is_pattern}
 use Rattle.gb_theory.specs.Combinators.{Stepping, done_at, gathered_behind, in_turn, introduced, on_each, patterned, repeated, ruled, spread, stepped_by, times, Working, worked, works}
-use Rattle.gb_theory.specs.Tactics.{with_works, each_works, fits, inner, times_allowed}
+use Rattle.gb_combinators.specs.Combinators.{times_allowed}
+use Rattle.gb_theory.specs.Tactics.{with_works, each_works, fits, inner}
 
 placed_behind : (place : Place) (a : Answer (List Sequent)) (k : List Sequent → Answer (List Sequent)) →
     placed_at place (a >>= k) ≡ (placed_at place a >>= λ qs. placed_at place (k qs))

@@ -98,22 +98,22 @@ while_meets ds r v place q result is h =
     (gives_meets (λ (x : List Sequent). x) (Applied ds (rule.While v) place q) (stepped (while_row ds v.acts v.kept) place q) result h (λ x e. e))
 
 pub both_meets : (ds : Declarations) (r : Rule) (b : RelationalRule) (place : Place) (q : Sequent) (result : Result (List Sequent) Refused)
-    → r ≡ rule.Relational b → (b ≡ on_both.Sim → ⊥) → Answers (stepped (equiv.rule_row r) place q) result → Meets (λ (x : List Sequent). x) (Applied ds r place q) result
+    → r ≡ rule.Relational b → (b ≡ on_both.Sim → ⊥) → Answers (stepped (equiv.rule_row ds r) place q) result → Meets (λ (x : List Sequent). x) (Applied ds r place q) result
 both_meets ds r b place q result is other h =
     subst (λ x. Meets (λ (y : List Sequent). y) (Applied ds x place q) result) (sym is)
-    (of_rule b other (subst (λ x. Answers (stepped (equiv.rule_row x) place q) result) is h))
+    (of_rule b other (subst (λ x. Answers (stepped (equiv.rule_row ds x) place q) result) is h))
   where
-    of_rule : (b : RelationalRule) → (b ≡ on_both.Sim → ⊥) → Answers (stepped (equiv.rule_row (rule.Relational b)) place q) result →
+    of_rule : (b : RelationalRule) → (b ≡ on_both.Sim → ⊥) → Answers (stepped (equiv.rule_row ds (rule.Relational b)) place q) result →
         Meets (λ (y : List Sequent). y) (Applied ds (rule.Relational b) place q) result
     of_rule on_both.Sim n k = absurd (n refl)
     of_rule (on_both.Rnd fs) n k =
-        gives_meets (λ (x : List Sequent). x) (OnBoth ds (on_both.Rnd fs) place q) (stepped (equiv.rule_row (rule.Relational (on_both.Rnd fs))) place q) result k (λ x e. e)
+        gives_meets (λ (x : List Sequent). x) (OnBoth ds (on_both.Rnd fs) place q) (stepped (equiv.rule_row ds (rule.Relational (on_both.Rnd fs))) place q) result k (λ x e. e)
     of_rule on_both.Symmetry n k =
-        gives_meets (λ (x : List Sequent). x) (OnBoth ds on_both.Symmetry place q) (stepped (equiv.rule_row (rule.Relational on_both.Symmetry)) place q) result k (λ x e. e)
+        gives_meets (λ (x : List Sequent). x) (OnBoth ds on_both.Symmetry place q) (stepped (equiv.rule_row ds (rule.Relational on_both.Symmetry)) place q) result k (λ x e. e)
     of_rule (on_both.Drawn a) n k =
-        gives_meets (λ (x : List Sequent). x) (OnBoth ds (on_both.Drawn a) place q) (stepped (equiv.rule_row (rule.Relational (on_both.Drawn a))) place q) result k (λ x e. e)
+        gives_meets (λ (x : List Sequent). x) (OnBoth ds (on_both.Drawn a) place q) (stepped (equiv.rule_row ds (rule.Relational (on_both.Drawn a))) place q) result k (λ x e. e)
     of_rule (on_both.Transitivity t) n k =
-        gives_meets (λ (x : List Sequent). x) (OnBoth ds (on_both.Transitivity t) place q) (stepped (equiv.rule_row (rule.Relational (on_both.Transitivity t))) place q) result k
+        gives_meets (λ (x : List Sequent). x) (OnBoth ds (on_both.Transitivity t) place q) (stepped (equiv.rule_row ds (rule.Relational (on_both.Transitivity t))) place q) result k
         (λ x e. e)
 
 -- what the rule on the same statements gives is what is applied

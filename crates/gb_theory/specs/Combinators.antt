@@ -11,6 +11,7 @@ use Rattle.gb_script.specs.declared.head.Head.{Head}
 use Rattle.gb_script.specs.declared.head.Head.TheVariants as head
 use Rattle.gb_script.specs.declared.tree.Node.{Node, para-Node}
 use Rattle.gb_script.specs.Tree.{node, head_of, text_of, place_of}
+use Rattle.gb_combinators.specs.Combinators.{or_left}
 use Rattle.gb_theory.specs.Patterns.{is_pattern, all_new}
 use Rattle.gb_limits.specs.Numbers.{number_of}
 
@@ -43,11 +44,6 @@ in_turn (w ∷ ws) qs = do
 abbrev pub spread : List Working → Place → Working
 spread ws place qs =
     if length ws == length qs then gathered_behind [] (map (λ x. x.0 (x.1 ∷ [])) (zip ws qs)) else refused Argument place
-
--- a refusal leaves the goal
-abbrev pub or_left : Answer (List Sequent) → Sequent → Answer (List Sequent)
-or_left (given qs) q = given qs
-or_left (refused why place) q = given (q ∷ [])
 
 -- so many times
 abbrev pub repeated : ℕ → Working → Working

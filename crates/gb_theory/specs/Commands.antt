@@ -158,7 +158,7 @@ closed_unless (Some why) place = refused why place
 abbrev pub row_of : Declarations → Rule → Row
 row_of ds (rule.OnBodies r) = bodies.rule_row ds (rule.OnBodies r)
 row_of ds (rule.While v) = while_row ds v.acts v.kept
-row_of ds (rule.Relational r) = equiv.rule_row (rule.Relational r)
+row_of ds (rule.Relational r) = equiv.rule_row ds (rule.Relational r)
 row_of ds (rule.Chance r) = chances.rule_row ds (rule.Chance r)
 row_of ds (rule.Call s) = calls.rule_row ds (rule.Call s)
 row_of ds (rule.Transform a t) = transformations.rule_row ds (rule.Transform a t)

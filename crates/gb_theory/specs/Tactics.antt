@@ -1,5 +1,5 @@
 -- The parts of a tactic, each with what it makes of goals.
-use Rattle.std.specs.Prelude.{ℕ, ◌&&◌, nat_le, if◌then◌else◌, List, map, Option, Some, None}
+use Rattle.std.specs.Prelude.{List, map}
 use Rattle.gb_script.specs.declared.tree.Node.{Node}
 use Rattle.gb_script.specs.Tree.{head_of, parts_of, place_of}
 use Rattle.gb_goal.specs.Answers.{◌>>=◌}
@@ -20,10 +20,6 @@ inner f t = worked f (head_of t) (with_works f (parts_of t)) (place_of t)
 -- what a pattern makes of a goal
 abbrev pub fits : (Node → Stepping) → Node → Stepping
 fits f t q = fitted (head_of t) (f t q) >>= inside (head_of t) (inner f t)
-
--- a number of rounds that may be asked for
-abbrev pub times_allowed : ℕ → Option ℕ
-times_allowed n = if nat_le 1 n && nat_le n 64 then Some n else None
 
 -- the parts of patterns, each with the names that it adds
 abbrev pub with_added : Sequent → List Node → List (Node × Naming)

@@ -8,15 +8,17 @@ ghost use Rattle.gb_goal.specs.declared.sequent.Sequent.{Sequent as Goal};
 ghost use Rattle.gb_limits.specs.Numbers.{number_of};
 ghost use Rattle.gb_script.specs.declared.tree.Node.{Node as Tree};
 ghost use Rattle.gb_script.specs.Tree.{head_of, parts_of, text_of, place_of};
+ghost use Rattle.gb_combinators.specs.Combinators.{or_left};
 ghost use Rattle.gb_theory.specs.Commands.{AreRules, RuleAnswers, Applied, allowed, entered, entering, on_guard, transformed, unless_unproved};
 ghost use Rattle.gb_theory.specs.Patterns.{is_pattern};
-ghost use Rattle.gb_theory.specs.Combinators.{Stepping, done_at, fitted, inside, introduced, on_each, in_turn, ruled, spread, or_left, times, stepped_by, worked, works};
+ghost use Rattle.gb_theory.specs.Combinators.{Stepping, done_at, fitted, inside, introduced, on_each, in_turn, ruled, spread, times, stepped_by, worked, works};
 ghost use Rattle.gb_theory.specs.Sessions.{Meets};
-ghost use Rattle.gb_theory.specs.Tactics.{with_works, each_works, fits, times_allowed};
+ghost use Rattle.gb_theory.specs.Tactics.{with_works, each_works, fits};
 
 use crate::limits::check_each;
 use crate::names::check_new;
 use crate::outcome_laws::rules_have_answers;
+use gb_combinators::combinators::{or_left, times_allowed};
 use gb_core::name::Name;
 use gb_core::place::Place;
 use gb_core::refusal::{Refused, Why};
@@ -24,7 +26,6 @@ use gb_ended::loops::unproved_in;
 use gb_goal::goal::goal_of;
 use gb_goal::scope::{ProcName, Scope};
 use gb_goal::sequent::{Sequent, Sequents};
-use gb_limits::numbers::number;
 use gb_names::refusals::{argument, not_built};
 use gb_parts::subgoals::{placed, refusal};
 use gb_script::head::Head;
@@ -273,16 +274,6 @@ fn only(alloc: Global, goal: &Sequent) -> Result<Sequents, AllocError>
     let mut one = Items::new(alloc);
     one.push(goal.share()?)?;
     Ok(one)
-}
-
-/// How often a step is to be repeated, where this is 1 to 64 times.
-fn times_allowed(digits: &Node) -> Option<u64>
-    ensures { result ≡ times_allowed (number_of (text_of digits.now)) }
-{
-    match number(digits.text.as_str().as_bytes()) {
-        Ok(count) if 1 <= count && count <= 64 => Some(count as u64),
-        _ => None,
-    }
 }
 
 /// What a tactic makes of one goal.
@@ -559,10 +550,8 @@ fn attempt(alloc: Global, scope: &Scope, step: &Node, goal: &Sequent) -> Result<
     ensures { (f : Tree → Stepping) → AreRules scope.now f → Answers (or_left (works f step.now (goal.now ∷ [])) goal.now) result }
 {
     let one = only(alloc, goal)?;
-    match work(alloc, scope, step, one.as_slice()) {
-        Err(Refused::Script { .. }) => Ok(one),
-        other => other,
-    }
+    let made = work(alloc, scope, step, one.as_slice());
+    or_left(one, made)
 }
 
 /// A step 1 to 64 times.

@@ -1,19 +1,18 @@
 -- The procedure whose loops `termination` is about.
-use Rattle.std.specs.Prelude.{Bool, ◌||◌, is_some, if◌then◌else◌, List, [], ◌∷◌, Option, Some, None}
+use Rattle.std.specs.Prelude.{List, [], ◌∷◌, None}
 use Rattle.gb_core.specs.declared.place.Place.{Place}
-use Rattle.gb_core.specs.declared.refusal.Why.TheVariants.{Argument, UnknownName}
 use Rattle.gb_terms.specs.declared.decl.Proc.{Proc}
 use Rattle.gb_goal.specs.Answers.{Answer, ◌>>=◌, given_or, not_built}
 use Rattle.gb_goal.specs.Answers.Answer.{given, refused}
-use Rattle.gb_goal.specs.Scope.{Declarations, entry_of, proc_of}
+use Rattle.gb_goal.specs.Scope.{Declarations, proc_of}
 use Rattle.gb_goal.specs.declared.scope.ProcName.{ProcName}
 use Rattle.gb_script.specs.declared.head.Head.{Head}
 use Rattle.gb_script.specs.declared.head.Head.TheVariants as head
 use Rattle.gb_script.specs.declared.tree.Node.{Node}
 use Rattle.gb_script.specs.Tree.{head_of, text_of, parts_of, place_of}
 use Rattle.gb_names.specs.Environment.{Name}
-use Rattle.gb_names.specs.Judgments.{Path, module_in, procedure_path}
-use Rattle.gb_names.specs.Names.{built_in, unless_unproved}
+use Rattle.gb_names.specs.Judgments.{Path, declared_module, procedure_path}
+use Rattle.gb_names.specs.Names.{no_declared, no_procedure, unless_unproved}
 use Rattle.gb_ended.specs.Ended.{first_unproved_in}
 
 abbrev pub proc_name : Path → ProcName
@@ -32,18 +31,15 @@ ended_at ds f p = do
 -- A procedure whose own module may have loops that aren't proved yet, but no other module that its body names.
 unfoldable pub procedure_at : Declarations → Path → Place → Answer Found
 procedure_at ds f p = do
-  m ← module_in (entry_of ds f.0) f.0 p
-  d ← given_or (proc_of m.procs (text_of f.1)) (UnknownName (text_of f.1)) (place_of f.1)
+  m ← declared_module None ds f.0 p
+  d ← given_or (proc_of m.procs (text_of f.1)) (no_procedure m (text_of f.1)) (place_of f.1)
   n ← ended_at ds (proc_name f) p
   given (n, d)
 
 -- a word alone names no procedure
-abbrev pub no_procedure : Declarations → Name → Place → Answer Found
-no_procedure ds x p = if is_some (entry_of ds x) || is_some (built_in x) then refused Argument p else refused (UnknownName x) p
-
 abbrev pub operand_by : Declarations → Head → Name → List Node → Place → Answer Found
 operand_by ds head.Path x (a ∷ b ∷ bs) p = procedure_at ds (procedure_path (text_of a) b bs) p
-operand_by ds head.Name x ps p = no_procedure ds x p
+operand_by ds head.Name x ps p = refused (no_declared None ds x) p
 operand_by ds h x ps p = not_built p
 
 -- the operand of `termination`

@@ -1,7 +1,7 @@
 //! The procedure whose loops `termination` is about.
 
 ghost use Rattle.gb_goal.specs.Answers.{Answers, Gives};
-ghost use Rattle.gb_variants.specs.Operand.{ended_at, no_procedure, operand, operand_by, procedure_at};
+ghost use Rattle.gb_variants.specs.Operand.{ended_at, operand, operand_by, procedure_at};
 
 use gb_core::name::Name;
 use gb_core::place::Place;
@@ -9,9 +9,9 @@ use gb_core::refusal::Refused;
 use gb_ended::ended::first_unproved_in;
 use gb_goal::scope::{ProcName, Scope, procedure_named};
 use gb_names::ended::unless_unproved;
+use gb_names::globals::{no_declared, no_procedure};
 use gb_names::judgment::{declared_module, procedure_path};
-use gb_names::names::built_in;
-use gb_names::refusals::{argument, not_built, unknown};
+use gb_names::refusals::not_built;
 use gb_script::head::Head;
 use gb_script::tree::Node;
 use gb_terms::decl::Proc;
@@ -43,7 +43,7 @@ pub fn operand<'a>(alloc: Global, scope: &'a Scope, tree: &Node) -> Result<Found
     )
 }
 
-/// The same of a tree, by its head, its text, its parts and its place.
+/// The same of a tree, by its head, its text, its parts and its place. A word alone names no procedure.
 fn operand_by<'a>(
     alloc: Global,
     scope: &'a Scope,
@@ -62,7 +62,7 @@ fn operand_by<'a>(
             }
             _ => Err(not_built(place)),
         },
-        Head::Name => no_procedure(alloc, scope, text, place),
+        Head::Name => Err(no_declared(alloc, None, scope, text, place)),
         _ => Err(not_built(place)),
     }
 }
@@ -79,9 +79,9 @@ fn procedure_at<'a>(
 ) -> Result<Found<'a>, Refused>
     ensures { Gives (λ f. (f.name, f.procedure.now)) (procedure_at scope.now («module», word.now) place) result }
 {
-    let found = declared_module(alloc, scope, &module, place)?;
+    let found = declared_module(alloc, None, scope, &module, place)?;
     let Some(procedure) = procedure_named(found.procs.as_slice(), &word.text) else {
-        return Err(unknown(alloc, &word.text, word.place));
+        return Err(no_procedure(alloc, found, &word.text, word.place));
     };
     let name = ended(alloc, scope, module, &word.text, place)?;
     Ok(Found { name, procedure })
@@ -104,20 +104,4 @@ fn ended(
     let unproved = first_unproved_in(alloc, scope, &name)?;
     unless_unproved(alloc, unproved, place)?;
     Ok(name)
-}
-
-/// A word alone names no procedure.
-fn no_procedure<'a>(
-    alloc: Global,
-    scope: &'a Scope,
-    name: &Name,
-    place: Place,
-) -> Result<Found<'a>, Refused>
-    ensures { Gives (λ f. (f.name, f.procedure.now)) (no_procedure scope.now name.now place) result }
-{
-    if scope.entry(name).is_some() || built_in(name).is_some() {
-        Err(argument(place))
-    } else {
-        Err(unknown(alloc, name, place))
-    }
 }

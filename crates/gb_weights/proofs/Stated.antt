@@ -23,11 +23,11 @@ unfolding weighed_all
 entry_then at bound t ps x xs q h = leads_on (weighed at bound t ps (parts_of x) (place_of x)) (λ q. weighed_all at bound t (ps ++ q ∷ []) xs) q h
 
 module _ (xs : List Node) (p : Place) (at : Environment) (bound : List Binding) (w : Option Ty) where
-  pub weights_is : (x : Unit {0}) (v : Option Ty) (t : Ty) (ps : List Pair) → distribution_here at w p ≡ given x → part_wanted outcome w p ≡ given v → outcomes at bound v xs p ≡ given t
+  pub weights_is : (x : Unit {0}) (v : Option Ty) (t : Ty) (ps : List Pair) → distribution_here at p ≡ given x → part_wanted outcome w p ≡ given v → outcomes at bound v xs p ≡ given t
       → weighed_all at bound t [] xs ≡ given ps → weights xs p at bound w ≡ wanted w p (stated t ps)
   weights_is x v t ps h k l m =
       let end = λ (t : Ty). weighed_all at bound t [] xs >>= λ ps. wanted w p (stated t ps) in
       let over = λ (v : Option Ty). outcomes at bound v xs p >>= end in
-      leads_on (distribution_here at w p) (λ _. part_wanted outcome w p >>= over) x h
+      leads_on (distribution_here at p) (λ _. part_wanted outcome w p >>= over) x h
       ∙ (leads_on (part_wanted outcome w p) over v k
       ∙ (leads_on (outcomes at bound v xs p) end t l ∙ leads_on (weighed_all at bound t [] xs) (λ ps. wanted w p (stated t ps)) ps m))

@@ -112,7 +112,7 @@ stated t ps = node (Weights ps) [] (ty.Distr t)
 -- `weights [A : 1; B : 3]`
 abbrev pub weights : List Node → Place → Environment → List Binding → Option Ty → Answer Term
 weights xs p at bound w = do
-  _ ← distribution_here at w p
+  _ ← distribution_here at p
   v ← part_wanted outcome w p
   t ← outcomes at bound v xs p
   ps ← weighed_all at bound t [] xs

@@ -300,7 +300,7 @@ pub fn weights(
 ) -> Result<Term, Refused>
     ensures { Answers (weights entries.now place (environment at.now) bound.now (option_copied want.entry)) result }
 {
-    distribution_here(at, want, place)?;
+    distribution_here(at, place)?;
     let outcomes = outcomes(
         alloc,
         at,

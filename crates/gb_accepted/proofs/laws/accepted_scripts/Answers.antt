@@ -1,13 +1,16 @@
-use Rattle.gb_accepted.proofs.Accepted.{all_promised}
+use Rattle.gb_accepted.proofs.Accepted.{all_promised, scope_ended, scope_footprints, scope_named}
+use Rattle.gb_accepted.proofs.Grounds.{Grounds}
 use Rattle.gb_accepted.proofs.laws.accepted_scripts.Goals as goal
 
 pub returns : goal.returns
 returns c =
-    all_promised (record {
+    let o : Grounds = record {
       typing = record {
         entries_added = c.entries.ensures.added;
         others = c.entries.ensures.others;
         entries_speak = c.entries.ensures.speaks;
+        entries_call = c.entries.ensures.calls;
+        module_calls = c.modules.ensures.calls;
         module_speaks = c.modules.ensures.speaks;
         procedures = c.statements.ensures.procedures;
         module_added = c.modules.ensures.added;
@@ -25,7 +28,6 @@ returns c =
         goal = c.typing.ensures.goal;
         front = c.fronts.ensures;
         outer = c.contexts.ensures;
-        everywhere = c.declared_settings.ensures;
         lifted = c.sequents.ensures;
         on_bodies = c.rules.ensures;
         bodies_refuse = c.other_forms.ensures;
@@ -72,4 +74,10 @@ returns c =
         stay_typed = c.goals_stay_typed.ensures;
         parts = c.parts_of_scopes.ensures;
       };
-    })
+    } in
+    record {
+      promised = all_promised o;
+      named = scope_named o;
+      ended = scope_ended o c.ended_modules.ensures;
+      footprints = scope_footprints o c.footprints.ensures;
+    }

@@ -104,4 +104,4 @@ returns-in-Some-file_to_check-clause-verdict g c = of_held_file _ _ _ _ c.in-Som
 pub returns-in-Some-file_to_check-clause-accepted : goal.returns-in-Some-file_to_check-clause-accepted
 returns-in-Some-file_to_check-clause-accepted g c = λ ended.
     let r = c.check_file.ensures.reported (inl ended) in
-    of_file _ _ _ c.in-Some-file_to_check.ensures (_, is_accepted c.accepted_scripts.ensures _ _ _ r.0 r.1 r.2 ended, r.3)
+    of_file _ _ _ c.in-Some-file_to_check.ensures (_, is_accepted c.accepted_scripts.ensures.promised _ _ _ r.0 r.1 r.2 ended, r.3)

@@ -7,7 +7,7 @@ use Rattle.gb_goal.specs.Goal.Code.{body, procedure}
 use Rattle.gb_goal.specs.Goal.Goal.{hoare, phoare}
 use Rattle.gb_goal.specs.Rows.{each_concluding}
 use Rattle.gb_full.specs.Loss.{first_loss}
-use Rattle.gb_phoare.specs.Rnd.{of_rest}
+use Rattle.gb_full.specs.Lossless.{of_rest}
 use Rattle.gb_call.specs.Call.{Callee, before_call, callee_seen, chance_goals}
 use Rattle.gb_call.specs.Outcomes.{globals_seen}
 use Rattle.gb_call.proofs.ChanceSteps.{front_fails}

@@ -5,7 +5,7 @@ use Rattle.gb_goal.specs.Goal.{Goal, form_of}
 use Rattle.gb_goal.specs.Goal.Code.{body}
 use Rattle.gb_goal.specs.Goal.Goal.{hoare}
 use Rattle.gb_goal.specs.Rows.{each_concluding}
-use Rattle.gb_phoare.specs.Rnd.{of_rest}
+use Rattle.gb_full.specs.Lossless.{of_rest}
 use Rattle.gb_call.specs.Call.{Callee, before_call, callee_seen}
 use Rattle.gb_call.specs.Outcomes.{globals_seen}
 use Rattle.gb_call.proofs.call.chances_left.Goals as goal

@@ -244,3 +244,9 @@ with_patterns-returns-in_err-goals-in-len2 t c = λ f rules.
     (fails_as _ _ c.in_err-goals-in-len2.field-0.0
     (rule_is f head.Rule c.args.parts.now place c.args.goal.now r i (two c.args.parts.now r i c.in-len2.len_at_least c.in-len2.len_below c.tree-item.is c.introduction-item.is))
     (passes (placed_at place first) (λ qs. placed_at place (works f i qs)) c.in_err-goals-in-len2.field-0.0 (c.in_err-goals-in-len2.ensures first (c.ruled.ensures f rules))))
+
+pub attempt-returns : goal.attempt-returns
+attempt-returns t c = λ f rules.
+    let w = works f c.args.step.now in
+    c.or_left.ensures (w (c.args.goal.now ∷ [])) c.args.goal.now c.in_ok-one.ensures
+    (subst (λ gs. Answers (w gs) c.work-made.result) (c.as_slice.ensures ∙ c.in_ok-one.ensures) (c.work-made.ensures f rules))

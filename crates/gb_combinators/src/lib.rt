@@ -1,0 +1,4 @@
+//! What `try` and `do` make of what their step makes.
+#![tactic(auto)]
+
+pub mod combinators;

@@ -1,0 +1,11 @@
+use Rattle.std.proofs.Common.{ap, sym, ◌∙◌}
+use Rattle.gb_script.specs.Tree.{head_of, place_of}
+use Rattle.gb_operators.specs.Literals.{placing, with_places}
+use Rattle.gb_operators.proofs.Spelled.{place_inside_is}
+use Rattle.gb_operators.proofs.literals.+places.Goals as goal
+
+pub place_inside-returns : goal.place_inside-returns
+place_inside-returns t c =
+    c.placing.ensures
+    ∙ ap (λ ps. placing (head_of c.args.t.now) (with_places ps) (place_of c.args.t.now)) c.as_slice.ensures
+    ∙ sym (place_inside_is c.args.t.now)

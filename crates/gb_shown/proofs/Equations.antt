@@ -1,0 +1,133 @@
+-- Equations of variables of two programs, and of all globals of a module, are named.
+use Rattle.std.proofs.Common.{◌≡◌, true, List, [], ◌∷◌, is_none, Option, Some, None, bytes_eq, refl, subst}
+use Rattle.gb_core.specs.declared.place.Place.{Place}
+use Rattle.gb_core.specs.declared.refusal.Why.TheVariants.{Argument, TypeMismatch}
+use Rattle.gb_core.specs.declared.ty.Ty.{Ty}
+use Rattle.gb_core.specs.declared.ty.Ty.TheVariants as ty
+use Rattle.gb_core.specs.declared.var.Var.{Var}
+use Rattle.gb_core.specs.declared.var.Var.TheVariants.{Global}
+use Rattle.gb_same.specs.Types.{ty_eq}
+use Rattle.gb_terms.specs.declared.decl.Module.{Module}
+use Rattle.gb_terms.specs.declared.op.Op.TheVariants as op
+use Rattle.gb_terms.specs.declared.op.Side.{Side}
+use Rattle.gb_terms.specs.declared.op.Side.TheVariants as side
+use Rattle.gb_terms.specs.declared.term.Term.{Term}
+use Rattle.gb_terms.specs.Make.{applied, truth_literal}
+use Rattle.gb_script.specs.declared.head.Head.{Head}
+use Rattle.gb_script.specs.declared.head.Head.TheVariants as head
+use Rattle.gb_script.specs.declared.tree.Node.{Node}
+use Rattle.gb_script.specs.Tree.{head_of, parts_of, place_of, text_of}
+use Rattle.gb_goal.specs.Answers.{◌>>=◌}
+use Rattle.gb_goal.specs.Answers.Answer.{given}
+use Rattle.gb_goal.specs.Scope.{module_of}
+use Rattle.gb_mods.specs.Footprint.{footprint}
+use Rattle.gb_names.specs.declared.bindings.Binding.{Binding}
+use Rattle.gb_names.specs.Environment.{Name, Environment, on_side}
+use Rattle.gb_names.specs.Names.{ModuleVariable, global_in, global_variable, path, sided}
+use Rattle.gb_names.specs.Wanted.{truth, type_of_term}
+use Rattle.gb_elab.specs.Equalities.{equalities, equality, equation, equation_of, joined, with_equalities}
+use Rattle.gb_elab.specs.Globs.{Seen, agreement, agreement_on, agreements, agrees, behind_if, global_named, module_at, same_globals, true_if_none, whole_equation, whole_read, with_agreement}
+use Rattle.gb_print_names.specs.declared.place.Enumeration.{Enumeration}
+use Rattle.gb_spelt_laws.specs.Named.{IsNamed}
+use Rattle.gb_shown.specs.Scopes.{IsNamedModule, IsNamedSetting, AreNamedBindings}
+use Rattle.gb_shown.proofs.Given.{given_bind, given_is, if_allowed, if_refused, same_some}
+use Rattle.gb_shown.proofs.FoundInForms.{module_found}
+use Rattle.gb_shown.proofs.Leaves.{IsNamedGlobal, global_read, in_module, sided_read}
+use Rattle.gb_shown.proofs.Constants.{truth_named}
+use Rattle.gb_shown.proofs.MadeForms.{operated}
+
+module _ (es : List Enumeration) (at : Environment) (fit : IsNamedSetting es at) (bs : List Binding) (bound : AreNamedBindings bs) where
+  abbrev IsNamedIf : Option Term → Type 0
+  IsNamedIf None = Unit {0}
+  IsNamedIf (Some t) = IsNamed es t
+
+  joined_with : (f e : Term) → IsNamed es f → IsNamed es e → IsNamed es (applied op.And (f ∷ e ∷ []) ty.Bool)
+  joined_with f e h k = operated es op.And (f ∷ e ∷ []) ty.Bool tt tt (h, (k, tt))
+
+  equal_named : (l r : Term) → IsNamed es l → IsNamed es r → IsNamed es (applied op.Equal (l ∷ r ∷ []) ty.Bool)
+  equal_named l r h k = operated es op.Equal (l ∷ r ∷ []) ty.Bool tt tt (h, (k, tt))
+
+  declared_global : (n x : Name) (g : ModuleVariable) → global_in n (module_of at.declared n) x ≡ Some g → IsNamedGlobal g
+  declared_global n x g e = step (module_of at.declared n) refl e
+    where
+      step : (o : Option Module) → module_of at.declared n ≡ o → global_in n o x ≡ Some g → IsNamedGlobal g
+      step None i f = cc
+      step (Some m) i f = let k = module_found es at.declared fit.scope n m i in in_module es n (Some m) x g k.0 (λ l j. subst (IsNamedModule es) (same_some j) k.1) f
+
+  global_is : (x : Var) (g : ModuleVariable) → global_named at.declared x ≡ Some g → IsNamedGlobal g
+  global_is (Global n x) g e = declared_global n x g e
+  global_is _ g e = cc
+
+  behind_named : (o : Option Term) (e : Term) → IsNamedIf o → IsNamed es e → IsNamed es (behind_if o e)
+  behind_named None e h k = k
+  behind_named (Some f) e h k = joined_with f e h k
+
+  module _ (s r : Side) where
+    agreements_named : (o : Option Term) (xs : List Var) → IsNamedIf o → IsNamedIf (agreements at.declared s r o xs)
+    agreements_named o [] h = h
+    agreements_named o (x ∷ xs) h = agreements_named (with_agreement s r o (global_named at.declared x)) xs (step (global_named at.declared x) refl)
+      where
+        step : (g : Option ModuleVariable) → global_named at.declared x ≡ g → IsNamedIf (with_agreement s r o g)
+        step None e = h
+        step (Some g) e = let n = global_is x g e in behind_named o (agrees s r g) h (equal_named (global_variable s g) (global_variable r g) (global_read es s g n) (global_read es r g n))
+
+    all_agree : (o : Option Term) → IsNamedIf o → IsNamed es (true_if_none o)
+    all_agree None h = truth_named es true
+    all_agree (Some f) h = h
+
+    agreement_named : (n : Name) (p : Place) (u : Term) → agreement at.declared n s r p ≡ given u → IsNamed es u
+    agreement_named n p u e = step (footprint at.declared n) e
+      where
+        step : (o : Option (List Var)) → agreement_on at.declared s r p o ≡ given u → IsNamed es u
+        step None e = cc
+        step (Some xs) e = subst (IsNamed es) (given_is (true_if_none (agreements at.declared s r None xs)) u e) (all_agree (agreements at.declared s r None xs) (agreements_named None xs tt))
+
+  -- `={glob M}`
+  same_globals_named : (m : Node) (u : Term) → same_globals at bs m ≡ given u → IsNamed es u
+  same_globals_named m u e =
+      let n = given_bind (module_at at bs m) (λ n. agreement at.declared n side.Left side.Right (place_of m)) u e in agreement_named side.Left side.Right n.0 (place_of m) u n.2
+
+  -- an equation in two memories
+  pub whole_equation_named : (w : Option Ty) (p : Place) (a b : Seen) (u : Term) → whole_equation at bs w p a b ≡ given u → IsNamed es u
+  whole_equation_named w p a b u e =
+      let q = given_bind (truth w p) _ u e in
+      let l = given_bind (whole_read at bs a) _ u q.2 in
+      let r = given_bind (whole_read at bs b) _ u l.2 in
+      let k = if_allowed (bytes_eq l.0.0 r.0.0) (agreement at.declared l.0.0 l.0.1 r.0.1 p) Argument a.2 u r.2 in agreement_named l.0.1 r.0.1 l.0.0 p u k.1
+
+  -- the equality of a variable of two programs
+  equality_named : (x : Name) (p : Place) (u : Term) → equality at bs x p ≡ given u → IsNamed es u
+  unfolding equality
+  equality_named x p u h =
+      let l = given_bind (sided at bs x side.Left p) _ u h in
+      let r = given_bind (sided at bs x side.Right p) _ u l.2 in
+      let e = applied op.Equal (l.0 ∷ r.0 ∷ []) ty.Bool in
+      let k = if_allowed (ty_eq (type_of_term r.0) (type_of_term l.0)) (given e) TypeMismatch p u r.2 in
+      subst (IsNamed es) (given_is e u k.1) (equal_named l.0 r.0 (sided_read es at fit bs bound x side.Left p l.0 l.1) (sided_read es at fit bs bound x side.Right p r.0 r.1))
+
+  equation_named : (k : Head) (x : Name) (ns : List Node) (p : Place) (u : Term) → equation at bs k x ns p ≡ given u → IsNamed es u
+  equation_named head.Name x ns p u h = equality_named x p u h
+  equation_named head.Path x ns p u h = equality_named (path ns) p u h
+  equation_named head.EquatedGlob x (m ∷ []) p u h = same_globals_named m u h
+  equation_named _ x _ p u h = cc
+
+  abbrev each_equation : (x : Node) (u : Term) → equation_of at bs x ≡ given u → IsNamed es u
+  each_equation x = equation_named (head_of x) (text_of x) (parts_of x) (place_of x)
+
+  with_equalities_named : (f : Term) (xs : List Node) (u : Term) → IsNamed es f → with_equalities at bs f xs ≡ given u → IsNamed es u
+  unfolding with_equalities
+  with_equalities_named f [] u m h = subst (IsNamed es) (given_is f u h) m
+  with_equalities_named f (x ∷ xs) u m h =
+      let q = given_bind (equation_of at bs x) (λ e. with_equalities at bs (applied op.And (f ∷ e ∷ []) ty.Bool) xs) u h in
+      with_equalities_named (applied op.And (f ∷ q.0 ∷ []) ty.Bool) xs u (joined_with f q.0 m (each_equation x q.0 q.1)) q.2
+
+  joined_named : (xs : List Node) (u : Term) → joined at bs xs ≡ given u → IsNamed es u
+  unfolding joined
+  joined_named [] u h = subst (IsNamed es) (given_is (truth_literal true) u h) (truth_named es true)
+  joined_named (x ∷ xs) u h = let q = given_bind (equation_of at bs x) (λ e. with_equalities at bs e xs) u h in with_equalities_named q.0 xs u (each_equation x q.0 q.1) q.2
+
+  pub equalities_named : (xs : List Node) (w : Option Ty) (p : Place) (u : Term) → equalities at bs xs w p ≡ given u → IsNamed es u
+  unfolding equalities
+  equalities_named xs w p u h =
+      let k = if_refused (is_none (on_side at side.Left)) Argument p (truth w p >>= λ _. joined at bs xs) u h in
+      let q = given_bind (truth w p) (λ _. joined at bs xs) u k.1 in joined_named xs u q.2

@@ -1,0 +1,75 @@
+//! What a session shows reads back.
+
+ghost use Rattle.gb_session.specs.History.{History};
+ghost use Rattle.gb_shown.specs.Shown.{IsReached, IsReadBack};
+
+use gb_elab_laws::declaration_laws::{entries, lemmas, modules, statements};
+use gb_elab_laws::step_laws::{typed_forms, typed_rules};
+use gb_linear_laws::laws::linear_is_sound;
+use gb_models::promise_laws::{equivalences_give_couplings, typed_scopes_have_models};
+use gb_models::stay_laws::{goals_stay, goals_stay_typed, parts_of_scopes};
+use gb_smt_sound::laws::sound_smt;
+use gb_typing::goal_laws::{fronts, typing};
+use gb_typing::rule_laws::{contexts, sequents};
+
+/// Each goal that a session shows, wherever its lines have led to, is read back as that goal: what is printed of it spells its tree,
+/// and no other, and is read wherever it has fewer than 2^31 bytes.
+pub fn shown_goals_are_read()
+    ensures { (h : History) → IsReached h → IsReadBack h.present }
+{
+    entries();
+    modules();
+    statements();
+    lemmas();
+    typed_rules();
+    typed_forms();
+    typing();
+    fronts();
+    contexts();
+    sequents();
+    gb_bodies::laws::rules();
+    gb_bodies::laws::other_forms();
+    gb_relational::laws::relational_rules();
+    gb_relational::laws::other_goals();
+    gb_phoare::laws::chance_rules();
+    gb_phoare::laws::no_judgments();
+    gb_call_both::laws::call_rules();
+    gb_call_both::laws::other_conclusions();
+    gb_inline::laws::transforming_rules();
+    gb_inline::laws::untransformed_forms();
+    gb_beside::laws::decided_beside();
+    gb_call_known::laws::known_calls();
+    gb_sim::laws::same_statements();
+    gb_ends::laws::rows();
+    gb_ends::laws::sequents();
+    gb_ends::laws::with_proved_loops();
+    gb_ends::laws::bodies();
+    gb_ends::laws::relational();
+    gb_ends::laws::chances();
+    gb_ends::laws::calls();
+    gb_ends::laws::known_calls();
+    gb_ends::laws::conclusions();
+    gb_ends::laws::equals();
+    gb_ends::laws::forms();
+    gb_ended_laws::laws::entered();
+    gb_ended_laws::laws::proved_loops();
+    gb_ended_laws::laws::ended_modules();
+    gb_mods_laws::laws::footprints();
+    gb_loops::while_loop::while_is_sound();
+    gb_amb::laws::steps();
+    gb_use::laws::sound_uses();
+    gb_use::laws::instances_hold();
+    gb_rewrite::laws::sound_rewriting();
+    sound_smt();
+    linear_is_sound();
+    typed_scopes_have_models();
+    equivalences_give_couplings();
+    goals_stay();
+    goals_stay_typed();
+    parts_of_scopes();
+    gb_spelt_laws::laws::steps();
+    gb_spelt_laws::laws::termination();
+    gb_spelt_laws::laws::named_goals_are_read();
+    gb_read_script::laws::words_are_tokens();
+    gb_language::laws::trees_are_sorted();
+}

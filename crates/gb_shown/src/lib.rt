@@ -1,0 +1,4 @@
+//! What a session shows reads back.
+#![tactic(auto)]
+
+pub mod laws;
