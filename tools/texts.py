@@ -1,4 +1,4 @@
-"""Texts: their tokens, the texts of crates/gb_texts with what is expected of them, the commands of scripts."""
+"""Texts: their tokens, the texts of crates/gb_scripts with what is expected of them, the commands of scripts."""
 import os
 import re
 from dataclasses import dataclass
@@ -7,7 +7,7 @@ import spellings
 from definitions import CRATES, Record, definition, lines_of, spelling_of
 from grammar import TOOLS
 
-TEXTS = os.path.join(CRATES, "gb_texts")
+TEXTS = os.path.join(CRATES, "gb_scripts")
 LEFT_OUT = os.path.join(CRATES, "gb_limits", "src", "left_out.rt")
 FINAL = ". "  # the final dot, where tokens are spelled; that of a path is "."
 
@@ -87,9 +87,11 @@ class Lexer:
 
 
 def expected_answers():
-    """What each text of gb_texts is, the text, its line in the file, and the line that is expected for it."""
+    """What each text of gb_scripts is that is only read, the text, its line in the file, and the line that is expected for it."""
     words, answers = lines_of(os.path.join(TEXTS, "args")), iter(lines_of(os.path.join(TEXTS, "stdout")))
     for what, file in zip(words[::2], words[1::2]):
+        if what not in ("command", "form", "repeated", "goal"):
+            return
         for line in lines_of(os.path.join(TEXTS, "data", file)):
             if what == "repeated":
                 count, first, middle, last = line.split(";", 3)

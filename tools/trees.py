@@ -4,11 +4,11 @@ texts. That the code makes these trees is proved; that these trees are meant is 
 
     trees.py command|form|entry|hypothesis TEXT..
                                prints the tree of each text with its places, or its refusal with the place
-    trees.py --check [FILE..]  tells where a tree is not what its text says, in the texts of crates/gb_texts and in the commands
+    trees.py --check [FILE..]  tells where a tree is not what its text says, in the texts of crates/gb_scripts and in the commands
                                of each script FILE
     trees.py --random COUNT    .. in texts that are made by chance from the productions of script.txt
 
-A text of crates/gb_texts that stdout says to be refused must be refused with this code at this place. All other texts must
+A text of crates/gb_scripts that stdout says to be refused must be refused with this code at this place. All other texts must
 leave a tree and nothing else: written out again by the lines of trees.txt it must have the tokens of the text, each node must
 begin at the token of its place, and forms and types must stand in brackets where they bind less tightly than what is around
 them. Of goals those are looked at that stdout says to be read, line by line.

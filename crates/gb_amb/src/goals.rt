@@ -6,11 +6,11 @@ ghost use Rattle.gb_core.specs.declared.refusal.Why.TheVariants.{Shape};
 ghost use Rattle.gb_amb.specs.Parts.{concluding};
 ghost use Rattle.gb_amb.specs.Steps.{assuming};
 
+use gb_core::SharedItems;
 use gb_core::name::Name;
 use gb_core::place::Place;
 use gb_core::refusal::{Refused, Why};
 use gb_goal::sequent::{Hyp, Sequent, Sequents};
-use gb_shared::SharedItems;
 use gb_terms::term::Form;
 use sqlite_items::Items;
 use std::alloc::{AllocError, Global};

@@ -11,12 +11,12 @@ ghost use Rattle.gb_amb.specs.Parts.{at_most_form, bounded_at, by_parts, by_prem
 
 use crate::goals::{no_shape, one};
 use crate::quantified::refuse_modules;
+use gb_core::Shared;
 use gb_core::place::Place;
 use gb_core::refusal::Refused;
 use gb_core::ty::Ty;
 use gb_forms::cases::two;
 use gb_goal::sequent::{Sequent, Sequents};
-use gb_shared::Shared;
 use gb_steps::step::AmbientRule;
 use gb_terms::make::{binary, forall, implication, over, truth_ty, unary};
 use gb_terms::op::Op;

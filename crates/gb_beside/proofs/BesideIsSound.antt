@@ -75,7 +75,8 @@ use Rattle.gb_call_both.specs.OneSide.{speaks}
 use Rattle.gb_call_both.proofs.SideSteps.{plain_form}
 use Rattle.gb_trans.specs.Places.{At, statement_at}
 use Rattle.gb_trans.proofs.Placed.{place_given, placed, whole}
-use Rattle.gb_guards.specs.Decided.{Decision, deciding, decision}
+use Rattle.gb_premises.specs.Decided.{deciding}
+use Rattle.gb_guards.specs.Decided.{Decision, decision}
 use Rattle.gb_guards.proofs.DecidedIsSound.{behind_alike, decided_is, deciding_typed}
 use Rattle.gb_guards.proofs.Deciding.{Decides, RunAlikeFrom, decided_by}
 use Rattle.gb_guards.proofs.Shapes.{split_typed}

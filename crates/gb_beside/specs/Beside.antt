@@ -17,14 +17,15 @@ use Rattle.gb_goal.specs.Rows.{concluding, refusing}
 use Rattle.gb_goal.specs.declared.sequent.Sequent.{Sequent}
 use Rattle.gb_steps.specs.declared.step.Acts.{Acts}
 use Rattle.gb_steps.specs.declared.step.Acts.TheVariants as on
-use Rattle.gb_print_names.specs.Names.{Name, is_among, primed}
+use Rattle.gb_shapes.specs.Names.{Name, is_among, primed}
 use Rattle.gb_print_names.specs.Occurring.{judgment_locals}
 use Rattle.gb_print_text.specs.Goals.{context_names}
 use Rattle.gb_parts.specs.OneBody.{OneBody, one_body}
 use Rattle.gb_amb.specs.Quantified.{goal_quantifies_modules}
 use Rattle.gb_call_both.specs.OneSide.{speaks}
 use Rattle.gb_trans.specs.Places.{At, on_place, statement_at}
-use Rattle.gb_guards.specs.Decided.{Decision, deciding, decision}
+use Rattle.gb_premises.specs.Decided.{deciding}
+use Rattle.gb_guards.specs.Decided.{Decision, decision}
 
 -- the other one of two memories
 abbrev pub other : Side → Side

@@ -15,6 +15,7 @@ ghost use Rattle.gb_beside.specs.Beside as beside;
 
 use crate::names::memory_name;
 use gb_amb::quantified::refuse_goal_modules;
+use gb_core::SharedItems;
 use gb_core::copy::copy_names;
 use gb_core::name::Name;
 use gb_core::place::Place;
@@ -24,7 +25,6 @@ use gb_goal::sequent::{Sequent, Sequents};
 use gb_guards::decided::{decision, goal_left, guard_judged};
 use gb_parts::one_body::{OneBody, one_body, side_of};
 use gb_parts::subgoals::{no_shape, placed, refusal};
-use gb_shared::SharedItems;
 use gb_steps::step::Acts;
 use gb_terms::op::Side;
 use gb_terms::term::{Form, Head, Term};

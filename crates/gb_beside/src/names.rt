@@ -1,7 +1,7 @@
 // The name of a memory that a rule adds.
 
 ghost use Rattle.std.specs.Prelude.{◌≡◌, ◌++◌, map, IfOk, OnOk};
-ghost use Rattle.gb_print_names.specs.Names.{is_among};
+ghost use Rattle.gb_shapes.specs.Names.{is_among};
 ghost use Rattle.gb_print_text.specs.Goals.{context_names, typed_names};
 ghost use Rattle.gb_beside.specs.Beside.{memory_name, unlike};
 

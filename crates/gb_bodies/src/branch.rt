@@ -4,6 +4,7 @@ ghost use Rattle.std.specs.Prelude.{◌≡◌, ◌++◌, if◌then◌else◌, So
 ghost use Rattle.std.specs.Option.{option_map};
 ghost use Rattle.gb_steps.specs.declared.step.Acts.{Acts as Programs};
 ghost use Rattle.gb_goal.specs.Answers.{Answers};
+ghost use Rattle.gb_goal.specs.Answers.Answer.{given};
 ghost use Rattle.gb_goal.specs.Goal.{form_of};
 ghost use Rattle.gb_goal.specs.Goal.Code.{body};
 ghost use Rattle.gb_goal.specs.Goal.Goal.{equiv};
@@ -15,13 +16,14 @@ ghost use Rattle.gb_typing.specs.Rules.{IsSoundRule, no_arguments};
 ghost use Rattle.gb_bodies.specs.If.{branch_seen, first_branch, if_both, if_row, of_both, of_one, where_false, where_true};
 ghost use Rattle.gb_parts.specs.OneBody.{filled, side_of};
 
+use crate::goals::three_goals;
+use gb_core::SharedItems;
 use gb_core::refusal::Refused;
 use gb_goal::goal::{Code, Goal, equiv, goal_of};
 use gb_goal::sequent::{Sequent, Sequents};
 use gb_parts::forms::{every_pair, located};
 use gb_parts::one_body::{Around, OneBody, filled, one_body, side_of};
-use gb_parts::subgoals::{no_shape, one_goal, two_goals};
-use gb_shared::SharedItems;
+use gb_parts::subgoals::{no_shape, two_goals};
 use gb_steps::step::Acts;
 use gb_terms::make::{conjunction, equality, implication, negation};
 use gb_terms::op::Side;
@@ -74,14 +76,11 @@ fn tested(
     ensures { IfOk result (λ made. made ≡
         and_form pre.now (if holds then located side branch.now.test.now else not_form (located side branch.now.test.now))) }
 {
-    let test = located(alloc, branch.test, side)?;
-    let pre = pre.share()?;
-    if holds {
-        conjunction(alloc, pre, test)
-    } else {
-        let test = negation(alloc, test)?;
-        conjunction(alloc, pre, test)
+    let mut test = located(alloc, branch.test, side)?;
+    if !holds {
+        test = negation(alloc, test)?;
     }
+    conjunction(alloc, pre.share()?, test)
 }
 
 /// The goal with the chosen side of a branch in its place.
@@ -131,9 +130,9 @@ fn agreeing(
 {
     let here = located(alloc, left.test, Side::Left)?;
     let there = located(alloc, right.test, Side::Right)?;
-    let pre = pre.share()?;
     let equal = equality(alloc, here, there)?;
-    every_pair(alloc, implication(alloc, pre, equal)?)
+    let form = implication(alloc, pre.share()?, equal)?;
+    every_pair(alloc, form)
 }
 
 /// The equivalence with the chosen sides of two branches in their places.
@@ -141,22 +140,23 @@ fn chosen_both(
     alloc: Global,
     left: &Branch<'_>,
     right: &Branch<'_>,
-    pre: Form,
+    pre: &Form,
     post: &Form,
     holds: bool,
 ) -> Result<Form, AllocError>
     ensures { IfOk result (λ made. made ≡ form_of (if holds
-        then equiv (body (where_true (branch_seen left.now))) (body (where_true (branch_seen right.now))) pre post.now
-        else equiv (body (where_false (branch_seen left.now))) (body (where_false (branch_seen right.now))) pre post.now)) }
+        then equiv (body (where_true (branch_seen left.now))) (body (where_true (branch_seen right.now))) (and_form pre.now (located Side.Left left.now.test.now)) post.now
+        else equiv (body (where_false (branch_seen left.now))) (body (where_false (branch_seen right.now))) (and_form pre.now (not_form (located Side.Left left.now.test.now))) post.now)) }
 {
     let (here, there) = if holds {
         (left.if_true, right.if_true)
     } else {
         (left.if_false, right.if_false)
     };
+    let pre = tested(alloc, pre, left, Side::Left, holds)?;
+    let post = post.share()?;
     let here = behind(alloc, here.list.as_slice(), left.rest)?;
     let there = behind(alloc, there.list.as_slice(), right.rest)?;
-    let post = post.share()?;
     equiv(alloc, here, there, pre, post)
 }
 
@@ -168,18 +168,13 @@ fn both_branches(
     right: &Branch<'_>,
     pre: &Form,
     post: &Form,
-) -> Result<Sequents, Refused>
-    ensures { Answers (each_concluding goal.now (of_both pre.now post.now (Some (branch_seen left.now, branch_seen right.now)))) result }
+) -> Result<Sequents, AllocError>
+    ensures { IfOk result (λ goals. each_concluding goal.now (of_both pre.now post.now (Some (branch_seen left.now, branch_seen right.now))) ≡ given goals) }
 {
     let agreeing = agreeing(alloc, left, right, pre)?;
-    let mut goals = one_goal(alloc, goal, agreeing)?;
-    let holds = tested(alloc, pre, left, Side::Left, true)?;
-    let yes = chosen_both(alloc, left, right, holds, post, true)?;
-    goals.push(goal.with_conclusion(yes)?)?;
-    let fails = tested(alloc, pre, left, Side::Left, false)?;
-    let no = chosen_both(alloc, left, right, fails, post, false)?;
-    goals.push(goal.with_conclusion(no)?)?;
-    Ok(goals)
+    let yes = chosen_both(alloc, left, right, pre, post, true)?;
+    let no = chosen_both(alloc, left, right, pre, post, false)?;
+    three_goals(alloc, goal, agreeing, yes, no)
 }
 
 /// The goals of the branches that two bodies begin with, where a step acts on two.
@@ -189,7 +184,9 @@ fn two_branches(alloc: Global, goal: &Sequent, acts: Acts, seen: Goal) -> Result
     match (acts, seen) {
         (Acts::All, Goal::Equiv(Code::Body(left), Code::Body(right), pre, post)) => {
             match (first_branch(left), first_branch(right)) {
-                (Some(left), Some(right)) => both_branches(alloc, goal, &left, &right, pre, post),
+                (Some(left), Some(right)) => {
+                    Ok(both_branches(alloc, goal, &left, &right, pre, post)?)
+                }
                 _ => Err(no_shape()),
             }
         }

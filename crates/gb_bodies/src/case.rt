@@ -4,6 +4,7 @@ ghost use Rattle.std.specs.Prelude.{◌≡◌, if◌then◌else◌, IfOk};
 ghost use Rattle.gb_terms.specs.declared.term.Term.{Term};
 ghost use Rattle.gb_typing.specs.Context.{Context};
 ghost use Rattle.gb_goal.specs.Answers.{Answers};
+ghost use Rattle.gb_goal.specs.Answers.Answer.{given};
 ghost use Rattle.gb_goal.specs.Goal.{form_of};
 ghost use Rattle.gb_goal.specs.Rows.{answered, each_concluding};
 ghost use Rattle.gb_typing.specs.Forms.{and_form, not_form};
@@ -38,14 +39,14 @@ fn case_one(
     goal: &Sequent,
     one: &OneBody<'_>,
     form: &Form,
-) -> Result<Sequents, Refused>
-    ensures { Answers (each_concluding goal.now (case_one form.now (one_seen one.now))) result }
+) -> Result<Sequents, AllocError>
+    ensures { IfOk result (λ goals. each_concluding goal.now (case_one form.now (one_seen one.now)) ≡ given goals) }
 {
-    let holds = form.share()?;
-    let yes = with_premise(alloc, one, holds)?;
     let fails = negation(alloc, form.share()?)?;
     let no = with_premise(alloc, one, fails)?;
-    Ok(two_goals(alloc, goal, yes, no)?)
+    let holds = form.share()?;
+    let yes = with_premise(alloc, one, holds)?;
+    two_goals(alloc, goal, yes, no)
 }
 
 /// The subgoals of `case` on bodies: the goal where a form holds before, and the goal where it doesn't. Refused with `Shape` at any other
@@ -55,9 +56,9 @@ pub fn case(alloc: Global, goal: &Sequent, form: &Form) -> Result<Sequents, Refu
 {
     let seen = goal_of(&goal.conclusion);
     match one_body(Acts::All, seen) {
-        Some(one) => case_one(alloc, goal, &one, form),
+        Some(one) => Ok(case_one(alloc, goal, &one, form)?),
         None => match one_body(Acts::Left, seen) {
-            Some(one) => case_one(alloc, goal, &one, form),
+            Some(one) => Ok(case_one(alloc, goal, &one, form)?),
             None => Err(no_shape()),
         },
     }

@@ -3,22 +3,23 @@
 ghost use Rattle.std.specs.Prelude.{◌≡◌, map, IfOk};
 ghost use Rattle.gb_goal.specs.Answers.{Answers};
 ghost use Rattle.gb_goal.specs.Goal.{code_of, form_of};
-ghost use Rattle.gb_goal.specs.Goal.Goal.{ambient};
+ghost use Rattle.gb_goal.specs.Goal.Goal.{ambient, phoare};
 ghost use Rattle.gb_goal.specs.Rows.{answered, concluding, each_concluding};
 ghost use Rattle.gb_steps.specs.declared.step.Weakened.{Weakened as Conditions};
 ghost use Rattle.gb_typing.specs.Context.{Context};
 ghost use Rattle.gb_typing.specs.Forms.{every as in_every};
 ghost use Rattle.gb_typing.specs.Rules.{IsSoundRule};
-ghost use Rattle.gb_bodies.specs.Conseq.{bound_goals, conseq_row, leads, of_chance, of_one, of_two, or_old, pair_leads, IsTypedWeakened};
+ghost use Rattle.gb_bodies.specs.Conseq.{bound_goals, conseq_row, of_chance, of_one, of_two, or_old, IsTypedWeakened};
 ghost use Rattle.gb_parts.specs.Likely.{as_likely};
 ghost use Rattle.gb_parts.specs.Judged.{goal_judged};
 
+use crate::goals::{leads, pair_leads, three_goals};
 use gb_chance::compared::compared;
 use gb_core::refusal::Refused;
 use gb_goal::sequent::{Sequent, Sequents};
-use gb_parts::forms::{every, every_pair, implied, likely};
+use gb_parts::forms::{every, likely};
 use gb_parts::judged::{Judged, equiv_of, hoare_of, judgment, phoare_of};
-use gb_parts::subgoals::{no_shape, one_goal, two_goals};
+use gb_parts::subgoals::{no_shape, one_goal};
 use gb_steps::step::Weakened;
 use gb_terms::op::{Rel, Side};
 use gb_terms::term::{Form, RealTerm, Subject, Term};
@@ -35,29 +36,13 @@ pub struct Bounded<'a> {
 }
 
 /// What is said anew, or else what stood there.
-fn or_old(new: &Option<Term>, old: &Term) -> Result<Term, AllocError>
-    ensures { IfOk result (λ made. made ≡ or_old new.now old.now) }
+fn or_old<'a>(new: &'a Option<Term>, old: &'a Term) -> &'a Term
+    ensures { result.now ≡ or_old new.now old.now }
 {
     match new {
-        Some(new) => new.share(),
-        None => old.share(),
+        Some(new) => new,
+        None => old,
     }
-}
-
-/// One form leads to the other in every memory.
-fn leads(alloc: Global, pre: &Form, post: &Form) -> Result<Form, AllocError>
-    ensures { IfOk result (λ made. made ≡ form_of (leads pre.now post.now)) }
-{
-    let form = implied(alloc, pre, post)?;
-    every(alloc, Side::Own, form)
-}
-
-/// One form leads to the other on every two memories.
-fn pair_leads(alloc: Global, pre: &Form, post: &Form) -> Result<Form, AllocError>
-    ensures { IfOk result (λ made. made ≡ form_of (pair_leads pre.now post.now)) }
-{
-    let form = implied(alloc, pre, post)?;
-    every_pair(alloc, form)
 }
 
 /// The old postcondition and the new one, so that one is as likely as the relation to the bound asks, in every memory.
@@ -79,14 +64,12 @@ fn of_one(
 ) -> Result<Sequents, AllocError>
     ensures { IfOk result (λ goals. goals ≡ map (concluding goal.now) (of_one new.now (code_of subject.now) pre.now post.now)) }
 {
-    let before = or_old(&new.pre, pre)?;
-    let after = or_old(&new.post, post)?;
-    let first = leads(alloc, pre, &before)?;
-    let second = leads(alloc, &after, post)?;
-    let mut goals = two_goals(alloc, goal, first, second)?;
-    let last = hoare_of(alloc, subject, before, after)?;
-    goals.push(goal.with_conclusion(last)?)?;
-    Ok(goals)
+    let before = or_old(&new.pre, pre);
+    let after = or_old(&new.post, post);
+    let last = hoare_of(alloc, subject, before.share()?, after.share()?)?;
+    let first = leads(alloc, pre, before)?;
+    let second = leads(alloc, after, post)?;
+    three_goals(alloc, goal, first, second, last)
 }
 
 /// The goals of an equivalence.
@@ -101,14 +84,12 @@ fn of_two(
 ) -> Result<Sequents, AllocError>
     ensures { IfOk result (λ goals. goals ≡ map (concluding goal.now) (of_two new.now (code_of left.now) (code_of right.now) pre.now post.now)) }
 {
-    let before = or_old(&new.pre, pre)?;
-    let after = or_old(&new.post, post)?;
-    let first = pair_leads(alloc, pre, &before)?;
-    let second = pair_leads(alloc, &after, post)?;
-    let mut goals = two_goals(alloc, goal, first, second)?;
-    let last = equiv_of(alloc, left, right, before, after)?;
-    goals.push(goal.with_conclusion(last)?)?;
-    Ok(goals)
+    let before = or_old(&new.pre, pre);
+    let after = or_old(&new.post, post);
+    let last = equiv_of(alloc, left, right, before.share()?, after.share()?)?;
+    let first = pair_leads(alloc, pre, before)?;
+    let second = pair_leads(alloc, after, post)?;
+    three_goals(alloc, goal, first, second, last)
 }
 
 /// The goal that a new bound stands so to the old one.
@@ -131,6 +112,22 @@ fn bound_goals(
     }
 }
 
+/// A judgment with a probability, of other conditions and another bound.
+fn weakened(
+    alloc: Global,
+    new: &Weakened,
+    subject: &Subject,
+    old: &Bounded<'_>,
+) -> Result<Form, AllocError>
+    ensures { IfOk result (λ made. made ≡ form_of (phoare (code_of subject.now) old.now.rel (or_old new.now.pre old.now.pre.now)
+        (or_old new.now.post old.now.post.now) (or_old new.now.bound old.now.bound.now))) }
+{
+    let pre = or_old(&new.pre, old.pre).share()?;
+    let post = or_old(&new.post, old.post).share()?;
+    let bound = or_old(&new.bound, old.bound).share()?;
+    phoare_of(alloc, subject, old.rel, pre, post, bound)
+}
+
 /// The goals of a judgment with a probability.
 #[tactic(auto, using(crate::proofs::ConseqSteps::behind_bound))]
 fn of_chance(
@@ -143,16 +140,12 @@ fn of_chance(
     ensures { IfOk result (λ goals. goals ≡ map (concluding goal.now)
         (of_chance new.now (code_of subject.now) old.now.rel old.now.pre.now old.now.post.now old.now.bound.now)) }
 {
-    let before = or_old(&new.pre, old.pre)?;
-    let after = or_old(&new.post, old.post)?;
+    let last = weakened(alloc, new, subject, old)?;
+    let first = leads(alloc, old.pre, or_old(&new.pre, old.pre))?;
+    let second = as_likely(alloc, old.rel, old.post, or_old(&new.post, old.post))?;
+    let rest = three_goals(alloc, goal, first, second, last)?;
     let mut goals = bound_goals(alloc, goal, old.rel, &new.bound, old.bound)?;
-    let first = leads(alloc, old.pre, &before)?;
-    goals.push(goal.with_conclusion(first)?)?;
-    let second = as_likely(alloc, old.rel, old.post, &after)?;
-    goals.push(goal.with_conclusion(second)?)?;
-    let bound = or_old(&new.bound, old.bound)?;
-    let last = phoare_of(alloc, subject, old.rel, before, after, bound)?;
-    goals.push(goal.with_conclusion(last)?)?;
+    goals.append(rest)?;
     Ok(goals)
 }
 

@@ -5,6 +5,7 @@ pub mod apply;
 pub mod branch;
 pub mod case;
 pub mod conseq;
+pub mod goals;
 pub mod laws;
 pub mod proc;
 pub mod seq;

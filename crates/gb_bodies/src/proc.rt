@@ -28,9 +28,8 @@ use gb_parts::subgoals::{no_shape, one_goal};
 use gb_terms::decl::Proc;
 use gb_terms::op::{Read, Rel, Side};
 use gb_terms::term::{Form, RealTerm};
-use gb_walk::change::{Change, Changes};
+use gb_walk::change::Change;
 use gb_walk::walk::changed;
-use sqlite_items::Items;
 use std::alloc::{AllocError, Global};
 
 /// The variable that stands for the result of a procedure.
@@ -46,16 +45,6 @@ fn returned(alloc: Global, proc: &Proc, side: Side) -> Result<Change, AllocError
     Ok(Change::ToTerm(Read::Program { var, side }, value))
 }
 
-/// The results of two procedures become the terms that they return.
-fn both_returned(alloc: Global, left: &Proc, right: &Proc) -> Result<Changes, AllocError>
-    ensures { IfOk result (λ made. made ≡ returned Side.Left left.now ∷ returned Side.Right right.now ∷ []) }
-{
-    let mut results = Items::new(alloc);
-    results.push(returned(alloc, left, Side::Left)?)?;
-    results.push(returned(alloc, right, Side::Right)?)?;
-    Ok(results)
-}
-
 /// What is said of the result of a procedure, of the term that it returns.
 fn said_of_one(alloc: Global, proc: &Proc, post: &Form) -> Result<Form, AllocError>
     ensures { IfOk result (λ made. made ≡ of_result proc.now post.now) }
@@ -68,8 +57,9 @@ fn said_of_one(alloc: Global, proc: &Proc, post: &Form) -> Result<Form, AllocErr
 fn said_of_both(alloc: Global, left: &Proc, right: &Proc, post: &Form) -> Result<Form, AllocError>
     ensures { IfOk result (λ made. made ≡ term_changed post.now (returned Side.Left left.now ∷ returned Side.Right right.now ∷ [])) }
 {
-    let results = both_returned(alloc, left, right)?;
-    changed(alloc, post, results.as_slice())
+    let left = returned(alloc, left, Side::Left)?;
+    let right = returned(alloc, right, Side::Right)?;
+    changed(alloc, post, &[left, right])
 }
 
 /// The judgment on the body of a procedure.

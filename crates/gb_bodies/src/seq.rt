@@ -1,20 +1,20 @@
 //! The rule `seq`.
 
-ghost use Rattle.std.specs.Prelude.{◌≡◌, IfOk};
+ghost use Rattle.std.specs.Prelude.{◌≡◌, [], ◌∷◌, map, IfOk};
 ghost use Rattle.gb_terms.specs.declared.term.Term.{Term};
 ghost use Rattle.gb_steps.specs.declared.step.Cut.{Cut as Position};
 ghost use Rattle.gb_goal.specs.Answers.{Answers};
 ghost use Rattle.gb_goal.specs.Goal.Code.{body};
 ghost use Rattle.gb_goal.specs.Goal.Goal.{hoare, equiv};
 ghost use Rattle.gb_goal.specs.Goal.{form_of};
-ghost use Rattle.gb_goal.specs.Rows.{answered, each_concluding};
+ghost use Rattle.gb_goal.specs.Rows.{answered, concluding, each_concluding};
 ghost use Rattle.gb_goal.specs.Views.{goal_seen};
 ghost use Rattle.gb_typing.specs.Context.{Context};
 ghost use Rattle.gb_typing.specs.Rules.{IsSoundRule};
 ghost use Rattle.gb_bodies.specs.Seq.{seq_row, IsTypedCut};
 
 use gb_core::refusal::{Refused, Why};
-use gb_forms::cuts::cut_bodies;
+use gb_forms::cuts::{Parts, cut_bodies};
 use gb_goal::goal::{Code, Goal, equiv, goal_of, hoare};
 use gb_goal::sequent::{Sequent, Sequents};
 use gb_parts::subgoals::{no_shape, refusal, shared_body, two_goals};
@@ -49,6 +49,42 @@ fn of_two(
     equiv(alloc, left, right, pre, post)
 }
 
+/// The goals of the parts of a body.
+fn one_cut(
+    alloc: Global,
+    goal: &Sequent,
+    parts: (&[Instr], &[Instr]),
+    pre: &Form,
+    between: &Form,
+    post: &Form,
+) -> Result<Sequents, AllocError>
+    ensures { IfOk result (λ goals. goals ≡ map (concluding goal.now)
+        (hoare (body parts.entry.0.now) pre.now between.now ∷ hoare (body parts.entry.1.now) between.now post.now ∷ [])) }
+{
+    let first = of_one(alloc, parts.0, pre, between)?;
+    let rest = of_one(alloc, parts.1, between, post)?;
+    two_goals(alloc, goal, first, rest)
+}
+
+/// The goals of the parts of two bodies.
+fn two_cut(
+    alloc: Global,
+    goal: &Sequent,
+    parts: (Parts<'_>, Parts<'_>),
+    pre: &Form,
+    between: &Form,
+    post: &Form,
+) -> Result<Sequents, AllocError>
+    ensures { IfOk result (λ goals. goals ≡ map (concluding goal.now)
+        (equiv (body parts.entry.0.left.now) (body parts.entry.0.right.now) pre.now between.now
+        ∷ equiv (body parts.entry.1.left.now) (body parts.entry.1.right.now) between.now post.now ∷ [])) }
+{
+    let (first, rest) = parts;
+    let first = of_two(alloc, first.left, first.right, pre, between)?;
+    let rest = of_two(alloc, rest.left, rest.right, between, post)?;
+    two_goals(alloc, goal, first, rest)
+}
+
 /// The subgoals of a goal that is seen so.
 fn cut(
     alloc: Global,
@@ -64,19 +100,15 @@ fn cut(
             if count > list.len() as u128 {
                 return Err(refusal(Why::Argument));
             }
-            let (first, rest) = list.split_at(count as usize);
-            let first = of_one(alloc, first, pre, between)?;
-            let rest = of_one(alloc, rest, between, post)?;
-            Ok(two_goals(alloc, goal, first, rest)?)
+            let parts = list.split_at(count as usize);
+            Ok(one_cut(alloc, goal, parts, pre, between, post)?)
         }
         (Cut::Two(here, there), Goal::Equiv(Code::Body(left), Code::Body(right), pre, post)) => {
             if here > left.len() as u128 || there > right.len() as u128 {
                 return Err(refusal(Why::Argument));
             }
-            let (first, rest) = cut_bodies(left, right, here as usize, there as usize);
-            let first = of_two(alloc, first.left, first.right, pre, between)?;
-            let rest = of_two(alloc, rest.left, rest.right, between, post)?;
-            Ok(two_goals(alloc, goal, first, rest)?)
+            let parts = cut_bodies(left, right, here as usize, there as usize);
+            Ok(two_cut(alloc, goal, parts, pre, between, post)?)
         }
         _ => Err(no_shape()),
     }

@@ -1,38 +1,50 @@
 //! The rule `skip`.
 
+ghost use Rattle.std.specs.Prelude.{◌≡◌, IfOk};
+ghost use Rattle.gb_chance.specs.Compared.{certain_or_not};
 ghost use Rattle.gb_typing.specs.Context.{Context};
+ghost use Rattle.gb_typing.specs.Forms.{every, implies_form};
 ghost use Rattle.gb_goal.specs.Answers.{Answers};
 ghost use Rattle.gb_goal.specs.Rows.{answered, each_concluding};
 ghost use Rattle.gb_goal.specs.Views.{goal_seen};
 ghost use Rattle.gb_typing.specs.Rules.{IsSoundRule, no_arguments};
 ghost use Rattle.gb_bodies.specs.Skip.{skip_row};
 
+use crate::goals::{leads, pair_leads};
 use gb_chance::compared::certain_or_not;
 use gb_core::refusal::Refused;
 use gb_goal::goal::{Code, Goal, goal_of};
 use gb_goal::sequent::{Sequent, Sequents};
-use gb_parts::forms::{every, every_pair, implied};
+use gb_parts::forms::every;
 use gb_parts::subgoals::{no_shape, one_goal};
 use gb_terms::make::implication;
-use gb_terms::op::Side;
-use std::alloc::Global;
+use gb_terms::op::{Rel, Side};
+use gb_terms::term::{Form, RealTerm};
+use std::alloc::{AllocError, Global};
+
+/// What is left of empty bodies with a probability.
+fn met(
+    alloc: Global,
+    rel: Rel,
+    pre: &Form,
+    post: &Form,
+    bound: &RealTerm,
+) -> Result<Form, AllocError>
+    ensures { IfOk result (λ made. made ≡ every Side.Own (implies_form pre.now (certain_or_not rel post.now bound.now))) }
+{
+    let met = certain_or_not(alloc, rel, post, bound)?;
+    let form = implication(alloc, pre.share()?, met)?;
+    every(alloc, Side::Own, form)
+}
 
 /// The subgoals of a goal that is seen so.
 fn skipped(alloc: Global, goal: &Sequent, seen: Goal) -> Result<Sequents, Refused>
     ensures { Answers (each_concluding goal.now (skip_row (goal_seen seen.entry))) result }
 {
     let conclusion = match seen {
-        Goal::Hoare(Code::Body([]), pre, post) => {
-            every(alloc, Side::Own, implied(alloc, pre, post)?)?
-        }
-        Goal::Phoare(Code::Body([]), rel, pre, post, bound) => {
-            let met = certain_or_not(alloc, rel, post, bound)?;
-            let form = implication(alloc, pre.share()?, met)?;
-            every(alloc, Side::Own, form)?
-        }
-        Goal::Equiv(Code::Body([]), Code::Body([]), pre, post) => {
-            every_pair(alloc, implied(alloc, pre, post)?)?
-        }
+        Goal::Hoare(Code::Body([]), pre, post) => leads(alloc, pre, post)?,
+        Goal::Phoare(Code::Body([]), rel, pre, post, bound) => met(alloc, rel, pre, post, bound)?,
+        Goal::Equiv(Code::Body([]), Code::Body([]), pre, post) => pair_leads(alloc, pre, post)?,
         _ => return Err(no_shape()),
     };
     Ok(one_goal(alloc, goal, conclusion)?)

@@ -4,8 +4,8 @@ ghost use Rattle.std.specs.Prelude.{◌≡◌};
 ghost use Rattle.std.specs.Option.{option_map};
 ghost use Rattle.gb_call.specs.LastCall.{call_seen, of_statement, last_call};
 
+use gb_core::Shared;
 use gb_core::var::Var;
-use gb_shared::Shared;
 use gb_terms::module::ProcRef;
 use gb_terms::term::{Instr, Term};
 

@@ -11,6 +11,7 @@ ghost use Rattle.gb_prog.specs.AllValues.{for_all, in_memory, to_bound_values};
 ghost use Rattle.gb_call.specs.Outcomes.{after_call, after_where, clashing_after, for_outcomes, globals_seen, is_among, is_clashing_after, left_side, of_arguments, of_outcome, of_return, outcome_seen, put_for, result_bound};
 
 use crate::written::TypedGlobal;
+use gb_core::Shared;
 use gb_core::copy::copy_var;
 use gb_core::name::Name;
 use gb_core::ty::Ty;
@@ -18,7 +19,6 @@ use gb_core::var::Var;
 use gb_forms::calls::{Reads, is_among};
 use gb_parts::assigned::{put_in, taken};
 use gb_parts::forms::{likely, located};
-use gb_shared::Shared;
 use gb_terms::decl::TypedName;
 use gb_terms::make::{forall, leaf};
 use gb_terms::op::{Read, Rel, Side};

@@ -5,13 +5,13 @@ ghost use Rattle.std.specs.Option.{option_copied};
 ghost use Rattle.gb_meaning.specs.Written.{local_type};
 ghost use Rattle.gb_call.specs.Written.{global_type, type_in, typed_seen, with_types};
 
+use gb_core::Shared;
 use gb_core::copy::copy_var;
 use gb_core::name::Name;
 use gb_core::same::same_name;
 use gb_core::ty::Ty;
 use gb_core::var::Var;
 use gb_goal::scope::Scope;
-use gb_shared::Shared;
 use gb_terms::decl::{Module, TypedName};
 use sqlite_items::Items;
 use std::alloc::{AllocError, Global};

@@ -8,12 +8,12 @@ ghost use Rattle.gb_call.specs.Outcomes.{globals_seen, outcome_seen};
 
 use gb_call::outcomes::{Outcome, bound, put_for, reads_result, result_variable};
 use gb_call::written::TypedGlobal;
+use gb_core::Shared;
 use gb_core::copy::copy_var;
 use gb_core::ty::Ty;
 use gb_core::var::Var;
 use gb_forms::calls::Reads;
 use gb_parts::assigned::{put_in, taken};
-use gb_shared::Shared;
 use gb_terms::decl::TypedName;
 use gb_terms::make::{forall, implication};
 use gb_terms::op::{Read, Side};

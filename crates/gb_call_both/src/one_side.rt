@@ -21,6 +21,7 @@ use gb_call::call::{
 };
 use gb_call::last_call::{Last, last_call};
 use gb_call::written::TypedGlobal;
+use gb_core::Shared;
 use gb_core::copy::copy_var;
 use gb_core::refusal::{Refused, Why};
 use gb_forms::calls::Reads;
@@ -33,7 +34,6 @@ use gb_parts::forms::located;
 use gb_parts::judged::{hoare_of, phoare_of};
 use gb_parts::one_body::{OneBody, filled, one_body, side_of};
 use gb_parts::subgoals::{no_shape, refusal, shared_body, two_goals};
-use gb_shared::Shared;
 use gb_steps::step::{Acts, Contract};
 use gb_terms::module::ProcRef;
 use gb_terms::op::{Rel, Side};

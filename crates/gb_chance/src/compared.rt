@@ -3,8 +3,8 @@
 ghost use Rattle.std.specs.Prelude.{◌≡◌, IfOk};
 ghost use Rattle.gb_chance.specs.Compared.{at_most_form, certain_or_not, compared, literal, literal_at, number, whole_at};
 
+use gb_core::Shared;
 use gb_core::ty::Ty;
-use gb_shared::Shared;
 use gb_terms::make::{binary, conjunction, equality, implication, leaf, negation, truth_ty, unary};
 use gb_terms::op::{Op, Rel};
 use gb_terms::term::{Form, Head, RealTerm, Term};

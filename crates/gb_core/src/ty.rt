@@ -1,7 +1,7 @@
 // Types.
 
 use crate::name::Name;
-use gb_shared::{Shared, SharedItems};
+use crate::{Shared, SharedItems};
 use sqlite_items::Items;
 
 /// A type. `Int`, `Real` and `Distr` stand in formulas alone.

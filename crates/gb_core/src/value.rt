@@ -3,7 +3,7 @@
 ghost use Rattle.std.specs.Prelude.{◌≡◌, IfOk};
 ghost use Rattle.gb_core.specs.declared.value.Value.TheVariants.{Many};
 
-use gb_shared::SharedItems;
+use crate::SharedItems;
 use sqlite_items::Items;
 use std::alloc::{AllocError, Global};
 

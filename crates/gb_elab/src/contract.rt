@@ -10,6 +10,7 @@ ghost use Rattle.gb_names.specs.Allowed.{judgment};
 ghost use Rattle.gb_names.specs.Environment.{environment};
 ghost use Rattle.gb_elab.specs.OneProcedure.{always, ends, lossless, one, relation, with_chance};
 
+use gb_core::Shared;
 use gb_core::name::Name;
 use gb_core::place::Place;
 use gb_core::refusal::Refused;
@@ -20,7 +21,6 @@ use gb_names::judgment::one_procedure;
 use gb_names::refusals::not_built;
 use gb_names::setting::Setting;
 use gb_script::tree::Node;
-use gb_shared::Shared;
 use gb_terms::make;
 use gb_terms::module::ProcRef;
 use gb_terms::op::{Op, Rel};

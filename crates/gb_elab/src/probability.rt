@@ -7,6 +7,7 @@ ghost use Rattle.gb_goal.specs.Answers.{Answers, Gives};
 ghost use Rattle.gb_names.specs.Environment.{environment};
 ghost use Rattle.gb_elab.specs.Probability.{called, chance, chance_here};
 
+use gb_core::Shared;
 use gb_core::place::Place;
 use gb_core::refusal::Refused;
 use gb_core::ty::Ty;
@@ -17,7 +18,6 @@ use gb_names::refusals::{argument, not_built};
 use gb_names::setting::{Language, Setting};
 use gb_script::head::Head as NodeHead;
 use gb_script::tree::Node;
-use gb_shared::Shared;
 use gb_terms::make;
 use gb_terms::module::ProcRef;
 use gb_terms::op::Side;

@@ -76,16 +76,16 @@ module _ (ds : Declarations) (c : Context) (m : Module) (around : IsAround ds c 
   pub target_typed : (x : Name) (p : Place) (v : Target) → target here x p ≡ given v → IsTarget v
   target_typed x p v h = local (first_named vs x) refl h
     where
-      global : (o : Option ModuleVariable) → global_at here x ≡ o → option_map_or global_target o (refused (no_variable here x) p) ≡ given v → IsTarget v
-      global (Some g) e k = subst IsTarget (given_is (Global g.0 g.1.name, g.1.ty) v k) (global_stands inner here [] fits refl x g e)
+      global : (o : Option ModuleVariable) → global_at here [] x ≡ o → option_map_or global_target o (refused (no_variable here [] x) p) ≡ given v → IsTarget v
+      global (Some g) e k = subst IsTarget (given_is (Global g.0 g.1.name, g.1.ty) v k) (global_stands inner here [] fits refl [] x g e)
       global None e k = cc
 
       local : (o : Option TypedName) → first_named vs x ≡ o →
-          option_map_or (λ l. given (Local l.name, l.ty)) o (option_map_or global_target (global_at here x) (refused (no_variable here x) p)) ≡ given v → IsTarget v
+          option_map_or (λ l. given (Local l.name, l.ty)) o (option_map_or global_target (global_at here [] x) (refused (no_variable here [] x) p)) ≡ given v → IsTarget v
       local (Some l) e k =
           let f = found vs x l e in
           subst IsTarget {x = (Local l.name, l.ty)} (given_is (Local l.name, l.ty) v k) (ap (local_type vs) f.name ∙ f.frame, f.finite_with false (variables_with false vs typed))
-      local None e k = global (global_at here x) refl k
+      local None e k = global (global_at here [] x) refl k
 
   -- several variables
   abbrev pub AreTargets : List Target → Type 0

@@ -1,5 +1,5 @@
 -- What typing makes of `transitivity`.
-use Rattle.std.proofs.Common.{◌≡◌, List, [], ◌∷◌, Option, Some, None, refl, subst, sym}
+use Rattle.std.proofs.Common.{◌≡◌, ◌-◌, List, [], ◌∷◌, length, take, drop, Option, Some, None, refl, subst, sym}
 use Rattle.gb_core.specs.declared.place.Place.{Place}
 use Rattle.gb_core.specs.declared.ty.Ty.TheVariants as ty
 use Rattle.gb_terms.specs.declared.decl.TypedName.{TypedName}
@@ -33,7 +33,7 @@ use Rattle.gb_typing.specs.Goals.{IsGoalOver}
 use Rattle.gb_names.specs.Environment.{ambient, relational}
 use Rattle.gb_names.specs.Judgments.{Named, named_procedure}
 use Rattle.gb_elab.specs.Forms.{elaborated}
-use Rattle.gb_elab_mod.specs.Steps.{between_at, between_by, between_of, params_if, related, result_if, transitive_rule}
+use Rattle.gb_elab_mod.specs.Steps.{between_at, between_by, between_of, between_with, params_if, related, result_if, transitive_rule}
 use Rattle.gb_relational.specs.Rows.{IsTypedRule}
 use Rattle.gb_relational.specs.Transitivity.{IsBetween}
 use Rattle.gb_elab_laws.proofs.Anew.{fits, params_stand, result_stands}
@@ -55,17 +55,21 @@ module _ (ds : scope.Declarations) (q : Sequent) (P : Rule → Type 0) (between 
   fits_none : (k : Rule) → given (rule.OnBodies on_bodies.Unfit) ≡ given k → P k
   fits_none k h = subst P (given_is (rule.OnBodies on_bodies.Unfit) k h) unfit
 
-  at_goal : (x y a b : Node) (fs : List Node) (G : Goal) (p : Place) (k : Rule) → between_by ds q x y a b fs G p ≡ given k → P k
-  at_goal x y a b (f ∷ g ∷ []) (equiv (of_procedure r) (of_procedure o) u v) p k h = is_between (x ∷ y ∷ []) a b f g (place_of x) r o k h
-  at_goal x y a b (f ∷ g ∷ []) (equiv (of_procedure r) (body js) u v) p k h = fits_none k h
-  at_goal x y a b (f ∷ g ∷ []) (equiv (body is) d u v) p k h = fits_none k h
-  at_goal x y a b (f ∷ g ∷ []) (hoare d u v) p k h = fits_none k h
-  at_goal x y a b (f ∷ g ∷ []) (phoare d o u v w) p k h = fits_none k h
-  at_goal x y a b (f ∷ g ∷ []) (other_form u) p k h = fits_none k h
-  at_goal x y a b _ G p k h = cc
+  at_goal : (xs : List Node) (a b : Node) (fs : List Node) (G : Goal) (p : Place) (k : Rule) → between_by ds q xs a b fs G p ≡ given k → P k
+  at_goal (x ∷ xs) a b (f ∷ g ∷ []) (equiv (of_procedure r) (of_procedure o) u v) p k h = is_between (x ∷ xs) a b f g (place_of x) r o k h
+  at_goal (x ∷ xs) a b (f ∷ g ∷ []) (equiv (of_procedure r) (body js) u v) p k h = fits_none k h
+  at_goal (x ∷ xs) a b (f ∷ g ∷ []) (equiv (body is) d u v) p k h = fits_none k h
+  at_goal (x ∷ xs) a b (f ∷ g ∷ []) (hoare d u v) p k h = fits_none k h
+  at_goal (x ∷ xs) a b (f ∷ g ∷ []) (phoare d o u v w) p k h = fits_none k h
+  at_goal (x ∷ xs) a b (f ∷ g ∷ []) (other_form u) p k h = fits_none k h
+  at_goal _ a b _ G p k h = cc
+
+  with_contracts : (xs ns : List Node) (p : Place) (k : Rule) → between_with ds q xs ns p ≡ given k → P k
+  with_contracts xs (a ∷ b ∷ n ∷ []) p k h = at_goal xs a b (parts_of n) (goal_of q.conclusion) p k h
+  with_contracts xs _ p k h = cc
 
   written : (j : Kind) (ns : List Node) (p : Place) (k : Rule) → between_at ds q j ns p ≡ given k → P k
-  written text.PlainTransitivity (x ∷ y ∷ a ∷ b ∷ n ∷ []) p k h = at_goal x y a b (parts_of n) (goal_of q.conclusion) p k h
+  written text.PlainTransitivity ns p k h = with_contracts (take (length ns - 3) ns) (drop (length ns - 3) ns) p k h
   written _ _ p k h = cc
 
   pub of_transitive : (a : Acts) (j : Kind) (ns : List Node) (p : Place) (k : Rule) → transitive_rule ds q a j ns p ≡ given k → P k
@@ -126,17 +130,21 @@ module _ (ds : scope.Declarations) (scoped : IsTypedScope (declared ds)) (q : Se
         subst Typed (given_is (rule.Relational (relational_rule.Transitivity s)) k y.2)
         (subst (IsTypedRule here (rule.Relational (relational_rule.Transitivity s)) ls rs) (sym g) typed)
 
-    goal_typed : (x y a b : Node) (fs : List Node) (G : Goal) → goal_of q.conclusion ≡ G → IsGoalOver here ls rs G → (p : Place) (k : Rule) → between_by ds q x y a b fs G p ≡ given k → Typed k
-    goal_typed x y a b (f ∷ g ∷ []) (equiv (of_procedure r) (of_procedure o) u v) e z p k h = between_typed (x ∷ y ∷ []) a b f g (place_of x) r o z.1 z.2 u v e k h
-    goal_typed x y a b (f ∷ g ∷ []) (equiv (of_procedure r) (body js) u v) e z p k h = subst Typed (given_is (rule.OnBodies on_bodies.Unfit) k h) tt
-    goal_typed x y a b (f ∷ g ∷ []) (equiv (body is) d u v) e z p k h = subst Typed (given_is (rule.OnBodies on_bodies.Unfit) k h) tt
-    goal_typed x y a b (f ∷ g ∷ []) (hoare d u v) e z p k h = subst Typed (given_is (rule.OnBodies on_bodies.Unfit) k h) tt
-    goal_typed x y a b (f ∷ g ∷ []) (phoare d o u v w) e z p k h = subst Typed (given_is (rule.OnBodies on_bodies.Unfit) k h) tt
-    goal_typed x y a b (f ∷ g ∷ []) (other_form u) e z p k h = subst Typed (given_is (rule.OnBodies on_bodies.Unfit) k h) tt
-    goal_typed x y a b _ G e z p k h = cc
+    goal_typed : (xs : List Node) (a b : Node) (fs : List Node) (G : Goal) → goal_of q.conclusion ≡ G → IsGoalOver here ls rs G → (p : Place) (k : Rule) → between_by ds q xs a b fs G p ≡ given k → Typed k
+    goal_typed (x ∷ xs) a b (f ∷ g ∷ []) (equiv (of_procedure r) (of_procedure o) u v) e z p k h = between_typed (x ∷ xs) a b f g (place_of x) r o z.1 z.2 u v e k h
+    goal_typed (x ∷ xs) a b (f ∷ g ∷ []) (equiv (of_procedure r) (body js) u v) e z p k h = subst Typed (given_is (rule.OnBodies on_bodies.Unfit) k h) tt
+    goal_typed (x ∷ xs) a b (f ∷ g ∷ []) (equiv (body is) d u v) e z p k h = subst Typed (given_is (rule.OnBodies on_bodies.Unfit) k h) tt
+    goal_typed (x ∷ xs) a b (f ∷ g ∷ []) (hoare d u v) e z p k h = subst Typed (given_is (rule.OnBodies on_bodies.Unfit) k h) tt
+    goal_typed (x ∷ xs) a b (f ∷ g ∷ []) (phoare d o u v w) e z p k h = subst Typed (given_is (rule.OnBodies on_bodies.Unfit) k h) tt
+    goal_typed (x ∷ xs) a b (f ∷ g ∷ []) (other_form u) e z p k h = subst Typed (given_is (rule.OnBodies on_bodies.Unfit) k h) tt
+    goal_typed _ a b _ G e z p k h = cc
+
+    contracts_typed : (xs ns : List Node) (p : Place) (k : Rule) → between_with ds q xs ns p ≡ given k → Typed k
+    contracts_typed xs (a ∷ b ∷ n ∷ []) p k h = goal_typed xs a b (parts_of n) (goal_of q.conclusion) refl w p k h
+    contracts_typed xs _ p k h = cc
 
     written_typed : (j : Kind) (ns : List Node) (p : Place) (k : Rule) → between_at ds q j ns p ≡ given k → Typed k
-    written_typed text.PlainTransitivity (x ∷ y ∷ a ∷ b ∷ n ∷ []) p k h = goal_typed x y a b (parts_of n) (goal_of q.conclusion) refl w p k h
+    written_typed text.PlainTransitivity ns p k h = contracts_typed (take (length ns - 3) ns) (drop (length ns - 3) ns) p k h
     written_typed _ _ p k h = cc
 
     pub transitive_typed : (a : Acts) (j : Kind) (ns : List Node) (p : Place) (k : Rule) → transitive_rule ds q a j ns p ≡ given k → Typed k

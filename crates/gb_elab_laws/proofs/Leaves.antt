@@ -38,7 +38,7 @@ use Rattle.gb_names.specs.declared.bindings.Kind.TheVariants.{Value, Memory}
 use Rattle.gb_names.specs.Bindings.{binders_inside, innermost}
 use Rattle.gb_names.specs.Locals.{goal_read_type, local_if, locals_in}
 use Rattle.gb_names.specs.Environment.{Name, Environment, may_read, own, own_of, on_side, sides_of}
-use Rattle.gb_names.specs.Names.{ModuleVariable, first_named, global_at, global_in, global_variable, has_own, module_if, number_before, own_global, unit, unsided, bound_thing, bound_variable, logical_variable, program_variable, names_other, unbound, named, named_around, needs_side, no_variable, variable_on, sided, in_memory, path}
+use Rattle.gb_names.specs.Names.{ModuleVariable, first_named, global_at, global_in, global_of, global_variable, has_own, hidden, module_if, number_before, own_global, unit, unsided, bound_thing, bound_variable, logical_variable, program_variable, names_other, unbound, named, named_around, needs_side, no_variable, variable_on, sided, in_memory, path}
 use Rattle.gb_names.specs.Names.{beside, has_memories, may_name, memory_at, read_global, remembered, side_of}
 use Rattle.gb_elab.specs.Forms.{read}
 use Rattle.gb_elab.specs.Globs.{Seen, bare_glob, whole_alone, whole_read}
@@ -57,6 +57,11 @@ use Rattle.gb_elab_laws.proofs.Typed.{Typed, IsSome, leaf}
 mapped : {A B : Type 0} (f : A → B) (o : Option A) (y : B) → option_map f o ≡ Some y → (x : A) × (o ≡ Some x) × (f x ≡ y)
 mapped f (Some x) y e = (x, refl, same_some (f x) y e)
 mapped f None y e = none_some y e
+
+-- what is there unless it is hidden
+if_there : {A : Type 0} (b : Bool) (o : Option A) (y : A) → (if b then None else o) ≡ Some y → o ≡ Some y
+if_there true o y e = none_some y e
+if_there false o y e = e
 
 -- variables are read in a memory of these locals
 record IsRead (globs : Bool) (f : Frame) (vs : List TypedName) : Type 0 where
@@ -154,8 +159,8 @@ module _ {globs : Bool} (c : Context) (at : Environment) (vs : List Binding) (fi
       let t = local_typed side.Own (own at) tt (own_there globs (reads_globals at.language) c at.variables fit.variables) x v f in
       (t.0, t.2)
 
-  unbound_typed : (x : Name) (p : Place) (u : Term) → unbound at x p ≡ given u → IsSome globs c at.language u
-  unbound_typed x p u h = step (names_other at x) h
+  unbound_typed : (x : Name) (p : Place) (u : Term) → unbound at vs x p ≡ given u → IsSome globs c at.language u
+  unbound_typed x p u h = step (names_other at vs x) h
     where
       step : (b : Bool) → (if b then refused Argument p else refused (UnknownName x) p) ≡ given u → IsSome globs c at.language u
       step true e = cc
@@ -181,12 +186,14 @@ module _ {globs : Bool} (c : Context) (at : Environment) (vs : List Binding) (fi
       step true i f = subst (HasGlobals c.global n) (same_some k m f) (subst (λ z. HasGlobals c.global z k) (sym ((bytes_eq-Decides n k.name).0 i)) h)
       step false i f = fit.globals w n m f
 
-  pub global_stands : reads_globals at.language ≡ true → (x : Name) (g : ModuleVariable) → global_at at x ≡ Some g → Stands g
+  pub global_stands : reads_globals at.language ≡ true → (bs : List Binding) (x : Name) (g : ModuleVariable) → global_at at bs x ≡ Some g → Stands g
   unfolding global_at
-  global_stands w x g e = step (rsplit_once dot x) e
+  global_stands w bs x g e = step (rsplit_once dot x) e
     where
-      step : (o : Option (Name × Name)) → option_map_or (λ p. global_in p.0 (module_if at.inside at.declared p.0) p.1) o (own_global at.inside x) ≡ Some g → Stands g
-      step (Some p) f = in_stands p.0 (module_if at.inside at.declared p.0) p.1 g (λ m i. module_stands w at.inside p.0 m fit.around i) f
+      step : (o : Option (Name × Name)) → option_map_or (global_of at bs) o (own_global at.inside x) ≡ Some g → Stands g
+      step (Some p) f =
+          let found_in = module_if at.inside at.declared p.0 in
+          in_stands p.0 found_in p.1 g (λ m i. module_stands w at.inside p.0 m fit.around i) (if_there (hidden at bs p.0) (global_in p.0 found_in p.1) g f)
       step None f = own_stands at.inside x g fit.around f
 
   -- a read of a global that stands
@@ -196,10 +203,10 @@ module _ {globs : Bool} (c : Context) (at : Environment) (vs : List Binding) (fi
       leaf c at.language (Read (read_of.Program (Global g.0 g.1.name) s)) g.1.ty (finite_form globs g.1.ty finite) (h.side, variable_finite g.1.ty k.1, k.0) (h.frame, k.0) tt (λ e. (tt, e))
 
   -- a read of a global
-  global_typed : (s : Side) → HasMemory (reads_globals at.language) c s → (x : Name) (g : ModuleVariable) → global_at at x ≡ Some g → IsVariable (global_variable s g)
-  global_typed s h x g e = let k = global_stands h.whole x g e in (g.1.ty, variable_finite g.1.ty k.1, standing_typed s h g k)
+  global_typed : (s : Side) → HasMemory (reads_globals at.language) c s → (x : Name) (g : ModuleVariable) → global_at at vs x ≡ Some g → IsVariable (global_variable s g)
+  global_typed s h x g e = let k = global_stands h.whole vs x g e in (g.1.ty, variable_finite g.1.ty k.1, standing_typed s h g k)
 
-  unsided_typed : (x : Name) (p : Place) (g : ModuleVariable) (u : Term) → global_at at x ≡ Some g → unsided at p g ≡ given u → IsSome globs c at.language u
+  unsided_typed : (x : Name) (p : Place) (g : ModuleVariable) (u : Term) → global_at at vs x ≡ Some g → unsided at p g ≡ given u → IsSome globs c at.language u
   unsided_typed x p g u e h =
       let a = given_bind (may_name at g.0 p) (λ _. if has_own at.variables then given (global_variable side.Own g) else refused Argument p) u h in
       let k = if_allowed (has_own at.variables) (given (global_variable side.Own g)) Argument p u a.2 in
@@ -219,30 +226,30 @@ module _ {globs : Bool} (c : Context) (at : Environment) (vs : List Binding) (fi
       chosen (λ b. bound_thing (binders_inside vs x) p b.kind) (innermost vs x) _ u
       (λ v e k. thing_typed (binders_inside vs x) p v.kind u (found_bound globs vs x v e c.bound fit.bound) k)
       (chosen (λ v. given (program_variable side.Own v)) (first_named (own at) x) _ u (λ v e k. subst (IsSome globs c at.language) (given_is _ u k) (own_variable_typed x v (found (own at) x v e)))
-      (λ e. around (if_refused (needs_side at x) (no_variable at x) p (named_around at x p) u e).1))
+      (λ e. around (if_refused (needs_side at x) (no_variable at vs x) p (named_around at vs x p) u e).1))
       h
     where
-      around : named_around at x p ≡ given u → IsSome globs c at.language u
+      around : named_around at vs x p ≡ given u → IsSome globs c at.language u
       around e =
           let logicals = at.sequent.logical in
           chosen (logical_variable (number_before logicals x)) (first_named logicals x) _ u (λ v e k. logical_typed x v u (found logicals x v e) k)
-          (chosen (unsided at p) (global_at at x) (unbound at x p) u (λ g e k. unsided_typed x p g u e k) (unbound_typed x p u))
+          (chosen (unsided at p) (global_at at vs x) (unbound at vs x p) u (λ g e k. unsided_typed x p g u e k) (unbound_typed x p u))
           e
 
   variable_typed : (x : Name) (s : Side) (p : Place) (ls : List TypedName) (u : Term) → OnSide globs (reads_globals at.language) c s ls → variable_on at vs x s p ls ≡ given u → IsVariable u
   variable_typed x s p ls u o h =
       local (first_named ls x) refl (if_refused (is_some (innermost vs x)) Argument p _ u h).1
     where
-      global : (y : Option ModuleVariable) → global_at at x ≡ y → option_map_or (read_global at s p) y (refused (no_variable at x) p) ≡ given u → IsVariable u
+      global : (y : Option ModuleVariable) → global_at at vs x ≡ y → option_map_or (read_global at s p) y (refused (no_variable at vs x) p) ≡ given u → IsVariable u
       global (Some g) e k =
           let a = given_bind (may_name at g.0 p) (λ _. given (global_variable s g)) u k in
           subst IsVariable (given_is _ u a.2) (global_typed s o.memory x g e)
       global None e k = cc
 
       local : (y : Option TypedName) → first_named ls x ≡ y →
-          option_map_or (λ v. given (program_variable s v)) y (option_map_or (read_global at s p) (global_at at x) (refused (no_variable at x) p)) ≡ given u → IsVariable u
+          option_map_or (λ v. given (program_variable s v)) y (option_map_or (read_global at s p) (global_at at vs x) (refused (no_variable at vs x) p)) ≡ given u → IsVariable u
       local (Some v) e k = subst IsVariable (given_is _ u k) (local_typed s ls o.memory.side o.read x v (found ls x v e))
-      local None e k = global (global_at at x) refl k
+      local None e k = global (global_at at vs x) refl k
 
   -- a name with a side
   pub sided_typed : (x : Name) (s : Side) (p : Place) (u : Term) → sided at vs x s p ≡ given u → IsVariable u

@@ -1,5 +1,5 @@
 -- The typing of proof steps.
-use Rattle.std.specs.Prelude.{ℕ, ◌-◌, Bool, true, false, if◌then◌else◌, List, [], ◌∷◌, length, slice_get, Option, Some, None, bytes_eq, codes}
+use Rattle.std.specs.Prelude.{ℕ, ◌-◌, Bool, true, false, if◌then◌else◌, List, [], ◌∷◌, length, take, drop, slice_get, Option, Some, None, bytes_eq, codes}
 use Rattle.std.specs.Option.{option_map_or, option_zip}
 use Rattle.gb_core.specs.declared.place.Place.{Place}
 use Rattle.gb_core.specs.declared.refusal.Why.TheVariants.{TypeMismatch}
@@ -381,15 +381,20 @@ between_of ds s words pre post later_pre later_post p r q = do
   k ← related ds s later_pre later_post m.0 q
   given (rule.Relational (relational_rule.Transitivity (record { procedure = m.0; left_pre = l.0; left_post = l.1; right_pre = k.0; right_post = k.1 })))
 
--- The same at an equivalence of procedures; other goals give the forms no types. A name of more words than two is that of a module of a
--- theory, and isn't built yet.
-abbrev pub between_by : Declarations → Sequent → Node → Node → Node → Node → List Node → Goal → Place → Answer Rule
-between_by ds s x y pre post (f ∷ h ∷ []) (equiv (procedure r) (procedure q) a b) p = between_of ds s (x ∷ y ∷ []) pre post f h (place_of x) r q
-between_by ds s x y pre post (f ∷ h ∷ []) G p = given (rule.OnBodies on_bodies.Unfit)
-between_by ds s x y pre post fs G p = not_built p
+-- the same at an equivalence of procedures; other goals give the forms no types
+abbrev pub between_by : Declarations → Sequent → List Node → Node → Node → List Node → Goal → Place → Answer Rule
+between_by ds s (x ∷ xs) pre post (f ∷ h ∷ []) (equiv (procedure r) (procedure q) a b) p = between_of ds s (x ∷ xs) pre post f h (place_of x) r q
+between_by ds s (x ∷ xs) pre post (f ∷ h ∷ []) G p = given (rule.OnBodies on_bodies.Unfit)
+between_by ds s xs pre post fs G p = not_built p
 
+-- the same by the words of the name and by the two contracts, of which the second stands in a part of its own
+abbrev pub between_with : Declarations → Sequent → List Node → List Node → Place → Answer Rule
+between_with ds s xs (pre ∷ post ∷ n ∷ []) p = between_by ds s xs pre post (parts_of n) (goal_of s.conclusion) p
+between_with ds s xs ns p = not_built p
+
+-- The last three parts of `transitivity` are its contracts, and all those before them the words of a name.
 abbrev pub between_at : Declarations → Sequent → Kind → List Node → Place → Answer Rule
-between_at ds s text.PlainTransitivity (x ∷ y ∷ pre ∷ post ∷ n ∷ []) p = between_by ds s x y pre post (parts_of n) (goal_of s.conclusion) p
+between_at ds s text.PlainTransitivity ns p = between_with ds s (take (length ns - 3) ns) (drop (length ns - 3) ns) p
 between_at ds s k ns p = not_built p
 
 -- `transitivity` acts on both programs

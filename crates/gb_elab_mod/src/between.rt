@@ -1,10 +1,8 @@
 // The typing of `transitivity`.
 
-ghost use Rattle.std.specs.Prelude.{◌≡◌, [], ◌∷◌};
 ghost use Rattle.gb_goal.specs.Answers.{Answers};
 ghost use Rattle.gb_goal.specs.Goal.{goal_of};
-ghost use Rattle.gb_script.specs.declared.tree.Node.{Node as Tree};
-ghost use Rattle.gb_elab_mod.specs.Steps.{between_at, between_by, between_of, related, transitive_rule};
+ghost use Rattle.gb_elab_mod.specs.Steps.{between_at, between_by, between_of, between_with, related, transitive_rule};
 
 use crate::contract::{after_both, before_both};
 use gb_core::place::Place;
@@ -86,13 +84,13 @@ fn between_by(
     second: &[Node],
     place: Place,
 ) -> Result<Rule, Refused>
-    ensures { (x y : Tree) → words.now ≡ x ∷ y ∷ [] → Answers (between_by scope.now goal.now x y first.entry.pre.now first.entry.post.now second.now (goal_of goal.now.conclusion) place) result }
+    ensures { Answers (between_by scope.now goal.now words.now first.entry.pre.now first.entry.post.now second.now (goal_of goal.now.conclusion) place) result }
 {
-    let [pre, post] = second else {
+    let ([word, ..], [pre, post]) = (words, second) else {
         return Err(not_built(place));
     };
-    match (goal_of(&goal.conclusion), words) {
-        (Goal::Equiv(Code::Procedure(left), Code::Procedure(right), _, _), [word, ..]) => {
+    match goal_of(&goal.conclusion) {
+        Goal::Equiv(Code::Procedure(left), Code::Procedure(right), _, _) => {
             let second = Said { pre, post };
             let at = word.place;
             between_of(alloc, scope, goal, words, first, second, at, left, right)
@@ -101,7 +99,28 @@ fn between_by(
     }
 }
 
-/// The same as it is written.
+/// The same by the words of the name and by the two contracts, of which the second stands in a part of its own.
+fn between_with(
+    alloc: Global,
+    scope: &Scope,
+    goal: &Sequent,
+    words: &[Node],
+    contracts: &[Node],
+    place: Place,
+) -> Result<Rule, Refused>
+    ensures { Answers (between_with scope.now goal.now words.now contracts.now place) result }
+{
+    match contracts {
+        [pre, post, contract] => {
+            let first = Said { pre, post };
+            let second = contract.parts.as_slice();
+            between_by(alloc, scope, goal, words, first, second, place)
+        }
+        _ => Err(not_built(place)),
+    }
+}
+
+/// The same as it is written: the last three parts are the contracts, and all those before them the words of a name.
 fn between_at(
     alloc: Global,
     scope: &Scope,
@@ -112,12 +131,10 @@ fn between_at(
 ) -> Result<Rule, Refused>
     ensures { Answers (between_at scope.now goal.now head parts.now place) result }
 {
-    match (head, parts) {
-        (Head::PlainTransitivity, [_, _, pre, post, contract]) => {
-            let (words, _) = parts.split_at(2);
-            let first = Said { pre, post };
-            let second = contract.parts.as_slice();
-            between_by(alloc, scope, goal, words, first, second, place)
+    match head {
+        Head::PlainTransitivity => {
+            let (words, contracts) = parts.split_at(parts.len().saturating_sub(3));
+            between_with(alloc, scope, goal, words, contracts, place)
         }
         _ => Err(not_built(place)),
     }

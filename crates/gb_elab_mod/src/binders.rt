@@ -4,10 +4,10 @@ ghost use Rattle.std.specs.Prelude.{◌≡◌, ◌++◌, map, IfOk};
 ghost use Rattle.gb_goal.specs.declared.scope.Binder.TheVariants.{Value};
 ghost use Rattle.gb_elab_mod.specs.Lemmas.{binders_by, binders_in, binds, each_binds};
 
+use gb_core::SharedItems;
 use gb_goal::scope::{Binder, Binders};
 use gb_script::head::Head;
 use gb_script::tree::Node;
-use gb_shared::SharedItems;
 use sqlite_items::Items;
 use std::alloc::{AllocError, Global};
 

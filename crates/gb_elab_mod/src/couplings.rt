@@ -9,6 +9,7 @@ ghost use Rattle.gb_names.specs.Environment.{environment};
 ghost use Rattle.gb_elab_mod.specs.Steps.{bodies, coupling_rule, couplings, drawing_rule, functions, functions_of, is_apply, judges_chance, last_sampled, one_type, there_and_back};
 
 use crate::occurring::occurring;
+use gb_core::Shared;
 use gb_core::refusal::Refused;
 use gb_core::ty::Ty;
 use gb_elab::form::function;
@@ -20,7 +21,6 @@ use gb_operators::literals::place_inside;
 use gb_same::types::same_types;
 use gb_script::head;
 use gb_script::tree::Node;
-use gb_shared::Shared;
 use gb_steps::step::{Acts, BodyRule, ChanceRule, RelationalRule, Rule};
 use gb_terms::op::Side;
 use gb_terms::term::{Cmd, Form, Head, Instr, Subject, Term, Terms};

@@ -4,6 +4,7 @@ ghost use Rattle.std.specs.Prelude.{◌≡◌, [], ◌∷◌, flat_map, if◌the
 ghost use Rattle.gb_goal.specs.Scope.{procedure_of};
 ghost use Rattle.gb_elab_mod.specs.Occurring.{added, each_local, local, occurring, read_locals, returned, sampled, statement_locals, taking, with_all};
 
+use gb_core::Shared;
 use gb_core::copy::copy_ty;
 use gb_core::name::Name;
 use gb_core::ty::Ty;
@@ -11,7 +12,6 @@ use gb_core::var::Var;
 use gb_elab_prog::procedure::is_local;
 use gb_goal::scope::Scope;
 use gb_names::binders::variable;
-use gb_shared::Shared;
 use gb_terms::decl::Typed;
 use gb_terms::module::ProcRef;
 use gb_terms::op::{Read, Side};

@@ -14,6 +14,7 @@ ghost use Rattle.gb_elab_mod.specs.Uses.{about_all, about_memory, about_named, a
 use crate::conclusions::{check_new, is_taken};
 use crate::multiples::no_such;
 use crate::other_locals::reads_other_locals;
+use gb_core::Shared;
 use gb_core::name::Name;
 use gb_core::place::Place;
 use gb_core::refusal::Refused;
@@ -28,7 +29,6 @@ use gb_names::refusals::{argument, not_built};
 use gb_names::setting::Setting;
 use gb_script::head::Head as NodeHead;
 use gb_script::tree::Node;
-use gb_shared::Shared;
 use gb_steps::step::{Rule, UseRule};
 use gb_terms::decl::TypedName;
 use gb_terms::make::{forall, leaf, over, truth_ty};

@@ -7,6 +7,7 @@ ghost use Rattle.gb_goal.specs.Answers.Answer.{given};
 ghost use Rattle.gb_elab_prog.specs.Contexts.{all_bound, bound_by, context_of, memory_bound, nothing_around, nothing_bound, taken, untaken, values_bound};
 
 use crate::bound::refuse_module;
+use gb_core::SharedItems;
 use gb_core::name::{Name, Names};
 use gb_core::place::Place;
 use gb_core::refusal::Refused;
@@ -17,7 +18,6 @@ use gb_names::refusals::{double, not_built};
 use gb_names::types::type_of;
 use gb_script::head::Head;
 use gb_script::tree::Node;
-use gb_shared::SharedItems;
 use gb_terms::decl::Typed;
 use gb_terms::make;
 use sqlite_items::Items;

@@ -7,6 +7,7 @@ ghost use Rattle.gb_goal.specs.Answers.Answer.{given};
 ghost use Rattle.gb_names.specs.Environment.{environment};
 ghost use Rattle.gb_elab_prog.specs.Procedures.{declared, formal, formals, is_member, lacks_value, locals, procedure_by, result_of, result_type, undeclared, untaken, value, variables, with_result};
 
+use gb_core::Shared;
 use gb_core::name::Name;
 use gb_core::place::Place;
 use gb_core::refusal::Refused;
@@ -23,7 +24,6 @@ use gb_names::types::type_of;
 use gb_same::types::same_types;
 use gb_script::head::Head;
 use gb_script::tree::Node;
-use gb_shared::Shared;
 use gb_terms::decl::{Module, Proc, Typed, TypedName};
 use gb_terms::share::copy_typed;
 use gb_terms::term::Term;

@@ -6,6 +6,7 @@ ghost use Rattle.gb_goal.specs.Answers.{Answers, Fails};
 ghost use Rattle.gb_goal.specs.Answers.Answer.{given};
 ghost use Rattle.gb_elab_prog.specs.Types.{constants, enumeration, enumeration_type, new, only, type_entries, without};
 
+use gb_core::Shared;
 use gb_core::name::Name;
 use gb_core::place::Place;
 use gb_core::refusal::Refused;
@@ -15,7 +16,6 @@ use gb_names::refusals::{argument, double, not_built};
 use gb_names::types::type_of;
 use gb_script::head::Head;
 use gb_script::tree::Node;
-use gb_shared::Shared;
 use sqlite_items::{Boxed, Items};
 use std::alloc::{AllocError, Global};
 

@@ -9,6 +9,7 @@ ghost use Rattle.gb_elab_stmt.specs.Calls.{arguments, call, call_of, called, eno
 ghost use Rattle.gb_elab_stmt.specs.Targets.{pairs};
 
 use crate::targets::{type_of_all, variables_of};
+use gb_core::SharedItems;
 use gb_core::name::Name;
 use gb_core::place::Place;
 use gb_core::refusal::Refused;
@@ -23,7 +24,6 @@ use gb_names::refusals::{argument, mismatch, not_built};
 use gb_names::setting::Setting;
 use gb_same::types::same_types;
 use gb_script::tree::Node;
-use gb_shared::SharedItems;
 use gb_terms::decl::{Module, TypedName};
 use gb_terms::term::{Instr, Terms};
 use sqlite_items::Items;

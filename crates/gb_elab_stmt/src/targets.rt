@@ -13,13 +13,13 @@ use gb_core::refusal::Refused;
 use gb_core::same::same_var;
 use gb_core::ty::Ty;
 use gb_core::var::Var;
+use gb_core::{Shared, SharedItems};
 use gb_names::globals::Target;
 use gb_names::names::{path, target};
 use gb_names::refusals::{argument, double};
 use gb_names::setting::Setting;
 use gb_script::head::Head;
 use gb_script::tree::Node;
-use gb_shared::{Shared, SharedItems};
 use sqlite_items::Items;
 use std::alloc::{AllocError, Global};
 

@@ -4,13 +4,13 @@ ghost use Rattle.std.specs.Prelude.{◌≡◌, ◌++◌, IfOk};
 ghost use Rattle.std.specs.Option.{option_copied};
 ghost use Rattle.gb_ended.specs.Named.{all_named, is_one, modules_of, name_of, named_by, named_in, owner, owners, with_named};
 
+use gb_core::Shared;
 use gb_core::name::{Name, Names};
 use gb_core::same::same_name;
 use gb_core::var::Var;
 use gb_goal::scope::{Entry, Scope};
 use gb_mods::called::calls;
 use gb_mods::touched::touched_itself;
-use gb_shared::Shared;
 use gb_terms::decl::Proc;
 use gb_terms::module::{Mexp, ProcRef};
 use sqlite_items::Items;

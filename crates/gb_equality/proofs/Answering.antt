@@ -11,7 +11,8 @@ use Rattle.gb_equality.specs.declared.table.Table.{Table}
 use Rattle.gb_equality.specs.declared.equality.Labelled.{Labelled}
 use Rattle.gb_equality.specs.Parts.{arguments_of, operator_of, parts_of, terms_in, terms_of}
 use Rattle.gb_equality.specs.Labels.{Labels, IsLabelling, Refutes, EqualityValid}
-use Rattle.gb_equality.specs.Table.{terms, StandAt, IsTable, IsTableOf, label_at, label_in, relabelled, Reads, HasNone}
+use Rattle.gb_closing.specs.Labels.{label_at}
+use Rattle.gb_equality.specs.Table.{terms, StandAt, IsTable, IsTableOf, label_in, relabelled, Reads, HasNone}
 use Rattle.gb_equality.specs.Search.{IsEquated, IsFound}
 use Rattle.gb_equality.specs.Answer.{AreFresh, ReadsSo, AreAssumed, IsRefutation, with_labels}
 use Rattle.gb_equality.proofs.Places.{some_same, at_place, place_within, place_contains, place_mapped, place_of_image}

@@ -5,7 +5,8 @@ use Rattle.std.proofs.lemmas.Bool.{cases_order}
 use Rattle.std.proofs.lemmas.Bool.Decides.{Decides-eqb}
 use Rattle.std.proofs.lemmas.List.{take_all}
 use Rattle.std.proofs.lemmas.List.Elements.{All-more, All-weaker}
-use Rattle.gb_equality.specs.Table.{label_at, relabelled}
+use Rattle.gb_closing.specs.Labels.{label_at}
+use Rattle.gb_equality.specs.Table.{relabelled}
 use Rattle.gb_equality.specs.Search.{IsEquated}
 use Rattle.gb_equality.specs.Answer.{ReadsSo, AreAssumed, IsAssumed}
 use Rattle.gb_equality.proofs.Places.{default_read}

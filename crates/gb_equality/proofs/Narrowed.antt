@@ -9,7 +9,8 @@ use Rattle.gb_equality.specs.declared.table.Node.{Node}
 use Rattle.gb_equality.specs.declared.closing.Progress.{Progress}
 use Rattle.gb_equality.specs.declared.closing.Progress.TheVariants.{Clash, Changed, Settled}
 use Rattle.gb_equality.specs.Labels.{Labels}
-use Rattle.gb_equality.specs.Table.{terms, label_at, put, relabelled, Reads, HasNone, IsLabel, AreJoined, IsSettled, AreNarrowed}
+use Rattle.gb_closing.specs.Labels.{label_at}
+use Rattle.gb_equality.specs.Table.{terms, put, relabelled, Reads, HasNone, IsLabel, AreJoined, IsSettled, AreNarrowed}
 use Rattle.gb_equality.specs.Search.{IsEquated, AreSettled, IsSwept, IsSweptTo}
 
 -- one label in place of another

@@ -17,7 +17,8 @@ use Rattle.gb_equality.specs.Parts.{arguments_of, operator_of}
 use Rattle.gb_equality.specs.Connectives.{is_form, connective_of, is_over_forms, by_table, label_by, AreDifferent}
 use Rattle.gb_equality.specs.Rules.{IsOneOf, IsImplied, IsComplete, IsRead}
 use Rattle.gb_equality.specs.Labels.{Labels, IsLabelling}
-use Rattle.gb_equality.specs.Table.{terms, StandAt, IsTable, label_at, labels_at, Reads, HasNone, IsLabel, AreJoined, IsJoining, IsDecided, IsSettledAlone, IsSettledPair, ArePaired}
+use Rattle.gb_closing.specs.Labels.{label_at, labels_at}
+use Rattle.gb_equality.specs.Table.{terms, StandAt, IsTable, Reads, HasNone, IsLabel, AreJoined, IsJoining, IsDecided, IsSettledAlone, IsSettledPair, ArePaired}
 use Rattle.gb_equality.proofs.Places.{some_same, at_place, place_within, place_contains, place_mapped, place_of_image, default_read, element_or_none}
 use Rattle.gb_equality.proofs.Forms.{arguments_are_forms, known_is_form}
 

@@ -8,7 +8,8 @@ use Rattle.gb_terms.specs.declared.term.Term.{Term}
 use Rattle.gb_equality.specs.declared.table.Node.{Node}
 use Rattle.gb_equality.specs.Connectives.{is_form}
 use Rattle.gb_equality.specs.Labels.{Labels}
-use Rattle.gb_equality.specs.Table.{terms, IsTable, label_at, relabelled, Reads, HasNone, IsDecided, AreNarrowed}
+use Rattle.gb_closing.specs.Labels.{label_at}
+use Rattle.gb_equality.specs.Table.{terms, IsTable, relabelled, Reads, HasNone, IsDecided, AreNarrowed}
 use Rattle.gb_equality.specs.Search.{AreSettled, IsClosed, IsOpen, IsFound, IsSearched}
 use Rattle.gb_equality.proofs.Places.{place_contains, place_mapped, place_within}
 use Rattle.gb_equality.proofs.Reading.{read_row, same_length}

@@ -10,7 +10,8 @@ use Rattle.gb_equality.specs.declared.table.Node.{Node}
 use Rattle.gb_equality.specs.Parts.{arguments_of, operator_of, is_same}
 use Rattle.gb_equality.specs.Connectives.{is_form, connective_of, label_by, shown, AreDifferent}
 use Rattle.gb_equality.specs.Labels.{Labels, IsLabelling}
-use Rattle.gb_equality.specs.Table.{terms, StandAt, IsTable, label_at, labels_at, label_in, IsDecided, ArePaired}
+use Rattle.gb_closing.specs.Labels.{label_at, labels_at}
+use Rattle.gb_equality.specs.Table.{terms, StandAt, IsTable, label_in, IsDecided, ArePaired}
 use Rattle.gb_equality.specs.Search.{AreSettled}
 use Rattle.gb_equality.proofs.Places.{some_same, contains_place, place_within, place_of_image}
 use Rattle.gb_equality.proofs.Once.{same_of, of_same}

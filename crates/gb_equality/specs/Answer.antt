@@ -7,7 +7,8 @@ use Rattle.gb_equality.specs.declared.table.Table.{Table}
 use Rattle.gb_equality.specs.declared.equality.Labelled.{Labelled}
 use Rattle.gb_equality.specs.Parts.{terms_of}
 use Rattle.gb_equality.specs.Labels.{Labels, Refutes, EqualityValid}
-use Rattle.gb_equality.specs.Table.{label_at, IsTableOf}
+use Rattle.gb_closing.specs.Labels.{label_at}
+use Rattle.gb_equality.specs.Table.{IsTableOf}
 
 -- a label of its own for each row, none of them that of a truth
 pub record AreFresh (count : ℕ) (ls : List ℕ) : Type 0 where

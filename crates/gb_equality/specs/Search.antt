@@ -5,7 +5,8 @@ use Rattle.gb_equality.specs.declared.closing.Progress.{Progress}
 use Rattle.gb_equality.specs.declared.closing.Progress.TheVariants.{Clash, Changed, Settled}
 use Rattle.gb_equality.specs.Connectives.{is_form}
 use Rattle.gb_equality.specs.Labels.{IsLabelling}
-use Rattle.gb_equality.specs.Table.{terms, label_at, label_in, relabelled, HasNone, IsSettled, AreNarrowed}
+use Rattle.gb_closing.specs.Labels.{label_at}
+use Rattle.gb_equality.specs.Table.{terms, label_in, relabelled, HasNone, IsSettled, AreNarrowed}
 
 -- Two labels are made one, the lesser one of them; or they are those of the two truths.
 abbrev pub IsEquated : ℕ → ℕ → List ℕ → List ℕ → Bool → Type 0

@@ -1,7 +1,8 @@
 -- The table of the terms of a leaf, and labels of its rows.
-use Rattle.std.specs.Prelude.{◌≡◌, ◌≢◌, ◌⊎◌, ℕ, true, ◌<◌, ◌≤◌, ◌==◌, if◌then◌else◌, List, [], ◌∷◌, Option, Some, None, map, length, get_or, slice_get, sum}
+use Rattle.std.specs.Prelude.{◌≡◌, ◌≢◌, ◌⊎◌, ℕ, true, ◌<◌, ◌≤◌, ◌==◌, if◌then◌else◌, List, [], ◌∷◌, Option, Some, None, map, length, slice_get, sum}
 use Rattle.std.specs.List.{AllPairs, Contains}
 use Rattle.gb_terms.specs.declared.term.Term.{Term}
+use Rattle.gb_closing.specs.Labels.{label_at, labels_at}
 use Rattle.gb_equality.specs.declared.rules.Equation.{Equation}
 use Rattle.gb_equality.specs.declared.table.Node.{Node}
 use Rattle.gb_equality.specs.declared.table.Table.{Table}
@@ -33,15 +34,6 @@ pub record IsTableOf (hyps : List Term) (t : Term) (made : Table) : Type 0 where
   pub listed : terms made.nodes ≡ terms_of hyps t
   pub hyps_there : StandAt (terms made.nodes) made.hyps hyps
   pub conclusion_there : slice_get (terms made.nodes) made.conclusion ≡ Some t
-
--- Labels of the rows, in their order. The labels 0 and 1 are those of false and true forms.
-
-abbrev pub label_at : List ℕ → ℕ → ℕ
-label_at ls k = get_or ls k 0
-
--- the labels of the arguments of a row
-abbrev pub labels_at : List ℕ → List ℕ → List ℕ
-labels_at ls places = map (label_at ls) places
 
 -- The labelling is a reading of labels: it gives terms of equal labels equal ones, and those with the label of a truth this truth.
 pub record Reads (nodes : List Node) (ls : List ℕ) (L : Labels) (read : ℕ → ℕ) : Type 0 where

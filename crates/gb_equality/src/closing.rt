@@ -1,25 +1,16 @@
 // Labels, closed under what they imply.
 
-ghost use Rattle.std.specs.Prelude.{◌≡◌, ◌≢◌, ◌+◌, ◌<◌, ◌↔◌, ℕ, List, length, get_or, IsTrue, MatchOption};
+ghost use Rattle.std.specs.Prelude.{◌≡◌, ◌≢◌, ◌+◌, ◌<◌, ℕ, List, length, get_or, MatchOption};
 ghost use Rattle.gb_equality.specs.declared.closing.Progress.TheVariants.{Clash};
-ghost use Rattle.gb_equality.specs.Table.{IsJoining, IsSettled, IsSettledAlone, IsSettledPair, IsTable, label_at, labels_at, put, relabelled};
+ghost use Rattle.gb_closing.specs.Labels.{labels_at};
+ghost use Rattle.gb_equality.specs.Table.{IsJoining, IsSettled, IsSettledAlone, IsSettledPair, IsTable, put, relabelled};
 ghost use Rattle.gb_equality.specs.Search.{IsClosed, IsEquated, IsSwept, IsSweptTo};
 
 use crate::connectives::{are_different, connective_of};
 use crate::parts::same_operator;
-use crate::rules::{Equation, FALSE, TRUE, implied};
+use crate::rules::{Equation, implied};
 use crate::table::Node;
-
-/// The label at a place, or that of false forms where there is none.
-#[tactic(auto, using(crate::proofs::Places::at_found, crate::proofs::Places::at_missing))]
-pub fn label_at(labels: &[usize], place: usize) -> usize
-    ensures { result ≡ label_at labels.now place }
-{
-    match labels.get(place) {
-        Some(label) => *label,
-        None => FALSE,
-    }
-}
+use gb_closing::labels::{FALSE, TRUE, have_same_labels, label_at};
 
 /// The label of an argument.
 #[tactic(auto, using(crate::proofs::Places::mapped_found, crate::proofs::Places::mapped_missing))]
@@ -47,21 +38,6 @@ fn implied_by_row(nodes: &[Node], labels: &[usize], at: usize) -> Option<Equatio
         label_of(labels, args, 0),
         label_of(labels, args, 1),
     )
-}
-
-/// Whether places have equal labels, one by one.
-fn have_same_labels(labels: &[usize], a: &[usize], b: &[usize]) -> bool
-    ensures { IsTrue result ↔ labels_at labels.now a.now ≡ labels_at labels.now b.now }
-{
-    if a.len() != b.len() {
-        return false;
-    }
-    for at in 0..a.len() {
-        if label_at(labels, a[at]) != label_at(labels, b[at]) {
-            return false;
-        }
-    }
-    true
 }
 
 /// Two labels that have to be one by a pair of rows: those of terms of one operator whose arguments have equal labels; and those

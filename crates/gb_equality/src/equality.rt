@@ -4,10 +4,10 @@ ghost use Rattle.std.specs.Prelude.{◌≡◌, length, IfOk};
 ghost use Rattle.gb_equality.specs.Answer.{AreFresh, IsAnswer, IsAssumed, IsRefuting, with_labels};
 ghost use Rattle.gb_equality.specs.Table.{IsTable};
 
-use crate::closing::{equate, label_at};
-use crate::rules::{FALSE, TRUE};
+use crate::closing::equate;
 use crate::search::search;
 use crate::table::{Node, Table, table_of};
+use gb_closing::labels::{FALSE, TRUE, label_at};
 use gb_terms::term::Term;
 use sqlite_items::Items;
 use std::alloc::{AllocError, Global};

@@ -5,11 +5,7 @@ ghost use Rattle.gb_equality.specs.Connectives.{is_over_forms, truth};
 ghost use Rattle.gb_equality.specs.Rules.{Fits, IsComplete, IsEquated, IsEven, IsForced, IsImplied, IsPossible};
 
 use crate::connectives::Connective;
-
-/// The label of false forms.
-pub const FALSE: usize = 0;
-/// The label of true forms. Greater labels are those of terms whose truth isn't known, or that have none.
-pub const TRUE: usize = 1;
+use gb_closing::labels::{FALSE, TRUE};
 
 /// Two labels that have to be one.
 #[derive(Clone, Copy)]

@@ -4,10 +4,10 @@ ghost use Rattle.std.specs.Prelude.{◌≡◌, length, IfOk, MatchOption};
 ghost use Rattle.gb_equality.specs.Table.{IsDecided, IsTable};
 ghost use Rattle.gb_equality.specs.Search.{IsOpen, IsSearched};
 
-use crate::closing::{close, label_at, relabel};
+use crate::closing::{close, relabel};
 use crate::connectives::is_form;
-use crate::rules::{FALSE, TRUE};
 use crate::table::Node;
+use gb_closing::labels::{FALSE, TRUE, label_at};
 use std::alloc::{AllocError, Global};
 
 /// The label of the first form that isn't known to be true or false.

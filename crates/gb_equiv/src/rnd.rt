@@ -12,6 +12,7 @@ ghost use Rattle.gb_typing.specs.Samplings.{sampling_of, last_sampling};
 ghost use Rattle.gb_equiv.specs.Rnd.{maps, with_values, post_before, without_samplings, clash_of, by_ends, rnd_row};
 
 use crate::drawn::{alone, clashing, drawn_rule, no_such_shape};
+use gb_core::Shared;
 use gb_core::place::Place;
 use gb_core::refusal::Refused;
 use gb_core::ty::Ty;
@@ -21,7 +22,6 @@ use gb_forms::drawn::target_change;
 use gb_goal::goal::{Code, Goal, equiv, goal_of};
 use gb_goal::sequent::{Sequent, Sequents};
 use gb_same::types::same_types;
-use gb_shared::Shared;
 use gb_terms::op::Side;
 use gb_terms::term::{Form, Instr, Term};
 use gb_typing::samplings::{Last, last_sampling, rest_of};

@@ -62,13 +62,18 @@ abbrev pub is_read_known : Read → Ty → Bool
 is_read_known (Program x (Bound i)) ty = is_finite ty
 is_read_known _ ty = true
 
+-- the value of an option is known where its type is finite
+abbrev pub is_result_known : Op → Ty → Bool
+is_result_known op.Oget ty = is_finite ty
+is_result_known _ ty = true
+
 -- whether evaluation knows a head of a type at arguments of these types, by whether it knows the operators of the script
 abbrev pub is_head_known : (Name → Bool) → Head → Ty → List Ty → Bool
 is_head_known ks (head.Lit v) ty us = length us == 0
 is_head_known ks (head.Whole k) ty us = length us == 0
 is_head_known ks (head.Bound i) ty us = length us == 0
 is_head_known ks (head.Read r) ty us = (length us == 0) && is_read_known r ty
-is_head_known ks (head.Builtin o) ty us = takes o (length us)
+is_head_known ks (head.Builtin o) ty us = takes o (length us) && is_result_known o ty
 is_head_known ks (head.User n) ty us = ks n
 is_head_known ks (head.All u) ty us = (length us == 1) && is_finite u
 is_head_known ks (head.Some u) ty us = (length us == 1) && is_finite u

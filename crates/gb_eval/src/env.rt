@@ -7,12 +7,12 @@ ghost use Rattle.gb_eval.specs.Eval.{bound_at, held_in, value_among, value_bound
 
 use crate::answer::{Answer, Stop};
 use crate::script::Script;
+use gb_core::Shared;
 use gb_core::ty::Ty;
 use gb_core::value::Value;
 use gb_core::var::Var;
 use gb_num::Frac;
 use gb_reads::held::{HeldValues, value_of as held_value};
-use gb_shared::Shared;
 use gb_terms::op::{Read, Side};
 use gb_terms::same::same_read;
 use sqlite_items::Items;

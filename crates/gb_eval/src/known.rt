@@ -3,7 +3,7 @@
 ghost use Rattle.std.specs.Prelude.{◌≡◌, map};
 ghost use Rattle.std.specs.List.{list_all};
 ghost use Rattle.gb_meaning.specs.Written.{type_of};
-ghost use Rattle.gb_eval.specs.Known.{are_of_outcomes, has_finite_outcomes, arity, is_tuple, takes, is_read_known, is_head_known, is_known, known_in};
+ghost use Rattle.gb_eval.specs.Known.{are_of_outcomes, has_finite_outcomes, arity, is_tuple, takes, is_read_known, is_result_known, is_head_known, is_known, known_in};
 
 use crate::script::{Script, body_of, inside};
 use gb_core::name::Name;
@@ -59,6 +59,13 @@ fn is_read_known(read: &Read, ty: &Ty) -> bool
     }
 }
 
+/// Whether what an operator gives at a type is known: the value of an option where the type is finite, and any other.
+fn is_result_known(op: Op, ty: &Ty) -> bool
+    ensures { result ≡ is_result_known op ty.now }
+{
+    op != Op::Oget || is_finite(ty)
+}
+
 fn has_finite_outcomes(ty: &Ty) -> bool
     ensures { result ≡ has_finite_outcomes ty.now }
 {
@@ -98,7 +105,7 @@ fn is_head_known(head: &Head, ty: &Ty, args: &[Term], script: &Script<'_>) -> bo
         Head::User(name) => is_operator_known(name, script),
         Head::Lit(_) | Head::Whole(_) | Head::Bound(_) | Head::Weights(_) => args.is_empty(),
         Head::Read(read) => args.is_empty() && is_read_known(read, ty),
-        Head::Builtin(op) => takes(*op, args.len()),
+        Head::Builtin(op) => takes(*op, args.len()) && is_result_known(*op, ty),
         Head::All(values) | Head::Some(values) => args.len() == 1 && is_finite(values.get()),
         Head::Sum(_) | Head::AllMemory | Head::SomeMemory => args.len() == 1,
         Head::Mu | Head::Map | Head::Restrict => are_of_outcomes(args),

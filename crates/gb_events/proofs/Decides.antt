@@ -23,7 +23,8 @@ use Rattle.gb_typing.proofs.RunsAnywhere.{run_anywhere}
 use Rattle.gb_prog.proofs.Own.{Good, good_append}
 use Rattle.gb_trans.specs.Places.{At, statement_at}
 use Rattle.gb_trans.proofs.Placed.{placed, whole}
-use Rattle.gb_guards.specs.Decided.{Decision, decision, deciding}
+use Rattle.gb_premises.specs.Decided.{deciding}
+use Rattle.gb_guards.specs.Decided.{Decision, decision}
 use Rattle.gb_guards.proofs.DecidedIsSound.{behind_alike, decided_is}
 use Rattle.gb_guards.proofs.Deciding.{Decides, RunAlikeFrom, decided_by}
 use Rattle.gb_guards.proofs.Shapes.{split_typed}

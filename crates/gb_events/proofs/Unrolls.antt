@@ -29,7 +29,8 @@ use Rattle.gb_prog.proofs.Own.{Good, good_append, good_if, good_while}
 use Rattle.gb_trans.specs.Places.{At, statement_at}
 use Rattle.gb_trans.proofs.Placed.{place_given, placed, whole}
 use Rattle.gb_guards.specs.Decided.{decision}
-use Rattle.gb_guards.specs.Unrolled.{turn, turn_before, unrolled}
+use Rattle.gb_premises.specs.Turns.{turn}
+use Rattle.gb_guards.specs.Unrolled.{turn_before, unrolled}
 use Rattle.gb_guards.proofs.DecidedIsSound.{behind_alike}
 use Rattle.gb_guards.proofs.Deciding.{RunAlikeFrom, decided_by}
 use Rattle.gb_guards.proofs.Shapes.{Layer, split_typed, typed_while, while_shape}

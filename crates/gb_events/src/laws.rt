@@ -28,7 +28,8 @@ ghost use Rattle.gb_typing.specs.Scopes.{IsTypedScope, context_of};
 ghost use Rattle.gb_typing.specs.Sequents.{IsTypedSequent, of_sequent};
 ghost use Rattle.gb_trans.specs.Places.{At, statement_at};
 ghost use Rattle.gb_trans.specs.Swap.{swapped};
-ghost use Rattle.gb_guards.specs.Decided.{Decision, decision, deciding};
+ghost use Rattle.gb_premises.specs.Decided.{deciding};
+ghost use Rattle.gb_guards.specs.Decided.{Decision, decision};
 ghost use Rattle.gb_guards.specs.Unrolled.{unrolled};
 
 /// After `swap` a typed body gives each event the same probability as before, from each memory.

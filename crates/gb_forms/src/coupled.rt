@@ -3,8 +3,8 @@
 ghost use Rattle.std.specs.Prelude.{◌≡◌, IfOk};
 ghost use Rattle.gb_forms.specs.Coupled.{composed, keeps_weights, couples, coupled_post};
 
+use gb_core::Shared;
 use gb_core::ty::Ty;
-use gb_shared::Shared;
 use gb_terms::make::{conjunction, equality};
 use gb_terms::term::{Form, Term};
 use gb_typing::supports::{for_support, in_support, nearest, weight};

@@ -3,9 +3,9 @@
 ghost use Rattle.std.specs.Prelude.{◌≡◌, ◌++◌, IfOk};
 ghost use Rattle.gb_forms.specs.Firsts.{first_of, firsts, none_got};
 
+use gb_core::Shared;
 use gb_core::ty::Ty;
 use gb_core::value::Value;
-use gb_shared::Shared;
 use gb_terms::decl::TypedName;
 use gb_terms::make::{leaf, unary};
 use gb_terms::op::Op;

@@ -2,8 +2,8 @@
 
 ghost use Rattle.std.specs.Prelude.{◌≡◌, IfOk};
 
+use gb_core::SharedItems;
 use gb_goal::sequent::{Hyp, Sequent};
-use gb_shared::SharedItems;
 use gb_terms::term::Form;
 use std::alloc::AllocError;
 

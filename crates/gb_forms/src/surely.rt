@@ -6,9 +6,9 @@ ghost use Rattle.gb_typing.specs.Samplings.{sampling_of};
 ghost use Rattle.gb_forms.specs.Surely.{drawing, surely_drawn};
 
 use gb_chance::compared::{compared, number};
+use gb_core::Shared;
 use gb_core::ty::Ty;
 use gb_parts::forms::located;
-use gb_shared::Shared;
 use gb_terms::make::{boolean, conjunction, term};
 use gb_terms::op::{Rel, Side};
 use gb_terms::term::{Form, Head, RealTerm};

@@ -6,12 +6,12 @@ ghost use Rattle.std.specs.Option.{option_copied};
 ghost use Rattle.gb_goal.specs.Goal.{code_of};
 ghost use Rattle.gb_full.specs.Loss.{all_procedures, body_loses, body_loss, code_loss, each_named, entry_loses, first_loss, full_operators, head_loses, head_names, is_among, known_of, known_seen, loses_by, loss_seen, named, names_at, operator_loses, procedure_loss, procedures_at, statement_loss, table, unknown, with_named, with_procedures};
 
+use gb_core::Shared;
 use gb_core::name::{Name, Names};
 use gb_core::var::Var;
 use gb_goal::scope::{Entry, Scope};
 use gb_mods::called::{Procedures, same_procedure};
 use gb_mods::footprint::references;
-use gb_shared::Shared;
 use gb_terms::decl::Proc;
 use gb_terms::module::ProcRef;
 use gb_terms::term::{Head, Instr, Subject, Term};

@@ -8,8 +8,8 @@ ghost use Rattle.gb_goal.specs.Goal.Code.{body};
 ghost use Rattle.gb_goal.specs.Goal.Goal.{hoare, phoare, equiv};
 ghost use Rattle.gb_goal.specs.Views.{code_seen, goal_seen};
 
+use gb_core::SharedItems;
 use gb_core::ty::Ty;
-use gb_shared::SharedItems;
 use gb_terms::make::{term, truth_ty};
 use gb_terms::module::ProcRef;
 use gb_terms::op::Rel;

@@ -8,7 +8,7 @@ use crate::sequent::Sequent;
 use gb_core::name::Name;
 use gb_core::same::same_name;
 use gb_core::ty::Ty;
-use gb_shared::{Shared, SharedItems};
+use gb_core::{Shared, SharedItems};
 use gb_terms::decl::{Module, Proc};
 use gb_terms::module::{Mexp, ProcRef};
 use gb_terms::term::Term;

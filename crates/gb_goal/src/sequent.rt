@@ -4,8 +4,8 @@ ghost use Rattle.std.specs.Prelude.{◌≡◌, [], IfOk};
 ghost use Rattle.gb_terms.specs.Nodes.{saturated};
 ghost use Rattle.gb_goal.specs.Nodes.{hyp_nodes, sequent_nodes};
 
+use gb_core::SharedItems;
 use gb_core::name::Name;
-use gb_shared::SharedItems;
 use gb_terms::decl::TypedName;
 use gb_terms::module::Bind;
 use gb_terms::nodes::nodes_of;

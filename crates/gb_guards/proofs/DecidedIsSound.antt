@@ -56,7 +56,8 @@ use Rattle.gb_prog.proofs.Own.{Good, good_append}
 use Rattle.gb_parts.specs.OneBody.{OneBody}
 use Rattle.gb_trans.specs.Places.{At, statement_at}
 use Rattle.gb_trans.proofs.Placed.{place_given, placed, whole}
-use Rattle.gb_guards.specs.Decided.{Decision, decided, decided_row, deciding, decision, decision_goals}
+use Rattle.gb_premises.specs.Decided.{deciding}
+use Rattle.gb_guards.specs.Decided.{Decision, decided, decided_row, decision, decision_goals}
 use Rattle.gb_guards.proofs.Deciding.{RunAlikeFrom, Decides, decided_by}
 use Rattle.gb_guards.proofs.Shapes.{split_typed}
 

@@ -14,7 +14,7 @@ use Rattle.gb_meaning.specs.Written.{type_of}
 use Rattle.gb_typing.specs.Context.{Context}
 use Rattle.gb_typing.specs.Programs.{EachStatement, IsExpression, IsStatement}
 use Rattle.gb_typing.proofs.Lists.{each_hidden, hidden_each}
-use Rattle.gb_guards.specs.Unrolled.{turn}
+use Rattle.gb_premises.specs.Turns.{turn}
 
 abbrev pub Layer : Type 0
 Layer = layer.Instr-F Head Instr Subject Cmd Term

@@ -20,7 +20,7 @@ use Rattle.gb_laws.proofs.Sequence.{followed_run, followed_denominator}
 use Rattle.gb_typing.specs.Meaning.{denominator}
 use Rattle.gb_prog.specs.Loops.{unrolled, RunAlike}
 use Rattle.gb_prog.proofs.Loops.{unrolls}
-use Rattle.gb_guards.specs.Unrolled.{turn}
+use Rattle.gb_premises.specs.Turns.{turn}
 
 module _ (g : Setting) (s : State) (e v : Term) (a : Program) (good : IsGood g s e v a) (positive : 0 < run_denominator g a) where
   abbrev L : Program

@@ -30,7 +30,8 @@ use Rattle.gb_parts.specs.OneBody.{OneBody}
 use Rattle.gb_trans.specs.Places.{At, statement_at}
 use Rattle.gb_trans.proofs.Alike.{Ending, IsAlike, loops_ending}
 use Rattle.gb_trans.proofs.Placed.{place_given, placed, whole}
-use Rattle.gb_guards.specs.Unrolled.{turn, turn_before, unroll_row, unrolled}
+use Rattle.gb_premises.specs.Turns.{turn}
+use Rattle.gb_guards.specs.Unrolled.{turn_before, unroll_row, unrolled}
 use Rattle.gb_guards.proofs.Shapes.{Layer, split_typed, typed_while, while_shape}
 use Rattle.gb_guards.proofs.Turns.{turn_alike}
 

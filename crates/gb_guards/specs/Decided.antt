@@ -16,7 +16,7 @@ use Rattle.gb_goal.specs.Goal.Goal.{hoare}
 use Rattle.gb_goal.specs.Rows.{Row, refusing}
 use Rattle.gb_steps.specs.declared.step.Acts.{Acts}
 use Rattle.gb_steps.specs.declared.step.Acts.TheVariants as on
-use Rattle.gb_typing.specs.Forms.{not_form}
+use Rattle.gb_premises.specs.Decided.{deciding}
 use Rattle.gb_parts.specs.OneBody.{OneBody, on_one, one_body}
 use Rattle.gb_guards.specs.declared.decided.Guarded as seen
 use Rattle.gb_guards.specs.declared.decided.Left as seen_left
@@ -33,10 +33,6 @@ abbrev pub decision : Bool → Instr → layer.Instr-F Head Instr Subject Cmd Te
 decision t i (layer.If e a b) = Some (record { guard = e; left = if t then a.list else b.list })
 decision t i (layer.While e v a) = Some (record { guard = e; left = if t then a.list ++ i ∷ [] else [] })
 decision t i _ = None
-
--- what is to hold where the statement stands
-abbrev pub deciding : Bool → Term → Term
-deciding t e = if t then e else not_form e
 
 -- The guard is as it is said after what stands before; and the goal, with what is left of the statement in its place.
 abbrev pub decision_goals : Bool → OneBody → At → Option Decision → Answer (List Goal)

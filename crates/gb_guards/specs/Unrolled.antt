@@ -1,10 +1,9 @@
 -- `unroll`: one turn of a loop stands in front of it.
-use Rattle.std.specs.Prelude.{ℕ, List, [], ◌∷◌, ◌++◌}
+use Rattle.std.specs.Prelude.{ℕ, List, ◌∷◌, ◌++◌}
 use Rattle.gb_core.specs.declared.refusal.Why.TheVariants.{Shape}
 use Rattle.gb_terms.specs.declared.term.Cmd.{Cmd}
 use Rattle.gb_terms.specs.declared.term.Head.{Head}
 use Rattle.gb_terms.specs.declared.term.Head.TheOpen as layer
-use Rattle.gb_terms.specs.declared.term.Head.TheVariants.{If}
 use Rattle.gb_terms.specs.declared.term.Instr.{Instr, out-Instr}
 use Rattle.gb_terms.specs.declared.term.Subject.{Subject}
 use Rattle.gb_terms.specs.declared.term.Term.{Term}
@@ -12,13 +11,10 @@ use Rattle.gb_goal.specs.Answers.{Answer}
 use Rattle.gb_goal.specs.Answers.Answer.{given}
 use Rattle.gb_goal.specs.Rows.{Row, refusing}
 use Rattle.gb_steps.specs.declared.step.Acts.{Acts}
+use Rattle.gb_premises.specs.Turns.{turn}
 use Rattle.gb_parts.specs.OneBody.{OneBody}
 use Rattle.gb_trans.specs.Places.{At, on_place, statement_at}
 use Rattle.gb_trans.specs.Transformed.{transforming}
-
--- a turn of a loop, where its guard is true
-abbrev pub turn : Term → Cmd → Instr
-turn e b = If e b (record { list = [] })
 
 -- the body in which a turn stands in front of the loop
 abbrev pub turn_before : layer.Instr-F Head Instr Subject Cmd Term → At → Answer (List Instr)

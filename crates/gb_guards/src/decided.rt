@@ -10,17 +10,18 @@ ghost use Rattle.gb_goal.specs.Rows.{answered, each_concluding};
 ghost use Rattle.gb_terms.specs.declared.term.Instr.{out-Instr};
 ghost use Rattle.gb_parts.specs.OneBody.{one_seen};
 ghost use Rattle.gb_trans.specs.Places.{placed_seen};
-ghost use Rattle.gb_guards.specs.Decided.{decided, decided_row, deciding, decision, decision_goals, decision_seen, left_seen};
+ghost use Rattle.gb_premises.specs.Decided.{deciding};
+ghost use Rattle.gb_guards.specs.Decided.{decided, decided_row, decision, decision_goals, decision_seen, left_seen};
 
+use gb_core::SharedItems;
 use gb_core::refusal::{Refused, Why};
 use gb_goal::goal;
 use gb_goal::goal::goal_of;
 use gb_goal::sequent::{Sequent, Sequents};
 use gb_parts::one_body::{OneBody, filled, one_body};
 use gb_parts::subgoals::{no_shape, refusal, shared_body, two_goals};
-use gb_shared::SharedItems;
+use gb_premises::decided::deciding;
 use gb_steps::step::Acts;
-use gb_terms::make::negation;
 use gb_terms::term::{Cmd, Form, Instr, Instrs, Term};
 use gb_trans::places::{Placed, statement_at};
 use gb_trans::swap::with_statements;
@@ -61,18 +62,6 @@ pub fn decision(holds: bool, statement: &Instr) -> Option<Guarded<'_>>
             Some(Guarded { guard, left })
         }
         _ => None,
-    }
-}
-
-/// What is to hold where the statement stands.
-fn deciding(alloc: Global, holds: bool, guard: &Term) -> Result<Form, AllocError>
-    ensures { IfOk result (λ made. made ≡ deciding holds guard.now) }
-{
-    let guard = guard.share()?;
-    if holds {
-        Ok(guard)
-    } else {
-        negation(alloc, guard)
     }
 }
 

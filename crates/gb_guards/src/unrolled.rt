@@ -7,30 +7,21 @@ ghost use Rattle.gb_terms.specs.declared.term.Instr.{out-Instr};
 ghost use Rattle.gb_parts.specs.OneBody.{one_seen};
 ghost use Rattle.gb_trans.specs.Places.{placed_seen};
 ghost use Rattle.gb_trans.specs.Transformed.{with_body};
-ghost use Rattle.gb_guards.specs.Unrolled.{turn, turn_before, unrolled, unroll_row};
+ghost use Rattle.gb_guards.specs.Unrolled.{turn_before, unrolled, unroll_row};
 
+use gb_core::SharedItems;
 use gb_core::refusal::{Refused, Why};
 use gb_goal::goal::goal_of;
 use gb_goal::sequent::{Sequent, Sequents};
 use gb_parts::one_body::{OneBody, filled, one_body};
 use gb_parts::subgoals::{no_shape, one_goal, refusal};
-use gb_shared::SharedItems;
+use gb_premises::turns::turn;
 use gb_steps::step::Acts;
-use gb_terms::term::{Cmd, Instr, Instrs, Term};
+use gb_terms::term::{Instr, Instrs};
 use gb_trans::places::{Placed, statement_at};
 use gb_trans::swap::with_statements;
 use sqlite_items::Items;
 use std::alloc::{AllocError, Global};
-
-/// A turn of a loop, where its guard is true.
-fn turn(alloc: Global, guard: &Term, body: &Cmd) -> Result<Instr, AllocError>
-    ensures { IfOk result (λ made. made ≡ turn guard.now body.now) }
-{
-    let nothing = SharedItems::new(alloc, Items::new(alloc))?;
-    let guard = guard.share()?;
-    let body = body.share()?;
-    Ok(Instr::If(guard, body, Cmd { list: nothing }))
-}
 
 /// The body in which a statement stands in front of the one at a place.
 fn in_front(alloc: Global, at: &Placed<'_>, first: Instr) -> Result<Instrs, AllocError>

@@ -9,10 +9,10 @@ ghost use Rattle.gb_walk.specs.Change.{term_changed};
 
 use crate::fresh::{Renaming, new_names};
 use crate::renamed::{reads_renamed, with_renamed};
+use gb_core::SharedItems;
 use gb_core::var::Var;
 use gb_forms::firsts::with_firsts;
 use gb_mods::order::with_variables;
-use gb_shared::SharedItems;
 use gb_terms::decl::{Proc, Typed};
 use gb_terms::share::{copy_typed, share_terms};
 use gb_terms::term::{Instr, Instrs, Term};

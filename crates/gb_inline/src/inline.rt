@@ -12,6 +12,7 @@ ghost use Rattle.gb_trans.specs.Transformed.{with_body};
 ghost use Rattle.gb_inline.specs.Inlined as specs;
 
 use crate::inlined::{Asking, inlined};
+use gb_core::SharedItems;
 use gb_core::refusal::Refused;
 use gb_goal::goal;
 use gb_goal::goal::{Code, Goal, goal_of};
@@ -19,7 +20,6 @@ use gb_goal::scope::Scope;
 use gb_goal::sequent::{Sequent, Sequents};
 use gb_parts::one_body::{OneBody, filled, one_body, side_of};
 use gb_parts::subgoals::{no_shape, one_goal, shared_body};
-use gb_shared::SharedItems;
 use gb_steps::step::{Acts, Calls};
 use gb_terms::op::Side;
 use gb_terms::term::{Form, Instr, Instrs};

@@ -8,13 +8,13 @@ ghost use Rattle.gb_inline.specs.Asking.{expansion, once_asked};
 
 use crate::expanded::expanded;
 use gb_call::reads::variables_read;
+use gb_core::SharedItems;
 use gb_core::same::same_name;
 use gb_core::var::{Var, Vars};
 use gb_ended::loops::unproved_of;
 use gb_goal::scope::Scope;
 use gb_mods::order::with_variables;
 use gb_mods::touched::touched;
-use gb_shared::SharedItems;
 use gb_steps::step::Calls;
 use gb_terms::decl::Proc;
 use gb_terms::module::{Mexp, ProcRef};

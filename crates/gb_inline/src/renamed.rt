@@ -9,7 +9,7 @@ use gb_core::copy::copy_var;
 use gb_core::name::Name;
 use gb_core::same::same_name;
 use gb_core::var::Var;
-use gb_shared::{Shared, SharedItems};
+use gb_core::{Shared, SharedItems};
 use gb_terms::make::program;
 use gb_terms::module::ProcRef;
 use gb_terms::op::{Read, Side};

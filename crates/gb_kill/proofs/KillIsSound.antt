@@ -58,7 +58,7 @@ use Rattle.gb_full.specs.Lossless.{full}
 use Rattle.gb_prog.specs.Ends.{IsSoundLoopRule, IsSoundOnLoops}
 use Rattle.gb_prog.proofs.Couplings.{runs_gluing}
 use Rattle.gb_prog.proofs.Own.{Good, good_append}
-use Rattle.gb_trans.specs.declared.effects.Effects.{Effects}
+use Rattle.gb_premises.specs.declared.effects.Effects.{Effects}
 use Rattle.gb_trans.specs.Effects.{effects_of, meets}
 use Rattle.gb_trans.specs.Places.{At, statement_at}
 use Rattle.gb_trans.specs.Swap.{unless_crossing}

@@ -19,7 +19,7 @@ use Rattle.gb_mods.specs.Read.{each_read, read_by}
 use Rattle.gb_parts.specs.OneBody.{OneBody}
 use Rattle.gb_full.specs.Loss.{first_loss}
 use Rattle.gb_full.specs.Lossless.{full}
-use Rattle.gb_trans.specs.declared.effects.Effects.{Effects}
+use Rattle.gb_premises.specs.declared.effects.Effects.{Effects}
 use Rattle.gb_trans.specs.Effects.{effects_of, meets}
 use Rattle.gb_trans.specs.Places.{At, on_place, statement_at}
 use Rattle.gb_trans.specs.Swap.{unless_crossing}

@@ -10,6 +10,7 @@ ghost use Rattle.gb_trans.specs.Transformed.{with_body};
 ghost use Rattle.gb_kill.specs.Kill.{kill_row, killed, killed_at, may_go, read_behind, unread};
 
 use crate::reads::{reads_of, variables_read};
+use gb_core::SharedItems;
 use gb_core::copy::copy_var;
 use gb_core::refusal::{Refused, Why};
 use gb_core::var::{Var, Vars};
@@ -20,7 +21,6 @@ use gb_goal::scope::Scope;
 use gb_goal::sequent::{Sequent, Sequents};
 use gb_parts::one_body::{OneBody, filled, one_body, side_of};
 use gb_parts::subgoals::{no_shape, one_goal, refusal};
-use gb_shared::SharedItems;
 use gb_steps::step::Acts;
 use gb_terms::op::Side;
 use gb_terms::term::{Form, Instr, Instrs};

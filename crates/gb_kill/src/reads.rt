@@ -4,13 +4,13 @@ ghost use Rattle.std.specs.Prelude.{◌≡◌, ◌≤◌, ◌++◌, map, length,
 ghost use Rattle.gb_walk.specs.Clash.{all_of, outside, read_by, variables_read};
 ghost use Rattle.gb_kill.specs.Kill.{reads_by, reads_of};
 
+use gb_core::Shared;
 use gb_core::copy::copy_var;
 use gb_core::var::Vars;
 use gb_goal::scope::Scope;
 use gb_mods::called::{all_reached, calls};
 use gb_mods::order::with_variables;
 use gb_mods::read::{each_read, read_by};
-use gb_shared::Shared;
 use gb_terms::module::ProcRef;
 use gb_terms::op::{Read, Side};
 use gb_terms::same::same_side;

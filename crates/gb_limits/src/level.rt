@@ -3,10 +3,10 @@
 ghost use Rattle.std.specs.Prelude.{◌≡◌, OnOk};
 ghost use Rattle.gb_limits.specs.Level.{fresh, operand_behind, counted, terminal_before, extent, ended, nested, bracket_of, bracketed, is_long};
 
+use gb_core::Stack;
 use gb_script::action::Mark;
 use gb_script::terminal::Terminal;
 use gb_script::text::{Text, terminal_at};
-use gb_shared::Stack;
 use std::alloc::AllocError;
 
 /// What opens a level.

@@ -7,10 +7,10 @@ ghost use Rattle.gb_limits.specs.Limits.{begun, stepped, begin_too_many, over, w
 use crate::level::{
     Bracket, Levels, Opening, bracket_of, counted, enclose, fresh, is_long, nest, terminal_before,
 };
+use gb_core::Stack;
 use gb_grammar::table::Step;
 use gb_script::action::Rule;
 use gb_script::text::{Text, terminal_at};
-use gb_shared::Stack;
 use std::alloc::{AllocError, Global};
 
 /// How many levels a token may stand in.

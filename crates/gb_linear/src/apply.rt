@@ -6,6 +6,7 @@ ghost use Rattle.gb_goal.specs.Answers.{Answers};
 ghost use Rattle.gb_linear.specs.Closing.{added, all_assumed, allowed, assumed, between, closed_by, closed_with, closing, compared, difference, factor_of, is_allowed, is_closed, is_number, linear_answer, rest, with_all};
 
 use crate::linear::linear;
+use gb_closing::numbers::{Sign, may_have, refusal};
 use gb_core::place::Place;
 use gb_core::refusal::{Refused, Why};
 use gb_core::ty::Ty;
@@ -13,7 +14,7 @@ use gb_goal::sequent::{Hyp, Sequent, Sequents};
 use gb_num::Frac;
 use gb_steps::step::Multiple;
 use gb_sums::forms::{LinearForm, combined, is_constant, scaled};
-use gb_sums::numbers::{Sign, Stands, is_positive, is_zero, may_have, refusal};
+use gb_sums::numbers::{Stands, is_positive, is_zero};
 use gb_terms::op::Op;
 use gb_terms::term::{Form, Head, Term};
 use sqlite_items::Items;

@@ -3,16 +3,17 @@
 ghost use Rattle.std.specs.Prelude.{◌≡◌, IfOk};
 ghost use Rattle.gb_goal.specs.Answers.{Answers};
 ghost use Rattle.gb_linear.specs.Linear.{at_forms, is_int, joining, linear, numeral, plain, prefixed, product_of, quotient_of};
-ghost use Rattle.gb_sums.specs.declared.numbers.Sign.TheVariants.{Minus};
-ghost use Rattle.gb_sums.specs.Numbers.{zero};
+ghost use Rattle.gb_closing.specs.declared.numbers.Sign.TheVariants.{Minus};
+ghost use Rattle.gb_closing.specs.Numbers.{zero};
 ghost use Rattle.gb_sums.specs.Forms.{combined, of_number};
 ghost use Rattle.gb_terms.specs.declared.term.Term.{out-Term};
 
+use gb_closing::numbers::Sign;
 use gb_core::refusal::Refused;
 use gb_core::ty::Ty;
 use gb_num::Frac;
 use gb_sums::forms::{LinearForm, alone, combined, is_constant, of_number, scaled};
-use gb_sums::numbers::{Sign, Stands, inverse, is_divisor};
+use gb_sums::numbers::{Stands, inverse, is_divisor};
 use gb_terms::op::Op;
 use gb_terms::term::{Head, Term};
 use std::alloc::{AllocError, Global};

@@ -28,12 +28,13 @@ use Rattle.gb_typing.specs.Sequents.{AreFormulas, IsTypedSequent}
 use Rattle.gb_typing.specs.Scopes.{context_of, IsTypedScope}
 use Rattle.gb_typing.specs.Fits.{IsSettingOf, IsStateOf}
 use Rattle.gb_amb.proofs.Around.{here, parts_lead}
-use Rattle.gb_sums.specs.declared.numbers.Sign.TheVariants.{Plus, Minus}
+use Rattle.gb_closing.specs.declared.numbers.Sign.TheVariants.{Plus, Minus}
 use Rattle.gb_sums.specs.declared.numbers.Stands.TheVariants.{Left}
 use Rattle.gb_sums.specs.declared.forms.LinearForm.{LinearForm}
 use Rattle.gb_linear.specs.declared.apply.Comparison.{Comparison}
 use Rattle.gb_linear.specs.declared.apply.Assumption.{Assumption}
-use Rattle.gb_sums.specs.Numbers.{is_zero, is_proper, is_negative, is_positive, may_have}
+use Rattle.gb_closing.specs.Numbers.{is_proper, is_negative, may_have}
+use Rattle.gb_sums.specs.Numbers.{is_zero, is_positive}
 use Rattle.gb_sums.specs.Forms.{combined, scaled, is_constant}
 use Rattle.gb_linear.specs.Linear.{linear}
 use Rattle.gb_linear.specs.Closing.{compared, hypothesis, if_usable, assumed, in_front, all_assumed, is_allowed, factor_of, difference, added, with_all, rest, is_closed, closed_by, allowed, closed_with, closing, linear_answer}

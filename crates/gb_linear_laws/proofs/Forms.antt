@@ -6,13 +6,16 @@ use Rattle.gb_terms.specs.declared.term.Term.{Term}
 use Rattle.gb_apart.proofs.SameTerms.{same_terms}
 use Rattle.gb_goal.specs.Answers.{Answer, ◌>>=◌}
 use Rattle.gb_goal.specs.Answers.Answer.{given}
-use Rattle.gb_sums.specs.declared.numbers.Sign.{Sign}
+use Rattle.gb_closing.specs.declared.numbers.Sign.{Sign}
 use Rattle.gb_sums.specs.declared.numbers.Stands.{Stands}
-use Rattle.gb_sums.specs.declared.forms.Summand.{Summand}
+use Rattle.gb_closing.specs.declared.summands.Summand.{Summand}
 use Rattle.gb_sums.specs.declared.forms.LinearForm.{LinearForm}
-use Rattle.gb_sums.specs.Numbers as numbers
-use Rattle.gb_sums.specs.Numbers.{operated, multiplied}
-use Rattle.gb_sums.specs.Forms.{is_yes, is_same, coefficient, without, besides, with_coefficient, merged, each_scaled, combined, scaled, of_number, alone}
+use Rattle.gb_closing.specs.Numbers as numbers
+use Rattle.gb_sums.specs.Numbers as sums
+use Rattle.gb_closing.specs.Numbers.{operated}
+use Rattle.gb_sums.specs.Numbers.{multiplied}
+use Rattle.gb_closing.specs.Summands.{besides, with_coefficient}
+use Rattle.gb_sums.specs.Forms.{is_yes, is_same, coefficient, without, merged, each_scaled, combined, scaled, of_number, alone}
 use Rattle.gb_linear_laws.proofs.Numbers.{Number, Same, nought, plus, times, signed, same_refl, same_sym, same_trans, same_plus, same_times, same_signed, nought_plus, plus_nought, left_comm, interchange, times_plus, plus_times, times_assoc, times_nought, signed_nought, signed_plus, signed_times}
 use Rattle.gb_linear_laws.proofs.Fractions.{of}
 use Rattle.gb_linear_laws.proofs.Found.{given_is, given_bind, operated_is, multiplied_is}
@@ -202,7 +205,7 @@ module _ (V : Term → Number) where
   pub alone_is : (t : Term) → Worth (alone t) (V t)
   alone_is t = ((omega arith, (omega arith, tt)), one_of (V t))
     where
-      one_of : (v : Number) → Same (plus (of numbers.zero) (plus (times (of numbers.one) v) nought)) v
+      one_of : (v : Number) → Same (plus (of numbers.zero) (plus (times (of sums.one) v) nought)) v
       one_of v = omega arith
 
   -- a number alone

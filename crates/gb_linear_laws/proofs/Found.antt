@@ -8,11 +8,12 @@ use Rattle.gb_num.specs.Operations.{Operation, first_overflow, unless, outcome, 
 use Rattle.gb_num.proofs.Lowest.{IsSame-reduced, IsLowest-reduced}
 use Rattle.gb_goal.specs.Answers.{Answer, ◌>>=◌}
 use Rattle.gb_goal.specs.Answers.Answer.{given, refused}
-use Rattle.gb_sums.specs.declared.numbers.Sign.{Sign}
-use Rattle.gb_sums.specs.declared.numbers.Sign.TheVariants.{Plus, Minus}
+use Rattle.gb_closing.specs.declared.numbers.Sign.{Sign}
+use Rattle.gb_closing.specs.declared.numbers.Sign.TheVariants.{Plus, Minus}
 use Rattle.gb_sums.specs.declared.numbers.Stands.{Stands}
 use Rattle.gb_sums.specs.declared.numbers.Stands.TheVariants.{Left, Right}
-use Rattle.gb_sums.specs.Numbers.{in_range, operated, product, multiplied, one, is_divisor, is_positive, inverse}
+use Rattle.gb_closing.specs.Numbers.{in_range, operated}
+use Rattle.gb_sums.specs.Numbers.{product, multiplied, one, is_divisor, is_positive, inverse}
 use Rattle.gb_linear_laws.proofs.Numbers.{Number, Same, unit, plus, times, opposite, signed, same_trans, same_times, same_refl, times_comm}
 use Rattle.gb_linear_laws.proofs.Fractions.{of, number, of_is, of_same, of_plus, of_minus, of_times, above_both}
 

@@ -29,13 +29,13 @@ use Rattle.gb_typing.specs.Typing.{first, middle, last, IsTyped, AreTyped}
 use Rattle.gb_typing.specs.Fits.{IsSettingOf, IsStateOf}
 use Rattle.gb_goal.specs.Answers.{◌>>=◌}
 use Rattle.gb_goal.specs.Answers.Answer.{given}
-use Rattle.gb_sums.specs.declared.numbers.Sign.{Sign}
-use Rattle.gb_sums.specs.declared.numbers.Sign.TheVariants.{Plus, Minus}
+use Rattle.gb_closing.specs.declared.numbers.Sign.{Sign}
+use Rattle.gb_closing.specs.declared.numbers.Sign.TheVariants.{Plus, Minus}
 use Rattle.gb_sums.specs.declared.numbers.Stands.{Stands}
 use Rattle.gb_sums.specs.declared.numbers.Stands.TheVariants.{Left, Right}
-use Rattle.gb_sums.specs.declared.forms.Summand.{Summand}
+use Rattle.gb_closing.specs.declared.summands.Summand.{Summand}
 use Rattle.gb_sums.specs.declared.forms.LinearForm.{LinearForm}
-use Rattle.gb_sums.specs.Numbers as numbers
+use Rattle.gb_closing.specs.Numbers as numbers
 use Rattle.gb_sums.specs.Numbers.{is_zero, is_divisor, inverse}
 use Rattle.gb_sums.specs.Forms.{combined, scaled, is_constant, of_number, alone}
 use Rattle.gb_linear.specs.declared.linear.Prefix.TheVariants as Prefixes

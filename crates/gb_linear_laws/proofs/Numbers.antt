@@ -1,8 +1,8 @@
 -- Numbers as differences over a denominator above 0. They are the same where their cross products are.
 use Rattle.std.proofs.Common.{◌≡◌, ℕ, ◌+◌, ◌*◌, ◌/◌, ◌<◌, refl, sym, ap, ◌∙◌, arith}
 use Rattle.std.proofs.Math.Nat.{mul-div_cancel, mul-pos}
-use Rattle.gb_sums.specs.declared.numbers.Sign.{Sign}
-use Rattle.gb_sums.specs.declared.numbers.Sign.TheVariants.{Plus, Minus}
+use Rattle.gb_closing.specs.declared.numbers.Sign.{Sign}
+use Rattle.gb_closing.specs.declared.numbers.Sign.TheVariants.{Plus, Minus}
 
 pub record Number : Type 0 where
   pub more : ℕ

@@ -11,7 +11,8 @@ use Rattle.gb_meaning.specs.Setting.{Meaning}
 use Rattle.gb_meaning.specs.Setting.Meaning.{whole, fraction}
 use Rattle.gb_meaning.specs.Meanings.{same}
 use Rattle.gb_meaning.specs.Operators.{at_most}
-use Rattle.gb_sums.specs.Numbers.{is_negative, is_positive}
+use Rattle.gb_closing.specs.Numbers.{is_negative}
+use Rattle.gb_sums.specs.Numbers.{is_positive}
 use Rattle.gb_linear_laws.proofs.Numbers.{Number, Same, nought, plus, times, opposite, same_trans, same_sym, same_plus, same_refl, plus_nought}
 use Rattle.gb_linear_laws.proofs.Fractions.{of}
 use Rattle.gb_linear_laws.proofs.Meanings.{IsKind, num, by_kinds}

@@ -7,11 +7,11 @@ ghost use Rattle.gb_loops.specs.Read.{first_of, located_seen, read_in, reads_its
 
 use gb_call::outcomes::bound;
 use gb_call::reads::outside;
+use gb_core::Shared;
 use gb_core::copy::copy_var;
 use gb_core::same::same_var;
 use gb_core::ty::Ty;
 use gb_core::var::Var;
-use gb_shared::Shared;
 use gb_terms::make::forall;
 use gb_terms::op::{Read, Side};
 use gb_terms::same::same_side;

@@ -3,9 +3,9 @@
 ghost use Rattle.std.specs.Prelude.{◌≡◌, ◌++◌, IfOk};
 ghost use Rattle.gb_mods.specs.Called.{added, all_reached, called, calls, is_among, same_procedure, statement_calls};
 
+use gb_core::Shared;
 use gb_core::same::same_name;
 use gb_goal::scope::Scope;
-use gb_shared::Shared;
 use gb_terms::module::{Mexp, ProcRef};
 use gb_terms::term::Instr;
 use sqlite_items::Items;

@@ -7,10 +7,10 @@ ghost use Rattle.gb_mods.specs.Footprint.{footprint, procedures, reference, refe
 use crate::called::{Procedures, all_reached};
 use crate::order::{joined, with_variables};
 use crate::touched::touched_itself;
+use gb_core::Shared;
 use gb_core::name::Name;
 use gb_core::var::Vars;
 use gb_goal::scope::Scope;
-use gb_shared::Shared;
 use gb_terms::decl::{Module, Proc};
 use gb_terms::module::{Mexp, ProcRef};
 use sqlite_items::Items;

@@ -5,9 +5,9 @@ ghost use Rattle.gb_mods.specs.Read.{each_read, read_by, read_itself, statement_
 
 use crate::order::{globals_among, with_variables};
 use crate::touched::{each_variables, variables};
+use gb_core::Shared;
 use gb_core::var::Vars;
 use gb_goal::scope::Scope;
-use gb_shared::Shared;
 use gb_terms::decl::Proc;
 use gb_terms::module::ProcRef;
 use gb_terms::term::Instr;

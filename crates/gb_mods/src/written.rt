@@ -4,10 +4,10 @@ ghost use Rattle.std.specs.Prelude.{◌≡◌, ◌++◌, IfOk};
 ghost use Rattle.gb_mods.specs.Written.{statement_targets, targets, written_by};
 
 use crate::order::{globals_among, with_variables};
+use gb_core::Shared;
 use gb_core::copy::copy_var;
 use gb_core::var::Vars;
 use gb_goal::scope::Scope;
-use gb_shared::Shared;
 use gb_terms::module::ProcRef;
 use gb_terms::term::Instr;
 use sqlite_items::Items;

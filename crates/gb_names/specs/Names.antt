@@ -132,9 +132,35 @@ abbrev pub own_global : Option Module → Name → Option ModuleVariable
 own_global None x = None
 own_global (Some m) x = global_in m.name (Some m) x
 
+-- a variable of one of two programs has this name
+abbrev pub is_on_side : Environment → Side → Name → Bool
+is_on_side at s x = option_map_or (λ vs. is_some (first_named vs x)) (on_side at s) false
+
+-- .. of either of them, which is read with its side alone
+abbrev pub needs_side : Environment → Name → Bool
+needs_side at x = is_on_side at side.Left x || is_on_side at side.Right x
+
+-- what is bound in the form, or a logical variable of the context, has this name
+abbrev pub is_variable : Environment → List Binding → Name → Bool
+is_variable at bound x = is_some (innermost bound x) || is_some (first_named at.sequent.logical x)
+
+-- a thing that is nearer than the declarations has this name
+abbrev pub hidden : Environment → List Binding → Name → Bool
+hidden at bound x =
+    is_variable at bound x
+    || (is_some (first_named (own at) x) || (needs_side at x || (names_no_value at.sequent x || is_some (own_global at.inside x))))
+
+-- a thing that is nearer than the declarations has the name of the module in this path
+unfoldable pub module_hidden : Environment → List Binding → Name → Bool
+module_hidden at bound x = option_map_or (λ w. hidden at bound w.0) (rsplit_once dot x) false
+
+-- the global of the module around, or of a declared one, that has these two names; nothing nearer has that of its module
+abbrev pub global_of : Environment → List Binding → Name × Name → Option ModuleVariable
+global_of at bound w = if hidden at bound w.0 then None else global_in w.0 (module_if at.inside at.declared w.0) w.1
+
 -- A global is named by its module's name and its own, with a dot between, and inside of its module by its own name alone.
-unfoldable pub global_at : Environment → Name → Option ModuleVariable
-global_at at x = option_map_or (λ w. global_in w.0 (module_if at.inside at.declared w.0) w.1) (rsplit_once dot x) (own_global at.inside x)
+unfoldable pub global_at : Environment → List Binding → Name → Option ModuleVariable
+global_at at bound x = option_map_or (global_of at bound) (rsplit_once dot x) (own_global at.inside x)
 
 -- a module has a global or a procedure of this name
 abbrev pub has_member : Option Module → Name → Bool
@@ -154,13 +180,14 @@ no_declared inside ds x =
 abbrev pub no_procedure : Module → Name → Why
 no_procedure m x = if is_some (first_named m.globals x) then Argument else UnknownName x
 
--- a thing that is no variable has this name
-abbrev pub names_other : Environment → Name → Bool
-names_other at x = names_no_value at.sequent x || is_some (entry_of at.declared x) || names_member at.inside at.declared x
+-- a thing that is no variable has this name, or what has that of its module is none
+abbrev pub names_other : Environment → List Binding → Name → Bool
+names_other at bound x =
+    names_no_value at.sequent x || is_some (entry_of at.declared x) || module_hidden at bound x || names_member at.inside at.declared x
 
 -- a name that no variable has
-abbrev pub unbound : Environment → Name → Place → Answer Term
-unbound at x p = if names_other at x then refused Argument p else refused (UnknownName x) p
+abbrev pub unbound : Environment → List Binding → Name → Place → Answer Term
+unbound at bound x p = if names_other at bound x then refused Argument p else refused (UnknownName x) p
 
 -- a read of a global through a memory
 abbrev pub global_variable : Side → ModuleVariable → Term
@@ -199,24 +226,16 @@ unsided at p g = do
   if has_own at.variables then given (global_variable side.Own g) else refused Argument p
 
 -- why a name means no variable of a program: another thing has it, or nothing
-abbrev pub no_variable : Environment → Name → Why
-no_variable at x =
-    if is_some (first_named at.sequent.logical x) || is_some (built_in x) || names_other at x then Argument else UnknownName x
-
--- a variable of one of two programs has this name
-abbrev pub is_on_side : Environment → Side → Name → Bool
-is_on_side at s x = option_map_or (λ vs. is_some (first_named vs x)) (on_side at s) false
-
--- .. of either of them, which is read with its side alone
-abbrev pub needs_side : Environment → Name → Bool
-needs_side at x = is_on_side at side.Left x || is_on_side at side.Right x
+abbrev pub no_variable : Environment → List Binding → Name → Why
+no_variable at bound x =
+    if is_some (first_named at.sequent.logical x) || is_some (built_in x) || names_other at bound x then Argument else UnknownName x
 
 -- the name of a logical variable of the context, or of a global
-abbrev pub named_around : Environment → Name → Place → Answer Term
-named_around at x p =
+abbrev pub named_around : Environment → List Binding → Name → Place → Answer Term
+named_around at bound x p =
     option_map_or (logical_variable (number_before at.sequent.logical x))
     (first_named at.sequent.logical x)
-    (option_map_or (unsided at p) (global_at at x) (unbound at x p))
+    (option_map_or (unsided at p) (global_at at bound x) (unbound at bound x p))
 
 -- A name without a side is that of a thing that is bound in the form, the innermost first, of a variable of the
 -- program around, of a logical variable of the context, or of a global.
@@ -226,17 +245,7 @@ named at bound x p =
     (innermost bound x)
     (option_map_or (λ v. given (program_variable side.Own v))
     (first_named (own at) x)
-    (if needs_side at x then refused (no_variable at x) p else named_around at x p))
-
--- what is bound in the form, or a logical variable of the context, has this name
-abbrev pub is_variable : Environment → List Binding → Name → Bool
-is_variable at bound x = is_some (innermost bound x) || is_some (first_named at.sequent.logical x)
-
--- a thing that is nearer than the declarations has this name
-abbrev pub hidden : Environment → List Binding → Name → Bool
-hidden at bound x =
-    is_variable at bound x
-    || (is_some (first_named (own at) x) || (needs_side at x || (names_no_value at.sequent x || is_some (own_global at.inside x))))
+    (if needs_side at x then refused (no_variable at bound x) p else named_around at bound x p))
 
 -- the built-in thing that a name means, where nothing else has it
 abbrev pub known_at : Environment → List Binding → Name → Option Known
@@ -262,7 +271,7 @@ abbrev pub target : Environment → Name → Place → Answer Target
 target at x p =
     option_map_or (λ v. given (Local v.name, v.ty))
     (first_named (own at) x)
-    (option_map_or global_target (global_at at x) (refused (no_variable at x) p))
+    (option_map_or global_target (global_at at [] x) (refused (no_variable at [] x) p))
 
 -- one of these variables in a memory, or a global there; what is bound stands in none
 abbrev pub variable_on : Environment → List Binding → Name → Side → Place → List TypedName → Answer Term
@@ -270,7 +279,7 @@ variable_on at bound x s p vs =
     if is_some (innermost bound x) then refused Argument p
     else option_map_or (λ v. given (program_variable s v))
     (first_named vs x)
-    (option_map_or (read_global at s p) (global_at at x) (refused (no_variable at x) p))
+    (option_map_or (read_global at s p) (global_at at bound x) (refused (no_variable at bound x) p))
 
 -- a name with a side
 unfoldable pub sided : Environment → List Binding → Name → Side → Place → Answer Term

@@ -14,10 +14,10 @@ ghost use Rattle.gb_names.specs.Allowed.{coin, distribution_here, formula, is_di
 use crate::refusals::{argument, mismatch};
 use crate::setting::{Language, Setting};
 use crate::types::{fits, wanted};
+use gb_core::Shared;
 use gb_core::place::Place;
 use gb_core::refusal::Refused;
 use gb_core::ty::Ty;
-use gb_shared::Shared;
 use gb_terms::make;
 use gb_terms::op::Op;
 use gb_terms::term::{Head, Term};

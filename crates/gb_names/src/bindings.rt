@@ -4,9 +4,9 @@ ghost use Rattle.std.specs.Prelude.{◌≡◌, ◌++◌, IfOk, map, reverse};
 ghost use Rattle.std.specs.Option.{option_copied};
 ghost use Rattle.gb_names.specs.Bindings.{binders_inside, bound_value, innermost, memory, value};
 
+use gb_core::Shared;
 use gb_core::name::Name;
 use gb_core::ty::Ty;
-use gb_shared::Shared;
 use gb_terms::decl::TypedName;
 use sqlite_items::Items;
 use std::alloc::{AllocError, Global};

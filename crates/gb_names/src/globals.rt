@@ -6,19 +6,20 @@ ghost use Rattle.std.specs.Path.{dot, rsplit_once};
 ghost use Rattle.gb_goal.specs.Answers.{Answers, Refuses};
 ghost use Rattle.gb_goal.specs.Answers.Answer.{given};
 ghost use Rattle.gb_names.specs.Environment.{environment};
-ghost use Rattle.gb_names.specs.Names.{global_at, global_in, global_target, global_variable, has_member, has_own, module_if, names_member, no_declared, no_procedure, own_global, read_global, unsided};
+ghost use Rattle.gb_names.specs.Names.{global_at, global_in, global_of, global_target, global_variable, has_member, has_own, module_hidden, module_if, names_member, no_declared, no_procedure, own_global, read_global, unsided};
 
+use crate::bindings::Binding;
 use crate::ended::check_ended;
-use crate::names::{built_in, first_named};
+use crate::names::{built_in, first_named, hidden};
 use crate::refusals::{argument, unknown};
 use crate::setting::{Setting, Variables};
+use gb_core::Shared;
 use gb_core::name::Name;
 use gb_core::place::Place;
 use gb_core::refusal::Refused;
 use gb_core::ty::Ty;
 use gb_core::var::Var;
 use gb_goal::scope::{Scope, procedure_named};
-use gb_shared::Shared;
 use gb_terms::decl::{Module, TypedName};
 use gb_terms::make;
 use gb_terms::op::Side;
@@ -84,22 +85,57 @@ pub fn is_own_global(at: &Setting<'_>, name: &Name) -> bool
     }
 }
 
+/// Whether a thing that is nearer than the declarations has the name of the module in this path.
+#[tactic(auto, unfolding(crate::specs::Names::module_hidden))]
+pub fn module_hidden(
+    alloc: Global,
+    at: &Setting<'_>,
+    bound: &[Binding],
+    name: &Name,
+) -> Result<bool, AllocError>
+    ensures { IfOk result (λ found. found ≡ module_hidden (environment at.now) bound.now name.now) }
+{
+    match parts_of(name) {
+        None => Ok(false),
+        Some((owner, _)) => {
+            let owner = Name::from_str(alloc, owner)?;
+            Ok(hidden(at, bound, &owner))
+        }
+    }
+}
+
+/// The global of the module around, or of a declared one, that has these two names, where nothing nearer has that of its module.
+fn global_of<'a>(
+    at: &Setting<'a>,
+    bound: &[Binding],
+    owner: Name,
+    own: &Name,
+) -> Option<ModuleVariable<'a>>
+    ensures { option_map (λ g. (g.owner, g.variable.now)) result ≡ global_of (environment at.now) bound.now (owner, own.now) }
+{
+    if hidden(at, bound, &owner) {
+        return None;
+    }
+    let module = module_if(at.inside, at.scope, &owner);
+    global_in(owner, module, own)
+}
+
 /// The global that is named: by its module and its own name with a dot between, or inside of its module by its own name alone.
 #[tactic(auto, unfolding(crate::specs::Names::global_at))]
 pub fn global_at<'a>(
     alloc: Global,
     at: &Setting<'a>,
+    bound: &[Binding],
     name: &Name,
 ) -> Result<Option<ModuleVariable<'a>>, AllocError>
-    ensures { IfOk result (λ found. option_map (λ g. (g.owner, g.variable.now)) found ≡ global_at (environment at.now) name.now) }
+    ensures { IfOk result (λ found. option_map (λ g. (g.owner, g.variable.now)) found ≡ global_at (environment at.now) bound.now name.now) }
 {
     match parts_of(name) {
         None => own_global(alloc, at.inside, name),
         Some((owner, own)) => {
             let owner = Name::from_str(alloc, owner)?;
             let own = Name::from_str(alloc, own)?;
-            let module = module_if(at.inside, at.scope, &owner);
-            Ok(global_in(owner, module, &own))
+            Ok(global_of(at, bound, owner, &own))
         }
     }
 }

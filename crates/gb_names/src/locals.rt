@@ -5,11 +5,11 @@ ghost use Rattle.std.specs.Option.{option_copied};
 ghost use Rattle.gb_names.specs.Locals.{first_some, goal_read_type, hyps_read_type, local_if, read_type, locals_in, reads_local};
 
 use crate::binders::variable;
+use gb_core::Shared;
 use gb_core::name::Name;
 use gb_core::ty::Ty;
 use gb_core::var::Var;
 use gb_goal::sequent::{Hyp, Sequent};
-use gb_shared::Shared;
 use gb_terms::decl::Typed;
 use gb_terms::op::{Read, Side};
 use gb_terms::same::same_side;

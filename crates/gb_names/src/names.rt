@@ -13,11 +13,13 @@ ghost use Rattle.gb_names.specs.Names.{beside, bound_thing, bound_variable, buil
 
 use crate::bindings::{Binding, Kind, binders_inside, innermost};
 use crate::globals::{
-    Target, global_at, global_target, is_own_global, names_member, read_global, unsided,
+    Target, global_at, global_target, is_own_global, module_hidden, names_member, read_global,
+    unsided,
 };
 use crate::memories::remembered;
 use crate::refusals::{argument, not_built, too_many, unknown};
 use crate::setting::Setting;
+use gb_core::Shared;
 use gb_core::name::Name;
 use gb_core::place::Place;
 use gb_core::refusal::Refused;
@@ -28,7 +30,6 @@ use gb_goal::scope::{Constant, OperatorType};
 use gb_goal::sequent::{Hyp, Sequent};
 use gb_script::head::Head as NodeHead;
 use gb_script::tree::Node;
-use gb_shared::Shared;
 use gb_terms::decl::TypedName;
 use gb_terms::make;
 use gb_terms::module::Bind;
@@ -231,21 +232,29 @@ fn names_no_value(s: &Sequent, name: &Name) -> bool
         || is_hyp(s.hyps.as_slice(), name)
 }
 
-/// Whether a thing that is no variable has this name.
-fn names_other(alloc: Global, at: &Setting<'_>, name: &Name) -> Result<bool, AllocError>
-    ensures { IfOk result (λ found. found ≡ names_other (environment at.now) name.now) }
+/// Whether a thing that is no variable has this name, or what has that of its module is none.
+fn names_other(
+    alloc: Global,
+    at: &Setting<'_>,
+    bound: &[Binding],
+    name: &Name,
+) -> Result<bool, AllocError>
+    ensures { IfOk result (λ found. found ≡ names_other (environment at.now) bound.now name.now) }
 {
     if names_no_value(at.sequent, name) || at.scope.entry(name).is_some() {
+        return Ok(true);
+    }
+    if module_hidden(alloc, at, bound, name)? {
         return Ok(true);
     }
     names_member(alloc, at.inside, at.scope, name)
 }
 
 /// The refusal of a name that no variable has.
-fn unbound(alloc: Global, at: &Setting<'_>, name: &Name, place: Place) -> Refused
-    ensures { Fails (unbound (environment at.now) name.now place) result }
+fn unbound(alloc: Global, at: &Setting<'_>, bound: &[Binding], name: &Name, place: Place) -> Refused
+    ensures { Fails (unbound (environment at.now) bound.now name.now place) result }
 {
-    match names_other(alloc, at, name) {
+    match names_other(alloc, at, bound, name) {
         Ok(true) => argument(place),
         Ok(false) => unknown(alloc, name, place),
         Err(_) => Refused::NoMemory,
@@ -270,16 +279,22 @@ fn needs_side(at: &Setting<'_>, name: &Name) -> bool
 }
 
 /// The meaning of a name that nothing nearer than the context has.
-fn named_around(alloc: Global, at: &Setting<'_>, name: &Name, place: Place) -> Result<Term, Refused>
-    ensures { Answers (named_around (environment at.now) name.now place) result }
+fn named_around(
+    alloc: Global,
+    at: &Setting<'_>,
+    bound: &[Binding],
+    name: &Name,
+    place: Place,
+) -> Result<Term, Refused>
+    ensures { Answers (named_around (environment at.now) bound.now name.now place) result }
 {
     let logical = at.sequent.logical.as_slice();
     if let Some(x) = first_named(logical, name) {
         return logical_variable(alloc, number_before(logical, name), x);
     }
-    match global_at(alloc, at, name)? {
+    match global_at(alloc, at, bound, name)? {
         Some(global) => unsided(alloc, at, place, global),
-        None => Err(unbound(alloc, at, name, place)),
+        None => Err(unbound(alloc, at, bound, name, place)),
     }
 }
 
@@ -305,9 +320,9 @@ pub fn named(
         return program_variable(alloc, x, Side::Own);
     }
     if needs_side(at, name) {
-        Err(no_variable(alloc, at, name, place))
+        Err(no_variable(alloc, at, bound, name, place))
     } else {
-        named_around(alloc, at, name, place)
+        named_around(alloc, at, bound, name, place)
     }
 }
 
@@ -367,14 +382,20 @@ pub fn operator_at(
 }
 
 /// Why a name means no variable of a program: something else has it, or nothing.
-pub fn no_variable(alloc: Global, at: &Setting<'_>, name: &Name, place: Place) -> Refused
-    ensures { Refuses (no_variable (environment at.now) name.now) place result }
+pub fn no_variable(
+    alloc: Global,
+    at: &Setting<'_>,
+    bound: &[Binding],
+    name: &Name,
+    place: Place,
+) -> Refused
+    ensures { Refuses (no_variable (environment at.now) bound.now name.now) place result }
 {
     let logical = at.sequent.logical.as_slice();
     if first_named(logical, name).is_some() || built_in(name).is_some() {
         return argument(place);
     }
-    match names_other(alloc, at, name) {
+    match names_other(alloc, at, bound, name) {
         Ok(true) => argument(place),
         Ok(false) => unknown(alloc, name, place),
         Err(_) => Refused::NoMemory,
@@ -392,9 +413,9 @@ pub fn target(alloc: Global, at: &Setting<'_>, name: &Name, place: Place) -> Res
     if let Some(local) = first_named(at.own(), name) {
         return Ok(local_target(alloc, local)?);
     }
-    match global_at(alloc, at, name)? {
+    match global_at(alloc, at, &[], name)? {
         Some(global) => Ok(global_target(alloc, global)?),
-        None => Err(no_variable(alloc, at, name, place)),
+        None => Err(no_variable(alloc, at, &[], name, place)),
     }
 }
 
@@ -451,9 +472,9 @@ pub fn variable_on(
     if let Some(x) = first_named(locals, name) {
         return program_variable(alloc, x, side);
     }
-    match global_at(alloc, at, name)? {
+    match global_at(alloc, at, bound, name)? {
         Some(global) => read_global(alloc, at, side, place, global),
-        None => Err(no_variable(alloc, at, name, place)),
+        None => Err(no_variable(alloc, at, bound, name, place)),
     }
 }
 

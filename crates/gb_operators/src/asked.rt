@@ -10,6 +10,7 @@ use crate::drawn::{Drawn, source_wanted, value_wanted};
 use crate::kinds::{components, element, entries, is_of_values, outcome};
 use crate::operators::{Infix, first_wanted, operand_wanted, shaped, takes, wanted_type};
 use crate::rules::{Asked, Rule};
+use gb_core::Shared;
 use gb_core::copy::copy_ty;
 use gb_core::place::Place;
 use gb_core::refusal::Refused;
@@ -17,7 +18,6 @@ use gb_core::ty::Ty;
 use gb_names::allowed::{distribution_here, stands, truth};
 use gb_names::refusals::{argument, mismatch};
 use gb_names::setting::Setting;
-use gb_shared::Shared;
 use gb_terms::term::Term;
 use std::alloc::Global;
 

@@ -8,6 +8,7 @@ ghost use Rattle.gb_terms.specs.Make.{applied, truth_literal};
 ghost use Rattle.gb_operators.specs.Constants.{constant, literal};
 
 use crate::kinds::{entries, inside_option};
+use gb_core::Shared;
 use gb_core::copy::copy_ty;
 use gb_core::place::Place;
 use gb_core::refusal::Refused;
@@ -17,7 +18,6 @@ use gb_goal::scope::Constant;
 use gb_names::names::{Known, unit};
 use gb_names::refusals::mismatch;
 use gb_names::types::wanted;
-use gb_shared::Shared;
 use gb_terms::make;
 use gb_terms::op::Op;
 use gb_terms::term::{Head, Term};

@@ -4,6 +4,7 @@ ghost use Rattle.std.specs.Prelude.{◌≡◌, IfOk};
 ghost use Rattle.gb_goal.specs.Answers.{Answers};
 ghost use Rattle.gb_operators.specs.Domain.{counts_to, type_in, written_as};
 
+use gb_core::Shared;
 use gb_core::refusal::Refused;
 use gb_core::ty::Ty;
 use gb_goal::scope::Scope;
@@ -11,7 +12,6 @@ use gb_names::refusals::{argument, mismatch};
 use gb_names::types::type_of;
 use gb_same::types::same_types;
 use gb_script::tree::Node;
-use gb_shared::Shared;
 use std::alloc::{AllocError, Global};
 
 /// The type of a function's variable.

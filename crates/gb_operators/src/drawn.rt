@@ -10,6 +10,7 @@ ghost use Rattle.gb_operators.specs.Drawn.{drawn_head, drawn_result, outcome_wan
 
 use crate::kinds::{is_of_values, is_small, outcome};
 use crate::operators::{outcome_wanted, wanted_type};
+use gb_core::Shared;
 use gb_core::place::Place;
 use gb_core::refusal::{Refused, Why};
 use gb_core::ty::Ty;
@@ -18,7 +19,6 @@ use gb_names::refusals::not_built;
 use gb_names::setting::Setting;
 use gb_names::types::type_of;
 use gb_script::tree::Node;
-use gb_shared::Shared;
 use gb_terms::make;
 use gb_terms::op::Op;
 use gb_terms::term::{Head, Term};

@@ -10,6 +10,7 @@ ghost use Rattle.gb_goal.specs.Answers.Answer.{given};
 ghost use Rattle.gb_names.specs.Environment.{environment};
 ghost use Rattle.gb_operators.specs.Literals.{as_whole, bound_of, dividing, divisor_in, holds, is_divisor, number_in, numbering, numeral, part_number, place_inside, placing, with_divisors, with_numbers, with_places};
 
+use gb_core::Shared;
 use gb_core::copy::copy_ty;
 use gb_core::name::Name;
 use gb_core::place::Place;
@@ -22,7 +23,6 @@ use gb_names::refusals::{argument, not_built};
 use gb_names::setting::Setting;
 use gb_script::head::Head as NodeHead;
 use gb_script::tree::Node;
-use gb_shared::Shared;
 use gb_terms::make;
 use gb_terms::term::{Head, Term};
 use gb_types::size::power;

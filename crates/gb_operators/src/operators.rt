@@ -12,6 +12,7 @@ use crate::kinds::{
     inside_option, is_arithmetic, is_of_bits, is_of_numbers, is_of_values, is_ordered, is_signed,
     outcome,
 };
+use gb_core::Shared;
 use gb_core::copy::copy_ty;
 use gb_core::name::Name;
 use gb_core::place::Place;
@@ -21,7 +22,6 @@ use gb_names::allowed::{distribution_here, is_distribution, is_program, stands, 
 use gb_names::refusals::{argument, mismatch};
 use gb_names::setting::Setting;
 use gb_script::head::Head;
-use gb_shared::Shared;
 use gb_terms::op::Op;
 use std::alloc::{AllocError, Global};
 

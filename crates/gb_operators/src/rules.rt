@@ -7,13 +7,13 @@ use crate::domain::Domain;
 use crate::drawn::Drawn;
 use crate::literals::{is_divisor, place_inside};
 use crate::operators::{Infix, Operator, Prefix};
+use gb_core::Shared;
 use gb_core::name::Name;
 use gb_core::place::Place;
 use gb_core::ty::Ty;
 use gb_goal::scope::OperatorType;
 use gb_names::names::Known;
 use gb_script::tree::Node;
-use gb_shared::Shared;
 
 /// How a form is made of typed parts.
 #[derive(Drop)]

@@ -5,10 +5,10 @@ ghost use Rattle.std.specs.Option.{option_copied};
 ghost use Rattle.gb_parts.specs.Assigned.{assigned_form, clashing, part, part_types, parts, parts_from, put_in, taken};
 
 use crate::forms::located;
+use gb_core::Shared;
 use gb_core::copy::{copy_ty, copy_var};
 use gb_core::ty::Ty;
 use gb_core::var::Var;
-use gb_shared::Shared;
 use gb_terms::make;
 use gb_terms::op::{Op, Read, Side};
 use gb_terms::share::share_terms;

@@ -7,8 +7,8 @@ ghost use Rattle.gb_goal.specs.Views.{goal_seen};
 ghost use Rattle.gb_parts.specs.OneBody.{filled, one_body, one_seen, side_of};
 
 use crate::subgoals::shared_body;
+use gb_core::SharedItems;
 use gb_goal::goal::{Code, Goal, equiv, hoare, phoare};
-use gb_shared::SharedItems;
 use gb_steps::step::Acts;
 use gb_terms::op::{Rel, Side};
 use gb_terms::term::{Form, Instr, Term};

@@ -5,10 +5,10 @@ ghost use Rattle.gb_core.specs.declared.refusal.Why.TheVariants.{Shape};
 ghost use Rattle.gb_goal.specs.Answers.{nowhere, placed_at, Answers, Answer};
 ghost use Rattle.gb_goal.specs.declared.sequent.Sequent.{Sequent as Goal};
 
+use gb_core::SharedItems;
 use gb_core::place::Place;
 use gb_core::refusal::{Refused, Why};
 use gb_goal::sequent::{Sequent, Sequents};
-use gb_shared::SharedItems;
 use gb_terms::share::share_instrs;
 use gb_terms::term::{Form, Instr};
 use sqlite_items::Items;

@@ -16,6 +16,7 @@ ghost use Rattle.gb_forms.specs.Drawn.{with_value};
 ghost use Rattle.gb_phoare.specs.Rnd.{by_end, measured, rnd_row, without_sampling};
 
 use gb_chance::compared::compared;
+use gb_core::Shared;
 use gb_core::copy::copy_var;
 use gb_core::refusal::{Refused, Why};
 use gb_core::ty::Ty;
@@ -25,7 +26,6 @@ use gb_goal::goal::{Code, Goal, goal_of, hoare};
 use gb_goal::scope::Scope;
 use gb_goal::sequent::{Sequent, Sequents};
 use gb_parts::subgoals::{no_shape, refusal};
-use gb_shared::Shared;
 use gb_terms::make::term;
 use gb_terms::op::{Read, Side};
 use gb_terms::term::{Form, Head, Instr, RealTerm, Term};

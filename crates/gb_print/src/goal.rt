@@ -1,7 +1,7 @@
 // Goals and forms as text.
 
 ghost use Rattle.std.specs.Prelude.{◌≡◌, [], ◌++◌, map, IfOk, OnOk};
-ghost use Rattle.gb_print_names.specs.Names.{place};
+ghost use Rattle.gb_shapes.specs.Names.{place};
 ghost use Rattle.gb_print_names.specs.Text.{each};
 ghost use Rattle.gb_print_text.specs.Goals.{typed_names, with_enumerations, context_names, variable_line, memory_line, module_line, hypothesis_line, goal_text, place_of_form, place_of_goal, printed_form, printed_goal};
 ghost use Rattle.gb_readback.specs.Forms.{form_tree};
@@ -9,17 +9,17 @@ ghost use Rattle.gb_readback.specs.Goals.{IsWrittenGoal, IsGoalReadAs};
 ghost use Rattle.gb_readback.specs.ReadBack.{IsReadAs};
 ghost use Rattle.gb_readback.specs.Written.{IsWritten};
 
+use gb_core::Stack;
 use gb_core::name::{Name, Names};
 use gb_goal::scope::Scope;
 use gb_goal::sequent::{Hyp, Sequent};
 use gb_print_names::modules::put_abstract_module;
 use gb_print_names::occurring::note_name;
-use gb_print_names::place::{Enumeration, Setting};
 use gb_print_names::text::{Page, Text};
 use gb_print_names::types::put_type;
 use gb_print_text::form::put_form;
 use gb_readback::laws::{printed_forms_are_read, printed_goals_are_read};
-use gb_shared::Stack;
+use gb_shapes::place::{Enumeration, Setting};
 use gb_terms::decl::TypedName;
 use gb_terms::module::Bind;
 use gb_terms::term::Form;

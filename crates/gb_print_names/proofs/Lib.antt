@@ -1,4 +1,3 @@
 pub mod Lists
-pub mod Primes
 pub mod LocalSteps
 pub mod Differing

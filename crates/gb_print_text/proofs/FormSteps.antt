@@ -1,7 +1,7 @@
 -- What is printed of a tree, from its parts.
 use Rattle.std.proofs.Common.{◌≡◌, ℕ, ◌+◌, ◌-◌, ◌<◌, ◌≤◌, Bool, true, false, take, take_all, drop, length, length-drop, get_or, le_of_eq, List, [], ◌∷◌, codes, map, refl, ap, sym, subst, ◌∙◌}
 use Rattle.std.proofs.lemmas.List.{at_drop_more, drop_all}
-use Rattle.gb_print_names.specs.declared.place.Known.{Known}
+use Rattle.gb_shapes.specs.declared.place.Known.{Known}
 use Rattle.gb_print_names.specs.declared.text.Page.{Page}
 use Rattle.gb_terms.specs.declared.term.Term.{Term}
 use Rattle.gb_terms.specs.declared.term.Head.{Head}
@@ -15,7 +15,8 @@ use Rattle.gb_terms.specs.declared.term.Head.TheOpen as layer
 use Rattle.gb_terms.specs.declared.term.Head.TheViews.{out-Term, roll-out-Term, out-Cmd, roll-out-Cmd}
 use Rattle.gb_terms.specs.declared.term.Head.TheFolds.{para-Head, para-roll-Term, para-roll-Head, para-roll-Subject, para-roll-Instr, para-roll-Cmd}
 use Rattle.gb_print_names.specs.Text.{Text, ◌▸◌, each, word}
-use Rattle.gb_print_names.specs.Names.{Place, variable}
+use Rattle.gb_shapes.specs.Names.{Place}
+use Rattle.gb_print_names.specs.Names.{variable}
 use Rattle.gb_print_names.specs.Modules.{procedure}
 use Rattle.gb_shapes.specs.Open.{right_first, tells}
 use Rattle.gb_print_text.specs.Layout.{opening, closing}

@@ -13,8 +13,9 @@ use Rattle.gb_terms.specs.declared.term.Cmd.{Cmd, out-Cmd}
 use Rattle.gb_walk.specs.Layers.{is_binder}
 use Rattle.gb_print_names.specs.Text.{Text, Writing, ◌▸◌, nothing, each, word, separated}
 use Rattle.gb_terms.specs.declared.module.ProcRef.{ProcRef}
-use Rattle.gb_print_names.specs.declared.place.Known.{Known}
-use Rattle.gb_print_names.specs.Names.{Place, under, bound_name, variable}
+use Rattle.gb_shapes.specs.declared.place.Known.{Known}
+use Rattle.gb_shapes.specs.Names.{Place, under, bound_name}
+use Rattle.gb_print_names.specs.Names.{variable}
 use Rattle.gb_print_names.specs.Types.{type_text}
 use Rattle.gb_print_names.specs.Modules.{procedure}
 use Rattle.gb_shapes.specs.Open.{type_of, needs_type, right_first, tells}

@@ -6,10 +6,10 @@ use Rattle.gb_terms.specs.declared.term.Term.{Term}
 use Rattle.gb_goal.specs.declared.sequent.Hyp.{Hyp}
 use Rattle.gb_goal.specs.declared.sequent.Sequent.{Sequent}
 use Rattle.gb_goal.specs.Scope.{Declarations}
-use Rattle.gb_print_names.specs.declared.place.Enumeration.{Enumeration}
-use Rattle.gb_print_names.specs.declared.place.Known.{Known}
+use Rattle.gb_shapes.specs.declared.place.Enumeration.{Enumeration}
+use Rattle.gb_shapes.specs.declared.place.Known.{Known}
 use Rattle.gb_print_names.specs.Text.{Text, Writing, ◌▸◌, each, word}
-use Rattle.gb_print_names.specs.Names.{Name, Place}
+use Rattle.gb_shapes.specs.Names.{Name, Place}
 use Rattle.gb_print_names.specs.Types.{type_text}
 use Rattle.gb_print_names.specs.Modules.{abstract_module}
 use Rattle.gb_print_text.specs.Forms.{form_text}

@@ -15,10 +15,11 @@ use Rattle.gb_terms.specs.declared.term.Term.{Term}
 use Rattle.gb_terms.specs.declared.term.Head.{Head}
 use Rattle.gb_terms.specs.declared.term.Head.TheVariants as head
 use Rattle.gb_terms.specs.declared.module.Bind.{Bind}
-use Rattle.gb_print_names.specs.declared.place.Enumeration.{Enumeration}
-use Rattle.gb_print_names.specs.declared.place.Known.{Known}
+use Rattle.gb_shapes.specs.declared.place.Enumeration.{Enumeration}
+use Rattle.gb_shapes.specs.declared.place.Known.{Known}
 use Rattle.gb_print_names.specs.Text.{Text, Writing, ◌▸◌, nothing, word, number, separated, bar}
-use Rattle.gb_print_names.specs.Names.{Name, Place, perhaps, bound_at, memory, beside, read, constants}
+use Rattle.gb_shapes.specs.Names.{Name, Place}
+use Rattle.gb_print_names.specs.Names.{perhaps, bound_at, memory, beside, read, constants}
 use Rattle.gb_print_names.specs.Types.{type_text, type_operand}
 use Rattle.gb_print_names.specs.Modules.{module_text, procedure, abstract_module}
 use Rattle.gb_shapes.specs.Shapes.{spelling}

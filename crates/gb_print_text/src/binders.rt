@@ -4,14 +4,14 @@ ghost use Rattle.std.specs.Prelude.{◌≡◌, OnOk, IfOk};
 ghost use Rattle.std.specs.Option.{option_copied};
 ghost use Rattle.gb_print_text.specs.Layout.{letter, stands, over_values, over_memories, over_modules, type_needed, of_function, binding};
 
+use gb_core::Stack;
 use gb_core::name::Name;
 use gb_core::ty::Ty;
 use gb_print_names::modules::put_abstract_module;
-use gb_print_names::place::Known;
 use gb_print_names::text::Text;
 use gb_print_names::types::put_type;
 use gb_shapes::open::type_read;
-use gb_shared::Stack;
+use gb_shapes::place::Known;
 use gb_terms::module::Bind;
 use gb_terms::term::{Head, Term};
 use std::alloc::{AllocError, Global};

@@ -1,7 +1,8 @@
 // Forms and programs.
 
 ghost use Rattle.std.specs.Prelude.{◌≡◌, ◌∷◌, codes, OnOk};
-ghost use Rattle.gb_print_names.specs.Names.{place, variable};
+ghost use Rattle.gb_shapes.specs.Names.{place};
+ghost use Rattle.gb_print_names.specs.Names.{variable};
 ghost use Rattle.gb_shapes.specs.Open.{right_first};
 ghost use Rattle.gb_print_names.specs.Text.{separated};
 ghost use Rattle.gb_print_text.specs.Forms.{in_brackets, annotated, form, operand, part, bound_part, argument, arguments, inside_text, spoken, is_nil, targets, test, call, forms, otherwise, term_text, subject_text, cmd_text, instr_text, shown, all_shown};
@@ -11,10 +12,11 @@ use crate::layout::{put_before, put_closing, put_opening};
 use gb_core::var::Var;
 use gb_print_names::modules::put_procedure;
 use gb_print_names::occurring::{is_judgment, names_inside};
-use gb_print_names::place::{Known, Setting, bound_name, put_variable};
+use gb_print_names::place::put_variable;
 use gb_print_names::text::Page;
 use gb_print_names::types::put_type;
 use gb_shapes::open::{needs_type, right_first, tells};
+use gb_shapes::place::{Known, Setting, bound_name};
 use gb_shapes::shape::{encloses, runs_on, shape_of, stands_alone};
 use gb_terms::module::ProcRef;
 use gb_terms::term::{Cmd, Head, Instr, Subject, Term};

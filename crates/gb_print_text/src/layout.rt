@@ -1,17 +1,18 @@
 // What stands in front of a form's arguments, between them and behind them.
 
 ghost use Rattle.std.specs.Prelude.{◌≡◌, OnOk};
-ghost use Rattle.gb_print_names.specs.Names.{place};
+ghost use Rattle.gb_shapes.specs.Names.{place};
 ghost use Rattle.gb_print_text.specs.Layout.{compared, before_operand, operator_closing, operator_type, opening, before_part, before, closing};
 ghost use Rattle.gb_shapes.specs.Shapes.{spelling};
 
 use crate::literals::{outcome, put_literal, put_weights};
+use gb_core::Stack;
 use gb_core::ty::Ty;
 use gb_print_names::modules::{put_module, put_procedure};
-use gb_print_names::place::{Known, Setting, put_beside, put_bound, put_memory, put_read};
+use gb_print_names::place::{put_beside, put_bound, put_memory, put_read};
 use gb_print_names::text::Text;
 use gb_print_names::types::put_type_operand;
-use gb_shared::Stack;
+use gb_shapes::place::{Known, Setting};
 use gb_terms::op::{Op, Rel};
 use gb_terms::term::Head;
 use std::alloc::{AllocError, Global};

@@ -9,8 +9,9 @@ ghost use Rattle.gb_print_text.specs.Layout.{numeral, value_text, literal, outco
 use gb_core::name::Name;
 use gb_core::ty::Ty;
 use gb_core::value::Value;
-use gb_print_names::place::{Enumeration, constants};
+use gb_print_names::place::constants;
 use gb_print_names::text::Text;
+use gb_shapes::place::Enumeration;
 use gb_terms::term::Pair;
 use std::alloc::{AllocError, Global};
 

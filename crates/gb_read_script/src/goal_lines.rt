@@ -8,6 +8,7 @@ ghost use Rattle.gb_read_script.specs.Line.{line_texts};
 ghost use Rattle.gb_read_script.specs.GoalLines.{part_of, IsAttempt, IsNoEntry, IsLine, IsAt, IsSyntax, IsConclusion, is_dash, dashes, IsRuler, IsContext, IsGoal, IsLineFault, IsEndingFault, IsSyntaxPlace, IsRefusedFor};
 
 use crate::line::line_texts;
+use gb_core::Stack;
 use gb_core::place::Place;
 use gb_core::refusal::{Refused, Why};
 use gb_grammar::error::ReadError;
@@ -18,7 +19,6 @@ use gb_limits::lexeme::kinds;
 use gb_script::action::Rule;
 use gb_script::terminal::Terminal;
 use gb_script::text::{Lexeme, Text, place_at};
-use gb_shared::Stack;
 use sqlite_items::Items;
 use std::alloc::Global;
 

@@ -3,9 +3,9 @@
 ghost use Rattle.std.specs.Prelude.{◌≡◌, [], IfOk, OnOk};
 ghost use Rattle.gb_read_script.specs.Line.{before, lines_before, text_of, line_texts};
 
+use gb_core::Stack;
 use gb_core::place::Place;
 use gb_script::text::{Lexeme, Lexemes, Text};
-use gb_shared::Stack;
 use sqlite_items::Items;
 use std::alloc::{AllocError, Global};
 

@@ -11,7 +11,7 @@ use Rattle.gb_script.specs.declared.head.Head.TheVariants as head
 use Rattle.gb_script.specs.declared.tree.Node.{Node}
 use Rattle.gb_script.specs.declared.value.Value.TheVariants.{Tree}
 use Rattle.gb_script.specs.Tree.{node}
-use Rattle.gb_print_names.specs.declared.place.Known.{Known}
+use Rattle.gb_shapes.specs.declared.place.Known.{Known}
 use Rattle.gb_print_names.specs.Text.{Text, Writing, word, number}
 use Rattle.gb_print_names.specs.Types as print
 use Rattle.gb_print_text.specs.Layout as print_layout

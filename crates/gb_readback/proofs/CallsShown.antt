@@ -6,7 +6,7 @@ use Rattle.gb_terms.specs.declared.module.ProcRef.{ProcRef}
 use Rattle.gb_script.specs.declared.head.Head.TheVariants as head
 use Rattle.gb_script.specs.declared.tree.Node.{Node}
 use Rattle.gb_script.specs.declared.value.Value.TheVariants.{Tree}
-use Rattle.gb_print_names.specs.declared.place.Known.{Known}
+use Rattle.gb_shapes.specs.declared.place.Known.{Known}
 use Rattle.gb_print_names.specs.Text.{Text}
 use Rattle.gb_print_names.specs.Names.{module_name}
 use Rattle.gb_print_names.specs.Modules as print

@@ -9,10 +9,10 @@ use Rattle.gb_script.specs.declared.text.Lexeme.{Lexeme}
 use Rattle.gb_script.specs.declared.head.Head.TheVariants as head
 use Rattle.gb_script.specs.declared.tree.Node.{Node}
 use Rattle.gb_script.specs.declared.value.Value.TheVariants.{Tree}
-use Rattle.gb_print_names.specs.declared.place.Known.{Known}
+use Rattle.gb_shapes.specs.declared.place.Known.{Known}
 use Rattle.gb_print_names.specs.Text.{Text, Writing, ◌▸◌, each}
 use Rattle.gb_print_names.specs.Types as print
-use Rattle.gb_print_names.specs.Names.{Name, Place}
+use Rattle.gb_shapes.specs.Names.{Name, Place}
 use Rattle.gb_print_text.specs.Goals as print_goals
 use Rattle.gb_terms.specs.declared.decl.TypedName.{TypedName}
 use Rattle.gb_terms.specs.declared.module.Bind.{Bind}

@@ -21,7 +21,7 @@ use Rattle.gb_script.specs.Build.{IsTree}
 use Rattle.gb_script.proofs.Stacks.{append_nil}
 use Rattle.gb_terms.specs.declared.term.Term.{Term}
 use Rattle.gb_print_names.specs.Text.{Text, Writing}
-use Rattle.gb_print_names.specs.Names.{Place}
+use Rattle.gb_shapes.specs.Names.{Place}
 use Rattle.gb_print_text.specs.Forms.{form_text}
 use Rattle.gb_readback.specs.Nodes.{placeless}
 use Rattle.gb_readback.specs.Forms.{form_tree}

@@ -36,7 +36,7 @@ use Rattle.gb_lex.specs.PlaceAfter.{place_after}
 use Rattle.gb_goal.specs.declared.sequent.Sequent.{Sequent}
 use Rattle.gb_script.proofs.Stacks.{append_nil}
 use Rattle.gb_print_names.specs.Text.{Writing}
-use Rattle.gb_print_names.specs.Names.{Place}
+use Rattle.gb_shapes.specs.Names.{Place}
 use Rattle.gb_print_text.specs.Goals as print_goals
 use Rattle.gb_readback.specs.Nodes.{placeless}
 use Rattle.gb_readback.specs.Goals.{Entry, binder, hypothesis, IsEntryTree, IsTreeOf, IsWrittenGoal}

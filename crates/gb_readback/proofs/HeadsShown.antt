@@ -15,7 +15,7 @@ use Rattle.gb_script.specs.declared.head.Head.TheVariants as head
 use Rattle.gb_script.specs.declared.tree.Node.{Node}
 use Rattle.gb_script.specs.Tree.{node}
 use Rattle.gb_print_names.specs.Text.{Text, Writing, ◌▸◌, word}
-use Rattle.gb_print_names.specs.Names.{Place, bound_name}
+use Rattle.gb_shapes.specs.Names.{Place, bound_name}
 use Rattle.gb_shapes.specs.declared.shape.Shape.{Shape}
 use Rattle.gb_shapes.specs.declared.shape.Shape.TheVariants.{Atom, Postfix, Bounded, Application, Sum, Operation}
 use Rattle.gb_shapes.specs.Open.{operator_tells}

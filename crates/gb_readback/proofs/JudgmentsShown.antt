@@ -19,7 +19,8 @@ use Rattle.gb_script.specs.declared.tree.Node.{Node}
 use Rattle.gb_script.specs.Tree.{node}
 use Rattle.gb_print_names.specs.Text.{Text, Writing, ◌▸◌, word}
 use Rattle.gb_print_names.specs.Names as names
-use Rattle.gb_print_names.specs.Names.{Place, module_name, shown_name}
+use Rattle.gb_shapes.specs.Names.{Name, Place}
+use Rattle.gb_print_names.specs.Names.{module_name, shown_name}
 use Rattle.gb_print_names.specs.Modules as print
 use Rattle.gb_print_text.specs.Layout as print_layout
 use Rattle.gb_print_text.specs.Forms as text
@@ -131,7 +132,7 @@ pub record NamedMemory (at : Place) (s : Side) : Type 0 where
   pub written : (before : Text) → names.memory at s before ≡ word name before
   pub node_is : heads.memory at s ≡ nodes.word name
 
-memory_by : (o : Option names.Name) → is_name_there o ≡ true → (n : Text) × (is_name_text n ≡ true) × ((before : Text) → names.perhaps o before ≡ word n before) × (heads.perhaps o ≡ nodes.word n)
+memory_by : (o : Option Name) → is_name_there o ≡ true → (n : Text) × (is_name_text n ≡ true) × ((before : Text) → names.perhaps o before ≡ word n before) × (heads.perhaps o ≡ nodes.word n)
 memory_by (Some x) h = (x, h, (λ before. refl), path_of_name x h)
 memory_by None h = absurd cc
 

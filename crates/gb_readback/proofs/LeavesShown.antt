@@ -26,8 +26,9 @@ use Rattle.gb_terms.specs.declared.op.Read.{Read}
 use Rattle.gb_terms.specs.declared.op.Read.TheVariants.{Logical, Program}
 use Rattle.gb_terms.specs.declared.op.Side.{Side}
 use Rattle.gb_terms.specs.declared.op.Side.TheVariants as side
-use Rattle.gb_print_names.specs.declared.place.Enumeration.{Enumeration}
-use Rattle.gb_print_names.specs.declared.place.Known.{Known}
+use Rattle.gb_shapes.specs.declared.place.Enumeration.{Enumeration}
+use Rattle.gb_shapes.specs.declared.place.Known.{Known}
+use Rattle.gb_shapes.specs.Names.{Name, Place}
 use Rattle.gb_print_names.specs.Text.{Text, Writing, ◌▸◌, word, number}
 use Rattle.gb_print_names.specs.Names as print
 use Rattle.gb_print_text.specs.Layout as print_layout
@@ -109,7 +110,7 @@ module _ {stage : ℕ} where
     operand = path_operand x h;
   }
 
-  pub perhaps_shown : (o : Option print.Name) → is_path_there o ≡ true → ShowsOperand stage (print.perhaps o) (tree.perhaps o)
+  pub perhaps_shown : (o : Option Name) → is_path_there o ≡ true → ShowsOperand stage (print.perhaps o) (tree.perhaps o)
   perhaps_shown (Some x) h = path_shown x h
   perhaps_shown None h = absurd cc
 
@@ -227,19 +228,19 @@ module _ {stage : ℕ} where
       (λ mid. let n = two_next mid in row p.side_two (p.is_side_two stage) refl refl (ap (λ t. Tree (node head.Number t [] nowhere) ∷ []) (named n)) (tok n end) end)
       (λ mid. let n = two_next mid in row p.side_number_two (p.is_side_number_two stage) refl refl (ap (λ t. Tree (node head.Number t [] nowhere) ∷ []) (named n)) (tok n end) end)
 
-  there_by : {w : Writing} {x : Node} (o : Option print.Name) → is_name_there o ≡ true → ShowsOperand stage w x → ShowsOperand stage (w ▸ (word (codes "{") ▸ print.perhaps o ▸ word (codes "}"))) (nodes.tree head.Sided (x ∷ tree.perhaps o ∷ []))
+  there_by : {w : Writing} {x : Node} (o : Option Name) → is_name_there o ≡ true → ShowsOperand stage w x → ShowsOperand stage (w ▸ (word (codes "{") ▸ print.perhaps o ▸ word (codes "}"))) (nodes.tree head.Sided (x ∷ tree.perhaps o ∷ []))
   there_by {w = w} {x = x} (Some y) h s =
       subst (λ t. ShowsOperand stage (w ▸ (word (codes "{") ▸ word y ▸ word (codes "}"))) (nodes.tree head.Sided (x ∷ t ∷ []))) (sym (path_of_name y h)) (beside_name y (nodes.word y) (named_side y h) s)
   there_by None h s = absurd cc
 
-  pub beside_shown : {w : Writing} {x : Node} (at : print.Place) (s : Side) → is_side_here at s ≡ true → ShowsOperand stage w x → ShowsOperand stage (w ▸ print.beside at s) (tree.beside at s x)
+  pub beside_shown : {w : Writing} {x : Node} (at : Place) (s : Side) → is_side_here at s ≡ true → ShowsOperand stage w x → ShowsOperand stage (w ▸ print.beside at s) (tree.beside at s x)
   beside_shown at side.Own h o = o
   beside_shown at side.Left h o = beside_name (codes "1") (nodes.leaf head.Number (codes "1")) one_side o
   beside_shown at side.Right h o = beside_name (codes "2") (nodes.leaf head.Number (codes "2")) two_side o
   beside_shown at (side.Memory i) h o = there_by (slice_get at.memories i) h o
   beside_shown at (side.Bound i) h o = there_by (print.shown_name (slice_get at.bound i)) h o
 
-  pub read_shown : (at : print.Place) (r : Read) → is_read_here at r ≡ true → ShowsOperand stage (print.read at r) (tree.read at r)
+  pub read_shown : (at : Place) (r : Read) → is_read_here at r ≡ true → ShowsOperand stage (print.read at r) (tree.read at r)
   read_shown at (Logical i) h = perhaps_shown (print.typed_name (slice_get at.logical i)) h
   read_shown at (Program x s) h =
       let parts = both (is_variable_here at.bound x) (is_side_here at s) h in

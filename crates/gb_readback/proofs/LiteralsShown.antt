@@ -17,7 +17,8 @@ use Rattle.gb_script.specs.declared.head.Head.TheVariants as head
 use Rattle.gb_script.specs.declared.tree.Node.{Node}
 use Rattle.gb_script.specs.declared.value.Value.TheVariants.{Tree, Trees}
 use Rattle.gb_script.proofs.Stacks.{append_nil}
-use Rattle.gb_print_names.specs.declared.place.Enumeration.{Enumeration}
+use Rattle.gb_shapes.specs.declared.place.Enumeration.{Enumeration}
+use Rattle.gb_shapes.specs.Names.{Name}
 use Rattle.gb_print_names.specs.Text.{Text, Writing, ◌▸◌, each, word, number, separated}
 use Rattle.gb_print_names.specs.Names as print
 use Rattle.gb_print_text.specs.Layout as print_layout
@@ -135,7 +136,7 @@ unfolding spells is_word_of
 truth_worded true = record { name = codes "false"; is_name = refl; written = refl; node_is = refl }
 truth_worded false = record { name = codes "true"; is_name = refl; written = refl; node_is = refl }
 
-constant_worded : (o : Option print.Name) → is_name_there o ≡ true → Worded (print.perhaps o) (tree.perhaps o)
+constant_worded : (o : Option Name) → is_name_there o ≡ true → Worded (print.perhaps o) (tree.perhaps o)
 constant_worded (Some x) h = record { name = x; is_name = h; written = refl; node_is = path_of_name x h }
 constant_worded None h = absurd cc
 

@@ -14,9 +14,10 @@ use Rattle.gb_terms.specs.declared.module.Bound.{Bound}
 use Rattle.gb_script.specs.declared.head.Head.TheVariants as head
 use Rattle.gb_script.specs.declared.tree.Node.{Node}
 use Rattle.gb_script.specs.declared.value.Value.TheVariants.{Tree}
-use Rattle.gb_print_names.specs.declared.place.Known.{Known}
+use Rattle.gb_shapes.specs.declared.place.Known.{Known}
 use Rattle.gb_print_names.specs.Text.{Text, Writing, ◌▸◌, each, word, separated}
-use Rattle.gb_print_names.specs.Names.{Name, module_name}
+use Rattle.gb_shapes.specs.Names.{Name}
+use Rattle.gb_print_names.specs.Names.{module_name}
 use Rattle.gb_print_names.specs.Modules as print
 use Rattle.gb_readback.specs.Nodes as nodes
 use Rattle.gb_readback.specs.Types as type_tree

@@ -20,7 +20,7 @@ use Rattle.gb_script.specs.declared.terminal.Terminal.TheVariants as terminal
 use Rattle.gb_terms.specs.declared.term.Head.{Head}
 use Rattle.gb_terms.specs.declared.term.Head.TheVariants as term
 use Rattle.gb_print_names.specs.Text.{Text}
-use Rattle.gb_print_names.specs.Names.{Name, Place, is_taken, primed, numbered, bound_name}
+use Rattle.gb_shapes.specs.Names.{Name, Place, is_taken, primed, numbered, bound_name}
 use Rattle.gb_print_text.specs.Layout.{letter}
 use Rattle.gb_readback.specs.Written.{is_name_text}
 use Rattle.gb_readback.proofs.Tokens.{both}

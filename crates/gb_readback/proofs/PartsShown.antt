@@ -6,7 +6,7 @@ use Rattle.gb_terms.specs.declared.term.Head.{Head}
 use Rattle.gb_terms.specs.declared.term.Head.TheVariants as term
 use Rattle.gb_script.specs.declared.tree.Node.{Node}
 use Rattle.gb_print_names.specs.Text.{Writing}
-use Rattle.gb_print_names.specs.Names.{Place}
+use Rattle.gb_shapes.specs.Names.{Place}
 use Rattle.gb_print_names.specs.Types as print
 use Rattle.gb_shapes.specs.declared.shape.Shape.TheVariants.{Application, Sum}
 use Rattle.gb_shapes.specs.Open.{type_of, is_open, is_int, needs_type}

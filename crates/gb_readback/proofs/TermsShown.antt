@@ -14,7 +14,8 @@ use Rattle.gb_terms.specs.declared.term.Head.TheVariants as term
 use Rattle.gb_script.specs.declared.tree.Node.{Node}
 use Rattle.gb_script.specs.declared.head.Head.TheVariants as head
 use Rattle.gb_print_names.specs.Text.{Text, Writing, word, number}
-use Rattle.gb_print_names.specs.Names.{Place, bound_name, shown_name}
+use Rattle.gb_shapes.specs.Names.{Place, bound_name}
+use Rattle.gb_print_names.specs.Names.{shown_name}
 use Rattle.gb_print_names.specs.Types as print
 use Rattle.gb_print_names.specs.Occurring.{inside}
 use Rattle.gb_shapes.specs.Open.{right_first, type_read}

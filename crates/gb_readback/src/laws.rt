@@ -3,8 +3,8 @@
 ghost use Rattle.std.specs.Prelude.{◌≡◌, true, false, List, [], ◌∷◌};
 ghost use Rattle.gb_goal.specs.Scope.{Declarations};
 ghost use Rattle.gb_terms.specs.declared.decl.TypedName.{TypedName};
-ghost use Rattle.gb_print_names.specs.declared.place.Enumeration.{Enumeration};
-ghost use Rattle.gb_print_names.specs.Names.{Name, Place};
+ghost use Rattle.gb_shapes.specs.declared.place.Enumeration.{Enumeration};
+ghost use Rattle.gb_shapes.specs.Names.{Name, Place};
 ghost use Rattle.gb_goal.specs.declared.sequent.Sequent.{Sequent};
 ghost use Rattle.gb_print_text.specs.Goals.{place_of_form, place_of_goal, printed_form, printed_goal};
 ghost use Rattle.gb_readback.specs.Goals.{IsWrittenGoal, IsGoalReadAs};

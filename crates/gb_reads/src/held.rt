@@ -5,10 +5,10 @@ ghost use Rattle.std.specs.Option.{option_copied};
 ghost use Rattle.gb_reads.specs.Held.{is_of, value_of, with_values};
 
 use crate::reads::{TypedVar, is_read_at};
+use gb_core::Shared;
 use gb_core::ty::Ty;
 use gb_core::value::Value;
 use gb_core::var::Var;
-use gb_shared::Shared;
 use sqlite_items::Items;
 use std::alloc::{AllocError, Global};
 

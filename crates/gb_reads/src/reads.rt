@@ -6,12 +6,12 @@ ghost use Rattle.gb_terms.specs.Equal.{var_eq};
 ghost use Rattle.gb_walk.specs.Layers.{seen_by, where_last};
 ghost use Rattle.gb_reads.specs.Reads.{are_free, head_reads, inside, is_among, is_bound_at, is_glob, is_variable_among, joined, noted, reads_at, reads_of, with_new};
 
+use gb_core::Shared;
 use gb_core::copy::copy_var;
 use gb_core::same::same_var;
 use gb_core::ty::Ty;
 use gb_core::var::Var;
 use gb_same::types::same_types;
-use gb_shared::Shared;
 use gb_terms::op::{Read, Side};
 use gb_terms::term::{Head, Term};
 use gb_walk::binders::is_binder;

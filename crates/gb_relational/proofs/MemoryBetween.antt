@@ -45,7 +45,8 @@ use Rattle.gb_typing.proofs.Sound.{procedures_sound, sound_form}
 use Rattle.gb_typing.proofs.Unread.{unread_typed}
 use Rattle.gb_typing.proofs.Uses.{reads_in, uses_of, uses_typed}
 use Rattle.gb_amb.proofs.Idle.{unchanged}
-use Rattle.gb_relational.specs.Transitivity.{from_left, to_right, reads_between, some_between, every_between}
+use Rattle.gb_premises.specs.Between.{from_left, to_right, reads_between, some_between}
+use Rattle.gb_relational.specs.Transitivity.{every_between}
 
 either_false : (a b : Bool) → (a || b) ≡ false → (a ≡ false) × (b ≡ false)
 either_false true b e = absurd (false≢true (sym e))

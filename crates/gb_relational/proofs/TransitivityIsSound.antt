@@ -26,7 +26,8 @@ use Rattle.gb_typing.proofs.Forms.{implies_typed, implies_use}
 use Rattle.gb_typing.proofs.Given.{AreSound, refused_given, sound_given}
 use Rattle.gb_typing.proofs.Sound.{procedures_sound}
 use Rattle.gb_steps.specs.declared.step.Between.{Between}
-use Rattle.gb_relational.specs.Transitivity.{some_between, every_between, through, transitivity_row, IsBetween, IsTypedBetween}
+use Rattle.gb_premises.specs.Between.{some_between}
+use Rattle.gb_relational.specs.Transitivity.{every_between, through, transitivity_row, IsBetween, IsTypedBetween}
 use Rattle.gb_relational.proofs.MemoryBetween.{some_typed, every_typed, some_use, every_use}
 
 -- a procedure that is there has parameters and a result

@@ -1,15 +1,12 @@
 -- `transitivity p (P1 ==> Q1) (P2 ==> Q2)`: two procedures by way of a third one.
-use Rattle.std.specs.Prelude.{Bool, ◌||◌, if◌then◌else◌, List, [], ◌∷◌}
+use Rattle.std.specs.Prelude.{if◌then◌else◌, List, [], ◌∷◌}
 use Rattle.gb_core.specs.declared.refusal.Why.TheVariants.{Shape}
 use Rattle.gb_core.specs.declared.ty.Ty.TheVariants.{Bool as bool_ty}
 use Rattle.gb_terms.specs.declared.decl.TypedName.{TypedName}
 use Rattle.gb_terms.specs.declared.module.ProcRef.{ProcRef}
-use Rattle.gb_terms.specs.declared.op.Side.TheVariants.{Left, Right}
 use Rattle.gb_terms.specs.declared.term.Term.{Term}
-use Rattle.gb_terms.specs.declared.term.Head.TheVariants.{AllMemory, SomeMemory}
+use Rattle.gb_terms.specs.declared.term.Head.TheVariants.{AllMemory}
 use Rattle.gb_terms.specs.Make.{node}
-use Rattle.gb_walk.specs.Change.{term_changed}
-use Rattle.gb_walk.specs.Sides.{reads_side}
 use Rattle.gb_goal.specs.Answers.Answer.{given}
 use Rattle.gb_goal.specs.Goal.{Code, Goal}
 use Rattle.gb_goal.specs.Goal.Code.{procedure}
@@ -18,23 +15,9 @@ use Rattle.gb_goal.specs.Rows.{Row, refusing}
 use Rattle.gb_typing.specs.Context.{Context, with_sides}
 use Rattle.gb_typing.specs.Context as context
 use Rattle.gb_typing.specs.Typing.{IsThere, IsForm, before, after}
-use Rattle.gb_typing.specs.Forms.{and_form, implies_form, to_bound, every_pair}
+use Rattle.gb_premises.specs.Between.{from_left, reads_between, some_between, to_right}
+use Rattle.gb_typing.specs.Forms.{implies_form, every_pair}
 use Rattle.gb_steps.specs.declared.step.Between.{Between}
-
--- a relation of both sides as one of the left memory and the nearest bound one, and as one of that memory and the right one
-abbrev pub from_left : Term → Term
-from_left f = term_changed f (to_bound Right)
-
-abbrev pub to_right : Term → Term
-to_right f = term_changed f (to_bound Left)
-
--- whether the memory between two relations is read
-abbrev pub reads_between : Term → Term → Bool
-reads_between f h = reads_side f Right || reads_side h Left
-
--- `exists &3, P1(1, 3) /\ P2(3, 2)`; the quantifier is left out where that memory isn't read
-abbrev pub some_between : Term → Term → Term
-some_between f h = if reads_between f h then node SomeMemory (and_form (from_left f) (to_right h) ∷ []) bool_ty else and_form f h
 
 -- `forall &3, Q1(1, 3) => Q2(3, 2) => Q`, likewise
 abbrev pub every_between : Term → Term → Term → Term

@@ -7,7 +7,8 @@ ghost use Rattle.gb_goal.specs.Goal.Code.{procedure};
 ghost use Rattle.gb_goal.specs.Goal.Goal.{equiv};
 ghost use Rattle.gb_goal.specs.Rows.{answered, concluding, stepped};
 ghost use Rattle.gb_typing.specs.Forms.{every_pair, implies_form};
-ghost use Rattle.gb_relational.specs.Transitivity.{every_between, from_left, reads_between, some_between, through, to_right, transitivity_row};
+ghost use Rattle.gb_premises.specs.Between.{some_between};
+ghost use Rattle.gb_relational.specs.Transitivity.{every_between, through, transitivity_row};
 
 use gb_core::place::Place;
 use gb_core::refusal::Refused;
@@ -15,49 +16,11 @@ use gb_goal::sequent::{Sequent, Sequents};
 use gb_parts::forms::{every_pair, implied};
 use gb_parts::judged::{Judged, equiv_of, judgment};
 use gb_parts::subgoals::{no_shape, placed, two_goals};
+use gb_premises::between::{from_left, reads_between, some_between, to_right};
 use gb_steps::step::Between;
-use gb_terms::make::{conjunction, implication, over, truth_ty};
-use gb_terms::op::Side;
+use gb_terms::make::{implication, over, truth_ty};
 use gb_terms::term::{Form, Head, Subject};
-use gb_walk::change::Change;
-use gb_walk::sides::reads_side;
-use gb_walk::walk::changed;
 use std::alloc::{AllocError, Global};
-
-/// A relation of both sides, of the left memory and the nearest bound one.
-fn from_left(alloc: Global, form: &Form) -> Result<Form, AllocError>
-    ensures { IfOk result (λ made. made ≡ from_left form.now) }
-{
-    changed(alloc, form, &[Change::ToSide(Side::Right, Side::Bound(0))])
-}
-
-/// A relation of both sides, of the nearest bound memory and the right one.
-fn to_right(alloc: Global, form: &Form) -> Result<Form, AllocError>
-    ensures { IfOk result (λ made. made ≡ to_right form.now) }
-{
-    changed(alloc, form, &[Change::ToSide(Side::Left, Side::Bound(0))])
-}
-
-/// Whether the memory between two relations is read.
-fn reads_between(left: &Form, right: &Form) -> bool
-    ensures { result ≡ reads_between left.now right.now }
-{
-    reads_side(left, &Side::Right) || reads_side(right, &Side::Left)
-}
-
-/// There is a memory between for which both relations hold.
-fn some_between(alloc: Global, left: &Form, right: &Form) -> Result<Form, AllocError>
-    ensures { IfOk result (λ made. made ≡ some_between left.now right.now) }
-{
-    if !reads_between(left, right) {
-        let left = left.share()?;
-        return conjunction(alloc, left, right.share()?);
-    }
-    let first = from_left(alloc, left)?;
-    let both = conjunction(alloc, first, to_right(alloc, right)?)?;
-    let ty = truth_ty(alloc)?;
-    over(alloc, Head::SomeMemory, both, ty)
-}
 
 /// Whatever the memory between is for which both relations hold, the form holds.
 fn every_between(alloc: Global, left: &Form, right: &Form, form: &Form) -> Result<Form, AllocError>

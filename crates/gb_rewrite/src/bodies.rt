@@ -9,7 +9,7 @@ use crate::unfolded::{all_unfolded, unfolded};
 use gb_core::copy::copy_var;
 use gb_core::name::Name;
 use gb_core::var::Var;
-use gb_shared::{Shared, SharedItems};
+use gb_core::{Shared, SharedItems};
 use gb_terms::module::ProcRef;
 use gb_terms::term::{Cmd, Head, Instr, Instrs, Subject, Term};
 use sqlite_items::Items;

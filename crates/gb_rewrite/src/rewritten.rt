@@ -6,7 +6,7 @@ ghost use Rattle.gb_terms.specs.declared.term.Term.{out-Term};
 ghost use Rattle.gb_terms.specs.Make.{node};
 ghost use Rattle.gb_rewrite.specs.Rewritten.{first_rewritten, is_quotient, is_same, rewritten, stands, stands_first};
 
-use gb_shared::SharedItems;
+use gb_core::SharedItems;
 use gb_terms::op::Op;
 use gb_terms::same::same;
 use gb_terms::term::{Head, Term, Terms};

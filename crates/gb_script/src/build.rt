@@ -11,9 +11,9 @@ use crate::head::Head;
 use crate::text::{Text, name_at, place_at, place_before};
 use crate::tree::{Node, attached};
 use crate::value::{Value, part_of};
+use gb_core::Stack;
 use gb_core::place::Place;
 use gb_grammar::table::Step;
-use gb_shared::Stack;
 use sqlite_items::Items;
 use std::alloc::{AllocError, Global};
 

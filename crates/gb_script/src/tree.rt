@@ -5,9 +5,9 @@ ghost use Rattle.gb_script.specs.declared.tree.Node.{out-Node};
 ghost use Rattle.gb_script.specs.Tree.{node, fields_of, parts_of, behind, attach, attached};
 
 use crate::head::{Head, goes_under, joins};
+use gb_core::Stack;
 use gb_core::name::Name;
 use gb_core::place::Place;
-use gb_shared::Stack;
 use sqlite_items::Items;
 use std::alloc::{AllocError, Global};
 

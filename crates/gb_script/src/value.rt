@@ -5,8 +5,8 @@ ghost use Rattle.gb_script.specs.Value.{part_of};
 
 use crate::head::Head;
 use crate::tree::Node;
+use gb_core::Stack;
 use gb_core::place::Place;
-use gb_shared::Stack;
 use std::alloc::Global;
 
 /// The value of a part: a tree, or several.

@@ -1,55 +1,86 @@
-//! The program `gb_scripts`: it checks scripts, and prints what they come to.
+//! The program `gb_scripts`: it reads texts and checks scripts, and it stands where the limits of the prover are.
 //!
-//! Its word is the name of a file. Each line of it is a script, whose lines end at `\n`. For each a line is printed, which begins
-//! with the number of the lemmas that it proves, or with the code of its first refusal, its line and its column; behind that
-//! stands the script.
+//! Its words come in pairs. With the name of a file `command` and `form` read each line of the file, `repeated` reads each line as
+//! a form in which pieces repeat, `goal` reads each line as a goal whose lines end at `\n`, and `script` checks each line as a
+//! script whose lines end so. For each line one is printed, which begins with `ok`, for a script with the number of the lemmas that
+//! it proves, or else with the code of the first refusal, its line and its column; behind that stands the line.
+//!
+//! `printed` makes a goal of each line of a file, from its leaves upwards: each word stands over what the words before it made. Printed
+//! are the text of the goal, or of its conclusion alone where the line begins with `form `, and what reading this text answers. A line
+//! that begins with `- ` is a title, and printed as it stands. `closed` makes goals so, and asks `smt` to close them: printed is `ok`,
+//! or the code of the refusal, with the width of a claim that is too wide.
+//!
+//! With a number `levels` makes the form with this many negations over one variable twice, compares the two and lets them go: a
+//! form has 65,536 nodes at most, so 65,535 levels are the deepest. `changed` puts `true` in the place of the variable of such a
+//! form. With two numbers `opened` opens so many goals of two programs that flip coins, and makes so many steps at the first one.
 #![tactic(auto)]
 
-use gb_core::refusal::code;
-use gb_session::script::verdict_on;
-use gb_theory::verdict::{Verdict, too_long};
-use std::alloc::{AllocError, Global};
-use std::{env, fs, io};
+mod answer;
+mod claims;
+mod coins;
+mod context;
+mod deep;
+mod heads;
+mod lines;
+mod maker;
+mod names;
+mod operators;
+mod printed;
+mod programs;
+mod repeated;
+mod types;
 
-/// The name of each script.
-const NAME: &str = "script";
+use crate::claims::close_lines;
+use crate::lines::{answer_lines, kind_of};
+use crate::printed::print_lines;
+use gb_outside::{OsFiles, ReadRefused, read_whole};
+use std::alloc::AllocError;
+use std::{env, io};
 
-/// A text of this many bytes is too long to be read.
-const LIMIT: usize = 1_048_577;
-
-fn verdict_of(alloc: Global, text: &[u8]) -> Result<Verdict, AllocError> {
-    if text.len() < LIMIT {
-        verdict_on(alloc, NAME, text)
-    } else {
-        Ok(too_long())
-    }
+fn number(word: &str) -> u32 {
+    word.parse::<u32>().unwrap_or(0)
 }
 
-/// What a script comes to, as text.
-fn answer(alloc: Global, text: &[u8]) -> Result<String, AllocError> {
-    match verdict_of(alloc, text)? {
-        Verdict::Accepted(lemmas) => format!(in alloc; "{}", lemmas.len()),
-        Verdict::Refused { why, place } => {
-            let code = code(&why);
-            format!(in alloc; "E{code:02} {} {}", place.line, place.col)
+/// Reads a file as the program `gb` reads its own, and answers to each line, or tells why it isn't read.
+fn answer_file(rt: &HostRuntime, what: &str, name: &str) -> io::Result<()> {
+    match read_whole(rt.alloc(), &mut OsFiles::new(*rt), name) {
+        Ok(bytes) => {
+            let text = String::from_utf8_lossy(rt.alloc(), bytes.as_slice())?;
+            match what {
+                "printed" => print_lines(rt, text.as_str()),
+                "closed" => close_lines(rt, text.as_str()),
+                _ => answer_lines(rt, kind_of(what), text.as_str()),
+            }
         }
+        Err(ReadRefused::NoMemory) => Err(io::Error::from(AllocError)),
+        Err(ReadRefused::Missing) => println!(rt; "{name}: there is no such file"),
+        Err(ReadRefused::ReadFault) => println!(rt; "{name}: it can't be read"),
+        Err(ReadRefused::Length) => println!(rt; "{name}: it is too long"),
     }
 }
 
-/// Prints what each script of a file comes to.
-fn check_file(rt: &HostRuntime, file: &str) -> io::Result<()> {
-    let scripts = fs::read_to_string(rt, file)?;
-    for line in scripts.lines() {
-        let script = line.replace(rt.alloc(), "\\n", "\n")?;
-        let answer = answer(rt.alloc(), script.as_bytes())?;
-        println!(rt; "{answer} {line}")?;
+/// Does what a pair of words asks for.
+fn answer_pair(rt: &HostRuntime, what: &str, of: &str) -> io::Result<()> {
+    match what {
+        "levels" => deep::compared(rt, number(of)),
+        "changed" => deep::changed_form(rt, number(of)),
+        "opened" => {
+            let (goals, steps) = of.split_once(',').unwrap_or((of, "0"));
+            coins::steps(rt, number(goals), number(steps))
+        }
+        _ => answer_file(rt, what, of),
     }
-    Ok(())
 }
 
 fn main(rt: HostRuntime) -> io::Result<()> {
+    let mut words = Vec::new(rt.alloc());
     for word in env::args(&rt)?.skip(1) {
-        check_file(&rt, word.as_str())?;
+        words.push(word)?;
+    }
+    for pair in words.as_slice().chunks(2) {
+        if let [what, of] = pair {
+            answer_pair(&rt, what.as_str(), of.as_str())?;
+        }
     }
     Ok(())
 }

@@ -1,7 +1,7 @@
 -- What is kept of each command, and what stood before it.
 use Rattle.std.specs.Prelude.{◌≡◌, true, List, [], ◌∷◌, take, option_map}
 use Rattle.gb_goal.specs.Scope.{Declarations}
-use Rattle.gb_print_names.specs.declared.place.Enumeration.{Enumeration}
+use Rattle.gb_shapes.specs.declared.place.Enumeration.{Enumeration}
 use Rattle.gb_theory.specs.declared.state.State.{State}
 use Rattle.gb_theory.specs.Opened.{is_undeclared}
 use Rattle.gb_theory.specs.Sessions.{session_of, open_of}

@@ -1,1 +1,2 @@
 pub mod OpenSteps
+pub mod Primes

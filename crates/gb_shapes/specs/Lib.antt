@@ -1,2 +1,3 @@
 pub mod Open
 pub mod Shapes
+pub mod Names

@@ -5,34 +5,36 @@ use Rattle.gb_terms.specs.declared.op.Op.TheVariants as op
 use Rattle.gb_terms.specs.declared.term.Term.{Term}
 use Rattle.gb_terms.specs.declared.term.Head.{Head}
 use Rattle.gb_terms.specs.declared.term.Head.TheVariants as head
-use Rattle.gb_print_names.specs.Text.{Text}
 use Rattle.gb_shapes.specs.declared.shape.Shape.{Shape}
 use Rattle.gb_shapes.specs.declared.shape.Shape.TheVariants.{Atom, Postfix, Bounded, Application, Sum, Operation}
+
+abbrev pub Piece : Type 0
+Piece = List ℕ
 
 -- how an operator is written: its shape, and what stands in front of its operands, between the first two, in front of further ones, and
 -- behind the last one
 pub record Spelling : Type 0 where
   pub shape : Shape
-  pub opening : Text
-  pub second : Text
-  pub further : Text
-  pub closing : Text
+  pub opening : Piece
+  pub second : Piece
+  pub further : Piece
+  pub closing : Piece
 
 -- a word that stands by itself
-abbrev pub alone : Text → Spelling
+abbrev pub alone : Piece → Spelling
 alone w = record { shape = Atom; opening = w; second = []; further = []; closing = [] }
 
-abbrev pub in_front : Text → Spelling
+abbrev pub in_front : Piece → Spelling
 in_front w = record { shape = Operation; opening = w; second = []; further = []; closing = [] }
 
-abbrev pub in_between : Text → Spelling
+abbrev pub in_between : Piece → Spelling
 in_between w = record { shape = Operation; opening = []; second = w; further = []; closing = [] }
 
-abbrev pub behind : Text → Spelling
+abbrev pub behind : Piece → Spelling
 behind w = record { shape = Postfix; opening = []; second = []; further = []; closing = w }
 
 -- a name in front of its arguments
-abbrev pub applied : Text → Spelling
+abbrev pub applied : Piece → Spelling
 applied w = record { shape = Application; opening = w; second = codes " "; further = []; closing = [] }
 
 abbrev pub spelling : Op → Spelling

@@ -15,7 +15,7 @@ use Rattle.gb_typing.specs.Context.{Context}
 use Rattle.gb_typing.specs.Programs.{EachStatement}
 use Rattle.gb_typing.specs.Scopes.{context_of}
 use Rattle.gb_typing.specs.Sequents.{IsTypedSequent}
-use Rattle.gb_print_names.specs.declared.place.Enumeration.{Enumeration}
+use Rattle.gb_shapes.specs.declared.place.Enumeration.{Enumeration}
 use Rattle.gb_print_text.specs.Goals.{place_of_goal, printed_goal}
 use Rattle.gb_readback.specs.Goals.{IsGoalReadAs}
 use Rattle.gb_spelt_laws.specs.Named.{IsNamedInstr, IsNamedSequent}

@@ -32,7 +32,7 @@ use Rattle.gb_elab.specs.Forms.{elaborated}
 use Rattle.gb_elab_stmt.specs.Calls.{is_hidden, or_own, module_called, called, enough, takes, arguments, call_of, call}
 use Rattle.gb_elab_stmt.specs.Targets.{variables_of}
 use Rattle.gb_elab_laws.proofs.Given.{given_bind, given_is, if_refused, some_given}
-use Rattle.gb_print_names.specs.declared.place.Enumeration.{Enumeration}
+use Rattle.gb_shapes.specs.declared.place.Enumeration.{Enumeration}
 use Rattle.gb_readback.specs.Written.{is_name_text, is_path, is_target_here, IsWrittenProcedure}
 use Rattle.gb_readback.specs.Written.IsWrittenModule.{name}
 use Rattle.gb_spelt_laws.specs.Named.{AreNamed, IsNamedInstr, IsNamedVariable, IsNamedType}

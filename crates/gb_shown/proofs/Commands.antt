@@ -19,7 +19,7 @@ use Rattle.gb_elab_prog.specs.Entries.{entries_given}
 use Rattle.gb_elab_prog.specs.Modules.{module_given}
 use Rattle.gb_elab_mod.specs.Lemmas.{statement_given}
 use Rattle.gb_elab_laws.proofs.Given.{given_bind, given_is, if_given}
-use Rattle.gb_print_names.specs.declared.place.Enumeration.{Enumeration}
+use Rattle.gb_shapes.specs.declared.place.Enumeration.{Enumeration}
 use Rattle.gb_readback.specs.Written.{is_path}
 use Rattle.gb_spelt_laws.specs.Named.{IsNamedSequent}
 use Rattle.gb_spelt_laws.proofs.Sequents.{all_append}

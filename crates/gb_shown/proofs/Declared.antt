@@ -22,7 +22,7 @@ use Rattle.gb_elab_prog.specs.Fresh.{free}
 use Rattle.gb_elab_prog.specs.Operators.{operator_entry}
 use Rattle.gb_elab_prog.specs.Types.{only, new, constants as declared_constants, without, enumeration as declared_enumeration, enumeration_type, type_entries}
 use Rattle.gb_elab_laws.proofs.Given.{given_bind, given_is, if_refused}
-use Rattle.gb_print_names.specs.declared.place.Enumeration.{Enumeration}
+use Rattle.gb_shapes.specs.declared.place.Enumeration.{Enumeration}
 use Rattle.gb_print_names.specs.Names.{constants}
 use Rattle.gb_readback.specs.Written.{is_name_text, is_name_there, is_path, is_path_there, is_word_here, IsWrittenType}
 use Rattle.gb_readback.specs.Written as w

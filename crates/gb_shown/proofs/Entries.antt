@@ -22,7 +22,7 @@ use Rattle.gb_elab_prog.specs.Contexts.{nothing_around, nothing_bound, taken}
 use Rattle.gb_elab_prog.specs.Operators.{of_body, parameters, all_parameters, written, body, defined, undefined, operator_entry}
 use Rattle.gb_elab_prog.specs.Sizes.{small}
 use Rattle.gb_elab_laws.proofs.Given.{given_bind, given_is, if_refused}
-use Rattle.gb_print_names.specs.declared.place.Enumeration.{Enumeration}
+use Rattle.gb_shapes.specs.declared.place.Enumeration.{Enumeration}
 use Rattle.gb_spelt_laws.specs.Named.{IsNamed, IsNamedType}
 use Rattle.gb_spelt_laws.proofs.Forms.{as_result}
 use Rattle.gb_spelt_laws.proofs.Sequents.{all_append}

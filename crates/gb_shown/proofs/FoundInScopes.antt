@@ -11,7 +11,7 @@ use Rattle.gb_terms.specs.declared.module.ProcRef.{ProcRef}
 use Rattle.gb_goal.specs.Scope.{Declarations, entry_of, as_module, module_of, proc_of, proc_if_plain, proc_in, proc_at, procedure_of}
 use Rattle.gb_goal.specs.declared.scope.Entry.{Entry}
 use Rattle.gb_goal.specs.declared.scope.Entry.TheVariants as entry
-use Rattle.gb_print_names.specs.declared.place.Enumeration.{Enumeration}
+use Rattle.gb_shapes.specs.declared.place.Enumeration.{Enumeration}
 use Rattle.gb_readback.specs.Written.{is_name_text, is_path}
 use Rattle.gb_spelt_laws.specs.Named.{IsNamedVariable}
 use Rattle.gb_spelt_laws.specs.Rules.{IsNamedLocal, AreNamedProcedures, AreNamedGlobals, AreNamedOperators}

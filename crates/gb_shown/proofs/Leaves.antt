@@ -30,11 +30,11 @@ use Rattle.gb_names.specs.declared.setting.Variables.TheVariants.{Absent, Own, S
 use Rattle.gb_names.specs.Bindings.{binders_inside, innermost}
 use Rattle.gb_names.specs.Environment.{Name, Environment, may_read, on_side, own, own_of, sides_of}
 use Rattle.gb_names.specs.Locals.{locals_in}
-use Rattle.gb_names.specs.Names.{ModuleVariable, Target, beside, bound_thing, bound_variable, first_named, global_at, global_in, global_target, global_variable, has_memories, has_own, in_memory, logical_variable, may_name, memory_at, module_if, named, named_around, names_other, needs_side, no_variable, number_before, own_global, path, program_variable, read_global, side_of, sided, target, unbound, unsided, variable_on}
+use Rattle.gb_names.specs.Names.{ModuleVariable, Target, beside, bound_thing, bound_variable, first_named, global_at, global_in, global_of, global_target, global_variable, has_memories, has_own, hidden, in_memory, logical_variable, may_name, memory_at, module_if, named, named_around, names_other, needs_side, no_variable, number_before, own_global, path, program_variable, read_global, side_of, sided, target, unbound, unsided, variable_on}
 use Rattle.gb_names.specs.Wanted.{counted}
 use Rattle.gb_elab.specs.Forms.{read}
 use Rattle.gb_elab.specs.Globs.{Seen, bare_glob, whole_alone, whole_read}
-use Rattle.gb_print_names.specs.declared.place.Enumeration.{Enumeration}
+use Rattle.gb_shapes.specs.declared.place.Enumeration.{Enumeration}
 use Rattle.gb_readback.specs.Written.{is_path, is_target_here}
 use Rattle.gb_spelt_laws.specs.Named.{IsNamedType, IsNamed, IsNamedVariable}
 use Rattle.gb_spelt_laws.proofs.Trees.{node_named}
@@ -47,6 +47,11 @@ use Rattle.gb_shown.proofs.Recalled.{locals_named}
 mapped : {A B : Type 0} (f : A → B) (o : Option A) (y : B) → option_map f o ≡ Some y → (x : A) × (o ≡ Some x) × (f x ≡ y)
 mapped f (Some x) y e = (x, refl, same_some e)
 mapped f None y e = cc
+
+-- what is there unless it is hidden
+if_there : {A : Type 0} (b : Bool) (o : Option A) (y : A) → (if b then None else o) ≡ Some y → o ≡ Some y
+if_there true o y e = cc
+if_there false o y e = e
 
 own_named : (vs : Variables) → AreNamedVariables vs → AllByRecursion IsNamedLocal (own_of vs)
 own_named Absent h = tt
@@ -112,22 +117,22 @@ module _ (es : List Enumeration) where
         step None i f = cc
         step (Some m) i f = let k = module_around at.inside n m fit.around i in in_module n (Some m) x g k.0 (λ l j. subst (IsNamedModule es) (same_some j) k.1) f
 
-    pub global_found : (x : Name) (g : ModuleVariable) → global_at at x ≡ Some g → IsNamedGlobal g
+    pub global_found : (bs : List Binding) (x : Name) (g : ModuleVariable) → global_at at bs x ≡ Some g → IsNamedGlobal g
     unfolding global_at
-    global_found x g e = step (rsplit_once dot x) e
+    global_found bs x g e = step (rsplit_once dot x) e
       where
-        step : (o : Option (Name × Name)) → option_map_or (λ p. global_in p.0 (module_if at.inside at.declared p.0) p.1) o (own_global at.inside x) ≡ Some g → IsNamedGlobal g
-        step (Some p) f = in_around p.0 p.1 g f
+        step : (o : Option (Name × Name)) → option_map_or (global_of at bs) o (own_global at.inside x) ≡ Some g → IsNamedGlobal g
+        step (Some p) f = in_around p.0 p.1 g (if_there (hidden at bs p.0) (global_in p.0 (module_if at.inside at.declared p.0) p.1) g f)
         step None f = own_found at.inside x g fit.around f
 
-    unsided_read : (x : Name) (p : Place) (g : ModuleVariable) (u : Term) → global_at at x ≡ Some g → unsided at p g ≡ given u → IsNamed es u
-    unsided_read x p g u e h =
+    unsided_read : (bs : List Binding) (x : Name) (p : Place) (g : ModuleVariable) (u : Term) → global_at at bs x ≡ Some g → unsided at p g ≡ given u → IsNamed es u
+    unsided_read bs x p g u e h =
         let a = given_bind (may_name at g.0 p) (λ _. if has_own at.variables then given (global_variable side.Own g) else refused Argument p) u h in
         let k = if_allowed (has_own at.variables) (given (global_variable side.Own g)) Argument p u a.2 in
-        subst (IsNamed es) (given_is (global_variable side.Own g) u k.1) (global_read side.Own g (global_found x g e))
+        subst (IsNamed es) (given_is (global_variable side.Own g) u k.1) (global_read side.Own g (global_found bs x g e))
 
-    unbound_read : (x : Name) (p : Place) (u : Term) → unbound at x p ≡ given u → IsNamed es u
-    unbound_read x p u h = let k = if_refused (names_other at x) Argument p (refused (UnknownName x) p) u h in absurd (not_given (UnknownName x) p u k.1)
+    unbound_read : (bs : List Binding) (x : Name) (p : Place) (u : Term) → unbound at bs x p ≡ given u → IsNamed es u
+    unbound_read bs x p u h = let k = if_refused (names_other at bs x) Argument p (refused (UnknownName x) p) u h in absurd (not_given (UnknownName x) p u k.1)
 
     module _ (bs : List Binding) (bound : AreNamedBindings bs) where
       -- a name without a side
@@ -138,27 +143,27 @@ module _ (es : List Enumeration) where
           (λ v e k. thing_read (binders_inside bs x) p v.kind u (binding_found bs x v bound e) k)
           (chosen (IsNamed es) (λ v. given (program_variable side.Own v)) (first_named (own at) x) _ u
           (λ v e k. subst (IsNamed es) (given_is (program_variable side.Own v) u k) (local_read side.Own v (variable_found IsNamedLocal (own at) x v (own_named at.variables fit.variables) e)))
-          (λ e. around (if_refused (needs_side at x) (no_variable at x) p (named_around at x p) u e).1))
+          (λ e. around (if_refused (needs_side at x) (no_variable at bs x) p (named_around at bs x p) u e).1))
           h
         where
-          around : named_around at x p ≡ given u → IsNamed es u
+          around : named_around at bs x p ≡ given u → IsNamed es u
           around e =
               let q = at.sequent in
               let context = fit.context in
               chosen (IsNamed es) (logical_variable (number_before q.logical x)) (first_named q.logical x) _ u
               (λ v i k. logical_read (number_before q.logical x) v u (variable_found IsNamedVariable q.logical x v context.variables i) k)
-              (chosen (IsNamed es) (unsided at p) (global_at at x) (unbound at x p) u (λ g i k. unsided_read x p g u i k) (unbound_read x p u))
+              (chosen (IsNamed es) (unsided at p) (global_at at bs x) (unbound at bs x p) u (λ g i k. unsided_read bs x p g u i k) (unbound_read bs x p u))
               e
 
       variable_read : (x : Name) (s : Side) (p : Place) (ls : List TypedName) (u : Term) → AllByRecursion IsNamedLocal ls → variable_on at bs x s p ls ≡ given u → IsNamed es u
       variable_read x s p ls u o h =
           chosen (IsNamed es) (λ v. given (program_variable s v)) (first_named ls x) _ u
           (λ v e k. subst (IsNamed es) (given_is (program_variable s v) u k) (local_read s v (variable_found IsNamedLocal ls x v o e)))
-          (chosen (IsNamed es) (read_global at s p) (global_at at x) (refused (no_variable at x) p) u global (λ e. absurd (not_given (no_variable at x) p u e)))
+          (chosen (IsNamed es) (read_global at s p) (global_at at bs x) (refused (no_variable at bs x) p) u global (λ e. absurd (not_given (no_variable at bs x) p u e)))
           (if_refused (is_some (innermost bs x)) Argument p _ u h).1
         where
-          global : (g : ModuleVariable) → global_at at x ≡ Some g → read_global at s p g ≡ given u → IsNamed es u
-          global g e k = let a = given_bind (may_name at g.0 p) (λ _. given (global_variable s g)) u k in subst (IsNamed es) (given_is (global_variable s g) u a.2) (global_read s g (global_found x g e))
+          global : (g : ModuleVariable) → global_at at bs x ≡ Some g → read_global at s p g ≡ given u → IsNamed es u
+          global g e k = let a = given_bind (may_name at g.0 p) (λ _. given (global_variable s g)) u k in subst (IsNamed es) (given_is (global_variable s g) u a.2) (global_read s g (global_found bs x g e))
 
       -- a name with a side
       pub sided_read : (x : Name) (s : Side) (p : Place) (u : Term) → sided at bs x s p ≡ given u → IsNamed es u
@@ -199,7 +204,7 @@ module _ (es : List Enumeration) where
     target_named x p t h =
         chosen IsNamedTarget (λ v. given (Local v.name, v.ty)) (first_named (own at) x) _ t
         (λ v e k. subst IsNamedTarget (given_is (Local v.name, v.ty) t k) (variable_found IsNamedLocal (own at) x v (own_named at.variables fit.variables) e))
-        (chosen IsNamedTarget global_target (global_at at x) (refused (no_variable at x) p) t
-        (λ g e k. let n = global_found x g e in subst IsNamedTarget (given_is (Global g.0 g.1.name, g.1.ty) t k) (both_true n.0 n.1.0, n.1.1))
-        (λ e. absurd (not_given (no_variable at x) p t e)))
+        (chosen IsNamedTarget global_target (global_at at [] x) (refused (no_variable at [] x) p) t
+        (λ g e k. let n = global_found [] x g e in subst IsNamedTarget (given_is (Global g.0 g.1.name, g.1.ty) t k) (both_true n.0 n.1.0, n.1.1))
+        (λ e. absurd (not_given (no_variable at [] x) p t e)))
         h

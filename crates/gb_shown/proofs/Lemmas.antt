@@ -20,7 +20,7 @@ use Rattle.gb_elab_prog.specs.Fresh.{free}
 use Rattle.gb_elab_prog.specs.Sizes.{small}
 use Rattle.gb_elab_mod.specs.Lemmas.{claimed, stated, statement_by, statement_given}
 use Rattle.gb_elab_laws.proofs.Given.{given_bind, given_is, not_given}
-use Rattle.gb_print_names.specs.declared.place.Enumeration.{Enumeration}
+use Rattle.gb_shapes.specs.declared.place.Enumeration.{Enumeration}
 use Rattle.gb_readback.specs.Written.{is_name_text}
 use Rattle.gb_spelt_laws.specs.Named.{IsNamed, IsNamedVariable}
 use Rattle.gb_spelt_laws.proofs.Sequents.{all_append}

@@ -28,7 +28,7 @@ use Rattle.gb_elab_prog.specs.Modules.{member_names, with_globals, with_procedur
 use Rattle.gb_elab_prog.specs.Procedures.{untaken, result_type, lacks_value, value, undeclared, formal, formals, declared, variables, locals, with_result, result_of, procedure_by}
 use Rattle.gb_elab_prog.specs.Unbuilt.{absent}
 use Rattle.gb_elab_laws.proofs.Given.{given_bind, given_is, if_refused, not_given}
-use Rattle.gb_print_names.specs.declared.place.Enumeration.{Enumeration}
+use Rattle.gb_shapes.specs.declared.place.Enumeration.{Enumeration}
 use Rattle.gb_spelt_laws.specs.Named.{IsNamed, IsNamedType, IsNamedVariable, IsNamedSequent}
 use Rattle.gb_spelt_laws.specs.Rules.{IsNamedLocal}
 use Rattle.gb_spelt_laws.proofs.Forms.{as_result}

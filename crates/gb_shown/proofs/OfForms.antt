@@ -13,7 +13,7 @@ use Rattle.gb_names.specs.Judgments.{Named, named_procedure}
 use Rattle.gb_names.specs.Names.{Target, target}
 use Rattle.gb_names.specs.Types.{type_of, type_or_number}
 use Rattle.gb_elab.specs.Forms.{elaborated, function}
-use Rattle.gb_print_names.specs.declared.place.Enumeration.{Enumeration}
+use Rattle.gb_shapes.specs.declared.place.Enumeration.{Enumeration}
 use Rattle.gb_readback.specs.Written.{is_target_here, IsWrittenProcedure, IsWrittenType}
 use Rattle.gb_spelt_laws.specs.Named.{IsNamed, IsNamedType}
 use Rattle.gb_spelt_laws.specs.Rules.{HasFirst}

@@ -1,5 +1,5 @@
 -- Proof steps: what a rule is given is named.
-use Rattle.std.proofs.Common.{◌≡◌, ℕ, zero, suc, ◌-◌, Bool, true, false, if◌then◌else◌, bytes_eq, codes, List, [], ◌∷◌, length, Option, Some, None, refl, ap, sym, ◌∙◌, subst}
+use Rattle.std.proofs.Common.{◌≡◌, ℕ, zero, suc, ◌-◌, Bool, true, false, if◌then◌else◌, bytes_eq, codes, List, [], ◌∷◌, length, take, drop, Option, Some, None, refl, ap, sym, ◌∙◌, subst}
 use Rattle.std.specs.List.{slice_get}
 use Rattle.std.specs.Option.{option_map_or, option_zip}
 use Rattle.gb_core.specs.declared.place.Place.{Place}
@@ -58,12 +58,12 @@ use Rattle.gb_names.specs.Judgments.{named_procedure, result_of}
 use Rattle.gb_elab.specs.Forms.{elaborated, function}
 use Rattle.gb_elab_mod.specs.Multiples.{hypothesis_at, multiples, position}
 use Rattle.gb_elab_mod.specs.Occurring.{occurring}
-use Rattle.gb_elab_mod.specs.Steps.{of_subjects, of_head, outcomes, sampled, last_sampled, functions, there_and_back, one_type, couplings, judges_chance, coupling_rule, functions_of, is_apply, acts, drawing_rule, on_all, plain_rule, cut_of, cut_rule, seq_rule, of_bodies_rule, chance_rule, both_rule, named_rule, conclusion_rule, formed, said_of_bodies, case_by, case_of_bodies, kept_by, while_rule, case_of_conclusion, sided_case_rule, params_if, result_if, locals_before, locals_after, term_if, said_anew, conseq_of, conseq_rule, last_procedure, contract_of, contract_of_both, contract_on, contract_at, call_rule, related, between_of, between_by, between_at, transitive_rule, asked_of, value_witness, memory_witness, witness_rule, pattern, passing_rule, placed_rule, transforming_rule, equals_rule, used_rule, calls_of, inlining_rule, looping_rule, have_rule, typed_rule, step_given}
+use Rattle.gb_elab_mod.specs.Steps.{of_subjects, of_head, outcomes, sampled, last_sampled, functions, there_and_back, one_type, couplings, judges_chance, coupling_rule, functions_of, is_apply, acts, drawing_rule, on_all, plain_rule, cut_of, cut_rule, seq_rule, of_bodies_rule, chance_rule, both_rule, named_rule, conclusion_rule, formed, said_of_bodies, case_by, case_of_bodies, kept_by, while_rule, case_of_conclusion, sided_case_rule, params_if, result_if, locals_before, locals_after, term_if, said_anew, conseq_of, conseq_rule, last_procedure, contract_of, contract_of_both, contract_on, contract_at, call_rule, related, between_of, between_by, between_with, between_at, transitive_rule, asked_of, value_witness, memory_witness, witness_rule, pattern, passing_rule, placed_rule, transforming_rule, equals_rule, used_rule, calls_of, inlining_rule, looping_rule, have_rule, typed_rule, step_given}
 use Rattle.gb_elab_mod.specs.Taken.{new_name}
 use Rattle.gb_elab_mod.specs.Uses.{all_hinted, defined_operator, hypothesis, is_memory, memory_of, used}
 use Rattle.gb_elab_prog.specs.Unbuilt.{absent}
 use Rattle.gb_elab_laws.proofs.Given.{given_bind, given_is, none_some, same_some}
-use Rattle.gb_print_names.specs.declared.place.Enumeration.{Enumeration}
+use Rattle.gb_shapes.specs.declared.place.Enumeration.{Enumeration}
 use Rattle.gb_readback.specs.Written.{is_name_text, is_path}
 use Rattle.gb_spelt_laws.specs.Named.{IsNamedType, IsNamedSubject, IsNamedHead, IsNamed, IsNamedInstr, IsNamedCode, IsNamedGoal, IsNamedSequent}
 use Rattle.gb_spelt_laws.specs.Rules.{AreNamedArguments, IsNamedIfAny, IsNamedProcedure, IsNamedRelational, IsNamedRule, IsNamedStep}
@@ -77,7 +77,7 @@ use Rattle.gb_shown.proofs.FoundInScopes.{member_found, params_named, procedures
 use Rattle.gb_shown.proofs.OfForms.{OfForms}
 use Rattle.gb_shown.proofs.Occurring.{AreLocals, occurring_named, outcome_typed}
 use Rattle.gb_shown.proofs.Settings.{ambient_named, as_locals, function_named, relational_named, unary_named}
-use Rattle.gb_shown.proofs.Trees.{AreRead, node_read, parts_read}
+use Rattle.gb_shown.proofs.Trees.{AreRead, drop_read, node_read, parts_read}
 use Rattle.gb_shown.proofs.Used.{hypothesis_is_named, used_is_named}
 
 abbrev SubjectLayer : Type 0
@@ -351,21 +351,23 @@ module _ (forms : OfForms) (es : List Enumeration) (ds : Declarations) (k : IsNa
       let v = related_named c d l3 l4 m.0.0 g y.0 y.1 in
       subst (AreNamedArguments es) (given_is _ r y.2) (record { procedure = procedure_written.0; left_pre = u.0; left_post = u.1; right_pre = v.0; right_post = v.1 })
 
-  between_by_named : (x y a b : Node) → IsReadTree a → IsReadTree b → (ns : List Node) → AreRead ns → (G : Goal) (p : Place) → Gives (between_by ds q x y a b ns G p)
-  between_by_named x y a b l m (c ∷ d ∷ []) v (equiv (procedure f) (procedure g) u w) p r e = between_named (x ∷ y ∷ []) a b c d l m v.0 v.1.0 (place_of x) f g r e
-  between_by_named x y a b l m (c ∷ d ∷ []) v _ p r e = subst (AreNamedArguments es) (given_is _ r e) tt
-  between_by_named x y a b l m [] v G p r e = none_built p r e
-  between_by_named x y a b l m (c ∷ []) v G p r e = none_built p r e
-  between_by_named x y a b l m (c ∷ d ∷ z ∷ ns) v G p r e = none_built p r e
+  between_by_named : (xs : List Node) (a b : Node) → IsReadTree a → IsReadTree b → (ns : List Node) → AreRead ns → (G : Goal) (p : Place) → Gives (between_by ds q xs a b ns G p)
+  between_by_named (x ∷ xs) a b l m (c ∷ d ∷ []) v (equiv (procedure f) (procedure g) u w) p r e = between_named (x ∷ xs) a b c d l m v.0 v.1.0 (place_of x) f g r e
+  between_by_named (x ∷ xs) a b l m (c ∷ d ∷ []) v _ p r e = subst (AreNamedArguments es) (given_is _ r e) tt
+  between_by_named (x ∷ xs) a b l m [] v G p r e = none_built p r e
+  between_by_named (x ∷ xs) a b l m (c ∷ []) v G p r e = none_built p r e
+  between_by_named (x ∷ xs) a b l m (c ∷ d ∷ z ∷ ns) v G p r e = none_built p r e
+  between_by_named [] a b l m ns v G p r e = none_built p r e
+
+  between_with_named : (xs ns : List Node) → AreRead ns → (p : Place) → Gives (between_with ds q xs ns p)
+  between_with_named xs (a ∷ b ∷ m ∷ []) l p r e = between_by_named xs a b l.0 l.1.0 (parts_of m) (parts_read m l.1.1.0) (goal_of q.conclusion) p r e
+  between_with_named xs [] l p r e = none_built p r e
+  between_with_named xs (a ∷ []) l p r e = none_built p r e
+  between_with_named xs (a ∷ b ∷ []) l p r e = none_built p r e
+  between_with_named xs (a ∷ b ∷ m ∷ n ∷ ns) l p r e = none_built p r e
 
   between_at_named : (h : Kind) (ns : List Node) → AreRead ns → (p : Place) → Gives (between_at ds q h ns p)
-  between_at_named text.PlainTransitivity (x ∷ y ∷ a ∷ b ∷ m ∷ []) l p r e = between_by_named x y a b l.1.1.0 l.1.1.1.0 (parts_of m) (parts_read m l.1.1.1.1.0) (goal_of q.conclusion) p r e
-  between_at_named text.PlainTransitivity [] l p r e = none_built p r e
-  between_at_named text.PlainTransitivity (x ∷ []) l p r e = none_built p r e
-  between_at_named text.PlainTransitivity (x ∷ y ∷ []) l p r e = none_built p r e
-  between_at_named text.PlainTransitivity (x ∷ y ∷ a ∷ []) l p r e = none_built p r e
-  between_at_named text.PlainTransitivity (x ∷ y ∷ a ∷ b ∷ []) l p r e = none_built p r e
-  between_at_named text.PlainTransitivity (x ∷ y ∷ a ∷ b ∷ c ∷ d ∷ ns) l p r e = none_built p r e
+  between_at_named text.PlainTransitivity ns l p r e = between_with_named (take (length ns - 3) ns) (drop (length ns - 3) ns) (drop_read (length ns - 3) ns l) p r e
   between_at_named _ ns l p r e = none_built p r e
 
   transitive_named : (a : Acts) (h : Kind) (ns : List Node) → AreRead ns → (p : Place) → Gives (transitive_rule ds q a h ns p)

@@ -17,7 +17,7 @@ use Rattle.gb_names.specs.Environment.{ambient, of_function, of_operator, progra
 use Rattle.gb_names.specs.Names.{unit}
 use Rattle.gb_elab_prog.specs.declared.context.Bound.{Bound}
 use Rattle.gb_elab_prog.specs.Contexts.{context_of, in_context, nothing_around}
-use Rattle.gb_print_names.specs.declared.place.Enumeration.{Enumeration}
+use Rattle.gb_shapes.specs.declared.place.Enumeration.{Enumeration}
 use Rattle.gb_readback.specs.Written.{is_name_text, IsWrittenLiteral}
 use Rattle.gb_spelt_laws.specs.Named.{IsNamed, IsNamedVariable, IsNamedSequent}
 use Rattle.gb_spelt_laws.proofs.Rows.{goal_named}

@@ -2,7 +2,7 @@
 use Rattle.std.proofs.Common.{◌≡◌, ℕ, Bool, true, false, is_some, if◌then◌else◌, bytes_eq, List, [], ◌∷◌, ◌++◌, append-nil, Option, Some, None, refl, sym, subst}
 use Rattle.std.specs.List.{AllByRecursion}
 use Rattle.gb_goal.specs.Scope.{Declarations, entry_of, path_of}
-use Rattle.gb_print_names.specs.declared.place.Enumeration.{Enumeration}
+use Rattle.gb_shapes.specs.declared.place.Enumeration.{Enumeration}
 use Rattle.gb_readback.specs.Written.{is_path}
 use Rattle.gb_spelt_laws.specs.Named.{IsNamedSequent}
 use Rattle.gb_shown.specs.Scopes.{IsNamedScope, IsNamedStatement}

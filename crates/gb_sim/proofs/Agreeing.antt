@@ -13,7 +13,8 @@ use Rattle.gb_local.specs.Cells.{Cell, Cells, In, Agree, Among, cells_of}
 use Rattle.gb_local.proofs.Cells.{in_left, in_right}
 use Rattle.gb_reads.specs.declared.reads.TypedVar.{TypedVar}
 use Rattle.gb_reads.specs.Reads.{Vars}
-use Rattle.gb_sim.specs.Need.{is_among, is_same, joined, placed, without}
+use Rattle.gb_premises.specs.Ordered.{is_same, joined, placed}
+use Rattle.gb_sim.specs.Need.{is_among, without}
 
 -- the cells of variables
 abbrev pub cells : Types → Vars → Cells

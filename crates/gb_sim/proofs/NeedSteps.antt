@@ -12,23 +12,12 @@ use Rattle.gb_meaning.specs.Commands.{terms_in}
 use Rattle.gb_goal.specs.Scope.{Declarations}
 use Rattle.gb_mods.specs.Called.{calls, row_calls, statement_calls}
 use Rattle.gb_mods.proofs.OrderSteps.{front_last}
-use Rattle.gb_reads.specs.declared.reads.TypedVar.{TypedVar}
 use Rattle.gb_reads.specs.Reads.{Vars}
-use Rattle.gb_sim.specs.Need.{called_need, if_known, joined, loop_need, need, of_branches, placed, row_need, statement_need}
+use Rattle.gb_sim.specs.Need.{called_need, if_known, loop_need, need, of_branches, row_need, statement_need}
 use Rattle.gb_sim.specs.Reads.{each_reads, list_reads, term_reads}
 use Rattle.gb_sim.specs.Sim.{each_equal, equal_in, equated_at}
 use Rattle.gb_sim.proofs.ReadSteps.{arguments_list, body_list}
 use mathlib.Core.Former.{Count}
-
--- the last of several variables first
-joined_last : (xs : Vars) (x : TypedVar) (ys : Vars) → joined (xs ++ (x ∷ [])) ys ≡ joined xs (placed x ys)
-joined_last [] x ys = refl
-joined_last (z ∷ xs) x ys = ap (placed z) (joined_last xs x ys)
-
--- one variable less
-pub joined_front : (list : Vars) (k : ℕ) (x : TypedVar) (ys : Vars) → k < length list → x ≡ get_or list ((length list - 1) - k) x →
-    joined (take (length list - k) list) ys ≡ joined (take (length list - (k + 1)) list) (placed x ys)
-joined_front list k x ys h e = ap (λ l. joined l ys) (front_last list k x h e) ∙ joined_last (take (length list - (k + 1)) list) x ys
 
 itself : {A : Type 0} (o : Option A) → if_known (λ x. Some x) o ≡ o
 itself None = refl

@@ -65,7 +65,8 @@ use Rattle.gb_typing.proofs.Substituted.{term_has}
 use Rattle.gb_typing.proofs.Variables.{variable_finite}
 use Rattle.gb_reads.specs.Reads.{Vars}
 use Rattle.gb_trans.proofs.Within.{ReadsWithin, run_within}
-use Rattle.gb_sim.specs.Need.{before, concern, if_known, joined, need, of_branches, row_need, statement_need, without, written_need}
+use Rattle.gb_premises.specs.Ordered.{joined}
+use Rattle.gb_sim.specs.Need.{before, concern, if_known, need, of_branches, row_need, statement_need, without, written_need}
 use Rattle.gb_sim.specs.Reads.{body_reads, reached_reads, reads_by, reads_if, row_reads, term_reads}
 use Rattle.gb_sim.proofs.Agreeing.{AgreeOn, agree_new, agree_old, cells}
 use Rattle.gb_sim.proofs.Covered.{IsRead, Reads, all_good, call_read, each_read, each_there, parts, routine_good, row_within, term_read}

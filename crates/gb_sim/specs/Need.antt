@@ -1,35 +1,21 @@
 -- What has to be equal before the same statements on both sides, so that variables are equal after them.
-use Rattle.std.specs.Prelude.{Bool, not, ◌&&◌, ◌||◌, if◌then◌else◌, List, [], ◌∷◌, ◌++◌, filter, Option, Some, None}
+use Rattle.std.specs.Prelude.{Bool, not, ◌||◌, if◌then◌else◌, List, [], ◌∷◌, ◌++◌, filter, Option, Some, None}
 use Rattle.std.specs.List.{list_any}
 use Rattle.std.specs.Option.{option_map}
 use Rattle.gb_core.specs.declared.var.Var.{Var}
-use Rattle.gb_same.specs.Types.{ty_eq}
 use Rattle.gb_terms.specs.declared.module.ProcRef.{ProcRef}
 use Rattle.gb_terms.specs.declared.term.Head.TheVariants.{Assign, Sample, Call', If', While'}
 use Rattle.gb_terms.specs.declared.term.Instr.{Instr, Row_of-Instr, end_of-Instr, more_of-Instr}
 use Rattle.gb_terms.specs.declared.term.Term.{Term}
 use Rattle.gb_terms.specs.Equal.{var_eq}
-use Rattle.gb_walk.specs.Clash.{clashes, comes_before}
+use Rattle.gb_walk.specs.Clash.{clashes}
 use Rattle.gb_goal.specs.Scope.{Declarations}
 use Rattle.gb_mods.specs.Called.{row_calls}
 use Rattle.gb_full.specs.Loss.{may_lose}
 use Rattle.gb_reads.specs.declared.reads.TypedVar.{TypedVar}
 use Rattle.gb_reads.specs.Reads.{Vars}
+use Rattle.gb_premises.specs.Ordered.{joined}
 use Rattle.gb_sim.specs.Reads.{term_reads, row_reads, body_reads, reached_reads}
-
--- the same variable at the same type
-abbrev pub is_same : TypedVar → TypedVar → Bool
-is_same x y = var_eq x.var y.var && ty_eq x.ty y.ty
-
--- a variable in its place among variables in order, each once
-abbrev pub placed : TypedVar → Vars → Vars
-placed x [] = x ∷ []
-placed x (y ∷ ys) = if comes_before x.var y.var then x ∷ y ∷ ys else if is_same x y then y ∷ ys else y ∷ placed x ys
-
--- variables in their places among variables in order
-abbrev pub joined : Vars → Vars → Vars
-joined [] ys = ys
-joined (x ∷ xs) ys = placed x (joined xs ys)
 
 abbrev pub is_among : List Var → TypedVar → Bool
 is_among xs y = list_any (λ x. var_eq x y.var) xs

@@ -25,7 +25,8 @@ use Rattle.gb_goal.specs.declared.sequent.Sequent.{Sequent}
 use Rattle.gb_typing.specs.Forms.{and_form, equal_form, every_pair, implies_form}
 use Rattle.gb_reads.specs.declared.reads.TypedVar.{TypedVar}
 use Rattle.gb_reads.specs.Reads.{Vars}
-use Rattle.gb_sim.specs.Need.{if_known, is_same, joined, need}
+use Rattle.gb_premises.specs.Ordered.{is_same, joined}
+use Rattle.gb_sim.specs.Need.{if_known, need}
 
 -- the variable that a head of this type reads in a memory
 abbrev pub read_in : Side → Head → Ty → Option TypedVar

@@ -4,65 +4,25 @@ ghost use Rattle.std.specs.Prelude.{◌≡◌, ◌++◌, IfOk};
 ghost use Rattle.gb_full.specs.Loss.{full_operators};
 ghost use Rattle.gb_mods.specs.Called.{calls};
 ghost use Rattle.gb_terms.specs.Equal.{var_eq};
-ghost use Rattle.gb_sim.specs.Need.{before, called_need, concern, concerns, is_among, is_same, joined, loop_need, need, of_branches, placed, statement_need, without, written_need};
+ghost use Rattle.gb_sim.specs.Need.{before, called_need, concern, concerns, is_among, loop_need, need, of_branches, statement_need, without, written_need};
 ghost use Rattle.gb_sim.specs.Reads.{each_reads, list_reads, term_reads};
 
-use crate::reads::{
-    each_reads, list_reads, reached_reads, shared_variable, term_reads, with_variables,
-};
+use crate::reads::{each_reads, list_reads, reached_reads, term_reads};
+use gb_core::Shared;
 use gb_core::name::Name;
 use gb_core::same::same_var;
 use gb_core::var::Var;
 use gb_full::loss::may_lose;
 use gb_goal::scope::Scope;
 use gb_mods::called::calls;
-use gb_reads::reads::{TypedVar, TypedVars, is_read_at};
-use gb_shared::Shared;
+use gb_premises::ordered::{joined, shared_variable, with_variables};
+use gb_reads::reads::{TypedVar, TypedVars};
 use gb_terms::module::ProcRef;
 use gb_terms::term::{Instr, Term};
-use gb_walk::clash::{clashes, comes_before};
+use gb_walk::clash::clashes;
 use sqlite_items::Items;
 use std::alloc::{AllocError, Global};
 use std::slice::from_ref;
-
-/// Whether both are the same variable at the same type.
-pub fn is_same(x: &TypedVar, y: &TypedVar) -> bool
-    ensures { result ≡ is_same x.now y.now }
-{
-    is_read_at(x.var.get(), x.ty.get(), y.var.get(), y.ty.get())
-}
-
-/// A variable in its place among variables in order.
-fn placed(alloc: Global, variable: &TypedVar, list: &[TypedVar]) -> Result<TypedVars, AllocError>
-    ensures { IfOk result (λ made. made ≡ placed variable.now list.now) }
-{
-    let mut before = Items::new(alloc);
-    for i in 0..list.len() {
-        let other = &list[i];
-        if comes_before(variable.var.get(), other.var.get()) {
-            before.push(shared_variable(variable)?)?;
-            return with_variables(before, &list[i..]);
-        }
-        if is_same(variable, other) {
-            return with_variables(before, &list[i..]);
-        }
-        before.push(shared_variable(other)?)?;
-    }
-    before.push(shared_variable(variable)?)?;
-    Ok(before)
-}
-
-/// Variables in their places among variables in order.
-pub fn joined(alloc: Global, list: &[TypedVar], ordered: TypedVars) -> Result<TypedVars, AllocError>
-    ensures { IfOk result (λ made. made ≡ joined list.now ordered) }
-{
-    let mut all = ordered;
-    for k in 0..list.len() {
-        let at = list.len() - 1 - k;
-        all = placed(alloc, &list[at], all.as_slice())?;
-    }
-    Ok(all)
-}
 
 /// Whether two variables are the same.
 #[tactic(auto, using(gb_terms::proofs::Equality::var_test))]

@@ -3,39 +3,20 @@
 ghost use Rattle.std.specs.Prelude.{◌≡◌, ◌++◌, IfOk};
 ghost use Rattle.gb_sim.specs.Reads.{each_reads, globals_among, head_reads, list_reads, procedure_reads, reached_reads, reads_by, statement_reads, term_reads};
 
+use gb_core::Shared;
 use gb_core::copy::copy_var;
 use gb_core::ty::Ty;
 use gb_core::var::Var;
 use gb_goal::scope::Scope;
 use gb_mods::called::{Procedures, all_reached};
+use gb_premises::ordered::{shared_variable, with_variables};
 use gb_reads::reads::{TypedVar, TypedVars};
-use gb_shared::Shared;
 use gb_terms::decl::Proc;
 use gb_terms::module::ProcRef;
 use gb_terms::op::Read;
 use gb_terms::term::{Head, Instr, Term};
 use sqlite_items::Items;
 use std::alloc::{AllocError, Global};
-
-/// A variable at a type, with one owner more.
-pub fn shared_variable(variable: &TypedVar) -> Result<TypedVar, AllocError>
-    ensures { IfOk result (λ made. made ≡ variable.now) }
-{
-    let var = variable.var.share()?;
-    let ty = variable.ty.share()?;
-    Ok(TypedVar { var, ty })
-}
-
-/// Variables behind others.
-pub fn with_variables(found: TypedVars, list: &[TypedVar]) -> Result<TypedVars, AllocError>
-    ensures { IfOk result (λ made. made ≡ found ++ list.now) }
-{
-    let mut all = found;
-    for variable in list {
-        all.push(shared_variable(variable)?)?;
-    }
-    Ok(all)
-}
 
 /// Variables behind others, with the one that a head of a type reads itself.
 fn with_head(

@@ -1,5 +1,5 @@
 -- A claim closes its leaf exactly where it is found true, and there is one answer to leaves.
-use Rattle.std.proofs.Common.{◌≡◌, ℕ, ℤ, pos, ◌⊎◌, inl, inr, ◌↔◌, Result, Ok, Err, IfOk, true, false, Bool, cond, Option, Some, None, List, [], ◌∷◌, ◌++◌, refl, sym, ap, ◌∙◌, subst, arith}
+use Rattle.std.proofs.Common.{◌≡◌, ℕ, ℤ, pos, inl, inr, ◌↔◌, Result, Ok, Err, IfOk, true, false, Bool, cond, Option, Some, None, List, [], ◌∷◌, ◌++◌, refl, sym, ap, ◌∙◌, subst}
 use Rattle.std.specs.List.{list_any, All, Any}
 use Rattle.std.specs.declared.alloc.AllocError.{AllocError}
 use Rattle.std.proofs.lemmas.Bool.{false≢true}
@@ -9,7 +9,6 @@ use Rattle.gb_core.specs.declared.value.Value.{Value}
 use Rattle.gb_core.specs.declared.value.Card.{Card}
 use Rattle.gb_core.specs.declared.refusal.Why.{Why}
 use Rattle.gb_core.specs.declared.refusal.Why.TheVariants as why
-use Rattle.gb_terms.specs.declared.term.Term.{Term}
 use Rattle.gb_goal.specs.Scope.{Declarations}
 use Rattle.gb_smt.specs.declared.leaves.Leaf.{Leaf}
 use Rattle.gb_smt.specs.declared.claims.Claim.{Claim}
@@ -21,12 +20,13 @@ use Rattle.gb_smt.specs.declared.apply.Open.{Open}
 use Rattle.gb_num.specs.declared.whole.Overflow as number
 use Rattle.gb_smt.specs.Equations.{used_up}
 use Rattle.gb_smt.specs.Claims.{claims_of}
-use Rattle.gb_variables.specs.Sizes.{is_tried}
-use Rattle.gb_smt.specs.Width.{width_of}
-use Rattle.gb_smt.specs.Assign.{found_of}
+use Rattle.gb_members.specs.Counted.{is_tried}
+use Rattle.gb_labels.specs.Labels.{Labels}
+use Rattle.gb_smt.specs.Width.{most_of, width_of}
+use Rattle.gb_smt.specs.Assign.{found_with, labelled_claim}
 use Rattle.gb_smt.specs.ByEquality.{ClosesByEquality}
-use Rattle.gb_smt.specs.Apply.{trial_at, trial_of, is_true, is_found_true, shown_by, out_of_range_or, refuted_by, left_open, open_outcome, outcome_of, Closes, IsClosed, IsReason, IsTriedAnswer, IsOpen, IsFirstOpen, IsAnswer, IsAnswerOf}
-use Rattle.gb_smt.proofs.Findings.{found_exactly}
+use Rattle.gb_smt.specs.Apply.{trial_at, trial_of, trial_with, is_true, is_found_true, shown_by, out_of_range_or, refuted_by, left_open, open_outcome, outcome_of, Closes, IsClosed, IsReason, IsTriedAnswer, IsOpen, IsFirstOpen, IsAnswer, IsAnswerOf}
+use Rattle.gb_smt.proofs.Findings.{true_with}
 use Rattle.gb_smt.proofs.ByEquality.{count_once}
 use Rattle.gb_smt.proofs.Trials.{trial_by, outcome_open, outcome_true}
 
@@ -43,15 +43,22 @@ true_by true w f e = (refl, true_only w f e)
 true_by false w f e = absurd (false≢true e)
 
 module _ (ds : Declarations) where
+  closes_by : (c : Claim) (o : Option Labels) → most_of c ≡ o → is_true (trial_with ds o c).found ≡ true → Closes ds c
+  closes_by c None p e = absurd (false≢true e)
+  closes_by c (Some most) p e =
+      let width = width_of ds (labelled_claim most c) in
+      let q = true_by (is_tried width) width (found_with ds most c) e in
+      record { most = most; counted = p; tried = q.0; each = (true_with ds most c).0 q.1 }
+
   closes_if : (c : Claim) → is_found_true ds c ≡ true → Closes ds c
-  closes_if c e =
-      let p = true_by (is_tried (width_of ds c)) (width_of ds c) (found_of ds c) e in
-      (p.0, (found_exactly ds c True).0 p.1)
+  closes_if c e = closes_by c (most_of c) refl e
 
   closes_only : (c : Claim) → Closes ds c → is_found_true ds c ≡ true
   closes_only c h =
-      ap (λ b. is_true (trial_by b (width_of ds c) (found_of ds c)).found) h.0
-      ∙ ap (λ f. is_true (trial_at (width_of ds c) f).found) ((found_exactly ds c True).1 h.1)
+      let width = width_of ds (labelled_claim h.most c) in
+      ap (λ o. is_true (trial_with ds o c).found) h.counted
+      ∙ ap (λ b. is_true (trial_by b width (found_with ds h.most c)).found) h.tried
+      ∙ ap (λ f. is_true (trial_at width f).found) ((true_with ds h.most c).1 h.each)
 
   any_mapped : (P Q : Claim → Type 0) → ((c : Claim) → P c → Q c) → (cs : List Claim) → Any P cs → Any Q cs
   any_mapped P Q f cs a = (a.0, a.1, a.2, a.3, f a.1 a.4)

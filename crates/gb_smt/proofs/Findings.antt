@@ -11,13 +11,29 @@ use Rattle.gb_goal.specs.Scope.{Declarations}
 use Rattle.gb_smt.specs.declared.claims.Claim.{Claim}
 use Rattle.gb_smt.specs.declared.assign.Found.{Found}
 use Rattle.gb_smt.specs.declared.assign.Found.TheVariants.{True, False, Unknown, Overflow}
-use Rattle.gb_smt.specs.Assign.{assignments, assignment, truth_under, truth_at, TrueBefore, IsFirst, IsUnknown, IsOf, found_under, then_next, found_before, found_among, found_of}
+use Rattle.gb_labels.specs.Labels.{Labels, choices, choice_at}
+use Rattle.gb_smt.specs.Assign.{assignments, assignment, labelled_claim, truth_under, truth_at, TrueBefore, IsTrueEverywhere, IsTrueWith, IsFirst, IsUnknown, IsOf, found_under, then_next, found_before, found_among, found_of, found_with, found_with_before}
 
 first_decides : (f next : Found) → (f ≡ True → ⊥) → then_next f next ≡ f
 first_decides True next h = absurd (h refl)
 first_decides (False values) next h = refl
 first_decides Unknown next h = refl
 first_decides (Overflow o) next h = refl
+
+-- what is found one after another stays as it is once it isn't `True`
+module _ (before at : ℕ → Found) (more : (n : ℕ) → before (suc n) ≡ then_next (before n) (at n)) where
+  pub stays : (n m : ℕ) → (before n ≡ True → ⊥) → before (n + m) ≡ before n
+  stays n zero h = ap before (add-zero n)
+  stays n (suc m) h =
+      let e = stays n m h in
+      ap before (add-suc n m) ∙ more (n + m) ∙ first_decides (before (n + m)) (at (n + m)) (λ t. h (sym e ∙ t)) ∙ e
+
+  -- the one that decides
+  pub decided : (count n : ℕ) (f : Found) → before n ≡ True → f ≡ at n → n < count → (f ≡ True → ⊥) → f ≡ before count
+  decided count n f h e l d =
+      let next : before (n + 1) ≡ f = ap before (add-one n) ∙ more n ∙ ap (λ g. then_next g (at n)) h ∙ sym e in
+      let far : (n + 1) + (count - (n + 1)) ≡ count = omega arith in
+      sym (sym (ap before far) ∙ stays (n + 1) (count - (n + 1)) (λ t. d (sym next ∙ t)) ∙ next)
 
 module _ (ds : Declarations) where
   module _ (c : Claim) where
@@ -28,14 +44,6 @@ module _ (ds : Declarations) where
         ∙ ap (λ f. then_next f (found_under (truth_at ds c n) (assignment c n))) h
         ∙ sym (ap (λ x. found_under (truth_under ds c x) x) v)
 
-    stays : (n m : ℕ) → (found_before ds n c ≡ True → ⊥) → found_before ds (n + m) c ≡ found_before ds n c
-    stays n zero h = ap (λ k. found_before ds k c) (add-zero n)
-    stays n (suc m) h =
-        let e = stays n m h in
-        ap (λ k. found_before ds k c) (add-suc n m)
-        ∙ first_decides (found_before ds (n + m) c) _ (λ t. h (sym e ∙ t))
-        ∙ e
-
     among : (k : Card) → card_of (assignments c) ≡ k → found_of ds c ≡ found_among ds k c
     among k e = ap (λ x. found_among ds x c) e
 
@@ -44,7 +52,7 @@ module _ (ds : Declarations) where
     found_here count n values f e l h v u d =
         let p = found_next n values h v ∙ u in
         let q : count ≡ (n + 1) + (count - (n + 1)) = omega arith in
-        among (Exact count) e ∙ ap (λ k. found_before ds k c) q ∙ stays (n + 1) (count - (n + 1)) (λ t. d (sym p ∙ t)) ∙ p
+        among (Exact count) e ∙ ap (λ k. found_before ds k c) q ∙ stays (λ k. found_before ds k c) (λ k. found_under (truth_at ds c k) (assignment c k)) (λ k. refl) (n + 1) (count - (n + 1)) (λ t. d (sym p ∙ t)) ∙ p
 
     -- no assignment decides
     pub found_everywhere : (count n : ℕ) → card_of (assignments c) ≡ Exact count → count ≡ n → found_before ds n c ≡ True → found_of ds c ≡ True
@@ -172,3 +180,34 @@ module _ (ds : Declarations) where
 
   pub found_exactly : (c : Claim) (f : Found) → found_of ds c ≡ f ↔ IsOf ds c f
   found_exactly c f = (by_count c (card_of (assignments c)) f refl, found_if c f)
+
+  -- all choices of numbers of labels
+
+  module _ (most : Labels) (c : Claim) where
+    -- one choice more
+    pub choice_true : (n : ℕ) (f : Found) → found_with_before ds most n c ≡ True → f ≡ found_of ds (labelled_claim (choice_at most n) c) → f ≡ True → found_with_before ds most (n + 1) c ≡ True
+    choice_true n f h e t =
+        ap (λ m. found_with_before ds most m c) (add-one n) ∙ ap (λ g. then_next g (found_of ds (labelled_claim (choice_at most n) c))) h ∙ sym e ∙ t
+
+    -- the one that decides
+    pub choice_decides : (n : ℕ) (f : Found) → found_with_before ds most n c ≡ True → f ≡ found_of ds (labelled_claim (choice_at most n) c) → n < choices most → (f ≡ True → ⊥) → f ≡ found_with ds most c
+    choice_decides n f h e l d = decided (λ k. found_with_before ds most k c) (λ k. found_of ds (labelled_claim (choice_at most k) c)) (λ k. refl) (choices most) n f h e l d
+
+    -- none decides
+    pub no_choice_decides : (n : ℕ) → n ≡ choices most → found_with_before ds most n c ≡ True → True ≡ found_with ds most c
+    no_choice_decides n e h = sym (ap (λ k. found_with_before ds most k c) (sym e) ∙ h)
+
+    each_true : (n : ℕ) → found_with_before ds most n c ≡ True → (i : ℕ) → i < n → IsTrueEverywhere ds (labelled_claim (choice_at most i) c)
+    each_true zero h i l = absurd (omega arith)
+    each_true (suc n) h i l =
+        let p = both_true (found_with_before ds most n c) (found_of ds (labelled_claim (choice_at most n) c)) h in
+        below_more (λ k. IsTrueEverywhere ds (labelled_claim (choice_at most k) c)) n (each_true n p.0) ((found_exactly (labelled_claim (choice_at most n) c) True).0 p.1) i (omega arith)
+
+    all_true : (n : ℕ) → ((i : ℕ) → i < n → IsTrueEverywhere ds (labelled_claim (choice_at most i) c)) → found_with_before ds most n c ≡ True
+    all_true zero h = refl
+    all_true (suc n) h =
+        ap (λ f. then_next f (found_of ds (labelled_claim (choice_at most n) c))) (all_true n (λ i l. h i (omega arith)))
+        ∙ (found_exactly (labelled_claim (choice_at most n) c) True).1 (h n (omega arith))
+
+    pub true_with : found_with ds most c ≡ True ↔ IsTrueWith ds most c
+    true_with = (each_true (choices most), all_true (choices most))

@@ -1,16 +1,14 @@
 -- The operators of a whole script.
-use Rattle.std.proofs.Common.{◌≡◌, ℕ, pred, Bool, List, [], ◌∷◌, length, Option, Some, None, refl, sym, ap, ◌∙◌}
+use Rattle.std.proofs.Common.{◌≡◌, pred, [], length, Some, None, sym, ◌∙◌}
 use Rattle.gb_terms.specs.declared.term.Term.{Term}
 use Rattle.gb_goal.specs.Scope.{Declarations}
 use Rattle.gb_meaning.specs.Names.{Name}
 use Rattle.gb_eval.specs.declared.script.Script.{Script}
 use Rattle.gb_eval.specs.Script.{body_at}
-use Rattle.gb_eval.specs.Findings.{Operators}
 use Rattle.gb_eval.specs.Known.{known_at, known_in, known_of}
 use Rattle.gb_eval.specs.Eval.{operators_at, operators_in, operators_of}
 use Rattle.gb_eval.proofs.Environments.{in_is, of_is}
 use Rattle.gb_eval.proofs.Opened.{open_is, closed_is}
-use Rattle.gb_variables.specs.Sizes.{Tys}
 use Rattle.gb_smt.specs.Width.{bound_at, bound_in, bound_of, bound_types}
 
 module _ (s : Script) (ds : Declarations) (p : s.scope.now ≡ ds) (q : s.depth ≡ length ds) where

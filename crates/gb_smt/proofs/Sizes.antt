@@ -25,7 +25,6 @@ use Rattle.gb_eval.specs.Known.{is_known, all_known, is_head_known, known_at, kn
 use Rattle.gb_variables.proofs.Products.{product, are_finite, product_both, card_by, card_of_types}
 use Rattle.gb_variables.specs.Sizes.{Tys, of_memory, read_by_only}
 use Rattle.gb_smt.specs.declared.claims.Claim.{Claim}
-use Rattle.gb_variables.specs.Variables.{Vars}
 use Rattle.gb_walk.specs.Layers.{seen_by, where_last}
 use Rattle.gb_reads.specs.Reads as reads
 use Rattle.gb_smt.specs.Width.{only_reads, bound_at, bound_by, bound_of, bound_types, all_bound, types_in, assignments_of, is_known_claim}

@@ -15,10 +15,12 @@ use Rattle.gb_smt.specs.declared.apply.Open.{Open}
 use Rattle.gb_smt.specs.declared.apply.Trial.{Trial}
 use Rattle.gb_smt.specs.declared.apply.Tried.{Tried}
 use Rattle.gb_smt.specs.declared.apply.Tried.TheVariants.{Closed}
-use Rattle.gb_variables.specs.Sizes.{is_tried, greater}
+use Rattle.gb_members.specs.Counted.{is_tried}
+use Rattle.gb_variables.specs.Sizes.{greater}
+use Rattle.gb_labels.specs.Labels.{Labels}
 use Rattle.gb_smt.specs.Width.{width_of}
-use Rattle.gb_smt.specs.Assign.{found_of}
-use Rattle.gb_smt.specs.Apply.{trial_at, trial_of, is_true, is_found_true, open_at, and_then, nothing_open, shown_by, open_after, left_open, open_outcome, outcome_of, IsClosed, IsAnswer, IsFirstOpen}
+use Rattle.gb_smt.specs.Assign.{found_with, labelled_claim}
+use Rattle.gb_smt.specs.Apply.{trial_at, trial_of, trial_with, is_true, is_found_true, open_at, and_then, nothing_open, shown_by, open_after, left_open, open_outcome, outcome_of, IsClosed, IsAnswer, IsFirstOpen}
 
 -- the trial of a claim, by whether its width is tried
 
@@ -26,13 +28,13 @@ abbrev pub trial_by : Bool → Card → Found → Trial
 trial_by b w f = cond b (trial_at w f) (record { width = w; found = Unknown })
 
 module _ (ds : Declarations) where
-  pub not_tried : (c : Claim) (w : Card) → w ≡ width_of ds c → is_tried w ≡ false → record { width = w; found = Unknown } ≡ trial_of ds c
-  not_tried c w e h =
-      sym (ap (λ b. trial_by b w (found_of ds c)) h) ∙ ap (λ v. trial_by (is_tried v) v (found_of ds c)) e
-
-  pub tried : (c : Claim) (w : Card) (f : Found) → w ≡ width_of ds c → is_tried w ≡ true → f ≡ found_of ds c → trial_at w f ≡ trial_of ds c
-  tried c w f e h q =
-      ap (trial_at w) q ∙ sym (ap (λ b. trial_by b w (found_of ds c)) h) ∙ ap (λ v. trial_by (is_tried v) v (found_of ds c)) e
+  pub tried : (most : Labels) (c widest : Claim) (w : Card) (f : Found) (t : Trial) → widest ≡ labelled_claim most c → w ≡ width_of ds widest → is_tried w ≡ true → f ≡ found_with ds most c → t ≡ trial_at w f → t ≡ trial_with ds (Some most) c
+  tried most c widest w f t m e h q r =
+      let same : w ≡ width_of ds (labelled_claim most c) = e ∙ ap (width_of ds) m in
+      r
+      ∙ ap (trial_at w) q
+      ∙ sym (ap (λ b. trial_by b w (found_with ds most c)) h)
+      ∙ ap (λ v. trial_by (is_tried v) v (found_with ds most c)) same
 
   -- what claims come to
 

@@ -12,8 +12,8 @@ use Rattle.gb_eval.specs.declared.env.ReadValue.{ReadValue}
 use Rattle.gb_eval.specs.Findings.{Comes}
 use Rattle.gb_eval.specs.Findings.Comes.{found}
 use Rattle.gb_smt.specs.declared.claims.Claim.{Claim}
-use Rattle.gb_variables.specs.declared.variables.Variable.{Variable}
-use Rattle.gb_variables.specs.Variables.{Vars}
+use Rattle.gb_closing.specs.declared.linked.Variable.{Variable}
+use Rattle.gb_closing.specs.Linked.{Vars}
 use Rattle.gb_smt.specs.declared.assign.Found.TheVariants.{False}
 use Rattle.gb_goal.specs.Scope.{Declarations}
 use Rattle.gb_smt.specs.Assign.{environment_of, assignment, with_values, implied, truth_under, truth_at, found_under}

@@ -22,9 +22,11 @@ use Rattle.gb_smt.specs.declared.apply.Open.{Open}
 use Rattle.gb_num.specs.declared.whole.Overflow as number
 use Rattle.gb_smt.specs.Equations.{used_up}
 use Rattle.gb_smt.specs.Claims.{claims_of}
-use Rattle.gb_variables.specs.Sizes.{is_tried, greater}
-use Rattle.gb_smt.specs.Width.{width_of}
-use Rattle.gb_smt.specs.Assign.{IsTrueEverywhere, found_of}
+use Rattle.gb_members.specs.Counted.{is_tried}
+use Rattle.gb_variables.specs.Sizes.{greater}
+use Rattle.gb_labels.specs.Labels.{Labels}
+use Rattle.gb_smt.specs.Width.{most_of, width_of}
+use Rattle.gb_smt.specs.Assign.{labelled_claim, IsTrueWith, found_with}
 use Rattle.gb_smt.specs.Atoms.{atoms_of, IsCount}
 use Rattle.gb_smt.specs.ByEquality.{ClosesByEquality}
 
@@ -66,9 +68,17 @@ abbrev pub left_open : Found → Open → Tried
 left_open first o = out_of_range_or o.overflow (refuted_by first o.widest)
 
 module _ (ds : Declarations) where
-  -- what trying a claim comes to, unless it is too wide
+  -- what trying a claim comes to, unless it is too wide at the greatest numbers of labels
+  abbrev pub trial_at_width : Card → Labels → Claim → Trial
+  trial_at_width width most c = if is_tried width then trial_at width (found_with ds most c) else record { width = width; found = Unknown }
+
+  -- a claim with a thing that holds the globals of a module in another way than labels allow is too wide
+  abbrev pub trial_with : Option Labels → Claim → Trial
+  trial_with (Some most) c = trial_at_width (width_of ds (labelled_claim most c)) most c
+  trial_with None c = record { width = Above; found = Unknown }
+
   abbrev pub trial_of : Claim → Trial
-  trial_of c = if is_tried (width_of ds c) then trial_at (width_of ds c) (found_of ds c) else record { width = width_of ds c; found = Unknown }
+  trial_of c = trial_with (most_of c) c
 
   abbrev pub is_found_true : Claim → Bool
   is_found_true c = is_true (trial_of c).found
@@ -90,9 +100,13 @@ module _ (ds : Declarations) where
   abbrev pub outcome_of : List Claim → Tried
   outcome_of claims = if list_any is_found_true claims then Closed else open_outcome claims
 
-  -- a claim that closes its leaf: it isn't too wide, and is true under every assignment
-  abbrev pub Closes : Claim → Type 0
-  Closes c = IsTrue (is_tried (width_of ds c)) × IsTrueEverywhere ds c
+  -- A claim that closes its leaf: at the greatest numbers of labels it isn't too wide, and it is true under every assignment for each
+  -- choice of numbers of labels up to these.
+  pub record Closes (c : Claim) : Type 0 where
+    pub most : Labels
+    pub counted : most_of c ≡ Some most
+    pub tried : IsTrue (is_tried (width_of ds (labelled_claim most c)))
+    pub each : IsTrueWith ds most c
 
   -- a leaf that a claim of it closes, its equations used up
   abbrev pub ClosesByClaim : Leaf → Type 0

@@ -17,7 +17,17 @@ use Rattle.gb_eval.specs.Eval as eval
 use Rattle.gb_smt.specs.declared.claims.Claim.{Claim}
 use Rattle.gb_smt.specs.declared.assign.Found.{Found}
 use Rattle.gb_smt.specs.declared.assign.Found.TheVariants.{True, False, Unknown, Overflow}
-use Rattle.gb_variables.specs.Variables.{Vars}
+use Rattle.gb_closing.specs.Linked.{Vars}
+use Rattle.gb_labels.specs.Labels.{Labels, labelled_ty, choices, choice_at}
+use Rattle.gb_labels.specs.Labelled.{labelled}
+
+-- a claim with labels in place of the values of modules' globals
+abbrev pub labelled_claim : Labels → Claim → Claim
+labelled_claim ls c = record {
+  hyps = map (labelled ls) c.hyps;
+  conclusion = labelled ls c.conclusion;
+  variables = map (λ v. record { read = v.read; ty = labelled_ty ls v.ty }) c.variables;
+}
 
 -- the type whose values are the assignments
 abbrev pub assignments : Claim → Ty
@@ -107,3 +117,16 @@ module _ (ds : Declarations) where
   -- what trying the assignments in order finds
   abbrev pub found_of : Claim → Found
   found_of c = found_among (card_of (assignments c)) c
+
+  -- what trying the choices of numbers of labels before a place finds, each with all assignments: the first that isn't true decides
+  abbrev pub found_with_before : Labels → ℕ → Claim → Found
+  found_with_before most zero c = True
+  found_with_before most (suc n) c = then_next (found_with_before most n c) (found_of (labelled_claim (choice_at most n) c))
+
+  -- what trying all choices from one label up to these numbers finds
+  abbrev pub found_with : Labels → Claim → Found
+  found_with most c = found_with_before most (choices most) c
+
+  -- the claim is true under every assignment, whatever choice of numbers of labels up to these
+  abbrev pub IsTrueWith : Labels → Claim → Type 0
+  IsTrueWith most c = (i : ℕ) → i < choices most → IsTrueEverywhere ds (labelled_claim (choice_at most i) c)

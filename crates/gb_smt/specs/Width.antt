@@ -1,5 +1,5 @@
 -- How many assignments there are to the variables of a claim and to those bound in it.
-use Rattle.std.specs.Prelude.{ℕ, Bool, ◌&&◌, if◌then◌else◌, List, [], ◌∷◌, ◌++◌, length, map}
+use Rattle.std.specs.Prelude.{ℕ, Bool, ◌&&◌, if◌then◌else◌, Option, [], ◌∷◌, ◌++◌, length, map}
 use Rattle.std.specs.List.{list_all, flat_map}
 use Rattle.gb_core.specs.declared.ty.Ty.TheVariants.{Mod, Tuple}
 use Rattle.gb_core.specs.declared.value.Card.{Card}
@@ -18,6 +18,8 @@ use Rattle.gb_reads.specs.Reads.{reads_of}
 use Rattle.gb_eval.specs.Known.{is_known, known_of}
 use Rattle.gb_variables.specs.Sizes.{Tys, of_memory}
 use Rattle.gb_smt.specs.declared.claims.Claim.{Claim}
+use Rattle.gb_labels.specs.Labels.{Labels}
+use Rattle.gb_labels.specs.Things.{most_labels}
 
 -- that of the outcomes of the first of these types, which is of a distribution
 abbrev pub of_outcomes : Tys → Tys
@@ -75,3 +77,7 @@ module _ (ds : Declarations) where
   -- the width of a claim: above, where a part of it is opaque to evaluation
   abbrev pub width_of : Claim → Card
   width_of c = if is_known_claim c then assignments_of c else Above
+
+-- the greatest numbers of labels of a claim
+abbrev pub most_of : Claim → Option Labels
+most_of c = most_labels c.hyps c.conclusion

@@ -1,28 +1,31 @@
 // The rule `smt`.
 
-ghost use Rattle.std.specs.Prelude.{◌≡◌, IfOk};
+ghost use Rattle.std.specs.Prelude.{◌≡◌, Some, IfOk};
 ghost use Rattle.std.specs.List.{All};
 ghost use Rattle.gb_smt.specs.declared.leaves.Leaf.{Leaf};
 ghost use Rattle.gb_smt.specs.Leaves.{leaves_of};
 ghost use Rattle.gb_smt.specs.Claims.{claims_of};
-ghost use Rattle.gb_smt.specs.Apply.{trial_of, is_true, open_after, open_at, and_then, left_open, outcome_of, IsAnswer, IsAnswerOf, IsClosed, IsResult, IsTriedAnswer};
+ghost use Rattle.gb_smt.specs.Apply.{trial_at, trial_of, trial_with, is_true, open_after, open_at, and_then, left_open, outcome_of, IsAnswer, IsAnswerOf, IsClosed, IsResult, IsTriedAnswer};
 
-use crate::assign::{Found, try_all};
+use crate::assign::{Found, labelled_claim, try_choices};
 use crate::atoms::number_of_atoms;
 use crate::by_equality::closes_by_equality;
 use crate::claims::{Claim, claims};
 use crate::equations::used_up;
 use crate::leaves::{Leaf, leaves};
 use crate::width::width;
+use gb_core::Shared;
 use gb_core::place::Place;
 use gb_core::refusal::{Refused, Why};
 use gb_core::value::{Card, Values};
 use gb_goal::scope::Scope;
 use gb_goal::sequent::{Sequent, Sequents};
+use gb_labels::labels::Label;
+use gb_labels::things::most_labels;
+use gb_members::counted::is_tried;
 use gb_num::Overflow;
-use gb_shared::Shared;
 use gb_terms::term::Term;
-use gb_variables::sizes::{greater, is_tried};
+use gb_variables::sizes::greater;
 use sqlite_items::Items;
 use std::alloc::{AllocError, Global};
 
@@ -33,23 +36,51 @@ struct Trial {
     found: Found,
 }
 
-/// Tries a claim, unless it is too wide.
-fn try_claim(alloc: Global, claim: &Claim, scope: &Scope) -> Result<Trial, AllocError>
-    ensures { IfOk result (λ trial. trial ≡ trial_of scope.now claim.now) }
+/// What trying a claim of this width comes to.
+fn trial_at(width: Card, found: Found) -> Trial
+    ensures { result ≡ trial_at width found }
 {
-    let width = width(alloc, claim, scope)?;
+    match found {
+        Found::Unknown => Trial {
+            width: Card::Above,
+            found: Found::Unknown,
+        },
+        found => Trial { width, found },
+    }
+}
+
+/// Tries a claim at all numbers of labels up to these, unless it is too wide at them.
+fn try_up_to(
+    alloc: Global,
+    most: &[Label],
+    claim: &Claim,
+    scope: &Scope,
+) -> Result<Trial, AllocError>
+    ensures { IfOk result (λ trial. trial ≡ trial_with scope.now (Some most.now) claim.now) }
+{
+    let widest = labelled_claim(alloc, claim, most)?;
+    let width = width(alloc, &widest, scope)?;
     if !is_tried(width) {
         return Ok(Trial {
             width,
             found: Found::Unknown,
         });
     }
-    let found = try_all(alloc, claim, scope)?;
-    let width = match found {
-        Found::Unknown => Card::Above,
-        _ => width,
-    };
-    Ok(Trial { width, found })
+    let found = try_choices(alloc, most, claim, scope)?;
+    Ok(trial_at(width, found))
+}
+
+/// Tries a claim, unless it is too wide.
+fn try_claim(alloc: Global, claim: &Claim, scope: &Scope) -> Result<Trial, AllocError>
+    ensures { IfOk result (λ trial. trial ≡ trial_of scope.now claim.now) }
+{
+    match most_labels(alloc, claim.hyps.as_slice(), &claim.conclusion)? {
+        Some(most) => try_up_to(alloc, most.as_slice(), claim, scope),
+        None => Ok(Trial {
+            width: Card::Above,
+            found: Found::Unknown,
+        }),
+    }
 }
 
 /// What trying a leaf comes to.
@@ -209,8 +240,10 @@ fn close_goal(
 /// Closes a goal, with no subgoals, by its hypotheses and forms that are known besides. Quantifiers in front of the
 /// conclusion go to the context, the left sides of implications to the hypotheses, and conjunctions are split; then
 /// equations between a variable and a term are used up. Each such leaf closes when it has at most 20 atoms and is valid by
-/// equality, where it consists of forms, or when one of its claims, of a width of at most 2^20, is true under every assignment. To evaluation operators of
-/// the script that have bodies are what their bodies are; the others are opaque.
+/// equality, where it consists of forms, or when one of its claims, of a width of at most 2^20, is true under every assignment. To
+/// evaluation operators of the script that have bodies are what their bodies are; the others are opaque. The values of all globals of
+/// an abstract module are labels, as many as the claim has things of them: the claim has to be true for each number of labels from 1
+/// up to that one, and its width is that of the greatest numbers.
 ///
 /// The first leaf that doesn't close decides the refusal, at the place of the step: the operands of an operation out of range,
 /// where evaluation of a claim comes to one before it is false; else false, with the first assignment under which its first

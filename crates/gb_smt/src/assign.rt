@@ -1,26 +1,30 @@
 // The assignments to the variables of a claim.
 
-ghost use Rattle.std.specs.Prelude.{◌≡◌, length, map, IfOk, OnOk};
+ghost use Rattle.std.specs.Prelude.{◌≡◌, ◌-◌, ◌^◌, ◌<◌, length, map, min, IfOk, OnOk};
 ghost use Rattle.gb_core.specs.declared.ty.Ty.TheVariants.{Tuple};
 ghost use Rattle.gb_types.specs.Numbering.{tuple_at};
 ghost use Rattle.gb_eval.specs.Findings.{Finds};
 ghost use Rattle.gb_types.specs.Types.{IsPlaceBelow, card_of, numbering, value_at};
 ghost use Rattle.gb_eval.specs.Eval.{environment};
-ghost use Rattle.gb_smt.specs.Assign.{assignments, assignment, environment_of, with_values, implied, truth_at, found_under, found_of};
+ghost use Rattle.gb_labels.specs.Labels.{choice_at, choices, labelled_ty};
+ghost use Rattle.gb_smt.specs.Assign.{assignments, assignment, environment_of, with_values, implied, truth_at, found_under, found_of, found_with, labelled_claim};
 
 use crate::claims::Claim;
+use gb_closing::linked::{Variable, Variables};
 use gb_core::value::{Card, Value, Values};
 use gb_eval::answer::Stop;
 use gb_eval::env::{Env, ReadValue, ReadValues};
 use gb_eval::eval::truth;
 use gb_eval::script::script_of;
 use gb_goal::scope::Scope;
+use gb_labels::labelled::{labelled, labelled_all};
+use gb_labels::labels::{Label, choice_at, choices};
+use gb_labels::types::labelled_part;
 use gb_num::Overflow;
 use gb_terms::term::Term;
 use gb_types::nth::nth;
 use gb_types::size::size;
 use gb_variables::sizes::{number_of_values, size_of_variables};
-use gb_variables::variables::Variable;
 use sqlite_items::Items;
 use std::alloc::{AllocError, Global};
 
@@ -149,7 +153,7 @@ fn found_at(
 
 /// Tries the assignments to the variables of a claim, in order. These are the values of the tuples of their types, so the
 /// first variable is the slowest.
-pub fn try_all(alloc: Global, claim: &Claim, scope: &Scope) -> Result<Found, AllocError>
+fn try_all(alloc: Global, claim: &Claim, scope: &Scope) -> Result<Found, AllocError>
     ensures { IfOk result (λ found. found ≡ found_of scope.now claim.now) }
 {
     let count = match number_of_values(claim.variables.as_slice()) {
@@ -162,6 +166,75 @@ pub fn try_all(alloc: Global, claim: &Claim, scope: &Scope) -> Result<Found, All
             Found::True => {}
             decided => return Ok(decided),
         }
+    }
+    Ok(Found::True)
+}
+
+fn labelled_variables(
+    alloc: Global,
+    variables: &[Variable],
+    list: &[Label],
+) -> Result<Variables, AllocError>
+    ensures { IfOk result (λ made. made ≡ map (λ v. record { read = v.read; ty = labelled_ty list.now v.ty }) variables.now) }
+{
+    let mut made = Items::new(alloc);
+    for variable in variables {
+        let read = variable.read.share()?;
+        let ty = labelled_part(alloc, &variable.ty, list)?;
+        made.push(Variable { read, ty })?;
+    }
+    Ok(made)
+}
+
+/// A claim with labels in place of the values of modules' globals.
+pub fn labelled_claim(alloc: Global, claim: &Claim, list: &[Label]) -> Result<Claim, AllocError>
+    ensures { IfOk result (λ made. made ≡ labelled_claim list.now claim.now) }
+{
+    let hyps = labelled_all(alloc, claim.hyps.as_slice(), list)?;
+    let conclusion = labelled(alloc, &claim.conclusion, list)?;
+    let variables = labelled_variables(alloc, claim.variables.as_slice(), list)?;
+    Ok(Claim {
+        hyps,
+        conclusion,
+        variables,
+    })
+}
+
+/// Tries all assignments for the choice of numbers of labels at a place.
+fn try_choice(
+    alloc: Global,
+    most: &[Label],
+    at: u64,
+    claim: &Claim,
+    scope: &Scope,
+) -> Result<Found, AllocError>
+    requires { at < min (choices most.now) (2 ^ 64 - 1) }
+    ensures { IfOk result (λ found. found ≡ found_of scope.now (labelled_claim (choice_at most.now at) claim.now)) }
+{
+    let choice = choice_at(alloc, most, at)?;
+    let claim = labelled_claim(alloc, claim, choice.as_slice())?;
+    try_all(alloc, &claim, scope)
+}
+
+/// Tries all choices of numbers of labels, each with all assignments, from one label for each module up to these numbers, the first
+/// module slowest. More choices than there are numbers in `u64` are refused as want of memory, where all of these are true.
+pub fn try_choices(
+    alloc: Global,
+    most: &[Label],
+    claim: &Claim,
+    scope: &Scope,
+) -> Result<Found, AllocError>
+    ensures { IfOk result (λ found. found ≡ found_with scope.now most.now claim.now) }
+{
+    let count = choices(most);
+    for at in 0..count {
+        match try_choice(alloc, most, at, claim, scope)? {
+            Found::True => {}
+            decided => return Ok(decided),
+        }
+    }
+    if count == u64::MAX {
+        return Err(AllocError);
     }
     Ok(Found::True)
 }

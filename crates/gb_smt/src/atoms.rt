@@ -6,8 +6,8 @@ ghost use Rattle.gb_terms.specs.declared.term.Term.{out-Term};
 ghost use Rattle.gb_smt.specs.Atoms.{is_over_forms, is_connective, atom_of, is_atom, own_atom, reach_of, reached, term_atoms, atoms_of, AreAdded, IsCount};
 
 use crate::leaves::Leaf;
+use gb_core::Shared;
 use gb_core::ty::Ty;
-use gb_shared::Shared;
 use gb_terms::op::Op;
 use gb_terms::same::same;
 use gb_terms::term::{Head, Term, Terms};

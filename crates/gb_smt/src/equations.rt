@@ -8,7 +8,7 @@ ghost use Rattle.gb_walk.specs.Change.{term_changed};
 ghost use Rattle.gb_smt.specs.Equations.{occurs, replacement, is_equality, use_of, first_usable, others, with_used, used_up};
 
 use crate::leaves::Leaf;
-use gb_shared::{Shared, SharedItems};
+use gb_core::{Shared, SharedItems};
 use gb_terms::op::{Op, Read};
 use gb_terms::reads::reads;
 use gb_terms::same::same_read;

@@ -37,7 +37,8 @@ pub fn findings_are_exact()
     ensures { (ds : Declarations) (c : Claim) (f : Found) → found_of ds c ≡ f ↔ IsOf ds c f }
 {}
 
-/// Trying claims closes their leaf exactly where one of them, of a width that is tried, is true under every assignment.
+/// Trying claims closes their leaf exactly where one of them, of a width that is tried, is true under every assignment for each choice
+/// of numbers of labels.
 pub fn closing_is_exact()
     ensures { (ds : Declarations) (claims : List Claim) → outcome_of ds claims ≡ Closed ↔ Any (Closes ds) claims }
 {}

@@ -7,8 +7,8 @@ ghost use Rattle.gb_smt.specs.Leaves.{connective, with_variable, with_memory, co
 
 use gb_core::ty::Ty;
 use gb_core::value::Value;
+use gb_core::{Shared, SharedItems};
 use gb_goal::sequent::{Hyp, Sequent};
-use gb_shared::{Shared, SharedItems};
 use gb_terms::make::logical;
 use gb_terms::op::{Op, Side};
 use gb_terms::share::share_terms;

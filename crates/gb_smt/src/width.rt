@@ -13,10 +13,11 @@ use gb_core::value::Card;
 use gb_eval::known::{are_known, is_known};
 use gb_eval::script::{Script, body_of, inside, script_of};
 use gb_goal::scope::Scope;
+use gb_members::counted::card_at;
 use gb_terms::term::{Head, Term};
 use gb_types::size::{MANY, size};
 use gb_variables::sizes::{
-    are_finite, bound_size_of_memory, card_at, size_of_outcomes, size_of_variables, times,
+    are_finite, bound_size_of_memory, size_of_outcomes, size_of_variables, times,
 };
 use std::alloc::{AllocError, Global};
 

@@ -99,7 +99,7 @@ module _ (g : Setting) where
   plain_here _ t xs e = tt
 
   mutual
-    plain_judged : (t : Term) → IsPlain t → AreJudged g quiet t
+    pub plain_judged : (t : Term) → IsPlain t → AreJudged g quiet t
     plain_judged (Term' p (more_of-Head h end_of-Head) n ts ty) e = (plain_here h (Term' p (more_of-Head h end_of-Head) n ts ty) (parts g quiet ts) e.0, all_plain_judged ts e.1)
 
     all_plain_judged : {n : Count} (ts : Row_of-Term n) → AllPlain ts → AllJudged g quiet ts

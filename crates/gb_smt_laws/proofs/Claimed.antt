@@ -27,16 +27,16 @@ use Rattle.gb_eval.specs.Known.{is_known, known_of}
 use Rattle.gb_eval.specs.Eval.{operators_of}
 use Rattle.gb_eval.specs.Meant.{AreOperators}
 use Rattle.gb_smt.specs.declared.claims.Claim.{Claim}
-use Rattle.gb_variables.specs.Variables.{Vars, variables_in}
+use Rattle.gb_closing.specs.Linked.{Vars}
+use Rattle.gb_variables.specs.Variables.{variables_in}
 use Rattle.gb_smt.specs.Claims.{claim_of}
-use Rattle.gb_variables.specs.Sizes.{is_tried}
+use Rattle.gb_members.specs.Counted.{is_tried}
 use Rattle.gb_smt.specs.Width.{assignments_of, width_of, is_known_claim}
 use Rattle.gb_smt.specs.Assign.{assignment, environment_of, with_values, truth_under, IsTrueEverywhere}
-use Rattle.gb_smt.specs.Apply.{Closes}
 use Rattle.gb_smt.specs.Meant.{AreTrue, IsRight}
 use Rattle.gb_smt_laws.specs.Reading.{Reading, IsReadingOf}
 use Rattle.gb_smt_laws.specs.Fits.{Fits}
-use Rattle.gb_smt_laws.specs.Closing.{FitsIfSimple, AreAssumed, IsConcluded}
+use Rattle.gb_smt_laws.specs.Closing.{AreAssumed, IsImplied}
 use Rattle.gb_smt_laws.proofs.Implied as implied
 use Rattle.gb_smt_laws.proofs.Known.{known_simple, AreRead}
 use Rattle.gb_smt_laws.proofs.Given.{AreKnown, itself, variables_read, values_of, given, each_given}
@@ -65,6 +65,14 @@ card_exact ty n e = step (is_finite ty) refl (nat_lt (size_of ty) (2 ^ 63)) e
     step true f true e = (f, exact_same (size_of ty) n e)
     step true f false e = absurd (above_exact n e)
     step false f c e = absurd (above_exact n e)
+
+-- evaluation knows each part of a claim that is tried
+pub known_if_tried : (ds : Declarations) (c : Claim) → is_tried (width_of ds c) ≡ true → is_known_claim ds c ≡ true
+known_if_tried ds c e = step (is_known_claim ds c) e
+  where
+    step : (b : Bool) → is_tried (if b then assignments_of ds c else Above) ≡ true → b ≡ true
+    step true e = refl
+    step false e = absurd (false≢true e)
 
 module _ (ds : Declarations) (g : Setting) (ops : AreOperators g (operators_of ds)) (j : Speaks) (right : IsRight g j) (s : State) (W : Reading) (valid : IsReadingOf g W s) where
   have_values : (vs : Vars) → AreRead W vs → all_true (map is_finite (map (λ v. v.ty) vs)) ≡ true → is_tuple (map numbering (map (λ v. v.ty) vs)) (values_of g s vs) ≡ true
@@ -112,13 +120,6 @@ module _ (ds : Declarations) (g : Setting) (ops : AreOperators g (operators_of d
         implied.conclusion_true g j s (environment_of ds (with_values vs (values_of g s vs))) ops hs t
         (each_given g s W valid (known_of ds) vs reads hs known) (given g s W valid (known_of ds) vs reads t W (itself W) k w) right true_there a
 
-  known_if_tried : (c : Claim) → is_tried (width_of ds c) ≡ true → is_known_claim ds c ≡ true
-  known_if_tried c e = step (is_known_claim ds c) e
-    where
-      step : (b : Bool) → is_tried (if b then assignments_of ds c else Above) ≡ true → b ≡ true
-      step true e = refl
-      step false e = absurd (false≢true e)
-
   all_known : (hs : List Term) → list_all (is_known (known_of ds)) hs ≡ true → AreAssumed g j W s hs → AreKnown (known_of ds) g W hs × AreTrue g j s hs
   all_known [] k a = (tt, tt)
   all_known (h ∷ hs) k a =
@@ -127,10 +128,10 @@ module _ (ds : Declarations) (g : Setting) (ops : AreOperators g (operators_of d
       let rest = all_known hs known.1 a.1 in
       (((known.0, one.0), rest.0), (one.1, rest.1))
 
-  -- a claim that closes is true
-  pub closed_claim : (hs : List Term) (t : Term) → Closes ds (claim_of hs t) → AreAssumed g j W s hs → FitsIfSimple g W t → IsConcluded g j s t
-  closed_claim hs t c a f =
-      let known = and_parts (list_all (is_known (known_of ds)) hs) (is_known (known_of ds) t) (known_if_tried (claim_of hs t) c.0) in
+  -- a claim that evaluation knows and that is true under every assignment gives its conclusion
+  pub known_claim : (hs : List Term) (t : Term) → is_known_claim ds (claim_of hs t) ≡ true → IsTrueEverywhere ds (claim_of hs t) → IsImplied g j W s hs t
+  known_claim hs t k everywhere a f =
+      let known = and_parts (list_all (is_known (known_of ds)) hs) (is_known (known_of ds) t) k in
       let each = all_known hs known.0 a in
       let simple = known_simple (known_of ds) t known.1 in
-      (simple, claim_true hs t each.0 known.1 (f simple) c.1 each.1)
+      (simple, claim_true hs t each.0 known.1 (f simple) everywhere each.1)

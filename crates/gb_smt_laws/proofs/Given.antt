@@ -25,8 +25,9 @@ use Rattle.gb_typed.specs.Typing.{types_of}
 use Rattle.gb_meaning.specs.Names.{Name}
 use Rattle.gb_eval.specs.Known.{is_known, all_known, are_of_outcomes, are_true, is_read_known}
 use Rattle.gb_eval.specs.Meant.{Means, is_given, AreGiven, AllGiven}
-use Rattle.gb_variables.specs.declared.variables.Variable.{Variable}
-use Rattle.gb_variables.specs.Variables.{Vars, of_read, variable_of, term_variables, is_among, with_new, noted, variables_in}
+use Rattle.gb_closing.specs.declared.linked.Variable.{Variable}
+use Rattle.gb_closing.specs.Linked.{Vars, is_among}
+use Rattle.gb_variables.specs.Variables.{of_read, variable_of, term_variables, with_new, noted, variables_in}
 use Rattle.gb_smt.specs.Assign.{with_values}
 use Rattle.gb_smt.specs.Meant.{EachGiven}
 use Rattle.gb_smt_laws.specs.Reading.{Variables, no_variables, Reading, IsReadAt, inner, IsReadingOf}

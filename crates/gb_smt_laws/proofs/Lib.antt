@@ -6,10 +6,15 @@ pub mod Known
 pub mod Given
 pub mod Implied
 pub mod Claimed
+pub mod LabelledTypes
+pub mod Labelled
+pub mod LabelledVariables
+pub mod LabelledFits
+pub mod LabelledKnown
+pub mod LabelledClaims
 pub mod Components
 pub mod Equations
 pub mod Used
-pub mod Closed
 pub mod Finding
 pub mod Splitting
 pub mod Later

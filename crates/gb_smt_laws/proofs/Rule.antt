@@ -1,4 +1,4 @@
--- The rule `smt` is sound where a claim closes each leaf.
+-- A goal is true where each of its leaves holds.
 use Rattle.std.proofs.Common.{◌≡◌, Bool, true, false, if◌then◌else◌, List, [], ◌∷◌, ◌++◌, map, length, refl, sym, subst}
 use Rattle.std.specs.List.{All, AllByRecursion, flat_map}
 use Rattle.std.proofs.lemmas.Bool.{false≢true}
@@ -24,7 +24,7 @@ use Rattle.gb_judge.proofs.Fair.{is_fair}
 use Rattle.gb_holds.specs.Declared.{Declarations}
 use Rattle.gb_holds.specs.Settings.{Interpretation, with_program, types_of, setting}
 use Rattle.gb_holds.specs.Truth.{Choice, has_module, last_has_module, IsFirstTrue, Truth, TruthOfLast}
-use Rattle.gb_holds.specs.Holds.{EachProgram, AreValues, AreTrue, context, Holds, declared_modules, interpretation, InEachSetting}
+use Rattle.gb_holds.specs.Holds.{EachProgram, AreValues, AreTrue, context, Holds, declared_modules, interpretation}
 use Rattle.gb_holds.proofs.Fronts.{without_modules}
 use Rattle.gb_holds.proofs.SettingTypes.{setting-types}
 use Rattle.gb_typing.proofs.Lifted.{InEachSequent, each, joined}
@@ -36,7 +36,6 @@ use Rattle.gb_eval.proofs.Operated.{operators_sound}
 use Rattle.gb_smt.specs.declared.leaves.Leaf.{Leaf}
 use Rattle.gb_smt.specs.Leaves as leaves
 use Rattle.gb_smt.specs.Leaves.{whole, with_variable, with_memory, assumed, assumed_of, split, context_of, hyps_with, speaks_of_programs, leaves_of}
-use Rattle.gb_smt.specs.Apply.{ClosesByClaim}
 use Rattle.gb_smt.specs.Meant.{IsRight}
 use Rattle.gb_smt_laws.specs.Reading.{Variables, AreHeld, Reading, no_variables, inner}
 use Rattle.gb_smt_laws.specs.Fits.{Fits, AllFit, OnlyFits}
@@ -48,7 +47,6 @@ use Rattle.gb_smt_laws.proofs.Premises.{whole_assumed, form_assumed}
 use Rattle.gb_smt_laws.proofs.Later.{Later, reading_with, reading_at, state_with, state_at}
 use Rattle.gb_smt_laws.proofs.Split.{IsContext, context_with_variable, context_with_memory, context_with_premise, leaf_true, unsplit, split_true}
 use mathlib.Core.Former.{Count}
-use Rattle.gb_smt_laws.proofs.Closed.{each_closed_holds}
 use Rattle.gb_smt_laws.proofs.Right.{fair_is_right}
 use Rattle.gb_smt_laws.proofs.Start.{start_valid, start_opens, start_keeps}
 
@@ -202,9 +200,3 @@ all_known ds q (f ∷ fs) h =
 module _ (es : scope.Declarations) (ds : Declarations) (known : List Term) (q : Sequent) where
   pub operators_meant : (k : Interpretation) → SmtIsReady es (setting ds k) known q → AreOperators (setting ds k) (operators_of es)
   operators_meant k r = subst (AreOperators (setting ds k)) (sym (of_is es)) (operators_sound (setting ds k) es r.operators (length es))
-
-  pub smt_sound : InEachSetting ds q (λ g. SmtIsReady es g known q) → All (ClosesByClaim es) (leaves_of known q) → AllByRecursion (λ f. Holds ds (record q { conclusion = f })) known → Holds ds q
-  smt_sound ready closed held =
-      joined ds q (λ k. SmtIsReady es (setting ds k) known q) (AreKnown ds q known) (IsConcluded ds q q.conclusion)
-      (λ k r x vs typed ms t. conclusion_true ds k es known q r vs typed ms (λ j fair. each_closed_holds es (setting ds k) (operators_meant k r) (speaking (setting ds k) j) (fair_is_right (setting ds k) j fair) (leaves_of known q) closed) t (x vs typed ms t))
-      ready (all_known ds q known held)

@@ -1,6 +1,6 @@
 -- Typed goals in typed scopes meet what `smt` asks.
 use Rattle.std.proofs.Common.{◌≡◌, ℕ, zero, suc, ◌<◌, Bool, if◌then◌else◌, List, [], ◌∷◌, map, length, get_or, Some, None, refl, ap, ◌∙◌, subst}
-use Rattle.std.specs.List.{All, AllByRecursion}
+use Rattle.std.specs.List.{AllByRecursion}
 use Rattle.std.proofs.lemmas.Bool.{lt-ltb}
 use Rattle.gb_core.specs.declared.ty.Ty.{Ty}
 use Rattle.gb_core.specs.declared.var.Var.{Var}
@@ -15,7 +15,7 @@ use Rattle.gb_goal.specs.Scope as scope
 use Rattle.gb_holds.specs.Declared.{Declarations, declared}
 use Rattle.gb_eval.specs.Meant.{AreBodies}
 use Rattle.gb_smt_laws.proofs.Bodies.{scope_bodies}
-use Rattle.gb_holds.specs.Holds.{declared_modules, interpretation, Holds, InEachSetting}
+use Rattle.gb_holds.specs.Holds.{declared_modules, interpretation, InEachSetting}
 use Rattle.gb_typed.specs.Finite.{IsFinite, IsInhabited}
 use Rattle.gb_typed.specs.Operators.{item}
 use Rattle.gb_typing.specs.Context.{Frame, Context, frame_of}
@@ -24,14 +24,12 @@ use Rattle.gb_typing.specs.Scopes.{context_of, IsTypedScope}
 use Rattle.gb_typing.specs.Sequents.{AreFormulas, of_sequent, IsTypedSequent}
 use Rattle.gb_typing.proofs.Models.{each_setting}
 use Rattle.gb_typing.proofs.Lifted.{sequent_outermost}
-use Rattle.gb_smt.specs.Leaves.{leaves_of}
-use Rattle.gb_smt.specs.Apply.{ClosesByClaim}
 use Rattle.gb_smt_laws.specs.Reading.{no_variables, Reading}
 use Rattle.gb_smt_laws.specs.Ready.{reading_of, UsedFit, SmtIsReady}
 use Rattle.gb_smt_laws.specs.Fits.{Fits}
 use Rattle.gb_smt_laws.proofs.Equations.{none_some}
 use Rattle.gb_smt_laws.proofs.Start.{place_below}
-use Rattle.gb_smt_laws.proofs.Rule.{each_program, smt_sound}
+use Rattle.gb_smt_laws.proofs.Rule.{each_program}
 use Rattle.gb_smt_laws.proofs.Fitting.{variables_in, in_type, held, in_frame, Agrees, fits, formula_fits, conclusion_fits}
 
 -- a logical variable is read at its type
@@ -96,7 +94,3 @@ module _ (es : scope.Declarations) (typed : IsTypedScope (declared es)) (q : Seq
   smt_is_ready w size table model =
       each_program (declared es) (declared_modules (declared es)) (interpretation w size table) _ _
       (λ i x. each_program (declared es) q.modules i _ _ (λ k fit. goal_ready (declared es) _ fit.types.inhabited q t es (scope_bodies es k typed) known forms) x) (each_setting (declared es) typed q t.modules t.frames w size table model)
-
-  -- It holds where a claim closes each of its leaves, and the forms that are known besides follow.
-  pub closed_holds : All (ClosesByClaim es) (leaves_of known q) → AllByRecursion (λ f. Holds (declared es) (record q { conclusion = f })) known → Holds (declared es) q
-  closed_holds closed held = smt_sound es (declared es) known q smt_is_ready closed held

@@ -26,7 +26,10 @@ AreAssumed g j T s hs = AllByRecursion (IsAssumed g j T s) hs
 abbrev pub IsConcluded : Setting → Speaks → State → Term → Type 0
 IsConcluded g j s t = (is_simple t ≡ true) × (truth (val g j t s) ≡ true)
 
--- In each state where each variable has a value of the type at which it is read, true hypotheses give a true conclusion.
--- Only simple hypotheses count: evaluation knows no other ones.
+-- True hypotheses give a true conclusion in a state. Only simple hypotheses count: evaluation knows no other ones.
+abbrev pub IsImplied : Setting → Speaks → Reading → State → List Term → Term → Type 0
+IsImplied g j T s hyps t = AreAssumed g j T s hyps → FitsIfSimple g T t → IsConcluded g j s t
+
+-- so they do in each state where each variable has a value of the type at which it is read
 abbrev pub LeafHolds : Setting → Speaks → Leaf → Type 0
-LeafHolds g j l = (T : Reading) (s : State) → IsReadingOf g T s → AreAssumed g j T s l.hyps → FitsIfSimple g T l.conclusion → IsConcluded g j s l.conclusion
+LeafHolds g j l = (T : Reading) (s : State) → IsReadingOf g T s → IsImplied g j T s l.hyps l.conclusion

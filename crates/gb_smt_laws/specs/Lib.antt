@@ -1,3 +1,4 @@
+pub mod Labels
 pub mod Simple
 pub mod Reading
 pub mod Fits

@@ -1,7 +1,7 @@
-//! The rule `smt` is sound.
+//! A goal is true where each of its leaves holds.
 
 ghost use Rattle.std.specs.Prelude.{List, map};
-ghost use Rattle.std.specs.List.{All, AllByRecursion};
+ghost use Rattle.std.specs.List.{AllByRecursion};
 ghost use Rattle.gb_core.specs.declared.value.Value.{Value};
 ghost use Rattle.gb_terms.specs.declared.term.Term.{Term};
 ghost use Rattle.gb_goal.specs.declared.sequent.Sequent.{Sequent};
@@ -11,9 +11,8 @@ ghost use Rattle.gb_meaning.specs.Judgments.{Judge, IsFair, speaking};
 ghost use Rattle.gb_holds.specs.Declared.{Declarations};
 ghost use Rattle.gb_holds.specs.Settings.{Interpretation, types_of, setting};
 ghost use Rattle.gb_holds.specs.Truth.{Truth};
-ghost use Rattle.gb_holds.specs.Holds.{AreValues, AreTrue, context, Holds, InEachSetting};
+ghost use Rattle.gb_holds.specs.Holds.{AreValues, AreTrue, context};
 ghost use Rattle.gb_smt.specs.Leaves.{leaves_of};
-ghost use Rattle.gb_smt.specs.Apply.{ClosesByClaim};
 ghost use Rattle.gb_smt_laws.specs.Closing.{LeafHolds};
 ghost use Rattle.gb_smt_laws.specs.Ready.{SmtIsReady};
 
@@ -26,11 +25,4 @@ pub fn splitting()
         ((j : Judge) → IsFair (setting ds k) j → AllByRecursion (LeafHolds (setting ds k) (speaking (setting ds k) j)) (leaves_of known q)) →
         (vs : List Value) → AreValues (types_of ds k) (map (λ x. x.ty) q.logical) vs → (ms : List Memory) →
         AreTrue ds q.hyps k (context vs ms) → AllByRecursion (λ f. Truth ds f k (context vs ms)) known → Truth ds q.conclusion k (context vs ms) }
-{}
-
-/// `smt`: a goal of which a claim closes each leaf holds, where operators mean their bodies, the forms that are known besides follow from its
-/// hypotheses, and its forms and these read each variable at one type, of which each memory gives it a value.
-pub fn smt()
-    ensures { (es : scope.Declarations) (ds : Declarations) (known : List Term) (q : Sequent) → InEachSetting ds q (λ g. SmtIsReady es g known q) →
-        All (ClosesByClaim es) (leaves_of known q) → AllByRecursion (λ f. Holds ds (record q { conclusion = f })) known → Holds ds q }
 {}

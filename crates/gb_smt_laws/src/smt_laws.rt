@@ -1,7 +1,7 @@
-//! `smt` is sound for typed goals.
+//! What `smt` asks holds of typed goals, and its operators are opened.
 
 ghost use Rattle.std.specs.Prelude.{◌≡◌, List, Some};
-ghost use Rattle.std.specs.List.{All, AllByRecursion};
+ghost use Rattle.std.specs.List.{AllByRecursion};
 ghost use Rattle.gb_terms.specs.declared.term.Term.{Term};
 ghost use Rattle.gb_goal.specs.declared.sequent.Sequent.{Sequent};
 ghost use Rattle.gb_goal.specs.Scope.{Declarations};
@@ -11,12 +11,10 @@ ghost use Rattle.gb_eval.specs.Known.{is_known, known_of};
 ghost use Rattle.gb_eval.specs.Eval.{function_of, operators_of};
 ghost use Rattle.gb_smt.specs.Width.{bound_of, bound_types};
 ghost use Rattle.gb_holds.specs.Declared.{declared};
-ghost use Rattle.gb_holds.specs.Holds.{Holds, InEachSetting};
+ghost use Rattle.gb_holds.specs.Holds.{InEachSetting};
 ghost use Rattle.gb_typing.specs.Sequents.{of_sequent, IsTypedSequent};
 ghost use Rattle.gb_typing.specs.Typing.{IsForm};
 ghost use Rattle.gb_typing.specs.Scopes.{context_of, IsTypedScope};
-ghost use Rattle.gb_smt.specs.Leaves.{leaves_of};
-ghost use Rattle.gb_smt.specs.Apply.{ClosesByClaim};
 ghost use Rattle.gb_smt_laws.specs.Ready.{SmtIsReady};
 
 /// A typed goal in a typed scope meets what `smt` asks, in each setting: operators mean their bodies, and globals, `glob A`, locals of
@@ -24,14 +22,6 @@ ghost use Rattle.gb_smt_laws.specs.Ready.{SmtIsReady};
 pub fn smt_readiness()
     ensures { (ds : Declarations) → IsTypedScope (declared ds) → (q : Sequent) (t : IsTypedSequent (context_of (declared ds)) q) → (known : List Term) →
         AllByRecursion (IsForm (of_sequent (context_of (declared ds)) q t.frames)) known → InEachSetting (declared ds) q (λ g. SmtIsReady ds g known q) }
-{}
-
-/// In a typed scope a typed goal of which a claim closes each leaf holds, where the typed forms that are known besides follow from its
-/// hypotheses.
-pub fn sound_claims()
-    ensures { (ds : Declarations) → IsTypedScope (declared ds) → (q : Sequent) (t : IsTypedSequent (context_of (declared ds)) q) → (known : List Term) →
-        AllByRecursion (IsForm (of_sequent (context_of (declared ds)) q t.frames)) known → All (ClosesByClaim ds) (leaves_of known q) →
-        AllByRecursion (λ f. Holds (declared ds) (record q { conclusion = f })) known → Holds (declared ds) q }
 {}
 
 /// In a typed scope nothing is lost where `smt` opens operators as often as there are names: an operator with a body comes to what

@@ -4,7 +4,11 @@ pub mod Places
 pub mod Split
 pub mod Still
 pub mod Put
-pub mod UsedUp
-pub mod Leaves
 pub mod NoForms
+pub mod Carried
+pub mod TypedLeaves
+pub mod UsedUp
+pub mod Simple
+pub mod LabelBodies
+pub mod Leaves
 pub mod Sound

@@ -37,7 +37,7 @@ use mathlib.Core.Former.{Count, arity, this}
 
 -- A quantifier over modules stays in front where changes are made.
 mutual
-  modules_stay : (t : Term) → has_module t ≡ true → (cs : Changes) → has_module (term_changed t cs) ≡ true
+  pub modules_stay : (t : Term) → has_module t ≡ true → (cs : Changes) → has_module (term_changed t cs) ≡ true
   modules_stay (Term' tt (more_of-Head (head.AllModule b) end_of-Head) n ts ty) m cs =
       ap has_module (term_changed_is (head.AllModule b) n ts ty cs)
       ∙ ap has_module (sym (term_is_node (head.AllModule b) (args_changed (head.AllModule b) cs (map term_changed (terms_in ts))) ty))
@@ -120,36 +120,34 @@ body_stays (Proc p) m cs = ap (λ z. is_body_at (out-Subject z)) (procedure_stay
 body_stays (Body' k is) m cs = ap (λ z. is_body_at (out-Subject z)) (body_changed_is k is cs) ∙ ap is_body_at (outs-Body' k _)
 
 -- what the test of a head says
-head_judges : (h : Head) (n : List (Unit {0})) (ts : Row_of-Term (arity (the_former (this {0})) n)) (ty : Ty) → judges_bodies (out-Term (Term' tt (more_of-Head h end_of-Head) n ts ty)).head ≡ judges_bodies h
+pub head_judges : (h : Head) (n : List (Unit {0})) (ts : Row_of-Term (arity (the_former (this {0})) n)) (ty : Ty) → judges_bodies (out-Term (Term' tt (more_of-Head h end_of-Head) n ts ty)).head ≡ judges_bodies h
 head_judges h n ts ty = ap (λ z. judges_bodies z.head) (out_is h n ts ty)
+
+pub body_stays_at : (t : Term) → judges_bodies (out-Term t).head ≡ true → (cs : Changes) → judges_bodies (out-Term (term_changed t cs)).head ≡ true
+body_stays_at (Term' tt (more_of-Head (head.Hoare s) end_of-Head) n ts ty) m cs =
+    ap (λ z. judges_bodies (out-Term z).head) (term_changed_is (head.Hoare s) n ts ty cs)
+    ∙ ap (λ z. judges_bodies z.head) (out-roll-Term _) ∙ body_stays s (sym (head_judges (head.Hoare s) n ts ty) ∙ m) cs
+body_stays_at (Term' tt (more_of-Head (head.Phoare s r) end_of-Head) n ts ty) m cs =
+    ap (λ z. judges_bodies (out-Term z).head) (term_changed_is (head.Phoare s r) n ts ty cs)
+    ∙ ap (λ z. judges_bodies z.head) (out-roll-Term _) ∙ body_stays s (sym (head_judges (head.Phoare s r) n ts ty) ∙ m) cs
+body_stays_at (Term' tt (more_of-Head (head.Equiv s u) end_of-Head) n ts ty) m cs =
+    ap (λ z. judges_bodies (out-Term z).head) (term_changed_is (head.Equiv s u) n ts ty cs)
+    ∙ ap (λ z. judges_bodies z.head) (out-roll-Term _) ∙ body_stays s (sym (head_judges (head.Equiv s u) n ts ty) ∙ m) cs
+body_stays_at (Term' tt (more_of-Head h end_of-Head) n ts ty) m cs = absurd (false≢true (sym (head_judges h n ts ty) ∙ m))
 
 abbrev IsJudged : Leaf → Type 0
 IsJudged l = judges_bodies (out-Term l.conclusion).head ≡ true
 
 module _ (c : LeafContext) (hs : List Term) where
-  one_judged : (t : Term) → judges_bodies (out-Term (term_changed t c.changes)).head ≡ true → AllByRecursion IsJudged (whole t c hs)
-  one_judged t e = (e, tt)
+  -- a judgment on bodies isn't split
+  pub judged_whole : (t : Term) → judges_bodies (out-Term t).head ≡ true → split t c hs ≡ whole t c hs
+  judged_whole (Term' tt (more_of-Head (head.Hoare s) end_of-Head) n ts ty) m = unsplit (head.Hoare s) (leaves.parts ts) (Term' tt (more_of-Head (head.Hoare s) end_of-Head) n ts ty) c hs refl
+  judged_whole (Term' tt (more_of-Head (head.Phoare s r) end_of-Head) n ts ty) m = unsplit (head.Phoare s r) (leaves.parts ts) (Term' tt (more_of-Head (head.Phoare s r) end_of-Head) n ts ty) c hs refl
+  judged_whole (Term' tt (more_of-Head (head.Equiv s u) end_of-Head) n ts ty) m = unsplit (head.Equiv s u) (leaves.parts ts) (Term' tt (more_of-Head (head.Equiv s u) end_of-Head) n ts ty) c hs refl
+  judged_whole (Term' tt (more_of-Head h end_of-Head) n ts ty) m = absurd (false≢true (sym (head_judges h n ts ty) ∙ m))
 
   judged_split : (t : Term) → judges_bodies (out-Term t).head ≡ true → AllByRecursion IsJudged (split t c hs)
-  judged_split (Term' tt (more_of-Head (head.Hoare s) end_of-Head) n ts ty) m =
-      let t : Term = Term' tt (more_of-Head (head.Hoare s) end_of-Head) n ts ty in
-      subst (AllByRecursion IsJudged) (sym (unsplit (head.Hoare s) (leaves.parts ts) t c hs refl))
-      (one_judged t
-      (ap (λ z. judges_bodies (out-Term z).head) (term_changed_is (head.Hoare s) n ts ty c.changes)
-      ∙ ap (λ z. judges_bodies z.head) (out-roll-Term _) ∙ body_stays s (sym (head_judges (head.Hoare s) n ts ty) ∙ m) c.changes))
-  judged_split (Term' tt (more_of-Head (head.Phoare s r) end_of-Head) n ts ty) m =
-      let t : Term = Term' tt (more_of-Head (head.Phoare s r) end_of-Head) n ts ty in
-      subst (AllByRecursion IsJudged) (sym (unsplit (head.Phoare s r) (leaves.parts ts) t c hs refl))
-      (one_judged t
-      (ap (λ z. judges_bodies (out-Term z).head) (term_changed_is (head.Phoare s r) n ts ty c.changes)
-      ∙ ap (λ z. judges_bodies z.head) (out-roll-Term _) ∙ body_stays s (sym (head_judges (head.Phoare s r) n ts ty) ∙ m) c.changes))
-  judged_split (Term' tt (more_of-Head (head.Equiv s u) end_of-Head) n ts ty) m =
-      let t : Term = Term' tt (more_of-Head (head.Equiv s u) end_of-Head) n ts ty in
-      subst (AllByRecursion IsJudged) (sym (unsplit (head.Equiv s u) (leaves.parts ts) t c hs refl))
-      (one_judged t
-      (ap (λ z. judges_bodies (out-Term z).head) (term_changed_is (head.Equiv s u) n ts ty c.changes)
-      ∙ ap (λ z. judges_bodies z.head) (out-roll-Term _) ∙ body_stays s (sym (head_judges (head.Equiv s u) n ts ty) ∙ m) c.changes))
-  judged_split (Term' tt (more_of-Head h end_of-Head) n ts ty) m = absurd (false≢true (sym (head_judges h n ts ty) ∙ m))
+  judged_split t m = subst (AllByRecursion IsJudged) (sym (judged_whole t m)) (body_stays_at t m c.changes, tt)
 
 -- A form that quantifies over modules is one hypothesis.
 no_literal : (t : Term) → has_module t ≡ true → is_true (out-Term t).head ≡ false

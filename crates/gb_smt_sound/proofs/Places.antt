@@ -52,7 +52,7 @@ IsTrueLeaf b g i l =
 
 -- Lists.
 
-one_more : {X : Type 0} (xs : List X) (x : X) → length (xs ++ x ∷ []) ≡ length xs + 1
+pub one_more : {X : Type 0} (xs : List X) (x : X) → length (xs ++ x ∷ []) ≡ length xs + 1
 one_more xs x = omega (arith, length-append xs (x ∷ []))
 
 each_more : {X : Type 0} (P : X → Type 0) (xs : List X) (x : X) → AllByRecursion P xs → P x → AllByRecursion P (xs ++ x ∷ [])
@@ -67,7 +67,7 @@ each_moved_by : {X : Type 0} (P R Q : X → Type 0) → ((x : X) → P x → R x
 each_moved_by P R Q f [] a b = tt
 each_moved_by P R Q f (x ∷ xs) a b = (f x a.0 b.0, each_moved_by P R Q f xs a.1 b.1)
 
-frames_more : (fs : List (List TypedName)) (ls : List TypedName) → map (λ l. Some l) fs ++ Some ls ∷ [] ≡ map (λ l. Some l) (fs ++ ls ∷ [])
+pub frames_more : (fs : List (List TypedName)) (ls : List TypedName) → map (λ l. Some l) fs ++ Some ls ∷ [] ≡ map (λ l. Some l) (fs ++ ls ∷ [])
 frames_more [] ls = refl
 frames_more (f ∷ fs) ls = ap (λ ns. Some f ∷ ns) (frames_more fs ls)
 

@@ -3,11 +3,10 @@ use Rattle.std.proofs.Common.{◌≡◌, Bool, true, false, ◌||◌, if◌then�
 use Rattle.std.specs.List.{list_any, flat_map, All, AllByRecursion}
 use Rattle.std.proofs.lemmas.Bool.{false≢true}
 use Rattle.std.proofs.lemmas.List.{length-map}
-use Rattle.std.proofs.lemmas.List.Elements.{All-head, All-tail, All-from_recursion}
+use Rattle.std.proofs.lemmas.List.Elements.{All-head, All-tail}
 use Rattle.gb_core.specs.declared.ty.Ty.{Ty}
 use Rattle.gb_core.specs.declared.value.Value.{Value}
 use Rattle.gb_terms.specs.declared.decl.TypedName.{TypedName}
-use Rattle.gb_terms.specs.declared.module.Bind.{Bind}
 use Rattle.gb_terms.specs.declared.term.Term.{Term, out-Term}
 use Rattle.gb_goal.specs.Goal.{judges_bodies}
 use Rattle.gb_goal.specs.Scope as scope
@@ -16,7 +15,7 @@ use Rattle.gb_goal.specs.declared.sequent.Sequent.{Sequent}
 use Rattle.gb_meaning.specs.Memory.{Memory}
 use Rattle.gb_meaning.specs.Setting.{Setting}
 use Rattle.gb_meaning.specs.State.{State}
-use Rattle.gb_meaning.specs.Judgments.{Judge, IsFair, den}
+use Rattle.gb_meaning.specs.Judgments.{Judge, IsFair, speaking, den}
 use Rattle.gb_holds.specs.Declared.{Declarations, declared}
 use Rattle.gb_holds.specs.Settings.{Interpretation, types_of, setting}
 use Rattle.gb_holds.specs.Truth.{has_module, Truth}
@@ -27,7 +26,7 @@ use Rattle.gb_typed.specs.Finite.{IsFinite, IsInhabited}
 use Rattle.gb_typed.specs.Programs.{HaveFiniteTypes}
 use Rattle.gb_typing.specs.Context.{Context, Frame}
 use Rattle.gb_typing.specs.Typing.{IsForm}
-use Rattle.gb_typing.specs.Formulas.{with_module, IsFormula}
+use Rattle.gb_typing.specs.Formulas.{IsFormula}
 use Rattle.gb_typing.specs.Fits.{IsSettingOf}
 use Rattle.gb_typing.specs.Scopes.{context_of, IsTypedScope}
 use Rattle.gb_typing.specs.Sequents.{with_modules, IsConclusion, AreFormulas, of_sequent, IsTypedSequent}
@@ -41,27 +40,25 @@ use Rattle.gb_amb.proofs.Wider.{small}
 use Rattle.gb_eval.specs.Meant.{AreBodies}
 use Rattle.gb_smt.specs.declared.leaves.Leaf.{Leaf}
 use Rattle.gb_smt.specs.Leaves as leaves
-use Rattle.gb_smt.specs.Leaves.{assumed, assumed_of, split, hyps_with, speaks_of_programs, leaves_of}
-use Rattle.gb_smt.specs.Apply.{IsClosed, ClosesByClaim}
+use Rattle.gb_smt.specs.Leaves.{assumed, assumed_of, hyps_with, speaks_of_programs, leaves_of}
+use Rattle.gb_smt.specs.Claims.{claim_of}
+use Rattle.gb_smt.specs.Apply.{Closes, IsClosed, ClosesByClaim}
 use Rattle.gb_smt_laws.specs.Ready.{SmtIsReady}
 use Rattle.gb_smt_laws.proofs.Bodies.{scope_bodies}
-use Rattle.gb_smt_laws.proofs.Rule.{AreTrueForms, AreKnown, IsConcluded, all_known, operators_meant}
-use Rattle.gb_smt_laws.proofs.Typed as by_claims
+use Rattle.gb_smt_laws.proofs.Rule.{AreTrueForms, AreKnown, IsConcluded, conclusion_true, all_known}
+use Rattle.gb_smt_laws.proofs.Typed.{goal_ready}
 use Rattle.gb_equality_laws.specs.Alike.{RespectAlike}
 use Rattle.gb_equality_laws.proofs.Respects.{scope_respects}
 use Rattle.gb_smt_sound.proofs.Opening.{opening_start}
-use Rattle.gb_smt_sound.proofs.Places.{AreForms, IsTrueLeaf, Place, Given, both_given, assumed_given}
+use Rattle.gb_smt_sound.proofs.Places.{AreForms, AreTrueIn, IsTrueLeaf, Place, Given, both_given, assumed_given}
 use Rattle.gb_smt_sound.proofs.Split.{split_true}
 use Rattle.gb_smt.specs.Equations.{used_up}
 use Rattle.gb_smt_sound.proofs.UsedUp.{used_true}
-use Rattle.gb_smt_sound.proofs.Leaves.{valid_is_true, claimed_is_true}
+use Rattle.gb_smt_sound.proofs.Leaves.{operators_stay, valid_is_true, claim_holds, leaf_holds, claimed_is_true}
+use Rattle.gb_smt_sound.proofs.TypedLeaves.{IsTypedLeaf, leaves_typed}
+use Rattle.gb_smt_laws.specs.Closing.{LeafHolds}
 use Rattle.gb_smt_sound.proofs.NoForms.{module_assumed, module_hyps, module_conclusion, judged_conclusion}
 use Rattle.gb_equality_laws.proofs.Results.{HasResults, each_results}
-
--- the modules of a goal are no operators
-operators_stay : (bs : List Bind) (c : Context) → (with_modules c bs).operator ≡ c.operator
-operators_stay [] c = refl
-operators_stay (b ∷ bs) c = operators_stay bs (with_module c b)
 
 all_finite : (xs : List TypedName) → HaveFiniteTypes xs → AllByRecursion IsFinite (map (λ x. x.ty) xs)
 all_finite [] w = tt
@@ -158,35 +155,32 @@ module _ (es : scope.Declarations) (typed : IsTypedScope (declared es)) (q : Seq
         assumed = a.1;
       }
 
-      leaf_true : (known : List Term) → SmtIsReady es g known q → (l : Leaf) → IsClosed es l → IsTrueLeaf b g i l
-      leaf_true known r l (inl e) = used_true b g i fair (length l.hyps) l (valid_is_true b g i (used_up l) respects e.valid)
-      leaf_true known r l (inr c) = claimed_is_true ds q.modules t.modules g es bodies (operators_meant es ds known q k r) i fair l c
+      leaf_true : (l : Leaf) → IsClosed es l → IsTrueLeaf b g i l
+      leaf_true l (inl e) = used_true b g i fair (length l.hyps) l (valid_is_true b g i (used_up l) respects e.valid)
+      leaf_true l (inr c) = claimed_is_true es typed q.modules t.modules g bodies i fair l c
 
-      leaves_true : (known : List Term) → SmtIsReady es g known q → (ls : List Leaf) → All (IsClosed es) ls → AllByRecursion (IsTrueLeaf b g i) ls
-      leaves_true known r [] a = tt
-      leaves_true known r (l ∷ ls) a = (leaf_true known r l (All-head (IsClosed es) l ls a), leaves_true known r ls (All-tail (IsClosed es) l ls a))
+      leaves_true : (ls : List Leaf) → All (IsClosed es) ls → AllByRecursion (IsTrueLeaf b g i) ls
+      leaves_true [] a = tt
+      leaves_true (l ∷ ls) a = (leaf_true l (All-head (IsClosed es) l ls a), leaves_true ls (All-tail (IsClosed es) l ls a))
 
       conclusion_form : has_module q.conclusion ≡ false → judges_bodies (out-Term q.conclusion).head ≡ false → IsForm c q.conclusion
       conclusion_form m n = formula_form c q.conclusion (conclusion_formula c q.conclusion (subst (λ c. IsConclusion c q.conclusion) outermost t.conclusion) n) m
 
-      concluded : (known : List Term) → AreForms c known → SmtIsReady es g known q → All (IsClosed es) (leaves_of known q) →
+      concluded : (known : List Term) → AreForms c known → All (IsClosed es) (leaves_of known q) →
           list_any has_module (hyps_with known q) ≡ false → has_module q.conclusion ≡ false → judges_bodies (out-Term q.conclusion).head ≡ false →
           AreTrue ds q.hyps k s → AreTrueForms ds known k s → den g i q.conclusion s ≡ true
-      concluded known forms ready closed n m j h x =
+      concluded known forms closed n m j h x =
           let form = conclusion_form m j in
           let same = unchanged c q.conclusion form.typed [] tt in
           let o = none_of (flat_map assumed_of q.hyps) (flat_map assumed known) n in
           let given = both_given c g i s (flat_map assumed_of q.hyps) (flat_map assumed known)
           (hyps_give q.hyps (subst (λ c. AreFormulas c q.hyps) outermost t.hyps) h o.0) (known_give known forms x) in
           ap (λ z. den g i z s) (sym same)
-          ∙ split_true b g i fair q.conclusion (leaves.context_of q) (hyps_with known q) (leaves_true known ready (leaves_of known q) closed) c form.typed us ns vs ms
+          ∙ split_true b g i fair q.conclusion (leaves.context_of q) (hyps_with known q) (leaves_true (leaves_of known q) closed) c form.typed us ns vs ms
           (start (hyps_with known q) given) (subst (IsForm c) (sym same) form)
 
   module _ (known : List Term) (forms : AllByRecursion (IsForm (of_sequent (context_of ds) q t.frames)) known) (closed : All (IsClosed es) (leaves_of known q))
       (held : AllByRecursion (λ f. Holds ds (record q { conclusion = f })) known) where
-    holds_by_claims : AllByRecursion (ClosesByClaim es) (leaves_of known q) → Holds ds q
-    holds_by_claims a = by_claims.closed_holds es typed q t known forms (All-from_recursion (ClosesByClaim es) (leaves_of known q) a) held
-
     -- what is known of a setting
     abbrev IsFitting : Interpretation → Type 0
     IsFitting k = (IsSettingOf (of_sequent (context_of ds) q t.frames) (setting ds k) × HasResults ds k) × AreKnown ds q known k
@@ -206,13 +200,33 @@ module _ (es : scope.Declarations) (typed : IsTypedScope (declared es)) (q : Seq
     forms_here = subst (λ c. AreForms c known) outermost forms
 
     ready : (k : Interpretation) → Fits k → SmtIsReady es (setting ds k) known q
-    ready k fit = by_claims.goal_ready ds (setting ds k) fit.types.inhabited q t es (scope_bodies es k typed) known forms
+    ready k fit = goal_ready ds (setting ds k) fit.types.inhabited q t es (scope_bodies es k typed) known forms
+
+    -- each leaf holds, where a claim closes each
+    module _ (k : Interpretation) (fit : Fits k) (i : Judge) (fair : IsFair (setting ds k) i) where
+      fit_here : IsSettingOf c (setting ds k)
+      fit_here = subst (λ c. IsSettingOf c (setting ds k)) outermost fit
+
+      leaves_hold : (ls : List Leaf) → AllByRecursion (IsTypedLeaf b) ls → AllByRecursion (ClosesByClaim es) ls → AllByRecursion (LeafHolds (setting ds k) (speaking (setting ds k) i)) ls
+      leaves_hold [] w a = tt
+      leaves_hold (l ∷ ls) w a = (leaf_holds es typed q.modules t.modules (setting ds k) (scope_bodies es k typed) i fair us ns fit_here l w.0 a.0, leaves_hold ls w.1 a.1)
+
+    all_typed : AllByRecursion (IsTypedLeaf b) (leaves_of known q)
+    all_typed =
+        leaves_typed b q us (all_finite q.logical t.logical) ns (t.frames, refl) (sym (length-map q.logical (λ x. x.ty))) (sym t.memories ∙ sym (length-map t.frames Some)) known forms_here
+        (subst (λ c. AreFormulas c q.hyps) outermost t.hyps) (subst (λ c. IsConclusion c q.conclusion) outermost t.conclusion)
+
+    holds_by_claims : AllByRecursion (ClosesByClaim es) (leaves_of known q) → Holds ds q
+    holds_by_claims a =
+        joined ds q IsFitting IsFitting (IsConcluded ds q q.conclusion)
+        (λ k x y vs v ms h. conclusion_true ds k es known q (ready k x.0.0) vs v ms (λ i fair. leaves_hold k x.0.0 i fair (leaves_of known q) all_typed a) h (x.1 vs v ms h))
+        fitting fitting
 
     by_leaves : list_any has_module (hyps_with known q) ≡ false → has_module q.conclusion ≡ false → judges_bodies (out-Term q.conclusion).head ≡ false → Holds ds q
     by_leaves n m j =
         joined ds q IsFitting IsFitting (IsConcluded ds q q.conclusion)
         (λ k x y vs v ms h. (without_modules ds q.conclusion k (context vs ms) m).1
-        (λ i fair. concluded k x.0.0 x.0.1 vs v ms i fair known forms_here (ready k x.0.0) closed n m j h (x.1 vs v ms h)))
+        (λ i fair. concluded k x.0.0 x.0.1 vs v ms i fair known forms_here closed n m j h (x.1 vs v ms h)))
         fitting fitting
 
     by_judged : list_any has_module (hyps_with known q) ≡ false → has_module q.conclusion ≡ false → (j : Bool) → judges_bodies (out-Term q.conclusion).head ≡ j → Holds ds q
@@ -230,3 +244,11 @@ module _ (es : scope.Declarations) (typed : IsTypedScope (declared es)) (q : Seq
     -- A typed goal holds where each of its leaves is closed, and the forms that are known besides follow.
     pub closed_holds : Holds ds q
     closed_holds = by_hyps (list_any has_module (hyps_with known q)) refl
+
+  -- A claim of forms of the goal's context that closes is true in each setting of it.
+  pub claims_are_true : (g : Setting) → IsSettingOf (of_sequent (context_of ds) q t.frames) g → AreBodies g es → (i : Judge) → IsFair g i → (hs : List Term) (f : Term) →
+      AreForms (of_sequent (context_of ds) q t.frames) hs → IsForm (of_sequent (context_of ds) q t.frames) f → Closes es (claim_of hs f) →
+      (vs : List Value) → AreValues g.types us vs → (ms : List Memory) → AreTrueIn g i (context vs ms) hs → den g i f (context vs ms) ≡ true
+  claims_are_true g fits bodies i fair hs f forms form closes =
+      claim_holds es typed q.modules t.modules us (all_finite q.logical t.logical) t.frames g (subst (λ c. IsSettingOf c g) outermost fits) bodies i fair hs f closes
+      (subst (λ c. AreForms c hs) outermost forms) (subst (λ c. IsForm c f) outermost form)

@@ -20,13 +20,12 @@ use Rattle.gb_meaning.specs.State.{State, memory_of}
 use Rattle.gb_meaning.specs.Terms.{read_at, val}
 use Rattle.gb_meaning.specs.Judgments.{Judge, IsFair, speaking, den}
 use Rattle.gb_meaning.specs.Written.{type_of}
-use Rattle.gb_laws.proofs.Nodes.{each_is_node, val_node}
+use Rattle.gb_laws.proofs.Nodes.{val_node}
 use Rattle.gb_laws.proofs.Truths.{truth_of}
 use Rattle.gb_holds.specs.Holds.{context}
 use Rattle.gb_typed.specs.Operators.{IsNoDistribution}
-use Rattle.gb_typed.specs.Typing.{IsHead}
 use Rattle.gb_typed.proofs.Nodes.{type_of_node}
-use Rattle.gb_typing.specs.Context.{Context, Frame, erased}
+use Rattle.gb_typing.specs.Context.{Context, Frame}
 use Rattle.gb_typing.specs.Typing.{IsTyped, IsForm}
 use Rattle.gb_typing.specs.Fits.{IsSettingOf}
 use Rattle.gb_typing.proofs.Made.{IsNode, parts_typed}
@@ -38,6 +37,7 @@ use Rattle.gb_smt_laws.proofs.Equations.{IsUse, IsEquation, equation_used, none_
 use Rattle.gb_smt_laws.proofs.Used.{same_left, same_right, each_taken, each_dropped, each_together}
 use Rattle.gb_smt_sound.proofs.Places.{AreForms, AreTrueIn, IsTrueLeaf}
 use Rattle.gb_smt_sound.proofs.Put.{form_changed, form_means}
+use Rattle.gb_smt_sound.proofs.TypedLeaves.{variable_is}
 
 module _ (b : Context) (us : List Ty) (ns : List Frame) (g : Setting) (fits : IsSettingOf (small b us ns) g) (i : Judge) (fair : IsFair g i) (vs : List Value) (ms : List Memory) where
   abbrev c : Context
@@ -50,15 +50,6 @@ module _ (b : Context) (us : List Ty) (ns : List Frame) (g : Setting) (fits : Is
   abbrev Keeps : Changes → Type 0
   Keeps cs = (f : Term) → IsForm c f → IsForm c (term_changed f cs) × (val g (speaking g i) (term_changed f cs) s ≡ val g (speaking g i) f s)
 
-  no_arguments : (r : Read) (ts : List Term) (ty : Ty) → IsHead (erased c) (head.Read r) (map type_of ts) ty → ts ≡ []
-  no_arguments r [] ty w = refl
-  no_arguments r (t ∷ ts) ty w = absurd w
-
-  variable_is : (x : Term) (r : Read) → (out-Term x).head ≡ head.Read r → IsTyped c x → x ≡ node (head.Read r) [] (out-Term x).ty
-  variable_is x r e w =
-      let is = each_is_node x ∙ ap (λ h. node h (out-Term x).args (out-Term x).ty) e in
-      is ∙ ap (λ ts. node (head.Read r) ts (out-Term x).ty) (no_arguments r (out-Term x).args (out-Term x).ty (parts_typed c (head.Read r) (out-Term x).args (out-Term x).ty (subst (IsTyped c) is w)).0)
-
   -- variables have values
   read_finite : (r : Read) (ty : Ty) → (v : Value) × (read_at g r ty s ≡ finite v)
   read_finite (Logical k) ty = (get_or vs k (Num 0), refl)
@@ -67,7 +58,7 @@ module _ (b : Context) (us : List Ty) (ns : List Frame) (g : Setting) (fits : Is
   variable_value : (x : Term) (r : Read) → (out-Term x).head ≡ head.Read r → IsTyped c x → (v : Value) × (val g (speaking g i) x s ≡ finite v)
   variable_value x r e w =
       let v = read_finite r (out-Term x).ty in
-      (v.0, ap (λ t. val g (speaking g i) t s) (variable_is x r e w) ∙ val_node g (speaking g i) (head.Read r) [] (out-Term x).ty s ∙ v.1)
+      (v.0, ap (λ t. val g (speaking g i) t s) (variable_is b us ns x r e w) ∙ val_node g (speaking g i) (head.Read r) [] (out-Term x).ty s ∙ v.1)
 
   -- a term in place of a variable that has its value
   use_keeps : (x u : Term) (d : Change) → IsUse x u d → IsTyped c x → IsTyped c u → type_of x ≡ type_of u → IsNoDistribution (type_of x) →
@@ -78,7 +69,7 @@ module _ (b : Context) (us : List Ty) (ns : List Frame) (g : Setting) (fits : Is
       ty = (out-Term x).ty
 
       is : x ≡ node (head.Read k.read) [] ty
-      is = variable_is x k.read k.is_read w
+      is = variable_is b us ns x k.read k.is_read w
 
       there : IsTyped c (node (head.Read k.read) [] ty)
       there = subst (IsTyped c) is w

@@ -34,8 +34,9 @@ use Rattle.gb_typing.proofs.Lifted.{sequent_outermost}
 use Rattle.gb_typing.proofs.Lists.{each_hidden, typed_if}
 use Rattle.gb_typing.proofs.Shapes.{code_back}
 use Rattle.gb_typing.proofs.TypedGoals.{conclusion_goal}
-use Rattle.gb_print_names.specs.declared.place.Enumeration.{Enumeration}
-use Rattle.gb_print_names.specs.Names.{Name, Place, typed_name}
+use Rattle.gb_shapes.specs.declared.place.Enumeration.{Enumeration}
+use Rattle.gb_shapes.specs.Names.{Name, Place}
+use Rattle.gb_print_names.specs.Names.{typed_name}
 use Rattle.gb_print_text.specs.Goals.{place_of_goal}
 use Rattle.gb_readback.specs.Written.{is_path_there, is_name_there, AreWritten, IsWritten, IsWrittenHead, IsWrittenInstr, AreWrittenInstrs, AreWrittenForms}
 use Rattle.gb_readback.specs.Written as w

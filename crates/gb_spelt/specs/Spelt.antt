@@ -24,7 +24,7 @@ use Rattle.gb_terms.specs.declared.term.Instr.{Instr}
 use Rattle.gb_terms.specs.declared.term.Cmd.{Cmd}
 use Rattle.gb_goal.specs.declared.sequent.Hyp.{Hyp}
 use Rattle.gb_goal.specs.declared.sequent.Sequent.{Sequent}
-use Rattle.gb_print_names.specs.Names.{Name, Place}
+use Rattle.gb_shapes.specs.Names.{Name, Place}
 use Rattle.gb_print_names.specs.Occurring.{inside}
 use Rattle.gb_shapes.specs.Open.{type_of, is_open, is_int, type_read}
 use Rattle.gb_print_text.specs.Layout.{outcome, type_needed}

@@ -29,7 +29,7 @@ use Rattle.gb_linear.specs.Closing.{compared, all_assumed, allowed, rest, is_clo
 use Rattle.gb_sums.specs.Forms.{is_constant}
 use Rattle.gb_sums.specs.declared.forms.LinearForm.{LinearForm}
 use Rattle.gb_theory.specs.Commands.{closed_unless, entering, entered, OnBoth, on_guard, transformed, Applied}
-use Rattle.gb_print_names.specs.declared.place.Enumeration.{Enumeration}
+use Rattle.gb_shapes.specs.declared.place.Enumeration.{Enumeration}
 use Rattle.gb_spelt_laws.specs.Named.{IsNamedSequent}
 use Rattle.gb_spelt_laws.specs.Rules.{AreNamedArguments, AreNamedGlobals, AreNamedOperators, AreNamedProcedures, IsNamedRelational, IsNamedRule, KeepsNames}
 use Rattle.gb_spelt_laws.proofs.Conclusions.{conclusions_keep}

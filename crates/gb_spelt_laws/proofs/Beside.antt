@@ -22,10 +22,11 @@ use Rattle.gb_parts.specs.OneBody.{OneBody}
 use Rattle.gb_amb.specs.Quantified.{goal_quantifies_modules}
 use Rattle.gb_call_both.specs.OneSide.{speaks}
 use Rattle.gb_trans.specs.Places.{At, statement_at}
-use Rattle.gb_guards.specs.Decided.{Decision, deciding, decision}
+use Rattle.gb_premises.specs.Decided.{deciding}
+use Rattle.gb_guards.specs.Decided.{Decision, decision}
 use Rattle.gb_beside.specs.Beside.{other, beside, memory_name, known_beside, by_decision, at_place, on_body, one_of_two, beside_answer}
-use Rattle.gb_print_names.specs.declared.place.Enumeration.{Enumeration}
-use Rattle.gb_print_names.specs.Names.{Name, is_among}
+use Rattle.gb_shapes.specs.declared.place.Enumeration.{Enumeration}
+use Rattle.gb_shapes.specs.Names.{Name, is_among}
 use Rattle.gb_print_names.specs.Occurring.{judgment_locals}
 use Rattle.gb_print_text.specs.Goals.{context_names}
 use Rattle.gb_readback.specs.Written.{is_name_text}

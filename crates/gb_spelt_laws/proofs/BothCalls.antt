@@ -35,7 +35,7 @@ use Rattle.gb_call_both.specs.Call.{before_both, both_goals, by_both_globals, cl
 use Rattle.gb_call_both.specs.OneSide.{speaks, on_side, unless_speaking, judged, lost, side_goals, by_side_globals, where_full, of_side_callee, of_body, on_one_side}
 use Rattle.gb_call_known.specs.Known as known
 use Rattle.gb_call_known.specs.Known.{contract, by_chances, by_conditions, behind, behind_first}
-use Rattle.gb_print_names.specs.declared.place.Enumeration.{Enumeration}
+use Rattle.gb_shapes.specs.declared.place.Enumeration.{Enumeration}
 use Rattle.gb_spelt_laws.specs.Named.{IsNamed, IsNamedGoal, IsNamedSequent}
 use Rattle.gb_spelt_laws.specs.Rules.{AreNamedProcedures, AreNamedGlobals, IsNamedContract, IsNamedIfAny, KeepsNames}
 use Rattle.gb_spelt_laws.proofs.Trees.{node_named}

@@ -41,7 +41,7 @@ use Rattle.gb_call.specs.Call.{Callee, outcome, before_call, call_goals, in_fron
 use Rattle.gb_call.specs.LastCall.{LastCall, of_statement, behind, last_call}
 use Rattle.gb_call.specs.Outcomes.{put_for, of_arguments, Outcome, global_values, result_bound, reads_result, bound_of, of_outcome, left_side, of_return, after_where, after_call, clash_after}
 use Rattle.gb_call.specs.Written.{type_in, global_type, typed_before, with_types}
-use Rattle.gb_print_names.specs.declared.place.Enumeration.{Enumeration}
+use Rattle.gb_shapes.specs.declared.place.Enumeration.{Enumeration}
 use Rattle.gb_readback.specs.Written.{IsWrittenProcedure}
 use Rattle.gb_spelt_laws.specs.Named.{IsNamedType, IsNamed, IsNamedInstr, IsNamedGoal, IsNamedVariable}
 use Rattle.gb_spelt_laws.specs.Rules.{IsNamedProcedure, AreNamedProcedures, AreNamedGlobals, IsNamedContract, KeepsNames}

@@ -29,7 +29,7 @@ use Rattle.gb_full.specs.Lossless.{full, of_rest}
 use Rattle.gb_phoare.specs.Hoare.{never, at_most_goals, at_least_goals, exactly, hoare_row}
 use Rattle.gb_phoare.specs.Rnd.{measured, without_sampling, unless_clash, by_end, rnd_row}
 use Rattle.gb_phoare.specs.Rows.{chance_row}
-use Rattle.gb_print_names.specs.declared.place.Enumeration.{Enumeration}
+use Rattle.gb_shapes.specs.declared.place.Enumeration.{Enumeration}
 use Rattle.gb_spelt_laws.specs.Named.{IsNamed, IsNamedCode, IsNamedGoal}
 use Rattle.gb_spelt_laws.specs.Rules.{KeepsNames}
 use Rattle.gb_spelt_laws.proofs.Trees.{node_named}

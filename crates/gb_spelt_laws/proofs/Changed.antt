@@ -20,7 +20,7 @@ use Rattle.gb_changes.proofs.Changing.{kept_at, arguments_of}
 use Rattle.gb_changes.proofs.Forms.{procedure_stays}
 use Rattle.gb_changes.proofs.Leading.{OnSome, read_found_each, bound_found_each}
 use Rattle.gb_changes.proofs.Lookups.{each_filter, each_map}
-use Rattle.gb_print_names.specs.declared.place.Enumeration.{Enumeration}
+use Rattle.gb_shapes.specs.declared.place.Enumeration.{Enumeration}
 use Rattle.gb_spelt_laws.specs.Named.{IsNamedResult, IsNamedSubject, IsNamedHead, IsNamed, AreNamed}
 use Rattle.gb_spelt_laws.proofs.Trees.{AllNamed, node_named, raised_named}
 use mathlib.Core.Former.{Count}

@@ -43,7 +43,7 @@ use Rattle.gb_amb.specs.Parts.{at_most_form, bounded_at, by_premise, by_shape, c
 use Rattle.gb_amb.specs.Quantified.{goal_quantifies_modules, quantifies_modules}
 use Rattle.gb_amb.specs.Steps.{IsAnswer, assuming, by_cases}
 use Rattle.gb_amb.specs.Witness.{at_memory, memory_witnessed_at, witnessed_at}
-use Rattle.gb_print_names.specs.declared.place.Enumeration.{Enumeration}
+use Rattle.gb_shapes.specs.declared.place.Enumeration.{Enumeration}
 use Rattle.gb_readback.specs.Written.{is_name_text}
 use Rattle.gb_spelt_laws.specs.Named.{IsNamedHead, IsNamed, IsNamedGoal, IsNamedVariable, IsNamedHyp, IsNamedSequent}
 use Rattle.gb_spelt_laws.specs.Rules.{IsNamedStep}

@@ -25,7 +25,7 @@ use Rattle.gb_typing.specs.Forms.{and_form, implies_form, not_form, equal_form, 
 use Rattle.gb_chance.specs.Compared.{number, zero as zero_form, one as one_form, at_most_form, compared, certain_or_not}
 use Rattle.gb_parts.specs.Assigned.{parts_from, part_types, parts_at, taken, put_in, assigned_form}
 use Rattle.gb_parts.specs.Likely.{iff_form, as_likely}
-use Rattle.gb_print_names.specs.declared.place.Enumeration.{Enumeration}
+use Rattle.gb_shapes.specs.declared.place.Enumeration.{Enumeration}
 use Rattle.gb_readback.specs.Written.{in_range, is_numeral_here}
 use Rattle.gb_spelt_laws.specs.Named.{IsNamedType, AreNamedTypes, IsNamedResult, IsNamed}
 use Rattle.gb_spelt_laws.proofs.Types.{out_bool}

@@ -34,8 +34,8 @@ use Rattle.gb_typing.specs.Scopes.{context_of}
 use Rattle.gb_typing.proofs.Conclusions.{formula_form}
 use Rattle.gb_typing.proofs.Shapes.{goal_form, node_out}
 use Rattle.gb_typing.proofs.TypedGoals.{conclusion_goal}
-use Rattle.gb_print_names.specs.declared.place.Enumeration.{Enumeration}
-use Rattle.gb_print_names.specs.Names.{Place}
+use Rattle.gb_shapes.specs.declared.place.Enumeration.{Enumeration}
+use Rattle.gb_shapes.specs.Names.{Place}
 use Rattle.gb_print_names.specs.Occurring.{inside}
 use Rattle.gb_print_text.specs.Goals.{place_of_goal}
 use Rattle.gb_readback.specs.Written.{is_name_text, IsWrittenType}

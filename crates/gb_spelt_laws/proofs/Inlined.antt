@@ -47,7 +47,7 @@ use Rattle.gb_inline.specs.Renamed.{Renamings, name_renamed, var_renamed, reads_
 use Rattle.gb_inline.specs.Expanded.{each_set, result_set, in_place, expanded}
 use Rattle.gb_forms.specs.Firsts.{none_got, first_of, firsts}
 use Rattle.gb_inline.specs.Inlined.{is_asked, unless_unproved, asked, Expansion, side_inlined, next_inlined, statement_inlined, row_inlined, each_inlined, used, once, going_on, repeated, without_calls, inlined, or_none, or_given, both_inlined, inline_both, inline_row}
-use Rattle.gb_print_names.specs.declared.place.Enumeration.{Enumeration}
+use Rattle.gb_shapes.specs.declared.place.Enumeration.{Enumeration}
 use Rattle.gb_readback.specs.Written.{is_name_text, is_path, is_numeral_here, is_target_here, are_targets_here}
 use Rattle.gb_readback.proofs.Tokens.{both}
 use Rattle.gb_spelt.proofs.Forms.{name_path}

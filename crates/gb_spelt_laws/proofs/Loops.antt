@@ -29,7 +29,7 @@ use Rattle.gb_forms.specs.Loops.{written}
 use Rattle.gb_loops.specs.Read.{read_in}
 use Rattle.gb_loops.specs.While.{turning, at_end, before_loop, loop_goals, kept_weight, by_written, by_loop, is_certain, where_certain, one_loop, in_step, at_both_ends, read_both, both_goals, clashing_both, both_written, by_both, both_loops, while_row}
 use Rattle.gb_forms.specs.Loops.{turn_goal}
-use Rattle.gb_print_names.specs.declared.place.Enumeration.{Enumeration}
+use Rattle.gb_shapes.specs.declared.place.Enumeration.{Enumeration}
 use Rattle.gb_spelt_laws.specs.Named.{IsNamed, IsNamedInstr, IsNamedGoal}
 use Rattle.gb_spelt_laws.specs.Rules.{KeepsNames}
 use Rattle.gb_spelt_laws.proofs.Forms.{and_named, implies_named, not_named, equal_named, located_named}

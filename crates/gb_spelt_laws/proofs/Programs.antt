@@ -47,7 +47,7 @@ use Rattle.gb_bodies.specs.Seq.{seq_row}
 use Rattle.gb_bodies.specs.Skip.{skip_row}
 use Rattle.gb_bodies.specs.Wp.{unless_clash, before, before_row, before_all, ending, front, staying, wp_both, wp_one}
 use Rattle.gb_forms.specs.Branches.{by_test}
-use Rattle.gb_print_names.specs.declared.place.Enumeration.{Enumeration}
+use Rattle.gb_shapes.specs.declared.place.Enumeration.{Enumeration}
 use Rattle.gb_spelt_laws.specs.Named.{IsNamed, IsNamedInstr, AreNamedInstrs, IsNamedGoal}
 use Rattle.gb_spelt_laws.specs.Rules.{IsNamedProcedure, AreNamedProcedures, IsNamedIfAny, IsNamedRule, KeepsNames}
 use Rattle.gb_spelt_laws.proofs.Changed.{changed_named}

@@ -33,8 +33,9 @@ use Rattle.gb_equiv.specs.Drawn.{clashing}
 use Rattle.gb_relational.specs.OneSide.{with_value, each_drawn, before_drawing, by_end, drawn_row}
 use Rattle.gb_forms.specs.Surely.{drawing, surely_drawn}
 use Rattle.gb_relational.specs.Rows.{rule_row}
-use Rattle.gb_relational.specs.Transitivity.{from_left, to_right, reads_between, some_between, every_between, through, transitivity_row}
-use Rattle.gb_print_names.specs.declared.place.Enumeration.{Enumeration}
+use Rattle.gb_premises.specs.Between.{from_left, to_right, reads_between, some_between}
+use Rattle.gb_relational.specs.Transitivity.{every_between, through, transitivity_row}
+use Rattle.gb_shapes.specs.declared.place.Enumeration.{Enumeration}
 use Rattle.gb_spelt_laws.specs.Named.{IsNamed}
 use Rattle.gb_spelt_laws.specs.Rules.{IsNamedBetween, IsNamedRelational, KeepsNames}
 use Rattle.gb_spelt_laws.proofs.Trees.{node_named}

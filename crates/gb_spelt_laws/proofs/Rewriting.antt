@@ -38,7 +38,7 @@ use Rattle.gb_rewrite.specs.Unfolded.{names, is_operator, unfolded, all_unfolded
 use Rattle.gb_forms.specs.Arguments.{in_places}
 use Rattle.gb_rewrite.proofs.Layers.{unfolded_out}
 use Rattle.gb_rewrite.proofs.Parts.{rewritten_out}
-use Rattle.gb_print_names.specs.declared.place.Enumeration.{Enumeration}
+use Rattle.gb_shapes.specs.declared.place.Enumeration.{Enumeration}
 use Rattle.gb_spelt_laws.specs.Named.{IsNamed, AreNamed, IsNamedInstr, AreNamedInstrs, IsNamedSubject, IsNamedHead, IsNamedCode, IsNamedGoal, IsNamedHyp, IsNamedSequent}
 use Rattle.gb_spelt_laws.specs.Rules.{AreNamedOperators, IsNamedRewrite}
 use Rattle.gb_spelt_laws.proofs.Trees.{AllNamed, node_named, parts_named, terms_named}

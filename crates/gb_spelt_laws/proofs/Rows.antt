@@ -17,7 +17,7 @@ use Rattle.gb_goal.specs.Rows.{Row, concluding, each_concluding, answered, stepp
 use Rattle.gb_goal.specs.declared.sequent.Sequent.{Sequent}
 use Rattle.gb_typing.proofs.Given.{refused_at, same_given}
 use Rattle.gb_typing.proofs.Shapes.{code_back, form_goal}
-use Rattle.gb_print_names.specs.declared.place.Enumeration.{Enumeration}
+use Rattle.gb_shapes.specs.declared.place.Enumeration.{Enumeration}
 use Rattle.gb_spelt_laws.specs.Named.{IsNamedSubject, IsNamedHead, IsNamed, IsNamedCode, IsNamedGoal, IsNamedSequent}
 use Rattle.gb_spelt_laws.specs.Rules.{KeepsNames}
 use Rattle.gb_spelt_laws.proofs.Trees.{AllNamed, parts_named}

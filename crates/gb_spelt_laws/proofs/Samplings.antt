@@ -35,7 +35,7 @@ use Rattle.gb_forms.specs.Coupled.{composed, keeps_weights, couples, coupled_pos
 use Rattle.gb_equiv.specs.Symmetry.{symmetry_row}
 use Rattle.gb_forms.specs.declared.coupled.Maps.{Maps}
 use Rattle.gb_forms.specs.declared.coupled.Coupled.{Coupled}
-use Rattle.gb_print_names.specs.declared.place.Enumeration.{Enumeration}
+use Rattle.gb_shapes.specs.declared.place.Enumeration.{Enumeration}
 use Rattle.gb_spelt_laws.specs.Named.{IsNamedType, IsNamedResult, IsNamed, IsNamedInstr, IsNamedGoal}
 use Rattle.gb_spelt_laws.specs.Rules.{KeepsNames}
 use Rattle.gb_spelt_laws.proofs.Trees.{AllNamed, node_named, parts_named}

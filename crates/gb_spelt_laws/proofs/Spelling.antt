@@ -23,9 +23,9 @@ use Rattle.gb_terms.specs.declared.term.Subject.{Subject}
 use Rattle.gb_terms.specs.Heads.{is_judgment}
 use Rattle.gb_typed.specs.Operators.{IsOperator}
 use Rattle.gb_typed.specs.Typing.{types_of, IsHead}
-use Rattle.gb_print_names.specs.declared.place.Enumeration.{Enumeration}
-use Rattle.gb_print_names.specs.declared.place.Known.{Known}
-use Rattle.gb_print_names.specs.Names.{Name, Place}
+use Rattle.gb_shapes.specs.declared.place.Enumeration.{Enumeration}
+use Rattle.gb_shapes.specs.declared.place.Known.{Known}
+use Rattle.gb_shapes.specs.Names.{Name, Place}
 use Rattle.gb_print_names.specs.Occurring.{inside, judgment_locals}
 use Rattle.gb_shapes.specs.Open.{is_open, is_int, type_read}
 use Rattle.gb_print_text.specs.Layout.{outcome, type_needed, is_mod_layer}

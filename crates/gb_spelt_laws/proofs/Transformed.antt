@@ -23,10 +23,12 @@ use Rattle.gb_trans.specs.Effects.{effects_of}
 use Rattle.gb_trans.specs.Places.{At, cut_at, statement_at, on_place}
 use Rattle.gb_trans.specs.Swap.{before, first, second, rest, exchanged, apart, exchange, moved, swapped, swap_row}
 use Rattle.gb_trans.specs.Transformed.{with_body, transforming}
-use Rattle.gb_guards.specs.Decided.{Decision, decision, deciding, decision_goals, decided, decided_row}
-use Rattle.gb_guards.specs.Unrolled.{turn, turn_before, unrolled, unroll_row}
+use Rattle.gb_premises.specs.Decided.{deciding}
+use Rattle.gb_guards.specs.Decided.{Decision, decision, decision_goals, decided, decided_row}
+use Rattle.gb_premises.specs.Turns.{turn}
+use Rattle.gb_guards.specs.Unrolled.{turn_before, unrolled, unroll_row}
 use Rattle.gb_kill.specs.Kill.{may_go, killed_at, killed, kill_row}
-use Rattle.gb_print_names.specs.declared.place.Enumeration.{Enumeration}
+use Rattle.gb_shapes.specs.declared.place.Enumeration.{Enumeration}
 use Rattle.gb_spelt_laws.specs.Named.{IsNamed, IsNamedInstr}
 use Rattle.gb_spelt_laws.specs.Rules.{KeepsNames}
 use Rattle.gb_spelt_laws.proofs.Forms.{not_named}

@@ -20,7 +20,7 @@ use Rattle.gb_meaning.specs.Trees.{row}
 use Rattle.gb_meaning.specs.Commands.{terms_in}
 use Rattle.gb_laws.proofs.Nodes.{term_is_node}
 use Rattle.gb_changes.proofs.Trees.{raised_at, term_raised_is, out_is}
-use Rattle.gb_print_names.specs.declared.place.Enumeration.{Enumeration}
+use Rattle.gb_shapes.specs.declared.place.Enumeration.{Enumeration}
 use Rattle.gb_spelt_laws.specs.Named.{IsNamedResult, IsNamedSubject, IsNamedHead, IsNamed, AreNamed}
 use mathlib.Core.Former.{Count}
 

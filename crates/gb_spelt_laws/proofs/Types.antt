@@ -8,8 +8,9 @@ use Rattle.gb_core.specs.declared.ty.Ty.{Ty, Row_of-Ty, end_of-Ty, more_of-Ty, o
 use Rattle.gb_core.specs.declared.ty.Ty.TheVariants as ty
 use Rattle.gb_core.specs.declared.ty.Ty.TheOpen as layer
 use Rattle.gb_core.specs.declared.ty.Ty.TheBlock as B
-use Rattle.gb_print_names.specs.declared.place.Known.{Known}
-use Rattle.gb_print_names.specs.Names.{Name, module_name}
+use Rattle.gb_shapes.specs.declared.place.Known.{Known}
+use Rattle.gb_shapes.specs.Names.{Name}
+use Rattle.gb_print_names.specs.Names.{module_name}
 use Rattle.gb_readback.specs.Written.{is_path, IsWrittenType, AreWrittenTypes}
 use Rattle.gb_readback.specs.Written as w
 use Rattle.gb_spelt_laws.specs.Named.{HasTwo, IsNamedType, AreNamedTypes}

@@ -14,7 +14,7 @@ use Rattle.gb_steps.specs.declared.step.UseRule.{UseRule}
 use Rattle.gb_steps.specs.declared.step.UseRule.TheVariants.{Apply, Have}
 use Rattle.gb_typing.proofs.Given.{refused_at, same_given}
 use Rattle.gb_use.specs.Uses.{implication_at, ArePremises, IsAnswer}
-use Rattle.gb_print_names.specs.declared.place.Enumeration.{Enumeration}
+use Rattle.gb_shapes.specs.declared.place.Enumeration.{Enumeration}
 use Rattle.gb_spelt_laws.specs.Named.{IsNamed, IsNamedSequent}
 use Rattle.gb_spelt_laws.specs.Rules.{IsNamedUse}
 use Rattle.gb_spelt_laws.proofs.Trees.{AllNamed, parts_named}

@@ -6,8 +6,8 @@ ghost use Rattle.std.specs.Option.{option_copied};
 ghost use Rattle.gb_terms.specs.Nodes.{saturated};
 ghost use Rattle.gb_goal.specs.Nodes.{sequent_nodes};
 
+use gb_core::Stack;
 use gb_goal::sequent::{Sequent, Sequents, nodes};
-use gb_shared::Stack;
 use std::alloc::{AllocError, Global};
 use std::marker::Model;
 

@@ -1,9 +1,9 @@
 // Proof steps with typed arguments.
 
+use gb_core::Shared;
 use gb_core::name::Name;
 use gb_core::place::Place;
 use gb_num::Frac;
-use gb_shared::Shared;
 use gb_terms::module::ProcRef;
 use gb_terms::term::{Form, RealTerm, Term, Terms};
 use sqlite_items::Items;

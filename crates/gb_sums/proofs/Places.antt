@@ -3,8 +3,8 @@ use Rattle.std.proofs.Common.{◌≡◌, ℕ, suc, ◌<◌, Bool, true, false, i
 use Rattle.std.specs.List.{remove, slice_get}
 use Rattle.gb_num.specs.Fractions.{Fraction}
 use Rattle.gb_terms.specs.declared.term.Term.{Term}
-use Rattle.gb_sums.specs.declared.forms.Summand.{Summand}
-use Rattle.gb_sums.specs.Numbers as numbers
+use Rattle.gb_closing.specs.declared.summands.Summand.{Summand}
+use Rattle.gb_closing.specs.Numbers as numbers
 use Rattle.gb_sums.specs.Forms.{coefficient, is_same, place_in, without}
 
 abbrev place_by : Bool → ℕ → ℕ

@@ -1,16 +1,18 @@
 -- Linear forms: a constant, and different terms with their coefficients.
-use Rattle.std.specs.Prelude.{ℕ, suc, Bool, true, false, if◌then◌else◌, List, [], ◌∷◌, ◌++◌}
+use Rattle.std.specs.Prelude.{ℕ, suc, Bool, true, false, if◌then◌else◌, List, [], ◌∷◌}
 use Rattle.std.specs.List.{list_all}
 use Rattle.gb_num.specs.Fractions.{Fraction}
 use Rattle.gb_terms.specs.declared.term.Term.{Term}
 use Rattle.gb_apart.proofs.SameTerms.{same_terms}
 use Rattle.gb_goal.specs.Answers.{Answer, ◌>>=◌}
 use Rattle.gb_goal.specs.Answers.Answer.{given}
-use Rattle.gb_sums.specs.declared.numbers.Sign.{Sign}
+use Rattle.gb_closing.specs.declared.numbers.Sign.{Sign}
 use Rattle.gb_sums.specs.declared.numbers.Stands.{Stands}
-use Rattle.gb_sums.specs.declared.forms.Summand.{Summand}
+use Rattle.gb_closing.specs.declared.summands.Summand.{Summand}
 use Rattle.gb_sums.specs.declared.forms.LinearForm.{LinearForm}
-use Rattle.gb_sums.specs.Numbers.{operated, multiplied, zero, one, is_zero}
+use Rattle.gb_closing.specs.Numbers.{operated, zero}
+use Rattle.gb_closing.specs.Summands.{with_coefficient, besides}
+use Rattle.gb_sums.specs.Numbers.{multiplied, one, is_zero}
 
 abbrev pub is_yes : {A : Type 0} → Dec A → Bool
 is_yes (yes p) = true
@@ -34,22 +36,6 @@ without (x ∷ xs) t = if is_same x.term t then xs else x ∷ without xs t
 abbrev pub place_in : List Summand → Term → ℕ
 place_in [] t = 0
 place_in (x ∷ xs) t = if is_same x.term t then 0 else suc (place_in xs t)
-
--- what is given, behind what was given before
-abbrev pub behind : {A : Type 0} → List A → Answer (List A) → Answer (List A)
-behind xs a = a >>= λ ys. given (xs ++ ys)
-
--- the term with this coefficient
-abbrev pub with_coefficient : Term → Answer Fraction → Answer Summand
-with_coefficient t a = a >>= λ c. given (record { term = t; coefficient = c })
-
--- what the second form of a sum or a difference has besides the first one
-abbrev pub besides : Sign → List Summand → Answer (List Summand)
-besides sign [] = given []
-besides sign (y ∷ ys) = do
-  z ← with_coefficient y.term (operated sign zero y.coefficient)
-  zs ← besides sign ys
-  given (z ∷ zs)
 
 -- The summands of a sum or a difference, in order of first occurrence: each of the first form with what the second one has of its
 -- term, and then those that the second one has besides.

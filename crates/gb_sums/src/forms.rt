@@ -2,24 +2,18 @@
 
 ghost use Rattle.std.specs.Prelude.{◌≡◌, IfOk};
 ghost use Rattle.gb_goal.specs.Answers.{Answers};
-ghost use Rattle.gb_sums.specs.Forms.{alone, behind, besides, coefficient, combined, each_scaled, is_constant, is_same, merged, of_number, place_in, scaled, without};
+ghost use Rattle.gb_closing.specs.Summands.{behind, besides};
+ghost use Rattle.gb_sums.specs.Forms.{alone, coefficient, combined, each_scaled, is_constant, is_same, merged, of_number, place_in, scaled, without};
 
-use crate::numbers::{Sign, Stands, is_zero, multiplied, operated};
+use crate::numbers::{Stands, is_zero, multiplied};
+use gb_closing::numbers::{Sign, operated};
+use gb_closing::summands::{Summand, Summands, besides, with_coefficient};
 use gb_core::refusal::Refused;
 use gb_num::Frac;
 use gb_terms::same::same;
 use gb_terms::term::Term;
 use sqlite_items::Items;
 use std::alloc::{AllocError, Global};
-
-/// A term with its coefficient.
-#[derive(Drop)]
-pub struct Summand {
-    pub term: Term,
-    pub coefficient: Frac,
-}
-
-pub type Summands = Items<Summand>;
 
 /// A constant, and different terms with their coefficients.
 #[derive(Drop)]
@@ -62,14 +56,6 @@ fn take(list: &mut Summands, t: &Term) -> Frac
     }
 }
 
-/// The term with this coefficient.
-fn with_coefficient(t: &Term, coefficient: Frac) -> Result<Summand, AllocError>
-    ensures { IfOk result (λ made. made ≡ record { term = t.now; coefficient = coefficient }) }
-{
-    let term = t.share()?;
-    Ok(Summand { term, coefficient })
-}
-
 /// Summands with one owner more of their terms.
 fn shared(alloc: Global, list: &[Summand]) -> Result<Summands, AllocError>
     ensures { IfOk result (λ made. made ≡ list.now) }
@@ -77,23 +63,6 @@ fn shared(alloc: Global, list: &[Summand]) -> Result<Summands, AllocError>
     let mut out = Items::new(alloc);
     for x in list {
         out.push(with_coefficient(&x.term, x.coefficient)?)?;
-    }
-    Ok(out)
-}
-
-/// The summands that the second form has besides.
-fn besides(
-    alloc: Global,
-    sign: Sign,
-    first: Summands,
-    second: &[Summand],
-) -> Result<Summands, Refused>
-    ensures { Answers (behind first (besides sign second.now)) result }
-{
-    let mut out = first;
-    for y in second {
-        let number = operated(sign, Frac::of_whole(0), y.coefficient)?;
-        out.push(with_coefficient(&y.term, number)?)?;
     }
     Ok(out)
 }

@@ -1,9 +1,9 @@
 // Declarations of a script.
 
 use crate::term::{Cmd, Term};
+use gb_core::Shared;
 use gb_core::name::Name;
 use gb_core::ty::Ty;
-use gb_shared::Shared;
 use sqlite_items::Items;
 
 /// A name with its type.

@@ -1,7 +1,7 @@
 // Module expressions and module binders.
 
+use gb_core::SharedItems;
 use gb_core::name::{Name, Names};
-use gb_shared::SharedItems;
 use sqlite_items::Items;
 
 /// A module by its name, or a functor applied to some of its parameters.

@@ -9,7 +9,7 @@ use crate::op::Read;
 use crate::term::{Cmd, Instr, Instrs, Subject, Term, Terms};
 use gb_core::copy::copy_var;
 use gb_core::var::Var;
-use gb_shared::{Shared, SharedItems};
+use gb_core::{Shared, SharedItems};
 use sqlite_items::Items;
 use std::alloc::{AllocError, Global};
 

@@ -6,7 +6,7 @@ use gb_core::name::Name;
 use gb_core::ty::Ty;
 use gb_core::value::Value;
 use gb_core::var::Var;
-use gb_shared::{Shared, SharedItems};
+use gb_core::{Shared, SharedItems};
 use sqlite_items::Items;
 
 /// A value and its weight.

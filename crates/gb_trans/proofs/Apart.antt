@@ -14,7 +14,7 @@ use Rattle.gb_local.specs.Cells.{Key}
 use Rattle.gb_local.specs.Cells.Key.{global, local}
 use Rattle.gb_local.specs.Writes.{key_of_global, keys_of, IsNone, Spares}
 use Rattle.gb_local.proofs.Cells.{key_discrete}
-use Rattle.gb_trans.specs.declared.effects.Effects.{Effects}
+use Rattle.gb_premises.specs.declared.effects.Effects.{Effects}
 use Rattle.gb_trans.specs.Effects.{crossing, meets}
 use Rattle.gb_trans.proofs.Named.{EachNamed}
 

@@ -27,7 +27,7 @@ use Rattle.gb_mods.proofs.Closed.{AreFollowed, IsIn, all_closed}
 use Rattle.gb_typing.specs.Context.{Context}
 use Rattle.gb_typing.specs.Programs.{EachStatement, IsProcedure}
 use Rattle.gb_prog.specs.Loops.{RunAlike}
-use Rattle.gb_trans.specs.declared.effects.Effects.{Effects}
+use Rattle.gb_premises.specs.declared.effects.Effects.{Effects}
 use Rattle.gb_trans.specs.Effects.{crossing, effects_if, effects_of}
 use Rattle.gb_trans.proofs.Apart.{naming, uncrossed, unmet_unnamed, unnamed_spared}
 use Rattle.gb_trans.proofs.Crossing as alike

@@ -29,7 +29,7 @@ use Rattle.gb_parts.specs.OneBody.{OneBody}
 use Rattle.gb_prog.specs.Ends.{IsSoundLoopRule}
 use Rattle.gb_prog.specs.Loops.{RunAlike}
 use Rattle.gb_prog.proofs.Couplings.{alike_back, alike_between}
-use Rattle.gb_trans.specs.declared.effects.Effects.{Effects}
+use Rattle.gb_premises.specs.declared.effects.Effects.{Effects}
 use Rattle.gb_steps.specs.declared.step.Passing.{Passing}
 use Rattle.gb_trans.specs.Effects.{crossing, effects_of}
 use Rattle.gb_trans.specs.Swap.{apart, before, exchange, exchanged, first, moved, rest, second, swap_row, swapped, unless_crossing}

@@ -1,21 +1,14 @@
 -- What statements write and touch, through every procedure that they call.
-use Rattle.std.specs.Prelude.{Bool, List, ◌++◌, Option, Some, None}
+use Rattle.std.specs.Prelude.{Bool, List, Option, Some, None}
 use Rattle.std.specs.List.{filter, list_any}
-use Rattle.std.specs.Option.{option_map}
 use Rattle.gb_core.specs.declared.var.Var.{Var}
 use Rattle.gb_terms.specs.declared.module.ProcRef.{ProcRef}
 use Rattle.gb_terms.specs.declared.term.Instr.{Instr}
 use Rattle.gb_walk.specs.Clash.{clashes, least, least_from}
 use Rattle.gb_goal.specs.Scope.{Declarations}
 use Rattle.gb_mods.specs.Called.{all_reached, calls}
-use Rattle.gb_mods.specs.Footprint.{touched}
-use Rattle.gb_mods.specs.Touched.{each_touched}
-use Rattle.gb_mods.specs.Written.{targets, written_by}
-use Rattle.gb_trans.specs.declared.effects.Effects.{Effects}
-
--- the effects of statements that call these procedures, through all of them
-abbrev pub effects_by : Declarations → List Instr → List ProcRef → Option Effects
-effects_by ds is ps = option_map (λ xs. record { written = targets is ++ xs; touched = each_touched is ++ touched ds ps }) (written_by ds ps)
+use Rattle.gb_premises.specs.Effects.{effects_by}
+use Rattle.gb_premises.specs.declared.effects.Effects.{Effects}
 
 abbrev pub effects_if : Declarations → List Instr → Option (List ProcRef) → Option Effects
 effects_if ds is None = None

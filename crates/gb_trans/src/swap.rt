@@ -17,6 +17,7 @@ ghost use Rattle.gb_trans.specs.Swap.{apart, exchange, moved, swap_row, swapped}
 ghost use Rattle.gb_trans.specs.Transformed.{with_body};
 
 use crate::effects::{crossing, effects_of};
+use gb_core::SharedItems;
 use gb_core::copy::copy_var;
 use gb_core::refusal::{Refused, Why};
 use gb_goal::goal::goal_of;
@@ -24,7 +25,6 @@ use gb_goal::scope::Scope;
 use gb_goal::sequent::{Sequent, Sequents};
 use gb_parts::one_body::{OneBody, filled, one_body};
 use gb_parts::subgoals::{no_shape, one_goal, refusal};
-use gb_shared::SharedItems;
 use gb_steps::step::{Acts, Passing};
 use gb_terms::term::{Instr, Instrs};
 use sqlite_items::Items;

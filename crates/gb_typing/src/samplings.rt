@@ -6,7 +6,7 @@ ghost use Rattle.gb_typing.specs.Samplings.{sampling_of, of_statement, last_samp
 
 use gb_core::ty::Ty;
 use gb_core::var::Var;
-use gb_shared::{Shared, SharedItems};
+use gb_core::{Shared, SharedItems};
 use gb_terms::share::share_instrs;
 use gb_terms::term::{Instr, Term};
 use std::alloc::{AllocError, Global};

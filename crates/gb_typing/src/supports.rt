@@ -3,8 +3,8 @@
 ghost use Rattle.std.specs.Prelude.{◌≡◌, IfOk};
 ghost use Rattle.gb_typing.specs.Supports.{nearest, in_support, weight, for_support};
 
+use gb_core::Shared;
 use gb_core::ty::Ty;
-use gb_shared::Shared;
 use gb_terms::make::{binary, forall, implication, leaf, truth_ty};
 use gb_terms::op::Op;
 use gb_terms::term::{Form, Head, Term};

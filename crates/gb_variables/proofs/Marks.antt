@@ -5,8 +5,8 @@ use mathlib.Core.Bool.{beq}
 use Rattle.std.proofs.lemmas.Bool.{false≢true}
 use Rattle.std.proofs.lemmas.List.{drop_more}
 use Rattle.gb_terms.specs.declared.term.Term.{Term}
-use Rattle.gb_variables.specs.Variables.{Vars, share}
-use Rattle.gb_variables.specs.Components.{joined, linked, is_joined, inside, outside, marked}
+use Rattle.gb_closing.specs.Linked.{Vars, share, linked}
+use Rattle.gb_variables.specs.Components.{joined, is_joined, inside, outside, marked}
 
 linked_by : (own : Vars) (test : Vars → Bool) (all : List Vars) → linked own all (map test all) ≡ list_any (λ vs. test vs && share own vs) all
 linked_by own test [] = refl
@@ -20,23 +20,6 @@ joined_more n all from marks e =
     ∙ ap (λ m. map (joined m all from) all) (sym (add-one n))
 
 -- the rest of two lists, one place further
-module _ (own : Vars) (all : List Vars) (marks : List Bool) (at : ℕ) (l : at < length all) (e : length marks ≡ length all) where
-  pub linked_unmarked : get_or marks at false ≡ false → linked own (drop at all) (drop at marks) ≡ linked own (drop (at + 1) all) (drop (at + 1) marks)
-  linked_unmarked y =
-      let m : at < length marks = omega arith in
-      (λ i. linked own (drop_more all at [] l i) (drop_more marks at false m i))
-      ∙ ap (λ z. (z && share own (get_or all at [])) || linked own (drop (at + 1) all) (drop (at + 1) marks)) y
-
-  apart : (b : Bool) (vs : Vars) → share own vs ≡ false → ((b && share own vs) || linked own (drop (at + 1) all) (drop (at + 1) marks)) ≡ linked own (drop (at + 1) all) (drop (at + 1) marks)
-  apart false vs h = refl
-  apart true vs h = ap (λ z. z || linked own (drop (at + 1) all) (drop (at + 1) marks)) h
-
-  pub linked_apart : (vs : Vars) → vs ≡ get_or all at vs → share own vs ≡ false → linked own (drop at all) (drop at marks) ≡ linked own (drop (at + 1) all) (drop (at + 1) marks)
-  linked_apart vs x h =
-      let m : at < length marks = omega arith in
-      (λ i. linked own (drop_more all at vs l i) (drop_more marks at false m i))
-      ∙ apart (get_or marks at false) (get_or all at vs) (ap (share own) (sym x) ∙ h)
-
 module _ (wanted : Bool) (ts : List Term) (marks : List Bool) (at : ℕ) (l : at < length ts) (e : length marks ≡ length ts) where
   one_in : (w b : Bool) (t : Term) (us : List Term) (ms : List Bool) → beq b w ≡ true → marked w (t ∷ us) (b ∷ ms) ≡ t ∷ marked w us ms
   one_in true true t us ms h = refl

@@ -3,7 +3,8 @@ use Rattle.std.proofs.Common.{◌≡◌, ℕ, ◌+◌, ◌<◌, List, [], ◌∷
 use Rattle.std.specs.List.{flat_map}
 use Rattle.std.proofs.lemmas.List.{at_drop_more}
 use Rattle.gb_terms.specs.declared.term.Term.{Term}
-use Rattle.gb_variables.specs.Variables.{Vars, with_new, noted, term_variables}
+use Rattle.gb_closing.specs.Linked.{Vars}
+use Rattle.gb_variables.specs.Variables.{with_new, noted, term_variables}
 
 noted_append : (seen xs ys : Vars) → noted seen (xs ++ ys) ≡ noted (noted seen xs) ys
 noted_append seen [] ys = refl

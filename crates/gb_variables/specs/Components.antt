@@ -2,18 +2,14 @@
 use Rattle.std.specs.Prelude.{ℕ, zero, suc, Bool, true, false, not, ◌||◌, ◌&&◌, if◌then◌else◌, List, [], ◌∷◌, map, filter, length}
 use Rattle.std.specs.List.{list_any}
 use Rattle.gb_terms.specs.declared.term.Term.{Term}
-use Rattle.gb_variables.specs.Variables.{Vars, variables, share}
+use Rattle.gb_closing.specs.Linked.{Vars, share}
+use Rattle.gb_variables.specs.Variables.{variables}
 
 -- whether a chain of at most n of the lists leads from the first variables to these: each shares a variable with the
 -- one before it
 abbrev pub joined : ℕ → List Vars → Vars → Vars → Bool
 joined zero all from own = false
 joined (suc n) all from own = share own from || list_any (λ vs. joined n all from vs && share own vs) all
-
--- whether one of the marked lists shares a variable with these
-abbrev pub linked : Vars → List Vars → List Bool → Bool
-linked own (vs ∷ all) (b ∷ bs) = (b && share own vs) || linked own all bs
-linked own _ _ = false
 
 -- whether a hypothesis is joined with variables, through any others
 abbrev pub is_joined : List Term → Vars → Term → Bool

@@ -1,5 +1,5 @@
 -- The types of what is bound, and numbers of assignments.
-use Rattle.std.specs.Prelude.{◌^◌, Bool, false, nat_le, max, List, [], ◌∷◌, map}
+use Rattle.std.specs.Prelude.{max, List, [], ◌∷◌, map}
 use Rattle.gb_core.specs.declared.ty.Ty.{Ty}
 use Rattle.gb_core.specs.declared.value.Card.{Card}
 use Rattle.gb_core.specs.declared.value.Card.TheVariants.{Exact, Above}
@@ -21,11 +21,6 @@ of_memory h us = []
 abbrev pub read_by_only : List Term → Tys
 read_by_only (t ∷ []) = map (λ x. x.ty) (reads_of t)
 read_by_only _ = []
-
--- a claim of this width is tried
-abbrev pub is_tried : Card → Bool
-is_tried (Exact n) = nat_le n (2 ^ 20)
-is_tried Above = false
 
 abbrev pub greater : Card → Card → Card
 greater (Exact m) (Exact n) = Exact (max m n)

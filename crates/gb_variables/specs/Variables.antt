@@ -1,6 +1,6 @@
 -- The variables and reads of terms, each once.
-use Rattle.std.specs.Prelude.{Bool, if◌then◌else◌, Option, Some, None, List, [], ◌∷◌, ◌++◌}
-use Rattle.std.specs.List.{list_any, flat_map}
+use Rattle.std.specs.Prelude.{if◌then◌else◌, Option, Some, None, List, [], ◌∷◌, ◌++◌}
+use Rattle.std.specs.List.{flat_map}
 use Rattle.gb_core.specs.declared.ty.Ty.{Ty}
 use Rattle.gb_terms.specs.declared.op.Side.TheVariants.{Bound}
 use Rattle.gb_terms.specs.declared.op.Read.{Read}
@@ -9,11 +9,8 @@ use Rattle.gb_terms.specs.declared.term.Term.{Term}
 use Rattle.gb_terms.specs.declared.term.Head.{Head}
 use Rattle.gb_terms.specs.declared.term.Head.TheOpen as layer
 use Rattle.gb_terms.specs.declared.term.Head.TheFolds.{fold-Term, fold-Head}
-use Rattle.gb_terms.specs.Equal.{read_eq}
-use Rattle.gb_variables.specs.declared.variables.Variable.{Variable}
-
-abbrev pub Vars : Type 0
-Vars = List Variable
+use Rattle.gb_closing.specs.declared.linked.Variable.{Variable}
+use Rattle.gb_closing.specs.Linked.{Vars, is_among}
 
 -- a read of a memory that a binder binds is no variable of the term
 abbrev pub variable_of : Read → Option Read
@@ -47,9 +44,6 @@ term_variables = fold-Term (Option Read) (Unit {0}) (Unit {0}) (Unit {0}) Vars a
 abbrev pub head_read : Head → Option Read
 head_read = fold-Head (Option Read) (Unit {0}) (Unit {0}) (Unit {0}) Vars at_head at_instr at_subject at_cmd at_term
 
-abbrev pub is_among : Vars → Read → Bool
-is_among vs r = list_any (λ v. read_eq v.read r) vs
-
 abbrev pub with_new : Vars → Variable → Vars
 with_new vs v = if is_among vs v.read then vs else vs ++ v ∷ []
 
@@ -65,6 +59,3 @@ variables t = noted [] (term_variables t)
 -- those of hypotheses and a conclusion
 abbrev pub variables_in : List Term → Term → Vars
 variables_in hyps t = noted (noted [] (flat_map term_variables hyps)) (term_variables t)
-
-abbrev pub share : Vars → Vars → Bool
-share vs ws = list_any (λ v. is_among ws v.read) vs

@@ -1,10 +1,11 @@
 // Hypotheses that are joined by the variables that they share.
 
-ghost use Rattle.std.specs.Prelude.{◌≡◌, ◌||◌, map, length, false, IfOk};
-ghost use Rattle.gb_variables.specs.Variables.{variables, share};
-ghost use Rattle.gb_variables.specs.Components.{joined, linked, is_joined, marked};
+ghost use Rattle.std.specs.Prelude.{◌≡◌, map, length, false, IfOk};
+ghost use Rattle.gb_variables.specs.Variables.{variables};
+ghost use Rattle.gb_variables.specs.Components.{joined, is_joined, marked};
 
-use crate::variables::{Variable, Variables, share, variables};
+use crate::variables::variables;
+use gb_closing::linked::{Variable, Variables, marked_further};
 use gb_terms::term::{Term, Terms};
 use sqlite_items::Items;
 use std::alloc::{AllocError, Global};
@@ -20,19 +21,6 @@ fn variables_of_each(alloc: Global, hyps: &[Term]) -> Result<Items<Variables>, A
     Ok(all)
 }
 
-/// Whether one of the marked lists shares a variable with these.
-fn is_linked(own: &[Variable], all: &[Variables], marks: &[bool]) -> bool
-    requires { length marks.now ≡ length all.now }
-    ensures { result ≡ linked own.now all.now marks.now }
-{
-    for at in 0..all.len() {
-        if marks[at] && share(own, all[at].as_slice()) {
-            return true;
-        }
-    }
-    false
-}
-
 /// No marks.
 fn unmarked(alloc: Global, all: &[Variables]) -> Result<Items<bool>, AllocError>
     ensures { IfOk result (λ marks. marks ≡ map (λ own. false) all.now) }
@@ -42,23 +30,6 @@ fn unmarked(alloc: Global, all: &[Variables]) -> Result<Items<bool>, AllocError>
         marks.push(false)?;
     }
     Ok(marks)
-}
-
-/// Marks the lists that share a variable with the first ones or with one that was marked.
-fn marked_further(
-    alloc: Global,
-    all: &[Variables],
-    from: &[Variable],
-    marks: &[bool],
-) -> Result<Items<bool>, AllocError>
-    requires { length marks.now ≡ length all.now }
-    ensures { IfOk result (λ more. more ≡ map (λ own. share own from.now || linked own all.now marks.now) all.now) }
-{
-    let mut more = Items::new(alloc);
-    for own in all {
-        more.push(share(own.as_slice(), from) || is_linked(own.as_slice(), all, marks))?;
-    }
-    Ok(more)
 }
 
 /// Marks the hypotheses that are joined with variables.

@@ -1,23 +1,20 @@
-// How many values variables have together, and which numbers of assignments are tried.
+// How many values variables have together.
 
-ghost use Rattle.std.specs.Prelude.{◌≡◌, ◌≤◌, ◌*◌, ◌^◌, ◌&&◌, if◌then◌else◌, nat_lt, map, min, IfOk};
+ghost use Rattle.std.specs.Prelude.{◌≡◌, ◌≤◌, ◌*◌, ◌^◌, map, min, IfOk};
 ghost use Rattle.gb_core.specs.declared.ty.Ty.TheVariants.{Tuple};
-ghost use Rattle.gb_core.specs.declared.value.Card.TheVariants.{Exact, Above};
 ghost use Rattle.gb_types.specs.Numbering.{tuples};
 ghost use Rattle.gb_types.specs.Types.{all_true, is_finite, numbering, size_of, card_of};
 ghost use Rattle.gb_meaning.specs.Operators.{outcome_type};
-ghost use Rattle.gb_variables.specs.Sizes.{of_memory, read_by_only, is_tried, greater};
+ghost use Rattle.gb_variables.specs.Sizes.{of_memory, read_by_only, greater};
 
-use crate::variables::Variable;
+use gb_closing::linked::Variable;
 use gb_core::ty::Ty;
 use gb_core::value::Card;
+use gb_members::counted::card_at;
 use gb_reads::reads::{TypedVar, reads};
 use gb_terms::term::{Head, Term};
 use gb_types::size::{MANY, is_finite, size};
 use std::alloc::{AllocError, Global};
-
-/// The largest width of a claim that is tried, and the number of assignments at most.
-pub const MOST: u64 = 1 << 20;
 
 /// The product, up to `MANY`.
 pub fn times(a: u64, b: u64) -> u64
@@ -88,32 +85,11 @@ pub fn are_finite(variables: &[Variable]) -> bool
     true
 }
 
-/// A number of values, where there is one below `MANY`.
-pub fn card_at(finite: bool, count: u64) -> Card
-    ensures { result ≡ (if finite && nat_lt count (2 ^ 63) then Exact count else Above) }
-{
-    if finite && count < MANY {
-        Card::Exact(count)
-    } else {
-        Card::Above
-    }
-}
-
 /// The number of assignments to variables.
 pub fn number_of_values(variables: &[Variable]) -> Card
     ensures { result ≡ card_of (Tuple (map (λ v. v.ty) variables.now)) }
 {
     card_at(are_finite(variables), size_of_variables(variables))
-}
-
-/// Whether a claim of this width is tried.
-pub fn is_tried(width: Card) -> bool
-    ensures { result ≡ is_tried width }
-{
-    match width {
-        Card::Exact(n) => n <= MOST,
-        Card::Above => false,
-    }
 }
 
 /// The greater of two widths.

@@ -3,36 +3,16 @@
 ghost use Rattle.std.specs.Prelude.{◌≡◌, [], IfOk, OnOk};
 ghost use Rattle.std.specs.Option.{option_copied};
 ghost use Rattle.std.specs.List.{flat_map};
-ghost use Rattle.gb_variables.specs.Variables.{is_among, head_read, term_variables, noted, with_new, variable_of, variables, variables_in, share};
+ghost use Rattle.gb_variables.specs.Variables.{head_read, term_variables, noted, with_new, variable_of, variables, variables_in};
 
+use gb_closing::linked::{Variable, Variables, is_among};
+use gb_core::Shared;
 use gb_core::ty::Ty;
-use gb_shared::Shared;
 use gb_terms::op::{Read, Side};
-use gb_terms::same::same_read;
 use gb_terms::share::copy_read;
 use gb_terms::term::{Head, Term};
 use sqlite_items::Items;
 use std::alloc::{AllocError, Global};
-
-/// A variable or read, with its type.
-#[derive(Drop)]
-pub struct Variable {
-    pub read: Shared<Read>,
-    pub ty: Shared<Ty>,
-}
-
-pub type Variables = Items<Variable>;
-
-fn is_among(list: &[Variable], r: &Read) -> bool
-    ensures { result ≡ is_among list.now r.now }
-{
-    for variable in list {
-        if same_read(variable.read.get(), r) {
-            return true;
-        }
-    }
-    false
-}
 
 /// A read, but one of a memory that a binder binds.
 fn variable_of(r: &Read) -> Option<&Read>
@@ -118,16 +98,4 @@ pub fn variables_in(
     note_all(alloc, hyps, &mut list)?;
     note(alloc, conclusion, &mut list)?;
     Ok(list)
-}
-
-/// Whether a variable is in both lists.
-pub fn share(a: &[Variable], b: &[Variable]) -> bool
-    ensures { result ≡ share a.now b.now }
-{
-    for variable in a {
-        if is_among(b, variable.read.get()) {
-            return true;
-        }
-    }
-    false
 }

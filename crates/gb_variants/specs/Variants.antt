@@ -1,29 +1,25 @@
 -- What shows that a loop ends: its variant is above 0 where the guard is true, and each turn makes it less.
 use Rattle.std.specs.Prelude.{List, [], ◌∷◌, length, flat_map, codes}
 use Rattle.gb_core.specs.declared.ty.Ty.{Ty}
-use Rattle.gb_core.specs.declared.ty.Ty.TheVariants.{Bool as bool_ty}
 use Rattle.gb_core.specs.declared.value.Value.TheVariants.{Num}
 use Rattle.gb_terms.specs.declared.decl.TypedName.{TypedName}
-use Rattle.gb_terms.specs.declared.op.Op.TheVariants.{Less}
 use Rattle.gb_terms.specs.declared.op.Read.TheVariants.{Logical}
 use Rattle.gb_terms.specs.declared.op.Side.TheVariants.{Own}
 use Rattle.gb_terms.specs.declared.term.Head.TheVariants.{Lit, Read}
 use Rattle.gb_terms.specs.declared.term.Instr.{Instr}
 use Rattle.gb_terms.specs.declared.term.Term.{Term, out-Term}
-use Rattle.gb_terms.specs.Make.{applied, node}
+use Rattle.gb_terms.specs.Make.{node}
 use Rattle.gb_goal.specs.Goal.{form_of}
 use Rattle.gb_goal.specs.Goal.Code.{body}
 use Rattle.gb_goal.specs.Goal.Goal.{hoare}
 use Rattle.gb_goal.specs.declared.sequent.Sequent.{Sequent}
 use Rattle.gb_names.specs.Environment.{Name}
-use Rattle.gb_print_names.specs.Names.{is_among, primed}
+use Rattle.gb_shapes.specs.Names.{is_among, primed}
 use Rattle.gb_print_names.specs.Occurring.{judgment_locals}
+use Rattle.gb_premises.specs.Variants.{less}
 use Rattle.gb_typing.specs.Forms.{and_form, equal_form, every, implies_form}
 use Rattle.gb_variants.specs.Loops.{Loop, loops}
 use Rattle.gb_variants.specs.declared.variants.Loop.{Loop as Seen}
-
-abbrev pub less : Term → Term → Term
-less a b = applied Less (a ∷ b ∷ []) bool_ty
 
 -- the type of a loop's variant
 abbrev pub variant_type : Loop → Ty

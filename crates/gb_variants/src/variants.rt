@@ -2,21 +2,23 @@
 
 ghost use Rattle.std.specs.Prelude.{◌≡◌, [], ◌∷◌, ◌++◌, flat_map, IfOk};
 ghost use Rattle.gb_terms.specs.declared.term.Term.{out-Term};
-ghost use Rattle.gb_print_names.specs.Names.{is_among};
+ghost use Rattle.gb_shapes.specs.Names.{is_among};
 ghost use Rattle.gb_variants.specs.Loops.{loops, statement_loops};
-ghost use Rattle.gb_variants.specs.Variants.{above_zero, fallen, falling, falling_goal, goals_of, less, loop_goals, loop_seen, over_one, turning, unlike, value_before, value_name, zero_of};
+ghost use Rattle.gb_premises.specs.Variants.{less};
+ghost use Rattle.gb_variants.specs.Variants.{above_zero, fallen, falling, falling_goal, goals_of, loop_goals, loop_seen, over_one, turning, unlike, value_before, value_name, zero_of};
 
 use gb_core::name::Name;
 use gb_core::ty::Ty;
 use gb_core::value::Value;
+use gb_core::{Shared, SharedItems};
 use gb_goal::goal::hoare;
 use gb_goal::sequent::{Sequent, Sequents, ambient};
 use gb_parts::forms::{every, implied};
+use gb_premises::variants::less;
 use gb_print_names::occurring::names_inside;
-use gb_shared::{Shared, SharedItems};
 use gb_terms::decl::TypedName;
-use gb_terms::make::{binary, conjunction, equality, leaf, logical, truth_ty};
-use gb_terms::op::{Op, Side};
+use gb_terms::make::{conjunction, equality, leaf, logical};
+use gb_terms::op::Side;
 use gb_terms::term::{Cmd, Form, Head, Instr, Term};
 use sqlite_items::Items;
 use std::alloc::{AllocError, Global};
@@ -27,13 +29,6 @@ struct Loop<'a> {
     guard: &'a Term,
     variant: &'a Term,
     body: &'a Cmd,
-}
-
-fn less(alloc: Global, a: Term, b: Term) -> Result<Form, AllocError>
-    ensures { IfOk result (λ made. made ≡ less a b) }
-{
-    let ty = truth_ty(alloc)?;
-    binary(alloc, Op::Less, a, b, ty)
 }
 
 /// A term is above 0.

@@ -16,7 +16,8 @@ use Rattle.gb_prog.specs.Ends.{LoopsEnd}
 use Rattle.gb_typing.specs.Forms.{all_memory, implies_form, to_bound}
 use Rattle.gb_typing.proofs.Shapes.{form_goal, node_out}
 use Rattle.gb_variants.specs.Loops.{Loop, loops}
-use Rattle.gb_variants.specs.Variants.{above_zero, fallen, falling_goal, less, turning, variant_type, zero_of}
+use Rattle.gb_premises.specs.Variants.{less}
+use Rattle.gb_variants.specs.Variants.{above_zero, fallen, falling_goal, turning, variant_type, zero_of}
 use Rattle.gb_variants_laws.specs.Good.{LoopIsGood}
 use Rattle.gb_variants_laws.proofs.AllGood.{all_good}
 

@@ -58,7 +58,8 @@ use Rattle.gb_goal.specs.Goal.Code.{body}
 use Rattle.gb_goal.specs.Goal.Goal.{hoare}
 use Rattle.gb_typing.specs.Goals.{IsGoalOver}
 use Rattle.gb_variants.specs.Loops.{Loop}
-use Rattle.gb_variants.specs.Variants.{above_zero, fallen, less, turning, value_before, variant_type, zero_of}
+use Rattle.gb_premises.specs.Variants.{less}
+use Rattle.gb_variants.specs.Variants.{above_zero, fallen, turning, value_before, variant_type, zero_of}
 use Rattle.gb_variants_laws.proofs.TypedLoops.{IsTypedLoop}
 
 pub type_is : (t : Term) → (out-Term t).ty ≡ type_of t

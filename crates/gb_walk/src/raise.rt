@@ -12,7 +12,7 @@ use crate::rebuild::{
     rebuilt_call, rebuilt_if, rebuilt_sample, rebuilt_term, rebuilt_while, term_or_kept,
 };
 use gb_core::copy::copy_var;
-use gb_shared::{Shared, SharedItems};
+use gb_core::{Shared, SharedItems};
 use gb_terms::op::{Read, Side};
 use gb_terms::term::{Cmd, Head, Instr, Subject, Term};
 use sqlite_items::Items;

@@ -10,7 +10,7 @@ ghost use Rattle.gb_walk.specs.Rebuild.{caught_up, with_next};
 
 use gb_core::copy::copy_var;
 use gb_core::var::Var;
-use gb_shared::{Shared, SharedItems};
+use gb_core::{Shared, SharedItems};
 use gb_terms::module::{Mexp, ProcRef};
 use gb_terms::op::{Read, Rel, Side};
 use gb_terms::term::{Cmd, Head, Instr, Instrs, Subject, Term, Terms};

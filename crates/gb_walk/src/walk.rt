@@ -11,7 +11,7 @@ use crate::rebuild::{
     phoare_head, pr_head, put_instr, put_term, read_head, rebuilt_assign, rebuilt_body,
     rebuilt_call, rebuilt_if, rebuilt_sample, rebuilt_term, rebuilt_while, term_or_kept,
 };
-use gb_shared::{Shared, SharedItems};
+use gb_core::{Shared, SharedItems};
 use gb_terms::op::Read;
 use gb_terms::term::{Cmd, Head, Instr, Subject, Term};
 use sqlite_items::Items;

@@ -1,5 +1,5 @@
 use Rattle.std.proofs.Common.{◌≡◌, ◌-◌, length}
-use Rattle.gb_print_names.specs.Names.{is_among, primed}
+use Rattle.gb_shapes.specs.Names.{is_among, primed}
 use Rattle.gb_beside.proofs.names.unlike.Given as goal
 
 abbrev pub invariant-loop-tried : goal.invariant-loop-tried

@@ -1,6 +1,7 @@
 use Rattle.std.proofs.Common.{sym, ap, subst, ◌∙◌}
 use Rattle.std.proofs.lemmas.Bool.{false≢true}
-use Rattle.gb_equality.specs.Table.{AreJoined, label_at, labels_at}
+use Rattle.gb_closing.specs.Labels.{label_at, labels_at}
+use Rattle.gb_equality.specs.Table.{AreJoined}
 use Rattle.gb_equality.proofs.Places.{at_place}
 use Rattle.gb_equality.proofs.Reading.{joined_congruent, joined_different, settled_pair}
 use Rattle.gb_equality.proofs.closing.implied_by_pair.Goals as goal

@@ -1,5 +1,5 @@
 use Rattle.std.proofs.Common.{get_or, ap, ◌∙◌}
-use Rattle.gb_equality.specs.Table.{labels_at}
+use Rattle.gb_closing.specs.Labels.{labels_at}
 use Rattle.gb_equality.proofs.Places.{at_place}
 use Rattle.gb_equality.proofs.Reading.{row_match_at}
 use Rattle.gb_equality.proofs.closing.implied_by_row.Goals as goal

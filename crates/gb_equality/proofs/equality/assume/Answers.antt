@@ -1,6 +1,6 @@
 use Rattle.std.proofs.Common.{◌≡◌, ℕ, true, false, get_or, sym, subst, ◌∙◌, arith}
 use Rattle.std.proofs.lemmas.List.{get_or_default}
-use Rattle.gb_equality.specs.Table.{label_at}
+use Rattle.gb_closing.specs.Labels.{label_at}
 use Rattle.gb_equality.specs.Search.{IsEquated}
 use Rattle.gb_equality.proofs.Assuming.{still_read, still_rows, still_true, now_so, no_reading, more_true, assumed_so}
 use Rattle.gb_equality.proofs.equality.assume.Goals as goal

@@ -1,5 +1,5 @@
 use Rattle.std.proofs.Common.{◌≡◌, take, length, All}
-use Rattle.gb_equality.specs.Table.{label_at}
+use Rattle.gb_closing.specs.Labels.{label_at}
 use Rattle.gb_equality.proofs.Assuming.{KeepReadings}
 use Rattle.gb_equality.proofs.equality.assume.Given as goal
 

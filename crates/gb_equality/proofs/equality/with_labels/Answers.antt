@@ -1,5 +1,5 @@
 use Rattle.std.proofs.Common.{◌<◌, [], ◌∷◌, ◌++◌, length, ap, sym, ◌∙◌, arith}
-use Rattle.gb_equality.specs.Table.{label_at}
+use Rattle.gb_closing.specs.Labels.{label_at}
 use Rattle.gb_equality.proofs.Answering.{labels_more}
 use Rattle.gb_equality.proofs.equality.with_labels.Goals as goal
 

@@ -1,7 +1,7 @@
 use Rattle.std.proofs.Common.{◌<◌, ap, sym, ◌∙◌, arith}
 use Rattle.std.proofs.lemmas.Bool.{false≢true}
 use Rattle.gb_equality.specs.Connectives.{is_form}
-use Rattle.gb_equality.specs.Table.{label_at}
+use Rattle.gb_closing.specs.Labels.{label_at}
 use Rattle.gb_equality.proofs.Places.{at_place}
 use Rattle.gb_equality.proofs.Searching.{decided_more, decided_small}
 use Rattle.gb_equality.proofs.search.undecided.Goals as goal

@@ -3,8 +3,8 @@ use Rattle.std.proofs.lemmas.Result.{err_from_is_err_and}
 use Rattle.gb_goal.specs.Answers.{◌>>=◌}
 use Rattle.gb_goal.specs.Answers.Answer.{given}
 use Rattle.gb_linear.specs.declared.linear.Prefix.TheVariants as Prefixes
-use Rattle.gb_sums.specs.declared.numbers.Sign.TheVariants.{Minus}
-use Rattle.gb_sums.specs.Numbers.{zero}
+use Rattle.gb_closing.specs.declared.numbers.Sign.TheVariants.{Minus}
+use Rattle.gb_closing.specs.Numbers.{zero}
 use Rattle.gb_sums.specs.Forms.{combined, of_number}
 use Rattle.gb_linear.specs.Linear.{at_forms, linear}
 use Rattle.gb_linear.proofs.Passed.{refusal_stands, leads_on, answers_as}

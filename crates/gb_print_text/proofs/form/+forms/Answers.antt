@@ -1,7 +1,7 @@
 use Rattle.std.proofs.Common.{rules, ◌∷◌, length, sym, ap, ◌∙◌, arith}
 use Rattle.std.specs.List.{between}
 use Rattle.std.proofs.lemmas.Slice.{first_rest}
-use Rattle.gb_print_names.specs.Names.{place}
+use Rattle.gb_shapes.specs.Names.{place}
 use Rattle.gb_print_text.specs.Forms.{instr_text, subject_text}
 use Rattle.gb_print_text.proofs.FormSteps.{subject_Proc, subject_Body, instr_Assign, instr_Sample, instr_Call, instr_If, instr_While, body_done, forms_done, arguments_more}
 use Rattle.gb_print_text.proofs.form.+forms.Goals as goal

@@ -1,6 +1,6 @@
 use Rattle.std.proofs.Common.{◌≡◌, codes, drop}
 use Rattle.gb_print_names.specs.Text.{◌▸◌, each, word}
-use Rattle.gb_print_names.specs.Names.{place}
+use Rattle.gb_shapes.specs.Names.{place}
 use Rattle.gb_print_text.specs.Forms.{arguments, all_shown, further, instr_text}
 use Rattle.gb_print_text.proofs.form.+forms.Given as goal
 

@@ -1,5 +1,6 @@
 use Rattle.std.proofs.Common.{◌≡◌, drop}
-use Rattle.gb_sums.specs.Forms.{behind, each_scaled}
+use Rattle.gb_closing.specs.Summands.{behind}
+use Rattle.gb_sums.specs.Forms.{each_scaled}
 use Rattle.gb_sums.proofs.forms.each_scaled.Given as goal
 
 abbrev pub invariant-loop-x : goal.invariant-loop-x

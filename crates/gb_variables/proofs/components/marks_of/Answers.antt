@@ -1,6 +1,6 @@
 use Rattle.std.proofs.Common.{◌||◌, map, ap, ◌∙◌}
-use Rattle.gb_variables.specs.Variables.{variables, share}
-use Rattle.gb_variables.specs.Components.{linked}
+use Rattle.gb_closing.specs.Linked.{share, linked}
+use Rattle.gb_variables.specs.Variables.{variables}
 use Rattle.gb_variables.proofs.Marks.{joined_more}
 use Rattle.gb_variables.proofs.components.marks_of.Goals as goal
 

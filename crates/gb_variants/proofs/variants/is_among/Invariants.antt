@@ -1,5 +1,5 @@
 use Rattle.std.proofs.Common.{◌≡◌, drop}
-use Rattle.gb_print_names.specs.Names.{is_among}
+use Rattle.gb_shapes.specs.Names.{is_among}
 use Rattle.gb_variants.proofs.variants.is_among.Given as goal
 
 abbrev pub invariant-loop-x : goal.invariant-loop-x

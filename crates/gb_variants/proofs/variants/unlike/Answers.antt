@@ -1,6 +1,6 @@
 use Rattle.std.proofs.Common.{rules, ◌≡◌, ◌+◌, ◌-◌, true, false, length, sym, ◌∙◌, arith}
-use Rattle.gb_print_names.specs.Names.{is_among}
-use Rattle.gb_print_names.proofs.Primes.{primed_free, primed_more}
+use Rattle.gb_shapes.specs.Names.{is_among}
+use Rattle.gb_shapes.proofs.Primes.{primed_free, primed_more}
 use Rattle.gb_variants.proofs.variants.unlike.Goals as goal
 
 pub returns-then-not-is_among : goal.returns-then-not-is_among

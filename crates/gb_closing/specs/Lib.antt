@@ -1,0 +1,4 @@
+pub mod Labels
+pub mod Linked
+pub mod Numbers
+pub mod Summands

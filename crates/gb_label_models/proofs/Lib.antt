@@ -1,0 +1,10 @@
+pub mod Stated
+pub mod Choices
+pub mod Settings
+pub mod Globless
+pub mod Operators
+pub mod Memories
+pub mod Listing
+pub mod States
+pub mod Placed
+pub mod Models

@@ -1,0 +1,67 @@
+-- The things of a term, and a term with labels, by its parts.
+use Rattle.std.proofs.Common.{◌≡◌, ◌==◌, true, length, List, [], ◌∷◌, ◌++◌, map, refl, sym, ap, ◌∙◌, arith}
+use Rattle.std.specs.List.{flat_map}
+use Rattle.std.proofs.lemmas.Bool.{eqb-true}
+use Rattle.gb_terms.specs.declared.term.Term.{Term, Term', Row_of-Term, end_of-Term, more_of-Term, end_of-Head, more_of-Head, items-the_row-Term, items_shown-the_row-Term-0}
+use Rattle.gb_terms.specs.declared.term.Head.{Head}
+use Rattle.gb_terms.specs.declared.term.Head.TheVariants as head
+use Rattle.gb_terms.specs.declared.term.Head.TheViews.{out-Term, outs-struct-Term, roll-out-Term}
+use Rattle.gb_terms.specs.Make.{node}
+use Rattle.gb_meaning.specs.Written.{type_of}
+use Rattle.gb_typed.specs.Typing.{types_of}
+use Rattle.gb_labels.specs.Labels.{Labels, labelled_ty}
+use Rattle.gb_labels.specs.Things.{thing_of, things_at, all_things_at}
+use Rattle.gb_labels.specs.Labelled.{labelled_head, labelled, all_labelled}
+use Rattle.gb_labels.proofs.Parts.{unlabelled_ty}
+
+types_row : (n : _) (r : Row_of-Term n) → types_of r ≡ map type_of (items-the_row-Term n r)
+types_row n end_of-Term = refl
+types_row n (more_of-Term t r) = ap (λ l. type_of t ∷ l) (types_row _ r)
+
+things_row : (n : _) (r : Row_of-Term n) → all_things_at r ≡ flat_map things_at (items-the_row-Term n r)
+things_row n end_of-Term = refl
+things_row n (more_of-Term t r) = ap (λ l. things_at t ++ l) (things_row _ r)
+
+pub things_out : (t : Term) → things_at t ≡ thing_of (out-Term t).head (out-Term t).ty (map type_of (out-Term t).args) ++ flat_map things_at (out-Term t).args
+unfolding Rattle.gb_terms.specs.declared.term.Head.TheBlock.shown-the_row-Head-2 denote.Hole.Carrier.shown
+things_out (Term' p (more_of-Head h end_of-Head) n r ty) =
+    (λ i. thing_of h ty (types_row _ r i) ++ things_row _ r i)
+    ∙ ap (λ l. thing_of h ty (map type_of l) ++ flat_map things_at l) (sym (items_shown-the_row-Term-0 n r))
+    ∙ sym (ap (λ z. thing_of z.head z.ty (map type_of z.args) ++ flat_map things_at z.args) (outs-struct-Term p (more_of-Head h end_of-Head) n r ty))
+
+module _ (ls : Labels) where
+  labelled_row : (n : _) (r : Row_of-Term n) → items-the_row-Term n (all_labelled ls r) ≡ map (labelled ls) (items-the_row-Term n r)
+  labelled_row n end_of-Term = refl
+  labelled_row n (more_of-Term t r) = ap (λ l. labelled ls t ∷ l) (labelled_row _ r)
+
+  pub labelled_out : (t : Term) → labelled ls t ≡ node (labelled_head ls (out-Term t).head) (map (labelled ls) (out-Term t).args) (labelled_ty ls (out-Term t).ty)
+  unfolding Rattle.gb_terms.specs.declared.term.Head.TheBlock.shown-the_row-Head-2 denote.Hole.Carrier.shown
+  labelled_out (Term' p (more_of-Head h end_of-Head) n r ty) =
+      let made : Term = Term' p (more_of-Head (labelled_head ls h) end_of-Head) n (all_labelled ls r) (labelled_ty ls ty) in
+      sym (roll-out-Term made)
+      ∙ ap (λ z. node z.head z.args z.ty) (outs-struct-Term p (more_of-Head (labelled_head ls h) end_of-Head) n (all_labelled ls r) (labelled_ty ls ty))
+      ∙ ap (λ l. node (labelled_head ls h) l (labelled_ty ls ty)) (items_shown-the_row-Term-0 n (all_labelled ls r) ∙ labelled_row _ r ∙ ap (map (labelled ls)) (sym (items_shown-the_row-Term-0 n r)))
+      ∙ sym (ap (λ z. node (labelled_head ls z.head) (map (labelled ls) z.args) (labelled_ty ls z.ty)) (outs-struct-Term p (more_of-Head h end_of-Head) n r ty))
+
+-- Without numbers of labels nothing changes.
+
+head_unlabelled : (h : Head) → labelled_head [] h ≡ h
+head_unlabelled (head.All u) = ap head.All (unlabelled_ty u)
+head_unlabelled (head.Some u) = ap head.Some (unlabelled_ty u)
+head_unlabelled _ = refl
+
+mutual
+  pub unlabelled : (t : Term) → labelled [] t ≡ t
+  unlabelled (Term' p (more_of-Head h end_of-Head) n r ty) = λ i. Term' p (more_of-Head (head_unlabelled h i) end_of-Head) n (rows_unlabelled r i) (unlabelled_ty ty i)
+
+  rows_unlabelled : {n : _} (r : Row_of-Term n) → all_labelled [] r ≡ r
+  rows_unlabelled end_of-Term = refl
+  rows_unlabelled (more_of-Term t r) = λ i. more_of-Term (unlabelled t i) (rows_unlabelled r i)
+
+pub unlabelled_by : (ls : Labels) (t : Term) → (length ls == 0) ≡ true → t ≡ labelled ls t
+unlabelled_by [] t e = sym (unlabelled t)
+unlabelled_by (l ∷ ls) t e = let n = eqb-true (length (l ∷ ls)) 0 e in absurd (omega (arith, n))
+
+pub unlabelled_all : (ts : List Term) → map (labelled []) ts ≡ ts
+unlabelled_all [] = refl
+unlabelled_all (t ∷ ts) = λ i. unlabelled t i ∷ unlabelled_all ts i

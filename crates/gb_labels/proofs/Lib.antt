@@ -1,0 +1,5 @@
+pub mod Parts
+pub mod Layers
+pub mod Noted
+pub mod Counted
+pub mod Chosen

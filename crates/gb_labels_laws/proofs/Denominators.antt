@@ -1,0 +1,36 @@
+-- A counted term has one denominator in both settings.
+use Rattle.std.proofs.Common.{◌≡◌, ℕ, List, ◌∷◌, refl, ap, ◌∙◌}
+use Rattle.gb_core.specs.declared.ty.Ty.{Ty}
+use Rattle.gb_types.specs.Numbering.{Numbering}
+use Rattle.gb_terms.specs.declared.op.Op.{Op}
+use Rattle.gb_terms.specs.declared.op.Op.TheVariants as op
+use Rattle.gb_terms.specs.declared.term.Term.{Term, Term', Row_of-Term, end_of-Term, more_of-Term, end_of-Head, more_of-Head}
+use Rattle.gb_terms.specs.declared.term.Head.{Head}
+use Rattle.gb_terms.specs.declared.term.Head.TheVariants as head
+use Rattle.gb_meaning.specs.Setting.{Setting}
+use Rattle.gb_meaning.specs.Operators.{denominator_at, denominator_over, outcome_type}
+use Rattle.gb_meaning.specs.Terms.{denominator, denominators, denominator_of}
+use Rattle.gb_later.proofs.PlainGlobals.{globless_values}
+use Rattle.gb_labels_laws.specs.Related.{ReadTypes}
+use Rattle.gb_labels_laws.specs.Needs.{IsMadeOf, CountsAt, Counts, AllCount}
+use Rattle.gb_labels_laws.specs.Model.{AreAlike}
+use Rattle.gb_labels_laws.proofs.Meanings.{outcome_globless}
+use mathlib.Core.Former.{Count}
+
+module _ (g h : Setting) (alike : AreAlike g h) (T : ReadTypes) where
+  operator_same : (o : Op) (a : Ty) (ks : List ℕ) → IsMadeOf o a → denominator_at g.types o a ks ≡ denominator_at h.types o a ks
+  operator_same op.Uniform a ks k = ap (λ (z : Numbering). z.size) (globless_values g.types h.types alike.sizes (outcome_type a) (outcome_globless a k))
+  operator_same _ a ks k = refl
+
+  head_same : (d : Head) (a : Ty) (ks : List ℕ) → CountsAt T d a → denominator_of g d ks a ≡ denominator_of h d ks a
+  head_same (head.Builtin o) a ks k = operator_same o a ks k
+  head_same (head.User n) a ks k = ap (denominator_over a) (alike.operators n).1
+  head_same _ a ks k = refl
+
+  mutual
+    pub denominator_same : (t : Term) → Counts T t → denominator g t ≡ denominator h t
+    denominator_same (Term' p (more_of-Head d end_of-Head) n ts a) k = ap (λ z. denominator_of g d z a) (denominators_same ts k.1) ∙ head_same d a (denominators h ts) k.0
+
+    denominators_same : {n : Count} (ts : Row_of-Term n) → AllCount T ts → denominators g ts ≡ denominators h ts
+    denominators_same end_of-Term k = refl
+    denominators_same (more_of-Term t ts) k = λ i. denominator_same t k.0 i ∷ denominators_same ts k.1 i

@@ -1,0 +1,5 @@
+pub mod Pairs
+pub mod Related
+pub mod Model
+pub mod Needs
+pub mod Examples
