@@ -7,7 +7,7 @@ use Rattle.gb_holds.specs.Declared.{declared}
 use Rattle.gb_holds.specs.Holds.{Holds, IsSound}
 use Rattle.gb_typing.specs.Sequents.{IsTypedSequent}
 use Rattle.gb_typing.specs.Scopes.{context_of}
-use Rattle.gb_later.specs.Naming.{NoName}
+use Rattle.gb_typing.specs.Naming.{NoName}
 use Rattle.gb_models.specs.Speaking.{ScopeSpeaks}
 use Rattle.gb_mods_laws.specs.Members.{CallsAreNamed}
 use Rattle.gb_theory.specs.Built.{Session}

@@ -10,7 +10,7 @@ use Rattle.gb_goal.specs.Scope.{Declarations, as_module, entry_of, module_of, pr
 use Rattle.gb_goal.specs.declared.scope.Entry.{Entry}
 use Rattle.gb_goal.specs.declared.scope.Entry.TheVariants as entry
 use Rattle.gb_meaning.specs.Names.{Name}
-use Rattle.gb_later.proofs.ModulesAlike.{body-map}
+use Rattle.gb_typing.proofs.ModulesAlike.{body-map}
 use Rattle.gb_mods_laws.specs.Members.{CallsAreNamed}
 use Rattle.gb_elab_laws.specs.Calling.{CallsDeclared, EntriesCall, EntryCalls}
 use Rattle.gb_elab_laws.proofs.Given.{none_some, same_some}

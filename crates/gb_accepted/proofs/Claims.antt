@@ -25,10 +25,10 @@ use Rattle.gb_elab_laws.proofs.Scopes.{typed_after}
 use Rattle.gb_smt_laws.proofs.Split.{each_left}
 use Rattle.gb_smt_laws.proofs.Used.{each_together}
 use Rattle.gb_variants.specs.Variants.{over_none, zero_of}
-use Rattle.gb_variants_laws.proofs.Shown.{each_shown}
+use Rattle.gb_mods_laws.proofs.Shown.{each_shown}
 use Rattle.gb_theory.specs.Built.{Session, with_ended, with_proved}
-use Rattle.gb_theory.specs.declared.state.Claim.{Claim}
-use Rattle.gb_theory.specs.declared.state.Claim.TheVariants as claim
+use Rattle.gb_state.specs.declared.state.Claim.{Claim}
+use Rattle.gb_state.specs.declared.state.Claim.TheVariants as claim
 use Rattle.gb_accepted.specs.Holding.{IsProved, lemmas_in, names_of}
 use Rattle.gb_accepted.proofs.Calls.{calls_with}
 use Rattle.gb_accepted.proofs.Grounds.{IsGoalThatEnds, Grounds, IsTyped}

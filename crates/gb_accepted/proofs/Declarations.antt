@@ -41,7 +41,7 @@ use Rattle.gb_elab_laws.specs.Calling.{EntriesCall}
 use Rattle.gb_accepted.proofs.Calls.{calls_with}
 use Rattle.gb_accepted.proofs.Given.{nothing_given, given_outside}
 use Rattle.gb_accepted.proofs.Grounds.{Grounds, IsTypedGoalOf, around}
-use Rattle.gb_later.specs.Naming.{NoName}
+use Rattle.gb_typing.specs.Naming.{NoName}
 use Rattle.gb_models.specs.Speaking.{ScopeSpeaks}
 use Rattle.gb_accepted.proofs.Claims.{claim_proved}
 use Rattle.gb_accepted.proofs.Good.{IsGoodClaim, IsGoodIfOpen, IsGoodTermination, IsGood, StatesProcedures}

@@ -10,12 +10,12 @@ use Rattle.gb_holds.specs.Holds.{Holds, IsSound}
 use Rattle.gb_typing.specs.Sequents.{IsTypedSequent}
 use Rattle.gb_typing.specs.Scopes.{context_of, is_declared, IsTypedScope}
 use Rattle.gb_theory.specs.Built.{Session, OpenProof, fresh_session}
-use Rattle.gb_later.specs.Naming.{NoName}
+use Rattle.gb_typing.specs.Naming.{NoName}
 use Rattle.gb_models.specs.Speaking.{ScopeSpeaks}
 use Rattle.gb_elab_laws.specs.Calling.{EntriesCall}
 use Rattle.gb_elab_laws.specs.Procedures.{IsOfProcedures}
-use Rattle.gb_theory.specs.declared.state.Claim.{Claim}
-use Rattle.gb_theory.specs.declared.state.Claim.TheVariants as claim
+use Rattle.gb_state.specs.declared.state.Claim.{Claim}
+use Rattle.gb_state.specs.declared.state.Claim.TheVariants as claim
 use Rattle.gb_accepted.specs.Holding.{AllHold, Lemma, lemmas_in}
 use Rattle.gb_accepted.proofs.Grounds.{IsGoalThatEnds}
 use Rattle.gb_accepted.proofs.LoopProofs.{named, IsGoodLoops}

@@ -31,7 +31,7 @@ use Rattle.gb_meaning.specs.Names.{Name}
 use Rattle.gb_meaning.specs.Setting.{Setting}
 use Rattle.gb_meaning.specs.Written.{type_of}
 use Rattle.gb_holds.specs.Declared.{Declarations, concrete_module, declared}
-use Rattle.gb_later.specs.Naming.{NoName}
+use Rattle.gb_typing.specs.Naming.{NoName}
 use Rattle.gb_holds.specs.Holds.{Holds, InEachSetting, IsSound}
 use Rattle.gb_holds.specs.Truth.{has_module}
 use Rattle.gb_typing.specs.Context.{Context}

@@ -8,7 +8,7 @@ use Rattle.gb_goal.specs.declared.scope.Entry.TheVariants as entry
 use Rattle.gb_goal.specs.declared.sequent.Sequent.{Sequent}
 use Rattle.gb_holds.specs.Declared.{declared}
 use Rattle.gb_holds.specs.Holds.{Holds}
-use Rattle.gb_later.specs.Naming.{NoName}
+use Rattle.gb_typing.specs.Naming.{NoName}
 use Rattle.gb_models.specs.Speaking.{ScopeSpeaks}
 use Rattle.gb_use.specs.Lemmas.{IsLemmaIn, LemmasHold}
 use Rattle.gb_elab_laws.specs.Procedures.{AreStated, IsOfProcedures}

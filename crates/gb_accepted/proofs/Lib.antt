@@ -1,3 +1,15 @@
+pub mod HeadsEnd
+pub mod PartsEnd
+pub mod BodiesEnd
+pub mod RelationalEnd
+pub mod ChancesEnd
+pub mod CallsEnd
+pub mod ConclusionsEnd
+pub mod UsesEnd
+pub mod UnfoldedEnd
+pub mod RewritesEnd
+pub mod LiftedEnd
+pub mod KnownCallsEnd
 pub mod Grounds
 pub mod Given
 pub mod LoopProofs

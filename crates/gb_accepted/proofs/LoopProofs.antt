@@ -17,11 +17,11 @@ use Rattle.gb_prog.specs.Ends.{LoopsEnd}
 use Rattle.gb_typing.proofs.Lifted.{both, each}
 use Rattle.gb_variants.specs.Loops.{Loop, loops}
 use Rattle.gb_variants.specs.Variants.{above_zero, falling_goal, loop_goals, over_none}
-use Rattle.gb_variants_laws.specs.Good.{LoopIsGood, AreGoodLoops, IsShownBy}
-use Rattle.gb_variants_laws.proofs.AllGood.{all_good}
-use Rattle.gb_variants_laws.proofs.GoalsEnd.{above_ends, turn_ends}
-use Rattle.gb_variants_laws.proofs.Inner.{inner_before}
-use Rattle.gb_variants_laws.proofs.Lists.{behind, together}
+use Rattle.gb_mods_laws.specs.Good.{LoopIsGood, AreGoodLoops, IsShownBy}
+use Rattle.gb_mods_laws.proofs.AllGood.{all_good}
+use Rattle.gb_mods_laws.proofs.GoalsEnd.{above_ends, turn_ends}
+use Rattle.gb_mods_laws.proofs.Inner.{inner_before}
+use Rattle.gb_mods_laws.proofs.Lists.{behind, together}
 use Rattle.gb_smt_laws.proofs.Split.{each_left}
 use Rattle.gb_smt_laws.proofs.Used.{each_together}
 use Rattle.gb_accepted.proofs.Grounds.{IsGoalThatEnds}

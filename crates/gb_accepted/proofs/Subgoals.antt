@@ -39,7 +39,7 @@ use Rattle.gb_beside.specs.Beside.{beside_answer, on_body, one_of_two}
 use Rattle.gb_holds.specs.Declared as holds
 use Rattle.gb_holds.specs.Declared.{declared}
 use Rattle.gb_holds.specs.Holds.{Holds, InEachSetting, IsSound, declared_modules, interpretation}
-use Rattle.gb_later.specs.Naming.{NoName}
+use Rattle.gb_typing.specs.Naming.{NoName}
 use Rattle.gb_models.specs.Speaking.{ScopeSpeaks}
 use Rattle.gb_holds.specs.Truth.{has_module}
 use Rattle.gb_typing.specs.Typing.{IsForm}
@@ -55,7 +55,7 @@ use Rattle.gb_bodies.specs.Case.{IsTypedCase}
 use Rattle.gb_bodies.specs.Rows as bodies
 use Rattle.gb_ended.specs.Loops.{unproved_in}
 use Rattle.gb_inline.specs.Proved.{IsSoundOnProved}
-use Rattle.gb_linear_laws.proofs.Closed.{closes}
+use Rattle.gb_closing_laws.proofs.LinearIsSound.{closes}
 use Rattle.gb_loops.specs.While.{IsTypedInvariant, while_row}
 use Rattle.gb_relational.specs.Rows.{IsTypedRule}
 use Rattle.gb_sim.specs.Sim as same_statements

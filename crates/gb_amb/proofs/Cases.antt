@@ -13,18 +13,18 @@ use Rattle.gb_meaning.specs.Trees.{places, row}
 use Rattle.gb_meaning.specs.Setting.{Setting}
 use Rattle.gb_meaning.specs.State.{State}
 use Rattle.gb_meaning.specs.Judgments.{Judge, IsFair, IsSoundForm, IsTrueIn, den}
-use Rattle.gb_laws.proofs.Nodes.{term_is_node}
-use Rattle.gb_judge.proofs.Exact.{trying}
-use Rattle.gb_laws.proofs.Truths.{true_implies}
-use Rattle.gb_judge.proofs.Fair.{is_fair}
-use Rattle.gb_judge.proofs.Unique.{true_under_each}
-use Rattle.gb_changes.proofs.Trees.{out_is}
+use Rattle.gb_meaning.proofs.Nodes.{term_is_node}
+use Rattle.gb_laws.proofs.Exact.{trying}
+use Rattle.gb_meaning.proofs.Truths.{true_implies}
+use Rattle.gb_laws.proofs.Fair.{is_fair}
+use Rattle.gb_laws.proofs.Unique.{true_under_each}
+use Rattle.gb_laws.proofs.Trees.{out_is}
 use Rattle.gb_holds.specs.Declared.{Declarations}
 use Rattle.gb_holds.specs.Settings.{Interpretation, setting}
 use Rattle.gb_holds.specs.Truth.{Choice, has_module, last_has_module, Truth}
 use Rattle.gb_holds.proofs.Fronts.{without_modules}
 use Rattle.gb_meaning.specs.Written.{type_of}
-use Rattle.gb_typed.specs.Typing.{types_of, IsHead}
+use Rattle.gb_laws.specs.Typing.{types_of, IsHead}
 use Rattle.gb_typing.specs.Context.{Context, erased}
 use Rattle.gb_typing.specs.Typing.{IsForm}
 use Rattle.gb_typing.specs.Formulas.{IsFormula}

@@ -19,11 +19,11 @@ use Rattle.gb_meaning.specs.Setting.Meaning.{finite}
 use Rattle.gb_meaning.specs.State.{State}
 use Rattle.gb_meaning.specs.Meanings.{truth}
 use Rattle.gb_meaning.specs.Judgments.{Judge, speaking, den}
-use Rattle.gb_laws.proofs.Nodes.{term_is_node, val_node}
-use Rattle.gb_apart.proofs.SameTerms.{same_terms}
-use Rattle.gb_judge.proofs.Exact.{trying}
-use Rattle.gb_judge.proofs.Fair.{is_fair}
-use Rattle.gb_laws.proofs.Truths.{truth_of}
+use Rattle.gb_meaning.proofs.Nodes.{term_is_node, val_node}
+use Rattle.gb_meaning.proofs.SameTerms.{same_terms}
+use Rattle.gb_laws.proofs.Exact.{trying}
+use Rattle.gb_laws.proofs.Fair.{is_fair}
+use Rattle.gb_meaning.proofs.Truths.{truth_of}
 use Rattle.gb_holds.specs.Declared.{Declarations}
 use Rattle.gb_holds.specs.Settings.{Interpretation, setting}
 use Rattle.gb_holds.specs.Truth.{Choice, has_module, Truth}

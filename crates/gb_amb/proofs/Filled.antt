@@ -20,10 +20,10 @@ use Rattle.gb_meaning.specs.Commands.{terms_in}
 use Rattle.gb_meaning.specs.Names.{Name}
 use Rattle.gb_meaning.specs.Operators.{outcome_type}
 use Rattle.gb_meaning.specs.Written.{type_of}
-use Rattle.gb_changes.proofs.Changed.{changed_at, term_changed_is}
-use Rattle.gb_changes.proofs.Lookups.{bound_found_under, bound_of_binder}
-use Rattle.gb_typed.specs.Typing.{OperatorType, Binder, types_of, IsBoundAt, IsProbability, IsSide, IsHead}
-use Rattle.gb_typed.specs.Typing.Binder.{value, index, memory, program}
+use Rattle.gb_laws.proofs.Changed.{changed_at, term_changed_is}
+use Rattle.gb_laws.proofs.Lookups.{bound_found_under, bound_of_binder}
+use Rattle.gb_laws.specs.Typing.{OperatorType, Binder, types_of, IsBoundAt, IsProbability, IsSide, IsHead}
+use Rattle.gb_laws.specs.Typing.Binder.{value, index, memory, program}
 use Rattle.gb_typing.specs.Changes.{binder, IsLeaf, IsMemoryIn, Leads, Made, Stays}
 use Rattle.gb_typing.specs.Context.{Frame, Context, procedure, erased, frame_of, reframed, with_own, with_sides, within}
 use Rattle.gb_typing.specs.Typing.{IsFrame, IsIn, IsThere, before, after, procedure_in, IsNamed, first, middle, last, IsTyped, AreTyped}

@@ -17,11 +17,11 @@ use Rattle.gb_walk.specs.declared.change.Change.TheVariants.{ToTerm, OfBound, To
 use Rattle.gb_walk.specs.Change.{Changes, without, under_binder, seen_by_args, seen_by_last, or_later, put_or, found_for_read, found_for_bound, side_changed, term_of, term_changed}
 use Rattle.gb_walk.specs.Change.Made.{Kept}
 use Rattle.gb_meaning.specs.Commands.{terms_in}
-use Rattle.gb_laws.proofs.Nodes.{each_is_node}
-use Rattle.gb_changes.proofs.Trees.{out_is}
-use Rattle.gb_changes.proofs.Changed.{changed_at, term_changed_is}
-use Rattle.gb_changes.proofs.Forms.{procedure_stays}
-use Rattle.gb_typed.specs.Typing.{types_of, IsHead}
+use Rattle.gb_meaning.proofs.Nodes.{each_is_node}
+use Rattle.gb_laws.proofs.Trees.{out_is}
+use Rattle.gb_laws.proofs.Changed.{changed_at, term_changed_is}
+use Rattle.gb_laws.proofs.Forms.{procedure_stays}
+use Rattle.gb_laws.specs.Typing.{types_of, IsHead}
 use Rattle.gb_typing.specs.Context.{Context, erased}
 use Rattle.gb_typing.specs.Typing.{IsNamed, first, middle, last, IsTyped, AreTyped}
 use mathlib.Core.Former.{Count}

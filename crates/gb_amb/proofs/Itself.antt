@@ -23,15 +23,15 @@ use Rattle.gb_meaning.specs.Terms.{Part, Speaks, at_head, val, parts, denominato
 use Rattle.gb_meaning.specs.Written.{type_of}
 use Rattle.gb_meaning.specs.Judgments.{Judge, speaking, probability, outcome_denominator, den, is_sound_at, IsSoundForm, IsSoundIfThere, AllSound}
 use Rattle.gb_meaning.specs.Values.{Types, has}
-use Rattle.gb_laws.proofs.Nodes.{val_node}
-use Rattle.gb_laws.proofs.Runs.{routine_positive}
-use Rattle.gb_laws.proofs.Values.{value_eq-true}
-use Rattle.gb_laws.proofs.Truths.{truth_of}
-use Rattle.gb_typed.specs.Context.{IsFractional}
-use Rattle.gb_typed.specs.Finite.{IsFinite}
-use Rattle.gb_typed.specs.Meant.{IsOf, IsOfDistributions}
-use Rattle.gb_typed.specs.Operators.{IsNoDistribution}
-use Rattle.gb_typed.proofs.Terms.{typed_meaning, typed_value, typed_has}
+use Rattle.gb_meaning.proofs.Nodes.{val_node}
+use Rattle.gb_meaning.proofs.Runs.{routine_positive}
+use Rattle.gb_meaning.proofs.Values.{value_eq-true}
+use Rattle.gb_meaning.proofs.Truths.{truth_of}
+use Rattle.gb_laws.specs.Context.{IsFractional}
+use Rattle.gb_laws.specs.Finite.{IsFinite}
+use Rattle.gb_laws.specs.Meant.{IsOf, IsOfDistributions}
+use Rattle.gb_laws.specs.Operators.{IsNoDistribution}
+use Rattle.gb_laws.proofs.Terms.{typed_meaning, typed_value, typed_has}
 use Rattle.gb_typing.specs.Context.{Context, erased}
 use Rattle.gb_typing.specs.Typing.{IsTyped, IsForm}
 use Rattle.gb_typing.specs.Fits.{IsSettingOf, IsStateOf}

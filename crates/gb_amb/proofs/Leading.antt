@@ -10,7 +10,7 @@ use Rattle.gb_terms.specs.declared.term.Head.TheVariants as head
 use Rattle.gb_terms.specs.declared.term.Head.TheVariants.{Body'}
 use Rattle.gb_terms.specs.Make.{node}
 use Rattle.gb_goal.specs.Answers.{nowhere}
-use Rattle.gb_laws.proofs.Nodes.{each_is_node}
+use Rattle.gb_meaning.proofs.Nodes.{each_is_node}
 use Rattle.gb_typing.specs.Formulas.{IsFormula}
 use Rattle.gb_typing.specs.Sequents.{with_modules}
 use Rattle.gb_typing.proofs.Lifted.{sequent_outermost}

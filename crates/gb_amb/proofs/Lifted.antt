@@ -24,11 +24,11 @@ use Rattle.gb_walk.specs.Raise.{index_raised, side_raised, head_at, last_from, a
 use Rattle.gb_meaning.specs.Commands.{terms_in}
 use Rattle.gb_meaning.specs.Operators.{outcome_type}
 use Rattle.gb_meaning.specs.Written.{type_of}
-use Rattle.gb_changes.proofs.Trees.{raised_at, term_raised_is}
-use Rattle.gb_changes.proofs.Raising.{index_zero, index_suc}
-use Rattle.gb_changes.proofs.Lookups.{index_next}
-use Rattle.gb_typed.specs.Typing.{Binder, types_of, IsSide, IsMemory, IsBoundAt, IsProbability, IsHead}
-use Rattle.gb_typed.specs.Typing.Binder.{value, index, memory, program}
+use Rattle.gb_laws.proofs.Trees.{raised_at, term_raised_is}
+use Rattle.gb_laws.proofs.Raising.{index_zero, index_suc}
+use Rattle.gb_laws.proofs.Lookups.{index_next}
+use Rattle.gb_laws.specs.Typing.{Binder, types_of, IsSide, IsMemory, IsBoundAt, IsProbability, IsHead}
+use Rattle.gb_laws.specs.Typing.Binder.{value, index, memory, program}
 use Rattle.gb_typing.specs.Context.{Frame, Context, procedure, erased, frame_of, with_own, with_sides, within}
 use Rattle.gb_typing.specs.Modules.{procedure_type}
 use Rattle.gb_typing.specs.Typing.{IsFrame, IsIn, IsPlace, IsThere, IsNamed, before, after, first, middle, last, IsTyped, AreTyped}

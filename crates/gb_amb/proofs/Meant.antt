@@ -24,20 +24,20 @@ use Rattle.gb_meaning.specs.Setting.Meaning.{finite}
 use Rattle.gb_meaning.specs.State.{State, Binding, binding, meaning_in, memory_of, under, at, between}
 use Rattle.gb_meaning.specs.Terms.{Speaks, Part, at_head, val, parts, part_of, denominator, denominators, denominator_of}
 use Rattle.gb_meaning.specs.Judgments.{Judge, IsFair, speaking, is_sound_at, IsSoundForm, AllSound}
-use Rattle.gb_laws.proofs.Nodes.{val_node, denominator_node}
-use Rattle.gb_changes.specs.Agree.{Agree}
-use Rattle.gb_changes.specs.Formed.{HasArguments, IsFormed, AllFormed}
-use Rattle.gb_changes.specs.Led.{put}
-use Rattle.gb_changes.specs.Uses.Use.{read as reads, bound, globals, starts, binds_own, binds_sides}
-use Rattle.gb_changes.proofs.Agreeing.{form_agrees}
-use Rattle.gb_changes.proofs.Changed.{changed_at, term_changed_is}
-use Rattle.gb_changes.proofs.Heads.{Moved, of_arguments, of_last, Related, inner_same, chance_same, Answers, with_subjects}
-use Rattle.gb_changes.proofs.Judged.{SameSubjects, answers_same}
-use Rattle.gb_changes.proofs.Leading.{OnSome, lifted_zero}
-use Rattle.gb_changes.proofs.Lookups.{bound_found_under, bound_of_binder}
-use Rattle.gb_changes.proofs.Raising.{has_parts, denominator_raised}
-use Rattle.gb_typed.specs.Typing.{Binder, types_of, IsBoundAt, IsHead}
-use Rattle.gb_typed.specs.Typing.Binder.{value, index, memory, program}
+use Rattle.gb_meaning.proofs.Nodes.{val_node, denominator_node}
+use Rattle.gb_laws.specs.Agree.{Agree}
+use Rattle.gb_laws.specs.Formed.{HasArguments, IsFormed, AllFormed}
+use Rattle.gb_laws.specs.Led.{put}
+use Rattle.gb_laws.specs.Uses.Use.{read as reads, bound, globals, starts, binds_own, binds_sides}
+use Rattle.gb_laws.proofs.Agreeing.{form_agrees}
+use Rattle.gb_laws.proofs.Changed.{changed_at, term_changed_is}
+use Rattle.gb_laws.proofs.Heads.{Moved, of_arguments, of_last, Related, inner_same, chance_same, Answers, with_subjects}
+use Rattle.gb_laws.proofs.Judged.{SameSubjects, answers_same}
+use Rattle.gb_laws.proofs.Leading.{OnSome, lifted_zero}
+use Rattle.gb_laws.proofs.Lookups.{bound_found_under, bound_of_binder}
+use Rattle.gb_laws.proofs.Raising.{has_parts, denominator_raised}
+use Rattle.gb_laws.specs.Typing.{Binder, types_of, IsBoundAt, IsHead}
+use Rattle.gb_laws.specs.Typing.Binder.{value, index, memory, program}
 use Rattle.gb_typing.specs.Changes.{binder}
 use Rattle.gb_typing.specs.Context.{Frame, Context, procedure, erased, frame_of, with_own, with_sides, within}
 use Rattle.gb_typing.specs.Typing.{IsFrame, IsIn, before, after, procedure_in, IsNamed, first, middle, last, IsTyped, AreTyped}

@@ -22,19 +22,19 @@ use Rattle.gb_meaning.specs.Setting.{Setting}
 use Rattle.gb_meaning.specs.State.{State, Binding, under}
 use Rattle.gb_meaning.specs.State.Binding.{value as value_bound, memory as memory_bound}
 use Rattle.gb_meaning.specs.Judgments.{Judge, IsFair, IsSoundForm, den}
-use Rattle.gb_laws.proofs.Nodes.{each_is_node}
-use Rattle.gb_judge.proofs.Exact.{trying}
-use Rattle.gb_judge.proofs.Fair.{is_fair}
-use Rattle.gb_laws.proofs.Truths.{true_or, true_all, true_some, true_all_memory, true_some_memory}
-use Rattle.gb_judge.proofs.Unique.{true_under_each}
-use Rattle.gb_changes.specs.Agree.{Agree}
-use Rattle.gb_changes.specs.Uses.Use.{read as reads, bound, globals, starts, binds_own, binds_sides}
-use Rattle.gb_changes.proofs.Agreeing.{form_agrees}
+use Rattle.gb_meaning.proofs.Nodes.{each_is_node}
+use Rattle.gb_laws.proofs.Exact.{trying}
+use Rattle.gb_laws.proofs.Fair.{is_fair}
+use Rattle.gb_meaning.proofs.Truths.{true_or, true_all, true_some, true_all_memory, true_some_memory}
+use Rattle.gb_laws.proofs.Unique.{true_under_each}
+use Rattle.gb_laws.specs.Agree.{Agree}
+use Rattle.gb_laws.specs.Uses.Use.{read as reads, bound, globals, starts, binds_own, binds_sides}
+use Rattle.gb_laws.proofs.Agreeing.{form_agrees}
 use Rattle.gb_holds.specs.Declared.{Declarations}
 use Rattle.gb_holds.specs.Settings.{Interpretation, setting}
 use Rattle.gb_holds.specs.Truth.{has_module, Truth}
 use Rattle.gb_holds.proofs.Fronts.{without_modules}
-use Rattle.gb_typed.specs.Typing.Binder.{value, memory}
+use Rattle.gb_laws.specs.Typing.Binder.{value, memory}
 use Rattle.gb_typing.specs.Context.{Context, Frame, within}
 use Rattle.gb_typing.specs.Typing.{IsForm}
 use Rattle.gb_typing.specs.Formulas.{IsFormula}

@@ -16,10 +16,10 @@ use Rattle.gb_walk.specs.Layers.{is_binder, seen_by}
 use Rattle.gb_walk.specs.Raise.{term_raised}
 use Rattle.gb_walk.specs.Change.Made.{Kept}
 use Rattle.gb_walk.specs.Change.{Changes, change_raised, is_own, is_left_or_right, without, under_binder, seen_by_args, seen_by_last, or_later, put_or, found_for_read, found_for_bound, side_changed, read_changed, term_of}
-use Rattle.gb_changes.proofs.Changed.{changed_at}
-use Rattle.gb_changes.proofs.Forms.{procedure_stays}
-use Rattle.gb_changes.proofs.Leading.{OnSome}
-use Rattle.gb_changes.proofs.Lookups.{each_map}
+use Rattle.gb_laws.proofs.Changed.{changed_at}
+use Rattle.gb_laws.proofs.Forms.{procedure_stays}
+use Rattle.gb_laws.proofs.Leading.{OnSome}
+use Rattle.gb_laws.proofs.Lookups.{each_map}
 use Rattle.gb_typing.specs.Context.{Context}
 use Rattle.gb_typing.specs.Typing.{IsNamed}
 

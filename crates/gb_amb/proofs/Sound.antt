@@ -7,7 +7,7 @@ use Rattle.gb_terms.specs.declared.term.Term.{Term, out-Term}
 use Rattle.gb_terms.specs.declared.term.Head.{Head}
 use Rattle.gb_terms.specs.declared.term.Head.TheVariants as head
 use Rattle.gb_terms.specs.Make.{node}
-use Rattle.gb_laws.proofs.Nodes.{term_is_node}
+use Rattle.gb_meaning.proofs.Nodes.{term_is_node}
 use Rattle.gb_walk.specs.declared.change.Change.TheVariants.{OfBound}
 use Rattle.gb_walk.specs.Change.{term_changed}
 use Rattle.gb_typing.proofs.Conclusions.{formula_form}

@@ -25,16 +25,16 @@ use Rattle.gb_meaning.specs.State.{State, no_memory, under, memory_of}
 use Rattle.gb_meaning.specs.State.Binding.{value as value_bound, memory as memory_bound}
 use Rattle.gb_meaning.specs.Terms.{Speaks, val}
 use Rattle.gb_meaning.specs.Judgments.{Judge, IsFair, speaking}
-use Rattle.gb_laws.proofs.Nodes.{term_is_node, val_node, denominator_node}
-use Rattle.gb_changes.specs.Formed.{IsFormed}
-use Rattle.gb_changes.specs.Led.{IsPut, put, Led}
-use Rattle.gb_changes.specs.Agree.{Agree}
-use Rattle.gb_changes.specs.Uses.Use.{read as reads, bound, globals, starts, binds_own, binds_sides}
-use Rattle.gb_changes.proofs.Agreeing.{form_agrees}
-use Rattle.gb_changes.proofs.Forms.{form_followed}
-use Rattle.gb_changes.proofs.Puts.{plain_node}
+use Rattle.gb_meaning.proofs.Nodes.{term_is_node, val_node, denominator_node}
+use Rattle.gb_laws.specs.Formed.{IsFormed}
+use Rattle.gb_laws.specs.Led.{IsPut, put, Led}
+use Rattle.gb_laws.specs.Agree.{Agree}
+use Rattle.gb_laws.specs.Uses.Use.{read as reads, bound, globals, starts, binds_own, binds_sides}
+use Rattle.gb_laws.proofs.Agreeing.{form_agrees}
+use Rattle.gb_laws.proofs.Forms.{form_followed}
+use Rattle.gb_laws.proofs.Puts.{plain_node}
 use Rattle.gb_holds.specs.Holds.{context}
-use Rattle.gb_typed.specs.Typing.Binder.{value, memory}
+use Rattle.gb_laws.specs.Typing.Binder.{value, memory}
 use Rattle.gb_typing.specs.Context.{Context, Frame, within}
 use Rattle.gb_typing.specs.Typing.{IsTyped, IsForm}
 use Rattle.gb_typing.specs.Fits.{IsSettingOf}

@@ -14,13 +14,13 @@ use Rattle.gb_meaning.specs.Setting.{Setting}
 use Rattle.gb_meaning.specs.State.{State}
 use Rattle.gb_meaning.specs.Terms.{val, parts, part_of}
 use Rattle.gb_meaning.specs.Judgments.{Judge, IsFair, speaking, run_of, subject_denominator, IsSoundSubject, is_sound_at, IsSoundForm, AllSound}
-use Rattle.gb_laws.proofs.Nodes.{val_node}
-use Rattle.gb_changes.specs.Formed.{IsFormed, AllFormed}
-use Rattle.gb_changes.proofs.Heads.{Answers, with_subjects}
-use Rattle.gb_changes.proofs.Judged.{SameRuns, SameSubjects, answers_same}
-use Rattle.gb_changes.proofs.Raising.{Steady, AllSteady, has_parts, raised_head, steady_node}
-use Rattle.gb_changes.proofs.Trees.{raised_at, term_raised_is}
-use Rattle.gb_typed.specs.Typing.{types_of}
+use Rattle.gb_meaning.proofs.Nodes.{val_node}
+use Rattle.gb_laws.specs.Formed.{IsFormed, AllFormed}
+use Rattle.gb_laws.proofs.Heads.{Answers, with_subjects}
+use Rattle.gb_laws.proofs.Judged.{SameRuns, SameSubjects, answers_same}
+use Rattle.gb_laws.proofs.Raising.{Steady, AllSteady, has_parts, raised_head, steady_node}
+use Rattle.gb_laws.proofs.Trees.{raised_at, term_raised_is}
+use Rattle.gb_laws.specs.Typing.{types_of}
 use Rattle.gb_typing.specs.Context.{Context}
 use Rattle.gb_typing.specs.Typing.{IsNamed, first, middle, last, IsTyped, AreTyped}
 use Rattle.gb_amb.proofs.Lifted.{subject_stays}

@@ -24,12 +24,12 @@ use Rattle.gb_meaning.specs.Terms.{val}
 use Rattle.gb_meaning.specs.State.{State}
 use Rattle.gb_meaning.specs.Written.{type_of}
 use Rattle.gb_meaning.specs.Judgments.{Judge, den, IsTrueUnder, speaking}
-use Rattle.gb_laws.proofs.Nodes.{each_is_node, val_node}
-use Rattle.gb_laws.proofs.Truths.{true_or, true_iff, truth_of}
-use Rattle.gb_changes.proofs.Trees.{out_is}
+use Rattle.gb_meaning.proofs.Nodes.{each_is_node, val_node}
+use Rattle.gb_meaning.proofs.Truths.{true_or, true_iff, truth_of}
+use Rattle.gb_laws.proofs.Trees.{out_is}
 use Rattle.gb_holds.specs.Truth.{Choice, has_module, last_has_module}
-use Rattle.gb_typed.specs.Typing.{types_of, IsHead}
-use Rattle.gb_typed.proofs.Nodes.{type_of_node}
+use Rattle.gb_laws.specs.Typing.{types_of, IsHead}
+use Rattle.gb_laws.proofs.Nodes.{type_of_node}
 use Rattle.gb_typing.specs.Context.{Context, erased}
 use Rattle.gb_typing.specs.Typing.{AreTyped, IsForm, IsTyped}
 use Rattle.gb_typing.specs.Fits.{IsSettingOf, IsStateOf}

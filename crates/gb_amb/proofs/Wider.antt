@@ -14,12 +14,12 @@ use Rattle.gb_terms.specs.Equal.{side_eq}
 use Rattle.gb_terms.specs.Make.{node}
 use Rattle.gb_walk.specs.declared.change.Change.TheVariants.{OfBound, ToSide}
 use Rattle.gb_walk.specs.Change.{Changes, is_own, is_left_or_right, found_for_read, found_for_bound, read_changed, side_changed, term_changed}
-use Rattle.gb_changes.proofs.Puts.{plain_node}
-use Rattle.gb_typed.specs.Finite.{IsFinite}
-use Rattle.gb_typed.specs.Operators.{item}
-use Rattle.gb_typed.specs.Typing.{Binder, IsBoundAt}
-use Rattle.gb_typed.specs.Typing.Binder.{value, memory}
-use Rattle.gb_typed.specs.Typing as typed
+use Rattle.gb_laws.proofs.Puts.{plain_node}
+use Rattle.gb_laws.specs.Finite.{IsFinite}
+use Rattle.gb_laws.specs.Operators.{item}
+use Rattle.gb_laws.specs.Typing.{Binder, IsBoundAt}
+use Rattle.gb_laws.specs.Typing.Binder.{value, memory}
+use Rattle.gb_laws.specs.Typing as typed
 use Rattle.gb_typing.specs.Context.{Context, Frame, erased, frame_of, within}
 use Rattle.gb_typing.specs.Typing.{IsFrame, IsPlace, IsForm}
 use Rattle.gb_typing.specs.Changes.{binder, IsLeaf, Becomes, Leads, Made, Stays, no_read}

@@ -18,15 +18,15 @@ use Rattle.gb_meaning.specs.Terms.{val}
 use Rattle.gb_meaning.specs.Values.{has}
 use Rattle.gb_meaning.specs.Written.{type_of}
 use Rattle.gb_meaning.specs.Judgments.{Judge, IsFair, speaking, den}
-use Rattle.gb_laws.proofs.Truths.{true_some}
-use Rattle.gb_changes.specs.Led.{put}
+use Rattle.gb_meaning.proofs.Truths.{true_some}
+use Rattle.gb_laws.specs.Led.{put}
 use Rattle.gb_holds.specs.Declared.{Declarations}
 use Rattle.gb_holds.specs.Settings.{setting}
 use Rattle.gb_holds.proofs.Fronts.{without_modules}
-use Rattle.gb_typed.specs.Finite.{IsFinite}
-use Rattle.gb_typed.specs.Typing.{IsBoundAt, IsSide}
-use Rattle.gb_typed.specs.Typing.Binder.{value}
-use Rattle.gb_typed.proofs.Denominators.{denominator_one}
+use Rattle.gb_laws.specs.Finite.{IsFinite}
+use Rattle.gb_laws.specs.Typing.{IsBoundAt, IsSide}
+use Rattle.gb_laws.specs.Typing.Binder.{value}
+use Rattle.gb_laws.proofs.Denominators.{denominator_one}
 use Rattle.gb_typing.specs.Context.{Context, Frame, erased, frame_of, within}
 use Rattle.gb_typing.specs.Typing.{IsFrame, IsTyped, IsForm}
 use Rattle.gb_typing.specs.Fits.{IsSettingOf}

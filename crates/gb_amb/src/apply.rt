@@ -32,7 +32,7 @@ fn by_cases(alloc: Global, form: &Form, place: Place, goal: &Sequent) -> Result<
     if judges_bodies(&goal.conclusion) {
         return Err(no_shape(place));
     }
-    Ok(cases(alloc, form, goal)?)
+    cases(alloc, form, goal).map_err(Refused::from)
 }
 
 /// A form to be shown, and the goal in which it is a hypothesis.
@@ -68,7 +68,7 @@ pub fn apply(
     match rule {
         AmbientRule::Assumption => assumption(alloc, place, goal),
         AmbientRule::Case(form) => by_cases(alloc, form, place, goal),
-        AmbientRule::Have(name, form) => Ok(have(alloc, name, form, goal)?),
+        AmbientRule::Have(name, form) => have(alloc, name, form, goal).map_err(Refused::from),
         AmbientRule::Introduce(_) | AmbientRule::IntroduceMemory(_) => {
             introduced(alloc, rule, place, goal)
         }

@@ -221,7 +221,7 @@ pub fn trivial(alloc: Global, goal: &Sequent) -> Result<Sequents, Refused>
         return Ok(Items::new(alloc));
     }
     let same = goal.share()?;
-    Ok(alone(alloc, same)?)
+    alone(alloc, same).map_err(Refused::from)
 }
 
 /// No goals, where nothing is to be shown.

@@ -7,7 +7,7 @@ ghost use Rattle.gb_walk.specs.Change.{term_changed};
 ghost use Rattle.gb_amb.specs.Introduced.{introduced, introduced_at, next_variable, with_memory, with_premise, with_variable};
 
 use crate::goals::{alone, assuming, no_shape};
-use crate::quantified::refuse_goal_modules;
+use crate::quantified::goal_quantifies_modules;
 use gb_core::copy::copy_names;
 use gb_core::name::Name;
 use gb_core::place::Place;
@@ -142,18 +142,22 @@ fn by_head(
 {
     match (rule, head, args) {
         (AmbientRule::Introduce(name), Head::All(ty), [body]) => {
-            refuse_goal_modules(place, goal)?;
+            if goal_quantifies_modules(goal) {
+                return Err(no_shape(place));
+            }
             let wider = with_variable(alloc, name, ty, body, goal)?;
-            Ok(alone(alloc, wider)?)
+            alone(alloc, wider).map_err(Refused::from)
         }
         (AmbientRule::Introduce(name), Head::Builtin(Op::Implies), [premise, rest]) => {
             let wider = with_premise(alloc, name, premise, rest, goal)?;
-            Ok(alone(alloc, wider)?)
+            alone(alloc, wider).map_err(Refused::from)
         }
         (AmbientRule::IntroduceMemory(name), Head::AllMemory, [body]) => {
-            refuse_goal_modules(place, goal)?;
+            if goal_quantifies_modules(goal) {
+                return Err(no_shape(place));
+            }
             let wider = with_memory(alloc, name, body, goal)?;
-            Ok(alone(alloc, wider)?)
+            alone(alloc, wider).map_err(Refused::from)
         }
         _ => Err(no_shape(place)),
     }

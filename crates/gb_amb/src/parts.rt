@@ -7,10 +7,10 @@ ghost use Rattle.gb_core.specs.declared.ty.Ty.TheVariants.{Bool as bool_ty, Real
 ghost use Rattle.gb_terms.specs.declared.op.Op.TheVariants.{Negate};
 ghost use Rattle.gb_terms.specs.declared.term.Head.TheVariants.{All, AllMemory};
 ghost use Rattle.gb_terms.specs.Make.{applied, node};
-ghost use Rattle.gb_amb.specs.Parts.{at_most_form, bounded_at, by_parts, by_premise, by_shape, each_concluding, parts_at};
+ghost use Rattle.gb_amb.specs.Parts.{at_most_form, bounded_at, by_parts, by_premise, each_concluding, parts_at};
 
 use crate::goals::{no_shape, one};
-use crate::quantified::refuse_modules;
+use crate::quantified::quantifies_modules;
 use gb_core::Shared;
 use gb_core::place::Place;
 use gb_core::refusal::Refused;
@@ -39,12 +39,20 @@ fn both(alloc: Global, goal: &Sequent, a: &Form, b: &Form) -> Result<Sequents, A
     two(alloc, goal, first, second)
 }
 
-fn both_ways(alloc: Global, goal: &Sequent, a: &Form, b: &Form) -> Result<Sequents, AllocError>
-    ensures { IfOk result (λ goals. goals ≡ record goal.now { conclusion = implies_form a.now b.now } ∷ record goal.now { conclusion = implies_form b.now a.now } ∷ []) }
+/// Two goals: each of two premises implies its own conclusion.
+fn implications(
+    alloc: Global,
+    goal: &Sequent,
+    a: &Form,
+    b: &Form,
+    after_a: &Form,
+    after_b: &Form,
+) -> Result<Sequents, AllocError>
+    ensures { IfOk result (λ goals. goals ≡ record goal.now { conclusion = implies_form a.now after_a.now } ∷ record goal.now { conclusion = implies_form b.now after_b.now } ∷ []) }
 {
-    let there = implies(alloc, a, b)?;
-    let back = implies(alloc, b, a)?;
-    two(alloc, goal, there, back)
+    let first = implies(alloc, a, after_a)?;
+    let second = implies(alloc, b, after_b)?;
+    two(alloc, goal, first, second)
 }
 
 /// The conclusion under a premise and, before it, another one.
@@ -60,21 +68,6 @@ fn under_both(
     let inner = implies(alloc, b, conclusion)?;
     let form = implies(alloc, a, &inner)?;
     one(alloc, goal, form)
-}
-
-/// The conclusion under each of two premises.
-fn under_each(
-    alloc: Global,
-    goal: &Sequent,
-    a: &Form,
-    b: &Form,
-    conclusion: &Form,
-) -> Result<Sequents, AllocError>
-    ensures { IfOk result (λ goals. goals ≡ record goal.now { conclusion = implies_form a.now conclusion.now } ∷ record goal.now { conclusion = implies_form b.now conclusion.now } ∷ []) }
-{
-    let first = implies(alloc, a, conclusion)?;
-    let second = implies(alloc, b, conclusion)?;
-    two(alloc, goal, first, second)
 }
 
 /// The conclusion under a premise, for each value of a type.
@@ -127,20 +120,24 @@ fn by_premise(
     ensures { Answers (each_concluding goal.now (by_premise rule.now place head.now args.now conclusion.now)) result }
 {
     match (rule, head, args) {
-        (AmbientRule::Discard, _, _) => Ok(alone(alloc, goal, conclusion)?),
+        (AmbientRule::Discard, _, _) => { alone(alloc, goal, conclusion).map_err(Refused::from) }
         (AmbientRule::Unpack, Head::Builtin(Op::And), [a, b]) => {
-            Ok(under_both(alloc, goal, a, b, conclusion)?)
+            under_both(alloc, goal, a, b, conclusion).map_err(Refused::from)
         }
         (AmbientRule::Unpack, Head::Some(ty), [a]) => {
-            refuse_modules(place, conclusion)?;
-            Ok(for_each_value(alloc, goal, ty, a, conclusion)?)
+            if quantifies_modules(conclusion) {
+                return Err(no_shape(place));
+            }
+            for_each_value(alloc, goal, ty, a, conclusion).map_err(Refused::from)
         }
         (AmbientRule::Unpack, Head::SomeMemory, [a]) => {
-            refuse_modules(place, conclusion)?;
-            Ok(for_each_memory(alloc, goal, a, conclusion)?)
+            if quantifies_modules(conclusion) {
+                return Err(no_shape(place));
+            }
+            for_each_memory(alloc, goal, a, conclusion).map_err(Refused::from)
         }
         (AmbientRule::Branch, Head::Builtin(Op::Or), [a, b]) => {
-            Ok(under_each(alloc, goal, a, b, conclusion)?)
+            implications(alloc, goal, a, b, conclusion, conclusion).map_err(Refused::from)
         }
         _ => Err(no_shape(place)),
     }
@@ -189,7 +186,9 @@ fn bounded(
     ensures { Answers (each_concluding goal.now (bounded_at place head.now args.now bound.now)) result }
 {
     match (head, args) {
-        (Head::Builtin(Op::Abs), [real]) => Ok(both_signs(alloc, goal, real, bound)?),
+        (Head::Builtin(Op::Abs), [real]) => {
+            both_signs(alloc, goal, real, bound).map_err(Refused::from)
+        }
         _ => Err(no_shape(place)),
     }
 }
@@ -205,29 +204,36 @@ fn by_head(
     ensures { Answers (each_concluding goal.now (parts_at rule.now place head.now args.now)) result }
 {
     match (rule, head, args) {
-        (AmbientRule::Split, Head::Builtin(Op::And), [a, b]) => Ok(both(alloc, goal, a, b)?),
-        (AmbientRule::Split, Head::Builtin(Op::Iff), [a, b]) => Ok(both_ways(alloc, goal, a, b)?),
+        (AmbientRule::Split, Head::Builtin(Op::And), [a, b]) => {
+            both(alloc, goal, a, b).map_err(Refused::from)
+        }
+        (AmbientRule::Split, Head::Builtin(Op::Iff), [a, b]) => {
+            implications(alloc, goal, a, b, b, a).map_err(Refused::from)
+        }
         (AmbientRule::Split, Head::Builtin(Op::AtMost), [a, b]) => {
             bounded(alloc, place, goal, a.head.get(), a.args.as_slice(), b)
         }
-        (AmbientRule::Left, Head::Builtin(Op::Or), [a, _]) => Ok(alone(alloc, goal, a)?),
-        (AmbientRule::Right, Head::Builtin(Op::Or), [_, b]) => Ok(alone(alloc, goal, b)?),
+        (AmbientRule::Left, Head::Builtin(Op::Or), [a, _]) => {
+            alone(alloc, goal, a).map_err(Refused::from)
+        }
+        (AmbientRule::Right, Head::Builtin(Op::Or), [_, b]) => {
+            alone(alloc, goal, b).map_err(Refused::from)
+        }
         _ => Err(no_shape(place)),
     }
 }
 
-/// The goals of a conclusion of this head and these arguments: an implication by its premise, and others by themselves.
-fn by_shape(
+/// The goals with the parts of the conclusion in its place: those of an implication by its premise, and of others by themselves. Refused
+/// with `Shape` where it hasn't the form that the step needs.
+pub fn by_parts(
     alloc: Global,
     rule: &AmbientRule,
     place: Place,
     goal: &Sequent,
-    head: &Head,
-    args: &[Term],
 ) -> Result<Sequents, Refused>
-    ensures { Answers (each_concluding goal.now (by_shape rule.now place head.now args.now)) result }
+    ensures { Answers (by_parts rule.now place goal.now) result }
 {
-    match (head, args) {
+    match (goal.conclusion.head.get(), goal.conclusion.args.as_slice()) {
         (Head::Builtin(Op::Implies), [premise, conclusion]) => by_premise(
             alloc,
             rule,
@@ -237,26 +243,6 @@ fn by_shape(
             premise.args.as_slice(),
             conclusion,
         ),
-        _ => by_head(alloc, rule, place, goal, head, args),
+        (head, args) => by_head(alloc, rule, place, goal, head, args),
     }
-}
-
-/// The goals with the parts of the conclusion in its place. Refused with `Shape` where it hasn't the form that the step needs.
-pub fn by_parts(
-    alloc: Global,
-    rule: &AmbientRule,
-    place: Place,
-    goal: &Sequent,
-) -> Result<Sequents, Refused>
-    ensures { Answers (by_parts rule.now place goal.now) result }
-{
-    let head = goal.conclusion.head.get();
-    by_shape(
-        alloc,
-        rule,
-        place,
-        goal,
-        head,
-        goal.conclusion.args.as_slice(),
-    )
 }

@@ -11,7 +11,7 @@ use crate::goals::no_shape;
 use gb_core::place::Place;
 use gb_core::refusal::Refused;
 use gb_goal::sequent::{Hyp, Sequent};
-use gb_terms::term::{Form, Head, Term};
+use gb_terms::term::{Head, Term};
 
 fn is_module_quantifier(head: &Head) -> bool
     ensures { result ≡ is_module_quantifier head.now }
@@ -22,7 +22,7 @@ fn is_module_quantifier(head: &Head) -> bool
 /// Whether a quantifier over modules stands in a form.
 #[cycle(quantifies_modules)]
 #[tactic(auto, using(crate::proofs::Fronts::modules_out))]
-fn quantifies_modules(form: &Term) -> bool
+pub fn quantifies_modules(form: &Term) -> bool
     ensures { result ≡ quantifies_modules form.now }
 {
     is_module_quantifier(form.head.get()) || quantify_modules(form.args.as_slice())
@@ -45,16 +45,6 @@ fn in_hypotheses(hyps: &[Hyp]) -> bool
     ensures { result ≡ list_any (λ h. quantifies_modules h.form) hyps.now }
 {
     hyps.iter().any(|h| quantifies_modules(&h.form))
-}
-
-/// Refuses a form in which a quantifier over modules stands.
-pub fn refuse_modules(place: Place, form: &Form) -> Result<(), Refused>
-    ensures { Answers (if quantifies_modules form.now then refused Shape place else given tt) result }
-{
-    if quantifies_modules(form) {
-        return Err(no_shape(place));
-    }
-    Ok(())
 }
 
 /// Whether a quantifier over modules stands in the conclusion or in a hypothesis.

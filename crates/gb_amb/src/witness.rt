@@ -1,7 +1,7 @@
 // A thing that is said to exist, in place of the one that is bound.
 
 ghost use Rattle.gb_goal.specs.Answers.{Answers};
-ghost use Rattle.gb_amb.specs.Witness.{memory_witnessed, witnessed, witnessed_at};
+ghost use Rattle.gb_amb.specs.Witness.{memory_witnessed, witnessed};
 
 use crate::goals::{no_shape, one};
 use crate::introduced::changed_once;
@@ -13,26 +13,6 @@ use gb_terms::term::{Head, Term};
 use gb_walk::change::Change;
 use std::alloc::Global;
 
-fn by_head(
-    alloc: Global,
-    witness: &Term,
-    place: Place,
-    goal: &Sequent,
-    head: &Head,
-    args: &[Term],
-) -> Result<Sequents, Refused>
-    ensures { Answers (witnessed_at witness.now place goal.now head.now args.now) result }
-{
-    match (head, args) {
-        (Head::Some(_), [body]) => {
-            let change = Change::OfBound(0, witness.share()?);
-            let conclusion = changed_once(alloc, body, change)?;
-            Ok(one(alloc, goal, conclusion)?)
-        }
-        _ => Err(no_shape(place)),
-    }
-}
-
 /// The goal of the body of an `exists` about a term. Refused with `Shape` where none stands there.
 pub fn witnessed(
     alloc: Global,
@@ -42,15 +22,14 @@ pub fn witnessed(
 ) -> Result<Sequents, Refused>
     ensures { Answers (witnessed witness.now place goal.now) result }
 {
-    let head = goal.conclusion.head.get();
-    by_head(
-        alloc,
-        witness,
-        place,
-        goal,
-        head,
-        goal.conclusion.args.as_slice(),
-    )
+    match (goal.conclusion.head.get(), goal.conclusion.args.as_slice()) {
+        (Head::Some(_), [body]) => {
+            let change = Change::OfBound(0, witness.share()?);
+            let conclusion = changed_once(alloc, body, change)?;
+            one(alloc, goal, conclusion).map_err(Refused::from)
+        }
+        _ => Err(no_shape(place)),
+    }
 }
 
 /// The goal of the body of an `exists` over memories about a memory of the context. Refused with `Shape` where none stands there.
@@ -66,7 +45,7 @@ pub fn memory_witnessed(
         (Head::SomeMemory, [body]) => {
             let change = Change::ToSide(Side::Bound(0), Side::Memory(memory));
             let conclusion = changed_once(alloc, body, change)?;
-            Ok(one(alloc, goal, conclusion)?)
+            one(alloc, goal, conclusion).map_err(Refused::from)
         }
         _ => Err(no_shape(place)),
     }

@@ -12,8 +12,8 @@ use Rattle.gb_goal.specs.Answers.Answer.{given, refused}
 use Rattle.gb_theory.specs.Built.{Session}
 use Rattle.gb_theory.specs.Outcome.{IsOutcome}
 use Rattle.gb_accepted.specs.Holding.{IsPromised}
-use Rattle.gb_theory.specs.declared.verdict.Verdict.{Verdict}
-use Rattle.gb_theory.specs.declared.verdict.Verdict.TheVariants.{Accepted, Refused}
+use Rattle.gb_state.specs.declared.verdict.Verdict.{Verdict}
+use Rattle.gb_state.specs.declared.verdict.Verdict.TheVariants.{Accepted, Refused}
 use Rattle.gb_theory.specs.Verdicts.{verdict_of}
 use Rattle.gb_app.specs.declared.status.Status.{Status}
 use Rattle.gb_app.specs.declared.status.Status.TheVariants as status

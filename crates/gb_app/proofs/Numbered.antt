@@ -4,8 +4,8 @@ use Rattle.std.specs.Prelude.{bytes_eq, codes, if◌then◌else◌}
 use Rattle.std.proofs.lemmas.Slice.Eq.{bytes_eq-Decides}
 use Rattle.gb_app.specs.declared.status.Status.{Status}
 use Rattle.gb_app.specs.declared.status.Status.TheVariants as status
-use Rattle.gb_theory.specs.declared.verdict.Verdict.{Verdict}
-use Rattle.gb_theory.specs.declared.verdict.Verdict.TheVariants.{Accepted, Refused}
+use Rattle.gb_state.specs.declared.verdict.Verdict.{Verdict}
+use Rattle.gb_state.specs.declared.verdict.Verdict.TheVariants.{Accepted, Refused}
 use Rattle.gb_app.specs.Words.{file_of, script_number, number_asked}
 use Rattle.std.specs.Io.KnownBytes.{Appends}
 use Rattle.gb_theory.specs.Verdicts.{IsVerdict}

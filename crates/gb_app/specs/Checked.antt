@@ -9,8 +9,8 @@ use Rattle.gb_goal.specs.Answers.Answer.{given}
 use Rattle.gb_theory.specs.Built.{Session}
 use Rattle.gb_theory.specs.Outcome.{start, IsOutcome}
 use Rattle.gb_accepted.specs.Holding.{IsPromised}
-use Rattle.gb_theory.specs.declared.verdict.Verdict.{Verdict}
-use Rattle.gb_theory.specs.declared.verdict.Verdict.TheVariants.{Accepted, Refused}
+use Rattle.gb_state.specs.declared.verdict.Verdict.{Verdict}
+use Rattle.gb_state.specs.declared.verdict.Verdict.TheVariants.{Accepted, Refused}
 use Rattle.gb_theory.specs.Verdicts.{IsVerdict}
 use Rattle.gb_app.specs.Report.{report_of}
 

@@ -4,7 +4,7 @@ use Rattle.std.specs.List.{concat}
 use Rattle.std.specs.Fmt.{decimal}
 use Rattle.std.specs.Io.KnownBytes.{Appends}
 use Rattle.gb_outside.specs.Appended.{AppendsFront}
-use Rattle.gb_theory.specs.declared.verdict.Verdict.{Verdict}
+use Rattle.gb_state.specs.declared.verdict.Verdict.{Verdict}
 use Rattle.gb_theory.specs.Verdicts.{IsVerdict}
 use Rattle.gb_app.specs.declared.status.Status.{Status}
 use Rattle.gb_app.specs.declared.status.Status.TheVariants as status

@@ -1,6 +1,6 @@
 -- What a run may write.
 use Rattle.std.specs.Prelude.{◌≡◌, ℕ, List, Option, Some, None, codes}
-use Rattle.gb_theory.specs.declared.verdict.Verdict.{Verdict}
+use Rattle.gb_state.specs.declared.verdict.Verdict.{Verdict}
 use Rattle.gb_app.specs.Checked.{Held, IsVerdictFor}
 use Rattle.gb_app.specs.Report.{report_of}
 

@@ -4,8 +4,8 @@ use Rattle.std.specs.List.{concat}
 use Rattle.std.specs.Fmt.{decimal}
 use Rattle.gb_core.specs.declared.place.Place.{Place}
 use Rattle.gb_core.specs.Refusal.{code_of}
-use Rattle.gb_theory.specs.declared.verdict.Verdict.{Verdict}
-use Rattle.gb_theory.specs.declared.verdict.Verdict.TheVariants.{Accepted, Refused}
+use Rattle.gb_state.specs.declared.verdict.Verdict.{Verdict}
+use Rattle.gb_state.specs.declared.verdict.Verdict.TheVariants.{Accepted, Refused}
 
 -- a number in at least two digits
 abbrev pub two_digits : ℕ → List ℕ

@@ -2,8 +2,8 @@
 use Rattle.std.specs.Prelude.{◌≡◌, ◌⊎◌, ℕ}
 use Rattle.gb_app.specs.declared.status.Status.{Status}
 use Rattle.gb_app.specs.declared.status.Status.TheVariants as status
-use Rattle.gb_theory.specs.declared.verdict.Verdict.{Verdict}
-use Rattle.gb_theory.specs.declared.verdict.Verdict.TheVariants as verdict
+use Rattle.gb_state.specs.declared.verdict.Verdict.{Verdict}
+use Rattle.gb_state.specs.declared.verdict.Verdict.TheVariants as verdict
 
 -- the exit status of the process
 abbrev pub exit_of : Status → ℕ

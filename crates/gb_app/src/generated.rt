@@ -9,7 +9,7 @@ use crate::report::{Report, last_line, write};
 use crate::status::{Status, status_of};
 use gb_outside::Sink;
 use gb_session::script::verdict_on;
-use gb_theory::verdict::Verdict;
+use gb_state::verdict::Verdict;
 use std::alloc::{AllocError, Global};
 
 /// The name of the file.

@@ -13,7 +13,7 @@ use gb_core::name::{Name, Names};
 use gb_core::place::Place;
 use gb_core::refusal::{Why, code};
 use gb_outside::{Failed, Sink, write_all};
-use gb_theory::verdict::Verdict;
+use gb_state::verdict::Verdict;
 use std::alloc::{AllocError, Global};
 
 /// A report: its lines in order, each with its line feed.

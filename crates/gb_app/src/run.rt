@@ -5,7 +5,7 @@ ghost use Rattle.std.specs.Io.KnownBytes.{Appends, Consumes};
 ghost use Rattle.gb_outside.specs.Appended.{AppendsFront};
 ghost use Rattle.gb_outside.specs.Counts.{HasRisen};
 ghost use Rattle.gb_outside.specs.HeldBytes.{bytes_of};
-ghost use Rattle.gb_theory.specs.declared.verdict.Verdict.{Verdict};
+ghost use Rattle.gb_state.specs.declared.verdict.Verdict.{Verdict};
 ghost use Rattle.gb_app.specs.Words.{file_of, asks_for_session, number_asked};
 ghost use Rattle.gb_app.specs.Status.{status_of, EndsBy};
 ghost use Rattle.gb_app.specs.Report.{report_of};
@@ -22,8 +22,8 @@ use crate::words::{asks_for_session, file_to_check, number_asked};
 use gb_accepted::laws::accepted_scripts;
 use gb_outside::{Files, ReadRefused, Sink, Source, read_whole, write_all};
 use gb_session::script::verdict_on;
+use gb_state::verdict::{Verdict, too_long};
 use gb_theory::outcome_laws::one_outcome;
-use gb_theory::verdict::{Verdict, too_long};
 use std::alloc::Global;
 
 const USAGE: &[u8] = b"usage: gb check FILE | gb step | gb selftest N\n";

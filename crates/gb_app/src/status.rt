@@ -3,7 +3,7 @@
 ghost use Rattle.std.specs.Prelude.{◌≡◌};
 ghost use Rattle.gb_app.specs.Status.{exit_of, status_of};
 
-use gb_theory::verdict::Verdict;
+use gb_state::verdict::Verdict;
 
 /// How a run ended, in the order of the exit statuses.
 #[derive(Clone, Copy, Debug, PartialEq, Eq)]

@@ -26,8 +26,8 @@ use Rattle.gb_meaning.specs.Setting.{Setting}
 use Rattle.gb_meaning.specs.Sound.{IsSound}
 use Rattle.gb_meaning.specs.State.{State, at, between}
 use Rattle.gb_meaning.specs.Written.{type_of}
-use Rattle.gb_laws.proofs.Runs.{run_positive}
-use Rattle.gb_changes.specs.Plain.{IsPlain}
+use Rattle.gb_meaning.proofs.Runs.{run_positive}
+use Rattle.gb_laws.specs.Plain.{IsPlain}
 use Rattle.gb_holds.specs.Declared.{Declarations}
 use Rattle.gb_holds.specs.Holds.{AreTrue, AreValues, Holds, context}
 use Rattle.gb_holds.specs.Settings.{Interpretation, setting, types_of}

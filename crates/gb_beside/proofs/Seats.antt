@@ -20,12 +20,12 @@ use Rattle.gb_meaning.specs.Memory.{Memory, read}
 use Rattle.gb_meaning.specs.Setting.{Setting}
 use Rattle.gb_meaning.specs.Setting.Meaning.{finite}
 use Rattle.gb_meaning.specs.State.{State, at, between}
-use Rattle.gb_changes.specs.Led.{Led}
-use Rattle.gb_changes.specs.Plain.{IsPlain}
-use Rattle.gb_changes.specs.Uses.Use.{read as reads, bound, globals, starts, binds_own, binds_sides}
-use Rattle.gb_changes.proofs.Changing.{plain_followed}
+use Rattle.gb_laws.specs.Led.{Led}
+use Rattle.gb_laws.specs.Plain.{IsPlain}
+use Rattle.gb_laws.specs.Uses.Use.{read as reads, bound, globals, starts, binds_own, binds_sides}
+use Rattle.gb_laws.proofs.Changing.{plain_followed}
 use Rattle.gb_holds.specs.Holds.{context}
-use Rattle.gb_typed.specs.Typing as typed
+use Rattle.gb_laws.specs.Typing as typed
 use Rattle.gb_typing.specs.Changes.{IsLeaf, IsMemoryIn, Leads}
 use Rattle.gb_typing.specs.Context.{Context, Frame, erased, frame_of, with_own, with_sides}
 use Rattle.gb_typing.specs.Typing.{IsForm, IsFrame, IsIn, IsPlace}

@@ -3,14 +3,14 @@
 ghost use Rattle.std.specs.Prelude.{◌≡◌, [], ◌∷◌, ◌++◌, Some, IfOk};
 ghost use Rattle.std.specs.List.{list_any};
 ghost use Rattle.std.specs.Option.{option_map};
-ghost use Rattle.gb_goal.specs.Answers.{Answers, placed_at};
+ghost use Rattle.gb_goal.specs.Answers.{Answers};
+ghost use Rattle.gb_goal.specs.Answers.Answer.{given};
 ghost use Rattle.gb_goal.specs.Goal as view;
 ghost use Rattle.gb_goal.specs.Views.{goal_seen};
-ghost use Rattle.gb_terms.specs.declared.term.Instr.{out-Instr};
 ghost use Rattle.gb_parts.specs.OneBody.{one_seen};
 ghost use Rattle.gb_call_both.specs.OneSide.{head_speaks, speaks};
 ghost use Rattle.gb_trans.specs.Places.{placed_seen};
-ghost use Rattle.gb_guards.specs.Decided.{decision};
+ghost use Rattle.gb_guards.specs.Decided.{decision_seen};
 ghost use Rattle.gb_beside.specs.Beside as beside;
 
 use crate::names::memory_name;
@@ -22,7 +22,7 @@ use gb_core::place::Place;
 use gb_core::refusal::{Refused, Why};
 use gb_goal::goal::{Goal, goal_of};
 use gb_goal::sequent::{Sequent, Sequents};
-use gb_guards::decided::{decision, goal_left, guard_judged};
+use gb_guards::decided::{Guarded, decision, goal_left, guard_judged};
 use gb_parts::one_body::{OneBody, one_body, side_of};
 use gb_parts::subgoals::{no_shape, placed, refusal};
 use gb_steps::step::Acts;
@@ -88,10 +88,11 @@ fn place_after(length: usize) -> Result<u32, AllocError>
 fn beside(alloc: Global, side: Side, place: u32, form: &Form) -> Result<Form, AllocError>
     ensures { IfOk result (λ made. made ≡ beside.beside side place form.now) }
 {
-    let mut changes = Items::new(alloc);
-    changes.push(Change::ToSide(side, Side::Own))?;
-    changes.push(Change::ToSide(other(side), Side::Memory(place)))?;
-    changed(alloc, form, changes.as_slice())
+    let changes = [
+        Change::ToSide(side, Side::Own),
+        Change::ToSide(other(side), Side::Memory(place)),
+    ];
+    changed(alloc, form, &changes)
 }
 
 /// Memories, and one more behind them.
@@ -130,16 +131,6 @@ fn judged_beside(
     guard_judged(alloc, holds, &pre, at.before, guard)
 }
 
-/// Two goals.
-fn both(first: Sequent, second: Sequent, alloc: Global) -> Result<Sequents, AllocError>
-    ensures { IfOk result (λ made. made ≡ first ∷ second ∷ []) }
-{
-    let mut goals = Items::new(alloc);
-    goals.push(first)?;
-    goals.push(second)?;
-    Ok(goals)
-}
-
 /// The goals where the guard of the statement at a place is as it is said.
 fn by_decision(
     alloc: Global,
@@ -147,19 +138,18 @@ fn by_decision(
     holds: bool,
     one: &OneBody<'_>,
     at: &Placed<'_>,
-) -> Result<Sequents, Refused>
-    ensures { Answers (let k = placed_seen at.now in beside.by_decision holds goal.now (one_seen one.now) k (decision holds k.statement (out-Instr k.statement))) result }
+    known: &Guarded<'_>,
+) -> Result<Sequents, AllocError>
+    ensures { IfOk result (λ made. given made ≡ (let k = placed_seen at.now in beside.by_decision holds goal.now (one_seen one.now) k (Some (decision_seen k.statement known.now)))) }
 {
-    let Some(decided) = decision(holds, at.statement) else {
-        return Err(no_shape());
-    };
-    let known = judged_beside(alloc, goal, holds, one, at, decided.guard)?;
-    let first = with_memory(alloc, goal, known)?;
-    let left = goal_left(alloc, one, at, decided.left)?;
-    Ok(both(first, goal.with_conclusion(left)?, alloc)?)
+    let judged = judged_beside(alloc, goal, holds, one, at, known.guard)?;
+    let first = with_memory(alloc, goal, judged)?;
+    let left = goal_left(alloc, one, at, known.left)?;
+    let second = goal.with_conclusion(left)?;
+    Ok(Items::from_vec(vec![in alloc; first, second]?))
 }
 
-/// The same of a place that the body may not have.
+/// The same of a place that the body may not have, and of a statement that may have no guard.
 fn at_place(
     alloc: Global,
     goal: &Sequent,
@@ -169,26 +159,13 @@ fn at_place(
 ) -> Result<Sequents, Refused>
     ensures { Answers (beside.at_place at holds goal.now (one_seen one.now)) result }
 {
-    match statement_at(at, one.list) {
-        Some(found) => by_decision(alloc, goal, holds, one, &found),
-        None => Err(refusal(Why::Argument)),
-    }
-}
-
-/// The same of a precondition that may speak of programs.
-fn on_body(
-    alloc: Global,
-    goal: &Sequent,
-    at: u128,
-    holds: bool,
-    one: &OneBody<'_>,
-) -> Result<Sequents, Refused>
-    ensures { Answers (beside.on_body at holds goal.now (Some (one_seen one.now))) result }
-{
-    if speaks(one.pre) {
+    let Some(found) = statement_at(at, one.list) else {
+        return Err(refusal(Why::Argument));
+    };
+    let Some(known) = decision(holds, found.statement) else {
         return Err(no_shape());
-    }
-    at_place(alloc, goal, at, holds, one)
+    };
+    Ok(by_decision(alloc, goal, holds, one, &found, &known)?)
 }
 
 /// One of two bodies.
@@ -201,7 +178,7 @@ fn one_of_two<'a>(acts: Acts, goal: Goal<'a>) -> Option<OneBody<'a>>
     }
 }
 
-/// The subgoals at a goal without quantifiers over modules.
+/// The subgoals at a goal without quantifiers over modules, of which the precondition may speak of programs.
 fn on_one(
     alloc: Global,
     goal: &Sequent,
@@ -211,25 +188,13 @@ fn on_one(
 ) -> Result<Sequents, Refused>
     ensures { Answers (beside.on_body at holds goal.now (beside.one_of_two acts (view.goal_of goal.now.conclusion))) result }
 {
-    match one_of_two(acts, goal_of(&goal.conclusion)) {
-        Some(one) => on_body(alloc, goal, at, holds, &one),
-        None => Err(no_shape()),
+    let Some(one) = one_of_two(acts, goal_of(&goal.conclusion)) else {
+        return Err(no_shape());
+    };
+    if speaks(one.pre) {
+        return Err(no_shape());
     }
-}
-
-/// The same, at the place of the step.
-fn at_step(
-    alloc: Global,
-    goal: &Sequent,
-    acts: Acts,
-    at: u128,
-    holds: bool,
-    place: Place,
-) -> Result<Sequents, Refused>
-    ensures { Answers (placed_at place (beside.on_body at holds goal.now (beside.one_of_two acts (view.goal_of goal.now.conclusion)))) result }
-{
-    let made = on_one(alloc, goal, acts, at, holds);
-    placed(made, place)
+    at_place(alloc, goal, at, holds, &one)
 }
 
 /// The subgoals of `rcondt` and `rcondf` on one of two programs: the guard of the statement at a place is always true, or false, where it
@@ -247,5 +212,6 @@ pub fn apply(
     ensures { Answers (beside.beside_answer at holds acts place goal.now) result }
 {
     refuse_goal_modules(place, goal)?;
-    at_step(alloc, goal, acts, at, holds, place)
+    let made = on_one(alloc, goal, acts, at, holds);
+    placed(made, place)
 }

@@ -20,7 +20,7 @@ use Rattle.gb_meaning.specs.State.{State, at, between}
 use Rattle.gb_meaning.specs.Terms.{val}
 use Rattle.gb_meaning.specs.Judgments.{Judge, IsFair, IsSoundIfThere, IsTrueUnder, den, speaking, chance, compares, outcome_denominator}
 use Rattle.gb_meaning.specs.Written.{type_of}
-use Rattle.gb_laws.proofs.Runs.{run_positive, routine_positive}
+use Rattle.gb_meaning.proofs.Runs.{run_positive, routine_positive}
 use Rattle.gb_steps.specs.declared.step.Weakened.{Weakened}
 use Rattle.gb_typing.specs.Modules.{ProcedureType}
 use Rattle.gb_typing.specs.Context.{Context, Frame, procedure, with_own, with_sides}
@@ -39,10 +39,10 @@ use Rattle.gb_typing.specs.Goals.{IsCode, IsGoalOver, IsTypedGoal, frame_before,
 use Rattle.gb_typing.proofs.Ambient.{one_typed, one_meaning, pair_typed, pair_meaning}
 use Rattle.gb_typing.proofs.Forms.{implies_typed, implies_use}
 use Rattle.gb_typing.proofs.Given.{AreSound, refused_given, sound_given}
-use Rattle.gb_chance.specs.Compared.{compared}
-use Rattle.gb_chance.proofs.Bound.{bound_value, bound_above}
-use Rattle.gb_chance.proofs.Comparing.{real_made, compared_typed, compared_is}
-use Rattle.gb_chance.proofs.Weaker.{Follows, event_follows, bound_follows}
+use Rattle.gb_parts.specs.Compared.{compared}
+use Rattle.gb_parts.proofs.Bound.{bound_value, bound_above}
+use Rattle.gb_parts.proofs.Comparing.{real_made, compared_typed, compared_is}
+use Rattle.gb_parts.proofs.Weaker.{Follows, event_follows, bound_follows}
 use Rattle.gb_parts.specs.Likely.{as_likely}
 use Rattle.gb_parts.proofs.Likely.{as_likely_typed, likely_at}
 use Rattle.gb_bodies.specs.Conseq.{or_old, leads, pair_leads, bound_goals, of_one, of_two, of_chance, unless_bound, conseq_row, IsCondition, IsBound, IsTypedWeakened}

@@ -23,16 +23,16 @@ use Rattle.gb_meaning.specs.Memory.{Memory}
 use Rattle.gb_meaning.specs.Setting.{Setting}
 use Rattle.gb_meaning.specs.Setting.Meaning.{finite}
 use Rattle.gb_meaning.specs.Meanings.{truth, value_in, fraction_in}
-use Rattle.gb_laws.proofs.Truths.{true_equal}
-use Rattle.gb_typed.specs.Finite.{IsFinite}
+use Rattle.gb_meaning.proofs.Truths.{true_equal}
+use Rattle.gb_laws.specs.Finite.{IsFinite}
 use Rattle.gb_meaning.specs.State.{State, at, between, inside, memory_of}
 use Rattle.gb_meaning.specs.Terms.{quiet, val}
 use Rattle.gb_meaning.specs.Commands.{statements}
 use Rattle.gb_meaning.specs.Runs.{is_true}
 use Rattle.gb_meaning.specs.Judgments.{Judge, IsFair, speaking, IsTrueUnder, compares, chance, den}
 use Rattle.gb_meaning.specs.Written.{type_of}
-use Rattle.gb_changes.specs.Written.{IsSide}
-use Rattle.gb_laws.proofs.Runs.{run_positive}
+use Rattle.gb_laws.specs.Written.{IsSide}
+use Rattle.gb_meaning.proofs.Runs.{run_positive}
 use Rattle.gb_typing.specs.Context.{Context, Frame, frame_of, reframed}
 use Rattle.gb_typing.specs.Sequents.{two}
 use Rattle.gb_typing.specs.Typing.{IsForm}

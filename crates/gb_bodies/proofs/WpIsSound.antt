@@ -37,8 +37,8 @@ use Rattle.gb_meaning.specs.Terms.{quiet, val}
 use Rattle.gb_meaning.specs.Runs.{valued, is_true}
 use Rattle.gb_meaning.specs.Judgments.{Judge, IsFair, IsTrueUnder, speaking, compares, chance, den}
 use Rattle.gb_meaning.specs.Written.{type_of}
-use Rattle.gb_laws.proofs.Truths.{true_and, true_implies, true_not}
-use Rattle.gb_changes.specs.Written.{with_side, IsSide}
+use Rattle.gb_meaning.proofs.Truths.{true_and, true_implies, true_not}
+use Rattle.gb_laws.specs.Written.{with_side, IsSide}
 use Rattle.gb_typing.specs.Context.{Context, Frame, frame_of, reframed}
 use Rattle.gb_typing.specs.Typing.{IsForm}
 use Rattle.gb_typing.specs.Programs.{IsExpression, IsStatement, AreStatements, EachStatement}

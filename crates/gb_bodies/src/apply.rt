@@ -2,7 +2,7 @@
 
 ghost use Rattle.gb_goal.specs.Answers.{Answers};
 ghost use Rattle.gb_goal.specs.Rows.{answered, stepped};
-ghost use Rattle.gb_bodies.specs.Rows.{body_row, rule_row};
+ghost use Rattle.gb_bodies.specs.Rows.{rule_row};
 
 use crate::branch::if_rule;
 use crate::case::case;
@@ -18,33 +18,18 @@ use gb_parts::subgoals::{no_shape, placed};
 use gb_steps::step::{BodyRule, Rule, Step};
 use std::alloc::Global;
 
-/// The subgoals of a rule on programs.
-fn subgoals(
-    alloc: Global,
-    rule: &BodyRule,
-    goal: &Sequent,
-    scope: &Scope,
-) -> Result<Sequents, Refused>
-    ensures { Answers (answered (body_row scope.now rule.now) goal.now) result }
-{
-    match rule {
-        BodyRule::Proc => proc(alloc, goal, scope),
-        BodyRule::Skip => skip(alloc, goal),
-        BodyRule::Seq(position, between) => seq(alloc, goal, *position, between),
-        BodyRule::If(acts) => if_rule(alloc, goal, *acts),
-        BodyRule::Wp(acts) => wp(alloc, goal, *acts),
-        BodyRule::Case(form) => case(alloc, goal, form),
-        BodyRule::Conseq(weakened) => conseq(alloc, goal, weakened),
-        BodyRule::Unfit => Err(no_shape()),
-    }
-}
-
 /// The subgoals of a rule. Refused with `Shape` at a rule of another family.
 fn answer(alloc: Global, rule: &Rule, goal: &Sequent, scope: &Scope) -> Result<Sequents, Refused>
     ensures { Answers (answered (rule_row scope.now rule.now) goal.now) result }
 {
     match rule {
-        Rule::OnBodies(rule) => subgoals(alloc, rule, goal, scope),
+        Rule::OnBodies(BodyRule::Proc) => proc(alloc, goal, scope),
+        Rule::OnBodies(BodyRule::Skip) => skip(alloc, goal),
+        Rule::OnBodies(BodyRule::Seq(position, between)) => seq(alloc, goal, *position, between),
+        Rule::OnBodies(BodyRule::If(acts)) => if_rule(alloc, goal, *acts),
+        Rule::OnBodies(BodyRule::Wp(acts)) => wp(alloc, goal, *acts),
+        Rule::OnBodies(BodyRule::Case(form)) => case(alloc, goal, form),
+        Rule::OnBodies(BodyRule::Conseq(weakened)) => conseq(alloc, goal, weakened),
         _ => Err(no_shape()),
     }
 }

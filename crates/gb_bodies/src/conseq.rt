@@ -14,9 +14,9 @@ ghost use Rattle.gb_parts.specs.Likely.{as_likely};
 ghost use Rattle.gb_parts.specs.Judged.{goal_judged};
 
 use crate::goals::{leads, pair_leads, three_goals};
-use gb_chance::compared::compared;
 use gb_core::refusal::Refused;
 use gb_goal::sequent::{Sequent, Sequents};
+use gb_parts::compared::compared;
 use gb_parts::forms::{every, likely};
 use gb_parts::judged::{Judged, equiv_of, hoare_of, judgment, phoare_of};
 use gb_parts::subgoals::{no_shape, one_goal};
@@ -160,7 +160,7 @@ fn subgoals(
 {
     match (old, &new.bound) {
         (Judged::Hoare(subject, pre, post), None) => {
-            Ok(of_one(alloc, goal, new, subject, pre, post)?)
+            of_one(alloc, goal, new, subject, pre, post).map_err(Refused::from)
         }
         (Judged::Phoare(subject, rel, pre, post, bound), _) => {
             let old = Bounded {
@@ -169,10 +169,10 @@ fn subgoals(
                 post,
                 bound,
             };
-            Ok(of_chance(alloc, goal, new, subject, &old)?)
+            of_chance(alloc, goal, new, subject, &old).map_err(Refused::from)
         }
         (Judged::Equiv(left, right, pre, post), None) => {
-            Ok(of_two(alloc, goal, new, left, right, pre, post)?)
+            of_two(alloc, goal, new, left, right, pre, post).map_err(Refused::from)
         }
         _ => Err(no_shape()),
     }

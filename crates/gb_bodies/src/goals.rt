@@ -2,13 +2,16 @@
 
 ghost use Rattle.std.specs.Prelude.{◌≡◌, [], ◌∷◌, IfOk};
 ghost use Rattle.gb_goal.specs.Goal.{form_of};
+ghost use Rattle.gb_goal.specs.Goal.Code.{body};
+ghost use Rattle.gb_goal.specs.Goal.Goal.{equiv};
 ghost use Rattle.gb_bodies.specs.Conseq.{leads, pair_leads};
 
+use gb_goal::goal::equiv;
 use gb_goal::sequent::{Sequent, Sequents};
 use gb_parts::forms::{every, every_pair, implied};
-use gb_parts::subgoals::two_goals;
+use gb_parts::subgoals::{shared_body, two_goals};
 use gb_terms::op::Side;
-use gb_terms::term::Form;
+use gb_terms::term::{Form, Instr};
 use std::alloc::{AllocError, Global};
 
 /// One form leads to the other in every memory.
@@ -25,6 +28,22 @@ pub fn pair_leads(alloc: Global, pre: &Form, post: &Form) -> Result<Form, AllocE
 {
     let form = implied(alloc, pre, post)?;
     every_pair(alloc, form)
+}
+
+/// The equivalence of two bodies from a condition to another.
+pub fn of_two(
+    alloc: Global,
+    left: &[Instr],
+    right: &[Instr],
+    pre: &Form,
+    post: Form,
+) -> Result<Form, AllocError>
+    ensures { IfOk result (λ made. made ≡ form_of (equiv (body left.now) (body right.now) pre.now post)) }
+{
+    let pre = pre.share()?;
+    let left = shared_body(alloc, left)?;
+    let right = shared_body(alloc, right)?;
+    equiv(alloc, left, right, pre, post)
 }
 
 /// Three goals with the context of `goal` and these conclusions.

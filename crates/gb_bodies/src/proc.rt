@@ -9,9 +9,8 @@ ghost use Rattle.gb_goal.specs.Answers.{Answers};
 ghost use Rattle.gb_goal.specs.Goal.{form_of};
 ghost use Rattle.gb_goal.specs.Goal.Code.{body};
 ghost use Rattle.gb_goal.specs.Goal.Goal.{hoare, phoare, equiv};
-ghost use Rattle.gb_goal.specs.Rows.{answered, each_concluding};
+ghost use Rattle.gb_goal.specs.Rows.{answered};
 ghost use Rattle.gb_goal.specs.Scope.{Declarations};
-ghost use Rattle.gb_goal.specs.Views.{goal_seen};
 ghost use Rattle.gb_walk.specs.Change.{term_changed};
 ghost use Rattle.gb_typing.specs.Rules.{IsSoundRuleIn, no_arguments};
 ghost use Rattle.gb_typing.specs.Calls.{returned};
@@ -53,15 +52,6 @@ fn said_of_one(alloc: Global, proc: &Proc, post: &Form) -> Result<Form, AllocErr
     changed(alloc, post, &[result])
 }
 
-/// The same of two procedures.
-fn said_of_both(alloc: Global, left: &Proc, right: &Proc, post: &Form) -> Result<Form, AllocError>
-    ensures { IfOk result (λ made. made ≡ term_changed post.now (returned Side.Left left.now ∷ returned Side.Right right.now ∷ [])) }
-{
-    let left = returned(alloc, left, Side::Left)?;
-    let right = returned(alloc, right, Side::Right)?;
-    changed(alloc, post, &[left, right])
-}
-
 /// The judgment on the body of a procedure.
 fn one_entered(alloc: Global, proc: &Proc, pre: &Form, post: &Form) -> Result<Form, AllocError>
     ensures { IfOk result (λ made. made ≡ form_of (hoare (body proc.now.body.list) pre.now (of_result proc.now post.now))) }
@@ -101,39 +91,13 @@ fn two_entered(
     ensures { IfOk result (λ made. made ≡ form_of (equiv (body left.now.body.list) (body right.now.body.list) pre.now
         (term_changed post.now (returned Side.Left left.now ∷ returned Side.Right right.now ∷ [])))) }
 {
-    let post = said_of_both(alloc, left, right, post)?;
+    let here = returned(alloc, left, Side::Left)?;
+    let there = returned(alloc, right, Side::Right)?;
+    let post = changed(alloc, post, &[here, there])?;
     let pre = pre.share()?;
     let left = left.body.list.share()?;
     let right = right.body.list.share()?;
     equiv(alloc, left, right, pre, post)
-}
-
-/// The subgoals of a goal that is seen so.
-fn entered(alloc: Global, goal: &Sequent, seen: Goal, scope: &Scope) -> Result<Sequents, Refused>
-    ensures { Answers (each_concluding goal.now (proc_row scope.now (goal_seen seen.entry))) result }
-{
-    let conclusion = match seen {
-        Goal::Hoare(Code::Procedure(named), pre, post) => {
-            let Some(proc) = scope.procedure(named) else {
-                return Err(no_shape());
-            };
-            one_entered(alloc, proc, pre, post)?
-        }
-        Goal::Phoare(Code::Procedure(named), rel, pre, post, bound) => {
-            let Some(proc) = scope.procedure(named) else {
-                return Err(no_shape());
-            };
-            chance_entered(alloc, proc, rel, pre, post, bound)?
-        }
-        Goal::Equiv(Code::Procedure(left), Code::Procedure(right), pre, post) => {
-            let (Some(left), Some(right)) = (scope.procedure(left), scope.procedure(right)) else {
-                return Err(no_shape());
-            };
-            two_entered(alloc, left, right, pre, post)?
-        }
-        _ => return Err(no_shape()),
-    };
-    Ok(one_goal(alloc, goal, conclusion)?)
 }
 
 /// The subgoals of `proc`: from concrete procedures of modules without parameters to their bodies. Parameters are locals, and the
@@ -141,7 +105,28 @@ fn entered(alloc: Global, goal: &Sequent, seen: Goal, scope: &Scope) -> Result<S
 pub fn proc(alloc: Global, goal: &Sequent, scope: &Scope) -> Result<Sequents, Refused>
     ensures { Answers (answered (proc_row scope.now) goal.now) result }
 {
-    entered(alloc, goal, goal_of(&goal.conclusion), scope)
+    let conclusion = match goal_of(&goal.conclusion) {
+        Goal::Hoare(Code::Procedure(named), pre, post) => {
+            let Some(proc) = scope.procedure(named) else {
+                return Err(no_shape());
+            };
+            one_entered(alloc, proc, pre, post)
+        }
+        Goal::Phoare(Code::Procedure(named), rel, pre, post, bound) => {
+            let Some(proc) = scope.procedure(named) else {
+                return Err(no_shape());
+            };
+            chance_entered(alloc, proc, rel, pre, post, bound)
+        }
+        Goal::Equiv(Code::Procedure(left), Code::Procedure(right), pre, post) => {
+            let (Some(left), Some(right)) = (scope.procedure(left), scope.procedure(right)) else {
+                return Err(no_shape());
+            };
+            two_entered(alloc, left, right, pre, post)
+        }
+        _ => return Err(no_shape()),
+    };
+    one_goal(alloc, goal, conclusion?).map_err(Refused::from)
 }
 
 /// `proc` is sound over each typed scope, at the goal of each typed sequent.

@@ -7,15 +7,15 @@ ghost use Rattle.gb_goal.specs.Answers.{Answers};
 ghost use Rattle.gb_goal.specs.Goal.Code.{body};
 ghost use Rattle.gb_goal.specs.Goal.Goal.{hoare, equiv};
 ghost use Rattle.gb_goal.specs.Goal.{form_of};
-ghost use Rattle.gb_goal.specs.Rows.{answered, concluding, each_concluding};
-ghost use Rattle.gb_goal.specs.Views.{goal_seen};
+ghost use Rattle.gb_goal.specs.Rows.{answered, concluding};
 ghost use Rattle.gb_typing.specs.Context.{Context};
 ghost use Rattle.gb_typing.specs.Rules.{IsSoundRule};
 ghost use Rattle.gb_bodies.specs.Seq.{seq_row, IsTypedCut};
 
+use crate::goals::of_two;
 use gb_core::refusal::{Refused, Why};
 use gb_forms::cuts::{Parts, cut_bodies};
-use gb_goal::goal::{Code, Goal, equiv, goal_of, hoare};
+use gb_goal::goal::{Code, Goal, goal_of, hoare};
 use gb_goal::sequent::{Sequent, Sequents};
 use gb_parts::subgoals::{no_shape, refusal, shared_body, two_goals};
 use gb_steps::step::Cut;
@@ -30,23 +30,6 @@ fn of_one(alloc: Global, list: &[Instr], pre: &Form, post: &Form) -> Result<Form
     let pre = pre.share()?;
     let post = post.share()?;
     hoare(alloc, list, pre, post)
-}
-
-/// The equivalence of two bodies from a condition to another.
-fn of_two(
-    alloc: Global,
-    left: &[Instr],
-    right: &[Instr],
-    pre: &Form,
-    post: &Form,
-) -> Result<Form, AllocError>
-    ensures { IfOk result (λ made. made ≡ form_of (equiv (body left.now) (body right.now) pre.now post.now)) }
-{
-    let left = shared_body(alloc, left)?;
-    let right = shared_body(alloc, right)?;
-    let pre = pre.share()?;
-    let post = post.share()?;
-    equiv(alloc, left, right, pre, post)
 }
 
 /// The goals of the parts of a body.
@@ -80,38 +63,9 @@ fn two_cut(
         ∷ equiv (body parts.entry.1.left.now) (body parts.entry.1.right.now) between.now post.now ∷ [])) }
 {
     let (first, rest) = parts;
-    let first = of_two(alloc, first.left, first.right, pre, between)?;
-    let rest = of_two(alloc, rest.left, rest.right, between, post)?;
+    let first = of_two(alloc, first.left, first.right, pre, between.share()?)?;
+    let rest = of_two(alloc, rest.left, rest.right, between, post.share()?)?;
     two_goals(alloc, goal, first, rest)
-}
-
-/// The subgoals of a goal that is seen so.
-fn cut(
-    alloc: Global,
-    goal: &Sequent,
-    seen: Goal,
-    cut: Cut,
-    between: &Form,
-) -> Result<Sequents, Refused>
-    ensures { Answers (each_concluding goal.now (seq_row cut between.now (goal_seen seen.entry))) result }
-{
-    match (cut, seen) {
-        (Cut::One(count), Goal::Hoare(Code::Body(list), pre, post)) => {
-            if count > list.len() as u128 {
-                return Err(refusal(Why::Argument));
-            }
-            let parts = list.split_at(count as usize);
-            Ok(one_cut(alloc, goal, parts, pre, between, post)?)
-        }
-        (Cut::Two(here, there), Goal::Equiv(Code::Body(left), Code::Body(right), pre, post)) => {
-            if here > left.len() as u128 || there > right.len() as u128 {
-                return Err(refusal(Why::Argument));
-            }
-            let parts = cut_bodies(left, right, here as usize, there as usize);
-            Ok(two_cut(alloc, goal, parts, pre, between, post)?)
-        }
-        _ => Err(no_shape()),
-    }
 }
 
 /// The subgoals of `seq`: what is said between the parts of each body holds after the first, and the rest leads from there to the
@@ -125,7 +79,23 @@ pub fn seq(
 ) -> Result<Sequents, Refused>
     ensures { Answers (answered (seq_row position between.now) goal.now) result }
 {
-    cut(alloc, goal, goal_of(&goal.conclusion), position, between)
+    match (position, goal_of(&goal.conclusion)) {
+        (Cut::One(count), Goal::Hoare(Code::Body(list), pre, post)) => {
+            if count > list.len() as u128 {
+                return Err(refusal(Why::Argument));
+            }
+            let parts = list.split_at(count as usize);
+            one_cut(alloc, goal, parts, pre, between, post).map_err(Refused::from)
+        }
+        (Cut::Two(here, there), Goal::Equiv(Code::Body(left), Code::Body(right), pre, post)) => {
+            if here > left.len() as u128 || there > right.len() as u128 {
+                return Err(refusal(Why::Argument));
+            }
+            let parts = cut_bodies(left, right, here as usize, there as usize);
+            two_cut(alloc, goal, parts, pre, between, post).map_err(Refused::from)
+        }
+        _ => Err(no_shape()),
+    }
 }
 
 /// `seq k : (R)` and `seq k l : (R)` are sound.

@@ -1,20 +1,19 @@
 //! The rule `skip`.
 
 ghost use Rattle.std.specs.Prelude.{◌≡◌, IfOk};
-ghost use Rattle.gb_chance.specs.Compared.{certain_or_not};
+ghost use Rattle.gb_parts.specs.Compared.{certain_or_not};
 ghost use Rattle.gb_typing.specs.Context.{Context};
 ghost use Rattle.gb_typing.specs.Forms.{every, implies_form};
 ghost use Rattle.gb_goal.specs.Answers.{Answers};
-ghost use Rattle.gb_goal.specs.Rows.{answered, each_concluding};
-ghost use Rattle.gb_goal.specs.Views.{goal_seen};
+ghost use Rattle.gb_goal.specs.Rows.{answered};
 ghost use Rattle.gb_typing.specs.Rules.{IsSoundRule, no_arguments};
 ghost use Rattle.gb_bodies.specs.Skip.{skip_row};
 
 use crate::goals::{leads, pair_leads};
-use gb_chance::compared::certain_or_not;
 use gb_core::refusal::Refused;
 use gb_goal::goal::{Code, Goal, goal_of};
 use gb_goal::sequent::{Sequent, Sequents};
+use gb_parts::compared::certain_or_not;
 use gb_parts::forms::every;
 use gb_parts::subgoals::{no_shape, one_goal};
 use gb_terms::make::implication;
@@ -37,25 +36,18 @@ fn met(
     every(alloc, Side::Own, form)
 }
 
-/// The subgoals of a goal that is seen so.
-fn skipped(alloc: Global, goal: &Sequent, seen: Goal) -> Result<Sequents, Refused>
-    ensures { Answers (each_concluding goal.now (skip_row (goal_seen seen.entry))) result }
-{
-    let conclusion = match seen {
-        Goal::Hoare(Code::Body([]), pre, post) => leads(alloc, pre, post)?,
-        Goal::Phoare(Code::Body([]), rel, pre, post, bound) => met(alloc, rel, pre, post, bound)?,
-        Goal::Equiv(Code::Body([]), Code::Body([]), pre, post) => pair_leads(alloc, pre, post)?,
-        _ => return Err(no_shape()),
-    };
-    Ok(one_goal(alloc, goal, conclusion)?)
-}
-
 /// The subgoals of `skip`: where the bodies of a judgment are empty, its precondition implies its postcondition, in every
 /// memory. With a probability it implies that 1 stands so to the bound where the postcondition holds, and 0 where it doesn't. Refused with `Shape` at any other goal.
 pub fn skip(alloc: Global, goal: &Sequent) -> Result<Sequents, Refused>
     ensures { Answers (answered skip_row goal.now) result }
 {
-    skipped(alloc, goal, goal_of(&goal.conclusion))
+    let conclusion = match goal_of(&goal.conclusion) {
+        Goal::Hoare(Code::Body([]), pre, post) => leads(alloc, pre, post),
+        Goal::Phoare(Code::Body([]), rel, pre, post, bound) => met(alloc, rel, pre, post, bound),
+        Goal::Equiv(Code::Body([]), Code::Body([]), pre, post) => pair_leads(alloc, pre, post),
+        _ => return Err(no_shape()),
+    };
+    one_goal(alloc, goal, conclusion?).map_err(Refused::from)
 }
 
 /// `skip` is sound.

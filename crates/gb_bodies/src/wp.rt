@@ -1,11 +1,9 @@
 //! The rule `wp`.
 
-ghost use Rattle.std.specs.Prelude.{◌≡◌, ◌≤◌, length, IfOk};
+ghost use Rattle.std.specs.Prelude.{◌≡◌, ◌≤◌, length};
 ghost use Rattle.gb_steps.specs.declared.step.Acts.{Acts as Programs};
 ghost use Rattle.gb_goal.specs.Answers.{Answers};
-ghost use Rattle.gb_goal.specs.Goal.{form_of};
 ghost use Rattle.gb_goal.specs.Goal.Code.{body};
-ghost use Rattle.gb_goal.specs.Goal.Goal.{equiv};
 ghost use Rattle.gb_goal.specs.Rows.{answered, each_concluding};
 ghost use Rattle.gb_goal.specs.Views.{goal_seen};
 ghost use Rattle.gb_typing.specs.Context.{Context};
@@ -15,11 +13,12 @@ ghost use Rattle.gb_parts.specs.Assigned.{assigned_form, clashing};
 ghost use Rattle.gb_parts.specs.OneBody.{one_seen};
 ghost use Rattle.gb_bodies.specs.Wp.{are_straight, before, before_all, front, is_straight, staying, unless_clash, wp_both, wp_one, wp_row};
 
+use crate::goals::of_two;
 use gb_core::copy::copy_var;
 use gb_core::refusal::{Refused, Why};
 use gb_core::var::Var;
 use gb_forms::branches::by_test;
-use gb_goal::goal::{Code, Goal, equiv, goal_of};
+use gb_goal::goal::{Code, Goal, goal_of};
 use gb_goal::sequent::{Sequent, Sequents};
 use gb_parts::assigned::{assigned_form, clashing};
 use gb_parts::forms::located;
@@ -28,7 +27,7 @@ use gb_parts::subgoals::{no_shape, one_goal, refusal, shared_body};
 use gb_steps::step::Acts;
 use gb_terms::op::Side;
 use gb_terms::term::{Form, Instr, Term};
-use std::alloc::{AllocError, Global};
+use std::alloc::Global;
 
 /// More variables than a tuple has parts.
 const MANY: usize = 9;
@@ -87,7 +86,7 @@ fn before_assign(
         let target = copy_var(alloc, target)?;
         return Err(refusal(Why::SideCondition(target)));
     }
-    Ok(assigned_form(alloc, side, targets, value, post)?)
+    assigned_form(alloc, side, targets, value, post).map_err(Refused::from)
 }
 
 /// What has to hold before a statement without chance, so that a form holds after it.
@@ -131,23 +130,7 @@ fn wp_one(alloc: Global, goal: &Sequent, one: &OneBody<'_>) -> Result<Sequents, 
     let pre = one.pre.share()?;
     let list = shared_body(alloc, front)?;
     let conclusion = filled(alloc, one.around, list, pre, post)?;
-    Ok(one_goal(alloc, goal, conclusion)?)
-}
-
-/// The equivalence of what stays of two bodies.
-fn fronts(
-    alloc: Global,
-    left: &[Instr],
-    right: &[Instr],
-    pre: &Form,
-    post: Form,
-) -> Result<Form, AllocError>
-    ensures { IfOk result (λ made. made ≡ form_of (equiv (body left.now) (body right.now) pre.now post)) }
-{
-    let pre = pre.share()?;
-    let left = shared_body(alloc, left)?;
-    let right = shared_body(alloc, right)?;
-    equiv(alloc, left, right, pre, post)
+    one_goal(alloc, goal, conclusion).map_err(Refused::from)
 }
 
 /// The subgoal on two bodies.
@@ -160,8 +143,8 @@ fn wp_both(alloc: Global, goal: &Sequent, acts: Acts, seen: Goal) -> Result<Sequ
             let (right, right_ending) = right.split_at(staying(right));
             let post = before_all(alloc, Side::Left, left_ending, post)?;
             let post = before_all(alloc, Side::Right, right_ending, &post)?;
-            let conclusion = fronts(alloc, left, right, pre, post)?;
-            Ok(one_goal(alloc, goal, conclusion)?)
+            let conclusion = of_two(alloc, left, right, pre, post)?;
+            one_goal(alloc, goal, conclusion).map_err(Refused::from)
         }
         _ => Err(no_shape()),
     }

@@ -26,17 +26,17 @@ use Rattle.gb_meaning.specs.State.Binding.{program}
 use Rattle.gb_meaning.specs.Terms.{quiet}
 use Rattle.gb_meaning.specs.Values.{fit, has}
 use Rattle.gb_meaning.specs.Judgments.{Judge, IsFair, den}
-use Rattle.gb_laws.proofs.Maps.{get-set_same}
-use Rattle.gb_laws.proofs.Nodes.{val_node}
-use Rattle.gb_local.proofs.Leaves.{assigned_left}
-use Rattle.gb_changes.specs.Uses.{IsWithin}
-use Rattle.gb_changes.specs.Written.{Written, all_written}
-use Rattle.gb_typed.specs.Finite.{IsFinite}
-use Rattle.gb_typed.specs.Operators.{parts_in}
-use Rattle.gb_typed.specs.Programs.{HaveTypes, Take, variable_type}
-use Rattle.gb_typed.specs.Context.{FitBinders}
-use Rattle.gb_typed.specs.Typing.{Binder}
-use Rattle.gb_typed.specs.Typing.Binder.{value as value_binder, program as module_binder}
+use Rattle.gb_meaning.proofs.Maps.{get-set_same}
+use Rattle.gb_meaning.proofs.Nodes.{val_node}
+use Rattle.gb_laws.proofs.Leaves.{assigned_left}
+use Rattle.gb_laws.specs.Uses.{IsWithin}
+use Rattle.gb_laws.specs.Written.{Written, all_written}
+use Rattle.gb_laws.specs.Finite.{IsFinite}
+use Rattle.gb_laws.specs.Operators.{parts_in}
+use Rattle.gb_laws.specs.Programs.{HaveTypes, Take, variable_type}
+use Rattle.gb_laws.specs.Context.{FitBinders}
+use Rattle.gb_laws.specs.Typing.{Binder}
+use Rattle.gb_laws.specs.Typing.Binder.{value as value_binder, program as module_binder}
 use Rattle.gb_typing.specs.Context.{Context, Frame, erased}
 use Rattle.gb_typing.specs.Fits.{IsSettingOf, IsStateOf}
 use Rattle.gb_typing.specs.Puts.{Readable, IsTypedWrite, clash, reading}

@@ -23,10 +23,10 @@ use Rattle.gb_meaning.specs.Terms.{Speaks}
 use Rattle.gb_meaning.specs.Values.{fit, has}
 use Rattle.gb_meaning.specs.Judgments.{Judge, IsFair, den, speaking}
 use Rattle.gb_meaning.specs.Written.{local_type, type_of}
-use Rattle.gb_laws.proofs.Maps.{get-set_same, get-set_other}
-use Rattle.gb_laws.proofs.Numberings.{fit_has}
-use Rattle.gb_changes.specs.Led.{put, IsPut, ArePut, IgnoresSides}
-use Rattle.gb_typed.proofs.Denominators.{denominator_one}
+use Rattle.gb_meaning.proofs.Maps.{get-set_same, get-set_other}
+use Rattle.gb_meaning.proofs.Numberings.{fit_has}
+use Rattle.gb_laws.specs.Led.{put, IsPut, ArePut, IgnoresSides}
+use Rattle.gb_laws.proofs.Denominators.{denominator_one}
 use Rattle.gb_typing.specs.Context.{Context, erased, of_program, reframed, with_own}
 use Rattle.gb_typing.specs.Changes.{Made}
 use Rattle.gb_typing.specs.Fits.{IsSettingOf}

@@ -30,10 +30,10 @@ use Rattle.gb_meaning.specs.Sound.{IsSound, IsSoundRoutine}
 use Rattle.gb_meaning.specs.State.{State, at}
 use Rattle.gb_meaning.specs.Terms.{val}
 use Rattle.gb_meaning.specs.Values.{fit}
-use Rattle.gb_laws.proofs.Runs.{routine_positive, run_positive}
-use Rattle.gb_laws.proofs.Totals.{run_bounded}
-use Rattle.gb_typed.specs.Finite.{IsFinite}
-use Rattle.gb_typed.specs.Programs.{Take}
+use Rattle.gb_meaning.proofs.Runs.{routine_positive, run_positive}
+use Rattle.gb_meaning.proofs.Totals.{run_bounded}
+use Rattle.gb_laws.specs.Finite.{IsFinite}
+use Rattle.gb_laws.specs.Programs.{Take}
 use Rattle.gb_holds.specs.Declared.{declared}
 use Rattle.gb_goal.specs.declared.sequent.Sequent.{Sequent}
 use Rattle.gb_goal.specs.Answers.Answer.{given}
@@ -65,11 +65,11 @@ use Rattle.gb_typing.proofs.Spared.{Clear}
 use Rattle.gb_prog.specs.Calls.{called_from}
 use Rattle.gb_prog.specs.Writes.{DifferIn, TypedVariable, AreIn, variables}
 use Rattle.gb_call.specs.Call.{Callee, before_call, by_globals, chances_by_globals, chances_of_callee, in_front, call_goals, call_row, callee as callee_if, callee_of, left_of, of_callee, on_programs, outcome as outcome_of, unless_clash, IsContract, IsTypedContract}
-use Rattle.gb_chance.specs.Compared.{compared, zero}
+use Rattle.gb_parts.specs.Compared.{compared, zero}
 use Rattle.gb_full.specs.Loss.{Loss, nowhere, sampled, called as lost_in_call, first_loss}
-use Rattle.gb_chance.proofs.Bound.{bound_value}
-use Rattle.gb_chance.proofs.Chances.{after_full, after_less}
-use Rattle.gb_chance.proofs.Comparing.{number_made, real_made, compared_typed, number_is, compared_is}
+use Rattle.gb_parts.proofs.Bound.{bound_value}
+use Rattle.gb_parts.proofs.Chances.{after_full, after_less}
+use Rattle.gb_parts.proofs.Comparing.{number_made, real_made, compared_typed, number_is, compared_is}
 use Rattle.gb_full.proofs.Full.{total_full}
 use Rattle.gb_parts.proofs.Likely.{FollowsAt}
 use Rattle.gb_full.specs.Lossless.{of_rest}

@@ -29,13 +29,13 @@ use Rattle.gb_meaning.specs.Sound.{IsSoundRoutine}
 use Rattle.gb_meaning.specs.State.{State, closed, inside}
 use Rattle.gb_meaning.specs.Values.{fit, has}
 use Rattle.gb_meaning.specs.Written.{type_of}
-use Rattle.gb_laws.proofs.Maps.{get-set_same}
-use Rattle.gb_laws.proofs.Numberings.{fit_has}
-use Rattle.gb_local.proofs.Leaves.{routine_leaves}
-use Rattle.gb_local.specs.Cells.Key.{global, local}
-use Rattle.gb_local.specs.Writes.{Spares, UnwrittenBy}
-use Rattle.gb_typed.specs.Finite.{IsFinite}
-use Rattle.gb_typed.specs.Programs.{Take}
+use Rattle.gb_meaning.proofs.Maps.{get-set_same}
+use Rattle.gb_meaning.proofs.Numberings.{fit_has}
+use Rattle.gb_laws.proofs.Leaves.{routine_leaves}
+use Rattle.gb_laws.specs.Cells.Key.{global, local}
+use Rattle.gb_laws.specs.Writes.{Spares, UnwrittenBy}
+use Rattle.gb_laws.specs.Finite.{IsFinite}
+use Rattle.gb_laws.specs.Programs.{Take}
 use Rattle.gb_holds.specs.Declared.{declared}
 use Rattle.gb_goal.specs.declared.sequent.Sequent.{Sequent}
 use Rattle.gb_goal.specs.Scope.{Declarations, module_of, procedure_of}

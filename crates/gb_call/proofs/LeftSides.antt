@@ -29,15 +29,15 @@ use Rattle.gb_meaning.specs.State.{State, memory_of}
 use Rattle.gb_meaning.specs.Terms.{quiet, val}
 use Rattle.gb_meaning.specs.Values.{has}
 use Rattle.gb_meaning.specs.Written.{type_of}
-use Rattle.gb_laws.proofs.Nodes.{term_is_node, val_node}
-use Rattle.gb_changes.specs.Plain.{IsPlain}
-use Rattle.gb_changes.specs.Written.{IsSide, with_side, all_written}
-use Rattle.gb_changes.proofs.Changed.{changed_at, term_changed_is}
-use Rattle.gb_typed.specs.Finite.{IsFinite, AreFiniteWith}
-use Rattle.gb_typed.specs.Operators.{item, items, parts_in}
-use Rattle.gb_typed.specs.Programs.{HaveTypes, Take, variable_type}
-use Rattle.gb_typed.specs.Typing.{Binder, IsBoundAt}
-use Rattle.gb_typed.specs.Typing.Binder.{value, program as module_binder}
+use Rattle.gb_meaning.proofs.Nodes.{term_is_node, val_node}
+use Rattle.gb_laws.specs.Plain.{IsPlain}
+use Rattle.gb_laws.specs.Written.{IsSide, with_side, all_written}
+use Rattle.gb_laws.proofs.Changed.{changed_at, term_changed_is}
+use Rattle.gb_laws.specs.Finite.{IsFinite, AreFiniteWith}
+use Rattle.gb_laws.specs.Operators.{item, items, parts_in}
+use Rattle.gb_laws.specs.Programs.{HaveTypes, Take, variable_type}
+use Rattle.gb_laws.specs.Typing.{Binder, IsBoundAt}
+use Rattle.gb_laws.specs.Typing.Binder.{value, program as module_binder}
 use Rattle.gb_typing.specs.Changes.{Made}
 use Rattle.gb_typing.specs.Context.{Context, Frame, erased, frame_of, reframed}
 use Rattle.gb_typing.specs.Puts.{IsPutFor, IsTypedPut, IsTypedWrite, Readable}

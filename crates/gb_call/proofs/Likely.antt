@@ -10,7 +10,7 @@ use Rattle.gb_meaning.specs.Fractions.{Fraction}
 use Rattle.gb_meaning.specs.Judgments.{chance, compares}
 use Rattle.gb_meaning.specs.Memory.{Memory}
 use Rattle.gb_parts.proofs.Likely.{FollowsAt}
-use Rattle.gb_chance.proofs.Weaker.{Follows, event_follows}
+use Rattle.gb_parts.proofs.Weaker.{Follows, event_follows}
 
 -- the first truth where it stands so to the second one, and one that stands so to it elsewhere
 abbrev bent : Rel → Bool → Bool → Bool

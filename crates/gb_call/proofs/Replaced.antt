@@ -23,12 +23,12 @@ use Rattle.gb_meaning.specs.Setting.Meaning.{finite}
 use Rattle.gb_meaning.specs.State.{State, memory_of}
 use Rattle.gb_meaning.specs.Terms.{Speaks, read_at}
 use Rattle.gb_meaning.specs.Judgments.{Judge, IsFair, speaking, den}
-use Rattle.gb_changes.specs.Led.{put, ArePut, IgnoresOwn, IgnoresSides, Enters, Led}
-use Rattle.gb_changes.specs.Uses.Use.{read as reads, bound, globals, starts, binds_own, binds_sides}
-use Rattle.gb_changes.specs.Plain.{IsPlain}
-use Rattle.gb_changes.specs.Written.{IsSide}
-use Rattle.gb_changes.proofs.Forms.{form_followed}
-use Rattle.gb_typed.specs.Typing.{Binder}
+use Rattle.gb_laws.specs.Led.{put, ArePut, IgnoresOwn, IgnoresSides, Enters, Led}
+use Rattle.gb_laws.specs.Uses.Use.{read as reads, bound, globals, starts, binds_own, binds_sides}
+use Rattle.gb_laws.specs.Plain.{IsPlain}
+use Rattle.gb_laws.specs.Written.{IsSide}
+use Rattle.gb_laws.proofs.Forms.{form_followed}
+use Rattle.gb_laws.specs.Typing.{Binder}
 use Rattle.gb_typing.specs.Context.{Context, Frame, frame_of, reframed}
 use Rattle.gb_typing.specs.Changes.{IsLeaf, Made, Becomes, IsMemoryIn, Leads}
 use Rattle.gb_typing.specs.Fits.{IsSettingOf}

@@ -21,9 +21,9 @@ use Rattle.gb_meaning.specs.Program.Program.{done, assign, sample, branch, loop,
 use Rattle.gb_meaning.specs.Program.Routine.{routine}
 use Rattle.gb_meaning.specs.Setting.{Setting}
 use Rattle.gb_meaning.specs.Values.{Types}
-use Rattle.gb_local.specs.Cells.{Key}
-use Rattle.gb_local.specs.Cells.Key.{global, local}
-use Rattle.gb_local.specs.Writes.{keys_of, IsNone, Spares, Unwritten, UnwrittenBy}
+use Rattle.gb_laws.specs.Cells.{Key}
+use Rattle.gb_laws.specs.Cells.Key.{global, local}
+use Rattle.gb_laws.specs.Writes.{keys_of, IsNone, Spares, Unwritten, UnwrittenBy}
 use Rattle.gb_holds.specs.Footprints.{globals_among}
 use Rattle.gb_goal.specs.Scope.{Declarations, procedure_of}
 use Rattle.gb_mods.specs.Called.{all_reached, called_by, row_calls, calls}

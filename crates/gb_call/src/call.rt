@@ -1,8 +1,9 @@
 //! The rule `call`, by what a procedure is said to do.
 
-ghost use Rattle.std.specs.Prelude.{◌≡◌, ◌∷◌, Some, IfOk, map};
+ghost use Rattle.std.specs.Prelude.{◌≡◌, ◌∷◌, Some, IfOk, IfSome, map};
 ghost use Rattle.std.specs.Option.{option_copied, option_map};
-ghost use Rattle.gb_goal.specs.Answers.{Answers};
+ghost use Rattle.gb_core.specs.declared.refusal.Why.TheVariants.{SideCondition};
+ghost use Rattle.gb_goal.specs.Answers.{nowhere, Answers, Refuses};
 ghost use Rattle.gb_goal.specs.Goal.{form_of};
 ghost use Rattle.gb_goal.specs.Goal.Code.{body, procedure};
 ghost use Rattle.gb_goal.specs.Goal.Goal.{hoare, phoare};
@@ -18,15 +19,16 @@ ghost use Rattle.gb_typing.specs.Sequents.{of_sequent, IsTypedSequent};
 ghost use Rattle.gb_typing.specs.Rules.{IsSoundRuleIn};
 ghost use Rattle.gb_full.specs.Loss.{first_loss};
 ghost use Rattle.gb_full.specs.Lossless.{of_rest};
-ghost use Rattle.gb_call.specs.Call.{before_call, by_callee, call_goals, call_row, chance_goals, chances_by_callee, chances_of_callee, callee_of, callee_seen, known_seen, left_of, of_callee, on_programs, IsTypedContract};
+ghost use Rattle.gb_call.specs.Call.{before_call, by_callee, call_goals, call_row, chance_goals, chances_by_callee, callee_of, callee_seen, known_seen, left_of, on_programs, IsTypedContract};
 ghost use Rattle.gb_call.specs.LastCall.{call_seen, last_call};
 ghost use Rattle.gb_call.specs.Outcomes.{clash_after, globals_seen};
-ghost use Rattle.gb_call.specs.Written.{typed_seen, with_types};
+ghost use Rattle.gb_call.specs.Written.{with_types};
 
 use crate::last_call::{Last, last_call};
 use crate::outcomes::{Outcome, after_call, clashing_after, of_arguments};
 use crate::reads::variables_read;
 use crate::written::{TypedGlobal, TypedGlobals, with_types};
+use gb_core::Shared;
 use gb_core::copy::copy_var;
 use gb_core::refusal::{Refused, Why};
 use gb_core::var::{Var, Vars};
@@ -42,8 +44,9 @@ use gb_parts::subgoals::{no_shape, one_goal, refusal, shared_body, two_goals};
 use gb_steps::step::{Acts, Contract};
 use gb_terms::decl::Proc;
 use gb_terms::make::conjunction;
+use gb_terms::module::ProcRef;
 use gb_terms::op::{Rel, Side};
-use gb_terms::term::{Form, Subject};
+use gb_terms::term::{Form, RealTerm, Subject};
 use std::alloc::{AllocError, Global};
 
 /// More variables than a tuple has parts.
@@ -55,20 +58,6 @@ pub struct Callee<'a> {
     pub call: Last<'a>,
     pub declared: &'a Proc,
     pub written: &'a [Var],
-}
-
-/// What is read of a memory after the call.
-pub fn reads_of(
-    alloc: Global,
-    side: Side,
-    contract: &Contract,
-    post: &Form,
-) -> Result<Reads, AllocError>
-    ensures { IfOk result (λ made. (made.said ≡ variables_read side contract.now.post) × (made.after ≡ variables_read side post.now)) }
-{
-    let said = variables_read(alloc, &contract.post, side)?;
-    let after = variables_read(alloc, post, side)?;
-    Ok(Reads { said, after })
 }
 
 /// The precondition holds of the arguments, and the postcondition makes what is to hold after the call as likely as the relation asks.
@@ -98,11 +87,11 @@ pub fn before_call(
     conjunction(alloc, holds, likely)
 }
 
-/// The procedure does what is said of it.
-fn does(alloc: Global, callee: &Callee<'_>, contract: &Contract) -> Result<Form, AllocError>
-    ensures { IfOk result (λ made. made ≡ form_of (hoare (procedure (callee_seen callee.now).call.procedure) contract.now.pre contract.now.post)) }
+/// A procedure does what is said of it.
+pub fn does(alloc: Global, named: &Shared<ProcRef>, contract: &Contract) -> Result<Form, AllocError>
+    ensures { IfOk result (λ made. made ≡ form_of (hoare (procedure named.now) contract.now.pre contract.now.post)) }
 {
-    let subject = Subject::Proc(callee.call.procedure.share()?);
+    let subject = Subject::Proc(named.share()?);
     let pre = contract.pre.share()?;
     let post = contract.post.share()?;
     hoare_of(alloc, &subject, pre, post)
@@ -142,28 +131,39 @@ fn by_globals(
         contract,
         post,
     )?;
-    let first = does(alloc, callee, contract)?;
+    let first = does(alloc, callee.call.procedure, contract)?;
     let second = leads(alloc, callee, pre, before)?;
     two_goals(alloc, goal, first, second)
 }
 
-/// The globals that a call writes and that are read after it, with their types. None where one of them has none.
+/// What is read of a memory after a call, and the globals among it that the call writes, with their types.
+#[derive(Drop)]
+pub struct ReadAfter {
+    pub reads: Reads,
+    pub globals: TypedGlobals,
+}
+
+/// What is read of a memory after a call. None where one of the globals that the call writes has no type.
 #[tactic(auto, using(crate::proofs::OutcomeSteps::left_as_read))]
-pub fn globals_left(
+pub fn read_after(
     alloc: Global,
     side: Side,
     scope: &Scope,
     callee: &Callee<'_>,
     contract: &Contract,
     post: &Form,
-    reads: &Reads,
-) -> Result<Option<TypedGlobals>, AllocError>
-    requires said { reads.now.said ≡ variables_read side contract.now.post }
-    requires later { reads.now.after ≡ variables_read side post.now }
-    ensures { IfOk result (λ made. typed_seen made ≡ with_types scope.now (left_of side (callee_seen callee.now) contract.now post.now)) }
+) -> Result<Option<ReadAfter>, AllocError>
+    ensures reads { IfOk result (λ made. IfSome made (λ r. (r.reads.said ≡ variables_read side contract.now.post) × (r.reads.after ≡ variables_read side post.now))) }
+    ensures globals { IfOk result (λ made. option_map (λ r. globals_seen r.globals) made ≡ with_types scope.now (left_of side (callee_seen callee.now) contract.now post.now)) }
 {
-    let left = left_of(alloc, callee.call.targets, reads, callee.written)?;
-    with_types(alloc, scope, left.as_slice())
+    let said = variables_read(alloc, &contract.post, side)?;
+    let after = variables_read(alloc, post, side)?;
+    let reads = Reads { said, after };
+    let left = left_of(alloc, callee.call.targets, &reads, callee.written)?;
+    match with_types(alloc, scope, left.as_slice())? {
+        Some(globals) => Ok(Some(ReadAfter { reads, globals })),
+        None => Ok(None),
+    }
 }
 
 /// The least variable of the left side, or of the globals that are written, with which another one clashes where it is replaced.
@@ -177,6 +177,16 @@ pub fn clash_after<'a>(
 {
     let targets = callee.call.targets;
     clashing_after(None, side, targets, callee.written, &contract.post, post)
+}
+
+/// The refusal at a variable that clashes with one that is replaced.
+pub fn side_condition(alloc: Global, var: &Var) -> Refused
+    ensures { Refuses (SideCondition var.now) nowhere result }
+{
+    match copy_var(alloc, var) {
+        Ok(var) => refusal(Why::SideCondition(var)),
+        Err(_) => Refused::NoMemory,
+    }
 }
 
 /// The subgoals of a call of a procedure.
@@ -196,12 +206,9 @@ fn by_callee(
         return Err(no_shape());
     }
     if let Some(var) = clash_after(Side::Own, callee, contract, post) {
-        let var = copy_var(alloc, var)?;
-        return Err(refusal(Why::SideCondition(var)));
+        return Err(side_condition(alloc, var));
     }
-    let reads = reads_of(alloc, Side::Own, contract, post)?;
-    let Some(globals) = globals_left(alloc, Side::Own, scope, callee, contract, post, &reads)?
-    else {
+    let Some(read) = read_after(alloc, Side::Own, scope, callee, contract, post)? else {
         return Err(no_shape());
     };
     Ok(by_globals(
@@ -211,26 +218,25 @@ fn by_callee(
         contract,
         pre,
         post,
-        &reads,
-        globals.as_slice(),
+        &read.reads,
+        read.globals.as_slice(),
     )?)
 }
 
-/// The procedure does what is said of it as likely as the bound says.
-fn does_as_likely(
+/// A procedure does what is said of it as likely as the bound says.
+pub fn does_as_likely(
     alloc: Global,
-    callee: &Callee<'_>,
+    named: &Shared<ProcRef>,
     contract: &Contract,
-    judged: &Judged<'_>,
+    rel: Rel,
+    bound: &RealTerm,
 ) -> Result<Form, AllocError>
-    ensures { IfOk result (λ made. made ≡
-        form_of (phoare (procedure (callee_seen callee.now).call.procedure) judged.now.rel contract.now.pre contract.now.post judged.now.bound.now)) }
+    ensures { IfOk result (λ made. made ≡ form_of (phoare (procedure named.now) rel contract.now.pre contract.now.post bound.now)) }
 {
-    let subject = Subject::Proc(callee.call.procedure.share()?);
+    let subject = Subject::Proc(named.share()?);
     let pre = contract.pre.share()?;
     let post = contract.post.share()?;
-    let bound = judged.bound.share()?;
-    phoare_of(alloc, &subject, judged.rel, pre, post, bound)
+    phoare_of(alloc, &subject, rel, pre, post, bound.share()?)
 }
 
 /// What is left of a call of which it is known what is read after it, where a probability is judged.
@@ -295,7 +301,13 @@ fn chance_goals(
     ensures { Answers (each_concluding goal.now (chance_goals scope.now (callee_seen callee.now) (globals_seen globals.now) contract.now judged.now.rel judged.now.pre.now judged.now.post.now judged.now.bound.now)) result }
 {
     let others = chances_left(alloc, goal, scope, callee, globals, reads, contract, judged)?;
-    let first = does_as_likely(alloc, callee, contract, judged)?;
+    let first = does_as_likely(
+        alloc,
+        callee.call.procedure,
+        contract,
+        judged.rel,
+        judged.bound,
+    )?;
     Ok(in_front(alloc, goal, first, others)?)
 }
 
@@ -317,17 +329,21 @@ fn chances_by_callee(
     }
     let post = judged.post;
     if let Some(var) = clash_after(Side::Own, callee, contract, post) {
-        let var = copy_var(alloc, var)?;
-        return Err(refusal(Why::SideCondition(var)));
+        return Err(side_condition(alloc, var));
     }
-    let reads = reads_of(alloc, Side::Own, contract, post)?;
-    let Some(globals) = globals_left(alloc, Side::Own, scope, callee, contract, post, &reads)?
-    else {
+    let Some(read) = read_after(alloc, Side::Own, scope, callee, contract, post)? else {
         return Err(no_shape());
     };
-    let globals = globals.as_slice();
+    let globals = read.globals.as_slice();
     chance_goals(
-        alloc, goal, scope, callee, globals, &reads, contract, judged,
+        alloc,
+        goal,
+        scope,
+        callee,
+        globals,
+        &read.reads,
+        contract,
+        judged,
     )
 }
 
@@ -374,42 +390,6 @@ pub fn callee_of<'a>(known: &'a Known<'a>) -> Callee<'a>
     }
 }
 
-/// The subgoals on one body.
-fn on_body(
-    alloc: Global,
-    goal: &Sequent,
-    scope: &Scope,
-    contract: &Contract,
-    pre: &Form,
-    post: &Form,
-    call: Option<Last<'_>>,
-) -> Result<Sequents, Refused>
-    ensures { Answers (each_concluding goal.now (of_callee scope.now contract.now pre.now post.now (callee_of scope.now (option_map call_seen call.entry)))) result }
-{
-    match known_call(alloc, scope, call)? {
-        Some(known) => by_callee(alloc, goal, scope, contract, pre, post, &callee_of(&known)),
-        None => Err(no_shape()),
-    }
-}
-
-/// The subgoals on one body of which a probability is judged.
-fn on_chances(
-    alloc: Global,
-    goal: &Sequent,
-    scope: &Scope,
-    contract: &Contract,
-    judged: &Judged<'_>,
-    call: Option<Last<'_>>,
-) -> Result<Sequents, Refused>
-    ensures { Answers (each_concluding goal.now (chances_of_callee scope.now contract.now judged.now.rel judged.now.pre.now judged.now.post.now judged.now.bound.now
-        (callee_of scope.now (option_map call_seen call.entry)))) result }
-{
-    match known_call(alloc, scope, call)? {
-        Some(known) => chances_by_callee(alloc, goal, scope, contract, judged, &callee_of(&known)),
-        None => Err(no_shape()),
-    }
-}
-
 /// The subgoals of a goal that is seen so.
 pub fn called(
     alloc: Global,
@@ -422,7 +402,12 @@ pub fn called(
 {
     match (contract.acts, seen) {
         (Acts::All, Goal::Hoare(Code::Body(body), pre, post)) => {
-            on_body(alloc, goal, scope, contract, pre, post, last_call(body))
+            match known_call(alloc, scope, last_call(body))? {
+                Some(known) => {
+                    by_callee(alloc, goal, scope, contract, pre, post, &callee_of(&known))
+                }
+                None => Err(no_shape()),
+            }
         }
         (Acts::All, Goal::Phoare(Code::Body(body), rel, pre, post, bound)) => {
             let judged = Judged {
@@ -431,7 +416,12 @@ pub fn called(
                 post,
                 bound,
             };
-            on_chances(alloc, goal, scope, contract, &judged, last_call(body))
+            match known_call(alloc, scope, last_call(body))? {
+                Some(known) => {
+                    chances_by_callee(alloc, goal, scope, contract, &judged, &callee_of(&known))
+                }
+                None => Err(no_shape()),
+            }
         }
         _ => Err(no_shape()),
     }

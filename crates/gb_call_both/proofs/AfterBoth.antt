@@ -27,14 +27,14 @@ use Rattle.gb_meaning.specs.State.{State, Binding, between, meaning_in, memory_o
 use Rattle.gb_meaning.specs.State.Binding.{program}
 use Rattle.gb_meaning.specs.Terms.{quiet}
 use Rattle.gb_meaning.specs.Values.{has}
-use Rattle.gb_laws.proofs.Nodes.{val_node}
-use Rattle.gb_changes.specs.Uses.{IsWithin}
-use Rattle.gb_changes.specs.Written.{Written, with_side, written_changes, all_written}
-use Rattle.gb_typed.specs.Context.{FitBinders}
-use Rattle.gb_typed.specs.Finite.{IsFinite}
-use Rattle.gb_typed.specs.Programs.{Take}
-use Rattle.gb_typed.specs.Typing.{Binder}
-use Rattle.gb_typed.specs.Typing.Binder.{value as value_binder, program as module_binder}
+use Rattle.gb_meaning.proofs.Nodes.{val_node}
+use Rattle.gb_laws.specs.Uses.{IsWithin}
+use Rattle.gb_laws.specs.Written.{Written, with_side, written_changes, all_written}
+use Rattle.gb_laws.specs.Context.{FitBinders}
+use Rattle.gb_laws.specs.Finite.{IsFinite}
+use Rattle.gb_laws.specs.Programs.{Take}
+use Rattle.gb_laws.specs.Typing.{Binder}
+use Rattle.gb_laws.specs.Typing.Binder.{value as value_binder, program as module_binder}
 use Rattle.gb_typing.specs.Context.{Context, Frame, erased, reframed}
 use Rattle.gb_typing.specs.Fits.{IsSettingOf, IsStateOf}
 use Rattle.gb_typing.specs.Puts.{IsTypedPut, IsTypedWrite, Readable, reading}

@@ -12,7 +12,7 @@ use Rattle.gb_terms.specs.Equal.{var_eq}
 use Rattle.gb_walk.specs.Clash.{variables_read}
 use Rattle.gb_meaning.specs.Memory.{result_name}
 use Rattle.gb_meaning.specs.Setting.{Setting}
-use Rattle.gb_changes.specs.Written.{IsSide}
+use Rattle.gb_laws.specs.Written.{IsSide}
 use Rattle.gb_typing.specs.Forms.{IsAlone}
 use Rattle.gb_typing.specs.Puts.{Readable}
 use Rattle.gb_typing.proofs.Spared.{Clear}

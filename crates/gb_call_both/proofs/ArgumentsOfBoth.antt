@@ -21,10 +21,10 @@ use Rattle.gb_meaning.specs.State.{State, at, between, memory_of}
 use Rattle.gb_meaning.specs.Terms.{Speaks}
 use Rattle.gb_meaning.specs.Judgments.{Judge, IsFair, den, speaking}
 use Rattle.gb_meaning.specs.Written.{type_of}
-use Rattle.gb_changes.specs.Led.{put, IsPut, OnPut, ArePut, IgnoresOwn}
-use Rattle.gb_changes.specs.Written.{IsSide}
-use Rattle.gb_typed.specs.Finite.{IsFinite}
-use Rattle.gb_typed.proofs.Denominators.{denominator_one}
+use Rattle.gb_laws.specs.Led.{put, IsPut, OnPut, ArePut, IgnoresOwn}
+use Rattle.gb_laws.specs.Written.{IsSide}
+use Rattle.gb_laws.specs.Finite.{IsFinite}
+use Rattle.gb_laws.proofs.Denominators.{denominator_one}
 use Rattle.gb_typing.specs.Context.{Context, Frame, erased, frame_of, reframed, with_sides}
 use Rattle.gb_typing.specs.Changes.{Made}
 use Rattle.gb_typing.specs.Fits.{IsSettingOf}

@@ -26,11 +26,11 @@ use Rattle.gb_meaning.specs.Program.{Routine}
 use Rattle.gb_meaning.specs.Runs.{outcomes, returned, routine_denominator}
 use Rattle.gb_meaning.specs.Setting.{Setting}
 use Rattle.gb_meaning.specs.State.{State, between}
-use Rattle.gb_laws.proofs.Runs.{routine_entries, routine_positive}
-use Rattle.gb_judge.proofs.Fair.{memory_discrete}
-use Rattle.gb_changes.specs.Uses.{Uses, IsWithin}
-use Rattle.gb_changes.specs.Written.{IsSide}
-use Rattle.gb_typed.specs.Programs.{Take}
+use Rattle.gb_meaning.proofs.Runs.{routine_entries, routine_positive}
+use Rattle.gb_laws.proofs.Fair.{memory_discrete}
+use Rattle.gb_laws.specs.Uses.{Uses, IsWithin}
+use Rattle.gb_laws.specs.Written.{IsSide}
+use Rattle.gb_laws.specs.Programs.{Take}
 use Rattle.gb_holds.specs.Declared.{declared}
 use Rattle.gb_goal.specs.declared.sequent.Sequent.{Sequent}
 use Rattle.gb_goal.specs.Answers.{Answer}

@@ -17,12 +17,12 @@ use Rattle.gb_meaning.specs.Meanings.{truth}
 use Rattle.gb_meaning.specs.Memory.{Memory}
 use Rattle.gb_meaning.specs.Setting.{Setting}
 use Rattle.gb_meaning.specs.State.{State, at, between, memory_of}
-use Rattle.gb_changes.specs.Plain.{IsPlain}
-use Rattle.gb_changes.specs.Uses.{Uses}
-use Rattle.gb_changes.specs.Uses.Use.{read as reads, bound, globals, starts, binds_own, binds_sides}
-use Rattle.gb_changes.specs.Led.{Led}
-use Rattle.gb_changes.proofs.Changing.{plain_followed}
-use Rattle.gb_typed.specs.Typing as typed
+use Rattle.gb_laws.specs.Plain.{IsPlain}
+use Rattle.gb_laws.specs.Uses.{Uses}
+use Rattle.gb_laws.specs.Uses.Use.{read as reads, bound, globals, starts, binds_own, binds_sides}
+use Rattle.gb_laws.specs.Led.{Led}
+use Rattle.gb_laws.proofs.Changing.{plain_followed}
+use Rattle.gb_laws.specs.Typing as typed
 use Rattle.gb_typing.specs.Changes.{Becomes, IsLeaf, IsMemoryIn, Leads}
 use Rattle.gb_typing.specs.Context.{Context, Frame, erased, frame_of, reframed}
 use Rattle.gb_typing.specs.Rules.{outermost}

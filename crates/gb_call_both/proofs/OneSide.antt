@@ -15,9 +15,9 @@ use Rattle.gb_meaning.specs.Setting.{Setting}
 use Rattle.gb_meaning.specs.State.{State}
 use Rattle.gb_meaning.specs.Values.{has}
 use Rattle.gb_meaning.specs.Written.{local_type}
-use Rattle.gb_local.proofs.Leaves.{assigned_left}
-use Rattle.gb_typed.specs.Finite.{IsFinite}
-use Rattle.gb_typed.specs.Programs.{Take}
+use Rattle.gb_laws.proofs.Leaves.{assigned_left}
+use Rattle.gb_laws.specs.Finite.{IsFinite}
+use Rattle.gb_laws.specs.Programs.{Take}
 use Rattle.gb_typing.specs.Context.{Context, Frame, erased, reframed}
 use Rattle.gb_typing.specs.Fits.{IsSettingOf, IsStateOf}
 use Rattle.gb_typing.specs.Puts.{clash}

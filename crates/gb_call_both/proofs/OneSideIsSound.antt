@@ -35,12 +35,12 @@ use Rattle.gb_meaning.specs.Setting.{Setting}
 use Rattle.gb_meaning.specs.Sound.{IsSoundRoutine}
 use Rattle.gb_meaning.specs.State.{State, at, between, closed}
 use Rattle.gb_meaning.specs.Written.{type_of}
-use Rattle.gb_laws.proofs.Runs.{routine_entries, routine_positive}
-use Rattle.gb_laws.proofs.Totals.{routine_bounded}
-use Rattle.gb_changes.specs.Plain.{IsPlain}
-use Rattle.gb_changes.specs.Written.{IsSide}
-use Rattle.gb_typed.specs.Finite.{IsFinite}
-use Rattle.gb_typed.specs.Programs.{Take}
+use Rattle.gb_meaning.proofs.Runs.{routine_entries, routine_positive}
+use Rattle.gb_meaning.proofs.Totals.{routine_bounded}
+use Rattle.gb_laws.specs.Plain.{IsPlain}
+use Rattle.gb_laws.specs.Written.{IsSide}
+use Rattle.gb_laws.specs.Finite.{IsFinite}
+use Rattle.gb_laws.specs.Programs.{Take}
 use Rattle.gb_holds.specs.Declared.{declared}
 use Rattle.gb_goal.specs.declared.sequent.Sequent.{Sequent}
 use Rattle.gb_goal.specs.Answers.Answer.{given}
@@ -72,8 +72,8 @@ use Rattle.gb_prog.specs.Writes.{DifferIn, TypedVariable, AreIn, variables}
 use Rattle.gb_prog.proofs.Certain.{certain_everywhere, chance_one}
 use Rattle.gb_parts.specs.Assigned.{put_in, taken}
 use Rattle.gb_parts.specs.OneBody.{OneBody}
-use Rattle.gb_chance.specs.Compared.{literal}
-use Rattle.gb_chance.proofs.Comparing.{literal_value}
+use Rattle.gb_parts.specs.Compared.{literal}
+use Rattle.gb_parts.proofs.Comparing.{literal_value}
 use Rattle.gb_full.specs.Loss.{nowhere, code_loss}
 use Rattle.gb_full.proofs.Full.{procedure_whole}
 use Rattle.gb_call.specs.Call.{Callee, IsContract, before_call, callee_of, outcome as outcome_of}

@@ -13,7 +13,7 @@ use Rattle.gb_goal.specs.Goal.{Goal}
 use Rattle.gb_goal.specs.Rows.{refusing}
 use Rattle.gb_goal.specs.Scope.{Declarations, procedure_of}
 use Rattle.gb_mods.specs.Written.{written}
-use Rattle.gb_changes.specs.Plain.{IsPlain}
+use Rattle.gb_laws.specs.Plain.{IsPlain}
 use Rattle.gb_typing.specs.Forms.{located}
 use Rattle.gb_typing.proofs.Given.{refused_given, same_given}
 use Rattle.gb_prog.specs.Writes.{TypedVariable}

@@ -10,8 +10,8 @@ use Rattle.gb_terms.specs.declared.term.Head.TheOpen as layer
 use Rattle.gb_terms.specs.declared.term.Head.TheViews.{the_lemmas, out-Head, out-Term, roll-Head, roll-out-Head}
 use Rattle.gb_terms.specs.declared.term.Head.TheFolds.{map-Head, fold-Instr, fold-Subject, fold-Cmd, fold_out-Head, fold_out-Term}
 use Rattle.gb_meaning.specs.Commands.{terms_in}
-use Rattle.gb_changes.specs.Plain.{HeadIsPlain, IsPlain, AllPlain}
-use Rattle.gb_changes.proofs.Trees.{out_is, HeadLayer}
+use Rattle.gb_laws.specs.Plain.{HeadIsPlain, IsPlain, AllPlain}
+use Rattle.gb_laws.proofs.Trees.{out_is, HeadLayer}
 use Rattle.gb_call_both.specs.OneSide.{at_head, at_term, speaks, head_speaks}
 use Rattle.sqlite_items.specs.formers.items.Items.{the_former}
 use mathlib.Core.Former.{Count, arity, this}

@@ -8,7 +8,6 @@ ghost use Rattle.gb_goal.specs.Goal.Code.{body, procedure};
 ghost use Rattle.gb_goal.specs.Goal.Goal.{equiv};
 ghost use Rattle.gb_goal.specs.Rows.{answered, concluding, each_concluding};
 ghost use Rattle.gb_goal.specs.Scope.{Declarations};
-ghost use Rattle.gb_goal.specs.Views.{goal_seen};
 ghost use Rattle.gb_goal.specs.declared.sequent.Sequent.{Sequent as TypedSequent};
 ghost use Rattle.gb_holds.specs.Declared.{declared};
 ghost use Rattle.gb_steps.specs.declared.step.Contract.{Contract as Said};
@@ -20,29 +19,26 @@ ghost use Rattle.gb_call.specs.Call.{callee_of, callee_seen, left_of, outcome};
 ghost use Rattle.gb_call.specs.LastCall.{call_seen};
 ghost use Rattle.gb_call.specs.Outcomes.{globals_seen, outcome_seen};
 ghost use Rattle.gb_call.specs.Written.{with_types};
-ghost use Rattle.gb_call_both.specs.Call.{before_both, both_goals, by_both_globals, by_callees, call_row, clash_after_both, of_callees, on_programs, on_two, IsTypedContract};
+ghost use Rattle.gb_call_both.specs.Call.{before_both, both_goals, by_both_globals, by_callees, call_row, clash_after_both, of_callees, IsTypedContract};
 
 use crate::both::{Passed, after_both, of_both_arguments};
 use crate::one_side::one_side;
-use gb_call::call::{
-    Callee, MANY, called as called_on_one, callee_of, globals_left, known_call, reads_of,
-};
+use gb_call::call::{Callee, MANY, called, callee_of, known_call, read_after, side_condition};
 use gb_call::last_call::{Last, last_call};
 use gb_call::outcomes::{Outcome, clashing_after};
 use gb_call::written::TypedGlobal;
-use gb_core::copy::copy_var;
-use gb_core::refusal::{Refused, Why};
+use gb_core::refusal::Refused;
 use gb_core::var::Var;
 use gb_forms::calls::Reads;
 use gb_goal::goal::{Code, Goal, equiv, goal_of};
 use gb_goal::scope::Scope;
 use gb_goal::sequent::{Sequent, Sequents};
 use gb_parts::judged::equiv_of;
-use gb_parts::subgoals::{no_shape, refusal, shared_body, two_goals};
+use gb_parts::subgoals::{no_shape, shared_body, two_goals};
 use gb_steps::step::{Acts, Contract};
 use gb_terms::make::conjunction;
 use gb_terms::op::Side;
-use gb_terms::term::{Form, Instr, Subject};
+use gb_terms::term::{Form, Subject};
 use std::alloc::{AllocError, Global};
 
 /// A call, what is read after it on its side, and the globals that it writes and that are read.
@@ -174,24 +170,21 @@ fn by_both_globals(
     ensures { Answers (each_concluding goal.now (by_both_globals (callee_seen left.now) (callee_seen right.now) contract.now pre.now post.now
         (with_types scope.now (left_of Side.Left (callee_seen left.now) contract.now post.now)) (with_types scope.now (left_of Side.Right (callee_seen right.now) contract.now post.now)))) result }
 {
-    let here = reads_of(alloc, Side::Left, contract, post)?;
-    let Some(first) = globals_left(alloc, Side::Left, scope, left, contract, post, &here)? else {
+    let Some(here) = read_after(alloc, Side::Left, scope, left, contract, post)? else {
         return Err(no_shape());
     };
-    let there = reads_of(alloc, Side::Right, contract, post)?;
-    let Some(second) = globals_left(alloc, Side::Right, scope, right, contract, post, &there)?
-    else {
+    let Some(there) = read_after(alloc, Side::Right, scope, right, contract, post)? else {
         return Err(no_shape());
     };
     let left = ReadCall {
         callee: left,
-        reads: &here,
-        globals: first.as_slice(),
+        reads: &here.reads,
+        globals: here.globals.as_slice(),
     };
     let right = ReadCall {
         callee: right,
-        reads: &there,
-        globals: second.as_slice(),
+        reads: &there.reads,
+        globals: there.globals.as_slice(),
     };
     Ok(both_goals(alloc, goal, &left, &right, contract, pre, post)?)
 }
@@ -245,8 +238,7 @@ fn by_callees(
         return Err(no_shape());
     }
     if let Some(var) = clash_after_both(left, right, contract, post) {
-        let var = copy_var(alloc, var)?;
-        return Err(refusal(Why::SideCondition(var)));
+        return Err(side_condition(alloc, var));
     }
     by_both_globals(alloc, goal, scope, contract, pre, post, left, right)
 }
@@ -275,49 +267,6 @@ fn of_callees(
     by_callees(alloc, goal, scope, contract, pre, post, &left, &right)
 }
 
-/// The subgoals on two bodies, or on one of them.
-fn on_two(
-    alloc: Global,
-    goal: &Sequent,
-    scope: &Scope,
-    contract: &Contract,
-    left: &[Instr],
-    right: &[Instr],
-    pre: &Form,
-    post: &Form,
-) -> Result<Sequents, Refused>
-    ensures { Answers (each_concluding goal.now (on_two scope.now contract.now contract.now.acts left.now right.now pre.now post.now)) result }
-{
-    match contract.acts {
-        Acts::All => {
-            let (left, right) = (last_call(left), last_call(right));
-            of_callees(alloc, goal, scope, contract, pre, post, left, right)
-        }
-        _ => {
-            let seen = Goal::Equiv(Code::Body(left), Code::Body(right), pre, post);
-            one_side(alloc, goal, scope, contract, None, seen)
-        }
-    }
-}
-
-/// The subgoals of a goal that is seen so.
-fn called(
-    alloc: Global,
-    goal: &Sequent,
-    scope: &Scope,
-    contract: &Contract,
-    seen: Goal,
-) -> Result<Sequents, Refused>
-    ensures { Answers (each_concluding goal.now (on_programs scope.now contract.now contract.now.acts (goal_seen seen.entry))) result }
-{
-    match seen {
-        Goal::Equiv(Code::Body(left), Code::Body(right), pre, post) => {
-            on_two(alloc, goal, scope, contract, left, right, pre, post)
-        }
-        _ => called_on_one(alloc, goal, scope, contract, seen),
-    }
-}
-
 /// The subgoals of `call` on a body that ends with a call, on two such bodies, or on one of two: the procedures do what is said of them, and what stands
 /// before the calls leads to where its precondition holds of the arguments, and its postcondition leads to what is to hold after the calls,
 /// for all results and all values of the globals that the procedures write. Refused with `Shape` at any other goal, and at a procedure of
@@ -332,7 +281,17 @@ pub fn call(
 ) -> Result<Sequents, Refused>
     ensures { Answers (answered (call_row scope.now contract.now) goal.now) result }
 {
-    called(alloc, goal, scope, contract, goal_of(&goal.conclusion))
+    let seen = goal_of(&goal.conclusion);
+    match (seen, contract.acts) {
+        (Goal::Equiv(Code::Body(left), Code::Body(right), pre, post), Acts::All) => {
+            let (left, right) = (last_call(left), last_call(right));
+            of_callees(alloc, goal, scope, contract, pre, post, left, right)
+        }
+        (Goal::Equiv(Code::Body(_), Code::Body(_), _, _), _) => {
+            one_side(alloc, goal, scope, contract, None, seen)
+        }
+        _ => called(alloc, goal, scope, contract, seen),
+    }
 }
 
 /// `call` is sound over each typed scope, at the goal of each typed sequent.

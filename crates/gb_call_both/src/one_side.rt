@@ -17,13 +17,13 @@ ghost use Rattle.gb_call.specs.Written.{with_types};
 ghost use Rattle.gb_call_both.specs.OneSide.{by_side_callee, by_side_globals, head_speaks, judged, lost, of_side_callee, on_one_side, on_side, side_goals, speaks};
 
 use gb_call::call::{
-    Callee, MANY, before_call, callee_of, clash_after, globals_left, known_call, reads_of,
+    Callee, MANY, before_call, callee_of, clash_after, does, does_as_likely, known_call,
+    read_after, side_condition,
 };
 use gb_call::last_call::{Last, last_call};
 use gb_call::written::TypedGlobal;
 use gb_core::Shared;
-use gb_core::copy::copy_var;
-use gb_core::refusal::{Refused, Why};
+use gb_core::refusal::Refused;
 use gb_forms::calls::Reads;
 use gb_full::loss::subject_loss;
 use gb_full::lossless::full;
@@ -31,9 +31,8 @@ use gb_goal::goal::Goal;
 use gb_goal::scope::Scope;
 use gb_goal::sequent::{Sequent, Sequents};
 use gb_parts::forms::located;
-use gb_parts::judged::{hoare_of, phoare_of};
 use gb_parts::one_body::{OneBody, filled, one_body, side_of};
-use gb_parts::subgoals::{no_shape, refusal, shared_body, two_goals};
+use gb_parts::subgoals::{no_shape, shared_body, two_goals};
 use gb_steps::step::{Acts, Contract};
 use gb_terms::module::ProcRef;
 use gb_terms::op::{Rel, Side};
@@ -91,14 +90,10 @@ fn judged(
 ) -> Result<Form, AllocError>
     ensures { IfOk result (λ made. made ≡ form_of (judged (option_copied surely.entry) procedure.now contract.now)) }
 {
-    let subject = Subject::Proc(procedure.share()?);
-    let pre = contract.pre.share()?;
-    let post = contract.post.share()?;
-    let Some(bound) = surely else {
-        return hoare_of(alloc, &subject, pre, post);
-    };
-    let bound = bound.share()?;
-    phoare_of(alloc, &subject, Rel::Equal, pre, post, bound)
+    match surely {
+        None => does(alloc, procedure, contract),
+        Some(bound) => does_as_likely(alloc, procedure, contract, Rel::Equal, bound),
+    }
 }
 
 /// Why a procedure is refused that may lose weight. None does after which what is said holds with probability 1.
@@ -187,12 +182,11 @@ fn by_globals(
 {
     let side = side_of(one.around);
     let (callee, here, post) = (saying.callee, saying.here, one.post);
-    let reads = reads_of(alloc, side, here, post)?;
-    let Some(globals) = globals_left(alloc, side, scope, callee, here, post, &reads)? else {
+    let Some(read) = read_after(alloc, side, scope, callee, here, post)? else {
         return Err(no_shape());
     };
-    let globals = globals.as_slice();
-    Ok(side_goals(alloc, goal, one, saying, &reads, globals)?)
+    let globals = read.globals.as_slice();
+    Ok(side_goals(alloc, goal, one, saying, &read.reads, globals)?)
 }
 
 /// The subgoals of a call of a procedure.
@@ -216,8 +210,7 @@ fn by_callee(
     let side = side_of(one.around);
     let here = on_side(alloc, side, contract)?;
     if let Some(var) = clash_after(side, callee, &here, one.post) {
-        let var = copy_var(alloc, var)?;
-        return Err(refusal(Why::SideCondition(var)));
+        return Err(side_condition(alloc, var));
     }
     full_call(alloc, scope, surely, callee.call.procedure)?;
     let saying = Saying {

@@ -12,7 +12,7 @@ use Rattle.gb_terms.specs.declared.op.Rel.TheVariants.{Equal}
 use Rattle.gb_terms.specs.declared.term.Term.{Term}
 use Rattle.gb_steps.specs.declared.step.Acts.{Acts}
 use Rattle.gb_steps.specs.declared.step.Acts.TheVariants as on
-use Rattle.gb_apart.proofs.SameTerms.{procs, rels, same_terms}
+use Rattle.gb_meaning.proofs.SameTerms.{procs, rels, same_terms}
 use Rattle.gb_goal.specs.Answers.{Answer}
 use Rattle.gb_goal.specs.Answers.Answer.{refused}
 use Rattle.gb_goal.specs.Goal.{Goal, goal_of}
@@ -21,7 +21,7 @@ use Rattle.gb_goal.specs.Goal.Goal.{hoare, phoare, equiv, ambient}
 use Rattle.gb_goal.specs.Rows.{stepped}
 use Rattle.gb_goal.specs.Scope.{Declarations}
 use Rattle.gb_goal.specs.declared.sequent.Sequent.{Sequent}
-use Rattle.gb_chance.specs.Compared.{literal}
+use Rattle.gb_parts.specs.Compared.{literal}
 use Rattle.gb_call.specs.LastCall.{LastCall, last_call}
 use Rattle.gb_call_known.specs.Known.{IsAnswer, IsOfCalls, IsOfEquiv, IsOfHoare, IsOfPhoare, IsSure, behind_first, by_conditions}
 

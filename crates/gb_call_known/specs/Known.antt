@@ -19,7 +19,7 @@ use Rattle.gb_goal.specs.Goal.Goal.{hoare, phoare, equiv, ambient}
 use Rattle.gb_goal.specs.Rows.{Row, refusing, stepped}
 use Rattle.gb_goal.specs.Scope.{Declarations}
 use Rattle.gb_goal.specs.declared.sequent.Sequent.{Sequent}
-use Rattle.gb_chance.specs.Compared.{literal}
+use Rattle.gb_parts.specs.Compared.{literal}
 use Rattle.gb_call.specs.LastCall.{LastCall, last_call}
 use Rattle.gb_call_both.specs.Call.{call_row}
 use Rattle.gb_call_both.specs.OneSide.{on_one_side}

@@ -11,12 +11,12 @@ ghost use Rattle.gb_call_known.specs.Known.{CallsLast, IsAnswer, IsOfCalls, IsOf
 use gb_call::last_call::last_call;
 use gb_call_both::call::call;
 use gb_call_both::one_side::one_side;
-use gb_chance::compared::literal;
 use gb_core::place::Place;
 use gb_core::refusal::{Refused, Why};
 use gb_goal::goal::{Code, Goal, goal_of};
 use gb_goal::scope::Scope;
 use gb_goal::sequent::{Sequent, Sequents};
+use gb_parts::compared::literal;
 use gb_parts::subgoals::{no_shape, placed};
 use gb_steps::step::{Acts, Contract};
 use gb_terms::module::ProcRef;

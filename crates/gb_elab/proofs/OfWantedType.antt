@@ -10,8 +10,8 @@ use Rattle.gb_core.specs.declared.ty.Ty.TheVariants.{Bool as bool_ty, Distr}
 use Rattle.gb_core.specs.declared.value.Value.TheVariants.{Num}
 use Rattle.gb_core.specs.declared.var.Var.{Var}
 use Rattle.gb_limits.specs.Numbers.{number_of}
-use Rattle.gb_same.proofs.Decided.{ty_eq-Decides}
-use Rattle.gb_same.specs.Types.{ty_eq}
+use Rattle.gb_core.proofs.SameTypes.{ty_eq-Decides}
+use Rattle.gb_core.specs.SameTypes.{ty_eq}
 use Rattle.gb_names.specs.declared.bindings.Binding.{Binding}
 use Rattle.gb_names.specs.Bindings.{value}
 use Rattle.gb_names.specs.declared.bindings.Kind.{Kind}

@@ -6,8 +6,8 @@ use Rattle.std.proofs.lemmas.Bool.{false≢true}
 use Rattle.gb_core.specs.declared.ty.Ty.{Ty}
 use Rattle.gb_core.specs.declared.var.Var.{Var}
 use Rattle.gb_core.specs.declared.var.Var.TheVariants as var
-use Rattle.gb_same.specs.Types.{ty_eq}
-use Rattle.gb_same.proofs.Decided.{ty_eq-Decides}
+use Rattle.gb_core.specs.SameTypes.{ty_eq}
+use Rattle.gb_core.proofs.SameTypes.{ty_eq-Decides}
 use Rattle.gb_terms.specs.declared.decl.TypedName.{TypedName}
 use Rattle.gb_terms.specs.declared.module.ProcRef.{ProcRef}
 use Rattle.gb_terms.specs.declared.op.Read.TheVariants.{Logical, Program}
@@ -29,12 +29,12 @@ use Rattle.gb_meaning.specs.Commands.{terms_in}
 use Rattle.gb_meaning.specs.Names.{Name}
 use Rattle.gb_meaning.specs.Operators.{outcome_type}
 use Rattle.gb_meaning.specs.Written.{local_type, type_of}
-use Rattle.gb_changes.proofs.Changed.{changed_at, term_changed_is}
-use Rattle.gb_changes.proofs.Forms.{procedure_stays}
-use Rattle.gb_changes.proofs.Lookups.{raised_bound}
-use Rattle.gb_typed.specs.Typing as typed
-use Rattle.gb_typed.specs.Typing.{Binder, types_of, IsBoundAt, IsMemory, IsProbability, IsHead}
-use Rattle.gb_typed.specs.Typing.Binder.{value, index, memory, program}
+use Rattle.gb_laws.proofs.Changed.{changed_at, term_changed_is}
+use Rattle.gb_laws.proofs.Forms.{procedure_stays}
+use Rattle.gb_laws.proofs.Lookups.{raised_bound}
+use Rattle.gb_laws.specs.Typing as typed
+use Rattle.gb_laws.specs.Typing.{Binder, types_of, IsBoundAt, IsMemory, IsProbability, IsHead}
+use Rattle.gb_laws.specs.Typing.Binder.{value, index, memory, program}
 use Rattle.gb_typing.specs.Changes.{binder, Made}
 use Rattle.gb_typing.specs.Context.{Context, Frame, procedure, erased, frame_of, local_in, with_own, with_sides, within}
 use Rattle.gb_typing.specs.Modules.{procedure_type}

@@ -23,13 +23,13 @@ use Rattle.gb_names.specs.Environment.{Environment, program}
 use Rattle.gb_names.specs.Names.{ModuleVariable, Target, first_named, global_at, global_target, no_variable, target}
 use Rattle.gb_elab_stmt.specs.Targets.{next_target, once, roomy, spelled_by, targets, type_of_all, variables_of}
 use Rattle.gb_elab_prog.specs.Contexts.{nothing_around}
-use Rattle.gb_typed.specs.Finite.{IsFinite, IsVariableType}
+use Rattle.gb_laws.specs.Finite.{IsFinite, IsVariableType}
 use Rattle.gb_typing.proofs.Variables.{variable_finite}
-use Rattle.gb_typed.specs.Operators.{parts_in}
-use Rattle.gb_typed.specs.Programs.{HaveTypes, Take, variable_type}
-use Rattle.gb_typed.proofs.Constructors.{tuple_is}
+use Rattle.gb_laws.specs.Operators.{parts_in}
+use Rattle.gb_laws.specs.Programs.{HaveTypes, Take, variable_type}
+use Rattle.gb_laws.proofs.Constructors.{tuple_is}
 use Rattle.gb_typing.specs.Context.{Context, erased, of_program, procedure}
-use Rattle.gb_later.specs.Naming.{NoName}
+use Rattle.gb_typing.specs.Naming.{NoName}
 use Rattle.gb_models.specs.Speaking.{StatementSpeaks, BodySpeaks}
 use Rattle.gb_typing.specs.Programs.{IsExpression, IsStatement, EachStatement, HaveVariableTypes}
 use Rattle.gb_elab_laws.specs.Fitting.{AreDeclared, HasGlobals, IsFitting, IsGiven, IsTypeOf}

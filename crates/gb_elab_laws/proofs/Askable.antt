@@ -8,7 +8,7 @@ use Rattle.gb_core.specs.declared.ty.Ty.TheVariants as ty
 use Rattle.gb_terms.specs.declared.term.Term.{Term}
 use Rattle.gb_goal.specs.Answers.{given_or}
 use Rattle.gb_goal.specs.Answers.Answer.{given, refused}
-use Rattle.gb_typed.specs.Finite.{IsFiniteWith}
+use Rattle.gb_laws.specs.Finite.{IsFiniteWith}
 use Rattle.gb_typing.specs.Context.{Context}
 use Rattle.gb_names.specs.Allowed.{distribution_here, stands, is_distribution}
 use Rattle.gb_names.specs.Environment.{Environment}

@@ -10,9 +10,9 @@ use Rattle.gb_terms.specs.declared.op.Op.TheVariants as op
 use Rattle.gb_terms.specs.declared.term.Term.{Term}
 use Rattle.gb_goal.specs.Answers.{given_or}
 use Rattle.gb_goal.specs.Answers.Answer.{given, refused}
-use Rattle.gb_typed.specs.Finite.{IsFiniteWith}
-use Rattle.gb_typed.specs.Typing.{Binder}
-use Rattle.gb_typed.specs.Typing.Binder.{value, index}
+use Rattle.gb_laws.specs.Finite.{IsFiniteWith}
+use Rattle.gb_laws.specs.Typing.{Binder}
+use Rattle.gb_laws.specs.Typing.Binder.{value, index}
 use Rattle.gb_typing.specs.Context.{Context, within}
 use Rattle.gb_names.specs.Allowed.{distribution_here, is_program, stands}
 use Rattle.gb_names.specs.Environment.{Environment}

@@ -8,9 +8,9 @@ use Rattle.gb_terms.specs.declared.term.Term.{Term}
 use Rattle.gb_terms.specs.declared.term.Head.TheVariants as head
 use Rattle.gb_terms.specs.Make.{node}
 use Rattle.gb_meaning.specs.Trees.{distributions}
-use Rattle.gb_typed.specs.Finite.{IsFiniteWith}
-use Rattle.gb_typed.specs.Typing.Binder.{value, index, memory}
-use Rattle.gb_typed.proofs.Constructors.{distribution_is}
+use Rattle.gb_laws.specs.Finite.{IsFiniteWith}
+use Rattle.gb_laws.specs.Typing.Binder.{value, index, memory}
+use Rattle.gb_laws.proofs.Constructors.{distribution_is}
 use Rattle.gb_typing.specs.Context.{Context, within}
 use Rattle.gb_typing.proofs.Made.{made_node}
 use Rattle.gb_names.specs.declared.setting.Language.{Language}

@@ -39,12 +39,12 @@ use Rattle.gb_script.specs.declared.tree.Node.{Node}
 use Rattle.gb_script.specs.Tree.{head_of, text_of, parts_of, place_of}
 use Rattle.gb_holds.specs.Declared.{declared}
 use Rattle.gb_typing.specs.Context.{Context, erased, within}
-use Rattle.gb_changes.proofs.Trees.{out_is}
+use Rattle.gb_laws.proofs.Trees.{out_is}
 use Rattle.gb_meaning.specs.Written.{type_of}
-use Rattle.gb_typed.specs.Finite.{IsFinite}
-use Rattle.gb_typed.specs.Typing.{types_of, IsHead}
+use Rattle.gb_laws.specs.Finite.{IsFinite}
+use Rattle.gb_laws.specs.Typing.{types_of, IsHead}
 use Rattle.gb_typing.specs.Typing.{IsTyped, IsForm}
-use Rattle.gb_typed.specs.Typing.Binder.{memory}
+use Rattle.gb_laws.specs.Typing.Binder.{memory}
 use Rattle.gb_typing.specs.Sequents.{IsConclusion, of_sequent, with_modules, IsTypedSequent}
 use Rattle.gb_typing.proofs.Lifted.{sequent_outermost}
 use Rattle.gb_amb.specs.Witness.{at_memory}
@@ -67,7 +67,7 @@ use Rattle.gb_elab_laws.proofs.Fits.{goal_fits}
 use Rattle.gb_elab_laws.proofs.Forms.{elaborated_typed}
 use Rattle.gb_amb.specs.Steps.{IsMemoryWitness, IsTypedStep, IsWitness}
 use Rattle.gb_amb.proofs.Cases.{conclusion_formula}
-use Rattle.gb_laws.proofs.Nodes.{each_is_node}
+use Rattle.gb_meaning.proofs.Nodes.{each_is_node}
 use Rattle.gb_typing.proofs.Conclusions.{formula_form}
 use Rattle.gb_typing.proofs.Made.{parts_typed}
 use Rattle.gb_models.proofs.Staying.{without_modules}

@@ -4,8 +4,8 @@ use Rattle.std.proofs.lemmas.Bool.{ltb-false}
 use Rattle.gb_core.specs.declared.place.Place.{Place}
 use Rattle.gb_core.specs.declared.refusal.Why.TheVariants.{TypeMismatch}
 use Rattle.gb_core.specs.declared.ty.Ty.{Ty}
-use Rattle.gb_same.specs.Types.{ty_eq}
-use Rattle.gb_same.proofs.Decided.{ty_eq-Decides}
+use Rattle.gb_core.specs.SameTypes.{ty_eq}
+use Rattle.gb_core.proofs.SameTypes.{ty_eq-Decides}
 use Rattle.gb_terms.specs.declared.decl.Module.{Module}
 use Rattle.gb_terms.specs.declared.decl.TypedName.{TypedName}
 use Rattle.gb_terms.specs.declared.term.Term.{Term, Row_of-Term, end_of-Term, more_of-Term, items-the_row-Term, items_hidden-the_row-Term-0}
@@ -25,11 +25,11 @@ use Rattle.gb_elab_prog.specs.Contexts.{nothing_around}
 use Rattle.gb_elab_stmt.specs.Calls.{arguments, call, call_of, called, enough, takes}
 use Rattle.gb_elab_stmt.specs.Targets.{type_of_all, variables_of}
 use Rattle.gb_meaning.specs.Written.{type_of}
-use Rattle.gb_typed.specs.Finite.{IsFinite}
+use Rattle.gb_laws.specs.Finite.{IsFinite}
 use Rattle.gb_typing.proofs.Variables.{variable_finite}
 use Rattle.gb_holds.specs.Naming.{AnyName}
-use Rattle.gb_later.specs.Naming.{NoName, EachTermNames}
-use Rattle.gb_typed.specs.Programs.{Take}
+use Rattle.gb_typing.specs.Naming.{NoName, EachTermNames}
+use Rattle.gb_laws.specs.Programs.{Take}
 use Rattle.gb_typing.specs.Context.{Context, erased, of_program, procedure}
 use Rattle.gb_typing.specs.Programs.{AreArguments, IsCall, HaveVariableTypes}
 use Rattle.gb_elab_laws.specs.Fitting.{IsTypeOf}

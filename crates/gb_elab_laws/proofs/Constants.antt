@@ -19,8 +19,8 @@ use Rattle.gb_goal.specs.Answers.Answer.{given, refused}
 use Rattle.gb_goal.specs.declared.scope.Constant.{Constant}
 use Rattle.gb_typing.specs.Context.{Context}
 use Rattle.gb_typing.proofs.Literals.{mod_literal}
-use Rattle.gb_typed.specs.Finite.{IsVariableType}
-use Rattle.gb_typed.specs.Typing.{IsLiteral}
+use Rattle.gb_laws.specs.Finite.{IsVariableType}
+use Rattle.gb_laws.specs.Typing.{IsLiteral}
 use Rattle.gb_names.specs.declared.names.Known.{Known}
 use Rattle.gb_names.specs.declared.names.Known.TheVariants as known
 use Rattle.gb_names.specs.declared.setting.Language.{Language}
@@ -44,7 +44,7 @@ use Rattle.gb_elab_laws.proofs.Typed.{Typed, given_from, leaf, wanted_given}
 use Rattle.gb_elab_laws.proofs.Operators.{none, empty}
 use Rattle.gb_elab_laws.proofs.Operators as operators
 use Rattle.gb_elab_laws.proofs.Leaves.{truth_typed, unit_typed}
-use Rattle.gb_typed.proofs.Constructors.{distribution_is}
+use Rattle.gb_laws.proofs.Constructors.{distribution_is}
 
 -- what stands where a type is wanted has it
 pub stands_is : (at : Environment) (w : Option Ty) (p : Place) (t : Ty) (x : Unit {0}) → stands at w p t ≡ given x → IsWanted w t

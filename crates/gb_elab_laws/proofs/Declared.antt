@@ -15,10 +15,10 @@ use Rattle.gb_terms.specs.declared.decl.TypedName.{TypedName}
 use Rattle.gb_terms.specs.declared.term.Term.{out-Term}
 use Rattle.gb_meaning.specs.Names.{Name}
 use Rattle.gb_meaning.specs.Written.{type_of}
-use Rattle.gb_typed.specs.Finite.{IsVariableType}
-use Rattle.gb_typed.specs.Typing.{OperatorType, IsLiteral}
+use Rattle.gb_laws.specs.Finite.{IsVariableType}
+use Rattle.gb_laws.specs.Typing.{OperatorType, IsLiteral}
 use Rattle.gb_holds.specs.Globs.{EachGlob}
-use Rattle.gb_later.specs.Naming.{NoName}
+use Rattle.gb_typing.specs.Naming.{NoName}
 use Rattle.gb_holds.specs.Declared.{Declarations, Declaration, declaration_of, declared, abstract_type, abbreviation, operator, abstract_operator, module_type, concrete_module, abstract_module, axiom_of, lemma, terminating}
 use Rattle.gb_typing.specs.Context.{Context}
 use Rattle.gb_typing.specs.Formulas.{with_module}

@@ -21,10 +21,10 @@ use Rattle.gb_terms.specs.declared.term.Head.TheVariants.{Assign, Sample, Call',
 use Rattle.gb_meaning.specs.Names.{Name}
 use Rattle.gb_meaning.specs.Operators.{outcome_type}
 use Rattle.gb_meaning.specs.Written.{type_of, local_type}
-use Rattle.gb_typed.specs.Finite.{IsFinite}
-use Rattle.gb_typed.specs.Operators.{parts_in, IsDistributionType}
+use Rattle.gb_laws.specs.Finite.{IsFinite}
+use Rattle.gb_laws.specs.Operators.{parts_in, IsDistributionType}
 use Rattle.gb_meaning.specs.Commands.{terms_in}
-use Rattle.gb_typed.specs.Programs.{variable_type, HaveTypes, Take, HaveFiniteTypes}
+use Rattle.gb_laws.specs.Programs.{variable_type, HaveTypes, Take, HaveFiniteTypes}
 use Rattle.gb_typing.specs.Modules.{ProcedureType}
 use Rattle.gb_typing.specs.Context.{Context, erased, of_program, procedure}
 use Rattle.gb_typing.specs.Programs.{type_of_procedure, IsExpression, AreArguments, IsCall, IsStatement, AreStatements, EachStatement, IsBody}

@@ -30,7 +30,7 @@ use Rattle.gb_elab_laws.proofs.Literals.{enumeration_literal}
 use Rattle.gb_elab_laws.proofs.Scopes.{typed_after}
 use Rattle.gb_elab_laws.proofs.Types.{spelled_typed}
 use Rattle.gb_elab_laws.proofs.Declared.{declared_in}
-use Rattle.gb_later.specs.Naming.{NoName}
+use Rattle.gb_typing.specs.Naming.{NoName}
 use Rattle.gb_models.specs.Speaking.{ScopeSpeaks}
 use Rattle.gb_elab_laws.specs.Calling.{EntriesCall, EntryCalls}
 use Rattle.gb_elab_laws.specs.Fitting.{AreTypes}

@@ -4,8 +4,8 @@ use Rattle.gb_core.specs.declared.place.Place.{Place}
 use Rattle.gb_core.specs.declared.refusal.Why.TheVariants.{TypeMismatch, Argument}
 use Rattle.gb_core.specs.declared.ty.Ty.{Ty}
 use Rattle.gb_core.specs.declared.ty.Ty.TheVariants as ty
-use Rattle.gb_same.specs.Types.{ty_eq}
-use Rattle.gb_same.proofs.Decided.{ty_eq-Decides}
+use Rattle.gb_core.specs.SameTypes.{ty_eq}
+use Rattle.gb_core.proofs.SameTypes.{ty_eq-Decides}
 use Rattle.gb_names.specs.declared.bindings.Binding.{Binding}
 use Rattle.gb_terms.specs.declared.op.Op.TheVariants as op
 use Rattle.gb_terms.specs.declared.op.Side.TheVariants as side

@@ -16,13 +16,13 @@ use Rattle.gb_goal.specs.declared.scope.Entry.TheVariants as entry
 use Rattle.gb_goal.specs.declared.sequent.Sequent.{Sequent}
 use Rattle.gb_meaning.specs.Names.{Name}
 use Rattle.gb_meaning.specs.Written.{local_type}
-use Rattle.gb_typed.specs.Finite.{IsVariableType}
+use Rattle.gb_laws.specs.Finite.{IsVariableType}
 use Rattle.gb_holds.specs.Declared.{Declarations, declaration_of, declared, concrete_module, lemma}
 use Rattle.gb_holds.specs.Modules.{Procedures, found}
 use Rattle.gb_typing.specs.Modules.{ProcedureType, Interface, of_complete, functor_type, of_functor_type}
 use Rattle.gb_typing.specs.Modules as typing
-use Rattle.gb_typed.specs.Typing.{binder, IsMemory}
-use Rattle.gb_typed.specs.Typing.Binder.{program as module_binder}
+use Rattle.gb_laws.specs.Typing.{binder, IsMemory}
+use Rattle.gb_laws.specs.Typing.Binder.{program as module_binder}
 use Rattle.gb_typing.specs.Context.{Context, erased, frame_of, of_program}
 use Rattle.gb_typing.specs.Typing.{IsFrame}
 use Rattle.gb_terms.specs.declared.op.Side.TheVariants as side

@@ -8,8 +8,8 @@ use Rattle.gb_core.specs.declared.place.Place.{Place}
 use Rattle.gb_core.specs.declared.refusal.Why.TheVariants.{TypeMismatch, Argument}
 use Rattle.gb_core.specs.declared.ty.Ty.{Ty}
 use Rattle.gb_core.specs.declared.ty.Ty.TheVariants as ty
-use Rattle.gb_same.specs.Types.{ty_eq}
-use Rattle.gb_same.proofs.Decided.{ty_eq-Decides}
+use Rattle.gb_core.specs.SameTypes.{ty_eq}
+use Rattle.gb_core.proofs.SameTypes.{ty_eq-Decides}
 use Rattle.gb_terms.specs.declared.decl.TypedName.{TypedName}
 use Rattle.gb_names.specs.declared.bindings.Binding.{Binding}
 use Rattle.gb_names.specs.Bindings.{value as value_named}
@@ -25,10 +25,10 @@ use Rattle.gb_goal.specs.declared.scope.OperatorType.{OperatorType}
 use Rattle.gb_goal.specs.Scope.{Declarations, constant_named, operator_named}
 use Rattle.gb_terms.specs.declared.term.Head.TheVariants.{User}
 use Rattle.gb_terms.specs.Make.{node}
-use Rattle.gb_typed.specs.Finite.{IsFiniteWith}
+use Rattle.gb_laws.specs.Finite.{IsFiniteWith}
 use Rattle.gb_typing.specs.Programs.{HaveVariableTypes}
-use Rattle.gb_typed.specs.Typing.{IsMemory}
-use Rattle.gb_typed.specs.Typing.Binder.{value, index}
+use Rattle.gb_laws.specs.Typing.{IsMemory}
+use Rattle.gb_laws.specs.Typing.Binder.{value, index}
 use Rattle.gb_typing.specs.Context.{Context, with_own, within}
 use Rattle.gb_names.specs.declared.names.Known.{Known as BuiltIn}
 use Rattle.gb_names.specs.declared.names.Known.TheVariants as known

@@ -2,16 +2,16 @@
 use Rattle.std.proofs.Common.{◌≡◌, ℕ, suc, Bool, true, false, if◌then◌else◌, List, [], ◌∷◌, map, get_or, Some, bytes_eq, refl, ap, sym, ◌∙◌, subst}
 use Rattle.std.proofs.lemmas.Slice.Eq.{bytes_eq-Decides}
 use Rattle.gb_terms.specs.declared.decl.TypedName.{TypedName}
-use Rattle.gb_typed.specs.Finite.{IsFinite, IsFiniteWith}
-use Rattle.gb_typed.specs.Operators.{item}
-use Rattle.gb_typed.specs.Typing.{Binder}
-use Rattle.gb_typed.specs.Typing.Binder.{program}
+use Rattle.gb_laws.specs.Finite.{IsFinite, IsFiniteWith}
+use Rattle.gb_laws.specs.Operators.{item}
+use Rattle.gb_laws.specs.Typing.{Binder}
+use Rattle.gb_laws.specs.Typing.Binder.{program}
 use Rattle.gb_meaning.specs.Written.{local_type}
 use Rattle.gb_names.specs.Environment.{Name}
 use Rattle.gb_names.specs.declared.bindings.Binding.{Binding}
 use Rattle.gb_names.specs.Bindings.{binders_inside, innermost}
 use Rattle.gb_names.specs.Names.{first_named, number_before}
-use Rattle.gb_typed.specs.Programs.{HaveFiniteTypes}
+use Rattle.gb_laws.specs.Programs.{HaveFiniteTypes}
 use Rattle.gb_typing.proofs.Globals.{name_test}
 use Rattle.gb_elab_laws.specs.Fitting.{AllFiniteWith, AreBound, IsBoundName}
 use Rattle.gb_elab_laws.proofs.Given.{none_some, same_some}

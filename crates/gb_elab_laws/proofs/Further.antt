@@ -14,7 +14,7 @@ use Rattle.gb_goal.specs.declared.sequent.Hyp.{Hyp}
 use Rattle.gb_goal.specs.declared.sequent.Sequent.{Sequent}
 use Rattle.gb_meaning.specs.Names.{Name}
 use Rattle.gb_meaning.specs.Written.{local_type}
-use Rattle.gb_typed.specs.Typing.Binder.{memory}
+use Rattle.gb_laws.specs.Typing.Binder.{memory}
 use Rattle.gb_typing.specs.Context.{Context, Frame, local_in, within}
 use Rattle.gb_typing.specs.Typing.{IsFrame, IsForm}
 use Rattle.gb_typing.specs.Sequents.{AreFormulas, of_sequent, IsTypedSequent}
@@ -25,7 +25,7 @@ use Rattle.gb_models.specs.Speaking.{HaveNoModule}
 use Rattle.gb_amb.proofs.Cases.{form_formula}
 use Rattle.gb_names.specs.Locals.{first_some, goal_read_type, hyps_read_type, read_type, reads_local}
 use Rattle.gb_names.proofs.ReadTypes.{read_type_out}
-use Rattle.gb_same.proofs.Decided.{ty_eq-Decides}
+use Rattle.gb_core.proofs.SameTypes.{ty_eq-Decides}
 use Rattle.gb_names.specs.Locals.{local_if}
 use Rattle.gb_elab_mod.specs.OtherLocals.{has_type, is_local}
 use Rattle.gb_elab_laws.proofs.Recalled.{goal_stands}

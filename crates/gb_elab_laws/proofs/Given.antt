@@ -6,13 +6,13 @@ use Rattle.gb_core.specs.declared.refusal.Why.{Why}
 use Rattle.gb_core.specs.declared.refusal.Why.TheVariants.{TypeMismatch, TooMany}
 use Rattle.gb_core.specs.declared.ty.Ty.{Ty}
 use Rattle.gb_core.specs.declared.ty.Ty.TheVariants.{Bool as bool_ty}
-use Rattle.gb_same.proofs.Decided.{ty_eq-Decides}
+use Rattle.gb_core.proofs.SameTypes.{ty_eq-Decides}
 use Rattle.gb_terms.specs.declared.term.Term.{Term, Term', end_of-Head, more_of-Head, out-Term}
 use Rattle.gb_meaning.specs.Written.{type_of}
 use Rattle.gb_goal.specs.Answers.{Answer, ◌>>=◌, not_built, nowhere, given_or}
 use Rattle.gb_names.specs.Wanted.{counted, fits, truth, type_of_term, wanted}
 use Rattle.gb_goal.specs.Answers.Answer.{given, refused}
-use Rattle.gb_changes.proofs.Trees.{out_is}
+use Rattle.gb_laws.proofs.Trees.{out_is}
 use Rattle.gb_elab_laws.specs.Fitting.{IsWanted}
 
 pub none_some : {A B : Type 0} (x : A) → None ≡ Some x → B

@@ -25,11 +25,11 @@ use Rattle.gb_meaning.specs.Operators.{outcome_type}
 use Rattle.gb_meaning.specs.Written.{type_of}
 use Rattle.gb_holds.specs.Globs.{EachGlob, EachGlobIn}
 use Rattle.gb_holds.specs.Naming.{AnyName, EachName}
-use Rattle.gb_later.specs.Naming.{NoName, HeadNames, TermNames, TermsName}
-use Rattle.gb_typed.specs.Finite.{AreFiniteWith, IsFinite, IsVariableType}
-use Rattle.gb_typed.specs.Operators.{IsDistributionType}
-use Rattle.gb_typed.specs.Typing.{Binder, AreLiterals, IsBoundAt, IsHead, OperatorType, binder, types_of}
-use Rattle.gb_typed.specs.Typing.Binder.{value, index, memory, program}
+use Rattle.gb_typing.specs.Naming.{NoName, HeadNames, TermNames, TermsName}
+use Rattle.gb_laws.specs.Finite.{AreFiniteWith, IsFinite, IsVariableType}
+use Rattle.gb_laws.specs.Operators.{IsDistributionType}
+use Rattle.gb_laws.specs.Typing.{Binder, AreLiterals, IsBoundAt, IsHead, OperatorType, binder, types_of}
+use Rattle.gb_laws.specs.Typing.Binder.{value, index, memory, program}
 use Rattle.gb_typing.specs.Context.{Context, erased, within}
 use Rattle.gb_terms.specs.declared.decl.TypedName.{TypedName}
 use Rattle.gb_typing.specs.Typing.{first, middle, last, IsTyped, AreTyped}

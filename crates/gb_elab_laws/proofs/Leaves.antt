@@ -22,9 +22,9 @@ use Rattle.gb_script.specs.declared.head.Head.{Head}
 use Rattle.gb_script.specs.declared.head.Head.TheVariants as head
 use Rattle.gb_script.specs.declared.tree.Node.{Node}
 use Rattle.gb_script.specs.Tree.{head_of, text_of, place_of}
-use Rattle.gb_typed.specs.Finite.{IsFinite, IsVariableType}
-use Rattle.gb_typed.specs.Typing.{binder, IsSide}
-use Rattle.gb_typed.specs.Operators.{item}
+use Rattle.gb_laws.specs.Finite.{IsFinite, IsVariableType}
+use Rattle.gb_laws.specs.Typing.{binder, IsSide}
+use Rattle.gb_laws.specs.Operators.{item}
 use Rattle.gb_meaning.specs.Written.{local_type}
 use Rattle.gb_names.specs.declared.setting.Variables.{Variables}
 use Rattle.gb_names.specs.declared.setting.Variables.TheVariants.{Absent, Own, Sides}

@@ -10,8 +10,8 @@ use Rattle.gb_goal.specs.Scope.{Declarations}
 use Rattle.gb_script.specs.declared.head.Head.{Head}
 use Rattle.gb_script.specs.declared.head.Head.TheVariants as head
 use Rattle.gb_script.specs.declared.tree.Node.{Node}
-use Rattle.gb_typed.specs.Finite.{IsVariableType}
-use Rattle.gb_typed.specs.Operators.{IsNoDistribution}
+use Rattle.gb_laws.specs.Finite.{IsVariableType}
+use Rattle.gb_laws.specs.Operators.{IsNoDistribution}
 use Rattle.gb_typing.specs.Scopes.{IsMeasured, AreMeasured}
 use Rattle.gb_names.specs.Types.{number_type, number_typing, type_of, type_or_number}
 use Rattle.gb_names.proofs.Nodes as nodes

@@ -21,7 +21,7 @@ use Rattle.gb_script.specs.declared.tree.Node.{Node}
 use Rattle.gb_script.specs.Tree.{head_of, text_of, parts_of, place_of}
 use Rattle.gb_meaning.specs.Names.{Name}
 use Rattle.gb_meaning.specs.Written.{local_type}
-use Rattle.gb_typed.specs.Finite.{IsVariableType}
+use Rattle.gb_laws.specs.Finite.{IsVariableType}
 use Rattle.gb_names.specs.Binders.{of_type}
 use Rattle.gb_names.specs.Types as spelled_as
 use Rattle.gb_elab_prog.specs.Bound.{parameters}
@@ -39,7 +39,7 @@ use Rattle.gb_typing.specs.Programs.{HaveVariableTypes, type_of_procedure}
 use Rattle.gb_typing.specs.Scopes.{procedure_types, interface_with, in_module, with_params, context_of, is_declared, AreProcedures, AreTaken, HaveOwnNames, IsModule, IsTypedScope}
 use Rattle.gb_typing.specs.Modules.{with_interface}
 use Rattle.gb_typing.proofs.Globals.{name_test, or_false}
-use Rattle.gb_later.specs.Naming.{NoName}
+use Rattle.gb_typing.specs.Naming.{NoName}
 use Rattle.gb_models.specs.Speaking.{ProceduresSpeak}
 use Rattle.gb_elab_laws.specs.Fitting.{AreDeclared, HasGlobals, IsTypeOf}
 use Rattle.gb_elab_laws.proofs.Given.{given_bind, given_is, if_refused, none_some, not_given}

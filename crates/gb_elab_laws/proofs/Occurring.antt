@@ -18,15 +18,15 @@ use Rattle.gb_terms.specs.declared.term.Head.TheViews.{the_lemmas, out-Head, rol
 use Rattle.gb_terms.specs.declared.term.Head.TheFolds.{map-Head, fold-Head, fold_out-Term, fold_out-Head}
 use Rattle.gb_terms.specs.Equal.{side_eq}
 use Rattle.gb_meaning.specs.Commands.{terms_in}
-use Rattle.gb_changes.proofs.Trees.{out_is}
+use Rattle.gb_laws.proofs.Trees.{out_is}
 use Rattle.gb_elab_mod.specs.Occurring.{Closed, Locals, local, at_head, at_term, or_args, read_locals}
 use Rattle.std.specs.List.{list_any}
 use Rattle.std.proofs.Common.{bytes_eq}
 use Rattle.sqlite_items.specs.formers.items.Items.{the_former}
 use Rattle.gb_elab_mod.specs.Occurring.{added, with_all}
 use Rattle.gb_meaning.specs.Operators.{outcome_type}
-use Rattle.gb_typed.specs.Typing.{Binder, types_of}
-use Rattle.gb_typed.specs.Typing.Binder.{value, index, memory, program}
+use Rattle.gb_laws.specs.Typing.{Binder, types_of}
+use Rattle.gb_laws.specs.Typing.Binder.{value, index, memory, program}
 use Rattle.gb_typing.specs.Context.{Frame, Context, frame_of, local_in, within}
 use Rattle.gb_typing.specs.Typing.{IsIn, IsNamed, first, middle, last, IsTyped, AreTyped}
 use Rattle.gb_elab_laws.specs.Reading.{IsOuter, StandIn}

@@ -8,9 +8,9 @@ use Rattle.gb_terms.specs.declared.term.Head.TheVariants.{Builtin}
 use Rattle.gb_terms.specs.Make.{applied}
 use Rattle.gb_meaning.specs.Operators.{outcome_type}
 use Rattle.gb_meaning.specs.Trees.{distributions, options}
-use Rattle.gb_typed.specs.Finite.{IsFiniteWith}
-use Rattle.gb_typed.specs.Operators.{item, tuples}
-use Rattle.gb_typed.proofs.Constructors.{distribution_is, map_is, option_is, tuple_is}
+use Rattle.gb_laws.specs.Finite.{IsFiniteWith}
+use Rattle.gb_laws.specs.Operators.{item, tuples}
+use Rattle.gb_laws.proofs.Constructors.{distribution_is, map_is, option_is, tuple_is}
 use Rattle.gb_typing.specs.Context.{Context}
 use Rattle.gb_names.specs.declared.setting.Language.{Language}
 use Rattle.gb_elab_laws.proofs.Shapes.{EachFiniteWith, each_finite, with_globs, finite_form, pair_finite, is_drawn, drawn_form, outcome_finite, outcome_is, option_form, some_finite, is_option, map_form, entries_finite, is_map, key_is, entry_is, tuple_form, parts_are}

@@ -3,8 +3,8 @@ use Rattle.std.proofs.Common.{false, List, [], ◌∷◌, ◌++◌, map, reverse
 use Rattle.std.proofs.lemmas.List.{reverse-append}
 use Rattle.gb_core.specs.declared.ty.Ty.{Ty}
 use Rattle.gb_terms.specs.declared.decl.TypedName.{TypedName}
-use Rattle.gb_typed.specs.Typing.{Binder}
-use Rattle.gb_typed.specs.Typing.Binder.{value}
+use Rattle.gb_laws.specs.Typing.{Binder}
+use Rattle.gb_laws.specs.Typing.Binder.{value}
 use Rattle.gb_typing.specs.Scopes.{AreMeasured}
 use Rattle.gb_names.specs.declared.bindings.Binding.{Binding}
 use Rattle.gb_names.specs.Bindings.{bound_value}

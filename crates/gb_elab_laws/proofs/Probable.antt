@@ -21,10 +21,10 @@ use Rattle.gb_typing.specs.Context.{Context, frame_of, procedure, with_own}
 use Rattle.std.specs.Option.{option_map}
 use Rattle.gb_typing.specs.Typing.{IsFrame, IsThere, after}
 use Rattle.gb_typing.proofs.Made.{EachMade, made_node}
-use Rattle.gb_typed.specs.Typing.{IsProbability}
+use Rattle.gb_laws.specs.Typing.{IsProbability}
 use Rattle.gb_meaning.specs.Trees.{row}
 use Rattle.gb_holds.specs.Naming.{AnyName}
-use Rattle.gb_later.specs.Naming.{NoName, TermNames, TermsName}
+use Rattle.gb_typing.specs.Naming.{NoName, TermNames, TermsName}
 use Rattle.gb_names.specs.declared.setting.Language.TheVariants.{Formula}
 use Rattle.gb_names.specs.Allowed.{has_judgments}
 use Rattle.gb_names.specs.Environment.{Name, Environment}

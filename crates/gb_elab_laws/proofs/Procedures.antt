@@ -7,7 +7,7 @@ use Rattle.gb_terms.specs.declared.term.Subject.{out-Subject}
 use Rattle.gb_terms.specs.declared.module.ProcRef.{ProcRef}
 use Rattle.gb_goal.specs.Goal.{is_body_at, judges_bodies}
 use Rattle.gb_meaning.specs.Names.{Name}
-use Rattle.gb_changes.proofs.Trees.{out_is}
+use Rattle.gb_laws.proofs.Trees.{out_is}
 use Rattle.gb_typing.specs.Context.{Context}
 use Rattle.gb_typing.specs.Typing.{IsTyped}
 use Rattle.gb_models.specs.Speaking.{BodiesSpeak}

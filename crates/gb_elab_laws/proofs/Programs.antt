@@ -5,8 +5,8 @@ use Rattle.gb_core.specs.declared.place.Place.{Place}
 use Rattle.gb_core.specs.declared.refusal.Why.TheVariants.{DoubleName, TypeMismatch}
 use Rattle.gb_core.specs.declared.ty.Ty.{Ty}
 use Rattle.gb_core.specs.declared.ty.Ty.TheVariants as ty
-use Rattle.gb_same.specs.Types.{ty_eq}
-use Rattle.gb_same.proofs.Decided.{ty_eq-Decides}
+use Rattle.gb_core.specs.SameTypes.{ty_eq}
+use Rattle.gb_core.proofs.SameTypes.{ty_eq-Decides}
 use Rattle.gb_terms.specs.declared.decl.Module.{Module}
 use Rattle.gb_terms.specs.declared.decl.Proc.{Proc}
 use Rattle.gb_terms.specs.declared.decl.TypedName.{TypedName}
@@ -17,7 +17,7 @@ use Rattle.gb_script.specs.declared.head.Head.{Head}
 use Rattle.gb_script.specs.declared.head.Head.TheVariants as head
 use Rattle.gb_script.specs.declared.tree.Node.{Node}
 use Rattle.gb_script.specs.Tree.{head_of, text_of, parts_of, place_of}
-use Rattle.gb_typed.specs.Finite.{IsVariableType}
+use Rattle.gb_laws.specs.Finite.{IsVariableType}
 use Rattle.gb_meaning.specs.Names.{Name}
 use Rattle.gb_goal.specs.Answers.Answer.{given, refused}
 use Rattle.gb_names.specs.declared.setting.Language.TheVariants.{Program}
@@ -39,7 +39,7 @@ use Rattle.gb_elab_laws.proofs.Typed.{given_from}
 use Rattle.gb_elab_laws.proofs.Leaves.{unit_typed}
 use Rattle.gb_elab_laws.proofs.Shapes.{finite_form}
 use Rattle.gb_holds.specs.Naming.{AnyName}
-use Rattle.gb_later.specs.Naming.{NoName, TermNames}
+use Rattle.gb_typing.specs.Naming.{NoName, TermNames}
 use Rattle.gb_models.specs.Speaking.{BodySpeaks}
 use Rattle.gb_elab_laws.proofs.Forms.{elaborated_typed}
 use Rattle.gb_elab_laws.proofs.Around.{IsAround, fits, expression}

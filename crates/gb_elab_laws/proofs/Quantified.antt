@@ -16,7 +16,7 @@ use Rattle.gb_script.specs.declared.head.Head.{Head}
 use Rattle.gb_script.specs.declared.head.Head.TheVariants as head
 use Rattle.gb_script.specs.declared.tree.Node.{Node}
 use Rattle.gb_script.specs.Tree.{head_of, parts_of, place_of, text_of}
-use Rattle.gb_typed.specs.Finite.{IsVariableType}
+use Rattle.gb_laws.specs.Finite.{IsVariableType}
 use Rattle.gb_goal.specs.Answers.Answer.{given}
 use Rattle.gb_names.specs.Environment.{Environment}
 use Rattle.gb_names.specs.Allowed.{has_judgments, memory_here}
@@ -26,8 +26,8 @@ use Rattle.gb_names.specs.Types.{type_of}
 use Rattle.gb_names.specs.declared.setting.Language.{Language}
 use Rattle.gb_names.specs.declared.setting.Variables.{Variables}
 use Rattle.gb_names.specs.declared.setting.Variables.TheVariants.{Absent, Own, Sides}
-use Rattle.gb_typed.specs.Typing.{Binder, binder, IsMemory}
-use Rattle.gb_typed.specs.Typing.Binder.{value, memory}
+use Rattle.gb_laws.specs.Typing.{Binder, binder, IsMemory}
+use Rattle.gb_laws.specs.Typing.Binder.{value, memory}
 use Rattle.gb_typing.specs.Context.{Frame, Context, erased, frame_of, within}
 use Rattle.gb_typing.specs.Typing.{IsFrame}
 use Rattle.gb_typing.specs.Programs.{HaveVariableTypes}

@@ -19,14 +19,14 @@ use Rattle.gb_goal.specs.declared.sequent.Hyp.{Hyp}
 use Rattle.gb_goal.specs.declared.sequent.Sequent.{Sequent}
 use Rattle.gb_holds.specs.Truth.{last_has_module, Choice}
 use Rattle.gb_meaning.specs.Commands.{terms_in}
-use Rattle.gb_changes.proofs.Trees.{out_is}
+use Rattle.gb_laws.proofs.Trees.{out_is}
 use Rattle.gb_names.specs.Environment.{Name}
 use Rattle.gb_names.specs.Locals.{first_some, goal_read_type, hyps_read_type, read_type, reads_local}
 use Rattle.gb_names.proofs.ReadTypes.{read_type_out}
-use Rattle.gb_typed.specs.Finite.{IsFinite}
-use Rattle.gb_typed.specs.Typing as typed
-use Rattle.gb_typed.specs.Typing.{types_of, IsHead}
-use Rattle.gb_typed.specs.Typing.Binder.{value, memory, program}
+use Rattle.gb_laws.specs.Finite.{IsFinite}
+use Rattle.gb_laws.specs.Typing as typed
+use Rattle.gb_laws.specs.Typing.{types_of, IsHead}
+use Rattle.gb_laws.specs.Typing.Binder.{value, memory, program}
 use Rattle.gb_typing.specs.Context.{Frame, Context, erased, local_in, with_own, with_sides, within}
 use Rattle.gb_typing.specs.Typing.{IsNamed, first, middle, last, IsTyped, AreTyped, IsForm}
 use Rattle.gb_typing.specs.Formulas.{with_module, IsFirstForm, IsFormula, IsLastFormula}

@@ -18,8 +18,8 @@ use Rattle.gb_names.specs.Bindings.{binders_inside, innermost}
 use Rattle.gb_names.specs.Environment.{Name, Environment}
 use Rattle.gb_names.specs.Names.{bound_memory, context_memory, has_memories, known_at, memory, memory_at, named, names_before, no_memory}
 use Rattle.gb_names.specs.Wanted.{counted}
-use Rattle.gb_typed.specs.Typing.{binder, IsMemory, IsSide}
-use Rattle.gb_typed.specs.Typing.Binder.{program}
+use Rattle.gb_laws.specs.Typing.{binder, IsMemory, IsSide}
+use Rattle.gb_laws.specs.Typing.Binder.{program}
 use Rattle.gb_typing.specs.Context.{Context, erased, frame_of}
 use Rattle.gb_typing.specs.Typing.{IsFrame, IsPlace}
 use Rattle.gb_elab_laws.specs.Fitting.{reads_globals, IsBoundTo, IsBoundName, IsFitting}

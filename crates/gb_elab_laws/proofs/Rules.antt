@@ -7,8 +7,8 @@ use Rattle.gb_core.specs.declared.place.Place.{Place}
 use Rattle.gb_core.specs.declared.refusal.Why.TheVariants.{TypeMismatch, TypeTooLarge, Argument}
 use Rattle.gb_core.specs.declared.ty.Ty.{Ty}
 use Rattle.gb_core.specs.declared.ty.Ty.TheVariants as ty
-use Rattle.gb_same.specs.Types.{ty_eq}
-use Rattle.gb_same.proofs.Decided.{ty_eq-Decides}
+use Rattle.gb_core.specs.SameTypes.{ty_eq}
+use Rattle.gb_core.proofs.SameTypes.{ty_eq-Decides}
 use Rattle.gb_terms.specs.declared.op.Op.{Op}
 use Rattle.gb_terms.specs.declared.op.Op.TheVariants as op
 use Rattle.gb_terms.specs.declared.term.Term.{Term}
@@ -17,7 +17,7 @@ use Rattle.gb_terms.specs.Make.{node, applied}
 use Rattle.gb_goal.specs.Answers.{given_or}
 use Rattle.gb_goal.specs.Answers.Answer.{given, refused}
 use Rattle.gb_goal.specs.declared.scope.OperatorType.{OperatorType}
-use Rattle.gb_typed.specs.Typing.Binder.{value, index}
+use Rattle.gb_laws.specs.Typing.Binder.{value, index}
 use Rattle.gb_typing.specs.Context.{Context, within}
 use Rattle.gb_names.specs.Allowed.{distribution_here, is_distribution, stands}
 use Rattle.gb_names.specs.declared.setting.Language.{Language}

@@ -5,8 +5,8 @@ use Rattle.std.specs.Option.{option_map_or, option_zip}
 use Rattle.gb_core.specs.declared.place.Place.{Place}
 use Rattle.gb_core.specs.declared.refusal.Why.TheVariants.{TypeMismatch}
 use Rattle.gb_core.specs.declared.ty.Ty.{Ty}
-use Rattle.gb_same.specs.Types.{ty_eq}
-use Rattle.gb_same.proofs.Decided.{ty_eq-Decides}
+use Rattle.gb_core.specs.SameTypes.{ty_eq}
+use Rattle.gb_core.proofs.SameTypes.{ty_eq-Decides}
 use Rattle.gb_terms.specs.declared.decl.TypedName.{TypedName}
 use Rattle.gb_terms.specs.declared.op.Side.TheVariants as side
 use Rattle.gb_terms.specs.declared.term.Cmd.{Cmd}
@@ -39,8 +39,8 @@ use Rattle.gb_script.specs.declared.head.Head.TheVariants as text
 use Rattle.gb_script.specs.declared.tree.Node.{Node}
 use Rattle.gb_script.specs.Tree.{head_of, text_of, parts_of, place_of}
 use Rattle.gb_holds.specs.Declared.{declared}
-use Rattle.gb_typed.specs.Finite.{IsFinite}
-use Rattle.gb_typed.specs.Typing.Binder.{value}
+use Rattle.gb_laws.specs.Finite.{IsFinite}
+use Rattle.gb_laws.specs.Typing.Binder.{value}
 use Rattle.gb_typing.specs.Context.{Context, within}
 use Rattle.gb_typing.specs.Sequents.{two, of_sequent, IsTypedSequent}
 use Rattle.gb_typing.specs.Scopes.{context_of, IsTypedScope}

@@ -9,11 +9,11 @@ use Rattle.gb_core.specs.declared.ty.Ty.TheViews.{roll-out-Ty}
 use Rattle.gb_meaning.specs.Operators.{outcome_type, key_type}
 use Rattle.gb_meaning.specs.Trees.{distributions, options}
 use Rattle.gb_holds.specs.Globs.{EachGlob, EachGlobIn}
-use Rattle.gb_later.specs.Naming.{NoName}
-use Rattle.gb_typed.specs.Finite.{AreFiniteWith, IsFiniteWith, IsFinite, IsVariableType}
-use Rattle.gb_typed.specs.Operators.{row, items, parts_in, maps, AreFinite, IsDistributionType, IsOptionType, IsMapType, entry_type}
+use Rattle.gb_typing.specs.Naming.{NoName}
+use Rattle.gb_laws.specs.Finite.{AreFiniteWith, IsFiniteWith, IsFinite, IsVariableType}
+use Rattle.gb_laws.specs.Operators.{row, items, parts_in, maps, AreFinite, IsDistributionType, IsOptionType, IsMapType, entry_type}
 use Rattle.gb_typing.proofs.Variables.{variable_finite}
-use Rattle.gb_typed.proofs.Constructors.{distribution_is, map_is, option_is, tuple_is}
+use Rattle.gb_laws.proofs.Constructors.{distribution_is, map_is, option_is, tuple_is}
 use Rattle.gb_elab_laws.specs.Fitting.{IsFormType}
 
 -- what holds of a type that is made of its layer holds of the type

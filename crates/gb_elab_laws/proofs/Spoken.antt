@@ -7,7 +7,7 @@ use Rattle.gb_terms.specs.declared.term.Term.{Term, Row_of-Term, end_of-Term, mo
 use Rattle.gb_terms.specs.declared.term.Head.TheBlock as B
 use Rattle.gb_meaning.specs.Names.{Name}
 use Rattle.gb_holds.specs.Naming.{AnyName}
-use Rattle.gb_later.specs.Naming.{TermsName, EachTermNames}
+use Rattle.gb_typing.specs.Naming.{TermsName, EachTermNames}
 use Rattle.gb_models.specs.Speaking.{StatementsSpeak, BodySpeaks, ProceduresSpeak}
 use mathlib.Core.Former.{Count}
 

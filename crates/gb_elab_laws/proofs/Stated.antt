@@ -36,11 +36,11 @@ use Rattle.gb_elab_stmt.specs.Calls.{call}
 use Rattle.gb_elab_stmt.specs.Statements.{Stating, all_stated, alone, assignment, begun, branch, called_to, counts_down, entry_stored, instruction, is_modulo_layer, result_in, result_to, results_in, sampling, single, stated, stating, stored, stored_term, tuple_assignment, turning, variant, with_statings, words, written, written_to}
 use Rattle.gb_elab_stmt.specs.Targets.{targets, type_of_all, variables_of}
 use Rattle.gb_elab_prog.specs.Contexts.{nothing_around}
-use Rattle.gb_typed.specs.Finite.{IsFinite, IsVariableType}
+use Rattle.gb_laws.specs.Finite.{IsFinite, IsVariableType}
 use Rattle.gb_typing.proofs.Variables.{variable_finite}
 use Rattle.gb_holds.specs.Naming.{AnyName}
-use Rattle.gb_later.specs.Naming.{NoName, TermNames}
-use Rattle.gb_typed.specs.Programs.{Take, variable_type}
+use Rattle.gb_typing.specs.Naming.{NoName, TermNames}
+use Rattle.gb_laws.specs.Programs.{Take, variable_type}
 use Rattle.gb_typing.specs.Context.{Context, erased, of_program}
 use Rattle.gb_typing.specs.Programs.{IsExpression, HaveVariableTypes}
 use Rattle.gb_typing.proofs.Lists.{hidden_each, typed_append}

@@ -18,10 +18,10 @@ use Rattle.gb_meaning.specs.Names.{Name}
 use Rattle.gb_meaning.specs.Written.{type_of}
 use Rattle.gb_names.specs.Binders.{of_type}
 use Rattle.gb_names.specs.Types.{type_of as type_of_node}
-use Rattle.gb_typed.specs.Finite.{IsVariableType}
+use Rattle.gb_laws.specs.Finite.{IsVariableType}
 use Rattle.gb_typing.specs.Programs.{HaveVariableTypes}
 use Rattle.gb_holds.specs.Naming.{AnyName}
-use Rattle.gb_later.specs.Naming.{NoName, EachGlobOf, TermNames}
+use Rattle.gb_typing.specs.Naming.{NoName, EachGlobOf, TermNames}
 use Rattle.gb_names.specs.declared.setting.Language.TheVariants.{Formula}
 use Rattle.gb_holds.specs.Declared.{declared}
 use Rattle.gb_holds.specs.Truth.{has_module}

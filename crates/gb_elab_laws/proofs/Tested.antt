@@ -7,8 +7,8 @@ use Rattle.gb_core.specs.declared.ty.Ty.{Ty, out-Ty, roll-Ty, end_of-Ty, more_of
 use Rattle.gb_core.specs.declared.ty.Ty.TheVariants as ty
 use Rattle.gb_core.specs.declared.ty.Ty.TheOpen as layer
 use Rattle.gb_core.specs.declared.ty.Ty.TheViews.{out-roll-Ty}
-use Rattle.gb_typed.specs.Finite.{IsFiniteWith}
-use Rattle.gb_typed.specs.Operators.{item, IsArithmetic, IsOfBits, IsOfNumbers, IsOrdered, IsSigned}
+use Rattle.gb_laws.specs.Finite.{IsFiniteWith}
+use Rattle.gb_laws.specs.Operators.{item, IsArithmetic, IsOfBits, IsOfNumbers, IsOrdered, IsSigned}
 use Rattle.gb_names.specs.Allowed.{is_distribution, is_distribution_layer}
 use Rattle.gb_operators.specs.Domain.{counts_to, counts_to_layer}
 use Rattle.gb_operators.specs.Kinds.{component, components, components_layer, element, element_layer, entries, entries_layer, inside_option, is_arithmetic, is_arithmetic_layer, is_of_bits, is_of_bits_layer, is_of_numbers, is_of_numbers_layer, is_of_values, is_of_values_layer, is_ordered, is_ordered_layer, is_signed, is_signed_layer, option_layer, outcome, outcome_layer}

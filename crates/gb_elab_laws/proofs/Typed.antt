@@ -11,13 +11,13 @@ use Rattle.gb_terms.specs.Make.{node, applied}
 use Rattle.gb_meaning.specs.Names.{Name}
 use Rattle.gb_meaning.specs.Trees.{row}
 use Rattle.gb_meaning.specs.Written.{type_of}
-use Rattle.gb_laws.proofs.Nodes.{term_is_node}
-use Rattle.gb_changes.specs.Plain.{HeadIsPlain, IsPlain, AllPlain}
+use Rattle.gb_meaning.proofs.Nodes.{term_is_node}
+use Rattle.gb_laws.specs.Plain.{HeadIsPlain, IsPlain, AllPlain}
 use Rattle.gb_holds.specs.Globs.{EachGlob}
 use Rattle.gb_holds.specs.Naming.{AnyName}
-use Rattle.gb_later.specs.Naming.{NoName, HeadNames, TermNames, TermsName}
-use Rattle.gb_typed.specs.Operators.{IsOperator}
-use Rattle.gb_typed.specs.Typing.{IsHead}
+use Rattle.gb_typing.specs.Naming.{NoName, HeadNames, TermNames, TermsName}
+use Rattle.gb_laws.specs.Operators.{IsOperator}
+use Rattle.gb_laws.specs.Typing.{IsHead}
 use Rattle.gb_typing.specs.Context.{Context, erased}
 use Rattle.gb_typing.specs.Typing.{IsNamed}
 use Rattle.gb_typing.specs.Changes.{Made}

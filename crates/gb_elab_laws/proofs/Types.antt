@@ -16,10 +16,10 @@ use Rattle.gb_script.specs.Tree.{place_of, text_of}
 use Rattle.gb_limits.specs.Numbers.{number_of}
 use Rattle.gb_meaning.specs.Operators.{outcome_type}
 use Rattle.gb_meaning.specs.Trees.{distributions}
-use Rattle.gb_typed.specs.Finite.{AreFiniteWith, IsFinite, IsVariableType}
-use Rattle.gb_typed.specs.Operators.{row, IsNoDistribution, IsDistributionType}
-use Rattle.gb_typed.specs.Programs.{HaveFiniteTypes}
-use Rattle.gb_typed.proofs.Constructors.{distribution_is, map_is, option_is, tuple_is}
+use Rattle.gb_laws.specs.Finite.{AreFiniteWith, IsFinite, IsVariableType}
+use Rattle.gb_laws.specs.Operators.{row, IsNoDistribution, IsDistributionType}
+use Rattle.gb_laws.specs.Programs.{HaveFiniteTypes}
+use Rattle.gb_laws.proofs.Constructors.{distribution_is, map_is, option_is, tuple_is}
 use Rattle.gb_typing.specs.Programs.{HaveVariableTypes}
 use Rattle.gb_typing.proofs.Variables.{variable_finite}
 use Rattle.gb_terms.specs.declared.decl.TypedName.{TypedName}

@@ -29,12 +29,12 @@ use Rattle.gb_script.specs.declared.head.Head.{Head as Kind}
 use Rattle.gb_script.specs.declared.head.Head.TheVariants as text
 use Rattle.gb_script.specs.declared.tree.Node.{Node}
 use Rattle.gb_script.specs.Tree.{head_of, text_of, parts_of, place_of}
-use Rattle.gb_laws.proofs.Nodes.{each_is_node}
-use Rattle.gb_typed.specs.Finite.{IsFinite}
+use Rattle.gb_meaning.proofs.Nodes.{each_is_node}
+use Rattle.gb_laws.specs.Finite.{IsFinite}
 use Rattle.gb_holds.specs.Declared.{declaration_of, declared}
-use Rattle.gb_typed.specs.Programs.{HaveFiniteTypes}
-use Rattle.gb_typed.specs.Typing.{IsSide}
-use Rattle.gb_typed.specs.Typing.Binder.{memory}
+use Rattle.gb_laws.specs.Programs.{HaveFiniteTypes}
+use Rattle.gb_laws.specs.Typing.{IsSide}
+use Rattle.gb_laws.specs.Typing.Binder.{memory}
 use Rattle.gb_typing.specs.Context.{Context, Frame, erased, local_in, within}
 use Rattle.gb_typing.specs.Typing.{IsForm}
 use Rattle.gb_typing.specs.Sequents.{of_sequent, with_modules, AreFormulas, IsTypedSequent}

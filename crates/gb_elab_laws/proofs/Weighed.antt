@@ -7,8 +7,8 @@ use Rattle.gb_core.specs.declared.ty.Ty.{Ty}
 use Rattle.gb_core.specs.declared.ty.Ty.TheVariants as ty
 use Rattle.gb_core.specs.declared.value.Value.TheVariants.{Num}
 use Rattle.gb_limits.specs.Numbers.{number_of}
-use Rattle.gb_same.specs.Types.{ty_eq}
-use Rattle.gb_same.proofs.Decided.{ty_eq-Decides}
+use Rattle.gb_core.specs.SameTypes.{ty_eq}
+use Rattle.gb_core.proofs.SameTypes.{ty_eq-Decides}
 use Rattle.gb_names.specs.declared.bindings.Binding.{Binding}
 use Rattle.gb_terms.specs.declared.term.Pair.{Pair}
 use Rattle.gb_terms.specs.declared.term.Term.{Term}
@@ -20,8 +20,8 @@ use Rattle.gb_goal.specs.Answers.Answer.{given, refused}
 use Rattle.gb_goal.specs.declared.scope.Constant.{Constant}
 use Rattle.gb_goal.specs.Scope.{constant_named}
 use Rattle.gb_meaning.specs.Drawn.{each_weighs, has_weights}
-use Rattle.gb_typed.specs.Finite.{IsVariableType}
-use Rattle.gb_typed.specs.Typing.{AreLiterals, IsLiteral}
+use Rattle.gb_laws.specs.Finite.{IsVariableType}
+use Rattle.gb_laws.specs.Typing.{AreLiterals, IsLiteral}
 use Rattle.gb_typing.specs.Context.{Context}
 use Rattle.gb_typing.proofs.Literals.{bool_literal}
 use Rattle.gb_names.specs.declared.names.Known.{Known}

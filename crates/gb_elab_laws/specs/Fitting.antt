@@ -14,12 +14,12 @@ use Rattle.gb_goal.specs.declared.scope.OperatorType.{OperatorType as DeclaredOp
 use Rattle.gb_goal.specs.Scope.{Declarations, constant_named, module_of, operator_named, procedure_of, type_named}
 use Rattle.gb_meaning.specs.Names.{Name}
 use Rattle.gb_meaning.specs.Written.{type_of, local_type}
-use Rattle.gb_changes.specs.Plain.{IsPlain}
+use Rattle.gb_laws.specs.Plain.{IsPlain}
 use Rattle.gb_holds.specs.Naming.{AnyName}
-use Rattle.gb_later.specs.Naming.{NoName, TermNames}
-use Rattle.gb_typed.specs.Finite.{AreFiniteWith, IsFiniteWith, IsVariableType}
-use Rattle.gb_typed.specs.Operators.{item}
-use Rattle.gb_typed.specs.Typing.{Binder, OperatorType, binder, IsBoundAt, IsLiteral, IsMemory}
+use Rattle.gb_typing.specs.Naming.{NoName, TermNames}
+use Rattle.gb_laws.specs.Finite.{AreFiniteWith, IsFiniteWith, IsVariableType}
+use Rattle.gb_laws.specs.Operators.{item}
+use Rattle.gb_laws.specs.Typing.{Binder, OperatorType, binder, IsBoundAt, IsLiteral, IsMemory}
 use Rattle.gb_typing.specs.Modules.{ProcedureType}
 use Rattle.gb_typing.specs.Context.{Frame, Context, erased, frame_of, procedure, local_in}
 use Rattle.gb_typing.specs.Typing.{IsFrame, IsTyped}

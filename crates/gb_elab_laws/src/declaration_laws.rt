@@ -13,7 +13,7 @@ ghost use Rattle.gb_goal.specs.Answers.Answer.{given};
 ghost use Rattle.gb_meaning.specs.Names.{Name};
 ghost use Rattle.gb_meaning.specs.Written.{type_of};
 ghost use Rattle.gb_holds.specs.Declared.{concrete_module, declared};
-ghost use Rattle.gb_later.specs.Naming.{NoName};
+ghost use Rattle.gb_typing.specs.Naming.{NoName};
 ghost use Rattle.gb_models.specs.Speaking.{DeclarationSpeaks, ScopeSpeaks};
 ghost use Rattle.gb_elab_laws.specs.Calling.{EntriesCall, EntryCalls};
 ghost use Rattle.gb_elab_laws.specs.Procedures.{IsOfProcedures};

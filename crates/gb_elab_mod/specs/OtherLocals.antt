@@ -3,7 +3,7 @@ use Rattle.std.specs.Prelude.{Bool, false, not, ◌&&◌, ◌||◌, List, [], �
 use Rattle.std.specs.List.{list_any}
 use Rattle.gb_core.specs.declared.ty.Ty.{Ty}
 use Rattle.gb_core.specs.declared.var.Var.TheVariants.{Local}
-use Rattle.gb_same.specs.Types.{ty_eq}
+use Rattle.gb_core.specs.SameTypes.{ty_eq}
 use Rattle.gb_terms.specs.declared.decl.TypedName.{TypedName}
 use Rattle.gb_terms.specs.declared.op.Read.TheVariants.{Program}
 use Rattle.gb_terms.specs.declared.op.Side.{Side}

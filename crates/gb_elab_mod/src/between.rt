@@ -1,5 +1,6 @@
 // The typing of `transitivity`.
 
+ghost use Rattle.gb_script.specs.Tree.{head_of, parts_of};
 ghost use Rattle.gb_goal.specs.Answers.{Answers};
 ghost use Rattle.gb_goal.specs.Goal.{goal_of};
 ghost use Rattle.gb_elab_mod.specs.Steps.{between_at, between_by, between_of, between_with, related, transitive_rule};
@@ -125,14 +126,14 @@ fn between_at(
     alloc: Global,
     scope: &Scope,
     goal: &Sequent,
-    head: Head,
-    parts: &[Node],
+    said: &Node,
     place: Place,
 ) -> Result<Rule, Refused>
-    ensures { Answers (between_at scope.now goal.now head parts.now place) result }
+    ensures { Answers (between_at scope.now goal.now (head_of said.now) (parts_of said.now) place) result }
 {
-    match head {
+    match said.head {
         Head::PlainTransitivity => {
+            let parts = said.parts.as_slice();
             let (words, contracts) = parts.split_at(parts.len().saturating_sub(3));
             between_with(alloc, scope, goal, words, contracts, place)
         }
@@ -150,14 +151,13 @@ pub fn transitive_rule(
     scope: &Scope,
     goal: &Sequent,
     acts: Acts,
-    head: Head,
-    parts: &[Node],
+    said: &Node,
     place: Place,
 ) -> Result<Rule, Refused>
-    ensures { Answers (transitive_rule scope.now goal.now acts head parts.now place) result }
+    ensures { Answers (transitive_rule scope.now goal.now acts (head_of said.now) (parts_of said.now) place) result }
 {
     match acts {
-        Acts::All => between_at(alloc, scope, goal, head, parts, place),
+        Acts::All => between_at(alloc, scope, goal, said, place),
         _ => Ok(Rule::OnBodies(BodyRule::Unfit)),
     }
 }

@@ -2,7 +2,8 @@
 
 ghost use Rattle.std.specs.Prelude.{◌≡◌, Some, bytes_eq};
 ghost use Rattle.std.specs.List.{list_any};
-ghost use Rattle.gb_goal.specs.Answers.{Answers};
+ghost use Rattle.gb_goal.specs.Answers.{Answers, ◌>>=◌ as ◌and_then◌};
+ghost use Rattle.gb_goal.specs.Answers.Answer.{given};
 ghost use Rattle.gb_elab_mod.specs.Steps.{case_rule, conclusion_rule, formed, have_rule, sided_case_rule};
 ghost use Rattle.gb_elab_mod.specs.Taken.{is_taken, new_name};
 
@@ -25,17 +26,17 @@ use gb_terms::term::Form;
 use std::alloc::Global;
 
 /// The steps on a conclusion that stand alone.
-pub fn conclusion_rule(text: &Name, place: Place) -> Result<AmbientRule, Refused>
-    ensures { Answers (conclusion_rule text.now place) result }
+pub fn conclusion_rule(text: &Name, place: Place) -> Result<Rule, Refused>
+    ensures { Answers (conclusion_rule text.now place and_then λ r. given (Rule.Ambient r)) result }
 {
     match text.as_str() {
-        "split" => Ok(AmbientRule::Split),
-        "left" => Ok(AmbientRule::Left),
-        "right" => Ok(AmbientRule::Right),
-        "assumption" => Ok(AmbientRule::Assumption),
-        "trivial" => Ok(AmbientRule::Trivial),
-        "//" => Ok(AmbientRule::Trivial),
-        "done" => Ok(AmbientRule::Done),
+        "split" => Ok(Rule::Ambient(AmbientRule::Split)),
+        "left" => Ok(Rule::Ambient(AmbientRule::Left)),
+        "right" => Ok(Rule::Ambient(AmbientRule::Right)),
+        "assumption" => Ok(Rule::Ambient(AmbientRule::Assumption)),
+        "trivial" => Ok(Rule::Ambient(AmbientRule::Trivial)),
+        "//" => Ok(Rule::Ambient(AmbientRule::Trivial)),
+        "done" => Ok(Rule::Ambient(AmbientRule::Done)),
         _ => Err(not_built(place)),
     }
 }

@@ -1,10 +1,11 @@
 // The typing of `conseq`.
 
 ghost use Rattle.std.specs.Prelude.{◌≡◌, [], IfOk};
+ghost use Rattle.gb_script.specs.Tree.{parts_of};
 ghost use Rattle.gb_goal.specs.Answers.{Answers};
 ghost use Rattle.gb_goal.specs.Views.{code_seen, goal_seen};
 ghost use Rattle.gb_names.specs.Environment.{ambient, environment, relational, unary};
-ghost use Rattle.gb_elab_mod.specs.Steps.{conseq_of, conseq_rule, locals_after, locals_before, said_anew, term_if};
+ghost use Rattle.gb_elab_mod.specs.Steps.{conseq_of, conseq_rule, locals_after, locals_before, of_bodies_rule, said_anew, term_if};
 
 use crate::occurring::occurring_between;
 use gb_core::refusal::Refused;
@@ -16,7 +17,7 @@ use gb_goal::sequent::Sequent;
 use gb_names::judgment::result_of;
 use gb_names::setting::Setting;
 use gb_script::tree::Node;
-use gb_steps::step::{Acts, BodyRule, Weakened};
+use gb_steps::step::{Acts, BodyRule, Rule, Weakened};
 use gb_terms::decl::Typed;
 use gb_terms::op::Side;
 use gb_terms::share::copy_typed;
@@ -27,9 +28,9 @@ use std::alloc::{AllocError, Global};
 /// What is written of a precondition, a postcondition and a bound, each at most once.
 #[derive(Clone, Copy)]
 pub struct Written<'a> {
-    pub pre: &'a [Node],
-    pub post: &'a [Node],
-    pub bound: &'a [Node],
+    pub pre: &'a Node,
+    pub post: &'a Node,
+    pub bound: &'a Node,
 }
 
 /// The conditions of a judgment.
@@ -86,11 +87,11 @@ fn term_if(
     alloc: Global,
     at: &Setting<'_>,
     ty: &Ty,
-    written: &[Node],
+    written: &Node,
 ) -> Result<Option<Term>, Refused>
-    ensures { Answers (term_if (environment at.now) ty.now written.now) result }
+    ensures { Answers (term_if (environment at.now) ty.now (parts_of written.now)) result }
 {
-    match written {
+    match written.parts.as_slice() {
         [] => Ok(None),
         [tree, ..] => {
             let term = typed(alloc, at, &[], tree, Some(ty))?;
@@ -107,7 +108,7 @@ fn said_anew(
     around: &Setting<'_>,
     written: &Written<'_>,
 ) -> Result<BodyRule, Refused>
-    ensures { Answers (said_anew (environment before.now) (environment after.now) (environment around.now) written.now.pre.now written.now.post.now written.now.bound.now) result }
+    ensures { Answers (said_anew (environment before.now) (environment after.now) (environment around.now) (parts_of written.now.pre.now) (parts_of written.now.post.now) (parts_of written.now.bound.now)) result }
 {
     let pre = term_if(alloc, before, &Ty::Bool, written.pre)?;
     let post = term_if(alloc, after, &Ty::Bool, written.post)?;
@@ -127,7 +128,7 @@ fn of_one<'a>(
     ensures { Answers (said_anew
         (unary scope.now goal.now (locals_before scope.now conditions.entry.pre.now conditions.entry.post.now Side.Own (code_seen code.entry)))
         (unary scope.now goal.now (locals_after scope.now conditions.entry.pre.now conditions.entry.post.now Side.Own (code_seen code.entry)))
-        (ambient scope.now goal.now) written.now.pre.now written.now.post.now written.now.bound.now) result }
+        (ambient scope.now goal.now) (parts_of written.now.pre.now) (parts_of written.now.post.now) (parts_of written.now.bound.now)) result }
 {
     let before = locals_before(alloc, scope, conditions, Side::Own, code)?;
     let after = locals_after(alloc, scope, conditions, Side::Own, code)?;
@@ -156,7 +157,7 @@ fn of_two<'a>(
         (locals_before scope.now conditions.entry.pre.now conditions.entry.post.now Side.Right (code_seen codes.entry.1)))
         (relational scope.now goal.now (locals_after scope.now conditions.entry.pre.now conditions.entry.post.now Side.Left (code_seen codes.entry.0))
         (locals_after scope.now conditions.entry.pre.now conditions.entry.post.now Side.Right (code_seen codes.entry.1)))
-        (ambient scope.now goal.now) written.now.pre.now written.now.post.now written.now.bound.now) result }
+        (ambient scope.now goal.now) (parts_of written.now.pre.now) (parts_of written.now.post.now) (parts_of written.now.bound.now)) result }
 {
     let (left, right) = codes;
     let here = locals_before(alloc, scope, conditions, Side::Left, left)?;
@@ -183,7 +184,7 @@ fn conseq_of(
     seen: Goal<'_>,
     written: &Written<'_>,
 ) -> Result<BodyRule, Refused>
-    ensures { Answers (conseq_of scope.now goal.now (goal_seen seen.entry) written.now.pre.now written.now.post.now written.now.bound.now) result }
+    ensures { Answers (conseq_of scope.now goal.now (goal_seen seen.entry) (parts_of written.now.pre.now) (parts_of written.now.post.now) (parts_of written.now.bound.now)) result }
 {
     match seen {
         Goal::Hoare(code, pre, post) | Goal::Phoare(code, _, pre, post, _) => {
@@ -214,11 +215,14 @@ pub fn conseq_rule(
     goal: &Sequent,
     acts: Acts,
     written: &Written<'_>,
-) -> Result<BodyRule, Refused>
-    ensures { Answers (conseq_rule scope.now goal.now acts written.now.pre.now written.now.post.now written.now.bound.now) result }
+) -> Result<Rule, Refused>
+    ensures { Answers (of_bodies_rule (conseq_rule scope.now goal.now acts (parts_of written.now.pre.now) (parts_of written.now.post.now) (parts_of written.now.bound.now))) result }
 {
     match acts {
-        Acts::All => conseq_of(alloc, scope, goal, goal_of(&goal.conclusion), written),
-        _ => Ok(BodyRule::Unfit),
+        Acts::All => {
+            let rule = conseq_of(alloc, scope, goal, goal_of(&goal.conclusion), written)?;
+            Ok(Rule::OnBodies(rule))
+        }
+        _ => Ok(Rule::OnBodies(BodyRule::Unfit)),
     }
 }

@@ -2,6 +2,7 @@
 
 ghost use Rattle.std.specs.Prelude.{◌≡◌, [], Some, IfOk};
 ghost use Rattle.std.specs.Option.{option_copied};
+ghost use Rattle.gb_script.specs.Tree.{head_of, parts_of};
 ghost use Rattle.gb_goal.specs.Answers.{Answers};
 ghost use Rattle.gb_core.specs.declared.ty.Ty.TheVariants.{Bool};
 ghost use Rattle.gb_goal.specs.Scope.{procedure_of};
@@ -210,13 +211,12 @@ pub fn call_rule(
     scope: &Scope,
     goal: &Sequent,
     acts: Acts,
-    head: Head,
-    parts: &[Node],
+    said: &Node,
     place: Place,
 ) -> Result<Rule, Refused>
-    ensures { Answers (call_rule scope.now goal.now acts head parts.now place) result }
+    ensures { Answers (call_rule scope.now goal.now acts (head_of said.now) (parts_of said.now) place) result }
 {
-    match (head, parts) {
+    match (said.head, said.parts.as_slice()) {
         (Head::CallContract, [pre, post]) => {
             contract_at(
                 alloc,

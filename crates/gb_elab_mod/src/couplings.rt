@@ -11,6 +11,7 @@ ghost use Rattle.gb_elab_mod.specs.Steps.{bodies, coupling_rule, couplings, draw
 use crate::occurring::occurring;
 use gb_core::Shared;
 use gb_core::refusal::Refused;
+use gb_core::same::same_types;
 use gb_core::ty::Ty;
 use gb_elab::form::function;
 use gb_goal::scope::Scope;
@@ -18,7 +19,6 @@ use gb_goal::sequent::Sequent;
 use gb_names::refusals::mismatch;
 use gb_names::setting::Setting;
 use gb_operators::literals::place_inside;
-use gb_same::types::same_types;
 use gb_script::head;
 use gb_script::tree::Node;
 use gb_steps::step::{Acts, BodyRule, ChanceRule, RelationalRule, Rule};

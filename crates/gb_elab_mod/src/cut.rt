@@ -5,15 +5,19 @@ ghost use Rattle.gb_terms.specs.declared.op.Side.TheVariants.{Own, Left, Right};
 ghost use Rattle.gb_names.specs.Environment.{relational, unary};
 ghost use Rattle.gb_elab.specs.Forms.{elaborated};
 ghost use Rattle.gb_elab_mod.specs.Occurring.{occurring};
-ghost use Rattle.gb_goal.specs.Answers.{Answers};
+ghost use Rattle.gb_script.specs.Tree.{parts_of};
+ghost use Rattle.gb_elab_prog.specs.Unbuilt.{absent};
+ghost use Rattle.gb_goal.specs.Answers.{Answers, ◌>>=◌ as ◌and_then◌};
 ghost use Rattle.gb_goal.specs.Views.{goal_seen};
 ghost use Rattle.gb_elab_mod.specs.Multiples.{position};
-ghost use Rattle.gb_elab_mod.specs.Steps.{case_of_bodies, cut_of, cut_rule, said_of_bodies, seq_rule, while_rule};
+ghost use Rattle.gb_elab_mod.specs.Steps.{case_of_bodies, cut_of, cut_rule, of_bodies_rule, said_of_bodies, seq_rule, while_rule};
 
 use crate::occurring::occurring_between;
+use gb_core::place::Place;
 use gb_core::refusal::Refused;
 use gb_core::ty::Ty;
 use gb_elab::form::typed;
+use gb_elab_prog::unbuilt::refuse_any;
 use gb_goal::goal::{Code, Goal, goal_of};
 use gb_goal::scope::Scope;
 use gb_goal::sequent::Sequent;
@@ -35,11 +39,19 @@ pub fn position(digits: &Node) -> u128
     }
 }
 
+/// What is written of a cut: its position in a body, that in a second body, if there is one, and bounds, which aren't built.
+#[derive(Clone, Copy)]
+pub struct Cutting<'a> {
+    pub first: &'a Node,
+    pub second: &'a Node,
+    pub bounds: &'a Node,
+}
+
 /// The positions of a cut, in one body or in two.
-pub fn cut_of(first: &Node, second: &[Node]) -> Cut
-    ensures { result ≡ cut_of first.now second.now }
+fn cut_of(first: &Node, second: &Node) -> Cut
+    ensures { result ≡ cut_of first.now (parts_of second.now) }
 {
-    match second {
+    match second.parts.as_slice() {
         [] => Cut::One(position(first)),
         [second, ..] => Cut::Two(position(first), position(second)),
     }
@@ -175,19 +187,23 @@ pub fn while_rule(
 ///
 /// # Errors
 ///
-/// Those of the form, over the locals that occur in the goal.
+/// `Syntax` of bounds, and those of the form, over the locals that occur in the goal.
 pub fn seq_rule(
     alloc: Global,
     scope: &Scope,
     goal: &Sequent,
     acts: Acts,
-    at: Cut,
+    at: &Cutting<'_>,
     between: &Node,
-) -> Result<BodyRule, Refused>
-    ensures { Answers (seq_rule scope.now goal.now acts at between.now) result }
+    place: Place,
+) -> Result<Rule, Refused>
+    ensures { Answers (absent (parts_of at.now.bounds.now) place and_then λ _. of_bodies_rule (seq_rule scope.now goal.now acts (cut_of at.now.first.now (parts_of at.now.second.now)) between.now)) result }
 {
-    match acts {
-        Acts::All => cut_rule(alloc, scope, goal, at, between, goal_of(&goal.conclusion)),
-        _ => Ok(BodyRule::Unfit),
-    }
+    refuse_any(at.bounds.parts.as_slice(), place)?;
+    let Acts::All = acts else {
+        return Ok(Rule::OnBodies(BodyRule::Unfit));
+    };
+    let cut = cut_of(at.first, at.second);
+    let rule = cut_rule(alloc, scope, goal, cut, between, goal_of(&goal.conclusion))?;
+    Ok(Rule::OnBodies(rule))
 }

@@ -1,7 +1,8 @@
 // The typing of multiples of hypotheses.
 
 ghost use Rattle.std.specs.Prelude.{◌≡◌, ◌<◌, ◌^◌, unsigned_abs};
-ghost use Rattle.gb_goal.specs.Answers.{Answers, Refuses};
+ghost use Rattle.gb_goal.specs.Answers.{Answers, Refuses, ◌>>=◌ as ◌and_then◌};
+ghost use Rattle.gb_goal.specs.Answers.Answer.{given};
 ghost use Rattle.gb_elab_mod.specs.Multiples.{divisor, hypothesis_at, hyps_before, multiple, multiple_of, multiples, no_such, ratio, signed};
 
 use crate::conclusions::{is_hypothesis, is_taken};
@@ -16,7 +17,7 @@ use gb_names::refusals::argument;
 use gb_num::{Frac, div_lit};
 use gb_script::head::Head;
 use gb_script::tree::Node;
-use gb_steps::step::{Multiple, Multiples};
+use gb_steps::step::{Multiple, Multiples, Rule};
 use sqlite_items::Items;
 use std::alloc::Global;
 
@@ -123,7 +124,7 @@ fn multiple(alloc: Global, scope: &Scope, goal: &Sequent, tree: &Node) -> Result
 }
 
 /// Hypotheses with their multipliers.
-pub fn multiples(
+fn multiples(
     alloc: Global,
     scope: &Scope,
     goal: &Sequent,
@@ -136,4 +137,17 @@ pub fn multiples(
         out.push(multiple(alloc, scope, goal, tree)?)?;
     }
     Ok(out)
+}
+
+/// The rule that combines hypotheses with their multipliers.
+pub fn linear_rule(
+    alloc: Global,
+    scope: &Scope,
+    goal: &Sequent,
+    trees: &[Node],
+) -> Result<Rule, Refused>
+    ensures { Answers (multiples scope.now goal.now trees.now and_then λ ms. given (Rule.Linear ms)) result }
+{
+    let multiples = multiples(alloc, scope, goal, trees)?;
+    Ok(Rule::Linear(multiples))
 }

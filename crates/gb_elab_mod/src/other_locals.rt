@@ -5,11 +5,11 @@ ghost use Rattle.std.specs.List.{list_any};
 ghost use Rattle.gb_elab_mod.specs.OtherLocals.{head_reads, is_local, reads_other_locals};
 
 use gb_core::name::Name;
+use gb_core::same::same_types;
 use gb_core::ty::Ty;
 use gb_core::var::Var;
 use gb_goal::sequent::Sequent;
 use gb_names::locals::locals_in;
-use gb_same::types::same_types;
 use gb_terms::op::{Read, Side};
 use gb_terms::same::same_side;
 use gb_terms::term::{Head, Term};

@@ -1,7 +1,10 @@
 // Proof steps.
 
 ghost use Rattle.std.specs.Prelude.{◌≡◌};
-ghost use Rattle.gb_goal.specs.Answers.{Answers};
+ghost use Rattle.gb_script.specs.Tree.{parts_of};
+ghost use Rattle.gb_elab_prog.specs.Unbuilt.{absent};
+ghost use Rattle.gb_goal.specs.Answers.{Answers, ◌>>=◌ as ◌and_then◌};
+ghost use Rattle.gb_goal.specs.Answers.Answer.{given};
 ghost use Rattle.gb_elab_mod.specs.Steps.{acts, both_rule, chance_rule, equals_rule, looping_rule, named_rule, on_all, pattern, plain_rule, step_given, transforming_rule, typed_rule, used_rule};
 
 use crate::between::transitive_rule;
@@ -9,11 +12,11 @@ use crate::conclusions::{conclusion_rule, have_rule, sided_case_rule};
 use crate::conseq::{Written, conseq_rule};
 use crate::contract::call_rule;
 use crate::couplings::{drawing_rule, functions_of};
-use crate::cut::{cut_of, position, seq_rule, while_rule};
+use crate::cut::{Cutting, position, seq_rule, while_rule};
 use crate::equals::{opening, rewriting, rewriting_back, rewriting_by_name, substitution};
-use crate::multiples::multiples;
+use crate::multiples::linear_rule;
 use crate::transforming::{inlining_rule, passing_rule, placed_rule};
-use crate::uses::{all_hinted, apply_rule, keep_rule};
+use crate::uses::{apply_rule, keep_rule, smt_rule};
 use crate::witness::witness_rule;
 use gb_core::name::Name;
 use gb_core::place::Place;
@@ -71,6 +74,13 @@ fn acts(bodies: &[Node]) -> Acts
             }
         }
     }
+}
+
+/// The same, by the part of a step that holds their numbers.
+fn acts_of(bodies: &Node) -> Acts
+    ensures { result ≡ acts (parts_of bodies.now) }
+{
+    acts(bodies.parts.as_slice())
 }
 
 /// A rule that acts on all programs of a goal alone.
@@ -177,13 +187,13 @@ fn transforming_rule(
     match head {
         Head::Swap => match parts {
             [bodies, at, distance] => {
-                let acts = acts(bodies.parts.as_slice());
-                passing_rule(acts, at, distance.head, distance.parts.as_slice(), place)
+                let way = distance.head;
+                passing_rule(acts_of(bodies), at, way, distance.parts.as_slice(), place)
             }
             _ => Err(not_built(place)),
         },
         Head::PositionStep => match parts {
-            [bodies, at] => placed_rule(text, acts(bodies.parts.as_slice()), position(at), place),
+            [bodies, at] => placed_rule(text, acts_of(bodies), position(at), place),
             _ => Err(not_built(place)),
         },
         _ => pattern(alloc, head, text, parts, place),
@@ -266,21 +276,26 @@ fn looping_rule(
 {
     match head {
         Head::WhileStep => match parts {
-            [bodies, kept] => {
-                let acts = acts(bodies.parts.as_slice());
-                while_rule(alloc, scope, goal, acts, kept)
-            }
+            [bodies, kept] => while_rule(alloc, scope, goal, acts_of(bodies), kept),
             _ => Err(not_built(place)),
         },
         Head::Inline => match parts {
             [bodies, procedures] => {
-                let acts = acts(bodies.parts.as_slice());
-                inlining_rule(alloc, scope, goal, acts, procedures.parts.as_slice(), place)
+                let procedures = procedures.parts.as_slice();
+                inlining_rule(alloc, scope, goal, acts_of(bodies), procedures, place)
             }
             _ => Err(not_built(place)),
         },
         _ => used_rule(alloc, scope, goal, head, text, parts, place),
     }
+}
+
+/// The rule that goes into the procedures of a judgment, which has no invariant.
+fn entering_rule(acts: Acts, invariant: &[Node], place: Place) -> Result<Rule, Refused>
+    ensures { Answers (absent invariant.now place and_then λ _. given (Rule.OnBodies (on_all acts BodyRule.Proc))) result }
+{
+    refuse_any(invariant, place)?;
+    Ok(Rule::OnBodies(on_all(acts, BodyRule::Proc)))
 }
 
 /// The rule of a step or of a pattern, with its arguments typed.
@@ -295,93 +310,40 @@ fn typed_rule(
 ) -> Result<Rule, Refused>
     ensures { Answers (typed_rule scope.now goal.now head text.now parts.now place) result }
 {
-    match head {
-        Head::Proc => match parts {
-            [bodies, invariant] => {
-                refuse_any(invariant.parts.as_slice(), place)?;
-                let acts = acts(bodies.parts.as_slice());
-                Ok(Rule::OnBodies(on_all(acts, BodyRule::Proc)))
-            }
-            _ => Err(not_built(place)),
-        },
-        Head::Rnd => match parts {
-            [bodies, functions @ ..] => {
-                let acts = acts(bodies.parts.as_slice());
-                drawing_rule(alloc, scope, goal, acts, functions_of(functions))
-            }
-            _ => Err(not_built(place)),
-        },
-        Head::BodyStep => match parts {
-            [bodies] => named_rule(text, acts(bodies.parts.as_slice()), place),
-            _ => Err(not_built(place)),
-        },
-        Head::Seq => match parts {
-            [bodies, first, second, between, bounds] => {
-                refuse_any(bounds.parts.as_slice(), place)?;
-                let acts = acts(bodies.parts.as_slice());
-                let at = cut_of(first, second.parts.as_slice());
-                let rule = seq_rule(alloc, scope, goal, acts, at, between)?;
-                Ok(Rule::OnBodies(rule))
-            }
-            _ => Err(not_built(place)),
-        },
-        Head::Conseq => match parts {
-            [bodies, pre, post, bound] => {
-                let written = Written {
-                    pre: pre.parts.as_slice(),
-                    post: post.parts.as_slice(),
-                    bound: bound.parts.as_slice(),
-                };
-                let acts = acts(bodies.parts.as_slice());
-                let rule = conseq_rule(alloc, scope, goal, acts, &written)?;
-                Ok(Rule::OnBodies(rule))
-            }
-            _ => Err(not_built(place)),
-        },
-        Head::CallStep => match parts {
-            [bodies, said] => {
-                let acts = acts(bodies.parts.as_slice());
-                call_rule(
-                    alloc,
-                    scope,
-                    goal,
-                    acts,
-                    said.head,
-                    said.parts.as_slice(),
-                    place,
-                )
-            }
-            _ => Err(not_built(place)),
-        },
-        Head::Transitivity => match parts {
-            [bodies, between] => {
-                let acts = acts(bodies.parts.as_slice());
-                let parts = between.parts.as_slice();
-                transitive_rule(alloc, scope, goal, acts, between.head, parts, place)
-            }
-            _ => Err(not_built(place)),
-        },
-        Head::PlainStep => match parts {
-            [] => Ok(Rule::Ambient(conclusion_rule(text, place)?)),
-            _ => Err(not_built(place)),
-        },
-        Head::CaseStep => match parts {
-            [bodies, form] => {
-                let acts = acts(bodies.parts.as_slice());
-                sided_case_rule(alloc, scope, goal, acts, form)
-            }
-            _ => Err(not_built(place)),
-        },
-        Head::HaveForm => match parts {
-            [name, form] => have_rule(alloc, scope, goal, name, form),
-            _ => Err(not_built(place)),
-        },
-        Head::Witness => match parts {
-            [witness] => Ok(Rule::Ambient(witness_rule(alloc, scope, goal, witness)?)),
-            _ => Err(not_built(place)),
-        },
-        Head::Smt => Ok(Rule::Smt(all_hinted(alloc, scope, goal, parts)?)),
-        Head::Linear => Ok(Rule::Linear(multiples(alloc, scope, goal, parts)?)),
+    match (head, parts) {
+        (Head::Proc, [bodies, invariant]) => {
+            entering_rule(acts_of(bodies), invariant.parts.as_slice(), place)
+        }
+        (Head::Rnd, [bodies, functions @ ..]) => {
+            drawing_rule(alloc, scope, goal, acts_of(bodies), functions_of(functions))
+        }
+        (Head::BodyStep, [bodies]) => named_rule(text, acts_of(bodies), place),
+        (Head::Seq, [bodies, first, second, between, bounds]) => {
+            let at = Cutting {
+                first,
+                second,
+                bounds,
+            };
+            seq_rule(alloc, scope, goal, acts_of(bodies), &at, between, place)
+        }
+        (Head::Conseq, [bodies, pre, post, bound]) => {
+            let written = Written { pre, post, bound };
+            conseq_rule(alloc, scope, goal, acts_of(bodies), &written)
+        }
+        (Head::CallStep, [bodies, said]) => {
+            call_rule(alloc, scope, goal, acts_of(bodies), said, place)
+        }
+        (Head::Transitivity, [bodies, between]) => {
+            transitive_rule(alloc, scope, goal, acts_of(bodies), between, place)
+        }
+        (Head::PlainStep, []) => conclusion_rule(text, place),
+        (Head::CaseStep, [bodies, form]) => {
+            sided_case_rule(alloc, scope, goal, acts_of(bodies), form)
+        }
+        (Head::HaveForm, [name, form]) => have_rule(alloc, scope, goal, name, form),
+        (Head::Witness, [witness]) => witness_rule(alloc, scope, goal, witness),
+        (Head::Smt, _) => smt_rule(alloc, scope, goal, parts),
+        (Head::Linear, _) => linear_rule(alloc, scope, goal, parts),
         _ => looping_rule(alloc, scope, goal, head, text, parts, place),
     }
 }

@@ -372,7 +372,7 @@ fn hinted(alloc: Global, scope: &Scope, goal: &Sequent, tree: &Node) -> Result<F
 }
 
 /// All that `smt` is told to use.
-pub fn all_hinted(
+fn all_hinted(
     alloc: Global,
     scope: &Scope,
     goal: &Sequent,
@@ -385,6 +385,19 @@ pub fn all_hinted(
         out.push(hinted(alloc, scope, goal, tree)?)?;
     }
     Ok(out)
+}
+
+/// The rule of `smt` with all that it is told to use.
+pub fn smt_rule(
+    alloc: Global,
+    scope: &Scope,
+    goal: &Sequent,
+    trees: &[Node],
+) -> Result<Rule, Refused>
+    ensures { Answers (all_hinted scope.now goal.now trees.now and_then λ fs. given (Rule.Smt fs)) result }
+{
+    let hints = all_hinted(alloc, scope, goal, trees)?;
+    Ok(Rule::Smt(hints))
 }
 
 /// The rule that shows the premises under which a hypothesis or a lemma says the conclusion.

@@ -3,7 +3,8 @@
 ghost use Rattle.std.specs.Prelude.{◌≡◌, IfOk};
 ghost use Rattle.std.specs.Option.{option_copied};
 ghost use Rattle.gb_terms.specs.declared.term.Term.{out-Term};
-ghost use Rattle.gb_goal.specs.Answers.{Answers};
+ghost use Rattle.gb_goal.specs.Answers.{Answers, ◌>>=◌ as ◌and_then◌};
+ghost use Rattle.gb_goal.specs.Answers.Answer.{given};
 ghost use Rattle.gb_elab_mod.specs.Steps.{asked_of, asks_for_locals, memory_witness, witness_rule};
 
 use crate::other_locals::reads_other_locals;
@@ -16,7 +17,7 @@ use gb_goal::scope::Scope;
 use gb_goal::sequent::Sequent;
 use gb_names::refusals::not_built;
 use gb_script::tree::Node;
-use gb_steps::step::AmbientRule;
+use gb_steps::step::{AmbientRule, Rule};
 use gb_terms::op::Side;
 use gb_terms::term::Head;
 use std::alloc::{AllocError, Global};
@@ -71,14 +72,15 @@ pub fn witness_rule(
     scope: &Scope,
     goal: &Sequent,
     witness: &Node,
-) -> Result<AmbientRule, Refused>
-    ensures { Answers (witness_rule scope.now goal.now witness.now) result }
+) -> Result<Rule, Refused>
+    ensures { Answers (witness_rule scope.now goal.now witness.now and_then λ r. given (Rule.Ambient r)) result }
 {
     if is_memory(witness.head) {
         let memory = memory_of(alloc, scope, goal, witness)?;
-        return memory_witness(alloc, goal, memory, witness.place);
+        let rule = memory_witness(alloc, goal, memory, witness.place)?;
+        return Ok(Rule::Ambient(rule));
     }
     let wanted = asked_of(goal.conclusion.head.get());
     let witness = term(alloc, scope, goal, witness, wanted)?;
-    Ok(AmbientRule::Witness(witness))
+    Ok(Rule::Ambient(AmbientRule::Witness(witness)))
 }

@@ -9,7 +9,7 @@ use Rattle.gb_terms.specs.declared.term.Term.{Term}
 use Rattle.gb_terms.specs.declared.term.Head.TheViews.{out-Term, out-roll-Term}
 use Rattle.gb_terms.specs.declared.term.Head.{Head}
 use Rattle.gb_terms.specs.declared.term.Head.TheVariants as head
-use Rattle.gb_apart.proofs.SameTerms.{same_terms}
+use Rattle.gb_meaning.proofs.SameTerms.{same_terms}
 use Rattle.gb_equality.specs.Parts.{Operator, operator_of}
 use Rattle.gb_equality.specs.Connectives.{shown, AreDifferent}
 use Rattle.gb_equality.proofs.Places.{some_same}

@@ -7,7 +7,7 @@ use Rattle.std.proofs.lemmas.List.Elements.{Contains-append_left, Contains-appen
 use Rattle.std.proofs.lemmas.List.Quantifiers.{all_pairs_push}
 use Rattle.std.proofs.lemmas.Option.{get_or_from_slice_get}
 use Rattle.gb_terms.specs.declared.term.Term.{Term}
-use Rattle.gb_apart.proofs.SameTerms.{same_terms}
+use Rattle.gb_meaning.proofs.SameTerms.{same_terms}
 use Rattle.gb_equality.specs.Parts.{is_yes, is_same, with_term, noted}
 use Rattle.gb_equality.proofs.Places.{place_within}
 

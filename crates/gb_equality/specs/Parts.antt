@@ -6,7 +6,7 @@ use Rattle.gb_terms.specs.declared.term.Term.{Term, Term', Row_of-Term, end_of-T
 use Rattle.gb_terms.specs.declared.term.Head.{Head}
 use Rattle.gb_terms.specs.declared.term.Head.TheVariants as head
 use Rattle.gb_walk.specs.Layers.{is_binder}
-use Rattle.gb_apart.proofs.SameTerms.{same_terms}
+use Rattle.gb_meaning.proofs.SameTerms.{same_terms}
 use Rattle.gb_equality.specs.declared.parts.Reach.{Reach}
 use Rattle.gb_equality.specs.declared.parts.Reach.TheVariants as Reaches
 

@@ -23,13 +23,13 @@ use Rattle.gb_meaning.specs.State.Binding.{value as value_bound}
 use Rattle.gb_meaning.specs.Trees.{distributions}
 use Rattle.gb_meaning.specs.Terms.{quiet, val, distribution}
 use Rattle.gb_meaning.specs.Judgments.{Judge, IsFair, speaking, IsTrueUnder, den}
-use Rattle.gb_laws.proofs.Nodes.{val_node}
-use Rattle.gb_laws.proofs.Values.{value_discrete}
-use Rattle.gb_changes.specs.Uses.{IsWithin}
-use Rattle.gb_changes.specs.Written.{Written}
-use Rattle.gb_changes.proofs.Puts.{plain_node}
-use Rattle.gb_typed.specs.Typing.Binder.{value}
-use Rattle.gb_typed.proofs.Nodes.{type_of_node}
+use Rattle.gb_meaning.proofs.Nodes.{val_node}
+use Rattle.gb_meaning.proofs.Values.{value_discrete}
+use Rattle.gb_laws.specs.Uses.{IsWithin}
+use Rattle.gb_laws.specs.Written.{Written}
+use Rattle.gb_laws.proofs.Puts.{plain_node}
+use Rattle.gb_laws.specs.Typing.Binder.{value}
+use Rattle.gb_laws.proofs.Nodes.{type_of_node}
 use Rattle.gb_typing.specs.Context.{Context, within}
 use Rattle.gb_typing.specs.Sequents.{one}
 use Rattle.gb_typing.specs.Typing.{IsForm}

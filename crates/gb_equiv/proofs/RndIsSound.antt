@@ -7,8 +7,8 @@ use Rattle.gb_core.specs.declared.ty.Ty.{Ty}
 use Rattle.gb_core.specs.declared.value.Value.{Value}
 use Rattle.gb_core.specs.declared.value.Value.TheVariants.{Num}
 use Rattle.gb_core.specs.declared.var.Var.{Var}
-use Rattle.gb_same.specs.Types.{ty_eq}
-use Rattle.gb_same.proofs.Decided.{ty_eq-Decides}
+use Rattle.gb_core.specs.SameTypes.{ty_eq}
+use Rattle.gb_core.proofs.SameTypes.{ty_eq-Decides}
 use Rattle.gb_terms.specs.declared.decl.TypedName.{TypedName}
 use Rattle.gb_terms.specs.declared.module.ProcRef.{ProcRef}
 use Rattle.gb_terms.specs.declared.op.Side.TheVariants as side
@@ -29,15 +29,15 @@ use Rattle.gb_meaning.specs.State.Binding.{value as value_bound}
 use Rattle.gb_meaning.specs.Trees.{distributions}
 use Rattle.gb_meaning.specs.Terms.{quiet, val, denominator, distribution}
 use Rattle.gb_meaning.specs.Judgments.{Judge, IsFair, speaking, IsTrueUnder, den}
-use Rattle.gb_laws.proofs.Nodes.{val_node}
-use Rattle.gb_laws.proofs.Values.{value_discrete}
-use Rattle.gb_laws.proofs.Truths.{true_equal}
-use Rattle.gb_changes.specs.Uses.{IsWithin}
-use Rattle.gb_changes.specs.Written.{Written}
-use Rattle.gb_changes.proofs.Puts.{plain_node}
-use Rattle.gb_typed.specs.Finite.{IsFinite}
-use Rattle.gb_typed.specs.Typing.Binder.{value}
-use Rattle.gb_typed.proofs.Nodes.{type_of_node}
+use Rattle.gb_meaning.proofs.Nodes.{val_node}
+use Rattle.gb_meaning.proofs.Values.{value_discrete}
+use Rattle.gb_meaning.proofs.Truths.{true_equal}
+use Rattle.gb_laws.specs.Uses.{IsWithin}
+use Rattle.gb_laws.specs.Written.{Written}
+use Rattle.gb_laws.proofs.Puts.{plain_node}
+use Rattle.gb_laws.specs.Finite.{IsFinite}
+use Rattle.gb_laws.specs.Typing.Binder.{value}
+use Rattle.gb_laws.proofs.Nodes.{type_of_node}
 use Rattle.gb_typing.specs.Context.{Context, reframed, within}
 use Rattle.gb_typing.specs.Sequents.{two}
 use Rattle.gb_typing.specs.Typing.{IsTyped, IsForm}

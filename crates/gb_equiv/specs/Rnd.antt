@@ -4,7 +4,7 @@ use Rattle.std.specs.Option.{option_or, option_zip}
 use Rattle.gb_core.specs.declared.refusal.Why.TheVariants.{Shape}
 use Rattle.gb_core.specs.declared.ty.Ty.{Ty}
 use Rattle.gb_core.specs.declared.var.Var.{Var}
-use Rattle.gb_same.specs.Types.{ty_eq}
+use Rattle.gb_core.specs.SameTypes.{ty_eq}
 use Rattle.gb_terms.specs.declared.decl.TypedName.{TypedName}
 use Rattle.gb_terms.specs.declared.op.Side.TheVariants.{Left, Right}
 use Rattle.gb_terms.specs.declared.op.Read.TheVariants.{Program}
@@ -12,8 +12,8 @@ use Rattle.gb_terms.specs.declared.term.Term.{Term}
 use Rattle.gb_walk.specs.declared.change.Change.TheVariants.{ToTerm, OfBound}
 use Rattle.gb_walk.specs.Change.{term_changed}
 use Rattle.gb_meaning.specs.Written.{type_of}
-use Rattle.gb_changes.specs.Plain.{IsPlain}
-use Rattle.gb_typed.specs.Typing.Binder.{value}
+use Rattle.gb_laws.specs.Plain.{IsPlain}
+use Rattle.gb_laws.specs.Typing.Binder.{value}
 use Rattle.gb_typing.specs.Context.{Context, within}
 use Rattle.gb_typing.specs.Sequents.{two}
 use Rattle.gb_typing.specs.Typing.{IsTyped}

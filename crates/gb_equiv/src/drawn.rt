@@ -89,5 +89,5 @@ pub fn drawn_rule(
         return Err(clashing(alloc, sampling.target, place));
     }
     let conclusion = without_sampling(alloc, &sampling, pre, post)?;
-    Ok(alone(alloc, goal, conclusion)?)
+    alone(alloc, goal, conclusion).map_err(Refused::from)
 }

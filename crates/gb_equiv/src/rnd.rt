@@ -15,21 +15,20 @@ use crate::drawn::{alone, clashing, drawn_rule, no_such_shape};
 use gb_core::Shared;
 use gb_core::place::Place;
 use gb_core::refusal::Refused;
+use gb_core::same::same_types;
 use gb_core::ty::Ty;
 use gb_core::var::Var;
 use gb_forms::coupled::{Coupled, Maps, Sampled, coupled_post};
 use gb_forms::drawn::target_change;
 use gb_goal::goal::{Code, Goal, equiv, goal_of};
 use gb_goal::sequent::{Sequent, Sequents};
-use gb_same::types::same_types;
 use gb_terms::op::Side;
 use gb_terms::term::{Form, Instr, Term};
 use gb_typing::samplings::{Last, last_sampling, rest_of};
 use gb_typing::supports::nearest;
-use gb_walk::change::{Change, Changes};
+use gb_walk::change::Change;
 use gb_walk::clash::first_clash;
 use gb_walk::walk::changed;
-use sqlite_items::Items;
 use std::alloc::{AllocError, Global};
 
 /// Two bodies and what is said before and after them.
@@ -105,10 +104,9 @@ fn with_values(
 {
     let value = nearest(alloc, left.ty)?;
     let image = maps.forth.share()?;
-    let mut changes: Changes = Items::new(alloc);
-    changes.push(target_change(alloc, left, Side::Left, value)?)?;
-    changes.push(target_change(alloc, right, Side::Right, image)?)?;
-    changed(alloc, post, changes.as_slice())
+    let first = target_change(alloc, left, Side::Left, value)?;
+    let second = target_change(alloc, right, Side::Right, image)?;
+    changed(alloc, post, &[first, second])
 }
 
 /// The postcondition before the two samplings.
@@ -179,7 +177,7 @@ fn coupled_rule(
         return Err(clashing(alloc, var, place));
     }
     let conclusion = without_samplings(alloc, &left, &right, maps, of.pre, of.post)?;
-    Ok(alone(alloc, goal, conclusion)?)
+    alone(alloc, goal, conclusion).map_err(Refused::from)
 }
 
 /// On an equivalence of two bodies that end with a sampling: both leave, and the postcondition becomes that of the

@@ -3,7 +3,7 @@ use Rattle.std.proofs.Common.{◌≡◌, length, refl}
 use Rattle.gb_goal.specs.Scope.{Declarations}
 use Rattle.gb_eval.specs.declared.env.Env.{Env}
 use Rattle.gb_eval.specs.declared.script.Script.{Script}
-use Rattle.gb_eval.specs.Eval.{Environment, environment, operators_at, operators_in, operators_of}
+use Rattle.gb_eval.specs.Eval.{environment, operators_at, operators_in, operators_of}
 
 pub in_is : (s : Script) → operators_in s ≡ operators_at s.scope.now s.depth
 unfolding operators_in

@@ -1,8 +1,7 @@
 -- Why what opens operators ends.
-use Rattle.std.proofs.Common.{◌≡◌, ℕ, zero, suc, pred, ◌+◌, ◌*◌, ◌<◌, ◌≤◌, Bool, true, false, if◌then◌else◌, bytes_eq, List, [], ◌∷◌, Option, Some, None, refl, sym, ap, ◌∙◌, subst, arith}
+use Rattle.std.proofs.Common.{◌≡◌, ℕ, zero, suc, pred, ◌+◌, ◌*◌, ◌<◌, ◌≤◌, Bool, true, false, if◌then◌else◌, bytes_eq, [], ◌∷◌, Option, Some, None, sym, subst, arith}
 use Rattle.std.proofs.lemmas.Option.{none-some}
 use Rattle.gb_terms.specs.declared.term.Term.{Term, size-Term}
-use Rattle.gb_goal.specs.declared.scope.Entry.{Entry}
 use Rattle.gb_goal.specs.Scope.{Declarations, entry_of}
 use Rattle.gb_meaning.specs.Names.{Name}
 use Rattle.gb_eval.specs.declared.script.Script.{Script}

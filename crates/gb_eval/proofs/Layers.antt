@@ -19,8 +19,8 @@ use Rattle.gb_terms.specs.declared.op.Op.TheVariants as op
 use Rattle.gb_terms.specs.declared.term.Head.TheVariants as head
 use Rattle.gb_meaning.specs.Operators.{outcome_type}
 use Rattle.gb_meaning.specs.Written.{type_of}
-use Rattle.gb_typed.specs.Typing.{types_of}
-use Rattle.gb_typed.proofs.Constructors.{distribution_is}
+use Rattle.gb_laws.specs.Typing.{types_of}
+use Rattle.gb_laws.proofs.Constructors.{distribution_is}
 use Rattle.gb_eval.specs.Findings.Comes.{unknown}
 use Rattle.gb_eval.specs.Operators.{nullary, uniform_over}
 use Rattle.gb_eval.specs.Totals.{total_of, totals_of, head_total, of_first, operator_total, number_of_outcomes}

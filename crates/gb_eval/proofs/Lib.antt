@@ -8,6 +8,7 @@ pub mod Opened
 pub mod Operated
 pub mod Places
 pub mod Remembered
+pub mod Served
 pub mod Sound
 pub mod Stops
 pub mod Tables

@@ -1,12 +1,12 @@
 -- Operators that are opened.
-use Rattle.std.proofs.Common.{◌≡◌, ℕ, zero, suc, pred, Bool, false, List, Option, Some, None, refl, sym, ap, ◌∙◌, reverse}
+use Rattle.std.proofs.Common.{◌≡◌, ℕ, zero, suc, pred, false, List, Some, None, refl, sym, ap, ◌∙◌}
 use Rattle.gb_terms.specs.declared.term.Term.{Term}
 use Rattle.gb_goal.specs.Scope.{Declarations}
 use Rattle.gb_meaning.specs.Names.{Name}
 use Rattle.gb_eval.specs.declared.env.Bound.{Bound}
 use Rattle.gb_eval.specs.declared.script.Script.{Script}
 use Rattle.gb_eval.specs.Script.{body_at, made_of, opened}
-use Rattle.gb_eval.specs.Findings.{Comes, no_operator}
+use Rattle.gb_eval.specs.Findings.{no_operator}
 use Rattle.gb_eval.specs.Findings.Comes.{unknown}
 use Rattle.gb_eval.specs.Known.{is_known, known_in}
 use Rattle.gb_eval.specs.Totals.{total_of}

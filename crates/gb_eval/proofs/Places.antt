@@ -4,7 +4,7 @@ use Rattle.std.proofs.lemmas.Bool.{false≢true}
 use Rattle.std.proofs.lemmas.List.{length-reverse, get_or-reverse}
 use Rattle.gb_core.specs.declared.value.Value.{Value}
 use Rattle.gb_meaning.specs.Values.{value_eq}
-use Rattle.gb_laws.proofs.Values.{value_eq-true, value_discrete}
+use Rattle.gb_meaning.proofs.Values.{value_eq-true, value_discrete}
 use Rattle.gb_eval.specs.declared.env.Bound.{Bound}
 use Rattle.gb_eval.specs.declared.env.Bound.TheVariants as to
 use Rattle.gb_eval.specs.Findings.{Comes, ◌>>=◌, over}

@@ -15,10 +15,10 @@ use Rattle.gb_types.proofs.Lawful.{out-Many}
 use Rattle.gb_types.proofs.Orders.{lawful}
 use Rattle.gb_types.proofs.Steps.{factors}
 use Rattle.gb_meaning.specs.Memory.{Memory}
-use Rattle.gb_meaning.specs.Values.{Types, has, values}
-use Rattle.gb_laws.proofs.Types.{values_finite}
+use Rattle.gb_meaning.specs.Values.{Types}
+use Rattle.gb_meaning.proofs.Types.{values_finite}
 use Rattle.gb_reads.specs.Reads.{Vars, are_free}
-use Rattle.gb_reads.specs.Memories.{AreOf, HaveValues, read_all}
+use Rattle.gb_reads.specs.Memories.{AreOf, AreReadable, HaveValues, read_all}
 use Rattle.gb_reads.proofs.Memories.{of_types, exist}
 use Rattle.gb_eval.specs.Findings.{Comes, ◌>>=◌, over}
 use Rattle.gb_eval.specs.Findings.Comes.{found, unknown, overflow}
@@ -101,7 +101,7 @@ module _ (t : Types) where
 
   -- the places of memories
 
-  module _ (xs : Vars) (free : are_free xs ≡ true) (n : ℕ) (c : card_of (memories_of xs) ≡ Exact n) (some : 0 < n) where
+  module _ (xs : Vars) (free : are_free xs ≡ true) (readable : AreReadable t xs) (n : ℕ) (c : card_of (memories_of xs) ≡ Exact n) (some : 0 < n) where
     abbrev tys : List Ty
     tys = map (λ x. x.ty) xs
 
@@ -122,7 +122,7 @@ module _ (t : Types) where
     place_of_memory m =
         let vs = read_all t m xs in
         let l = lawful (memories_of xs) in
-        let h = has_many vs (tuple_of_values xs vs finite (of_types t m xs free (have_values xs finite (subst (λ k. 0 < k) number some)))) in (
+        let h = has_many vs (tuple_of_values xs vs finite (of_types t m xs readable (have_values xs finite (subst (λ k. 0 < k) number some)))) in (
           (numbering (memories_of xs)).place (Many vs),
           subst (λ k. (numbering (memories_of xs)).place (Many vs) < k) (sym size_is) (l.below (Many vs) h),
           ap parts_of (l.at_place (Many vs) h) ∙ ap parts_in (out-Many vs),
@@ -134,5 +134,5 @@ module _ (t : Types) where
         let v = value_at (memories_of xs) i in
         let h = (lawful (memories_of xs)).has_at i (subst (λ k. i < k) size_is b) in
         let q = sym (ap (λ (z : Numbering). z.has v) (numbering-Tuple tys)) ∙ h in
-        let some_memory = exist t xs (parts_of v) free (values_of_tuple xs (parts_of v) finite (and_parts _ (is_tuple (map numbering tys) (parts_of v)) q).1) in
+        let some_memory = exist t xs (parts_of v) free readable (values_of_tuple xs (parts_of v) finite (and_parts _ (is_tuple (map numbering tys) (parts_of v)) q).1) in
         (some_memory.0, sym some_memory.1)

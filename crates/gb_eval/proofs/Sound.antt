@@ -13,7 +13,7 @@ use Rattle.gb_types.specs.Numbering.{parts_of}
 use Rattle.gb_types.specs.Types.{value_at, card_of}
 use Rattle.gb_reads.specs.Reads.{are_free}
 use Rattle.gb_reads.specs.Held as held
-use Rattle.gb_reads.specs.Memories.{IsHeldBy, read_all}
+use Rattle.gb_reads.specs.Memories.{AreReadable, IsHeldBy, read_all}
 use Rattle.gb_reads.proofs.Memories.{all_held, known_value}
 use Rattle.gb_terms.specs.declared.op.Op.{Op}
 use Rattle.gb_terms.specs.declared.op.Op.TheVariants as op
@@ -57,12 +57,13 @@ use Rattle.gb_eval.specs.Known.{is_tuple}
 use Rattle.gb_eval.specs.Eval as ev
 use Rattle.gb_eval.specs.Meant as given
 use Rattle.gb_eval.specs.Eval.{Environment, Part, eval, eval_all, value_of, value_bound, over_values, event, images}
-use Rattle.gb_eval.specs.Meant.{IsFraction, IsTable, IsFound, Means, Binds, AreOperators, is_given_at, AreGiven, AllGiven}
+use Rattle.gb_eval.specs.Meant.{IsFraction, IsTable, IsFound, Means, Binds, AreOperators, AreGiven}
 use Rattle.gb_eval.proofs.Truths.{Finds, IsTruth, then_finds, after_finds, if_finds, means_finds, finds_means, comes_truth, answer_meant, and_meant, or_meant, implies_meant, iff_meant, each_meant, some_meant}
 use Rattle.gb_eval.proofs.Tables.{behind_none, one_collected, chance_meant, restricted_mass, each_collected, imaged_is, image_same, exact, IsTotal, outcomes_total, stated_total, stated_meant}
 use Rattle.gb_eval.proofs.Fractions.{above_product, same_plus, reduced_meant}
 use Rattle.gb_eval.proofs.AtFindings.{binary_meant, unary_meant, nullary_meant}
 use Rattle.gb_eval.proofs.Updates.{updated_meant}
+use Rattle.gb_eval.proofs.Served.{Serves, IsServed, AllServed, served_given}
 use Rattle.gb_eval.proofs.Remembered.{each_says, one_says, place_of_memory, memory_of_place}
 
 -- a side of a conditional, over the product of both denominators
@@ -167,13 +168,13 @@ module _ (g : Setting) (j : Speaks) (s : State) (env : Environment) (ops : AreOp
   held_meant (b ∷ bs) (v ∷ vs) (suc i) x ty h = held_meant bs vs i x ty h.1
 
   -- a read of a memory that no binder binds is the same inside of binders
-  read_meant : (r : Read) (ty : Ty) (bs : List Binding) (vs : List Bound) → Binds g.types bs vs → given.is_given g s env.reads r ty → Means (value_of env.reads vs r ty) (read_at g r ty (inner bs)) 1
-  read_meant (Logical i) ty bs vs b h = h
-  read_meant (Program x side.Own) ty bs vs b h = h
-  read_meant (Program x side.Left) ty bs vs b h = h
-  read_meant (Program x side.Right) ty bs vs b h = h
-  read_meant (Program x (side.Memory i)) ty bs vs b h = h
-  read_meant (Program x (side.Bound i)) ty bs vs b h = held_meant bs vs i x ty b
+  read_meant : (r : Read) (xs : List Part) (ty : Ty) (bs : List Binding) (vs : List Bound) → Binds g.types bs vs → Serves g s env (head.Read r) xs ty → Means (value_of env.reads vs r ty) (read_at g r ty (inner bs)) 1
+  read_meant (Logical i) xs ty bs vs b h = h
+  read_meant (Program x side.Own) xs ty bs vs b h = h
+  read_meant (Program x side.Left) xs ty bs vs b h = h
+  read_meant (Program x side.Right) xs ty bs vs b h = h
+  read_meant (Program x (side.Memory i)) xs ty bs vs b h = h
+  read_meant (Program x (side.Bound i)) xs ty bs vs b h = held_meant bs vs i x ty b
 
   -- the truth of a part where a binder binds a value
   body_meant : (x : Part) (p : mt.Part) → IsMeant x p → (bs : List Binding) (vs : List Bound) → Binds g.types bs vs → (v : Value) → IsTruth (ev.truth_under x (to.Value v ∷ vs)) (m.truth (at_value p (inner bs) v))
@@ -230,15 +231,15 @@ module _ (g : Setting) (j : Speaks) (s : State) (env : Environment) (ops : AreOp
     said : (mem : Memory) (i : ℕ) (d : Bool) → parts_of (value_at (ev.memories_of x.reads) i) ≡ read_all g.types mem x.reads → place i ≡ found d → here mem ≡ d
     said mem i d e f = subst (λ c. IsTruth c (here mem)) f (place_meant mem i e)
 
-    module _ (free : are_free x.reads ≡ true) (n : ℕ) (c : card_of (ev.memories_of x.reads) ≡ Exact n) (some : 0 < n) where
+    module _ (readable : AreReadable g.types x.reads) (free : are_free x.reads ≡ true) (n : ℕ) (c : card_of (ev.memories_of x.reads) ≡ Exact n) (some : 0 < n) where
       -- where each place says so, each memory does; and where one does, some memory
       each_memory : (d : Bool) → over (ev.next_truth d place) (not d) n ≡ found (not d) → (mem : Memory) → here mem ≡ not d
-      each_memory d e mem = let q = place_of_memory g.types x.reads free n c some mem in said mem q.0 (not d) q.2 (each_says d place n e q.0 q.1)
+      each_memory d e mem = let q = place_of_memory g.types x.reads free readable n c some mem in said mem q.0 (not d) q.2 (each_says d place n e q.0 q.1)
 
       one_memory : (d : Bool) → over (ev.next_truth d place) (not d) n ≡ found d → (mem : Memory) × (here mem ≡ d)
       one_memory d e =
           let q = one_says d place n e in
-          let mem = memory_of_place g.types x.reads free n c some q.0 q.1 in
+          let mem = memory_of_place g.types x.reads free readable n c some q.0 q.1 in
           (mem.0, said mem.0 q.0 d mem.1 q.2)
 
       -- what is said of all memories, and of some memory
@@ -282,21 +283,21 @@ module _ (g : Setting) (j : Speaks) (s : State) (env : Environment) (ops : AreOp
       remembered_meant : Means (ev.remembered d (x ∷ []) vs) (m.of_truth z) 1
       remembered_meant = by_free (are_free x.reads) refl
 
-  all_memories_meant : (t : Term) (xs : List Part) (ps : List mt.Part) → AreMeant xs ps → given.is_judged_at g j t head.AllMemory ps → (bs : List Binding) (vs : List Bound) → Binds g.types bs vs →
+  all_memories_meant : (t : Term) (xs : List Part) (ps : List mt.Part) (ty : Ty) → AreMeant xs ps → Serves g s env head.AllMemory xs ty → given.is_judged_at g j t head.AllMemory ps → (bs : List Binding) (vs : List Bound) → Binds g.types bs vs →
       Means (ev.remembered false xs vs) (m.of_truth (j.judged t (inner bs))) 1
-  all_memories_meant t [] ps h w bs vs b = tt
-  all_memories_meant t (x ∷ []) (p ∷ []) h w bs vs b = remembered_meant x p h.0 bs vs b false (j.judged t (inner bs)) (λ f n c l. of_all x p h.0 bs vs b f n c l (j.judged t (inner bs)) (w (inner bs)) _ refl)
-  all_memories_meant t (x ∷ []) [] h w bs vs b = absurd h
-  all_memories_meant t (x ∷ []) (p ∷ q ∷ ps) h w bs vs b = absurd h.1
-  all_memories_meant t (x ∷ y ∷ xs) ps h w bs vs b = tt
+  all_memories_meant t [] ps ty h k w bs vs b = tt
+  all_memories_meant t (x ∷ []) (p ∷ []) ty h k w bs vs b = remembered_meant x p h.0 bs vs b false (j.judged t (inner bs)) (λ f n c l. of_all x p h.0 bs vs b k f n c l (j.judged t (inner bs)) (w (inner bs)) _ refl)
+  all_memories_meant t (x ∷ []) [] ty h k w bs vs b = absurd h
+  all_memories_meant t (x ∷ []) (p ∷ q ∷ ps) ty h k w bs vs b = absurd h.1
+  all_memories_meant t (x ∷ y ∷ xs) ps ty h k w bs vs b = tt
 
-  some_memory_meant : (t : Term) (xs : List Part) (ps : List mt.Part) → AreMeant xs ps → given.is_judged_at g j t head.SomeMemory ps → (bs : List Binding) (vs : List Bound) → Binds g.types bs vs →
+  some_memory_meant : (t : Term) (xs : List Part) (ps : List mt.Part) (ty : Ty) → AreMeant xs ps → Serves g s env head.SomeMemory xs ty → given.is_judged_at g j t head.SomeMemory ps → (bs : List Binding) (vs : List Bound) → Binds g.types bs vs →
       Means (ev.remembered true xs vs) (m.of_truth (j.judged t (inner bs))) 1
-  some_memory_meant t [] ps h w bs vs b = tt
-  some_memory_meant t (x ∷ []) (p ∷ []) h w bs vs b = remembered_meant x p h.0 bs vs b true (j.judged t (inner bs)) (λ f n c l. of_some x p h.0 bs vs b f n c l (j.judged t (inner bs)) (w (inner bs)) _ refl)
-  some_memory_meant t (x ∷ []) [] h w bs vs b = absurd h
-  some_memory_meant t (x ∷ []) (p ∷ q ∷ ps) h w bs vs b = absurd h.1
-  some_memory_meant t (x ∷ y ∷ xs) ps h w bs vs b = tt
+  some_memory_meant t [] ps ty h k w bs vs b = tt
+  some_memory_meant t (x ∷ []) (p ∷ []) ty h k w bs vs b = remembered_meant x p h.0 bs vs b true (j.judged t (inner bs)) (λ f n c l. of_some x p h.0 bs vs b k f n c l (j.judged t (inner bs)) (w (inner bs)) _ refl)
+  some_memory_meant t (x ∷ []) [] ty h k w bs vs b = absurd h
+  some_memory_meant t (x ∷ []) (p ∷ q ∷ ps) ty h k w bs vs b = absurd h.1
+  some_memory_meant t (x ∷ y ∷ xs) ps ty h k w bs vs b = tt
 
   -- distributions and events
 
@@ -548,17 +549,17 @@ module _ (g : Setting) (j : Speaks) (s : State) (env : Environment) (ops : AreOp
   part_denominators end_of-Term = refl
   part_denominators (more_of-Term t r) = ap (λ l. denominator g t ∷ l) (part_denominators r)
 
-  head_meant : (t : Term) (h : Head) (xs : List Part) (ps : List mt.Part) (ty : Ty) → AreMeant xs ps → is_given_at g s env.reads h ty → given.is_judged_at g j t h ps → (bs : List Binding) (vs : List Bound) → Binds g.types bs vs → Means (ev.at_head env h ty xs vs) (mt.at_head g j t h ps ty (inner bs)) (denominator_of g h (map (λ p. p.denominator) ps) ty)
+  head_meant : (t : Term) (h : Head) (xs : List Part) (ps : List mt.Part) (ty : Ty) → AreMeant xs ps → Serves g s env h xs ty → given.is_judged_at g j t h ps → (bs : List Binding) (vs : List Bound) → Binds g.types bs vs → Means (ev.at_head env h ty xs vs) (mt.at_head g j t h ps ty (inner bs)) (denominator_of g h (map (λ p. p.denominator) ps) ty)
   head_meant t (head.Lit v) xs ps ty h w u bs vs b = refl
   head_meant t (head.Whole n) xs ps ty h w u bs vs b = refl
   head_meant t (head.Bound i) xs ps ty h w u bs vs b = bound_meant bs vs i b
-  head_meant t (head.Read r) xs ps ty h w u bs vs b = read_meant r ty bs vs b w
+  head_meant t (head.Read r) xs ps ty h w u bs vs b = read_meant r xs ty bs vs b w
   head_meant t (head.Builtin o) xs ps ty h w u bs vs b = operated_meant ty bs vs b o xs ps h (is_tuple o) refl
   head_meant t (head.User n) xs ps ty h w u bs vs b = called_meant n ty xs ps bs vs h b
   head_meant t (head.All v) xs ps ty h w u bs vs b = forall_meant v xs ps bs vs h b
   head_meant t (head.Some v) xs ps ty h w u bs vs b = exists_meant v xs ps bs vs h b
-  head_meant t head.AllMemory xs ps ty h w u bs vs b = all_memories_meant t xs ps h u bs vs b
-  head_meant t head.SomeMemory xs ps ty h w u bs vs b = some_memory_meant t xs ps h u bs vs b
+  head_meant t head.AllMemory xs ps ty h w u bs vs b = all_memories_meant t xs ps ty h w u bs vs b
+  head_meant t head.SomeMemory xs ps ty h w u bs vs b = some_memory_meant t xs ps ty h w u bs vs b
   head_meant t head.Mu (x ∷ y ∷ []) (p ∷ q ∷ []) ty h w u bs vs b = measured_meant x y p q bs vs h.0 h.1.0 b
   head_meant t head.Mu (x ∷ y ∷ []) (p ∷ q ∷ r ∷ ps) ty h w u bs vs b = absurd h.1.1
   head_meant t head.Mu (x ∷ y ∷ []) (p ∷ []) ty h w u bs vs b = absurd h.1
@@ -633,7 +634,7 @@ module _ (g : Setting) (j : Speaks) (s : State) (env : Environment) (ops : AreOp
   part_totals (more_of-Term t r) = ap (λ l. total_of env.operators t ∷ l) (part_totals r)
 
   mutual
-    term_meant : (t : Term) → AreGiven g s env.reads t → given.AreJudged g j t → IsMeant (ev.part_of env t) (mt.part_of g j t)
+    term_meant : (t : Term) → IsServed g s env t → given.AreJudged g j t → IsMeant (ev.part_of env t) (mt.part_of g j t)
     term_meant (Term' p (more_of-Head h end_of-Head) n ts ty) w u =
         let inside = row_meant ts w.1 u.1 in
         record {
@@ -645,17 +646,20 @@ module _ (g : Setting) (j : Speaks) (s : State) (env : Environment) (ops : AreOp
               (head_total_meant h (eval_all env ts) (parts g j ts) ty inside));
         }
 
-    row_meant : {n : _} (r : Row_of-Term n) → AllGiven g s env.reads r → given.AllJudged g j r → AreMeant (eval_all env r) (parts g j r)
+    row_meant : {n : _} (r : Row_of-Term n) → AllServed g s env r → given.AllJudged g j r → AreMeant (eval_all env r) (parts g j r)
     row_meant end_of-Term w u = tt
     row_meant (more_of-Term t r) w u = (term_meant t w.0 u.0, row_meant r w.1 u.1)
 
+pub served_sound : (g : Setting) (j : Speaks) (s : State) (env : Environment) (t : Term) (bound : List Bound) → AreOperators g env.operators → IsServed g s env t → given.AreJudged g j t → Binds g.types s.bound bound → Means (eval env t bound) (val g j t s) (denominator g t)
+served_sound g j s env t bound o w u b = (term_meant g j s env o t w u).means s.bound bound b
+
 pub answer_sound : (g : Setting) (j : Speaks) (s : State) (env : Environment) (t : Term) (bound : List Bound) → AreOperators g env.operators → AreGiven g s env.reads t → given.AreJudged g j t → Binds g.types s.bound bound → Means (eval env t bound) (val g j t s) (denominator g t)
-answer_sound g j s env t bound o w u b = (term_meant g j s env o t w u).means s.bound bound b
+answer_sound g j s env t bound o w u b = served_sound g j s env t bound o (served_given g s env t w) u b
 
 pub truth_sound : (g : Setting) (j : Speaks) (s : State) (env : Environment) (t : Term) (b : Bool) → AreOperators g env.operators → AreGiven g s env.reads t → given.AreJudged g j t → ev.truth_at env t [] ≡ found b → m.truth (val g j t s) ≡ b
 truth_sound g j s env t b o w u h = subst (λ c. IsTruth c (m.truth (val g j t s))) h (comes_truth (eval env t []) (val g j t s) (denominator g t) (answer_sound g j s env t [] o w u tt))
 
-pub total_sound : (g : Setting) (s : State) (env : Environment) (t : Term) → AreOperators g env.operators → AreGiven g s env.reads t → given.AreJudged g mt.quiet t → given.IsDenominator (total_of env.operators t) (denominator g t)
+pub total_sound : (g : Setting) (s : State) (env : Environment) (t : Term) → AreOperators g env.operators → IsServed g s env t → given.AreJudged g mt.quiet t → given.IsDenominator (total_of env.operators t) (denominator g t)
 total_sound g s env t o w u = step (total_of env.operators t) (term_meant g mt.quiet s env o t w u).total
   where
     step : (c : Comes ℕ) → Finds (IsTotal (denominator g t)) c → given.IsDenominator c (denominator g t)

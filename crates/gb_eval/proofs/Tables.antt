@@ -18,7 +18,7 @@ use Rattle.gb_meaning.specs.Values.{Types, values, value_eq}
 use Rattle.gb_meaning.specs.Distributions as distributions
 use Rattle.gb_meaning.specs.Meanings as m
 use Rattle.gb_meaning.specs.Operators as o
-use Rattle.gb_laws.proofs.Types.{values_finite}
+use Rattle.gb_meaning.proofs.Types.{values_finite}
 use Rattle.gb_eval.specs.Findings.{Comes, ◌>>=◌, after, collected}
 use Rattle.gb_eval.specs.Findings.Finding.{fraction, table}
 use Rattle.gb_eval.specs.Findings.Comes.{found, unknown, overflow}

@@ -16,7 +16,7 @@ use Rattle.gb_meaning.specs.Setting.{Meaning as meaning}
 use Rattle.gb_meaning.specs.Values.{Types, values}
 use Rattle.gb_meaning.specs.Meanings as m
 use Rattle.gb_meaning.specs.Operators.{entry_set, key_type}
-use Rattle.gb_laws.proofs.Types.{values_finite}
+use Rattle.gb_meaning.proofs.Types.{values_finite}
 use Rattle.gb_eval.specs.Findings.{Finding, value_in}
 use Rattle.gb_eval.specs.Findings.Finding.{value, whole, fraction, table}
 use Rattle.gb_eval.specs.Findings.Comes.{found}

@@ -29,6 +29,7 @@ use Rattle.gb_dist.specs.Rows.{scaling_steps}
 use Rattle.gb_goal.specs.Scope.{Declarations}
 use Rattle.gb_reads.specs.Held as held
 use Rattle.gb_reads.specs.Reads.{Vars, are_free, reads_of}
+use Rattle.gb_labels.specs.Labelled.{labelled}
 use Rattle.gb_eval.specs.declared.env.Bound.{Bound}
 use Rattle.gb_eval.specs.declared.env.Bound.TheVariants as to
 use Rattle.gb_eval.specs.declared.env.Env.{Env}
@@ -300,3 +301,7 @@ operators_in s = operators_at s.scope.now s.depth
 
 unfoldable pub environment : Env → Environment
 environment e = record { operators = operators_in e.script; reads = e.reads.now }
+
+-- what a closed term comes to there, with labels in place of the values of modules' globals
+abbrev pub comes_to : Env → Term → Comes Finding
+comes_to e t = eval (environment e) (labelled e.labels.now t) []

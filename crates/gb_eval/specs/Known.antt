@@ -14,7 +14,7 @@ use Rattle.gb_terms.specs.declared.term.Head.TheVariants as head
 use Rattle.gb_goal.specs.Scope.{Declarations}
 use Rattle.gb_meaning.specs.Names.{Name}
 use Rattle.gb_meaning.specs.Operators.{is_distribution, outcome_type}
-use Rattle.gb_typed.specs.Typing.{types_of}
+use Rattle.gb_laws.specs.Typing.{types_of}
 use Rattle.gb_eval.specs.declared.script.Script.{Script}
 use Rattle.gb_eval.specs.Script.{opened}
 

@@ -19,7 +19,8 @@ use Rattle.gb_meaning.specs.State.{State, Binding, closed, under}
 use Rattle.gb_meaning.specs.State.Binding.{value, memory}
 use Rattle.gb_meaning.specs.Terms as mt
 use Rattle.gb_meaning.specs.Terms.{Speaks, denominator, quiet, read_at, val}
-use Rattle.gb_reads.specs.Memories.{IsHeldBy}
+use Rattle.gb_laws.specs.Plain.{IsPlain}
+use Rattle.gb_reads.specs.Memories.{IsHeldBy, IsReadable}
 use Rattle.gb_eval.specs.declared.env.ReadValue.{ReadValue}
 use Rattle.gb_meaning.specs.Names.{Name}
 use Rattle.gb_eval.specs.declared.env.Bound.{Bound}
@@ -97,9 +98,9 @@ pub record IsOperator (f : Function) (result : List Meaning → Meaning) (k : �
 abbrev pub AreOperators : Setting → Operators → Type 0
 AreOperators g ops = (n : Name) → IsOperator (ops n) (g.operator n) (g.denominator n)
 
--- a read of no memory that a binder binds means what is given for it
+-- a read means what is given for it; one of a memory that a binder binds is of a type all values of which memories give it
 abbrev pub is_given : Setting → State → List ReadValue → Read → Ty → Type 0
-is_given g s reads (Program x (side.Bound i)) ty = Unit {0}
+is_given g s reads (Program x (side.Bound i)) ty = IsReadable g.types x ty
 is_given g s reads r ty = Means (value_among reads r) (read_at g r ty s) 1
 
 abbrev pub is_given_at : Setting → State → List ReadValue → Head → Ty → Type 0
@@ -131,7 +132,7 @@ abbrev mutual
 
 -- An operator means its body, in which its parameters are bound, the last one innermost. No quantifier over memories stands in it.
 pub record IsBody (g : Setting) (n : Name) (t : Term) : Type 0 where
-  pub judged : AreJudged g quiet t
+  pub plain : IsPlain t
   pub result : (ms : List Meaning) → g.operator n ms ≡ val g quiet t (record closed { bound = reverse (map value ms) })
   pub total : g.denominator n ≡ denominator g t
 

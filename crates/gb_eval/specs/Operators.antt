@@ -21,7 +21,7 @@ use Rattle.gb_dist.specs.Rows.{product_steps}
 use Rattle.gb_maps.specs.Keys.{are_keys, is_key}
 use Rattle.gb_meaning.specs.Values.{value_eq}
 use Rattle.gb_meaning.specs.Operators.{outcome_type, key_type, entry_of, entry_set, is_none}
-use Rattle.gb_eval.specs.Findings.{Finding, Comes, ◌>>=◌, after, of_number, of_truth, number_in, truth_in, value_in, with_table}
+use Rattle.gb_eval.specs.Findings.{Finding, Comes, ◌>>=◌, after, of_number, of_truth, number_in, truth_in, value_in, fraction_in, with_table}
 use Rattle.gb_eval.specs.Findings.Finding.{value, whole, fraction, table}
 use Rattle.gb_eval.specs.Findings.Comes.{found, unknown}
 
@@ -91,6 +91,11 @@ whole_fraction a = if is_small a then found (fraction (of_whole a)) else unknown
 abbrev pub as_fraction : Finding → Comes Finding
 as_fraction (whole a) = whole_fraction a
 as_fraction x = number_in x >>= λ n. whole_fraction (pos n)
+
+-- a real, or a whole number as a fraction of denominator 1
+abbrev pub real_in : Finding → Comes Fraction
+real_in (whole a) = whole_fraction a >>= fraction_in
+real_in x = fraction_in x
 
 abbrev pub absolute_of : Finding → Comes Finding
 absolute_of (fraction a) = found (fraction (absolute a))

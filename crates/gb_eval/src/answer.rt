@@ -2,7 +2,7 @@
 
 ghost use Rattle.std.specs.Prelude.{◌≡◌};
 ghost use Rattle.gb_core.specs.declared.value.Value.TheVariants.{Num};
-ghost use Rattle.gb_eval.specs.Findings.{Finds, fraction_in, number_in, of_number, of_truth, shown, truth_in, truth_of_number, value_in};
+ghost use Rattle.gb_eval.specs.Findings.{Finds, Gives, fraction_in, number_in, of_number, of_truth, shown, shown_table, table_in, truth_in, truth_of_number, value_in};
 
 use gb_core::refusal::{Refused, Why};
 use gb_core::value::Value;
@@ -122,6 +122,16 @@ pub fn fraction_in(a: &Answer) -> Result<Frac, Stop>
 {
     match a {
         Answer::Fraction(f) => Ok(*f),
+        _ => Err(Stop::Unknown),
+    }
+}
+
+/// The distribution that an answer is.
+pub fn table_in(a: Answer) -> Result<Table, Stop>
+    ensures { Gives shown_table (table_in (shown a)) result }
+{
+    match a {
+        Answer::Table(table) => Ok(table),
         _ => Err(Stop::Unknown),
     }
 }

@@ -11,6 +11,7 @@ use gb_core::Shared;
 use gb_core::ty::Ty;
 use gb_core::value::Value;
 use gb_core::var::Var;
+use gb_labels::labels::Label;
 use gb_num::Frac;
 use gb_reads::held::{HeldValues, value_of as held_value};
 use gb_terms::op::{Read, Side};
@@ -26,11 +27,13 @@ pub struct ReadValue {
 
 pub type ReadValues = Items<ReadValue>;
 
-/// The operators of the script, and the values of reads.
+/// The operators of the script, the values of reads, and for each abstract module how many labels stand for the values of all its
+/// globals.
 #[derive(Clone, Copy)]
 pub struct Env<'a> {
     pub script: Script<'a>,
     pub reads: &'a [ReadValue],
+    pub labels: &'a [Label],
 }
 
 /// What a bound variable stands for; a memory by the values of what is read of it.

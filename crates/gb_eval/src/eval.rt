@@ -7,17 +7,18 @@ ghost use Rattle.gb_reads.specs.Held.{with_values};
 ghost use Rattle.gb_dist.specs.Rows.{entries};
 ghost use Rattle.gb_core.specs.declared.value.Value.TheVariants.{Num};
 ghost use Rattle.gb_eval.specs.declared.env.Bound.TheVariants as to;
-ghost use Rattle.gb_eval.specs.Findings.{Finds, Gives, ◌>>=◌ as ◌and_then◌, fraction_in, shown, shown_table};
+ghost use Rattle.gb_eval.specs.Findings.{Finds, Gives, ◌>>=◌ as ◌and_then◌, fraction_in, shown, shown_table, table_in, truth_in, value_in};
 ghost use Rattle.gb_eval.specs.Findings.Finding.{whole};
+ghost use Rattle.gb_eval.specs.Operators.{real_in};
 ghost use Rattle.gb_eval.specs.Totals.{total_of};
-ghost use Rattle.gb_eval.specs.Eval.{arguments, at_three, called, conditional, connected, environment, eval, event, image_of, images, map_update, in_memories, mapped, may_have, measured, memories_of, number_of_memories, remembered, narrowed, next_sum, operated, part_of, quantified, restricted, result_at, scaled, summed, table_under, truth_at, tuple, weighed};
+ghost use Rattle.gb_eval.specs.Eval.{arguments, at_three, called, comes_to, conditional, connected, environment, eval, event, image_of, images, map_update, in_memories, mapped, may_have, measured, memories_of, number_of_memories, remembered, narrowed, next_sum, operated, part_of, quantified, restricted, result_at, scaled, summed, table_under, truth_at, tuple, weighed};
 
-use crate::answer::{Answer, Stop, fraction_in, of_truth, truth_in, value_in};
+use crate::answer::{Answer, Stop, fraction_in, of_truth, table_in, truth_in, value_in};
 use crate::env::{Bound, Bounds, Env, argument_of, value_bound, value_of};
 use crate::known::is_tuple;
 use crate::making::{imaged, weighted};
 use crate::maps::updated;
-use crate::numbers::chance;
+use crate::numbers::{chance, real_in};
 use crate::operators::{binary, is_connective, left_decides, nullary, right_decides, unary};
 use crate::script::{body_of, inside};
 use crate::total::{is_distribution, total};
@@ -29,6 +30,7 @@ use gb_core::value::{Card, Value, Values};
 use gb_dist::parts::{choose, mass, restrict};
 use gb_dist::row::Row;
 use gb_dist::table::Table;
+use gb_labels::labelled::labelled;
 use gb_members::counted::values_tried;
 use gb_num::{Frac, add};
 use gb_reads::held::with_values;
@@ -41,18 +43,60 @@ use gb_types::nth::nth;
 use sqlite_items::Items;
 use std::alloc::{AllocError, Global};
 
-/// The truth of a form in an environment. Operands come to something from left to right; a connective and a
-/// conditional leave out what the left side decides; a quantifier tries the values of its type in order and stops at the first
-/// that decides.
+/// What a closed term comes to in an environment, with labels in place of the values of modules' globals. Operands come to something
+/// from left to right; a connective and a conditional leave out what the left side decides; a quantifier tries the values of its type
+/// in order and stops at the first that decides.
+fn comes_to(alloc: Global, t: &Term, env: &Env<'_>) -> Result<Answer, Stop>
+    ensures { Gives shown (comes_to env.now t.now) result }
+{
+    let t = labelled(alloc, t, env.labels)?;
+    let mut bound = Items::new(alloc);
+    eval(alloc, &t, env, &mut bound)
+}
+
+/// The value of a closed term of a finite type.
 ///
 /// # Errors
 /// `Unknown` at the first part that is opaque; `Overflow` with the operands of the first operation on whole numbers whose
-/// result is out of range.
-pub fn truth(alloc: Global, t: &Form, env: &Env<'_>) -> Result<bool, Stop>
-    ensures { Finds (truth_at (environment env.now) t.now []) result }
+/// result is out of range; `NoMemory`.
+pub fn value(alloc: Global, t: &Term, env: &Env<'_>) -> Result<Value, Stop>
+    ensures { Finds (comes_to env.now t.now and_then value_in) result }
 {
-    let mut bound = Items::new(alloc);
-    truth_under(alloc, t, env, &mut bound)
+    let found = comes_to(alloc, t, env)?;
+    value_in(found)
+}
+
+/// The truth of a closed form.
+///
+/// # Errors
+/// As of `value`.
+pub fn truth(alloc: Global, t: &Form, env: &Env<'_>) -> Result<bool, Stop>
+    ensures { Finds (comes_to env.now t.now and_then truth_in) result }
+{
+    let found = comes_to(alloc, t, env)?;
+    truth_in(&found)
+}
+
+/// The fraction that a closed term of type `real` or `int` is, a whole number over 1.
+///
+/// # Errors
+/// As of `value`.
+pub fn real(alloc: Global, t: &Term, env: &Env<'_>) -> Result<Frac, Stop>
+    ensures { Finds (comes_to env.now t.now and_then real_in) result }
+{
+    let found = comes_to(alloc, t, env)?;
+    real_in(&found)
+}
+
+/// The distribution that a closed term is.
+///
+/// # Errors
+/// As of `value`.
+pub fn table(alloc: Global, t: &Term, env: &Env<'_>) -> Result<Table, Stop>
+    ensures { Gives shown_table (comes_to env.now t.now and_then table_in) result }
+{
+    let found = comes_to(alloc, t, env)?;
+    table_in(found)
 }
 
 #[cycle(eval)]
@@ -67,7 +111,7 @@ fn truth_under(alloc: Global, t: &Term, env: &Env<'_>, bound: &mut Bounds) -> Re
 /// What a term comes to, under what the variables bound around it stand for, the innermost last. The arguments of an operator of
 /// the script come to something before its body does.
 #[cycle(eval)]
-pub fn eval(alloc: Global, t: &Term, env: &Env<'_>, bound: &mut Bounds) -> Result<Answer, Stop>
+fn eval(alloc: Global, t: &Term, env: &Env<'_>, bound: &mut Bounds) -> Result<Answer, Stop>
     ensures found { Gives shown (eval (environment env.now) t.now (reverse bound.old)) result }
     ensures bound { OnOk result (bound.new ≡ bound.old) }
 {
@@ -145,6 +189,7 @@ fn applied(alloc: Global, name: &Name, env: &Env<'_>, args: &mut Bounds) -> Resu
             let inner = Env {
                 script: inside(&env.script),
                 reads: &[],
+                labels: &[],
             };
             eval(alloc, body, &inner, args)
         }
@@ -506,14 +551,12 @@ fn event(
 
 /// The distribution that a term comes to.
 #[cycle(eval)]
-fn table(alloc: Global, t: &Term, env: &Env<'_>, bound: &mut Bounds) -> Result<Table, Stop>
+fn table_under(alloc: Global, t: &Term, env: &Env<'_>, bound: &mut Bounds) -> Result<Table, Stop>
     ensures found { Gives shown_table (table_under (part_of (environment env.now) t.now) (reverse bound.old)) result }
     ensures bound { OnOk result (bound.new ≡ bound.old) }
 {
-    match eval(alloc, t, env, bound)? {
-        Answer::Table(table) => Ok(table),
-        _ => Err(Stop::Unknown),
-    }
+    let found = eval(alloc, t, env, bound)?;
+    table_in(found)
 }
 
 /// The measure of an event in a table.
@@ -559,7 +602,7 @@ fn measure(alloc: Global, args: &[Term], env: &Env<'_>, bound: &mut Bounds) -> R
     let [d, body] = args else {
         return Err(Stop::Unknown);
     };
-    let table = table(alloc, d, env, bound)?;
+    let table = table_under(alloc, d, env, bound)?;
     weighed(alloc, body, &table, env, bound)
 }
 
@@ -577,7 +620,7 @@ fn restriction(
     let [d, body] = args else {
         return Err(Stop::Unknown);
     };
-    let table = table(alloc, d, env, bound)?;
+    let table = table_under(alloc, d, env, bound)?;
     narrowed(alloc, body, &table, env, bound)
 }
 
@@ -628,7 +671,7 @@ fn image(alloc: Global, args: &[Term], env: &Env<'_>, bound: &mut Bounds) -> Res
     let [d, body] = args else {
         return Err(Stop::Unknown);
     };
-    let table = table(alloc, d, env, bound)?;
+    let table = table_under(alloc, d, env, bound)?;
     image_of(alloc, body, &table, env, bound)
 }
 

@@ -7,9 +7,9 @@ ghost use Rattle.gb_num.specs.Fractions.{Fraction};
 ghost use Rattle.gb_num.specs.Operations.{Operation, outcome};
 ghost use Rattle.gb_eval.specs.Findings.{Finds, Gives, after, shown};
 ghost use Rattle.gb_eval.specs.Findings.Finding.{fraction};
-ghost use Rattle.gb_eval.specs.Operators.{absolute_of, arithmetic, as_fraction, chance, fraction_at, is_divisor, modulo, number_at, opposite, order, same, whole_at, whole_fraction};
+ghost use Rattle.gb_eval.specs.Operators.{absolute_of, arithmetic, as_fraction, chance, fraction_at, is_divisor, modulo, number_at, opposite, order, real_in, same, whole_at, whole_fraction};
 
-use crate::answer::{Answer, Stop, number_in};
+use crate::answer::{Answer, Stop, fraction_in, number_in};
 use gb_core::same::same_value;
 use gb_core::ty::Ty;
 use gb_core::value::Value;
@@ -181,6 +181,19 @@ pub fn as_fraction(a: &Answer) -> Result<Answer, Stop>
             let n = number_in(a)?;
             whole_fraction(i128::from(n))
         }
+    }
+}
+
+/// A real, or a whole number as a fraction of denominator 1.
+pub fn real_in(a: &Answer) -> Result<Frac, Stop>
+    ensures { Finds (real_in (shown a.now)) result }
+{
+    match a {
+        Answer::Whole(n) => {
+            let found = whole_fraction(*n)?;
+            fraction_in(&found)
+        }
+        _ => fraction_in(a),
     }
 }
 

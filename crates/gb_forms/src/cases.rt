@@ -13,10 +13,9 @@ use std::alloc::{AllocError, Global};
 pub fn two(alloc: Global, goal: &Sequent, first: Form, second: Form) -> Result<Sequents, AllocError>
     ensures { IfOk result (λ goals. goals ≡ record goal.now { conclusion = first } ∷ record goal.now { conclusion = second } ∷ []) }
 {
-    let mut goals = Items::new(alloc);
-    goals.push(goal.with_conclusion(first)?)?;
-    goals.push(goal.with_conclusion(second)?)?;
-    Ok(goals)
+    let first = goal.with_conclusion(first)?;
+    let second = goal.with_conclusion(second)?;
+    Ok(Items::from_vec(vec![in alloc; first, second]?))
 }
 
 /// A conclusion under a premise.

@@ -5,9 +5,9 @@ ghost use Rattle.gb_typing.specs.Forms.{and_form};
 ghost use Rattle.gb_typing.specs.Samplings.{sampling_of};
 ghost use Rattle.gb_forms.specs.Surely.{drawing, surely_drawn};
 
-use gb_chance::compared::{compared, number};
 use gb_core::Shared;
 use gb_core::ty::Ty;
+use gb_parts::compared::{compared, number};
 use gb_parts::forms::located;
 use gb_terms::make::{boolean, conjunction, term};
 use gb_terms::op::{Rel, Side};
@@ -20,9 +20,9 @@ use std::alloc::{AllocError, Global};
 fn drawing(alloc: Global, sampling: &Last<'_>, side: Side) -> Result<RealTerm, AllocError>
     ensures { IfOk result (λ made. made ≡ drawing side (sampling_of sampling.now)) }
 {
-    let mut args = Items::new(alloc);
-    args.push(located(alloc, sampling.from, side)?)?;
-    args.push(boolean(alloc, true)?)?;
+    let from = located(alloc, sampling.from, side)?;
+    let truth = boolean(alloc, true)?;
+    let args = Items::from_vec(vec![in alloc; from, truth]?);
     let real = Shared::new(alloc, Ty::Real)?;
     term(alloc, Head::Mu, args, real)
 }

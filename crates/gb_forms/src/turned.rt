@@ -29,10 +29,9 @@ fn exchanged(alloc: Global, form: &Form) -> Result<Form, AllocError>
 fn exchanged_conditions(alloc: Global, pre: &Form, post: &Form) -> Result<Terms, AllocError>
     ensures { IfOk result (λ made. made ≡ exchanged pre.now ∷ exchanged post.now ∷ []) }
 {
-    let mut args = Items::new(alloc);
-    args.push(exchanged(alloc, pre)?)?;
-    args.push(exchanged(alloc, post)?)?;
-    Ok(args)
+    let pre = exchanged(alloc, pre)?;
+    let post = exchanged(alloc, post)?;
+    Ok(Items::from_vec(vec![in alloc; pre, post]?))
 }
 
 /// The equivalence of two programs in the other order.

@@ -20,9 +20,9 @@ use Rattle.gb_meaning.specs.Program.Routine.{routine}
 use Rattle.gb_meaning.specs.Sound.{IsFull, Full, FullRoutine}
 use Rattle.gb_meaning.specs.State.{State}
 use Rattle.gb_meaning.specs.Written.{type_of}
-use Rattle.gb_laws.proofs.Totals.{run_total}
-use Rattle.gb_typed.specs.Operators.{IsDistributionType}
-use Rattle.gb_typed.proofs.Drawn.{typed_full}
+use Rattle.gb_meaning.proofs.Totals.{run_total}
+use Rattle.gb_laws.specs.Operators.{IsDistributionType}
+use Rattle.gb_laws.proofs.Drawn.{typed_full}
 use Rattle.gb_typing.specs.Context.{Context, erased, of_program}
 use Rattle.gb_typing.specs.Fits.{IsSettingOf}
 use Rattle.gb_typing.specs.Programs.{IsExpression, IsBody, AreStatements, EachStatement, locals_of}

@@ -25,15 +25,15 @@ use Rattle.gb_meaning.specs.Written.{type_of}
 use Rattle.gb_holds.specs.Declared.{Declarations, Declaration, declaration_of, declared, operator, abstract_operator}
 use Rattle.gb_holds.specs.Settings.{Table, types_of, bare, at_arguments, with_declaration, with_operators as with_each_operator, setting}
 use Rattle.gb_holds.proofs.SettingTypes.{setting-types}
-use Rattle.gb_later.specs.Agreement.{SameOperator}
-use Rattle.gb_typed.specs.Context.{IsUnrestrictedHead, IsUnrestricted, AreUnrestricted, IsFullOperator, IsFullHead, NamesFull, AllNameFull, AreOf, gives_distributions}
-use Rattle.gb_typed.specs.Context as of_setting
-use Rattle.gb_typed.specs.Finite.{IsInhabited}
-use Rattle.gb_typed.specs.Meant.{IsOf}
-use Rattle.gb_typed.specs.Operators.{IsDistributionType}
-use Rattle.gb_typed.specs.Typing.{OperatorType, inner}
-use Rattle.gb_typed.specs.Typing as typed
-use Rattle.gb_typed.proofs.Drawn.{typed_full}
+use Rattle.gb_typing.specs.Agreement.{SameOperator}
+use Rattle.gb_laws.specs.Context.{IsUnrestrictedHead, IsUnrestricted, AreUnrestricted, IsFullOperator, IsFullHead, NamesFull, AllNameFull, AreOf, gives_distributions}
+use Rattle.gb_laws.specs.Context as of_setting
+use Rattle.gb_laws.specs.Finite.{IsInhabited}
+use Rattle.gb_laws.specs.Meant.{IsOf}
+use Rattle.gb_laws.specs.Operators.{IsDistributionType}
+use Rattle.gb_laws.specs.Typing.{OperatorType, inner}
+use Rattle.gb_laws.specs.Typing as typed
+use Rattle.gb_laws.proofs.Drawn.{typed_full}
 use Rattle.gb_typing.specs.Context.{Context, erased}
 use Rattle.gb_typing.specs.Formulas.{with_module}
 use Rattle.gb_typing.specs.Rules.{IsSettingOver}

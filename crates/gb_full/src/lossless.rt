@@ -8,10 +8,10 @@ ghost use Rattle.gb_full.specs.Loss.{loss_seen};
 ghost use Rattle.gb_full.specs.Lossless.{full, of_rest};
 
 use crate::loss::Loss;
-use gb_chance::compared::number_compared;
 use gb_core::copy::copy_var;
 use gb_core::refusal::{Refused, Why};
 use gb_goal::sequent::{Sequent, Sequents};
+use gb_parts::compared::number_compared;
 use gb_parts::subgoals::{no_shape, one_goal, refusal, two_goals};
 use gb_terms::op::Rel;
 use gb_terms::term::{Form, RealTerm};

@@ -26,7 +26,7 @@ use Rattle.gb_meaning.specs.Sound.{IsSound}
 use Rattle.gb_meaning.specs.State.{State, at}
 use Rattle.gb_meaning.specs.Terms.{val}
 use Rattle.gb_meaning.specs.Written.{type_of}
-use Rattle.gb_laws.proofs.Runs.{run_positive, run_entries}
+use Rattle.gb_meaning.proofs.Runs.{run_positive, run_entries}
 use Rattle.gb_holds.specs.Declared.{Declarations}
 use Rattle.gb_goal.specs.Answers.Answer.{given}
 use Rattle.gb_goal.specs.Goal.{Goal}
@@ -43,7 +43,7 @@ use Rattle.gb_typing.specs.Programs.{EachStatement, IsBody, IsExpression}
 use Rattle.gb_typing.specs.Rules.{no_arguments}
 use Rattle.gb_typing.specs.Typing.{IsForm}
 use Rattle.gb_typing.proofs.Drawing.{body_sound}
-use Rattle.gb_laws.proofs.Truths.{true_not}
+use Rattle.gb_meaning.proofs.Truths.{true_not}
 use Rattle.gb_typing.proofs.Forms.{not_typed}
 use Rattle.gb_typing.proofs.Given.{refused_given, same_given}
 use Rattle.gb_typing.proofs.InMemory.{located_value, test_typed}

@@ -21,9 +21,9 @@ use Rattle.gb_meaning.specs.Runs.{out, run_denominator, is_true, most_turns}
 use Rattle.gb_meaning.specs.Setting.{Setting}
 use Rattle.gb_meaning.specs.State.{State, closed}
 use Rattle.gb_meaning.specs.Written.{type_of}
-use Rattle.gb_laws.proofs.Bodies.{statement_if, statement_while}
-use Rattle.gb_laws.proofs.Runs.{pow-pos, run_positive}
-use Rattle.gb_laws.proofs.Sequence.{followed_run, followed_denominator}
+use Rattle.gb_meaning.proofs.Bodies.{statement_if, statement_while}
+use Rattle.gb_meaning.proofs.Runs.{pow-pos, run_positive}
+use Rattle.gb_meaning.proofs.Sequence.{followed_run, followed_denominator}
 use Rattle.gb_typing.specs.Context.{Context}
 use Rattle.gb_typing.specs.Fits.{IsSettingOf}
 use Rattle.gb_typing.specs.Meaning.{denominator}

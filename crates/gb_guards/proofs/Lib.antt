@@ -4,3 +4,5 @@ pub mod RulesAreSound
 pub mod Shapes
 mod Turns
 mod UnrollIsSound
+mod Decides
+mod Unrolls

@@ -15,8 +15,8 @@ use Rattle.gb_meaning.specs.Program.Program.{done, branch, loop}
 use Rattle.gb_meaning.specs.Runs.{out, run_denominator, is_true}
 use Rattle.gb_meaning.specs.Setting.{Setting}
 use Rattle.gb_meaning.specs.State.{State}
-use Rattle.gb_laws.proofs.Bodies.{statement_if, statement_while}
-use Rattle.gb_laws.proofs.Sequence.{followed_run, followed_denominator}
+use Rattle.gb_meaning.proofs.Bodies.{statement_if, statement_while}
+use Rattle.gb_meaning.proofs.Sequence.{followed_run, followed_denominator}
 use Rattle.gb_typing.specs.Meaning.{denominator}
 use Rattle.gb_prog.specs.Loops.{unrolled, RunAlike}
 use Rattle.gb_prog.proofs.Loops.{unrolls}

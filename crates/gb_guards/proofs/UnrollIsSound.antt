@@ -10,7 +10,7 @@ use Rattle.gb_terms.specs.declared.term.Term.{Term}
 use Rattle.gb_meaning.specs.Commands.{statements}
 use Rattle.gb_meaning.specs.Setting.{Setting}
 use Rattle.gb_meaning.specs.State.{State, closed}
-use Rattle.gb_laws.proofs.Runs.{run_positive}
+use Rattle.gb_meaning.proofs.Runs.{run_positive}
 use Rattle.gb_holds.specs.Declared.{Declarations}
 use Rattle.gb_goal.specs.Answers.Answer.{given}
 use Rattle.gb_steps.specs.declared.step.Acts.{Acts}

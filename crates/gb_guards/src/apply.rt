@@ -1,16 +1,15 @@
 //! The rule that a proof step names.
 
 ghost use Rattle.gb_goal.specs.Answers.{Answers};
-ghost use Rattle.gb_goal.specs.Rows.{answered, stepped};
-ghost use Rattle.gb_guards.specs.Rows.{guard_row, rule_row};
+ghost use Rattle.gb_goal.specs.Rows.{answered};
+ghost use Rattle.gb_guards.specs.Rows.{guard_row};
 
 use crate::decided::decide;
 use crate::unrolled::unroll;
 use gb_core::refusal::Refused;
 use gb_goal::scope::Scope;
 use gb_goal::sequent::{Sequent, Sequents};
-use gb_parts::subgoals::{no_shape, placed};
-use gb_steps::step::{Acts, Rule, Step, Transformation};
+use gb_steps::step::{Acts, Transformation};
 use gb_trans::apply::transform;
 use std::alloc::Global;
 
@@ -29,24 +28,4 @@ pub fn guarded(
         Transformation::Unroll(at) => unroll(alloc, goal, acts, *at),
         _ => transform(alloc, acts, rule, goal, scope),
     }
-}
-
-/// The subgoals of a rule. Refused with `Shape` at a rule of another family.
-fn answer(alloc: Global, rule: &Rule, goal: &Sequent, scope: &Scope) -> Result<Sequents, Refused>
-    ensures { Answers (answered (rule_row scope.now rule.now) goal.now) result }
-{
-    match rule {
-        Rule::Transform(acts, transformation) => {
-            guarded(alloc, *acts, transformation, goal, scope)
-        }
-        _ => Err(no_shape()),
-    }
-}
-
-/// The subgoals of such a rule at a goal, in order. Refused as the rule says, at the place of the step.
-pub fn apply(alloc: Global, step: &Step, goal: &Sequent, scope: &Scope) -> Result<Sequents, Refused>
-    ensures { Answers (stepped (rule_row scope.now step.now.rule) step.now.place goal.now) result }
-{
-    let made = answer(alloc, &step.rule, goal, scope);
-    placed(made, step.place)
 }

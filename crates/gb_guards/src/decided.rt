@@ -1,8 +1,9 @@
 // The rules `rcondt` and `rcondf`.
 
-ghost use Rattle.std.specs.Prelude.{◌≡◌, ◌++◌, IfOk};
+ghost use Rattle.std.specs.Prelude.{◌≡◌, ◌++◌, Some, IfOk};
 ghost use Rattle.std.specs.Option.{option_map};
 ghost use Rattle.gb_goal.specs.Answers.{Answers};
+ghost use Rattle.gb_goal.specs.Answers.Answer.{given};
 ghost use Rattle.gb_goal.specs.Goal.{form_of};
 ghost use Rattle.gb_goal.specs.Goal.Code.{body};
 ghost use Rattle.gb_goal.specs.Goal.Goal.{hoare};
@@ -13,18 +14,18 @@ ghost use Rattle.gb_trans.specs.Places.{placed_seen};
 ghost use Rattle.gb_premises.specs.Decided.{deciding};
 ghost use Rattle.gb_guards.specs.Decided.{decided, decided_row, decision, decision_goals, decision_seen, left_seen};
 
-use gb_core::SharedItems;
 use gb_core::refusal::{Refused, Why};
 use gb_goal::goal;
 use gb_goal::goal::goal_of;
 use gb_goal::sequent::{Sequent, Sequents};
-use gb_parts::one_body::{OneBody, filled, one_body};
+use gb_parts::one_body::{OneBody, one_body};
 use gb_parts::subgoals::{no_shape, refusal, shared_body, two_goals};
 use gb_premises::decided::deciding;
 use gb_steps::step::Acts;
 use gb_terms::term::{Cmd, Form, Instr, Instrs, Term};
 use gb_trans::places::{Placed, statement_at};
 use gb_trans::swap::with_statements;
+use gb_trans::transformed::judged;
 use sqlite_items::Items;
 use std::alloc::{AllocError, Global};
 
@@ -86,17 +87,12 @@ fn with_left(
 }
 
 /// The body with what is left of a statement in its place.
-fn with_decision(
-    alloc: Global,
-    at: &Placed<'_>,
-    left: Left<'_>,
-) -> Result<SharedItems<Instr>, AllocError>
+fn with_decision(alloc: Global, at: &Placed<'_>, left: Left<'_>) -> Result<Instrs, AllocError>
     ensures { IfOk result (λ made. made ≡ (let k = placed_seen at.now in k.before ++ (left_seen k.statement left.entry ++ k.rest))) }
 {
     let list = with_statements(alloc, Items::new(alloc), at.before)?;
     let list = with_left(alloc, list, at.statement, left)?;
-    let list = with_statements(alloc, list, at.rest)?;
-    SharedItems::new(alloc, list)
+    with_statements(alloc, list, at.rest)
 }
 
 /// The judgment that the guard is as it is said after what stands before the statement.
@@ -126,9 +122,7 @@ pub fn goal_left(
         o.goal (k.before ++ (left_seen k.statement left.entry ++ k.rest)) o.pre o.post)) }
 {
     let list = with_decision(alloc, at, left)?;
-    let pre = one.pre.share()?;
-    let post = one.post.share()?;
-    filled(alloc, one.around, list, pre, post)
+    judged(alloc, one, list)
 }
 
 /// The goals where the guard of the statement at a place is as it is said.
@@ -138,18 +132,16 @@ fn decision_goals(
     holds: bool,
     one: &OneBody<'_>,
     at: &Placed<'_>,
-) -> Result<Sequents, Refused>
-    ensures { Answers (each_concluding goal.now (let k = placed_seen at.now in decision_goals holds (one_seen one.now) k (decision holds k.statement (out-Instr k.statement)))) result }
+    known: &Guarded<'_>,
+) -> Result<Sequents, AllocError>
+    ensures { IfOk result (λ made. given made ≡ each_concluding goal.now (let k = placed_seen at.now in decision_goals holds (one_seen one.now) k (Some (decision_seen k.statement known.now)))) }
 {
-    let Some(decided) = decision(holds, at.statement) else {
-        return Err(no_shape());
-    };
-    let first = guard_judged(alloc, holds, one.pre, at.before, decided.guard)?;
-    let second = goal_left(alloc, one, at, decided.left)?;
-    Ok(two_goals(alloc, goal, first, second)?)
+    let first = guard_judged(alloc, holds, one.pre, at.before, known.guard)?;
+    let second = goal_left(alloc, one, at, known.left)?;
+    two_goals(alloc, goal, first, second)
 }
 
-/// The same of a place that the body may not have.
+/// The same of a place that the body may not have, and of a statement that may have no guard.
 fn decided(
     alloc: Global,
     goal: &Sequent,
@@ -159,10 +151,13 @@ fn decided(
 ) -> Result<Sequents, Refused>
     ensures { Answers (each_concluding goal.now (decided at holds (one_seen one.now))) result }
 {
-    match statement_at(at, one.list) {
-        Some(found) => decision_goals(alloc, goal, holds, one, &found),
-        None => Err(refusal(Why::Argument)),
-    }
+    let Some(found) = statement_at(at, one.list) else {
+        return Err(refusal(Why::Argument));
+    };
+    let Some(known) = decision(holds, found.statement) else {
+        return Err(no_shape());
+    };
+    Ok(decision_goals(alloc, goal, holds, one, &found, &known)?)
 }
 
 /// The subgoals of `rcondt` and `rcondf`: the guard of the statement at a place is always true, or false, where it stands; and the goal with

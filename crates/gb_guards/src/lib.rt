@@ -3,5 +3,6 @@
 
 pub mod apply;
 pub mod decided;
+pub mod event_laws;
 pub mod laws;
 pub mod unrolled;

@@ -16,8 +16,8 @@ use Rattle.gb_types.specs.Numbering.{Numbering, first_or, parts_in, parts_of}
 use Rattle.gb_types.specs.Types.{finite_step, is_finite, numbering, numbering_step}
 use Rattle.gb_types.proofs.Lawful.{out-Many}
 use Rattle.gb_types.proofs.Steps.{entries_at-zero}
-use Rattle.gb_laws.proofs.Runs.{pow-pos}
-use Rattle.gb_laws.proofs.Nodes.{val_node}
+use Rattle.gb_meaning.proofs.Runs.{pow-pos}
+use Rattle.gb_meaning.proofs.Nodes.{val_node}
 use Rattle.gb_meaning.specs.Meanings.{value_in}
 use Rattle.gb_meaning.specs.Memory.{Memory}
 use Rattle.gb_meaning.specs.Runs.{valued}
@@ -26,13 +26,13 @@ use Rattle.gb_meaning.specs.State.{State, inside}
 use Rattle.gb_meaning.specs.Terms.{quiet}
 use Rattle.gb_meaning.specs.Values.{first, values}
 use Rattle.gb_meaning.specs.Written.{type_of}
-use Rattle.gb_changes.specs.Plain.{IsPlain}
-use Rattle.gb_changes.proofs.Puts.{plain_node}
-use Rattle.gb_typed.specs.Finite.{AreFiniteWith, IsFinite, IsVariableType}
-use Rattle.gb_typed.specs.Operators.{IsOperator, IsOptionType}
-use Rattle.gb_typed.specs.Typing.{IsLiteral}
-use Rattle.gb_typed.proofs.Constructors.{option_is}
-use Rattle.gb_typed.proofs.Meanings.{number_has}
+use Rattle.gb_laws.specs.Plain.{IsPlain}
+use Rattle.gb_laws.proofs.Puts.{plain_node}
+use Rattle.gb_laws.specs.Finite.{AreFiniteWith, IsFinite, IsVariableType}
+use Rattle.gb_laws.specs.Operators.{IsOperator, IsOptionType}
+use Rattle.gb_laws.specs.Typing.{IsLiteral}
+use Rattle.gb_laws.proofs.Constructors.{option_is}
+use Rattle.gb_laws.proofs.Meanings.{number_has}
 use Rattle.gb_typing.specs.Changes.{Made}
 use Rattle.gb_typing.specs.Context.{Context, of_program}
 use Rattle.gb_typing.specs.Programs.{IsValued}

@@ -14,8 +14,8 @@ use Rattle.gb_meaning.specs.Runs.{is_true, most_turns, out, run_denominator, tur
 use Rattle.gb_meaning.specs.Setting.{Setting}
 use Rattle.gb_meaning.specs.Sound.{IsSound}
 use Rattle.gb_meaning.specs.State.{State}
-use Rattle.gb_laws.proofs.Runs.{pow-pos, run_positive}
-use Rattle.gb_local.proofs.Zips.{Zip}
+use Rattle.gb_meaning.proofs.Runs.{pow-pos, run_positive}
+use Rattle.gb_laws.proofs.Zips.{Zip}
 use Rattle.gb_prog.proofs.Loops.{loop_ends}
 use Rattle.gb_prog.proofs.Turns.{Ended, bind_parts, ended_alike}
 use Rattle.gb_inline.proofs.Matched.{Matches, match_done, match_loop, match_turns}

@@ -26,8 +26,8 @@ use Rattle.gb_goal.specs.Goal.Goal.{hoare, phoare, equiv, ambient}
 use Rattle.gb_goal.specs.Scope.{Declarations}
 use Rattle.gb_goal.specs.declared.sequent.Sequent.{Sequent}
 use Rattle.gb_holds.specs.Declared.{declared}
-use Rattle.gb_laws.proofs.Runs.{run_entries, run_positive}
-use Rattle.gb_local.proofs.Zips.{Zip, zip_weight}
+use Rattle.gb_meaning.proofs.Runs.{run_entries, run_positive}
+use Rattle.gb_laws.proofs.Zips.{Zip, zip_weight}
 use Rattle.gb_meaning.specs.Commands.{statements}
 use Rattle.gb_meaning.specs.Judgments.{Judge, IsFair, IsTrueUnder, compares, den, speaking}
 use Rattle.gb_meaning.specs.Meanings.{fraction_in}

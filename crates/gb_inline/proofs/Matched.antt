@@ -11,7 +11,7 @@ use Rattle.gb_meaning.specs.Runs.{most_turns, turns_at, turns, is_true, run_deno
 use Rattle.gb_meaning.specs.Setting.{Setting}
 use Rattle.gb_meaning.specs.State.{State, inside}
 use Rattle.gb_meaning.specs.Terms.{denominator, distribution}
-use Rattle.gb_local.proofs.Zips.{Zip, zip-scale, zip-if, zip-bind, zip-dmap, zip-equal, zip-turns}
+use Rattle.gb_laws.proofs.Zips.{Zip, zip-scale, zip-if, zip-bind, zip-dmap, zip-equal, zip-turns}
 
 -- the same denominators, and related ends
 pub record Matches (g : Setting) (R : Memory → Memory → Type 0) (s q : State) (a b : Program) : Type 0 where

@@ -19,7 +19,7 @@ use Rattle.gb_terms.proofs.Equality.{var_eq-Decides}
 use Rattle.gb_types.specs.Numbering.{parts_of}
 use Rattle.gb_walk.specs.Clash.{all_of, each_read, outside, read_by, variables_read}
 use Rattle.gb_holds.specs.Footprints.{head_variables, variables, variables_in}
-use Rattle.gb_laws.proofs.Maps.{get-set_other, get-set_same, path_discrete}
+use Rattle.gb_meaning.proofs.Maps.{get-set_other, get-set_same, path_discrete}
 use Rattle.gb_meaning.specs.Commands.{terms_in}
 use Rattle.gb_meaning.specs.Meanings.{value_in}
 use Rattle.gb_meaning.specs.Memory.{Memory, assigned, read, write, write_each, write_globals, write_local}
@@ -31,10 +31,10 @@ use Rattle.gb_meaning.specs.State.{State, inside}
 use Rattle.gb_meaning.specs.Terms.{quiet, val}
 use Rattle.gb_meaning.specs.Values.{Global, fit}
 use Rattle.gb_meaning.specs.Written.{local_type}
-use Rattle.gb_changes.specs.Agree.{Agree}
-use Rattle.gb_changes.specs.Uses.{Uses}
-use Rattle.gb_changes.specs.Uses.Use.{read as reads, bound, globals, starts, binds_own, binds_sides}
-use Rattle.gb_changes.proofs.Agreeing.{term_agrees}
+use Rattle.gb_laws.specs.Agree.{Agree}
+use Rattle.gb_laws.specs.Uses.{Uses}
+use Rattle.gb_laws.specs.Uses.Use.{read as reads, bound, globals, starts, binds_own, binds_sides}
+use Rattle.gb_laws.proofs.Agreeing.{term_agrees}
 use Rattle.gb_typing.specs.Context.{Context, of_program}
 use Rattle.gb_typing.specs.Programs.{AreArguments, IsExpression}
 use Rattle.gb_typing.specs.Puts.{reading}

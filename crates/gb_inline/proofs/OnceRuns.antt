@@ -12,7 +12,7 @@ use Rattle.gb_terms.specs.declared.term.Head.TheVariants.{Assign, Sample, Call',
 use Rattle.gb_terms.specs.declared.term.Term.{Term, Row_of-Term}
 use Rattle.gb_holds.specs.Footprints.{touched_in, variables, variables_in}
 use Rattle.gb_holds.specs.Holds.{LoopsAreGood}
-use Rattle.gb_laws.proofs.Bodies.{statement_if, statement_while}
+use Rattle.gb_meaning.proofs.Bodies.{statement_if, statement_while}
 use Rattle.gb_meaning.specs.Commands.{called, program_of, statement, statements, terms_in}
 use Rattle.gb_meaning.specs.Loops.{IsGood}
 use Rattle.gb_meaning.specs.Meanings.{number_in, truth, weights_in}

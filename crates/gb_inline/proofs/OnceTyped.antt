@@ -18,8 +18,8 @@ use Rattle.gb_meaning.specs.Commands.{terms_in}
 use Rattle.gb_meaning.specs.Names.{Name}
 use Rattle.gb_meaning.specs.Written.{IsModulo, local_type, type_of}
 use Rattle.gb_mods.specs.Touched.{apart, each_touched, statement_touched}
-use Rattle.gb_typed.specs.Operators.{parts_in}
-use Rattle.gb_typed.specs.Programs.{HaveTypes, Take, variable_type}
+use Rattle.gb_laws.specs.Operators.{parts_in}
+use Rattle.gb_laws.specs.Programs.{HaveTypes, Take, variable_type}
 use Rattle.gb_typing.specs.Context.{Context, erased, procedure}
 use Rattle.gb_typing.specs.Modules.{ProcedureType}
 use Rattle.gb_typing.specs.Programs.{AreArguments, AreStatements, EachStatement, HaveVariableTypes, IsCall, IsExpression, IsStatement}

@@ -13,9 +13,9 @@ use Rattle.gb_terms.specs.declared.decl.TypedName.{TypedName}
 use Rattle.gb_terms.specs.declared.term.Instr.{Instr}
 use Rattle.gb_terms.specs.declared.term.Term.{Term}
 use Rattle.gb_walk.specs.Change.{Changes, term_changed}
-use Rattle.gb_laws.proofs.Maps.{get-set_other, get-set_same}
-use Rattle.gb_laws.proofs.Sequence.{followed_denominator, followed_run}
-use Rattle.gb_local.proofs.Zips.{Zip, zip-bind, zip-dmap}
+use Rattle.gb_meaning.proofs.Maps.{get-set_other, get-set_same}
+use Rattle.gb_meaning.proofs.Sequence.{followed_denominator, followed_run}
+use Rattle.gb_laws.proofs.Zips.{Zip, zip-bind, zip-dmap}
 use Rattle.gb_meaning.specs.Commands.{statements}
 use Rattle.gb_meaning.specs.Memory.{Memory, arguments, assigned, first_values, outcome, result_in, result_name, value_or, write_local}
 use Rattle.gb_meaning.specs.Names.{Map, Name, Path, empty, get, set}

@@ -29,8 +29,8 @@ use Rattle.gb_meaning.specs.Setting.{Setting}
 use Rattle.gb_meaning.specs.State.{State}
 use Rattle.gb_meaning.specs.Written.{local_type, type_of}
 use Rattle.gb_steps.specs.declared.step.Calls.{Calls}
-use Rattle.gb_typed.specs.Finite.{IsFinite, IsVariableType}
-use Rattle.gb_typed.specs.Programs.{Take}
+use Rattle.gb_laws.specs.Finite.{IsFinite, IsVariableType}
+use Rattle.gb_laws.specs.Programs.{Take}
 use Rattle.gb_typing.specs.Context.{Context, erased, procedure}
 use Rattle.gb_typing.specs.Fits.{IsSettingOf}
 use Rattle.gb_typing.specs.Programs.{AreArguments, EachStatement, HaveVariableTypes, IsCall, IsProcedure, IsValued, locals_of}

@@ -12,10 +12,10 @@ use Rattle.gb_terms.specs.declared.term.Term.{Term}
 use Rattle.gb_types.specs.Numbering.{parts_of}
 use Rattle.gb_walk.specs.Change.{Changes, term_changed}
 use Rattle.gb_holds.specs.Holds.{LoopsAreGood}
-use Rattle.gb_laws.proofs.Bodies.{statement_call, statement_if, statement_while}
-use Rattle.gb_laws.proofs.Maps.{get-set_other, get-set_same}
-use Rattle.gb_laws.proofs.Memories.{read-write_other_local}
-use Rattle.gb_laws.proofs.Numberings.{fit_has}
+use Rattle.gb_meaning.proofs.Bodies.{statement_call, statement_if, statement_while}
+use Rattle.gb_meaning.proofs.Maps.{get-set_other, get-set_same}
+use Rattle.gb_meaning.proofs.Memories.{read-write_other_local}
+use Rattle.gb_meaning.proofs.Numberings.{fit_has}
 use Rattle.gb_meaning.specs.Commands.{called, program_of, statement, statements, terms_in}
 use Rattle.gb_meaning.specs.Loops.{IsGood}
 use Rattle.gb_meaning.specs.Meanings.{number_in, truth, weights_in}
@@ -28,10 +28,10 @@ use Rattle.gb_meaning.specs.Setting.{Setting}
 use Rattle.gb_meaning.specs.State.{State, closed}
 use Rattle.gb_meaning.specs.Values.{fit}
 use Rattle.gb_meaning.specs.Written.{local_type, type_of}
-use Rattle.gb_typed.specs.Finite.{IsFinite}
-use Rattle.gb_typed.specs.Operators.{parts_in}
-use Rattle.gb_typed.specs.Programs.{HaveTypes, Take, variable_type}
-use Rattle.gb_typed.proofs.Sizes.{fit_in, widened}
+use Rattle.gb_laws.specs.Finite.{IsFinite}
+use Rattle.gb_laws.specs.Operators.{parts_in}
+use Rattle.gb_laws.specs.Programs.{HaveTypes, Take, variable_type}
+use Rattle.gb_laws.proofs.Sizes.{fit_in, widened}
 use Rattle.gb_typing.specs.Context.{Context, erased, procedure}
 use Rattle.gb_typing.specs.Fits.{IsSettingOf}
 use Rattle.gb_typing.specs.Modules.{ProcedureType}

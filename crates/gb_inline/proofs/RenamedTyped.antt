@@ -11,9 +11,9 @@ use Rattle.gb_walk.specs.Change.{Changes, term_changed}
 use Rattle.gb_meaning.specs.Commands.{terms_in}
 use Rattle.gb_meaning.specs.Operators.{outcome_type}
 use Rattle.gb_meaning.specs.Written.{IsModulo, type_of}
-use Rattle.gb_typed.specs.Finite.{IsFinite}
-use Rattle.gb_typed.specs.Operators.{IsDistributionType, parts_in}
-use Rattle.gb_typed.specs.Programs.{HaveTypes, Take, variable_type}
+use Rattle.gb_laws.specs.Finite.{IsFinite}
+use Rattle.gb_laws.specs.Operators.{IsDistributionType, parts_in}
+use Rattle.gb_laws.specs.Programs.{HaveTypes, Take, variable_type}
 use Rattle.gb_typing.specs.Context.{Context, erased, procedure}
 use Rattle.gb_typing.specs.Modules.{ProcedureType}
 use Rattle.gb_typing.specs.Programs.{AreArguments, AreStatements, EachStatement, IsCall, IsStatement, IsValued}

@@ -20,11 +20,11 @@ use Rattle.gb_meaning.specs.Setting.Meaning.{finite}
 use Rattle.gb_meaning.specs.State.{State, inside, binding, meaning_in}
 use Rattle.gb_meaning.specs.Terms.{denominator, quiet, read_at, val}
 use Rattle.gb_meaning.specs.Written.{local_type, type_of}
-use Rattle.gb_laws.proofs.Nodes.{denominator_node, val_node}
-use Rattle.gb_changes.specs.Led.{ArePut, IsPut, Led, put}
-use Rattle.gb_changes.specs.Uses.Use.{read as reads, bound, globals, starts, binds_own, binds_sides}
-use Rattle.gb_changes.proofs.Changing.{denominator_changed, plain_followed}
-use Rattle.gb_changes.proofs.Puts.{formed_node, plain_node}
+use Rattle.gb_meaning.proofs.Nodes.{denominator_node, val_node}
+use Rattle.gb_laws.specs.Led.{ArePut, IsPut, Led, put}
+use Rattle.gb_laws.specs.Uses.Use.{read as reads, bound, globals, starts, binds_own, binds_sides}
+use Rattle.gb_laws.proofs.Changing.{denominator_changed, plain_followed}
+use Rattle.gb_laws.proofs.Puts.{formed_node, plain_node}
 use Rattle.gb_typing.specs.Changes.{Becomes, IsLeaf, IsMemoryIn, Leads, Made}
 use Rattle.gb_typing.specs.Context.{Context, Frame, of_program, reframed}
 use Rattle.gb_typing.specs.Programs.{AreArguments, IsExpression}

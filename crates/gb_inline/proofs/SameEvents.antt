@@ -15,9 +15,9 @@ use Rattle.gb_walk.specs.Clash.{variables_read}
 use Rattle.gb_goal.specs.Scope.{Declarations}
 use Rattle.gb_goal.specs.declared.sequent.Sequent.{Sequent}
 use Rattle.gb_holds.specs.Declared.{declared}
-use Rattle.gb_local.proofs.Zips.{zip_weight}
-use Rattle.gb_local.specs.Cells.{get_at}
-use Rattle.gb_local.specs.Writes.{key_of_global, keys_of}
+use Rattle.gb_laws.proofs.Zips.{zip_weight}
+use Rattle.gb_laws.specs.Cells.{get_at}
+use Rattle.gb_laws.specs.Writes.{key_of_global, keys_of}
 use Rattle.gb_meaning.specs.Memory.{Memory}
 use Rattle.gb_meaning.specs.Names.{get}
 use Rattle.gb_meaning.specs.Setting.{Setting}

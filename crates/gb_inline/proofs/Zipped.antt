@@ -2,7 +2,7 @@
 use Rattle.std.proofs.Common.{◌≡◌, ℕ, ◌+◌, ◌*◌, ◌<◌, [], ◌∷◌, refl, ap}
 use Rattle.gb_coupling.specs.WeightedList.{WeightedList, mass, On, IsPositive}
 use Rattle.gb_coupling.specs.Coupling.{Coupling}
-use Rattle.gb_local.proofs.Zips.{Zip}
+use Rattle.gb_laws.proofs.Zips.{Zip}
 
 module _ {A B : Type 0} (R : A → B → Type 0) where
   abbrev pairs : WeightedList A → WeightedList B → WeightedList (A × B)

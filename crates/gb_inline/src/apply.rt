@@ -2,7 +2,7 @@
 
 ghost use Rattle.gb_goal.specs.Answers.{Answers};
 ghost use Rattle.gb_goal.specs.Rows.{answered, stepped};
-ghost use Rattle.gb_inline.specs.Rows.{rule_row, transform_row};
+ghost use Rattle.gb_inline.specs.Rows.{rule_row};
 
 use crate::inline::inline;
 use gb_core::refusal::Refused;
@@ -10,33 +10,18 @@ use gb_goal::scope::Scope;
 use gb_goal::sequent::{Sequent, Sequents};
 use gb_kill::apply::killing;
 use gb_parts::subgoals::{no_shape, placed};
-use gb_steps::step::{Acts, Rule, Step, Transformation};
+use gb_steps::step::{Rule, Step, Transformation};
 use std::alloc::Global;
-
-/// The subgoals of a rule that puts other statements into the programs on which it acts.
-fn transformed(
-    alloc: Global,
-    acts: Acts,
-    rule: &Transformation,
-    goal: &Sequent,
-    scope: &Scope,
-) -> Result<Sequents, Refused>
-    ensures { Answers (answered (transform_row scope.now acts rule.now) goal.now) result }
-{
-    match rule {
-        Transformation::Inline(calls) => inline(alloc, scope, goal, acts, calls),
-        _ => killing(alloc, acts, rule, goal, scope),
-    }
-}
 
 /// The subgoals of a rule. Refused with `Shape` at a rule of another family.
 fn answer(alloc: Global, rule: &Rule, goal: &Sequent, scope: &Scope) -> Result<Sequents, Refused>
     ensures { Answers (answered (rule_row scope.now rule.now) goal.now) result }
 {
     match rule {
-        Rule::Transform(acts, transformation) => {
-            transformed(alloc, *acts, transformation, goal, scope)
-        }
+        Rule::Transform(acts, transformation) => match transformation {
+            Transformation::Inline(calls) => inline(alloc, scope, goal, *acts, calls),
+            _ => killing(alloc, *acts, transformation, goal, scope),
+        },
         _ => Err(no_shape()),
     }
 }

@@ -12,7 +12,7 @@ use Rattle.gb_coupling.proofs.Weights.{weight-every, weight-false}
 use Rattle.gb_meaning.specs.Fractions.{Fraction}
 use Rattle.gb_meaning.specs.Judgments.{compares, chance}
 use Rattle.gb_meaning.specs.Memory.{Memory}
-use Rattle.gb_local.specs.Pairs.{Zip}
+use Rattle.gb_laws.specs.Pairs.{Zip}
 use Rattle.gb_typing.proofs.Chances.{chance_scaled}
 use Rattle.gb_prog.proofs.Loops.{weightless}
 

@@ -26,8 +26,8 @@ use Rattle.gb_meaning.specs.Setting.{Setting}
 use Rattle.gb_meaning.specs.Sound.{IsSound}
 use Rattle.gb_meaning.specs.State.{State, at, between}
 use Rattle.gb_meaning.specs.Terms.{val}
-use Rattle.gb_laws.proofs.Runs.{run_positive, run_entries}
-use Rattle.gb_local.specs.Cells.{Key, get_at}
+use Rattle.gb_meaning.proofs.Runs.{run_positive, run_entries}
+use Rattle.gb_laws.specs.Cells.{Key, get_at}
 use Rattle.gb_holds.specs.Declared.{declared}
 use Rattle.gb_goal.specs.Answers.Answer.{given}
 use Rattle.gb_goal.specs.Goal.{Goal}

@@ -13,11 +13,11 @@ use Rattle.gb_meaning.specs.Setting.{Setting}
 use Rattle.gb_meaning.specs.Sound.{IsSound}
 use Rattle.gb_meaning.specs.State.{State}
 use Rattle.gb_meaning.specs.Values.{fit}
-use Rattle.gb_laws.proofs.Runs.{run_positive, run_entries}
-use Rattle.gb_local.specs.Cells.{Key}
-use Rattle.gb_local.specs.Pairs.{SameOrKept}
-use Rattle.gb_local.specs.Writes.{Unwritten}
-use Rattle.gb_local.proofs.Zips.{zip_weaken}
+use Rattle.gb_meaning.proofs.Runs.{run_positive, run_entries}
+use Rattle.gb_laws.specs.Cells.{Key}
+use Rattle.gb_laws.specs.Pairs.{SameOrKept}
+use Rattle.gb_laws.specs.Writes.{Unwritten}
+use Rattle.gb_laws.proofs.Zips.{zip_weaken}
 use Rattle.gb_typing.specs.Meaning.{run, denominator}
 use Rattle.gb_prog.proofs.Couplings.{run_entries_in, runs_identity, runs_sequence}
 use Rattle.gb_trans.proofs.Crossing.{Leaves, leaves, Outside}

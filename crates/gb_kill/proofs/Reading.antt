@@ -10,7 +10,7 @@ use Rattle.gb_terms.specs.declared.term.Instr.{Instr}
 use Rattle.gb_meaning.specs.Commands.{statements}
 use Rattle.gb_meaning.specs.Program.Routine.{routine}
 use Rattle.gb_meaning.specs.Setting.{Setting}
-use Rattle.gb_local.specs.Cells.{Key}
+use Rattle.gb_laws.specs.Cells.{Key}
 use Rattle.gb_goal.specs.Scope.{Declarations, procedure_of}
 use Rattle.gb_mods.specs.Called.{all_reached, calls}
 use Rattle.gb_mods.specs.Read.{each_read, read_by}

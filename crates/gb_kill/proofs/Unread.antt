@@ -23,14 +23,14 @@ use Rattle.gb_meaning.specs.State.{State, at, between, meaning_in, memory_of}
 use Rattle.gb_meaning.specs.State.Binding.{program}
 use Rattle.gb_meaning.specs.Terms.{read_at}
 use Rattle.gb_meaning.specs.Values.{Global, Types, fit}
-use Rattle.gb_local.specs.Cells.{Key, get_at}
-use Rattle.gb_local.specs.Cells.Key.{global, local}
-use Rattle.gb_local.specs.Writes.{key_of_global, keys_of}
-use Rattle.gb_changes.specs.Agree.{Agree}
-use Rattle.gb_changes.specs.Uses.{Uses}
-use Rattle.gb_changes.specs.Uses.Use.{read as reads, bound, globals, starts, binds_own, binds_sides}
-use Rattle.gb_changes.specs.Written.{IsSide}
-use Rattle.gb_changes.proofs.Agreeing.{form_agrees}
+use Rattle.gb_laws.specs.Cells.{Key, get_at}
+use Rattle.gb_laws.specs.Cells.Key.{global, local}
+use Rattle.gb_laws.specs.Writes.{key_of_global, keys_of}
+use Rattle.gb_laws.specs.Agree.{Agree}
+use Rattle.gb_laws.specs.Uses.{Uses}
+use Rattle.gb_laws.specs.Uses.Use.{read as reads, bound, globals, starts, binds_own, binds_sides}
+use Rattle.gb_laws.specs.Written.{IsSide}
+use Rattle.gb_laws.proofs.Agreeing.{form_agrees}
 use Rattle.gb_typing.specs.Context.{Context}
 use Rattle.gb_typing.specs.Fits.{IsSettingOf}
 use Rattle.gb_typing.specs.Puts.{Readable, reading}

@@ -4,8 +4,8 @@ use Rattle.std.specs.List.{AllByRecursion}
 use Rattle.gb_core.specs.declared.var.Var.{Var}
 use Rattle.gb_meaning.specs.Memory.{Memory}
 use Rattle.gb_meaning.specs.Values.{Types}
-use Rattle.gb_local.specs.Cells.{get_at}
-use Rattle.gb_local.specs.Writes.{keys_of}
+use Rattle.gb_laws.specs.Cells.{get_at}
+use Rattle.gb_laws.specs.Writes.{keys_of}
 
 -- memories that hold the same at each place that one of these variables names
 abbrev pub HoldTheSame : Types → List Var → Memory → Memory → Type 0

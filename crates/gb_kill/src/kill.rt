@@ -1,32 +1,31 @@
 // The rule `kill`.
 
-ghost use Rattle.std.specs.Prelude.{◌≡◌, ◌++◌, Some, IfOk};
+ghost use Rattle.std.specs.Prelude.{◌≡◌, ◌++◌, IfOk};
 ghost use Rattle.gb_goal.specs.Answers.{Answers};
-ghost use Rattle.gb_goal.specs.Rows.{answered, each_concluding};
+ghost use Rattle.gb_goal.specs.Rows.{answered};
 ghost use Rattle.gb_parts.specs.OneBody.{one_seen};
 ghost use Rattle.gb_trans.specs.Effects as effect;
 ghost use Rattle.gb_trans.specs.Places.{placed_seen};
-ghost use Rattle.gb_trans.specs.Transformed.{with_body};
-ghost use Rattle.gb_kill.specs.Kill.{kill_row, killed, killed_at, may_go, read_behind, unread};
+ghost use Rattle.gb_kill.specs.Kill.{kill_row, killed, may_go, read_behind, unread};
 
 use crate::reads::{reads_of, variables_read};
-use gb_core::SharedItems;
 use gb_core::copy::copy_var;
 use gb_core::refusal::{Refused, Why};
-use gb_core::var::{Var, Vars};
+use gb_core::var::Vars;
 use gb_full::loss::first_loss;
 use gb_full::lossless::full;
 use gb_goal::goal::goal_of;
 use gb_goal::scope::Scope;
 use gb_goal::sequent::{Sequent, Sequents};
-use gb_parts::one_body::{OneBody, filled, one_body, side_of};
-use gb_parts::subgoals::{no_shape, one_goal, refusal};
+use gb_parts::one_body::{OneBody, one_body, side_of};
+use gb_parts::subgoals::{no_shape, refusal};
 use gb_steps::step::Acts;
 use gb_terms::op::Side;
 use gb_terms::term::{Form, Instr, Instrs};
 use gb_trans::effects::{effects_of, least_met};
 use gb_trans::places::{Placed, statement_at};
 use gb_trans::swap::with_statements;
+use gb_trans::transformed::with_body;
 use sqlite_items::Items;
 use std::alloc::{AllocError, Global};
 
@@ -47,20 +46,7 @@ fn read_behind(
     Ok(Some(all))
 }
 
-/// Refuses statements that write what is read, with the least such variable.
-fn check_unread(alloc: Global, scope: &Scope, list: &[Instr], read: &[Var]) -> Result<(), Refused>
-    ensures { Answers (unread (Some read.now) (effect.effects_of scope.now list.now)) result }
-{
-    let Some(effects) = effects_of(alloc, scope, list)? else {
-        return Err(no_shape());
-    };
-    match least_met(None, effects.written.as_slice(), read) {
-        Some(x) => Err(refusal(Why::SideCondition(copy_var(alloc, x)?))),
-        None => Ok(()),
-    }
-}
-
-/// Refuses statements that write what is read behind them.
+/// Refuses statements that write what is read behind them, with the least such variable.
 fn check_behind(
     alloc: Global,
     scope: &Scope,
@@ -74,7 +60,13 @@ fn check_behind(
     let Some(read) = read_behind(alloc, scope, rest, &side, one.post)? else {
         return Err(no_shape());
     };
-    check_unread(alloc, scope, list, read.as_slice())
+    let Some(effects) = effects_of(alloc, scope, list)? else {
+        return Err(no_shape());
+    };
+    match least_met(None, effects.written.as_slice(), read.as_slice()) {
+        Some(x) => Err(refusal(Why::SideCondition(copy_var(alloc, x)?))),
+        None => Ok(()),
+    }
 }
 
 /// Refuses a statement that writes what is read behind it, or may lose weight.
@@ -96,45 +88,15 @@ fn without(alloc: Global, at: &Placed<'_>) -> Result<Instrs, AllocError>
     with_statements(alloc, list, at.rest)
 }
 
-/// The same, where the statement may go.
-fn killed_at(
-    alloc: Global,
-    scope: &Scope,
-    one: &OneBody<'_>,
-    at: &Placed<'_>,
-) -> Result<Instrs, Refused>
-    ensures { Answers (killed_at scope.now (one_seen one.now) (placed_seen at.now)) result }
-{
-    may_go(alloc, scope, one, at)?;
-    Ok(without(alloc, at)?)
-}
-
-/// The same of a place that the body may not have.
+/// The body without the statement at a place, where it may go.
 fn killed(alloc: Global, scope: &Scope, at: u128, one: &OneBody<'_>) -> Result<Instrs, Refused>
     ensures { Answers (killed scope.now at (one_seen one.now)) result }
 {
-    match statement_at(at, one.list) {
-        Some(found) => killed_at(alloc, scope, one, &found),
-        None => Err(refusal(Why::Argument)),
-    }
-}
-
-/// The goal with this body of a goal without the statement.
-fn kill_one(
-    alloc: Global,
-    scope: &Scope,
-    goal: &Sequent,
-    at: u128,
-    one: &OneBody<'_>,
-) -> Result<Sequents, Refused>
-    ensures { Answers (each_concluding goal.now (with_body (killed scope.now at) (one_seen one.now))) result }
-{
-    let list = killed(alloc, scope, at, one)?;
-    let list = SharedItems::new(alloc, list)?;
-    let pre = one.pre.share()?;
-    let post = one.post.share()?;
-    let conclusion = filled(alloc, one.around, list, pre, post)?;
-    Ok(one_goal(alloc, goal, conclusion)?)
+    let Some(found) = statement_at(at, one.list) else {
+        return Err(refusal(Why::Argument));
+    };
+    may_go(alloc, scope, one, &found)?;
+    Ok(without(alloc, &found)?)
 }
 
 /// The subgoal of `kill`: a body without one of its statements. Refused with `Shape` where the goal has no such body, with `Argument` where the
@@ -149,8 +111,9 @@ pub fn kill(
 ) -> Result<Sequents, Refused>
     ensures { Answers (answered (kill_row scope.now acts at) goal.now) result }
 {
-    match one_body(acts, goal_of(&goal.conclusion)) {
-        Some(one) => kill_one(alloc, scope, goal, at, &one),
-        None => Err(no_shape()),
-    }
+    let Some(one) = one_body(acts, goal_of(&goal.conclusion)) else {
+        return Err(no_shape());
+    };
+    let list = killed(alloc, scope, at, &one)?;
+    with_body(alloc, goal, &one, list)
 }

@@ -11,8 +11,8 @@ use Rattle.gb_core.specs.declared.ty.Ty.TheBlock as B
 use Rattle.gb_core.specs.declared.ty.Ty.TheViews.{roll-out-Ty}
 use Rattle.gb_core.specs.declared.ty.Ty.TheFolds.{fold-roll-Ty}
 use Rattle.gb_meaning.specs.Names.{Name}
-use Rattle.gb_typed.specs.Operators.{row}
-use Rattle.gb_typed.proofs.Constructors.{option_is, tuple_is}
+use Rattle.gb_laws.specs.Operators.{row}
+use Rattle.gb_laws.proofs.Constructors.{option_is, tuple_is}
 use Rattle.gb_labels.specs.Labels.{Labels, labelled_layer, labelled_ty}
 use Rattle.gb_labels.specs.Things.{holds_layer, holds_glob, all_names, both_names, module_of, modules_of, modules_of_all}
 

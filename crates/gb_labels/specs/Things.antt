@@ -1,11 +1,10 @@
 -- What gives a module its number of labels.
 use Rattle.std.specs.Prelude.{suc, Bool, true, false, not, ◌||◌, ◌&&◌, if◌then◌else◌, Option, Some, None, List, [], ◌∷◌, ◌++◌, map, bytes_eq}
-use Rattle.std.specs.List.{list_any, flat_map}
+use Rattle.std.specs.List.{list_all, list_any, flat_map}
 use Rattle.std.specs.Option.{option_map}
 use Rattle.gb_core.specs.declared.ty.Ty.{Ty, Row_of-Ty, end_of-Ty, more_of-Ty, fold-Ty}
 use Rattle.gb_core.specs.declared.ty.Ty.TheVariants as ty
 use Rattle.gb_core.specs.declared.ty.Ty.TheOpen as layer
-use Rattle.gb_terms.specs.declared.op.Op.{Op}
 use Rattle.gb_terms.specs.declared.op.Op.TheVariants as op
 use Rattle.gb_terms.specs.declared.op.Read.{Read}
 use Rattle.gb_terms.specs.declared.op.Read.TheVariants.{Program}
@@ -16,7 +15,11 @@ use Rattle.gb_terms.specs.declared.term.Head.TheVariants as head
 use Rattle.gb_terms.specs.Equal.{read_eq}
 use Rattle.gb_meaning.specs.Names.{Name}
 use Rattle.gb_meaning.specs.Operators.{outcome_type}
-use Rattle.gb_typed.specs.Typing.{types_of}
+use Rattle.gb_laws.specs.Typing.{types_of}
+use Rattle.gb_meaning.proofs.SameTerms.{same_terms}
+use Rattle.gb_reads.specs.Reads.{Vars, are_free, reads_of}
+use Rattle.gb_labels.specs.declared.things.Source.{Source}
+use Rattle.gb_labels.specs.declared.things.Source.TheVariants.{Variable, Opened, Place}
 use Rattle.gb_labels.specs.declared.things.Thing.{Thing}
 use Rattle.gb_labels.specs.Labels.{Labels}
 
@@ -62,70 +65,95 @@ abbrev mutual
   modules_of_all end_of-Ty = Some []
   modules_of_all (more_of-Ty t ts) = both_names (modules_of t) (modules_of_all ts)
 
--- Things: reads, each once, and at each of their places bound variables, the values of options, and what isn't made of other things:
--- the empty map and the uniform distribution.
+-- Things: reads and the values of options, each up to `same` once; and at each of their places the variables that are bound, what is read
+-- of the memories that are bound, and uniform distributions, which aren't made of other things.
 
-abbrev pub of_outcomes : List Ty → List Thing
+abbrev pub is_yes : {A : Type 0} → Dec A → Bool
+is_yes (yes p) = true
+is_yes (no n) = false
+
+abbrev pub is_same : Term → Term → Bool
+is_same a b = is_yes (same_terms a b)
+
+abbrev pub is_of_bound_memory : Read → Bool
+is_of_bound_memory (Program x (Bound i)) = true
+is_of_bound_memory _ = false
+
+abbrev pub of_types : List Ty → List Thing
+of_types us = map (λ u. record { source = Place; ty = u }) us
+
+abbrev pub of_outcomes : List Ty → List Ty
 of_outcomes [] = []
-of_outcomes (d ∷ us) = record { read = None; ty = outcome_type d } ∷ []
+of_outcomes (d ∷ us) = outcome_type d ∷ []
 
-abbrev pub made_at : Op → Ty → List Thing
-made_at op.Oget t = record { read = None; ty = t } ∷ []
-made_at op.Empty t = record { read = None; ty = t } ∷ []
-made_at op.Uniform t = record { read = None; ty = t } ∷ []
-made_at _ t = []
+-- what the argument of a quantifier over memories reads of the memory
+abbrev pub reads_inside : {n : _} → Head → Row_of-Term n → Vars
+reads_inside head.AllMemory (more_of-Term t end_of-Term) = reads_of t
+reads_inside head.SomeMemory (more_of-Term t end_of-Term) = reads_of t
+reads_inside _ _ = []
 
--- the thing that a term of this type is, or that its head binds, where its arguments have these types
-abbrev pub thing_of : Head → Ty → List Ty → List Thing
-thing_of (head.Read r) t us = record { read = Some r; ty = t } ∷ []
-thing_of (head.Builtin o) t us = made_at o t
-thing_of (head.All u) t us = record { read = None; ty = u } ∷ []
-thing_of (head.Some u) t us = record { read = None; ty = u } ∷ []
-thing_of head.Mu t us = of_outcomes us
-thing_of head.Map t us = of_outcomes us
-thing_of head.Restrict t us = of_outcomes us
-thing_of _ t us = []
+-- the same of a term
+abbrev pub reads_under : Term → Vars
+reads_under (Term' p (more_of-Head h end_of-Head) n ts a) = reads_inside h ts
+
+-- the types of what a head binds, where its arguments have these types and these variables are read of the memory that it binds
+abbrev pub bound_by : Head → List Ty → Vars → List Ty
+bound_by (head.All u) us vs = u ∷ []
+bound_by (head.Some u) us vs = u ∷ []
+bound_by head.Mu us vs = of_outcomes us
+bound_by head.Map us vs = of_outcomes us
+bound_by head.Restrict us vs = of_outcomes us
+bound_by _ us vs = map (λ v. v.ty) vs
+
+-- the thing that a term with this head is, if it is one
+abbrev pub thing_of : Head → Term → Ty → List Thing
+thing_of (head.Read r) t a = if is_of_bound_memory r then [] else record { source = Variable r; ty = a } ∷ []
+thing_of (head.Builtin op.Oget) t a = record { source = Opened t; ty = a } ∷ []
+thing_of (head.Builtin op.Uniform) t a = record { source = Place; ty = a } ∷ []
+thing_of _ t a = []
 
 abbrev mutual
   -- the things of a term at their places, in order
   pub things_at : Term → List Thing
-  things_at (Term' p (more_of-Head h end_of-Head) n ts t) = thing_of h t (types_of ts) ++ all_things_at ts
+  things_at (Term' p (more_of-Head h end_of-Head) n ts a) =
+      thing_of h (Term' p (more_of-Head h end_of-Head) n ts a) a ++ (of_types (bound_by h (types_of ts) (reads_inside h ts)) ++ all_things_at ts)
 
   pub all_things_at : {n : _} → Row_of-Term n → List Thing
   all_things_at end_of-Term = []
   all_things_at (more_of-Term t ts) = things_at t ++ all_things_at ts
 
-abbrev pub is_read : Read → Option Read → Bool
-is_read r None = false
-is_read r (Some q) = read_eq q r
+abbrev pub is_once : Source → Source → Bool
+is_once (Variable r) (Variable q) = read_eq q r
+is_once (Opened t) (Opened u) = is_same u t
+is_once _ _ = false
 
-abbrev pub is_noted : List Thing → Option Read → Bool
-is_noted seen None = false
-is_noted seen (Some r) = list_any (λ x. is_read r x.read) seen
+abbrev pub is_noted : List Thing → Source → Bool
+is_noted seen s = list_any (λ x. is_once s x.source) seen
 
 -- the things seen, and behind them a new one, where it is of a type that holds globals
 abbrev pub with_new : List Thing → Thing → List Thing
-with_new seen x = if not (holds_glob x.ty) || is_noted seen x.read then seen else seen ++ x ∷ []
+with_new seen x = if not (holds_glob x.ty) || is_noted seen x.source then seen else seen ++ x ∷ []
 
 -- the things seen, and behind them the new ones of a list
 abbrev pub noted : List Thing → List Thing → List Thing
 noted seen [] = seen
 noted seen (x ∷ xs) = noted (with_new seen x) xs
 
--- the things of hypotheses and a conclusion whose types hold globals, each read once
+-- the things of hypotheses and a conclusion whose types hold globals
 abbrev pub things_in : List Term → Term → List Thing
 things_in hyps t = noted [] (flat_map things_at hyps ++ things_at t)
 
-abbrev pub is_of_bound_memory : Option Read → Bool
-is_of_bound_memory (Some (Program x (Bound i))) = true
-is_of_bound_memory _ = false
-
--- the modules of a thing; labels aren't read of a memory that a binder binds
-abbrev pub modules_at : Thing → Option (List Name)
-modules_at x = if is_of_bound_memory x.read && holds_glob x.ty then None else modules_of x.ty
-
 abbrev pub modules_in : List Thing → Option (List Name)
-modules_in xs = all_names (map modules_at xs)
+modules_in xs = all_names (map (λ x. modules_of x.ty) xs)
+
+abbrev mutual
+  -- no two reads through one bound memory clash
+  pub reads_freely : Term → Bool
+  reads_freely (Term' p (more_of-Head h end_of-Head) n ts a) = are_free (reads_inside h ts) && all_read_freely ts
+
+  pub all_read_freely : {n : _} → Row_of-Term n → Bool
+  all_read_freely end_of-Term = true
+  all_read_freely (more_of-Term t ts) = reads_freely t && all_read_freely ts
 
 -- one more of a module
 abbrev pub with_one : Labels → Name → Labels
@@ -138,6 +166,6 @@ counted ls [] = ls
 counted ls (m ∷ ms) = counted (with_one ls m) ms
 
 -- The greatest numbers of labels, as many for a module as there are things of its globals; none where a thing holds globals in another
--- way.
+-- way, or where two reads through one bound memory clash.
 abbrev pub most_labels : List Term → Term → Option Labels
-most_labels hyps t = option_map (counted []) (modules_in (things_in hyps t))
+most_labels hyps t = if list_all reads_freely hyps && reads_freely t then option_map (counted []) (modules_in (things_in hyps t)) else None

@@ -1,111 +1,163 @@
 // What gives a module its number of labels.
 
-ghost use Rattle.std.specs.Prelude.{◌≡◌, Some, None, [], map, IfOk, OnOk};
-ghost use Rattle.std.specs.List.{flat_map, list_any};
+ghost use Rattle.std.specs.Prelude.{◌≡◌, [], map, IfOk, OnOk};
+ghost use Rattle.std.specs.List.{flat_map, list_all};
 ghost use Rattle.std.specs.Option.{option_map};
 ghost use Rattle.gb_terms.specs.declared.term.Term.{out-Term};
 ghost use Rattle.gb_meaning.specs.Written.{type_of};
-ghost use Rattle.gb_labels.specs.Things.{all_names, counted, holds_glob, is_of_bound_memory, is_read, module_of, module_or, modules_at, modules_in, modules_of, most_labels, noted, of_outcomes, thing_of, things_at, with_new};
+ghost use Rattle.gb_labels.specs.Things.{all_names, bound_by, counted, holds_glob, is_noted, is_of_bound_memory, is_once, module_of, module_or, modules_in, modules_of, most_labels, noted, of_outcomes, of_types, reads_freely, reads_under, thing_of, things_at, things_in, with_new};
 
 use crate::labels::{Labels, with_one};
 use crate::types::{holds_glob, module_of};
 use gb_core::Shared;
 use gb_core::ty::Ty;
+use gb_reads::reads::{TypedVar, TypedVars, are_free, reads};
 use gb_terms::op::{Op, Read, Side};
-use gb_terms::same::same_read;
+use gb_terms::same::{same, same_read};
 use gb_terms::share::copy_read;
 use gb_terms::term::{Head, Term};
 use sqlite_items::Items;
 use std::alloc::{AllocError, Global};
 
-/// A read, a bound variable or the value of an option, with its type.
+/// What makes a thing one with another of its type.
+#[derive(Drop)]
+pub enum Source {
+    /// A variable that is read, once however often it stands.
+    Variable(Shared<Read>),
+    /// The value of an option by this term, once up to `same`.
+    Opened(Term),
+    /// What is bound, at each place anew.
+    Place,
+}
+
+/// A read, what is bound or the value of an option, with its type.
 #[derive(Drop)]
 pub struct Thing {
-    pub read: Option<Shared<Read>>,
+    pub source: Source,
     pub ty: Shared<Ty>,
 }
 
 pub type Things = Items<Thing>;
 
-/// Whether a thing is this read.
-fn is_read(r: &Read, thing: &Thing) -> bool
-    ensures { result ≡ is_read r.now thing.now.read }
+/// Whether things of these sources are one.
+fn is_once(a: &Source, b: &Source) -> bool
+    ensures { result ≡ is_once a.now b.now }
 {
-    match &thing.read {
-        Some(q) => same_read(q.get(), r),
-        None => false,
+    match (a, b) {
+        (Source::Variable(r), Source::Variable(q)) => same_read(q.get(), r.get()),
+        (Source::Opened(t), Source::Opened(u)) => same(u, t),
+        _ => false,
     }
 }
 
-fn is_noted(list: &[Thing], r: &Read) -> bool
-    ensures { result ≡ list_any (λ x. is_read r.now x.read) list.now }
+fn is_noted(list: &[Thing], source: &Source) -> bool
+    ensures { result ≡ is_noted list.now source.now }
 {
     for thing in list {
-        if is_read(r, thing) {
+        if is_once(source, &thing.source) {
             return true;
         }
     }
     false
 }
 
-/// Adds a read whose type holds globals, if it isn't there yet.
-fn note_read(alloc: Global, r: &Read, ty: &Shared<Ty>, list: &mut Things) -> Result<(), AllocError>
-    ensures { OnOk result (list.new ≡ with_new list.old (record { read = Some r.now; ty = ty.now })) }
+/// Adds a thing whose type holds globals, if it isn't there yet.
+fn note_new(source: Source, ty: &Shared<Ty>, list: &mut Things) -> Result<(), AllocError>
+    ensures { OnOk result (list.new ≡ with_new list.old (record { source = source; ty = ty.now })) }
 {
-    if !holds_glob(ty.get()) || is_noted(list.as_slice(), r) {
+    if !holds_glob(ty.get()) || is_noted(list.as_slice(), &source) {
         return Ok(());
     }
-    let read = Shared::new(alloc, copy_read(alloc, r)?)?;
     let ty = ty.share()?;
-    list.push(Thing {
-        read: Some(read),
-        ty,
-    })
+    list.push(Thing { source, ty })
 }
 
-/// Adds what is no read, where its type holds globals.
-fn note_value(ty: &Shared<Ty>, list: &mut Things) -> Result<(), AllocError>
-    ensures { OnOk result (list.new ≡ with_new list.old (record { read = None; ty = ty.now })) }
+/// Whether it is a read of a memory that a binder binds.
+fn is_of_bound_memory(r: &Read) -> bool
+    ensures { result ≡ is_of_bound_memory r.now }
 {
-    if !holds_glob(ty.get()) {
+    matches!(
+        r,
+        Read::Program {
+            side: Side::Bound(_),
+            ..
+        }
+    )
+}
+
+/// Adds the thing that a term is, if it is one and its type holds globals.
+fn note_own(alloc: Global, t: &Term, list: &mut Things) -> Result<(), AllocError>
+    ensures { OnOk result (list.new ≡ noted list.old (thing_of (out-Term t.now).head t.now (out-Term t.now).ty)) }
+{
+    if !holds_glob(t.ty.get()) {
         return Ok(());
     }
-    let ty = ty.share()?;
-    list.push(Thing { read: None, ty })
+    match t.head.get() {
+        Head::Read(r) if !is_of_bound_memory(r) => {
+            let r = Shared::new(alloc, copy_read(alloc, r)?)?;
+            note_new(Source::Variable(r), &t.ty, list)
+        }
+        Head::Builtin(Op::Oget) => note_new(Source::Opened(t.share()?), &t.ty, list),
+        Head::Builtin(Op::Uniform) => note_new(Source::Place, &t.ty, list),
+        _ => Ok(()),
+    }
 }
 
 /// Adds the variable of the outcomes of a distribution, the first of these arguments.
 fn note_outcome(args: &[Term], list: &mut Things) -> Result<(), AllocError>
-    ensures { OnOk result (list.new ≡ noted list.old (of_outcomes (map type_of args.now))) }
+    ensures { OnOk result (list.new ≡ noted list.old (of_types (of_outcomes (map type_of args.now)))) }
 {
     match args {
         [d, ..] => match d.ty.get() {
-            Ty::Distr(outcomes) => note_value(outcomes, list),
+            Ty::Distr(outcomes) => note_new(Source::Place, outcomes, list),
             _ => Ok(()),
         },
         [] => Ok(()),
     }
 }
 
-/// Adds the thing that a term is or that it binds.
-fn note_own(alloc: Global, t: &Term, list: &mut Things) -> Result<(), AllocError>
-    ensures { OnOk result (list.new ≡ noted list.old (thing_of (out-Term t.now).head (out-Term t.now).ty (map type_of (out-Term t.now).args))) }
+/// What a term reads of the memory that its head binds.
+#[tactic(auto, using(crate::proofs::Layers::reads_out))]
+fn reads_inside(alloc: Global, t: &Term) -> Result<TypedVars, AllocError>
+    ensures { IfOk result (λ vs. vs ≡ reads_under t.now) }
 {
-    match t.head.get() {
-        Head::Read(r) => note_read(alloc, r, &t.ty, list),
-        Head::Builtin(Op::Oget | Op::Empty | Op::Uniform) => note_value(&t.ty, list),
-        Head::All(ty) | Head::Some(ty) => note_value(ty, list),
-        Head::Mu | Head::Map | Head::Restrict => note_outcome(t.args.as_slice(), list),
-        _ => Ok(()),
+    match (t.head.get(), t.args.as_slice()) {
+        (Head::AllMemory | Head::SomeMemory, [body]) => reads(alloc, body),
+        _ => Ok(Items::new(alloc)),
     }
 }
 
-/// Adds the things of a term whose types hold globals, each read once.
+/// Adds what is read of a bound memory.
+fn note_reads(variables: &[TypedVar], list: &mut Things) -> Result<(), AllocError>
+    ensures { OnOk result (list.new ≡ noted list.old (of_types (map (λ v. v.ty) variables.now))) }
+{
+    for variable in variables {
+        note_new(Source::Place, &variable.ty, list)?;
+    }
+    Ok(())
+}
+
+/// Adds what the head of a term binds.
+fn note_bound(alloc: Global, t: &Term, list: &mut Things) -> Result<(), AllocError>
+    ensures { OnOk result (list.new ≡ noted list.old (of_types (bound_by (out-Term t.now).head (map type_of (out-Term t.now).args) (reads_under t.now)))) }
+{
+    match t.head.get() {
+        Head::All(ty) | Head::Some(ty) => note_new(Source::Place, ty, list),
+        Head::Mu | Head::Map | Head::Restrict => note_outcome(t.args.as_slice(), list),
+        _ => {
+            let variables = reads_inside(alloc, t)?;
+            note_reads(variables.as_slice(), list)
+        }
+    }
+}
+
+/// Adds the things of a term whose types hold globals.
 #[cycle(note)]
 fn note(alloc: Global, t: &Term, list: &mut Things) -> Result<(), AllocError>
     ensures { OnOk result (list.new ≡ noted list.old (things_at t.now)) }
 {
     note_own(alloc, t, list)?;
+    note_bound(alloc, t, list)?;
     note_all(alloc, t.args.as_slice(), list)
 }
 
@@ -119,20 +171,40 @@ fn note_all(alloc: Global, terms: &[Term], list: &mut Things) -> Result<(), Allo
     Ok(())
 }
 
-/// Whether it is a read of a memory that a binder binds.
-fn is_of_bound_memory(thing: &Thing) -> bool
-    ensures { result ≡ is_of_bound_memory thing.now.read }
+/// The things of hypotheses and a conclusion whose types hold globals.
+fn things_in(alloc: Global, hyps: &[Term], conclusion: &Term) -> Result<Things, AllocError>
+    ensures { IfOk result (λ made. made ≡ things_in hyps.now conclusion.now) }
 {
-    match &thing.read {
-        Some(r) => matches!(
-            r.get(),
-            Read::Program {
-                side: Side::Bound(_),
-                ..
-            }
-        ),
-        None => false,
+    let mut list = Items::new(alloc);
+    note_all(alloc, hyps, &mut list)?;
+    note(alloc, conclusion, &mut list)?;
+    Ok(list)
+}
+
+/// Whether no two reads through one bound memory clash.
+#[cycle(reads_freely)]
+#[tactic(auto, using(crate::proofs::Layers::freely_out))]
+fn reads_freely(alloc: Global, t: &Term) -> Result<bool, AllocError>
+    ensures { IfOk result (λ b. b ≡ reads_freely t.now) }
+{
+    let variables = reads_inside(alloc, t)?;
+    if are_free(variables.as_slice()) {
+        all_read_freely(alloc, t.args.as_slice())
+    } else {
+        Ok(false)
     }
+}
+
+#[cycle(reads_freely)]
+fn all_read_freely(alloc: Global, terms: &[Term]) -> Result<bool, AllocError>
+    ensures { IfOk result (λ b. b ≡ list_all reads_freely terms.now) }
+{
+    for t in terms {
+        if !reads_freely(alloc, t)? {
+            return Ok(false);
+        }
+    }
+    Ok(true)
 }
 
 /// One more of the module whose globals the values of a type are, or options of them; none where the type holds globals in another way.
@@ -178,25 +250,13 @@ fn with_modules_of(
     Ok(Some(counts))
 }
 
-/// One more of each module of a thing; none where it is a read of a memory that a binder binds.
-fn with_thing(alloc: Global, thing: &Thing, counts: Labels) -> Result<Option<Labels>, AllocError>
-    ensures { IfOk result (λ made. made ≡ option_map (counted counts) (modules_at thing.now)) }
-{
-    let ty = thing.ty.get();
-    if is_of_bound_memory(thing) && holds_glob(ty) {
-        Ok(None)
-    } else {
-        with_modules(alloc, ty, counts)
-    }
-}
-
 /// How many things there are of the globals of each module.
 fn number_of_things(alloc: Global, list: &[Thing]) -> Result<Option<Labels>, AllocError>
     ensures { IfOk result (λ made. made ≡ option_map (counted []) (modules_in list.now)) }
 {
     let mut counts = Items::new(alloc);
     for thing in list {
-        match with_thing(alloc, thing, counts)? {
+        match with_modules(alloc, thing.ty.get(), counts)? {
             Some(more) => counts = more,
             None => return Ok(None),
         }
@@ -205,7 +265,7 @@ fn number_of_things(alloc: Global, list: &[Thing]) -> Result<Option<Labels>, All
 }
 
 /// The greatest number of labels of each module: how many things there are of its globals in hypotheses and a conclusion. There are
-/// none where a thing holds globals in a way that labels don't allow.
+/// none where a thing holds globals in a way that labels don't allow, or where two reads through one bound memory clash.
 pub fn most_labels(
     alloc: Global,
     hyps: &[Term],
@@ -213,8 +273,9 @@ pub fn most_labels(
 ) -> Result<Option<Labels>, AllocError>
     ensures { IfOk result (λ made. made ≡ most_labels hyps.now conclusion.now) }
 {
-    let mut list = Items::new(alloc);
-    note_all(alloc, hyps, &mut list)?;
-    note(alloc, conclusion, &mut list)?;
+    if !all_read_freely(alloc, hyps)? || !reads_freely(alloc, conclusion)? {
+        return Ok(None);
+    }
+    let list = things_in(alloc, hyps, conclusion)?;
     number_of_things(alloc, list.as_slice())
 }

@@ -14,19 +14,23 @@ use Rattle.gb_meaning.specs.Meanings.{of_number, truth, fraction_in}
 use Rattle.gb_meaning.specs.State.{State, under}
 use Rattle.gb_meaning.specs.State.Binding.{value as bound_value, memory as bound_memory}
 use Rattle.gb_meaning.specs.Terms.{at_value, each_value, some_value, sum_below}
-use Rattle.gb_laws.proofs.Bools.{same_truth, each_value_use, each_value_has, some_value_has, some_value_make}
-use Rattle.gb_laws.proofs.Numberings.{lawful}
-use Rattle.gb_typed.specs.Typing.{Binder}
-use Rattle.gb_typed.specs.Typing.Binder.{value, index, memory}
-use Rattle.gb_typed.proofs.Meanings.{fraction_above}
+use Rattle.gb_meaning.proofs.Bools.{same_truth, each_value_use, each_value_has, some_value_has, some_value_make}
+use Rattle.gb_meaning.proofs.Numberings.{lawful}
+use Rattle.gb_laws.specs.Finite.{IsInhabited}
+use Rattle.gb_laws.specs.Typing.{Binder}
+use Rattle.gb_laws.specs.Typing.Binder.{value, index, memory}
+use Rattle.gb_laws.proofs.Meanings.{fraction_above}
+use Rattle.gb_reads.specs.Reads.{Vars, are_free}
 use Rattle.gb_labels.specs.Things.{modules_of}
 use Rattle.gb_labels_laws.specs.Pairs.{Pairing}
-use Rattle.gb_labels_laws.specs.Related.{ReadTypes, Related, MeaningRelated, StateRelated}
-use Rattle.gb_labels_laws.specs.Needs.{HasFirsts, HasRoom}
+use Rattle.gb_labels_laws.specs.Related.{ReadTypes, Related, MeaningRelated, ReadsRelated, StateRelated}
+use Rattle.gb_labels_laws.specs.Needs.{HasFirsts, HasRoom, AreCountedTypes}
 use Rattle.gb_labels_laws.specs.Model.{AreAlike}
 use Rattle.gb_labels_laws.proofs.Relations.{related_has, related_flip, flipped}
-use Rattle.gb_labels_laws.proofs.Extending.{extend, extend_back}
+use Rattle.gb_labels_laws.proofs.Extending.{IsLonger, extend, extend_back}
 use Rattle.gb_labels_laws.proofs.Meanings.{meaning_equal, meaning_of, truth_related}
+use Rattle.gb_labels_laws.proofs.TypedReads.{HaveTypes}
+use Rattle.gb_labels_laws.proofs.Partners.{modules_read, partner, copartner}
 use Rattle.gb_labels_laws.proofs.States.{state_inside, state_longer, firsts_longer}
 use Rattle.gb_labels_laws.proofs.Sides.{Sides, IsSide}
 
@@ -42,30 +46,30 @@ sum_same (suc n) f g h =
     let last = h n (omega arith) in
     λ i. plus (rest i) (last i)
 
-module _ (g h : Setting) (alike : AreAlike g h) (T : ReadTypes) (bs : List Binder) (x : Sides) where
+module _ (g h : Setting) (alike : AreAlike g h) (T : ReadTypes) (bs : List Binder) (vss : List Vars) (x : Sides) where
   -- inside of a binder of values
 
-  module _ (a : Ty) (side : IsSide g h T (value a ∷ bs) x) where
-    pub at_related : (P : Pairing g.types h.types) (s r : State) → HasFirsts g.types h.types P.pairs x.opened → HasRoom g.types h.types P.pairs x.quantified → StateRelated g h P.pairs T bs s r →
-        (v w : Value) → Related g.types P.pairs a v w → MeaningRelated g.types P.pairs x.ty (at_value x.left s v) (at_value x.right r w)
+  module _ (a : Ty) (vs : Vars) (side : IsSide g h T (value a ∷ bs) (vs ∷ vss) x) where
+    pub at_related : (P : Pairing g.types h.types) (s r : State) → HasFirsts g.types h.types P.pairs x.opened → HasRoom g.types h.types P.pairs x.quantified → StateRelated g h P.pairs T bs vss s r →
+        (v w : Value) → Related g.types h.types P.pairs a v w → MeaningRelated g.types h.types P.pairs x.ty (at_value x.left s v) (at_value x.right r w)
     at_related P s r f m q v w k =
-        side.0 P (under s (bound_value (finite v))) (under r (bound_value (finite w))) f m (state_inside g h T P.pairs bs (value a) s r (bound_value (finite v)) (bound_value (finite w)) q k)
+        side.0 P (under s (bound_value (finite v))) (under r (bound_value (finite w))) f m (state_inside g h T P.pairs bs vss (value a) vs s r (bound_value (finite v)) (bound_value (finite w)) q k)
 
     module _ (is_test : x.ty ≡ ty.Bool) where
-      pub test_related : (P : Pairing g.types h.types) (s r : State) → HasFirsts g.types h.types P.pairs x.opened → HasRoom g.types h.types P.pairs x.quantified → StateRelated g h P.pairs T bs s r →
-          (v w : Value) → Related g.types P.pairs a v w → truth (at_value x.left s v) ≡ truth (at_value x.right r w)
-      test_related P s r f m q v w k = truth_related g.types P.pairs x.ty is_test (at_value x.left s v) (at_value x.right r w) (at_related P s r f m q v w k)
+      pub test_related : (P : Pairing g.types h.types) (s r : State) → HasFirsts g.types h.types P.pairs x.opened → HasRoom g.types h.types P.pairs x.quantified → StateRelated g h P.pairs T bs vss s r →
+          (v w : Value) → Related g.types h.types P.pairs a v w → truth (at_value x.left s v) ≡ truth (at_value x.right r w)
+      test_related P s r f m q v w k = truth_related g.types h.types alike.sizes P.pairs x.ty is_test (at_value x.left s v) (at_value x.right r w) (at_related P s r f m q v w k)
 
       -- a quantifier: each value has a related one over longer lists of pairs
       module _ (ms : List Name) (e : modules_of a ≡ Some ms) (P : Pairing g.types h.types) (s r : State) (f : HasFirsts g.types h.types P.pairs x.opened)
-          (m : HasRoom g.types h.types P.pairs (ms ++ x.quantified)) (q : StateRelated g h P.pairs T bs s r) where
+          (m : HasRoom g.types h.types P.pairs (ms ++ x.quantified)) (q : StateRelated g h P.pairs T bs vss s r) where
         forth : (v : Value) → has g.types a v ≡ true → (w : Value) × (has h.types a w ≡ true) × (truth (at_value x.left s v) ≡ truth (at_value x.right r w))
         forth v l =
-            let n = extend g.types h.types a ms e P x.quantified v l m in
+            let n = extend g.types h.types alike.sizes a ms e P x.quantified v l m in
             let back = related_flip g.types h.types alike.sizes n.pairing a v n.value n.related in (
               n.value,
               related_has h.types g.types (sym alike.sizes) (flipped g.types h.types alike.sizes n.pairing) a n.value v back,
-              test_related n.pairing s r (firsts_longer g h T P n.pairing n.longer x.opened f) n.room (state_longer g h T P n.pairing n.longer bs s r q) v n.value n.related,
+              test_related n.pairing s r (firsts_longer g h T P n.pairing n.longer x.opened f) n.room (state_longer g h T P n.pairing n.longer bs vss s r q) v n.value n.related,
             )
 
         back : (w : Value) → has h.types a w ≡ true → (v : Value) × (has g.types a v ≡ true) × (truth (at_value x.left s v) ≡ truth (at_value x.right r w))
@@ -73,7 +77,7 @@ module _ (g h : Setting) (alike : AreAlike g h) (T : ReadTypes) (bs : List Binde
             let n = extend_back g.types h.types alike.sizes a ms e P x.quantified w l m in (
               n.value,
               related_has g.types h.types alike.sizes n.pairing a n.value w n.related,
-              test_related n.pairing s r (firsts_longer g h T P n.pairing n.longer x.opened f) n.room (state_longer g h T P n.pairing n.longer bs s r q) n.value w n.related,
+              test_related n.pairing s r (firsts_longer g h T P n.pairing n.longer x.opened f) n.room (state_longer g h T P n.pairing n.longer bs vss s r q) n.value w n.related,
             )
 
         pub all_same : each_value (values g.types a) (λ v. truth (at_value x.left s v)) ≡ each_value (values h.types a) (λ w. truth (at_value x.right r w))
@@ -92,23 +96,37 @@ module _ (g h : Setting) (alike : AreAlike g h) (T : ReadTypes) (bs : List Binde
             (λ d. let u = some_value_has (values h.types a) (lawful h.types a) (λ w. truth (at_value x.right r w)) d in
             let n = back u.0 u.1 in some_value_make (values g.types a) (lawful g.types a) (λ v. truth (at_value x.left s v)) n.0 n.1 (n.2 ∙ u.2))
 
-  -- inside of a binder of a memory
-  pub in_memory : (P : Pairing g.types h.types) (s r : State) → IsSide g h T (memory ∷ bs) x → x.ty ≡ ty.Bool → HasFirsts g.types h.types P.pairs x.opened → HasRoom g.types h.types P.pairs x.quantified →
-      StateRelated g h P.pairs T bs s r → (n : Memory) → truth (x.left.meaning (under s (bound_memory n))) ≡ truth (x.right.meaning (under r (bound_memory n)))
-  in_memory P s r side e f m q n =
-      truth_related g.types P.pairs x.ty e (x.left.meaning (under s (bound_memory n))) (x.right.meaning (under r (bound_memory n)))
-      (side.0 P (under s (bound_memory n)) (under r (bound_memory n)) f m (state_inside g h T P.pairs bs memory s r (bound_memory n) (bound_memory n) q refl))
+  -- inside of a binder of a memory: each memory has a partner over longer lists of pairs
+  module _ (vs : Vars) (inhabited : IsInhabited g.types) (free : are_free vs ≡ true) (counted : AreCountedTypes vs) (typed : HaveTypes vs) (side : IsSide g h T (memory ∷ bs) (vs ∷ vss) x) (is_test : x.ty ≡ ty.Bool)
+      (P : Pairing g.types h.types) (s r : State) (f : HasFirsts g.types h.types P.pairs x.opened) (m : HasRoom g.types h.types P.pairs (modules_read vs ++ x.quantified))
+      (q : StateRelated g h P.pairs T bs vss s r) where
+    in_memories : (Q : Pairing g.types h.types) → IsLonger g.types h.types P Q → HasRoom g.types h.types Q.pairs x.quantified → (n o : Memory) → ReadsRelated g.types h.types Q.pairs vs n o →
+        truth (x.left.meaning (under s (bound_memory n))) ≡ truth (x.right.meaning (under r (bound_memory o)))
+    in_memories Q longer room n o k =
+        truth_related g.types h.types alike.sizes Q.pairs x.ty is_test (x.left.meaning (under s (bound_memory n))) (x.right.meaning (under r (bound_memory o)))
+        (side.0 Q (under s (bound_memory n)) (under r (bound_memory o)) (firsts_longer g h T P Q longer x.opened f) room
+        (state_inside g h T Q.pairs bs vss memory vs s r (bound_memory n) (bound_memory o) (state_longer g h T P Q longer bs vss s r q) k))
+
+    pub memory_forth : (n : Memory) → (o : Memory) × (truth (x.left.meaning (under s (bound_memory n))) ≡ truth (x.right.meaning (under r (bound_memory o))))
+    memory_forth n =
+        let o = partner g.types h.types alike.sizes inhabited alike.inhabited alike.left_once alike.right_once vs free counted typed P n x.quantified m in
+        (o.memory, in_memories o.pairing o.longer o.room n o.memory o.related)
+
+    pub memory_back : (o : Memory) → (n : Memory) × (truth (x.left.meaning (under s (bound_memory n))) ≡ truth (x.right.meaning (under r (bound_memory o))))
+    memory_back o =
+        let n = copartner g.types h.types alike.sizes inhabited alike.inhabited alike.left_once alike.right_once vs free counted typed P o x.quantified m in
+        (n.memory, in_memories n.pairing n.longer n.room n.memory o n.related)
 
   -- inside of a sum
-  module _ (n : ℕ) (P : Pairing g.types h.types) (s r : State) (side : IsSide g h T (index n ∷ bs) x) (f : HasFirsts g.types h.types P.pairs x.opened) (m : HasRoom g.types h.types P.pairs x.quantified)
-      (q : StateRelated g h P.pairs T bs s r) where
-    summand : (i : ℕ) → i < n → MeaningRelated g.types P.pairs x.ty (x.left.meaning (under s (bound_value (of_number i)))) (x.right.meaning (under r (bound_value (of_number i))))
+  module _ (n : ℕ) (vs : Vars) (P : Pairing g.types h.types) (s r : State) (side : IsSide g h T (index n ∷ bs) (vs ∷ vss) x) (f : HasFirsts g.types h.types P.pairs x.opened) (m : HasRoom g.types h.types P.pairs x.quantified)
+      (q : StateRelated g h P.pairs T bs vss s r) where
+    summand : (i : ℕ) → i < n → MeaningRelated g.types h.types P.pairs x.ty (x.left.meaning (under s (bound_value (of_number i)))) (x.right.meaning (under r (bound_value (of_number i))))
     summand i l =
         side.0 P (under s (bound_value (of_number i))) (under r (bound_value (of_number i))) f m
-        (state_inside g h T P.pairs bs (index n) s r (bound_value (of_number i)) (bound_value (of_number i)) q (i, l, refl, refl))
+        (state_inside g h T P.pairs bs vss (index n) vs s r (bound_value (of_number i)) (bound_value (of_number i)) q (i, l, refl, refl))
 
     pub sum_related : x.ty ≡ ty.Real →
-        MeaningRelated g.types P.pairs ty.Real (fraction (sum_below n (λ i. fraction_in (x.left.meaning (under s (bound_value (of_number i)))))))
+        MeaningRelated g.types h.types P.pairs ty.Real (fraction (sum_below n (λ i. fraction_in (x.left.meaning (under s (bound_value (of_number i)))))))
         (fraction (sum_below n (λ i. fraction_in (x.right.meaning (under r (bound_value (of_number i)))))))
     sum_related e =
         let l : ℕ → Meaning = λ i. x.left.meaning (under s (bound_value (of_number i))) in
@@ -116,5 +134,5 @@ module _ (g h : Setting) (alike : AreAlike g h) (T : ReadTypes) (bs : List Binde
           tt,
           sum_above n (λ i. fraction_in (l i)) (λ i b. fraction_above g.types x.ty (l i) (meaning_of g.types h.types alike.sizes P x.ty (l i) (k i) (summand i b))),
           sum_same n (λ i. fraction_in (l i)) (λ i. fraction_in (k i))
-              (λ i b. ap fraction_in (meaning_equal g.types P.pairs ty.Real tt (l i) (k i) (subst (λ z. MeaningRelated g.types P.pairs z (l i) (k i)) e (summand i b)))),
+              (λ i b. ap fraction_in (meaning_equal g.types h.types alike.sizes P.pairs ty.Real tt (l i) (k i) (subst (λ z. MeaningRelated g.types h.types P.pairs z (l i) (k i)) e (summand i b)))),
         )

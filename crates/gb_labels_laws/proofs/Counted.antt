@@ -1,5 +1,5 @@
 -- The greatest numbers of labels count how often each module stands in the list.
-use Rattle.std.proofs.Common.{◌≡◌, ◌⊎◌, inl, inr, ℕ, suc, ◌+◌, ◌≤◌, ◌<◌, Bool, true, false, if◌then◌else◌, bytes_eq, Option, Some, None, List, [], ◌∷◌, length, refl, ap, sym, ◌∙◌, arith}
+use Rattle.std.proofs.Common.{◌≡◌, ◌⊎◌, inl, inr, ℕ, suc, ◌+◌, ◌≤◌, Bool, true, false, if◌then◌else◌, bytes_eq, Option, Some, None, List, [], ◌∷◌, length, refl, ap, sym, ◌∙◌, arith}
 use Rattle.std.proofs.lemmas.Bool.{false≢true}
 use Rattle.gb_core.specs.declared.ty.Ty.TheVariants as ty
 use Rattle.gb_meaning.specs.Names.{Name}
@@ -79,22 +79,3 @@ labels_room t u P ms ns h l m = step (count_of (counted [] ms) m) refl
             let a = s.0 in
             let b = s.1 in
             inr (omega (arith, c, z, n, a, b), omega (arith, c, z, n, a))
-
--- a module that stands in the list has a label
-pub label_there : (t u : Types) (ms : List Name) (m : Name) → HaveLabels t u (counted [] ms) → 0 < times m ms → 0 < (values t (ty.Glob m)).size → 0 < (values u (ty.Glob m)).size
-label_there t u ms m h l p = step (count_of (counted [] ms) m) refl
-  where
-    step : (o : Option ℕ) → count_of (counted [] ms) m ≡ o → 0 < (values u (ty.Glob m)).size
-    step None e =
-        let c = count_is m ms in
-        let z = ap count_or e in
-        absurd (omega (arith, c, z, l))
-    step (Some k) e = by (h m k e)
-      where
-        by : ((values t (ty.Glob m)).size ≡ (values u (ty.Glob m)).size) ⊎ (((values u (ty.Glob m)).size ≡ k) × (k ≤ (values t (ty.Glob m)).size)) → 0 < (values u (ty.Glob m)).size
-        by (inl s) = omega (arith, s, p)
-        by (inr s) =
-            let c = count_is m ms in
-            let z = ap count_or e in
-            let a = s.0 in
-            omega (arith, c, z, l, a)

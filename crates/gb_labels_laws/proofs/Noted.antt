@@ -1,13 +1,15 @@
--- Things, each read noted once: what stands in the list, and how many modules' names they give.
-use Rattle.std.proofs.Common.{◌≡◌, ◌⊎◌, inl, inr, ◌+◌, Bool, true, false, not, ◌||◌, if◌then◌else◌, Option, Some, None, List, [], ◌∷◌, ◌++◌, map, refl, ap, sym, ◌∙◌, subst, arith}
+-- Things, each noted once: what stands in the list, and how many modules' names they give.
+use Rattle.std.proofs.Common.{◌≡◌, ◌⊎◌, inl, inr, ◌+◌, ◌<◌, ℕ, zero, suc, Bool, true, false, not, ◌||◌, if◌then◌else◌, Some, List, [], ◌∷◌, ◌++◌, refl, ap, sym, ◌∙◌, subst, arith}
 use Rattle.std.proofs.lemmas.Bool.{false≢true}
-use Rattle.gb_core.specs.declared.ty.Ty.{Ty}
 use Rattle.gb_terms.specs.declared.op.Read.{Read}
 use Rattle.gb_terms.specs.Equal.{read_eq}
 use Rattle.gb_terms.proofs.Equality.{read_eq-Decides}
 use Rattle.gb_meaning.specs.Names.{Name}
+use Rattle.gb_labels.specs.declared.things.Source.{Source}
+use Rattle.gb_labels.specs.declared.things.Source.TheVariants.{Variable, Opened, Place}
 use Rattle.gb_labels.specs.declared.things.Thing.{Thing}
-use Rattle.gb_labels.specs.Things.{holds_glob, all_names, modules_of, modules_at, modules_in, is_read, is_noted, with_new, noted}
+use Rattle.gb_labels.specs.Things.{holds_glob, modules_of, modules_in, is_once, is_noted, with_new, noted}
+use Rattle.gb_labels.proofs.Same.{are_one}
 use Rattle.gb_labels_laws.specs.Needs.{names_in, times}
 use Rattle.gb_labels_laws.proofs.Globless.{uncounted_modules}
 use Rattle.gb_labels_laws.proofs.Room.{times_append, both_some}
@@ -15,8 +17,18 @@ use Rattle.gb_labels_laws.proofs.Room.{times_append, both_some}
 pub read_is : (r q : Read) → read_eq r q ≡ true → r ≡ q
 read_is r q = (read_eq-Decides r q).0
 
-pub same_read : (r : Read) → read_eq r r ≡ true
+same_read : (r : Read) → read_eq r r ≡ true
 same_read r = (read_eq-Decides r r).1 refl
+
+-- sources that count once are one
+pub once_is : (s q : Source) → is_once s q ≡ true → q ≡ s
+once_is (Variable r) (Variable q) e = ap Variable (read_is q r e)
+once_is (Opened t) (Opened u) e = ap Opened (are_one u t e)
+once_is (Variable r) (Opened u) e = absurd (false≢true e)
+once_is (Variable r) Place e = absurd (false≢true e)
+once_is (Opened t) (Variable q) e = absurd (false≢true e)
+once_is (Opened t) Place e = absurd (false≢true e)
+once_is Place q e = absurd (false≢true e)
 
 -- the thing stands in the list
 abbrev pub Among : Thing → List Thing → Type 0
@@ -52,18 +64,18 @@ module _ (P : Thing → Type 0) where
   -- what holds of things, holds of those that are noted
   pub noted_each : (seen xs : List Thing) → Each P seen → Each P xs → Each P (noted seen xs)
   noted_each seen [] k l = k
-  noted_each seen (x ∷ xs) k l = noted_each (with_new seen x) xs (step (not (holds_glob x.ty) || is_noted seen x.read)) l.1
+  noted_each seen (x ∷ xs) k l = noted_each (with_new seen x) xs (step (not (holds_glob x.ty) || is_noted seen x.source)) l.1
     where
       step : (b : Bool) → Each P (if b then seen else seen ++ x ∷ [])
       step true = k
       step false = each_append seen (x ∷ []) k (l.0, tt)
 
-pub among_left : (x : Thing) (xs ys : List Thing) → Among x xs → Among x (xs ++ ys)
+among_left : (x : Thing) (xs ys : List Thing) → Among x xs → Among x (xs ++ ys)
 among_left x [] ys q = absurd q
 among_left x (y ∷ xs) ys (inl e) = inl e
 among_left x (y ∷ xs) ys (inr q) = inr (among_left x xs ys q)
 
-pub among_right : (x : Thing) (xs ys : List Thing) → Among x ys → Among x (xs ++ ys)
+among_right : (x : Thing) (xs ys : List Thing) → Among x ys → Among x (xs ++ ys)
 among_right x [] ys q = q
 among_right x (y ∷ xs) ys q = inr (among_right x xs ys q)
 
@@ -74,71 +86,64 @@ not_true false c e = absurd (false≢true (sym e))
 -- each thing that is noted is of a type that holds globals
 pub noted_holds : (seen xs : List Thing) → Each (λ x. holds_glob x.ty ≡ true) seen → Each (λ x. holds_glob x.ty ≡ true) (noted seen xs)
 noted_holds seen [] k = k
-noted_holds seen (x ∷ xs) k = noted_holds (with_new seen x) xs (step (not (holds_glob x.ty) || is_noted seen x.read) refl)
+noted_holds seen (x ∷ xs) k = noted_holds (with_new seen x) xs (step (not (holds_glob x.ty) || is_noted seen x.source) refl)
   where
-    step : (b : Bool) → (not (holds_glob x.ty) || is_noted seen x.read) ≡ b → Each (λ y. holds_glob y.ty ≡ true) (if b then seen else seen ++ x ∷ [])
+    step : (b : Bool) → (not (holds_glob x.ty) || is_noted seen x.source) ≡ b → Each (λ y. holds_glob y.ty ≡ true) (if b then seen else seen ++ x ∷ [])
     step true e = k
-    step false e = each_append (λ y. holds_glob y.ty ≡ true) seen (x ∷ []) k (not_true (holds_glob x.ty) (is_noted seen x.read) e, tt)
+    step false e = each_append (λ y. holds_glob y.ty ≡ true) seen (x ∷ []) k (not_true (holds_glob x.ty) (is_noted seen x.source) e, tt)
 
-pub noted_kept : (y : Thing) (seen xs : List Thing) → Among y seen → Among y (noted seen xs)
+noted_kept : (y : Thing) (seen xs : List Thing) → Among y seen → Among y (noted seen xs)
 noted_kept y seen [] q = q
-noted_kept y seen (x ∷ xs) q = noted_kept y (with_new seen x) xs (step (not (holds_glob x.ty) || is_noted seen x.read))
+noted_kept y seen (x ∷ xs) q = noted_kept y (with_new seen x) xs (step (not (holds_glob x.ty) || is_noted seen x.source))
   where
     step : (b : Bool) → Among y (if b then seen else seen ++ x ∷ [])
     step true = q
     step false = among_left y seen (x ∷ []) q
 
--- the thing, or one of the same read
+-- the thing, or one of the same source
 abbrev pub Stands : Thing → List Thing → Type 0
-Stands x ys = (y : Thing) × Among y ys × (y.read ≡ x.read) × (x.read ≡ None → y ≡ x)
+Stands x ys = (y : Thing) × Among y ys × (y.source ≡ x.source) × (x.source ≡ Place → y ≡ x)
 
-no_read : (r : Read) → Some r ≡ None → ⊥
-no_read r e = cc
-
-read_of_some : (r : Read) (o : Option Read) → is_read r o ≡ true → o ≡ Some r
-read_of_some r None e = absurd (false≢true e)
-read_of_some r (Some q) e = ap Some (read_is q r e)
-
--- a read that is noted stands there
-pub noted_read : (r : Read) (ys : List Thing) → is_noted ys (Some r) ≡ true → (y : Thing) × Among y ys × (y.read ≡ Some r)
-noted_read r [] e = absurd (false≢true e)
-noted_read r (y ∷ ys) e = step (noted_read r ys) (is_read r y.read) refl e
+-- what is noted stands there
+pub noted_source : (s : Source) (ys : List Thing) → is_noted ys s ≡ true → (y : Thing) × Among y ys × (y.source ≡ s)
+noted_source s [] e = absurd (false≢true e)
+noted_source s (y ∷ ys) e = step (noted_source s ys) (is_once s y.source) refl e
   where
-    step : (is_noted ys (Some r) ≡ true → (z : Thing) × Among z ys × (z.read ≡ Some r)) → (b : Bool) → is_read r y.read ≡ b → (b || is_noted ys (Some r)) ≡ true →
-        (z : Thing) × Among z (y ∷ ys) × (z.read ≡ Some r)
-    step u true p e = (y, inl refl, read_of_some r y.read p)
+    step : (is_noted ys s ≡ true → (z : Thing) × Among z ys × (z.source ≡ s)) → (b : Bool) → is_once s y.source ≡ b → (b || is_noted ys s) ≡ true → (z : Thing) × Among z (y ∷ ys) × (z.source ≡ s)
+    step u true p e = (y, inl refl, once_is s y.source p)
     step u false p e = let w = u e in (w.0, inr w.1, w.2)
 
 -- and a read that stands there is noted
-pub read_noted : (r : Read) (y : Thing) (ys : List Thing) → Among y ys → y.read ≡ Some r → is_noted ys (Some r) ≡ true
+pub read_noted : (r : Read) (y : Thing) (ys : List Thing) → Among y ys → y.source ≡ Variable r → is_noted ys (Variable r) ≡ true
 read_noted r y [] q e = absurd q
-read_noted r y (z ∷ ys) (inl p) e = ap (λ o. is_read r o || is_noted ys (Some r)) (ap (λ (w : Thing). w.read) p ∙ e) ∙ ap (λ b. b || is_noted ys (Some r)) (same_read r)
-read_noted r y (z ∷ ys) (inr q) e = step (is_read r z.read) (read_noted r y ys q e)
+read_noted r y (z ∷ ys) (inl p) e = ap (λ o. is_once (Variable r) o || is_noted ys (Variable r)) (ap (λ (w : Thing). w.source) p ∙ e) ∙ ap (λ b. b || is_noted ys (Variable r)) (same_read r)
+read_noted r y (z ∷ ys) (inr q) e = step (is_once (Variable r) z.source) (read_noted r y ys q e)
   where
-    step : (b : Bool) → is_noted ys (Some r) ≡ true → (b || is_noted ys (Some r)) ≡ true
+    step : (b : Bool) → is_noted ys (Variable r) ≡ true → (b || is_noted ys (Variable r)) ≡ true
     step true k = refl
     step false k = k
+
+-- a thing at its place is none that is noted
+place_unnoted : (ys : List Thing) → is_noted ys Place ≡ false
+place_unnoted [] = refl
+place_unnoted (y ∷ ys) = place_unnoted ys
 
 -- each thing of a type that holds globals is noted
 pub noted_stands : (x : Thing) (seen xs : List Thing) → Among x xs → holds_glob x.ty ≡ true → Stands x (noted seen xs)
 noted_stands x seen [] q h = absurd q
 noted_stands x seen (y ∷ xs) (inr q) h = noted_stands x (with_new seen y) xs q h
 noted_stands x seen (y ∷ xs) (inl e) h =
-    let w = step x.read refl (is_noted seen x.read) refl in
+    let w = step (is_noted seen x.source) refl in
     (w.0, noted_kept w.0 (with_new seen y) xs (subst (λ z. Among w.0 (with_new seen z)) (sym e) w.1), w.2, w.3)
   where
-    added : (b : Bool) → is_noted seen x.read ≡ b → b ≡ false → with_new seen x ≡ seen ++ x ∷ []
-    added b p n = λ i. if not (h i) || (p ∙ n) i then seen else seen ++ x ∷ []
-
-    step : (o : Option Read) → x.read ≡ o → (b : Bool) → is_noted seen x.read ≡ b → Stands x (with_new seen x)
-    step o p false n = (x, subst (Among x) (sym (added false n refl)) (among_right x seen (x ∷ []) (inl refl)), refl, λ k. refl)
-    step None p true n = absurd (false≢true (sym (ap (is_noted seen) p) ∙ n))
-    step (Some r) p true n =
-        let w = noted_read r seen (sym (ap (is_noted seen) p) ∙ n) in (
+    step : (b : Bool) → is_noted seen x.source ≡ b → Stands x (with_new seen x)
+    step false n = (x, subst (Among x) (λ i. if not (sym h i) || sym n i then seen else seen ++ x ∷ []) (among_right x seen (x ∷ []) (inl refl)), refl, λ k. refl)
+    step true n =
+        let w = noted_source x.source seen n in (
           w.0,
           subst (Among w.0) (λ i. if not (holds_glob x.ty) || sym n i then seen else seen ++ x ∷ []) (kept (not (holds_glob x.ty)) w.0 w.1),
-          w.2 ∙ sym p,
-          λ k. absurd (no_read r (sym p ∙ k)),
+          w.2,
+          λ k. absurd (false≢true (sym (place_unnoted seen) ∙ ap (is_noted seen) (sym k) ∙ n)),
         )
       where
         kept : (b : Bool) (z : Thing) → Among z seen → Among z (if b || true then seen else seen ++ x ∷ [])
@@ -148,96 +153,131 @@ noted_stands x seen (y ∷ xs) (inl e) h =
 -- Names.
 
 abbrev pub names_at : Thing → List Name
-names_at x = names_in (modules_at x)
+names_at x = names_in (modules_of x.ty)
 
 abbrev pub all_names_of : List Thing → List Name
 all_names_of [] = []
 all_names_of (x ∷ xs) = names_at x ++ all_names_of xs
 
-abbrev pub unread_at : Option Read → Ty → List Name
-unread_at None a = names_in (modules_of a)
-unread_at (Some r) a = []
+-- kinds of sources
 
--- the names of the things that are no reads
-abbrev pub unread : List Thing → List Name
-unread [] = []
-unread (x ∷ xs) = unread_at x.read x.ty ++ unread xs
+abbrev pub is_variable : Source → Bool
+is_variable (Variable r) = true
+is_variable _ = false
 
-abbrev pub if_read : Option Read → List Name → List Name
-if_read None ms = []
-if_read (Some r) ms = ms
+abbrev pub is_opened : Source → Bool
+is_opened (Opened t) = true
+is_opened _ = false
 
--- the names of the reads
-abbrev pub read_names : List Thing → List Name
-read_names [] = []
-read_names (x ∷ xs) = if_read x.read (names_at x) ++ read_names xs
+abbrev pub is_place : Source → Bool
+is_place Place = true
+is_place _ = false
 
-pub names_split : (m : Name) (xs : List Thing) → times m (all_names_of xs) ≡ times m (unread xs) + times m (read_names xs)
-names_split m [] = omega arith
-names_split m (x ∷ xs) =
-    let a = times_append m (names_at x) (all_names_of xs) in
-    let b = times_append m (unread_at x.read x.ty) (unread xs) in
-    let c = times_append m (if_read x.read (names_at x)) (read_names xs) in
-    let d = one x.read refl in
-    let rest = names_split m xs in
-    omega (arith, a, b, c, d, rest)
-  where
-    one : (o : Option Read) → x.read ≡ o → times m (names_at x) ≡ times m (unread_at x.read x.ty) + times m (if_read x.read (names_at x))
-    one o e = subst (λ p. times m (names_in (modules_at (record { read = p; ty = x.ty }))) ≡ times m (unread_at p x.ty) + times m (if_read p (names_in (modules_at (record { read = p; ty = x.ty }))))) (sym e) (at_option o)
-      where
-        at_option : (o : Option Read) → times m (names_in (modules_at (record { read = o; ty = x.ty }))) ≡ times m (unread_at o x.ty) + times m (if_read o (names_in (modules_at (record { read = o; ty = x.ty }))))
-        at_option None = omega arith
-        at_option (Some r) = omega arith
+-- the names of the things of a kind
+abbrev pub names_of : (Source → Bool) → List Thing → List Name
+names_of kind [] = []
+names_of kind (x ∷ xs) = (if kind x.source then names_at x else []) ++ names_of kind xs
 
 -- all names together
 pub modules_names : (xs : List Thing) (ms : List Name) → modules_in xs ≡ Some ms → all_names_of xs ≡ ms
 modules_names [] ms e = ap names_in e
 modules_names (x ∷ xs) ms e =
-    let s = both_some (modules_at x) (all_names (map modules_at xs)) ms e in
+    let s = both_some (modules_of x.ty) (modules_in xs) ms e in
     (λ i. names_in (s.2 i) ++ modules_names xs s.1 s.3 i) ∙ s.4
 
 -- each thing has names
-pub modules_each : (xs : List Thing) (ms : List Name) → modules_in xs ≡ Some ms → Each (λ x. (ns : List Name) × (modules_at x ≡ Some ns)) xs
+pub modules_each : (xs : List Thing) (ms : List Name) → modules_in xs ≡ Some ms → Each (λ x. (ns : List Name) × (modules_of x.ty ≡ Some ns)) xs
 modules_each [] ms e = tt
 modules_each (x ∷ xs) ms e =
-    let s = both_some (modules_at x) (all_names (map modules_at xs)) ms e in
+    let s = both_some (modules_of x.ty) (modules_in xs) ms e in
     ((s.0, s.2), modules_each xs s.1 s.3)
 
-pub unread_append : (m : Name) (xs ys : List Thing) → times m (unread (xs ++ ys)) ≡ times m (unread xs) + times m (unread ys)
-unread_append m [] ys = omega arith
-unread_append m (x ∷ xs) ys =
-    let a = times_append m (unread_at x.read x.ty) (unread (xs ++ ys)) in
-    let b = times_append m (unread_at x.read x.ty) (unread xs) in
-    let rest = unread_append m xs ys in
-    omega (arith, a, b, rest)
+module _ (m : Name) where
+  kinds_split : (s : Source) (ns : List Name) → times m ns ≡ times m (if is_place s then ns else []) + times m (if is_opened s then ns else []) + times m (if is_variable s then ns else [])
+  kinds_split (Variable r) ns = omega arith
+  kinds_split (Opened t) ns = omega arith
+  kinds_split Place ns = omega arith
 
--- noting leaves out no thing but reads
-pub noted_unread : (m : Name) (seen xs : List Thing) → times m (unread (noted seen xs)) ≡ times m (unread seen) + times m (unread xs)
-noted_unread m seen [] = omega arith
-noted_unread m seen (x ∷ xs) =
-    let a = noted_unread m (with_new seen x) xs in
-    let b = times_append m (unread_at x.read x.ty) (unread xs) in
-    let c = one x.read refl (holds_glob x.ty) refl (is_noted seen x.read) refl in
-    omega (arith, a, b, c)
-  where
-    last : times m (unread (seen ++ x ∷ [])) ≡ times m (unread seen) + times m (unread_at x.read x.ty)
-    last =
-        let a = unread_append m seen (x ∷ []) in
-        let b = times_append m (unread_at x.read x.ty) [] in
-        omega (arith, a, b)
+  pub names_split : (xs : List Thing) → times m (all_names_of xs) ≡ times m (names_of is_place xs) + times m (names_of is_opened xs) + times m (names_of is_variable xs)
+  names_split [] = omega arith
+  names_split (x ∷ xs) =
+      let a = times_append m (names_at x) (all_names_of xs) in
+      let b = times_append m (if is_place x.source then names_at x else []) (names_of is_place xs) in
+      let c = times_append m (if is_opened x.source then names_at x else []) (names_of is_opened xs) in
+      let d = times_append m (if is_variable x.source then names_at x else []) (names_of is_variable xs) in
+      let one = kinds_split x.source (names_at x) in
+      let rest = names_split xs in
+      omega (arith, a, b, c, d, one, rest)
 
-    none_of : (ns : List Name) → ns ≡ [] → times m (unread seen) ≡ times m (unread seen) + times m ns
-    none_of ns e = let k = ap (times m) e in omega (arith, k)
+  module _ (kind : Source → Bool) where
+    pub names_append : (xs ys : List Thing) → times m (names_of kind (xs ++ ys)) ≡ times m (names_of kind xs) + times m (names_of kind ys)
+    names_append [] ys = omega arith
+    names_append (x ∷ xs) ys =
+        let here = if kind x.source then names_at x else [] in
+        let a = times_append m here (names_of kind (xs ++ ys)) in
+        let b = times_append m here (names_of kind xs) in
+        let rest = names_append xs ys in
+        omega (arith, a, b, rest)
 
-    unread_read : (o : Option Read) (r : Read) → o ≡ Some r → unread_at o x.ty ≡ []
-    unread_read o r e = ap (λ p. unread_at p x.ty) e
+    -- a thing that gives the name, where one does
+    pub giver : (xs : List Thing) → 0 < times m (names_of kind xs) → (x : Thing) × Among x xs × (kind x.source ≡ true) × (0 < times m (names_at x))
+    giver [] l = absurd (omega arith)
+    giver (x ∷ xs) l = step (giver xs) (kind x.source) refl (times m (names_at x)) refl
+      where
+        behind : times m (if kind x.source then names_at x else []) ≡ 0 → 0 < times m (names_of kind xs)
+        behind e = let a = times_append m (if kind x.source then names_at x else []) (names_of kind xs) in omega (arith, a, e, l)
 
-    one : (o : Option Read) → x.read ≡ o → (b : Bool) → holds_glob x.ty ≡ b → (n : Bool) → is_noted seen x.read ≡ n →
-        times m (unread (if not (holds_glob x.ty) || is_noted seen x.read then seen else seen ++ x ∷ [])) ≡ times m (unread seen) + times m (unread_at x.read x.ty)
-    one o e true p false q = (λ i. times m (unread (if not (p i) || q i then seen else seen ++ x ∷ []))) ∙ last
-    one None e b p true q = absurd (false≢true (sym (ap (is_noted seen) e) ∙ q))
-    one (Some r) e true p true q = (λ i. times m (unread (if not (p i) || q i then seen else seen ++ x ∷ []))) ∙ none_of (unread_at x.read x.ty) (unread_read x.read r e)
-    one (Some r) e false p n q = (λ i. times m (unread (if not (p i) || is_noted seen x.read then seen else seen ++ x ∷ []))) ∙ none_of (unread_at x.read x.ty) (unread_read x.read r e)
-    one None e false p n q =
-        (λ i. times m (unread (if not (p i) || is_noted seen x.read then seen else seen ++ x ∷ [])))
-        ∙ none_of (unread_at x.read x.ty) (ap (λ y. unread_at y x.ty) e ∙ ap names_in (uncounted_modules x.ty p))
+        further : (0 < times m (names_of kind xs) → (z : Thing) × Among z xs × (kind z.source ≡ true) × (0 < times m (names_at z))) → times m (if kind x.source then names_at x else []) ≡ 0 →
+            (z : Thing) × Among z (x ∷ xs) × (kind z.source ≡ true) × (0 < times m (names_at z))
+        further rest e = let w = rest (behind e) in (w.0, inr w.1, w.2, w.3)
+
+        step : (0 < times m (names_of kind xs) → (z : Thing) × Among z xs × (kind z.source ≡ true) × (0 < times m (names_at z))) → (b : Bool) → kind x.source ≡ b → (n : ℕ) → times m (names_at x) ≡ n →
+            (z : Thing) × Among z (x ∷ xs) × (kind z.source ≡ true) × (0 < times m (names_at z))
+        step rest false e n p = further rest (ap (λ b. times m (if b then names_at x else [])) e)
+        step rest true e zero p = further rest (ap (λ b. times m (if b then names_at x else [])) e ∙ p)
+        step rest true e (suc n) p = (x, inl refl, e, omega (arith, p))
+
+    pub given : (y : Thing) (xs : List Thing) → Among y xs → kind y.source ≡ true → 0 < times m (names_at y) → 0 < times m (names_of kind xs)
+    given y [] q e l = absurd q
+    given y (x ∷ xs) (inl p) e l =
+        let here = if kind x.source then names_at x else [] in
+        let a = times_append m here (names_of kind xs) in
+        let same : times m here ≡ times m (names_at y) = ap (λ (z : Thing). times m (if kind z.source then names_at z else [])) p ∙ ap (λ b. times m (if b then names_at y else [])) e in
+        omega (arith, a, same, l)
+    given y (x ∷ xs) (inr q) e l =
+        let a = times_append m (if kind x.source then names_at x else []) (names_of kind xs) in
+        let rest = given y xs q e l in
+        omega (arith, a, rest)
+
+  -- noting leaves out nothing that is at its place
+  pub noted_places : (seen xs : List Thing) → times m (names_of is_place (noted seen xs)) ≡ times m (names_of is_place seen) + times m (names_of is_place xs)
+  noted_places seen [] = omega arith
+  noted_places seen (x ∷ xs) =
+      let a = noted_places (with_new seen x) xs in
+      let b = times_append m (if is_place x.source then names_at x else []) (names_of is_place xs) in
+      let c = one (is_place x.source) refl (holds_glob x.ty) refl in
+      omega (arith, a, b, c)
+    where
+      last : times m (names_of is_place (seen ++ x ∷ [])) ≡ times m (names_of is_place seen) + times m (if is_place x.source then names_at x else [])
+      last =
+          let a = names_append is_place seen (x ∷ []) in
+          let b = times_append m (if is_place x.source then names_at x else []) [] in
+          omega (arith, a, b)
+
+      -- where the thing gives no names
+      none : times m (if is_place x.source then names_at x else []) ≡ 0 → (b : Bool) → times m (names_of is_place (if b then seen else seen ++ x ∷ [])) ≡ times m (names_of is_place seen) + times m (if is_place x.source then names_at x else [])
+      none e true = omega (arith, e)
+      none e false = last
+
+      place : (s : Source) → is_place s ≡ true → s ≡ Place
+      place (Variable r) e = absurd (false≢true e)
+      place (Opened t) e = absurd (false≢true e)
+      place Place e = refl
+
+      one : (p : Bool) → is_place x.source ≡ p → (b : Bool) → holds_glob x.ty ≡ b → times m (names_of is_place (with_new seen x)) ≡ times m (names_of is_place seen) + times m (if is_place x.source then names_at x else [])
+      one false p b h = none (ap (λ q. times m (if q then names_at x else [])) p) (not (holds_glob x.ty) || is_noted seen x.source)
+      one true p false h =
+          none (ap (λ q. times m (if q then names_at x else [])) p ∙ ap (λ o. times m (names_in o)) (uncounted_modules x.ty h)) (not (holds_glob x.ty) || is_noted seen x.source)
+      one true p true h =
+          let new : is_noted seen x.source ≡ false = ap (is_noted seen) (place x.source p) ∙ place_unnoted seen in
+          (λ i. times m (names_of is_place (if not (h i) || new i then seen else seen ++ x ∷ []))) ∙ last

@@ -7,7 +7,7 @@ use Rattle.std.proofs.lemmas.Map.Steps.{length-le_from_distinct_below, le-length
 use Rattle.gb_core.specs.declared.value.Value.{Value}
 use Rattle.gb_types.specs.Numbering.{Numbering}
 use Rattle.gb_types.proofs.Lawful.{Lawful}
-use Rattle.gb_laws.proofs.Values.{value_discrete}
+use Rattle.gb_meaning.proofs.Values.{value_discrete}
 use Rattle.gb_labels_laws.specs.Pairs.{IsPair, AreNew, AreMatched}
 use Rattle.gb_labels_laws.specs.Needs.{HasRoomFor}
 

@@ -7,11 +7,12 @@ use Rattle.gb_meaning.specs.Setting.{Setting}
 use Rattle.gb_meaning.specs.State.{State}
 use Rattle.gb_meaning.specs.Terms.{Speaks, Part, argument, parts, part_of}
 use Rattle.gb_meaning.specs.Written.{type_of}
-use Rattle.gb_later.specs.Naming.{EachGlobAmong}
-use Rattle.gb_typed.specs.Context.{AreOf}
-use Rattle.gb_typed.specs.Operators.{IsDistributionType}
-use Rattle.gb_typed.specs.Typing.{Binder}
-use Rattle.gb_typed.specs.Typing as typing
+use Rattle.gb_typing.specs.Naming.{EachGlobAmong}
+use Rattle.gb_laws.specs.Context.{AreOf}
+use Rattle.gb_laws.specs.Operators.{IsDistributionType}
+use Rattle.gb_laws.specs.Typing.{Binder}
+use Rattle.gb_laws.specs.Typing as typing
+use Rattle.gb_reads.specs.Reads.{Vars}
 use Rattle.gb_labels_laws.specs.Pairs.{Pairing}
 use Rattle.gb_labels_laws.specs.Related.{ReadTypes, MeaningRelated, StateRelated}
 use Rattle.gb_labels_laws.specs.Needs.{HasFirsts, HasRoom, quantified, all_quantified, opened, all_opened}
@@ -49,17 +50,17 @@ opened_in (x ∷ xs) = x.opened ++ opened_in xs
 
 module _ (g h : Setting) (T : ReadTypes) where
   -- related states give related meanings, where there is room
-  abbrev pub IsSide : List Binder → Sides → Type 0
-  IsSide bs x =
-      ((P : Pairing g.types h.types) (s r : State) → HasFirsts g.types h.types P.pairs x.opened → HasRoom g.types h.types P.pairs x.quantified → StateRelated g h P.pairs T bs s r →
-      MeaningRelated g.types P.pairs x.ty (x.left.meaning s) (x.right.meaning r))
+  abbrev pub IsSide : List Binder → List Vars → Sides → Type 0
+  IsSide bs vss x =
+      ((P : Pairing g.types h.types) (s r : State) → HasFirsts g.types h.types P.pairs x.opened → HasRoom g.types h.types P.pairs x.quantified → StateRelated g h P.pairs T bs vss s r →
+      MeaningRelated g.types h.types P.pairs x.ty (x.left.meaning s) (x.right.meaning r))
       × (x.left.denominator ≡ x.right.denominator) × (IsDistributionType x.ty → 0 < x.left.denominator)
 
   -- the same of each, the last inside of binders of its own
-  abbrev pub AreSides : List Binder → List Binder → List Sides → Type 0
-  AreSides bs cs [] = Unit {0}
-  AreSides bs cs (x ∷ []) = IsSide cs x
-  AreSides bs cs (x ∷ y ∷ xs) = IsSide bs x × AreSides bs cs (y ∷ xs)
+  abbrev pub AreSides : List Binder → List Binder → List Vars → List Vars → List Sides → Type 0
+  AreSides bs cs vss wss [] = Unit {0}
+  AreSides bs cs vss wss (x ∷ []) = IsSide cs wss x
+  AreSides bs cs vss wss (x ∷ y ∷ xs) = IsSide bs vss x × AreSides bs cs vss wss (y ∷ xs)
 
   abbrev pub both : State → State → List Sides → Arguments
   both s r xs = map (λ x. (x.ty, argument s x.left, argument r x.right)) xs
@@ -76,27 +77,27 @@ module _ (g h : Setting) (T : ReadTypes) where
   both_rights s r [] = refl
   both_rights s r (x ∷ xs) = ap (λ z. argument r x.right ∷ z) (both_rights s r xs)
 
-  pub arguments_related : (P : Pairing g.types h.types) (bs : List Binder) (s r : State) → StateRelated g h P.pairs T bs s r → (xs : List Sides) → AreSides bs bs xs →
-      HasFirsts g.types h.types P.pairs (opened_in xs) → HasRoom g.types h.types P.pairs (quantified_in xs) → ArgumentsRelated g.types P.pairs (both s r xs)
-  arguments_related P bs s r q [] k f m = tt
-  arguments_related P bs s r q (x ∷ []) k f m =
+  pub arguments_related : (P : Pairing g.types h.types) (bs : List Binder) (vss : List Vars) (s r : State) → StateRelated g h P.pairs T bs vss s r → (xs : List Sides) → AreSides bs bs vss vss xs →
+      HasFirsts g.types h.types P.pairs (opened_in xs) → HasRoom g.types h.types P.pairs (quantified_in xs) → ArgumentsRelated g.types h.types P.pairs (both s r xs)
+  arguments_related P bs vss s r q [] k f m = tt
+  arguments_related P bs vss s r q (x ∷ []) k f m =
       ((k.0 P s r (firsts_left g.types h.types P.pairs x.opened [] f) (room_first g.types h.types P.pairs x.quantified [] m) q, k.1, k.2), tt)
-  arguments_related P bs s r q (x ∷ y ∷ xs) k f m = (
+  arguments_related P bs vss s r q (x ∷ y ∷ xs) k f m = (
     (k.0.0 P s r (firsts_left g.types h.types P.pairs x.opened (opened_in (y ∷ xs)) f) (room_first g.types h.types P.pairs x.quantified (quantified_in (y ∷ xs)) m) q, k.0.1, k.0.2),
-    arguments_related P bs s r q (y ∷ xs) k.1 (firsts_right g.types h.types P.pairs x.opened (opened_in (y ∷ xs)) f) (room_last g.types h.types P.pairs x.quantified (quantified_in (y ∷ xs)) m),
+    arguments_related P bs vss s r q (y ∷ xs) k.1 (firsts_right g.types h.types P.pairs x.opened (opened_in (y ∷ xs)) f) (room_last g.types h.types P.pairs x.quantified (quantified_in (y ∷ xs)) m),
   )
 
   -- the meanings of arguments alone
   module _ (alike : AreAlike g h) (P : Pairing g.types h.types) (s r : State) where
-    pub are_of : (xs : List Sides) → ArgumentsRelated g.types P.pairs (both s r xs) → AreOf g.types (tys xs) (map (λ x. x.meaning s) (left_parts xs))
+    pub are_of : (xs : List Sides) → ArgumentsRelated g.types h.types P.pairs (both s r xs) → AreOf g.types (tys xs) (map (λ x. x.meaning s) (left_parts xs))
     are_of [] k = tt
     are_of (x ∷ xs) k = (meaning_of g.types h.types alike.sizes P x.ty (x.left.meaning s) (x.right.meaning r) k.0.0, are_of xs k.1)
 
-    pub same_meanings : (xs : List Sides) → ArgumentsRelated g.types P.pairs (both s r xs) → EachGlobAmong (λ m. ⊥) (tys xs) →
+    pub same_meanings : (xs : List Sides) → ArgumentsRelated g.types h.types P.pairs (both s r xs) → EachGlobAmong (λ m. ⊥) (tys xs) →
         map (λ x. x.meaning s) (left_parts xs) ≡ map (λ x. x.meaning r) (right_parts xs)
     same_meanings [] k n = refl
     same_meanings (x ∷ xs) k n =
-        let e = meaning_equal g.types P.pairs x.ty n.0 (x.left.meaning s) (x.right.meaning r) k.0.0 in
+        let e = meaning_equal g.types h.types alike.sizes P.pairs x.ty n.0 (x.left.meaning s) (x.right.meaning r) k.0.0 in
         λ i. e i ∷ same_meanings xs k.1 n.1 i
 
 -- the arguments of a term

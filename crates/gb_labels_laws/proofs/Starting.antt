@@ -1,5 +1,5 @@
 -- Pairs at the start: first values, and one for each read.
-use Rattle.std.proofs.Common.{◌≡◌, inl, ℕ, zero, suc, ◌≤◌, ◌<◌, Bool, true, false, ◌||◌, if◌then◌else◌, Option, Some, None, List, [], ◌∷◌, ◌++◌, length, refl, ap, sym, ◌∙◌, subst, arith}
+use Rattle.std.proofs.Common.{◌≡◌, inl, ℕ, zero, suc, ◌≤◌, ◌<◌, Bool, true, false, ◌||◌, if◌then◌else◌, Option, Some, List, [], ◌∷◌, ◌++◌, length, refl, ap, sym, ◌∙◌, subst, arith}
 use Rattle.std.proofs.lemmas.Bool.{false≢true}
 use Rattle.gb_core.specs.declared.ty.Ty.{Ty}
 use Rattle.gb_core.specs.declared.ty.Ty.TheVariants as ty
@@ -12,14 +12,16 @@ use Rattle.gb_meaning.specs.Setting.{Setting}
 use Rattle.gb_meaning.specs.Meanings.{value_in}
 use Rattle.gb_meaning.specs.State.{State}
 use Rattle.gb_meaning.specs.Terms.{read_at}
+use Rattle.gb_labels.specs.declared.things.Source.{Source}
+use Rattle.gb_labels.specs.declared.things.Source.TheVariants.{Variable, Opened, Place}
 use Rattle.gb_labels.specs.declared.things.Thing.{Thing}
-use Rattle.gb_labels.specs.Things.{modules_of, is_read, is_noted}
+use Rattle.gb_labels.specs.Things.{modules_of, is_once, is_noted}
 use Rattle.gb_labels_laws.specs.Pairs.{IsPair, AreMatched, Pairing}
 use Rattle.gb_labels_laws.specs.Related.{ReadTypes, Related}
 use Rattle.gb_labels_laws.specs.Needs.{times, HasFirsts, HasRoom}
 use Rattle.gb_labels_laws.specs.Model.{HasReadValues}
 use Rattle.gb_labels_laws.proofs.Extending.{IsLonger, extend, related_longer}
-use Rattle.gb_labels_laws.proofs.Noted.{Each, names_at, if_read, read_names, read_is}
+use Rattle.gb_labels_laws.proofs.Noted.{Each, names_at, is_variable, names_of, read_is}
 use Rattle.gb_labels_laws.proofs.Room.{times_first, times_more, room_assoc}
 
 -- first values, where there is a use for them
@@ -27,9 +29,10 @@ abbrev pub firsts_for : Types → Types → Name → ℕ → List (Value × Valu
 firsts_for t u m zero = []
 firsts_for t u m (suc n) = (first t (ty.Glob m), first u (ty.Glob m)) ∷ []
 
-pub firsts_few : (t u : Types) (m : Name) (n : ℕ) → length (firsts_for t u m n) ≤ n
-firsts_few t u m zero = omega arith
-firsts_few t u m (suc n) = omega arith
+-- they need as much room as one value that is there where they have a use
+pub firsts_few : (t u : Types) (m : Name) (n k : ℕ) → (0 < n → 0 < k) → length (firsts_for t u m n) ≤ k
+firsts_few t u m zero k l = omega arith
+firsts_few t u m (suc n) k l = let a = l (omega arith) in omega (arith, a)
 
 first_pair : (t u : Types) (m : Name) (n : ℕ) → 0 < n → IsPair (firsts_for t u m n) (first t (ty.Glob m)) (first u (ty.Glob m))
 first_pair t u m zero l = absurd (omega arith)
@@ -57,37 +60,38 @@ module _ (t u : Types) (opened : List Name)
   has_firsts = firsts_there opened (λ m. omega arith)
 
 -- a read of a type whose parts are counted
-abbrev pub LabelledAt : ReadTypes → Option Read → Ty → List Name → Type 0
-LabelledAt T None a ms = Unit {0}
-LabelledAt T (Some r) a ms = (T r ≡ Some a) × (modules_of a ≡ Some ms)
+abbrev pub LabelledAt : ReadTypes → Source → Ty → List Name → Type 0
+LabelledAt T (Variable r) a ms = (T r ≡ Some a) × (modules_of a ≡ Some ms)
+LabelledAt T _ a ms = Unit {0}
 
 abbrev pub IsLabelled : ReadTypes → Thing → Type 0
-IsLabelled T x = LabelledAt T x.read x.ty (names_at x)
+IsLabelled T x = LabelledAt T x.source x.ty (names_at x)
 
 same_type : (a b : Ty) (o : Option Ty) → o ≡ Some a → o ≡ Some b → a ≡ b
 same_type a b o e f = cc
 
-module _ (g h : Setting) (T : ReadTypes) (s : State) (held : HasReadValues g T s) (own : Read → Value) where
+module _ (g h : Setting) (same_sizes : g.types.size ≡ h.types.size) (T : ReadTypes) (s : State) (held : HasReadValues g T s) (own : Read → Value) where
   -- values that are related to those of the reads that are noted
   pub record Chosen (P : Pairing g.types h.types) (is_there : Read → Bool) (ns : List Name) : Type 0 where
     pub pairing : Pairing g.types h.types
     pub longer : IsLonger g.types h.types P pairing
     pub room : HasRoom g.types h.types pairing.pairs ns
     pub label : Read → Value
-    pub related : (r : Read) (a : Ty) → T r ≡ Some a → is_there r ≡ true → Related g.types pairing.pairs a (value_in (read_at g r a s)) (label r)
+    pub related : (r : Read) (a : Ty) → T r ≡ Some a → is_there r ≡ true → Related g.types h.types pairing.pairs a (value_in (read_at g r a s)) (label r)
     pub other : (r : Read) → is_there r ≡ false → label r ≡ own r
 
-  one_chosen : (o : Option Read) (a : Ty) (ms : List Name) (xs : List Thing) → LabelledAt T o a ms → (P : Pairing g.types h.types) (ns : List Name) →
-      HasRoom g.types h.types P.pairs ((if_read o ms ++ read_names xs) ++ ns) →
-      ((Q : Pairing g.types h.types) → HasRoom g.types h.types Q.pairs (read_names xs ++ ns) → Chosen Q (λ r. is_noted xs (Some r)) ns) →
-      Chosen P (λ r. is_read r o || is_noted xs (Some r)) ns
-  one_chosen None a ms xs l P ns room rest = rest P room
-  one_chosen (Some q) a ms xs l P ns room rest =
+  one_chosen : (o : Source) (a : Ty) (ms : List Name) (xs : List Thing) → LabelledAt T o a ms → (P : Pairing g.types h.types) (ns : List Name) →
+      HasRoom g.types h.types P.pairs (((if is_variable o then ms else []) ++ names_of is_variable xs) ++ ns) →
+      ((Q : Pairing g.types h.types) → HasRoom g.types h.types Q.pairs (names_of is_variable xs ++ ns) → Chosen Q (λ r. is_noted xs (Variable r)) ns) →
+      Chosen P (λ r. is_once (Variable r) o || is_noted xs (Variable r)) ns
+  one_chosen (Opened t) a ms xs l P ns room rest = rest P room
+  one_chosen Place a ms xs l P ns room rest = rest P room
+  one_chosen (Variable q) a ms xs l P ns room rest =
       let v = held q a l.0 in
-      let n = extend g.types h.types a ms l.1 P (read_names xs ++ ns) v.0 v.2 (room_assoc g.types h.types P.pairs ms (read_names xs) ns room) in
+      let n = extend g.types h.types same_sizes a ms l.1 P (names_of is_variable xs ++ ns) v.0 v.2 (room_assoc g.types h.types P.pairs ms (names_of is_variable xs) ns room) in
       let c = rest n.pairing n.room in
-      let here : Related g.types c.pairing.pairs a (value_in (read_at g q a s)) n.value =
-      subst (λ z. Related g.types c.pairing.pairs a (value_in z) n.value) (sym v.1) (related_longer g.types h.types n.pairing c.pairing c.longer a v.0 n.value n.related) in
+      let here : Related g.types h.types c.pairing.pairs a (value_in (read_at g q a s)) n.value =
+      subst (λ z. Related g.types h.types c.pairing.pairs a (value_in z) n.value) (sym v.1) (related_longer g.types h.types n.pairing c.pairing c.longer a v.0 n.value n.related) in
       record {
         pairing = c.pairing;
         longer = λ m y z k. c.longer m y z (n.longer m y z k);
@@ -97,21 +101,21 @@ module _ (g h : Setting) (T : ReadTypes) (s : State) (held : HasReadValues g T s
         other = λ r k. at_other n.value c.label c.other r (read_eq q r) k;
       }
     where
-      at_read : (Q : Pairing g.types h.types) (w : Value) (label : Read → Value) → Related g.types Q.pairs a (value_in (read_at g q a s)) w →
-          ((r : Read) (b : Ty) → T r ≡ Some b → is_noted xs (Some r) ≡ true → Related g.types Q.pairs b (value_in (read_at g r b s)) (label r)) →
-          (r : Read) (b : Ty) → T r ≡ Some b → (d : Bool) → read_eq q r ≡ d → (d || is_noted xs (Some r)) ≡ true → Related g.types Q.pairs b (value_in (read_at g r b s)) (if d then w else label r)
+      at_read : (Q : Pairing g.types h.types) (w : Value) (label : Read → Value) → Related g.types h.types Q.pairs a (value_in (read_at g q a s)) w →
+          ((r : Read) (b : Ty) → T r ≡ Some b → is_noted xs (Variable r) ≡ true → Related g.types h.types Q.pairs b (value_in (read_at g r b s)) (label r)) →
+          (r : Read) (b : Ty) → T r ≡ Some b → (d : Bool) → read_eq q r ≡ d → (d || is_noted xs (Variable r)) ≡ true → Related g.types h.types Q.pairs b (value_in (read_at g r b s)) (if d then w else label r)
       at_read Q w label here others r b e true p k =
-          subst (λ z. Related g.types Q.pairs b (value_in (read_at g z b s)) w) (read_is q r p)
-          (subst (λ z. Related g.types Q.pairs z (value_in (read_at g q z s)) w) (same_type a b (T q) l.0 (ap T (read_is q r p) ∙ e)) here)
+          subst (λ z. Related g.types h.types Q.pairs b (value_in (read_at g z b s)) w) (read_is q r p)
+          (subst (λ z. Related g.types h.types Q.pairs z (value_in (read_at g q z s)) w) (same_type a b (T q) l.0 (ap T (read_is q r p) ∙ e)) here)
       at_read Q w label here others r b e false p k = others r b e k
 
-      at_other : (w : Value) (label : Read → Value) → ((r : Read) → is_noted xs (Some r) ≡ false → label r ≡ own r) → (r : Read) (d : Bool) → (d || is_noted xs (Some r)) ≡ false →
+      at_other : (w : Value) (label : Read → Value) → ((r : Read) → is_noted xs (Variable r) ≡ false → label r ≡ own r) → (r : Read) (d : Bool) → (d || is_noted xs (Variable r)) ≡ false →
           (if d then w else label r) ≡ own r
       at_other w label others r true k = absurd (false≢true (sym k))
       at_other w label others r false k = others r k
 
-  pub choose : (xs : List Thing) → Each (IsLabelled T) xs → (P : Pairing g.types h.types) (ns : List Name) → HasRoom g.types h.types P.pairs (read_names xs ++ ns) →
-      Chosen P (λ r. is_noted xs (Some r)) ns
+  pub choose : (xs : List Thing) → Each (IsLabelled T) xs → (P : Pairing g.types h.types) (ns : List Name) → HasRoom g.types h.types P.pairs (names_of is_variable xs ++ ns) →
+      Chosen P (λ r. is_noted xs (Variable r)) ns
   choose [] k P ns room = record {
     pairing = P;
     longer = λ m y z q. q;
@@ -120,4 +124,4 @@ module _ (g h : Setting) (T : ReadTypes) (s : State) (held : HasReadValues g T s
     related = λ r a e n. absurd (false≢true n);
     other = λ r n. refl;
   }
-  choose (x ∷ xs) k P ns room = one_chosen x.read x.ty (names_at x) xs k.0 P ns room (λ Q r. choose xs k.1 Q ns r)
+  choose (x ∷ xs) k P ns room = one_chosen x.source x.ty (names_at x) xs k.0 P ns room (λ Q r. choose xs k.1 Q ns r)

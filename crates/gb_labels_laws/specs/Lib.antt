@@ -3,3 +3,5 @@ pub mod Related
 pub mod Model
 pub mod Needs
 pub mod Examples
+pub mod Chosen
+pub mod Settings

@@ -9,6 +9,7 @@ use Rattle.gb_terms.specs.declared.op.Read.{Read}
 use Rattle.gb_terms.specs.declared.term.Term.{Term, Term', Row_of-Term, end_of-Term, more_of-Term, end_of-Head, more_of-Head}
 use Rattle.gb_terms.specs.declared.term.Head.{Head}
 use Rattle.gb_terms.specs.declared.term.Head.TheVariants as head
+use Rattle.gb_terms.specs.declared.module.Mexp.TheVariants.{Name as named}
 use Rattle.gb_meaning.specs.Names.{Name}
 use Rattle.gb_meaning.specs.Memory.{Memory}
 use Rattle.gb_meaning.specs.Values.{Types, values, has}
@@ -20,16 +21,21 @@ use Rattle.gb_meaning.specs.State.Binding.{memory}
 use Rattle.gb_meaning.specs.Written.{type_of}
 use Rattle.gb_meaning.specs.Terms.{Speaks, last_of, read_at, val, parts}
 use Rattle.gb_holds.specs.Globs.{IsGlobless}
-use Rattle.gb_later.specs.Agreement.{SameOperator}
-use Rattle.gb_later.specs.Naming.{EachGlobAmong}
-use Rattle.gb_typed.specs.Typing.{OperatorType, Context, IsTyped}
+use Rattle.gb_holds.specs.Programs.{AreOnce}
+use Rattle.gb_typing.specs.Agreement.{SameOperator}
+use Rattle.gb_typing.specs.Naming.{EachGlobAmong}
+use Rattle.gb_laws.specs.Finite.{IsInhabited}
+use Rattle.gb_laws.specs.Typing.{OperatorType, Context, IsTyped}
 use Rattle.gb_labels.specs.Labels.{Labels, count_of}
 use Rattle.gb_labels_laws.specs.Related.{ReadTypes, ReadIs}
 use mathlib.Core.Former.{arity, this}
 
--- settings that differ in the modules' globals alone
+-- Settings that differ in the modules' globals alone, each of which stands once in its footprint; types have values in the second one.
 pub record AreAlike (g h : Setting) : Type 0 where
   pub sizes : g.types.size ≡ h.types.size
+  pub inhabited : IsInhabited h.types
+  pub left_once : (a : Name) → AreOnce (g.types.footprint (named a))
+  pub right_once : (a : Name) → AreOnce (h.types.footprint (named a))
   pub operators : (n : Name) → SameOperator g h n
 
 -- the operators' types speak of no modules' globals

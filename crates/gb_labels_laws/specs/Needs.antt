@@ -1,5 +1,6 @@
 -- How many values of modules' globals a term may need.
-use Rattle.std.specs.Prelude.{◌≡◌, ◌⊎◌, ◌≤◌, ℕ, suc, ◌+◌, if◌then◌else◌, bytes_eq, Option, Some, None, List, [], ◌∷◌, ◌++◌, length}
+use Rattle.std.specs.Prelude.{◌≡◌, ◌⊎◌, ◌≤◌, ℕ, suc, ◌+◌, if◌then◌else◌, bytes_eq, true, Option, Some, None, List, [], ◌∷◌, ◌++◌, length, get_or}
+use Rattle.std.specs.List.{flat_map}
 use Rattle.gb_core.specs.declared.ty.Ty.{Ty}
 use Rattle.gb_core.specs.declared.ty.Ty.TheVariants as ty
 use Rattle.gb_terms.specs.declared.op.Op.{Op}
@@ -13,7 +14,9 @@ use Rattle.gb_terms.specs.declared.term.Head.TheVariants as head
 use Rattle.gb_meaning.specs.Names.{Name}
 use Rattle.gb_meaning.specs.Values.{Types, values, first}
 use Rattle.gb_holds.specs.Globs.{IsGlobless}
-use Rattle.gb_labels.specs.Things.{modules_of}
+use Rattle.gb_walk.specs.Layers.{is_binder}
+use Rattle.gb_reads.specs.Reads.{Vars, are_free, is_among}
+use Rattle.gb_labels.specs.Things.{modules_of, reads_inside}
 use Rattle.gb_labels_laws.specs.Pairs.{Pairs, IsPair}
 use Rattle.gb_labels_laws.specs.Related.{ReadTypes}
 use Rattle.gb_labels_laws.specs.Model.{IsOfValuesAt}
@@ -27,15 +30,16 @@ abbrev pub times : Name → List Name → ℕ
 times m [] = 0
 times m (n ∷ ns) = if bytes_eq n m then suc (times m ns) else times m ns
 
-abbrev pub quantified_at : Head → List Name
-quantified_at (head.All a) = names_in (modules_of a)
-quantified_at (head.Some a) = names_in (modules_of a)
-quantified_at _ = []
+abbrev pub quantified_at : Head → Vars → List Name
+quantified_at (head.All a) vs = names_in (modules_of a)
+quantified_at (head.Some a) vs = names_in (modules_of a)
+quantified_at _ vs = flat_map (λ v. names_in (modules_of v.ty)) vs
 
 abbrev mutual
-  -- the modules of the quantified variables of a term, each as often as a part of one is of its globals
+  -- the modules of the quantified variables of a term, those read of quantified memories too, each as often as a part of one is of its
+  -- globals
   pub quantified : Term → List Name
-  quantified (Term' p (more_of-Head h end_of-Head) n ts a) = quantified_at h ++ all_quantified ts
+  quantified (Term' p (more_of-Head h end_of-Head) n ts a) = quantified_at h (reads_inside h ts) ++ all_quantified ts
 
   pub all_quantified : {n : _} → Row_of-Term n → List Name
   all_quantified end_of-Term = []
@@ -71,29 +75,41 @@ HasFirsts t u P (m ∷ ms) = IsPair (P m) (first t (ty.Glob m)) (first u (ty.Glo
 abbrev pub IsCountedType : Ty → Type 0
 IsCountedType a = (ms : List Name) × (modules_of a ≡ Some ms)
 
--- what an operator makes of nothing speaks of no modules' globals
+-- an option's value, and distributions over all values of a type
 abbrev pub IsMadeOf : Op → Ty → Type 0
 IsMadeOf op.Oget a = IsCountedType a
-IsMadeOf op.Empty a = IsGlobless a
 IsMadeOf op.Uniform a = IsGlobless a
 IsMadeOf _ a = Unit {0}
 
-abbrev pub IsReadAt : ReadTypes → Read → Ty → Type 0
-IsReadAt T (Program x (Bound i)) a = IsGlobless a
-IsReadAt T r a = T r ≡ Some a
+abbrev pub AreCountedTypes : Vars → Type 0
+AreCountedTypes [] = Unit {0}
+AreCountedTypes (v ∷ vs) = IsCountedType v.ty × AreCountedTypes vs
 
--- The heads that speak of values alone, at types whose parts are counted.
-abbrev pub CountsAt : ReadTypes → Head → Ty → Type 0
-CountsAt T (head.Read r) a = IsReadAt T r a
-CountsAt T (head.Builtin o) a = IsMadeOf o a
-CountsAt T (head.All b) a = IsCountedType b
-CountsAt T (head.Some b) a = IsCountedType b
-CountsAt T h a = IsOfValuesAt h
+-- A read has the type of its variable; one of a bound memory is among what is read of it.
+abbrev pub IsReadAt : ReadTypes → List Vars → Read → Ty → Type 0
+IsReadAt T vss (Program x (Bound i)) a = is_among (get_or vss i []) x a ≡ true
+IsReadAt T vss r a = T r ≡ Some a
+
+-- The heads that speak of values alone, at types whose parts are counted; of quantified memories, variables that don't clash are read.
+abbrev pub CountsAt : ReadTypes → List Vars → Head → Vars → Ty → Type 0
+CountsAt T vss (head.Read r) vs a = IsReadAt T vss r a
+CountsAt T vss (head.Builtin o) vs a = IsMadeOf o a
+CountsAt T vss (head.All b) vs a = IsCountedType b
+CountsAt T vss (head.Some b) vs a = IsCountedType b
+CountsAt T vss head.AllMemory vs a = (are_free vs ≡ true) × AreCountedTypes vs
+CountsAt T vss head.SomeMemory vs a = (are_free vs ≡ true) × AreCountedTypes vs
+CountsAt T vss h vs a = IsOfValuesAt h
+
+-- what is read of bound memories in a head's last argument
+abbrev pub inside : Head → Vars → List Vars → List Vars
+inside h vs vss = if is_binder h then vs ∷ vss else vss
 
 abbrev mutual
-  pub Counts : ReadTypes → Term → Type 0
-  Counts T (Term' p (more_of-Head h end_of-Head) n ts a) = CountsAt T h a × AllCount T ts
+  pub Counts : ReadTypes → List Vars → Term → Type 0
+  Counts T vss (Term' p (more_of-Head h end_of-Head) n ts a) = CountsAt T vss h (reads_inside h ts) a × AllCount T vss (inside h (reads_inside h ts) vss) ts
 
-  pub AllCount : {n : _} → ReadTypes → Row_of-Term n → Type 0
-  AllCount T end_of-Term = Unit {0}
-  AllCount T (more_of-Term t ts) = Counts T t × AllCount T ts
+  -- arguments, the last of which may stand in a binder
+  pub AllCount : {n : _} → ReadTypes → List Vars → List Vars → Row_of-Term n → Type 0
+  AllCount T vss wss end_of-Term = Unit {0}
+  AllCount T vss wss (more_of-Term t end_of-Term) = Counts T wss t
+  AllCount T vss wss (more_of-Term t (more_of-Term u ts)) = Counts T vss t × AllCount T vss wss (more_of-Term u ts)

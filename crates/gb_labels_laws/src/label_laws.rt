@@ -6,8 +6,9 @@ ghost use Rattle.gb_meaning.specs.Setting.{Setting};
 ghost use Rattle.gb_meaning.specs.State.{State};
 ghost use Rattle.gb_meaning.specs.Terms.{Speaks, val};
 ghost use Rattle.gb_meaning.specs.Written.{type_of};
-ghost use Rattle.gb_typed.specs.Context.{IsSettingOf};
-ghost use Rattle.gb_typed.specs.Typing.{Context, IsTyped};
+ghost use Rattle.gb_laws.specs.Context.{IsSettingOf};
+ghost use Rattle.gb_laws.specs.Typing.{Context, IsTyped};
+ghost use Rattle.gb_reads.specs.Reads.{Vars};
 ghost use Rattle.gb_labels.specs.Labels.{Labels};
 ghost use Rattle.gb_labels.specs.Things.{most_labels};
 ghost use Rattle.gb_labels_laws.specs.Pairs.{Pairing};
@@ -19,8 +20,8 @@ ghost use Rattle.gb_labels_laws.specs.Model.{AreAlike, AreApart, SaysOfMemories,
 /// for the pairs that its quantifiers need, and first values are pairs as far as its options need them.
 pub fn related_terms()
     ensures { (c : Context) (g h : Setting) → IsSettingOf c g → AreAlike g h → AreApart c → (j k : Speaks) → SaysOfMemories g j → SaysOfMemories h k →
-        (T : ReadTypes) (t : Term) → IsTyped c t → Counts T t → (P : Pairing g.types h.types) (s r : State) → HasFirsts g.types h.types P.pairs (opened t) →
-        HasRoom g.types h.types P.pairs (quantified t) → StateRelated g h P.pairs T c.bound s r → MeaningRelated g.types P.pairs (type_of t) (val g j t s) (val h k t r) }
+        (T : ReadTypes) (vss : List Vars) (t : Term) → IsTyped c t → Counts T vss t → (P : Pairing g.types h.types) (s r : State) → HasFirsts g.types h.types P.pairs (opened t) →
+        HasRoom g.types h.types P.pairs (quantified t) → StateRelated g h P.pairs T c.bound vss s r → MeaningRelated g.types h.types P.pairs (type_of t) (val g j t s) (val h k t r) }
 {}
 
 /// In a setting with as many values of each module's globals as a claim has things of them, or with as many values as another

@@ -1,79 +1,123 @@
--- Programs of bodies from their statements.
-use Rattle.std.proofs.Common.{◌≡◌, List, [], ◌∷◌, refl, ap, sym, ◌∙◌, subst}
+-- Bodies with changes made, by their constructors.
+use Rattle.std.proofs.Common.{◌≡◌, List, ◌∷◌, map, refl, ap, sym, ◌∙◌}
 use Rattle.gb_core.specs.declared.var.Var.{Var}
 use Rattle.gb_terms.specs.declared.module.ProcRef.{ProcRef}
-use Rattle.gb_terms.specs.declared.term.Term.{Term, Row_of-Term, end_of-Term, more_of-Term, items-the_row-Term, items_hidden-the_row-Term-0}
-use Rattle.gb_terms.specs.declared.term.Cmd.{Cmd, items-the_row-Instr, items_hidden-the_row-Instr-1}
+use Rattle.gb_terms.specs.declared.term.Term.{Term, Row_of-Term, end_of-Term, more_of-Term, items-the_row-Term, items_shown-the_row-Term-0}
 use Rattle.gb_terms.specs.declared.term.Instr.{Instr, Row_of-Instr, end_of-Instr, more_of-Instr}
-use Rattle.gb_terms.specs.declared.term.Head.TheBlock as B
-use Rattle.gb_terms.specs.declared.term.Head.TheVariants.{Body, Assign, Sample, Call, If, While, Call', If', While'}
-use Rattle.gb_meaning.specs.Memory.{Memory}
-use Rattle.gb_meaning.specs.Program.{Program}
-use Rattle.gb_meaning.specs.Program.Program.{assign, sample, branch, loop}
-use Rattle.gb_meaning.specs.Setting.{Setting}
-use Rattle.gb_meaning.specs.State.{State}
-use Rattle.gb_meaning.specs.Runs.{run_denominator, out}
-use Rattle.gb_meaning.specs.Commands.{terms_in, called, program_of, statement, statements, IsThere, CallsAreThere}
-use Rattle.gb_meaning.specs.Sound.{IsSound}
-use Rattle.gb_meaning.specs.Judgments.{run_of, subject_denominator, IsSoundSubject}
-use mathlib.Core.Former.{Count}
+use Rattle.gb_terms.specs.declared.term.Subject.{Subject}
+use Rattle.gb_terms.specs.declared.term.Cmd.{Cmd, items-the_row-Instr}
+use Rattle.gb_terms.specs.declared.term.Head.TheBlock.{items_shown-the_row-Instr-1}
+use Rattle.gb_terms.specs.declared.term.Head.TheOpen as layer
+use Rattle.gb_terms.specs.declared.term.Head.TheVariants.{Assign, Sample, Call', If', While', Body'}
+use Rattle.gb_terms.specs.declared.term.Head.TheViews.{rolls-struct-Cmd, roll-Instr, roll-Subject, roll-Cmd, roll-out-Instr, roll-out-Subject, outs-Call', outs-If', outs-While', outs-Body'}
+use Rattle.gb_terms.specs.declared.term.Head.TheFolds.{fold-roll-Instr, fold-roll-Subject}
+use Rattle.gb_walk.specs.Change.{Made}
+use Rattle.gb_walk.specs.Change.{Changes, is_own, without, at_head, at_instr, at_subject, at_cmd, at_term, term_changed, instr_changed, cmd_changed, subject_changed}
+use Rattle.gb_walk.proofs.Lists.{applied_map}
+use Rattle.gb_walk.proofs.ChangeSteps.{cmd_changed_list}
+use Rattle.sqlite_items.specs.formers.items.Items.{the_former}
+use mathlib.Core.Former.{Count, arity, this}
 
-terms_row : {n : Count} (r : Row_of-Term n) → terms_in r ≡ items-the_row-Term _ r
-terms_row end_of-Term = refl
-terms_row (more_of-Term t r) = ap (λ z. t ∷ z) (terms_row r)
+abbrev pub terms_changed : {n : Count} → Changes → Row_of-Term n → Row_of-Term n
+terms_changed cs end_of-Term = end_of-Term
+terms_changed cs (more_of-Term t ts) = more_of-Term (term_changed t cs) (terms_changed cs ts)
 
-terms_list : (ts : List Term) → terms_in (B.hidden-the_row-Term-0 ts) ≡ ts
-terms_list ts = terms_row (B.hidden-the_row-Term-0 ts) ∙ items_hidden-the_row-Term-0 ts
+-- the body with changes of its terms
+abbrev pub body_changed : {n : Count} → Changes → Row_of-Instr n → Row_of-Instr n
+body_changed cs end_of-Instr = end_of-Instr
+body_changed cs (more_of-Instr (Assign xs e) is) = more_of-Instr (Assign xs (term_changed e cs)) (body_changed cs is)
+body_changed cs (more_of-Instr (Sample x d) is) = more_of-Instr (Sample x (term_changed d cs)) (body_changed cs is)
+body_changed cs (more_of-Instr (Call' xs p n es) is) = more_of-Instr (Call' xs p n (terms_changed cs es)) (body_changed cs is)
+body_changed cs (more_of-Instr (If' e m a n b) is) = more_of-Instr (If' (term_changed e cs) m (body_changed cs a) n (body_changed cs b)) (body_changed cs is)
+body_changed cs (more_of-Instr (While' e v n a) is) = more_of-Instr (While' (term_changed e cs) (term_changed v cs) n (body_changed cs a)) (body_changed cs is)
 
-program_row : {n : Count} (g : Setting) (r : Row_of-Instr n) → program_of g r ≡ statements g (items-the_row-Instr _ r)
-program_row g end_of-Instr = refl
-program_row g (more_of-Instr (Assign xs e) r) = ap (assign xs e) (program_row g r)
-program_row g (more_of-Instr (Sample x d) r) = ap (sample x d) (program_row g r)
-program_row g (more_of-Instr (Call' xs p n es) r) = ap (called xs (g.procedure p) (terms_in es)) (program_row g r)
-program_row g (more_of-Instr (If' e m a n b) r) = ap (branch e (program_of g a) (program_of g b)) (program_row g r)
-program_row g (more_of-Instr (While' e v n a) r) = ap (loop e v (program_of g a)) (program_row g r)
+abbrev Places : Type 0
+Places = List (Unit {0})
 
-program_list : (g : Setting) (is : List Instr) → program_of g (B.hidden-the_row-Instr-1 is) ≡ statements g is
-program_list g is = program_row g (B.hidden-the_row-Instr-1 is) ∙ ap (statements g) (items_hidden-the_row-Instr-1 is)
+abbrev TermRow : Places → Type 0
+TermRow n = Row_of-Term (arity (the_former (this {0})) n)
 
-pub statement_call : (g : Setting) (xs : List Var) (p : ProcRef) (es : List Term) (c : Program) → statement g (Call xs p es) c ≡ called xs (g.procedure p) es c
-statement_call g xs p es c = ap (λ z. called xs (g.procedure p) z c) (terms_list es)
+abbrev InstrRow : Places → Type 0
+InstrRow n = Row_of-Instr (arity (the_former (this {0})) n)
 
-pub statement_if : (g : Setting) (e : Term) (a b : Cmd) (c : Program) → statement g (If e a b) c ≡ branch e (statements g a.list) (statements g b.list) c
-statement_if g e a b c = λ i. branch e (program_list g a.list i) (program_list g b.list i) c
+abbrev cmd_of : List Instr → Cmd
+cmd_of l = record { list = l }
 
-pub statement_while : (g : Setting) (e v : Term) (a : Cmd) (c : Program) → statement g (While e v a) c ≡ loop e v (statements g a.list) c
-statement_while g e v a c = λ i. loop e v (program_list g a.list i) c
+-- statements and bodies from their lists
 
-pub run_of_body : (g : Setting) (s : State) (c : Cmd) (m : Memory) → run_of g s (Body c) m ≡ out g s (statements g c.list) m
-run_of_body g s c m = ap (λ z. out g s z m) (program_list g c.list)
+rolled_call : (xs : List Var) (p : ProcRef) (n : Places) (es : TermRow n) → Call' xs p n es ≡ roll-Instr (layer.Call xs p (items-the_row-Term _ es))
+rolled_call xs p n es = sym (roll-out-Instr (Call' xs p n es)) ∙ ap roll-Instr (outs-Call' xs p n es ∙ ap (λ l. layer.Call xs p l) (items_shown-the_row-Term-0 n es))
 
-pub denominator_of_body : (g : Setting) (c : Cmd) → subject_denominator g (Body c) ≡ run_denominator g (statements g c.list)
-denominator_of_body g c = ap (run_denominator g) (program_list g c.list)
+rolled_if : (e : Term) (m : Places) (a : InstrRow m) (n : Places) (b : InstrRow n) → If' e m a n b ≡ roll-Instr (layer.If e (cmd_of (items-the_row-Instr _ a)) (cmd_of (items-the_row-Instr _ b)))
+rolled_if e m a n b =
+    sym (roll-out-Instr (If' e m a n b)) ∙ ap roll-Instr (outs-If' e m a n b ∙ (λ i. layer.If e (cmd_of (items_shown-the_row-Instr-1 m a i)) (cmd_of (items_shown-the_row-Instr-1 n b i))))
 
--- the procedures that a statement calls are there
-abbrev pub There : Setting → Instr → Type 0
-There g (Assign xs e) = Unit {0}
-There g (Sample x d) = Unit {0}
-There g (Call' xs p n es) = IsThere (g.procedure p)
-There g (If' e m a n b) = CallsAreThere g a × CallsAreThere g b
-There g (While' e v n a) = CallsAreThere g a
+rolled_while : (e v : Term) (n : Places) (a : InstrRow n) → While' e v n a ≡ roll-Instr (layer.While e v (cmd_of (items-the_row-Instr _ a)))
+rolled_while e v n a =
+    sym (roll-out-Instr (While' e v n a)) ∙ ap roll-Instr (outs-While' e v n a ∙ (λ i. layer.While e v (cmd_of (items_shown-the_row-Instr-1 n a i))))
 
-abbrev pub EachThere : Setting → List Instr → Type 0
-EachThere g [] = Unit {0}
-EachThere g (i ∷ is) = There g i × EachThere g is
+rolled_body : (n : Places) (is : InstrRow n) → Body' n is ≡ roll-Subject (layer.Body (cmd_of (items-the_row-Instr _ is)))
+rolled_body n is = sym (roll-out-Subject (Body' n is)) ∙ ap roll-Subject (outs-Body' n is ∙ (λ i. layer.Body (cmd_of (items_shown-the_row-Instr-1 n is i))))
 
-there_row : {n : Count} (g : Setting) (r : Row_of-Instr n) → EachThere g (items-the_row-Instr _ r) → CallsAreThere g r
-there_row g end_of-Instr h = tt
-there_row g (more_of-Instr (Assign xs e) r) h = there_row g r h.1
-there_row g (more_of-Instr (Sample x d) r) h = there_row g r h.1
-there_row g (more_of-Instr (Call' xs p n es) r) h = (h.0, there_row g r h.1)
-there_row g (more_of-Instr (If' e m a n b) r) h = (h.0.0, h.0.1, there_row g r h.1)
-there_row g (more_of-Instr (While' e v n a) r) h = (h.0, there_row g r h.1)
+roll_cmd : (l : List Instr) → roll-Cmd (record { list = l }) ≡ cmd_of l
+roll_cmd l = rolls-struct-Cmd (record { list = l })
 
--- a body of sound statements
-pub sound_body : (g : Setting) (c : Cmd) → EachThere g c.list → IsSound g (statements g c.list) → IsSoundSubject g (Body c)
-sound_body g c t s = (
-  there_row g (B.hidden-the_row-Instr-1 c.list) (subst (EachThere g) (sym (items_hidden-the_row-Instr-1 c.list)) t),
-  subst (IsSound g) (sym (program_list g c.list)) s,
-)
+module _ (cs : Changes) where
+  terms_items : {n : Count} (ts : Row_of-Term n) → items-the_row-Term _ (terms_changed cs ts) ≡ map (λ t. term_changed t cs) (items-the_row-Term _ ts)
+  terms_items end_of-Term = refl
+  terms_items (more_of-Term t ts) = ap (λ z. term_changed t cs ∷ z) (terms_items ts)
+
+  cmd_changed_is : (l : List Instr) → cmd_changed (cmd_of l) cs ≡ cmd_of (map (λ i. instr_changed i cs) l)
+  cmd_changed_is l = cmd_changed_list (cmd_of l) cs ∙ roll_cmd (map (λ i. instr_changed i cs) l)
+
+  assign_changed : (xs : List Var) (e : Term) → instr_changed (Assign xs e) cs ≡ Assign xs (term_changed e cs)
+  unfolding roll-Instr denote.Hole.Carrier.roll
+  assign_changed xs e =
+      ap (λ f. f cs) (fold-roll-Instr (Changes → Made) (Changes → Instr) (Changes → Subject) (Changes → Cmd) (Changes → Term) at_head at_instr at_subject at_cmd at_term (layer.Assign xs e))
+
+  sample_changed : (x : Var) (d : Term) → instr_changed (Sample x d) cs ≡ Sample x (term_changed d cs)
+  unfolding roll-Instr denote.Hole.Carrier.roll
+  sample_changed x d =
+      ap (λ f. f cs) (fold-roll-Instr (Changes → Made) (Changes → Instr) (Changes → Subject) (Changes → Cmd) (Changes → Term) at_head at_instr at_subject at_cmd at_term (layer.Sample x d))
+
+  call_changed : (xs : List Var) (p : ProcRef) (n : Places) (es : TermRow n) → instr_changed (Call' xs p n es) cs ≡ Call' xs p n (terms_changed cs es)
+  call_changed xs p n es =
+      ap (λ z. instr_changed z cs) (rolled_call xs p n es)
+      ∙ ap (λ f. f cs) (fold-roll-Instr (Changes → Made) (Changes → Instr) (Changes → Subject) (Changes → Cmd) (Changes → Term) at_head at_instr at_subject at_cmd at_term (layer.Call xs p (items-the_row-Term _ es)))
+      ∙ ap (λ l. roll-Instr (layer.Call xs p l)) (applied_map term_changed cs (items-the_row-Term _ es) ∙ sym (terms_items es))
+      ∙ sym (rolled_call xs p n (terms_changed cs es))
+
+  if_changed : (e : Term) (l r : List Instr) → instr_changed (roll-Instr (layer.If e (cmd_of l) (cmd_of r))) cs
+      ≡ roll-Instr (layer.If (term_changed e cs) (cmd_of (map (λ i. instr_changed i cs) l)) (cmd_of (map (λ i. instr_changed i cs) r)))
+  if_changed e l r =
+      ap (λ f. f cs) (fold-roll-Instr (Changes → Made) (Changes → Instr) (Changes → Subject) (Changes → Cmd) (Changes → Term) at_head at_instr at_subject at_cmd at_term (layer.If e (cmd_of l) (cmd_of r)))
+      ∙ (λ i. roll-Instr (layer.If (term_changed e cs) (cmd_changed_is l i) (cmd_changed_is r i)))
+
+  while_changed : (e v : Term) (l : List Instr) → instr_changed (roll-Instr (layer.While e v (cmd_of l))) cs
+      ≡ roll-Instr (layer.While (term_changed e cs) (term_changed v cs) (cmd_of (map (λ i. instr_changed i cs) l)))
+  while_changed e v l =
+      ap (λ f. f cs) (fold-roll-Instr (Changes → Made) (Changes → Instr) (Changes → Subject) (Changes → Cmd) (Changes → Term) at_head at_instr at_subject at_cmd at_term (layer.While e v (cmd_of l)))
+      ∙ (λ i. roll-Instr (layer.While (term_changed e cs) (term_changed v cs) (cmd_changed_is l i)))
+
+  instrs_changed : {n : Count} (is : Row_of-Instr n) → map (λ i. instr_changed i cs) (items-the_row-Instr _ is) ≡ items-the_row-Instr _ (body_changed cs is)
+  instrs_changed end_of-Instr = refl
+  instrs_changed (more_of-Instr (Assign xs e) is) = λ i. assign_changed xs e i ∷ instrs_changed is i
+  instrs_changed (more_of-Instr (Sample x d) is) = λ i. sample_changed x d i ∷ instrs_changed is i
+  instrs_changed (more_of-Instr (Call' xs p n es) is) = λ i. call_changed xs p n es i ∷ instrs_changed is i
+  instrs_changed (more_of-Instr (If' e m a n b) is) =
+      let one = ap (λ z. instr_changed z cs) (rolled_if e m a n b) ∙ if_changed e (items-the_row-Instr _ a) (items-the_row-Instr _ b)
+      ∙ (λ i. roll-Instr (layer.If (term_changed e cs) (cmd_of (instrs_changed a i)) (cmd_of (instrs_changed b i)))) ∙ sym (rolled_if (term_changed e cs) m (body_changed cs a) n (body_changed cs b)) in
+      λ i. one i ∷ instrs_changed is i
+  instrs_changed (more_of-Instr (While' e v n a) is) =
+      let one = ap (λ z. instr_changed z cs) (rolled_while e v n a) ∙ while_changed e v (items-the_row-Instr _ a)
+      ∙ (λ i. roll-Instr (layer.While (term_changed e cs) (term_changed v cs) (cmd_of (instrs_changed a i)))) ∙ sym (rolled_while (term_changed e cs) (term_changed v cs) n (body_changed cs a)) in
+      λ i. one i ∷ instrs_changed is i
+
+-- what becomes of a body
+pub body_changed_is : (n : Places) (is : InstrRow n) (cs : Changes) → subject_changed (Body' n is) cs ≡ Body' n (body_changed (without is_own cs) is)
+body_changed_is n is cs =
+    ap (λ z. subject_changed z cs) (rolled_body n is)
+    ∙ ap (λ f. f cs) (fold-roll-Subject (Changes → Made) (Changes → Instr) (Changes → Subject) (Changes → Cmd) (Changes → Term) at_head at_instr at_subject at_cmd at_term (layer.Body (cmd_of (items-the_row-Instr _ is))))
+    ∙ (λ i. roll-Subject (layer.Body (cmd_changed_is (without is_own cs) (items-the_row-Instr _ is) i)))
+    ∙ (λ i. roll-Subject (layer.Body (cmd_of (instrs_changed (without is_own cs) is i))))
+    ∙ sym (rolled_body n (body_changed (without is_own cs) is))

@@ -1,277 +1,252 @@
--- Trees of distributions have weights of at least 1, whose total is at most the denominator, and the denominator itself
--- where nothing restricts.
-use Rattle.std.proofs.Common.{◌≡◌, ℕ, zero, suc, ◌*◌, ◌<◌, ◌≤◌, Bool, true, false, ◌&&◌, if◌then◌else◌, nat_lt, List, [], ◌∷◌, map, get_or, refl, ap, sym, ◌∙◌, subst, arith}
-use Rattle.std.proofs.Math.Nat.{mul-pos}
-use Rattle.std.proofs.lemmas.Bool.{false≢true, ltb-true, and_parts}
-use Rattle.gb_core.specs.declared.ty.Ty.{Ty}
+-- Well-typed trees of distributions are trees of distributions.
+use Rattle.std.proofs.Common.{◌≡◌, ◌⊎◌, inl, inr, Bool, true, false, ◌&&◌, ◌||◌, List, [], ◌∷◌, map, bytes_eq, refl, ap, sym, ◌∙◌, subst}
+use Rattle.std.proofs.lemmas.Bool.{false≢true, and_from, and_parts, or_left, or_right, or_cases, lt-ltb}
+use Rattle.std.proofs.lemmas.Slice.Eq.{bytes_eq-Decides}
+use Rattle.gb_core.specs.declared.ty.Ty.{Ty, end_of-Ty, more_of-Ty}
+use Rattle.gb_core.specs.declared.ty.Ty.TheVariants as ty
 use Rattle.gb_core.specs.declared.value.Value.{Value}
-use Rattle.gb_types.specs.Numbering.{Numbering}
-use Rattle.gb_coupling.specs.WeightedList.{WeightedList, total, unit, dmap, scale, IsPositive}
-use Rattle.gb_coupling.proofs.Masses.{mass-append, mass-scale, mass-dmap, total-bind}
-use Rattle.gb_coupling.proofs.Entries.{On-append, On-scale, On-bind, On-dmap}
+use Rattle.gb_core.specs.declared.var.Var.TheVariants as var
 use Rattle.gb_terms.specs.declared.op.Op.{Op}
 use Rattle.gb_terms.specs.declared.op.Op.TheVariants as op
-use Rattle.gb_terms.specs.declared.term.Pair.{Pair}
+use Rattle.gb_terms.specs.declared.op.Read.TheVariants.{Logical, Program}
+use Rattle.gb_terms.specs.declared.module.Mexp.TheVariants.{Name as named}
 use Rattle.gb_terms.specs.declared.term.Term.{Term, Term', Row_of-Term, end_of-Term, more_of-Term, end_of-Head, more_of-Head}
 use Rattle.gb_terms.specs.declared.term.Head.{Head}
 use Rattle.gb_terms.specs.declared.term.Head.TheVariants as head
 use Rattle.gb_meaning.specs.Values.{values}
-use Rattle.gb_meaning.specs.Program.{Program, Routine}
-use Rattle.gb_meaning.specs.Program.Program.{done, assign, sample, branch, loop, call, ask}
-use Rattle.gb_meaning.specs.Program.Routine.{routine}
-use Rattle.gb_meaning.specs.Setting.{Meaning, Setting}
-use Rattle.gb_meaning.specs.Setting.Meaning.{finite, whole, fraction, weights}
-use Rattle.gb_meaning.specs.Meanings.{value_in, truth, weights_in, scaled}
-use Rattle.gb_meaning.specs.Distributions.{coin, values_below, uniform, stated, sum_of_weights, product, restricted}
-use Rattle.gb_meaning.specs.Operators.{Argument, chosen, outcome_type, is_distribution, operated, denominator_at}
-use Rattle.gb_meaning.specs.State.{State}
-use Rattle.gb_meaning.specs.Terms.{quiet, Part, first_of, last_of, argument, at_value, at_head, val, parts, denominator, denominators, denominator_of}
-use Rattle.gb_meaning.specs.Sound.{IsDistribution, IsFull, IsSound, IsSoundRoutine, Full, FullRoutine}
-use Rattle.gb_meaning.specs.Drawn.{Drawing, each_weighs, has_weights, operator_draws, first_draws, head_draws, draws, each_draws, program_draws, routine_draws, OperatorsDraw}
-use Rattle.gb_laws.proofs.Totals.{at_most_bind, at_most_scale}
+use Rattle.gb_meaning.specs.Setting.{Setting}
+use Rattle.gb_meaning.specs.Names.{Name}
+use Rattle.gb_meaning.specs.Operators.{is_distribution}
+use Rattle.gb_meaning.specs.Drawn.{Drawing, OperatorsDraw, operator_draws, head_draws, draws, each_draws}
+use Rattle.gb_meaning.specs.Sound.{IsDistribution, IsFull}
+use Rattle.gb_meaning.proofs.Drawn.{draws_distribution, draws_full}
+use Rattle.gb_meaning.proofs.Types.{values_finite}
+use Rattle.gb_laws.specs.Finite.{IsFinite, IsInhabited}
+use Rattle.gb_laws.specs.Operators.{IsArithmetic, IsSigned, IsOfBits, IsDistributionType, IsOptionType, IsMapType, IsOperator}
+use Rattle.gb_laws.specs.Typing.{Context, Binder, types_of, IsLiteral, IsBoundAt, IsHead, inner, IsTyped, AreTyped}
+use Rattle.gb_meaning.specs.Written.{type_of}
+use Rattle.gb_laws.specs.Typing.Binder.{value as of_value, index as of_index, memory as of_memory, program as of_program}
+use Rattle.gb_laws.specs.Context.{gives_distributions, drawing, IsUnrestrictedHead, IsUnrestricted, AreUnrestricted, IsFullOperator, IsFullHead, NamesFull, AllNameFull, IsSettingOf}
+use Rattle.gb_laws.proofs.Sizes.{finite_sized}
 use mathlib.Core.Former.{Count}
 
--- weights of at least 1, with a total of at most k, and of k where nothing restricts
-pub record Weighs (nothing_lost : Type 0) (l : WeightedList Value) (k : ℕ) : Type 0 where
-  pub entries : IsPositive l
-  pub bounded : total l ≤ k
-  pub full : nothing_lost → total l ≡ k
+-- Other types aren't of distributions.
 
-abbrev Any : {A : Type 0} → A → Type 0
-Any a = Unit {0}
+finite_undrawn : (t : Ty) → IsFinite t → IsDistributionType t → ⊥
+finite_undrawn (ty.Distr' p x) f d = f
+finite_undrawn _ f d = d
 
-exactly : (full : Type 0) (l : WeightedList Value) (k : ℕ) → IsPositive l → total l ≡ k → Weighs full l k
-exactly full l k p e = record { entries = p; bounded = omega (arith, e); full = λ f. e }
+arithmetic_undrawn : (t : Ty) → IsArithmetic t → IsDistributionType t → ⊥
+arithmetic_undrawn (ty.Distr' p x) f d = f
+arithmetic_undrawn _ f d = d
 
-below_positive : (t : Numbering) (n : ℕ) → IsPositive (values_below t n)
-below_positive t zero = tt
-below_positive t (suc n) = On-append Any (values_below t n) ((t.at n, 1) ∷ []) (below_positive t n) (omega arith, tt, tt)
+signed_undrawn : (t : Ty) → IsSigned t → IsDistributionType t → ⊥
+signed_undrawn (ty.Distr' p x) f d = f
+signed_undrawn _ f d = d
 
-below_total : (t : Numbering) (n : ℕ) → total (values_below t n) ≡ n
-below_total t zero = refl
-below_total t (suc n) = mass-append (values_below t n) ((t.at n, 1) ∷ []) (λ v. 1) ∙ omega (arith, below_total t n)
+bits_undrawn : (t : Ty) → IsOfBits t → IsDistributionType t → ⊥
+bits_undrawn (ty.Distr' p x) f d = f
+bits_undrawn _ f d = d
 
-stated_positive : (ps : List Pair) → each_weighs ps ≡ true → IsPositive (stated ps)
-stated_positive [] h = tt
-stated_positive (p ∷ ps) h =
-    let both = and_parts (nat_lt 0 p.weight) (each_weighs ps) h in
-    (ltb-true 0 p.weight both.0, tt, stated_positive ps both.1)
+option_undrawn : (t : Ty) → IsOptionType t → IsDistributionType t → ⊥
+option_undrawn (ty.Distr' p x) f d = f
+option_undrawn _ f d = d
 
-stated_total : (ps : List Pair) → total (stated ps) ≡ sum_of_weights ps
-stated_total [] = refl
-stated_total (p ∷ ps) = omega (arith, stated_total ps)
+map_undrawn : (t : Ty) → IsMapType t → IsDistributionType t → ⊥
+map_undrawn (ty.Distr' p x) f d = f
+map_undrawn _ f d = d
 
-product_weighs : (full : Type 0) (d e : WeightedList Value) (j k : ℕ) → Weighs full d j → Weighs full e k → Weighs full (product d e) (j * k)
-product_weighs full d e j k a b = record {
-  entries = On-bind Any Any d _ a.entries (λ v u. On-dmap {P = Any} Any _ e (λ w u. tt) b.entries);
-  bounded = at_most_bind d _ j k a.bounded (λ v. subst (λ z. z ≤ k) (sym (mass-dmap _ e (λ w. 1))) b.bounded);
-  full = λ f. total-bind d _ k (λ v. mass-dmap _ e (λ w. 1) ∙ b.full f) ∙ ap (λ z. z * k) (a.full f);
-}
+bound_undrawn : (b : Binder) (t : Ty) → IsBoundAt b t → IsDistributionType t → ⊥
+bound_undrawn (of_value u) (ty.Distr' p x) h d = h.0
+bound_undrawn (of_value u) _ h d = d
+bound_undrawn (of_index q) (ty.Distr' p x) h d = h
+bound_undrawn (of_index q) _ h d = d
+bound_undrawn of_memory t h d = h
+bound_undrawn of_program t h d = h
 
-dmap_weighs : (full : Type 0) (f : Value → Value) (d : WeightedList Value) (k : ℕ) → Weighs full d k → Weighs full (dmap f d) k
-dmap_weighs full f d k a = record {
-  entries = On-dmap {P = Any} Any f d (λ v u. tt) a.entries;
-  bounded = subst (λ z. z ≤ k) (sym (mass-dmap f d (λ v. 1))) a.bounded;
-  full = λ h. mass-dmap f d (λ v. 1) ∙ a.full h;
-}
+-- what is of a type that isn't of distributions
+other : {A : Type 0} (t u : Ty) → t ≡ u → (IsDistributionType u → ⊥) → IsDistributionType t → A
+other t u e n d = absurd (n (subst IsDistributionType e d))
 
-scale_weighs : (full : Type 0) (c : ℕ) (d : WeightedList Value) (k : ℕ) → 0 < c → Weighs full d k → Weighs full (scale c d) (c * k)
-scale_weighs full c d k h a = record {
-  entries = On-scale Any c d h a.entries;
-  bounded = at_most_scale c d k a.bounded;
-  full = λ f. mass-scale c d (λ v. 1) ∙ ap (λ z. c * z) (a.full f);
-}
+restricting : (b : Bool) → (b ≡ false → ⊥) → b ≡ true
+restricting true n = refl
+restricting false n = absurd (n refl)
 
-restricted_positive : (d : WeightedList Value) (p : Value → Bool) → IsPositive d → IsPositive (restricted d p)
-restricted_positive [] p h = tt
-restricted_positive (e ∷ d) p h = step (p e.0) (restricted_positive d p h.2)
-  where
-    step : (b : Bool) → IsPositive (restricted d p) → IsPositive (if b then e ∷ restricted d p else restricted d p)
-    step true k = (h.0, tt, k)
-    step false k = k
+-- the operators of the script that give distributions in a term
 
-restricted_at_most : (d : WeightedList Value) (p : Value → Bool) → total (restricted d p) ≤ total d
-restricted_at_most [] p = omega arith
-restricted_at_most (e ∷ d) p = step (p e.0) (restricted_at_most d p)
-  where
-    step : (b : Bool) → total (restricted d p) ≤ total d → total (if b then e ∷ restricted d p else restricted d p) ≤ total (e ∷ d)
-    step true k = omega (arith, k)
-    step false k = omega (arith, k)
+abbrev head_names : Head → Ty → Name → Bool
+head_names (head.User m) t x = is_distribution t && bytes_eq x m
+head_names _ t x = false
 
-scaled_weights : (k : ℕ) (x : Meaning) → weights_in (scaled k x) ≡ scale k (weights_in x)
-scaled_weights k (finite v) = refl
-scaled_weights k (whole n) = refl
-scaled_weights k (fraction a) = refl
-scaled_weights k (weights d) = refl
+abbrev mutual
+  names : Term → Name → Bool
+  names (Term' b (more_of-Head h end_of-Head) n ts t) x = head_names h t x || any_names ts x
 
-module _ (g : Setting) (d : Drawing) (o : OperatorsDraw g d) where
-  record DrawnPart (x : Part) : Type 0 where
-    positive : 0 < x.denominator
-    weighs : (s : State) → Weighs (d.restricts ≡ false) (weights_in (x.meaning s)) x.denominator
+  any_names : {n : Count} → Row_of-Term n → Name → Bool
+  any_names end_of-Term x = false
+  any_names (more_of-Term t ts) x = names t x || any_names ts x
 
-  -- whether each part is said to be a distribution, with the part; what is said is so
-  abbrev Known : List (Bool × Part) → Type 0
+-- with `drestrict`, or without it, and with these of the script's operators
+module _ (c : Context) (g : Setting) (r : Bool) (f : Name → Bool) (i : IsInhabited g.types) where
+  abbrev drawn : Drawing
+  drawn = record { restricts = r; operators = λ n. f n && gives_distributions (c.operator n) }
+
+  -- what is named is among these
+  abbrev Among : (Name → Bool) → Type 0
+  Among p = (x : Name) → p x ≡ true → f x ≡ true
+
+  -- a distribution among these is said to be one
+  abbrev Known : List (Ty × Bool) → Type 0
   Known [] = Unit {0}
-  Known (p ∷ ps) = (p.0 ≡ true → DrawnPart p.1) × Known ps
+  Known (x ∷ xs) = (IsDistributionType x.0 → x.1 ≡ true) × Known xs
 
-  abbrev bs : List (Bool × Part) → List Bool
-  bs ps = map (λ p. p.0) ps
+  abbrev tys : List (Ty × Bool) → List Ty
+  tys xs = map (λ x. x.0) xs
 
-  abbrev ks : List (Bool × Part) → List ℕ
-  ks ps = map (λ p. p.1.denominator) ps
+  abbrev bs : List (Ty × Bool) → List Bool
+  bs xs = map (λ x. x.1) xs
 
-  abbrev args : State → List (Bool × Part) → List Argument
-  args s ps = map (λ p. argument s p.1) ps
+  uniform_drawn : (t : Ty) → IsDistributionType t → operator_draws g.types op.Uniform t [] ≡ true
+  uniform_drawn (ty.Distr' p (more_of-Ty u end_of-Ty)) d = lt-ltb 0 (values g.types u).size (finite_sized g.types i u d)
+  uniform_drawn _ d = absurd d
 
-  chosen_weighs : (t : Bool) (x y : Part) → DrawnPart x → DrawnPart y → (s : State) → Weighs (d.restricts ≡ false) (weights_in (chosen t (argument s x) (argument s y))) (x.denominator * y.denominator)
-  chosen_weighs true x y a b s = subst (λ z. Weighs (d.restricts ≡ false) z (x.denominator * y.denominator)) (sym (scaled_weights y.denominator (x.meaning s)))
-      (subst (λ z. Weighs (d.restricts ≡ false) (scale y.denominator (weights_in (x.meaning s))) z) (omega arith) (scale_weighs _ y.denominator (weights_in (x.meaning s)) x.denominator b.positive (a.weighs s)))
-  chosen_weighs false x y a b s = subst (λ z. Weighs (d.restricts ≡ false) z (x.denominator * y.denominator)) (sym (scaled_weights x.denominator (y.meaning s)))
-      (scale_weighs _ x.denominator (weights_in (y.meaning s)) y.denominator a.positive (b.weighs s))
+  operator_drawn : (o : Op) (t : Ty) (xs : List (Ty × Bool)) → Known xs → IsOperator o (tys xs) t → IsDistributionType t → operator_draws g.types o t (bs xs) ≡ true
+  operator_drawn op.Not t (x ∷ []) k h d = other t _ h.1.0 (λ z. z) d
+  operator_drawn op.And t (x ∷ y ∷ []) k h d = other t _ h.1.1.0 (λ z. z) d
+  operator_drawn op.Or t (x ∷ y ∷ []) k h d = other t _ h.1.1.0 (λ z. z) d
+  operator_drawn op.Implies t (x ∷ y ∷ []) k h d = other t _ h.1.1.0 (λ z. z) d
+  operator_drawn op.Iff t (x ∷ y ∷ []) k h d = other t _ h.1.1.0 (λ z. z) d
+  operator_drawn op.Equal t (x ∷ y ∷ []) k h d = other t _ h.2 (λ z. z) d
+  operator_drawn op.NotEqual t (x ∷ y ∷ []) k h d = other t _ h.2 (λ z. z) d
+  operator_drawn op.Less t (x ∷ y ∷ []) k h d = other t _ h.2 (λ z. z) d
+  operator_drawn op.AtMost t (x ∷ y ∷ []) k h d = other t _ h.2 (λ z. z) d
+  operator_drawn op.Plus t (x ∷ y ∷ []) k h d = absurd (arithmetic_undrawn t h.0 d)
+  operator_drawn op.Minus t (x ∷ y ∷ []) k h d = absurd (arithmetic_undrawn t h.0 d)
+  operator_drawn op.Times t (x ∷ y ∷ []) k h d = absurd (arithmetic_undrawn t h.0 d)
+  operator_drawn op.Negate t (x ∷ []) k h d = absurd (signed_undrawn t h.0 d)
+  operator_drawn op.Xor t (x ∷ y ∷ []) k h d = absurd (bits_undrawn t h.0 d)
+  operator_drawn op.Divide t (x ∷ y ∷ []) k h d = other t _ h.1.1.0 (λ z. z) d
+  operator_drawn op.ToReal t (x ∷ []) k h d = other t _ h.1 (λ z. z) d
+  operator_drawn op.Abs t (x ∷ []) k h d = other t _ h.1.0 (λ z. z) d
+  operator_drawn op.If t (x ∷ y ∷ z ∷ []) k h d = and_from _ _ (k.1.0 (subst IsDistributionType (sym h.1.0) d)) (k.1.1.0 (subst IsDistributionType (sym h.1.1.0) d))
+  operator_drawn op.Tuple t xs k h d = other t _ h.1 (λ z. z) d
+  operator_drawn (op.Part j) t (x ∷ []) k h d = absurd (finite_undrawn t h.2 d)
+  operator_drawn op.Some t (x ∷ []) k h d = other t _ h.1 (λ z. z) d
+  operator_drawn op.None t [] k h d = absurd (option_undrawn t h d)
+  operator_drawn op.Oget t (x ∷ []) k h d = absurd (finite_undrawn t h.0 d)
+  operator_drawn op.Empty t [] k h d = absurd (map_undrawn t h d)
+  operator_drawn op.Get t (x ∷ y ∷ []) k h d = other t _ h.2 (λ z. z) d
+  operator_drawn op.Set t (x ∷ y ∷ z ∷ []) k h d = other t _ h.2.1.0 (λ z. z) d
+  operator_drawn op.InMap t (x ∷ y ∷ []) k h d = other t _ h.2 (λ z. z) d
+  operator_drawn op.InSupport t (x ∷ y ∷ []) k h d = other t _ h.2 (λ z. z) d
+  operator_drawn op.Mu1 t (x ∷ y ∷ []) k h d = other t _ h.2 (λ z. z) d
+  operator_drawn op.Coin t [] k h d = refl
+  operator_drawn op.Uniform t [] k h d = uniform_drawn t d
+  operator_drawn op.Dunit t (x ∷ []) k h d = refl
+  operator_drawn op.Product t (x ∷ y ∷ []) k h d = and_from _ _ (k.0 h.0) (k.1.0 h.1)
+  operator_drawn _ t xs k h d = absurd h
 
-  operator_weighs : (p : Op) (ty : Ty) (ps : List (Bool × Part)) → Known ps → operator_draws g.types p ty (bs ps) ≡ true →
-      (0 < denominator_at g.types p ty (ks ps)) × ((s : State) → Weighs (d.restricts ≡ false) (weights_in (operated g.types p ty (args s ps))) (denominator_at g.types p ty (ks ps)))
-  operator_weighs op.Coin ty [] k h = (omega arith, λ s. exactly _ coin 2 (omega arith, tt, (omega arith, tt, tt)) refl)
-  operator_weighs op.Uniform ty [] k h = (
-    ltb-true 0 (values g.types (outcome_type ty)).size h,
-    λ s. exactly _ (uniform (values g.types (outcome_type ty))) (values g.types (outcome_type ty)).size (below_positive (values g.types (outcome_type ty)) (values g.types (outcome_type ty)).size) (below_total (values g.types (outcome_type ty)) (values g.types (outcome_type ty)).size),
-  )
-  operator_weighs op.Dunit ty (x ∷ []) k h = (omega arith, λ s. exactly _ (unit (value_in (x.1.meaning s))) 1 (omega arith, tt, tt) refl)
-  operator_weighs op.Product ty (x ∷ y ∷ []) k h =
-      let both = and_parts x.0 y.0 h in
-      let l = k.0 both.0 in
-      let r = k.1.0 both.1 in
-      (mul-pos l.positive r.positive, λ s. product_weighs _ (weights_in (x.1.meaning s)) (weights_in (y.1.meaning s)) x.1.denominator y.1.denominator (l.weighs s) (r.weighs s))
-  operator_weighs op.If ty (x ∷ y ∷ z ∷ []) k h =
-      let both = and_parts y.0 z.0 h in
-      let l = k.1.0 both.0 in
-      let r = k.1.1.0 both.1 in
-      (mul-pos l.positive r.positive, λ s. chosen_weighs (truth (x.1.meaning s)) y.1 z.1 l r s)
-  operator_weighs _ ty ps k h = absurd (false≢true h)
+  of_distributions : (t : Ty) → IsDistributionType t → is_distribution t ≡ true
+  of_distributions (ty.Distr' p x) d = refl
+  of_distributions _ d = absurd d
 
-  sum_positive : (ps : List Pair) → has_weights ps ≡ true → 0 < sum_of_weights ps
-  sum_positive [] h = absurd (false≢true h)
-  sum_positive (p ∷ ps) h = let q = ltb-true 0 p.weight (and_parts (nat_lt 0 p.weight) (each_weighs ps) h).0 in omega (arith, q)
+  literal_undrawn : (t : Ty) (v : Value) → IsLiteral t v → IsDistributionType t → ⊥
+  literal_undrawn (ty.Distr' p x) v h d = false≢true (subst (λ z. z.has v ≡ true) (sym (values_finite g.types (ty.Distr' p x) h.0)) h.1)
+  literal_undrawn _ v h d = d
 
-  stated_weighs : (ps : List Pair) → has_weights ps ≡ true → Weighs (d.restricts ≡ false) (stated ps) (sum_of_weights ps)
-  stated_weighs [] h = absurd (false≢true h)
-  stated_weighs (p ∷ ps) h = exactly _ (stated (p ∷ ps)) _ (stated_positive (p ∷ ps) h) (stated_total (p ∷ ps))
+  head_drawn : (h : Head) (t : Ty) (xs : List (Ty × Bool)) → Known xs → (e : Context) → e.operator ≡ c.operator → IsHead e h (tys xs) t →
+      (r ≡ false → IsUnrestrictedHead h) → Among (head_names h t) → IsDistributionType t →
+      head_draws g drawn h t (bs xs) ≡ true
+  head_drawn (head.Lit v) t [] k e q h u am d = absurd (literal_undrawn t v h d)
+  head_drawn (head.Whole n) t [] k e q h u am d = other t _ h (λ z. z) d
+  head_drawn (head.Read (Logical n)) t [] k e q h u am d = absurd (finite_undrawn t h.0 d)
+  head_drawn (head.Read (Program (var.Global m x) z)) t [] k e q h u am d = absurd (finite_undrawn t h.1 d)
+  head_drawn (head.Read (Program (var.Local x) z)) t [] k e q h u am d = absurd (finite_undrawn t h.1 d)
+  head_drawn (head.Read (Program (var.Glob a) z)) t [] k e q h u am d = other t _ h.1 (λ z. z) d
+  head_drawn (head.Bound n) t [] k e q h u am d = absurd (bound_undrawn _ t h d)
+  head_drawn (head.Builtin o) t xs k e q h u am d = operator_drawn o t xs k h d
+  head_drawn (head.User n) t xs k e q h u am d =
+      and_from _ _ (of_distributions t d) (and_from _ _ (am n (and_from _ _ (of_distributions t d) ((bytes_eq-Decides n n).1 refl)))
+      (ap gives_distributions (ap (λ z. z n) (sym q) ∙ h) ∙ of_distributions t d))
+  head_drawn (head.All a) t (x ∷ []) k e q h u am d = other t _ h.1.1.0 (λ z. z) d
+  head_drawn (head.Some a) t (x ∷ []) k e q h u am d = other t _ h.1.1.0 (λ z. z) d
+  head_drawn head.AllMemory t (x ∷ []) k e q h u am d = other t _ h.1.0 (λ z. z) d
+  head_drawn head.SomeMemory t (x ∷ []) k e q h u am d = other t _ h.1.0 (λ z. z) d
+  head_drawn (head.AllModule b) t (x ∷ []) k e q h u am d = other t _ h.1.0 (λ z. z) d
+  head_drawn head.Mu t (x ∷ y ∷ []) k e q h u am d = other t _ h.2 (λ z. z) d
+  head_drawn (head.Sum n) t (x ∷ []) k e q h u am d = other t _ h.1.1.0 (λ z. z) d
+  head_drawn (head.Weights ps) t [] k e q h u am d = h.2
+  head_drawn head.Map t (x ∷ y ∷ []) k e q h u am d = k.0 h.0
+  head_drawn head.Restrict t (x ∷ y ∷ []) k e q h u am d = and_from _ _ (restricting r u) (k.0 (subst IsDistributionType (sym h.1) d))
+  head_drawn (head.Pr p z) t xs k e q h u am d = other t _ h.2 (λ z. z) d
+  head_drawn (head.Glob (named a) z) t [] k e q h u am d = other t _ h.1 (λ z. z) d
+  head_drawn (head.Glob _ z) t [] k e q h u am d = absurd h.1
+  head_drawn (head.Hoare b) t (x ∷ y ∷ []) k e q h u am d = other t _ h.1.1.0 (λ z. z) d
+  head_drawn (head.Phoare b z) t (x ∷ y ∷ w ∷ []) k e q h u am d = other t _ h.0.1.1.0 (λ z. z) d
+  head_drawn (head.Equiv a b) t (x ∷ y ∷ []) k e q h u am d = other t _ h.1.1.0 (λ z. z) d
+  head_drawn _ t xs k e q h u am d = absurd h
 
-  -- the first of two parts
-  first_weighs : (ps : List (Bool × Part)) → Known ps → first_draws (bs ps) ≡ true → DrawnPart (first_of (map (λ p. p.1) ps)) × (get_or (ks ps) 0 1 ≡ (first_of (map (λ p. p.1) ps)).denominator)
-  first_weighs [] k h = absurd (false≢true h)
-  first_weighs (x ∷ []) k h = absurd (false≢true h)
-  first_weighs (x ∷ y ∷ []) k h = (k.0 h, refl)
-  first_weighs (x ∷ y ∷ z ∷ ps) k h = absurd (false≢true h)
+  abbrev row_pairs : {n : Count} → Row_of-Term n → List (Ty × Bool)
+  row_pairs end_of-Term = []
+  row_pairs (more_of-Term t ts) = (type_of t, draws g drawn t) ∷ row_pairs ts
 
-  head_weighs : (u : Term) (h : Head) (ty : Ty) (ps : List (Bool × Part)) → Known ps → head_draws g d h ty (bs ps) ≡ true →
-      (0 < denominator_of g h (ks ps) ty) × ((s : State) → Weighs (d.restricts ≡ false) (weights_in (at_head g quiet u h (map (λ p. p.1) ps) ty s)) (denominator_of g h (ks ps) ty))
-  head_weighs u (head.Builtin p) ty ps k h =
-      let w = operator_weighs p ty ps k h in
-      (w.0, λ s. subst (λ z. Weighs (d.restricts ≡ false) (weights_in (operated g.types p ty z)) (denominator_at g.types p ty (ks ps))) (same_args s ps) (w.1 s))
-    where
-      same_args : (s : State) (ps : List (Bool × Part)) → map (λ p. argument s p.1) ps ≡ map (argument s) (map (λ p. p.1) ps)
-      same_args s [] = refl
-      same_args s (p ∷ ps) = ap (λ z. argument s p.1 ∷ z) (same_args s ps)
-  head_weighs u (head.User n) ty ps k h =
-      let both = and_parts (is_distribution ty) (d.operators n) h in
-      let w = o n both.1 in
-      subst (λ b. (0 < (if b then g.denominator n else 1)) × ((s : State) → Weighs (d.restricts ≡ false) (weights_in (g.operator n (map (λ x. x.meaning s) (map (λ p. p.1) ps)))) (if b then g.denominator n else 1)))
-      (sym both.0)
-      (w.positive, λ s. record { entries = w.entries (map (λ x. x.meaning s) (map (λ p. p.1) ps)); bounded = w.bounded (map (λ x. x.meaning s) (map (λ p. p.1) ps)); full = λ f. w.full f (map (λ x. x.meaning s) (map (λ p. p.1) ps)) })
-  head_weighs u (head.Weights qs) ty ps k h = (sum_positive qs h, λ s. stated_weighs qs h)
-  head_weighs u head.Map ty ps k h =
-      let w = first_weighs ps k h in (
-        subst (λ z. 0 < z) (sym w.1) w.0.positive,
-        λ s. subst (λ z. Weighs (d.restricts ≡ false) (weights_in (at_head g quiet u head.Map (map (λ p. p.1) ps) ty s)) z) (sym w.1)
-            (dmap_weighs _ (λ v. value_in (at_value (last_of (map (λ p. p.1) ps)) s v)) (weights_in ((first_of (map (λ p. p.1) ps)).meaning s)) _ (w.0.weighs s)),
-      )
-  head_weighs u head.Restrict ty ps k h =
-      let both = and_parts d.restricts (first_draws (bs ps)) h in
-      let w = first_weighs ps k both.1 in (
-        subst (λ z. 0 < z) (sym w.1) w.0.positive,
-        λ s. subst (λ z. Weighs (d.restricts ≡ false) (weights_in (at_head g quiet u head.Restrict (map (λ p. p.1) ps) ty s)) z) (sym w.1)
-            (restricted_weighs both.0 (weights_in ((first_of (map (λ p. p.1) ps)).meaning s)) (λ v. truth (at_value (last_of (map (λ p. p.1) ps)) s v)) _ (w.0.weighs s)),
-      )
-    where
-      restricted_weighs : d.restricts ≡ true → (l : WeightedList Value) (p : Value → Bool) (k : ℕ) → Weighs (d.restricts ≡ false) l k → Weighs (d.restricts ≡ false) (restricted l p) k
-      restricted_weighs e l p k w = record {
-        entries = restricted_positive l p w.entries;
-        bounded = (let a = restricted_at_most l p in let b = w.bounded in omega (arith, a, b));
-        full = λ f. absurd (false≢true (sym f ∙ e));
-      }
-  head_weighs u _ ty ps k h = absurd (false≢true h)
+  row_tys : {n : Count} (ts : Row_of-Term n) → types_of ts ≡ tys (row_pairs ts)
+  row_tys end_of-Term = refl
+  row_tys (more_of-Term t ts) = ap (λ z. type_of t ∷ z) (row_tys ts)
 
-  abbrev drawn : Term → Bool × Part
-  drawn t = (draws g d t, record { meaning = λ s. val g quiet t s; denominator = denominator g t })
-
-  abbrev row_drawn : {n : Count} → Row_of-Term n → List (Bool × Part)
-  row_drawn end_of-Term = []
-  row_drawn (more_of-Term t ts) = drawn t ∷ row_drawn ts
-
-  row_bs : {n : Count} (ts : Row_of-Term n) → bs (row_drawn ts) ≡ each_draws g d ts
+  row_bs : {n : Count} (ts : Row_of-Term n) → bs (row_pairs ts) ≡ each_draws g drawn ts
   row_bs end_of-Term = refl
-  row_bs (more_of-Term t ts) = ap (λ z. draws g d t ∷ z) (row_bs ts)
-
-  row_ks : {n : Count} (ts : Row_of-Term n) → ks (row_drawn ts) ≡ denominators g ts
-  row_ks end_of-Term = refl
-  row_ks (more_of-Term t ts) = ap (λ z. denominator g t ∷ z) (row_ks ts)
-
-  row_parts : {n : Count} (ts : Row_of-Term n) → map (λ p. p.1) (row_drawn ts) ≡ parts g quiet ts
-  row_parts end_of-Term = refl
-  row_parts (more_of-Term t ts) = ap (λ z. (drawn t).1 ∷ z) (row_parts ts)
+  row_bs (more_of-Term t ts) = ap (λ z. draws g drawn t ∷ z) (row_bs ts)
 
   mutual
-    term_weighs : (t : Term) → draws g d t ≡ true → DrawnPart (record { meaning = λ s. val g quiet t s; denominator = denominator g t })
-    term_weighs (Term' p (more_of-Head h end_of-Head) n ts ty) e =
-        let w = head_weighs (Term' p (more_of-Head h end_of-Head) n ts ty) h ty (row_drawn ts) (row_known ts) (ap (head_draws g d h ty) (row_bs ts) ∙ e) in
-        record {
-          positive = subst (λ z. 0 < denominator_of g h z ty) (row_ks ts) w.0;
-          weighs = λ s. subst (λ z. Weighs (d.restricts ≡ false) (weights_in (at_head g quiet (Term' p (more_of-Head h end_of-Head) n ts ty) h (parts g quiet ts) ty s)) (denominator_of g h z ty)) (row_ks ts)
-              (subst (λ z. Weighs (d.restricts ≡ false) (weights_in (at_head g quiet (Term' p (more_of-Head h end_of-Head) n ts ty) h z ty s)) (denominator_of g h (ks (row_drawn ts)) ty)) (row_parts ts) (w.1 s));
-        }
+    pub term_drawn : (t : Term) (e : Context) → e.operator ≡ c.operator → IsTyped e t → (r ≡ false → IsUnrestricted t) → Among (names t) → IsDistributionType (type_of t) →
+        draws g drawn t ≡ true
+    term_drawn (Term' b (more_of-Head h end_of-Head) n ts t) e q w u a d =
+        ap (head_draws g drawn h t) (sym (row_bs ts))
+        ∙ head_drawn h t (row_pairs ts) (row_known ts e (inner e h (types_of ts)) q q w.1 (λ z. (u z).1) (λ x z. a x (or_right (head_names h t x) _ z))) e q (subst (λ z. IsHead e h z t) (row_tys ts) w.0)
+        (λ z. (u z).0) (λ x z. a x (or_left _ (any_names ts x) z)) d
 
-    row_known : {n : Count} (ts : Row_of-Term n) → Known (row_drawn ts)
-    row_known end_of-Term = tt
-    row_known (more_of-Term t ts) = (term_weighs t, row_known ts)
+    row_known : {n : Count} (ts : Row_of-Term n) (e f : Context) → e.operator ≡ c.operator → f.operator ≡ c.operator → AreTyped e f ts →
+        (r ≡ false → AreUnrestricted ts) → Among (any_names ts) → Known (row_pairs ts)
+    row_known end_of-Term e f q o w u a = tt
+    row_known (more_of-Term t end_of-Term) e f q o w u a = (term_drawn t f o w (λ z. (u z).0) (λ x z. a x (or_left _ false z)), tt)
+    row_known (more_of-Term t (more_of-Term y ts)) e f q o w u a = (
+      term_drawn t e q w.0 (λ z. (u z).0) (λ x z. a x (or_left _ (any_names (more_of-Term y ts) x) z)),
+      row_known (more_of-Term y ts) e f q o w.1 (λ z. (u z).1) (λ x z. a x (or_right (names t x) _ z)),
+    )
 
-  pub draws_distribution : (t : Term) → draws g d t ≡ true → IsDistribution g t
-  draws_distribution t e =
-      let w = term_weighs t e in
-      record { positive = w.positive; entries = λ s. (w.weighs s).entries; total = λ s. (w.weighs s).bounded }
+either : {A B C : Type 0} → (A → C) → (B → C) → A ⊎ B → C
+either f h (inl x) = f x
+either f h (inr y) = h y
 
-  pub draws_full : d.restricts ≡ false → (t : Term) → draws g d t ≡ true → IsFull g t
-  draws_full f t e = λ s. ((term_weighs t e).weighs s).full f
+-- an operator that a term names for a distribution is a full one, where each of these is
+mutual
+  named_full : (g : Setting) (t : Term) → NamesFull g t → (x : Name) → names t x ≡ true → IsFullOperator g x
+  named_full g (Term' b (more_of-Head h end_of-Head) n ts t) k x e = either (head_full g h t k.0 x) (all_full g ts k.1 x) (or_cases (head_names h t x) (any_names ts x) e)
 
-  mutual
-    pub program_sound : (c : Program) → program_draws g d c ≡ true → IsSound g c
-    program_sound done h = tt
-    program_sound (assign xs e c) h = program_sound c h
-    program_sound (sample x e c) h = let b = and_parts (draws g d e) (program_draws g d c) h in (draws_distribution e b.0, program_sound c b.1)
-    program_sound (branch e a b c) h =
-        let p = and_parts (program_draws g d a) (program_draws g d b && program_draws g d c) h in
-        let q = and_parts (program_draws g d b) (program_draws g d c) p.1 in
-        (program_sound a p.0, program_sound b q.0, program_sound c q.1)
-    program_sound (loop e v a c) h = let p = and_parts (program_draws g d a) (program_draws g d c) h in (program_sound a p.0, program_sound c p.1)
-    program_sound (call xs r es c) h = let p = and_parts (routine_draws g d r) (program_draws g d c) h in (routine_sound r p.0, program_sound c p.1)
-    program_sound (ask xs q es c) h = program_sound c h
+  all_full : {n : Count} (g : Setting) (ts : Row_of-Term n) → AllNameFull g ts → (x : Name) → any_names ts x ≡ true → IsFullOperator g x
+  all_full g end_of-Term k x e = absurd (false≢true e)
+  all_full g (more_of-Term t ts) k x e = either (named_full g t k.0 x) (all_full g ts k.1 x) (or_cases (names t x) (any_names ts x) e)
 
-    pub routine_sound : (r : Routine) → routine_draws g d r ≡ true → IsSoundRoutine g r
-    routine_sound (routine ps ls c r) h = program_sound c h
+  head_full : (g : Setting) (h : Head) (t : Ty) → IsFullHead g h t → (x : Name) → head_names h t x ≡ true → IsFullOperator g x
+  head_full g (head.User m) t k x e =
+      let both = and_parts (is_distribution t) (bytes_eq x m) e in
+      subst (IsFullOperator g) (sym ((bytes_eq-Decides x m).0 both.1)) (k both.0)
+  head_full g _ t k x e = absurd (false≢true e)
 
-  module _ (f : d.restricts ≡ false) where
-    mutual
-      pub program_full : (c : Program) → program_draws g d c ≡ true → Full g c
-      program_full done h = tt
-      program_full (assign xs e c) h = program_full c h
-      program_full (sample x e c) h = let b = and_parts (draws g d e) (program_draws g d c) h in (draws_full f e b.0, program_full c b.1)
-      program_full (branch e a b c) h =
-          let p = and_parts (program_draws g d a) (program_draws g d b && program_draws g d c) h in
-          let q = and_parts (program_draws g d b) (program_draws g d c) p.1 in
-          (program_full a p.0, program_full b q.0, program_full c q.1)
-      program_full (loop e v a c) h = let p = and_parts (program_draws g d a) (program_draws g d c) h in (program_full a p.0, program_full c p.1)
-      program_full (call xs r es c) h = let p = and_parts (routine_draws g d r) (program_draws g d c) h in (routine_full r p.0, program_full c p.1)
-      program_full (ask xs q es c) h = program_full c h
+module _ (c : Context) (g : Setting) (i : IsSettingOf c g) where
+  -- a well-typed term of a type of distributions is a distribution or a sub-distribution in each state
+  pub typed_distribution : (t : Term) (e : Context) → e.operator ≡ c.operator → IsTyped e t → IsDistributionType (type_of t) → IsDistribution g t
+  typed_distribution t e q w d =
+      draws_distribution g (drawing c) i.distributions t (term_drawn c g true (λ x. true) i.inhabited t e q w (λ z. absurd (false≢true (sym z))) (λ x z. refl) d)
 
-      pub routine_full : (r : Routine) → routine_draws g d r ≡ true → FullRoutine g r
-      routine_full (routine ps ls c r) h = program_full c h
+  -- the operators of a term draw full distributions, where each that it names does so
+  full_draw : (t : Term) → NamesFull g t → OperatorsDraw g (drawn c g false (names t) i.inhabited)
+  full_draw t k n e =
+      let both = and_parts (names t n) (gives_distributions (c.operator n)) e in
+      let o = i.distributions n both.1 in
+      record { positive = o.positive; entries = o.entries; bounded = o.bounded; full = λ z. named_full g t k n both.0 }
+
+  -- of full weight, where nothing restricts and its operators are of full weight
+  pub typed_full : (t : Term) → IsTyped c t → IsUnrestricted t → NamesFull g t → IsDistributionType (type_of t) → IsFull g t
+  typed_full t w u k d = draws_full g (drawn c g false (names t) i.inhabited) (full_draw t k) refl t (term_drawn c g false (names t) i.inhabited t c refl w (λ z. u) (λ x z. z) d)

@@ -1,73 +1,69 @@
--- Finite maps from paths: reading after writing, and equality.
-use Rattle.std.proofs.Common.{◌≡◌, ◌≢◌, Bool, true, false, cond, Some, Ordering, Less, Equal, Greater, List, refl, ap, sym, ◌∙◌}
-use Rattle.std.specs.Cmp.{tied_itself}
-use Rattle.std.specs.Ordering.{eq_by_cmp, is_eq}
-use Rattle.std.specs.FinMap.{IsAntisymmetric, slice_cmp-IsAntisymmetric, nat_cmp-IsAntisymmetric, is_sorted}
-use Rattle.std.specs.FinMap.Entries.{find-put, same_entries}
-use lib.Dec.{T, T_prop}
-use mathlib.Core.HLevel.{Σ_prop_path}
+-- Entries of maps.
+use Rattle.std.proofs.Common.{◌≡◌, ℕ, ◌+◌, ◌≤◌, Bool, true, false, ◌&&◌, ◌==◌, leb, nat_lt, if◌then◌else◌, List, [], ◌∷◌, length, refl, ap, sym, ◌∙◌, subst, arith}
+use Rattle.std.proofs.lemmas.Bool.{ltb-true, ltb-false, le-leb, and_from, and_parts}
 use Rattle.gb_core.specs.declared.value.Value.{Value}
-use Rattle.gb_meaning.specs.Names.{Path, path_order, path_order_total, Map, get, set}
+use Rattle.gb_core.specs.declared.value.Value.TheVariants.{Num, Many}
+use Rattle.gb_types.specs.Numbering.{Numbering, is_many_in, parts_in, first_or, second_or, key_of, value_of, is_option, is_entry, are_entries}
+use Rattle.gb_types.proofs.Lawful.{Lawful, out-Many}
+use Rattle.gb_types.proofs.Maps.{front_of}
+use Rattle.gb_meaning.specs.Values.{value_eq}
+use Rattle.gb_meaning.specs.Operators.{entry_of, entry_set}
 
-pub path_order-same : IsAntisymmetric path_order
-path_order-same = slice_cmp-IsAntisymmetric (slice_cmp-IsAntisymmetric nat_cmp-IsAntisymmetric)
+abbrev pair : Value → Value → Value
+pair a b = Many (a ∷ b ∷ [])
 
-equal_of : (r : Ordering) → is_eq r ≡ true → r ≡ Equal
-equal_of Less h = cc
-equal_of Equal h = refl
-equal_of Greater h = cc
+key_of_pair : (a b : Value) → key_of (pair a b) ≡ a
+key_of_pair a b = ap (λ z. first_or (parts_in z) (Num 0)) (out-Many (a ∷ b ∷ []))
 
-tied : (x y : Path) → eq_by_cmp path_order x y ≡ true → x ≡ y
-tied x y h = path_order-same x y (equal_of (path_order x y) h)
+module _ (k x : Numbering) (lk : Lawful k) (lx : Lawful x) where
+  pair_is_entry : (a b : Value) → k.has a ≡ true → x.has b ≡ true → is_entry k x (pair a b) ≡ true
+  pair_is_entry a b h l =
+      ap (λ z. is_many_in z && (length (parts_in z) == 2) && k.has (first_or (parts_in z) (Num 0)) && x.has (second_or (parts_in z) (Num 0))) (out-Many (a ∷ b ∷ []))
+      ∙ and_from (k.has a) (x.has b) h l
 
-itself : (x : Path) → eq_by_cmp path_order x x ≡ true
-itself x = ap is_eq (tied_itself path_order_total x)
+  in_front : (from : ℕ) (p : Value) (ps : List Value) → is_entry k x p ≡ true → from ≤ k.place (key_of p) → are_entries k x (k.place (key_of p) + 1) ps ≡ true →
+      are_entries k x from (p ∷ ps) ≡ true
+  in_front from p ps e l h = and_from _ _ (and_from _ _ e (le-leb from (k.place (key_of p)) l)) h
 
-apart : (x y : Path) → x ≢ y → eq_by_cmp path_order x y ≡ false
-apart x y h = step (eq_by_cmp path_order x y) refl
-  where
-    step : (b : Bool) → eq_by_cmp path_order x y ≡ b → eq_by_cmp path_order x y ≡ false
-    step true e = absurd (h (tied x y e))
-    step false e = e
+  pair_in_front : (from : ℕ) (a b : Value) (ps : List Value) → k.has a ≡ true → x.has b ≡ true → from ≤ k.place a → are_entries k x (k.place a + 1) ps ≡ true →
+      are_entries k x from (pair a b ∷ ps) ≡ true
+  pair_in_front from a b ps h l m e =
+      let q = key_of_pair a b in
+      in_front from (pair a b) ps (pair_is_entry a b h l) (subst (λ z. from ≤ k.place z) (sym q) m) (subst (λ z. are_entries k x (k.place z + 1) ps ≡ true) (sym q) e)
 
-pub path_discrete : Discrete Path
-path_discrete x y = step (eq_by_cmp path_order x y) refl
-  where
-    step : (b : Bool) → eq_by_cmp path_order x y ≡ b → Dec (x ≡ y)
-    step true e = yes (tied x y e)
-    step false e = no (λ p. let k : eq_by_cmp path_order x y ≡ true = ap (eq_by_cmp path_order x) (sym p) ∙ itself x in cc)
+  -- what a map holds at a key is an option of its values
+  pub entry_in : (from : ℕ) (ps : List Value) (a : Value) → are_entries k x from ps ≡ true → is_option x (entry_of ps a) ≡ true
+  entry_in from [] a h = refl
+  entry_in from (p ∷ ps) a h =
+      let f = front_of k x lk lx from p ps h in
+      step (value_eq (key_of p) a) f.entry.value (entry_in (k.place (key_of p) + 1) ps a f.others)
+    where
+      step : (b : Bool) → x.has (value_of p) ≡ true → is_option x (entry_of ps a) ≡ true → is_option x (if b then value_of p ∷ [] else entry_of ps a) ≡ true
+      step true v r = v
+      step false v r = r
 
-get-set : (m : Map) (x : Path) (v : Value) (y : Path) → get (set m x v) y ≡ cond (eq_by_cmp path_order y x) (Some v) (get m y)
-get-set m x v y = find-put path_order path_order_total y x v m.entries
+  same_place : (a b : Value) → nat_lt (k.place a) (k.place b) ≡ false → nat_lt (k.place b) (k.place a) ≡ false → k.place a ≡ k.place b
+  same_place a b u v = omega (arith, ltb-false (k.place a) (k.place b) u, ltb-false (k.place b) (k.place a) v)
 
-pub get-set_same : (m : Map) (x : Path) (v : Value) → get (set m x v) x ≡ Some v
-get-set_same m x v = get-set m x v x ∙ ap (λ b. cond b (Some v) (get m x)) (itself x)
-
-pub get-set_other : (m : Map) (x : Path) (v : Value) (y : Path) → y ≢ x → get (set m x v) y ≡ get m y
-get-set_other m x v y h = get-set m x v y ∙ ap (λ b. cond b (Some v) (get m y)) (apart y x h)
-
-pub same_of_entries : (m n : Map) → m.entries ≡ n.entries → m ≡ n
-same_of_entries m n e =
-    let pairs : ◌≡◌ {A = (es : List (Path × Value)) × T (is_sorted path_order es)} (m.entries, m.sorted) (n.entries, n.sorted) = Σ_prop_path (λ es. T_prop _) e in
-    λ i. record { entries = (pairs i).0; sorted = (pairs i).1 }
-
--- maps that answer alike are equal
-pub map_same : (m n : Map) → ((x : Path) → get m x ≡ get n x) → m ≡ n
-map_same m n h = same_of_entries m n (same_entries path_order path_order_total path_order-same m.entries n.entries m.sorted n.sorted h)
-
-pub set-set_same : (m : Map) (x : Path) (v w : Value) → set (set m x v) x w ≡ set m x w
-set-set_same m x v w = map_same _ _ (λ y. get-set (set m x v) x w y ∙ step y (eq_by_cmp path_order y x) (get-set m x v y) ∙ sym (get-set m x w y))
-  where
-    step : (y : Path) (b : Bool) → get (set m x v) y ≡ cond b (Some v) (get m y) → cond b (Some w) (get (set m x v) y) ≡ cond b (Some w) (get m y)
-    step y true e = refl
-    step y false e = e
-
-pub set-set_other : (m : Map) (x : Path) (v : Value) (y : Path) (w : Value) → x ≢ y → set (set m x v) y w ≡ set (set m y w) x v
-set-set_other m x v y w h = map_same _ _ (λ z. get-set (set m x v) y w z ∙ ap (cond (eq_by_cmp path_order z y) (Some w)) (get-set m x v z)
-    ∙ step z (eq_by_cmp path_order z x) (eq_by_cmp path_order z y) refl refl ∙ sym (get-set (set m y w) x v z ∙ ap (cond (eq_by_cmp path_order z x) (Some v)) (get-set m y w z)))
-  where
-    step : (z : Path) (b c : Bool) → eq_by_cmp path_order z x ≡ b → eq_by_cmp path_order z y ≡ c → cond c (Some w) (cond b (Some v) (get m z)) ≡ cond b (Some v) (cond c (Some w) (get m z))
-    step z true true p r = absurd (h (sym (tied z x p) ∙ tied z y r))
-    step z true false p r = refl
-    step z false true p r = refl
-    step z false false p r = refl
+  -- a map with a value at a key is a map
+  pub set_in : (from : ℕ) (ps : List Value) (a b : Value) → k.has a ≡ true → x.has b ≡ true → from ≤ k.place a → are_entries k x from ps ≡ true →
+      are_entries k x from (entry_set k ps a b) ≡ true
+  set_in from [] a b h l m e = pair_in_front from a b [] h l m refl
+  set_in from (p ∷ ps) a b h l m e = step (nat_lt (k.place (key_of p)) (k.place a)) (nat_lt (k.place a) (k.place (key_of p))) (λ q r. set_in (k.place (key_of p) + 1) ps a b h l q r) refl refl
+    where
+      step : (c d : Bool) → (k.place (key_of p) + 1 ≤ k.place a → are_entries k x (k.place (key_of p) + 1) ps ≡ true → are_entries k x (k.place (key_of p) + 1) (entry_set k ps a b) ≡ true) →
+          nat_lt (k.place (key_of p)) (k.place a) ≡ c → nat_lt (k.place a) (k.place (key_of p)) ≡ d →
+          are_entries k x from (if c then p ∷ entry_set k ps a b else if d then pair a b ∷ p ∷ ps else pair a b ∷ ps) ≡ true
+      step true d r u v =
+          let f = front_of k x lk lx from p ps e in
+          let s = ltb-true (k.place (key_of p)) (k.place a) u in
+          in_front from p (entry_set k ps a b) (and_parts (is_entry k x p) (leb from (k.place (key_of p))) (and_parts (is_entry k x p && leb from (k.place (key_of p))) (are_entries k x (k.place (key_of p) + 1) ps) e).0).0 f.late
+          (r (omega (arith, s)) f.others)
+      step false true r u v =
+          let f = front_of k x lk lx from p ps e in
+          let s = ltb-true (k.place a) (k.place (key_of p)) v in
+          pair_in_front from a b (p ∷ ps) h l m
+          (in_front (k.place a + 1) p ps (and_parts (is_entry k x p) (leb from (k.place (key_of p))) (and_parts (is_entry k x p && leb from (k.place (key_of p))) (are_entries k x (k.place (key_of p) + 1) ps) e).0).0 (omega (arith, s)) f.others)
+      step false false r u v =
+          let f = front_of k x lk lx from p ps e in
+          pair_in_front from a b ps h l m (subst (λ z. are_entries k x (z + 1) ps ≡ true) (same_place (key_of p) a u v) f.others)

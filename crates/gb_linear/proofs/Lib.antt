@@ -1,3 +1,5 @@
+pub mod Same
+pub mod Places
 pub mod Gathered
 pub mod Passed
 pub mod Taken

@@ -9,7 +9,7 @@ use Rattle.gb_terms.specs.declared.op.Op.{Op}
 use Rattle.gb_terms.specs.declared.term.Head.{Head}
 use Rattle.gb_goal.specs.Answers.Answer.{given}
 use Rattle.gb_linear.specs.declared.linear.Prefix.{Prefix}
-use Rattle.gb_sums.specs.Forms.{alone, of_number}
+use Rattle.gb_linear.specs.Forms.{alone, of_number}
 use Rattle.gb_linear.specs.Linear.{at_head, joining, linear, numeral, of_one, of_two, part, parts, plain, prefixed}
 
 parts_row : (n : _) (r : Row_of-Term n) → parts r ≡ map part (items-the_row-Term n r)

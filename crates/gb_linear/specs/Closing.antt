@@ -16,13 +16,13 @@ use Rattle.gb_goal.specs.declared.sequent.Hyp.{Hyp}
 use Rattle.gb_goal.specs.declared.sequent.Sequent.{Sequent}
 use Rattle.gb_steps.specs.declared.step.Multiple.{Multiple}
 use Rattle.gb_closing.specs.declared.numbers.Sign.TheVariants.{Plus, Minus}
-use Rattle.gb_sums.specs.declared.numbers.Stands.TheVariants.{Left}
-use Rattle.gb_sums.specs.declared.forms.LinearForm.{LinearForm}
+use Rattle.gb_linear.specs.declared.numbers.Stands.TheVariants.{Left}
+use Rattle.gb_linear.specs.declared.forms.LinearForm.{LinearForm}
 use Rattle.gb_linear.specs.declared.apply.Comparison.{Comparison}
 use Rattle.gb_linear.specs.declared.apply.Assumption.{Assumption}
 use Rattle.gb_closing.specs.Numbers.{zero, may_have}
-use Rattle.gb_sums.specs.Numbers.{is_zero, is_positive}
-use Rattle.gb_sums.specs.Forms.{combined, scaled, is_constant}
+use Rattle.gb_linear.specs.Numbers.{is_zero, is_positive}
+use Rattle.gb_linear.specs.Forms.{combined, scaled, is_constant}
 use Rattle.gb_linear.specs.Linear.{linear}
 
 abbrev pub is_number : Ty → Bool

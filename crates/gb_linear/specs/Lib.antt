@@ -1,2 +1,4 @@
+pub mod Numbers
+pub mod Forms
 pub mod Linear
 pub mod Closing

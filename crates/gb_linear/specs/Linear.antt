@@ -12,13 +12,13 @@ use Rattle.gb_terms.specs.declared.term.Head.TheVariants as head
 use Rattle.gb_goal.specs.Answers.{Answer, ◌>>=◌}
 use Rattle.gb_goal.specs.Answers.Answer.{given}
 use Rattle.gb_closing.specs.declared.numbers.Sign.TheVariants.{Plus, Minus}
-use Rattle.gb_sums.specs.declared.numbers.Stands.TheVariants.{Left, Right}
-use Rattle.gb_sums.specs.declared.forms.LinearForm.{LinearForm}
+use Rattle.gb_linear.specs.declared.numbers.Stands.TheVariants.{Left, Right}
+use Rattle.gb_linear.specs.declared.forms.LinearForm.{LinearForm}
 use Rattle.gb_linear.specs.declared.linear.Prefix.{Prefix}
 use Rattle.gb_linear.specs.declared.linear.Prefix.TheVariants.{Opposite, Same, Other}
 use Rattle.gb_closing.specs.Numbers.{zero}
-use Rattle.gb_sums.specs.Numbers.{is_divisor, inverse}
-use Rattle.gb_sums.specs.Forms.{combined, scaled, is_constant, of_number, alone}
+use Rattle.gb_linear.specs.Numbers.{is_divisor, inverse}
+use Rattle.gb_linear.specs.Forms.{combined, scaled, is_constant, of_number, alone}
 
 abbrev pub is_int : Ty → Bool
 is_int ty.Int = true

@@ -3,9 +3,11 @@
 ghost use Rattle.std.specs.Prelude.{◌≡◌, Some, None, IfOk, IfSome};
 ghost use Rattle.std.specs.List.{list_all};
 ghost use Rattle.gb_goal.specs.Answers.{Answers};
-ghost use Rattle.gb_linear.specs.Closing.{added, all_assumed, allowed, assumed, between, closed_by, closed_with, closing, compared, difference, factor_of, is_allowed, is_closed, is_number, linear_answer, rest, with_all};
+ghost use Rattle.gb_linear.specs.Closing.{added, all_assumed, assumed, between, closed_by, closed_with, closing, compared, difference, factor_of, is_allowed, is_closed, is_number, linear_answer, with_all};
 
+use crate::forms::{LinearForm, combined, is_constant, scaled};
 use crate::linear::linear;
+use crate::numbers::{Stands, is_positive, is_zero};
 use gb_closing::numbers::{Sign, may_have, refusal};
 use gb_core::place::Place;
 use gb_core::refusal::{Refused, Why};
@@ -13,8 +15,6 @@ use gb_core::ty::Ty;
 use gb_goal::sequent::{Hyp, Sequent, Sequents};
 use gb_num::Frac;
 use gb_steps::step::Multiple;
-use gb_sums::forms::{LinearForm, combined, is_constant, scaled};
-use gb_sums::numbers::{Stands, is_positive, is_zero};
 use gb_terms::op::Op;
 use gb_terms::term::{Form, Head, Term};
 use sqlite_items::Items;
@@ -99,28 +99,11 @@ fn all_assumed(
     Ok(Some(out))
 }
 
-/// Whether a multiplier is a number with a denominator above 0, and not below 0 where the hypothesis isn't an equation.
-fn is_allowed(assumption: &Assumption) -> bool
-    ensures { result ≡ is_allowed assumption.now }
-{
-    may_have(assumption.says.equal, assumption.factor)
-}
-
+/// Whether each multiplier is a number with a denominator above 0, and not below 0 where its hypothesis isn't an equation.
 fn are_allowed(assumptions: &[Assumption]) -> bool
     ensures { result ≡ list_all is_allowed assumptions.now }
 {
-    assumptions.iter().all(|a| is_allowed(a))
-}
-
-/// Refuses multipliers that aren't allowed.
-fn check_allowed(assumptions: &[Assumption]) -> Result<(), Refused>
-    ensures { Answers (allowed assumptions.now) result }
-{
-    if are_allowed(assumptions) {
-        Ok(())
-    } else {
-        Err(refusal(Why::Argument))
-    }
+    assumptions.iter().all(|a| may_have(a.says.equal, a.factor))
 }
 
 fn factor_of(factor: Option<Frac>) -> Frac
@@ -166,14 +149,6 @@ fn with_all(
     Ok(sum)
 }
 
-/// The rest of a goal and its hypotheses.
-fn rest(alloc: Global, goal: &Comparison, assumptions: &[Assumption]) -> Result<LinearForm, Refused>
-    ensures { Answers (rest goal.now assumptions.now) result }
-{
-    let form = difference(alloc, &goal.left, &goal.right)?;
-    with_all(alloc, form, assumptions)
-}
-
 /// Whether a rest is a constant at most 0, for an equation exactly 0.
 fn is_closed(equal: bool, rest: &LinearForm) -> bool
     ensures { result ≡ is_closed equal rest.now }
@@ -200,7 +175,7 @@ fn closed_by(alloc: Global, equal: bool, rest: &LinearForm) -> Result<Sequents, 
     }))
 }
 
-/// Closes a comparison by hypotheses that can be used.
+/// Closes a comparison by hypotheses that can be used, where their multipliers are allowed.
 fn closed_with(
     alloc: Global,
     goal: &Comparison,
@@ -208,8 +183,11 @@ fn closed_with(
 ) -> Result<Sequents, Refused>
     ensures { Answers (closed_with goal.now assumptions.now) result }
 {
-    check_allowed(assumptions)?;
-    let rest = rest(alloc, goal, assumptions)?;
+    if !are_allowed(assumptions) {
+        return Err(refusal(Why::Argument));
+    }
+    let form = difference(alloc, &goal.left, &goal.right)?;
+    let rest = with_all(alloc, form, assumptions)?;
     closed_by(alloc, goal.equal, &rest)
 }
 

@@ -2,18 +2,19 @@
 
 ghost use Rattle.std.specs.Prelude.{◌≡◌, IfOk};
 ghost use Rattle.gb_goal.specs.Answers.{Answers};
+ghost use Rattle.gb_goal.specs.Answers.Answer.{given};
 ghost use Rattle.gb_linear.specs.Linear.{at_forms, is_int, joining, linear, numeral, plain, prefixed, product_of, quotient_of};
 ghost use Rattle.gb_closing.specs.declared.numbers.Sign.TheVariants.{Minus};
 ghost use Rattle.gb_closing.specs.Numbers.{zero};
-ghost use Rattle.gb_sums.specs.Forms.{combined, of_number};
+ghost use Rattle.gb_linear.specs.Forms.{combined, of_number};
 ghost use Rattle.gb_terms.specs.declared.term.Term.{out-Term};
 
+use crate::forms::{LinearForm, alone, combined, is_constant, of_number, scaled};
+use crate::numbers::{Stands, inverse, is_divisor};
 use gb_closing::numbers::Sign;
 use gb_core::refusal::Refused;
 use gb_core::ty::Ty;
 use gb_num::Frac;
-use gb_sums::forms::{LinearForm, alone, combined, is_constant, of_number, scaled};
-use gb_sums::numbers::{Stands, inverse, is_divisor};
 use gb_terms::op::Op;
 use gb_terms::term::{Head, Term};
 use std::alloc::{AllocError, Global};
@@ -50,7 +51,7 @@ fn product_of(
     } else if is_constant(b) {
         scaled(alloc, Stands::Right, b.constant, a)
     } else {
-        Ok(alone(alloc, t)?)
+        alone(alloc, t).map_err(Refused::from)
     }
 }
 
@@ -67,7 +68,7 @@ fn quotient_of(
         let factor = inverse(b.constant)?;
         scaled(alloc, Stands::Right, factor, a)
     } else {
-        Ok(alone(alloc, t)?)
+        alone(alloc, t).map_err(Refused::from)
     }
 }
 
@@ -86,17 +87,17 @@ fn at_forms(
         Op::Minus => combined(alloc, Sign::Minus, a, b),
         Op::Times => product_of(alloc, a, b, t),
         Op::Divide => quotient_of(alloc, a, b, t),
-        _ => Ok(alone(alloc, t)?),
+        _ => alone(alloc, t).map_err(Refused::from),
     }
 }
 
 /// A term that isn't taken apart, unless it is a numeral.
-fn plain(alloc: Global, t: &Term) -> Result<LinearForm, AllocError>
-    ensures { IfOk result (λ made. made ≡ plain (out-Term t.now).head t.now) }
+fn plain(alloc: Global, t: &Term) -> Result<LinearForm, Refused>
+    ensures { Answers (given (plain (out-Term t.now).head t.now)) result }
 {
     match t.head.get() {
-        Head::Whole(number) => numeral(alloc, *number, t),
-        _ => alone(alloc, t),
+        Head::Whole(number) => numeral(alloc, *number, t).map_err(Refused::from),
+        _ => alone(alloc, t).map_err(Refused::from),
     }
 }
 
@@ -153,7 +154,7 @@ pub fn linear(alloc: Global, t: &Term) -> Result<LinearForm, Refused>
                 opposite(alloc, &a)
             }
             Prefix::Same => linear(alloc, &args[0]),
-            Prefix::Other => Ok(plain(alloc, t)?),
+            Prefix::Other => plain(alloc, t),
         };
     }
     if args.len() == 2 {
@@ -163,8 +164,8 @@ pub fn linear(alloc: Global, t: &Term) -> Result<LinearForm, Refused>
                 let b = linear(alloc, &args[1])?;
                 at_forms(alloc, op, &a, &b, t)
             }
-            None => Ok(plain(alloc, t)?),
+            None => plain(alloc, t),
         };
     }
-    Ok(plain(alloc, t)?)
+    plain(alloc, t)
 }

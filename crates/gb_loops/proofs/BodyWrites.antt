@@ -13,9 +13,9 @@ use Rattle.gb_meaning.specs.Commands.{called, program_of, statement, statements}
 use Rattle.gb_meaning.specs.Program.{Program, Routine}
 use Rattle.gb_meaning.specs.Program.Routine.{routine}
 use Rattle.gb_meaning.specs.Setting.{Setting}
-use Rattle.gb_local.specs.Cells.{Key}
-use Rattle.gb_local.specs.Cells.Key.{global, local}
-use Rattle.gb_local.specs.Writes.{IfGlobal, Spares, Unwritten, UnwrittenBy}
+use Rattle.gb_laws.specs.Cells.{Key}
+use Rattle.gb_laws.specs.Cells.Key.{global, local}
+use Rattle.gb_laws.specs.Writes.{IfGlobal, Spares, Unwritten, UnwrittenBy}
 use Rattle.gb_goal.specs.Scope.{Declarations, procedure_of}
 use Rattle.gb_prog.specs.Writes.{WritesWithin}
 use Rattle.gb_mods.specs.Called.{all_reached, row_calls, statement_calls, calls}

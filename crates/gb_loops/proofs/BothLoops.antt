@@ -10,7 +10,7 @@ use Rattle.gb_terms.specs.declared.op.Side.{Side}
 use Rattle.gb_terms.specs.declared.op.Side.TheVariants as side
 use Rattle.gb_terms.specs.declared.term.Instr.{Instr}
 use Rattle.gb_terms.specs.declared.term.Term.{Term}
-use Rattle.gb_laws.proofs.Truths.{true_equal}
+use Rattle.gb_meaning.proofs.Truths.{true_equal}
 use Rattle.gb_meaning.specs.Commands.{statements}
 use Rattle.gb_meaning.specs.Judgments.{Judge, IsFair, IsTrueUnder, den, speaking}
 use Rattle.gb_meaning.specs.Meanings.{truth, value_in}
@@ -20,8 +20,8 @@ use Rattle.gb_meaning.specs.Setting.{Setting}
 use Rattle.gb_meaning.specs.Setting.Meaning.{finite}
 use Rattle.gb_meaning.specs.State.{State, between, inside}
 use Rattle.gb_meaning.specs.Terms.{quiet, val}
-use Rattle.gb_changes.specs.Uses.{Uses, IsWithin}
-use Rattle.gb_typed.specs.Finite.{IsFinite}
+use Rattle.gb_laws.specs.Uses.{Uses, IsWithin}
+use Rattle.gb_laws.specs.Finite.{IsFinite}
 use Rattle.gb_goal.specs.Answers.Answer.{given}
 use Rattle.gb_goal.specs.Goal.{Goal}
 use Rattle.gb_goal.specs.Goal.Code.{body}

@@ -12,8 +12,8 @@ use Rattle.gb_terms.specs.Equal.{var_eq}
 use Rattle.gb_terms.proofs.Equality.{side_eq-Decides, var_eq-Decides}
 use Rattle.gb_walk.specs.Clash.{first_clash, variables_read}
 use Rattle.gb_meaning.specs.Setting.{Setting}
-use Rattle.gb_changes.specs.Uses.{Uses, IsWithin}
-use Rattle.gb_changes.specs.Written.{IsSide}
+use Rattle.gb_laws.specs.Uses.{Uses, IsWithin}
+use Rattle.gb_laws.specs.Written.{IsSide}
 use Rattle.gb_typing.specs.Context.{Context}
 use Rattle.gb_typing.specs.Forms.{IsAlone}
 use Rattle.gb_typing.specs.Puts.{Readable, reading}

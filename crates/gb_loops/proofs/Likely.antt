@@ -8,7 +8,7 @@ use Rattle.gb_coupling.proofs.Weights.{weight-le_total}
 use Rattle.gb_meaning.specs.Fractions.{Fraction}
 use Rattle.gb_meaning.specs.Judgments.{compares, chance}
 use Rattle.gb_meaning.specs.Memory.{Memory}
-use Rattle.gb_chance.proofs.Chances.{below, grown, product_positive}
+use Rattle.gb_parts.proofs.Chances.{below, grown, product_positive}
 use Rattle.gb_prog.proofs.Certain.{chance_one}
 
 -- Where a first event holds behind a first part, a second one is certain behind a second part, over the denominators d and e.

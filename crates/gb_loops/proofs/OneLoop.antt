@@ -12,8 +12,8 @@ use Rattle.gb_meaning.specs.Runs.{is_true}
 use Rattle.gb_meaning.specs.Setting.{Setting}
 use Rattle.gb_meaning.specs.State.{State, inside, memory_of}
 use Rattle.gb_meaning.specs.Terms.{quiet, val}
-use Rattle.gb_changes.specs.Written.{IsSide, with_side}
-use Rattle.gb_typed.specs.Finite.{IsFinite}
+use Rattle.gb_laws.specs.Written.{IsSide, with_side}
+use Rattle.gb_laws.specs.Finite.{IsFinite}
 use Rattle.gb_typing.specs.Context.{Context, Frame, frame_of, reframed}
 use Rattle.gb_typing.specs.Fits.{IsSettingOf, IsStateOf}
 use Rattle.gb_typing.specs.Forms.{and_form, located, not_form}

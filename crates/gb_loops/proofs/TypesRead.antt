@@ -16,10 +16,10 @@ use Rattle.gb_terms.specs.Equal.{side_eq, var_eq}
 use Rattle.gb_terms.proofs.Equality.{side_eq-Decides, var_eq-Decides}
 use Rattle.gb_walk.specs.Clash.{read_by, all_of, outside, variables_read, each_read}
 use Rattle.gb_meaning.specs.Operators.{outcome_type}
-use Rattle.gb_changes.specs.Written.{IsSide}
-use Rattle.gb_typed.specs.Finite.{IsFinite}
-use Rattle.gb_typed.specs.Typing.{Binder, types_of}
-use Rattle.gb_typed.specs.Typing.Binder.{value, index, memory, program}
+use Rattle.gb_laws.specs.Written.{IsSide}
+use Rattle.gb_laws.specs.Finite.{IsFinite}
+use Rattle.gb_laws.specs.Typing.{Binder, types_of}
+use Rattle.gb_laws.specs.Typing.Binder.{value, index, memory, program}
 use Rattle.gb_typing.specs.Context.{Context, Frame, frame_of, within}
 use Rattle.gb_typing.specs.Typing.{IsIn, IsNamed, IsTyped, AreTyped, first, middle, last}
 use Rattle.gb_prog.specs.AllValues.{AreLocated, in_memory}

@@ -23,8 +23,8 @@ use Rattle.gb_meaning.specs.Runs.{is_true}
 use Rattle.gb_meaning.specs.Setting.{Setting}
 use Rattle.gb_meaning.specs.State.{State, at, between}
 use Rattle.gb_meaning.specs.Terms.{val}
-use Rattle.gb_laws.proofs.Runs.{run_entries, run_positive}
-use Rattle.gb_laws.proofs.Totals.{run_bounded}
+use Rattle.gb_meaning.proofs.Runs.{run_entries, run_positive}
+use Rattle.gb_meaning.proofs.Totals.{run_bounded}
 use Rattle.gb_goal.specs.Answers.{Answer, ◌>>=◌}
 use Rattle.gb_goal.specs.Answers.Answer.{given, refused}
 use Rattle.gb_goal.specs.Goal.{Goal}
@@ -48,9 +48,9 @@ use Rattle.gb_typing.proofs.Drawing.{body_sound}
 use Rattle.gb_typing.proofs.Fitting.{state_at, state_between}
 use Rattle.gb_typing.proofs.Given.{refused_at, refused_given, same_given}
 use Rattle.gb_typing.proofs.Runs.{coupled_in_turn, denominator_append, run_append}
-use Rattle.gb_chance.specs.Compared.{literal}
+use Rattle.gb_parts.specs.Compared.{literal}
 use Rattle.gb_full.specs.Loss.{Loss, nowhere, sampled, called, first_loss}
-use Rattle.gb_chance.proofs.Comparing.{literal_value}
+use Rattle.gb_parts.proofs.Comparing.{literal_value}
 use Rattle.gb_full.proofs.Full.{total_full}
 use Rattle.gb_full.specs.Lossless.{full}
 use Rattle.gb_prog.proofs.Certain.{certain_everywhere}

@@ -27,7 +27,7 @@ use Rattle.gb_prog.specs.AllValues.{Located, all_values}
 use Rattle.gb_parts.specs.Assigned.{clashing, is_clashing}
 use Rattle.gb_parts.specs.OneBody.{OneBody, on_one, one_body}
 use Rattle.gb_call.specs.Call.{unless_clash}
-use Rattle.gb_chance.specs.Compared.{literal}
+use Rattle.gb_parts.specs.Compared.{literal}
 use Rattle.gb_full.specs.Loss.{first_loss}
 use Rattle.gb_full.specs.Lossless.{full}
 use Rattle.gb_forms.specs.Loops.{turn_goal, written}

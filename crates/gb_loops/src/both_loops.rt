@@ -15,15 +15,15 @@ ghost use Rattle.gb_loops.specs.While.{at_both_ends, before_both, both_goals, by
 
 use crate::last_loop::Last;
 use crate::read::{all_values, read_in};
-use gb_core::copy::copy_var;
-use gb_core::refusal::{Refused, Why};
+use gb_call::call::side_condition;
+use gb_core::refusal::Refused;
 use gb_core::var::Var;
 use gb_forms::loops::written;
 use gb_goal::goal::equiv;
 use gb_goal::scope::Scope;
 use gb_goal::sequent::{Sequent, Sequents};
 use gb_parts::forms::located;
-use gb_parts::subgoals::{no_shape, refusal, shared_body, two_goals};
+use gb_parts::subgoals::{no_shape, shared_body, two_goals};
 use gb_terms::make::{conjunction, equality, implication, negation};
 use gb_terms::op::Side;
 use gb_terms::term::{Form, Instr};
@@ -189,8 +189,7 @@ pub fn by_both(
     let ends = at_both_ends(alloc, loops)?;
     let (left, right) = (left.as_slice(), right.as_slice());
     if let Some(var) = clashing_both(left, right, &ends) {
-        let var = copy_var(alloc, var)?;
-        return Err(refusal(Why::SideCondition(var)));
+        return Err(side_condition(alloc, var));
     }
     Ok(both_goals(alloc, goal, loops, &ends, left, right)?)
 }

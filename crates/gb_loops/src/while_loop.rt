@@ -5,7 +5,6 @@ ghost use Rattle.gb_goal.specs.Answers.{Answers};
 ghost use Rattle.gb_goal.specs.Goal.{form_of};
 ghost use Rattle.gb_goal.specs.Rows.{answered, concluding, each_concluding, stepped};
 ghost use Rattle.gb_goal.specs.Scope.{Declarations};
-ghost use Rattle.gb_goal.specs.Views.{goal_seen};
 ghost use Rattle.gb_goal.specs.declared.sequent.Sequent.{Sequent as TypedSequent};
 ghost use Rattle.gb_holds.specs.Declared.{declared};
 ghost use Rattle.gb_steps.specs.declared.step.Acts.{Acts as Programs};
@@ -20,10 +19,9 @@ ghost use Rattle.gb_loops.specs.While.{at_end, before_loop, by_loop, is_certain,
 use crate::both_loops::{Loops, by_both};
 use crate::last_loop::{Last, last_loop};
 use crate::read::{all_values, read_in};
-use gb_chance::compared::literal;
-use gb_core::copy::copy_var;
+use gb_call::call::side_condition;
 use gb_core::place::Place;
-use gb_core::refusal::{Refused, Why};
+use gb_core::refusal::Refused;
 use gb_core::var::Var;
 use gb_forms::loops::{leads_out, turn_goal, written};
 use gb_full::loss::first_loss;
@@ -32,9 +30,10 @@ use gb_goal::goal::{Code, Goal, goal_of};
 use gb_goal::scope::Scope;
 use gb_goal::sequent::{Sequent, Sequents};
 use gb_parts::assigned::clashing;
+use gb_parts::compared::literal;
 use gb_parts::forms::located;
 use gb_parts::one_body::{Around, OneBody, filled, side_of};
-use gb_parts::subgoals::{no_shape, placed, refusal, shared_body, two_goals};
+use gb_parts::subgoals::{no_shape, placed, shared_body, two_goals};
 use gb_steps::step::{Acts, Invariant};
 use gb_terms::make::conjunction;
 use gb_terms::op::{Rel, Side};
@@ -152,8 +151,7 @@ fn by_last(
     let side = side_of(one.around);
     let ends = at_end(alloc, side, turned, one.post)?;
     if let Some(var) = clashing(side, list.as_slice(), &ends) {
-        let var = copy_var(alloc, var)?;
-        return Err(refusal(Why::SideCondition(var)));
+        return Err(side_condition(alloc, var));
     }
     kept_weight(alloc, scope, lossless, turned)?;
     Ok(loop_goals(alloc, goal, one, turned, &ends, list.as_slice())?)
@@ -188,18 +186,21 @@ fn is_certain(rel: Rel, bound: &RealTerm) -> bool
     }
 }
 
-/// The goals of a goal that is seen so.
-fn turned(
+/// The subgoals of `while` on a body that ends with a loop: each turn keeps the invariant, and what stands before the loop leads to where the
+/// invariant holds, and where for all values of the variables that the loop writes the postcondition holds if the invariant does and the
+/// guard is false. With a probability the bound has to be one that what is certain meets. Refused with `Shape` at any other goal, and at a loop
+/// of which it isn't known what it writes; with `SideCondition` where a form reads a variable that clashes with one that is replaced;
+/// with `NotLossless` where the loop may lose weight and may not.
+pub fn while_loop(
     alloc: Global,
     goal: &Sequent,
     scope: &Scope,
     acts: Acts,
     invariant: &Form,
-    seen: Goal,
 ) -> Result<Sequents, Refused>
-    ensures { Answers (each_concluding goal.now (while_row scope.now acts invariant.now (goal_seen seen.entry))) result }
+    ensures { Answers (answered (while_row scope.now acts invariant.now) goal.now) result }
 {
-    match (acts, seen) {
+    match (acts, goal_of(&goal.conclusion)) {
         (Acts::All, Goal::Hoare(Code::Body(list), pre, post)) => {
             let around = Around::Alone;
             let one = OneBody {
@@ -258,30 +259,6 @@ fn turned(
         }
         _ => Err(no_shape()),
     }
-}
-
-/// The subgoals of `while` on a body that ends with a loop: each turn keeps the invariant, and what stands before the loop leads to where the
-/// invariant holds, and where for all values of the variables that the loop writes the postcondition holds if the invariant does and the
-/// guard is false. With a probability the bound has to be one that what is certain meets. Refused with `Shape` at any other goal, and at a loop
-/// of which it isn't known what it writes; with `SideCondition` where a form reads a variable that clashes with one that is replaced;
-/// with `NotLossless` where the loop may lose weight and may not.
-pub fn while_loop(
-    alloc: Global,
-    goal: &Sequent,
-    scope: &Scope,
-    acts: Acts,
-    invariant: &Form,
-) -> Result<Sequents, Refused>
-    ensures { Answers (answered (while_row scope.now acts invariant.now) goal.now) result }
-{
-    turned(
-        alloc,
-        goal,
-        scope,
-        acts,
-        invariant,
-        goal_of(&goal.conclusion),
-    )
 }
 
 /// The subgoals of a step of `while` at a place, in order. Refused as `while_loop` says, at this place.

@@ -5,8 +5,8 @@ use Rattle.gb_core.specs.declared.value.Value.{out-Value}
 use Rattle.gb_meaning.specs.Names.{Name}
 use Rattle.gb_meaning.specs.Values.{World}
 use Rattle.gb_meaning.specs.Setting.{Setting}
-use Rattle.gb_judge.proofs.Exact.{trying}
-use Rattle.gb_judge.proofs.Fair.{is_fair}
+use Rattle.gb_laws.proofs.Exact.{trying}
+use Rattle.gb_laws.proofs.Fair.{is_fair}
 use Rattle.gb_holds.specs.Declared.{Declarations}
 use Rattle.gb_holds.specs.Settings.{Table, setting}
 use Rattle.gb_holds.specs.Holds.{EachProgram, IsTrueSequent, IsModel, interpretation, declared_modules, Holds}

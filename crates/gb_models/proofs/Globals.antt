@@ -17,8 +17,8 @@ use Rattle.gb_holds.specs.Holds.{HaveVariableTypes as HaveWorldTypes}
 use Rattle.gb_holds.specs.Programs.{AreOnce, AreIn}
 use Rattle.gb_holds.specs.Settings.{globals_from, declared_globals}
 use Rattle.gb_holds.specs.Typing.{global_type}
-use Rattle.gb_typed.specs.Finite.{AreVariables, IsInhabited}
-use Rattle.gb_typed.proofs.Sizes.{finite_sized}
+use Rattle.gb_laws.specs.Finite.{AreVariables, IsInhabited}
+use Rattle.gb_laws.proofs.Sizes.{finite_sized}
 use Rattle.gb_typing.specs.Context.{Context}
 use Rattle.gb_typing.proofs.Globals.{name_test}
 use Rattle.gb_typing.proofs.Operators.{declared_more, declared_last, other_name}

@@ -15,7 +15,7 @@ use Rattle.gb_terms.specs.declared.term.Head.{Head}
 use Rattle.gb_terms.specs.declared.term.Head.TheVariants as head
 use Rattle.gb_terms.specs.declared.term.Head.TheVariants.{Proc, Body'}
 use Rattle.gb_meaning.specs.Names.{Name}
-use Rattle.gb_typed.specs.Typing.{OperatorType, types_of, IsRead, IsSide, IsProbability, IsHead}
+use Rattle.gb_laws.specs.Typing.{OperatorType, types_of, IsRead, IsSide, IsProbability, IsHead}
 use Rattle.gb_typing.specs.Modules.{ProcedureType}
 use Rattle.gb_typing.specs.Context.{Frame, Context, procedure, erased, frame_of, with_own, with_sides}
 use Rattle.gb_typing.specs.Typing.{IsFrame, IsIn, IsThere, procedure_in, IsNamed, first, middle, last, before, after, IsTyped, AreTyped, IsForm}

@@ -22,8 +22,8 @@ use Rattle.gb_meaning.specs.Names.{Name}
 use Rattle.gb_holds.specs.Declared.{Declarations, declaration_of, declared, concrete_module, lemma}
 use Rattle.gb_holds.specs.Truth.{Choice, has_module, last_has_module}
 use Rattle.gb_holds.proofs.Lists.{declared-append}
-use Rattle.gb_typed.specs.Operators.{parts_in}
-use Rattle.gb_typed.specs.Programs.{variable_type, HaveTypes, Take}
+use Rattle.gb_laws.specs.Operators.{parts_in}
+use Rattle.gb_laws.specs.Programs.{variable_type, HaveTypes, Take}
 use Rattle.gb_typing.specs.Context.{Context, procedure, erased, of_program, no_module, with_own}
 use Rattle.gb_typing.specs.Formulas.{IsFormula}
 use Rattle.gb_typing.specs.Modules.{ProcedureType}

@@ -14,7 +14,7 @@ use Rattle.gb_meaning.specs.Values.{Types, values_by, all_values_by, boxed_value
 use Rattle.gb_meaning.specs.Program.{Routine, Oracle}
 use Rattle.gb_meaning.specs.Setting.{Setting}
 use Rattle.gb_meaning.specs.Sound.{FullRoutine}
-use Rattle.gb_laws.proofs.Numberings.{lawful}
+use Rattle.gb_meaning.proofs.Numberings.{lawful}
 use Rattle.gb_holds.specs.Declared.{Declarations, ModuleType, Signature}
 use Rattle.gb_holds.specs.Modules.{Procedures, found}
 use Rattle.gb_holds.specs.Typing.{IsPlain, ArePlain, AreLocals}

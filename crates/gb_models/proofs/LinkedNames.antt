@@ -21,9 +21,9 @@ use Rattle.gb_meaning.specs.Program.{Program, Routine}
 use Rattle.gb_meaning.specs.Setting.{Setting}
 use Rattle.gb_meaning.specs.Values.{World}
 use Rattle.gb_meaning.specs.Written.{type_of}
-use Rattle.gb_typed.specs.Finite.{IsVariableType, AreFiniteWith}
-use Rattle.gb_typed.specs.Operators.{parts_in}
-use Rattle.gb_typed.specs.Programs.{variable_type, HaveTypes, Take}
+use Rattle.gb_laws.specs.Finite.{IsVariableType, AreFiniteWith}
+use Rattle.gb_laws.specs.Operators.{parts_in}
+use Rattle.gb_laws.specs.Programs.{variable_type, HaveTypes, Take}
 use Rattle.gb_holds.specs.Declared.{Declarations, abstract_type, abbreviation, operator, abstract_operator, module_type, concrete_module, abstract_module, axiom_of, lemma, terminating}
 use Rattle.gb_holds.specs.Globs.{EachGlob, EachGlobIn}
 use Rattle.gb_holds.specs.Holds.{interpretation}
@@ -31,7 +31,7 @@ use Rattle.gb_holds.specs.Linking.{calling, linked_procedure}
 use Rattle.gb_holds.specs.Modules.{Procedures, Functor, Applied, Modules, found, closed, module_at, modules_at, procedure_at, no_module, with_module, argument, with_params, with_procedure, with_procedures, module_read, modules_of}
 use Rattle.gb_holds.specs.Naming.{AnyName}
 use Rattle.gb_holds.specs.Settings.{Table, types_of, bare, with_operators, setting}
-use Rattle.gb_later.specs.Naming.{EachGlobOf, EachGlobAmong, VariableNames, VariablesName, TermsName, EachTermNames, ProgramNames, RoutineNames, NamesIfThere, TermNames}
+use Rattle.gb_typing.specs.Naming.{EachGlobOf, EachGlobAmong, VariableNames, VariablesName, TermsName, EachTermNames, ProgramNames, RoutineNames, NamesIfThere, TermNames}
 use Rattle.gb_typing.specs.Modules.{ProcedureType}
 use Rattle.gb_typing.specs.Context.{Context, procedure, erased}
 use Rattle.gb_typing.specs.Programs.{HaveVariableTypes, IsCall, IsStatement, AreStatements, EachStatement, IsProcedure, locals_of, type_of_procedure}

@@ -17,8 +17,8 @@ use Rattle.gb_holds.specs.Declared.{Declarations, Declaration, AbstractOperator,
 use Rattle.gb_holds.specs.Programs.{AreOnce}
 use Rattle.gb_holds.specs.Settings.{Table, Interpretation, types_of, declared_globals}
 use Rattle.gb_holds.specs.Holds.{IsResult, GiveResults, AxiomsAreTrue, interpretation, declared_modules, Holds}
-use Rattle.gb_typed.specs.Finite.{AreVariables, IsInhabited}
-use Rattle.gb_typed.proofs.Sizes.{first_has}
+use Rattle.gb_laws.specs.Finite.{AreVariables, IsInhabited}
+use Rattle.gb_laws.proofs.Sizes.{first_has}
 use Rattle.gb_typing.specs.Context.{Context}
 use Rattle.gb_typing.specs.Scopes.{IsMeasured, is_declared, AreTypedAfter, IsTypedScope}
 use Rattle.gb_typing.specs.Scopes.{nothing as nothing_declared}

@@ -20,8 +20,8 @@ use Rattle.gb_meaning.specs.Names.{Name}
 use Rattle.gb_holds.specs.Declared.{Declarations, Declaration, declared, concrete_module}
 use Rattle.gb_holds.specs.Globs.{EachGlob, EachGlobIn}
 use Rattle.gb_holds.specs.Naming.{AnyName}
-use Rattle.gb_later.specs.Naming.{EachGlobOf, VariableNames, HeadNames, TermNames, TermsName}
-use Rattle.gb_later.proofs.KeptNames.{each-name}
+use Rattle.gb_typing.specs.Naming.{EachGlobOf, VariableNames, HeadNames, TermNames, TermsName}
+use Rattle.gb_typing.proofs.KeptNames.{each-name}
 use Rattle.gb_models.specs.Speaking.{StatementSpeaks, StatementsSpeak, BodySpeaks, ProceduresSpeak, DeclarationSpeaks, ScopeSpeaks, SubjectSpeaks, HeadSpeaks, BodiesSpeak, HypsSpeak, GoalSpeaks}
 use mathlib.Core.Former.{Count}
 

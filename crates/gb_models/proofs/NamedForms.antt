@@ -16,8 +16,8 @@ use Rattle.gb_meaning.specs.Commands.{terms_in, program_of}
 use Rattle.gb_meaning.specs.Names.{Name}
 use Rattle.gb_meaning.specs.Setting.{Setting}
 use Rattle.gb_holds.specs.Naming.{AnyName, EachName, EachNameIn, EachCallIn, EachCallOf}
-use Rattle.gb_later.specs.Naming.{TermNames, TermsName, NamesIfThere, ProgramNames, ProcedureNames, SubjectNames, JudgedNames, FormNames, FormsName}
-use Rattle.gb_typed.specs.Typing.{types_of}
+use Rattle.gb_typing.specs.Naming.{TermNames, TermsName, NamesIfThere, ProgramNames, ProcedureNames, SubjectNames, JudgedNames, FormNames, FormsName}
+use Rattle.gb_laws.specs.Typing.{types_of}
 use Rattle.gb_typing.specs.Modules.{ProcedureType, FunctorType, Interface, Modules, fits, left_over, lacking, given, interface_at, interfaces_at, procedure_of}
 use Rattle.gb_typing.specs.Context.{Context, procedure, with_own}
 use Rattle.gb_typing.specs.Formulas.{IsKnown, IsFormula}

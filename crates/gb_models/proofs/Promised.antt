@@ -14,12 +14,12 @@ use Rattle.gb_meaning.specs.Setting.{Setting}
 use Rattle.gb_meaning.specs.Memory.{Memory}
 use Rattle.gb_meaning.specs.State.{State, between}
 use Rattle.gb_meaning.specs.Judgments.{IsSoundForm, IsTrueIn}
-use Rattle.gb_judge.proofs.Exact.{trying}
-use Rattle.gb_judge.proofs.Fair.{is_fair}
-use Rattle.gb_laws.proofs.Truths.{true_equiv}
-use Rattle.gb_judge.proofs.Unique.{true_under_each}
+use Rattle.gb_laws.proofs.Exact.{trying}
+use Rattle.gb_laws.proofs.Fair.{is_fair}
+use Rattle.gb_meaning.proofs.Truths.{true_equiv}
+use Rattle.gb_laws.proofs.Unique.{true_under_each}
 use Rattle.gb_coupling.proofs.Pointwise.{pointwise_of_coupling}
-use Rattle.gb_laws.proofs.Nodes.{term_is_node}
+use Rattle.gb_meaning.proofs.Nodes.{term_is_node}
 use Rattle.gb_holds.specs.Declared.{declared}
 use Rattle.gb_holds.specs.Settings.{Table, types_of, setting}
 use Rattle.gb_holds.specs.Truth.{has_module}

@@ -16,7 +16,7 @@ use Rattle.gb_holds.specs.Declared.{Declarations, Declaration, declared, termina
 use Rattle.gb_holds.specs.Holds.{AreSoundAfter, EachArgument, InEachModel, IsSound, IsSoundAfter, IsTerminating, LoopsAreGood, ProcedureIsGood, ProcedureOfIsGood}
 use Rattle.gb_holds.specs.Settings.{Interpretation, setting}
 use Rattle.gb_holds.proofs.Lists.{declared-append}
-use Rattle.gb_later.specs.Naming.{NoName}
+use Rattle.gb_typing.specs.Naming.{NoName}
 use Rattle.gb_typing.specs.Formulas.{IsKnown}
 use Rattle.gb_typing.specs.Modules.{Interface}
 use Rattle.gb_typing.specs.Scopes.{AreTypedAfter, HasProcedure, IsTypedScope, context_of, is_declared, nothing}

@@ -21,12 +21,12 @@ use Rattle.gb_holds.specs.Holds.{EachProgram, IsModel, interpretation, declared_
 use Rattle.gb_holds.specs.Naming.{AnyName, IsFresh}
 use Rattle.gb_holds.specs.Settings.{Table, Interpretation, setting}
 use Rattle.gb_holds.specs.Truth.{Choice, has_module, last_has_module}
-use Rattle.gb_later.specs.Added.{IsSequentApartIn}
-use Rattle.gb_later.specs.Formed.{AreFormedBinds, AreAxiomsApart, IsSaidApart, IsApartFormula, AreHypsApart, SaysApart, IsSequentApart, IsScopeApart}
-use Rattle.gb_later.specs.Naming.{NoName, IsKept, NamesIfThere, TermNames, AreModulesOrStatements, OperatorNames, OperatorsName}
-use Rattle.gb_later.proofs.KeptNames.{each-name}
-use Rattle.gb_later.proofs.ModulesAdded.{goes-with}
-use Rattle.gb_later.proofs.SequentsAlike.{holds-along}
+use Rattle.gb_typing.specs.Added.{IsSequentApartIn}
+use Rattle.gb_typing.specs.Formed.{AreFormedBinds, AreAxiomsApart, IsSaidApart, IsApartFormula, AreHypsApart, SaysApart, IsSequentApart, IsScopeApart}
+use Rattle.gb_typing.specs.Naming.{NoName, IsKept, NamesIfThere, TermNames, AreModulesOrStatements, OperatorNames, OperatorsName}
+use Rattle.gb_typing.proofs.KeptNames.{each-name}
+use Rattle.gb_typing.proofs.ModulesAdded.{goes-with}
+use Rattle.gb_typing.proofs.SequentsAlike.{holds-along}
 use Rattle.gb_typing.specs.Context.{Context, within}
 use Rattle.gb_typing.specs.Fits.{IsSettingOf}
 use Rattle.gb_typing.specs.Formulas.{IsKnown, IsFormula, IsLastFormula}

@@ -19,10 +19,10 @@ use Rattle.gb_holds.specs.Holds.{EachArgument, EachProgram, InEachModel, IsTermi
 use Rattle.gb_holds.specs.Naming.{AnyName}
 use Rattle.gb_holds.specs.Settings.{Table, setting}
 use Rattle.gb_holds.proofs.Lists.{declared-append, declared-module}
-use Rattle.gb_later.specs.Added.{AreLoopsApart, AreParamsApart, IsAdded, IsBodyApart, IsProcedureApart}
-use Rattle.gb_later.specs.Naming.{IsKept, NamesIfThere, NoName}
-use Rattle.gb_later.proofs.Additions.{loops-added}
-use Rattle.gb_later.proofs.KeptNames.{each-name}
+use Rattle.gb_typing.specs.Added.{AreLoopsApart, AreParamsApart, IsAdded, IsBodyApart, IsProcedureApart}
+use Rattle.gb_typing.specs.Naming.{IsKept, NamesIfThere, NoName}
+use Rattle.gb_typing.proofs.Additions.{loops-added}
+use Rattle.gb_typing.proofs.KeptNames.{each-name}
 use Rattle.gb_typing.specs.Context.{Context}
 use Rattle.gb_typing.specs.Formulas.{IsKnown}
 use Rattle.gb_typing.specs.Programs.{locals_of}

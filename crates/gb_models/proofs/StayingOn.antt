@@ -17,10 +17,10 @@ use Rattle.gb_holds.specs.Declared.{Declarations, Declaration, declared, abstrac
 use Rattle.gb_holds.specs.Holds.{EachDeclared, Holds}
 use Rattle.gb_holds.specs.Naming.{AnyName, IsFresh}
 use Rattle.gb_holds.proofs.Lists.{declared-append}
-use Rattle.gb_later.specs.Added.{IsNewOperator, IsSequentApartIn, IsAdded, AreAddedTo}
-use Rattle.gb_later.specs.Naming.{NoName, IsOther, IsKept, HeadNames, TermNames, TermsName, OperatorsName}
-use Rattle.gb_later.proofs.Additions.{all-added}
-use Rattle.gb_typed.specs.Typing.{OperatorType, types_of, IsHead}
+use Rattle.gb_typing.specs.Added.{IsNewOperator, IsSequentApartIn, IsAdded, AreAddedTo}
+use Rattle.gb_typing.specs.Naming.{NoName, IsOther, IsKept, HeadNames, TermNames, TermsName, OperatorsName}
+use Rattle.gb_typing.proofs.Additions.{all-added}
+use Rattle.gb_laws.specs.Typing.{OperatorType, types_of, IsHead}
 use Rattle.gb_typing.specs.Modules.{ProcedureType, Modules, given, interface_at, interfaces_at, procedure_of, procedure_type}
 use Rattle.gb_typing.specs.Context.{Context, erased}
 use Rattle.gb_typing.specs.Formulas.{IsKnown}

@@ -15,7 +15,7 @@ use Rattle.gb_holds.specs.Declared.{Declarations, Declaration, module_type, conc
 use Rattle.gb_holds.specs.Holds.{EachDeclared}
 use Rattle.gb_holds.specs.Naming.{AnyName}
 use Rattle.gb_holds.specs.Truth.{has_module}
-use Rattle.gb_later.specs.Naming.{EachGlobOf, TermNames, TermsName}
+use Rattle.gb_typing.specs.Naming.{EachGlobOf, TermNames, TermsName}
 
 abbrev mutual
   -- each module whose globals the terms of a statement speak of is in P

@@ -12,7 +12,7 @@ ghost use Rattle.gb_holds.specs.Declared.{Declarations, declared};
 ghost use Rattle.gb_holds.specs.Holds.{EachDeclared, Holds, InEachModel, IsSound, IsTerminating, LoopsAreGood};
 ghost use Rattle.gb_holds.specs.Naming.{IsFresh};
 ghost use Rattle.gb_holds.specs.Settings.{setting};
-ghost use Rattle.gb_later.specs.Naming.{NoName};
+ghost use Rattle.gb_typing.specs.Naming.{NoName};
 ghost use Rattle.gb_typing.specs.Sequents.{IsTypedSequent};
 ghost use Rattle.gb_typing.specs.Scopes.{context_of, IsTypedScope};
 ghost use Rattle.gb_models.specs.Speaking.{ScopeSpeaks, GoalSpeaks, IsWithoutModules, IsFirm, IsModuleOrLemma};

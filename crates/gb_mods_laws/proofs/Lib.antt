@@ -6,3 +6,13 @@ pub mod FinalModules
 pub mod SameFootprint
 pub mod Linked
 pub mod ReadGlobals
+pub mod Closed
+pub mod OwnLoops
+pub mod EndedModules
+pub mod Lists
+pub mod Inner
+pub mod AllGood
+pub mod TypedLoops
+pub mod LoopGoals
+pub mod GoalsEnd
+pub mod Shown

@@ -6,7 +6,7 @@ use Rattle.gb_goal.specs.Scope as scope
 use Rattle.gb_goal.specs.Scope.{procedure_of}
 use Rattle.gb_holds.specs.Declared.{declared}
 use Rattle.gb_holds.specs.Modules.{Reading, modules_of, no_module, procedure_at}
-use Rattle.gb_later.proofs.ModulesAlike.{LooksAtCalls}
+use Rattle.gb_typing.proofs.ModulesAlike.{LooksAtCalls}
 use Rattle.gb_typing.specs.Scopes.{IsTypedScope}
 use Rattle.gb_mods.specs.Called.{calls}
 use Rattle.gb_mods.proofs.Closed.{IsIn}

@@ -17,11 +17,11 @@ use Rattle.gb_meaning.specs.Program.{Routine}
 use Rattle.gb_meaning.specs.Runs.{outcomes}
 use Rattle.gb_meaning.specs.Setting.{Setting}
 use Rattle.gb_meaning.specs.Values.{Types, fit}
-use Rattle.gb_local.specs.Cells.{Key}
-use Rattle.gb_local.specs.Cells.Key.{global}
-use Rattle.gb_local.specs.Pairs.{SameOutcome, Zip}
-use Rattle.gb_local.specs.Writes.{keys_of}
-use Rattle.gb_local.proofs.NearRuns.{routine_depends}
+use Rattle.gb_laws.specs.Cells.{Key}
+use Rattle.gb_laws.specs.Cells.Key.{global}
+use Rattle.gb_laws.specs.Pairs.{SameOutcome, Zip}
+use Rattle.gb_laws.specs.Writes.{keys_of}
+use Rattle.gb_laws.proofs.NearRuns.{routine_depends}
 use Rattle.gb_holds.specs.Declared.{declared}
 use Rattle.gb_typing.specs.Context.{Context}
 use Rattle.gb_typing.specs.Programs.{IsProcedure}

@@ -22,7 +22,7 @@ use Rattle.gb_holds.specs.Modules.{Procedures, Applied, Reading, found, module_a
 use Rattle.gb_holds.specs.Modules as linked
 use Rattle.gb_holds.specs.Naming.{EachCallIn, EachCallOf, IsFresh, IsFreshAmong}
 use Rattle.gb_holds.proofs.Later.{declared_after, fresh_same}
-use Rattle.gb_later.proofs.ModulesAlike.{LooksAtCalls}
+use Rattle.gb_typing.proofs.ModulesAlike.{LooksAtCalls}
 use Rattle.gb_holds.proofs.Lists.{declared-append}
 use Rattle.gb_holds.proofs.Procedures.{in_module, in_parts, stays, known}
 use Rattle.gb_typing.specs.Context.{Context, procedure}

@@ -16,7 +16,7 @@ use Rattle.gb_holds.specs.Footprints as meant
 use Rattle.gb_holds.specs.Modules.{Applied, Modules, Procedures, found, modules_of, no_module, procedure_at, with_module, with_params, with_procedure, with_procedures}
 use Rattle.gb_holds.specs.Naming.{IsFreshAmong}
 use Rattle.gb_holds.proofs.Procedures.{in_module}
-use Rattle.gb_later.proofs.ModulesAlike.{footprint-looks}
+use Rattle.gb_typing.proofs.ModulesAlike.{footprint-looks}
 use Rattle.gb_typing.specs.Context.{Context}
 use Rattle.gb_typing.specs.Modules.{ProcedureType}
 use Rattle.gb_typing.specs.Programs.{type_of_procedure}

@@ -4,9 +4,9 @@ use Rattle.std.specs.List.{AllByRecursion}
 use Rattle.gb_core.specs.declared.var.Var.{Var}
 use Rattle.gb_meaning.specs.Names.{Map, get}
 use Rattle.gb_meaning.specs.Values.{Types}
-use Rattle.gb_local.specs.Cells.{Key}
-use Rattle.gb_local.specs.Cells.Key.{global, local}
-use Rattle.gb_local.specs.Writes.{keys_of}
+use Rattle.gb_laws.specs.Cells.{Key}
+use Rattle.gb_laws.specs.Cells.Key.{global, local}
+use Rattle.gb_laws.specs.Writes.{keys_of}
 
 -- the place holds the same in both, if it is that of a global
 abbrev pub HoldsSame : Map → Map → Key → Type 0

@@ -1,2 +1,3 @@
 pub mod Members
 pub mod Agree
+pub mod Good

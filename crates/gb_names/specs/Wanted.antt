@@ -7,7 +7,7 @@ use Rattle.gb_core.specs.declared.ty.Ty.TheVariants.{Bool as bool_ty}
 use Rattle.gb_terms.specs.declared.term.Term.{Term, out-Term}
 use Rattle.gb_goal.specs.Answers.{Answer, nowhere}
 use Rattle.gb_goal.specs.Answers.Answer.{given, refused}
-use Rattle.gb_same.specs.Types.{ty_eq}
+use Rattle.gb_core.specs.SameTypes.{ty_eq}
 
 -- a number of things as a term counts them; more are past the nodes of a formula, and the place is for the caller to say
 abbrev pub counted : ℕ → Answer ℕ

@@ -4,7 +4,7 @@ use Rattle.gb_core.specs.declared.refusal.Why.TheVariants.{TypeMismatch, Argumen
 use Rattle.gb_core.specs.declared.ty.Ty.{Ty, out-Ty}
 use Rattle.gb_core.specs.declared.ty.Ty.TheOpen as layer
 use Rattle.gb_core.specs.declared.ty.Ty.TheVariants as ty
-use Rattle.gb_same.specs.Types.{ty_eq}
+use Rattle.gb_core.specs.SameTypes.{ty_eq}
 use Rattle.gb_script.specs.declared.tree.Node.{Node}
 use Rattle.gb_script.specs.Tree.{place_of}
 use Rattle.gb_goal.specs.Answers.{Answer, ◌>>=◌}

@@ -8,10 +8,9 @@ ghost use Rattle.gb_operators.specs.Rules.{annotated_asked, argument_asked, aske
 use crate::domain::Domain;
 use crate::drawn::{Drawn, source_wanted, value_wanted};
 use crate::kinds::{components, element, entries, is_of_values, outcome};
-use crate::operators::{Infix, first_wanted, operand_wanted, shaped, takes, wanted_type};
+use crate::operators::{Infix, first_wanted, operand_wanted, owned, shaped, takes, wanted_type};
 use crate::rules::{Asked, Rule};
 use gb_core::Shared;
-use gb_core::copy::copy_ty;
 use gb_core::place::Place;
 use gb_core::refusal::Refused;
 use gb_core::ty::Ty;
@@ -263,9 +262,8 @@ fn product_asked(
         return Ok(Asked::Source(None));
     };
     let (first, second) = factors(ty, place)?;
-    let outcomes = copy_ty(alloc, if typed.is_empty() { first } else { second })?;
-    let side = Ty::Distr(Shared::new(alloc, outcomes)?);
-    Ok(Asked::Source(Some(Shared::new(alloc, side)?)))
+    let outcomes = owned(alloc, if typed.is_empty() { first } else { second })?;
+    Ok(Asked::Source(Some(Shared::new(alloc, Ty::Distr(outcomes))?)))
 }
 
 /// What is asked of the function of a sum.

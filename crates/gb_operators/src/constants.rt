@@ -8,8 +8,7 @@ ghost use Rattle.gb_terms.specs.Make.{applied, truth_literal};
 ghost use Rattle.gb_operators.specs.Constants.{constant, literal};
 
 use crate::kinds::{entries, inside_option};
-use gb_core::Shared;
-use gb_core::copy::copy_ty;
+use crate::operators::owned;
 use gb_core::place::Place;
 use gb_core::refusal::Refused;
 use gb_core::ty::Ty;
@@ -63,8 +62,7 @@ fn truth(alloc: Global, value: bool) -> Result<Term, Refused>
 fn open_constant(alloc: Global, op: Op, ty: &Ty) -> Result<Term, Refused>
     ensures { Answers (given (applied op [] ty.now)) result }
 {
-    let ty = copy_ty(alloc, ty)?;
-    let ty = Shared::new(alloc, ty)?;
+    let ty = owned(alloc, ty)?;
     make::leaf(alloc, Head::Builtin(op), ty).map_err(Refused::from)
 }
 

@@ -6,11 +6,11 @@ ghost use Rattle.gb_operators.specs.Domain.{counts_to, type_in, written_as};
 
 use gb_core::Shared;
 use gb_core::refusal::Refused;
+use gb_core::same::same_types;
 use gb_core::ty::Ty;
 use gb_goal::scope::Scope;
 use gb_names::refusals::{argument, mismatch};
 use gb_names::types::type_of;
-use gb_same::types::same_types;
 use gb_script::tree::Node;
 use std::alloc::{AllocError, Global};
 

@@ -10,8 +10,8 @@ ghost use Rattle.gb_goal.specs.Answers.Answer.{given};
 ghost use Rattle.gb_names.specs.Environment.{environment};
 ghost use Rattle.gb_operators.specs.Literals.{as_whole, bound_of, dividing, divisor_in, holds, is_divisor, number_in, numbering, numeral, part_number, place_inside, placing, with_divisors, with_numbers, with_places};
 
+use crate::operators::owned;
 use gb_core::Shared;
-use gb_core::copy::copy_ty;
 use gb_core::name::Name;
 use gb_core::place::Place;
 use gb_core::refusal::Refused;
@@ -65,8 +65,7 @@ fn as_whole(
 fn as_value(alloc: Global, n: u64, ty: &Ty) -> Result<Term, Refused>
     ensures { Answers (given (node (Lit (Num n)) [] ty.now)) result }
 {
-    let ty = copy_ty(alloc, ty)?;
-    let ty = Shared::new(alloc, ty)?;
+    let ty = owned(alloc, ty)?;
     make::leaf(alloc, Head::Lit(Value::Num(n)), ty).map_err(Refused::from)
 }
 

@@ -9,18 +9,18 @@ ghost use Rattle.gb_operators.specs.Rules.{annotated_made, branches_made, drawn_
 use crate::asked::values;
 use crate::drawn::{Drawn, drawn_head, drawn_result, too_large};
 use crate::kinds::{component, components, element, entries, is_small, outcome};
-use crate::operators::{Infix, Prefix, prefix_operator, prefix_result, result_type};
+use crate::operators::{Infix, Prefix, owned, prefix_operator, prefix_result, result_type};
 use crate::rules::Rule;
 use gb_core::copy::copy_ty;
 use gb_core::name::Name;
 use gb_core::place::Place;
 use gb_core::refusal::Refused;
+use gb_core::same::same_types;
 use gb_core::ty::{Ty, Tys};
 use gb_core::{Shared, SharedItems};
 use gb_goal::scope::OperatorType;
 use gb_names::allowed::is_distribution;
 use gb_names::refusals::{argument, mismatch, not_built};
-use gb_same::types::same_types;
 use gb_terms::make;
 use gb_terms::op::Op;
 use gb_terms::term::{Head, Term, Terms};
@@ -79,10 +79,7 @@ fn part_type(
         return Err(mismatch(place));
     };
     match component(parts, number) {
-        Some(part) => {
-            let part = copy_ty(alloc, part)?;
-            Shared::new(alloc, part).map_err(Refused::from)
-        }
+        Some(part) => owned(alloc, part).map_err(Refused::from),
         None => Err(argument(digits)),
     }
 }

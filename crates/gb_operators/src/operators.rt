@@ -231,8 +231,7 @@ fn option_wanted(
     if !is_of_values(ty) {
         return Err(mismatch(place));
     }
-    let inner = copy_ty(alloc, ty)?;
-    let inner = Shared::new(alloc, inner)?;
+    let inner = owned(alloc, ty)?;
     Ok(Some(Shared::new(alloc, Ty::Opt(inner))?))
 }
 
@@ -275,16 +274,21 @@ pub fn operand_wanted(
     }
 }
 
+/// A copy of a type, with an owner of its own.
+pub fn owned(alloc: Global, ty: &Ty) -> Result<Shared<Ty>, AllocError>
+    ensures { IfOk result (λ made. made ≡ ty.now) }
+{
+    let ty = copy_ty(alloc, ty)?;
+    Shared::new(alloc, ty)
+}
+
 /// A wanted type itself.
 pub fn wanted_type(alloc: Global, want: Option<&Ty>) -> Result<Option<Shared<Ty>>, Refused>
     ensures { Answers (given (option_copied want.entry)) result }
 {
     match want {
         None => Ok(None),
-        Some(ty) => {
-            let ty = copy_ty(alloc, ty)?;
-            Ok(Some(Shared::new(alloc, ty)?))
-        }
+        Some(ty) => Ok(Some(owned(alloc, ty)?)),
     }
 }
 

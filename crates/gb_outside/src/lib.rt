@@ -12,6 +12,3 @@ pub use memory::{Calls, HeldFile, HeldFiles, MemFiles, MemSink, MemSource, Numbe
 pub use system::{OsFiles, StdSink, StdSource};
 pub use traits::{Failed, Files, Sink, Source};
 pub use whole::{LENGTH_LIMIT, PIECE, ReadRefused, read_whole, write_all};
-
-#[cfg(test)]
-mod tests;

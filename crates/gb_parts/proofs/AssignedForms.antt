@@ -25,12 +25,12 @@ use Rattle.gb_meaning.specs.State.{State, memory_of}
 use Rattle.gb_meaning.specs.Terms.{quiet}
 use Rattle.gb_meaning.specs.Judgments.{Judge, IsFair, den}
 use Rattle.gb_meaning.specs.Written.{type_of}
-use Rattle.gb_changes.specs.Uses.{Use, Uses, IsWithin}
-use Rattle.gb_changes.specs.Uses.Use.{read, bound, globals, starts, binds_own, binds_sides}
-use Rattle.gb_changes.specs.Written.{with_side, IsSide, Written, written_changes, all_written}
-use Rattle.gb_typed.specs.Finite.{IsFinite}
-use Rattle.gb_typed.specs.Operators.{parts_in}
-use Rattle.gb_typed.specs.Programs.{HaveTypes, Take, variable_type}
+use Rattle.gb_laws.specs.Uses.{Use, Uses, IsWithin}
+use Rattle.gb_laws.specs.Uses.Use.{read, bound, globals, starts, binds_own, binds_sides}
+use Rattle.gb_laws.specs.Written.{with_side, IsSide, Written, written_changes, all_written}
+use Rattle.gb_laws.specs.Finite.{IsFinite}
+use Rattle.gb_laws.specs.Operators.{parts_in}
+use Rattle.gb_laws.specs.Programs.{HaveTypes, Take, variable_type}
 use Rattle.gb_typing.specs.Context.{Context, Frame, erased, frame_of, reframed}
 use Rattle.gb_typing.specs.Fits.{IsSettingOf, IsStateOf}
 use Rattle.gb_typing.specs.Programs.{IsValued}

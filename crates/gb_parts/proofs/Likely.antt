@@ -11,7 +11,7 @@ use Rattle.gb_meaning.specs.Operators.{alike}
 use Rattle.gb_meaning.specs.Setting.{Setting}
 use Rattle.gb_meaning.specs.State.{State}
 use Rattle.gb_meaning.specs.Judgments.{Judge, den}
-use Rattle.gb_laws.proofs.Truths.{true_iff}
+use Rattle.gb_meaning.proofs.Truths.{true_iff}
 use Rattle.gb_typing.specs.Context.{Context}
 use Rattle.gb_typing.specs.Typing.{IsForm}
 use Rattle.gb_typing.proofs.Forms.{made_form, form_made, implies_typed, implies_use}

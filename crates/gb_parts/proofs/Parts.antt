@@ -29,13 +29,13 @@ use Rattle.gb_meaning.specs.Terms.{argument, part_of, quiet, val}
 use Rattle.gb_meaning.specs.Trees.{row as row_of_terms}
 use Rattle.gb_meaning.specs.Values.{all_values_by, footprint_values, has}
 use Rattle.gb_meaning.specs.Written.{type_of}
-use Rattle.gb_laws.proofs.Nodes.{each_is_node, term_is_node, val_node}
-use Rattle.gb_changes.specs.Plain.{IsPlain, AllPlain}
-use Rattle.gb_typed.specs.Finite.{IsFinite, AreFiniteWith}
-use Rattle.gb_typed.specs.Operators.{AreFinite, item, items, parts_in, row, tuples}
-use Rattle.gb_typed.specs.Programs.{HaveTypes, variable_type}
-use Rattle.gb_typed.proofs.Meanings.{parts_have}
-use Rattle.gb_typed.proofs.Nodes.{type_of_node}
+use Rattle.gb_meaning.proofs.Nodes.{each_is_node, term_is_node, val_node}
+use Rattle.gb_laws.specs.Plain.{IsPlain, AllPlain}
+use Rattle.gb_laws.specs.Finite.{IsFinite, AreFiniteWith}
+use Rattle.gb_laws.specs.Operators.{AreFinite, item, items, parts_in, row, tuples}
+use Rattle.gb_laws.specs.Programs.{HaveTypes, variable_type}
+use Rattle.gb_laws.proofs.Meanings.{parts_have}
+use Rattle.gb_laws.proofs.Nodes.{type_of_node}
 use Rattle.gb_typing.specs.Changes.{Made}
 use Rattle.gb_typing.specs.Context.{Context, erased, of_program}
 use Rattle.gb_typing.specs.Fits.{IsSettingOf}

@@ -1,3 +1,4 @@
+pub mod Compared
 pub mod Judged
 pub mod Likely
 pub mod OneBody

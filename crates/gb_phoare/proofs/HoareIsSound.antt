@@ -22,8 +22,8 @@ use Rattle.gb_meaning.specs.State.{State, at}
 use Rattle.gb_meaning.specs.Terms.{val}
 use Rattle.gb_meaning.specs.Judgments.{Judge, IsFair, speaking, IsTrueUnder, den, chance, compares}
 use Rattle.gb_meaning.specs.Written.{type_of}
-use Rattle.gb_laws.proofs.Runs.{run_positive}
-use Rattle.gb_laws.proofs.Truths.{true_not}
+use Rattle.gb_meaning.proofs.Runs.{run_positive}
+use Rattle.gb_meaning.proofs.Truths.{true_not}
 use Rattle.gb_holds.specs.Declared.{declared}
 use Rattle.gb_goal.specs.declared.sequent.Sequent.{Sequent}
 use Rattle.gb_goal.specs.Answers.{◌>>=◌}
@@ -49,12 +49,12 @@ use Rattle.gb_typing.specs.Goals.{IsCode, IsGoalOver, IsTypedGoal, frame_after}
 use Rattle.gb_typing.proofs.Called.{called_run, called_denominator}
 use Rattle.gb_typing.proofs.Forms.{not_typed}
 use Rattle.gb_typing.proofs.Given.{refused_given, sound_given_in}
-use Rattle.gb_chance.specs.Compared.{literal}
-use Rattle.gb_chance.specs.Compared as real
+use Rattle.gb_parts.specs.Compared.{literal}
+use Rattle.gb_parts.specs.Compared as real
 use Rattle.gb_full.specs.Loss.{Loss, nowhere, sampled, called, code_loss}
-use Rattle.gb_chance.proofs.Bound.{bound_value}
-use Rattle.gb_chance.proofs.Chances.{certain, impossible, at_least_certain, at_most_impossible}
-use Rattle.gb_chance.proofs.Comparing.{number_made, real_made, compared_typed, number_is, compared_is, literal_value}
+use Rattle.gb_parts.proofs.Bound.{bound_value}
+use Rattle.gb_parts.proofs.Chances.{certain, impossible, at_least_certain, at_most_impossible}
+use Rattle.gb_parts.proofs.Comparing.{number_made, real_made, compared_typed, number_is, compared_is, literal_value}
 use Rattle.gb_full.proofs.Full.{IsWholeProcedure, procedure_whole, total_full}
 use Rattle.gb_full.specs.Lossless.{full}
 use Rattle.gb_phoare.specs.Hoare.{never, at_most_goals, at_least_goals, exactly, hoare_row}

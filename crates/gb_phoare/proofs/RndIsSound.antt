@@ -30,15 +30,15 @@ use Rattle.gb_meaning.specs.Trees.{distributions}
 use Rattle.gb_meaning.specs.Terms.{quiet, val, distribution, denominator as term_denominator}
 use Rattle.gb_meaning.specs.Judgments.{Judge, IsFair, speaking, IsTrueUnder, den, chance, compares}
 use Rattle.gb_meaning.specs.Written.{type_of}
-use Rattle.gb_laws.proofs.Nodes.{val_node}
-use Rattle.gb_laws.proofs.Runs.{run_positive}
-use Rattle.gb_laws.proofs.Totals.{run_bounded}
-use Rattle.gb_laws.proofs.Values.{value_discrete}
-use Rattle.gb_changes.specs.Uses.{IsWithin}
-use Rattle.gb_changes.specs.Written.{Written}
-use Rattle.gb_changes.proofs.Puts.{plain_node}
-use Rattle.gb_typed.specs.Typing.Binder.{value}
-use Rattle.gb_typed.proofs.Nodes.{type_of_node}
+use Rattle.gb_meaning.proofs.Nodes.{val_node}
+use Rattle.gb_meaning.proofs.Runs.{run_positive}
+use Rattle.gb_meaning.proofs.Totals.{run_bounded}
+use Rattle.gb_meaning.proofs.Values.{value_discrete}
+use Rattle.gb_laws.specs.Uses.{IsWithin}
+use Rattle.gb_laws.specs.Written.{Written}
+use Rattle.gb_laws.proofs.Puts.{plain_node}
+use Rattle.gb_laws.specs.Typing.Binder.{value}
+use Rattle.gb_laws.proofs.Nodes.{type_of_node}
 use Rattle.gb_typing.specs.Context.{Context, with_own, within}
 use Rattle.gb_typing.specs.Sequents.{one, of_sequent, IsTypedSequent}
 use Rattle.gb_typing.specs.Typing.{IsTyped, IsForm}
@@ -73,11 +73,11 @@ use Rattle.gb_typing.proofs.Runs.{run_append, denominator_append}
 use Rattle.gb_typing.proofs.LastSampling.{IsDrawn, drawn, last_one}
 use Rattle.gb_typing.proofs.Supported.{nearest_made, draws, drawn_typed, run_sampling, sampling_denominator, target_put}
 use Rattle.gb_forms.specs.Drawn.{with_value}
-use Rattle.gb_chance.specs.Compared.{compared, zero}
+use Rattle.gb_parts.specs.Compared.{compared, zero}
 use Rattle.gb_full.specs.Loss.{Loss, nowhere, sampled, called, first_loss}
-use Rattle.gb_chance.proofs.Bound.{bound_made, bound_is, bound_value}
-use Rattle.gb_chance.proofs.Chances.{after_full, after_less}
-use Rattle.gb_chance.proofs.Comparing.{number_made, real_made, compared_typed, number_is, compared_is}
+use Rattle.gb_parts.proofs.Bound.{bound_made, bound_is, bound_value}
+use Rattle.gb_parts.proofs.Chances.{after_full, after_less}
+use Rattle.gb_parts.proofs.Comparing.{number_made, real_made, compared_typed, number_is, compared_is}
 use Rattle.gb_full.proofs.Full.{total_full}
 use Rattle.gb_full.specs.Lossless.{of_rest}
 use Rattle.gb_phoare.specs.Rnd.{measured, without_sampling, unless_clash, by_end, rnd_row}

@@ -2,7 +2,7 @@
 
 ghost use Rattle.gb_goal.specs.Answers.{Answers};
 ghost use Rattle.gb_goal.specs.Rows.{answered, stepped};
-ghost use Rattle.gb_phoare.specs.Rows.{chance_row, rule_row};
+ghost use Rattle.gb_phoare.specs.Rows.{rule_row};
 
 use crate::hoare::hoare_rule;
 use crate::rnd::rnd_rule;
@@ -13,27 +13,13 @@ use gb_parts::subgoals::{no_shape, placed};
 use gb_steps::step::{ChanceRule, Rule, Step};
 use std::alloc::Global;
 
-/// The subgoals of a rule on judgments with a probability.
-fn subgoals(
-    alloc: Global,
-    rule: ChanceRule,
-    goal: &Sequent,
-    scope: &Scope,
-) -> Result<Sequents, Refused>
-    ensures { Answers (answered (chance_row scope.now rule) goal.now) result }
-{
-    match rule {
-        ChanceRule::Rnd => rnd_rule(alloc, goal, scope),
-        ChanceRule::Hoare => hoare_rule(alloc, goal, scope),
-    }
-}
-
 /// The subgoals of a rule. Refused with `Shape` at a rule of another family.
 fn answer(alloc: Global, rule: &Rule, goal: &Sequent, scope: &Scope) -> Result<Sequents, Refused>
     ensures { Answers (answered (rule_row scope.now rule.now) goal.now) result }
 {
     match rule {
-        Rule::Chance(rule) => subgoals(alloc, *rule, goal, scope),
+        Rule::Chance(ChanceRule::Rnd) => rnd_rule(alloc, goal, scope),
+        Rule::Chance(ChanceRule::Hoare) => hoare_rule(alloc, goal, scope),
         _ => Err(no_shape()),
     }
 }

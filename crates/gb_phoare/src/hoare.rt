@@ -11,16 +11,16 @@ ghost use Rattle.gb_holds.specs.Declared.{declared};
 ghost use Rattle.gb_typing.specs.Scopes.{context_of, IsTypedScope};
 ghost use Rattle.gb_typing.specs.Sequents.{of_sequent, IsTypedSequent};
 ghost use Rattle.gb_typing.specs.Rules.{IsSoundRuleIn, no_arguments};
-ghost use Rattle.gb_chance.specs.Compared.{literal};
+ghost use Rattle.gb_parts.specs.Compared.{literal};
 ghost use Rattle.gb_full.specs.Loss.{code_loss};
 ghost use Rattle.gb_phoare.specs.Hoare.{at_least_goals, at_most_goals, exactly, hoare_row, never};
 
-use gb_chance::compared::{literal, number_compared};
 use gb_core::refusal::Refused;
 use gb_full::loss::subject_loss;
 use gb_full::lossless::full;
 use gb_goal::scope::Scope;
 use gb_goal::sequent::{Sequent, Sequents};
+use gb_parts::compared::{literal, number_compared};
 use gb_parts::subgoals::{no_shape, one_goal, two_goals};
 use gb_terms::make::{negation, term, truth_ty};
 use gb_terms::op::Rel;
@@ -42,9 +42,8 @@ pub struct Judged<'a> {
 fn always(alloc: Global, judged: &Judged<'_>, post: Form) -> Result<Form, AllocError>
     ensures { IfOk result (λ made. made ≡ form_of (hoare (code_of judged.now.subject.now) judged.now.pre.now post)) }
 {
-    let mut args = Items::new(alloc);
-    args.push(judged.pre.share()?)?;
-    args.push(post)?;
+    let pre = judged.pre.share()?;
+    let args = Items::from_vec(vec![in alloc; pre, post]?);
     let ty = truth_ty(alloc)?;
     let subject = judged.subject.share()?;
     term(alloc, Head::Hoare(subject), args, ty)
@@ -71,12 +70,12 @@ fn exactly(
     match literal(judged.bound) {
         Some(0) => {
             let conclusion = never(alloc, judged)?;
-            Ok(one_goal(alloc, goal, conclusion)?)
+            one_goal(alloc, goal, conclusion).map_err(Refused::from)
         }
         Some(1) => {
             full(alloc, subject_loss(alloc, scope, judged.subject)?)?;
             let conclusion = always(alloc, judged, judged.post.share()?)?;
-            Ok(one_goal(alloc, goal, conclusion)?)
+            one_goal(alloc, goal, conclusion).map_err(Refused::from)
         }
         _ => Err(no_shape()),
     }
@@ -111,10 +110,10 @@ fn by_relation(
     ensures { Answers (each_concluding goal.now (hoare_row scope.now (phoare (code_of judged.now.subject.now) rel judged.now.pre.now judged.now.post.now judged.now.bound.now))) result }
 {
     match rel {
-        Rel::AtMost => Ok(at_most(alloc, goal, judged)?),
+        Rel::AtMost => at_most(alloc, goal, judged).map_err(Refused::from),
         Rel::AtLeast => {
             full(alloc, subject_loss(alloc, scope, judged.subject)?)?;
-            Ok(at_least(alloc, goal, judged)?)
+            at_least(alloc, goal, judged).map_err(Refused::from)
         }
         Rel::Equal => exactly(alloc, goal, judged, scope),
     }

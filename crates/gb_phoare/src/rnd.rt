@@ -4,7 +4,6 @@ ghost use Rattle.std.specs.Prelude.{◌≡◌, IfOk};
 ghost use Rattle.gb_goal.specs.Answers.{Answers};
 ghost use Rattle.gb_goal.specs.Goal.{form_of};
 ghost use Rattle.gb_goal.specs.Rows.{answered, each_concluding};
-ghost use Rattle.gb_goal.specs.Views.{goal_seen};
 ghost use Rattle.gb_goal.specs.Scope.{Declarations};
 ghost use Rattle.gb_goal.specs.declared.sequent.Sequent.{Sequent as TypedSequent};
 ghost use Rattle.gb_holds.specs.Declared.{declared};
@@ -15,7 +14,6 @@ ghost use Rattle.gb_typing.specs.Samplings.{sampling_of, last_sampling};
 ghost use Rattle.gb_forms.specs.Drawn.{with_value};
 ghost use Rattle.gb_phoare.specs.Rnd.{by_end, measured, rnd_row, without_sampling};
 
-use gb_chance::compared::compared;
 use gb_core::Shared;
 use gb_core::copy::copy_var;
 use gb_core::refusal::{Refused, Why};
@@ -25,10 +23,11 @@ use gb_full::lossless::{Judged, of_rest};
 use gb_goal::goal::{Code, Goal, goal_of, hoare};
 use gb_goal::scope::Scope;
 use gb_goal::sequent::{Sequent, Sequents};
+use gb_parts::compared::compared;
 use gb_parts::subgoals::{no_shape, refusal};
 use gb_terms::make::term;
 use gb_terms::op::{Read, Side};
-use gb_terms::term::{Form, Head, Instr, RealTerm, Term};
+use gb_terms::term::{Form, Head, Instr, RealTerm};
 use gb_typing::samplings::{Last, last_sampling, rest_of};
 use gb_typing::supports::nearest;
 use gb_walk::change::Change;
@@ -56,9 +55,8 @@ fn measured(alloc: Global, sampling: &Last<'_>, post: &Form) -> Result<RealTerm,
     ensures { IfOk result (λ made. made ≡ measured (sampling_of sampling.now) post.now) }
 {
     let event = with_value(alloc, sampling, post)?;
-    let mut args = Items::new(alloc);
-    args.push(sampling.from.share()?)?;
-    args.push(event)?;
+    let from = sampling.from.share()?;
+    let args = Items::from_vec(vec![in alloc; from, event]?);
     let real = Shared::new(alloc, Ty::Real)?;
     term(alloc, Head::Mu, args, real)
 }
@@ -101,11 +99,14 @@ fn by_end(
     of_rest(alloc, goal, lost, judged, conclusion)
 }
 
-/// The subgoals of a goal that is seen so.
-fn drawn(alloc: Global, goal: &Sequent, scope: &Scope, seen: Goal) -> Result<Sequents, Refused>
-    ensures { Answers (each_concluding goal.now (rnd_row scope.now (goal_seen seen.entry))) result }
+/// The subgoals of `rnd` on a judgment with a probability of a body that ends with a sampling: the sampling leaves, and the measure of
+/// the postcondition stands so to the bound wherever the rest ends. Where the rest, or what it calls, may lose weight, the bound of `<=` isn't below 0, and
+/// the other relations are refused with `NotLossless`. Refused with `Shape` at any other goal, and with `SideCondition` where the
+/// postcondition reads a variable that clashes with the target.
+pub fn rnd_rule(alloc: Global, goal: &Sequent, scope: &Scope) -> Result<Sequents, Refused>
+    ensures { Answers (answered (rnd_row scope.now) goal.now) result }
 {
-    match seen {
+    match goal_of(&goal.conclusion) {
         Goal::Phoare(Code::Body(body), rel, pre, post, bound) => {
             let judged = Judged {
                 rel,
@@ -117,16 +118,6 @@ fn drawn(alloc: Global, goal: &Sequent, scope: &Scope, seen: Goal) -> Result<Seq
         }
         _ => Err(no_shape()),
     }
-}
-
-/// The subgoals of `rnd` on a judgment with a probability of a body that ends with a sampling: the sampling leaves, and the measure of
-/// the postcondition stands so to the bound wherever the rest ends. Where the rest, or what it calls, may lose weight, the bound of `<=` isn't below 0, and
-/// the other relations are refused with `NotLossless`. Refused with `Shape` at any other goal, and with `SideCondition` where the
-/// postcondition reads a variable that clashes with the target.
-pub fn rnd_rule(alloc: Global, goal: &Sequent, scope: &Scope) -> Result<Sequents, Refused>
-    ensures { Answers (answered (rnd_row scope.now) goal.now) result }
-{
-    drawn(alloc, goal, scope, goal_of(&goal.conclusion))
 }
 
 /// `rnd` is sound on a judgment with a probability, over each typed scope, at the goal of each typed sequent.

@@ -1,6 +1,6 @@
 -- Variables at their types, in order.
 use Rattle.std.specs.Prelude.{Bool, ◌&&◌, if◌then◌else◌, [], ◌∷◌}
-use Rattle.gb_same.specs.Types.{ty_eq}
+use Rattle.gb_core.specs.SameTypes.{ty_eq}
 use Rattle.gb_terms.specs.Equal.{var_eq}
 use Rattle.gb_walk.specs.Clash.{comes_before}
 use Rattle.gb_reads.specs.declared.reads.TypedVar.{TypedVar}

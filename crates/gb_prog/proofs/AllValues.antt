@@ -29,16 +29,16 @@ use Rattle.gb_coupling.specs.WeightedList.{Every}
 use Rattle.gb_coupling.proofs.Entries.{Every-weaken}
 use Rattle.gb_terms.specs.declared.term.Instr.{Instr}
 use Rattle.gb_typing.specs.Meaning.{run}
-use Rattle.gb_laws.proofs.Nodes.{val_node, term_is_node}
-use Rattle.gb_laws.proofs.Truths.{true_all}
-use Rattle.gb_changes.specs.Plain.{IsPlain}
-use Rattle.gb_changes.specs.Uses.{IsWithin}
-use Rattle.gb_changes.specs.Written.{IsSide, Written, with_side, written_changes, all_written}
-use Rattle.gb_typed.specs.Context.{FitBinders}
-use Rattle.gb_typed.specs.Finite.{IsFinite}
-use Rattle.gb_typed.specs.Typing.{Binder, IsBoundAt}
-use Rattle.gb_typed.specs.Typing.Binder.{value, program as module_binder}
-use Rattle.gb_typed.proofs.Nodes.{type_of_node}
+use Rattle.gb_meaning.proofs.Nodes.{val_node, term_is_node}
+use Rattle.gb_meaning.proofs.Truths.{true_all}
+use Rattle.gb_laws.specs.Plain.{IsPlain}
+use Rattle.gb_laws.specs.Uses.{IsWithin}
+use Rattle.gb_laws.specs.Written.{IsSide, Written, with_side, written_changes, all_written}
+use Rattle.gb_laws.specs.Context.{FitBinders}
+use Rattle.gb_laws.specs.Finite.{IsFinite}
+use Rattle.gb_laws.specs.Typing.{Binder, IsBoundAt}
+use Rattle.gb_laws.specs.Typing.Binder.{value, program as module_binder}
+use Rattle.gb_laws.proofs.Nodes.{type_of_node}
 use Rattle.gb_typing.specs.Changes.{Made}
 use Rattle.gb_typing.specs.Context.{Context, Frame, frame_of, reframed}
 use Rattle.gb_typing.specs.Fits.{IsSettingOf, IsStateOf}

@@ -21,14 +21,14 @@ use Rattle.gb_meaning.specs.Runs.{out, outcomes, run_denominator, valued, return
 use Rattle.gb_meaning.specs.Setting.{Setting}
 use Rattle.gb_meaning.specs.State.{State, inside}
 use Rattle.gb_meaning.specs.Terms.{quiet, val}
-use Rattle.gb_laws.proofs.Bodies.{run_of_body}
-use Rattle.gb_changes.specs.Agree.{Agree}
-use Rattle.gb_changes.specs.Plain.{HeadIsPlain, IsPlain, AllPlain}
-use Rattle.gb_changes.specs.Uses.{Use, Uses, beneath, HeadIsWithin, IsWithin, AreWithin, of_arguments, of_last}
-use Rattle.gb_changes.specs.Uses.Use.{read as reads, bound, globals, starts, binds_own, binds_sides}
-use Rattle.gb_changes.proofs.Agreeing.{term_agrees}
-use Rattle.gb_typed.specs.Typing as typed
-use Rattle.gb_typed.specs.Typing.{types_of}
+use Rattle.gb_meaning.proofs.Bodies.{run_of_body}
+use Rattle.gb_laws.specs.Agree.{Agree}
+use Rattle.gb_laws.specs.Plain.{HeadIsPlain, IsPlain, AllPlain}
+use Rattle.gb_laws.specs.Uses.{Use, Uses, beneath, HeadIsWithin, IsWithin, AreWithin, of_arguments, of_last}
+use Rattle.gb_laws.specs.Uses.Use.{read as reads, bound, globals, starts, binds_own, binds_sides}
+use Rattle.gb_laws.proofs.Agreeing.{term_agrees}
+use Rattle.gb_laws.specs.Typing as typed
+use Rattle.gb_laws.specs.Typing.{types_of}
 use Rattle.gb_typing.specs.Context.{Context, procedure, erased, of_program}
 use Rattle.gb_typing.specs.Modules.{ProcedureType}
 use Rattle.gb_typing.specs.Programs.{IsExpression, AreArguments, IsCall, AreStatements, EachStatement, IsBody}

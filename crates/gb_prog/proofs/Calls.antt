@@ -20,14 +20,14 @@ use Rattle.gb_meaning.specs.Setting.{Setting}
 use Rattle.gb_meaning.specs.State.{State, closed}
 use Rattle.gb_meaning.specs.Values.{Types, has, fit}
 use Rattle.gb_meaning.specs.Written.{params_of}
-use Rattle.gb_laws.proofs.Bodies.{statement_call}
-use Rattle.gb_laws.proofs.Maps.{path_discrete, get-set_same, get-set_other, map_same}
-use Rattle.gb_laws.proofs.Numberings.{fit_has}
-use Rattle.gb_local.specs.Cells.{get_at}
-use Rattle.gb_local.specs.Cells.Key.{global, local}
-use Rattle.gb_local.specs.Writes.{Spares}
-use Rattle.gb_local.proofs.Leaves.{assigned_left}
-use Rattle.gb_typed.specs.Programs.{AreValuesOf}
+use Rattle.gb_meaning.proofs.Bodies.{statement_call}
+use Rattle.gb_meaning.proofs.Maps.{path_discrete, get-set_same, get-set_other, map_same}
+use Rattle.gb_meaning.proofs.Numberings.{fit_has}
+use Rattle.gb_laws.specs.Cells.{get_at}
+use Rattle.gb_laws.specs.Cells.Key.{global, local}
+use Rattle.gb_laws.specs.Writes.{Spares}
+use Rattle.gb_laws.proofs.Leaves.{assigned_left}
+use Rattle.gb_laws.specs.Programs.{AreValuesOf}
 use Rattle.gb_typing.specs.Context.{Context, of_program}
 use Rattle.gb_typing.specs.Fits.{IsSettingOf}
 use Rattle.gb_typing.specs.Programs.{AreArguments}

@@ -23,9 +23,9 @@ use Rattle.gb_meaning.specs.Runs.{out, run_denominator}
 use Rattle.gb_meaning.specs.Setting.{Setting}
 use Rattle.gb_meaning.specs.Sound.{IsSound, Full}
 use Rattle.gb_meaning.specs.State.{State}
-use Rattle.gb_laws.proofs.Runs.{run_positive, run_entries}
-use Rattle.gb_laws.proofs.Totals.{run_total}
-use Rattle.gb_judge.proofs.Fair.{memory_discrete}
+use Rattle.gb_meaning.proofs.Runs.{run_positive, run_entries}
+use Rattle.gb_meaning.proofs.Totals.{run_total}
+use Rattle.gb_laws.proofs.Fair.{memory_discrete}
 use Rattle.gb_typing.specs.Meaning.{run, denominator}
 use Rattle.gb_typing.proofs.Chances.{chance_scaled}
 use Rattle.gb_typing.proofs.Runs.{run_append, denominator_append}

@@ -17,10 +17,10 @@ use Rattle.gb_meaning.specs.Meanings.{truth}
 use Rattle.gb_meaning.specs.State.{State, between}
 use Rattle.gb_meaning.specs.Terms.{Speaks}
 use Rattle.gb_meaning.specs.Judgments.{Judge, IsFair, speaking, den}
-use Rattle.gb_changes.specs.Uses.Use.{read as reads, bound, globals, starts, binds_own, binds_sides}
-use Rattle.gb_changes.specs.Led.{Led}
-use Rattle.gb_changes.proofs.Forms.{form_followed}
-use Rattle.gb_typed.specs.Typing as typed
+use Rattle.gb_laws.specs.Uses.Use.{read as reads, bound, globals, starts, binds_own, binds_sides}
+use Rattle.gb_laws.specs.Led.{Led}
+use Rattle.gb_laws.proofs.Forms.{form_followed}
+use Rattle.gb_laws.specs.Typing as typed
 use Rattle.gb_typing.specs.Context.{Context, Frame, erased, frame_of, reframed, with_sides}
 use Rattle.gb_typing.specs.Typing.{IsFrame, IsPlace, IsForm}
 use Rattle.gb_typing.specs.Fits.{IsSettingOf}

@@ -19,13 +19,13 @@ use Rattle.gb_meaning.specs.State.{State, memory_of, meaning_in}
 use Rattle.gb_meaning.specs.State.Binding.{program}
 use Rattle.gb_meaning.specs.Values.{has}
 use Rattle.gb_meaning.specs.Judgments.{Judge, IsFair, den}
-use Rattle.gb_changes.specs.Agree.{Agree}
-use Rattle.gb_changes.specs.Uses.{Uses, IsWithin}
-use Rattle.gb_changes.specs.Uses.Use.{read as reads, bound, globals, starts, binds_own, binds_sides}
-use Rattle.gb_changes.specs.Written.{IsSide, with_side}
-use Rattle.gb_changes.proofs.Agreeing.{form_agrees}
-use Rattle.gb_typed.specs.Finite.{IsFinite}
-use Rattle.gb_typed.proofs.Sizes.{fit_in, glob_in}
+use Rattle.gb_laws.specs.Agree.{Agree}
+use Rattle.gb_laws.specs.Uses.{Uses, IsWithin}
+use Rattle.gb_laws.specs.Uses.Use.{read as reads, bound, globals, starts, binds_own, binds_sides}
+use Rattle.gb_laws.specs.Written.{IsSide, with_side}
+use Rattle.gb_laws.proofs.Agreeing.{form_agrees}
+use Rattle.gb_laws.specs.Finite.{IsFinite}
+use Rattle.gb_laws.proofs.Sizes.{fit_in, glob_in}
 use Rattle.gb_typing.specs.Context.{Context, Frame, frame_of}
 use Rattle.gb_typing.specs.Typing.{IsIn, IsForm}
 use Rattle.gb_typing.specs.Fits.{IsSettingOf}

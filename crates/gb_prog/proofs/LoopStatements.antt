@@ -16,8 +16,8 @@ use Rattle.gb_meaning.specs.Runs.{out, run_denominator, is_true}
 use Rattle.gb_meaning.specs.Setting.{Setting}
 use Rattle.gb_meaning.specs.Sound.{IsSound}
 use Rattle.gb_meaning.specs.State.{State}
-use Rattle.gb_laws.proofs.Bodies.{statement_if, statement_while}
-use Rattle.gb_laws.proofs.Runs.{run_positive}
+use Rattle.gb_meaning.proofs.Bodies.{statement_if, statement_while}
+use Rattle.gb_meaning.proofs.Runs.{run_positive}
 use Rattle.gb_typing.specs.Meaning.{run, denominator}
 use Rattle.gb_typing.proofs.Runs.{statements_followed}
 use Rattle.gb_prog.specs.Loops.{unrolled, unrolled_statement, RunAlike}

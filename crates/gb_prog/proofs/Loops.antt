@@ -19,10 +19,10 @@ use Rattle.gb_meaning.specs.Runs.{out, run_denominator, is_true, most_turns, tur
 use Rattle.gb_meaning.specs.Setting.{Setting}
 use Rattle.gb_meaning.specs.Sound.{IsSound}
 use Rattle.gb_meaning.specs.State.{State}
-use Rattle.gb_laws.proofs.Runs.{pow-pos, run_positive, run_entries}
-use Rattle.gb_laws.proofs.Sequence.{followed_run, followed_denominator}
-use Rattle.gb_laws.proofs.Totals.{run_bounded}
-use Rattle.gb_judge.proofs.Fair.{memory_discrete}
+use Rattle.gb_meaning.proofs.Runs.{pow-pos, run_positive, run_entries}
+use Rattle.gb_meaning.proofs.Sequence.{followed_run, followed_denominator}
+use Rattle.gb_meaning.proofs.Totals.{run_bounded}
+use Rattle.gb_laws.proofs.Fair.{memory_discrete}
 use Rattle.gb_prog.specs.Loops.{unrolled, RunAlike}
 use Rattle.gb_prog.proofs.Turns.{Ended, ended_at_once, after_turn, turn_true, ended_later, ended_alike, every_both, turns_keep, turns_weigh, turns_coupled, turns_beside}
 

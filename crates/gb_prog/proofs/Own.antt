@@ -10,7 +10,7 @@ use Rattle.gb_meaning.specs.Program.{Program, followed_by}
 use Rattle.gb_meaning.specs.Program.Program.{done, assign, sample, branch, loop, call, ask}
 use Rattle.gb_meaning.specs.Setting.{Setting}
 use Rattle.gb_meaning.specs.State.{closed}
-use Rattle.gb_laws.proofs.Bodies.{statement_if, statement_while}
+use Rattle.gb_meaning.proofs.Bodies.{statement_if, statement_while}
 use Rattle.gb_typing.proofs.Runs.{statements_followed}
 use Rattle.gb_holds.specs.Holds.{LoopsAreGood}
 

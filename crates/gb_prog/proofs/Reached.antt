@@ -15,7 +15,7 @@ use Rattle.gb_meaning.specs.Program.Program.{done, assign, sample, branch, loop,
 use Rattle.gb_meaning.specs.Runs.{out, run_denominator, turns}
 use Rattle.gb_meaning.specs.Setting.{Setting}
 use Rattle.gb_meaning.specs.State.{State, closed}
-use Rattle.gb_laws.proofs.Bodies.{statement_if, statement_while}
+use Rattle.gb_meaning.proofs.Bodies.{statement_if, statement_while}
 use Rattle.gb_typing.specs.Context.{Context}
 use Rattle.gb_typing.specs.Programs.{IsExpression, EachStatement}
 use Rattle.gb_typing.proofs.Runs.{statements_followed}

@@ -13,7 +13,7 @@ use Rattle.gb_meaning.specs.Setting.{Setting}
 use Rattle.gb_meaning.specs.State.{State}
 use Rattle.gb_meaning.specs.Runs.{out, run_denominator, is_true, valued}
 use Rattle.gb_meaning.specs.Commands.{program_of, statement, statements}
-use Rattle.gb_laws.proofs.Bodies.{statement_if}
+use Rattle.gb_meaning.proofs.Bodies.{statement_if}
 use Rattle.gb_prog.specs.Straight.{IsStraight, RowIsStraight, AreStraight, ended, after}
 use mathlib.Core.Former.{Count}
 

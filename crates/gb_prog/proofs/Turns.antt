@@ -9,7 +9,7 @@ use Rattle.gb_coupling.proofs.Entries.{Every-bind}
 use Rattle.gb_coupling.proofs.Basic.{coupling_rescaling}
 use Rattle.gb_coupling.proofs.Sequence.{coupling_sequence}
 use Rattle.gb_coupling.proofs.Facts.{coupling_fact_right}
-use Rattle.gb_judge.proofs.Fair.{memory_discrete}
+use Rattle.gb_laws.proofs.Fair.{memory_discrete}
 use Rattle.gb_meaning.specs.Memory.{Memory}
 use Rattle.gb_meaning.specs.Runs.{turns}
 

@@ -15,10 +15,10 @@ use Rattle.gb_meaning.specs.Program.{Program, Routine, followed_by}
 use Rattle.gb_meaning.specs.Program.Program.{done, assign, sample, branch, loop, call, ask}
 use Rattle.gb_meaning.specs.Setting.{Setting}
 use Rattle.gb_meaning.specs.Values.{Types}
-use Rattle.gb_laws.proofs.Bodies.{statement_if, statement_while}
-use Rattle.gb_local.specs.Cells.{Key}
-use Rattle.gb_local.specs.Cells.Key.{global, local}
-use Rattle.gb_local.specs.Writes.{keys_of, IsNone, Spares, IfGlobal, UnwrittenBy}
+use Rattle.gb_meaning.proofs.Bodies.{statement_if, statement_while}
+use Rattle.gb_laws.specs.Cells.{Key}
+use Rattle.gb_laws.specs.Cells.Key.{global, local}
+use Rattle.gb_laws.specs.Writes.{keys_of, IsNone, Spares, IfGlobal, UnwrittenBy}
 use Rattle.gb_typing.proofs.Runs.{statements_followed}
 use Rattle.gb_prog.specs.Writes.{written_by, WritesWithin, RoutineWritesWithin, AreWithin}
 use Rattle.gb_prog.proofs.Calls.{call_is}

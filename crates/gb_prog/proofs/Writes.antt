@@ -19,11 +19,11 @@ use Rattle.gb_meaning.specs.Runs.{out}
 use Rattle.gb_meaning.specs.Setting.{Setting}
 use Rattle.gb_meaning.specs.State.{State}
 use Rattle.gb_meaning.specs.Values.{Global, Types, fit}
-use Rattle.gb_local.specs.Cells.{Key, Cell, In, cells_of, global_cell, get_at}
-use Rattle.gb_local.specs.Cells.Key.{global, local}
-use Rattle.gb_local.specs.Writes.{key_of_global, keys_of, IsNone, Spares, IfGlobal, UnwrittenBy}
-use Rattle.gb_local.proofs.Cells.{read_agree}
-use Rattle.gb_local.proofs.Leaves.{run_leaves}
+use Rattle.gb_laws.specs.Cells.{Key, Cell, In, cells_of, global_cell, get_at}
+use Rattle.gb_laws.specs.Cells.Key.{global, local}
+use Rattle.gb_laws.specs.Writes.{key_of_global, keys_of, IsNone, Spares, IfGlobal, UnwrittenBy}
+use Rattle.gb_laws.proofs.Cells.{read_agree}
+use Rattle.gb_laws.proofs.Leaves.{run_leaves}
 use Rattle.gb_holds.specs.Footprints.{globals_among, is_global}
 use Rattle.gb_typing.specs.Puts.{clash}
 use Rattle.gb_typing.proofs.Globals.{or_false, same_global, none_of}

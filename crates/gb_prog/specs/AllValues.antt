@@ -10,8 +10,8 @@ use Rattle.gb_terms.specs.Make.{node}
 use Rattle.gb_walk.specs.declared.change.Change.TheVariants.{ToTerm}
 use Rattle.gb_walk.specs.Change.{Changes, term_changed}
 use Rattle.gb_meaning.specs.Setting.{Setting}
-use Rattle.gb_changes.specs.Written.{IsSide}
-use Rattle.gb_typed.specs.Finite.{IsFinite}
+use Rattle.gb_laws.specs.Written.{IsSide}
+use Rattle.gb_laws.specs.Finite.{IsFinite}
 use Rattle.gb_typing.specs.Context.{Context, frame_of}
 use Rattle.gb_typing.specs.Puts.{Readable}
 use Rattle.gb_typing.specs.Typing.{IsIn}

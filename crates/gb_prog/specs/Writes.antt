@@ -10,11 +10,11 @@ use Rattle.gb_meaning.specs.Program.Program.{done, assign, sample, branch, loop,
 use Rattle.gb_meaning.specs.Program.Routine.{routine}
 use Rattle.gb_meaning.specs.Setting.{Setting}
 use Rattle.gb_meaning.specs.Values.{Types}
-use Rattle.gb_local.specs.Cells.{Key, get_at}
-use Rattle.gb_local.specs.Cells.Key.{global}
-use Rattle.gb_local.specs.Writes.{Spares, Unwritten, UnwrittenBy}
+use Rattle.gb_laws.specs.Cells.{Key, get_at}
+use Rattle.gb_laws.specs.Cells.Key.{global}
+use Rattle.gb_laws.specs.Writes.{Spares, Unwritten, UnwrittenBy}
 use Rattle.gb_holds.specs.Footprints.{globals_among}
-use Rattle.gb_typed.specs.Finite.{IsFinite}
+use Rattle.gb_laws.specs.Finite.{IsFinite}
 use Rattle.gb_typing.specs.Context.{Context, Frame}
 use Rattle.gb_typing.specs.Typing.{IsIn}
 use Rattle.gb_typing.specs.Puts.{clash}

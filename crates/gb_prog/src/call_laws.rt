@@ -17,9 +17,9 @@ ghost use Rattle.gb_meaning.specs.Runs.{outcomes, routine_denominator, valued, r
 ghost use Rattle.gb_meaning.specs.Setting.{Setting};
 ghost use Rattle.gb_meaning.specs.State.{State};
 ghost use Rattle.gb_meaning.specs.Written.{params_of};
-ghost use Rattle.gb_local.specs.Cells.{Key, get_at};
-ghost use Rattle.gb_local.specs.Writes.{Spares};
-ghost use Rattle.gb_typed.specs.Programs.{AreValuesOf};
+ghost use Rattle.gb_laws.specs.Cells.{Key, get_at};
+ghost use Rattle.gb_laws.specs.Writes.{Spares};
+ghost use Rattle.gb_laws.specs.Programs.{AreValuesOf};
 ghost use Rattle.gb_typing.specs.Context.{Context};
 ghost use Rattle.gb_typing.specs.Fits.{IsSettingOf};
 ghost use Rattle.gb_typing.specs.Programs.{AreArguments};

@@ -1,8 +1,15 @@
 -- The values that memories give variables.
 use Rattle.std.specs.Prelude.{◌≡◌, ◌<◌, true, List, [], ◌∷◌, map}
+use Rattle.gb_core.specs.declared.ty.Ty.{Ty}
+use Rattle.gb_core.specs.declared.ty.Ty.TheVariants as ty
 use Rattle.gb_core.specs.declared.value.Value.{Value}
-use Rattle.gb_meaning.specs.Values.{Types, has, values}
+use Rattle.gb_core.specs.declared.var.Var.{Var}
+use Rattle.gb_core.specs.declared.var.Var.TheVariants.{Glob}
+use Rattle.gb_terms.specs.declared.module.Mexp.TheVariants.{Name as named}
+use Rattle.gb_meaning.specs.Values.{Global, Types, has, values}
 use Rattle.gb_meaning.specs.Memory.{Memory, read}
+use Rattle.gb_holds.specs.Globs.{IsGlobless}
+use Rattle.gb_holds.specs.Programs.{AreOnce}
 use Rattle.gb_reads.specs.declared.held.Held.{Held}
 use Rattle.gb_reads.specs.Reads.{Vars}
 
@@ -15,6 +22,21 @@ abbrev pub AreOf : Types → Vars → List Value → Type 0
 AreOf t [] [] = Unit {0}
 AreOf t (x ∷ xs) (v ∷ vs) = (has t x.ty v ≡ true) × AreOf t xs vs
 AreOf t _ _ = ⊥
+
+-- their types speak of no module's globals
+abbrev pub AreGlobless : List Global → Type 0
+AreGlobless [] = Unit {0}
+AreGlobless (x ∷ xs) = IsGlobless x.ty × AreGlobless xs
+
+-- Memories give the variable all values of the type, and no others: all globals of a module are read at a type with the same values,
+-- and each of them stands once among them, at a type without `glob`.
+abbrev pub IsReadable : Types → Var → Ty → Type 0
+IsReadable t (Glob a) b = AreOnce (t.footprint (named a)) × AreGlobless (t.footprint (named a)) × (values t b ≡ values t (ty.Glob a))
+IsReadable t x b = Unit {0}
+
+abbrev pub AreReadable : Types → Vars → Type 0
+AreReadable t [] = Unit {0}
+AreReadable t (x ∷ xs) = IsReadable t x.var x.ty × AreReadable t xs
 
 -- each type has values
 abbrev pub HaveValues : Types → Vars → Type 0

@@ -1,10 +1,9 @@
 -- What a term reads of a memory that a binder binds.
-use Rattle.std.specs.Prelude.{ℕ, ◌+◌, ◌==◌, Bool, true, false, not, ◌&&◌, ◌||◌, if◌then◌else◌, List, [], ◌∷◌, ◌++◌}
+use Rattle.std.specs.Prelude.{ℕ, ◌+◌, ◌==◌, Bool, true, false, not, ◌&&◌, if◌then◌else◌, List, [], ◌∷◌, ◌++◌}
 use Rattle.std.specs.List.{list_any}
 use Rattle.gb_core.specs.declared.ty.Ty.{Ty}
 use Rattle.gb_core.specs.declared.var.Var.{Var}
-use Rattle.gb_core.specs.declared.var.Var.TheVariants.{Glob}
-use Rattle.gb_same.specs.Types.{ty_eq}
+use Rattle.gb_core.specs.SameTypes.{ty_eq}
 use Rattle.gb_terms.specs.declared.op.Side.{Side}
 use Rattle.gb_terms.specs.declared.op.Side.TheVariants.{Bound}
 use Rattle.gb_terms.specs.declared.op.Read.TheVariants.{Program}
@@ -12,6 +11,7 @@ use Rattle.gb_terms.specs.declared.term.Term.{Term, Term', Row_of-Term, end_of-T
 use Rattle.gb_terms.specs.declared.term.Head.{Head}
 use Rattle.gb_terms.specs.declared.term.Head.TheVariants as head
 use Rattle.gb_terms.specs.Equal.{var_eq}
+use Rattle.gb_walk.specs.Clash.{clashes}
 use Rattle.gb_walk.specs.Layers.{is_binder, seen_by}
 use Rattle.gb_reads.specs.declared.reads.TypedVar.{TypedVar}
 
@@ -60,15 +60,11 @@ noted seen (x ∷ xs) = noted (with_new seen x) xs
 abbrev pub reads_of : Term → Vars
 reads_of t = noted [] (reads_at t 0)
 
--- all globals of a module
-abbrev pub is_glob : Var → Bool
-is_glob (Glob m) = true
-is_glob _ = false
+-- a variable that clashes with one of these
+abbrev pub is_clash_among : Vars → Var → Bool
+is_clash_among xs x = list_any (λ y. clashes x y.var) xs
 
-abbrev pub is_variable_among : Vars → Var → Bool
-is_variable_among xs x = list_any (λ y. var_eq y.var x) xs
-
--- Memories give these all values of their types, independently: each is one variable, read at one type.
+-- No two of these clash, so that memories give them all values of their types, independently.
 abbrev pub are_free : Vars → Bool
 are_free [] = true
-are_free (x ∷ xs) = not (is_glob x.var || is_variable_among xs x.var) && are_free xs
+are_free (x ∷ xs) = not (is_clash_among xs x.var) && are_free xs

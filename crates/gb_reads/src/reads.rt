@@ -1,20 +1,20 @@
 // What a term reads of a memory that a binder binds.
 
 ghost use Rattle.std.specs.Prelude.{◌≡◌, ◌&&◌, map, IfOk, OnOk};
-ghost use Rattle.gb_same.specs.Types.{ty_eq};
+ghost use Rattle.gb_core.specs.SameTypes.{ty_eq};
 ghost use Rattle.gb_terms.specs.Equal.{var_eq};
 ghost use Rattle.gb_walk.specs.Layers.{seen_by, where_last};
-ghost use Rattle.gb_reads.specs.Reads.{are_free, head_reads, inside, is_among, is_bound_at, is_glob, is_variable_among, joined, noted, reads_at, reads_of, with_new};
+ghost use Rattle.gb_reads.specs.Reads.{are_free, head_reads, inside, is_among, is_bound_at, is_clash_among, joined, noted, reads_at, reads_of, with_new};
 
 use gb_core::Shared;
 use gb_core::copy::copy_var;
-use gb_core::same::same_var;
+use gb_core::same::{same_types, same_var};
 use gb_core::ty::Ty;
 use gb_core::var::Var;
-use gb_same::types::same_types;
 use gb_terms::op::{Read, Side};
 use gb_terms::term::{Head, Term};
 use gb_walk::binders::is_binder;
+use gb_walk::clash::clashes;
 use sqlite_items::Items;
 use std::alloc::{AllocError, Global};
 
@@ -157,32 +157,24 @@ pub fn reads(alloc: Global, body: &Term) -> Result<TypedVars, AllocError>
     Ok(list)
 }
 
-/// Whether a variable is all globals of a module.
-fn is_glob(var: &Var) -> bool
-    ensures { result ≡ is_glob var.now }
-{
-    matches!(var, Var::Glob { .. })
-}
-
-/// Whether a variable is among these, at any type.
-fn is_variable_among(list: &[TypedVar], var: &Var) -> bool
-    ensures { result ≡ is_variable_among list.now var.now }
+/// Whether a variable clashes with one of these.
+fn is_clash_among(list: &[TypedVar], var: &Var) -> bool
+    ensures { result ≡ is_clash_among list.now var.now }
 {
     for entry in list {
-        if is_variable(entry.var.get(), var) {
+        if clashes(var, entry.var.get()) {
             return true;
         }
     }
     false
 }
 
-/// Whether memories give these all values of their types, independently: each is one variable, read at one type.
+/// Whether no two of these clash, so that memories give them all values of their types, independently.
 pub fn are_free(list: &[TypedVar]) -> bool
     ensures { result ≡ are_free list.now }
 {
     for i in 0..list.len() {
-        let var = list[i].var.get();
-        if is_glob(var) || is_variable_among(&list[i + 1..], var) {
+        if is_clash_among(&list[i + 1..], list[i].var.get()) {
             return false;
         }
     }

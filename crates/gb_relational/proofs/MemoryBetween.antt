@@ -21,14 +21,14 @@ use Rattle.gb_meaning.specs.Meanings.{truth}
 use Rattle.gb_meaning.specs.State.{State, between, under}
 use Rattle.gb_meaning.specs.State.Binding.{memory as memory_bound}
 use Rattle.gb_meaning.specs.Judgments.{Judge, IsFair, speaking, IsTrueUnder, den}
-use Rattle.gb_laws.proofs.Truths.{true_all_memory, true_some_memory}
-use Rattle.gb_changes.specs.Uses.Use.{read as reads, bound, globals, starts, binds_own, binds_sides}
-use Rattle.gb_changes.specs.Agree.{Agree}
-use Rattle.gb_changes.specs.Led.{Led}
-use Rattle.gb_changes.proofs.Agreeing.{form_agrees}
-use Rattle.gb_changes.proofs.Forms.{form_followed}
-use Rattle.gb_typed.specs.Typing.Binder.{memory}
-use Rattle.gb_typed.specs.Typing as typed
+use Rattle.gb_meaning.proofs.Truths.{true_all_memory, true_some_memory}
+use Rattle.gb_laws.specs.Uses.Use.{read as reads, bound, globals, starts, binds_own, binds_sides}
+use Rattle.gb_laws.specs.Agree.{Agree}
+use Rattle.gb_laws.specs.Led.{Led}
+use Rattle.gb_laws.proofs.Agreeing.{form_agrees}
+use Rattle.gb_laws.proofs.Forms.{form_followed}
+use Rattle.gb_laws.specs.Typing.Binder.{memory}
+use Rattle.gb_laws.specs.Typing as typed
 use Rattle.gb_typing.specs.Context.{Context, Frame, erased, frame_of, with_sides, within}
 use Rattle.gb_typing.specs.Typing.{IsFrame, IsPlace, IsForm}
 use Rattle.gb_typing.specs.Fits.{IsSettingOf}

@@ -34,16 +34,16 @@ use Rattle.gb_meaning.specs.State.Binding.{value as value_bound}
 use Rattle.gb_meaning.specs.Trees.{distributions}
 use Rattle.gb_meaning.specs.Terms.{quiet, val, distribution, denominator as term_denominator}
 use Rattle.gb_meaning.specs.Judgments.{Judge, IsFair, speaking, IsTrueUnder, den}
-use Rattle.gb_laws.proofs.Nodes.{val_node}
-use Rattle.gb_laws.proofs.Runs.{run_positive}
-use Rattle.gb_laws.proofs.Totals.{run_total}
-use Rattle.gb_laws.proofs.Values.{value_discrete}
-use Rattle.gb_laws.proofs.Truths.{truth_of}
-use Rattle.gb_changes.specs.Uses.{IsWithin}
-use Rattle.gb_changes.specs.Written.{Written, IsSide, with_side}
-use Rattle.gb_changes.proofs.Puts.{plain_node}
-use Rattle.gb_typed.specs.Typing.Binder.{value}
-use Rattle.gb_typed.proofs.Nodes.{type_of_node}
+use Rattle.gb_meaning.proofs.Nodes.{val_node}
+use Rattle.gb_meaning.proofs.Runs.{run_positive}
+use Rattle.gb_meaning.proofs.Totals.{run_total}
+use Rattle.gb_meaning.proofs.Values.{value_discrete}
+use Rattle.gb_meaning.proofs.Truths.{truth_of}
+use Rattle.gb_laws.specs.Uses.{IsWithin}
+use Rattle.gb_laws.specs.Written.{Written, IsSide, with_side}
+use Rattle.gb_laws.proofs.Puts.{plain_node}
+use Rattle.gb_laws.specs.Typing.Binder.{value}
+use Rattle.gb_laws.proofs.Nodes.{type_of_node}
 use Rattle.gb_typing.specs.Context.{Context, frame_of, within}
 use Rattle.gb_typing.specs.Typing.{IsForm}
 use Rattle.gb_typing.specs.Fits.{IsSettingOf, IsStateOf}
@@ -79,9 +79,9 @@ use Rattle.gb_typing.proofs.Runs.{coupled_in_turn}
 use Rattle.gb_typing.proofs.LastSampling.{IsDrawn, drawn, last_one}
 use Rattle.gb_typing.proofs.Supported.{nearest_made, for_support_made, for_support_use, draws, drawn_typed, run_sampling, sampling_denominator, located_denominator, from_made, target_put, from_weights}
 use Rattle.gb_prog.proofs.Couplings.{run_entries_in}
-use Rattle.gb_chance.specs.Compared.{one}
+use Rattle.gb_parts.specs.Compared.{one}
 use Rattle.gb_full.specs.Loss.{may_lose}
-use Rattle.gb_chance.proofs.Comparing.{number_made, compared_typed, number_is, compared_is}
+use Rattle.gb_parts.proofs.Comparing.{number_made, compared_typed, number_is, compared_is}
 use Rattle.gb_full.proofs.Full.{full_term}
 use Rattle.gb_full.proofs.Operators.{AreFullOperators, scope_full}
 use Rattle.gb_equiv.specs.Drawn.{unless_clash}

@@ -10,7 +10,7 @@ use Rattle.gb_coupling.proofs.Gluing.{coupling_gluing}
 use Rattle.gb_meaning.specs.Memory.{Memory}
 use Rattle.gb_meaning.specs.State.{between}
 use Rattle.gb_meaning.specs.Judgments.{IsTrueUnder}
-use Rattle.gb_judge.proofs.Fair.{memory_discrete, subject_positive}
+use Rattle.gb_laws.proofs.Fair.{memory_discrete, subject_positive}
 use Rattle.gb_goal.specs.Goal.Code.{body, procedure}
 use Rattle.gb_goal.specs.Goal.Goal.{hoare, phoare, equiv, ambient}
 use Rattle.gb_typing.specs.Context.{Context, Frame, with_sides}

@@ -53,24 +53,19 @@ fn leads_back(alloc: Global, between: &Between, post: &Form) -> Result<Form, All
     every_pair(alloc, every)
 }
 
-/// The left procedure is equivalent to the one between.
-fn left_half(alloc: Global, left: &Subject, between: &Between) -> Result<Form, AllocError>
-    ensures { IfOk result (λ made. made ≡ form_of (equiv (code_of left.now) (procedure between.now.procedure) between.now.left_pre between.now.left_post)) }
+/// The equivalence of two programs from a condition to another.
+fn half(
+    alloc: Global,
+    left: &Subject,
+    right: &Subject,
+    pre: &Form,
+    post: &Form,
+) -> Result<Form, AllocError>
+    ensures { IfOk result (λ made. made ≡ form_of (equiv (code_of left.now) (code_of right.now) pre.now post.now)) }
 {
-    let there = Subject::Proc(between.procedure.share()?);
-    let pre = between.left_pre.share()?;
-    let post = between.left_post.share()?;
-    equiv_of(alloc, left, &there, pre, post)
-}
-
-/// The procedure between is equivalent to the right one.
-fn right_half(alloc: Global, between: &Between, right: &Subject) -> Result<Form, AllocError>
-    ensures { IfOk result (λ made. made ≡ form_of (equiv (procedure between.now.procedure) (code_of right.now) between.now.right_pre between.now.right_post)) }
-{
-    let here = Subject::Proc(between.procedure.share()?);
-    let pre = between.right_pre.share()?;
-    let post = between.right_post.share()?;
-    equiv_of(alloc, &here, right, pre, post)
+    let pre = pre.share()?;
+    let post = post.share()?;
+    equiv_of(alloc, left, right, pre, post)
 }
 
 /// The goals of two programs by way of a procedure between.
@@ -88,10 +83,16 @@ fn through(
     let first = leads_through(alloc, pre, between)?;
     let second = leads_back(alloc, between, post)?;
     let mut goals = two_goals(alloc, goal, first, second)?;
-    let here = left_half(alloc, left, between)?;
-    goals.push(goal.with_conclusion(here)?)?;
-    let there = right_half(alloc, between, right)?;
-    goals.push(goal.with_conclusion(there)?)?;
+    let there = Subject::Proc(between.procedure.share()?);
+    let first = half(alloc, left, &there, &between.left_pre, &between.left_post)?;
+    let second = half(
+        alloc,
+        &there,
+        right,
+        &between.right_pre,
+        &between.right_post,
+    )?;
+    goals.append(two_goals(alloc, goal, first, second)?)?;
     Ok(goals)
 }
 

@@ -15,13 +15,13 @@ use Rattle.gb_walk.specs.Change.{or_later, found_for_bound, side_changed, term_c
 use Rattle.gb_meaning.specs.Names.{Name}
 use Rattle.gb_meaning.specs.Trees.{row}
 use Rattle.gb_meaning.specs.Written.{type_of}
-use Rattle.gb_laws.proofs.Nodes.{term_is_node}
-use Rattle.gb_changes.specs.Plain.{HeadIsPlain, IsPlain, AllPlain}
-use Rattle.gb_changes.specs.Uses.{Uses}
-use Rattle.gb_changes.specs.Uses.Use.{bound}
+use Rattle.gb_meaning.proofs.Nodes.{term_is_node}
+use Rattle.gb_laws.specs.Plain.{HeadIsPlain, IsPlain, AllPlain}
+use Rattle.gb_laws.specs.Uses.{Uses}
+use Rattle.gb_laws.specs.Uses.Use.{bound}
 use Rattle.gb_typing.proofs.Uses.{is_value}
-use Rattle.gb_typed.specs.Typing.{OperatorType, Binder, types_of, IsBoundAt, IsHead}
-use Rattle.gb_typed.specs.Typing.Binder.{value, index, memory, program}
+use Rattle.gb_laws.specs.Typing.{OperatorType, Binder, types_of, IsBoundAt, IsHead}
+use Rattle.gb_laws.specs.Typing.Binder.{value, index, memory, program}
 use Rattle.gb_typing.specs.Changes.{Made}
 use Rattle.gb_typing.specs.Context.{Context, erased}
 use Rattle.gb_typing.specs.Rules.{outermost}

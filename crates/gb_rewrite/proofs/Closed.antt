@@ -9,11 +9,11 @@ use Rattle.gb_terms.specs.declared.term.Term.{Term, Term', Row_of-Term, end_of-T
 use Rattle.gb_terms.specs.declared.term.Head.{Head}
 use Rattle.gb_terms.specs.declared.term.Head.TheVariants as head
 use Rattle.gb_meaning.specs.Operators.{outcome_type}
-use Rattle.gb_changes.specs.Plain.{HeadIsPlain, IsPlain, AllPlain}
-use Rattle.gb_changes.specs.Uses.{Uses, beneath, of_arguments, of_last, HeadIsWithin, IsWithin, AreWithin}
-use Rattle.gb_changes.specs.Uses.Use.{bound}
-use Rattle.gb_typed.specs.Typing.{Binder, types_of, IsBoundAt, IsHead}
-use Rattle.gb_typed.specs.Typing.Binder.{value, index, program}
+use Rattle.gb_laws.specs.Plain.{HeadIsPlain, IsPlain, AllPlain}
+use Rattle.gb_laws.specs.Uses.{Uses, beneath, of_arguments, of_last, HeadIsWithin, IsWithin, AreWithin}
+use Rattle.gb_laws.specs.Uses.Use.{bound}
+use Rattle.gb_laws.specs.Typing.{Binder, types_of, IsBoundAt, IsHead}
+use Rattle.gb_laws.specs.Typing.Binder.{value, index, program}
 use Rattle.gb_typing.specs.Changes.{binder}
 use Rattle.gb_typing.specs.Context.{Context, erased, frame_of, within}
 use Rattle.gb_typing.specs.Typing.{IsIn, IsNamed, first, middle, last, IsTyped, AreTyped}

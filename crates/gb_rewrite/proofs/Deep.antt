@@ -27,28 +27,28 @@ use Rattle.gb_meaning.specs.Judgments.{Judge, IsFair, speaking, chance, probabil
 use Rattle.gb_meaning.specs.Values.{values, has}
 use Rattle.gb_meaning.specs.Written.{type_of}
 use Rattle.gb_meaning.specs.Trees.{places, row}
-use Rattle.gb_laws.proofs.Nodes.{judged_node, stands_node, term_is_node}
-use Rattle.gb_laws.proofs.Numberings.{lawful}
-use Rattle.gb_laws.proofs.Bools.{same_truth}
-use Rattle.gb_judge.proofs.Fair.{subject_positive}
-use Rattle.gb_changes.proofs.Heads.{Moved, Here, Under, At, Between}
-use Rattle.gb_changes.proofs.Judged.{answers_same}
-use Rattle.gb_typed.specs.Context.{AreOf, FitsBinder}
-use Rattle.gb_typed.specs.Meant.{IsOf}
-use Rattle.gb_typed.specs.Typing.{Binder, IsHead}
-use Rattle.gb_typed.specs.Typing.Binder.{value, index, memory}
-use Rattle.gb_typed.proofs.Meanings.{number_has, weights_have}
+use Rattle.gb_meaning.proofs.Nodes.{judged_node, stands_node, term_is_node}
+use Rattle.gb_meaning.proofs.Numberings.{lawful}
+use Rattle.gb_meaning.proofs.Bools.{same_truth}
+use Rattle.gb_laws.proofs.Fair.{subject_positive}
+use Rattle.gb_laws.proofs.Heads.{Moved, Here, Under, At, Between}
+use Rattle.gb_laws.proofs.Judged.{answers_same}
+use Rattle.gb_laws.specs.Context.{AreOf, FitsBinder}
+use Rattle.gb_laws.specs.Meant.{IsOf}
+use Rattle.gb_laws.specs.Typing.{Binder, IsHead}
+use Rattle.gb_laws.specs.Typing.Binder.{value, index, memory}
+use Rattle.gb_laws.proofs.Meanings.{number_has, weights_have}
 use Rattle.gb_typing.specs.Context.{Frame, Context, procedure, erased, with_own, with_sides, within}
 use Rattle.gb_typing.specs.Typing.{procedure_in, IsNamed, before, after, first, middle, last, IsTyped}
 use Rattle.gb_typing.specs.Fits.{IsSettingOf, IsStateOf}
 use Rattle.gb_typing.specs.Rules.{outermost}
 use Rattle.gb_amb.proofs.Itself.{meaning_is_of}
-use Rattle.gb_equality_laws.specs.Alike.{Alike, AllAlike, RespectAlike}
-use Rattle.gb_equality_laws.proofs.Alike.{IsProper, alike_itself, alike_of, alike_turned, truth_alike, value_alike, weights_alike, fraction_same, fraction_proper}
-use Rattle.gb_equality_laws.proofs.Congruent.{proper}
-use Rattle.gb_equality_laws.proofs.Fractions.{Same, same_made, same_refl, same_at_most, same_same}
-use Rattle.gb_equality_laws.proofs.Operated.{AreOne, AllOne, operated_alike}
-use Rattle.gb_equality_laws.proofs.States.{each_same, some_same, sum_same, weight_same, image_same, restricted_same}
+use Rattle.gb_smt_laws.specs.Alike.{Alike, AllAlike, RespectAlike}
+use Rattle.gb_smt_laws.proofs.Alike.{IsProper, alike_itself, alike_of, alike_turned, truth_alike, value_alike, weights_alike, fraction_same, fraction_proper}
+use Rattle.gb_smt_laws.proofs.Congruent.{proper}
+use Rattle.gb_smt_laws.proofs.Fractions.{Same, same_made, same_refl, same_at_most, same_same}
+use Rattle.gb_smt_laws.proofs.Operated.{AreOne, AllOne, operated_alike}
+use Rattle.gb_smt_laws.proofs.States.{each_same, some_same, sum_same, weight_same, image_same, restricted_same}
 use Rattle.gb_rewrite.proofs.Kept.{IsInside}
 use Rattle.gb_rewrite.proofs.Placed.{IsLike}
 use Rattle.gb_rewrite.proofs.Values.{is_real, alike_one}

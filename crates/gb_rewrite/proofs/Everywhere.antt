@@ -14,11 +14,11 @@ use Rattle.gb_meaning.specs.Setting.{Setting}
 use Rattle.gb_meaning.specs.State.{State}
 use Rattle.gb_meaning.specs.Terms.{Part, part_of, parts}
 use Rattle.gb_meaning.specs.Judgments.{Judge, IsFair, speaking}
-use Rattle.gb_changes.specs.Formed.{AreThree}
-use Rattle.gb_changes.proofs.Heads.{Moved, Here, At, Between}
-use Rattle.gb_changes.proofs.Judged.{SameRuns, answers_same}
+use Rattle.gb_laws.specs.Formed.{AreThree}
+use Rattle.gb_laws.proofs.Heads.{Moved, Here, At, Between}
+use Rattle.gb_laws.proofs.Judged.{SameRuns, answers_same}
 use Rattle.gb_holds.specs.Truth.{has_module}
-use Rattle.gb_typed.specs.Typing.{types_of, IsHead}
+use Rattle.gb_laws.specs.Typing.{types_of, IsHead}
 use Rattle.gb_typing.specs.Context.{Context, erased}
 use Rattle.gb_typing.specs.Fits.{IsSettingOf}
 use Rattle.gb_typing.specs.Programs.{AreStatements}

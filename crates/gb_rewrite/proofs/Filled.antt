@@ -22,19 +22,19 @@ use Rattle.gb_meaning.specs.State.{State, Binding, binding, meaning_in, under}
 use Rattle.gb_meaning.specs.Terms.{val, parts, part_of, denominator, denominators, denominator_of}
 use Rattle.gb_meaning.specs.Judgments.{Judge, IsFair, speaking}
 use Rattle.gb_meaning.specs.Written.{type_of}
-use Rattle.gb_laws.proofs.Nodes.{val_node, denominator_node}
-use Rattle.gb_changes.specs.Formed.{IsFormed, AllFormed}
-use Rattle.gb_changes.specs.Led.{OnPut, put}
-use Rattle.gb_changes.specs.Plain.{HeadIsPlain, IsPlain, AllPlain}
-use Rattle.gb_changes.specs.Uses.{Uses, beneath, of_arguments, of_last}
-use Rattle.gb_changes.specs.Uses.Use.{bound}
-use Rattle.gb_changes.proofs.Changed.{changed_at, term_changed_is}
-use Rattle.gb_changes.proofs.Heads.{Moved, Here, Under, inner_same}
-use Rattle.gb_changes.proofs.Leading.{OnSome, read_found_each, bound_found_each, lifted_zero}
-use Rattle.gb_changes.proofs.Lookups.{bound_found_under, bound_of_binder, each_map}
-use Rattle.gb_changes.proofs.Raising.{has_parts, denominator_raised}
-use Rattle.gb_typed.specs.Typing.{OperatorType, Binder, types_of, IsBoundAt, IsHead}
-use Rattle.gb_typed.specs.Typing.Binder.{value, index, program}
+use Rattle.gb_meaning.proofs.Nodes.{val_node, denominator_node}
+use Rattle.gb_laws.specs.Formed.{IsFormed, AllFormed}
+use Rattle.gb_laws.specs.Led.{OnPut, put}
+use Rattle.gb_laws.specs.Plain.{HeadIsPlain, IsPlain, AllPlain}
+use Rattle.gb_laws.specs.Uses.{Uses, beneath, of_arguments, of_last}
+use Rattle.gb_laws.specs.Uses.Use.{bound}
+use Rattle.gb_laws.proofs.Changed.{changed_at, term_changed_is}
+use Rattle.gb_laws.proofs.Heads.{Moved, Here, Under, inner_same}
+use Rattle.gb_laws.proofs.Leading.{OnSome, read_found_each, bound_found_each, lifted_zero}
+use Rattle.gb_laws.proofs.Lookups.{bound_found_under, bound_of_binder, each_map}
+use Rattle.gb_laws.proofs.Raising.{has_parts, denominator_raised}
+use Rattle.gb_laws.specs.Typing.{OperatorType, Binder, types_of, IsBoundAt, IsHead}
+use Rattle.gb_laws.specs.Typing.Binder.{value, index, program}
 use Rattle.gb_meaning.specs.Operators.{outcome_type}
 use Rattle.gb_typing.specs.Changes.{binder, Made}
 use Rattle.gb_typing.specs.Context.{Context, erased, within}

@@ -8,7 +8,7 @@ use Rattle.gb_terms.specs.declared.term.Head.TheVariants as head
 use Rattle.gb_terms.specs.Make.{node}
 use Rattle.gb_meaning.specs.Commands.{terms_in}
 use Rattle.gb_meaning.specs.Written.{type_of}
-use Rattle.gb_typed.specs.Typing.{types_of}
+use Rattle.gb_laws.specs.Typing.{types_of}
 use Rattle.gb_typing.specs.Context.{Context}
 use Rattle.gb_typing.specs.Typing.{first, middle, last, IsTyped, AreTyped, IsForm}
 use Rattle.gb_typing.specs.Changes.{Made}

@@ -5,7 +5,7 @@ use Rattle.gb_terms.specs.Make.{node}
 use Rattle.gb_walk.specs.Change.{term_changed}
 use Rattle.gb_meaning.specs.Commands.{terms_in}
 use Rattle.gb_meaning.specs.Names.{Name}
-use Rattle.gb_changes.proofs.Trees.{out_is}
+use Rattle.gb_laws.proofs.Trees.{out_is}
 use Rattle.gb_forms.specs.Arguments.{in_places}
 use Rattle.gb_rewrite.specs.Unfolded.{is_operator, unfolded, all_unfolded}
 use mathlib.Core.Former.{Count}

@@ -12,11 +12,11 @@ use Rattle.gb_meaning.specs.Setting.{Setting}
 use Rattle.gb_meaning.specs.State.{State, Binding, under, at, between}
 use Rattle.gb_meaning.specs.Terms.{Speaks, at_head, val, parts, part_of, denominator, denominators, denominator_of}
 use Rattle.gb_meaning.specs.Judgments.{Judge, IsFair, speaking, is_sound_at}
-use Rattle.gb_laws.proofs.Nodes.{val_node, denominator_node}
-use Rattle.gb_changes.specs.Formed.{HasArguments}
-use Rattle.gb_changes.proofs.Heads.{of_arguments, of_last, Related, inner_same, chance_same, Answers, with_subjects}
-use Rattle.gb_changes.proofs.Judged.{SameSubjects, answers_same}
-use Rattle.gb_changes.proofs.Raising.{has_parts}
+use Rattle.gb_meaning.proofs.Nodes.{val_node, denominator_node}
+use Rattle.gb_laws.specs.Formed.{HasArguments}
+use Rattle.gb_laws.proofs.Heads.{of_arguments, of_last, Related, inner_same, chance_same, Answers, with_subjects}
+use Rattle.gb_laws.proofs.Judged.{SameSubjects, answers_same}
+use Rattle.gb_laws.proofs.Raising.{has_parts}
 use mathlib.Core.Former.{Count}
 
 -- states in which a term is read, with those inside of binders

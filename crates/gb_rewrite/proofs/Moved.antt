@@ -16,7 +16,7 @@ use Rattle.gb_meaning.specs.State.{State}
 use Rattle.gb_meaning.specs.Terms.{val}
 use Rattle.gb_meaning.specs.Judgments.{Judge, IsFair, speaking, den}
 use Rattle.gb_meaning.specs.Written.{type_of}
-use Rattle.gb_laws.proofs.Nodes.{term_is_node, val_node}
+use Rattle.gb_meaning.proofs.Nodes.{term_is_node, val_node}
 use Rattle.gb_holds.specs.Truth.{has_module}
 use Rattle.gb_typing.specs.Changes.{Made}
 use Rattle.gb_typing.specs.Context.{Context, with_own, with_sides}
@@ -31,7 +31,7 @@ use Rattle.gb_typing.proofs.TypedGoals.{conclusion_goal, goal_conclusion, goal_f
 use Rattle.gb_typing.proofs.Exact.{code_sound}
 use Rattle.gb_typing.proofs.Shapes.{goal_form}
 use Rattle.gb_rewrite.proofs.Kept.{IsInside}
-use Rattle.gb_equality_laws.proofs.Alike.{truth_alike}
+use Rattle.gb_smt_laws.proofs.Alike.{truth_alike}
 use Rattle.gb_rewrite.proofs.Deep.{IsAt, AreDeep, hoare_same, phoare_same, equiv_same}
 
 -- a typed conclusion that is as true as another one, in each setting and state of a kind

@@ -17,7 +17,7 @@ use Rattle.gb_typing.proofs.Formed.{formed}
 use Rattle.gb_typing.proofs.Sound.{Procedures, sound_form}
 use Rattle.gb_typing.specs.Rules.{outermost}
 use Rattle.gb_eval.specs.Meant.{IsBody}
-use Rattle.gb_equality_laws.proofs.Alike.{alike_of}
+use Rattle.gb_smt_laws.proofs.Alike.{alike_of}
 use Rattle.gb_forms.specs.Arguments.{in_places}
 use Rattle.gb_rewrite.specs.Unfolded.{is_operator, unfolded}
 use Rattle.gb_rewrite.proofs.Applied.{unfolded_made}

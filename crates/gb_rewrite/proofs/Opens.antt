@@ -17,14 +17,14 @@ use Rattle.gb_meaning.specs.State.Binding.{value as bind, program as nothing_bou
 use Rattle.gb_meaning.specs.Terms.{Speaks, val, part_of, denominator}
 use Rattle.gb_meaning.specs.Judgments.{Judge, IsFair, speaking, IsSoundForm, AllSound}
 use Rattle.gb_meaning.specs.Written.{type_of}
-use Rattle.gb_laws.proofs.Nodes.{val_node, denominator_node}
-use Rattle.gb_changes.specs.Formed.{IsFormed, AllFormed}
-use Rattle.gb_changes.specs.Led.{put}
-use Rattle.gb_changes.proofs.Quiet.{plain_quiet}
-use Rattle.gb_typed.specs.Operators.{IsNoDistribution}
-use Rattle.gb_typed.specs.Typing.{types_of}
-use Rattle.gb_typed.specs.Typing.Binder.{value, program}
-use Rattle.gb_typed.proofs.Denominators.{denominator_one}
+use Rattle.gb_meaning.proofs.Nodes.{val_node, denominator_node}
+use Rattle.gb_laws.specs.Formed.{IsFormed, AllFormed}
+use Rattle.gb_laws.specs.Led.{put}
+use Rattle.gb_laws.proofs.Quiet.{plain_quiet}
+use Rattle.gb_laws.specs.Operators.{IsNoDistribution}
+use Rattle.gb_laws.specs.Typing.{types_of}
+use Rattle.gb_laws.specs.Typing.Binder.{value, program}
+use Rattle.gb_laws.proofs.Denominators.{denominator_one}
 use Rattle.gb_typing.specs.Context.{Context, erased}
 use Rattle.gb_typing.specs.Rules.{outermost}
 use Rattle.gb_typing.specs.Scopes.{IsMeasured, AreMeasured, of_operator}

@@ -3,7 +3,7 @@ use Rattle.std.proofs.Common.{◌≡◌, Bool, true, false, ◌||◌, if◌then�
 use Rattle.gb_terms.specs.declared.term.Term.{Term, Term', Row_of-Term, end_of-Term, more_of-Term, end_of-Head, more_of-Head, out-Term}
 use Rattle.gb_terms.specs.Make.{node}
 use Rattle.gb_meaning.specs.Commands.{terms_in}
-use Rattle.gb_changes.proofs.Trees.{out_is}
+use Rattle.gb_laws.proofs.Trees.{out_is}
 use Rattle.gb_rewrite.specs.Rewritten.{is_same, is_quotient, rewritten, parts_rewritten, list_rewritten, stands, stands_in_parts, stands_in_list}
 use mathlib.Core.Former.{Count}
 

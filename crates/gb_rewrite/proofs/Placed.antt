@@ -11,11 +11,11 @@ use Rattle.gb_meaning.specs.State.{State}
 use Rattle.gb_meaning.specs.Terms.{val, denominator}
 use Rattle.gb_meaning.specs.Judgments.{Judge, IsFair, speaking}
 use Rattle.gb_meaning.specs.Written.{type_of}
-use Rattle.gb_changes.specs.Agree.{Agree}
-use Rattle.gb_changes.specs.Uses.Use.{read as reads, bound, globals, starts, binds_own, binds_sides}
-use Rattle.gb_changes.proofs.Agreeing.{form_agrees}
-use Rattle.gb_typed.specs.Operators.{IsNoDistribution}
-use Rattle.gb_typed.proofs.Denominators.{denominator_one}
+use Rattle.gb_laws.specs.Agree.{Agree}
+use Rattle.gb_laws.specs.Uses.Use.{read as reads, bound, globals, starts, binds_own, binds_sides}
+use Rattle.gb_laws.proofs.Agreeing.{form_agrees}
+use Rattle.gb_laws.specs.Operators.{IsNoDistribution}
+use Rattle.gb_laws.proofs.Denominators.{denominator_one}
 use Rattle.gb_typing.specs.Context.{Context, erased}
 use Rattle.gb_typing.specs.Typing.{IsTyped}
 use Rattle.gb_typing.specs.Fits.{IsSettingOf}

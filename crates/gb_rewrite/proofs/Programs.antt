@@ -18,10 +18,10 @@ use Rattle.gb_meaning.specs.State.{State, inside}
 use Rattle.gb_meaning.specs.Terms.{val, quiet, denominator}
 use Rattle.gb_meaning.specs.Judgments.{Judge, IsFair, speaking}
 use Rattle.gb_meaning.specs.Written.{type_of, IsModulo}
-use Rattle.gb_changes.proofs.Quiet.{plain_quiet}
-use Rattle.gb_typed.specs.Finite.{IsFinite}
-use Rattle.gb_typed.specs.Operators.{IsDistributionType}
-use Rattle.gb_typed.specs.Programs.{variable_type, Take}
+use Rattle.gb_laws.proofs.Quiet.{plain_quiet}
+use Rattle.gb_laws.specs.Finite.{IsFinite}
+use Rattle.gb_laws.specs.Operators.{IsDistributionType}
+use Rattle.gb_laws.specs.Programs.{variable_type, Take}
 use Rattle.gb_typing.specs.Context.{Context, procedure, erased, of_program}
 use Rattle.gb_typing.specs.Fits.{IsSettingOf}
 use Rattle.gb_typing.specs.Modules.{ProcedureType}

@@ -10,19 +10,19 @@ use Rattle.gb_meaning.specs.State.{State}
 use Rattle.gb_meaning.specs.Terms.{at_head, val, part_of, denominator_of}
 use Rattle.gb_meaning.specs.Judgments.{Judge, IsFair, speaking, IsSoundForm, AllSound}
 use Rattle.gb_meaning.specs.Written.{type_of}
-use Rattle.gb_laws.proofs.Nodes.{each_is_node, val_node, denominator_node}
-use Rattle.gb_changes.proofs.Trees.{out_is}
-use Rattle.gb_typed.specs.Operators.{IsNoDistribution}
-use Rattle.gb_typed.specs.Typing.{types_of, IsHead}
-use Rattle.gb_typed.proofs.Nodes.{type_of_node}
+use Rattle.gb_meaning.proofs.Nodes.{each_is_node, val_node, denominator_node}
+use Rattle.gb_laws.proofs.Trees.{out_is}
+use Rattle.gb_laws.specs.Operators.{IsNoDistribution}
+use Rattle.gb_laws.specs.Typing.{types_of, IsHead}
+use Rattle.gb_laws.proofs.Nodes.{type_of_node}
 use Rattle.gb_typing.specs.Context.{Context, erased}
 use Rattle.gb_typing.specs.Changes.{Made}
 use Rattle.gb_typing.specs.Typing.{first, middle, last, IsTyped, AreTyped}
 use Rattle.gb_typing.specs.Fits.{IsSettingOf}
 use Rattle.gb_typing.specs.Rules.{outermost}
 use Rattle.gb_typing.proofs.Made.{made_node}
-use Rattle.gb_equality_laws.specs.Alike.{Alike, RespectAlike}
-use Rattle.gb_equality_laws.proofs.Alike.{alike_turned}
+use Rattle.gb_smt_laws.specs.Alike.{Alike, RespectAlike}
+use Rattle.gb_smt_laws.proofs.Alike.{alike_turned}
 use Rattle.gb_rewrite.specs.Rewritten.{is_same, is_quotient, rewritten, parts_rewritten}
 use Rattle.gb_rewrite.proofs.Deep.{AreDeep, AllDeep, itself, all_over, head_alike}
 use Rattle.gb_rewrite.proofs.Inside.{typed_inside}

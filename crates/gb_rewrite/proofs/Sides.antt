@@ -14,18 +14,18 @@ use Rattle.gb_meaning.specs.State.{State}
 use Rattle.gb_meaning.specs.Terms.{val}
 use Rattle.gb_meaning.specs.Judgments.{Judge, den, speaking}
 use Rattle.gb_meaning.specs.Written.{type_of}
-use Rattle.gb_laws.proofs.Nodes.{each_is_node, val_node}
-use Rattle.gb_laws.proofs.Truths.{truth_of}
-use Rattle.gb_typed.specs.Meant.{IsOf}
-use Rattle.gb_typed.specs.Operators.{IsNoDistribution}
+use Rattle.gb_meaning.proofs.Nodes.{each_is_node, val_node}
+use Rattle.gb_meaning.proofs.Truths.{truth_of}
+use Rattle.gb_laws.specs.Meant.{IsOf}
+use Rattle.gb_laws.specs.Operators.{IsNoDistribution}
 use Rattle.gb_typing.specs.Context.{Context}
 use Rattle.gb_typing.specs.Typing.{IsTyped}
 use Rattle.gb_typing.specs.Fits.{IsSettingOf, IsStateOf}
 use Rattle.gb_typing.proofs.Made.{parts_typed}
 use Rattle.gb_amb.proofs.Itself.{meaning_is_of}
 use Rattle.gb_rewrite.specs.Equations.{Pair, equation_at, equation_of, equivalence_at, equivalence_of}
-use Rattle.gb_equality_laws.specs.Alike.{Alike}
-use Rattle.gb_equality_laws.proofs.Alike.{alike_of}
+use Rattle.gb_smt_laws.specs.Alike.{Alike}
+use Rattle.gb_smt_laws.proofs.Alike.{alike_of}
 use Rattle.gb_rewrite.proofs.Values.{equal_alike, same_truths}
 
 -- two terms of one type, and no distributions

@@ -18,10 +18,10 @@ use Rattle.gb_meaning.specs.Setting.{Meaning, Setting}
 use Rattle.gb_meaning.specs.State.{State}
 use Rattle.gb_meaning.specs.Terms.{val}
 use Rattle.gb_meaning.specs.Judgments.{Judge, IsFair, speaking}
-use Rattle.gb_typed.specs.Context.{AreOf}
-use Rattle.gb_typed.specs.Finite.{IsInhabited}
-use Rattle.gb_typed.specs.Operators.{IsNoDistribution}
-use Rattle.gb_typed.specs.Typing.{OperatorType}
+use Rattle.gb_laws.specs.Context.{AreOf}
+use Rattle.gb_laws.specs.Finite.{IsInhabited}
+use Rattle.gb_laws.specs.Operators.{IsNoDistribution}
+use Rattle.gb_laws.specs.Typing.{OperatorType}
 use Rattle.gb_holds.specs.Declared.{Declarations, declared}
 use Rattle.gb_holds.specs.Settings.{Interpretation, setting}
 use Rattle.gb_holds.specs.Truth.{has_module, Truth}
@@ -42,10 +42,10 @@ use Rattle.gb_amb.specs.Parts.{concluding}
 use Rattle.gb_amb.specs.Quantified.{quantifies_modules, goal_quantifies_modules}
 use Rattle.gb_amb.specs.Steps.{LeadTo}
 use Rattle.gb_amb.proofs.Around.{Part, here, parts_lead, parts_lead_by}
-use Rattle.gb_equality_laws.specs.Alike.{Alike, AllAlike, RespectAlike}
-use Rattle.gb_equality_laws.proofs.Alike.{alike_turned}
-use Rattle.gb_equality_laws.proofs.Respects.{scope_respects}
-use Rattle.gb_equality_laws.proofs.Results.{HasResults, each_results}
+use Rattle.gb_smt_laws.specs.Alike.{Alike, AllAlike, RespectAlike}
+use Rattle.gb_smt_laws.proofs.Alike.{alike_turned}
+use Rattle.gb_smt_laws.proofs.Respects.{scope_respects}
+use Rattle.gb_smt_laws.proofs.Results.{HasResults, each_results}
 use Rattle.gb_amb.proofs.Cases.{form_formula}
 use Rattle.gb_amb.proofs.Fronts.{first, second, none_in_front}
 use Rattle.gb_rewrite.specs.Rewritten.{rewritten, stands}

@@ -16,7 +16,7 @@ use Rattle.gb_terms.specs.declared.term.Head.TheViews.{roll-Instr, roll-Subject,
 use Rattle.gb_terms.specs.Make.{node}
 use Rattle.gb_meaning.specs.Commands.{terms_in}
 use Rattle.gb_meaning.specs.Names.{Name}
-use Rattle.gb_changes.proofs.Trees.{out_is}
+use Rattle.gb_laws.proofs.Trees.{out_is}
 use Rattle.gb_rewrite.specs.Unfolded.{head_unfolded, programs_unfolded, unfolded, row_unfolded, statement_unfolded, statement_at, body_unfolded, subject_unfolded, cmd_unfolded}
 use Rattle.sqlite_items.specs.formers.items.Items.{the_former}
 use mathlib.Core.Former.{Count, arity, this}

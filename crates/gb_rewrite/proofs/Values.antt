@@ -12,10 +12,10 @@ use Rattle.gb_meaning.specs.Setting.Meaning.{finite, whole, fraction, weights}
 use Rattle.gb_meaning.specs.Meanings.{same, truth}
 use Rattle.gb_meaning.specs.Operators.{alike}
 use Rattle.gb_meaning.specs.Values.{Types, has}
-use Rattle.gb_laws.proofs.Numberings.{lawful}
-use Rattle.gb_laws.proofs.Values.{value_eq-true}
-use Rattle.gb_typed.specs.Meant.{IsOf, IsReal}
-use Rattle.gb_equality_laws.specs.Alike.{Alike}
+use Rattle.gb_meaning.proofs.Numberings.{lawful}
+use Rattle.gb_meaning.proofs.Values.{value_eq-true}
+use Rattle.gb_laws.specs.Meant.{IsOf, IsReal}
+use Rattle.gb_smt_laws.specs.Alike.{Alike}
 
 abbrev pub is_real : Ty → Bool
 is_real ty.Real = true

@@ -7,7 +7,7 @@ use Rattle.gb_terms.specs.declared.term.Head.{Head}
 use Rattle.gb_terms.specs.declared.term.Head.TheVariants.{Builtin}
 use Rattle.gb_terms.specs.Make.{node}
 use Rattle.gb_meaning.specs.Commands.{terms_in}
-use Rattle.gb_apart.proofs.SameTerms.{same_terms}
+use Rattle.gb_meaning.proofs.SameTerms.{same_terms}
 
 abbrev pub is_yes : {A : Type 0} → Dec A → Bool
 is_yes (yes p) = true

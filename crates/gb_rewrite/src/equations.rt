@@ -26,14 +26,6 @@ fn equivalence_at<'a>(head: &Head, args: &'a [Term]) -> Option<(&'a Term, &'a Te
     }
 }
 
-/// The sides of an equation.
-fn equation_of(form: &Form) -> Option<(&Term, &Term)>
-    ensures { option_map (λ p. (p.0.now, p.1.now)) result ≡ equation_of form.now }
-{
-    let head = form.head.get();
-    equation_at(head, form.args.as_slice())
-}
-
 /// The sides of an equation or of an equivalence.
 pub fn equivalence_of(form: &Form) -> Option<(&Term, &Term)>
     ensures { option_map (λ p. (p.0.now, p.1.now)) result ≡ equivalence_of form.now }
@@ -73,7 +65,8 @@ fn used_up<'a>(left: &'a Term, right: &'a Term) -> Option<(&'a Term, &'a Term)>
 pub fn used_up_by(form: &Form) -> Option<(&Term, &Term)>
     ensures { option_map (λ p. (p.0.now, p.1.now)) result ≡ used_up_of (equation_of form.now) }
 {
-    match equation_of(form) {
+    let head = form.head.get();
+    match equation_at(head, form.args.as_slice()) {
         Some((left, right)) => used_up(left, right),
         None => None,
     }

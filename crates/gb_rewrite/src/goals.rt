@@ -1,17 +1,18 @@
 // The goals of rules that put equals for equals.
 
-ghost use Rattle.std.specs.Prelude.{◌≡◌, [], ◌∷◌, map, Some, IfOk};
-ghost use Rattle.std.specs.Option.{option_copied};
+ghost use Rattle.std.specs.Prelude.{◌≡◌, [], ◌∷◌, map, IfOk};
+ghost use Rattle.std.specs.Option.{option_copied, option_map};
 ghost use Rattle.gb_goal.specs.Answers.{Answers};
 ghost use Rattle.gb_eval.specs.Script.{body_named};
-ghost use Rattle.gb_rewrite.specs.Rewriting.{hypothesis_rewritten, others, rewrite_answer, rewriting, rewriting_back, rewriting_by, substituting, opening, opening_by, using_up, using_up_hypothesis, without};
+ghost use Rattle.gb_rewrite.specs.Equations.{equivalence_of, exchanged};
+ghost use Rattle.gb_rewrite.specs.Rewriting.{hypothesis_rewritten, others, rewrite_answer, rewriting, substituting, opening, using_up, without};
 
 use crate::bodies::unfolded_everywhere;
 use crate::equations::{equivalence_of, used_up_by};
 use crate::rewritten::{rewritten, stands};
 use crate::unfolded::names;
 use gb_amb::goals::{alone, no_shape, one};
-use gb_amb::quantified::{refuse_goal_modules, refuse_modules};
+use gb_amb::quantified::{quantifies_modules, refuse_goal_modules};
 use gb_core::SharedItems;
 use gb_core::name::Name;
 use gb_core::place::Place;
@@ -24,52 +25,33 @@ use gb_terms::term::{Form, Term};
 use sqlite_items::Items;
 use std::alloc::{AllocError, Global};
 
-/// The goal with `by` in place of each `replaced` in the conclusion. Refused with `Shape` where none stands there, or where it
-/// isn't built.
+/// The goal with the second one of two terms in place of each first one in the conclusion. Refused with `Shape` where there are no such
+/// terms, where none stands there, or where it isn't built.
 fn rewriting(
     alloc: Global,
-    replaced: &Term,
-    by: &Term,
+    pair: Option<(&Term, &Term)>,
     place: Place,
     goal: &Sequent,
 ) -> Result<Sequents, Refused>
-    ensures { Answers (rewriting place goal.now (Some (replaced.now, by.now))) result }
+    ensures { Answers (rewriting place goal.now (option_map (λ p. (p.0.now, p.1.now)) pair.entry)) result }
 {
-    refuse_modules(place, &goal.conclusion)?;
-    if !stands(&goal.conclusion, replaced) {
+    let Some((replaced, by)) = pair else {
+        return Err(no_shape(place));
+    };
+    if quantifies_modules(&goal.conclusion) || !stands(&goal.conclusion, replaced) {
         return Err(no_shape(place));
     }
     let conclusion = rewritten(alloc, &goal.conclusion, replaced, by)?;
-    Ok(one(alloc, goal, conclusion)?)
+    one(alloc, goal, conclusion).map_err(Refused::from)
 }
 
-/// The goal with the right side of a known equation or equivalence in place of the left one.
-fn rewriting_by(
-    alloc: Global,
-    known: &Form,
-    place: Place,
-    goal: &Sequent,
-) -> Result<Sequents, Refused>
-    ensures { Answers (rewriting_by known.now place goal.now) result }
+/// The sides of a known equation or equivalence, the right one first.
+fn sides_back(known: &Form) -> Option<(&Term, &Term)>
+    ensures { option_map (λ p. (p.0.now, p.1.now)) result ≡ option_map exchanged (equivalence_of known.now) }
 {
     match equivalence_of(known) {
-        Some((left, right)) => rewriting(alloc, left, right, place, goal),
-        None => Err(no_shape(place)),
-    }
-}
-
-/// The goal with the left side of a known equation or equivalence in place of the right one.
-fn rewriting_back(
-    alloc: Global,
-    known: &Form,
-    place: Place,
-    goal: &Sequent,
-) -> Result<Sequents, Refused>
-    ensures { Answers (rewriting_back known.now place goal.now) result }
-{
-    match equivalence_of(known) {
-        Some((left, right)) => rewriting(alloc, right, left, place, goal),
-        None => Err(no_shape(place)),
+        Some((left, right)) => Some((right, left)),
+        None => None,
     }
 }
 
@@ -120,19 +102,22 @@ fn without(
     with_hypotheses(goal, hyps, conclusion)
 }
 
+/// The goal without a hypothesis, with one term in place of another one everywhere. Refused where there are no such terms.
 fn using_up(
     alloc: Global,
     hyp: usize,
-    replaced: &Term,
-    by: &Term,
+    pair: Option<(&Term, &Term)>,
     place: Place,
     goal: &Sequent,
 ) -> Result<Sequents, Refused>
-    ensures { Answers (using_up hyp place goal.now (Some (replaced.now, by.now))) result }
+    ensures { Answers (using_up hyp place goal.now (option_map (λ p. (p.0.now, p.1.now)) pair.entry)) result }
 {
+    let Some((replaced, by)) = pair else {
+        return Err(no_shape(place));
+    };
     refuse_goal_modules(place, goal)?;
     let without = without(alloc, hyp, replaced, by, goal)?;
-    Ok(alone(alloc, without)?)
+    alone(alloc, without).map_err(Refused::from)
 }
 
 /// The goal without a hypothesis that is an equation, by which a variable is replaced everywhere: the right side by the left one, or
@@ -147,22 +132,7 @@ fn substituting(
     ensures { Answers (substituting hyp place goal.now) result }
 {
     match goal.hyps.as_slice().get(hyp) {
-        Some(used) => using_up_hypothesis(alloc, hyp, used, place, goal),
-        None => Err(no_shape(place)),
-    }
-}
-
-fn using_up_hypothesis(
-    alloc: Global,
-    hyp: usize,
-    used: &Hyp,
-    place: Place,
-    goal: &Sequent,
-) -> Result<Sequents, Refused>
-    ensures { Answers (using_up_hypothesis hyp place goal.now (Some used.now)) result }
-{
-    match used_up_by(&used.form) {
-        Some((replaced, by)) => using_up(alloc, hyp, replaced, by, place, goal),
+        Some(used) => using_up(alloc, hyp, used_up_by(&used.form), place, goal),
         None => Err(no_shape(place)),
     }
 }
@@ -177,26 +147,8 @@ fn body_named<'a>(scope: &'a Scope, name: &Name) -> Option<&'a Term>
     }
 }
 
-/// The goal with a body in place of each application of an operator. Refused with `Shape` where none stands in the conclusion, or
-/// where it isn't built.
-fn opening_by(
-    alloc: Global,
-    name: &Name,
-    body: &Term,
-    place: Place,
-    goal: &Sequent,
-) -> Result<Sequents, Refused>
-    ensures { Answers (opening_by name.now place goal.now (Some body.now)) result }
-{
-    refuse_modules(place, &goal.conclusion)?;
-    if !names(&goal.conclusion, name) {
-        return Err(no_shape(place));
-    }
-    let conclusion = unfolded_everywhere(alloc, &goal.conclusion, name, body)?;
-    Ok(one(alloc, goal, conclusion)?)
-}
-
-/// The goal with an operator of the script unfolded.
+/// The goal with the body of an operator of the script in place of each application of it. Refused with `Shape` where none stands in the
+/// conclusion, or where it isn't built.
 fn opening(
     alloc: Global,
     scope: &Scope,
@@ -206,10 +158,14 @@ fn opening(
 ) -> Result<Sequents, Refused>
     ensures { Answers (opening scope.now name.now place goal.now) result }
 {
-    match body_named(scope, name) {
-        Some(body) => opening_by(alloc, name, body, place, goal),
-        None => Err(no_shape(place)),
+    let Some(body) = body_named(scope, name) else {
+        return Err(no_shape(place));
+    };
+    if quantifies_modules(&goal.conclusion) || !names(&goal.conclusion, name) {
+        return Err(no_shape(place));
     }
+    let conclusion = unfolded_everywhere(alloc, &goal.conclusion, name, body)?;
+    one(alloc, goal, conclusion).map_err(Refused::from)
 }
 
 /// The goals of a step that puts equals for equals. Refused at the place of the step, with `Shape`, where what it uses is no equation and
@@ -224,8 +180,8 @@ pub fn apply(
     ensures { Answers (rewrite_answer scope.now rule.now place goal.now) result }
 {
     match rule {
-        RewriteRule::Forward(known) => rewriting_by(alloc, known, place, goal),
-        RewriteRule::Back(known) => rewriting_back(alloc, known, place, goal),
+        RewriteRule::Forward(known) => rewriting(alloc, equivalence_of(known), place, goal),
+        RewriteRule::Back(known) => rewriting(alloc, sides_back(known), place, goal),
         RewriteRule::Subst(hyp) => substituting(alloc, *hyp, place, goal),
         RewriteRule::Unfold(name) => opening(alloc, scope, name, place, goal),
     }

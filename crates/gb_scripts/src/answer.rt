@@ -8,7 +8,7 @@ use gb_read_script::goal_tree::SequentTree;
 use gb_read_script::reading::{command, form};
 use gb_script::head::Head;
 use gb_session::script::verdict_on;
-use gb_theory::verdict::{Verdict, too_long};
+use gb_state::verdict::{Verdict, too_long};
 use std::alloc::{AllocError, Global};
 
 /// What a text is read as.

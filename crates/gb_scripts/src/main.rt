@@ -8,7 +8,8 @@
 //! `printed` makes a goal of each line of a file, from its leaves upwards: each word stands over what the words before it made. Printed
 //! are the text of the goal, or of its conclusion alone where the line begins with `form `, and what reading this text answers. A line
 //! that begins with `- ` is a title, and printed as it stands. `closed` makes goals so, and asks `smt` to close them: printed is `ok`,
-//! or the code of the refusal, with the width of a claim that is too wide.
+//! or the code of the refusal, with the width of a claim that is too wide. `evaluated` evaluates the terms that are made so, where 3 labels
+//! stand for the globals of A. `outside` reads, writes and takes as each line says, in memory, where a call fails.
 //!
 //! With a number `levels` makes the form with this many negations over one variable twice, compares the two and lets them go: a
 //! form has 65,536 nodes at most, so 65,535 levels are the deepest. `changed` puts `true` in the place of the variable of such a
@@ -20,18 +21,22 @@ mod claims;
 mod coins;
 mod context;
 mod deep;
+mod evaluated;
 mod heads;
 mod lines;
 mod maker;
 mod names;
 mod operators;
+mod outside;
 mod printed;
 mod programs;
 mod repeated;
 mod types;
 
 use crate::claims::close_lines;
+use crate::evaluated::evaluate_lines;
 use crate::lines::{answer_lines, kind_of};
+use crate::outside::answer_outside;
 use crate::printed::print_lines;
 use gb_outside::{OsFiles, ReadRefused, read_whole};
 use std::alloc::AllocError;
@@ -49,6 +54,8 @@ fn answer_file(rt: &HostRuntime, what: &str, name: &str) -> io::Result<()> {
             match what {
                 "printed" => print_lines(rt, text.as_str()),
                 "closed" => close_lines(rt, text.as_str()),
+                "evaluated" => evaluate_lines(rt, text.as_str()),
+                "outside" => answer_outside(rt, text.as_str()),
                 _ => answer_lines(rt, kind_of(what), text.as_str()),
             }
         }

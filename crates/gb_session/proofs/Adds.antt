@@ -15,8 +15,8 @@ use Rattle.gb_elab_prog.specs.Entries.{entries_given}
 use Rattle.gb_elab_mod.specs.Lemmas.{statement_given}
 use Rattle.gb_elab_prog.specs.Modules.{module_given}
 use Rattle.gb_theory.specs.Limits.{declaration_limit, each_limit, all_limit}
-use Rattle.gb_theory.specs.declared.state.Claim.{Claim}
-use Rattle.gb_theory.specs.declared.state.Claim.TheVariants as claim
+use Rattle.gb_state.specs.declared.state.Claim.{Claim}
+use Rattle.gb_state.specs.declared.state.Claim.TheVariants as claim
 use Rattle.gb_theory.specs.Built.{Session, OpenProof, with_goals, with_proved}
 use Rattle.gb_theory.specs.Combinators.{works}
 use Rattle.gb_theory.specs.Commands.{within, outside, brought, requires_files, brings, declares, loops_opened, opens, opens_loops, begun, ended, continued, WorksOn, InProof, ComesToOf, ComesTo}

@@ -1,22 +1,27 @@
 -- A command that is kept.
 use Rattle.std.proofs.Common.{◌≡◌, ℕ, ◌<◌, ◌≤◌, Bool, true, false, List, [], ◌∷◌, ◌++◌, length, take, Option, Some, None, if◌then◌else◌, nat_lt, refl, ap, sym, subst, ◌∙◌, arith}
+use Rattle.std.specs.Prelude.{Err}
 use Rattle.std.proofs.lemmas.Bool.Decides.{nat_tests}
 use Rattle.gb_core.specs.declared.place.Place.{Place}
+use Rattle.gb_core.specs.declared.refusal.Refused.{Refused}
+use Rattle.gb_core.specs.declared.refusal.Refused.TheVariants.{NoMemory, ReadFault, Script}
 use Rattle.gb_core.specs.declared.refusal.Why.{Why}
 use Rattle.gb_core.specs.declared.refusal.Why.TheVariants.{TooMany}
 use Rattle.gb_goal.specs.Answers.Answer.{given, refused}
 use Rattle.gb_shapes.specs.declared.place.Enumeration.{Enumeration}
 use Rattle.gb_script.specs.declared.tree.Node.{Node}
 use Rattle.gb_script.specs.Tree.{head_of, parts_of, place_of}
-use Rattle.gb_theory.specs.declared.state.State.{State}
-use Rattle.gb_theory.specs.Opened.{is_undeclared}
-use Rattle.gb_theory.specs.Sessions.{session_of}
+use Rattle.gb_state.specs.declared.state.State.{State}
+use Rattle.gb_state.specs.Opened.{is_undeclared}
+use Rattle.gb_theory.specs.Built.{Session}
+use Rattle.gb_theory.specs.Sessions.{session_of, IsDue, IsKept}
 use Rattle.gb_theory.specs.Commands.{After, within, ComesTo}
 use Rattle.gb_session.specs.History.{Stage, History, moved_on}
-use Rattle.gb_session.specs.Kept.{stage_of, before, stages_before, AreUndeclared}
-use Rattle.gb_session.specs.declared.kept.Kept.{Kept}
+use Rattle.gb_state.specs.Kept.{AreUndeclared, GoesBack, IsBefore, IsTakenBack, MayGoBack}
+use Rattle.gb_session.specs.Kept.{stage_of, before, stages_before}
+use Rattle.gb_state.specs.declared.kept.Kept.{Kept}
 use Rattle.gb_session.specs.Commands.{enumerated, stage_after, kept_limit, LeadsOn, CommandLeads}
-use Rattle.gb_session.proofs.Adds.{IsInFront, front}
+use Rattle.gb_session.proofs.Adds.{IsInFront, front, whole}
 use Rattle.gb_session.proofs.Stages.{history}
 
 -- what stands now, as it is kept
@@ -42,6 +47,31 @@ pub undeclared_then : (s t : State) (es : List Enumeration) (ks js : List Kept) 
     → AreUndeclared ks s.scope → AreUndeclared js t.scope
 undeclared_then s t es ks js is scope h =
     subst (λ x. AreUndeclared x t.scope) (sym is) (ap (λ ds. is_undeclared ds s.proof) scope ∙ s.undeclared, subst (AreUndeclared ks) (sym scope) h)
+
+in_front : (s t : State) → session_of t ≡ session_of s → take (length s.scope) t.scope ≡ s.scope
+in_front s t same = ap (λ (x : Session). take (length s.scope) x.scope) same ∙ whole s.scope
+
+-- a command that is refused may be taken back
+pub may_go_back : (e : Refused) (s t : State) (es : List Enumeration) (ks js : List Kept) → js ≡ kept_of s es ∷ ks → IsKept (session_of s) (session_of t) (Err e)
+    → AreUndeclared ks s.scope → MayGoBack e js t.scope
+may_go_back (Script why place) s t es ks js is kept h = undeclared_then s t es ks js is (in_front s t (kept why place refl)) h
+may_go_back NoMemory s t es ks js is kept h = tt
+may_go_back ReadFault s t es ks js is kept h = tt
+
+-- the same state, where the counts are those of the state
+stands_again : (s t u : State) (es : List Enumeration) → session_of t ≡ session_of s → IsBefore (kept_of s es) t u → stage_of u es ≡ stage_of s es
+stands_again s t u es same b =
+    let scope : u.scope ≡ s.scope = b.scope ∙ in_front s t same in
+    let lemmas : u.lemmas ≡ s.lemmas = b.lemmas ∙ ap (λ (x : Session). take (length s.lemmas) x.lemmas) same ∙ whole s.lemmas in
+    rw (scope, b.proof, lemmas) refl
+
+-- a command that is refused leaves what stood before it
+pub taken_back : (file : List ℕ) (keeps : Bool) (s t u : State) (es : List Enumeration) (ks js left : List Kept) (why : Why) (place : Place)
+    → js ≡ kept_of s es ∷ ks → session_of t ≡ session_of s → IsTakenBack (Script why place) js left t u
+    → history file keeps (stage_of u es) left ≡ history file keeps (stage_of s es) ks
+taken_back file keeps s t u es ks js left why place is same (r, back) =
+    let g = subst (λ x. GoesBack x left t u r) is back in
+    ap (λ x. history file keeps (stage_of u es) x) g.0 ∙ ap (λ x. history file keeps x ks) (stands_again s t u es same g.1)
 
 -- the limit that is met unless this test holds
 abbrev limit : Bool → Option ℕ
@@ -88,6 +118,13 @@ refused_by file keeps s es ks c h why place is none came =
     let before : History = history file keeps (stage_of s es) ks in
     subst (λ x. CommandLeads x c (refused why place)) is
     (subst (λ (o : Option ℕ). After (within o (place_of c)) (λ _. LeadsOn before c) (refused why place)) (sym none) (refused why place, came, refl))
+
+pub due_by : (file : List ℕ) (keeps : Bool) (s : State) (es : List Enumeration) (ks : List Kept) (c : Node) (h : History) (e : Refused)
+    → history file keeps (stage_of s es) ks ≡ h → kept_limit (history file keeps (stage_of s es) ks) ≡ None
+    → IsDue (ComesTo (session_of s) c) e → IsDue (CommandLeads h c) e
+due_by file keeps s es ks c h (Script why place) is none came = refused_by file keeps s es ks c h why place is none came
+due_by file keeps s es ks c h NoMemory is none came = tt
+due_by file keeps s es ks c h ReadFault is none came = came
 
 -- a command that was run leads on
 pub leads_on : (file : List ℕ) (keeps : Bool) (s t : State) (es fs more : List Enumeration) (ks : List Kept) (c : Node) (h next : History) → history file keeps (stage_of s es) ks ≡ h

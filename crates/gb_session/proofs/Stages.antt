@@ -1,44 +1,50 @@
 -- What stood before, as it is kept.
-use Rattle.std.proofs.Common.{◌≡◌, ℕ, zero, suc, ◌+◌, ◌-◌, ◌<◌, Bool, true, false, List, [], ◌∷◌, length, take, refl, ap, sym, subst, ◌∙◌, arith}
+use Rattle.std.proofs.Common.{◌≡◌, ℕ, zero, suc, ◌+◌, ◌-◌, ◌<◌, Bool, true, false, List, [], ◌∷◌, length, take, Some, None, refl, ap, sym, subst, ◌∙◌, arith}
 use Rattle.gb_goal.specs.Scope.{Declarations}
 use Rattle.gb_shapes.specs.declared.place.Enumeration.{Enumeration}
-use Rattle.gb_theory.specs.declared.state.State.{State}
-use Rattle.gb_theory.specs.Opened.{is_undeclared}
+use Rattle.gb_state.specs.declared.state.State.{State}
+use Rattle.gb_state.specs.Opened.{is_undeclared}
 use Rattle.gb_session.specs.History.{Stage, History, back_to, has_earlier, undone}
-use Rattle.gb_session.specs.Kept.{stage_of, before, stages_before, AreUndeclared}
-use Rattle.gb_session.specs.declared.kept.Kept.{Kept}
+use Rattle.gb_state.specs.Kept.{AreUndeclared, GoesBack}
+use Rattle.gb_session.specs.Kept.{stage_of, before, stages_before}
+use Rattle.gb_state.specs.declared.kept.Kept.{Kept}
 
 -- a session with this behind and before it
 abbrev pub history : List ℕ → Bool → Stage → List Kept → History
 history file keeps s ks = record { file = file; keeps = keeps; present = s; earlier = stages_before ks s }
 
-pub undeclared_before : (ks rest : List Kept) (k : Kept) (ds : Declarations) → ks ≡ k ∷ rest → AreUndeclared ks ds
-    → (is_undeclared (take k.declared ds) k.proof ≡ true) × AreUndeclared rest (take k.declared ds)
-undeclared_before ks rest k ds e h = subst (λ x. AreUndeclared x ds) e h
+pub same_stage : (s t : State) (es fs : List Enumeration) (k : Kept) → t.scope ≡ take k.declared s.scope → t.proof ≡ k.proof → t.lemmas ≡ take k.proved s.lemmas
+    → fs ≡ take k.enumerated es → stage_of t fs ≡ before k (stage_of s es)
+same_stage s t es fs k scope proof lemmas enumerations = rw (scope, proof, lemmas, enumerations) refl
+
+some_is : {A : Type 0} (x y : A) → Some x ≡ Some y → x ≡ y
+some_is x y e = cc
 
 -- one command is taken off
-pub goes_back : (file : List ℕ) (keeps : Bool) (s t : Stage) (ks rest : List Kept) (k : Kept) → ks ≡ k ∷ rest → t ≡ before k s
-    → history file keeps t rest ≡ back_to (stages_before ks s) (history file keeps s ks)
-goes_back file keeps s t ks rest k e is =
-    ap (λ x. history file keeps x rest) is ∙ ap (λ x. back_to (stages_before x s) (history file keeps s x)) (sym e)
+pub goes_back : (file : List ℕ) (keeps : Bool) (s t : State) (es fs : List Enumeration) (ks left : List Kept) (n : ℕ) → GoesBack ks left s t (Some n) → fs ≡ take n es
+    → history file keeps (stage_of t fs) left ≡ back_to (stages_before ks (stage_of s es)) (history file keeps (stage_of s es) ks)
+goes_back file keeps s t es fs [] left n (empty, same, e) is = absurd (cc)
+goes_back file keeps s t es fs (k ∷ ks) left n (rest, b, e) is =
+    ap (λ x. history file keeps (stage_of t fs) x) rest
+    ∙ ap (λ x. history file keeps x ks) (same_stage s t es fs k b.scope b.proof b.lemmas (is ∙ ap (λ m. take m es) (some_is n k.enumerated e)))
 
-pub none_before : (file : List ℕ) (keeps : Bool) (s : Stage) (ks : List Kept) → ks ≡ []
-    → history file keeps s [] ≡ back_to (stages_before ks s) (history file keeps s ks)
-none_before file keeps s ks e = ap (λ x. back_to (stages_before x s) (history file keeps s x)) (sym e)
+pub none_before : (file : List ℕ) (keeps : Bool) (s t : State) (es : List Enumeration) (ks left : List Kept) → GoesBack ks left s t None
+    → history file keeps (stage_of t es) left ≡ back_to (stages_before ks (stage_of s es)) (history file keeps (stage_of s es) ks)
+none_before file keeps s t es [] left (empty, same, e) =
+    ap (λ x. history file keeps (stage_of t es) x) empty ∙ ap (λ (x : State). history file keeps (stage_of x es) []) same
+none_before file keeps s t es (k ∷ ks) left (rest, b, e) = absurd (cc)
 
-pub some_kept : (s : Stage) (ks rest : List Kept) (k : Kept) → ks ≡ k ∷ rest → true ≡ has_earlier (stages_before ks s)
-some_kept s ks rest k e = ap (λ x. has_earlier (stages_before x s)) (sym e)
+pub some_kept : (s t : State) (x : Stage) (ks left : List Kept) (n : ℕ) → GoesBack ks left s t (Some n) → true ≡ has_earlier (stages_before ks x)
+some_kept s t x [] left n (empty, same, e) = absurd (cc)
+some_kept s t x (k ∷ ks) left n g = refl
 
-pub none_kept : (s : Stage) (ks : List Kept) → ks ≡ [] → false ≡ has_earlier (stages_before ks s)
-none_kept s ks e = ap (λ x. has_earlier (stages_before x s)) (sym e)
+pub none_kept : (s t : State) (x : Stage) (ks left : List Kept) → GoesBack ks left s t None → false ≡ has_earlier (stages_before ks x)
+none_kept s t x [] left g = refl
+none_kept s t x (k ∷ ks) left (rest, b, e) = absurd (cc)
 
 pub length_before : (ks : List Kept) (s : Stage) → length (stages_before ks s) ≡ length ks
 length_before [] s = refl
 length_before (k ∷ ks) s = ap suc (length_before ks (before k s))
-
-pub same_stage : (s t : State) (es fs : List Enumeration) (k : Kept) → t.scope ≡ take k.declared s.scope → t.proof ≡ k.proof → t.lemmas ≡ take k.proved s.lemmas
-    → fs ≡ take k.enumerated es → stage_of t fs ≡ before k (stage_of s es)
-same_stage s t es fs k scope proof lemmas enumerations = rw (scope, proof, lemmas, enumerations) refl
 
 -- where nothing is left, nothing is taken off
 stays : (n : ℕ) (h : History) → h.earlier ≡ [] → undone n h ≡ h

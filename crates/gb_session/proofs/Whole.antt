@@ -1,23 +1,24 @@
 -- A session that keeps nothing runs the commands of a script.
 use Rattle.std.proofs.Common.{◌≡◌, ℕ, Bool, true, false, List, Option, Some, None, if◌then◌else◌, refl, ap, sym, subst}
-use Rattle.std.specs.Prelude.{Result, Ok, Err}
+use Rattle.std.specs.Prelude.{Result, Ok, Err, IfOk, IfErr}
 use Rattle.gb_core.specs.declared.place.Place.{Place}
 use Rattle.gb_core.specs.declared.refusal.Refused.{Refused}
 use Rattle.gb_core.specs.declared.refusal.Refused.TheVariants.{NoMemory, ReadFault, Script}
 use Rattle.gb_core.specs.declared.refusal.Why.{Why}
+use Rattle.gb_core.specs.declared.refusal.Why.TheVariants.{Unclosed}
 use Rattle.gb_script.specs.declared.tree.Node.{Node}
 use Rattle.gb_script.specs.Tree.{place_of}
-use Rattle.gb_goal.specs.Answers.{Answer, Gives}
+use Rattle.gb_goal.specs.Answers.{Answer}
 use Rattle.gb_goal.specs.Answers.Answer.{given, refused}
 use Rattle.gb_theory.specs.Built.{Session, OpenProof}
 use Rattle.gb_theory.specs.Commands.{After, ComesTo, within}
 use Rattle.gb_theory.specs.Outcome.{IsEnd, IsOutcome}
-use Rattle.gb_theory.specs.Sessions.{IsDue, Meets}
+use Rattle.gb_theory.specs.Sessions.{IsDue}
 use Rattle.gb_theory.specs.Verdicts.{PieceRunsTo, IsVerdict}
-use Rattle.gb_theory.specs.declared.verdict.Verdict.TheVariants as verdict
+use Rattle.gb_state.specs.declared.verdict.Verdict.{Verdict}
+use Rattle.gb_state.specs.Verdicts.{IsVerdictAt}
 use Rattle.gb_session.specs.History.{History}
-use Rattle.gb_session.specs.Commands.{LeadsOn, CommandLeads, TextLeads, finished_by}
-use Rattle.gb_session.specs.Listed.{IsListed}
+use Rattle.gb_session.specs.Commands.{LeadsOn, CommandLeads, TextLeads}
 use Rattle.gb_session.proofs.Given.{given_is, nothing_given}
 
 no_limit : (t : Bool) (x : Option ℕ) → t ≡ false → (if t then x else None) ≡ None
@@ -70,34 +71,18 @@ piece_refused h text at (Script why place) off (refused w p, read, e) = (refused
     again : (w v : Why) (p q : Place) → ◌≡◌ {A = Answer History} (refused w p) (refused v q) → ◌≡◌ {A = Answer Session} (refused w p) (refused v q)
     again w v p q e = cc
 
--- the lemmas at the end
-pub listed : (text : List ℕ) (s : Session) (proof : Option OpenProof) (end : Place) (r : Result (List (List ℕ)) Refused)
-    → ((x : Answer Session) → IsEnd s proof end x → IsOutcome text x) → Gives (λ names. names) (finished_by s proof end) r
-    → Meets (λ names. names) (IsListed text) r
-listed text s None end (Ok names) on gives = (given s, on (given s) refl, sym gives)
-listed text s None end (Err NoMemory) on gives = tt
-listed text s None end (Err ReadFault) on gives = gives
-listed text s None end (Err (Script why place)) on gives = absurd (cc)
-listed text s (Some p) end (Ok names) on gives = absurd (cc)
-listed text s (Some p) end (Err NoMemory) on gives = tt
-listed text s (Some p) end (Err ReadFault) on gives = gives
-listed text s (Some p) end (Err (Script why place)) on gives =
-    (refused _ end, on (refused _ end) refl, sym gives)
+-- the verdict is that of the end to which the script comes
+pub verdict_due : (text : List ℕ) (s : Session) (proof : Option OpenProof) (end : Result Place Refused) (v : Verdict)
+    → IfOk end (λ place. (r : Answer Session) → IsEnd s proof place r → IsOutcome text r) → IfErr end (IsDue (IsOutcome text))
+    → IsVerdictAt proof s.lemmas end v → IsVerdict text v
+verdict_due text s None (Ok place) v on due is = (given s, on (given s) refl, is)
+verdict_due text s (Some p) (Ok place) v on due is = (refused Unclosed place, on (refused Unclosed place) refl, is)
+verdict_due text s proof (Err (Script why place)) v on due is = (refused why place, due, is)
+verdict_due text s proof (Err NoMemory) v on due is = absurd is
+verdict_due text s proof (Err ReadFault) v on due is = absurd is
 
--- a refusal of a command is one of the script
-pub refusal_listed : (text : List ℕ) (e : Refused) → IsDue (IsOutcome text) e → IsDue (IsListed text) e
-refusal_listed text NoMemory due = tt
-refusal_listed text ReadFault due = due
-refusal_listed text (Script why place) due = (refused why place, due, refl)
-
--- the verdict is that of the lemmas, or of the refusal
-pub accepts : (text : List ℕ) (names : List (List ℕ)) → IsListed text (given names) → IsVerdict text (verdict.Accepted names)
-accepts text names (given s, comes, e) = (given s, comes, ap verdict.Accepted (given_is names s.lemmas e))
-accepts text names (refused w p, comes, e) = nothing_given w p names (sym e)
-
-pub refuses : (text : List ℕ) (why : Why) (place : Place) → IsListed text (refused why place) → IsVerdict text (verdict.Refused why place)
-refuses text why place (given s, comes, e) = nothing_given why place s.lemmas e
-refuses text why place (refused w p, comes, e) = (refused w p, comes, told why w place p e)
-  where
-    told : (w v : Why) (p q : Place) → ◌≡◌ {A = Answer (List (List ℕ))} (refused w p) (refused v q) → verdict.Refused w p ≡ verdict.Refused v q
-    told w v p q e = cc
+pub verdicts_due : {E : Type 0} (text : List ℕ) (s : Session) (end : Result Place Refused) (v : Result Verdict E)
+    → IfOk end (λ place. (r : Answer Session) → IsEnd s s.proof place r → IsOutcome text r) → IfErr end (IsDue (IsOutcome text))
+    → IfOk v (IsVerdictAt s.proof s.lemmas end) → IfOk v (IsVerdict text)
+verdicts_due text s end (Ok v) on due is = verdict_due text s s.proof end v on due is
+verdicts_due text s end (Err e) on due is = tt

@@ -4,7 +4,6 @@ use Rattle.gb_core.specs.declared.place.Place.{Place}
 use Rattle.gb_core.specs.declared.refusal.Why.{Why}
 use Rattle.gb_core.specs.declared.refusal.Refused.{Refused}
 use Rattle.gb_core.specs.declared.refusal.Refused.TheVariants.{Script}
-use Rattle.gb_core.specs.declared.refusal.Why.TheVariants.{Unclosed}
 use Rattle.gb_terms.specs.Nodes.{saturated}
 use Rattle.gb_shapes.specs.declared.place.Enumeration.{Enumeration}
 use Rattle.gb_script.specs.declared.head.Head.{Head}
@@ -13,8 +12,8 @@ use Rattle.gb_script.specs.declared.tree.Node.{Node}
 use Rattle.gb_script.specs.Tree.{head_of, text_of, parts_of, place_of}
 use Rattle.gb_limits.specs.Numbers.{number_of}
 use Rattle.gb_goal.specs.Answers.{Answer, ◌>>=◌}
-use Rattle.gb_goal.specs.Answers.Answer.{given, refused}
-use Rattle.gb_theory.specs.Built.{Session, OpenProof}
+use Rattle.gb_goal.specs.Answers.Answer.{given}
+use Rattle.gb_theory.specs.Built.{Session}
 use Rattle.gb_theory.specs.Commands.{After, ComesTo, within}
 use Rattle.gb_theory.specs.Outcome.{IsReadAs}
 use Rattle.gb_session.specs.History.{Stage, History, moved_on, undone}
@@ -74,11 +73,3 @@ EntryLeads h text at r = Reads (LineLeads h) text at r
 -- A refusal leaves the session as it was. Where memory runs out nothing is said of it.
 abbrev pub IsLeft : {A : Type 0} → History → History → Result A Refused → Type 0
 IsLeft old new r = (why : Why) (place : Place) → r ≡ Err (Script why place) → new ≡ old
-
--- the lemmas of a session that ends here, where no proof is open
-abbrev pub finished_by : Session → Option OpenProof → Place → Answer (List (List ℕ))
-finished_by s None place = given s.lemmas
-finished_by s (Some p) place = refused Unclosed place
-
-abbrev pub finished : Session → Place → Answer (List (List ℕ))
-finished s place = finished_by s s.proof place

@@ -1,12 +1,10 @@
 -- What is kept of each command, and what stood before it.
-use Rattle.std.specs.Prelude.{◌≡◌, true, List, [], ◌∷◌, take, option_map}
-use Rattle.gb_goal.specs.Scope.{Declarations}
+use Rattle.std.specs.Prelude.{List, [], ◌∷◌, take, option_map}
 use Rattle.gb_shapes.specs.declared.place.Enumeration.{Enumeration}
-use Rattle.gb_theory.specs.declared.state.State.{State}
-use Rattle.gb_theory.specs.Opened.{is_undeclared}
+use Rattle.gb_state.specs.declared.state.State.{State}
 use Rattle.gb_theory.specs.Sessions.{session_of, open_of}
 use Rattle.gb_session.specs.History.{Stage}
-use Rattle.gb_session.specs.declared.kept.Kept.{Kept}
+use Rattle.gb_state.specs.declared.kept.Kept.{Kept}
 
 abbrev pub stage_of : State → List Enumeration → Stage
 stage_of s es = record { session = session_of s; enumerations = es }
@@ -22,8 +20,3 @@ before k s = record {
 abbrev pub stages_before : List Kept → Stage → List Stage
 stages_before [] s = []
 stages_before (k ∷ ks) s = before k s ∷ stages_before ks (before k s)
-
--- under the name of a proof that was open nothing was declared then
-abbrev pub AreUndeclared : List Kept → Declarations → Type 0
-AreUndeclared [] ds = Unit {0}
-AreUndeclared (k ∷ ks) ds = (is_undeclared (take k.declared ds) k.proof ≡ true) × AreUndeclared ks (take k.declared ds)

@@ -2,4 +2,3 @@ pub mod History
 pub mod Kept
 pub mod Commands
 pub mod Screen
-pub mod Listed

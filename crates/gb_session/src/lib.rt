@@ -2,7 +2,6 @@
 #![tactic(auto)]
 
 mod enumerations;
-mod kept;
 pub mod laws;
 pub mod screen;
 pub mod script;

@@ -9,8 +9,8 @@ ghost use Rattle.gb_session.specs.Screen.{shown_of, first_goal, screen_in, scree
 
 use gb_print::goal::print_goal;
 use gb_shapes::place::Enumeration;
+use gb_state::state::{OpenProof, State};
 use gb_steps::goals::Goals;
-use gb_theory::state::{OpenProof, State};
 use std::alloc::{AllocError, Global};
 
 /// Whether a proof is open, and how many goals it has left.

@@ -4,19 +4,17 @@ ghost use Rattle.std.specs.Prelude.{◌≡◌, ◌<◌, ◌^◌, false, length, 
 ghost use Rattle.gb_goal.specs.Answers.{Answer};
 ghost use Rattle.gb_theory.specs.Built.{Session as Built};
 ghost use Rattle.gb_theory.specs.Outcome.{IsEnd, IsOutcome};
-ghost use Rattle.gb_theory.specs.Sessions.{IsDue, Meets};
+ghost use Rattle.gb_theory.specs.Sessions.{IsDue};
 ghost use Rattle.gb_theory.specs.Verdicts.{IsVerdict};
 ghost use Rattle.gb_session.specs.History.{fresh_history};
-ghost use Rattle.gb_session.specs.Listed.{IsListed};
 
 use crate::session::Session;
-use gb_core::name::Names;
 use gb_core::place::Place;
 use gb_core::refusal::{Refused, Why};
 use gb_lex::commands::cut;
 use gb_lex::places::advance;
 use gb_lex::token::Cut;
-use gb_theory::verdict::Verdict;
+use gb_state::verdict::Verdict;
 use std::alloc::{AllocError, Global};
 
 /// The first byte of the file.
@@ -31,32 +29,18 @@ pub fn verdict_on(alloc: Global, file: &str, text: &[u8]) -> Result<Verdict, All
     requires { length text.now < 2 ^ 31 }
     ensures { IfOk result (IsVerdict text.now) }
 {
-    match lemmas(alloc, file, text) {
-        Ok(lemmas) => Ok(Verdict::Accepted(lemmas)),
-        Err(Refused::Script { why, place }) => Ok(Verdict::Refused { why, place }),
-        Err(Refused::NoMemory | Refused::ReadFault) => Err(AllocError),
-    }
+    let mut session = Session::new(alloc, file, false)?;
+    verdict_in(alloc, &mut session, text)
 }
 
-/// The lemmas of a script, or its first refusal.
-fn lemmas(alloc: Global, file: &str, text: &[u8]) -> Result<Names, Refused>
-    requires { length text.now < 2 ^ 31 }
-    ensures { Meets (λ names. names) (IsListed text.now) result }
-{
-    match Session::new(alloc, file, false) {
-        Ok(mut session) => lemmas_of(alloc, &mut session, text),
-        Err(_) => Err(Refused::NoMemory),
-    }
-}
-
-/// The lemmas of a script whose commands run in this session, or its first refusal.
-fn lemmas_of(alloc: Global, session: &mut Session, text: &[u8]) -> Result<Names, Refused>
+/// The verdict on a script whose commands run in this session.
+fn verdict_in(alloc: Global, session: &mut Session, text: &[u8]) -> Result<Verdict, AllocError>
     requires size { length text.now < 2 ^ 31 }
     requires fresh { session.old ≡ fresh_history session.old.file false }
-    ensures { Meets (λ names. names) (IsListed text.now) result }
+    ensures { IfOk result (IsVerdict text.now) }
 {
-    let end = run(alloc, session, text)?;
-    session.finish(alloc, end)
+    let end = run(alloc, session, text);
+    session.verdict(alloc, end)
 }
 
 /// Runs the commands of a script in their order, up to the first refusal, and says where it ends: `Unclosed` where a command is

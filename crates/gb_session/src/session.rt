@@ -1,28 +1,28 @@
 // The session: commands, and taking them back.
 
 ghost use Rattle.std.specs.Prelude.{◌≡◌, ◌+◌, ◌<◌, ◌^◌, length, min, IfOk, MatchOption};
-ghost use Rattle.gb_goal.specs.Answers.{Gives};
 ghost use Rattle.gb_script.specs.Tree.{text_of};
 ghost use Rattle.gb_limits.specs.Numbers.{number_of};
 ghost use Rattle.gb_terms.specs.Nodes.{saturated};
+ghost use Rattle.gb_state.specs.Verdicts.{IsVerdictAt};
 ghost use Rattle.gb_theory.specs.Sessions.{Meets};
 ghost use Rattle.gb_session.specs.History.{fresh_history, back_to, has_earlier, undone};
-ghost use Rattle.gb_session.specs.Commands.{CommandLeads, TextLeads, LineLeads, EntryLeads, IsLeft, finished, taken_by};
+ghost use Rattle.gb_session.specs.Commands.{CommandLeads, TextLeads, LineLeads, EntryLeads, IsLeft, taken_by};
 ghost use Rattle.gb_session.specs.Screen.{shown_of, screen_of};
 
 use crate::enumerations::{Enumerations, cut_back, enumerated};
-use crate::kept::{Kept, now_kept};
 use crate::screen::{Shown, screen, shows};
 use gb_core::Stack;
-use gb_core::copy::copy_names;
-use gb_core::name::{Name, Names};
+use gb_core::name::Name;
 use gb_core::place::Place;
 use gb_core::refusal::{Refused, Why};
 use gb_limits::numbers::number;
 use gb_script::head::Head;
 use gb_script::tree::Node;
+use gb_state::kept::{Kept, go_back, now_kept, take_back};
+use gb_state::state::State;
+use gb_state::verdict::{Verdict, verdict_of};
 use gb_theory::fold::execute;
-use gb_theory::state::State;
 use gb_theory::verdict::read_command;
 use sqlite_items::Items;
 use std::alloc::{AllocError, Global};
@@ -46,7 +46,8 @@ impl Model for Session {
     ghost use Rattle.gb_goal.specs.contracts.scope.Entry as entry;
     ghost use Rattle.gb_goal.specs.contracts.sequent.Sequent as sequent;
     ghost use Rattle.gb_session.specs.History.{History};
-    ghost use Rattle.gb_session.specs.Kept.{stage_of, stages_before, AreUndeclared};
+    ghost use Rattle.gb_state.specs.Kept.{AreUndeclared};
+    ghost use Rattle.gb_session.specs.Kept.{stage_of, stages_before};
 
     ghost Value = { History };
 
@@ -125,18 +126,11 @@ impl Session {
         screen(alloc, &self.state, self.enumerations.as_slice())
     }
 
-    /// The lemmas of a session that ends here, in the order of their proofs; it is refused where a proof is open.
-    pub fn finish(&self, alloc: Global, at: Place) -> Result<Names, Refused>
-        ensures { Gives (λ lemmas. lemmas) (finished self.now.present.session at) result }
+    /// The verdict on a script that ends so in this session. Its only error is want of memory.
+    pub fn verdict(&self, alloc: Global, end: Result<Place, Refused>) -> Result<Verdict, AllocError>
+        ensures { IfOk result (IsVerdictAt self.now.present.session.proof self.now.present.session.lemmas end) }
     {
-        if self.state.proof.is_some() {
-            return Err(Refused::Script {
-                why: Why::Unclosed,
-                place: at,
-            });
-        }
-        let lemmas = copy_names(alloc, self.state.lemmas.as_slice())?;
-        Ok(lemmas)
+        verdict_of(alloc, &self.state, end)
     }
 
     /// What stood before the last command stands again, if there is one. It takes no memory.
@@ -144,16 +138,9 @@ impl Session {
         ensures session { self.new ≡ back_to self.old.earlier self.old }
         ensures done { result ≡ has_earlier self.old.earlier }
     {
-        let Some(last) = self.kept.pop() else {
+        let Some(enumerated) = go_back(&mut self.state, &mut self.kept) else {
             return false;
         };
-        let Kept {
-            declared,
-            proved,
-            enumerated,
-            proof,
-        } = last;
-        self.state.restore(declared, proved, proof);
         cut_back(&mut self.enumerations, enumerated);
         true
     }
@@ -195,13 +182,9 @@ impl Session {
                 }
                 Ok(())
             }
-            Err(Refused::Script { why, place }) => {
-                self.back();
-                Err(Refused::Script { why, place })
-            }
-            Err(other) => {
-                self.kept = Stack::new(alloc);
-                Err(other)
+            Err(refused) => {
+                take_back(alloc, &refused, &mut self.state, &mut self.kept);
+                Err(refused)
             }
         }
     }

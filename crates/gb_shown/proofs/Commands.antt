@@ -35,8 +35,8 @@ use Rattle.gb_shown.proofs.Paths.{name_is_path, path_behind}
 use Rattle.gb_theory.specs.Built.{Session, OpenProof, with_goals, with_proved}
 use Rattle.gb_theory.specs.Commands.{within, allowed, all_allowed, outside, brought, requires_files, brings, declares, loops_opened, opens, opens_loops, begun, ended, InProof, ComesToOf, ComesTo}
 use Rattle.gb_theory.specs.Limits.{declaration_limit, each_limit, all_limit}
-use Rattle.gb_theory.specs.declared.state.Claim.{Claim}
-use Rattle.gb_theory.specs.declared.state.Claim.TheVariants as claim
+use Rattle.gb_state.specs.declared.state.Claim.{Claim}
+use Rattle.gb_state.specs.declared.state.Claim.TheVariants as claim
 use Rattle.gb_session.specs.Commands.{enumerated}
 use Rattle.gb_accepted.proofs.Declarations.{operand_there}
 use Rattle.gb_accepted.proofs.Given.{nothing_given, given_outside, given_placed}

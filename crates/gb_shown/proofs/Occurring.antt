@@ -22,9 +22,9 @@ use Rattle.gb_terms.specs.Equal.{side_eq}
 use Rattle.gb_goal.specs.Scope.{Declarations, procedure_of}
 use Rattle.gb_meaning.specs.Commands.{terms_in}
 use Rattle.gb_meaning.specs.Trees.{distributions}
-use Rattle.gb_typed.specs.Finite.{IsFinite}
-use Rattle.gb_typed.specs.Operators.{row, tuples}
-use Rattle.gb_typed.proofs.Constructors.{distribution_is, tuple_is}
+use Rattle.gb_laws.specs.Finite.{IsFinite}
+use Rattle.gb_laws.specs.Operators.{row, tuples}
+use Rattle.gb_laws.proofs.Constructors.{distribution_is, tuple_is}
 use Rattle.gb_typing.specs.Context.{Context}
 use Rattle.gb_typing.specs.Programs.{IsStatement, AreStatements, EachStatement}
 use Rattle.gb_elab_mod.specs.Occurring.{Locals, local, or_args, read_locals, outcome_local, sampled, each_local, part_locals, taking, returned, row_read, statement_locals, row_locals, added, with_all, occurring}

@@ -17,7 +17,7 @@ use Rattle.gb_goal.specs.declared.sequent.Hyp.{Hyp}
 use Rattle.gb_goal.specs.declared.sequent.Sequent.{Sequent}
 use Rattle.gb_goal.specs.Goal.{goal_at}
 use Rattle.gb_meaning.specs.Commands.{terms_in}
-use Rattle.gb_changes.proofs.Trees.{out_is}
+use Rattle.gb_laws.proofs.Trees.{out_is}
 use Rattle.gb_names.specs.Environment.{Name}
 use Rattle.gb_names.specs.Locals.{first_some, goal_read_type, hyps_read_type, local_if, locals_in, read_type, reads_local}
 use Rattle.gb_names.proofs.ReadTypes.{read_type_out}

@@ -68,7 +68,7 @@ use Rattle.gb_readback.specs.Written.{is_name_text, is_path}
 use Rattle.gb_spelt_laws.specs.Named.{IsNamedType, IsNamedSubject, IsNamedHead, IsNamed, IsNamedInstr, IsNamedCode, IsNamedGoal, IsNamedSequent}
 use Rattle.gb_spelt_laws.specs.Rules.{AreNamedArguments, IsNamedIfAny, IsNamedProcedure, IsNamedRelational, IsNamedRule, IsNamedStep}
 use Rattle.gb_spelt_laws.proofs.Forms.{as_result}
-use Rattle.gb_spelt_laws.proofs.Goals.{no_front}
+use Rattle.gb_spelt_laws.proofs.NamedGoals.{no_front}
 use Rattle.gb_spelt_laws.proofs.Statements.{EachNamed}
 use Rattle.gb_spelt_laws.proofs.Trees.{AllNamed, parts_named}
 use Rattle.gb_shown.specs.Scopes.{IsNamedScope, IsNamedSetting, IsNamedWanted}

@@ -9,7 +9,7 @@ use Rattle.gb_core.specs.declared.ty.Ty.{Ty, out-Ty}
 use Rattle.gb_core.specs.declared.ty.Ty.TheVariants as ty
 use Rattle.gb_core.specs.declared.ty.Ty.TheOpen as layer
 use Rattle.gb_core.specs.declared.ty.Ty.TheViews.{out-roll-Ty}
-use Rattle.gb_typed.proofs.Constructors.{map_is, option_is, tuple_is}
+use Rattle.gb_laws.proofs.Constructors.{map_is, option_is, tuple_is}
 use Rattle.gb_script.specs.declared.head.Head.{Head}
 use Rattle.gb_script.specs.declared.head.Head.TheVariants as head
 use Rattle.gb_script.specs.declared.tree.Node.{Node}

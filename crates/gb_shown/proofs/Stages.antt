@@ -8,8 +8,8 @@ use Rattle.gb_spelt_laws.specs.Named.{IsNamedSequent}
 use Rattle.gb_shown.specs.Scopes.{IsNamedScope, IsNamedStatement}
 use Rattle.gb_shown.proofs.Later.{all_so}
 use Rattle.gb_theory.specs.Built.{Session, OpenProof}
-use Rattle.gb_theory.specs.declared.state.Claim.{Claim}
-use Rattle.gb_theory.specs.declared.state.Claim.TheVariants as claim
+use Rattle.gb_state.specs.declared.state.Claim.{Claim}
+use Rattle.gb_state.specs.declared.state.Claim.TheVariants as claim
 use Rattle.gb_session.specs.History.{Stage, fresh_stage}
 use Rattle.gb_accepted.proofs.Good.{IsGood, fresh_is_good}
 

@@ -3,8 +3,8 @@ use Rattle.std.proofs.Common.{◌≡◌, List, [], ◌∷◌, Some, sym, ◌∙�
 use Rattle.std.specs.List.{AllByRecursion}
 use Rattle.gb_core.specs.declared.ty.Ty.{Ty}
 use Rattle.gb_core.specs.declared.ty.Ty.TheVariants as ty
-use Rattle.gb_typed.specs.Operators.{row, maps}
-use Rattle.gb_typed.proofs.Constructors.{distribution_is, map_is, tuple_is}
+use Rattle.gb_laws.specs.Operators.{row, maps}
+use Rattle.gb_laws.proofs.Constructors.{distribution_is, map_is, tuple_is}
 use Rattle.gb_operators.specs.Kinds.{entries}
 use Rattle.gb_elab_laws.proofs.Tested.{map_of}
 use Rattle.gb_spelt_laws.specs.Named.{IsNamedType, AreNamedTypes, IsNamedResult}

@@ -8,8 +8,8 @@ use Rattle.gb_core.specs.declared.ty.Ty.TheVariants as ty
 use Rattle.gb_core.specs.declared.ty.Ty.TheOpen as layer
 use Rattle.gb_core.specs.declared.ty.Ty.TheBlock as B
 use Rattle.gb_core.specs.declared.ty.Ty.TheViews.{roll-out-Ty}
-use Rattle.gb_typed.specs.Operators.{row}
-use Rattle.gb_typed.proofs.Constructors.{distribution_is, map_is, option_is, tuple_is}
+use Rattle.gb_laws.specs.Operators.{row}
+use Rattle.gb_laws.proofs.Constructors.{distribution_is, map_is, option_is, tuple_is}
 use Rattle.gb_operators.specs.Kinds.{components, components_layer, element, element_layer, entries, entries_layer, inside_option, option_layer, outcome, outcome_layer}
 use Rattle.gb_readback.specs.Written.{IsWrittenType, AreWrittenTypes}
 use Rattle.gb_readback.specs.Written as w

@@ -9,8 +9,8 @@ use Rattle.gb_core.specs.declared.ty.Ty.TheVariants as ty
 use Rattle.gb_core.specs.declared.value.Value.{out-Value}
 use Rattle.gb_core.specs.declared.value.Value.TheVariants.{Num}
 use Rattle.gb_limits.specs.Numbers.{number_of}
-use Rattle.gb_same.specs.Types.{ty_eq}
-use Rattle.gb_same.proofs.Decided.{ty_eq-Decides}
+use Rattle.gb_core.specs.SameTypes.{ty_eq}
+use Rattle.gb_core.proofs.SameTypes.{ty_eq-Decides}
 use Rattle.gb_terms.specs.declared.term.Pair.{Pair}
 use Rattle.gb_terms.specs.declared.term.Term.{Term}
 use Rattle.gb_terms.specs.declared.term.Head.TheVariants.{Weights}

@@ -3,12 +3,12 @@
 ghost use Rattle.gb_session.specs.History.{History};
 ghost use Rattle.gb_shown.specs.Shown.{IsReached, IsReadBack};
 
+use gb_closing_laws::linear_laws::linear_is_sound;
+use gb_closing_laws::smt_laws::sound_smt;
 use gb_elab_laws::declaration_laws::{entries, lemmas, modules, statements};
 use gb_elab_laws::step_laws::{typed_forms, typed_rules};
-use gb_linear_laws::laws::linear_is_sound;
 use gb_models::promise_laws::{equivalences_give_couplings, typed_scopes_have_models};
 use gb_models::stay_laws::{goals_stay, goals_stay_typed, parts_of_scopes};
-use gb_smt_sound::laws::sound_smt;
 use gb_typing::goal_laws::{fronts, typing};
 use gb_typing::rule_laws::{contexts, sequents};
 
@@ -40,21 +40,21 @@ pub fn shown_goals_are_read()
     gb_beside::laws::decided_beside();
     gb_call_known::laws::known_calls();
     gb_sim::laws::same_statements();
-    gb_ends::laws::rows();
-    gb_ends::laws::sequents();
-    gb_ends::laws::with_proved_loops();
-    gb_ends::laws::bodies();
-    gb_ends::laws::relational();
-    gb_ends::laws::chances();
-    gb_ends::laws::calls();
-    gb_ends::laws::known_calls();
-    gb_ends::laws::conclusions();
-    gb_ends::laws::equals();
-    gb_ends::laws::forms();
-    gb_ended_laws::laws::entered();
-    gb_ended_laws::laws::proved_loops();
-    gb_ended_laws::laws::ended_modules();
-    gb_mods_laws::laws::footprints();
+    gb_accepted::end_laws::rows();
+    gb_accepted::end_laws::sequents();
+    gb_accepted::end_laws::with_proved_loops();
+    gb_accepted::end_laws::bodies();
+    gb_accepted::end_laws::relational();
+    gb_accepted::end_laws::chances();
+    gb_accepted::end_laws::calls();
+    gb_accepted::end_laws::known_calls();
+    gb_accepted::end_laws::conclusions();
+    gb_accepted::end_laws::equals();
+    gb_accepted::end_laws::forms();
+    gb_mods_laws::loop_laws::entered();
+    gb_mods_laws::loop_laws::proved_loops();
+    gb_mods_laws::loop_laws::ended_modules();
+    gb_mods_laws::footprint_laws::footprints();
     gb_loops::while_loop::while_is_sound();
     gb_amb::laws::steps();
     gb_use::laws::sound_uses();
@@ -67,9 +67,9 @@ pub fn shown_goals_are_read()
     goals_stay();
     goals_stay_typed();
     parts_of_scopes();
-    gb_spelt_laws::laws::steps();
-    gb_spelt_laws::laws::termination();
-    gb_spelt_laws::laws::named_goals_are_read();
+    gb_spelt_laws::name_laws::steps();
+    gb_spelt_laws::name_laws::termination();
+    gb_spelt_laws::name_laws::named_goals_are_read();
     gb_read_script::laws::words_are_tokens();
     gb_language::laws::trees_are_sorted();
 }

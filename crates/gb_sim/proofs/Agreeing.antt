@@ -2,15 +2,15 @@
 use Rattle.std.proofs.Common.{◌≡◌, inl, inr, ◌⊎◌, Bool, true, false, not, if◌then◌else◌, List, [], ◌∷◌, ◌++◌, append_assoc, refl, ap, sym, ◌∙◌, subst}
 use Rattle.std.proofs.lemmas.Bool.{and_parts}
 use Rattle.gb_core.specs.declared.var.Var.{Var}
-use Rattle.gb_same.proofs.Decided.{ty_eq-Decides}
-use Rattle.gb_same.specs.Types.{ty_eq}
+use Rattle.gb_core.proofs.SameTypes.{ty_eq-Decides}
+use Rattle.gb_core.specs.SameTypes.{ty_eq}
 use Rattle.gb_terms.proofs.Equality.{var_eq-Decides}
 use Rattle.gb_terms.specs.Equal.{var_eq}
 use Rattle.gb_walk.specs.Clash.{comes_before}
 use Rattle.gb_meaning.specs.Memory.{Memory}
 use Rattle.gb_meaning.specs.Values.{Types}
-use Rattle.gb_local.specs.Cells.{Cell, Cells, In, Agree, Among, cells_of}
-use Rattle.gb_local.proofs.Cells.{in_left, in_right}
+use Rattle.gb_laws.specs.Cells.{Cell, Cells, In, Agree, Among, cells_of}
+use Rattle.gb_laws.proofs.Cells.{in_left, in_right}
 use Rattle.gb_reads.specs.declared.reads.TypedVar.{TypedVar}
 use Rattle.gb_reads.specs.Reads.{Vars}
 use Rattle.gb_premises.specs.Ordered.{is_same, joined, placed}

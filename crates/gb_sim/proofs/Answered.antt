@@ -4,7 +4,7 @@ use Rattle.gb_core.specs.declared.place.Place.{Place}
 use Rattle.gb_core.specs.declared.refusal.Why.TheVariants.{Shape}
 use Rattle.gb_terms.specs.declared.term.Instr.{Instr}
 use Rattle.gb_terms.specs.Make.{truth_literal}
-use Rattle.gb_apart.proofs.SameTerms.{same_terms}
+use Rattle.gb_meaning.proofs.SameTerms.{same_terms}
 use Rattle.gb_goal.specs.Answers.{Answer}
 use Rattle.gb_goal.specs.Answers.Answer.{refused}
 use Rattle.gb_goal.specs.Goal.{Goal, form_of, goal_of}

@@ -19,12 +19,12 @@ use Rattle.gb_meaning.specs.Program.{Program, Routine}
 use Rattle.gb_meaning.specs.Program.Program.{done, assign, sample, branch, loop, call, ask}
 use Rattle.gb_meaning.specs.Program.Routine.{routine}
 use Rattle.gb_meaning.specs.Setting.{Setting}
-use Rattle.gb_local.specs.Cells.{Cell, Cells, Covers, In, cells_of}
-use Rattle.gb_local.specs.Cells.Key.{global, local}
-use Rattle.gb_local.specs.Cells.{Key}
-use Rattle.gb_local.specs.Reads.{leaf_cells, program_cells, routine_cells, row_cells, term_cells, terms_cells}
-use Rattle.gb_local.proofs.Cells.{in_left, in_right}
-use Rattle.gb_local.proofs.NearRuns.{InFrame, with_frame}
+use Rattle.gb_laws.specs.Cells.{Cell, Cells, Covers, In, cells_of}
+use Rattle.gb_laws.specs.Cells.Key.{global, local}
+use Rattle.gb_laws.specs.Cells.{Key}
+use Rattle.gb_laws.specs.Reads.{leaf_cells, program_cells, routine_cells, row_cells, term_cells, terms_cells}
+use Rattle.gb_laws.proofs.Cells.{in_left, in_right}
+use Rattle.gb_laws.proofs.NearRuns.{InFrame, with_frame}
 use Rattle.gb_goal.specs.Scope.{Declarations, procedure_of}
 use Rattle.gb_mods.specs.Called.{called_by, row_calls, calls}
 use Rattle.gb_mods.proofs.Closed.{AreFollowed, IsIn}
@@ -32,7 +32,7 @@ use Rattle.gb_typing.specs.Context.{Context, procedure}
 use Rattle.gb_typing.specs.Modules.{ProcedureType}
 use Rattle.gb_typing.specs.Programs.{AreArguments, AreStatements, EachStatement, IsCall, IsProcedure}
 use Rattle.gb_typing.specs.Typing.{AreTyped, IsNamed, IsTyped, first, middle, last}
-use Rattle.gb_typed.specs.Typing.{types_of}
+use Rattle.gb_laws.specs.Typing.{types_of}
 use Rattle.gb_reads.specs.Reads.{Vars}
 use Rattle.gb_trans.proofs.Within.{ReadsWithin}
 use Rattle.gb_sim.specs.Reads.{term_reads, row_reads, body_reads, list_reads, globals_among, head_reads, reads_by, with_reads, unless_local}

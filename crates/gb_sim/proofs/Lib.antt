@@ -10,3 +10,4 @@ mod Slices
 mod Typed
 mod Writing
 mod Zipped
+mod AfterSim

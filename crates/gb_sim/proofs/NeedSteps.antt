@@ -7,7 +7,7 @@ use Rattle.gb_terms.specs.declared.term.Term.{Term, Term', Row_of-Term, end_of-T
 use Rattle.gb_terms.specs.declared.term.Head.TheBlock as B
 use Rattle.gb_terms.specs.declared.term.Head.TheVariants.{Call, If, While}
 use Rattle.gb_terms.specs.declared.term.Instr.{Instr, Row_of-Instr, end_of-Instr, more_of-Instr}
-use Rattle.gb_changes.proofs.Trees.{out_is}
+use Rattle.gb_laws.proofs.Trees.{out_is}
 use Rattle.gb_meaning.specs.Commands.{terms_in}
 use Rattle.gb_goal.specs.Scope.{Declarations}
 use Rattle.gb_mods.specs.Called.{calls, row_calls, statement_calls}

@@ -30,14 +30,14 @@ use Rattle.gb_meaning.specs.Setting.Meaning.{finite}
 use Rattle.gb_meaning.specs.State.{State, between, memory_of}
 use Rattle.gb_meaning.specs.Terms.{val, at_head, parts}
 use Rattle.gb_meaning.specs.Values.{Global, Types}
-use Rattle.gb_laws.proofs.Nodes.{val_node}
-use Rattle.gb_laws.proofs.Truths.{true_equal, truth_of}
-use Rattle.gb_laws.proofs.Values.{value_eq-true}
-use Rattle.gb_local.specs.Cells.{Cell, In, Agree, Among, cells_of, global_cell, look}
-use Rattle.gb_local.proofs.Cells.{in_left, read_agree}
-use Rattle.gb_changes.proofs.Trees.{out_is}
-use Rattle.gb_typed.specs.Finite.{IsFinite}
-use Rattle.gb_typed.specs.Typing.{IsHead, IsRead, types_of}
+use Rattle.gb_meaning.proofs.Nodes.{val_node}
+use Rattle.gb_meaning.proofs.Truths.{true_equal, truth_of}
+use Rattle.gb_meaning.proofs.Values.{value_eq-true}
+use Rattle.gb_laws.specs.Cells.{Cell, In, Agree, Among, cells_of, global_cell, look}
+use Rattle.gb_laws.proofs.Cells.{in_left, read_agree}
+use Rattle.gb_laws.proofs.Trees.{out_is}
+use Rattle.gb_laws.specs.Finite.{IsFinite}
+use Rattle.gb_laws.specs.Typing.{IsHead, IsRead, types_of}
 use Rattle.gb_typing.specs.Changes.{Made}
 use Rattle.gb_typing.specs.Context.{Context, erased, frame_of, with_sides}
 use Rattle.gb_typing.specs.Forms.{and_form}

@@ -36,19 +36,19 @@ use Rattle.gb_meaning.specs.State.{State, closed, inside}
 use Rattle.gb_meaning.specs.Terms.{denominator, distribution, quiet, val}
 use Rattle.gb_meaning.specs.Values.{has}
 use Rattle.gb_meaning.specs.Written.{type_of, IsModulo}
-use Rattle.gb_laws.proofs.Maps.{get-set_same}
-use Rattle.gb_laws.proofs.Runs.{routine_entries, routine_positive, run_entries, run_positive}
-use Rattle.gb_local.specs.Cells.{Cell, Agree, Among, Covers}
-use Rattle.gb_local.specs.Cells.Key.{global, local}
-use Rattle.gb_local.specs.Pairs.{SameOrKept, SameOutcome, Zip}
-use Rattle.gb_local.specs.Reads.{terms_cells}
-use Rattle.gb_local.proofs.Cells.{front, rest}
-use Rattle.gb_local.proofs.Kept.{kept_agrees}
-use Rattle.gb_local.proofs.Near.{near_quiet}
-use Rattle.gb_local.proofs.NearRuns.{globals_of, kept_outcomes, with_frame}
-use Rattle.gb_local.proofs.States.{near_inside, near_self}
-use Rattle.gb_local.proofs.Zips.{zip_weaken, zip-dmap, zip-equal}
-use Rattle.gb_typed.specs.Finite.{IsFinite}
+use Rattle.gb_meaning.proofs.Maps.{get-set_same}
+use Rattle.gb_meaning.proofs.Runs.{routine_entries, routine_positive, run_entries, run_positive}
+use Rattle.gb_laws.specs.Cells.{Cell, Agree, Among, Covers}
+use Rattle.gb_laws.specs.Cells.Key.{global, local}
+use Rattle.gb_laws.specs.Pairs.{SameOrKept, SameOutcome, Zip}
+use Rattle.gb_laws.specs.Reads.{terms_cells}
+use Rattle.gb_laws.proofs.Cells.{front, rest}
+use Rattle.gb_laws.proofs.Kept.{kept_agrees}
+use Rattle.gb_laws.proofs.Near.{near_quiet}
+use Rattle.gb_laws.proofs.NearRuns.{globals_of, kept_outcomes, with_frame}
+use Rattle.gb_laws.proofs.States.{near_inside, near_self}
+use Rattle.gb_laws.proofs.Zips.{zip_weaken, zip-dmap, zip-equal}
+use Rattle.gb_laws.specs.Finite.{IsFinite}
 use Rattle.gb_goal.specs.Scope.{Declarations, procedure_of}
 use Rattle.gb_mods.specs.Called.{all_reached, row_calls}
 use Rattle.gb_mods.proofs.Closed.{AreFollowed, IsIn, all_closed}

@@ -19,12 +19,12 @@ use Rattle.gb_terms.specs.declared.term.Instr.{Instr, Row_of-Instr, end_of-Instr
 use Rattle.gb_terms.specs.declared.term.Term.{Term, Term', Row_of-Term, end_of-Term, more_of-Term, end_of-Head, more_of-Head}
 use Rattle.gb_walk.specs.Clash.{comes_before}
 use Rattle.gb_meaning.specs.Commands.{terms_in}
-use Rattle.gb_changes.specs.Plain.{IsPlain, AllPlain, HeadIsPlain}
+use Rattle.gb_laws.specs.Plain.{IsPlain, AllPlain, HeadIsPlain}
 use Rattle.gb_goal.specs.Scope.{Declarations, procedure_of}
 use Rattle.gb_mods.specs.Called.{row_calls}
 use Rattle.gb_full.specs.Loss.{may_lose}
-use Rattle.gb_typed.specs.Typing.{Binder, IsRead, IsHead, types_of}
-use Rattle.gb_typed.specs.Typing.Binder.{value, index}
+use Rattle.gb_laws.specs.Typing.{Binder, IsRead, IsHead, types_of}
+use Rattle.gb_laws.specs.Typing.Binder.{value, index}
 use Rattle.gb_typing.specs.Context.{Context, erased, frame_of, of_program, procedure, within}
 use Rattle.gb_typing.specs.Modules.{ProcedureType}
 use Rattle.gb_typing.specs.Programs.{AreArguments, AreStatements, EachStatement, IsCall, IsExpression, IsProcedure, IsStatement, locals_of}

@@ -17,14 +17,14 @@ use Rattle.gb_meaning.specs.Names.{Path}
 use Rattle.gb_meaning.specs.Setting.{Setting}
 use Rattle.gb_meaning.specs.State.{State}
 use Rattle.gb_meaning.specs.Values.{Global, Types, fit, has}
-use Rattle.gb_local.specs.Cells.{Key, Cell, In, Among, cells_of, get_at, set_at, global_cell}
-use Rattle.gb_local.specs.Cells.Key.{global, local}
-use Rattle.gb_local.specs.Writes.{key_of_global, keys_of, IsNone, Spares}
-use Rattle.gb_local.proofs.Cells.{key_discrete, get_at-same, get_at-other, write_related}
-use Rattle.gb_local.proofs.Kept.{assigned_keeps, kept_agrees, kept_self}
-use Rattle.gb_local.proofs.Leaves.{assigned_left}
-use Rattle.gb_typed.specs.Operators.{parts_in}
-use Rattle.gb_typed.specs.Programs.{HaveTypes, Take, variable_type}
+use Rattle.gb_laws.specs.Cells.{Key, Cell, In, Among, cells_of, get_at, set_at, global_cell}
+use Rattle.gb_laws.specs.Cells.Key.{global, local}
+use Rattle.gb_laws.specs.Writes.{key_of_global, keys_of, IsNone, Spares}
+use Rattle.gb_laws.proofs.Cells.{key_discrete, get_at-same, get_at-other, write_related}
+use Rattle.gb_laws.proofs.Kept.{assigned_keeps, kept_agrees, kept_self}
+use Rattle.gb_laws.proofs.Leaves.{assigned_left}
+use Rattle.gb_laws.specs.Operators.{parts_in}
+use Rattle.gb_laws.specs.Programs.{HaveTypes, Take, variable_type}
 use Rattle.gb_typing.specs.Context.{Context, erased}
 use Rattle.gb_parts.proofs.Parts.{as_many, same_length}
 use Rattle.gb_reads.specs.declared.reads.TypedVar.{TypedVar}

@@ -2,7 +2,7 @@
 use Rattle.std.proofs.Common.{◌≡◌, ℕ, ◌*◌, ◌+◌, ◌<◌, [], ◌∷◌, refl, ap}
 use Rattle.gb_coupling.specs.WeightedList.{WeightedList, IsPositive, On, mass}
 use Rattle.gb_coupling.specs.Coupling.{Coupling}
-use Rattle.gb_local.specs.Pairs.{Zip}
+use Rattle.gb_laws.specs.Pairs.{Zip}
 
 module _ {A B : Type 0} (R : A → B → Type 0) where
   abbrev paired : (l : WeightedList A) (r : WeightedList B) → Zip R l r → WeightedList (A × B)

@@ -70,8 +70,7 @@ fn statement_reads(
     ensures { IfOk result (λ made. made ≡ found ++ statement_reads statement.now) }
 {
     match statement {
-        Instr::Assign(_, value) => term_reads(alloc, found, value),
-        Instr::Sample(_, distribution) => term_reads(alloc, found, distribution),
+        Instr::Assign(_, value) | Instr::Sample(_, value) => term_reads(alloc, found, value),
         Instr::Call(_, _, args) => each_reads(alloc, found, args.as_slice()),
         Instr::If(test, yes, no) => {
             let found = term_reads(alloc, found, test)?;

@@ -1,18 +1,18 @@
 // The rule `sim`.
 
-ghost use Rattle.std.specs.Prelude.{◌≡◌, map, IfOk};
+ghost use Rattle.std.specs.Prelude.{◌≡◌, map, Some, IfOk};
 ghost use Rattle.gb_amb.specs.Steps.{Returns};
 ghost use Rattle.gb_goal.specs.Answers.{Answers};
+ghost use Rattle.gb_goal.specs.Answers.Answer.{given};
 ghost use Rattle.gb_goal.specs.Rows.{each_concluding};
 ghost use Rattle.gb_typing.specs.Forms.{every_pair};
-ghost use Rattle.gb_sim.specs.Sim.{IsAnswer, both, by_need, equal_in, equal_on, equality, equated, equated_at, on_statements, read_in, same_variable, variable_in, variable_of, with_equalities};
+ghost use Rattle.gb_sim.specs.Sim.{IsAnswer, both, by_need, equal_in, equal_on, equality, equated, equated_at, on_statements, same_variable, variable_in, variable_of, with_equalities};
 
 use crate::need::need;
 use gb_core::Shared;
 use gb_core::copy::copy_var;
 use gb_core::place::Place;
 use gb_core::refusal::{Refused, Why};
-use gb_core::ty::Ty;
 use gb_full::loss::full_operators;
 use gb_goal::goal::{Code, Goal, goal_of};
 use gb_goal::scope::Scope;
@@ -28,30 +28,18 @@ use gb_terms::term::{Form, Head, Instr, Term};
 use sqlite_items::Items;
 use std::alloc::{AllocError, Global};
 
-/// The variable that a head of a type reads in a memory.
-fn read_in(
-    alloc: Global,
-    side: &Side,
-    head: &Head,
-    ty: &Shared<Ty>,
-) -> Result<Option<TypedVar>, AllocError>
-    ensures { IfOk result (λ made. made ≡ read_in side.now head.now ty.now) }
-{
-    match head {
-        Head::Read(Read::Program { var, side: through }) if same_side(through, side) => {
-            let var = Shared::new(alloc, copy_var(alloc, var)?)?;
-            let ty = ty.share()?;
-            Ok(Some(TypedVar { var, ty }))
-        }
-        _ => Ok(None),
-    }
-}
-
 /// The variable of a memory that a term is.
 fn variable_in(alloc: Global, side: &Side, term: &Term) -> Result<Option<TypedVar>, AllocError>
     ensures { IfOk result (λ made. made ≡ variable_in side.now term.now) }
 {
-    read_in(alloc, side, term.head.get(), &term.ty)
+    match term.head.get() {
+        Head::Read(Read::Program { var, side: through }) if same_side(through, side) => {
+            let var = Shared::new(alloc, copy_var(alloc, var)?)?;
+            let ty = term.ty.share()?;
+            Ok(Some(TypedVar { var, ty }))
+        }
+        _ => Ok(None),
+    }
 }
 
 /// The variable that both are.
@@ -179,24 +167,21 @@ fn equal_on(alloc: Global, list: &[TypedVar]) -> Result<Form, AllocError>
     }
 }
 
-/// The goal that what is needed is equal wherever the precondition holds. Refused where it isn't known what is needed.
+/// The goal that what is needed is equal wherever the precondition holds.
 fn by_need(
     alloc: Global,
     goal: &Sequent,
     pre: &Form,
-    needed: Option<TypedVars>,
-) -> Result<Sequents, Refused>
-    ensures { Answers (each_concluding goal.now (by_need pre.now needed)) result }
+    needed: &[TypedVar],
+) -> Result<Sequents, AllocError>
+    ensures { IfOk result (λ made. given made ≡ each_concluding goal.now (by_need pre.now (Some needed.now))) }
 {
-    let Some(needed) = needed else {
-        return Err(no_shape());
-    };
-    let equal = equal_on(alloc, needed.as_slice())?;
+    let equal = equal_on(alloc, needed)?;
     let form = every_pair(alloc, implied(alloc, pre, &equal)?)?;
-    Ok(one_goal(alloc, goal, form)?)
+    one_goal(alloc, goal, form)
 }
 
-/// The goal of the same statements on both sides.
+/// The goal of the same statements on both sides. Refused where it isn't known what is needed.
 fn on_statements(
     alloc: Global,
     goal: &Sequent,
@@ -211,8 +196,10 @@ fn on_statements(
         return Err(no_shape());
     };
     let full = full_operators(alloc, scope)?;
-    let needed = need(alloc, list, scope, full.as_slice(), equal.as_slice())?;
-    by_need(alloc, goal, pre, needed)
+    let Some(needed) = need(alloc, list, scope, full.as_slice(), equal.as_slice())? else {
+        return Err(no_shape());
+    };
+    Ok(by_need(alloc, goal, pre, needed.as_slice())?)
 }
 
 /// The subgoal of `sim` on an equivalence of two bodies that are the same, of which the postcondition says of variables that they are

@@ -7,6 +7,7 @@ ghost use Rattle.gb_eval.specs.Findings.{Finds};
 ghost use Rattle.gb_types.specs.Types.{IsPlaceBelow, card_of, numbering, value_at};
 ghost use Rattle.gb_eval.specs.Eval.{environment};
 ghost use Rattle.gb_labels.specs.Labels.{choice_at, choices, labelled_ty};
+ghost use Rattle.gb_labels.specs.Labelled.{labelled};
 ghost use Rattle.gb_smt.specs.Assign.{assignments, assignment, environment_of, with_values, implied, truth_at, found_under, found_of, found_with, labelled_claim};
 
 use crate::claims::Claim;
@@ -84,9 +85,9 @@ fn values_of(alloc: Global, reads: &[ReadValue]) -> Result<Values, AllocError>
     Ok(values)
 }
 
-/// Whether hypotheses imply a conclusion.
+/// Whether hypotheses imply a conclusion, with labels in place of the values of modules' globals.
 fn implied(alloc: Global, env: &Env<'_>, hyps: &[Term], conclusion: &Term) -> Result<bool, Stop>
-    ensures { Finds (implied (environment env.now) hyps.now conclusion.now) result }
+    ensures { Finds (implied (environment env.now) (map (labelled env.now.labels.now) hyps.now) (labelled env.now.labels.now conclusion.now)) result }
 {
     for hyp in hyps {
         if !truth(alloc, hyp, env)? {
@@ -108,6 +109,7 @@ fn is_true_under(
     let env = Env {
         script: script_of(scope),
         reads,
+        labels: &[],
     };
     implied(alloc, &env, claim.hyps.as_slice(), &claim.conclusion)
 }

@@ -1,5 +1,5 @@
 -- The operators of a typed scope mean their bodies, in each of its settings.
-use Rattle.std.proofs.Common.{◌≡◌, Bool, true, false, if◌then◌else◌, List, [], ◌∷◌, ◌++◌, Option, Some, None, bytes_eq, refl, ap, sym, subst, ◌∙◌}
+use Rattle.std.proofs.Common.{◌≡◌, Bool, true, false, if◌then◌else◌, List, [], ◌∷◌, ◌++◌, Some, bytes_eq, refl, ap, sym, subst, ◌∙◌}
 use Rattle.gb_core.specs.declared.ty.Ty.{Ty}
 use Rattle.gb_core.specs.declared.var.Var.{Var}
 use Rattle.gb_core.specs.declared.var.Var.TheVariants as var
@@ -16,22 +16,22 @@ use Rattle.gb_goal.specs.Scope.{entry_of}
 use Rattle.gb_meaning.specs.Names.{Name}
 use Rattle.gb_meaning.specs.Operators.{outcome_type, key_type}
 use Rattle.gb_meaning.specs.Setting.{Meaning, Setting}
-use Rattle.gb_meaning.specs.Terms.{Part, denominator, parts, quiet, val}
-use Rattle.gb_meaning.specs.Values.{Global, Types, values}
+use Rattle.gb_meaning.specs.Terms.{denominator, quiet, val}
+use Rattle.gb_meaning.specs.Values.{Global, values}
 use Rattle.gb_holds.specs.Declared.{Declarations, Declaration, declaration_of, declared, operator, abstract_operator}
 use Rattle.gb_holds.specs.Settings.{Table, Interpretation, types_of, bare, at_arguments, with_declaration, with_operators, setting}
 use Rattle.gb_holds.proofs.SettingTypes.{setting-types}
-use Rattle.gb_later.specs.Agreement.{SameValues, SameGlobals, SameFootprint, SameRead, SameOperator, SameLeaf, SameTerm, SameTerms}
-use Rattle.gb_later.proofs.SameTerms.{term_same, denominator_same}
-use Rattle.gb_typed.specs.Typing.{OperatorType, types_of as argument_types, IsHead, inner}
-use Rattle.gb_typed.specs.Typing as typed
+use Rattle.gb_typing.specs.Agreement.{SameValues, SameGlobals, SameFootprint, SameRead, SameOperator, SameLeaf, SameTerm, SameTerms}
+use Rattle.gb_typing.proofs.SameTerms.{term_same, denominator_same}
+use Rattle.gb_laws.specs.Typing.{OperatorType, types_of as argument_types, IsHead, inner}
+use Rattle.gb_laws.specs.Typing as typed
 use Rattle.gb_typing.specs.Context.{Context, erased}
 use Rattle.gb_typing.specs.Scopes.{operator_type, of_operator, nothing, with_operator, with_declared, is_declared, IsFree, AreTypedAfter, IsTypedScope}
 use Rattle.gb_typing.proofs.Erased.{erased_typed}
 use Rattle.gb_typing.proofs.Operators.{declared_more, declared_last, other_name}
 use Rattle.gb_eval.specs.Script.{body_in, body_named}
-use Rattle.gb_changes.specs.Plain.{AllPlain, HeadIsPlain, IsPlain}
-use Rattle.gb_eval.specs.Meant.{AllJudged, AreBodies, AreJudged, IsBody, is_judged_at}
+use Rattle.gb_laws.specs.Plain.{IsPlain}
+use Rattle.gb_eval.specs.Meant.{AreBodies, IsBody}
 use Rattle.gb_smt_laws.proofs.Equations.{none_some, some_some}
 use mathlib.Core.Former.{Count}
 
@@ -91,21 +91,6 @@ all_declared c before k (operator o) a = operator_declared c before k (operator 
 all_declared c before k (abstract_operator o) a = operator_declared c before k (abstract_operator o) (record { params = o.params; result = o.result }) a
 all_declared c before k d a = λ n o e. declared_more before (k, d) n (a n o e)
 
--- in a plain term no quantifier over memories stands
-module _ (g : Setting) where
-  plain_here : (h : Head) (t : Term) (xs : List Part) → HeadIsPlain h → is_judged_at g quiet t h xs
-  plain_here head.AllMemory t xs e = absurd e
-  plain_here head.SomeMemory t xs e = absurd e
-  plain_here _ t xs e = tt
-
-  mutual
-    pub plain_judged : (t : Term) → IsPlain t → AreJudged g quiet t
-    plain_judged (Term' p (more_of-Head h end_of-Head) n ts ty) e = (plain_here h (Term' p (more_of-Head h end_of-Head) n ts ty) (parts g quiet ts) e.0, all_plain_judged ts e.1)
-
-    all_plain_judged : {n : Count} (ts : Row_of-Term n) → AllPlain ts → AllJudged g quiet ts
-    all_plain_judged end_of-Term e = tt
-    all_plain_judged (more_of-Term t ts) e = (plain_judged t e.0, all_plain_judged ts e.1)
-
 module _ (table : Table) where
   -- Later declarations leave what is declared.
 
@@ -142,7 +127,7 @@ module _ (table : Table) where
         let same : SameTerm g s o.body = term_known g s p (erased (of_operator c o.params)) known o.body (erased_typed (of_operator c o.params) o.body w.1.typed) in
         let is : o.body ≡ t = some_some o.body t e in
         record {
-          judged = subst (AreJudged g quiet) is (plain_judged g o.body w.1.plain);
+          plain = subst IsPlain is w.1.plain;
           result = λ ms.
               ap (λ (r : List Meaning → Meaning). r ms) ((f n).0 ∙ later.0)
               ∙ (λ i. if q i then val s quiet o.body (at_arguments ms) else s.operator n ms)

@@ -19,8 +19,8 @@ use Rattle.gb_meaning.specs.Setting.{Setting}
 use Rattle.gb_meaning.specs.Meanings.{value_in, truth}
 use Rattle.gb_meaning.specs.State.{State}
 use Rattle.gb_meaning.specs.Terms.{Speaks, val}
-use Rattle.gb_laws.proofs.Types.{values_finite}
-use Rattle.gb_laws.proofs.Numberings.{lawful}
+use Rattle.gb_meaning.proofs.Types.{values_finite}
+use Rattle.gb_meaning.proofs.Numberings.{lawful}
 use Rattle.gb_eval.specs.Findings.Comes.{found}
 use Rattle.gb_goal.specs.Scope.{Declarations}
 use Rattle.gb_eval.specs.Known.{is_known, known_of}
@@ -79,7 +79,7 @@ module _ (ds : Declarations) (g : Setting) (ops : AreOperators g (operators_of d
   have_values [] a f = refl
   have_values (v ∷ vs) a f =
       let finite = and_parts (is_finite v.ty) (all_true (map is_finite (map (λ v. v.ty) vs))) f in
-      let w = valid v.read v.ty a.0 in
+      let w = valid.1 v.read v.ty a.0 in
       and_from _ _ ((λ i. (sym (values_finite g.types v.ty finite.0) i).has (value_in (w.1 i))) ∙ w.2) (have_values vs a.1 finite.1)
 
   module _ (hs : List Term) (t : Term) (known : AreKnown (known_of ds) g W hs) (k : is_known (known_of ds) t ≡ true) (w : Fits g W t) (everywhere : IsTrueEverywhere ds (claim_of hs t)) where
@@ -118,7 +118,7 @@ module _ (ds : Declarations) (g : Setting) (ops : AreOperators g (operators_of d
     pub claim_true : AreTrue g j s hs → truth (val g j t s) ≡ true
     claim_true a =
         implied.conclusion_true g j s (environment_of ds (with_values vs (values_of g s vs))) ops hs t
-        (each_given g s W valid (known_of ds) vs reads hs known) (given g s W valid (known_of ds) vs reads t W (itself W) k w) right true_there a
+        (each_given g s W valid (known_of ds) vs reads hs known) (given g s W valid (known_of ds) vs reads t W (itself W) valid.0 k w) right true_there a
 
   all_known : (hs : List Term) → list_all (is_known (known_of ds)) hs ≡ true → AreAssumed g j W s hs → AreKnown (known_of ds) g W hs × AreTrue g j s hs
   all_known [] k a = (tt, tt)

@@ -10,7 +10,7 @@ use Rattle.gb_terms.specs.declared.term.Head.TheVariants as head
 use Rattle.gb_terms.specs.Make.{node}
 use Rattle.gb_walk.specs.declared.change.Change.{Change}
 use Rattle.gb_walk.specs.declared.change.Change.TheVariants.{ToTerm}
-use Rattle.gb_laws.proofs.Nodes.{each_is_node}
+use Rattle.gb_meaning.proofs.Nodes.{each_is_node}
 use Rattle.gb_smt.specs.Equations.{occurs, replacement_at, replacement, or_else, is_equality, use_of_sides, use_of}
 
 pub none_some : {X A : Type 0} (x : X) → None ≡ Some x → A

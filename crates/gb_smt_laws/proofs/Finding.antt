@@ -16,9 +16,9 @@ use Rattle.gb_walk.specs.Raise.{side_raised, term_raised}
 use Rattle.gb_walk.specs.declared.change.Change.TheVariants.{ToTerm, OfBound, ToSide}
 use Rattle.gb_walk.specs.Change.{Changes, under_binder, or_later, found_for_read, found_for_bound, side_changed}
 use Rattle.gb_meaning.specs.Trees.{places, row}
-use Rattle.gb_laws.proofs.Nodes.{term_is_node}
-use Rattle.gb_changes.proofs.Trees.{term_raised_is}
-use Rattle.gb_changes.proofs.Lookups.{index_next, raised_bound, read_found_under, read_of_binder}
+use Rattle.gb_meaning.proofs.Nodes.{term_is_node}
+use Rattle.gb_laws.proofs.Trees.{term_raised_is}
+use Rattle.gb_laws.proofs.Lookups.{index_next, raised_bound, read_found_under, read_of_binder}
 use Rattle.gb_smt_laws.specs.Reading.{Variables, behind}
 
 later_or : (b : Bool) (t : Term) (o p : Option Term) → or_later b t (option_or o p) ≡ option_or (or_later b t o) p

@@ -13,28 +13,32 @@ use Rattle.gb_terms.specs.declared.op.Read.{Read}
 use Rattle.gb_terms.specs.declared.op.Read.TheVariants.{Logical, Program}
 use Rattle.gb_terms.specs.declared.term.Term.{Term, Term', Row_of-Term, end_of-Term, more_of-Term, end_of-Head, more_of-Head}
 use Rattle.gb_terms.specs.declared.term.Head.TheVariants as head
-use Rattle.gb_meaning.specs.Names.{get}
+use Rattle.gb_terms.specs.declared.module.Mexp.TheVariants.{Name as named}
+use Rattle.gb_meaning.specs.Names.{Name, get}
 use Rattle.gb_meaning.specs.Memory.{Memory, read}
 use Rattle.gb_meaning.specs.Setting.{Setting}
 use Rattle.gb_meaning.specs.Terms.{denominators}
-use Rattle.gb_meaning.specs.Values.{Types, first, has, fit}
+use Rattle.gb_meaning.specs.Values.{Types, values, first, has, fit}
 use Rattle.gb_meaning.specs.Operators.{outcome_type}
 use Rattle.gb_meaning.specs.Written.{local_type, type_of}
-use Rattle.gb_typed.specs.Finite.{IsFinite, IsInhabited}
-use Rattle.gb_typed.specs.Operators.{IsNoDistribution, IsOperator}
-use Rattle.gb_typed.specs.Typing.{Binder, types_of, IsHead}
-use Rattle.gb_typed.specs.Typing.Binder.{value, index, memory}
-use Rattle.gb_typed.proofs.Denominators.{denominator_one}
-use Rattle.gb_typed.proofs.Sizes.{first_has, glob_in}
+use Rattle.gb_laws.specs.Finite.{IsFinite, IsInhabited}
+use Rattle.gb_laws.specs.Operators.{IsNoDistribution, IsOperator}
+use Rattle.gb_laws.specs.Typing.{Binder, types_of, IsHead}
+use Rattle.gb_laws.specs.Typing.Binder.{value, index, memory}
+use Rattle.gb_laws.proofs.Denominators.{denominator_one}
+use Rattle.gb_laws.proofs.Sizes.{first_has, glob_in}
+use Rattle.gb_holds.specs.Programs.{AreOnce}
 use Rattle.gb_holds.specs.Truth.{last_has_module, Choice}
 use Rattle.gb_typing.specs.Context.{Frame, Context, erased, frame_of, within}
 use Rattle.gb_typing.specs.Typing.{IsIn, IsNamed, last, IsTyped, AreTyped}
 use Rattle.gb_typing.specs.Formulas.{IsFirstForm, IsFormula, IsLastFormula}
 use Rattle.gb_typing.specs.Sequents.{IsConclusion}
 use Rattle.gb_typing.proofs.Erased.{erased_typed}
+use Rattle.gb_reads.specs.Memories.{IsReadable}
 use Rattle.gb_smt_laws.specs.Reading.{Variables, no_variables, Reading, IsReadAt, inner, AreHeld}
 use Rattle.gb_smt_laws.specs.Fits.{IsOfValues, Fits, AllFit, OnlyFits, BothFit}
 use Rattle.gb_smt_laws.proofs.Equations.{none_some, some_some}
+use Rattle.gb_smt_laws.proofs.Globless.{are_globless}
 use mathlib.Core.Former.{Count}
 
 -- The reading of a context.
@@ -97,7 +101,16 @@ by_choice : {A B C : Type 0} (b : Bool) → (A → C) → (B → C) → Choice b
 by_choice true f h x = f x
 by_choice false f h x = h x
 
-module _ (g : Setting) (inhabited : IsInhabited g.types) where
+module _ (g : Setting) (inhabited : IsInhabited g.types) (once : (a : Name) → AreOnce (g.types.footprint (named a))) where
+  read_whole : (c : Context) (ls : _) (x : Var) (u : Ty) → type_in c (Some ls) x ≡ Some u → IsReadable g.types x u
+  read_whole c ls (var.Local x) u e = tt
+  read_whole c ls (var.Global p x) u e = tt
+  read_whole c ls (var.Glob a) u e = (once a, are_globless (g.types.footprint (named a)) (inhabited.globals (named a)), step (c.has_globals a) e)
+    where
+      step : (b : Bool) → (if b then Some (ty.Glob a) else None) ≡ Some u → values g.types u ≡ values g.types (ty.Glob a)
+      step true e = ap (values g.types) (sym (some_some (ty.Glob a) u e))
+      step false e = none_some u e
+
   read_held : (c : Context) (ls : _) (x : Var) (u : Ty) → type_in c (Some ls) x ≡ Some u → has g.types u (first g.types u) ≡ true → (m : Memory) →
       has g.types u (read g.types m x u) ≡ true
   read_held c ls (var.Local x) u e h m = fitted g.types u h (get m.frame (x ∷ []))
@@ -108,10 +121,10 @@ module _ (g : Setting) (inhabited : IsInhabited g.types) where
       step true e = subst (λ w. has g.types w (read g.types m (var.Glob a) w) ≡ true) (some_some (ty.Glob a) u e) (glob_in g.types inhabited m a)
       step false e = none_some u e
 
-  -- each memory gives each variable of a frame a value of its type
+  -- memories give each variable of a frame the values of its type
   pub held : (c : Context) (f : Frame) → AreHeld g (variables_in g c f)
-  held c None x u e m = none_some u e
-  held c (Some ls) x u e m = let w = with_values_some g.types (type_in c (Some ls) x) u e in read_held c ls x u w.0 w.1 m
+  held c None x u e = none_some u e
+  held c (Some ls) x u e = let w = with_values_some g.types (type_in c (Some ls) x) u e in (read_whole c ls x u w.0, read_held c ls x u w.0 w.1)
 
   -- a variable of a frame is read at its type
   pub in_frame : (c : Context) (f : Frame) (x : Var) (u : Ty) → IsIn c f x u → IsFinite u → variables_in g c f x ≡ Some u

@@ -16,12 +16,12 @@ use Rattle.gb_meaning.specs.State.{State, Binding, binding, meaning_in, under}
 use Rattle.gb_meaning.specs.State.Binding.{program}
 use Rattle.gb_meaning.specs.Terms.{Speaks, read_at, val, parts, part_of, denominator, denominators, denominator_of}
 use Rattle.gb_meaning.specs.Commands.{terms_in}
-use Rattle.gb_laws.proofs.Nodes.{val_node, denominator_node}
-use Rattle.gb_changes.specs.Formed.{HasArguments}
-use Rattle.gb_changes.proofs.Heads.{Moved, Here, Under, IsInner, Related, inner_same}
-use Rattle.gb_changes.proofs.Raising.{has_parts}
-use Rattle.gb_changes.proofs.Changed.{term_changed_is}
-use Rattle.gb_changes.proofs.Changing.{arguments_of}
+use Rattle.gb_meaning.proofs.Nodes.{val_node, denominator_node}
+use Rattle.gb_laws.specs.Formed.{HasArguments}
+use Rattle.gb_laws.proofs.Heads.{Moved, Here, Under, IsInner, Related, inner_same}
+use Rattle.gb_laws.proofs.Raising.{has_parts}
+use Rattle.gb_laws.proofs.Changed.{term_changed_is}
+use Rattle.gb_laws.proofs.Changing.{arguments_of}
 use Rattle.gb_smt_laws.specs.Simple.{is_simple, all_simple, is_simple_at, only, both}
 use Rattle.gb_smt_laws.specs.Reading.{Variables, no_variables, Reading, IsReadAt, inner}
 use Rattle.gb_smt_laws.specs.Fits.{IsOfValues, Fits, AllFit, OnlyFits, BothFit}

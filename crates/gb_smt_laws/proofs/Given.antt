@@ -1,5 +1,5 @@
 -- The variables of a claim have values of their types.
-use Rattle.std.proofs.Common.{◌≡◌, Bool, true, false, ◌&&◌, ◌==◌, if◌then◌else◌, Some, List, [], ◌∷◌, ◌++◌, map, length, refl, ap, sym, ◌∙◌, subst}
+use Rattle.std.proofs.Common.{◌≡◌, zero, suc, Bool, true, false, ◌&&◌, ◌==◌, if◌then◌else◌, Some, List, [], ◌∷◌, ◌++◌, map, length, refl, ap, sym, ◌∙◌, subst}
 use Rattle.std.specs.List.{flat_map, AllByRecursion}
 use Rattle.std.proofs.lemmas.Bool.{false≢true, and_parts}
 use Rattle.gb_core.specs.declared.ty.Ty.{Ty}
@@ -19,9 +19,9 @@ use Rattle.gb_meaning.specs.Terms.{read_at}
 use Rattle.gb_meaning.specs.Commands.{terms_in}
 use Rattle.gb_eval.specs.declared.env.ReadValue.{ReadValue}
 use Rattle.gb_eval.specs.Findings.{Finding as finding}
-use Rattle.gb_eval.specs.Findings.Comes.{found, unknown}
+use Rattle.gb_eval.specs.Findings.Comes.{found}
 use Rattle.gb_eval.specs.Eval.{value_among}
-use Rattle.gb_typed.specs.Typing.{types_of}
+use Rattle.gb_laws.specs.Typing.{types_of}
 use Rattle.gb_meaning.specs.Names.{Name}
 use Rattle.gb_eval.specs.Known.{is_known, all_known, are_of_outcomes, are_true, is_read_known}
 use Rattle.gb_eval.specs.Meant.{Means, is_given, AreGiven, AllGiven}
@@ -30,8 +30,9 @@ use Rattle.gb_closing.specs.Linked.{Vars, is_among}
 use Rattle.gb_variables.specs.Variables.{of_read, variable_of, term_variables, with_new, noted, variables_in}
 use Rattle.gb_smt.specs.Assign.{with_values}
 use Rattle.gb_smt.specs.Meant.{EachGiven}
-use Rattle.gb_smt_laws.specs.Reading.{Variables, no_variables, Reading, IsReadAt, inner, IsReadingOf}
+use Rattle.gb_smt_laws.specs.Reading.{Variables, no_variables, Reading, IsReadAt, inner, AreHeld, AreBoundReadable, IsReadingOf}
 use Rattle.gb_smt_laws.specs.Fits.{Fits, AllFit, OnlyFits, BothFit}
+use Rattle.gb_smt_laws.proofs.Equations.{none_some}
 use Rattle.gb_smt_laws.proofs.Known.{known_parts, one_argument, some_is_none, two_is_one, none_is_one, variables_are, AreRead, read_together, Sees, sees_beneath}
 use mathlib.Core.Former.{Count}
 
@@ -160,6 +161,14 @@ pub one_type : (W : Reading) (r : Read) (a b : Ty) → IsReadAt W r a → IsRead
 one_type W (Logical i) a b e f = some_same a b (sym e ∙ f)
 one_type W (Program x r) a b e f = some_same a b (sym e ∙ f)
 
+none_held : (g : Setting) → AreHeld g no_variables
+none_held g x ty e = none_some ty e
+
+-- what a binder binds is readable too
+readable_beneath : (g : Setting) (f : Variables) (V : Reading) → AreHeld g f → AreBoundReadable g V → AreBoundReadable g (inner f V)
+readable_beneath g f V h b zero x ty e = (h x ty e).0
+readable_beneath g f V h b (suc i) x ty e = b i x ty e
+
 module _ (g : Setting) (s : State) where
   abbrev pub value_at : Variable → Value
   value_at v = value_in (read_at g v.read v.ty s)
@@ -174,7 +183,7 @@ module _ (g : Setting) (s : State) where
       where
         is_there : v.read ≡ r → read_at g r ty s ≡ finite (value_at v)
         is_there e =
-            let w = valid r ty k in
+            let w = valid.1 r ty k in
             let types : v.ty ≡ ty = one_type W r v.ty ty (subst (λ o. IsReadAt W o v.ty) e a.0) k in
             let path : read_at g v.read v.ty s ≡ finite w.0 = (λ i. read_at g (e i) (types i) s) ∙ w.1 in
             w.1 ∙ ap finite (sym (ap value_in path))
@@ -184,13 +193,13 @@ module _ (g : Setting) (s : State) where
         step false e m = m
         step true e m = is_there ((read_eq-Decides v.read r).0 e)
 
-    value_given : (vs : Vars) (V : Reading) (r : Read) (ty : Ty) → AreRead W vs → Sees V W → IsReadAt V r ty → is_given g s (with_values vs (values_of vs)) r ty
-    value_given vs V (Logical i) ty a f k = value_there vs (Logical i) ty a (f (Logical i) ty refl k)
-    value_given vs V (Program x side.Own) ty a f k = value_there vs (Program x side.Own) ty a (f (Program x side.Own) ty refl k)
-    value_given vs V (Program x side.Left) ty a f k = value_there vs (Program x side.Left) ty a (f (Program x side.Left) ty refl k)
-    value_given vs V (Program x side.Right) ty a f k = value_there vs (Program x side.Right) ty a (f (Program x side.Right) ty refl k)
-    value_given vs V (Program x (side.Memory i)) ty a f k = value_there vs (Program x (side.Memory i)) ty a (f (Program x (side.Memory i)) ty refl k)
-    value_given vs V (Program x (side.Bound i)) ty a f k = tt
+    value_given : (vs : Vars) (V : Reading) (r : Read) (ty : Ty) → AreRead W vs → Sees V W → AreBoundReadable g V → IsReadAt V r ty → is_given g s (with_values vs (values_of vs)) r ty
+    value_given vs V (Logical i) ty a f b k = value_there vs (Logical i) ty a (f (Logical i) ty refl k)
+    value_given vs V (Program x side.Own) ty a f b k = value_there vs (Program x side.Own) ty a (f (Program x side.Own) ty refl k)
+    value_given vs V (Program x side.Left) ty a f b k = value_there vs (Program x side.Left) ty a (f (Program x side.Left) ty refl k)
+    value_given vs V (Program x side.Right) ty a f b k = value_there vs (Program x side.Right) ty a (f (Program x side.Right) ty refl k)
+    value_given vs V (Program x (side.Memory i)) ty a f b k = value_there vs (Program x (side.Memory i)) ty a (f (Program x (side.Memory i)) ty refl k)
+    value_given vs V (Program x (side.Bound i)) ty a f b k = b i x ty k
 
     module _ (ks : Name → Bool) (vs : Vars) (a : AreRead W vs) where
       abbrev reads : List ReadValue
@@ -201,62 +210,62 @@ module _ (g : Setting) (s : State) where
       none_given (more_of-Term t ts) e = some_is_none (length (types_of ts)) _ e
 
       mutual
-        pub given : (t : Term) (V : Reading) → Sees V W → is_known ks t ≡ true → Fits g V t → AreGiven g s reads t
-        given (Term' p (more_of-Head (head.Read r) end_of-Head) n ts ty) V f k w =
+        pub given : (t : Term) (V : Reading) → Sees V W → AreBoundReadable g V → is_known ks t ≡ true → Fits g V t → AreGiven g s reads t
+        given (Term' p (more_of-Head (head.Read r) end_of-Head) n ts ty) V f b k w =
             let known = known_parts ks (head.Read r) ty ts k in
             let both = and_parts (length (types_of ts) == 0) (is_read_known r ty) known.0 in
-            (value_given vs V r ty a f w, none_given ts both.0)
-        given (Term' p (more_of-Head (head.Lit v) end_of-Head) n ts ty) V f k w = (tt, none_given ts (known_parts ks (head.Lit v) ty ts k).0)
-        given (Term' p (more_of-Head (head.Whole v) end_of-Head) n ts ty) V f k w = (tt, none_given ts (known_parts ks (head.Whole v) ty ts k).0)
-        given (Term' p (more_of-Head (head.Bound i) end_of-Head) n ts ty) V f k w = (tt, none_given ts (known_parts ks (head.Bound i) ty ts k).0)
-        given (Term' p (more_of-Head (head.Builtin o) end_of-Head) n ts ty) V f k w = (tt, row_given ts V f (known_parts ks (head.Builtin o) ty ts k).1 w.1)
-        given (Term' p (more_of-Head (head.User v) end_of-Head) n ts ty) V f k w = (tt, row_given ts V f (known_parts ks (head.User v) ty ts k).1 w)
-        given (Term' p (more_of-Head (head.All u) end_of-Head) n ts ty) V f k w =
+            (value_given vs V r ty a f b w, none_given ts both.0)
+        given (Term' p (more_of-Head (head.Lit v) end_of-Head) n ts ty) V f b k w = (tt, none_given ts (known_parts ks (head.Lit v) ty ts k).0)
+        given (Term' p (more_of-Head (head.Whole v) end_of-Head) n ts ty) V f b k w = (tt, none_given ts (known_parts ks (head.Whole v) ty ts k).0)
+        given (Term' p (more_of-Head (head.Bound i) end_of-Head) n ts ty) V f b k w = (tt, none_given ts (known_parts ks (head.Bound i) ty ts k).0)
+        given (Term' p (more_of-Head (head.Builtin o) end_of-Head) n ts ty) V f b k w = (tt, row_given ts V f b (known_parts ks (head.Builtin o) ty ts k).1 w.1)
+        given (Term' p (more_of-Head (head.User v) end_of-Head) n ts ty) V f b k w = (tt, row_given ts V f b (known_parts ks (head.User v) ty ts k).1 w)
+        given (Term' p (more_of-Head (head.All u) end_of-Head) n ts ty) V f b k w =
             let known = known_parts ks (head.All u) ty ts k in
-            (tt, only_given ts no_variables V f (one_argument ts u known.0) known.1 w)
-        given (Term' p (more_of-Head (head.Some u) end_of-Head) n ts ty) V f k w =
+            (tt, only_given ts no_variables (none_held g) V f b (one_argument ts u known.0) known.1 w)
+        given (Term' p (more_of-Head (head.Some u) end_of-Head) n ts ty) V f b k w =
             let known = known_parts ks (head.Some u) ty ts k in
-            (tt, only_given ts no_variables V f (one_argument ts u known.0) known.1 w)
-        given (Term' p (more_of-Head (head.Sum q) end_of-Head) n ts ty) V f k w =
+            (tt, only_given ts no_variables (none_held g) V f b (one_argument ts u known.0) known.1 w)
+        given (Term' p (more_of-Head (head.Sum q) end_of-Head) n ts ty) V f b k w =
             let known = known_parts ks (head.Sum q) ty ts k in
-            (tt, only_given ts no_variables V f known.0 known.1 w)
-        given (Term' p (more_of-Head head.AllMemory end_of-Head) n ts ty) V f k w =
+            (tt, only_given ts no_variables (none_held g) V f b known.0 known.1 w)
+        given (Term' p (more_of-Head head.AllMemory end_of-Head) n ts ty) V f b k w =
             let known = known_parts ks head.AllMemory ty ts k in
-            (tt, only_given ts w.0 V f known.0 known.1 w.2)
-        given (Term' p (more_of-Head head.SomeMemory end_of-Head) n ts ty) V f k w =
+            (tt, only_given ts w.0 w.1 V f b known.0 known.1 w.2)
+        given (Term' p (more_of-Head head.SomeMemory end_of-Head) n ts ty) V f b k w =
             let known = known_parts ks head.SomeMemory ty ts k in
-            (tt, only_given ts w.0 V f known.0 known.1 w.2)
-        given (Term' p (more_of-Head head.Mu end_of-Head) n ts ty) V f k w =
+            (tt, only_given ts w.0 w.1 V f b known.0 known.1 w.2)
+        given (Term' p (more_of-Head head.Mu end_of-Head) n ts ty) V f b k w =
             let known = known_parts ks head.Mu ty ts k in
-            (tt, both_given ts V f known.0 known.1 w)
-        given (Term' p (more_of-Head (head.Weights ps) end_of-Head) n ts ty) V f k w = (tt, none_given ts (known_parts ks (head.Weights ps) ty ts k).0)
-        given (Term' p (more_of-Head head.Map end_of-Head) n ts ty) V f k w =
+            (tt, both_given ts V f b known.0 known.1 w)
+        given (Term' p (more_of-Head (head.Weights ps) end_of-Head) n ts ty) V f b k w = (tt, none_given ts (known_parts ks (head.Weights ps) ty ts k).0)
+        given (Term' p (more_of-Head head.Map end_of-Head) n ts ty) V f b k w =
             let known = known_parts ks head.Map ty ts k in
-            (tt, both_given ts V f known.0 known.1 w)
-        given (Term' p (more_of-Head head.Restrict end_of-Head) n ts ty) V f k w =
+            (tt, both_given ts V f b known.0 known.1 w)
+        given (Term' p (more_of-Head head.Restrict end_of-Head) n ts ty) V f b k w =
             let known = known_parts ks head.Restrict ty ts k in
-            (tt, both_given ts V f known.0 known.1 w)
-        given (Term' p (more_of-Head h end_of-Head) n ts ty) V f k w = absurd (false≢true k)
+            (tt, both_given ts V f b known.0 known.1 w)
+        given (Term' p (more_of-Head h end_of-Head) n ts ty) V f b k w = absurd (false≢true k)
 
-        row_given : {n : Count} (ts : Row_of-Term n) (V : Reading) → Sees V W → are_true (all_known ks ts) ≡ true → AllFit g V ts → AllGiven g s reads ts
-        row_given end_of-Term V f k w = tt
-        row_given (more_of-Term t ts) V f k w =
+        row_given : {n : Count} (ts : Row_of-Term n) (V : Reading) → Sees V W → AreBoundReadable g V → are_true (all_known ks ts) ≡ true → AllFit g V ts → AllGiven g s reads ts
+        row_given end_of-Term V f b k w = tt
+        row_given (more_of-Term t ts) V f b k w =
             let known = and_parts (is_known ks t) (are_true (all_known ks ts)) k in
-            (given t V f known.0 w.0, row_given ts V f known.1 w.1)
+            (given t V f b known.0 w.0, row_given ts V f b known.1 w.1)
 
-        only_given : {n : Count} (ts : Row_of-Term n) (us : Variables) (V : Reading) → Sees V W → (length (types_of ts) == 1) ≡ true → are_true (all_known ks ts) ≡ true → OnlyFits g (inner us V) ts → AllGiven g s reads ts
-        only_given end_of-Term us V f e k w = tt
-        only_given (more_of-Term t end_of-Term) us V f e k w = (given t (inner us V) (sees_beneath us V W f) (and_parts (is_known ks t) true k).0 w, tt)
-        only_given (more_of-Term t (more_of-Term v ts)) us V f e k w = two_is_one (length (types_of ts)) _ e
+        only_given : {n : Count} (ts : Row_of-Term n) (us : Variables) → AreHeld g us → (V : Reading) → Sees V W → AreBoundReadable g V → (length (types_of ts) == 1) ≡ true → are_true (all_known ks ts) ≡ true → OnlyFits g (inner us V) ts → AllGiven g s reads ts
+        only_given end_of-Term us h V f b e k w = tt
+        only_given (more_of-Term t end_of-Term) us h V f b e k w = (given t (inner us V) (sees_beneath us V W f) (readable_beneath g us V h b) (and_parts (is_known ks t) true k).0 w, tt)
+        only_given (more_of-Term t (more_of-Term v ts)) us h V f b e k w = two_is_one (length (types_of ts)) _ e
 
-        both_given : {n : Count} (ts : Row_of-Term n) (V : Reading) → Sees V W → are_of_outcomes (types_of ts) ≡ true → are_true (all_known ks ts) ≡ true → BothFit g V ts → AllGiven g s reads ts
-        both_given end_of-Term V f e k w = tt
-        both_given (more_of-Term t end_of-Term) V f e k w = absurd (false≢true e)
-        both_given (more_of-Term t (more_of-Term v end_of-Term)) V f e k w =
+        both_given : {n : Count} (ts : Row_of-Term n) (V : Reading) → Sees V W → AreBoundReadable g V → are_of_outcomes (types_of ts) ≡ true → are_true (all_known ks ts) ≡ true → BothFit g V ts → AllGiven g s reads ts
+        both_given end_of-Term V f b e k w = tt
+        both_given (more_of-Term t end_of-Term) V f b e k w = absurd (false≢true e)
+        both_given (more_of-Term t (more_of-Term v end_of-Term)) V f b e k w =
             let first = and_parts (is_known ks t) (is_known ks v && true) k in
-            (given t V f first.0 w.0, (given v (inner no_variables V) (sees_beneath no_variables V W f) (and_parts (is_known ks v) true first.1).0 w.1, tt))
-        both_given (more_of-Term t (more_of-Term v (more_of-Term u ts))) V f e k w = absurd (false≢true e)
+            (given t V f b first.0 w.0, (given v (inner no_variables V) (sees_beneath no_variables V W f) (readable_beneath g no_variables V (none_held g) b) (and_parts (is_known ks v) true first.1).0 w.1, tt))
+        both_given (more_of-Term t (more_of-Term v (more_of-Term u ts))) V f b e k w = absurd (false≢true e)
 
       pub each_given : (hs : List Term) → AreKnown ks g W hs → EachGiven g s reads hs
       each_given [] k = tt
-      each_given (h ∷ hs) k = (given h W (itself W) k.0.0 k.0.1, each_given hs k.1)
+      each_given (h ∷ hs) k = (given h W (itself W) valid.0 k.0.0 k.0.1, each_given hs k.1)

@@ -13,9 +13,9 @@ use Rattle.gb_meaning.specs.Meanings.{of_truth}
 use Rattle.gb_meaning.specs.State.{State, Binding, binding, meaning_in, under}
 use Rattle.gb_meaning.specs.State.Binding.{program}
 use Rattle.gb_meaning.specs.Terms.{Speaks, read_at, val, parts}
-use Rattle.gb_changes.specs.Formed.{HasArguments}
-use Rattle.gb_changes.proofs.Heads.{Moved, Here, Under, IsInner, Related, inner_same}
-use Rattle.gb_changes.proofs.Raising.{has_parts}
+use Rattle.gb_laws.specs.Formed.{HasArguments}
+use Rattle.gb_laws.proofs.Heads.{Moved, Here, Under, IsInner, Related, inner_same}
+use Rattle.gb_laws.proofs.Raising.{has_parts}
 use Rattle.gb_smt_laws.specs.Simple.{is_simple, all_simple, only, both}
 use Rattle.gb_smt_laws.specs.Reading.{Variables, no_variables, Reading, IsReadAt, inner}
 use Rattle.gb_smt_laws.specs.Fits.{Fits, AllFit, OnlyFits, BothFit}

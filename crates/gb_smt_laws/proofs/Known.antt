@@ -16,8 +16,8 @@ use Rattle.gb_terms.specs.declared.term.Head.TheViews.{the_lemmas, out-Head, rol
 use Rattle.gb_terms.specs.declared.term.Head.TheFolds.{map-Head, fold-Instr, fold-Subject, fold-Cmd, fold_out-Head}
 use Rattle.gb_meaning.specs.Commands.{terms_in}
 use Rattle.sqlite_items.specs.formers.items.Items.{the_former}
-use Rattle.gb_changes.proofs.Trees.{out_is, HeadLayer}
-use Rattle.gb_typed.specs.Typing.{types_of}
+use Rattle.gb_laws.proofs.Trees.{out_is, HeadLayer}
+use Rattle.gb_laws.specs.Typing.{types_of}
 use Rattle.gb_meaning.specs.Names.{Name}
 use Rattle.gb_eval.specs.Known.{is_known, all_known, is_head_known, are_of_outcomes, are_true}
 use Rattle.gb_closing.specs.Linked.{Vars}

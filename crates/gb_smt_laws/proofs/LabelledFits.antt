@@ -2,22 +2,25 @@
 use Rattle.std.proofs.Common.{◌≡◌, zero, suc, true, Option, Some, None, refl, ap, sym, ◌∙◌, subst}
 use Rattle.std.specs.Option.{option_map}
 use Rattle.gb_core.specs.declared.ty.Ty.{Ty}
+use Rattle.gb_core.specs.declared.var.Var.{Var}
+use Rattle.gb_core.specs.declared.var.Var.TheVariants as var
 use Rattle.gb_terms.specs.declared.op.Side.{Side}
 use Rattle.gb_terms.specs.declared.op.Side.TheVariants as side
 use Rattle.gb_terms.specs.declared.op.Read.{Read}
 use Rattle.gb_terms.specs.declared.op.Read.TheVariants.{Logical, Program}
 use Rattle.gb_terms.specs.declared.term.Term.{Term, Term', Row_of-Term, end_of-Term, more_of-Term, end_of-Head, more_of-Head}
 use Rattle.gb_terms.specs.declared.term.Head.TheVariants as head
-use Rattle.gb_meaning.specs.Values.{has}
+use Rattle.gb_meaning.specs.Values.{values, has}
 use Rattle.gb_meaning.specs.Memory.{Memory, read}
 use Rattle.gb_meaning.specs.Setting.{Setting}
 use Rattle.gb_meaning.specs.Setting.Meaning.{finite}
 use Rattle.gb_meaning.specs.State.{State}
 use Rattle.gb_meaning.specs.Terms.{read_at}
+use Rattle.gb_reads.specs.Memories.{IsReadable}
 use Rattle.gb_labels.specs.Labels.{Labels, labelled_ty}
 use Rattle.gb_labels.specs.Labelled.{labelled, all_labelled}
 use Rattle.gb_smt_laws.specs.Labels.{AreLabels}
-use Rattle.gb_smt_laws.specs.Reading.{Variables, no_variables, Reading, IsReadAt, behind, inner, AreHeld, IsReadingOf}
+use Rattle.gb_smt_laws.specs.Reading.{Variables, no_variables, Reading, IsReadAt, behind, inner, AreHeld, AreBoundReadable, HasTypedValues, IsReadingOf}
 use Rattle.gb_smt_laws.specs.Fits.{IsOfValues, Fits, AllFit, OnlyFits, BothFit}
 use Rattle.gb_smt_laws.proofs.LabelledTypes.{labelled_values}
 use Rattle.gb_smt_laws.proofs.Labelled.{read_same, labelled_read, labelled_denominators}
@@ -56,20 +59,33 @@ module _ (ls : Labels) where
   unlabelled_at T (Program x r) u e = unlabelled (T.memory r x) u e
 
   module _ (g : Setting) (are : AreLabels g.types ls) where
-    held_labelled : (f : Variables) → AreHeld g f → AreHeld g (variables_at_labels f)
-    held_labelled f held x u e m =
-        let v = unlabelled (f x) u e in
-        subst (λ u. has g.types u (read g.types m x u) ≡ true) v.2
-        ((λ i. (labelled_values g.types ls are v.0 i).has (read_same g.types ls are m x v.0 i)) ∙ held x v.0 v.1 m)
+    readable_labelled : (x : Var) (v u : Ty) → labelled_ty ls v ≡ u → IsReadable g.types x v → IsReadable g.types x u
+    readable_labelled (var.Local x) v u e k = tt
+    readable_labelled (var.Global m x) v u e k = tt
+    readable_labelled (var.Glob a) v u e k = (k.0, k.1, ap (values g.types) (sym e) ∙ labelled_values g.types ls are v ∙ k.2)
 
-    pub reading_labelled : (T : Reading) (s : State) → IsReadingOf g T s → IsReadingOf g (reading_at_labels T) s
-    reading_labelled T s valid r u e =
+    held_labelled : (f : Variables) → AreHeld g f → AreHeld g (variables_at_labels f)
+    held_labelled f held x u e =
+        let v = unlabelled (f x) u e in
+        let w = held x v.0 v.1 in (
+          readable_labelled x v.0 u v.2 w.0,
+          λ m. subst (λ u. has g.types u (read g.types m x u) ≡ true) v.2 ((λ i. (labelled_values g.types ls are v.0 i).has (read_same g.types ls are m x v.0 i)) ∙ w.1 m),
+        )
+
+    memories_labelled : (T : Reading) → AreBoundReadable g T → AreBoundReadable g (reading_at_labels T)
+    memories_labelled T readable i x u e = let v = unlabelled (T.memory (side.Bound i) x) u e in readable_labelled x v.0 u v.2 (readable i x v.0 v.1)
+
+    values_labelled : (T : Reading) (s : State) → HasTypedValues g T s → HasTypedValues g (reading_at_labels T) s
+    values_labelled T s valid r u e =
         let v = unlabelled_at T r u e in
         let w = valid r v.0 v.1 in (
           w.0,
           subst (λ u. read_at g r u s ≡ finite w.0) v.2 (labelled_read g ls are r v.0 s ∙ w.1),
           subst (λ u. has g.types u w.0 ≡ true) v.2 ((λ i. (labelled_values g.types ls are v.0 i).has w.0) ∙ w.2),
         )
+
+    pub reading_labelled : (T : Reading) (s : State) → IsReadingOf g T s → IsReadingOf g (reading_at_labels T) s
+    reading_labelled T s valid = (memories_labelled T valid.0, values_labelled T s valid.1)
 
     mutual
       pub labelled_fits : (T : Reading) (t : Term) → Fits g T t → Fits g (reading_at_labels T) (labelled ls t)

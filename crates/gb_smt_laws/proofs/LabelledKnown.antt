@@ -15,7 +15,7 @@ use Rattle.gb_terms.specs.declared.term.Head.TheVariants as head
 use Rattle.gb_meaning.specs.Names.{Name}
 use Rattle.gb_meaning.specs.Operators.{is_distribution, outcome_type}
 use Rattle.gb_meaning.specs.Written.{type_of}
-use Rattle.gb_typed.specs.Typing.{types_of}
+use Rattle.gb_laws.specs.Typing.{types_of}
 use Rattle.gb_goal.specs.Scope.{Declarations}
 use Rattle.gb_eval.specs.Known.{is_known, all_known, is_head_known, is_read_known, is_result_known, takes, has_finite_outcomes, are_of_outcomes, are_true, known_of}
 use Rattle.gb_labels.specs.Labels.{Labels, labelled_ty}

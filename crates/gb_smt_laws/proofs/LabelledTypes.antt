@@ -12,8 +12,8 @@ use Rattle.gb_meaning.specs.Names.{Name}
 use Rattle.gb_meaning.specs.Values.{Types, values, all_values_by, footprint_values}
 use Rattle.gb_meaning.specs.Operators.{is_distribution, outcome_type, key_type, modulus}
 use Rattle.gb_meaning.specs.Trees.{distributions, options}
-use Rattle.gb_typed.specs.Operators.{row, maps, tuples}
-use Rattle.gb_typed.proofs.Constructors.{option_is, distribution_is, map_is, tuple_is}
+use Rattle.gb_laws.specs.Operators.{row, maps, tuples}
+use Rattle.gb_laws.proofs.Constructors.{option_is, distribution_is, map_is, tuple_is}
 use Rattle.gb_labels.specs.Labels.{Labels, count_of, labels, labels_or, labelled_layer, labelled_ty, choices, choice_at}
 use Rattle.gb_smt_laws.specs.Labels.{AreLabels}
 

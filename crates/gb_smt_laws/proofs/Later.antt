@@ -17,7 +17,7 @@ use Rattle.gb_meaning.specs.Setting.Meaning.{finite}
 use Rattle.gb_meaning.specs.State.{State, under}
 use Rattle.gb_meaning.specs.State.Binding.{value, memory}
 use Rattle.gb_meaning.specs.Terms.{Speaks, read_at}
-use Rattle.gb_smt_laws.specs.Reading.{Variables, no_variables, Reading, inner, AreHeld, IsReadingOf}
+use Rattle.gb_smt_laws.specs.Reading.{Variables, no_variables, Reading, inner, AreHeld, HasTypedValues, IsReadingOf}
 use Rattle.gb_smt_laws.specs.Closing.{AreAssumed}
 use Rattle.gb_smt_laws.proofs.Equations.{some_some}
 use Rattle.gb_smt_laws.proofs.Finding.{variable}
@@ -119,27 +119,33 @@ module _ (g : Setting) (W : Reading) (s : State) (valid : IsReadingOf g W s) whe
   abbrev HasValue : State → Read → Ty → Type 0
   HasValue z r ty = (v : Value) × (read_at g r ty z ≡ finite v) × (has g.types ty v ≡ true)
 
-  pub valid_with_variable : (n : ℕ) (u : Ty) (v : Value) → has g.types u v ≡ true → IsReadingOf g (reading_with n u W) (state_with n (finite v) s)
-  valid_with_variable n u v h (Logical i) ty k = step (i == n) k
+  values_with_variable : (n : ℕ) (u : Ty) (v : Value) → has g.types u v ≡ true → HasTypedValues g (reading_with n u W) (state_with n (finite v) s)
+  values_with_variable n u v h (Logical i) ty k = step (i == n) k
     where
       step : (b : Bool) → (if b then Some u else W.logical i) ≡ Some ty → (w : Value) × ((if b then finite v else s.logical i) ≡ finite w) × (has g.types ty w ≡ true)
       step true e = (v, refl, ap (λ t. has g.types t v) (sym (some_some u ty e)) ∙ h)
-      step false e = valid (Logical i) ty e
-  valid_with_variable n u v h (Program x side.Own) ty k = valid (Program x side.Own) ty k
-  valid_with_variable n u v h (Program x side.Left) ty k = valid (Program x side.Left) ty k
-  valid_with_variable n u v h (Program x side.Right) ty k = valid (Program x side.Right) ty k
-  valid_with_variable n u v h (Program x (side.Memory i)) ty k = valid (Program x (side.Memory i)) ty k
-  valid_with_variable n u v h (Program x (side.Bound i)) ty k = valid (Program x (side.Bound i)) ty k
+      step false e = valid.1 (Logical i) ty e
+  values_with_variable n u v h (Program x side.Own) ty k = valid.1 (Program x side.Own) ty k
+  values_with_variable n u v h (Program x side.Left) ty k = valid.1 (Program x side.Left) ty k
+  values_with_variable n u v h (Program x side.Right) ty k = valid.1 (Program x side.Right) ty k
+  values_with_variable n u v h (Program x (side.Memory i)) ty k = valid.1 (Program x (side.Memory i)) ty k
+  values_with_variable n u v h (Program x (side.Bound i)) ty k = valid.1 (Program x (side.Bound i)) ty k
 
-  pub valid_with_memory : (m : ℕ) (f : Variables) (d : Memory) → AreHeld g f → IsReadingOf g (reading_at m f W) (state_at m d s)
-  valid_with_memory m f d h (Logical i) ty k = valid (Logical i) ty k
-  valid_with_memory m f d h (Program x side.Own) ty k = valid (Program x side.Own) ty k
-  valid_with_memory m f d h (Program x side.Left) ty k = valid (Program x side.Left) ty k
-  valid_with_memory m f d h (Program x side.Right) ty k = valid (Program x side.Right) ty k
-  valid_with_memory m f d h (Program x (side.Bound i)) ty k = valid (Program x (side.Bound i)) ty k
-  valid_with_memory m f d h (Program x (side.Memory i)) ty k = step (i == m) k
+  pub valid_with_variable : (n : ℕ) (u : Ty) (v : Value) → has g.types u v ≡ true → IsReadingOf g (reading_with n u W) (state_with n (finite v) s)
+  valid_with_variable n u v h = (valid.0, values_with_variable n u v h)
+
+  values_with_memory : (m : ℕ) (f : Variables) (d : Memory) → AreHeld g f → HasTypedValues g (reading_at m f W) (state_at m d s)
+  values_with_memory m f d h (Logical i) ty k = valid.1 (Logical i) ty k
+  values_with_memory m f d h (Program x side.Own) ty k = valid.1 (Program x side.Own) ty k
+  values_with_memory m f d h (Program x side.Left) ty k = valid.1 (Program x side.Left) ty k
+  values_with_memory m f d h (Program x side.Right) ty k = valid.1 (Program x side.Right) ty k
+  values_with_memory m f d h (Program x (side.Bound i)) ty k = valid.1 (Program x (side.Bound i)) ty k
+  values_with_memory m f d h (Program x (side.Memory i)) ty k = step (i == m) k
     where
       step : (b : Bool) → (if b then f else W.memory (side.Memory i)) x ≡ Some ty →
           (w : Value) × (finite (read g.types (if b then d else s.named i) x ty) ≡ finite w) × (has g.types ty w ≡ true)
-      step true e = (read g.types d x ty, refl, h x ty e d)
-      step false e = valid (Program x (side.Memory i)) ty e
+      step true e = (read g.types d x ty, refl, (h x ty e).1 d)
+      step false e = valid.1 (Program x (side.Memory i)) ty e
+
+  pub valid_with_memory : (m : ℕ) (f : Variables) (d : Memory) → AreHeld g f → IsReadingOf g (reading_at m f W) (state_at m d s)
+  valid_with_memory m f d h = (valid.0, values_with_memory m f d h)

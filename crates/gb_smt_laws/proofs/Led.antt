@@ -12,9 +12,9 @@ use Rattle.gb_walk.specs.Change.{Changes, under_binder, found_for_read, found_fo
 use Rattle.gb_meaning.specs.Setting.{Meaning, Setting}
 use Rattle.gb_meaning.specs.State.{State, Binding, binding, meaning_in, under}
 use Rattle.gb_meaning.specs.Terms.{Speaks, read_at, val, denominator}
-use Rattle.gb_changes.proofs.Leading.{lifted_zero}
-use Rattle.gb_changes.proofs.Lookups.{raised_bound, read_found_under, read_of_binder, bound_found_under, bound_of_binder, side_under, side_of_binder}
-use Rattle.gb_changes.proofs.Raising.{denominator_raised}
+use Rattle.gb_laws.proofs.Leading.{lifted_zero}
+use Rattle.gb_laws.proofs.Lookups.{raised_bound, read_found_under, read_of_binder, bound_found_under, bound_of_binder, side_under, side_of_binder}
+use Rattle.gb_laws.proofs.Raising.{denominator_raised}
 use Rattle.gb_smt_laws.specs.Simple.{is_simple}
 use Rattle.gb_smt_laws.specs.Reading.{Variables, Reading, IsReadAt, inner}
 use Rattle.gb_smt_laws.specs.Fits.{Fits}

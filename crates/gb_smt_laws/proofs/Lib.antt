@@ -1,3 +1,13 @@
+pub mod Fractions
+pub mod Alike
+pub mod Operated
+pub mod Congruent
+mod Parts
+mod Labelling
+pub mod EqualityIsSound
+pub mod States
+pub mod Respects
+pub mod Results
 pub mod Nodes
 pub mod Raised
 pub mod Led
@@ -27,5 +37,6 @@ mod Opened
 pub mod Modules
 pub mod Right
 pub mod Rule
+pub mod Globless
 pub mod Fitting
 pub mod Typed

@@ -14,8 +14,8 @@ use Rattle.gb_meaning.specs.Trees.{row, term}
 use Rattle.gb_meaning.specs.Setting.{Setting}
 use Rattle.gb_meaning.specs.Terms.{denominator, denominators}
 use Rattle.gb_meaning.specs.Commands.{terms_in}
-use Rattle.gb_laws.proofs.Nodes.{term_is_node}
-use Rattle.gb_changes.specs.Formed.{AreTwo}
+use Rattle.gb_meaning.proofs.Nodes.{term_is_node}
+use Rattle.gb_laws.specs.Formed.{AreTwo}
 use Rattle.gb_smt_laws.specs.Simple.{is_simple, all_simple, is_simple_at, both}
 use Rattle.gb_smt_laws.specs.Reading.{no_variables, Reading, IsReadAt, inner}
 use Rattle.gb_smt_laws.specs.Fits.{IsOfValues, Fits, AllFit, OnlyFits, BothFit}

@@ -11,8 +11,8 @@ use Rattle.gb_goal.specs.Scope as scope
 use Rattle.gb_goal.specs.Scope.{entry_of}
 use Rattle.gb_meaning.specs.Names.{Name}
 use Rattle.gb_holds.specs.Declared.{Declarations, Declaration, declaration_of, declared}
-use Rattle.gb_typed.specs.Typing.{OperatorType, types_of as argument_types, IsHead, inner}
-use Rattle.gb_typed.specs.Typing as typed
+use Rattle.gb_laws.specs.Typing.{OperatorType, types_of as argument_types, IsHead, inner}
+use Rattle.gb_laws.specs.Typing as typed
 use Rattle.gb_typing.specs.Context.{Context, erased}
 use Rattle.gb_typing.specs.Scopes.{of_operator, nothing, with_declared, is_declared, AreTypedAfter, IsTypedScope}
 use Rattle.gb_typing.proofs.Erased.{erased_typed}

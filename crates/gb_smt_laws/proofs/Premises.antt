@@ -16,10 +16,10 @@ use Rattle.gb_meaning.specs.Operators.{operated}
 use Rattle.gb_meaning.specs.Trees.{places, row}
 use Rattle.gb_meaning.specs.Terms.{Speaks, argument, val, parts}
 use Rattle.gb_meaning.specs.Commands.{terms_in}
-use Rattle.gb_laws.proofs.Nodes.{term_is_node}
-use Rattle.gb_laws.proofs.Truths.{truth_of}
-use Rattle.gb_changes.proofs.Changed.{term_changed_is}
-use Rattle.gb_changes.proofs.Changing.{kept_at, arguments_of}
+use Rattle.gb_meaning.proofs.Nodes.{term_is_node}
+use Rattle.gb_meaning.proofs.Truths.{truth_of}
+use Rattle.gb_laws.proofs.Changed.{term_changed_is}
+use Rattle.gb_laws.proofs.Changing.{kept_at, arguments_of}
 use Rattle.gb_smt.specs.Meant.{IsRight}
 use Rattle.gb_smt.specs.Leaves.{is_true, unless_true, assumed, all_assumed}
 use Rattle.gb_smt_laws.specs.Reading.{Reading}

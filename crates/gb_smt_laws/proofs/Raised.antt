@@ -1,5 +1,5 @@
 -- Simple terms under one binder more.
-use Rattle.std.proofs.Common.{◌≡◌, ℕ, zero, suc, ◌+◌, Bool, true, Some, None, List, [], ◌∷◌, map, refl, ap, sym, ◌∙◌, subst}
+use Rattle.std.proofs.Common.{◌≡◌, ℕ, zero, suc, ◌+◌, Bool, true, Some, List, [], ◌∷◌, map, refl, ap, sym, ◌∙◌, subst}
 use Rattle.std.specs.List.{AllByRecursion, list_all}
 use Rattle.std.proofs.lemmas.Bool.{false≢true, and_parts}
 use Rattle.gb_core.specs.declared.ty.Ty.{Ty}
@@ -20,13 +20,13 @@ use Rattle.gb_meaning.specs.State.{State, Binding, meaning_in, under}
 use Rattle.gb_meaning.specs.State.Binding.{program}
 use Rattle.gb_meaning.specs.Terms.{Speaks, read_at, val, parts, part_of, denominator, denominators}
 use Rattle.gb_meaning.specs.Commands.{terms_in}
-use Rattle.gb_laws.proofs.Nodes.{val_node}
-use Rattle.gb_changes.specs.Lifted.{Lifted}
-use Rattle.gb_changes.proofs.Trees.{raised_at, term_raised_is}
-use Rattle.gb_changes.specs.Formed.{HasArguments}
-use Rattle.gb_changes.proofs.Heads.{Moved, Here, Under, IsInner, Related, inner_same}
-use Rattle.gb_changes.proofs.Lookups.{raised_bound}
-use Rattle.gb_changes.proofs.Raising.{index_zero, index_suc, lifted_under, lifted_side, has_parts, denominator_raised}
+use Rattle.gb_meaning.proofs.Nodes.{val_node}
+use Rattle.gb_laws.specs.Lifted.{Lifted}
+use Rattle.gb_laws.proofs.Trees.{raised_at, term_raised_is}
+use Rattle.gb_laws.specs.Formed.{HasArguments}
+use Rattle.gb_laws.proofs.Heads.{Moved, Here, Under, IsInner, Related, inner_same}
+use Rattle.gb_laws.proofs.Lookups.{raised_bound}
+use Rattle.gb_laws.proofs.Raising.{index_zero, index_suc, lifted_under, lifted_side, has_parts, denominator_raised}
 use Rattle.gb_smt_laws.specs.Simple.{is_simple, all_simple, is_simple_at, only, both}
 use Rattle.gb_smt_laws.specs.Reading.{Variables, no_variables, Reading, IsReadAt, inner}
 use Rattle.gb_smt_laws.specs.Fits.{IsOfValues, Fits, AllFit, OnlyFits, BothFit}

@@ -13,8 +13,8 @@ use Rattle.gb_meaning.specs.State.{State, under}
 use Rattle.gb_meaning.specs.State.Binding.{memory}
 use Rattle.gb_meaning.specs.Terms.{Speaks, Part, last_of, parts, part_of}
 use Rattle.gb_meaning.specs.Judgments.{Judge, IsFair, speaking}
-use Rattle.gb_laws.proofs.Nodes.{term_is_node}
-use Rattle.gb_changes.proofs.Heads.{Moved, Here, Under, last_moved}
+use Rattle.gb_meaning.proofs.Nodes.{term_is_node}
+use Rattle.gb_laws.proofs.Heads.{Moved, Here, Under, last_moved}
 use Rattle.gb_eval.specs.Meant.{AreJudged, AllJudged, is_judged_at}
 use Rattle.gb_smt.specs.Meant.{IsRight}
 use mathlib.Core.Former.{Count, arity, this}

@@ -19,8 +19,8 @@ use Rattle.gb_meaning.specs.State.{State, under}
 use Rattle.gb_meaning.specs.State.Binding.{value, memory}
 use Rattle.gb_meaning.specs.Terms.{Speaks}
 use Rattle.gb_meaning.specs.Judgments.{Judge, speaking, IsFair}
-use Rattle.gb_judge.proofs.Exact.{trying}
-use Rattle.gb_judge.proofs.Fair.{is_fair}
+use Rattle.gb_laws.proofs.Exact.{trying}
+use Rattle.gb_laws.proofs.Fair.{is_fair}
 use Rattle.gb_holds.specs.Declared.{Declarations}
 use Rattle.gb_holds.specs.Settings.{Interpretation, with_program, types_of, setting}
 use Rattle.gb_holds.specs.Truth.{Choice, has_module, last_has_module, IsFirstTrue, Truth, TruthOfLast}

@@ -21,9 +21,9 @@ use Rattle.gb_meaning.specs.State.Binding.{value, memory}
 use Rattle.gb_meaning.specs.Operators.{operated}
 use Rattle.gb_meaning.specs.Terms.{Speaks, argument, at_value, last_of, val, parts, each_value}
 use Rattle.gb_meaning.specs.Judgments.{Judge, speaking, IsFair}
-use Rattle.gb_laws.proofs.Numberings.{lawful}
-use Rattle.gb_laws.proofs.Bools.{each_value_has}
-use Rattle.gb_laws.proofs.Truths.{truth_of}
+use Rattle.gb_meaning.proofs.Numberings.{lawful}
+use Rattle.gb_meaning.proofs.Bools.{each_value_has}
+use Rattle.gb_meaning.proofs.Truths.{truth_of}
 use Rattle.gb_smt.specs.declared.leaves.Leaf.{Leaf}
 use Rattle.gb_smt.specs.Leaves as leaves
 use Rattle.gb_smt.specs.Leaves.{with_variable, with_memory, assumed, whole, split}

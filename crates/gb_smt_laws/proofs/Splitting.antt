@@ -19,10 +19,10 @@ use Rattle.gb_meaning.specs.Meanings.{nothing}
 use Rattle.gb_meaning.specs.State.{State, Binding, binding, meaning_in, memory_of, under}
 use Rattle.gb_meaning.specs.State.Binding.{value, memory, program}
 use Rattle.gb_meaning.specs.Terms.{Speaks, read_at, val, denominator}
-use Rattle.gb_laws.proofs.Nodes.{val_node, denominator_node}
-use Rattle.gb_changes.proofs.Leading.{lifted_zero}
-use Rattle.gb_changes.proofs.Lookups.{bound_found_under, bound_of_binder, side_under}
-use Rattle.gb_changes.proofs.Raising.{lifted_side}
+use Rattle.gb_meaning.proofs.Nodes.{val_node, denominator_node}
+use Rattle.gb_laws.proofs.Leading.{lifted_zero}
+use Rattle.gb_laws.proofs.Lookups.{bound_found_under, bound_of_binder, side_under}
+use Rattle.gb_laws.proofs.Raising.{lifted_side}
 use Rattle.gb_smt_laws.specs.Reading.{Variables, no_variables, Reading, IsReadAt, inner}
 use Rattle.gb_smt_laws.specs.Fits.{Fits}
 use Rattle.gb_smt_laws.proofs.Nodes.{read_fits}

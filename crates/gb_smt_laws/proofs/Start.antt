@@ -20,7 +20,7 @@ use Rattle.gb_meaning.specs.State.{State, meaning_in, memory_of}
 use Rattle.gb_meaning.specs.State.Binding.{program}
 use Rattle.gb_meaning.specs.Terms.{read_at}
 use Rattle.gb_holds.specs.Holds.{AreValues, context}
-use Rattle.gb_smt_laws.specs.Reading.{Variables, no_variables, Reading, IsReadAt, AreHeld, IsReadingOf}
+use Rattle.gb_smt_laws.specs.Reading.{Variables, no_variables, Reading, IsReadAt, AreHeld, HasTypedValues, IsReadingOf}
 use Rattle.gb_smt_laws.specs.Ready.{named_variables, reading_of}
 use Rattle.gb_smt_laws.proofs.Equations.{none_some, some_some}
 use Rattle.gb_smt_laws.proofs.Kept.{Keeps}
@@ -56,15 +56,18 @@ module _ (g : Setting) (q : Sequent) (f : ℕ → Variables) (vs : List Value) (
   abbrev pub s : State
   s = context vs ms
 
-  pub start_valid : ((i : ℕ) → AreHeld g (f i)) → AreValues g.types (map (λ x. x.ty) q.logical) vs → IsReadingOf g T s
-  start_valid held a (Logical i) ty e = (get_or vs i (Num 0), refl, values_typed g.types q.logical vs a i ty e)
-  start_valid held a (Program x (side.Memory i)) ty e =
+  start_values : ((i : ℕ) → AreHeld g (f i)) → AreValues g.types (map (λ x. x.ty) q.logical) vs → HasTypedValues g T s
+  start_values held a (Logical i) ty e = (get_or vs i (Num 0), refl, values_typed g.types q.logical vs a i ty e)
+  start_values held a (Program x (side.Memory i)) ty e =
       let w = named_here (length q.memories) f x ty i e in
-      (read g.types (s.named i) x ty, refl, held i x ty w.1 (s.named i))
-  start_valid held a (Program x side.Own) ty e = none_some ty e
-  start_valid held a (Program x side.Left) ty e = none_some ty e
-  start_valid held a (Program x side.Right) ty e = none_some ty e
-  start_valid held a (Program x (side.Bound i)) ty e = none_some ty e
+      (read g.types (s.named i) x ty, refl, (held i x ty w.1).1 (s.named i))
+  start_values held a (Program x side.Own) ty e = none_some ty e
+  start_values held a (Program x side.Left) ty e = none_some ty e
+  start_values held a (Program x side.Right) ty e = none_some ty e
+  start_values held a (Program x (side.Bound i)) ty e = none_some ty e
+
+  pub start_valid : ((i : ℕ) → AreHeld g (f i)) → AreValues g.types (map (λ x. x.ty) q.logical) vs → IsReadingOf g T s
+  start_valid held a = (λ i x ty e. none_some ty e, start_values held a)
 
   module _ (V : Reading) (z : State) (l : Later (length q.logical) (length q.memories) T s V z) where
     start_logical : (i : ℕ) (ty : Ty) → T.logical i ≡ Some ty → (V.logical i ≡ Some ty) × (z.logical i ≡ s.logical i)

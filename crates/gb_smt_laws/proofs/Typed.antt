@@ -8,16 +8,19 @@ use Rattle.gb_terms.specs.declared.decl.TypedName.{TypedName}
 use Rattle.gb_terms.specs.declared.op.Side.{Side}
 use Rattle.gb_terms.specs.declared.op.Side.TheVariants as side
 use Rattle.gb_terms.specs.declared.term.Term.{Term}
+use Rattle.gb_terms.specs.declared.module.Mexp.TheVariants.{Name as named}
 use Rattle.gb_goal.specs.declared.sequent.Hyp.{Hyp}
 use Rattle.gb_goal.specs.declared.sequent.Sequent.{Sequent}
+use Rattle.gb_meaning.specs.Names.{Name}
 use Rattle.gb_meaning.specs.Setting.{Setting}
 use Rattle.gb_goal.specs.Scope as scope
 use Rattle.gb_holds.specs.Declared.{Declarations, declared}
 use Rattle.gb_eval.specs.Meant.{AreBodies}
 use Rattle.gb_smt_laws.proofs.Bodies.{scope_bodies}
+use Rattle.gb_holds.specs.Programs.{AreOnce}
 use Rattle.gb_holds.specs.Holds.{declared_modules, interpretation, InEachSetting}
-use Rattle.gb_typed.specs.Finite.{IsFinite, IsInhabited}
-use Rattle.gb_typed.specs.Operators.{item}
+use Rattle.gb_laws.specs.Finite.{IsFinite, IsInhabited}
+use Rattle.gb_laws.specs.Operators.{item}
 use Rattle.gb_typing.specs.Context.{Frame, Context, frame_of}
 use Rattle.gb_typing.specs.Typing.{IsIn, IsForm}
 use Rattle.gb_typing.specs.Scopes.{context_of, IsTypedScope}
@@ -38,7 +41,7 @@ logical_read [] i u e = none_some u e
 logical_read (x ∷ xs) zero u e = e
 logical_read (x ∷ xs) (suc i) u e = logical_read xs i u e
 
-module _ (ds : Declarations) (g : Setting) (inhabited : IsInhabited g.types) (q : Sequent) (t : IsTypedSequent (context_of ds) q) where
+module _ (ds : Declarations) (g : Setting) (inhabited : IsInhabited g.types) (once : (a : Name) → AreOnce (g.types.footprint (named a))) (q : Sequent) (t : IsTypedSequent (context_of ds) q) where
   abbrev c : Context
   c = of_sequent (context_of ds) q t.frames
 
@@ -57,7 +60,7 @@ module _ (ds : Declarations) (g : Setting) (inhabited : IsInhabited g.types) (q 
       step (Some ls) e =
           let below = subst (λ n. i < n) t.memories (place_below (λ f. f) t.frames i ls e) in
           ap (λ (b : Bool). (if b then variables_in g c (frame_of c (side.Memory i)) else no_variables) x) (lt-ltb i (length q.memories) below)
-          ∙ in_frame g inhabited c (frame_of c (side.Memory i)) x u s k
+          ∙ in_frame g inhabited once c (frame_of c (side.Memory i)) x u s k
 
   memory_read : (r : Side) (x : Var) (u : Ty) → IsIn c (frame_of c r) x u → IsFinite u → T.memory r x ≡ Some u
   memory_read side.Own x u s k = no_memory_read c.own (ap (λ c. c.own) (sequent_outermost ds q t.frames)) x u s
@@ -71,20 +74,20 @@ module _ (ds : Declarations) (g : Setting) (inhabited : IsInhabited g.types) (q 
 
   hypotheses_fit : (hs : List Hyp) → AreFormulas c hs → UsedFit g T hs
   hypotheses_fit [] k = tt
-  hypotheses_fit (h ∷ hs) k = (λ e. formula_fits g inhabited c T agrees h.form k.0, hypotheses_fit hs k.1)
+  hypotheses_fit (h ∷ hs) k = (λ e. formula_fits g inhabited once c T agrees h.form k.0, hypotheses_fit hs k.1)
 
   forms_fit : (fs : List Term) → AllByRecursion (IsForm c) fs → AllByRecursion (Fits g T) fs
   forms_fit [] w = tt
-  forms_fit (f ∷ fs) w = (fits g inhabited c T agrees f w.0.typed, forms_fit fs w.1)
+  forms_fit (f ∷ fs) w = (fits g inhabited once c T agrees f w.0.typed, forms_fit fs w.1)
 
   pub goal_ready : (es : scope.Declarations) → AreBodies g es → (known : List Term) → AllByRecursion (IsForm c) known → SmtIsReady es g known q
   goal_ready es bodies known w = record {
     operators = bodies;
     variables = λ i. variables_in g c (frame_of c (side.Memory i));
-    held = λ i. held g inhabited c (frame_of c (side.Memory i));
+    held = λ i. held g inhabited once c (frame_of c (side.Memory i));
     hyps = hypotheses_fit q.hyps t.hyps;
     known_forms = forms_fit known w;
-    conclusion = conclusion_fits g inhabited c T agrees q.conclusion t.conclusion;
+    conclusion = conclusion_fits g inhabited once c T agrees q.conclusion t.conclusion;
   }
 
 module _ (es : scope.Declarations) (typed : IsTypedScope (declared es)) (q : Sequent) (t : IsTypedSequent (context_of (declared es)) q) (known : List Term)
@@ -93,4 +96,4 @@ module _ (es : scope.Declarations) (typed : IsTypedScope (declared es)) (q : Seq
   pub smt_is_ready : InEachSetting (declared es) q (λ g. SmtIsReady es g known q)
   smt_is_ready w size table model =
       each_program (declared es) (declared_modules (declared es)) (interpretation w size table) _ _
-      (λ i x. each_program (declared es) q.modules i _ _ (λ k fit. goal_ready (declared es) _ fit.types.inhabited q t es (scope_bodies es k typed) known forms) x) (each_setting (declared es) typed q t.modules t.frames w size table model)
+      (λ i x. each_program (declared es) q.modules i _ _ (λ k fit. goal_ready (declared es) _ fit.types.inhabited fit.once q t es (scope_bodies es k typed) known forms) x) (each_setting (declared es) typed q t.modules t.frames w size table model)

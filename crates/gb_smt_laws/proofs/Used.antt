@@ -20,9 +20,9 @@ use Rattle.gb_meaning.specs.Setting.Meaning.{finite, whole, fraction, weights}
 use Rattle.gb_meaning.specs.Meanings.{truth, same}
 use Rattle.gb_meaning.specs.State.{State}
 use Rattle.gb_meaning.specs.Terms.{Speaks, read_at, val, denominator}
-use Rattle.gb_laws.proofs.Nodes.{each_is_node, val_node}
-use Rattle.gb_laws.proofs.Values.{value_eq-true}
-use Rattle.gb_laws.proofs.Truths.{truth_of}
+use Rattle.gb_meaning.proofs.Nodes.{each_is_node, val_node}
+use Rattle.gb_meaning.proofs.Values.{value_eq-true}
+use Rattle.gb_meaning.proofs.Truths.{truth_of}
 use Rattle.gb_smt.specs.declared.leaves.Leaf.{Leaf}
 use Rattle.gb_smt.specs.Meant.{IsRight}
 use Rattle.gb_smt.specs.Equations.{use_of, one_further, here_or_further, first_usable, others, with_used, if_usable, used_up_to}
@@ -67,7 +67,7 @@ module _ (g : Setting) (j : Speaks) (T : Reading) (s : State) (valid : IsReading
       let w = f simple in
       let typed : IsReadAt T q (out-Term x).ty =
       subst (λ o. IsReadAt T o (out-Term x).ty) e (read_in g T k.read (out-Term x).args (out-Term x).ty (subst (Fits g T) (read_side x k.read k.is_read) w.fits_read)) in
-      let there = valid q (out-Term x).ty typed in
+      let there = valid.1 q (out-Term x).ty typed in
       let means : val g j x s ≡ finite there.0 =
       ap (λ t. val g j t s) (read_side x k.read k.is_read) ∙ val_node g j (head.Read k.read) (out-Term x).args (out-Term x).ty s ∙ ap (λ o. read_at g o (out-Term x).ty s) e ∙ there.1 in
       (w.fits, w.one, w.equal there.0 means ∙ sym there.1 ∙ ap (λ t. read_at g q t s) (one_type T q (out-Term x).ty ty typed a))

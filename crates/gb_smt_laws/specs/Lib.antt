@@ -1,3 +1,5 @@
+pub mod Alike
+pub mod Valid
 pub mod Labels
 pub mod Simple
 pub mod Reading

@@ -13,6 +13,7 @@ use Rattle.gb_meaning.specs.Setting.{Setting}
 use Rattle.gb_meaning.specs.Setting.Meaning.{finite}
 use Rattle.gb_meaning.specs.State.{State}
 use Rattle.gb_meaning.specs.Terms.{read_at}
+use Rattle.gb_reads.specs.Memories.{IsReadable}
 
 -- the types at which the variables of a memory are read, each at one at most
 abbrev pub Variables : Type 0
@@ -40,10 +41,17 @@ behind f m r = m r
 abbrev pub inner : Variables → Reading → Reading
 inner f T = record { logical = T.logical; memory = behind f T.memory }
 
--- each memory gives each of the variables a value of its type
+-- memories give each of the variables all values of its type, and no others
 abbrev pub AreHeld : Setting → Variables → Type 0
-AreHeld g f = (x : Var) (ty : Ty) → f x ≡ Some ty → (m : Memory) → has g.types ty (read g.types m x ty) ≡ true
+AreHeld g f = (x : Var) (ty : Ty) → f x ≡ Some ty → IsReadable g.types x ty × ((m : Memory) → has g.types ty (read g.types m x ty) ≡ true)
+
+-- memories give the variables of each memory that a binder binds all values of their types
+abbrev pub AreBoundReadable : Setting → Reading → Type 0
+AreBoundReadable g T = (i : ℕ) (x : Var) (ty : Ty) → T.memory (Bound i) x ≡ Some ty → IsReadable g.types x ty
 
 -- in the state each variable has a value of the type at which it is read
+abbrev pub HasTypedValues : Setting → Reading → State → Type 0
+HasTypedValues g T s = (r : Read) (ty : Ty) → IsReadAt T r ty → (v : Value) × (read_at g r ty s ≡ finite v) × (has g.types ty v ≡ true)
+
 abbrev pub IsReadingOf : Setting → Reading → State → Type 0
-IsReadingOf g T s = (r : Read) (ty : Ty) → IsReadAt T r ty → (v : Value) × (read_at g r ty s ≡ finite v) × (has g.types ty v ≡ true)
+IsReadingOf g T s = AreBoundReadable g T × HasTypedValues g T s

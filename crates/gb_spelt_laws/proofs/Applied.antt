@@ -26,8 +26,8 @@ use Rattle.gb_typing.specs.Sequents.{IsTypedSequent}
 use Rattle.gb_typing.proofs.Given.{refused_at, same_given}
 use Rattle.gb_bodies.specs.Rows as bodies
 use Rattle.gb_linear.specs.Closing.{compared, all_assumed, allowed, rest, is_closed, closed_by, closed_with, closing, linear_answer}
-use Rattle.gb_sums.specs.Forms.{is_constant}
-use Rattle.gb_sums.specs.declared.forms.LinearForm.{LinearForm}
+use Rattle.gb_linear.specs.Forms.{is_constant}
+use Rattle.gb_linear.specs.declared.forms.LinearForm.{LinearForm}
 use Rattle.gb_theory.specs.Commands.{closed_unless, entering, entered, OnBoth, on_guard, transformed, Applied}
 use Rattle.gb_shapes.specs.declared.place.Enumeration.{Enumeration}
 use Rattle.gb_spelt_laws.specs.Named.{IsNamedSequent}

@@ -21,8 +21,8 @@ use Rattle.gb_goal.specs.Scope.{Declarations}
 use Rattle.gb_typing.specs.Samplings.{Sampling, last_sampling}
 use Rattle.gb_typing.specs.Supports.{nearest}
 use Rattle.gb_typing.proofs.Given.{refused_given, same_given}
-use Rattle.gb_chance.specs.Compared as real
-use Rattle.gb_chance.specs.Compared.{literal}
+use Rattle.gb_parts.specs.Compared as real
+use Rattle.gb_parts.specs.Compared.{literal}
 use Rattle.gb_full.specs.Loss.{Loss, nowhere, sampled, called, first_loss, code_loss}
 use Rattle.gb_equiv.specs.Drawn.{clashing}
 use Rattle.gb_full.specs.Lossless.{full, of_rest}

@@ -14,12 +14,12 @@ use Rattle.gb_walk.specs.declared.change.Change.TheVariants.{ToTerm, OfBound, To
 use Rattle.gb_walk.specs.Layers.{seen_by}
 use Rattle.gb_walk.specs.Change.{Changes, change_raised, is_own, is_left_or_right, is_through, without, under_binder, seen_by_args, seen_by_last, put_or, found_for_read, found_for_bound, read_changed, side_changed, term_of, term_changed, subject_changed}
 use Rattle.gb_meaning.specs.Commands.{terms_in}
-use Rattle.gb_changes.specs.Led.{OnPut}
-use Rattle.gb_changes.proofs.Changed.{changed_at, term_changed_is}
-use Rattle.gb_changes.proofs.Changing.{kept_at, arguments_of}
-use Rattle.gb_changes.proofs.Forms.{procedure_stays}
-use Rattle.gb_changes.proofs.Leading.{OnSome, read_found_each, bound_found_each}
-use Rattle.gb_changes.proofs.Lookups.{each_filter, each_map}
+use Rattle.gb_laws.specs.Led.{OnPut}
+use Rattle.gb_laws.proofs.Changed.{changed_at, term_changed_is}
+use Rattle.gb_laws.proofs.Changing.{kept_at, arguments_of}
+use Rattle.gb_laws.proofs.Forms.{procedure_stays}
+use Rattle.gb_laws.proofs.Leading.{OnSome, read_found_each, bound_found_each}
+use Rattle.gb_laws.proofs.Lookups.{each_filter, each_map}
 use Rattle.gb_shapes.specs.declared.place.Enumeration.{Enumeration}
 use Rattle.gb_spelt_laws.specs.Named.{IsNamedResult, IsNamedSubject, IsNamedHead, IsNamed, AreNamed}
 use Rattle.gb_spelt_laws.proofs.Trees.{AllNamed, node_named, raised_named}

@@ -50,7 +50,7 @@ use Rattle.gb_spelt_laws.specs.Rules.{IsNamedStep}
 use Rattle.gb_spelt_laws.proofs.Trees.{AllNamed, node_named, parts_named}
 use Rattle.gb_spelt_laws.proofs.Changed.{changed_named}
 use Rattle.gb_spelt_laws.proofs.Forms.{as_result, implies_named, not_named}
-use Rattle.gb_spelt_laws.proofs.Goals.{no_front}
+use Rattle.gb_spelt_laws.proofs.NamedGoals.{no_front}
 use Rattle.gb_spelt_laws.proofs.Rows.{goal_named}
 use Rattle.gb_spelt_laws.proofs.Sequents.{all_append, concluding_named, all_concluding_named, assuming_named}
 

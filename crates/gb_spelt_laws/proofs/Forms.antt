@@ -22,7 +22,7 @@ use Rattle.gb_walk.specs.declared.change.Change.TheVariants.{ToSide}
 use Rattle.gb_walk.specs.Change.{Changes, term_changed}
 use Rattle.gb_walk.specs.Sides.{reads_side}
 use Rattle.gb_typing.specs.Forms.{and_form, implies_form, not_form, equal_form, located, all_memory, every, every_pair}
-use Rattle.gb_chance.specs.Compared.{number, zero as zero_form, one as one_form, at_most_form, compared, certain_or_not}
+use Rattle.gb_parts.specs.Compared.{number, zero as zero_form, one as one_form, at_most_form, compared, certain_or_not}
 use Rattle.gb_parts.specs.Assigned.{parts_from, part_types, parts_at, taken, put_in, assigned_form}
 use Rattle.gb_parts.specs.Likely.{iff_form, as_likely}
 use Rattle.gb_shapes.specs.declared.place.Enumeration.{Enumeration}

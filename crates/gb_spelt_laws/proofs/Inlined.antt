@@ -36,7 +36,7 @@ use Rattle.gb_goal.specs.Goal.Goal.{hoare, phoare, equiv, ambient}
 use Rattle.gb_goal.specs.Scope.{Declarations, procedure_of}
 use Rattle.gb_goal.specs.declared.scope.ProcName.{ProcName}
 use Rattle.gb_ended.specs.Loops.{unproved_of}
-use Rattle.gb_typed.proofs.Constructors.{option_is}
+use Rattle.gb_laws.proofs.Constructors.{option_is}
 use Rattle.gb_typing.specs.Programs.{locals_of}
 use Rattle.gb_typing.proofs.Given.{refused_given, same_given}
 use Rattle.gb_parts.specs.OneBody.{OneBody}
@@ -50,7 +50,7 @@ use Rattle.gb_inline.specs.Inlined.{is_asked, unless_unproved, asked, Expansion,
 use Rattle.gb_shapes.specs.declared.place.Enumeration.{Enumeration}
 use Rattle.gb_readback.specs.Written.{is_name_text, is_path, is_numeral_here, is_target_here, are_targets_here}
 use Rattle.gb_readback.proofs.Tokens.{both}
-use Rattle.gb_spelt.proofs.Forms.{name_path}
+use Rattle.gb_spelt_laws.proofs.TypedForms.{name_path}
 use Rattle.gb_spelt_laws.specs.Named.{IsNamedType, IsNamed, IsNamedInstr, AreNamedInstrs, IsNamedVariable}
 use Rattle.gb_spelt_laws.specs.Rules.{HasFirst, IsNamedLocal, IsNamedProcedure, AreNamedProcedures, KeepsNames}
 use Rattle.gb_spelt_laws.proofs.Marked.{numbered_name, name_l}

@@ -1,3 +1,7 @@
+pub mod Headed
+pub mod Operators
+pub mod TypedForms
+pub mod TypedGoals
 pub mod Marked
 pub mod Types
 pub mod Trees
@@ -5,7 +9,7 @@ pub mod Changed
 pub mod Opened
 pub mod Spelling
 pub mod Statements
-pub mod Goals
+pub mod NamedGoals
 pub mod Forms
 pub mod Programs
 pub mod Rows

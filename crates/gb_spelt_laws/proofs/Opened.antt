@@ -12,7 +12,7 @@ use Rattle.gb_terms.specs.declared.term.Head.TheViews.{out-Head, roll-Head, roll
 use Rattle.gb_terms.specs.declared.term.Head.TheFolds.{map-Head, fold-Head, fold-Instr, fold-Subject, fold-Cmd, fold_out-Term, fold_out-Head}
 use Rattle.gb_walk.specs.Layers.{is_binder, where_last, seen_by}
 use Rattle.gb_meaning.specs.Commands.{terms_in}
-use Rattle.gb_changes.proofs.Trees.{HeadLayer, out_is}
+use Rattle.gb_laws.proofs.Trees.{HeadLayer, out_is}
 use Rattle.gb_shapes.specs.declared.place.Enumeration.{Enumeration}
 use Rattle.gb_shapes.specs.Open.{found_at, first_found, at_head, at_term, is_open, type_read}
 use Rattle.gb_shapes.proofs.OpenSteps.{type_read_is}

@@ -27,7 +27,7 @@ use Rattle.gb_typing.specs.Samplings.{Sampling, last_sampling}
 use Rattle.gb_typing.specs.Supports.{nearest}
 use Rattle.gb_typing.proofs.Given.{refused_given, same_given}
 use Rattle.gb_parts.specs.OneBody.{OneBody}
-use Rattle.gb_chance.specs.Compared.{one}
+use Rattle.gb_parts.specs.Compared.{one}
 use Rattle.gb_full.specs.Loss.{may_lose}
 use Rattle.gb_equiv.specs.Drawn.{clashing}
 use Rattle.gb_relational.specs.OneSide.{with_value, each_drawn, before_drawing, by_end, drawn_row}

@@ -16,7 +16,7 @@ use Rattle.gb_terms.specs.declared.term.Subject.{Subject}
 use Rattle.gb_terms.specs.Make.{node}
 use Rattle.gb_walk.specs.Change.{term_changed}
 use Rattle.gb_meaning.specs.Commands.{terms_in}
-use Rattle.gb_changes.proofs.Trees.{out_is}
+use Rattle.gb_laws.proofs.Trees.{out_is}
 use Rattle.gb_steps.specs.declared.step.RewriteRule.{RewriteRule}
 use Rattle.gb_steps.specs.declared.step.RewriteRule.TheVariants.{Forward, Back, Subst, Unfold}
 use Rattle.gb_goal.specs.Answers.Answer.{given, refused}

@@ -21,8 +21,8 @@ use Rattle.gb_terms.specs.declared.term.Head.TheVariants as head
 use Rattle.gb_terms.specs.declared.term.Head.TheVariants.{Proc, Body'}
 use Rattle.gb_terms.specs.declared.term.Subject.{Subject}
 use Rattle.gb_terms.specs.Heads.{is_judgment}
-use Rattle.gb_typed.specs.Operators.{IsOperator}
-use Rattle.gb_typed.specs.Typing.{types_of, IsHead}
+use Rattle.gb_laws.specs.Operators.{IsOperator}
+use Rattle.gb_laws.specs.Typing.{types_of, IsHead}
 use Rattle.gb_shapes.specs.declared.place.Enumeration.{Enumeration}
 use Rattle.gb_shapes.specs.declared.place.Known.{Known}
 use Rattle.gb_shapes.specs.Names.{Name, Place}
@@ -32,11 +32,11 @@ use Rattle.gb_print_text.specs.Layout.{outcome, type_needed, is_mod_layer}
 use Rattle.gb_readback.specs.Written.{is_path, is_name_text, is_variable_here, is_target_here, are_targets_here, IsWrittenType, IsWrittenIfAny, IsWrittenLiteral, are_weights_here, IsWrittenModule, AreWrittenModules, IsWrittenProcedure, below}
 use Rattle.gb_readback.specs.Written as w
 use Rattle.gb_readback.proofs.Tokens.{both}
-use Rattle.gb_spelt.specs.Spelt.{is_spelt_operator, is_named_side, IsSpeltHead, IsSpelt, AreSpelt}
-use Rattle.gb_spelt.specs.Spelt as s
+use Rattle.gb_spelt_laws.specs.Spelt.{is_spelt_operator, is_named_side, IsSpeltHead, IsSpelt, AreSpelt}
+use Rattle.gb_spelt_laws.specs.Spelt as s
 use Rattle.gb_typing.specs.Context.{Context, erased}
 use Rattle.gb_typing.specs.Typing.{IsPlace, IsNamed as Names, first, middle, last, IsTyped, AreTyped}
-use Rattle.gb_changes.proofs.Trees.{out_is}
+use Rattle.gb_laws.proofs.Trees.{out_is}
 use Rattle.gb_meaning.specs.Commands.{terms_in}
 use Rattle.gb_spelt_laws.specs.Named.{IsNamedType, IsNamedResult, IsNamedOperator, IsNamedSubject, IsNamedHead, IsNamed, AreNamed}
 use Rattle.gb_spelt_laws.proofs.Types.{BindsNone, path_kept, type_written, type_here}

@@ -18,8 +18,8 @@ use Rattle.gb_walk.specs.Layers.{where_last, seen_by}
 use Rattle.gb_walk.specs.Raise.{last_from, at_head, at_instr, at_subject, at_cmd, at_term, term_raised, subject_raised}
 use Rattle.gb_meaning.specs.Trees.{row}
 use Rattle.gb_meaning.specs.Commands.{terms_in}
-use Rattle.gb_laws.proofs.Nodes.{term_is_node}
-use Rattle.gb_changes.proofs.Trees.{raised_at, term_raised_is, out_is}
+use Rattle.gb_meaning.proofs.Nodes.{term_is_node}
+use Rattle.gb_laws.proofs.Trees.{raised_at, term_raised_is, out_is}
 use Rattle.gb_shapes.specs.declared.place.Enumeration.{Enumeration}
 use Rattle.gb_spelt_laws.specs.Named.{IsNamedResult, IsNamedSubject, IsNamedHead, IsNamed, AreNamed}
 use mathlib.Core.Former.{Count}

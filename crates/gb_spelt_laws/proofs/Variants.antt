@@ -14,7 +14,7 @@ use Rattle.gb_terms.specs.declared.term.Term.{Term, Term', end_of-Head, more_of-
 use Rattle.gb_terms.specs.declared.term.Head.TheVariants.{Lit, Read, Builtin, Assign, Sample, Call', If', While'}
 use Rattle.gb_terms.specs.declared.term.Instr.{Instr, Row_of-Instr, end_of-Instr, more_of-Instr}
 use Rattle.gb_meaning.specs.Written.{type_of, IsModulo}
-use Rattle.gb_changes.proofs.Trees.{out_is}
+use Rattle.gb_laws.proofs.Trees.{out_is}
 use Rattle.gb_goal.specs.Goal.Code.{body}
 use Rattle.gb_goal.specs.Goal.Goal.{hoare}
 use Rattle.gb_typing.specs.Context.{Context}

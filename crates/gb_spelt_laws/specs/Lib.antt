@@ -1,2 +1,3 @@
+pub mod Spelt
 pub mod Named
 pub mod Rules

@@ -9,8 +9,8 @@ use Rattle.gb_goal.specs.Answers.Answer.{given}
 use Rattle.gb_theory.specs.Built.{Session, with_goals}
 use Rattle.gb_theory.specs.Built.{OpenProof as Opened}
 use Rattle.gb_theory.specs.Commands.{InProof, WorksOn}
-use Rattle.gb_theory.specs.declared.state.OpenProof.{OpenProof}
-use Rattle.gb_theory.specs.declared.state.State.{State}
+use Rattle.gb_state.specs.declared.state.OpenProof.{OpenProof}
+use Rattle.gb_state.specs.declared.state.State.{State}
 use Rattle.gb_theory.specs.Sessions.{session_of, open_of, IsDue}
 
 -- what a step does in an open proof

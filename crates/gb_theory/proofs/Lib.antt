@@ -9,5 +9,4 @@ pub mod InProofs
 pub mod Named
 pub mod Passed
 pub mod Read
-pub mod Shared
 pub mod Steps

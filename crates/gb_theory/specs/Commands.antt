@@ -46,7 +46,7 @@ use Rattle.gb_use.specs.Uses as uses
 use Rattle.gb_rewrite.specs.Rewriting.{rewrite_answer}
 use Rattle.gb_theory.specs.Limits.{declaration_limit, each_limit, all_limit}
 use Rattle.gb_theory.specs.Combinators.{Stepping, works}
-use Rattle.gb_theory.specs.declared.state.Claim.TheVariants as claim
+use Rattle.gb_state.specs.declared.state.Claim.TheVariants as claim
 use Rattle.gb_theory.specs.Built.{Session, OpenProof, with_entries, with_module, with_lemma, with_goals, with_proved}
 use Rattle.gb_variants.specs.Operand.{operand}
 use Rattle.gb_variants.specs.Variants.{goals_of}

@@ -8,8 +8,8 @@ use Rattle.gb_goal.specs.Answers.{Answer}
 use Rattle.gb_goal.specs.Answers.Answer.{given, refused}
 use Rattle.gb_theory.specs.Built.{Session}
 use Rattle.gb_theory.specs.Built as session
-use Rattle.gb_theory.specs.declared.state.OpenProof.{OpenProof}
-use Rattle.gb_theory.specs.declared.state.State.{State}
+use Rattle.gb_state.specs.declared.state.OpenProof.{OpenProof}
+use Rattle.gb_state.specs.declared.state.State.{State}
 
 abbrev pub open_of : OpenProof → session.OpenProof
 open_of p = record { claim = p.claim; goals = p.goals; fresh = p.fresh }

@@ -6,8 +6,8 @@ use Rattle.gb_theory.specs.Built.{Session}
 use Rattle.gb_core.specs.declared.place.Place.{Place}
 use Rattle.gb_script.specs.declared.tree.Node.{Node}
 use Rattle.gb_theory.specs.Outcome.{IsReadAs, RunsTo, IsOutcome}
-use Rattle.gb_theory.specs.declared.verdict.Verdict.{Verdict}
-use Rattle.gb_theory.specs.declared.verdict.Verdict.TheVariants.{Accepted, Refused}
+use Rattle.gb_state.specs.declared.verdict.Verdict.{Verdict}
+use Rattle.gb_state.specs.declared.verdict.Verdict.TheVariants.{Accepted, Refused}
 
 -- what a piece of a text comes to: it is read and run
 abbrev pub PieceRunsTo : Session → List ℕ → Place → Answer Session → Type 0

@@ -1,7 +1,7 @@
 // A script has one verdict.
 
 ghost use Rattle.std.specs.Prelude.{◌≡◌, ℕ, List};
-ghost use Rattle.gb_theory.specs.declared.verdict.Verdict.{Verdict};
+ghost use Rattle.gb_state.specs.declared.verdict.Verdict.{Verdict};
 ghost use Rattle.gb_theory.specs.Verdicts.{IsVerdict};
 
 use crate::outcome_laws::{each_text_has_an_outcome, one_outcome};

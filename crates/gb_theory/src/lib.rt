@@ -7,6 +7,5 @@ pub mod laws;
 mod limits;
 mod names;
 pub mod outcome_laws;
-pub mod state;
 mod tactics;
 pub mod verdict;

@@ -12,7 +12,7 @@ use Rattle.gb_meaning.specs.Setting.{Setting}
 use Rattle.gb_meaning.specs.Sound.{IsSound}
 use Rattle.gb_meaning.specs.State.{State, at, between}
 use Rattle.gb_meaning.specs.Terms.{val}
-use Rattle.gb_laws.proofs.Runs.{run_positive}
+use Rattle.gb_meaning.proofs.Runs.{run_positive}
 use Rattle.gb_holds.specs.Declared.{Declarations}
 use Rattle.gb_holds.specs.Holds.{LoopsAreGood}
 use Rattle.gb_goal.specs.Answers.{Answer, ◌>>=◌}

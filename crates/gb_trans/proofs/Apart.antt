@@ -10,10 +10,10 @@ use Rattle.gb_terms.specs.declared.module.Mexp.TheVariants.{Name as named}
 use Rattle.gb_meaning.specs.Names.{Path}
 use Rattle.gb_meaning.specs.Values.{Global, Types}
 use Rattle.gb_walk.specs.Clash.{clashes, least_from, lesser}
-use Rattle.gb_local.specs.Cells.{Key}
-use Rattle.gb_local.specs.Cells.Key.{global, local}
-use Rattle.gb_local.specs.Writes.{key_of_global, keys_of, IsNone, Spares}
-use Rattle.gb_local.proofs.Cells.{key_discrete}
+use Rattle.gb_laws.specs.Cells.{Key}
+use Rattle.gb_laws.specs.Cells.Key.{global, local}
+use Rattle.gb_laws.specs.Writes.{key_of_global, keys_of, IsNone, Spares}
+use Rattle.gb_laws.proofs.Cells.{key_discrete}
 use Rattle.gb_premises.specs.declared.effects.Effects.{Effects}
 use Rattle.gb_trans.specs.Effects.{crossing, meets}
 use Rattle.gb_trans.proofs.Named.{EachNamed}

@@ -14,12 +14,12 @@ use Rattle.gb_meaning.specs.Runs.{out}
 use Rattle.gb_meaning.specs.Setting.{Setting}
 use Rattle.gb_meaning.specs.State.{State}
 use Rattle.gb_meaning.specs.Values.{fit}
-use Rattle.gb_laws.proofs.Maps.{path_order-same, map_same}
-use Rattle.gb_local.specs.Cells.{Key, Cell, get_at}
-use Rattle.gb_local.specs.Cells.Key.{global, local}
-use Rattle.gb_local.specs.Pairs.{Zip, SameOrKept}
-use Rattle.gb_local.specs.Writes.{Unwritten}
-use Rattle.gb_local.proofs.Leaves.{run_leaves}
+use Rattle.gb_meaning.proofs.Maps.{path_order-same, map_same}
+use Rattle.gb_laws.specs.Cells.{Key, Cell, get_at}
+use Rattle.gb_laws.specs.Cells.Key.{global, local}
+use Rattle.gb_laws.specs.Pairs.{Zip, SameOrKept}
+use Rattle.gb_laws.specs.Writes.{Unwritten}
+use Rattle.gb_laws.proofs.Leaves.{run_leaves}
 use Rattle.gb_typing.specs.Meaning.{run, denominator}
 use Rattle.gb_typing.proofs.Runs.{run_append, denominator_append}
 use Rattle.gb_prog.specs.Loops.{RunAlike}

@@ -13,8 +13,8 @@ use Rattle.gb_meaning.specs.Commands.{statements}
 use Rattle.gb_meaning.specs.Program.Routine.{routine}
 use Rattle.gb_meaning.specs.Setting.{Setting}
 use Rattle.gb_meaning.specs.State.{State}
-use Rattle.gb_local.specs.Cells.{Key}
-use Rattle.gb_local.specs.Writes.{Spares, Unwritten}
+use Rattle.gb_laws.specs.Cells.{Key}
+use Rattle.gb_laws.specs.Writes.{Spares, Unwritten}
 use Rattle.gb_holds.specs.Footprints as own
 use Rattle.gb_holds.specs.Footprints.{globals_among, touched_in, variables, variables_in}
 use Rattle.gb_goal.specs.Scope.{Declarations, procedure_of}

@@ -10,3 +10,4 @@ pub mod Crossing
 pub mod Alike
 pub mod Placed
 pub mod RulesAreSound
+mod Swaps

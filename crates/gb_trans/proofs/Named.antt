@@ -3,8 +3,8 @@ use Rattle.std.proofs.Common.{◌≢◌, List, [], ◌∷◌, ◌++◌}
 use Rattle.std.specs.List.{AllByRecursion}
 use Rattle.gb_core.specs.declared.var.Var.{Var}
 use Rattle.gb_meaning.specs.Values.{Types}
-use Rattle.gb_local.specs.Cells.{Key}
-use Rattle.gb_local.specs.Writes.{keys_of, IsNone, Spares}
+use Rattle.gb_laws.specs.Cells.{Key}
+use Rattle.gb_laws.specs.Writes.{keys_of, IsNone, Spares}
 
 -- of each place that one of these variables names
 abbrev pub EachNamed : Types → (Key → Type 0) → List Var → Type 0

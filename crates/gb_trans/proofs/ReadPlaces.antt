@@ -21,11 +21,11 @@ use Rattle.gb_meaning.specs.Program.Program.{done, assign, sample, branch, loop,
 use Rattle.gb_meaning.specs.Program.Routine.{routine}
 use Rattle.gb_meaning.specs.Setting.{Setting}
 use Rattle.gb_meaning.specs.Values.{Global}
-use Rattle.gb_local.specs.Cells.{Key, Cell, Cells, Covers, cells_of, global_cell}
-use Rattle.gb_local.specs.Cells.Key.{global, local}
-use Rattle.gb_local.specs.Reads.{leaf_cells, program_cells, routine_cells, row_cells, term_cells, terms_cells}
-use Rattle.gb_local.specs.Writes.{key_of_global, keys_of}
-use Rattle.gb_local.proofs.NearRuns.{InFrame, with_frame}
+use Rattle.gb_laws.specs.Cells.{Key, Cell, Cells, Covers, cells_of, global_cell}
+use Rattle.gb_laws.specs.Cells.Key.{global, local}
+use Rattle.gb_laws.specs.Reads.{leaf_cells, program_cells, routine_cells, row_cells, term_cells, terms_cells}
+use Rattle.gb_laws.specs.Writes.{key_of_global, keys_of}
+use Rattle.gb_laws.proofs.NearRuns.{InFrame, with_frame}
 use Rattle.gb_holds.specs.Footprints.{globals_among, head_variables, variables, variables_in}
 use Rattle.gb_goal.specs.Scope.{Declarations, procedure_of}
 use Rattle.gb_mods.specs.Called.{called_by, row_calls, calls}
@@ -35,7 +35,7 @@ use Rattle.gb_typing.specs.Context.{Context, procedure}
 use Rattle.gb_typing.specs.Modules.{ProcedureType}
 use Rattle.gb_typing.specs.Programs.{AreArguments, AreStatements, EachStatement, IsCall, IsProcedure}
 use Rattle.gb_typing.specs.Typing.{AreTyped, IsNamed, IsTyped, first, middle, last}
-use Rattle.gb_typed.specs.Typing.{types_of}
+use Rattle.gb_laws.specs.Typing.{types_of}
 use Rattle.gb_trans.proofs.Named.{EachNamed, named_append}
 use Rattle.gb_trans.proofs.Within.{ReadsWithin}
 use mathlib.Core.Former.{Count}

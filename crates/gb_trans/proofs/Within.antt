@@ -10,16 +10,16 @@ use Rattle.gb_meaning.specs.Runs.{most_turns, turns_at, is_true, run_denominator
 use Rattle.gb_meaning.specs.Setting.{Setting}
 use Rattle.gb_meaning.specs.State.{State, inside}
 use Rattle.gb_meaning.specs.Terms.{distribution}
-use Rattle.gb_local.specs.Cells.{Cell, Covers, Agree}
-use Rattle.gb_local.specs.Pairs.{Zip, SameOrKept, SameOutcome}
-use Rattle.gb_local.specs.Reads.{term_cells, terms_cells, routine_cells}
-use Rattle.gb_local.specs.States.{Near}
-use Rattle.gb_local.proofs.Cells.{front, rest}
-use Rattle.gb_local.proofs.Kept.{kept_self, kept_agrees, write_keeps, assigned_keeps, returned_keeps, since, zip_then}
-use Rattle.gb_local.proofs.Near.{near_quiet}
-use Rattle.gb_local.proofs.NearRuns.{with_frame, globals_of, kept_outcomes}
-use Rattle.gb_local.proofs.States.{near_self, near_inside}
-use Rattle.gb_local.proofs.Zips.{zip-scale, zip-if, zip-dmap, zip-equal, zip-turns}
+use Rattle.gb_laws.specs.Cells.{Cell, Covers, Agree}
+use Rattle.gb_laws.specs.Pairs.{Zip, SameOrKept, SameOutcome}
+use Rattle.gb_laws.specs.Reads.{term_cells, terms_cells, routine_cells}
+use Rattle.gb_laws.specs.States.{Near}
+use Rattle.gb_laws.proofs.Cells.{front, rest}
+use Rattle.gb_laws.proofs.Kept.{kept_self, kept_agrees, write_keeps, assigned_keeps, returned_keeps, since, zip_then}
+use Rattle.gb_laws.proofs.Near.{near_quiet}
+use Rattle.gb_laws.proofs.NearRuns.{with_frame, globals_of, kept_outcomes}
+use Rattle.gb_laws.proofs.States.{near_self, near_inside}
+use Rattle.gb_laws.proofs.Zips.{zip-scale, zip-if, zip-dmap, zip-equal, zip-turns}
 
 module _ (g : Setting) where
   -- the program reads within F, and procedures that it calls read globals within F

@@ -3,6 +3,8 @@
 
 pub mod apply;
 pub mod effects;
+pub mod event_laws;
 pub mod laws;
 pub mod places;
 pub mod swap;
+pub mod transformed;

@@ -2,7 +2,7 @@
 
 ghost use Rattle.std.specs.Prelude.{◌≡◌, ◌≤◌, ◌+◌, ◌++◌, length, IfOk};
 ghost use Rattle.gb_goal.specs.Answers.{Answers};
-ghost use Rattle.gb_goal.specs.Rows.{answered, each_concluding};
+ghost use Rattle.gb_goal.specs.Rows.{answered};
 ghost use Rattle.gb_goal.specs.Scope.{Declarations};
 ghost use Rattle.gb_goal.specs.declared.sequent.Sequent.{Sequent as TypedSequent};
 ghost use Rattle.gb_holds.specs.Declared.{declared};
@@ -11,20 +11,18 @@ ghost use Rattle.gb_steps.specs.declared.step.Passing.{Passing as Passed};
 ghost use Rattle.gb_typing.specs.Rules.{IsSoundRuleIn, no_arguments};
 ghost use Rattle.gb_typing.specs.Scopes.{context_of, IsTypedScope};
 ghost use Rattle.gb_typing.specs.Sequents.{of_sequent, IsTypedSequent};
-ghost use Rattle.gb_parts.specs.OneBody.{one_seen};
 ghost use Rattle.gb_trans.specs.Effects as effect;
 ghost use Rattle.gb_trans.specs.Swap.{apart, exchange, moved, swap_row, swapped};
-ghost use Rattle.gb_trans.specs.Transformed.{with_body};
 
 use crate::effects::{crossing, effects_of};
-use gb_core::SharedItems;
+use crate::transformed::with_body;
 use gb_core::copy::copy_var;
 use gb_core::refusal::{Refused, Why};
 use gb_goal::goal::goal_of;
 use gb_goal::scope::Scope;
 use gb_goal::sequent::{Sequent, Sequents};
-use gb_parts::one_body::{OneBody, filled, one_body};
-use gb_parts::subgoals::{no_shape, one_goal, refusal};
+use gb_parts::one_body::one_body;
+use gb_parts::subgoals::{no_shape, refusal};
 use gb_steps::step::{Acts, Passing};
 use gb_terms::term::{Instr, Instrs};
 use sqlite_items::Items;
@@ -128,24 +126,6 @@ fn swapped(alloc: Global, scope: &Scope, swap: Passing, list: &[Instr]) -> Resul
     moved(alloc, scope, swap, list)
 }
 
-/// The goal with this body of a goal moved.
-fn swap_one(
-    alloc: Global,
-    scope: &Scope,
-    goal: &Sequent,
-    swap: Passing,
-    one: &OneBody<'_>,
-) -> Result<Sequents, Refused>
-    ensures { Answers (each_concluding goal.now (with_body (λ o. swapped scope.now swap o.list) (one_seen one.now))) result }
-{
-    let list = swapped(alloc, scope, swap, one.list)?;
-    let list = SharedItems::new(alloc, list)?;
-    let pre = one.pre.share()?;
-    let post = one.post.share()?;
-    let conclusion = filled(alloc, one.around, list, pre, post)?;
-    Ok(one_goal(alloc, goal, conclusion)?)
-}
-
 /// The subgoal of `swap`: a statement of a body passes others. Refused with `Shape` where the goal has no such body, with `Argument`
 /// where the statement isn't there or leaves the body, and with `SideCondition` where it doesn't commute with one that it passes.
 pub fn swap(
@@ -157,10 +137,11 @@ pub fn swap(
 ) -> Result<Sequents, Refused>
     ensures { Answers (answered (swap_row scope.now acts swap) goal.now) result }
 {
-    match one_body(acts, goal_of(&goal.conclusion)) {
-        Some(one) => swap_one(alloc, scope, goal, swap, &one),
-        None => Err(no_shape()),
-    }
+    let Some(one) = one_body(acts, goal_of(&goal.conclusion)) else {
+        return Err(no_shape());
+    };
+    let list = swapped(alloc, scope, swap, one.list)?;
+    with_body(alloc, goal, &one, list)
 }
 
 /// `swap` is sound over each typed scope, at the goal of each typed sequent.

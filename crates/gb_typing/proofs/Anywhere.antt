@@ -14,12 +14,12 @@ use Rattle.gb_meaning.specs.Memory.{Memory}
 use Rattle.gb_meaning.specs.Setting.{Setting}
 use Rattle.gb_meaning.specs.State.{State, inside}
 use Rattle.gb_meaning.specs.Terms.{quiet, val}
-use Rattle.gb_changes.specs.Agree.{Agree}
-use Rattle.gb_changes.specs.Plain.{HeadIsPlain, IsPlain, AllPlain}
-use Rattle.gb_changes.specs.Uses.{Uses, beneath, of_arguments, of_last, HeadIsWithin, IsWithin, AreWithin}
-use Rattle.gb_changes.specs.Uses.Use.{read as reads, bound, globals, starts, binds_own, binds_sides}
-use Rattle.gb_changes.proofs.Agreeing.{term_agrees}
-use Rattle.gb_typed.specs.Typing.{types_of, IsHead}
+use Rattle.gb_laws.specs.Agree.{Agree}
+use Rattle.gb_laws.specs.Plain.{HeadIsPlain, IsPlain, AllPlain}
+use Rattle.gb_laws.specs.Uses.{Uses, beneath, of_arguments, of_last, HeadIsWithin, IsWithin, AreWithin}
+use Rattle.gb_laws.specs.Uses.Use.{read as reads, bound, globals, starts, binds_own, binds_sides}
+use Rattle.gb_laws.proofs.Agreeing.{term_agrees}
+use Rattle.gb_laws.specs.Typing.{types_of, IsHead}
 use Rattle.gb_typing.specs.Context.{Context, erased, of_program}
 use Rattle.gb_typing.specs.Programs.{IsExpression}
 use Rattle.gb_typing.specs.Typing.{IsNamed, first, middle, last, IsTyped, AreTyped}

@@ -18,10 +18,10 @@ use Rattle.gb_meaning.specs.Terms.{quiet}
 use Rattle.gb_meaning.specs.Runs.{valued}
 use Rattle.gb_meaning.specs.Judgments.{Judge, IsFair, den}
 use Rattle.gb_meaning.specs.Written.{type_of}
-use Rattle.gb_changes.specs.Uses.{IsWithin}
-use Rattle.gb_changes.specs.Written.{with_side, IsSide, Written}
-use Rattle.gb_typed.specs.Finite.{IsFinite}
-use Rattle.gb_typed.specs.Programs.{variable_type}
+use Rattle.gb_laws.specs.Uses.{IsWithin}
+use Rattle.gb_laws.specs.Written.{with_side, IsSide, Written}
+use Rattle.gb_laws.specs.Finite.{IsFinite}
+use Rattle.gb_laws.specs.Programs.{variable_type}
 use Rattle.gb_typing.specs.Context.{Context, Frame, erased, frame_of, local_in, reframed}
 use Rattle.gb_typing.specs.Typing.{IsFrame, IsIn, IsForm}
 use Rattle.gb_typing.specs.Programs.{IsValued}

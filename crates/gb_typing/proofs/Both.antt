@@ -11,8 +11,8 @@ use Rattle.gb_terms.specs.declared.term.Head.{Head}
 use Rattle.gb_terms.specs.declared.term.Head.TheVariants as head
 use Rattle.gb_terms.specs.declared.term.Head.TheVariants.{Assign, Sample, Call', If', While', Proc, Body'}
 use Rattle.gb_walk.specs.Change.{is_own, is_left_or_right}
-use Rattle.gb_changes.specs.Uses.{Use, Uses, beneath, entering, no_side, in_body, SubjectIsWithin, BodyIsWithin, HeadIsWithin, IsWithin, AreWithin, of_arguments, of_last}
-use Rattle.gb_changes.specs.Uses.Use.{read, bound, globals, starts, binds_own, binds_sides}
+use Rattle.gb_laws.specs.Uses.{Use, Uses, beneath, entering, no_side, in_body, SubjectIsWithin, BodyIsWithin, HeadIsWithin, IsWithin, AreWithin, of_arguments, of_last}
+use Rattle.gb_laws.specs.Uses.Use.{read, bound, globals, starts, binds_own, binds_sides}
 use mathlib.Core.Former.{Count}
 
 -- what is in both sets

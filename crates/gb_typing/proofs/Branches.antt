@@ -11,7 +11,7 @@ use Rattle.gb_meaning.specs.Setting.{Setting}
 use Rattle.gb_meaning.specs.State.{State}
 use Rattle.gb_meaning.specs.Runs.{out, run_denominator, is_true}
 use Rattle.gb_meaning.specs.Commands.{statements}
-use Rattle.gb_laws.proofs.Bodies.{statement_if}
+use Rattle.gb_meaning.proofs.Bodies.{statement_if}
 use Rattle.gb_typing.specs.Meaning.{run, denominator}
 use Rattle.gb_typing.proofs.Runs.{run_append, denominator_append}
 

@@ -24,13 +24,13 @@ use Rattle.gb_meaning.specs.Names.{Name}
 use Rattle.gb_meaning.specs.Commands.{terms_in}
 use Rattle.gb_meaning.specs.Operators.{outcome_type}
 use Rattle.gb_meaning.specs.Written.{type_of}
-use Rattle.gb_changes.specs.Plain.{HeadIsPlain, AllPlain}
-use Rattle.gb_changes.proofs.Changed.{changed_at, term_changed_is}
-use Rattle.gb_changes.proofs.Forms.{procedure_stays}
-use Rattle.gb_changes.proofs.Puts.{plain_raised}
-use Rattle.gb_changes.proofs.Lookups.{raised_bound, read_found_under, read_of_binder, bound_found_under, bound_of_binder, side_under, side_of_binder, read_found_without, bound_found_without, side_without, read_found_none, side_kept}
-use Rattle.gb_typed.specs.Typing.{Binder, types_of, IsBoundAt, IsSide, IsProbability, IsHead}
-use Rattle.gb_typed.specs.Typing.Binder.{value, index, memory, program}
+use Rattle.gb_laws.specs.Plain.{HeadIsPlain, AllPlain}
+use Rattle.gb_laws.proofs.Changed.{changed_at, term_changed_is}
+use Rattle.gb_laws.proofs.Forms.{procedure_stays}
+use Rattle.gb_laws.proofs.Puts.{plain_raised}
+use Rattle.gb_laws.proofs.Lookups.{raised_bound, read_found_under, read_of_binder, bound_found_under, bound_of_binder, side_under, side_of_binder, read_found_without, bound_found_without, side_without, read_found_none, side_kept}
+use Rattle.gb_laws.specs.Typing.{Binder, types_of, IsBoundAt, IsSide, IsProbability, IsHead}
+use Rattle.gb_laws.specs.Typing.Binder.{value, index, memory, program}
 use Rattle.gb_typing.specs.Context.{Frame, Context, procedure, erased, frame_of, with_own, with_sides, reframed, within}
 use Rattle.gb_typing.specs.Typing.{IsFrame, IsPlace, IsThere, before, after, procedure_in, IsNamed, first, middle, last, IsTyped, AreTyped}
 use Rattle.gb_typing.specs.Puts.{Keeps}

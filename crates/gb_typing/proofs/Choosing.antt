@@ -15,11 +15,11 @@ use Rattle.gb_holds.specs.Naming.{AnyName, EachName}
 use Rattle.gb_holds.specs.Settings.{Chosen, Table, Interpretation, interpreted, with_program, types_of, bare, setting}
 use Rattle.gb_holds.specs.Holds.{EachProgram, declared_modules}
 use Rattle.gb_holds.specs.Within.{IsWithin}
-use Rattle.gb_later.specs.Naming.{NoName, OperatorsName}
-use Rattle.gb_later.proofs.OperatorsAlike.{operators-agree}
-use Rattle.gb_later.proofs.PlainGlobals.{EachPlain}
-use Rattle.gb_later.proofs.TypedAlike.{SameBasis}
-use Rattle.gb_later.proofs.WithinAlike.{program-alike}
+use Rattle.gb_typing.specs.Naming.{NoName, OperatorsName}
+use Rattle.gb_typing.proofs.OperatorsAlike.{operators-agree}
+use Rattle.gb_typing.proofs.PlainGlobals.{EachPlain}
+use Rattle.gb_typing.proofs.TypedAlike.{SameBasis}
+use Rattle.gb_typing.proofs.WithinAlike.{program-alike}
 use Rattle.gb_typing.specs.Modules.{Interface, functor_type, of_functor_type, with_interface}
 use Rattle.gb_typing.specs.Context.{Context}
 use Rattle.gb_typing.specs.Formulas.{IsKnown, IsBinder, with_module}

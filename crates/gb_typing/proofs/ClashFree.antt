@@ -13,9 +13,9 @@ use Rattle.gb_terms.specs.Equal.{var_eq}
 use Rattle.gb_terms.proofs.Equality.{side_eq-Decides, var_eq-Decides}
 use Rattle.gb_walk.specs.Clash.{variables_read, clashes, clashes_beside, comes_before, least_from, first_clash}
 use Rattle.gb_meaning.specs.Setting.{Setting}
-use Rattle.gb_changes.specs.Uses.{Use, Uses, IsWithin}
-use Rattle.gb_changes.specs.Uses.Use.{read, bound, globals, starts, binds_own, binds_sides}
-use Rattle.gb_changes.specs.Written.{IsSide}
+use Rattle.gb_laws.specs.Uses.{Use, Uses, IsWithin}
+use Rattle.gb_laws.specs.Uses.Use.{read, bound, globals, starts, binds_own, binds_sides}
+use Rattle.gb_laws.specs.Written.{IsSide}
 use Rattle.gb_typing.specs.Context.{Context}
 use Rattle.gb_typing.specs.Typing.{IsTyped}
 use Rattle.gb_typing.specs.Puts.{Readable, reading, share, clash}

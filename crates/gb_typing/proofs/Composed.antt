@@ -22,16 +22,16 @@ use Rattle.gb_meaning.specs.State.Binding.{value as value_bound}
 use Rattle.gb_meaning.specs.Terms.{quiet, val}
 use Rattle.gb_meaning.specs.Judgments.{Judge, speaking}
 use Rattle.gb_meaning.specs.Written.{type_of}
-use Rattle.gb_changes.specs.Led.{IsPut, Led}
-use Rattle.gb_changes.specs.Plain.{IsPlain}
-use Rattle.gb_changes.specs.Uses.{Uses}
-use Rattle.gb_changes.specs.Uses.Use.{read as reads, bound, globals, starts, binds_own, binds_sides}
-use Rattle.gb_changes.proofs.Changing.{plain_followed}
-use Rattle.gb_changes.proofs.Quiet.{plain_quiet}
-use Rattle.gb_typed.specs.Finite.{IsFinite}
-use Rattle.gb_typed.proofs.Denominators.{denominator_one}
-use Rattle.gb_typed.specs.Typing.{IsBoundAt}
-use Rattle.gb_typed.specs.Typing.Binder.{value}
+use Rattle.gb_laws.specs.Led.{IsPut, Led}
+use Rattle.gb_laws.specs.Plain.{IsPlain}
+use Rattle.gb_laws.specs.Uses.{Uses}
+use Rattle.gb_laws.specs.Uses.Use.{read as reads, bound, globals, starts, binds_own, binds_sides}
+use Rattle.gb_laws.proofs.Changing.{plain_followed}
+use Rattle.gb_laws.proofs.Quiet.{plain_quiet}
+use Rattle.gb_laws.specs.Finite.{IsFinite}
+use Rattle.gb_laws.proofs.Denominators.{denominator_one}
+use Rattle.gb_laws.specs.Typing.{IsBoundAt}
+use Rattle.gb_laws.specs.Typing.Binder.{value}
 use Rattle.gb_typing.specs.Context.{Context, Frame, erased, reframed, within}
 use Rattle.gb_typing.specs.Typing.{IsTyped}
 use Rattle.gb_typing.specs.Changes.{binder, IsLeaf, IsMemoryIn, Becomes, Leads, Made}

@@ -11,9 +11,9 @@ use Rattle.gb_meaning.specs.Program.{Program, Routine}
 use Rattle.gb_meaning.specs.Setting.{Setting}
 use Rattle.gb_meaning.specs.Sound.{IsDistribution, IsSound, IsSoundRoutine}
 use Rattle.gb_meaning.specs.Written.{type_of}
-use Rattle.gb_typed.specs.Context as typed
-use Rattle.gb_typed.specs.Operators.{IsDistributionType}
-use Rattle.gb_typed.proofs.Drawn.{typed_distribution}
+use Rattle.gb_laws.specs.Context as typed
+use Rattle.gb_laws.specs.Operators.{IsDistributionType}
+use Rattle.gb_laws.proofs.Drawn.{typed_distribution}
 use Rattle.gb_typing.specs.Modules.{ProcedureType}
 use Rattle.gb_typing.specs.Context.{Context, procedure, erased, of_program}
 use Rattle.gb_typing.specs.Programs.{IsExpression, IsCall, AreStatements, EachStatement}

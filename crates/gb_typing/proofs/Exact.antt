@@ -11,8 +11,8 @@ use Rattle.gb_meaning.specs.Terms.{val}
 use Rattle.gb_meaning.specs.Meanings.{fraction_in}
 use Rattle.gb_meaning.specs.Judgments.{Judge, IsFair, IsSoundSubject, speaking, compares, chance, den, subject_denominator}
 use Rattle.gb_meaning.specs.Judgments as judgments
-use Rattle.gb_laws.proofs.Bodies.{run_of_body, denominator_of_body}
-use Rattle.gb_laws.proofs.Truths.{true_hoare, true_phoare, true_equiv}
+use Rattle.gb_meaning.proofs.Bodies.{run_of_body, denominator_of_body}
+use Rattle.gb_meaning.proofs.Truths.{true_hoare, true_phoare, true_equiv}
 use Rattle.gb_typing.specs.Context.{Context}
 use Rattle.gb_typing.specs.Fits.{IsSettingOf}
 use Rattle.gb_typing.proofs.Drawing.{subject_sound}

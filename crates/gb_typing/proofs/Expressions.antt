@@ -18,14 +18,14 @@ use Rattle.gb_meaning.specs.Setting.{Setting}
 use Rattle.gb_meaning.specs.State.{State, at, inside, memory_of}
 use Rattle.gb_meaning.specs.Terms.{Speaks, quiet, val}
 use Rattle.gb_meaning.specs.Written.{type_of}
-use Rattle.gb_changes.specs.Uses.{Uses}
-use Rattle.gb_changes.specs.Uses.Use.{read as reads, bound, globals, starts, binds_own, binds_sides}
-use Rattle.gb_changes.specs.Agree.{Agree}
-use Rattle.gb_changes.specs.Led.{Led}
-use Rattle.gb_changes.proofs.Agreeing.{term_agrees}
-use Rattle.gb_changes.proofs.Changing.{plain_followed}
-use Rattle.gb_changes.proofs.Quiet.{plain_quiet}
-use Rattle.gb_typed.specs.Typing.{IsSide}
+use Rattle.gb_laws.specs.Uses.{Uses}
+use Rattle.gb_laws.specs.Uses.Use.{read as reads, bound, globals, starts, binds_own, binds_sides}
+use Rattle.gb_laws.specs.Agree.{Agree}
+use Rattle.gb_laws.specs.Led.{Led}
+use Rattle.gb_laws.proofs.Agreeing.{term_agrees}
+use Rattle.gb_laws.proofs.Changing.{plain_followed}
+use Rattle.gb_laws.proofs.Quiet.{plain_quiet}
+use Rattle.gb_laws.specs.Typing.{IsSide}
 use Rattle.gb_typing.specs.Context.{Frame, Context, erased, frame_of, local_in, reframed, of_program}
 use Rattle.gb_typing.specs.Typing.{IsFrame, IsPlace, IsTyped}
 use Rattle.gb_typing.specs.Programs.{IsExpression}

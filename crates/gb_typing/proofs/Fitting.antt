@@ -6,8 +6,8 @@ use Rattle.gb_terms.specs.declared.decl.TypedName.{TypedName}
 use Rattle.gb_meaning.specs.Memory.{Memory}
 use Rattle.gb_meaning.specs.Setting.{Setting}
 use Rattle.gb_meaning.specs.State.{State, Binding, at, between, inside, under}
-use Rattle.gb_typed.specs.Context.{FitsBinder}
-use Rattle.gb_typed.specs.Typing.{Binder}
+use Rattle.gb_laws.specs.Context.{FitsBinder}
+use Rattle.gb_laws.specs.Typing.{Binder}
 use Rattle.gb_typing.specs.Context.{Context, Frame, reframed, within, of_program}
 use Rattle.gb_typing.specs.Fits.{IsSettingOf, IsStateOf}
 

@@ -7,7 +7,7 @@ use Rattle.gb_terms.specs.declared.term.Head.TheVariants as head
 use Rattle.gb_holds.specs.Truth.{has_module}
 use Rattle.gb_goal.specs.Goal.{goal_at, goal_of}
 use Rattle.gb_goal.specs.Goal.Goal.{ambient}
-use Rattle.gb_changes.proofs.Trees.{out_is}
+use Rattle.gb_laws.proofs.Trees.{out_is}
 
 pub front_ambient : (f : Term) → has_module f ≡ true → goal_of f ≡ ambient f
 front_ambient (Term' p (more_of-Head (head.AllModule b) end_of-Head) n ts t) e =

@@ -16,15 +16,15 @@ use Rattle.gb_terms.specs.declared.module.Mexp.TheVariants.{Name as named}
 use Rattle.gb_meaning.specs.Names.{Name}
 use Rattle.gb_meaning.specs.Values.{Global, Types, values_by, has, fit}
 use Rattle.gb_meaning.specs.Memory.{Memory, read, read_global, write, write_global, write_globals}
-use Rattle.gb_laws.proofs.Memories.{read-write_global}
-use Rattle.gb_local.specs.Cells.{Key, get_at}
-use Rattle.gb_local.specs.Cells.Key.{global}
-use Rattle.gb_local.specs.Writes.{key_of_global, IsNone}
-use Rattle.gb_local.proofs.Cells.{get_at-other}
+use Rattle.gb_meaning.proofs.Memories.{read-write_global}
+use Rattle.gb_laws.specs.Cells.{Key, get_at}
+use Rattle.gb_laws.specs.Cells.Key.{global}
+use Rattle.gb_laws.specs.Writes.{key_of_global, IsNone}
+use Rattle.gb_laws.proofs.Cells.{get_at-other}
 use Rattle.gb_holds.specs.Footprints.{is_global}
 use Rattle.gb_holds.specs.Programs.{AreOnce}
-use Rattle.gb_typed.specs.Finite.{IsInhabited, AreVariables}
-use Rattle.gb_typed.proofs.Sizes.{no_globs}
+use Rattle.gb_laws.specs.Finite.{IsInhabited, AreVariables}
+use Rattle.gb_laws.proofs.Sizes.{no_globs}
 use Rattle.gb_typing.proofs.Writing.{read_written}
 
 pub or_false : (a b : Bool) → (a || b) ≡ false → (a ≡ false) × (b ≡ false)

@@ -16,9 +16,9 @@ use Rattle.gb_terms.specs.declared.term.Head.TheVariants.{Assign, Sample, Call',
 use Rattle.gb_terms.specs.declared.term.Instr.{Instr, Row_of-Instr, end_of-Instr, more_of-Instr}
 use Rattle.gb_meaning.specs.Commands.{terms_in}
 use Rattle.gb_meaning.specs.Names.{Name}
-use Rattle.gb_typed.specs.Operators.{parts_in}
-use Rattle.gb_typed.specs.Programs.{variable_type, HaveTypes, Take}
-use Rattle.gb_typed.specs.Typing.{OperatorType}
+use Rattle.gb_laws.specs.Operators.{parts_in}
+use Rattle.gb_laws.specs.Programs.{variable_type, HaveTypes, Take}
+use Rattle.gb_laws.specs.Typing.{OperatorType}
 use Rattle.gb_typing.specs.Changes.{IsLeaf}
 use Rattle.gb_typing.specs.Context.{Context, procedure, erased, of_program}
 use Rattle.gb_typing.specs.Modules.{ProcedureType}

@@ -12,9 +12,9 @@ use Rattle.gb_meaning.specs.Terms.{Speaks, quiet, val}
 use Rattle.gb_meaning.specs.Setting.Meaning.{finite}
 use Rattle.gb_meaning.specs.Meanings.{value_in}
 use Rattle.gb_meaning.specs.Written.{type_of}
-use Rattle.gb_changes.specs.Written.{IsSide}
-use Rattle.gb_changes.specs.Plain.{IsPlain}
-use Rattle.gb_typed.specs.Finite.{IsFinite}
+use Rattle.gb_laws.specs.Written.{IsSide}
+use Rattle.gb_laws.specs.Plain.{IsPlain}
+use Rattle.gb_laws.specs.Finite.{IsFinite}
 use Rattle.gb_typing.specs.Context.{Context, Frame, frame_of, reframed, of_program}
 use Rattle.gb_typing.specs.Typing.{IsTyped, IsForm}
 use Rattle.gb_typing.specs.Programs.{IsExpression}

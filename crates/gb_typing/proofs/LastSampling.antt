@@ -14,11 +14,11 @@ use Rattle.gb_terms.specs.declared.term.Instr.{Instr}
 use Rattle.gb_meaning.specs.Operators.{outcome_type}
 use Rattle.gb_meaning.specs.Trees.{distributions}
 use Rattle.gb_meaning.specs.Written.{type_of}
-use Rattle.gb_changes.proofs.Trees.{out_is}
-use Rattle.gb_typed.specs.Finite.{IsFinite}
-use Rattle.gb_typed.specs.Operators.{IsDistributionType}
-use Rattle.gb_typed.specs.Programs.{variable_type}
-use Rattle.gb_typed.proofs.Constructors.{distribution_is}
+use Rattle.gb_laws.proofs.Trees.{out_is}
+use Rattle.gb_laws.specs.Finite.{IsFinite}
+use Rattle.gb_laws.specs.Operators.{IsDistributionType}
+use Rattle.gb_laws.specs.Programs.{variable_type}
+use Rattle.gb_laws.proofs.Constructors.{distribution_is}
 use Rattle.gb_typing.specs.Context.{Context, erased}
 use Rattle.gb_typing.specs.Programs.{IsExpression, EachStatement, IsBody}
 use Rattle.gb_typing.specs.Samplings.{Sampling, of_type, of_statement, behind, last_sampling}

@@ -16,7 +16,7 @@ use Rattle.gb_meaning.specs.Memory.{Memory}
 use Rattle.gb_meaning.specs.State.{State}
 use Rattle.gb_meaning.specs.Judgments.{Judge, IsFair}
 use Rattle.gb_meaning.specs.Written.{type_of}
-use Rattle.gb_typed.specs.Operators.{item}
+use Rattle.gb_laws.specs.Operators.{item}
 use Rattle.gb_holds.specs.Declared.{Declarations, Declaration, abstract_type, abbreviation, operator, abstract_operator, module_type, concrete_module, abstract_module, axiom_of, lemma, terminating}
 use Rattle.gb_holds.specs.Settings.{Interpretation, with_program, setting, types_of}
 use Rattle.gb_holds.specs.Truth.{Truth}

@@ -6,8 +6,8 @@ use Rattle.gb_core.specs.declared.ty.Ty.TheFolds.{fold-roll-Ty}
 use Rattle.gb_core.specs.declared.value.Value.TheVariants.{Num}
 use Rattle.gb_types.specs.Numbering.{Numbering}
 use Rattle.gb_types.specs.Types.{finite_step, is_finite, numbering_step, numbering}
-use Rattle.gb_typed.specs.Typing.{IsLiteral}
-use Rattle.gb_typed.proofs.Meanings.{number_has}
+use Rattle.gb_laws.specs.Typing.{IsLiteral}
+use Rattle.gb_laws.proofs.Meanings.{number_has}
 
 pub bool_literal : (i : ℕ) → i < 2 → IsLiteral ty.Bool (Num i)
 bool_literal i h = (

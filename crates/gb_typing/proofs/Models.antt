@@ -16,10 +16,10 @@ use Rattle.gb_holds.specs.Globs.{EachGlob, EachGlobIn}
 use Rattle.gb_holds.specs.Naming.{AnyName}
 use Rattle.gb_holds.specs.Settings.{Chosen, Table, Interpretation, types_of, setting}
 use Rattle.gb_holds.specs.Holds.{IsModel, AreValues, IsResult, GiveResults, EachProgram, declared_modules, interpretation}
-use Rattle.gb_typed.specs.Finite.{AreFiniteWith, IsVariableType}
-use Rattle.gb_typed.proofs.Sizes.{no_globs as same_values}
-use Rattle.gb_later.specs.Naming.{NoName, EachGlobAmong, OperatorsName}
-use Rattle.gb_later.proofs.PlainGlobals.{plain_world}
+use Rattle.gb_laws.specs.Finite.{AreFiniteWith, IsVariableType}
+use Rattle.gb_laws.proofs.Sizes.{no_globs as same_values}
+use Rattle.gb_typing.specs.Naming.{NoName, EachGlobAmong, OperatorsName}
+use Rattle.gb_typing.proofs.PlainGlobals.{plain_world}
 use Rattle.gb_typing.specs.Context.{Context}
 use Rattle.gb_typing.specs.Fits.{IsSettingOf}
 use Rattle.gb_typing.specs.Sequents.{AreBinders, of_sequent}

@@ -11,7 +11,7 @@ use Rattle.gb_terms.specs.declared.term.Head.{Head}
 use Rattle.gb_terms.specs.declared.term.Head.TheVariants as head
 use Rattle.gb_terms.specs.declared.term.Head.TheVariants.{Body', Proc}
 use Rattle.gb_walk.specs.Clash.{read_by, outside, variables_read, each_read}
-use Rattle.gb_typed.specs.Typing.{types_of}
+use Rattle.gb_laws.specs.Typing.{types_of}
 use Rattle.gb_typing.specs.Context.{Frame, Context, procedure, with_own, with_sides}
 use Rattle.gb_typing.specs.Typing.{IsFrame, IsIn, IsNamed, before, after, first, middle, last, IsTyped, AreTyped}
 use Rattle.gb_typing.proofs.Spared.{Clear, ClearIn, read_in, clear_append, clear_all, clear_but_last}

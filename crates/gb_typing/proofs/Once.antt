@@ -10,7 +10,7 @@ use Rattle.gb_holds.specs.Footprints.{is_global}
 use Rattle.gb_holds.specs.Programs.{AreOnce}
 use Rattle.gb_holds.specs.Settings.{Interpretation, types_of, setting}
 use Rattle.gb_holds.proofs.SettingTypes.{setting-types}
-use Rattle.gb_typed.specs.Finite.{AreVariables, IsInhabited}
+use Rattle.gb_laws.specs.Finite.{AreVariables, IsInhabited}
 use Rattle.gb_typing.specs.Chosen.{IsFittingWorld}
 
 module _ (p : Global → Bool) where

@@ -20,15 +20,15 @@ use Rattle.gb_meaning.specs.Written.{type_of}
 use Rattle.gb_holds.specs.Declared.{Declarations, Declaration, DefinedOperator, AbstractOperator, abstract_type, abbreviation, operator, abstract_operator, module_type, concrete_module, abstract_module, axiom_of, lemma, terminating}
 use Rattle.gb_holds.specs.Holds.{AreValues, IsResult, GiveResults}
 use Rattle.gb_holds.specs.Settings.{Table, Interpretation, types_of, bare, at_arguments, with_operator, with_declaration, with_operators, setting}
-use Rattle.gb_typed.specs.Context.{AreOf, gives_distributions, FitsBinder, FitBinders}
-use Rattle.gb_typed.specs.Context as typed
-use Rattle.gb_typed.specs.Finite.{IsVariableType, IsInhabited}
-use Rattle.gb_typed.specs.Meant.{IsOf}
-use Rattle.gb_typed.specs.Operators.{IsDistributionType}
-use Rattle.gb_typed.specs.Typing.{OperatorType, Binder}
-use Rattle.gb_typed.specs.Typing.Binder.{value}
-use Rattle.gb_typed.proofs.Drawn.{typed_distribution}
-use Rattle.gb_typed.proofs.Terms.{typed_meaning}
+use Rattle.gb_laws.specs.Context.{AreOf, gives_distributions, FitsBinder, FitBinders}
+use Rattle.gb_laws.specs.Context as typed
+use Rattle.gb_laws.specs.Finite.{IsVariableType, IsInhabited}
+use Rattle.gb_laws.specs.Meant.{IsOf}
+use Rattle.gb_laws.specs.Operators.{IsDistributionType}
+use Rattle.gb_laws.specs.Typing.{OperatorType, Binder}
+use Rattle.gb_laws.specs.Typing.Binder.{value}
+use Rattle.gb_laws.proofs.Drawn.{typed_distribution}
+use Rattle.gb_laws.proofs.Terms.{typed_meaning}
 use Rattle.gb_typing.specs.Context.{Context, erased}
 use Rattle.gb_typing.specs.Scopes.{operator_type, of_operator, IsMeasured, IsDefined, AreVariableTypes, nothing, with_declared, is_declared, AreTypedAfter, IsTypedScope}
 use Rattle.gb_typing.specs.Scopes as scopes

@@ -14,7 +14,7 @@ use Rattle.gb_meaning.specs.Setting.{Setting}
 use Rattle.gb_meaning.specs.State.{State, at, between}
 use Rattle.gb_meaning.specs.Judgments.{Judge, IsFair, den}
 use Rattle.gb_meaning.specs.Written.{local_type}
-use Rattle.gb_laws.proofs.Maps.{get-set_same, get-set_other}
+use Rattle.gb_meaning.proofs.Maps.{get-set_same, get-set_other}
 use Rattle.gb_typing.specs.Context.{Context, with_own, with_sides}
 use Rattle.gb_typing.specs.Fits.{IsSettingOf}
 use Rattle.gb_typing.specs.Programs.{locals_of}

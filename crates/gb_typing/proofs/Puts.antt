@@ -13,7 +13,7 @@ use Rattle.gb_terms.specs.Equal.{read_eq}
 use Rattle.gb_terms.proofs.Equality.{read_eq-Decides}
 use Rattle.gb_walk.specs.Change.{is_own, is_left_or_right, or_later, found_for_read, read_changed, term_changed}
 use Rattle.gb_meaning.specs.Written.{type_of}
-use Rattle.gb_changes.specs.Written.{Written, written_changes}
+use Rattle.gb_laws.specs.Written.{Written, written_changes}
 use Rattle.gb_typing.specs.Context.{Context, frame_of}
 use Rattle.gb_typing.specs.Typing.{IsIn, IsPlace, IsTyped}
 use Rattle.gb_typing.specs.Puts.{IsPutFor, IsTypedPut}

@@ -22,16 +22,16 @@ use Rattle.gb_meaning.specs.State.Binding.{value as value_bound}
 use Rattle.gb_meaning.specs.Terms.{val}
 use Rattle.gb_meaning.specs.Judgments.{Judge, IsFair, speaking}
 use Rattle.gb_meaning.specs.Written.{type_of}
-use Rattle.gb_changes.specs.Agree.{Agree}
-use Rattle.gb_changes.specs.Uses.{Uses, IsWithin}
-use Rattle.gb_changes.specs.Uses.Use.{read as reads, bound, globals, starts, binds_own, binds_sides}
-use Rattle.gb_changes.specs.Written.{with_side, IsSide, Written, written_changes, all_written}
-use Rattle.gb_changes.proofs.Agreeing.{form_agrees}
-use Rattle.gb_changes.proofs.Forms.{form_followed}
-use Rattle.gb_typed.specs.Context.{FitBinders}
-use Rattle.gb_typed.specs.Typing.{Binder}
-use Rattle.gb_typed.specs.Typing.Binder.{value}
-use Rattle.gb_typed.specs.Typing as typed
+use Rattle.gb_laws.specs.Agree.{Agree}
+use Rattle.gb_laws.specs.Uses.{Uses, IsWithin}
+use Rattle.gb_laws.specs.Uses.Use.{read as reads, bound, globals, starts, binds_own, binds_sides}
+use Rattle.gb_laws.specs.Written.{with_side, IsSide, Written, written_changes, all_written}
+use Rattle.gb_laws.proofs.Agreeing.{form_agrees}
+use Rattle.gb_laws.proofs.Forms.{form_followed}
+use Rattle.gb_laws.specs.Context.{FitBinders}
+use Rattle.gb_laws.specs.Typing.{Binder}
+use Rattle.gb_laws.specs.Typing.Binder.{value}
+use Rattle.gb_laws.specs.Typing as typed
 use Rattle.gb_typing.specs.Context.{Context, Frame, erased, frame_of, reframed, within}
 use Rattle.gb_typing.specs.Typing.{IsFrame, IsIn, IsPlace, IsNamed, IsTyped}
 use Rattle.gb_typing.specs.Fits.{IsSettingOf, IsStateOf}

@@ -16,12 +16,12 @@ use Rattle.gb_meaning.specs.Names.{Name}
 use Rattle.gb_meaning.specs.Commands.{terms_in}
 use Rattle.gb_meaning.specs.Operators.{outcome_type}
 use Rattle.gb_meaning.specs.Written.{type_of}
-use Rattle.gb_changes.specs.Plain.{HeadIsPlain, IsPlain, AllPlain}
-use Rattle.gb_changes.proofs.Trees.{raised_at, term_raised_is}
-use Rattle.gb_changes.proofs.Raising.{index_zero, index_suc}
-use Rattle.gb_changes.proofs.Lookups.{index_next}
-use Rattle.gb_typed.specs.Typing.{OperatorType, Binder, types_of, IsBoundAt, IsMemory, IsHead}
-use Rattle.gb_typed.specs.Typing.Binder.{value, index, program}
+use Rattle.gb_laws.specs.Plain.{HeadIsPlain, IsPlain, AllPlain}
+use Rattle.gb_laws.proofs.Trees.{raised_at, term_raised_is}
+use Rattle.gb_laws.proofs.Raising.{index_zero, index_suc}
+use Rattle.gb_laws.proofs.Lookups.{index_next}
+use Rattle.gb_laws.specs.Typing.{OperatorType, Binder, types_of, IsBoundAt, IsMemory, IsHead}
+use Rattle.gb_laws.specs.Typing.Binder.{value, index, program}
 use Rattle.gb_typing.specs.Context.{Frame, Context, erased, within}
 use Rattle.gb_typing.specs.Typing.{IsNamed, first, middle, last, IsTyped, AreTyped}
 use Rattle.gb_typing.specs.Changes.{binder, IsLeaf, Made}

@@ -11,7 +11,7 @@ use Rattle.gb_terms.specs.declared.decl.TypedName.{TypedName}
 use Rattle.gb_terms.specs.declared.term.Term.{Term}
 use Rattle.gb_coupling.specs.WeightedList.{WeightedList, Every}
 use Rattle.gb_coupling.proofs.Entries.{Every-dmap}
-use Rattle.gb_laws.proofs.Maps.{get-set_same}
+use Rattle.gb_meaning.proofs.Maps.{get-set_same}
 use Rattle.gb_meaning.specs.Commands.{statements}
 use Rattle.gb_meaning.specs.Memory.{Memory, result_name, value_or, outcome}
 use Rattle.gb_meaning.specs.Names.{Name, Map, empty}
@@ -26,10 +26,10 @@ use Rattle.gb_meaning.specs.Written.{type_of}
 use Rattle.gb_holds.specs.Linking.{calling, linked_procedure}
 use Rattle.gb_holds.specs.Modules.{Procedures, Functor, Applied, found, no_module, with_module, argument, with_params, procedure_at, with_procedure, with_procedures, module_read}
 use Rattle.gb_holds.specs.Modules as linked
-use Rattle.gb_typed.specs.Context as typed
-use Rattle.gb_typed.specs.Finite.{IsFinite}
-use Rattle.gb_typed.proofs.Sizes.{widened}
-use Rattle.gb_typed.proofs.Terms.{typed_has}
+use Rattle.gb_laws.specs.Context as typed
+use Rattle.gb_laws.specs.Finite.{IsFinite}
+use Rattle.gb_laws.proofs.Sizes.{widened}
+use Rattle.gb_laws.proofs.Terms.{typed_has}
 use Rattle.gb_typing.specs.Modules.{ProcedureType, FunctorType, Interface, Modules, functor_type, of_functor_type, without_lacks, with_interface}
 use Rattle.gb_typing.specs.Context.{Context, erased, of_program}
 use Rattle.gb_typing.specs.Programs.{IsExpression, IsProcedure, locals_of, type_of_procedure}

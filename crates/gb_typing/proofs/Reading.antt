@@ -15,7 +15,7 @@ use Rattle.gb_walk.specs.Change.{is_left_or_right, is_read_through}
 use Rattle.gb_walk.specs.Sides.{Reading, at_head, at_instr, at_subject, at_cmd, at_term, reads_side, head_reads_side}
 use Rattle.gb_walk.proofs.SideSteps.{reads_side_out}
 use Rattle.sqlite_items.specs.formers.items.Items.{the_former}
-use Rattle.gb_changes.proofs.Trees.{out_is, HeadLayer}
+use Rattle.gb_laws.proofs.Trees.{out_is, HeadLayer}
 use mathlib.Core.Former.{Count, arity, this}
 
 -- whether a head reads through a memory, by whether an argument does

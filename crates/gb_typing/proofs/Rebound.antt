@@ -12,7 +12,7 @@ use Rattle.gb_terms.specs.declared.term.Head.TheVariants as head
 use Rattle.gb_terms.specs.declared.term.Head.TheVariants.{Proc, Body'}
 use Rattle.gb_walk.specs.Change.{is_own, is_left_or_right, is_read_through}
 use Rattle.gb_meaning.specs.Names.{Name}
-use Rattle.gb_typed.specs.Typing.{IsSide}
+use Rattle.gb_laws.specs.Typing.{IsSide}
 use Rattle.gb_typing.specs.Context.{Frame, Context, erased, frame_of, with_own, with_sides}
 use Rattle.gb_typing.specs.Typing.{IsPlace, IsNamed}
 use Rattle.gb_typing.specs.Changes.{IsLeaf}

@@ -26,15 +26,15 @@ use Rattle.gb_meaning.specs.Runs.{valued}
 use Rattle.gb_meaning.specs.Values.{first, fit, has}
 use Rattle.gb_meaning.specs.Judgments.{Judge, IsFair, speaking, den}
 use Rattle.gb_meaning.specs.Written.{type_of}
-use Rattle.gb_changes.specs.Plain.{IsPlain}
-use Rattle.gb_changes.specs.Led.{put, IsPut, Led}
-use Rattle.gb_changes.specs.Uses.Use.{read as reads, bound, globals, starts, binds_own, binds_sides}
-use Rattle.gb_changes.specs.Written.{IsSide}
-use Rattle.gb_changes.proofs.Forms.{form_followed}
-use Rattle.gb_laws.proofs.Maps.{get-set_same}
-use Rattle.gb_typed.specs.Finite.{IsFinite}
-use Rattle.gb_typed.proofs.Denominators.{denominator_one}
-use Rattle.gb_typed.proofs.Sizes.{widened as finite_variable}
+use Rattle.gb_laws.specs.Plain.{IsPlain}
+use Rattle.gb_laws.specs.Led.{put, IsPut, Led}
+use Rattle.gb_laws.specs.Uses.Use.{read as reads, bound, globals, starts, binds_own, binds_sides}
+use Rattle.gb_laws.specs.Written.{IsSide}
+use Rattle.gb_laws.proofs.Forms.{form_followed}
+use Rattle.gb_meaning.proofs.Maps.{get-set_same}
+use Rattle.gb_laws.specs.Finite.{IsFinite}
+use Rattle.gb_laws.proofs.Denominators.{denominator_one}
+use Rattle.gb_laws.proofs.Sizes.{widened as finite_variable}
 use Rattle.gb_typing.specs.Context.{Context, Frame, erased, frame_of, of_program, reframed, with_own, with_sides}
 use Rattle.gb_typing.specs.Changes.{IsLeaf, Made, Becomes, IsMemoryIn, Leads}
 use Rattle.gb_typing.specs.Fits.{IsSettingOf}

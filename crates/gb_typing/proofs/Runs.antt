@@ -14,7 +14,7 @@ use Rattle.gb_meaning.specs.Setting.{Setting}
 use Rattle.gb_meaning.specs.State.{State}
 use Rattle.gb_meaning.specs.Runs.{out, run_denominator}
 use Rattle.gb_meaning.specs.Commands.{called, statement, statements, terms_in}
-use Rattle.gb_laws.proofs.Sequence.{followed_denominator, followed_run}
+use Rattle.gb_meaning.proofs.Sequence.{followed_denominator, followed_run}
 use Rattle.gb_typing.specs.Meaning.{run, denominator}
 
 called_followed : (xs : List Var) (o : Option Routine) (es : List Term) (a b : Program) → called xs o es (followed_by a b) ≡ followed_by (called xs o es a) b

@@ -15,7 +15,7 @@ use Rattle.gb_meaning.specs.Names.{Name}
 use Rattle.gb_holds.specs.Declared.{Declarations, declaration_of, declared, concrete_module}
 use Rattle.gb_holds.specs.Modules.{Procedures, found}
 use Rattle.gb_meaning.specs.Written.{local_type}
-use Rattle.gb_typed.specs.Typing.{OperatorType}
+use Rattle.gb_laws.specs.Typing.{OperatorType}
 use Rattle.gb_typing.specs.Context.{Context}
 use Rattle.gb_typing.specs.Formulas.{IsKnown}
 use Rattle.gb_typing.specs.Modules.{ProcedureType, Interface, Modules, FunctorType, left_over, lacking, given, interface_at, interfaces_at, of_complete, procedure_of as procedure_in, procedure_type}

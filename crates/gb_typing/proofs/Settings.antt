@@ -19,7 +19,7 @@ use Rattle.gb_holds.specs.Holds.{declared_modules}
 use Rattle.gb_holds.specs.Programs.{AreOnce, IsProgramFor, AreNamed}
 use Rattle.gb_goal.specs.declared.sequent.Sequent.{Sequent}
 use Rattle.gb_terms.specs.declared.decl.TypedName.{TypedName}
-use Rattle.gb_typed.specs.Context as typed
+use Rattle.gb_laws.specs.Context as typed
 use Rattle.gb_typing.specs.Modules.{ProcedureType, Interface, Modules, signatures_of, functor_type, of_functor_type}
 use Rattle.gb_typing.specs.Context.{Context, procedure, erased}
 use Rattle.gb_typing.specs.Fits.{IsOfType, IsSettingOf}

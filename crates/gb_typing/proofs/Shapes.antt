@@ -17,8 +17,8 @@ use Rattle.gb_terms.specs.Make.{node}
 use Rattle.gb_meaning.specs.Commands.{terms_in}
 use Rattle.gb_meaning.specs.Trees.{row, places}
 use Rattle.gb_meaning.specs.Written.{type_of}
-use Rattle.gb_laws.proofs.Nodes.{each_is_node, term_is_node}
-use Rattle.gb_changes.proofs.Trees.{out_is}
+use Rattle.gb_meaning.proofs.Nodes.{each_is_node, term_is_node}
+use Rattle.gb_laws.proofs.Trees.{out_is}
 use Rattle.gb_goal.specs.Goal.{Code, Goal, subject_of, form_of, code_at, code_of, goal_at, goal_of, IsJudgment}
 use Rattle.gb_goal.specs.Goal.Code.{body, procedure}
 use Rattle.gb_goal.specs.Goal.Goal.{hoare, phoare, equiv, ambient}

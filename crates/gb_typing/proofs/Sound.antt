@@ -9,7 +9,7 @@ use Rattle.gb_terms.specs.declared.term.Head.TheVariants as head
 use Rattle.gb_terms.specs.declared.term.Head.TheVariants.{Proc, Body'}
 use Rattle.gb_meaning.specs.Setting.{Setting}
 use Rattle.gb_meaning.specs.Judgments.{IsSoundIfThere, IsSoundSubject, is_sound_at, IsSoundForm, AllSound}
-use Rattle.gb_typed.specs.Typing.{types_of}
+use Rattle.gb_laws.specs.Typing.{types_of}
 use Rattle.gb_typing.specs.Modules.{ProcedureType}
 use Rattle.gb_typing.specs.Context.{Context, procedure}
 use Rattle.gb_typing.specs.Typing.{IsThere, procedure_in, IsNamed, first, middle, last, IsTyped, AreTyped}

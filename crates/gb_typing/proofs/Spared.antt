@@ -18,9 +18,9 @@ use Rattle.gb_terms.specs.Equal.{side_eq}
 use Rattle.gb_terms.proofs.Equality.{side_eq-Decides}
 use Rattle.gb_walk.specs.Change.{is_own, is_left_or_right}
 use Rattle.gb_walk.specs.Clash.{read_by, all_of, outside, variables_read, each_read}
-use Rattle.gb_changes.specs.Uses.{Use, Uses, beneath, entering, no_side, in_body, SubjectIsWithin, BodyIsWithin, HeadIsWithin, IsWithin, AreWithin, of_arguments, of_last}
-use Rattle.gb_changes.specs.Uses.Use.{read, bound, globals, starts, binds_own, binds_sides}
-use Rattle.gb_changes.specs.Written.{IsSide}
+use Rattle.gb_laws.specs.Uses.{Use, Uses, beneath, entering, no_side, in_body, SubjectIsWithin, BodyIsWithin, HeadIsWithin, IsWithin, AreWithin, of_arguments, of_last}
+use Rattle.gb_laws.specs.Uses.Use.{read, bound, globals, starts, binds_own, binds_sides}
+use Rattle.gb_laws.specs.Written.{IsSide}
 use Rattle.gb_typing.specs.Context.{Context}
 use Rattle.gb_typing.specs.Typing.{IsTyped}
 use Rattle.gb_typing.specs.Puts.{Readable, every_variable, reading}

@@ -22,19 +22,19 @@ use Rattle.gb_meaning.specs.State.{State}
 use Rattle.gb_meaning.specs.Terms.{Speaks, quiet, val}
 use Rattle.gb_meaning.specs.Judgments.{Judge, IsFair, speaking}
 use Rattle.gb_meaning.specs.Written.{type_of}
-use Rattle.gb_same.proofs.Decided.{ty_eq-Decides}
-use Rattle.gb_changes.specs.Led.{IsPut, ArePut}
-use Rattle.gb_changes.specs.Uses.{Uses, IsWithin}
-use Rattle.gb_changes.specs.Uses.Use.{read as read_of}
-use Rattle.gb_changes.specs.Written.{IsSide, Written, written_changes, all_written}
-use Rattle.gb_changes.proofs.Agreeing.{ignores_own, ignores_sides}
-use Rattle.gb_changes.proofs.Forms.{form_followed}
-use Rattle.gb_changes.proofs.Quiet.{plain_quiet}
-use Rattle.gb_typed.specs.Finite.{IsFinite}
-use Rattle.gb_typed.specs.Operators.{IsNoDistribution}
-use Rattle.gb_typed.specs.Context.{IsFractional}
-use Rattle.gb_typed.proofs.Denominators.{denominator_one}
-use Rattle.gb_typed.proofs.Terms.{typed_value, typed_has}
+use Rattle.gb_core.proofs.SameTypes.{ty_eq-Decides}
+use Rattle.gb_laws.specs.Led.{IsPut, ArePut}
+use Rattle.gb_laws.specs.Uses.{Uses, IsWithin}
+use Rattle.gb_laws.specs.Uses.Use.{read as read_of}
+use Rattle.gb_laws.specs.Written.{IsSide, Written, written_changes, all_written}
+use Rattle.gb_laws.proofs.Agreeing.{ignores_own, ignores_sides}
+use Rattle.gb_laws.proofs.Forms.{form_followed}
+use Rattle.gb_laws.proofs.Quiet.{plain_quiet}
+use Rattle.gb_laws.specs.Finite.{IsFinite}
+use Rattle.gb_laws.specs.Operators.{IsNoDistribution}
+use Rattle.gb_laws.specs.Context.{IsFractional}
+use Rattle.gb_laws.proofs.Denominators.{denominator_one}
+use Rattle.gb_laws.proofs.Terms.{typed_value, typed_has}
 use Rattle.gb_typing.specs.Context.{Frame, Context, erased, frame_of, local_in, with_own, with_sides}
 use Rattle.gb_typing.specs.Typing.{IsIn, IsNamed, IsTyped}
 use Rattle.gb_typing.specs.Fits.{IsSettingOf, IsStateOf}

@@ -35,23 +35,23 @@ use Rattle.gb_meaning.specs.Trees.{distributions}
 use Rattle.gb_meaning.specs.Judgments.{Judge, speaking, den}
 use Rattle.gb_meaning.specs.Sound.{IsDistribution}
 use Rattle.gb_meaning.specs.Written.{type_of}
-use Rattle.gb_laws.proofs.Nodes.{val_node}
-use Rattle.gb_laws.proofs.Values.{value_eq-true, value_discrete}
-use Rattle.gb_laws.proofs.Truths.{truth_of, true_all}
-use Rattle.gb_changes.specs.Plain.{IsPlain}
-use Rattle.gb_changes.specs.Written.{IsSide}
-use Rattle.gb_changes.proofs.Changing.{denominator_changed}
-use Rattle.gb_typed.specs.Programs.{variable_type}
+use Rattle.gb_meaning.proofs.Nodes.{val_node}
+use Rattle.gb_meaning.proofs.Values.{value_eq-true, value_discrete}
+use Rattle.gb_meaning.proofs.Truths.{truth_of, true_all}
+use Rattle.gb_laws.specs.Plain.{IsPlain}
+use Rattle.gb_laws.specs.Written.{IsSide}
+use Rattle.gb_laws.proofs.Changing.{denominator_changed}
+use Rattle.gb_laws.specs.Programs.{variable_type}
 use Rattle.gb_terms.specs.declared.op.Read.TheVariants.{Program}
 use Rattle.gb_typing.specs.Puts.{Keeps, IsPutFor}
 use Rattle.gb_typing.proofs.Expressions.{same_program}
 use Rattle.gb_typing.proofs.Assigned.{variable_in}
 use Rattle.gb_typing.proofs.InMemory.{located_typed, located_value}
-use Rattle.gb_typed.specs.Finite.{IsFinite}
-use Rattle.gb_typed.specs.Meant.{IsOf}
-use Rattle.gb_typed.specs.Operators.{IsDistributionType}
-use Rattle.gb_typed.specs.Typing.Binder.{value}
-use Rattle.gb_typed.proofs.Terms.{typed_meaning}
+use Rattle.gb_laws.specs.Finite.{IsFinite}
+use Rattle.gb_laws.specs.Meant.{IsOf}
+use Rattle.gb_laws.specs.Operators.{IsDistributionType}
+use Rattle.gb_laws.specs.Typing.Binder.{value}
+use Rattle.gb_laws.proofs.Terms.{typed_meaning}
 use Rattle.gb_typing.specs.Context.{Context, Frame, erased, frame_of, reframed, of_program, within}
 use Rattle.gb_typing.specs.Typing.{IsIn, IsTyped, IsForm}
 use Rattle.gb_typing.specs.Programs.{IsExpression}

@@ -15,7 +15,7 @@ use Rattle.gb_terms.specs.declared.term.Head.TheVariants.{Body', Proc}
 use Rattle.gb_terms.specs.Equal.{side_eq}
 use Rattle.gb_walk.specs.Change.{is_left_or_right}
 use Rattle.gb_walk.specs.Sides.{reads_side}
-use Rattle.gb_typed.specs.Typing.{types_of, Binder}
+use Rattle.gb_laws.specs.Typing.{types_of, Binder}
 use Rattle.gb_typing.specs.Context.{Frame, Context, frame_of, procedure, reframed, with_own, with_sides, within}
 use Rattle.gb_typing.specs.Typing.{IsFrame, IsIn, IsNamed, before, after, first, middle, last, IsTyped, AreTyped}
 use Rattle.gb_typing.proofs.Reading.{read_at, any_reads, reads_side_is}

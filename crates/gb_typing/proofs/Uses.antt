@@ -16,14 +16,14 @@ use Rattle.gb_terms.specs.declared.term.Head.{Head}
 use Rattle.gb_terms.specs.declared.term.Head.TheVariants as head
 use Rattle.gb_terms.specs.declared.term.Head.TheVariants.{Proc, Body'}
 use Rattle.gb_meaning.specs.Operators.{outcome_type}
-use Rattle.gb_same.specs.Types.{ty_eq}
-use Rattle.gb_same.proofs.Decided.{ty_eq-Decides}
-use Rattle.gb_changes.specs.Plain.{HeadIsPlain, IsPlain, AllPlain}
-use Rattle.gb_changes.specs.Uses.{Uses, beneath, under_own, under_sides, besides_own, besides_sides, every_use, SubjectIsWithin, HeadIsWithin, IsWithin, AreWithin}
-use Rattle.gb_changes.specs.Uses as uses
-use Rattle.gb_changes.specs.Uses.Use.{read, bound, globals, starts, binds_own, binds_sides}
-use Rattle.gb_typed.specs.Typing.{Binder, types_of, IsBoundAt, IsHead}
-use Rattle.gb_typed.specs.Typing.Binder.{value, index, memory, program}
+use Rattle.gb_core.specs.SameTypes.{ty_eq}
+use Rattle.gb_core.proofs.SameTypes.{ty_eq-Decides}
+use Rattle.gb_laws.specs.Plain.{HeadIsPlain, IsPlain, AllPlain}
+use Rattle.gb_laws.specs.Uses.{Uses, beneath, under_own, under_sides, besides_own, besides_sides, every_use, SubjectIsWithin, HeadIsWithin, IsWithin, AreWithin}
+use Rattle.gb_laws.specs.Uses as uses
+use Rattle.gb_laws.specs.Uses.Use.{read, bound, globals, starts, binds_own, binds_sides}
+use Rattle.gb_laws.specs.Typing.{Binder, types_of, IsBoundAt, IsHead}
+use Rattle.gb_laws.specs.Typing.Binder.{value, index, memory, program}
 use Rattle.gb_typing.specs.Context.{Frame, Context, erased, frame_of, local_in, with_own, with_sides, within}
 use Rattle.gb_typing.specs.Changes.{binder}
 use Rattle.gb_typing.specs.Typing.{IsFrame, IsIn, IsPlace, IsThere, procedure_in, IsNamed, first, middle, last, IsTyped, AreTyped}

@@ -5,7 +5,7 @@ use mathlib.Core.Former.{Count}
 use Rattle.gb_core.specs.declared.ty.Ty.{Ty, Row_of-Ty, end_of-Ty, more_of-Ty}
 use Rattle.gb_core.specs.declared.ty.Ty.TheVariants as ty
 use Rattle.gb_meaning.specs.Values.{World, Types}
-use Rattle.gb_typed.specs.Finite.{AreFiniteWith, IsFinite, IsVariableType, AreVariables}
+use Rattle.gb_laws.specs.Finite.{AreFiniteWith, IsFinite, IsVariableType, AreVariables}
 use Rattle.gb_holds.specs.Typing.{IsPlain, ArePlain}
 use Rattle.gb_holds.specs.Holds.{HaveVariableTypes}
 

@@ -19,11 +19,11 @@ use Rattle.gb_meaning.specs.Setting.{Setting}
 use Rattle.gb_meaning.specs.Setting.Meaning.{finite}
 use Rattle.gb_meaning.specs.State.{State}
 use Rattle.gb_meaning.specs.Judgments.{Judge, IsFair, den}
-use Rattle.gb_changes.specs.Agree.{Agree}
-use Rattle.gb_changes.specs.Uses.Use.{read as reads, bound, globals, starts, binds_own, binds_sides}
-use Rattle.gb_changes.proofs.Agreeing.{form_agrees}
+use Rattle.gb_laws.specs.Agree.{Agree}
+use Rattle.gb_laws.specs.Uses.Use.{read as reads, bound, globals, starts, binds_own, binds_sides}
+use Rattle.gb_laws.proofs.Agreeing.{form_agrees}
 use Rattle.std.proofs.lemmas.Bool.{false≢true}
-use Rattle.gb_typed.specs.Typing.{types_of, Binder}
+use Rattle.gb_laws.specs.Typing.{types_of, Binder}
 use Rattle.gb_typing.specs.Context.{Frame, Context, frame_of, local_in, with_own, with_sides, within}
 use Rattle.gb_typing.specs.Typing.{IsFrame, IsIn, IsNamed, first, middle, last, IsTyped, AreTyped, IsForm}
 use Rattle.gb_typing.specs.Fits.{IsSettingOf}

@@ -11,9 +11,9 @@ use Rattle.gb_terms.specs.declared.term.Head.{Head}
 use Rattle.gb_terms.specs.declared.term.Head.TheVariants as head
 use Rattle.gb_meaning.specs.Names.{Name}
 use Rattle.gb_meaning.specs.Operators.{outcome_type}
-use Rattle.gb_changes.specs.Plain.{HeadIsPlain, IsPlain, AllPlain}
-use Rattle.gb_typed.specs.Typing.{OperatorType, Binder, types_of, IsBoundAt, IsMemory, IsHead}
-use Rattle.gb_typed.specs.Typing.Binder.{value, index, program}
+use Rattle.gb_laws.specs.Plain.{HeadIsPlain, IsPlain, AllPlain}
+use Rattle.gb_laws.specs.Typing.{OperatorType, Binder, types_of, IsBoundAt, IsMemory, IsHead}
+use Rattle.gb_laws.specs.Typing.Binder.{value, index, program}
 use Rattle.gb_typing.specs.Context.{Frame, Context, erased, within}
 use Rattle.gb_typing.specs.Typing.{IsNamed, first, middle, last, IsTyped, AreTyped}
 use Rattle.gb_typing.specs.Changes.{binder, IsLeaf}

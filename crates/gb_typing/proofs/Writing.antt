@@ -21,12 +21,12 @@ use Rattle.gb_meaning.specs.Setting.{Setting}
 use Rattle.gb_meaning.specs.Setting.Meaning.{finite}
 use Rattle.gb_meaning.specs.State.{State, binding, meaning_in, memory_of}
 use Rattle.gb_meaning.specs.Terms.{Speaks, val}
-use Rattle.gb_laws.proofs.Memories.{read-write_global, read-write_other_global, read-write_local, read-write_other_local}
-use Rattle.gb_changes.specs.Uses.{Uses}
-use Rattle.gb_changes.specs.Uses.Use.{read as reads, bound as bound_use, globals, starts, binds_own, binds_sides}
-use Rattle.gb_changes.specs.Led.{put, IgnoresOwn, IgnoresSides, Enters, Led}
+use Rattle.gb_meaning.proofs.Memories.{read-write_global, read-write_other_global, read-write_local, read-write_other_local}
+use Rattle.gb_laws.specs.Uses.{Uses}
+use Rattle.gb_laws.specs.Uses.Use.{read as reads, bound as bound_use, globals, starts, binds_own, binds_sides}
+use Rattle.gb_laws.specs.Led.{put, IgnoresOwn, IgnoresSides, Enters, Led}
 use Rattle.gb_typing.specs.Puts.{IsWhole, Leaves}
-use Rattle.gb_changes.specs.Written.{with_side, IsSide, IsOne, Written, written_changes, all_written}
+use Rattle.gb_laws.specs.Written.{with_side, IsSide, IsOne, Written, written_changes, all_written}
 
 -- The term has this value, which is read back wherever the variable is read in this memory. Other variables that are read there
 -- are not written, where this isn't so of itself, and the memory is not used as a whole. Where memories are bound that the change

@@ -11,9 +11,9 @@ use Rattle.gb_terms.specs.declared.term.Head.TheVariants as head
 use Rattle.gb_walk.specs.Change.{Changes, is_own, is_left_or_right, found_for_read, found_for_bound, side_changed, read_changed}
 use Rattle.gb_meaning.specs.Names.{Name}
 use Rattle.gb_meaning.specs.Written.{type_of}
-use Rattle.gb_changes.specs.Plain.{IsPlain}
-use Rattle.gb_typed.specs.Typing.{OperatorType, Binder, IsBoundAt, IsSide, IsHead}
-use Rattle.gb_typed.specs.Typing as typed
+use Rattle.gb_laws.specs.Plain.{IsPlain}
+use Rattle.gb_laws.specs.Typing.{OperatorType, Binder, IsBoundAt, IsSide, IsHead}
+use Rattle.gb_laws.specs.Typing as typed
 use Rattle.gb_typing.specs.Context.{Frame, Context, procedure, erased, frame_of, reframed}
 use Rattle.gb_typing.specs.Typing.{IsFrame, IsPlace, IsNamed, IsTyped}
 use Rattle.gb_typing.specs.Puts.{Keeps}

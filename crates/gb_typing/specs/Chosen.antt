@@ -4,8 +4,8 @@ use Rattle.gb_terms.specs.declared.module.Bind.{Bind}
 use Rattle.gb_meaning.specs.Names.{Name}
 use Rattle.gb_meaning.specs.Setting.{Setting}
 use Rattle.gb_meaning.specs.Values.{World}
-use Rattle.gb_typed.specs.Context as typed
-use Rattle.gb_typed.specs.Finite.{AreVariables}
+use Rattle.gb_laws.specs.Context as typed
+use Rattle.gb_laws.specs.Finite.{AreVariables}
 use Rattle.gb_holds.specs.Declared.{Declarations, ModuleType, concrete_module}
 use Rattle.gb_holds.specs.Adversary.{Adversary, type_named}
 use Rattle.gb_holds.specs.Holds.{declared_modules}

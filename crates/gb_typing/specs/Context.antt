@@ -8,8 +8,8 @@ use Rattle.gb_terms.specs.declared.op.Side.{Side}
 use Rattle.gb_terms.specs.declared.op.Side.TheVariants as side
 use Rattle.gb_meaning.specs.Names.{Name}
 use Rattle.gb_meaning.specs.Written.{local_type}
-use Rattle.gb_typed.specs.Typing.{OperatorType, Binder}
-use Rattle.gb_typed.specs.Typing as typed
+use Rattle.gb_laws.specs.Typing.{OperatorType, Binder}
+use Rattle.gb_laws.specs.Typing as typed
 use Rattle.gb_typing.specs.Modules.{ProcedureType, Modules, procedure_type}
 
 -- the locals of a memory, if there is such a memory

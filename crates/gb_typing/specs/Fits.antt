@@ -13,7 +13,7 @@ use Rattle.gb_meaning.specs.Sound.{IsSoundRoutine}
 use Rattle.gb_meaning.specs.State.{State}
 use Rattle.gb_meaning.specs.Values.{has}
 use Rattle.gb_meaning.specs.Written.{params_of, result_type}
-use Rattle.gb_typed.specs.Context as typed
+use Rattle.gb_laws.specs.Context as typed
 use Rattle.gb_holds.specs.Programs.{AreOnce}
 use Rattle.gb_typing.specs.Modules.{ProcedureType}
 use Rattle.gb_typing.specs.Context.{Context, procedure, erased}

@@ -11,8 +11,8 @@ use Rattle.gb_terms.specs.declared.op.Op.TheVariants.{Implies}
 use Rattle.gb_terms.specs.declared.term.Term.{Term, Term', Row_of-Term, end_of-Term, more_of-Term, end_of-Head, more_of-Head}
 use Rattle.gb_terms.specs.declared.term.Head.TheVariants as head
 use Rattle.gb_meaning.specs.Names.{Name}
-use Rattle.gb_typed.specs.Typing.{types_of, IsHead}
-use Rattle.gb_typed.specs.Typing.Binder.{value, memory, program}
+use Rattle.gb_laws.specs.Typing.{types_of, IsHead}
+use Rattle.gb_laws.specs.Typing.Binder.{value, memory, program}
 use Rattle.gb_holds.specs.Declared.{ModuleType, Signature, signature_in}
 use Rattle.gb_holds.specs.Truth.{last_has_module, Choice}
 use Rattle.gb_typing.specs.Modules.{Modules, signatures_of, params_in, functor_type, of_functor_type, with_interface}

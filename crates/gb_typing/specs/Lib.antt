@@ -1,3 +1,7 @@
+pub mod Agreement
+pub mod Naming
+pub mod Formed
+pub mod Added
 pub mod Modules
 pub mod Context
 pub mod Typing

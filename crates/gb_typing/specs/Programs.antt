@@ -10,10 +10,10 @@ use Rattle.gb_terms.specs.declared.term.Head.TheVariants.{Assign, Sample, Call',
 use Rattle.gb_meaning.specs.Commands.{terms_in}
 use Rattle.gb_meaning.specs.Operators.{outcome_type}
 use Rattle.gb_meaning.specs.Written.{type_of, IsModulo}
-use Rattle.gb_changes.specs.Plain.{IsPlain}
-use Rattle.gb_typed.specs.Finite.{IsFinite, IsVariableType}
-use Rattle.gb_typed.specs.Operators.{IsDistributionType}
-use Rattle.gb_typed.specs.Programs.{variable_type, Take}
+use Rattle.gb_laws.specs.Plain.{IsPlain}
+use Rattle.gb_laws.specs.Finite.{IsFinite, IsVariableType}
+use Rattle.gb_laws.specs.Operators.{IsDistributionType}
+use Rattle.gb_laws.specs.Programs.{variable_type, Take}
 use Rattle.gb_typing.specs.Modules.{ProcedureType}
 use Rattle.gb_typing.specs.Context.{Context, procedure, erased, of_program}
 use Rattle.gb_typing.specs.Typing.{IsTyped}

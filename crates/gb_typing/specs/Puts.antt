@@ -18,11 +18,11 @@ use Rattle.gb_meaning.specs.Setting.{Setting}
 use Rattle.gb_meaning.specs.State.{State}
 use Rattle.gb_meaning.specs.Terms.{quiet, val}
 use Rattle.gb_meaning.specs.Written.{type_of}
-use Rattle.gb_changes.specs.Plain.{IsPlain}
-use Rattle.gb_changes.specs.Uses.{Uses}
-use Rattle.gb_changes.specs.Uses.Use.{read as read_of}
-use Rattle.gb_changes.specs.Written.{IsSide, Written}
-use Rattle.gb_typed.specs.Finite.{IsFinite}
+use Rattle.gb_laws.specs.Plain.{IsPlain}
+use Rattle.gb_laws.specs.Uses.{Uses}
+use Rattle.gb_laws.specs.Uses.Use.{read as read_of}
+use Rattle.gb_laws.specs.Written.{IsSide, Written}
+use Rattle.gb_laws.specs.Finite.{IsFinite}
 use Rattle.gb_holds.specs.Footprints.{stands_for}
 use Rattle.gb_typing.specs.Context.{Frame, Context, frame_of, reframed}
 use Rattle.gb_typing.specs.Typing.{IsIn, IsTyped}

@@ -10,15 +10,15 @@ use Rattle.gb_terms.specs.declared.decl.Proc.{Proc}
 use Rattle.gb_terms.specs.declared.decl.Module.{Module}
 use Rattle.gb_meaning.specs.Names.{Name}
 use Rattle.gb_meaning.specs.Written.{type_of, local_type}
-use Rattle.gb_changes.specs.Plain.{IsPlain}
-use Rattle.gb_typed.specs.Finite.{IsVariableType}
-use Rattle.gb_typed.specs.Operators.{IsDistributionType}
-use Rattle.gb_typed.specs.Typing.{OperatorType, IsLiteral}
-use Rattle.gb_typed.specs.Typing.Binder.{value}
+use Rattle.gb_laws.specs.Plain.{IsPlain}
+use Rattle.gb_laws.specs.Finite.{IsVariableType}
+use Rattle.gb_laws.specs.Operators.{IsDistributionType}
+use Rattle.gb_laws.specs.Typing.{OperatorType, IsLiteral}
+use Rattle.gb_laws.specs.Typing.Binder.{value}
 use Rattle.gb_holds.specs.Declared.{Declarations, Declaration, Abbreviated, for_type, for_value, DefinedOperator, ModuleType, Signature, MayCall, every, those, signature_in, abstract_type, abbreviation, operator, abstract_operator, module_type, concrete_module, abstract_module, axiom_of, lemma, terminating}
 use Rattle.gb_holds.specs.Modules.{Procedures, found}
 use Rattle.gb_holds.specs.Naming.{AnyName}
-use Rattle.gb_later.specs.Naming.{NoName, TermNames}
+use Rattle.gb_typing.specs.Naming.{NoName, TermNames}
 use Rattle.gb_typing.specs.Modules.{ProcedureType, Interface, Modules, params_in, functor_type, of_functor_type, with_interface}
 use Rattle.gb_typing.specs.Context.{Context, no_module}
 use Rattle.gb_typing.specs.Typing.{IsTyped}

@@ -8,9 +8,9 @@ use Rattle.gb_terms.specs.declared.term.Head.TheVariants as head
 use Rattle.gb_terms.specs.declared.term.Head.TheVariants.{Body'}
 use Rattle.gb_goal.specs.declared.sequent.Hyp.{Hyp}
 use Rattle.gb_goal.specs.declared.sequent.Sequent.{Sequent}
-use Rattle.gb_typed.specs.Operators.{item}
-use Rattle.gb_typed.specs.Typing.{types_of, IsHead}
-use Rattle.gb_typed.specs.Programs.{HaveFiniteTypes}
+use Rattle.gb_laws.specs.Operators.{item}
+use Rattle.gb_laws.specs.Typing.{types_of, IsHead}
+use Rattle.gb_laws.specs.Programs.{HaveFiniteTypes}
 use Rattle.gb_typing.specs.Context.{Context, erased, with_own, with_sides}
 use Rattle.gb_typing.specs.Typing.{AreTyped}
 use Rattle.gb_typing.specs.Programs.{AreStatements, HaveVariableTypes}

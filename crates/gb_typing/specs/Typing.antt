@@ -17,8 +17,8 @@ use Rattle.gb_terms.specs.declared.term.Subject.{Subject}
 use Rattle.gb_meaning.specs.Memory.{result_name}
 use Rattle.gb_meaning.specs.Operators.{outcome_type}
 use Rattle.gb_meaning.specs.Written.{type_of}
-use Rattle.gb_typed.specs.Typing.{types_of, IsHead}
-use Rattle.gb_typed.specs.Typing.Binder.{value, index, memory, program}
+use Rattle.gb_laws.specs.Typing.{types_of, IsHead}
+use Rattle.gb_laws.specs.Typing.Binder.{value, index, memory, program}
 use Rattle.gb_typing.specs.Modules.{ProcedureType}
 use Rattle.gb_typing.specs.Context.{Frame, Context, procedure, erased, frame_of, local_in, with_own, with_sides, within}
 

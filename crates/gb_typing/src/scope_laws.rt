@@ -3,7 +3,7 @@
 ghost use Rattle.std.specs.Prelude.{List};
 ghost use Rattle.gb_terms.specs.declared.decl.TypedName.{TypedName};
 ghost use Rattle.gb_goal.specs.declared.sequent.Sequent.{Sequent};
-ghost use Rattle.gb_typed.specs.Finite.{IsInhabited};
+ghost use Rattle.gb_laws.specs.Finite.{IsInhabited};
 ghost use Rattle.gb_holds.specs.Declared.{Declarations};
 ghost use Rattle.gb_holds.specs.Holds.{GiveResults, declared_modules, EachProgram, InEachModel, InEachSetting};
 ghost use Rattle.gb_holds.specs.Settings.{Interpretation, types_of, setting};

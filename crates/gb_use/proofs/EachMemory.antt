@@ -24,14 +24,14 @@ use Rattle.gb_meaning.specs.State.{State, memory_of, no_memory, under}
 use Rattle.gb_meaning.specs.State.Binding.{memory as memory_bound}
 use Rattle.gb_meaning.specs.Terms.{Speaks, val}
 use Rattle.gb_meaning.specs.Judgments.{Judge, IsFair, speaking, den}
-use Rattle.gb_changes.specs.Led.{Led}
-use Rattle.gb_changes.specs.Uses.Use.{read as reads, bound, globals, starts, binds_own, binds_sides}
-use Rattle.gb_changes.proofs.Forms.{form_followed}
-use Rattle.gb_laws.proofs.Truths.{true_all_memory}
+use Rattle.gb_laws.specs.Led.{Led}
+use Rattle.gb_laws.specs.Uses.Use.{read as reads, bound, globals, starts, binds_own, binds_sides}
+use Rattle.gb_laws.proofs.Forms.{form_followed}
+use Rattle.gb_meaning.proofs.Truths.{true_all_memory}
 use Rattle.gb_holds.specs.Holds.{context}
-use Rattle.gb_typed.specs.Operators.{item}
-use Rattle.gb_typed.specs.Typing as typed
-use Rattle.gb_typed.specs.Typing.Binder.{memory}
+use Rattle.gb_laws.specs.Operators.{item}
+use Rattle.gb_laws.specs.Typing as typed
+use Rattle.gb_laws.specs.Typing.Binder.{memory}
 use Rattle.gb_typing.specs.Context.{Context, Frame, erased, frame_of, within}
 use Rattle.gb_typing.specs.Typing.{IsPlace, IsForm}
 use Rattle.gb_typing.specs.Fits.{IsSettingOf}

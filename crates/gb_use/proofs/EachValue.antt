@@ -25,18 +25,18 @@ use Rattle.gb_meaning.specs.State.Binding.{value as value_bound}
 use Rattle.gb_meaning.specs.Terms.{Speaks, val}
 use Rattle.gb_meaning.specs.Values.{has}
 use Rattle.gb_meaning.specs.Judgments.{Judge, IsFair, speaking, den}
-use Rattle.gb_laws.proofs.Nodes.{term_is_node, val_node, denominator_node}
-use Rattle.gb_changes.specs.Formed.{IsFormed}
-use Rattle.gb_changes.specs.Led.{IsPut, put, Led}
-use Rattle.gb_changes.specs.Uses.Use.{read as reads, bound, globals, starts, binds_own, binds_sides}
-use Rattle.gb_changes.proofs.Forms.{form_followed}
-use Rattle.gb_changes.proofs.Puts.{plain_node}
-use Rattle.gb_laws.proofs.Truths.{true_all}
+use Rattle.gb_meaning.proofs.Nodes.{term_is_node, val_node, denominator_node}
+use Rattle.gb_laws.specs.Formed.{IsFormed}
+use Rattle.gb_laws.specs.Led.{IsPut, put, Led}
+use Rattle.gb_laws.specs.Uses.Use.{read as reads, bound, globals, starts, binds_own, binds_sides}
+use Rattle.gb_laws.proofs.Forms.{form_followed}
+use Rattle.gb_laws.proofs.Puts.{plain_node}
+use Rattle.gb_meaning.proofs.Truths.{true_all}
 use Rattle.gb_holds.specs.Holds.{context}
-use Rattle.gb_typed.specs.Finite.{IsFinite}
-use Rattle.gb_typed.specs.Operators.{item}
-use Rattle.gb_typed.specs.Typing as typed
-use Rattle.gb_typed.specs.Typing.Binder.{value}
+use Rattle.gb_laws.specs.Finite.{IsFinite}
+use Rattle.gb_laws.specs.Operators.{item}
+use Rattle.gb_laws.specs.Typing as typed
+use Rattle.gb_laws.specs.Typing.Binder.{value}
 use Rattle.gb_typing.specs.Changes.{IsLeaf, Becomes, Leads, Made, Stays}
 use Rattle.gb_typing.specs.Context.{Context, Frame, erased, frame_of, reframed, within}
 use Rattle.gb_typing.specs.Typing.{IsFrame, IsForm}

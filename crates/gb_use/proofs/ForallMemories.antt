@@ -8,8 +8,8 @@ use Rattle.gb_meaning.specs.Meanings.{truth}
 use Rattle.gb_meaning.specs.Setting.{Setting}
 use Rattle.gb_meaning.specs.State.{State}
 use Rattle.gb_meaning.specs.Judgments.{Judge, IsFair, den}
-use Rattle.gb_laws.proofs.Truths.{true_all_memory}
-use Rattle.gb_typed.specs.Typing.Binder.{memory}
+use Rattle.gb_meaning.proofs.Truths.{true_all_memory}
+use Rattle.gb_laws.specs.Typing.Binder.{memory}
 use Rattle.gb_typing.specs.Context.{Context, Frame, within}
 use Rattle.gb_typing.specs.Typing.{IsForm}
 use Rattle.gb_typing.specs.Fits.{IsSettingOf}

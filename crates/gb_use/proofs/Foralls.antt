@@ -10,9 +10,9 @@ use Rattle.gb_meaning.specs.State.{State}
 use Rattle.gb_meaning.specs.Values.{has}
 use Rattle.gb_meaning.specs.Judgments.{Judge, IsFair, den}
 use Rattle.gb_meaning.specs.Written.{type_of}
-use Rattle.gb_laws.proofs.Truths.{true_all}
-use Rattle.gb_typed.specs.Finite.{IsFinite}
-use Rattle.gb_typed.specs.Typing.Binder.{value}
+use Rattle.gb_meaning.proofs.Truths.{true_all}
+use Rattle.gb_laws.specs.Finite.{IsFinite}
+use Rattle.gb_laws.specs.Typing.Binder.{value}
 use Rattle.gb_typing.specs.Context.{Context, Frame, within}
 use Rattle.gb_typing.specs.Typing.{IsForm}
 use Rattle.gb_typing.specs.Fits.{IsSettingOf, IsStateOf}

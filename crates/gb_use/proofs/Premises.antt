@@ -20,9 +20,9 @@ use Rattle.gb_meaning.specs.Commands.{terms_in}
 use Rattle.gb_meaning.specs.Setting.{Setting}
 use Rattle.gb_meaning.specs.State.{State}
 use Rattle.gb_meaning.specs.Judgments.{Judge, den}
-use Rattle.gb_laws.proofs.Nodes.{each_is_node}
-use Rattle.gb_changes.proofs.Trees.{out_is}
-use Rattle.gb_apart.proofs.SameTerms.{same_terms}
+use Rattle.gb_meaning.proofs.Nodes.{each_is_node}
+use Rattle.gb_laws.proofs.Trees.{out_is}
+use Rattle.gb_meaning.proofs.SameTerms.{same_terms}
 use Rattle.gb_typing.specs.Context.{Context}
 use Rattle.gb_typing.specs.Typing.{IsForm}
 use Rattle.gb_typing.proofs.Made.{parts_typed}

@@ -15,7 +15,7 @@ use Rattle.gb_goal.specs.declared.scope.Binder.TheVariants.{Value, Memory}
 use Rattle.gb_goal.specs.declared.sequent.Sequent.{Sequent}
 use Rattle.gb_holds.specs.Declared.{Declarations, lemma}
 use Rattle.gb_holds.specs.Holds.{Holds}
-use Rattle.gb_typed.specs.Finite.{IsFinite}
+use Rattle.gb_laws.specs.Finite.{IsFinite}
 use Rattle.gb_typing.specs.Context.{Context}
 use Rattle.gb_typing.specs.Typing.{IsForm}
 use Rattle.gb_typing.specs.Sequents.{of_sequent}

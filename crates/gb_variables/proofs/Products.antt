@@ -1,5 +1,5 @@
 -- The number of assignments to variables.
-use Rattle.std.proofs.Common.{◌≡◌, ℕ, ◌+◌, ◌*◌, ◌^◌, ◌<◌, Bool, true, false, ◌&&◌, if◌then◌else◌, cond, nat_lt, min, List, [], ◌∷◌, ◌++◌, length, get_or, map, take, refl, sym, ap, ◌∙◌, subst, mul_assoc, arith}
+use Rattle.std.proofs.Common.{◌≡◌, ℕ, ◌+◌, ◌*◌, ◌^◌, ◌<◌, Bool, true, false, ◌&&◌, cond, nat_lt, min, List, [], ◌∷◌, ◌++◌, length, get_or, map, take, refl, sym, ap, ◌∙◌, subst, mul_assoc, arith}
 use Rattle.std.proofs.Math.Nat.{min-eq_left}
 use Rattle.std.proofs.lemmas.Bool.{ltb-true, lt-ltb}
 use Rattle.std.proofs.lemmas.Bool.Decides.{nat_tests}
@@ -15,7 +15,7 @@ use Rattle.gb_types.specs.Types.{all_true, finite_step, is_finite, numbering, si
 use Rattle.gb_types.proofs.Capped.{min_times}
 use Rattle.gb_types.proofs.Equations.{numbering-Tuple}
 use Rattle.gb_meaning.specs.Operators.{outcome_type}
-use Rattle.gb_typed.proofs.Constructors.{distribution_is}
+use Rattle.gb_laws.proofs.Constructors.{distribution_is}
 
 -- the number of tuples of values of types
 abbrev pub product : List Ty → ℕ

@@ -1,16 +1,15 @@
 //! What shows that a loop ends: its variant is above 0 where the guard is true, and each turn makes it less.
 
-ghost use Rattle.std.specs.Prelude.{◌≡◌, [], ◌∷◌, ◌++◌, flat_map, IfOk};
+ghost use Rattle.std.specs.Prelude.{◌≡◌, [], ◌++◌, flat_map, IfOk};
 ghost use Rattle.gb_terms.specs.declared.term.Term.{out-Term};
 ghost use Rattle.gb_shapes.specs.Names.{is_among};
 ghost use Rattle.gb_variants.specs.Loops.{loops, statement_loops};
 ghost use Rattle.gb_premises.specs.Variants.{less};
-ghost use Rattle.gb_variants.specs.Variants.{above_zero, fallen, falling, falling_goal, goals_of, loop_goals, loop_seen, over_one, turning, unlike, value_before, value_name, zero_of};
+ghost use Rattle.gb_variants.specs.Variants.{above_zero, fallen, falling, falling_goal, goals_of, loop_goals, loop_seen, turning, unlike, value_before, value_name};
 
+use gb_core::SharedItems;
 use gb_core::name::Name;
-use gb_core::ty::Ty;
 use gb_core::value::Value;
-use gb_core::{Shared, SharedItems};
 use gb_goal::goal::hoare;
 use gb_goal::sequent::{Sequent, Sequents, ambient};
 use gb_parts::forms::{every, implied};
@@ -31,20 +30,13 @@ struct Loop<'a> {
     body: &'a Cmd,
 }
 
-/// A term is above 0.
-fn positive(alloc: Global, term: &Term) -> Result<Form, AllocError>
-    ensures { IfOk result (λ made. made ≡ less (zero_of (out-Term term.now).ty) term.now) }
-{
-    let ty = term.ty.share()?;
-    let zero = leaf(alloc, Head::Lit(Value::Num(0)), ty)?;
-    less(alloc, zero, term.share()?)
-}
-
 /// In each memory, where the guard is true the variant is above 0.
 fn above_zero(alloc: Global, turned: Loop<'_>) -> Result<Form, AllocError>
     ensures { IfOk result (λ made. made ≡ above_zero (loop_seen turned.entry)) }
 {
-    let positive = positive(alloc, turned.variant)?;
+    let ty = turned.variant.ty.share()?;
+    let zero = leaf(alloc, Head::Lit(Value::Num(0)), ty)?;
+    let positive = less(alloc, zero, turned.variant.share()?)?;
     let form = implied(alloc, turned.guard, &positive)?;
     every(alloc, Side::Own, form)
 }
@@ -108,19 +100,6 @@ fn value_name(alloc: Global, judgment: &Form) -> Result<Name, AllocError>
     unlike(alloc, taken.as_slice(), letter)
 }
 
-/// The context of one logical variable.
-fn one_variable(
-    alloc: Global,
-    name: Name,
-    ty: Shared<Ty>,
-) -> Result<SharedItems<TypedName>, AllocError>
-    ensures { IfOk result (λ made. made ≡ record { name = name; ty = ty } ∷ []) }
-{
-    let mut list = Items::new(alloc);
-    list.push(TypedName { name, ty })?;
-    SharedItems::new(alloc, list)
-}
-
 /// Each turn makes the variant less.
 fn falling(alloc: Global, turned: Loop<'_>) -> Result<Form, AllocError>
     ensures { IfOk result (λ made. made ≡ falling (loop_seen turned.entry)) }
@@ -130,25 +109,17 @@ fn falling(alloc: Global, turned: Loop<'_>) -> Result<Form, AllocError>
     hoare(alloc, turned.body.list.share()?, pre, post)
 }
 
+/// The goal that each turn makes the variant less, over one logical variable: what the variant is before the turn.
 fn falling_goal(alloc: Global, turned: Loop<'_>) -> Result<Sequent, AllocError>
     ensures { IfOk result (λ made. made ≡ falling_goal (loop_seen turned.entry)) }
 {
     let judgment = falling(alloc, turned)?;
     let name = value_name(alloc, &judgment)?;
-    with_variable(alloc, name, turned.variant, judgment)
-}
-
-/// A goal over one logical variable, of the type of a term.
-fn with_variable(
-    alloc: Global,
-    name: Name,
-    term: &Term,
-    conclusion: Form,
-) -> Result<Sequent, AllocError>
-    ensures { IfOk result (λ made. made ≡ over_one (record { name = name; ty = (out-Term term.now).ty }) conclusion) }
-{
-    let mut goal = ambient(alloc, conclusion)?;
-    goal.logical = one_variable(alloc, name, term.ty.share()?)?;
+    let ty = turned.variant.ty.share()?;
+    let mut logical = Items::new(alloc);
+    logical.push(TypedName { name, ty })?;
+    let mut goal = ambient(alloc, judgment)?;
+    goal.logical = SharedItems::new(alloc, logical)?;
     Ok(goal)
 }
 

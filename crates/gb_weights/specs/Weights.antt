@@ -9,7 +9,7 @@ use Rattle.gb_core.specs.declared.ty.Ty.TheVariants as ty
 use Rattle.gb_core.specs.declared.value.Value.{Value, out-Value}
 use Rattle.gb_core.specs.declared.value.Value.TheOpen as layer
 use Rattle.gb_core.specs.declared.value.Value.TheVariants.{Num}
-use Rattle.gb_same.specs.Types.{ty_eq}
+use Rattle.gb_core.specs.SameTypes.{ty_eq}
 use Rattle.gb_limits.specs.Numbers.{number_of}
 use Rattle.gb_names.specs.declared.bindings.Binding.{Binding}
 use Rattle.gb_terms.specs.declared.term.Pair.{Pair}

@@ -12,6 +12,7 @@ ghost use Rattle.gb_weights.specs.Weights.{added, built_in_constant, constant_of
 use gb_core::name::Name;
 use gb_core::place::Place;
 use gb_core::refusal::{Refused, Why};
+use gb_core::same::same_types;
 use gb_core::ty::Ty;
 use gb_core::value::Value;
 use gb_core::{Shared, SharedItems};
@@ -24,7 +25,6 @@ use gb_names::refusals::{argument, double, mismatch, not_built};
 use gb_names::setting::Setting;
 use gb_names::types::wanted;
 use gb_operators::operators::outcome_wanted;
-use gb_same::types::same_types;
 use gb_script::tree::Node;
 use gb_terms::make;
 use gb_terms::term::{DistTerm, Head, Pair, Pairs, Term};

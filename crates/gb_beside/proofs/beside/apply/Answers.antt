@@ -16,4 +16,4 @@ by_modules true place u r result e h = refused_at Shape place u e
 by_modules false place u r result e h = h
 
 pub returns : goal.returns
-returns c = by_modules (goal_quantifies_modules c.args.goal.now) c.args.place _ _ c.at_step.result c.in_ok-refuse_goal_modules.ensures c.at_step.ensures
+returns c = by_modules (goal_quantifies_modules c.args.goal.now) c.args.place _ _ c.placed.result c.in_ok-refuse_goal_modules.ensures (c.placed.ensures _ c.on_one-made.ensures)

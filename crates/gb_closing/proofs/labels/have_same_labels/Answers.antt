@@ -1,5 +1,6 @@
 use Rattle.std.proofs.Common.{◌≡◌, ◌<◌, length, get_or, sym, ◌∙◌, arith}
 use Rattle.std.proofs.lemmas.Bool.{false≢true}
+use Rattle.std.proofs.lemmas.Grind.{common_steps}
 use Rattle.gb_closing.specs.Labels.{label_at}
 use Rattle.gb_closing.proofs.Places.{mapped_same}
 use Rattle.gb_closing.proofs.labels.have_same_labels.Goals as goal
@@ -13,3 +14,6 @@ returns-then-label_at c = (
       mapped_same (label_at c.args.labels.now) c.args.a.now c.args.b.now c.loop-at.at c.loop-at-test.true within e in
       absurd (c.if-label_at.true (c.label_at.ensures ∙ same ∙ sym c.label_at-in-loop-at.ensures))),
 )
+
+pub returns : goal.returns
+returns c = grind (arith, common_steps) steps 300000

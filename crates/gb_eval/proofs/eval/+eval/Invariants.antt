@@ -18,8 +18,8 @@ decreases-eval l = fuel_in l.env.now.script + 8 * goal.size-eval l
 abbrev pub decreases-truth_under : goal.decreases-truth_under
 decreases-truth_under l = fuel_in l.env.now.script + 8 * goal.size-truth_under l + 1
 
-abbrev pub decreases-table : goal.decreases-table
-decreases-table l = fuel_in l.env.now.script + 8 * goal.size-table l + 1
+abbrev pub decreases-table_under : goal.decreases-table_under
+decreases-table_under l = fuel_in l.env.now.script + 8 * goal.size-table_under l + 1
 
 abbrev pub decreases-eval_with : goal.decreases-eval_with
 decreases-eval_with l = fuel_in l.env.now.script + 8 * goal.size-eval_with l + 1

@@ -2,11 +2,12 @@ use Rattle.std.proofs.Common.{Some, Err, get_or, ap, sym, ◌∙◌}
 use Rattle.std.proofs.lemmas.Result.{err_from_is_err_and}
 use Rattle.gb_goal.specs.Answers.{◌>>=◌}
 use Rattle.gb_goal.specs.Answers.Answer.{given}
+use Rattle.gb_terms.specs.declared.term.Term.{out-Term}
 use Rattle.gb_linear.specs.declared.linear.Prefix.TheVariants as Prefixes
 use Rattle.gb_closing.specs.declared.numbers.Sign.TheVariants.{Minus}
 use Rattle.gb_closing.specs.Numbers.{zero}
-use Rattle.gb_sums.specs.Forms.{combined, of_number}
-use Rattle.gb_linear.specs.Linear.{at_forms, linear}
+use Rattle.gb_linear.specs.Forms.{combined, of_number}
+use Rattle.gb_linear.specs.Linear.{at_forms, linear, plain}
 use Rattle.gb_linear.proofs.Passed.{refusal_stands, leads_on, answers_as}
 use Rattle.gb_linear.proofs.Taken.{at_one, at_two, at_none, at_other, second_is}
 use Rattle.gb_linear.proofs.linear.+linear.Goals as goal
@@ -32,10 +33,11 @@ returns-in-Same t c =
     (at_one c.args.t.now c.as_slice-args.result.now c.as_slice-args.ensures c.get.result.now c.get-then-args-eq1.result.now Prefixes.Same c.index-args-0-in-Same.result c.index-args-0.result c.if-args-eq1.true c.index-args-0-in-Same.is c.get.ensures c.get-then-args-eq1.ensures (sym c.in-Same.is ∙ c.prefixed.ensures))
     c.linear-in-Same.ensures
 
-pub returns-in_ok-plain-in-Other : goal.returns-in_ok-plain-in-Other
-returns-in_ok-plain-in-Other t c =
-    at_one c.args.t.now c.as_slice-args.result.now c.as_slice-args.ensures c.get.result.now c.get-then-args-eq1.result.now Prefixes.Other c.index-args-0.result c.index-args-0.result c.if-args-eq1.true c.index-args-0.is c.get.ensures c.get-then-args-eq1.ensures (sym c.in-Other.is ∙ c.prefixed.ensures)
-    ∙ ap given (sym c.in_ok-plain-in-Other.ensures)
+pub returns-in-Other : goal.returns-in-Other
+returns-in-Other t c =
+    answers_as (linear c.args.t.now) (given (plain (out-Term c.args.t.now).head c.args.t.now)) c.plain.result
+    (at_one c.args.t.now c.as_slice-args.result.now c.as_slice-args.ensures c.get.result.now c.get-then-args-eq1.result.now Prefixes.Other c.index-args-0.result c.index-args-0.result c.if-args-eq1.true c.index-args-0.is c.get.ensures c.get-then-args-eq1.ensures (sym c.in-Other.is ∙ c.prefixed.ensures))
+    c.plain.ensures
 
 pub returns-in_err-a-in-Some : goal.returns-in_err-a-in-Some
 returns-in_err-a-in-Some t c =
@@ -64,12 +66,14 @@ returns-in_ok-b-in-Some t c =
     c.in_ok-b-in-Some.ensures)
     c.at_forms.ensures
 
-pub returns-in_ok-plain-in-None : goal.returns-in_ok-plain-in-None
-returns-in_ok-plain-in-None t c =
-    at_none c.args.t.now c.as_slice-args.result.now c.as_slice-args.ensures c.get-then-args-eq2.result.now c.if-args-eq2.true c.get-then-args-eq2.ensures (sym c.in-None.is ∙ c.joining.ensures)
-    ∙ ap given (sym c.in_ok-plain-in-None.ensures)
+pub returns-in-None : goal.returns-in-None
+returns-in-None t c =
+    answers_as (linear c.args.t.now) (given (plain (out-Term c.args.t.now).head c.args.t.now)) c.plain-in-None.result
+    (at_none c.args.t.now c.as_slice-args.result.now c.as_slice-args.ensures c.get-then-args-eq2.result.now c.if-args-eq2.true c.get-then-args-eq2.ensures (sym c.in-None.is ∙ c.joining.ensures))
+    c.plain-in-None.ensures
 
 pub returns : goal.returns
 returns t c =
-    at_other c.args.t.now c.as_slice-args.result.now c.as_slice-args.ensures c.if-args-eq1.false c.if-args-eq2.false
-    ∙ ap given (sym c.in_ok-plain.ensures)
+    answers_as (linear c.args.t.now) (given (plain (out-Term c.args.t.now).head c.args.t.now)) c.plain-2.result
+    (at_other c.args.t.now c.as_slice-args.result.now c.as_slice-args.ensures c.if-args-eq1.false c.if-args-eq2.false)
+    c.plain-2.ensures

@@ -1,4 +1,4 @@
-use Rattle.gb_judge.proofs.Fair.{memory_discrete}
+use Rattle.gb_laws.proofs.Fair.{memory_discrete}
 use Rattle.gb_models.proofs.Promised.{couplings}
 use Rattle.gb_models.proofs.promise_laws.equivalences_give_couplings.Goals as goal
 

@@ -1,4 +1,4 @@
-use Rattle.gb_later.specs.Naming.{NoName}
+use Rattle.gb_typing.specs.Naming.{NoName}
 use Rattle.gb_models.proofs.MoreNames.{parts}
 use Rattle.gb_models.proofs.stay_laws.parts_of_scopes.Goals as goal
 

@@ -7,7 +7,7 @@ use Rattle.gb_goal.specs.Answers.Answer.{given}
 use Rattle.gb_goal.specs.declared.scope.Binder.{Binder}
 use Rattle.gb_theory.specs.Built.{Session, with_lemma}
 use Rattle.gb_theory.specs.Commands.{opens}
-use Rattle.gb_theory.specs.declared.state.OpenProof.{OpenProof}
+use Rattle.gb_state.specs.declared.state.OpenProof.{OpenProof}
 use Rattle.gb_theory.specs.Sessions.{open_of, session_of}
 use Rattle.gb_theory.proofs.Declared.{opens_done, opens_fails}
 use Rattle.gb_theory.proofs.fold.open_lemma.Goals as goal

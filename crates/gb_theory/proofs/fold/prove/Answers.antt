@@ -4,7 +4,7 @@ use Rattle.gb_goal.specs.Answers.Answer.{given}
 use Rattle.gb_theory.specs.Built.{Session, OpenProof as Opened}
 use Rattle.gb_theory.specs.Commands.{InProof, WorksOn}
 use Rattle.gb_theory.specs.Sessions.{session_of, open_of}
-use Rattle.gb_theory.specs.declared.state.OpenProof.{OpenProof}
+use Rattle.gb_state.specs.declared.state.OpenProof.{OpenProof}
 use Rattle.gb_theory.proofs.InProofs.{works_or_fails, works}
 use Rattle.gb_theory.proofs.fold.prove.Goals as goal
 

@@ -1,5 +1,5 @@
-use Rattle.gb_typed.proofs.Denominators.{denominator_one}
-use Rattle.gb_typed.proofs.Terms.{typed_meaning, typed_value, typed_has}
+use Rattle.gb_laws.proofs.Denominators.{denominator_one}
+use Rattle.gb_laws.proofs.Terms.{typed_meaning, typed_value, typed_has}
 use Rattle.gb_typing.specs.Context.{erased}
 use Rattle.gb_typing.proofs.Erased.{erased_typed}
 use Rattle.gb_typing.proofs.term_laws.meanings.Goals as goal

@@ -8,7 +8,7 @@ use Rattle.gb_theory.specs.Commands.{ComesTo}
 use Rattle.gb_session.specs.Commands.{CommandLeads, enumerated}
 use Rattle.gb_session.specs.Kept.{stage_of}
 use Rattle.gb_session.proofs.Adds.{adds}
-use Rattle.gb_session.proofs.Moved.{is_full, has_room, has_no_limit, next_kept, next_free, leads_on, refused_by, kept_count, undeclared_then}
+use Rattle.gb_session.proofs.Moved.{is_full, has_room, has_no_limit, next_kept, next_free, leads_on, due_by, kept_count, undeclared_then}
 use Rattle.gb_session.proofs.Stages.{history, length_before}
 use Rattle.gb_session.proofs.session.Session.run.Goals as goal
 use Rattle.gb_session.proofs.session.Session.run.Goals.{else-self-via-then-self+else-len-ge-KEPT, else-self-via-else-self, then-not-self, else-not-self}
@@ -20,8 +20,8 @@ returns-then-len-ge-KEPT-clause-session c =
     subst (λ h. CommandLeads h c.args.command.now (refused (TooMany 4096) (place_of c.args.command.now))) c.self.view_is
     (is_full (history i.file i.keeps (stage_of i.state i.enumerations) i.kept) c.args.command.now c.if-self.true (omega (arith, size, c.len.ensures, c.if-len-ge-KEPT.true)))
 
-pub returns-in-Ok-clause-session : goal.returns-in-Ok-clause-session
-returns-in-Ok-clause-session c =
+pub returns-after-not-self-clause-session : goal.returns-after-not-self-clause-session
+returns-after-not-self-clause-session c =
     let i = c.self.inside in
     let s = stage_of i.state i.enumerations in
     let size = length_before i.kept s in
@@ -53,14 +53,14 @@ invariant_of-self-else-not-self c =
     let kept = c.in_ok-push.ensures.ok ∙ ap (λ k. k ∷ i.kept) (kept_count i.state i.enumerations c.len-2.result c.in_ok-now.now c.len-2.ensures c.in_ok-now.ensures) in
     undeclared_then i.state c.execute.new.state i.enumerations i.kept c.push.new.self kept front.scope c.self.invariant
 
-pub returns-in-Err-Script-clause-session : goal.returns-in-Err-Script-clause-session
-returns-in-Err-Script-clause-session c =
+pub returns-in-Err-clause-session : goal.returns-in-Err-clause-session
+returns-in-Err-clause-session c =
     let i = c.self.inside in
     let s = stage_of i.state i.enumerations in
     let size = length_before i.kept s in
-    refused_by i.file i.keeps i.state i.enumerations i.kept c.args.command.now c.args.self.now c.in-Err-Script.why c.in-Err-Script.place c.self.view_is
+    due_by i.file i.keeps i.state i.enumerations i.kept c.args.command.now c.args.self.now c.in-Err.refused c.self.view_is
     (elim c.else-self.branch [
       | else-self-via-then-self+else-len-ge-KEPT w ↦ has_room (history i.file i.keeps s i.kept) w.if-self.true (omega (arith, size, w.len.ensures, w.if-len-ge-KEPT.false))
       | else-self-via-else-self w ↦ has_no_limit (history i.file i.keeps s i.kept) w.if-self.false
     ])
-    (subst (IsDue (ComesTo (session_of i.state) c.args.command.now)) c.in-Err-Script.field-0-is c.in-Err-Script.ensures.session)
+    c.in-Err.ensures.session

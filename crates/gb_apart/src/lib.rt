@@ -1,4 +1,0 @@
-//! Typed trees are told apart.
-#![tactic(auto)]
-
-pub mod laws;

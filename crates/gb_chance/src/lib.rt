@@ -1,5 +1,0 @@
-//! Comparisons of probabilities as forms.
-#![tactic(auto)]
-
-pub mod compared;
-pub mod laws;

@@ -1,5 +1,0 @@
-use Rattle.gb_changes.proofs.Agreeing.{term_agrees, form_agrees}
-use Rattle.gb_changes.proofs.agree_laws.agreement.Goals as goal
-
-pub returns : goal.returns
-returns c = record { terms = term_agrees; forms = form_agrees }

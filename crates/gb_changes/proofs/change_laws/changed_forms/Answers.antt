@@ -1,5 +1,0 @@
-use Rattle.gb_changes.proofs.Forms.{form_followed}
-use Rattle.gb_changes.proofs.change_laws.changed_forms.Goals as goal
-
-pub returns : goal.returns
-returns c = λ g j fair f x u cs K s q a l i. form_followed g j fair f x u cs K s q a l i

@@ -1,5 +1,0 @@
-use Rattle.gb_changes.proofs.Agreeing.{left_to_binder, right_to_binder}
-use Rattle.gb_changes.proofs.lead_laws.bound_sides.Goals as goal
-
-pub returns : goal.returns
-returns c = record { left = left_to_binder; right = right_to_binder }

@@ -1,5 +1,0 @@
-use Rattle.gb_changes.proofs.Writing.{led_all_written}
-use Rattle.gb_changes.proofs.lead_laws.variables_written_at_once.Goals as goal
-
-pub returns : goal.returns
-returns c = led_all_written

@@ -1,5 +1,0 @@
-use Rattle.gb_changes.proofs.Shapes.{formed_changed, sound_changed}
-use Rattle.gb_changes.proofs.shape_laws.shapes.Goals as goal
-
-pub returns : goal.returns
-returns c = record { formed = formed_changed; sound = sound_changed }

@@ -1,5 +1,0 @@
-use Rattle.gb_changes.proofs.Using.{within_changed}
-use Rattle.gb_changes.proofs.shape_laws.uses.Goals as goal
-
-pub returns : goal.returns
-returns c = within_changed

@@ -1,3 +1,0 @@
-pub mod Closed
-pub mod OwnLoops
-pub mod EndedModules

@@ -1,5 +1,0 @@
-use Rattle.gb_ended_laws.proofs.OwnLoops as own
-use Rattle.gb_ended_laws.proofs.laws.entered.Goals as goal
-
-pub returns : goal.returns
-returns c = λ ds t s k q w h. own.sequent_ends ds t s k q w h

@@ -1,5 +1,0 @@
-use Rattle.gb_ended_laws.proofs.OwnLoops as own
-use Rattle.gb_ended_laws.proofs.laws.own_loops.Goals as goal
-
-pub returns : goal.returns
-returns c = λ ds t s k p a e h. own.own_loops ds t s k p a e h

@@ -1,5 +1,0 @@
-use Rattle.gb_ended_laws.proofs.OwnLoops as own
-use Rattle.gb_ended_laws.proofs.laws.proved_loops.Goals as goal
-
-pub returns : goal.returns
-returns c = λ ds t s k q w. own.all_proved ds t s k q w

@@ -1,4 +1,0 @@
-//! Leaves that are valid by equality hold.
-#![tactic(auto)]
-
-pub mod laws;

@@ -1,4 +1,0 @@
-mod AfterSim
-mod Decides
-mod Swaps
-mod Unrolls

@@ -1,6 +1,0 @@
-use Rattle.gb_judge.proofs.Exact.{trying}
-use Rattle.gb_judge.proofs.Fair.{is_fair}
-use Rattle.gb_judge.proofs.truth_laws.fair_judge.Goals as goal
-
-pub returns : goal.returns
-returns c = λ g. (trying g, is_fair g)

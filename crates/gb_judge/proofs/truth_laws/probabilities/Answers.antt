@@ -1,5 +1,0 @@
-use Rattle.gb_judge.proofs.Probabilities.{probability_node}
-use Rattle.gb_judge.proofs.truth_laws.probabilities.Goals as goal
-
-pub returns : goal.returns
-returns c = probability_node

@@ -1,0 +1,9 @@
+use Rattle.gb_labels_laws.proofs.Settings.{label_values, same_values, means_same}
+use Rattle.gb_labels_laws.proofs.setting_laws.settings_with_labels.Goals as goal
+
+pub returns : goal.returns
+returns c = record {
+  labels = λ own num g a. label_values own num g.types a;
+  others = λ own num g t k. same_values own num g t k;
+  terms = λ own num g e k s. means_same own num g e k s;
+}

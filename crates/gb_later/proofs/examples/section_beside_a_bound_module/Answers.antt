@@ -1,5 +1,0 @@
-use Rattle.gb_later.proofs.HiddenModule.{section-added, still-holds}
-use Rattle.gb_later.proofs.examples.section_beside_a_bound_module.Goals as goal
-
-pub returns : goal.returns
-returns c = record { added = section-added; holds = still-holds }

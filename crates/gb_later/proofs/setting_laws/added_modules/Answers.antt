@@ -1,8 +1,0 @@
-use Rattle.gb_holds.specs.Settings.{types_of}
-use Rattle.gb_holds.specs.Holds.{interpretation}
-use Rattle.gb_later.proofs.PlainGlobals.{plain_world}
-use Rattle.gb_later.proofs.WithModules.{later_agrees}
-use Rattle.gb_later.proofs.setting_laws.added_modules.Goals as goal
-
-pub returns : goal.returns
-returns c = λ ds es s e w size table h. later_agrees ds es s e w size table (plain_world (types_of ds (interpretation w size table)) w h)

@@ -1,5 +1,0 @@
-use Rattle.gb_later.proofs.SamePrograms.{run_same, size_same}
-use Rattle.gb_later.proofs.setting_laws.programs.Goals as goal
-
-pub returns : goal.returns
-returns c = record { runs = λ g h c e s m. run_same g h s c e m; denominator = λ g h c e. size_same g h c e }

@@ -1,4 +1,0 @@
-pub mod Agreement
-pub mod Naming
-pub mod Formed
-pub mod Added

@@ -1,5 +1,0 @@
-use Rattle.gb_laws.proofs.Endings.{good_of_falling}
-use Rattle.gb_laws.proofs.run_laws.loops.Goals as goal
-
-pub returns : goal.returns
-returns c = good_of_falling

@@ -1,4 +1,0 @@
-//! What the rule `linear` closes holds.
-#![tactic(auto)]
-
-pub mod laws;

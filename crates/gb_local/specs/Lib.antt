@@ -1,5 +1,0 @@
-pub mod Cells
-pub mod States
-pub mod Reads
-pub mod Writes
-pub mod Pairs

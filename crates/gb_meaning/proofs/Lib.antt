@@ -1,0 +1,15 @@
+pub mod Maps
+pub mod Values
+pub mod Numberings
+pub mod Memories
+pub mod Types
+pub mod Nodes
+pub mod Bodies
+pub mod Runs
+pub mod Totals
+pub mod Drawn
+pub mod Sequence
+pub mod Endings
+pub mod Bools
+pub mod Truths
+pub mod SameTerms

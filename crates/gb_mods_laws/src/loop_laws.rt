@@ -1,0 +1,60 @@
+//! Loops that procedures reach are good where no procedure is unproved.
+
+ghost use Rattle.std.specs.Prelude.{◌≡◌, Bool, true, Some, None};
+ghost use Rattle.gb_ended.specs.Ended.{first_unproved};
+ghost use Rattle.gb_ended.specs.Loops.{unproved_in, unproved_of};
+ghost use Rattle.gb_goal.specs.Goal.{goal_of};
+ghost use Rattle.gb_goal.specs.declared.sequent.Sequent.{Sequent};
+ghost use Rattle.gb_goal.specs.Scope.{procedure_of, Declarations};
+ghost use Rattle.gb_holds.specs.Declared.{declared};
+ghost use Rattle.gb_holds.specs.Holds.{InEachModel, InEachSetting, IsSound, LoopsAreGood};
+ghost use Rattle.gb_holds.specs.Settings.{setting};
+ghost use Rattle.gb_typing.specs.Naming.{NoName};
+ghost use Rattle.gb_meaning.specs.Commands.{statements};
+ghost use Rattle.gb_meaning.specs.Names.{Name};
+ghost use Rattle.gb_meaning.specs.Setting.{Setting};
+ghost use Rattle.gb_mods_laws.specs.Members.{CallsAreNamed};
+ghost use Rattle.gb_models.specs.Speaking.{ScopeSpeaks};
+ghost use Rattle.gb_terms.specs.declared.decl.Proc.{Proc};
+ghost use Rattle.gb_terms.specs.declared.module.Mexp.TheVariants.{Name as named_module};
+ghost use Rattle.gb_terms.specs.declared.module.ProcRef.{ProcRef};
+ghost use Rattle.gb_prog.specs.Ends.{AreEnded, ProceduresEnd, ReachesGoodLoops};
+ghost use Rattle.gb_typing.specs.Rules.{IsSettingOver};
+ghost use Rattle.gb_typing.specs.Scopes.{IsTypedScope, context_of};
+ghost use Rattle.gb_typing.specs.Sequents.{IsTypedSequent};
+
+/// Where a declared procedure isn't unproved, its own loops are good in each model of a sound scope: it has none, or they are proved.
+pub fn own_loops()
+    ensures { (ds : Declarations) → IsTypedScope (declared ds) → IsSound (declared ds) → ScopeSpeaks NoName (declared ds) →
+        (p : ProcRef) (a : Proc) → procedure_of ds p ≡ Some a → unproved_of ds p ≡ None →
+        InEachModel (declared ds) (λ i. LoopsAreGood (setting (declared ds) i) (statements (setting (declared ds) i) a.body.list)) }
+{}
+
+/// So are those of the procedures of which a typed goal speaks, where none of them is unproved.
+pub fn entered()
+    ensures { (ds : Declarations) → IsTypedScope (declared ds) → IsSound (declared ds) → ScopeSpeaks NoName (declared ds) →
+        (q : Sequent) → IsTypedSequent (context_of (declared ds)) q → unproved_in ds (goal_of q.conclusion) ≡ None →
+        InEachSetting (declared ds) q (λ g. ProceduresEnd ds g (goal_of q.conclusion)) }
+{}
+
+/// So are those of each procedure that isn't unproved, in each setting of a typed goal.
+pub fn proved_loops()
+    ensures { (ds : Declarations) → IsTypedScope (declared ds) → IsSound (declared ds) → ScopeSpeaks NoName (declared ds) →
+        (q : Sequent) → IsTypedSequent (context_of (declared ds)) q →
+        InEachSetting (declared ds) q (λ g. (p : ProcRef) (a : Proc) → procedure_of ds p ≡ Some a → unproved_of ds p ≡ None → LoopsAreGood g (statements g a.body.list)) }
+{}
+
+/// Each loop that a procedure of an ended module reaches, through all that it calls, is good in each model of a sound scope whose
+/// procedures call one another by the names of their modules.
+pub fn ended_modules()
+    ensures { (ds : Declarations) → IsTypedScope (declared ds) → IsSound (declared ds) → ScopeSpeaks NoName (declared ds) → CallsAreNamed ds →
+        (n : Name) → first_unproved ds n ≡ None → (p : ProcRef) (a : Proc) → p.«module» ≡ named_module n → procedure_of ds p ≡ Some a →
+        InEachModel (declared ds) (λ i. ReachesGoodLoops (setting (declared ds) i) ((setting (declared ds) i).procedure p)) }
+{}
+
+/// Procedures that call each other alone reach good loops alone, in a setting of the declarations in which each of them has good loops
+/// itself.
+pub fn procedures()
+    ensures { (ds : Declarations) → IsTypedScope (declared ds) → (g : Setting) → IsSettingOver (declared ds) g → (test : ProcRef → Bool) → AreEnded ds g (λ p. test p ≡ true) →
+        (p : ProcRef) → test p ≡ true → ReachesGoodLoops g (g.procedure p) }
+{}

@@ -1,5 +1,0 @@
-use Rattle.gb_same.proofs.Decided.{types_test}
-use Rattle.gb_same.proofs.types.same_types.Goals as goal
-
-pub returns : goal.returns
-returns c = types_test c.same_ty.result c.args.a.now c.args.b.now c.same_ty.ensures

@@ -1,4 +1,0 @@
-//! Equality as a test that definitions choose by.
-#![tactic(auto)]
-
-pub mod types;

@@ -1,5 +1,0 @@
-use Rattle.gb_smt_sound.proofs.Sound.{claims_are_true}
-use Rattle.gb_smt_sound.proofs.laws.labels_are_enough.Goals as goal
-
-pub returns : goal.returns
-returns c = λ ds scope q t g fits bodies i fair hyps f forms form closes. claims_are_true ds scope q t g fits bodies i fair hyps f forms form closes

@@ -1,4 +1,0 @@
-pub mod Headed
-pub mod Operators
-pub mod Forms
-pub mod Goals

@@ -1,5 +1,0 @@
-use Rattle.std.proofs.Common.{refl}
-use Rattle.gb_typed.proofs.examples.full_coin.Goals as goal
-
-pub returns : goal.returns
-returns x = record { coin = λ g. (tt, tt); operator = λ g n k. k.0 refl }

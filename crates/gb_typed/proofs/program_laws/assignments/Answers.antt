@@ -1,5 +1,0 @@
-use Rattle.gb_typed.proofs.Running.{all_written, read_back}
-use Rattle.gb_typed.proofs.program_laws.assignments.Goals as goal
-
-pub returns : goal.returns
-returns x = record { held = all_written; read_back = read_back }

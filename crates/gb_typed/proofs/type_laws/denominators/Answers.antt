@@ -1,5 +1,0 @@
-use Rattle.gb_typed.proofs.Denominators.{denominator_one}
-use Rattle.gb_typed.proofs.type_laws.denominators.Goals as goal
-
-pub returns : goal.returns
-returns f = λ c g t w k. denominator_one g c t w k

@@ -1,7 +1,0 @@
-pub mod Lists
-pub mod Inner
-pub mod AllGood
-pub mod TypedLoops
-pub mod LoopGoals
-pub mod GoalsEnd
-pub mod Shown

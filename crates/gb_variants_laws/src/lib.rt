@@ -1,4 +1,0 @@
-//! Loops whose goals hold are good.
-#![tactic(auto)]
-
-pub mod laws;
