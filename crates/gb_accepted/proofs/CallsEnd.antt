@@ -27,7 +27,7 @@ use Rattle.gb_steps.specs.declared.step.Acts.{Acts}
 use Rattle.gb_steps.specs.declared.step.Acts.TheVariants as on
 use Rattle.gb_steps.specs.declared.step.Contract.{Contract}
 use Rattle.gb_steps.specs.declared.step.Rule.{Rule}
-use Rattle.gb_steps.specs.declared.step.Rule.TheVariants.{OnBodies, Relational, Chance, Call, CallKnown, While, Transform, Ambient, Use, Rewrite, Smt, Linear}
+use Rattle.gb_steps.specs.declared.step.Rule.TheVariants.{OnBodies, Relational, Chance, Probability, Call, CallKnown, While, Transform, Ambient, Use, Rewrite, Smt, Linear}
 use Rattle.gb_typing.specs.Context.{Context}
 use Rattle.gb_typing.specs.Goals.{IsGoalOver}
 use Rattle.gb_typing.specs.Programs.{IsBody}
@@ -203,6 +203,7 @@ calls_end ds c ls rs (While r) G w Gs e g over = refused_given Shape Gs e
 calls_end ds c ls rs (Transform a r) G w Gs e g over = refused_given Shape Gs e
 calls_end ds c ls rs (Relational r) G w Gs e g over = refused_given Shape Gs e
 calls_end ds c ls rs (Chance r) G w Gs e g over = refused_given Shape Gs e
+calls_end ds c ls rs (Probability r) G w Gs e g over = refused_given Shape Gs e
 calls_end ds c ls rs (Ambient r) G w Gs e g over = refused_given Shape Gs e
 calls_end ds c ls rs (Use r) G w Gs e g over = refused_given Shape Gs e
 calls_end ds c ls rs (Rewrite r) G w Gs e g over = refused_given Shape Gs e

@@ -17,7 +17,7 @@ use Rattle.gb_goal.specs.Goal.Goal.{hoare, phoare, equiv, ambient}
 use Rattle.gb_goal.specs.Scope.{Declarations}
 use Rattle.gb_holds.specs.Declared.{declared}
 use Rattle.gb_steps.specs.declared.step.Rule.{Rule}
-use Rattle.gb_steps.specs.declared.step.Rule.TheVariants.{OnBodies, Relational, Chance, Call, CallKnown, While, Transform, Ambient, Use, Rewrite, Smt, Linear}
+use Rattle.gb_steps.specs.declared.step.Rule.TheVariants.{OnBodies, Relational, Chance, Probability, Call, CallKnown, While, Transform, Ambient, Use, Rewrite, Smt, Linear}
 use Rattle.gb_steps.specs.declared.step.ChanceRule.TheVariants.{Rnd, Hoare}
 use Rattle.gb_typing.specs.Context.{Context}
 use Rattle.gb_typing.specs.Goals.{IsGoalOver}
@@ -83,6 +83,7 @@ module _ (g : Setting) where
 pub chances_end : (ds : Declarations) (c : Context) (ls rs : List TypedName) (r : Rule) (G : Goal) → IsGoalOver c ls rs G → (Gs : List Goal) → rule_row ds r G ≡ given Gs → KeepsEnds (declared ds) Gs G
 chances_end ds c ls rs (Chance Rnd) G w Gs e g over = rnd_ends g ds c ls rs G w Gs e
 chances_end ds c ls rs (Chance Hoare) G w Gs e g over = hoare_ends g ds G Gs e
+chances_end ds c ls rs (Probability r) G w Gs e g over = refused_given Shape Gs e
 chances_end ds c ls rs (OnBodies r) G w Gs e g over = refused_given Shape Gs e
 chances_end ds c ls rs (Relational r) G w Gs e g over = refused_given Shape Gs e
 chances_end ds c ls rs (Call r) G w Gs e g over = refused_given Shape Gs e

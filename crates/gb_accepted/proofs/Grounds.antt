@@ -48,6 +48,7 @@ use Rattle.gb_prog.specs.Ends.{Entered, IsSoundLoopRule, IsSoundOnLoops, KeepsEn
 use Rattle.gb_relational.specs.Rows as equiv
 use Rattle.gb_relational.specs.Rows.{IsTypedRule}
 use Rattle.gb_phoare.specs.Rows as chance_rows
+use Rattle.gb_pr.specs.Rows as probability_rows
 use Rattle.gb_call_both.specs.Rows as call_rows
 use Rattle.gb_call_known.specs.Known as of_known
 use Rattle.gb_inline.specs.Proved.{IsSoundOnProved, IsSoundProvedRule, ProvedEnd}
@@ -111,6 +112,8 @@ pub record OfTyping : Type 0 where
       (ls rs : List TypedName) → IsGoalOver (around ds q t) ls rs (goal_of q.conclusion) → IsTypedRule (around ds q t) s.rule ls rs (goal_of q.conclusion)
   pub call_rule : (ds : scope.Declarations) → IsTyped ds → (q : Sequent) (t : IsTypedGoalOf ds q) (n : Node) (s : Step) → step_given ds q n ≡ given s →
       (ls rs : List TypedName) → IsGoalOver (around ds q t) ls rs (goal_of q.conclusion) → call_rows.IsTypedRule (around ds q t) s.rule ls rs (goal_of q.conclusion)
+  pub probabilities_typed : (ds : scope.Declarations) → IsTyped ds → (q : Sequent) (t : IsTypedGoalOf ds q) (n : Node) (s : Step) → step_given ds q n ≡ given s →
+      (ls rs : List TypedName) → IsGoalOver (around ds q t) ls rs (goal_of q.conclusion) → probability_rows.IsTypedRule (around ds q t) s.rule ls rs (goal_of q.conclusion)
 
 -- Rules are sound.
 pub record OfRules : Type 0 where
@@ -130,6 +133,8 @@ pub record OfRules : Type 0 where
   pub chances : (ds : scope.Declarations) → IsTyped ds → (q : Sequent) (t : IsTypedGoalOf ds q) (r : Rule) →
       IsSoundRuleIn (declared ds) (around ds q t) (chance_rows.rule_row ds r) no_arguments
   pub chances_refuse : (ds : scope.Declarations) (r : Rule) (f : Term) → chance_rows.rule_row ds r (ambient f) ≡ refusing Shape
+  pub probabilities : (ds : scope.Declarations) → IsTyped ds → (q : Sequent) (t : IsTypedGoalOf ds q) (r : Rule) →
+      IsSoundRuleIn (declared ds) (around ds q t) (probability_rows.rule_row ds r) (probability_rows.IsTypedRule (around ds q t) r)
   pub calls : (ds : scope.Declarations) → IsTyped ds → (q : Sequent) (t : IsTypedGoalOf ds q) (r : Rule) →
       IsSoundRuleIn (declared ds) (around ds q t) (call_rows.rule_row ds r) (call_rows.IsTypedRule (around ds q t) r)
   pub calls_refuse : (ds : scope.Declarations) (r : Rule) (f : Term) → call_rows.rule_row ds r (ambient f) ≡ refusing Shape

@@ -17,6 +17,7 @@ pub mod Calls
 pub mod Good
 pub mod Later
 pub mod Kept
+pub mod Probabilities
 pub mod Subgoals
 pub mod Tactics
 pub mod Claims

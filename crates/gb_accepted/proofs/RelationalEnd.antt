@@ -20,7 +20,7 @@ use Rattle.gb_goal.specs.Rows.{refusing}
 use Rattle.gb_goal.specs.Scope.{Declarations}
 use Rattle.gb_holds.specs.Declared.{declared}
 use Rattle.gb_steps.specs.declared.step.Rule.{Rule}
-use Rattle.gb_steps.specs.declared.step.Rule.TheVariants.{OnBodies, Relational, Chance, Call, CallKnown, While, Transform, Ambient, Use, Rewrite, Smt, Linear}
+use Rattle.gb_steps.specs.declared.step.Rule.TheVariants.{OnBodies, Relational, Chance, Probability, Call, CallKnown, While, Transform, Ambient, Use, Rewrite, Smt, Linear}
 use Rattle.gb_steps.specs.declared.step.RelationalRule.TheVariants.{Rnd, Symmetry, Drawn, Transitivity, Sim}
 use Rattle.gb_steps.specs.declared.step.Acts.{Acts}
 use Rattle.gb_steps.specs.declared.step.Acts.TheVariants as on
@@ -145,6 +145,7 @@ relational_end ds c ls rs (Relational (Transitivity t)) G w Gs e g over = transi
 relational_end ds c ls rs (Relational Sim) G w Gs e g over = refused_given Shape Gs e
 relational_end ds c ls rs (OnBodies r) G w Gs e g over = refused_given Shape Gs e
 relational_end ds c ls rs (Chance r) G w Gs e g over = refused_given Shape Gs e
+relational_end ds c ls rs (Probability r) G w Gs e g over = refused_given Shape Gs e
 relational_end ds c ls rs (Call r) G w Gs e g over = refused_given Shape Gs e
 relational_end ds c ls rs (CallKnown a r) G w Gs e g over = refused_given Shape Gs e
 relational_end ds c ls rs (While r) G w Gs e g over = refused_given Shape Gs e

@@ -51,6 +51,7 @@ use Rattle.gb_typing.specs.Rules.{IsSettingOver, IsSoundIn}
 use Rattle.gb_typing.proofs.Lifted.{each}
 use Rattle.gb_prog.specs.Ends.{Entered, IsSoundOnLoops, LoopsEnd, ProceduresEnd, SequentEnds}
 use Rattle.gb_call_both.specs.Rows as calls
+use Rattle.gb_pr.specs.Rows as probabilities
 use Rattle.gb_bodies.specs.Case.{IsTypedCase}
 use Rattle.gb_bodies.specs.Rows as bodies
 use Rattle.gb_ended.specs.Loops.{unproved_in}
@@ -70,6 +71,7 @@ use Rattle.gb_elab_laws.proofs.Given.{given_bind, given_is}
 use Rattle.gb_theory.specs.Commands.{closed_unless, entered, entering, row_of, transformed, unless_unproved, Applied, OnBoth}
 use Rattle.gb_accepted.proofs.Given.{nothing_given, given_placed}
 use Rattle.gb_accepted.proofs.Grounds.{IsTyped, IsTypedGoalOf, around, Grounds}
+use Rattle.gb_accepted.proofs.Probabilities.{probabilities_end, probabilities_refuse}
 
 -- goals that are typed, whose loops end where those of a goal do, and from which the goal then follows
 pub record LeadTo (ds : Declarations) (q : Sequent) (qs : List Sequent) : Type 0 where
@@ -82,7 +84,7 @@ abbrev pub IsTypedAt : (ds : Declarations) (q : Sequent) → IsTypedGoalOf ds q 
 IsTypedAt ds q t r =
     (ls rs : List TypedName) → IsGoalOver (around ds q t) ls rs (goal_of q.conclusion) →
     bodies.IsTypedRule (around ds q t) r ls rs (goal_of q.conclusion) × IsTypedRule (around ds q t) r ls rs (goal_of q.conclusion)
-    × calls.IsTypedRule (around ds q t) r ls rs (goal_of q.conclusion)
+    × calls.IsTypedRule (around ds q t) r ls rs (goal_of q.conclusion) × probabilities.IsTypedRule (around ds q t) r ls rs (goal_of q.conclusion)
 
 -- a rule on a conclusion that brings typed forms to a goal
 abbrev pub HasTypedForms : (ds : Declarations) (q : Sequent) → IsTypedGoalOf ds q → Rule → Type 0
@@ -124,20 +126,21 @@ anywhere : (ds : holds.Declarations) (q : Sequent) → InEachSetting ds q (λ g.
 anywhere ds q = λ w size table m. each ds (declared_modules ds) (interpretation w size table) _ (λ i. each ds q.modules i (λ k. Unit {0}) (λ k. tt))
 
 module _ (g : Grounds) (ds : Declarations) (scope : IsTyped ds) (sound : IsSound (declared ds)) (speaks : ScopeSpeaks NoName (declared ds)) (holds : LemmasHold (declared ds)) (q : Sequent) (t : IsTypedGoalOf ds q) where
-  -- no rule on judgments works where a module is quantified in front
-  ambient_refused : (r : Rule) (f : Term) → row_of ds r (ambient f) ≡ refusing Shape
-  ambient_refused (rule.OnBodies r) f = g.rules.bodies_refuse ds (rule.OnBodies r) f
-  ambient_refused (rule.Relational r) f = g.rules.equiv_refuses ds (rule.Relational r) f
-  ambient_refused (rule.Chance r) f = g.rules.chances_refuse ds (rule.Chance r) f
-  ambient_refused (rule.Call s) f = g.rules.calls_refuse ds (rule.Call s) f
-  ambient_refused (rule.CallKnown a k) f = refl
-  ambient_refused (rule.While v) f = while_refused ds v.acts v.kept f
-  ambient_refused (rule.Transform a k) f = g.rules.transformations_refuse ds (rule.Transform a k) f
-  ambient_refused (rule.Smt fs) f = refl
-  ambient_refused (rule.Linear ms) f = refl
-  ambient_refused (rule.Ambient r) f = refl
-  ambient_refused (rule.Use r) f = refl
-  ambient_refused (rule.Rewrite r) f = refl
+  -- no rule on judgments or on probabilities works where a module is quantified in front
+  ambient_refused : (r : Rule) (f : Term) → has_module f ≡ true → row_of ds r (ambient f) ≡ refusing Shape
+  ambient_refused (rule.OnBodies r) f e = g.rules.bodies_refuse ds (rule.OnBodies r) f
+  ambient_refused (rule.Relational r) f e = g.rules.equiv_refuses ds (rule.Relational r) f
+  ambient_refused (rule.Chance r) f e = g.rules.chances_refuse ds (rule.Chance r) f
+  ambient_refused (rule.Probability r) f e = probabilities_refuse ds r f e
+  ambient_refused (rule.Call s) f e = g.rules.calls_refuse ds (rule.Call s) f
+  ambient_refused (rule.CallKnown a k) f e = refl
+  ambient_refused (rule.While v) f e = while_refused ds v.acts v.kept f
+  ambient_refused (rule.Transform a k) f e = g.rules.transformations_refuse ds (rule.Transform a k) f
+  ambient_refused (rule.Smt fs) f e = refl
+  ambient_refused (rule.Linear ms) f e = refl
+  ambient_refused (rule.Ambient r) f e = refl
+  ambient_refused (rule.Use r) f e = refl
+  ambient_refused (rule.Rewrite r) f e = refl
 
   abbrev G : Goal
   G = goal_of q.conclusion
@@ -154,7 +157,7 @@ module _ (g : Grounds) (ds : Declarations) (scope : IsTyped ds) (sound : IsSound
       gives = given_placed (answered (row_of ds r) q) place qs (sym e)
 
       by_front : (b : Bool) → has_module q.conclusion ≡ b → LeadTo ds q qs
-      by_front true h = none_given (row_of ds r) q qs (ambient q.conclusion) (g.rules.front q.conclusion h) (ambient_refused r q.conclusion) gives
+      by_front true h = none_given (row_of ds r) q qs (ambient q.conclusion) (g.rules.front q.conclusion h) (ambient_refused r q.conclusion h) gives
       by_front false h = let w = g.rules.goal c q.conclusion t.conclusion h in onward w.0.0 w.0.1 w.0.2 w.1 gives
 
   -- a rule that is sound, and that leads to no other loops where something is known of each setting
@@ -319,6 +322,10 @@ module _ (g : Grounds) (ds : Declarations) (scope : IsTyped ds) (sound : IsSound
       by_law (rule.Chance r) (anywhere (declared ds) q) place qs
       (λ ls rs w. g.rules.chances ds scope q t (rule.Chance r) (g.rules.outer (declared ds) q t.frames) ls rs G w tt)
       (λ ls rs w Gs y s over x. g.loops.chances ds c ls rs (rule.Chance r) G w Gs y s over) (sym a)
+  applied_lead (rule.Probability r) place qs typed forms used said a =
+      by_law (rule.Probability r) (anywhere (declared ds) q) place qs
+      (λ ls rs w. g.rules.probabilities ds scope q t (rule.Probability r) (g.rules.outer (declared ds) q t.frames) ls rs G w (typed ls rs w).3)
+      (λ ls rs w Gs y s over x h. probabilities_end s ds r G Gs y) (sym a)
   applied_lead (rule.Call k) place qs typed forms used said a =
       by_law (rule.Call k) (anywhere (declared ds) q) place qs
       (λ ls rs w. g.rules.calls ds scope q t (rule.Call k) (g.rules.outer (declared ds) q t.frames) ls rs G w (typed ls rs w).2)

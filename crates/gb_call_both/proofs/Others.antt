@@ -6,7 +6,7 @@ use Rattle.gb_steps.specs.declared.step.Acts.{Acts}
 use Rattle.gb_steps.specs.declared.step.Acts.TheVariants as on
 use Rattle.gb_steps.specs.declared.step.Contract.{Contract}
 use Rattle.gb_steps.specs.declared.step.Rule.{Rule}
-use Rattle.gb_steps.specs.declared.step.Rule.TheVariants.{OnBodies, Relational, Chance, Call, CallKnown, Ambient, Smt, Linear, Rewrite, Transform, Use, While}
+use Rattle.gb_steps.specs.declared.step.Rule.TheVariants.{OnBodies, Relational, Chance, Probability, Call, CallKnown, Ambient, Smt, Linear, Rewrite, Transform, Use, While}
 use Rattle.gb_goal.specs.Scope.{Declarations}
 use Rattle.gb_goal.specs.Goal.Goal.{ambient}
 use Rattle.gb_goal.specs.Rows.{refusing}
@@ -26,6 +26,7 @@ others_refused ds (Transform a t) f = refl
 others_refused ds (OnBodies r) f = refl
 others_refused ds (Relational r) f = refl
 others_refused ds (Chance r) f = refl
+others_refused ds (Probability r) f = refl
 others_refused ds (Smt fs) f = refl
 others_refused ds (Linear ms) f = refl
 others_refused ds (Ambient r) f = refl

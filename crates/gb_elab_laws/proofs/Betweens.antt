@@ -89,7 +89,7 @@ module _ (ds : scope.Declarations) (scoped : IsTypedScope (declared ds)) (q : Se
   AreRelated r o u =
       IsForm (with_sides here (before (procedure here r)) (before (procedure here o))) u.0 × IsForm (with_sides here (after (procedure here r)) (after (procedure here o))) u.1
 
-  related_typed : (a b : Node) (r o : ProcRef) → IsThere (procedure here r) → IsThere (procedure here o) → (u : Term × Term) → related ds q a b r o ≡ given u → AreRelated r o u
+  pub related_typed : (a b : Node) (r o : ProcRef) → IsThere (procedure here r) → IsThere (procedure here o) → (u : Term × Term) → related ds q a b r o ≡ given u → AreRelated r o u
   unfolding related
   related_typed a b r o j l u h =
       let x = given_bind (elaborated a (relational ds q (params_if (procedure_of ds r)) (params_if (procedure_of ds o))) [] (Some ty.Bool)) _ u h in

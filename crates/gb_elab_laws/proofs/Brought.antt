@@ -59,6 +59,7 @@ use Rattle.gb_elab_prog.specs.Unbuilt.{absent}
 use Rattle.gb_elab_laws.specs.Fitting.{IsFormTypeIf, IsWanted}
 use Rattle.gb_elab_laws.proofs.Betweens.{of_transitive}
 use Rattle.gb_elab_laws.proofs.Contracts.{of_call}
+use Rattle.gb_elab_laws.proofs.Conditions.{of_by}
 use Rattle.gb_elab_laws.proofs.Transformings.{of_inlining, of_passing, of_placed}
 use Rattle.gb_elab_laws.proofs.Turning.{of_while}
 use Rattle.gb_elab_laws.proofs.Shapes.{finite_form}
@@ -134,6 +135,7 @@ module _ (ds : scope.Declarations) (scoped : IsTypedScope (declared ds)) (q : Se
   without_forms (rule.Rewrite r) n = absurd (false≢true (sym n))
   without_forms (rule.Linear ms) n = tt
   without_forms (rule.Chance r) n = tt
+  without_forms (rule.Probability r) n = tt
   without_forms (rule.Call s) n = tt
   without_forms (rule.CallKnown a f) n = absurd (false≢true (sym n))
   without_forms (rule.While i) n = tt
@@ -287,6 +289,7 @@ module _ (ds : scope.Declarations) (scoped : IsTypedScope (declared ds)) (q : Se
   rule_forms text.CallStep x (b ∷ n ∷ []) p k h = of_call ds q HasForms (λ s. tt) (λ a n f e lemmas. (used_typed ds scoped q t lemmas n f e, tt)) tt (acts (parts_of b)) (head_of n) (parts_of n) p k h
   rule_forms text.WhileStep x (b ∷ f ∷ []) p k h = of_while ds q HasForms (λ v. tt) tt (acts (parts_of b)) f k h
   rule_forms text.Inline x (b ∷ n ∷ []) p k h = of_inlining HasForms (λ a t. tt) ds q (acts (parts_of b)) (parts_of n) p k h
+  rule_forms text.ByStep x (m ∷ n ∷ []) p k h = of_by ds q m n HasForms (λ b e z g. tt) (λ b e z g. tt) tt x p k h
   rule_forms text.CaseStep x (b ∷ f ∷ []) p k h =
       of_sides (acts (parts_of b)) f k h
   rule_forms text.HaveForm x (n ∷ f ∷ []) p k h =

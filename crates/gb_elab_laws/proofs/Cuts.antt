@@ -54,6 +54,7 @@ use Rattle.gb_bodies.specs.Rows.{IsTypedRule}
 use Rattle.gb_elab_laws.proofs.Betweens.{of_transitive}
 use Rattle.gb_elab_laws.proofs.Anew.{conseq_rule_typed}
 use Rattle.gb_elab_laws.proofs.Contracts.{of_call}
+use Rattle.gb_elab_laws.proofs.Conditions.{of_by}
 use Rattle.gb_elab_laws.proofs.Transformings.{of_inlining, of_passing, of_placed}
 use Rattle.gb_elab_laws.proofs.Given.{given_bind, given_is}
 use Rattle.gb_elab_laws.proofs.Ends.{AreOfTheirTypes, occurring_in}
@@ -253,6 +254,7 @@ module _ (ds : scope.Declarations) (scoped : IsTypedScope (declared ds)) (q : Se
         let o = given_bind (conclusion_rule x p) (λ (a : AmbientRule). given (rule.Ambient a)) k h in subst TypedAt (given_is (rule.Ambient o.0) k o.2) tt
     of_rule text.WhileStep x (b ∷ f ∷ []) p k h = while_typed (acts (parts_of b)) f k h
     of_rule text.Inline x (b ∷ n ∷ []) p k h = of_inlining TypedAt (λ a t. tt) ds q (acts (parts_of b)) (parts_of n) p k h
+    of_rule text.ByStep x (m ∷ n ∷ []) p k h = of_by ds q m n TypedAt (λ b e z g. tt) (λ b e z g. tt) tt x p k h
     of_rule text.CaseStep x (b ∷ f ∷ []) p k h =
         sides_typed (acts (parts_of b)) f k h
     of_rule text.HaveForm x (n ∷ f ∷ []) p k h =

@@ -54,5 +54,9 @@ pub mod Entries
 pub mod Contracts
 pub mod Transformings
 pub mod Betweens
+pub mod Compared
+pub mod Conditions
+pub mod Steps
+pub mod Conditioned
 pub mod Contracted
 pub mod Turning

@@ -64,6 +64,7 @@ use Rattle.gb_typing.specs.Samplings.{Sampling, last_sampling}
 use Rattle.gb_equiv.specs.Rnd.{IsFunction, AreFunctions, AreBetween, AreTypedFunctions}
 use Rattle.gb_elab_laws.proofs.Betweens.{transitive_typed}
 use Rattle.gb_elab_laws.proofs.Contracts.{of_call}
+use Rattle.gb_elab_laws.proofs.Conditions.{of_by}
 use Rattle.gb_elab_laws.proofs.Transformings.{of_inlining, of_passing, of_placed}
 use Rattle.gb_elab_laws.proofs.Turning.{of_while}
 use Rattle.gb_elab_laws.proofs.Given.{given_bind, given_is, if_given}
@@ -213,6 +214,7 @@ module _ (ds : scope.Declarations) (scoped : IsTypedScope (declared ds)) (q : Se
       untouched (rule.Relational relational_rule.Sim) n = tt
       untouched (rule.OnBodies r) n = tt
       untouched (rule.Chance r) n = tt
+      untouched (rule.Probability r) n = tt
       untouched (rule.Call r) n = tt
       untouched (rule.Smt fs) n = tt
       untouched (rule.Linear ms) n = tt
@@ -286,6 +288,7 @@ module _ (ds : scope.Declarations) (scoped : IsTypedScope (declared ds)) (q : Se
           let o = given_bind (conclusion_rule x p) (λ (a : AmbientRule). given (rule.Ambient a)) k h in other (rule.Ambient o.0) k refl (given_is (rule.Ambient o.0) k o.2)
       of_rule text.WhileStep x (b ∷ f ∷ []) p k h = of_while ds q Asked (λ v. tt) tt (acts (parts_of b)) f k h
       of_rule text.Inline x (b ∷ n ∷ []) p k h = of_inlining Asked (λ a t. tt) ds q (acts (parts_of b)) (parts_of n) p k h
+      of_rule text.ByStep x (m ∷ n ∷ []) p k h = of_by ds q m n Asked (λ b e z g. tt) (λ b e z g. tt) tt x p k h
       of_rule text.CaseStep x (b ∷ f ∷ []) p k h =
           of_sides (acts (parts_of b)) f k h
       of_rule text.HaveForm x (n ∷ f ∷ []) p k h =

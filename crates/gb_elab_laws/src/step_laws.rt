@@ -26,6 +26,7 @@ ghost use Rattle.gb_elab_mod.specs.Steps.{step_given};
 ghost use Rattle.gb_elab_laws.specs.Procedures.{AreStated};
 ghost use Rattle.gb_elab_laws.specs.Reading.{IsOuter, StandIn};
 ghost use Rattle.gb_bodies.specs.Rows as bodies;
+ghost use Rattle.gb_pr.specs.Rows as probabilities;
 ghost use Rattle.gb_relational.specs.Rows.{IsTypedRule};
 ghost use Rattle.gb_call_both.specs.Rows as calls;
 ghost use Rattle.gb_amb.specs.Steps.{IsTypedStep};
@@ -38,8 +39,8 @@ pub fn locals_read()
 {}
 
 /// The arguments of a typed step at a typed goal are typed over the locals of the bodies: the functions of `rnd` between the values of
-/// the samplings that end both bodies, the forms of `seq`, `case` and `conseq`, what relates two procedures to the one between, and what a
-/// called procedure is said to do, in a typed scope.
+/// the samplings that end both bodies, the forms of `seq`, `case` and `conseq`, what relates two procedures to the one between, what a
+/// called procedure is said to do, and what is said before and after procedures whose probabilities a goal compares, in a typed scope.
 pub fn typed_rules()
     ensures bodies { (ds : scope.Declarations) → IsTypedScope (declared ds) → (q : Sequent) (t : IsTypedSequent (context_of (declared ds)) q) →
         (n : Node) (s : Step) → step_given ds q n ≡ given s →
@@ -53,6 +54,10 @@ pub fn typed_rules()
         (n : Node) (s : Step) → step_given ds q n ≡ given s →
         (ls rs : List TypedName) → IsGoalOver (of_sequent (context_of (declared ds)) q t.frames) ls rs (goal_of q.conclusion) →
         calls.IsTypedRule (of_sequent (context_of (declared ds)) q t.frames) s.rule ls rs (goal_of q.conclusion) }
+    ensures probabilities { (ds : scope.Declarations) → IsTypedScope (declared ds) → (q : Sequent) (t : IsTypedSequent (context_of (declared ds)) q) →
+        (n : Node) (s : Step) → step_given ds q n ≡ given s →
+        (ls rs : List TypedName) → IsGoalOver (of_sequent (context_of (declared ds)) q t.frames) ls rs (goal_of q.conclusion) →
+        probabilities.IsTypedRule (of_sequent (context_of (declared ds)) q t.frames) s.rule ls rs (goal_of q.conclusion) }
 {}
 
 /// The form that a typed step on a conclusion brings to a typed goal of a typed scope is typed in the goal's context, in which a memory may

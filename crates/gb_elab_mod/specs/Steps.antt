@@ -38,6 +38,9 @@ use Rattle.gb_steps.specs.declared.step.Cut.TheVariants as cut
 use Rattle.gb_goal.specs.Goal.{Code, Goal, goal_of}
 use Rattle.gb_goal.specs.Goal.Code.{body, procedure}
 use Rattle.gb_goal.specs.Goal.Goal.{hoare, phoare, equiv}
+use Rattle.gb_steps.specs.declared.step.ProbabilityRule.TheVariants as probability_rule
+use Rattle.gb_steps.specs.declared.step.Conditions.{Conditions}
+use Rattle.gb_chances.specs.Chances.{Bounded, Compared, bounded_of, chances_of}
 use Rattle.gb_steps.specs.declared.step.RelationalRule.{RelationalRule}
 use Rattle.gb_steps.specs.declared.step.RelationalRule.TheVariants as relational_rule
 use Rattle.gb_steps.specs.declared.step.Step.{Step}
@@ -373,6 +376,33 @@ related ds s pre post r q = do
   h ← elaborated post (relational ds s (result_if (procedure_of ds r)) (result_if (procedure_of ds q))) [] (Some bool_ty)
   given (f, h)
 
+-- what is said before and after one procedure: a form over its parameters, and one over its result
+unfoldable pub said_around : Declarations → Sequent → Node → Node → ProcRef → Answer (Term × Term)
+said_around ds s pre post r = do
+  f ← elaborated pre (unary ds s (params_if (procedure_of ds r))) [] (Some bool_ty)
+  h ← elaborated post (unary ds s (result_if (procedure_of ds r))) [] (Some bool_ty)
+  given (f, h)
+
+abbrev pub conditions : Term × Term → Conditions
+conditions z = record { pre = z.0; post = z.1 }
+
+-- the conditions of `byphoare`, of the procedure whose probability the conclusion compares with a bound; other conclusions give them no types
+abbrev pub by_phoare_rule : Declarations → Sequent → Node → Node → Option Bounded → Answer Rule
+by_phoare_rule ds s pre post (Some b) = said_around ds s pre post b.chance.procedure >>= λ z. given (rule.Probability (probability_rule.ByPhoare (conditions z)))
+by_phoare_rule ds s pre post None = given (rule.OnBodies on_bodies.Unfit)
+
+-- those of `byequiv`, of both procedures whose probabilities the conclusion compares
+abbrev pub by_equiv_rule : Declarations → Sequent → Node → Node → Option Compared → Answer Rule
+by_equiv_rule ds s pre post (Some k) =
+    related ds s pre post k.left.procedure k.right.procedure >>= λ z. given (rule.Probability (probability_rule.ByEquiv (conditions z)))
+by_equiv_rule ds s pre post None = given (rule.OnBodies on_bodies.Unfit)
+
+-- a step that goes from probabilities to a judgment, by its name
+abbrev pub by_rule : Declarations → Sequent → List ℕ → Node → Node → Place → Answer Rule
+by_rule ds s x pre post p =
+    if bytes_eq x (codes "byphoare") then by_phoare_rule ds s pre post (bounded_of s.conclusion)
+    else if bytes_eq x (codes "byequiv") then by_equiv_rule ds s pre post (chances_of s.conclusion) else not_built p
+
 -- the procedure between two others that these words name, what relates the left one to it, and what relates it to the right one
 unfoldable pub between_of : Declarations → Sequent → List Node → Node → Node → Node → Node → Place → ProcRef → ProcRef → Answer Rule
 between_of ds s words pre post later_pre later_post p r q = do
@@ -507,10 +537,11 @@ inlining_rule ds g a fs p = do
   w ← calls_of ds g fs p
   given (rule.Transform a (transformation.Inline w))
 
--- the rule on loops, `inline`, a rule that uses what is known, or another one
+-- the rule on loops, `inline`, a step from probabilities to a judgment, a rule that uses what is known, or another one
 abbrev pub looping_rule : Declarations → Sequent → Kind → List ℕ → List Node → Place → Answer Rule
 looping_rule ds g text.WhileStep x (b ∷ f ∷ []) p = while_rule ds g (acts (parts_of b)) f
 looping_rule ds g text.Inline x (b ∷ n ∷ []) p = inlining_rule ds g (acts (parts_of b)) (parts_of n) p
+looping_rule ds g text.ByStep x (pre ∷ post ∷ []) p = by_rule ds g x pre post p
 looping_rule ds g k x ps p = used_rule ds g k x ps p
 
 -- a form is shown, and then is a hypothesis under a new name

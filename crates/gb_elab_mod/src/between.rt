@@ -3,9 +3,9 @@
 ghost use Rattle.gb_script.specs.Tree.{head_of, parts_of};
 ghost use Rattle.gb_goal.specs.Answers.{Answers};
 ghost use Rattle.gb_goal.specs.Goal.{goal_of};
-ghost use Rattle.gb_elab_mod.specs.Steps.{between_at, between_by, between_of, between_with, related, transitive_rule};
+ghost use Rattle.gb_elab_mod.specs.Steps.{between_at, between_by, between_of, between_with, transitive_rule};
 
-use crate::contract::{after_both, before_both};
+use crate::contract::{Said, related};
 use gb_core::place::Place;
 use gb_core::refusal::Refused;
 use gb_goal::goal::{Code, Goal, goal_of};
@@ -18,32 +18,7 @@ use gb_script::head::Head;
 use gb_script::tree::Node;
 use gb_steps::step::{Acts, Between, BodyRule, RelationalRule, Rule};
 use gb_terms::module::ProcRef;
-use gb_terms::term::Form;
 use std::alloc::Global;
-
-/// A precondition and a postcondition as they are written.
-#[derive(Clone, Copy)]
-struct Said<'a> {
-    pre: &'a Node,
-    post: &'a Node,
-}
-
-/// What relates two procedures: a form over the parameters of both, and one over both results.
-#[tactic(auto, unfolding(crate::specs::Steps::related))]
-fn related(
-    alloc: Global,
-    scope: &Scope,
-    goal: &Sequent,
-    said: Said<'_>,
-    left: &ProcRef,
-    right: &ProcRef,
-) -> Result<(Form, Form), Refused>
-    ensures { Answers (related scope.now goal.now said.entry.pre.now said.entry.post.now left.now right.now) result }
-{
-    let pre = before_both(alloc, scope, goal, said.pre, left, right)?;
-    let post = after_both(alloc, scope, goal, said.post, left, right)?;
-    Ok((pre, post))
-}
 
 /// The procedure between two others that these words name, what relates the left one to it, and what relates it to the right one.
 #[tactic(auto, unfolding(crate::specs::Steps::between_of))]

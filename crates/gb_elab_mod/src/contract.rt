@@ -1,4 +1,4 @@
-// The typing of `call`, by what a procedure is said to do, and by what is known.
+// The typing of what procedures are said to do, and of `call`, by that and by what is known.
 
 ghost use Rattle.std.specs.Prelude.{◌≡◌, [], Some, IfOk};
 ghost use Rattle.std.specs.Option.{option_copied};
@@ -9,7 +9,7 @@ ghost use Rattle.gb_goal.specs.Scope.{procedure_of};
 ghost use Rattle.gb_goal.specs.Views.{goal_seen};
 ghost use Rattle.gb_elab.specs.Forms.{elaborated};
 ghost use Rattle.gb_names.specs.Environment.{relational};
-ghost use Rattle.gb_elab_mod.specs.Steps.{call_rule, contract_at, contract_of, contract_of_both, contract_on, last_procedure, params_if, procedure_called, result_if};
+ghost use Rattle.gb_elab_mod.specs.Steps.{call_rule, contract_at, contract_of, contract_of_both, contract_on, last_procedure, params_if, procedure_called, related, result_if, said_around};
 
 use crate::uses::used;
 use gb_core::place::Place;
@@ -73,33 +73,58 @@ fn result_if(alloc: Global, declared: Option<&Proc>) -> Result<Typed, AllocError
     }
 }
 
+/// A precondition and a postcondition as they are written.
+#[derive(Clone, Copy)]
+pub struct Said<'a> {
+    pub pre: &'a Node,
+    pub post: &'a Node,
+}
+
+/// What is said before and after one procedure: a form over its parameters, and one over its result.
+///
+/// # Errors
+///
+/// Those of typing.
+#[tactic(auto, unfolding(crate::specs::Steps::said_around))]
+pub fn said_around(
+    alloc: Global,
+    scope: &Scope,
+    goal: &Sequent,
+    said: Said<'_>,
+    procedure: &ProcRef,
+) -> Result<(Form, Form), Refused>
+    ensures { Answers (said_around scope.now goal.now said.entry.pre.now said.entry.post.now procedure.now) result }
+{
+    let params = params_if(alloc, scope.procedure(procedure))?;
+    let result = result_if(alloc, scope.procedure(procedure))?;
+    let before = Setting::unary(scope, goal, params.as_slice());
+    let pre = typed(alloc, &before, &[], said.pre, Some(&Ty::Bool))?;
+    let after = Setting::unary(scope, goal, result.as_slice());
+    let post = typed(alloc, &after, &[], said.post, Some(&Ty::Bool))?;
+    Ok((pre, post))
+}
+
 /// What a called procedure is said to do: a precondition reads its parameters, and a postcondition its result.
-#[tactic(auto, unfolding(crate::specs::Steps::contract_of))]
+#[tactic(auto, unfolding(crate::specs::Steps::contract_of, crate::specs::Steps::said_around))]
 fn contract_of(
     alloc: Global,
     scope: &Scope,
     goal: &Sequent,
     acts: Acts,
-    pre: &Node,
-    post: &Node,
+    said: Said<'_>,
     called: Option<&ProcRef>,
 ) -> Result<Rule, Refused>
-    ensures { Answers (contract_of scope.now goal.now acts pre.now post.now (option_copied called.entry)) result }
+    ensures { Answers (contract_of scope.now goal.now acts said.entry.pre.now said.entry.post.now (option_copied called.entry)) result }
 {
     let Some(called) = called else {
         return Ok(Rule::OnBodies(BodyRule::Unfit));
     };
-    let params = params_if(alloc, scope.procedure(called))?;
-    let result = result_if(alloc, scope.procedure(called))?;
-    let before = Setting::unary(scope, goal, params.as_slice());
-    let pre = typed(alloc, &before, &[], pre, Some(&Ty::Bool))?;
-    let after = Setting::unary(scope, goal, result.as_slice());
-    let post = typed(alloc, &after, &[], post, Some(&Ty::Bool))?;
+    let (pre, post) = said_around(alloc, scope, goal, said, called)?;
     Ok(Rule::Call(Contract { acts, pre, post }))
 }
 
 /// A form over the parameters of two called procedures.
-pub fn before_both(
+fn before_both(
     alloc: Global,
     scope: &Scope,
     goal: &Sequent,
@@ -116,7 +141,7 @@ pub fn before_both(
 }
 
 /// A form over the results of both.
-pub fn after_both(
+fn after_both(
     alloc: Global,
     scope: &Scope,
     goal: &Sequent,
@@ -132,28 +157,44 @@ pub fn after_both(
     typed(alloc, &after, &[], said, Some(&Ty::Bool))
 }
 
+/// What relates two procedures: a form over the parameters of both, and one over both results.
+///
+/// # Errors
+///
+/// Those of typing.
+#[tactic(auto, unfolding(crate::specs::Steps::related))]
+pub fn related(
+    alloc: Global,
+    scope: &Scope,
+    goal: &Sequent,
+    said: Said<'_>,
+    left: &ProcRef,
+    right: &ProcRef,
+) -> Result<(Form, Form), Refused>
+    ensures { Answers (related scope.now goal.now said.entry.pre.now said.entry.post.now left.now right.now) result }
+{
+    let pre = before_both(alloc, scope, goal, said.pre, left, right)?;
+    let post = after_both(alloc, scope, goal, said.post, left, right)?;
+    Ok((pre, post))
+}
+
 /// What two called procedures are said to do: a precondition reads the parameters of both, and a postcondition both results.
-#[tactic(auto, unfolding(crate::specs::Steps::contract_of_both))]
+#[tactic(auto, unfolding(crate::specs::Steps::contract_of_both, crate::specs::Steps::related))]
 fn contract_of_both(
     alloc: Global,
     scope: &Scope,
     goal: &Sequent,
     acts: Acts,
-    pre: &Node,
-    post: &Node,
+    said: Said<'_>,
     left: Option<&ProcRef>,
     right: Option<&ProcRef>,
 ) -> Result<Rule, Refused>
-    ensures { Answers (contract_of_both scope.now goal.now acts pre.now post.now (option_copied left.entry) (option_copied right.entry)) result }
+    ensures { Answers (contract_of_both scope.now goal.now acts said.entry.pre.now said.entry.post.now (option_copied left.entry) (option_copied right.entry)) result }
 {
-    let Some(left) = left else {
+    let (Some(left), Some(right)) = (left, right) else {
         return Ok(Rule::OnBodies(BodyRule::Unfit));
     };
-    let Some(right) = right else {
-        return Ok(Rule::OnBodies(BodyRule::Unfit));
-    };
-    let pre = before_both(alloc, scope, goal, pre, left, right)?;
-    let post = after_both(alloc, scope, goal, post, left, right)?;
+    let (pre, post) = related(alloc, scope, goal, said, left, right)?;
     Ok(Rule::Call(Contract { acts, pre, post }))
 }
 
@@ -163,18 +204,17 @@ fn contract_on(
     scope: &Scope,
     goal: &Sequent,
     acts: Acts,
-    pre: &Node,
-    post: &Node,
+    said: Said<'_>,
     left: &[Instr],
     right: &[Instr],
 ) -> Result<Rule, Refused>
-    ensures { Answers (contract_on scope.now goal.now acts pre.now post.now left.now right.now) result }
+    ensures { Answers (contract_on scope.now goal.now acts said.entry.pre.now said.entry.post.now left.now right.now) result }
 {
     let (first, second) = (last_procedure(left), last_procedure(right));
     match acts {
-        Acts::All => contract_of_both(alloc, scope, goal, acts, pre, post, first, second),
-        Acts::Left => contract_of(alloc, scope, goal, acts, pre, post, first),
-        Acts::Right => contract_of(alloc, scope, goal, acts, pre, post, second),
+        Acts::All => contract_of_both(alloc, scope, goal, acts, said, first, second),
+        Acts::Left => contract_of(alloc, scope, goal, acts, said, first),
+        Acts::Right => contract_of(alloc, scope, goal, acts, said, second),
     }
 }
 
@@ -184,18 +224,17 @@ fn contract_at(
     scope: &Scope,
     goal: &Sequent,
     acts: Acts,
-    pre: &Node,
-    post: &Node,
+    said: Said<'_>,
     seen: Goal<'_>,
 ) -> Result<Rule, Refused>
-    ensures { Answers (contract_at scope.now goal.now acts pre.now post.now (goal_seen seen.entry)) result }
+    ensures { Answers (contract_at scope.now goal.now acts said.entry.pre.now said.entry.post.now (goal_seen seen.entry)) result }
 {
     match seen {
         Goal::Hoare(Code::Body(list), _, _) | Goal::Phoare(Code::Body(list), ..) => {
-            contract_of(alloc, scope, goal, acts, pre, post, last_procedure(list))
+            contract_of(alloc, scope, goal, acts, said, last_procedure(list))
         }
         Goal::Equiv(Code::Body(left), Code::Body(right), _, _) => {
-            contract_on(alloc, scope, goal, acts, pre, post, left, right)
+            contract_on(alloc, scope, goal, acts, said, left, right)
         }
         _ => Ok(Rule::OnBodies(BodyRule::Unfit)),
     }
@@ -218,15 +257,8 @@ pub fn call_rule(
 {
     match (said.head, said.parts.as_slice()) {
         (Head::CallContract, [pre, post]) => {
-            contract_at(
-                alloc,
-                scope,
-                goal,
-                acts,
-                pre,
-                post,
-                goal_of(&goal.conclusion),
-            )
+            let said = Said { pre, post };
+            contract_at(alloc, scope, goal, acts, said, goal_of(&goal.conclusion))
         }
         (Head::CallLemma, [known]) => Ok(Rule::CallKnown(acts, used(alloc, scope, goal, known)?)),
         _ => Err(not_built(place)),

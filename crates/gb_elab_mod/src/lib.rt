@@ -13,6 +13,7 @@ pub mod lemma;
 pub mod multiples;
 pub mod occurring;
 pub mod other_locals;
+mod probabilities;
 pub mod step;
 mod transforming;
 pub mod uses;

@@ -15,6 +15,7 @@ use crate::couplings::{drawing_rule, functions_of};
 use crate::cut::{Cutting, position, seq_rule, while_rule};
 use crate::equals::{opening, rewriting, rewriting_back, rewriting_by_name, substitution};
 use crate::multiples::linear_rule;
+use crate::probabilities::by_rule;
 use crate::transforming::{inlining_rule, passing_rule, placed_rule};
 use crate::uses::{apply_rule, keep_rule, smt_rule};
 use crate::witness::witness_rule;
@@ -262,7 +263,7 @@ fn used_rule(
     }
 }
 
-/// The rule on loops, `inline`, or the rule of another step, as far as `used_rule` has it.
+/// The rule on loops, `inline`, a step from probabilities to a judgment, or the rule of another step, as far as `used_rule` has it.
 fn looping_rule(
     alloc: Global,
     scope: &Scope,
@@ -284,6 +285,10 @@ fn looping_rule(
                 let procedures = procedures.parts.as_slice();
                 inlining_rule(alloc, scope, goal, acts_of(bodies), procedures, place)
             }
+            _ => Err(not_built(place)),
+        },
+        Head::ByStep => match parts {
+            [pre, post] => by_rule(alloc, scope, goal, text, pre, post, place),
             _ => Err(not_built(place)),
         },
         _ => used_rule(alloc, scope, goal, head, text, parts, place),

@@ -7,7 +7,7 @@ use Rattle.gb_goal.specs.Goal.Goal.{ambient}
 use Rattle.gb_goal.specs.Rows.{refusing}
 use Rattle.gb_goal.specs.Scope.{Declarations}
 use Rattle.gb_steps.specs.declared.step.Rule.{Rule}
-use Rattle.gb_steps.specs.declared.step.Rule.TheVariants.{OnBodies, Relational, Chance, Ambient, Smt, Linear, Call, CallKnown, Rewrite, Transform, Use, While}
+use Rattle.gb_steps.specs.declared.step.Rule.TheVariants.{OnBodies, Relational, Chance, Probability, Ambient, Smt, Linear, Call, CallKnown, Rewrite, Transform, Use, While}
 use Rattle.gb_steps.specs.declared.step.ChanceRule.TheVariants.{Rnd, Hoare}
 use Rattle.gb_holds.specs.Declared.{declared}
 use Rattle.gb_typing.specs.Scopes.{context_of, IsTypedScope}
@@ -22,6 +22,7 @@ module _ (ds : Declarations) (scoped : IsTypedScope (declared ds)) (q : Sequent)
   pub each_sound : (r : Rule) → IsSoundRuleIn (declared ds) (of_sequent (context_of (declared ds)) q t.frames) (rule_row ds r) no_arguments
   each_sound (Chance Rnd) outer ls rs G w y Gs e = rnd_sound ds scoped q t outer ls rs G w y Gs e
   each_sound (Chance Hoare) outer ls rs G w y Gs e = sound ds scoped q t outer ls rs G w y Gs e
+  each_sound (Probability r) outer ls rs G w y Gs e = refused_given Shape Gs e
   each_sound (OnBodies r) outer ls rs G w y Gs e = refused_given Shape Gs e
   each_sound (Relational r) outer ls rs G w y Gs e = refused_given Shape Gs e
   each_sound (Smt fs) outer ls rs G w y Gs e = refused_given Shape Gs e
@@ -37,6 +38,7 @@ module _ (ds : Declarations) (scoped : IsTypedScope (declared ds)) (q : Sequent)
 pub others_refused : (ds : Declarations) (r : Rule) (f : Term) → rule_row ds r (ambient f) ≡ refusing Shape
 others_refused ds (Chance Rnd) f = refl
 others_refused ds (Chance Hoare) f = refl
+others_refused ds (Probability r) f = refl
 others_refused ds (OnBodies r) f = refl
 others_refused ds (Relational r) f = refl
 others_refused ds (Smt fs) f = refl

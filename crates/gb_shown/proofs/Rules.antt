@@ -44,6 +44,7 @@ use Rattle.gb_steps.specs.declared.step.RelationalRule.TheVariants as relational
 use Rattle.gb_steps.specs.declared.step.Rule.{Rule}
 use Rattle.gb_steps.specs.declared.step.Rule.TheVariants as rule
 use Rattle.gb_steps.specs.declared.step.Step.{Step}
+use Rattle.gb_chances.specs.Chances.{Bounded, Compared, bounded_of, chances_of}
 use Rattle.gb_holds.specs.Declared.{declared}
 use Rattle.gb_typing.specs.Context.{Context}
 use Rattle.gb_typing.specs.Goals.{IsCode, IsGoalOver}
@@ -58,7 +59,7 @@ use Rattle.gb_names.specs.Judgments.{named_procedure, result_of}
 use Rattle.gb_elab.specs.Forms.{elaborated, function}
 use Rattle.gb_elab_mod.specs.Multiples.{hypothesis_at, multiples, position}
 use Rattle.gb_elab_mod.specs.Occurring.{occurring}
-use Rattle.gb_elab_mod.specs.Steps.{of_subjects, of_head, outcomes, sampled, last_sampled, functions, there_and_back, one_type, couplings, judges_chance, coupling_rule, functions_of, is_apply, acts, drawing_rule, on_all, plain_rule, cut_of, cut_rule, seq_rule, of_bodies_rule, chance_rule, both_rule, named_rule, conclusion_rule, formed, said_of_bodies, case_by, case_of_bodies, kept_by, while_rule, case_of_conclusion, sided_case_rule, params_if, result_if, locals_before, locals_after, term_if, said_anew, conseq_of, conseq_rule, last_procedure, contract_of, contract_of_both, contract_on, contract_at, call_rule, related, between_of, between_by, between_with, between_at, transitive_rule, asked_of, value_witness, memory_witness, witness_rule, pattern, passing_rule, placed_rule, transforming_rule, equals_rule, used_rule, calls_of, inlining_rule, looping_rule, have_rule, typed_rule, step_given}
+use Rattle.gb_elab_mod.specs.Steps.{of_subjects, of_head, outcomes, sampled, last_sampled, functions, there_and_back, one_type, couplings, judges_chance, coupling_rule, functions_of, is_apply, acts, drawing_rule, on_all, plain_rule, cut_of, cut_rule, seq_rule, of_bodies_rule, chance_rule, both_rule, named_rule, conclusion_rule, formed, said_of_bodies, case_by, case_of_bodies, kept_by, while_rule, case_of_conclusion, sided_case_rule, params_if, result_if, locals_before, locals_after, term_if, said_anew, conseq_of, conseq_rule, last_procedure, contract_of, contract_of_both, contract_on, contract_at, call_rule, related, said_around, by_phoare_rule, by_equiv_rule, by_rule, between_of, between_by, between_with, between_at, transitive_rule, asked_of, value_witness, memory_witness, witness_rule, pattern, passing_rule, placed_rule, transforming_rule, equals_rule, used_rule, calls_of, inlining_rule, looping_rule, have_rule, typed_rule, step_given}
 use Rattle.gb_elab_mod.specs.Taken.{new_name}
 use Rattle.gb_elab_mod.specs.Uses.{all_hinted, defined_operator, hypothesis, is_memory, memory_of, used}
 use Rattle.gb_elab_prog.specs.Unbuilt.{absent}
@@ -340,6 +341,37 @@ module _ (forms : OfForms) (es : List Enumeration) (ds : Declarations) (k : IsNa
       subst (λ (z : Term × Term). Named z.0 × Named z.1) (given_is (b.0, c.0) x c.2)
       (truth_named _ (relational_named es ds k q n _ _ (params_local f) (params_local g)) pre l b.0 b.1, truth_named _ (relational_named es ds k q n _ _ (results_local f) (results_local g)) post m c.0 c.1)
 
+  -- Conditions of a judgment by which probabilities are compared.
+
+  around_named : (pre post : Node) → IsReadTree pre → IsReadTree post → (f : ProcRef) (x : Term × Term) → said_around ds q pre post f ≡ given x → Named x.0 × Named x.1
+  unfolding said_around
+  around_named pre post l m f x e =
+      let b = given_bind (elaborated pre (unary ds q (params_if (procedure_of ds f))) [] (Some ty.Bool)) _ x e in
+      let c = given_bind (elaborated post (unary ds q (result_if (procedure_of ds f))) [] (Some ty.Bool)) _ x b.2 in
+      subst (λ (z : Term × Term). Named z.0 × Named z.1) (given_is (b.0, c.0) x c.2)
+      (truth_named _ (unary_named es ds k q n _ (params_local f)) pre l b.0 b.1, truth_named _ (unary_named es ds k q n _ (results_local f)) post m c.0 c.1)
+
+  by_phoare_named : (pre post : Node) → IsReadTree pre → IsReadTree post → (o : Option Bounded) → Gives (by_phoare_rule ds q pre post o)
+  by_phoare_named pre post l m (Some b) r e =
+      let a = given_bind (said_around ds q pre post b.chance.procedure) _ r e in subst (AreNamedArguments es) (given_is _ r a.2) (around_named pre post l m b.chance.procedure a.0 a.1)
+  by_phoare_named pre post l m None r e = subst (AreNamedArguments es) (given_is _ r e) tt
+
+  by_equiv_named : (pre post : Node) → IsReadTree pre → IsReadTree post → (o : Option Compared) → Gives (by_equiv_rule ds q pre post o)
+  by_equiv_named pre post l m (Some c) r e =
+      let f = c.left.procedure in
+      let g = c.right.procedure in
+      let a = given_bind (related ds q pre post f g) _ r e in
+      subst (AreNamedArguments es) (given_is _ r a.2) (related_named pre post l m f g a.0 a.1)
+  by_equiv_named pre post l m None r e = subst (AreNamedArguments es) (given_is _ r e) tt
+
+  by_named : (x : List ℕ) (pre post : Node) → IsReadTree pre → IsReadTree post → (p : Place) → Gives (by_rule ds q x pre post p)
+  by_named x pre post l m p r e = by_name (bytes_eq x (codes "byphoare")) (bytes_eq x (codes "byequiv")) e
+    where
+      by_name : (b d : Bool) → (if b then by_phoare_rule ds q pre post (bounded_of q.conclusion) else if d then by_equiv_rule ds q pre post (chances_of q.conclusion) else not_built p) ≡ given r → AreNamedArguments es r
+      by_name true d e = by_phoare_named pre post l m (bounded_of q.conclusion) r e
+      by_name false true e = by_equiv_named pre post l m (chances_of q.conclusion) r e
+      by_name false false e = none_built p r e
+
   between_named : (ws : List Node) (a b c d : Node) → IsReadTree a → IsReadTree b → IsReadTree c → IsReadTree d → (p : Place) (f g : ProcRef) → Gives (between_of ds q ws a b c d p f g)
   unfolding between_of
   between_named ws a b c d l1 l2 l3 l4 p f g r e =
@@ -600,6 +632,10 @@ module _ (forms : OfForms) (es : List Enumeration) (ds : Declarations) (k : IsNa
     looping_named text.Inline x [] v s l p r e = none_built p r e
     looping_named text.Inline x (a ∷ []) v s l p r e = none_built p r e
     looping_named text.Inline x (a ∷ b ∷ d ∷ ps) v s l p r e = none_built p r e
+    looping_named text.ByStep x (pre ∷ post ∷ []) v s l p r e = by_named x pre post l.0 l.1.0 p r e
+    looping_named text.ByStep x [] v s l p r e = none_built p r e
+    looping_named text.ByStep x (a ∷ []) v s l p r e = none_built p r e
+    looping_named text.ByStep x (a ∷ b ∷ d ∷ ps) v s l p r e = none_built p r e
     looping_named h x ps v s l p r e = used_named h x ps v s l p r e
 
     typed_named : (h : Kind) (x : List ℕ) (ps : List Node) → (h ≡ text.Name → is_name_text x ≡ true) → HasItsNames h ps → AreRead ps → (p : Place) → Gives (typed_rule ds q h x ps p)

@@ -33,6 +33,7 @@ pub fn shown_goals_are_read()
     gb_relational::laws::other_goals();
     gb_phoare::laws::chance_rules();
     gb_phoare::laws::no_judgments();
+    gb_pr::laws::probability_rules();
     gb_call_both::laws::call_rules();
     gb_call_both::laws::other_conclusions();
     gb_inline::laws::transforming_rules();

@@ -39,6 +39,7 @@ use Rattle.gb_spelt_laws.proofs.Uses.{uses_keep}
 use Rattle.gb_spelt_laws.proofs.BothCalls.{call_keeps, known_calls_keep}
 use Rattle.gb_spelt_laws.proofs.Chances.{chances_keep}
 use Rattle.gb_spelt_laws.proofs.Loops.{while_keeps}
+use Rattle.gb_spelt_laws.proofs.Probabilities.{probabilities_keep}
 use Rattle.gb_spelt_laws.proofs.Relational.{relational_keep}
 use Rattle.gb_spelt_laws.proofs.Rewriting.{rewriting_kept}
 use Rattle.gb_spelt_laws.proofs.Beside.{beside_keeps}
@@ -118,4 +119,5 @@ module _ (es : List Enumeration) (ds : scope.Declarations) (globals : AreNamedGl
     applied_keep (rule.Transform a k) w place qs e = transformed_keeps a k place qs e
     applied_keep (rule.While v) w place qs e = by_row _ (while_keeps es ds v.acts v.kept w) place qs e
     applied_keep (rule.Chance r) w place qs e = by_row _ (chances_keep es ds r) place qs e
+    applied_keep (rule.Probability r) w place qs e = by_row _ (probabilities_keep es ds r w) place qs e
     applied_keep (rule.Call s) w place qs e = by_row _ (call_keeps es ds globals procedures s w) place qs e

@@ -19,6 +19,7 @@ pub mod Conclusions
 pub mod Uses
 pub mod Relational
 pub mod Chances
+pub mod Probabilities
 pub mod AllValues
 pub mod Loops
 pub mod Calls

@@ -19,7 +19,10 @@ use Rattle.gb_steps.specs.declared.step.AmbientRule.TheVariants as ambient
 use Rattle.gb_steps.specs.declared.step.BodyRule.{BodyRule}
 use Rattle.gb_steps.specs.declared.step.BodyRule.TheVariants as on_bodies
 use Rattle.gb_steps.specs.declared.step.Between.{Between}
+use Rattle.gb_steps.specs.declared.step.Conditions.{Conditions}
 use Rattle.gb_steps.specs.declared.step.Contract.{Contract}
+use Rattle.gb_steps.specs.declared.step.ProbabilityRule.{ProbabilityRule}
+use Rattle.gb_steps.specs.declared.step.ProbabilityRule.TheVariants as probability
 use Rattle.gb_steps.specs.declared.step.RelationalRule.{RelationalRule}
 use Rattle.gb_steps.specs.declared.step.RelationalRule.TheVariants as relational
 use Rattle.gb_steps.specs.declared.step.RewriteRule.{RewriteRule}
@@ -90,6 +93,15 @@ IsNamedUse es (use_rule.Have x f) = (is_name_text x ≡ true) × IsNamed es f
 abbrev pub IsNamedContract : List Enumeration → Contract → Type 0
 IsNamedContract es s = IsNamed es s.pre × IsNamed es s.post
 
+-- what is said before and after procedures
+abbrev pub AreNamedConditions : List Enumeration → Conditions → Type 0
+AreNamedConditions es s = IsNamed es s.pre × IsNamed es s.post
+
+-- what a rule on probabilities is given
+abbrev pub IsNamedProbability : List Enumeration → ProbabilityRule → Type 0
+IsNamedProbability es (probability.ByEquiv s) = AreNamedConditions es s
+IsNamedProbability es (probability.ByPhoare s) = AreNamedConditions es s
+
 -- a procedure between two others, and what is said of it
 pub record IsNamedBetween (es : List Enumeration) (t : Between) : Type 0 where
   pub procedure : IsWrittenProcedure [] t.procedure
@@ -114,6 +126,7 @@ IsNamedRewrite es _ = Unit {0}
 abbrev pub AreNamedArguments : List Enumeration → Rule → Type 0
 AreNamedArguments es (rule.OnBodies r) = IsNamedRule es r
 AreNamedArguments es (rule.Relational r) = IsNamedRelational es r
+AreNamedArguments es (rule.Probability r) = IsNamedProbability es r
 AreNamedArguments es (rule.Call s) = IsNamedContract es s
 AreNamedArguments es (rule.CallKnown a f) = IsNamed es f
 AreNamedArguments es (rule.While v) = IsNamed es v.kept

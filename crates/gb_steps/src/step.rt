@@ -26,6 +26,7 @@ pub enum Rule {
     OnBodies(BodyRule),
     Relational(RelationalRule),
     Chance(ChanceRule),
+    Probability(ProbabilityRule),
     Call(Contract),
     /// As by `Call`, by a judgment of the procedure that is known.
     CallKnown(Acts, Form),
@@ -45,6 +46,7 @@ impl Drop for Rule {
             Rule::OnBodies(rule) => drop(rule),
             Rule::Relational(rule) => drop(rule),
             Rule::Chance(_) => {}
+            Rule::Probability(rule) => drop(rule),
             Rule::Call(contract) => drop(contract),
             Rule::CallKnown(_, judgment) => drop(judgment),
             Rule::While(invariant) => drop(invariant),
@@ -140,6 +142,22 @@ pub enum ChanceRule {
     Rnd,
     /// From a probability to what always holds.
     Hoare,
+}
+
+/// A rule on probabilities of events after procedures.
+#[derive(Drop)]
+pub enum ProbabilityRule {
+    /// A comparison of two probabilities, by an equivalence of their procedures with these conditions.
+    ByEquiv(Conditions),
+    /// A comparison of a probability with a bound, by a judgment of its procedure with these conditions.
+    ByPhoare(Conditions),
+}
+
+/// What is to hold before and after procedures.
+#[derive(Drop)]
+pub struct Conditions {
+    pub pre: Form,
+    pub post: Form,
 }
 
 /// What is said of the procedure that the programs call last on which a step acts.

@@ -73,6 +73,7 @@ module _
   one_applied ds (rule.OnBodies r) place q x y h k = h ∙ sym k
   one_applied ds (rule.Relational r) place q x y h k = one_on_both ds r place q x y h k
   one_applied ds (rule.Chance r) place q x y h k = h ∙ sym k
+  one_applied ds (rule.Probability r) place q x y h k = h ∙ sym k
   one_applied ds (rule.Call s) place q x y h k = h ∙ sym k
   one_applied ds (rule.CallKnown a f) place q x y h k = known_calls.one_answer ds a f place q x y h k
   one_applied ds (rule.While i) place q x y h k = h ∙ sym k

@@ -33,6 +33,7 @@ use Rattle.gb_ended.specs.Loops.{unproved_in}
 use Rattle.gb_loops.specs.While.{while_row}
 use Rattle.gb_relational.specs.Rows as equiv
 use Rattle.gb_phoare.specs.Rows as chances
+use Rattle.gb_pr.specs.Rows as probabilities
 use Rattle.gb_call_both.specs.Rows as calls
 use Rattle.gb_call_known.specs.Known as known_calls
 use Rattle.gb_beside.specs.Beside.{beside_answer}
@@ -160,6 +161,7 @@ row_of ds (rule.OnBodies r) = bodies.rule_row ds (rule.OnBodies r)
 row_of ds (rule.While v) = while_row ds v.acts v.kept
 row_of ds (rule.Relational r) = equiv.rule_row ds (rule.Relational r)
 row_of ds (rule.Chance r) = chances.rule_row ds (rule.Chance r)
+row_of ds (rule.Probability r) = probabilities.rule_row ds (rule.Probability r)
 row_of ds (rule.Call s) = calls.rule_row ds (rule.Call s)
 row_of ds (rule.Transform a t) = transformations.rule_row ds (rule.Transform a t)
 row_of ds _ = λ G. refusing Shape

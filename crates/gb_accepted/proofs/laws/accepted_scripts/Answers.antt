@@ -23,6 +23,7 @@ returns c =
         hints = c.typed_forms.ensures.hints;
         rule = c.typed_rules.ensures.relational;
         call_rule = c.typed_rules.ensures.calls;
+        probabilities_typed = c.typed_rules.ensures.probabilities;
       };
       rules = record {
         goal = c.typing.ensures.goal;
@@ -35,6 +36,7 @@ returns c =
         relational = c.relational_rules.ensures;
         chances = c.chance_rules.ensures;
         chances_refuse = c.no_judgments.ensures;
+        probabilities = c.probability_rules.ensures;
         calls = c.call_rules.ensures;
         calls_refuse = c.other_conclusions.ensures;
         transformations_refuse = c.untransformed_forms.ensures;

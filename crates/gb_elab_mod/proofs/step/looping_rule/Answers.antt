@@ -10,13 +10,14 @@ use Rattle.gb_elab_mod.specs.Steps.{looping_rule, used_rule}
 use Rattle.gb_elab_mod.proofs.step.looping_rule.Goals as goal
 
 -- other steps use what is known, or are patterns
-other : (ds : Declarations) (q : Sequent) (k : Kind) (x : List ℕ) (ps : List Node) (p : Place) → (k ≡ text.WhileStep → ⊥) → (k ≡ text.Inline → ⊥) → looping_rule ds q k x ps p ≡ used_rule ds q k x ps p
-other ds q text.WhileStep x ps p a b = absurd (a refl)
-other ds q text.Inline x ps p a b = absurd (b refl)
-other ds q _ x ps p a b = refl
+other : (ds : Declarations) (q : Sequent) (k : Kind) (x : List ℕ) (ps : List Node) (p : Place) → (k ≡ text.WhileStep → ⊥) → (k ≡ text.Inline → ⊥) → (k ≡ text.ByStep → ⊥) → looping_rule ds q k x ps p ≡ used_rule ds q k x ps p
+other ds q text.WhileStep x ps p a b c = absurd (a refl)
+other ds q text.Inline x ps p a b c = absurd (b refl)
+other ds q text.ByStep x ps p a b c = absurd (c refl)
+other ds q _ x ps p a b c = refl
 
 pub returns-in_default : goal.returns-in_default
 returns-in_default c =
     let k = c.in_default in
-    let is = other c.args.scope.now c.args.goal.now c.args.head c.args.text.now c.args.parts.now c.args.place k.not-WhileStep k.not-Inline in
+    let is = other c.args.scope.now c.args.goal.now c.args.head c.args.text.now c.args.parts.now c.args.place k.not-WhileStep k.not-Inline k.not-ByStep in
     subst (λ r. Answers r c.used_rule.result) (sym is) c.used_rule.ensures

@@ -1,0 +1,4 @@
+//! Comparisons of probabilities of events, as steps see them.
+#![tactic(auto)]
+
+pub mod chances;

@@ -1,0 +1,13 @@
+pub mod BoundedForms
+pub mod ByEquivIsSound
+pub mod ByPhoareIsSound
+pub mod ChanceForms
+pub mod CoupledChances
+pub mod EventSides
+pub mod Led
+pub mod PlainTerms
+pub mod Probabilities
+pub mod RulesAreSound
+pub mod Starts
+pub mod StartedSteps
+pub mod Starting

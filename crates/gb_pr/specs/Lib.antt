@@ -1,0 +1,4 @@
+pub mod ByEquiv
+pub mod ByPhoare
+pub mod Rows
+pub mod Started

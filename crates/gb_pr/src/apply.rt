@@ -1,0 +1,37 @@
+// The rule that a proof step names.
+
+ghost use Rattle.gb_goal.specs.Answers.{Answers};
+ghost use Rattle.gb_goal.specs.Rows.{answered, stepped};
+ghost use Rattle.gb_pr.specs.Rows.{rule_row};
+
+use crate::by_equiv::by_equiv_rule;
+use crate::by_phoare::by_phoare_rule;
+use gb_core::refusal::Refused;
+use gb_goal::scope::Scope;
+use gb_goal::sequent::{Sequent, Sequents};
+use gb_parts::subgoals::{no_shape, placed};
+use gb_steps::step::{ProbabilityRule, Rule, Step};
+use std::alloc::Global;
+
+/// The subgoals of a rule. Refused with `Shape` at a rule of another family.
+fn answer(alloc: Global, rule: &Rule, goal: &Sequent, scope: &Scope) -> Result<Sequents, Refused>
+    ensures { Answers (answered (rule_row scope.now rule.now) goal.now) result }
+{
+    match rule {
+        Rule::Probability(ProbabilityRule::ByEquiv(said)) => {
+            by_equiv_rule(alloc, goal, said, scope)
+        }
+        Rule::Probability(ProbabilityRule::ByPhoare(said)) => {
+            by_phoare_rule(alloc, goal, said, scope)
+        }
+        _ => Err(no_shape()),
+    }
+}
+
+/// The subgoals of such a rule at a goal, in order. Refused as the rule says, at the place of the step.
+pub fn apply(alloc: Global, step: &Step, goal: &Sequent, scope: &Scope) -> Result<Sequents, Refused>
+    ensures { Answers (stepped (rule_row scope.now step.now.rule) step.now.place goal.now) result }
+{
+    let made = answer(alloc, &step.rule, goal, scope);
+    placed(made, step.place)
+}

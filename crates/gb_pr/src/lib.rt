@@ -1,0 +1,8 @@
+//! The rules on probabilities of events: from them to judgments of procedures.
+#![tactic(auto)]
+
+pub mod apply;
+pub mod by_equiv;
+pub mod by_phoare;
+pub mod laws;
+pub mod started;
