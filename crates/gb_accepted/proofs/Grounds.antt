@@ -21,9 +21,11 @@ use Rattle.gb_goal.specs.declared.sequent.Sequent.{Sequent}
 use Rattle.gb_steps.specs.declared.step.Acts.{Acts}
 use Rattle.gb_steps.specs.declared.step.AmbientRule.{AmbientRule}
 use Rattle.gb_steps.specs.declared.step.Rule.{Rule}
-use Rattle.gb_steps.specs.declared.step.Rule.TheVariants.{Ambient, Use}
+use Rattle.gb_steps.specs.declared.step.EventLaw.TheVariants as event_law
+use Rattle.gb_steps.specs.declared.step.Rule.TheVariants.{Ambient, Rewrite, Use}
 use Rattle.gb_steps.specs.declared.step.Multiple.{Multiple}
 use Rattle.gb_steps.specs.declared.step.RewriteRule.{RewriteRule}
+use Rattle.gb_steps.specs.declared.step.RewriteRule.TheVariants as rewrite_rule
 use Rattle.gb_steps.specs.declared.step.UseRule.{UseRule}
 use Rattle.gb_steps.specs.Told.{told}
 use Rattle.gb_steps.specs.declared.step.Step.{Step}
@@ -34,8 +36,9 @@ use Rattle.gb_holds.specs.Declared.{Declarations, concrete_module, declared}
 use Rattle.gb_typing.specs.Naming.{NoName}
 use Rattle.gb_holds.specs.Holds.{Holds, InEachSetting, IsSound}
 use Rattle.gb_holds.specs.Truth.{has_module}
-use Rattle.gb_typing.specs.Context.{Context}
-use Rattle.gb_typing.specs.Typing.{IsForm}
+use Rattle.gb_typing.specs.Context.{Context, with_own}
+use Rattle.gb_typing.specs.Context as context
+use Rattle.gb_typing.specs.Typing.{IsForm, after}
 use Rattle.gb_typing.specs.Typing.{IsTyped as IsTypedTerm}
 use Rattle.gb_typing.specs.Sequents.{IsConclusion, of_sequent, IsTypedSequent}
 use Rattle.gb_typing.specs.Scopes.{context_of, is_declared, IsTypedScope}
@@ -104,6 +107,8 @@ pub record OfTyping : Type 0 where
       (ls rs : List TypedName) → IsGoalOver (around ds q t) ls rs (goal_of q.conclusion) → bodies.IsTypedRule (around ds q t) s.rule ls rs (goal_of q.conclusion)
   pub hints : (ds : scope.Declarations) → IsTyped ds → AreStated ds → (q : Sequent) (t : IsTypedGoalOf ds q) (n : Node) (s : Step) → step_given ds q n ≡ given s →
       AllByRecursion (λ f. IsForm (around ds q t) f × IsKnown (declared ds) q (around ds q t) f) (told s.rule)
+  pub events : (ds : scope.Declarations) → IsTyped ds → (q : Sequent) (t : IsTypedGoalOf ds q) (n : Node) (s : Step) → step_given ds q n ≡ given s →
+      (p : ProcRef) (f : Term) → s.rule ≡ Rewrite (rewrite_rule.Law (event_law.Split p f)) → IsForm (with_own (around ds q t) (after (context.procedure (around ds q t) p))) f
   pub conclusion : (ds : scope.Declarations) → IsTyped ds → (q : Sequent) (t : IsTypedGoalOf ds q) (n : Node) (s : Step) → step_given ds q n ≡ given s →
       (r : AmbientRule) → s.rule ≡ Ambient r → (u : IsTypedGoalOf ds q) × IsTypedStep (around ds q u) q.conclusion r
   pub used : (ds : scope.Declarations) → IsTyped ds → AreStated ds → (q : Sequent) (t : IsTypedGoalOf ds q) (n : Node) (s : Step) → step_given ds q n ≡ given s →

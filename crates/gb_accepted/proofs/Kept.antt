@@ -56,6 +56,7 @@ module _ (o : Grounds) where
   kept ((n, entry.Module x) ∷ ds) before w k h p l m = let d : List ℕ × Entry = (n, entry.Module x) in onwards before d ds (kept ds (before ++ d ∷ []) (back IsTyped before d ds w) (back Spoken before d ds k) h p) l m
   kept ((n, entry.Type t) ∷ ds) before w k h p l m = let d : List ℕ × Entry = (n, entry.Type t) in onwards before d ds (kept ds (before ++ d ∷ []) (back IsTyped before d ds w) (back Spoken before d ds k) h p) l m
   kept ((n, entry.AbstractType) ∷ ds) before w k h p l m = let d : List ℕ × Entry = (n, entry.AbstractType) in onwards before d ds (kept ds (before ++ d ∷ []) (back IsTyped before d ds w) (back Spoken before d ds k) h p) l m
+  kept ((n, entry.ModuleType y) ∷ ds) before w k h p l m = let d : List ℕ × Entry = (n, entry.ModuleType y) in onwards before d ds (kept ds (before ++ d ∷ []) (back IsTyped before d ds w) (back Spoken before d ds k) h p) l m
   kept ((n, entry.Constant c) ∷ ds) before w k h p l m = let d : List ℕ × Entry = (n, entry.Constant c) in onwards before d ds (kept ds (before ++ d ∷ []) (back IsTyped before d ds w) (back Spoken before d ds k) h p) l m
   kept ((n, entry.Operator x) ∷ ds) before w k h p l m = let d : List ℕ × Entry = (n, entry.Operator x) in onwards before d ds (kept ds (before ++ d ∷ []) (back IsTyped before d ds w) (back Spoken before d ds k) h p) l m
   kept ((n, entry.AbstractOperator x) ∷ ds) before w k h p l m = let d : List ℕ × Entry = (n, entry.AbstractOperator x) in onwards before d ds (kept ds (before ++ d ∷ []) (back IsTyped before d ds w) (back Spoken before d ds k) h p) l m

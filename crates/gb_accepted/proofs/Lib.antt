@@ -7,6 +7,7 @@ pub mod CallsEnd
 pub mod ConclusionsEnd
 pub mod UsesEnd
 pub mod UnfoldedEnd
+pub mod EventsEnd
 pub mod RewritesEnd
 pub mod LiftedEnd
 pub mod KnownCallsEnd

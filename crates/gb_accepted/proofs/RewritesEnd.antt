@@ -17,8 +17,9 @@ use Rattle.gb_goal.specs.Goal.{goal_of}
 use Rattle.gb_goal.specs.Scope as scope
 use Rattle.gb_goal.specs.declared.sequent.Hyp.{Hyp}
 use Rattle.gb_goal.specs.declared.sequent.Sequent.{Sequent}
+use Rattle.gb_steps.specs.declared.step.EventLaw.{EventLaw}
 use Rattle.gb_steps.specs.declared.step.RewriteRule.{RewriteRule}
-use Rattle.gb_steps.specs.declared.step.RewriteRule.TheVariants.{Forward, Back, Subst, Unfold}
+use Rattle.gb_steps.specs.declared.step.RewriteRule.TheVariants.{Forward, Back, Subst, Unfold, Law}
 use Rattle.gb_meaning.specs.Names.{Name}
 use Rattle.gb_meaning.specs.Setting.{Setting}
 use Rattle.gb_laws.proofs.Trees.{out_is}
@@ -42,18 +43,21 @@ use Rattle.gb_typing.proofs.Lifted.{InEachSequent, joined, sequent_outermost}
 use Rattle.gb_typing.proofs.Models.{each_setting}
 use Rattle.gb_typing.proofs.Shapes.{node_out}
 use Rattle.gb_prog.specs.Ends.{LoopsEnd, SequentEnds}
+use Rattle.gb_parts.specs.Same.{is_same}
 use Rattle.gb_smt_laws.proofs.Bodies.{scope_bodies}
 use Rattle.gb_amb.specs.Parts.{concluding}
 use Rattle.gb_amb.specs.Quantified.{goal_quantifies_modules, quantifies_modules}
 use Rattle.gb_amb.proofs.Fronts.{none_in_front}
 use Rattle.gb_rewrite.specs.Equations.{Pair, equation_at, equation_of, equivalence_of, exchanged, is_variable_apart, used_up, used_up_of}
-use Rattle.gb_rewrite.specs.Rewriting.{IsUsable, opening_by, rewrite_answer, rewriting, unfolded_everywhere, using_up, using_up_hypothesis, without}
-use Rattle.gb_rewrite.specs.Rewritten.{is_same, rewritten, stands}
+use Rattle.gb_rewrite.specs.Events.{by_first}
+use Rattle.gb_rewrite.specs.Rewriting.{IsUsable, by_event_law, concluding_by, opening_by, rewrite_answer, rewriting, unfolded_everywhere, using_up, using_up_hypothesis, without}
+use Rattle.gb_rewrite.specs.Rewritten.{rewritten, stands}
 use Rattle.gb_rewrite.specs.Unfolded.{head_unfolded, names, programs_unfolded, subject_unfolded, unfolded}
 use Rattle.gb_rewrite.proofs.Opened.{opened}
 use Rattle.gb_rewrite.proofs.Sides.{said_by, said_by_equation}
 use Rattle.gb_rewrite.proofs.Standing.{IsStanding, body_stands}
 use Rattle.gb_rewrite.proofs.Statements.{programs_out}
+use Rattle.gb_accepted.proofs.EventsEnd.{first_ends}
 use Rattle.gb_accepted.proofs.HeadsEnd.{HeadEnds, IsBare, IsBareHead, NamesProcedure, bare_head, goal_ends, head_ends, typed_bare}
 use Rattle.gb_accepted.proofs.UnfoldedEnd.{good_unfolded}
 
@@ -207,8 +211,24 @@ module _ (es : scope.Declarations) (scoped : IsTypedScope (declared es)) (q : Se
   opening_ends x place qs None u e h = refused_at Shape place qs (sym e)
   opening_ends x place qs (Some b) u e h = unfold_ends x b u place qs e h
 
+  -- A law of events.
+
+  concluded_end : (place : Place) (qs : List Sequent) (o : Option Term) → ((f : Term) → o ≡ Some f → InEachSequent ds q (λ k. LoopsEnd (setting ds k) (goal_of f))) →
+      given qs ≡ concluding_by place q o → Ends qs
+  concluded_end place qs None k e = refused_at Shape place qs (sym e)
+  concluded_end place qs (Some f) k e = subst Ends (sym (same_given qs _ e)) (k f refl, tt)
+
+  law_ends : (l : EventLaw) (place : Place) (qs : List Sequent) → given qs ≡ by_event_law es l place q → SequentEnds ds q → Ends qs
+  law_ends l place qs e h = step (quantifies_modules q.conclusion) e
+    where
+      step : (b : Bool) → given qs ≡ (if b then refused Shape place else concluding_by place q (by_first es l q.conclusion)) → Ends qs
+      step true e = refused_at Shape place qs (sym e)
+      step false e =
+          concluded_end place qs (by_first es l q.conclusion) (λ f i. moved_ends f (λ k fits y. first_ends es l (setting ds k) q.conclusion f i y) h) e
+
   pub rewrites_end : (r : RewriteRule) → IsUsable ds q c r → (place : Place) (qs : List Sequent) → given qs ≡ rewrite_answer es r place q → SequentEnds ds q → Ends qs
   rewrites_end (Forward f) w place qs e h = forward_ends f w.0 place qs (equivalence_of f) refl e h
   rewrites_end (Back f) w place qs e h = back_ends f w.0 place qs (equivalence_of f) refl e h
   rewrites_end (Subst i) w place qs e h = subst_ends i place qs (slice_get q.hyps i) refl e h
   rewrites_end (Unfold x) w place qs e h = opening_ends x place qs (body_named es x) refl e h
+  rewrites_end (Law l) w place qs e h = law_ends l place qs e h

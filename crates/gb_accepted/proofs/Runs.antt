@@ -37,6 +37,7 @@ module _ (o : Grounds) where
   head_keeps s c head.Require (import ∷ names ∷ []) next are g e = requires_keeps s (parts_of names) (place_of c) next g (sym e)
   head_keeps s c head.TypeDeclaration parts next are g e = brings_keeps o s c (place_of c) next g (sym e)
   head_keeps s c head.OperatorDeclaration parts next are g e = brings_keeps o s c (place_of c) next g (sym e)
+  head_keeps s c head.ModuleType parts next are g e = brings_keeps o s c (place_of c) next g (sym e)
   head_keeps s c head.Axiom parts next are g e = absurd (assumes_nothing s (place_of c) next (sym e))
   head_keeps s c head.Module parts next are g e = declares_keeps o s c (place_of c) next g (sym e)
   head_keeps s c head.AscribedModule parts next are g e = declares_keeps o s c (place_of c) next g (sym e)

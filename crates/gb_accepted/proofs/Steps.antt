@@ -46,7 +46,8 @@ rule_leads o s g kept t q goal rs h =
     let k =
     applied_lead o ds g.typed g.sound g.speaks kept.hold q typed a.0.rule a.0.place b.0
     (λ ls rs w. (o.typing.body_rule ds g.typed q typed t a.0 a.1 ls rs w, o.typing.rule ds g.typed q typed t a.0 a.1 ls rs w, o.typing.call_rule ds g.typed q typed t a.0 a.1 ls rs w, o.typing.probabilities_typed ds g.typed q typed t a.0 a.1 ls rs w))
-    (o.typing.conclusion ds g.typed q typed t a.0 a.1) (o.typing.used ds g.typed (λ x l e. kept.stated x l e) q typed t a.0 a.1) (o.typing.hints ds g.typed (λ x l e. kept.stated x l e) q typed t a.0 a.1) applied in
+    (o.typing.conclusion ds g.typed q typed t a.0 a.1) (o.typing.used ds g.typed (λ x l e. kept.stated x l e) q typed t a.0 a.1) (o.typing.hints ds g.typed (λ x l e. kept.stated x l e) q typed t a.0 a.1)
+    (o.typing.events ds g.typed q typed t a.0 a.1) applied in
     subst (LeadIn ds (q ∷ [])) (given_is b.0 rs c.2) (record { typed = each_ends ds b.0 k.typed (k.ends goal.ends); leads = λ h. (k.leads goal.ends h, tt) })
 
 -- the proof goes on with other goals

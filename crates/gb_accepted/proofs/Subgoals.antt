@@ -6,6 +6,7 @@ use Rattle.gb_core.specs.declared.refusal.Why.{Why}
 use Rattle.gb_core.specs.declared.refusal.Why.TheVariants.{Shape}
 use Rattle.gb_core.specs.declared.ty.Ty.TheVariants as ty
 use Rattle.gb_terms.specs.declared.decl.TypedName.{TypedName}
+use Rattle.gb_terms.specs.declared.module.ProcRef.{ProcRef}
 use Rattle.gb_terms.specs.declared.term.Term.{Term}
 use Rattle.gb_goal.specs.Answers.{placed_at}
 use Rattle.gb_goal.specs.Answers.Answer.{given, refused}
@@ -24,10 +25,12 @@ use Rattle.gb_steps.specs.declared.step.Acts.TheVariants as on
 use Rattle.gb_steps.specs.declared.step.AmbientRule.{AmbientRule}
 use Rattle.gb_steps.specs.declared.step.BodyRule.{BodyRule}
 use Rattle.gb_steps.specs.declared.step.BodyRule.TheVariants as on_bodies
+use Rattle.gb_steps.specs.declared.step.EventLaw.{EventLaw}
+use Rattle.gb_steps.specs.declared.step.EventLaw.TheVariants as event_law
 use Rattle.gb_steps.specs.declared.step.RelationalRule.{RelationalRule}
 use Rattle.gb_steps.specs.declared.step.RelationalRule.TheVariants as on_both
 use Rattle.gb_steps.specs.declared.step.RewriteRule.{RewriteRule}
-use Rattle.gb_steps.specs.declared.step.RewriteRule.TheVariants.{Forward, Back, Subst, Unfold}
+use Rattle.gb_steps.specs.declared.step.RewriteRule.TheVariants.{Forward, Back, Subst, Unfold, Law}
 use Rattle.gb_steps.specs.declared.step.UseRule.{UseRule}
 use Rattle.gb_steps.specs.Told.{rewrites_by, told}
 use Rattle.gb_steps.specs.declared.step.Rule.{Rule}
@@ -42,11 +45,12 @@ use Rattle.gb_holds.specs.Holds.{Holds, InEachSetting, IsSound, declared_modules
 use Rattle.gb_typing.specs.Naming.{NoName}
 use Rattle.gb_models.specs.Speaking.{ScopeSpeaks}
 use Rattle.gb_holds.specs.Truth.{has_module}
-use Rattle.gb_typing.specs.Typing.{IsForm}
+use Rattle.gb_typing.specs.Typing.{IsForm, after}
 use Rattle.gb_typing.specs.Sequents.{IsTypedSequent}
 use Rattle.gb_typing.specs.Scopes.{context_of}
 use Rattle.gb_typing.specs.Goals.{IsGoalOver}
-use Rattle.gb_typing.specs.Context.{Context}
+use Rattle.gb_typing.specs.Context.{Context, with_own}
+use Rattle.gb_typing.specs.Context as context
 use Rattle.gb_typing.specs.Rules.{IsSettingOver, IsSoundIn}
 use Rattle.gb_typing.proofs.Lifted.{each}
 use Rattle.gb_prog.specs.Ends.{Entered, IsSoundOnLoops, LoopsEnd, ProceduresEnd, SequentEnds}
@@ -64,6 +68,7 @@ use Rattle.gb_amb.specs.Steps.{IsTypedStep}
 use Rattle.gb_linear.specs.Closing.{linear_answer}
 use Rattle.gb_use.specs.Lemmas.{IsKnown, LemmasHold}
 use Rattle.gb_use.specs.Uses as uses
+use Rattle.gb_rewrite.specs.Events.{IsTypedLaw}
 use Rattle.gb_rewrite.specs.Rewriting.{IsUsable}
 use Rattle.gb_smt.specs.Leaves.{leaves_of}
 use Rattle.gb_smt.specs.Apply.{IsAnswerOf}
@@ -100,6 +105,11 @@ AreSaid ds q t fs = AllByRecursion (λ f. IsForm (around ds q t) f × IsKnown (d
 
 abbrev pub HasSaidForms : (ds : Declarations) (q : Sequent) → IsTypedGoalOf ds q → Rule → Type 0
 HasSaidForms ds q t r = AreSaid ds q t (told r)
+
+-- the event by which a rule divides a probability is typed after the procedure of that probability
+abbrev pub HasTypedEvents : (ds : Declarations) (q : Sequent) → IsTypedGoalOf ds q → Rule → Type 0
+HasTypedEvents ds q t r =
+    (p : ProcRef) (f : Term) → r ≡ rule.Rewrite (Law (event_law.Split p f)) → IsForm (with_own (around ds q t) (after (context.procedure (around ds q t) p))) f
 
 -- a row that refuses gives nothing
 none_given : (row : Row) (q : Sequent) (qs : List Sequent) (G : Goal) → goal_of q.conclusion ≡ G → row G ≡ refusing Shape → {X : Type 0} → answered row q ≡ given qs → X
@@ -255,11 +265,18 @@ module _ (g : Grounds) (ds : Declarations) (scope : IsTyped ds) (sound : IsSound
       let k = g.rules.linear (declared ds) scope q t ms place qs e in
       record { typed = k.0; ends = λ h. subst (AllByRecursion (SequentEnds (declared ds))) (closes ms place q qs e) tt; leads = λ h. k.1 }
 
-  usable : (r : RewriteRule) → AreSaid ds q t (rewrites_by r) → IsUsable (declared ds) q (around ds q t) r
-  usable (Forward f) w = (w.0.0, g.rules.instances (declared ds) scope holds q t f w.0.0 w.0.1)
-  usable (Back f) w = (w.0.0, g.rules.instances (declared ds) scope holds q t f w.0.0 w.0.1)
-  usable (Subst i) w = tt
-  usable (Unfold x) w = tt
+  event_typed : (l : EventLaw) → HasTypedEvents ds q t (rule.Rewrite (Law l)) → IsTypedLaw (around ds q t) l
+  event_typed (event_law.Split p f) k = k p f refl
+  event_typed event_law.Or k = tt
+  event_typed event_law.Not k = tt
+  event_typed event_law.False k = tt
+
+  usable : (r : RewriteRule) → HasTypedEvents ds q t (rule.Rewrite r) → AreSaid ds q t (rewrites_by r) → IsUsable (declared ds) q (around ds q t) r
+  usable (Forward f) k w = (w.0.0, g.rules.instances (declared ds) scope holds q t f w.0.0 w.0.1)
+  usable (Back f) k w = (w.0.0, g.rules.instances (declared ds) scope holds q t f w.0.0 w.0.1)
+  usable (Subst i) k w = tt
+  usable (Unfold x) k w = tt
+  usable (Law l) k w = event_typed l k
 
   by_both_law : (r : RelationalRule) (place : Place) (qs : List Sequent) → IsTypedAt ds q t (rule.Relational r) → given qs ≡ stepped (row_of ds (rule.Relational r)) place q → LeadTo ds q qs
   by_both_law r place qs typed a =
@@ -313,39 +330,39 @@ module _ (g : Grounds) (ds : Declarations) (scope : IsTyped ds) (sound : IsSound
   of_programs b (transformation.Unroll n) place qs e = of_program b (transformation.Unroll n) place qs e
   of_programs b (transformation.Inline w) place qs e = of_program b (transformation.Inline w) place qs e
 
-  pub applied_lead : (r : Rule) (place : Place) (qs : List Sequent) → IsTypedAt ds q t r → HasTypedForms ds q t r → UsesHypotheses ds q t r → HasSaidForms ds q t r → Applied ds r place q (given qs) → LeadTo ds q qs
-  applied_lead (rule.Smt known) place qs typed forms used said a = of_smt known said place qs a.0 a.1 a.2
-  applied_lead (rule.Linear ms) place qs typed forms used said a = of_linear ms place qs (sym a)
-  applied_lead (rule.OnBodies r) place qs typed forms used said a = of_bodies r place qs (λ ls rs w. (typed ls rs w).0) (sym a)
-  applied_lead (rule.Relational r) place qs typed forms used said a = of_both r place qs typed a
-  applied_lead (rule.Chance r) place qs typed forms used said a =
+  pub applied_lead : (r : Rule) (place : Place) (qs : List Sequent) → IsTypedAt ds q t r → HasTypedForms ds q t r → UsesHypotheses ds q t r → HasSaidForms ds q t r → HasTypedEvents ds q t r → Applied ds r place q (given qs) → LeadTo ds q qs
+  applied_lead (rule.Smt known) place qs typed forms used said events a = of_smt known said place qs a.0 a.1 a.2
+  applied_lead (rule.Linear ms) place qs typed forms used said events a = of_linear ms place qs (sym a)
+  applied_lead (rule.OnBodies r) place qs typed forms used said events a = of_bodies r place qs (λ ls rs w. (typed ls rs w).0) (sym a)
+  applied_lead (rule.Relational r) place qs typed forms used said events a = of_both r place qs typed a
+  applied_lead (rule.Chance r) place qs typed forms used said events a =
       by_law (rule.Chance r) (anywhere (declared ds) q) place qs
       (λ ls rs w. g.rules.chances ds scope q t (rule.Chance r) (g.rules.outer (declared ds) q t.frames) ls rs G w tt)
       (λ ls rs w Gs y s over x. g.loops.chances ds c ls rs (rule.Chance r) G w Gs y s over) (sym a)
-  applied_lead (rule.Probability r) place qs typed forms used said a =
+  applied_lead (rule.Probability r) place qs typed forms used said events a =
       by_law (rule.Probability r) (anywhere (declared ds) q) place qs
       (λ ls rs w. g.rules.probabilities ds scope q t (rule.Probability r) (g.rules.outer (declared ds) q t.frames) ls rs G w (typed ls rs w).3)
       (λ ls rs w Gs y s over x h. probabilities_end s ds r G Gs y) (sym a)
-  applied_lead (rule.Call k) place qs typed forms used said a =
+  applied_lead (rule.Call k) place qs typed forms used said events a =
       by_law (rule.Call k) (anywhere (declared ds) q) place qs
       (λ ls rs w. g.rules.calls ds scope q t (rule.Call k) (g.rules.outer (declared ds) q t.frames) ls rs G w (typed ls rs w).2)
       (λ ls rs w Gs y s over x. g.loops.calls ds c ls rs (rule.Call k) G w Gs y s over) (sym a)
-  applied_lead (rule.CallKnown b f) place qs typed forms used said a =
+  applied_lead (rule.CallKnown b f) place qs typed forms used said events a =
       let known = g.rules.instances (declared ds) scope holds q t f said.0.0 said.0.1 in
       let k = g.rules.known_calls ds scope q t b f said.0.0 known place qs a in
       record { typed = k.0; ends = g.loops.known_calls ds scope q t b f said.0.0 known place qs a; leads = λ h. k.1 }
-  applied_lead (rule.While v) place qs typed forms used said a =
+  applied_lead (rule.While v) place qs typed forms used said events a =
       by_loop_law (rule.While v) place qs (λ ls rs w. g.loops.while ds scope q t v.acts v.kept (g.rules.outer (declared ds) q t.frames) ls rs G w (invariant_typed c v.kept ls rs G (typed ls rs w).0)) (sym a)
-  applied_lead (rule.Transform b k) place qs typed forms used said a =
+  applied_lead (rule.Transform b k) place qs typed forms used said events a =
       of_programs b k place qs (sym a)
-  applied_lead (rule.Ambient r) place qs typed forms used said a =
+  applied_lead (rule.Ambient r) place qs typed forms used said events a =
       let f = forms r refl in
       let k = g.rules.on_conclusions (declared ds) scope q f.0 r f.1 place qs a in
       record { typed = k.typed; ends = g.loops.conclusions (declared ds) q f.0 r f.1 place qs a; leads = λ h. k.leads }
-  applied_lead (rule.Use r) place qs typed forms used said a =
+  applied_lead (rule.Use r) place qs typed forms used said events a =
       let k = g.rules.on_uses (declared ds) scope holds q t r (used r refl) place qs a in
       let w = used r refl in
       record { typed = k.typed; ends = g.loops.uses (declared ds) q c r w.form place qs a; leads = λ h. k.leads }
-  applied_lead (rule.Rewrite r) place qs typed forms used said a =
-      let k = g.rules.on_equals ds scope q t r (usable r said) place qs a in
-      record { typed = k.typed; ends = g.loops.equals ds scope q t r (usable r said) place qs a; leads = λ h. k.leads }
+  applied_lead (rule.Rewrite r) place qs typed forms used said events a =
+      let k = g.rules.on_equals ds scope q t r (usable r events said) place qs a in
+      record { typed = k.typed; ends = g.loops.equals ds scope q t r (usable r events said) place qs a; leads = λ h. k.leads }

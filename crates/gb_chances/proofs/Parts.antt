@@ -8,11 +8,11 @@ use Rattle.gb_terms.specs.declared.term.Head.TheVariants.{Pr}
 use Rattle.gb_terms.specs.declared.term.Head.TheFolds.{fold_out-Term}
 use Rattle.gb_chances.specs.Chances.{at_head, at_term, speaks, head_speaks, unless, chance_at, last, before_last}
 
-last_behind : (t : Term) (before : List Term) (event : Term) → last t (before ++ event ∷ []) ≡ event
+pub last_behind : (t : Term) (before : List Term) (event : Term) → last t (before ++ event ∷ []) ≡ event
 last_behind t [] event = refl
 last_behind t (u ∷ us) event = last_behind u us event
 
-before_behind : (t : Term) (before : List Term) (event : Term) → before_last t (before ++ event ∷ []) ≡ t ∷ before
+pub before_behind : (t : Term) (before : List Term) (event : Term) → before_last t (before ++ event ∷ []) ≡ t ∷ before
 before_behind t [] event = refl
 before_behind t (u ∷ us) event = ap (λ l. t ∷ l) (before_behind u us event)
 

@@ -1,2 +1,3 @@
 pub mod Chances
+pub mod First
 pub mod Views

@@ -63,6 +63,7 @@ use Rattle.gb_elab_laws.proofs.Conditions.{of_by}
 use Rattle.gb_elab_laws.proofs.Transformings.{of_inlining, of_passing, of_placed}
 use Rattle.gb_elab_laws.proofs.Turning.{of_while}
 use Rattle.gb_elab_laws.proofs.Shapes.{finite_form}
+use Rattle.gb_elab_laws.proofs.EventLaws.{of_event_law, of_splitting}
 use Rattle.gb_elab_laws.proofs.Given.{given_bind, given_is, if_unbuilt}
 use Rattle.gb_elab_laws.proofs.Fits.{goal_fits}
 use Rattle.gb_elab_laws.proofs.Forms.{elaborated_typed}
@@ -330,6 +331,8 @@ module _ (ds : scope.Declarations) (scoped : IsTypedScope (declared ds)) (q : Se
   rule_forms text.RewriteOperator x (n ∷ []) p k h =
       let z = given_bind (defined_operator ds q n) (λ (y : List ℕ). given (rule.Rewrite (rewrite_rule.Unfold y))) k h in
       subst HasForms (given_is (rule.Rewrite (rewrite_rule.Unfold z.0)) k z.2) (λ lemmas. tt)
+  rule_forms text.RewriteLaw x [] p k h = of_event_law HasForms (λ l n lemmas. tt) (λ r. tt) (λ r. tt) x p k h
+  rule_forms text.RewriteSplit x (e ∷ []) p k h = of_splitting ds q e HasForms (λ f i u g lemmas. tt) tt k h
   rule_forms text.Smt x hints p k h =
       let z = given_bind (all_hinted ds q hints) (λ (fs : List Term). given (rule.Smt fs)) k h in
       subst HasForms (given_is (rule.Smt z.0) k z.2) (λ lemmas. all_hinted_typed ds scoped q t lemmas hints z.0 z.1)

@@ -30,11 +30,13 @@ use Rattle.gb_elab_mod.specs.Steps.{by_rule, conditions, params_if, result_if, s
 use Rattle.gb_pr.specs.ByEquiv as by_equiv
 use Rattle.gb_pr.specs.ByPhoare as by_phoare
 use Rattle.gb_pr.specs.Rows.{IsTypedRule}
-use Rattle.gb_elab_laws.proofs.Anew.{fits, params_stand, result_stands}
+use Rattle.gb_elab_laws.proofs.Anew.{fits, params_stand}
 use Rattle.gb_elab_laws.proofs.Betweens.{related_typed}
 use Rattle.gb_elab_laws.proofs.Compared.{BoundedThere, BothThere, bounded_there, both_there}
 use Rattle.gb_elab_laws.proofs.Conditions.{of_by}
 use Rattle.gb_elab_laws.proofs.Contracts.{of_call}
+use Rattle.gb_elab_laws.proofs.EventLaws.{of_splitting}
+use Rattle.gb_elab_laws.proofs.Events.{after_typed}
 use Rattle.gb_elab_laws.proofs.Forms.{elaborated_typed}
 use Rattle.gb_elab_laws.proofs.Given.{given_bind, given_is}
 use Rattle.gb_elab_laws.proofs.OneProcedure.{condition}
@@ -83,16 +85,15 @@ module _ (ds : scope.Declarations) (scoped : IsTypedScope (declared ds)) (q : Se
       let x = given_bind (elaborated a (unary ds q (params_if (procedure_of ds r))) [] (Some ty.Bool)) _ u h in
       let y = given_bind (elaborated b (unary ds q (result_if (procedure_of ds r))) [] (Some ty.Bool)) (λ (f : Term). given (x.0, f)) u x.2 in
       let pre = condition here (ambient ds q) [] (fits ds scoped q t ls rs) refl (before (procedure here r)) (params_if (procedure_of ds r)) (params_stand ds scoped q t ls rs r j (procedure_of ds r) refl) in
-      let post = condition here (ambient ds q) [] (fits ds scoped q t ls rs) refl (after (procedure here r)) (result_if (procedure_of ds r)) (result_stands ds scoped q t ls rs r j (procedure_of ds r) refl) in
       let z = elaborated_typed a (with_own here (before (procedure here r))) (unary ds q (params_if (procedure_of ds r))) [] pre (Some ty.Bool) tt x.0 x.1 in
-      let w = elaborated_typed b (with_own here (after (procedure here r))) (unary ds q (result_if (procedure_of ds r))) [] post (Some ty.Bool) tt y.0 y.1 in
-      subst (IsAround r) (given_is (x.0, y.0) u y.2) (record { typed = z.typed; truth = z.wanted }, record { typed = w.typed; truth = w.wanted })
+      subst (IsAround r) (given_is (x.0, y.0) u y.2) (record { typed = z.typed; truth = z.wanted }, after_typed ds scoped q t b r j y.0 y.1)
 
   abbrev Typed : Rule → Type 0
   Typed k = IsTypedRule here k ls rs (goal_of q.conclusion)
 
   others : (k : Rule) → IsOther k → Typed k
-  others (rule.Probability r) i = absurd i
+  others (rule.Probability (ByEquiv s)) i = absurd i
+  others (rule.Probability (ByPhoare s)) i = absurd i
   others _ i = tt
 
   -- `byphoare` and `byequiv` at a form
@@ -113,4 +114,5 @@ pub conditions_typed : (ds : scope.Declarations) → IsTypedScope (declared ds) 
     IsTypedRule (of_sequent (context_of (declared ds)) q t.frames) s.rule ls rs (goal_of q.conclusion)
 conditions_typed ds scoped q t n s h ls rs w =
     of_step ds q (λ k. IsTypedRule (of_sequent (context_of (declared ds)) q t.frames) k ls rs (goal_of q.conclusion)) (others ds scoped q t ls rs)
-    (of_call ds q (λ k. IsTypedRule (of_sequent (context_of (declared ds)) q t.frames) k ls rs (goal_of q.conclusion)) (λ s. tt) (λ a n f e. tt) tt) (by_typed ds scoped q t ls rs w) n s h
+    (of_call ds q (λ k. IsTypedRule (of_sequent (context_of (declared ds)) q t.frames) k ls rs (goal_of q.conclusion)) (λ s. tt) (λ a n f e. tt) tt) (by_typed ds scoped q t ls rs w)
+    (λ e. of_splitting ds q e (λ k. IsTypedRule (of_sequent (context_of (declared ds)) q t.frames) k ls rs (goal_of q.conclusion)) (λ f i u g. tt) tt) n s h

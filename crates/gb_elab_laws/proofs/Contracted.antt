@@ -46,6 +46,7 @@ use Rattle.gb_call_both.specs.Rows.{IsTypedRule}
 use Rattle.gb_call.proofs.LastCalls.{called_typed}
 use Rattle.gb_elab_laws.proofs.Conditions.{of_by}
 use Rattle.gb_elab_laws.proofs.Anew.{fits, params_stand, result_stands}
+use Rattle.gb_elab_laws.proofs.EventLaws.{of_splitting}
 use Rattle.gb_elab_laws.proofs.Forms.{elaborated_typed}
 use Rattle.gb_elab_laws.proofs.Given.{given_bind, given_is}
 use Rattle.gb_elab_laws.proofs.Judged.{condition as conditions}
@@ -196,4 +197,5 @@ pub call_step_typed : (ds : scope.Declarations) → IsTypedScope (declared ds) �
     IsTypedRule (of_sequent (context_of (declared ds)) q t.frames) s.rule ls rs (goal_of q.conclusion)
 call_step_typed ds scoped q t n s h ls rs w =
     of_step ds q (λ k. IsTypedRule (of_sequent (context_of (declared ds)) q t.frames) k ls rs (goal_of q.conclusion)) (others ds scoped q t ls rs) (call_typed ds scoped q t ls rs w)
-    (λ m n. of_by ds q m n (λ k. IsTypedRule (of_sequent (context_of (declared ds)) q t.frames) k ls rs (goal_of q.conclusion)) (λ b e z g. tt) (λ b e z g. tt) tt) n s h
+    (λ m n. of_by ds q m n (λ k. IsTypedRule (of_sequent (context_of (declared ds)) q t.frames) k ls rs (goal_of q.conclusion)) (λ b e z g. tt) (λ b e z g. tt) tt)
+    (λ e. of_splitting ds q e (λ k. IsTypedRule (of_sequent (context_of (declared ds)) q t.frames) k ls rs (goal_of q.conclusion)) (λ f i u g. tt) tt) n s h

@@ -56,6 +56,7 @@ use Rattle.gb_elab_laws.proofs.Anew.{conseq_rule_typed}
 use Rattle.gb_elab_laws.proofs.Contracts.{of_call}
 use Rattle.gb_elab_laws.proofs.Conditions.{of_by}
 use Rattle.gb_elab_laws.proofs.Transformings.{of_inlining, of_passing, of_placed}
+use Rattle.gb_elab_laws.proofs.EventLaws.{of_event_law, of_splitting}
 use Rattle.gb_elab_laws.proofs.Given.{given_bind, given_is}
 use Rattle.gb_elab_laws.proofs.Ends.{AreOfTheirTypes, occurring_in}
 use Rattle.gb_elab_laws.proofs.Fits.{goal_fits, one_fits, two_fit}
@@ -283,6 +284,8 @@ module _ (ds : scope.Declarations) (scoped : IsTypedScope (declared ds)) (q : Se
     of_rule text.RewriteOperator x (n ∷ []) p k h =
         let z = given_bind (defined_operator ds q n) (λ (y : List ℕ). given (rule.Rewrite (rewrite_rule.Unfold y))) k h in
         subst TypedAt (given_is (rule.Rewrite (rewrite_rule.Unfold z.0)) k z.2) tt
+    of_rule text.RewriteLaw x [] p k h = of_event_law TypedAt (λ l n. tt) (λ r. tt) (λ r. tt) x p k h
+    of_rule text.RewriteSplit x (e ∷ []) p k h = of_splitting ds q e TypedAt (λ f i u g. tt) tt k h
     of_rule text.Smt x hints p k h =
         let o = given_bind (all_hinted ds q hints) (λ (fs : List Term). given (rule.Smt fs)) k h in subst TypedAt (given_is (rule.Smt o.0) k o.2) tt
     of_rule text.Linear x hs p k h =

@@ -1,4 +1,4 @@
--- What commands `type` and `op` declare is typed.
+-- What commands `type`, `op` and `module type` declare is typed.
 use Rattle.std.specs.Prelude.{pred}
 use Rattle.std.proofs.Common.{◌≡◌, ℕ, ◌+◌, ◌<◌, ◌≤◌, Bool, true, false, ◌||◌, suc, if◌then◌else◌, List, [], ◌∷◌, ◌++◌, length, map, take, drop, Some, None, bytes_eq, refl, sym, subst, arith}
 use Rattle.gb_core.specs.declared.place.Place.{Place}
@@ -6,6 +6,7 @@ use Rattle.gb_core.specs.declared.ty.Ty.{Ty}
 use Rattle.gb_goal.specs.Answers.Answer.{given}
 use Rattle.gb_goal.specs.Scope as scope
 use Rattle.gb_goal.specs.Scope.{is_claim, entry_of, AreNew, ClaimNothing}
+use Rattle.gb_goal.specs.declared.module_type.ModuleType.{ModuleType}
 use Rattle.gb_goal.specs.declared.scope.Entry.{Entry}
 use Rattle.gb_goal.specs.declared.scope.Entry.TheVariants as entry
 use Rattle.gb_script.specs.declared.head.Head.{Head}
@@ -22,6 +23,7 @@ use Rattle.gb_elab_prog.specs.Types.{constants, enumeration, enumeration_type, n
 use Rattle.gb_elab_prog.specs.Fresh.{free}
 use Rattle.gb_elab_prog.specs.Contexts.{nothing_bound}
 use Rattle.gb_elab_prog.specs.Operators.{all_parameters, body, defined, operator_entry, undefined, written}
+use Rattle.gb_elab_prog.specs.ModuleTypes.{module_type_entries, parameters, signatures}
 use Rattle.gb_elab_prog.specs.Entries.{entries_by, entries_given}
 use Rattle.gb_elab_prog.proofs.New.{given_bind, given_is, entries_new}
 use Rattle.gb_elab_laws.proofs.Bodies.{IsOperatorIn, operator_typed}
@@ -35,9 +37,10 @@ use Rattle.gb_models.specs.Speaking.{ScopeSpeaks}
 use Rattle.gb_elab_laws.specs.Calling.{EntriesCall, EntryCalls}
 use Rattle.gb_elab_laws.specs.Fitting.{AreTypes}
 
--- an abstract type, a name of a type of values, or a constant
+-- an abstract type, a module type, a name of a type of values, or a constant
 abbrev pub IsGood : Entry → Type 0
 IsGood entry.AbstractType = Unit {0}
+IsGood (entry.ModuleType y) = Unit {0}
 IsGood (entry.Type t) = IsAbbreviation (for_type t)
 IsGood (entry.Constant c) = IsAbbreviation (for_value c)
 IsGood _ = ⊥
@@ -50,6 +53,7 @@ AreGood (d ∷ ds) = IsGood d.1 × AreGood ds
 good_speaks : (ds : scope.Declarations) → AreGood ds → ScopeSpeaks NoName (declared ds)
 good_speaks [] g = tt
 good_speaks ((k, entry.AbstractType) ∷ ds) g = (tt, good_speaks ds g.1)
+good_speaks ((k, entry.ModuleType y) ∷ ds) g = (tt, good_speaks ds g.1)
 good_speaks ((k, entry.Type t) ∷ ds) g = (tt, good_speaks ds g.1)
 good_speaks ((k, entry.Constant a) ∷ ds) g = (tt, good_speaks ds g.1)
 good_speaks ((k, entry.Module m) ∷ ds) g = absurd g.0
@@ -97,6 +101,18 @@ types_good ds names x head.TypeAlias (t ∷ []) p all e =
 types_good ds names x head.Enumeration (c ∷ cs) p all e = enumeration_good ds x (take 256 (c ∷ cs)) (drop 256 (c ∷ cs)) all (omega arith) e
 types_good ds names x _ ps p all e = cc
 
+-- one module type is declared
+module_type_is : (ds : scope.Declarations) (x : Node) (ps ts : List Node) (all : scope.Declarations) → module_type_entries ds x ps ts ≡ given all → (t : ModuleType) × (only x (entry.ModuleType t) ≡ all)
+unfolding module_type_entries
+module_type_is ds x ps ts all e =
+    let f = given_bind (free ds x) _ all e in
+    let a = given_bind (parameters ds [] ps) _ all f.2 in
+    let b = given_bind (signatures ds a.0 [] ts) _ all a.2 in
+    (record { params = a.0; signatures = b.0 }, given_is _ all b.2)
+
+module_type_good : (ds : scope.Declarations) (x : Node) (ps ts : List Node) (all : scope.Declarations) → module_type_entries ds x ps ts ≡ given all → AreGood all
+module_type_good ds x ps ts all e = let t = module_type_is ds x ps ts all e in subst AreGood t.1 (tt, tt)
+
 -- what no declaration has is declared by none
 undeclared : (ds : scope.Declarations) (n : Name) → entry_of ds n ≡ None → is_declared (declared ds) n ≡ false
 undeclared [] n e = refl
@@ -113,6 +129,11 @@ good_typed ds ((k, entry.AbstractType) ∷ added) c n g = (
   undeclared ds k n.0,
   tt,
   subst (λ z. AreTypedAfter c z (declared added)) (declared-append ds ((k, entry.AbstractType) ∷ [])) (good_typed (ds ++ (k, entry.AbstractType) ∷ []) added c n.1 g.1),
+)
+good_typed ds ((k, entry.ModuleType y) ∷ added) c n g = (
+  undeclared ds k n.0,
+  tt,
+  subst (λ z. AreTypedAfter c z (declared added)) (declared-append ds ((k, entry.ModuleType y) ∷ [])) (good_typed (ds ++ (k, entry.ModuleType y) ∷ []) added c n.1 g.1),
 )
 good_typed ds ((k, entry.Type t) ∷ added) c n g = (
   undeclared ds k n.0,
@@ -153,6 +174,9 @@ types_others ds x head.TypeAlias (t ∷ []) p all e =
 types_others ds x head.Enumeration (c ∷ cs) p all e = enumeration_others ds x (take 256 (c ∷ cs)) (drop 256 (c ∷ cs)) all e
 types_others ds x _ ps p all e = cc
 
+module_type_others : (ds : scope.Declarations) (x : Node) (ps ts : List Node) (all : scope.Declarations) → module_type_entries ds x ps ts ≡ given all → ClaimNothing all
+module_type_others ds x ps ts all e = let t = module_type_is ds x ps ts all e in subst ClaimNothing t.1 (refl, tt)
+
 -- an operator of a new name is typed
 operator_added : (ds : scope.Declarations) (x : Node) (e : Entry) → is_declared (declared ds) (text_of x) ≡ false → IsOperatorIn (context_of (declared ds)) e →
     AreTypedAfter (context_of (declared ds)) (declared ds) (declared (only x e))
@@ -162,6 +186,7 @@ operator_added ds x (entry.Module m) f w = absurd w
 operator_added ds x (entry.Lemma q order) f w = absurd w
 operator_added ds x (entry.Type t) f w = absurd w
 operator_added ds x entry.AbstractType f w = absurd w
+operator_added ds x (entry.ModuleType y) f w = absurd w
 operator_added ds x (entry.Constant a) f w = absurd w
 operator_added ds x (entry.Terminating a) f w = absurd w
 
@@ -172,6 +197,7 @@ operator_speaks c x (entry.Module m) w = absurd w
 operator_speaks c x (entry.Lemma q order) w = absurd w
 operator_speaks c x (entry.Type t) w = absurd w
 operator_speaks c x entry.AbstractType w = absurd w
+operator_speaks c x (entry.ModuleType y) w = absurd w
 operator_speaks c x (entry.Constant a) w = absurd w
 operator_speaks c x (entry.Terminating a) w = absurd w
 
@@ -217,6 +243,7 @@ by_head ds s head.OperatorDeclaration (x ∷ d ∷ []) p all e n =
     let b = given_bind (operator_entry ds (head_of d) (parts_of d) (place_of d)) _ all a.2 in
     subst (AreAdded ds) (given_is (only x b.0) all b.2)
     (operator_added ds x b.0 (free_is ds x a.0 a.1) (operator_typed ds (context_of (declared ds)) (declared_in ds s) (head_of d) (parts_of d) (place_of d) b.0 b.1))
+by_head ds s head.ModuleType (x ∷ ps ∷ ts ∷ []) p all e n = good_typed ds all (context_of (declared ds)) n (module_type_good ds x (parts_of ps) (parts_of ts) all e)
 by_head ds s _ ps p all e n = cc
 
 pub entries_typed : (ds : scope.Declarations) → IsTypedScope (declared ds) → (t : Node) (all : scope.Declarations) → entries_given ds t ≡ given all → IsTypedScope (declared (ds ++ all))
@@ -235,6 +262,7 @@ speaks_by_head ds s head.OperatorDeclaration (x ∷ d ∷ []) p all e =
     let b = given_bind (operator_entry ds (head_of d) (parts_of d) (place_of d)) _ all a.2 in
     subst (λ z. ScopeSpeaks NoName (declared z)) (given_is (only x b.0) all b.2)
     (operator_speaks (context_of (declared ds)) x b.0 (operator_typed ds (context_of (declared ds)) (declared_in ds s) (head_of d) (parts_of d) (place_of d) b.0 b.1))
+speaks_by_head ds s head.ModuleType (x ∷ ps ∷ ts ∷ []) p all e = good_speaks all (module_type_good ds x (parts_of ps) (parts_of ts) all e)
 speaks_by_head ds s _ ps p all e = cc
 
 pub entries_speak : (ds : scope.Declarations) → IsTypedScope (declared ds) → (t : Node) (all : scope.Declarations) → entries_given ds t ≡ given all → ScopeSpeaks NoName (declared all)
@@ -251,6 +279,7 @@ calls_by_head ds s head.OperatorDeclaration (x ∷ d ∷ []) p all e =
     let b = given_bind (operator_entry ds (head_of d) (parts_of d) (place_of d)) _ all a.2 in
     subst (λ z. EntriesCall (ds ++ z) z) (given_is (only x b.0) all b.2)
     (operator_calls (ds ++ only x b.0) (context_of (declared ds)) b.0 (operator_typed ds (context_of (declared ds)) (declared_in ds s) (head_of d) (parts_of d) (place_of d) b.0 b.1), tt)
+calls_by_head ds s head.ModuleType (x ∷ ps ∷ ts ∷ []) p all e = all_call (ds ++ all) all (module_type_good ds x (parts_of ps) (parts_of ts) all e)
 calls_by_head ds s _ ps p all e = cc
 
 pub entries_call : (ds : scope.Declarations) → IsTypedScope (declared ds) → (t : Node) (all : scope.Declarations) → entries_given ds t ≡ given all → EntriesCall (ds ++ all) all
@@ -264,6 +293,7 @@ others_by_head ds head.OperatorDeclaration (x ∷ d ∷ []) p all e =
     let a = given_bind (free ds x) _ all e in
     let b = given_bind (operator_entry ds (head_of d) (parts_of d) (place_of d)) _ all a.2 in
     subst ClaimNothing (given_is (only x b.0) all b.2) (operator_other ds (head_of d) (parts_of d) (place_of d) b.0 b.1, tt)
+others_by_head ds head.ModuleType (x ∷ ps ∷ ts ∷ []) p all e = module_type_others ds x (parts_of ps) (parts_of ts) all e
 others_by_head ds _ ps p all e = cc
 
 pub entries_others : (ds : scope.Declarations) (t : Node) (all : scope.Declarations) → entries_given ds t ≡ given all → ClaimNothing all

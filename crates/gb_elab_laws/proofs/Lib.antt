@@ -44,6 +44,7 @@ pub mod AboutNamed
 pub mod Used
 mod Brought
 pub mod Programs
+pub mod Made
 pub mod Members
 pub mod ModuleCalls
 pub mod Procedures
@@ -56,7 +57,10 @@ pub mod Transformings
 pub mod Betweens
 pub mod Compared
 pub mod Conditions
+pub mod EventLaws
+pub mod FirstProcedures
 pub mod Steps
+pub mod Events
 pub mod Conditioned
 pub mod Contracted
 pub mod Turning

@@ -4,7 +4,7 @@ use Rattle.std.specs.List.{list_any}
 use Rattle.std.proofs.lemmas.List.{append-nil, append_assoc}
 use Rattle.std.proofs.lemmas.Slice.Eq.{bytes_eq-Decides}
 use Rattle.gb_core.specs.declared.place.Place.{Place}
-use Rattle.gb_core.specs.declared.refusal.Why.TheVariants.{DoubleName, Syntax}
+use Rattle.gb_core.specs.declared.refusal.Why.TheVariants.{DoubleName}
 use Rattle.gb_core.specs.declared.ty.Ty.{Ty}
 use Rattle.gb_terms.specs.declared.decl.Module.{Module}
 use Rattle.gb_terms.specs.declared.decl.Proc.{Proc}
@@ -12,7 +12,6 @@ use Rattle.gb_terms.specs.declared.decl.TypedName.{TypedName}
 use Rattle.gb_terms.specs.declared.module.Mexp.{Mexp}
 use Rattle.gb_terms.specs.declared.module.Mexp.TheVariants.{Name as named, Apply'}
 use Rattle.gb_terms.specs.declared.module.ProcRef.{ProcRef}
-use Rattle.gb_goal.specs.Answers.{not_built}
 use Rattle.gb_goal.specs.Answers.Answer.{given}
 use Rattle.gb_goal.specs.Scope.{Declarations, as_module, entry_of, module_of, proc_at, proc_in, proc_of, procedure_of}
 use Rattle.gb_script.specs.declared.head.Head.{Head}
@@ -24,12 +23,10 @@ use Rattle.gb_meaning.specs.Written.{local_type}
 use Rattle.gb_laws.specs.Finite.{IsVariableType}
 use Rattle.gb_names.specs.Binders.{of_type}
 use Rattle.gb_names.specs.Types as spelled_as
-use Rattle.gb_elab_prog.specs.Bound.{parameters}
 use Rattle.gb_elab_prog.specs.Contexts.{nothing_around, taken, untaken}
 use Rattle.gb_elab_prog.specs.Fresh.{free}
-use Rattle.gb_elab_prog.specs.Modules.{all_short, empty_module, member_names, module_by, module_given, plain, with_globals, with_member, with_members, with_procedure}
+use Rattle.gb_elab_prog.specs.Modules.{empty_module, member_names, module_given, with_globals, with_member, with_members, with_procedure}
 use Rattle.gb_elab_prog.specs.Procedures.{procedure_by}
-use Rattle.gb_elab_prog.specs.Unbuilt.{absent}
 use Rattle.gb_holds.specs.Declared.{declared as declarations}
 use Rattle.gb_holds.specs.Modules.{Procedures}
 use Rattle.gb_typing.specs.Context.{Context, procedure}
@@ -42,10 +39,11 @@ use Rattle.gb_typing.proofs.Globals.{name_test, or_false}
 use Rattle.gb_typing.specs.Naming.{NoName}
 use Rattle.gb_models.specs.Speaking.{ProceduresSpeak}
 use Rattle.gb_elab_laws.specs.Fitting.{AreDeclared, HasGlobals, IsTypeOf}
-use Rattle.gb_elab_laws.proofs.Given.{given_bind, given_is, if_refused, none_some, not_given}
+use Rattle.gb_elab_laws.proofs.Given.{given_bind, given_is, if_refused, none_some}
 use Rattle.gb_elab_laws.proofs.Declared.{declared_in}
 use Rattle.gb_elab_laws.proofs.Fits.{declared_globals, declared_procedure, typed_among}
 use Rattle.gb_elab_laws.proofs.Found.{found}
+use Rattle.gb_elab_laws.proofs.Made.{module_made}
 use Rattle.gb_elab_laws.proofs.Programs.{have_both, procedure_typed}
 use Rattle.gb_elab_laws.proofs.Around.{IsAround}
 use Rattle.gb_elab_laws.proofs.Quantified.{variables_with}
@@ -311,35 +309,24 @@ free_is ds x y h = undeclared_is ds (text_of x) (if_refused (is_some (entry_of d
 abbrev IsNew : Declarations → Module → Type 0
 IsNew ds m = (IsTypedScope (declarations ds) → IsModule (context_of (declarations ds)) m.name m × ProceduresSpeak NoName m.procs) × (is_declared (declarations ds) m.name ≡ false)
 
-plain_typed : (ds : Declarations) (x : Node) (qs ys ts : List Node) (m : Module) → plain ds x qs ys ts ≡ given m → IsNew ds m
-unfolding plain
-plain_typed ds x qs ys ts m h =
-    let f = given_bind (free ds x) _ m h in
-    let a = given_bind (parameters ds x qs) _ m f.2 in
-    let b = given_bind (absent ys (place_of x)) _ m a.2 in
-    let ms = given_bind (with_members ds nothing_around (empty_module (text_of x)) ts) _ m b.2 in
-    let s = given_bind (all_short ts) _ m ms.2 in
-    let front = members_front ds (empty_module (text_of x)) ms.0 ts ms.1 in
-    let none = unnamed ds x f.0 f.1 in
-    subst (IsNew ds) {x = ms.0} (given_is ms.0 m s.2) (
+module_new : (ds : Declarations) (t : Node) (m : Module) → module_given ds t ≡ given m → IsNew ds m
+module_new ds t m h =
+    let from = module_made ds t m h in
+    let x = from.name in
+    let front = members_front ds (empty_module (text_of x)) m from.members from.made in (
       λ w.
           let part =
-          members_part ds (context_of (declarations ds)) ms.0 (subst (λ n. entry_of ds n ≡ None) front.name none) (declared_in ds w) (declared_globals ds w)
-          (λ f a k. declared_procedure ds w f.«module» f.name a k) front.params (empty_module (text_of x)) ts ms.1 (no_part _ _ _) in
-          (made (context_of (declarations ds)) ms.0 front.params part, part.speaks),
-      subst (λ n. is_declared (declarations ds) n ≡ false) front.name (free_is ds x f.0 f.1),
+          members_part ds (context_of (declarations ds)) m (subst (λ n. entry_of ds n ≡ None) front.name (unnamed ds x tt from.free)) (declared_in ds w) (declared_globals ds w)
+          (λ f a k. declared_procedure ds w f.«module» f.name a k) front.params (empty_module (text_of x)) from.members from.made (no_part _ _ _) in
+          (made (context_of (declarations ds)) m front.params part, part.speaks),
+      subst (λ n. is_declared (declarations ds) n ≡ false) front.name (free_is ds x tt from.free),
     )
 
-of_module_parts : (ds : Declarations) (k : Head) (xs : List Node) (p : Place) (m : Module) → module_by ds k xs p ≡ given m → IsNew ds m
-of_module_parts ds head.Module (x ∷ qs ∷ ys ∷ ts ∷ []) p m h = plain_typed ds x (parts_of qs) (parts_of ys) (parts_of ts) m h
-of_module_parts ds head.AscribedModule (x ∷ xs) p m h = let f = given_bind (free ds x) (λ _. not_built (place_of x)) m h in absurd (not_given Syntax (place_of x) m f.2)
-of_module_parts ds _ _ p m h = cc
-
 pub module_typed : (ds : Declarations) → IsTypedScope (declarations ds) → (t : Node) (m : Module) → module_given ds t ≡ given m → IsModule (context_of (declarations ds)) m.name m
-module_typed ds w t m h = ((of_module_parts ds (head_of t) (parts_of t) (place_of t) m h).0 w).0
+module_typed ds w t m h = ((module_new ds t m h).0 w).0
 
 pub module_speaks : (ds : Declarations) → IsTypedScope (declarations ds) → (t : Node) (m : Module) → module_given ds t ≡ given m → ProceduresSpeak NoName m.procs
-module_speaks ds w t m h = ((of_module_parts ds (head_of t) (parts_of t) (place_of t) m h).0 w).1
+module_speaks ds w t m h = ((module_new ds t m h).0 w).1
 
 pub module_free : (ds : Declarations) (t : Node) (m : Module) → module_given ds t ≡ given m → is_declared (declarations ds) m.name ≡ false
-module_free ds t m h = (of_module_parts ds (head_of t) (parts_of t) (place_of t) m h).1
+module_free ds t m h = (module_new ds t m h).1

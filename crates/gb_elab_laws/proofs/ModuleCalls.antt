@@ -3,13 +3,11 @@ use Rattle.std.proofs.Common.{◌≡◌, true, false, if◌then◌else◌, Bool,
 use Rattle.std.specs.List.{AllByRecursion}
 use Rattle.std.proofs.lemmas.Slice.Eq.{bytes_eq-Decides}
 use Rattle.gb_core.specs.declared.place.Place.{Place}
-use Rattle.gb_core.specs.declared.refusal.Why.TheVariants.{Syntax}
 use Rattle.gb_terms.specs.declared.decl.Module.{Module}
 use Rattle.gb_terms.specs.declared.decl.Proc.{Proc}
 use Rattle.gb_terms.specs.declared.module.Mexp.{Mexp}
 use Rattle.gb_terms.specs.declared.module.Mexp.TheVariants.{Name as named, Apply'}
 use Rattle.gb_terms.specs.declared.module.ProcRef.{ProcRef}
-use Rattle.gb_goal.specs.Answers.{not_built}
 use Rattle.gb_goal.specs.Answers.Answer.{given}
 use Rattle.gb_goal.specs.Scope.{Declarations, as_module, entry_of, proc_at, proc_in, proc_of, procedure_of}
 use Rattle.gb_goal.specs.declared.scope.Entry.{Entry}
@@ -21,15 +19,13 @@ use Rattle.gb_script.specs.Tree.{head_of, text_of, parts_of, place_of}
 use Rattle.gb_meaning.specs.Names.{Name}
 use Rattle.gb_names.specs.Binders.{of_type}
 use Rattle.gb_names.specs.Types.{type_of}
-use Rattle.gb_elab_prog.specs.Bound.{parameters}
 use Rattle.gb_elab_prog.specs.Contexts.{nothing_around, taken}
-use Rattle.gb_elab_prog.specs.Fresh.{free}
-use Rattle.gb_elab_prog.specs.Modules.{all_short, empty_module, member_names, module_by, module_given, plain, with_globals, with_member, with_members, with_procedure}
+use Rattle.gb_elab_prog.specs.Modules.{empty_module, member_names, module_given, with_globals, with_member, with_members, with_procedure}
 use Rattle.gb_elab_prog.specs.Procedures.{procedure_by}
-use Rattle.gb_elab_prog.specs.Unbuilt.{absent}
 use Rattle.gb_elab_laws.specs.Calling.{CallsDeclared, EntryCalls}
-use Rattle.gb_elab_laws.proofs.Given.{given_bind, given_is, none_some, not_given}
+use Rattle.gb_elab_laws.proofs.Given.{given_bind, given_is, none_some}
 use Rattle.gb_elab_laws.proofs.Judged.{in_module}
+use Rattle.gb_elab_laws.proofs.Made.{module_made}
 use Rattle.gb_elab_laws.proofs.Members.{IsFront, front_of, member_front, members_front, unnamed}
 use Rattle.gb_elab_laws.proofs.StatedCalls.{procedure_calls}
 
@@ -121,25 +117,9 @@ module _ (ds : Declarations) (m : Module) (new : entry_of ds m.name ≡ None) (a
       members_call n.0 ts n.2 (member_calls k n.0 (head_of t) (parts_of t) (place_of t) n.1 f c)
 
 -- the procedures of a module call those that are declared with it
-abbrev Calls : Declarations → Module → Type 0
-Calls ds m = EntryCalls (ds ++ (m.name, entry.Module m) ∷ []) (entry.Module m)
-
-plain_calls : (ds : Declarations) (x : Node) (qs ys ts : List Node) (m : Module) → plain ds x qs ys ts ≡ given m → Calls ds m
-unfolding plain
-plain_calls ds x qs ys ts m h =
-    let f = given_bind (free ds x) _ m h in
-    let a = given_bind (parameters ds x qs) _ m f.2 in
-    let b = given_bind (absent ys (place_of x)) _ m a.2 in
-    let ms = given_bind (with_members ds nothing_around (empty_module (text_of x)) ts) _ m b.2 in
-    let s = given_bind (all_short ts) _ m ms.2 in
-    let front = members_front ds (empty_module (text_of x)) ms.0 ts ms.1 in
-    subst (Calls ds) {x = ms.0} (given_is ms.0 m s.2)
-    (members_call ds ms.0 (subst (λ n. entry_of ds n ≡ None) front.name (unnamed ds x f.0 f.1)) (sym front.params) (empty_module (text_of x)) ts ms.1 tt)
-
-calls_by : (ds : Declarations) (k : Head) (xs : List Node) (p : Place) (m : Module) → module_by ds k xs p ≡ given m → Calls ds m
-calls_by ds head.Module (x ∷ qs ∷ ys ∷ ts ∷ []) p m h = plain_calls ds x (parts_of qs) (parts_of ys) (parts_of ts) m h
-calls_by ds head.AscribedModule (x ∷ xs) p m h = let f = given_bind (free ds x) (λ _. not_built (place_of x)) m h in absurd (not_given Syntax (place_of x) m f.2)
-calls_by ds _ _ p m h = cc
-
 pub module_calls : (ds : Declarations) (t : Node) (m : Module) → module_given ds t ≡ given m → EntryCalls (ds ++ (m.name, entry.Module m) ∷ []) (entry.Module m)
-module_calls ds t m h = calls_by ds (head_of t) (parts_of t) (place_of t) m h
+module_calls ds t m h =
+    let from = module_made ds t m h in
+    let x = from.name in
+    let front = members_front ds (empty_module (text_of x)) m from.members from.made in
+    members_call ds m (subst (λ n. entry_of ds n ≡ None) front.name (unnamed ds x tt from.free)) (sym front.params) (empty_module (text_of x)) from.members from.made tt

@@ -67,6 +67,7 @@ use Rattle.gb_elab_laws.proofs.Contracts.{of_call}
 use Rattle.gb_elab_laws.proofs.Conditions.{of_by}
 use Rattle.gb_elab_laws.proofs.Transformings.{of_inlining, of_passing, of_placed}
 use Rattle.gb_elab_laws.proofs.Turning.{of_while}
+use Rattle.gb_elab_laws.proofs.EventLaws.{of_event_law, of_splitting}
 use Rattle.gb_elab_laws.proofs.Given.{given_bind, given_is, if_given}
 use Rattle.gb_elab_laws.proofs.Ends.{AreOfTheirTypes, ends_agree, last_finite, occurring_in}
 use Rattle.gb_elab_laws.proofs.Fits.{function_fits, goal_fits}
@@ -317,6 +318,8 @@ module _ (ds : scope.Declarations) (scoped : IsTypedScope (declared ds)) (q : Se
       of_rule text.RewriteOperator x (n ∷ []) p k h =
           let z = given_bind (defined_operator ds q n) (λ (y : List ℕ). given (rule.Rewrite (rewrite_rule.Unfold y))) k h in
           other (rule.Rewrite (rewrite_rule.Unfold z.0)) k refl (given_is (rule.Rewrite (rewrite_rule.Unfold z.0)) k z.2)
+      of_rule text.RewriteLaw x [] p k h = of_event_law Asked (λ l n. tt) (λ r. tt) (λ r. tt) x p k h
+      of_rule text.RewriteSplit x (e ∷ []) p k h = of_splitting ds q e Asked (λ f i u g. tt) tt k h
       of_rule text.Smt x hints p k h =
           let o = given_bind (all_hinted ds q hints) (λ (fs : List Term). given (rule.Smt fs)) k h in other (rule.Smt o.0) k refl (given_is (rule.Smt o.0) k o.2)
       of_rule text.Linear x hs p k h =

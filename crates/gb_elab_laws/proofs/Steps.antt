@@ -13,6 +13,7 @@ use Rattle.gb_steps.specs.declared.step.AmbientRule.{AmbientRule}
 use Rattle.gb_steps.specs.declared.step.AmbientRule.TheVariants as conclusion
 use Rattle.gb_steps.specs.declared.step.BodyRule.TheVariants as on_bodies
 use Rattle.gb_steps.specs.declared.step.Multiple.{Multiple}
+use Rattle.gb_steps.specs.declared.step.ProbabilityRule.TheVariants.{ByEquiv, ByPhoare, ByEvents, Within}
 use Rattle.gb_steps.specs.declared.step.RelationalRule.{RelationalRule}
 use Rattle.gb_steps.specs.declared.step.RelationalRule.TheVariants as relational_rule
 use Rattle.gb_steps.specs.declared.step.RewriteRule.TheVariants as rewrite_rule
@@ -24,20 +25,24 @@ use Rattle.gb_script.specs.declared.head.Head.{Head as Kind}
 use Rattle.gb_script.specs.declared.head.Head.TheVariants as text
 use Rattle.gb_script.specs.declared.tree.Node.{Node}
 use Rattle.gb_script.specs.Tree.{head_of, text_of, parts_of, place_of}
+use Rattle.gb_chances.specs.First.{first_procedure}
 use Rattle.gb_elab_mod.specs.Multiples.{hypothesis_at, multiples, position}
-use Rattle.gb_elab_mod.specs.Steps.{acts, both_rule, by_rule, call_rule, case_of_bodies, case_of_conclusion, chance_rule, conclusion_rule, conseq_rule, coupling_rule, couplings, cut_of, drawing_rule, formed, functions_of, judges_chance, of_bodies_rule, on_all, plain_rule, seq_rule, sided_case_rule, step_given, typed_rule, witness_rule}
+use Rattle.gb_elab_mod.specs.Steps.{acts, both_rule, by_rule, call_rule, case_of_bodies, case_of_conclusion, chance_rule, conclusion_rule, conseq_rule, coupling_rule, couplings, cut_of, drawing_rule, formed, functions_of, judges_chance, of_bodies_rule, on_all, plain_rule, seq_rule, sided_case_rule, splitting_rule, step_given, typed_rule, witness_rule}
 use Rattle.gb_elab_mod.specs.Taken.{new_name}
 use Rattle.gb_elab_mod.specs.Uses.{all_hinted, defined_operator, hypothesis, used}
 use Rattle.gb_elab_prog.specs.Unbuilt.{absent}
 use Rattle.gb_elab_laws.proofs.Betweens.{of_transitive}
+use Rattle.gb_elab_laws.proofs.EventLaws.{BringsNone, of_event_law}
 use Rattle.gb_elab_laws.proofs.Given.{given_bind, given_is}
 use Rattle.gb_elab_laws.proofs.Transformings.{of_inlining, of_passing, of_placed}
 use Rattle.gb_elab_laws.proofs.Turning.{of_while}
 
--- a step of another kind than one by what is said of procedures
+-- a step of another kind than one by what is said of procedures, or of what stands after them
 abbrev pub IsOther : Rule → Type 0
 IsOther (rule.Call s) = ⊥
-IsOther (rule.Probability r) = ⊥
+IsOther (rule.Probability (ByEquiv s)) = ⊥
+IsOther (rule.Probability (ByPhoare s)) = ⊥
+IsOther (rule.Rewrite (rewrite_rule.Law l)) = BringsNone l
 IsOther _ = Unit {0}
 
 coupling_other : (b : Bool) (fs : List Node) (us : List Term) → IsOther (coupling_rule b fs us)
@@ -61,7 +66,8 @@ both_other r on.Right = tt
 -- What holds of each step of another kind, and of those that are made of what is said of procedures, holds of each typed step.
 module _ (ds : Declarations) (q : Sequent) (P : Rule → Type 0) (others : (k : Rule) → IsOther k → P k)
     (called : (a : Acts) (j : Kind) (ns : List Node) (p : Place) (k : Rule) → call_rule ds q a j ns p ≡ given k → P k)
-    (compared : (m n : Node) (x : List ℕ) (p : Place) (k : Rule) → by_rule ds q x m n p ≡ given k → P k) where
+    (compared : (m n : Node) (x : List ℕ) (p : Place) (k : Rule) → by_rule ds q x m n p ≡ given k → P k)
+    (divided : (e : Node) (k : Rule) → splitting_rule ds q e (first_procedure q.conclusion) ≡ given k → P k) where
   other : (j k : Rule) → IsOther j → given j ≡ given k → P k
   other j k i h = subst P (given_is j k h) (others j i)
 
@@ -131,6 +137,8 @@ module _ (ds : Declarations) (q : Sequent) (P : Rule → Type 0) (others : (k : 
       let y = given_bind (hypothesis_at ds q (text_of n) (place_of n)) (λ (i : ℕ). given (rule.Rewrite (rewrite_rule.Subst i))) k h in other (rule.Rewrite (rewrite_rule.Subst y.0)) k tt y.2
   of_rule text.RewriteOperator x (n ∷ []) p k h =
       let y = given_bind (defined_operator ds q n) (λ (z : List ℕ). given (rule.Rewrite (rewrite_rule.Unfold z))) k h in other (rule.Rewrite (rewrite_rule.Unfold y.0)) k tt y.2
+  of_rule text.RewriteLaw x [] p k h = of_event_law P (λ l n. others (rule.Rewrite (rewrite_rule.Law l)) n) (λ r. others (rule.Probability (ByEvents r)) tt) (λ r. others (rule.Probability (Within r)) tt) x p k h
+  of_rule text.RewriteSplit x (e ∷ []) p k h = divided e k h
   of_rule text.Smt x hints p k h =
       let y = given_bind (all_hinted ds q hints) (λ (fs : List Term). given (rule.Smt fs)) k h in other (rule.Smt y.0) k tt y.2
   of_rule text.Linear x hs p k h =

@@ -86,6 +86,7 @@ lemma_in ((k, d) ∷ es) x l e = by_name (bytes_eq x k) (lemma_in es x l) e
     further (entry.Module m) w = w
     further (entry.Type t) w = w
     further entry.AbstractType w = w
+    further (entry.ModuleType y) w = w
     further (entry.Constant c) w = w
     further (entry.Operator o) w = w
     further (entry.AbstractOperator o) w = w

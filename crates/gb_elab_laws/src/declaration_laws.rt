@@ -24,7 +24,7 @@ ghost use Rattle.gb_elab_prog.specs.Entries.{entries_given};
 ghost use Rattle.gb_elab_mod.specs.Lemmas.{lemma_name, statement_given};
 ghost use Rattle.gb_elab_prog.specs.Modules.{module_given};
 
-/// A typed scope stays typed with what a command `type` or `op` declares, none of which is a lemma. It speaks of no module's
+/// A typed scope stays typed with what a command `type`, `op` or `module type` declares, none of which is a lemma. It speaks of no module's
 /// globals together, and declares no module.
 pub fn entries()
     ensures added { (ds : scope.Declarations) → IsTypedScope (declared ds) → (t : Node) (added : scope.Declarations) → entries_given ds t ≡ given added →

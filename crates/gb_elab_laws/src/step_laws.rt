@@ -3,21 +3,24 @@
 ghost use Rattle.std.specs.Prelude.{◌≡◌, List};
 ghost use Rattle.std.specs.List.{AllByRecursion};
 ghost use Rattle.gb_terms.specs.declared.decl.TypedName.{TypedName};
+ghost use Rattle.gb_terms.specs.declared.module.ProcRef.{ProcRef};
 ghost use Rattle.gb_terms.specs.declared.op.Side.{Side};
 ghost use Rattle.gb_terms.specs.declared.term.Term.{Term};
 ghost use Rattle.gb_script.specs.declared.tree.Node.{Node};
 ghost use Rattle.gb_goal.specs.Scope as scope;
 ghost use Rattle.gb_goal.specs.declared.sequent.Sequent.{Sequent};
 ghost use Rattle.gb_steps.specs.declared.step.AmbientRule.{AmbientRule};
-ghost use Rattle.gb_steps.specs.declared.step.Rule.TheVariants.{Ambient, Use};
+ghost use Rattle.gb_steps.specs.declared.step.Rule.TheVariants.{Ambient, Rewrite, Use};
+ghost use Rattle.gb_steps.specs.declared.step.EventLaw.TheVariants.{Split};
+ghost use Rattle.gb_steps.specs.declared.step.RewriteRule.TheVariants.{Law};
 ghost use Rattle.gb_steps.specs.declared.step.UseRule.{UseRule};
 ghost use Rattle.gb_steps.specs.Told.{told};
 ghost use Rattle.gb_steps.specs.declared.step.Step.{Step};
 ghost use Rattle.gb_goal.specs.Answers.Answer.{given};
 ghost use Rattle.gb_goal.specs.Goal.{goal_of};
 ghost use Rattle.gb_holds.specs.Declared.{declared};
-ghost use Rattle.gb_typing.specs.Context.{Context, frame_of};
-ghost use Rattle.gb_typing.specs.Typing.{IsForm, IsTyped};
+ghost use Rattle.gb_typing.specs.Context.{Context, frame_of, procedure, with_own};
+ghost use Rattle.gb_typing.specs.Typing.{IsForm, IsTyped, after};
 ghost use Rattle.gb_typing.specs.Sequents.{of_sequent, IsTypedSequent};
 ghost use Rattle.gb_typing.specs.Scopes.{context_of, IsTypedScope};
 ghost use Rattle.gb_typing.specs.Goals.{IsGoalOver};
@@ -63,7 +66,7 @@ pub fn typed_rules()
 /// The form that a typed step on a conclusion brings to a typed goal of a typed scope is typed in the goal's context, in which a memory may
 /// then have further locals; and so is, in its context as it is, the form that a step uses, which is what a hypothesis of the goal says of
 /// typed terms, or a lemma, where lemmas state typed goals about procedures; so are the forms that `smt` is told to use, and those by which
-/// equals are put for equals.
+/// equals are put for equals. The event by which a probability is split is typed after its procedure.
 pub fn typed_forms()
     ensures conclusions { (ds : scope.Declarations) → IsTypedScope (declared ds) → (q : Sequent) (t : IsTypedSequent (context_of (declared ds)) q) →
         (n : Node) (s : Step) → step_given ds q n ≡ given s → (r : AmbientRule) → s.rule ≡ Ambient r →
@@ -74,4 +77,7 @@ pub fn typed_forms()
     ensures hints { (ds : scope.Declarations) → IsTypedScope (declared ds) → AreStated ds → (q : Sequent) (t : IsTypedSequent (context_of (declared ds)) q) →
         (n : Node) (s : Step) → step_given ds q n ≡ given s →
         AllByRecursion (λ f. IsForm (of_sequent (context_of (declared ds)) q t.frames) f × IsKnown (declared ds) q (of_sequent (context_of (declared ds)) q t.frames) f) (told s.rule) }
+    ensures events { (ds : scope.Declarations) → IsTypedScope (declared ds) → (q : Sequent) (t : IsTypedSequent (context_of (declared ds)) q) →
+        (n : Node) (s : Step) → step_given ds q n ≡ given s → (p : ProcRef) (f : Term) → s.rule ≡ Rewrite (Law (Split p f)) →
+        IsForm (with_own (of_sequent (context_of (declared ds)) q t.frames) (after (procedure (of_sequent (context_of (declared ds)) q t.frames) p))) f }
 {}

@@ -41,10 +41,13 @@ use Rattle.gb_goal.specs.Goal.Goal.{hoare, phoare, equiv}
 use Rattle.gb_steps.specs.declared.step.ProbabilityRule.TheVariants as probability_rule
 use Rattle.gb_steps.specs.declared.step.Conditions.{Conditions}
 use Rattle.gb_chances.specs.Chances.{Bounded, Compared, bounded_of, chances_of}
+use Rattle.gb_chances.specs.First.{first_procedure}
 use Rattle.gb_steps.specs.declared.step.RelationalRule.{RelationalRule}
 use Rattle.gb_steps.specs.declared.step.RelationalRule.TheVariants as relational_rule
 use Rattle.gb_steps.specs.declared.step.Step.{Step}
 use Rattle.gb_steps.specs.declared.step.RewriteRule.TheVariants as rewrite_rule
+use Rattle.gb_steps.specs.declared.step.EventLaw.TheVariants as event_law
+use Rattle.gb_terms.specs.declared.op.Rel.TheVariants as rel
 use Rattle.gb_steps.specs.declared.step.UseRule.TheVariants as use_rule
 use Rattle.gb_goal.specs.Goal.{judges_bodies}
 use Rattle.gb_goal.specs.Scope.{Declarations, procedure_of}
@@ -494,6 +497,30 @@ transforming_rule text.Swap x (b ∷ n ∷ way ∷ []) p = passing_rule (acts (p
 transforming_rule text.PositionStep x (b ∷ n ∷ []) p = placed_rule x (acts (parts_of b)) (position n) p
 transforming_rule k x ps p = pattern k x ps p
 
+-- a law of events, by its name
+abbrev pub event_law_rule : List ℕ → Place → Answer Rule
+event_law_rule x p =
+    if bytes_eq x (codes "mu_or") then given (rule.Rewrite (rewrite_rule.Law event_law.Or))
+    else if bytes_eq x (codes "mu_not") then given (rule.Rewrite (rewrite_rule.Law event_law.Not))
+    else if bytes_eq x (codes "mu_false") then given (rule.Rewrite (rewrite_rule.Law event_law.False))
+    else if bytes_eq x (codes "mu_eq") then given (rule.Probability (probability_rule.ByEvents rel.Equal))
+    else if bytes_eq x (codes "mu_sub") then given (rule.Probability (probability_rule.ByEvents rel.AtMost))
+    else if bytes_eq x (codes "mu_ge0") then given (rule.Probability (probability_rule.Within rel.AtLeast))
+    else if bytes_eq x (codes "mu_le1") then given (rule.Probability (probability_rule.Within rel.AtMost)) else not_built p
+
+-- The event by which the first probability of the conclusion is split, of which this is the procedure. Where there is none it has no type.
+unfoldable pub splitting_rule : Declarations → Sequent → Node → Option ProcRef → Answer Rule
+splitting_rule ds g e (Some f) = do
+  t ← elaborated e (unary ds g (result_if (procedure_of ds f))) [] (Some bool_ty)
+  given (rule.Rewrite (rewrite_rule.Law (event_law.Split f t)))
+splitting_rule ds g e None = given (rule.OnBodies on_bodies.Unfit)
+
+-- a law of events, a transformation of a program, or a pattern
+abbrev pub event_rule : Declarations → Sequent → Kind → List ℕ → List Node → Place → Answer Rule
+event_rule ds g text.RewriteLaw x [] p = event_law_rule x p
+event_rule ds g text.RewriteSplit x (e ∷ []) p = splitting_rule ds g e (first_procedure g.conclusion)
+event_rule ds g k x ps p = transforming_rule k x ps p
+
 -- a rule that puts equals for equals, a transformation of a program, or a pattern
 abbrev pub equals_rule : Declarations → Sequent → Kind → List ℕ → List Node → Place → Answer Rule
 equals_rule ds g text.RewriteLemma x (t ∷ []) p = do
@@ -511,7 +538,7 @@ equals_rule ds g text.Subst x (n ∷ []) p = do
 equals_rule ds g text.RewriteOperator x (n ∷ []) p = do
   y ← defined_operator ds g n
   given (rule.Rewrite (rewrite_rule.Unfold y))
-equals_rule ds g k x ps p = transforming_rule k x ps p
+equals_rule ds g k x ps p = event_rule ds g k x ps p
 
 -- a rule that uses what is known, one that puts equals for equals, a transformation of a program, or a pattern
 abbrev pub used_rule : Declarations → Sequent → Kind → List ℕ → List Node → Place → Answer Rule

@@ -8,7 +8,7 @@ ghost use Rattle.gb_core.specs.declared.ty.Ty.TheVariants.{Bool};
 ghost use Rattle.gb_goal.specs.Scope.{procedure_of};
 ghost use Rattle.gb_goal.specs.Views.{goal_seen};
 ghost use Rattle.gb_elab.specs.Forms.{elaborated};
-ghost use Rattle.gb_names.specs.Environment.{relational};
+ghost use Rattle.gb_names.specs.Environment.{relational, unary};
 ghost use Rattle.gb_elab_mod.specs.Steps.{call_rule, contract_at, contract_of, contract_of_both, contract_on, last_procedure, params_if, procedure_called, related, result_if, said_around};
 
 use crate::uses::used;
@@ -80,6 +80,40 @@ pub struct Said<'a> {
     pub post: &'a Node,
 }
 
+/// A form over the parameters of a procedure.
+fn said_before(
+    alloc: Global,
+    scope: &Scope,
+    goal: &Sequent,
+    said: &Node,
+    procedure: &ProcRef,
+) -> Result<Form, Refused>
+    ensures { Answers (elaborated said.now (unary scope.now goal.now (params_if (procedure_of scope.now procedure.now))) [] (Some Bool)) result }
+{
+    let params = params_if(alloc, scope.procedure(procedure))?;
+    let before = Setting::unary(scope, goal, params.as_slice());
+    typed(alloc, &before, &[], said, Some(&Ty::Bool))
+}
+
+/// A form over its result.
+///
+/// # Errors
+///
+/// Those of typing.
+pub fn said_after(
+    alloc: Global,
+    scope: &Scope,
+    goal: &Sequent,
+    said: &Node,
+    procedure: &ProcRef,
+) -> Result<Form, Refused>
+    ensures { Answers (elaborated said.now (unary scope.now goal.now (result_if (procedure_of scope.now procedure.now))) [] (Some Bool)) result }
+{
+    let result = result_if(alloc, scope.procedure(procedure))?;
+    let after = Setting::unary(scope, goal, result.as_slice());
+    typed(alloc, &after, &[], said, Some(&Ty::Bool))
+}
+
 /// What is said before and after one procedure: a form over its parameters, and one over its result.
 ///
 /// # Errors
@@ -95,12 +129,8 @@ pub fn said_around(
 ) -> Result<(Form, Form), Refused>
     ensures { Answers (said_around scope.now goal.now said.entry.pre.now said.entry.post.now procedure.now) result }
 {
-    let params = params_if(alloc, scope.procedure(procedure))?;
-    let result = result_if(alloc, scope.procedure(procedure))?;
-    let before = Setting::unary(scope, goal, params.as_slice());
-    let pre = typed(alloc, &before, &[], said.pre, Some(&Ty::Bool))?;
-    let after = Setting::unary(scope, goal, result.as_slice());
-    let post = typed(alloc, &after, &[], said.post, Some(&Ty::Bool))?;
+    let pre = said_before(alloc, scope, goal, said.pre, procedure)?;
+    let post = said_after(alloc, scope, goal, said.post, procedure)?;
     Ok((pre, post))
 }
 

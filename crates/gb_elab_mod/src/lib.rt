@@ -9,6 +9,7 @@ pub mod contract;
 pub mod couplings;
 pub mod cut;
 pub mod equals;
+mod events;
 pub mod lemma;
 pub mod multiples;
 pub mod occurring;

@@ -5,7 +5,7 @@ ghost use Rattle.gb_script.specs.Tree.{parts_of};
 ghost use Rattle.gb_elab_prog.specs.Unbuilt.{absent};
 ghost use Rattle.gb_goal.specs.Answers.{Answers, ◌>>=◌ as ◌and_then◌};
 ghost use Rattle.gb_goal.specs.Answers.Answer.{given};
-ghost use Rattle.gb_elab_mod.specs.Steps.{acts, both_rule, chance_rule, equals_rule, looping_rule, named_rule, on_all, pattern, plain_rule, step_given, transforming_rule, typed_rule, used_rule};
+ghost use Rattle.gb_elab_mod.specs.Steps.{acts, both_rule, chance_rule, equals_rule, event_rule, looping_rule, named_rule, on_all, pattern, plain_rule, step_given, transforming_rule, typed_rule, used_rule};
 
 use crate::between::transitive_rule;
 use crate::conclusions::{conclusion_rule, have_rule, sided_case_rule};
@@ -14,6 +14,7 @@ use crate::contract::call_rule;
 use crate::couplings::{drawing_rule, functions_of};
 use crate::cut::{Cutting, position, seq_rule, while_rule};
 use crate::equals::{opening, rewriting, rewriting_back, rewriting_by_name, substitution};
+use crate::events::{event_law_rule, splitting_rule};
 use crate::multiples::linear_rule;
 use crate::probabilities::by_rule;
 use crate::transforming::{inlining_rule, passing_rule, placed_rule};
@@ -201,7 +202,32 @@ fn transforming_rule(
     }
 }
 
-/// The rule of a step that puts equals for equals, of a transformation of a program, or of a pattern.
+/// The rule of a law of events, of a transformation of a program, or of a pattern.
+fn event_rule(
+    alloc: Global,
+    scope: &Scope,
+    goal: &Sequent,
+    head: Head,
+    text: &Name,
+    parts: &[Node],
+    place: Place,
+) -> Result<Rule, Refused>
+    ensures { Answers (event_rule scope.now goal.now head text.now parts.now place) result }
+{
+    match head {
+        Head::RewriteLaw => match parts {
+            [] => event_law_rule(text, place),
+            _ => Err(not_built(place)),
+        },
+        Head::RewriteSplit => match parts {
+            [event] => splitting_rule(alloc, scope, goal, event),
+            _ => Err(not_built(place)),
+        },
+        _ => transforming_rule(alloc, head, text, parts, place),
+    }
+}
+
+/// The rule of a step that puts equals for equals, of a law of events, of a transformation of a program, or of a pattern.
 fn equals_rule(
     alloc: Global,
     scope: &Scope,
@@ -234,11 +260,12 @@ fn equals_rule(
             [operator] => opening(alloc, scope, goal, operator),
             _ => Err(not_built(place)),
         },
-        _ => transforming_rule(alloc, head, text, parts, place),
+        _ => event_rule(alloc, scope, goal, head, text, parts, place),
     }
 }
 
-/// The rule of a step that uses what is known or puts equals for equals, of a transformation of a program, or of a pattern.
+/// The rule of a step that uses what is known or puts equals for equals, of a law of events, of a transformation of a program, or of a
+/// pattern.
 fn used_rule(
     alloc: Global,
     scope: &Scope,

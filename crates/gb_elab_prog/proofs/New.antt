@@ -1,4 +1,4 @@
--- What commands `type` and `op` declare stands under new names.
+-- What commands `type`, `op` and `module type` declare stands under new names.
 use Rattle.std.proofs.Common.{◌≡◌, ℕ, Bool, true, false, ◌||◌, suc, if◌then◌else◌, List, [], ◌∷◌, ◌++◌, length, take, drop, Option, Some, None, is_some, bytes_eq, refl, ap, ◌∙◌, subst}
 use Rattle.std.specs.Prelude.{Result, Ok, Err, IfOk}
 use Rattle.gb_core.specs.declared.place.Place.{Place}
@@ -17,6 +17,7 @@ use Rattle.gb_script.specs.Tree.{head_of, text_of, parts_of, place_of}
 use Rattle.gb_names.specs.Types.{type_of}
 use Rattle.gb_elab_prog.specs.Fresh.{free}
 use Rattle.gb_elab_prog.specs.Types.{constants, enumeration, enumeration_type, new, only, type_entries, without}
+use Rattle.gb_elab_prog.specs.ModuleTypes.{module_type_entries, parameters, signatures}
 use Rattle.gb_elab_prog.specs.Operators.{operator_entry}
 use Rattle.gb_elab_prog.specs.Entries.{entries_by, entries_given}
 
@@ -89,6 +90,15 @@ type_new ds x _ ps p all k e = cc
 free_none : (ds : Declarations) (x : Node) (y : Unit {0}) → free ds x ≡ given y → entry_of ds (text_of x) ≡ None
 free_none ds x y e = none_of _ (if_refused (is_some (entry_of ds (text_of x))) _ _ (given tt) y e)
 
+module_type_new : (ds : Declarations) (x : Node) (qs ss : List Node) (all : Declarations) → module_type_entries ds x qs ss ≡ given all → AreNew ds all
+unfolding module_type_entries
+module_type_new ds x qs ss all e =
+    let a = given_bind (free ds x) _ all e in
+    let b = given_bind (parameters ds [] qs) _ all a.2 in
+    let c = given_bind (signatures ds b.0 [] ss) _ all b.2 in
+    let t : Entry = entry.ModuleType (record { params = b.0; signatures = c.0 }) in
+    subst (AreNew ds) (given_is (only x t) all c.2) (only_new ds x t (free_none ds x a.0 a.1))
+
 by_head : (ds : Declarations) (h : Head) (ps : List Node) (p : Place) (all : Declarations) → entries_by ds h ps p ≡ given all → AreNew ds all
 by_head ds head.TypeDeclaration (x ∷ d ∷ []) p all e =
     let a = given_bind (free ds x) _ all e in type_new ds x (head_of d) (parts_of d) (place_of d) all (free_none ds x a.0 a.1) a.2
@@ -96,6 +106,7 @@ by_head ds head.OperatorDeclaration (x ∷ d ∷ []) p all e =
     let a = given_bind (free ds x) _ all e in
     let b = given_bind (operator_entry ds (head_of d) (parts_of d) (place_of d)) _ all a.2 in
     subst (AreNew ds) (given_is (only x b.0) all b.2) (only_new ds x b.0 (free_none ds x a.0 a.1))
+by_head ds head.ModuleType (x ∷ qs ∷ ss ∷ []) p all e = module_type_new ds x (parts_of qs) (parts_of ss) all e
 by_head ds _ _ p all e = cc
 
 pub entries_new : (ds : Declarations) (t : Node) (all : Declarations) → entries_given ds t ≡ given all → AreNew ds all

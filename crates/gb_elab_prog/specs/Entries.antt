@@ -1,4 +1,4 @@
--- What commands `type` and `op` declare.
+-- What commands `type`, `op` and `module type` declare.
 use Rattle.std.specs.Prelude.{List, [], ◌∷◌}
 use Rattle.gb_core.specs.declared.place.Place.{Place}
 use Rattle.gb_goal.specs.Answers.{Answer, ◌>>=◌, not_built}
@@ -10,6 +10,7 @@ use Rattle.gb_script.specs.declared.tree.Node.{Node}
 use Rattle.gb_script.specs.Tree.{head_of, parts_of, place_of}
 use Rattle.gb_elab_prog.specs.Fresh.{free}
 use Rattle.gb_elab_prog.specs.Types.{only, type_entries}
+use Rattle.gb_elab_prog.specs.ModuleTypes.{module_type_entries}
 use Rattle.gb_elab_prog.specs.Operators.{operator_entry}
 
 -- an operator of a new name
@@ -26,6 +27,7 @@ entries_by ds head.TypeDeclaration (x ∷ d ∷ []) p = do
   _ ← free ds x
   type_entries ds x (head_of d) (parts_of d) (place_of d)
 entries_by ds head.OperatorDeclaration (x ∷ d ∷ []) p = operator_entries ds x d
+entries_by ds head.ModuleType (x ∷ qs ∷ ss ∷ []) p = module_type_entries ds x (parts_of qs) (parts_of ss)
 entries_by ds _ _ p = not_built p
 
 -- what a command of a script declares

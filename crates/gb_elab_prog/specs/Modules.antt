@@ -18,7 +18,9 @@ use Rattle.gb_names.specs.Types.{type_of}
 use Rattle.gb_elab_prog.specs.Procedures.{procedure_by}
 use Rattle.gb_elab_stmt.specs.Statements.{places}
 use Rattle.gb_elab_prog.specs.Bound.{parameters}
-use Rattle.gb_elab_prog.specs.Unbuilt.{absent}
+use Rattle.gb_elab_prog.specs.Meets.{Stated, meets}
+use Rattle.gb_elab_prog.specs.ModuleTypes.{module_type_at}
+use Rattle.gb_elab_stmt.specs.Targets.{spelled_by}
 
 -- the names of the members of a module
 abbrev pub member_names : Module → List (List ℕ)
@@ -64,21 +66,40 @@ all_short (t ∷ ts) = short (head_of t) (parts_of t) >>= λ _. all_short ts
 abbrev pub empty_module : List ℕ → Module
 empty_module x = record { name = x; params = []; globals = []; procs = [] }
 
--- a module of this name, without parameters and a type; sizes are tested behind types
+-- the module type that a module states
+abbrev pub stated : Declarations → List Node → Answer (Option Stated)
+stated ds [] = given None
+stated ds (t ∷ ts) = module_type_at ds t >>= λ u. given (Some (record { name = spelled_by t; asked = u; place = place_of t }))
+
+-- A module of this name with its members: it meets the module type that it states, which is tested behind all types, and sizes behind that.
+unfoldable pub with_body : Declarations → Node → Option Stated → List Node → Answer Module
+with_body ds x o ts = do
+  made ← with_members ds nothing_around (empty_module (text_of x)) ts
+  _ ← meets made o
+  _ ← all_short ts
+  given made
+
+-- a module of this name without parameters, behind which its type may stand
 unfoldable pub plain : Declarations → Node → List Node → List Node → List Node → Answer Module
 plain ds x qs m ts = do
   _ ← free ds x
   _ ← parameters ds x qs
-  _ ← absent m (place_of x)
-  made ← with_members ds nothing_around (empty_module (text_of x)) ts
-  _ ← all_short ts
-  given made
+  o ← stated ds m
+  with_body ds x o ts
 
--- a module by its head and its parts; one with a type of its own isn't built, and the last clause takes what isn't either,
--- with trees of another shape, of which the reader builds none, since each of its trees is well-sorted
+-- .. whose type stands in front of them
+unfoldable pub ascribed : Declarations → Node → Node → List Node → List Node → Answer Module
+ascribed ds x t qs ts = do
+  _ ← free ds x
+  o ← stated ds (t ∷ [])
+  _ ← parameters ds x qs
+  with_body ds x o ts
+
+-- a module by its head and its parts; the last clause takes what isn't built, with trees of another shape, of which the reader builds none,
+-- since each of its trees is well-sorted
 abbrev pub module_by : Declarations → Head → List Node → Place → Answer Module
 module_by ds head.Module (x ∷ qs ∷ m ∷ ts ∷ []) p = plain ds x (parts_of qs) (parts_of m) (parts_of ts)
-module_by ds head.AscribedModule (x ∷ xs) p = free ds x >>= λ _. not_built (place_of x)
+module_by ds head.AscribedModule (x ∷ t ∷ qs ∷ ts ∷ []) p = ascribed ds x t (parts_of qs) (parts_of ts)
 module_by ds _ _ p = not_built p
 
 -- the typed tree of a module

@@ -1,4 +1,4 @@
-// What commands `type` and `op` declare.
+// What commands `type`, `op` and `module type` declare.
 
 ghost use Rattle.std.specs.Prelude.{◌≡◌, IfOk};
 ghost use Rattle.gb_script.specs.Tree.{head_of, parts_of};
@@ -7,6 +7,7 @@ ghost use Rattle.gb_goal.specs.Answers.{Answers};
 ghost use Rattle.gb_elab_prog.specs.Entries.{entries_by, entries_given, operator_entries};
 
 use crate::fresh::refuse_declared;
+use crate::module_types::module_type_entries;
 use crate::operators::operator_entry;
 use crate::types::{only, type_entries};
 use gb_core::place::Place;
@@ -17,11 +18,12 @@ use gb_script::head::Head;
 use gb_script::tree::Node;
 use std::alloc::Global;
 
-/// What a command `type` or `op` declares: a type, with the constants of an enumeration behind it, or an operator.
+/// What a command `type`, `op` or `module type` declares: a type, with the constants of an enumeration behind it, an operator, or a module
+/// type.
 ///
 /// # Errors
 ///
-/// `DoubleName` at a name that is declared; those of types and of operators.
+/// `DoubleName` at a name that is declared; those of types, of operators and of `module_type_entries`.
 #[tactic(auto, using(crate::proofs::New::new_if_given))]
 pub fn entries(alloc: Global, scope: &Scope, tree: &Node) -> Result<Entries, Refused>
     ensures answer { Answers (entries_given scope.now tree.now) result }
@@ -57,6 +59,16 @@ fn entries_by(
         },
         Head::OperatorDeclaration => match parts {
             [name, body] => operator(alloc, scope, name, body),
+            _ => Err(not_built(place)),
+        },
+        Head::ModuleType => match parts {
+            [name, parameters, signatures] => {
+                let (parameters, signatures) = (
+                    parameters.parts.as_slice(),
+                    signatures.parts.as_slice(),
+                );
+                module_type_entries(alloc, scope, name, parameters, signatures)
+            }
             _ => Err(not_built(place)),
         },
         _ => Err(not_built(place)),

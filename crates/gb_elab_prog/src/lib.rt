@@ -1,12 +1,14 @@
-//! Typing of types and operators, of the binders of lemmas, and of modules with their procedures and statements.
+//! Typing of types and operators, of the binders of lemmas, of module types, and of modules with their procedures and statements.
 #![tactic(auto)]
 
 pub mod bound;
 pub mod context;
 pub mod entries;
 pub mod fresh;
+pub mod meets;
 pub mod members;
 pub mod module;
+pub mod module_types;
 pub mod operators;
 pub mod procedure;
 pub mod sizes;

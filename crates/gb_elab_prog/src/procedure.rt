@@ -159,7 +159,11 @@ fn result_of(
 }
 
 /// The type of a procedure's result; no type stands for `unit`.
-fn result_type(alloc: Global, scope: &Scope, written: &[Node]) -> Result<Shared<Ty>, Refused>
+///
+/// # Errors
+///
+/// Those of types.
+pub fn result_type(alloc: Global, scope: &Scope, written: &[Node]) -> Result<Shared<Ty>, Refused>
     ensures { Answers (result_type scope.now written.now) result }
 {
     match written {
@@ -212,7 +216,11 @@ fn refuse_local(alloc: Global, locals: &[TypedName], name: &Node) -> Result<(), 
 }
 
 /// The parameters with their types, in the order of the text.
-fn formals(alloc: Global, scope: &Scope, trees: &[Node]) -> Result<Typed, Refused>
+///
+/// # Errors
+///
+/// `DoubleName` at a name that a parameter before it has, and those of types.
+pub fn formals(alloc: Global, scope: &Scope, trees: &[Node]) -> Result<Typed, Refused>
     ensures { Answers (formals scope.now [] trees.now) result }
 {
     let mut params = Items::new(alloc);

@@ -11,6 +11,7 @@ use Rattle.gb_terms.specs.declared.module.Mexp.{Mexp}
 use Rattle.gb_terms.specs.declared.module.Mexp.TheVariants.{Name}
 use Rattle.gb_terms.specs.declared.module.ProcRef.{ProcRef}
 use Rattle.gb_terms.specs.declared.term.Term.{out-Term}
+use Rattle.gb_goal.specs.declared.module_type.ModuleType.{ModuleType}
 use Rattle.gb_goal.specs.declared.sequent.Sequent.{Sequent}
 use Rattle.gb_goal.specs.declared.scope.Constant.{Constant}
 use Rattle.gb_goal.specs.declared.scope.OperatorType.{OperatorType}
@@ -35,6 +36,10 @@ entry_at ds i = option_map (λ d. d.1) (slice_get ds i)
 abbrev pub as_module : Option Entry → Option Module
 as_module (Some (entry.Module m)) = Some m
 as_module _ = None
+
+abbrev pub as_module_type : Option Entry → Option ModuleType
+as_module_type (Some (entry.ModuleType t)) = Some t
+as_module_type _ = None
 
 abbrev pub as_lemma : Option Entry → Option Sequent
 as_lemma (Some (entry.Lemma s bs)) = Some s
@@ -77,6 +82,10 @@ is_proved ds p = is_proof_for p (entry_of ds (path_of p))
 -- the module of this name
 abbrev pub module_of : Declarations → List ℕ → Option Module
 module_of ds n = as_module (entry_of ds n)
+
+-- the module type of this name
+abbrev pub module_type_of : Declarations → List ℕ → Option ModuleType
+module_type_of ds n = as_module_type (entry_of ds n)
 
 -- the statement of the lemma of this name
 abbrev pub lemma_of : Declarations → List ℕ → Option Sequent

@@ -2,5 +2,6 @@
 #![tactic(auto)]
 
 pub mod goal;
+pub mod module_type;
 pub mod scope;
 pub mod sequent;

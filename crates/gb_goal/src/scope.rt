@@ -2,8 +2,9 @@
 
 ghost use Rattle.std.specs.Prelude.{◌≡◌, ◌≤◌, ◌↔◌, [], ◌∷◌, ◌++◌, length, take, None, string_bytes, IsTrue, IfOk, OnOk, OnErr};
 ghost use Rattle.std.specs.Option.{option_copied};
-ghost use Rattle.gb_goal.specs.Scope.{AreNew, binders_of, constant_named, declarations_in, entry_at, entry_of, is_proved, is_the_same, module_of, lemma_of, operator_named, path_of, proc_of, proc_in, procedure_of, type_named, weight};
+ghost use Rattle.gb_goal.specs.Scope.{AreNew, binders_of, constant_named, declarations_in, entry_at, entry_of, is_proved, is_the_same, module_of, module_type_of, lemma_of, operator_named, path_of, proc_of, proc_in, procedure_of, type_named, weight};
 
+use crate::module_type::ModuleType;
 use crate::sequent::Sequent;
 use gb_core::name::Name;
 use gb_core::same::same_name;
@@ -75,6 +76,7 @@ fn is_the_same(a: &ProcName, b: &ProcName) -> bool
 
 /// A thing that a script has declared.
 pub enum Entry {
+    ModuleType(ModuleType),
     Module(Module),
     /// A lemma's statement, and its binders.
     Lemma(Sequent, Binders),
@@ -96,6 +98,7 @@ pub type Entries = Items<(Name, Boxed<Entry>)>;
 impl Drop for Entry {
     fn drop(self) {
         match self {
+            Entry::ModuleType(ty) => drop(ty),
             Entry::Module(module) => drop(module),
             Entry::Lemma(statement, binders) => {
                 drop(statement);
@@ -240,6 +243,16 @@ impl Scope {
     {
         match self.entry(name) {
             Some(Entry::Module(module)) => Some(module),
+            _ => None,
+        }
+    }
+
+    /// The module type of this name.
+    pub fn module_type(&self, name: &Name) -> Option<&ModuleType>
+        ensures { option_copied result ≡ module_type_of self.now name.now }
+    {
+        match self.entry(name) {
+            Some(Entry::ModuleType(ty)) => Some(ty),
             _ => None,
         }
     }

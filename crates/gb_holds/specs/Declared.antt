@@ -75,6 +75,8 @@ declaration_of (entry.Type t) = abbreviation (for_type t)
 declaration_of entry.AbstractType = abstract_type
 declaration_of (entry.Constant c) = abbreviation (for_value c)
 declaration_of (entry.Operator o) = operator (record { params = o.params; body = o.body })
+-- No module has the procedures of a module type by its name yet, so that no meaning rests on one.
+declaration_of (entry.ModuleType t) = abstract_type
 declaration_of (entry.AbstractOperator o) = abstract_operator (record { params = o.params; result = o.result })
 declaration_of (entry.Terminating p) = terminating p
 

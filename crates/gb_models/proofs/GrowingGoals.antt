@@ -158,6 +158,7 @@ each_over ((n, entry.Module m) ∷ es) c = each_over es (with_declared c n (conc
 each_over ((n, entry.Lemma q order) ∷ es) c = each_over es c
 each_over ((n, entry.Type t) ∷ es) c = each_over es c
 each_over ((n, entry.AbstractType) ∷ es) c = each_over es c
+each_over ((n, entry.ModuleType y) ∷ es) c = each_over es c
 each_over ((n, entry.Constant a) ∷ es) c = each_over es c
 each_over ((n, entry.Operator o) ∷ es) c = each_over es (with_declared c n (declaration_of (entry.Operator o)))
 each_over ((n, entry.AbstractOperator o) ∷ es) c = each_over es (with_declared c n (declaration_of (entry.AbstractOperator o)))
@@ -169,6 +170,7 @@ same_globals ((n, entry.Module m) ∷ es) c a = same_globals es (with_declared c
 same_globals ((n, entry.Lemma q order) ∷ es) c a = same_globals es c a
 same_globals ((n, entry.Type t) ∷ es) c a = same_globals es c a
 same_globals ((n, entry.AbstractType) ∷ es) c a = same_globals es c a
+same_globals ((n, entry.ModuleType y) ∷ es) c a = same_globals es c a
 same_globals ((n, entry.Constant k) ∷ es) c a = same_globals es c a
 same_globals ((n, entry.Operator o) ∷ es) c a = same_globals es (with_declared c n (declaration_of (entry.Operator o))) a
 same_globals ((n, entry.AbstractOperator o) ∷ es) c a = same_globals es (with_declared c n (declaration_of (entry.AbstractOperator o))) a
@@ -188,6 +190,9 @@ known_from ((n, entry.Type t0) ∷ ds) before c w k =
 known_from ((n, entry.AbstractType) ∷ ds) before c w k =
     subst (λ z. IsKnownFrom z (with_each c (declared ds))) (append_assoc before ((n, declaration_of entry.AbstractType) ∷ []) (declared ds))
     (known_from ds (before ++ (n, declaration_of entry.AbstractType) ∷ []) c w.2 (known_same c before n _ k))
+known_from ((n, entry.ModuleType y) ∷ ds) before c w k =
+    subst (λ z. IsKnownFrom z (with_each c (declared ds))) (append_assoc before ((n, declaration_of (entry.ModuleType y)) ∷ []) (declared ds))
+    (known_from ds (before ++ (n, declaration_of (entry.ModuleType y)) ∷ []) c w.2 (known_same c before n _ k))
 known_from ((n, entry.Constant a0) ∷ ds) before c w k =
     subst (λ z. IsKnownFrom z (with_each c (declared ds))) (append_assoc before ((n, declaration_of (entry.Constant a0)) ∷ []) (declared ds))
     (known_from ds (before ++ (n, declaration_of (entry.Constant a0)) ∷ []) c w.2 (known_same c before n _ k))

@@ -165,6 +165,7 @@ module _ (ds : scope.Declarations) (scoped : IsTypedScope (declared ds)) (spoken
   one_added k (entry.Lemma q order) free w = tt
   one_added k (entry.Type t) free w = tt
   one_added k entry.AbstractType free w = tt
+  one_added k (entry.ModuleType y) free w = tt
   one_added k (entry.Constant t) free w = tt
   one_added k (entry.Terminating p) free w = tt
 

@@ -92,6 +92,7 @@ fresh_later ((n, entry.Module m) ∷ ds) before c w k e = (other_name before k n
 fresh_later ((n, entry.Lemma q order) ∷ ds) before c w k e = (other_name before k n e w.0, fresh_later ds _ _ w.2 k (declared_more before _ k e))
 fresh_later ((n, entry.Type t) ∷ ds) before c w k e = (other_name before k n e w.0, fresh_later ds _ _ w.2 k (declared_more before _ k e))
 fresh_later ((n, entry.AbstractType) ∷ ds) before c w k e = (other_name before k n e w.0, fresh_later ds _ _ w.2 k (declared_more before _ k e))
+fresh_later ((n, entry.ModuleType y) ∷ ds) before c w k e = (other_name before k n e w.0, fresh_later ds _ _ w.2 k (declared_more before _ k e))
 fresh_later ((n, entry.Constant a) ∷ ds) before c w k e = (other_name before k n e w.0, fresh_later ds _ _ w.2 k (declared_more before _ k e))
 fresh_later ((n, entry.Operator o) ∷ ds) before c w k e = (other_name before k n e w.0, fresh_later ds _ _ w.2 k (declared_more before _ k e))
 fresh_later ((n, entry.AbstractOperator o) ∷ ds) before c w k e = (other_name before k n e w.0, fresh_later ds _ _ w.2 k (declared_more before _ k e))

@@ -82,6 +82,7 @@ no_modules ((n, entry.Module m) ∷ ds) = no_modules ds
 no_modules ((n, entry.Lemma q bs) ∷ ds) = no_modules ds
 no_modules ((n, entry.Type t) ∷ ds) = no_modules ds
 no_modules ((n, entry.AbstractType) ∷ ds) = no_modules ds
+no_modules ((n, entry.ModuleType y) ∷ ds) = no_modules ds
 no_modules ((n, entry.Constant c) ∷ ds) = no_modules ds
 no_modules ((n, entry.Operator o) ∷ ds) = no_modules ds
 no_modules ((n, entry.AbstractOperator o) ∷ ds) = no_modules ds

@@ -3,3 +3,4 @@ pub mod Judged
 pub mod Likely
 pub mod OneBody
 pub mod Assigned
+pub mod Same

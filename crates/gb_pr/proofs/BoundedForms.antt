@@ -9,7 +9,7 @@ use Rattle.gb_terms.specs.declared.term.Head.TheVariants as head
 use Rattle.gb_terms.specs.declared.term.Term.{Term}
 use Rattle.gb_meaning.specs.Written.{type_of}
 use Rattle.gb_typing.specs.Context.{Context}
-use Rattle.gb_typing.specs.Typing.{IsTyped}
+use Rattle.gb_typing.specs.Typing.{IsForm, IsTyped}
 use Rattle.gb_typing.proofs.Made.{parts_typed}
 use Rattle.gb_parts.specs.Compared.{compared}
 use Rattle.gb_chances.specs.Chances.{Chance, Bounded, bounded_by, bounded_in, bounded_of, chance_of, compared_of, speaks, unless}
@@ -55,3 +55,7 @@ pub sides_made : (c : Context) (r : Rel) (a b : Term) → IsTyped c (compared r 
 sides_made c AtMost a b w = let k = parts_typed c (head.Builtin op.AtMost) (a ∷ b ∷ []) ty.Bool w in (k.3.0, k.3.1, sym k.0.1)
 sides_made c Equal a b w = let k = parts_typed c (head.Builtin op.Equal) (a ∷ b ∷ []) ty.Bool w in (k.3.0, k.3.1, sym k.0.1)
 sides_made c AtLeast a b w = let k = parts_typed c (head.Builtin op.AtMost) (b ∷ a ∷ []) ty.Bool w in (k.3.1, k.3.0, k.0.1)
+
+-- so is the probability, where the comparison is
+pub term_typed : (c : Context) (f : Term) → IsForm c f → (b : Bounded) (z : IsBounded f b) → IsTyped c z.term
+term_typed c f w b z = (sides_made c b.rel z.term b.bound (subst (IsTyped c) z.is w.typed)).0

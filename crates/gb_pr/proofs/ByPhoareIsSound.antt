@@ -53,7 +53,7 @@ use Rattle.gb_parts.proofs.Weaker.{Follows, event_follows}
 use Rattle.gb_chances.specs.Chances.{Bounded, bounded_of}
 use Rattle.gb_pr.specs.ByPhoare.{AreConditions, by_phoare_at, by_phoare_goals, by_phoare_of, by_phoare_row}
 use Rattle.gb_pr.specs.Rows.{IsTypedAt}
-use Rattle.gb_pr.proofs.BoundedForms.{IsBounded, is_bounded, sides_made}
+use Rattle.gb_pr.proofs.BoundedForms.{IsBounded, is_bounded, sides_made, term_typed}
 use Rattle.gb_pr.proofs.ChanceForms.{IsTypedChance, chance_real, chance_typed}
 use Rattle.gb_pr.proofs.Probabilities.{probability_is, starts, there as procedure_found}
 use Rattle.gb_pr.proofs.Starts.{IsStart, one_means, one_typed, start_of}
@@ -61,9 +61,6 @@ use Rattle.gb_pr.proofs.Starts.{IsStart, one_means, one_typed, start_of}
 positive : (g : Setting) (o : Option Routine) → IsSoundIfThere g o → 0 < outcome_denominator g o
 positive g (Some r) w = routine_positive g r w
 positive g None w = absurd w
-
-term_typed : (c : Context) (f : Term) → IsForm c f → (b : Bounded) (z : IsBounded f b) → IsTyped c z.term
-term_typed c f w b z = (sides_made c b.rel z.term b.bound (subst (IsTyped c) z.is w.typed)).0
 
 -- A probability that is compared with a bound, the procedure of which is there with these parameters, and conditions.
 module _ (c : Context) (outer : c ≡ outermost c) (s : Conditions) (f : Term) (w : IsForm c f) (b : Bounded) (z : IsBounded f b) (a : Proc)

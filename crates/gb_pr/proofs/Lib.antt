@@ -1,5 +1,6 @@
 pub mod BoundedForms
 pub mod ByEquivIsSound
+pub mod ByEventsAreSound
 pub mod ByPhoareIsSound
 pub mod ChanceForms
 pub mod CoupledChances
@@ -8,6 +9,8 @@ pub mod Led
 pub mod PlainTerms
 pub mod Probabilities
 pub mod RulesAreSound
+pub mod SameStarts
 pub mod Starts
 pub mod StartedSteps
 pub mod Starting
+pub mod WithinIsSound

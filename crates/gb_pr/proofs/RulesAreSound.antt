@@ -4,7 +4,7 @@ use Rattle.gb_goal.specs.declared.sequent.Sequent.{Sequent}
 use Rattle.gb_goal.specs.Scope.{Declarations}
 use Rattle.gb_steps.specs.declared.step.Rule.{Rule}
 use Rattle.gb_steps.specs.declared.step.Rule.TheVariants.{OnBodies, Relational, Chance, Probability, Ambient, Smt, Linear, Call, CallKnown, Rewrite, Transform, Use, While}
-use Rattle.gb_steps.specs.declared.step.ProbabilityRule.TheVariants.{ByEquiv, ByPhoare}
+use Rattle.gb_steps.specs.declared.step.ProbabilityRule.TheVariants.{ByEquiv, ByPhoare, ByEvents, Within}
 use Rattle.gb_holds.specs.Declared.{declared}
 use Rattle.gb_typing.specs.Scopes.{context_of, IsTypedScope}
 use Rattle.gb_typing.specs.Sequents.{of_sequent, IsTypedSequent}
@@ -12,12 +12,16 @@ use Rattle.gb_typing.specs.Rules.{IsSoundRuleIn}
 use Rattle.gb_typing.proofs.Given.{refused_given}
 use Rattle.gb_pr.specs.Rows.{rule_row, IsTypedRule}
 use Rattle.gb_pr.proofs.ByEquivIsSound.{sound as by_equiv_sound}
+use Rattle.gb_pr.proofs.ByEventsAreSound.{sound as by_events_sound}
 use Rattle.gb_pr.proofs.ByPhoareIsSound.{sound as by_phoare_sound}
+use Rattle.gb_pr.proofs.WithinIsSound.{sound as within_sound}
 
 module _ (ds : Declarations) (scoped : IsTypedScope (declared ds)) (q : Sequent) (t : IsTypedSequent (context_of (declared ds)) q) where
   pub each_sound : (r : Rule) → IsSoundRuleIn (declared ds) (of_sequent (context_of (declared ds)) q t.frames) (rule_row ds r) (IsTypedRule (of_sequent (context_of (declared ds)) q t.frames) r)
   each_sound (Probability (ByEquiv s)) outer ls rs G w y Gs e = by_equiv_sound ds scoped q t s outer ls rs G w y Gs e
   each_sound (Probability (ByPhoare s)) outer ls rs G w y Gs e = by_phoare_sound ds scoped q t s outer ls rs G w y Gs e
+  each_sound (Probability (ByEvents r)) outer ls rs G w y Gs e = by_events_sound (declared ds) (of_sequent (context_of (declared ds)) q t.frames) r outer ls rs G w y Gs e
+  each_sound (Probability (Within r)) outer ls rs G w y Gs e = within_sound (declared ds) (of_sequent (context_of (declared ds)) q t.frames) r outer ls rs G w y Gs e
   each_sound (Chance r) outer ls rs G w y Gs e = refused_given Shape Gs e
   each_sound (OnBodies r) outer ls rs G w y Gs e = refused_given Shape Gs e
   each_sound (Relational r) outer ls rs G w y Gs e = refused_given Shape Gs e

@@ -5,6 +5,7 @@ ghost use Rattle.gb_goal.specs.Rows.{answered, stepped};
 ghost use Rattle.gb_pr.specs.Rows.{rule_row};
 
 use crate::by_equiv::by_equiv_rule;
+use crate::by_events::{by_events_rule, within_rule};
 use crate::by_phoare::by_phoare_rule;
 use gb_core::refusal::Refused;
 use gb_goal::scope::Scope;
@@ -24,6 +25,8 @@ fn answer(alloc: Global, rule: &Rule, goal: &Sequent, scope: &Scope) -> Result<S
         Rule::Probability(ProbabilityRule::ByPhoare(said)) => {
             by_phoare_rule(alloc, goal, said, scope)
         }
+        Rule::Probability(ProbabilityRule::ByEvents(rel)) => by_events_rule(alloc, goal, *rel),
+        Rule::Probability(ProbabilityRule::Within(rel)) => within_rule(alloc, goal, *rel),
         _ => Err(no_shape()),
     }
 }

@@ -9,7 +9,13 @@ pub mod Sides
 pub mod Reals
 pub mod Placed
 pub mod Deep
+pub mod AtNode
 pub mod Moved
+pub mod Layered
+pub mod Weighed
+pub mod Spoken
+pub mod Weighing
+pub mod Yielded
 pub mod Replaced
 pub mod Closed
 pub mod Standing

@@ -1,5 +1,5 @@
 -- Rules that put equals for equals are sound.
-use Rattle.std.proofs.Common.{◌≡◌, ℕ, zero, suc, Bool, true, false, ◌&&◌, if◌then◌else◌, List, [], ◌∷◌, map, slice_get, Option, Some, None, refl, ap, sym, ◌∙◌, subst}
+use Rattle.std.proofs.Common.{◌≡◌, ℕ, zero, suc, Bool, true, false, ◌&&◌, if◌then◌else◌, inr, List, [], ◌∷◌, map, slice_get, Option, Some, None, refl, ap, sym, ◌∙◌, subst}
 use Rattle.std.specs.List.{AllByRecursion, list_any}
 use Rattle.std.specs.Option.{option_map}
 use Rattle.std.proofs.lemmas.Bool.{false≢true}
@@ -11,13 +11,18 @@ use Rattle.gb_goal.specs.Answers.Answer.{given, refused}
 use Rattle.gb_goal.specs.Goal.Goal.{ambient}
 use Rattle.gb_goal.specs.declared.sequent.Hyp.{Hyp}
 use Rattle.gb_goal.specs.declared.sequent.Sequent.{Sequent}
+use Rattle.gb_steps.specs.declared.step.EventLaw.{EventLaw}
 use Rattle.gb_steps.specs.declared.step.RewriteRule.{RewriteRule}
-use Rattle.gb_steps.specs.declared.step.RewriteRule.TheVariants.{Forward, Back, Subst, Unfold}
+use Rattle.gb_steps.specs.declared.step.RewriteRule.TheVariants.{Forward, Back, Subst, Unfold, Law}
+use Rattle.gb_coupling.specs.WeightedList.{total}
+use Rattle.gb_coupling.proofs.Masses.{mass-dmap}
+use Rattle.gb_meaning.specs.Memory.{Memory, outcome}
+use Rattle.gb_meaning.specs.Runs.{new_frame, valued}
 use Rattle.gb_meaning.specs.Names.{Name}
 use Rattle.gb_meaning.specs.Setting.{Meaning, Setting}
-use Rattle.gb_meaning.specs.State.{State}
+use Rattle.gb_meaning.specs.State.{State, closed}
 use Rattle.gb_meaning.specs.Terms.{val}
-use Rattle.gb_meaning.specs.Judgments.{Judge, IsFair, speaking}
+use Rattle.gb_meaning.specs.Judgments.{Judge, IsFair, outcome_denominator, outcomes_of, speaking}
 use Rattle.gb_laws.specs.Context.{AreOf}
 use Rattle.gb_laws.specs.Finite.{IsInhabited}
 use Rattle.gb_laws.specs.Operators.{IsNoDistribution}
@@ -34,10 +39,14 @@ use Rattle.gb_typing.specs.Fits.{IsSettingOf, IsStateOf}
 use Rattle.gb_typing.specs.Sequents.{IsConclusion, AreFormulas, IsTypedSequent}
 use Rattle.gb_typing.specs.Scopes.{context_of, IsTypedScope}
 use Rattle.gb_typing.proofs.Conclusions.{formula_form}
-use Rattle.gb_typing.specs.Rules.{outermost}
+use Rattle.gb_typing.specs.Chosen.{IsChosenOver}
+use Rattle.gb_typing.specs.Meaning.{run}
+use Rattle.gb_typing.specs.Rules.{IsSettingOver, outermost}
+use Rattle.gb_typing.proofs.LinkedProcedures.{linked_there}
+use Rattle.gb_typing.proofs.Models.{each_chosen}
 use Rattle.gb_typing.proofs.TypedGoals.{goal_conclusion, goal_front}
 use Rattle.gb_typing.proofs.Given.{refused_at, same_given}
-use Rattle.gb_typing.proofs.Lifted.{sequent_outermost}
+use Rattle.gb_typing.proofs.Lifted.{InEachSequent, joined, sequent_outermost}
 use Rattle.gb_amb.specs.Parts.{concluding}
 use Rattle.gb_amb.specs.Quantified.{quantifies_modules, goal_quantifies_modules}
 use Rattle.gb_amb.specs.Steps.{LeadTo}
@@ -50,10 +59,15 @@ use Rattle.gb_amb.proofs.Cases.{form_formula}
 use Rattle.gb_amb.proofs.Fronts.{first, second, none_in_front}
 use Rattle.gb_rewrite.specs.Rewritten.{rewritten, stands}
 use Rattle.gb_rewrite.specs.Equations.{Pair, exchanged, equation_of, equivalence_of, is_variable_apart, used_up, used_up_of}
-use Rattle.gb_rewrite.specs.Rewriting.{rewriting, rewriting_by, rewriting_back, others, hypothesis_rewritten, without, using_up, using_up_hypothesis, substituting, unfolded_everywhere, opening_by, opening, rewrite_answer, IsUsable}
+use Rattle.gb_rewrite.specs.Rewriting.{rewriting, rewriting_by, rewriting_back, others, hypothesis_rewritten, without, using_up, using_up_hypothesis, substituting, unfolded_everywhere, opening_by, opening, concluding_by, by_event_law, rewrite_answer, IsUsable}
 use Rattle.gb_rewrite.specs.Unfolded.{names, unfolded}
 use Rattle.gb_rewrite.proofs.Kept.{form_kept}
-use Rattle.gb_rewrite.proofs.Moved.{IsMoved, Preserves, form_moved, conclusion_moved}
+use Rattle.gb_full.proofs.Full.{procedure_whole}
+use Rattle.gb_rewrite.specs.Events.{by_first, IsTypedLaw}
+use Rattle.gb_rewrite.proofs.Layered.{Becomes}
+use Rattle.gb_rewrite.proofs.Moved.{IsMoved, Preserves, conclusion_becomes, form_moved, conclusion_moved}
+use Rattle.gb_rewrite.proofs.Weighing.{HasWhole}
+use Rattle.gb_rewrite.proofs.Yielded.{AreKnown, law_keeps}
 use Rattle.gb_rewrite.proofs.Everywhere.{programs_moved}
 use Rattle.gb_rewrite.proofs.Opened.{MeansBody, opened}
 use Rattle.gb_rewrite.proofs.Replaced.{AreEqual, replaced}
@@ -314,8 +328,63 @@ module _ (es : entries.Declarations) (scope : IsTypedScope (declared es)) (q : S
       step None u h = refused_at Shape place qs (sym h)
       step (Some b) u h = by_modules x b u (quantifies_modules q.conclusion) refl place qs h
 
+  -- A law of events at the first probability of the conclusion that it speaks of.
+
+  abbrev Known : Interpretation → Type 0
+  Known k = HasResults (declared es) k × IsChosenOver (declared es) k
+
+  module _ (k : Interpretation) (chosen : IsChosenOver (declared es) k) (fits : IsSettingOf around_goal (setting (declared es) k)) where
+    whole : HasWhole es (setting (declared es) k)
+    whole p e vs m =
+        let over : IsSettingOver (declared es) (setting (declared es) k) = record { interpretation = k; chosen = chosen; meant = refl } in
+        let x = procedure_whole es scope q t (setting (declared es) k) fits over p e in
+        let a = x.found in
+        let g = setting (declared es) k in
+        let from : Memory = record { globals = m.globals; frame = new_frame g a.params a.locals vs } in
+        subst (λ o. total (outcomes_of g o vs m) ≡ outcome_denominator g o) (sym (linked_there es scope k (let y = chosen in y.unchosen) p a x.declared))
+        (mass-dmap (λ n. outcome n.globals (valued g closed a.value n)) (run g closed a.body.list from) (λ n. 1) ∙ x.total closed from)
+
+  known : InEachSequent (declared es) q Known
+  known =
+      joined (declared es) q (HasResults (declared es)) (IsChosenOver (declared es)) Known (λ k x y. (x, y)) (each_results (declared es) scope q)
+      (each_chosen (declared es) scope q t.modules t.frames)
+
+  module _ (l : EventLaw) (w : IsTypedLaw around_goal l) (x : Term) (e : by_first es l q.conclusion ≡ Some x) (o : has_module q.conclusion ≡ false) where
+    goal_outer : around_goal ≡ outermost around_goal
+    goal_outer = sequent_outermost (declared es) q t.frames
+
+    typed_law : IsTypedLaw (outermost around_goal) l
+    typed_law = subst (λ d. IsTypedLaw d l) goal_outer w
+
+    law_moves : IsMoved around_goal (AreKnown es l around_goal typed_law) q.conclusion x
+    law_moves =
+        subst (λ d. IsMoved d (AreKnown es l around_goal typed_law) q.conclusion x) (sym goal_outer)
+        (conclusion_becomes around_goal (Becomes es l) (AreKnown es l around_goal typed_law) (law_keeps es l around_goal typed_law) q.conclusion x (inr e)
+        (subst (λ d. IsConclusion d q.conclusion) goal_outer t.conclusion) o)
+
+    law_leads : LeadTo (declared es) q (concluding q x ∷ [])
+    law_leads =
+        let m = law_moves in
+        parts_lead_by (declared es) scope q t Known known (record { hyps = q.hyps; conclusion = x } ∷ []) ((t.hyps, m.typed), tt)
+        (λ k f fits vs ms fit y h.
+        let g = setting (declared es) k in
+        (without_modules (declared es) q.conclusion k (context vs ms) o).1
+        (λ j fair. sym (m.same g fits j fair (context vs ms) fit (respects (declared es) scope q t k f.0 fits, whole k f.1 fits)) ∙ (without_modules (declared es) x k (context vs ms) m.front).0 (y.0 h) j fair))
+
+  law_sound : (l : EventLaw) → IsTypedLaw around_goal l → (place : Place) (qs : List Sequent) → given qs ≡ by_event_law es l place q → LeadTo (declared es) q qs
+  law_sound l w place qs e = by_quantifier (quantifies_modules q.conclusion) refl e
+    where
+      by_found : (z : Option Term) → by_first es l q.conclusion ≡ z → has_module q.conclusion ≡ false → given qs ≡ concluding_by place q z → LeadTo (declared es) q qs
+      by_found None u o h = refused_at Shape place qs (sym h)
+      by_found (Some x) u o h = subst (LeadTo (declared es) q) (sym (same_given qs _ h)) (law_leads l w x u o)
+
+      by_quantifier : (b : Bool) → quantifies_modules q.conclusion ≡ b → given qs ≡ (if b then refused Shape place else concluding_by place q (by_first es l q.conclusion)) → LeadTo (declared es) q qs
+      by_quantifier true m h = refused_at Shape place qs (sym h)
+      by_quantifier false m h = by_found (by_first es l q.conclusion) refl (none_in_front q.conclusion m) h
+
   pub steps_sound : (r : RewriteRule) → IsUsable (declared es) q around_goal r → (place : Place) (qs : List Sequent) → given qs ≡ rewrite_answer es r place q → LeadTo (declared es) q qs
   steps_sound (Forward f) w place qs e = rewriting_sound (declared es) scope q t f w.0 w.1 place qs e
   steps_sound (Back f) w place qs e = back_sound (declared es) scope q t f w.0 w.1 place qs e
   steps_sound (Subst i) w place qs e = substitution_sound (declared es) scope q t i place qs e
   steps_sound (Unfold x) w place qs e = opening_sound x place qs e
+  steps_sound (Law l) w place qs e = law_sound l w place qs e

@@ -1,4 +1,5 @@
 pub mod Rewritten
 pub mod Equations
+pub mod Events
 pub mod Unfolded
 pub mod Rewriting

@@ -9,8 +9,9 @@ use Rattle.gb_goal.specs.Answers.Answer.{given, refused}
 use Rattle.gb_goal.specs.declared.sequent.Hyp.{Hyp}
 use Rattle.gb_goal.specs.declared.sequent.Sequent.{Sequent}
 use Rattle.gb_goal.specs.Scope as scope
+use Rattle.gb_steps.specs.declared.step.EventLaw.{EventLaw}
 use Rattle.gb_steps.specs.declared.step.RewriteRule.{RewriteRule}
-use Rattle.gb_steps.specs.declared.step.RewriteRule.TheVariants.{Forward, Back, Subst, Unfold}
+use Rattle.gb_steps.specs.declared.step.RewriteRule.TheVariants.{Forward, Back, Subst, Unfold, Law}
 use Rattle.gb_meaning.specs.Names.{Name}
 use Rattle.gb_eval.specs.Script.{body_named}
 use Rattle.gb_holds.specs.Declared.{Declarations}
@@ -20,6 +21,7 @@ use Rattle.gb_typing.specs.Typing.{IsForm}
 use Rattle.gb_amb.specs.Parts.{concluding}
 use Rattle.gb_amb.specs.Quantified.{quantifies_modules, goal_quantifies_modules}
 use Rattle.gb_rewrite.specs.Rewritten.{rewritten, stands}
+use Rattle.gb_rewrite.specs.Events.{by_first, IsTypedLaw}
 use Rattle.gb_rewrite.specs.Equations.{Pair, exchanged, equation_of, equivalence_of, used_up_of}
 use Rattle.gb_rewrite.specs.Unfolded.{names, unfolded, programs_unfolded}
 
@@ -80,16 +82,29 @@ opening_by x place q (Some b) =
 abbrev pub opening : scope.Declarations → Name → Place → Sequent → Answer (List Sequent)
 opening ds x place q = opening_by x place q (body_named ds x)
 
+-- the goal with this conclusion, if there is one
+abbrev pub concluding_by : Place → Sequent → Option Term → Answer (List Sequent)
+concluding_by place q None = refused Shape place
+concluding_by place q (Some f) = given (concluding q f ∷ [])
+
+-- The goal with what a law of events puts in the place of the first probability of the conclusion that it speaks of. Behind a quantifier
+-- over modules this isn't built.
+abbrev pub by_event_law : scope.Declarations → EventLaw → Place → Sequent → Answer (List Sequent)
+by_event_law ds l place q =
+    if quantifies_modules q.conclusion then refused Shape place else concluding_by place q (by_first ds l q.conclusion)
+
 -- what a step at a place answers at a goal
 abbrev pub rewrite_answer : scope.Declarations → RewriteRule → Place → Sequent → Answer (List Sequent)
 rewrite_answer ds (Forward f) place q = rewriting_by f place q
 rewrite_answer ds (Back f) place q = rewriting_back f place q
 rewrite_answer ds (Subst i) place q = substituting i place q
 rewrite_answer ds (Unfold x) place q = opening ds x place q
+rewrite_answer ds (Law l) place q = by_event_law ds l place q
 
--- the form that a step uses is typed, and holds in place of the conclusion
+-- the form that a step uses is typed, and holds in place of the conclusion; the event of a law is typed
 abbrev pub IsUsable : Declarations → Sequent → Context → RewriteRule → Type 0
 IsUsable ds q c (Forward f) = IsForm c f × Holds ds (concluding q f)
 IsUsable ds q c (Back f) = IsForm c f × Holds ds (concluding q f)
 IsUsable ds q c (Subst i) = Unit {0}
 IsUsable ds q c (Unfold x) = Unit {0}
+IsUsable ds q c (Law l) = IsTypedLaw c l

@@ -1,26 +1,11 @@
 -- Terms with one term in place of another one.
 use Rattle.std.specs.Prelude.{Bool, true, false, ◌||◌, if◌then◌else◌, List, [], ◌∷◌, map}
 use Rattle.std.specs.List.{list_any}
-use Rattle.gb_terms.specs.declared.op.Op.TheVariants.{Divide}
 use Rattle.gb_terms.specs.declared.term.Term.{Term, Term', Row_of-Term, end_of-Term, more_of-Term, end_of-Head, more_of-Head}
-use Rattle.gb_terms.specs.declared.term.Head.{Head}
-use Rattle.gb_terms.specs.declared.term.Head.TheVariants.{Builtin}
 use Rattle.gb_terms.specs.Make.{node}
+use Rattle.gb_chances.specs.First.{is_quotient}
 use Rattle.gb_meaning.specs.Commands.{terms_in}
-use Rattle.gb_meaning.proofs.SameTerms.{same_terms}
-
-abbrev pub is_yes : {A : Type 0} → Dec A → Bool
-is_yes (yes p) = true
-is_yes (no n) = false
-
--- whether two terms are the same
-unfoldable pub is_same : Term → Term → Bool
-is_same a b = is_yes (same_terms a b)
-
--- a quotient: behind its first argument stands a divisor
-abbrev pub is_quotient : Head → Bool
-is_quotient (Builtin Divide) = true
-is_quotient h = false
+use Rattle.gb_parts.specs.Same.{is_same}
 
 abbrev mutual
   -- A term with b in place of each a. Divisors stay as they are, and so do the programs of judgments, which stand in heads.

@@ -5,10 +5,11 @@ ghost use Rattle.std.specs.Option.{option_copied, option_map};
 ghost use Rattle.gb_goal.specs.Answers.{Answers};
 ghost use Rattle.gb_eval.specs.Script.{body_named};
 ghost use Rattle.gb_rewrite.specs.Equations.{equivalence_of, exchanged};
-ghost use Rattle.gb_rewrite.specs.Rewriting.{hypothesis_rewritten, others, rewrite_answer, rewriting, substituting, opening, using_up, without};
+ghost use Rattle.gb_rewrite.specs.Rewriting.{by_event_law, hypothesis_rewritten, others, rewrite_answer, rewriting, substituting, opening, using_up, without};
 
 use crate::bodies::unfolded_everywhere;
 use crate::equations::{equivalence_of, used_up_by};
+use crate::events::by_first;
 use crate::rewritten::{rewritten, stands};
 use crate::unfolded::names;
 use gb_amb::goals::{alone, no_shape, one};
@@ -20,7 +21,7 @@ use gb_core::refusal::Refused;
 use gb_forms::hypotheses::with_hypotheses;
 use gb_goal::scope::{Entry, Scope};
 use gb_goal::sequent::{Hyp, Sequent, Sequents};
-use gb_steps::step::RewriteRule;
+use gb_steps::step::{EventLaw, RewriteRule};
 use gb_terms::term::{Form, Term};
 use sqlite_items::Items;
 use std::alloc::{AllocError, Global};
@@ -168,8 +169,29 @@ fn opening(
     one(alloc, goal, conclusion).map_err(Refused::from)
 }
 
+/// The goal with what a law of events puts in the place of the first probability of the conclusion that it speaks of. Refused with `Shape`
+/// where it speaks of none, or where it isn't built.
+fn by_event_law(
+    alloc: Global,
+    scope: &Scope,
+    law: &EventLaw,
+    place: Place,
+    goal: &Sequent,
+) -> Result<Sequents, Refused>
+    ensures { Answers (by_event_law scope.now law.now place goal.now) result }
+{
+    if quantifies_modules(&goal.conclusion) {
+        return Err(no_shape(place));
+    }
+    match by_first(alloc, scope, law, &goal.conclusion)? {
+        Some(conclusion) => one(alloc, goal, conclusion).map_err(Refused::from),
+        None => Err(no_shape(place)),
+    }
+}
+
 /// The goals of a step that puts equals for equals. Refused at the place of the step, with `Shape`, where what it uses is no equation and
-/// no equivalence, where nothing gives way, where no operator stands there to be unfolded, or where it isn't built.
+/// no equivalence, where nothing gives way, where no operator stands there to be unfolded, where a law of events speaks of no probability
+/// there, or where it isn't built.
 pub fn apply(
     alloc: Global,
     rule: &RewriteRule,
@@ -184,5 +206,6 @@ pub fn apply(
         RewriteRule::Back(known) => rewriting(alloc, sides_back(known), place, goal),
         RewriteRule::Subst(hyp) => substituting(alloc, *hyp, place, goal),
         RewriteRule::Unfold(name) => opening(alloc, scope, name, place, goal),
+        RewriteRule::Law(law) => by_event_law(alloc, scope, law, place, goal),
     }
 }

@@ -12,8 +12,8 @@ ghost use Rattle.gb_typing.specs.Scopes.{context_of, IsTypedScope};
 ghost use Rattle.gb_amb.specs.Steps.{LeadTo};
 ghost use Rattle.gb_rewrite.specs.Rewriting.{rewrite_answer, IsUsable};
 
-/// A step at the goal of a typed scope, by a typed form that holds in place of the conclusion, by a hypothesis or by an operator's body,
-/// gives typed goals, and if each of them holds, the goal holds.
+/// A step at the goal of a typed scope, by a typed form that holds in place of the conclusion, by a hypothesis, by an operator's body or by
+/// a law of typed events, gives typed goals, and if each of them holds, the goal holds.
 pub fn sound_rewriting()
     ensures { (ds : scope.Declarations) → IsTypedScope (declared ds) → (q : Sequent) (t : IsTypedSequent (context_of (declared ds)) q) → (r : RewriteRule) →
         IsUsable (declared ds) q (of_sequent (context_of (declared ds)) q t.frames) r → (place : Place) (qs : List Sequent) → given qs ≡ rewrite_answer ds r place q →

@@ -3,6 +3,7 @@
 
 pub mod bodies;
 pub mod equations;
+pub mod events;
 pub mod goals;
 pub mod laws;
 pub mod rewritten;

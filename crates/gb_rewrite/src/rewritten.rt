@@ -4,12 +4,13 @@ ghost use Rattle.std.specs.Prelude.{◌≡◌, ◌∷◌, map, IfOk};
 ghost use Rattle.std.specs.List.{list_any};
 ghost use Rattle.gb_terms.specs.declared.term.Term.{out-Term};
 ghost use Rattle.gb_terms.specs.Make.{node};
-ghost use Rattle.gb_rewrite.specs.Rewritten.{first_rewritten, is_quotient, is_same, rewritten, stands, stands_first};
+ghost use Rattle.gb_parts.specs.Same.{is_same};
+ghost use Rattle.gb_rewrite.specs.Rewritten.{first_rewritten, rewritten, stands, stands_first};
 
+use gb_chances::first::is_quotient;
 use gb_core::SharedItems;
-use gb_terms::op::Op;
 use gb_terms::same::same;
-use gb_terms::term::{Head, Term, Terms};
+use gb_terms::term::{Term, Terms};
 use sqlite_items::Items;
 use std::alloc::{AllocError, Global};
 
@@ -18,12 +19,6 @@ fn is_same(a: &Term, b: &Term) -> bool
     ensures { result ≡ is_same a.now b.now }
 {
     same(a, b)
-}
-
-fn is_quotient(head: &Head) -> bool
-    ensures { result ≡ is_quotient head.now }
-{
-    matches!(head, Head::Builtin(Op::Divide))
 }
 
 /// Whether a term stands in another one: it is the other one, or stands in an argument of it that is no divisor.
@@ -125,7 +120,7 @@ fn all_rewritten(
 }
 
 /// A term, and others behind it.
-fn before(alloc: Global, first: Term, others: &[Term]) -> Result<Terms, AllocError>
+pub fn before(alloc: Global, first: Term, others: &[Term]) -> Result<Terms, AllocError>
     ensures { IfOk result (λ made. made ≡ first ∷ others.now) }
 {
     let mut made = Items::new(alloc);

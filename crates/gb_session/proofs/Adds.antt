@@ -100,6 +100,7 @@ by_head : (s : Session) (c : Node) (h : Head) (parts : List Node) (t : Session) 
 by_head s c head.Require (import ∷ names ∷ []) t e = required s (parts_of names) (place_of c) t (sym e)
 by_head s c head.TypeDeclaration parts t e = brought_in s c (place_of c) t (sym e)
 by_head s c head.OperatorDeclaration parts t e = brought_in s c (place_of c) t (sym e)
+by_head s c head.ModuleType parts t e = brought_in s c (place_of c) t (sym e)
 by_head s c head.Axiom parts t e = let a = given_bind (outside s.proof (place_of c)) _ t (sym e) in nothing_given _ _ t a.2
 by_head s c head.Module parts t e = declared s c (place_of c) t (sym e)
 by_head s c head.AscribedModule parts t e = declared s c (place_of c) t (sym e)

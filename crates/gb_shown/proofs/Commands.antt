@@ -162,6 +162,7 @@ module _ (o : Grounds) (names : Names) (es : List Enumeration) (s : Session) (g 
   head_named c read head.Require (import ∷ files ∷ []) next is are same e = none_listed c next same (requires_named es s (parts_of files) (place_of c) next k (sym e))
   head_named c read head.TypeDeclaration parts next is are same e = brings_named c read (place_of c) next (sym e)
   head_named c read head.OperatorDeclaration parts next is are same e = brings_named c read (place_of c) next (sym e)
+  head_named c read head.ModuleType parts next is are same e = brings_named c read (place_of c) next (sym e)
   head_named c read head.Axiom parts next is are same e = absurd (assumes_nothing s (place_of c) next (sym e))
   head_named c read head.Module parts next is are same e = none_listed c next same (declares_named c read (place_of c) next (sym e))
   head_named c read head.AscribedModule parts next is are same e = none_listed c next same (declares_named c read (place_of c) next (sym e))

@@ -19,6 +19,7 @@ use Rattle.gb_script.specs.Tree.{head_of, text_of, parts_of, place_of}
 use Rattle.gb_names.specs.Types.{type_of}
 use Rattle.gb_elab_prog.specs.Entries.{entries_by, entries_given}
 use Rattle.gb_elab_prog.specs.Fresh.{free}
+use Rattle.gb_elab_prog.specs.ModuleTypes.{module_type_entries, parameters, signatures}
 use Rattle.gb_elab_prog.specs.Operators.{operator_entry}
 use Rattle.gb_elab_prog.specs.Types.{only, new, constants as declared_constants, without, enumeration as declared_enumeration, enumeration_type, type_entries}
 use Rattle.gb_elab_laws.proofs.Given.{given_bind, given_is, if_refused}
@@ -147,6 +148,14 @@ module _ (forms : OfForms) (es : List Enumeration) (ds : Declarations) (k : IsNa
   types_named x n fresh head.Enumeration [] ns r p added e = absurd (cc)
   types_named x n fresh _ ps ns r p added e = absurd (cc)
 
+  module_type_named : (x : Node) → IsName x → (ps ts : List Node) (added : Declarations) → module_type_entries ds x ps ts ≡ given added → AddsNamed [] added
+  unfolding module_type_entries
+  module_type_named x n ps ts added e =
+      let a = given_bind (free ds x) _ added e in
+      let b = given_bind (parameters ds [] ps) _ added a.2 in
+      let c = given_bind (signatures ds b.0 [] ts) _ added b.2 in
+      subst (AddsNamed []) (given_is _ added c.2) (one_added x n (entry.ModuleType (record { params = b.0; signatures = c.0 })) tt)
+
   entries_by_named : (h : Head) (ps : List Node) → HasItsNames h ps → AreRead ps → (p : Place) (added : Declarations) → entries_by ds h ps p ≡ given added → AddsNamed (enumerated h ps) added
   entries_by_named head.TypeDeclaration (x ∷ d ∷ []) n r p added e =
       let a = given_bind (free ds x) _ added e in
@@ -162,6 +171,11 @@ module _ (forms : OfForms) (es : List Enumeration) (ds : Declarations) (k : IsNa
   entries_by_named head.OperatorDeclaration [] n r p added e = absurd (cc)
   entries_by_named head.OperatorDeclaration (x ∷ []) n r p added e = absurd (cc)
   entries_by_named head.OperatorDeclaration (x ∷ d ∷ y ∷ ps) n r p added e = absurd (cc)
+  entries_by_named head.ModuleType (x ∷ qs ∷ ss ∷ []) n r p added e = module_type_named x n (parts_of qs) (parts_of ss) added e
+  entries_by_named head.ModuleType [] n r p added e = absurd (cc)
+  entries_by_named head.ModuleType (x ∷ []) n r p added e = absurd (cc)
+  entries_by_named head.ModuleType (x ∷ qs ∷ []) n r p added e = absurd (cc)
+  entries_by_named head.ModuleType (x ∷ qs ∷ ss ∷ y ∷ ps) n r p added e = absurd (cc)
   entries_by_named _ ps n r p added e = absurd (cc)
 
   -- what a command declares

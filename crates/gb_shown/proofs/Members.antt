@@ -1,5 +1,5 @@
 -- Procedures and modules.
-use Rattle.std.proofs.Common.{◌≡◌, List, [], ◌∷◌, ◌++◌, Some, refl, subst}
+use Rattle.std.proofs.Common.{◌≡◌, List, [], ◌∷◌, ◌++◌, Option, Some, refl, subst}
 use Rattle.std.specs.List.{AllByRecursion}
 use Rattle.gb_core.specs.declared.place.Place.{Place}
 use Rattle.gb_core.specs.declared.refusal.Why.TheVariants.{TypeMismatch}
@@ -24,10 +24,10 @@ use Rattle.gb_elab_stmt.specs.Statements.{all_stated, with_statings}
 use Rattle.gb_elab_prog.specs.Bound.{parameters}
 use Rattle.gb_elab_prog.specs.Contexts.{nothing_around, taken}
 use Rattle.gb_elab_prog.specs.Fresh.{free}
-use Rattle.gb_elab_prog.specs.Modules.{member_names, with_globals, with_procedure, with_member, with_members, all_short, empty_module, plain, module_by, module_given}
+use Rattle.gb_elab_prog.specs.Meets.{Stated, meets}
+use Rattle.gb_elab_prog.specs.Modules.{member_names, with_globals, with_procedure, with_member, with_members, all_short, empty_module, stated, with_body, plain, ascribed, module_by, module_given}
 use Rattle.gb_elab_prog.specs.Procedures.{untaken, result_type, lacks_value, value, undeclared, formal, formals, declared, variables, locals, with_result, result_of, procedure_by}
-use Rattle.gb_elab_prog.specs.Unbuilt.{absent}
-use Rattle.gb_elab_laws.proofs.Given.{given_bind, given_is, if_refused, not_given}
+use Rattle.gb_elab_laws.proofs.Given.{given_bind, given_is, if_refused}
 use Rattle.gb_shapes.specs.declared.place.Enumeration.{Enumeration}
 use Rattle.gb_spelt_laws.specs.Named.{IsNamed, IsNamedType, IsNamedVariable, IsNamedSequent}
 use Rattle.gb_spelt_laws.specs.Rules.{IsNamedLocal}
@@ -159,16 +159,30 @@ module _ (forms : OfForms) (es : List Enumeration) (ds : Declarations) (k : IsNa
       let a = given_bind (with_member ds q m (head_of t) (parts_of t) (place_of t)) _ o e in
       members_named q c a.0 (member_named q c m i (head_of t) (parts_of t) (names_of t r.0) (parts_read t r.0) (place_of t) a.0 a.1) ts r.1 o a.2
 
+  with_body_named : (x : Node) → IsName x → (w : Option Stated) (ts : List Node) → AreRead ts → (o : Module) → with_body ds x w ts ≡ given o → IsNamedModule es o
+  unfolding with_body
+  with_body_named x n w ts r o e =
+      let a = given_bind (with_members ds nothing_around (empty_module (text_of x)) ts) _ o e in
+      let b = given_bind (meets a.0 w) _ o a.2 in
+      let c = given_bind (all_short ts) _ o b.2 in
+      subst (IsNamedModule es) (given_is a.0 o c.2)
+      (members_named nothing_around (nothing_named es) (empty_module (text_of x)) (record { name = n; plain = refl; globals = tt; procs = tt }) ts r a.0 a.1)
+
   plain_named : (x : Node) → IsName x → (qs ms ts : List Node) → AreRead ts → (o : Module) → plain ds x qs ms ts ≡ given o → IsNamedModule es o
   unfolding plain
   plain_named x n qs ms ts r o e =
       let a = given_bind (free ds x) _ o e in
       let b = given_bind (parameters ds x qs) _ o a.2 in
-      let c = given_bind (absent ms (place_of x)) _ o b.2 in
-      let d = given_bind (with_members ds nothing_around (empty_module (text_of x)) ts) _ o c.2 in
-      let f = given_bind (all_short ts) _ o d.2 in
-      subst (IsNamedModule es) (given_is d.0 o f.2)
-      (members_named nothing_around (nothing_named es) (empty_module (text_of x)) (record { name = n; plain = refl; globals = tt; procs = tt }) ts r d.0 d.1)
+      let c = given_bind (stated ds ms) _ o b.2 in
+      with_body_named x n c.0 ts r o c.2
+
+  ascribed_named : (x : Node) → IsName x → (t : Node) (qs ts : List Node) → AreRead ts → (o : Module) → ascribed ds x t qs ts ≡ given o → IsNamedModule es o
+  unfolding ascribed
+  ascribed_named x n t qs ts r o e =
+      let a = given_bind (free ds x) _ o e in
+      let b = given_bind (stated ds (t ∷ [])) _ o a.2 in
+      let c = given_bind (parameters ds x qs) _ o b.2 in
+      with_body_named x n b.0 ts r o c.2
 
   module_by_named : (h : Head) (ns : List Node) → HasItsNames h ns → AreRead ns → (p : Place) (o : Module) → module_by ds h ns p ≡ given o → IsNamedModule es o
   module_by_named head.Module (x ∷ qs ∷ m ∷ ts ∷ []) n r p o e = plain_named x n (parts_of qs) (parts_of m) (parts_of ts) (parts_read ts r.1.1.1.0) o e
@@ -177,8 +191,12 @@ module _ (forms : OfForms) (es : List Enumeration) (ds : Declarations) (k : IsNa
   module_by_named head.Module (x ∷ q ∷ []) n r p o e = absurd (cc)
   module_by_named head.Module (x ∷ q ∷ m ∷ []) n r p o e = absurd (cc)
   module_by_named head.Module (x ∷ q ∷ m ∷ t ∷ u ∷ ns) n r p o e = absurd (cc)
-  module_by_named head.AscribedModule (x ∷ xs) n r p o e = let a = given_bind (free ds x) _ o e in absurd (not_given _ _ o a.2)
+  module_by_named head.AscribedModule (x ∷ t ∷ qs ∷ ts ∷ []) n r p o e = ascribed_named x n t (parts_of qs) (parts_of ts) (parts_read ts r.1.1.1.0) o e
   module_by_named head.AscribedModule [] n r p o e = absurd (cc)
+  module_by_named head.AscribedModule (x ∷ []) n r p o e = absurd (cc)
+  module_by_named head.AscribedModule (x ∷ t ∷ []) n r p o e = absurd (cc)
+  module_by_named head.AscribedModule (x ∷ t ∷ q ∷ []) n r p o e = absurd (cc)
+  module_by_named head.AscribedModule (x ∷ t ∷ q ∷ u ∷ v ∷ ns) n r p o e = absurd (cc)
   module_by_named _ ns n r p o e = absurd (cc)
 
   -- a module

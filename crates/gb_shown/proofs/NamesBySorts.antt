@@ -207,6 +207,7 @@ names_by_head head.Values p good w =
     by_fits : (x : Node) (ys : List Node) → IsName x → Fits signatures (signature head.Values).parts.first (signature head.Values).parts.rest ys → EachOf IsWorded ys → HasItsNames head.Values (x ∷ ys)
     by_fits x ys n (next {x = y} {xs = zs} i f) (each_more v u) = (n, names_in i v)
 names_by_head head.Module p good w = in_front head.Module 18 refl refl refl p good w (λ x ys n f u. n)
+names_by_head head.AscribedModule p good w = in_front head.AscribedModule 18 refl refl refl p good w (λ x ys n f u. n)
 names_by_head head.HaveForm p good w = in_front head.HaveForm 37 refl refl refl p good w (λ x ys n f u. n)
 names_by_head head.HaveLemma p good w = in_front head.HaveLemma 37 refl refl refl p good w (λ x ys n f u. n)
 names_by_head head.Memory p good w = first_name head.Memory (whole_parts refl p).1 w (λ x ys n. n)
@@ -216,6 +217,7 @@ names_by_head head.Formal p good w = first_name head.Formal (whole_parts refl p)
 names_by_head head.Variables p good w = first_names head.Variables (whole_parts refl p).1 w (λ x ys n. n)
 names_by_head head.TypeDeclaration p good w = first_name head.TypeDeclaration (whole_parts refl p).1 w (λ x ys n. n)
 names_by_head head.OperatorDeclaration p good w = first_name head.OperatorDeclaration (whole_parts refl p).1 w (λ x ys n. n)
+names_by_head head.ModuleType p good w = first_name head.ModuleType (whole_parts refl p).1 w (λ x ys n. n)
 names_by_head head.Lemma p good w = first_name head.Lemma (whole_parts refl p).1 w (λ x ys n. n)
 names_by_head head.Enumeration p good w = by_fits (whole_parts refl p).1 w
   where

@@ -9,6 +9,7 @@ use Rattle.gb_core.specs.declared.ty.Ty.TheVariants as ty
 use Rattle.gb_terms.specs.declared.decl.Proc.{Proc}
 use Rattle.gb_terms.specs.declared.decl.TypedName.{TypedName}
 use Rattle.gb_terms.specs.declared.module.ProcRef.{ProcRef}
+use Rattle.gb_terms.specs.declared.op.Rel.TheVariants as rel
 use Rattle.gb_terms.specs.declared.op.Side.{Side}
 use Rattle.gb_terms.specs.declared.op.Side.TheVariants as side
 use Rattle.gb_terms.specs.declared.term.Cmd.{Cmd}
@@ -39,12 +40,16 @@ use Rattle.gb_steps.specs.declared.step.BodyRule.{BodyRule}
 use Rattle.gb_steps.specs.declared.step.BodyRule.TheVariants as on_bodies
 use Rattle.gb_steps.specs.declared.step.Cut.{Cut}
 use Rattle.gb_steps.specs.declared.step.Cut.TheVariants as cut
+use Rattle.gb_steps.specs.declared.step.EventLaw.TheVariants as event_law
+use Rattle.gb_steps.specs.declared.step.ProbabilityRule.TheVariants as probability_rule
 use Rattle.gb_steps.specs.declared.step.RelationalRule.{RelationalRule}
 use Rattle.gb_steps.specs.declared.step.RelationalRule.TheVariants as relational_rule
+use Rattle.gb_steps.specs.declared.step.RewriteRule.TheVariants as rewrite_rule
 use Rattle.gb_steps.specs.declared.step.Rule.{Rule}
 use Rattle.gb_steps.specs.declared.step.Rule.TheVariants as rule
 use Rattle.gb_steps.specs.declared.step.Step.{Step}
 use Rattle.gb_chances.specs.Chances.{Bounded, Compared, bounded_of, chances_of}
+use Rattle.gb_chances.specs.First.{first_procedure}
 use Rattle.gb_holds.specs.Declared.{declared}
 use Rattle.gb_typing.specs.Context.{Context}
 use Rattle.gb_typing.specs.Goals.{IsCode, IsGoalOver}
@@ -59,7 +64,7 @@ use Rattle.gb_names.specs.Judgments.{named_procedure, result_of}
 use Rattle.gb_elab.specs.Forms.{elaborated, function}
 use Rattle.gb_elab_mod.specs.Multiples.{hypothesis_at, multiples, position}
 use Rattle.gb_elab_mod.specs.Occurring.{occurring}
-use Rattle.gb_elab_mod.specs.Steps.{of_subjects, of_head, outcomes, sampled, last_sampled, functions, there_and_back, one_type, couplings, judges_chance, coupling_rule, functions_of, is_apply, acts, drawing_rule, on_all, plain_rule, cut_of, cut_rule, seq_rule, of_bodies_rule, chance_rule, both_rule, named_rule, conclusion_rule, formed, said_of_bodies, case_by, case_of_bodies, kept_by, while_rule, case_of_conclusion, sided_case_rule, params_if, result_if, locals_before, locals_after, term_if, said_anew, conseq_of, conseq_rule, last_procedure, contract_of, contract_of_both, contract_on, contract_at, call_rule, related, said_around, by_phoare_rule, by_equiv_rule, by_rule, between_of, between_by, between_with, between_at, transitive_rule, asked_of, value_witness, memory_witness, witness_rule, pattern, passing_rule, placed_rule, transforming_rule, equals_rule, used_rule, calls_of, inlining_rule, looping_rule, have_rule, typed_rule, step_given}
+use Rattle.gb_elab_mod.specs.Steps.{of_subjects, of_head, outcomes, sampled, last_sampled, functions, there_and_back, one_type, couplings, judges_chance, coupling_rule, functions_of, is_apply, acts, drawing_rule, on_all, plain_rule, cut_of, cut_rule, seq_rule, of_bodies_rule, chance_rule, both_rule, named_rule, conclusion_rule, formed, said_of_bodies, case_by, case_of_bodies, kept_by, while_rule, case_of_conclusion, sided_case_rule, params_if, result_if, locals_before, locals_after, term_if, said_anew, conseq_of, conseq_rule, last_procedure, contract_of, contract_of_both, contract_on, contract_at, call_rule, related, said_around, by_phoare_rule, by_equiv_rule, by_rule, between_of, between_by, between_with, between_at, transitive_rule, asked_of, value_witness, memory_witness, witness_rule, pattern, passing_rule, placed_rule, transforming_rule, event_law_rule, splitting_rule, event_rule, equals_rule, used_rule, calls_of, inlining_rule, looping_rule, have_rule, typed_rule, step_given}
 use Rattle.gb_elab_mod.specs.Taken.{new_name}
 use Rattle.gb_elab_mod.specs.Uses.{all_hinted, defined_operator, hypothesis, is_memory, memory_of, used}
 use Rattle.gb_elab_prog.specs.Unbuilt.{absent}
@@ -225,6 +230,33 @@ module _ (forms : OfForms) (es : List Enumeration) (ds : Declarations) (k : IsNa
   transforming_named text.PositionStep x (a ∷ b ∷ c ∷ ps) w s p r e = none_built p r e
   transforming_named h x ps w s p r e = pattern_named h x ps w s p r e
 
+  -- Laws of events.
+
+  law_named : (x : List ℕ) (p : Place) → Gives (event_law_rule x p)
+  law_named x p r e =
+      choice (AreNamedArguments es) (bytes_eq x (codes "mu_or")) (rule.Rewrite (rewrite_rule.Law event_law.Or)) _ r tt
+      (λ e. choice (AreNamedArguments es) (bytes_eq x (codes "mu_not")) (rule.Rewrite (rewrite_rule.Law event_law.Not)) _ r tt
+      (λ e. choice (AreNamedArguments es) (bytes_eq x (codes "mu_false")) (rule.Rewrite (rewrite_rule.Law event_law.False)) _ r tt
+      (λ e. choice (AreNamedArguments es) (bytes_eq x (codes "mu_eq")) (rule.Probability (probability_rule.ByEvents rel.Equal)) _ r tt
+      (λ e. choice (AreNamedArguments es) (bytes_eq x (codes "mu_sub")) (rule.Probability (probability_rule.ByEvents rel.AtMost)) _ r tt
+      (λ e. choice (AreNamedArguments es) (bytes_eq x (codes "mu_ge0")) (rule.Probability (probability_rule.Within rel.AtLeast)) _ r tt
+      (λ e. choice (AreNamedArguments es) (bytes_eq x (codes "mu_le1")) (rule.Probability (probability_rule.Within rel.AtMost)) _ r tt (λ e. none_built p r e) e) e) e) e) e) e) e
+
+  splitting_named : (t : Node) → IsReadTree t → (o : Option ProcRef) → Gives (splitting_rule ds q t o)
+  unfolding splitting_rule
+  splitting_named t l (Some f) r e =
+      let a = given_bind (elaborated t (unary ds q (result_if (procedure_of ds f))) [] (Some ty.Bool)) _ r e in
+      subst (AreNamedArguments es) (given_is _ r a.2) (truth_named _ (unary_named es ds k q n _ (results_local f)) t l a.0 a.1)
+  splitting_named t l None r e = subst (AreNamedArguments es) (given_is _ r e) tt
+
+  event_named : (h : Kind) (x : List ℕ) (ps : List Node) → (h ≡ text.Name → is_name_text x ≡ true) → HasItsNames h ps → AreRead ps → (p : Place) → Gives (event_rule ds q h x ps p)
+  event_named text.RewriteLaw x [] w s l p r e = law_named x p r e
+  event_named text.RewriteLaw x (a ∷ ps) w s l p r e = none_built p r e
+  event_named text.RewriteSplit x (t ∷ []) w s l p r e = splitting_named t l.0 (first_procedure q.conclusion) r e
+  event_named text.RewriteSplit x [] w s l p r e = none_built p r e
+  event_named text.RewriteSplit x (a ∷ b ∷ ps) w s l p r e = none_built p r e
+  event_named h x ps w s l p r e = transforming_named h x ps w s p r e
+
   equals_named : (h : Kind) (x : List ℕ) (ps : List Node) → (h ≡ text.Name → is_name_text x ≡ true) → HasItsNames h ps → AreRead ps → (p : Place) → Gives (equals_rule ds q h x ps p)
   equals_named text.RewriteLemma x (t ∷ []) w s l p r e = let a = given_bind (used ds q t) _ r e in subst (AreNamedArguments es) (given_is _ r a.2) (used_is_named forms es ds k q n t l.0 a.0 a.1)
   equals_named text.RewriteBack x (t ∷ []) w s l p r e = let a = given_bind (used ds q t) _ r e in subst (AreNamedArguments es) (given_is _ r a.2) (used_is_named forms es ds k q n t l.0 a.0 a.1)
@@ -242,7 +274,7 @@ module _ (forms : OfForms) (es : List Enumeration) (ds : Declarations) (k : IsNa
   equals_named text.Subst x (a ∷ b ∷ ps) w s l p r e = none_built p r e
   equals_named text.RewriteOperator x [] w s l p r e = none_built p r e
   equals_named text.RewriteOperator x (a ∷ b ∷ ps) w s l p r e = none_built p r e
-  equals_named h x ps w s l p r e = transforming_named h x ps w s p r e
+  equals_named h x ps w s l p r e = event_named h x ps w s l p r e
 
   used_named : (h : Kind) (x : List ℕ) (ps : List Node) → (h ≡ text.Name → is_name_text x ≡ true) → HasItsNames h ps → AreRead ps → (p : Place) → Gives (used_rule ds q h x ps p)
   used_named text.ApplyLemma x (t ∷ []) w s l p r e = let a = given_bind (used ds q t) _ r e in subst (AreNamedArguments es) (given_is _ r a.2) (used_is_named forms es ds k q n t l.0 a.0 a.1)

@@ -45,6 +45,7 @@ IsNamedEntry es (entry.Module m) = IsNamedModule es m
 IsNamedEntry es (entry.Lemma q bs) = IsNamedStatement es q
 IsNamedEntry es (entry.Type t) = IsWrittenType 0 [] t × HasFirst es t
 IsNamedEntry es entry.AbstractType = Unit {0}
+IsNamedEntry es (entry.ModuleType y) = Unit {0}
 IsNamedEntry es (entry.Constant c) = IsNamedType c.ty × (is_word_here es (out-Ty c.ty) c.number ≡ true)
 IsNamedEntry es (entry.Operator o) = AllByRecursion IsNamedType o.params × IsNamed es o.body
 IsNamedEntry es (entry.AbstractOperator o) = AllByRecursion IsNamedType o.params × IsNamedType o.result

@@ -17,6 +17,7 @@ abbrev pub HasItsNames : Head → List Node → Type 0
 HasItsNames head.Values (x ∷ xs ∷ ts) = IsName x × AllByRecursion IsName (parts_of xs)
 HasItsNames head.Memory (x ∷ ps) = IsName x
 HasItsNames head.Module (x ∷ ps) = IsName x
+HasItsNames head.AscribedModule (x ∷ ps) = IsName x
 HasItsNames head.Globals (xs ∷ ts) = AllByRecursion IsName (parts_of xs)
 HasItsNames head.Procedure (x ∷ ps) = IsName x
 HasItsNames head.Formal (x ∷ ts) = IsName x
@@ -24,6 +25,7 @@ HasItsNames head.Variables (xs ∷ ts) = AllByRecursion IsName (parts_of xs)
 HasItsNames head.TypeDeclaration (x ∷ ps) = IsName x
 HasItsNames head.Enumeration xs = AllByRecursion IsName xs
 HasItsNames head.OperatorDeclaration (x ∷ ps) = IsName x
+HasItsNames head.ModuleType (x ∷ ps) = IsName x
 HasItsNames head.Lemma (x ∷ ps) = IsName x
 HasItsNames head.HaveForm (x ∷ ps) = IsName x
 HasItsNames head.HaveLemma (x ∷ ps) = IsName x

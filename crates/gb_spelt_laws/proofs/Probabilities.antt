@@ -1,5 +1,5 @@
 -- Rules that go from probabilities to judgments keep names.
-use Rattle.std.proofs.Common.{◌≡◌, Bool, true, false, List, [], ◌∷◌, ◌++◌, Option, Some, None, refl, subst}
+use Rattle.std.proofs.Common.{◌≡◌, Bool, true, false, ◌&&◌, if◌then◌else◌, List, [], ◌∷◌, ◌++◌, Option, Some, None, refl, subst}
 use Rattle.std.proofs.lemmas.Option.{same_Some, none-some}
 use Rattle.gb_core.specs.declared.refusal.Why.TheVariants.{Shape}
 use Rattle.gb_core.specs.declared.ty.Ty.{Ty}
@@ -16,15 +16,18 @@ use Rattle.gb_terms.specs.declared.term.Term.{Term, out-Term}
 use Rattle.gb_walk.specs.declared.change.Change.TheVariants.{ToSide}
 use Rattle.gb_steps.specs.declared.step.Conditions.{Conditions}
 use Rattle.gb_steps.specs.declared.step.ProbabilityRule.{ProbabilityRule}
-use Rattle.gb_steps.specs.declared.step.ProbabilityRule.TheVariants.{ByEquiv, ByPhoare}
+use Rattle.gb_steps.specs.declared.step.ProbabilityRule.TheVariants.{ByEquiv, ByPhoare, ByEvents, Within}
 use Rattle.gb_goal.specs.Answers.Answer.{given}
 use Rattle.gb_goal.specs.Goal.{Goal}
 use Rattle.gb_goal.specs.Goal.Goal.{hoare, phoare, equiv, ambient}
+use Rattle.gb_goal.specs.Rows.{refusing}
 use Rattle.gb_goal.specs.Scope.{Declarations, procedure_of}
 use Rattle.gb_chances.specs.Chances.{Chance, Bounded, Compared, last, before_last, chance_at, chance_of, compared_at, compared_of, unless, bounded_if, bounded_by, bounded_in, bounded_of, chances_by, chances_in, chances_of}
 use Rattle.gb_typing.specs.Forms.{located}
 use Rattle.gb_typing.proofs.Given.{refused_given, same_given}
+use Rattle.gb_parts.specs.Compared.{literal}
 use Rattle.gb_pr.specs.ByEquiv.{beside, by_equiv_goals, by_equiv_of, by_equiv_at, by_equiv_row}
+use Rattle.gb_pr.specs.ByEvents.{same_rel, same_start, by_events_goals, by_events_of, by_events_row, is_kept, within_of, within_row}
 use Rattle.gb_pr.specs.ByPhoare.{by_phoare_goals, by_phoare_of, by_phoare_at, by_phoare_row}
 use Rattle.gb_pr.specs.Rows.{probability_row}
 use Rattle.gb_pr.specs.Started.{given_for, started}
@@ -51,11 +54,11 @@ module _ (es : List Enumeration) where
     arguments : AllNamed es k.arguments
     event : IsNamed es k.event
 
-  last_named : (t : Term) (ts : List Term) → IsNamed es t → AllNamed es ts → IsNamed es (last t ts)
+  pub last_named : (t : Term) (ts : List Term) → IsNamed es t → AllNamed es ts → IsNamed es (last t ts)
   last_named t [] x y = x
   last_named t (u ∷ ts) x y = last_named u ts y.0 y.1
 
-  before_named : (t : Term) (ts : List Term) → IsNamed es t → AllNamed es ts → AllNamed es (before_last t ts)
+  pub before_named : (t : Term) (ts : List Term) → IsNamed es t → AllNamed es ts → AllNamed es (before_last t ts)
   before_named t [] x y = tt
   before_named t (u ∷ ts) x y = (x, before_named u ts y.0 y.1)
 
@@ -183,6 +186,45 @@ module _ (es : List Enumeration) where
     by_equiv_keeps (phoare a r p q b) h Gs e = refused_given Shape Gs e
     by_equiv_keeps (equiv a b p q) h Gs e = refused_given Shape Gs e
 
+  -- Events of one procedure, and bounds.
+
+  module _ (r : Rel) where
+    events_keep : (o : Option Compared) → ((c : Compared) → o ≡ Some c → NamedCompared c) → (Gs : List Goal) → by_events_of r o ≡ given Gs → AllOf es Gs
+    events_keep None h Gs e = refused_given Shape Gs e
+    events_keep (Some c) h Gs e = step (same_rel r c.rel && same_start c.left c.right) e
+      where
+        goals_named : NamedCompared c → AllOf es (by_events_goals c)
+        goals_named m =
+            let k = m.left in
+            let l = m.right in
+            (every_named es Own _ (as_likely_named es c.rel c.left.event c.right.event k.event l.event), tt)
+
+        step : (b : Bool) → (if b then given (by_events_goals c) else refusing Shape) ≡ given Gs → AllOf es Gs
+        step true e = subst (AllOf es) (same_given _ Gs e) (goals_named (h c refl))
+        step false e = refused_given Shape Gs e
+
+    by_events_keep : KeepsNames es (by_events_row r)
+    by_events_keep (ambient f) h Gs e = events_keep (chances_of f) (chances_named f h) Gs e
+    by_events_keep (hoare a p q) h Gs e = refused_given Shape Gs e
+    by_events_keep (phoare a s p q b) h Gs e = refused_given Shape Gs e
+    by_events_keep (equiv a b p q) h Gs e = refused_given Shape Gs e
+
+    bound_keeps : (o : Option Bounded) (Gs : List Goal) → within_of r o ≡ given Gs → AllOf es Gs
+    bound_keeps None Gs e = refused_given Shape Gs e
+    bound_keeps (Some b) Gs e = step (is_kept r b.rel (literal b.bound)) e
+      where
+        step : (b : Bool) → (if b then given [] else refusing Shape) ≡ given Gs → AllOf es Gs
+        step true e = subst (AllOf es) (same_given [] Gs e) tt
+        step false e = refused_given Shape Gs e
+
+    within_keeps : KeepsNames es (within_row r)
+    within_keeps (ambient f) h Gs e = bound_keeps (bounded_of f) Gs e
+    within_keeps (hoare a p q) h Gs e = refused_given Shape Gs e
+    within_keeps (phoare a s p q b) h Gs e = refused_given Shape Gs e
+    within_keeps (equiv a b p q) h Gs e = refused_given Shape Gs e
+
   pub probabilities_keep : (ds : Declarations) (r : ProbabilityRule) → IsNamedProbability es r → KeepsNames es (probability_row ds r)
   probabilities_keep ds (ByEquiv s) n = by_equiv_keeps ds s n
   probabilities_keep ds (ByPhoare s) n = by_phoare_keeps ds s n
+  probabilities_keep ds (ByEvents r) n = by_events_keep r
+  probabilities_keep ds (Within r) n = within_keeps r

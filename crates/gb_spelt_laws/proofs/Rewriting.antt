@@ -17,8 +17,9 @@ use Rattle.gb_terms.specs.Make.{node}
 use Rattle.gb_walk.specs.Change.{term_changed}
 use Rattle.gb_meaning.specs.Commands.{terms_in}
 use Rattle.gb_laws.proofs.Trees.{out_is}
+use Rattle.gb_steps.specs.declared.step.EventLaw.{EventLaw}
 use Rattle.gb_steps.specs.declared.step.RewriteRule.{RewriteRule}
-use Rattle.gb_steps.specs.declared.step.RewriteRule.TheVariants.{Forward, Back, Subst, Unfold}
+use Rattle.gb_steps.specs.declared.step.RewriteRule.TheVariants.{Forward, Back, Subst, Unfold, Law}
 use Rattle.gb_goal.specs.Answers.Answer.{given, refused}
 use Rattle.gb_goal.specs.Goal.{code_of, goal_at, goal_of}
 use Rattle.gb_goal.specs.Scope.{Declarations, entry_of}
@@ -27,31 +28,31 @@ use Rattle.gb_goal.specs.declared.scope.Entry.TheVariants as entry
 use Rattle.gb_goal.specs.declared.sequent.Hyp.{Hyp}
 use Rattle.gb_goal.specs.declared.sequent.Sequent.{Sequent}
 use Rattle.gb_typing.proofs.Given.{refused_at, same_given}
-use Rattle.gb_typing.proofs.Shapes.{code_row, node_out}
+use Rattle.gb_typing.proofs.Shapes.{code_row}
 use Rattle.gb_amb.specs.Parts.{concluding}
 use Rattle.gb_amb.specs.Quantified.{quantifies_modules, goal_quantifies_modules}
 use Rattle.gb_eval.specs.Script.{body_in, body_named}
 use Rattle.gb_rewrite.specs.Equations.{Pair, exchanged, equation_at, equivalence_at, equation_of, equivalence_of, is_variable_apart, used_up_of}
-use Rattle.gb_rewrite.specs.Rewritten.{is_same, is_quotient, rewritten, parts_rewritten, list_rewritten, stands}
-use Rattle.gb_rewrite.specs.Rewriting.{rewriting, others, hypothesis_rewritten, without, using_up, using_up_hypothesis, unfolded_everywhere, opening_by, rewrite_answer}
+use Rattle.gb_chances.specs.First.{is_quotient}
+use Rattle.gb_parts.specs.Same.{is_same}
+use Rattle.gb_rewrite.specs.Rewritten.{rewritten, parts_rewritten, list_rewritten, stands}
+use Rattle.gb_rewrite.specs.Events.{by_first}
+use Rattle.gb_rewrite.specs.Rewriting.{rewriting, others, hypothesis_rewritten, without, using_up, using_up_hypothesis, unfolded_everywhere, opening_by, concluding_by, by_event_law, rewrite_answer}
 use Rattle.gb_rewrite.specs.Unfolded.{names, is_operator, unfolded, all_unfolded, row_unfolded, statement_unfolded, body_unfolded, subject_unfolded, head_unfolded, programs_unfolded}
 use Rattle.gb_forms.specs.Arguments.{in_places}
 use Rattle.gb_rewrite.proofs.Layers.{unfolded_out}
 use Rattle.gb_rewrite.proofs.Parts.{rewritten_out}
 use Rattle.gb_shapes.specs.declared.place.Enumeration.{Enumeration}
 use Rattle.gb_spelt_laws.specs.Named.{IsNamed, AreNamed, IsNamedInstr, AreNamedInstrs, IsNamedSubject, IsNamedHead, IsNamedCode, IsNamedGoal, IsNamedHyp, IsNamedSequent}
-use Rattle.gb_spelt_laws.specs.Rules.{AreNamedOperators, IsNamedRewrite}
+use Rattle.gb_spelt_laws.specs.Rules.{AreNamedOperators, IsNamedLaw, IsNamedRewrite}
 use Rattle.gb_spelt_laws.proofs.Trees.{AllNamed, node_named, parts_named, terms_named}
 use Rattle.gb_spelt_laws.proofs.Changed.{PutNamed, changed_named}
-use Rattle.gb_spelt_laws.proofs.Rows.{goal_named}
+use Rattle.gb_spelt_laws.proofs.Rows.{goal_named, goal_of_node}
 use Rattle.gb_spelt_laws.proofs.Statements.{row_each, each_row}
+use Rattle.gb_spelt_laws.proofs.Events.{first_goal}
 use mathlib.Core.Former.{Count}
 
 module _ (es : List Enumeration) where
-  -- The goal of a node.
-  goal_of_node : (h : Head) (ts : List Term) (t : Ty) → IsNamedGoal es (goal_at (node h ts t) h ts) → IsNamedGoal es (goal_of (node h ts t))
-  goal_of_node h ts t x = subst (λ l. IsNamedGoal es (goal_at (node h ts t) l.head l.args)) (sym (node_out h ts t)) x
-
   either : (z : Bool) (b x : Term) → IsNamed es b → IsNamed es x → IsNamed es (if z then b else x)
   either true b x v w = v
   either false b x v w = w
@@ -104,7 +105,7 @@ module _ (es : List Enumeration) where
     at_rewritten f g w h ts x = at_mapped (rewritten a b) rewritten_named f g w h ts x
 
     goal_rewritten : (f : Term) → IsNamedGoal es (goal_of f) → IsNamedGoal es (goal_of (rewritten a b f))
-    goal_rewritten f x = subst (λ g. IsNamedGoal es (goal_of g)) (sym (rewritten_out a b f)) (either_goal (is_same f a) b g (goal_named es b n) (goal_of_node h us t (at_rewritten f g whole h ts x)))
+    goal_rewritten f x = subst (λ g. IsNamedGoal es (goal_of g)) (sym (rewritten_out a b f)) (either_goal (is_same f a) b g (goal_named es b n) (goal_of_node es h us t (at_rewritten f g whole h ts x)))
       where
         h : Head
         h = let z = out-Term f in z.head
@@ -167,7 +168,7 @@ module _ (es : List Enumeration) where
         by_operator true e =
             let k = parts_named es f (opened h ts e w) in
             goal_named es _ (changed_named es b (in_places us) (places_named us (all_mapped (unfolded x b) unfolded_named ts k.2)) n)
-        by_operator false e = goal_of_node h us t (at_mapped (unfolded x b) unfolded_named f (node h us t) whole h ts w)
+        by_operator false e = goal_of_node es h us t (at_mapped (unfolded x b) unfolded_named f (node h us t) whole h ts w)
 
     -- The same in programs.
 
@@ -327,8 +328,20 @@ module _ (es : List Enumeration) where
           step false true e = subst Keeps (same_given _ qs e) (concluded _ (everywhere_named x b (f b refl) q.conclusion n.conclusion), tt)
           step false false e = refused_at Shape place qs e
 
+      concluding_keeps : (place : Place) (o : Option Term) → ((f : Term) → o ≡ Some f → IsNamedGoal es (goal_of f)) → (qs : List Sequent) → concluding_by place q o ≡ given qs → Keeps qs
+      concluding_keeps place None k qs e = refused_at Shape place qs e
+      concluding_keeps place (Some f) k qs e = subst Keeps (same_given _ qs e) (concluded f (k f refl), tt)
+
+      law_keeps : (l : EventLaw) → IsNamedLaw es l → (place : Place) (qs : List Sequent) → by_event_law ds l place q ≡ given qs → Keeps qs
+      law_keeps l w place qs e = step (quantifies_modules q.conclusion) e
+        where
+          step : (y : Bool) → (if y then refused Shape place else concluding_by place q (by_first ds l q.conclusion)) ≡ given qs → Keeps qs
+          step true e = refused_at Shape place qs e
+          step false e = concluding_keeps place (by_first ds l q.conclusion) (λ f i. first_goal es ds l w q.conclusion n.conclusion f i) qs e
+
       pub rewriting_kept : (r : RewriteRule) → IsNamedRewrite es r → (place : Place) (qs : List Sequent) → rewrite_answer ds r place q ≡ given qs → Keeps qs
       rewriting_kept (Forward f) w place qs e = rewriting_keeps place (equivalence_of f) (λ p u. of_equivalence f w p u) qs e
       rewriting_kept (Back f) w place qs e = rewriting_keeps place (option_map exchanged (equivalence_of f)) (λ p u. back_named (equivalence_of f) (λ r v. of_equivalence f w r v) p u) qs e
       rewriting_kept (Subst i) w place qs e = hypothesis_keeps i place (slice_get q.hyps i) refl qs e
       rewriting_kept (Unfold x) w place qs e = opening_keeps x place (body_named ds x) (λ b u. in_scope x (entry_of ds x) refl b u) qs e
+      rewriting_kept (Law l) w place qs e = law_keeps l w place qs e

@@ -7,6 +7,7 @@ use Rattle.gb_terms.specs.declared.term.Subject.{Subject}
 use Rattle.gb_terms.specs.declared.term.Head.{Head}
 use Rattle.gb_terms.specs.declared.term.Head.TheVariants as head
 use Rattle.gb_terms.specs.declared.term.Head.TheVariants.{Proc, Body'}
+use Rattle.gb_terms.specs.Make.{node}
 use Rattle.gb_core.specs.declared.place.Place.{Place}
 use Rattle.gb_goal.specs.Answers.{Answer, placed_at}
 use Rattle.gb_goal.specs.Answers.Answer.{given, refused}
@@ -16,7 +17,7 @@ use Rattle.gb_goal.specs.Goal.Goal.{hoare, phoare, equiv, ambient}
 use Rattle.gb_goal.specs.Rows.{Row, concluding, each_concluding, answered, stepped}
 use Rattle.gb_goal.specs.declared.sequent.Sequent.{Sequent}
 use Rattle.gb_typing.proofs.Given.{refused_at, same_given}
-use Rattle.gb_typing.proofs.Shapes.{code_back, form_goal}
+use Rattle.gb_typing.proofs.Shapes.{code_back, form_goal, node_out}
 use Rattle.gb_shapes.specs.declared.place.Enumeration.{Enumeration}
 use Rattle.gb_spelt_laws.specs.Named.{IsNamedSubject, IsNamedHead, IsNamed, IsNamedCode, IsNamedGoal, IsNamedSequent}
 use Rattle.gb_spelt_laws.specs.Rules.{KeepsNames}
@@ -46,6 +47,10 @@ module _ (es : List Enumeration) where
   -- the goal of a form
   pub goal_named : (f : Term) → IsNamed es f → IsNamedGoal es (goal_of f)
   goal_named f h = let k = parts_named es f h in at_named f (out-Term f).head (out-Term f).args (out-Term f).ty k.0 k.2 h
+
+  -- the goal of a node
+  pub goal_of_node : (h : Head) (ts : List Term) (t : Ty) → IsNamedGoal es (goal_at (node h ts t) h ts) → IsNamedGoal es (goal_of (node h ts t))
+  goal_of_node h ts t x = subst (λ l. IsNamedGoal es (goal_at (node h ts t) l.head l.args)) (sym (node_out h ts t)) x
 
   -- the form of a goal
   pub form_named : (G : Goal) → IsNamedGoal es G → IsNamedGoal es (goal_of (form_of G))

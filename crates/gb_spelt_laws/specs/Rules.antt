@@ -21,6 +21,8 @@ use Rattle.gb_steps.specs.declared.step.BodyRule.TheVariants as on_bodies
 use Rattle.gb_steps.specs.declared.step.Between.{Between}
 use Rattle.gb_steps.specs.declared.step.Conditions.{Conditions}
 use Rattle.gb_steps.specs.declared.step.Contract.{Contract}
+use Rattle.gb_steps.specs.declared.step.EventLaw.{EventLaw}
+use Rattle.gb_steps.specs.declared.step.EventLaw.TheVariants as law
 use Rattle.gb_steps.specs.declared.step.ProbabilityRule.{ProbabilityRule}
 use Rattle.gb_steps.specs.declared.step.ProbabilityRule.TheVariants as probability
 use Rattle.gb_steps.specs.declared.step.RelationalRule.{RelationalRule}
@@ -101,6 +103,7 @@ AreNamedConditions es s = IsNamed es s.pre × IsNamed es s.post
 abbrev pub IsNamedProbability : List Enumeration → ProbabilityRule → Type 0
 IsNamedProbability es (probability.ByEquiv s) = AreNamedConditions es s
 IsNamedProbability es (probability.ByPhoare s) = AreNamedConditions es s
+IsNamedProbability es _ = Unit {0}
 
 -- a procedure between two others, and what is said of it
 pub record IsNamedBetween (es : List Enumeration) (t : Between) : Type 0 where
@@ -116,10 +119,16 @@ IsNamedRelational es (relational.Rnd fs) = AllByRecursion (IsNamed es) fs
 IsNamedRelational es (relational.Transitivity t) = IsNamedBetween es t
 IsNamedRelational es _ = Unit {0}
 
--- the equation that a rule is given
+-- the event by which a law divides a probability
+abbrev pub IsNamedLaw : List Enumeration → EventLaw → Type 0
+IsNamedLaw es (law.Split p f) = IsNamed es f
+IsNamedLaw es _ = Unit {0}
+
+-- the equation, or the event, that a rule is given
 abbrev pub IsNamedRewrite : List Enumeration → RewriteRule → Type 0
 IsNamedRewrite es (rewrite.Forward f) = IsNamed es f
 IsNamedRewrite es (rewrite.Back f) = IsNamed es f
+IsNamedRewrite es (rewrite.Law l) = IsNamedLaw es l
 IsNamedRewrite es _ = Unit {0}
 
 -- the names and the forms that any rule is given

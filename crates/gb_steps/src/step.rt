@@ -5,6 +5,7 @@ use gb_core::name::Name;
 use gb_core::place::Place;
 use gb_num::Frac;
 use gb_terms::module::ProcRef;
+use gb_terms::op::Rel;
 use gb_terms::term::{Form, RealTerm, Term, Terms};
 use sqlite_items::Items;
 
@@ -151,6 +152,23 @@ pub enum ProbabilityRule {
     ByEquiv(Conditions),
     /// A comparison of a probability with a bound, by a judgment of its procedure with these conditions.
     ByPhoare(Conditions),
+    /// Two probabilities of one procedure, from the same arguments and memory, that are compared so, by their events.
+    ByEvents(Rel),
+    /// A bound that every probability keeps: at least 0, or at most 1.
+    Within(Rel),
+}
+
+/// A law of events, by which a sum or a difference takes the place of the first probability that it speaks of.
+#[derive(Drop)]
+pub enum EventLaw {
+    /// An event that is a disjunction.
+    Or,
+    /// An event that is a negation.
+    Not,
+    /// An event that never is.
+    False,
+    /// A probability of this procedure, by whether its event comes with another one, or without it.
+    Split(Shared<ProcRef>, Form),
 }
 
 /// What is to hold before and after procedures.
@@ -260,4 +278,6 @@ pub enum RewriteRule {
     Subst(usize),
     /// An operator is replaced by its body.
     Unfold(Name),
+    /// Sums and differences of probabilities take the place of one.
+    Law(EventLaw),
 }

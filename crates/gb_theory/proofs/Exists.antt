@@ -106,6 +106,7 @@ module _
   come_of s c head.Require (import ∷ names ∷ []) = (requires_files s (parts_of names) (place_of c), refl)
   come_of s c head.TypeDeclaration parts = (brings s c (place_of c), refl)
   come_of s c head.OperatorDeclaration parts = (brings s c (place_of c), refl)
+  come_of s c head.ModuleType parts = (brings s c (place_of c), refl)
   come_of s c head.Axiom parts = (assumes s (place_of c), refl)
   come_of s c head.Module parts = (declares s c (place_of c), refl)
   come_of s c head.AscribedModule parts = (declares s c (place_of c), refl)

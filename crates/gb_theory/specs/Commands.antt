@@ -95,7 +95,7 @@ requires_files s names place = do
 abbrev pub assumes : Session → Place → Answer Session
 assumes s place = outside s.proof place >>= λ _. refused LeftOut place
 
--- a type, with its constants, or an operator is declared
+-- a type, with its constants, an operator or a module type is declared
 abbrev pub brings : Session → Node → Place → Answer Session
 brings s t place = do
   _ ← outside s.proof place
@@ -247,6 +247,7 @@ abbrev pub ComesToOf : Session → Node → Head → List Node → Answer Sessio
 ComesToOf s c head.Require (import ∷ names ∷ []) r = r ≡ requires_files s (parts_of names) (place_of c)
 ComesToOf s c head.TypeDeclaration parts r = r ≡ brings s c (place_of c)
 ComesToOf s c head.OperatorDeclaration parts r = r ≡ brings s c (place_of c)
+ComesToOf s c head.ModuleType parts r = r ≡ brings s c (place_of c)
 ComesToOf s c head.Axiom parts r = r ≡ assumes s (place_of c)
 ComesToOf s c head.Module parts r = r ≡ declares s c (place_of c)
 ComesToOf s c head.AscribedModule parts r = r ≡ declares s c (place_of c)

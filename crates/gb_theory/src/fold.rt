@@ -80,7 +80,7 @@ fn dispatch(
             [_, names] => require_files(state, names.parts.as_slice(), command.place),
             _ => Err(refused(Why::Syntax, command.place)),
         },
-        Head::TypeDeclaration | Head::OperatorDeclaration => {
+        Head::TypeDeclaration | Head::OperatorDeclaration | Head::ModuleType => {
             declare(alloc, state, command, command.place)
         }
         Head::Axiom => assume(state, command.place),
@@ -147,7 +147,7 @@ fn assume(state: &State, place: Place) -> Result<(), Refused>
     Err(refused(Why::LeftOut, place))
 }
 
-/// A type, with its constants, or an operator is declared.
+/// A type, with its constants, an operator or a module type is declared.
 fn declare(alloc: Global, state: &mut State, tree: &Node, place: Place) -> Result<(), Refused>
     ensures session { Gives (λ _. session_of state.new) (brings (session_of state.old) tree.now place) result }
     ensures kept { IsKept (session_of state.old) (session_of state.new) result }

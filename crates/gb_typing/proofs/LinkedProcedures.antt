@@ -98,6 +98,7 @@ fresh_later ((n, entry.Module m) ∷ ds) before c w k e = (other_name before k n
 fresh_later ((n, entry.Lemma q order) ∷ ds) before c w k e = (other_name before k n e w.0, fresh_later ds _ _ w.2 k (declared_more before _ k e))
 fresh_later ((n, entry.Type t) ∷ ds) before c w k e = (other_name before k n e w.0, fresh_later ds _ _ w.2 k (declared_more before _ k e))
 fresh_later ((n, entry.AbstractType) ∷ ds) before c w k e = (other_name before k n e w.0, fresh_later ds _ _ w.2 k (declared_more before _ k e))
+fresh_later ((n, entry.ModuleType y) ∷ ds) before c w k e = (other_name before k n e w.0, fresh_later ds _ _ w.2 k (declared_more before _ k e))
 fresh_later ((n, entry.Constant a) ∷ ds) before c w k e = (other_name before k n e w.0, fresh_later ds _ _ w.2 k (declared_more before _ k e))
 fresh_later ((n, entry.Operator o) ∷ ds) before c w k e = (other_name before k n e w.0, fresh_later ds _ _ w.2 k (declared_more before _ k e))
 fresh_later ((n, entry.AbstractOperator o) ∷ ds) before c w k e = (other_name before k n e w.0, fresh_later ds _ _ w.2 k (declared_more before _ k e))
@@ -137,6 +138,7 @@ module _ (cs : List Chosen) where
   hidden ((n, entry.Lemma q order) ∷ ds) c u h = hidden ds c u h
   hidden ((n, entry.Type t) ∷ ds) c u h = hidden ds c u h
   hidden ((n, entry.AbstractType) ∷ ds) c u h = hidden ds c u h
+  hidden ((n, entry.ModuleType y) ∷ ds) c u h = hidden ds c u h
   hidden ((n, entry.Constant a) ∷ ds) c u h = hidden ds c u h
   hidden ((n, entry.Operator o) ∷ ds) c u h = hidden ds (with_declared c n (declaration_of (entry.Operator o))) u h
   hidden ((n, entry.AbstractOperator o) ∷ ds) c u h = hidden ds (with_declared c n (declaration_of (entry.AbstractOperator o))) u h

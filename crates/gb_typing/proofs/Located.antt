@@ -109,6 +109,7 @@ first_located ds before c n f p (entry.Module m) w k r = record {
 first_located ds before c n f p (entry.Lemma q order) w k r = none_some p r
 first_located ds before c n f p (entry.Type t) w k r = none_some p r
 first_located ds before c n f p entry.AbstractType w k r = none_some p r
+first_located ds before c n f p (entry.ModuleType y) w k r = none_some p r
 first_located ds before c n f p (entry.Constant a) w k r = none_some p r
 first_located ds before c n f p (entry.Operator o) w k r = none_some p r
 first_located ds before c n f p (entry.AbstractOperator o) w k r = none_some p r
@@ -152,6 +153,9 @@ located ((h, entry.Type z) ∷ ds) before c w k n f p r =
 located ((h, entry.AbstractType) ∷ ds) before c w k n f p r =
     here_or_later h entry.AbstractType ds before c w k n f p
     (λ r. later_located (h, entry.AbstractType) ds c c refl n f p (located ds (before ++ (h, declaration_of entry.AbstractType) ∷ []) c w.2 (known_same c before h _ k) n f p r)) (bytes_eq n h) refl r
+located ((h, entry.ModuleType y) ∷ ds) before c w k n f p r =
+    here_or_later h (entry.ModuleType y) ds before c w k n f p
+    (λ r. later_located (h, entry.ModuleType y) ds c c refl n f p (located ds (before ++ (h, declaration_of (entry.ModuleType y)) ∷ []) c w.2 (known_same c before h _ k) n f p r)) (bytes_eq n h) refl r
 located ((h, entry.Constant z) ∷ ds) before c w k n f p r =
     here_or_later h (entry.Constant z) ds before c w k n f p
     (λ r. later_located (h, entry.Constant z) ds c c refl n f p (located ds (before ++ (h, declaration_of (entry.Constant z)) ∷ []) c w.2 (known_same c before h _ k) n f p r)) (bytes_eq n h) refl r

@@ -240,6 +240,7 @@ grown ((n, entry.Module m) ∷ ds) before c w k =
 grown ((n, entry.Lemma q order) ∷ ds) before c w k = grown ds _ c w.2 (known_same c before n _ k)
 grown ((n, entry.Type t) ∷ ds) before c w k = grown ds _ c w.2 (known_same c before n _ k)
 grown ((n, entry.AbstractType) ∷ ds) before c w k = grown ds _ c w.2 (known_same c before n _ k)
+grown ((n, entry.ModuleType y) ∷ ds) before c w k = grown ds _ c w.2 (known_same c before n _ k)
 grown ((n, entry.Constant a) ∷ ds) before c w k = grown ds _ c w.2 (known_same c before n _ k)
 grown ((n, entry.Operator o) ∷ ds) before c w k =
     let d : Context = with_declared c n (declaration_of (entry.Operator o)) in

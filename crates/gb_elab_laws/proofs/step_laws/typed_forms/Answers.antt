@@ -1,5 +1,6 @@
 use Rattle.gb_elab_laws.proofs.Brought.{hints_typed, steps_typed, uses_typed}
+use Rattle.gb_elab_laws.proofs.Events.{events_typed}
 use Rattle.gb_elab_laws.proofs.step_laws.typed_forms.Goals as goal
 
 pub returns : goal.returns
-returns x = record { conclusions = steps_typed; uses = λ ds w lemmas q t. uses_typed ds w q t lemmas; hints = λ ds w lemmas q t. hints_typed ds w q t lemmas }
+returns x = record { conclusions = steps_typed; uses = λ ds w lemmas q t. uses_typed ds w q t lemmas; hints = λ ds w lemmas q t. hints_typed ds w q t lemmas; events = events_typed }

@@ -23,6 +23,7 @@ returns c =
         conclusion = c.typed_forms.ensures.conclusions;
         used = c.typed_forms.ensures.uses;
         hints = c.typed_forms.ensures.hints;
+        events = c.typed_forms.ensures.events;
         rule = c.typed_rules.ensures.relational;
         call_rule = c.typed_rules.ensures.calls;
         probabilities_typed = c.typed_rules.ensures.probabilities;
