@@ -1,0 +1,5 @@
+pub mod Alike
+pub mod Examples
+pub mod Suits
+pub mod Instances
+pub mod Following
