@@ -108,6 +108,7 @@ opens_keeps o s t name place next g same e =
     let c = given_bind (within (declaration_limit (declarations_in s.scope)) place) _ next b.2 in
     let d = given_bind (within (each_limit (b.0 ∷ [])) place) _ next c.2 in
     let typed = o.typing.statement s.scope g.typed t b.0 b.1 in
+    let procedures = o.typing.procedures s.scope g.typed t b.0 b.1 in
     subst IsGood (given_is _ _ d.2) (record {
       typed = g.typed;
       sound = g.sound;
@@ -118,9 +119,9 @@ opens_keeps o s t name place next g same e =
       proof = record {
         free = subst (λ n. is_declared (declared s.scope) n ≡ false) same (o.typing.free s.scope t b.0 b.1);
         statement = typed;
-        goals = (record { typed = typed; ends = statement_ends o s.scope b.0 typed (o.typing.procedures s.scope g.typed t b.0 b.1) }, tt);
+        goals = (record { typed = typed; alone = (let w = procedures.without in w.modules); ends = statement_ends o s.scope b.0 typed procedures }, tt);
         leads = λ hs. hs.0;
-        procedures = o.typing.procedures s.scope g.typed t b.0 b.1;
+        procedures = procedures;
       };
     })
 

@@ -65,7 +65,7 @@ use Rattle.gb_use.specs.Uses as uses
 use Rattle.gb_rewrite.specs.Rewriting.{IsUsable, rewrite_answer}
 use Rattle.gb_elab_laws.specs.Calling.{EntriesCall, EntryCalls}
 use Rattle.gb_elab_laws.specs.Procedures.{AreStated, IsOfProcedures}
-use Rattle.gb_models.specs.Speaking.{DeclarationSpeaks, GoalSpeaks, ScopeSpeaks}
+use Rattle.gb_models.specs.Speaking.{DeclarationSpeaks, GoalSpeaks, IsWithoutModules, ScopeSpeaks}
 use Rattle.gb_smt.specs.Leaves.{leaves_of}
 use Rattle.gb_smt.specs.Apply.{IsClosed}
 use Rattle.gb_elab_prog.specs.Entries.{entries_given}
@@ -84,9 +84,10 @@ IsTypedGoalOf ds q = IsTypedSequent (context_of (declared ds)) q
 abbrev pub around : (ds : scope.Declarations) (q : Sequent) → IsTypedGoalOf ds q → Context
 around ds q t = of_sequent (context_of (declared ds)) q t.frames
 
--- a typed goal, the loops of whose bodies end
+-- a typed goal without modules, the loops of whose bodies end
 pub record IsGoalThatEnds (ds : scope.Declarations) (q : Sequent) : Type 0 where
   pub typed : IsTypedGoalOf ds q
+  pub alone : q.modules ≡ []
   pub ends : SequentEnds (declared ds) q
 
 -- What is declared stays typed.
@@ -105,13 +106,13 @@ pub record OfTyping : Type 0 where
       IsTyped (ds ++ (n, entry.Lemma q bs) ∷ [])
   pub body_rule : (ds : scope.Declarations) → IsTyped ds → (q : Sequent) (t : IsTypedGoalOf ds q) (n : Node) (s : Step) → step_given ds q n ≡ given s →
       (ls rs : List TypedName) → IsGoalOver (around ds q t) ls rs (goal_of q.conclusion) → bodies.IsTypedRule (around ds q t) s.rule ls rs (goal_of q.conclusion)
-  pub hints : (ds : scope.Declarations) → IsTyped ds → AreStated ds → (q : Sequent) (t : IsTypedGoalOf ds q) (n : Node) (s : Step) → step_given ds q n ≡ given s →
+  pub hints : (ds : scope.Declarations) → IsTyped ds → AreStated ds → (q : Sequent) (t : IsTypedGoalOf ds q) → q.modules ≡ [] → (n : Node) (s : Step) → step_given ds q n ≡ given s →
       AllByRecursion (λ f. IsForm (around ds q t) f × IsKnown (declared ds) q (around ds q t) f) (told s.rule)
   pub events : (ds : scope.Declarations) → IsTyped ds → (q : Sequent) (t : IsTypedGoalOf ds q) (n : Node) (s : Step) → step_given ds q n ≡ given s →
       (p : ProcRef) (f : Term) → s.rule ≡ Rewrite (rewrite_rule.Law (event_law.Split p f)) → IsForm (with_own (around ds q t) (after (context.procedure (around ds q t) p))) f
   pub conclusion : (ds : scope.Declarations) → IsTyped ds → (q : Sequent) (t : IsTypedGoalOf ds q) (n : Node) (s : Step) → step_given ds q n ≡ given s →
       (r : AmbientRule) → s.rule ≡ Ambient r → (u : IsTypedGoalOf ds q) × IsTypedStep (around ds q u) q.conclusion r
-  pub used : (ds : scope.Declarations) → IsTyped ds → AreStated ds → (q : Sequent) (t : IsTypedGoalOf ds q) (n : Node) (s : Step) → step_given ds q n ≡ given s →
+  pub used : (ds : scope.Declarations) → IsTyped ds → AreStated ds → (q : Sequent) (t : IsTypedGoalOf ds q) → q.modules ≡ [] → (n : Node) (s : Step) → step_given ds q n ≡ given s →
       (r : UseRule) → s.rule ≡ Use r → uses.IsTypedStep (declared ds) q (around ds q t) r
   pub rule : (ds : scope.Declarations) → IsTyped ds → (q : Sequent) (t : IsTypedGoalOf ds q) (n : Node) (s : Step) → step_given ds q n ≡ given s →
       (ls rs : List TypedName) → IsGoalOver (around ds q t) ls rs (goal_of q.conclusion) → IsTypedRule (around ds q t) s.rule ls rs (goal_of q.conclusion)
@@ -175,7 +176,7 @@ pub record OfLoops : Type 0 where
       AllByRecursion (IsTypedSequent (context_of ds)) qs × (SequentEnds ds q → AllByRecursion (SequentEnds ds) qs × (AllByRecursion (Holds ds) qs → Holds ds q))
   pub bodies : (ds : scope.Declarations) → IsTyped ds → (r : Rule) (G : Goal) (Gs : List Goal) → bodies.rule_row ds r G ≡ given Gs →
       (g : Setting) → IsSettingOver (declared ds) g → Entered ds g r G → LoopsEnd g G → AllByRecursion (LoopsEnd g) Gs
-  pub entered : (ds : scope.Declarations) → IsTyped ds → IsSound (declared ds) → ScopeSpeaks NoName (declared ds) → (q : Sequent) → IsTypedGoalOf ds q →
+  pub entered : (ds : scope.Declarations) → IsTyped ds → IsSound (declared ds) → ScopeSpeaks NoName (declared ds) → (q : Sequent) → IsTypedGoalOf ds q → q.modules ≡ [] →
       unproved_in ds (goal_of q.conclusion) ≡ None → InEachSetting (declared ds) q (λ g. ProceduresEnd ds g (goal_of q.conclusion))
   pub relational : (ds : scope.Declarations) (c : Context) (ls rs : List TypedName) (r : Rule) (G : Goal) → IsGoalOver c ls rs G → (Gs : List Goal) → equiv.rule_row ds r G ≡ given Gs → KeepsEnds (declared ds) Gs G
   pub chances : (ds : scope.Declarations) (c : Context) (ls rs : List TypedName) (r : Rule) (G : Goal) → IsGoalOver c ls rs G → (Gs : List Goal) → chance_rows.rule_row ds r G ≡ given Gs → KeepsEnds (declared ds) Gs G
@@ -197,7 +198,7 @@ pub record OfLoops : Type 0 where
   pub beside : (ds : Declarations) → IsTypedScope ds → (q : Sequent) (t : IsTypedSequent (context_of ds) q) → type_of q.conclusion ≡ ty.Bool → (ls rs : List TypedName) →
       IsGoalOver (of_sequent (context_of ds) q t.frames) ls rs (goal_of q.conclusion) → (n : ℕ) (u : Bool) (a : Acts) (place : Place) (qs : List Sequent) → beside_answer n u a place q ≡ given qs →
       AllByRecursion (IsTypedSequent (context_of ds)) qs × (SequentEnds ds q → AllByRecursion (SequentEnds ds) qs × (AllByRecursion (Holds ds) qs → Holds ds q))
-  pub proved : (ds : scope.Declarations) → IsTyped ds → IsSound (declared ds) → ScopeSpeaks NoName (declared ds) → (q : Sequent) → IsTypedGoalOf ds q → InEachSetting (declared ds) q (ProvedEnd ds)
+  pub proved : (ds : scope.Declarations) → IsTyped ds → IsSound (declared ds) → ScopeSpeaks NoName (declared ds) → (q : Sequent) → IsTypedGoalOf ds q → q.modules ≡ [] → InEachSetting (declared ds) q (ProvedEnd ds)
   pub with_proved : (ds : scope.Declarations) → IsTyped ds → (q : Sequent) (t : IsTypedGoalOf ds q) → type_of q.conclusion ≡ ty.Bool → (ls rs : List TypedName) →
       IsGoalOver (around ds q t) ls rs (goal_of q.conclusion) → InEachSetting (declared ds) q (ProvedEnd ds) → (row : Row) →
       ((Gs : List Goal) → row (goal_of q.conclusion) ≡ given Gs → IsSoundOnProved ds (around ds q t) Gs (goal_of q.conclusion)) →
@@ -209,8 +210,8 @@ pub record OfModels : Type 0 where
   pub model : (ds : scope.Declarations) → IsTyped ds → HasModel ds
   pub coupled : (ds : scope.Declarations) → IsTyped ds → (xs : List TypedName) (ms : List Name) (f h : ProcRef) (P Q : Term) → IsTypedGoalOf ds (stated xs ms (equivalence f h P Q)) →
       Holds (declared ds) (stated xs ms (equivalence f h P Q)) → AreCoupledInEachModel ds xs f h P Q
-  pub stay : (ds es : scope.Declarations) → IsTyped (ds ++ es) → (q : Sequent) → IsTypedGoalOf ds q → ScopeSpeaks NoName (declared (ds ++ es)) → GoalSpeaks NoName q → Holds (declared ds) q → Holds (declared (ds ++ es)) q
-  pub stay_typed : (ds es : scope.Declarations) → IsTyped (ds ++ es) → (q : Sequent) → IsTypedGoalOf ds q → IsTypedGoalOf (ds ++ es) q
+  pub stay : (ds es : scope.Declarations) → IsTyped (ds ++ es) → (q : Sequent) → IsTypedGoalOf ds q → IsWithoutModules q → ScopeSpeaks NoName (declared (ds ++ es)) → GoalSpeaks NoName q → Holds (declared ds) q → Holds (declared (ds ++ es)) q
+  pub stay_typed : (ds es : scope.Declarations) → IsTyped (ds ++ es) → (q : Sequent) → IsTypedGoalOf ds q → IsWithoutModules q → IsTypedGoalOf (ds ++ es) q
   pub parts : (ds es : scope.Declarations) → ScopeSpeaks NoName (declared (ds ++ es)) ↔ (ScopeSpeaks NoName (declared ds) × ScopeSpeaks NoName (declared es))
 
 pub record Grounds : Type 0 where

@@ -47,9 +47,9 @@ module _ (o : Grounds) where
   kept [] before w k h p l m = absurd m
   kept ((n, entry.Lemma q order) ∷ ds) before w k h p l (inl e) =
       subst (IsKept (before ++ (n, entry.Lemma q order) ∷ ds)) e (record {
-        typed = o.models.stay_typed before ((n, entry.Lemma q order) ∷ ds) w q h.0.typed;
+        typed = o.models.stay_typed before ((n, entry.Lemma q order) ∷ ds) w q h.0.typed p.0.without;
         procedures = p.0;
-        holds = o.models.stay before ((n, entry.Lemma q order) ∷ ds) w q h.0.typed k p.0.speaks h.0.holds;
+        holds = o.models.stay before ((n, entry.Lemma q order) ∷ ds) w q h.0.typed p.0.without k p.0.speaks h.0.holds;
       })
   kept ((n, entry.Lemma q order) ∷ ds) before w k h p l (inr m) =
       let d : List ℕ × Entry = (n, entry.Lemma q order) in onwards before d ds (kept ds (before ++ d ∷ []) (back IsTyped before d ds w) (back Spoken before d ds k) h.1 p.1) l m

@@ -11,6 +11,8 @@ pub mod EventsEnd
 pub mod RewritesEnd
 pub mod LiftedEnd
 pub mod KnownCallsEnd
+pub mod SameModules
+pub mod StepModules
 pub mod Grounds
 pub mod Given
 pub mod LoopProofs

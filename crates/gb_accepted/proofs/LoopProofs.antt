@@ -96,10 +96,11 @@ module _ (ds : Declarations) (a : Proc) where
     goals_end : (done left : List Loop) (l : Loop) → loops a.body.list ≡ done ++ (l ∷ left) → AreGoodLoops (declared ds) done → AllByRecursion (IsGoalThatEnds ds) (loop_goals l)
     goals_end done left l e good =
         let s = shown_at done l left e in (
-          record { typed = s.typed.0; ends = λ w size table m. each (declared ds) (declared_modules (declared ds)) (interpretation w size table) _ (λ i. above_ends (setting (declared ds) i) l) },
+          record { typed = s.typed.0; alone = refl; ends = λ w size table m. each (declared ds) (declared_modules (declared ds)) (interpretation w size table) _ (λ i. above_ends (setting (declared ds) i) l) },
           (
             record {
               typed = s.typed.1.0;
+              alone = refl;
               ends = mapped (λ i. AllByRecursion (LoopIsGood (setting (declared ds) i)) done) (λ i. LoopsEnd (setting (declared ds) i) (goal_of (falling_goal l).conclusion))
                   (λ i h. turn_ends (setting (declared ds) i) l (inner_before (LoopIsGood (setting (declared ds) i)) a.body.list done left l e h)) good;
             },

@@ -32,10 +32,9 @@ use Rattle.gb_laws.proofs.Exact.{trying}
 use Rattle.gb_laws.proofs.Fair.{is_fair}
 use Rattle.gb_typing.specs.Context.{Context}
 use Rattle.gb_typing.specs.Fits.{IsSettingOf}
-use Rattle.gb_typing.specs.Formulas.{IsFormula}
 use Rattle.gb_typing.specs.Rules.{outermost}
 use Rattle.gb_typing.specs.Scopes.{context_of, IsTypedScope}
-use Rattle.gb_typing.specs.Sequents.{AreFormulas, IsConclusion, of_sequent, IsTypedSequent}
+use Rattle.gb_typing.specs.Sequents.{AreHypotheses, IsConclusion, of_sequent, IsTypedSequent}
 use Rattle.gb_typing.specs.Typing.{IsForm}
 use Rattle.gb_typing.proofs.Conclusions.{formula_form}
 use Rattle.gb_typing.proofs.Given.{refused_at, same_given}
@@ -69,7 +68,7 @@ in_some x y e = cc
 
 -- The sides of an equation.
 
-equation_bare : (c : Context) (f : Term) → IsFormula c f → (a b : Term) → equation_of f ≡ Some (a, b) → IsBare a × IsBare b
+equation_bare : (c : Context) (f : Term) → IsForm c f → (a b : Term) → equation_of f ≡ Some (a, b) → IsBare a × IsBare b
 equation_bare c (Term' tt (more_of-Head (head.Builtin Equal) end_of-Head) n ts t) w a b e =
     let k = said_by_equation c (Term' tt (more_of-Head (head.Builtin Equal) end_of-Head) n ts t) a b w.typed e in
     let s = k.sides in
@@ -87,9 +86,9 @@ up_bare a b p e w = first_side (is_variable_apart b a) e
     first_side true e = subst (λ (x : Pair). IsBare x.1) (in_some (b, a) p e) w.0
     first_side false e = second_side (is_variable_apart a b) e
 
-hypothesis_typed : (c : Context) (hs : List Hyp) (i : ℕ) (h : Hyp) → slice_get hs i ≡ Some h → AreFormulas c hs → IsFormula c h.form
+hypothesis_typed : (c : Context) (hs : List Hyp) (i : ℕ) (h : Hyp) → slice_get hs i ≡ Some h → AreHypotheses c hs → IsForm c h.form
 hypothesis_typed c [] i h e w = cc
-hypothesis_typed c (x ∷ hs) zero h e w = subst (λ (y : Hyp). IsFormula c y.form) (in_some x h e) w.0
+hypothesis_typed c (x ∷ hs) zero h e w = subst (λ (y : Hyp). IsForm c y.form) (in_some x h e) w.0
 hypothesis_typed c (x ∷ hs) (suc i) h e w = hypothesis_typed c hs i h e w.1
 
 -- a term in the place of others keeps the bodies that a form judges
@@ -136,7 +135,7 @@ module _ (es : scope.Declarations) (scoped : IsTypedScope (declared es)) (q : Se
   back_ends f w place qs None u e h = refused_at Shape place qs (sym e)
   back_ends f w place qs (Some (a, b)) u e h = let k = said_by c f a b w.typed u in let s = k.sides in by_pair (b, a) (typed_bare c a s.left) place qs e h
 
-  used_ends : (i : ℕ) (place : Place) (f : Term) → IsFormula c f → (o : Option Pair) → equation_of f ≡ o → (r : Option Pair) → used_up_of o ≡ r → (qs : List Sequent) → given qs ≡ using_up i place q r → SequentEnds ds q → Ends qs
+  used_ends : (i : ℕ) (place : Place) (f : Term) → IsForm c f → (o : Option Pair) → equation_of f ≡ o → (r : Option Pair) → used_up_of o ≡ r → (qs : List Sequent) → given qs ≡ using_up i place q r → SequentEnds ds q → Ends qs
   used_ends i place f w o u None v qs e h = refused_at Shape place qs (sym e)
   used_ends i place f w None u (Some p) v qs e h = none_some p v
   used_ends i place f w (Some (a, b)) u (Some p) v qs e h = step (goal_quantifies_modules q) e

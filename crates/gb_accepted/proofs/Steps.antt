@@ -1,5 +1,5 @@
 -- Steps of a proof keep sessions good.
-use Rattle.std.proofs.Common.{◌≡◌, List, [], ◌∷◌, ◌++◌, sym, subst}
+use Rattle.std.proofs.Common.{◌≡◌, List, [], ◌∷◌, ◌++◌, sym, ◌∙◌, subst}
 use Rattle.std.specs.List.{AllByRecursion}
 use Rattle.gb_core.specs.declared.place.Place.{Place}
 use Rattle.gb_goal.specs.declared.sequent.Sequent.{Sequent}
@@ -22,6 +22,8 @@ use Rattle.gb_accepted.proofs.Claims.{claim_continues}
 use Rattle.gb_accepted.proofs.Good.{IsGoodClaim, IsGood}
 use Rattle.gb_accepted.proofs.Kept.{AreKept, each_kept}
 use Rattle.gb_accepted.proofs.Grounds.{IsGoalThatEnds, IsTypedGoalOf, Grounds}
+use Rattle.gb_accepted.proofs.SameModules.{HaveSameModules}
+use Rattle.gb_accepted.proofs.StepModules.{applied_same}
 use Rattle.gb_accepted.proofs.Subgoals.{applied_lead}
 use Rattle.gb_accepted.proofs.Tactics.{Lead, any_node, tactic_keeps}
 
@@ -29,26 +31,27 @@ use Rattle.gb_accepted.proofs.Tactics.{Lead, any_node, tactic_keeps}
 abbrev LeadIn : Declarations → List Sequent → List Sequent → Type 0
 LeadIn ds = Lead (IsGoalThatEnds ds) (Holds (declared ds))
 
--- typed goals, the loops of whose bodies end
-each_ends : (ds : Declarations) (qs : List Sequent) → AllByRecursion (IsTypedGoalOf ds) qs → AllByRecursion (SequentEnds (declared ds)) qs → AllByRecursion (IsGoalThatEnds ds) qs
-each_ends ds [] w h = tt
-each_ends ds (q ∷ qs) w h = (record { typed = w.0; ends = h.0 }, each_ends ds qs w.1 h.1)
+-- typed goals over the modules of a goal that is over none, the loops of whose bodies end
+each_ends : (ds : Declarations) (q : Sequent) → q.modules ≡ [] → (qs : List Sequent) → AllByRecursion (IsTypedGoalOf ds) qs → HaveSameModules q qs → AllByRecursion (SequentEnds (declared ds)) qs → AllByRecursion (IsGoalThatEnds ds) qs
+each_ends ds q alone [] w k h = tt
+each_ends ds q alone (p ∷ qs) w k h = (record { typed = w.0; alone = k.0 ∙ alone; ends = h.0 }, each_ends ds q alone qs w.1 k.1 h.1)
 
 -- A rule of a text leads from a goal to its subgoals.
 pub rule_leads : Grounds → (s : Session) → IsGood s → AreKept s.scope → (t : Node) (q : Sequent) → IsGoalThatEnds s.scope q → (rs : List Sequent) → RuleAnswers s.scope t q (given rs) → LeadIn s.scope (q ∷ []) rs
 rule_leads o s g kept t q goal rs h =
     let ds = s.scope in
     let typed = goal.typed in
+    let alone = goal.alone in
     let a = given_after (step_given ds q t) (λ (step : Step) (x : Answer (List Sequent)). (y : Answer (List Sequent)) × Applied ds step.rule step.place q y × (x ≡ (y >>= allowed step.place))) rs h in
     let b = given_bind a.2.0 (allowed a.0.place) rs (sym a.2.2) in
     let c = given_bind (within (each_limit b.0) a.0.place) (λ _. given b.0) rs b.2 in
     let applied : Applied ds a.0.rule a.0.place q (given b.0) = subst (Applied ds a.0.rule a.0.place q) b.1 a.2.1 in
     let k =
-    applied_lead o ds g.typed g.sound g.speaks kept.hold q typed a.0.rule a.0.place b.0
+    applied_lead o ds g.typed g.sound g.speaks kept.hold q typed alone a.0.rule a.0.place b.0
     (λ ls rs w. (o.typing.body_rule ds g.typed q typed t a.0 a.1 ls rs w, o.typing.rule ds g.typed q typed t a.0 a.1 ls rs w, o.typing.call_rule ds g.typed q typed t a.0 a.1 ls rs w, o.typing.probabilities_typed ds g.typed q typed t a.0 a.1 ls rs w))
-    (o.typing.conclusion ds g.typed q typed t a.0 a.1) (o.typing.used ds g.typed (λ x l e. kept.stated x l e) q typed t a.0 a.1) (o.typing.hints ds g.typed (λ x l e. kept.stated x l e) q typed t a.0 a.1)
+    (o.typing.conclusion ds g.typed q typed t a.0 a.1) (o.typing.used ds g.typed (λ x l e. kept.stated x l e) q typed alone t a.0 a.1) (o.typing.hints ds g.typed (λ x l e. kept.stated x l e) q typed alone t a.0 a.1)
     (o.typing.events ds g.typed q typed t a.0 a.1) applied in
-    subst (LeadIn ds (q ∷ [])) (given_is b.0 rs c.2) (record { typed = each_ends ds b.0 k.typed (k.ends goal.ends); leads = λ h. (k.leads goal.ends h, tt) })
+    subst (LeadIn ds (q ∷ [])) (given_is b.0 rs c.2) (record { typed = each_ends ds q alone b.0 k.typed (applied_same q ds a.0.rule a.0.place b.0 applied) (k.ends goal.ends); leads = λ h. (k.leads goal.ends h, tt) })
 
 -- the proof goes on with other goals
 continued_keeps : (s : Session) (p : OpenProof) (rest qs : List Sequent) (place : Place) (next : Session) → IsGood s → IsGoodClaim s.scope p.claim (qs ++ rest) →

@@ -135,7 +135,8 @@ while_refused ds on.Right v f = refl
 anywhere : (ds : holds.Declarations) (q : Sequent) → InEachSetting ds q (λ g. Unit {0})
 anywhere ds q = λ w size table m. each ds (declared_modules ds) (interpretation w size table) _ (λ i. each ds q.modules i (λ k. Unit {0}) (λ k. tt))
 
-module _ (g : Grounds) (ds : Declarations) (scope : IsTyped ds) (sound : IsSound (declared ds)) (speaks : ScopeSpeaks NoName (declared ds)) (holds : LemmasHold (declared ds)) (q : Sequent) (t : IsTypedGoalOf ds q) where
+module _ (g : Grounds) (ds : Declarations) (scope : IsTyped ds) (sound : IsSound (declared ds)) (speaks : ScopeSpeaks NoName (declared ds)) (holds : LemmasHold (declared ds)) (q : Sequent) (t : IsTypedGoalOf ds q)
+    (alone : q.modules ≡ []) where
   -- no rule on judgments or on probabilities works where a module is quantified in front
   ambient_refused : (r : Rule) (f : Term) → has_module f ≡ true → row_of ds r (ambient f) ≡ refusing Shape
   ambient_refused (rule.OnBodies r) f e = g.rules.bodies_refuse ds (rule.OnBodies r) f
@@ -200,7 +201,7 @@ module _ (g : Grounds) (ds : Declarations) (scope : IsTyped ds) (sound : IsSound
   by_proved_law r place qs law e =
       by_row r place qs e
       (λ ls rs w truth gives.
-      let k = g.loops.with_proved ds scope q t truth ls rs w (g.loops.proved ds scope sound speaks q t) (row_of ds r) (law ls rs w) qs gives in
+      let k = g.loops.with_proved ds scope q t truth ls rs w (g.loops.proved ds scope sound speaks q t alone) (row_of ds r) (law ls rs w) qs gives in
       record { typed = k.0; ends = λ h. (k.1 h).0; leads = λ h. (k.1 h).1 })
 
   -- the same statements on both sides
@@ -229,7 +230,7 @@ module _ (g : Grounds) (ds : Declarations) (scope : IsTyped ds) (sound : IsSound
   entered_ends on_bodies.Proc place x e = by_unproved (unproved_in ds G) refl e
     where
       by_unproved : (o : Option ProcName) → unproved_in ds G ≡ o → unless_unproved o place ≡ given x → InEachSetting (declared ds) q (λ s. ProceduresEnd ds s G)
-      by_unproved None k e = g.loops.entered ds scope sound speaks q t k
+      by_unproved None k e = g.loops.entered ds scope sound speaks q t alone k
       by_unproved (Some p) k e = nothing_given _ _ x e
   entered_ends on_bodies.Skip place x e = anywhere (declared ds) q
   entered_ends (on_bodies.Seq k r) place x e = anywhere (declared ds) q

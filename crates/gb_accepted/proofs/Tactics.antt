@@ -11,7 +11,7 @@ use Rattle.gb_script.specs.declared.tree.Node.{Node, roll-Node, roll-out-Node, o
 use Rattle.gb_script.specs.Each.{Each, EachOf}
 use Rattle.gb_script.specs.Each.Each.{each}
 use Rattle.gb_script.specs.Each.EachOf.{none, more}
-use Rattle.gb_script.specs.Tree.{node, head_of, text_of, parts_of, place_of}
+use Rattle.gb_script.specs.Tree.{node, head_of, text_of, place_of}
 use Rattle.gb_limits.specs.Numbers.{number_of}
 use Rattle.gb_goal.specs.Answers.{Answer, ◌>>=◌, nowhere, placed_at}
 use Rattle.gb_goal.specs.Answers.Answer.{given, refused}

@@ -1,5 +1,5 @@
 -- Goals that follow from goals in the same context.
-use Rattle.std.proofs.Common.{List, [], ◌∷◌, map}
+use Rattle.std.proofs.Common.{ℕ, List, [], ◌∷◌, ◌++◌, map}
 use Rattle.std.specs.List.{AllByRecursion}
 use Rattle.gb_core.specs.declared.value.Value.{Value}
 use Rattle.gb_terms.specs.declared.term.Term.{Term}
@@ -12,12 +12,23 @@ use Rattle.gb_holds.specs.Settings.{Interpretation, setting, types_of}
 use Rattle.gb_holds.specs.Truth.{Truth}
 use Rattle.gb_holds.specs.Holds.{AreValues, context, AreTrue, declared_modules, interpretation, Holds}
 use Rattle.gb_typing.specs.Context.{Context}
+use Rattle.gb_typing.specs.Typing.{IsForm}
 use Rattle.gb_typing.specs.Fits.{IsSettingOf, IsStateOf}
-use Rattle.gb_typing.specs.Sequents.{IsConclusion, AreFormulas, of_sequent, IsTypedSequent}
+use Rattle.gb_typing.specs.Sequents.{IsConclusion, AreHypotheses, of_sequent, IsTypedSequent}
 use Rattle.gb_typing.specs.Scopes.{context_of, IsTypedScope}
 use Rattle.gb_typing.proofs.Models.{each_setting}
 use Rattle.gb_amb.specs.Steps.{LeadTo}
 use Rattle.gb_typing.proofs.Lifted.{InEachSequent, each, joined, state_fits}
+
+-- hypotheses with one more behind them
+pub hypotheses_with : (c : Context) (hs : List Hyp) (name : List ℕ) (f : Term) → AreHypotheses c hs → IsForm c f → AreHypotheses c (hs ++ record { name = name; form = f } ∷ [])
+hypotheses_with c [] name f w v = (v, tt)
+hypotheses_with c (x ∷ hs) name f w v = (w.0, hypotheses_with c hs name f w.1 v)
+
+-- hypotheses in another context
+pub hypotheses_to : (c d : Context) → ((f : Term) → IsForm c f → IsForm d f) → (hs : List Hyp) → AreHypotheses c hs → AreHypotheses d hs
+hypotheses_to c d m [] w = tt
+hypotheses_to c d m (x ∷ hs) w = (m x.form w.0, hypotheses_to c d m hs w.1)
 
 -- what a goal of a context says: its hypotheses and its conclusion
 pub record Part : Type 0 where
@@ -32,7 +43,7 @@ module _ (ds : Declarations) (scope : IsTypedScope ds) (q : Sequent) (t : IsType
   placed p = record q { hyps = p.hyps; conclusion = p.conclusion }
 
   abbrev pub IsTypedPart : Part → Type 0
-  IsTypedPart p = AreFormulas here p.hyps × IsConclusion here p.conclusion
+  IsTypedPart p = AreHypotheses here p.hyps × IsConclusion here p.conclusion
 
   abbrev pub IsTruePart : Interpretation → State → Part → Type 0
   IsTruePart k s p = AreTrue ds p.hyps k s → Truth ds p.conclusion k s

@@ -1,7 +1,5 @@
 -- Quantifiers that are taken into the context.
-use Rattle.std.proofs.Common.{◌≡◌, ℕ, ◌||◌, Bool, true, false, List, [], ◌∷◌, ◌++◌, length, map, Some, None, refl, ap, sym, ◌∙◌, subst, arith}
-use Rattle.std.specs.List.{list_any}
-use Rattle.std.proofs.lemmas.Bool.{false≢true}
+use Rattle.std.proofs.Common.{◌≡◌, ℕ, true, false, List, [], ◌∷◌, ◌++◌, length, map, Some, None, refl, ap, sym, ◌∙◌, subst, arith}
 use Rattle.std.proofs.lemmas.List.{length-append, length-map}
 use Rattle.gb_core.specs.declared.ty.Ty.{Ty}
 use Rattle.gb_core.specs.declared.value.Value.{Value}
@@ -37,19 +35,20 @@ use Rattle.gb_laws.specs.Typing.Binder.{value, memory}
 use Rattle.gb_typing.specs.Context.{Context, Frame, within}
 use Rattle.gb_typing.specs.Typing.{IsForm}
 use Rattle.gb_typing.specs.Fits.{IsSettingOf}
-use Rattle.gb_typing.specs.Sequents.{with_modules, AreFormulas, IsConclusion, of_sequent, IsTypedSequent}
+use Rattle.gb_typing.specs.Sequents.{with_modules, AreHypotheses, IsConclusion, of_sequent, IsTypedSequent}
 use Rattle.gb_typing.specs.Scopes.{context_of, IsTypedScope}
 use Rattle.gb_typing.proofs.Conclusions.{formula_form}
 use Rattle.gb_typing.proofs.Made.{IsNode, parts_typed}
 use Rattle.gb_typing.proofs.Models.{each_setting}
 use Rattle.gb_goal.specs.Goal.Goal.{ambient}
-use Rattle.gb_typing.proofs.TypedGoals.{goal_conclusion, no_module as front_of}
+use Rattle.gb_typing.proofs.TypedGoals.{goal_conclusion, goal_front, no_module as front_of}
 use Rattle.gb_typing.proofs.Lifted.{InEachSequent, joined, sequent_outermost}
 use Rattle.gb_amb.specs.Quantified.{quantifies_modules, goal_quantifies_modules}
 use Rattle.gb_amb.specs.Introduced.{with_variable, with_memory}
 use Rattle.gb_amb.specs.Steps.{LeadTo}
-use Rattle.gb_amb.proofs.Cases.{form_formula, conclusion_formula}
-use Rattle.gb_amb.proofs.Fronts.{none_in_front}
+use Rattle.gb_amb.proofs.Around.{hypotheses_to}
+use Rattle.gb_amb.proofs.Cases.{conclusion_formula}
+use Rattle.gb_amb.proofs.Fronts.{first, none_in_front}
 use Rattle.gb_amb.proofs.Wider.{More, more_variable, more_memory, small, large, wider, variable_typed, memory_typed, to_memory}
 use Rattle.gb_amb.proofs.States.{memory_at, variable_agrees, variable_means, memory_agrees, memory_means}
 
@@ -85,28 +84,6 @@ as_many T [] (x ∷ vs) w = absurd w
 as_many T (t ∷ us) [] w = absurd w
 as_many T (t ∷ us) (x ∷ vs) w = let k = as_many T us vs w.1 in omega (arith, k)
 
-first : (a b : Bool) → (a || b) ≡ false → a ≡ false
-first true b e = absurd (false≢true (sym e))
-first false b e = refl
-
-second : (a b : Bool) → (a || b) ≡ false → b ≡ false
-second true b e = absurd (false≢true (sym e))
-second false b e = e
-
--- formulas in which no quantifier over modules stands are forms
-abbrev AreForms : Context → List Hyp → Type 0
-AreForms c [] = Unit {0}
-AreForms c (h ∷ hs) = IsForm c h.form × AreForms c hs
-
-forms_of : (c : Context) (hs : List Hyp) → AreFormulas c hs → list_any (λ h. quantifies_modules h.form) hs ≡ false → AreForms c hs
-forms_of c [] w e = tt
-forms_of c (h ∷ hs) w e =
-    (formula_form c h.form w.0 (none_in_front h.form (first (quantifies_modules h.form) _ e)), forms_of c hs w.1 (second (quantifies_modules h.form) _ e))
-
-forms_to : (c d : Context) → ((f : Term) → IsForm c f → IsForm d f) → (hs : List Hyp) → AreForms c hs → AreFormulas d hs
-forms_to c d m [] w = tt
-forms_to c d m (h ∷ hs) w = (form_formula d h.form (m h.form w.0), forms_to c d m hs w.1)
-
 module _ (ds : Declarations) (scope : IsTypedScope ds) (q : Sequent) (t : IsTypedSequent (context_of ds) q) (plain : goal_quantifies_modules q ≡ false) where
   abbrev c : Context
   c = of_sequent (context_of ds) q t.frames
@@ -129,22 +106,17 @@ module _ (ds : Declarations) (scope : IsTypedScope ds) (q : Sequent) (t : IsType
   conclusion_form : judges_bodies (out-Term q.conclusion).head ≡ false → IsForm c q.conclusion
   conclusion_form e = formula_form c q.conclusion (conclusion_formula c q.conclusion t.conclusion e) no_module
 
-  hyp_forms : AreForms c q.hyps
-  hyp_forms = forms_of c q.hyps t.hyps (second (quantifies_modules q.conclusion) _ plain)
-
   -- a form of the goal is one of a wider goal
   to_wider : (vs : List Ty) (ms : List Frame) → More us vs ns ms → (f : Term) → IsForm c f → IsForm (large base us ns vs ms) f
   to_wider vs ms m f w = wider base us ns vs ms m f (subst (λ d. IsForm d f) here w)
 
   -- the hypotheses stay true in a state in which forms of the goal mean the same
   stay_true : (k : Interpretation) (s z : State) → ((f : Term) → IsForm c f → IsTrueIn (setting ds k) f s → IsTrueIn (setting ds k) f z) →
-      (hs : List Hyp) → list_any (λ h. quantifies_modules h.form) hs ≡ false → AreForms c hs → AreTrue ds hs k s → AreTrue ds hs k z
-  stay_true k s z m [] e w h = tt
-  stay_true k s z m (x ∷ hs) e w h =
-      let n = none_in_front x.form (first (quantifies_modules x.form) _ e) in (
-        (without_modules ds x.form k z n).1 (m x.form w.0 ((without_modules ds x.form k s n).0 h.0)),
-        stay_true k s z m hs (second (quantifies_modules x.form) _ e) w.1 h.1,
-      )
+      (hs : List Hyp) → AreHypotheses c hs → AreTrue ds hs k s → AreTrue ds hs k z
+  stay_true k s z m [] w h = tt
+  stay_true k s z m (x ∷ hs) w h =
+      let n = goal_front c [] [] (ambient x.form) w.0 in
+      ((without_modules ds x.form k z n).1 (m x.form w.0 ((without_modules ds x.form k s n).0 h.0)), stay_true k s z m hs w.1 h.1)
 
   abbrev Says : Interpretation → Type 0
   Says k = (vs : List Value) → AreValues (types_of ds k) us vs → (ms : List Memory) → AreTrue ds q.hyps k (context vs ms) → Truth ds q.conclusion k (context vs ms)
@@ -188,7 +160,7 @@ module _ (ds : Declarations) (scope : IsTypedScope ds) (q : Sequent) (t : IsType
       logical = finite_with q.logical (record { name = name; ty = u }) t.logical parts.0.0;
       frames = t.frames;
       memories = t.memories;
-      hyps = subst (λ d. AreFormulas d q.hyps) context_one (forms_to c (large base us ns (us ++ u ∷ []) ns) (to_wider (us ++ u ∷ []) ns (more_variable us ns u)) q.hyps hyp_forms);
+      hyps = subst (λ d. AreHypotheses d q.hyps) context_one (hypotheses_to c (large base us ns (us ++ u ∷ []) ns) (to_wider (us ++ u ∷ []) ns (more_variable us ns u)) q.hyps t.hyps);
       conclusion = subst (λ d. IsConclusion d one.conclusion) context_one (form_conclusion (large base us ns (us ++ u ∷ []) ns) one.conclusion form_one);
     }
 
@@ -209,7 +181,7 @@ module _ (ds : Declarations) (scope : IsTypedScope ds) (q : Sequent) (t : IsType
       hyps_one =
           stay_true k (context vs ms) (context (vs ++ v ∷ []) ms)
           (λ f z h i good. sym (ap truth (variable_agrees base us ns (setting ds k) fits i good u vs many v ms f (subst (λ d. IsForm d f) here z))) ∙ h i good)
-          q.hyps (second (quantifies_modules q.conclusion) _ plain) hyp_forms a
+          q.hyps t.hyps a
 
       body_true : den (setting ds k) j f (under (context vs ms) (value_bound (finite v))) ≡ true
       body_true =
@@ -259,7 +231,7 @@ module _ (ds : Declarations) (scope : IsTypedScope ds) (q : Sequent) (t : IsType
       logical = t.logical;
       frames = t.frames ++ ls ∷ [];
       memories = longer t.frames q.memories ls name t.memories;
-      hyps = subst (λ d. AreFormulas d q.hyps) context_other (forms_to c (large base us ns us (ns ++ Some ls ∷ [])) (to_wider us (ns ++ Some ls ∷ []) (more_memory us ns (Some ls))) q.hyps hyp_forms);
+      hyps = subst (λ d. AreHypotheses d q.hyps) context_other (hypotheses_to c (large base us ns us (ns ++ Some ls ∷ [])) (to_wider us (ns ++ Some ls ∷ []) (more_memory us ns (Some ls))) q.hyps t.hyps);
       conclusion = subst (λ d. IsConclusion d other.conclusion) context_other (form_conclusion (large base us ns us (ns ++ Some ls ∷ [])) other.conclusion form_other);
     }
 
@@ -275,7 +247,7 @@ module _ (ds : Declarations) (scope : IsTypedScope ds) (q : Sequent) (t : IsType
       hyps_other =
           stay_true k (context vs ms) (context vs longer_ms)
           (λ f z h i good. sym (ap truth (memory_agrees base us ns (setting ds k) fits i good vs ms m f (subst (λ d. IsForm d f) here z))) ∙ h i good)
-          q.hyps (second (quantifies_modules q.conclusion) _ plain) hyp_forms a
+          q.hyps t.hyps a
 
       inner_true : den (setting ds k) j f (under (context vs ms) (memory_bound m)) ≡ true
       inner_true =

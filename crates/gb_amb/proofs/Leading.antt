@@ -33,7 +33,7 @@ use Rattle.gb_holds.specs.Holds.{AreTrue}
 use Rattle.gb_holds.proofs.Fronts.{without_modules}
 use Rattle.gb_typing.specs.Context.{Context}
 use Rattle.gb_typing.specs.Typing.{IsForm}
-use Rattle.gb_typing.specs.Sequents.{IsConclusion, AreFormulas, IsTypedSequent}
+use Rattle.gb_typing.specs.Sequents.{IsConclusion, IsTypedSequent}
 use Rattle.gb_typing.specs.Scopes.{context_of, IsTypedScope}
 use Rattle.gb_typing.proofs.Sound.{procedures_sound, sound_form}
 use Rattle.gb_typing.specs.Forms.{implies_form, not_form}
@@ -45,8 +45,8 @@ use Rattle.gb_goal.specs.Goal.{judges_bodies}
 use Rattle.gb_amb.specs.Parts.{concluding, each_concluding, by_shape, parts_of, by_parts}
 use Rattle.gb_amb.specs.Closed.{IsAmong}
 use Rattle.gb_amb.specs.Steps.{assuming, by_cases, LeadTo}
-use Rattle.gb_amb.proofs.Around.{Part, here, placed, IsTypedPart, IsTruePart, parts_lead}
-use Rattle.gb_amb.proofs.Cases.{form_formula, conclusion_formula, implication_made, implication_typed, cases_used}
+use Rattle.gb_amb.proofs.Around.{Part, here, placed, hypotheses_with, IsTypedPart, IsTruePart, parts_lead}
+use Rattle.gb_amb.proofs.Cases.{conclusion_formula, implication_made, implication_typed, cases_used}
 use Rattle.gb_amb.proofs.Taken.{IsTaken, IsUnder, implies_under, is_implies, parts_taken}
 
 -- a form among hypotheses is true where they are
@@ -72,10 +72,6 @@ formula_conclusion c (Term' a (more_of-Head (head.Hoare (Body' k is)) end_of-Hea
 formula_conclusion c (Term' a (more_of-Head (head.Phoare (Body' k is) r) end_of-Head) n ts t) w = absurd w.typed.1
 formula_conclusion c (Term' a (more_of-Head (head.Equiv (Body' k is) (Body' l js)) end_of-Head) n ts t) w = absurd w.typed.1.0
 formula_conclusion c f w = w
-
-formulas_with : (c : Context) (hs : List Hyp) (name : List ℕ) (f : Term) → AreFormulas c hs → IsForm c f → AreFormulas c (hs ++ record { name = name; form = f } ∷ [])
-formulas_with c [] name f w v = (form_formula c f v, tt)
-formulas_with c (x ∷ hs) name f w v = (w.0, formulas_with c hs name f w.1 v)
 
 module _ (ds : Declarations) (scope : IsTypedScope ds) (q : Sequent) (t : IsTypedSequent (context_of ds) q) where
   abbrev pub c : Context
@@ -168,7 +164,7 @@ module _ (ds : Declarations) (scope : IsTypedScope ds) (q : Sequent) (t : IsType
   pub by_cut : (name : List ℕ) (f : Term) → IsForm c f → LeadTo ds q (concluding q f ∷ assuming q name f ∷ [])
   by_cut name f w =
       parts_lead ds scope q t (part_of f ∷ record { hyps = q.hyps ++ record { name = name; form = f } ∷ []; conclusion = q.conclusion } ∷ [])
-      ((t.hyps, form_conclusion c f w), ((formulas_with c q.hyps name f t.hyps w, t.conclusion), tt))
+      ((t.hyps, form_conclusion c f w), ((hypotheses_with c q.hyps name f t.hyps w, t.conclusion), tt))
       (λ k fits s fit x h. x.1.0 (all_true ds k s q.hyps name f h (x.0 h)))
 
   -- What stands in front of the conclusion, taken into the context.
@@ -188,7 +184,7 @@ module _ (ds : Declarations) (scope : IsTypedScope ds) (q : Sequent) (t : IsType
       subst (λ x. LeadTo ds q (with_premise q name x f ∷ [])) (ap (first_of a) args)
       (subst (λ x. LeadTo ds q (with_premise q name k.premise x ∷ [])) (ap (second_of a) args)
       (parts_lead ds scope q t (record { hyps = q.hyps ++ record { name = name; form = k.premise } ∷ []; conclusion = k.rest } ∷ [])
-      ((formulas_with c q.hyps name k.premise t.hyps k.form, formula_conclusion c k.rest k.formula), tt)
+      ((hypotheses_with c q.hyps name k.premise t.hyps k.form, formula_conclusion c k.rest k.formula), tt)
       (λ i fits s fit x hyps. subst (λ z. Truth ds z i s) (sym k.is)
       (implication_made ds i s k.premise k.rest (sound_form (setting ds i) c (procedures_sound c (setting ds i) fits) k.premise (let w = k.form in w.typed))
       (λ p. x.0 (all_true ds i s q.hyps name k.premise hyps

@@ -1,8 +1,7 @@
 -- `rcondt` and `rcondf` on one of two programs are sound where loops end.
 use Rattle.std.proofs.Common.{◌≡◌, ℕ, ◌<◌, ◌||◌, Bool, true, false, if◌then◌else◌, List, [], ◌∷◌, ◌++◌, length, map, Option, Some, None, refl, ap, sym, ◌∙◌, subst, arith}
-use Rattle.std.proofs.lemmas.Bool.{false≢true, or_parts}
 use Rattle.std.proofs.lemmas.List.{length-append, length-map}
-use Rattle.std.specs.List.{AllByRecursion, list_any}
+use Rattle.std.specs.List.{AllByRecursion}
 use Rattle.gb_core.specs.declared.place.Place.{Place}
 use Rattle.gb_core.specs.declared.refusal.Why.TheVariants.{Shape}
 use Rattle.gb_core.specs.declared.ty.Ty.{Ty}
@@ -49,10 +48,9 @@ use Rattle.gb_typing.specs.Goals.{IsGoalOver}
 use Rattle.gb_typing.specs.Meaning.{Stands, run, denominator}
 use Rattle.gb_typing.specs.Programs.{EachStatement, IsBody, IsExpression}
 use Rattle.gb_typing.specs.Scopes.{context_of, IsTypedScope}
-use Rattle.gb_typing.specs.Sequents.{with_modules, AreFormulas, IsConclusion, of_sequent, IsTypedSequent}
+use Rattle.gb_typing.specs.Sequents.{with_modules, AreHypotheses, IsConclusion, of_sequent, IsTypedSequent}
 use Rattle.gb_typing.specs.Typing.{IsForm}
 use Rattle.gb_typing.proofs.Anywhere.{value_anywhere}
-use Rattle.gb_typing.proofs.Conclusions.{formula_form}
 use Rattle.gb_typing.proofs.Drawing.{body_sound}
 use Rattle.gb_typing.proofs.Exact.{exact}
 use Rattle.gb_typing.proofs.Given.{refused_at, refused_given, same_given}
@@ -65,9 +63,8 @@ use Rattle.gb_typing.proofs.Shapes.{form_goal, goal_form}
 use Rattle.gb_typing.proofs.TypedGoals.{goal_conclusion, goal_front}
 use Rattle.gb_prog.specs.Ends.{LoopsEnd, SequentEnds}
 use Rattle.gb_prog.proofs.Own.{Good, good_append}
-use Rattle.gb_amb.specs.Quantified.{quantifies_modules, goal_quantifies_modules}
-use Rattle.gb_amb.proofs.Cases.{form_formula}
-use Rattle.gb_amb.proofs.Fronts.{none_in_front}
+use Rattle.gb_amb.specs.Quantified.{goal_quantifies_modules}
+use Rattle.gb_amb.proofs.Around.{hypotheses_to}
 use Rattle.gb_amb.proofs.States.{memory_agrees, memory_at}
 use Rattle.gb_amb.proofs.Wider.{large, more_memory, small, wider}
 use Rattle.gb_parts.specs.OneBody.{OneBody}
@@ -95,21 +92,7 @@ module _ (c : Context) (u : Bool) (k : At) (d : Decision) (known : Decides c u k
       let z = (good_append g (k.statement ∷ []) k.rest).0 ((good_append g k.before (k.statement ∷ k.rest)).0 good).1 in
       behind_alike g s k.before d.left (k.statement ∷ []) k.rest m (Every-weaken {P = λ n. is_true g s d.guard n ≡ u} (run g s k.before m) (λ n e f. sym (known.alike ls x.1.0 g fits z.0 s n e f)) h)
 
--- Formulas in which no quantifier over modules stands are forms.
-abbrev AreForms : Context → List Hyp → Type 0
-AreForms c [] = Unit {0}
-AreForms c (h ∷ hs) = IsForm c h.form × AreForms c hs
-
-forms_of : (c : Context) (hs : List Hyp) → AreFormulas c hs → list_any (λ h. quantifies_modules h.form) hs ≡ false → AreForms c hs
-forms_of c [] w e = tt
-forms_of c (h ∷ hs) w e =
-    let k = or_parts (quantifies_modules h.form) _ e in (formula_form c h.form w.0 (none_in_front h.form k.0), forms_of c hs w.1 k.1)
-
-forms_to : (c d : Context) → ((f : Term) → IsForm c f → IsForm d f) → (hs : List Hyp) → AreForms c hs → AreFormulas d hs
-forms_to c d m [] w = tt
-forms_to c d m (h ∷ hs) w = (form_formula d h.form (m h.form w.0), forms_to c d m hs w.1)
-
-module _ (ds : Declarations) (scope : IsTypedScope ds) (q : Sequent) (t : IsTypedSequent (context_of ds) q) (plain : goal_quantifies_modules q ≡ false) where
+module _ (ds : Declarations) (scope : IsTypedScope ds) (q : Sequent) (t : IsTypedSequent (context_of ds) q) where
   abbrev c : Context
   c = of_sequent (context_of ds) q t.frames
 
@@ -134,12 +117,6 @@ module _ (ds : Declarations) (scope : IsTypedScope ds) (q : Sequent) (t : IsType
 
   many : length ns ≡ length q.memories
   many = length-map t.frames (λ l. Some l) ∙ t.memories
-
-  no_modules : list_any (λ h. quantifies_modules h.form) q.hyps ≡ false
-  no_modules = (or_parts (quantifies_modules q.conclusion) _ plain).1
-
-  hyp_forms : AreForms c q.hyps
-  hyp_forms = forms_of c q.hyps t.hyps no_modules
 
   -- a goal of one program, with that memory
   judged : (T O : List TypedName) (is : List Instr) (p e : Term) (u : Bool) → IsBody c T is → IsForm (with_own (wide O) (Some T)) p → IsExpression c T e → type_of e ≡ ty.Bool →
@@ -167,8 +144,8 @@ module _ (ds : Declarations) (scope : IsTypedScope ds) (q : Sequent) (t : IsType
       logical = t.logical;
       frames = t.frames ++ O ∷ [];
       memories = omega (arith, t.memories, length-append t.frames (O ∷ []), length-append q.memories (name ∷ []));
-      hyps = subst (λ d. AreFormulas d q.hyps) context_longer
-          (forms_to c (wide O) (λ f w. wider base us ns us (ns ++ Some O ∷ []) (more_memory us ns (Some O)) f (subst (λ d. IsForm d f) here w)) q.hyps hyp_forms);
+      hyps = subst (λ d. AreHypotheses d q.hyps) context_longer
+          (hypotheses_to c (wide O) (λ f w. wider base us ns us (ns ++ Some O ∷ []) (more_memory us ns (Some O)) f (subst (λ d. IsForm d f) here w)) q.hyps t.hyps);
       conclusion = subst (λ d. IsConclusion d f) context_longer w;
     }
 
@@ -183,18 +160,17 @@ module _ (ds : Declarations) (scope : IsTypedScope ds) (q : Sequent) (t : IsType
     fits_small : IsSettingOf (small base us ns) (setting ds k)
     fits_small = subst (λ d. IsSettingOf d (setting ds k)) here fits
 
-    stay_true : (hs : List Hyp) → list_any (λ h. quantifies_modules h.form) hs ≡ false → AreForms c hs → AreTrue ds hs k now → AreTrue ds hs k later
-    stay_true [] e w h = tt
-    stay_true (x ∷ hs) e w h =
-        let y = or_parts (quantifies_modules x.form) _ e in
-        let n = none_in_front x.form y.0 in (
+    stay_true : (hs : List Hyp) → AreHypotheses c hs → AreTrue ds hs k now → AreTrue ds hs k later
+    stay_true [] w h = tt
+    stay_true (x ∷ hs) w h =
+        let n = goal_front c [] [] (ambient x.form) w.0 in (
           (without_modules ds x.form k later n).1
               (λ i good. sym (ap truth (memory_agrees base us ns (setting ds k) fits_small i good vs ms _ x.form (subst (λ d. IsForm d x.form) here w.0))) ∙ (without_modules ds x.form k now n).0 h.0 i good),
-          stay_true hs y.1 w.1 h.1,
+          stay_true hs w.1 h.1,
         )
 
     hyps_true : AreTrue ds q.hyps k now → AreTrue ds q.hyps k later
-    hyps_true = stay_true q.hyps no_modules hyp_forms
+    hyps_true = stay_true q.hyps t.hyps
 
     fits_wide : (O : List TypedName) → IsSettingOf (wide O) (setting ds k)
     fits_wide O =
@@ -419,9 +395,9 @@ unplaced place (refused w p) x e = refused_at w _ x e
 pub beside_leads : (ds : Declarations) → IsTypedScope ds → (q : Sequent) (t : IsTypedSequent (context_of ds) q) → type_of q.conclusion ≡ ty.Bool → (ls rs : List TypedName) →
     IsGoalOver (of_sequent (context_of ds) q t.frames) ls rs (goal_of q.conclusion) → (n : ℕ) (u : Bool) (a : Acts) (place : Place) (qs : List Sequent) → beside_answer n u a place q ≡ given qs →
     AllByRecursion (IsTypedSequent (context_of ds)) qs × (SequentEnds ds q → AllByRecursion (SequentEnds ds) qs × (AllByRecursion (Holds ds) qs → Holds ds q))
-beside_leads ds scope q t truth ls rs w n u a place qs e = by_test (goal_quantifies_modules q) refl e
+beside_leads ds scope q t truth ls rs w n u a place qs e = by_test (goal_quantifies_modules q) e
   where
-    by_test : (b : Bool) → goal_quantifies_modules q ≡ b → (if b then refused Shape place else placed_at place (on_body n u q (one_of_two a (goal_of q.conclusion)))) ≡ given qs →
+    by_test : (b : Bool) → (if b then refused Shape place else placed_at place (on_body n u q (one_of_two a (goal_of q.conclusion)))) ≡ given qs →
         AllByRecursion (IsTypedSequent (context_of ds)) qs × (SequentEnds ds q → AllByRecursion (SequentEnds ds) qs × (AllByRecursion (Holds ds) qs → Holds ds q))
-    by_test true m e = refused_at Shape place qs e
-    by_test false m e = by_goal ds scope q t m truth ls rs n u a (goal_of q.conclusion) refl w qs (unplaced place (on_body n u q (one_of_two a (goal_of q.conclusion))) qs e)
+    by_test true e = refused_at Shape place qs e
+    by_test false e = by_goal ds scope q t truth ls rs n u a (goal_of q.conclusion) refl w qs (unplaced place (on_body n u q (one_of_two a (goal_of q.conclusion))) qs e)

@@ -23,7 +23,6 @@ use Rattle.gb_holds.specs.Truth.{has_module}
 use Rattle.gb_laws.specs.Operators.{IsSigned}
 use Rattle.gb_typing.specs.Context.{Context}
 use Rattle.gb_typing.specs.Typing.{IsTyped, IsForm}
-use Rattle.gb_typing.specs.Formulas.{IsFormula}
 use Rattle.gb_typing.specs.Sequents.{IsConclusion}
 use Rattle.gb_typing.specs.Fits.{IsSettingOf, IsStateOf}
 use Rattle.gb_linear.specs.declared.apply.Comparison.{Comparison}
@@ -121,7 +120,7 @@ module _ (c : Context) where
   none_some : {A B : Type 0} (x : A) → None ≡ Some x → B
   none_some x e = cc
 
-  -- a conclusion, or a formula, that is a comparison is a form
+  -- a form that is a comparison, or a conclusion, which is a form where it is one
   module _ (P : Term → Type 0)
       (at_most_form : (a b : Term) (u : Ty) → P (term (head.Builtin op.AtMost) (a ∷ b ∷ []) u) → IsForm c (term (head.Builtin op.AtMost) (a ∷ b ∷ []) u))
       (equal_form : (a b : Term) (u : Ty) → P (term (head.Builtin op.Equal) (a ∷ b ∷ []) u) → IsForm c (term (head.Builtin op.Equal) (a ∷ b ∷ []) u)) where
@@ -144,5 +143,5 @@ module _ (c : Context) where
   pub conclusion_comparison : (f : Term) (x : Comparison) → compared f ≡ Some x → IsConclusion c f → IsTypedComparison f x
   conclusion_comparison = typed_comparison (IsConclusion c) (λ a b u w. w) (λ a b u w. w)
 
-  pub formula_comparison : (f : Term) (x : Comparison) → compared f ≡ Some x → IsFormula c f → IsTypedComparison f x
-  formula_comparison = typed_comparison (IsFormula c) (λ a b u w. w) (λ a b u w. w)
+  pub form_comparison : (f : Term) (x : Comparison) → compared f ≡ Some x → IsForm c f → IsTypedComparison f x
+  form_comparison = typed_comparison (IsForm c) (λ a b u w. w) (λ a b u w. w)

@@ -86,7 +86,7 @@ use Rattle.gb_smt_laws.proofs.EqualityIsSound.{holds}
 use Rattle.gb_closing_laws.proofs.LabelBodies.{label_bodies}
 use Rattle.gb_closing_laws.proofs.Places.{AreForms, AreTrueIn, IsTrueLeaf, setting_moved}
 use Rattle.gb_closing_laws.proofs.Simple.{read_types, itself, term_claimed, judges_none}
-use Rattle.gb_closing_laws.proofs.TypedLeaves.{IsFormOrModule, IsTypedLeaf, used_typed}
+use Rattle.gb_closing_laws.proofs.TypedLeaves.{IsFormOrNone, IsTypedLeaf, used_typed}
 
 -- the values of variables are of their types
 has_item : (t : Types) (us : List Ty) (vs : List Value) → AreValues t us vs → (i : ℕ) (u : Ty) → item us i ≡ Some u → has t u (get_or vs i (Num 0)) ≡ true
@@ -304,8 +304,8 @@ module _ (es : scope.Declarations) (scoped : IsTypedScope (declared es)) (bs : L
           (claim_implied g fits bodies i fair (reads_at g fits.types.inhabited fits.once bodies hs t forms form) (context vs ms) (valid g fits.types.inhabited fits.once bodies hs t forms form vs w ms) hs t closes (each_form hs forms) (λ k. form)) e).1
 
   -- a simple form is neither a quantifier over modules nor a judgment on bodies
-  form_if_simple : (d : Context) (f : Term) → IsFormOrModule d f → is_simple f ≡ true → IsForm d f
-  form_if_simple d f w k = w (step (has_module f) refl)
+  form_if_simple : (d : Context) (f : Term) → IsFormOrNone d f → is_simple f ≡ true → IsForm d f
+  form_if_simple d f w k = w (step (has_module f) refl) (judges_none f k)
     where
       step : (m : Bool) → has_module f ≡ m → has_module f ≡ false
       step true e = absurd (not_simple f e k)
@@ -325,28 +325,28 @@ module _ (es : scope.Declarations) (scoped : IsTypedScope (declared es)) (bs : L
       -- a typed leaf of which a claim closes holds
       claims_hold : LeafHolds g (speaking g i) l
       claims_hold T s valid_here a f =
-          claims_give (λ h. IsFormOrModule d h × IsAssumed g (speaking g i) T s h) (λ t. (is_simple t ≡ true → IsForm d t) × FitsIfSimple g T t) (IsConcluded g (speaking g i) s) (Closes es) gives
+          claims_give (λ h. IsForm d h × IsAssumed g (speaking g i) T s h) (λ t. (is_simple t ≡ true → IsForm d t) × FitsIfSimple g T t) (IsConcluded g (speaking g i) s) (Closes es) gives
           ((λ k. false_form d), false_fits g T) (false_refuted g (speaking g i) s) l closes (both l.hyps w.hyps a) (sought, f)
         where
-          both : (hs : List Term) → AllByRecursion (IsFormOrModule d) hs → AreAssumed g (speaking g i) T s hs → AllByRecursion (λ h. IsFormOrModule d h × IsAssumed g (speaking g i) T s h) hs
+          both : (hs : List Term) → AllByRecursion (IsForm d) hs → AreAssumed g (speaking g i) T s hs → AllByRecursion (λ h. IsForm d h × IsAssumed g (speaking g i) T s h) hs
           both [] w a = tt
           both (h ∷ hs) w a = ((w.0, a.0), both hs w.1 a.1)
 
           sought : is_simple l.conclusion ≡ true → IsForm d l.conclusion
-          sought k = form_if_simple d l.conclusion (λ m. w.conclusion m (judges_none l.conclusion k)) k
+          sought k = form_if_simple d l.conclusion w.conclusion k
 
-          forms : (hs : List Term) → AllByRecursion (λ h. IsFormOrModule d h × IsAssumed g (speaking g i) T s h) hs → AllByRecursion (λ h. is_simple h ≡ true → IsForm d h) hs
+          forms : (hs : List Term) → AllByRecursion (λ h. IsForm d h × IsAssumed g (speaking g i) T s h) hs → AllByRecursion (λ h. is_simple h ≡ true → IsForm d h) hs
           forms [] w = tt
-          forms (h ∷ hs) w = (form_if_simple d h w.0.0, forms hs w.1)
+          forms (h ∷ hs) w = ((λ k. w.0.0), forms hs w.1)
 
-          assumed : (hs : List Term) → AllByRecursion (λ h. IsFormOrModule d h × IsAssumed g (speaking g i) T s h) hs → AreAssumed g (speaking g i) T s hs
+          assumed : (hs : List Term) → AllByRecursion (λ h. IsForm d h × IsAssumed g (speaking g i) T s h) hs → AreAssumed g (speaking g i) T s hs
           assumed [] w = tt
           assumed (h ∷ hs) w = (w.0.1, assumed hs w.1)
 
           fits_at : (ns : List Frame) → ns ≡ map (λ l. Some l) w.frames.0 → IsSettingOf (small b w.variables ns) g
           fits_at ns e = setting_moved b g us0 w.variables ns0 ns fits
 
-          gives : (hs : List Term) (t : Term) → AllByRecursion (λ h. IsFormOrModule d h × IsAssumed g (speaking g i) T s h) hs → (is_simple t ≡ true → IsForm d t) × FitsIfSimple g T t → Closes es (claim_of hs t) → IsConcluded g (speaking g i) s t
+          gives : (hs : List Term) (t : Term) → AllByRecursion (λ h. IsForm d h × IsAssumed g (speaking g i) T s h) hs → (is_simple t ≡ true → IsForm d t) × FitsIfSimple g T t → Closes es (claim_of hs t) → IsConcluded g (speaking g i) s t
           gives hs t p q c =
               claim_implied w.variables w.finite w.frames.0 g (setting_moved b g us0 w.variables ns0 (map (λ l. Some l) w.frames.0) fits) bodies i fair T s valid_here hs t c
               (subst (λ ns. AllByRecursion (λ h. is_simple h ≡ true → IsForm (small b w.variables ns) h) hs) w.frames.1 (forms hs p)) (subst (λ ns. is_simple t ≡ true → IsForm (small b w.variables ns) t) w.frames.1 q.0) (assumed hs p) q.1
@@ -360,10 +360,6 @@ module _ (es : scope.Declarations) (scoped : IsTypedScope (declared es)) (bs : L
       let fits_in : IsSettingOf (small b us (map (λ l. Some l) fr.0)) g = subst (λ n. IsSettingOf (small b us n) g) e fits in
       let forms_in : AreForms (small b us (map (λ l. Some l) fr.0)) l.hyps = subst (λ n. AreForms (small b us n) l.hyps) e forms in
       let form_in : IsForm (small b us (map (λ l. Some l) fr.0)) l.conclusion = subst (λ n. IsForm (small b us n) l.conclusion) e form in
-      let typed : IsTypedLeaf b l = record { variables = us; finite = fin; memories = ns; frames = fr; hyps = each_form l.hyps forms; conclusion = λ m j. form } in
+      let typed : IsTypedLeaf b l = record { variables = us; finite = fin; memories = ns; frames = fr; hyps = forms; conclusion = λ m j. form } in
       (concluded us fin fr.0 g fits_in.types.inhabited fits_in.once bodies l.hyps l.conclusion forms_in form_in (speaking g i) vs ms
       (leaf_holds g bodies i fair us ns fits l typed closes _ (context vs ms) (valid us fin fr.0 g fits_in.types.inhabited fits_in.once bodies l.hyps l.conclusion forms_in form_in vs w ms)) assumed).1
-    where
-      each_form : (hs : List Term) → AreForms (small b us ns) hs → AllByRecursion (IsFormOrModule (small b us ns)) hs
-      each_form [] w = tt
-      each_form (h ∷ hs) w = ((λ m. w.0), each_form hs w.1)

@@ -24,7 +24,7 @@ use Rattle.gb_holds.proofs.Fronts.{without_modules}
 use Rattle.gb_laws.specs.Operators.{IsSigned}
 use Rattle.gb_typing.specs.Context.{Context}
 use Rattle.gb_typing.specs.Typing.{IsTyped}
-use Rattle.gb_typing.specs.Sequents.{AreFormulas, IsTypedSequent}
+use Rattle.gb_typing.specs.Sequents.{AreHypotheses, IsTypedSequent}
 use Rattle.gb_typing.specs.Scopes.{context_of, IsTypedScope}
 use Rattle.gb_typing.specs.Fits.{IsSettingOf, IsStateOf}
 use Rattle.gb_amb.proofs.Around.{here, parts_lead}
@@ -44,7 +44,7 @@ use Rattle.gb_closing_laws.proofs.Found.{given_is, given_bind}
 use Rattle.gb_closing_laws.proofs.LinearForms.{value, Worth}
 use Rattle.gb_closing_laws.proofs.Order.{IsNonneg, nonpos_same, nonneg_plus, nonneg_times, at_most_of_rest, difference_nonneg, difference_nought, nought_nonneg, same_of_rest, factor_nonneg, constant_nonpos}
 use Rattle.gb_closing_laws.proofs.Meant.{zero_is, constant_is, worth_as, both_is, times_is, V, meant}
-use Rattle.gb_closing_laws.proofs.Compared.{Stands, conclusion_comparison, formula_comparison}
+use Rattle.gb_closing_laws.proofs.Compared.{Stands, conclusion_comparison, form_comparison}
 
 -- what hypotheses add together: at least 0, and exactly 0 where all are equations
 abbrev Adds : Bool → Number → Type 0
@@ -205,12 +205,12 @@ module _ (ds : Declarations) (scope : IsTypedScope ds) (q : Sequent) (t : IsType
     abbrev IsUsedHere : Bool → Assumption → Type 0
     IsUsedHere equal a = IsUsed c (setting ds k) fits i s fit equal a
 
-    true_hypothesis : (hs : List Hyp) (n : ℕ) (h : Hyp) (x : Comparison) → AreFormulas c hs → AreTrue ds hs k s → slice_get hs n ≡ Some h → compared h.form ≡ Some x →
+    true_hypothesis : (hs : List Hyp) (n : ℕ) (h : Hyp) (x : Comparison) → AreHypotheses c hs → AreTrue ds hs k s → slice_get hs n ≡ Some h → compared h.form ≡ Some x →
         IsTrueComparison c (setting ds k) fits i s fit x
     true_hypothesis [] n h x w l e r = none_some h e
     true_hypothesis (y ∷ hs) zero h x w l e r =
         let same : y ≡ h = cc in
-        let v = formula_comparison c y.form x (subst (λ z. compared z.form ≡ Some x) (sym same) r) w.0 in
+        let v = form_comparison c y.form x (subst (λ z. compared z.form ≡ Some x) (sym same) r) w.0 in
         record {
           left = v.left;
           right = v.right;

@@ -1,5 +1,5 @@
--- Goals of which a hypothesis or the conclusion is no form: claims close their leaves.
-use Rattle.std.proofs.Common.{◌≡◌, Bool, true, false, ◌||◌, if◌then◌else◌, inl, inr, List, [], ◌∷◌, ◌++◌, map, append_assoc, append-nil, refl, ap, sym, ◌∙◌, subst}
+-- Goals whose conclusion is no form: claims close their leaves.
+use Rattle.std.proofs.Common.{◌≡◌, Bool, true, false, ◌||◌, inl, inr, List, [], ◌∷◌, ◌++◌, map, refl, ap, sym, ◌∙◌, subst}
 use Rattle.std.specs.List.{list_any, All, AllByRecursion}
 use Rattle.std.proofs.lemmas.Bool.{false≢true}
 use Rattle.std.proofs.lemmas.List.Elements.{All-head, All-tail}
@@ -26,10 +26,9 @@ use Rattle.gb_goal.specs.Scope.{Declarations}
 use Rattle.gb_smt.specs.declared.leaves.Leaf.{Leaf}
 use Rattle.gb_smt.specs.declared.leaves.Context.{Context as LeafContext}
 use Rattle.gb_smt.specs.Leaves as leaves
-use Rattle.gb_smt.specs.Leaves.{is_true, assumed, whole, split, with_variable, with_memory}
+use Rattle.gb_smt.specs.Leaves.{assumed, whole, split, with_variable, with_memory}
 use Rattle.gb_smt.specs.ByEquality.{has_no_form}
 use Rattle.gb_smt.specs.Apply.{ClosesByClaim, IsClosed}
-use Rattle.gb_smt_laws.proofs.Modules.{module_whole}
 use Rattle.gb_smt_laws.proofs.Split.{unsplit}
 use Rattle.gb_smt_laws.proofs.Used.{each_together}
 use Rattle.sqlite_items.specs.formers.items.Items.{the_former}
@@ -60,59 +59,54 @@ mutual
   last_stays (more_of-Term t end_of-Term) m a d = modules_stay t m d
   last_stays (more_of-Term t (more_of-Term u ts)) m a d = last_stays (more_of-Term u ts) m a d
 
--- The leaves of a part of the conclusion have its hypotheses, and a quantifier over modules in front where it has one.
-abbrev IsOf : Bool → List Term → Leaf → Type 0
-IsOf m hs l = (m ≡ true → has_module l.conclusion ≡ true) × ((more : List Term) × (l.hyps ≡ hs ++ more))
+-- The leaves of a part of the conclusion have a quantifier over modules in front where it has one.
+abbrev IsOf : Bool → Leaf → Type 0
+IsOf m l = m ≡ true → has_module l.conclusion ≡ true
 
-abbrev AreOf : Bool → List Term → List Leaf → Type 0
-AreOf m hs ls = AllByRecursion (IsOf m hs) ls
+abbrev AreOf : Bool → List Leaf → Type 0
+AreOf m ls = AllByRecursion (IsOf m) ls
 
-whole_is : (t : Term) (c : _) (hs : List Term) → AreOf (has_module t) hs (whole t c hs)
-whole_is t c hs = ((λ m. modules_stay t m c.changes, ([], sym (append-nil hs))), tt)
+whole_is : (t : Term) (c : _) (hs : List Term) → AreOf (has_module t) (whole t c hs)
+whole_is t c hs = ((λ m. modules_stay t m c.changes), tt)
 
-of_fewer : (m : Bool) (hs fs : List Term) (ls : List Leaf) → AreOf m (hs ++ fs) ls → AreOf m hs ls
-of_fewer m hs fs [] a = tt
-of_fewer m hs fs (l ∷ ls) a = ((a.0.0, (fs ++ a.0.1.0, a.0.1.1 ∙ append_assoc hs fs a.0.1.0)), of_fewer m hs fs ls a.1)
-
-of_any : (m : Bool) (hs : List Term) (ls : List Leaf) → AreOf m hs ls → AreOf false hs ls
-of_any m hs [] a = tt
-of_any m hs (l ∷ ls) a = ((λ e. absurd (false≢true e), a.0.1), of_any m hs ls a.1)
+of_any : (m : Bool) (ls : List Leaf) → AreOf m ls → AreOf false ls
+of_any m [] a = tt
+of_any m (l ∷ ls) a = ((λ e. absurd (false≢true e)), of_any m ls a.1)
 
 mutual
-  split_is : (t : Term) (c : _) (hs : List Term) → AreOf (has_module t) hs (split t c hs)
+  split_is : (t : Term) (c : _) (hs : List Term) → AreOf (has_module t) (split t c hs)
   split_is (Term' p (more_of-Head (head.All u) end_of-Head) n ts ty) c hs = all_is ts u (Term' p (more_of-Head (head.All u) end_of-Head) n ts ty) c hs refl
   split_is (Term' p (more_of-Head head.AllMemory end_of-Head) n ts ty) c hs = memory_is ts (Term' p (more_of-Head head.AllMemory end_of-Head) n ts ty) c hs refl
   split_is (Term' p (more_of-Head (head.Builtin op.Implies) end_of-Head) n ts ty) c hs = premise_is ts (Term' p (more_of-Head (head.Builtin op.Implies) end_of-Head) n ts ty) c hs refl
   split_is (Term' p (more_of-Head (head.Builtin op.And) end_of-Head) n ts ty) c hs = both_are ts (Term' p (more_of-Head (head.Builtin op.And) end_of-Head) n ts ty) c hs refl
   split_is (Term' p (more_of-Head h end_of-Head) n ts ty) c hs =
       let t : Term = Term' p (more_of-Head h end_of-Head) n ts ty in
-      subst (AreOf (has_module t) hs) (sym (unsplit h (leaves.parts ts) t c hs refl)) (whole_is t c hs)
+      subst (AreOf (has_module t)) (sym (unsplit h (leaves.parts ts) t c hs refl)) (whole_is t c hs)
 
-  all_is : {n : Count} (ts : Row_of-Term n) (u : Ty) (t : Term) (c : _) (hs : List Term) → has_module t ≡ last_has_module ts → AreOf (last_has_module ts) hs (leaves.split_by (head.All u) (leaves.parts ts) t c hs)
-  all_is end_of-Term u t c hs e = subst (λ m. AreOf m hs (whole t c hs)) e (whole_is t c hs)
+  all_is : {n : Count} (ts : Row_of-Term n) (u : Ty) (t : Term) (c : _) (hs : List Term) → has_module t ≡ last_has_module ts → AreOf (last_has_module ts) (leaves.split_by (head.All u) (leaves.parts ts) t c hs)
+  all_is end_of-Term u t c hs e = subst (λ m. AreOf m (whole t c hs)) e (whole_is t c hs)
   all_is (more_of-Term x end_of-Term) u t c hs e = split_is x (with_variable c u) hs
-  all_is (more_of-Term x (more_of-Term y end_of-Term)) u t c hs e = subst (λ m. AreOf m hs (whole t c hs)) e (whole_is t c hs)
-  all_is (more_of-Term x (more_of-Term y (more_of-Term z ts))) u t c hs e = subst (λ m. AreOf m hs (whole t c hs)) e (whole_is t c hs)
+  all_is (more_of-Term x (more_of-Term y end_of-Term)) u t c hs e = subst (λ m. AreOf m (whole t c hs)) e (whole_is t c hs)
+  all_is (more_of-Term x (more_of-Term y (more_of-Term z ts))) u t c hs e = subst (λ m. AreOf m (whole t c hs)) e (whole_is t c hs)
 
-  memory_is : {n : Count} (ts : Row_of-Term n) (t : Term) (c : _) (hs : List Term) → has_module t ≡ last_has_module ts → AreOf (last_has_module ts) hs (leaves.split_by head.AllMemory (leaves.parts ts) t c hs)
-  memory_is end_of-Term t c hs e = subst (λ m. AreOf m hs (whole t c hs)) e (whole_is t c hs)
+  memory_is : {n : Count} (ts : Row_of-Term n) (t : Term) (c : _) (hs : List Term) → has_module t ≡ last_has_module ts → AreOf (last_has_module ts) (leaves.split_by head.AllMemory (leaves.parts ts) t c hs)
+  memory_is end_of-Term t c hs e = subst (λ m. AreOf m (whole t c hs)) e (whole_is t c hs)
   memory_is (more_of-Term x end_of-Term) t c hs e = split_is x (with_memory c) hs
-  memory_is (more_of-Term x (more_of-Term y end_of-Term)) t c hs e = subst (λ m. AreOf m hs (whole t c hs)) e (whole_is t c hs)
-  memory_is (more_of-Term x (more_of-Term y (more_of-Term z ts))) t c hs e = subst (λ m. AreOf m hs (whole t c hs)) e (whole_is t c hs)
+  memory_is (more_of-Term x (more_of-Term y end_of-Term)) t c hs e = subst (λ m. AreOf m (whole t c hs)) e (whole_is t c hs)
+  memory_is (more_of-Term x (more_of-Term y (more_of-Term z ts))) t c hs e = subst (λ m. AreOf m (whole t c hs)) e (whole_is t c hs)
 
-  premise_is : {n : Count} (ts : Row_of-Term n) (t : Term) (c : _) (hs : List Term) → has_module t ≡ last_has_module ts → AreOf (last_has_module ts) hs (leaves.split_by (head.Builtin op.Implies) (leaves.parts ts) t c hs)
-  premise_is end_of-Term t c hs e = subst (λ m. AreOf m hs (whole t c hs)) e (whole_is t c hs)
-  premise_is (more_of-Term x end_of-Term) t c hs e = subst (λ m. AreOf m hs (whole t c hs)) e (whole_is t c hs)
-  premise_is (more_of-Term x (more_of-Term y end_of-Term)) t c hs e =
-      of_fewer (has_module y) hs (assumed (term_changed x c.changes)) (split y c (hs ++ assumed (term_changed x c.changes))) (split_is y c (hs ++ assumed (term_changed x c.changes)))
-  premise_is (more_of-Term x (more_of-Term y (more_of-Term z ts))) t c hs e = subst (λ m. AreOf m hs (whole t c hs)) e (whole_is t c hs)
+  premise_is : {n : Count} (ts : Row_of-Term n) (t : Term) (c : _) (hs : List Term) → has_module t ≡ last_has_module ts → AreOf (last_has_module ts) (leaves.split_by (head.Builtin op.Implies) (leaves.parts ts) t c hs)
+  premise_is end_of-Term t c hs e = subst (λ m. AreOf m (whole t c hs)) e (whole_is t c hs)
+  premise_is (more_of-Term x end_of-Term) t c hs e = subst (λ m. AreOf m (whole t c hs)) e (whole_is t c hs)
+  premise_is (more_of-Term x (more_of-Term y end_of-Term)) t c hs e = split_is y c (hs ++ assumed (term_changed x c.changes))
+  premise_is (more_of-Term x (more_of-Term y (more_of-Term z ts))) t c hs e = subst (λ m. AreOf m (whole t c hs)) e (whole_is t c hs)
 
-  both_are : {n : Count} (ts : Row_of-Term n) (t : Term) (c : _) (hs : List Term) → has_module t ≡ false → AreOf false hs (leaves.split_by (head.Builtin op.And) (leaves.parts ts) t c hs)
-  both_are end_of-Term t c hs e = subst (λ m. AreOf m hs (whole t c hs)) e (whole_is t c hs)
-  both_are (more_of-Term x end_of-Term) t c hs e = subst (λ m. AreOf m hs (whole t c hs)) e (whole_is t c hs)
+  both_are : {n : Count} (ts : Row_of-Term n) (t : Term) (c : _) (hs : List Term) → has_module t ≡ false → AreOf false (leaves.split_by (head.Builtin op.And) (leaves.parts ts) t c hs)
+  both_are end_of-Term t c hs e = subst (λ m. AreOf m (whole t c hs)) e (whole_is t c hs)
+  both_are (more_of-Term x end_of-Term) t c hs e = subst (λ m. AreOf m (whole t c hs)) e (whole_is t c hs)
   both_are (more_of-Term x (more_of-Term y end_of-Term)) t c hs e =
-      each_together (IsOf false hs) (split x c hs) (split y c hs) (of_any (has_module x) hs (split x c hs) (split_is x c hs)) (of_any (has_module y) hs (split y c hs) (split_is y c hs))
-  both_are (more_of-Term x (more_of-Term y (more_of-Term z ts))) t c hs e = subst (λ m. AreOf m hs (whole t c hs)) e (whole_is t c hs)
+      each_together (IsOf false) (split x c hs) (split y c hs) (of_any (has_module x) (split x c hs) (split_is x c hs)) (of_any (has_module y) (split y c hs) (split_is y c hs))
+  both_are (more_of-Term x (more_of-Term y (more_of-Term z ts))) t c hs e = subst (λ m. AreOf m (whole t c hs)) e (whole_is t c hs)
 
 -- A judgment on bodies stays one where changes are made, and is one leaf.
 body_stays : (s : Subject) → is_body_at (out-Subject s) ≡ true → (cs : Changes) → is_body_at (out-Subject (subject_changed s cs)) ≡ true
@@ -149,20 +143,6 @@ module _ (c : LeafContext) (hs : List Term) where
   judged_split : (t : Term) → judges_bodies (out-Term t).head ≡ true → AllByRecursion IsJudged (split t c hs)
   judged_split t m = subst (AllByRecursion IsJudged) (sym (judged_whole t m)) (body_stays_at t m c.changes, tt)
 
--- A form that quantifies over modules is one hypothesis.
-no_literal : (t : Term) → has_module t ≡ true → is_true (out-Term t).head ≡ false
-no_literal (Term' tt (more_of-Head (head.AllModule b) end_of-Head) n ts ty) m = ap (λ z. is_true z.head) (out_is (head.AllModule b) n ts ty)
-no_literal (Term' tt (more_of-Head (head.All u) end_of-Head) n ts ty) m = ap (λ z. is_true z.head) (out_is (head.All u) n ts ty)
-no_literal (Term' tt (more_of-Head head.AllMemory end_of-Head) n ts ty) m = ap (λ z. is_true z.head) (out_is head.AllMemory n ts ty)
-no_literal (Term' tt (more_of-Head (head.Builtin op.Implies) end_of-Head) n ts ty) m = ap (λ z. is_true z.head) (out_is (head.Builtin op.Implies) n ts ty)
-no_literal (Term' tt (more_of-Head h end_of-Head) n ts ty) m = absurd (false≢true m)
-
-pub module_assumed : (t : Term) → has_module t ≡ true → list_any has_module (assumed t) ≡ true
-module_assumed t m =
-    ap (list_any has_module) (module_whole t m)
-    ∙ ap (λ b. list_any has_module (if b then [] else t ∷ [])) (no_literal t m)
-    ∙ ap (λ b. b || false) m
-
 -- Claims close leaves that aren't of forms.
 module _ (ds : Declarations) where
   by_claim : (l : Leaf) → has_no_form l ≡ true → IsClosed ds l → ClosesByClaim ds l
@@ -172,17 +152,6 @@ module _ (ds : Declarations) where
   by_claims : (P : Leaf → Type 0) → ((l : Leaf) → P l → has_no_form l ≡ true) → (ls : List Leaf) → AllByRecursion P ls → All (IsClosed ds) ls → AllByRecursion (ClosesByClaim ds) ls
   by_claims P f [] a c = tt
   by_claims P f (l ∷ ls) a c = (by_claim l (f l a.0) (All-head (IsClosed ds) l ls c), by_claims P f ls a.1 (All-tail (IsClosed ds) l ls c))
-
-  or_more : (x : Bool) (xs ys : Bool) → (xs ≡ true → ys ≡ true) → (x || xs) ≡ true → (x || ys) ≡ true
-  or_more true xs ys f e = refl
-  or_more false xs ys f e = f e
-
-  any_first : (xs ys : List Term) → list_any has_module xs ≡ true → list_any has_module (xs ++ ys) ≡ true
-  any_first [] ys e = absurd (false≢true e)
-  any_first (x ∷ xs) ys e = or_more (has_module x) (list_any has_module xs) (list_any has_module (xs ++ ys)) (any_first xs ys) e
-
-  first_of_three : (a b c : Bool) → a ≡ true → (a || (b || c)) ≡ true
-  first_of_three a b c e = ap (λ a. a || (b || c)) e
 
   second_of_three : (a b c : Bool) → b ≡ true → (a || (b || c)) ≡ true
   second_of_three true b c e = refl
@@ -194,18 +163,11 @@ module _ (ds : Declarations) where
   third_of_three false false c e = e
 
   module _ (t : Term) (c : LeafContext) (hs : List Term) (closed : All (IsClosed ds) (split t c hs)) where
-    -- a hypothesis that quantifies over modules
-    pub module_hyps : list_any has_module hs ≡ true → AllByRecursion (ClosesByClaim ds) (split t c hs)
-    module_hyps e =
-        by_claims (IsOf (has_module t) hs)
-        (λ l k. first_of_three (list_any has_module l.hyps) (has_module l.conclusion) (judges_bodies (out-Term l.conclusion).head) (ap (list_any has_module) k.1.1 ∙ any_first hs k.1.0 e))
-        (split t c hs) (split_is t c hs) closed
-
-    -- a conclusion that does
+    -- a conclusion that quantifies over modules
     pub module_conclusion : has_module t ≡ true → AllByRecursion (ClosesByClaim ds) (split t c hs)
     module_conclusion e =
-        by_claims (IsOf (has_module t) hs)
-        (λ l k. second_of_three (list_any has_module l.hyps) (has_module l.conclusion) (judges_bodies (out-Term l.conclusion).head) (k.0 e))
+        by_claims (IsOf (has_module t))
+        (λ l k. second_of_three (list_any has_module l.hyps) (has_module l.conclusion) (judges_bodies (out-Term l.conclusion).head) (k e))
         (split t c hs) (split_is t c hs) closed
 
     -- one that judges bodies

@@ -1,7 +1,6 @@
 -- `smt` is sound.
-use Rattle.std.proofs.Common.{◌≡◌, Bool, true, false, ◌||◌, if◌then◌else◌, inl, inr, List, [], ◌∷◌, ◌++◌, length, map, Some, refl, ap, sym, ◌∙◌, subst}
-use Rattle.std.specs.List.{list_any, flat_map, All, AllByRecursion}
-use Rattle.std.proofs.lemmas.Bool.{false≢true}
+use Rattle.std.proofs.Common.{◌≡◌, Bool, true, false, if◌then◌else◌, inl, inr, List, [], ◌∷◌, length, map, Some, refl, ap, sym, ◌∙◌, subst}
+use Rattle.std.specs.List.{flat_map, All, AllByRecursion}
 use Rattle.std.proofs.lemmas.List.{length-map}
 use Rattle.std.proofs.lemmas.List.Elements.{All-head, All-tail}
 use Rattle.gb_core.specs.declared.ty.Ty.{Ty}
@@ -26,10 +25,9 @@ use Rattle.gb_laws.specs.Finite.{IsFinite, IsInhabited}
 use Rattle.gb_laws.specs.Programs.{HaveFiniteTypes}
 use Rattle.gb_typing.specs.Context.{Context, Frame}
 use Rattle.gb_typing.specs.Typing.{IsForm}
-use Rattle.gb_typing.specs.Formulas.{IsFormula}
 use Rattle.gb_typing.specs.Fits.{IsSettingOf}
 use Rattle.gb_typing.specs.Scopes.{context_of, IsTypedScope}
-use Rattle.gb_typing.specs.Sequents.{with_modules, IsConclusion, AreFormulas, of_sequent, IsTypedSequent}
+use Rattle.gb_typing.specs.Sequents.{with_modules, IsConclusion, AreHypotheses, of_sequent, IsTypedSequent}
 use Rattle.gb_typing.proofs.Conclusions.{formula_form}
 use Rattle.gb_typing.proofs.Models.{each_setting}
 use Rattle.gb_typing.proofs.TypedGoals.{no_module}
@@ -57,20 +55,12 @@ use Rattle.gb_closing_laws.proofs.UsedUp.{used_true}
 use Rattle.gb_closing_laws.proofs.Leaves.{operators_stay, valid_is_true, claim_holds, leaf_holds, claimed_is_true}
 use Rattle.gb_closing_laws.proofs.TypedLeaves.{IsTypedLeaf, leaves_typed}
 use Rattle.gb_smt_laws.specs.Closing.{LeafHolds}
-use Rattle.gb_closing_laws.proofs.NoForms.{module_assumed, module_hyps, module_conclusion, judged_conclusion}
+use Rattle.gb_closing_laws.proofs.NoForms.{module_conclusion, judged_conclusion}
 use Rattle.gb_smt_laws.proofs.Results.{HasResults, each_results}
 
 all_finite : (xs : List TypedName) → HaveFiniteTypes xs → AllByRecursion IsFinite (map (λ x. x.ty) xs)
 all_finite [] w = tt
 all_finite (x ∷ xs) w = (w.0, all_finite xs w.1)
-
-none_here : (x : Bool) (all xs : Bool) (Q : Type 0) → (all ≡ false → (xs ≡ false) × Q) → (x || all) ≡ false → ((x || xs) ≡ false) × Q
-none_here true all xs Q f e = absurd (false≢true (sym e))
-none_here false all xs Q f e = f e
-
-none_of : (xs ys : List Term) → list_any has_module (xs ++ ys) ≡ false → (list_any has_module xs ≡ false) × (list_any has_module ys ≡ false)
-none_of [] ys e = (refl, e)
-none_of (x ∷ xs) ys e = none_here (has_module x) (list_any has_module (xs ++ ys)) (list_any has_module xs) (list_any has_module ys ≡ false) (none_of xs ys) e
 
 module _ (es : scope.Declarations) (typed : IsTypedScope (declared es)) (q : Sequent) (t : IsTypedSequent (context_of (declared es)) q) where
   abbrev ds : Declarations
@@ -117,30 +107,23 @@ module _ (es : scope.Declarations) (typed : IsTypedScope (declared es)) (q : Seq
       abbrev Gives : List Term → Type 0
       Gives hs = Given c g i s hs
 
-      form_gives : (f : Term) → IsForm c f → Truth ds f k s → has_module f ≡ false → Gives (assumed f)
-      form_gives f w x m = assumed_given c g i s f w ((without_modules ds f k s m).0 x i fair)
+      form_gives : (f : Term) → IsForm c f → Truth ds f k s → Gives (assumed f)
+      form_gives f w x = assumed_given c g i s f w ((without_modules ds f k s (no_module c f w.typed)).0 x i fair)
 
-      hyp_gives : (h : Hyp) → IsFormula c h.form → Truth ds h.form k s → list_any has_module (assumed_of h) ≡ false → Gives (assumed_of h)
+      hyp_gives : (h : Hyp) → IsForm c h.form → Truth ds h.form k s → Gives (assumed_of h)
       hyp_gives h w x = by_programs (speaks_of_programs h.form)
         where
-          by_module : (m : Bool) → has_module h.form ≡ m → list_any has_module (assumed h.form) ≡ false → Gives (assumed h.form)
-          by_module true m n = absurd (false≢true (sym n ∙ module_assumed h.form m))
-          by_module false m n = form_gives h.form (formula_form c h.form w m) x m
+          by_programs : (p : Bool) → Gives (if p then [] else assumed h.form)
+          by_programs true = (tt, tt)
+          by_programs false = form_gives h.form w x
 
-          by_programs : (p : Bool) → list_any has_module (if p then [] else assumed h.form) ≡ false → Gives (if p then [] else assumed h.form)
-          by_programs true n = (tt, tt)
-          by_programs false n = by_module (has_module h.form) refl n
-
-      hyps_give : (hs : List Hyp) → AreFormulas c hs → AreTrue ds hs k s → list_any has_module (flat_map assumed_of hs) ≡ false → Gives (flat_map assumed_of hs)
-      hyps_give [] w x n = (tt, tt)
-      hyps_give (h ∷ hs) w x n =
-          let o = none_of (assumed_of h) (flat_map assumed_of hs) n in
-          both_given c g i s (assumed_of h) (flat_map assumed_of hs) (hyp_gives h w.0 x.0 o.0) (hyps_give hs w.1 x.1 o.1)
+      hyps_give : (hs : List Hyp) → AreHypotheses c hs → AreTrue ds hs k s → Gives (flat_map assumed_of hs)
+      hyps_give [] w x = (tt, tt)
+      hyps_give (h ∷ hs) w x = both_given c g i s (assumed_of h) (flat_map assumed_of hs) (hyp_gives h w.0 x.0) (hyps_give hs w.1 x.1)
 
       known_give : (fs : List Term) → AreForms c fs → AreTrueForms ds fs k s → Gives (flat_map assumed fs)
       known_give [] w x = (tt, tt)
-      known_give (f ∷ fs) w x =
-          both_given c g i s (assumed f) (flat_map assumed fs) (form_gives f w.0 x.0 (no_module c f w.0.typed)) (known_give fs w.1 x.1)
+      known_give (f ∷ fs) w x = both_given c g i s (assumed f) (flat_map assumed fs) (form_gives f w.0 x.0) (known_give fs w.1 x.1)
 
       start : (hs : List Term) → Gives hs → Start hs
       start hs a = record {
@@ -167,14 +150,12 @@ module _ (es : scope.Declarations) (typed : IsTypedScope (declared es)) (q : Seq
       conclusion_form m n = formula_form c q.conclusion (conclusion_formula c q.conclusion (subst (λ c. IsConclusion c q.conclusion) outermost t.conclusion) n) m
 
       concluded : (known : List Term) → AreForms c known → All (IsClosed es) (leaves_of known q) →
-          list_any has_module (hyps_with known q) ≡ false → has_module q.conclusion ≡ false → judges_bodies (out-Term q.conclusion).head ≡ false →
-          AreTrue ds q.hyps k s → AreTrueForms ds known k s → den g i q.conclusion s ≡ true
-      concluded known forms closed n m j h x =
+          has_module q.conclusion ≡ false → judges_bodies (out-Term q.conclusion).head ≡ false → AreTrue ds q.hyps k s → AreTrueForms ds known k s → den g i q.conclusion s ≡ true
+      concluded known forms closed m j h x =
           let form = conclusion_form m j in
           let same = unchanged c q.conclusion form.typed [] tt in
-          let o = none_of (flat_map assumed_of q.hyps) (flat_map assumed known) n in
           let given = both_given c g i s (flat_map assumed_of q.hyps) (flat_map assumed known)
-          (hyps_give q.hyps (subst (λ c. AreFormulas c q.hyps) outermost t.hyps) h o.0) (known_give known forms x) in
+          (hyps_give q.hyps (subst (λ c. AreHypotheses c q.hyps) outermost t.hyps) h) (known_give known forms x) in
           ap (λ z. den g i z s) (sym same)
           ∙ split_true b g i fair q.conclusion (leaves.context_of q) (hyps_with known q) (leaves_true (leaves_of known q) closed) c form.typed us ns vs ms
           (start (hyps_with known q) given) (subst (IsForm c) (sym same) form)
@@ -214,7 +195,7 @@ module _ (es : scope.Declarations) (typed : IsTypedScope (declared es)) (q : Seq
     all_typed : AllByRecursion (IsTypedLeaf b) (leaves_of known q)
     all_typed =
         leaves_typed b q us (all_finite q.logical t.logical) ns (t.frames, refl) (sym (length-map q.logical (λ x. x.ty))) (sym t.memories ∙ sym (length-map t.frames Some)) known forms_here
-        (subst (λ c. AreFormulas c q.hyps) outermost t.hyps) (subst (λ c. IsConclusion c q.conclusion) outermost t.conclusion)
+        (subst (λ c. AreHypotheses c q.hyps) outermost t.hyps) (subst (λ c. IsConclusion c q.conclusion) outermost t.conclusion)
 
     holds_by_claims : AllByRecursion (ClosesByClaim es) (leaves_of known q) → Holds ds q
     holds_by_claims a =
@@ -222,28 +203,24 @@ module _ (es : scope.Declarations) (typed : IsTypedScope (declared es)) (q : Seq
         (λ k x y vs v ms h. conclusion_true ds k es known q (ready k x.0.0) vs v ms (λ i fair. leaves_hold k x.0.0 i fair (leaves_of known q) all_typed a) h (x.1 vs v ms h))
         fitting fitting
 
-    by_leaves : list_any has_module (hyps_with known q) ≡ false → has_module q.conclusion ≡ false → judges_bodies (out-Term q.conclusion).head ≡ false → Holds ds q
-    by_leaves n m j =
+    by_leaves : has_module q.conclusion ≡ false → judges_bodies (out-Term q.conclusion).head ≡ false → Holds ds q
+    by_leaves m j =
         joined ds q IsFitting IsFitting (IsConcluded ds q q.conclusion)
         (λ k x y vs v ms h. (without_modules ds q.conclusion k (context vs ms) m).1
-        (λ i fair. concluded k x.0.0 x.0.1 vs v ms i fair known forms_here closed n m j h (x.1 vs v ms h)))
+        (λ i fair. concluded k x.0.0 x.0.1 vs v ms i fair known forms_here closed m j h (x.1 vs v ms h)))
         fitting fitting
 
-    by_judged : list_any has_module (hyps_with known q) ≡ false → has_module q.conclusion ≡ false → (j : Bool) → judges_bodies (out-Term q.conclusion).head ≡ j → Holds ds q
-    by_judged n m true e = holds_by_claims (judged_conclusion es q.conclusion (leaves.context_of q) (hyps_with known q) closed e)
-    by_judged n m false e = by_leaves n m e
+    by_judged : has_module q.conclusion ≡ false → (j : Bool) → judges_bodies (out-Term q.conclusion).head ≡ j → Holds ds q
+    by_judged m true e = holds_by_claims (judged_conclusion es q.conclusion (leaves.context_of q) (hyps_with known q) closed e)
+    by_judged m false e = by_leaves m e
 
-    by_conclusion : list_any has_module (hyps_with known q) ≡ false → (m : Bool) → has_module q.conclusion ≡ m → Holds ds q
-    by_conclusion n true e = holds_by_claims (module_conclusion es q.conclusion (leaves.context_of q) (hyps_with known q) closed e)
-    by_conclusion n false e = by_judged n e (judges_bodies (out-Term q.conclusion).head) refl
-
-    by_hyps : (n : Bool) → list_any has_module (hyps_with known q) ≡ n → Holds ds q
-    by_hyps true e = holds_by_claims (module_hyps es q.conclusion (leaves.context_of q) (hyps_with known q) closed e)
-    by_hyps false e = by_conclusion e (has_module q.conclusion) refl
+    by_conclusion : (m : Bool) → has_module q.conclusion ≡ m → Holds ds q
+    by_conclusion true e = holds_by_claims (module_conclusion es q.conclusion (leaves.context_of q) (hyps_with known q) closed e)
+    by_conclusion false e = by_judged e (judges_bodies (out-Term q.conclusion).head) refl
 
     -- A typed goal holds where each of its leaves is closed, and the forms that are known besides follow.
     pub closed_holds : Holds ds q
-    closed_holds = by_hyps (list_any has_module (hyps_with known q)) refl
+    closed_holds = by_conclusion (has_module q.conclusion) refl
 
   -- A claim of forms of the goal's context that closes is true in each setting of it.
   pub claims_are_true : (g : Setting) → IsSettingOf (of_sequent (context_of ds) q t.frames) g → AreBodies g es → (i : Judge) → IsFair g i → (hs : List Term) (f : Term) →

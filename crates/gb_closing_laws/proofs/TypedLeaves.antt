@@ -15,7 +15,7 @@ use Rattle.gb_goal.specs.Goal.{judges_bodies}
 use Rattle.gb_goal.specs.declared.sequent.Hyp.{Hyp}
 use Rattle.gb_goal.specs.declared.sequent.Sequent.{Sequent}
 use Rattle.gb_meaning.specs.Written.{type_of}
-use Rattle.gb_meaning.proofs.Nodes.{each_is_node, term_is_node}
+use Rattle.gb_meaning.proofs.Nodes.{each_is_node}
 use Rattle.gb_holds.specs.Truth.{has_module, last_has_module, Choice}
 use Rattle.gb_laws.specs.Finite.{IsFinite}
 use Rattle.gb_laws.specs.Operators.{item, IsOperator}
@@ -25,7 +25,7 @@ use Rattle.gb_laws.proofs.Nodes.{type_of_node}
 use Rattle.gb_typing.specs.Context.{Context, Frame, erased}
 use Rattle.gb_typing.specs.Typing.{IsTyped, IsForm, AreTyped}
 use Rattle.gb_typing.specs.Formulas.{IsFirstForm, IsFormula, IsLastFormula}
-use Rattle.gb_typing.specs.Sequents.{AreFormulas, IsConclusion}
+use Rattle.gb_typing.specs.Sequents.{AreHypotheses, IsConclusion}
 use Rattle.gb_typing.proofs.Conclusions.{formula_form}
 use Rattle.gb_typing.proofs.Made.{IsNode, parts_typed}
 use Rattle.gb_amb.proofs.Cases.{form_formula, conclusion_formula}
@@ -36,7 +36,6 @@ use Rattle.gb_smt.specs.Equations.{use_of, one_further, here_or_further, first_u
 use Rattle.gb_smt.specs.Leaves as leaves
 use Rattle.gb_smt.specs.Leaves.{with_variable, with_memory, connective, assumed, assumed_of, all_assumed, assumed_by, unless_true, is_true, whole, split, speaks_of_programs}
 use Rattle.gb_smt_laws.proofs.Equations.{IsUse, IsEquation, equation_used, none_some, some_some}
-use Rattle.gb_smt_laws.proofs.Modules.{module_whole}
 use Rattle.gb_smt_laws.proofs.Split.{unsplit}
 use Rattle.gb_smt_laws.proofs.Used.{each_taken, each_dropped, each_together}
 use Rattle.gb_closing_laws.proofs.Carried.{IsCarried, from, form_carried, carried_value, carried_memory, carried_start}
@@ -45,21 +44,17 @@ use Rattle.gb_closing_laws.proofs.Places.{AreForms, AreFrames, one_more, frames_
 use Rattle.gb_closing_laws.proofs.Put.{form_changed}
 use mathlib.Core.Former.{Count}
 
--- a form, unless it quantifies over modules
-abbrev pub IsFormOrModule : Context → Term → Type 0
-IsFormOrModule c f = has_module f ≡ false → IsForm c f
-
 -- a form, unless it quantifies over modules or judges bodies
 abbrev pub IsFormOrNone : Context → Term → Type 0
 IsFormOrNone c f = has_module f ≡ false → judges_bodies (out-Term f).head ≡ false → IsForm c f
 
--- a leaf in a context over a base
+-- a leaf in a context over a base, whose hypotheses are forms
 pub record IsTypedLeaf (b : Context) (l : Leaf) : Type 0 where
   pub variables : List Ty
   pub finite : AllByRecursion IsFinite variables
   pub memories : List Frame
   pub frames : AreFrames memories
-  pub hyps : AllByRecursion (IsFormOrModule (small b variables memories)) l.hyps
+  pub hyps : AreForms (small b variables memories) l.hyps
   pub conclusion : IsFormOrNone (small b variables memories) l.conclusion
 
 -- Equations that are used up leave typed leaves typed.
@@ -96,19 +91,19 @@ module _ (b : Context) (us : List Ty) (ns : List Frame) where
       written : type_of u ≡ ty
       written = sym e ∙ ap type_of is ∙ type_of_node (head.Read k.read) [] ty
 
-  equation_keeps : (h : Term) (d : Change) → IsEquation h d → IsFormOrModule c h → Keeps (d ∷ [])
+  equation_keeps : (h : Term) (d : Change) → IsEquation h d → IsForm c h → Keeps (d ∷ [])
   equation_keeps h d q w = step q.used
     where
       parts : IsNode c (head.Builtin op.Equal) (type_of q.left ∷ type_of q.right ∷ []) (q.left ∷ q.right ∷ []) q.ty
       parts =
           parts_typed c (head.Builtin op.Equal) (q.left ∷ q.right ∷ []) q.ty
-          (subst (IsTyped c) q.is_node (w (ap has_module q.is_node ∙ ap has_module (sym (term_is_node (head.Builtin op.Equal) (q.left ∷ q.right ∷ []) q.ty)))).typed)
+          (subst (IsTyped c) q.is_node w.typed)
 
       step : IsUse q.left q.right d ⊎ IsUse q.right q.left d → Keeps (d ∷ [])
       step (inl k) = use_keeps q.left q.right d k parts.3.0 parts.3.1 parts.0.1
       step (inr k) = use_keeps q.right q.left d k parts.3.1 parts.3.0 (sym parts.0.1)
 
-  usable_keeps : (hs : List Term) (e : _) → AllByRecursion (IsFormOrModule c) hs → first_usable hs ≡ Some e → Keeps e.changes
+  usable_keeps : (hs : List Term) (e : _) → AreForms c hs → first_usable hs ≡ Some e → Keeps e.changes
   usable_keeps [] e w p = none_some e p
   usable_keeps (h ∷ hs) e w p = here (use_of h) refl p (λ d q. usable_keeps hs d w.1 q)
     where
@@ -126,12 +121,9 @@ module _ (b : Context) (us : List Ty) (ns : List Frame) where
   still_false false y f e = refl
 
   module _ (cs : Changes) (keeps : Keeps cs) where
-    hyp_kept : (h : Term) → IsFormOrModule c h → IsFormOrModule c (term_changed h cs)
-    hyp_kept h w m = keeps h (w (still_false (has_module h) (has_module (term_changed h cs)) (λ e. modules_stay h e cs) m))
-
-    hyps_kept : (hs : List Term) → AllByRecursion (IsFormOrModule c) hs → AllByRecursion (IsFormOrModule c) (map (λ t. term_changed t cs) hs)
+    hyps_kept : (hs : List Term) → AreForms c hs → AreForms c (map (λ t. term_changed t cs) hs)
     hyps_kept [] w = tt
-    hyps_kept (h ∷ hs) w = (hyp_kept h w.0, hyps_kept hs w.1)
+    hyps_kept (h ∷ hs) w = (keeps h w.0, hyps_kept hs w.1)
 
     conclusion_kept : (t : Term) → IsFormOrNone c t → IsFormOrNone c (term_changed t cs)
     conclusion_kept t w m j =
@@ -150,7 +142,7 @@ once_typed b l e p w =
       frames = w.frames;
       hyps =
           hyps_kept b w.variables w.memories e.changes keeps (others l.hyps e.place)
-          (each_together (IsFormOrModule c) (take e.place l.hyps) (drop (e.place + 1) l.hyps) (each_taken (IsFormOrModule c) e.place l.hyps w.hyps) (each_dropped (IsFormOrModule c) (e.place + 1) l.hyps w.hyps));
+          (each_together (IsForm c) (take e.place l.hyps) (drop (e.place + 1) l.hyps) (each_taken (IsForm c) e.place l.hyps w.hyps) (each_dropped (IsForm c) (e.place + 1) l.hyps w.hyps));
       conclusion = conclusion_kept b w.variables w.memories e.changes keeps l.conclusion w.conclusion;
     }
 
@@ -164,25 +156,25 @@ used_typed b (suc n) l w = step (first_usable l.hyps) refl (λ e p. used_typed b
 
 -- What a form gives as hypotheses is forms.
 module _ (c : Context) where
-  alone : (t : Term) → IsFormOrModule c t → AllByRecursion (IsFormOrModule c) (unless_true t)
+  alone : (t : Term) → IsForm c t → AreForms c (unless_true t)
   alone t w = by_test (is_true (out-Term t).head)
     where
-      by_test : (x : Bool) → AllByRecursion (IsFormOrModule c) (if x then [] else t ∷ [])
+      by_test : (x : Bool) → AreForms c (if x then [] else t ∷ [])
       by_test true = tt
       by_test false = (w, tt)
 
   mutual
-    assumed_forms : (t : Term) → IsForm c t → AllByRecursion (IsFormOrModule c) (assumed t)
+    assumed_forms : (t : Term) → IsForm c t → AreForms c (assumed t)
     assumed_forms (Term' p (more_of-Head (head.Builtin op.And) end_of-Head) n ts ty) w =
         let k = w.typed in and_forms ts (Term' p (more_of-Head (head.Builtin op.And) end_of-Head) n ts ty) ty w k.0 k.3
-    assumed_forms (Term' p (more_of-Head h end_of-Head) n ts ty) w = alone (Term' p (more_of-Head h end_of-Head) n ts ty) (λ m. w)
+    assumed_forms (Term' p (more_of-Head h end_of-Head) n ts ty) w = alone (Term' p (more_of-Head h end_of-Head) n ts ty) w
 
-    and_forms : {n : Count} (ts : Row_of-Term n) (t : Term) (r : Ty) → IsForm c t → IsOperator op.And (types_of ts) r → AreTyped c c c ts → AllByRecursion (IsFormOrModule c) (assumed_by (connective (head.Builtin op.And)) (all_assumed ts) t)
-    and_forms end_of-Term t r w o k = alone t (λ m. w)
-    and_forms (more_of-Term x end_of-Term) t r w o k = alone t (λ m. w)
+    and_forms : {n : Count} (ts : Row_of-Term n) (t : Term) (r : Ty) → IsForm c t → IsOperator op.And (types_of ts) r → AreTyped c c c ts → AreForms c (assumed_by (connective (head.Builtin op.And)) (all_assumed ts) t)
+    and_forms end_of-Term t r w o k = alone t w
+    and_forms (more_of-Term x end_of-Term) t r w o k = alone t w
     and_forms (more_of-Term x (more_of-Term y end_of-Term)) t r w o k =
-        each_together (IsFormOrModule c) (assumed x) (assumed y) (assumed_forms x (record { typed = k.0; truth = o.0 })) (assumed_forms y (record { typed = k.1; truth = o.1.0 }))
-    and_forms (more_of-Term x (more_of-Term y (more_of-Term z ts))) t r w o k = alone t (λ m. w)
+        each_together (IsForm c) (assumed x) (assumed y) (assumed_forms x (record { typed = k.0; truth = o.0 })) (assumed_forms y (record { typed = k.1; truth = o.1.0 }))
+    and_forms (more_of-Term x (more_of-Term y (more_of-Term z ts))) t r w o k = alone t w
 
 -- A conclusion that is split.
 module _ (b : Context) (L : ℕ → Option Ty) (n : List Frame) where
@@ -193,7 +185,7 @@ module _ (b : Context) (L : ℕ → Option Ty) (n : List Frame) where
     memories : c.memories ≡ length ms
     finite : AllByRecursion IsFinite us
     frames : AreFrames ms
-    hyps : AllByRecursion (IsFormOrModule (small b us ms)) hs
+    hyps : AreForms (small b us ms) hs
 
   module _ (c : LeafContext) (bs : List Binder) (fs : List Frame) (us : List Ty) (ms : List Frame) (hs : List Term) (k : IsPlace c bs fs us ms hs) where
     each_moved : (P Q : Term → Type 0) → ((h : Term) → P h → Q h) → (xs : List Term) → AllByRecursion P xs → AllByRecursion Q xs
@@ -207,7 +199,7 @@ module _ (b : Context) (L : ℕ → Option Ty) (n : List Frame) where
       memories = k.memories;
       finite = each_together IsFinite us (u ∷ []) k.finite (fin, tt);
       frames = k.frames;
-      hyps = each_moved _ _ (λ h w m. wider b us ms (us ++ u ∷ []) ms (more_variable us ms u) h (w m)) hs k.hyps;
+      hyps = each_moved (IsForm (small b us ms)) (IsForm (small b (us ++ u ∷ []) ms)) (λ h w. wider b us ms (us ++ u ∷ []) ms (more_variable us ms u) h w) hs k.hyps;
     }
 
     with_bound : (ls : List TypedName) → IsPlace (with_memory c) (memory ∷ bs) (Some ls ∷ fs) us (ms ++ Some ls ∷ []) hs
@@ -217,7 +209,7 @@ module _ (b : Context) (L : ℕ → Option Ty) (n : List Frame) where
       memories = ap (λ n. n + 1) k.memories ∙ sym (one_more ms (Some ls));
       finite = k.finite;
       frames = (k.frames.0 ++ ls ∷ [], ap (λ xs. xs ++ Some ls ∷ []) k.frames.1 ∙ frames_more k.frames.0 ls);
-      hyps = each_moved _ _ (λ h w m. wider b us ms us (ms ++ Some ls ∷ []) (more_memory us ms (Some ls)) h (w m)) hs k.hyps;
+      hyps = each_moved (IsForm (small b us ms)) (IsForm (small b us (ms ++ Some ls ∷ []))) (λ h w. wider b us ms us (ms ++ Some ls ∷ []) (more_memory us ms (Some ls)) h w) hs k.hyps;
     }
 
     with_premise : (x : Term) → IsForm (from b L n bs fs) x → IsPlace c bs fs us ms (hs ++ assumed (term_changed x c.changes))
@@ -228,7 +220,7 @@ module _ (b : Context) (L : ℕ → Option Ty) (n : List Frame) where
       finite = k.finite;
       frames = k.frames;
       hyps =
-          each_together (IsFormOrModule (small b us ms)) hs (assumed (term_changed x c.changes)) k.hyps
+          each_together (IsForm (small b us ms)) hs (assumed (term_changed x c.changes)) k.hyps
           (assumed_forms (small b us ms) (term_changed x c.changes) (form_carried b L n c.changes bs fs us ms k.carried x w));
     }
 
@@ -318,29 +310,22 @@ module _ (b : Context) (L : ℕ → Option Ty) (n : List Frame) where
 
 -- A typed goal.
 module _ (b : Context) (q : Sequent) (us : List Ty) (finite : AllByRecursion IsFinite us) (ns : List Frame) (frames : AreFrames ns) (variables : length q.logical ≡ length us) (memories : length q.memories ≡ length ns) where
-  formula_assumed : (f : Term) → IsFormula (small b us ns) f → AllByRecursion (IsFormOrModule (small b us ns)) (assumed f)
-  formula_assumed f w = step (has_module f) refl
-    where
-      step : (m : Bool) → has_module f ≡ m → AllByRecursion (IsFormOrModule (small b us ns)) (assumed f)
-      step true m = subst (AllByRecursion (IsFormOrModule (small b us ns))) (sym (module_whole f m)) (alone (small b us ns) f (λ e. absurd (false≢true (sym e ∙ m))))
-      step false m = assumed_forms (small b us ns) f (formula_form (small b us ns) f w m)
-
-  hyp_typed : (h : Hyp) → IsFormula (small b us ns) h.form → AllByRecursion (IsFormOrModule (small b us ns)) (assumed_of h)
+  hyp_typed : (h : Hyp) → IsForm (small b us ns) h.form → AreForms (small b us ns) (assumed_of h)
   hyp_typed h w = step (speaks_of_programs h.form)
     where
-      step : (p : Bool) → AllByRecursion (IsFormOrModule (small b us ns)) (if p then [] else assumed h.form)
+      step : (p : Bool) → AreForms (small b us ns) (if p then [] else assumed h.form)
       step true = tt
-      step false = formula_assumed h.form w
+      step false = assumed_forms (small b us ns) h.form w
 
-  hyps_typed : (hs : List Hyp) → AreFormulas (small b us ns) hs → AllByRecursion (IsFormOrModule (small b us ns)) (flat_map assumed_of hs)
+  hyps_typed : (hs : List Hyp) → AreHypotheses (small b us ns) hs → AreForms (small b us ns) (flat_map assumed_of hs)
   hyps_typed [] w = tt
-  hyps_typed (h ∷ hs) w = each_together (IsFormOrModule (small b us ns)) (assumed_of h) (flat_map assumed_of hs) (hyp_typed h w.0) (hyps_typed hs w.1)
+  hyps_typed (h ∷ hs) w = each_together (IsForm (small b us ns)) (assumed_of h) (flat_map assumed_of hs) (hyp_typed h w.0) (hyps_typed hs w.1)
 
-  forms_typed : (fs : List Term) → AreForms (small b us ns) fs → AllByRecursion (IsFormOrModule (small b us ns)) (flat_map assumed fs)
+  forms_typed : (fs : List Term) → AreForms (small b us ns) fs → AreForms (small b us ns) (flat_map assumed fs)
   forms_typed [] w = tt
-  forms_typed (f ∷ fs) w = each_together (IsFormOrModule (small b us ns)) (assumed f) (flat_map assumed fs) (assumed_forms (small b us ns) f w.0) (forms_typed fs w.1)
+  forms_typed (f ∷ fs) w = each_together (IsForm (small b us ns)) (assumed f) (flat_map assumed fs) (assumed_forms (small b us ns) f w.0) (forms_typed fs w.1)
 
-  module _ (hs : List Term) (typed : AllByRecursion (IsFormOrModule (small b us ns)) hs) where
+  module _ (hs : List Term) (typed : AreForms (small b us ns) hs) where
     place : IsPlace b (λ i. item us i) ns (leaves.context_of q) [] [] us ns hs
     place = record { carried = carried_start b us ns; variables = variables; memories = memories; finite = finite; frames = frames; hyps = typed }
 
@@ -353,6 +338,6 @@ module _ (b : Context) (q : Sequent) (us : List Ty) (finite : AllByRecursion IsF
             (whole_typed b (λ i. item us i) ns (leaves.context_of q) [] [] us ns hs place t (λ m e. absurd (false≢true (sym e ∙ body_stays_at t j []))))
         step false j = split_typed b (λ i. item us i) ns t (leaves.context_of q) [] [] us ns hs place (conclusion_formula (small b us ns) t w j)
 
-  pub leaves_typed : (known : List Term) → AreForms (small b us ns) known → AreFormulas (small b us ns) q.hyps → IsConclusion (small b us ns) q.conclusion → AllByRecursion (IsTypedLeaf b) (leaves.leaves_of known q)
+  pub leaves_typed : (known : List Term) → AreForms (small b us ns) known → AreHypotheses (small b us ns) q.hyps → IsConclusion (small b us ns) q.conclusion → AllByRecursion (IsTypedLeaf b) (leaves.leaves_of known q)
   leaves_typed known forms hyps w =
-      conclusion_typed (leaves.hyps_with known q) (each_together (IsFormOrModule (small b us ns)) (flat_map assumed_of q.hyps) (flat_map assumed known) (hyps_typed q.hyps hyps) (forms_typed known forms)) q.conclusion w
+      conclusion_typed (leaves.hyps_with known q) (each_together (IsForm (small b us ns)) (flat_map assumed_of q.hyps) (flat_map assumed known) (hyps_typed q.hyps hyps) (forms_typed known forms)) q.conclusion w

@@ -38,6 +38,7 @@ use Rattle.gb_script.specs.declared.head.Head.TheVariants as text
 use Rattle.gb_script.specs.declared.tree.Node.{Node}
 use Rattle.gb_script.specs.Tree.{head_of, text_of, parts_of, place_of}
 use Rattle.gb_holds.specs.Declared.{declared}
+use Rattle.gb_holds.specs.Truth.{has_module}
 use Rattle.gb_typing.specs.Context.{Context, erased, within}
 use Rattle.gb_laws.proofs.Trees.{out_is}
 use Rattle.gb_meaning.specs.Written.{type_of}
@@ -72,7 +73,6 @@ use Rattle.gb_amb.proofs.Cases.{conclusion_formula}
 use Rattle.gb_meaning.proofs.Nodes.{each_is_node}
 use Rattle.gb_typing.proofs.Conclusions.{formula_form}
 use Rattle.gb_typing.proofs.Made.{parts_typed}
-use Rattle.gb_models.proofs.Staying.{without_modules}
 use mathlib.Core.Former.{Count}
 use Rattle.gb_elab_laws.proofs.Remembered.{IsNamedMemory}
 use Rattle.gb_elab_laws.proofs.AboutNamed.{memory_typed as about_memory}
@@ -82,6 +82,11 @@ use Rattle.gb_use.specs.Lemmas.{IsKnown}
 use Rattle.gb_elab_laws.specs.Procedures.{AreStated}
 use Rattle.gb_use.specs.Uses.{used_by}
 use Rattle.gb_use.specs.Uses as uses
+
+-- no module is quantified in front of what is said of some memory
+memory_front : (f : Term) → (out-Term f).head ≡ head.SomeMemory → has_module f ≡ false
+memory_front (Term' tt (more_of-Head h end_of-Head) n ts ty) e =
+    subst (λ k. has_module (Term' tt (more_of-Head k end_of-Head) n ts ty) ≡ false) (sym (sym (ap (λ x. x.head) (out_is h n ts ty)) ∙ e)) refl
 
 module _ (ds : scope.Declarations) (scoped : IsTypedScope (declared ds)) (q : Sequent) (t : IsTypedSequent (context_of (declared ds)) q) where
   abbrev here : Context
@@ -103,10 +108,10 @@ module _ (ds : scope.Declarations) (scoped : IsTypedScope (declared ds)) (q : Se
   -- the forms that a rule brings are typed
   abbrev HasForms : Rule → Type 0
   HasForms (rule.Ambient r) = IsTypedAnew r
-  HasForms (rule.Use r) = AreStated ds → uses.IsTypedStep (declared ds) q here r
-  HasForms (rule.Smt fs) = AreStated ds → AreKnown fs
-  HasForms (rule.Rewrite r) = AreStated ds → AreKnown (told (rule.Rewrite r))
-  HasForms (rule.CallKnown a f) = AreStated ds → AreKnown (f ∷ [])
+  HasForms (rule.Use r) = AreStated ds → q.modules ≡ [] → uses.IsTypedStep (declared ds) q here r
+  HasForms (rule.Smt fs) = AreStated ds → q.modules ≡ [] → AreKnown fs
+  HasForms (rule.Rewrite r) = AreStated ds → q.modules ≡ [] → AreKnown (told (rule.Rewrite r))
+  HasForms (rule.CallKnown a f) = AreStated ds → q.modules ≡ [] → AreKnown (f ∷ [])
   HasForms _ = Unit {0}
 
   -- a step that brings this
@@ -117,7 +122,7 @@ module _ (ds : scope.Declarations) (scoped : IsTypedScope (declared ds)) (q : Se
   by_use : (n : Node) (f : Term) → used ds q n ≡ given f → (r : UseRule) → used_by r ≡ f → (k : Rule) → rule.Use r ≡ k → HasForms k
   by_use n f u r is k e =
       subst HasForms e
-      (λ lemmas. (let w = used_typed ds scoped q t lemmas n f u in record { form = subst (IsForm here) (sym is) w.0; known = subst (IsKnown (declared ds) q here) (sym is) w.1 }))
+      (λ lemmas alone. (let w = used_typed ds scoped q t lemmas alone n f u in record { form = subst (IsForm here) (sym is) w.0; known = subst (IsKnown (declared ds) q here) (sym is) w.1 }))
 
   abbrev is_ambient : Rule → Bool
   is_ambient (rule.Ambient r) = true
@@ -244,19 +249,18 @@ module _ (ds : scope.Declarations) (scoped : IsTypedScope (declared ds)) (q : Se
   memory_typed i m head.SomeMemory (b ∷ []) eh et e =
       let r = (out-Term q.conclusion).ty in
       let whole : q.conclusion ≡ node head.SomeMemory (b ∷ []) r = each_is_node q.conclusion ∙ (λ k. node (eh k) (et k) r) in
-      let front = without_modules ds q t in
-      let form : IsForm here q.conclusion = formula_form here q.conclusion (conclusion_formula here q.conclusion t.conclusion (ap judges_bodies eh)) front.conclusion in
+      let form : IsForm here q.conclusion = formula_form here q.conclusion (conclusion_formula here q.conclusion t.conclusion (ap judges_bodies eh)) (memory_front q.conclusion eh) in
       let v = subst (IsForm here) whole form in
       let p = parts_typed here head.SomeMemory (b ∷ []) r v.typed in
       let c = context_of (declared ds) in
       let range = subst (λ n. i < n) (length-map t.frames (λ l. Some l)) m.side in
       let body : IsForm (within here memory (Some p.2)) b = record { typed = p.3; truth = p.0.0 } in
-      let u = wider_typed c q t front.hyps i range p.2 b r whole form body in (
+      let u = wider_typed c q t i range p.2 b r whole form body in (
         u,
         subst (λ d. IsForm (within d memory (Some p.2)) b → IsForm d (at_memory b i)) (sym (sequent_outermost (declared ds) q u.frames))
-            (λ z. about_memory (with_modules c q.modules) (map (λ x. x.ty) q.logical) (map (λ l. Some l) u.frames) i (there c q t front.hyps i range p.2 b r whole form body)
-            (within_range c q t front.hyps i range p.2 b r whole form body) true q p.2 (further_stands c q t front.hyps i range p.2 b r whole form body) b z e)
-            (body_grows c q t front.hyps i range p.2 b r whole form body),
+            (λ z. about_memory (with_modules c q.modules) (map (λ x. x.ty) q.logical) (map (λ l. Some l) u.frames) i (there c q t i range p.2 b r whole form body)
+            (within_range c q t i range p.2 b r whole form body) true q p.2 (further_stands c q t i range p.2 b r whole form body) b z e)
+            (body_grows c q t i range p.2 b r whole form body),
       )
   memory_typed i m h ts eh et e = (t, tt)
 
@@ -287,7 +291,7 @@ module _ (ds : scope.Declarations) (scoped : IsTypedScope (declared ds)) (q : Se
   rule_forms : (n : Kind) (x : List ℕ) (xs : List Node) (p : Place) (k : Rule) → typed_rule ds q n x xs p ≡ given k → HasForms k
   rule_forms text.PlainStep x [] p k h =
       let o = given_bind (conclusion_rule x p) (λ (a : AmbientRule). given (rule.Ambient a)) k h in brings o.0 (plain_typed x p o.0 o.1) k (given_is (rule.Ambient o.0) k o.2)
-  rule_forms text.CallStep x (b ∷ n ∷ []) p k h = of_call ds q HasForms (λ s. tt) (λ a n f e lemmas. (used_typed ds scoped q t lemmas n f e, tt)) tt (acts (parts_of b)) (head_of n) (parts_of n) p k h
+  rule_forms text.CallStep x (b ∷ n ∷ []) p k h = of_call ds q HasForms (λ s. tt) (λ a n f e lemmas alone. (used_typed ds scoped q t lemmas alone n f e, tt)) tt (acts (parts_of b)) (head_of n) (parts_of n) p k h
   rule_forms text.WhileStep x (b ∷ f ∷ []) p k h = of_while ds q HasForms (λ v. tt) tt (acts (parts_of b)) f k h
   rule_forms text.Inline x (b ∷ n ∷ []) p k h = of_inlining HasForms (λ a t. tt) ds q (acts (parts_of b)) (parts_of n) p k h
   rule_forms text.ByStep x (m ∷ n ∷ []) p k h = of_by ds q m n HasForms (λ b e z g. tt) (λ b e z g. tt) tt x p k h
@@ -318,24 +322,24 @@ module _ (ds : scope.Declarations) (scoped : IsTypedScope (declared ds)) (q : Se
       by_use n z.0 z.1 (use_rule.Have (text_of m) z.0) refl k (given_is (rule.Use (use_rule.Have (text_of m) z.0)) k z.2)
   rule_forms text.RewriteLemma x (n ∷ []) p k h =
       let z = given_bind (used ds q n) (λ (f : Term). given (rule.Rewrite (rewrite_rule.Forward f))) k h in
-      subst HasForms (given_is (rule.Rewrite (rewrite_rule.Forward z.0)) k z.2) (λ lemmas. (used_typed ds scoped q t lemmas n z.0 z.1, tt))
+      subst HasForms (given_is (rule.Rewrite (rewrite_rule.Forward z.0)) k z.2) (λ lemmas alone. (used_typed ds scoped q t lemmas alone n z.0 z.1, tt))
   rule_forms text.RewriteBack x (n ∷ []) p k h =
       let z = given_bind (used ds q n) (λ (f : Term). given (rule.Rewrite (rewrite_rule.Back f))) k h in
-      subst HasForms (given_is (rule.Rewrite (rewrite_rule.Back z.0)) k z.2) (λ lemmas. (used_typed ds scoped q t lemmas n z.0 z.1, tt))
+      subst HasForms (given_is (rule.Rewrite (rewrite_rule.Back z.0)) k z.2) (λ lemmas alone. (used_typed ds scoped q t lemmas alone n z.0 z.1, tt))
   rule_forms text.RewriteHypothesis x (n ∷ []) p k h =
       let z = given_bind (hypothesis ds q (text_of n) (place_of n)) (λ (f : Term). given (rule.Rewrite (rewrite_rule.Forward f))) k h in
-      subst HasForms (given_is (rule.Rewrite (rewrite_rule.Forward z.0)) k z.2) (λ lemmas. (hypothesis_typed ds scoped q t lemmas (text_of n) (place_of n) z.0 z.1, tt))
+      subst HasForms (given_is (rule.Rewrite (rewrite_rule.Forward z.0)) k z.2) (λ lemmas alone. (hypothesis_typed ds scoped q t lemmas alone (text_of n) (place_of n) z.0 z.1, tt))
   rule_forms text.Subst x (n ∷ []) p k h =
       let z = given_bind (hypothesis_at ds q (text_of n) (place_of n)) (λ (i : ℕ). given (rule.Rewrite (rewrite_rule.Subst i))) k h in
-      subst HasForms (given_is (rule.Rewrite (rewrite_rule.Subst z.0)) k z.2) (λ lemmas. tt)
+      subst HasForms (given_is (rule.Rewrite (rewrite_rule.Subst z.0)) k z.2) (λ lemmas alone. tt)
   rule_forms text.RewriteOperator x (n ∷ []) p k h =
       let z = given_bind (defined_operator ds q n) (λ (y : List ℕ). given (rule.Rewrite (rewrite_rule.Unfold y))) k h in
-      subst HasForms (given_is (rule.Rewrite (rewrite_rule.Unfold z.0)) k z.2) (λ lemmas. tt)
-  rule_forms text.RewriteLaw x [] p k h = of_event_law HasForms (λ l n lemmas. tt) (λ r. tt) (λ r. tt) x p k h
-  rule_forms text.RewriteSplit x (e ∷ []) p k h = of_splitting ds q e HasForms (λ f i u g lemmas. tt) tt k h
+      subst HasForms (given_is (rule.Rewrite (rewrite_rule.Unfold z.0)) k z.2) (λ lemmas alone. tt)
+  rule_forms text.RewriteLaw x [] p k h = of_event_law HasForms (λ l n lemmas alone. tt) (λ r. tt) (λ r. tt) x p k h
+  rule_forms text.RewriteSplit x (e ∷ []) p k h = of_splitting ds q e HasForms (λ f d u g lemmas alone. tt) tt k h
   rule_forms text.Smt x hints p k h =
       let z = given_bind (all_hinted ds q hints) (λ (fs : List Term). given (rule.Smt fs)) k h in
-      subst HasForms (given_is (rule.Smt z.0) k z.2) (λ lemmas. all_hinted_typed ds scoped q t lemmas hints z.0 z.1)
+      subst HasForms (given_is (rule.Smt z.0) k z.2) (λ lemmas alone. all_hinted_typed ds scoped q t lemmas alone hints z.0 z.1)
   rule_forms text.Linear x hs p k h =
       let o = given_bind (multiples ds q hs) (λ (ms : List Multiple). given (rule.Linear ms)) k h in other (rule.Linear o.0) k refl (given_is (rule.Linear o.0) k o.2)
   rule_forms text.Name x [] p k h = brings (conclusion.Introduce x) tt k (given_is (rule.Ambient (conclusion.Introduce x)) k h)
@@ -347,7 +351,7 @@ module _ (ds : scope.Declarations) (scoped : IsTypedScope (declared ds)) (q : Se
       let o = given_bind (witness_rule ds q n) (λ (a : AmbientRule). given (rule.Ambient a)) k h in
       subst HasForms (given_is (rule.Ambient o.0) k o.2) (witness_brings n o.0 (is_memory (head_of n)) o.1)
   rule_forms text.TrivialPattern x [] p k h = brings conclusion.Trivial tt k (given_is (rule.Ambient conclusion.Trivial) k h)
-  rule_forms text.SmtPattern x [] p k h = subst HasForms (given_is (rule.Smt []) k h) (λ lemmas. tt)
+  rule_forms text.SmtPattern x [] p k h = subst HasForms (given_is (rule.Smt []) k h) (λ lemmas alone. tt)
   rule_forms text.Swap x (b ∷ n ∷ d ∷ []) p k h = of_passing HasForms (λ a t. tt) (acts (parts_of b)) n (head_of d) (parts_of d) p k h
   rule_forms text.PositionStep x (b ∷ n ∷ []) p k h = of_placed HasForms (λ a t. tt) x (acts (parts_of b)) (position n) p k h
   rule_forms _ x _ p k h = cc
@@ -361,14 +365,14 @@ module _ (ds : scope.Declarations) (scoped : IsTypedScope (declared ds)) (q : Se
   pub steps_typed : (n : Node) (s : Step) → step_given ds q n ≡ given s → (r : AmbientRule) → s.rule ≡ rule.Ambient r → IsTypedAnew r
   steps_typed n s h r e = subst HasForms e (step_forms n s h)
 
-  pub uses_typed : AreStated ds → (n : Node) (s : Step) → step_given ds q n ≡ given s → (r : UseRule) → s.rule ≡ rule.Use r → uses.IsTypedStep (declared ds) q here r
-  uses_typed lemmas n s h r e = subst HasForms e (step_forms n s h) lemmas
+  pub uses_typed : AreStated ds → q.modules ≡ [] → (n : Node) (s : Step) → step_given ds q n ≡ given s → (r : UseRule) → s.rule ≡ rule.Use r → uses.IsTypedStep (declared ds) q here r
+  uses_typed lemmas alone n s h r e = subst HasForms e (step_forms n s h) lemmas alone
 
-  told_typed : (r : Rule) → HasForms r → AreStated ds → AreKnown (told r)
-  told_typed (rule.Smt fs) w lemmas = w lemmas
-  told_typed (rule.Rewrite r) w lemmas = w lemmas
-  told_typed (rule.CallKnown a f) w lemmas = w lemmas
-  told_typed _ w lemmas = tt
+  told_typed : (r : Rule) → HasForms r → AreStated ds → q.modules ≡ [] → AreKnown (told r)
+  told_typed (rule.Smt fs) w lemmas alone = w lemmas alone
+  told_typed (rule.Rewrite r) w lemmas alone = w lemmas alone
+  told_typed (rule.CallKnown a f) w lemmas alone = w lemmas alone
+  told_typed _ w lemmas alone = tt
 
-  pub hints_typed : AreStated ds → (n : Node) (s : Step) → step_given ds q n ≡ given s → AreKnown (told s.rule)
-  hints_typed lemmas n s h = told_typed s.rule (step_forms n s h) lemmas
+  pub hints_typed : AreStated ds → q.modules ≡ [] → (n : Node) (s : Step) → step_given ds q n ≡ given s → AreKnown (told s.rule)
+  hints_typed lemmas alone n s h = told_typed s.rule (step_forms n s h) lemmas alone

@@ -6,7 +6,6 @@ use Rattle.gb_core.specs.declared.ty.Ty.{Ty}
 use Rattle.gb_goal.specs.Answers.Answer.{given}
 use Rattle.gb_goal.specs.Scope as scope
 use Rattle.gb_goal.specs.Scope.{is_claim, entry_of, AreNew, ClaimNothing}
-use Rattle.gb_goal.specs.declared.module_type.ModuleType.{ModuleType}
 use Rattle.gb_goal.specs.declared.scope.Entry.{Entry}
 use Rattle.gb_goal.specs.declared.scope.Entry.TheVariants as entry
 use Rattle.gb_script.specs.declared.head.Head.{Head}
@@ -23,12 +22,13 @@ use Rattle.gb_elab_prog.specs.Types.{constants, enumeration, enumeration_type, n
 use Rattle.gb_elab_prog.specs.Fresh.{free}
 use Rattle.gb_elab_prog.specs.Contexts.{nothing_bound}
 use Rattle.gb_elab_prog.specs.Operators.{all_parameters, body, defined, operator_entry, undefined, written}
-use Rattle.gb_elab_prog.specs.ModuleTypes.{module_type_entries, parameters, signatures}
+use Rattle.gb_elab_prog.specs.ModuleTypes.{module_type_entries}
 use Rattle.gb_elab_prog.specs.Entries.{entries_by, entries_given}
 use Rattle.gb_elab_prog.proofs.New.{given_bind, given_is, entries_new}
 use Rattle.gb_elab_laws.proofs.Bodies.{IsOperatorIn, operator_typed}
 use Rattle.gb_elab_laws.proofs.Members.{free_is}
 use Rattle.gb_elab_laws.proofs.Literals.{enumeration_literal}
+use Rattle.gb_elab_laws.proofs.ModuleTypes.{module_type_is}
 use Rattle.gb_elab_laws.proofs.Scopes.{typed_after}
 use Rattle.gb_elab_laws.proofs.Types.{spelled_typed}
 use Rattle.gb_elab_laws.proofs.Declared.{declared_in}
@@ -37,10 +37,9 @@ use Rattle.gb_models.specs.Speaking.{ScopeSpeaks}
 use Rattle.gb_elab_laws.specs.Calling.{EntriesCall, EntryCalls}
 use Rattle.gb_elab_laws.specs.Fitting.{AreTypes}
 
--- an abstract type, a module type, a name of a type of values, or a constant
+-- an abstract type, a name of a type of values, or a constant
 abbrev pub IsGood : Entry → Type 0
 IsGood entry.AbstractType = Unit {0}
-IsGood (entry.ModuleType y) = Unit {0}
 IsGood (entry.Type t) = IsAbbreviation (for_type t)
 IsGood (entry.Constant c) = IsAbbreviation (for_value c)
 IsGood _ = ⊥
@@ -53,10 +52,10 @@ AreGood (d ∷ ds) = IsGood d.1 × AreGood ds
 good_speaks : (ds : scope.Declarations) → AreGood ds → ScopeSpeaks NoName (declared ds)
 good_speaks [] g = tt
 good_speaks ((k, entry.AbstractType) ∷ ds) g = (tt, good_speaks ds g.1)
-good_speaks ((k, entry.ModuleType y) ∷ ds) g = (tt, good_speaks ds g.1)
 good_speaks ((k, entry.Type t) ∷ ds) g = (tt, good_speaks ds g.1)
 good_speaks ((k, entry.Constant a) ∷ ds) g = (tt, good_speaks ds g.1)
 good_speaks ((k, entry.Module m) ∷ ds) g = absurd g.0
+good_speaks ((k, entry.ModuleType y) ∷ ds) g = absurd g.0
 good_speaks ((k, entry.Lemma q order) ∷ ds) g = absurd g.0
 good_speaks ((k, entry.Operator o) ∷ ds) g = absurd g.0
 good_speaks ((k, entry.AbstractOperator o) ∷ ds) g = absurd g.0
@@ -101,18 +100,6 @@ types_good ds names x head.TypeAlias (t ∷ []) p all e =
 types_good ds names x head.Enumeration (c ∷ cs) p all e = enumeration_good ds x (take 256 (c ∷ cs)) (drop 256 (c ∷ cs)) all (omega arith) e
 types_good ds names x _ ps p all e = cc
 
--- one module type is declared
-module_type_is : (ds : scope.Declarations) (x : Node) (ps ts : List Node) (all : scope.Declarations) → module_type_entries ds x ps ts ≡ given all → (t : ModuleType) × (only x (entry.ModuleType t) ≡ all)
-unfolding module_type_entries
-module_type_is ds x ps ts all e =
-    let f = given_bind (free ds x) _ all e in
-    let a = given_bind (parameters ds [] ps) _ all f.2 in
-    let b = given_bind (signatures ds a.0 [] ts) _ all a.2 in
-    (record { params = a.0; signatures = b.0 }, given_is _ all b.2)
-
-module_type_good : (ds : scope.Declarations) (x : Node) (ps ts : List Node) (all : scope.Declarations) → module_type_entries ds x ps ts ≡ given all → AreGood all
-module_type_good ds x ps ts all e = let t = module_type_is ds x ps ts all e in subst AreGood t.1 (tt, tt)
-
 -- what no declaration has is declared by none
 undeclared : (ds : scope.Declarations) (n : Name) → entry_of ds n ≡ None → is_declared (declared ds) n ≡ false
 undeclared [] n e = refl
@@ -130,11 +117,6 @@ good_typed ds ((k, entry.AbstractType) ∷ added) c n g = (
   tt,
   subst (λ z. AreTypedAfter c z (declared added)) (declared-append ds ((k, entry.AbstractType) ∷ [])) (good_typed (ds ++ (k, entry.AbstractType) ∷ []) added c n.1 g.1),
 )
-good_typed ds ((k, entry.ModuleType y) ∷ added) c n g = (
-  undeclared ds k n.0,
-  tt,
-  subst (λ z. AreTypedAfter c z (declared added)) (declared-append ds ((k, entry.ModuleType y) ∷ [])) (good_typed (ds ++ (k, entry.ModuleType y) ∷ []) added c n.1 g.1),
-)
 good_typed ds ((k, entry.Type t) ∷ added) c n g = (
   undeclared ds k n.0,
   g.0,
@@ -146,6 +128,7 @@ good_typed ds ((k, entry.Constant a) ∷ added) c n g = (
   subst (λ z. AreTypedAfter c z (declared added)) (declared-append ds ((k, entry.Constant a) ∷ [])) (good_typed (ds ++ (k, entry.Constant a) ∷ []) added c n.1 g.1),
 )
 good_typed ds ((k, entry.Module m) ∷ added) c n g = absurd g.0
+good_typed ds ((k, entry.ModuleType y) ∷ added) c n g = absurd g.0
 good_typed ds ((k, entry.Lemma q order) ∷ added) c n g = absurd g.0
 good_typed ds ((k, entry.Operator o) ∷ added) c n g = absurd g.0
 good_typed ds ((k, entry.AbstractOperator o) ∷ added) c n g = absurd g.0
@@ -175,7 +158,7 @@ types_others ds x head.Enumeration (c ∷ cs) p all e = enumeration_others ds x 
 types_others ds x _ ps p all e = cc
 
 module_type_others : (ds : scope.Declarations) (x : Node) (ps ts : List Node) (all : scope.Declarations) → module_type_entries ds x ps ts ≡ given all → ClaimNothing all
-module_type_others ds x ps ts all e = let t = module_type_is ds x ps ts all e in subst ClaimNothing t.1 (refl, tt)
+module_type_others ds x ps ts all e = let t = module_type_is ds x ps ts all e in subst ClaimNothing t.is (refl, tt)
 
 -- an operator of a new name is typed
 operator_added : (ds : scope.Declarations) (x : Node) (e : Entry) → is_declared (declared ds) (text_of x) ≡ false → IsOperatorIn (context_of (declared ds)) e →
@@ -243,7 +226,8 @@ by_head ds s head.OperatorDeclaration (x ∷ d ∷ []) p all e n =
     let b = given_bind (operator_entry ds (head_of d) (parts_of d) (place_of d)) _ all a.2 in
     subst (AreAdded ds) (given_is (only x b.0) all b.2)
     (operator_added ds x b.0 (free_is ds x a.0 a.1) (operator_typed ds (context_of (declared ds)) (declared_in ds s) (head_of d) (parts_of d) (place_of d) b.0 b.1))
-by_head ds s head.ModuleType (x ∷ ps ∷ ts ∷ []) p all e n = good_typed ds all (context_of (declared ds)) n (module_type_good ds x (parts_of ps) (parts_of ts) all e)
+by_head ds s head.ModuleType (x ∷ ps ∷ ts ∷ []) p all e n =
+    let t = module_type_is ds x (parts_of ps) (parts_of ts) all e in subst (AreAdded ds) t.is (t.free, t.typed s, tt)
 by_head ds s _ ps p all e n = cc
 
 pub entries_typed : (ds : scope.Declarations) → IsTypedScope (declared ds) → (t : Node) (all : scope.Declarations) → entries_given ds t ≡ given all → IsTypedScope (declared (ds ++ all))
@@ -262,7 +246,8 @@ speaks_by_head ds s head.OperatorDeclaration (x ∷ d ∷ []) p all e =
     let b = given_bind (operator_entry ds (head_of d) (parts_of d) (place_of d)) _ all a.2 in
     subst (λ z. ScopeSpeaks NoName (declared z)) (given_is (only x b.0) all b.2)
     (operator_speaks (context_of (declared ds)) x b.0 (operator_typed ds (context_of (declared ds)) (declared_in ds s) (head_of d) (parts_of d) (place_of d) b.0 b.1))
-speaks_by_head ds s head.ModuleType (x ∷ ps ∷ ts ∷ []) p all e = good_speaks all (module_type_good ds x (parts_of ps) (parts_of ts) all e)
+speaks_by_head ds s head.ModuleType (x ∷ ps ∷ ts ∷ []) p all e =
+    let t = module_type_is ds x (parts_of ps) (parts_of ts) all e in subst (λ z. ScopeSpeaks NoName (declared z)) t.is (tt, tt)
 speaks_by_head ds s _ ps p all e = cc
 
 pub entries_speak : (ds : scope.Declarations) → IsTypedScope (declared ds) → (t : Node) (all : scope.Declarations) → entries_given ds t ≡ given all → ScopeSpeaks NoName (declared all)
@@ -279,7 +264,8 @@ calls_by_head ds s head.OperatorDeclaration (x ∷ d ∷ []) p all e =
     let b = given_bind (operator_entry ds (head_of d) (parts_of d) (place_of d)) _ all a.2 in
     subst (λ z. EntriesCall (ds ++ z) z) (given_is (only x b.0) all b.2)
     (operator_calls (ds ++ only x b.0) (context_of (declared ds)) b.0 (operator_typed ds (context_of (declared ds)) (declared_in ds s) (head_of d) (parts_of d) (place_of d) b.0 b.1), tt)
-calls_by_head ds s head.ModuleType (x ∷ ps ∷ ts ∷ []) p all e = all_call (ds ++ all) all (module_type_good ds x (parts_of ps) (parts_of ts) all e)
+calls_by_head ds s head.ModuleType (x ∷ ps ∷ ts ∷ []) p all e =
+    let t = module_type_is ds x (parts_of ps) (parts_of ts) all e in subst (λ z. EntriesCall (ds ++ z) z) t.is (tt, tt)
 calls_by_head ds s _ ps p all e = cc
 
 pub entries_call : (ds : scope.Declarations) → IsTypedScope (declared ds) → (t : Node) (all : scope.Declarations) → entries_given ds t ≡ given all → EntriesCall (ds ++ all) all

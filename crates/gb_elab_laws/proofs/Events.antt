@@ -1,6 +1,7 @@
 -- The event of a typed law of events is typed after the procedure of the first probability.
-use Rattle.std.proofs.Common.{◌≡◌, [], Some, refl, subst}
+use Rattle.std.proofs.Common.{◌≡◌, [], Some, refl, sym, subst}
 use Rattle.gb_core.specs.declared.ty.Ty.TheVariants as ty
+use Rattle.gb_terms.specs.declared.decl.Proc.{Proc}
 use Rattle.gb_terms.specs.declared.module.ProcRef.{ProcRef}
 use Rattle.gb_terms.specs.declared.term.Term.{Term}
 use Rattle.gb_goal.specs.Scope as scope
@@ -19,15 +20,14 @@ use Rattle.gb_typing.specs.Context.{Context, procedure, with_own}
 use Rattle.gb_typing.specs.Scopes.{context_of, IsTypedScope}
 use Rattle.gb_typing.specs.Sequents.{of_sequent, IsTypedSequent}
 use Rattle.gb_typing.specs.Typing.{IsForm, IsThere, after}
+use Rattle.gb_typing.proofs.Located.{typed_there}
 use Rattle.gb_names.specs.Environment.{ambient, unary}
-use Rattle.gb_models.proofs.Staying.{without_modules}
 use Rattle.gb_elab.specs.Forms.{elaborated}
 use Rattle.gb_elab_mod.specs.Steps.{result_if, step_given}
 use Rattle.gb_elab_laws.proofs.Anew.{fits, result_stands}
 use Rattle.gb_elab_laws.proofs.Conditions.{of_by}
 use Rattle.gb_elab_laws.proofs.Contracts.{of_call}
 use Rattle.gb_elab_laws.proofs.EventLaws.{BringsNone, of_splitting}
-use Rattle.gb_elab_laws.proofs.FirstProcedures.{FirstThere, first_there}
 use Rattle.gb_elab_laws.proofs.Forms.{elaborated_typed}
 use Rattle.gb_elab_laws.proofs.OneProcedure.{condition}
 use Rattle.gb_elab_laws.proofs.Steps.{IsOther, of_step}
@@ -57,16 +57,14 @@ module _ (ds : scope.Declarations) (scoped : IsTypedScope (declared ds)) (q : Se
   others (rule.Rewrite (rewrite_rule.Law l)) i = without_event l i
   others _ i = tt
 
-  divided : (e : Node) (f : ProcRef) → FirstThere here (Some f) → (u : Term) → elaborated e (unary ds q (result_if (procedure_of ds f))) [] (Some ty.Bool) ≡ given u →
-      HasEvent (rule.Rewrite (rewrite_rule.Law (Split f u)))
-  divided e f j u h = after_typed e f j u h
+  -- a declared procedure is there
+  declared_there : (f : ProcRef) → ((p : Proc) × (procedure_of ds f ≡ Some p)) → IsThere (procedure here f)
+  declared_there f d = let k = typed_there ds scoped q t.modules t.frames f d.0 d.1 in subst IsThere (sym k.type) tt
 
   event_typed : (n : Node) (s : Step) → step_given ds q n ≡ given s → HasEvent s.rule
   event_typed n s h =
-      let front = without_modules ds q t in
-      let there = first_there here q.conclusion t.conclusion front.conclusion in
       of_step ds q HasEvent others (of_call ds q HasEvent (λ s. tt) (λ a n f e. tt) tt) (λ m n. of_by ds q m n HasEvent (λ b e z g. tt) (λ b e z g. tt) tt)
-      (λ e. of_splitting ds q e HasEvent (λ f i u g. divided e f (subst (FirstThere here) i there) u g) tt) n s h
+      (λ e. of_splitting ds q e HasEvent (λ f d u g. after_typed e f (declared_there f d) u g) tt) n s h
 
   pub events_typed : (n : Node) (s : Step) → step_given ds q n ≡ given s → (f : ProcRef) (u : Term) → s.rule ≡ rule.Rewrite (rewrite_rule.Law (Split f u)) → IsForm (with_own here (after (procedure here f))) u
   events_typed n s h f u e = subst HasEvent e (event_typed n s h)

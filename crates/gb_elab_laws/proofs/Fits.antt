@@ -17,9 +17,9 @@ use Rattle.gb_goal.specs.declared.sequent.Sequent.{Sequent}
 use Rattle.gb_meaning.specs.Names.{Name}
 use Rattle.gb_meaning.specs.Written.{local_type}
 use Rattle.gb_laws.specs.Finite.{IsVariableType}
-use Rattle.gb_holds.specs.Declared.{Declarations, declaration_of, declared, concrete_module, lemma}
+use Rattle.gb_holds.specs.Declared.{Declarations, declaration_of, declared, concrete_module}
 use Rattle.gb_holds.specs.Modules.{Procedures, found}
-use Rattle.gb_typing.specs.Modules.{ProcedureType, Interface, of_complete, functor_type, of_functor_type}
+use Rattle.gb_typing.specs.Modules.{ProcedureType, Interface, functor_type, of_functor_type}
 use Rattle.gb_typing.specs.Modules as typing
 use Rattle.gb_laws.specs.Typing.{binder, IsMemory}
 use Rattle.gb_laws.specs.Typing.Binder.{program as module_binder}
@@ -29,8 +29,8 @@ use Rattle.gb_terms.specs.declared.op.Side.TheVariants as side
 use Rattle.gb_typing.specs.Programs.{HaveVariableTypes, type_of_procedure}
 use Rattle.gb_typing.specs.Formulas.{with_module}
 use Rattle.gb_typing.specs.Sequents.{one, of_sequent, two, with_modules, AreBinders, IsTypedSequent}
-use Rattle.gb_typing.specs.Scopes.{interface_with, procedure_types, nothing, with_declared, with_each, context_of, is_declared, AreProcedures, AreTypedAfter, IsTypedScope}
-use Rattle.gb_typing.proofs.Operators.{declared_more, declared_last, other_name}
+use Rattle.gb_typing.specs.Scopes.{interface_with, procedure_types, nothing, with_declared, with_each, context_of, AreProcedures, AreTypedAfter, IsTypedScope}
+use Rattle.gb_typing.proofs.Operators.{declared_last}
 use Rattle.gb_typing.proofs.Located.{typed_there}
 use Rattle.gb_typing.proofs.Lifted.{sequent_outermost}
 use Rattle.gb_names.specs.declared.bindings.Binding.{Binding}
@@ -40,6 +40,7 @@ use Rattle.gb_elab_prog.specs.Contexts.{nothing_around}
 use Rattle.gb_elab_laws.specs.Fitting.{AllFiniteWith, AreBound, AreDeclared, AreIn, HasGlobals, IsTypeOf, IsFitting}
 use Rattle.gb_elab_laws.proofs.Given.{none_some, same_some}
 use Rattle.gb_elab_laws.proofs.Declared.{goal_declared}
+use Rattle.gb_elab_laws.proofs.ModuleNames.{stays}
 use Rattle.gb_elab_laws.proofs.Quantified.{have_front, variables_with}
 use Rattle.gb_names.specs.Locals.{first_some, goal_read_type, read_type, reads_local}
 use Rattle.gb_names.proofs.ReadTypes.{read_type_out}
@@ -47,35 +48,6 @@ use Rattle.gb_terms.specs.Make.{truth_literal}
 use Rattle.gb_terms.specs.declared.term.Head.TheViews.{out-roll-Term}
 use Rattle.gb_elab_laws.proofs.Recalled.{goal_stands}
 use Rattle.gb_elab_laws.proofs.Found.{all_with, found as found_name}
-
--- a module is known as before, and so are its globals
-abbrev Same : Name → Context → Context → Type 0
-Same n d c = (d.modules.interfaces n ≡ c.modules.interfaces n) × ((x : Name) → d.global n x ≡ c.global n x)
-
--- what is declared later leaves the modules that are declared
-stays : (ds : scope.Declarations) (before : Declarations) (c : Context) (n : Name) → is_declared before n ≡ true → AreTypedAfter c before (declared ds) → Same n (with_each c (declared ds)) c
-stays [] before c n d w = (refl, λ x. refl)
-stays ((k, entry.Module m) ∷ ds) before c n d w =
-    let rest = stays ds (before ++ (k, concrete_module m) ∷ []) (with_declared c k (concrete_module m)) n (declared_more before (k, concrete_module m) n d) w.2 in
-    let other = other_name before n k d w.0 in (
-      rest.0 ∙ ap (λ (b : Bool). if b then Some (interface_with c.modules.types m.params (procedure_types m.procs)) else c.modules.interfaces n) other,
-      λ x. rest.1 x ∙ ap (λ (b : Bool). if b then local_type m.globals x else c.global n x) other,
-    )
-stays ((k, entry.Lemma q order) ∷ ds) before c n d w = stays ds (before ++ (k, lemma q) ∷ []) c n (declared_more before (k, lemma q) n d) w.2
-stays ((k, entry.Type t) ∷ ds) before c n d w =
-    let x = declaration_of (entry.Type t) in stays ds (before ++ (k, x) ∷ []) (with_declared c k x) n (declared_more before (k, x) n d) w.2
-stays ((k, entry.AbstractType) ∷ ds) before c n d w =
-    let x = declaration_of entry.AbstractType in stays ds (before ++ (k, x) ∷ []) (with_declared c k x) n (declared_more before (k, x) n d) w.2
-stays ((k, entry.ModuleType y) ∷ ds) before c n d w =
-    let x = declaration_of (entry.ModuleType y) in stays ds (before ++ (k, x) ∷ []) (with_declared c k x) n (declared_more before (k, x) n d) w.2
-stays ((k, entry.Constant a) ∷ ds) before c n d w =
-    let x = declaration_of (entry.Constant a) in stays ds (before ++ (k, x) ∷ []) (with_declared c k x) n (declared_more before (k, x) n d) w.2
-stays ((k, entry.Operator o) ∷ ds) before c n d w =
-    let x = declaration_of (entry.Operator o) in stays ds (before ++ (k, x) ∷ []) (with_declared c k x) n (declared_more before (k, x) n d) w.2
-stays ((k, entry.AbstractOperator o) ∷ ds) before c n d w =
-    let x = declaration_of (entry.AbstractOperator o) in stays ds (before ++ (k, x) ∷ []) (with_declared c k x) n (declared_more before (k, x) n d) w.2
-stays ((k, entry.Terminating a) ∷ ds) before c n d w =
-    let x = declaration_of (entry.Terminating a) in stays ds (before ++ (k, x) ∷ []) (with_declared c k x) n (declared_more before (k, x) n d) w.2
 
 -- A declared module stands under its name with its globals, and its procedures are typed.
 record Stands (d : Context) (n : Name) (m : Module) : Type 0 where
@@ -98,10 +70,10 @@ stands ((k, d) ∷ ds) before c w n m e = step (bytes_eq n k) refl (stands ds (b
         subst (Stands (with_each (with_declared c k (concrete_module r)) (declared ds)) n) s (record {
           context = c;
           procedures = v.1.procs;
-          globals = λ x. rest.1 x ∙ ap (λ (b : Bool). if b then local_type r.globals x else c.global n x) i;
+          globals = λ x. rest.globals x ∙ ap (λ (b : Bool). if b then local_type r.globals x else c.global n x) i;
           types = v.1.globals;
           there = λ p.
-              rest.0
+              rest.interfaces
               ∙ ap (λ (b : Bool). if b then Some (interface_with c.modules.types r.params (procedure_types r.procs)) else c.modules.interfaces n) i
               ∙ ap (λ ps. Some (interface_with c.modules.types ps (procedure_types r.procs))) p;
         })

@@ -1,12 +1,12 @@
 -- A goal which says that a memory exists is typed too where a memory of its context has the locals of that one, and so is what is said
 -- to exist, said of this memory.
-use Rattle.std.proofs.Common.{◌≡◌, ◌⊎◌, inl, inr, ℕ, zero, suc, ◌<◌, if◌then◌else◌, Bool, true, false, List, [], ◌∷◌, ◌++◌, map, get_or, length, Option, Some, None, refl, sym, ap, ◌∙◌, subst, arith}
+use Rattle.std.proofs.Common.{◌≡◌, ◌⊎◌, inl, inr, ℕ, zero, suc, ◌<◌, if◌then◌else◌, true, List, [], ◌∷◌, ◌++◌, map, get_or, length, Option, Some, None, refl, sym, ap, ◌∙◌, subst, arith}
 use Rattle.std.specs.Option.{option_map_or}
 use Rattle.std.proofs.lemmas.List.{length-map}
 use Rattle.gb_core.specs.declared.ty.Ty.{Ty}
 use Rattle.gb_terms.specs.declared.decl.TypedName.{TypedName}
 use Rattle.gb_terms.specs.declared.op.Side.TheVariants as side
-use Rattle.gb_terms.specs.declared.term.Term.{Term, out-Term}
+use Rattle.gb_terms.specs.declared.term.Term.{Term}
 use Rattle.gb_terms.specs.declared.term.Head.TheVariants as head
 use Rattle.gb_terms.specs.Make.{node}
 use Rattle.gb_goal.specs.Goal.Goal.{ambient}
@@ -17,19 +17,16 @@ use Rattle.gb_meaning.specs.Written.{local_type}
 use Rattle.gb_laws.specs.Typing.Binder.{memory}
 use Rattle.gb_typing.specs.Context.{Context, Frame, local_in, within}
 use Rattle.gb_typing.specs.Typing.{IsFrame, IsForm}
-use Rattle.gb_typing.specs.Sequents.{AreFormulas, of_sequent, IsTypedSequent}
-use Rattle.gb_typing.proofs.Conclusions.{formula_form}
+use Rattle.gb_typing.specs.Sequents.{AreHypotheses, of_sequent, IsTypedSequent}
 use Rattle.gb_typing.proofs.Shapes.{node_out}
 use Rattle.gb_typing.proofs.TypedGoals.{goal_conclusion}
-use Rattle.gb_models.specs.Speaking.{HaveNoModule}
-use Rattle.gb_amb.proofs.Cases.{form_formula}
 use Rattle.gb_names.specs.Locals.{first_some, goal_read_type, hyps_read_type, read_type, reads_local}
 use Rattle.gb_names.proofs.ReadTypes.{read_type_out}
 use Rattle.gb_core.proofs.SameTypes.{ty_eq-Decides}
 use Rattle.gb_names.specs.Locals.{local_if}
 use Rattle.gb_elab_mod.specs.OtherLocals.{has_type, is_local}
 use Rattle.gb_elab_laws.proofs.Recalled.{goal_stands}
-use Rattle.gb_elab_laws.proofs.Widened.{with_named, Stays, Grown, form_grows, unread, read_same, added}
+use Rattle.gb_elab_laws.proofs.Widened.{Stays, Grown, form_grows, unread, read_same, added}
 
 abbrev pub put_at : {A : Type 0} → ℕ → A → List A → List A
 put_at n x [] = []
@@ -71,7 +68,7 @@ pub nothing_first : (o p : Option Ty) → option_map_or (λ t. Some t) o p ≡ N
 nothing_first None p e = (refl, e)
 nothing_first (Some t) p e = cc
 
-module _ (base : Context) (q : Sequent) (t : IsTypedSequent base q) (none : HaveNoModule q.hyps) (i : ℕ) (range : i < length t.frames) (ls : List TypedName) (b : Term) (r : Ty)
+module _ (base : Context) (q : Sequent) (t : IsTypedSequent base q) (i : ℕ) (range : i < length t.frames) (ls : List TypedName) (b : Term) (r : Ty)
     (is : q.conclusion ≡ node head.SomeMemory (b ∷ []) r) (whole : IsForm (of_sequent base q t.frames) q.conclusion) (body : IsForm (within (of_sequent base q t.frames) memory (Some ls)) b) where
   abbrev here : Context
   here = of_sequent base q t.frames
@@ -120,13 +117,12 @@ module _ (base : Context) (q : Sequent) (t : IsTypedSequent base q) (none : Have
       (sym (ap (read_type (side.Memory i) x) is ∙ read_type_out (side.Memory i) x (node head.SomeMemory (b ∷ []) r)
       ∙ ap (λ z. if reads_local (side.Memory i) x z.head then Some z.ty else first_some (map (read_type (side.Memory i) x) z.args)) (node_out head.SomeMemory (b ∷ []) r)) ∙ conclusion_unread x e)).0
 
-  pub hyps_grow : (hs : List Hyp) → AreFormulas here hs → HaveNoModule hs → ((x : Name) → goal_read_type (side.Memory i) x q ≡ None → hyps_read_type (side.Memory i) x hs ≡ None) → AreFormulas (of_sequent base q wider) hs
-  hyps_grow [] w n f = tt
-  hyps_grow (h ∷ hs) w n f = (
-    form_formula (of_sequent base q wider) h.form
-        (form_grows i (Some fs) (Some now) (λ k. tt) here (framed wider) grown h.form (formula_form here h.form w.0 n.0)
-        (of_goal h.form (λ x e. (nothing_first (read_type (side.Memory i) x h.form) (hyps_read_type (side.Memory i) x hs) (f x e)).0))),
-    hyps_grow hs w.1 n.1 (λ x e. (nothing_first (read_type (side.Memory i) x h.form) (hyps_read_type (side.Memory i) x hs) (f x e)).1),
+  pub hyps_grow : (hs : List Hyp) → AreHypotheses here hs → ((x : Name) → goal_read_type (side.Memory i) x q ≡ None → hyps_read_type (side.Memory i) x hs ≡ None) → AreHypotheses (of_sequent base q wider) hs
+  hyps_grow [] w f = tt
+  hyps_grow (h ∷ hs) w f = (
+    form_grows i (Some fs) (Some now) (λ k. tt) here (framed wider) grown h.form w.0
+        (of_goal h.form (λ x e. (nothing_first (read_type (side.Memory i) x h.form) (hyps_read_type (side.Memory i) x hs) (f x e)).0)),
+    hyps_grow hs w.1 (λ x e. (nothing_first (read_type (side.Memory i) x h.form) (hyps_read_type (side.Memory i) x hs) (f x e)).1),
   )
 
   pub conclusion_grows : IsForm (of_sequent base q wider) q.conclusion
@@ -138,7 +134,7 @@ module _ (base : Context) (q : Sequent) (t : IsTypedSequent base q) (none : Have
     logical = t.logical;
     frames = wider;
     memories = sym (put_length i now t.frames) ∙ t.memories;
-    hyps = hyps_grow q.hyps t.hyps none (λ x e. (nothing_first (hyps_read_type (side.Memory i) x q.hyps) (read_type (side.Memory i) x q.conclusion) e).0);
+    hyps = hyps_grow q.hyps t.hyps (λ x e. (nothing_first (hyps_read_type (side.Memory i) x q.hyps) (read_type (side.Memory i) x q.conclusion) e).0);
     conclusion = goal_conclusion (of_sequent base q wider) [] [] (ambient q.conclusion) conclusion_grows;
   }
 

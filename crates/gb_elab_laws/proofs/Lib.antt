@@ -26,6 +26,7 @@ pub mod Weighed
 pub mod Forms
 pub mod Parameters
 pub mod Recalled
+pub mod ModuleNames
 pub mod Fits
 pub mod Occurring
 pub mod Ends
@@ -51,6 +52,7 @@ pub mod Procedures
 pub mod Statements
 pub mod Scopes
 pub mod Bodies
+pub mod ModuleTypes
 pub mod Entries
 pub mod Contracts
 pub mod Transformings
@@ -58,7 +60,6 @@ pub mod Betweens
 pub mod Compared
 pub mod Conditions
 pub mod EventLaws
-pub mod FirstProcedures
 pub mod Steps
 pub mod Events
 pub mod Conditioned

@@ -53,7 +53,7 @@ use Rattle.gb_elab_laws.proofs.Types.{spelled_typed}
 -- Globals under names of their own.
 
 -- what isn't there under a test
-if_absent : {A : Type 0} (b : Bool) (x : A) (o : Option A) → (if b then Some x else o) ≡ None → (b ≡ false) × (o ≡ None)
+pub if_absent : {A : Type 0} (b : Bool) (x : A) (o : Option A) → (if b then Some x else o) ≡ None → (b ≡ false) × (o ≡ None)
 if_absent true x o e = none_some x (sym e)
 if_absent false x o e = (refl, e)
 
@@ -285,7 +285,7 @@ module _ (ds : Declarations) (c : Context) (m : Module) (new : entry_of ds m.nam
 
 -- Modules under free names.
 
-none_of : {A : Type 0} (o : Option A) → is_some o ≡ false → o ≡ None
+pub none_of : {A : Type 0} (o : Option A) → is_some o ≡ false → o ≡ None
 none_of None e = refl
 none_of (Some x) e = cc
 

@@ -50,7 +50,7 @@ have_both [] ms h k = k
 have_both (l ∷ ls) ms h k = (h.0, have_both ls ms h.1 k)
 
 module _ (ds : Declarations) (names : AreTypes ds) where
-  result_typed : (ts : List Node) (u : Ty) → result_type ds ts ≡ given u → IsVariableType u
+  pub result_typed : (ts : List Node) (u : Ty) → result_type ds ts ≡ given u → IsVariableType u
   result_typed [] u h = subst IsVariableType (given_is ty.Unit u h) tt
   result_typed (t ∷ ts) u h = spelled_typed ds names t u h
 
@@ -69,7 +69,7 @@ module _ (ds : Declarations) (names : AreTypes ds) where
   formal_typed vs _ _ p ws h e = cc
 
   -- the parameters of a procedure have types of variables
-  formals_typed : (vs : List TypedName) (fs : List Node) (ws : List TypedName) → HaveVariableTypes vs → formals ds vs fs ≡ given ws → HaveVariableTypes ws
+  pub formals_typed : (vs : List TypedName) (fs : List Node) (ws : List TypedName) → HaveVariableTypes vs → formals ds vs fs ≡ given ws → HaveVariableTypes ws
   formals_typed vs [] ws h e = subst HaveVariableTypes (given_is vs ws e) h
   formals_typed vs (f ∷ fs) ws h e =
       let us = given_bind (formal ds vs (head_of f) (parts_of f) (place_of f)) (λ us. formals ds us fs) ws e in

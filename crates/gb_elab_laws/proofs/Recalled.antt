@@ -14,7 +14,6 @@ use Rattle.gb_terms.specs.declared.term.Term.{Term, Term', Row_of-Term, end_of-T
 use Rattle.gb_terms.specs.declared.term.Head.{Head}
 use Rattle.gb_terms.specs.declared.term.Head.TheVariants as head
 use Rattle.gb_terms.specs.declared.term.Head.TheVariants.{Proc, Body'}
-use Rattle.gb_terms.specs.Equal.{side_eq}
 use Rattle.gb_goal.specs.declared.sequent.Hyp.{Hyp}
 use Rattle.gb_goal.specs.declared.sequent.Sequent.{Sequent}
 use Rattle.gb_holds.specs.Truth.{last_has_module, Choice}
@@ -27,10 +26,10 @@ use Rattle.gb_laws.specs.Finite.{IsFinite}
 use Rattle.gb_laws.specs.Typing as typed
 use Rattle.gb_laws.specs.Typing.{types_of, IsHead}
 use Rattle.gb_laws.specs.Typing.Binder.{value, memory, program}
-use Rattle.gb_typing.specs.Context.{Frame, Context, erased, local_in, with_own, with_sides, within}
+use Rattle.gb_typing.specs.Context.{Frame, Context, erased, local_in, with_own, within}
 use Rattle.gb_typing.specs.Typing.{IsNamed, first, middle, last, IsTyped, AreTyped, IsForm}
 use Rattle.gb_typing.specs.Formulas.{with_module, IsFirstForm, IsFormula, IsLastFormula}
-use Rattle.gb_typing.specs.Sequents.{one, two, of_sequent, AreFormulas, IsConclusion, IsTypedSequent}
+use Rattle.gb_typing.specs.Sequents.{one, two, of_sequent, AreHypotheses, IsConclusion, IsTypedSequent}
 use Rattle.gb_elab_laws.proofs.Given.{none_some, same_some}
 use mathlib.Core.Former.{Count, arity, this}
 use Rattle.sqlite_items.specs.formers.items.Items.{the_former}
@@ -217,9 +216,9 @@ module _ (i : ℕ) (x : Name) where
   conclusion_stands c (Term' tt (more_of-Head (head.Equiv (Proc p) (Body' l js)) end_of-Head) n ts ty) w u e = absurd w.typed.1.1
   conclusion_stands c (Term' tt (more_of-Head h end_of-Head) n ts ty) w u e = formula_stands c (Term' tt (more_of-Head h end_of-Head) n ts ty) w u e
 
-  hyps_stand : (c : Context) (hs : List Hyp) → AreFormulas c hs → (u : Ty) → hyps_read_type (side.Memory i) x hs ≡ Some u → Stands c.named u
+  hyps_stand : (c : Context) (hs : List Hyp) → AreHypotheses c hs → (u : Ty) → hyps_read_type (side.Memory i) x hs ≡ Some u → Stands c.named u
   hyps_stand c [] w u e = none_some u e
-  hyps_stand c (h ∷ hs) w u e = either c.named (found h.form) (hyps_read_type (side.Memory i) x hs) u (formula_stands c h.form w.0 u) (hyps_stand c hs w.1 u) e
+  hyps_stand c (h ∷ hs) w u e = either c.named (found h.form) (hyps_read_type (side.Memory i) x hs) u (form_stands c h.form w.0 u) (hyps_stand c hs w.1 u) e
 
   pub goal_stands : (c : Context) (q : Sequent) (t : IsTypedSequent c q) (u : Ty) → goal_read_type (side.Memory i) x q ≡ Some u → Stands (of_sequent c q t.frames).named u
   goal_stands c q t u e =

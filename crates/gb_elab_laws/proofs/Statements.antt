@@ -124,6 +124,7 @@ of_procedures : (c : Context) (b : Bound) (f : Term) → HaveVariableTypes b.val
 of_procedures c b f h w k = record {
   hyps = refl;
   bodies = judges_procedures (of_sequent c (in_context b f) (no_locals b.memories)) f w.typed;
+  without = record { modules = refl; conclusion = goal_front (of_sequent c (in_context b f) (no_locals b.memories)) [] [] (of_form f) w };
   speaks = record { logical = globless_values b.values h; hyps = tt; conclusion = k; bodies = bodies_speak NoName (of_sequent c (in_context b f) (no_locals b.memories)) f w.typed };
 }
 

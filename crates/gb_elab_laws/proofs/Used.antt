@@ -11,7 +11,6 @@ use Rattle.gb_terms.specs.declared.term.Head.{Head}
 use Rattle.gb_terms.specs.declared.term.Head.TheVariants as head
 use Rattle.gb_terms.specs.Make.{node}
 use Rattle.gb_terms.specs.declared.decl.TypedName.{TypedName}
-use Rattle.gb_terms.specs.declared.module.Bind.{Bind}
 use Rattle.gb_terms.specs.declared.op.Side.{Side}
 use Rattle.gb_terms.specs.declared.op.Side.TheVariants as side
 use Rattle.gb_goal.specs.Answers.{◌>>=◌, given_or, not_built}
@@ -37,13 +36,11 @@ use Rattle.gb_laws.specs.Typing.{IsSide}
 use Rattle.gb_laws.specs.Typing.Binder.{memory}
 use Rattle.gb_typing.specs.Context.{Context, Frame, erased, local_in, within}
 use Rattle.gb_typing.specs.Typing.{IsForm}
-use Rattle.gb_typing.specs.Sequents.{of_sequent, with_modules, AreFormulas, IsTypedSequent}
+use Rattle.gb_typing.specs.Sequents.{of_sequent, with_modules, AreHypotheses, IsTypedSequent}
 use Rattle.gb_typing.specs.Scopes.{context_of, IsTypedScope}
 use Rattle.gb_typing.proofs.Conclusions.{formula_form}
 use Rattle.gb_typing.proofs.Made.{parts_typed}
 use Rattle.gb_typing.proofs.Lifted.{sequent_outermost}
-use Rattle.gb_models.specs.Speaking.{HaveNoModule}
-use Rattle.gb_models.proofs.Staying.{without_modules}
 use Rattle.gb_amb.specs.Closed.{IsAmong}
 use Rattle.gb_amb.proofs.Cases.{conclusion_formula}
 use Rattle.gb_amb.proofs.Wider.{small, wider}
@@ -224,15 +221,15 @@ module _ (ds : scope.Declarations) (scoped : IsTypedScope (declared ds)) (q : Se
   abbrev Known : List Hyp → Term → Type 0
   Known hs f = IsAmong hs f × IsForm here f
 
-  found : (hs : List Hyp) → AreFormulas here hs → HaveNoModule hs → (x : List ℕ) (f : Term) → hypothesis_named hs x ≡ Some f → Known hs f
-  found [] w n x f e = cc
-  found (h ∷ hs) w n x f e = by_name (bytes_eq x h.name) (found hs w.1 n.1 x f) e
+  found : (hs : List Hyp) → AreHypotheses here hs → (x : List ℕ) (f : Term) → hypothesis_named hs x ≡ Some f → Known hs f
+  found [] w x f e = cc
+  found (h ∷ hs) w x f e = by_name (bytes_eq x h.name) (found hs w.1 x f) e
     where
       some_is : (a b : Term) → Some a ≡ Some b → a ≡ b
       some_is a b e = cc
 
       by_name : (b : Bool) → (hypothesis_named hs x ≡ Some f → Known hs f) → (if b then Some h.form else hypothesis_named hs x) ≡ Some f → Known (h ∷ hs) f
-      by_name true g e = (inl (some_is h.form f e), subst (IsForm here) (some_is h.form f e) (formula_form here h.form w.0 n.0))
+      by_name true g e = (inl (some_is h.form f e), subst (IsForm here) (some_is h.form f e) w.0)
       by_name false g e = let k = g e in (inr k.0, k.1)
 
   -- Lemmas.
@@ -241,15 +238,15 @@ module _ (ds : scope.Declarations) (scoped : IsTypedScope (declared ds)) (q : Se
   all_finite [] h = tt
   all_finite (v ∷ vs) h = (h.0, all_finite vs h.1)
 
-  -- a lemma without modules is about values and memories
-  abbrev about_states : (l : Sequent) → IsTypedSequent (context_of (declared ds)) l → IsOfProcedures l → l.modules ≡ [] → IsOfStates (declared ds) l
-  about_states l w p bs =
+  -- a lemma about procedures is about values and memories
+  abbrev about_states : (l : Sequent) → IsTypedSequent (context_of (declared ds)) l → IsOfProcedures l → IsOfStates (declared ds) l
+  about_states l w p =
       let c = of_sequent (context_of (declared ds)) l w.frames in
       let formula = conclusion_formula c l.conclusion w.conclusion p.bodies in
-      let front = without_modules ds l w in
+      let front = p.without in
       let form : IsForm c l.conclusion = formula_form c l.conclusion formula front.conclusion in
       record {
-        modules = bs;
+        modules = front.modules;
         hyps = p.hyps;
         values = all_finite l.logical w.logical;
         frames = w.frames;
@@ -278,29 +275,28 @@ module _ (ds : scope.Declarations) (scoped : IsTypedScope (declared ds)) (q : Se
   abbrev IsUsed : Term → Type 0
   IsUsed f = IsForm here f × IsKnown (declared ds) q here f
 
-  -- a lemma and its arguments
-  said_by_lemma : (x : List ℕ) (l : Sequent) → lemma_of ds x ≡ Some l → IsTypedSequent (context_of (declared ds)) l → IsOfProcedures l → l.modules ≡ [] →
+  -- a lemma and its arguments, at a goal without modules
+  said_by_lemma : q.modules ≡ [] → (x : List ℕ) (l : Sequent) → lemma_of ds x ≡ Some l → IsTypedSequent (context_of (declared ds)) l → IsOfProcedures l →
       (ks : List Binder) (g : Term) → about_all ks l.logical l.memories 0 0 l.conclusion ≡ Some g → (es : List Node) (p : Place) (f : Term) → said_on ds q ks es p g ≡ given f → IsUsed f
-  said_by_lemma x l there w o bs ks g a es p f e =
+  said_by_lemma alone x l there w o ks g a es p f e =
       let k = if_refused (nat_lt (length es) (length ks)) Argument p _ f e in
-      let stated = about_states l w o bs in
-      let alone = (without_modules ds q t).modules in
+      let stated = about_states l w o in
       let all = binders_are ks l.logical l.memories w.frames w.memories 0 0 l.conclusion g a in
       let form = generalized_typed l stated alone ks all.0 in
       let s = said_of_each es (generalized ks l) f form (ap (λ z. said_of_all ds q z es) all.1 ∙ k.1) in
       (s.2, inr (record { alone = alone; lemma = l; among = lemma_in ds x l there; stated = stated; binders = ks; all = all.0; arguments = s.0; says = s.1 }))
 
-  module _ (lemmas : AreStated ds) where
+  module _ (lemmas : AreStated ds) (alone : q.modules ≡ []) where
     of_lemma : (x : List ℕ) (l : Sequent) → lemma_of ds x ≡ Some l → (ks : List Binder) (es : List Node) (p : Place) (f : Term) → said_by ds q ks l es p ≡ given f → IsUsed f
-    of_lemma x l there ks es p f e = by_modules l.modules refl e
+    of_lemma x l there ks es p f e =
+        let w = lemmas x l there in
+        let front = w.1.without in
+        by_option (about_all ks l.logical l.memories 0 0 l.conclusion) refl
+        (subst (λ bs. without_bound bs (option_map_or (said_on ds q ks es p) (about_all ks l.logical l.memories 0 0 l.conclusion) (not_built p)) p ≡ given f) front.modules e)
       where
-        by_option : (o : Option Term) → about_all ks l.logical l.memories 0 0 l.conclusion ≡ o → l.modules ≡ [] → option_map_or (said_on ds q ks es p) o (not_built p) ≡ given f → IsUsed f
-        by_option None a ib e = cc
-        by_option (Some g) a ib e = let w = lemmas x l there in said_by_lemma x l there w.0 w.1 ib ks g a es p f e
-
-        by_modules : (bs : List Bind) → l.modules ≡ bs → without_bound bs (option_map_or (said_on ds q ks es p) (about_all ks l.logical l.memories 0 0 l.conclusion) (not_built p)) p ≡ given f → IsUsed f
-        by_modules [] ib e = by_option (about_all ks l.logical l.memories 0 0 l.conclusion) refl ib e
-        by_modules (b ∷ bs) ib e = cc
+        by_option : (o : Option Term) → about_all ks l.logical l.memories 0 0 l.conclusion ≡ o → option_map_or (said_on ds q ks es p) o (not_built p) ≡ given f → IsUsed f
+        by_option None a e = cc
+        by_option (Some g) a e = let w = lemmas x l there in said_by_lemma alone x l there w.0 w.1 ks g a es p f e
 
     of_name : (x : List ℕ) (es : List Node) (p : Place) (f : Term) → used_named ds q x es p ≡ given f → IsUsed f
     unfolding used_named
@@ -315,8 +311,7 @@ module _ (ds : scope.Declarations) (scoped : IsTypedScope (declared ds)) (q : Se
         by_hypothesis : (o : Option Term) → hypothesis_named q.hyps x ≡ o →
             option_map_or (λ f. said_of_all ds q f es) o (option_map_or (λ l. said_by ds q (binders_of ds x) l es p) (lemma_named ds q x) (refused (no_such ds q x) p)) ≡ given f → IsUsed f
         by_hypothesis (Some g) i e =
-            let without = without_modules ds q t in
-            let k = found q.hyps t.hyps without.hyps x g i in
+            let k = found q.hyps t.hyps x g i in
             let s = said_of_each es g f k.1 e in
             (s.2, inl (record { known = g; among = k.0; form = k.1; arguments = s.0; says = s.1 }))
         by_hypothesis None i e = by_lemma (is_taken q x) (lemma_of ds x) refl e
@@ -335,8 +330,7 @@ module _ (ds : scope.Declarations) (scoped : IsTypedScope (declared ds)) (q : Se
         by_option : (o : Option Term) → hypothesis_named q.hyps x ≡ o → given_or o (no_such ds q x) p ≡ given f → IsUsed f
         by_option None i e = cc
         by_option (Some g) i e =
-            let without = without_modules ds q t in
-            let k = found q.hyps t.hyps without.hyps x f (i ∙ ap Some (given_is g f e)) in
+            let k = found q.hyps t.hyps x f (i ∙ ap Some (given_is g f e)) in
             (k.1, inl (record { known = f; among = k.0; form = k.1; arguments = []; says = refl }))
 
     hinted_typed_at : (h : Kind) (ps : List Node) (n : Node) (f : Term) → hinted_at ds q h ps n ≡ given f → IsUsed f

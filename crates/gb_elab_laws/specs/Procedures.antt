@@ -10,13 +10,15 @@ use Rattle.gb_typing.specs.Naming.{NoName}
 use Rattle.gb_meaning.specs.Names.{Name}
 use Rattle.gb_typing.specs.Sequents.{IsTypedSequent}
 use Rattle.gb_typing.specs.Scopes.{context_of}
-use Rattle.gb_models.specs.Speaking.{GoalSpeaks}
+use Rattle.gb_models.specs.Speaking.{GoalSpeaks, IsWithoutModules}
 
--- A goal without hypotheses, whose conclusion is no judgment on bodies, and which speaks of no module's globals together.
+-- A goal without hypotheses and without quantifiers over modules, whose conclusion is no judgment on bodies, and which speaks of no
+-- module's globals together.
 pub record IsOfProcedures (q : Sequent) : Type 0 where
   pub hyps : q.hyps ≡ []
   pub bodies : judges_bodies (out-Term q.conclusion).head ≡ false
   pub speaks : GoalSpeaks NoName q
+  pub without : IsWithoutModules q
 
 -- the lemmas of a scope state typed goals about procedures
 abbrev pub AreStated : scope.Declarations → Type 0

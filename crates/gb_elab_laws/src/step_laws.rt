@@ -1,6 +1,6 @@
 //! What the typing of a proof step gives.
 
-ghost use Rattle.std.specs.Prelude.{◌≡◌, List};
+ghost use Rattle.std.specs.Prelude.{◌≡◌, List, []};
 ghost use Rattle.std.specs.List.{AllByRecursion};
 ghost use Rattle.gb_terms.specs.declared.decl.TypedName.{TypedName};
 ghost use Rattle.gb_terms.specs.declared.module.ProcRef.{ProcRef};
@@ -65,16 +65,16 @@ pub fn typed_rules()
 
 /// The form that a typed step on a conclusion brings to a typed goal of a typed scope is typed in the goal's context, in which a memory may
 /// then have further locals; and so is, in its context as it is, the form that a step uses, which is what a hypothesis of the goal says of
-/// typed terms, or a lemma, where lemmas state typed goals about procedures; so are the forms that `smt` is told to use, and those by which
-/// equals are put for equals. The event by which a probability is split is typed after its procedure.
+/// typed terms, or a lemma, where lemmas state typed goals about procedures and the goal has no modules; so are the forms that `smt` is
+/// told to use, and those by which equals are put for equals. The event by which a probability is split is typed after its procedure.
 pub fn typed_forms()
     ensures conclusions { (ds : scope.Declarations) → IsTypedScope (declared ds) → (q : Sequent) (t : IsTypedSequent (context_of (declared ds)) q) →
         (n : Node) (s : Step) → step_given ds q n ≡ given s → (r : AmbientRule) → s.rule ≡ Ambient r →
         (u : IsTypedSequent (context_of (declared ds)) q) × IsTypedStep (of_sequent (context_of (declared ds)) q u.frames) q.conclusion r }
-    ensures uses { (ds : scope.Declarations) → IsTypedScope (declared ds) → AreStated ds → (q : Sequent) (t : IsTypedSequent (context_of (declared ds)) q) →
+    ensures uses { (ds : scope.Declarations) → IsTypedScope (declared ds) → AreStated ds → (q : Sequent) (t : IsTypedSequent (context_of (declared ds)) q) → q.modules ≡ [] →
         (n : Node) (s : Step) → step_given ds q n ≡ given s → (r : UseRule) → s.rule ≡ Use r →
         uses.IsTypedStep (declared ds) q (of_sequent (context_of (declared ds)) q t.frames) r }
-    ensures hints { (ds : scope.Declarations) → IsTypedScope (declared ds) → AreStated ds → (q : Sequent) (t : IsTypedSequent (context_of (declared ds)) q) →
+    ensures hints { (ds : scope.Declarations) → IsTypedScope (declared ds) → AreStated ds → (q : Sequent) (t : IsTypedSequent (context_of (declared ds)) q) → q.modules ≡ [] →
         (n : Node) (s : Step) → step_given ds q n ≡ given s →
         AllByRecursion (λ f. IsForm (of_sequent (context_of (declared ds)) q t.frames) f × IsKnown (declared ds) q (of_sequent (context_of (declared ds)) q t.frames) f) (told s.rule) }
     ensures events { (ds : scope.Declarations) → IsTypedScope (declared ds) → (q : Sequent) (t : IsTypedSequent (context_of (declared ds)) q) →

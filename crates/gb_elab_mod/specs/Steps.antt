@@ -508,11 +508,16 @@ event_law_rule x p =
     else if bytes_eq x (codes "mu_ge0") then given (rule.Probability (probability_rule.Within rel.AtLeast))
     else if bytes_eq x (codes "mu_le1") then given (rule.Probability (probability_rule.Within rel.AtMost)) else not_built p
 
--- The event by which the first probability of the conclusion is split, of which this is the procedure. Where there is none it has no type.
+abbrev pub if_there : Option Proc → Answer Rule → Answer Rule
+if_there (Some p) a = a
+if_there None a = given (rule.OnBodies on_bodies.Unfit)
+
+-- The event by which the first probability of the conclusion is split, of which this is the procedure. Where there is none, or it isn't
+-- declared, the event has no type.
 unfoldable pub splitting_rule : Declarations → Sequent → Node → Option ProcRef → Answer Rule
-splitting_rule ds g e (Some f) = do
+splitting_rule ds g e (Some f) = if_there (procedure_of ds f) (do
   t ← elaborated e (unary ds g (result_if (procedure_of ds f))) [] (Some bool_ty)
-  given (rule.Rewrite (rewrite_rule.Law (event_law.Split f t)))
+  given (rule.Rewrite (rewrite_rule.Law (event_law.Split f t))))
 splitting_rule ds g e None = given (rule.OnBodies on_bodies.Unfit)
 
 -- a law of events, a transformation of a program, or a pattern

@@ -47,7 +47,7 @@ pub fn event_law_rule(name: &Name, place: Place) -> Result<Rule, Refused>
 }
 
 /// The rule by which the first probability of the conclusion is split by an event, which reads the result of its procedure. Where
-/// there is no probability the event has no type, and the rule refuses the goal.
+/// there is no probability, or its procedure isn't declared, the event has no type, and the rule refuses the goal.
 ///
 /// # Errors
 ///
@@ -64,6 +64,9 @@ pub fn splitting_rule(
     let Some(procedure) = first_procedure(&goal.conclusion) else {
         return Ok(Rule::OnBodies(BodyRule::Unfit));
     };
+    if scope.procedure(procedure.get()).is_none() {
+        return Ok(Rule::OnBodies(BodyRule::Unfit));
+    }
     let event = said_after(alloc, scope, goal, event, procedure.get())?;
     let procedure = procedure.share()?;
     Ok(Rule::Rewrite(RewriteRule::Law(EventLaw::Split(procedure, event))))

@@ -4,6 +4,7 @@ use Rattle.std.specs.List.{list_any}
 use Rattle.gb_core.specs.declared.var.Var.{Var}
 use Rattle.gb_core.specs.declared.var.Var.TheVariants as var
 use Rattle.gb_terms.specs.declared.decl.Param.{Param}
+use Rattle.gb_goal.specs.declared.module_type.Oracle.{Oracle as OracleName}
 use Rattle.gb_meaning.specs.Names.{Name}
 use Rattle.gb_meaning.specs.Values.{Global}
 use Rattle.gb_meaning.specs.Program.{Routine, Oracle}
@@ -35,10 +36,14 @@ type_named ds n = or_none (module_type_of ds n)
 abbrev pub oracle_eq : Oracle → Oracle → Bool
 oracle_eq o p = bytes_eq o.parameter p.parameter && bytes_eq o.name p.name
 
+-- the oracle of this name, as programs ask it
+abbrev pub as_asked : OracleName → Oracle
+as_asked o = record { parameter = o.parameter; name = o.name }
+
 -- whether a procedure may call this oracle
 abbrev pub may_call : MayCall → Oracle → Bool
 may_call every o = true
-may_call (those os) o = list_any (oracle_eq o) os
+may_call (those os) o = list_any (λ p. oracle_eq o (as_asked p)) os
 
 -- the signature of an oracle, by the module type of its parameter
 abbrev pub oracle_signature : Declarations → List Param → Oracle → Option Signature
@@ -63,7 +68,7 @@ oracles_among ds (p ∷ ps) = oracles_in p.name (type_named ds p.ty).signatures 
 -- the oracles that a signature names
 abbrev pub oracles_named : Declarations → List Param → MayCall → List Oracle
 oracles_named ds ps every = oracles_among ds ps
-oracles_named ds ps (those os) = os
+oracles_named ds ps (those os) = map as_asked os
 
 -- the oracles that a procedure may call
 abbrev pub oracles_called : Declarations → ModuleType → Signature → List Oracle

@@ -1,11 +1,13 @@
 -- The declarations of a script, as plain lists.
 use Rattle.std.specs.Prelude.{List, [], ◌∷◌, Option, Some, None, if◌then◌else◌, bytes_eq}
 use Rattle.gb_core.specs.declared.ty.Ty.{Ty}
-use Rattle.gb_terms.specs.declared.decl.TypedName.{TypedName}
-use Rattle.gb_terms.specs.declared.decl.Param.{Param}
 use Rattle.gb_terms.specs.declared.decl.Module.{Module}
 use Rattle.gb_terms.specs.declared.module.Bind.{Bind}
 use Rattle.gb_terms.specs.declared.term.Term.{Term}
+pub use Rattle.gb_goal.specs.declared.module_type.MayCall.{MayCall}
+pub use Rattle.gb_goal.specs.declared.module_type.MayCall.TheVariants.{Every as every, Those as those}
+pub use Rattle.gb_goal.specs.declared.module_type.ModuleType.{ModuleType}
+pub use Rattle.gb_goal.specs.declared.module_type.Signature.{Signature}
 use Rattle.gb_goal.specs.declared.sequent.Sequent.{Sequent}
 use Rattle.gb_goal.specs.declared.scope.Constant.{Constant}
 use Rattle.gb_goal.specs.declared.scope.Entry.{Entry}
@@ -13,7 +15,6 @@ use Rattle.gb_goal.specs.declared.scope.ProcName.{ProcName}
 use Rattle.gb_goal.specs.declared.scope.Entry.TheVariants as entry
 use Rattle.gb_goal.specs.Scope as scope
 use Rattle.gb_meaning.specs.Names.{Name}
-use Rattle.gb_meaning.specs.Program.{Oracle}
 
 -- an operator with a body, in which the parameters, of these types, are the innermost bound variables, the last one first
 pub record DefinedOperator : Type 0 where
@@ -24,23 +25,6 @@ pub record DefinedOperator : Type 0 where
 pub record AbstractOperator : Type 0 where
   pub params : List Ty
   pub result : Ty
-
--- which procedures of the parameters a procedure may call
-pub data MayCall : Type 0 where
-  every : MayCall
-  those : List Oracle → MayCall
-
--- a procedure of a module type
-pub record Signature : Type 0 where
-  pub name : Name
-  pub params : List TypedName
-  pub result : Ty
-  pub oracles : MayCall
-
--- a module type: its parameters, with module types that have none, and its signatures
-pub record ModuleType : Type 0 where
-  pub params : List Param
-  pub signatures : List Signature
 
 -- what a name stands for: a type, as an enumeration, or a value, as a constant of an enumeration
 pub data Abbreviated : Type 0 where
@@ -75,8 +59,7 @@ declaration_of (entry.Type t) = abbreviation (for_type t)
 declaration_of entry.AbstractType = abstract_type
 declaration_of (entry.Constant c) = abbreviation (for_value c)
 declaration_of (entry.Operator o) = operator (record { params = o.params; body = o.body })
--- No module has the procedures of a module type by its name yet, so that no meaning rests on one.
-declaration_of (entry.ModuleType t) = abstract_type
+declaration_of (entry.ModuleType t) = module_type t
 declaration_of (entry.AbstractOperator o) = abstract_operator (record { params = o.params; result = o.result })
 declaration_of (entry.Terminating p) = terminating p
 

@@ -147,7 +147,7 @@ oracle_signature = record { name = oracle_name; params = truth_value input ∷ [
 
 -- proc f() : bool {O.o}
 abbrev pub asking_signature : Signature
-asking_signature = record { name = main_name; params = []; result = ty.Bool; oracles = those (oracle ∷ []) }
+asking_signature = record { name = main_name; params = []; result = ty.Bool; oracles = those (record { parameter = param_name; name = oracle_name } ∷ []) }
 
 -- module type T = { proc o(x : bool) : bool }
 abbrev pub oracle_type : ModuleType

@@ -1,7 +1,6 @@
 -- Typed goals stay typed as the scope of a script grows.
 use Rattle.std.proofs.Common.{◌≡◌, Bool, true, false, List, [], ◌∷◌, ◌++◌, Option, Some, None, refl, sym, ◌∙◌, subst}
 use Rattle.std.proofs.lemmas.Bool.{false≢true}
-use Rattle.std.proofs.lemmas.List.{append_assoc, append-nil}
 use Rattle.gb_core.specs.declared.ty.Ty.{Ty}
 use Rattle.gb_core.specs.declared.var.Var.{Var}
 use Rattle.gb_core.specs.declared.var.Var.TheVariants as var
@@ -19,7 +18,7 @@ use Rattle.gb_goal.specs.declared.sequent.Sequent.{Sequent}
 use Rattle.gb_goal.specs.Scope as scope
 use Rattle.gb_meaning.specs.Commands.{terms_in}
 use Rattle.gb_meaning.specs.Names.{Name}
-use Rattle.gb_holds.specs.Declared.{Declarations, declaration_of, declared, concrete_module, lemma}
+use Rattle.gb_holds.specs.Declared.{Declarations, declaration_of, declared, concrete_module}
 use Rattle.gb_holds.specs.Truth.{Choice, has_module, last_has_module}
 use Rattle.gb_holds.proofs.Lists.{declared-append}
 use Rattle.gb_laws.specs.Operators.{parts_in}
@@ -28,15 +27,15 @@ use Rattle.gb_typing.specs.Context.{Context, procedure, erased, of_program, no_m
 use Rattle.gb_typing.specs.Formulas.{IsFormula}
 use Rattle.gb_typing.specs.Modules.{ProcedureType}
 use Rattle.gb_typing.specs.Programs.{IsExpression, IsValued, AreArguments, IsCall, IsStatement, AreStatements}
-use Rattle.gb_typing.specs.Sequents.{one, two, IsOver, AreBinders, with_modules, of_sequent, AreFormulas, IsConclusion, IsTypedSequent}
+use Rattle.gb_typing.specs.Sequents.{one, two, IsOver, AreBinders, with_modules, of_sequent, AreHypotheses, IsConclusion, IsTypedSequent}
 use Rattle.gb_typing.specs.Scopes.{nothing, with_declared, with_each, context_of, AreTypedAfter, IsTypedScope}
 use Rattle.gb_typing.specs.Typing.{IsForm}
 use Rattle.gb_typing.proofs.Conclusions.{formula_form}
+use Rattle.gb_typing.proofs.Declaring.{in_later}
 use Rattle.gb_typing.proofs.Grown.{Grows}
-use Rattle.gb_typing.proofs.Scripts.{IsKnownFrom, known_nothing, known_next, known_same, known_operator, grows, grown}
-use Rattle.gb_models.specs.Speaking.{HaveNoModule, IsWithoutModules}
+use Rattle.gb_models.specs.Speaking.{IsWithoutModules}
 use Rattle.gb_models.proofs.Growing.{over, Grown, typed_grown, all_grown, form_grown}
-use Rattle.gb_models.proofs.Staying.{split, without_modules}
+use Rattle.gb_models.proofs.Staying.{split}
 use mathlib.Core.Former.{Count}
 
 second : (b : Bool) (A B : Type 0) → b ≡ false → B → Choice b A B
@@ -110,9 +109,9 @@ module _ (e c : Context) (g : Grown e c) where
   formula_grown : (f : Term) → has_module f ≡ false → IsFormula c f → IsFormula (over e c) f
   formula_grown f h w = form_formula (over e c) f h (form_grown e c g f (formula_form c f w h))
 
-  formulas_grown : (hs : List Hyp) → HaveNoModule hs → AreFormulas c hs → AreFormulas (over e c) hs
-  formulas_grown [] h w = tt
-  formulas_grown (x ∷ hs) h w = (formula_grown x.form h.0 w.0, formulas_grown hs h.1 w.1)
+  hyps_grown : (hs : List Hyp) → AreHypotheses c hs → AreHypotheses (over e c) hs
+  hyps_grown [] w = tt
+  hyps_grown (x ∷ hs) w = (form_grown e c g x.form w.0, hyps_grown hs w.1)
 
   conclusion_grown : (f : Term) → has_module f ≡ false → IsConclusion c f → IsConclusion (over e c) f
   conclusion_grown (Term' a (more_of-Head (head.Hoare (Body' k is)) end_of-Head) n ts t) h w =
@@ -141,7 +140,7 @@ module _ (c e : Context) (more : Grown e c) (same : e ≡ over e c) (q : Sequent
     logical = t.logical;
     frames = t.frames;
     memories = t.memories;
-    hyps = moved (λ z. AreFormulas z q.hyps) (λ z g w. formulas_grown e z g q.hyps without.hyps w) t.hyps;
+    hyps = moved (λ z. AreHypotheses z q.hyps) (λ z g w. hyps_grown e z g q.hyps w) t.hyps;
     conclusion = moved (λ z. IsConclusion z q.conclusion) (λ z g w. conclusion_grown e z g q.conclusion without.conclusion w) t.conclusion;
   }
 
@@ -158,7 +157,7 @@ each_over ((n, entry.Module m) ∷ es) c = each_over es (with_declared c n (conc
 each_over ((n, entry.Lemma q order) ∷ es) c = each_over es c
 each_over ((n, entry.Type t) ∷ es) c = each_over es c
 each_over ((n, entry.AbstractType) ∷ es) c = each_over es c
-each_over ((n, entry.ModuleType y) ∷ es) c = each_over es c
+each_over ((n, entry.ModuleType y) ∷ es) c = each_over es (with_declared c n (declaration_of (entry.ModuleType y)))
 each_over ((n, entry.Constant a) ∷ es) c = each_over es c
 each_over ((n, entry.Operator o) ∷ es) c = each_over es (with_declared c n (declaration_of (entry.Operator o)))
 each_over ((n, entry.AbstractOperator o) ∷ es) c = each_over es (with_declared c n (declaration_of (entry.AbstractOperator o)))
@@ -170,41 +169,11 @@ same_globals ((n, entry.Module m) ∷ es) c a = same_globals es (with_declared c
 same_globals ((n, entry.Lemma q order) ∷ es) c a = same_globals es c a
 same_globals ((n, entry.Type t) ∷ es) c a = same_globals es c a
 same_globals ((n, entry.AbstractType) ∷ es) c a = same_globals es c a
-same_globals ((n, entry.ModuleType y) ∷ es) c a = same_globals es c a
+same_globals ((n, entry.ModuleType y) ∷ es) c a = same_globals es (with_declared c n (declaration_of (entry.ModuleType y))) a
 same_globals ((n, entry.Constant k) ∷ es) c a = same_globals es c a
 same_globals ((n, entry.Operator o) ∷ es) c a = same_globals es (with_declared c n (declaration_of (entry.Operator o))) a
 same_globals ((n, entry.AbstractOperator o) ∷ es) c a = same_globals es (with_declared c n (declaration_of (entry.AbstractOperator o))) a
 same_globals ((n, entry.Terminating k) ∷ es) c a = same_globals es c a
-
-known_from : (ds : scope.Declarations) (before : Declarations) (c : Context) → AreTypedAfter c before (declared ds) → IsKnownFrom before c → IsKnownFrom (before ++ declared ds) (with_each c (declared ds))
-known_from [] before c w k = subst (λ z. IsKnownFrom z c) (sym (append-nil before)) k
-known_from ((n, entry.Module m) ∷ ds) before c w k =
-    subst (λ z. IsKnownFrom z (with_each (with_declared c n (concrete_module m)) (declared ds))) (append_assoc before ((n, concrete_module m) ∷ []) (declared ds))
-    (known_from ds (before ++ (n, concrete_module m) ∷ []) (with_declared c n (concrete_module m)) w.2 (known_next c n m w.1 before k))
-known_from ((n, entry.Lemma q order) ∷ ds) before c w k =
-    subst (λ z. IsKnownFrom z (with_each c (declared ds))) (append_assoc before ((n, lemma q) ∷ []) (declared ds))
-    (known_from ds (before ++ (n, lemma q) ∷ []) c w.2 (known_same c before n (lemma q) k))
-known_from ((n, entry.Type t0) ∷ ds) before c w k =
-    subst (λ z. IsKnownFrom z (with_each c (declared ds))) (append_assoc before ((n, declaration_of (entry.Type t0)) ∷ []) (declared ds))
-    (known_from ds (before ++ (n, declaration_of (entry.Type t0)) ∷ []) c w.2 (known_same c before n _ k))
-known_from ((n, entry.AbstractType) ∷ ds) before c w k =
-    subst (λ z. IsKnownFrom z (with_each c (declared ds))) (append_assoc before ((n, declaration_of entry.AbstractType) ∷ []) (declared ds))
-    (known_from ds (before ++ (n, declaration_of entry.AbstractType) ∷ []) c w.2 (known_same c before n _ k))
-known_from ((n, entry.ModuleType y) ∷ ds) before c w k =
-    subst (λ z. IsKnownFrom z (with_each c (declared ds))) (append_assoc before ((n, declaration_of (entry.ModuleType y)) ∷ []) (declared ds))
-    (known_from ds (before ++ (n, declaration_of (entry.ModuleType y)) ∷ []) c w.2 (known_same c before n _ k))
-known_from ((n, entry.Constant a0) ∷ ds) before c w k =
-    subst (λ z. IsKnownFrom z (with_each c (declared ds))) (append_assoc before ((n, declaration_of (entry.Constant a0)) ∷ []) (declared ds))
-    (known_from ds (before ++ (n, declaration_of (entry.Constant a0)) ∷ []) c w.2 (known_same c before n _ k))
-known_from ((n, entry.Operator o0) ∷ ds) before c w k =
-    subst (λ z. IsKnownFrom z (with_each (with_declared c n (declaration_of (entry.Operator o0))) (declared ds))) (append_assoc before ((n, declaration_of (entry.Operator o0)) ∷ []) (declared ds))
-    (known_from ds (before ++ (n, declaration_of (entry.Operator o0)) ∷ []) (with_declared c n (declaration_of (entry.Operator o0))) w.2 (known_operator c n _ before k _))
-known_from ((n, entry.AbstractOperator o0) ∷ ds) before c w k =
-    subst (λ z. IsKnownFrom z (with_each (with_declared c n (declaration_of (entry.AbstractOperator o0))) (declared ds))) (append_assoc before ((n, declaration_of (entry.AbstractOperator o0)) ∷ []) (declared ds))
-    (known_from ds (before ++ (n, declaration_of (entry.AbstractOperator o0)) ∷ []) (with_declared c n (declaration_of (entry.AbstractOperator o0))) w.2 (known_operator c n _ before k _))
-known_from ((n, entry.Terminating a0) ∷ ds) before c w k =
-    subst (λ z. IsKnownFrom z (with_each c (declared ds))) (append_assoc before ((n, declaration_of (entry.Terminating a0)) ∷ []) (declared ds))
-    (known_from ds (before ++ (n, declaration_of (entry.Terminating a0)) ∷ []) c w.2 (known_same c before n _ k))
 
 module _ (ds es : scope.Declarations) (typed : AreTypedAfter nothing [] (declared ds)) (later : AreTypedAfter (context_of (declared ds)) (declared ds) (declared es)) where
   abbrev c : Context
@@ -214,17 +183,14 @@ module _ (ds es : scope.Declarations) (typed : AreTypedAfter nothing [] (declare
   e = with_each c (declared es)
 
   more_known : Grown e c
-  more_known =
-      let k : IsKnownFrom (declared ds) c = known_from ds [] nothing typed known_nothing in
-      let x = grown es (declared ds) c later k in
-      let g : Grows c e = grows c e k.plain x.1 x.0 in
-      (g.global, g.operator, g.procedures, λ a h. same_globals es c a ∙ h)
+  more_known = let g : Grows c e = in_later (declared ds) (declared es) typed later in (g.global, g.operator, g.procedures, λ a h. same_globals es c a ∙ h)
 
-  goal_typed : (q : Sequent) → IsTypedSequent c q → IsTypedSequent e q
-  goal_typed q t = goal_grown c e more_known (each_over es c) q t (without_modules ds q t)
+  goal_typed : (q : Sequent) → IsTypedSequent c q → IsWithoutModules q → IsTypedSequent e q
+  goal_typed q t without = goal_grown c e more_known (each_over es c) q t without
 
-pub stays_typed : (ds es : scope.Declarations) → IsTypedScope (declared (ds ++ es)) → (q : Sequent) → IsTypedSequent (context_of (declared ds)) q → IsTypedSequent (context_of (declared (ds ++ es))) q
-stays_typed ds es scoped q t =
+pub stays_typed : (ds es : scope.Declarations) → IsTypedScope (declared (ds ++ es)) → (q : Sequent) → IsTypedSequent (context_of (declared ds)) q → IsWithoutModules q →
+    IsTypedSequent (context_of (declared (ds ++ es))) q
+stays_typed ds es scoped q t without =
     let w = split (declared ds) (declared es) [] nothing (subst IsTypedScope (declared-append ds es) scoped) in
     subst (λ z. IsTypedSequent (context_of z) q) (sym (declared-append ds es))
-    (subst (λ z. IsTypedSequent z q) (sym (each_append (declared ds) (declared es) nothing)) (goal_typed ds es w.0 w.1 q t))
+    (subst (λ z. IsTypedSequent z q) (sym (each_append (declared ds) (declared es) nothing)) (goal_typed ds es w.0 w.1 q t without))

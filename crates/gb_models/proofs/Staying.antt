@@ -1,14 +1,12 @@
 -- Typed goals go on to hold as the scope of a script grows.
-use Rattle.std.proofs.Common.{◌≡◌, ℕ, inl, Bool, true, false, ◌||◌, if◌then◌else◌, List, [], ◌∷◌, ◌++◌, Some, None, bytes_eq, refl, ap, sym, ◌∙◌, subst}
+use Rattle.std.proofs.Common.{◌≡◌, ℕ, inl, Bool, true, false, ◌||◌, if◌then◌else◌, List, [], ◌∷◌, ◌++◌, Some, bytes_eq, refl, ap, sym, ◌∙◌, subst}
 use Rattle.std.proofs.lemmas.Bool.{false≢true}
 use Rattle.std.proofs.lemmas.List.{append_assoc, append-nil}
 use Rattle.std.proofs.lemmas.Slice.Eq.{bytes_eq-Decides}
-use Rattle.gb_terms.specs.declared.module.Bind.{Bind}
 use Rattle.gb_terms.specs.declared.module.ProcRef.{ProcRef}
 use Rattle.gb_terms.specs.declared.op.Op.TheVariants as op
-use Rattle.gb_terms.specs.declared.term.Term.{Term, Term', Row_of-Term, end_of-Term, more_of-Term, end_of-Head, more_of-Head}
+use Rattle.gb_terms.specs.declared.term.Term.{Term, Term', end_of-Head, more_of-Head}
 use Rattle.gb_terms.specs.declared.term.Head.TheVariants as head
-use Rattle.gb_terms.specs.declared.term.Head.TheVariants.{Body'}
 use Rattle.gb_goal.specs.declared.scope.Entry.TheVariants as entry
 use Rattle.gb_goal.specs.declared.sequent.Hyp.{Hyp}
 use Rattle.gb_goal.specs.declared.sequent.Sequent.{Sequent}
@@ -16,7 +14,7 @@ use Rattle.gb_goal.specs.Scope as scope
 use Rattle.gb_meaning.specs.Names.{Name}
 use Rattle.gb_meaning.specs.Setting.{Setting}
 use Rattle.gb_meaning.specs.Values.{World}
-use Rattle.gb_holds.specs.Declared.{Declarations, Declaration, declaration_of, declared, abstract_type, abbreviation, operator, abstract_operator, module_type, concrete_module, abstract_module, axiom_of, lemma, terminating}
+use Rattle.gb_holds.specs.Declared.{Declarations, Declaration, declared, abstract_type, abbreviation, operator, abstract_operator, module_type, concrete_module, abstract_module, axiom_of, lemma, terminating}
 use Rattle.gb_holds.specs.Holds.{EachProgram, IsModel, interpretation, declared_modules, EachDeclared, Holds}
 use Rattle.gb_holds.specs.Naming.{AnyName, IsFresh}
 use Rattle.gb_holds.specs.Settings.{Table, Interpretation, setting}
@@ -27,20 +25,21 @@ use Rattle.gb_typing.specs.Naming.{NoName, IsKept, NamesIfThere, TermNames, AreM
 use Rattle.gb_typing.proofs.KeptNames.{each-name}
 use Rattle.gb_typing.proofs.ModulesAdded.{goes-with}
 use Rattle.gb_typing.proofs.SequentsAlike.{holds-along}
-use Rattle.gb_typing.specs.Context.{Context, within}
+use Rattle.gb_typing.specs.Context.{Context}
 use Rattle.gb_typing.specs.Fits.{IsSettingOf}
-use Rattle.gb_typing.specs.Formulas.{IsKnown, IsFormula, IsLastFormula}
-use Rattle.gb_typing.specs.Sequents.{AreBinders, AreFormulas, with_modules, of_sequent, IsConclusion, IsTypedSequent}
+use Rattle.gb_typing.specs.Formulas.{IsKnown}
+use Rattle.gb_typing.specs.Sequents.{AreHypotheses, with_modules, of_sequent, IsConclusion, IsTypedSequent}
 use Rattle.gb_typing.specs.Scopes.{nothing, interface_with, procedure_types, with_declared, with_each, context_of, is_declared, IsDeclared, AreTypedAfter, IsTypedScope}
 use Rattle.gb_typing.specs.Modules.{Interface, functor_type, of_functor_type}
+use Rattle.gb_typing.specs.Typing.{IsForm}
 use Rattle.gb_typing.proofs.Conclusions.{formula_form, conclusion_sound}
 use Rattle.gb_typing.proofs.Models.{each_setting}
 use Rattle.gb_typing.proofs.Sound.{procedures_sound, sound_form}
-use Rattle.gb_models.specs.Speaking.{ScopeSpeaks, BodiesSpeak, HypsSpeak, GoalSpeaks, HaveNoModule, IsWithoutModules, IsFirm, IsModuleOrLemma}
+use Rattle.gb_typing.proofs.TypedGoals.{no_module}
+use Rattle.gb_models.specs.Speaking.{ScopeSpeaks, BodiesSpeak, HypsSpeak, GoalSpeaks, IsWithoutModules, IsFirm, IsModuleOrLemma}
 use Rattle.gb_models.proofs.LinkedNames.{procedures_in, variables_apart, measured_apart}
 use Rattle.gb_models.proofs.MoreNames.{more_term, more_scope, more_goal}
 use Rattle.gb_models.proofs.NamedForms.{reference_known, Procedures, form_names, conclusion_names}
-use mathlib.Core.Former.{Count}
 
 -- Declarations, one after another.
 
@@ -234,13 +233,12 @@ module _ (ds es : Declarations) (typed : IsTypedScope ds) (later : AreTypedAfter
     named : Procedures Kept g c
     named r k = (each-name (λ n. IsKnown (c.modules.interfaces n)) Kept kept r.«module» (reference_known c r k), linked r)
 
-    formula_apart : (f : Term) → has_module f ≡ false → IsFormula c f → TermNames Kept AnyName f → IsApartFormula es ds f i
-    formula_apart f e x k =
-        let y = formula_form c f x e in said es ds f i e (form_names Kept g c named f y.typed k, sound_form g c (procedures_sound c g fits) f y.typed)
+    form_apart : (f : Term) → IsForm c f → TermNames Kept AnyName f → IsApartFormula es ds f i
+    form_apart f x k = said es ds f i (no_module c f x.typed) (form_names Kept g c named f x.typed k, sound_form g c (procedures_sound c g fits) f x.typed)
 
-    hyps_apart : (hs : List Hyp) → HaveNoModule hs → AreFormulas c hs → HypsSpeak Kept hs → AreHypsApart es ds hs i
-    hyps_apart [] e x k = tt
-    hyps_apart (h ∷ hs) e x k = (formula_apart h.form e.0 x.0 k.0, hyps_apart hs e.1 x.1 k.1)
+    hyps_apart : (hs : List Hyp) → AreHypotheses c hs → HypsSpeak Kept hs → AreHypsApart es ds hs i
+    hyps_apart [] x k = tt
+    hyps_apart (h ∷ hs) x k = (form_apart h.form x.0 k.0, hyps_apart hs x.1 k.1)
 
     conclusion_apart : (f : Term) → has_module f ≡ false → IsConclusion c f → TermNames Kept AnyName f → BodiesSpeak Kept f → IsApartFormula es ds f i
     conclusion_apart f e x k b = said es ds f i e (conclusion_names Kept g linked c named f x (λ y. formula_form c f y e) k b, conclusion_sound c g fits f x e)
@@ -248,7 +246,7 @@ module _ (ds es : Declarations) (typed : IsTypedScope ds) (later : AreTypedAfter
     said_apart : SaysApart es ds q i
     said_apart = (
       says.logical,
-      hyps_apart q.hyps without.hyps t.hyps says.hyps,
+      hyps_apart q.hyps t.hyps says.hyps,
       conclusion_apart q.conclusion without.conclusion t.conclusion says.conclusion says.bodies,
     )
 
@@ -271,48 +269,7 @@ goal_stays ds es scoped firm added q t without k s h =
     let w = split ds es [] nothing scoped in
     stays ds es w.0 w.1 firm added q t without (more_scope (IsFresh es) (IsKept es []) (λ n f. inl f) ds k) (more_goal (IsFresh es) (IsKept es []) (λ n f. inl f) q s) h
 
--- Scripts: they know no module type, so that nothing quantifies over modules.
-
-no_types : (ds : scope.Declarations) (c : Context) → ((n : Name) → c.modules.types n ≡ None) → (n : Name) → (with_each c (declared ds)).modules.types n ≡ None
-no_types [] c k n = k n
-no_types ((m, entry.Module x) ∷ ds) c k n = no_types ds (with_declared c m (concrete_module x)) k n
-no_types ((m, entry.Lemma q order) ∷ ds) c k n = no_types ds c k n
-no_types ((m, entry.Type t) ∷ ds) c k n = no_types ds c k n
-no_types ((m, entry.AbstractType) ∷ ds) c k n = no_types ds c k n
-no_types ((m, entry.ModuleType y) ∷ ds) c k n = no_types ds c k n
-no_types ((m, entry.Constant a) ∷ ds) c k n = no_types ds c k n
-no_types ((m, entry.Operator o) ∷ ds) c k n = no_types ds (with_declared c m (declaration_of (entry.Operator o))) k n
-no_types ((m, entry.AbstractOperator o) ∷ ds) c k n = no_types ds (with_declared c m (declaration_of (entry.AbstractOperator o))) k n
-no_types ((m, entry.Terminating a) ∷ ds) c k n = no_types ds c k n
-
--- Without module types there are no binders of modules.
-
-no_binders : (c : Context) → ((n : Name) → c.modules.types n ≡ None) → (bs : List Bind) → AreBinders c bs → bs ≡ []
-no_binders c k [] w = refl
-no_binders c k (b ∷ bs) w = absurd (subst IsKnown (k b.ty) (let x = w.0 in x.known))
-
-chosen : (b : Bool) (A B : Type 0) → (A → b ≡ false) → Choice b A B → b ≡ false
-chosen true A B f w = f w
-chosen false A B f w = refl
-
-mutual
-  no_module : (c : Context) → ((n : Name) → c.modules.types n ≡ None) → (f : Term) → IsFormula c f → has_module f ≡ false
-  no_module c k (Term' p (more_of-Head (head.AllModule b) end_of-Head) n ts ty) w = absurd (subst IsKnown (k b.ty) (let x = w.1 in x.known))
-  no_module c k (Term' p (more_of-Head (head.All u) end_of-Head) n ts ty) w = chosen (last_has_module ts) _ _ (λ x. no_last (within c _ None) k ts x.1) w
-  no_module c k (Term' p (more_of-Head head.AllMemory end_of-Head) n ts ty) w = chosen (last_has_module ts) _ _ (λ x. no_last (within c _ (Some x.1)) k ts x.2) w
-  no_module c k (Term' p (more_of-Head (head.Builtin op.Implies) end_of-Head) n ts ty) w = chosen (last_has_module ts) _ _ (λ x. no_last c k ts x.2) w
-  no_module c k _ w = refl
-
-  no_last : {n : Count} (c : Context) → ((n : Name) → c.modules.types n ≡ None) → (ts : Row_of-Term n) → IsLastFormula c ts → last_has_module ts ≡ false
-  no_last c k end_of-Term w = refl
-  no_last c k (more_of-Term t end_of-Term) w = no_module c k t w
-  no_last c k (more_of-Term t (more_of-Term u ts)) w = no_last c k (more_of-Term u ts) w
-
-no_module_concluded : (c : Context) → ((n : Name) → c.modules.types n ≡ None) → (f : Term) → IsConclusion c f → has_module f ≡ false
-no_module_concluded c k (Term' a (more_of-Head (head.Hoare (Body' m is)) end_of-Head) n ts t) w = refl
-no_module_concluded c k (Term' a (more_of-Head (head.Phoare (Body' m is) r) end_of-Head) n ts t) w = refl
-no_module_concluded c k (Term' a (more_of-Head (head.Equiv (Body' m is) (Body' l js)) end_of-Head) n ts t) w = refl
-no_module_concluded c k f w = no_module c k f w
+-- Scripts.
 
 pub all_firm : (ds : scope.Declarations) → EachDeclared IsFirm (declared ds)
 all_firm [] = tt
@@ -325,20 +282,3 @@ all_firm ((n, entry.Constant a) ∷ ds) = (tt, all_firm ds)
 all_firm ((n, entry.Operator o) ∷ ds) = (tt, all_firm ds)
 all_firm ((n, entry.AbstractOperator o) ∷ ds) = (tt, all_firm ds)
 all_firm ((n, entry.Terminating a) ∷ ds) = (tt, all_firm ds)
-
-no_module_in : (c : Context) → ((n : Name) → c.modules.types n ≡ None) → (hs : List Hyp) → AreFormulas c hs → HaveNoModule hs
-no_module_in c k [] w = tt
-no_module_in c k (h ∷ hs) w = (no_module c k h.form w.0, no_module_in c k hs w.1)
-
-pub without_modules : (ds : scope.Declarations) (q : Sequent) → IsTypedSequent (context_of (declared ds)) q → IsWithoutModules q
-without_modules ds q t = record {
-  modules = unbound;
-  hyps = no_module_in (of_sequent (context_of (declared ds)) q t.frames) types q.hyps t.hyps;
-  conclusion = no_module_concluded (of_sequent (context_of (declared ds)) q t.frames) types q.conclusion t.conclusion;
-}
-  where
-    unbound : q.modules ≡ []
-    unbound = no_binders (context_of (declared ds)) (no_types ds nothing (λ n. refl)) q.modules t.modules
-
-    types : (n : Name) → (with_modules (context_of (declared ds)) q.modules).modules.types n ≡ None
-    types n = ap (λ bs. (with_modules (context_of (declared ds)) bs).modules.types n) unbound ∙ no_types ds nothing (λ n. refl) n

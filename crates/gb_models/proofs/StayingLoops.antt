@@ -14,7 +14,7 @@ use Rattle.gb_goal.specs.Scope.{as_module, entry_of, module_of, proc_at, proc_if
 use Rattle.gb_meaning.specs.Names.{Name}
 use Rattle.gb_meaning.specs.Setting.{Setting}
 use Rattle.gb_meaning.specs.Values.{World}
-use Rattle.gb_holds.specs.Declared.{Declarations, Declaration, declaration_of, declared, concrete_module, module_in, module_named}
+use Rattle.gb_holds.specs.Declared.{Declarations, Declaration, declaration_of, declared, concrete_module, module_type, module_in, module_named}
 use Rattle.gb_holds.specs.Holds.{EachArgument, EachProgram, InEachModel, IsTerminating, interpretation}
 use Rattle.gb_holds.specs.Naming.{AnyName}
 use Rattle.gb_holds.specs.Settings.{Table, setting}
@@ -114,10 +114,10 @@ module _ (ds : scope.Declarations) (scoped : IsTypedScope (declared ds)) (spoken
   found_named : module_named (declared ds) n ≡ Some found.owner
   found_named = found_named_of ds n found.owner found.there
 
-  -- a module of a new name
-  module _ (k : Name) (m : Module) (free : is_declared (declared ds) k ≡ false) where
+  -- a declaration of a new name
+  module _ (k : Name) (d : Declaration) (free : is_declared (declared ds) k ≡ false) where
     abbrev es : Declarations
-    es = (k, concrete_module m) ∷ []
+    es = (k, d) ∷ []
 
     abbrev Kept : Name → Type 0
     Kept = IsKept es []
@@ -159,13 +159,13 @@ module _ (ds : scope.Declarations) (scoped : IsTypedScope (declared ds)) (spoken
     )
 
   one_added : (k : Name) (e : Entry) → IsFree (declared ds) k → IsDeclared (context_of (declared ds)) k (declaration_of e) → IsAdded (AreLoopsApart n f) (declared ds) k (declaration_of e)
-  one_added k (entry.Module m) free w = (scope_apart ((k, concrete_module m) ∷ []) (declared ds) scoped (all_firm ds), loops_apart k m free)
+  one_added k (entry.Module m) free w = (scope_apart ((k, concrete_module m) ∷ []) (declared ds) scoped (all_firm ds), loops_apart k (concrete_module m) free)
   one_added k (entry.Operator o) free w = new_operator (declared ds) scoped k (declaration_of (entry.Operator o)) free w
   one_added k (entry.AbstractOperator o) free w = new_operator (declared ds) scoped k (declaration_of (entry.AbstractOperator o)) free w
   one_added k (entry.Lemma q order) free w = tt
   one_added k (entry.Type t) free w = tt
   one_added k entry.AbstractType free w = tt
-  one_added k (entry.ModuleType y) free w = tt
+  one_added k (entry.ModuleType y) free w = (scope_apart ((k, module_type y) ∷ []) (declared ds) scoped (all_firm ds), loops_apart k (module_type y) free)
   one_added k (entry.Constant t) free w = tt
   one_added k (entry.Terminating p) free w = tt
 

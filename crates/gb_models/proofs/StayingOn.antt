@@ -34,7 +34,7 @@ use Rattle.gb_models.proofs.GrowingGoals.{each_append, goal_grown}
 use Rattle.gb_models.proofs.LinkedNames.{none_some, variables_apart, measured_apart}
 use Rattle.gb_models.proofs.MoreNames.{more_scope, more_goal}
 use Rattle.gb_models.proofs.NamedForms.{AllKnown, given_known, interface_known}
-use Rattle.gb_models.proofs.Staying.{split, all_firm, without_modules, AllDeclared, declared_more, declared_last, other_name, one_declared, scope_apart, apart}
+use Rattle.gb_models.proofs.Staying.{split, all_firm, AllDeclared, declared_more, declared_last, other_name, one_declared, scope_apart, apart}
 use mathlib.Core.Former.{Count}
 
 -- What a context knows is declared.
@@ -264,10 +264,10 @@ goal_stays_on ds es scoped firm q t without spoken says h =
     all-added ds es q (added_to q without says es ds w.0 w.1 f.0 f.1 k.0 k.1 t) h
 
 -- Scripts.
-pub script_stays : (ds es : scope.Declarations) → IsTypedScope (declared (ds ++ es)) → (q : Sequent) → IsTypedSequent (context_of (declared ds)) q →
+pub script_stays : (ds es : scope.Declarations) → IsTypedScope (declared (ds ++ es)) → (q : Sequent) → IsTypedSequent (context_of (declared ds)) q → IsWithoutModules q →
     ScopeSpeaks NoName (declared (ds ++ es)) → GoalSpeaks NoName q → Holds (declared ds) q → Holds (declared (ds ++ es)) q
-script_stays ds es scoped q t k s h =
+script_stays ds es scoped q t without k s h =
     let a = declared-append ds es in
     subst (λ z. Holds z q) (sym a)
-    (goal_stays_on (declared ds) (declared es) (subst IsTypedScope a scoped) (subst (EachDeclared IsFirm) a (all_firm (ds ++ es))) q t (without_modules ds q t)
+    (goal_stays_on (declared ds) (declared es) (subst IsTypedScope a scoped) (subst (EachDeclared IsFirm) a (all_firm (ds ++ es))) q t without
     (subst (ScopeSpeaks NoName) a k) s h)

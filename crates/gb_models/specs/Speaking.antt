@@ -75,15 +75,9 @@ pub record GoalSpeaks (P : Name → Type 0) (q : Sequent) : Type 0 where
   pub conclusion : TermNames P AnyName q.conclusion
   pub bodies : BodiesSpeak P q.conclusion
 
--- none of the formulas has a quantifier over modules in front
-abbrev pub HaveNoModule : List Hyp → Type 0
-HaveNoModule [] = Unit {0}
-HaveNoModule (h ∷ hs) = (has_module h.form ≡ false) × HaveNoModule hs
-
--- A goal that quantifies over no module, neither in its context nor in front of a formula.
+-- A goal that quantifies over no module, neither in its context nor in front of its conclusion.
 pub record IsWithoutModules (q : Sequent) : Type 0 where
   pub modules : q.modules ≡ []
-  pub hyps : HaveNoModule q.hyps
   pub conclusion : has_module q.conclusion ≡ false
 
 -- a declaration that is no axiom, and of no open section

@@ -29,15 +29,14 @@ pub fn goals_stay()
         (q : Sequent) → IsTypedSequent (context_of ds) q → IsWithoutModules q →
         ScopeSpeaks (IsFresh es) ds → GoalSpeaks (IsFresh es) q → Holds ds q → Holds (ds ++ es) q }
     ensures scripts { (ds es : scope.Declarations) → IsTypedScope (declared (ds ++ es)) →
-        (q : Sequent) → IsTypedSequent (context_of (declared ds)) q →
+        (q : Sequent) → IsTypedSequent (context_of (declared ds)) q → IsWithoutModules q →
         ScopeSpeaks NoName (declared (ds ++ es)) → GoalSpeaks NoName q → Holds (declared ds) q → Holds (declared (ds ++ es)) q }
-    ensures without { (ds : scope.Declarations) (q : Sequent) → IsTypedSequent (context_of (declared ds)) q → IsWithoutModules q }
 {}
 
-/// A typed goal stays typed as the scope of a script grows.
+/// A typed goal without quantifiers over modules stays typed as the scope of a script grows.
 pub fn goals_stay_typed()
     ensures { (ds es : scope.Declarations) → IsTypedScope (declared (ds ++ es)) →
-        (q : Sequent) → IsTypedSequent (context_of (declared ds)) q → IsTypedSequent (context_of (declared (ds ++ es))) q }
+        (q : Sequent) → IsTypedSequent (context_of (declared ds)) q → IsWithoutModules q → IsTypedSequent (context_of (declared (ds ++ es))) q }
 {}
 
 /// The modules of a scope speak of no module's globals together where those of its parts don't.

@@ -33,15 +33,14 @@ use Rattle.gb_mods_laws.specs.Members.{CallsAreNamed}
 use Rattle.gb_mods_laws.proofs.Bodies.{each_call as each_called}
 use Rattle.gb_typing.specs.Context.{Context, procedure}
 use Rattle.gb_typing.specs.Formulas.{IsKnown}
-use Rattle.gb_typing.specs.Modules.{Interface, ProcedureType}
+use Rattle.gb_typing.specs.Modules.{Interface, ProcedureType, interface_at, procedure_of as procedure_in}
 use Rattle.gb_typing.specs.Programs.{AreStatements, EachStatement, IsCall, IsProcedure, locals_of}
 use Rattle.gb_typing.specs.Scopes.{AreTypedAfter, IsModule, IsTypedScope, context_of, interface_with, is_declared, nothing, procedure_types}
 use Rattle.gb_prog.specs.Ends.{AreEnded, ReachesGoodLoops}
 use Rattle.gb_mods_laws.proofs.Closed.{procedure_ends}
 use Rattle.gb_typing.specs.Chosen.{AreUnchosen}
 use Rattle.gb_typing.proofs.LinkedProcedures.{linked_there}
-use Rattle.gb_typing.proofs.Located.{Among, among, inside, inside_is, plain_inside, types_split}
-use Rattle.gb_typing.proofs.Scripts.{Bare, HasNoFunctor, bare, grown, known_nothing, name_of as bare_name}
+use Rattle.gb_typing.proofs.Located.{Among, among, earlier_is, with_earlier}
 use Rattle.gb_models.specs.Speaking.{ScopeSpeaks}
 use Rattle.gb_models.proofs.LinkedNames.{none_some}
 use Rattle.gb_models.proofs.ProvedLoops.{IsPlaced, found_front, placed}
@@ -187,6 +186,11 @@ module _ (c : Context) (ls : List TypedName) where
   body_known (If' e m a n b ∷ is) w = ((row_known a w.0.1, row_known b w.0.2), body_known is w.1)
   body_known (While' e v n a ∷ is) w = (row_known a w.0.2, body_known is w.1)
 
+-- a module of which a procedure is known is known
+interface_there : (o : Option Interface) (f : Name) (t : ProcedureType) → procedure_in o f ≡ Some t → (i : Interface) × (o ≡ Some i)
+interface_there None f t e = none_some t e
+interface_there (Some i) f t e = (i, refl)
+
 -- What stands at a place is found by its name.
 
 found_here : (xs ys : Declarations) (n : Name) (e : Entry) → is_declared (declared xs) n ≡ false → entry_of (xs ++ (n, e) ∷ ys) n ≡ Some e
@@ -263,20 +267,19 @@ module _ (ds : Declarations) (scoped : IsTypedScope (declared ds)) (sound : IsSo
 
     -- what it calls
 
-    plain : HasNoFunctor c.modules
-    plain = (grown x.before [] nothing parted.0 known_nothing).1
+    alone : x.found.params ≡ []
+    alone =
+        let y = module_there (module_of ds n) p.name x.body x.there in
+        subst (λ (z : Module). z.params ≡ []) (same_Some y.owner x.found (sym y.there ∙ module_is)) y.plain
 
     place_there : Among c x.found [] x.found.procs p.name x.body
     place_there = among c x.found x.found.procs [] (let w = typed in w.procs) p.name x.body procedure_is
 
-    parts : procedure_types x.found.procs ≡ procedure_types place_there.front ++ procedure_types (x.body ∷ place_there.after)
-    parts = types_split x.found.procs place_there.front (x.body ∷ place_there.after) place_there.place
-
     abbrev seen : Context
-    seen = inside c n x.found typed plain (procedure_types place_there.front) (procedure_types (x.body ∷ place_there.after)) parts
+    seen = with_earlier c n x.found (procedure_types place_there.front)
 
     typed_seen : IsProcedure seen x.body
-    typed_seen = subst (λ z. IsProcedure z x.body) (inside_is c n x.found typed plain (procedure_types place_there.front) (procedure_types (x.body ∷ place_there.after)) parts) place_there.typed
+    typed_seen = subst (λ z. IsProcedure z x.body) (earlier_is c n x.found own_name alone (procedure_types place_there.front)) place_there.typed
 
     known : EachCallOf (Knows seen) x.body.body.list
     known = body_known seen (locals_of x.body) x.body.body.list (let w = (let v = typed_seen in v.body) in w.statements)
@@ -343,12 +346,10 @@ module _ (ds : Declarations) (scoped : IsTypedScope (declared ds)) (sound : IsSo
       by_module : (m : Mexp) → q.«module» ≡ m → (b : Proc) → proc_at ds m q.name ≡ Some b → Knows seen q → IsNamed q
       by_module (Apply' k j args) r b h t = none_some b h
       by_module (named_module k) r b h t =
-          let e : Bare seen.modules q t.0 = bare seen.modules (plain_inside c n x.found typed plain (procedure_types place_there.front) (procedure_types (x.body ∷ place_there.after)) parted_types) q t.0 t.1 in
-          step (bytes_eq k n) refl e.interface (subst (λ m. seen.modules.interfaces (bare_name m) ≡ Some e.interface) r e.there)
+          let e : (j : Interface) × (seen.modules.interfaces k ≡ Some j) =
+          interface_there (seen.modules.interfaces k) q.name t.0 (ap (λ m. procedure_in (interface_at seen.modules m) q.name) (sym r) ∙ t.1) in
+          step (bytes_eq k n) refl e.0 e.1
         where
-          parted_types : procedure_types x.found.procs ≡ procedure_types place_there.front ++ procedure_types (x.body ∷ place_there.after)
-          parted_types = parts
-
           step : (w : Bool) → bytes_eq k n ≡ w → (j : Interface) →
               (if w then Some (interface_with c.modules.types x.found.params (procedure_types place_there.front)) else c.modules.interfaces k) ≡ Some j → IsNamed q
           step true s j e = own k b r ((bytes_eq-Decides k n).0 s) h

@@ -1,7 +1,6 @@
 -- The goals of a typed loop are typed, and where they stand, the loop is good.
-use Rattle.std.proofs.Common.{◌≡◌, ℕ, ◌<◌, ◌≤◌, ◌-◌, Bool, true, false, List, [], ◌∷◌, map, Option, Some, None, refl, ap, sym, ◌∙◌, subst, nat_lt, ltb-true, arith}
+use Rattle.std.proofs.Common.{◌≡◌, ℕ, ◌<◌, ◌≤◌, ◌-◌, Bool, true, List, [], ◌∷◌, Some, refl, ap, sym, ◌∙◌, subst, nat_lt, ltb-true, arith}
 use Rattle.std.proofs.lemmas.Bool.{false≢true}
-use Rattle.std.specs.List.{AllByRecursion}
 use Rattle.gb_core.specs.declared.ty.Ty.{Ty}
 use Rattle.gb_core.specs.declared.ty.Ty.TheVariants as ty
 use Rattle.gb_core.specs.declared.value.Value.{Value, out-Value}
@@ -16,11 +15,9 @@ use Rattle.gb_terms.specs.declared.op.Read.TheVariants as read
 use Rattle.gb_terms.specs.declared.op.Side.TheVariants as side
 use Rattle.gb_terms.specs.declared.term.Term.{Term, out-Term, Term', end_of-Head, more_of-Head}
 use Rattle.gb_terms.specs.declared.term.Head.TheVariants as head
-use Rattle.gb_terms.specs.Make.{node}
 use Rattle.gb_meaning.specs.Commands.{statements}
 use Rattle.gb_meaning.specs.Judgments.{den, speaking}
-use Rattle.gb_meaning.specs.Loops.{IsGood}
-use Rattle.gb_meaning.specs.Meanings.{of_truth, truth, number_in, value_in}
+use Rattle.gb_meaning.specs.Meanings.{truth, value_in}
 use Rattle.gb_meaning.specs.Memory.{Memory}
 use Rattle.gb_meaning.specs.Operators.{less as is_less}
 use Rattle.gb_meaning.specs.Runs.{greatest, is_true, most_turns, out, variant_value}
@@ -30,7 +27,6 @@ use Rattle.gb_meaning.specs.State.{State, at, closed, inside}
 use Rattle.gb_meaning.specs.Terms.{quiet, val}
 use Rattle.gb_meaning.specs.Values.{Types, has}
 use Rattle.gb_meaning.specs.Written.{type_of, IsModulo}
-use Rattle.gb_meaning.proofs.Endings.{good_of_falling}
 use Rattle.gb_meaning.proofs.Nodes.{val_node}
 use Rattle.gb_meaning.proofs.Truths.{true_equal, truth_of}
 use Rattle.gb_laws.proofs.Exact.{trying}
@@ -42,7 +38,7 @@ use Rattle.gb_laws.specs.Typing.{IsLiteral}
 use Rattle.gb_typing.specs.Changes.{Made}
 use Rattle.gb_typing.specs.Context.{Context, with_own}
 use Rattle.gb_typing.specs.Fits.{IsSettingOf}
-use Rattle.gb_typing.specs.Forms.{and_form, equal_form, every, implies_form}
+use Rattle.gb_typing.specs.Forms.{and_form, equal_form, implies_form}
 use Rattle.gb_typing.specs.Meaning.{run, Stands}
 use Rattle.gb_typing.specs.Programs.{HaveVariableTypes}
 use Rattle.gb_typing.specs.Rules.{outermost}
@@ -53,7 +49,6 @@ use Rattle.gb_typing.proofs.InMemory.{expression_value, located_typed, located_v
 use Rattle.gb_typing.proofs.Literals.{mod_literal}
 use Rattle.gb_typing.proofs.Made.{made_node}
 use Rattle.gb_prog.proofs.Blind.{blind_each, blind_value}
-use Rattle.gb_goal.specs.Goal.{Goal}
 use Rattle.gb_goal.specs.Goal.Code.{body}
 use Rattle.gb_goal.specs.Goal.Goal.{hoare}
 use Rattle.gb_typing.specs.Goals.{IsGoalOver}

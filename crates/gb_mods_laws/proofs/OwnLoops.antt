@@ -30,11 +30,9 @@ use Rattle.gb_models.specs.Speaking.{ScopeSpeaks}
 use Rattle.gb_models.proofs.LinkedNames.{none_some}
 use Rattle.gb_models.proofs.Models.{no_section}
 use Rattle.gb_models.proofs.ProvedLoops.{proved_good}
-use Rattle.gb_models.proofs.Staying.{without_modules}
 use Rattle.gb_models.proofs.StayingLoops.{IsOf, module_there}
 use Rattle.gb_prog.specs.Ends.{ProcedureEnds, ProceduresEnd}
-use Rattle.gb_typing.specs.Scopes.{IsTypedScope, context_of}
-use Rattle.gb_typing.specs.Sequents.{IsTypedSequent}
+use Rattle.gb_typing.specs.Scopes.{IsTypedScope}
 use Rattle.gb_typing.proofs.Globals.{or_false}
 use mathlib.Core.Former.{Count}
 
@@ -128,21 +126,21 @@ module _ (ds : Declarations) (scoped : IsTypedScope (declared ds)) (sound : IsSo
       let k = first_none_of (unproved_code ds a) (unproved_code ds b) e in (code_ends a k.0 w size table model, code_ends b k.1 w size table model)
   goal_ends (ambient f) e = λ w size table model. tt
 
-  pub sequent_ends : (q : Sequent) → IsTypedSequent (context_of (declared ds)) q → unproved_in ds (goal_of q.conclusion) ≡ None →
+  pub sequent_ends : (q : Sequent) → q.modules ≡ [] → unproved_in ds (goal_of q.conclusion) ≡ None →
       InEachSetting (declared ds) q (λ g. ProceduresEnd ds g (goal_of q.conclusion))
-  sequent_ends q t e =
+  sequent_ends q alone e =
       in_each (λ i. EachProgram (declared ds) q.modules i (λ k. ProceduresEnd ds (setting (declared ds) k) (goal_of q.conclusion)))
       (λ w size table model.
       subst (λ bs. EachProgram (declared ds) bs (interpretation w size table) (λ k. ProceduresEnd ds (setting (declared ds) k) (goal_of q.conclusion)))
-      (let x = without_modules ds q t in sym x.modules) (goal_ends (goal_of q.conclusion) e w size table model))
+      (sym alone) (goal_ends (goal_of q.conclusion) e w size table model))
 
   -- those of each procedure that isn't unproved
   abbrev AreProved : Setting → Type 0
   AreProved g = (p : ProcRef) (a : Proc) → procedure_of ds p ≡ Some a → unproved_of ds p ≡ None → LoopsAreGood g (statements g a.body.list)
 
-  pub all_proved : (q : Sequent) → IsTypedSequent (context_of (declared ds)) q → InEachSetting (declared ds) q AreProved
-  all_proved q t =
+  pub all_proved : (q : Sequent) → q.modules ≡ [] → InEachSetting (declared ds) q AreProved
+  all_proved q alone =
       in_each (λ i. EachProgram (declared ds) q.modules i (λ k. AreProved (setting (declared ds) k)))
       (λ w size table model.
       subst (λ bs. EachProgram (declared ds) bs (interpretation w size table) (λ k. AreProved (setting (declared ds) k)))
-      (let x = without_modules ds q t in sym x.modules) (λ p a there e. at_model (IsGoodIn a) (own_loops p a there e) w size table model))
+      (sym alone) (λ p a there e. at_model (IsGoodIn a) (own_loops p a there e) w size table model))

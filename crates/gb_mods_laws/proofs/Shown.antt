@@ -1,5 +1,5 @@
 -- The loops of a declared procedure: their goals are typed, and where they hold, they are good in each model.
-use Rattle.std.proofs.Common.{◌≡◌, ℕ, ◌<◌, zero, Bool, true, false, List, [], ◌∷◌, map, Some, refl, ap, sym, ◌∙◌, subst, ltb-true, arith}
+use Rattle.std.proofs.Common.{◌≡◌, ℕ, ◌<◌, true, List, [], ◌∷◌, Some, refl, ap, sym, subst, ltb-true, arith}
 use Rattle.std.proofs.lemmas.Bool.{false≢true}
 use Rattle.std.specs.List.{AllByRecursion}
 use Rattle.gb_core.specs.declared.ty.Ty.{Ty}
@@ -10,19 +10,17 @@ use Rattle.gb_types.specs.Numbering.{is_below_in}
 use Rattle.gb_terms.specs.declared.decl.Proc.{Proc}
 use Rattle.gb_terms.specs.declared.decl.TypedName.{TypedName}
 use Rattle.gb_terms.specs.declared.module.ProcRef.{ProcRef}
-use Rattle.gb_terms.specs.declared.term.Term.{Term}
 use Rattle.gb_goal.specs.Goal.{Goal, form_of}
 use Rattle.gb_goal.specs.Goal.Code.{body}
 use Rattle.gb_goal.specs.Goal.Goal.{ambient, hoare}
 use Rattle.gb_goal.specs.Scope as scope
 use Rattle.gb_goal.specs.Scope.{procedure_of}
-use Rattle.gb_goal.specs.declared.scope.Entry.{Entry}
 use Rattle.gb_goal.specs.declared.scope.Entry.TheVariants as entry
 use Rattle.gb_goal.specs.declared.sequent.Sequent.{Sequent}
 use Rattle.gb_meaning.specs.Commands.{statements}
 use Rattle.gb_meaning.specs.Meanings.{value_in}
 use Rattle.gb_meaning.specs.Memory.{Memory}
-use Rattle.gb_meaning.specs.Runs.{is_true, most_turns, variant_value}
+use Rattle.gb_meaning.specs.Runs.{is_true, variant_value}
 use Rattle.gb_meaning.specs.Setting.{Meaning, Setting}
 use Rattle.gb_meaning.specs.Setting.Meaning.{finite, whole, fraction, weights}
 use Rattle.gb_meaning.specs.State.{State, closed, inside}
@@ -34,7 +32,7 @@ use Rattle.gb_meaning.proofs.Endings.{good_of_falling}
 use Rattle.gb_laws.proofs.Exact.{trying}
 use Rattle.gb_laws.proofs.Fair.{is_fair}
 use Rattle.gb_holds.specs.Declared.{Declarations, declared}
-use Rattle.gb_holds.specs.Holds.{context, declared_modules, interpretation, EachProgram, Holds, InEachModel, IsModel, IsTrueSequent}
+use Rattle.gb_holds.specs.Holds.{context, declared_modules, interpretation, EachProgram, IsModel, IsTrueSequent}
 use Rattle.gb_holds.specs.Settings.{Interpretation, Table, setting, types_of}
 use Rattle.gb_holds.proofs.Fronts.{without_modules}
 use Rattle.gb_holds.proofs.SettingTypes.{setting-types}
@@ -44,8 +42,7 @@ use Rattle.gb_laws.proofs.Terms.{typed_has, typed_meaning}
 use Rattle.gb_typing.specs.Context.{Context, erased, of_program}
 use Rattle.gb_typing.specs.Fits.{IsSettingOf}
 use Rattle.gb_typing.specs.Goals.{IsGoalOver}
-use Rattle.gb_typing.specs.Programs.{HaveVariableTypes, IsExpression, locals_of}
-use Rattle.gb_typing.specs.Rules.{outermost}
+use Rattle.gb_typing.specs.Programs.{HaveVariableTypes, locals_of}
 use Rattle.gb_typing.specs.Scopes.{context_of, IsTypedScope}
 use Rattle.gb_typing.specs.Sequents.{of_sequent, AreBinders, IsTypedSequent}
 use Rattle.gb_typing.proofs.Erased.{erased_typed}

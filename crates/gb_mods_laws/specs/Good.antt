@@ -1,9 +1,6 @@
 -- Loops that are good.
-use Rattle.std.specs.Prelude.{◌≡◌, List, Some}
+use Rattle.std.specs.Prelude.{List}
 use Rattle.std.specs.List.{AllByRecursion}
-use Rattle.gb_terms.specs.declared.decl.Proc.{Proc}
-use Rattle.gb_terms.specs.declared.module.ProcRef.{ProcRef}
-use Rattle.gb_goal.specs.Scope as scope
 use Rattle.gb_meaning.specs.Commands.{statements}
 use Rattle.gb_meaning.specs.Loops.{IsGood}
 use Rattle.gb_meaning.specs.Setting.{Setting}

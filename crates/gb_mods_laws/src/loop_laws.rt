@@ -1,6 +1,6 @@
 //! Loops that procedures reach are good where no procedure is unproved.
 
-ghost use Rattle.std.specs.Prelude.{◌≡◌, Bool, true, Some, None};
+ghost use Rattle.std.specs.Prelude.{◌≡◌, Bool, true, [], Some, None};
 ghost use Rattle.gb_ended.specs.Ended.{first_unproved};
 ghost use Rattle.gb_ended.specs.Loops.{unproved_in, unproved_of};
 ghost use Rattle.gb_goal.specs.Goal.{goal_of};
@@ -30,17 +30,17 @@ pub fn own_loops()
         InEachModel (declared ds) (λ i. LoopsAreGood (setting (declared ds) i) (statements (setting (declared ds) i) a.body.list)) }
 {}
 
-/// So are those of the procedures of which a typed goal speaks, where none of them is unproved.
+/// So are those of the procedures of which a typed goal without modules speaks, where none of them is unproved.
 pub fn entered()
     ensures { (ds : Declarations) → IsTypedScope (declared ds) → IsSound (declared ds) → ScopeSpeaks NoName (declared ds) →
-        (q : Sequent) → IsTypedSequent (context_of (declared ds)) q → unproved_in ds (goal_of q.conclusion) ≡ None →
+        (q : Sequent) → IsTypedSequent (context_of (declared ds)) q → q.modules ≡ [] → unproved_in ds (goal_of q.conclusion) ≡ None →
         InEachSetting (declared ds) q (λ g. ProceduresEnd ds g (goal_of q.conclusion)) }
 {}
 
-/// So are those of each procedure that isn't unproved, in each setting of a typed goal.
+/// So are those of each procedure that isn't unproved, in each setting of a typed goal without modules.
 pub fn proved_loops()
     ensures { (ds : Declarations) → IsTypedScope (declared ds) → IsSound (declared ds) → ScopeSpeaks NoName (declared ds) →
-        (q : Sequent) → IsTypedSequent (context_of (declared ds)) q →
+        (q : Sequent) → IsTypedSequent (context_of (declared ds)) q → q.modules ≡ [] →
         InEachSetting (declared ds) q (λ g. (p : ProcRef) (a : Proc) → procedure_of ds p ≡ Some a → unproved_of ds p ≡ None → LoopsAreGood g (statements g a.body.list)) }
 {}
 

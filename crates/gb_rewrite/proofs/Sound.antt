@@ -1,6 +1,6 @@
 -- Rules that put equals for equals are sound.
 use Rattle.std.proofs.Common.{◌≡◌, ℕ, zero, suc, Bool, true, false, ◌&&◌, if◌then◌else◌, inr, List, [], ◌∷◌, map, slice_get, Option, Some, None, refl, ap, sym, ◌∙◌, subst}
-use Rattle.std.specs.List.{AllByRecursion, list_any}
+use Rattle.std.specs.List.{list_any}
 use Rattle.std.specs.Option.{option_map}
 use Rattle.std.proofs.lemmas.Bool.{false≢true}
 use Rattle.gb_core.specs.declared.place.Place.{Place}
@@ -36,9 +36,8 @@ use Rattle.gb_holds.proofs.Fronts.{without_modules}
 use Rattle.gb_typing.specs.Context.{Context}
 use Rattle.gb_typing.specs.Typing.{IsTyped, IsForm}
 use Rattle.gb_typing.specs.Fits.{IsSettingOf, IsStateOf}
-use Rattle.gb_typing.specs.Sequents.{IsConclusion, AreFormulas, IsTypedSequent}
+use Rattle.gb_typing.specs.Sequents.{IsConclusion, AreHypotheses, IsTypedSequent}
 use Rattle.gb_typing.specs.Scopes.{context_of, IsTypedScope}
-use Rattle.gb_typing.proofs.Conclusions.{formula_form}
 use Rattle.gb_typing.specs.Chosen.{IsChosenOver}
 use Rattle.gb_typing.specs.Meaning.{run}
 use Rattle.gb_typing.specs.Rules.{IsSettingOver, outermost}
@@ -55,8 +54,7 @@ use Rattle.gb_smt_laws.specs.Alike.{Alike, AllAlike, RespectAlike}
 use Rattle.gb_smt_laws.proofs.Alike.{alike_turned}
 use Rattle.gb_smt_laws.proofs.Respects.{scope_respects}
 use Rattle.gb_smt_laws.proofs.Results.{HasResults, each_results}
-use Rattle.gb_amb.proofs.Cases.{form_formula}
-use Rattle.gb_amb.proofs.Fronts.{first, second, none_in_front}
+use Rattle.gb_amb.proofs.Fronts.{first, none_in_front}
 use Rattle.gb_rewrite.specs.Rewritten.{rewritten, stands}
 use Rattle.gb_rewrite.specs.Equations.{Pair, exchanged, equation_of, equivalence_of, is_variable_apart, used_up, used_up_of}
 use Rattle.gb_rewrite.specs.Rewriting.{rewriting, rewriting_by, rewriting_back, others, hypothesis_rewritten, without, using_up, using_up_hypothesis, substituting, unfolded_everywhere, opening_by, opening, concluding_by, by_event_law, rewrite_answer, IsUsable}
@@ -189,14 +187,7 @@ module _ (ds : Declarations) (scope : IsTypedScope ds) (q : Sequent) (t : IsType
 
   -- Everywhere, by a hypothesis.
 
-  no_modules : (hs : List Hyp) → list_any (λ h. quantifies_modules h.form) hs ≡ false → AreFormulas c hs → AllByRecursion (λ h. IsForm c h.form) hs
-  no_modules [] e w = tt
-  no_modules (h ∷ hs) e w =
-      let one = first (quantifies_modules h.form) (list_any (λ h. quantifies_modules h.form) hs) e in
-      let rest = second (quantifies_modules h.form) (list_any (λ h. quantifies_modules h.form) hs) e in
-      (formula_form c h.form w.0 (none_in_front h.form one), no_modules hs rest w.1)
-
-  one_of : (hs : List Hyp) (i : ℕ) (h : Hyp) → slice_get hs i ≡ Some h → AllByRecursion (λ h. IsForm c h.form) hs → IsForm c h.form
+  one_of : (hs : List Hyp) (i : ℕ) (h : Hyp) → slice_get hs i ≡ Some h → AreHypotheses c hs → IsForm c h.form
   one_of [] i h e w = none_some h e
   one_of (x ∷ hs) zero h e w = subst (λ y. IsForm c y.form) (in_some x h e) w.0
   one_of (x ∷ hs) (suc i) h e w = one_of hs i h e w.1
@@ -210,26 +201,26 @@ module _ (ds : Declarations) (scope : IsTypedScope ds) (q : Sequent) (t : IsType
     moved_typed : (x : Term) → IsForm c x → IsForm c (rewritten a b x)
     moved_typed x v = subst (λ d. IsForm d (rewritten a b x)) (sym outer) (form_kept c a b (subst (λ d. IsTyped d b) outer said.sides.right) said.sides.type x (subst (λ d. IsForm d x) outer v))
 
-    all_typed : (i : ℕ) (hs : List Hyp) → AllByRecursion (λ h. IsForm c h.form) hs → AreFormulas c (map (hypothesis_rewritten (a, b)) (others i hs))
+    all_typed : (i : ℕ) (hs : List Hyp) → AreHypotheses c hs → AreHypotheses c (map (hypothesis_rewritten (a, b)) (others i hs))
     all_typed i [] v = tt
     all_typed zero (h ∷ hs) v = each hs v.1
       where
-        each : (hs : List Hyp) → AllByRecursion (λ h. IsForm c h.form) hs → AreFormulas c (map (hypothesis_rewritten (a, b)) hs)
+        each : (hs : List Hyp) → AreHypotheses c hs → AreHypotheses c (map (hypothesis_rewritten (a, b)) hs)
         each [] v = tt
-        each (h ∷ hs) v = (form_formula c (rewritten a b h.form) (moved_typed h.form v.0), each hs v.1)
-    all_typed (suc i) (h ∷ hs) v = (form_formula c (rewritten a b h.form) (moved_typed h.form v.0), all_typed i hs v.1)
+        each (h ∷ hs) v = (moved_typed h.form v.0, each hs v.1)
+    all_typed (suc i) (h ∷ hs) v = (moved_typed h.form v.0, all_typed i hs v.1)
 
     module _ (k : Interpretation) (results : HasResults ds k) (fits : IsSettingOf c (setting ds k)) (s : State) (fit : IsStateOf c (setting ds k) s) (holds : Truth ds f k s) where
-      each_true : (hs : List Hyp) → AllByRecursion (λ h. IsForm c h.form) hs → AreTrue ds hs k s → AreTrue ds (map (hypothesis_rewritten (a, b)) hs) k s
+      each_true : (hs : List Hyp) → AreHypotheses c hs → AreTrue ds hs k s → AreTrue ds (map (hypothesis_rewritten (a, b)) hs) k s
       each_true [] v h = tt
       each_true (x ∷ hs) v h = (there f a b w said k results fits s fit holds x.form (form_front c x.form v.0) (of_form f a b w said x.form v.0) h.0, each_true hs v.1 h.1)
 
-      others_true : (i : ℕ) (hs : List Hyp) → AllByRecursion (λ h. IsForm c h.form) hs → AreTrue ds hs k s → AreTrue ds (map (hypothesis_rewritten (a, b)) (others i hs)) k s
+      others_true : (i : ℕ) (hs : List Hyp) → AreHypotheses c hs → AreTrue ds hs k s → AreTrue ds (map (hypothesis_rewritten (a, b)) (others i hs)) k s
       others_true i [] v h = tt
       others_true zero (x ∷ hs) v h = each_true hs v.1 h.1
       others_true (suc i) (x ∷ hs) v h = (there f a b w said k results fits s fit holds x.form (form_front c x.form v.0) (of_form f a b w said x.form v.0) h.0, others_true i hs v.1 h.1)
 
-    everywhere : (i : ℕ) (h : Hyp) → slice_get q.hyps i ≡ Some h → h.form ≡ f → AllByRecursion (λ h. IsForm c h.form) q.hyps → has_module q.conclusion ≡ false → LeadTo ds q (without i q (a, b) ∷ [])
+    everywhere : (i : ℕ) (h : Hyp) → slice_get q.hyps i ≡ Some h → h.form ≡ f → AreHypotheses c q.hyps → has_module q.conclusion ≡ false → LeadTo ds q (without i q (a, b) ∷ [])
     everywhere i h at is hs o =
         let m = of_conclusion f a b w said o in
         parts_lead_by ds scope q t (HasResults ds) (each_results ds scope q) (record { hyps = map (hypothesis_rewritten (a, b)) (others i q.hyps); conclusion = rewritten a b q.conclusion } ∷ [])
@@ -263,11 +254,10 @@ module _ (ds : Declarations) (scope : IsTypedScope ds) (q : Sequent) (t : IsType
       step : (b : Bool) → goal_quantifies_modules q ≡ b → given qs ≡ (if b then refused Shape place else given (without i q p ∷ [])) → LeadTo ds q qs
       step true m e = refused_at Shape place qs (sym e)
       step false m e =
-          let hs = no_modules q.hyps (second (quantifies_modules q.conclusion) (list_any (λ h. quantifies_modules h.form) q.hyps) m) t.hyps in
           let o = none_in_front q.conclusion (first (quantifies_modules q.conclusion) (list_any (λ h. quantifies_modules h.form) q.hyps) m) in
-          let form = one_of q.hyps i h at hs in
+          let form = one_of q.hyps i h at t.hyps in
           let said = of_equation h.form form.typed (equation_of h.form) refl p u in
-          subst (LeadTo ds q) (sym (same_given qs _ e)) (everywhere h.form p.0 p.1 form said i h at refl hs o)
+          subst (LeadTo ds q) (sym (same_given qs _ e)) (everywhere h.form p.0 p.1 form said i h at refl t.hyps o)
 
   substitution_sound : (i : ℕ) (place : Place) (qs : List Sequent) → given qs ≡ substituting i place q → LeadTo ds q qs
   substitution_sound i place qs e = step (slice_get q.hyps i) refl e

@@ -25,7 +25,7 @@ use Rattle.gb_elab_prog.specs.Types.{only, new, constants as declared_constants,
 use Rattle.gb_elab_laws.proofs.Given.{given_bind, given_is, if_refused}
 use Rattle.gb_shapes.specs.declared.place.Enumeration.{Enumeration}
 use Rattle.gb_print_names.specs.Names.{constants}
-use Rattle.gb_readback.specs.Written.{is_name_text, is_name_there, is_path, is_path_there, is_word_here, IsWrittenType}
+use Rattle.gb_readback.specs.Written.{is_name_there, is_path, is_path_there, is_word_here}
 use Rattle.gb_readback.specs.Written as w
 use Rattle.gb_spelt_laws.proofs.Sequents.{all_append}
 use Rattle.gb_shown.specs.Scopes.{IsNamedEntry, IsNamedScope}

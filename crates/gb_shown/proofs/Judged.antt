@@ -36,7 +36,7 @@ use Rattle.gb_elab.specs.declared.contract.Contract.{Contract}
 use Rattle.gb_elab.specs.OneProcedure.{after_one, always, around, before_one, ends, lossless, one, with_chance}
 use Rattle.gb_elab.specs.Probability.{before_call, called, words_of}
 use Rattle.gb_shapes.specs.declared.place.Enumeration.{Enumeration}
-use Rattle.gb_readback.specs.Written.{in_range, is_name_text, is_path, IsWrittenModule, IsWrittenProcedure}
+use Rattle.gb_readback.specs.Written.{is_name_text, is_path, IsWrittenProcedure}
 use Rattle.gb_readback.specs.Written as w
 use Rattle.gb_spelt_laws.specs.Named.{IsNamed}
 use Rattle.gb_spelt_laws.proofs.Trees.{node_named}

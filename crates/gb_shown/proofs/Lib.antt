@@ -32,6 +32,7 @@ mod Entries
 mod Lemmas
 mod Occurring
 mod Used
+mod BodyRules
 mod Rules
 mod Stages
 mod Grounds

@@ -1,10 +1,6 @@
 -- Proof steps: what a rule is given is named.
-use Rattle.std.proofs.Common.{◌≡◌, ℕ, zero, suc, ◌-◌, Bool, true, false, if◌then◌else◌, bytes_eq, codes, List, [], ◌∷◌, length, take, drop, Option, Some, None, refl, ap, sym, ◌∙◌, subst}
-use Rattle.std.specs.List.{slice_get}
-use Rattle.std.specs.Option.{option_map_or, option_zip}
+use Rattle.std.proofs.Common.{◌≡◌, ℕ, ◌-◌, Bool, true, false, if◌then◌else◌, bytes_eq, codes, List, [], ◌∷◌, length, take, drop, Option, Some, None, refl, subst}
 use Rattle.gb_core.specs.declared.place.Place.{Place}
-use Rattle.gb_core.specs.declared.ty.Ty.{Ty, out-Ty}
-use Rattle.gb_core.specs.declared.ty.Ty.TheOpen as ty_layer
 use Rattle.gb_core.specs.declared.ty.Ty.TheVariants as ty
 use Rattle.gb_terms.specs.declared.decl.Proc.{Proc}
 use Rattle.gb_terms.specs.declared.decl.TypedName.{TypedName}
@@ -12,20 +8,15 @@ use Rattle.gb_terms.specs.declared.module.ProcRef.{ProcRef}
 use Rattle.gb_terms.specs.declared.op.Rel.TheVariants as rel
 use Rattle.gb_terms.specs.declared.op.Side.{Side}
 use Rattle.gb_terms.specs.declared.op.Side.TheVariants as side
-use Rattle.gb_terms.specs.declared.term.Cmd.{Cmd}
 use Rattle.gb_terms.specs.declared.term.Head.{Head}
 use Rattle.gb_terms.specs.declared.term.Head.TheVariants as head
-use Rattle.gb_terms.specs.declared.term.Head.TheOpen as layer
-use Rattle.gb_terms.specs.declared.term.Head.TheVariants.{Assign, Sample, Call', If', While'}
-use Rattle.gb_terms.specs.declared.term.Head.TheViews.{the_lemmas}
-use Rattle.gb_terms.specs.declared.term.Subject.{Subject, out-Subject}
 use Rattle.gb_terms.specs.declared.term.Instr.{Instr}
 use Rattle.gb_terms.specs.declared.term.Term.{Term, out-Term}
 use Rattle.gb_goal.specs.Answers.{Answer, ◌>>=◌, not_built}
 use Rattle.gb_goal.specs.Answers.Answer.{given}
-use Rattle.gb_goal.specs.Goal.{Code, Goal, code_at, goal_at, goal_of, judges_bodies}
+use Rattle.gb_goal.specs.Goal.{Goal, goal_at, goal_of}
 use Rattle.gb_goal.specs.Goal.Code.{body, procedure}
-use Rattle.gb_goal.specs.Goal.Goal.{hoare, phoare, equiv, ambient}
+use Rattle.gb_goal.specs.Goal.Goal.{hoare, phoare, equiv}
 use Rattle.gb_goal.specs.Scope.{Declarations, procedure_of}
 use Rattle.gb_goal.specs.declared.sequent.Sequent.{Sequent}
 use Rattle.gb_script.specs.declared.head.Head.{Head as Kind}
@@ -38,8 +29,6 @@ use Rattle.gb_steps.specs.declared.step.AmbientRule.{AmbientRule}
 use Rattle.gb_steps.specs.declared.step.AmbientRule.TheVariants as conclusion
 use Rattle.gb_steps.specs.declared.step.BodyRule.{BodyRule}
 use Rattle.gb_steps.specs.declared.step.BodyRule.TheVariants as on_bodies
-use Rattle.gb_steps.specs.declared.step.Cut.{Cut}
-use Rattle.gb_steps.specs.declared.step.Cut.TheVariants as cut
 use Rattle.gb_steps.specs.declared.step.EventLaw.TheVariants as event_law
 use Rattle.gb_steps.specs.declared.step.ProbabilityRule.TheVariants as probability_rule
 use Rattle.gb_steps.specs.declared.step.RelationalRule.{RelationalRule}
@@ -52,49 +41,33 @@ use Rattle.gb_chances.specs.Chances.{Bounded, Compared, bounded_of, chances_of}
 use Rattle.gb_chances.specs.First.{first_procedure}
 use Rattle.gb_holds.specs.Declared.{declared}
 use Rattle.gb_typing.specs.Context.{Context}
-use Rattle.gb_typing.specs.Goals.{IsCode, IsGoalOver}
-use Rattle.gb_typing.specs.Programs.{EachStatement}
+use Rattle.gb_typing.specs.Goals.{IsGoalOver}
 use Rattle.gb_typing.specs.Scopes.{context_of}
 use Rattle.gb_typing.specs.Sequents.{of_sequent, IsTypedSequent}
 use Rattle.gb_typing.proofs.TypedGoals.{conclusion_goal}
-use Rattle.gb_limits.specs.Lexeme.{spells}
-use Rattle.gb_limits.specs.LeftOut.{is_word_of}
-use Rattle.gb_names.specs.Environment.{Environment, ambient as ambient_in, of_function, relational, unary}
-use Rattle.gb_names.specs.Judgments.{named_procedure, result_of}
-use Rattle.gb_elab.specs.Forms.{elaborated, function}
+use Rattle.gb_names.specs.Environment.{ambient as ambient_in, relational, unary}
+use Rattle.gb_names.specs.Judgments.{named_procedure}
+use Rattle.gb_elab.specs.Forms.{elaborated}
 use Rattle.gb_elab_mod.specs.Multiples.{hypothesis_at, multiples, position}
-use Rattle.gb_elab_mod.specs.Occurring.{occurring}
-use Rattle.gb_elab_mod.specs.Steps.{of_subjects, of_head, outcomes, sampled, last_sampled, functions, there_and_back, one_type, couplings, judges_chance, coupling_rule, functions_of, is_apply, acts, drawing_rule, on_all, plain_rule, cut_of, cut_rule, seq_rule, of_bodies_rule, chance_rule, both_rule, named_rule, conclusion_rule, formed, said_of_bodies, case_by, case_of_bodies, kept_by, while_rule, case_of_conclusion, sided_case_rule, params_if, result_if, locals_before, locals_after, term_if, said_anew, conseq_of, conseq_rule, last_procedure, contract_of, contract_of_both, contract_on, contract_at, call_rule, related, said_around, by_phoare_rule, by_equiv_rule, by_rule, between_of, between_by, between_with, between_at, transitive_rule, asked_of, value_witness, memory_witness, witness_rule, pattern, passing_rule, placed_rule, transforming_rule, event_law_rule, splitting_rule, event_rule, equals_rule, used_rule, calls_of, inlining_rule, looping_rule, have_rule, typed_rule, step_given}
+use Rattle.gb_elab_mod.specs.Steps.{functions_of, acts, on_all, plain_rule, cut_of, chance_rule, both_rule, named_rule, conclusion_rule, formed, params_if, result_if, last_procedure, contract_of, contract_of_both, contract_on, contract_at, call_rule, related, said_around, by_phoare_rule, by_equiv_rule, by_rule, between_of, between_by, between_with, between_at, transitive_rule, asked_of, value_witness, memory_witness, witness_rule, pattern, passing_rule, placed_rule, transforming_rule, event_law_rule, if_there, splitting_rule, event_rule, equals_rule, used_rule, calls_of, inlining_rule, looping_rule, have_rule, typed_rule, step_given}
 use Rattle.gb_elab_mod.specs.Taken.{new_name}
 use Rattle.gb_elab_mod.specs.Uses.{all_hinted, defined_operator, hypothesis, is_memory, memory_of, used}
 use Rattle.gb_elab_prog.specs.Unbuilt.{absent}
-use Rattle.gb_elab_laws.proofs.Given.{given_bind, given_is, none_some, same_some}
+use Rattle.gb_elab_laws.proofs.Given.{given_bind, given_is}
 use Rattle.gb_shapes.specs.declared.place.Enumeration.{Enumeration}
-use Rattle.gb_readback.specs.Written.{is_name_text, is_path}
-use Rattle.gb_spelt_laws.specs.Named.{IsNamedType, IsNamedSubject, IsNamedHead, IsNamed, IsNamedInstr, IsNamedCode, IsNamedGoal, IsNamedSequent}
-use Rattle.gb_spelt_laws.specs.Rules.{AreNamedArguments, IsNamedIfAny, IsNamedProcedure, IsNamedRelational, IsNamedRule, IsNamedStep}
+use Rattle.gb_readback.specs.Written.{is_name_text}
+use Rattle.gb_spelt_laws.specs.Named.{IsNamedHead, IsNamed, IsNamedGoal, IsNamedSequent}
+use Rattle.gb_spelt_laws.specs.Rules.{AreNamedArguments, IsNamedRelational, IsNamedRule, IsNamedStep}
 use Rattle.gb_spelt_laws.proofs.Forms.{as_result}
 use Rattle.gb_spelt_laws.proofs.NamedGoals.{no_front}
-use Rattle.gb_spelt_laws.proofs.Statements.{EachNamed}
-use Rattle.gb_spelt_laws.proofs.Trees.{AllNamed, parts_named}
-use Rattle.gb_shown.specs.Scopes.{IsNamedScope, IsNamedSetting, IsNamedWanted}
+use Rattle.gb_spelt_laws.proofs.Trees.{parts_named}
+use Rattle.gb_shown.specs.Scopes.{IsNamedScope, IsNamedWanted}
 use Rattle.gb_shown.specs.Words.{HasItsNames, IsName, IsReadTree}
-use Rattle.gb_shown.proofs.FoundInScopes.{member_found, params_named, procedures_named}
 use Rattle.gb_shown.proofs.OfForms.{OfForms}
-use Rattle.gb_shown.proofs.Occurring.{AreLocals, occurring_named, outcome_typed}
-use Rattle.gb_shown.proofs.Settings.{ambient_named, as_locals, function_named, relational_named, unary_named}
+use Rattle.gb_shown.proofs.Settings.{ambient_named, relational_named, unary_named}
 use Rattle.gb_shown.proofs.Trees.{AreRead, drop_read, node_read, parts_read}
 use Rattle.gb_shown.proofs.Used.{hypothesis_is_named, used_is_named}
-
-abbrev SubjectLayer : Type 0
-SubjectLayer = layer.Subject-F Head Instr Subject Cmd Term
-
-out_proc : (p : ProcRef) → out-Subject (head.Proc p) ≡ layer.Proc p
-out_proc p = simp the_lemmas refl
-
-res_is_path : is_path (codes "res") ≡ true
-unfolding spells is_word_of
-res_is_path = refl
+use Rattle.gb_shown.proofs.BodyRules.{truth_named, formed_named, params_local, results_local, of_bodies_named, functions_read, seq_named, conseq_all, case_named, kept_named, drawing_named}
 
 -- what isn't built is not given
 none_built : {A : Type 0} {B : Type 0} (p : Place) (x : A) → not_built p ≡ given x → B
@@ -112,35 +85,6 @@ module _ (forms : OfForms) (es : List Enumeration) (ds : Declarations) (k : IsNa
   abbrev Gives : Answer Rule → Type 0
   Gives a = (r : Rule) → a ≡ given r → AreNamedArguments es r
 
-  -- a form that is a truth
-  truth_named : (at : Environment) → IsNamedSetting es at → (t : Node) → IsReadTree t → (f : Term) → elaborated t at [] (Some ty.Bool) ≡ given f → Named f
-  truth_named at s t r f e = forms.form es at s [] tt (Some ty.Bool) tt t r f e
-
-  around : IsNamedSetting es (ambient_in ds q)
-  around = ambient_named es ds k q n
-
-  formed_named : (t : Node) → IsReadTree t → (f : Term) → formed ds q t ≡ given f → Named f
-  formed_named t r f e = truth_named (ambient_in ds q) around t r f e
-
-  -- The locals of called procedures.
-
-  result_local : (f : Proc) → IsNamedProcedure es f → AreLocals (result_of f)
-  result_local f h = ((res_is_path, h.result), tt)
-
-  params_local : (f : ProcRef) → AreLocals (params_if (procedure_of ds f))
-  params_local f = step (procedure_of ds f) refl
-    where
-      step : (o : Option Proc) → procedure_of ds f ≡ o → AreLocals (params_if o)
-      step None i = tt
-      step (Some p) i = as_locals p.params (params_named es p (member_found es ds k f p i))
-
-  results_local : (f : ProcRef) → AreLocals (result_if (procedure_of ds f))
-  results_local f = step (procedure_of ds f) refl
-    where
-      step : (o : Option Proc) → procedure_of ds f ≡ o → AreLocals (result_if o)
-      step None i = tt
-      step (Some p) i = result_local p (procedures_named es ds k f p i)
-
   -- Rules without forms.
 
   on_all_named : (a : Acts) (r : BodyRule) → IsNamedRule es r → IsNamedRule es (on_all a r)
@@ -153,9 +97,6 @@ module _ (forms : OfForms) (es : List Enumeration) (ds : Declarations) (k : IsNa
       choice (IsNamedRule es) (bytes_eq x (codes "skip")) (on_all a on_bodies.Skip) _ r (on_all_named a on_bodies.Skip tt)
       (λ e. choice (IsNamedRule es) (bytes_eq x (codes "if")) (on_bodies.If a) _ r tt
       (λ e. choice (IsNamedRule es) (bytes_eq x (codes "wp")) (on_bodies.Wp a) _ r tt (λ e. none_built p r e) e) e) e
-
-  of_bodies_named : (a : Answer BodyRule) → ((r : BodyRule) → a ≡ given r → IsNamedRule es r) → Gives (of_bodies_rule a)
-  of_bodies_named a h r e = let b = given_bind a _ r e in subst (AreNamedArguments es) (given_is (rule.OnBodies b.0) r b.2) (h b.0 b.1)
 
   chance_named : (a : Acts) → AreNamedArguments es (chance_rule a)
   chance_named on.All = tt
@@ -172,7 +113,7 @@ module _ (forms : OfForms) (es : List Enumeration) (ds : Declarations) (k : IsNa
       choice (AreNamedArguments es) (bytes_eq x (codes "hoare")) (chance_rule a) _ r (chance_named a)
       (λ e. choice (AreNamedArguments es) (bytes_eq x (codes "symmetry")) (both_rule relational_rule.Symmetry a) _ r (both_named relational_rule.Symmetry a tt)
       (λ e. choice (AreNamedArguments es) (bytes_eq x (codes "sim")) (both_rule relational_rule.Sim a) _ r (both_named relational_rule.Sim a tt)
-      (λ e. of_bodies_named (plain_rule x a p) (plain_named x a p) r e) e) e) e
+      (λ e. of_bodies_named forms es ds k q n (plain_rule x a p) (plain_named x a p) r e) e) e) e
 
   conclusion_named : (x : List ℕ) (p : Place) (r : AmbientRule) → conclusion_rule x p ≡ given r → IsNamedStep es r
   conclusion_named x p r e =
@@ -242,11 +183,23 @@ module _ (forms : OfForms) (es : List Enumeration) (ds : Declarations) (k : IsNa
       (λ e. choice (AreNamedArguments es) (bytes_eq x (codes "mu_ge0")) (rule.Probability (probability_rule.Within rel.AtLeast)) _ r tt
       (λ e. choice (AreNamedArguments es) (bytes_eq x (codes "mu_le1")) (rule.Probability (probability_rule.Within rel.AtMost)) _ r tt (λ e. none_built p r e) e) e) e) e) e) e) e
 
+  -- where a procedure isn't declared, the rule has no arguments
+  declared_named : (o : Option Proc) (a : Answer Rule) → Gives a → Gives (if_there o a)
+  declared_named (Some p) a h r e = h r e
+  declared_named None a h r e = subst (AreNamedArguments es) (given_is _ r e) tt
+
   splitting_named : (t : Node) → IsReadTree t → (o : Option ProcRef) → Gives (splitting_rule ds q t o)
   unfolding splitting_rule
-  splitting_named t l (Some f) r e =
-      let a = given_bind (elaborated t (unary ds q (result_if (procedure_of ds f))) [] (Some ty.Bool)) _ r e in
-      subst (AreNamedArguments es) (given_is _ r a.2) (truth_named _ (unary_named es ds k q n _ (results_local f)) t l a.0 a.1)
+  splitting_named t l (Some f) r e = declared_named (procedure_of ds f) (event >>= split) by_event r e
+    where
+      event : Answer Term
+      event = elaborated t (unary ds q (result_if (procedure_of ds f))) [] (Some ty.Bool)
+
+      split : Term → Answer Rule
+      split g = given (rule.Rewrite (rewrite_rule.Law (event_law.Split f g)))
+
+      by_event : Gives (event >>= split)
+      by_event r e = let a = given_bind event split r e in subst (AreNamedArguments es) (given_is _ r a.2) (truth_named forms es ds k q n _ (unary_named es ds k q n _ (results_local forms es ds k q n f)) t l a.0 a.1)
   splitting_named t l None r e = subst (AreNamedArguments es) (given_is _ r e) tt
 
   event_named : (h : Kind) (x : List ℕ) (ps : List Node) → (h ≡ text.Name → is_name_text x ≡ true) → HasItsNames h ps → AreRead ps → (p : Place) → Gives (event_rule ds q h x ps p)
@@ -296,7 +249,7 @@ module _ (forms : OfForms) (es : List Enumeration) (ds : Declarations) (k : IsNa
   have_named m f i l r e =
       let a = given_bind (new_name q (text_of m) (place_of m)) _ r e in
       let b = given_bind (formed ds q f) _ r a.2 in
-      subst (AreNamedArguments es) (given_is _ r b.2) (i, formed_named f l b.0 b.1)
+      subst (AreNamedArguments es) (given_is _ r b.2) (i, formed_named forms es ds k q n f l b.0 b.1)
 
   memory_named : (s : Side) (p : Place) (r : AmbientRule) → memory_witness q s p ≡ given r → IsNamedStep es r
   memory_named (side.Memory i) p r e = by_test _ e
@@ -319,7 +272,7 @@ module _ (forms : OfForms) (es : List Enumeration) (ds : Declarations) (k : IsNa
       by_kind false e =
           let a = given_bind (elaborated t (ambient_in ds q) [] (asked_of (out-Term q.conclusion).head)) _ r e in
           subst (IsNamedStep es) (given_is _ r a.2)
-          (forms.form es (ambient_in ds q) around [] tt (asked_of (out-Term q.conclusion).head) (asked_named q.conclusion (out-Term q.conclusion).head (out-Term q.conclusion).args refl n.conclusion) t l a.0 a.1)
+          (forms.form es (ambient_in ds q) (ambient_named es ds k q n) [] tt (asked_of (out-Term q.conclusion).head) (asked_named q.conclusion (out-Term q.conclusion).head (out-Term q.conclusion).args refl n.conclusion) t l a.0 a.1)
 
   -- Contracts of procedures.
 
@@ -330,7 +283,7 @@ module _ (forms : OfForms) (es : List Enumeration) (ds : Declarations) (k : IsNa
       let b = given_bind (elaborated pre (unary ds q (params_if (procedure_of ds f))) [] (Some ty.Bool)) _ r e in
       let c = given_bind (elaborated post (unary ds q (result_if (procedure_of ds f))) [] (Some ty.Bool)) _ r b.2 in
       subst (AreNamedArguments es) (given_is _ r c.2)
-      (truth_named _ (unary_named es ds k q n _ (params_local f)) pre l b.0 b.1, truth_named _ (unary_named es ds k q n _ (results_local f)) post m c.0 c.1)
+      (truth_named forms es ds k q n _ (unary_named es ds k q n _ (params_local forms es ds k q n f)) pre l b.0 b.1, truth_named forms es ds k q n _ (unary_named es ds k q n _ (results_local forms es ds k q n f)) post m c.0 c.1)
 
   contract_both_named : (a : Acts) (pre post : Node) → IsReadTree pre → IsReadTree post → (o u : Option ProcRef) → Gives (contract_of_both ds q a pre post o u)
   unfolding contract_of_both
@@ -338,7 +291,7 @@ module _ (forms : OfForms) (es : List Enumeration) (ds : Declarations) (k : IsNa
       let b = given_bind (elaborated pre (relational ds q (params_if (procedure_of ds f)) (params_if (procedure_of ds g))) [] (Some ty.Bool)) _ r e in
       let c = given_bind (elaborated post (relational ds q (result_if (procedure_of ds f)) (result_if (procedure_of ds g))) [] (Some ty.Bool)) _ r b.2 in
       subst (AreNamedArguments es) (given_is _ r c.2)
-      (truth_named _ (relational_named es ds k q n _ _ (params_local f) (params_local g)) pre l b.0 b.1, truth_named _ (relational_named es ds k q n _ _ (results_local f) (results_local g)) post m c.0 c.1)
+      (truth_named forms es ds k q n _ (relational_named es ds k q n _ _ (params_local forms es ds k q n f) (params_local forms es ds k q n g)) pre l b.0 b.1, truth_named forms es ds k q n _ (relational_named es ds k q n _ _ (results_local forms es ds k q n f) (results_local forms es ds k q n g)) post m c.0 c.1)
   contract_both_named a pre post l m None u r e = subst (AreNamedArguments es) (given_is _ r e) tt
   contract_both_named a pre post l m (Some f) None r e = subst (AreNamedArguments es) (given_is _ r e) tt
 
@@ -371,7 +324,7 @@ module _ (forms : OfForms) (es : List Enumeration) (ds : Declarations) (k : IsNa
       let b = given_bind (elaborated pre (relational ds q (params_if (procedure_of ds f)) (params_if (procedure_of ds g))) [] (Some ty.Bool)) _ x e in
       let c = given_bind (elaborated post (relational ds q (result_if (procedure_of ds f)) (result_if (procedure_of ds g))) [] (Some ty.Bool)) _ x b.2 in
       subst (λ (z : Term × Term). Named z.0 × Named z.1) (given_is (b.0, c.0) x c.2)
-      (truth_named _ (relational_named es ds k q n _ _ (params_local f) (params_local g)) pre l b.0 b.1, truth_named _ (relational_named es ds k q n _ _ (results_local f) (results_local g)) post m c.0 c.1)
+      (truth_named forms es ds k q n _ (relational_named es ds k q n _ _ (params_local forms es ds k q n f) (params_local forms es ds k q n g)) pre l b.0 b.1, truth_named forms es ds k q n _ (relational_named es ds k q n _ _ (results_local forms es ds k q n f) (results_local forms es ds k q n g)) post m c.0 c.1)
 
   -- Conditions of a judgment by which probabilities are compared.
 
@@ -381,7 +334,7 @@ module _ (forms : OfForms) (es : List Enumeration) (ds : Declarations) (k : IsNa
       let b = given_bind (elaborated pre (unary ds q (params_if (procedure_of ds f))) [] (Some ty.Bool)) _ x e in
       let c = given_bind (elaborated post (unary ds q (result_if (procedure_of ds f))) [] (Some ty.Bool)) _ x b.2 in
       subst (λ (z : Term × Term). Named z.0 × Named z.1) (given_is (b.0, c.0) x c.2)
-      (truth_named _ (unary_named es ds k q n _ (params_local f)) pre l b.0 b.1, truth_named _ (unary_named es ds k q n _ (results_local f)) post m c.0 c.1)
+      (truth_named forms es ds k q n _ (unary_named es ds k q n _ (params_local forms es ds k q n f)) pre l b.0 b.1, truth_named forms es ds k q n _ (unary_named es ds k q n _ (results_local forms es ds k q n f)) post m c.0 c.1)
 
   by_phoare_named : (pre post : Node) → IsReadTree pre → IsReadTree post → (o : Option Bounded) → Gives (by_phoare_rule ds q pre post o)
   by_phoare_named pre post l m (Some b) r e =
@@ -410,7 +363,7 @@ module _ (forms : OfForms) (es : List Enumeration) (ds : Declarations) (k : IsNa
       let m = given_bind (named_procedure (ambient_in ds q) [] text.ProcedurePath ws p) _ r e in
       let x = given_bind (related ds q a b f m.0.0) _ r m.2 in
       let y = given_bind (related ds q c d m.0.0 g) _ r x.2 in
-      let procedure_written = forms.procedure es (ambient_in ds q) around [] text.ProcedurePath ws p m.0 m.1 in
+      let procedure_written = forms.procedure es (ambient_in ds q) (ambient_named es ds k q n) [] text.ProcedurePath ws p m.0 m.1 in
       let u = related_named a b l1 l2 f m.0.0 x.0 x.1 in
       let v = related_named c d l3 l4 m.0.0 g y.0 y.1 in
       subst (AreNamedArguments es) (given_is _ r y.2) (record { procedure = procedure_written.0; left_pre = u.0; left_post = u.1; right_pre = v.0; right_post = v.1 })
@@ -439,224 +392,9 @@ module _ (forms : OfForms) (es : List Enumeration) (ds : Declarations) (k : IsNa
   transitive_named on.Left h ns l p r e = subst (AreNamedArguments es) (given_is _ r e) tt
   transitive_named on.Right h ns l p r e = subst (AreNamedArguments es) (given_is _ r e) tt
 
-  -- What is said of typed bodies.
-
-  module _ (c : Context) (ls rs : List TypedName) where
-    occurring_in : (s : Side) (p g : Term) (is : List Instr) (vs : List TypedName) → Named p → Named g → EachNamed es is → EachStatement c vs is → AreLocals (occurring ds (p ∷ g ∷ []) s is)
-    occurring_in s p g is vs x y z w = occurring_named es ds (procedures_named es ds k) c vs s p g is x y z w
-
-    cut_named : (m : Cut) (t : Node) → IsReadTree t → (G : Goal) → IsNamedGoal es G → IsGoalOver c ls rs G → (r : BodyRule) → cut_rule ds q m t G ≡ given r → IsNamedRule es r
-    unfolding cut_rule
-    cut_named (cut.One i) t l (hoare (body is) p g) x w r e =
-        let b = given_bind (elaborated t (unary ds q (occurring ds (p ∷ g ∷ []) side.Own is)) [] (Some ty.Bool)) _ r e in
-        let typed = w.0 in
-        subst (IsNamedRule es) (given_is _ r b.2) (truth_named _ (unary_named es ds k q n _ (occurring_in side.Own p g is ls x.1 x.2 x.0 typed.statements)) t l b.0 b.1)
-    cut_named (cut.Two i j) t l (equiv (body is) (body js) p g) x w r e =
-        let b = given_bind (elaborated t (relational ds q (occurring ds (p ∷ g ∷ []) side.Left is) (occurring ds (p ∷ g ∷ []) side.Right js)) [] (Some ty.Bool)) _ r e in
-        let left = w.1 in
-        let right = w.2 in
-        subst (IsNamedRule es) (given_is _ r b.2)
-        (truth_named _ (relational_named es ds k q n _ _ (occurring_in side.Left p g is ls x.2 x.3 x.0 left.statements) (occurring_in side.Right p g js rs x.2 x.3 x.1 right.statements)) t l b.0 b.1)
-    cut_named _ t l _ x w r e = subst (IsNamedRule es) (given_is _ r e) tt
-
-    said_named : (t : Node) → IsReadTree t → (G : Goal) → IsNamedGoal es G → IsGoalOver c ls rs G → (o : Option Term) → said_of_bodies ds q t G ≡ given o → IsNamedIfAny es o
-    unfolding said_of_bodies
-    said_named t l (hoare (body is) p g) x w o e =
-        let b = given_bind (elaborated t (unary ds q (occurring ds (p ∷ g ∷ []) side.Own is)) [] (Some ty.Bool)) _ o e in
-        let typed = w.0 in
-        subst (IsNamedIfAny es) (given_is (Some b.0) o b.2) (truth_named _ (unary_named es ds k q n _ (occurring_in side.Own p g is ls x.1 x.2 x.0 typed.statements)) t l b.0 b.1)
-    said_named t l (phoare (body is) i p g d) x w o e =
-        let b = given_bind (elaborated t (unary ds q (occurring ds (p ∷ g ∷ []) side.Own is)) [] (Some ty.Bool)) _ o e in
-        let typed = w.0 in
-        subst (IsNamedIfAny es) (given_is (Some b.0) o b.2) (truth_named _ (unary_named es ds k q n _ (occurring_in side.Own p g is ls x.1 x.2 x.0 typed.statements)) t l b.0 b.1)
-    said_named t l (equiv (body is) (body js) p g) x w o e =
-        let b = given_bind (elaborated t (relational ds q (occurring ds (p ∷ g ∷ []) side.Left is) (occurring ds (p ∷ g ∷ []) side.Right js)) [] (Some ty.Bool)) _ o e in
-        let left = w.1 in
-        let right = w.2 in
-        subst (IsNamedIfAny es) (given_is (Some b.0) o b.2)
-        (truth_named _ (relational_named es ds k q n _ _ (occurring_in side.Left p g is ls x.2 x.3 x.0 left.statements) (occurring_in side.Right p g js rs x.2 x.3 x.1 right.statements)) t l b.0 b.1)
-    said_named t l _ x w o e = subst (IsNamedIfAny es) (given_is None o e) tt
-
-    case_by_named : (o : Option Term) → IsNamedIfAny es o → IsNamedRule es (case_by o)
-    case_by_named (Some f) h = h
-    case_by_named None h = tt
-
-    kept_by_named : (a : Acts) (o : Option Term) → IsNamedIfAny es o → AreNamedArguments es (kept_by a o)
-    kept_by_named a (Some f) h = h
-    kept_by_named a None h = tt
-
-    before_named : (p g : Term) (s : Side) (a : Code) (vs : List TypedName) → Named p → Named g → IsNamedCode es a → IsCode c vs a → AreLocals (locals_before ds p g s a)
-    before_named p g s (body is) vs x y z w = occurring_in s p g is vs x y z w.statements
-    before_named p g s (procedure f) vs x y z w = params_local f
-
-    after_named : (p g : Term) (s : Side) (a : Code) (vs : List TypedName) → Named p → Named g → IsNamedCode es a → IsCode c vs a → AreLocals (locals_after ds p g s a)
-    after_named p g s (body is) vs x y z w = occurring_in s p g is vs x y z w.statements
-    after_named p g s (procedure f) vs x y z w = results_local f
-
-    if_any_named : (at : Environment) → IsNamedSetting es at → (u : Ty) → IsNamedWanted (Some u) → (ts : List Node) → AreRead ts → (o : Option Term) → term_if at u ts ≡ given o → IsNamedIfAny es o
-    if_any_named at s u w [] l o e = subst (IsNamedIfAny es) (given_is None o e) tt
-    if_any_named at s u w (t ∷ ts) l o e = let b = given_bind (elaborated t at [] (Some u)) _ o e in subst (IsNamedIfAny es) (given_is (Some b.0) o b.2) (forms.form es at s [] tt (Some u) w t l.0 b.0 b.1)
-
-    anew_named : (before after : Environment) → IsNamedSetting es before → IsNamedSetting es after → (pre post bound : List Node) → AreRead pre → AreRead post → AreRead bound → (r : BodyRule) →
-        said_anew before after (ambient_in ds q) pre post bound ≡ given r → IsNamedRule es r
-    anew_named before after s u pre post bound l1 l2 l3 r e =
-        let f = given_bind (term_if before ty.Bool pre) _ r e in
-        let h = given_bind (term_if after ty.Bool post) _ r f.2 in
-        let b = given_bind (term_if (ambient_in ds q) ty.Real bound) _ r h.2 in
-        subst (IsNamedRule es) (given_is _ r b.2)
-        (if_any_named before s ty.Bool tt pre l1 f.0 f.1, if_any_named after u ty.Bool tt post l2 h.0 h.1, if_any_named (ambient_in ds q) around ty.Real tt bound l3 b.0 b.1)
-
-    conseq_named : (G : Goal) → IsNamedGoal es G → IsGoalOver c ls rs G → (pre post bound : List Node) → AreRead pre → AreRead post → AreRead bound → (r : BodyRule) → conseq_of ds q G pre post bound ≡ given r → IsNamedRule es r
-    unfolding conseq_of
-    conseq_named (hoare a p g) x w pre post bound l1 l2 l3 r e =
-        anew_named _ _ (unary_named es ds k q n _ (before_named p g side.Own a ls x.1 x.2 x.0 w.0)) (unary_named es ds k q n _ (after_named p g side.Own a ls x.1 x.2 x.0 w.0)) pre post bound l1 l2 l3 r e
-    conseq_named (phoare a i p g d) x w pre post bound l1 l2 l3 r e =
-        anew_named _ _ (unary_named es ds k q n _ (before_named p g side.Own a ls x.1 x.2 x.0 w.0)) (unary_named es ds k q n _ (after_named p g side.Own a ls x.1 x.2 x.0 w.0)) pre post bound l1 l2 l3 r e
-    conseq_named (equiv a b p g) x w pre post bound l1 l2 l3 r e =
-        anew_named _ _ (relational_named es ds k q n _ _ (before_named p g side.Left a ls x.2 x.3 x.0 w.1) (before_named p g side.Right b rs x.2 x.3 x.1 w.2))
-        (relational_named es ds k q n _ _ (after_named p g side.Left a ls x.2 x.3 x.0 w.1) (after_named p g side.Right b rs x.2 x.3 x.1 w.2)) pre post bound l1 l2 l3 r e
-    conseq_named (ambient f) x w pre post bound l1 l2 l3 r e = subst (IsNamedRule es) (given_is _ r e) tt
-
-    -- Functions between samplings.
-
-    functions_named : (at : Environment) → IsNamedSetting es at → (fs : List Node) → AreRead fs → (u v : Ty) → IsNamedType u → IsNamedType v → (us : List Term) → functions at fs u v ≡ given us → AllNamed es us
-    functions_named at s [] l u v x y us e = subst (AllNamed es) (given_is [] us e) tt
-    functions_named at s (f ∷ fs) l u v x y us e =
-        let a = given_bind (function f at u v) _ us e in
-        let b = given_bind (functions at fs u v) _ us a.2 in
-        subst (AllNamed es) (given_is (a.0 ∷ b.0) us b.2) (forms.function es at s u v x y f l.0 a.0 a.1, functions_named at s fs l.1 u v x y b.0 b.1)
-
-    there_named : (at : Environment) → IsNamedSetting es at → (fs : List Node) → AreRead fs → (u v : Ty) → IsNamedType u → IsNamedType v → (us : List Term) → there_and_back at fs u v ≡ given us → AllNamed es us
-    unfolding there_and_back
-    there_named at s [] l u v x y us e = subst (AllNamed es) (given_is [] us e) tt
-    there_named at s (f ∷ fs) l u v x y us e =
-        let a = given_bind (function f at u v) _ us e in
-        let b = given_bind (functions at fs v u) _ us a.2 in
-        subst (AllNamed es) (given_is (a.0 ∷ b.0) us b.2) (forms.function es at s u v x y f l.0 a.0 a.1, functions_named at s fs l.1 v u y x b.0 b.1)
-
-    drawn_type : (o : Option Instr) → ((i : Instr) → o ≡ Some i → IsNamedInstr es i) → (u : Ty) → sampled o ≡ Some u → IsNamedType u
-    drawn_type (Some (Sample x d)) h u e = by_layer (out-Ty (out-Term d).ty) refl e
-      where
-        by_layer : (l : ty_layer.Ty-F Ty) → out-Ty (out-Term d).ty ≡ l → outcomes l ≡ Some u → IsNamedType u
-        by_layer (ty_layer.Distr v) i j = let m = h (Sample x d) refl in let p = parts_named es d m.1 in subst IsNamedType (same_some v u j) (outcome_typed (out-Term d).ty v p.1 i)
-        by_layer _ i j = none_some u j
-    drawn_type None h u e = none_some u e
-    drawn_type (Some (Assign xs d)) h u e = none_some u e
-    drawn_type (Some (Call' xs p m ts)) h u e = none_some u e
-    drawn_type (Some (If' d m a i b)) h u e = none_some u e
-    drawn_type (Some (While' d v m a)) h u e = none_some u e
-
-    at_place : (is : List Instr) → EachNamed es is → (i : ℕ) (x : Instr) → slice_get is i ≡ Some x → IsNamedInstr es x
-    at_place [] h i x e = none_some x e
-    at_place (y ∷ ys) h zero x e = subst (IsNamedInstr es) (same_some y x e) h.0
-    at_place (y ∷ ys) h (suc i) x e = at_place ys h.1 i x e
-
-    last_type : (d : Cmd) → EachNamed es d.list → (u : Ty) → last_sampled d ≡ Some u → IsNamedType u
-    last_type d h u e = drawn_type (slice_get d.list (length d.list - 1)) (λ i j. at_place d.list h (length d.list - 1) i j) u e
-
-    abbrev between_types : List Term → List Node → Cmd × Cmd → Ty × Ty → Answer (List Term)
-    between_types ts fs d u =
-        one_type fs u.0 u.1 >>= λ _. there_and_back (of_function ds q (occurring ds ts side.Left d.0.list) (occurring ds ts side.Right d.1.list)) fs u.0 u.1
-
-    abbrev at_ends : List Term → List Node → Cmd × Cmd → Answer (List Term)
-    at_ends ts fs d = option_map_or (between_types ts fs d) (option_zip (last_sampled d.0) (last_sampled d.1)) (given [])
-
-    ends_named : (p g : Term) (fs : List Node) → AreRead fs → (d b : Cmd) → Named p → Named g → EachNamed es d.list → EachNamed es b.list → EachStatement c ls d.list → EachStatement c rs b.list →
-        (us : List Term) → at_ends (p ∷ g ∷ []) fs (d, b) ≡ given us → AllNamed es us
-    ends_named p g fs l d b x y z w v1 v2 us e = by_types (last_sampled d) (last_sampled b) refl refl e
-      where
-        by_types : (o m : Option Ty) → last_sampled d ≡ o → last_sampled b ≡ m → option_map_or (between_types (p ∷ g ∷ []) fs (d, b)) (option_zip o m) (given []) ≡ given us → AllNamed es us
-        by_types (Some u) (Some v) i j e =
-            let a = given_bind (one_type fs u v) _ us e in
-            there_named _ (function_named es ds k q n _ _ (occurring_in side.Left p g d.list ls x y z v1) (occurring_in side.Right p g b.list rs x y w v2)) fs l u v (last_type d z u i) (last_type b w v j) us a.2
-        by_types (Some u) None i j e = subst (AllNamed es) (given_is [] us e) tt
-        by_types None m i j e = subst (AllNamed es) (given_is [] us e) tt
-
-    subjects_named : (fs : List Node) → AreRead fs → (x y : SubjectLayer) (p g : Term) → IsNamedGoal es (equiv (code_at x) (code_at y) p g) → IsGoalOver c ls rs (equiv (code_at x) (code_at y) p g) →
-        (us : List Term) → option_map_or (at_ends (p ∷ g ∷ []) fs) (of_subjects x y) (given []) ≡ given us → AllNamed es us
-    subjects_named fs l (layer.Body d) (layer.Body b) p g h w us e =
-        let left = w.1 in
-        let right = w.2 in
-        ends_named p g fs l d b h.2 h.3 h.0 h.1 left.statements right.statements us e
-    subjects_named fs l (layer.Body d) (layer.Proc b) p g h w us e = subst (AllNamed es) (given_is [] us e) tt
-    subjects_named fs l (layer.Proc d) y p g h w us e = subst (AllNamed es) (given_is [] us e) tt
-
-    -- a judgment that is a form speaks of procedures
-    unbodied : (ts : List Term) (fs : List Node) (s u : Subject) → IsNamedSubject s → (us : List Term) → option_map_or (at_ends ts fs) (of_subjects (out-Subject s) (out-Subject u)) (given []) ≡ given us → AllNamed es us
-    unbodied ts fs (head.Proc p) u h us e = subst (AllNamed es) (given_is [] us (sym (ap (λ z. option_map_or (at_ends ts fs) (of_subjects z (out-Subject u)) (given [])) (out_proc p)) ∙ e)) tt
-    unbodied ts fs (head.Body' m is) u h us e = absurd h
-
-    as_form : (f : Term) (s u : Subject) → (out-Term f).head ≡ head.Equiv s u → Named f → IsNamedSubject s
-    as_form f s u i h = let p = parts_named es f h in let x = subst (λ (z : Head). IsNamedHead es z (out-Term f).ty) i p.0 in x.0
-
-    heads_named : (fs : List Node) → AreRead fs → (f : Term) (h : Head) (ts : List Term) → (out-Term f).head ≡ h → IsNamedGoal es (goal_at f h ts) → IsGoalOver c ls rs (goal_at f h ts) →
-        (us : List Term) → option_map_or (at_ends ts fs) (of_head h) (given []) ≡ given us → AllNamed es us
-    heads_named fs l f (head.Equiv s u) (p ∷ g ∷ []) i x w us e = subjects_named fs l (out-Subject s) (out-Subject u) p g x w us e
-    heads_named fs l f (head.Equiv s u) [] i x w us e = unbodied [] fs s u (as_form f s u i x) us e
-    heads_named fs l f (head.Equiv s u) (p ∷ []) i x w us e = unbodied (p ∷ []) fs s u (as_form f s u i x) us e
-    heads_named fs l f (head.Equiv s u) (p ∷ g ∷ b ∷ ts) i x w us e = unbodied (p ∷ g ∷ b ∷ ts) fs s u (as_form f s u i x) us e
-    heads_named fs l f _ ts i x w us e = subst (AllNamed es) (given_is [] us e) tt
-
-    couplings_named : (fs : List Node) → AreRead fs → IsNamedGoal es (goal_of q.conclusion) → IsGoalOver c ls rs (goal_of q.conclusion) → (us : List Term) → couplings ds q fs ≡ given us → AllNamed es us
-    unfolding couplings
-    couplings_named fs l x w us e = heads_named fs l q.conclusion (out-Term q.conclusion).head (out-Term q.conclusion).args refl x w us e
-
-    coupling_named : (b : Bool) (fs : List Node) (us : List Term) → AllNamed es us → AreNamedArguments es (coupling_rule b fs us)
-    coupling_named true [] us h = tt
-    coupling_named false [] us h = h
-    coupling_named true (f ∷ fs) [] h = tt
-    coupling_named false (f ∷ fs) [] h = tt
-    coupling_named true (f ∷ fs) (u ∷ us) h = h
-    coupling_named false (f ∷ fs) (u ∷ us) h = h
-
-    drawing_named : (a : Acts) (fs : List Node) → AreRead fs → IsNamedGoal es (goal_of q.conclusion) → IsGoalOver c ls rs (goal_of q.conclusion) → Gives (drawing_rule ds q a fs)
-    unfolding drawing_rule
-    drawing_named on.All fs l x w r e =
-        let a = given_bind (couplings ds q fs) _ r e in subst (AreNamedArguments es) (given_is _ r a.2) (coupling_named (judges_chance (out-Term q.conclusion).head) fs a.0 (couplings_named fs l x w a.0 a.1))
-    drawing_named on.Left [] l x w r e = subst (AreNamedArguments es) (given_is _ r e) tt
-    drawing_named on.Right [] l x w r e = subst (AreNamedArguments es) (given_is _ r e) tt
-    drawing_named on.Left (f ∷ fs) l x w r e = subst (AreNamedArguments es) (given_is _ r e) tt
-    drawing_named on.Right (f ∷ fs) l x w r e = subst (AreNamedArguments es) (given_is _ r e) tt
-
-  functions_read : (fs : List Node) → AreRead fs → AreRead (functions_of fs)
-  functions_read [] l = tt
-  functions_read (f ∷ []) l = step (is_apply (head_of f))
-    where
-      step : (b : Bool) → AreRead (if b then parts_of f else f ∷ [])
-      step true = parts_read f l.0
-      step false = l
-  functions_read (f ∷ g ∷ fs) l = l
-
-  seq_named : (c : Context) (ls rs : List TypedName) → IsGoalOver c ls rs (goal_of q.conclusion) → (a : Acts) (m : Cut) (t : Node) → IsReadTree t → (r : BodyRule) → seq_rule ds q a m t ≡ given r → IsNamedRule es r
-  seq_named c ls rs w on.All m t l r e = cut_named c ls rs m t l (goal_of q.conclusion) n.conclusion w r e
-  seq_named c ls rs w on.Left m t l r e = subst (IsNamedRule es) (given_is _ r e) tt
-  seq_named c ls rs w on.Right m t l r e = subst (IsNamedRule es) (given_is _ r e) tt
-
-  conseq_all : (c : Context) (ls rs : List TypedName) → IsGoalOver c ls rs (goal_of q.conclusion) → (a : Acts) (pre post bound : List Node) → AreRead pre → AreRead post → AreRead bound → (r : BodyRule) → conseq_rule ds q a pre post bound ≡ given r → IsNamedRule es r
-  conseq_all c ls rs w on.All pre post bound l1 l2 l3 r e = conseq_named c ls rs (goal_of q.conclusion) n.conclusion w pre post bound l1 l2 l3 r e
-  conseq_all c ls rs w on.Left pre post bound l1 l2 l3 r e = subst (IsNamedRule es) (given_is _ r e) tt
-  conseq_all c ls rs w on.Right pre post bound l1 l2 l3 r e = subst (IsNamedRule es) (given_is _ r e) tt
-
-  case_named : (c : Context) (ls rs : List TypedName) → IsGoalOver c ls rs (goal_of q.conclusion) → (a : Acts) (f : Node) → IsReadTree f → Gives (sided_case_rule ds q a f)
-  case_named c ls rs w on.All f l r e = by_test (judges_bodies (out-Term q.conclusion).head) e
-    where
-      of_bodies_case : (b : BodyRule) → case_of_bodies ds q f (goal_of q.conclusion) ≡ given b → IsNamedRule es b
-      of_bodies_case b e = let o = given_bind (said_of_bodies ds q f (goal_of q.conclusion)) _ b e in subst (IsNamedRule es) (given_is _ b o.2) (case_by_named c ls rs o.0 (said_named c ls rs f l (goal_of q.conclusion) n.conclusion w o.0 o.1))
-
-      by_test : (b : Bool) → (if b then of_bodies_rule (case_of_bodies ds q f (goal_of q.conclusion)) else case_of_conclusion ds q f) ≡ given r → AreNamedArguments es r
-      by_test true e = of_bodies_named (case_of_bodies ds q f (goal_of q.conclusion)) of_bodies_case r e
-      by_test false e = let a = given_bind (formed ds q f) _ r e in subst (AreNamedArguments es) (given_is _ r a.2) (formed_named f l a.0 a.1)
-  case_named c ls rs w on.Left f l r e = subst (AreNamedArguments es) (given_is _ r e) tt
-  case_named c ls rs w on.Right f l r e = subst (AreNamedArguments es) (given_is _ r e) tt
-
-  kept_named : (c : Context) (ls rs : List TypedName) → IsGoalOver c ls rs (goal_of q.conclusion) → (a : Acts) (f : Node) → IsReadTree f → Gives (while_rule ds q a f)
-  kept_named c ls rs w a f l r e =
-      let o = given_bind (said_of_bodies ds q f (goal_of q.conclusion)) _ r e in
-      subst (AreNamedArguments es) (given_is _ r o.2) (kept_by_named c ls rs a o.0 (said_named c ls rs f l (goal_of q.conclusion) n.conclusion w o.0 o.1))
-
   module _ (c : Context) (ls rs : List TypedName) (w : IsGoalOver c ls rs (goal_of q.conclusion)) where
     looping_named : (h : Kind) (x : List ℕ) (ps : List Node) → (h ≡ text.Name → is_name_text x ≡ true) → HasItsNames h ps → AreRead ps → (p : Place) → Gives (looping_rule ds q h x ps p)
-    looping_named text.WhileStep x (b ∷ f ∷ []) v s l p r e = kept_named c ls rs w (acts (parts_of b)) f l.1.0 r e
+    looping_named text.WhileStep x (b ∷ f ∷ []) v s l p r e = kept_named forms es ds k q n c ls rs w (acts (parts_of b)) f l.1.0 r e
     looping_named text.WhileStep x [] v s l p r e = none_built p r e
     looping_named text.WhileStep x (a ∷ []) v s l p r e = none_built p r e
     looping_named text.WhileStep x (a ∷ b ∷ d ∷ ps) v s l p r e = none_built p r e
@@ -672,17 +410,17 @@ module _ (forms : OfForms) (es : List Enumeration) (ds : Declarations) (k : IsNa
 
     typed_named : (h : Kind) (x : List ℕ) (ps : List Node) → (h ≡ text.Name → is_name_text x ≡ true) → HasItsNames h ps → AreRead ps → (p : Place) → Gives (typed_rule ds q h x ps p)
     typed_named text.Proc x (b ∷ i ∷ []) v s l p r e = let a = given_bind (absent (parts_of i) p) _ r e in subst (AreNamedArguments es) (given_is _ r a.2) (on_all_named (acts (parts_of b)) on_bodies.Proc tt)
-    typed_named text.Rnd x (b ∷ fs) v s l p r e = drawing_named c ls rs (acts (parts_of b)) (functions_of fs) (functions_read fs l.1) n.conclusion w r e
+    typed_named text.Rnd x (b ∷ fs) v s l p r e = drawing_named forms es ds k q n c ls rs (acts (parts_of b)) (functions_of fs) (functions_read fs l.1) n.conclusion w r e
     typed_named text.BodyStep x (b ∷ []) v s l p r e = named_named x (acts (parts_of b)) p r e
     typed_named text.Seq x (b ∷ m ∷ ms ∷ t ∷ bounds ∷ []) v s l p r e =
         let a = given_bind (absent (parts_of bounds) p) _ r e in
-        of_bodies_named _ (seq_named c ls rs w (acts (parts_of b)) (cut_of m (parts_of ms)) t l.1.1.1.0) r a.2
+        of_bodies_named forms es ds k q n _ (seq_named forms es ds k q n c ls rs w (acts (parts_of b)) (cut_of m (parts_of ms)) t l.1.1.1.0) r a.2
     typed_named text.Conseq x (b ∷ pre ∷ post ∷ bound ∷ []) v s l p r e =
-        of_bodies_named _ (conseq_all c ls rs w (acts (parts_of b)) (parts_of pre) (parts_of post) (parts_of bound) (parts_read pre l.1.0) (parts_read post l.1.1.0) (parts_read bound l.1.1.1.0)) r e
+        of_bodies_named forms es ds k q n _ (conseq_all forms es ds k q n c ls rs w (acts (parts_of b)) (parts_of pre) (parts_of post) (parts_of bound) (parts_read pre l.1.0) (parts_read post l.1.1.0) (parts_read bound l.1.1.1.0)) r e
     typed_named text.CallStep x (b ∷ m ∷ []) v s l p r e = call_named (acts (parts_of b)) (head_of m) (parts_of m) (parts_read m l.1.0) p r e
     typed_named text.Transitivity x (b ∷ m ∷ []) v s l p r e = transitive_named (acts (parts_of b)) (head_of m) (parts_of m) (parts_read m l.1.0) p r e
     typed_named text.PlainStep x [] v s l p r e = let a = given_bind (conclusion_rule x p) _ r e in subst (AreNamedArguments es) (given_is _ r a.2) (conclusion_named x p a.0 a.1)
-    typed_named text.CaseStep x (b ∷ f ∷ []) v s l p r e = case_named c ls rs w (acts (parts_of b)) f l.1.0 r e
+    typed_named text.CaseStep x (b ∷ f ∷ []) v s l p r e = case_named forms es ds k q n c ls rs w (acts (parts_of b)) f l.1.0 r e
     typed_named text.HaveForm x (m ∷ f ∷ []) v s l p r e = have_named m f s l.1.0 r e
     typed_named text.Witness x (t ∷ []) v s l p r e = let a = given_bind (witness_rule ds q t) _ r e in subst (AreNamedArguments es) (given_is _ r a.2) (witness_named t l.0 a.0 a.1)
     typed_named text.Smt x hints v s l p r e = let a = given_bind (all_hinted ds q hints) _ r e in subst (AreNamedArguments es) (given_is _ r a.2) tt

@@ -213,7 +213,7 @@ module _ (g : Setting) (inhabited : IsInhabited g.types) (once : (a : Name) → 
 
   -- Formulas.
   mutual
-    pub formula_fits : (c : Context) (T : Reading) → Agrees c T → (t : Term) → IsFormula c t → Fits g T t
+    formula_fits : (c : Context) (T : Reading) → Agrees c T → (t : Term) → IsFormula c t → Fits g T t
     formula_fits c T a (Term' p (more_of-Head (head.AllModule b) end_of-Head) n ts u) w = tt
     formula_fits c T a (Term' p (more_of-Head (head.All v) end_of-Head) n ts u) w =
         by_choice (last_has_module ts) (λ w. last_fits (within c (value v) None) (inner no_variables T) (agrees_under c T a (value v) None) ts w.1)

@@ -24,7 +24,7 @@ use Rattle.gb_laws.specs.Operators.{item}
 use Rattle.gb_typing.specs.Context.{Frame, Context, frame_of}
 use Rattle.gb_typing.specs.Typing.{IsIn, IsForm}
 use Rattle.gb_typing.specs.Scopes.{context_of, IsTypedScope}
-use Rattle.gb_typing.specs.Sequents.{AreFormulas, of_sequent, IsTypedSequent}
+use Rattle.gb_typing.specs.Sequents.{AreHypotheses, of_sequent, IsTypedSequent}
 use Rattle.gb_typing.proofs.Models.{each_setting}
 use Rattle.gb_typing.proofs.Lifted.{sequent_outermost}
 use Rattle.gb_smt_laws.specs.Reading.{no_variables, Reading}
@@ -33,7 +33,7 @@ use Rattle.gb_smt_laws.specs.Fits.{Fits}
 use Rattle.gb_smt_laws.proofs.Equations.{none_some}
 use Rattle.gb_smt_laws.proofs.Start.{place_below}
 use Rattle.gb_smt_laws.proofs.Rule.{each_program}
-use Rattle.gb_smt_laws.proofs.Fitting.{variables_in, in_type, held, in_frame, Agrees, fits, formula_fits, conclusion_fits}
+use Rattle.gb_smt_laws.proofs.Fitting.{variables_in, in_type, held, in_frame, Agrees, fits, conclusion_fits}
 
 -- a logical variable is read at its type
 logical_read : (xs : List TypedName) (i : ℕ) (u : Ty) → item (map (λ x. x.ty) xs) i ≡ Some u → get_or (map (λ x. Some x.ty) xs) i None ≡ Some u
@@ -72,9 +72,9 @@ module _ (ds : Declarations) (g : Setting) (inhabited : IsInhabited g.types) (on
   agrees : Agrees c T
   agrees = record { logical = logical_read q.logical; memory = memory_read }
 
-  hypotheses_fit : (hs : List Hyp) → AreFormulas c hs → UsedFit g T hs
+  hypotheses_fit : (hs : List Hyp) → AreHypotheses c hs → UsedFit g T hs
   hypotheses_fit [] k = tt
-  hypotheses_fit (h ∷ hs) k = (λ e. formula_fits g inhabited once c T agrees h.form k.0, hypotheses_fit hs k.1)
+  hypotheses_fit (h ∷ hs) k = (λ e. fits g inhabited once c T agrees h.form k.0.typed, hypotheses_fit hs k.1)
 
   forms_fit : (fs : List Term) → AllByRecursion (IsForm c) fs → AllByRecursion (Fits g T) fs
   forms_fit [] w = tt

@@ -29,9 +29,8 @@ use Rattle.gb_typing.specs.Context.{Context, procedure as procedure_at, of_progr
 use Rattle.gb_typing.specs.Modules.{ProcedureType}
 use Rattle.gb_typing.specs.Goals.{IsGoalOver}
 use Rattle.gb_typing.specs.Programs.{IsExpression, AreArguments, IsCall, IsStatement, AreStatements, EachStatement}
-use Rattle.gb_typing.specs.Sequents.{IsConclusion, of_sequent, AreFormulas, IsTypedSequent}
+use Rattle.gb_typing.specs.Sequents.{IsConclusion, of_sequent, AreHypotheses, IsTypedSequent}
 use Rattle.gb_typing.specs.Scopes.{context_of}
-use Rattle.gb_typing.proofs.Conclusions.{formula_form}
 use Rattle.gb_typing.proofs.Shapes.{goal_form, node_out}
 use Rattle.gb_typing.proofs.TypedGoals.{conclusion_goal}
 use Rattle.gb_shapes.specs.declared.place.Enumeration.{Enumeration}
@@ -178,11 +177,9 @@ module _ (es : List Enumeration) where
       let typed = k.0 in
       subst (IsSpeltConclusion at) (goal_form g k.1) (goal_spelt es at f c typed.0 typed.1 (goal_of g) typed.2 x)
 
-  hyps_spelt : (at : Place) → Fits es at → (c : Context) (hs : List Hyp) → AreFormulas c hs → AllByRecursion (IsNamedHyp es) hs → AreSpeltHyps at hs
+  hyps_spelt : (at : Place) → Fits es at → (c : Context) (hs : List Hyp) → AreHypotheses c hs → AllByRecursion (IsNamedHyp es) hs → AreSpeltHyps at hs
   hyps_spelt at f c [] w x = s.no_hyps
-  hyps_spelt at f c (h ∷ hs) w x =
-      let k = formula_form c h.form w.0 (no_module h.form x.0.1) in
-      s.one_hyp x.0.0 (form_spelt es f c h.form k.typed x.0.1) (hyps_spelt at f c hs w.1 x.1)
+  hyps_spelt at f c (h ∷ hs) w x = s.one_hyp x.0.0 (form_spelt es f c h.form w.0.typed x.0.1) (hyps_spelt at f c hs w.1 x.1)
 
 variables_written : (at : Place) → at.bound ≡ [] → (vs : List TypedName) → AllByRecursion IsNamedVariable vs → AreWrittenVariables at vs
 variables_written at e [] x = no_variables

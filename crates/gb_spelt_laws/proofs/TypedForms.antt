@@ -21,7 +21,7 @@ use Rattle.gb_shapes.specs.declared.place.Known.{Known}
 use Rattle.gb_shapes.specs.Names.{Place}
 use Rattle.gb_print_names.specs.Names.{shown_name, typed_name}
 use Rattle.gb_print_names.specs.Occurring.{inside, judgment_locals}
-use Rattle.gb_readback.specs.Written.{is_word, is_name_text, is_path, is_path_there, is_name_there, is_side_here, is_variable_here, is_read_here, is_memory_here, below, IsWrittenProcedure, IsWrittenHead, IsWritten, AreWritten}
+use Rattle.gb_readback.specs.Written.{is_word, is_name_text, is_path, is_path_there, is_name_there, is_side_here, is_read_here, is_memory_here, below, IsWrittenProcedure, IsWrittenHead, IsWritten, AreWritten}
 use Rattle.gb_readback.specs.Written as w
 use Rattle.gb_readback.proofs.LeavesShown.{one_word, all_bytes}
 use Rattle.gb_readback.proofs.NamesMade.{bound_is_name}

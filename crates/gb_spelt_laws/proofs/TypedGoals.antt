@@ -22,13 +22,13 @@ use Rattle.gb_goal.specs.Scope as scope
 use Rattle.gb_holds.specs.Truth.{has_module}
 use Rattle.gb_holds.specs.Declared.{Declarations}
 use Rattle.gb_laws.specs.Operators.{item}
-use Rattle.gb_laws.specs.Typing.{Binder, IsHead}
+use Rattle.gb_laws.specs.Typing.{IsHead}
 use Rattle.gb_laws.specs.Typing as typed
 use Rattle.gb_typing.specs.Context.{Context, procedure, of_program}
 use Rattle.gb_typing.specs.Modules.{ProcedureType}
 use Rattle.gb_typing.specs.Goals.{IsCode, IsTypedGoal}
 use Rattle.gb_typing.specs.Programs.{IsExpression, AreArguments, IsCall, IsStatement, EachStatement}
-use Rattle.gb_typing.specs.Sequents.{IsConclusion, of_sequent, AreFormulas, IsTypedSequent}
+use Rattle.gb_typing.specs.Sequents.{IsConclusion, of_sequent, AreHypotheses, IsTypedSequent}
 use Rattle.gb_typing.specs.Scopes.{context_of}
 use Rattle.gb_typing.proofs.Lifted.{sequent_outermost}
 use Rattle.gb_typing.proofs.Lists.{each_hidden, typed_if}
@@ -152,9 +152,9 @@ conclusion_written c at f a k (s.judgment bs type ts) =
 
 -- Goals.
 
-hyps_written : (c : Context) (at : Place) (hs : List Hyp) → Agrees c.logical (length c.named) c.bound at → AreFormulas c hs → AreSpeltHyps at hs → AreWrittenHyps at hs
+hyps_written : (c : Context) (at : Place) (hs : List Hyp) → Agrees c.logical (length c.named) c.bound at → AreHypotheses c hs → AreSpeltHyps at hs → AreWrittenHyps at hs
 hyps_written c at [] a k s.no_hyps = goals.no_hyps
-hyps_written c at (h ∷ hs) a k (s.one_hyp n d ds) = goals.one_hyp n (form_written a (of_formula c h.form k.0) d) (hyps_written c at hs a k.1 ds)
+hyps_written c at (h ∷ hs) a k (s.one_hyp n d ds) = goals.one_hyp n (form_written a (of_term c h.form k.0.typed) d) (hyps_written c at hs a k.1 ds)
 
 variable_named : (at : Place) (vs : List TypedName) → AreWrittenVariables at vs → (i : ℕ) (t : Ty) → item (map (λ x. x.ty) vs) i ≡ Some t → is_path_there (typed_name (slice_get vs i)) ≡ true
 variable_named at [] no_variables i t e = absurd (false≢true (ap is_some e))

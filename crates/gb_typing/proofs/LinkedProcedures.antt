@@ -1,148 +1,62 @@
 -- In a setting of a typed scope each concrete procedure is its body, in which each call means what it names there.
-use Rattle.std.proofs.Common.{◌≡◌, Bool, true, false, ◌||◌, if◌then◌else◌, List, [], ◌∷◌, ◌++◌, Option, Some, None, bytes_eq, refl, ap, sym, ◌∙◌, subst}
-use Rattle.std.specs.List.{list_any}
-use Rattle.std.proofs.lemmas.Bool.{false≢true}
-use Rattle.gb_core.specs.declared.var.Var.{Var}
-use Rattle.gb_terms.specs.declared.decl.Module.{Module}
+use Rattle.std.proofs.Common.{◌≡◌, Bool, true, false, if◌then◌else◌, List, [], ◌∷◌, Option, Some, None, bytes_eq, refl, ap, sym, ◌∙◌, subst}
+use Rattle.std.proofs.Math.Path.{fun_ext}
 use Rattle.gb_terms.specs.declared.decl.Proc.{Proc}
-use Rattle.gb_terms.specs.declared.decl.TypedName.{TypedName}
-use Rattle.gb_terms.specs.declared.module.Mexp.{Mexp, Row_of-Mexp, end_of-Mexp, more_of-Mexp}
+use Rattle.gb_terms.specs.declared.module.Mexp.{Mexp}
 use Rattle.gb_terms.specs.declared.module.Mexp.TheVariants.{Name as named, Apply'}
 use Rattle.gb_terms.specs.declared.module.ProcRef.{ProcRef}
-use Rattle.gb_terms.specs.declared.term.Term.{Term}
-use Rattle.gb_terms.specs.declared.term.Instr.{Instr, Row_of-Instr, end_of-Instr, more_of-Instr}
-use Rattle.gb_terms.specs.declared.term.Head.TheVariants.{Assign, Sample, Call', If', While'}
-use Rattle.gb_goal.specs.declared.scope.Entry.TheVariants as entry
 use Rattle.gb_goal.specs.Scope as scope
-use Rattle.gb_goal.specs.Scope.{proc_at, procedure_of}
-use Rattle.gb_meaning.specs.Commands.{terms_in, statements}
+use Rattle.gb_goal.specs.Scope.{module_of, proc_in, proc_at, procedure_of}
+use Rattle.gb_meaning.specs.Commands.{statements}
 use Rattle.gb_meaning.specs.Names.{Name}
 use Rattle.gb_meaning.specs.Program.{Routine}
 use Rattle.gb_meaning.specs.Program.Routine.{routine}
 use Rattle.gb_meaning.specs.Setting.{Setting}
-use Rattle.gb_holds.specs.Declared.{Declarations, declaration_of, declared, concrete_module}
-use Rattle.gb_holds.specs.Linking.{calling, linked_procedure}
-use Rattle.gb_holds.specs.Modules.{Procedures, Applied, found, module_at, modules_at, procedure_at, no_module, with_module, with_params, with_procedures, module_read, modules_of}
+use Rattle.gb_holds.specs.Declared.{Declarations, declared, abstract_type, abbreviation, operator, abstract_operator, module_type, concrete_module, abstract_module, axiom_of, lemma, terminating}
+use Rattle.gb_holds.specs.Linking.{linked_procedure}
+use Rattle.gb_holds.specs.Modules.{Reading, procedure_at, no_module, with_module, module_read, modules_of}
 use Rattle.gb_holds.specs.Modules as linked
-use Rattle.gb_holds.specs.Naming.{EachCallIn, EachCallOf, IsFresh, IsFreshAmong}
 use Rattle.gb_holds.specs.Settings.{Chosen, Interpretation, types_of, bare as bare_setting, with_operators, with_abstract_programs, linked_modules, setting}
-use Rattle.gb_holds.proofs.Later.{declared_after, fresh_same, same_body}
-use Rattle.gb_holds.proofs.Lists.{declared-append}
-use Rattle.gb_holds.proofs.Procedures.{in_module, in_parts, stays, known}
 use Rattle.gb_typing.specs.Chosen.{chosen_under, AreUnchosen}
-use Rattle.gb_typing.specs.Context.{Context, procedure}
-use Rattle.gb_typing.specs.Modules.{ProcedureType, Interface}
-use Rattle.gb_typing.specs.Programs.{IsCall, AreStatements, EachStatement, IsProcedure, locals_of, type_of_procedure}
-use Rattle.gb_typing.specs.Scopes.{nothing, interface_with, procedure_types, with_declared, with_each, is_declared, AreTypedAfter, IsTypedScope}
-use Rattle.gb_typing.proofs.Located.{Among, among, Located, located, inside, inside_is, plain_inside, types_split}
-use Rattle.gb_typing.proofs.Scripts.{none_some, same_some, same_name, itself, NoneIn, IsBare, name_of, Bare, bare, GrowsPlainly, known_nothing, known_next, parameterless, grown}
-use Rattle.gb_typing.proofs.Settings.{unchosen_module}
-use mathlib.Core.Former.{Count}
+use Rattle.gb_typing.specs.Context.{procedure}
+use Rattle.gb_typing.specs.Scopes.{IsTypedScope}
+use Rattle.gb_typing.proofs.Interfaces.{none_some, same_name}
+use Rattle.gb_typing.proofs.ModulesAlike.{linking-looks}
+use Rattle.gb_typing.proofs.WholeReads.{read_whole}
+use Rattle.gb_typing.proofs.Settings.{chosen_program, unchosen_module}
 
--- What is so of each procedure that has a type is so of each that a body calls.
-module _ (c : Context) (ls : List TypedName) (P : ProcRef → Type 0) (all : (r : ProcRef) (t : ProcedureType) → procedure c r ≡ Some t → P r) where
-  called : (xs : List Var) (r : ProcRef) (es : List Term) (o : Option ProcedureType) → procedure c r ≡ o → IsCall c ls xs o es → P r
-  called xs r es None e w = absurd w
-  called xs r es (Some t) e w = all r t e
-
-  row_calls : {n : Count} (is : Row_of-Instr n) → AreStatements c ls is → EachCallIn P is
-  row_calls end_of-Instr w = tt
-  row_calls (more_of-Instr (Assign xs e) is) w = (tt, row_calls is w.1)
-  row_calls (more_of-Instr (Sample x d) is) w = (tt, row_calls is w.1)
-  row_calls (more_of-Instr (Call' xs r n es) is) w = (called xs r (terms_in es) (procedure c r) refl w.0, row_calls is w.1)
-  row_calls (more_of-Instr (If' e m a n b) is) w = ((row_calls a w.0.1, row_calls b w.0.2), row_calls is w.1)
-  row_calls (more_of-Instr (While' e v n a) is) w = (row_calls a w.0.2, row_calls is w.1)
-
-  each_call : (is : List Instr) → EachStatement c ls is → EachCallOf P is
-  each_call [] w = tt
-  each_call (Assign xs e ∷ is) w = (tt, each_call is w.1)
-  each_call (Sample x d ∷ is) w = (tt, each_call is w.1)
-  each_call (Call' xs r n es ∷ is) w = (called xs r (terms_in es) (procedure c r) refl w.0, each_call is w.1)
-  each_call (If' e m a n b ∷ is) w = ((row_calls a w.0.1, row_calls b w.0.2), each_call is w.1)
-  each_call (While' e v n a ∷ is) w = (row_calls a w.0.2, each_call is w.1)
-
--- Names.
-
-or_true : (a b : Bool) → a ≡ true → (a || b) ≡ true
-or_true true b e = refl
-or_true false b e = absurd (false≢true e)
-
-declared_more : (before es : Declarations) (k : Name) → is_declared before k ≡ true → is_declared (before ++ es) k ≡ true
-declared_more [] es k e = absurd (false≢true e)
-declared_more (d ∷ ds) es k e = step (bytes_eq k d.0) (declared_more ds es k) e
-  where
-    step : (b : Bool) → (is_declared ds k ≡ true → is_declared (ds ++ es) k ≡ true) → (b || is_declared ds k) ≡ true → (b || is_declared (ds ++ es) k) ≡ true
-    step true rest e = refl
-    step false rest e = rest e
-
-declared_last : (before : Declarations) (n : Name) (d : _) → is_declared (before ++ (n, d) ∷ []) n ≡ true
-declared_last [] n d = or_true (bytes_eq n n) false (itself n)
-declared_last (x ∷ xs) n d = step (bytes_eq n x.0) (declared_last xs n d)
-  where
-    step : (b : Bool) → is_declared (xs ++ (n, d) ∷ []) n ≡ true → (b || is_declared (xs ++ (n, d) ∷ []) n) ≡ true
-    step true e = refl
-    step false e = e
-
--- two names of which one is declared and the other one isn't
-other_name : (before : Declarations) (k n : Name) → is_declared before k ≡ true → is_declared before n ≡ false → bytes_eq k n ≡ false
-other_name before k n e f = step (bytes_eq k n) refl
-  where
-    step : (b : Bool) → bytes_eq k n ≡ b → b ≡ false
-    step false q = refl
-    step true q = absurd (false≢true (sym f ∙ sym (ap (is_declared before) (same_name k n q)) ∙ e))
-
--- a name that is declared is no name of a later declaration
-fresh_later : (ds : scope.Declarations) (before : Declarations) (c : Context) → AreTypedAfter c before (declared ds) → (k : Name) → is_declared before k ≡ true → IsFresh (declared ds) k
-fresh_later [] before c w k e = tt
-fresh_later ((n, entry.Module m) ∷ ds) before c w k e = (other_name before k n e w.0, fresh_later ds _ _ w.2 k (declared_more before _ k e))
-fresh_later ((n, entry.Lemma q order) ∷ ds) before c w k e = (other_name before k n e w.0, fresh_later ds _ _ w.2 k (declared_more before _ k e))
-fresh_later ((n, entry.Type t) ∷ ds) before c w k e = (other_name before k n e w.0, fresh_later ds _ _ w.2 k (declared_more before _ k e))
-fresh_later ((n, entry.AbstractType) ∷ ds) before c w k e = (other_name before k n e w.0, fresh_later ds _ _ w.2 k (declared_more before _ k e))
-fresh_later ((n, entry.ModuleType y) ∷ ds) before c w k e = (other_name before k n e w.0, fresh_later ds _ _ w.2 k (declared_more before _ k e))
-fresh_later ((n, entry.Constant a) ∷ ds) before c w k e = (other_name before k n e w.0, fresh_later ds _ _ w.2 k (declared_more before _ k e))
-fresh_later ((n, entry.Operator o) ∷ ds) before c w k e = (other_name before k n e w.0, fresh_later ds _ _ w.2 k (declared_more before _ k e))
-fresh_later ((n, entry.AbstractOperator o) ∷ ds) before c w k e = (other_name before k n e w.0, fresh_later ds _ _ w.2 k (declared_more before _ k e))
-fresh_later ((n, entry.Terminating a) ∷ ds) before c w k e = (other_name before k n e w.0, fresh_later ds _ _ w.2 k (declared_more before _ k e))
-
-listed : (ps : List Proc) (f : Name) (t : ProcedureType) → found (procedure_types ps) f ≡ Some t → list_any (λ q. bytes_eq f q.name) ps ≡ true
-listed [] f t e = none_some t e
-listed (p ∷ ps) f t e = step (bytes_eq f p.name) (listed ps f t) e
-  where
-    step : (b : Bool) → (found (procedure_types ps) f ≡ Some t → list_any (λ q. bytes_eq f q.name) ps ≡ true) → (if b then Some (type_of_procedure p) else found (procedure_types ps) f) ≡ Some t →
-        (b || list_any (λ q. bytes_eq f q.name) ps) ≡ true
-    step true k e = refl
-    step false k e = k e
-
--- what a module by its name alone stands for
-bare_module : (ms : linked.Modules Routine) (m : Mexp) → IsBare m → module_at ms m [] ≡ ms (name_of m) []
-bare_module ms (named n) b = refl
-bare_module ms (Apply' n k args) b = ap (λ fs. ms n (fs ++ [])) (none args b)
-  where
-    none : {j : Count} (args : Row_of-Mexp j) → NoneIn args → modules_at ms args ≡ []
-    none end_of-Mexp b = refl
-    none (more_of-Mexp m r) b = absurd b
-
-module _ (cs : List Chosen) where
-  -- no program is chosen under the name of a module that is known
-  abbrev AreHidden : Context → Type 0
-  AreHidden c = (k : Name) (i : Interface) → c.modules.interfaces k ≡ Some i → chosen_under cs k ≡ None
-
-  hidden : (ds : scope.Declarations) (c : Context) → AreUnchosen cs (declared ds) → AreHidden c → AreHidden (with_each c (declared ds))
-  hidden [] c u h = h
-  hidden ((n, entry.Module m) ∷ ds) c u h = hidden ds (with_declared c n (concrete_module m)) u.1 (λ k i. step k i (bytes_eq k n) refl)
+-- a module with a chosen program stays, where none is chosen under the name of a declared one
+module _ {X : Type 0} (read : Reading X) (cs : List Chosen) (n : Name) (x : Chosen) (e : chosen_under cs n ≡ Some x) where
+  pub chosen_kept : (ds : Declarations) (ms : linked.Modules X) → AreUnchosen cs ds → modules_of read ms ds n ≡ ms n
+  chosen_kept [] ms u = refl
+  chosen_kept ((k, concrete_module m) ∷ ds) ms u = chosen_kept ds (with_module ms k (module_read read ms m)) u.1 ∙ step (bytes_eq n k) refl
     where
-      step : (k : Name) (i : Interface) (b : Bool) → bytes_eq k n ≡ b → (if b then Some (interface_with c.modules.types m.params (procedure_types m.procs)) else c.modules.interfaces k) ≡ Some i →
-          chosen_under cs k ≡ None
-      step k i true q e = ap (chosen_under cs) (same_name k n q) ∙ u.0
-      step k i false q e = h k i e
-  hidden ((n, entry.Lemma q order) ∷ ds) c u h = hidden ds c u h
-  hidden ((n, entry.Type t) ∷ ds) c u h = hidden ds c u h
-  hidden ((n, entry.AbstractType) ∷ ds) c u h = hidden ds c u h
-  hidden ((n, entry.ModuleType y) ∷ ds) c u h = hidden ds c u h
-  hidden ((n, entry.Constant a) ∷ ds) c u h = hidden ds c u h
-  hidden ((n, entry.Operator o) ∷ ds) c u h = hidden ds (with_declared c n (declaration_of (entry.Operator o))) u h
-  hidden ((n, entry.AbstractOperator o) ∷ ds) c u h = hidden ds (with_declared c n (declaration_of (entry.AbstractOperator o))) u h
-  hidden ((n, entry.Terminating a) ∷ ds) c u h = hidden ds c u h
+      step : (b : Bool) → bytes_eq n k ≡ b → (if b then module_read read ms m else ms n) ≡ ms n
+      step true h = none_some x (sym (ap (chosen_under cs) (same_name n k h) ∙ u.0) ∙ e)
+      step false h = refl
+  chosen_kept ((k, abstract_type) ∷ ds) ms u = chosen_kept ds ms u
+  chosen_kept ((k, abbreviation a) ∷ ds) ms u = chosen_kept ds ms u
+  chosen_kept ((k, operator o) ∷ ds) ms u = chosen_kept ds ms u
+  chosen_kept ((k, abstract_operator o) ∷ ds) ms u = chosen_kept ds ms u
+  chosen_kept ((k, module_type t) ∷ ds) ms u = chosen_kept ds ms u
+  chosen_kept ((k, abstract_module b) ∷ ds) ms u = chosen_kept ds ms u
+  chosen_kept ((k, axiom_of q) ∷ ds) ms u = chosen_kept ds ms u
+  chosen_kept ((k, lemma q) ∷ ds) ms u = chosen_kept ds ms u
+  chosen_kept ((k, terminating f) ∷ ds) ms u = chosen_kept ds ms u
+
+module _ (ds : Declarations) (h : Setting) (cs : List Chosen) (u : AreUnchosen cs ds) where
+  abbrev chosen : linked.Modules Routine
+  chosen = with_abstract_programs ds cs (λ k. no_module)
+
+  -- the linked modules are the declared ones over the chosen ones
+  pub linked_is : (n : Name) → linked_modules ds h cs n ≡ modules_of (linked_procedure h) chosen ds n
+  linked_is n = step (chosen_under cs n) refl
+    where
+      step : (o : Option Chosen) → chosen_under cs n ≡ o → linked_modules ds h cs n ≡ modules_of (linked_procedure h) chosen ds n
+      step None e = unchosen_module ds cs (modules_of (linked_procedure h) chosen ds) n e
+      step (Some x) e =
+          chosen_program ds cs (modules_of (linked_procedure h) chosen ds) n x e ∙ sym (chosen_program ds cs (λ k. no_module) n x e)
+          ∙ sym (chosen_kept (linked_procedure h) cs n x e ds chosen u)
 
 module _ (ds : scope.Declarations) (scoped : IsTypedScope (declared ds)) (i : Interpretation) (unchosen : AreUnchosen i.programs (declared ds)) where
   abbrev g : Setting
@@ -151,116 +65,15 @@ module _ (ds : scope.Declarations) (scoped : IsTypedScope (declared ds)) (i : In
   abbrev h : Setting
   h = with_operators i.table (bare_setting (types_of (declared ds) i) i.table) (declared ds)
 
-  abbrev base : linked.Modules Routine
-  base = with_abstract_programs (declared ds) i.programs (λ k. no_module)
-
-  abbrev final : linked.Modules Routine
-  final = linked_modules (declared ds) h i.programs
-
-  module _ (n f : Name) (p : Proc) (l : Located ds nothing n f p) (a : Among l.around l.found [] l.found.procs f p) where
-    abbrev m : Module
-    m = l.found
-
-    abbrev env : linked.Modules Routine
-    env = modules_of (linked_procedure h) base (declared l.front)
-
-    abbrev next : Context
-    next = with_declared l.around n (concrete_module l.found)
-
-    abbrev ending : linked.Modules Routine
-    ending = modules_of (linked_procedure h) (with_module env n (module_read (linked_procedure h) env l.found)) (declared l.after)
-
-    after_next : GrowsPlainly next (with_each next (declared l.after))
-    after_next = (grown l.after (l.names ++ (n, concrete_module l.found) ∷ []) next l.later (known_next l.around n l.found l.typed l.names l.known)).0
-
-    next_hidden : (k : Name) (j : Interface) → next.modules.interfaces k ≡ Some j → chosen_under i.programs k ≡ None
-    next_hidden k j e =
-        let z = after_next.interface k j e in
-        hidden i.programs ds nothing unchosen (λ k i e. none_some i e) k z.0 (subst (λ c. c.modules.interfaces k ≡ Some z.0) (sym l.whole) z.1)
-
-    ending_is : modules_of (linked_procedure h) base (declared ds) ≡ ending
-    ending_is =
-        ap (λ z. modules_of (linked_procedure h) base (declared z)) l.place
-        ∙ ap (modules_of (linked_procedure h) base) (declared-append l.front ((n, entry.Module l.found) ∷ l.after))
-        ∙ declared_after (linked_procedure h) base (declared l.front) ((n, concrete_module l.found) ∷ declared l.after)
-
-    final_here : final n ≡ module_read (linked_procedure h) env l.found
-    final_here =
-        unchosen_module (declared ds) i.programs _ n (next_hidden n _ (ap (λ b. if b then Some (interface_with l.around.modules.types l.found.params (procedure_types l.found.procs)) else l.around.modules.interfaces n) (itself n)))
-        ∙ (λ j. ending_is j n)
-        ∙ fresh_same (linked_procedure h) (with_module env n (module_read (linked_procedure h) env l.found)) (declared l.after) n (fresh_later l.after _ _ l.later n (declared_last l.names n (concrete_module l.found)))
-        ∙ ap (λ b. if b then module_read (linked_procedure h) env l.found else env n) (itself n)
-
-    known_declared : (k : Name) (j : Interface) → l.around.modules.interfaces k ≡ Some j → is_declared l.names k ≡ true
-    known_declared k j e = step (is_declared l.names k) refl
-      where
-        step : (b : Bool) → is_declared l.names k ≡ b → b ≡ true
-        step true q = refl
-        step false q = let w = l.known in none_some j (sym (w.interfaces k q) ∙ e)
-
-    final_other : (k : Name) (j : Interface) → l.around.modules.interfaces k ≡ Some j → final k ≡ env k
-    final_other k j e =
-        let there = known_declared k j e in
-        let apart : bytes_eq k n ≡ false = other_name l.names k n there l.free in
-        unchosen_module (declared ds) i.programs _ k (next_hidden k j (ap (λ b. if b then Some (interface_with l.around.modules.types l.found.params (procedure_types l.found.procs)) else l.around.modules.interfaces k) apart ∙ e))
-        ∙ (λ j. ending_is j k)
-        ∙ fresh_same (linked_procedure h) (with_module env n (module_read (linked_procedure h) env l.found)) (declared l.after) k (fresh_later l.after _ _ l.later k (declared_more l.names _ k there))
-        ∙ ap (λ b. if b then module_read (linked_procedure h) env l.found else env k) apart
-
-    abbrev earlier : Applied Routine
-    earlier = with_procedures (linked_procedure h) env l.found no_module a.front
-
-    abbrev callee : ProcRef → Option Routine
-    callee = procedure_at (with_params (with_module env l.found.name earlier) l.found.params [])
-
-    final_procedures : (k : Name) (x : Routine) → found (earlier []) k ≡ Some x → found (final n []) k ≡ Some x
-    final_procedures k x e =
-        ap (λ (z : Applied Routine). found (z []) k) final_here
-        ∙ ap (λ z. found (with_procedures (linked_procedure h) env l.found no_module z []) k) a.place
-        ∙ ap (λ (z : Applied Routine). found (z []) k) (in_parts (linked_procedure h) env l.found no_module a.front (p ∷ a.after))
-        ∙ stays (linked_procedure h) env l.found earlier (p ∷ a.after) [] k x e
-
-    split : procedure_types l.found.procs ≡ procedure_types a.front ++ procedure_types (p ∷ a.after)
-    split = types_split l.found.procs a.front (p ∷ a.after) a.place
-
-    abbrev seen : Context
-    seen = inside l.around n l.found l.typed l.known.plain (procedure_types a.front) (procedure_types (p ∷ a.after)) split
-
-    callee_named : (k q : Name) (j : Interface) (t : ProcedureType) → seen.modules.interfaces k ≡ Some j → found j.procedures q ≡ Some t → found (with_module env n earlier k []) q ≡ found (final k []) q
-    callee_named k q j t e z = step (bytes_eq k n) refl e
-      where
-        step : (b : Bool) → bytes_eq k n ≡ b → (if b then Some (interface_with l.around.modules.types l.found.params (procedure_types a.front)) else l.around.modules.interfaces k) ≡ Some j →
-            found ((if b then earlier else env k) []) q ≡ found (final k []) q
-        step true s e =
-            let y = known (linked_procedure h) env l.found no_module a.front [] q refl
-            (listed a.front q t (subst (λ v. found v.procedures q ≡ Some t) (sym (same_some (interface_with l.around.modules.types l.found.params (procedure_types a.front)) j e)) z)) in
-            y.1 ∙ sym (final_procedures q y.0 y.1) ∙ sym (ap (λ v. found (final v []) q) (same_name k n s))
-        step false s e = sym (ap (λ (v : Applied Routine). found (v []) q) (final_other k j e))
-
-    callee_same : (r : ProcRef) (t : ProcedureType) → procedure seen r ≡ Some t → callee r ≡ procedure_at final r
-    callee_same r t e =
-        let b : Bare seen.modules r t = bare seen.modules (plain_inside l.around n l.found l.typed l.known.plain (procedure_types a.front) (procedure_types (p ∷ a.after)) split) r t e in
-        (λ z. procedure_at (with_params (with_module env (let w = l.typed in w.name z) earlier) (parameterless l.around n l.found l.typed l.known.plain z) []) r)
-        ∙ ap (λ v. found v r.name) (bare_module (with_module env n earlier) r.«module» b.bare)
-        ∙ callee_named (name_of r.«module») r.name b.interface t b.there b.procedure
-        ∙ sym (ap (λ v. found v r.name) (bare_module final r.«module» b.bare))
-
-    calls : EachCallOf (λ r. callee r ≡ procedure_at final r) p.body.list
-    calls =
-        let typed : IsProcedure seen p = subst (λ c. IsProcedure c p) (inside_is l.around n l.found l.typed l.known.plain (procedure_types a.front) (procedure_types (p ∷ a.after)) split) a.typed in
-        each_call seen (locals_of p) (λ r. callee r ≡ procedure_at final r) callee_same p.body.list (let w = typed.body in w.statements)
-
-    linked_here : g.procedure (record { «module» = named n; name = f }) ≡ Some (routine p.params p.locals (statements g p.body.list) p.value)
-    linked_here =
-        ap (λ (z : Applied Routine). found (z []) f) final_here
-        ∙ ap (found (module_read (linked_procedure h) env l.found [])) a.name
-        ∙ in_module (linked_procedure h) env l.found a.front a.after p a.place (subst (IsFreshAmong a.front) a.name a.fresh) []
-        ∙ ap (λ c. Some (routine p.params p.locals c p.value)) (same_body (calling h callee) g p.body.list calls)
+  linked_at : (n f : Name) (p : Proc) → proc_in (module_of ds n) f ≡ Some p →
+      g.procedure (record { «module» = named n; name = f }) ≡ Some (routine p.params p.locals (statements g p.body.list) p.value)
+  linked_at n f p e =
+      subst (λ (ms : linked.Modules Routine). procedure_at ms (record { «module» = named n; name = f }) ≡ Some (linked_procedure h (procedure_at ms) p))
+      (sym (fun_ext (linked_is (declared ds) h i.programs unchosen)))
+      (read_whole (linked_procedure h) (linking-looks h) (chosen (declared ds) h i.programs unchosen) ds scoped n f p e)
 
   linked_in : (m : Mexp) (f : Name) (p : Proc) → proc_at ds m f ≡ Some p → g.procedure (record { «module» = m; name = f }) ≡ Some (routine p.params p.locals (statements g p.body.list) p.value)
-  linked_in (named n) f p e =
-      let l : Located ds nothing n f p = located ds [] nothing scoped known_nothing n f p e in
-      linked_here n f p l (among l.around l.found l.found.procs [] (let w = l.typed in w.procs) f p l.procedure)
+  linked_in (named n) f p e = linked_at n f p e
   linked_in (Apply' n k args) f p e = none_some p e
 
   -- a concrete procedure is its body

@@ -19,6 +19,7 @@ use Rattle.gb_holds.specs.Linking.{calling, linked_procedure}
 use Rattle.gb_holds.specs.Footprints.{of_callee, variables, variables_in, touched, touched_in, body_touched, globals_among, in_order, var_order, footprint_read}
 use Rattle.gb_holds.specs.Naming.{EachName, EachCall, EachCallIn, EachCallOf, IsFresh}
 use Rattle.gb_holds.proofs.Later.{same_module, same_body}
+pub use Rattle.gb_typing.specs.Alike.{LooksAtCalls}
 use Rattle.gb_typing.specs.Naming.{IsKept}
 use Rattle.gb_typing.specs.Added.{param_names, CodesName, ModulesName}
 use Rattle.gb_typing.proofs.KeptNames.{unless, kept-behind, each-name}
@@ -39,10 +40,6 @@ module _ (P Q : ProcRef → Type 0) (f : (r : ProcRef) → P r → Q r) where
   pub body-map : (is : List Instr) → EachCallOf P is → EachCallOf Q is
   body-map [] h = tt
   body-map (i ∷ is) h = (call-map i h.0, body-map is h.1)
-
--- a reading looks at the procedures that are called alone
-abbrev pub LooksAtCalls : {X : Type 0} → Reading X → Type 0
-LooksAtCalls {X} read = (f g : ProcRef → Option X) (p : Proc) → EachCallOf (λ r. f r ≡ g r) p.body.list → read f p ≡ read g p
 
 pub linking-looks : (g : Setting) → LooksAtCalls (linked_procedure g)
 linking-looks g e f p h = ap (λ c. routine p.params p.locals c p.value) (same_body (calling g e) (calling g f) p.body.list h)

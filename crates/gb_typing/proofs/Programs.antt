@@ -26,6 +26,7 @@ use Rattle.gb_holds.specs.Typing.{Names, type_of, IsValueOf, IsDistributionOver,
 use Rattle.gb_holds.specs.Adversary.{Adversary, type_named, may_call, oracle_signature, callable, each_linked, with_oracles}
 use Rattle.gb_holds.specs.Programs.{IfThere, IsProcedureFor, HasProcedures, IsProgramFor, AreNamed}
 use Rattle.gb_holds.proofs.EachProgram.{found-each_linked}
+use Rattle.gb_typing.specs.Alike.{SameParams}
 use Rattle.gb_typing.specs.Modules.{ProcedureType, signature_types, signatures_of, functor_type, of_functor_type}
 use Rattle.gb_typing.specs.Fits.{IsOfType}
 use Rattle.gb_typing.proofs.Provided.{is_some, or_else, AreGiven, IsApplied}
@@ -93,11 +94,7 @@ module _ (g : Setting) (ss : Oracle → Option Signature) (os : Oracles) (all : 
 
 module _ (g : Setting) (ds : Declarations) (types : Name → Option ModuleType) where
   -- the parameters' module types have the signatures that are declared
-  abbrev pub SameParams : List Param → Type 0
-  SameParams [] = Unit {0}
-  SameParams (p ∷ ps) = (signatures_of (types p.ty) ≡ (type_named ds p.ty).signatures) × SameParams ps
-
-  answers : (ps : List Param) (gs : List (Procedures Routine)) → SameParams ps → AreGiven g (map (λ p. signature_types (signatures_of (types p.ty))) ps) gs →
+  answers : (ps : List Param) (gs : List (Procedures Routine)) → SameParams ds types ps → AreGiven g (map (λ p. signature_types (signatures_of (types p.ty))) ps) gs →
       (o : Oracle) (s : Signature) → oracle_signature ds ps o ≡ Some s → IfThere (IsSoundRoutine g) (oracle_of ps gs o)
   answers [] gs k w o s e = absurd (false≢true (ap there e))
   answers (p ∷ ps) [] k w o s e = absurd w
@@ -111,7 +108,7 @@ module _ (g : Setting) (ds : Declarations) (types : Name → Option ModuleType) 
           subst (IfThere (IsSoundRoutine g)) (sym y.1) (let z = y.2 in z.sound)
       step later false h = later h
 
-  module _ (t : ModuleType) (same : SameParams t.params) (a : Adversary) (os : Oracles)
+  module _ (t : ModuleType) (same : SameParams ds types t.params) (a : Adversary) (os : Oracles)
       (all : (o : Oracle) (s : Signature) → oracle_signature ds t.params o ≡ Some s → IfThere (IsSoundRoutine g) (os o)) where
     called : (s : Signature) (o : Oracle) (u : Signature) → callable ds t s o ≡ Some u → IfThere (IsSoundRoutine g) (os o)
     called s o u = step (may_call s.oracles o)
@@ -139,7 +136,7 @@ module _ (g : Setting) (ds : Declarations) (types : Name → Option ModuleType) 
         step later false h e = later e
 
   -- the program, with modules for its parameters
-  pub program_applied : (t : ModuleType) → SameParams t.params → (w : World) (a : Adversary) → IsProgramFor ds g w t a → AreNamed a t.signatures →
+  pub program_applied : (t : ModuleType) → SameParams ds types t.params → (w : World) (a : Adversary) → IsProgramFor ds g w t a → AreNamed a t.signatures →
       IsApplied g (Exact g) (of_functor_type (functor_type types (Some t))) (with_oracles t a)
   program_applied t same w a p k fs f n u e =
       each_exact t same a (oracle_of t.params (map (λ m. m []) fs))

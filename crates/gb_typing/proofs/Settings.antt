@@ -20,6 +20,7 @@ use Rattle.gb_holds.specs.Programs.{AreOnce, IsProgramFor, AreNamed}
 use Rattle.gb_goal.specs.declared.sequent.Sequent.{Sequent}
 use Rattle.gb_terms.specs.declared.decl.TypedName.{TypedName}
 use Rattle.gb_laws.specs.Context as typed
+use Rattle.gb_typing.specs.Alike.{SameParams}
 use Rattle.gb_typing.specs.Modules.{ProcedureType, Interface, Modules, signatures_of, functor_type, of_functor_type}
 use Rattle.gb_typing.specs.Context.{Context, procedure, erased}
 use Rattle.gb_typing.specs.Fits.{IsOfType, IsSettingOf}
@@ -31,17 +32,17 @@ use Rattle.gb_typing.proofs.Once.{footprints_once}
 use Rattle.gb_typing.proofs.Provided.{like, IsApplied, procedure_stands}
 use Rattle.gb_typing.proofs.ReadModules.{Exact}
 use Rattle.gb_typing.proofs.Declared.{is_there, ProgramsAt, Stand, Keeps, named_stands, scope_stands}
-use Rattle.gb_typing.proofs.Programs.{SameParams, program_applied}
+use Rattle.gb_typing.proofs.Programs.{program_applied}
 
 abbrev has_one : Option ModuleType → Bool
 has_one None = false
 has_one (Some t) = true
 
-abbrev type_or : ModuleType → Option ModuleType → ModuleType
+abbrev pub type_or : ModuleType → Option ModuleType → ModuleType
 type_or t None = t
 type_or t (Some u) = u
 
-abbrev chosen_or : Chosen → Option Chosen → Chosen
+abbrev pub chosen_or : Chosen → Option Chosen → Chosen
 chosen_or c None = c
 chosen_or c (Some y) = y
 
@@ -74,7 +75,7 @@ known_more ms n t (p ∷ ps) k = (step (bytes_eq p.ty n) k.0, known_more ms n t 
     step true k = tt
     step false k = k
 
-are_known : (ms : Modules) (ps : List Param) → AreParams ms ps → AreKnown ms.types ps
+pub are_known : (ms : Modules) (ps : List Param) → AreParams ms ps → AreKnown ms.types ps
 are_known ms [] w = tt
 are_known ms (p ∷ ps) w = (w.0.0, are_known (with_param ms p) ps w.1)
 
@@ -120,7 +121,7 @@ module _ (all : Declarations) (i : Interpretation) where
   abbrev base : linked.Modules Routine
   base = with_abstract_programs all i.programs (λ k. no_module)
 
-  same_params : (types : Name → Option ModuleType) → Agree all types → (ps : List Param) → AreKnown types ps → SameParams g all types ps
+  pub same_params : (types : Name → Option ModuleType) → Agree all types → (ps : List Param) → AreKnown types ps → SameParams all types ps
   same_params types a [] k = tt
   same_params types a (p ∷ ps) k = (step (types p.ty) refl k.0, same_params types a ps k.1)
     where
@@ -149,10 +150,10 @@ module _ (all : Declarations) (i : Interpretation) where
         step (Some t) e k None c w = absurd w
         step (Some t) e k (Some x) c w = (x, c, of_type t e x c w ms)
 
-  abbrev next : (before : Declarations) (d : Name × Declaration) (ds : Declarations) → before ++ d ∷ ds ≡ all → (before ++ d ∷ []) ++ ds ≡ all
+  abbrev pub next : (before : Declarations) (d : Name × Declaration) (ds : Declarations) → before ++ d ∷ ds ≡ all → (before ++ d ∷ []) ++ ds ≡ all
   next before d ds e = append_assoc before (d ∷ []) ds ∙ e
 
-  with_next_type : (before : Declarations) (n : Name) (t : ModuleType) (ds : Declarations) → before ++ (n, module_type t) ∷ ds ≡ all → (c : Context) → Agree all c.modules.types →
+  pub with_next_type : (before : Declarations) (n : Name) (t : ModuleType) (ds : Declarations) → before ++ (n, module_type t) ∷ ds ≡ all → (c : Context) → Agree all c.modules.types →
       is_declared before n ≡ false → AreParams c.modules t.params → Agree all (with_type c.modules n t).types
   with_next_type before n t ds e c a f w = agree_more all c.modules a n t w (ap (λ z. module_type_of z n) (sym e) ∙ first_type before n (module_type t) ds f)
 

@@ -21,3 +21,7 @@ pub mod Rules
 pub mod Forms
 pub mod Supports
 pub mod Samplings
+pub mod Alike
+pub mod Following
+pub mod Instances
+pub mod Suits

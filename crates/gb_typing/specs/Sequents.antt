@@ -12,7 +12,7 @@ use Rattle.gb_laws.specs.Operators.{item}
 use Rattle.gb_laws.specs.Typing.{types_of, IsHead}
 use Rattle.gb_laws.specs.Programs.{HaveFiniteTypes}
 use Rattle.gb_typing.specs.Context.{Context, erased, with_own, with_sides}
-use Rattle.gb_typing.specs.Typing.{AreTyped}
+use Rattle.gb_typing.specs.Typing.{AreTyped, IsForm}
 use Rattle.gb_typing.specs.Programs.{AreStatements, HaveVariableTypes}
 use Rattle.gb_typing.specs.Formulas.{IsBinder, with_module, IsFormula}
 
@@ -53,9 +53,10 @@ AreBinders c (b ∷ bs) = IsBinder c b × AreBinders (with_module c b) bs
 abbrev pub of_sequent : Context → Sequent → List (List TypedName) → Context
 of_sequent c q fs = record (with_modules c q.modules) { logical = λ i. item (map (λ x. x.ty) q.logical) i; named = map Some fs }
 
-abbrev pub AreFormulas : Context → List Hyp → Type 0
-AreFormulas c [] = Unit {0}
-AreFormulas c (h ∷ hs) = IsFormula c h.form × AreFormulas c hs
+-- hypotheses are forms: none quantifies over modules
+abbrev pub AreHypotheses : Context → List Hyp → Type 0
+AreHypotheses c [] = Unit {0}
+AreHypotheses c (h ∷ hs) = IsForm c h.form × AreHypotheses c hs
 
 -- A goal over declarations, for some locals of each memory of its context.
 pub record IsTypedSequent (c : Context) (q : Sequent) : Type 0 where
@@ -63,5 +64,5 @@ pub record IsTypedSequent (c : Context) (q : Sequent) : Type 0 where
   pub logical : HaveFiniteTypes q.logical
   pub frames : List (List TypedName)
   pub memories : length frames ≡ length q.memories
-  pub hyps : AreFormulas (of_sequent c q frames) q.hyps
+  pub hyps : AreHypotheses (of_sequent c q frames) q.hyps
   pub conclusion : IsConclusion (of_sequent c q frames) q.conclusion

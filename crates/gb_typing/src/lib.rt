@@ -3,6 +3,7 @@
 #![tactic(auto)]
 
 pub mod added_laws;
+pub mod alike_laws;
 pub mod call_laws;
 pub mod change_laws;
 pub mod clash_laws;
@@ -10,6 +11,7 @@ pub mod examples;
 pub mod form_laws;
 pub mod goal_laws;
 pub mod later_examples;
+pub mod linked_laws;
 pub mod name_laws;
 pub mod procedure_laws;
 pub mod program_laws;
@@ -20,3 +22,5 @@ pub mod scope_laws;
 pub mod setting_laws;
 pub mod supports;
 pub mod term_laws;
+pub mod typed_laws;
+pub mod whole_laws;

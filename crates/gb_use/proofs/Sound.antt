@@ -27,7 +27,7 @@ use Rattle.gb_holds.proofs.Fronts.{without_modules}
 use Rattle.gb_typing.specs.Context.{Context, Frame}
 use Rattle.gb_typing.specs.Typing.{IsForm}
 use Rattle.gb_typing.specs.Fits.{IsSettingOf, IsStateOf}
-use Rattle.gb_typing.specs.Sequents.{IsConclusion, AreFormulas, of_sequent, with_modules, IsTypedSequent}
+use Rattle.gb_typing.specs.Sequents.{IsConclusion, of_sequent, with_modules, IsTypedSequent}
 use Rattle.gb_typing.specs.Scopes.{context_of, IsTypedScope}
 use Rattle.gb_typing.proofs.TypedGoals.{goal_conclusion, goal_front}
 use Rattle.gb_typing.proofs.Given.{refused_at, same_given}
@@ -35,8 +35,7 @@ use Rattle.gb_typing.proofs.Lifted.{InEachSequent, each, joined, sequent_outermo
 use Rattle.gb_amb.specs.Parts.{concluding}
 use Rattle.gb_amb.specs.Closed.{IsAmong}
 use Rattle.gb_amb.specs.Steps.{assuming, LeadTo}
-use Rattle.gb_amb.proofs.Around.{Part, here, placed, IsTypedPart, IsTruePart, parts_lead_by}
-use Rattle.gb_amb.proofs.Cases.{form_formula}
+use Rattle.gb_amb.proofs.Around.{Part, here, placed, hypotheses_with, IsTypedPart, IsTruePart, parts_lead_by}
 use Rattle.gb_amb.proofs.Wider.{small, wider}
 use Rattle.gb_meaning.specs.Meanings.{truth}
 use Rattle.gb_use.specs.Instances.{IsInstance, Says}
@@ -52,10 +51,6 @@ form_conclusion c f w = goal_conclusion c [] [] (ambient f) w
 
 form_front : (c : Context) (f : Term) → IsForm c f → has_module f ≡ false
 form_front c f w = goal_front c [] [] (ambient f) w
-
-formulas_with : (c : Context) (hs : List Hyp) (name : List ℕ) (f : Term) → AreFormulas c hs → IsForm c f → AreFormulas c (hs ++ record { name = name; form = f } ∷ [])
-formulas_with c [] name f w v = (form_formula c f v, tt)
-formulas_with c (x ∷ hs) name f w v = (w.0, formulas_with c hs name f w.1 v)
 
 none_some : {X : Type 0} (t : Ty) → None ≡ Some t → X
 none_some t e = cc
@@ -200,7 +195,7 @@ module _ (ds : Declarations) (scope : IsTypedScope ds) (q : Sequent) (t : IsType
   by_hypothesis : (name : List ℕ) (f : Term) → IsForm c f → Known f → LeadTo ds q (assuming q name f ∷ [])
   by_hypothesis name f w x =
       parts_lead_by ds scope q t x.Fact x.always (record { hyps = q.hyps ++ record { name = name; form = f } ∷ []; conclusion = q.conclusion } ∷ [])
-      ((formulas_with c q.hyps name f t.hyps w, t.conclusion), tt)
+      ((hypotheses_with c q.hyps name f t.hyps w, t.conclusion), tt)
       (λ k y fits vs ms fit z h. z.0 (all_true ds k (context vs ms) q.hyps name f h ((without_modules ds f k (context vs ms) (form_front c f w)).1 (x.true_in k y fits vs ms fit h))))
 
   of_step : LemmasHold ds → (r : UseRule) → IsTypedStep ds q c r → (place : Place) (qs : List Sequent) → IsAnswer r place q (given qs) → LeadTo ds q qs

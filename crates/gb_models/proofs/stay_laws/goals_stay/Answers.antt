@@ -1,5 +1,5 @@
 use Rattle.gb_models.proofs.StayingOn.{goal_stays_on, script_stays}
-use Rattle.gb_models.proofs.Staying.{goal_stays, without_modules}
+use Rattle.gb_models.proofs.Staying.{goal_stays}
 use Rattle.gb_models.proofs.stay_laws.goals_stay.Goals as goal
 
 pub returns-clause-kinds : goal.returns-clause-kinds
@@ -10,6 +10,3 @@ returns-clause-modules c = goal_stays
 
 pub returns-clause-scripts : goal.returns-clause-scripts
 returns-clause-scripts c = script_stays
-
-pub returns-clause-without : goal.returns-clause-without
-returns-clause-without c = without_modules

@@ -1,4 +1,3 @@
-use Rattle.gb_laws.specs.Cells.Key.{global}
 use Rattle.gb_laws.proofs.Leaves.{routine_leaves}
 use Rattle.gb_call.proofs.Unwritten.{procedure_left}
 use Rattle.gb_mods_laws.proofs.Linked.{meant}

@@ -1,5 +1,0 @@
-use Rattle.gb_instances.proofs.Expressions.{closed_argument}
-use Rattle.gb_instances.proofs.alike_laws.closed_arguments.Goals as goal
-
-pub returns : goal.returns
-returns X c = λ ms ks ls s. closed_argument ms ks ls s

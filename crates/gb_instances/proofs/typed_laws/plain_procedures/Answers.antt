@@ -1,5 +1,0 @@
-use Rattle.gb_instances.proofs.Inside.{typed_plain}
-use Rattle.gb_instances.proofs.typed_laws.plain_procedures.Goals as goal
-
-pub returns : goal.returns
-returns x = typed_plain

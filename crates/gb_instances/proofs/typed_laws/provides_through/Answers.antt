@@ -1,5 +1,0 @@
-use Rattle.gb_instances.proofs.Provides.{provides_through}
-use Rattle.gb_instances.proofs.typed_laws.provides_through.Goals as goal
-
-pub returns : goal.returns
-returns x = provides_through

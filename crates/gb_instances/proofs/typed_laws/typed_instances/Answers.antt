@@ -1,5 +1,0 @@
-use Rattle.gb_instances.proofs.Inside.{typed_instance}
-use Rattle.gb_instances.proofs.typed_laws.typed_instances.Goals as goal
-
-pub returns : goal.returns
-returns x = typed_instance

@@ -1,5 +1,0 @@
-use Rattle.gb_instances.proofs.Inside.{same_reference}
-use Rattle.gb_instances.proofs.typed_laws.typed_references.Goals as goal
-
-pub returns : goal.returns
-returns x = same_reference
